@@ -1,0 +1,7 @@
+pub mod Fault
+pub mod Files
+pub mod MemShelf
+pub mod MemSink
+pub mod Plan
+pub mod Shelf
+pub mod Sink

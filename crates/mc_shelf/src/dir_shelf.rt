@@ -1,0 +1,118 @@
+//! A shelf over the system's files. Nothing is claimed of what they hold.
+
+ghost use Rattle.std.specs.Prelude.{◌≡◌, ◌<◌, ◌≤◌, length, None, IsErr, IfOk, IsErrOf, OnOk, OnErr};
+ghost use Rattle.mc_shelf.specs.Fault.{Rose, one_more};
+
+use crate::shelf::Shelf;
+use crate::sink::{Failed, Stop};
+use std::fs::{File, OpenOptions};
+use std::io;
+use std::io::{Read, Seek, SeekFrom, Write};
+use std::marker::Model;
+use std::rt::Files;
+
+/// The system's files, by their paths.
+#[derive(Drop)]
+pub struct DirShelf<R> {
+    runtime: R,
+    read_faults: u64,
+    write_faults: u64,
+}
+
+impl<R> Model for DirShelf<R> {
+    ghost use Rattle.mc_shelf.specs.Fault.{FaultCounts};
+
+    ghost Value = { FaultCounts };
+
+    ghost view = { λ s. record { read_faults = s.read_faults; write_faults = s.write_faults } };
+}
+
+impl<R: Files> DirShelf<R> {
+    pub fn new(runtime: R) -> DirShelf<R>
+        ensures { result ≡ record { read_faults = 0; write_faults = 0 } }
+    {
+        DirShelf {
+            runtime,
+            read_faults: 0,
+            write_faults: 0,
+        }
+    }
+
+    fn read_from(&self, name: &str, at: u64, into: &mut [u8]) -> io::Result<usize>
+        ensures { IfOk result (λ n. n ≤ length into.old) }
+    {
+        let mut file = File::open(&self.runtime, name)?;
+        file.seek(SeekFrom::Start(at))?;
+        file.read(into)
+    }
+
+    fn append_to(&self, name: &str, bytes: &[u8]) -> io::Result<()> {
+        let mut file = OpenOptions::new().append(true).open(&self.runtime, name)?;
+        file.write_all(bytes)
+    }
+
+    /// Counts the failure of a write.
+    fn written(&mut self, outcome: io::Result<()>) -> Result<(), Stop>
+        ensures ok { OnOk result (self.new ≡ self.old) }
+        ensures err { OnErr result (self.new ≡ record self.old { write_faults = one_more self.old.write_faults }) }
+        ensures failed { IsErrOf result Stop.NoMemory → ⊥ }
+        ensures counted { (self.old.read_faults ≤ self.new.read_faults) × (self.old.write_faults ≤ self.new.write_faults) }
+    {
+        if outcome.is_ok() {
+            return Ok(());
+        }
+        self.write_faults = self.write_faults.saturating_add(1);
+        Err(Stop::Failed)
+    }
+}
+
+impl<R: Files> Shelf for DirShelf<R> {
+    ghost contents = { λ _. None };
+
+    ghost read_faults = { λ s. s.read_faults };
+
+    ghost write_faults = { λ s. s.write_faults };
+
+    ghost IsSure = { λ _. ⊥ };
+
+    fn read(&mut self, name: &str, at: u64, into: &mut [u8]) -> Result<usize, Failed>
+        ensures ok { OnOk result (self.new ≡ self.old) }
+        ensures err { OnErr result (self.new ≡ record self.old { read_faults = one_more self.old.read_faults }) }
+
+        ensures fits { IfOk result (λ n. n ≤ length into.old) }
+        ensures counted { (self.old.read_faults ≤ self.new.read_faults) × (self.old.write_faults ≤ self.new.write_faults) }
+        ensures cause { IsErr result → Rose self.old.read_faults self.new.read_faults }
+    {
+        match self.read_from(name, at, into) {
+            Ok(count) => Ok(count),
+            Err(_) => {
+                self.read_faults = self.read_faults.saturating_add(1);
+                Err(Failed)
+            }
+        }
+    }
+
+    fn create(&mut self, name: &str) -> Result<(), Stop>
+        ensures ok { OnOk result (self.new ≡ self.old) }
+        ensures err { OnErr result (self.new ≡ record self.old { write_faults = one_more self.old.write_faults }) }
+        ensures no_memory { IsErrOf result Stop.NoMemory → ⊥ }
+
+        ensures counted { (self.old.read_faults ≤ self.new.read_faults) × (self.old.write_faults ≤ self.new.write_faults) }
+        ensures cause { IsErrOf result Stop.Failed → Rose self.old.write_faults self.new.write_faults }
+    {
+        let outcome = File::create(&self.runtime, name).map(|_| ());
+        self.written(outcome)
+    }
+
+    fn append(&mut self, name: &str, bytes: &[u8]) -> Result<(), Stop>
+        ensures ok { OnOk result (self.new ≡ self.old) }
+        ensures err { OnErr result (self.new ≡ record self.old { write_faults = one_more self.old.write_faults }) }
+        ensures no_memory { IsErrOf result Stop.NoMemory → ⊥ }
+
+        ensures counted { (self.old.read_faults ≤ self.new.read_faults) × (self.old.write_faults ≤ self.new.write_faults) }
+        ensures cause { IsErrOf result Stop.Failed → Rose self.old.write_faults self.new.write_faults }
+    {
+        let outcome = self.append_to(name, bytes);
+        self.written(outcome)
+    }
+}
