@@ -1,0 +1,7 @@
+pub mod Tree
+pub mod WellFormed
+pub mod Eval
+pub use Rattle.word_terms.specs.Tree as Terms
+pub use Rattle.word_terms.specs.Environment
+pub use Rattle.word_terms.specs.Value
+pub use Rattle.word_terms.specs.Code
