@@ -1,0 +1,182 @@
+-- The words and the files give one answer at most.
+use Rattle.std.proofs.Common.{◌≡◌, ◌≢◌, ℕ, ◌+◌, ◌-◌, ◌<◌, ◌≤◌, List, [], ◌∷◌, ◌++◌, length, map, get_or, Option, Some, None, refl, sym, ap, subst, ◌∙◌, ◌⊎◌, inl, inr, arith}
+use Rattle.std.specs.Prelude.{IfSome}
+use Rattle.std.specs.Fmt.{decimal}
+use Rattle.mc_shelf.specs.Shelf.{Contents}
+use Rattle.tailrec_lang.specs.Tree.{GroupTree}
+use Rattle.tailrec_lang.specs.Eval.{Arguments, Done, Turns, Nothing, Outcome, eval}
+use Rattle.mcdec.specs.declared.answer.Answer.{Answer}
+use Rattle.mcdec.specs.declared.answer.Answer.TheVariants as answer
+use Rattle.mcdec.specs.Command.{Command, Eval, Given, Words, IsNoCommand, AreGiven, given_word}
+use Rattle.mcdec.specs.Text.{IsSmallText}
+use Rattle.mcdec.specs.Answer.{proof_limit, listed, arguments_of, GroupGives, TextGives, EvalGives, CommandGives, Gives, ForContents, IsDetermined, IsPrinted, IsDelivered}
+use Rattle.mcdec.specs.Reading.{number_of}
+use Rattle.mcdec.proofs.Numbers.{number_of-again}
+use Rattle.mcdec.proofs.Readers.{some_is}
+use Rattle.mcdec.proofs.SmallText.{small-unique}
+use Rattle.mcdec.proofs.Givens.{given_word-injective}
+
+-- ---- words
+
+givens-unique : (gs hs : List Given) → AreGiven gs → AreGiven hs → map given_word gs ≡ map given_word hs → gs ≡ hs
+givens-unique [] [] a b e = refl
+givens-unique [] (h ∷ hs) a b e = cc
+givens-unique (g ∷ gs) [] a b e = cc
+givens-unique (g ∷ gs) (h ∷ hs) a b e =
+    let first : g ≡ h = given_word-injective g h a.0 b.0 (ap (λ (l : List (List ℕ)). get_or l 0 []) e) in
+    let others : map given_word gs ≡ map given_word hs = cc in
+    let rest : gs ≡ hs = givens-unique gs hs a.2 b.2 others in
+    ap (λ (x : Given). x ∷ gs) first ∙ ap (λ (xs : List Given). h ∷ xs) rest
+
+words-unique : (ws : List (List ℕ)) (c d : Command) → Words ws c → Words ws d → c ≡ d
+words-unique ws (Eval proof name turns gs) (Eval proof' name' turns' gs') a b =
+    let e = sym a.1 ∙ b.1 in
+    let p : proof ≡ proof' = cc in
+    let n : name ≡ name' = cc in
+    let d : decimal turns ≡ decimal turns' = cc in
+    let t : turns ≡ turns' = some_number turns turns' (sym (number_of-again 10 turns (omega arith) (omega arith) a.0.2) ∙ ap (number_of 10) d ∙ number_of-again 10 turns' (omega arith) (omega arith) b.0.2) in
+    let m : map given_word gs ≡ map given_word gs' = cc in
+    let g : gs ≡ gs' = givens-unique gs gs' a.0.3 b.0.3 m in
+    ap (λ (x : List ℕ). Eval x name turns gs) p ∙ ap (λ (x : List ℕ). Eval proof' x turns gs) n ∙ ap (λ (x : ℕ). Eval proof' name' x gs) t ∙ ap (λ (x : List Given). Eval proof' name' turns' x) g
+  where
+    some_number : (m n : ℕ) → Some m ≡ Some n → m ≡ n
+    some_number m n e = cc
+
+-- ---- groups and texts
+
+abbrev answer_for : GroupTree → ℕ → Outcome → Answer
+answer_for g turns (Done exit pc results left) = answer.Evaluated (turns - left) pc g.regs results.words
+answer_for g turns Turns = answer.TurnsUsed
+answer_for g turns Nothing = answer.NoMemory
+
+group-case : (g : GroupTree) (turns : ℕ) (gs : List Given) (a : Answer) → GroupGives g turns gs a → a ≡ answer_for g turns (eval g (listed g) (arguments_of gs g) turns)
+group-case g turns gs answer.TurnsUsed h = rw h refl
+group-case g turns gs (answer.Evaluated used pc registers words) h = rw h.3 (rw h.0 (rw h.4 refl))
+group-case g turns gs answer.NoFunction h = absurd h
+group-case g turns gs answer.NotACommand h = absurd h
+group-case g turns gs (answer.UnreadableText line) h = absurd h
+group-case g turns gs answer.ReadFault h = absurd h
+group-case g turns gs answer.NoMemory h = absurd h
+group-case g turns gs answer.OverLimitProof h = absurd h
+
+group-unique : (g : GroupTree) (turns : ℕ) (gs : List Given) (a b : Answer) → GroupGives g turns gs a → GroupGives g turns gs b → a ≡ b
+group-unique g turns gs a b h k = group-case g turns gs a h ∙ sym (group-case g turns gs b k)
+
+-- what a text's group gives
+abbrev Named : List ℕ → ℕ → List Given → GroupTree → Answer → Type 0
+Named name turns gs g a = ((g.name ≢ name) × (a ≡ answer.NoFunction)) ⊎ ((g.name ≡ name) × GroupGives g turns gs a)
+
+named-unique : (name : List ℕ) (turns : ℕ) (gs : List Given) (g : GroupTree) (a b : Answer) → Named name turns gs g a → Named name turns gs g b → a ≡ b
+named-unique name turns gs g a b (inl h) (inl k) = h.1 ∙ sym k.1
+named-unique name turns gs g a b (inl h) (inr k) = absurd (h.0 k.0)
+named-unique name turns gs g a b (inr h) (inl k) = absurd (k.0 h.0)
+named-unique name turns gs g a b (inr h) (inr k) = group-unique g turns gs a b h.1 k.1
+
+abbrev TextCase : List ℕ → List ℕ → ℕ → List Given → Answer → Type 0
+TextCase p name turns gs a = (((g : GroupTree) → IsSmallText p g → ⊥) × (a ≡ answer.UnreadableText 0)) ⊎ ((g : GroupTree) × IsSmallText p g × Named name turns gs g a)
+
+text-case : (p name : List ℕ) (turns : ℕ) (gs : List Given) (a : Answer) → TextGives p name turns gs a → TextCase p name turns gs a
+text-case p name turns gs (answer.UnreadableText line) h = inl (h.0, ap (λ (l : ℕ). answer.UnreadableText l) h.1)
+text-case p name turns gs answer.NoFunction h = inr (h.0, h.1, inl (h.2, refl))
+text-case p name turns gs answer.TurnsUsed (g, small, named, gives) = inr (g, small, inr (named, gives))
+text-case p name turns gs (answer.Evaluated used pc registers words) (g, small, named, gives) = inr (g, small, inr (named, gives))
+text-case p name turns gs answer.NotACommand h = absurd h.3
+text-case p name turns gs answer.ReadFault h = absurd h.3
+text-case p name turns gs answer.NoMemory h = absurd h.3
+text-case p name turns gs answer.OverLimitProof h = absurd h.3
+
+text-unique : (p name : List ℕ) (turns : ℕ) (gs : List Given) (a b : Answer) → TextCase p name turns gs a → TextCase p name turns gs b → a ≡ b
+text-unique p name turns gs a b (inl h) (inl k) = h.1 ∙ sym k.1
+text-unique p name turns gs a b (inl h) (inr k) = absurd (h.0 k.0 k.1)
+text-unique p name turns gs a b (inr h) (inl k) = absurd (k.0 h.0 h.1)
+text-unique p name turns gs a b (inr h) (inr k) =
+    named-unique name turns gs k.0 a b (subst (λ (g : GroupTree). Named name turns gs g a) (small-unique p h.0 k.0 h.1 k.1) h.2) k.2
+
+-- ---- files
+
+abbrev FileCase : List ℕ → List ℕ → ℕ → List Given → Answer → Type 0
+FileCase p name turns gs a = ((proof_limit < length p) × (a ≡ answer.OverLimitProof)) ⊎ ((length p ≤ proof_limit) × TextGives p name turns gs a)
+
+file-case : (p name : List ℕ) (turns : ℕ) (gs : List Given) (a : Answer) → EvalGives p name turns gs a → FileCase p name turns gs a
+file-case p name turns gs answer.OverLimitProof h = inl (h, refl)
+file-case p name turns gs (answer.UnreadableText line) h = inr h
+file-case p name turns gs answer.NoFunction h = inr h
+file-case p name turns gs answer.TurnsUsed h = inr h
+file-case p name turns gs (answer.Evaluated used pc registers words) h = inr h
+file-case p name turns gs answer.NotACommand h = inr h
+file-case p name turns gs answer.ReadFault h = inr h
+file-case p name turns gs answer.NoMemory h = inr h
+
+over : (n limit : ℕ) → limit < n → n ≤ limit → ⊥
+over n limit a b = omega arith
+
+file-unique : (p name : List ℕ) (turns : ℕ) (gs : List Given) (a b : Answer) → FileCase p name turns gs a → FileCase p name turns gs b → a ≡ b
+file-unique p name turns gs a b (inl h) (inl k) = h.1 ∙ sym k.1
+file-unique p name turns gs a b (inl h) (inr k) = absurd (over (length p) proof_limit h.0 k.0)
+file-unique p name turns gs a b (inr h) (inl k) = absurd (over (length p) proof_limit k.0 h.0)
+file-unique p name turns gs a b (inr h) (inr k) = text-unique p name turns gs a b (text-case p name turns gs a h.1) (text-case p name turns gs b k.1)
+
+command-unique : (files : Contents) (c : Command) (a b : Answer) → CommandGives files c a → CommandGives files c b → a ≡ b
+command-unique files (Eval proof name turns gs) a b h k =
+    let same : h.0 ≡ k.0 = some_is h.0 k.0 (sym h.1 ∙ k.1) in
+    file-unique k.0 name turns gs a b (file-case k.0 name turns gs a (subst (λ (p : List ℕ). EvalGives p name turns gs a) same h.2)) (file-case k.0 name turns gs b k.2)
+
+-- ---- answers
+
+abbrev WordsCase : Contents → List (List ℕ) → Answer → Type 0
+WordsCase files ws a = (IsNoCommand ws × (a ≡ answer.NotACommand)) ⊎ ((c : Command) × Words ws c × CommandGives files c a)
+
+words-case : (files : Contents) (ws : List (List ℕ)) (rose : Type 0) (a : Answer) → IsDetermined a → Gives files ws rose a → WordsCase files ws a
+words-case files ws rose answer.NotACommand d h = inl (h, refl)
+words-case files ws rose answer.ReadFault d h = absurd d
+words-case files ws rose answer.NoMemory d h = absurd d
+words-case files ws rose answer.OverLimitProof d h = inr h
+words-case files ws rose (answer.UnreadableText line) d h = inr h
+words-case files ws rose answer.NoFunction d h = inr h
+words-case files ws rose answer.TurnsUsed d h = inr h
+words-case files ws rose (answer.Evaluated used pc registers words) d h = inr h
+
+case-unique : (files : Contents) (ws : List (List ℕ)) (a b : Answer) → WordsCase files ws a → WordsCase files ws b → a ≡ b
+case-unique files ws a b (inl h) (inl k) = h.1 ∙ sym k.1
+case-unique files ws a b (inl h) (inr k) = absurd (h.0 k.0 k.1)
+case-unique files ws a b (inr h) (inl k) = absurd (k.0 h.0 h.1)
+case-unique files ws a b (inr h) (inr k) = command-unique files k.0 a b (subst (λ (c : Command). CommandGives files c a) (words-unique ws h.0 k.0 h.1 k.1) h.2) k.2
+
+-- the answer that the words and the files give
+pub answer-unique : (files : Contents) (ws : List (List ℕ)) (rose rose' : Type 0) (a b : Answer) → IsDetermined a → IsDetermined b → Gives files ws rose a → Gives files ws rose' b → a ≡ b
+answer-unique files ws rose rose' a b d d' h k = case-unique files ws a b (words-case files ws rose a d h) (words-case files ws rose' b d' k)
+
+-- ---- the top call
+
+abbrev pub ComesBut : Answer → ℕ → Option (List ℕ) → Option (List ℕ) → Type 0
+ComesBut a result old new = IsPrinted a result old new ⊎ (result ≡ 4) ⊎ (result ≡ 5) ⊎ (result ≡ 6)
+
+comes : (a b : Answer) (result : ℕ) (old new : Option (List ℕ)) → b ≡ a → IsDelivered b result old new → ComesBut a result old new
+comes a b result old new same (inl h) = inl (subst (λ (x : Answer). IsPrinted x result old new) same h)
+comes a b result old new same (inr (inl e, h)) = inr (inr (inl e))
+comes a b result old new same (inr (inr e, h)) = inr (inr (inr e))
+
+other-comes : (a b : Answer) (result : ℕ) (old new : Option (List ℕ)) → (result ≡ 4) ⊎ (result ≡ 5) ⊎ (result ≡ 6) → ComesBut a result old new
+other-comes a b result old new h = inr h
+
+delivered-exact : (files : Contents) (ws : List (List ℕ)) (rose : Type 0) (b : Answer) (result : ℕ) (old new : Option (List ℕ)) → Gives files ws rose b → IsDelivered b result old new
+    → (a : Answer) → IsDetermined a → Gives files ws rose a → ComesBut a result old new
+delivered-exact files ws rose answer.ReadFault result old new g (inl h) a d k = inr (inl h.0)
+delivered-exact files ws rose answer.ReadFault result old new g (inr (inl e, h)) a d k = inr (inr (inl e))
+delivered-exact files ws rose answer.ReadFault result old new g (inr (inr e, h)) a d k = inr (inr (inr e))
+delivered-exact files ws rose answer.NoMemory result old new g (inl h) a d k = inr (inr (inr h.0))
+delivered-exact files ws rose answer.NoMemory result old new g (inr (inl e, h)) a d k = inr (inr (inl e))
+delivered-exact files ws rose answer.NoMemory result old new g (inr (inr e, h)) a d k = inr (inr (inr e))
+delivered-exact files ws rose answer.NotACommand result old new g h a d k = comes a answer.NotACommand result old new (answer-unique files ws rose rose answer.NotACommand a tt d g k) h
+delivered-exact files ws rose answer.OverLimitProof result old new g h a d k = comes a answer.OverLimitProof result old new (answer-unique files ws rose rose answer.OverLimitProof a tt d g k) h
+delivered-exact files ws rose (answer.UnreadableText line) result old new g h a d k = comes a (answer.UnreadableText line) result old new (answer-unique files ws rose rose (answer.UnreadableText line) a tt d g k) h
+delivered-exact files ws rose answer.NoFunction result old new g h a d k = comes a answer.NoFunction result old new (answer-unique files ws rose rose answer.NoFunction a tt d g k) h
+delivered-exact files ws rose answer.TurnsUsed result old new g h a d k = comes a answer.TurnsUsed result old new (answer-unique files ws rose rose answer.TurnsUsed a tt d g k) h
+delivered-exact files ws rose (answer.Evaluated used pc registers words) result old new g h a d k =
+    comes a (answer.Evaluated used pc registers words) result old new (answer-unique files ws rose rose (answer.Evaluated used pc registers words) a tt d g k) h
+
+pub exact-given : (told : Option Contents) (ws : List (List ℕ)) (rose : Type 0) (b : Answer) (result : ℕ) (old new : Option (List ℕ))
+    → ForContents told (λ files. Gives files ws rose b) → IsDelivered b result old new
+    → IfSome told (λ files. (a : Answer) → IsDetermined a → Gives files ws rose a → ComesBut a result old new)
+exact-given None ws rose b result old new g h = tt
+exact-given (Some files) ws rose b result old new g h = delivered-exact files ws rose b result old new g h

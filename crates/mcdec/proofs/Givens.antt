@@ -1,0 +1,88 @@
+-- The words that give values to registers are read as they are spelled.
+use Rattle.std.proofs.Common.{◌≡◌, ◌≢◌, ℕ, ◌^◌, ◌<◌, ◌≤◌, List, [], ◌++◌, length, codes, Some, None, refl, sym, ap, subst, ◌∙◌, append_assoc, arith}
+use Rattle.std.specs.Fmt.{decimal}
+use Rattle.std.proofs.lemmas.List.{append-nil}
+use Rattle.std.proofs.lemmas.List.Elements.{All-from_recursion, recursion_from_All}
+use Rattle.mcdec.specs.Number.{hex}
+use Rattle.mcdec.specs.declared.reader.Class.TheVariants.{Name, Digit, HexDigit}
+use Rattle.mcdec.specs.Command.{Given, IsNameByte, IsName, IsGiven, given_word}
+use Rattle.mcdec.specs.CommandReading.{given_at}
+use Rattle.mcdec.specs.declared.reader.Unread.{Unread}
+use Rattle.mcdec.specs.declared.reader.Unread.TheVariants as unread
+use Rattle.mcdec.specs.Reading.{Fails, has, run_at, before, pair, decimal_at, hex_at}
+use Rattle.mcdec.proofs.Readers.{Reads, Any, Pass, NotFirst, some_is, Reads-run, Reads-behind, Reads-before, Reads-made, Reads-pair, Reads-as}
+use Rattle.mcdec.proofs.Tokens.{decimal-reads, hex-reads}
+use Rattle.mcdec.proofs.SmallText.{name_bytes, name_passes}
+
+-- ---- names
+
+-- what is a name is one run of its bytes
+pub name-run : (bytes front rest : List ℕ) → run_at (has Name) bytes ≡ Some (front, rest) → rest ≡ [] → 1 ≤ length bytes → length bytes ≤ 4096 → IsName bytes
+name-run bytes front rest e empty low high =
+    let t = (Reads-run (has Name)).takes bytes front rest e in
+    let same : bytes ≡ front = t.0 ∙ ap (λ (s : List ℕ). front ++ s) empty ∙ append-nil front in
+    (low, high, All-from_recursion IsNameByte bytes (name_bytes bytes (subst (Pass (has Name)) (sym same) t.1)))
+
+pub run-name : (bytes front rest : List ℕ) → run_at (has Name) bytes ≡ Some (front, rest) → IsName bytes → rest ≡ []
+run-name bytes front rest e is =
+    let r = (Reads-run (has Name)).again bytes [] (name_passes bytes (recursion_from_All IsNameByte bytes is.2)) tt in
+    ap (λ (p : List ℕ × List ℕ). p.1) (some_is (front, rest) (bytes, []) (sym e ∙ ap (run_at (has Name)) (sym (append-nil bytes)) ∙ r))
+
+-- ---- one word
+
+abbrev Loose : Given → Type 0
+Loose g = (g.register < 32) × (g.value < 2 ^ 64)
+
+abbrev number_text : ℕ → List ℕ
+number_text n = decimal n ++ codes "="
+
+abbrev behind_x : Given → List ℕ
+behind_x g = number_text g.register ++ hex g.value
+
+given-reads : Reads given_at Loose given_word (NotFirst (has HexDigit))
+unfolding given_at
+given-reads =
+    Reads-as given_at Loose (λ g. codes "x" ++ behind_x g) (NotFirst (has HexDigit))
+    (Reads-behind _ Loose behind_x (NotFirst (has HexDigit))
+    (Reads-made (pair (before (decimal_at 32) (codes "=")) hex_at) (λ p. (p.0 < 32) × (p.1 < 2 ^ 64)) (λ p. number_text p.0 ++ hex p.1) (NotFirst (has HexDigit))
+    (Reads-pair (before (decimal_at 32) (codes "=")) (λ n. n < 32) number_text Any (Reads-before (decimal_at 32) (λ n. n < 32) decimal (NotFirst (has Digit)) (decimal-reads 32 (omega arith)) (codes "=") (λ rest. refl))
+    hex_at (λ n. n < 2 ^ 64) hex (NotFirst (has HexDigit)) hex-reads (λ n rest f h. tt))
+    (λ p. record { register = p.0; value = p.1 }) Loose behind_x (λ p f. (refl, f)) (λ g f. ((g.register, g.value), f, refl)))
+    (codes "x"))
+    given_word (λ g f. simp append_assoc)
+
+loose : (g : Given) → IsGiven g → Loose g
+loose g is = (omega (arith, is.1), is.2)
+
+pub given-read : (g : Given) → IsGiven g → given_at (given_word g) ≡ Some (g, [])
+given-read g is = ap given_at (sym (append-nil (given_word g))) ∙ given-reads.again g [] (loose g is) tt
+
+pub given-taken : (word : List ℕ) (g : Given) (rest : List ℕ) → given_at word ≡ Some (g, rest) → rest ≡ [] → 1 ≤ g.register → IsGiven g × (word ≡ given_word g)
+given-taken word g rest e empty some =
+    let t = given-reads.takes word g rest e in
+    ((some, omega (arith, t.1.0), t.1.1), t.0 ∙ ap (λ (s : List ℕ). given_word g ++ s) empty ∙ append-nil (given_word g))
+
+-- what is read otherwise is given by no word
+pub given-other : (word : List ℕ) (h : Given) (rest : List ℕ) → given_at word ≡ Some (h, rest) → (rest ≡ [] → 1 ≤ h.register → ⊥) → (g : Given) → IsGiven g → word ≢ given_word g
+given-other word h rest e unlike g is same =
+    let p = some_is (h, rest) (g, []) (sym e ∙ ap given_at same ∙ given-read g is) in
+    let eh : h ≡ g = ap (λ (q : Given × List ℕ). q.0) p in
+    unlike (ap (λ (q : Given × List ℕ). q.1) p) (omega (arith, is.0, ap (λ (x : Given). x.register) eh))
+
+pub given-none : (word : List ℕ) → given_at word ≡ None → (g : Given) → IsGiven g → word ≢ given_word g
+given-none word e g is same = none_some (g, []) (sym e ∙ ap given_at same ∙ given-read g is)
+  where
+    none_some : (p : Given × List ℕ) → None ≡ Some p → ⊥
+    none_some p e = cc
+
+-- nor is what was not read
+pub given-unread : (word : List ℕ) (e : Unread) → Fails e (given_at word) → (e ≡ unread.NoMemory → ⊥) → (g : Given) → IsGiven g → word ≢ given_word g
+given-unread word unread.NotThere f h = given-none word f
+given-unread word unread.NoMemory f h = absurd (h refl)
+
+-- a word gives one value
+pub given_word-injective : (g h : Given) → IsGiven g → IsGiven h → given_word g ≡ given_word h → g ≡ h
+given_word-injective g h a b e = ap (λ (q : Given × List ℕ). q.0) (some_is (g, []) (h, []) (sym (given-read g a) ∙ ap given_at e ∙ given-read h b))
+
+pub some_register : (n : ℕ) → (n ≡ 0 → ⊥) → 1 ≤ n
+some_register n h = omega arith

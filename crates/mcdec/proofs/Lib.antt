@@ -1,0 +1,15 @@
+pub mod HexDigits
+pub mod Numbers
+pub mod Many
+pub mod Readers
+pub mod Tokens
+pub mod Terms
+pub mod Lines
+pub mod SmallText
+pub mod Prints
+pub mod Givens
+pub mod Registers
+pub mod Words
+pub mod Answers
+pub mod Exactness
+pub mod Examples

@@ -1,0 +1,6 @@
+use Rattle.mcdec.proofs.Exactness.{exact-given}
+use Rattle.mcdec.specs.CommandReading.{texts}
+use Rattle.mcdec.proofs.commands.run_words.Goals as goal
+
+pub returns-clause-exact : goal.returns-clause-exact
+returns-clause-exact g c = exact-given (g.S.Shelf.contents c.args.shelf.now) (texts c.args.words.now) _ _ _ _ _ c.answer_words-answer.ensures.gives c.deliver.ensures.delivered

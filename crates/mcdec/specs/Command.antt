@@ -1,0 +1,65 @@
+-- The lists of words that are commands, and no others.
+--
+--   eval PROOF NAME TURNS ARG*     ARG is xN=V, each N at most once
+use Rattle.std.specs.Prelude.{◌≡◌, ◌≢◌, ℕ, ◌<◌, ◌≤◌, ◌^◌, ◌==◌, if◌then◌else◌, List, [], ◌∷◌, ◌++◌, length, map, codes, Option, Some, None, unwrap_or, All}
+use Rattle.std.specs.Fmt.{decimal}
+use Rattle.mcdec.specs.Number.{hex}
+
+-- a byte of a name: visible, and none of ( ) ;
+abbrev pub IsNameByte : ℕ → Type 0
+IsNameByte b = (33 ≤ b) × (b ≤ 126) × (b ≢ 40) × (b ≢ 41) × (b ≢ 59)
+
+abbrev pub IsName : List ℕ → Type 0
+IsName bytes = (1 ≤ length bytes) × (length bytes ≤ 4096) × All IsNameByte bytes
+
+-- a register that is given a value
+pub record Given : Type 0 where
+  pub register : ℕ
+  pub value : ℕ
+
+pub data Command : Type 0 where
+  Eval : (proof name : List ℕ) (turns : ℕ) (given : List Given) → Command
+
+-- xN=V
+abbrev pub given_word : Given → List ℕ
+given_word g = codes "x" ++ decimal g.register ++ codes "=" ++ hex g.value
+
+-- the words of a command
+abbrev pub words_of : Command → List (List ℕ)
+words_of (Eval proof name turns given) = codes "eval" ∷ proof ∷ name ∷ decimal turns ∷ map given_word given
+
+abbrev pub IsGiven : Given → Type 0
+IsGiven g = (1 ≤ g.register) × (g.register ≤ 31) × (g.value < 2 ^ 64)
+
+-- the value that a register is given, if any
+abbrev pub given_to : List Given → ℕ → Option ℕ
+given_to [] n = None
+given_to (g ∷ gs) n = if g.register == n then Some g.value else given_to gs n
+
+-- each register is given at most one value
+abbrev pub AreGiven : List Given → Type 0
+AreGiven [] = Unit {0}
+AreGiven (g ∷ gs) = IsGiven g × (given_to gs g.register ≡ None) × AreGiven gs
+
+-- what its words may be
+abbrev pub IsCommand : Command → Type 0
+IsCommand (Eval proof name turns given) = (proof ≢ []) × IsName name × (turns < 2 ^ 64) × AreGiven given
+
+-- the command that a list of words is
+abbrev pub Words : List (List ℕ) → Command → Type 0
+Words ws c = IsCommand c × (ws ≡ words_of c)
+
+abbrev pub IsNoCommand : List (List ℕ) → Type 0
+IsNoCommand ws = (c : Command) → Words ws c → ⊥
+
+-- the value that a register is given; 0 where it is given none
+abbrev pub value_of : List Given → ℕ → ℕ
+value_of gs n = unwrap_or (given_to gs n) 0
+
+-- the files that a command reads
+abbrev pub inputs_of : Command → List (List ℕ)
+inputs_of (Eval proof name turns given) = proof ∷ []
+
+-- the file that a command writes
+abbrev pub output_of : Command → Option (List ℕ)
+output_of (Eval proof name turns given) = None

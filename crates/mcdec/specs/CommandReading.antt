@@ -1,0 +1,53 @@
+-- What the reader of the command line's words gives.
+use Rattle.std.specs.Prelude.{◌≡◌, ◌≢◌, ℕ, ◌<◌, List, [], ◌∷◌, map, codes, Option, Some, None, slice_get, string_bytes, unwrap_or}
+use Rattle.std.specs.Fmt.{decimal}
+use Rattle.std.specs.declared.string.String.{String}
+use Rattle.std.specs.declared.alloc.Global.{Global}
+use Rattle.mcdec.specs.declared.command.Command.{Command as Read}
+use Rattle.mcdec.specs.declared.command.Command.TheVariants as read
+use Rattle.mcdec.specs.declared.command.Eval.{Eval as ReadEval}
+use Rattle.mcdec.specs.Reading.{Reader, behind, before, pair, made, decimal_at, hex_at}
+use Rattle.mcdec.specs.Command.{Command, Eval, Given, IsCommand, AreGiven, Words, given_to, given_word}
+
+-- the texts of the words
+abbrev pub texts : List (String Global) → List (List ℕ)
+texts ws = map (λ w. string_bytes w) ws
+
+-- each register's value, or none
+abbrev pub Holds : List Given → List (Option ℕ) → Type 0
+Holds gs values = (n : ℕ) → n < 32 → slice_get values n ≡ Some (given_to gs n)
+
+-- the value of a register; 0 where it has none
+abbrev pub value_in : List (Option ℕ) → ℕ → ℕ
+value_in values n = word_of (slice_get values n)
+  where
+    word_of : Option (Option ℕ) → ℕ
+    word_of None = 0
+    word_of (Some value) = unwrap_or value 0
+
+-- a register's number and its value
+unfoldable pub given_at : Reader Given
+given_at = behind (codes "x") (made (λ p. record { register = p.0; value = p.1 }) (pair (before (decimal_at 32) (codes "=")) hex_at))
+
+abbrev pub NoneGiven : List (List ℕ) → Type 0
+NoneGiven ws = (gs : List Given) → AreGiven gs → ws ≢ map given_word gs
+
+abbrev pub AllGiven : List (List ℕ) → List (Option ℕ) → Type 0
+AllGiven ws values = (gs : List Given) × AreGiven gs × (ws ≡ map given_word gs) × Holds gs values
+
+-- the words behind `eval`
+abbrev pub eval_words : List ℕ → List ℕ → ℕ → List Given → List (List ℕ)
+eval_words proof name turns given = proof ∷ name ∷ decimal turns ∷ map given_word given
+
+abbrev pub NoEval : List (List ℕ) → Type 0
+NoEval ws = (proof name : List ℕ) (turns : ℕ) (given : List Given) → IsCommand (Eval proof name turns given) → ws ≢ eval_words proof name turns given
+
+abbrev pub IsEval : List (List ℕ) → ReadEval → Type 0
+IsEval ws e = (given : List Given) × IsCommand (Eval e.proof.now e.name.now e.turns given) × (ws ≡ eval_words e.proof.now e.name.now e.turns given) × Holds given e.given.values
+
+-- the command, seen by what was read
+abbrev pub IsReadEval : List (List ℕ) → ReadEval → Type 0
+IsReadEval ws e = (given : List Given) × Words ws (Eval e.proof.now e.name.now e.turns given) × Holds given e.given.values
+
+abbrev pub IsRead : List (List ℕ) → Read → Type 0
+IsRead ws (read.Eval e) = IsReadEval ws e

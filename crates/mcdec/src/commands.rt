@@ -1,0 +1,62 @@
+//! The program's commands, over a shelf of files and a sink.
+
+ghost use Rattle.std.specs.Prelude.{◌≡◌, ℕ, ◌≤◌, ◌⊎◌, List, IfSome};
+ghost use Rattle.mc_shelf.specs.Fault.{Rose, WhereTold};
+ghost use Rattle.mcdec.specs.Answer.{ForContents, Gives, IsDelivered, IsDetermined, IsPrinted, KeepsNames, ReadsAreTold};
+ghost use Rattle.mcdec.specs.CommandReading.{texts};
+ghost use Rattle.mcdec.specs.declared.answer.Answer.{Answer as AnswerOf};
+
+use crate::answer::Answer;
+use crate::command::{Command, read_words};
+use crate::evaluate::evaluate;
+use crate::print::deliver;
+use mc_shelf::{Shelf, Sink};
+use std::alloc::Global;
+
+/// Runs the command that the words are, prints the answer's lines and gives its status.
+pub fn run_words<S: Shelf, O: Sink>(
+    alloc: Global,
+    words: &[String],
+    shelf: &mut S,
+    out: &mut O,
+) -> u8
+    // The sink gains the lines of an answer that the words and the files give, and the status is the answer's.
+    ensures lines { (a : AnswerOf)
+        × ForContents (S.contents shelf.old) (λ files. Gives files (texts words.now) (Rose (S.read_faults shelf.old) (S.read_faults shelf.new)) a)
+        × IsDelivered a result (O.written out.old) (O.written out.new) }
+
+    // Where they give an answer, it comes, but for faults of the outside and want of memory.
+    ensures exact { IfSome (S.contents shelf.old) (λ files. (a : AnswerOf) → IsDetermined a
+        → Gives files (texts words.now) (Rose (S.read_faults shelf.old) (S.read_faults shelf.new)) a
+        → IsPrinted a result (O.written out.old) (O.written out.new) ⊎ (result ≡ 4) ⊎ (result ≡ 5) ⊎ (result ≡ 6)) }
+
+    ensures read_fault { result ≡ 4 → Rose (S.read_faults shelf.old) (S.read_faults shelf.new) }
+    ensures write_fault { result ≡ 5 → Rose (S.write_faults shelf.old) (S.write_faults shelf.new) ⊎ Rose (O.faults out.old) (O.faults out.new) }
+
+    ensures kept { WhereTold (S.contents shelf.old) (S.contents shelf.new) (KeepsNames (texts words.now)) }
+    ensures counted { (S.read_faults shelf.old ≤ S.read_faults shelf.new) × (S.write_faults shelf.old ≤ S.write_faults shelf.new)
+        × (O.faults out.old ≤ O.faults out.new) }
+
+    ensures sure { S.IsSure shelf.old → ReadsAreTold (S.contents shelf.old) (texts words.now)
+        → (S.read_faults shelf.new ≡ S.read_faults shelf.old) × (S.write_faults shelf.new ≡ S.write_faults shelf.old) }
+{
+    let answer = answer_words(alloc, words, shelf);
+    deliver(out, &answer)
+}
+
+/// The answer to the words.
+fn answer_words<S: Shelf>(alloc: Global, words: &[String], shelf: &mut S) -> Answer
+    ensures gives { ForContents (S.contents shelf.old) (λ files. Gives files (texts words.now) (Rose (S.read_faults shelf.old) (S.read_faults shelf.new)) result) }
+
+    ensures kept { WhereTold (S.contents shelf.old) (S.contents shelf.new) (KeepsNames (texts words.now)) }
+    ensures counted { (S.read_faults shelf.old ≤ S.read_faults shelf.new) × (S.write_faults shelf.old ≤ S.write_faults shelf.new) }
+    ensures sure { S.IsSure shelf.old → ReadsAreTold (S.contents shelf.old) (texts words.now)
+        → (S.read_faults shelf.new ≡ S.read_faults shelf.old) × (S.write_faults shelf.new ≡ S.write_faults shelf.old) }
+{
+    let Some(command) = read_words(words) else {
+        return Answer::NotACommand;
+    };
+    match command {
+        Command::Eval(e) => evaluate(alloc, &e, shelf),
+    }
+}
