@@ -1,2 +1,4 @@
 pub mod Operation
+pub mod Bytes
+pub mod Pieces
 pub mod formers

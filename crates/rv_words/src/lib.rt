@@ -1,13 +1,18 @@
 //! The base of all crates: lists that contracts see as lists, and the operations on 64-bit words.
 #![tactic(auto)]
 
+mod byte_map;
 mod list;
 mod memory;
 mod operation;
+mod pieces;
+mod width;
 
+pub use byte_map::ByteMap;
 pub use list::{Bytes, List, Text};
 pub use memory::NoMemory;
 pub use operation::{Op, apply};
+pub use width::Width;
 
 #[cfg(test)]
 mod tests;

@@ -1,6 +1,8 @@
-//! What no clause says: that the calls succeed while there is memory, and that a type may reach itself through a list.
+//! What no clause says: that the calls succeed while there is memory, that a type may reach itself through a
+//! list, and that pieces of memory become one where they touch.
 
 use super::*;
+use crate::pieces::{put_bytes, put_zeros};
 use std::alloc::Global;
 use std::test::Fail;
 
@@ -68,5 +70,86 @@ fn three(alloc: Global) -> Result<Node, NoMemory> {
 #[test]
 fn a_type_reaches_itself_through_a_list(rt: HostRuntime) -> Result<(), Fail> {
     assert_eq!(rt; nodes(&three(rt.alloc())?), 3);
+    Ok(())
+}
+
+#[test]
+fn bytes_are_placed_stored_and_found(rt: HostRuntime) -> Result<(), Fail> {
+    let mut map = ByteMap::new(rt.alloc());
+    assert_eq!(rt; map.byte(0), None);
+    map.place(0x1000, b"abcdefgh")?;
+    map.place(0x1006, b"XYZ")?;
+    map.place_zeros(0x0fff, 2)?;
+    map.place(0xffff_ffff_ffff_fffe, b"yz")?;
+    map.place_zeros(0, 1)?;
+    map.place(0x4000, b"")?;
+    let copy = map.copy(rt.alloc())?;
+    map.store(0x1001, Width::B4, 0x8877_6655_4433_2211);
+    map.store(0xffff_ffff_ffff_ffff, Width::B8, 0x8877_6655_4433_2211);
+    map.store(0x1008, Width::B2, 0x4241);
+    for (a, now, before) in [
+        (0x0ffe, None, None),
+        (0x0fff, Some(0), Some(0)),
+        (0x1000, Some(0), Some(0)),
+        (0x1001, Some(0x11), Some(b'b')),
+        (0x1002, Some(0x22), Some(b'c')),
+        (0x1003, Some(0x33), Some(b'd')),
+        (0x1004, Some(0x44), Some(b'e')),
+        (0x1005, Some(b'f'), Some(b'f')),
+        (0x1006, Some(b'X'), Some(b'X')),
+        (0x1008, Some(b'A'), Some(b'Z')),
+        (0x1009, None, None),
+        (0x4000, None, None),
+        (0xffff_ffff_ffff_fffd, None, None),
+        (0xffff_ffff_ffff_fffe, Some(b'y'), Some(b'y')),
+        (0xffff_ffff_ffff_ffff, Some(0x11), Some(b'z')),
+        (0, Some(0x22), Some(0)),
+        (1, None, None),
+    ] {
+        assert_eq!(rt; map.byte(a), now, "at {a:#x} now");
+        assert_eq!(rt; copy.byte(a), before, "at {a:#x} before");
+    }
+    for (a, width, number) in [
+        (0x0fff, Width::B1, 0),
+        (0x1001, Width::B2, 0x2211),
+        (0x1001, Width::B4, 0x4433_2211),
+        (0x1005, Width::B8, 0x4159_5866),
+        (0x4000, Width::B8, 0),
+        (0xffff_ffff_ffff_fffe, Width::B4, 0x0022_1179),
+    ] {
+        assert_eq!(rt; map.load(a, width), number, "{width:?} at {a:#x}");
+    }
+    for (a, width, all) in [
+        (0x0fff, Width::B8, true),
+        (0x1001, Width::B8, true),
+        (0x1002, Width::B8, false),
+        (0x1005, Width::B4, true),
+        (0x1006, Width::B4, false),
+        (0x0ffe, Width::B1, false),
+        (0xffff_ffff_ffff_ffff, Width::B2, true),
+        (0xffff_ffff_ffff_ffff, Width::B4, false),
+    ] {
+        assert_eq!(rt; map.has(a, width), all, "{width:?} at {a:#x}");
+    }
+    Ok(())
+}
+
+#[test]
+fn pieces_that_touch_become_one(rt: HostRuntime) -> Result<(), Fail> {
+    let mut pieces = Vec::new(rt.alloc());
+    put_bytes(&mut pieces, 20, b"cd")?;
+    put_bytes(&mut pieces, 10, b"ab")?;
+    put_bytes(&mut pieces, 30, b"ef")?;
+    assert_eq!(rt; pieces.len(), 3);
+    put_bytes(&mut pieces, 12, b"gh")?;
+    assert_eq!(rt; pieces.len(), 3);
+    put_zeros(&mut pieces, 15, 5)?;
+    assert_eq!(rt; pieces.len(), 3);
+    put_zeros(&mut pieces, 14, 1)?;
+    assert_eq!(rt; pieces.len(), 2);
+    put_zeros(&mut pieces, 9, 22)?;
+    assert_eq!(rt; pieces.len(), 1);
+    put_zeros(&mut pieces, 0, 1 << 20)?;
+    assert_eq!(rt; pieces.len(), 1);
     Ok(())
 }

@@ -1,0 +1,5 @@
+pub mod Header
+pub mod Fault
+pub mod Image
+pub mod Word
+pub use Rattle.rv_words.specs.Bytes

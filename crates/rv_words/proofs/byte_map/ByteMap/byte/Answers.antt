@@ -1,0 +1,10 @@
+use Rattle.std.proofs.Common.{◌∙◌, sym}
+use Rattle.std.specs.FinMap.{get}
+use Rattle.rv_words.specs.Pieces.{bytes_in}
+use Rattle.rv_words.proofs.PieceLemmas.{get-map_of}
+use Rattle.rv_words.proofs.byte_map.ByteMap.byte.Goals as goal
+
+pub returns : goal.returns
+returns c =
+    c.byte_at.ensures ∙ (λ j. bytes_in (c.deref.ensures.value j) c.args.a)
+    ∙ (λ j. sym (get-map_of c.self.inside.pieces.items) j c.args.a) ∙ (λ j. get (c.self.view_is j) c.args.a)

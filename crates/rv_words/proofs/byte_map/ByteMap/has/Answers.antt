@@ -1,0 +1,11 @@
+use Rattle.std.proofs.Common.{◌∙◌, sym}
+use Rattle.std.specs.FinMap.{get}
+use Rattle.rv_words.specs.Pieces.{bytes_in}
+use Rattle.rv_words.proofs.PieceLemmas.{get-map_of}
+use Rattle.rv_words.specs.Bytes.{bytes_of, inside}
+use Rattle.rv_words.proofs.byte_map.ByteMap.has.Goals as goal
+
+pub returns : goal.returns
+returns c =
+    c.has_bytes.ensures ∙ (λ j. inside (c.bytes.ensures j) (bytes_in (c.deref.ensures.value j)) c.args.a)
+    ∙ (λ j. inside (bytes_of c.args.w) (sym (get-map_of c.self.inside.pieces.items) j) c.args.a) ∙ (λ j. inside (bytes_of c.args.w) (get (c.self.view_is j)) c.args.a)

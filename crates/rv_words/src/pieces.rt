@@ -1,0 +1,379 @@
+//! Pieces of memory: they rise, and neither overlap nor touch.
+
+ghost use Rattle.std.specs.Prelude.{◌≡◌, ◌+◌, ◌-◌, ◌<◌, ◌≤◌, slice_index_or, slice_get, length, take, drop, replicate, ◌++◌, ◌∷◌, vec_len, IfOk, OnOk, OnErr, IsTrue, ◌↔◌, ◌^◌};
+ghost use Rattle.rv_words.specs.Bytes.{bytes_from, inside, load, over, put_byte, store};
+ghost use Rattle.rv_words.specs.Pieces.{ArePieces, ArePiecesFrom, Holds, above, bytes_in, end};
+
+use crate::memory::NoMemory;
+use std::alloc::Global;
+
+/// Bytes from an address on.
+#[derive(Debug, Drop)]
+pub struct Piece {
+    at: u64,
+    bytes: Vec<u8>,
+}
+
+impl Piece {
+    /// The byte at an address from the piece's first one on.
+    fn byte(&self, a: u64) -> Option<u8>
+        requires { self.now.at ≤ a }
+        ensures { result ≡ bytes_from self.now.at self.now.bytes.items a }
+    {
+        get_byte(&self.bytes, (a - self.at) as usize)
+    }
+
+    /// Whether the piece ends at or above an address at or above its first.
+    fn reaches(&self, a: u64) -> bool
+        requires { self.now.at ≤ a }
+        ensures { IsTrue result ↔ (a ≤ end self.now) }
+    {
+        a - self.at <= self.bytes.len() as u64
+    }
+
+    /// Whether the piece has all `n` addresses from `a` on.
+    fn holds(&self, a: u64, n: u64) -> bool
+        ensures { IsTrue result ↔ ((self.now.at ≤ a) × (a + n ≤ end self.now)) }
+    {
+        let len = self.bytes.len() as u64;
+        self.at <= a && a - self.at <= len && n <= len - (a - self.at)
+    }
+
+    /// The piece's bytes before an address.
+    fn before(&self, a: u64) -> &[u8]
+        ensures { result.now ≡ take (a - self.now.at) self.now.bytes.items }
+    {
+        let keep = a.saturating_sub(self.at) as usize;
+        &self.bytes[..keep.min(self.bytes.len())]
+    }
+
+    /// The piece's bytes from `n` above `a` on, an address at or above its first.
+    fn after(&self, a: u64, n: u64) -> &[u8]
+        requires { self.now.at ≤ a + n }
+        ensures { result.now ≡ drop (a + n - self.now.at) self.now.bytes.items }
+    {
+        let skip = if self.at < a {
+            n.saturating_add(a - self.at)
+        } else {
+            n - (self.at - a)
+        };
+        let len = self.bytes.len();
+        if skip < len as u64 {
+            &self.bytes[skip as usize..]
+        } else {
+            &self.bytes[len..]
+        }
+    }
+}
+
+/// The byte in a place.
+fn get_byte(bytes: &[u8], k: usize) -> Option<u8>
+    ensures { result ≡ slice_get bytes.now k }
+{
+    bytes.get(k).copied()
+}
+
+/// How many pieces begin at most `n` above `a`, of pieces that rise.
+fn count_begun(pieces: &[Piece], a: u64, n: u64) -> usize
+    ensures within { result ≤ length pieces.now }
+    ensures begun { (d : Piece) → 0 < result → (slice_index_or pieces.now (result - 1) d).at ≤ a + n }
+    ensures later { (d : Piece) → result < length pieces.now → a + n < (slice_index_or pieces.now result d).at }
+{
+    let mut low = 0;
+    let mut high = pieces.len();
+    while low < high {
+        let middle = low + (high - low) / 2;
+        let at = pieces[middle].at;
+        if at <= a || at - a <= n {
+            low = middle + 1;
+        } else {
+            high = middle;
+        }
+    }
+    low
+}
+
+/// The byte at an address.
+pub fn byte_at(pieces: &[Piece], a: u64) -> Option<u8>
+    requires { ArePieces pieces.now }
+    ensures { result ≡ bytes_in pieces.now a }
+{
+    let begun = count_begun(pieces, a, 0);
+    if begun == 0 {
+        return None;
+    }
+    pieces[begun - 1].byte(a)
+}
+
+/// Removes the pieces from `from` on that stand before `to`.
+fn remove_range(pieces: &mut Vec<Piece>, from: usize, to: usize)
+    requires ordered { from ≤ to }
+    requires within { to ≤ vec_len pieces.old }
+    ensures { pieces.new.items ≡ take from pieces.old.items ++ drop to pieces.old.items }
+{
+    pieces.drain(from..to);
+}
+
+/// The bytes of `left`, `n` zeros and the bytes of `right`.
+fn joined(alloc: Global, left: &[u8], n: usize, right: &[u8]) -> Result<Vec<u8>, NoMemory>
+    ensures { IfOk result (λ bytes. bytes.items ≡ left.now ++ replicate n 0 ++ right.now) }
+{
+    let front = left.len().checked_add(n).ok_or(NoMemory)?;
+    let whole = front.checked_add(right.len()).ok_or(NoMemory)?;
+    let mut bytes = Vec::with_capacity(alloc, whole)?;
+    bytes.extend_from_slice(left)?;
+    bytes.resize(front, 0)?;
+    bytes.extend_from_slice(right)?;
+    Ok(bytes)
+}
+
+/// That many zeros.
+fn zeros(alloc: Global, n: usize) -> Result<Vec<u8>, NoMemory>
+    ensures { IfOk result (λ bytes. bytes.items ≡ replicate n 0) }
+{
+    let mut bytes = Vec::with_capacity(alloc, n)?;
+    bytes.resize(n, 0)?;
+    Ok(bytes)
+}
+
+/// Writes zeros over `n` bytes from a place on.
+fn clear(bytes: &mut Vec<u8>, from: usize, n: usize)
+    requires { from + n ≤ vec_len bytes.old }
+    ensures { bytes.new.items ≡ take from bytes.old.items ++ (replicate n 0 ++ drop (from + n) bytes.old.items) }
+{
+    bytes[from..from + n].fill(0);
+}
+
+/// Writes other bytes from a place on.
+fn overwrite(bytes: &mut Vec<u8>, from: usize, new: &[u8])
+    requires { from + length new.now ≤ vec_len bytes.old }
+    ensures { bytes.new.items ≡ take from bytes.old.items ++ (new.now ++ drop (from + length new.now) bytes.old.items) }
+{
+    bytes[from..from + new.len()].copy_from_slice(new);
+}
+
+/// The first and the one after the last of the pieces that have one of the `n` addresses from `a` on, or
+/// an address next to these.
+fn touched(pieces: &[Piece], a: u64, n: u64) -> (usize, usize)
+    requires { ArePieces pieces.now }
+    ensures ordered { result.0 ≤ result.1 }
+    ensures within { result.1 ≤ length pieces.now }
+    ensures before { above 0 (take result.0 pieces.now) ≤ a }
+    ensures after { ArePiecesFrom (a + n + 1) (drop result.1 pieces.now) }
+    ensures reaches { (d : Piece) → result.0 < result.1 → a ≤ end (slice_index_or pieces.now result.0 d) }
+    ensures begins { (d : Piece) → result.0 < result.1 → (slice_index_or pieces.now (result.1 - 1) d).at ≤ a + n }
+{
+    let begun = count_begun(pieces, a, 0);
+    let last = count_begun(pieces, a, n);
+    if begun > 0 && pieces[begun - 1].reaches(a) {
+        return (begun - 1, last);
+    }
+    (begun, last)
+}
+
+/// Puts `n` zeros from `a` on in front of piece `i`, where they touch no piece.
+fn insert_zeros(pieces: &mut Vec<Piece>, i: usize, a: u64, n: u64) -> Result<(), NoMemory>
+    requires pieces { ArePieces pieces.old.items }
+    requires within { i ≤ vec_len pieces.old }
+    requires some { 0 < n }
+    requires fits { a + n ≤ 2 ^ 64 }
+    requires before { above 0 (take i pieces.old.items) ≤ a }
+    requires after { ArePiecesFrom (a + n + 1) (drop i pieces.old.items) }
+    ensures pieces { ArePieces pieces.new.items }
+    ensures cleared { OnOk result (bytes_in pieces.new.items ≡ over (bytes_from a (replicate n 0)) (bytes_in pieces.old.items)) }
+    ensures held { OnOk result (Holds pieces.new.items i a n) }
+    ensures err { OnErr result (pieces.new.items ≡ pieces.old.items) }
+{
+    let bytes = zeros(*pieces.allocator(), n as usize)?;
+    pieces.insert(i, Piece { at: a, bytes })?;
+    Ok(())
+}
+
+/// Makes one piece of the pieces from `first` on that stand before `last`, with `n` zeros from `a` on.
+fn join_zeros(
+    pieces: &mut Vec<Piece>,
+    first: usize,
+    last: usize,
+    a: u64,
+    n: u64,
+) -> Result<(), NoMemory>
+    requires pieces { ArePieces pieces.old.items }
+    requires ordered { first < last }
+    requires within { last ≤ vec_len pieces.old }
+    requires some { 0 < n }
+    requires fits { a + n ≤ 2 ^ 64 }
+    requires before { above 0 (take first pieces.old.items) ≤ a }
+    requires after { ArePiecesFrom (a + n + 1) (drop last pieces.old.items) }
+    requires reaches { (d : Piece) → a ≤ end (slice_index_or pieces.old.items first d) }
+    requires begins { (d : Piece) → (slice_index_or pieces.old.items (last - 1) d).at ≤ a + n }
+    ensures pieces { ArePieces pieces.new.items }
+    ensures cleared { OnOk result (bytes_in pieces.new.items ≡ over (bytes_from a (replicate n 0)) (bytes_in pieces.old.items)) }
+    ensures held { OnOk result (Holds pieces.new.items first a n) }
+    ensures err { OnErr result (pieces.new.items ≡ pieces.old.items) }
+{
+    let alloc = *pieces.allocator();
+    let head = &pieces[first];
+    let tail = &pieces[last - 1];
+    let at = a.min(head.at);
+    let bytes = joined(alloc, head.before(a), n as usize, tail.after(a, n))?;
+    pieces[first] = Piece { at, bytes };
+    remove_range(pieces, first + 1, last);
+    Ok(())
+}
+
+/// Writes zeros over `n` bytes of piece `i`.
+fn clear_in(pieces: &mut [Piece], i: usize, a: u64, n: u64)
+    requires pieces { ArePieces pieces.old }
+    requires held { Holds pieces.old i a n }
+    ensures pieces { ArePieces pieces.new }
+    ensures cleared { bytes_in pieces.new ≡ over (bytes_from a (replicate n 0)) (bytes_in pieces.old) }
+    ensures held { Holds pieces.new i a n }
+{
+    let piece = &mut pieces[i];
+    let from = (a - piece.at) as usize;
+    clear(&mut piece.bytes, from, n as usize);
+}
+
+/// Writes bytes over those of piece `i`.
+fn write_in(pieces: &mut [Piece], i: usize, a: u64, bytes: &[u8])
+    requires pieces { ArePieces pieces.old }
+    requires held { Holds pieces.old i a (length bytes.now) }
+    ensures pieces { ArePieces pieces.new }
+    ensures written { bytes_in pieces.new ≡ over (bytes_from a bytes.now) (bytes_in pieces.old) }
+{
+    let piece = &mut pieces[i];
+    let from = (a - piece.at) as usize;
+    overwrite(&mut piece.bytes, from, bytes);
+}
+
+/// Makes one piece have all `n` addresses from `a` on, with zeros there, and answers which one.
+fn cover(pieces: &mut Vec<Piece>, a: u64, n: u64) -> Result<usize, NoMemory>
+    requires pieces { ArePieces pieces.old.items }
+    requires some { 0 < n }
+    requires fits { a + n ≤ 2 ^ 64 }
+    ensures pieces { ArePieces pieces.new.items }
+    ensures cleared { OnOk result (bytes_in pieces.new.items ≡ over (bytes_from a (replicate n 0)) (bytes_in pieces.old.items)) }
+    ensures held { IfOk result (λ i. Holds pieces.new.items i a n) }
+    ensures err { OnErr result (pieces.new.items ≡ pieces.old.items) }
+{
+    let (first, last) = touched(pieces, a, n);
+    if first == last {
+        insert_zeros(pieces, first, a, n)?;
+        return Ok(first);
+    }
+    if pieces[first].holds(a, n) {
+        clear_in(pieces, first, a, n);
+        return Ok(first);
+    }
+    join_zeros(pieces, first, last, a, n)?;
+    Ok(first)
+}
+
+/// Puts bytes at the addresses from `a` on.
+pub fn put_bytes(pieces: &mut Vec<Piece>, a: u64, bytes: &[u8]) -> Result<(), NoMemory>
+    requires pieces { ArePieces pieces.old.items }
+    requires fits { a + length bytes.now ≤ 2 ^ 64 }
+    ensures pieces { ArePieces pieces.new.items }
+    ensures ok { OnOk result (bytes_in pieces.new.items ≡ over (bytes_from a bytes.now) (bytes_in pieces.old.items)) }
+    ensures err { OnErr result (pieces.new.items ≡ pieces.old.items) }
+{
+    if bytes.is_empty() {
+        return Ok(());
+    }
+    let i = cover(pieces, a, bytes.len() as u64)?;
+    write_in(pieces, i, a, bytes);
+    Ok(())
+}
+
+/// Puts `n` zeros at the addresses from `a` on.
+pub fn put_zeros(pieces: &mut Vec<Piece>, a: u64, n: u64) -> Result<(), NoMemory>
+    requires pieces { ArePieces pieces.old.items }
+    requires fits { a + n ≤ 2 ^ 64 }
+    ensures pieces { ArePieces pieces.new.items }
+    ensures ok { OnOk result (bytes_in pieces.new.items ≡ over (bytes_from a (replicate n 0)) (bytes_in pieces.old.items)) }
+    ensures err { OnErr result (pieces.new.items ≡ pieces.old.items) }
+{
+    if n == 0 {
+        return Ok(());
+    }
+    let _ = cover(pieces, a, n)?;
+    Ok(())
+}
+
+/// Whether all of `n` addresses from `a` on are present.
+pub fn has_bytes(pieces: &[Piece], a: u64, n: u8) -> bool
+    requires { ArePieces pieces.now }
+    ensures { result ≡ inside n (bytes_in pieces.now) a }
+{
+    if n == 0 {
+        return true;
+    }
+    byte_at(pieces, a).is_some() && has_bytes(pieces, a.wrapping_add(1), n - 1)
+}
+
+/// The number of `n` bytes from `a` on, where an absent one counts as 0.
+pub fn load_bytes(pieces: &[Piece], a: u64, n: u8) -> u64
+    requires pieces { ArePieces pieces.now }
+    requires few { n ≤ 8 }
+    ensures loaded { result ≡ load n (bytes_in pieces.now) a }
+    ensures small { result < 256 ^ n }
+{
+    if n == 0 {
+        return 0;
+    }
+    let low = byte_at(pieces, a).unwrap_or(0);
+    let high = load_bytes(pieces, a.wrapping_add(1), n - 1);
+    u64::from(low) + 256 * high
+}
+
+/// Writes a byte at an address that may be absent.
+fn store_byte(pieces: &mut [Piece], a: u64, b: u8)
+    requires { ArePieces pieces.old }
+    ensures pieces { ArePieces pieces.new }
+    ensures stored { bytes_in pieces.new ≡ put_byte (bytes_in pieces.old) a b }
+{
+    let begun = count_begun(pieces, a, 0);
+    if begun == 0 {
+        return;
+    }
+    if pieces[begun - 1].holds(a, 1) {
+        write_in(pieces, begun - 1, a, &[b]);
+    }
+}
+
+/// Writes the low `n` bytes of `v` from `a` on, where addresses are present.
+pub fn store_bytes(pieces: &mut [Piece], a: u64, n: u8, v: u64)
+    requires { ArePieces pieces.old }
+    ensures pieces { ArePieces pieces.new }
+    ensures stored { bytes_in pieces.new ≡ store n (bytes_in pieces.old) a v }
+{
+    if n > 0 {
+        store_bytes(pieces, a.wrapping_add(1), n - 1, v / 256);
+        store_byte(pieces, a, (v % 256) as u8);
+    }
+}
+
+/// A piece with the same bytes at the same addresses.
+fn copy_of(alloc: Global, piece: &Piece) -> Result<Piece, NoMemory>
+    ensures at { IfOk result (λ copy. copy.at ≡ piece.now.at) }
+    ensures bytes { IfOk result (λ copy. copy.bytes.items ≡ piece.now.bytes.items) }
+{
+    let bytes = Vec::from_slice(alloc, &piece.bytes)?;
+    Ok(Piece {
+        at: piece.at,
+        bytes,
+    })
+}
+
+/// Pieces with the same bytes at the same addresses.
+pub fn copy_all(alloc: Global, pieces: &[Piece]) -> Result<Vec<Piece>, NoMemory>
+    requires { ArePieces pieces.now }
+    ensures pieces { IfOk result (λ copies. ArePieces copies.items) }
+    ensures bytes { IfOk result (λ copies. bytes_in copies.items ≡ bytes_in pieces.now) }
+{
+    let mut copies = Vec::with_capacity(alloc, pieces.len())?;
+    for piece in pieces {
+        copies.push(copy_of(alloc, piece)?)?;
+    }
+    Ok(copies)
+}
