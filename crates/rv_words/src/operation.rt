@@ -8,6 +8,14 @@ ghost use Rattle.rv_words.specs.Operation.{operation_value};
 pub enum Op {
     Add,
     Sub,
+    Sll,
+    Slt,
+    Sltu,
+    Xor,
+    Srl,
+    Sra,
+    Or,
+    And,
 }
 
 /// The operation's value on `a` and `b`.
@@ -17,5 +25,13 @@ pub fn apply(op: Op, a: u64, b: u64) -> u64
     match op {
         Op::Add => a.wrapping_add(b),
         Op::Sub => a.wrapping_sub(b),
+        Op::Sll => a << (b % 64),
+        Op::Slt => u64::from(a.cast_signed() < b.cast_signed()),
+        Op::Sltu => u64::from(a < b),
+        Op::Xor => a ^ b,
+        Op::Srl => a >> (b % 64),
+        Op::Sra => (a.cast_signed() >> (b % 64)).cast_unsigned(),
+        Op::Or => a | b,
+        Op::And => a & b,
     }
 }

@@ -6,18 +6,90 @@ use crate::pieces::{put_bytes, put_zeros};
 use std::alloc::Global;
 use std::test::Fail;
 
+/// The values are those that a C compiler gives to the same operations on `uint64_t` and `int64_t`, the
+/// shifts by the amount `b & 63`.
 #[test]
 fn operations_on_edges(rt: HostRuntime) {
     for (op, a, b, value) in [
-        (Op::Add, 2, 3, 5),
+        (Op::Add, 2, 5, 7),
         (Op::Add, 0xffff_ffff_ffff_ffff, 1, 0),
         (Op::Add, 0x8000_0000_0000_0000, 0x8000_0000_0000_0000, 0),
-        (Op::Sub, 3, 2, 1),
+        (
+            Op::Add,
+            0x1234_5678_9abc_def0,
+            0xfedc_ba98_7654_3210,
+            0x1111_1111_1111_1100,
+        ),
+        (Op::Sub, 5, 2, 3),
         (Op::Sub, 0, 1, 0xffff_ffff_ffff_ffff),
-        (Op::Sub, 2, 3, 0xffff_ffff_ffff_ffff),
         (Op::Sub, 0, 0x8000_0000_0000_0000, 0x8000_0000_0000_0000),
+        (
+            Op::Sub,
+            0x1234_5678_9abc_def0,
+            0xfedc_ba98_7654_3210,
+            0x1357_9be0_2468_ace0,
+        ),
+        (Op::Sll, 1, 0x3f, 0x8000_0000_0000_0000),
+        (Op::Sll, 1, 0x40, 1),
+        (Op::Sll, 0xffff_ffff_ffff_ffff, 0x41, 0xffff_ffff_ffff_fffe),
+        (Op::Sll, 0x1234_5678_9abc_def0, 5, 0x468a_cf13_579b_de00),
+        (Op::Slt, 0x8000_0000_0000_0000, 0x7fff_ffff_ffff_ffff, 1),
+        (Op::Slt, 0x7fff_ffff_ffff_ffff, 0x8000_0000_0000_0000, 0),
+        (Op::Slt, 0xffff_ffff_ffff_ffff, 0, 1),
+        (Op::Slt, 5, 5, 0),
+        (Op::Sltu, 0x8000_0000_0000_0000, 0x7fff_ffff_ffff_ffff, 0),
+        (Op::Sltu, 0x7fff_ffff_ffff_ffff, 0x8000_0000_0000_0000, 1),
+        (Op::Sltu, 0xffff_ffff_ffff_ffff, 0, 0),
+        (Op::Sltu, 5, 5, 0),
+        (
+            Op::Xor,
+            0x1234_5678_9abc_def0,
+            0xfedc_ba98_7654_3210,
+            0xece8_ece0_ece8_ece0,
+        ),
+        (
+            Op::Xor,
+            0xffff_ffff_ffff_ffff,
+            0x1234_5678_9abc_def0,
+            0xedcb_a987_6543_210f,
+        ),
+        (Op::Srl, 0x8000_0000_0000_0000, 0x3f, 1),
+        (Op::Srl, 0x8000_0000_0000_0000, 0x40, 0x8000_0000_0000_0000),
+        (Op::Srl, 0xffff_ffff_ffff_ffff, 0x41, 0x7fff_ffff_ffff_ffff),
+        (Op::Srl, 0xfedc_ba98_7654_3210, 5, 0x07f6_e5d4_c3b2_a190),
+        (Op::Srl, 0xfedc_ba98_7654_3210, 0xffff_ffff_ffff_ffff, 1),
+        (Op::Sra, 0x8000_0000_0000_0000, 0x3f, 0xffff_ffff_ffff_ffff),
+        (Op::Sra, 0x8000_0000_0000_0000, 0x40, 0x8000_0000_0000_0000),
+        (Op::Sra, 0xffff_ffff_ffff_ffff, 0x41, 0xffff_ffff_ffff_ffff),
+        (Op::Sra, 0xfedc_ba98_7654_3210, 5, 0xfff6_e5d4_c3b2_a190),
+        (Op::Sra, 0x7fff_ffff_ffff_ffff, 0x3f, 0),
+        (
+            Op::Sra,
+            0x7fff_ffff_ffff_ffff,
+            0xfedc_ba98_7654_3210,
+            0x0000_7fff_ffff_ffff,
+        ),
+        (
+            Op::Or,
+            0x1234_5678_9abc_def0,
+            0xfedc_ba98_7654_3210,
+            0xfefc_fef8_fefc_fef0,
+        ),
+        (Op::Or, 0x8000_0000_0000_0000, 1, 0x8000_0000_0000_0001),
+        (
+            Op::And,
+            0x1234_5678_9abc_def0,
+            0xfedc_ba98_7654_3210,
+            0x1214_1218_1214_1210,
+        ),
+        (
+            Op::And,
+            0xffff_ffff_ffff_ffff,
+            0x1234_5678_9abc_def0,
+            0x1234_5678_9abc_def0,
+        ),
     ] {
-        assert_eq!(rt; apply(op, a, b), value, "{op:?} of {a} and {b}");
+        assert_eq!(rt; apply(op, a, b), value, "{op:?} of {a:#x} and {b:#x}");
     }
 }
 

@@ -1,11 +1,10 @@
 -- What evaluation in a well-formed group gives.
-use Rattle.std.proofs.Common.{◌≡◌, ℕ, zero, suc, ◌<◌, arith, List, length, subst, sym, ◌∙◌}
+use Rattle.std.proofs.Common.{◌≡◌, ℕ, zero, suc, ◌<◌, arith, length, subst, sym, ◌∙◌}
 use Rattle.std.specs.Prelude.{slice_get, Some, Result, Ok, Err, IfOk}
 use Rattle.std.proofs.lemmas.List.{length-map}
 use Rattle.std.proofs.lemmas.Option.{get_or_from_slice_get, slice_get_within}
 use Rattle.word_terms.specs.Environment.{Environment, no_variables}
 use Rattle.word_terms.specs.Value.{word_value}
-use Rattle.tailrec_lang.specs.declared.group.Exit.{Exit}
 use Rattle.tailrec_lang.specs.Tree.{BodyTree, Do, Leave, DefTree, GroupTree}
 use Rattle.tailrec_lang.specs.WellFormed.{BodyIsWellFormed, DefIsWellFormed, IsWellFormed, words_after}
 use Rattle.tailrec_lang.specs.Eval.{Arguments, Meaning, LeavesInScope, after_step, body_ending, ending, eval, exits_of, with_arguments, with_pc}
