@@ -1,0 +1,149 @@
+-- The rows of the table that are left where some fields of a word are known.
+use Rattle.std.proofs.Common.{◌≡◌, ◌≢◌, ℕ, eqb, Bool, true, false, cond, not, ◌&&◌, ◌||◌, ◌⊎◌, ⊎_elim, inl, inr, arith, Option, Some, None, List, [], ◌∷◌, refl, sym, ◌∙◌, eq-eqb, eqb-true}
+use Rattle.std.proofs.lemmas.Bool.{eqb-false, false≢true}
+use Rattle.std.proofs.lemmas.Bool.Decides.{nat_tests}
+use Rattle.std.specs.List.{list_all}
+use Rattle.rv_decode.specs.declared.instruction.Instr.{Instr}
+use Rattle.rv_decode.specs.Fields.{bits, opcode, funct3, funct7, funct6}
+use Rattle.rv_decode.specs.Decodes.{Fixed, Row, opcode_is, funct3_is, funct7_is, funct6_is, table, has, meets, decoded_by, decoded}
+
+-- a field, and whether the word has that value in it
+pub record Fact : Type 0 where
+  pub field : Fixed
+  pub holds : Bool
+
+abbrev pub AreFacts : ℕ → List Fact → Type 0
+AreFacts w [] = Unit {0}
+AreFacts w (k ∷ ks) = (has w k.field ≡ k.holds) × AreFacts w ks
+
+-- two fields are the same bits
+abbrev pub same_bits : Fixed → Fixed → Bool
+same_bits f g = eqb f.low g.low && eqb f.count g.count
+
+-- the test of a field, where the facts tell its outcome
+abbrev pub told : List Fact → ℕ → Fixed → Bool
+told [] w f = has w f
+told (k ∷ ks) w f = cond (same_bits k.field f) (cond (eqb k.field.value f.value) k.holds (cond k.holds false (told ks w f))) (told ks w f)
+
+abbrev pub all_told : List Fact → ℕ → List Fixed → Bool
+all_told ks w [] = true
+all_told ks w (f ∷ fs) = told ks w f && all_told ks w fs
+
+-- the facts tell that the word hasn't that value in that field
+abbrev pub refuted : List Fact → Fixed → Bool
+refuted [] f = false
+refuted (k ∷ ks) f = (same_bits k.field f && cond (eqb k.field.value f.value) (not k.holds) k.holds) || refuted ks f
+
+abbrev pub any_refuted : List Fact → List Fixed → Bool
+any_refuted ks [] = false
+any_refuted ks (f ∷ fs) = refuted ks f || any_refuted ks fs
+
+-- the instruction that the first row gives that the facts leave
+abbrev pub left_by : List Fact → List Row → ℕ → Option Instr
+left_by ks [] w = None
+left_by ks (r ∷ rs) w = cond (any_refuted ks r.fixed) (left_by ks rs w) (cond (all_told ks w r.fixed) (Some (r.gives w)) (left_by ks rs w))
+
+-- what a fact tells of a test of the same bits x and y
+told_same : (x y v u : ℕ) (t h rest : Bool) → x ≡ y → eqb v u ≡ t → eqb x v ≡ h → rest ≡ eqb y u → cond t h (cond h false rest) ≡ eqb y u
+told_same x y v u true h rest bits is known other = sym known ∙ (λ i. eqb (bits i) (eqb-true v u is i))
+told_same x y v u false true rest bits is known other =
+    let not : eqb y u ≢ true = λ e. eqb-false v u is (sym (eqb-true x v known) ∙ bits ∙ eqb-true y u e) in
+    sym (not_true (eqb y u) not)
+  where
+    not_true : (b : Bool) → b ≢ true → b ≡ false
+    not_true true h = absurd (h refl)
+    not_true false h = refl
+told_same x y v u false false rest bits is known other = other
+
+pub and_true : (a b : Bool) → (a && b) ≡ true → (a ≡ true) × (b ≡ true)
+and_true true b h = (refl, h)
+and_true false b h = absurd (false≢true h)
+
+told_field : (k f : Fixed) (w : ℕ) (h rest : Bool) (s : Bool) → same_bits k f ≡ s → has w k ≡ h → rest ≡ has w f → cond s (cond (eqb k.value f.value) h (cond h false rest)) rest ≡ has w f
+told_field k f w h rest false is known other = other
+told_field k f w h rest true is known other =
+    let both = and_true (eqb k.low f.low) (eqb k.count f.count) is in
+    let same : bits k.low k.count w ≡ bits f.low f.count w = λ i. bits (eqb-true k.low f.low both.0 i) (eqb-true k.count f.count both.1 i) w in
+    told_same (bits k.low k.count w) (bits f.low f.count w) k.value f.value (eqb k.value f.value) h rest same refl known other
+
+told-has : (ks : List Fact) (w : ℕ) (f : Fixed) → AreFacts w ks → told ks w f ≡ has w f
+told-has [] w f h = refl
+told-has (k ∷ ks) w f h = told_field k.field f w k.holds (told ks w f) (same_bits k.field f) refl h.0 (told-has ks w f h.1)
+
+all_told-has : (ks : List Fact) (w : ℕ) (fs : List Fixed) → AreFacts w ks → all_told ks w fs ≡ list_all (has w) fs
+all_told-has ks w [] h = refl
+all_told-has ks w (f ∷ fs) h = λ i. told-has ks w f h i && all_told-has ks w fs h i
+
+or_true : (a b : Bool) → (a || b) ≡ true → (a ≡ true) ⊎ (b ≡ true)
+or_true true b h = inl refl
+or_true false b h = inr h
+
+-- a field of the same bits with another value, or one that a fact denies
+refuted_same : (x v u : ℕ) (h : Bool) → eqb x v ≡ h → cond (eqb v u) (not h) h ≡ true → eqb x u ≡ false
+refuted_same x v u h is e = grind (arith, nat_tests)
+
+refuted-has : (ks : List Fact) (w : ℕ) (f : Fixed) → AreFacts w ks → refuted ks f ≡ true → has w f ≡ false
+refuted-has [] w f h e = absurd (false≢true e)
+refuted-has (k ∷ ks) w f h e =
+    ⊎_elim
+    (λ here.
+    let both = and_true (same_bits k.field f) (cond (eqb k.field.value f.value) (not k.holds) k.holds) here in
+    let same = and_true (eqb k.field.low f.low) (eqb k.field.count f.count) both.0 in
+    let at : bits k.field.low k.field.count w ≡ bits f.low f.count w = λ i. bits (eqb-true k.field.low f.low same.0 i) (eqb-true k.field.count f.count same.1 i) w in
+    (λ i. eqb (sym at i) f.value) ∙ refuted_same (bits k.field.low k.field.count w) k.field.value f.value k.holds h.0 both.1)
+    (λ there. refuted-has ks w f h.1 there)
+    (or_true (same_bits k.field f && cond (eqb k.field.value f.value) (not k.holds) k.holds) (refuted ks f) e)
+
+pub any_refuted-has : (ks : List Fact) (w : ℕ) (fs : List Fixed) → AreFacts w ks → any_refuted ks fs ≡ true → list_all (has w) fs ≡ false
+any_refuted-has ks w [] h e = absurd (false≢true e)
+any_refuted-has ks w (f ∷ fs) h e =
+    ⊎_elim
+    (λ here. λ i. refuted-has ks w f h here i && list_all (has w) fs)
+    (λ there. (λ i. has w f && any_refuted-has ks w fs h there i) ∙ and_false (has w f))
+    (or_true (refuted ks f) (any_refuted ks fs) e)
+  where
+    and_false : (b : Bool) → (b && false) ≡ false
+    and_false true = refl
+    and_false false = refl
+
+skipped : {A : Type 0} (t met : Bool) (here rest : A) → (t ≡ true → met ≡ false) → cond t rest (cond met here rest) ≡ cond met here rest
+skipped true met here rest h = λ i. cond (sym (h refl) i) here rest
+skipped false met here rest h = refl
+
+left_by-decoded : (ks : List Fact) (w : ℕ) (rs : List Row) → AreFacts w ks → left_by ks rs w ≡ decoded_by rs w
+left_by-decoded ks w [] h = refl
+left_by-decoded ks w (r ∷ rs) h =
+    (λ i. cond (any_refuted ks r.fixed) (left_by-decoded ks w rs h i) (cond (all_told-has ks w r.fixed h i) (Some (r.gives w)) (left_by-decoded ks w rs h i)))
+    ∙ skipped (any_refuted ks r.fixed) (meets w r) (Some (r.gives w)) (decoded_by rs w) (any_refuted-has ks w r.fixed h)
+
+-- a word is the instruction that is left by what is known of it
+pub left_by-is : (ks : List Fact) (w : ℕ) → AreFacts w ks → left_by ks table w ≡ decoded w
+unfolding decoded
+left_by-is ks w h = left_by-decoded ks w table h
+
+-- ---- facts
+
+abbrev pub is : Fixed → Fact
+is f = record { field = f; holds = true }
+
+abbrev pub is_not : Fixed → Fact
+is_not f = record { field = f; holds = false }
+
+pub neq-eqb : (a b : ℕ) → a ≢ b → eqb a b ≡ false
+neq-eqb a b h = by_test (eqb a b) refl
+  where
+    by_test : (t : Bool) → eqb a b ≡ t → t ≡ false
+    by_test true e = absurd (h (eqb-true a b e))
+    by_test false e = refl
+
+-- the rows that are left of a word with these fields
+pub at_funct3 : (w o f : ℕ) → opcode w ≡ o → funct3 w ≡ f → left_by (is (opcode_is o) ∷ is (funct3_is f) ∷ []) table w ≡ decoded w
+at_funct3 w o f a b = left_by-is (is (opcode_is o) ∷ is (funct3_is f) ∷ []) w (eq-eqb (opcode w) o a, (eq-eqb (funct3 w) f b, tt))
+
+pub at_funct7 : (w o f g : ℕ) → opcode w ≡ o → funct3 w ≡ f → funct7 w ≡ g → left_by (is (opcode_is o) ∷ is (funct3_is f) ∷ is (funct7_is g) ∷ []) table w ≡ decoded w
+at_funct7 w o f g a b c =
+    left_by-is (is (opcode_is o) ∷ is (funct3_is f) ∷ is (funct7_is g) ∷ []) w (eq-eqb (opcode w) o a, (eq-eqb (funct3 w) f b, (eq-eqb (funct7 w) g c, tt)))
+
+pub at_funct6 : (w o f g : ℕ) → opcode w ≡ o → funct3 w ≡ f → funct6 w ≡ g → left_by (is (opcode_is o) ∷ is (funct3_is f) ∷ is (funct6_is g) ∷ []) table w ≡ decoded w
+at_funct6 w o f g a b c =
+    left_by-is (is (opcode_is o) ∷ is (funct3_is f) ∷ is (funct6_is g) ∷ []) w (eq-eqb (opcode w) o a, (eq-eqb (funct3 w) f b, (eq-eqb (funct6 w) g c, tt)))

@@ -1,0 +1,8 @@
+use Rattle.rv_decode.proofs.TableLemmas.{decoded_decodes, decoded_named}
+use Rattle.rv_decode.proofs.decoder.decode.Goals as goal
+
+pub returns-clause-exactly : goal.returns-clause-exactly
+returns-clause-exactly c = decoded_decodes c.args.w c.decode_word.result c.decode_word.ensures
+
+pub returns-clause-registers : goal.returns-clause-registers
+returns-clause-registers c = decoded_named c.args.w c.decode_word.result c.decode_word.ensures
