@@ -151,11 +151,7 @@ fn short_files_are_refused(rt: HostRuntime) -> Result<(), Fail> {
         (127, "cut 120"),
         (128, ""),
     ] {
-        assert_eq!(rt;
-            words(rt.alloc(), &file[..kept])?.as_str(),
-            fault,
-            "{kept} bytes"
-        );
+        assert_eq!(rt; words(rt.alloc(), &file[..kept])?.as_str(), fault);
     }
     Ok(())
 }
@@ -183,11 +179,7 @@ fn damaged_files_are_refused(rt: HostRuntime) -> Result<(), Fail> {
     ] {
         let mut file = sum(rt.alloc())?;
         put_number(&mut file, place, size, number);
-        assert_eq!(rt;
-            words(rt.alloc(), &file)?.as_str(),
-            fault,
-            "{number} at {place}"
-        );
+        assert_eq!(rt; words(rt.alloc(), &file)?.as_str(), fault);
     }
     Ok(())
 }
@@ -210,11 +202,7 @@ fn segments_that_share_an_address_are_refused(rt: HostRuntime) -> Result<(), Fai
             [1, 4, 0, address, 0, size],
         ];
         let file = program(rt.alloc(), &segments, b"")?;
-        assert_eq!(rt;
-            words(rt.alloc(), &file)?.as_str(),
-            fault,
-            "{size} at {address:#x}"
-        );
+        assert_eq!(rt; words(rt.alloc(), &file)?.as_str(), fault);
     }
     Ok(())
 }
