@@ -1,17 +1,19 @@
 -- What is answered is what the words and the files give, and nothing else.
-use Rattle.std.proofs.Common.{◌≡◌, ◌≢◌, ℕ, suc, ◌+◌, ◌-◌, ◌<◌, ◌≤◌, List, [], ◌∷◌, ◌++◌, length, map, replicate, slice_get, unwrap_or, Option, Some, None, refl, sym, ap, subst, ◌∙◌, ◌⊎◌, arith}
+use Rattle.std.proofs.Common.{◌≡◌, ℕ, suc, ◌+◌, ◌-◌, ◌<◌, ◌≤◌, List, [], ◌∷◌, length, map, replicate, Option, Some, None, refl, sym, ap, ◌∙◌, arith}
 use Rattle.std.specs.Prelude.{IfSome, IsSomeAnd}
 use Rattle.std.proofs.lemmas.List.{length-map, length-replicate}
 use Rattle.mc_shelf.specs.Shelf.{Contents, TellsName}
 use Rattle.tailrec_lang.specs.declared.group.Def.{Def}
 use Rattle.tailrec_lang.specs.Tree.{GroupTree, def_tree}
-use Rattle.tailrec_lang.specs.Eval.{Arguments, Done, Turns, Outcome, eval}
+use Rattle.tailrec_lang.specs.Eval.{Arguments, Outcome, eval}
 use Rattle.mcdec.specs.declared.answer.Answer.{Answer}
 use Rattle.mcdec.specs.declared.answer.Answer.TheVariants as answer
-use Rattle.mcdec.specs.Command.{Command, Eval, Given, Words, IsNoCommand, given_to, value_of}
+use Rattle.mcdec.specs.Command.{Command, Eval, Run, Given, Words, IsNoCommand, value_of}
 use Rattle.mcdec.specs.CommandReading.{Holds, value_in}
-use Rattle.mcdec.specs.Text.{IsSmall, IsSmallText, AreRegistersFrom}
-use Rattle.mcdec.specs.Answer.{proof_limit, listed, arguments_of, GroupGives, TextGives, EvalGives, CommandGives, Gives, ForContents, ReadsAreTold}
+use Rattle.mcdec.specs.Text.{IsSmall, AreRegistersFrom}
+use Rattle.mcdec.specs.RunAnswer.{elf_limit, ImageGives, RunGives}
+use Rattle.mcdec.specs.EvalAnswer.{proof_limit, listed, arguments_of, TextGives, EvalGives}
+use Rattle.mcdec.specs.Answer.{CommandGives, Gives, ForContents, ReadsAreTold}
 
 -- ---- arguments
 
@@ -78,18 +80,52 @@ text-gives p name turns gs (answer.UnreadableText line) small h = (small, h)
 text-gives p name turns gs answer.ReadFault small h = (small, h)
 text-gives p name turns gs answer.NoMemory small h = (small, h)
 text-gives p name turns gs answer.TurnsUsed small h = (small, h)
+text-gives p name turns gs (answer.Met steps pc registers words) small h = (small, h)
+text-gives p name turns gs (answer.NoSuchStart start) small h = (small, h)
+text-gives p name turns gs (answer.StuckAfter steps why) small h = (small, h)
+text-gives p name turns gs (answer.UnreadableElf why) small h = (small, h)
+text-gives p name turns gs answer.OverLimitElf small h = (small, h)
+text-gives p name turns gs answer.StepsUsed small h = (small, h)
+
+-- an answer that a command gives, and neither its words nor the shelf
+abbrev IsOfCommand : Answer → Type 0
+IsOfCommand answer.NotACommand = ⊥
+IsOfCommand answer.ReadFault = ⊥
+IsOfCommand answer.NoMemory = ⊥
+IsOfCommand _ = Unit {0}
+
+eval-gives-such : (p name : List ℕ) (turns : ℕ) (gs : List Given) (a : Answer) → EvalGives p name turns gs a → IsOfCommand a
+eval-gives-such p name turns gs (answer.Evaluated used pc registers words) h = tt
+eval-gives-such p name turns gs (answer.Met steps pc registers words) h = tt
+eval-gives-such p name turns gs answer.NoFunction h = tt
+eval-gives-such p name turns gs (answer.NoSuchStart start) h = tt
+eval-gives-such p name turns gs (answer.StuckAfter steps why) h = tt
+eval-gives-such p name turns gs answer.NotACommand h = absurd h.1.3
+eval-gives-such p name turns gs (answer.UnreadableText line) h = tt
+eval-gives-such p name turns gs (answer.UnreadableElf why) h = tt
+eval-gives-such p name turns gs answer.ReadFault h = absurd h.1.3
+eval-gives-such p name turns gs answer.NoMemory h = absurd h.1.3
+eval-gives-such p name turns gs answer.OverLimitProof h = tt
+eval-gives-such p name turns gs answer.OverLimitElf h = tt
+eval-gives-such p name turns gs answer.TurnsUsed h = tt
+eval-gives-such p name turns gs answer.StepsUsed h = tt
 
 -- an answer to a command
-command-gives : (files : Contents) (ws : List (List ℕ)) (rose : Type 0) (proof name : List ℕ) (turns : ℕ) (gs : List Given) (p : List ℕ) (a : Answer)
-    → Words ws (Eval proof name turns gs) → files proof ≡ Some p → EvalGives p name turns gs a → Gives files ws rose a
-command-gives files ws rose proof name turns gs p answer.NotACommand w f h = absurd h.1.3
-command-gives files ws rose proof name turns gs p answer.ReadFault w f h = absurd h.1.3
-command-gives files ws rose proof name turns gs p answer.NoMemory w f h = tt
-command-gives files ws rose proof name turns gs p answer.OverLimitProof w f h = (Eval proof name turns gs, w, (p, f, h))
-command-gives files ws rose proof name turns gs p answer.NoFunction w f h = (Eval proof name turns gs, w, (p, f, h))
-command-gives files ws rose proof name turns gs p (answer.UnreadableText line) w f h = (Eval proof name turns gs, w, (p, f, h))
-command-gives files ws rose proof name turns gs p answer.TurnsUsed w f h = (Eval proof name turns gs, w, (p, f, h))
-command-gives files ws rose proof name turns gs p (answer.Evaluated used pc registers words) w f h = (Eval proof name turns gs, w, (p, f, h))
+command-gives : (files : Contents) (ws : List (List ℕ)) (rose : Type 0) (c : Command) (a : Answer) → IsOfCommand a → Words ws c → CommandGives files c a → Gives files ws rose a
+command-gives files ws rose c (answer.Evaluated used pc registers words) is w h = (c, w, h)
+command-gives files ws rose c (answer.Met steps pc registers words) is w h = (c, w, h)
+command-gives files ws rose c answer.NoFunction is w h = (c, w, h)
+command-gives files ws rose c (answer.NoSuchStart start) is w h = (c, w, h)
+command-gives files ws rose c (answer.StuckAfter steps why) is w h = (c, w, h)
+command-gives files ws rose c answer.NotACommand is w h = absurd is
+command-gives files ws rose c (answer.UnreadableText line) is w h = (c, w, h)
+command-gives files ws rose c (answer.UnreadableElf why) is w h = (c, w, h)
+command-gives files ws rose c answer.ReadFault is w h = absurd is
+command-gives files ws rose c answer.NoMemory is w h = absurd is
+command-gives files ws rose c answer.OverLimitProof is w h = (c, w, h)
+command-gives files ws rose c answer.OverLimitElf is w h = (c, w, h)
+command-gives files ws rose c answer.TurnsUsed is w h = (c, w, h)
+command-gives files ws rose c answer.StepsUsed is w h = (c, w, h)
 
 -- ---- answers, as far as the files are told
 
@@ -111,8 +147,60 @@ limit-given told ws proof name turns gs w h =
 pub text-given : (told : Option Contents) (ws : List (List ℕ)) (rose : Type 0) (proof name : List ℕ) (turns : ℕ) (gs : List Given) → Words ws (Eval proof name turns gs)
     → (p : List ℕ) → IfSome told (λ files. files proof ≡ Some p) → length p ≤ proof_limit → (a : Answer) → TextGives p name turns gs a → ForContents told (λ files. Gives files ws rose a)
 text-given told ws rose proof name turns gs w p h small a t =
-    for-file told proof p (λ files. Gives files ws rose a) h (λ files held. command-gives files ws rose proof name turns gs p a w held (text-gives p name turns gs a small t))
+    let e = text-gives p name turns gs a small t in
+    for-file told proof p (λ files. Gives files ws rose a) h (λ files held. command-gives files ws rose (Eval proof name turns gs) a (eval-gives-such p name turns gs a e) w (p, held, e))
 
 -- the file that `eval` reads
 pub proof-told : (told : Option Contents) (ws : List (List ℕ)) → ReadsAreTold told ws → (proof name : List ℕ) (turns : ℕ) (gs : List Given) → Words ws (Eval proof name turns gs) → TellsName told proof
 proof-told told ws h proof name turns gs w = h (Eval proof name turns gs) w 0 [] (omega arith)
+
+-- ---- answers to `run`, as far as the files are told
+
+-- an answer to a file within the limit
+image-gives : (p start : List ℕ) (until steps : ℕ) (gs : List Given) (a : Answer) → length p ≤ elf_limit → ImageGives p start until steps gs a → RunGives p start until steps gs a
+image-gives p start until steps gs answer.OverLimitElf small h = absurd h.1.2
+image-gives p start until steps gs (answer.Evaluated used pc registers words) small h = (small, h)
+image-gives p start until steps gs (answer.Met k pc registers words) small h = (small, h)
+image-gives p start until steps gs answer.NoFunction small h = (small, h)
+image-gives p start until steps gs (answer.NoSuchStart name) small h = (small, h)
+image-gives p start until steps gs (answer.StuckAfter k why) small h = (small, h)
+image-gives p start until steps gs answer.NotACommand small h = (small, h)
+image-gives p start until steps gs (answer.UnreadableText line) small h = (small, h)
+image-gives p start until steps gs (answer.UnreadableElf why) small h = (small, h)
+image-gives p start until steps gs answer.ReadFault small h = (small, h)
+image-gives p start until steps gs answer.NoMemory small h = (small, h)
+image-gives p start until steps gs answer.OverLimitProof small h = (small, h)
+image-gives p start until steps gs answer.TurnsUsed small h = (small, h)
+image-gives p start until steps gs answer.StepsUsed small h = (small, h)
+
+run-gives-such : (p start : List ℕ) (until steps : ℕ) (gs : List Given) (a : Answer) → RunGives p start until steps gs a → IsOfCommand a
+run-gives-such p start until steps gs (answer.Evaluated used pc registers words) h = tt
+run-gives-such p start until steps gs (answer.Met k pc registers words) h = tt
+run-gives-such p start until steps gs answer.NoFunction h = tt
+run-gives-such p start until steps gs (answer.NoSuchStart name) h = tt
+run-gives-such p start until steps gs (answer.StuckAfter k why) h = tt
+run-gives-such p start until steps gs answer.NotACommand h = absurd h.1.1.2
+run-gives-such p start until steps gs (answer.UnreadableText line) h = tt
+run-gives-such p start until steps gs (answer.UnreadableElf why) h = tt
+run-gives-such p start until steps gs answer.ReadFault h = absurd h.1.1.2
+run-gives-such p start until steps gs answer.NoMemory h = absurd h.1.1.2
+run-gives-such p start until steps gs answer.OverLimitProof h = tt
+run-gives-such p start until steps gs answer.OverLimitElf h = tt
+run-gives-such p start until steps gs answer.TurnsUsed h = tt
+run-gives-such p start until steps gs answer.StepsUsed h = tt
+
+pub image-given : (told : Option Contents) (ws : List (List ℕ)) (rose : Type 0) (elf start : List ℕ) (until steps : ℕ) (gs : List Given) → Words ws (Run elf start until steps gs)
+    → (p : List ℕ) → IfSome told (λ files. files elf ≡ Some p) → length p ≤ elf_limit → (a : Answer) → ImageGives p start until steps gs a → ForContents told (λ files. Gives files ws rose a)
+image-given told ws rose elf start until steps gs w p h small a t =
+    let e = image-gives p start until steps gs a small t in
+    for-file told elf p (λ files. Gives files ws rose a) h (λ files held. command-gives files ws rose (Run elf start until steps gs) a (run-gives-such p start until steps gs a e) w (p, held, e))
+
+pub elf-limit-given : (told : Option Contents) (ws : List (List ℕ)) (elf start : List ℕ) (until steps : ℕ) (gs : List Given) → Words ws (Run elf start until steps gs)
+    → IfSome told (λ files. IsSomeAnd (files elf) (λ file. elf_limit < length file))
+    → ForContents told (λ files. (c : Command) × Words ws c × CommandGives files c answer.OverLimitElf)
+elf-limit-given told ws elf start until steps gs w h =
+    for-longer told elf elf_limit (λ files. (c : Command) × Words ws c × CommandGives files c answer.OverLimitElf) h (λ files p held over. (Run elf start until steps gs, w, (p, held, over)))
+
+-- the file that `run` reads
+pub elf-told : (told : Option Contents) (ws : List (List ℕ)) → ReadsAreTold told ws → (elf start : List ℕ) (until steps : ℕ) (gs : List Given) → Words ws (Run elf start until steps gs) → TellsName told elf
+elf-told told ws h elf start until steps gs w = h (Run elf start until steps gs) w 0 [] (omega arith)

@@ -1,20 +1,32 @@
 -- The words and the files give one answer at most.
-use Rattle.std.proofs.Common.{◌≡◌, ◌≢◌, ℕ, ◌+◌, ◌-◌, ◌<◌, ◌≤◌, List, [], ◌∷◌, ◌++◌, length, map, get_or, Option, Some, None, refl, sym, ap, subst, ◌∙◌, ◌⊎◌, inl, inr, arith}
+use Rattle.std.proofs.Common.{◌≡◌, ◌≢◌, ℕ, ◌^◌, codes, ◌-◌, ◌<◌, ◌≤◌, List, [], ◌∷◌, length, map, get_or, Option, Some, None, refl, sym, ap, subst, ◌∙◌, ◌⊎◌, inl, inr, arith}
 use Rattle.std.specs.Prelude.{IfSome}
 use Rattle.std.specs.Fmt.{decimal}
 use Rattle.mc_shelf.specs.Shelf.{Contents}
 use Rattle.tailrec_lang.specs.Tree.{GroupTree}
-use Rattle.tailrec_lang.specs.Eval.{Arguments, Done, Turns, Nothing, Outcome, eval}
+use Rattle.tailrec_lang.specs.Eval.{Done, Turns, Nothing, Outcome, eval}
 use Rattle.mcdec.specs.declared.answer.Answer.{Answer}
 use Rattle.mcdec.specs.declared.answer.Answer.TheVariants as answer
-use Rattle.mcdec.specs.Command.{Command, Eval, Given, Words, IsNoCommand, AreGiven, given_word}
+use Rattle.mcdec.specs.Command.{Command, Eval, Run, Given, Words, IsNoCommand, AreGiven, given_word}
 use Rattle.mcdec.specs.Text.{IsSmallText}
-use Rattle.mcdec.specs.Answer.{proof_limit, listed, arguments_of, GroupGives, TextGives, EvalGives, CommandGives, Gives, ForContents, IsDetermined, IsPrinted, IsDelivered}
+use Rattle.elf_image.specs.declared.fault.ElfFault.{ElfFault}
+use Rattle.elf_image.specs.Fault.{IsReadable, fault_of}
+use Rattle.rv_machine.specs.State.{State}
+use Rattle.rv_machine.specs.Run.{EndsIn}
+use Rattle.rv_machine.specs.declared.running.RunEnd.{RunEnd}
+use Rattle.rv_machine.specs.declared.running.RunEnd.TheVariants as end
+use Rattle.rv_machine.proofs.RunLemmas.{ends-once}
+use Rattle.mcdec.specs.Number.{hex}
+use Rattle.mcdec.specs.RunAnswer.{elf_limit, begin, shown, StartsAt, RunGives}
+use Rattle.mcdec.specs.EvalAnswer.{proof_limit, listed, arguments_of, GroupGives, TextGives, EvalGives}
+use Rattle.mcdec.specs.Answer.{CommandGives, Gives, ForContents, IsDetermined}
+use Rattle.mcdec.specs.Printed.{IsPrinted, IsDelivered}
 use Rattle.mcdec.specs.Reading.{number_of}
 use Rattle.mcdec.proofs.Numbers.{number_of-again}
 use Rattle.mcdec.proofs.Readers.{some_is}
 use Rattle.mcdec.proofs.SmallText.{small-unique}
-use Rattle.mcdec.proofs.Givens.{given_word-injective}
+use Rattle.mcdec.proofs.Givens.{given_word-injective, hex-injective}
+use Rattle.mcdec.proofs.Words.{other-name}
 
 -- ---- words
 
@@ -28,19 +40,41 @@ givens-unique (g ∷ gs) (h ∷ hs) a b e =
     let rest : gs ≡ hs = givens-unique gs hs a.2 b.2 others in
     ap (λ (x : Given). x ∷ gs) first ∙ ap (λ (xs : List Given). h ∷ xs) rest
 
+some_number : (m n : ℕ) → Some m ≡ Some n → m ≡ n
+some_number m n e = cc
+
+decimal-injective : (m n : ℕ) → m < 2 ^ 64 → n < 2 ^ 64 → decimal m ≡ decimal n → m ≡ n
+decimal-injective m n a b e = some_number m n (sym (number_of-again 10 m (omega arith) (omega arith) a) ∙ ap (number_of 10) e ∙ number_of-again 10 n (omega arith) (omega arith) b)
+
 words-unique : (ws : List (List ℕ)) (c d : Command) → Words ws c → Words ws d → c ≡ d
 words-unique ws (Eval proof name turns gs) (Eval proof' name' turns' gs') a b =
     let e = sym a.1 ∙ b.1 in
     let p : proof ≡ proof' = cc in
     let n : name ≡ name' = cc in
     let d : decimal turns ≡ decimal turns' = cc in
-    let t : turns ≡ turns' = some_number turns turns' (sym (number_of-again 10 turns (omega arith) (omega arith) a.0.2) ∙ ap (number_of 10) d ∙ number_of-again 10 turns' (omega arith) (omega arith) b.0.2) in
     let m : map given_word gs ≡ map given_word gs' = cc in
+    let t = decimal-injective turns turns' a.0.2 b.0.2 d in
     let g : gs ≡ gs' = givens-unique gs gs' a.0.3 b.0.3 m in
-    ap (λ (x : List ℕ). Eval x name turns gs) p ∙ ap (λ (x : List ℕ). Eval proof' x turns gs) n ∙ ap (λ (x : ℕ). Eval proof' name' x gs) t ∙ ap (λ (x : List Given). Eval proof' name' turns' x) g
-  where
-    some_number : (m n : ℕ) → Some m ≡ Some n → m ≡ n
-    some_number m n e = cc
+    λ i. Eval (p i) (n i) (t i) (g i)
+words-unique ws (Run elf start until steps gs) (Run elf' start' until' steps' gs') a b =
+    let e = sym a.1 ∙ b.1 in
+    let f : elf ≡ elf' = cc in
+    let s : start ≡ start' = cc in
+    let x : hex until ≡ hex until' = cc in
+    let d : decimal steps ≡ decimal steps' = cc in
+    let m : map given_word gs ≡ map given_word gs' = cc in
+    let u = hex-injective until until' a.0.2 b.0.2 x in
+    let k = decimal-injective steps steps' a.0.3 b.0.3 d in
+    let g : gs ≡ gs' = givens-unique gs gs' a.0.4 b.0.4 m in
+    λ i. Run (f i) (s i) (u i) (k i) (g i)
+words-unique ws (Eval proof name turns gs) (Run elf start until steps gs') a b =
+    let e = sym a.1 ∙ b.1 in
+    let n : codes "eval" ≡ codes "run" = cc in
+    absurd (other-name n)
+words-unique ws (Run elf start until steps gs) (Eval proof name turns gs') a b =
+    let e = sym b.1 ∙ a.1 in
+    let n : codes "eval" ≡ codes "run" = cc in
+    absurd (other-name n)
 
 -- ---- groups and texts
 
@@ -58,6 +92,12 @@ group-case g turns gs (answer.UnreadableText line) h = absurd h
 group-case g turns gs answer.ReadFault h = absurd h
 group-case g turns gs answer.NoMemory h = absurd h
 group-case g turns gs answer.OverLimitProof h = absurd h
+group-case g turns gs (answer.Met k pc registers words) h = absurd h
+group-case g turns gs (answer.NoSuchStart start) h = absurd h
+group-case g turns gs (answer.StuckAfter k why) h = absurd h
+group-case g turns gs (answer.UnreadableElf why) h = absurd h
+group-case g turns gs answer.OverLimitElf h = absurd h
+group-case g turns gs answer.StepsUsed h = absurd h
 
 group-unique : (g : GroupTree) (turns : ℕ) (gs : List Given) (a b : Answer) → GroupGives g turns gs a → GroupGives g turns gs b → a ≡ b
 group-unique g turns gs a b h k = group-case g turns gs a h ∙ sym (group-case g turns gs b k)
@@ -84,6 +124,12 @@ text-case p name turns gs answer.NotACommand h = absurd h.3
 text-case p name turns gs answer.ReadFault h = absurd h.3
 text-case p name turns gs answer.NoMemory h = absurd h.3
 text-case p name turns gs answer.OverLimitProof h = absurd h.3
+text-case p name turns gs (answer.Met k pc registers words) h = absurd h.3
+text-case p name turns gs (answer.NoSuchStart start) h = absurd h.3
+text-case p name turns gs (answer.StuckAfter k why) h = absurd h.3
+text-case p name turns gs (answer.UnreadableElf why) h = absurd h.3
+text-case p name turns gs answer.OverLimitElf h = absurd h.3
+text-case p name turns gs answer.StepsUsed h = absurd h.3
 
 text-unique : (p name : List ℕ) (turns : ℕ) (gs : List Given) (a b : Answer) → TextCase p name turns gs a → TextCase p name turns gs b → a ≡ b
 text-unique p name turns gs a b (inl h) (inl k) = h.1 ∙ sym k.1
@@ -106,6 +152,12 @@ file-case p name turns gs (answer.Evaluated used pc registers words) h = inr h
 file-case p name turns gs answer.NotACommand h = inr h
 file-case p name turns gs answer.ReadFault h = inr h
 file-case p name turns gs answer.NoMemory h = inr h
+file-case p name turns gs (answer.Met k pc registers words) h = inr h
+file-case p name turns gs (answer.NoSuchStart start) h = inr h
+file-case p name turns gs (answer.StuckAfter k why) h = inr h
+file-case p name turns gs (answer.UnreadableElf why) h = inr h
+file-case p name turns gs answer.OverLimitElf h = inr h
+file-case p name turns gs answer.StepsUsed h = inr h
 
 over : (n limit : ℕ) → limit < n → n ≤ limit → ⊥
 over n limit a b = omega arith
@@ -116,10 +168,80 @@ file-unique p name turns gs a b (inl h) (inr k) = absurd (over (length p) proof_
 file-unique p name turns gs a b (inr h) (inl k) = absurd (over (length p) proof_limit k.0 h.0)
 file-unique p name turns gs a b (inr h) (inr k) = text-unique p name turns gs a b (text-case p name turns gs a h.1) (text-case p name turns gs b k.1)
 
+-- ---- runs
+
+abbrev answer_at : List Given → State → RunEnd → Answer
+answer_at gs t (end.Met k) = answer.Met k t.pc (shown gs t) (map t.reg (shown gs t))
+answer_at gs t (end.Stuck k why) = answer.StuckAfter k why
+answer_at gs t end.Steps = answer.StepsUsed
+
+abbrev MachineCase : ℕ → ℕ → List Given → State → Answer → Type 0
+MachineCase until steps gs s a = (t : State) × (e : RunEnd) × EndsIn until steps s t e × (a ≡ answer_at gs t e)
+
+machine-unique : (until steps : ℕ) (gs : List Given) (s : State) (a b : Answer) → MachineCase until steps gs s a → MachineCase until steps gs s b → a ≡ b
+machine-unique until steps gs s a b h k =
+    let p = ends-once until steps s h.0 k.0 h.1 k.1 h.2 k.2 in h.3 ∙ (λ i. answer_at gs (p.0 i) (p.1 i)) ∙ sym k.3
+
+abbrev StartCase : List ℕ → List ℕ → ℕ → ℕ → List Given → Answer → Type 0
+StartCase file start until steps gs a = (((n : ℕ) → StartsAt start n → ⊥) × (a ≡ answer.NoSuchStart start)) ⊎ ((n : ℕ) × StartsAt start n × MachineCase until steps gs (begin file gs n) a)
+
+start-unique : (file start : List ℕ) (until steps : ℕ) (gs : List Given) (a b : Answer) → StartCase file start until steps gs a → StartCase file start until steps gs b → a ≡ b
+start-unique file start until steps gs a b (inl h) (inl k) = h.1 ∙ sym k.1
+start-unique file start until steps gs a b (inl h) (inr k) = absurd (h.0 k.0 k.1)
+start-unique file start until steps gs a b (inr h) (inl k) = absurd (k.0 h.0 h.1)
+start-unique file start until steps gs a b (inr h) (inr k) =
+    let n : h.0 ≡ k.0 = hex-injective h.0 k.0 h.1.0 k.1.0 (sym h.1.1 ∙ k.1.1) in
+    machine-unique until steps gs (begin file gs k.0) a b (subst (λ (x : ℕ). MachineCase until steps gs (begin file gs x) a) n h.2) k.2
+
+abbrev ImageCase : List ℕ → List ℕ → ℕ → ℕ → List Given → Answer → Type 0
+ImageCase file start until steps gs a = ((why : ElfFault) × (fault_of file ≡ Some why) × (a ≡ answer.UnreadableElf why)) ⊎ (IsReadable file × StartCase file start until steps gs a)
+
+some_fault : (x y : ElfFault) → Some x ≡ Some y → x ≡ y
+some_fault x y e = cc
+
+none_fault : (x : ElfFault) → None ≡ Some x → ⊥
+none_fault x e = cc
+
+image-unique : (file start : List ℕ) (until steps : ℕ) (gs : List Given) (a b : Answer) → ImageCase file start until steps gs a → ImageCase file start until steps gs b → a ≡ b
+image-unique file start until steps gs a b (inl h) (inl k) = h.2 ∙ ap answer.UnreadableElf (some_fault h.0 k.0 (sym h.1 ∙ k.1)) ∙ sym k.2
+image-unique file start until steps gs a b (inl h) (inr k) = absurd (none_fault h.0 (sym k.0 ∙ h.1))
+image-unique file start until steps gs a b (inr h) (inl k) = absurd (none_fault k.0 (sym h.0 ∙ k.1))
+image-unique file start until steps gs a b (inr h) (inr k) = start-unique file start until steps gs a b h.1 k.1
+
+abbrev RunCase : List ℕ → List ℕ → ℕ → ℕ → List Given → Answer → Type 0
+RunCase file start until steps gs a = ((elf_limit < length file) × (a ≡ answer.OverLimitElf)) ⊎ ((length file ≤ elf_limit) × ImageCase file start until steps gs a)
+
+run-case : (file start : List ℕ) (until steps : ℕ) (gs : List Given) (a : Answer) → RunGives file start until steps gs a → RunCase file start until steps gs a
+run-case file start until steps gs (answer.Evaluated used pc registers words) h = absurd h.1.1.2
+run-case file start until steps gs (answer.Met k pc registers words) h =
+    let m = h.1.1.2 in
+    inr (h.0, inr (h.1.0, inr (h.1.1.0, h.1.1.1, (m.0, end.Met k, m.1, λ i. answer.Met k (m.2 i) (m.3 i) ((m.4 ∙ ap (map m.0.reg) m.3) i)))))
+run-case file start until steps gs answer.NoFunction h = absurd h.1.1.2
+run-case file start until steps gs (answer.NoSuchStart name) h = inr (h.0, inr (h.1.0, inl (h.1.1.0, ap answer.NoSuchStart h.1.1.1)))
+run-case file start until steps gs (answer.StuckAfter k why) h = let m = h.1.1.2 in inr (h.0, inr (h.1.0, inr (h.1.1.0, h.1.1.1, (m.0, end.Stuck k why, m.1, refl))))
+run-case file start until steps gs answer.NotACommand h = absurd h.1.1.2
+run-case file start until steps gs (answer.UnreadableText line) h = absurd h.1.1.2
+run-case file start until steps gs (answer.UnreadableElf why) h = inr (h.0, inl (why, h.1, refl))
+run-case file start until steps gs answer.ReadFault h = absurd h.1.1.2
+run-case file start until steps gs answer.NoMemory h = absurd h.1.1.2
+run-case file start until steps gs answer.OverLimitProof h = absurd h.1.1.2
+run-case file start until steps gs answer.OverLimitElf h = inl (h, refl)
+run-case file start until steps gs answer.TurnsUsed h = absurd h.1.1.2
+run-case file start until steps gs answer.StepsUsed h = let m = h.1.1.2 in inr (h.0, inr (h.1.0, inr (h.1.1.0, h.1.1.1, (m.0, end.Steps, m.1, refl))))
+
+run-unique : (file start : List ℕ) (until steps : ℕ) (gs : List Given) (a b : Answer) → RunCase file start until steps gs a → RunCase file start until steps gs b → a ≡ b
+run-unique file start until steps gs a b (inl h) (inl k) = h.1 ∙ sym k.1
+run-unique file start until steps gs a b (inl h) (inr k) = absurd (over (length file) elf_limit h.0 k.0)
+run-unique file start until steps gs a b (inr h) (inl k) = absurd (over (length file) elf_limit k.0 h.0)
+run-unique file start until steps gs a b (inr h) (inr k) = image-unique file start until steps gs a b h.1 k.1
+
 command-unique : (files : Contents) (c : Command) (a b : Answer) → CommandGives files c a → CommandGives files c b → a ≡ b
 command-unique files (Eval proof name turns gs) a b h k =
     let same : h.0 ≡ k.0 = some_is h.0 k.0 (sym h.1 ∙ k.1) in
     file-unique k.0 name turns gs a b (file-case k.0 name turns gs a (subst (λ (p : List ℕ). EvalGives p name turns gs a) same h.2)) (file-case k.0 name turns gs b k.2)
+command-unique files (Run elf start until steps gs) a b h k =
+    let same : h.0 ≡ k.0 = some_is h.0 k.0 (sym h.1 ∙ k.1) in
+    run-unique k.0 start until steps gs a b (run-case k.0 start until steps gs a (subst (λ (p : List ℕ). RunGives p start until steps gs a) same h.2)) (run-case k.0 start until steps gs b k.2)
 
 -- ---- answers
 
@@ -135,6 +257,12 @@ words-case files ws rose (answer.UnreadableText line) d h = inr h
 words-case files ws rose answer.NoFunction d h = inr h
 words-case files ws rose answer.TurnsUsed d h = inr h
 words-case files ws rose (answer.Evaluated used pc registers words) d h = inr h
+words-case files ws rose (answer.Met k pc registers words) d h = inr h
+words-case files ws rose (answer.NoSuchStart start) d h = inr h
+words-case files ws rose (answer.StuckAfter k why) d h = inr h
+words-case files ws rose (answer.UnreadableElf why) d h = inr h
+words-case files ws rose answer.OverLimitElf d h = inr h
+words-case files ws rose answer.StepsUsed d h = inr h
 
 case-unique : (files : Contents) (ws : List (List ℕ)) (a b : Answer) → WordsCase files ws a → WordsCase files ws b → a ≡ b
 case-unique files ws a b (inl h) (inl k) = h.1 ∙ sym k.1
@@ -167,13 +295,18 @@ delivered-exact files ws rose answer.ReadFault result old new g (inr (inr e, h))
 delivered-exact files ws rose answer.NoMemory result old new g (inl h) a d k = inr (inr (inr h.0))
 delivered-exact files ws rose answer.NoMemory result old new g (inr (inl e, h)) a d k = inr (inr (inl e))
 delivered-exact files ws rose answer.NoMemory result old new g (inr (inr e, h)) a d k = inr (inr (inr e))
-delivered-exact files ws rose answer.NotACommand result old new g h a d k = comes a answer.NotACommand result old new (answer-unique files ws rose rose answer.NotACommand a tt d g k) h
-delivered-exact files ws rose answer.OverLimitProof result old new g h a d k = comes a answer.OverLimitProof result old new (answer-unique files ws rose rose answer.OverLimitProof a tt d g k) h
-delivered-exact files ws rose (answer.UnreadableText line) result old new g h a d k = comes a (answer.UnreadableText line) result old new (answer-unique files ws rose rose (answer.UnreadableText line) a tt d g k) h
+delivered-exact files ws rose (answer.Evaluated used pc registers words) result old new g h a d k = comes a (answer.Evaluated used pc registers words) result old new (answer-unique files ws rose rose (answer.Evaluated used pc registers words) a tt d g k) h
+delivered-exact files ws rose (answer.Met steps pc registers words) result old new g h a d k = comes a (answer.Met steps pc registers words) result old new (answer-unique files ws rose rose (answer.Met steps pc registers words) a tt d g k) h
 delivered-exact files ws rose answer.NoFunction result old new g h a d k = comes a answer.NoFunction result old new (answer-unique files ws rose rose answer.NoFunction a tt d g k) h
+delivered-exact files ws rose (answer.NoSuchStart name) result old new g h a d k = comes a (answer.NoSuchStart name) result old new (answer-unique files ws rose rose (answer.NoSuchStart name) a tt d g k) h
+delivered-exact files ws rose (answer.StuckAfter steps why) result old new g h a d k = comes a (answer.StuckAfter steps why) result old new (answer-unique files ws rose rose (answer.StuckAfter steps why) a tt d g k) h
+delivered-exact files ws rose answer.NotACommand result old new g h a d k = comes a answer.NotACommand result old new (answer-unique files ws rose rose answer.NotACommand a tt d g k) h
+delivered-exact files ws rose (answer.UnreadableText line) result old new g h a d k = comes a (answer.UnreadableText line) result old new (answer-unique files ws rose rose (answer.UnreadableText line) a tt d g k) h
+delivered-exact files ws rose (answer.UnreadableElf why) result old new g h a d k = comes a (answer.UnreadableElf why) result old new (answer-unique files ws rose rose (answer.UnreadableElf why) a tt d g k) h
+delivered-exact files ws rose answer.OverLimitProof result old new g h a d k = comes a answer.OverLimitProof result old new (answer-unique files ws rose rose answer.OverLimitProof a tt d g k) h
+delivered-exact files ws rose answer.OverLimitElf result old new g h a d k = comes a answer.OverLimitElf result old new (answer-unique files ws rose rose answer.OverLimitElf a tt d g k) h
 delivered-exact files ws rose answer.TurnsUsed result old new g h a d k = comes a answer.TurnsUsed result old new (answer-unique files ws rose rose answer.TurnsUsed a tt d g k) h
-delivered-exact files ws rose (answer.Evaluated used pc registers words) result old new g h a d k =
-    comes a (answer.Evaluated used pc registers words) result old new (answer-unique files ws rose rose (answer.Evaluated used pc registers words) a tt d g k) h
+delivered-exact files ws rose answer.StepsUsed result old new g h a d k = comes a answer.StepsUsed result old new (answer-unique files ws rose rose answer.StepsUsed a tt d g k) h
 
 pub exact-given : (told : Option Contents) (ws : List (List ℕ)) (rose : Type 0) (b : Answer) (result : ℕ) (old new : Option (List ℕ))
     → ForContents told (λ files. Gives files ws rose b) → IsDelivered b result old new

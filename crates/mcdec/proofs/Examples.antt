@@ -2,12 +2,11 @@
 use Rattle.std.proofs.Common.{◌≡◌, List, [], ◌∷◌, codes, refl}
 use Rattle.rv_words.specs.declared.operation.Op.TheVariants.{Add}
 use Rattle.word_terms.specs.Tree.{Var, Bin}
-use Rattle.word_terms.specs.declared.code.Range.{Range}
 use Rattle.tailrec_lang.specs.declared.group.Exit.TheVariants.{At}
 use Rattle.tailrec_lang.specs.Tree.{Bind, Do, Leave, GroupTree}
 use Rattle.tailrec_lang.specs.Eval.{Done, Turns, eval}
 use Rattle.mcdec.specs.Command.{Given, value_of}
-use Rattle.mcdec.specs.Answer.{arguments_of, listed}
+use Rattle.mcdec.specs.EvalAnswer.{arguments_of, listed}
 
 -- sum: x10 gets x10 + x11
 abbrev sum : GroupTree

@@ -1,5 +1,5 @@
 -- The words that give values to registers are read as they are spelled.
-use Rattle.std.proofs.Common.{◌≡◌, ◌≢◌, ℕ, ◌^◌, ◌<◌, ◌≤◌, List, [], ◌++◌, length, codes, Some, None, refl, sym, ap, subst, ◌∙◌, append_assoc, arith}
+use Rattle.std.proofs.Common.{◌≡◌, ◌≢◌, ℕ, ◌^◌, ◌<◌, ◌≤◌, List, [], ◌++◌, length, codes, Option, Some, None, refl, sym, ap, subst, ◌∙◌, append_assoc, arith}
 use Rattle.std.specs.Fmt.{decimal}
 use Rattle.std.proofs.lemmas.List.{append-nil}
 use Rattle.std.proofs.lemmas.List.Elements.{All-from_recursion, recursion_from_All}
@@ -27,6 +27,32 @@ pub run-name : (bytes front rest : List ℕ) → run_at (has Name) bytes ≡ Som
 run-name bytes front rest e is =
     let r = (Reads-run (has Name)).again bytes [] (name_passes bytes (recursion_from_All IsNameByte bytes is.2)) tt in
     ap (λ (p : List ℕ × List ℕ). p.1) (some_is (front, rest) (bytes, []) (sym e ∙ ap (run_at (has Name)) (sym (append-nil bytes)) ∙ r))
+
+-- ---- one number
+
+pub hex-read : (n : ℕ) → n < 2 ^ 64 → hex_at (hex n) ≡ Some (n, [])
+hex-read n lt = ap hex_at (sym (append-nil (hex n))) ∙ hex-reads.again n [] lt tt
+
+pub hex-taken : (bytes : List ℕ) (n : ℕ) (rest : List ℕ) → hex_at bytes ≡ Some (n, rest) → rest ≡ [] → (n < 2 ^ 64) × (bytes ≡ hex n)
+hex-taken bytes n rest e empty =
+    let t = hex-reads.takes bytes n rest e in
+    (t.1, t.0 ∙ ap (λ (s : List ℕ). hex n ++ s) empty ∙ append-nil (hex n))
+
+-- what is read otherwise is the spelling of no number
+pub hex-other : (bytes : List ℕ) (m : ℕ) (rest : List ℕ) → hex_at bytes ≡ Some (m, rest) → (rest ≡ [] → ⊥) → (n : ℕ) → n < 2 ^ 64 → bytes ≢ hex n
+hex-other bytes m rest e unlike n lt same = unlike (ap (λ (q : ℕ × List ℕ). q.1) (some_is (m, rest) (n, []) (sym e ∙ ap hex_at same ∙ hex-read n lt)))
+
+-- nor is what was not read
+pub hex-unread : (bytes : List ℕ) (e : Unread) → Fails e (hex_at bytes) → (e ≡ unread.NoMemory → ⊥) → (n : ℕ) → n < 2 ^ 64 → bytes ≢ hex n
+hex-unread bytes unread.NotThere f h n lt same = none_some n (sym f ∙ ap hex_at same ∙ hex-read n lt)
+  where
+    none_some : (n : ℕ) → ◌≡◌ {A = Option (ℕ × List ℕ)} None (Some (n, [])) → ⊥
+    none_some n e = cc
+hex-unread bytes unread.NoMemory f h n lt same = absurd (h refl)
+
+-- a number has one spelling
+pub hex-injective : (m n : ℕ) → m < 2 ^ 64 → n < 2 ^ 64 → hex m ≡ hex n → m ≡ n
+hex-injective m n a b e = ap (λ (q : ℕ × List ℕ). q.0) (some_is (m, []) (n, []) (sym (hex-read m a) ∙ ap hex_at e ∙ hex-read n b))
 
 -- ---- one word
 

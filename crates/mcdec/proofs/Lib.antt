@@ -10,6 +10,7 @@ pub mod Prints
 pub mod Givens
 pub mod Registers
 pub mod Words
+pub mod SetUp
 pub mod Answers
 pub mod Exactness
 pub mod Examples

@@ -1,18 +1,18 @@
 -- Lines, definitions and groups are read as they are spelled.
-use Rattle.std.proofs.Common.{◌≡◌, ℕ, zero, suc, ◌+◌, ◌^◌, ◌<◌, ◌≤◌, Bool, true, false, List, [], ◌∷◌, ◌++◌, length, codes, Option, Some, None, refl, sym, ap, subst, ◌∙◌, append_assoc, arith}
+use Rattle.std.proofs.Common.{◌≡◌, ℕ, ◌^◌, ◌<◌, false, List, [], ◌∷◌, ◌++◌, length, codes, refl, sym, ap, subst, ◌∙◌, append_assoc, arith}
 use Rattle.std.specs.List.{AllByRecursion}
 use Rattle.std.specs.Fmt.{decimal}
 use Rattle.std.proofs.lemmas.List.{append-nil}
 use Rattle.hex.specs.Hex.{encode_lower}
 use Rattle.word_terms.specs.Tree.{WordTree, Const, Var, Bin}
 use Rattle.word_terms.specs.declared.code.Range.{Range}
-use Rattle.tailrec_lang.specs.Tree.{ValuesTree, StepTree, Bind, BodyTree, Do, Leave, with_steps, DefTree, GroupTree}
+use Rattle.tailrec_lang.specs.Tree.{StepTree, Bind, BodyTree, Do, Leave, with_steps, DefTree, GroupTree}
 use Rattle.tailrec_lang.specs.declared.group.Exit.{Exit}
 use Rattle.tailrec_lang.specs.declared.group.Exit.TheVariants.{At}
-use Rattle.mcdec.specs.declared.reader.Class.TheVariants.{Name, Digit, HexDigit}
+use Rattle.mcdec.specs.declared.reader.Class.TheVariants.{Name, Digit}
 use Rattle.mcdec.specs.Number.{hex}
 use Rattle.mcdec.specs.Text.{each, word_text, register_text, range_text, exit_text, value_text, body_text, def_text, group_text, text_of, IsWord, IsExit}
-use Rattle.mcdec.specs.Reading.{Reader, has, begins, behind, before, pair, made, star, decimal_at, hex_at, name_at, bytes_at, word_at, another, another_value, register_at, range_at, exit_at, value_at, step_at, leave_at, body_at, def_at, group_at, text_at}
+use Rattle.mcdec.specs.Reading.{Reader, has, begins, before, pair, made, star, decimal_at, hex_at, name_at, bytes_at, word_at, another, another_value, register_at, range_at, exit_at, value_at, step_at, leave_at, body_at, def_at, group_at, text_at}
 use Rattle.mcdec.proofs.Readers.{Reads, Any, Pass, NotFirst, Reads-behind, Reads-before, Reads-made, Reads-pair, Reads-as, Reads-star, Reads-run}
 use Rattle.mcdec.proofs.Tokens.{decimal-reads, hex-reads, bytes-reads, AreBytes}
 use Rattle.mcdec.proofs.Terms.{EndsHex, FitsWithin, word-reads}

@@ -1,14 +1,14 @@
 -- What is printed in pieces is printed as a whole.
-use Rattle.std.proofs.Common.{◌≡◌, ℕ, zero, suc, ◌+◌, ◌-◌, ◌^◌, ◌<◌, ◌≤◌, min, List, [], ◌∷◌, ◌++◌, length, take, drop, get_or, Option, Some, None, Result, Ok, Err, refl, sym, ap, subst, ◌∙◌, append_assoc, arith, inl, inr}
+use Rattle.std.proofs.Common.{◌≡◌, ℕ, zero, suc, ◌+◌, ◌<◌, ◌≤◌, min, List, [], ◌∷◌, ◌++◌, length, take, drop, get_or, codes, Option, Some, None, Result, Ok, Err, refl, sym, ap, subst, ◌∙◌, append_assoc, arith, inl, inr}
 use Rattle.std.specs.Prelude.{IsErrOf}
 use Rattle.std.specs.Result.{IsErrAnd}
-use Rattle.std.proofs.lemmas.List.{append-nil, take-append-le, take_min, take_more, drop_more, take-append-drop}
+use Rattle.std.proofs.lemmas.List.{append-nil, take-append-le, take_min, take_more, take-append-drop}
 use Rattle.std.proofs.Math.Seq.{take-append-add}
 use Rattle.mc_shelf.specs.Fault.{Rose, WhereTold}
 use Rattle.mc_shelf.specs.Sink.{Adds}
 use Rattle.mc_shelf.specs.declared.sink.Stop.{Stop}
 use Rattle.mc_shelf.specs.declared.sink.Stop.TheVariants.{Failed, NoMemory}
-use Rattle.mcdec.specs.Answer.{register_line, register_lines}
+use Rattle.mcdec.specs.Printed.{register_line, register_lines}
 use Rattle.mcdec.specs.declared.print.Piece.{Piece}
 use Rattle.mcdec.specs.Printing.{Gains, Prints, piece_text, pieces_text}
 
@@ -109,6 +109,10 @@ module _ (ps : List Piece) (i : ℕ) (d : Piece) (lt : i < length ps) (o m n : O
       rw (pieces-split ps i d lt)
       (prints-stopped e (pieces_text (take i ps) ++ piece_text (get_or ps i d)) (pieces_text (drop (i + 1) ps)) o n f h
       (prints-then (Err e) (pieces_text (take i ps)) (piece_text (get_or ps i d)) o m n f g h front next))
+
+-- the line of a run that is stuck
+pub stuck-text : (steps why : List ℕ) → codes "refused stuck " ++ (steps ++ (codes " " ++ (why ++ codes "\n"))) ≡ codes "refused stuck " ++ steps ++ codes " " ++ why ++ codes "\n"
+stuck-text steps why = simp append_assoc
 
 -- ---- lines of registers
 

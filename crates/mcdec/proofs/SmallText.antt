@@ -1,5 +1,5 @@
 -- A small text is the text of one group, and of no other.
-use Rattle.std.proofs.Common.{◌≡◌, ℕ, ◌+◌, ◌^◌, ◌<◌, ◌≤◌, Bool, true, false, List, [], ◌∷◌, ◌++◌, length, All, Option, Some, None, Result, Ok, Err, refl, sym, ap, subst, ◌∙◌, arith}
+use Rattle.std.proofs.Common.{◌≡◌, ℕ, ◌+◌, ◌^◌, ◌<◌, ◌≤◌, true, List, [], ◌∷◌, length, Some, Result, Ok, Err, sym, ap, subst, ◌∙◌, arith}
 use Rattle.std.specs.List.{AllByRecursion}
 use Rattle.std.specs.Prelude.{MatchResult}
 use Rattle.std.specs.Result.{IsErrAnd}
@@ -9,12 +9,12 @@ use Rattle.std.proofs.lemmas.Bool.Decides.{nat_tests}
 use Rattle.word_terms.specs.Code.{AreRangesFrom}
 use Rattle.word_terms.specs.declared.code.Range.{Range}
 use Rattle.tailrec_lang.specs.Tree.{Bind, BodyTree, Do, Leave, DefTree, GroupTree}
-use Rattle.tailrec_lang.specs.WellFormed.{BodyIsWellFormed, DefIsWellFormed, IsWellFormed, words_after}
+use Rattle.tailrec_lang.specs.WellFormed.{BodyIsWellFormed, DefIsWellFormed}
 use Rattle.tailrec_lang.specs.declared.group.Exit.{Exit}
 use Rattle.mcdec.specs.declared.reader.Class.TheVariants.{Name}
 use Rattle.mcdec.specs.declared.reader.Unread.{Unread}
 use Rattle.mcdec.specs.declared.reader.Unread.TheVariants as unread
-use Rattle.mcdec.specs.Command.{IsNameByte, IsName}
+use Rattle.mcdec.specs.Command.{IsNameByte}
 use Rattle.mcdec.specs.Text.{text_of, IsBody, IsDef, IsSmall, IsSmallText, AreRegistersFrom}
 use Rattle.mcdec.specs.Reading.{has, text_at, Suits, IsUnread, GivesAll}
 use Rattle.mcdec.proofs.Readers.{Pass, some_is}

@@ -1,12 +1,12 @@
 -- Terms are read as they are spelled.
-use Rattle.std.proofs.Common.{◌≡◌, ℕ, zero, suc, ◌+◌, ◌^◌, ◌<◌, ◌≤◌, Bool, true, false, ◌||◌, cond, max, List, [], ◌∷◌, ◌++◌, length, codes, Option, Some, None, refl, sym, ap, subst, ◌∙◌, append_assoc, arith, inl, inr}
-use Rattle.std.specs.Fmt.{digits, decimal}
+use Rattle.std.proofs.Common.{◌≡◌, ℕ, zero, suc, ◌^◌, ◌<◌, ◌≤◌, Bool, true, false, ◌||◌, List, [], ◌∷◌, ◌++◌, codes, Some, refl, sym, ap, subst, ◌∙◌, append_assoc, arith, inl, inr}
+use Rattle.std.specs.Fmt.{decimal}
 use Rattle.rv_words.specs.declared.operation.Op.{Op}
-use Rattle.rv_words.specs.declared.operation.Op.TheVariants.{Add, Sub}
+use Rattle.rv_words.specs.declared.operation.Op.TheVariants.{Add, Sub, Sll, Slt, Sltu, Xor, Srl, Sra, Or, And}
 use Rattle.word_terms.specs.Tree.{WordTree, Const, Var, Bin, depth_of_word}
 use Rattle.mcdec.specs.declared.reader.Class.TheVariants.{Digit, HexDigit}
 use Rattle.mcdec.specs.Number.{hex}
-use Rattle.mcdec.specs.Text.{operation_name, word_text, NumbersFit}
+use Rattle.mcdec.specs.Text.{operation_name, word_text, IsSmallOperation, NumbersFit}
 use Rattle.mcdec.specs.Reading.{Reader, has, after, begins, behind, before, pair, made, either, nothing, decimal_at, hex_at, operation_at, leaf_at, operands_at, word_at}
 use Rattle.mcdec.proofs.Readers.{Reads, Any, NotFirst, either-takes, Reads-behind, Reads-before, Reads-made, Reads-pair, Reads-ending, after-takes, bind_some, some_is}
 use Rattle.mcdec.proofs.Tokens.{decimal-reads, hex-reads}
@@ -19,29 +19,34 @@ EndsHex = NotFirst (has HexDigit)
 abbrev pub operation_text : Op → List ℕ
 operation_text op = operation_name op ++ codes " "
 
-abbrev AnyOp : Op → Type 0
-AnyOp op = Unit {0}
-
 behind_word : (word : List ℕ) (op : Op) (bytes : List ℕ) (x : Op × List ℕ) → behind word (nothing op) bytes ≡ Some x → (bytes ≡ word ++ x.1) × (op ≡ x.0)
 behind_word word op bytes x e =
     let a = bind_some (after word bytes) (nothing op) x e in
     let same = some_is (op, a.0) x a.2 in
     (after-takes word bytes a.0 a.1 ∙ ap (λ (p : Op × List ℕ). word ++ p.1) same, ap (λ (p : Op × List ℕ). p.0) same)
 
-operation-reads : Reads operation_at AnyOp operation_text Any
+operation-reads : Reads operation_at IsSmallOperation operation_text Any
 unfolding operation_at
 operation-reads = record { takes = is_taken; again = is_read }
   where
-    is_taken : (bytes : List ℕ) (op : Op) (rest : List ℕ) → either (begins (codes "add ")) (behind (codes "add ") (nothing Add)) (behind (codes "sub ") (nothing Sub)) bytes ≡ Some (op, rest) → (bytes ≡ operation_text op ++ rest) × Unit {0}
+    is_taken : (bytes : List ℕ) (op : Op) (rest : List ℕ) → either (begins (codes "add ")) (behind (codes "add ") (nothing Add)) (behind (codes "sub ") (nothing Sub)) bytes ≡ Some (op, rest) → (bytes ≡ operation_text op ++ rest) × IsSmallOperation op
     is_taken bytes op rest e =
         elim (either-takes (begins (codes "add ")) (behind (codes "add ") (nothing Add)) (behind (codes "sub ") (nothing Sub)) bytes (op, rest) e) [
-          | inl a ↦ let h = behind_word (codes "add ") Add bytes (op, rest) a in (subst (λ (o : Op). bytes ≡ operation_text o ++ rest) h.1 h.0, tt)
-          | inr b ↦ let h = behind_word (codes "sub ") Sub bytes (op, rest) b in (subst (λ (o : Op). bytes ≡ operation_text o ++ rest) h.1 h.0, tt)
+          | inl a ↦ let h = behind_word (codes "add ") Add bytes (op, rest) a in subst (λ (o : Op). (bytes ≡ operation_text o ++ rest) × IsSmallOperation o) h.1 (h.0, tt)
+          | inr b ↦ let h = behind_word (codes "sub ") Sub bytes (op, rest) b in subst (λ (o : Op). (bytes ≡ operation_text o ++ rest) × IsSmallOperation o) h.1 (h.0, tt)
         ]
 
-    is_read : (op : Op) (rest : List ℕ) → Unit {0} → Any rest → either (begins (codes "add ")) (behind (codes "add ") (nothing Add)) (behind (codes "sub ") (nothing Sub)) (operation_text op ++ rest) ≡ Some (op, rest)
+    is_read : (op : Op) (rest : List ℕ) → IsSmallOperation op → Any rest → either (begins (codes "add ")) (behind (codes "add ") (nothing Add)) (behind (codes "sub ") (nothing Sub)) (operation_text op ++ rest) ≡ Some (op, rest)
     is_read Add rest f h = refl
     is_read Sub rest f h = refl
+    is_read Sll rest f h = absurd f
+    is_read Slt rest f h = absurd f
+    is_read Sltu rest f h = absurd f
+    is_read Xor rest f h = absurd f
+    is_read Srl rest f h = absurd f
+    is_read Sra rest f h = absurd f
+    is_read Or rest f h = absurd f
+    is_read And rest f h = absurd f
 
 -- ---- variables and constants
 
@@ -145,7 +150,7 @@ module _ (d : ℕ) (word : Reads (word_at d) (FitsWithin d) word_text EndsHex) w
   operands-reads = Reads-pair (before (word_at d) (codes " ")) (FitsWithin d) first_text Any first-reads (before (word_at d) (codes ")")) (FitsWithin d) second_text Any second-reads (λ b rest f h. tt)
 
   abbrev IsOperation : WordTree → Type 0
-  IsOperation (Bin op a b) = FitsWithin d a × FitsWithin d b
+  IsOperation (Bin op a b) = IsSmallOperation op × FitsWithin d a × FitsWithin d b
   IsOperation (Const n) = ⊥
   IsOperation (Var i) = ⊥
 
@@ -159,10 +164,10 @@ module _ (d : ℕ) (word : Reads (word_at d) (FitsWithin d) word_text EndsHex) w
 
   inner-reads : Reads (made bin (pair operation_at (operands_at (word_at d)))) IsOperation inner_text Any
   inner-reads =
-      Reads-made (pair operation_at (operands_at (word_at d))) (λ p. AnyOp p.0 × OperandsFit p.1) (λ p. operation_text p.0 ++ operands_text p.1) Any
-      (Reads-pair operation_at AnyOp operation_text Any operation-reads (operands_at (word_at d)) OperandsFit operands_text Any operands-reads (λ p rest f h. tt))
-      bin IsOperation inner_text (λ x f. (refl, f.1))
-      (elim [ Bin op a b ↦ λ h. ((op, (a, b)), (tt, h), refl) | Const n ↦ λ h. absurd h | Var i ↦ λ h. absurd h ])
+      Reads-made (pair operation_at (operands_at (word_at d))) (λ p. IsSmallOperation p.0 × OperandsFit p.1) (λ p. operation_text p.0 ++ operands_text p.1) Any
+      (Reads-pair operation_at IsSmallOperation operation_text Any operation-reads (operands_at (word_at d)) OperandsFit operands_text Any operands-reads (λ p rest f h. tt))
+      bin IsOperation inner_text (λ x f. (refl, (f.0, f.1.0, f.1.1)))
+      (elim [ Bin op a b ↦ λ h. ((op, (a, b)), (h.0, (h.1, h.2)), refl) | Const n ↦ λ h. absurd h | Var i ↦ λ h. absurd h ])
 
   operation_word-reads : Reads (behind (codes "(") (made bin (pair operation_at (operands_at (word_at d))))) IsOperation (λ t. codes "(" ++ inner_text t) Any
   operation_word-reads = Reads-behind (made bin (pair operation_at (operands_at (word_at d)))) IsOperation inner_text Any inner-reads (codes "(")
@@ -170,11 +175,11 @@ module _ (d : ℕ) (word : Reads (word_at d) (FitsWithin d) word_text EndsHex) w
   bin-text : (op : Op) (a b : WordTree) → word_text (Bin op a b) ≡ codes "(" ++ inner_text (Bin op a b)
   bin-text op a b = simp append_assoc
 
-  one_deeper : (op : Op) (a b : WordTree) → FitsWithin d a × FitsWithin d b → FitsWithin (suc d) (Bin op a b)
-  one_deeper op a b h = ((h.0.0, h.1.0), omega (arith, h.0.1, h.1.1))
+  one_deeper : (op : Op) (a b : WordTree) → IsOperation (Bin op a b) → FitsWithin (suc d) (Bin op a b)
+  one_deeper op a b h = ((h.0, h.1.0, h.2.0), omega (arith, h.1.1, h.2.1))
 
-  one_less : (op : Op) (a b : WordTree) → FitsWithin (suc d) (Bin op a b) → FitsWithin d a × FitsWithin d b
-  one_less op a b h = ((h.0.0, omega (arith, h.1)), (h.0.1, omega (arith, h.1)))
+  one_less : (op : Op) (a b : WordTree) → FitsWithin (suc d) (Bin op a b) → IsOperation (Bin op a b)
+  one_less op a b h = (h.0.0, (h.0.1, omega (arith, h.1)), (h.0.2, omega (arith, h.1)))
 
   from_operation : (bytes : List ℕ) (t : WordTree) (rest : List ℕ) → (bytes ≡ (codes "(" ++ inner_text t) ++ rest) × IsOperation t → (bytes ≡ word_text t ++ rest) × FitsWithin (suc d) t
   from_operation bytes (Bin op a b) rest h = (h.0 ∙ ap (λ (s : List ℕ). s ++ rest) (sym (bin-text op a b)), one_deeper op a b h.1)

@@ -1,19 +1,19 @@
 -- Numbers and bytes are read as they are spelled.
-use Rattle.std.proofs.Common.{◌≡◌, ℕ, zero, suc, ◌+◌, ◌*◌, ◌/◌, ◌%◌, ◌^◌, ◌<◌, ◌≤◌, Bool, true, false, ◌&&◌, cond, eqb, ltb, List, [], ◌∷◌, ◌++◌, length, take, drop, codes, Option, Some, None, unwrap_or, Result, Ok, Err, slice_index, refl, sym, ap, subst, ◌∙◌, append_assoc, arith, inl, inr}
+use Rattle.std.proofs.Common.{◌≡◌, ℕ, zero, suc, ◌+◌, ◌*◌, ◌/◌, ◌%◌, ◌^◌, ◌<◌, ◌≤◌, Bool, true, false, ◌&&◌, cond, eqb, ltb, List, [], ◌∷◌, ◌++◌, take, drop, codes, Option, Some, None, unwrap_or, Result, Ok, Err, slice_index, refl, sym, ap, subst, ◌∙◌, arith, inl, inr}
 use Rattle.std.specs.List.{AllByRecursion, prefix_len}
-use Rattle.std.specs.Fmt.{digits, decimal, digit_glyph}
+use Rattle.std.specs.Fmt.{digits, decimal}
 use Rattle.std.proofs.lemmas.Bool.{ltb-true, lt-ltb, eqb-true, and_parts, cases_lt}
 use Rattle.std.proofs.lemmas.Bool.Decides.{nat_tests}
 use Rattle.std.proofs.lemmas.List.{take-append-drop}
 use Rattle.hex.specs.declared.error.FromHexError.{FromHexError}
-use Rattle.hex.specs.Hex.{lower_digits, encode_with, encode_lower, hex_digit_value, digit_or_error, pair_value, value_at, decode_pairs, decode_of, IsBytes, ◌>>=◌ as ◌>>?◌}
+use Rattle.hex.specs.Hex.{lower_digits, encode_with, encode_lower, hex_digit_value, digit_or_error, pair_value, value_at, decode_pairs, decode_of, IsBytes}
 use Rattle.hex.proofs.Pairs.{cons_byte, decode_pairs-ok_pair}
 use Rattle.hex.proofs.HexLemmas.{decode_of-encode_lower, decode_of-ok, decode_of-even}
-use Rattle.mcdec.specs.declared.reader.Class.TheVariants.{Name, Digit, HexDigit}
+use Rattle.mcdec.specs.declared.reader.Class.TheVariants.{Digit, HexDigit}
 use Rattle.mcdec.specs.Number.{hex}
-use Rattle.mcdec.specs.Reading.{Reader, ◌>>=◌, has, run_at, below, number_of, bytes_of, decimal_at, hex_digits_at, hex_at, bytes_at}
+use Rattle.mcdec.specs.Reading.{◌>>=◌, has, run_at, below, number_of, bytes_of, decimal_at, hex_digits_at, hex_at, bytes_at}
 use Rattle.mcdec.proofs.Numbers.{number_of-takes, number_of-again, digits-pass, Passes}
-use Rattle.mcdec.proofs.Readers.{Reads, Any, Pass, NotFirst, bind_some, some_is, Reads-run, Reads-behind}
+use Rattle.mcdec.proofs.Readers.{Reads, Pass, NotFirst, bind_some, some_is, Reads-run, Reads-behind}
 
 -- ---- decimals
 

@@ -1,5 +1,5 @@
 -- The words of a command, from the first to the last.
-use Rattle.std.proofs.Common.{true, ◌≡◌, ◌≢◌, ℕ, ◌-◌, ◌≤◌, List, [], ◌∷◌, length, take, drop, map, get_or, codes, Option, Some, None, string_bytes, string_len, eqb, false, sym, ap, subst, ◌∙◌, arith}
+use Rattle.std.proofs.Common.{true, true≢false, ◌<◌, ◌^◌, ◌≡◌, ◌≢◌, ℕ, ◌-◌, ◌≤◌, List, [], ◌∷◌, length, take, drop, map, get_or, codes, Option, Some, None, string_bytes, string_len, eqb, false, sym, ap, subst, ◌∙◌, arith}
 use Rattle.std.specs.Fmt.{decimal}
 use Rattle.std.specs.Str.{bytes_eq}
 use Rattle.std.specs.declared.string.String.{String}
@@ -8,8 +8,10 @@ use Rattle.std.proofs.lemmas.Bool.{eqb-false}
 use Rattle.std.proofs.lemmas.List.{take_rest}
 use Rattle.std.proofs.lemmas.Slice.Eq.{bytes_eq-Decides}
 use Rattle.mcdec.specs.declared.command.Eval.{Eval as ReadEval}
-use Rattle.mcdec.specs.Command.{Eval, Given, IsName, IsCommand, IsNoCommand, Words, given_word}
-use Rattle.mcdec.specs.CommandReading.{Holds, NoneGiven, AllGiven, NoEval, IsEval, eval_words, texts}
+use Rattle.mcdec.specs.declared.command.Run.{Run as ReadRun}
+use Rattle.mcdec.specs.Number.{hex}
+use Rattle.mcdec.specs.Command.{Eval, Run, Given, IsName, IsCommand, IsNoCommand, Words, given_word}
+use Rattle.mcdec.specs.CommandReading.{Holds, NoneGiven, AllGiven, NoEval, IsEval, eval_words, NoRun, IsRun, run_words, texts}
 use Rattle.mcdec.specs.Reading.{number_of}
 use Rattle.mcdec.proofs.Numbers.{number_of-takes, number_of-again}
 
@@ -31,6 +33,15 @@ first-words (w ∷ []) a b c low ha hb hc = absurd (omega arith)
 first-words (w ∷ v ∷ []) a b c low ha hb hc = absurd (omega arith)
 first-words (w ∷ v ∷ u ∷ ws) a b c low ha hb hc =
     λ i. string_bytes (sym ha i) ∷ string_bytes (sym hb i) ∷ string_bytes (sym hc i) ∷ texts (sym (take_rest (w ∷ v ∷ u ∷ ws) 3) i)
+
+four-words : (words : List Word) (a b c d : Word) → 4 ≤ length words → a ≡ get_or words 0 a → b ≡ get_or words 1 b → c ≡ get_or words 2 c → d ≡ get_or words 3 d
+    → texts words ≡ string_bytes a ∷ string_bytes b ∷ string_bytes c ∷ string_bytes d ∷ behind_first 4 words
+four-words [] a b c d low ha hb hc hd = absurd (omega arith)
+four-words (w ∷ []) a b c d low ha hb hc hd = absurd (omega arith)
+four-words (w ∷ v ∷ []) a b c d low ha hb hc hd = absurd (omega arith)
+four-words (w ∷ v ∷ u ∷ []) a b c d low ha hb hc hd = absurd (omega arith)
+four-words (w ∷ v ∷ u ∷ t ∷ ws) a b c d low ha hb hc hd =
+    λ i. string_bytes (sym ha i) ∷ string_bytes (sym hb i) ∷ string_bytes (sym hc i) ∷ string_bytes (sym hd i) ∷ texts (sym (take_rest (w ∷ v ∷ u ∷ t ∷ ws) 4) i)
 
 -- a word that is not empty has bytes
 pub filled : (a : Word) → eqb (string_len a) 0 ≡ false → string_bytes a ≢ []
@@ -64,17 +75,74 @@ module _ (words : List Word) (proof name turns : Word) (low : 3 ≤ length words
       let same : texts words ≡ eval_words p n t all.0 = split ∙ (λ i. sym ep i ∷ sym en i ∷ d.0 i ∷ all.2 i) in
       (all.0, (λ e. some (sym ep ∙ e), subst IsName (sym en) is, d.1, all.1), same, all.3)
 
+-- ---- the words behind `run`
+
+module _ (words : List Word) (elf start until steps : Word) (low : 4 ≤ length words)
+    (first : elf ≡ get_or words 0 elf) (second : start ≡ get_or words 1 start) (third : until ≡ get_or words 2 until) (fourth : steps ≡ get_or words 3 steps) where
+  split-run : texts words ≡ string_bytes elf ∷ string_bytes start ∷ string_bytes until ∷ string_bytes steps ∷ behind_first 4 words
+  split-run = four-words words elf start until steps low first second third fourth
+
+  pub no-until : ((n : ℕ) → n < 2 ^ 64 → string_bytes until ≢ hex n) → NoRun (texts words)
+  no-until none e s u k given is same =
+      let whole = sym split-run ∙ same in
+      let spelled : string_bytes until ≡ hex u = cc in
+      none u is.2 spelled
+
+  pub no-steps : None ≡ number_of 10 (string_bytes steps) → NoRun (texts words)
+  no-steps none e s u k given is same =
+      let whole = sym split-run ∙ same in
+      let spelled : string_bytes steps ≡ decimal k = cc in
+      none_some k (none ∙ ap (number_of 10) spelled ∙ number_of-again 10 k (omega arith) (omega arith) is.3)
+    where
+      none_some : (k : ℕ) → None ≡ Some k → ⊥
+      none_some k e = cc
+
+  pub no-values : NoneGiven (behind_first 4 words) → NoRun (texts words)
+  no-values none e s u k given is same =
+      let whole = sym split-run ∙ same in
+      let others : behind_first 4 words ≡ map given_word given = cc in
+      none given is.4 others
+
+  pub run-read : (e s : List ℕ) (u k : ℕ) (values : List (Option ℕ)) → e ≡ string_bytes elf → s ≡ string_bytes start → string_bytes elf ≢ [] → IsName (string_bytes start)
+      → (u < 2 ^ 64) × (string_bytes until ≡ hex u) → Some k ≡ number_of 10 (string_bytes steps) → AllGiven (behind_first 4 words) values
+      → (given : List Given) × IsCommand (Run e s u k given) × (texts words ≡ run_words e s u k given) × Holds given values
+  run-read e s u k values ee es some is address number all =
+      let d = number_of-takes 10 (string_bytes steps) k (sym number) in
+      let same : texts words ≡ run_words e s u k all.0 = split-run ∙ (λ i. sym ee i ∷ sym es i ∷ address.1 i ∷ d.0 i ∷ all.2 i) in
+      (all.0, (λ n. some (sym ee ∙ n), subst IsName (sym es) is, address.0, d.1, all.1), same, all.3)
+
 -- ---- all of the words
 
-module _ (words : List Word) (first : Word) (low : 1 ≤ length words) (here : first ≡ get_or words 0 first) (text : List ℕ) (value : text ≡ string_bytes first) (named : bytes_eq text (codes "eval") ≡ true) where
-  split-eval : texts words ≡ codes "eval" ∷ behind_first 1 words
-  split-eval = first-word words first low here ∙ ap (λ (w : List ℕ). w ∷ behind_first 1 words) (sym value ∙ (bytes_eq-Decides text (codes "eval")).0 named)
+pub other-name : codes "eval" ≡ codes "run" → ⊥
+other-name e = true≢false (ap (bytes_eq (codes "eval")) e)
 
-  pub no-command : NoEval (behind_first 1 words) → IsNoCommand (texts words)
-  no-command none (Eval p n t given) is =
-      let whole = sym split-eval ∙ is.1 in
+module _ (words : List Word) (first : Word) (low : 1 ≤ length words) (here : first ≡ get_or words 0 first) (text : List ℕ) (value : text ≡ string_bytes first) where
+  named : (name : List ℕ) → bytes_eq text name ≡ true → texts words ≡ name ∷ behind_first 1 words
+  named name is = first-word words first low here ∙ ap (λ (w : List ℕ). w ∷ behind_first 1 words) (sym value ∙ (bytes_eq-Decides text name).0 is)
+
+  pub no-eval : bytes_eq text (codes "eval") ≡ true → NoEval (behind_first 1 words) → IsNoCommand (texts words)
+  no-eval is none (Eval p n t given) c =
+      let whole = sym (named (codes "eval") is) ∙ c.1 in
       let same : behind_first 1 words ≡ eval_words p n t given = cc in
-      none p n t given is.0 same
+      none p n t given c.0 same
+  no-eval is none (Run e s u k given) c =
+      let whole = sym (named (codes "eval") is) ∙ c.1 in
+      let same : codes "eval" ≡ codes "run" = cc in
+      absurd (other-name same)
 
-  pub command-read : (e : ReadEval) → IsEval (behind_first 1 words) e → (given : List Given) × Words (texts words) (Eval e.proof.now e.name.now e.turns given) × Holds given e.given.values
-  command-read e all = (all.0, (all.1, split-eval ∙ ap (λ (ws : List (List ℕ)). codes "eval" ∷ ws) all.2), all.3)
+  pub eval-is : bytes_eq text (codes "eval") ≡ true → (e : ReadEval) → IsEval (behind_first 1 words) e → (given : List Given) × Words (texts words) (Eval e.proof.now e.name.now e.turns given) × Holds given e.given.values
+  eval-is is e all = (all.0, (all.1, named (codes "eval") is ∙ ap (λ (ws : List (List ℕ)). codes "eval" ∷ ws) all.2), all.3)
+
+  pub no-run : bytes_eq text (codes "run") ≡ true → NoRun (behind_first 1 words) → IsNoCommand (texts words)
+  no-run is none (Run e s u k given) c =
+      let whole = sym (named (codes "run") is) ∙ c.1 in
+      let same : behind_first 1 words ≡ run_words e s u k given = cc in
+      none e s u k given c.0 same
+  no-run is none (Eval p n t given) c =
+      let whole = sym (named (codes "run") is) ∙ c.1 in
+      let same : codes "eval" ≡ codes "run" = cc in
+      absurd (other-name same)
+
+  pub run-is : bytes_eq text (codes "run") ≡ true → (r : ReadRun) → IsRun (behind_first 1 words) r
+      → (given : List Given) × Words (texts words) (Run r.elf.now r.start.now r.until r.steps given) × Holds given r.given.values
+  run-is is r all = (all.0, (all.1, named (codes "run") is ∙ ap (λ (ws : List (List ℕ)). codes "run" ∷ ws) all.2), all.3)

@@ -1,6 +1,7 @@
 -- The lists of words that are commands, and no others.
 --
 --   eval PROOF NAME TURNS ARG*     ARG is xN=V, each N at most once
+--   run ELF START UNTIL STEPS ARG*
 use Rattle.std.specs.Prelude.{◌≡◌, ◌≢◌, ℕ, ◌<◌, ◌≤◌, ◌^◌, ◌==◌, if◌then◌else◌, List, [], ◌∷◌, ◌++◌, length, map, codes, Option, Some, None, unwrap_or, All}
 use Rattle.std.specs.Fmt.{decimal}
 use Rattle.mcdec.specs.Number.{hex}
@@ -19,6 +20,7 @@ pub record Given : Type 0 where
 
 pub data Command : Type 0 where
   Eval : (proof name : List ℕ) (turns : ℕ) (given : List Given) → Command
+  Run : (elf start : List ℕ) (until steps : ℕ) (given : List Given) → Command
 
 -- xN=V
 abbrev pub given_word : Given → List ℕ
@@ -27,6 +29,7 @@ given_word g = codes "x" ++ decimal g.register ++ codes "=" ++ hex g.value
 -- the words of a command
 abbrev pub words_of : Command → List (List ℕ)
 words_of (Eval proof name turns given) = codes "eval" ∷ proof ∷ name ∷ decimal turns ∷ map given_word given
+words_of (Run elf start until steps given) = codes "run" ∷ elf ∷ start ∷ hex until ∷ decimal steps ∷ map given_word given
 
 abbrev pub IsGiven : Given → Type 0
 IsGiven g = (1 ≤ g.register) × (g.register ≤ 31) × (g.value < 2 ^ 64)
@@ -44,6 +47,7 @@ AreGiven (g ∷ gs) = IsGiven g × (given_to gs g.register ≡ None) × AreGiven
 -- what its words may be
 abbrev pub IsCommand : Command → Type 0
 IsCommand (Eval proof name turns given) = (proof ≢ []) × IsName name × (turns < 2 ^ 64) × AreGiven given
+IsCommand (Run elf start until steps given) = (elf ≢ []) × IsName start × (until < 2 ^ 64) × (steps < 2 ^ 64) × AreGiven given
 
 -- the command that a list of words is
 abbrev pub Words : List (List ℕ) → Command → Type 0
@@ -59,7 +63,9 @@ value_of gs n = unwrap_or (given_to gs n) 0
 -- the files that a command reads
 abbrev pub inputs_of : Command → List (List ℕ)
 inputs_of (Eval proof name turns given) = proof ∷ []
+inputs_of (Run elf start until steps given) = elf ∷ []
 
 -- the file that a command writes
 abbrev pub output_of : Command → Option (List ℕ)
 output_of (Eval proof name turns given) = None
+output_of (Run elf start until steps given) = None

@@ -1,13 +1,15 @@
 -- What the reader of the command line's words gives.
-use Rattle.std.specs.Prelude.{◌≡◌, ◌≢◌, ℕ, ◌<◌, List, [], ◌∷◌, map, codes, Option, Some, None, slice_get, string_bytes, unwrap_or}
+use Rattle.std.specs.Prelude.{◌≡◌, ◌≢◌, ℕ, ◌<◌, List, ◌∷◌, map, codes, Option, Some, None, slice_get, string_bytes, unwrap_or}
 use Rattle.std.specs.Fmt.{decimal}
 use Rattle.std.specs.declared.string.String.{String}
 use Rattle.std.specs.declared.alloc.Global.{Global}
 use Rattle.mcdec.specs.declared.command.Command.{Command as Read}
 use Rattle.mcdec.specs.declared.command.Command.TheVariants as read
 use Rattle.mcdec.specs.declared.command.Eval.{Eval as ReadEval}
+use Rattle.mcdec.specs.declared.command.Run.{Run as ReadRun}
 use Rattle.mcdec.specs.Reading.{Reader, behind, before, pair, made, decimal_at, hex_at}
-use Rattle.mcdec.specs.Command.{Command, Eval, Given, IsCommand, AreGiven, Words, given_to, given_word}
+use Rattle.mcdec.specs.Number.{hex}
+use Rattle.mcdec.specs.Command.{Eval, Run, Given, IsCommand, AreGiven, Words, given_to, given_word}
 
 -- the texts of the words
 abbrev pub texts : List (String Global) → List (List ℕ)
@@ -16,6 +18,14 @@ texts ws = map (λ w. string_bytes w) ws
 -- each register's value, or none
 abbrev pub Holds : List Given → List (Option ℕ) → Type 0
 Holds gs values = (n : ℕ) → n < 32 → slice_get values n ≡ Some (given_to gs n)
+
+-- the value that a register has, if any
+abbrev pub given_in : List (Option ℕ) → ℕ → Option ℕ
+given_in values n = value_of (slice_get values n)
+  where
+    value_of : Option (Option ℕ) → Option ℕ
+    value_of None = None
+    value_of (Some value) = value
 
 -- the value of a register; 0 where it has none
 abbrev pub value_in : List (Option ℕ) → ℕ → ℕ
@@ -45,9 +55,23 @@ NoEval ws = (proof name : List ℕ) (turns : ℕ) (given : List Given) → IsCom
 abbrev pub IsEval : List (List ℕ) → ReadEval → Type 0
 IsEval ws e = (given : List Given) × IsCommand (Eval e.proof.now e.name.now e.turns given) × (ws ≡ eval_words e.proof.now e.name.now e.turns given) × Holds given e.given.values
 
+-- the words behind `run`
+abbrev pub run_words : List ℕ → List ℕ → ℕ → ℕ → List Given → List (List ℕ)
+run_words elf start until steps given = elf ∷ start ∷ hex until ∷ decimal steps ∷ map given_word given
+
+abbrev pub NoRun : List (List ℕ) → Type 0
+NoRun ws = (elf start : List ℕ) (until steps : ℕ) (given : List Given) → IsCommand (Run elf start until steps given) → ws ≢ run_words elf start until steps given
+
+abbrev pub IsRun : List (List ℕ) → ReadRun → Type 0
+IsRun ws r = (given : List Given) × IsCommand (Run r.elf.now r.start.now r.until r.steps given) × (ws ≡ run_words r.elf.now r.start.now r.until r.steps given) × Holds given r.given.values
+
 -- the command, seen by what was read
 abbrev pub IsReadEval : List (List ℕ) → ReadEval → Type 0
 IsReadEval ws e = (given : List Given) × Words ws (Eval e.proof.now e.name.now e.turns given) × Holds given e.given.values
 
+abbrev pub IsReadRun : List (List ℕ) → ReadRun → Type 0
+IsReadRun ws r = (given : List Given) × Words ws (Run r.elf.now r.start.now r.until r.steps given) × Holds given r.given.values
+
 abbrev pub IsRead : List (List ℕ) → Read → Type 0
 IsRead ws (read.Eval e) = IsReadEval ws e
+IsRead ws (read.Run r) = IsReadRun ws r

@@ -2,6 +2,9 @@ pub mod Number
 pub mod Command
 pub mod CommandReading
 pub mod Text
+pub mod EvalAnswer
+pub mod RunAnswer
 pub mod Answer
+pub mod Printed
 pub mod Reading
 pub mod Printing

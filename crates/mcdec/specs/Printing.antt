@@ -1,7 +1,6 @@
 -- What a sink has gained while a text was printed piece by piece.
 use Rattle.std.specs.Prelude.{◌≡◌, ℕ, ◌≤◌, List, [], ◌∷◌, ◌++◌, take, Option, Result, Ok, Err, IsErrOf}
-use Rattle.std.specs.Fmt.{decimal, digits}
-use Rattle.std.specs.Prelude.{false}
+use Rattle.std.specs.Fmt.{decimal}
 use Rattle.mc_shelf.specs.Fault.{Rose, WhereTold}
 use Rattle.mc_shelf.specs.declared.sink.Stop.{Stop}
 use Rattle.mc_shelf.specs.declared.sink.Stop.TheVariants.{Failed}
@@ -12,6 +11,7 @@ use Rattle.mcdec.specs.Number.{hex}
 abbrev pub piece_text : Piece → List ℕ
 piece_text (piece.Text bytes) = bytes.now
 piece_text (piece.Decimal n) = decimal n
+piece_text (piece.Wide n) = decimal n
 piece_text (piece.Hex n) = hex n
 
 abbrev pub pieces_text : List Piece → List ℕ

@@ -1,5 +1,5 @@
 -- Reading from left to right: a value and the bytes after it, or none where the bytes begin with no such text.
-use Rattle.std.specs.Prelude.{◌≡◌, ℕ, zero, suc, ◌≤◌, ◌^◌, false, Bool, ◌&&◌, ◌||◌, not, List, [], ◌∷◌, ◌++◌, length, take, drop, Option, Some, None, Result, Ok, Err, nat_lt, nat_le, ◌==◌, if◌then◌else◌, codes, option_and_then}
+use Rattle.std.specs.Prelude.{◌≡◌, ℕ, zero, suc, ◌≤◌, ◌^◌, false, Bool, ◌&&◌, ◌||◌, not, List, [], ◌∷◌, length, take, drop, Option, Some, None, Result, Ok, Err, nat_lt, nat_le, ◌==◌, if◌then◌else◌, codes}
 use Rattle.std.specs.List.{prefix_len, AllByRecursion}
 use Rattle.std.specs.Str.{bytes_eq}
 use Rattle.std.specs.Str.Parse.{digits_value}
@@ -11,7 +11,7 @@ use Rattle.rv_words.specs.declared.operation.Op.TheVariants.{Add, Sub}
 use Rattle.word_terms.specs.Tree.{WordTree, Const, Var, Bin}
 use Rattle.word_terms.specs.Code.{AreRanges}
 use Rattle.word_terms.specs.declared.code.Range.{Range}
-use Rattle.tailrec_lang.specs.Tree.{ValuesTree, StepTree, Bind, BodyTree, Do, Leave, with_steps, DefTree, GroupTree}
+use Rattle.tailrec_lang.specs.Tree.{StepTree, Bind, BodyTree, Leave, with_steps, DefTree, GroupTree}
 use Rattle.tailrec_lang.specs.WellFormed.{IsWellFormed}
 use Rattle.tailrec_lang.specs.declared.group.Exit.{Exit}
 use Rattle.tailrec_lang.specs.declared.group.Exit.TheVariants.{At}

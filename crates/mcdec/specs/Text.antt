@@ -9,16 +9,16 @@
 --   let WORD                any number of these lines
 --   leave EXIT WORD* ;
 --   end
-use Rattle.std.specs.Prelude.{◌≡◌, ℕ, ◌+◌, ◌<◌, ◌≤◌, ◌^◌, List, [], ◌∷◌, ◌++◌, length, map, codes, All}
+use Rattle.std.specs.Prelude.{◌≡◌, ℕ, ◌+◌, ◌<◌, ◌≤◌, ◌^◌, List, [], ◌∷◌, ◌++◌, length, codes}
 use Rattle.std.specs.List.{AllByRecursion}
 use Rattle.std.specs.Fmt.{decimal}
 use Rattle.hex.specs.Hex.{encode_lower}
 use Rattle.rv_words.specs.declared.operation.Op.{Op}
-use Rattle.rv_words.specs.declared.operation.Op.TheVariants.{Add, Sub}
+use Rattle.rv_words.specs.declared.operation.Op.TheVariants.{Add, Sub, Sll, Slt, Sltu, Xor, Srl, Sra, Or, And}
 use Rattle.word_terms.specs.Tree.{WordTree, Const, Var, Bin, depth_of_word}
 use Rattle.word_terms.specs.Code.{AreRanges}
 use Rattle.word_terms.specs.declared.code.Range.{Range}
-use Rattle.tailrec_lang.specs.Tree.{ValuesTree, StepTree, Bind, BodyTree, Do, Leave, DefTree, GroupTree}
+use Rattle.tailrec_lang.specs.Tree.{Bind, BodyTree, Do, Leave, DefTree, GroupTree}
 use Rattle.tailrec_lang.specs.WellFormed.{IsWellFormed}
 use Rattle.tailrec_lang.specs.declared.group.Exit.{Exit}
 use Rattle.tailrec_lang.specs.declared.group.Exit.TheVariants.{At}
@@ -33,6 +33,20 @@ each text (x ∷ xs) = text x ++ each text xs
 abbrev pub operation_name : Op → List ℕ
 operation_name Add = codes "add"
 operation_name Sub = codes "sub"
+operation_name Sll = codes "sll"
+operation_name Slt = codes "slt"
+operation_name Sltu = codes "sltu"
+operation_name Xor = codes "xor"
+operation_name Srl = codes "srl"
+operation_name Sra = codes "sra"
+operation_name Or = codes "or"
+operation_name And = codes "and"
+
+-- an operation of small texts
+abbrev pub IsSmallOperation : Op → Type 0
+IsSmallOperation Add = Unit {0}
+IsSmallOperation Sub = Unit {0}
+IsSmallOperation _ = ⊥
 
 abbrev pub word_text : WordTree → List ℕ
 word_text (Const n) = hex n
@@ -66,11 +80,11 @@ group_text g =
 abbrev pub text_of : GroupTree → List ℕ
 text_of g = codes "mcproof 1\n" ++ group_text g ++ codes "end\n"
 
--- the numbers of a word fit, and it is at most as deep as the limit
+-- the numbers of a word fit and its operations are those of small texts, and it is at most as deep as the limit
 abbrev pub NumbersFit : WordTree → Type 0
 NumbersFit (Const n) = n < 2 ^ 64
 NumbersFit (Var i) = i < 2 ^ 32
-NumbersFit (Bin op a b) = NumbersFit a × NumbersFit b
+NumbersFit (Bin op a b) = IsSmallOperation op × NumbersFit a × NumbersFit b
 
 abbrev pub IsWord : WordTree → Type 0
 IsWord t = NumbersFit t × (depth_of_word t ≤ 64)

@@ -1,6 +1,8 @@
 //! What is answered, and how it is printed.
 
-use rv_words::List;
+use elf_image::ElfFault;
+use rv_machine::Stuck;
+use rv_words::{List, Text};
 
 /// The answer to a list of words.
 #[derive(Debug, Drop)]
@@ -12,18 +14,35 @@ pub enum Answer {
         registers: List<u8>,
         words: List<u64>,
     },
+    /// The steps made, the program counter, and the registers that are shown with the word of each.
+    Met {
+        steps: u64,
+        pc: u64,
+        registers: List<u8>,
+        words: List<u64>,
+    },
     /// No group of the proof file has the name.
     NoFunction,
+    /// The word isn't the spelling of an address.
+    NoSuchStart(Text),
+    /// After that many steps there was no next one.
+    StuckAfter(u64, Stuck),
     /// The words are no command.
     NotACommand,
     /// The proof file isn't a proof file of this version.
     UnreadableText(u64),
+    /// The ELF file has this fault.
+    UnreadableElf(ElfFault),
     /// A read of the shelf failed.
     ReadFault,
     /// There was no memory.
     NoMemory,
     /// The proof file has more bytes than are read.
     OverLimitProof,
+    /// The ELF file has more bytes than are read.
+    OverLimitElf,
     /// The evaluation used all its turns.
     TurnsUsed,
+    /// The run made all its steps.
+    StepsUsed,
 }

@@ -2,16 +2,17 @@
 
 ghost use Rattle.std.specs.Prelude.{◌≡◌, ◌≢◌, ◌↔◌, IsTrue, IsErrOf, MatchOption};
 ghost use Rattle.mcdec.specs.Command.{Given, IsName, IsGiven, IsNoCommand, given_word};
-ghost use Rattle.mcdec.specs.CommandReading.{AllGiven, IsEval, IsRead, NoEval, NoneGiven, given_at, texts, value_in};
+ghost use Rattle.mcdec.specs.CommandReading.{AllGiven, IsEval, IsRead, IsRun, NoEval, NoRun, NoneGiven, given_at, given_in, texts, value_in};
 ghost use Rattle.mcdec.specs.Reading.{Gives};
 
 use crate::number::Base;
-use crate::reader::{Class, Unread, after, decimal, hex, number_of, run};
+use crate::reader::{Class, Unread, after, decimal, hex, hex_number, number_of, run};
 
 /// A command.
 #[derive(Drop)]
 pub enum Command<'a> {
     Eval(Eval<'a>),
+    Run(Run<'a>),
 }
 
 /// `eval PROOF NAME TURNS ARG*`
@@ -23,6 +24,16 @@ pub struct Eval<'a> {
     pub given: Registers,
 }
 
+/// `run ELF START UNTIL STEPS ARG*`
+#[derive(Drop)]
+pub struct Run<'a> {
+    pub elf: &'a str,
+    pub start: &'a [u8],
+    pub until: u64,
+    pub steps: u64,
+    pub given: Registers,
+}
+
 /// The values that the words give to registers, by their numbers.
 #[derive(Drop)]
 pub struct Registers {
@@ -30,6 +41,16 @@ pub struct Registers {
 }
 
 impl Registers {
+    /// The value that the register is given.
+    pub fn given(&self, register: u8) -> Option<u64>
+        ensures { result ≡ given_in self.now.values register }
+    {
+        match self.values.get(register as usize) {
+            Some(value) => *value,
+            None => None,
+        }
+    }
+
     /// The value of the register; 0 where it is given none.
     pub fn value(&self, register: u8) -> u64
         ensures { result ≡ value_in self.now.values register }
@@ -49,10 +70,12 @@ pub fn read_words(words: &[String]) -> Option<Command<'_>>
         return None;
     };
     if first.as_str() == "eval" {
-        Some(Command::Eval(read_eval(rest)?))
-    } else {
-        None
+        return Some(Command::Eval(read_eval(rest)?));
     }
+    if first.as_str() == "run" {
+        return Some(Command::Run(read_run(rest)?));
+    }
+    None
 }
 
 /// The words behind `eval`.
@@ -71,6 +94,28 @@ fn read_eval(words: &[String]) -> Option<Eval<'_>>
         proof: proof.as_str(),
         name: name.as_bytes(),
         turns,
+        given,
+    })
+}
+
+/// The words behind `run`.
+fn read_run(words: &[String]) -> Option<Run<'_>>
+    ensures { MatchOption result (NoRun (texts words.now)) (λ r. IsRun (texts words.now) r) }
+{
+    let [elf, start, until, steps, given @ ..] = words else {
+        return None;
+    };
+    if elf.is_empty() || !is_name(start.as_bytes()) {
+        return None;
+    }
+    let until = hex_number(until.as_bytes())?;
+    let steps = number_of(Base::Decimal, steps.as_bytes())?;
+    let given = read_registers(given)?;
+    Some(Run {
+        elf: elf.as_str(),
+        start: start.as_bytes(),
+        until,
+        steps,
         given,
     })
 }

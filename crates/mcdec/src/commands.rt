@@ -2,14 +2,16 @@
 
 ghost use Rattle.std.specs.Prelude.{◌≡◌, ℕ, ◌≤◌, ◌⊎◌, List, IfSome};
 ghost use Rattle.mc_shelf.specs.Fault.{Rose, WhereTold};
-ghost use Rattle.mcdec.specs.Answer.{ForContents, Gives, IsDelivered, IsDetermined, IsPrinted, KeepsNames, ReadsAreTold};
+ghost use Rattle.mcdec.specs.Answer.{ForContents, Gives, IsDetermined, KeepsNames, ReadsAreTold};
 ghost use Rattle.mcdec.specs.CommandReading.{texts};
+ghost use Rattle.mcdec.specs.Printed.{IsDelivered, IsPrinted};
 ghost use Rattle.mcdec.specs.declared.answer.Answer.{Answer as AnswerOf};
 
 use crate::answer::Answer;
 use crate::command::{Command, read_words};
 use crate::evaluate::evaluate;
 use crate::print::deliver;
+use crate::run::run_file;
 use mc_shelf::{Shelf, Sink};
 use std::alloc::Global;
 
@@ -58,5 +60,6 @@ fn answer_words<S: Shelf>(alloc: Global, words: &[String], shelf: &mut S) -> Ans
     };
     match command {
         Command::Eval(e) => evaluate(alloc, &e, shelf),
+        Command::Run(r) => run_file(alloc, &r, shelf),
     }
 }

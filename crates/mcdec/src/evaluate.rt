@@ -3,9 +3,10 @@
 ghost use Rattle.std.specs.Prelude.{◌≡◌, ℕ, ◌≤◌, List, map, IfOk};
 ghost use Rattle.mc_shelf.specs.Fault.{Rose};
 ghost use Rattle.tailrec_lang.specs.Tree.{group_tree};
-ghost use Rattle.mcdec.specs.Answer.{ForContents, Gives, GroupGives, ReadsAreTold, TextGives};
+ghost use Rattle.mcdec.specs.Answer.{ForContents, Gives, ReadsAreTold};
 ghost use Rattle.mcdec.specs.Command.{Given};
 ghost use Rattle.mcdec.specs.CommandReading.{Holds, IsReadEval, value_in};
+ghost use Rattle.mcdec.specs.EvalAnswer.{GroupGives, TextGives};
 ghost use Rattle.mcdec.specs.Text.{IsSmall};
 
 use crate::answer::Answer;

@@ -8,6 +8,7 @@ mod evaluate;
 mod number;
 mod print;
 mod reader;
+mod run;
 #[cfg(test)]
 mod tests;
 mod text;

@@ -1,14 +1,18 @@
 //! Printing an answer into a sink, piece by piece. It takes no memory.
 
 ghost use Rattle.std.specs.Prelude.{◌≡◌, ◌≤◌, ℕ, List, map, codes, ◌++◌};
-ghost use Rattle.mcdec.specs.Answer.{lines, done_lines, register_line, register_lines, status, IsDelivered};
+ghost use Rattle.mcdec.specs.Printed.{lines, done_lines, met_lines, register_line, register_lines, fault_words, stuck_words, status, IsDelivered};
+ghost use Rattle.std.specs.Fmt.{decimal};
 ghost use Rattle.mc_shelf.specs.Fault.{Rose};
+ghost use Rattle.mcdec.specs.Number.{hex};
 ghost use Rattle.mcdec.specs.Printing.{Prints, piece_text, pieces_text};
 
 use crate::answer::Answer;
 use crate::number::HexBuffer;
+use elf_image::ElfFault;
 use itoa::Buffer;
 use mc_shelf::{Sink, Stop};
+use rv_machine::Stuck;
 
 /// A piece of a line.
 #[derive(Clone, Copy, Debug)]
@@ -17,6 +21,8 @@ pub enum Piece<'a> {
     Text(&'a [u8]),
     /// A number in decimal digits.
     Decimal(u64),
+    /// A number in decimal digits that may pass 64 bits.
+    Wide(u128),
     /// A number in hexadecimal digits, behind `0x`.
     Hex(u64),
 }
@@ -27,6 +33,10 @@ fn put_piece<O: Sink>(out: &mut O, piece: &Piece<'_>) -> Result<(), Stop>
     match piece {
         Piece::Text(bytes) => out.put(bytes),
         Piece::Decimal(n) => {
+            let mut buffer = Buffer::new();
+            out.put(buffer.format(*n).as_bytes())
+        }
+        Piece::Wide(n) => {
             let mut buffer = Buffer::new();
             out.put(buffer.format(*n).as_bytes())
         }
@@ -66,13 +76,19 @@ fn status(answer: &Answer) -> u8
 {
     match answer {
         Answer::Evaluated { .. } => 0,
+        Answer::Met { .. } => 0,
         Answer::NoFunction => 1,
+        Answer::NoSuchStart(_) => 1,
+        Answer::StuckAfter(..) => 1,
         Answer::NotACommand => 2,
         Answer::UnreadableText(_) => 3,
+        Answer::UnreadableElf(_) => 3,
         Answer::ReadFault => 4,
         Answer::NoMemory => 6,
         Answer::OverLimitProof => 7,
+        Answer::OverLimitElf => 7,
         Answer::TurnsUsed => 7,
+        Answer::StepsUsed => 7,
     }
 }
 
@@ -86,21 +102,156 @@ fn put_answer<O: Sink>(out: &mut O, answer: &Answer) -> Result<(), Stop>
             registers,
             words,
         } => put_evaluated(out, *used, *pc, registers.as_slice(), words.as_slice()),
-        Answer::NoFunction => put_all(out, &[Piece::Text(b"refused no function\n")]),
-        Answer::NotACommand => put_all(out, &[Piece::Text(b"not a command\n")]),
-        Answer::UnreadableText(line) => put_all(
+        Answer::Met {
+            steps,
+            pc,
+            registers,
+            words,
+        } => put_met(out, *steps, *pc, registers.as_slice(), words.as_slice()),
+        Answer::NoFunction => put_text(out, b"refused no function\n"),
+        Answer::NoSuchStart(name) => put_no_such(out, name.as_slice()),
+        Answer::StuckAfter(steps, why) => put_stuck(out, *steps, why),
+        Answer::NotACommand => put_text(out, b"not a command\n"),
+        Answer::UnreadableText(line) => put_unreadable_text(out, *line),
+        Answer::UnreadableElf(why) => put_unreadable_elf(out, why),
+        Answer::ReadFault => put_text(out, b"read fault\n"),
+        Answer::NoMemory => put_text(out, b"no memory\n"),
+        Answer::OverLimitProof => put_text(out, b"over limit proof\n"),
+        Answer::OverLimitElf => put_text(out, b"over limit elf\n"),
+        Answer::TurnsUsed => put_text(out, b"turns used\n"),
+        Answer::StepsUsed => put_text(out, b"steps used\n"),
+    }
+}
+
+fn put_text<O: Sink>(out: &mut O, text: &[u8]) -> Result<(), Stop>
+    ensures { Prints result text.now (O.written out.old) (O.written out.new) (O.faults out.old) (O.faults out.new) }
+{
+    out.put(text)
+}
+
+fn put_no_such<O: Sink>(out: &mut O, name: &[u8]) -> Result<(), Stop>
+    ensures { Prints result (codes "refused " ++ name.now ++ codes " no-such\n") (O.written out.old) (O.written out.new) (O.faults out.old) (O.faults out.new) }
+{
+    put_all(
+        out,
+        &[
+            Piece::Text(b"refused "),
+            Piece::Text(name),
+            Piece::Text(b" no-such\n"),
+        ],
+    )
+}
+
+fn put_unreadable_text<O: Sink>(out: &mut O, line: u64) -> Result<(), Stop>
+    ensures { Prints result (codes "unreadable text " ++ decimal line ++ codes "\n") (O.written out.old) (O.written out.new) (O.faults out.old) (O.faults out.new) }
+{
+    put_all(
+        out,
+        &[
+            Piece::Text(b"unreadable text "),
+            Piece::Decimal(line),
+            Piece::Text(b"\n"),
+        ],
+    )
+}
+
+/// The line of a run that stopped where there was no step.
+fn put_stuck<O: Sink>(out: &mut O, steps: u64, why: &Stuck) -> Result<(), Stop>
+    ensures { Prints result (codes "refused stuck " ++ decimal steps ++ codes " " ++ stuck_words why.now ++ codes "\n") (O.written out.old) (O.written out.new) (O.faults out.old) (O.faults out.new) }
+{
+    let steps = Piece::Decimal(steps);
+    match why {
+        Stuck::Misaligned(a) => put_all(
             out,
             &[
-                Piece::Text(b"unreadable text "),
-                Piece::Decimal(*line),
+                Piece::Text(b"refused stuck "),
+                steps,
+                Piece::Text(b" misaligned "),
+                Piece::Hex(*a),
                 Piece::Text(b"\n"),
             ],
         ),
-        Answer::ReadFault => put_all(out, &[Piece::Text(b"read fault\n")]),
-        Answer::NoMemory => put_all(out, &[Piece::Text(b"no memory\n")]),
-        Answer::OverLimitProof => put_all(out, &[Piece::Text(b"over limit proof\n")]),
-        Answer::TurnsUsed => put_all(out, &[Piece::Text(b"turns used\n")]),
+        Stuck::NoFetch => put_all(
+            out,
+            &[
+                Piece::Text(b"refused stuck "),
+                steps,
+                Piece::Text(b" no-fetch\n"),
+            ],
+        ),
+        Stuck::NotDecoded(w) => put_all(
+            out,
+            &[
+                Piece::Text(b"refused stuck "),
+                steps,
+                Piece::Text(b" not-decoded "),
+                Piece::Hex(u64::from(*w)),
+                Piece::Text(b"\n"),
+            ],
+        ),
     }
+}
+
+/// The line of an ELF file that isn't read.
+fn put_unreadable_elf<O: Sink>(out: &mut O, why: &ElfFault) -> Result<(), Stop>
+    ensures { Prints result (codes "unreadable elf " ++ fault_words why.now ++ codes "\n") (O.written out.old) (O.written out.new) (O.faults out.old) (O.faults out.new) }
+{
+    put_text(out, b"unreadable elf ")?;
+    put_fault(out, why)?;
+    put_text(out, b"\n")
+}
+
+fn put_fault<O: Sink>(out: &mut O, why: &ElfFault) -> Result<(), Stop>
+    ensures { Prints result (fault_words why.now) (O.written out.old) (O.written out.new) (O.faults out.old) (O.faults out.new) }
+{
+    match why {
+        ElfFault::NotElf => put_text(out, b"not-elf"),
+        ElfFault::Class => put_text(out, b"class"),
+        ElfFault::Order => put_text(out, b"order"),
+        ElfFault::Kind(n) => put_number(out, b"kind ", *n),
+        ElfFault::Machine(n) => put_number(out, b"machine ", *n),
+        ElfFault::Cut(place) => put_number(out, b"cut ", *place),
+        ElfFault::Overlap(i, j) => put_overlap(out, *i, *j),
+        ElfFault::Wraps(i) => put_number(out, b"wraps ", *i),
+        ElfFault::TooMany(n) => put_number(out, b"too-many ", *n),
+        ElfFault::Entry(n) => put_number(out, b"entry ", *n),
+        ElfFault::Sizes(i) => put_number(out, b"sizes ", *i),
+        ElfFault::TooBig(n) => put_all(out, &[Piece::Text(b"too-big "), Piece::Wide(*n)]),
+        ElfFault::NoMemory => put_text(out, b"no memory"),
+    }
+}
+
+fn put_number<O: Sink>(out: &mut O, word: &[u8], n: u64) -> Result<(), Stop>
+    ensures { Prints result (word.now ++ decimal n) (O.written out.old) (O.written out.new) (O.faults out.old) (O.faults out.new) }
+{
+    put_all(out, &[Piece::Text(word), Piece::Decimal(n)])
+}
+
+fn put_overlap<O: Sink>(out: &mut O, i: u64, j: u64) -> Result<(), Stop>
+    ensures { Prints result (codes "overlap " ++ decimal i ++ codes " " ++ decimal j) (O.written out.old) (O.written out.new) (O.faults out.old) (O.faults out.new) }
+{
+    put_all(
+        out,
+        &[
+            Piece::Text(b"overlap "),
+            Piece::Decimal(i),
+            Piece::Text(b" "),
+            Piece::Decimal(j),
+        ],
+    )
+}
+
+fn put_met<O: Sink>(
+    out: &mut O,
+    steps: u64,
+    pc: u64,
+    registers: &[u8],
+    words: &[u64],
+) -> Result<(), Stop>
+    ensures { Prints result (met_lines steps pc ++ register_lines registers.now words.now) (O.written out.old) (O.written out.new) (O.faults out.old) (O.faults out.new) }
+{
+    put_ended(out, b"met ", steps, pc)?;
+    put_registers(out, registers, words)
 }
 
 fn put_evaluated<O: Sink>(
@@ -112,18 +263,19 @@ fn put_evaluated<O: Sink>(
 ) -> Result<(), Stop>
     ensures { Prints result (done_lines used pc ++ register_lines registers.now words.now) (O.written out.old) (O.written out.new) (O.faults out.old) (O.faults out.new) }
 {
-    put_done(out, used, pc)?;
+    put_ended(out, b"done ", used, pc)?;
     put_registers(out, registers, words)
 }
 
-fn put_done<O: Sink>(out: &mut O, used: u64, pc: u64) -> Result<(), Stop>
-    ensures { Prints result (done_lines used pc) (O.written out.old) (O.written out.new) (O.faults out.old) (O.faults out.new) }
+/// How many steps or turns there were, and the program counter after them.
+fn put_ended<O: Sink>(out: &mut O, word: &[u8], count: u64, pc: u64) -> Result<(), Stop>
+    ensures { Prints result (word.now ++ decimal count ++ codes "\npc " ++ hex pc ++ codes "\n") (O.written out.old) (O.written out.new) (O.faults out.old) (O.faults out.new) }
 {
     put_all(
         out,
         &[
-            Piece::Text(b"done "),
-            Piece::Decimal(used),
+            Piece::Text(word),
+            Piece::Decimal(count),
             Piece::Text(b"\npc "),
             Piece::Hex(pc),
             Piece::Text(b"\n"),

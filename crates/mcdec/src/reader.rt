@@ -1,8 +1,8 @@
 //! Reading from left to right: tokens. Each function gives what it read, and the bytes after it.
 
-ghost use Rattle.std.specs.Prelude.{◌≡◌, ◌<◌, ◌≤◌, ◌^◌, ℕ, Option, Some, None, IfSome, IsTrue, ◌↔◌, false, length, List, MatchResult, IfOk, IsErrOf};
+ghost use Rattle.std.specs.Prelude.{◌≡◌, ◌≢◌, MatchOption, ◌<◌, ◌≤◌, ◌^◌, ℕ, Option, Some, None, IfSome, IsTrue, ◌↔◌, false, length, List, MatchResult, IfOk, IsErrOf};
 ghost use Rattle.std.specs.Fmt.{digits as digits_of_number};
-ghost use Rattle.mcdec.specs.Number.{base_number};
+ghost use Rattle.mcdec.specs.Number.{base_number, hex as hex_text};
 ghost use Rattle.std.specs.List.{prefix_len};
 ghost use Rattle.mcdec.specs.Reading.{Gives, after, begins, Reader, has, run_at, number_of, decimal_at, hex_digits_at, hex_at, name_at, bytes_at};
 ghost use Rattle.mcdec.specs.declared.reader.Unread.TheVariants.{NoMemory};
@@ -189,6 +189,16 @@ pub fn hex(bytes: &[u8]) -> Result<(u64, &[u8]), Unread>
     match number_of(Base::Hexadecimal, digits) {
         None => Err(Unread::NotThere),
         Some(n) => Ok((n, rest)),
+    }
+}
+
+/// The number of which the bytes are the spelling with `0x` and hexadecimal digits.
+pub fn hex_number(bytes: &[u8]) -> Option<u64>
+    ensures { MatchOption result ((n : ℕ) → n < 2 ^ 64 → bytes.now ≢ hex_text n) (λ n. (n < 2 ^ 64) × (bytes.now ≡ hex_text n)) }
+{
+    match hex(bytes) {
+        Ok((n, rest)) => { if rest.is_empty() { Some(n) } else { None } }
+        Err(_) => None,
     }
 }
 

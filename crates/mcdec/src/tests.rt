@@ -36,18 +36,62 @@ fn words_of(alloc: Global, line: &str) -> Result<Vec<String>, AllocError> {
     Ok(words)
 }
 
-/// The status and the lines that a command ends with, where `p` holds this text and nothing fails.
-fn answer_of(rt: &HostRuntime, line: &str, text: &str) -> Result<(u8, String), Fail> {
-    let alloc = rt.alloc();
+/// Whether a command ends with this status and these lines, and leaves the file as it was, where the name holds
+/// these bytes and nothing fails.
+fn ends_with(
+    alloc: Global,
+    line: &str,
+    (name, bytes): (&str, &[u8]),
+    (status, lines): (u8, &str),
+) -> Result<bool, Fail> {
+    let words = words_of(alloc, line)?;
     let mut shelf = MemShelf::new(alloc);
-    shelf.set("p", text.as_bytes())?;
+    shelf.set(name, bytes)?;
     let mut out = MemSink::new(alloc);
-    let status = run_words(alloc, &words_of(alloc, line)?, &mut shelf, &mut out);
-    if shelf.held("p") != Some(text.as_bytes()) {
-        return Err(Fail::from("the file changed"));
+    let answer = run_words(alloc, &words, &mut shelf, &mut out);
+    Ok(answer == status && out.written() == lines.as_bytes() && shelf.held(name) == Some(bytes))
+}
+
+/// Appends a number of `size` bytes, the low one first.
+fn push_number(file: &mut Vec<u8>, size: usize, number: u64) -> Result<(), AllocError> {
+    let mut rest = number;
+    for _ in 0..size {
+        file.push((rest % 256) as u8)?;
+        rest /= 256;
     }
-    let lines = str::from_utf8(out.written()).ok().ok_or("lines")?;
-    Ok((status, String::from_str(alloc, lines)?))
+    Ok(())
+}
+
+/// Writes a number of `size` bytes over those from a place on.
+fn put_number(file: &mut [u8], place: usize, size: usize, number: u64) {
+    let mut rest = number;
+    for byte in file.iter_mut().skip(place).take(size) {
+        *byte = (rest % 256) as u8;
+        rest /= 256;
+    }
+}
+
+/// An ELF file with `addi x10, x10, 1` and `ret` at 0x10000, in as many equal PT_LOADs as `count` says.
+fn elf_file(alloc: Global, count: u64) -> Result<Vec<u8>, AllocError> {
+    let mut file = Vec::from_slice(alloc, b"\x7fELF\x02\x01\x01\0\0\0\0\0\0\0\0\0")?;
+    for (size, number) in [(2, 2), (2, 243), (4, 1), (8, 0x10000), (8, 64), (8, 0)] {
+        push_number(&mut file, size, number)?;
+    }
+    for (size, number) in [(4, 0), (2, 64), (2, 56), (2, count), (2, 0), (2, 0), (2, 0)] {
+        push_number(&mut file, size, number)?;
+    }
+    let place = 64u64.wrapping_add(count.wrapping_mul(56));
+    for _ in 0..count {
+        for (size, number) in [(4, 1), (4, 5), (8, place), (8, 0x10000)] {
+            push_number(&mut file, size, number)?;
+        }
+        for (size, number) in [(8, 0x10000), (8, 8), (8, 8), (8, 4)] {
+            push_number(&mut file, size, number)?;
+        }
+    }
+    push_number(&mut file, 4, 0x0015_0513)?;
+    push_number(&mut file, 4, 0x0000_8067)?;
+    Ok(file)
 }
 
 #[test]
@@ -70,9 +114,8 @@ fn a_straight_function_is_evaluated(rt: HostRuntime) -> Result<(), Fail> {
         ("eval p tot 0", 1, "refused no function\n"),
         ("eval q sum 1", 4, "read fault\n"),
     ] {
-        let answer = answer_of(&rt, line, SUM)?;
-        assert_eq!(rt; answer.0, status, "{line}");
-        assert_eq!(rt; answer.1.as_str(), lines, "{line}");
+        let ended = ends_with(rt.alloc(), line, ("p", SUM.as_bytes()), (status, lines))?;
+        assert!(rt; ended, "{line}");
     }
     Ok(())
 }
@@ -95,19 +138,31 @@ fn other_words_are_no_command(rt: HostRuntime) -> Result<(), Fail> {
         "eval p sum 1 mem=0x0:00",
         "evaluate p sum 1",
         "check e p",
-        "run e 0x10000 0x2000 10",
+        "run",
+        "run p 0x10000 0x0",
+        "run p 0x10000 10 1",
+        "run p 0x10000 0x0 01",
+        "run p 0x10000 0x0 18446744073709551616",
+        "run p 0x10000 0x10000000000000000 1",
+        "run p f; 0x0 1",
+        "run p 0x10000 0x0 1 x0=0x0",
+        "run p 0x10000 0x0 1 x1=0x0 x1=0x0",
+        "run p 0x10000 0x0 1 mem=0x0:00",
         "--help",
     ] {
-        let answer = answer_of(&rt, line, SUM)?;
-        assert_eq!(rt; answer.0, 2, "{line}");
-        assert_eq!(rt; answer.1.as_str(), "not a command\n", "{line}");
+        let ended = ends_with(
+            rt.alloc(),
+            line,
+            ("p", SUM.as_bytes()),
+            (2, "not a command\n"),
+        )?;
+        assert!(rt; ended, "{line}");
     }
     Ok(())
 }
 
 #[test]
 fn other_texts_are_unreadable(rt: HostRuntime) -> Result<(), Fail> {
-    let alloc = rt.alloc();
     for (old, new) in [
         (LEAVE, "leave 0 v2 v3 ;\n"),
         (LEAVE, "leave 1 v2 v1 ;\n"),
@@ -127,68 +182,245 @@ fn other_texts_are_unreadable(rt: HostRuntime) -> Result<(), Fail> {
         ("3305b500", "3305B500"),
         (SUM, ""),
     ] {
-        let text = SUM.replace(alloc, old, new)?;
-        let answer = answer_of(&rt, "eval p sum 1", text.as_str())?;
-        assert_eq!(rt; answer.0, 3, "{new}");
-        assert_eq!(rt; answer.1.as_str(), "unreadable text 0\n", "{new}");
+        let text = SUM.replace(rt.alloc(), old, new)?;
+        let file = ("p", text.as_bytes());
+        let ended = ends_with(rt.alloc(), "eval p sum 1", file, (3, "unreadable text 0\n"))?;
+        assert!(rt; ended, "{new}");
     }
     Ok(())
+}
+
+/// Whether a command ends so where a call on the shelf fails.
+fn ends_with_failing_read(
+    alloc: Global,
+    (failing, kept): (u64, u64),
+    (status, lines): (u8, &str),
+) -> Result<bool, Fail> {
+    let words = words_of(alloc, "eval p sum 1 x10=0x2 x11=0x3")?;
+    let mut shelf = MemShelf::new(alloc);
+    shelf.set("p", SUM.as_bytes())?;
+    shelf.fail(failing, kept)?;
+    let mut out = MemSink::new(alloc);
+    let answer = run_words(alloc, &words, &mut shelf, &mut out);
+    let unchanged = shelf.held("p") == Some(SUM.as_bytes());
+    Ok(answer == status && out.written() == lines.as_bytes() && unchanged)
 }
 
 #[test]
 fn failing_reads_are_faults(rt: HostRuntime) -> Result<(), Fail> {
     let alloc = rt.alloc();
-    let words = words_of(alloc, "eval p sum 1 x10=0x2 x11=0x3")?;
-    for (failing, status, lines) in [
-        (0, 4, "read fault\n"),
-        (1, 4, "read fault\n"),
-        (2, 0, SUM_LINES),
+    for kept in [0, 1, u64::MAX] {
+        assert!(rt; ends_with_failing_read(alloc, (0, kept), (4, "read fault\n"))?);
+        assert!(rt; ends_with_failing_read(alloc, (1, kept), (4, "read fault\n"))?);
+        assert!(rt; ends_with_failing_read(alloc, (2, kept), (0, SUM_LINES))?);
+    }
+    Ok(())
+}
+
+/// Whether a command whose put number `failing` fails, with so many bytes kept, ends with status 5 and a front of
+/// these lines; or as if nothing failed, where there are no more puts.
+fn ends_with_a_front(
+    alloc: Global,
+    line: &str,
+    (failing, kept): (u64, u64),
+    (status, lines): (u8, &str),
+) -> Result<bool, Fail> {
+    let words = words_of(alloc, line)?;
+    let mut shelf = MemShelf::new(alloc);
+    shelf.set("p", SUM.as_bytes())?;
+    let mut out = MemSink::new(alloc);
+    out.fail(failing, kept)?;
+    let answer = run_words(alloc, &words, &mut shelf, &mut out);
+    if answer == 5 {
+        return Ok(lines.as_bytes().starts_with(out.written()));
+    }
+    Ok(failing > 0 && answer == status && out.written() == lines.as_bytes())
+}
+
+#[test]
+fn failing_puts_leave_a_front_of_the_lines(rt: HostRuntime) -> Result<(), Fail> {
+    let alloc = rt.alloc();
+    for (line, status, lines) in [
+        ("eval p sum 1 x10=0x2 x11=0x3", 0, SUM_LINES),
+        ("eval p sum 0", 7, "turns used\n"),
+        ("eval p tot 1", 1, "refused no function\n"),
+        ("eval q sum 1", 4, "read fault\n"),
+        ("eval", 2, "not a command\n"),
     ] {
-        for kept in [0, 1, u64::MAX] {
-            let mut shelf = MemShelf::new(alloc);
-            shelf.set("p", SUM.as_bytes())?;
-            shelf.fail(failing, kept)?;
-            let mut out = MemSink::new(alloc);
-            let answer = run_words(alloc, &words, &mut shelf, &mut out);
-            assert_eq!(rt; answer, status, "call {failing}");
-            assert!(rt; out.written() == lines.as_bytes(), "call {failing}");
-            assert!(rt; shelf.held("p") == Some(SUM.as_bytes()), "call {failing}");
+        for failing in 0..30 {
+            assert!(rt; ends_with_a_front(alloc, line, (failing, 0), (status, lines))?);
+            assert!(rt; ends_with_a_front(alloc, line, (failing, 1), (status, lines))?);
+            assert!(rt; ends_with_a_front(alloc, line, (failing, u64::MAX), (status, lines))?);
         }
     }
     Ok(())
 }
 
 #[test]
-fn failing_puts_leave_a_front_of_the_lines(rt: HostRuntime) -> Result<(), Fail> {
-    let alloc = rt.alloc();
-    for line in [
-        "eval p sum 1 x10=0x2 x11=0x3",
-        "eval p sum 0",
-        "eval p tot 1",
-        "eval q sum 1",
-        "eval",
+fn a_file_is_run(rt: HostRuntime) -> Result<(), Fail> {
+    let file = elf_file(rt.alloc(), 1)?;
+    for (line, status, lines) in [
+        (
+            "run e 0x10000 0x2000 10 x1=0x2000 x10=0xffffffffffffffff",
+            0,
+            "met 2\npc 0x2000\nx1 0x2000\nx10 0x0\n",
+        ),
+        ("run e 0x10000 0x10000 0", 0, "met 0\npc 0x10000\n"),
+        (
+            "run e 0x10000 0x10004 18446744073709551615 x31=0x0",
+            0,
+            "met 1\npc 0x10004\nx10 0x1\nx31 0x0\n",
+        ),
+        ("run e 0x10000 0x2000 1 x1=0x2000", 7, "steps used\n"),
+        ("run e 0x10000 0x2000 0 x1=0x2000", 7, "steps used\n"),
+        (
+            "run e 0x10002 0x2000 9",
+            1,
+            "refused stuck 0 misaligned 0x10002\n",
+        ),
+        (
+            "run e 0x10000 0x2002 9 x1=0x2002",
+            1,
+            "refused stuck 1 misaligned 0x2002\n",
+        ),
+        ("run e 0x10008 0x2000 9", 1, "refused stuck 0 no-fetch\n"),
+        (
+            "run e 0x10000 0x2004 9 x1=0x2000",
+            1,
+            "refused stuck 2 no-fetch\n",
+        ),
+        ("run e main 0x2000 9", 1, "refused main no-such\n"),
+        ("run e 65536 0x2000 9", 1, "refused 65536 no-such\n"),
+        ("run e 0x010000 0x0 9", 1, "refused 0x010000 no-such\n"),
+        (
+            "run e 0x10000000000000000 0x0 9",
+            1,
+            "refused 0x10000000000000000 no-such\n",
+        ),
+        ("run q 0x10000 0x2000 9", 4, "read fault\n"),
     ] {
-        let words = words_of(alloc, line)?;
-        let whole = answer_of(&rt, line, SUM)?;
-        for failing in 0..30 {
-            for kept in [0, 1, u64::MAX] {
-                let mut shelf = MemShelf::new(alloc);
-                shelf.set("p", SUM.as_bytes())?;
-                let mut out = MemSink::new(alloc);
-                out.fail(failing, kept)?;
-                let status = run_words(alloc, &words, &mut shelf, &mut out);
-                let written = out.written();
-                assert!(rt; status == whole.0 || status == 5, "{line}, call {failing}");
-                assert!(rt;
-                    whole.1.as_bytes().starts_with(written),
-                    "{line}, call {failing}"
-                );
-                assert!(rt;
-                    status == 5 || written == whole.1.as_bytes(),
-                    "{line}, call {failing}"
-                );
-                assert!(rt; failing != 0 || status == 5, "{line}");
-            }
+        let ended = ends_with(rt.alloc(), line, ("e", &file), (status, lines))?;
+        assert!(rt; ended, "{line}");
+    }
+    Ok(())
+}
+
+#[test]
+fn damaged_files_are_refused(rt: HostRuntime) -> Result<(), Fail> {
+    for (count, changes, status, lines) in [
+        (1, &[(0, 1, 0x7e)][..], 3, "unreadable elf not-elf\n"),
+        (1, &[(4, 1, 1)][..], 3, "unreadable elf class\n"),
+        (1, &[(5, 1, 2)][..], 3, "unreadable elf order\n"),
+        (1, &[(16, 2, 1)][..], 3, "unreadable elf kind 1\n"),
+        (1, &[(18, 2, 62)][..], 3, "unreadable elf machine 62\n"),
+        (1, &[(54, 2, 32)][..], 3, "unreadable elf entry 32\n"),
+        (1, &[(32, 8, 80)][..], 3, "unreadable elf cut 80\n"),
+        (
+            1,
+            &[(32, 8, u64::MAX)][..],
+            3,
+            "unreadable elf cut 18446744073709551615\n",
+        ),
+        (65, &[][..], 3, "unreadable elf too-many 65\n"),
+        (1, &[(96, 8, 9)][..], 3, "unreadable elf sizes 0\n"),
+        (1, &[(72, 8, 121)][..], 3, "unreadable elf cut 121\n"),
+        (
+            1,
+            &[(80, 8, u64::MAX - 3)][..],
+            3,
+            "unreadable elf wraps 0\n",
+        ),
+        (
+            1,
+            &[(104, 8, 1_073_741_825)][..],
+            3,
+            "unreadable elf too-big 1073741825\n",
+        ),
+        (
+            2,
+            &[
+                (80, 8, 0),
+                (104, 8, u64::MAX),
+                (136, 8, 0),
+                (160, 8, u64::MAX),
+            ][..],
+            3,
+            "unreadable elf too-big 36893488147419103230\n",
+        ),
+        (2, &[][..], 3, "unreadable elf overlap 0 1\n"),
+        (
+            1,
+            &[(120, 4, 0x73)][..],
+            1,
+            "refused stuck 0 not-decoded 0x73\n",
+        ),
+        (
+            1,
+            &[(80, 8, 0xfff8), (104, 8, 12)][..],
+            1,
+            "refused stuck 0 not-decoded 0x0\n",
+        ),
+    ] {
+        let mut file = elf_file(rt.alloc(), count)?;
+        for (place, size, number) in changes {
+            put_number(&mut file, *place, *size, *number);
+        }
+        let ended = ends_with(
+            rt.alloc(),
+            "run e 0x10000 0x2000 9",
+            ("e", &file),
+            (status, lines),
+        )?;
+        assert!(rt; ended, "{lines}");
+    }
+    Ok(())
+}
+
+#[test]
+fn faults_of_a_file_come_before_its_start(rt: HostRuntime) -> Result<(), Fail> {
+    let mut file = elf_file(rt.alloc(), 1)?;
+    file.truncate(63);
+    let answer = (3, "unreadable elf cut 0\n");
+    assert!(rt; ends_with(rt.alloc(), "run e main 0x2000 9", ("e", &file), answer)?);
+    Ok(())
+}
+
+/// Whether a run of this file ends with one of the lines that a run can end with.
+fn ends_as_stated(alloc: Global, file: &[u8]) -> Result<bool, Fail> {
+    let words = words_of(alloc, "run e 0x10000 0x2000 9 x1=0x2000")?;
+    let mut shelf = MemShelf::new(alloc);
+    shelf.set("e", file)?;
+    let mut out = MemSink::new(alloc);
+    let status = run_words(alloc, &words, &mut shelf, &mut out);
+    let front: &[u8] = match status {
+        0 => b"met ",
+        1 => b"refused stuck ",
+        3 => b"unreadable elf ",
+        7 => b"steps used\n",
+        _ => return Ok(false),
+    };
+    Ok(out.written().starts_with(front))
+}
+
+#[test]
+fn fronts_of_a_file_are_answered(rt: HostRuntime) -> Result<(), Fail> {
+    let file = elf_file(rt.alloc(), 1)?;
+    for length in 0..=file.len() {
+        assert!(rt;
+            ends_as_stated(rt.alloc(), &file[..length])?,
+            "{length} bytes"
+        );
+    }
+    Ok(())
+}
+
+#[test]
+fn files_with_another_byte_are_answered(rt: HostRuntime) -> Result<(), Fail> {
+    for place in 0..128 {
+        for byte in [0, 1, 0x7f, 0xff] {
+            let mut file = elf_file(rt.alloc(), 1)?;
+            put_number(&mut file, place, 1, byte);
+            assert!(rt; ends_as_stated(rt.alloc(), &file)?, "{byte} at {place}");
         }
     }
     Ok(())

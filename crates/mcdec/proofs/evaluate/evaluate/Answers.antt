@@ -1,6 +1,6 @@
 use Rattle.std.proofs.Common.{rules, subst, length, ◌≤◌}
-use Rattle.mcdec.specs.Command.{Command, Eval}
-use Rattle.mcdec.specs.Answer.{proof_limit, TextGives}
+use Rattle.mcdec.specs.Command.{Eval}
+use Rattle.mcdec.specs.EvalAnswer.{proof_limit, TextGives}
 use Rattle.mcdec.proofs.Answers.{no-memory-given, fault-given, limit-given, text-given, proof-told}
 use Rattle.mcdec.proofs.evaluate.evaluate.Goals as goal
 

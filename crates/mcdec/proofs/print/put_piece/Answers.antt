@@ -1,5 +1,4 @@
-use Rattle.std.proofs.Common.{◌≡◌, ◌++◌, ℕ, List, codes, subst, sym, ap, ◌∙◌, Err}
-use Rattle.mcdec.specs.Printing.{Prints, piece_text}
+use Rattle.std.proofs.Common.{codes, Err}
 use Rattle.mcdec.proofs.Prints.{prints-put, prints-then, prints-stopped, prints-exit}
 use Rattle.mcdec.proofs.print.put_piece.Goals as goal
 

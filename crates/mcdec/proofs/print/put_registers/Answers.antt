@@ -1,4 +1,4 @@
-use Rattle.std.proofs.Common.{length, ◌∙◌, ◌≡◌, suc, ◌+◌, add-one, rules, ap}
+use Rattle.std.proofs.Common.{length, ◌∙◌, ◌≡◌, add-one, rules}
 use Rattle.std.proofs.lemmas.List.{length_push}
 use Rattle.std.proofs.lemmas.Slice.Zip.{zip_turn, zip_end}
 use Rattle.std.specs.Slice.Iter.{iter_rest}

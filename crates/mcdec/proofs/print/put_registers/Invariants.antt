@@ -1,5 +1,5 @@
 use Rattle.std.proofs.Common.{length, take, Ok}
-use Rattle.mcdec.specs.Answer.{register_lines}
+use Rattle.mcdec.specs.Printed.{register_lines}
 use Rattle.mcdec.specs.Printing.{Prints}
 use Rattle.mcdec.proofs.print.put_registers.Given as goal
 

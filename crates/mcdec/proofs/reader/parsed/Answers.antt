@@ -1,5 +1,4 @@
-use Rattle.std.proofs.Common.{◌∙◌, subst, ℕ}
-use Rattle.std.specs.Str.Parse.{ParsesUnsigned}
+use Rattle.std.proofs.Common.{◌∙◌}
 use Rattle.mcdec.proofs.Numbers.{text-read, text-utf8, same-read, not-read}
 use Rattle.mcdec.proofs.reader.parsed.Goals as goal
 

@@ -1,0 +1,55 @@
+-- When each answer to `run` comes.
+use Rattle.std.specs.Prelude.{◌≡◌, ℕ, ◌<◌, ◌≤◌, ◌^◌, ◌==◌, Bool, not, ◌||◌, List, length, map, filter, is_some, Some}
+use Rattle.std.specs.List.{range_with_len}
+use Rattle.elf_image.specs.Fault.{IsReadable, fault_of}
+use Rattle.elf_image.specs.Image.{image_of, bytes_in}
+use Rattle.rv_machine.specs.State.{State}
+use Rattle.rv_machine.specs.Run.{EndsIn}
+use Rattle.rv_machine.specs.declared.running.RunEnd.TheVariants as end
+use Rattle.mcdec.specs.declared.answer.Answer.{Answer}
+use Rattle.mcdec.specs.declared.answer.Answer.TheVariants as answer
+use Rattle.mcdec.specs.Number.{hex}
+use Rattle.mcdec.specs.Command.{Given, given_to, value_of}
+
+-- the most bytes of an ELF file that are read
+abbrev pub elf_limit : ℕ
+elf_limit = 67108864
+
+-- the state at an address: the file's pieces in memory, and in each register the value that it is given, or 0
+abbrev pub begin : List ℕ → List Given → ℕ → State
+begin file given a = record { pc = a; reg = value_of given; mem = bytes_in (image_of file) }
+
+-- a register that is given a value, or doesn't hold 0
+abbrev pub is_shown : List Given → State → ℕ → Bool
+is_shown given t r = is_some (given_to given r) || not (t.reg r == 0)
+
+-- the registers whose words are shown, rising
+abbrev pub shown : List Given → State → List ℕ
+shown given t = filter (is_shown given t) (range_with_len 1 31)
+
+-- `run` from a state to an address within steps
+abbrev pub MachineGives : ℕ → ℕ → List Given → State → Answer → Type 0
+MachineGives until steps given s (answer.Met k pc registers words) = (t : State) × EndsIn until steps s t (end.Met k)
+    × (pc ≡ t.pc) × (registers ≡ shown given t) × (words ≡ map t.reg registers)
+MachineGives until steps given s (answer.StuckAfter k why) = (t : State) × EndsIn until steps s t (end.Stuck k why)
+MachineGives until steps given s answer.StepsUsed = (t : State) × EndsIn until steps s t end.Steps
+MachineGives until steps given s _ = ⊥
+
+-- START is the spelling of that address
+abbrev pub StartsAt : List ℕ → ℕ → Type 0
+StartsAt start a = (a < 2 ^ 64) × (start ≡ hex a)
+
+-- `run` from START, where the ELF file has these bytes and is read
+abbrev pub StartGives : List ℕ → List ℕ → ℕ → ℕ → List Given → Answer → Type 0
+StartGives file start until steps given (answer.NoSuchStart name) = ((a : ℕ) → StartsAt start a → ⊥) × (name ≡ start)
+StartGives file start until steps given a = (at : ℕ) × StartsAt start at × MachineGives until steps given (begin file given at) a
+
+-- .. and is read or has a fault
+abbrev pub ImageGives : List ℕ → List ℕ → ℕ → ℕ → List Given → Answer → Type 0
+ImageGives file start until steps given (answer.UnreadableElf why) = fault_of file ≡ Some why
+ImageGives file start until steps given a = IsReadable file × StartGives file start until steps given a
+
+-- `run` from START, where the ELF file has these bytes
+abbrev pub RunGives : List ℕ → List ℕ → ℕ → ℕ → List Given → Answer → Type 0
+RunGives file start until steps given answer.OverLimitElf = elf_limit < length file
+RunGives file start until steps given a = (length file ≤ elf_limit) × ImageGives file start until steps given a

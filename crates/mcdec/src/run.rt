@@ -1,0 +1,133 @@
+//! The command `run`.
+
+ghost use Rattle.std.specs.Prelude.{◌≡◌, ℕ, ◌≤◌, List, All, IfOk, OnOk, map};
+ghost use Rattle.elf_image.specs.Fault.{IsReadable};
+ghost use Rattle.elf_image.specs.Image.{IsPlaced, bytes_in, image_of, padded};
+ghost use Rattle.mc_shelf.specs.Fault.{Rose};
+ghost use Rattle.rv_words.specs.Bytes.{bytes_from};
+ghost use Rattle.rv_machine.specs.State.{empty_state, state_of, with_bytes};
+ghost use Rattle.mcdec.specs.Answer.{ForContents, Gives, ReadsAreTold};
+ghost use Rattle.mcdec.specs.Command.{AreGiven, Given, value_of};
+ghost use Rattle.mcdec.specs.CommandReading.{Holds, IsReadRun};
+ghost use Rattle.mcdec.specs.RunAnswer.{ImageGives, MachineGives, begin, shown};
+
+use crate::answer::Answer;
+use crate::command::{Registers, Run};
+use crate::reader::hex_number;
+use elf_image::{ElfFault, Image, Piece, read};
+use mc_shelf::{ReadEnd, Shelf, read_file};
+use rv_machine::{RunEnd, State};
+use rv_words::{Bytes, List, NoMemory, Text};
+use std::alloc::Global;
+
+/// The most bytes of an ELF file that are read.
+const ELF_LIMIT: u64 = 67_108_864;
+
+/// The answer to `run`.
+pub fn run_file<S: Shelf>(alloc: Global, r: &Run<'_>, shelf: &mut S) -> Answer
+    ensures gives { (ws : List (List ℕ)) → IsReadRun ws r.now
+        → ForContents (S.contents shelf.old) (λ files. Gives files ws (Rose (S.read_faults shelf.old) (S.read_faults shelf.new)) result) }
+
+    ensures kept { S.contents shelf.new ≡ S.contents shelf.old }
+    ensures counted { (S.read_faults shelf.old ≤ S.read_faults shelf.new) × (S.write_faults shelf.old ≤ S.write_faults shelf.new) }
+    ensures sure { (ws : List (List ℕ)) → IsReadRun ws r.now → S.IsSure shelf.old → ReadsAreTold (S.contents shelf.old) ws
+        → (S.read_faults shelf.new ≡ S.read_faults shelf.old) × (S.write_faults shelf.new ≡ S.write_faults shelf.old) }
+{
+    let file = match read_file(alloc, shelf, r.elf, ELF_LIMIT) {
+        Ok(file) => file,
+        Err(ReadEnd::Fault) => return Answer::ReadFault,
+        Err(ReadEnd::TooLong) => return Answer::OverLimitElf,
+        Err(ReadEnd::NoMemory) => return Answer::NoMemory,
+    };
+    match run_bytes(alloc, file, r) {
+        Ok(answer) => answer,
+        Err(NoMemory) => Answer::NoMemory,
+    }
+}
+
+/// The answer to `run` where its ELF file has these bytes. They are let go before the run's memory is made.
+fn run_bytes(alloc: Global, file: Bytes, r: &Run<'_>) -> Result<Answer, NoMemory>
+    ensures { (given : List Given) → AreGiven given → Holds given r.now.given.values
+        → IfOk result (λ a. ImageGives file r.now.start.now r.now.until r.now.steps given a) }
+{
+    let image = match read(alloc, file.as_slice()) {
+        Ok(image) => image,
+        Err(ElfFault::NoMemory) => return Err(NoMemory),
+        Err(why) => return Ok(Answer::UnreadableElf(why)),
+    };
+    drop(file);
+    match hex_number(r.start) {
+        Some(start) => run_image(alloc, image, start, r),
+        None => Ok(Answer::NoSuchStart(Text::from_slice(alloc, r.start)?)),
+    }
+}
+
+/// The answer to `run` from an address of this image. It is let go before the run.
+fn run_image(alloc: Global, image: Image, start: u64, r: &Run<'_>) -> Result<Answer, NoMemory>
+    ensures { (given : List Given) → AreGiven given → Holds given r.now.given.values → (file : List ℕ) → image ≡ image_of file
+        → IfOk result (λ a. MachineGives r.now.until r.now.steps given (begin file given start) a) }
+{
+    let mut state = State::new(alloc, start);
+    place_pieces(&mut state, image.pieces())?;
+    drop(image);
+    set_registers(&mut state, &r.given);
+    match state.run(r.until, r.steps) {
+        RunEnd::Met(steps) => met(alloc, steps, &state, &r.given),
+        RunEnd::Stuck(steps, why) => Ok(Answer::StuckAfter(steps, why)),
+        RunEnd::Steps => Ok(Answer::StepsUsed),
+    }
+}
+
+/// Puts the pieces into memory, the last first.
+fn place_pieces(state: &mut State, pieces: &[Piece]) -> Result<(), NoMemory>
+    requires { All IsPlaced pieces.now }
+    ensures { OnOk result (state_of state.new ≡ with_bytes (bytes_in pieces.now) (state_of state.old)) }
+{
+    let mut i = pieces.len();
+    while i > 0 {
+        i -= 1;
+        place_piece(state, &pieces[i])?;
+    }
+    Ok(())
+}
+
+/// Puts a piece into memory: zeros, and the file's bytes over them.
+fn place_piece(state: &mut State, piece: &Piece) -> Result<(), NoMemory>
+    requires { IsPlaced piece.now }
+    ensures { OnOk result (state_of state.new ≡ with_bytes (bytes_from piece.now.at (padded piece.now)) (state_of state.old)) }
+{
+    state.place_zeros(piece.at, piece.size)?;
+    state.place(piece.at, piece.from.as_slice())
+}
+
+/// Gives the registers their values.
+fn set_registers(state: &mut State, values: &Registers)
+    ensures { (given : List Given) → AreGiven given → Holds given values.now.values → (state_of state.old).reg ≡ (λ r. 0)
+        → state_of state.new ≡ record (state_of state.old) { reg = value_of given } }
+{
+    for register in 1..32 {
+        state.set_reg(register, values.value(register));
+    }
+}
+
+/// The answer where the address was met: the state there, with the registers that were given a value or don't hold 0.
+fn met(alloc: Global, steps: u64, state: &State, values: &Registers) -> Result<Answer, NoMemory>
+    ensures { (given : List Given) → Holds given values.now.values
+        → IfOk result (λ a. a ≡ Answer.Met steps (state_of state.now).pc (shown given (state_of state.now)) (map (state_of state.now).reg (shown given (state_of state.now)))) }
+{
+    let mut registers = List::new(alloc);
+    let mut words = List::new(alloc);
+    for register in 1..32 {
+        let word = state.reg(register);
+        if values.given(register).is_some() || word != 0 {
+            registers.push(register)?;
+            words.push(word)?;
+        }
+    }
+    Ok(Answer::Met {
+        steps,
+        pc: state.pc(),
+        registers,
+        words,
+    })
+}
