@@ -1,8 +1,12 @@
 -- The values of the operations, on words: numbers below 2 ^ 64.
--- RISC-V Unprivileged ISA 20191213, sections 2.4 and 5.2.
-use Rattle.std.specs.Prelude.{ℕ, ◌+◌, ◌-◌, ◌*◌, ◌/◌, ◌%◌, ◌^◌, ℤ, pos, negsuc, ◌-ℤ◌, nat_lt, int_lt, Bool, if◌then◌else◌, bit_and, bit_or, bit_xor}
+-- RISC-V Unprivileged ISA 20191213, sections 2.4 to 2.6, 5.2, 5.3, 7.1 and 7.2.
+use Rattle.std.specs.Prelude.{ℕ, zero, suc, ◌+◌, ◌-◌, ◌*◌, ◌/◌, ◌%◌, ◌^◌, ◌==◌, ℤ, pos, negsuc, ◌-ℤ◌, ◌*ℤ◌, nat_lt, nat_le, int_lt, int_le, int_div, int_rem, Bool, not, if◌then◌else◌, bit_and, bit_or, bit_xor}
 use Rattle.rv_words.specs.declared.operation.Op.{Op}
-use Rattle.rv_words.specs.declared.operation.Op.TheVariants.{Add, Sub, Sll, Slt, Sltu, Xor, Srl, Sra, Or, And}
+use Rattle.rv_words.specs.declared.operation.Op.TheVariants.{Add, Sub, Sll, Slt, Sltu, Xor, Srl, Sra, Or, And, Mul, Mulh, Mulhsu, Mulhu, Div, Divu, Rem, Remu, Addw, Subw, Sllw, Srlw, Sraw, Mulw, Divw, Divuw, Remw, Remuw}
+use Rattle.rv_words.specs.declared.extension.Ext.{Ext}
+use Rattle.rv_words.specs.declared.extension.Ext.TheVariants.{Sx1, Sx2, Sx4}
+use Rattle.rv_words.specs.declared.comparison.Cmp.{Cmp}
+use Rattle.rv_words.specs.declared.comparison.Cmp.TheVariants.{Eq, Ne, Lt, Ge, Ltu, Geu}
 
 -- the whole number that k bits are in two's complement
 abbrev pub signed_of : ℕ → ℕ → ℤ
@@ -22,13 +26,40 @@ abbrev pub floor_of : ℤ → ℕ → ℤ
 floor_of (pos n) d = pos (n / d)
 floor_of (negsuc n) d = negsuc (n / d)
 
+-- the quotient rounded towards zero; by zero -1, whose bits are all ones
+abbrev pub quotient : ℤ → ℤ → ℤ
+quotient a (pos zero) = negsuc 0
+quotient a (pos (suc n)) = int_div a (pos (suc n))
+quotient a (negsuc n) = int_div a (negsuc n)
+
+-- the remainder with the sign of the dividend; by zero the dividend
+abbrev pub remainder : ℤ → ℤ → ℤ
+remainder a (pos zero) = a
+remainder a (pos (suc n)) = int_rem a (pos (suc n))
+remainder a (negsuc n) = int_rem a (negsuc n)
+
 -- 1 where the test is true, else 0
 abbrev pub flag : Bool → ℕ
 flag b = if b then 1 else 0
 
--- by how many bits b shifts: its low six bits
+-- by how many bits b shifts a word: its low six bits
 abbrev pub amount : ℕ → ℕ
 amount b = b % 2 ^ 6
+
+-- by how many bits b shifts the low half of a word: its low five bits
+abbrev pub half_amount : ℕ → ℕ
+half_amount b = b % 2 ^ 5
+
+-- the low half of a word, and the whole number that it is in two's complement
+abbrev pub low : ℕ → ℕ
+low a = a % 2 ^ 32
+
+abbrev pub signed_low : ℕ → ℤ
+signed_low a = signed_of 32 (low a)
+
+-- the low k bits of a number, their sign extended to a word
+abbrev pub extended : ℕ → ℕ → ℕ
+extended k a = word_of (signed_of k (a % 2 ^ k))
 
 -- the operation's value on a and b
 abbrev pub operation_value : Op → ℕ → ℕ → ℕ
@@ -42,3 +73,36 @@ operation_value Srl a b = a / 2 ^ amount b
 operation_value Sra a b = word_of (floor_of (signed a) (2 ^ amount b))
 operation_value Or a b = bit_or a b
 operation_value And a b = bit_and a b
+operation_value Mul a b = a * b % 2 ^ 64
+operation_value Mulh a b = word_of (floor_of (signed a *ℤ signed b) (2 ^ 64))
+operation_value Mulhsu a b = word_of (floor_of (signed a *ℤ pos b) (2 ^ 64))
+operation_value Mulhu a b = word_of (floor_of (pos a *ℤ pos b) (2 ^ 64))
+operation_value Div a b = word_of (quotient (signed a) (signed b))
+operation_value Divu a b = word_of (quotient (pos a) (pos b))
+operation_value Rem a b = word_of (remainder (signed a) (signed b))
+operation_value Remu a b = word_of (remainder (pos a) (pos b))
+operation_value Addw a b = extended 32 (low a + low b)
+operation_value Subw a b = extended 32 (low a + (2 ^ 32 - low b))
+operation_value Sllw a b = extended 32 (low a * 2 ^ half_amount b)
+operation_value Srlw a b = extended 32 (low a / 2 ^ half_amount b)
+operation_value Sraw a b = word_of (floor_of (signed_low a) (2 ^ half_amount b))
+operation_value Mulw a b = extended 32 (low a * low b)
+operation_value Divw a b = extended 32 (word_of (quotient (signed_low a) (signed_low b)))
+operation_value Divuw a b = extended 32 (word_of (quotient (pos (low a)) (pos (low b))))
+operation_value Remw a b = extended 32 (word_of (remainder (signed_low a) (signed_low b)))
+operation_value Remuw a b = extended 32 (word_of (remainder (pos (low a)) (pos (low b))))
+
+-- the low 1, 2 or 4 bytes of a word, their sign extended
+abbrev pub extension_value : Ext → ℕ → ℕ
+extension_value Sx1 a = extended 8 a
+extension_value Sx2 a = extended 16 a
+extension_value Sx4 a = extended 32 a
+
+-- the comparison is true of a and b
+abbrev pub comparison_holds : Cmp → ℕ → ℕ → Bool
+comparison_holds Eq a b = a == b
+comparison_holds Ne a b = not (a == b)
+comparison_holds Lt a b = int_lt (signed a) (signed b)
+comparison_holds Ge a b = int_le (signed b) (signed a)
+comparison_holds Ltu a b = nat_lt a b
+comparison_holds Geu a b = nat_le b a

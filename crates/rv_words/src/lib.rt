@@ -2,6 +2,8 @@
 #![tactic(auto)]
 
 mod byte_map;
+mod comparison;
+mod extension;
 mod list;
 mod memory;
 mod operation;
@@ -9,6 +11,8 @@ mod pieces;
 mod width;
 
 pub use byte_map::ByteMap;
+pub use comparison::{Cmp, compare};
+pub use extension::{Ext, extend};
 pub use list::{Bytes, List, Text};
 pub use memory::NoMemory;
 pub use operation::{Op, apply};

@@ -88,6 +88,15 @@ impl<T: Drop> List<T> {
         Ok(())
     }
 
+    /// Moves the other list's items to the end.
+    pub fn append(&mut self, mut other: List<T>) -> Result<(), NoMemory>
+        ensures ok { OnOk result (self.new ≡ self.old ++ other) }
+        ensures err { OnErr result (self.new ≡ self.old) }
+    {
+        self.items.append(&mut other.items)?;
+        Ok(())
+    }
+
     /// Writes the item at place `i` and drops the old one.
     pub fn set(&mut self, i: usize, item: T)
         requires { i < length self.old }
