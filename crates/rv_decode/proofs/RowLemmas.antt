@@ -1,9 +1,10 @@
 -- The rows of the table that are left where some fields of a word are known.
-use Rattle.std.proofs.Common.{◌≡◌, ◌≢◌, ℕ, eqb, Bool, true, false, cond, not, ◌&&◌, ◌||◌, ◌⊎◌, ⊎_elim, inl, inr, arith, Option, Some, None, List, [], ◌∷◌, refl, sym, ◌∙◌, eq-eqb, eqb-true}
+use Rattle.std.proofs.Common.{◌≡◌, ◌≢◌, ℕ, ◌+◌, ◌*◌, ◌^◌, ◌<◌, eqb, Bool, true, false, cond, not, ◌&&◌, ◌||◌, ◌⊎◌, ⊎_elim, inl, inr, arith, Option, Some, None, List, [], ◌∷◌, refl, sym, ◌∙◌, eq-eqb, eqb-true}
 use Rattle.std.proofs.lemmas.Bool.{eqb-false, false≢true}
 use Rattle.std.proofs.lemmas.Bool.Decides.{nat_tests}
 use Rattle.std.specs.List.{list_all}
 use Rattle.rv_decode.specs.declared.instruction.Instr.{Instr}
+use Rattle.rv_decode.specs.declared.instruction.Instr.TheVariants.{Ecall, Ebreak}
 use Rattle.rv_decode.specs.Fields.{bits, opcode, funct3, funct7, funct6}
 use Rattle.rv_decode.specs.Decodes.{Fixed, Row, opcode_is, funct3_is, funct7_is, funct6_is, table, has, meets, decoded_by, decoded}
 
@@ -137,6 +138,9 @@ neq-eqb a b h = by_test (eqb a b) refl
     by_test false e = refl
 
 -- the rows that are left of a word with these fields
+pub at_opcode : (w o : ℕ) → opcode w ≡ o → left_by (is (opcode_is o) ∷ []) table w ≡ decoded w
+at_opcode w o a = left_by-is (is (opcode_is o) ∷ []) w (eq-eqb (opcode w) o a, tt)
+
 pub at_funct3 : (w o f : ℕ) → opcode w ≡ o → funct3 w ≡ f → left_by (is (opcode_is o) ∷ is (funct3_is f) ∷ []) table w ≡ decoded w
 at_funct3 w o f a b = left_by-is (is (opcode_is o) ∷ is (funct3_is f) ∷ []) w (eq-eqb (opcode w) o a, (eq-eqb (funct3 w) f b, tt))
 
@@ -147,3 +151,36 @@ at_funct7 w o f g a b c =
 pub at_funct6 : (w o f g : ℕ) → opcode w ≡ o → funct3 w ≡ f → funct6 w ≡ g → left_by (is (opcode_is o) ∷ is (funct3_is f) ∷ is (funct6_is g) ∷ []) table w ≡ decoded w
 at_funct6 w o f g a b c =
     left_by-is (is (opcode_is o) ∷ is (funct3_is f) ∷ is (funct6_is g) ∷ []) w (eq-eqb (opcode w) o a, (eq-eqb (funct3 w) f b, (eq-eqb (funct6 w) g c, tt)))
+
+-- ---- the two words with the opcode of calls of the environment that are instructions
+
+not_met : {A : Type 0} (f g a d : Bool) (here rest : A) → (f ≡ true → g ≡ true → a ≡ true → d ≡ true → false ≡ true) → cond (f && (g && (a && (d && true)))) here rest ≡ rest
+not_met true true true true here rest h = absurd (false≢true (h refl refl refl refl))
+not_met true true true false here rest h = refl
+not_met true true false d here rest h = refl
+not_met true false a d here rest h = refl
+not_met false g a d here rest h = refl
+
+-- the fixed fields of such a word, with these upper twelve bits, tell the whole word
+no_fields : (w n : ℕ) → w < 2 ^ 32 → opcode w ≡ 0x73 → w ≢ 0x73 + 2 ^ 20 * n → {A : Type 0} (here rest : A) → cond (eqb (bits 12 3 w) 0 && (eqb (bits 20 12 w) n && (eqb (bits 15 5 w) 0 && (eqb (bits 7 5 w) 0 && true)))) here rest ≡ rest
+no_fields w n below o h here rest =
+    not_met (eqb (bits 12 3 w) 0) (eqb (bits 20 12 w) n) (eqb (bits 15 5 w) 0) (eqb (bits 7 5 w) 0) here rest
+    (λ f g a d.
+    let f0 = eqb-true (bits 12 3 w) 0 f in
+    let g0 = eqb-true (bits 20 12 w) n g in
+    let a0 = eqb-true (bits 15 5 w) 0 a in
+    let d0 = eqb-true (bits 7 5 w) 0 d in
+    absurd (h (omega arith)))
+
+pub no_system_word : (w : ℕ) → w < 2 ^ 32 → opcode w ≡ 0x73 → w ≢ 0x73 → w ≢ 0x100073 → None ≡ decoded w
+no_system_word w below o no_call no_break =
+    sym (no_fields w 0 below o no_call (Some Ecall) (cond (eqb (bits 12 3 w) 0 && (eqb (bits 20 12 w) 1 && (eqb (bits 15 5 w) 0 && (eqb (bits 7 5 w) 0 && true)))) (Some Ebreak) None) ∙ no_fields w 1 below o no_break (Some Ebreak) None)
+    ∙ at_opcode w 0x73 o
+
+pub call_word : decoded 0x73 ≡ Some Ecall
+unfolding decoded
+call_word = refl
+
+pub break_word : decoded 0x100073 ≡ Some Ebreak
+unfolding decoded
+break_word = refl

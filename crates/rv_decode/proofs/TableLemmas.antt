@@ -1,11 +1,9 @@
 -- The rows of the table are apart, so the order in which they stand doesn't matter.
-use Rattle.std.proofs.Common.{◌≡◌, ℕ, zero, suc, ◌<◌, Bool, true, false, cond, ◌&&◌, ◌↔◌, Option, Some, List, [], ◌∷◌, length, get_or, refl, sym, ap, subst, ◌∙◌, arith}
+use Rattle.std.proofs.Common.{◌≡◌, ℕ, zero, suc, ◌<◌, Bool, true, false, cond, ◌&&◌, ◌↔◌, Option, Some, List, [], ◌∷◌, length, get_or, refl, sym, ap, ◌∙◌, arith}
 use Rattle.std.proofs.lemmas.Bool.{false≢true}
 use Rattle.std.specs.List.{list_all, Any}
-use Rattle.std.specs.Option.{IfSome}
-use Rattle.rv_decode.specs.Fields.{rd, rs1, rs2}
 use Rattle.rv_decode.specs.declared.instruction.Instr.{Instr}
-use Rattle.rv_decode.specs.Decodes.{Decodes, NamesRegisters, Fixed, Row, table, has, meets, decoded_by, decoded}
+use Rattle.rv_decode.specs.Decodes.{Decodes, Fixed, Row, table, has, meets, decoded_by, decoded}
 use Rattle.rv_decode.proofs.RowLemmas.{Fact, AreFacts, is, and_true, any_refuted, any_refuted-has}
 
 abbrev facts_of : List Fixed → List Fact
@@ -58,27 +56,3 @@ decoded-Decodes w i = (decoded_row w table i, λ (k, r, l, at, (met, gives)). ro
 
 pub decoded_decodes : (w : ℕ) (o : Option Instr) → o ≡ decoded w → (i : Instr) → (o ≡ Some i) ↔ Decodes w i
 decoded_decodes w o e i = (λ h. (decoded-Decodes w i).0 (sym e ∙ h), λ d. e ∙ (decoded-Decodes w i).1 d)
-
--- ---- the registers that rows name
-
-abbrev AllName : ℕ → List Row → Type 0
-AllName w [] = Unit {0}
-AllName w (r ∷ rs) = NamesRegisters (r.gives w) × AllName w rs
-
-named_by : (w : ℕ) (rs : List Row) → AllName w rs → IfSome (decoded_by rs w) NamesRegisters
-named_by w [] h = tt
-named_by w (r ∷ rs) h = by_test (meets w r) (r.gives w) (decoded_by rs w) h.0 (named_by w rs h.1)
-  where
-    by_test : (t : Bool) (i : Instr) (o : Option Instr) → NamesRegisters i → IfSome o NamesRegisters → IfSome (cond t (Some i) o) NamesRegisters
-    by_test true i o here later = here
-    by_test false i o here later = later
-
-all_name : (w : ℕ) → AllName w table
-all_name w =
-    let two : (rd w < 32) × (rs1 w < 32) = (omega arith, omega arith) in
-    let three : (rd w < 32) × (rs1 w < 32) × (rs2 w < 32) = (omega arith, omega arith, omega arith) in
-    (two, (two, (two, (two, (two, (two, (two, (two, (two, (two, (three, (three, (three, (three, (three, (three, (three, (three, (three, (three, tt))))))))))))))))))))
-
-pub decoded_named : (w : ℕ) (o : Option Instr) → o ≡ decoded w → IfSome o NamesRegisters
-unfolding decoded
-decoded_named w o e = subst (λ x. IfSome x NamesRegisters) (sym e) (named_by w table (all_name w))

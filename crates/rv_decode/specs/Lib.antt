@@ -1,2 +1,4 @@
 pub mod Fields
 pub mod Decodes
+pub mod Ranges
+pub mod Encodes

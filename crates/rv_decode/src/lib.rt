@@ -2,10 +2,15 @@
 #![tactic(auto)]
 
 mod decoder;
+mod encoder;
 mod fields;
+mod formats;
 mod instruction;
+mod ranges;
+mod rows;
 
 pub use decoder::decode;
+pub use encoder::encode;
 pub use instruction::Instr;
 
 #[cfg(test)]

@@ -10,4 +10,5 @@ returns-in-0 c = ap Some c.jalr.ensures ∙ at_funct3 c.args.w 0x67 0 c.requires
 pub returns-in_default : goal.returns-in_default
 returns-in_default c =
     let w = c.args.w in
-    left_by-is (is (opcode_is 0x67) ∷ is_not (funct3_is 0) ∷ []) w (eq-eqb (opcode w) 0x67 c.requires, (neq-eqb (funct3 w) 0 (omega arith), tt))
+    left_by-is (is (opcode_is 0x67) ∷ is_not (funct3_is 0) ∷ []) w
+    (eq-eqb (opcode w) 0x67 c.requires, (neq-eqb (funct3 w) 0 (omega arith), tt))
