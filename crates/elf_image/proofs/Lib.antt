@@ -1,4 +1,7 @@
 pub mod TableLemmas
+pub mod WholeLemmas
+pub mod SymbolLemmas
+pub mod ValueLemmas
 pub mod FaultLemmas
 pub mod ImageLemmas
 pub mod CodeLemmas

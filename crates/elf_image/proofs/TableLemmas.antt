@@ -7,8 +7,8 @@ use Rattle.std.proofs.lemmas.Option.{none-some}
 use Rattle.std.proofs.lemmas.List.FromFn.{get_or-range_with_len, length-range_with_len}
 use Rattle.elf_image.specs.declared.fault.ElfFault.{ElfFault}
 use Rattle.elf_image.specs.declared.fault.ElfFault.TheVariants.{Cut}
-use Rattle.elf_image.specs.Header.{header_place}
-use Rattle.elf_image.specs.Fault.{first, cut_header}
+use Rattle.elf_image.specs.Header.{header_place, section_place}
+use Rattle.elf_image.specs.Fault.{first, cut_at, cut_header, cut_section}
 
 pub both : (x y : Option ElfFault) → option_or x y ≡ None → (x ≡ None) × (y ≡ None)
 both None y e = (refl, e)
@@ -24,16 +24,16 @@ first_none f i n l e = first_more f i n l ∙ (λ j. option_or (e j) (first (map
 pub first_some : (f : ℕ → Option ElfFault) (i n : ℕ) (x : ElfFault) → i < n → f i ≡ Some x → first (map f (range_with_len i (n - i))) ≡ Some x
 first_some f i n x l e = first_more f i n l ∙ (λ j. option_or (e j) (first (map f (range_with_len (i + 1) (n - (i + 1))))))
 
-module _ (file : List ℕ) (i p : ℕ) (is : p ≡ min (header_place file i) (2 ^ 64 - 1)) (long : 56 ≤ length file) (fits : length file < 2 ^ 64) where
-  pub cut_some : length file - 56 < p → cut_header file i ≡ Some (Cut p)
+module _ (file : List ℕ) (place size p : ℕ) (is : p ≡ min place (2 ^ 64 - 1)) (some : 0 < size) (long : size ≤ length file) (fits : length file < 2 ^ 64) where
+  pub cut_some : length file - size < p → cut_at file place size ≡ Some (Cut p)
   cut_some l =
-      let past : length file < header_place file i + 56 = omega arith in
-      cond-true (nat_lt (length file) (header_place file i + 56)) _ _ (lt-ltb (length file) (header_place file i + 56) past) ∙ (λ j. Some (Cut (sym is j)))
+      let past : length file < place + size = omega arith in
+      cond-true (nat_lt (length file) (place + size)) _ _ (lt-ltb (length file) (place + size) past) ∙ (λ j. Some (Cut (sym is j)))
 
-  pub cut_none : p ≤ length file - 56 → cut_header file i ≡ None
+  pub cut_none : p ≤ length file - size → cut_at file place size ≡ None
   cut_none l =
-      let inside : header_place file i + 56 ≤ length file = omega arith in
-      cond-false (nat_lt (length file) (header_place file i + 56)) _ _ (le-ltb (length file) (header_place file i + 56) inside)
+      let inside : place + size ≤ length file = omega arith in
+      cond-false (nat_lt (length file) (place + size)) _ _ (le-ltb (length file) (place + size) inside)
 
 -- where none of them has a fault, each has none
 pub none_at : {X : Type 0} (f : X → Option ElfFault) (xs : List X) (i : ℕ) (d : X) → first (map f xs) ≡ None → i < length xs → f (get_or xs i d) ≡ None
@@ -41,15 +41,21 @@ none_at f [] i d e l = absurd (omega arith)
 none_at f (x ∷ xs) zero d e l = (both (f x) (first (map f xs)) e).0
 none_at f (x ∷ xs) (suc i) d e l = none_at f xs i d (both (f x) (first (map f xs)) e).1 (omega arith)
 
--- a header that isn't cut lies in the file
-pub uncut : (file : List ℕ) (i : ℕ) → cut_header file i ≡ None → header_place file i + 56 ≤ length file
-uncut file i e =
+-- what isn't cut lies in the file
+uncut : (file : List ℕ) (place size : ℕ) → cut_at file place size ≡ None → place + size ≤ length file
+uncut file place size e =
     ⊎_elim
-    (λ past. absurd (none-some (Cut (min (header_place file i) (2 ^ 64 - 1))) (sym e ∙ cond-true (nat_lt (length file) (header_place file i + 56)) _ _ (lt-ltb (length file) (header_place file i + 56) past))))
+    (λ past. absurd (none-some (Cut (min place (2 ^ 64 - 1))) (sym e ∙ cond-true (nat_lt (length file) (place + size)) _ _ (lt-ltb (length file) (place + size) past))))
     (λ le. le)
-    (cases_lt (length file) (header_place file i + 56))
+    (cases_lt (length file) (place + size))
+
+none_of : (f : ℕ → Option ElfFault) (n i : ℕ) → first (map f (range_with_len 0 n)) ≡ None → i < n → f i ≡ None
+none_of f n i e l =
+    let at : get_or (range_with_len 0 n) i 0 ≡ i = get_or-range_with_len 0 n i 0 l ∙ zero-add i in
+    (λ j. f (sym at j)) ∙ none_at f (range_with_len 0 n) i 0 e (omega (arith, length-range_with_len 0 n))
 
 pub whole_at : (file : List ℕ) (n i : ℕ) → first (map (cut_header file) (range_with_len 0 n)) ≡ None → i < n → header_place file i + 56 ≤ length file
-whole_at file n i e l =
-    let at : get_or (range_with_len 0 n) i 0 ≡ i = get_or-range_with_len 0 n i 0 l ∙ zero-add i in
-    uncut file i ((λ j. cut_header file (sym at j)) ∙ none_at (cut_header file) (range_with_len 0 n) i 0 e (omega (arith, length-range_with_len 0 n)))
+whole_at file n i e l = uncut file (header_place file i) 56 (none_of (cut_header file) n i e l)
+
+pub section_whole_at : (file : List ℕ) (n i : ℕ) → first (map (cut_section file) (range_with_len 0 n)) ≡ None → i < n → section_place file i + 64 ≤ length file
+section_whole_at file n i e l = uncut file (section_place file i) 64 (none_of (cut_section file) n i e l)

@@ -1,11 +1,13 @@
 -- Why a file is not read: of these conditions, in this order, the first that holds.
-use Rattle.std.specs.Prelude.{◌≡◌, ℕ, ◌+◌, ◌-◌, ◌^◌, ◌==◌, nat_eq, nat_lt, min, max, Bool, ◌&&◌, ◌||◌, not, if◌then◌else◌, Option, Some, None, List, [], ◌∷◌, ◌++◌, map, length, slice_index}
+use Rattle.std.specs.Prelude.{◌≡◌, ℕ, ◌+◌, ◌-◌, ◌^◌, ◌==◌, nat_eq, nat_lt, nat_le, min, max, Bool, ◌&&◌, ◌||◌, not, if◌then◌else◌, Option, Some, None, List, [], ◌∷◌, ◌++◌, map, length, slice_index}
 use Rattle.std.specs.Option.{option_or}
-use Rattle.std.specs.List.{range_with_len, sum_by, starts_with}
+use Rattle.std.specs.List.{list_any, range_with_len, sum_by, starts_with}
 use Rattle.elf_image.specs.declared.fault.ElfFault.{ElfFault}
-use Rattle.elf_image.specs.declared.fault.ElfFault.TheVariants.{NotElf, Class, Order, Kind, Machine, Cut, Overlap, Wraps, TooMany, Entry, Sizes, TooBig}
+use Rattle.elf_image.specs.declared.fault.ElfFault.TheVariants.{NotElf, Class, Order, Kind, Machine, Cut, Overlap, Wraps, TooMany, Symbols, Entry, Sizes, TooBig}
 use Rattle.elf_image.specs.declared.header.ProgramHeader.{ProgramHeader}
-use Rattle.elf_image.specs.Header.{file_type, machine, entry_size, header_count, header_place, loads}
+use Rattle.elf_image.specs.declared.section.SectionHeader.{SectionHeader}
+use Rattle.elf_image.specs.Header.{file_type, machine, entry_size, header_count, header_place, loads, section_at, section_count, section_entry_size, section_place, symbol_table}
+use Rattle.elf_image.specs.Symbol.{functions, is_ended, strings_of}
 
 -- the fault where the condition holds
 abbrev pub when : Bool → ElfFault → Option ElfFault
@@ -16,9 +18,13 @@ abbrev pub first : List (Option ElfFault) → Option ElfFault
 first [] = None
 first (fault ∷ faults) = option_or fault (first faults)
 
--- the header doesn't lie in the file; a place past 2 ^ 64 - 1 is told as 2 ^ 64 - 1
+-- what takes `size` bytes from a place on doesn't lie in the file; a place past 2 ^ 64 - 1 is told as 2 ^ 64 - 1
+abbrev pub cut_at : List ℕ → ℕ → ℕ → Option ElfFault
+cut_at file place size = when (nat_lt (length file) (place + size)) (Cut (min place (2 ^ 64 - 1)))
+
+-- the program header doesn't lie in the file
 abbrev pub cut_header : List ℕ → ℕ → Option ElfFault
-cut_header file i = when (nat_lt (length file) (header_place file i + 56)) (Cut (min (header_place file i) (2 ^ 64 - 1)))
+cut_header file i = cut_at file (header_place file i) 56
 
 -- the sizes, the place in the file and the addresses of a PT_LOAD
 abbrev pub load_fault : List ℕ → ProgramHeader → Option ElfFault
@@ -53,19 +59,56 @@ header_faults file =
 abbrev pub total_size : List ProgramHeader → ℕ
 total_size hs = sum_by (λ h. h.memory_size) hs
 
+-- what the PT_LOADs show
+abbrev pub loads_faults : List ℕ → List ProgramHeader → List (Option ElfFault)
+loads_faults file hs =
+    when (nat_lt 64 (length hs)) (TooMany (length hs))
+    ∷ first (map (load_fault file) hs)
+    ∷ when (nat_lt 1073741824 (total_size hs)) (TooBig (total_size hs))
+    ∷ first_overlap hs
+    ∷ []
+
 -- what the program headers show
 abbrev pub table_faults : List ℕ → List (Option ElfFault)
 table_faults file =
     first (map (cut_header file) (range_with_len 0 (header_count file)))
-    ∷ when (nat_lt 64 (length (loads file))) (TooMany (length (loads file)))
-    ∷ first (map (load_fault file) (loads file))
-    ∷ when (nat_lt 1073741824 (total_size (loads file))) (TooBig (total_size (loads file)))
-    ∷ first_overlap (loads file)
+    ∷ first (loads_faults file (loads file))
+    ∷ []
+
+-- the section header doesn't lie in the file
+abbrev pub cut_section : List ℕ → ℕ → Option ElfFault
+cut_section file i = cut_at file (section_place file i) 64
+
+-- the section's bytes don't lie in the file
+abbrev pub cut_bytes : List ℕ → SectionHeader → Option ElfFault
+cut_bytes file s = when (nat_lt (length file) (s.offset + s.size)) (Cut s.offset)
+
+-- what a symbol table shows, and the string table that it links to
+abbrev pub symbol_faults : List ℕ → SectionHeader → List (Option ElfFault)
+symbol_faults file table =
+    when (not (table.entry_size == 24)) (Entry table.entry_size)
+    ∷ cut_bytes file table
+    ∷ when (nat_le (section_count file) table.link) Symbols
+    ∷ cut_bytes file (section_at file table.link)
+    ∷ when (list_any (λ e. not (is_ended (strings_of file table) e.name)) (functions file table)) Symbols
+    ∷ []
+
+-- the first of these, if there is a symbol table
+abbrev pub symbol_fault : List ℕ → Option SectionHeader → Option ElfFault
+symbol_fault file None = None
+symbol_fault file (Some table) = first (symbol_faults file table)
+
+-- what the section headers show
+abbrev pub section_faults : List ℕ → List (Option ElfFault)
+section_faults file =
+    when (not (section_count file == 0) && not (section_entry_size file == 64)) (Entry (section_entry_size file))
+    ∷ first (map (cut_section file) (range_with_len 0 (section_count file)))
+    ∷ symbol_fault file (symbol_table file)
     ∷ []
 
 -- the fault of a file, or none
 unfoldable pub fault_of : List ℕ → Option ElfFault
-fault_of file = first (header_faults file ++ table_faults file)
+fault_of file = first (header_faults file ++ table_faults file ++ section_faults file)
 
 -- the file has no fault
 abbrev pub IsReadable : List ℕ → Type 0

@@ -1,9 +1,10 @@
--- What a file puts into memory.
+-- What a file puts into memory, and what is named in it.
 use Rattle.std.specs.Prelude.{ℕ, ◌+◌, ◌-◌, ◌%◌, ◌^◌, ◌≤◌, ◌==◌, nat_lt, ◌&&◌, if◌then◌else◌, Option, Some, None, List, [], ◌∷◌, ◌++◌, All, AllPairs, filter, min, max, map, length, take, drop, replicate}
 use Rattle.rv_words.specs.Bytes.{Bytes, load, inside, bytes_from, over}
 use Rattle.elf_image.specs.declared.header.ProgramHeader.{ProgramHeader}
 use Rattle.elf_image.specs.declared.image.Piece.{Piece}
 use Rattle.elf_image.specs.Header.{loads}
+use Rattle.elf_image.specs.Symbol.{Symbol, symbols_of}
 
 -- what a PT_LOAD puts into memory
 abbrev pub piece_of : List ℕ → ProgramHeader → Piece
@@ -31,9 +32,14 @@ pieces_at a ps = filter (λ p. p.at == a) ps
 abbrev pub pieces_of : List ℕ → List Piece
 pieces_of file = map (piece_of file) (loads file)
 
--- the pieces of a file
-unfoldable pub image_of : List ℕ → List Piece
-image_of file = rising (pieces_of file)
+-- pieces in memory, and function symbols
+pub record ImageOf : Type 0 where
+  pub pieces : List Piece
+  pub symbols : List Symbol
+
+-- the image of a file
+unfoldable pub image_of : List ℕ → ImageOf
+image_of file = record { pieces = rising (pieces_of file); symbols = symbols_of file }
 
 -- the piece's bytes from the file lie in it, and it ends at most at 2 ^ 64
 abbrev pub IsPlaced : Piece → Type 0
@@ -72,4 +78,4 @@ word_in code a = if nat_lt (a + 3) (2 ^ 64) && inside 4 code a then Some (load 4
 
 -- the code bytes of a file
 abbrev pub code_of_file : List ℕ → Bytes
-code_of_file file = code_in (image_of file)
+code_of_file file = code_in (image_of file).pieces

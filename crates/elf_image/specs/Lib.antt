@@ -1,4 +1,5 @@
 pub mod Header
+pub mod Symbol
 pub mod Fault
 pub mod Image
 pub mod Word

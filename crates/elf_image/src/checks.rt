@@ -2,11 +2,17 @@
 
 ghost use Rattle.std.specs.Prelude.{◌≡◌, ◌+◌, ◌*◌, ◌^◌, ◌<◌, ◌≤◌, None, length, map};
 ghost use Rattle.std.specs.List.{range_with_len};
-ghost use Rattle.elf_image.specs.Fault.{cut_header, first, first_overlap, header_faults, load_fault, overlaps, total_size};
+ghost use Rattle.elf_image.specs.Fault.{cut_at, cut_header, first, first_overlap, header_faults, load_fault, loads_faults, overlaps, total_size};
 ghost use Rattle.elf_image.specs.Header.{header_count};
 
 use crate::fault::ElfFault;
 use crate::header::{ProgramHeader, double_at, half_at};
+
+/// How many PT_LOADs a file that is read has at most.
+const MOST_LOADS: usize = 64;
+
+/// How many bytes of memory the PT_LOADs of a file that is read take at most.
+const MOST_MEMORY: u128 = 1_073_741_824;
 
 /// The first fault that the header shows.
 pub fn header_fault(file: &[u8]) -> Option<ElfFault>
@@ -39,21 +45,28 @@ pub fn header_fault(file: &[u8]) -> Option<ElfFault>
     None
 }
 
-/// The fault of the first program header that doesn't lie in the file.
-pub fn table_fault(file: &[u8]) -> Option<ElfFault>
-    requires { 64 ≤ length file.now }
-    ensures { result ≡ first (map (cut_header file.now) (range_with_len 0 (header_count file.now))) }
+/// The fault of the first of the headers of a table that doesn't lie in the file. Each takes `size` bytes.
+pub fn first_cut(file: &[u8], table: u64, size: u64, count: u64) -> Option<ElfFault>
+    requires some { 0 < size }
+    requires long { size ≤ length file.now }
+    ensures { result ≡ first (map (λ i. cut_at file.now (table + size * i) size) (range_with_len 0 count)) }
 {
-    let table = double_at(file, 32);
-    let last = file.len() as u64 - 56;
-    let count = u64::from(half_at(file, 56));
+    let last = file.len() as u64 - size;
     for i in 0..count {
-        let place = table.saturating_add(56 * i);
+        let place = table.saturating_add(size.saturating_mul(i));
         if place > last {
             return Some(ElfFault::Cut(place));
         }
     }
     None
+}
+
+/// The fault of the first program header that doesn't lie in the file.
+pub fn table_fault(file: &[u8]) -> Option<ElfFault>
+    requires { 64 ≤ length file.now }
+    ensures { result ≡ first (map (cut_header file.now) (range_with_len 0 (header_count file.now))) }
+{
+    first_cut(file, double_at(file, 32), 56, u64::from(half_at(file, 56)))
 }
 
 /// The fault of one PT_LOAD by itself.
@@ -74,7 +87,7 @@ fn fault_of_load(file: &[u8], header: ProgramHeader) -> Option<ElfFault>
 }
 
 /// The fault of the first PT_LOAD that has one by itself.
-pub fn fault_of_loads(file: &[u8], loads: &[ProgramHeader]) -> Option<ElfFault>
+fn fault_of_loads(file: &[u8], loads: &[ProgramHeader]) -> Option<ElfFault>
     ensures { result ≡ first (map (load_fault file.now) loads.now) }
 {
     for header in loads {
@@ -86,7 +99,7 @@ pub fn fault_of_loads(file: &[u8], loads: &[ProgramHeader]) -> Option<ElfFault>
 }
 
 /// The memory that PT_LOADs take together.
-pub fn total(loads: &[ProgramHeader]) -> u128
+fn total(loads: &[ProgramHeader]) -> u128
     requires { length loads.now ≤ 64 }
     ensures { result ≡ total_size loads.now }
 {
@@ -129,7 +142,7 @@ fn overlap_with(a: &ProgramHeader, others: &[ProgramHeader]) -> Option<ElfFault>
 }
 
 /// The fault of the first two PT_LOADs that share an address.
-pub fn first_shared(loads: &[ProgramHeader]) -> Option<ElfFault>
+fn first_shared(loads: &[ProgramHeader]) -> Option<ElfFault>
     ensures { result ≡ first_overlap loads.now }
 {
     for i in 0..loads.len() {
@@ -138,4 +151,21 @@ pub fn first_shared(loads: &[ProgramHeader]) -> Option<ElfFault>
         }
     }
     None
+}
+
+/// The fault of the PT_LOADs.
+pub fn loads_fault(file: &[u8], loads: &[ProgramHeader]) -> Option<ElfFault>
+    ensures { result ≡ first (loads_faults file.now loads.now) }
+{
+    if loads.len() > MOST_LOADS {
+        return Some(ElfFault::TooMany(loads.len() as u64));
+    }
+    if let Some(fault) = fault_of_loads(file, loads) {
+        return Some(fault);
+    }
+    let total = total(loads);
+    if total > MOST_MEMORY {
+        return Some(ElfFault::TooBig(total));
+    }
+    first_shared(loads)
 }

@@ -37,7 +37,10 @@ pub enum ElfFault {
     /// The number of PT_LOADs.
     #[error("too-many {0}")]
     TooMany(u64),
-    /// The size of a program header that the file gives.
+    /// The symbol table links to no section, or the name of a function begins or ends nowhere in its string table.
+    #[error("symbols")]
+    Symbols,
+    /// The size of a program header, a section header or a symbol that the file gives.
     #[error("entry {0}")]
     Entry(u64),
     /// The index of a PT_LOAD with more bytes in the file than in memory.

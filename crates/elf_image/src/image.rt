@@ -5,6 +5,7 @@ ghost use Rattle.rv_words.specs.Bytes.{bytes_from};
 ghost use Rattle.elf_image.specs.Image.{ArePlaced, IsApart, IsPlaced, bytes_in, code_in, code_of, padded, word_in};
 ghost use Rattle.elf_image.specs.Word.{word_of};
 
+use crate::symbol::{NameFault, Symbols};
 use byteorder::{ByteOrder, LittleEndian};
 use rv_words::{Bytes, List};
 use std::marker::Model;
@@ -78,39 +79,42 @@ fn code_of_pieces(pieces: &[Piece], a: u64) -> Option<u8>
     None
 }
 
-/// What a file puts into memory: pieces in rising order of address, those of one address in table order.
+/// What a file puts into memory: pieces in rising order of address, those of one address in table order. Beside them, the
+/// file's functions by name.
 #[derive(Debug, Drop)]
 pub struct Image {
     pieces: List<Piece>,
+    symbols: Symbols,
 }
 
 impl Model for Image {
-    ghost use Rattle.std.specs.Prelude.{List as Pieces};
-    ghost use Rattle.elf_image.specs.declared.image.Piece.{Piece};
+    ghost use Rattle.elf_image.specs.Image.{ArePlaced, ImageOf};
 
-    ghost Value = { Pieces Piece };
+    ghost Value = { ImageOf };
 
-    ghost use Rattle.elf_image.specs.Image.{ArePlaced};
-
-    ghost view = { λ i. i.pieces };
+    ghost view = { λ i. record { pieces = i.pieces; symbols = i.symbols } };
 
     ghost invariant = { λ i. ArePlaced i.pieces };
 }
 
 impl Image {
-    /// An image of these pieces.
-    pub(crate) fn of(pieces: Vec<Piece>) -> Image
+    ghost use Rattle.elf_image.specs.Symbol.{value_of_name};
+
+    /// An image of these pieces and symbols.
+    pub(crate) fn of(pieces: Vec<Piece>, symbols: Symbols) -> Image
         requires { ArePlaced pieces.items }
-        ensures { result ≡ pieces.items }
+        ensures pieces { result.pieces ≡ pieces.items }
+        ensures symbols { result.symbols ≡ symbols }
     {
         Image {
             pieces: List::from_vec(pieces),
+            symbols,
         }
     }
 
     /// The pieces, in rising order of address.
     pub fn pieces(&self) -> &[Piece]
-        ensures pieces { result.now ≡ self.now }
+        ensures pieces { result.now ≡ self.now.pieces }
         ensures placed { All IsPlaced result.now }
         ensures apart { AllPairs IsApart result.now }
     {
@@ -119,22 +123,22 @@ impl Image {
 
     /// The file's byte at an address in a piece that may be executed. Zeros after the file's bytes are no code.
     pub fn code_byte(&self, a: u64) -> Option<u8>
-        ensures code { result ≡ code_in self.now a }
-        ensures byte { IfSome result (λ b. bytes_in self.now a ≡ Some b) }
+        ensures code { result ≡ code_in self.now.pieces a }
+        ensures byte { IfSome result (λ b. bytes_in self.now.pieces a ≡ Some b) }
     {
         code_of_pieces(self.pieces.as_slice(), a)
     }
 
     /// The byte at an address of any piece, zeros included.
     pub fn byte_at(&self, a: u64) -> Option<u8>
-        ensures { result ≡ bytes_in self.now a }
+        ensures { result ≡ bytes_in self.now.pieces a }
     {
         byte_of_pieces(self.pieces.as_slice(), a)
     }
 
     /// The word of the four code bytes from an address on, the low byte first.
     pub fn word_at(&self, a: u64) -> Option<u32>
-        ensures { result ≡ word_in (code_in self.now) a }
+        ensures { result ≡ word_in (code_in self.now.pieces) a }
     {
         if a > u64::MAX - 3 {
             return None;
@@ -145,6 +149,14 @@ impl Image {
             self.code_byte(a + 2),
             self.code_byte(a + 3),
         )
+    }
+
+    /// The value of the symbols of a name: of those of type STT_FUNC in a section. A name may have any bytes, and ends before
+    /// the first zero byte in the file.
+    pub fn symbol(&self, name: &[u8]) -> Result<u64, NameFault>
+        ensures { result ≡ value_of_name name.now self.now.symbols }
+    {
+        self.symbols.find(name)
     }
 }
 

@@ -6,10 +6,14 @@ mod fault;
 mod header;
 mod image;
 mod reader;
+mod section;
+mod section_checks;
+mod symbol;
 
 pub use fault::ElfFault;
 pub use image::{Image, Piece};
 pub use reader::read;
+pub use symbol::NameFault;
 
 #[cfg(test)]
 mod tests;

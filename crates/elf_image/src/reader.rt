@@ -2,22 +2,20 @@
 
 ghost use Rattle.std.specs.Prelude.{◌≡◌, ◌≢◌, ℕ, ◌+◌, ◌≤◌, None, Some, IfOk, IfErr, OnOk, length, map, nat_lt};
 ghost use Rattle.std.specs.List.{prefix_len, range_with_len};
-ghost use Rattle.elf_image.specs.Fault.{IsReadable, cut_header, fault_of, first, first_overlap, load_fault};
+ghost use Rattle.elf_image.specs.Fault.{IsReadable, cut_header, fault_of, first, first_overlap, load_fault, section_faults};
 ghost use Rattle.elf_image.specs.Header.{header_count, loads};
 ghost use Rattle.elf_image.specs.Image.{ArePlaced, IsPlaced, IsRising, before, image_of, piece_of, pieces_at, pieces_of, rising};
+ghost use Rattle.elf_image.specs.Symbol.{functions, symbols_of};
 
-use crate::checks::{fault_of_loads, first_shared, header_fault, table_fault, total};
+use crate::checks::{header_fault, loads_fault, table_fault};
 use crate::fault::ElfFault;
 use crate::header::{ProgramHeader, half_at, read_header};
 use crate::image::{Image, Piece};
-use rv_words::{Bytes, NoMemory};
+use crate::section::{SectionHeader, SymbolEntry, find_symbol_table, read_entry, read_section};
+use crate::section_checks::section_fault;
+use crate::symbol::Symbols;
+use rv_words::{Bytes, List, NoMemory};
 use std::alloc::Global;
-
-/// How many PT_LOADs a file that is read has at most.
-const MOST_LOADS: usize = 64;
-
-/// How many bytes of memory the PT_LOADs of a file that is read take at most.
-const MOST_MEMORY: u128 = 1_073_741_824;
 
 /// The program headers of type PT_LOAD, in table order.
 fn read_loads(alloc: Global, file: &[u8]) -> Result<Vec<ProgramHeader>, NoMemory>
@@ -90,12 +88,48 @@ fn read_pieces(
     Ok(pieces)
 }
 
-/// What a file puts into memory, or why it is not read.
+/// The functions of a symbol table, in table order.
+fn read_functions(
+    alloc: Global,
+    file: &[u8],
+    table: &SectionHeader,
+) -> Result<List<SymbolEntry>, NoMemory>
+    requires { table.now.offset + table.now.size ≤ length file.now }
+    ensures { IfOk result (λ list. list ≡ functions file.now table.now) }
+{
+    let count = table.size / 24;
+    let mut entries = Vec::with_capacity(alloc, count as usize)?;
+    for i in 0..count {
+        let entry = read_entry(file, table, i);
+        if entry.is_function() {
+            entries.push(entry)?;
+        }
+    }
+    Ok(List::from_vec(entries))
+}
+
+/// The function symbols of a file.
+fn read_symbols(alloc: Global, file: &[u8]) -> Result<Symbols, NoMemory>
+    requires long { 64 ≤ length file.now }
+    requires faultless { first (section_faults file.now) ≡ None }
+    ensures { IfOk result (λ symbols. symbols ≡ symbols_of file.now) }
+{
+    let Some(table) = find_symbol_table(file) else {
+        return Ok(Symbols::of(List::new(alloc), List::new(alloc)));
+    };
+    let strings = read_section(file, u64::from(table.link));
+    let start = strings.offset as usize;
+    let strings = Bytes::from_slice(alloc, &file[start..start + strings.size as usize])?;
+    let functions = read_functions(alloc, file, &table)?;
+    Ok(Symbols::of(strings, functions))
+}
+
+/// What a file puts into memory and its function symbols, or why it is not read.
 pub fn read(alloc: Global, file: &[u8]) -> Result<Image, ElfFault>
     ensures readable { OnOk result (IsReadable file.now) }
     ensures image { IfOk result (λ image. image ≡ image_of file.now) }
-    ensures rising { IfOk result IsRising }
-    ensures table_order { IfOk result (λ image. (a : ℕ) → pieces_at a image ≡ pieces_at a (pieces_of file.now)) }
+    ensures rising { IfOk result (λ image. IsRising image.pieces) }
+    ensures table_order { IfOk result (λ image. (a : ℕ) → pieces_at a image.pieces ≡ pieces_at a (pieces_of file.now)) }
     ensures fault { IfErr result (λ fault. fault ≢ ElfFault.NoMemory → fault_of file.now ≡ Some fault) }
 {
     if let Some(fault) = header_fault(file) {
@@ -105,19 +139,13 @@ pub fn read(alloc: Global, file: &[u8]) -> Result<Image, ElfFault>
         return Err(fault);
     }
     let headers = read_loads(alloc, file)?;
-    if headers.len() > MOST_LOADS {
-        return Err(ElfFault::TooMany(headers.len() as u64));
-    }
-    if let Some(fault) = fault_of_loads(file, &headers) {
+    if let Some(fault) = loads_fault(file, &headers) {
         return Err(fault);
     }
-    let total = total(&headers);
-    if total > MOST_MEMORY {
-        return Err(ElfFault::TooBig(total));
-    }
-    if let Some(fault) = first_shared(&headers) {
+    if let Some(fault) = section_fault(file) {
         return Err(fault);
     }
     let pieces = read_pieces(alloc, file, &headers)?;
-    Ok(Image::of(pieces))
+    let symbols = read_symbols(alloc, file)?;
+    Ok(Image::of(pieces, symbols))
 }

@@ -220,3 +220,140 @@ fn too_many_segments_are_refused(rt: HostRuntime) -> Result<(), Fail> {
     );
     Ok(())
 }
+
+/// An entry of a symbol table: its name's place, its info, its section and its value.
+type Entry = [u64; 4];
+
+/// A program with no segments, with these symbols from place 64 on, then these strings, and then three section headers:
+/// none, the symbol table, and its string table.
+fn with_symbols(alloc: Global, entries: &[Entry], strings: &[u8]) -> Result<Vec<u8>, AllocError> {
+    let mut file = program(alloc, &[], b"")?;
+    for [name, info, section, value] in entries {
+        let fields = [
+            (4, *name),
+            (1, *info),
+            (1, 0),
+            (2, *section),
+            (8, *value),
+            (8, 0),
+        ];
+        push_numbers(&mut file, &fields)?;
+    }
+    let start = file.len() as u64;
+    file.extend_from_slice(strings)?;
+    let table = file.len() as u64;
+    for [kind, offset, size, link, entry_size] in [
+        [0, 0, 0, 0, 0],
+        [2, 64, start.saturating_sub(64), 2, 24],
+        [3, start, strings.len() as u64, 0, 0],
+    ] {
+        let fields = [
+            (4, 0),
+            (4, kind),
+            (8, 0),
+            (8, 0),
+            (8, offset),
+            (8, size),
+            (4, link),
+            (4, 0),
+            (8, 0),
+            (8, entry_size),
+        ];
+        push_numbers(&mut file, &fields)?;
+    }
+    put_number(&mut file, 40, 8, table);
+    put_number(&mut file, 58, 2, 64);
+    put_number(&mut file, 60, 2, 3);
+    Ok(file)
+}
+
+/// Functions of one name that are local, global and weak; an object, a function in no section, one of no name, one whose
+/// name is the end of another, and one whose name is no text.
+const ENTRIES: [Entry; 10] = [
+    [0, 0x00, 0, 0],
+    [1, 0x12, 1, 0x10000],
+    [1, 0x02, 1, 0x10000],
+    [3, 0x12, 1, 0x10020],
+    [3, 0x22, 1, 0x10004],
+    [3, 0x02, 1, 0x10010],
+    [5, 0x11, 2, 0x30000],
+    [7, 0x12, 0, 0x10040],
+    [0, 0x12, 0xfff1, 7],
+    [8, 0x12, 1, 0xffff_ffff_ffff_ffff],
+];
+
+/// The names of `ENTRIES`.
+const NAMES: &[u8] = b"\0f\0g\0o\0a\xff(\0end";
+
+#[test]
+fn symbols_are_found(rt: HostRuntime) -> Result<(), Fail> {
+    let file = with_symbols(rt.alloc(), &ENTRIES, NAMES)?;
+    let image = read(rt.alloc(), &file)?;
+    for (name, value) in [
+        (&b"f"[..], Ok(0x10000)),
+        (&b"g"[..], Err(NameFault::Ambiguous(0x10004, 0x10010))),
+        (&b"o"[..], Err(NameFault::NoSuch)),
+        (&b"a\xff("[..], Err(NameFault::NoSuch)),
+        (&b""[..], Ok(7)),
+        (&b"\xff("[..], Ok(0xffff_ffff_ffff_ffff)),
+        (&b"f\0"[..], Err(NameFault::NoSuch)),
+        (&b"f\0g"[..], Err(NameFault::NoSuch)),
+        (&b"("[..], Err(NameFault::NoSuch)),
+        (&b"end"[..], Err(NameFault::NoSuch)),
+    ] {
+        assert_eq!(rt; image.symbol(name), value, "{name:?}");
+    }
+    Ok(())
+}
+
+/// The fault's words of a file after numbers are written over it, each by its place, its count of bytes and itself.
+fn words_after(alloc: Global, edits: &[(usize, usize, u64)]) -> Result<String, AllocError> {
+    let mut file = with_symbols(alloc, &[[1, 0x11, 1, 8], [1, 0x12, 1, 9]], b"\0f\0end")?;
+    for &(place, size, number) in edits {
+        put_number(&mut file, place, size, number);
+    }
+    words(alloc, &file)
+}
+
+// The symbols stand at 64 and 88, the strings at 112, and the section headers at 118, 182 and 246.
+#[test]
+fn damaged_sections_are_refused(rt: HostRuntime) -> Result<(), Fail> {
+    for (edits, fault) in [
+        (&[][..], ""),
+        (&[(58, 2, 40), (40, 8, 200)][..], "entry 40"),
+        (&[(58, 2, 40), (40, 8, 0)][..], ""),
+        (&[(58, 2, 40), (60, 2, 0)][..], ""),
+        (&[(40, 8, 119)][..], "cut 247"),
+        (
+            &[(40, 8, 0xffff_ffff_ffff_ffff)][..],
+            "cut 18446744073709551615",
+        ),
+        (&[(60, 2, 5), (238, 8, 25)][..], "cut 310"),
+        (&[(238, 8, 25), (206, 8, 400)][..], "entry 25"),
+        (
+            &[(238, 8, 0xffff_ffff_ffff_ffff)][..],
+            "entry 18446744073709551615",
+        ),
+        (&[(186, 4, 3), (238, 8, 25)][..], ""),
+        (&[(206, 8, 400), (222, 4, 3)][..], "cut 400"),
+        (&[(214, 8, 0xffff_ffff_ffff_ffff)][..], "cut 64"),
+        (&[(222, 4, 3), (270, 8, 400)][..], "symbols"),
+        (&[(270, 8, 400), (88, 4, 3)][..], "cut 400"),
+        (&[(222, 4, 0)][..], "symbols"),
+        (&[(222, 4, 0), (214, 8, 47)][..], ""),
+        (&[(88, 4, 3)][..], "symbols"),
+        (&[(88, 4, 6)][..], "symbols"),
+        (&[(88, 4, 0xffff_ffff)][..], "symbols"),
+        (&[(88, 4, 3), (94, 2, 0)][..], ""),
+        (&[(278, 8, 2)][..], "symbols"),
+        (&[(278, 8, 3)][..], ""),
+        (&[(64, 4, 3)][..], ""),
+    ] {
+        assert_eq!(rt;
+            words_after(rt.alloc(), edits)?.as_str(),
+            fault,
+            "{edits:?}"
+        );
+    }
+    Ok(())
+}

@@ -1,0 +1,97 @@
+//! The fields of the section headers and of the symbols.
+
+ghost use Rattle.std.specs.Prelude.{◌≡◌, ◌+◌, ◌*◌, ◌<◌, ◌≤◌, ◌/◌, None, length, map};
+ghost use Rattle.std.specs.List.{range_with_len};
+ghost use Rattle.elf_image.specs.Fault.{cut_section, first};
+ghost use Rattle.elf_image.specs.Header.{section_at, section_count, section_place, symbol_table};
+ghost use Rattle.elf_image.specs.Symbol.{entry_at};
+
+use crate::header::{double_at, half_at, word_at};
+
+/// What is read of a section header.
+#[derive(Clone, Copy, Debug)]
+pub struct SectionHeader {
+    pub kind: u32,
+    pub offset: u64,
+    pub size: u64,
+    pub link: u32,
+    pub entry_size: u64,
+}
+
+/// What is read of an entry of a symbol table. `name` is a place in the string table.
+#[derive(Clone, Copy, Debug)]
+pub struct SymbolEntry {
+    pub name: u32,
+    pub info: u8,
+    pub section: u16,
+    pub value: u64,
+}
+
+impl SymbolEntry {
+    ghost use Rattle.elf_image.specs.Symbol.{is_function};
+
+    /// Whether it is a function in a section.
+    pub fn is_function(&self) -> bool
+        ensures { result ≡ is_function self.now }
+    {
+        self.info % 16 == 2 && self.section != 0
+    }
+}
+
+/// How many section headers there are.
+pub fn count_sections(file: &[u8]) -> u64
+    requires { 64 ≤ length file.now }
+    ensures { result ≡ section_count file.now }
+{
+    if double_at(file, 40) == 0 {
+        return 0;
+    }
+    u64::from(half_at(file, 60))
+}
+
+/// Section header `index`.
+pub fn read_section(file: &[u8], index: u64) -> SectionHeader
+    requires long { 64 ≤ length file.now }
+    requires whole { section_place file.now index + 64 ≤ length file.now }
+    ensures { result ≡ section_at file.now index }
+{
+    let place = (double_at(file, 40) + 64 * index) as usize;
+    SectionHeader {
+        kind: word_at(file, place + 4),
+        offset: double_at(file, place + 24),
+        size: double_at(file, place + 32),
+        link: word_at(file, place + 40),
+        entry_size: double_at(file, place + 56),
+    }
+}
+
+/// The first section of type SHT_SYMTAB.
+pub fn find_symbol_table(file: &[u8]) -> Option<SectionHeader>
+    requires long { 64 ≤ length file.now }
+    requires whole { first (map (cut_section file.now) (range_with_len 0 (section_count file.now))) ≡ None }
+    ensures { result ≡ symbol_table file.now }
+{
+    let count = count_sections(file);
+    for i in 0..count {
+        let section = read_section(file, i);
+        if section.kind == 2 {
+            return Some(section);
+        }
+    }
+    None
+}
+
+/// Entry `index` of a symbol table.
+pub fn read_entry(file: &[u8], table: &SectionHeader, index: u64) -> SymbolEntry
+    requires inside { table.now.offset + table.now.size ≤ length file.now }
+    requires whole { index < table.now.size / 24 }
+    ensures { result ≡ entry_at file.now table.now index }
+{
+    let place = (table.offset + 24 * index) as usize;
+    SymbolEntry {
+        name: word_at(file, place),
+        info: file[place + 4],
+        section: half_at(file, place + 6),
+        value: double_at(file, place + 8),
+    }
+}
