@@ -1,12 +1,15 @@
 -- There is a next state exactly where there is no reason against it.
-use Rattle.std.proofs.Common.{◌≡◌, ℕ, Bool, true, false, cond, ◌↔◌, Option, Some, None, IsSome, refl}
+use Rattle.std.proofs.Common.{◌≡◌, ℕ, zero, suc, Bool, true, false, cond, ◌&&◌, ◌↔◌, ℤ, Option, Some, None, IsSome, is_some, option_map, refl}
 use Rattle.std.specs.Option.{option_and_then}
+use Rattle.rv_words.specs.Bytes.{Bytes, after, bytes_of, inside}
+use Rattle.rv_words.specs.Operation.{comparison_holds}
 use Rattle.rv_decode.specs.declared.instruction.Instr.{Instr}
-use Rattle.rv_decode.specs.declared.instruction.Instr.TheVariants.{Op, OpImm, Jalr}
+use Rattle.rv_decode.specs.declared.instruction.Instr.TheVariants.{Op, OpImm, Lui, Auipc, Jal, Jalr, Branch, Load, Store, Fence, Ecall, Ebreak}
 use Rattle.rv_decode.specs.Decodes.{decoded}
 use Rattle.rv_machine.specs.declared.state.Stuck.{Stuck}
+use Rattle.rv_machine.specs.declared.state.Stuck.TheVariants.{NoByte}
 use Rattle.rv_machine.specs.State.{State}
-use Rattle.rv_machine.specs.Step.{act, fetched, is_aligned, jump_target, reads, only_if, step, stuck, stuck_in, stuck_decoded, stuck_fetched}
+use Rattle.rv_machine.specs.Step.{act, branches, fetched, first_absent, is_aligned, jump_target, jumps_to, misaligned, next, only_if, plus, reads, step, stuck, stuck_branch, stuck_in, stuck_decoded, stuck_fetched, writes}
 
 -- either there is a state and no reason, or a reason and no state
 data OneOf : Option State → Option Stuck → Type 0 where
@@ -17,10 +20,35 @@ by_test : (b : Bool) (s : State) (why : Stuck) → OneOf (only_if b s) (cond b N
 by_test true s why = Next s
 by_test false s why = Reason why
 
+by_target : (target : ℕ) (s : State) → OneOf (jumps_to target s) (misaligned target)
+by_target target s = by_test (is_aligned target) _ _
+
+by_branch : (taken : Bool) (offset : ℤ) (s : State) → OneOf (branches taken offset s) (stuck_branch taken offset s)
+by_branch true offset s = by_target (plus s.pc offset) s
+by_branch false offset s = Next _
+
+by_bytes : (n : ℕ) (m : Bytes) (a : ℕ) (s : State) → OneOf (only_if (inside n m a) s) (option_map (λ q. NoByte q) (first_absent n m a))
+by_bytes zero m a s = Next s
+by_bytes (suc n) m a s = more (is_some (m a)) (inside n m (after a)) (first_absent n m (after a)) a s (by_bytes n m (after a) s)
+  where
+    more : (b c : Bool) (o : Option ℕ) (a : ℕ) (s : State) → OneOf (only_if c s) (option_map (λ q. NoByte q) o)
+        → OneOf (only_if (b && c) s) (option_map (λ q. NoByte q) (cond b o (Some a)))
+    more true c o a s h = h
+    more false c o a s h = Reason _
+
 in_act : (i : Instr) (s : State) → OneOf (act i s) (stuck_in i s)
 in_act (Op o rd rs1 rs2) s = Next _
 in_act (OpImm o rd rs1 imm) s = Next _
-in_act (Jalr rd rs1 imm) s = by_test (is_aligned (jump_target (reads rs1 s) imm)) _ _
+in_act (Lui rd imm) s = Next _
+in_act (Auipc rd imm) s = Next _
+in_act (Jal rd offset) s = by_target (plus s.pc offset) (writes rd (next s) s)
+in_act (Jalr rd rs1 imm) s = by_target (jump_target (reads rs1 s) imm) (writes rd (next s) s)
+in_act (Branch c rs1 rs2 offset) s = by_branch (comparison_holds c (reads rs1 s) (reads rs2 s)) offset s
+in_act (Load w signed rd rs1 imm) s = by_bytes (bytes_of w) s.mem (plus (reads rs1 s) imm) _
+in_act (Store w rs1 rs2 imm) s = by_bytes (bytes_of w) s.mem (plus (reads rs1 s) imm) _
+in_act (Fence imm rs1 rd) s = Next _
+in_act Ecall s = Reason _
+in_act Ebreak s = Reason _
 
 in_decoded : (w : ℕ) (o : Option Instr) (s : State) → OneOf (option_and_then (λ i. act i s) o) (stuck_decoded w o s)
 in_decoded w None s = Reason _
@@ -38,6 +66,10 @@ in_aligned false o s why = Reason why
 one_of : (x : Option State) (y : Option Stuck) → OneOf x y → (y ≡ None) ↔ IsSome x
 one_of _ _ (Next t) = (λ _. refl, λ _. refl)
 one_of _ _ (Reason why) = (λ e. absurd (cc), λ e. absurd (cc))
+
+-- an instruction can be carried out exactly where there is no reason against it
+pub stuck-act : (i : Instr) (s : State) → (stuck_in i s ≡ None) ↔ IsSome (act i s)
+stuck-act i s = one_of (act i s) (stuck_in i s) (in_act i s)
 
 pub stuck-step : (s : State) → (stuck s ≡ None) ↔ IsSome (step s)
 unfolding step stuck

@@ -1,12 +1,16 @@
--- One step of the machine: RISC-V Unprivileged ISA 20191213, sections 2.4, 2.5 and 5.2. Sums are modulo 2 ^ 64.
-use Rattle.std.specs.Prelude.{ℕ, ◌+◌, ◌-◌, ◌%◌, ◌^◌, ◌==◌, Bool, if◌then◌else◌, Option, Some, None, option_and_then, ℤ, bit_and}
-use Rattle.rv_words.specs.Bytes.{Bytes, load, inside}
-use Rattle.rv_words.specs.Operation.{operation_value, word_of}
+-- One step of the machine: RISC-V Unprivileged ISA 20191213, sections 2.4 to 2.8, 5.2, 5.3 and chapter 7.
+-- Sums are modulo 2 ^ 64. Loads and stores go byte by byte, the low byte first, wherever they begin.
+use Rattle.std.specs.Prelude.{ℕ, zero, suc, ◌+◌, ◌-◌, ◌*◌, ◌%◌, ◌^◌, ◌==◌, Bool, if◌then◌else◌, Option, Some, None, is_some, option_map, option_and_then, ℤ, bit_and}
+use Rattle.rv_words.specs.Bytes.{Bytes, after, bytes_of, load, inside, store}
+use Rattle.rv_words.specs.Operation.{operation_value, extension_value, comparison_holds, word_of}
+use Rattle.rv_words.specs.declared.width.Width.{Width}
+use Rattle.rv_words.specs.declared.width.Width.TheVariants.{B1, B2, B4, B8}
+use Rattle.rv_words.specs.declared.extension.Ext.TheVariants.{Sx1, Sx2, Sx4}
 use Rattle.rv_decode.specs.declared.instruction.Instr.{Instr}
-use Rattle.rv_decode.specs.declared.instruction.Instr.TheVariants.{Op, OpImm, Jalr}
+use Rattle.rv_decode.specs.declared.instruction.Instr.TheVariants.{Op, OpImm, Lui, Auipc, Jal, Jalr, Branch, Load, Store, Fence, Ecall, Ebreak}
 use Rattle.rv_decode.specs.Decodes.{decoded}
 use Rattle.rv_machine.specs.declared.state.Stuck.{Stuck}
-use Rattle.rv_machine.specs.declared.state.Stuck.TheVariants.{Misaligned, NoFetch, NotDecoded}
+use Rattle.rv_machine.specs.declared.state.Stuck.TheVariants.{Misaligned, NoFetch, NotDecoded, Environment, NoByte}
 use Rattle.rv_machine.specs.State.{State, with_register}
 
 -- ---- parts of a step
@@ -26,6 +30,10 @@ next s = (s.pc + 4) % 2 ^ 64
 abbrev pub goes_to : ℕ → State → State
 goes_to a s = record s { pc = a }
 
+-- on to the instruction after this one
+abbrev pub goes_on : State → State
+goes_on s = goes_to (next s) s
+
 -- the sum of a word and an immediate
 abbrev pub plus : ℕ → ℤ → ℕ
 plus x imm = (x + word_of imm) % 2 ^ 64
@@ -34,6 +42,10 @@ plus x imm = (x + word_of imm) % 2 ^ 64
 abbrev pub jump_target : ℕ → ℤ → ℕ
 jump_target x imm = bit_and (plus x imm) (2 ^ 64 - 2)
 
+-- 20 upper bits above 12 zeros, sign-extended
+abbrev pub upper : ℕ → ℕ
+upper imm = extension_value Sx4 (imm * 2 ^ 12)
+
 -- an address at which an instruction may stand
 abbrev pub is_aligned : ℕ → Bool
 is_aligned a = a % 4 == 0
@@ -41,13 +53,53 @@ is_aligned a = a % 4 == 0
 abbrev pub only_if : Bool → State → Option State
 only_if test s = if test then Some s else None
 
+-- a jump, which may only go to where an instruction may stand
+abbrev pub jumps_to : ℕ → State → Option State
+jumps_to target s = only_if (is_aligned target) (goes_to target s)
+
+-- a jump by an offset where the branch is taken, else on
+abbrev pub branches : Bool → ℤ → State → Option State
+branches taken offset s = if taken then jumps_to (plus s.pc offset) s else Some (goes_on s)
+
+-- the number of a width's bytes as a word, its sign extended
+abbrev pub sign_extended : Width → ℕ → ℕ
+sign_extended B1 x = extension_value Sx1 x
+sign_extended B2 x = extension_value Sx2 x
+sign_extended B4 x = extension_value Sx4 x
+sign_extended B8 x = x
+
+-- the word that a load from a gives
+abbrev pub loaded : Width → Bool → Bytes → ℕ → ℕ
+loaded w signed m a = let x = load (bytes_of w) m a in if signed then sign_extended w x else x
+
+-- all bytes of the width from a on are present
+abbrev pub has : Width → Bytes → ℕ → Bool
+has w m a = inside (bytes_of w) m a
+
+-- a load from a to a register
+abbrev pub loads_to : ℕ → Width → Bool → ℕ → State → Option State
+loads_to d w signed a s = only_if (has w s.mem a) (goes_on (writes d (loaded w signed s.mem a) s))
+
+-- the low bytes of x stored from a on
+abbrev pub stores_at : Width → ℕ → ℕ → State → Option State
+stores_at w a x s = only_if (has w s.mem a) (goes_on (record s { mem = store (bytes_of w) s.mem a x }))
+
 -- ---- instructions
 
 -- the state after an instruction, if it can be carried out
 abbrev pub act : Instr → State → Option State
-act (Op o rd rs1 rs2) s = Some (goes_to (next s) (writes rd (operation_value o (reads rs1 s) (reads rs2 s)) s))
-act (OpImm o rd rs1 imm) s = Some (goes_to (next s) (writes rd (operation_value o (reads rs1 s) (word_of imm)) s))
-act (Jalr rd rs1 imm) s = let target = jump_target (reads rs1 s) imm in only_if (is_aligned target) (goes_to target (writes rd (next s) s))
+act (Op o rd rs1 rs2) s = Some (goes_on (writes rd (operation_value o (reads rs1 s) (reads rs2 s)) s))
+act (OpImm o rd rs1 imm) s = Some (goes_on (writes rd (operation_value o (reads rs1 s) (word_of imm)) s))
+act (Lui rd imm) s = Some (goes_on (writes rd (upper imm) s))
+act (Auipc rd imm) s = Some (goes_on (writes rd ((s.pc + upper imm) % 2 ^ 64) s))
+act (Jal rd offset) s = jumps_to (plus s.pc offset) (writes rd (next s) s)
+act (Jalr rd rs1 imm) s = jumps_to (jump_target (reads rs1 s) imm) (writes rd (next s) s)
+act (Branch c rs1 rs2 offset) s = branches (comparison_holds c (reads rs1 s) (reads rs2 s)) offset s
+act (Load w signed rd rs1 imm) s = loads_to rd w signed (plus (reads rs1 s) imm) s
+act (Store w rs1 rs2 imm) s = stores_at w (plus (reads rs1 s) imm) (reads rs2 s) s
+act (Fence imm rs1 rd) s = Some (goes_on s)
+act Ecall s = None
+act Ebreak s = None
 
 -- the word that four bytes from a on make, if they are present
 abbrev pub word_at : Bytes → ℕ → Option ℕ
@@ -66,11 +118,37 @@ step s = option_and_then (λ i. act i s) (instruction_at s)
 
 -- ---- the first reason why there is no next state
 
+-- why there is no jump to that target
+abbrev pub misaligned : ℕ → Option Stuck
+misaligned target = if is_aligned target then None else Some (Misaligned target)
+
+-- why a branch can't be carried out
+abbrev pub stuck_branch : Bool → ℤ → State → Option Stuck
+stuck_branch taken offset s = if taken then misaligned (plus s.pc offset) else None
+
+-- the first absent one of n addresses from a on
+abbrev pub first_absent : ℕ → Bytes → ℕ → Option ℕ
+first_absent zero m a = None
+first_absent (suc n) m a = if is_some (m a) then first_absent n m (after a) else Some a
+
+-- why there is no load or store of the width from a on
+abbrev pub no_byte : Width → Bytes → ℕ → Option Stuck
+no_byte w m a = option_map (λ q. NoByte q) (first_absent (bytes_of w) m a)
+
 -- why an instruction can't be carried out
 abbrev pub stuck_in : Instr → State → Option Stuck
 stuck_in (Op o rd rs1 rs2) s = None
 stuck_in (OpImm o rd rs1 imm) s = None
-stuck_in (Jalr rd rs1 imm) s = let target = jump_target (reads rs1 s) imm in if is_aligned target then None else Some (Misaligned target)
+stuck_in (Lui rd imm) s = None
+stuck_in (Auipc rd imm) s = None
+stuck_in (Jal rd offset) s = misaligned (plus s.pc offset)
+stuck_in (Jalr rd rs1 imm) s = misaligned (jump_target (reads rs1 s) imm)
+stuck_in (Branch c rs1 rs2 offset) s = stuck_branch (comparison_holds c (reads rs1 s) (reads rs2 s)) offset s
+stuck_in (Load w signed rd rs1 imm) s = no_byte w s.mem (plus (reads rs1 s) imm)
+stuck_in (Store w rs1 rs2 imm) s = no_byte w s.mem (plus (reads rs1 s) imm)
+stuck_in (Fence imm rs1 rd) s = None
+stuck_in Ecall s = Some Environment
+stuck_in Ebreak s = Some Environment
 
 -- .. where the word at pc is that instruction or none
 abbrev pub stuck_decoded : ℕ → Option Instr → State → Option Stuck

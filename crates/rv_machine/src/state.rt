@@ -1,28 +1,33 @@
 //! The state of the machine and its step.
 
-ghost use Rattle.std.specs.Prelude.{◌≡◌, ◌≢◌, ◌+◌, ◌*◌, ◌^◌, ◌<◌, ◌≤◌, ◌↔◌, Some, None, IsSome, length, replicate, OnOk, OnErr, IfOk, IfErr};
-ghost use Rattle.std.specs.FinMap.{empty, get};
-ghost use Rattle.rv_words.specs.Bytes.{bytes_from, over};
-ghost use Rattle.rv_words.specs.Operation.{word_of};
+ghost use Rattle.std.specs.Prelude.{◌≡◌, ◌≢◌, ◌+◌, ◌*◌, ◌^◌, ◌<◌, ◌≤◌, ◌↔◌, Some, None, IsSome, IsTrue, length, replicate, OnOk, OnErr, IfOk, IfErr};
+ghost use Rattle.std.specs.FinMap.{empty};
+ghost use Rattle.rv_words.specs.Bytes.{bytes_from};
 ghost use Rattle.rv_decode.specs.Decodes.{NamesRegisters};
-ghost use Rattle.rv_machine.specs.State.{empty_state, register, state_of, with_bytes};
-ghost use Rattle.rv_machine.specs.Step.{act, instruction_at, jump_target, step as next_state, stuck, stuck_in, word_at, writes};
+ghost use Rattle.rv_machine.specs.State.{empty_state, state_of, with_bytes};
+ghost use Rattle.rv_machine.specs.Step.{act, branches, goes_on, has, instruction_at, jumps_to, loads_to, misaligned, next, no_byte, step as next_state, stores_at, stuck, stuck_branch, stuck_in, writes};
 
+use crate::access::{fetch, first_absent, load};
+use crate::address::{extended, jump_target, plus, upper};
 use crate::registers::Registers;
 use rv_decode::{Instr, decode};
-use rv_words::{ByteMap, NoMemory, apply};
+use rv_words::{ByteMap, NoMemory, Width, apply, compare};
 use std::alloc::Global;
 use std::marker::Model;
 
 /// Why there is no step, in the order of the tests.
 #[derive(Clone, Copy, Debug, PartialEq, Eq)]
 pub enum Stuck {
-    /// The program counter or the target of a jump isn't a multiple of 4.
+    /// The program counter, or the target of a jump or a taken branch, isn't a multiple of 4.
     Misaligned(u64),
     /// One of the four bytes at the program counter is absent.
     NoFetch,
     /// The word at the program counter is no instruction.
     NotDecoded(u32),
+    /// The instruction calls the environment.
+    Environment,
+    /// A byte that is to be loaded or stored is absent: the first one counting up from the address.
+    NoByte(u64),
 }
 
 /// A state of the machine. Memory has no permissions.
@@ -115,10 +120,11 @@ impl State {
 
     /// The instruction at the program counter.
     #[tactic(auto, unfolding(crate::specs::Step::stuck))]
-    fn instruction(&self) -> Result<Instr, Stuck>
+    pub(crate) fn instruction(&self) -> Result<Instr, Stuck>
         ensures ok { IfOk result (λ i. instruction_at (state_of self.now) ≡ Some i) }
         ensures registers { IfOk result NamesRegisters }
         ensures later { IfOk result (λ i. stuck (state_of self.now) ≡ stuck_in i (state_of self.now)) }
+        ensures none { OnErr result (instruction_at (state_of self.now) ≡ None) }
         ensures reason { IfErr result (λ why. stuck (state_of self.now) ≡ Some why) }
     {
         if self.pc % 4 != 0 {
@@ -140,62 +146,133 @@ impl State {
         ensures reason { IfErr result (λ why. stuck_in instruction (state_of self.old) ≡ Some why) }
         ensures err { OnErr result (self.new ≡ self.old) }
     {
-        let next = self.pc.wrapping_add(4);
         match instruction {
             Instr::Op { op, rd, rs1, rs2 } => {
-                let word = apply(op, self.registers.get(rs1), self.registers.get(rs2));
-                self.registers.set(rd, word);
-                self.pc = next;
+                self.finish(rd, apply(op, self.reg(rs1), self.reg(rs2)));
             }
             Instr::OpImm { op, rd, rs1, imm } => {
-                let word = apply(op, self.registers.get(rs1), extended(imm));
-                self.registers.set(rd, word);
-                self.pc = next;
+                self.finish(rd, apply(op, self.reg(rs1), extended(imm)));
             }
-            Instr::Jalr { rd, rs1, imm } => {
-                let target = target(self.registers.get(rs1), imm);
-                if target % 4 != 0 {
-                    return Err(Stuck::Misaligned(target));
-                }
-                self.registers.set(rd, next);
-                self.pc = target;
-            }
+            Instr::Lui { rd, imm } => self.finish(rd, upper(imm)),
+            Instr::Auipc { rd, imm } => self.finish(rd, self.pc.wrapping_add(upper(imm))),
+            Instr::Jal { rd, offset } => self.jump(rd, plus(self.pc, offset))?,
+            Instr::Jalr { rd, rs1, imm } => self.jump(rd, jump_target(self.reg(rs1), imm))?,
+            Instr::Branch {
+                cmp,
+                rs1,
+                rs2,
+                offset,
+            } => self.branch(compare(cmp, self.reg(rs1), self.reg(rs2)), offset)?,
+            Instr::Load {
+                width,
+                signed,
+                rd,
+                rs1,
+                imm,
+            } => self.load(width, signed, rd, plus(self.reg(rs1), imm))?,
+            Instr::Store {
+                width,
+                rs1,
+                rs2,
+                imm,
+            } => self.store(width, plus(self.reg(rs1), imm), self.reg(rs2))?,
+            Instr::Fence { .. } => self.go_on(),
+            Instr::Ecall | Instr::Ebreak => return Err(Stuck::Environment),
         }
         Ok(())
     }
-}
 
-/// The word that the four bytes from `a` on make, if they are present.
-fn fetch(memory: &ByteMap, a: u64) -> Option<u32>
-    ensures { result ≡ word_at (get memory.now) a }
-{
-    let byte1 = a.wrapping_add(1);
-    let byte2 = byte1.wrapping_add(1);
-    let byte3 = byte2.wrapping_add(1);
-    let low = memory.byte(a)?;
-    let second = memory.byte(byte1)?;
-    let third = memory.byte(byte2)?;
-    let high = memory.byte(byte3)?;
-    Some(join(low, second, third, high))
-}
+    /// On to the next instruction.
+    fn go_on(&mut self)
+        ensures { state_of self.new ≡ goes_on (state_of self.old) }
+    {
+        self.pc = self.pc.wrapping_add(4);
+    }
 
-/// The number that four bytes make, the low one first.
-fn join(low: u8, second: u8, third: u8, high: u8) -> u32
-    ensures { result ≡ low + 256 * (second + 256 * (third + 256 * (high + 256 * 0))) }
-{
-    u32::from(low) + 256 * (u32::from(second) + 256 * (u32::from(third) + 256 * u32::from(high)))
-}
+    /// Writes a register, and on to the next instruction.
+    fn finish(&mut self, rd: u8, word: u64)
+        requires { rd < 32 }
+        ensures { state_of self.new ≡ goes_on (writes rd word (state_of self.old)) }
+    {
+        self.registers.set(rd, word);
+        self.go_on();
+    }
 
-/// An immediate as a word.
-fn extended(imm: i32) -> u64
-    ensures { result ≡ word_of imm }
-{
-    i64::from(imm).cast_unsigned()
-}
+    /// To a target, if an instruction may stand there.
+    fn go_to(&mut self, target: u64) -> Result<(), Stuck>
+        ensures ok { OnOk result (jumps_to target (state_of self.old) ≡ Some (state_of self.new)) }
+        ensures reason { IfErr result (λ why. misaligned target ≡ Some why) }
+        ensures err { OnErr result (self.new ≡ self.old) }
+    {
+        if target % 4 != 0 {
+            return Err(Stuck::Misaligned(target));
+        }
+        self.pc = target;
+        Ok(())
+    }
 
-/// The target of a jump to a word plus an immediate.
-fn target(word: u64, imm: i32) -> u64
-    ensures { result ≡ jump_target word imm }
-{
-    word.wrapping_add(extended(imm)) & 0xffff_ffff_ffff_fffe
+    /// Jumps to a target, and writes the address after the jump to a register.
+    fn jump(&mut self, rd: u8, target: u64) -> Result<(), Stuck>
+        requires { rd < 32 }
+        ensures ok { let s = state_of self.old in OnOk result (jumps_to target (writes rd (next s) s) ≡ Some (state_of self.new)) }
+        ensures reason { IfErr result (λ why. misaligned target ≡ Some why) }
+        ensures err { OnErr result (self.new ≡ self.old) }
+    {
+        let link = self.pc.wrapping_add(4);
+        self.go_to(target)?;
+        self.registers.set(rd, link);
+        Ok(())
+    }
+
+    /// Goes by an offset or on to the next instruction.
+    fn branch(&mut self, taken: bool, offset: i32) -> Result<(), Stuck>
+        ensures ok { OnOk result (branches taken offset (state_of self.old) ≡ Some (state_of self.new)) }
+        ensures reason { IfErr result (λ why. stuck_branch taken offset (state_of self.old) ≡ Some why) }
+        ensures err { OnErr result (self.new ≡ self.old) }
+    {
+        if taken {
+            return self.go_to(plus(self.pc, offset));
+        }
+        self.go_on();
+        Ok(())
+    }
+
+    /// Tests that all bytes of the width from an address on are present.
+    fn find_bytes(&self, width: Width, a: u64) -> Result<(), Stuck>
+        ensures ok { OnOk result (IsTrue (has width (state_of self.now).mem a)) }
+        ensures reason { IfErr result (λ why. no_byte width (state_of self.now).mem a ≡ Some why) }
+    {
+        if self.memory.has(a, width) {
+            return Ok(());
+        }
+        match first_absent(&self.memory, a, width.bytes()) {
+            Some(absent) => Err(Stuck::NoByte(absent)),
+            None => Ok(()),
+        }
+    }
+
+    /// Loads from an address into a register.
+    fn load(&mut self, width: Width, signed: bool, rd: u8, a: u64) -> Result<(), Stuck>
+        requires { rd < 32 }
+        ensures ok { OnOk result (loads_to rd width signed a (state_of self.old) ≡ Some (state_of self.new)) }
+        ensures reason { IfErr result (λ why. no_byte width (state_of self.old).mem a ≡ Some why) }
+        ensures err { OnErr result (self.new ≡ self.old) }
+    {
+        self.find_bytes(width, a)?;
+        let word = load(&self.memory, a, width, signed);
+        self.finish(rd, word);
+        Ok(())
+    }
+
+    /// Stores the low bytes of a word.
+    fn store(&mut self, width: Width, a: u64, word: u64) -> Result<(), Stuck>
+        ensures ok { OnOk result (stores_at width a word (state_of self.old) ≡ Some (state_of self.new)) }
+        ensures reason { IfErr result (λ why. no_byte width (state_of self.old).mem a ≡ Some why) }
+        ensures err { OnErr result (self.new ≡ self.old) }
+    {
+        self.find_bytes(width, a)?;
+        self.memory.store(a, width, word);
+        self.go_on();
+        Ok(())
+    }
 }

@@ -1,0 +1,304 @@
+-- What a step changes, and on what it depends.
+use Rattle.std.proofs.Common.{◌≡◌, ℕ, ◌+◌, ◌%◌, ◌^◌, ◌<◌, Bool, true, false, cond, ◌↔◌, eqb, eqb-true, eq-eqb, ℤ, Option, Some, None, is_some, refl, sym, ap, subst, ◌∙◌, arith}
+use Rattle.std.specs.Option.{option_and_then, unwrap_or}
+use Rattle.std.proofs.Math.Nat.{mod-lt}
+use Rattle.std.proofs.lemmas.Nat.{pow_pos}
+use Rattle.rv_words.specs.Bytes.{Bytes, bytes_of, inside, load, store}
+use Rattle.rv_words.specs.Operation.{operation_value, comparison_holds, word_of}
+use Rattle.rv_words.specs.declared.width.Width.{Width}
+use Rattle.rv_decode.specs.declared.instruction.Instr.{Instr}
+use Rattle.rv_decode.specs.declared.instruction.Instr.TheVariants.{Op, OpImm, Lui, Auipc, Jal, Jalr, Branch, Load, Store, Fence, Ecall, Ebreak}
+use Rattle.rv_decode.specs.Decodes.{decoded}
+use Rattle.rv_machine.specs.State.{State, with_register}
+use Rattle.rv_machine.specs.Step.{act, branches, goes_to, has, instruction_at, is_aligned, jump_target, loaded, next, only_if, plus, reads, sign_extended, step, upper}
+use Rattle.rv_machine.specs.Touches.{touched, touches, touched_by, IsTouched}
+use Rattle.rv_machine.proofs.MemoryLemmas.{AreSame, away, inside-all, inside-same, load-same, store-elsewhere, store-present, store-same}
+
+-- ---- an instruction's test and its update
+
+-- the instruction can be carried out
+abbrev pub is_possible : Instr → State → Bool
+is_possible (Op o rd rs1 rs2) s = true
+is_possible (OpImm o rd rs1 imm) s = true
+is_possible (Lui rd imm) s = true
+is_possible (Auipc rd imm) s = true
+is_possible (Jal rd offset) s = is_aligned (plus s.pc offset)
+is_possible (Jalr rd rs1 imm) s = is_aligned (jump_target (reads rs1 s) imm)
+is_possible (Branch c rs1 rs2 offset) s = cond (comparison_holds c (reads rs1 s) (reads rs2 s)) (is_aligned (plus s.pc offset)) true
+is_possible (Load w signed rd rs1 imm) s = has w s.mem (plus (reads rs1 s) imm)
+is_possible (Store w rs1 rs2 imm) s = has w s.mem (plus (reads rs1 s) imm)
+is_possible (Fence imm rs1 rd) s = true
+is_possible Ecall s = false
+is_possible Ebreak s = false
+
+-- the program counter after it
+abbrev pub pc_after : Instr → State → ℕ
+pc_after (Jal rd offset) s = plus s.pc offset
+pc_after (Jalr rd rs1 imm) s = jump_target (reads rs1 s) imm
+pc_after (Branch c rs1 rs2 offset) s = cond (comparison_holds c (reads rs1 s) (reads rs2 s)) (plus s.pc offset) (next s)
+pc_after i s = next s
+
+-- the registers after it
+abbrev pub reg_after : Instr → State → ℕ → ℕ
+reg_after (Op o rd rs1 rs2) s = with_register rd (operation_value o (reads rs1 s) (reads rs2 s)) s.reg
+reg_after (OpImm o rd rs1 imm) s = with_register rd (operation_value o (reads rs1 s) (word_of imm)) s.reg
+reg_after (Lui rd imm) s = with_register rd (upper imm) s.reg
+reg_after (Auipc rd imm) s = with_register rd ((s.pc + upper imm) % 2 ^ 64) s.reg
+reg_after (Jal rd offset) s = with_register rd (next s) s.reg
+reg_after (Jalr rd rs1 imm) s = with_register rd (next s) s.reg
+reg_after (Load w signed rd rs1 imm) s = with_register rd (loaded w signed s.mem (plus (reads rs1 s) imm)) s.reg
+reg_after i s = s.reg
+
+-- the bytes after it
+abbrev pub mem_after : Instr → State → Bytes
+mem_after (Store w rs1 rs2 imm) s = store (bytes_of w) s.mem (plus (reads rs1 s) imm) (reads rs2 s)
+mem_after i s = s.mem
+
+abbrev pub updated : Instr → State → State
+updated i s = record { pc = pc_after i s; reg = reg_after i s; mem = mem_after i s }
+
+by_branch : (taken : Bool) (offset : ℤ) (s : State)
+    → branches taken offset s ≡ only_if (cond taken (is_aligned (plus s.pc offset)) true) (goes_to (cond taken (plus s.pc offset) (next s)) s)
+by_branch true offset s = refl
+by_branch false offset s = refl
+
+-- an instruction gives its update exactly where its test is true
+pub act-is : (i : Instr) (s : State) → act i s ≡ only_if (is_possible i s) (updated i s)
+act-is (Op o rd rs1 rs2) s = refl
+act-is (OpImm o rd rs1 imm) s = refl
+act-is (Lui rd imm) s = refl
+act-is (Auipc rd imm) s = refl
+act-is (Jal rd offset) s = refl
+act-is (Jalr rd rs1 imm) s = refl
+act-is (Branch c rs1 rs2 offset) s = by_branch (comparison_holds c (reads rs1 s) (reads rs2 s)) offset s
+act-is (Load w signed rd rs1 imm) s = refl
+act-is (Store w rs1 rs2 imm) s = refl
+act-is (Fence imm rs1 rd) s = refl
+act-is Ecall s = refl
+act-is Ebreak s = refl
+
+pub only_if-some : (b : Bool) (s t : State) → only_if b s ≡ Some t → (b ≡ true) × (t ≡ s)
+only_if-some true s t e = (refl, sym (ap (λ o. unwrap_or o s) e))
+only_if-some false s t e = absurd (cc)
+
+pub act-some : (i : Instr) (s t : State) → act i s ≡ Some t → (is_possible i s ≡ true) × (t ≡ updated i s)
+act-some i s t e = only_if-some (is_possible i s) (updated i s) t (sym (act-is i s) ∙ e)
+
+-- ---- the instruction of a step
+
+and_then-some : (o : Option Instr) (f : Instr → Option State) (t : State) → option_and_then f o ≡ Some t → (i : Instr) × (o ≡ Some i) × (f i ≡ Some t)
+and_then-some None f t e = absurd (cc)
+and_then-some (Some i) f t e = (i, refl, e)
+
+pub step-act : (s t : State) → step s ≡ Some t → (i : Instr) × (instruction_at s ≡ Some i) × (act i s ≡ Some t)
+unfolding step
+step-act s t e = and_then-some (instruction_at s) (λ i. act i s) t e
+
+pub act-step : (i : Instr) (s : State) → instruction_at s ≡ Some i → step s ≡ act i s
+unfolding step
+act-step i s e = ap (option_and_then (λ i. act i s)) e
+
+fetch_some : (t u : Bool) (w : ℕ) (i : Instr) → cond t (option_and_then decoded (cond u (Some w) None)) None ≡ Some i → (t ≡ true) × (u ≡ true) × (decoded w ≡ Some i)
+fetch_some true true w i e = (refl, refl, e)
+fetch_some true false w i e = absurd (cc)
+fetch_some false u w i e = absurd (cc)
+
+-- the instruction at pc: pc is aligned, its four bytes are present, and their word is the instruction
+pub instruction_at-is : (i : Instr) (s : State)
+    → (instruction_at s ≡ Some i) ↔ ((is_aligned s.pc ≡ true) × (inside 4 s.mem s.pc ≡ true) × (decoded (load 4 s.mem s.pc) ≡ Some i))
+instruction_at-is i s =
+    let w = load 4 s.mem s.pc in (
+      fetch_some (is_aligned s.pc) (inside 4 s.mem s.pc) w i,
+      λ h. (λ j. cond (h.0 j) (option_and_then decoded (cond (h.1 j) (Some w) None)) None) ∙ h.2,
+    )
+
+-- ---- what a step never changes
+
+with_zero : (d x : ℕ) (reg : ℕ → ℕ) → with_register d x reg 0 ≡ reg 0
+with_zero d x reg = both (eqb d 0) (eqb 0 d) x (reg 0) (λ t. eq-eqb d 0 (sym (eqb-true 0 d t)))
+  where
+    both : (t u : Bool) (x y : ℕ) → (u ≡ true → t ≡ true) → cond t y (cond u x y) ≡ y
+    both true u x y h = refl
+    both false false x y h = refl
+    both false true x y h = absurd (let e = h refl in cc)
+
+reg_after-zero : (i : Instr) (s : State) → reg_after i s 0 ≡ s.reg 0
+reg_after-zero (Op o rd rs1 rs2) s = with_zero rd _ s.reg
+reg_after-zero (OpImm o rd rs1 imm) s = with_zero rd _ s.reg
+reg_after-zero (Lui rd imm) s = with_zero rd _ s.reg
+reg_after-zero (Auipc rd imm) s = with_zero rd _ s.reg
+reg_after-zero (Jal rd offset) s = with_zero rd _ s.reg
+reg_after-zero (Jalr rd rs1 imm) s = with_zero rd _ s.reg
+reg_after-zero (Branch c rs1 rs2 offset) s = refl
+reg_after-zero (Load w signed rd rs1 imm) s = with_zero rd _ s.reg
+reg_after-zero (Store w rs1 rs2 imm) s = refl
+reg_after-zero (Fence imm rs1 rd) s = refl
+reg_after-zero Ecall s = refl
+reg_after-zero Ebreak s = refl
+
+-- x0 is never changed
+pub step-zero : (s t : State) → step s ≡ Some t → t.reg 0 ≡ s.reg 0
+step-zero s t e = let a = step-act s t e in ap (λ (u : State). u.reg 0) (act-some a.0 s t a.2).1 ∙ reg_after-zero a.0 s
+
+mem_after-present : (i : Instr) (s : State) (q : ℕ) → is_some (mem_after i s q) ≡ is_some (s.mem q)
+mem_after-present (Op o rd rs1 rs2) s q = refl
+mem_after-present (OpImm o rd rs1 imm) s q = refl
+mem_after-present (Lui rd imm) s q = refl
+mem_after-present (Auipc rd imm) s q = refl
+mem_after-present (Jal rd offset) s q = refl
+mem_after-present (Jalr rd rs1 imm) s q = refl
+mem_after-present (Branch c rs1 rs2 offset) s q = refl
+mem_after-present (Load w signed rd rs1 imm) s q = refl
+mem_after-present (Store w rs1 rs2 imm) s q = store-present (bytes_of w) s.mem (plus (reads rs1 s) imm) (reads rs2 s) q
+mem_after-present (Fence imm rs1 rd) s q = refl
+mem_after-present Ecall s q = refl
+mem_after-present Ebreak s q = refl
+
+-- the addresses that are present stay the same
+pub step-present : (s t : State) → step s ≡ Some t → (q : ℕ) → is_some (t.mem q) ≡ is_some (s.mem q)
+step-present s t e q = let a = step-act s t e in ap (λ (u : State). is_some (u.mem q)) (act-some a.0 s t a.2).1 ∙ mem_after-present a.0 s q
+
+-- ---- what it touches
+
+plus_small : (x : ℕ) (imm : ℤ) → plus x imm < 2 ^ 64
+plus_small x imm = mod-lt _ (pow_pos 64)
+
+all_there : (n : ℕ) (m : Bytes) (x : ℕ) (imm : ℤ) (q : ℕ) → inside n m (plus x imm) ≡ true → (k : ℕ) × (k < n) × (q ≡ away (plus x imm) k) → is_some (m q) ≡ true
+all_there n m x imm q e h = ap (λ a. is_some (m a)) h.2 ∙ (inside-all n m (plus x imm) (plus_small x imm)).0 e h.0 h.1
+
+mem_after-untouched : (i : Instr) (s : State) (q : ℕ) → (IsTouched (touched i s) q → ⊥) → mem_after i s q ≡ s.mem q
+mem_after-untouched (Op o rd rs1 rs2) s q h = refl
+mem_after-untouched (OpImm o rd rs1 imm) s q h = refl
+mem_after-untouched (Lui rd imm) s q h = refl
+mem_after-untouched (Auipc rd imm) s q h = refl
+mem_after-untouched (Jal rd offset) s q h = refl
+mem_after-untouched (Jalr rd rs1 imm) s q h = refl
+mem_after-untouched (Branch c rs1 rs2 offset) s q h = refl
+mem_after-untouched (Load w signed rd rs1 imm) s q h = refl
+mem_after-untouched (Store w rs1 rs2 imm) s q h =
+    store-elsewhere (bytes_of w) s.mem (plus (reads rs1 s) imm) (reads rs2 s) q (plus_small (reads rs1 s) imm) (λ k l e. h (k, l, e))
+mem_after-untouched (Fence imm rs1 rd) s q h = refl
+mem_after-untouched Ecall s q h = refl
+mem_after-untouched Ebreak s q h = refl
+
+pub touches-at : (i : Instr) (s : State) → instruction_at s ≡ Some i → touches s ≡ touched i s
+unfolding touches
+touches-at i s e = ap (λ o. touched_by o s) e
+
+-- a byte that isn't touched stays as it is
+pub step-untouched : (s t : State) (q : ℕ) → step s ≡ Some t → (IsTouched (touches s) q → ⊥) → t.mem q ≡ s.mem q
+step-untouched s t q e h =
+    let a = step-act s t e in
+    ap (λ (u : State). u.mem q) (act-some a.0 s t a.2).1 ∙ mem_after-untouched a.0 s q (λ k. h (subst (λ x. IsTouched x q) (sym (touches-at a.0 s a.1)) k))
+
+present-touched : (i : Instr) (s : State) (q : ℕ) → is_possible i s ≡ true → IsTouched (touched i s) q → is_some (s.mem q) ≡ true
+present-touched (Op o rd rs1 rs2) s q e h = let l = h.1 in absurd (omega arith)
+present-touched (OpImm o rd rs1 imm) s q e h = let l = h.1 in absurd (omega arith)
+present-touched (Lui rd imm) s q e h = let l = h.1 in absurd (omega arith)
+present-touched (Auipc rd imm) s q e h = let l = h.1 in absurd (omega arith)
+present-touched (Jal rd offset) s q e h = let l = h.1 in absurd (omega arith)
+present-touched (Jalr rd rs1 imm) s q e h = let l = h.1 in absurd (omega arith)
+present-touched (Branch c rs1 rs2 offset) s q e h = let l = h.1 in absurd (omega arith)
+present-touched (Load w signed rd rs1 imm) s q e h = all_there (bytes_of w) s.mem (reads rs1 s) imm q e h
+present-touched (Store w rs1 rs2 imm) s q e h = all_there (bytes_of w) s.mem (reads rs1 s) imm q e h
+present-touched (Fence imm rs1 rd) s q e h = let l = h.1 in absurd (omega arith)
+present-touched Ecall s q e h = let l = h.1 in absurd (omega arith)
+present-touched Ebreak s q e h = let l = h.1 in absurd (omega arith)
+
+-- all that a step touches is present
+pub step-there : (s t : State) (q : ℕ) → step s ≡ Some t → IsTouched (touches s) q → is_some (s.mem q) ≡ true
+step-there s t q e h =
+    let a = step-act s t e in present-touched a.0 s q (act-some a.0 s t a.2).0 (subst (λ x. IsTouched x q) (touches-at a.0 s a.1) h)
+
+-- the state with other bytes
+abbrev pub with_memory : Bytes → State → State
+with_memory m s = record s { mem = m }
+
+-- the same instruction in two states that differ only in bytes that it doesn't touch
+pub record IsAlike (i : Instr) (s u : State) : Type 0 where
+  pub possible : is_possible i u ≡ is_possible i s
+  pub pc : pc_after i u ≡ pc_after i s
+  pub reg : reg_after i u ≡ reg_after i s
+  pub mem : (q : ℕ) → u.mem q ≡ s.mem q → mem_after i u q ≡ mem_after i s q
+
+loaded-same : (w : Width) (signed : Bool) (m n : Bytes) (a : ℕ) → load (bytes_of w) m a ≡ load (bytes_of w) n a → loaded w signed m a ≡ loaded w signed n a
+loaded-same w signed m n a e = λ i. cond signed (sign_extended w (e i)) (e i)
+
+-- what an instruction does depends on no byte that it doesn't touch
+pub act-alike : (i : Instr) (s : State) (m : Bytes) → ((q : ℕ) → IsTouched (touched i s) q → m q ≡ s.mem q) → IsAlike i s (with_memory m s)
+act-alike (Op o rd rs1 rs2) s m h = record { possible = refl; pc = refl; reg = refl; mem = λ q e. e }
+act-alike (OpImm o rd rs1 imm) s m h = record { possible = refl; pc = refl; reg = refl; mem = λ q e. e }
+act-alike (Lui rd imm) s m h = record { possible = refl; pc = refl; reg = refl; mem = λ q e. e }
+act-alike (Auipc rd imm) s m h = record { possible = refl; pc = refl; reg = refl; mem = λ q e. e }
+act-alike (Jal rd offset) s m h = record { possible = refl; pc = refl; reg = refl; mem = λ q e. e }
+act-alike (Jalr rd rs1 imm) s m h = record { possible = refl; pc = refl; reg = refl; mem = λ q e. e }
+act-alike (Branch c rs1 rs2 offset) s m h = record { possible = refl; pc = refl; reg = refl; mem = λ q e. e }
+act-alike (Load w signed rd rs1 imm) s m h =
+    let a = plus (reads rs1 s) imm in
+    let small = plus_small (reads rs1 s) imm in
+    let same = λ (k : ℕ) (l : k < bytes_of w). h (away a k) (k, l, refl) in
+    let number = loaded-same w signed m s.mem a (load-same (bytes_of w) m s.mem a small same) in
+    record { possible = inside-same (bytes_of w) m s.mem a small same; pc = refl; reg = λ i. with_register rd (number i) s.reg; mem = λ q e. e }
+act-alike (Store w rs1 rs2 imm) s m h =
+    let a = plus (reads rs1 s) imm in
+    let same = λ (k : ℕ) (l : k < bytes_of w). h (away a k) (k, l, refl) in
+    record {
+      possible = inside-same (bytes_of w) m s.mem a (plus_small (reads rs1 s) imm) same;
+      pc = refl;
+      reg = refl;
+      mem = λ q e. store-same (bytes_of w) m s.mem a (reads rs2 s) q e;
+    }
+act-alike (Fence imm rs1 rd) s m h = record { possible = refl; pc = refl; reg = refl; mem = λ q e. e }
+act-alike Ecall s m h = record { possible = refl; pc = refl; reg = refl; mem = λ q e. e }
+act-alike Ebreak s m h = record { possible = refl; pc = refl; reg = refl; mem = λ q e. e }
+
+touched-alike : (i : Instr) (s : State) (m : Bytes) → touched i (with_memory m s) ≡ touched i s
+touched-alike (Op o rd rs1 rs2) s m = refl
+touched-alike (OpImm o rd rs1 imm) s m = refl
+touched-alike (Lui rd imm) s m = refl
+touched-alike (Auipc rd imm) s m = refl
+touched-alike (Jal rd offset) s m = refl
+touched-alike (Jalr rd rs1 imm) s m = refl
+touched-alike (Branch c rs1 rs2 offset) s m = refl
+touched-alike (Load w signed rd rs1 imm) s m = refl
+touched-alike (Store w rs1 rs2 imm) s m = refl
+touched-alike (Fence imm rs1 rd) s m = refl
+touched-alike Ecall s m = refl
+touched-alike Ebreak s m = refl
+
+-- the instruction at pc depends on its four bytes alone
+pub instruction_at-same : (s : State) (m : Bytes) → s.pc < 2 ^ 64 → AreSame 4 m s.mem s.pc → instruction_at (with_memory m s) ≡ instruction_at s
+instruction_at-same s m h same =
+    let there = inside-same 4 m s.mem s.pc h same in
+    let word = load-same 4 m s.mem s.pc h same in
+    λ i. cond (is_aligned s.pc) (option_and_then decoded (cond (there i) (Some (word i)) None)) None
+
+-- the step from s to t, made with the bytes m in place of those of s
+pub record IsStepWith (s t : State) (m : Bytes) : Type 0 where
+  pub next : State
+  pub steps : step (with_memory m s) ≡ Some next
+  pub touched : touches (with_memory m s) ≡ touches s
+  pub pc : next.pc ≡ t.pc
+  pub reg : next.reg ≡ t.reg
+  pub mem : (q : ℕ) → m q ≡ s.mem q → next.mem q ≡ t.mem q
+
+-- a step depends on no byte but those at pc and those that it touches
+pub step-alike : (s t : State) (m : Bytes) → s.pc < 2 ^ 64 → step s ≡ Some t → AreSame 4 m s.mem s.pc → ((q : ℕ) → IsTouched (touches s) q → m q ≡ s.mem q)
+    → IsStepWith s t m
+step-alike s t m h e code same =
+    let a = step-act s t e in
+    let i = a.0 in
+    let u = with_memory m s in
+    let at = touches-at i s a.1 in
+    let done = act-some i s t a.2 in
+    let like = act-alike i s m (λ q k. same q (subst (λ x. IsTouched x q) (sym at) k)) in
+    let there : instruction_at u ≡ Some i = instruction_at-same s m h code ∙ a.1 in
+    let able : is_possible i u ≡ true = like.possible ∙ done.0 in
+    record {
+      next = updated i u;
+      steps = act-step i u there ∙ act-is i u ∙ ap (λ b. only_if b (updated i u)) able;
+      touched = touches-at i u there ∙ touched-alike i s m ∙ sym at;
+      pc = like.pc ∙ sym (ap (λ (x : State). x.pc) done.1);
+      reg = like.reg ∙ sym (ap (λ (x : State). x.reg) done.1);
+      mem = λ q k. like.mem q k ∙ sym (ap (λ (x : State). x.mem q) done.1);
+    }
