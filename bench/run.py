@@ -11,14 +11,16 @@ import tempfile
 import time
 
 BASE = 0x10000
+DATA = 0x100000
 MIB = 1 << 20
-HEADERS = 64 + 56
 LOOP_STEPS = 10_000_000
+SYMBOLS = 100_000
+RETURN = 0x8067
 
 
-def arithmetic(upper, funct3, rd, rs1, rs2):
+def arithmetic(funct7, funct3, rd, rs1, rs2):
     """An instruction on two registers."""
-    return upper << 25 | rs2 << 20 | rs1 << 15 | funct3 << 12 | rd << 7 | 0x33
+    return funct7 << 25 | rs2 << 20 | rs1 << 15 | funct3 << 12 | rd << 7 | 0x33
 
 
 def immediate(funct3, rd, rs1, value):
@@ -26,8 +28,17 @@ def immediate(funct3, rd, rs1, value):
     return value << 20 | rs1 << 15 | funct3 << 12 | rd << 7 | 0x13
 
 
-# Ten instructions; the last jumps to x5, which holds the address of the first.
-LOOP = [
+def load(funct3, rd, rs1, offset):
+    return offset << 20 | rs1 << 15 | funct3 << 12 | rd << 7 | 0x03
+
+
+def store(funct3, rs2, rs1, offset):
+    return offset >> 5 << 25 | rs2 << 20 | rs1 << 15 | funct3 << 12 | (offset & 31) << 7 | 0x23
+
+
+# Each loop has ten instructions; the last jumps to x5, which holds the address of the first.
+AGAIN = 5 << 15 | 0x67
+ARITHMETIC = [
     immediate(0, 11, 11, 1),
     arithmetic(0, 0, 10, 10, 11),
     arithmetic(0x20, 0, 12, 10, 11),
@@ -37,22 +48,59 @@ LOOP = [
     immediate(1, 16, 15, 3),
     immediate(5, 17, 16, 5),
     arithmetic(0, 3, 18, 17, 10),
-    5 << 15 | 0x67,
+    AGAIN,
 ]
+# mul, mulh, mulhsu, mulhu, div, divu, rem, remu
+PRODUCTS = [arithmetic(1, funct3, 12 + funct3, 10, 11) for funct3 in range(8)] + [immediate(0, 11, 11, 1), AGAIN]
+# ld, sd, lw, sw, lhu, sh, lbu, sb
+ACCESSES = [
+    load(3, 10, 20, 0),
+    store(3, 10, 20, 8),
+    load(2, 11, 20, 4),
+    store(2, 11, 20, 12),
+    load(5, 12, 20, 2),
+    store(1, 12, 20, 6),
+    load(4, 13, 20, 1),
+    store(0, 13, 20, 3),
+    immediate(0, 14, 14, 1),
+    AGAIN,
+]
+# ld and sd in turn, each in a segment of its own
+SCATTERED = [(load if i % 2 == 0 else store)(3, 10, 20 + i, 8) for i in range(8)] + [immediate(0, 14, 14, 1), AGAIN]
+BASES = [DATA * (i + 1) for i in range(8)]
 
 
-def write_elf(path, code, file_size, memory_size):
-    """Writes an ELF file with one segment that begins with the code."""
+def words(code):
+    return b"".join(struct.pack("<I", word) for word in code)
+
+
+def write_elf(path, segments, symbols=()):
+    """Writes an ELF file: segments of address, bytes and size in memory; symbols of name and value."""
+    sections = 3 if symbols else 0
+    place = 64 + 56 * len(segments)
+    headers, contents = b"", b""
+    for at, data, size in segments:
+        headers += struct.pack("<IIQQQQQQ", 1, 7, place + len(contents), at, at, len(data), size, 4)
+        contents += data
+    table, strings = bytes(24), bytearray(1)
+    for name, value in symbols:
+        table += struct.pack("<IBBHQQ", len(strings), 2, 0, 1, value, 0)
+        strings += name.encode() + b"\0"
+    shoff = 0
+    if symbols:
+        offset = place + len(contents)
+        contents += table + strings
+        shoff = place + len(contents)
+        contents += bytes(64)
+        contents += struct.pack("<IIQQQQIIQQ", 0, 2, 0, 0, offset, len(table), 2, 0, 8, 24)
+        contents += struct.pack("<IIQQQQIIQQ", 0, 3, 0, 0, offset + len(table), len(strings), 0, 0, 1, 0)
     header = b"\x7fELF\x02\x01\x01" + bytes(9)
-    header += struct.pack("<HHIQQQIHHHHHH", 2, 243, 1, BASE, 64, 0, 0, 64, 56, 1, 0, 0, 0)
-    header += struct.pack("<IIQQQQQQ", 1, 5, HEADERS, BASE, BASE, file_size, memory_size, 4)
+    header += struct.pack("<HHIQQQIHHHHHH", 2, 243, 1, BASE, 64, shoff, 0, 64, 56, len(segments), 64, sections, 0)
     with open(path, "wb") as file:
-        file.write(header)
-        file.write(b"".join(struct.pack("<I", word) for word in code))
-        file.truncate(HEADERS + file_size)
+        file.write(header + headers + contents)
 
 
-def measure(program, words):
+def measure(program, arguments):
     """Runs the program, and gives its output, the seconds that it took and its peak in bytes."""
     read, write = os.pipe()
     start = time.monotonic()
@@ -60,7 +108,7 @@ def measure(program, words):
     if child == 0:
         os.dup2(write, 1)
         os.close(read)
-        os.execv(program, [program, *words])
+        os.execv(program, [program, *arguments])
     os.close(write)
     with os.fdopen(read, "rb") as output:
         lines = output.read()
@@ -68,27 +116,51 @@ def measure(program, words):
     return lines, time.monotonic() - start, usage.ru_maxrss * 1024
 
 
+def loop(code, data=()):
+    """A case of ten million steps in a loop of ten, over these segments."""
+    bases = [f"x{20 + i}={at:#x}" for i, (at, _, _) in enumerate(data)]
+    arguments = ["0x10000", "0x0", str(LOOP_STEPS), "x5=0x10000", "x10=0xfedcba9876543210", *bases]
+    return [(BASE, words(code), 40), *data], (), arguments, b"steps used\n", LOOP_STEPS
+
+
+def begin(file_size, memory_size):
+    """A case of no steps, over one segment of these sizes."""
+    data = words([RETURN]).ljust(file_size, b"\0")
+    return [(BASE, data, memory_size)], (), ["0x10000", "0x10000", "0"], b"met 0\n", 0
+
+
+def named(count):
+    """A case of no steps, from the last of that many functions."""
+    symbols = [(f"function_{i}", BASE + 4 * i) for i in range(count)]
+    name, value = symbols[-1]
+    return [(BASE, words([RETURN]), 4)], symbols, [name, f"{value:#x}", "0"], b"met 0\n", 0
+
+
 def main():
     if len(sys.argv) != 2:
         sys.exit(__doc__)
     program = os.path.abspath(sys.argv[1])
-    whole = 64 * MIB - HEADERS
-    cases = [
-        ("nothing", [0x8067], 4, 4, ["0x10000", "0x10000", "0"], b"met 0\n", 0),
-        ("loop of ten", LOOP, 40, 40, ["0x10000", "0x0", str(LOOP_STEPS), "x5=0x10000"], b"steps used\n", LOOP_STEPS),
-        ("file of 64 MiB", [0x8067], whole, whole, ["0x10000", "0x10000", "0"], b"met 0\n", 0),
-        ("segment of 1 GiB", [0x8067], 4, 1024 * MIB, ["0x10000", "0x10000", "0"], b"met 0\n", 0),
-    ]
-    print(f"{'case':18} {'seconds':>9} {'peak MiB':>9} {'steps a second':>15}")
+    segments = [(at, bytes(range(256)), 256) for at in BASES]
+    cases = {
+        "nothing": begin(4, 4),
+        "arithmetic": loop(ARITHMETIC),
+        "products and quotients": loop(PRODUCTS),
+        "accesses, 1 segment": loop(ACCESSES, segments[:1]),
+        "accesses, 8 segments": loop(SCATTERED, segments),
+        "100,000 symbols": named(SYMBOLS),
+        "file of 64 MiB": begin(64 * MIB - 120, 64 * MIB - 120),
+        "segment of 1 GiB": begin(4, 1024 * MIB),
+    }
+    print(f"{'case':24} {'seconds':>9} {'peak MiB':>9} {'steps a second':>15}")
     with tempfile.TemporaryDirectory() as folder:
         path = os.path.join(folder, "e")
-        for name, code, file_size, memory_size, words, expected, steps in cases:
-            write_elf(path, code, file_size, memory_size)
-            lines, seconds, peak = measure(program, ["run", path, *words])
+        for name, (data, symbols, arguments, expected, steps) in cases.items():
+            write_elf(path, data, symbols)
+            lines, seconds, peak = measure(program, ["run", path, *arguments])
             if not lines.startswith(expected):
                 sys.exit(f"{name}: {lines[:200]!r}")
             rate = f"{steps / seconds:15,.0f}" if steps else f"{'':15}"
-            print(f"{name:18} {seconds:9.2f} {peak / MIB:9.0f} {rate}")
+            print(f"{name:24} {seconds:9.2f} {peak / MIB:9.0f} {rate}")
 
 
 if __name__ == "__main__":

@@ -1,5 +1,5 @@
 -- The words and the files give one answer at most.
-use Rattle.std.proofs.Common.{◌≡◌, ◌≢◌, ℕ, ◌^◌, codes, ◌-◌, ◌<◌, ◌≤◌, List, [], ◌∷◌, length, map, get_or, Option, Some, None, refl, sym, ap, subst, ◌∙◌, ◌⊎◌, inl, inr, arith}
+use Rattle.std.proofs.Common.{◌≡◌, ◌≢◌, ℕ, ◌^◌, codes, ◌-◌, ◌<◌, ◌≤◌, List, [], ◌∷◌, length, map, get_or, Option, Some, None, refl, sym, ap, subst, ◌∙◌, ◌⊎◌, inl, inr, Result, Ok, Err, arith}
 use Rattle.std.specs.Prelude.{IfSome}
 use Rattle.std.specs.Fmt.{decimal}
 use Rattle.mc_shelf.specs.Shelf.{Contents}
@@ -11,13 +11,15 @@ use Rattle.mcdec.specs.Command.{Command, Eval, Run, Given, Words, IsNoCommand, A
 use Rattle.mcdec.specs.Text.{IsSmallText}
 use Rattle.elf_image.specs.declared.fault.ElfFault.{ElfFault}
 use Rattle.elf_image.specs.Fault.{IsReadable, fault_of}
+use Rattle.elf_image.specs.declared.symbol.NameFault.{NameFault}
+use Rattle.elf_image.specs.declared.symbol.NameFault.TheVariants.{NoSuch, Ambiguous}
 use Rattle.rv_machine.specs.State.{State}
 use Rattle.rv_machine.specs.Run.{EndsIn}
 use Rattle.rv_machine.specs.declared.running.RunEnd.{RunEnd}
 use Rattle.rv_machine.specs.declared.running.RunEnd.TheVariants as end
 use Rattle.rv_machine.proofs.RunLemmas.{ends-once}
 use Rattle.mcdec.specs.Number.{hex}
-use Rattle.mcdec.specs.RunAnswer.{elf_limit, begin, shown, StartsAt, RunGives}
+use Rattle.mcdec.specs.RunAnswer.{elf_limit, begin, shown, StandsFor, start_refused, RunGives}
 use Rattle.mcdec.specs.EvalAnswer.{proof_limit, listed, arguments_of, GroupGives, TextGives, EvalGives}
 use Rattle.mcdec.specs.Answer.{CommandGives, Gives, ForContents, IsDetermined}
 use Rattle.mcdec.specs.Printed.{IsPrinted, IsDelivered}
@@ -94,6 +96,7 @@ group-case g turns gs answer.NoMemory h = absurd h
 group-case g turns gs answer.OverLimitProof h = absurd h
 group-case g turns gs (answer.Met k pc registers words) h = absurd h
 group-case g turns gs (answer.NoSuchStart start) h = absurd h
+group-case g turns gs (answer.AmbiguousStart start low high) h = absurd h
 group-case g turns gs (answer.StuckAfter k why) h = absurd h
 group-case g turns gs (answer.UnreadableElf why) h = absurd h
 group-case g turns gs answer.OverLimitElf h = absurd h
@@ -126,6 +129,7 @@ text-case p name turns gs answer.NoMemory h = absurd h.3
 text-case p name turns gs answer.OverLimitProof h = absurd h.3
 text-case p name turns gs (answer.Met k pc registers words) h = absurd h.3
 text-case p name turns gs (answer.NoSuchStart start) h = absurd h.3
+text-case p name turns gs (answer.AmbiguousStart start low high) h = absurd h.3
 text-case p name turns gs (answer.StuckAfter k why) h = absurd h.3
 text-case p name turns gs (answer.UnreadableElf why) h = absurd h.3
 text-case p name turns gs answer.OverLimitElf h = absurd h.3
@@ -154,6 +158,7 @@ file-case p name turns gs answer.ReadFault h = inr h
 file-case p name turns gs answer.NoMemory h = inr h
 file-case p name turns gs (answer.Met k pc registers words) h = inr h
 file-case p name turns gs (answer.NoSuchStart start) h = inr h
+file-case p name turns gs (answer.AmbiguousStart start low high) h = inr h
 file-case p name turns gs (answer.StuckAfter k why) h = inr h
 file-case p name turns gs (answer.UnreadableElf why) h = inr h
 file-case p name turns gs answer.OverLimitElf h = inr h
@@ -182,15 +187,38 @@ machine-unique : (until steps : ℕ) (gs : List Given) (s : State) (a b : Answer
 machine-unique until steps gs s a b h k =
     let p = ends-once until steps s h.0 k.0 h.1 k.1 h.2 k.2 in h.3 ∙ (λ i. answer_at gs (p.0 i) (p.1 i)) ∙ sym k.3
 
+abbrev ok_value : ℕ → Result ℕ NameFault
+ok_value a = Ok a
+
+abbrev err_value : NameFault → Result ℕ NameFault
+err_value f = Err f
+
+-- what START stands for
+stands-once : (file start : List ℕ) (v w : Result ℕ NameFault) → StandsFor file start v → StandsFor file start w → v ≡ w
+stands-once file start v w (inl h) (inl k) = h.2 ∙ ap ok_value (hex-injective h.0 k.0 h.1.0 k.1.0 (sym h.1.1 ∙ k.1.1)) ∙ sym k.2
+stands-once file start v w (inl h) (inr k) = absurd (k.0 h.0 h.1)
+stands-once file start v w (inr h) (inl k) = absurd (h.0 k.0 k.1)
+stands-once file start v w (inr h) (inr k) = h.1 ∙ sym k.1
+
+ok_is : (a b : ℕ) → ok_value a ≡ ok_value b → a ≡ b
+ok_is a b e = cc
+
+err_is : (f g : NameFault) → err_value f ≡ err_value g → f ≡ g
+err_is f g e = cc
+
+ok_err : (a : ℕ) (f : NameFault) → ok_value a ≡ err_value f → ⊥
+ok_err a f e = cc
+
 abbrev StartCase : List ℕ → List ℕ → ℕ → ℕ → List Given → Answer → Type 0
-StartCase file start until steps gs a = (((n : ℕ) → StartsAt start n → ⊥) × (a ≡ answer.NoSuchStart start)) ⊎ ((n : ℕ) × StartsAt start n × MachineCase until steps gs (begin file gs n) a)
+StartCase file start until steps gs a =
+    ((f : NameFault) × StandsFor file start (Err f) × (a ≡ start_refused start f)) ⊎ ((n : ℕ) × StandsFor file start (Ok n) × MachineCase until steps gs (begin file gs n) a)
 
 start-unique : (file start : List ℕ) (until steps : ℕ) (gs : List Given) (a b : Answer) → StartCase file start until steps gs a → StartCase file start until steps gs b → a ≡ b
-start-unique file start until steps gs a b (inl h) (inl k) = h.1 ∙ sym k.1
-start-unique file start until steps gs a b (inl h) (inr k) = absurd (h.0 k.0 k.1)
-start-unique file start until steps gs a b (inr h) (inl k) = absurd (k.0 h.0 h.1)
+start-unique file start until steps gs a b (inl h) (inl k) = h.2 ∙ ap (start_refused start) (err_is h.0 k.0 (stands-once file start (Err h.0) (Err k.0) h.1 k.1)) ∙ sym k.2
+start-unique file start until steps gs a b (inl h) (inr k) = absurd (ok_err k.0 h.0 (stands-once file start (Ok k.0) (Err h.0) k.1 h.1))
+start-unique file start until steps gs a b (inr h) (inl k) = absurd (ok_err h.0 k.0 (stands-once file start (Ok h.0) (Err k.0) h.1 k.1))
 start-unique file start until steps gs a b (inr h) (inr k) =
-    let n : h.0 ≡ k.0 = hex-injective h.0 k.0 h.1.0 k.1.0 (sym h.1.1 ∙ k.1.1) in
+    let n : h.0 ≡ k.0 = ok_is h.0 k.0 (stands-once file start (Ok h.0) (Ok k.0) h.1 k.1) in
     machine-unique until steps gs (begin file gs k.0) a b (subst (λ (x : ℕ). MachineCase until steps gs (begin file gs x) a) n h.2) k.2
 
 abbrev ImageCase : List ℕ → List ℕ → ℕ → ℕ → List Given → Answer → Type 0
@@ -217,7 +245,8 @@ run-case file start until steps gs (answer.Met k pc registers words) h =
     let m = h.1.1.2 in
     inr (h.0, inr (h.1.0, inr (h.1.1.0, h.1.1.1, (m.0, end.Met k, m.1, λ i. answer.Met k (m.2 i) (m.3 i) ((m.4 ∙ ap (map m.0.reg) m.3) i)))))
 run-case file start until steps gs answer.NoFunction h = absurd h.1.1.2
-run-case file start until steps gs (answer.NoSuchStart name) h = inr (h.0, inr (h.1.0, inl (h.1.1.0, ap answer.NoSuchStart h.1.1.1)))
+run-case file start until steps gs (answer.NoSuchStart name) h = inr (h.0, inr (h.1.0, inl (NoSuch, h.1.1.0, ap answer.NoSuchStart h.1.1.1)))
+run-case file start until steps gs (answer.AmbiguousStart name low high) h = inr (h.0, inr (h.1.0, inl (Ambiguous low high, h.1.1.0, λ i. answer.AmbiguousStart (h.1.1.1 i) low high)))
 run-case file start until steps gs (answer.StuckAfter k why) h = let m = h.1.1.2 in inr (h.0, inr (h.1.0, inr (h.1.1.0, h.1.1.1, (m.0, end.Stuck k why, m.1, refl))))
 run-case file start until steps gs answer.NotACommand h = absurd h.1.1.2
 run-case file start until steps gs (answer.UnreadableText line) h = absurd h.1.1.2
@@ -259,6 +288,7 @@ words-case files ws rose answer.TurnsUsed d h = inr h
 words-case files ws rose (answer.Evaluated used pc registers words) d h = inr h
 words-case files ws rose (answer.Met k pc registers words) d h = inr h
 words-case files ws rose (answer.NoSuchStart start) d h = inr h
+words-case files ws rose (answer.AmbiguousStart start low high) d h = inr h
 words-case files ws rose (answer.StuckAfter k why) d h = inr h
 words-case files ws rose (answer.UnreadableElf why) d h = inr h
 words-case files ws rose answer.OverLimitElf d h = inr h
@@ -299,6 +329,7 @@ delivered-exact files ws rose (answer.Evaluated used pc registers words) result 
 delivered-exact files ws rose (answer.Met steps pc registers words) result old new g h a d k = comes a (answer.Met steps pc registers words) result old new (answer-unique files ws rose rose (answer.Met steps pc registers words) a tt d g k) h
 delivered-exact files ws rose answer.NoFunction result old new g h a d k = comes a answer.NoFunction result old new (answer-unique files ws rose rose answer.NoFunction a tt d g k) h
 delivered-exact files ws rose (answer.NoSuchStart name) result old new g h a d k = comes a (answer.NoSuchStart name) result old new (answer-unique files ws rose rose (answer.NoSuchStart name) a tt d g k) h
+delivered-exact files ws rose (answer.AmbiguousStart name low high) result old new g h a d k = comes a (answer.AmbiguousStart name low high) result old new (answer-unique files ws rose rose (answer.AmbiguousStart name low high) a tt d g k) h
 delivered-exact files ws rose (answer.StuckAfter steps why) result old new g h a d k = comes a (answer.StuckAfter steps why) result old new (answer-unique files ws rose rose (answer.StuckAfter steps why) a tt d g k) h
 delivered-exact files ws rose answer.NotACommand result old new g h a d k = comes a answer.NotACommand result old new (answer-unique files ws rose rose answer.NotACommand a tt d g k) h
 delivered-exact files ws rose (answer.UnreadableText line) result old new g h a d k = comes a (answer.UnreadableText line) result old new (answer-unique files ws rose rose (answer.UnreadableText line) a tt d g k) h

@@ -13,6 +13,8 @@ use Rattle.rv_words.specs.declared.memory.NoMemory.{NoMemory}
 use Rattle.elf_image.specs.Fault.{IsReadable}
 use Rattle.elf_image.specs.declared.image.Piece.{Piece}
 use Rattle.elf_image.specs.Image.{bytes_in, padded, image_of}
+use Rattle.elf_image.specs.declared.symbol.NameFault.{NameFault}
+use Rattle.elf_image.specs.declared.symbol.NameFault.TheVariants.{NoSuch, Ambiguous}
 use Rattle.rv_machine.specs.State.{Contents, State, empty_state, state_of, with_bytes, with_register}
 use Rattle.rv_machine.specs.Step.{writes}
 use Rattle.rv_machine.specs.Run.{EndsIn}
@@ -22,7 +24,7 @@ use Rattle.mcdec.specs.declared.answer.Answer.{Answer}
 use Rattle.mcdec.specs.declared.answer.Answer.TheVariants as answer
 use Rattle.mcdec.specs.Command.{Given, AreGiven, given_to, value_of}
 use Rattle.mcdec.specs.CommandReading.{Holds, given_in, value_in}
-use Rattle.mcdec.specs.RunAnswer.{begin, is_shown, shown, StartsAt, MachineGives, ImageGives}
+use Rattle.mcdec.specs.RunAnswer.{begin, is_shown, shown, StandsFor, start_refused, MachineGives, ImageGives}
 
 -- ---- values
 
@@ -140,11 +142,11 @@ placed-more ps old new newer i j p lt item next before placed =
 
 -- ---- the whole state
 
-pub begun : (file : List ℕ) (gs : List Given) (a : ℕ) (pieces : List Piece) (s t u : State) → pieces ≡ image_of file → s ≡ empty_state a → t ≡ with_bytes (bytes_in pieces) s
+pub begun : (file : List ℕ) (gs : List Given) (a : ℕ) (pieces : List Piece) (s t u : State) → pieces ≡ (image_of file).pieces → s ≡ empty_state a → t ≡ with_bytes (bytes_in pieces) s
     → ((t.reg ≡ (λ r. 0)) → u ≡ record t { reg = value_of gs }) → u ≡ begin file gs a
 begun file gs a pieces s t u image empty placed set =
-    let here : t ≡ with_bytes (bytes_in (image_of file)) (empty_state a) = placed ∙ (λ i. with_bytes (bytes_in (image i)) (empty i)) in
-    set (ap (λ (x : State). x.reg) here) ∙ ap (λ (x : State). record x { reg = value_of gs }) here ∙ (λ i. record { pc = a; reg = value_of gs; mem = λ q. or-none (bytes_in (image_of file) q) i })
+    let here : t ≡ with_bytes (bytes_in (image_of file).pieces) (empty_state a) = placed ∙ (λ i. with_bytes (bytes_in (image i)) (empty i)) in
+    set (ap (λ (x : State). x.reg) here) ∙ ap (λ (x : State). record x { reg = value_of gs }) here ∙ (λ i. record { pc = a; reg = value_of gs; mem = λ q. or-none (bytes_in (image_of file).pieces q) i })
   where
     or-none : (o : Option ℕ) → option_or o None ≡ o
     or-none None = refl
@@ -222,13 +224,14 @@ module _ (until steps : ℕ) (gs : List Given) (s begun t : State) (same : s ≡
   pub steps-given : EndsIn until steps s t end.Steps → MachineGives until steps gs begun answer.StepsUsed
   steps-given ends = (t, subst (λ (x : State). EndsIn until steps x t end.Steps) same ends)
 
-module _ (file start : List ℕ) (until steps : ℕ) (gs : List Given) (at : ℕ) (readable : IsReadable file) (starts : StartsAt start at) where
+module _ (file start : List ℕ) (until steps : ℕ) (gs : List Given) (at : ℕ) (readable : IsReadable file) (stands : StandsFor file start (Ok at)) where
   image-gives : (a : Answer) → MachineGives until steps gs (begin file gs at) a → ImageGives file start until steps gs a
   image-gives (answer.Evaluated used pc registers words) h = absurd h
-  image-gives (answer.Met k pc registers words) h = (readable, (at, starts, h))
+  image-gives (answer.Met k pc registers words) h = (readable, (at, stands, h))
   image-gives answer.NoFunction h = absurd h
   image-gives (answer.NoSuchStart name) h = absurd h
-  image-gives (answer.StuckAfter k why) h = (readable, (at, starts, h))
+  image-gives (answer.AmbiguousStart name low high) h = absurd h
+  image-gives (answer.StuckAfter k why) h = (readable, (at, stands, h))
   image-gives answer.NotACommand h = absurd h
   image-gives (answer.UnreadableText line) h = absurd h
   image-gives (answer.UnreadableElf why) h = absurd h
@@ -237,8 +240,19 @@ module _ (file start : List ℕ) (until steps : ℕ) (gs : List Given) (at : ℕ
   image-gives answer.OverLimitProof h = absurd h
   image-gives answer.OverLimitElf h = absurd h
   image-gives answer.TurnsUsed h = absurd h
-  image-gives answer.StepsUsed h = (readable, (at, starts, h))
+  image-gives answer.StepsUsed h = (readable, (at, stands, h))
 
   pub image-given : (result : Result Answer NoMemory) → IfOk result (λ a. MachineGives until steps gs (begin file gs at) a) → IfOk result (λ a. ImageGives file start until steps gs a)
   image-given (Err e) h = tt
   image-given (Ok a) h = image-gives a h
+
+-- where START has no one value
+module _ (file start : List ℕ) (until steps : ℕ) (gs : List Given) (readable : IsReadable file) where
+  refusal : (fault : NameFault) → StandsFor file start (Err fault) → ImageGives file start until steps gs (start_refused start fault)
+  refusal NoSuch stands = (readable, (stands, refl))
+  refusal (Ambiguous low high) stands = (readable, (stands, refl))
+
+  pub refusal-given : (fault : NameFault) → StandsFor file start (Err fault) → (result : Result Answer NoMemory) → IfOk result (λ a. a ≡ start_refused start fault)
+      → IfOk result (λ a. ImageGives file start until steps gs a)
+  refusal-given fault stands (Err e) is = tt
+  refusal-given fault stands (Ok a) is = subst (λ (x : Answer). ImageGives file start until steps gs x) (sym is) (refusal fault stands)

@@ -2,7 +2,7 @@
 use Rattle.std.proofs.Common.{◌≡◌, ℕ, zero, suc, ◌^◌, ◌<◌, ◌≤◌, Bool, true, false, ◌||◌, List, [], ◌∷◌, ◌++◌, codes, Some, refl, sym, ap, subst, ◌∙◌, append_assoc, arith, inl, inr}
 use Rattle.std.specs.Fmt.{decimal}
 use Rattle.rv_words.specs.declared.operation.Op.{Op}
-use Rattle.rv_words.specs.declared.operation.Op.TheVariants.{Add, Sub, Sll, Slt, Sltu, Xor, Srl, Sra, Or, And}
+use Rattle.rv_words.specs.declared.operation.Op.TheVariants.{Add, Sub, Sll, Slt, Sltu, Xor, Srl, Sra, Or, And, Mul, Mulh, Mulhsu, Mulhu, Div, Divu, Rem, Remu, Addw, Subw, Sllw, Srlw, Sraw, Mulw, Divw, Divuw, Remw, Remuw}
 use Rattle.word_terms.specs.Tree.{WordTree, Const, Var, Bin, depth_of_word}
 use Rattle.mcdec.specs.declared.reader.Class.TheVariants.{Digit, HexDigit}
 use Rattle.mcdec.specs.Number.{hex}
@@ -47,6 +47,24 @@ operation-reads = record { takes = is_taken; again = is_read }
     is_read Sra rest f h = absurd f
     is_read Or rest f h = absurd f
     is_read And rest f h = absurd f
+    is_read Mul rest f h = absurd f
+    is_read Mulh rest f h = absurd f
+    is_read Mulhsu rest f h = absurd f
+    is_read Mulhu rest f h = absurd f
+    is_read Div rest f h = absurd f
+    is_read Divu rest f h = absurd f
+    is_read Rem rest f h = absurd f
+    is_read Remu rest f h = absurd f
+    is_read Addw rest f h = absurd f
+    is_read Subw rest f h = absurd f
+    is_read Sllw rest f h = absurd f
+    is_read Srlw rest f h = absurd f
+    is_read Sraw rest f h = absurd f
+    is_read Mulw rest f h = absurd f
+    is_read Divw rest f h = absurd f
+    is_read Divuw rest f h = absurd f
+    is_read Remw rest f h = absurd f
+    is_read Remuw rest f h = absurd f
 
 -- ---- variables and constants
 

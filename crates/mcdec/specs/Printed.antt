@@ -15,6 +15,7 @@ status (answer.Evaluated used pc registers words) = 0
 status (answer.Met steps pc registers words) = 0
 status answer.NoFunction = 1
 status (answer.NoSuchStart name) = 1
+status (answer.AmbiguousStart name low high) = 1
 status (answer.StuckAfter steps why) = 1
 status answer.NotACommand = 2
 status (answer.UnreadableText line) = 3
@@ -49,6 +50,8 @@ abbrev pub stuck_words : Stuck → List ℕ
 stuck_words (stuck.Misaligned a) = codes "misaligned " ++ hex a
 stuck_words stuck.NoFetch = codes "no-fetch"
 stuck_words (stuck.NotDecoded w) = codes "not-decoded " ++ hex w
+stuck_words stuck.Environment = codes "environment"
+stuck_words (stuck.NoByte a) = codes "no-byte " ++ hex a
 
 -- why an ELF file isn't read
 abbrev pub fault_words : ElfFault → List ℕ
@@ -61,6 +64,7 @@ fault_words (fault.Cut place) = codes "cut " ++ decimal place
 fault_words (fault.Overlap i j) = codes "overlap " ++ decimal i ++ codes " " ++ decimal j
 fault_words (fault.Wraps i) = codes "wraps " ++ decimal i
 fault_words (fault.TooMany n) = codes "too-many " ++ decimal n
+fault_words fault.Symbols = codes "symbols"
 fault_words (fault.Entry n) = codes "entry " ++ decimal n
 fault_words (fault.Sizes i) = codes "sizes " ++ decimal i
 fault_words (fault.TooBig n) = codes "too-big " ++ decimal n
@@ -71,6 +75,7 @@ lines (answer.Evaluated used pc registers words) = done_lines used pc ++ registe
 lines (answer.Met steps pc registers words) = met_lines steps pc ++ register_lines registers words
 lines answer.NoFunction = codes "refused no function\n"
 lines (answer.NoSuchStart name) = codes "refused " ++ name ++ codes " no-such\n"
+lines (answer.AmbiguousStart name low high) = codes "refused " ++ name ++ codes " ambiguous " ++ hex low ++ codes " " ++ hex high ++ codes "\n"
 lines (answer.StuckAfter steps why) = codes "refused stuck " ++ decimal steps ++ codes " " ++ stuck_words why ++ codes "\n"
 lines answer.NotACommand = codes "not a command\n"
 lines (answer.UnreadableText line) = codes "unreadable text " ++ decimal line ++ codes "\n"

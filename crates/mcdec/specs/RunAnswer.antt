@@ -1,8 +1,11 @@
 -- When each answer to `run` comes.
-use Rattle.std.specs.Prelude.{◌≡◌, ℕ, ◌<◌, ◌≤◌, ◌^◌, ◌==◌, Bool, not, ◌||◌, List, length, map, filter, is_some, Some}
+use Rattle.std.specs.Prelude.{◌≡◌, ℕ, ◌<◌, ◌≤◌, ◌^◌, ◌==◌, Bool, not, ◌||◌, List, length, map, filter, is_some, Some, Result, Ok, Err, ◌⊎◌}
 use Rattle.std.specs.List.{range_with_len}
 use Rattle.elf_image.specs.Fault.{IsReadable, fault_of}
 use Rattle.elf_image.specs.Image.{image_of, bytes_in}
+use Rattle.elf_image.specs.Symbol.{value_of_name}
+use Rattle.elf_image.specs.declared.symbol.NameFault.{NameFault}
+use Rattle.elf_image.specs.declared.symbol.NameFault.TheVariants.{NoSuch, Ambiguous}
 use Rattle.rv_machine.specs.State.{State}
 use Rattle.rv_machine.specs.Run.{EndsIn}
 use Rattle.rv_machine.specs.declared.running.RunEnd.TheVariants as end
@@ -17,7 +20,7 @@ elf_limit = 67108864
 
 -- the state at an address: the file's pieces in memory, and in each register the value that it is given, or 0
 abbrev pub begin : List ℕ → List Given → ℕ → State
-begin file given a = record { pc = a; reg = value_of given; mem = bytes_in (image_of file) }
+begin file given a = record { pc = a; reg = value_of given; mem = bytes_in (image_of file).pieces }
 
 -- a register that is given a value, or doesn't hold 0
 abbrev pub is_shown : List Given → State → ℕ → Bool
@@ -36,13 +39,24 @@ MachineGives until steps given s answer.StepsUsed = (t : State) × EndsIn until 
 MachineGives until steps given s _ = ⊥
 
 -- START is the spelling of that address
-abbrev pub StartsAt : List ℕ → ℕ → Type 0
-StartsAt start a = (a < 2 ^ 64) × (start ≡ hex a)
+abbrev pub Spells : List ℕ → ℕ → Type 0
+Spells start a = (a < 2 ^ 64) × (start ≡ hex a)
+
+-- what START stands for: the address that it spells; where it spells none, the value of that name in the file
+abbrev pub StandsFor : List ℕ → List ℕ → Result ℕ NameFault → Type 0
+StandsFor file start value =
+    ((a : ℕ) × Spells start a × (value ≡ Ok a)) ⊎ (((a : ℕ) → Spells start a → ⊥) × (value ≡ value_of_name start (image_of file).symbols))
+
+-- the answer where START has no one value
+abbrev pub start_refused : List ℕ → NameFault → Answer
+start_refused start NoSuch = answer.NoSuchStart start
+start_refused start (Ambiguous low high) = answer.AmbiguousStart start low high
 
 -- `run` from START, where the ELF file has these bytes and is read
 abbrev pub StartGives : List ℕ → List ℕ → ℕ → ℕ → List Given → Answer → Type 0
-StartGives file start until steps given (answer.NoSuchStart name) = ((a : ℕ) → StartsAt start a → ⊥) × (name ≡ start)
-StartGives file start until steps given a = (at : ℕ) × StartsAt start at × MachineGives until steps given (begin file given at) a
+StartGives file start until steps given (answer.NoSuchStart name) = StandsFor file start (Err NoSuch) × (name ≡ start)
+StartGives file start until steps given (answer.AmbiguousStart name low high) = StandsFor file start (Err (Ambiguous low high)) × (name ≡ start)
+StartGives file start until steps given a = (at : ℕ) × StandsFor file start (Ok at) × MachineGives until steps given (begin file given at) a
 
 -- .. and is read or has a fault
 abbrev pub ImageGives : List ℕ → List ℕ → ℕ → ℕ → List Given → Answer → Type 0

@@ -14,7 +14,7 @@ use Rattle.std.specs.List.{AllByRecursion}
 use Rattle.std.specs.Fmt.{decimal}
 use Rattle.hex.specs.Hex.{encode_lower}
 use Rattle.rv_words.specs.declared.operation.Op.{Op}
-use Rattle.rv_words.specs.declared.operation.Op.TheVariants.{Add, Sub, Sll, Slt, Sltu, Xor, Srl, Sra, Or, And}
+use Rattle.rv_words.specs.declared.operation.Op.TheVariants.{Add, Sub, Sll, Slt, Sltu, Xor, Srl, Sra, Or, And, Mul, Mulh, Mulhsu, Mulhu, Div, Divu, Rem, Remu, Addw, Subw, Sllw, Srlw, Sraw, Mulw, Divw, Divuw, Remw, Remuw}
 use Rattle.word_terms.specs.Tree.{WordTree, Const, Var, Bin, depth_of_word}
 use Rattle.word_terms.specs.Code.{AreRanges}
 use Rattle.word_terms.specs.declared.code.Range.{Range}
@@ -41,6 +41,24 @@ operation_name Srl = codes "srl"
 operation_name Sra = codes "sra"
 operation_name Or = codes "or"
 operation_name And = codes "and"
+operation_name Mul = codes "mul"
+operation_name Mulh = codes "mulh"
+operation_name Mulhsu = codes "mulhsu"
+operation_name Mulhu = codes "mulhu"
+operation_name Div = codes "div"
+operation_name Divu = codes "divu"
+operation_name Rem = codes "rem"
+operation_name Remu = codes "remu"
+operation_name Addw = codes "addw"
+operation_name Subw = codes "subw"
+operation_name Sllw = codes "sllw"
+operation_name Srlw = codes "srlw"
+operation_name Sraw = codes "sraw"
+operation_name Mulw = codes "mulw"
+operation_name Divw = codes "divw"
+operation_name Divuw = codes "divuw"
+operation_name Remw = codes "remw"
+operation_name Remuw = codes "remuw"
 
 -- an operation of small texts
 abbrev pub IsSmallOperation : Op → Type 0

@@ -23,8 +23,10 @@ pub enum Answer {
     },
     /// No group of the proof file has the name.
     NoFunction,
-    /// The word isn't the spelling of an address.
+    /// The word isn't the spelling of an address, and no function of the file has this name.
     NoSuchStart(Text),
+    /// Functions of this name have different values, of which these are the two least.
+    AmbiguousStart(Text, u64, u64),
     /// After that many steps there was no next one.
     StuckAfter(u64, Stuck),
     /// The words are no command.

@@ -79,6 +79,7 @@ fn status(answer: &Answer) -> u8
         Answer::Met { .. } => 0,
         Answer::NoFunction => 1,
         Answer::NoSuchStart(_) => 1,
+        Answer::AmbiguousStart(..) => 1,
         Answer::StuckAfter(..) => 1,
         Answer::NotACommand => 2,
         Answer::UnreadableText(_) => 3,
@@ -110,6 +111,9 @@ fn put_answer<O: Sink>(out: &mut O, answer: &Answer) -> Result<(), Stop>
         } => put_met(out, *steps, *pc, registers.as_slice(), words.as_slice()),
         Answer::NoFunction => put_text(out, b"refused no function\n"),
         Answer::NoSuchStart(name) => put_no_such(out, name.as_slice()),
+        Answer::AmbiguousStart(name, low, high) => {
+            put_ambiguous(out, name.as_slice(), *low, *high)
+        }
         Answer::StuckAfter(steps, why) => put_stuck(out, *steps, why),
         Answer::NotACommand => put_text(out, b"not a command\n"),
         Answer::UnreadableText(line) => put_unreadable_text(out, *line),
@@ -138,6 +142,23 @@ fn put_no_such<O: Sink>(out: &mut O, name: &[u8]) -> Result<(), Stop>
             Piece::Text(b"refused "),
             Piece::Text(name),
             Piece::Text(b" no-such\n"),
+        ],
+    )
+}
+
+fn put_ambiguous<O: Sink>(out: &mut O, name: &[u8], low: u64, high: u64) -> Result<(), Stop>
+    ensures { Prints result (codes "refused " ++ name.now ++ codes " ambiguous " ++ hex low ++ codes " " ++ hex high ++ codes "\n") (O.written out.old) (O.written out.new) (O.faults out.old) (O.faults out.new) }
+{
+    put_all(
+        out,
+        &[
+            Piece::Text(b"refused "),
+            Piece::Text(name),
+            Piece::Text(b" ambiguous "),
+            Piece::Hex(low),
+            Piece::Text(b" "),
+            Piece::Hex(high),
+            Piece::Text(b"\n"),
         ],
     )
 }
@@ -189,6 +210,24 @@ fn put_stuck<O: Sink>(out: &mut O, steps: u64, why: &Stuck) -> Result<(), Stop>
                 Piece::Text(b"\n"),
             ],
         ),
+        Stuck::Environment => put_all(
+            out,
+            &[
+                Piece::Text(b"refused stuck "),
+                steps,
+                Piece::Text(b" environment\n"),
+            ],
+        ),
+        Stuck::NoByte(a) => put_all(
+            out,
+            &[
+                Piece::Text(b"refused stuck "),
+                steps,
+                Piece::Text(b" no-byte "),
+                Piece::Hex(*a),
+                Piece::Text(b"\n"),
+            ],
+        ),
     }
 }
 
@@ -214,6 +253,7 @@ fn put_fault<O: Sink>(out: &mut O, why: &ElfFault) -> Result<(), Stop>
         ElfFault::Overlap(i, j) => put_overlap(out, *i, *j),
         ElfFault::Wraps(i) => put_number(out, b"wraps ", *i),
         ElfFault::TooMany(n) => put_number(out, b"too-many ", *n),
+        ElfFault::Symbols => put_text(out, b"symbols"),
         ElfFault::Entry(n) => put_number(out, b"entry ", *n),
         ElfFault::Sizes(i) => put_number(out, b"sizes ", *i),
         ElfFault::TooBig(n) => put_all(out, &[Piece::Text(b"too-big "), Piece::Wide(*n)]),

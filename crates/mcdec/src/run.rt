@@ -9,12 +9,12 @@ ghost use Rattle.rv_machine.specs.State.{empty_state, state_of, with_bytes};
 ghost use Rattle.mcdec.specs.Answer.{ForContents, Gives, ReadsAreTold};
 ghost use Rattle.mcdec.specs.Command.{AreGiven, Given, value_of};
 ghost use Rattle.mcdec.specs.CommandReading.{Holds, IsReadRun};
-ghost use Rattle.mcdec.specs.RunAnswer.{ImageGives, MachineGives, begin, shown};
+ghost use Rattle.mcdec.specs.RunAnswer.{ImageGives, MachineGives, StandsFor, begin, shown, start_refused};
 
 use crate::answer::Answer;
 use crate::command::{Registers, Run};
 use crate::reader::hex_number;
-use elf_image::{ElfFault, Image, Piece, read};
+use elf_image::{ElfFault, Image, NameFault, Piece, read};
 use mc_shelf::{ReadEnd, Shelf, read_file};
 use rv_machine::{RunEnd, State};
 use rv_words::{Bytes, List, NoMemory, Text};
@@ -56,9 +56,30 @@ fn run_bytes(alloc: Global, file: Bytes, r: &Run<'_>) -> Result<Answer, NoMemory
         Err(why) => return Ok(Answer::UnreadableElf(why)),
     };
     drop(file);
-    match hex_number(r.start) {
-        Some(start) => run_image(alloc, image, start, r),
-        None => Ok(Answer::NoSuchStart(Text::from_slice(alloc, r.start)?)),
+    match address_of(&image, r.start) {
+        Ok(start) => run_image(alloc, image, start, r),
+        Err(fault) => refused(alloc, r.start, fault),
+    }
+}
+
+/// The address that START stands for.
+fn address_of(image: &Image, start: &[u8]) -> Result<u64, NameFault>
+    ensures { (file : List ℕ) → image.now ≡ image_of file → StandsFor file start.now result }
+{
+    match hex_number(start) {
+        Some(address) => Ok(address),
+        None => image.symbol(start),
+    }
+}
+
+/// The answer where START stands for no address.
+fn refused(alloc: Global, start: &[u8], fault: NameFault) -> Result<Answer, NoMemory>
+    ensures { IfOk result (λ a. a ≡ start_refused start.now fault) }
+{
+    let name = Text::from_slice(alloc, start)?;
+    match fault {
+        NameFault::NoSuch => Ok(Answer::NoSuchStart(name)),
+        NameFault::Ambiguous(low, high) => Ok(Answer::AmbiguousStart(name, low, high)),
     }
 }
 

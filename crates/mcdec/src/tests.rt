@@ -348,11 +348,18 @@ fn damaged_files_are_refused(rt: HostRuntime) -> Result<(), Fail> {
             "unreadable elf too-big 36893488147419103230\n",
         ),
         (2, &[][..], 3, "unreadable elf overlap 0 1\n"),
+        (1, &[(120, 4, 0x73)][..], 1, "refused stuck 0 environment\n"),
         (
             1,
-            &[(120, 4, 0x73)][..],
+            &[(120, 4, 0x0000_b503)][..],
             1,
-            "refused stuck 0 not-decoded 0x73\n",
+            "refused stuck 0 no-byte 0x0\n",
+        ),
+        (
+            1,
+            &[(120, 4, 0x10_0173)][..],
+            1,
+            "refused stuck 0 not-decoded 0x100173\n",
         ),
         (
             1,

@@ -10,3 +10,9 @@ returns-in-Misaligned g c = rw c.in-Misaligned.is (prints-as _ _ _ _ _ _ _ (stuc
 pub returns-in-NotDecoded : goal.returns-in-NotDecoded
 returns-in-NotDecoded g c =
     rw (c.in-NotDecoded.is, ← c.from.ensures) (prints-as _ _ _ _ _ _ _ (stuck-text (decimal c.args.steps) (codes "not-decoded " ++ hex c.from.result)) c.put_all-in-NotDecoded.ensures)
+
+pub returns-in-NoByte : goal.returns-in-NoByte
+returns-in-NoByte g c = rw c.in-NoByte.is (prints-as _ _ _ _ _ _ _ (stuck-text (decimal c.args.steps) (codes "no-byte " ++ hex c.in-NoByte.a)) c.put_all-in-NoByte.ensures)
+
+pub returns-in-Environment : goal.returns-in-Environment
+returns-in-Environment g c = rw c.in-Environment.is (prints-as _ _ _ _ _ _ _ (stuck-text (decimal c.args.steps) (codes "environment")) c.put_all-in-Environment.ensures)
