@@ -8,7 +8,7 @@ use Rattle.tailrec_lang.specs.Tree.{GroupTree, def_tree}
 use Rattle.tailrec_lang.specs.Eval.{Arguments, Outcome, eval}
 use Rattle.mcdec.specs.declared.answer.Answer.{Answer}
 use Rattle.mcdec.specs.declared.answer.Answer.TheVariants as answer
-use Rattle.mcdec.specs.Command.{Command, Eval, Run, Given, Words, IsNoCommand, value_of}
+use Rattle.mcdec.specs.Command.{Command, Eval, Run, Arg, Given, Words, IsNoCommand, value_of}
 use Rattle.mcdec.specs.CommandReading.{Holds, value_in}
 use Rattle.mcdec.specs.Text.{IsSmall, AreRegistersFrom}
 use Rattle.mcdec.specs.RunAnswer.{elf_limit, ImageGives, RunGives}
@@ -80,7 +80,7 @@ text-gives p name turns gs (answer.UnreadableText line) small h = (small, h)
 text-gives p name turns gs answer.ReadFault small h = (small, h)
 text-gives p name turns gs answer.NoMemory small h = (small, h)
 text-gives p name turns gs answer.TurnsUsed small h = (small, h)
-text-gives p name turns gs (answer.Met steps pc registers words) small h = (small, h)
+text-gives p name turns gs (answer.Met steps pc registers words memory) small h = (small, h)
 text-gives p name turns gs (answer.NoSuchStart start) small h = (small, h)
 text-gives p name turns gs (answer.AmbiguousStart start low high) small h = (small, h)
 text-gives p name turns gs (answer.StuckAfter steps why) small h = (small, h)
@@ -97,7 +97,7 @@ IsOfCommand _ = Unit {0}
 
 eval-gives-such : (p name : List ℕ) (turns : ℕ) (gs : List Given) (a : Answer) → EvalGives p name turns gs a → IsOfCommand a
 eval-gives-such p name turns gs (answer.Evaluated used pc registers words) h = tt
-eval-gives-such p name turns gs (answer.Met steps pc registers words) h = tt
+eval-gives-such p name turns gs (answer.Met steps pc registers words memory) h = tt
 eval-gives-such p name turns gs answer.NoFunction h = tt
 eval-gives-such p name turns gs (answer.NoSuchStart start) h = tt
 eval-gives-such p name turns gs (answer.AmbiguousStart start low high) h = tt
@@ -115,7 +115,7 @@ eval-gives-such p name turns gs answer.StepsUsed h = tt
 -- an answer to a command
 command-gives : (files : Contents) (ws : List (List ℕ)) (rose : Type 0) (c : Command) (a : Answer) → IsOfCommand a → Words ws c → CommandGives files c a → Gives files ws rose a
 command-gives files ws rose c (answer.Evaluated used pc registers words) is w h = (c, w, h)
-command-gives files ws rose c (answer.Met steps pc registers words) is w h = (c, w, h)
+command-gives files ws rose c (answer.Met steps pc registers words memory) is w h = (c, w, h)
 command-gives files ws rose c answer.NoFunction is w h = (c, w, h)
 command-gives files ws rose c (answer.NoSuchStart start) is w h = (c, w, h)
 command-gives files ws rose c (answer.AmbiguousStart start low high) is w h = (c, w, h)
@@ -160,52 +160,52 @@ proof-told told ws h proof name turns gs w = h (Eval proof name turns gs) w 0 []
 -- ---- answers to `run`, as far as the files are told
 
 -- an answer to a file within the limit
-image-gives : (p start : List ℕ) (until steps : ℕ) (gs : List Given) (a : Answer) → length p ≤ elf_limit → ImageGives p start until steps gs a → RunGives p start until steps gs a
-image-gives p start until steps gs answer.OverLimitElf small h = absurd h.1.2
-image-gives p start until steps gs (answer.Evaluated used pc registers words) small h = (small, h)
-image-gives p start until steps gs (answer.Met k pc registers words) small h = (small, h)
-image-gives p start until steps gs answer.NoFunction small h = (small, h)
-image-gives p start until steps gs (answer.NoSuchStart name) small h = (small, h)
-image-gives p start until steps gs (answer.AmbiguousStart name low high) small h = (small, h)
-image-gives p start until steps gs (answer.StuckAfter k why) small h = (small, h)
-image-gives p start until steps gs answer.NotACommand small h = (small, h)
-image-gives p start until steps gs (answer.UnreadableText line) small h = (small, h)
-image-gives p start until steps gs (answer.UnreadableElf why) small h = (small, h)
-image-gives p start until steps gs answer.ReadFault small h = (small, h)
-image-gives p start until steps gs answer.NoMemory small h = (small, h)
-image-gives p start until steps gs answer.OverLimitProof small h = (small, h)
-image-gives p start until steps gs answer.TurnsUsed small h = (small, h)
-image-gives p start until steps gs answer.StepsUsed small h = (small, h)
+image-gives : (p start : List ℕ) (until steps : ℕ) (args : List Arg) (a : Answer) → length p ≤ elf_limit → ImageGives p start until steps args a → RunGives p start until steps args a
+image-gives p start until steps args answer.OverLimitElf small h = absurd h.1.2
+image-gives p start until steps args (answer.Evaluated used pc registers words) small h = (small, h)
+image-gives p start until steps args (answer.Met k pc registers words memory) small h = (small, h)
+image-gives p start until steps args answer.NoFunction small h = (small, h)
+image-gives p start until steps args (answer.NoSuchStart name) small h = (small, h)
+image-gives p start until steps args (answer.AmbiguousStart name low high) small h = (small, h)
+image-gives p start until steps args (answer.StuckAfter k why) small h = (small, h)
+image-gives p start until steps args answer.NotACommand small h = (small, h)
+image-gives p start until steps args (answer.UnreadableText line) small h = (small, h)
+image-gives p start until steps args (answer.UnreadableElf why) small h = (small, h)
+image-gives p start until steps args answer.ReadFault small h = (small, h)
+image-gives p start until steps args answer.NoMemory small h = (small, h)
+image-gives p start until steps args answer.OverLimitProof small h = (small, h)
+image-gives p start until steps args answer.TurnsUsed small h = (small, h)
+image-gives p start until steps args answer.StepsUsed small h = (small, h)
 
-run-gives-such : (p start : List ℕ) (until steps : ℕ) (gs : List Given) (a : Answer) → RunGives p start until steps gs a → IsOfCommand a
-run-gives-such p start until steps gs (answer.Evaluated used pc registers words) h = tt
-run-gives-such p start until steps gs (answer.Met k pc registers words) h = tt
-run-gives-such p start until steps gs answer.NoFunction h = tt
-run-gives-such p start until steps gs (answer.NoSuchStart name) h = tt
-run-gives-such p start until steps gs (answer.AmbiguousStart name low high) h = tt
-run-gives-such p start until steps gs (answer.StuckAfter k why) h = tt
-run-gives-such p start until steps gs answer.NotACommand h = absurd h.1.1.2
-run-gives-such p start until steps gs (answer.UnreadableText line) h = tt
-run-gives-such p start until steps gs (answer.UnreadableElf why) h = tt
-run-gives-such p start until steps gs answer.ReadFault h = absurd h.1.1.2
-run-gives-such p start until steps gs answer.NoMemory h = absurd h.1.1.2
-run-gives-such p start until steps gs answer.OverLimitProof h = tt
-run-gives-such p start until steps gs answer.OverLimitElf h = tt
-run-gives-such p start until steps gs answer.TurnsUsed h = tt
-run-gives-such p start until steps gs answer.StepsUsed h = tt
+run-gives-such : (p start : List ℕ) (until steps : ℕ) (args : List Arg) (a : Answer) → RunGives p start until steps args a → IsOfCommand a
+run-gives-such p start until steps args (answer.Evaluated used pc registers words) h = tt
+run-gives-such p start until steps args (answer.Met k pc registers words memory) h = tt
+run-gives-such p start until steps args answer.NoFunction h = tt
+run-gives-such p start until steps args (answer.NoSuchStart name) h = tt
+run-gives-such p start until steps args (answer.AmbiguousStart name low high) h = tt
+run-gives-such p start until steps args (answer.StuckAfter k why) h = tt
+run-gives-such p start until steps args answer.NotACommand h = absurd h.1.1.2
+run-gives-such p start until steps args (answer.UnreadableText line) h = tt
+run-gives-such p start until steps args (answer.UnreadableElf why) h = tt
+run-gives-such p start until steps args answer.ReadFault h = absurd h.1.1.2
+run-gives-such p start until steps args answer.NoMemory h = absurd h.1.1.2
+run-gives-such p start until steps args answer.OverLimitProof h = tt
+run-gives-such p start until steps args answer.OverLimitElf h = tt
+run-gives-such p start until steps args answer.TurnsUsed h = tt
+run-gives-such p start until steps args answer.StepsUsed h = tt
 
-pub image-given : (told : Option Contents) (ws : List (List ℕ)) (rose : Type 0) (elf start : List ℕ) (until steps : ℕ) (gs : List Given) → Words ws (Run elf start until steps gs)
-    → (p : List ℕ) → IfSome told (λ files. files elf ≡ Some p) → length p ≤ elf_limit → (a : Answer) → ImageGives p start until steps gs a → ForContents told (λ files. Gives files ws rose a)
-image-given told ws rose elf start until steps gs w p h small a t =
-    let e = image-gives p start until steps gs a small t in
-    for-file told elf p (λ files. Gives files ws rose a) h (λ files held. command-gives files ws rose (Run elf start until steps gs) a (run-gives-such p start until steps gs a e) w (p, held, e))
+pub image-given : (told : Option Contents) (ws : List (List ℕ)) (rose : Type 0) (elf start : List ℕ) (until steps : ℕ) (args : List Arg) → Words ws (Run elf start until steps args)
+    → (p : List ℕ) → IfSome told (λ files. files elf ≡ Some p) → length p ≤ elf_limit → (a : Answer) → ImageGives p start until steps args a → ForContents told (λ files. Gives files ws rose a)
+image-given told ws rose elf start until steps args w p h small a t =
+    let e = image-gives p start until steps args a small t in
+    for-file told elf p (λ files. Gives files ws rose a) h (λ files held. command-gives files ws rose (Run elf start until steps args) a (run-gives-such p start until steps args a e) w (p, held, e))
 
-pub elf-limit-given : (told : Option Contents) (ws : List (List ℕ)) (elf start : List ℕ) (until steps : ℕ) (gs : List Given) → Words ws (Run elf start until steps gs)
+pub elf-limit-given : (told : Option Contents) (ws : List (List ℕ)) (elf start : List ℕ) (until steps : ℕ) (args : List Arg) → Words ws (Run elf start until steps args)
     → IfSome told (λ files. IsSomeAnd (files elf) (λ file. elf_limit < length file))
     → ForContents told (λ files. (c : Command) × Words ws c × CommandGives files c answer.OverLimitElf)
-elf-limit-given told ws elf start until steps gs w h =
-    for-longer told elf elf_limit (λ files. (c : Command) × Words ws c × CommandGives files c answer.OverLimitElf) h (λ files p held over. (Run elf start until steps gs, w, (p, held, over)))
+elf-limit-given told ws elf start until steps args w h =
+    for-longer told elf elf_limit (λ files. (c : Command) × Words ws c × CommandGives files c answer.OverLimitElf) h (λ files p held over. (Run elf start until steps args, w, (p, held, over)))
 
 -- the file that `run` reads
-pub elf-told : (told : Option Contents) (ws : List (List ℕ)) → ReadsAreTold told ws → (elf start : List ℕ) (until steps : ℕ) (gs : List Given) → Words ws (Run elf start until steps gs) → TellsName told elf
-elf-told told ws h elf start until steps gs w = h (Run elf start until steps gs) w 0 [] (omega arith)
+pub elf-told : (told : Option Contents) (ws : List (List ℕ)) → ReadsAreTold told ws → (elf start : List ℕ) (until steps : ℕ) (args : List Arg) → Words ws (Run elf start until steps args) → TellsName told elf
+elf-told told ws h elf start until steps args w = h (Run elf start until steps args) w 0 [] (omega arith)

@@ -7,7 +7,7 @@ use Rattle.tailrec_lang.specs.Tree.{GroupTree}
 use Rattle.tailrec_lang.specs.Eval.{Done, Turns, Nothing, Outcome, eval}
 use Rattle.mcdec.specs.declared.answer.Answer.{Answer}
 use Rattle.mcdec.specs.declared.answer.Answer.TheVariants as answer
-use Rattle.mcdec.specs.Command.{Command, Eval, Run, Given, Words, IsNoCommand, AreGiven, given_word}
+use Rattle.mcdec.specs.Command.{Command, Eval, Run, Arg, Given, Words, IsNoCommand, AreGiven, given_word, arg_word, givens, ranges}
 use Rattle.mcdec.specs.Text.{IsSmallText}
 use Rattle.elf_image.specs.declared.fault.ElfFault.{ElfFault}
 use Rattle.elf_image.specs.Fault.{IsReadable, fault_of}
@@ -19,7 +19,7 @@ use Rattle.rv_machine.specs.declared.running.RunEnd.{RunEnd}
 use Rattle.rv_machine.specs.declared.running.RunEnd.TheVariants as end
 use Rattle.rv_machine.proofs.RunLemmas.{ends-once}
 use Rattle.mcdec.specs.Number.{hex}
-use Rattle.mcdec.specs.RunAnswer.{elf_limit, begin, shown, StandsFor, start_refused, RunGives}
+use Rattle.mcdec.specs.RunAnswer.{elf_limit, begin, held_at, shown, StandsFor, start_refused, RunGives}
 use Rattle.mcdec.specs.EvalAnswer.{proof_limit, listed, arguments_of, GroupGives, TextGives, EvalGives}
 use Rattle.mcdec.specs.Answer.{CommandGives, Gives, ForContents, IsDetermined}
 use Rattle.mcdec.specs.Printed.{IsPrinted, IsDelivered}
@@ -28,6 +28,7 @@ use Rattle.mcdec.proofs.Numbers.{number_of-again}
 use Rattle.mcdec.proofs.Readers.{some_is}
 use Rattle.mcdec.proofs.SmallText.{small-unique}
 use Rattle.mcdec.proofs.Givens.{given_word-injective, hex-injective}
+use Rattle.mcdec.proofs.ArgWords.{args-unique}
 use Rattle.mcdec.proofs.Words.{other-name}
 
 -- ---- words
@@ -58,16 +59,16 @@ words-unique ws (Eval proof name turns gs) (Eval proof' name' turns' gs') a b =
     let t = decimal-injective turns turns' a.0.2 b.0.2 d in
     let g : gs ≡ gs' = givens-unique gs gs' a.0.3 b.0.3 m in
     λ i. Eval (p i) (n i) (t i) (g i)
-words-unique ws (Run elf start until steps gs) (Run elf' start' until' steps' gs') a b =
+words-unique ws (Run elf start until steps args) (Run elf' start' until' steps' args') a b =
     let e = sym a.1 ∙ b.1 in
     let f : elf ≡ elf' = cc in
     let s : start ≡ start' = cc in
     let x : hex until ≡ hex until' = cc in
     let d : decimal steps ≡ decimal steps' = cc in
-    let m : map given_word gs ≡ map given_word gs' = cc in
+    let m : map arg_word args ≡ map arg_word args' = cc in
     let u = hex-injective until until' a.0.2 b.0.2 x in
     let k = decimal-injective steps steps' a.0.3 b.0.3 d in
-    let g : gs ≡ gs' = givens-unique gs gs' a.0.4 b.0.4 m in
+    let g : args ≡ args' = args-unique args args' a.0.4 b.0.4 m in
     λ i. Run (f i) (s i) (u i) (k i) (g i)
 words-unique ws (Eval proof name turns gs) (Run elf start until steps gs') a b =
     let e = sym a.1 ∙ b.1 in
@@ -94,7 +95,7 @@ group-case g turns gs (answer.UnreadableText line) h = absurd h
 group-case g turns gs answer.ReadFault h = absurd h
 group-case g turns gs answer.NoMemory h = absurd h
 group-case g turns gs answer.OverLimitProof h = absurd h
-group-case g turns gs (answer.Met k pc registers words) h = absurd h
+group-case g turns gs (answer.Met k pc registers words memory) h = absurd h
 group-case g turns gs (answer.NoSuchStart start) h = absurd h
 group-case g turns gs (answer.AmbiguousStart start low high) h = absurd h
 group-case g turns gs (answer.StuckAfter k why) h = absurd h
@@ -127,7 +128,7 @@ text-case p name turns gs answer.NotACommand h = absurd h.3
 text-case p name turns gs answer.ReadFault h = absurd h.3
 text-case p name turns gs answer.NoMemory h = absurd h.3
 text-case p name turns gs answer.OverLimitProof h = absurd h.3
-text-case p name turns gs (answer.Met k pc registers words) h = absurd h.3
+text-case p name turns gs (answer.Met k pc registers words memory) h = absurd h.3
 text-case p name turns gs (answer.NoSuchStart start) h = absurd h.3
 text-case p name turns gs (answer.AmbiguousStart start low high) h = absurd h.3
 text-case p name turns gs (answer.StuckAfter k why) h = absurd h.3
@@ -156,7 +157,7 @@ file-case p name turns gs (answer.Evaluated used pc registers words) h = inr h
 file-case p name turns gs answer.NotACommand h = inr h
 file-case p name turns gs answer.ReadFault h = inr h
 file-case p name turns gs answer.NoMemory h = inr h
-file-case p name turns gs (answer.Met k pc registers words) h = inr h
+file-case p name turns gs (answer.Met k pc registers words memory) h = inr h
 file-case p name turns gs (answer.NoSuchStart start) h = inr h
 file-case p name turns gs (answer.AmbiguousStart start low high) h = inr h
 file-case p name turns gs (answer.StuckAfter k why) h = inr h
@@ -175,17 +176,17 @@ file-unique p name turns gs a b (inr h) (inr k) = text-unique p name turns gs a 
 
 -- ---- runs
 
-abbrev answer_at : List Given → State → RunEnd → Answer
-answer_at gs t (end.Met k) = answer.Met k t.pc (shown gs t) (map t.reg (shown gs t))
-answer_at gs t (end.Stuck k why) = answer.StuckAfter k why
-answer_at gs t end.Steps = answer.StepsUsed
+abbrev answer_at : List Arg → State → RunEnd → Answer
+answer_at args t (end.Met k) = answer.Met k t.pc (shown (givens args) t) (map t.reg (shown (givens args) t)) (map (held_at t.mem) (ranges args))
+answer_at args t (end.Stuck k why) = answer.StuckAfter k why
+answer_at args t end.Steps = answer.StepsUsed
 
-abbrev MachineCase : ℕ → ℕ → List Given → State → Answer → Type 0
-MachineCase until steps gs s a = (t : State) × (e : RunEnd) × EndsIn until steps s t e × (a ≡ answer_at gs t e)
+abbrev MachineCase : ℕ → ℕ → List Arg → State → Answer → Type 0
+MachineCase until steps args s a = (t : State) × (e : RunEnd) × EndsIn until steps s t e × (a ≡ answer_at args t e)
 
-machine-unique : (until steps : ℕ) (gs : List Given) (s : State) (a b : Answer) → MachineCase until steps gs s a → MachineCase until steps gs s b → a ≡ b
-machine-unique until steps gs s a b h k =
-    let p = ends-once until steps s h.0 k.0 h.1 k.1 h.2 k.2 in h.3 ∙ (λ i. answer_at gs (p.0 i) (p.1 i)) ∙ sym k.3
+machine-unique : (until steps : ℕ) (args : List Arg) (s : State) (a b : Answer) → MachineCase until steps args s a → MachineCase until steps args s b → a ≡ b
+machine-unique until steps args s a b h k =
+    let p = ends-once until steps s h.0 k.0 h.1 k.1 h.2 k.2 in h.3 ∙ (λ i. answer_at args (p.0 i) (p.1 i)) ∙ sym k.3
 
 abbrev ok_value : ℕ → Result ℕ NameFault
 ok_value a = Ok a
@@ -209,20 +210,20 @@ err_is f g e = cc
 ok_err : (a : ℕ) (f : NameFault) → ok_value a ≡ err_value f → ⊥
 ok_err a f e = cc
 
-abbrev StartCase : List ℕ → List ℕ → ℕ → ℕ → List Given → Answer → Type 0
-StartCase file start until steps gs a =
-    ((f : NameFault) × StandsFor file start (Err f) × (a ≡ start_refused start f)) ⊎ ((n : ℕ) × StandsFor file start (Ok n) × MachineCase until steps gs (begin file gs n) a)
+abbrev StartCase : List ℕ → List ℕ → ℕ → ℕ → List Arg → Answer → Type 0
+StartCase file start until steps args a =
+    ((f : NameFault) × StandsFor file start (Err f) × (a ≡ start_refused start f)) ⊎ ((n : ℕ) × StandsFor file start (Ok n) × MachineCase until steps args (begin file args n) a)
 
-start-unique : (file start : List ℕ) (until steps : ℕ) (gs : List Given) (a b : Answer) → StartCase file start until steps gs a → StartCase file start until steps gs b → a ≡ b
-start-unique file start until steps gs a b (inl h) (inl k) = h.2 ∙ ap (start_refused start) (err_is h.0 k.0 (stands-once file start (Err h.0) (Err k.0) h.1 k.1)) ∙ sym k.2
-start-unique file start until steps gs a b (inl h) (inr k) = absurd (ok_err k.0 h.0 (stands-once file start (Ok k.0) (Err h.0) k.1 h.1))
-start-unique file start until steps gs a b (inr h) (inl k) = absurd (ok_err h.0 k.0 (stands-once file start (Ok h.0) (Err k.0) h.1 k.1))
-start-unique file start until steps gs a b (inr h) (inr k) =
+start-unique : (file start : List ℕ) (until steps : ℕ) (args : List Arg) (a b : Answer) → StartCase file start until steps args a → StartCase file start until steps args b → a ≡ b
+start-unique file start until steps args a b (inl h) (inl k) = h.2 ∙ ap (start_refused start) (err_is h.0 k.0 (stands-once file start (Err h.0) (Err k.0) h.1 k.1)) ∙ sym k.2
+start-unique file start until steps args a b (inl h) (inr k) = absurd (ok_err k.0 h.0 (stands-once file start (Ok k.0) (Err h.0) k.1 h.1))
+start-unique file start until steps args a b (inr h) (inl k) = absurd (ok_err h.0 k.0 (stands-once file start (Ok h.0) (Err k.0) h.1 k.1))
+start-unique file start until steps args a b (inr h) (inr k) =
     let n : h.0 ≡ k.0 = ok_is h.0 k.0 (stands-once file start (Ok h.0) (Ok k.0) h.1 k.1) in
-    machine-unique until steps gs (begin file gs k.0) a b (subst (λ (x : ℕ). MachineCase until steps gs (begin file gs x) a) n h.2) k.2
+    machine-unique until steps args (begin file args k.0) a b (subst (λ (x : ℕ). MachineCase until steps args (begin file args x) a) n h.2) k.2
 
-abbrev ImageCase : List ℕ → List ℕ → ℕ → ℕ → List Given → Answer → Type 0
-ImageCase file start until steps gs a = ((why : ElfFault) × (fault_of file ≡ Some why) × (a ≡ answer.UnreadableElf why)) ⊎ (IsReadable file × StartCase file start until steps gs a)
+abbrev ImageCase : List ℕ → List ℕ → ℕ → ℕ → List Arg → Answer → Type 0
+ImageCase file start until steps args a = ((why : ElfFault) × (fault_of file ≡ Some why) × (a ≡ answer.UnreadableElf why)) ⊎ (IsReadable file × StartCase file start until steps args a)
 
 some_fault : (x y : ElfFault) → Some x ≡ Some y → x ≡ y
 some_fault x y e = cc
@@ -230,39 +231,39 @@ some_fault x y e = cc
 none_fault : (x : ElfFault) → None ≡ Some x → ⊥
 none_fault x e = cc
 
-image-unique : (file start : List ℕ) (until steps : ℕ) (gs : List Given) (a b : Answer) → ImageCase file start until steps gs a → ImageCase file start until steps gs b → a ≡ b
-image-unique file start until steps gs a b (inl h) (inl k) = h.2 ∙ ap answer.UnreadableElf (some_fault h.0 k.0 (sym h.1 ∙ k.1)) ∙ sym k.2
-image-unique file start until steps gs a b (inl h) (inr k) = absurd (none_fault h.0 (sym k.0 ∙ h.1))
-image-unique file start until steps gs a b (inr h) (inl k) = absurd (none_fault k.0 (sym h.0 ∙ k.1))
-image-unique file start until steps gs a b (inr h) (inr k) = start-unique file start until steps gs a b h.1 k.1
+image-unique : (file start : List ℕ) (until steps : ℕ) (args : List Arg) (a b : Answer) → ImageCase file start until steps args a → ImageCase file start until steps args b → a ≡ b
+image-unique file start until steps args a b (inl h) (inl k) = h.2 ∙ ap answer.UnreadableElf (some_fault h.0 k.0 (sym h.1 ∙ k.1)) ∙ sym k.2
+image-unique file start until steps args a b (inl h) (inr k) = absurd (none_fault h.0 (sym k.0 ∙ h.1))
+image-unique file start until steps args a b (inr h) (inl k) = absurd (none_fault k.0 (sym h.0 ∙ k.1))
+image-unique file start until steps args a b (inr h) (inr k) = start-unique file start until steps args a b h.1 k.1
 
-abbrev RunCase : List ℕ → List ℕ → ℕ → ℕ → List Given → Answer → Type 0
-RunCase file start until steps gs a = ((elf_limit < length file) × (a ≡ answer.OverLimitElf)) ⊎ ((length file ≤ elf_limit) × ImageCase file start until steps gs a)
+abbrev RunCase : List ℕ → List ℕ → ℕ → ℕ → List Arg → Answer → Type 0
+RunCase file start until steps args a = ((elf_limit < length file) × (a ≡ answer.OverLimitElf)) ⊎ ((length file ≤ elf_limit) × ImageCase file start until steps args a)
 
-run-case : (file start : List ℕ) (until steps : ℕ) (gs : List Given) (a : Answer) → RunGives file start until steps gs a → RunCase file start until steps gs a
-run-case file start until steps gs (answer.Evaluated used pc registers words) h = absurd h.1.1.2
-run-case file start until steps gs (answer.Met k pc registers words) h =
+run-case : (file start : List ℕ) (until steps : ℕ) (args : List Arg) (a : Answer) → RunGives file start until steps args a → RunCase file start until steps args a
+run-case file start until steps args (answer.Evaluated used pc registers words) h = absurd h.1.1.2
+run-case file start until steps args (answer.Met k pc registers words memory) h =
     let m = h.1.1.2 in
-    inr (h.0, inr (h.1.0, inr (h.1.1.0, h.1.1.1, (m.0, end.Met k, m.1, λ i. answer.Met k (m.2 i) (m.3 i) ((m.4 ∙ ap (map m.0.reg) m.3) i)))))
-run-case file start until steps gs answer.NoFunction h = absurd h.1.1.2
-run-case file start until steps gs (answer.NoSuchStart name) h = inr (h.0, inr (h.1.0, inl (NoSuch, h.1.1.0, ap answer.NoSuchStart h.1.1.1)))
-run-case file start until steps gs (answer.AmbiguousStart name low high) h = inr (h.0, inr (h.1.0, inl (Ambiguous low high, h.1.1.0, λ i. answer.AmbiguousStart (h.1.1.1 i) low high)))
-run-case file start until steps gs (answer.StuckAfter k why) h = let m = h.1.1.2 in inr (h.0, inr (h.1.0, inr (h.1.1.0, h.1.1.1, (m.0, end.Stuck k why, m.1, refl))))
-run-case file start until steps gs answer.NotACommand h = absurd h.1.1.2
-run-case file start until steps gs (answer.UnreadableText line) h = absurd h.1.1.2
-run-case file start until steps gs (answer.UnreadableElf why) h = inr (h.0, inl (why, h.1, refl))
-run-case file start until steps gs answer.ReadFault h = absurd h.1.1.2
-run-case file start until steps gs answer.NoMemory h = absurd h.1.1.2
-run-case file start until steps gs answer.OverLimitProof h = absurd h.1.1.2
-run-case file start until steps gs answer.OverLimitElf h = inl (h, refl)
-run-case file start until steps gs answer.TurnsUsed h = absurd h.1.1.2
-run-case file start until steps gs answer.StepsUsed h = let m = h.1.1.2 in inr (h.0, inr (h.1.0, inr (h.1.1.0, h.1.1.1, (m.0, end.Steps, m.1, refl))))
+    inr (h.0, inr (h.1.0, inr (h.1.1.0, h.1.1.1, (m.0, end.Met k, m.1, λ i. answer.Met k (m.2 i) (m.3 i) ((m.4 ∙ ap (map m.0.reg) m.3) i) (m.5 i)))))
+run-case file start until steps args answer.NoFunction h = absurd h.1.1.2
+run-case file start until steps args (answer.NoSuchStart name) h = inr (h.0, inr (h.1.0, inl (NoSuch, h.1.1.0, ap answer.NoSuchStart h.1.1.1)))
+run-case file start until steps args (answer.AmbiguousStart name low high) h = inr (h.0, inr (h.1.0, inl (Ambiguous low high, h.1.1.0, λ i. answer.AmbiguousStart (h.1.1.1 i) low high)))
+run-case file start until steps args (answer.StuckAfter k why) h = let m = h.1.1.2 in inr (h.0, inr (h.1.0, inr (h.1.1.0, h.1.1.1, (m.0, end.Stuck k why, m.1, refl))))
+run-case file start until steps args answer.NotACommand h = absurd h.1.1.2
+run-case file start until steps args (answer.UnreadableText line) h = absurd h.1.1.2
+run-case file start until steps args (answer.UnreadableElf why) h = inr (h.0, inl (why, h.1, refl))
+run-case file start until steps args answer.ReadFault h = absurd h.1.1.2
+run-case file start until steps args answer.NoMemory h = absurd h.1.1.2
+run-case file start until steps args answer.OverLimitProof h = absurd h.1.1.2
+run-case file start until steps args answer.OverLimitElf h = inl (h, refl)
+run-case file start until steps args answer.TurnsUsed h = absurd h.1.1.2
+run-case file start until steps args answer.StepsUsed h = let m = h.1.1.2 in inr (h.0, inr (h.1.0, inr (h.1.1.0, h.1.1.1, (m.0, end.Steps, m.1, refl))))
 
-run-unique : (file start : List ℕ) (until steps : ℕ) (gs : List Given) (a b : Answer) → RunCase file start until steps gs a → RunCase file start until steps gs b → a ≡ b
-run-unique file start until steps gs a b (inl h) (inl k) = h.1 ∙ sym k.1
-run-unique file start until steps gs a b (inl h) (inr k) = absurd (over (length file) elf_limit h.0 k.0)
-run-unique file start until steps gs a b (inr h) (inl k) = absurd (over (length file) elf_limit k.0 h.0)
-run-unique file start until steps gs a b (inr h) (inr k) = image-unique file start until steps gs a b h.1 k.1
+run-unique : (file start : List ℕ) (until steps : ℕ) (args : List Arg) (a b : Answer) → RunCase file start until steps args a → RunCase file start until steps args b → a ≡ b
+run-unique file start until steps args a b (inl h) (inl k) = h.1 ∙ sym k.1
+run-unique file start until steps args a b (inl h) (inr k) = absurd (over (length file) elf_limit h.0 k.0)
+run-unique file start until steps args a b (inr h) (inl k) = absurd (over (length file) elf_limit k.0 h.0)
+run-unique file start until steps args a b (inr h) (inr k) = image-unique file start until steps args a b h.1 k.1
 
 command-unique : (files : Contents) (c : Command) (a b : Answer) → CommandGives files c a → CommandGives files c b → a ≡ b
 command-unique files (Eval proof name turns gs) a b h k =
@@ -286,7 +287,7 @@ words-case files ws rose (answer.UnreadableText line) d h = inr h
 words-case files ws rose answer.NoFunction d h = inr h
 words-case files ws rose answer.TurnsUsed d h = inr h
 words-case files ws rose (answer.Evaluated used pc registers words) d h = inr h
-words-case files ws rose (answer.Met k pc registers words) d h = inr h
+words-case files ws rose (answer.Met k pc registers words memory) d h = inr h
 words-case files ws rose (answer.NoSuchStart start) d h = inr h
 words-case files ws rose (answer.AmbiguousStart start low high) d h = inr h
 words-case files ws rose (answer.StuckAfter k why) d h = inr h
@@ -326,7 +327,7 @@ delivered-exact files ws rose answer.NoMemory result old new g (inl h) a d k = i
 delivered-exact files ws rose answer.NoMemory result old new g (inr (inl e, h)) a d k = inr (inr (inl e))
 delivered-exact files ws rose answer.NoMemory result old new g (inr (inr e, h)) a d k = inr (inr (inr e))
 delivered-exact files ws rose (answer.Evaluated used pc registers words) result old new g h a d k = comes a (answer.Evaluated used pc registers words) result old new (answer-unique files ws rose rose (answer.Evaluated used pc registers words) a tt d g k) h
-delivered-exact files ws rose (answer.Met steps pc registers words) result old new g h a d k = comes a (answer.Met steps pc registers words) result old new (answer-unique files ws rose rose (answer.Met steps pc registers words) a tt d g k) h
+delivered-exact files ws rose (answer.Met steps pc registers words memory) result old new g h a d k = comes a (answer.Met steps pc registers words memory) result old new (answer-unique files ws rose rose (answer.Met steps pc registers words memory) a tt d g k) h
 delivered-exact files ws rose answer.NoFunction result old new g h a d k = comes a answer.NoFunction result old new (answer-unique files ws rose rose answer.NoFunction a tt d g k) h
 delivered-exact files ws rose (answer.NoSuchStart name) result old new g h a d k = comes a (answer.NoSuchStart name) result old new (answer-unique files ws rose rose (answer.NoSuchStart name) a tt d g k) h
 delivered-exact files ws rose (answer.AmbiguousStart name low high) result old new g h a d k = comes a (answer.AmbiguousStart name low high) result old new (answer-unique files ws rose rose (answer.AmbiguousStart name low high) a tt d g k) h

@@ -1,17 +1,19 @@
 -- The words that give values to registers are read as they are spelled.
-use Rattle.std.proofs.Common.{◌≡◌, ◌≢◌, ℕ, ◌^◌, ◌<◌, ◌≤◌, List, [], ◌++◌, length, codes, Option, Some, None, refl, sym, ap, subst, ◌∙◌, append_assoc, arith}
+use Rattle.std.proofs.Common.{◌≡◌, ◌≢◌, ℕ, ◌+◌, ◌^◌, ◌<◌, ◌≤◌, List, get_or, [], ◌++◌, length, codes, Option, Some, None, refl, sym, ap, subst, ◌∙◌, append_assoc, arith}
 use Rattle.std.specs.Fmt.{decimal}
+use Rattle.hex.specs.Hex.{encode_lower}
+use Rattle.word_terms.specs.declared.code.Range.{Range}
 use Rattle.std.proofs.lemmas.List.{append-nil}
 use Rattle.std.proofs.lemmas.List.Elements.{All-from_recursion, recursion_from_All}
 use Rattle.mcdec.specs.Number.{hex}
 use Rattle.mcdec.specs.declared.reader.Class.TheVariants.{Name, Digit, HexDigit}
-use Rattle.mcdec.specs.Command.{Given, IsNameByte, IsName, IsGiven, given_word}
-use Rattle.mcdec.specs.CommandReading.{given_at}
+use Rattle.mcdec.specs.Command.{Arg, Value, Memory, Given, IsNameByte, IsName, IsGiven, IsMemory, given_word, memory_word, arg_word}
+use Rattle.mcdec.specs.CommandReading.{IsArg, Unless, given_at, memory_at}
 use Rattle.mcdec.specs.declared.reader.Unread.{Unread}
 use Rattle.mcdec.specs.declared.reader.Unread.TheVariants as unread
-use Rattle.mcdec.specs.Reading.{Fails, has, run_at, before, pair, decimal_at, hex_at}
+use Rattle.mcdec.specs.Reading.{Fails, has, run_at, before, pair, decimal_at, hex_at, bytes_at}
 use Rattle.mcdec.proofs.Readers.{Reads, Any, Pass, NotFirst, some_is, Reads-run, Reads-behind, Reads-before, Reads-made, Reads-pair, Reads-as}
-use Rattle.mcdec.proofs.Tokens.{decimal-reads, hex-reads}
+use Rattle.mcdec.proofs.Tokens.{AreBytes, decimal-reads, hex-reads, bytes-reads}
 use Rattle.mcdec.proofs.SmallText.{name_bytes, name_passes}
 
 -- ---- names
@@ -112,3 +114,77 @@ given_word-injective g h a b e = ap (λ (q : Given × List ℕ). q.0) (some_is (
 
 pub some_register : (n : ℕ) → (n ≡ 0 → ⊥) → 1 ≤ n
 some_register n h = omega arith
+
+-- ---- words of memory
+
+abbrev LooseMemory : Range → Type 0
+LooseMemory r = (r.at < 2 ^ 64) × AreBytes r.bytes
+
+abbrev address_text : ℕ → List ℕ
+address_text a = hex a ++ codes ":"
+
+abbrev behind_mem : Range → List ℕ
+behind_mem r = address_text r.at ++ encode_lower r.bytes
+
+memory-reads : Reads memory_at LooseMemory memory_word (NotFirst (has HexDigit))
+unfolding memory_at
+memory-reads =
+    Reads-as memory_at LooseMemory (λ r. codes "mem=" ++ behind_mem r) (NotFirst (has HexDigit))
+    (Reads-behind _ LooseMemory behind_mem (NotFirst (has HexDigit))
+    (Reads-made (pair (before hex_at (codes ":")) bytes_at) (λ p. (p.0 < 2 ^ 64) × AreBytes p.1) (λ p. address_text p.0 ++ encode_lower p.1) (NotFirst (has HexDigit))
+    (Reads-pair (before hex_at (codes ":")) (λ n. n < 2 ^ 64) address_text Any (Reads-before hex_at (λ n. n < 2 ^ 64) hex (NotFirst (has HexDigit)) hex-reads (codes ":") (λ rest. refl))
+    bytes_at AreBytes encode_lower (NotFirst (has HexDigit)) bytes-reads (λ bs rest f h. tt))
+    (λ p. record { at = p.0; bytes = p.1 }) LooseMemory behind_mem (λ p f. (refl, f)) (λ r f. ((r.at, r.bytes), f, refl)))
+    (codes "mem="))
+    memory_word (λ r f. simp append_assoc)
+
+memory-read : (r : Range) → IsMemory r → memory_at (memory_word r) ≡ Some (r, [])
+memory-read r is = ap memory_at (sym (append-nil (memory_word r))) ∙ memory-reads.again r [] (omega (arith, is.0, is.1), is.2) tt
+
+pub memory-taken : (word : List ℕ) (r : Range) (rest : List ℕ) → memory_at word ≡ Some (r, rest) → rest ≡ [] → (0 < length r.bytes) × (r.at + length r.bytes ≤ 2 ^ 64)
+    → IsMemory r × (word ≡ memory_word r)
+memory-taken word r rest e empty fits =
+    let t = memory-reads.takes word r rest e in
+    ((fits.0, fits.1, t.1.1), t.0 ∙ ap (λ (s : List ℕ). memory_word r ++ s) empty ∙ append-nil (memory_word r))
+
+-- what is read otherwise is no range's word
+pub memory-other : (word : List ℕ) (q : Range) (rest : List ℕ) → memory_at word ≡ Some (q, rest) → (rest ≡ [] → (0 < length q.bytes) × (q.at + length q.bytes ≤ 2 ^ 64) → ⊥)
+    → (r : Range) → IsMemory r → word ≢ memory_word r
+memory-other word q rest e unlike r is same =
+    let p = some_is (q, rest) (r, []) (sym e ∙ ap memory_at same ∙ memory-read r is) in
+    let here : r ≡ q = sym (ap (λ (x : Range × List ℕ). x.0) p) in
+    let fits = subst IsMemory here is in
+    unlike (ap (λ (x : Range × List ℕ). x.1) p) (fits.0, fits.1)
+
+-- nor is what was not read
+pub memory-unread : (word : List ℕ) (e : Unread) → Fails e (memory_at word) → Unless ((r : Range) → IsMemory r → word ≢ memory_word r) e
+memory-unread word unread.NotThere f = λ r is same. none_some (r, []) (sym f ∙ ap memory_at same ∙ memory-read r is)
+  where
+    none_some : (p : Range × List ℕ) → None ≡ Some p → ⊥
+    none_some p e = cc
+memory-unread word unread.NoMemory f = tt
+
+memory_word-injective : (q r : Range) → IsMemory q → IsMemory r → memory_word q ≡ memory_word r → q ≡ r
+memory_word-injective q r a b e = ap (λ (x : Range × List ℕ). x.0) (some_is (q, []) (r, []) (sym (memory-read q a) ∙ ap memory_at e ∙ memory-read r b))
+
+-- ---- words of both kinds
+
+-- they begin otherwise
+unlike-words : (g : Given) (r : Range) → given_word g ≡ memory_word r → ⊥
+unlike-words g r e = let first : ◌≡◌ {A = ℕ} 120 109 = ap (λ (w : List ℕ). get_or w 0 0) e in omega arith
+
+pub arg_word-injective : (a b : Arg) → IsArg a → IsArg b → arg_word a ≡ arg_word b → a ≡ b
+arg_word-injective (Value g) (Value h) x y e = ap Value (given_word-injective g h x y e)
+arg_word-injective (Value g) (Memory r) x y e = absurd (unlike-words g r e)
+arg_word-injective (Memory r) (Value g) x y e = absurd (unlike-words g r (sym e))
+arg_word-injective (Memory q) (Memory r) x y e = ap Memory (memory_word-injective q r x y e)
+
+-- what is a word of neither kind
+pub unless-either : (word : List ℕ) (e : Unread) → ((g : Given) → IsGiven g → word ≢ given_word g) → Unless ((r : Range) → IsMemory r → word ≢ memory_word r) e
+    → Unless ((a : Arg) → IsArg a → word ≢ arg_word a) e
+unless-either word unread.NotThere f h = neither
+  where
+    neither : (a : Arg) → IsArg a → word ≢ arg_word a
+    neither (Value g) is = f g is
+    neither (Memory r) is = h r is
+unless-either word unread.NoMemory f h = tt

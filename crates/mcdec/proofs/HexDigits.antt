@@ -1,8 +1,9 @@
 -- Digits that are written from the last to the first.
-use Rattle.std.proofs.Common.{◌≡◌, ℕ, suc, ◌+◌, ◌-◌, ◌*◌, ◌/◌, ◌%◌, ◌^◌, ◌<◌, ◌≤◌, true, false, cond, eqb, List, ◌∷◌, length, drop, set, refl, sym, ap, ◌∙◌, arith, subst}
+use Rattle.std.proofs.Common.{◌≡◌, ℕ, zero, suc, ◌+◌, ◌-◌, ◌*◌, ◌/◌, ◌%◌, ◌^◌, ◌<◌, ◌≤◌, Bool, true, false, ◌&&◌, cond, eqb, List, [], ◌∷◌, length, drop, set, slice_index, inl, inr, refl, sym, ap, ◌∙◌, arith, subst}
 use Rattle.std.specs.Fmt.{digits, digits_onto, digit_glyph}
-use Rattle.std.proofs.lemmas.Bool.{ne_eqb}
+use Rattle.std.proofs.lemmas.Bool.{ne_eqb, eqb-true, and_parts, cases_lt}
 use Rattle.std.proofs.Math.Nat.{pow-suc}
+use Rattle.hex.specs.Hex.{lower_digits, encode_with, encode_lower}
 use Rattle.std.proofs.lemmas.List.{drop-set, drop_all, length-set}
 
 -- how far the writing has come: `start` digits may follow in front of those that stand from there on
@@ -76,3 +77,26 @@ pub no_room_left : (n rest start : ℕ) (into : List ℕ) → start ≡ 0 → Is
 no_room_left n rest start into z here =
     let one : rest < 16 ^ 0 = subst (λ (s : ℕ). rest < 16 ^ s) z here.small in
     omega (arith, one, here.more (omega arith))
+
+-- ---- the digits of a byte
+
+-- the digits are those of the table
+abbrev glyphs_agree : ℕ → Bool
+glyphs_agree zero = true
+glyphs_agree (suc n) = eqb (digit_glyph false n) (slice_index lower_digits n) && glyphs_agree n
+
+glyph-at : (n d : ℕ) → glyphs_agree n ≡ true → d < n → digit_glyph false d ≡ slice_index lower_digits d
+glyph-at zero d h lt = absurd (omega arith)
+glyph-at (suc n) d h lt =
+    let parts = and_parts (eqb (digit_glyph false n) (slice_index lower_digits n)) (glyphs_agree n) h in
+    elim (cases_lt d n) [
+      | inl less ↦ glyph-at n d parts.1 less
+      | inr top ↦ let e : d ≡ n = omega arith in subst (λ (j : ℕ). digit_glyph false j ≡ slice_index lower_digits j) (sym e) (eqb-true _ _ parts.0)
+    ]
+
+pub byte-digits : (b : ℕ) → b < 256 → digit_glyph false (b / 16) ∷ digit_glyph false (b % 16) ∷ [] ≡ encode_lower (b ∷ [])
+unfolding encode_with
+byte-digits b lt =
+    let high = glyph-at 16 (b / 16) refl (omega (arith, lt)) in
+    let low = glyph-at 16 (b % 16) refl (omega arith) in
+    λ i. high i ∷ low i ∷ []

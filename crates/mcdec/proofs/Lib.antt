@@ -9,8 +9,10 @@ pub mod SmallText
 pub mod Prints
 pub mod Givens
 pub mod Registers
+pub mod ArgWords
 pub mod Words
 pub mod SetUp
+pub mod Asked
 pub mod Answers
 pub mod Exactness
 pub mod Examples

@@ -8,6 +8,8 @@ use Rattle.mc_shelf.specs.Fault.{Rose, WhereTold}
 use Rattle.mc_shelf.specs.Sink.{Adds}
 use Rattle.mc_shelf.specs.declared.sink.Stop.{Stop}
 use Rattle.mc_shelf.specs.declared.sink.Stop.TheVariants.{Failed, NoMemory}
+use Rattle.hex.specs.Hex.{encode_with, encode_lower}
+use Rattle.mcdec.specs.Text.{each}
 use Rattle.mcdec.specs.Printed.{register_line, register_lines}
 use Rattle.mcdec.specs.declared.print.Piece.{Piece}
 use Rattle.mcdec.specs.Printing.{Gains, Prints, piece_text, pieces_text}
@@ -154,3 +156,40 @@ module _ (rs ws : List ℕ) (k r w : ℕ) (lr : k < length rs) (lw : k < length 
       (ap (λ (s : List ℕ). s ++ register_lines (drop (suc k) rs) (drop (suc k) ws)) (sym (lines-more k rs ws r w lr lw er ew)) ∙ sym (lines-split (suc k) rs ws (omega arith) (omega arith)))
       (prints-stopped e (register_lines (take k rs) (take k ws) ++ register_line r w) (register_lines (drop (suc k) rs) (drop (suc k) ws)) o n f h
       (prints-then (Err e) (register_lines (take k rs) (take k ws)) (register_line r w) o m n f g h front next))
+
+-- ---- texts of items
+
+module _ {X : Type 0} (text : X → List ℕ) where
+  each-append : (xs ys : List X) → each text (xs ++ ys) ≡ each text xs ++ each text ys
+  each-append [] ys = refl
+  each-append (x ∷ xs) ys = ap (λ (s : List ℕ). text x ++ s) (each-append xs ys) ∙ sym (append_assoc (text x) (each text xs) (each text ys))
+
+  each-more : (xs : List X) (i : ℕ) (d : X) → i < length xs → each text (take (i + 1) xs) ≡ each text (take i xs) ++ text (get_or xs i d)
+  each-more xs i d lt =
+      ap (each text) (take_more xs i d lt) ∙ each-append (take i xs) (get_or xs i d ∷ [])
+      ∙ ap (λ (s : List ℕ). each text (take i xs) ++ s) (append-nil (text (get_or xs i d)))
+
+  each-split : (xs : List X) (i : ℕ) (d : X) → i < length xs → each text xs ≡ (each text (take i xs) ++ text (get_or xs i d)) ++ each text (drop (i + 1) xs)
+  each-split xs i d lt =
+      ap (each text) (sym (take-append-drop (i + 1) xs)) ∙ each-append (take (i + 1) xs) (drop (i + 1) xs)
+      ∙ ap (λ (s : List ℕ). s ++ each text (drop (i + 1) xs)) (each-more xs i d lt)
+
+  module _ (xs : List X) (i : ℕ) (d : X) (lt : i < length xs) (o m n : Option (List ℕ)) (f g h : ℕ) (front : Prints (Ok tt) (each text (take i xs)) o m f g) where
+    -- one item more
+    pub items-more : Prints (Ok tt) (text (get_or xs i d)) m n g h → Prints (Ok tt) (each text (take (i + 1) xs)) o n f h
+    items-more next = prints-as (Ok tt) _ _ o n f h (sym (each-more xs i d lt)) (prints-then (Ok tt) (each text (take i xs)) (text (get_or xs i d)) o m n f g h front next)
+
+    -- the next item failed
+    pub items-broken : (e : Stop) → Prints (Err e) (text (get_or xs i d)) m n g h → Prints (Err e) (each text xs) o n f h
+    items-broken e next =
+        prints-as (Err e) _ _ o n f h (sym (each-split xs i d lt))
+        (prints-stopped e (each text (take i xs) ++ text (get_or xs i d)) (each text (drop (i + 1) xs)) o n f h (prints-then (Err e) (each text (take i xs)) (text (get_or xs i d)) o m n f g h front next))
+
+-- the digits of each byte
+abbrev pub byte_text : ℕ → List ℕ
+byte_text b = encode_lower (b ∷ [])
+
+pub encode-each : (bs : List ℕ) → each byte_text bs ≡ encode_lower bs
+unfolding encode_with
+encode-each [] = refl
+encode-each (b ∷ bs) = ap (λ (s : List ℕ). byte_text b ++ s) (encode-each bs)

@@ -30,7 +30,7 @@ given_to-last (h ∷ hs) g n = choose (eqb h.register n) _ _ (given_to-last hs g
     choose false o p e = e
 
 -- no value of the first, and none of the others
-none-parts : (b : Bool) (v : ℕ) (o : Option ℕ) → cond b (Some v) o ≡ None → (b ≡ false) × (o ≡ None)
+pub none-parts : (b : Bool) (v : ℕ) (o : Option ℕ) → cond b (Some v) o ≡ None → (b ≡ false) × (o ≡ None)
 none-parts true v o e = absurd cc
 none-parts false v o e = (refl, e)
 
@@ -41,7 +41,7 @@ others g h e = choose (eqb g.register h.register) (λ same. eqb-false h.register
     choose true f = absurd (f refl)
     choose false f = refl
 
-AreGiven-last : (gs : List Given) (g : Given) → AreGiven gs → IsGiven g → given_to gs g.register ≡ None → AreGiven (gs ++ g ∷ [])
+pub AreGiven-last : (gs : List Given) (g : Given) → AreGiven gs → IsGiven g → given_to gs g.register ≡ None → AreGiven (gs ++ g ∷ [])
 AreGiven-last [] g all is none = (is, refl, tt)
 AreGiven-last (h ∷ hs) g all is none =
     let p = none-parts (eqb h.register g.register) h.value (given_to hs g.register) none in
@@ -54,7 +54,7 @@ or_none (Some v) = refl
 eqb_same : (n : ℕ) → eqb n n ≡ true
 eqb_same n = elim (eqb_tells n n) [ inl t ↦ t.0 | inr f ↦ absurd (f.1 refl) ]
 
-Holds-last : (gs : List Given) (g : Given) (values : List (Option ℕ)) → IsGiven g → given_to gs g.register ≡ None → length values ≡ 32 → Holds gs values → Holds (gs ++ g ∷ []) (set values g.register (Some g.value))
+pub Holds-last : (gs : List Given) (g : Given) (values : List (Option ℕ)) → IsGiven g → given_to gs g.register ≡ None → length values ≡ 32 → Holds gs values → Holds (gs ++ g ∷ []) (set values g.register (Some g.value))
 Holds-last gs g values is none full holds n lt =
     let long : n < length (set values g.register (Some g.value)) = omega (arith, length-set values g.register (Some g.value)) in
     slice_get-get_or (set values g.register (Some g.value)) n None long ∙ ap Some (elim (eqb_tells g.register n) [
@@ -67,7 +67,7 @@ Holds-last gs g values is none full holds n lt =
 abbrev Words : Type 0
 Words = List (String Global)
 
-texts-split : (words : Words) (i : ℕ) (word : String Global) → i < length words → word ≡ get_or words i word → texts words ≡ texts (take i words) ++ string_bytes word ∷ texts (drop (suc i) words)
+pub texts-split : (words : Words) (i : ℕ) (word : String Global) → i < length words → word ≡ get_or words i word → texts words ≡ texts (take i words) ++ string_bytes word ∷ texts (drop (suc i) words)
 texts-split words i word lt is =
     ap texts (sym (take-append-drop i words) ∙ ap (λ (ws : Words). take i words ++ ws) (drop-cons words i word lt))
     ∙ map-append (λ (w : String Global). string_bytes w) (take i words) (get_or words i word ∷ drop (suc i) words)
@@ -107,7 +107,7 @@ not_before (f ∷ fs) g rest (h ∷ hs) all is others e =
     choose true no_more h = absurd (no_more refl)
     choose false no_more h = h
 
-none_some : (v : ℕ) → None ≡ Some v → ⊥
+pub none_some : (v : ℕ) → None ≡ Some v → ⊥
 none_some v e = cc
 
 -- ---- the loop over the words
@@ -116,10 +116,10 @@ none_some v e = cc
 abbrev pub HaveRead : Words → ℕ → List (Option ℕ) → Type 0
 HaveRead words i values = AllGiven (texts (take i words)) values × (length values ≡ 32)
 
-abbrev no_value : Option ℕ
+abbrev pub no_value : Option ℕ
 no_value = None
 
-nones : (k n : ℕ) → n < k → slice_get (replicate k no_value) n ≡ Some None
+pub nones : (k n : ℕ) → n < k → slice_get (replicate k no_value) n ≡ Some None
 nones zero n lt = absurd (omega arith)
 nones (suc k) zero lt = refl
 nones (suc k) (suc n) lt = nones k n (omega arith)

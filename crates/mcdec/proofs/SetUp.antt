@@ -1,15 +1,16 @@
 -- A state is set up as the run's definition begins it, and what is shown of it at the end.
-use Rattle.std.proofs.Common.{◌≡◌, ◌≢◌, ℕ, zero, suc, ◌+◌, ◌-◌, ◌<◌, ◌≤◌, Bool, true, false, ◌||◌, not, cond, eqb, ltb, leb, List, [], ◌∷◌, ◌++◌, length, map, drop, get_or, filter, replicate, slice_get, is_some, unwrap_or, Option, Some, None, Result, Ok, Err, refl, sym, ap, subst, ◌∙◌, inl, inr, arith}
+use Rattle.std.proofs.Common.{◌≡◌, ◌≢◌, ℕ, zero, suc, ◌+◌, ◌-◌, ◌<◌, ◌≤◌, Bool, true, false, ◌||◌, not, cond, eqb, ltb, leb, List, [], ◌∷◌, ◌++◌, length, map, take, drop, get_or, filter, replicate, slice_get, is_some, unwrap_or, Option, Some, None, Result, Ok, Err, refl, sym, ap, subst, ◌∙◌, inl, inr, arith}
 use Rattle.std.specs.Prelude.{IfOk}
 use Rattle.std.specs.Option.{option_or}
 use Rattle.std.specs.List.{range_with_len}
 use Rattle.std.proofs.lemmas.Bool.Decides.{eqb_tells, nat_tests}
-use Rattle.std.proofs.lemmas.List.{map-append}
+use Rattle.std.proofs.lemmas.List.{map-append, take_more}
 use Rattle.std.proofs.lemmas.List.Elements.{filter-append}
 use Rattle.std.proofs.lemmas.List.FromFn.{map-range_with_len_more}
 use Rattle.std.proofs.Math.Seq.{drop-cons}
 use Rattle.rv_words.specs.Bytes.{Bytes, bytes_from, over}
 use Rattle.rv_words.specs.declared.memory.NoMemory.{NoMemory}
+use Rattle.word_terms.specs.declared.code.Range.{Range}
 use Rattle.elf_image.specs.Fault.{IsReadable}
 use Rattle.elf_image.specs.declared.image.Piece.{Piece}
 use Rattle.elf_image.specs.Image.{bytes_in, padded, image_of}
@@ -22,9 +23,9 @@ use Rattle.rv_machine.specs.declared.state.Stuck.{Stuck}
 use Rattle.rv_machine.specs.declared.running.RunEnd.TheVariants as end
 use Rattle.mcdec.specs.declared.answer.Answer.{Answer}
 use Rattle.mcdec.specs.declared.answer.Answer.TheVariants as answer
-use Rattle.mcdec.specs.Command.{Given, AreGiven, given_to, value_of}
+use Rattle.mcdec.specs.Command.{Arg, Given, AreGiven, given_to, value_of, givens, ranges}
 use Rattle.mcdec.specs.CommandReading.{Holds, given_in, value_in}
-use Rattle.mcdec.specs.RunAnswer.{begin, is_shown, shown, StandsFor, start_refused, MachineGives, ImageGives}
+use Rattle.mcdec.specs.RunAnswer.{begin, placed, held_at, is_shown, shown, StandsFor, start_refused, MachineGives, ImageGives}
 
 -- ---- values
 
@@ -140,13 +141,46 @@ placed-more ps old new newer i j p lt item next before placed =
     split : p ∷ drop (suc i) ps ≡ drop i ps
     split = (λ k. item k ∷ drop (suc i) ps) ∙ sym (drop-cons ps i p lt)
 
+-- ranges in memory
+
+placed-last : (rs : List Range) (r : Range) (m : Bytes) → placed (rs ++ r ∷ []) m ≡ over (bytes_from r.at r.bytes) (placed rs m)
+placed-last [] r m = refl
+placed-last (q ∷ rs) r m = placed-last rs r (over (bytes_from q.at q.bytes) m)
+
+abbrev with_placed : List Range → State → State
+with_placed rs s = record s { mem = placed rs s.mem }
+
+-- the ranges in front of place i are in memory
+abbrev pub HaveRanges : List Range → Contents → Contents → ℕ → Type 0
+HaveRanges rs old new i = state_of new ≡ record (state_of old) { mem = placed (take i rs) (state_of old).mem }
+
+pub ranges-more : (rs : List Range) (old new newer : Contents) (i : ℕ) (r : Range) → i < length rs → r ≡ get_or rs i r → HaveRanges rs old new i
+    → state_of newer ≡ with_bytes (bytes_from r.at r.bytes) (state_of new) → HaveRanges rs old newer (i + 1)
+ranges-more rs old new newer i r lt item before put =
+    let m = (state_of old).mem in
+    let upto : take i rs ++ r ∷ [] ≡ take (i + 1) rs = (λ k. take i rs ++ item k ∷ []) ∙ sym (take_more rs i r lt) in
+    put ∙ ap (with_bytes (bytes_from r.at r.bytes)) before ∙ (λ k. record (state_of old) { mem = sym (placed-last (take i rs) r m) k }) ∙ (λ k. with_placed (upto k) (state_of old))
+
+-- the bytes of a range, one more
+
+pub held-more : (m : Bytes) (at k : ℕ) (bytes more : List ℕ) (b : ℕ) → bytes ≡ map (λ j. unwrap_or (m (at + j)) 0) (range_with_len 0 k) → b ≡ unwrap_or (m (at + k)) 0 → more ≡ bytes ++ b ∷ []
+    → more ≡ map (λ j. unwrap_or (m (at + j)) 0) (range_with_len 0 (k + 1))
+held-more m at k bytes more b before is pushed =
+    pushed ∙ (λ i. before i ++ is i ∷ []) ∙ sym (map-range_with_len_more (λ j. unwrap_or (m (at + j)) 0) 0 k k (omega arith))
+
+pub held-all : (m : Bytes) (r : Range) (k : ℕ) (bytes : List ℕ) → k ≡ length r.bytes → bytes ≡ map (λ j. unwrap_or (m (r.at + j)) 0) (range_with_len 0 k)
+    → ◌≡◌ {A = Range} (record { at = r.at; bytes = bytes }) (held_at m r)
+held-all m r k bytes e is = λ i. record { at = r.at; bytes = (is ∙ (λ j. map (λ q. unwrap_or (m (r.at + q)) 0) (range_with_len 0 (e j)))) i }
+
 -- ---- the whole state
 
-pub begun : (file : List ℕ) (gs : List Given) (a : ℕ) (pieces : List Piece) (s t u : State) → pieces ≡ (image_of file).pieces → s ≡ empty_state a → t ≡ with_bytes (bytes_in pieces) s
-    → ((t.reg ≡ (λ r. 0)) → u ≡ record t { reg = value_of gs }) → u ≡ begin file gs a
-begun file gs a pieces s t u image empty placed set =
-    let here : t ≡ with_bytes (bytes_in (image_of file).pieces) (empty_state a) = placed ∙ (λ i. with_bytes (bytes_in (image i)) (empty i)) in
-    set (ap (λ (x : State). x.reg) here) ∙ ap (λ (x : State). record x { reg = value_of gs }) here ∙ (λ i. record { pc = a; reg = value_of gs; mem = λ q. or-none (bytes_in (image_of file).pieces q) i })
+pub begun : (file : List ℕ) (args : List Arg) (a : ℕ) (pieces : List Piece) (memory : List Range) (s t v u : State) → pieces ≡ (image_of file).pieces → memory ≡ ranges args → s ≡ empty_state a
+    → t ≡ with_bytes (bytes_in pieces) s → v ≡ record t { mem = placed memory t.mem } → ((v.reg ≡ (λ r. 0)) → u ≡ record v { reg = value_of (givens args) }) → u ≡ begin file args a
+begun file args a pieces memory s t v u image same empty put over_it set =
+    let loaded : t ≡ with_bytes (bytes_in (image_of file).pieces) (empty_state a) = put ∙ (λ i. with_bytes (bytes_in (image i)) (empty i)) in
+    let here : v ≡ record { pc = a; reg = λ r. 0; mem = placed (ranges args) (bytes_in (image_of file).pieces) } =
+    over_it ∙ (λ i. with_placed (same i) (loaded i)) ∙ (λ i. record { pc = a; reg = λ r. 0; mem = placed (ranges args) (λ q. or-none (bytes_in (image_of file).pieces q) i) }) in
+    set (ap (λ (x : State). x.reg) here) ∙ ap (λ (x : State). record x { reg = value_of (givens args) }) here
   where
     or-none : (o : Option ℕ) → option_or o None ≡ o
     or-none None = refl
@@ -205,29 +239,31 @@ not-shown o w e z = λ i. e i || not (eqb (z i) 0)
 -- ---- the answer
 
 -- all registers were looked at
-pub shown-all : (values : List (Option ℕ)) (t : State) (rs ws : List ℕ) (n : ℕ) → n ≡ 32 → HaveShown values t rs ws n → (gs : List Given) → Holds gs values → (k pc : ℕ) → pc ≡ t.pc
-    → answer.Met k pc rs ws ≡ answer.Met k t.pc (shown gs t) (map t.reg (shown gs t))
-shown-all values t rs ws n e before gs h k pc p =
+pub shown-all : (values : List (Option ℕ)) (t : State) (rs ws : List ℕ) (n : ℕ) → n ≡ 32 → HaveShown values t rs ws n → (gs : List Given) → Holds gs values → (k pc : ℕ) (memory : List Range) → pc ≡ t.pc
+    → answer.Met k pc rs ws memory ≡ answer.Met k t.pc (shown gs t) (map t.reg (shown gs t)) memory
+shown-all values t rs ws n e before gs h k pc memory p =
     let b = before gs h in
     let all : rs ≡ shown gs t = b.0 ∙ (λ i. filter (is_shown gs t) (range_with_len 1 (e i - 1))) in
-    λ i. answer.Met k (p i) (all i) ((b.1 ∙ ap (map t.reg) all) i)
+    λ i. answer.Met k (p i) (all i) ((b.1 ∙ ap (map t.reg) all) i) memory
 
-module _ (until steps : ℕ) (gs : List Given) (s begun t : State) (same : s ≡ begun) where
-  pub met-given : (result : Result Answer NoMemory) (k : ℕ) → EndsIn until steps s t (end.Met k) → IfOk result (λ a. a ≡ answer.Met k t.pc (shown gs t) (map t.reg (shown gs t)))
-      → IfOk result (λ a. MachineGives until steps gs begun a)
-  met-given (Err e) k ends is = tt
-  met-given (Ok a) k ends is = subst (λ (x : Answer). MachineGives until steps gs begun x) (sym is) (t, subst (λ (x : State). EndsIn until steps x t (end.Met k)) same ends, refl, refl, refl)
+module _ (until steps : ℕ) (args : List Arg) (s begun t : State) (same : s ≡ begun) where
+  pub met-given : (result : Result Answer NoMemory) (k : ℕ) (memory asked : List Range) → EndsIn until steps s t (end.Met k) → asked ≡ ranges args → memory ≡ map (held_at t.mem) asked
+      → IfOk result (λ a. a ≡ answer.Met k t.pc (shown (givens args) t) (map t.reg (shown (givens args) t)) memory) → IfOk result (λ a. MachineGives until steps args begun a)
+  met-given (Err e) k memory asked ends m held is = tt
+  met-given (Ok a) k memory asked ends m held is =
+      subst (λ (x : Answer). MachineGives until steps args begun x) (sym is)
+      (t, subst (λ (x : State). EndsIn until steps x t (end.Met k)) same ends, refl, refl, refl, held ∙ ap (map (held_at t.mem)) m)
 
-  pub stuck-given : (k : ℕ) (why : Stuck) → EndsIn until steps s t (end.Stuck k why) → MachineGives until steps gs begun (answer.StuckAfter k why)
+  pub stuck-given : (k : ℕ) (why : Stuck) → EndsIn until steps s t (end.Stuck k why) → MachineGives until steps args begun (answer.StuckAfter k why)
   stuck-given k why ends = (t, subst (λ (x : State). EndsIn until steps x t (end.Stuck k why)) same ends)
 
-  pub steps-given : EndsIn until steps s t end.Steps → MachineGives until steps gs begun answer.StepsUsed
+  pub steps-given : EndsIn until steps s t end.Steps → MachineGives until steps args begun answer.StepsUsed
   steps-given ends = (t, subst (λ (x : State). EndsIn until steps x t end.Steps) same ends)
 
-module _ (file start : List ℕ) (until steps : ℕ) (gs : List Given) (at : ℕ) (readable : IsReadable file) (stands : StandsFor file start (Ok at)) where
-  image-gives : (a : Answer) → MachineGives until steps gs (begin file gs at) a → ImageGives file start until steps gs a
+module _ (file start : List ℕ) (until steps : ℕ) (args : List Arg) (at : ℕ) (readable : IsReadable file) (stands : StandsFor file start (Ok at)) where
+  image-gives : (a : Answer) → MachineGives until steps args (begin file args at) a → ImageGives file start until steps args a
   image-gives (answer.Evaluated used pc registers words) h = absurd h
-  image-gives (answer.Met k pc registers words) h = (readable, (at, stands, h))
+  image-gives (answer.Met k pc registers words memory) h = (readable, (at, stands, h))
   image-gives answer.NoFunction h = absurd h
   image-gives (answer.NoSuchStart name) h = absurd h
   image-gives (answer.AmbiguousStart name low high) h = absurd h
@@ -242,17 +278,17 @@ module _ (file start : List ℕ) (until steps : ℕ) (gs : List Given) (at : ℕ
   image-gives answer.TurnsUsed h = absurd h
   image-gives answer.StepsUsed h = (readable, (at, stands, h))
 
-  pub image-given : (result : Result Answer NoMemory) → IfOk result (λ a. MachineGives until steps gs (begin file gs at) a) → IfOk result (λ a. ImageGives file start until steps gs a)
+  pub image-given : (result : Result Answer NoMemory) → IfOk result (λ a. MachineGives until steps args (begin file args at) a) → IfOk result (λ a. ImageGives file start until steps args a)
   image-given (Err e) h = tt
   image-given (Ok a) h = image-gives a h
 
 -- where START has no one value
-module _ (file start : List ℕ) (until steps : ℕ) (gs : List Given) (readable : IsReadable file) where
-  refusal : (fault : NameFault) → StandsFor file start (Err fault) → ImageGives file start until steps gs (start_refused start fault)
+module _ (file start : List ℕ) (until steps : ℕ) (args : List Arg) (readable : IsReadable file) where
+  refusal : (fault : NameFault) → StandsFor file start (Err fault) → ImageGives file start until steps args (start_refused start fault)
   refusal NoSuch stands = (readable, (stands, refl))
   refusal (Ambiguous low high) stands = (readable, (stands, refl))
 
   pub refusal-given : (fault : NameFault) → StandsFor file start (Err fault) → (result : Result Answer NoMemory) → IfOk result (λ a. a ≡ start_refused start fault)
-      → IfOk result (λ a. ImageGives file start until steps gs a)
+      → IfOk result (λ a. ImageGives file start until steps args a)
   refusal-given fault stands (Err e) is = tt
-  refusal-given fault stands (Ok a) is = subst (λ (x : Answer). ImageGives file start until steps gs x) (sym is) (refusal fault stands)
+  refusal-given fault stands (Ok a) is = subst (λ (x : Answer). ImageGives file start until steps args x) (sym is) (refusal fault stands)

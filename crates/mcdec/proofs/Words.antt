@@ -10,8 +10,11 @@ use Rattle.std.proofs.lemmas.Slice.Eq.{bytes_eq-Decides}
 use Rattle.mcdec.specs.declared.command.Eval.{Eval as ReadEval}
 use Rattle.mcdec.specs.declared.command.Run.{Run as ReadRun}
 use Rattle.mcdec.specs.Number.{hex}
-use Rattle.mcdec.specs.Command.{Eval, Run, Given, IsName, IsCommand, IsNoCommand, Words, given_word}
-use Rattle.mcdec.specs.CommandReading.{Holds, NoneGiven, AllGiven, NoEval, IsEval, eval_words, NoRun, IsRun, run_words, texts}
+use Rattle.mcdec.specs.Command.{Eval, Run, Arg, Given, IsName, IsCommand, IsNoCommand, Words, given_word, arg_word}
+use Rattle.mcdec.specs.CommandReading.{Holds, HoldsArgs, NoneGiven, AllGiven, NoArgs, AllArgs, Unless, NoEval, IsEval, eval_words, NoRun, IsRun, run_words, texts}
+use Rattle.mcdec.specs.declared.reader.Unread.{Unread}
+use Rattle.word_terms.specs.declared.code.Range.{Range}
+use Rattle.mcdec.proofs.ArgWords.{unless-also}
 use Rattle.mcdec.specs.Reading.{number_of}
 use Rattle.mcdec.proofs.Numbers.{number_of-takes, number_of-again}
 
@@ -83,13 +86,13 @@ module _ (words : List Word) (elf start until steps : Word) (low : 4 ≤ length 
   split-run = four-words words elf start until steps low first second third fourth
 
   pub no-until : ((n : ℕ) → n < 2 ^ 64 → string_bytes until ≢ hex n) → NoRun (texts words)
-  no-until none e s u k given is same =
+  no-until none e s u k args is same =
       let whole = sym split-run ∙ same in
       let spelled : string_bytes until ≡ hex u = cc in
       none u is.2 spelled
 
   pub no-steps : None ≡ number_of 10 (string_bytes steps) → NoRun (texts words)
-  no-steps none e s u k given is same =
+  no-steps none e s u k args is same =
       let whole = sym split-run ∙ same in
       let spelled : string_bytes steps ≡ decimal k = cc in
       none_some k (none ∙ ap (number_of 10) spelled ∙ number_of-again 10 k (omega arith) (omega arith) is.3)
@@ -97,19 +100,22 @@ module _ (words : List Word) (elf start until steps : Word) (low : 4 ≤ length 
       none_some : (k : ℕ) → None ≡ Some k → ⊥
       none_some k e = cc
 
-  pub no-values : NoneGiven (behind_first 4 words) → NoRun (texts words)
-  no-values none e s u k given is same =
+  no-args : NoArgs (behind_first 4 words) → NoRun (texts words)
+  no-args none e s u k args is same =
       let whole = sym split-run ∙ same in
-      let others : behind_first 4 words ≡ map given_word given = cc in
-      none given is.4 others
+      let others : behind_first 4 words ≡ map arg_word args = cc in
+      none args is.4 others
 
-  pub run-read : (e s : List ℕ) (u k : ℕ) (values : List (Option ℕ)) → e ≡ string_bytes elf → s ≡ string_bytes start → string_bytes elf ≢ [] → IsName (string_bytes start)
-      → (u < 2 ^ 64) × (string_bytes until ≡ hex u) → Some k ≡ number_of 10 (string_bytes steps) → AllGiven (behind_first 4 words) values
-      → (given : List Given) × IsCommand (Run e s u k given) × (texts words ≡ run_words e s u k given) × Holds given values
-  run-read e s u k values ee es some is address number all =
+  pub no-arguments : (why : Unread) → Unless (NoArgs (behind_first 4 words)) why → Unless (NoRun (texts words)) why
+  no-arguments why none = unless-also no-args why none
+
+  pub run-read : (e s : List ℕ) (u k : ℕ) (values : List (Option ℕ)) (memory : List Range) → e ≡ string_bytes elf → s ≡ string_bytes start → string_bytes elf ≢ [] → IsName (string_bytes start)
+      → (u < 2 ^ 64) × (string_bytes until ≡ hex u) → Some k ≡ number_of 10 (string_bytes steps) → AllArgs (behind_first 4 words) values memory
+      → (args : List Arg) × IsCommand (Run e s u k args) × (texts words ≡ run_words e s u k args) × HoldsArgs args values memory
+  run-read e s u k values memory ee es some is address number all =
       let d = number_of-takes 10 (string_bytes steps) k (sym number) in
       let same : texts words ≡ run_words e s u k all.0 = split-run ∙ (λ i. sym ee i ∷ sym es i ∷ address.1 i ∷ d.0 i ∷ all.2 i) in
-      (all.0, (λ n. some (sym ee ∙ n), subst IsName (sym es) is, address.0, d.1, all.1), same, all.3)
+      (all.0, ((λ n. some (sym ee ∙ n)), subst IsName (sym es) is, address.0, d.1, all.1), same, all.3)
 
 -- ---- all of the words
 
@@ -133,16 +139,19 @@ module _ (words : List Word) (first : Word) (low : 1 ≤ length words) (here : f
   pub eval-is : bytes_eq text (codes "eval") ≡ true → (e : ReadEval) → IsEval (behind_first 1 words) e → (given : List Given) × Words (texts words) (Eval e.proof.now e.name.now e.turns given) × Holds given e.given.values
   eval-is is e all = (all.0, (all.1, named (codes "eval") is ∙ ap (λ (ws : List (List ℕ)). codes "eval" ∷ ws) all.2), all.3)
 
-  pub no-run : bytes_eq text (codes "run") ≡ true → NoRun (behind_first 1 words) → IsNoCommand (texts words)
-  no-run is none (Run e s u k given) c =
+  no-command : bytes_eq text (codes "run") ≡ true → NoRun (behind_first 1 words) → IsNoCommand (texts words)
+  no-command is none (Run e s u k args) c =
       let whole = sym (named (codes "run") is) ∙ c.1 in
-      let same : behind_first 1 words ≡ run_words e s u k given = cc in
-      none e s u k given c.0 same
-  no-run is none (Eval p n t given) c =
+      let same : behind_first 1 words ≡ run_words e s u k args = cc in
+      none e s u k args c.0 same
+  no-command is none (Eval p n t given) c =
       let whole = sym (named (codes "run") is) ∙ c.1 in
       let same : codes "eval" ≡ codes "run" = cc in
       absurd (other-name same)
 
+  pub no-run : bytes_eq text (codes "run") ≡ true → (e : Unread) → Unless (NoRun (behind_first 1 words)) e → Unless (IsNoCommand (texts words)) e
+  no-run is e none = unless-also (no-command is) e none
+
   pub run-is : bytes_eq text (codes "run") ≡ true → (r : ReadRun) → IsRun (behind_first 1 words) r
-      → (given : List Given) × Words (texts words) (Run r.elf.now r.start.now r.until r.steps given) × Holds given r.given.values
+      → (args : List Arg) × Words (texts words) (Run r.elf.now r.start.now r.until r.steps args) × HoldsArgs args r.given.values r.memory
   run-is is r all = (all.0, (all.1, named (codes "run") is ∙ ap (λ (ws : List (List ℕ)). codes "run" ∷ ws) all.2), all.3)

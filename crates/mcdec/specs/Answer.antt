@@ -10,7 +10,7 @@ use Rattle.mcdec.specs.RunAnswer.{RunGives}
 -- a command, where the names hold these files
 abbrev pub CommandGives : Contents → Command → Answer → Type 0
 CommandGives files (Eval proof name turns given) a = (p : List ℕ) × (files proof ≡ Some p) × EvalGives p name turns given a
-CommandGives files (Run elf start until steps given) a = (p : List ℕ) × (files elf ≡ Some p) × RunGives p start until steps given a
+CommandGives files (Run elf start until steps args) a = (p : List ℕ) × (files elf ≡ Some p) × RunGives p start until steps args a
 
 -- a list of words, where the names hold these files; `rose` says that the count of read faults rose
 abbrev pub Gives : Contents → List (List ℕ) → Type 0 → Answer → Type 0

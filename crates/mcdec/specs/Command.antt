@@ -1,9 +1,12 @@
 -- The lists of words that are commands, and no others.
 --
---   eval PROOF NAME TURNS ARG*     ARG is xN=V, each N at most once
---   run ELF START UNTIL STEPS ARG*
-use Rattle.std.specs.Prelude.{◌≡◌, ◌≢◌, ℕ, ◌<◌, ◌≤◌, ◌^◌, ◌==◌, if◌then◌else◌, List, [], ◌∷◌, ◌++◌, length, map, codes, Option, Some, None, unwrap_or, All}
+--   eval PROOF NAME TURNS ARG*        ARG is xN=V, each N at most once
+--   run ELF START UNTIL STEPS ARG*    or mem=A:H, with two hexadecimal digits for each byte, any number of them
+use Rattle.std.specs.Prelude.{◌≡◌, ◌≢◌, ℕ, ◌<◌, ◌≤◌, ◌^◌, ◌+◌, ◌==◌, if◌then◌else◌, List, [], ◌∷◌, ◌++◌, length, map, codes, Option, Some, None, unwrap_or, All}
+use Rattle.std.specs.List.{AllByRecursion}
 use Rattle.std.specs.Fmt.{decimal}
+use Rattle.hex.specs.Hex.{encode_lower}
+use Rattle.word_terms.specs.declared.code.Range.{Range}
 use Rattle.mcdec.specs.Number.{hex}
 
 -- a byte of a name: visible, and none of ( ) ;
@@ -18,18 +21,31 @@ pub record Given : Type 0 where
   pub register : ℕ
   pub value : ℕ
 
+-- a register's value, or bytes of memory
+pub data Arg : Type 0 where
+  Value : (given : Given) → Arg
+  Memory : (range : Range) → Arg
+
 pub data Command : Type 0 where
   Eval : (proof name : List ℕ) (turns : ℕ) (given : List Given) → Command
-  Run : (elf start : List ℕ) (until steps : ℕ) (given : List Given) → Command
+  Run : (elf start : List ℕ) (until steps : ℕ) (args : List Arg) → Command
 
 -- xN=V
 abbrev pub given_word : Given → List ℕ
 given_word g = codes "x" ++ decimal g.register ++ codes "=" ++ hex g.value
 
+-- mem=A:H
+abbrev pub memory_word : Range → List ℕ
+memory_word r = codes "mem=" ++ hex r.at ++ codes ":" ++ encode_lower r.bytes
+
+abbrev pub arg_word : Arg → List ℕ
+arg_word (Value g) = given_word g
+arg_word (Memory r) = memory_word r
+
 -- the words of a command
 abbrev pub words_of : Command → List (List ℕ)
 words_of (Eval proof name turns given) = codes "eval" ∷ proof ∷ name ∷ decimal turns ∷ map given_word given
-words_of (Run elf start until steps given) = codes "run" ∷ elf ∷ start ∷ hex until ∷ decimal steps ∷ map given_word given
+words_of (Run elf start until steps args) = codes "run" ∷ elf ∷ start ∷ hex until ∷ decimal steps ∷ map arg_word args
 
 abbrev pub IsGiven : Given → Type 0
 IsGiven g = (1 ≤ g.register) × (g.register ≤ 31) × (g.value < 2 ^ 64)
@@ -44,10 +60,29 @@ abbrev pub AreGiven : List Given → Type 0
 AreGiven [] = Unit {0}
 AreGiven (g ∷ gs) = IsGiven g × (given_to gs g.register ≡ None) × AreGiven gs
 
+-- at least one byte, and they end at most at 2 ^ 64
+abbrev pub IsMemory : Range → Type 0
+IsMemory r = (0 < length r.bytes) × (r.at + length r.bytes ≤ 2 ^ 64) × AllByRecursion (λ b. b < 256) r.bytes
+
+-- the values of registers, in the words' order
+abbrev pub givens : List Arg → List Given
+givens [] = []
+givens (Value g ∷ args) = g ∷ givens args
+givens (Memory r ∷ args) = givens args
+
+-- the bytes of memory, in the words' order
+abbrev pub ranges : List Arg → List Range
+ranges [] = []
+ranges (Value g ∷ args) = ranges args
+ranges (Memory r ∷ args) = r ∷ ranges args
+
+abbrev pub AreArgs : List Arg → Type 0
+AreArgs args = AreGiven (givens args) × AllByRecursion IsMemory (ranges args)
+
 -- what its words may be
 abbrev pub IsCommand : Command → Type 0
 IsCommand (Eval proof name turns given) = (proof ≢ []) × IsName name × (turns < 2 ^ 64) × AreGiven given
-IsCommand (Run elf start until steps given) = (elf ≢ []) × IsName start × (until < 2 ^ 64) × (steps < 2 ^ 64) × AreGiven given
+IsCommand (Run elf start until steps args) = (elf ≢ []) × IsName start × (until < 2 ^ 64) × (steps < 2 ^ 64) × AreArgs args
 
 -- the command that a list of words is
 abbrev pub Words : List (List ℕ) → Command → Type 0
@@ -63,9 +98,9 @@ value_of gs n = unwrap_or (given_to gs n) 0
 -- the files that a command reads
 abbrev pub inputs_of : Command → List (List ℕ)
 inputs_of (Eval proof name turns given) = proof ∷ []
-inputs_of (Run elf start until steps given) = elf ∷ []
+inputs_of (Run elf start until steps args) = elf ∷ []
 
 -- the file that a command writes
 abbrev pub output_of : Command → Option (List ℕ)
 output_of (Eval proof name turns given) = None
-output_of (Run elf start until steps given) = None
+output_of (Run elf start until steps args) = None

@@ -7,9 +7,14 @@ use Rattle.mcdec.specs.declared.command.Command.{Command as Read}
 use Rattle.mcdec.specs.declared.command.Command.TheVariants as read
 use Rattle.mcdec.specs.declared.command.Eval.{Eval as ReadEval}
 use Rattle.mcdec.specs.declared.command.Run.{Run as ReadRun}
-use Rattle.mcdec.specs.Reading.{Reader, behind, before, pair, made, decimal_at, hex_at}
+use Rattle.mcdec.specs.Reading.{Reader, behind, before, pair, made, decimal_at, hex_at, bytes_at}
+use Rattle.mcdec.specs.declared.command.Argument.{Argument as ReadArg}
+use Rattle.mcdec.specs.declared.command.Argument.TheVariants as read_arg
+use Rattle.mcdec.specs.declared.reader.Unread.{Unread}
+use Rattle.mcdec.specs.declared.reader.Unread.TheVariants as unread
+use Rattle.word_terms.specs.declared.code.Range.{Range}
 use Rattle.mcdec.specs.Number.{hex}
-use Rattle.mcdec.specs.Command.{Eval, Run, Given, IsCommand, AreGiven, Words, given_to, given_word}
+use Rattle.mcdec.specs.Command.{Eval, Run, Arg, Value, Memory, Given, IsGiven, IsMemory, IsCommand, AreGiven, AreArgs, Words, given_to, given_word, arg_word, givens, ranges}
 
 -- the texts of the words
 abbrev pub texts : List (String Global) → List (List ℕ)
@@ -55,22 +60,52 @@ NoEval ws = (proof name : List ℕ) (turns : ℕ) (given : List Given) → IsCom
 abbrev pub IsEval : List (List ℕ) → ReadEval → Type 0
 IsEval ws e = (given : List Given) × IsCommand (Eval e.proof.now e.name.now e.turns given) × (ws ≡ eval_words e.proof.now e.name.now e.turns given) × Holds given e.given.values
 
+-- a word behind the others, seen by what was read
+abbrev pub arg_of : ReadArg → Arg
+arg_of (read_arg.Value register value) = Value (record { register = register; value = value })
+arg_of (read_arg.Memory range) = Memory range
+
+-- bytes of memory
+unfoldable pub memory_at : Reader Range
+memory_at = behind (codes "mem=") (made (λ p. record { at = p.0; bytes = p.1 }) (pair (before hex_at (codes ":")) bytes_at))
+
+-- a word by itself
+abbrev pub IsArg : Arg → Type 0
+IsArg (Value g) = IsGiven g
+IsArg (Memory r) = IsMemory r
+
+-- what was read of words, or why nothing was
+abbrev pub Unless : Type 0 → Unread → Type 0
+Unless none unread.NotThere = none
+Unless none unread.NoMemory = Unit {0}
+
+abbrev pub NoArgs : List (List ℕ) → Type 0
+NoArgs ws = (args : List Arg) → AreArgs args → ws ≢ map arg_word args
+
+-- the registers' values and the ranges
+abbrev pub HoldsArgs : List Arg → List (Option ℕ) → List Range → Type 0
+HoldsArgs args values memory = Holds (givens args) values × (memory ≡ ranges args)
+
+abbrev pub AllArgs : List (List ℕ) → List (Option ℕ) → List Range → Type 0
+AllArgs ws values memory = (args : List Arg) × AreArgs args × (ws ≡ map arg_word args) × HoldsArgs args values memory
+
 -- the words behind `run`
-abbrev pub run_words : List ℕ → List ℕ → ℕ → ℕ → List Given → List (List ℕ)
-run_words elf start until steps given = elf ∷ start ∷ hex until ∷ decimal steps ∷ map given_word given
+abbrev pub run_words : List ℕ → List ℕ → ℕ → ℕ → List Arg → List (List ℕ)
+run_words elf start until steps args = elf ∷ start ∷ hex until ∷ decimal steps ∷ map arg_word args
 
 abbrev pub NoRun : List (List ℕ) → Type 0
-NoRun ws = (elf start : List ℕ) (until steps : ℕ) (given : List Given) → IsCommand (Run elf start until steps given) → ws ≢ run_words elf start until steps given
+NoRun ws = (elf start : List ℕ) (until steps : ℕ) (args : List Arg) → IsCommand (Run elf start until steps args) → ws ≢ run_words elf start until steps args
 
 abbrev pub IsRun : List (List ℕ) → ReadRun → Type 0
-IsRun ws r = (given : List Given) × IsCommand (Run r.elf.now r.start.now r.until r.steps given) × (ws ≡ run_words r.elf.now r.start.now r.until r.steps given) × Holds given r.given.values
+IsRun ws r = (args : List Arg) × IsCommand (Run r.elf.now r.start.now r.until r.steps args) × (ws ≡ run_words r.elf.now r.start.now r.until r.steps args)
+    × HoldsArgs args r.given.values r.memory
 
 -- the command, seen by what was read
 abbrev pub IsReadEval : List (List ℕ) → ReadEval → Type 0
 IsReadEval ws e = (given : List Given) × Words ws (Eval e.proof.now e.name.now e.turns given) × Holds given e.given.values
 
 abbrev pub IsReadRun : List (List ℕ) → ReadRun → Type 0
-IsReadRun ws r = (given : List Given) × Words ws (Run r.elf.now r.start.now r.until r.steps given) × Holds given r.given.values
+IsReadRun ws r = (args : List Arg) × Words ws (Run r.elf.now r.start.now r.until r.steps args) × HoldsArgs args r.given.values r.memory
 
 abbrev pub IsRead : List (List ℕ) → Read → Type 0
 IsRead ws (read.Eval e) = IsReadEval ws e

@@ -1,6 +1,8 @@
 -- How an answer is printed: its status, and its lines.
 use Rattle.std.specs.Prelude.{◌≡◌, ℕ, List, [], ◌∷◌, ◌++◌, take, codes, Option, ◌⊎◌}
 use Rattle.std.specs.Fmt.{decimal}
+use Rattle.hex.specs.Hex.{encode_lower}
+use Rattle.word_terms.specs.declared.code.Range.{Range}
 use Rattle.mc_shelf.specs.Fault.{WhereTold}
 use Rattle.elf_image.specs.declared.fault.ElfFault.{ElfFault}
 use Rattle.elf_image.specs.declared.fault.ElfFault.TheVariants as fault
@@ -9,10 +11,11 @@ use Rattle.rv_machine.specs.declared.state.Stuck.TheVariants as stuck
 use Rattle.mcdec.specs.declared.answer.Answer.{Answer}
 use Rattle.mcdec.specs.declared.answer.Answer.TheVariants as answer
 use Rattle.mcdec.specs.Number.{hex}
+use Rattle.mcdec.specs.Text.{each}
 
 abbrev pub status : Answer → ℕ
 status (answer.Evaluated used pc registers words) = 0
-status (answer.Met steps pc registers words) = 0
+status (answer.Met steps pc registers words memory) = 0
 status answer.NoFunction = 1
 status (answer.NoSuchStart name) = 1
 status (answer.AmbiguousStart name low high) = 1
@@ -36,6 +39,10 @@ abbrev pub register_lines : List ℕ → List ℕ → List ℕ
 register_lines (r ∷ rs) (w ∷ ws) = register_line r w ++ register_lines rs ws
 register_lines [] ws = []
 register_lines (r ∷ rs) [] = []
+
+-- mem A H
+abbrev pub memory_line : Range → List ℕ
+memory_line r = codes "mem " ++ hex r.at ++ codes " " ++ encode_lower r.bytes ++ codes "\n"
 
 -- done T, pc A
 abbrev pub done_lines : ℕ → ℕ → List ℕ
@@ -72,7 +79,7 @@ fault_words fault.NoMemory = codes "no memory"
 
 abbrev pub lines : Answer → List ℕ
 lines (answer.Evaluated used pc registers words) = done_lines used pc ++ register_lines registers words
-lines (answer.Met steps pc registers words) = met_lines steps pc ++ register_lines registers words
+lines (answer.Met steps pc registers words memory) = met_lines steps pc ++ register_lines registers words ++ each memory_line memory
 lines answer.NoFunction = codes "refused no function\n"
 lines (answer.NoSuchStart name) = codes "refused " ++ name ++ codes " no-such\n"
 lines (answer.AmbiguousStart name low high) = codes "refused " ++ name ++ codes " ambiguous " ++ hex low ++ codes " " ++ hex high ++ codes "\n"

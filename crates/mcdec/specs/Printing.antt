@@ -1,6 +1,7 @@
 -- What a sink has gained while a text was printed piece by piece.
 use Rattle.std.specs.Prelude.{◌≡◌, ℕ, ◌≤◌, List, [], ◌∷◌, ◌++◌, take, Option, Result, Ok, Err, IsErrOf}
 use Rattle.std.specs.Fmt.{decimal}
+use Rattle.hex.specs.Hex.{encode_lower}
 use Rattle.mc_shelf.specs.Fault.{Rose, WhereTold}
 use Rattle.mc_shelf.specs.declared.sink.Stop.{Stop}
 use Rattle.mc_shelf.specs.declared.sink.Stop.TheVariants.{Failed}
@@ -13,6 +14,7 @@ piece_text (piece.Text bytes) = bytes.now
 piece_text (piece.Decimal n) = decimal n
 piece_text (piece.Wide n) = decimal n
 piece_text (piece.Hex n) = hex n
+piece_text (piece.Bytes bytes) = encode_lower bytes.now
 
 abbrev pub pieces_text : List Piece → List ℕ
 pieces_text [] = []

@@ -1,6 +1,8 @@
 -- When each answer to `run` comes.
-use Rattle.std.specs.Prelude.{◌≡◌, ℕ, ◌<◌, ◌≤◌, ◌^◌, ◌==◌, Bool, not, ◌||◌, List, length, map, filter, is_some, Some, Result, Ok, Err, ◌⊎◌}
+use Rattle.std.specs.Prelude.{◌≡◌, ℕ, ◌+◌, ◌<◌, ◌≤◌, ◌^◌, ◌==◌, Bool, not, ◌||◌, List, [], ◌∷◌, length, map, filter, is_some, unwrap_or, Some, Result, Ok, Err, ◌⊎◌}
 use Rattle.std.specs.List.{range_with_len}
+use Rattle.rv_words.specs.Bytes.{Bytes, bytes_from, over}
+use Rattle.word_terms.specs.declared.code.Range.{Range}
 use Rattle.elf_image.specs.Fault.{IsReadable, fault_of}
 use Rattle.elf_image.specs.Image.{image_of, bytes_in}
 use Rattle.elf_image.specs.Symbol.{value_of_name}
@@ -12,15 +14,21 @@ use Rattle.rv_machine.specs.declared.running.RunEnd.TheVariants as end
 use Rattle.mcdec.specs.declared.answer.Answer.{Answer}
 use Rattle.mcdec.specs.declared.answer.Answer.TheVariants as answer
 use Rattle.mcdec.specs.Number.{hex}
-use Rattle.mcdec.specs.Command.{Given, given_to, value_of}
+use Rattle.mcdec.specs.Command.{Arg, Given, given_to, value_of, givens, ranges}
 
 -- the most bytes of an ELF file that are read
 abbrev pub elf_limit : ℕ
 elf_limit = 67108864
 
--- the state at an address: the file's pieces in memory, and in each register the value that it is given, or 0
-abbrev pub begin : List ℕ → List Given → ℕ → State
-begin file given a = record { pc = a; reg = value_of given; mem = bytes_in (image_of file).pieces }
+-- the ranges' bytes put over those of a memory, one range after the other
+abbrev pub placed : List Range → Bytes → Bytes
+placed [] m = m
+placed (r ∷ rs) m = placed rs (over (bytes_from r.at r.bytes) m)
+
+-- the state at an address: in memory the file's pieces and the words' ranges over them, and in each register the value that it
+-- is given, or 0
+abbrev pub begin : List ℕ → List Arg → ℕ → State
+begin file args a = record { pc = a; reg = value_of (givens args); mem = placed (ranges args) (bytes_in (image_of file).pieces) }
 
 -- a register that is given a value, or doesn't hold 0
 abbrev pub is_shown : List Given → State → ℕ → Bool
@@ -30,13 +38,17 @@ is_shown given t r = is_some (given_to given r) || not (t.reg r == 0)
 abbrev pub shown : List Given → State → List ℕ
 shown given t = filter (is_shown given t) (range_with_len 1 31)
 
+-- the range with the bytes of a memory there; an absent one counts as 0, and a run takes none away
+abbrev pub held_at : Bytes → Range → Range
+held_at m r = record { at = r.at; bytes = map (λ k. unwrap_or (m (r.at + k)) 0) (range_with_len 0 (length r.bytes)) }
+
 -- `run` from a state to an address within steps
-abbrev pub MachineGives : ℕ → ℕ → List Given → State → Answer → Type 0
-MachineGives until steps given s (answer.Met k pc registers words) = (t : State) × EndsIn until steps s t (end.Met k)
-    × (pc ≡ t.pc) × (registers ≡ shown given t) × (words ≡ map t.reg registers)
-MachineGives until steps given s (answer.StuckAfter k why) = (t : State) × EndsIn until steps s t (end.Stuck k why)
-MachineGives until steps given s answer.StepsUsed = (t : State) × EndsIn until steps s t end.Steps
-MachineGives until steps given s _ = ⊥
+abbrev pub MachineGives : ℕ → ℕ → List Arg → State → Answer → Type 0
+MachineGives until steps args s (answer.Met k pc registers words memory) = (t : State) × EndsIn until steps s t (end.Met k)
+    × (pc ≡ t.pc) × (registers ≡ shown (givens args) t) × (words ≡ map t.reg registers) × (memory ≡ map (held_at t.mem) (ranges args))
+MachineGives until steps args s (answer.StuckAfter k why) = (t : State) × EndsIn until steps s t (end.Stuck k why)
+MachineGives until steps args s answer.StepsUsed = (t : State) × EndsIn until steps s t end.Steps
+MachineGives until steps args s _ = ⊥
 
 -- START is the spelling of that address
 abbrev pub Spells : List ℕ → ℕ → Type 0
@@ -53,17 +65,17 @@ start_refused start NoSuch = answer.NoSuchStart start
 start_refused start (Ambiguous low high) = answer.AmbiguousStart start low high
 
 -- `run` from START, where the ELF file has these bytes and is read
-abbrev pub StartGives : List ℕ → List ℕ → ℕ → ℕ → List Given → Answer → Type 0
-StartGives file start until steps given (answer.NoSuchStart name) = StandsFor file start (Err NoSuch) × (name ≡ start)
-StartGives file start until steps given (answer.AmbiguousStart name low high) = StandsFor file start (Err (Ambiguous low high)) × (name ≡ start)
-StartGives file start until steps given a = (at : ℕ) × StandsFor file start (Ok at) × MachineGives until steps given (begin file given at) a
+abbrev pub StartGives : List ℕ → List ℕ → ℕ → ℕ → List Arg → Answer → Type 0
+StartGives file start until steps args (answer.NoSuchStart name) = StandsFor file start (Err NoSuch) × (name ≡ start)
+StartGives file start until steps args (answer.AmbiguousStart name low high) = StandsFor file start (Err (Ambiguous low high)) × (name ≡ start)
+StartGives file start until steps args a = (at : ℕ) × StandsFor file start (Ok at) × MachineGives until steps args (begin file args at) a
 
 -- .. and is read or has a fault
-abbrev pub ImageGives : List ℕ → List ℕ → ℕ → ℕ → List Given → Answer → Type 0
-ImageGives file start until steps given (answer.UnreadableElf why) = fault_of file ≡ Some why
-ImageGives file start until steps given a = IsReadable file × StartGives file start until steps given a
+abbrev pub ImageGives : List ℕ → List ℕ → ℕ → ℕ → List Arg → Answer → Type 0
+ImageGives file start until steps args (answer.UnreadableElf why) = fault_of file ≡ Some why
+ImageGives file start until steps args a = IsReadable file × StartGives file start until steps args a
 
 -- `run` from START, where the ELF file has these bytes
-abbrev pub RunGives : List ℕ → List ℕ → ℕ → ℕ → List Given → Answer → Type 0
-RunGives file start until steps given answer.OverLimitElf = elf_limit < length file
-RunGives file start until steps given a = (length file ≤ elf_limit) × ImageGives file start until steps given a
+abbrev pub RunGives : List ℕ → List ℕ → ℕ → ℕ → List Arg → Answer → Type 0
+RunGives file start until steps args answer.OverLimitElf = elf_limit < length file
+RunGives file start until steps args a = (length file ≤ elf_limit) × ImageGives file start until steps args a

@@ -3,6 +3,7 @@
 use elf_image::ElfFault;
 use rv_machine::Stuck;
 use rv_words::{List, Text};
+use word_terms::Range;
 
 /// The answer to a list of words.
 #[derive(Debug, Drop)]
@@ -14,12 +15,14 @@ pub enum Answer {
         registers: List<u8>,
         words: List<u64>,
     },
-    /// The steps made, the program counter, and the registers that are shown with the word of each.
+    /// The steps made, the program counter, the registers that are shown with the word of each, and the bytes of memory
+    /// that were asked for.
     Met {
         steps: u64,
         pc: u64,
         registers: List<u8>,
         words: List<u64>,
+        memory: List<Range>,
     },
     /// No group of the proof file has the name.
     NoFunction,

@@ -1,12 +1,16 @@
 //! The words of the command line.
 
-ghost use Rattle.std.specs.Prelude.{◌≡◌, ◌≢◌, ◌↔◌, IsTrue, IsErrOf, MatchOption};
-ghost use Rattle.mcdec.specs.Command.{Given, IsName, IsGiven, IsNoCommand, given_word};
-ghost use Rattle.mcdec.specs.CommandReading.{AllGiven, IsEval, IsRead, IsRun, NoEval, NoRun, NoneGiven, given_at, given_in, texts, value_in};
+ghost use Rattle.std.specs.Prelude.{◌≡◌, ◌≢◌, ◌↔◌, ◌+◌, ◌<◌, ◌≤◌, ◌^◌, IsTrue, IsErrOf, MatchOption, MatchResult, length};
+ghost use Rattle.mcdec.specs.Command.{Arg, Given, IsName, IsGiven, IsMemory, IsNoCommand, arg_word, given_word, memory_word};
+ghost use Rattle.mcdec.specs.CommandReading.{AllArgs, AllGiven, IsArg, IsEval, IsRead, IsRun, NoArgs, NoEval, NoRun, NoneGiven, Unless, arg_of, given_at, given_in, memory_at, texts, value_in};
+ghost use Rattle.word_terms.specs.declared.code.Range.{Range as RangeOf};
 ghost use Rattle.mcdec.specs.Reading.{Gives};
 
 use crate::number::Base;
-use crate::reader::{Class, Unread, after, decimal, hex, hex_number, number_of, run};
+use crate::reader::{Class, Unread, after, decimal, hex, hex_bytes, hex_number, number_of, run};
+use rv_words::List;
+use std::alloc::Global;
+use word_terms::Range;
 
 /// A command.
 #[derive(Drop)]
@@ -32,6 +36,16 @@ pub struct Run<'a> {
     pub until: u64,
     pub steps: u64,
     pub given: Registers,
+    pub memory: List<Range>,
+}
+
+/// A word behind the others.
+#[derive(Drop)]
+pub enum Argument {
+    /// The number of a register, and its value.
+    Value(u8, u64),
+    /// Bytes of memory.
+    Memory(Range),
 }
 
 /// The values that the words give to registers, by their numbers.
@@ -63,19 +77,22 @@ impl Registers {
 }
 
 /// The command that the words are.
-pub fn read_words(words: &[String]) -> Option<Command<'_>>
-    ensures { MatchOption result (IsNoCommand (texts words.now)) (λ c. IsRead (texts words.now) c) }
+pub fn read_words(alloc: Global, words: &[String]) -> Result<Command<'_>, Unread>
+    ensures { MatchResult result (λ c. IsRead (texts words.now) c) (λ e. Unless (IsNoCommand (texts words.now)) e) }
 {
     let [first, rest @ ..] = words else {
-        return None;
+        return Err(Unread::NotThere);
     };
     if first.as_str() == "eval" {
-        return Some(Command::Eval(read_eval(rest)?));
+        return match read_eval(rest) {
+            Some(e) => Ok(Command::Eval(e)),
+            None => Err(Unread::NotThere),
+        };
     }
     if first.as_str() == "run" {
-        return Some(Command::Run(read_run(rest)?));
+        return Ok(Command::Run(read_run(alloc, rest)?));
     }
-    None
+    Err(Unread::NotThere)
 }
 
 /// The words behind `eval`.
@@ -99,24 +116,31 @@ fn read_eval(words: &[String]) -> Option<Eval<'_>>
 }
 
 /// The words behind `run`.
-fn read_run(words: &[String]) -> Option<Run<'_>>
-    ensures { MatchOption result (NoRun (texts words.now)) (λ r. IsRun (texts words.now) r) }
+fn read_run(alloc: Global, words: &[String]) -> Result<Run<'_>, Unread>
+    ensures { MatchResult result (λ r. IsRun (texts words.now) r) (λ e. Unless (NoRun (texts words.now)) e) }
 {
-    let [elf, start, until, steps, given @ ..] = words else {
-        return None;
+    let [elf, start, until, steps, arguments @ ..] = words else {
+        return Err(Unread::NotThere);
     };
     if elf.is_empty() || !is_name(start.as_bytes()) {
-        return None;
+        return Err(Unread::NotThere);
     }
-    let until = hex_number(until.as_bytes())?;
-    let steps = number_of(Base::Decimal, steps.as_bytes())?;
-    let given = read_registers(given)?;
-    Some(Run {
+    let until = match hex_number(until.as_bytes()) {
+        Some(until) => until,
+        None => return Err(Unread::NotThere),
+    };
+    let steps = match number_of(Base::Decimal, steps.as_bytes()) {
+        Some(steps) => steps,
+        None => return Err(Unread::NotThere),
+    };
+    let (given, memory) = read_arguments(alloc, arguments)?;
+    Ok(Run {
         elf: elf.as_str(),
         start: start.as_bytes(),
         until,
         steps,
         given,
+        memory,
     })
 }
 
@@ -129,6 +153,68 @@ fn is_name(bytes: &[u8]) -> bool
     }
     let (_, rest) = run(Class::Name, bytes);
     rest.is_empty()
+}
+
+/// The values of registers, and bytes of memory.
+fn read_arguments(alloc: Global, words: &[String]) -> Result<(Registers, List<Range>), Unread>
+    ensures { MatchResult result (λ x. AllArgs (texts words.now) x.0.values x.1) (λ e. Unless (NoArgs (texts words.now)) e) }
+{
+    let mut values = [None; 32];
+    let mut memory = List::new(alloc);
+    for word in words {
+        match read_argument(alloc, word.as_bytes())? {
+            Argument::Value(register, value) => {
+                if values[register as usize].is_some() {
+                    return Err(Unread::NotThere);
+                }
+                values[register as usize] = Some(value);
+            }
+            Argument::Memory(range) => memory.push(range)?,
+        }
+    }
+    Ok((Registers { values }, memory))
+}
+
+/// A word behind the others.
+fn read_argument(alloc: Global, word: &[u8]) -> Result<Argument, Unread>
+    ensures { MatchResult result (λ a. IsArg (arg_of a) × (word.now ≡ arg_word (arg_of a))) (λ e. Unless ((a : Arg) → IsArg a → word.now ≢ arg_word a) e) }
+{
+    match read_given(word) {
+        Some((register, value)) => Ok(Argument::Value(register, value)),
+        None => Ok(Argument::Memory(read_memory(alloc, word)?)),
+    }
+}
+
+/// Bytes of memory.
+fn read_memory(alloc: Global, word: &[u8]) -> Result<Range, Unread>
+    ensures { MatchResult result (λ r. IsMemory r × (word.now ≡ memory_word r)) (λ e. Unless ((r : RangeOf) → IsMemory r → word.now ≢ memory_word r) e) }
+{
+    let (range, rest) = memory(alloc, word)?;
+    if rest.is_empty() && is_memory(&range) {
+        Ok(range)
+    } else {
+        Err(Unread::NotThere)
+    }
+}
+
+/// Whether there is a byte, and none behind the last address.
+fn is_memory(range: &Range) -> bool
+    ensures { IsTrue result ↔ ((0 < length range.now.bytes) × (range.now.at + length range.now.bytes ≤ 2 ^ 64)) }
+{
+    let size = range.bytes.as_slice().len() as u128;
+    size > 0 && u128::from(range.at) + size <= 1 << 64
+}
+
+/// Bytes of memory, at the front of the bytes.
+#[tactic(auto, unfolding(crate::specs::CommandReading::memory_at))]
+fn memory(alloc: Global, bytes: &[u8]) -> Result<(Range, &[u8]), Unread>
+    ensures { Gives (λ r. r) (λ rest. rest.now) result (memory_at bytes.now) }
+{
+    let rest = after(b"mem=", bytes)?;
+    let (at, rest) = hex(rest)?;
+    let rest = after(b":", rest)?;
+    let (bytes, rest) = hex_bytes(alloc, rest)?;
+    Ok((Range { at, bytes }, rest))
 }
 
 /// The values of registers.

@@ -11,6 +11,7 @@ use crate::answer::Answer;
 use crate::command::{Command, read_words};
 use crate::evaluate::evaluate;
 use crate::print::deliver;
+use crate::reader::Unread;
 use crate::run::run_file;
 use mc_shelf::{Shelf, Sink};
 use std::alloc::Global;
@@ -55,8 +56,10 @@ fn answer_words<S: Shelf>(alloc: Global, words: &[String], shelf: &mut S) -> Ans
     ensures sure { S.IsSure shelf.old → ReadsAreTold (S.contents shelf.old) (texts words.now)
         → (S.read_faults shelf.new ≡ S.read_faults shelf.old) × (S.write_faults shelf.new ≡ S.write_faults shelf.old) }
 {
-    let Some(command) = read_words(words) else {
-        return Answer::NotACommand;
+    let command = match read_words(alloc, words) {
+        Ok(command) => command,
+        Err(Unread::NotThere) => return Answer::NotACommand,
+        Err(Unread::NoMemory) => return Answer::NoMemory,
     };
     match command {
         Command::Eval(e) => evaluate(alloc, &e, shelf),

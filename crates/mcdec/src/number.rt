@@ -1,6 +1,7 @@
 //! Numbers as digits.
 
-ghost use Rattle.std.specs.Prelude.{◌≡◌, ◌<◌, ◌≤◌, false, drop};
+ghost use Rattle.std.specs.Prelude.{◌≡◌, ◌<◌, ◌≤◌, ◌∷◌, [], false, drop};
+ghost use Rattle.hex.specs.Hex.{encode_lower};
 ghost use Rattle.std.specs.Fmt.{digits, digit_glyph};
 ghost use Rattle.mcdec.specs.Number.{base_number};
 
@@ -32,6 +33,13 @@ fn hex_digit(value: u8) -> u8
     } else {
         b'a' + (value - 10)
     }
+}
+
+/// The two hexadecimal digits of a byte, in lower case.
+pub fn hex_pair(byte: u8) -> [u8; 2]
+    ensures { result ≡ encode_lower (byte ∷ []) }
+{
+    [hex_digit(byte / 16), hex_digit(byte % 16)]
 }
 
 /// A place for hexadecimal digits, as `itoa::Buffer` is for decimal ones.

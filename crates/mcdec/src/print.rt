@@ -1,18 +1,21 @@
 //! Printing an answer into a sink, piece by piece. It takes no memory.
 
 ghost use Rattle.std.specs.Prelude.{◌≡◌, ◌≤◌, ℕ, List, map, codes, ◌++◌};
-ghost use Rattle.mcdec.specs.Printed.{lines, done_lines, met_lines, register_line, register_lines, fault_words, stuck_words, status, IsDelivered};
+ghost use Rattle.mcdec.specs.Printed.{lines, done_lines, memory_line, met_lines, register_line, register_lines, fault_words, stuck_words, status, IsDelivered};
 ghost use Rattle.std.specs.Fmt.{decimal};
+ghost use Rattle.hex.specs.Hex.{encode_lower};
 ghost use Rattle.mc_shelf.specs.Fault.{Rose};
+ghost use Rattle.mcdec.specs.Text.{each};
 ghost use Rattle.mcdec.specs.Number.{hex};
 ghost use Rattle.mcdec.specs.Printing.{Prints, piece_text, pieces_text};
 
 use crate::answer::Answer;
-use crate::number::HexBuffer;
+use crate::number::{HexBuffer, hex_pair};
 use elf_image::ElfFault;
 use itoa::Buffer;
 use mc_shelf::{Sink, Stop};
 use rv_machine::Stuck;
+use word_terms::Range;
 
 /// A piece of a line.
 #[derive(Clone, Copy, Debug)]
@@ -25,6 +28,8 @@ pub enum Piece<'a> {
     Wide(u128),
     /// A number in hexadecimal digits, behind `0x`.
     Hex(u64),
+    /// Bytes, in two hexadecimal digits each.
+    Bytes(&'a [u8]),
 }
 
 fn put_piece<O: Sink>(out: &mut O, piece: &Piece<'_>) -> Result<(), Stop>
@@ -45,7 +50,17 @@ fn put_piece<O: Sink>(out: &mut O, piece: &Piece<'_>) -> Result<(), Stop>
             let mut buffer = HexBuffer::new();
             out.put(buffer.format(*n))
         }
+        Piece::Bytes(bytes) => put_bytes(out, bytes),
     }
+}
+
+fn put_bytes<O: Sink>(out: &mut O, bytes: &[u8]) -> Result<(), Stop>
+    ensures { Prints result (encode_lower bytes.now) (O.written out.old) (O.written out.new) (O.faults out.old) (O.faults out.new) }
+{
+    for byte in bytes {
+        put_text(out, &hex_pair(*byte))?;
+    }
+    Ok(())
 }
 
 fn put_all<O: Sink>(out: &mut O, pieces: &[Piece<'_>]) -> Result<(), Stop>
@@ -108,7 +123,15 @@ fn put_answer<O: Sink>(out: &mut O, answer: &Answer) -> Result<(), Stop>
             pc,
             registers,
             words,
-        } => put_met(out, *steps, *pc, registers.as_slice(), words.as_slice()),
+            memory,
+        } => put_met(
+            out,
+            *steps,
+            *pc,
+            registers.as_slice(),
+            words.as_slice(),
+            memory.as_slice(),
+        ),
         Answer::NoFunction => put_text(out, b"refused no function\n"),
         Answer::NoSuchStart(name) => put_no_such(out, name.as_slice()),
         Answer::AmbiguousStart(name, low, high) => {
@@ -287,11 +310,13 @@ fn put_met<O: Sink>(
     pc: u64,
     registers: &[u8],
     words: &[u64],
+    memory: &[Range],
 ) -> Result<(), Stop>
-    ensures { Prints result (met_lines steps pc ++ register_lines registers.now words.now) (O.written out.old) (O.written out.new) (O.faults out.old) (O.faults out.new) }
+    ensures { Prints result (met_lines steps pc ++ register_lines registers.now words.now ++ each memory_line memory.now) (O.written out.old) (O.written out.new) (O.faults out.old) (O.faults out.new) }
 {
     put_ended(out, b"met ", steps, pc)?;
-    put_registers(out, registers, words)
+    put_registers(out, registers, words)?;
+    put_memory(out, memory)
 }
 
 fn put_evaluated<O: Sink>(
@@ -305,6 +330,31 @@ fn put_evaluated<O: Sink>(
 {
     put_ended(out, b"done ", used, pc)?;
     put_registers(out, registers, words)
+}
+
+/// The lines of ranges of memory.
+fn put_memory<O: Sink>(out: &mut O, memory: &[Range]) -> Result<(), Stop>
+    ensures { Prints result (each memory_line memory.now) (O.written out.old) (O.written out.new) (O.faults out.old) (O.faults out.new) }
+{
+    for range in memory {
+        put_range(out, range)?;
+    }
+    Ok(())
+}
+
+fn put_range<O: Sink>(out: &mut O, range: &Range) -> Result<(), Stop>
+    ensures { Prints result (memory_line range.now) (O.written out.old) (O.written out.new) (O.faults out.old) (O.faults out.new) }
+{
+    put_all(
+        out,
+        &[
+            Piece::Text(b"mem "),
+            Piece::Hex(range.at),
+            Piece::Text(b" "),
+            Piece::Bytes(range.bytes.as_slice()),
+            Piece::Text(b"\n"),
+        ],
+    )
 }
 
 /// How many steps or turns there were, and the program counter after them.

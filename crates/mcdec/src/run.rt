@@ -1,15 +1,15 @@
 //! The command `run`.
 
-ghost use Rattle.std.specs.Prelude.{◌≡◌, ℕ, ◌≤◌, List, All, IfOk, OnOk, map};
+ghost use Rattle.std.specs.Prelude.{◌≡◌, ℕ, ◌+◌, ◌≤◌, ◌^◌, List, All, IfOk, OnOk, length, map};
 ghost use Rattle.elf_image.specs.Fault.{IsReadable};
 ghost use Rattle.elf_image.specs.Image.{IsPlaced, bytes_in, image_of, padded};
 ghost use Rattle.mc_shelf.specs.Fault.{Rose};
 ghost use Rattle.rv_words.specs.Bytes.{bytes_from};
 ghost use Rattle.rv_machine.specs.State.{empty_state, state_of, with_bytes};
 ghost use Rattle.mcdec.specs.Answer.{ForContents, Gives, ReadsAreTold};
-ghost use Rattle.mcdec.specs.Command.{AreGiven, Given, value_of};
-ghost use Rattle.mcdec.specs.CommandReading.{Holds, IsReadRun};
-ghost use Rattle.mcdec.specs.RunAnswer.{ImageGives, MachineGives, StandsFor, begin, shown, start_refused};
+ghost use Rattle.mcdec.specs.Command.{AreArgs, AreGiven, Arg, Given, IsMemory, value_of};
+ghost use Rattle.mcdec.specs.CommandReading.{Holds, HoldsArgs, IsReadRun};
+ghost use Rattle.mcdec.specs.RunAnswer.{ImageGives, MachineGives, StandsFor, begin, held_at, placed, shown, start_refused};
 
 use crate::answer::Answer;
 use crate::command::{Registers, Run};
@@ -19,12 +19,14 @@ use mc_shelf::{ReadEnd, Shelf, read_file};
 use rv_machine::{RunEnd, State};
 use rv_words::{Bytes, List, NoMemory, Text};
 use std::alloc::Global;
+use word_terms::Range;
 
 /// The most bytes of an ELF file that are read.
 const ELF_LIMIT: u64 = 67_108_864;
 
 /// The answer to `run`.
 pub fn run_file<S: Shelf>(alloc: Global, r: &Run<'_>, shelf: &mut S) -> Answer
+    requires { All IsMemory r.now.memory }
     ensures gives { (ws : List (List ℕ)) → IsReadRun ws r.now
         → ForContents (S.contents shelf.old) (λ files. Gives files ws (Rose (S.read_faults shelf.old) (S.read_faults shelf.new)) result) }
 
@@ -47,8 +49,9 @@ pub fn run_file<S: Shelf>(alloc: Global, r: &Run<'_>, shelf: &mut S) -> Answer
 
 /// The answer to `run` where its ELF file has these bytes. They are let go before the run's memory is made.
 fn run_bytes(alloc: Global, file: Bytes, r: &Run<'_>) -> Result<Answer, NoMemory>
-    ensures { (given : List Given) → AreGiven given → Holds given r.now.given.values
-        → IfOk result (λ a. ImageGives file r.now.start.now r.now.until r.now.steps given a) }
+    requires { All IsMemory r.now.memory }
+    ensures { (args : List Arg) → AreArgs args → HoldsArgs args r.now.given.values r.now.memory
+        → IfOk result (λ a. ImageGives file r.now.start.now r.now.until r.now.steps args a) }
 {
     let image = match read(alloc, file.as_slice()) {
         Ok(image) => image,
@@ -85,15 +88,20 @@ fn refused(alloc: Global, start: &[u8], fault: NameFault) -> Result<Answer, NoMe
 
 /// The answer to `run` from an address of this image. It is let go before the run.
 fn run_image(alloc: Global, image: Image, start: u64, r: &Run<'_>) -> Result<Answer, NoMemory>
-    ensures { (given : List Given) → AreGiven given → Holds given r.now.given.values → (file : List ℕ) → image ≡ image_of file
-        → IfOk result (λ a. MachineGives r.now.until r.now.steps given (begin file given start) a) }
+    requires { All IsMemory r.now.memory }
+    ensures { (args : List Arg) → AreArgs args → HoldsArgs args r.now.given.values r.now.memory → (file : List ℕ) → image ≡ image_of file
+        → IfOk result (λ a. MachineGives r.now.until r.now.steps args (begin file args start) a) }
 {
     let mut state = State::new(alloc, start);
     place_pieces(&mut state, image.pieces())?;
     drop(image);
+    place_ranges(&mut state, r.memory.as_slice())?;
     set_registers(&mut state, &r.given);
     match state.run(r.until, r.steps) {
-        RunEnd::Met(steps) => met(alloc, steps, &state, &r.given),
+        RunEnd::Met(steps) => {
+            let memory = ranges_now(alloc, &state, r.memory.as_slice())?;
+            met(alloc, steps, &state, &r.given, memory)
+        }
         RunEnd::Stuck(steps, why) => Ok(Answer::StuckAfter(steps, why)),
         RunEnd::Steps => Ok(Answer::StepsUsed),
     }
@@ -121,6 +129,17 @@ fn place_piece(state: &mut State, piece: &Piece) -> Result<(), NoMemory>
     state.place(piece.at, piece.from.as_slice())
 }
 
+/// Puts the ranges' bytes into memory, one range after the other.
+fn place_ranges(state: &mut State, ranges: &[Range]) -> Result<(), NoMemory>
+    requires { All IsMemory ranges.now }
+    ensures { OnOk result (state_of state.new ≡ record (state_of state.old) { mem = placed ranges.now (state_of state.old).mem }) }
+{
+    for range in ranges {
+        state.place(range.at, range.bytes.as_slice())?;
+    }
+    Ok(())
+}
+
 /// Gives the registers their values.
 fn set_registers(state: &mut State, values: &Registers)
     ensures { (given : List Given) → AreGiven given → Holds given values.now.values → (state_of state.old).reg ≡ (λ r. 0)
@@ -131,10 +150,45 @@ fn set_registers(state: &mut State, values: &Registers)
     }
 }
 
+/// The ranges with the bytes that are in memory now.
+fn ranges_now(alloc: Global, state: &State, ranges: &[Range]) -> Result<List<Range>, NoMemory>
+    requires { All IsMemory ranges.now }
+    ensures { IfOk result (λ now. now ≡ map (held_at (state_of state.now).mem) ranges.now) }
+{
+    let mut now = List::new(alloc);
+    for range in ranges {
+        now.push(range_now(alloc, state, range)?)?;
+    }
+    Ok(now)
+}
+
+/// The range with the bytes that are in memory now.
+fn range_now(alloc: Global, state: &State, range: &Range) -> Result<Range, NoMemory>
+    requires { range.now.at + length range.now.bytes ≤ 2 ^ 64 }
+    ensures { IfOk result (λ now. now ≡ held_at (state_of state.now).mem range.now) }
+{
+    let memory = state.memory();
+    let mut bytes = List::new(alloc);
+    for k in 0..range.bytes.len() {
+        let byte = memory.byte(range.at + k as u64);
+        bytes.push(byte.unwrap_or(0))?;
+    }
+    Ok(Range {
+        at: range.at,
+        bytes,
+    })
+}
+
 /// The answer where the address was met: the state there, with the registers that were given a value or don't hold 0.
-fn met(alloc: Global, steps: u64, state: &State, values: &Registers) -> Result<Answer, NoMemory>
+fn met(
+    alloc: Global,
+    steps: u64,
+    state: &State,
+    values: &Registers,
+    memory: List<Range>,
+) -> Result<Answer, NoMemory>
     ensures { (given : List Given) → Holds given values.now.values
-        → IfOk result (λ a. a ≡ Answer.Met steps (state_of state.now).pc (shown given (state_of state.now)) (map (state_of state.now).reg (shown given (state_of state.now)))) }
+        → IfOk result (λ a. a ≡ Answer.Met steps (state_of state.now).pc (shown given (state_of state.now)) (map (state_of state.now).reg (shown given (state_of state.now))) memory) }
 {
     let mut registers = List::new(alloc);
     let mut words = List::new(alloc);
@@ -150,5 +204,6 @@ fn met(alloc: Global, steps: u64, state: &State, values: &Registers) -> Result<A
         pc: state.pc(),
         registers,
         words,
+        memory,
     })
 }

@@ -94,6 +94,44 @@ fn elf_file(alloc: Global, count: u64) -> Result<Vec<u8>, AllocError> {
     Ok(file)
 }
 
+/// Appends a symbol table with functions of these names and values, its string table, and the headers of both.
+fn add_symbols(
+    alloc: Global,
+    file: &mut Vec<u8>,
+    symbols: &[(&str, u64)],
+) -> Result<(), AllocError> {
+    let table = file.len() as u64;
+    let mut strings = Vec::from_slice(alloc, b"\0")?;
+    for (name, value) in symbols {
+        let place = strings.len() as u64;
+        for (size, number) in [(4, place), (1, 18), (1, 0), (2, 1), (8, *value), (8, 0)] {
+            push_number(file, size, number)?;
+        }
+        strings.extend_from_slice(name.as_bytes())?;
+        strings.push(0)?;
+    }
+    let names = file.len() as u64;
+    file.extend_from_slice(&strings)?;
+    let headers = file.len() as u64;
+    for (kind, place, end, link, entry) in [
+        (0, 0, 0, 0, 0),
+        (2, table, names, 2, 24),
+        (3, names, headers, 0, 0),
+    ] {
+        for (size, number) in [(4, 0), (4, kind), (8, 0), (8, 0), (8, place)] {
+            push_number(file, size, number)?;
+        }
+        let length = u64::wrapping_sub(end, place);
+        for (size, number) in [(8, length), (4, link), (4, 0), (8, 1), (8, entry)] {
+            push_number(file, size, number)?;
+        }
+    }
+    put_number(file, 40, 8, headers);
+    put_number(file, 58, 2, 64);
+    put_number(file, 60, 2, 3);
+    Ok(())
+}
+
 #[test]
 fn a_straight_function_is_evaluated(rt: HostRuntime) -> Result<(), Fail> {
     for (line, status, lines) in [
@@ -147,7 +185,13 @@ fn other_words_are_no_command(rt: HostRuntime) -> Result<(), Fail> {
         "run p f; 0x0 1",
         "run p 0x10000 0x0 1 x0=0x0",
         "run p 0x10000 0x0 1 x1=0x0 x1=0x0",
-        "run p 0x10000 0x0 1 mem=0x0:00",
+        "run p 0x10000 0x0 1 mem=0x0:",
+        "run p 0x10000 0x0 1 mem=0x0:000",
+        "run p 0x10000 0x0 1 mem=0x0:0A",
+        "run p 0x10000 0x0 1 mem=0x00:00",
+        "run p 0x10000 0x0 1 mem=0x0:00 00",
+        "run p 0x10000 0x0 1 mem=0xffffffffffffffff:0000",
+        "run p 0x10000 0x0 1 x1=0x0 mem=0x0:00 x1=0x0",
         "--help",
     ] {
         let ended = ends_with(
@@ -298,6 +342,84 @@ fn a_file_is_run(rt: HostRuntime) -> Result<(), Fail> {
             "refused 0x10000000000000000 no-such\n",
         ),
         ("run q 0x10000 0x2000 9", 4, "read fault\n"),
+    ] {
+        let ended = ends_with(rt.alloc(), line, ("e", &file), (status, lines))?;
+        assert!(rt; ended, "{line}");
+    }
+    Ok(())
+}
+
+#[test]
+fn a_run_starts_at_a_name(rt: HostRuntime) -> Result<(), Fail> {
+    let mut file = elf_file(rt.alloc(), 1)?;
+    let symbols = [
+        ("twice", 0x10000),
+        ("twice", 0x10000),
+        ("next", 0x10004),
+        ("both", 0x10004),
+        ("both", 0x10000),
+        ("both", 0x20000),
+        ("0x10000", 0x10004),
+        ("0x010000", 0x10004),
+    ];
+    add_symbols(rt.alloc(), &mut file, &symbols)?;
+    for (line, status, lines) in [
+        ("run e twice 0x10000 0", 0, "met 0\npc 0x10000\n"),
+        (
+            "run e next 0x2000 1 x1=0x2000",
+            0,
+            "met 1\npc 0x2000\nx1 0x2000\n",
+        ),
+        ("run e nex 0x10004 0", 1, "refused nex no-such\n"),
+        ("run e next1 0x10004 0", 1, "refused next1 no-such\n"),
+        (
+            "run e both 0x10004 0",
+            1,
+            "refused both ambiguous 0x10000 0x10004\n",
+        ),
+        ("run e 0x10000 0x10000 0", 0, "met 0\npc 0x10000\n"),
+        ("run e 0x010000 0x10004 0", 0, "met 0\npc 0x10004\n"),
+    ] {
+        let ended = ends_with(rt.alloc(), line, ("e", &file), (status, lines))?;
+        assert!(rt; ended, "{line}");
+    }
+    put_number(&mut file, 60, 2, 2);
+    let answer = (3, "unreadable elf symbols\n");
+    assert!(rt; ends_with(rt.alloc(), "run e next 0x10004 0", ("e", &file), answer)?);
+    Ok(())
+}
+
+#[test]
+fn memory_words_are_placed_and_shown(rt: HostRuntime) -> Result<(), Fail> {
+    // sd x10, 0(x11)
+    let mut file = elf_file(rt.alloc(), 1)?;
+    put_number(&mut file, 120, 4, 0x00a5_b023);
+    for (line, status, lines) in [
+        (
+            "run e 0x10000 0x2000 9 x1=0x2000 x10=0x102030405060708 x11=0xfffffffffffffffd mem=0xfffffffffffffffd:aaaaaa mem=0x0:bbbbbbbbbbbb",
+            0,
+            "met 2\npc 0x2000\nx1 0x2000\nx10 0x102030405060708\nx11 0xfffffffffffffffd\nmem 0xfffffffffffffffd 080706\nmem 0x0 0504030201bb\n",
+        ),
+        (
+            "run e 0x10000 0x2000 9 x11=0xfffffffffffffffd mem=0xfffffffffffffffd:aaaaaa",
+            1,
+            "refused stuck 0 no-byte 0x0\n",
+        ),
+        (
+            "run e 0x10000 0x2000 9 x11=0x5 mem=0x8:00000000000000 mem=0x5:0000",
+            1,
+            "refused stuck 0 no-byte 0x7\n",
+        ),
+        (
+            "run e 0x10000 0x10000 0 mem=0x10003:00ff mem=0x20000:010203 x7=0x0 mem=0x20001:aa mem=0x20000:0b",
+            0,
+            "met 0\npc 0x10000\nx7 0x0\nmem 0x10003 00ff\nmem 0x20000 0baa03\nmem 0x20001 aa\nmem 0x20000 0b\n",
+        ),
+        (
+            "run e 0x30000 0x2000 3 mem=0x30000:67800000 x1=0x2000",
+            0,
+            "met 1\npc 0x2000\nx1 0x2000\nmem 0x30000 67800000\n",
+        ),
     ] {
         let ended = ends_with(rt.alloc(), line, ("e", &file), (status, lines))?;
         assert!(rt; ended, "{line}");

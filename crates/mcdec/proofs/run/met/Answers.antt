@@ -25,4 +25,4 @@ loop-register-preserved c =
 pub returns : goal.returns
 returns c given h =
     shown-all c.args.values.now.values (state_of c.args.state.now) c.loop-register.registers c.loop-register.words c.loop-register.register
-    (omega (arith, c.loop-register-test.false, c.loop-register.auto.register-end)) c.loop-register.invariant given h c.args.steps c.pc.result c.pc.ensures
+    (omega (arith, c.loop-register-test.false, c.loop-register.auto.register-end)) c.loop-register.invariant given h c.args.steps c.pc.result c.args.memory c.pc.ensures
