@@ -75,29 +75,33 @@ def words(code):
 
 
 def write_elf(path, segments, symbols=()):
-    """Writes an ELF file: segments of address, bytes and size in memory; symbols of name and value."""
-    sections = 3 if symbols else 0
+    """Writes an ELF file: segments of address, front of the bytes, size in the file and in memory; symbols of name and value."""
     place = 64 + 56 * len(segments)
-    headers, contents = b"", b""
-    for at, data, size in segments:
-        headers += struct.pack("<IIQQQQQQ", 1, 7, place + len(contents), at, at, len(data), size, 4)
-        contents += data
-    table, strings = bytes(24), bytearray(1)
-    for name, value in symbols:
-        table += struct.pack("<IBBHQQ", len(strings), 2, 0, 1, value, 0)
-        strings += name.encode() + b"\0"
+    headers, parts = b"", []
+    for at, front, file_size, memory_size in segments:
+        headers += struct.pack("<IIQQQQQQ", 1, 7, place, at, at, file_size, memory_size, 4)
+        parts.append((place, front))
+        place += file_size
     shoff = 0
     if symbols:
-        offset = place + len(contents)
-        contents += table + strings
-        shoff = place + len(contents)
-        contents += bytes(64)
-        contents += struct.pack("<IIQQQQIIQQ", 0, 2, 0, 0, offset, len(table), 2, 0, 8, 24)
-        contents += struct.pack("<IIQQQQIIQQ", 0, 3, 0, 0, offset + len(table), len(strings), 0, 0, 1, 0)
+        table, strings = bytearray(24), bytearray(1)
+        for name, value in symbols:
+            table += struct.pack("<IBBHQQ", len(strings), 2, 0, 1, value, 0)
+            strings += name.encode() + b"\0"
+        sections = bytes(64)
+        sections += struct.pack("<IIQQQQIIQQ", 0, 2, 0, 0, place, len(table), 2, 0, 8, 24)
+        sections += struct.pack("<IIQQQQIIQQ", 0, 3, 0, 0, place + len(table), len(strings), 0, 0, 1, 0)
+        parts.append((place, table + strings + sections))
+        shoff = place + len(table) + len(strings)
+        place = shoff + len(sections)
     header = b"\x7fELF\x02\x01\x01" + bytes(9)
-    header += struct.pack("<HHIQQQIHHHHHH", 2, 243, 1, BASE, 64, shoff, 0, 64, 56, len(segments), 64, sections, 0)
+    header += struct.pack("<HHIQQQIHHHHHH", 2, 243, 1, BASE, 64, shoff, 0, 64, 56, len(segments), 64, 3 if symbols else 0, 0)
     with open(path, "wb") as file:
-        file.write(header + headers + contents)
+        file.write(header + headers)
+        for offset, part in parts:
+            file.seek(offset)
+            file.write(part)
+        file.truncate(place)
 
 
 def measure(program, arguments):
@@ -118,29 +122,28 @@ def measure(program, arguments):
 
 def loop(code, data=()):
     """A case of ten million steps in a loop of ten, over these segments."""
-    bases = [f"x{20 + i}={at:#x}" for i, (at, _, _) in enumerate(data)]
+    bases = [f"x{20 + i}={segment[0]:#x}" for i, segment in enumerate(data)]
     arguments = ["0x10000", "0x0", str(LOOP_STEPS), "x5=0x10000", "x10=0xfedcba9876543210", *bases]
-    return [(BASE, words(code), 40), *data], (), arguments, b"steps used\n", LOOP_STEPS
+    return [(BASE, words(code), 40, 40), *data], (), arguments, b"steps used\n", LOOP_STEPS
 
 
 def begin(file_size, memory_size):
     """A case of no steps, over one segment of these sizes."""
-    data = words([RETURN]).ljust(file_size, b"\0")
-    return [(BASE, data, memory_size)], (), ["0x10000", "0x10000", "0"], b"met 0\n", 0
+    return [(BASE, words([RETURN]), file_size, memory_size)], (), ["0x10000", "0x10000", "0"], b"met 0\n", 0
 
 
 def named(count):
     """A case of no steps, from the last of that many functions."""
     symbols = [(f"function_{i}", BASE + 4 * i) for i in range(count)]
     name, value = symbols[-1]
-    return [(BASE, words([RETURN]), 4)], symbols, [name, f"{value:#x}", "0"], b"met 0\n", 0
+    return [(BASE, words([RETURN]), 4, 4)], symbols, [name, f"{value:#x}", "0"], b"met 0\n", 0
 
 
 def main():
     if len(sys.argv) != 2:
         sys.exit(__doc__)
     program = os.path.abspath(sys.argv[1])
-    segments = [(at, bytes(range(256)), 256) for at in BASES]
+    segments = [(at, bytes(range(256)), 256, 256) for at in BASES]
     cases = {
         "nothing": begin(4, 4),
         "arithmetic": loop(ARITHMETIC),
