@@ -71,8 +71,8 @@ fn put_number(file: &mut [u8], place: usize, size: usize, number: u64) {
     }
 }
 
-/// An ELF file with `addi x10, x10, 1` and `ret` at 0x10000, in as many equal PT_LOADs as `count` says.
-fn elf_file(alloc: Global, count: u64) -> Result<Vec<u8>, AllocError> {
+/// An ELF file with this code at 0x10000, in as many equal PT_LOADs as `count` says.
+fn elf_of(alloc: Global, count: u64, code: &[u32]) -> Result<Vec<u8>, AllocError> {
     let mut file = Vec::from_slice(alloc, b"\x7fELF\x02\x01\x01\0\0\0\0\0\0\0\0\0")?;
     for (size, number) in [(2, 2), (2, 243), (4, 1), (8, 0x10000), (8, 64), (8, 0)] {
         push_number(&mut file, size, number)?;
@@ -81,17 +81,24 @@ fn elf_file(alloc: Global, count: u64) -> Result<Vec<u8>, AllocError> {
         push_number(&mut file, size, number)?;
     }
     let place = 64u64.wrapping_add(count.wrapping_mul(56));
+    let size = (code.len() as u64).wrapping_mul(4);
     for _ in 0..count {
         for (size, number) in [(4, 1), (4, 5), (8, place), (8, 0x10000)] {
             push_number(&mut file, size, number)?;
         }
-        for (size, number) in [(8, 0x10000), (8, 8), (8, 8), (8, 4)] {
+        for (size, number) in [(8, 0x10000), (8, size), (8, size), (8, 4)] {
             push_number(&mut file, size, number)?;
         }
     }
-    push_number(&mut file, 4, 0x0015_0513)?;
-    push_number(&mut file, 4, 0x0000_8067)?;
+    for word in code {
+        push_number(&mut file, 4, u64::from(*word))?;
+    }
     Ok(file)
+}
+
+/// An ELF file with `addi x10, x10, 1` and `ret` at 0x10000, in as many equal PT_LOADs as `count` says.
+fn elf_file(alloc: Global, count: u64) -> Result<Vec<u8>, AllocError> {
+    elf_of(alloc, count, &[0x0015_0513, 0x0000_8067])
 }
 
 /// Appends a symbol table with functions of these names and values, its string table, and the headers of both.
@@ -421,6 +428,119 @@ fn memory_words_are_placed_and_shown(rt: HostRuntime) -> Result<(), Fail> {
             "met 1\npc 0x2000\nx1 0x2000\nmem 0x30000 67800000\n",
         ),
     ] {
+        let ended = ends_with(rt.alloc(), line, ("e", &file), (status, lines))?;
+        assert!(rt; ended, "{line}");
+    }
+    Ok(())
+}
+
+/// A leaf function as a compiler writes it that doesn't optimise: a frame with locals, a loop with a break in it, and two
+/// branches that join again.
+static LEAF: [u32; 42] = [
+    0xfd01_0113,
+    0x0281_3423,
+    0x0301_0413,
+    0x0005_0793,
+    0xfcf4_2e23,
+    0xfe04_2623,
+    0xfe04_2423,
+    0x0500_006f,
+    0xfe84_2783,
+    0x0007_871b,
+    0x00a0_0793,
+    0x04f7_0c63,
+    0xfe84_2783,
+    0x0017_f793,
+    0x0007_8e63,
+    0xfec4_2783,
+    0x0007_8713,
+    0xfe84_2783,
+    0x00f7_07bb,
+    0xfef4_2623,
+    0x0100_006f,
+    0xfec4_2783,
+    0xfff7_879b,
+    0xfef4_2623,
+    0xfe84_2783,
+    0x0017_879b,
+    0xfef4_2423,
+    0xfe84_2783,
+    0x0007_8713,
+    0xfdc4_2783,
+    0x0007_071b,
+    0x0007_879b,
+    0xfaf7_40e3,
+    0xfec4_2783,
+    0x0007_879b,
+    0x0007_d463,
+    0xfe04_2623,
+    0xfec4_2783,
+    0x0007_8513,
+    0x0281_3403,
+    0x0301_0113,
+    0x0000_8067,
+];
+
+#[test]
+fn code_of_each_kind_is_run(rt: HostRuntime) -> Result<(), Fail> {
+    // add x10, x10, x11; addi x11, x11, -1; bne x11, x0, -8; ret
+    let sum_up = [0x00b5_0533, 0xfff5_8593, 0xfe05_9ce3, 0x0000_8067];
+    // sd x10, 0(x11); ret
+    let store = [0x00a5_b023, 0x0000_8067];
+    for (code, line, status, lines) in [
+        (
+            &sum_up[..],
+            "run e 0x10000 0x2000 10 x1=0x2000 x11=0x3",
+            0,
+            "met 10\npc 0x2000\nx1 0x2000\nx10 0x6\nx11 0x0\n",
+        ),
+        (
+            &sum_up[..],
+            "run e 0x10000 0x2000 9 x1=0x2000 x11=0x3",
+            7,
+            "steps used\n",
+        ),
+        (
+            &store[..],
+            "run e 0x10000 0x2000 9 x1=0x2000 x10=0x1122334455667788 x11=0xfffffffffffffffc mem=0xfffffffffffffffc:00000000 mem=0x0:00000000",
+            0,
+            "met 2\npc 0x2000\nx1 0x2000\nx10 0x1122334455667788\nx11 0xfffffffffffffffc\nmem 0xfffffffffffffffc 88776655\nmem 0x0 44332211\n",
+        ),
+        (
+            &store[..],
+            "run e 0x10000 0x2000 9 x1=0x2000 x10=0x1122334455667788 x11=0xfffffffffffffffc mem=0xfffffffffffffffc:00000000",
+            1,
+            "refused stuck 0 no-byte 0x0\n",
+        ),
+        // ret
+        (
+            &[0x0000_8067][..],
+            "run e 0x10000 0x2002 1 x1=0x2002",
+            1,
+            "refused stuck 0 misaligned 0x2002\n",
+        ),
+        // beq x0, x0, 6
+        (
+            &[0x0000_0363][..],
+            "run e 0x10000 0x0 1",
+            1,
+            "refused stuck 0 misaligned 0x10006\n",
+        ),
+        // jal x0, 0
+        (
+            &[0x0000_006f][..],
+            "run e 0x10000 0x20000 1000",
+            7,
+            "steps used\n",
+        ),
+        (
+            &LEAF[..],
+            "run e 0x10000 0x20000 200 x1=0x20000 x2=0x40000 x10=0x4 mem=0x3ffd0:000000000000000000000000000000000000000000000000000000000000000000000000000000000000000000000000",
+            0,
+            "met 104\npc 0x20000\nx1 0x20000\nx2 0x40000\nx10 0x2\nx14 0x4\nx15 0x2\nmem 0x3ffd0 000000000000000000000000040000000000000000000000040000000200000000000000000000000000000000000000\n",
+        ),
+    ] {
+        let file = elf_of(rt.alloc(), 1, code)?;
         let ended = ends_with(rt.alloc(), line, ("e", &file), (status, lines))?;
         assert!(rt; ended, "{line}");
     }
