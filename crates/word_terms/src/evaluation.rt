@@ -1,38 +1,128 @@
 //! What terms stand for.
 
-ghost use Rattle.std.specs.Prelude.{◌≡◌, ◌↔◌, IsTrue, length};
-ghost use Rattle.word_terms.specs.Tree.{word_tree};
-ghost use Rattle.word_terms.specs.Value.{WordInScope, word_value};
-ghost use Rattle.word_terms.specs.Environment.{environment_of};
+ghost use Rattle.std.specs.Prelude.{◌≡◌, ◌<◌, ◌*◌, ◌/◌, ◌%◌, ◌^◌, ℕ, IfOk, option_map, length};
+ghost use Rattle.std.specs.FinMap.{get};
+ghost use Rattle.rv_words.specs.Bytes.{bytes_of, inside, load, store};
+ghost use Rattle.word_terms.specs.Tree.{cond_tree, mem_tree, word_tree};
+ghost use Rattle.word_terms.specs.Value.{cond_holds, mem_value, word_value};
+ghost use Rattle.word_terms.specs.Scope.{CondInScope, MemInScope, WordInScope};
+ghost use Rattle.word_terms.specs.Environment.{Environment, environment_of};
 
-use crate::term::Word;
-use rv_words::apply;
+use crate::term::{Cond, Mem, Word};
+use rv_words::{ByteMap, NoMemory, Width, apply, compare, extend};
+use std::alloc::Global;
 
-/// What the variables stand for: word variable `i` is `words[i]`.
-#[derive(Clone, Copy, Debug)]
+/// What the variables stand for: word variable `i` is `words[i]`, and memory variable `i` is `mems[i]`.
+#[derive(Clone, Copy)]
 pub struct Env<'a> {
     pub words: &'a [u64],
+    pub mems: &'a [ByteMap],
 }
 
 /// The word that a term stands for.
+#[cycle(values)]
 pub fn value(t: &Word, e: &Env) -> u64
-    requires { WordInScope (word_tree t.now) (length e.now.words.now) }
+    requires { WordInScope (word_tree t.now) (length e.now.words.now) (length e.now.mems.now) }
     ensures { result ≡ word_value (word_tree t.now) (environment_of e.now) }
 {
     match t {
         Word::Const(n) => *n,
         Word::Var(i) => e.words[*i as usize],
         Word::Bin(op, a, b) => apply(*op, value(a, e), value(b, e)),
+        Word::Extend(ext, a) => extend(*ext, value(a, e)),
+        Word::Load(width, m, a) => load_of(m, e, value(a, e), *width),
     }
 }
 
-/// Whether each variable of the term is one of the first `words`.
-pub fn is_word_in_scope(t: &Word, words: usize) -> bool
-    ensures { IsTrue result ↔ WordInScope (word_tree t.now) words }
+/// The byte at an address of the memory that a term stands for, if it is present.
+#[cycle(values)]
+pub fn byte_of(t: &Mem, e: &Env, a: u64) -> Option<u8>
+    requires { MemInScope (mem_tree t.now) (length e.now.words.now) (length e.now.mems.now) }
+    ensures { result ≡ mem_value (mem_tree t.now) (environment_of e.now) a }
 {
     match t {
-        Word::Const(_) => true,
-        Word::Var(i) => (*i as usize) < words,
-        Word::Bin(_, a, b) => is_word_in_scope(a, words) && is_word_in_scope(b, words),
+        Mem::Var(i) => e.mems[*i as usize].byte(a),
+        Mem::Store(width, m, at, v) => {
+            let old = byte_of(m, e, a);
+            let at = value(at, e);
+            let offset = a.wrapping_sub(at);
+            if offset < u64::from(width.bytes()) {
+                stored(old, value(v, e), offset)
+            } else {
+                old
+            }
+        }
+    }
+}
+
+/// The number of the width's bytes from an address on.
+#[cycle(values)]
+fn load_of(t: &Mem, e: &Env, a: u64, width: Width) -> u64
+    requires { MemInScope (mem_tree t.now) (length e.now.words.now) (length e.now.mems.now) }
+    ensures { result ≡ load (bytes_of width) (mem_value (mem_tree t.now) (environment_of e.now)) a }
+{
+    match t {
+        Mem::Var(i) => e.mems[*i as usize].load(a, width),
+        Mem::Store(_, _, _, _) => {
+            let mut number = 0u64;
+            let n = u64::from(width.bytes());
+            for i in 0..n {
+                let byte = byte_of(t, e, a.wrapping_add(n - 1 - i)).unwrap_or(0);
+                number = number * 256 + u64::from(byte);
+            }
+            number
+        }
+    }
+}
+
+/// The whole memory that a term stands for.
+pub fn memory_of(alloc: Global, t: &Mem, e: &Env) -> Result<ByteMap, NoMemory>
+    requires { MemInScope (mem_tree t.now) (length e.now.words.now) (length e.now.mems.now) }
+    ensures { IfOk result (λ m. get m ≡ mem_value (mem_tree t.now) (environment_of e.now)) }
+{
+    match t {
+        Mem::Var(i) => e.mems[*i as usize].copy(alloc),
+        Mem::Store(width, m, a, v) => {
+            let mut map = memory_of(alloc, m, e)?;
+            map.store(value(a, e), *width, value(v, e));
+            Ok(map)
+        }
+    }
+}
+
+/// Whether a condition is true.
+pub fn truth(t: &Cond, e: &Env) -> bool
+    requires { CondInScope (cond_tree t.now) (length e.now.words.now) (length e.now.mems.now) }
+    ensures { result ≡ cond_holds (cond_tree t.now) (environment_of e.now) }
+{
+    match t {
+        Cond::Compare(cmp, a, b) => compare(*cmp, value(a, e), value(b, e)),
+        Cond::Neg(c) => !truth(c, e),
+        Cond::Inside(width, m, a) => {
+            let memory = &e.mems[variable_of(m) as usize];
+            memory.has(value(a, e), *width)
+        }
+    }
+}
+
+/// The memory variable on which a term for a memory stands. It has the same addresses, since a store adds none.
+fn variable_of(t: &Mem) -> u32
+    ensures scope { (words mems : ℕ) → MemInScope (mem_tree t.now) words mems → result < mems }
+    ensures present { (e : Environment) (n a : ℕ) → inside n (mem_value (mem_tree t.now) e) a ≡ inside n (e.mem result) a }
+{
+    match t {
+        Mem::Var(i) => *i,
+        Mem::Store(_, m, _, _) => variable_of(m),
+    }
+}
+
+/// What stands where an old byte stood, if one did: byte `k` of a stored word.
+fn stored(old: Option<u8>, v: u64, k: u64) -> Option<u8>
+    requires { k < 8 }
+    ensures { result ≡ option_map (λ _. v / 2 ^ (8 * k) % 256) old }
+{
+    match old {
+        None => None,
+        Some(_) => Some(((v >> (8 * k)) % 256) as u8),
     }
 }

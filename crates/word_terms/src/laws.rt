@@ -1,0 +1,41 @@
+//! Laws of terms and their values. These functions do nothing: their contracts are the laws.
+
+ghost use Rattle.std.specs.Prelude.{◌≡◌, ℕ, List, is_some};
+ghost use Rattle.rv_words.specs.Bytes.{Bytes, inside, store};
+ghost use Rattle.word_terms.specs.Tree.{CondTree, MemTree, WordTree};
+ghost use Rattle.word_terms.specs.Environment.{Environment, Extends, with_mems, with_words};
+ghost use Rattle.word_terms.specs.Value.{cond_holds, mem_value, word_value};
+ghost use Rattle.word_terms.specs.Scope.{CondInScope, EachInCond, EachInMem, EachInWord, MemInScope, WordInScope};
+ghost use Rattle.word_terms.specs.Substitution.{Substitution, put_in_cond, put_in_mem, put_in_word, with_values_of};
+
+/// The value of a term after a substitution is the term's value where each listed variable has its term's value.
+pub fn law_of_substitution()
+    ensures word { (s : Substitution) (e : Environment) (t : WordTree) → word_value (put_in_word s t) e ≡ word_value t (with_values_of e s) }
+    ensures mem { (s : Substitution) (e : Environment) (t : MemTree) → mem_value (put_in_mem s t) e ≡ mem_value t (with_values_of e s) }
+    ensures cond { (s : Substitution) (e : Environment) (t : CondTree) → cond_holds (put_in_cond s t) e ≡ cond_holds t (with_values_of e s) }
+{}
+
+/// The value of a term depends only on what the variables in it stand for.
+pub fn law_of_agreement()
+    ensures word { (e f : Environment) (t : WordTree)
+        → EachInWord (λ i. e.word i ≡ f.word i) (λ i. e.mem i ≡ f.mem i) t → word_value t e ≡ word_value t f }
+    ensures mem { (e f : Environment) (t : MemTree)
+        → EachInMem (λ i. e.word i ≡ f.word i) (λ i. e.mem i ≡ f.mem i) t → mem_value t e ≡ mem_value t f }
+    ensures cond { (e f : Environment) (t : CondTree)
+        → EachInCond (λ i. e.word i ≡ f.word i) (λ i. e.mem i ≡ f.mem i) t → cond_holds t e ≡ cond_holds t f }
+{}
+
+/// The value of a term in scope is the same where there are more variables.
+pub fn law_of_scopes()
+    ensures word { (e f : Environment) (t : WordTree) → Extends e f → WordInScope t e.words e.mems → word_value t e ≡ word_value t f }
+    ensures mem { (e f : Environment) (t : MemTree) → Extends e f → MemInScope t e.words e.mems → mem_value t e ≡ mem_value t f }
+    ensures cond { (e f : Environment) (t : CondTree) → Extends e f → CondInScope t e.words e.mems → cond_holds t e ≡ cond_holds t f }
+    ensures more_words { (e : Environment) (ns : List ℕ) → Extends e (with_words e ns) }
+    ensures more_mems { (e : Environment) (ms : List Bytes) → Extends e (with_mems e ms) }
+{}
+
+/// A store doesn't change which addresses are present.
+pub fn law_of_stores()
+    ensures byte { (n : ℕ) (m : Bytes) (a v q : ℕ) → is_some (store n m a v q) ≡ is_some (m q) }
+    ensures bytes { (n k : ℕ) (m : Bytes) (a v b : ℕ) → inside k (store n m a v) b ≡ inside k m b }
+{}
