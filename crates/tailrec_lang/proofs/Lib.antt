@@ -1,6 +1,13 @@
 pub mod Lists
-pub mod Steps
 pub mod Environments
 pub mod Turns
+pub mod Steps
+pub mod Views
+pub mod Bodies
+pub mod Waiting
 pub mod Results
-pub mod Example
+pub mod Evaluation
+pub mod Counts
+pub mod WellFormedBodies
+pub mod Definitions
+pub mod Examples

@@ -1,37 +1,102 @@
--- Which groups are well-formed: each variable is in scope at its place, each `Leave` names an exit of its
--- definition, and each list of values has as many words as the group has registers.
-use Rattle.std.specs.Prelude.{◌≡◌, ℕ, ◌+◌, ◌<◌, List, length, slice_get, Some, All}
-use Rattle.word_terms.specs.Value.{WordInScope}
+-- Which groups are well-formed: each variable is in scope at its place, each `Call` goes to an earlier definition and
+-- has an arm for each of its exits, each `Leave` names an exit of its definition, and each list of values has the right
+-- counts. Variables are levels, so a scope is how many word and memory variables there are.
+use Rattle.std.specs.Prelude.{◌≡◌, ℕ, ◌+◌, ◌^◌, ◌<◌, min, List, [], ◌∷◌, length, slice_get, Option, Some, None, All}
+use Rattle.word_terms.specs.Scope.{WordInScope, MemInScope, CondInScope}
 use Rattle.tailrec_lang.specs.declared.group.Exit.{Exit}
-use Rattle.tailrec_lang.specs.Tree.{ValuesTree, StepTree, Bind, BodyTree, Do, Leave, DefTree, GroupTree}
+use Rattle.tailrec_lang.specs.declared.group.Exit.TheVariants.{At, Ret}
+use Rattle.tailrec_lang.specs.declared.scope.Scope.{Scope}
+use Rattle.tailrec_lang.specs.Tree.{ValuesTree, StepTree, Bind, BindMem, Need, BodyTree, Do, Branch, Call, Again, Leave, ArmTrees, NoArm, Arm, DefTree, GroupTree, exits_at}
 
--- the step's variables are among the first `words`
-abbrev pub StepInScope : StepTree → ℕ → Type 0
-StepInScope (Bind t) words = WordInScope t words
+-- the step's variables are in scope
+abbrev pub StepInScope : StepTree → ℕ → ℕ → Type 0
+StepInScope (Bind t) words mems = WordInScope t words mems
+StepInScope (BindMem m) words mems = MemInScope m words mems
+StepInScope (Need c) words mems = CondInScope c words mems
 
 -- how many word variables there are after the step
 abbrev pub words_after : StepTree → ℕ → ℕ
 words_after (Bind t) words = words + 1
+words_after (BindMem m) words = words
+words_after (Need c) words = words
 
--- the variables of each value are among the first `words`
-abbrev pub ValuesInScope : ValuesTree → ℕ → Type 0
-ValuesInScope v words = All (λ t. WordInScope t words) v.words
+-- how many memory variables there are after the step
+abbrev pub mems_after : StepTree → ℕ → ℕ
+mems_after (Bind t) mems = mems
+mems_after (BindMem m) mems = mems + 1
+mems_after (Need c) mems = mems
 
--- the body of a definition with these exits, in a group with that many registers, where `words` variables are in scope
-abbrev pub BodyIsWellFormed : List Exit → ℕ → BodyTree → ℕ → Type 0
-BodyIsWellFormed exits registers (Do step rest) words = StepInScope step words × BodyIsWellFormed exits registers rest (words_after step words)
-BodyIsWellFormed exits registers (Leave exit values) words = (exit < length exits) × (length values.words ≡ registers) × ValuesInScope values words
+-- the values' variables are in scope
+abbrev pub ValuesInScope : ValuesTree → ℕ → ℕ → Type 0
+ValuesInScope v words mems = All (λ t. WordInScope t words mems) v.words × All (λ t. MemInScope t words mems) v.mems
 
--- at its entry a definition's variables are its parameters, one for each register
-abbrev pub DefIsWellFormed : ℕ → DefTree → Type 0
-DefIsWellFormed registers d = BodyIsWellFormed d.exits registers d.body registers
+-- there are that many values of each kind
+abbrev pub HasCounts : ValuesTree → ℕ → ℕ → Type 0
+HasCounts v words mems = (length v.words ≡ words) × (length v.mems ≡ mems)
+
+-- how many words an exit is left with: one for each register, and in front the returned address where there is one
+abbrev pub exit_words : GroupTree → Exit → ℕ
+exit_words g (At a) = length g.regs
+exit_words g Ret = length g.regs + 1
+
+-- there are as many values as an exit is left with, if there is one
+abbrev pub FitsExit : GroupTree → Option Exit → ValuesTree → Type 0
+FitsExit g None v = ⊥
+FitsExit g (Some x) v = HasCounts v (exit_words g x) g.mems
+
+abbrev mutual
+  -- a body of definition d, where that many variables are in scope
+  pub BodyIsWellFormed : GroupTree → ℕ → BodyTree → ℕ → ℕ → Type 0
+  BodyIsWellFormed g d (Do step rest) words mems =
+      StepInScope step words mems × BodyIsWellFormed g d rest (words_after step words) (mems_after step mems)
+  BodyIsWellFormed g d (Branch c a b) words mems =
+      CondInScope c words mems × BodyIsWellFormed g d a words mems × BodyIsWellFormed g d b words mems
+  BodyIsWellFormed g d (Call def v arms) words mems =
+      (def < d) × HasCounts v (length g.regs) g.mems × ValuesInScope v words mems × ArmsAreWellFormed g d (exits_at g def) arms words mems
+  BodyIsWellFormed g d (Again v) words mems = HasCounts v (length g.regs) g.mems × ValuesInScope v words mems
+  BodyIsWellFormed g d (Leave exit v) words mems = FitsExit g (slice_get (exits_at g d) exit) v × ValuesInScope v words mems
+
+  -- arms in definition d of a call with these exits, each of which has the exit's results as further variables
+  pub ArmsAreWellFormed : GroupTree → ℕ → List Exit → ArmTrees → ℕ → ℕ → Type 0
+  ArmsAreWellFormed g d [] NoArm words mems = Unit {0}
+  ArmsAreWellFormed g d [] (Arm b bs) words mems = ⊥
+  ArmsAreWellFormed g d (x ∷ xs) NoArm words mems = ⊥
+  ArmsAreWellFormed g d (x ∷ xs) (Arm b bs) words mems =
+      BodyIsWellFormed g d b (words + exit_words g x) (mems + g.mems) × ArmsAreWellFormed g d xs bs words mems
+
+-- at its entry a definition's variables are its parameters: a word for each register, and the group's memories
+abbrev pub DefIsWellFormed : GroupTree → ℕ → DefTree → Type 0
+DefIsWellFormed g d def = BodyIsWellFormed g d def.body (length g.regs) g.mems
 
 -- each definition of the group is well-formed
 abbrev pub IsWellFormed : GroupTree → Type 0
-IsWellFormed g = All (DefIsWellFormed (length g.regs)) g.defs
+IsWellFormed g = (d : ℕ) (def : DefTree) → slice_get g.defs d ≡ Some def → DefIsWellFormed g d def
 
 -- the definition of that number isn't well-formed, and those before it are
-pub record IsFirstIllFormed (g : GroupTree) (def : ℕ) : Type 0 where
-  pub before : (k : ℕ) (d : DefTree) → k < def → slice_get g.defs k ≡ Some d → DefIsWellFormed (length g.regs) d
-  pub here : (d : DefTree) → slice_get g.defs def ≡ Some d → DefIsWellFormed (length g.regs) d → ⊥
-  pub there : def < length g.defs
+pub record IsFirstIllFormed (g : GroupTree) (d : ℕ) : Type 0 where
+  pub before : (k : ℕ) (def : DefTree) → k < d → slice_get g.defs k ≡ Some def → DefIsWellFormed g k def
+  pub here : (def : DefTree) → slice_get g.defs d ≡ Some def → DefIsWellFormed g d def → ⊥
+  pub there : d < length g.defs
+
+-- ---- how the program counts variables
+
+-- the counts of a scope of that many variables, where 2 ^ 32 stands for all that are larger: numbers of variables
+-- have 32 bits
+pub record Counts (scope : Scope) (words mems : ℕ) : Type 0 where
+  pub words_are : scope.words ≡ min words (2 ^ 32)
+  pub mems_are : scope.mems ≡ min mems (2 ^ 32)
+
+-- the variables of each step are in scope
+abbrev pub StepsInScope : List StepTree → ℕ → ℕ → Type 0
+StepsInScope [] words mems = Unit {0}
+StepsInScope (s ∷ ss) words mems = StepInScope s words mems × StepsInScope ss (words_after s words) (mems_after s mems)
+
+-- how many word variables there are after the steps
+abbrev pub words_after_all : List StepTree → ℕ → ℕ
+words_after_all [] words = words
+words_after_all (s ∷ ss) words = words_after_all ss (words_after s words)
+
+-- how many memory variables there are after the steps
+abbrev pub mems_after_all : List StepTree → ℕ → ℕ
+mems_after_all [] mems = mems
+mems_after_all (s ∷ ss) mems = mems_after_all ss (mems_after s mems)

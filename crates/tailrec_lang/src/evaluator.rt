@@ -1,40 +1,59 @@
 //! Evaluation within a number of turns.
 
-ghost use Rattle.std.specs.Prelude.{ℕ, ◌≡◌, ◌<◌, All, map, length, slice_get, Some, IfOk, OnOk};
-ghost use Rattle.word_terms.specs.Tree.{word_tree};
-ghost use Rattle.word_terms.specs.Value.{WordInScope, word_value};
-ghost use Rattle.word_terms.specs.Environment.{environment_of, no_variables, words_environment};
-ghost use Rattle.tailrec_lang.specs.Tree.{body_tree, def_tree, end_tree, group_tree, step_tree, values_tree};
-ghost use Rattle.tailrec_lang.specs.WellFormed.{BodyIsWellFormed, DefIsWellFormed, IsWellFormed, StepInScope, ValuesInScope, words_after};
-ghost use Rattle.tailrec_lang.specs.Eval.{LeavesInScope, Meaning, after_step, arguments, arguments_of, body_ending, exit_address, outcome_of, with_arguments, with_pc};
+ghost use Rattle.std.specs.Prelude.{◌≡◌, ◌+◌, ◌<◌, ◌^◌, ℕ, [], length, slice_get, Some, IfOk};
+ghost use Rattle.tailrec_lang.specs.Tree.{DefTree, GroupTree, arm_trees, body_tree, exits_at, group_tree};
+ghost use Rattle.tailrec_lang.specs.WellFormed.{IsWellFormed};
+ghost use Rattle.tailrec_lang.specs.Eval.{HasFewNeeds, LeavesInScope, Meaning, arguments, arm_ending, done_by, outcome_of, variables_of, with_arguments};
 ghost use Rattle.tailrec_lang.specs.Eval.{eval as outcome};
+ghost use Rattle.tailrec_lang.specs.Walk.{FrameFits, IsLeft, ResultsFit, Waits, WalkFits, unwound, walk_ending};
 
-use crate::group::{Def, End, Exit, Group, Step, Values};
+use crate::args::Args;
+use crate::group::{Body, Exit, Group};
+use crate::scope::exits_of;
+use crate::walk::{Stop, Walk, go_through, needs_in_arms};
 use rv_words::{List, NoMemory};
 use std::alloc::Global;
-use word_terms::{Env, Word, value};
-
-/// What a definition is entered or left with: a word for each register of its group, in order.
-#[derive(Debug, Drop)]
-pub struct Args {
-    pub words: List<u64>,
-}
 
 /// How an evaluation ends.
 #[derive(Debug, Drop)]
 pub enum Outcome {
-    /// By an exit, with the program counter and the words there, and with turns left.
+    /// By an exit, with the program counter and the words and memories there, and with turns left.
     Done {
         exit: u32,
         pc: u64,
         args: Args,
         left: u64,
     },
+    /// At a Need that is false: its definition, and its number among that definition's Needs, in the order of the
+    /// text, from 0 on.
+    SideFalse {
+        def: u32,
+        ordinal: u64,
+    },
     /// All turns were used.
     Turns,
 }
 
-/// How the definition of that number ends on these arguments. Each entry into a body takes a turn.
+/// A call that waits for the definition that it entered: in which definition it stands, which one it entered, the
+/// variables at the call, how many Needs stand before it, and its arms.
+#[derive(Drop)]
+pub struct Frame<'a> {
+    def: u32,
+    callee: u32,
+    variables: Args,
+    ordinal: u64,
+    arms: &'a [Body],
+}
+
+/// A place in a body of that definition where control is given on.
+#[derive(Drop)]
+struct Place<'a> {
+    def: u32,
+    walk: Walk<'a>,
+}
+
+/// How the definition of that number ends on these arguments. Each entry into a body takes a turn. Calls that wait
+/// are kept in a list.
 pub fn eval(
     alloc: Global,
     g: &Group,
@@ -43,74 +62,168 @@ pub fn eval(
     turns: u64,
 ) -> Result<Outcome, NoMemory>
     requires well_formed { IsWellFormed (group_tree g.now) }
+    requires needs { HasFewNeeds (group_tree g.now) }
     requires def { def < length g.now.defs }
-    requires args { length args.now.words ≡ length g.now.regs }
+    requires words { length args.now.words ≡ length g.now.regs }
+    requires mems { length args.now.mems ≡ g.now.mems }
     ensures ok { IfOk result (λ o. outcome_of o ≡ outcome (group_tree g.now) def (arguments args.now) turns) }
     ensures within { IfOk result (λ o. LeavesInScope (group_tree g.now) def turns (outcome_of o)) }
 {
-    if turns == 0 {
-        return Ok(Outcome::Turns);
-    }
-    let d = def_at(g.defs.as_slice(), def);
-    let words = run_steps(alloc, d, args)?;
-    end_of(alloc, d, words.as_slice(), turns - 1)
-}
-
-/// The definition of that number.
-fn def_at(defs: &[Def], def: u32) -> &Def
-    requires { def < length defs.now }
-    ensures { slice_get defs.now def ≡ Some result.now }
-{
-    &defs[def as usize]
-}
-
-/// The variables at the end of the definition's body.
-fn run_steps(alloc: Global, d: &Def, args: &Args) -> Result<List<u64>, NoMemory>
-    requires { DefIsWellFormed (length args.now.words) (def_tree d.now) }
-    ensures ending { IfOk result (λ words. (call : Meaning) (def left : ℕ) →
-        body_ending call def (body_tree d.now.body) (with_arguments no_variables (arguments args.now)) left
-        ≡ body_ending call def (end_tree d.now.body.end) (words_environment words) left) }
-    ensures scope { IfOk result (λ words. BodyIsWellFormed d.now.exits (length args.now.words) (end_tree d.now.body.end) (length words)) }
-{
-    let mut words = List::from_slice(alloc, args.words.as_slice())?;
-    let steps = d.body.steps.as_slice();
-    for step in steps {
-        take_step(step, &mut words)?;
-    }
-    Ok(words)
-}
-
-/// Adds the step's variable to the words.
-#[tactic(auto, using(crate::proofs::Environments::environment_push))]
-fn take_step(step: &Step, words: &mut List<u64>) -> Result<(), NoMemory>
-    requires { StepInScope (step_tree step.now) (length words.old) }
-    ensures after { OnOk result (words_environment words.new ≡ after_step (step_tree step.now) (words_environment words.old)) }
-    ensures count { OnOk result (length words.new ≡ words_after (step_tree step.now) (length words.old)) }
-{
-    match step {
-        Step::Bind(t) => {
-            let env = Env {
-                words: words.as_slice(),
-            };
-            let word = value(t, &env);
-            words.push(word)?;
+    let mut waiting = List::new(alloc);
+    let mut current = def;
+    let mut variables = args.copy(alloc)?;
+    let mut left = turns;
+    'turns_left: while left > 0 {
+        left -= 1;
+        let entered = go_through(alloc, body_of(g, current), variables, 0)?;
+        let place = return_through(alloc, &mut waiting, current, entered)?;
+        let Walk {
+            variables: here,
+            ordinal,
+            stop,
+        } = place.walk;
+        match stop {
+            Stop::Again(args) => {
+                current = place.def;
+                variables = args;
+            }
+            Stop::Call(callee, args, arms) => {
+                waiting.push(Frame {
+                    def: place.def,
+                    callee,
+                    variables: here,
+                    ordinal,
+                    arms,
+                })?;
+                current = callee;
+                variables = args;
+            }
+            Stop::Left(exit, results) => return done(alloc, g, def, exit, results, left),
+            Stop::False => {
+                return Ok(Outcome::SideFalse {
+                    def: place.def,
+                    ordinal,
+                });
+            }
         }
     }
-    Ok(())
+    Ok(Outcome::Turns)
 }
 
-/// How a body ends whose steps gave these words.
-fn end_of(alloc: Global, d: &Def, words: &[u64], left: u64) -> Result<Outcome, NoMemory>
-    requires { (registers : ℕ) × BodyIsWellFormed d.now.exits registers (end_tree d.now.body.end) (length words.now) }
-    ensures { IfOk result (λ o. (call : Meaning) (def : ℕ) →
-        outcome_of o ≡ with_pc d.now.exits (body_ending call def (end_tree d.now.body.end) (words_environment words.now) left)) }
+/// The body of the definition of that number.
+fn body_of(g: &Group, def: u32) -> &Body
+    requires { def < length g.now.defs }
+    ensures { (d : DefTree) → slice_get (group_tree g.now).defs def ≡ Some d → body_tree result.now ≡ d.body }
 {
-    match &d.body.end {
-        End::Leave(exit, values) => {
-            let args = values_of(alloc, values, words)?;
+    &g.defs.as_slice()[def as usize].body
+}
+
+/// Goes on with the arms that wait, as long as a body leaves its definition and a call waits for that.
+fn return_through<'a>(
+    alloc: Global,
+    waiting: &mut List<Frame<'a>>,
+    def: u32,
+    walk: Walk<'a>,
+) -> Result<Place<'a>, NoMemory>
+    requires { (g : GroupTree) × (first : ℕ) × Waits g first waiting.old def × WalkFits g def walk × (def < length g.defs) }
+    ensures ending { IfOk result (λ place. (call : Meaning) (left : ℕ)
+        → unwound call waiting.old (walk_ending call def walk.entry left) ≡ unwound call waiting.new (walk_ending call place.def place.walk left)) }
+    ensures fits { IfOk result (λ place. (g : GroupTree) (first : ℕ) → Waits g first waiting.old def → WalkFits g def walk.entry → def < length g.defs
+        → Waits g first waiting.new place.def × WalkFits g place.def place.walk × (place.def < length g.defs)) }
+    ensures left { IfOk result (λ place. IsLeft place.walk → waiting.new ≡ []) }
+{
+    let mut def = def;
+    let mut walk = walk;
+    'pops: loop {
+        let Walk {
+            variables,
+            ordinal,
+            stop,
+        } = walk;
+        match stop {
+            Stop::Left(exit, results) => match waiting.pop() {
+                Some(frame) => {
+                    def = frame.def;
+                    walk = resume(alloc, frame, exit, results)?;
+                }
+                None => {
+                    let stop = Stop::Left(exit, results);
+                    return Ok(Place {
+                        def,
+                        walk: Walk {
+                            variables,
+                            ordinal,
+                            stop,
+                        },
+                    });
+                }
+            },
+            stop => return Ok(Place {
+                def,
+                walk: Walk {
+                    variables,
+                    ordinal,
+                    stop,
+                },
+            }),
+        }
+    }
+}
+
+/// Goes on with the arm of an exit.
+fn resume<'a>(
+    alloc: Global,
+    frame: Frame<'a>,
+    exit: u32,
+    results: Args,
+) -> Result<Walk<'a>, NoMemory>
+    requires { (g : GroupTree) × FrameFits g frame × ResultsFit g (slice_get (exits_at g frame.callee) exit) results }
+    ensures ending { IfOk result (λ w. (call : Meaning) (left : ℕ)
+        → arm_ending call frame.entry.def (arm_trees frame.entry.arms.now) exit (with_arguments (variables_of frame.entry.variables) (arguments results)) frame.entry.ordinal left
+        ≡ walk_ending call frame.entry.def w left) }
+    ensures fits { IfOk result (λ w. (g : GroupTree) → FrameFits g frame.entry → ResultsFit g (slice_get (exits_at g frame.entry.callee) exit) results
+        → WalkFits g frame.entry.def w) }
+{
+    let arms = frame.arms;
+    let place = exit as usize;
+    let before = &arms[..place];
+    let ordinal = frame.ordinal + needs_in_arms(before);
+    let mut variables = frame.variables;
+    variables.append(results)?;
+    let arm = &arms[place];
+    go_through(alloc, arm, variables, ordinal)
+}
+
+/// The outcome of leaving by an exit.
+fn done(
+    alloc: Global,
+    g: &Group,
+    def: u32,
+    exit: u32,
+    results: Args,
+    left: u64,
+) -> Result<Outcome, NoMemory>
+    requires { ResultsFit (group_tree g.now) (slice_get (exits_at (group_tree g.now) def) exit) results }
+    ensures { IfOk result (λ o. outcome_of o ≡ done_by (slice_get (exits_at (group_tree g.now) def) exit) exit (arguments results) left) }
+{
+    match exit_of(g, def, exit) {
+        Exit::At(pc) => Ok(Outcome::Done {
+            exit,
+            pc,
+            args: results,
+            left,
+        }),
+        Exit::Ret => {
+            let words = results.words.as_slice();
+            let pc = words[0];
+            let words = List::from_slice(alloc, &words[1..])?;
+            let args = Args {
+                words,
+                mems: results.mems,
+            };
             Ok(Outcome::Done {
-                exit: *exit,
-                pc: address_at(d.exits.as_slice(), *exit),
+                exit,
+                pc,
                 args,
                 left,
             })
@@ -118,34 +231,10 @@ fn end_of(alloc: Global, d: &Def, words: &[u64], left: u64) -> Result<Outcome, N
     }
 }
 
-/// What a definition is left with.
-fn values_of(alloc: Global, values: &Values, words: &[u64]) -> Result<Args, NoMemory>
-    requires { ValuesInScope (values_tree values.now) (length words.now) }
-    ensures { IfOk result (λ x. arguments x ≡ arguments_of (values_tree values.now) (words_environment words.now)) }
+/// An exit of a definition.
+fn exit_of(g: &Group, def: u32, exit: u32) -> Exit
+    requires { exit < length (exits_at (group_tree g.now) def) }
+    ensures { slice_get (exits_at (group_tree g.now) def) exit ≡ Some result }
 {
-    let words = words_of(alloc, values.words.as_slice(), words)?;
-    Ok(Args { words })
-}
-
-/// The value of each term.
-fn words_of(alloc: Global, terms: &[Word], words: &[u64]) -> Result<List<u64>, NoMemory>
-    requires { All (λ t. WordInScope t (length words.now)) (map word_tree terms.now) }
-    ensures { IfOk result (λ list. list ≡ map (λ t. word_value t (words_environment words.now)) (map word_tree terms.now)) }
-{
-    let env = Env { words };
-    let mut list = List::new(alloc);
-    for t in terms {
-        list.push(value(t, &env))?;
-    }
-    Ok(list)
-}
-
-/// The address that the exit of that number leads to.
-fn address_at(exits: &[Exit], exit: u32) -> u64
-    requires { exit < length exits.now }
-    ensures { result ≡ exit_address (slice_get exits.now exit) }
-{
-    match exits[exit as usize] {
-        Exit::At(address) => address,
-    }
+    exits_of(g, def as usize)[exit as usize]
 }

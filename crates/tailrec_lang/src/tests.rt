@@ -1,71 +1,123 @@
-//! What no clause says: the outcomes of small groups, and that the calls succeed while there is memory.
+//! What no clause says: the outcomes of small groups, that the calls succeed while there is memory, and that nested
+//! calls are kept in a list.
 
 use super::*;
-use rv_words::{List, NoMemory, Op};
+use rv_words::{ByteMap, Cmp, List, NoMemory, Op, Width};
 use std::alloc::Global;
 use std::process::Abort;
 use std::test::Fail;
-use word_terms::Word;
+use word_terms::{Cond, Mem, Word};
 
-/// `(op left right)` for two variables or constants.
+/// `(op left right)`
 fn operation(alloc: Global, op: Op, left: Word, right: Word) -> Result<Word, NoMemory> {
     let left = Box::new(alloc, left)?;
     let right = Box::new(alloc, right)?;
     Ok(Word::Bin(op, left, right))
 }
 
-/// Binds v2 to the sum of the first two variables, v3 to v2 less v0, and v4 to v3 less v2.
-fn three_steps(alloc: Global) -> Result<List<Step>, NoMemory> {
-    let mut steps = List::new(alloc);
-    steps.push(Step::Bind(operation(alloc, Op::Add, Word::Var(0), Word::Var(1))?))?;
-    steps.push(Step::Bind(operation(alloc, Op::Sub, Word::Var(2), Word::Var(0))?))?;
-    steps.push(Step::Bind(operation(alloc, Op::Sub, Word::Var(3), Word::Var(2))?))?;
-    Ok(steps)
+/// `(eq left right)`, or that this is false.
+fn equal(alloc: Global, left: Word, right: u64, same: bool) -> Result<Cond, NoMemory> {
+    let left = Box::new(alloc, left)?;
+    let right = Box::new(alloc, Word::Const(right))?;
+    let equal = Cond::Compare(Cmp::Eq, left, right);
+    if same {
+        return Ok(equal);
+    }
+    Ok(Cond::Neg(Box::new(alloc, equal)?))
 }
 
-/// Leaves by the exit of that number, with these variables.
-fn leave(alloc: Global, exit: u32, variables: &[u32]) -> Result<End, NoMemory> {
+/// The variables as values, and the memory variable `m`.
+fn values(alloc: Global, variables: &[u32], m: u32) -> Result<Values, NoMemory> {
     let mut words = List::new(alloc);
     for i in variables {
         words.push(Word::Var(*i))?;
     }
-    Ok(End::Leave(exit, Values { words }))
+    let mut mems = List::new(alloc);
+    mems.push(Mem::Var(m))?;
+    Ok(Values { words, mems })
 }
 
-/// A definition with two exits.
-fn def_of(alloc: Global, steps: List<Step>, end: End) -> Result<Def, NoMemory> {
-    let exits = List::from_slice(alloc, &[Exit::At(0x10004), Exit::At(0xffff_ffff_ffff_fffc)])?;
+/// A body of at most two steps.
+fn body(
+    alloc: Global,
+    first: Option<Step>,
+    second: Option<Step>,
+    end: End,
+) -> Result<Body, NoMemory> {
+    let mut steps = List::new(alloc);
+    if let Some(step) = first {
+        steps.push(step)?;
+    }
+    if let Some(step) = second {
+        steps.push(step)?;
+    }
+    Ok(Body { steps, end })
+}
+
+/// Counts v1 down to 0, adds each of its values to v0 and stores the sum at 0x1000, and leaves by its one exit.
+fn counting(alloc: Global) -> Result<Def, NoMemory> {
+    let down = operation(alloc, Op::Sub, Word::Var(1), Word::Const(1))?;
+    let sum = operation(alloc, Op::Add, Word::Var(0), Word::Var(1))?;
+    let m = Box::new(alloc, Mem::Var(0))?;
+    let a = Box::new(alloc, Word::Const(0x1000))?;
+    let v = Box::new(alloc, Word::Var(3))?;
+    let stored = Step::BindMem(Mem::Store(Width::B8, m, a, v));
+    let mut again = body(
+        alloc,
+        Some(Step::Bind(down)),
+        Some(Step::Bind(sum)),
+        End::Again(values(alloc, &[3, 2], 1)?),
+    )?;
+    again.steps.push(stored)?;
+    let leave = body(alloc, None, None, End::Leave(0, values(alloc, &[0, 1], 0)?))?;
+    let is_zero = equal(alloc, Word::Var(1), 0, true)?;
+    let leave = Box::new(alloc, leave)?;
+    let again = Box::new(alloc, again)?;
+    let exits = List::from_slice(alloc, &[Exit::At(0x10004)])?;
     Ok(Def {
         entry: 0x10000,
         exits,
-        body: Body { steps, end },
+        body: Body {
+            steps: List::new(alloc),
+            end: End::Branch(is_zero, leave, again),
+        },
     })
 }
 
-/// A group of two definitions with these registers: the first leaves with `first`, the second with `second`
-/// after three steps.
-fn group_of(
-    alloc: Global,
-    regs: &[u8],
-    first: &[u32],
-    exit: u32,
-    second: &[u32],
-) -> Result<Group, NoMemory> {
-    let name = List::from_slice(alloc, b"0x10000")?;
-    let regs = List::from_slice(alloc, regs)?;
-    let ranges = List::new(alloc);
+/// Needs that v1 is neither 8 nor 7, calls the definition of that number, and returns with these variables.
+fn calling(alloc: Global, callee: u32, results: &[u32]) -> Result<Def, NoMemory> {
+    let first = Step::Need(equal(alloc, Word::Var(1), 8, false)?);
+    let second = Step::Need(equal(alloc, Word::Var(1), 7, false)?);
+    let leave = End::Leave(0, values(alloc, results, 1)?);
+    let arm = body(alloc, None, None, leave)?;
+    let mut arms = List::new(alloc);
+    arms.push(arm)?;
+    let call = End::Call(callee, values(alloc, &[0, 1], 0)?, arms);
+    let exits = List::from_slice(alloc, &[Exit::Ret])?;
+    Ok(Def {
+        entry: 0x20000,
+        exits,
+        body: body(alloc, Some(first), Some(second), call)?,
+    })
+}
+
+/// The two definitions, the second of which calls the definition of that number.
+fn group(alloc: Global, callee: u32) -> Result<Group, NoMemory> {
     let mut defs = List::new(alloc);
-    defs.push(def_of(alloc, List::new(alloc), leave(alloc, 0, first)?)?)?;
-    defs.push(def_of(alloc, three_steps(alloc)?, leave(alloc, exit, second)?)?)?;
+    defs.push(counting(alloc)?)?;
+    defs.push(calling(alloc, callee, &[0, 2, 3])?)?;
     Ok(Group {
-        name,
-        regs,
-        code: Code { ranges },
+        name: List::from_slice(alloc, b"f")?,
+        regs: List::from_slice(alloc, &[10, 11])?,
+        mems: 1,
+        code: Code {
+            ranges: List::new(alloc),
+        },
         defs,
     })
 }
 
-/// How a definition of a group that is well-formed ends.
+/// How the definition ends on the two words and eight zeros from 0x1000 on.
 fn run(
     rt: &impl Abort,
     alloc: Global,
@@ -74,110 +126,111 @@ fn run(
     words: &[u64],
     turns: u64,
 ) -> Result<Outcome, NoMemory> {
-    assert!(rt; g.defs.len() <= 2);
-    assert!(rt; well_formed(g).is_ok());
-    assert!(rt; (def as usize) < g.defs.len());
+    let mut memory = ByteMap::new(alloc);
+    memory.place_zeros(0x1000, 8)?;
+    let mut mems = List::new(alloc);
+    mems.push(memory)?;
     let args = Args {
         words: List::from_slice(alloc, words)?,
+        mems,
     };
+    assert!(rt; g.defs.len() < 1 << 32);
+    assert!(rt; well_formed(g).is_ok());
+    assert!(rt; has_few_needs(g));
+    assert!(rt; (def as usize) < g.defs.len());
     assert!(rt; args.words.len() == g.regs.len());
+    assert!(rt; args.mems.len() == g.mems as usize);
     eval(alloc, g, def, &args, turns)
 }
 
-#[test]
-fn a_body_with_steps(rt: HostRuntime) -> Result<(), Fail> {
-    let alloc = rt.alloc();
-    for (exit, second, words, results) in [
-        (0, [2, 3], [2, 3], [5, 3]),
-        (1, [4, 1], [2, 3], [0xffff_ffff_ffff_fffe, 3]),
-        (
-            1,
-            [2, 0],
-            [0xffff_ffff_ffff_ffff, 1],
-            [0, 0xffff_ffff_ffff_ffff],
-        ),
-        (
-            0,
-            [3, 4],
-            [0x8000_0000_0000_0000, 0x8000_0000_0000_0000],
-            [0x8000_0000_0000_0000, 0x8000_0000_0000_0000],
-        ),
-    ] {
-        let g = group_of(alloc, &[10, 11], &[0, 1], exit, &second)?;
-        match run(&rt, alloc, &g, 1, &words, 7)? {
-            Outcome::Done {
-                exit: by,
-                pc,
-                args,
-                left,
-            } => {
-                assert_eq!(rt; by, exit);
-                assert_eq!(rt;
-                    pc,
-                    if exit == 0 {
-                        0x10004
-                    } else {
-                        0xffff_ffff_ffff_fffc
-                    }
-                );
-                assert_eq!(rt;
-                    args.words.as_slice(),
-                    results.as_slice(),
-                    "v{second:?} of {words:?}"
-                );
-                assert_eq!(rt; left, 6);
+/// That the outcome is a Done with these words, and this number at 0x1000.
+fn check_done(rt: &impl Abort, outcome: Outcome, pc: u64, words: &[u64], stored: u64, left: u64) {
+    match outcome {
+        Outcome::Done {
+            exit,
+            pc: to,
+            args,
+            left: more,
+        } => {
+            assert_eq!(rt; (exit, to, more), (0, pc, left));
+            assert_eq!(rt; args.words.as_slice(), words);
+            for m in args.mems.as_slice() {
+                assert_eq!(rt; m.load(0x1000, Width::B8), stored);
             }
-            Outcome::Turns => panic!(rt; "no turns"),
         }
+        _ => panic!(rt; "not done"),
+    }
+}
+
+/// That the second definition ends at a Need that is false, of that number.
+fn check_false(rt: &impl Abort, outcome: Outcome, number: u64) {
+    match outcome {
+        Outcome::SideFalse { def, ordinal } => assert_eq!(rt; (def, ordinal), (1, number)),
+        _ => panic!(rt; "no false need"),
+    }
+}
+
+#[test]
+fn a_loop_and_a_call(rt: HostRuntime) -> Result<(), Fail> {
+    let alloc = rt.alloc();
+    let g = group(alloc, 0)?;
+    for (def, count, turns, pc, sum, left) in [
+        (0, 3, 4, 0x10004, 11, 0),
+        (0, 1_000_000, 1_000_003, 0x10004, 500_000_500_005, 2),
+        (1, 3, 7, 5, 11, 2),
+    ] {
+        let outcome = run(&rt, alloc, &g, def, &[5, count], turns)?;
+        check_done(&rt, outcome, pc, &[sum, 0], sum, left);
+    }
+    for (def, turns) in [(0, 3), (1, 4)] {
+        let outcome = run(&rt, alloc, &g, def, &[5, 3], turns)?;
+        assert!(rt; matches!(outcome, Outcome::Turns));
+    }
+    for (count, number) in [(8, 0), (7, 1)] {
+        check_false(&rt, run(&rt, alloc, &g, 1, &[5, count], 9)?, number);
     }
     Ok(())
 }
 
-#[test]
-fn no_register_and_no_turn(rt: HostRuntime) -> Result<(), Fail> {
-    let alloc = rt.alloc();
-    let mut g = group_of(alloc, &[], &[], 0, &[])?;
-    assert!(rt; g.defs.len() == 2);
-    let _with_steps = g.defs.pop();
-    match run(&rt, alloc, &g, 0, &[], 1)? {
-        Outcome::Done {
-            exit,
-            pc,
-            args,
-            left,
-        } => {
-            assert_eq!(rt; (exit, pc, left), (0, 0x10004, 0));
-            assert!(rt; args.words.is_empty());
-        }
-        Outcome::Turns => panic!(rt; "no turns"),
+/// The group of the two definitions and of further ones, each of which calls the one before it.
+fn nested(alloc: Global, depth: u32) -> Result<Group, NoMemory> {
+    let mut g = group(alloc, 0)?;
+    for callee in 1..depth {
+        g.defs.push(calling(alloc, callee, &[2, 3, 4])?)?;
     }
-    assert!(rt; matches!(run(&rt, alloc, &g, 0, &[], 0)?, Outcome::Turns));
+    Ok(g)
+}
+
+#[test]
+fn calls_nested_4096_deep(rt: HostRuntime) -> Result<(), Fail> {
+    let alloc = rt.alloc();
+    let g = nested(alloc, 4096)?;
+    check_done(
+        &rt,
+        run(&rt, alloc, &g, 4096, &[5, 3], 4100)?,
+        5,
+        &[11, 0],
+        11,
+        0,
+    );
     Ok(())
 }
 
 #[test]
 fn the_first_ill_formed_definition(rt: HostRuntime) -> Result<(), Fail> {
     let alloc = rt.alloc();
-    for (registers, first, exit, second, bad) in [
-        // all variables are in scope
-        (2, [0, 1], 1, [4, 2], None),
-        // a variable of the second's, one of the first's, and one of each isn't
-        (2, [0, 1], 0, [5, 0], Some(1)),
-        (2, [0, 2], 0, [4, 0], Some(0)),
-        (2, [2, 0], 0, [5, 0], Some(0)),
-        // there is no third exit
-        (2, [0, 1], 2, [0, 1], Some(1)),
-        // two words don't fit one register, nor three
-        (1, [0, 0], 0, [0, 0], Some(0)),
-        (3, [0, 0], 0, [0, 0], Some(0)),
-    ] {
-        let g = group_of(alloc, &[10, 11, 12][..registers], &first, exit, &second)?;
+    for (callee, bad) in [(0, None), (1, Some(1)), (2, Some(1))] {
+        let g = group(alloc, callee)?;
         assert!(rt; g.defs.len() == 2);
         assert_eq!(rt;
             well_formed(&g).err(),
             bad.map(|def| BadDef { def }),
-            "{first:?} {exit} {second:?}"
+            "calls {callee}"
         );
     }
+    let mut g = group(alloc, 0)?;
+    g.regs.push(12)?;
+    assert!(rt; g.defs.len() == 2);
+    assert_eq!(rt; well_formed(&g).err(), Some(BadDef { def: 0 }));
     Ok(())
 }

@@ -1,0 +1,9 @@
+use Rattle.std.proofs.Common.{ℕ, map, take}
+use Rattle.std.specs.Prelude.{All}
+use Rattle.word_terms.specs.Tree.{mem_tree}
+use Rattle.word_terms.specs.Scope.{MemInScope}
+use Rattle.tailrec_lang.specs.WellFormed.{Counts}
+use Rattle.tailrec_lang.proofs.scope.are_mems_counted.Given as goal
+
+abbrev pub invariant-loop-t : goal.invariant-loop-t
+invariant-loop-t l = (w m : ℕ) → Counts l.scope w m → All (λ t. MemInScope t w m) (map mem_tree (take l.t-index l.terms))
