@@ -5,7 +5,7 @@ use Rattle.std.proofs.lemmas.List.{length-map, length-replicate}
 use Rattle.mc_shelf.specs.Shelf.{Contents, TellsName}
 use Rattle.tailrec_lang.specs.declared.group.Def.{Def}
 use Rattle.tailrec_lang.specs.Tree.{GroupTree, def_tree}
-use Rattle.tailrec_lang.specs.Eval.{Arguments, Outcome, eval}
+use Rattle.tailrec_lang.specs.Eval.{Arguments, Outcome, Done, LeavesInScope, eval}
 use Rattle.mcdec.specs.declared.answer.Answer.{Answer}
 use Rattle.mcdec.specs.declared.answer.Answer.TheVariants as answer
 use Rattle.mcdec.specs.Command.{Command, Eval, Run, Arg, Given, Words, IsNoCommand, value_of}
@@ -14,6 +14,7 @@ use Rattle.mcdec.specs.Text.{IsSmall, AreRegistersFrom}
 use Rattle.mcdec.specs.RunAnswer.{elf_limit, ImageGives, RunGives}
 use Rattle.mcdec.specs.EvalAnswer.{proof_limit, listed, arguments_of, TextGives, EvalGives}
 use Rattle.mcdec.specs.Answer.{CommandGives, Gives, ForContents, ReadsAreTold}
+use Rattle.mcdec.proofs.Straight.{words-alone}
 
 -- ---- arguments
 
@@ -33,14 +34,21 @@ only-first defs n len one = omega (arith, len, one, length-map defs def_tree)
 listed-first : (g : GroupTree) → length g.defs ≡ 1 → (def : ℕ) → def ≡ 0 → def ≡ listed g
 listed-first g one def first = rw one first
 
-pub arguments-same : (g : GroupTree) → IsSmall g → (gs : List Given) (values : List (Option ℕ)) → Holds gs values → (ws : List ℕ) → ws ≡ map (value_in values) g.regs
-    → ◌≡◌ {A = Arguments} (record { words = ws }) (arguments_of gs g)
-arguments-same g small gs values h ws e = ap (λ (l : List ℕ). record { words = l }) (e ∙ values-same gs values h 1 g.regs small.registers)
+pub arguments-same : (g : GroupTree) → IsSmall g → (gs : List Given) (values : List (Option ℕ)) → Holds gs values → (x : Arguments) → x.words ≡ map (value_in values) g.regs → x.mems ≡ []
+    → x ≡ arguments_of gs g
+arguments-same g small gs values h x words mems = λ i. record { words = (words ∙ values-same gs values h 1 g.regs small.registers) i; mems = mems i }
 
-pub listed-outcome : (g : GroupTree) → IsSmall g → (gs : List Given) (values : List (Option ℕ)) → Holds gs values → (ws : List ℕ) → ws ≡ map (value_in values) g.regs
-    → (def : ℕ) → def ≡ 0 → (turns : ℕ) (o : Outcome) → o ≡ eval g def (record { words = ws }) turns → eval g (listed g) (arguments_of gs g) turns ≡ o
-listed-outcome g small gs values h ws e def first turns o is =
-    sym (is ∙ ap (λ (d : ℕ). eval g d (record { words = ws }) turns) (listed-first g small.one def first) ∙ ap (λ (x : Arguments). eval g (listed g) x turns) (arguments-same g small gs values h ws e))
+pub listed-outcome : (g : GroupTree) → IsSmall g → (gs : List Given) (values : List (Option ℕ)) → Holds gs values → (x : Arguments) → x.words ≡ map (value_in values) g.regs → x.mems ≡ []
+    → (def : ℕ) → def ≡ 0 → (turns : ℕ) (o : Outcome) → o ≡ eval g def x turns → eval g (listed g) (arguments_of gs g) turns ≡ o
+listed-outcome g small gs values h x words mems def first turns o is =
+    sym (is ∙ ap (λ (d : ℕ). eval g d x turns) (listed-first g small.one def first) ∙ ap (λ (y : Arguments). eval g (listed g) y turns) (arguments-same g small gs values h x words mems))
+
+pub listed-done : (g : GroupTree) → IsSmall g → (gs : List Given) (values : List (Option ℕ)) → Holds gs values → (x : Arguments) → x.words ≡ map (value_in values) g.regs → x.mems ≡ []
+    → (def : ℕ) → def ≡ 0 → (turns exit pc : ℕ) (results : Arguments) (left : ℕ) → Done exit pc results left ≡ eval g def x turns → LeavesInScope g def turns (Done exit pc results left)
+    → eval g (listed g) (arguments_of gs g) turns ≡ Done exit pc (record { words = results.words; mems = [] }) left
+listed-done g small gs values h x words mems def first turns exit pc results left is within =
+    listed-outcome g small gs values h x words mems def first turns (Done exit pc results left) is
+    ∙ ap (λ (r : Arguments). Done exit pc r left) (words-alone g small def turns exit pc results left within)
 
 -- ---- files
 

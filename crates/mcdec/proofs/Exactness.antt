@@ -4,7 +4,7 @@ use Rattle.std.specs.Prelude.{IfSome}
 use Rattle.std.specs.Fmt.{decimal}
 use Rattle.mc_shelf.specs.Shelf.{Contents}
 use Rattle.tailrec_lang.specs.Tree.{GroupTree}
-use Rattle.tailrec_lang.specs.Eval.{Done, Turns, Nothing, Outcome, eval}
+use Rattle.tailrec_lang.specs.Eval.{Done, SideFalse, Turns, NoOutcome, Outcome, eval}
 use Rattle.mcdec.specs.declared.answer.Answer.{Answer}
 use Rattle.mcdec.specs.declared.answer.Answer.TheVariants as answer
 use Rattle.mcdec.specs.Command.{Command, Eval, Run, Arg, Given, Words, IsNoCommand, AreGiven, given_word, arg_word, givens, ranges}
@@ -84,7 +84,8 @@ words-unique ws (Run elf start until steps gs) (Eval proof name turns gs') a b =
 abbrev answer_for : GroupTree → ℕ → Outcome → Answer
 answer_for g turns (Done exit pc results left) = answer.Evaluated (turns - left) pc g.regs results.words
 answer_for g turns Turns = answer.TurnsUsed
-answer_for g turns Nothing = answer.NoMemory
+answer_for g turns (SideFalse def ordinal) = answer.NoMemory
+answer_for g turns NoOutcome = answer.NoMemory
 
 group-case : (g : GroupTree) (turns : ℕ) (gs : List Given) (a : Answer) → GroupGives g turns gs a → a ≡ answer_for g turns (eval g (listed g) (arguments_of gs g) turns)
 group-case g turns gs answer.TurnsUsed h = rw h refl

@@ -13,14 +13,15 @@ abbrev sum : GroupTree
 sum = record {
   name = codes "sum";
   regs = 10 ∷ 11 ∷ [];
+  mems = 0;
   code = record { at = 65536; bytes = 51 ∷ 5 ∷ 181 ∷ 0 ∷ [] } ∷ [];
-  defs = record { entry = 65536; exits = At 65540 ∷ []; body = Do (Bind (Bin Add (Var 0) (Var 1))) (Leave 0 (record { words = Var 2 ∷ Var 1 ∷ [] })) } ∷ [];
+  defs = record { entry = 65536; exits = At 65540 ∷ []; body = Do (Bind (Bin Add (Var 0) (Var 1))) (Leave 0 (record { words = Var 2 ∷ Var 1 ∷ []; mems = [] })) } ∷ [];
 }
 
 abbrev two_and_three : List Given
 two_and_three = record { register = 10; value = 2 } ∷ record { register = 11; value = 3 } ∷ []
 
-sum-done : eval sum (listed sum) (arguments_of two_and_three sum) 1 ≡ Done 0 65540 (record { words = 5 ∷ 3 ∷ [] }) 0
+sum-done : eval sum (listed sum) (arguments_of two_and_three sum) 1 ≡ Done 0 65540 (record { words = 5 ∷ 3 ∷ []; mems = [] }) 0
 sum-done = refl
 
 sum-turns : eval sum (listed sum) (arguments_of two_and_three sum) 0 ≡ Turns

@@ -6,6 +6,7 @@ pub mod Tokens
 pub mod Terms
 pub mod Lines
 pub mod SmallText
+pub mod Straight
 pub mod Prints
 pub mod Givens
 pub mod Registers

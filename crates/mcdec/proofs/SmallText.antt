@@ -1,15 +1,16 @@
 -- A small text is the text of one group, and of no other.
-use Rattle.std.proofs.Common.{◌≡◌, ℕ, ◌+◌, ◌^◌, ◌<◌, ◌≤◌, true, List, [], ◌∷◌, length, Some, Result, Ok, Err, sym, ap, subst, ◌∙◌, arith}
+use Rattle.std.proofs.Common.{◌≡◌, ℕ, zero, suc, ◌+◌, ◌^◌, ◌<◌, ◌≤◌, true, List, [], ◌∷◌, length, slice_get, Option, Some, None, Result, Ok, Err, refl, sym, ap, subst, ◌∙◌, arith}
 use Rattle.std.specs.List.{AllByRecursion}
 use Rattle.std.specs.Prelude.{MatchResult}
 use Rattle.std.specs.Result.{IsErrAnd}
 use Rattle.std.proofs.lemmas.List.{append-nil}
 use Rattle.std.proofs.lemmas.List.Elements.{All-from_recursion, recursion_from_All}
 use Rattle.std.proofs.lemmas.Bool.Decides.{nat_tests}
+use Rattle.std.proofs.lemmas.Option.{slice_get_within}
 use Rattle.word_terms.specs.Code.{AreRangesFrom}
 use Rattle.word_terms.specs.declared.code.Range.{Range}
-use Rattle.tailrec_lang.specs.Tree.{Bind, BodyTree, Do, Leave, DefTree, GroupTree}
-use Rattle.tailrec_lang.specs.WellFormed.{BodyIsWellFormed, DefIsWellFormed}
+use Rattle.tailrec_lang.specs.Tree.{Bind, BindMem, Need, BodyTree, Do, Branch, Call, Again, Leave, ValuesTree, DefTree, GroupTree, exits_of, exits_at}
+use Rattle.tailrec_lang.specs.WellFormed.{BodyIsWellFormed, DefIsWellFormed, FitsExit}
 use Rattle.tailrec_lang.specs.declared.group.Exit.{Exit}
 use Rattle.mcdec.specs.declared.reader.Class.TheVariants.{Name}
 use Rattle.mcdec.specs.declared.reader.Unread.{Unread}
@@ -56,18 +57,41 @@ only_bytes (r ∷ rs) f = (f.0.1, only_bytes rs f.1)
 
 -- ---- bodies and definitions
 
-loose_body : (exits : List Exit) (registers : ℕ) (b : BodyTree) (words : ℕ) → length exits ≤ 16 → IsBody b → BodyIsWellFormed exits registers b words → IsLooseBody b
-loose_body exits registers (Do (Bind t) rest) words few f w = (f.0, loose_body exits registers rest (words + 1) few f.1 w.1)
-loose_body exits registers (Leave exit values) words few f w = (omega (arith, w.0), f)
+-- an exit that values fit is there
+fits-there : (g : GroupTree) (exits : List Exit) (exit : ℕ) (v : ValuesTree) → FitsExit g (slice_get exits exit) v → exit < length exits
+fits-there g exits exit v fits = there (slice_get exits exit) refl fits
+  where
+    there : (x : Option Exit) → slice_get exits exit ≡ x → FitsExit g x v → exit < length exits
+    there None e f = absurd f
+    there (Some x) e f = slice_get_within exits exit x e
+
+loose_body : (g : GroupTree) (d : ℕ) (b : BodyTree) (words mems : ℕ) → length (exits_at g d) ≤ 16 → IsBody b → BodyIsWellFormed g d b words mems → IsLooseBody b
+loose_body g d (Do (Bind t) rest) words mems few f w = (f.0, loose_body g d rest (words + 1) mems few f.1 w.1)
+loose_body g d (Do (BindMem m) rest) words mems few f w = absurd f
+loose_body g d (Do (Need c) rest) words mems few f w = absurd f
+loose_body g d (Branch c a b) words mems few f w = absurd f
+loose_body g d (Call def values arms) words mems few f w = absurd f
+loose_body g d (Again values) words mems few f w = absurd f
+loose_body g d (Leave exit values) words mems few f w =
+    let there = fits-there g (exits_at g d) exit values w.0 in (omega (arith, there), f.0, f.1)
 
 strict_body : (b : BodyTree) → IsLooseBody b → IsBody b
 strict_body (Do (Bind t) rest) f = (f.0, strict_body rest f.1)
-strict_body (Leave exit values) f = f.1
+strict_body (Do (BindMem m) rest) f = absurd f.0
+strict_body (Do (Need c) rest) f = absurd f.0
+strict_body (Branch c a b) f = absurd f
+strict_body (Call def values arms) f = absurd f
+strict_body (Again values) f = absurd f
+strict_body (Leave exit values) f = (f.1, f.2)
 
-loose_defs : (registers : ℕ) (ds : List DefTree) → AllByRecursion IsDef ds → AllByRecursion (DefIsWellFormed registers) ds → AllByRecursion IsLooseDef ds
-loose_defs registers [] f w = tt
-loose_defs registers (d ∷ ds) f w =
-    (record { entry = f.0.entry; exits = f.0.exits; body = loose_body d.exits registers d.body registers f.0.few f.0.body w.0 }, loose_defs registers ds f.1 w.1)
+loose_def : (g : GroupTree) (d : ℕ) (def : DefTree) → slice_get g.defs d ≡ Some def → IsDef def → DefIsWellFormed g d def → IsLooseDef def
+loose_def g d def e f w =
+    let few : length (exits_at g d) ≤ 16 = subst (λ (o : Option DefTree). length (exits_of o) ≤ 16) (sym e) f.few in
+    record { entry = f.entry; exits = f.exits; body = loose_body g d def.body (length g.regs) g.mems few f.body w }
+
+loose_defs : (ds : List DefTree) → AllByRecursion IsDef ds → ((d : ℕ) (def : DefTree) → slice_get ds d ≡ Some def → IsDef def → IsLooseDef def) → AllByRecursion IsLooseDef ds
+loose_defs [] f loose = tt
+loose_defs (d ∷ ds) f loose = (loose 0 d refl f.0, loose_defs ds f.1 (λ k def e. loose (suc k) def e))
 
 strict_defs : (ds : List DefTree) → AllByRecursion IsLooseDef ds → AllByRecursion (λ d. length d.exits ≤ 16) ds → AllByRecursion IsDef ds
 strict_defs [] f few = tt
@@ -83,8 +107,9 @@ small-loose : (g : GroupTree) → IsSmall g → IsLooseGroup g
 small-loose g s = record {
   name = name_passes g.name (recursion_from_All IsNameByte g.name s.name.2);
   registers = below_32 1 g.regs s.registers;
+  mems = s.mems;
   code = addresses 0 g.code s.code s.bytes;
-  defs = loose_defs (length g.regs) g.defs s.defs (recursion_from_All (DefIsWellFormed (length g.regs)) g.defs s.well_formed);
+  defs = loose_defs g.defs s.defs (λ d def e f. loose_def g d def e f (s.well_formed d def e));
   one = s.one;
 }
 
@@ -95,6 +120,7 @@ small-from : (g : GroupTree) → IsLooseGroup g → Suits g → IsSmall g
 small-from g f s = record {
   name = (s.named, s.name_short, All-from_recursion IsNameByte g.name (name_bytes g.name f.name));
   registers = s.registers;
+  mems = f.mems;
   bytes = only_bytes g.code f.code;
   code = s.code;
   defs = strict_defs g.defs f.defs s.few;

@@ -3,7 +3,7 @@ use Rattle.std.proofs.Common.{◌≡◌, ℕ, zero, suc, ◌^◌, ◌<◌, ◌�
 use Rattle.std.specs.Fmt.{decimal}
 use Rattle.rv_words.specs.declared.operation.Op.{Op}
 use Rattle.rv_words.specs.declared.operation.Op.TheVariants.{Add, Sub, Sll, Slt, Sltu, Xor, Srl, Sra, Or, And, Mul, Mulh, Mulhsu, Mulhu, Div, Divu, Rem, Remu, Addw, Subw, Sllw, Srlw, Sraw, Mulw, Divw, Divuw, Remw, Remuw}
-use Rattle.word_terms.specs.Tree.{WordTree, Const, Var, Bin, depth_of_word}
+use Rattle.word_terms.specs.Tree.{WordTree, Const, Var, Bin, Extend, Load, depth_of_word}
 use Rattle.mcdec.specs.declared.reader.Class.TheVariants.{Digit, HexDigit}
 use Rattle.mcdec.specs.Number.{hex}
 use Rattle.mcdec.specs.Text.{operation_name, word_text, IsSmallOperation, NumbersFit}
@@ -70,23 +70,19 @@ operation-reads = record { takes = is_taken; again = is_read }
 
 abbrev IsVariable : WordTree → Type 0
 IsVariable (Var i) = i < 2 ^ 32
-IsVariable (Const n) = ⊥
-IsVariable (Bin op a b) = ⊥
+IsVariable _ = ⊥
 
 abbrev variable_digits : WordTree → List ℕ
 variable_digits (Var i) = decimal i
-variable_digits (Const n) = []
-variable_digits (Bin op a b) = []
+variable_digits _ = []
 
 abbrev IsConstant : WordTree → Type 0
 IsConstant (Const n) = n < 2 ^ 64
-IsConstant (Var i) = ⊥
-IsConstant (Bin op a b) = ⊥
+IsConstant _ = ⊥
 
 abbrev constant_text : WordTree → List ℕ
 constant_text (Const n) = hex n
-constant_text (Var i) = []
-constant_text (Bin op a b) = []
+constant_text _ = []
 
 digit-hex : (rest : List ℕ) → EndsHex rest → NotFirst (has Digit) rest
 digit-hex [] h = tt
@@ -99,16 +95,16 @@ digit-hex (b ∷ bs) h = not_or (has Digit b) _ h
 variable-reads : Reads (made Var (decimal_at (2 ^ 32))) IsVariable variable_digits EndsHex
 variable-reads =
     Reads-made (decimal_at (2 ^ 32)) (λ n. n < 2 ^ 32) decimal EndsHex (Reads-ending (decimal_at (2 ^ 32)) (λ n. n < 2 ^ 32) decimal (NotFirst (has Digit)) (decimal-reads (2 ^ 32) (omega arith)) EndsHex digit-hex)
-    Var IsVariable variable_digits (λ n h. (refl, h)) (elim [ Var i ↦ λ h. (i, h, refl) | Const n ↦ λ h. absurd h | Bin op a b ↦ λ h. absurd h ])
+    Var IsVariable variable_digits (λ n h. (refl, h)) (elim [ Var i ↦ λ h. (i, h, refl) | Const n ↦ λ h. absurd h | Bin op a b ↦ λ h. absurd h | Extend ext a ↦ λ h. absurd h | Load width m a ↦ λ h. absurd h ])
 
 constant-reads : Reads (made Const hex_at) IsConstant constant_text EndsHex
 constant-reads =
-    Reads-made hex_at (λ n. n < 2 ^ 64) hex EndsHex hex-reads Const IsConstant constant_text (λ n h. (refl, h)) (elim [ Const n ↦ λ h. (n, h, refl) | Var i ↦ λ h. absurd h | Bin op a b ↦ λ h. absurd h ])
+    Reads-made hex_at (λ n. n < 2 ^ 64) hex EndsHex hex-reads Const IsConstant constant_text (λ n h. (refl, h)) (elim [ Const n ↦ λ h. (n, h, refl) | Var i ↦ λ h. absurd h | Bin op a b ↦ λ h. absurd h | Extend ext a ↦ λ h. absurd h | Load width m a ↦ λ h. absurd h ])
 
 abbrev IsLeaf : WordTree → Type 0
 IsLeaf (Const n) = n < 2 ^ 64
 IsLeaf (Var i) = i < 2 ^ 32
-IsLeaf (Bin op a b) = ⊥
+IsLeaf _ = ⊥
 
 named-reads : Reads (behind (codes "v") (made Var (decimal_at (2 ^ 32)))) IsVariable (λ t. codes "v" ++ variable_digits t) EndsHex
 named-reads = Reads-behind (made Var (decimal_at (2 ^ 32))) IsVariable variable_digits EndsHex variable-reads (codes "v")
@@ -117,11 +113,15 @@ leaf-variable : (bytes : List ℕ) (t : WordTree) (rest : List ℕ) → (bytes �
 leaf-variable bytes (Var i) rest h = h
 leaf-variable bytes (Const n) rest h = absurd h.1
 leaf-variable bytes (Bin op a b) rest h = absurd h.1
+leaf-variable bytes (Extend ext a) rest h = absurd h.1
+leaf-variable bytes (Load width m a) rest h = absurd h.1
 
 leaf-constant : (bytes : List ℕ) (t : WordTree) (rest : List ℕ) → (bytes ≡ constant_text t ++ rest) × IsConstant t → (bytes ≡ word_text t ++ rest) × IsLeaf t
 leaf-constant bytes (Const n) rest h = h
 leaf-constant bytes (Var i) rest h = absurd h.1
 leaf-constant bytes (Bin op a b) rest h = absurd h.1
+leaf-constant bytes (Extend ext a) rest h = absurd h.1
+leaf-constant bytes (Load width m a) rest h = absurd h.1
 
 leaf-reads : Reads leaf_at IsLeaf word_text EndsHex
 unfolding leaf_at
@@ -138,6 +138,8 @@ leaf-reads = record { takes = is_taken; again = is_read }
     is_read (Const n) rest f h = constant-reads.again (Const n) rest f h
     is_read (Var i) rest f h = named-reads.again (Var i) rest f h
     is_read (Bin op a b) rest f h = absurd f
+    is_read (Extend ext a) rest f h = absurd f
+    is_read (Load width m a) rest f h = absurd f
 
 -- ---- operations on two words
 
@@ -169,13 +171,11 @@ module _ (d : ℕ) (word : Reads (word_at d) (FitsWithin d) word_text EndsHex) w
 
   abbrev IsOperation : WordTree → Type 0
   IsOperation (Bin op a b) = IsSmallOperation op × FitsWithin d a × FitsWithin d b
-  IsOperation (Const n) = ⊥
-  IsOperation (Var i) = ⊥
+  IsOperation _ = ⊥
 
   abbrev inner_text : WordTree → List ℕ
   inner_text (Bin op a b) = operation_text op ++ (first_text a ++ second_text b)
-  inner_text (Const n) = []
-  inner_text (Var i) = []
+  inner_text _ = []
 
   abbrev bin : Op × (WordTree × WordTree) → WordTree
   bin x = Bin x.0 x.1.0 x.1.1
@@ -185,7 +185,7 @@ module _ (d : ℕ) (word : Reads (word_at d) (FitsWithin d) word_text EndsHex) w
       Reads-made (pair operation_at (operands_at (word_at d))) (λ p. IsSmallOperation p.0 × OperandsFit p.1) (λ p. operation_text p.0 ++ operands_text p.1) Any
       (Reads-pair operation_at IsSmallOperation operation_text Any operation-reads (operands_at (word_at d)) OperandsFit operands_text Any operands-reads (λ p rest f h. tt))
       bin IsOperation inner_text (λ x f. (refl, (f.0, f.1.0, f.1.1)))
-      (elim [ Bin op a b ↦ λ h. ((op, (a, b)), (h.0, (h.1, h.2)), refl) | Const n ↦ λ h. absurd h | Var i ↦ λ h. absurd h ])
+      (elim [ Bin op a b ↦ λ h. ((op, (a, b)), (h.0, (h.1, h.2)), refl) | Const n ↦ λ h. absurd h | Var i ↦ λ h. absurd h | Extend ext a ↦ λ h. absurd h | Load width m a ↦ λ h. absurd h ])
 
   operation_word-reads : Reads (behind (codes "(") (made bin (pair operation_at (operands_at (word_at d))))) IsOperation (λ t. codes "(" ++ inner_text t) Any
   operation_word-reads = Reads-behind (made bin (pair operation_at (operands_at (word_at d)))) IsOperation inner_text Any inner-reads (codes "(")
@@ -203,9 +203,13 @@ module _ (d : ℕ) (word : Reads (word_at d) (FitsWithin d) word_text EndsHex) w
   from_operation bytes (Bin op a b) rest h = (h.0 ∙ ap (λ (s : List ℕ). s ++ rest) (sym (bin-text op a b)), one_deeper op a b h.1)
   from_operation bytes (Const n) rest h = absurd h.1
   from_operation bytes (Var i) rest h = absurd h.1
+  from_operation bytes (Extend ext a) rest h = absurd h.1
+  from_operation bytes (Load width m a) rest h = absurd h.1
 
   from_leaf : (bytes : List ℕ) (t : WordTree) (rest : List ℕ) → (bytes ≡ word_text t ++ rest) × IsLeaf t → (bytes ≡ word_text t ++ rest) × FitsWithin (suc d) t
   from_leaf bytes (Bin op a b) rest h = absurd h.1
+  from_leaf bytes (Extend ext a) rest h = absurd h.1
+  from_leaf bytes (Load width m a) rest h = absurd h.1
   from_leaf bytes (Const n) rest h = (h.0, (h.1, omega arith))
   from_leaf bytes (Var i) rest h = (h.0, (h.1, omega arith))
 
@@ -224,6 +228,8 @@ module _ (d : ℕ) (word : Reads (word_at d) (FitsWithin d) word_text EndsHex) w
   deeper-again (Var i) rest f h = leaf-reads.again (Var i) rest f.0 h
   deeper-again (Bin op a b) rest f h =
       ap (λ (s : List ℕ). deeper_word (s ++ rest)) (bin-text op a b) ∙ operation_word-reads.again (Bin op a b) rest (one_less op a b f) tt
+  deeper-again (Extend ext a) rest f h = absurd f.0
+  deeper-again (Load width m a) rest f h = absurd f.0
 
 pub word-reads : (d : ℕ) → Reads (word_at d) (FitsWithin d) word_text EndsHex
 unfolding word_at
@@ -233,4 +239,6 @@ word-reads zero = record { takes = λ bytes t rest e. absurd cc; again = λ t re
     no_depth (Const n) h = omega arith
     no_depth (Var i) h = omega arith
     no_depth (Bin op a b) h = omega arith
+    no_depth (Extend ext a) h = omega arith
+    no_depth (Load width m a) h = omega arith
 word-reads (suc d) = record { takes = deeper-takes d (word-reads d); again = deeper-again d (word-reads d) }

@@ -1,5 +1,5 @@
 -- When each answer to `eval` comes.
-use Rattle.std.specs.Prelude.{◌≡◌, ◌≢◌, ℕ, ◌-◌, ◌<◌, ◌≤◌, List, length, map}
+use Rattle.std.specs.Prelude.{◌≡◌, ◌≢◌, ℕ, ◌-◌, ◌<◌, ◌≤◌, List, [], length, map}
 use Rattle.tailrec_lang.specs.Tree.{GroupTree}
 use Rattle.tailrec_lang.specs.Eval.{Arguments, Done, Turns, eval}
 use Rattle.mcdec.specs.declared.answer.Answer.{Answer}
@@ -15,15 +15,15 @@ proof_limit = 268435456
 abbrev pub listed : GroupTree → ℕ
 listed g = length g.defs - 1
 
--- the value of each register of the group; 0 where it is given none
+-- the value of each register of the group, 0 where it is given none, and no memory
 abbrev pub arguments_of : List Given → GroupTree → Arguments
-arguments_of given g = record { words = map (value_of given) g.regs }
+arguments_of given g = record { words = map (value_of given) g.regs; mems = [] }
 
--- `eval` of the listed function of a group within turns, on given registers
+-- `eval` of the listed function of a group without memories within turns, on given registers
 abbrev pub GroupGives : GroupTree → ℕ → List Given → Answer → Type 0
 GroupGives g turns given answer.TurnsUsed = eval g (listed g) (arguments_of given g) turns ≡ Turns
 GroupGives g turns given (answer.Evaluated used pc registers words) = (registers ≡ g.regs)
-    × (exit left : ℕ) × (eval g (listed g) (arguments_of given g) turns ≡ Done exit pc (record { words = words }) left) × (used ≡ turns - left)
+    × (exit left : ℕ) × (eval g (listed g) (arguments_of given g) turns ≡ Done exit pc (record { words = words; mems = [] }) left) × (used ≡ turns - left)
 GroupGives g turns given _ = ⊥
 
 -- `eval` of a name, where the proof file is this text

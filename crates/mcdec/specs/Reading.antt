@@ -166,7 +166,7 @@ unfoldable pub step_at : Reader StepTree
 step_at = behind (codes "let ") (made Bind (before (word_at 64) (codes "\n")))
 
 unfoldable pub leave_at : Reader BodyTree
-leave_at = behind (codes "leave ") (made (λ x. Leave x.0 (record { words = x.1 })) (pair (decimal_at (2 ^ 32)) (before (star another_value value_at) (codes " ;\n"))))
+leave_at = behind (codes "leave ") (made (λ x. Leave x.0 (record { words = x.1; mems = [] })) (pair (decimal_at (2 ^ 32)) (before (star another_value value_at) (codes " ;\n"))))
 
 unfoldable pub body_at : Reader BodyTree
 body_at = made (λ x. with_steps x.0 x.1) (pair (star (begins (codes "let ")) step_at) leave_at)
@@ -175,7 +175,7 @@ unfoldable pub def_at : Reader DefTree
 def_at = behind (codes "def ") (made (λ x. record { entry = x.0; exits = x.1.0; body = x.1.1 }) (pair hex_at (pair (before (star another exit_at) (codes "\n")) body_at)))
 
 unfoldable pub group_at : Reader GroupTree
-group_at = behind (codes "group ") (made (λ x. record { name = x.0; regs = x.1.0; code = x.1.1.0; defs = x.1.1.1 ∷ [] })
+group_at = behind (codes "group ") (made (λ x. record { name = x.0; regs = x.1.0; mems = 0; code = x.1.1.0; defs = x.1.1.1 ∷ [] })
     (pair (before name_at (codes "\nregs")) (pair (before (star another register_at) (codes "\nmems 0\ncode")) (pair (before (star another range_at) (codes "\n")) def_at))))
 
 -- a whole text

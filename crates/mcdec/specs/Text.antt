@@ -1,4 +1,5 @@
--- The text of a small proof file: one group of one straight definition, and no proof line.
+-- The text of a small proof file: one group of one straight definition over words alone, and no proof line. Of the
+-- other forms of terms, bodies and exits there is no text here, and no small group has one.
 --
 --   mcproof 1
 --   group NAME
@@ -70,6 +71,7 @@ abbrev pub word_text : WordTree → List ℕ
 word_text (Const n) = hex n
 word_text (Var i) = codes "v" ++ decimal i
 word_text (Bin op a b) = codes "(" ++ operation_name op ++ codes " " ++ word_text a ++ codes " " ++ word_text b ++ codes ")"
+word_text _ = []
 
 abbrev pub register_text : ℕ → List ℕ
 register_text r = codes " " ++ decimal r
@@ -79,6 +81,7 @@ range_text r = codes " (" ++ hex r.at ++ codes " " ++ encode_lower r.bytes ++ co
 
 abbrev pub exit_text : Exit → List ℕ
 exit_text (At a) = codes " " ++ hex a
+exit_text _ = []
 
 abbrev pub value_text : WordTree → List ℕ
 value_text t = codes " " ++ word_text t
@@ -86,6 +89,7 @@ value_text t = codes " " ++ word_text t
 abbrev pub body_text : BodyTree → List ℕ
 body_text (Do (Bind t) rest) = codes "let " ++ word_text t ++ codes "\n" ++ body_text rest
 body_text (Leave exit values) = codes "leave " ++ decimal exit ++ each value_text values.words ++ codes " ;\n"
+body_text _ = []
 
 abbrev pub def_text : DefTree → List ℕ
 def_text d = codes "def " ++ hex d.entry ++ each exit_text d.exits ++ codes "\n" ++ body_text d.body
@@ -98,21 +102,27 @@ group_text g =
 abbrev pub text_of : GroupTree → List ℕ
 text_of g = codes "mcproof 1\n" ++ group_text g ++ codes "end\n"
 
--- the numbers of a word fit and its operations are those of small texts, and it is at most as deep as the limit
+-- a word is made of constants and variables by the operations of small texts, its numbers fit, and it is at most as
+-- deep as the limit
 abbrev pub NumbersFit : WordTree → Type 0
 NumbersFit (Const n) = n < 2 ^ 64
 NumbersFit (Var i) = i < 2 ^ 32
 NumbersFit (Bin op a b) = IsSmallOperation op × NumbersFit a × NumbersFit b
+NumbersFit _ = ⊥
 
 abbrev pub IsWord : WordTree → Type 0
 IsWord t = NumbersFit t × (depth_of_word t ≤ 64)
 
+-- lines that bind words, and an exit with words
 abbrev pub IsBody : BodyTree → Type 0
 IsBody (Do (Bind t) rest) = IsWord t × IsBody rest
-IsBody (Leave exit values) = AllByRecursion IsWord values.words
+IsBody (Leave exit values) = AllByRecursion IsWord values.words × (values.mems ≡ [])
+IsBody _ = ⊥
 
+-- an address
 abbrev pub IsExit : Exit → Type 0
 IsExit (At a) = a < 2 ^ 64
+IsExit _ = ⊥
 
 pub record IsDef (d : DefTree) : Type 0 where
   pub entry : d.entry < 2 ^ 64
@@ -129,6 +139,7 @@ AreRegistersFrom least (r ∷ rs) = (least ≤ r) × (r ≤ 31) × AreRegistersF
 pub record IsSmall (g : GroupTree) : Type 0 where
   pub name : IsName g.name
   pub registers : AreRegistersFrom 1 g.regs
+  pub mems : g.mems ≡ 0
   pub bytes : AllByRecursion (λ r. AllByRecursion (λ b. b < 256) r.bytes) g.code
   pub code : AreRanges g.code
   pub defs : AllByRecursion IsDef g.defs

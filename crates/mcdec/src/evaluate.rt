@@ -67,7 +67,8 @@ fn evaluate_group(alloc: Global, g: Group, e: &Eval<'_>) -> Result<Answer, NoMem
 {
     let words = arguments(alloc, g.regs.as_slice(), &e.given)?;
     let def = (g.defs.len() - 1) as u32;
-    let outcome = eval(alloc, &g, def, &Args { words }, e.turns)?;
+    let mems = List::new(alloc);
+    let outcome = eval(alloc, &g, def, &Args { words, mems }, e.turns)?;
     match outcome {
         Outcome::Done { pc, args, left, .. } => Ok(Answer::Evaluated {
             used: e.turns - left,
@@ -75,6 +76,7 @@ fn evaluate_group(alloc: Global, g: Group, e: &Eval<'_>) -> Result<Answer, NoMem
             registers: g.regs,
             words: args.words,
         }),
+        Outcome::SideFalse { .. } => unreachable!(),
         Outcome::Turns => Ok(Answer::TurnsUsed),
     }
 }

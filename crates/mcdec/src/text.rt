@@ -218,7 +218,8 @@ fn leave(alloc: Global, bytes: &[u8]) -> Result<(End, &[u8]), Unread>
     let (exit, rest) = decimal(1 << 32, rest)?;
     let (words, rest) = values(alloc, rest)?;
     let rest = after(b" ;\n", rest)?;
-    Ok((End::Leave(exit as u32, Values { words }), rest))
+    let mems = List::new(alloc);
+    Ok((End::Leave(exit as u32, Values { words, mems }), rest))
 }
 
 /// A body.
@@ -265,6 +266,7 @@ fn group(alloc: Global, bytes: &[u8]) -> Result<(Group, &[u8]), Unread>
         Group {
             name,
             regs,
+            mems: 0,
             code,
             defs,
         },
