@@ -1,0 +1,14 @@
+pub mod HexDigits
+pub mod Numbers
+pub mod HexPairs
+pub mod Puts
+pub mod Atoms
+pub mod Lines
+pub mod OneSpelling
+pub mod Laws
+pub mod Choices
+pub mod Shown
+pub mod Star
+pub mod Inline
+pub mod Covers
+pub mod FaultLine

@@ -1,0 +1,5 @@
+pub mod Number
+pub mod Tokens
+pub mod Scanning
+pub mod Fault
+pub mod Reading

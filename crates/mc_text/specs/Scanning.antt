@@ -1,0 +1,125 @@
+-- The tokens of a text from a place on, by computing.
+use Rattle.std.specs.Prelude.{◌≡◌, ◌⊎◌, ℕ, suc, ◌+◌, Bool, true, false, List, [], ◌∷◌, ◌==◌, if◌then◌else◌, Option, Some, None, Result, Ok, Err}
+use Rattle.mc_text.specs.declared.token.BadText.{BadText}
+use Rattle.mc_text.specs.declared.token.Token.{Token}
+use Rattle.mc_text.specs.declared.token.Before.{Before}
+use Rattle.mc_text.specs.declared.token.Before.TheVariants.{Start, Open, Later}
+use Rattle.mc_text.specs.declared.token.Class.{Class}
+use Rattle.mc_text.specs.declared.token.Class.TheVariants.{Letter, LeftMark, RightMark, SemiMark, Newline, Space, Other}
+use Rattle.mc_text.specs.Tokens.{Tok, Left, Right, Semi, Atom, Eol, Done, Stuck, tok, after, eol, is_atom_byte, HasNoAtomByte, Place}
+
+abbrev pub class_of : ℕ → Class
+class_of b =
+    if is_atom_byte b then Letter else if b == 40 then LeftMark else if b == 41 then RightMark else if b == 59 then SemiMark
+    else if b == 10 then Newline else if b == 32 then Space else Other
+
+-- at a place, behind the space of one, or in an atom
+pub data State : Type 0 where
+  At : Before → State
+  Spaced : State
+  Within : State
+
+-- a byte before the first token, which is an atom
+abbrev pub prepend : ℕ → List Tok → List Tok
+prepend b (Atom a ∷ ts) = Atom (b ∷ a) ∷ ts
+prepend b _ = Stuck ∷ []
+
+-- ( ; or an atom may begin
+abbrev pub loose : State → Bool
+loose (At Later) = false
+loose Within = false
+loose _ = true
+
+-- ) or the end of the line may come
+abbrev pub tight : State → Bool
+tight Spaced = false
+tight _ = true
+
+-- an atom may begin or go on
+abbrev pub grows : State → Bool
+grows (At Later) = false
+grows _ = true
+
+-- a space may come
+abbrev pub parts : State → Bool
+parts (At Later) = true
+parts Within = true
+parts _ = false
+
+-- an atom ends before a byte that is no part of it
+abbrev pub ended : State → List Tok → List Tok
+ended Within ts = Atom [] ∷ ts
+ended _ ts = ts
+
+abbrev pub or_stuck : Bool → List Tok → List Tok
+or_stuck true ts = ts
+or_stuck false ts = Stuck ∷ []
+
+abbrev pub byte_step : Class → ℕ → State → (State → List Tok) → List Tok
+byte_step Letter b s k = or_stuck (grows s) (prepend b (k Within))
+byte_step LeftMark b s k = ended s (or_stuck (loose s) (Left ∷ k (At Open)))
+byte_step RightMark b s k = ended s (or_stuck (tight s) (Right ∷ k (At Later)))
+byte_step SemiMark b s k = ended s (or_stuck (loose s) (Semi ∷ k (At Later)))
+byte_step Newline b s k = ended s (or_stuck (tight s) (Eol ∷ k (At Start)))
+byte_step Space b s k = ended s (or_stuck (parts s) (k Spaced))
+byte_step Other b s k = ended s (Stuck ∷ [])
+
+abbrev pub at_end : State → List Tok
+at_end (At Start) = Done ∷ []
+at_end Within = Atom [] ∷ Stuck ∷ []
+at_end _ = Stuck ∷ []
+
+-- the tokens, up to the end of the text or to where no token begins
+unfoldable pub lex : List ℕ → State → List Tok
+lex [] s = at_end s
+lex (b ∷ bs) s = byte_step (class_of b) b s (lex bs)
+
+abbrev pub tokens_at : Place → List Tok
+tokens_at p = lex p.rest (At p.before)
+
+-- how many lines end in these tokens, and in these bytes
+abbrev pub eols : List Tok → ℕ
+eols [] = 0
+eols (t ∷ ts) = eol t + eols ts
+
+abbrev pub newlines : List ℕ → ℕ
+newlines [] = 0
+newlines (b ∷ bs) = if b == 10 then suc (newlines bs) else newlines bs
+
+-- ---- what the code gives
+
+abbrev pub state_of : Before → Bool → State
+state_of m true = Spaced
+state_of m false = At m
+
+-- a token other than the end, and the bytes behind it, are what the tokens begin with
+abbrev pub Found : {S : Type 0} → (S → List ℕ) → Option (Token × S) → List Tok → Type 0
+Found now None ts = ts ≡ Stuck ∷ []
+Found now (Some p) ts = (ts ≡ tok p.0 ∷ lex (now p.1) (At (after (tok p.0)))) × (tok p.0 ≡ Done → ⊥)
+
+-- an atom goes on as far as it can
+abbrev pub IsWhole : Tok → List ℕ → Type 0
+IsWhole (Atom a) rest = HasNoAtomByte rest
+IsWhole _ rest = Unit {0}
+
+abbrev pub space_text : Bool → List ℕ
+space_text true = 32 ∷ []
+space_text false = []
+
+-- the text doesn't end here, or doesn't end well
+abbrev pub IsInside : List ℕ → State → Type 0
+IsInside [] s = at_end s ≡ Stuck ∷ []
+IsInside (b ∷ bs) s = Unit {0}
+
+-- no space between two tokens stands here
+abbrev pub IsSettled : List ℕ → State → Type 0
+IsSettled [] s = at_end s ≡ Stuck ∷ []
+IsSettled (b ∷ bs) s = class_of b ≡ Space → parts s ≡ false
+
+-- a token and the tokens behind it are what stood there; the end of the text stays where it is
+abbrev pub ScansOne : Tok → Place → Place → Type 0
+ScansOne t old new = ((t ≡ Done) × (tokens_at old ≡ Done ∷ []) × (new ≡ old)) ⊎ ((t ≡ Done → ⊥) × (tokens_at old ≡ t ∷ tokens_at new))
+
+abbrev pub Scanned : Result Token BadText → Place → Place → Type 0
+Scanned (Ok t) old new = ScansOne (tok t) old new
+Scanned (Err e) old new = tokens_at old ≡ Stuck ∷ []

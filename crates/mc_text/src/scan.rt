@@ -1,0 +1,209 @@
+//! The tokens of a text, one by one.
+
+ghost use Rattle.std.specs.Prelude.{◌≡◌, ◌∷◌, ◌≤◌, ◌<◌, ℕ, List, length, slice_index, IfOk, IfErr, OnErr, IfSome, ◌++◌, [], true, false, IsTrue, ◌↔◌};
+ghost use Rattle.mc_text.specs.Tokens.{is_atom_byte, Tok, Atom, after, Stuck, Done, tok, bytes_of, eol, HasNoAtomByte, Place, Passes, Stands};
+ghost use Rattle.mc_text.specs.Scanning.{lex, At, Within, or_stuck, loose, tight, class_of, state_of, Found, IsWhole, IsSettled, IsInside, space_text, tokens_at, Scanned};
+ghost use Rattle.mc_text.specs.declared.token.Before.TheVariants.{Start, Later};
+
+use crate::token::{BadText, Before, Class, Token};
+use std::marker::Model;
+
+/// Goes over the tokens of a text.
+#[derive(Debug, Drop)]
+pub struct Scan<'a> {
+    rest: &'a [u8],
+    before: Before,
+    line: u64,
+}
+
+impl<'a> Model for Scan<'a> {
+    ghost use Rattle.std.specs.Prelude.{◌+◌, ◌≤◌, ◌^◌, length};
+    ghost use Rattle.mc_text.specs.Tokens.{Place};
+
+    ghost Value = { Place };
+
+    ghost view = { λ s. record { before = s.before; rest = s.rest.now; line = s.line } };
+
+    ghost invariant = { λ s. s.line + length s.rest.now ≤ 2 ^ 63 };
+}
+
+impl<'a> Scan<'a> {
+    /// Stands at the first byte.
+    pub fn new(text: &'a [u8]) -> Scan<'a>
+        ensures { result ≡ record { before = Start; rest = text.now; line = 1 } }
+    {
+        Scan {
+            rest: text,
+            before: Before::Start,
+            line: 1,
+        }
+    }
+
+    /// The next token. The end of the text is met again and again.
+    pub fn next(&mut self) -> Result<Token<'a>, BadText>
+        ensures ok { IfOk result (λ t. Passes (tok t) self.old self.new) }
+        ensures none { OnErr result ((t : Tok) (rest : List ℕ) → Stands self.old.before self.old.rest t rest → ⊥) }
+        ensures line { IfErr result (λ e. e.line ≡ self.old.line) }
+        ensures same { OnErr result (self.new ≡ self.old) }
+        ensures tokens { Scanned result self.old self.new }
+    {
+        if begins_line(self.before) && self.rest.is_empty() {
+            return Ok(Token::Done);
+        }
+        let (bytes, spaced) = skip_space(self.rest, self.before);
+        match token_at(bytes, self.before, spaced) {
+            None => Err(BadText { line: self.line }),
+            Some((token, rest)) => {
+                self.rest = rest;
+                self.before = before_next(token);
+                self.line += ends_line(token);
+                Ok(token)
+            }
+        }
+    }
+
+    /// The line of the place, from 1.
+    pub fn line(&self) -> u64
+        ensures { result ≡ self.now.line }
+    {
+        self.line
+    }
+}
+
+/// Whether a line begins at a place.
+fn begins_line(before: Before) -> bool
+    ensures { IsTrue result ↔ (before ≡ Start) }
+{
+    matches!(before, Before::Start)
+}
+
+/// The place behind the space between two tokens, if one stands here.
+fn skip_space(bytes: &[u8], before: Before) -> (&[u8], bool)
+    requires { IsInside bytes.now (At before) }
+    ensures shorter { length result.0.now ≤ length bytes.now }
+    ensures parts { bytes.now ≡ space_text result.1 ++ result.0.now }
+    ensures spaced { result.1 ≡ true → before ≡ Later }
+    ensures same { lex result.0.now (state_of before result.1) ≡ lex bytes.now (At before) }
+    ensures settled { IsSettled result.0.now (state_of before result.1) }
+{
+    match before {
+        Before::Later => match bytes {
+            [first, rest @ ..] if *first == b' ' => (rest, true),
+            _ => (bytes, false),
+        },
+        _ => (bytes, false),
+    }
+}
+
+/// The token at a place that isn't the space behind another token, and the bytes behind it.
+fn token_at<'a>(bytes: &'a [u8], before: Before, spaced: bool) -> Option<(Token<'a>, &'a [u8])>
+    requires { IsSettled bytes.now (state_of before spaced) }
+    ensures found { Found (λ r. r.now) result (lex bytes.now (state_of before spaced)) }
+    ensures parts { IfSome result (λ p. bytes.now ≡ bytes_of (tok p.0) ++ p.1.now) }
+    ensures whole { IfSome result (λ p. IsWhole (tok p.0) p.1.now) }
+    ensures shorter { IfSome result (λ p. length p.1.now < length bytes.now) }
+{
+    match bytes {
+        [] => None,
+        [first, rest @ ..] => match class(*first) {
+            Class::LeftMark => if_some(is_loose(before, spaced), Token::Left, rest),
+            Class::RightMark => if_some(!spaced, Token::Right, rest),
+            Class::SemiMark => if_some(is_loose(before, spaced), Token::Semi, rest),
+            Class::Newline => if_some(!spaced, Token::Eol, rest),
+            Class::Letter => {
+                if is_loose(before, spaced) {
+                    let (atom, rest) = atom_at(bytes);
+                    Some((Token::Atom(atom), rest))
+                } else {
+                    None
+                }
+            }
+            Class::Space => None,
+            Class::Other => None,
+        },
+    }
+}
+
+fn class(byte: u8) -> Class
+    ensures { result ≡ class_of byte }
+{
+    match byte {
+        b'(' => Class::LeftMark,
+        b')' => Class::RightMark,
+        b';' => Class::SemiMark,
+        b'\n' => Class::Newline,
+        b' ' => Class::Space,
+        33..=126 => Class::Letter,
+        _ => Class::Other,
+    }
+}
+
+/// Whether a token that wants a space before it may stand there.
+fn is_loose(before: Before, spaced: bool) -> bool
+    ensures { result ≡ loose (state_of before spaced) }
+{
+    spaced || before != Before::Later
+}
+
+fn if_some<'a>(fits: bool, token: Token<'a>, rest: &'a [u8]) -> Option<(Token<'a>, &'a [u8])>
+    requires { tok token ≡ Done → ⊥ }
+    ensures same { IfSome result (λ p. p ≡ (token.entry, rest.entry)) }
+    ensures found { Found (λ r. r.now) result (or_stuck fits (tok token.entry ∷ lex rest.now (At (after (tok token.entry))))) }
+{
+    if fits { Some((token, rest)) } else { None }
+}
+
+/// The atom at the front, and the bytes behind it.
+fn atom_at(bytes: &[u8]) -> (&[u8], &[u8])
+    ensures atom { lex bytes.now Within ≡ Atom result.0.now ∷ lex result.1.now (At Later) }
+    ensures parts { result.0.now ++ result.1.now ≡ bytes.now }
+    ensures whole { HasNoAtomByte result.1.now }
+    ensures some { 0 < length bytes.now → IsTrue (is_atom_byte (slice_index bytes.now 0)) → 0 < length result.0.now }
+{
+    bytes.split_at(atom_len(bytes))
+}
+
+/// How many bytes at the front are part of an atom.
+fn atom_len(bytes: &[u8]) -> usize
+    ensures within { result ≤ length bytes.now }
+    ensures before { (k : ℕ) → k < result → is_atom_byte (slice_index bytes.now k) ≡ true }
+    ensures end { result < length bytes.now → is_atom_byte (slice_index bytes.now result) ≡ false }
+{
+    for (i, byte) in bytes.iter().enumerate() {
+        if !is_atom_byte(*byte) {
+            return i;
+        }
+    }
+    bytes.len()
+}
+
+fn is_atom_byte(byte: u8) -> bool
+    ensures { result ≡ is_atom_byte byte }
+{
+    33 <= byte && byte <= 126 && byte != b'(' && byte != b')' && byte != b';'
+}
+
+/// What stands before the place behind a token.
+fn before_next(token: Token<'_>) -> Before
+    ensures { result ≡ after (tok token.entry) }
+{
+    match token {
+        Token::Left => Before::Open,
+        Token::Eol => Before::Start,
+        Token::Done => Before::Start,
+        Token::Right => Before::Later,
+        Token::Semi => Before::Later,
+        Token::Atom(_) => Before::Later,
+    }
+}
+
+/// How many lines end with a token.
+fn ends_line(token: Token<'_>) -> u64
+    ensures count { result ≡ eol (tok token.entry) }
+    ensures one { result ≤ 1 }
+{
+    match token {
+        Token::Eol => 1,
+        _ => 0,
+    }
+}
