@@ -1,7 +1,9 @@
 -- An atom is the run of its bytes.
 use Rattle.std.proofs.Common.{◌≡◌, ℕ, zero, suc, ◌-◌, ◌<◌, ◌≤◌, Bool, true, false, not, cond, eqb, List, [], ◌∷◌, length, get_or, take, drop, refl, sym, ap, ◌∙◌, arith}
 use Rattle.std.proofs.lemmas.List.{take_all}
-use Rattle.mc_text.specs.Tokens.{Tok, Atom, Stuck, is_atom_byte}
+use Rattle.std.specs.List.{AllByRecursion, AllPass}
+use Rattle.std.proofs.lemmas.List.Elements.{All-from_recursion, recursion_from_All}
+use Rattle.mc_text.specs.Tokens.{Tok, Atom, Stuck, is_atom_byte, IsAtom, IsAtomText}
 use Rattle.mc_text.specs.Scanning.{class_of, State, At, Within, Spaced, lex, byte_step, ended, state_of, loose, tight, grows, or_stuck, at_end, IsSettled}
 use Rattle.mc_text.specs.declared.token.Before.{Before}
 use Rattle.mc_text.specs.declared.token.Before.TheVariants.{Start, Open, Later}
@@ -92,3 +94,27 @@ pub empty-stuck : (bytes : List ℕ) (s : State) → length bytes < 1 → IsSett
 unfolding lex
 empty-stuck [] s h e = e
 empty-stuck (b ∷ bs) s h e = absurd (omega arith)
+
+-- ---- the bytes of an atom
+
+atom_text-bytes : (bs : List ℕ) → IsAtomText bs → AllPass is_atom_byte bs
+atom_text-bytes bs h = All-from_recursion (λ b. is_atom_byte b ≡ true) bs (each bs h)
+  where
+    each : (bs : List ℕ) → IsAtomText bs → AllByRecursion (λ b. is_atom_byte b ≡ true) bs
+    each [] h = tt
+    each (b ∷ bs) h = (h.0, each bs h.1)
+
+bytes-atom_text : (bs : List ℕ) → AllPass is_atom_byte bs → IsAtomText bs
+bytes-atom_text bs h = each bs (recursion_from_All (λ b. is_atom_byte b ≡ true) bs h)
+  where
+    each : (bs : List ℕ) → AllByRecursion (λ b. is_atom_byte b ≡ true) bs → IsAtomText bs
+    each [] h = tt
+    each (b ∷ bs) h = (h.0, each bs h.1)
+
+pub atom-bytes : (bs : List ℕ) → IsAtom bs → AllPass is_atom_byte bs
+atom-bytes [] h = absurd h
+atom-bytes (b ∷ bs) h = atom_text-bytes (b ∷ bs) h
+
+pub bytes-atom : (bs : List ℕ) → (length bs ≡ 0 → ⊥) → AllPass is_atom_byte bs → IsAtom bs
+bytes-atom [] some h = absurd (some refl)
+bytes-atom (b ∷ bs) some h = bytes-atom_text (b ∷ bs) h

@@ -49,29 +49,39 @@ module _ {X : Type 0} (go : Tok → Bool) (a b : Reader X) (F G : X → Type 0) 
     stops = λ ts bad e. choice-stops (goes_on go ts) ts bad refl e;
   }
 
+-- other words for which values fit and how they are spelled
+module _ {X : Type 0} (r : Reader X) (F G : X → Type 0) (t u : X → List Tok) (law : Reads r F t) (up : (x : X) → F x → G x) (down : (x : X) → G x → F x) (same : (x : X) → F x → u x ≡ t x) where
+  pub reads-told : Reads r G u
+  reads-told = record {
+    takes = λ ts x rest e. let h = law.takes ts x rest e in (h.0 ∙ ap (λ (v : List Tok). v ++ rest) (sym (same x h.1)), up x h.1);
+    again = λ x rest g. let f = down x g in ap (λ (v : List Tok). r (v ++ rest)) (same x f) ∙ law.again x rest f;
+    stops = law.stops;
+  }
+
 -- fewer or other words for which values fit
 pub reads-as : {X : Type 0} (r : Reader X) (F G : X → Type 0) (t : X → List Tok) → Reads r F t → ((x : X) → F x → G x) → ((x : X) → G x → F x) → Reads r G t
-reads-as r F G t law up down = record {
-  takes = λ ts x rest e. let h = law.takes ts x rest e in (h.0, up x h.1);
-  again = λ x rest g. law.again x rest (down x g);
-  stops = law.stops;
-}
+reads-as r F G t law up down = reads-told r F G t t law up down (λ x h. refl)
 
 -- what was read, put together
 module _ {X Y : Type 0} (make : X → Y) (r : Reader X) (F : X → Type 0) (t : X → List Tok) (law : Reads r F t)
-    (G : Y → Type 0) (u : Y → List Tok) (into : (x : X) → F x → G (make x)) (same : (x : X) → u (make x) ≡ t x) (from : (y : Y) → G y → (x : X) × (make x ≡ y) × F x) where
+    (G : Y → Type 0) (u : Y → List Tok) (into : (x : X) → F x → G (make x)) (same : (x : X) → F x → u (make x) ≡ t x) (from : (y : Y) → G y → (x : X) × (make x ≡ y) × F x) where
   put-takes : (ts : List Tok) (y : Y) (rest : List Tok) → made make r ts ≡ Ok (y, rest) → (ts ≡ u y ++ rest) × G y
   put-takes ts y rest e =
       let k = made-takes make r F t law ts y rest e in
-      subst (λ (z : Y). (ts ≡ u z ++ rest) × G z) k.1 (k.2 ∙ ap (λ (v : List Tok). v ++ rest) (sym (same k.0)), into k.0 k.3)
+      subst (λ (z : Y). (ts ≡ u z ++ rest) × G z) k.1 (k.2 ∙ ap (λ (v : List Tok). v ++ rest) (sym (same k.0 k.3)), into k.0 k.3)
 
   put-again : (y : Y) (rest : List Tok) → G y → made make r (u y ++ rest) ≡ Ok (y, rest)
   put-again y rest g =
       let k = from y g in
-      subst (λ (z : Y). made make r (u z ++ rest) ≡ Ok (z, rest)) k.1 (ap (λ (v : List Tok). made make r (v ++ rest)) (same k.0) ∙ made-again make r F t law k.0 rest k.2)
+      subst (λ (z : Y). made make r (u z ++ rest) ≡ Ok (z, rest)) k.1 (ap (λ (v : List Tok). made make r (v ++ rest)) (same k.0 k.2) ∙ made-again make r F t law k.0 rest k.2)
 
-  pub reads-made : Reads (made make r) G u
-  reads-made = record { takes = put-takes; again = put-again; stops = made-stops make r F t law }
+  -- where what fits alone is spelled so
+  pub reads-put : Reads (made make r) G u
+  reads-put = record { takes = put-takes; again = put-again; stops = made-stops make r F t law }
+
+pub reads-made : {X Y : Type 0} (make : X → Y) (r : Reader X) (F : X → Type 0) (t : X → List Tok) → Reads r F t → (G : Y → Type 0) (u : Y → List Tok) → ((x : X) → F x → G (make x)) → ((x : X) → u (make x) ≡ t x)
+    → ((y : Y) → G y → (x : X) × (make x ≡ y) × F x) → Reads (made make r) G u
+reads-made make r F t law G u into same from = reads-put make r F t law G u into (λ x h. same x) from
 
 -- what was read, if it passes a test; else reading stops behind it
 module _ {X : Type 0} (test : X → Bool) (r : Reader X) (F : X → Type 0) (t : X → List Tok) (law : Reads r F t) (flat : StaysFlat F t) where

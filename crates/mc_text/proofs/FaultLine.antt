@@ -79,7 +79,7 @@ line-step b bytes l more s false ih g p =
     (rw (lex-cons b bytes s (class_of b) refl, lex-cons b (p.0 ++ more) s (class_of b) refl) (same-step (class_of b) b s (lex bytes) (lex (p.0 ++ more)) (λ t. ih p.0 t m-is)))
 
 -- what a line is read as doesn't depend on what follows it
-same-line : (bytes more : List ℕ) → Followed bytes more
+pub same-line : (bytes more : List ℕ) → Followed bytes more
 unfolding first_lines
 same-line [] more l s e = absurd cc
 same-line (b ∷ bytes) more l s e = line-step b bytes l more s (eqb b 10) (same-line bytes more) refl (mapped b (cond (eqb b 10) (first_lines 0 bytes) (first_lines 1 bytes)) l e)
@@ -98,11 +98,11 @@ same-part (p ∷ part) bad (o ∷ os) f h =
 
 -- ---- lines of bytes
 
-abbrev EndsByte : ℕ → List ℕ → Type 0
+abbrev pub EndsByte : ℕ → List ℕ → Type 0
 EndsByte b [] = b ≡ 10
 EndsByte b (c ∷ cs) = EndsByte c cs
 
-abbrev AreLines : List ℕ → Type 0
+abbrev pub AreLines : List ℕ → Type 0
 AreLines [] = Unit {0}
 AreLines (b ∷ bs) = EndsByte b bs
 
@@ -114,7 +114,7 @@ nothing-in-front : (o : Option (List ℕ)) → o ≡ option_map (λ (f : List �
 nothing-in-front None = refl
 nothing-in-front (Some f) = refl
 
-one-newline : (b : ℕ) (w : List ℕ) → EndsByte b w → (n : ℕ) × (newlines (b ∷ w) ≡ suc n)
+pub one-newline : (b : ℕ) (w : List ℕ) → EndsByte b w → (n : ℕ) × (newlines (b ∷ w) ≡ suc n)
 one-newline b [] h = (0, rw h refl)
 one-newline b (c ∷ w) h = let i = one-newline c w h in by (eqb b 10) i.0 i.1
   where
@@ -122,7 +122,7 @@ one-newline b (c ∷ w) h = let i = one-newline c w h in by (eqb b 10) i.0 i.1
     by true n e = (newlines (c ∷ w), refl)
     by false n e = (n, e)
 
-first-step : (b : ℕ) (bs : List ℕ) (n : ℕ) (f : Bool) → eqb b 10 ≡ f → first_lines (suc n) (b ∷ bs) ≡ option_map (λ (x : List ℕ). b ∷ x) (cond f (first_lines n bs) (first_lines (suc n) bs))
+pub first-step : (b : ℕ) (bs : List ℕ) (n : ℕ) (f : Bool) → eqb b 10 ≡ f → first_lines (suc n) (b ∷ bs) ≡ option_map (λ (x : List ℕ). b ∷ x) (cond f (first_lines n bs) (first_lines (suc n) bs))
 unfolding first_lines
 first-step b bs n f e = rw e refl
 
@@ -155,7 +155,7 @@ lines-first (b ∷ w) y k h = lines-in-front b w y k h
 
 -- ---- how many lines end
 
-newlines-append : (a b : List ℕ) → newlines (a ++ b) ≡ newlines a + newlines b
+pub newlines-append : (a b : List ℕ) → newlines (a ++ b) ≡ newlines a + newlines b
 newlines-append [] b = omega arith
 newlines-append (c ∷ a) b = choose (eqb c 10) (newlines-append a b)
   where
@@ -210,7 +210,7 @@ newlines-spell m (t ∷ ts) h =
     let two = newlines-append (gap m t) (bytes_of t) in
     omega (arith, one, two, newlines-gap m t, newlines-token t h.0, newlines-spell (after t) ts h.1)
 
-eols-append : (a b : List Tok) → eols (a ++ b) ≡ eols a + eols b
+pub eols-append : (a b : List Tok) → eols (a ++ b) ≡ eols a + eols b
 eols-append [] b = omega arith
 eols-append (t ∷ a) b = omega (arith, eols-append a b)
 
@@ -248,7 +248,7 @@ step-end Newline b k us e = cc
 step-end Space b k us e = cc
 step-end Other b k us e = cc
 
-only-end : (bytes : List ℕ) (us : List Tok) → lex bytes (At Start) ≡ Done ∷ us → bytes ≡ []
+pub only-end : (bytes : List ℕ) (us : List Tok) → lex bytes (At Start) ≡ Done ∷ us → bytes ≡ []
 only-end [] us e = refl
 only-end (b ∷ bs) us e = absurd (step-end (class_of b) b (lex bs) us (sym (lex-cons b bs (At Start) (class_of b) refl) ∙ e))
 
@@ -264,7 +264,7 @@ there g None h = absurd h
 
 -- ---- front lines
 
-tokens-front : (a b : List Tok) → AreTokens (a ++ b) → AreTokens a
+pub tokens-front : (a b : List Tok) → AreTokens (a ++ b) → AreTokens a
 tokens-front [] b h = tt
 tokens-front (t ∷ a) b h = (h.0, tokens-front a b h.1)
 
@@ -277,19 +277,19 @@ is-real Eol h = tt
 is-real Done h = absurd h
 is-real Stuck h = absurd h
 
-are-real : (ts : List Tok) → AreTokens ts → AreReal ts
+pub are-real : (ts : List Tok) → AreTokens ts → AreReal ts
 are-real [] h = tt
 are-real (t ∷ ts) h = (is-real t h.0, are-real ts h.1)
 
-spelled : (p : List ℕ) (front rest : List Tok) → IsLines front → AreTokens front → lex p (At Start) ≡ front ++ rest → Spelled Start p front rest
+pub spelled : (p : List ℕ) (front rest : List Tok) → IsLines front → AreTokens front → lex p (At Start) ≡ front ++ rest → Spelled Start p front rest
 spelled p [] rest lines tokens e = record { more = p; is = refl; reads = e }
 spelled p (t ∷ ts) rest lines tokens e = spell-lex Start p t ts rest (are-real (t ∷ ts) tokens) lines e
 
-front-lex : (front : List Tok) (x : List ℕ) → IsLines front → AreTokens front → lex (spell Start front ++ x) (At Start) ≡ front ++ lex x (At Start)
+pub front-lex : (front : List Tok) (x : List ℕ) → IsLines front → AreTokens front → lex (spell Start front ++ x) (At Start) ≡ front ++ lex x (At Start)
 front-lex [] x lines tokens = refl
 front-lex (t ∷ ts) x lines tokens = lex-spell Start t ts x tokens lines
 
-spell-append : (m : Before) (a b : List Tok) → (c : List ℕ) × (spell m (a ++ b) ≡ spell m a ++ c)
+pub spell-append : (m : Before) (a b : List Tok) → (c : List ℕ) × (spell m (a ++ b) ≡ spell m a ++ c)
 spell-append m [] b = (spell m b, refl)
 spell-append m (t ∷ a) b =
     let r = spell-append (after t) a b in
@@ -311,24 +311,24 @@ ending-eol Start = (10, [], refl, refl)
 ending-eol Open = (10, [], refl, refl)
 ending-eol Later = (10, [], refl, refl)
 
-ending-spell : (m : Before) (t : Tok) (ts : List Tok) → EndsIn t ts → Ending (spell m (t ∷ ts))
+pub ending-spell : (m : Before) (t : Tok) (ts : List Tok) → EndsIn t ts → Ending (spell m (t ∷ ts))
 ending-spell m t [] h = subst (λ (u : Tok). Ending (spell m (u ∷ []))) (sym h) (ending-eol m)
 ending-spell m t (u ∷ us) h = ending-append (gap m t ++ bytes_of t) (spell (after t) (u ∷ us)) (ending-spell (after t) u us h)
 
 are-lines : (v : List ℕ) → Ending v → AreLines v
 are-lines v h = subst AreLines (sym h.2) h.3
 
-spell-lines : (front : List Tok) → IsLines front → AreLines (spell Start front)
+pub spell-lines : (front : List Tok) → IsLines front → AreLines (spell Start front)
 spell-lines [] h = tt
 spell-lines (t ∷ ts) h = are-lines (spell Start (t ∷ ts)) (ending-spell Start t ts h)
 
-lines-zeroth : (w p y : List ℕ) → p ≡ w ++ y → AreLines w → first_lines (newlines w) p ≡ Some w
+pub lines-zeroth : (w p y : List ℕ) → p ≡ w ++ y → AreLines w → first_lines (newlines w) p ≡ Some w
 unfolding first_lines
 lines-zeroth w p y e h =
     let n : newlines w ≡ newlines w + 0 = omega arith in
     ap (λ (j : ℕ). first_lines j p) n ∙ ap (first_lines (newlines w + 0)) e ∙ lines-first w y 0 h ∙ ap (λ (v : List ℕ). Some v) (append-nil w)
 
-lines-next : (w p y : List ℕ) → p ≡ w ++ y → AreLines w → first_lines (suc (newlines w)) p ≡ option_map (λ (f : List ℕ). w ++ f) (first_lines 1 y)
+pub lines-next : (w p y : List ℕ) → p ≡ w ++ y → AreLines w → first_lines (suc (newlines w)) p ≡ option_map (λ (f : List ℕ). w ++ f) (first_lines 1 y)
 lines-next w p y e h =
     let n : suc (newlines w) ≡ newlines w + 1 = omega arith in
     ap (λ (j : ℕ). first_lines j p) n ∙ ap (first_lines (newlines w + 1)) e ∙ lines-first w y 1 h

@@ -2,6 +2,7 @@ pub mod HexDigits
 pub mod Numbers
 pub mod HexPairs
 pub mod Puts
+pub mod Printed
 pub mod Atoms
 pub mod Lines
 pub mod OneSpelling
@@ -12,3 +13,10 @@ pub mod Star
 pub mod Inline
 pub mod Covers
 pub mod FaultLine
+pub mod Repeated
+pub mod Fuel
+pub mod Tail
+pub mod Closed
+pub mod Turns
+pub mod FaultOnce
+pub mod Unended

@@ -2,7 +2,7 @@
 use Rattle.std.proofs.Common.{◌≡◌, ℕ, zero, suc, ◌+◌, ◌-◌, ◌<◌, ◌≤◌, Bool, true, false, cond, eqb, List, [], ◌∷◌, ◌++◌, length, get_or, take, drop, Option, Some, None, refl, sym, ap, subst, ◌∙◌, arith, append_assoc}
 use Rattle.std.proofs.lemmas.List.{append-nil, take_all}
 use Rattle.std.specs.Prelude.{IfSome}
-use Rattle.mc_text.specs.Tokens.{Tok, Left, Right, Semi, Atom, Eol, Done, Stuck, is_atom_byte, gap, bytes_of, after, token_text, spell, IsAtomText, IsToken, tok, eol, HasNoAtomByte, MayStand, Stands, Place, Passes}
+use Rattle.mc_text.specs.Tokens.{Tok, Left, Right, Semi, Atom, Eol, Done, Stuck, is_atom_byte, gap, bytes_of, after, token_text, spell, IsAtom, IsAtomText, IsToken, tok, eol, HasNoAtomByte, MayStand, Stands, Place, Passes}
 use Rattle.mc_text.specs.declared.token.Token.{Token}
 use Rattle.mc_text.specs.declared.token.Token.TheVariants as token
 use Rattle.mc_text.specs.declared.token.Before.{Before}
@@ -425,3 +425,40 @@ cut-end [] zero h = tt
 cut-end [] (suc n) h = tt
 cut-end (b ∷ bs) zero h = h (omega arith)
 cut-end (b ∷ bs) (suc n) h = cut-end bs n (λ lt. h (omega arith))
+
+-- ---- the atom that is read at a line's beginning stands there
+
+atom-run : (a x : List ℕ) → IsAtomText a → lex (a ++ x) Within ≡ Atom (a ++ (run-of x).atom) ∷ lex (run-of x).rest (At Later)
+atom-run [] x h = (run-of x).reads
+atom-run (b ∷ a) x h = lex-cons b (a ++ x) Within Letter (sym (class-letter b h.0)) ∙ ap (prepend b) (atom-run a x h.1)
+
+no-more : (x : List ℕ) → (run-of x).atom ≡ [] → HasNoAtomByte x
+unfolding run-of run-of2
+no-more [] e = tt
+no-more (b ∷ bs) e = of (is_atom_byte b) refl e
+  where
+    of : (p : Bool) (q : is_atom_byte b ≡ p) → (run-of2 b bs p q (run-of bs)).atom ≡ [] → is_atom_byte b ≡ false
+    of true q e = absurd cc
+    of false q e = q
+
+none-behind : (a r : List ℕ) → a ++ r ≡ a → r ≡ []
+none-behind [] r e = e
+none-behind (b ∷ a) r e = none-behind a r (cc)
+
+first-atom : (a b : List ℕ) (us vs : List Tok) → Atom a ∷ us ≡ Atom b ∷ vs → a ≡ b
+first-atom a b us vs e = cc
+
+whole-atom : (a x : List ℕ) (us : List Tok) → IsAtom a → lex (a ++ x) (At Start) ≡ Atom a ∷ us → HasNoAtomByte x
+whole-atom [] x us h e = absurd h
+whole-atom (b ∷ a) x us h e =
+    let here : lex ((b ∷ a) ++ x) (At Start) ≡ Atom (b ∷ (a ++ (run-of x).atom)) ∷ lex (run-of x).rest (At Later) = lex-cons b (a ++ x) (At Start) Letter (sym (class-letter b h.0)) ∙ ap (prepend b) (atom-run a x h.1) in
+    no-more x (none-behind (b ∷ a) (run-of x).atom (first-atom _ _ _ _ (sym here ∙ e)))
+
+pub atom-stands : (bytes a : List ℕ) (us : List Tok) → lex bytes (At Start) ≡ Atom a ∷ us → (rest : List ℕ) × Stands Start bytes (Atom a) rest
+atom-stands bytes a us e =
+    let f = follows Start bytes (Atom a) us tt e in
+    (f.rest, record { spelled = f.is; may = (f.fits, whole-atom a f.rest us f.fits (ap (λ (v : List ℕ). lex v (At Start)) (sym f.is) ∙ e)) })
+
+pub newline-is : (b : ℕ) → class_of b ≡ Newline → b ≡ 10
+unfolding chain
+newline-is b e = byte-newline (is_atom_byte b) b e

@@ -8,10 +8,19 @@ use Rattle.mc_text.specs.Reading.{Reader, ◌>>=◌, pair, made, many, star, wit
 abbrev pub Shrinks : {X : Type 0} → Reader X → Type 0
 Shrinks {X} r = (ts : List Tok) (x : X) (rest : List Tok) → r ts ≡ Ok (x, rest) → length rest < length ts
 
-module _ {X : Type 0} (go : Tok → Bool) (r : Reader X) (small : Shrinks r) where
-  abbrev Out : Type 0 → Type 0
-  Out Y = Result (Y × List Tok) (List Tok)
+abbrev Out : Type 0 → Type 0
+Out Y = Result (Y × List Tok) (List Tok)
 
+-- what was read before is in front of what is read now
+pub again-front : {X : Type 0} (front : List X) (x : X) (q : Out (List X)) → with_front front (◌>>=◌ {A = List X × List Tok} {B = List X × List Tok} q (λ xs. Ok (x ∷ xs.0, xs.1))) ≡ with_front (front ++ x ∷ []) q
+again-front {X} front x (Ok xs) = ap (λ (ys : List X). Ok (ys, xs.1)) (sym (append_assoc front (x ∷ []) xs.0))
+again-front front x (Err bad) = refl
+
+pub item-is : {X : Type 0} (x : X) (q : Out (List X)) → ◌>>=◌ {A = (X × List X) × List Tok} {B = List X × List Tok} (◌>>=◌ {A = List X × List Tok} {B = (X × List X) × List Tok} q (λ xs. Ok ((x, xs.0), xs.1))) (λ p. Ok (p.0.0 ∷ p.0.1, p.1)) ≡ ◌>>=◌ {A = List X × List Tok} {B = List X × List Tok} q (λ xs. Ok (x ∷ xs.0, xs.1))
+item-is x (Ok xs) = refl
+item-is x (Err bad) = refl
+
+module _ {X : Type 0} (go : Tok → Bool) (r : Reader X) (small : Shrinks r) where
   -- an item, and the others as f reads them
   abbrev item : Reader (List X) → Out X → Out (List X)
   item f q = ◌>>=◌ {A = (X × List X) × List Tok} {B = List X × List Tok} (◌>>=◌ {A = X × List Tok} {B = (X × List X) × List Tok} q (λ p. ◌>>=◌ {A = List X × List Tok} {B = (X × List X) × List Tok} (f p.1) (λ xs. Ok ((p.0, xs.0), xs.1)))) (λ p. Ok (p.0.0 ∷ p.0.1, p.1))
@@ -39,19 +48,11 @@ module _ {X : Type 0} (go : Tok → Bool) (r : Reader X) (small : Shrinks r) whe
   unfolding many
   star-end t ts e = rw e refl
 
-  again-front : (front : List X) (x : X) (q : Out (List X)) → with_front front (◌>>=◌ {A = List X × List Tok} {B = List X × List Tok} q (λ xs. Ok (x ∷ xs.0, xs.1))) ≡ with_front (front ++ x ∷ []) q
-  again-front front x (Ok xs) = ap (λ (ys : List X). Ok (ys, xs.1)) (sym (append_assoc front (x ∷ []) xs.0))
-  again-front front x (Err bad) = refl
-
-  item-is : (x : X) (rest : List Tok) (q : Out (List X)) → ◌>>=◌ {A = (X × List X) × List Tok} {B = List X × List Tok} (◌>>=◌ {A = List X × List Tok} {B = (X × List X) × List Tok} q (λ xs. Ok ((x, xs.0), xs.1))) (λ p. Ok (p.0.0 ∷ p.0.1, p.1)) ≡ ◌>>=◌ {A = List X × List Tok} {B = List X × List Tok} q (λ xs. Ok (x ∷ xs.0, xs.1))
-  item-is x rest (Ok xs) = refl
-  item-is x rest (Err bad) = refl
-
   -- the item at the front, and the others
   pub star-more : (front : List X) (ts : List Tok) (x : X) (rest : List Tok) (total : Out (List X)) → goes_on go ts ≡ true → r ts ≡ Ok (x, rest) → with_front front (star go r ts) ≡ total → with_front (front ++ x ∷ []) (star go r rest) ≡ total
   star-more front [] x rest total g e h = absurd cc
   star-more front (t ∷ ts) x rest total g e h =
-      let one : star go r (t ∷ ts) ≡ ◌>>=◌ {A = List X × List Tok} {B = List X × List Tok} (star go r rest) (λ xs. Ok (x ∷ xs.0, xs.1)) = star-item t ts g ∙ rw e (item-is x rest (star go r rest)) in
+      let one : star go r (t ∷ ts) ≡ ◌>>=◌ {A = List X × List Tok} {B = List X × List Tok} (star go r rest) (λ xs. Ok (x ∷ xs.0, xs.1)) = star-item t ts g ∙ rw e (item-is x (star go r rest)) in
       sym (again-front front x (star go r rest)) ∙ sym (ap (with_front front) one) ∙ h
 
   pub star-fails : (front : List X) (ts bad : List Tok) (total : Out (List X)) → goes_on go ts ≡ true → r ts ≡ Err bad → with_front front (star go r ts) ≡ total → total ≡ Err bad

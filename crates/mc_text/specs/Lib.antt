@@ -1,5 +1,6 @@
 pub mod Number
 pub mod Tokens
 pub mod Scanning
+pub mod Printing
 pub mod Fault
 pub mod Reading

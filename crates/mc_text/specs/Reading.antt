@@ -78,6 +78,11 @@ many (suc n) go r (t ∷ ts) = if go t then made (λ x. x.0 ∷ x.1) (pair r (ma
 abbrev pub star : {X : Type 0} → (Tok → Bool) → Reader X → Reader (List X)
 star go r ts = many (length ts) go r ts
 
+-- just so many
+unfoldable pub times : {X : Type 0} → ℕ → Reader X → Reader (List X)
+times zero r ts = Ok ([], ts)
+times (suc n) r ts = made (λ x. x.0 ∷ x.1) (pair r (times n r)) ts
+
 abbrev pub eol : Reader (Unit {0})
 eol = one is_eol
 
@@ -100,6 +105,10 @@ choice go a b ts = if goes_on go ts then a ts else b ts
 -- what was read, if it passes the test
 abbrev pub checked : {X : Type 0} → (X → Bool) → Reader X → Reader X
 checked {X} test r ts = ◌>>=◌ {A = X × List Tok} {B = X × List Tok} (r ts) (λ p. if test p.0 then Ok (p.0, p.1) else Err p.1)
+
+-- what was read, if no such token follows it
+abbrev pub unless : {X : Type 0} → (Tok → Bool) → Reader X → Reader X
+unless {X} go r ts = ◌>>=◌ {A = X × List Tok} {B = X × List Tok} (r ts) (λ p. if goes_on go p.1 then Err p.1 else Ok (p.0, p.1))
 
 -- what was read before, in front
 abbrev pub with_front : {X : Type 0} → List X → Result (List X × List Tok) (List Tok) → Result (List X × List Tok) (List Tok)

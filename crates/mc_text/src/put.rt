@@ -90,8 +90,8 @@ pub fn put_bytes(out: &mut Bytes, bytes: &[u8]) -> Result<(), NoMemory>
     Ok(())
 }
 
-/// The two digits of a byte.
-fn digit_pair(byte: u8) -> [u8; 2]
+/// The two lower-case hexadecimal digits of a byte.
+pub fn digit_pair(byte: u8) -> [u8; 2]
     ensures { result ≡ encode_lower (byte ∷ []) }
 {
     let mut pair = [0; 2];

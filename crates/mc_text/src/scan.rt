@@ -1,7 +1,8 @@
 //! The tokens of a text, one by one.
 
 ghost use Rattle.std.specs.Prelude.{◌≡◌, ◌∷◌, ◌≤◌, ◌<◌, ℕ, List, length, slice_index, IfOk, IfErr, OnErr, IfSome, ◌++◌, [], true, false, IsTrue, ◌↔◌};
-ghost use Rattle.mc_text.specs.Tokens.{is_atom_byte, Tok, Atom, after, Stuck, Done, tok, bytes_of, eol, HasNoAtomByte, Place, Passes, Stands};
+ghost use Rattle.std.specs.List.{AllPass};
+ghost use Rattle.mc_text.specs.Tokens.{is_atom_byte, IsAtom, Tok, Atom, after, Stuck, Done, tok, bytes_of, eol, HasNoAtomByte, Place, Passes, Stands};
 ghost use Rattle.mc_text.specs.Scanning.{lex, At, Within, or_stuck, loose, tight, class_of, state_of, Found, IsWhole, IsSettled, IsInside, space_text, tokens_at, Scanned};
 ghost use Rattle.mc_text.specs.declared.token.Before.TheVariants.{Start, Later};
 
@@ -60,6 +61,24 @@ impl<'a> Scan<'a> {
                 Ok(token)
             }
         }
+    }
+
+    /// Another scanner at the same place.
+    pub fn fork(&self) -> Scan<'a>
+        ensures { result ≡ self.now }
+    {
+        Scan {
+            rest: self.rest,
+            before: self.before,
+            line: self.line,
+        }
+    }
+
+    /// The bytes behind the place.
+    pub fn rest(&self) -> &'a [u8]
+        ensures { result.now ≡ self.now.rest }
+    {
+        self.rest
     }
 
     /// The line of the place, from 1.
@@ -177,7 +196,21 @@ fn atom_len(bytes: &[u8]) -> usize
     bytes.len()
 }
 
-fn is_atom_byte(byte: u8) -> bool
+/// Whether the bytes are those of an atom.
+pub fn is_atom(bytes: &[u8]) -> bool
+    ensures { IsTrue result ↔ IsAtom bytes.now }
+{
+    !bytes.is_empty() && are_atom_bytes(bytes)
+}
+
+fn are_atom_bytes(bytes: &[u8]) -> bool
+    ensures { IsTrue result ↔ AllPass is_atom_byte bytes.now }
+{
+    bytes.iter().all(|byte| is_atom_byte(*byte))
+}
+
+/// Whether an atom may have this byte.
+pub fn is_atom_byte(byte: u8) -> bool
     ensures { result ≡ is_atom_byte byte }
 {
     33 <= byte && byte <= 126 && byte != b'(' && byte != b')' && byte != b';'

@@ -156,3 +156,11 @@ fn numbers_stand_at_the_front(rt: HostRuntime) {
     assert!(rt; dec_into(u64::MAX, &mut decimal) == 20 && decimal.ends_with(b"615"));
     assert!(rt; hex_into(u64::MAX, &mut hexadecimal) == 18 && hexadecimal.ends_with(b"fff"));
 }
+
+#[test]
+fn a_fork_goes_on_by_itself(rt: HostRuntime) {
+    let mut scan = Scan::new(b"a b\n");
+    let mut fork = scan.fork();
+    assert!(rt; fork.next() == Ok(Token::Atom(b"a")) && fork.rest() == b" b\n".as_slice());
+    assert!(rt; scan.rest() == b"a b\n".as_slice() && scan.next() == Ok(Token::Atom(b"a")));
+}
