@@ -1,0 +1,195 @@
+-- The tokens of terms: none ends a line, each is a token of a text, and the first shows what follows.
+use Rattle.std.proofs.Common.{◌≡◌, ℕ, ◌^◌, ◌<◌, Bool, true, false, List, [], ◌∷◌, ◌++◌, length, codes, refl, arith}
+use Rattle.std.specs.Prelude.{◌&&◌}
+use Rattle.std.specs.Fmt.{decimal}
+use Rattle.mc_text.specs.Number.{AreBytes}
+use Rattle.mc_text.specs.Tokens.{Tok, Left, Right, Atom, is_atom_byte, IsAtomText, IsAtom}
+use Rattle.mc_text.specs.Reading.{goes_on}
+use Rattle.mc_text.proofs.Lines.{AreTokens}
+use Rattle.mc_text.proofs.Laws.{IsFlat, flat-append}
+use Rattle.mc_text.proofs.Shown.{decimal-atom, hex-atom, bytes-atom, tokens-append}
+use Rattle.rv_words.specs.declared.operation.Op.{Op}
+use Rattle.rv_words.specs.declared.operation.Op.TheVariants.{Add, Sub, Sll, Slt, Sltu, Xor, Srl, Sra, Or, And, Mul, Mulh, Mulhsu, Mulhu, Div, Divu, Rem, Remu, Addw, Subw, Sllw, Srlw, Sraw, Mulw, Divw, Divuw, Remw, Remuw}
+use Rattle.rv_words.specs.declared.extension.Ext.{Ext}
+use Rattle.rv_words.specs.declared.extension.Ext.TheVariants.{Sx1, Sx2, Sx4}
+use Rattle.rv_words.specs.declared.comparison.Cmp.{Cmp}
+use Rattle.rv_words.specs.declared.comparison.Cmp.TheVariants.{Eq, Ne, Lt, Ge, Ltu, Geu}
+use Rattle.rv_words.specs.declared.width.Width.{Width}
+use Rattle.rv_words.specs.declared.width.Width.TheVariants.{B1, B2, B4, B8}
+use Rattle.word_terms.specs.declared.code.Range.{Range}
+use Rattle.word_terms.specs.Tree.{WordTree, Const, Var, Bin, Extend, Load, MemTree, MemVar, Store, CondTree, Compare, Neg, Inside}
+use Rattle.term_text.specs.Limits.{NumbersFit, MemNumbersFit, CondNumbersFit}
+use Rattle.term_text.specs.Spelling.{operation_name, extension_name, comparison_name, load_name, store_name, inside_name, joined, word_tokens, mem_tokens, cond_tokens, range_tokens}
+use Rattle.term_text.specs.Reading.{is_open, begins_word, begins_mem}
+
+-- ---- within a line
+
+joined-flat-1 : (p : List Tok) → IsFlat p → IsFlat (joined (p ∷ []) (Right ∷ []))
+joined-flat-1 p h = flat-append p (Right ∷ []) h (λ e. absurd cc, tt)
+
+joined-flat-2 : (p q : List Tok) → IsFlat p → IsFlat q → IsFlat (joined (p ∷ q ∷ []) (Right ∷ []))
+joined-flat-2 p q h k = flat-append p (q ++ Right ∷ []) h (joined-flat-1 q k)
+
+opened-flat : (name : List ℕ) (rest : List Tok) → IsFlat rest → IsFlat (Left ∷ Atom name ∷ rest)
+opened-flat name rest h = (λ e. absurd cc, (λ e. absurd cc, h))
+
+mutual
+  pub word-flat : (t : WordTree) → IsFlat (word_tokens t)
+  word-flat (Const n) = (λ e. absurd cc, tt)
+  word-flat (Var i) = (λ e. absurd cc, tt)
+  word-flat (Bin op a b) = opened-flat (operation_name op) (word_tokens a ++ (word_tokens b ++ Right ∷ [])) (joined-flat-2 (word_tokens a) (word_tokens b) (word-flat a) (word-flat b))
+  word-flat (Extend ext a) = opened-flat (extension_name ext) (word_tokens a ++ Right ∷ []) (joined-flat-1 (word_tokens a) (word-flat a))
+  word-flat (Load width m a) = opened-flat (load_name width) (mem_tokens m ++ (word_tokens a ++ Right ∷ [])) (joined-flat-2 (mem_tokens m) (word_tokens a) (mem-flat m) (word-flat a))
+
+  pub mem-flat : (m : MemTree) → IsFlat (mem_tokens m)
+  mem-flat (MemVar i) = (λ e. absurd cc, tt)
+  mem-flat (Store width m a v) = opened-flat (store_name width) (mem_tokens m ++ (word_tokens a ++ (word_tokens v ++ Right ∷ []))) (flat-append (mem_tokens m) (word_tokens a ++ (word_tokens v ++ Right ∷ [])) (mem-flat m) (joined-flat-2 (word_tokens a) (word_tokens v) (word-flat a) (word-flat v)))
+
+pub cond-flat : (c : CondTree) → IsFlat (cond_tokens c)
+cond-flat (Compare cmp a b) = opened-flat (comparison_name cmp) (word_tokens a ++ (word_tokens b ++ Right ∷ [])) (joined-flat-2 (word_tokens a) (word_tokens b) (word-flat a) (word-flat b))
+cond-flat (Neg c) = opened-flat (codes "not") (cond_tokens c ++ Right ∷ []) (joined-flat-1 (cond_tokens c) (cond-flat c))
+cond-flat (Inside width m a) = opened-flat (inside_name width) (mem_tokens m ++ (word_tokens a ++ Right ∷ [])) (joined-flat-2 (mem_tokens m) (word_tokens a) (mem-flat m) (word-flat a))
+
+pub range-flat : (r : Range) → IsFlat (range_tokens r)
+range-flat r = (λ e. absurd cc, (λ e. absurd cc, (λ e. absurd cc, (λ e. absurd cc, tt))))
+
+-- ---- the first token
+
+pub word-begins : (t : WordTree) (us : List Tok) → goes_on begins_word (word_tokens t ++ us) ≡ true
+word-begins (Const n) us = refl
+word-begins (Var i) us = refl
+word-begins (Bin op a b) us = refl
+word-begins (Extend ext a) us = refl
+word-begins (Load width m a) us = refl
+
+pub mem-begins : (m : MemTree) (us : List Tok) → goes_on begins_mem (mem_tokens m ++ us) ≡ true
+mem-begins (MemVar i) us = refl
+mem-begins (Store width m a v) us = refl
+
+pub range-begins : (r : Range) (us : List Tok) → goes_on is_open (range_tokens r ++ us) ≡ true
+range-begins r us = refl
+
+pub some-word : (t : WordTree) → 0 < length (word_tokens t)
+some-word (Const n) = omega arith
+some-word (Var i) = omega arith
+some-word (Bin op a b) = omega arith
+some-word (Extend ext a) = omega arith
+some-word (Load width m a) = omega arith
+
+pub some-mem : (m : MemTree) → 0 < length (mem_tokens m)
+some-mem (MemVar i) = omega arith
+some-mem (Store width m a v) = omega arith
+
+pub some-cond : (c : CondTree) → 0 < length (cond_tokens c)
+some-cond (Compare cmp a b) = omega arith
+some-cond (Neg c) = omega arith
+some-cond (Inside width m a) = omega arith
+
+-- ---- tokens of a text
+
+abbrev is_atom_text : List ℕ → Bool
+is_atom_text [] = true
+is_atom_text (b ∷ bs) = is_atom_byte b && is_atom_text bs
+
+and-both : (a b : Bool) → a && b ≡ true → (a ≡ true) × (b ≡ true)
+and-both true true e = (refl, refl)
+and-both true false e = absurd cc
+and-both false b e = absurd cc
+
+atom-text : (a : List ℕ) → is_atom_text a ≡ true → IsAtomText a
+atom-text [] e = tt
+atom-text (b ∷ bs) e = let h = and-both (is_atom_byte b) (is_atom_text bs) e in (h.0, atom-text bs h.1)
+
+letter-atom : (b : ℕ) (a : List ℕ) → is_atom_byte b ≡ true → IsAtom a → IsAtom (b ∷ a)
+letter-atom b [] e h = absurd h
+letter-atom b (c ∷ a) e h = (e, h)
+
+operation-atom : (op : Op) → IsAtom (operation_name op)
+operation-atom Add = atom-text (codes "add") refl
+operation-atom Sub = atom-text (codes "sub") refl
+operation-atom Sll = atom-text (codes "sll") refl
+operation-atom Slt = atom-text (codes "slt") refl
+operation-atom Sltu = atom-text (codes "sltu") refl
+operation-atom Xor = atom-text (codes "xor") refl
+operation-atom Srl = atom-text (codes "srl") refl
+operation-atom Sra = atom-text (codes "sra") refl
+operation-atom Or = atom-text (codes "or") refl
+operation-atom And = atom-text (codes "and") refl
+operation-atom Mul = atom-text (codes "mul") refl
+operation-atom Mulh = atom-text (codes "mulh") refl
+operation-atom Mulhsu = atom-text (codes "mulhsu") refl
+operation-atom Mulhu = atom-text (codes "mulhu") refl
+operation-atom Div = atom-text (codes "div") refl
+operation-atom Divu = atom-text (codes "divu") refl
+operation-atom Rem = atom-text (codes "rem") refl
+operation-atom Remu = atom-text (codes "remu") refl
+operation-atom Addw = atom-text (codes "addw") refl
+operation-atom Subw = atom-text (codes "subw") refl
+operation-atom Sllw = atom-text (codes "sllw") refl
+operation-atom Srlw = atom-text (codes "srlw") refl
+operation-atom Sraw = atom-text (codes "sraw") refl
+operation-atom Mulw = atom-text (codes "mulw") refl
+operation-atom Divw = atom-text (codes "divw") refl
+operation-atom Divuw = atom-text (codes "divuw") refl
+operation-atom Remw = atom-text (codes "remw") refl
+operation-atom Remuw = atom-text (codes "remuw") refl
+
+extension-atom : (ext : Ext) → IsAtom (extension_name ext)
+extension-atom Sx1 = atom-text (codes "sx1") refl
+extension-atom Sx2 = atom-text (codes "sx2") refl
+extension-atom Sx4 = atom-text (codes "sx4") refl
+
+comparison-atom : (cmp : Cmp) → IsAtom (comparison_name cmp)
+comparison-atom Eq = atom-text (codes "eq") refl
+comparison-atom Ne = atom-text (codes "ne") refl
+comparison-atom Lt = atom-text (codes "lt") refl
+comparison-atom Ge = atom-text (codes "ge") refl
+comparison-atom Ltu = atom-text (codes "ltu") refl
+comparison-atom Geu = atom-text (codes "geu") refl
+
+load-atom : (width : Width) → IsAtom (load_name width)
+load-atom B1 = atom-text (codes "ld1") refl
+load-atom B2 = atom-text (codes "ld2") refl
+load-atom B4 = atom-text (codes "ld4") refl
+load-atom B8 = atom-text (codes "ld8") refl
+
+store-atom : (width : Width) → IsAtom (store_name width)
+store-atom B1 = atom-text (codes "st1") refl
+store-atom B2 = atom-text (codes "st2") refl
+store-atom B4 = atom-text (codes "st4") refl
+store-atom B8 = atom-text (codes "st8") refl
+
+inside-atom : (width : Width) → IsAtom (inside_name width)
+inside-atom B1 = atom-text (codes "in1") refl
+inside-atom B2 = atom-text (codes "in2") refl
+inside-atom B4 = atom-text (codes "in4") refl
+inside-atom B8 = atom-text (codes "in8") refl
+
+variable-atom : (letter i : ℕ) → is_atom_byte letter ≡ true → i < 2 ^ 32 → IsAtom (letter ∷ decimal i)
+variable-atom letter i e h = letter-atom letter (decimal i) e (decimal-atom i (omega arith))
+
+joined-tokens-1 : (p : List Tok) → AreTokens p → AreTokens (joined (p ∷ []) (Right ∷ []))
+joined-tokens-1 p h = tokens-append p (Right ∷ []) h (tt, tt)
+
+joined-tokens-2 : (p q : List Tok) → AreTokens p → AreTokens q → AreTokens (joined (p ∷ q ∷ []) (Right ∷ []))
+joined-tokens-2 p q h k = tokens-append p (q ++ Right ∷ []) h (joined-tokens-1 q k)
+
+mutual
+  pub word-tokens : (t : WordTree) → NumbersFit t → AreTokens (word_tokens t)
+  word-tokens (Const n) h = (hex-atom n, tt)
+  word-tokens (Var i) h = (variable-atom 118 i refl h, tt)
+  word-tokens (Bin op a b) h = (tt, (operation-atom op, joined-tokens-2 (word_tokens a) (word_tokens b) (word-tokens a h.0) (word-tokens b h.1)))
+  word-tokens (Extend ext a) h = (tt, (extension-atom ext, joined-tokens-1 (word_tokens a) (word-tokens a h)))
+  word-tokens (Load width m a) h = (tt, (load-atom width, joined-tokens-2 (mem_tokens m) (word_tokens a) (mem-tokens m h.0) (word-tokens a h.1)))
+
+  pub mem-tokens : (m : MemTree) → MemNumbersFit m → AreTokens (mem_tokens m)
+  mem-tokens (MemVar i) h = (variable-atom 109 i refl h, tt)
+  mem-tokens (Store width m a v) h = (tt, (store-atom width, tokens-append (mem_tokens m) (word_tokens a ++ (word_tokens v ++ Right ∷ [])) (mem-tokens m h.0) (joined-tokens-2 (word_tokens a) (word_tokens v) (word-tokens a h.1) (word-tokens v h.2))))
+
+pub cond-tokens : (c : CondTree) → CondNumbersFit c → AreTokens (cond_tokens c)
+cond-tokens (Compare cmp a b) h = (tt, (comparison-atom cmp, joined-tokens-2 (word_tokens a) (word_tokens b) (word-tokens a h.0) (word-tokens b h.1)))
+cond-tokens (Neg c) h = (tt, (atom-text (codes "not") refl, joined-tokens-1 (cond_tokens c) (cond-tokens c h)))
+cond-tokens (Inside width m a) h = (tt, (inside-atom width, joined-tokens-2 (mem_tokens m) (word_tokens a) (mem-tokens m h.0) (word-tokens a h.1)))
+
+pub range-tokens : (r : Range) → AreBytes r.bytes → AreTokens (range_tokens r)
+range-tokens r h = (tt, (hex-atom r.at, (bytes-atom r.bytes h, (tt, tt))))

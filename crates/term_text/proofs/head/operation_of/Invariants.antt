@@ -1,0 +1,11 @@
+use Rattle.std.proofs.Common.{◌≡◌, drop}
+use Rattle.term_text.specs.Spelling.{operation_name}
+use Rattle.term_text.specs.Reading.{named, operations}
+use Rattle.term_text.proofs.head.operation_of.Given as goal
+
+-- the name isn't that of an operation before the place
+abbrev pub invariant-loop-op : goal.invariant-loop-op
+invariant-loop-op l = record {
+  items : l.op-items ≡ operations;
+  told : named operation_name (drop l.op-index operations) l.name ≡ named operation_name operations l.name;
+}

@@ -1,0 +1,265 @@
+//! Reading terms and ranges of bytes.
+
+ghost use Rattle.std.specs.Prelude.{◌≡◌, ◌^◌, option_map};
+ghost use Rattle.mc_text.specs.Reading.{one, atom_of, below};
+ghost use Rattle.word_terms.specs.Tree.{word_tree, mem_tree, cond_tree};
+ghost use Rattle.term_text.specs.Outcome.{Gives, last_line};
+ghost use Rattle.term_text.specs.Reading.{variable_of, word_leaf_of, mem_leaf_of, word_head_of, cond_head_of, store_of, word_parts, mem_parts, cond_parts, word_at, mem_at, cond_at, range_at};
+
+use crate::cursor::{Stop, accept, address, bytes, is_open, left, peek, right};
+use crate::head::{CondHead, WordHead, cond_head_of, store_of, word_head_of};
+use mc_text::{Scan, Token, dec, hexnum};
+use rv_words::Width;
+use std::alloc::Global;
+use word_terms::{Cond, Mem, Range, Word};
+
+/// The number where it has at most 32 bits.
+fn low_half(number: Option<u64>) -> Option<u32>
+    ensures { result ≡ below (2 ^ 32) number }
+{
+    match number {
+        Some(n) if n < 1 << 32 => Some(n as u32),
+        _ => None,
+    }
+}
+
+/// The number of a variable, behind its letter.
+fn variable_of(letter: u8, atom: &[u8]) -> Option<u32>
+    ensures { result ≡ variable_of letter atom.now }
+{
+    match atom {
+        [first, digits @ ..] if *first == letter => low_half(dec(digits)),
+        _ => None,
+    }
+}
+
+/// The variable or constant that an atom spells.
+#[tactic(auto, unfolding(crate::specs::Reading::word_leaf_of))]
+fn word_leaf_of(atom: &[u8]) -> Option<Word>
+    ensures { option_map word_tree result ≡ word_leaf_of atom.now }
+{
+    match variable_of(b'v', atom) {
+        Some(i) => Some(Word::Var(i)),
+        None => match hexnum(atom) {
+            Some(n) => Some(Word::Const(n)),
+            None => None,
+        },
+    }
+}
+
+/// The variable for a memory that an atom spells.
+#[tactic(auto, unfolding(crate::specs::Reading::mem_leaf_of))]
+fn mem_leaf_of(atom: &[u8]) -> Option<Mem>
+    ensures { option_map mem_tree result ≡ mem_leaf_of atom.now }
+{
+    match variable_of(b'm', atom) {
+        Some(i) => Some(Mem::Var(i)),
+        None => None,
+    }
+}
+
+#[tactic(auto, unfolding(mc_text::specs::Reading::one))]
+fn word_leaf<'a>(scan: &mut Scan<'a>) -> Result<Word, Stop>
+    ensures gives { Gives word_tree result scan.old scan.new (one (atom_of word_leaf_of)) }
+    ensures last { last_line scan.new ≡ last_line scan.old }
+{
+    match peek(scan) {
+        Some((Token::Atom(atom), ahead)) => accept(scan, ahead, word_leaf_of(atom)),
+        _ => Err(Stop::Bad),
+    }
+}
+
+#[tactic(auto, unfolding(mc_text::specs::Reading::one))]
+fn mem_leaf<'a>(scan: &mut Scan<'a>) -> Result<Mem, Stop>
+    ensures gives { Gives mem_tree result scan.old scan.new (one (atom_of mem_leaf_of)) }
+    ensures last { last_line scan.new ≡ last_line scan.old }
+{
+    match peek(scan) {
+        Some((Token::Atom(atom), ahead)) => accept(scan, ahead, mem_leaf_of(atom)),
+        _ => Err(Stop::Bad),
+    }
+}
+
+/// The name of a form of a word.
+#[tactic(auto, unfolding(mc_text::specs::Reading::one))]
+fn word_name<'a>(scan: &mut Scan<'a>) -> Result<WordHead, Stop>
+    ensures gives { Gives (λ h. h) result scan.old scan.new (one (atom_of word_head_of)) }
+    ensures last { last_line scan.new ≡ last_line scan.old }
+{
+    match peek(scan) {
+        Some((Token::Atom(name), ahead)) => accept(scan, ahead, word_head_of(name)),
+        _ => Err(Stop::Bad),
+    }
+}
+
+/// The name of a store, for its width.
+#[tactic(auto, unfolding(mc_text::specs::Reading::one))]
+fn store_name<'a>(scan: &mut Scan<'a>) -> Result<Width, Stop>
+    ensures gives { Gives (λ h. h) result scan.old scan.new (one (atom_of store_of)) }
+    ensures last { last_line scan.new ≡ last_line scan.old }
+{
+    match peek(scan) {
+        Some((Token::Atom(name), ahead)) => accept(scan, ahead, store_of(name)),
+        _ => Err(Stop::Bad),
+    }
+}
+
+/// The name of a form of a condition.
+#[tactic(auto, unfolding(mc_text::specs::Reading::one))]
+fn cond_name<'a>(scan: &mut Scan<'a>) -> Result<CondHead, Stop>
+    ensures gives { Gives (λ h. h) result scan.old scan.new (one (atom_of cond_head_of)) }
+    ensures last { last_line scan.new ≡ last_line scan.old }
+{
+    match peek(scan) {
+        Some((Token::Atom(name), ahead)) => accept(scan, ahead, cond_head_of(name)),
+        _ => Err(Stop::Bad),
+    }
+}
+
+/// A word of at most that depth.
+#[cycle(terms)]
+#[tactic(auto, unfolding(crate::specs::Reading::word_at))]
+pub fn read_word<'a>(alloc: Global, scan: &mut Scan<'a>, room: u32) -> Result<Word, Stop>
+    ensures gives { Gives word_tree result scan.old scan.new (word_at room) }
+    ensures last { last_line scan.new ≡ last_line scan.old }
+{
+    if room == 0 {
+        return Err(Stop::Bad);
+    }
+    if is_open(scan) {
+        left(scan)?;
+        let head = word_name(scan)?;
+        word_parts(alloc, scan, room - 1, head)
+    } else {
+        word_leaf(scan)
+    }
+}
+
+/// What stands behind the name of a form.
+#[cycle(terms)]
+fn word_parts<'a>(
+    alloc: Global,
+    scan: &mut Scan<'a>,
+    room: u32,
+    head: WordHead,
+) -> Result<Word, Stop>
+    ensures gives { Gives word_tree result scan.old scan.new (word_parts (word_at room) (mem_at room) head) }
+    ensures last { last_line scan.new ≡ last_line scan.old }
+{
+    match head {
+        WordHead::Bin(op) => {
+            let a = read_word(alloc, scan, room)?;
+            let b = read_word(alloc, scan, room)?;
+            right(scan)?;
+            Ok(Word::Bin(op, Box::new(alloc, a)?, Box::new(alloc, b)?))
+        }
+        WordHead::Extend(ext) => {
+            let a = read_word(alloc, scan, room)?;
+            right(scan)?;
+            Ok(Word::Extend(ext, Box::new(alloc, a)?))
+        }
+        WordHead::Load(width) => {
+            let m = read_mem(alloc, scan, room)?;
+            let a = read_word(alloc, scan, room)?;
+            right(scan)?;
+            Ok(Word::Load(width, Box::new(alloc, m)?, Box::new(alloc, a)?))
+        }
+    }
+}
+
+/// A memory of at most that depth.
+#[cycle(terms)]
+#[tactic(auto, unfolding(crate::specs::Reading::mem_at))]
+pub fn read_mem<'a>(alloc: Global, scan: &mut Scan<'a>, room: u32) -> Result<Mem, Stop>
+    ensures gives { Gives mem_tree result scan.old scan.new (mem_at room) }
+    ensures last { last_line scan.new ≡ last_line scan.old }
+{
+    if room == 0 {
+        return Err(Stop::Bad);
+    }
+    if is_open(scan) {
+        left(scan)?;
+        let width = store_name(scan)?;
+        mem_parts(alloc, scan, room - 1, width)
+    } else {
+        mem_leaf(scan)
+    }
+}
+
+/// What stands behind the name of a store.
+#[cycle(terms)]
+fn mem_parts<'a>(alloc: Global, scan: &mut Scan<'a>, room: u32, width: Width) -> Result<Mem, Stop>
+    ensures gives { Gives mem_tree result scan.old scan.new (mem_parts (word_at room) (mem_at room) width) }
+    ensures last { last_line scan.new ≡ last_line scan.old }
+{
+    let m = read_mem(alloc, scan, room)?;
+    let a = read_word(alloc, scan, room)?;
+    let v = read_word(alloc, scan, room)?;
+    right(scan)?;
+    Ok(Mem::Store(
+        width,
+        Box::new(alloc, m)?,
+        Box::new(alloc, a)?,
+        Box::new(alloc, v)?,
+    ))
+}
+
+/// A range of bytes.
+#[tactic(auto, unfolding(crate::specs::Reading::range_at))]
+pub fn read_range<'a>(alloc: Global, scan: &mut Scan<'a>) -> Result<Range, Stop>
+    ensures gives { Gives (λ r. r) result scan.old scan.new range_at }
+    ensures last { last_line scan.new ≡ last_line scan.old }
+{
+    left(scan)?;
+    let at = address(scan)?;
+    let bytes = bytes(alloc, scan)?;
+    right(scan)?;
+    Ok(Range { at, bytes })
+}
+
+/// A condition of at most that depth.
+#[cycle(conds)]
+#[tactic(auto, unfolding(crate::specs::Reading::cond_at))]
+pub fn read_cond<'a>(alloc: Global, scan: &mut Scan<'a>, room: u32) -> Result<Cond, Stop>
+    ensures gives { Gives cond_tree result scan.old scan.new (cond_at room) }
+    ensures last { last_line scan.new ≡ last_line scan.old }
+{
+    if room == 0 {
+        return Err(Stop::Bad);
+    }
+    left(scan)?;
+    let head = cond_name(scan)?;
+    cond_parts(alloc, scan, room - 1, head)
+}
+
+/// What stands behind the name of a form of a condition.
+#[cycle(conds)]
+fn cond_parts<'a>(
+    alloc: Global,
+    scan: &mut Scan<'a>,
+    room: u32,
+    head: CondHead,
+) -> Result<Cond, Stop>
+    ensures gives { Gives cond_tree result scan.old scan.new (cond_parts (word_at room) (mem_at room) (cond_at room) head) }
+    ensures last { last_line scan.new ≡ last_line scan.old }
+{
+    match head {
+        CondHead::Compare(cmp) => {
+            let a = read_word(alloc, scan, room)?;
+            let b = read_word(alloc, scan, room)?;
+            right(scan)?;
+            Ok(Cond::Compare(cmp, Box::new(alloc, a)?, Box::new(alloc, b)?))
+        }
+        CondHead::Neg => {
+            let c = read_cond(alloc, scan, room)?;
+            right(scan)?;
+            Ok(Cond::Neg(Box::new(alloc, c)?))
+        }
+        CondHead::Inside(width) => {
+            let m = read_mem(alloc, scan, room)?;
+            let a = read_word(alloc, scan, room)?;
+            right(scan)?;
+            Ok(Cond::Inside(width, Box::new(alloc, m)?, Box::new(alloc, a)?))
+        }
+    }
+}
