@@ -48,7 +48,7 @@ impl Args {
 
     /// Moves the others to the end.
     #[tactic(auto, using(crate::proofs::Environments::variables_arguments))]
-    pub fn append(&mut self, others: Args) -> Result<(), NoMemory>
+    pub(crate) fn append(&mut self, others: Args) -> Result<(), NoMemory>
         ensures after { OnOk result (variables_of self.new ≡ with_arguments (variables_of self.old) (arguments others)) }
         ensures words { OnOk result (length self.new.words ≡ length self.old.words + length others.words) }
         ensures mems { OnOk result (length self.new.mems ≡ length self.old.mems + length others.mems) }

@@ -4,7 +4,6 @@
 use super::*;
 use rv_words::{ByteMap, Cmp, List, NoMemory, Op, Width};
 use std::alloc::Global;
-use std::process::Abort;
 use std::test::Fail;
 use word_terms::{Cond, Mem, Word};
 
@@ -117,15 +116,25 @@ fn group(alloc: Global, callee: u32) -> Result<Group, NoMemory> {
     })
 }
 
-/// How the definition ends on the two words and eight zeros from 0x1000 on.
+/// How an evaluation is to end.
+#[derive(Clone, Copy, Debug)]
+enum Ending {
+    /// By exit 0, with this program counter, the sum as the first word and at 0x1000, 0 as the second word, and with
+    /// turns left.
+    Done { pc: u64, sum: u64, left: u64 },
+    /// At the Need of that number in the second definition.
+    SideFalse(u64),
+    Turns,
+}
+
+/// How the definition ends on the two words and eight zeros from 0x1000 on, if it can be evaluated.
 fn run(
-    rt: &impl Abort,
     alloc: Global,
     g: &Group,
     def: u32,
     words: &[u64],
     turns: u64,
-) -> Result<Outcome, NoMemory> {
+) -> Result<Option<Outcome>, NoMemory> {
     let mut memory = ByteMap::new(alloc);
     memory.place_zeros(0x1000, 8)?;
     let mut mems = List::new(alloc);
@@ -134,60 +143,113 @@ fn run(
         words: List::from_slice(alloc, words)?,
         mems,
     };
-    assert!(rt; g.defs.len() < 1 << 32);
-    assert!(rt; well_formed(g).is_ok());
-    assert!(rt; has_few_needs(g));
-    assert!(rt; (def as usize) < g.defs.len());
-    assert!(rt; args.words.len() == g.regs.len());
-    assert!(rt; args.mems.len() == g.mems as usize);
-    eval(alloc, g, def, &args, turns)
+    if g.defs.len() < 1 << 32
+        && well_formed(g).is_ok()
+        && has_few_needs(g)
+        && (def as usize) < g.defs.len()
+        && args.words.len() == g.regs.len()
+        && args.mems.len() == g.mems as usize
+    {
+        return Ok(Some(eval(alloc, g, def, &args, turns)?));
+    }
+    Ok(None)
 }
 
-/// That the outcome is a Done with these words, and this number at 0x1000.
-fn check_done(rt: &impl Abort, outcome: Outcome, pc: u64, words: &[u64], stored: u64, left: u64) {
+/// Whether there are these two words, and one memory with this number at 0x1000.
+fn holds(args: &Args, words: &[u64], stored: u64) -> bool {
+    match args.mems.as_slice() {
+        [m] => args.words.as_slice() == words && m.load(0x1000, Width::B8) == stored,
+        _ => false,
+    }
+}
+
+/// Whether the definition ends in that way on 5 and this count.
+fn ends_so(
+    alloc: Global,
+    g: &Group,
+    def: u32,
+    count: u64,
+    turns: u64,
+    ending: Ending,
+) -> Result<bool, NoMemory> {
+    let Some(outcome) = run(alloc, g, def, &[5, count], turns)? else {
+        return Ok(false);
+    };
+    Ok(is_so(&outcome, ending))
+}
+
+/// Whether the outcome is so.
+fn is_so(outcome: &Outcome, ending: Ending) -> bool {
+    match ending {
+        Ending::Done { pc, sum, left } => is_done(outcome, pc, sum, left),
+        Ending::SideFalse(number) => is_false(outcome, number),
+        Ending::Turns => matches!(outcome, Outcome::Turns),
+    }
+}
+
+fn is_done(outcome: &Outcome, pc: u64, sum: u64, left: u64) -> bool {
     match outcome {
         Outcome::Done {
             exit,
             pc: to,
             args,
             left: more,
-        } => {
-            assert_eq!(rt; (exit, to, more), (0, pc, left));
-            assert_eq!(rt; args.words.as_slice(), words);
-            for m in args.mems.as_slice() {
-                assert_eq!(rt; m.load(0x1000, Width::B8), stored);
-            }
-        }
-        _ => panic!(rt; "not done"),
+        } => *exit == 0 && *to == pc && *more == left && holds(args, &[sum, 0], sum),
+        _ => false,
     }
 }
 
-/// That the second definition ends at a Need that is false, of that number.
-fn check_false(rt: &impl Abort, outcome: Outcome, number: u64) {
+fn is_false(outcome: &Outcome, number: u64) -> bool {
     match outcome {
-        Outcome::SideFalse { def, ordinal } => assert_eq!(rt; (def, ordinal), (1, number)),
-        _ => panic!(rt; "no false need"),
+        Outcome::SideFalse { def, ordinal } => *def == 1 && *ordinal == number,
+        _ => false,
     }
 }
+
+/// Definitions, counts, turns, and how they end.
+static RUNS: [(u32, u64, u64, Ending); 7] = [
+    (
+        0,
+        3,
+        4,
+        Ending::Done {
+            pc: 0x10004,
+            sum: 11,
+            left: 0,
+        },
+    ),
+    (
+        0,
+        1_000_000,
+        1_000_003,
+        Ending::Done {
+            pc: 0x10004,
+            sum: 500_000_500_005,
+            left: 2,
+        },
+    ),
+    (
+        1,
+        3,
+        7,
+        Ending::Done {
+            pc: 5,
+            sum: 11,
+            left: 2,
+        },
+    ),
+    (0, 3, 3, Ending::Turns),
+    (1, 3, 4, Ending::Turns),
+    (1, 8, 9, Ending::SideFalse(0)),
+    (1, 7, 9, Ending::SideFalse(1)),
+];
 
 #[test]
 fn a_loop_and_a_call(rt: HostRuntime) -> Result<(), Fail> {
     let alloc = rt.alloc();
     let g = group(alloc, 0)?;
-    for (def, count, turns, pc, sum, left) in [
-        (0, 3, 4, 0x10004, 11, 0),
-        (0, 1_000_000, 1_000_003, 0x10004, 500_000_500_005, 2),
-        (1, 3, 7, 5, 11, 2),
-    ] {
-        let outcome = run(&rt, alloc, &g, def, &[5, count], turns)?;
-        check_done(&rt, outcome, pc, &[sum, 0], sum, left);
-    }
-    for (def, turns) in [(0, 3), (1, 4)] {
-        let outcome = run(&rt, alloc, &g, def, &[5, 3], turns)?;
-        assert!(rt; matches!(outcome, Outcome::Turns));
-    }
-    for (count, number) in [(8, 0), (7, 1)] {
-        check_false(&rt, run(&rt, alloc, &g, 1, &[5, count], 9)?, number);
+    for &(def, count, turns, ending) in &RUNS {
+        assert!(rt; ends_so(alloc, &g, def, count, turns, ending)?);
     }
     Ok(())
 }
@@ -205,32 +267,38 @@ fn nested(alloc: Global, depth: u32) -> Result<Group, NoMemory> {
 fn calls_nested_4096_deep(rt: HostRuntime) -> Result<(), Fail> {
     let alloc = rt.alloc();
     let g = nested(alloc, 4096)?;
-    check_done(
-        &rt,
-        run(&rt, alloc, &g, 4096, &[5, 3], 4100)?,
-        5,
-        &[11, 0],
-        11,
-        0,
-    );
+    let ending = Ending::Done {
+        pc: 5,
+        sum: 11,
+        left: 0,
+    };
+    assert!(rt; ends_so(alloc, &g, 4096, 3, 4100, ending)?);
     Ok(())
 }
+
+/// Whether that is the first ill-formed definition.
+fn is_first_bad(g: &Group, bad: Option<u32>) -> bool {
+    if g.defs.len() >= 1 << 32 {
+        return false;
+    }
+    match well_formed(g) {
+        Ok(()) => bad.is_none(),
+        Err(BadDef { def }) => bad == Some(def),
+    }
+}
+
+/// The numbers that the second definition calls, and the first ill-formed definition.
+static CALLEES: [(u32, Option<u32>); 3] = [(0, None), (1, Some(1)), (2, Some(1))];
 
 #[test]
 fn the_first_ill_formed_definition(rt: HostRuntime) -> Result<(), Fail> {
     let alloc = rt.alloc();
-    for (callee, bad) in [(0, None), (1, Some(1)), (2, Some(1))] {
+    for &(callee, bad) in &CALLEES {
         let g = group(alloc, callee)?;
-        assert!(rt; g.defs.len() == 2);
-        assert_eq!(rt;
-            well_formed(&g).err(),
-            bad.map(|def| BadDef { def }),
-            "calls {callee}"
-        );
+        assert!(rt; is_first_bad(&g, bad), "calls {callee}");
     }
     let mut g = group(alloc, 0)?;
     g.regs.push(12)?;
-    assert!(rt; g.defs.len() == 2);
-    assert_eq!(rt; well_formed(&g).err(), Some(BadDef { def: 0 }));
+    assert!(rt; is_first_bad(&g, Some(0)));
     Ok(())
 }
