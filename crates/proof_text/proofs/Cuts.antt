@@ -1,0 +1,327 @@
+-- Whole lines of bytes: cutting them off, and what they are read as.
+use Rattle.std.proofs.Common.{◌≡◌, ℕ, zero, suc, ◌+◌, ◌-◌, ◌≤◌, ◌<◌, Bool, true, false, cond, eqb, List, [], ◌∷◌, ◌++◌, length, codes, get_or, take, drop, length-drop, Option, Some, None, true≢false, refl, sym, ap, subst, ◌∙◌, arith, append_assoc, length-append}
+use Rattle.std.specs.Prelude.{option_map}
+use Rattle.std.proofs.lemmas.List.{append-nil, take_all}
+use Rattle.std.proofs.Math.Seq.{drop-cons}
+use Rattle.std.proofs.Math.ListN.{drop_of_length-le}
+use Rattle.std.proofs.lemmas.Bool.Decides.{nat_tests}
+use Rattle.std.proofs.lemmas.Bool.{eqb-true}
+use Rattle.std.proofs.lemmas.Slice.Eq.{bytes_eq-Decides}
+use Rattle.mc_text.specs.Tokens.{Tok, Left, Right, Semi, Atom, Eol, Done, Stuck, is_atom_byte, IsAtomText, IsAtom, gap, bytes_of, after, spell, HasNoAtomByte, Stands}
+use Rattle.mc_text.specs.declared.token.Before.{Before}
+use Rattle.mc_text.specs.declared.token.Before.TheVariants.{Start, Later}
+use Rattle.mc_text.specs.Scanning.{lex, At, newlines}
+use Rattle.mc_text.specs.Fault.{first_lines}
+use Rattle.mc_text.specs.Reading.{goes_on}
+use Rattle.mc_text.proofs.Lines.{EndsIn, IsLines, follows, stands-lex}
+use Rattle.mc_text.proofs.FaultLine.{AreLines, EndsByte, one-newline, first-step, lines-zeroth, newlines-append, SameLine, same-line}
+use Rattle.mc_text.proofs.Tail.{first-before}
+use Rattle.proof_text.specs.Cut.{AreWholeLines, drop_lines}
+use Rattle.proof_text.specs.Front.{DefFollows}
+use Rattle.proof_text.specs.Reading.{is_def}
+
+-- ---- a text is whole lines, and a rest without a newline
+
+count-cons : (b : ℕ) (bs : List ℕ) (f : Bool) → eqb b 10 ≡ f → newlines (b ∷ bs) ≡ cond f (suc (newlines bs)) (newlines bs)
+count-cons b bs f e = ap (λ (g : Bool). cond g (suc (newlines bs)) (newlines bs)) e
+
+pub record Parts (bytes : List ℕ) : Type 0 where
+  pub lines : List ℕ
+  pub tail : List ℕ
+  pub is : bytes ≡ lines ++ tail
+  pub whole : AreLines lines
+  pub none : newlines tail ≡ 0
+
+put-byte : (b : ℕ) (bs : List ℕ) (p : Parts bs) (f : Bool) → eqb b 10 ≡ f → (lines : List ℕ) → p.lines ≡ lines → Parts (b ∷ bs)
+put-byte b bs p f e (c ∷ cs) is = record { lines = b ∷ c ∷ cs; tail = p.tail; is = ap (λ (v : List ℕ). b ∷ v) (p.is ∙ ap (λ (v : List ℕ). v ++ p.tail) is); whole = subst AreLines is p.whole; none = p.none }
+put-byte b bs p true e [] is = record { lines = b ∷ []; tail = p.tail; is = ap (λ (v : List ℕ). b ∷ v) (p.is ∙ ap (λ (v : List ℕ). v ++ p.tail) is); whole = eqb-true b 10 e; none = p.none }
+put-byte b bs p false e [] is = record { lines = []; tail = b ∷ p.tail; is = ap (λ (v : List ℕ). b ∷ v) (p.is ∙ ap (λ (v : List ℕ). v ++ p.tail) is); whole = tt; none = count-cons b p.tail false e ∙ p.none }
+
+pub cut : (bytes : List ℕ) → Parts bytes
+cut [] = record { lines = []; tail = []; is = refl; whole = tt; none = refl }
+cut (b ∷ bs) = let p = cut bs in put-byte b bs p (eqb b 10) refl p.lines refl
+
+same-some : (x y : List ℕ) → Some x ≡ Some y → x ≡ y
+same-some x y e = cc
+
+pub are-lines : (bytes : List ℕ) → AreWholeLines bytes → AreLines bytes
+are-lines bytes h =
+    let p = cut bytes in
+    let count : newlines bytes ≡ newlines p.lines = ap newlines p.is ∙ newlines-append p.lines p.tail ∙ omega (arith, p.none) in
+    let first : first_lines (newlines p.lines) bytes ≡ Some p.lines = lines-zeroth p.lines bytes p.tail p.is p.whole in
+    let same : p.lines ≡ bytes = same-some p.lines bytes (sym first ∙ ap (λ (n : ℕ). first_lines n bytes) (sym count) ∙ h) in
+    subst AreLines same p.whole
+
+pub whole-lines : (bytes : List ℕ) → AreLines bytes → AreWholeLines bytes
+whole-lines bytes h = lines-zeroth bytes bytes [] (sym (append-nil bytes)) h
+
+-- ---- behind lines
+
+lines-cons : (b : ℕ) (bs : List ℕ) → EndsByte b bs → AreLines bs
+lines-cons b [] h = tt
+lines-cons b (c ∷ cs) h = h
+
+pub lines-behind : (w r : List ℕ) → AreLines (w ++ r) → AreLines r
+lines-behind [] r h = h
+lines-behind (b ∷ w) r h = lines-behind w r (lines-cons b (w ++ r) h)
+
+drop-true : (n b : ℕ) (bs : List ℕ) → eqb b 10 ≡ true → drop_lines (suc n) (b ∷ bs) ≡ drop_lines n bs
+unfolding drop_lines
+drop-true n b bs e = rw e refl
+
+drop-false : (n b : ℕ) (bs : List ℕ) → eqb b 10 ≡ false → drop_lines (suc n) (b ∷ bs) ≡ drop_lines (suc n) bs
+unfolding drop_lines
+drop-false n b bs e = rw e refl
+
+drop-none : (bytes : List ℕ) → drop_lines 0 bytes ≡ bytes
+unfolding drop_lines
+drop-none bytes = refl
+
+drop-step : (b : ℕ) (w r : List ℕ) (f : Bool) → eqb b 10 ≡ f → EndsByte b w → drop_lines (newlines w) (w ++ r) ≡ r → drop_lines (newlines (b ∷ w)) (b ∷ (w ++ r)) ≡ r
+drop-step b w r true e h ih = ap (λ (n : ℕ). drop_lines n (b ∷ (w ++ r))) (count-cons b w true e) ∙ drop-true (newlines w) b (w ++ r) e ∙ ih
+drop-step b [] r false e h ih = absurd (never b e h)
+  where
+    never : (b : ℕ) → eqb b 10 ≡ false → b ≡ 10 → ⊥
+    never b e h = true≢false (sym (ap (λ (n : ℕ). eqb n 10) h) ∙ e)
+drop-step b (c ∷ w) r false e h ih =
+    let i = one-newline c w h in
+    ap (λ (n : ℕ). drop_lines n (b ∷ (c ∷ w ++ r))) (count-cons b (c ∷ w) false e ∙ i.1) ∙ drop-false i.0 b (c ∷ w ++ r) e ∙ ap (λ (n : ℕ). drop_lines n (c ∷ w ++ r)) (sym i.1) ∙ ih
+
+pub dropped : (w r : List ℕ) → AreLines w → drop_lines (newlines w) (w ++ r) ≡ r
+dropped [] r h = drop-none r
+dropped (b ∷ w) r h = drop-step b w r (eqb b 10) refl h (dropped w r (lines-cons b w h))
+
+pub newlines-short : (bytes : List ℕ) → newlines bytes ≤ length bytes
+newlines-short [] = omega arith
+newlines-short (b ∷ bs) = by (eqb b 10) (newlines-short bs)
+  where
+    by : (f : Bool) → newlines bs ≤ length bs → cond f (suc (newlines bs)) (newlines bs) ≤ suc (length bs)
+    by true h = omega (arith, h)
+    by false h = omega (arith, h)
+
+-- whole lines in front of a text lie in front of its whole lines
+pub record Within (lines tail w r : List ℕ) : Type 0 where
+  pub more : List ℕ
+  pub is : lines ≡ w ++ more
+  pub rest : r ≡ more ++ tail
+
+first-byte : (b c : ℕ) (x y : List ℕ) → b ∷ x ≡ c ∷ y → b ≡ c
+first-byte b c x y e = cc
+
+other-bytes : (b c : ℕ) (x y : List ℕ) → b ∷ x ≡ c ∷ y → x ≡ y
+other-bytes b c x y e = cc
+
+pub within : (lines tail w r : List ℕ) → lines ++ tail ≡ w ++ r → newlines tail ≡ 0 → AreLines w → Within lines tail w r
+within lines tail [] r e none h = record { more = lines; is = refl; rest = sym e }
+within [] tail (b ∷ w) r e none h = absurd (let i = one-newline b w h in omega (arith, none, ap newlines e ∙ newlines-append (b ∷ w) r, i.1))
+within (c ∷ lines) tail (b ∷ w) r e none h =
+    let k = within lines tail w r (other-bytes c b (lines ++ tail) (w ++ r) e) none (lines-cons b w h) in
+    record { more = k.more; is = (λ i. first-byte c b (lines ++ tail) (w ++ r) e i ∷ k.is i); rest = k.rest }
+
+-- ---- spelling one after the other
+
+spell-ends : (m : Before) (t : Tok) (a b : List Tok) → EndsIn t a → spell m ((t ∷ a) ++ b) ≡ spell m (t ∷ a) ++ spell Start b
+spell-ends m t [] b h =
+    let same : spell (after t) b ≡ spell Start b = ap (λ (u : Tok). spell (after u) b) h in
+    ap (λ (v : List ℕ). (gap m t ++ bytes_of t) ++ v) same ∙ ap (λ (v : List ℕ). v ++ spell Start b) (sym (append-nil (gap m t ++ bytes_of t)))
+spell-ends m t (u ∷ us) b h = ap (λ (v : List ℕ). (gap m t ++ bytes_of t) ++ v) (spell-ends (after t) u us b h) ∙ sym (append_assoc (gap m t ++ bytes_of t) (spell (after t) (u ∷ us)) (spell Start b))
+
+pub spell-more : (a b : List Tok) → IsLines a → spell Start (a ++ b) ≡ spell Start a ++ spell Start b
+spell-more [] b h = refl
+spell-more (t ∷ a) b h = spell-ends Start t a b h
+
+-- ---- whether a definition follows
+
+first-is : (t u : Tok) (ts us : List Tok) → t ∷ ts ≡ u ∷ us → t ≡ u
+first-is t u ts us e = cc
+
+atom-is : (a b : List ℕ) → Atom a ≡ Atom b → a ≡ b
+atom-is a b e = cc
+
+-- an atom and what stands behind it
+pub record Run (bytes : List ℕ) : Type 0 where
+  pub atom : List ℕ
+  pub rest : List ℕ
+  pub is : bytes ≡ atom ++ rest
+  pub text : IsAtomText atom
+  pub ends : HasNoAtomByte rest
+
+longer : (b : ℕ) (bs : List ℕ) (f : Bool) → is_atom_byte b ≡ f → Run bs → Run (b ∷ bs)
+longer b bs true e r = record { atom = b ∷ r.atom; rest = r.rest; is = ap (λ (v : List ℕ). b ∷ v) r.is; text = (e, r.text); ends = r.ends }
+longer b bs false e r = record { atom = []; rest = b ∷ bs; is = refl; text = tt; ends = e }
+
+run : (bytes : List ℕ) → Run bytes
+run [] = record { atom = []; rest = []; is = refl; text = tt; ends = tt }
+run (b ∷ bs) = longer b bs (is_atom_byte b) refl (run bs)
+
+begun : (bytes a rest x y : List ℕ) → IsAtom a → bytes ≡ a ++ rest → bytes ≡ x ++ y → IsAtomText x → HasNoAtomByte y → IsAtom x
+begun bytes [] rest x y h e f tx ny = absurd h
+begun bytes (b ∷ a) rest (c ∷ x) y h e f tx ny = tx
+begun bytes (b ∷ a) rest [] y h e f tx ny = absurd (none y (sym f ∙ e) ny)
+  where
+    none : (y : List ℕ) → y ≡ b ∷ (a ++ rest) → HasNoAtomByte y → ⊥
+    none [] k n = cc
+    none (c ∷ y) k n = true≢false (sym (ap is_atom_byte (first-byte c b y (a ++ rest) k) ∙ h.0) ∙ n)
+
+-- where an atom is read it stands
+pub atom-stands : (bytes a : List ℕ) (us : List Tok) → lex bytes (At Start) ≡ Atom a ∷ us → (rest : List ℕ) × Stands Start bytes (Atom a) rest
+atom-stands bytes a us e =
+    let f = follows Start bytes (Atom a) us tt e in
+    let r = run bytes in
+    let stands : Stands Start bytes (Atom r.atom) r.rest = record { spelled = r.is; may = (begun bytes a f.rest r.atom r.rest f.fits f.is r.is r.text r.ends, r.ends) } in
+    let read = stands-lex Start bytes (Atom r.atom) r.rest (λ k. cc) stands in
+    let same : r.atom ≡ a = atom-is r.atom a (first-is (Atom r.atom) (Atom a) (lex r.rest (At Later)) us (sym read ∙ e)) in
+    (r.rest, subst (λ (x : List ℕ). Stands Start bytes (Atom x) r.rest) same stands)
+
+some-front : (b : ℕ) (o : Option (List ℕ)) → (o ≡ None → ⊥) → option_map (λ (x : List ℕ). b ∷ x) o ≡ None → ⊥
+some-front b None h e = h refl
+some-front b (Some x) h e = cc
+
+line-there : (b : ℕ) (bs : List ℕ) (f : Bool) → eqb b 10 ≡ f → EndsByte b bs → (AreLines bs → 1 ≤ length bs → first_lines 1 bs ≡ None → ⊥) → first_lines 1 (b ∷ bs) ≡ None → ⊥
+unfolding first_lines
+line-there b bs true e h ih k = absurd (let m = sym (first-step b bs 0 true e) ∙ k in cc)
+line-there b [] false e h ih k = true≢false (sym (ap (λ (n : ℕ). eqb n 10) h) ∙ e)
+line-there b (c ∷ cs) false e h ih k = some-front b (first_lines 1 (c ∷ cs)) (ih h (omega arith)) (sym (first-step b (c ∷ cs) 0 false e) ∙ k)
+
+pub some-line : (bytes : List ℕ) → AreLines bytes → 1 ≤ length bytes → first_lines 1 bytes ≡ None → ⊥
+some-line [] h le k = omega (arith, le)
+some-line (b ∷ bs) h le k = line-there b bs (eqb b 10) refl h (some-line bs) k
+
+stands-longer : (bytes tail a : List ℕ) (rest : List ℕ) → 1 ≤ length rest → Stands Start bytes (Atom a) rest → Stands Start (bytes ++ tail) (Atom a) (rest ++ tail)
+stands-longer bytes tail a [] le s = absurd (omega (arith, le))
+stands-longer bytes tail a (b ∷ rest) le s = record { spelled = ap (λ (v : List ℕ). v ++ tail) s.spelled ∙ append_assoc a (b ∷ rest) tail; may = s.may }
+
+def-behind : (bytes rest : List ℕ) → bytes ≡ codes "def" ++ rest → AreLines bytes → 1 ≤ length rest
+def-behind bytes [] e h = absurd (never (subst AreLines e h))
+  where
+    never : ◌≡◌ {A = ℕ} 102 10 → ⊥
+    never k = omega (arith, k)
+def-behind bytes (b ∷ rest) e h = omega arith
+
+def-there : (bytes tail : List ℕ) (us : List Tok) → AreLines bytes → newlines tail ≡ 0 → lex bytes (At Start) ≡ Atom (codes "def") ∷ us → DefFollows (bytes ++ tail)
+def-there bytes tail us h none e =
+    let s = atom-stands bytes (codes "def") us e in
+    let some = def-behind bytes s.0 s.1.spelled h in
+    let long : length bytes ≡ length (codes "def" ++ s.0) = ap length s.1.spelled in
+    record {
+      whole = λ k. some-line bytes h (omega (arith, long, length-append (codes "def") s.0)) (sym (first-before 1 bytes tail none) ∙ k);
+      behind = s.0 ++ tail;
+      word = stands-longer bytes tail (codes "def") s.0 some s.1;
+    }
+
+def-read : (bytes tail : List ℕ) (ts : List Tok) → AreLines bytes → newlines tail ≡ 0 → lex bytes (At Start) ≡ ts → goes_on is_def ts ≡ true → DefFollows (bytes ++ tail)
+def-read bytes tail [] h none e g = absurd cc
+def-read bytes tail (Atom a ∷ us) h none e g =
+    let same : a ≡ codes "def" = (bytes_eq-Decides a (codes "def")).0 g in
+    def-there bytes tail us h none (e ∙ ap (λ (b : List ℕ). Atom b ∷ us) same)
+def-read bytes tail (Left ∷ us) h none e g = absurd cc
+def-read bytes tail (Right ∷ us) h none e g = absurd cc
+def-read bytes tail (Semi ∷ us) h none e g = absurd cc
+def-read bytes tail (Eol ∷ us) h none e g = absurd cc
+def-read bytes tail (Done ∷ us) h none e g = absurd cc
+def-read bytes tail (Stuck ∷ us) h none e g = absurd cc
+
+-- a definition follows where its first word is read
+pub def-follows : (bytes tail : List ℕ) → AreLines bytes → newlines tail ≡ 0 → goes_on is_def (lex bytes (At Start)) ≡ true → DefFollows (bytes ++ tail)
+def-follows bytes tail h none g = def-read bytes tail (lex bytes (At Start)) h none refl g
+
+front-mapped : (b : ℕ) (o : Option (List ℕ)) (l : List ℕ) → option_map (λ (x : List ℕ). b ∷ x) o ≡ Some l → (m : List ℕ) × (o ≡ Some m) × (b ∷ m ≡ l)
+front-mapped b (Some m) l e = (m, refl, cc)
+front-mapped b None l e = absurd cc
+
+first-step-front : (b : ℕ) (bs l : List ℕ) (f : Bool) → eqb b 10 ≡ f → ((m : List ℕ) → first_lines 1 bs ≡ Some m → (more : List ℕ) × (bs ≡ m ++ more)) → first_lines 1 (b ∷ bs) ≡ Some l → (more : List ℕ) × (b ∷ bs ≡ l ++ more)
+unfolding first_lines
+first-step-front b bs l true e ih h =
+    let k = front-mapped b (Some []) l (sym (first-step b bs 0 true e) ∙ h) in
+    let none : [] ≡ k.0 = same-some [] k.0 k.1 in
+    (bs, ap (λ (v : List ℕ). (b ∷ v) ++ bs) none ∙ ap (λ (v : List ℕ). v ++ bs) k.2)
+first-step-front b bs l false e ih h =
+    let k = front-mapped b (first_lines 1 bs) l (sym (first-step b bs 0 false e) ∙ h) in
+    let m = ih k.0 k.1 in
+    (m.0, ap (λ (v : List ℕ). b ∷ v) m.1 ∙ ap (λ (v : List ℕ). v ++ m.0) k.2)
+
+first-front : (bytes l : List ℕ) → first_lines 1 bytes ≡ Some l → (more : List ℕ) × (bytes ≡ l ++ more)
+unfolding first_lines
+first-front [] l e = absurd cc
+first-front (b ∷ bs) l e = first-step-front b bs l (eqb b 10) refl (first-front bs) e
+
+same-first : (ts : List Tok) (o : Tok) (os : List Tok) → SameLine ts (o ∷ os) → is_def o ≡ true → goes_on is_def ts ≡ true
+same-first [] o os h e = absurd cc
+same-first (t ∷ ts) o os h e = ap is_def h.0 ∙ e
+
+line-def : (bytes tail : List ℕ) (o : Option (List ℕ)) (os : List Tok) → newlines tail ≡ 0 → first_lines 1 bytes ≡ o → (o ≡ None → ⊥) → lex (bytes ++ tail) (At Start) ≡ Atom (codes "def") ∷ os → goes_on is_def (lex bytes (At Start)) ≡ true
+line-def bytes tail None os none e some read = absurd (some refl)
+line-def bytes tail (Some l) os none e some read =
+    let f = first-front (bytes ++ tail) l (first-before 1 bytes tail none ∙ e) in
+    let same = same-line bytes f.0 l (At Start) e in
+    same-first (lex bytes (At Start)) (Atom (codes "def")) os (subst (λ (v : List Tok). SameLine (lex bytes (At Start)) v) (ap (λ (v : List ℕ). lex v (At Start)) (sym f.1) ∙ read) same) refl
+
+-- and its first word is read where it follows
+pub follows-def : (bytes tail : List ℕ) → newlines tail ≡ 0 → DefFollows (bytes ++ tail) → goes_on is_def (lex bytes (At Start)) ≡ true
+follows-def bytes tail none d =
+    line-def bytes tail (first_lines 1 bytes) _ none refl (λ k. d.whole (first-before 1 bytes tail none ∙ k)) (stands-lex Start (bytes ++ tail) (Atom (codes "def")) d.behind (λ k. cc) d.word)
+
+-- ---- loops over bytes
+
+last-newline : (text : List ℕ) (n d : ℕ) → n < length text → get_or text n d ≡ 10 → AreLines (take (suc n) text)
+last-newline [] n d lt e = absurd (omega (arith, lt))
+last-newline (b ∷ bs) zero d lt e = e
+last-newline (b ∷ []) (suc n) d lt e = absurd (omega (arith, lt))
+last-newline (b ∷ c ∷ cs) (suc n) d lt e = last-newline (c ∷ cs) n d (omega (arith, lt)) e
+
+pub lines-to : (text : List ℕ) (end d : ℕ) (front : List ℕ) → 0 < end → end ≤ length text → get_or text (end - 1) d ≡ 10 → front ≡ take end text → AreWholeLines front
+lines-to text zero d front lt le e is = absurd (omega (arith, lt))
+lines-to text (suc n) d front lt le e is =
+    let back : n ≡ suc n - 1 = omega arith in
+    whole-lines front (subst AreLines (sym is) (last-newline text n d (omega (arith, le)) (ap (λ (k : ℕ). get_or text k d) back ∙ e)))
+
+pub no-lines : (text front : List ℕ) → front ≡ take 0 text → AreWholeLines front
+unfolding first_lines
+no-lines text front is = whole-lines front (subst AreLines (sym is) tt)
+
+drop-left : (text : List ℕ) (i left : ℕ) (total : List ℕ) → left ≡ 0 → drop_lines left (drop i text) ≡ total → drop i text ≡ total
+drop-left text i left total e h = sym (drop-none (drop i text)) ∙ ap (λ (n : ℕ). drop_lines n (drop i text)) (sym e) ∙ h
+
+pub left-none : (text : List ℕ) (i left : ℕ) (total : List ℕ) → left ≡ 0 → drop_lines left (drop i text) ≡ total → take (length text - i) (drop i text) ≡ total
+left-none text i left total e h = take_all (length text - i) (drop i text) (omega (arith, length-drop i text)) ∙ drop-left text i left total e h
+
+no-bytes : (n : ℕ) → drop_lines n [] ≡ []
+unfolding drop_lines
+no-bytes zero = refl
+no-bytes (suc n) = refl
+
+pub left-end : (text : List ℕ) (i left : ℕ) (total : List ℕ) → length text ≤ i → drop_lines left (drop i text) ≡ total → take (length text - length text) (drop (length text) text) ≡ total
+left-end text i left total le h =
+    let none : drop i text ≡ [] = drop_of_length-le text le in
+    take_all (length text - length text) (drop (length text) text) (omega (arith, length-drop (length text) text)) ∙ drop_of_length-le text (omega arith)
+    ∙ sym (no-bytes left) ∙ ap (drop_lines left) (sym none) ∙ h
+
+drop-next : (text : List ℕ) (i d : ℕ) → i < length text → drop i text ≡ get_or text i d ∷ drop (i + 1) text
+drop-next text i d lt = let next : suc i ≡ i + 1 = omega arith in drop-cons text i d lt ∙ ap (λ (n : ℕ). get_or text i d ∷ drop n text) next
+
+line-true : (n b : ℕ) (bs : List ℕ) → b ≡ 10 → 0 < n → drop_lines n (b ∷ bs) ≡ drop_lines (n - 1) bs
+line-true zero b bs e lt = absurd (omega (arith, lt))
+line-true (suc n) b bs e lt = let less : n ≡ suc n - 1 = omega arith in drop-true n b bs (ap (λ (k : ℕ). eqb k 10) e) ∙ ap (λ (k : ℕ). drop_lines k bs) less
+
+line-false : (n b : ℕ) (bs : List ℕ) → eqb b 10 ≡ false → 0 < n → drop_lines n (b ∷ bs) ≡ drop_lines n bs
+line-false zero b bs e lt = absurd (omega (arith, lt))
+line-false (suc n) b bs e lt = drop-false n b bs e
+
+pub next-true : (text : List ℕ) (i d left new : ℕ) (total : List ℕ) → i < length text → get_or text i d ≡ 10 → (left ≡ 0 → ⊥) → new ≡ left - 1 → drop_lines left (drop i text) ≡ total → drop_lines new (drop (i + 1) text) ≡ total
+next-true text i d left new total lt e some is h =
+    ap (λ (n : ℕ). drop_lines n (drop (i + 1) text)) is ∙ sym (line-true left (get_or text i d) (drop (i + 1) text) e (positive left some)) ∙ ap (drop_lines left) (sym (drop-next text i d lt)) ∙ h
+  where
+    positive : (n : ℕ) → (n ≡ 0 → ⊥) → 0 < n
+    positive zero h = absurd (h refl)
+    positive (suc n) h = omega arith
+
+not-ten : (b : ℕ) → (b ≡ 10 → ⊥) → eqb b 10 ≡ false
+not-ten b h = grind (arith, nat_tests)
+
+pub next-false : (text : List ℕ) (i d left new : ℕ) (total : List ℕ) → i < length text → (get_or text i d ≡ 10 → ⊥) → (left ≡ 0 → ⊥) → new ≡ left → drop_lines left (drop i text) ≡ total → drop_lines new (drop (i + 1) text) ≡ total
+next-false text i d left new total lt e some is h =
+    ap (λ (n : ℕ). drop_lines n (drop (i + 1) text)) is ∙ sym (line-false left (get_or text i d) (drop (i + 1) text) (not-ten (get_or text i d) e) (positive left some)) ∙ ap (drop_lines left) (sym (drop-next text i d lt)) ∙ h
+  where
+    positive : (n : ℕ) → (n ≡ 0 → ⊥) → 0 < n
+    positive zero h = absurd (h refl)
+    positive (suc n) h = omega arith

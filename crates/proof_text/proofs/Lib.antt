@@ -1,0 +1,15 @@
+pub mod StepLaws
+pub mod BodyLaws
+pub mod HeadLaws
+pub mod Texts
+pub mod Real
+pub mod Fronts
+pub mod Printing
+pub mod Parts
+pub mod Loops
+pub mod OwnDefs
+pub mod Resumed
+pub mod Passed
+pub mod Cuts
+pub mod Given
+pub mod Called

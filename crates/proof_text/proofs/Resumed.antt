@@ -1,0 +1,308 @@
+-- Reading goes on behind groups that were read, one call a group.
+use Rattle.std.proofs.Common.{◌≡◌, ℕ, zero, suc, ◌≤◌, Bool, true, false, List, [], ◌∷◌, ◌++◌, length, codes, Option, Some, None, Ok, Err, refl, sym, ap, subst, ◌∙◌, arith, append_assoc, length-append, inl, inr}
+use Rattle.std.specs.List.{AllByRecursion}
+use Rattle.std.specs.Str.{bytes_eq}
+use Rattle.std.proofs.lemmas.Slice.Eq.{bytes_eq-Decides}
+use Rattle.mc_text.specs.Tokens.{Tok, Left, Right, Semi, Atom, Eol, Done, Stuck}
+use Rattle.mc_text.specs.Reading.{Reader, ◌>>=◌, pair, made, many, goes_on, eol, keyed, refused, each}
+use Rattle.mc_text.proofs.Laws.{Out, ok-rest, ok-value, err-is, IsElse, keyed-cases, keyed-hit, keyed-miss}
+use Rattle.mc_text.proofs.Turns.{many-one, many-stop, many-none}
+use Rattle.tailrec_lang.specs.Tree.{DefTree, GroupTree}
+use Rattle.proof_text.specs.Limits.{def_limit, IsDef, IsGroup}
+use Rattle.proof_text.specs.Spelling.{def_tokens, group_tokens}
+use Rattle.proof_text.specs.Reading.{Head, def_at, is_def, are_some, own_defs, head_at, group_of, group_at, next_at, more_defs, defs_at, groups_at, all_groups}
+use Rattle.proof_text.proofs.HeadLaws.{true-le}
+use Rattle.proof_text.proofs.OwnDefs.{Defs, good, bad, guard, judge, sent, many-again, own-takes, own-again, def-refuses}
+use Rattle.proof_text.proofs.Texts.{HeadFits, lines_of_head, head-cover, def-cover, def-begins, group_row, group-split, enough-groups, group_reader, end_row}
+
+-- ---- a reader's parts
+
+pub made-bad : {X Y : Type 0} (make : X → Y) (q : Out X) (bad : List Tok) → ◌>>=◌ {A = X × List Tok} {B = Y × List Tok} q (λ p. Ok (make p.0, p.1)) ≡ Err bad → q ≡ Err bad
+made-bad make (Ok p) bad e = absurd cc
+made-bad {X} {Y} make (Err other) bad e = ap (λ (v : List Tok). Err v) (err-is {Y = Y} other bad e)
+
+pub made-good : {X Y : Type 0} (make : X → Y) (q : Out X) (y : Y) (rest : List Tok) → ◌>>=◌ {A = X × List Tok} {B = Y × List Tok} q (λ p. Ok (make p.0, p.1)) ≡ Ok (y, rest) → (x : X) × (q ≡ Ok (x, rest)) × (make x ≡ y)
+made-good {X} {Y} make (Ok p) y rest e = (p.0, ap (λ (v : List Tok). Ok (p.0, v)) (ok-rest {Y = Y} (make p.0) y p.1 rest e), ok-value {Y = Y} (make p.0) y p.1 rest e)
+made-good make (Err bad) y rest e = absurd cc
+
+module _ {X Y : Type 0} (a : Reader X) (b : Reader Y) where
+  abbrev second : X → Out Y → Out (X × Y)
+  second x q = ◌>>=◌ {A = Y × List Tok} {B = (X × Y) × List Tok} q (λ y. Ok ((x, y.0), y.1))
+
+  abbrev both : Out X → Out (X × Y)
+  both q = ◌>>=◌ {A = X × List Tok} {B = (X × Y) × List Tok} q (λ p. second p.0 (b p.1))
+
+  second-good : (x : X) (q : Out Y) (p : X × Y) (rest : List Tok) → second x q ≡ Ok (p, rest) → (q ≡ Ok (p.1, rest)) × (x ≡ p.0)
+  second-good x (Ok y) p rest e =
+      let same : (x, y.0) ≡ p = ok-value {Y = X × Y} (x, y.0) p y.1 rest e in
+      ((λ i. Ok ((same i).1, ok-rest {Y = X × Y} (x, y.0) p y.1 rest e i)), ap (λ (z : X × Y). z.0) same)
+  second-good x (Err bad) p rest e = absurd cc
+
+  both-good : (q : Out X) (p : X × Y) (rest : List Tok) → both q ≡ Ok (p, rest) → (us : List Tok) × (q ≡ Ok (p.0, us)) × (b us ≡ Ok (p.1, rest))
+  both-good (Ok x) p rest e = let k = second-good x.0 (b x.1) p rest e in (x.1, ap (λ (z : X). Ok (z, x.1)) k.1, k.0)
+  both-good (Err bad) p rest e = absurd cc
+
+  pub pair-good : (ts : List Tok) (p : X × Y) (rest : List Tok) → pair a b ts ≡ Ok (p, rest) → (us : List Tok) × (a ts ≡ Ok (p.0, us)) × (b us ≡ Ok (p.1, rest))
+  pair-good ts p rest e = both-good (a ts) p rest e
+
+-- a pair stops where another stops whose second part is read by b too
+pub pair-bad : {X Y Z : Type 0} (a : Reader X) (b : Reader Y) (c : Reader Z) (ts bad : List Tok) → ((us bad : List Tok) → c us ≡ Err bad → b us ≡ Err bad) → pair a c ts ≡ Err bad → pair a b ts ≡ Err bad
+pair-bad {X} {Y} {Z} a b c ts bad h e = by (a ts) e
+  where
+    third : (x : X) (q : Out Z) (bad : List Tok) → ◌>>=◌ {A = Z × List Tok} {B = (X × Z) × List Tok} q (λ y. Ok ((x, y.0), y.1)) ≡ Err bad → q ≡ Err bad
+    third x (Ok y) bad e = absurd cc
+    third x (Err other) bad e = ap (λ (v : List Tok). Err v) (err-is {Y = X × Z} other bad e)
+
+    by : (q : Out X) → ◌>>=◌ {A = X × List Tok} {B = (X × Z) × List Tok} q (λ p. ◌>>=◌ {A = Z × List Tok} {B = (X × Z) × List Tok} (c p.1) (λ y. Ok ((p.0, y.0), y.1))) ≡ Err bad
+        → ◌>>=◌ {A = X × List Tok} {B = (X × Y) × List Tok} q (λ p. ◌>>=◌ {A = Y × List Tok} {B = (X × Y) × List Tok} (b p.1) (λ y. Ok ((p.0, y.0), y.1))) ≡ Err bad
+    by (Ok x) e = ap (λ (q : Out Y). ◌>>=◌ {A = Y × List Tok} {B = (X × Y) × List Tok} q (λ y. Ok ((x.0, y.0), y.1))) (h x.1 bad (third x.0 (c x.1) bad e))
+    by (Err other) e = ap (λ (v : List Tok). Err v) (err-is {Y = X × Z} other bad e)
+
+-- ---- where one group stops, all groups stop
+
+abbrev Groups : Type 0
+Groups = Out (List GroupTree)
+
+abbrev joined : DefTree → Defs → Defs
+joined d q = ◌>>=◌ {A = List DefTree × List Tok} {B = List DefTree × List Tok} q (λ xs. Ok (d ∷ xs.0, xs.1))
+
+module _ (R : Reader (List GroupTree)) (refuse : (us : List Tok) → goes_on is_def us ≡ true → R us ≡ Err us) where
+  abbrev Behind : Type 0
+  Behind = Out (List DefTree × List GroupTree)
+
+  abbrev with_groups : Defs → Behind
+  with_groups q = ◌>>=◌ {A = List DefTree × List Tok} {B = (List DefTree × List GroupTree) × List Tok} q (λ p. ◌>>=◌ {A = List GroupTree × List Tok} {B = (List DefTree × List GroupTree) × List Tok} (R p.1) (λ y. Ok ((p.0, y.0), y.1)))
+
+  not-bad : (p : List DefTree × List Tok) (us : List Tok) → good p ≡ bad us → ⊥
+  not-bad p us e = cc
+
+  rest-stops : (d : DefTree) (q : Defs) (us : List Tok) → judge (guard (joined d q)) ≡ Err us → with_groups q ≡ Err us
+  rest-stops d (Ok p) us h = by (goes_on is_def p.1) refl
+    where
+      some-is : are_some (d ∷ p.0) ≡ true
+      some-is = true-le 1 (length (d ∷ p.0)) (omega arith)
+
+      by : (g : Bool) → goes_on is_def p.1 ≡ g → with_groups (good p) ≡ Err us
+      by true e =
+          let same : p.1 ≡ us = err-is {Y = List DefTree} p.1 us (sym (sent (d ∷ p.0) p.1 true true e some-is) ∙ h) in
+          rw (refuse p.1 e) (ap (λ (v : List Tok). Err v) same)
+      by false e = absurd (not-bad (d ∷ p.0, p.1) us (sym (sent (d ∷ p.0) p.1 false true e some-is) ∙ h))
+  rest-stops d (Err other) us h = ap (λ (v : List Tok). Err v) (err-is {Y = List DefTree} other us h)
+
+  abbrev front : Out DefTree → Out (DefTree × (List DefTree × List GroupTree))
+  front q = ◌>>=◌ {A = DefTree × List Tok} {B = (DefTree × (List DefTree × List GroupTree)) × List Tok} q (λ p. ◌>>=◌ {A = (List DefTree × List GroupTree) × List Tok} {B = (DefTree × (List DefTree × List GroupTree)) × List Tok} (pair defs_at R p.1) (λ y. Ok ((p.0, y.0), y.1)))
+
+  defs-stop : (ts us : List Tok) (q : Out DefTree) → goes_on is_def ts ≡ true → def_at ts ≡ q → own_defs ts ≡ Err us → front q ≡ Err us
+  defs-stop ts us (Ok p) g e h =
+      let k = rest-stops p.0 (many more_defs is_def def_at p.1) us (sym (ap (λ (q : Defs). judge (guard q)) (many-one is_def def_at more_defs ts p.0 p.1 g e)) ∙ h) in
+      rw k refl
+  defs-stop ts us (Err other) g e h = ap (λ (v : List Tok). Err v) (err-is {Y = List DefTree} other us (sym (ap (λ (q : Defs). judge (guard q)) (many-stop is_def def_at more_defs ts other g e)) ∙ h))
+
+  own-stops : (ts us : List Tok) → own_defs ts ≡ Err us → pair def_at (pair defs_at R) ts ≡ Err us
+  own-stops ts us h = by (goes_on is_def ts) refl
+    where
+      by : (g : Bool) → goes_on is_def ts ≡ g → pair def_at (pair defs_at R) ts ≡ Err us
+      by true g = defs-stop ts us (def_at ts) g refl h
+      by false g =
+          let same : ts ≡ us = err-is {Y = List DefTree} ts us (sym (ap (λ (q : Defs). judge (guard q)) (many-none is_def def_at def_limit ts g) ∙ sent [] ts false false g refl) ∙ h) in
+          rw (def-refuses ts g) (ap (λ (v : List Tok). Err v) same)
+
+-- no group begins with a definition
+refuse-atom : (n : ℕ) (a : List ℕ) (us : List Tok) → bytes_eq a (codes "def") ≡ true → groups_at n (Atom a ∷ us) ≡ Err (Atom a ∷ us)
+unfolding groups_at
+refuse-atom zero a us e = let same : a ≡ codes "def" = (bytes_eq-Decides a (codes "def")).0 e in rw same refl
+refuse-atom (suc n) a us e = let same : a ≡ codes "def" = (bytes_eq-Decides a (codes "def")).0 e in rw same refl
+
+refuse-def : (n : ℕ) (us : List Tok) → goes_on is_def us ≡ true → groups_at n us ≡ Err us
+refuse-def n [] e = absurd cc
+refuse-def n (Atom a ∷ us) e = refuse-atom n a us e
+refuse-def n (Left ∷ us) e = absurd cc
+refuse-def n (Right ∷ us) e = absurd cc
+refuse-def n (Semi ∷ us) e = absurd cc
+refuse-def n (Eol ∷ us) e = absurd cc
+refuse-def n (Done ∷ us) e = absurd cc
+refuse-def n (Stuck ∷ us) e = absurd cc
+
+group-stops : (n : ℕ) (ts us : List Tok) → group_at ts ≡ Err us → group_reader n ts ≡ Err us
+unfolding group_at
+group-stops n ts us h =
+    let parts : pair head_at own_defs ts ≡ Err us = made-bad {X = Head × List DefTree} {Y = GroupTree} (λ x. group_of x.0 x.1) (pair head_at own_defs ts) us h in
+    rw (pair-bad head_at (pair def_at (pair defs_at (groups_at n))) own_defs ts us (λ vs bad. own-stops (groups_at n) (refuse-def n) vs bad) parts) refl
+
+abbrev some_group : Reader (Option GroupTree)
+some_group = made Some group_at
+
+abbrev no_group : Reader (Option GroupTree)
+no_group = made (λ (_ : Unit {0}). None) eol
+
+abbrev group_key : Reader (Option GroupTree)
+group_key = keyed (codes "group") some_group refused
+
+-- the same where the tokens begin otherwise
+else-alike : {X Y : Type 0} (k : List ℕ) (r other : Reader X) (q more : Reader Y) (ts : List Tok) → IsElse k r other ts → IsElse k q more ts
+else-alike k r other q more [] h = tt
+else-alike k r other q more (Atom a ∷ ts) h = h
+else-alike k r other q more (Left ∷ ts) h = tt
+else-alike k r other q more (Right ∷ ts) h = tt
+else-alike k r other q more (Semi ∷ ts) h = tt
+else-alike k r other q more (Eol ∷ ts) h = tt
+else-alike k r other q more (Done ∷ ts) h = tt
+else-alike k r other q more (Stuck ∷ ts) h = tt
+
+abbrev groups_key : ℕ → Reader (List GroupTree)
+groups_key n = keyed (codes "group") (group_reader n) refused
+
+as-keys : (n : ℕ) (ts : List Tok) → groups_at (suc n) ts ≡ keyed (codes "end") end_row (groups_key n) ts
+unfolding groups_at
+as-keys n ts = refl
+
+more-groups : (n : ℕ) (ts : List Tok) → length ts ≤ n → all_groups ts ≡ groups_at n ts
+more-groups n ts le = enough-groups (length ts) n ts (omega arith) le
+
+in-keys : (ts : List Tok) → all_groups ts ≡ keyed (codes "end") end_row (groups_key (length ts)) ts
+in-keys ts = more-groups (suc (length ts)) ts (omega arith) ∙ as-keys (length ts) ts
+
+key-stops : (n : ℕ) (ts us : List Tok) → group_key ts ≡ Err us → groups_key n ts ≡ Err us
+key-stops n ts us h =
+    elim (keyed-cases (codes "group") some_group refused ts (Err us) h) [
+      | inl k ↦ ap (groups_key n) k.1 ∙ keyed-hit (codes "group") (group_reader n) refused k.0 ∙ group-stops n k.0 us (made-bad {X = GroupTree} {Y = Option GroupTree} Some (group_at k.0) us k.2)
+      | inr k ↦ keyed-miss (codes "group") (group_reader n) refused ts (else-alike (codes "group") some_group refused (group_reader n) refused ts k.0) ∙ ap (λ (v : List Tok). Err v) (err-is {Y = Option GroupTree} ts us k.1)
+    ]
+
+pub next-stops : (ts us : List Tok) → next_at ts ≡ Err us → all_groups ts ≡ Err us
+unfolding next_at
+next-stops ts us h =
+    let n : ℕ = length ts in
+    in-keys ts ∙
+    elim (keyed-cases (codes "end") no_group group_key ts (Err us) h) [
+      | inl k ↦ ap (keyed (codes "end") end_row (groups_key n)) k.1 ∙ keyed-hit (codes "end") end_row (groups_key n) k.0 ∙ rw (made-bad {X = Unit {0}} {Y = Option GroupTree} (λ _. None) (eol k.0) us k.2) refl
+      | inr k ↦ keyed-miss (codes "end") end_row (groups_key n) ts (else-alike (codes "end") no_group group_key end_row (groups_key n) ts k.0) ∙ key-stops n ts us k.1
+    ]
+
+not-none : (g : GroupTree) → Some g ≡ None → ⊥
+not-none g e = cc
+
+not-some : (g : GroupTree) → None ≡ Some g → ⊥
+not-some g e = cc
+
+never-read : (ts us : List Tok) (o : Option GroupTree) → refused ts ≡ Ok (o, us) → ⊥
+never-read ts us o e = cc
+
+no-end : (ts us : List Tok) → group_key ts ≡ Ok (None, us) → ⊥
+no-end ts us h =
+    elim (keyed-cases (codes "group") some_group refused ts (Ok (None, us)) h) [
+      | inl k ↦ let m = made-good {X = GroupTree} {Y = Option GroupTree} Some (group_at k.0) None us k.2 in not-none m.0 m.2
+      | inr k ↦ never-read ts us None k.1
+    ]
+
+pub next-end : (ts us : List Tok) → next_at ts ≡ Ok (None, us) → all_groups ts ≡ Ok ([], us)
+unfolding next_at
+next-end ts us h =
+    let n : ℕ = length ts in
+    in-keys ts ∙
+    elim (keyed-cases (codes "end") no_group group_key ts (Ok (None, us)) h) [
+      | inl k ↦ ap (keyed (codes "end") end_row (groups_key n)) k.1 ∙ keyed-hit (codes "end") end_row (groups_key n) k.0 ∙ rw (made-good {X = Unit {0}} {Y = Option GroupTree} (λ _. None) (eol k.0) None us k.2).1 refl
+      | inr k ↦ absurd (no-end ts us k.1)
+    ]
+
+-- ---- what a group was read from
+
+pub record OneGroup (ts : List Tok) (g : GroupTree) (us : List Tok) : Type 0 where
+  pub is : ts ≡ group_tokens g ++ us
+  pub fits : IsGroup g
+  pub ended : goes_on is_def us ≡ false
+
+group-takes : (ts : List Tok) (g : GroupTree) (us : List Tok) → group_at ts ≡ Ok (g, us) → OneGroup (Atom (codes "group") ∷ ts) g us
+unfolding group_at
+group-takes ts g us h =
+    let m = made-good {X = Head × List DefTree} {Y = GroupTree} (λ x. group_of x.0 x.1) (pair head_at own_defs ts) g us h in
+    let p = pair-good head_at own_defs ts m.0 us m.1 in
+    let a = head-cover.takes ts m.0.0 p.0 p.1 in
+    let b = own-takes p.0 m.0.1 us p.2 in
+    subst (λ (z : GroupTree). OneGroup (Atom (codes "group") ∷ ts) z us) m.2 (record {
+      is = ap (λ (v : List Tok). Atom (codes "group") ∷ v) (a.0 ∙ ap (λ (v : List Tok). lines_of_head m.0.0 ++ v) b.0 ∙ sym (append_assoc (lines_of_head m.0.0) (each def_tokens m.0.1) us) ∙ ap (λ (v : List Tok). v ++ us) (sym (group-split m.0.0 m.0.1)));
+      fits = record { name = a.1.name; registers = a.1.registers; memories = a.1.memories; code = a.1.code.0; bytes = a.1.code.1; defs = b.1.fit; some = b.1.some; few = b.1.few };
+      ended = b.1.ended;
+    })
+
+same-group : (g k : GroupTree) → Some g ≡ Some k → g ≡ k
+same-group g k e = cc
+
+key-takes : (ts : List Tok) (g : GroupTree) (us : List Tok) → group_key ts ≡ Ok (Some g, us) → OneGroup ts g us
+key-takes ts g us h =
+    elim (keyed-cases (codes "group") some_group refused ts (Ok (Some g, us)) h) [
+      | inl k ↦
+          let m = made-good {X = GroupTree} {Y = Option GroupTree} Some (group_at k.0) (Some g) us k.2 in
+          subst (λ (v : List Tok). OneGroup v g us) (sym k.1) (subst (λ (z : GroupTree). OneGroup (Atom (codes "group") ∷ k.0) z us) (same-group m.0 g m.2) (group-takes k.0 m.0 us m.1))
+      | inr k ↦ absurd (never-read ts us (Some g) k.1)
+    ]
+
+pub next-takes : (ts : List Tok) (g : GroupTree) (us : List Tok) → next_at ts ≡ Ok (Some g, us) → OneGroup ts g us
+unfolding next_at
+next-takes ts g us h =
+    elim (keyed-cases (codes "end") no_group group_key ts (Ok (Some g, us)) h) [
+      | inl k ↦ let m = made-good {X = Unit {0}} {Y = Option GroupTree} (λ _. None) (eol k.0) (Some g) us k.2 in absurd (not-some g m.2)
+      | inr k ↦ key-takes ts g us k.1
+    ]
+
+-- ---- and it is read again
+
+abbrev head_of : GroupTree → Head
+head_of g = record { name = g.name; regs = g.regs; mems = g.mems; code = g.code }
+
+head-fits : (g : GroupTree) → IsGroup g → HeadFits (head_of g)
+head-fits g h = record { name = h.name; registers = h.registers; memories = h.memories; code = (h.code, h.bytes) }
+
+group-parts : (g : GroupTree) (us : List Tok) → group_row g ++ us ≡ lines_of_head (head_of g) ++ (each def_tokens g.defs ++ us)
+group-parts g us = ap (λ (v : List Tok). v ++ us) (group-split (head_of g) g.defs) ∙ append_assoc (lines_of_head (head_of g)) (each def_tokens g.defs) us
+
+group-again : (g : GroupTree) (us : List Tok) → IsGroup g → goes_on is_def us ≡ false → group_at (group_row g ++ us) ≡ Ok (g, us)
+unfolding group_at
+group-again g us h e =
+    ap (made (λ (x : Head × List DefTree). group_of x.0 x.1) (pair head_at own_defs)) (group-parts g us)
+    ∙ rw (head-cover.again (head_of g) (each def_tokens g.defs ++ us) (head-fits g h), own-again g.defs us (record { fit = h.defs; some = h.some; few = h.few; ended = e })) refl
+
+as-some : (vs : List Tok) → next_at (Atom (codes "group") ∷ vs) ≡ some_group vs
+unfolding next_at
+as-some vs = refl
+
+pub next-again : (g : GroupTree) (us : List Tok) → IsGroup g → goes_on is_def us ≡ false → next_at (group_tokens g ++ us) ≡ Ok (Some g, us)
+next-again g us h e = as-some (group_row g ++ us) ∙ rw (group-again g us h e) refl
+
+abbrev pub cons : GroupTree → Groups → Groups
+cons g q = ◌>>=◌ {A = List GroupTree × List Tok} {B = List GroupTree × List Tok} q (λ p. Ok (g ∷ p.0, p.1))
+
+abbrev put : Head → DefTree → List DefTree → Groups → Groups
+put h d ds q = ◌>>=◌ {A = (Head × (DefTree × (List DefTree × List GroupTree))) × List Tok} {B = List GroupTree × List Tok}
+    (◌>>=◌ {A = (DefTree × (List DefTree × List GroupTree)) × List Tok} {B = (Head × (DefTree × (List DefTree × List GroupTree))) × List Tok}
+    (◌>>=◌ {A = (List DefTree × List GroupTree) × List Tok} {B = (DefTree × (List DefTree × List GroupTree)) × List Tok}
+    (◌>>=◌ {A = List GroupTree × List Tok} {B = (List DefTree × List GroupTree) × List Tok} q (λ p. Ok ((ds, p.0), p.1))) (λ p. Ok ((d, p.0), p.1))) (λ p. Ok ((h, p.0), p.1))) (λ p. Ok (group_of p.0.0 (p.0.1.0 ∷ p.0.1.1.0) ∷ p.0.1.1.1, p.1))
+
+put-is : (h : Head) (d : DefTree) (ds : List DefTree) (q : Groups) → put h d ds q ≡ cons (group_of h (d ∷ ds)) q
+put-is h d ds (Ok p) = refl
+put-is h d ds (Err bad) = refl
+
+reader-again : (n : ℕ) (h : Head) (d : DefTree) (ds : List DefTree) (us : List Tok) → HeadFits h → IsDef d → AllByRecursion IsDef ds → length ds ≤ more_defs → goes_on is_def us ≡ false
+    → group_reader n (lines_of_head h ++ ((def_tokens d ++ each def_tokens ds) ++ us)) ≡ cons (group_of h (d ∷ ds)) (groups_at n us)
+reader-again n h d ds us fh fd fds le e =
+    rw (head-cover.again h ((def_tokens d ++ each def_tokens ds) ++ us) fh, append_assoc (def_tokens d) (each def_tokens ds) us, def-cover.again d (each def_tokens ds ++ us) fd, many-again is_def def_at IsDef def_tokens def-cover def-begins more_defs ds us fds le e)
+    (put-is h d ds (groups_at n us))
+
+as-group : (n : ℕ) (vs : List Tok) → groups_at (suc n) (Atom (codes "group") ∷ vs) ≡ group_reader n vs
+unfolding groups_at
+as-group n vs = refl
+
+-- a group in front
+one-more : (n : ℕ) (g : GroupTree) (ds : List DefTree) (us : List Tok) → g.defs ≡ ds → IsGroup g → goes_on is_def us ≡ false → groups_at (suc n) (group_tokens g ++ us) ≡ cons g (groups_at n us)
+one-more n g [] us is h e = absurd (let len : length g.defs ≡ 0 = ap length is in omega (arith, h.some, len))
+one-more n g (d ∷ ds) us is h e =
+    let fits : AllByRecursion IsDef (d ∷ ds) = subst (AllByRecursion IsDef) is h.defs in
+    let len : length g.defs ≡ suc (length ds) = ap length is in
+    as-group n (group_row g ++ us) ∙ ap (group_reader n) (group-parts g us ∙ ap (λ (v : List DefTree). lines_of_head (head_of g) ++ (each def_tokens v ++ us)) is)
+    ∙ reader-again n (head_of g) d ds us (head-fits g h) fits.0 fits.1 (omega (arith, h.few, len)) e
+    ∙ ap (λ (v : List DefTree). cons (group_of (head_of g) v) (groups_at n us)) (sym is)
+
+pub all-one : (g : GroupTree) (us : List Tok) → IsGroup g → goes_on is_def us ≡ false → all_groups (group_tokens g ++ us) ≡ cons g (all_groups us)
+all-one g us h e =
+    let n : ℕ = length (group_tokens g ++ us) in
+    more-groups (suc n) (group_tokens g ++ us) (omega arith) ∙ one-more n g g.defs us refl h e ∙ ap (cons g) (sym (more-groups n us (omega (arith, length-append (group_tokens g) us))))

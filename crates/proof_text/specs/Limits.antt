@@ -1,0 +1,100 @@
+-- Which groups have a text.
+use Rattle.std.specs.Prelude.{ℕ, ◌+◌, ◌≤◌, ◌<◌, ◌^◌, max, List, [], ◌∷◌, length}
+use Rattle.std.specs.List.{AllByRecursion}
+use Rattle.mc_text.specs.Tokens.{IsAtom}
+use Rattle.mc_text.specs.Fault.{Grammar}
+use Rattle.word_terms.specs.Code.{AreRanges}
+use Rattle.term_text.specs.Limits.{IsWord, IsMem, IsCond}
+use Rattle.tailrec_lang.specs.Tree.{ValuesTree, StepTree, Bind, BindMem, Need, BodyTree, Do, Branch, Call, Again, Leave, ArmTrees, NoArm, Arm, DefTree, GroupTree}
+use Rattle.tailrec_lang.specs.declared.group.Exit.{Exit}
+use Rattle.tailrec_lang.specs.declared.group.Exit.TheVariants.{At, Ret}
+use Rattle.proof_text.specs.Spelling.{arm_count, text_of}
+
+abbrev pub IsValues : ValuesTree → Type 0
+IsValues v = AllByRecursion IsWord v.words × AllByRecursion IsMem v.mems
+
+abbrev pub IsStep : StepTree → Type 0
+IsStep (Bind t) = IsWord t
+IsStep (BindMem m) = IsMem m
+IsStep (Need c) = IsCond c
+
+-- the most arms of a call, and the most exits of a definition
+abbrev pub exit_limit : ℕ
+exit_limit = 16
+
+abbrev mutual
+  pub IsBody : BodyTree → Type 0
+  IsBody (Do step rest) = IsStep step × IsBody rest
+  IsBody (Branch c a b) = IsCond c × IsBody a × IsBody b
+  IsBody (Call def v arms) = (def < 2 ^ 32) × (arm_count arms ≤ exit_limit) × IsValues v × AreArms arms
+  IsBody (Again v) = IsValues v
+  IsBody (Leave exit v) = (exit < 2 ^ 32) × IsValues v
+
+  pub AreArms : ArmTrees → Type 0
+  AreArms NoArm = Unit {0}
+  AreArms (Arm b bs) = IsBody b × AreArms bs
+
+-- 1 for a body without bodies in it, else one more than the deepest of them
+abbrev mutual
+  pub nesting : BodyTree → ℕ
+  nesting (Do step rest) = nesting rest
+  nesting (Branch c a b) = max (nesting a) (nesting b) + 1
+  nesting (Call def v arms) = arms_nesting arms + 1
+  nesting (Again v) = 1
+  nesting (Leave exit v) = 1
+
+  pub arms_nesting : ArmTrees → ℕ
+  arms_nesting NoArm = 0
+  arms_nesting (Arm b bs) = max (nesting b) (arms_nesting bs)
+
+-- the deepest nesting of bodies that is written
+abbrev pub nesting_limit : ℕ
+nesting_limit = 64
+
+abbrev pub IsExit : Exit → Type 0
+IsExit (At a) = a < 2 ^ 64
+IsExit Ret = Unit {0}
+
+-- how many exits return
+abbrev pub returns : List Exit → ℕ
+returns [] = 0
+returns (At a ∷ xs) = returns xs
+returns (Ret ∷ xs) = returns xs + 1
+
+pub record IsDef (d : DefTree) : Type 0 where
+  pub entry : d.entry < 2 ^ 64
+  pub exits : AllByRecursion IsExit d.exits
+  pub few : length d.exits ≤ exit_limit
+  pub one_return : returns d.exits ≤ 1
+  pub body : IsBody d.body
+  pub nested : nesting d.body ≤ nesting_limit
+
+-- a name: 1 to 4,096 bytes from 0x21 to 0x7e, none of them ( ) ;
+abbrev pub IsName : List ℕ → Type 0
+IsName name = IsAtom name × (length name ≤ 4096)
+
+-- registers from `least` on, up to 31, rising
+abbrev pub AreRegistersFrom : ℕ → List ℕ → Type 0
+AreRegistersFrom least [] = Unit {0}
+AreRegistersFrom least (r ∷ rs) = (least ≤ r) × (r ≤ 31) × AreRegistersFrom (r + 1) rs
+
+-- the most definitions of a group
+abbrev pub def_limit : ℕ
+def_limit = 4096
+
+pub record IsGroup (g : GroupTree) : Type 0 where
+  pub name : IsName g.name
+  pub registers : AreRegistersFrom 1 g.regs
+  pub memories : g.mems ≤ 1
+  pub code : AreRanges g.code
+  pub bytes : AllByRecursion (λ r. AllByRecursion (λ b. b < 256) r.bytes) g.code
+  pub defs : AllByRecursion IsDef g.defs
+  pub some : 1 ≤ length g.defs
+  pub few : length g.defs ≤ def_limit
+
+abbrev pub AreGroups : List GroupTree → Type 0
+AreGroups gs = AllByRecursion IsGroup gs
+
+-- the texts of lists of groups
+abbrev pub texts : Grammar (List GroupTree)
+texts = record { Has = AreGroups; text = text_of }

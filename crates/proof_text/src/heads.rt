@@ -1,0 +1,287 @@
+//! Reading definitions, and the lines before them.
+
+ghost use Rattle.std.specs.Prelude.{◌≡◌, ◌<◌, ◌^◌, IfOk, map};
+ghost use Rattle.mc_text.specs.Reading.{atom_of, goes_on, one, star};
+ghost use Rattle.mc_text.specs.Scanning.{tokens_at};
+ghost use Rattle.term_text.specs.Outcome.{Gives, last_line};
+ghost use Rattle.term_text.specs.Reading.{number_at};
+ghost use Rattle.tailrec_lang.specs.Tree.{def_tree};
+ghost use Rattle.proof_text.specs.Limits.{returns};
+ghost use Rattle.proof_text.specs.Heads.{head_of};
+ghost use Rattle.proof_text.specs.Reading.{are_atom_bytes, are_few_exits, code_row, def_at, def_row, exit_of, has_atom, head_at, is_name, mems_row, name_of, ranges_rise, registers_rise, regs_row};
+
+use crate::bodies::read_body;
+use mc_text::{Scan, Token, hexnum, is_atom_byte};
+use rv_words::{List, Text};
+use std::alloc::Global;
+use tailrec_lang::{Def, Exit};
+use term_text::cursor::{address, eol, keyword, number, peek};
+use term_text::{Stop, read_ranges};
+use word_terms::{Code, Range};
+
+/// The deepest nesting of bodies.
+const DEEPEST_BODY: u32 = 64;
+
+/// Whether an atom follows.
+fn has_atom(scan: &Scan<'_>) -> bool
+    ensures { result ≡ goes_on has_atom (tokens_at scan.now) }
+{
+    matches!(peek(scan), Some((Token::Atom(_), _)))
+}
+
+// ---- exits
+
+/// The exit that an atom spells.
+#[tactic(auto, unfolding(crate::specs::Reading::exit_of))]
+fn exit_of(atom: &[u8]) -> Option<Exit>
+    ensures { result ≡ exit_of atom.now }
+{
+    if atom == b"ret".as_slice() {
+        Some(Exit::Ret)
+    } else {
+        match hexnum(atom) {
+            Some(address) => Some(Exit::At(address)),
+            None => None,
+        }
+    }
+}
+
+#[tactic(auto, unfolding(mc_text::specs::Reading::one))]
+fn read_exit<'a>(scan: &mut Scan<'a>) -> Result<Exit, Stop>
+    ensures gives { Gives (λ exit. exit) result scan.old scan.new (one (atom_of exit_of)) }
+    ensures last { last_line scan.new ≡ last_line scan.old }
+{
+    match peek(scan) {
+        Some((Token::Atom(atom), ahead)) => match exit_of(atom) {
+            Some(exit) => {
+                *scan = ahead;
+                Ok(exit)
+            }
+            None => Err(Stop::Bad),
+        },
+        _ => Err(Stop::Bad),
+    }
+}
+
+/// The exits up to the end of the line.
+fn read_exits<'a>(alloc: Global, scan: &mut Scan<'a>) -> Result<List<Exit>, Stop>
+    ensures gives { Gives (λ exits. exits) result scan.old scan.new (star has_atom (one (atom_of exit_of))) }
+    ensures last { last_line scan.new ≡ last_line scan.old }
+{
+    let mut exits = List::new(alloc);
+    'each: while has_atom(scan) {
+        match read_exit(scan) {
+            Ok(exit) => exits.push(exit)?,
+            Err(stop) => return Err(stop),
+        }
+    }
+    Ok(exits)
+}
+
+/// Whether there are at most 16 exits, and at most one of them returns.
+fn are_few_exits(exits: &[Exit]) -> bool
+    ensures { result ≡ are_few_exits exits.now }
+{
+    exits.len() <= 16 && returns(exits) <= 1
+}
+
+/// How many exits return.
+fn returns(exits: &[Exit]) -> usize
+    ensures { result ≡ returns exits.now }
+{
+    let mut count = 0;
+    for exit in exits {
+        if matches!(exit, Exit::Ret) {
+            count += 1;
+        }
+    }
+    count
+}
+
+// ---- definitions
+
+/// The entry and the exits, with the end of their line.
+#[tactic(auto, unfolding(crate::specs::Reading::def_row))]
+fn read_def_row<'a>(alloc: Global, scan: &mut Scan<'a>) -> Result<(u64, List<Exit>), Stop>
+    ensures gives { Gives (λ row. (row.0, (row.1, tt))) result scan.old scan.new def_row }
+    ensures last { last_line scan.new ≡ last_line scan.old }
+{
+    let entry = address(scan)?;
+    let exits = read_exits(alloc, scan)?;
+    if !are_few_exits(exits.as_slice()) {
+        return Err(Stop::Bad);
+    }
+    eol(scan)?;
+    Ok((entry, exits))
+}
+
+/// A definition.
+#[tactic(auto, unfolding(crate::specs::Reading::def_at))]
+pub fn read_def<'a>(alloc: Global, scan: &mut Scan<'a>) -> Result<Def, Stop>
+    ensures gives { Gives def_tree result scan.old scan.new def_at }
+    ensures last { last_line scan.new ≡ last_line scan.old }
+{
+    keyword(scan, b"def")?;
+    let (entry, exits) = read_def_row(alloc, scan)?;
+    let body = read_body(alloc, scan, DEEPEST_BODY)?;
+    Ok(Def { entry, exits, body })
+}
+
+// ---- the head of a group
+
+/// Whether the bytes are 1 to 4,096 that a name may have.
+fn is_name(atom: &[u8]) -> bool
+    ensures { result ≡ is_name atom.now }
+{
+    atom.len() >= 1 && atom.len() <= 4096 && are_atom_bytes(atom)
+}
+
+fn are_atom_bytes(atom: &[u8]) -> bool
+    ensures { result ≡ are_atom_bytes atom.now }
+{
+    for byte in atom {
+        if !is_atom_byte(*byte) {
+            return false;
+        }
+    }
+    true
+}
+
+/// The name of a group.
+#[tactic(auto, unfolding(mc_text::specs::Reading::one, crate::specs::Reading::name_of))]
+fn read_name<'a>(alloc: Global, scan: &mut Scan<'a>) -> Result<Text, Stop>
+    ensures gives { Gives (λ name. name) result scan.old scan.new (one (atom_of name_of)) }
+    ensures last { last_line scan.new ≡ last_line scan.old }
+{
+    match peek(scan) {
+        Some((Token::Atom(atom), ahead)) if is_name(atom) => {
+            let name = List::from_slice(alloc, atom)?;
+            *scan = ahead;
+            Ok(name)
+        }
+        _ => Err(Stop::Bad),
+    }
+}
+
+fn read_register<'a>(scan: &mut Scan<'a>) -> Result<u8, Stop>
+    ensures gives { Gives (λ n. n) result scan.old scan.new (number_at 32) }
+    ensures last { last_line scan.new ≡ last_line scan.old }
+{
+    let register = number(scan, 32)?;
+    Ok(register as u8)
+}
+
+/// The registers up to the end of the line.
+fn read_registers<'a>(alloc: Global, scan: &mut Scan<'a>) -> Result<List<u8>, Stop>
+    ensures gives { Gives (λ registers. registers) result scan.old scan.new (star has_atom (number_at 32)) }
+    ensures last { last_line scan.new ≡ last_line scan.old }
+{
+    let mut registers = List::new(alloc);
+    'each: while has_atom(scan) {
+        match read_register(scan) {
+            Ok(register) => registers.push(register)?,
+            Err(stop) => return Err(stop),
+        }
+    }
+    Ok(registers)
+}
+
+/// Whether registers rise from 1 to 31.
+fn registers_rise(registers: &[u8]) -> bool
+    ensures { result ≡ registers_rise 1 registers.now }
+{
+    let mut least = 1;
+    for register in registers {
+        if *register < least || *register > 31 {
+            return false;
+        }
+        least = *register + 1;
+    }
+    true
+}
+
+/// Whether ranges rise, neither overlap nor touch, and end at most at 2^64.
+fn ranges_rise(ranges: &[Range]) -> bool
+    ensures { result ≡ ranges_rise 0 ranges.now }
+{
+    let mut least = 0;
+    for range in ranges {
+        let start = u128::from(range.at);
+        let end = start + range.bytes.len() as u128;
+        if start < least || end > 1 << 64 {
+            return false;
+        }
+        least = end + 1;
+    }
+    true
+}
+
+/// The line of registers.
+#[tactic(auto, unfolding(crate::specs::Reading::regs_row))]
+fn read_regs_row<'a>(alloc: Global, scan: &mut Scan<'a>) -> Result<List<u8>, Stop>
+    ensures gives { Gives (λ regs. (tt, (regs, tt))) result scan.old scan.new regs_row }
+    ensures last { last_line scan.new ≡ last_line scan.old }
+{
+    keyword(scan, b"regs")?;
+    let registers = read_registers(alloc, scan)?;
+    if !registers_rise(registers.as_slice()) {
+        return Err(Stop::Bad);
+    }
+    eol(scan)?;
+    Ok(registers)
+}
+
+/// The line of the number of memories.
+#[tactic(auto, unfolding(crate::specs::Reading::mems_row))]
+fn read_mems_row<'a>(scan: &mut Scan<'a>) -> Result<u8, Stop>
+    ensures gives { Gives (λ mems. (tt, (mems, tt))) result scan.old scan.new mems_row }
+    ensures last { last_line scan.new ≡ last_line scan.old }
+{
+    keyword(scan, b"mems")?;
+    let mems = number(scan, 2)?;
+    eol(scan)?;
+    Ok(mems as u8)
+}
+
+/// The line of the code.
+#[tactic(auto, unfolding(crate::specs::Reading::code_row))]
+fn read_code_row<'a>(alloc: Global, scan: &mut Scan<'a>) -> Result<Code, Stop>
+    ensures gives { Gives (λ code. (tt, (code.ranges, tt))) result scan.old scan.new code_row }
+    ensures last { last_line scan.new ≡ last_line scan.old }
+{
+    keyword(scan, b"code")?;
+    let ranges = read_ranges(alloc, scan)?;
+    if !ranges_rise(ranges.as_slice()) {
+        return Err(Stop::Bad);
+    }
+    eol(scan)?;
+    Ok(Code { ranges })
+}
+
+/// What stands before a group's definitions.
+#[derive(Debug, Drop)]
+pub struct Head {
+    pub name: Text,
+    pub regs: List<u8>,
+    pub mems: u8,
+    pub code: Code,
+}
+
+/// The head of a group, behind its first word.
+#[tactic(auto, unfolding(crate::specs::Reading::head_at))]
+pub fn read_head<'a>(alloc: Global, scan: &mut Scan<'a>) -> Result<Head, Stop>
+    ensures gives { Gives head_of result scan.old scan.new head_at }
+    ensures last { last_line scan.new ≡ last_line scan.old }
+{
+    let name = read_name(alloc, scan)?;
+    eol(scan)?;
+    let regs = read_regs_row(alloc, scan)?;
+    let mems = read_mems_row(scan)?;
+    let code = read_code_row(alloc, scan)?;
+    Ok(Head {
+        name,
+        regs,
+        mems,
+        code,
+    })
+}

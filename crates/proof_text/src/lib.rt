@@ -1,0 +1,15 @@
+//! Proof texts: groups of definitions as text, each written in one way.
+#![tactic(auto)]
+
+mod bodies;
+mod group;
+mod heads;
+mod laws;
+mod lines;
+mod put;
+mod reader;
+mod rows;
+
+pub use laws::law_of_parts;
+pub use put::{put_end, put_group, put_head};
+pub use reader::{Reader, TextFault};

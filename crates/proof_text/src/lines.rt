@@ -1,0 +1,37 @@
+//! Lines of bytes.
+
+ghost use Rattle.std.specs.Prelude.{◌≡◌, ◌++◌, drop, length};
+ghost use Rattle.mc_text.specs.Scanning.{newlines};
+ghost use Rattle.proof_text.specs.Cut.{AreWholeLines, drop_lines};
+
+/// The whole lines of a text, and the bytes behind the last of them.
+pub fn whole_lines(text: &[u8]) -> (&[u8], &[u8])
+    ensures parts { text.now ≡ result.0.now ++ result.1.now }
+    ensures lines { AreWholeLines result.0.now }
+    ensures tail { newlines result.1.now ≡ 0 }
+{
+    let mut end = text.len();
+    'back: while end > 0 {
+        if text[end - 1] == b'\n' {
+            return text.split_at(end);
+        }
+        end -= 1;
+    }
+    text.split_at(0)
+}
+
+/// The bytes behind that many lines.
+pub fn behind_lines(text: &[u8], count: u64) -> &[u8]
+    ensures { result.now ≡ drop_lines count text.now }
+{
+    let mut left = count;
+    for (i, byte) in text.iter().enumerate() {
+        if left == 0 {
+            return &text[i..];
+        }
+        if *byte == b'\n' {
+            left -= 1;
+        }
+    }
+    &text[text.len()..]
+}
