@@ -11,11 +11,12 @@ use Rattle.std.proofs.lemmas.List.{append-nil, map-append, map_more}
 use Rattle.std.proofs.lemmas.List.Elements.{All-from_recursion}
 use Rattle.std.proofs.lemmas.Option.{get_or_from_slice_get}
 use Rattle.word_terms.specs.declared.code.Range.{Range}
-use Rattle.mcdec.specs.declared.reader.Unread.{Unread}
-use Rattle.mcdec.specs.declared.reader.Unread.TheVariants as unread
+use Rattle.mcdec.specs.declared.command.Unread.{Unread}
+use Rattle.mcdec.specs.declared.command.Unread.TheVariants as unread
+use Rattle.mcdec.specs.declared.command.Eval.{Eval as ReadEval}
 use Rattle.mcdec.specs.declared.command.Run.{Run as ReadRun}
 use Rattle.mcdec.specs.Command.{Arg, Value, Memory, Given, IsGiven, IsMemory, AreGiven, AreArgs, given_to, given_word, memory_word, arg_word, givens, ranges}
-use Rattle.mcdec.specs.CommandReading.{Holds, IsArg, IsReadRun, NoArgs, AllArgs, Unless, texts}
+use Rattle.mcdec.specs.CommandReading.{Holds, IsArg, IsReadEval, IsReadRun, NoArgs, AllArgs, Unless, texts}
 use Rattle.mcdec.proofs.Givens.{arg_word-injective}
 use Rattle.mcdec.proofs.Registers.{AreGiven-last, Holds-last, none-parts, none_some, nones, no_value, texts-split}
 
@@ -184,5 +185,8 @@ module _ (words : Words) (i : ℕ) (word : String Global) (lt : i < length words
     )
 
 -- the ranges that were read
-pub ranges-fit : (ws : List (List ℕ)) (r : ReadRun) → IsReadRun ws r → All IsMemory r.memory
-ranges-fit ws r is = subst (All IsMemory) (sym is.2.1) (All-from_recursion IsMemory (ranges is.0) is.1.0.4.1)
+pub eval-ranges : (ws : List (List ℕ)) (e : ReadEval) → IsReadEval ws e → All IsMemory e.memory
+eval-ranges ws e is = subst (All IsMemory) (sym is.2.1) (All-from_recursion IsMemory (ranges is.0) is.1.0.3.1)
+
+pub run-ranges : (ws : List (List ℕ)) (r : ReadRun) → IsReadRun ws r → All IsMemory r.memory
+run-ranges ws r is = subst (All IsMemory) (sym is.2.1) (All-from_recursion IsMemory (ranges is.0) is.1.0.4.1)

@@ -10,7 +10,8 @@ use Rattle.rv_machine.specs.Step.{step}
 use Rattle.rv_machine.specs.Run.{run}
 use Rattle.rv_machine.proofs.StepLemmas.{step-present}
 use Rattle.mcdec.specs.Command.{Arg, ranges}
-use Rattle.mcdec.specs.RunAnswer.{begin, placed}
+use Rattle.mcdec.specs.Memory.{placed}
+use Rattle.mcdec.specs.RunAnswer.{begin}
 
 -- all addresses of the range have a byte
 abbrev pub IsPresent : Bytes → Range → Type 0

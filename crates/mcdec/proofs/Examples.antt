@@ -5,7 +5,7 @@ use Rattle.word_terms.specs.Tree.{Var, Bin}
 use Rattle.tailrec_lang.specs.declared.group.Exit.TheVariants.{At}
 use Rattle.tailrec_lang.specs.Tree.{Bind, Do, Leave, GroupTree}
 use Rattle.tailrec_lang.specs.Eval.{Done, Turns, eval}
-use Rattle.mcdec.specs.Command.{Given, value_of}
+use Rattle.mcdec.specs.Command.{Arg, Value, value_of, givens}
 use Rattle.mcdec.specs.EvalAnswer.{arguments_of, listed}
 
 -- sum: x10 gets x10 + x11
@@ -18,8 +18,8 @@ sum = record {
   defs = record { entry = 65536; exits = At 65540 ∷ []; body = Do (Bind (Bin Add (Var 0) (Var 1))) (Leave 0 (record { words = Var 2 ∷ Var 1 ∷ []; mems = [] })) } ∷ [];
 }
 
-abbrev two_and_three : List Given
-two_and_three = record { register = 10; value = 2 } ∷ record { register = 11; value = 3 } ∷ []
+abbrev two_and_three : List Arg
+two_and_three = Value (record { register = 10; value = 2 }) ∷ Value (record { register = 11; value = 3 }) ∷ []
 
 sum-done : eval sum (listed sum) (arguments_of two_and_three sum) 1 ≡ Done 0 65540 (record { words = 5 ∷ 3 ∷ []; mems = [] }) 0
 sum-done = refl
@@ -27,5 +27,5 @@ sum-done = refl
 sum-turns : eval sum (listed sum) (arguments_of two_and_three sum) 0 ≡ Turns
 sum-turns = refl
 
-other-register : value_of two_and_three 12 ≡ 0
+other-register : value_of (givens two_and_three) 12 ≡ 0
 other-register = refl

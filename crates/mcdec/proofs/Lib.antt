@@ -1,12 +1,3 @@
-pub mod HexDigits
-pub mod Numbers
-pub mod Many
-pub mod Readers
-pub mod Tokens
-pub mod Terms
-pub mod Lines
-pub mod SmallText
-pub mod Straight
 pub mod Prints
 pub mod Givens
 pub mod Registers
@@ -15,5 +6,6 @@ pub mod Words
 pub mod SetUp
 pub mod Asked
 pub mod Answers
+pub mod Groups
 pub mod Exactness
 pub mod Examples

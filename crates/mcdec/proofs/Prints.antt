@@ -9,8 +9,7 @@ use Rattle.mc_shelf.specs.Sink.{Adds}
 use Rattle.mc_shelf.specs.declared.sink.Stop.{Stop}
 use Rattle.mc_shelf.specs.declared.sink.Stop.TheVariants.{Failed, NoMemory}
 use Rattle.hex.specs.Hex.{encode_with, encode_lower}
-use Rattle.mcdec.specs.Text.{each}
-use Rattle.mcdec.specs.Printed.{register_line, register_lines}
+use Rattle.mcdec.specs.Printed.{each, register_line, register_lines}
 use Rattle.mcdec.specs.declared.print.Piece.{Piece}
 use Rattle.mcdec.specs.Printing.{Gains, Prints, piece_text, pieces_text}
 

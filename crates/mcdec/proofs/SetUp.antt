@@ -25,7 +25,8 @@ use Rattle.mcdec.specs.declared.answer.Answer.{Answer}
 use Rattle.mcdec.specs.declared.answer.Answer.TheVariants as answer
 use Rattle.mcdec.specs.Command.{Arg, Given, AreGiven, given_to, value_of, givens, ranges}
 use Rattle.mcdec.specs.CommandReading.{Holds, given_in, value_in}
-use Rattle.mcdec.specs.RunAnswer.{begin, placed, held_at, is_shown, shown, StandsFor, start_refused, MachineGives, ImageGives}
+use Rattle.mcdec.specs.Memory.{no_bytes, placed, held_at}
+use Rattle.mcdec.specs.RunAnswer.{begin, is_shown, shown, StandsFor, start_refused, MachineGives, ImageGives}
 
 -- ---- values
 
@@ -147,6 +148,12 @@ placed-last : (rs : List Range) (r : Range) (m : Bytes) → placed (rs ++ r ∷ 
 placed-last [] r m = refl
 placed-last (q ∷ rs) r m = placed-last rs r (over (bytes_from q.at q.bytes) m)
 
+pub placed-one-more : (rs : List Range) (m old new : Bytes) (i : ℕ) (r : Range) → i < length rs → r ≡ get_or rs i r → old ≡ placed (take i rs) m → new ≡ over (bytes_from r.at r.bytes) old
+    → new ≡ placed (take (i + 1) rs) m
+placed-one-more rs m old new i r lt item before put =
+    let upto : take i rs ++ r ∷ [] ≡ take (i + 1) rs = (λ k. take i rs ++ item k ∷ []) ∙ sym (take_more rs i r lt) in
+    put ∙ ap (over (bytes_from r.at r.bytes)) before ∙ sym (placed-last (take i rs) r m) ∙ (λ k. placed (upto k) m)
+
 abbrev with_placed : List Range → State → State
 with_placed rs s = record s { mem = placed rs s.mem }
 
@@ -262,9 +269,11 @@ module _ (until steps : ℕ) (args : List Arg) (s begun t : State) (same : s ≡
 
 module _ (file start : List ℕ) (until steps : ℕ) (args : List Arg) (at : ℕ) (readable : IsReadable file) (stands : StandsFor file start (Ok at)) where
   image-gives : (a : Answer) → MachineGives until steps args (begin file args at) a → ImageGives file start until steps args a
-  image-gives (answer.Evaluated used pc registers words) h = absurd h
+  image-gives (answer.Evaluated used pc registers words memory) h = absurd h
   image-gives (answer.Met k pc registers words memory) h = (readable, (at, stands, h))
   image-gives answer.NoFunction h = absurd h
+  image-gives (answer.IllFormed group def) h = absurd h
+  image-gives (answer.SideFalse def ordinal) h = absurd h
   image-gives (answer.NoSuchStart name) h = absurd h
   image-gives (answer.AmbiguousStart name low high) h = absurd h
   image-gives (answer.StuckAfter k why) h = (readable, (at, stands, h))

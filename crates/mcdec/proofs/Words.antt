@@ -9,14 +9,14 @@ use Rattle.std.proofs.lemmas.List.{take_rest}
 use Rattle.std.proofs.lemmas.Slice.Eq.{bytes_eq-Decides}
 use Rattle.mcdec.specs.declared.command.Eval.{Eval as ReadEval}
 use Rattle.mcdec.specs.declared.command.Run.{Run as ReadRun}
-use Rattle.mcdec.specs.Number.{hex}
-use Rattle.mcdec.specs.Command.{Eval, Run, Arg, Given, IsName, IsCommand, IsNoCommand, Words, given_word, arg_word}
-use Rattle.mcdec.specs.CommandReading.{Holds, HoldsArgs, NoneGiven, AllGiven, NoArgs, AllArgs, Unless, NoEval, IsEval, eval_words, NoRun, IsRun, run_words, texts}
-use Rattle.mcdec.specs.declared.reader.Unread.{Unread}
+use Rattle.mc_text.specs.Number.{hex, number_of}
+use Rattle.mcdec.specs.Command.{Eval, Run, Arg, IsCommand, IsNoCommand, Words, arg_word}
+use Rattle.proof_text.specs.Limits.{IsName}
+use Rattle.mcdec.specs.CommandReading.{HoldsArgs, NoArgs, AllArgs, Unless, NoEval, IsEval, eval_words, NoRun, IsRun, run_words, texts}
+use Rattle.mcdec.specs.declared.command.Unread.{Unread}
 use Rattle.word_terms.specs.declared.code.Range.{Range}
 use Rattle.mcdec.proofs.ArgWords.{unless-also}
-use Rattle.mcdec.specs.Reading.{number_of}
-use Rattle.mcdec.proofs.Numbers.{number_of-takes, number_of-again}
+use Rattle.mc_text.proofs.Numbers.{number_of-takes, number_of-again}
 
 abbrev Word : Type 0
 Word = String Global
@@ -57,7 +57,7 @@ module _ (words : List Word) (proof name turns : Word) (low : 3 ≤ length words
   split = first-words words proof name turns low first second third
 
   pub no-turns : None ≡ number_of 10 (string_bytes turns) → NoEval (texts words)
-  no-turns none p n t given is e =
+  no-turns none p n t args is e =
       let whole = sym split ∙ e in
       let same : string_bytes turns ≡ decimal t = cc in
       none_some t (none ∙ ap (number_of 10) same ∙ number_of-again 10 t (omega arith) (omega arith) is.2)
@@ -65,15 +65,18 @@ module _ (words : List Word) (proof name turns : Word) (low : 3 ≤ length words
       none_some : (t : ℕ) → None ≡ Some t → ⊥
       none_some t e = cc
 
-  pub no-registers : NoneGiven (behind_first 3 words) → NoEval (texts words)
-  no-registers none p n t given is e =
+  no-more : NoArgs (behind_first 3 words) → NoEval (texts words)
+  no-more none p n t args is e =
       let whole = sym split ∙ e in
-      let same : behind_first 3 words ≡ map given_word given = cc in
-      none given is.3 same
+      let same : behind_first 3 words ≡ map arg_word args = cc in
+      none args is.3 same
 
-  pub eval-read : (p n : List ℕ) (t : ℕ) (values : List (Option ℕ)) → p ≡ string_bytes proof → n ≡ string_bytes name → string_bytes proof ≢ [] → IsName (string_bytes name) → Some t ≡ number_of 10 (string_bytes turns) → AllGiven (behind_first 3 words) values
-      → (given : List Given) × IsCommand (Eval p n t given) × (texts words ≡ eval_words p n t given) × Holds given values
-  eval-read p n t values ep en some is number all =
+  pub eval-without : (why : Unread) → Unless (NoArgs (behind_first 3 words)) why → Unless (NoEval (texts words)) why
+  eval-without why none = unless-also no-more why none
+
+  pub eval-read : (p n : List ℕ) (t : ℕ) (values : List (Option ℕ)) (memory : List Range) → p ≡ string_bytes proof → n ≡ string_bytes name → string_bytes proof ≢ [] → IsName (string_bytes name) → Some t ≡ number_of 10 (string_bytes turns)
+      → AllArgs (behind_first 3 words) values memory → (args : List Arg) × IsCommand (Eval p n t args) × (texts words ≡ eval_words p n t args) × HoldsArgs args values memory
+  eval-read p n t values memory ep en some is number all =
       let d = number_of-takes 10 (string_bytes turns) t (sym number) in
       let same : texts words ≡ eval_words p n t all.0 = split ∙ (λ i. sym ep i ∷ sym en i ∷ d.0 i ∷ all.2 i) in
       (all.0, (λ e. some (sym ep ∙ e), subst IsName (sym en) is, d.1, all.1), same, all.3)
@@ -126,17 +129,21 @@ module _ (words : List Word) (first : Word) (low : 1 ≤ length words) (here : f
   named : (name : List ℕ) → bytes_eq text name ≡ true → texts words ≡ name ∷ behind_first 1 words
   named name is = first-word words first low here ∙ ap (λ (w : List ℕ). w ∷ behind_first 1 words) (sym value ∙ (bytes_eq-Decides text name).0 is)
 
-  pub no-eval : bytes_eq text (codes "eval") ≡ true → NoEval (behind_first 1 words) → IsNoCommand (texts words)
-  no-eval is none (Eval p n t given) c =
+  not-eval : bytes_eq text (codes "eval") ≡ true → NoEval (behind_first 1 words) → IsNoCommand (texts words)
+  not-eval is none (Eval p n t args) c =
       let whole = sym (named (codes "eval") is) ∙ c.1 in
-      let same : behind_first 1 words ≡ eval_words p n t given = cc in
-      none p n t given c.0 same
-  no-eval is none (Run e s u k given) c =
+      let same : behind_first 1 words ≡ eval_words p n t args = cc in
+      none p n t args c.0 same
+  not-eval is none (Run e s u k args) c =
       let whole = sym (named (codes "eval") is) ∙ c.1 in
       let same : codes "eval" ≡ codes "run" = cc in
       absurd (other-name same)
 
-  pub eval-is : bytes_eq text (codes "eval") ≡ true → (e : ReadEval) → IsEval (behind_first 1 words) e → (given : List Given) × Words (texts words) (Eval e.proof.now e.name.now e.turns given) × Holds given e.given.values
+  pub no-eval : bytes_eq text (codes "eval") ≡ true → (e : Unread) → Unless (NoEval (behind_first 1 words)) e → Unless (IsNoCommand (texts words)) e
+  no-eval is e none = unless-also (not-eval is) e none
+
+  pub eval-is : bytes_eq text (codes "eval") ≡ true → (e : ReadEval) → IsEval (behind_first 1 words) e
+      → (args : List Arg) × Words (texts words) (Eval e.proof.now e.name.now e.turns args) × HoldsArgs args e.given.values e.memory
   eval-is is e all = (all.0, (all.1, named (codes "eval") is ∙ ap (λ (ws : List (List ℕ)). codes "eval" ∷ ws) all.2), all.3)
 
   no-command : bytes_eq text (codes "run") ≡ true → NoRun (behind_first 1 words) → IsNoCommand (texts words)
@@ -144,7 +151,7 @@ module _ (words : List Word) (first : Word) (low : 1 ≤ length words) (here : f
       let whole = sym (named (codes "run") is) ∙ c.1 in
       let same : behind_first 1 words ≡ run_words e s u k args = cc in
       none e s u k args c.0 same
-  no-command is none (Eval p n t given) c =
+  no-command is none (Eval p n t args) c =
       let whole = sym (named (codes "run") is) ∙ c.1 in
       let same : codes "eval" ≡ codes "run" = cc in
       absurd (other-name same)

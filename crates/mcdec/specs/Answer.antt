@@ -9,7 +9,7 @@ use Rattle.mcdec.specs.RunAnswer.{RunGives}
 
 -- a command, where the names hold these files
 abbrev pub CommandGives : Contents → Command → Answer → Type 0
-CommandGives files (Eval proof name turns given) a = (p : List ℕ) × (files proof ≡ Some p) × EvalGives p name turns given a
+CommandGives files (Eval proof name turns args) a = (p : List ℕ) × (files proof ≡ Some p) × EvalGives p name turns args a
 CommandGives files (Run elf start until steps args) a = (p : List ℕ) × (files elf ≡ Some p) × RunGives p start until steps args a
 
 -- a list of words, where the names hold these files; `rose` says that the count of read faults rose

@@ -1,20 +1,14 @@
 -- The lists of words that are commands, and no others.
 --
---   eval PROOF NAME TURNS ARG*        ARG is xN=V, each N at most once
+--   eval PROOF NAME TURNS ARG*        ARG is xN=V, each N at most once,
 --   run ELF START UNTIL STEPS ARG*    or mem=A:H, with two hexadecimal digits for each byte, any number of them
 use Rattle.std.specs.Prelude.{◌≡◌, ◌≢◌, ℕ, ◌<◌, ◌≤◌, ◌^◌, ◌+◌, ◌==◌, if◌then◌else◌, List, [], ◌∷◌, ◌++◌, length, map, codes, Option, Some, None, unwrap_or, All}
 use Rattle.std.specs.List.{AllByRecursion}
 use Rattle.std.specs.Fmt.{decimal}
 use Rattle.hex.specs.Hex.{encode_lower}
 use Rattle.word_terms.specs.declared.code.Range.{Range}
-use Rattle.mcdec.specs.Number.{hex}
-
--- a byte of a name: visible, and none of ( ) ;
-abbrev pub IsNameByte : ℕ → Type 0
-IsNameByte b = (33 ≤ b) × (b ≤ 126) × (b ≢ 40) × (b ≢ 41) × (b ≢ 59)
-
-abbrev pub IsName : List ℕ → Type 0
-IsName bytes = (1 ≤ length bytes) × (length bytes ≤ 4096) × All IsNameByte bytes
+use Rattle.mc_text.specs.Number.{hex}
+use Rattle.proof_text.specs.Limits.{IsName}
 
 -- a register that is given a value
 pub record Given : Type 0 where
@@ -27,7 +21,7 @@ pub data Arg : Type 0 where
   Memory : (range : Range) → Arg
 
 pub data Command : Type 0 where
-  Eval : (proof name : List ℕ) (turns : ℕ) (given : List Given) → Command
+  Eval : (proof name : List ℕ) (turns : ℕ) (args : List Arg) → Command
   Run : (elf start : List ℕ) (until steps : ℕ) (args : List Arg) → Command
 
 -- xN=V
@@ -44,7 +38,7 @@ arg_word (Memory r) = memory_word r
 
 -- the words of a command
 abbrev pub words_of : Command → List (List ℕ)
-words_of (Eval proof name turns given) = codes "eval" ∷ proof ∷ name ∷ decimal turns ∷ map given_word given
+words_of (Eval proof name turns args) = codes "eval" ∷ proof ∷ name ∷ decimal turns ∷ map arg_word args
 words_of (Run elf start until steps args) = codes "run" ∷ elf ∷ start ∷ hex until ∷ decimal steps ∷ map arg_word args
 
 abbrev pub IsGiven : Given → Type 0
@@ -81,7 +75,7 @@ AreArgs args = AreGiven (givens args) × AllByRecursion IsMemory (ranges args)
 
 -- what its words may be
 abbrev pub IsCommand : Command → Type 0
-IsCommand (Eval proof name turns given) = (proof ≢ []) × IsName name × (turns < 2 ^ 64) × AreGiven given
+IsCommand (Eval proof name turns args) = (proof ≢ []) × IsName name × (turns < 2 ^ 64) × AreArgs args
 IsCommand (Run elf start until steps args) = (elf ≢ []) × IsName start × (until < 2 ^ 64) × (steps < 2 ^ 64) × AreArgs args
 
 -- the command that a list of words is
@@ -97,10 +91,10 @@ value_of gs n = unwrap_or (given_to gs n) 0
 
 -- the files that a command reads
 abbrev pub inputs_of : Command → List (List ℕ)
-inputs_of (Eval proof name turns given) = proof ∷ []
+inputs_of (Eval proof name turns args) = proof ∷ []
 inputs_of (Run elf start until steps args) = elf ∷ []
 
 -- the file that a command writes
 abbrev pub output_of : Command → Option (List ℕ)
-output_of (Eval proof name turns given) = None
+output_of (Eval proof name turns args) = None
 output_of (Run elf start until steps args) = None

@@ -1,4 +1,5 @@
 -- What the reader of the command line's words gives.
+use Rattle.std.specs.List.{AllByRecursion}
 use Rattle.std.specs.Prelude.{◌≡◌, ◌≢◌, ℕ, ◌<◌, List, ◌∷◌, map, codes, Option, Some, None, slice_get, string_bytes, unwrap_or}
 use Rattle.std.specs.Fmt.{decimal}
 use Rattle.std.specs.declared.string.String.{String}
@@ -7,14 +8,13 @@ use Rattle.mcdec.specs.declared.command.Command.{Command as Read}
 use Rattle.mcdec.specs.declared.command.Command.TheVariants as read
 use Rattle.mcdec.specs.declared.command.Eval.{Eval as ReadEval}
 use Rattle.mcdec.specs.declared.command.Run.{Run as ReadRun}
-use Rattle.mcdec.specs.Reading.{Reader, behind, before, pair, made, decimal_at, hex_at, bytes_at}
 use Rattle.mcdec.specs.declared.command.Argument.{Argument as ReadArg}
 use Rattle.mcdec.specs.declared.command.Argument.TheVariants as read_arg
-use Rattle.mcdec.specs.declared.reader.Unread.{Unread}
-use Rattle.mcdec.specs.declared.reader.Unread.TheVariants as unread
+use Rattle.mcdec.specs.declared.command.Unread.{Unread}
+use Rattle.mcdec.specs.declared.command.Unread.TheVariants as unread
 use Rattle.word_terms.specs.declared.code.Range.{Range}
-use Rattle.mcdec.specs.Number.{hex}
-use Rattle.mcdec.specs.Command.{Eval, Run, Arg, Value, Memory, Given, IsGiven, IsMemory, IsCommand, AreGiven, AreArgs, Words, given_to, given_word, arg_word, givens, ranges}
+use Rattle.mc_text.specs.Number.{hex}
+use Rattle.mcdec.specs.Command.{Eval, Run, Arg, Value, Memory, Given, IsGiven, IsMemory, IsCommand, AreArgs, Words, given_to, arg_word, givens, ranges}
 
 -- the texts of the words
 abbrev pub texts : List (String Global) → List (List ℕ)
@@ -40,34 +40,14 @@ value_in values n = word_of (slice_get values n)
     word_of None = 0
     word_of (Some value) = unwrap_or value 0
 
--- a register's number and its value
-unfoldable pub given_at : Reader Given
-given_at = behind (codes "x") (made (λ p. record { register = p.0; value = p.1 }) (pair (before (decimal_at 32) (codes "=")) hex_at))
-
-abbrev pub NoneGiven : List (List ℕ) → Type 0
-NoneGiven ws = (gs : List Given) → AreGiven gs → ws ≢ map given_word gs
-
-abbrev pub AllGiven : List (List ℕ) → List (Option ℕ) → Type 0
-AllGiven ws values = (gs : List Given) × AreGiven gs × (ws ≡ map given_word gs) × Holds gs values
-
--- the words behind `eval`
-abbrev pub eval_words : List ℕ → List ℕ → ℕ → List Given → List (List ℕ)
-eval_words proof name turns given = proof ∷ name ∷ decimal turns ∷ map given_word given
-
-abbrev pub NoEval : List (List ℕ) → Type 0
-NoEval ws = (proof name : List ℕ) (turns : ℕ) (given : List Given) → IsCommand (Eval proof name turns given) → ws ≢ eval_words proof name turns given
-
-abbrev pub IsEval : List (List ℕ) → ReadEval → Type 0
-IsEval ws e = (given : List Given) × IsCommand (Eval e.proof.now e.name.now e.turns given) × (ws ≡ eval_words e.proof.now e.name.now e.turns given) × Holds given e.given.values
+-- none of the bytes is this one
+abbrev pub Lacks : ℕ → List ℕ → Type 0
+Lacks b bytes = AllByRecursion (λ c. c ≢ b) bytes
 
 -- a word behind the others, seen by what was read
 abbrev pub arg_of : ReadArg → Arg
 arg_of (read_arg.Value register value) = Value (record { register = register; value = value })
 arg_of (read_arg.Memory range) = Memory range
-
--- bytes of memory
-unfoldable pub memory_at : Reader Range
-memory_at = behind (codes "mem=") (made (λ p. record { at = p.0; bytes = p.1 }) (pair (before hex_at (codes ":")) bytes_at))
 
 -- a word by itself
 abbrev pub IsArg : Arg → Type 0
@@ -89,6 +69,17 @@ HoldsArgs args values memory = Holds (givens args) values × (memory ≡ ranges 
 abbrev pub AllArgs : List (List ℕ) → List (Option ℕ) → List Range → Type 0
 AllArgs ws values memory = (args : List Arg) × AreArgs args × (ws ≡ map arg_word args) × HoldsArgs args values memory
 
+-- the words behind `eval`
+abbrev pub eval_words : List ℕ → List ℕ → ℕ → List Arg → List (List ℕ)
+eval_words proof name turns args = proof ∷ name ∷ decimal turns ∷ map arg_word args
+
+abbrev pub NoEval : List (List ℕ) → Type 0
+NoEval ws = (proof name : List ℕ) (turns : ℕ) (args : List Arg) → IsCommand (Eval proof name turns args) → ws ≢ eval_words proof name turns args
+
+abbrev pub IsEval : List (List ℕ) → ReadEval → Type 0
+IsEval ws e = (args : List Arg) × IsCommand (Eval e.proof.now e.name.now e.turns args) × (ws ≡ eval_words e.proof.now e.name.now e.turns args)
+    × HoldsArgs args e.given.values e.memory
+
 -- the words behind `run`
 abbrev pub run_words : List ℕ → List ℕ → ℕ → ℕ → List Arg → List (List ℕ)
 run_words elf start until steps args = elf ∷ start ∷ hex until ∷ decimal steps ∷ map arg_word args
@@ -102,7 +93,7 @@ IsRun ws r = (args : List Arg) × IsCommand (Run r.elf.now r.start.now r.until r
 
 -- the command, seen by what was read
 abbrev pub IsReadEval : List (List ℕ) → ReadEval → Type 0
-IsReadEval ws e = (given : List Given) × Words ws (Eval e.proof.now e.name.now e.turns given) × Holds given e.given.values
+IsReadEval ws e = (args : List Arg) × Words ws (Eval e.proof.now e.name.now e.turns args) × HoldsArgs args e.given.values e.memory
 
 abbrev pub IsReadRun : List (List ℕ) → ReadRun → Type 0
 IsReadRun ws r = (args : List Arg) × Words ws (Run r.elf.now r.start.now r.until r.steps args) × HoldsArgs args r.given.values r.memory

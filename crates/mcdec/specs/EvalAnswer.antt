@@ -1,11 +1,19 @@
 -- When each answer to `eval` comes.
-use Rattle.std.specs.Prelude.{◌≡◌, ◌≢◌, ℕ, ◌-◌, ◌<◌, ◌≤◌, List, [], length, map}
+use Rattle.std.specs.Prelude.{◌≡◌, ◌≢◌, ℕ, ◌-◌, ◌<◌, ◌≤◌, List, [], ◌∷◌, ◌++◌, length, map, replicate}
+use Rattle.std.specs.List.{AllByRecursion}
+use Rattle.rv_words.specs.Bytes.{Bytes}
+use Rattle.mc_text.specs.Fault.{IsBadAt}
+use Rattle.word_terms.specs.declared.code.Range.{Range}
 use Rattle.tailrec_lang.specs.Tree.{GroupTree}
-use Rattle.tailrec_lang.specs.Eval.{Arguments, Done, Turns, eval}
+use Rattle.tailrec_lang.specs.WellFormed.{IsWellFormed, IsFirstIllFormed}
+use Rattle.tailrec_lang.specs.Eval.{Arguments, Done, SideFalse, Turns, eval}
+use Rattle.proof_text.specs.Spelling.{text_of}
+use Rattle.proof_text.specs.Limits.{AreGroups, texts}
+use Rattle.proof_text.specs.Front.{AreRead}
 use Rattle.mcdec.specs.declared.answer.Answer.{Answer}
 use Rattle.mcdec.specs.declared.answer.Answer.TheVariants as answer
-use Rattle.mcdec.specs.Command.{Given, value_of}
-use Rattle.mcdec.specs.Text.{IsSmallText}
+use Rattle.mcdec.specs.Command.{Arg, value_of, givens, ranges}
+use Rattle.mcdec.specs.Memory.{no_bytes, placed, held_at}
 
 -- the most bytes of a proof file that are read
 abbrev pub proof_limit : ℕ
@@ -15,24 +23,54 @@ proof_limit = 268435456
 abbrev pub listed : GroupTree → ℕ
 listed g = length g.defs - 1
 
--- the value of each register of the group, 0 where it is given none, and no memory
-abbrev pub arguments_of : List Given → GroupTree → Arguments
-arguments_of given g = record { words = map (value_of given) g.regs; mems = [] }
+-- the value of each register of the group, 0 where it is given none, and, where the group has a memory, the words' bytes
+-- in an empty one
+abbrev pub arguments_of : List Arg → GroupTree → Arguments
+arguments_of args g = record { words = map (value_of (givens args)) g.regs; mems = replicate g.mems (placed (ranges args) no_bytes) }
 
--- `eval` of the listed function of a group without memories within turns, on given registers
-abbrev pub GroupGives : GroupTree → ℕ → List Given → Answer → Type 0
-GroupGives g turns given answer.TurnsUsed = eval g (listed g) (arguments_of given g) turns ≡ Turns
-GroupGives g turns given (answer.Evaluated used pc registers words) = (registers ≡ g.regs)
-    × (exit left : ℕ) × (eval g (listed g) (arguments_of given g) turns ≡ Done exit pc (record { words = words; mems = [] }) left) × (used ≡ turns - left)
-GroupGives g turns given _ = ⊥
+-- the words' ranges with the bytes that a group's memory has there, if it has one
+abbrev pub ranges_in : List Bytes → List Range → List Range
+ranges_in [] rs = []
+ranges_in (m ∷ ms) rs = map (held_at m) rs
 
--- `eval` of a name, where the proof file is this text
-abbrev pub TextGives : List ℕ → List ℕ → ℕ → List Given → Answer → Type 0
-TextGives text name turns given (answer.UnreadableText line) = ((g : GroupTree) → IsSmallText text g → ⊥) × (line ≡ 0)
-TextGives text name turns given answer.NoFunction = (g : GroupTree) × IsSmallText text g × (g.name ≢ name)
-TextGives text name turns given a = (g : GroupTree) × IsSmallText text g × (g.name ≡ name) × GroupGives g turns given a
+-- `eval` of the listed function of a group within turns
+abbrev pub GroupGives : GroupTree → ℕ → List Arg → Answer → Type 0
+GroupGives g turns args answer.TurnsUsed = eval g (listed g) (arguments_of args g) turns ≡ Turns
+GroupGives g turns args (answer.SideFalse def ordinal) = eval g (listed g) (arguments_of args g) turns ≡ SideFalse def ordinal
+GroupGives g turns args (answer.Evaluated used pc registers words memory) =
+    (exit left : ℕ) × (results : Arguments) × (eval g (listed g) (arguments_of args g) turns ≡ Done exit pc results left) × (used ≡ turns - left)
+    × (registers ≡ g.regs) × (words ≡ results.words) × (memory ≡ ranges_in results.mems (ranges args))
+GroupGives g turns args _ = ⊥
+
+-- the first group of the name, if there is one
+abbrev pub NoneNamed : List ℕ → List GroupTree → Type 0
+NoneNamed name gs = AllByRecursion (λ g. g.name ≢ name) gs
+
+pub record FirstNamed (name : List ℕ) (gs : List GroupTree) (g : GroupTree) : Type 0 where
+  pub before : List GroupTree
+  pub behind : List GroupTree
+  pub parts : gs ≡ before ++ g ∷ behind
+  pub others : NoneNamed name before
+  pub named : g.name ≡ name
+
+-- each group is well-formed
+abbrev pub AreWellFormed : List GroupTree → Type 0
+AreWellFormed gs = AllByRecursion IsWellFormed gs
+
+-- the text is that of these groups, and all are well-formed
+abbrev pub IsTextOf : List ℕ → List GroupTree → Type 0
+IsTextOf text gs = AreGroups gs × (text ≡ text_of gs) × AreWellFormed gs
+
+-- `eval` of a name, where the proof file is this text. The groups are judged as they are read: a definition that isn't
+-- well-formed is told before a bad line behind its group, and after one in it.
+abbrev pub TextGives : List ℕ → List ℕ → ℕ → List Arg → Answer → Type 0
+TextGives text name turns args (answer.IllFormed group def) = (gs : List GroupTree) × (g : GroupTree) × AreRead text (gs ++ g ∷ [])
+    × AreWellFormed gs × (group ≡ length gs) × IsFirstIllFormed g def
+TextGives text name turns args (answer.UnreadableText line) = IsBadAt texts text line × ((gs : List GroupTree) → AreRead text gs → AreWellFormed gs)
+TextGives text name turns args answer.NoFunction = (gs : List GroupTree) × IsTextOf text gs × NoneNamed name gs
+TextGives text name turns args a = (gs : List GroupTree) × IsTextOf text gs × (g : GroupTree) × FirstNamed name gs g × GroupGives g turns args a
 
 -- `eval` of a name, where the proof file has these bytes
-abbrev pub EvalGives : List ℕ → List ℕ → ℕ → List Given → Answer → Type 0
-EvalGives p name turns given answer.OverLimitProof = proof_limit < length p
-EvalGives p name turns given a = (length p ≤ proof_limit) × TextGives p name turns given a
+abbrev pub EvalGives : List ℕ → List ℕ → ℕ → List Arg → Answer → Type 0
+EvalGives p name turns args answer.OverLimitProof = proof_limit < length p
+EvalGives p name turns args a = (length p ≤ proof_limit) × TextGives p name turns args a

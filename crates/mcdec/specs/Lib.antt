@@ -1,10 +1,9 @@
-pub mod Number
 pub mod Command
 pub mod CommandReading
-pub mod Text
+pub mod Memory
 pub mod EvalAnswer
+pub mod Search
 pub mod RunAnswer
 pub mod Answer
 pub mod Printed
-pub mod Reading
 pub mod Printing

@@ -10,12 +10,18 @@ use Rattle.rv_machine.specs.declared.state.Stuck.{Stuck}
 use Rattle.rv_machine.specs.declared.state.Stuck.TheVariants as stuck
 use Rattle.mcdec.specs.declared.answer.Answer.{Answer}
 use Rattle.mcdec.specs.declared.answer.Answer.TheVariants as answer
-use Rattle.mcdec.specs.Number.{hex}
-use Rattle.mcdec.specs.Text.{each}
+use Rattle.mc_text.specs.Number.{hex}
+
+-- the texts of the items, one after the other
+abbrev pub each : {X : Type 0} → (X → List ℕ) → List X → List ℕ
+each text [] = []
+each text (x ∷ xs) = text x ++ each text xs
 
 abbrev pub status : Answer → ℕ
-status (answer.Evaluated used pc registers words) = 0
+status (answer.Evaluated used pc registers words memory) = 0
 status (answer.Met steps pc registers words memory) = 0
+status (answer.IllFormed group def) = 1
+status (answer.SideFalse def ordinal) = 1
 status answer.NoFunction = 1
 status (answer.NoSuchStart name) = 1
 status (answer.AmbiguousStart name low high) = 1
@@ -44,13 +50,13 @@ register_lines (r ∷ rs) [] = []
 abbrev pub memory_line : Range → List ℕ
 memory_line r = codes "mem " ++ hex r.at ++ codes " " ++ encode_lower r.bytes ++ codes "\n"
 
--- done T, pc A
-abbrev pub done_lines : ℕ → ℕ → List ℕ
-done_lines used pc = codes "done " ++ decimal used ++ codes "\npc " ++ hex pc ++ codes "\n"
+-- done T or met K, and pc A
+abbrev pub count_lines : List ℕ → ℕ → ℕ → List ℕ
+count_lines word count pc = word ++ decimal count ++ codes "\npc " ++ hex pc ++ codes "\n"
 
--- met K, pc A
-abbrev pub met_lines : ℕ → ℕ → List ℕ
-met_lines steps pc = codes "met " ++ decimal steps ++ codes "\npc " ++ hex pc ++ codes "\n"
+-- these, and the lines of registers and of memory
+abbrev pub end_lines : List ℕ → ℕ → ℕ → List ℕ → List ℕ → List Range → List ℕ
+end_lines word count pc registers words memory = count_lines word count pc ++ register_lines registers words ++ each memory_line memory
 
 -- why there is no step
 abbrev pub stuck_words : Stuck → List ℕ
@@ -78,8 +84,10 @@ fault_words (fault.TooBig n) = codes "too-big " ++ decimal n
 fault_words fault.NoMemory = codes "no memory"
 
 abbrev pub lines : Answer → List ℕ
-lines (answer.Evaluated used pc registers words) = done_lines used pc ++ register_lines registers words
-lines (answer.Met steps pc registers words memory) = met_lines steps pc ++ register_lines registers words ++ each memory_line memory
+lines (answer.Evaluated used pc registers words memory) = end_lines (codes "done ") used pc registers words memory
+lines (answer.Met steps pc registers words memory) = end_lines (codes "met ") steps pc registers words memory
+lines (answer.IllFormed group def) = codes "refused def " ++ decimal group ++ codes " " ++ decimal def ++ codes "\n"
+lines (answer.SideFalse def ordinal) = codes "refused side " ++ decimal def ++ codes " " ++ decimal ordinal ++ codes "\n"
 lines answer.NoFunction = codes "refused no function\n"
 lines (answer.NoSuchStart name) = codes "refused " ++ name ++ codes " no-such\n"
 lines (answer.AmbiguousStart name low high) = codes "refused " ++ name ++ codes " ambiguous " ++ hex low ++ codes " " ++ hex high ++ codes "\n"

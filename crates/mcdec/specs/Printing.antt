@@ -7,7 +7,7 @@ use Rattle.mc_shelf.specs.declared.sink.Stop.{Stop}
 use Rattle.mc_shelf.specs.declared.sink.Stop.TheVariants.{Failed}
 use Rattle.mcdec.specs.declared.print.Piece.{Piece}
 use Rattle.mcdec.specs.declared.print.Piece.TheVariants as piece
-use Rattle.mcdec.specs.Number.{hex}
+use Rattle.mc_text.specs.Number.{hex}
 
 abbrev pub piece_text : Piece → List ℕ
 piece_text (piece.Text bytes) = bytes.now

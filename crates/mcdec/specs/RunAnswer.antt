@@ -1,8 +1,6 @@
 -- When each answer to `run` comes.
 use Rattle.std.specs.Prelude.{◌≡◌, ℕ, ◌+◌, ◌<◌, ◌≤◌, ◌^◌, ◌==◌, Bool, not, ◌||◌, List, [], ◌∷◌, length, map, filter, is_some, unwrap_or, Some, Result, Ok, Err, ◌⊎◌}
 use Rattle.std.specs.List.{range_with_len}
-use Rattle.rv_words.specs.Bytes.{Bytes, bytes_from, over}
-use Rattle.word_terms.specs.declared.code.Range.{Range}
 use Rattle.elf_image.specs.Fault.{IsReadable, fault_of}
 use Rattle.elf_image.specs.Image.{image_of, bytes_in}
 use Rattle.elf_image.specs.Symbol.{value_of_name}
@@ -13,17 +11,13 @@ use Rattle.rv_machine.specs.Run.{EndsIn}
 use Rattle.rv_machine.specs.declared.running.RunEnd.TheVariants as end
 use Rattle.mcdec.specs.declared.answer.Answer.{Answer}
 use Rattle.mcdec.specs.declared.answer.Answer.TheVariants as answer
-use Rattle.mcdec.specs.Number.{hex}
+use Rattle.mc_text.specs.Number.{hex}
 use Rattle.mcdec.specs.Command.{Arg, Given, given_to, value_of, givens, ranges}
+use Rattle.mcdec.specs.Memory.{placed, held_at}
 
 -- the most bytes of an ELF file that are read
 abbrev pub elf_limit : ℕ
 elf_limit = 67108864
-
--- the ranges' bytes put over those of a memory, one range after the other
-abbrev pub placed : List Range → Bytes → Bytes
-placed [] m = m
-placed (r ∷ rs) m = placed rs (over (bytes_from r.at r.bytes) m)
 
 -- the state at an address: in memory the file's pieces and the words' ranges over them, and in each register the value that it
 -- is given, or 0
@@ -37,10 +31,6 @@ is_shown given t r = is_some (given_to given r) || not (t.reg r == 0)
 -- the registers whose words are shown, rising
 abbrev pub shown : List Given → State → List ℕ
 shown given t = filter (is_shown given t) (range_with_len 1 31)
-
--- the range with the bytes of a memory there; an absent one counts as 0, and a run takes none away
-abbrev pub held_at : Bytes → Range → Range
-held_at m r = record { at = r.at; bytes = map (λ k. unwrap_or (m (r.at + k)) 0) (range_with_len 0 (length r.bytes)) }
 
 -- `run` from a state to an address within steps
 abbrev pub MachineGives : ℕ → ℕ → List Arg → State → Answer → Type 0

@@ -8,12 +8,14 @@ use word_terms::Range;
 /// The answer to a list of words.
 #[derive(Debug, Drop)]
 pub enum Answer {
-    /// The turns used, the program counter at the exit, and the word of each register of the group there.
+    /// The turns used, the program counter at the exit, the word of each register of the group there, and the bytes of
+    /// memory that were asked for, if the group has a memory.
     Evaluated {
         used: u64,
         pc: u64,
         registers: List<u8>,
         words: List<u64>,
+        memory: List<Range>,
     },
     /// The steps made, the program counter, the registers that are shown with the word of each, and the bytes of memory
     /// that were asked for.
@@ -24,6 +26,10 @@ pub enum Answer {
         words: List<u64>,
         memory: List<Range>,
     },
+    /// The definition of that number, in the group of that number, isn't well-formed.
+    IllFormed(u64, u32),
+    /// A condition that is needed is false: its definition, and its number there.
+    SideFalse(u32, u64),
     /// No group of the proof file has the name.
     NoFunction,
     /// The word isn't the spelling of an address, and no function of the file has this name.
@@ -34,7 +40,7 @@ pub enum Answer {
     StuckAfter(u64, Stuck),
     /// The words are no command.
     NotACommand,
-    /// The proof file isn't a proof file of this version.
+    /// The proof file isn't one, from this line on.
     UnreadableText(u64),
     /// The ELF file has this fault.
     UnreadableElf(ElfFault),

@@ -1,16 +1,36 @@
 //! The words of the command line.
 
-ghost use Rattle.std.specs.Prelude.{◌≡◌, ◌≢◌, ◌↔◌, ◌+◌, ◌<◌, ◌≤◌, ◌^◌, IsTrue, IsErrOf, MatchOption, MatchResult, length};
-ghost use Rattle.mcdec.specs.Command.{Arg, Given, IsName, IsGiven, IsMemory, IsNoCommand, arg_word, given_word, memory_word};
-ghost use Rattle.mcdec.specs.CommandReading.{AllArgs, AllGiven, IsArg, IsEval, IsRead, IsRun, NoArgs, NoEval, NoRun, NoneGiven, Unless, arg_of, given_at, given_in, memory_at, texts, value_in};
+ghost use Rattle.std.specs.Prelude.{◌≡◌, ◌≢◌, ◌↔◌, ◌+◌, ◌<◌, ◌≤◌, ◌^◌, ◌++◌, ◌∷◌, ℕ, List, IsTrue, MatchOption, MatchResult, length, codes};
+ghost use Rattle.std.specs.Fmt.{decimal};
+ghost use Rattle.hex.specs.Hex.{encode_lower};
+ghost use Rattle.mc_text.specs.Number.{hex};
+ghost use Rattle.proof_text.specs.Limits.{IsName};
+ghost use Rattle.mcdec.specs.Command.{Arg, Given, IsGiven, IsMemory, IsNoCommand, arg_word};
+ghost use Rattle.mcdec.specs.CommandReading.{AllArgs, IsArg, IsEval, IsRead, IsRun, Lacks, NoArgs, NoEval, NoRun, Unless, arg_of, given_in, texts, value_in};
+ghost use Rattle.mcdec.specs.declared.command.Unread.TheVariants.{NoMemory};
 ghost use Rattle.word_terms.specs.declared.code.Range.{Range as RangeOf};
-ghost use Rattle.mcdec.specs.Reading.{Gives};
 
-use crate::number::Base;
-use crate::reader::{Class, Unread, after, decimal, hex, hex_bytes, hex_number, number_of, run};
-use rv_words::List;
-use std::alloc::Global;
+use mc_text::{dec, hex_bytes, hexnum, is_atom};
+use rv_words::{List, NoMemory};
+use std::alloc::{AllocError, AllocFailed, Global};
 use word_terms::Range;
+
+/// Why the words are no command.
+#[derive(Clone, Copy, Debug, PartialEq, Eq)]
+pub enum Unread {
+    /// They are none.
+    NotThere,
+    /// There was no memory.
+    NoMemory,
+}
+
+impl From<NoMemory> for Unread {
+    ghost from_gives = { λ _ e. e ≡ NoMemory };
+
+    fn from(_e: NoMemory) -> Unread {
+        Unread::NoMemory
+    }
+}
 
 /// A command.
 #[derive(Drop)]
@@ -26,6 +46,7 @@ pub struct Eval<'a> {
     pub name: &'a [u8],
     pub turns: u64,
     pub given: Registers,
+    pub memory: List<Range>,
 }
 
 /// `run ELF START UNTIL STEPS ARG*`
@@ -84,10 +105,7 @@ pub fn read_words(alloc: Global, words: &[String]) -> Result<Command<'_>, Unread
         return Err(Unread::NotThere);
     };
     if first.as_str() == "eval" {
-        return match read_eval(rest) {
-            Some(e) => Ok(Command::Eval(e)),
-            None => Err(Unread::NotThere),
-        };
+        return Ok(Command::Eval(read_eval(alloc, rest)?));
     }
     if first.as_str() == "run" {
         return Ok(Command::Run(read_run(alloc, rest)?));
@@ -96,22 +114,26 @@ pub fn read_words(alloc: Global, words: &[String]) -> Result<Command<'_>, Unread
 }
 
 /// The words behind `eval`.
-fn read_eval(words: &[String]) -> Option<Eval<'_>>
-    ensures { MatchOption result (NoEval (texts words.now)) (λ e. IsEval (texts words.now) e) }
+fn read_eval(alloc: Global, words: &[String]) -> Result<Eval<'_>, Unread>
+    ensures { MatchResult result (λ e. IsEval (texts words.now) e) (λ e. Unless (NoEval (texts words.now)) e) }
 {
-    let [proof, name, turns, given @ ..] = words else {
-        return None;
+    let [proof, name, turns, arguments @ ..] = words else {
+        return Err(Unread::NotThere);
     };
     if proof.is_empty() || !is_name(name.as_bytes()) {
-        return None;
+        return Err(Unread::NotThere);
     }
-    let turns = number_of(Base::Decimal, turns.as_bytes())?;
-    let given = read_registers(given)?;
-    Some(Eval {
+    let turns = match dec(turns.as_bytes()) {
+        Some(turns) => turns,
+        None => return Err(Unread::NotThere),
+    };
+    let (given, memory) = read_arguments(alloc, arguments)?;
+    Ok(Eval {
         proof: proof.as_str(),
         name: name.as_bytes(),
         turns,
         given,
+        memory,
     })
 }
 
@@ -125,11 +147,11 @@ fn read_run(alloc: Global, words: &[String]) -> Result<Run<'_>, Unread>
     if elf.is_empty() || !is_name(start.as_bytes()) {
         return Err(Unread::NotThere);
     }
-    let until = match hex_number(until.as_bytes()) {
+    let until = match hexnum(until.as_bytes()) {
         Some(until) => until,
         None => return Err(Unread::NotThere),
     };
-    let steps = match number_of(Base::Decimal, steps.as_bytes()) {
+    let steps = match dec(steps.as_bytes()) {
         Some(steps) => steps,
         None => return Err(Unread::NotThere),
     };
@@ -148,11 +170,7 @@ fn read_run(alloc: Global, words: &[String]) -> Result<Run<'_>, Unread>
 fn is_name(bytes: &[u8]) -> bool
     ensures { IsTrue result ↔ IsName bytes.now }
 {
-    if bytes.is_empty() || bytes.len() > 4096 {
-        return false;
-    }
-    let (_, rest) = run(Class::Name, bytes);
-    rest.is_empty()
+    bytes.len() <= 4096 && is_atom(bytes)
 }
 
 /// The values of registers, and bytes of memory.
@@ -162,7 +180,7 @@ fn read_arguments(alloc: Global, words: &[String]) -> Result<(Registers, List<Ra
     let mut values = [None; 32];
     let mut memory = List::new(alloc);
     for word in words {
-        match read_argument(alloc, word.as_bytes())? {
+        match read_argument(alloc, word.as_str())? {
             Argument::Value(register, value) => {
                 if values[register as usize].is_some() {
                     return Err(Unread::NotThere);
@@ -176,88 +194,64 @@ fn read_arguments(alloc: Global, words: &[String]) -> Result<(Registers, List<Ra
 }
 
 /// A word behind the others.
-fn read_argument(alloc: Global, word: &[u8]) -> Result<Argument, Unread>
+fn read_argument(alloc: Global, word: &str) -> Result<Argument, Unread>
     ensures { MatchResult result (λ a. IsArg (arg_of a) × (word.now ≡ arg_word (arg_of a))) (λ e. Unless ((a : Arg) → IsArg a → word.now ≢ arg_word a) e) }
 {
-    match read_given(word) {
+    let Some((name, value)) = at_first(word, '=') else {
+        return Err(Unread::NotThere);
+    };
+    if name == "mem" {
+        return Ok(Argument::Memory(read_memory(alloc, value)?));
+    }
+    match read_register(name.as_bytes(), value.as_bytes()) {
         Some((register, value)) => Ok(Argument::Value(register, value)),
-        None => Ok(Argument::Memory(read_memory(alloc, word)?)),
+        None => Err(Unread::NotThere),
+    }
+}
+
+/// A register's number and its value.
+fn read_register(name: &[u8], value: &[u8]) -> Option<(u8, u64)>
+    ensures { MatchOption result ((g : Given) → IsGiven g → name.now ≡ codes "x" ++ decimal g.register → value.now ≢ hex g.value)
+        (λ x. IsGiven (record { register = x.0; value = x.1 }) × (name.now ≡ codes "x" ++ decimal x.0) × (value.now ≡ hex x.1)) }
+{
+    let [b'x', number @ ..] = name else {
+        return None;
+    };
+    let register = dec(number)?;
+    let value = hexnum(value)?;
+    if 1 <= register && register <= 31 {
+        Some((register as u8, value))
+    } else {
+        None
     }
 }
 
 /// Bytes of memory.
-fn read_memory(alloc: Global, word: &[u8]) -> Result<Range, Unread>
-    ensures { MatchResult result (λ r. IsMemory r × (word.now ≡ memory_word r)) (λ e. Unless ((r : RangeOf) → IsMemory r → word.now ≢ memory_word r) e) }
+fn read_memory(alloc: Global, value: &str) -> Result<Range, Unread>
+    ensures { MatchResult result (λ r. IsMemory r × (value.now ≡ hex r.at ++ codes ":" ++ encode_lower r.bytes))
+        (λ e. Unless ((r : RangeOf) → IsMemory r → value.now ≢ hex r.at ++ codes ":" ++ encode_lower r.bytes) e) }
 {
-    let (range, rest) = memory(alloc, word)?;
-    if rest.is_empty() && is_memory(&range) {
-        Ok(range)
+    let Some((address, digits)) = at_first(value, ':') else {
+        return Err(Unread::NotThere);
+    };
+    let Some(at) = hexnum(address.as_bytes()) else {
+        return Err(Unread::NotThere);
+    };
+    let Some(bytes) = hex_bytes(alloc, digits.as_bytes())? else {
+        return Err(Unread::NotThere);
+    };
+    if u128::from(at) + bytes.len() as u128 <= 1 << 64 {
+        Ok(Range { at, bytes })
     } else {
         Err(Unread::NotThere)
     }
 }
 
-/// Whether there is a byte, and none behind the last address.
-fn is_memory(range: &Range) -> bool
-    ensures { IsTrue result ↔ ((0 < length range.now.bytes) × (range.now.at + length range.now.bytes ≤ 2 ^ 64)) }
+/// What stands before the first such character, and what stands behind it.
+fn at_first(text: &str, mark: char) -> Option<(&str, &str)>
+    requires { mark < 128 }
+    ensures { MatchOption result ((front back : List ℕ) → text.now ≢ front ++ mark ∷ back)
+        (λ x. (text.now ≡ x.0.now ++ mark ∷ x.1.now) × Lacks mark x.0.now) }
 {
-    let size = range.bytes.as_slice().len() as u128;
-    size > 0 && u128::from(range.at) + size <= 1 << 64
-}
-
-/// Bytes of memory, at the front of the bytes.
-#[tactic(auto, unfolding(crate::specs::CommandReading::memory_at))]
-fn memory(alloc: Global, bytes: &[u8]) -> Result<(Range, &[u8]), Unread>
-    ensures { Gives (λ r. r) (λ rest. rest.now) result (memory_at bytes.now) }
-{
-    let rest = after(b"mem=", bytes)?;
-    let (at, rest) = hex(rest)?;
-    let rest = after(b":", rest)?;
-    let (bytes, rest) = hex_bytes(alloc, rest)?;
-    Ok((Range { at, bytes }, rest))
-}
-
-/// The values of registers.
-fn read_registers(words: &[String]) -> Option<Registers>
-    ensures { MatchOption result (NoneGiven (texts words.now)) (λ r. AllGiven (texts words.now) r.values) }
-{
-    let mut values = [None; 32];
-    for word in words {
-        let (register, value) = read_given(word.as_bytes())?;
-        if values[register as usize].is_some() {
-            return None;
-        }
-        values[register as usize] = Some(value);
-    }
-    Some(Registers { values })
-}
-
-/// A register's number and its value.
-fn read_given(word: &[u8]) -> Option<(u8, u64)>
-    ensures { MatchOption result ((g : Given) → IsGiven g → word.now ≢ given_word g)
-        (λ x. IsGiven (record { register = x.0; value = x.1 }) × (word.now ≡ given_word (record { register = x.0; value = x.1 }))) }
-{
-    match register_value(word) {
-        Ok(((register, value), rest)) => {
-            if register != 0 && rest.is_empty() {
-                Some((register, value))
-            } else {
-                None
-            }
-        }
-        Err(_) => None,
-    }
-}
-
-/// A register's number and its value, at the front of the bytes.
-#[tactic(auto, unfolding(crate::specs::CommandReading::given_at))]
-fn register_value(bytes: &[u8]) -> Result<((u8, u64), &[u8]), Unread>
-    ensures read { Gives (λ x. record { register = x.0; value = x.1 }) (λ rest. rest.now) result (given_at bytes.now) }
-    ensures without_memory { IsErrOf result Unread.NoMemory → ⊥ }
-{
-    let rest = after(b"x", bytes)?;
-    let (register, rest) = decimal(32, rest)?;
-    let rest = after(b"=", rest)?;
-    let (value, rest) = hex(rest)?;
-    Ok(((register as u8, value), rest))
+    text.split_once(mark)
 }

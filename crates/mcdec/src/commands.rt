@@ -8,10 +8,9 @@ ghost use Rattle.mcdec.specs.Printed.{IsDelivered, IsPrinted};
 ghost use Rattle.mcdec.specs.declared.answer.Answer.{Answer as AnswerOf};
 
 use crate::answer::Answer;
-use crate::command::{Command, read_words};
+use crate::command::{Command, Unread, read_words};
 use crate::evaluate::evaluate;
 use crate::print::deliver;
-use crate::reader::Unread;
 use crate::run::run_file;
 use mc_shelf::{Shelf, Sink};
 use std::alloc::Global;

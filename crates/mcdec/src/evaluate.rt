@@ -1,28 +1,45 @@
 //! The command `eval`.
 
-ghost use Rattle.std.specs.Prelude.{◌≡◌, ℕ, ◌≤◌, List, map, IfOk};
+ghost use Rattle.std.specs.Prelude.{◌≡◌, ℕ, ◌≤◌, List, [], ◌∷◌, ◌++◌, All, map, IfOk};
 ghost use Rattle.mc_shelf.specs.Fault.{Rose};
-ghost use Rattle.tailrec_lang.specs.Tree.{group_tree};
+ghost use Rattle.tailrec_lang.specs.Tree.{GroupTree, group_tree};
+ghost use Rattle.tailrec_lang.specs.Eval.{HasFewNeeds};
+ghost use Rattle.tailrec_lang.specs.WellFormed.{IsWellFormed};
+ghost use Rattle.proof_text.specs.Limits.{IsGroup};
 ghost use Rattle.mcdec.specs.Answer.{ForContents, Gives, ReadsAreTold};
-ghost use Rattle.mcdec.specs.Command.{Given};
-ghost use Rattle.mcdec.specs.CommandReading.{Holds, IsReadEval, value_in};
+ghost use Rattle.mcdec.specs.Command.{Arg, AreArgs, IsMemory};
+ghost use Rattle.mcdec.specs.CommandReading.{HoldsArgs, IsReadEval, value_in};
 ghost use Rattle.mcdec.specs.EvalAnswer.{GroupGives, TextGives};
-ghost use Rattle.mcdec.specs.Text.{IsSmall};
+ghost use Rattle.mcdec.specs.Search.{Finds, FoundSo, NextIs};
 
 use crate::answer::Answer;
 use crate::command::{Eval, Registers};
-use crate::reader::Unread;
-use crate::text::small_text;
+use crate::memory::{memories, ranges_in};
 use mc_shelf::{ReadEnd, Shelf, read_file};
+use proof_text::{Reader, TextFault};
 use rv_words::{List, NoMemory};
 use std::alloc::Global;
-use tailrec_lang::{Args, Group, Outcome, eval};
+use tailrec_lang::{Args, BadDef, Group, Outcome, eval, well_formed};
 
 /// The most bytes of a proof file that are read.
 const PROOF_LIMIT: u64 = 268_435_456;
 
+/// Why a text has no function to evaluate.
+#[derive(Clone, Copy, Debug, PartialEq, Eq)]
+pub enum Refusal {
+    /// It isn't a proof file, from this line on.
+    Text(u64),
+    /// In the group of that number, this definition isn't well-formed.
+    IllFormed(u64, u32),
+    /// No group has the name.
+    NoFunction,
+    /// There was no memory.
+    NoMemory,
+}
+
 /// The answer to `eval`.
 pub fn evaluate<S: Shelf>(alloc: Global, e: &Eval<'_>, shelf: &mut S) -> Answer
+    requires { All IsMemory e.now.memory }
     ensures gives { (ws : List (List ℕ)) → IsReadEval ws e.now
         → ForContents (S.contents shelf.old) (λ files. Gives files ws (Rose (S.read_faults shelf.old) (S.read_faults shelf.new)) result) }
 
@@ -45,38 +62,92 @@ pub fn evaluate<S: Shelf>(alloc: Global, e: &Eval<'_>, shelf: &mut S) -> Answer
 
 /// The answer to `eval` where its proof file has this text.
 fn evaluate_text(alloc: Global, text: &[u8], e: &Eval<'_>) -> Result<Answer, NoMemory>
-    ensures { (given : List Given) → Holds given e.now.given.values
-        → IfOk result (λ a. TextGives text.now e.now.name.now e.now.turns given a) }
+    requires { All IsMemory e.now.memory }
+    ensures { (args : List Arg) → AreArgs args → HoldsArgs args e.now.given.values e.now.memory
+        → IfOk result (λ a. TextGives text.now e.now.name.now e.now.turns args a) }
 {
-    let g = match small_text(alloc, text) {
-        Ok(g) => g,
-        Err(Unread::NotThere) => return Ok(Answer::UnreadableText(0)),
-        Err(Unread::NoMemory) => return Err(NoMemory),
-    };
-    if g.name.as_slice() != e.name {
-        return Ok(Answer::NoFunction);
+    match find_group(alloc, text, e.name) {
+        Ok(g) => evaluate_group(alloc, g, e),
+        Err(Refusal::Text(line)) => Ok(Answer::UnreadableText(line)),
+        Err(Refusal::IllFormed(group, def)) => Ok(Answer::IllFormed(group, def)),
+        Err(Refusal::NoFunction) => Ok(Answer::NoFunction),
+        Err(Refusal::NoMemory) => Err(NoMemory),
     }
-    evaluate_group(alloc, g, e)
+}
+
+/// The first group of that name. Each group of the text is read and judged.
+fn find_group(alloc: Global, text: &[u8], name: &[u8]) -> Result<Group, Refusal>
+    ensures { Finds text.now name.now result }
+{
+    let mut reader = Reader::new(text);
+    let mut found = None;
+    let mut count = 0;
+    while let Some(g) = next_group(alloc, &mut reader, count)? {
+        found = first_named(found, g, name);
+        count += 1;
+    }
+    match found {
+        Some(g) => Ok(g),
+        None => Err(Refusal::NoFunction),
+    }
+}
+
+/// What is found of a name, with one more group.
+fn first_named(found: Option<Group>, next: Group, name: &[u8]) -> Option<Group>
+    requires { HasFewNeeds (group_tree next) }
+    ensures { (gs : List GroupTree) → FoundSo name.now gs found → FoundSo name.now (gs ++ group_tree next ∷ []) result }
+{
+    match found {
+        Some(first) => Some(first),
+        None => {
+            if next.name.as_slice() == name {
+                Some(next)
+            } else {
+                None
+            }
+        }
+    }
+}
+
+/// The next group, if it is well-formed. Its number is told of one that isn't.
+fn next_group(alloc: Global, reader: &mut Reader<'_>, number: u64) -> Result<Option<Group>, Refusal>
+    ensures { NextIs number reader.old reader.new result }
+{
+    match reader.group(alloc) {
+        Ok(None) => Ok(None),
+        Ok(Some(g)) => match well_formed(&g) {
+            Ok(()) => Ok(Some(g)),
+            Err(BadDef { def }) => Err(Refusal::IllFormed(number, def)),
+        },
+        Err(TextFault::Bad(line)) => Err(Refusal::Text(line)),
+        Err(TextFault::NoMemory) => Err(Refusal::NoMemory),
+    }
 }
 
 /// The answer to `eval` of the listed function of this group.
 fn evaluate_group(alloc: Global, g: Group, e: &Eval<'_>) -> Result<Answer, NoMemory>
-    requires { IsSmall (group_tree g) }
-    ensures { (given : List Given) → Holds given e.now.given.values
-        → IfOk result (λ a. GroupGives (group_tree g) e.now.turns given a) }
+    requires group { IsGroup (group_tree g) }
+    requires well_formed { IsWellFormed (group_tree g) }
+    requires needs { HasFewNeeds (group_tree g) }
+    requires memory { All IsMemory e.now.memory }
+    ensures { (args : List Arg) → HoldsArgs args e.now.given.values e.now.memory
+        → IfOk result (λ a. GroupGives (group_tree g) e.now.turns args a) }
 {
     let words = arguments(alloc, g.regs.as_slice(), &e.given)?;
+    let mems = memories(alloc, g.mems, e.memory.as_slice())?;
     let def = (g.defs.len() - 1) as u32;
-    let mems = List::new(alloc);
-    let outcome = eval(alloc, &g, def, &Args { words, mems }, e.turns)?;
-    match outcome {
-        Outcome::Done { pc, args, left, .. } => Ok(Answer::Evaluated {
-            used: e.turns - left,
-            pc,
-            registers: g.regs,
-            words: args.words,
-        }),
-        Outcome::SideFalse { .. } => unreachable!(),
+    match eval(alloc, &g, def, &Args { words, mems }, e.turns)? {
+        Outcome::Done { pc, args, left, .. } => {
+            let memory = ranges_in(alloc, args.mems.as_slice(), e.memory.as_slice())?;
+            Ok(Answer::Evaluated {
+                used: e.turns - left,
+                pc,
+                registers: g.regs,
+                words: args.words,
+                memory,
+            })
+        }
+        Outcome::SideFalse { def, ordinal } => Ok(Answer::SideFalse(def, ordinal)),
         Outcome::Turns => Ok(Answer::TurnsUsed),
     }
 }

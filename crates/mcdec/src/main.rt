@@ -5,13 +5,11 @@ mod answer;
 mod command;
 mod commands;
 mod evaluate;
-mod number;
+mod memory;
 mod print;
-mod reader;
 mod run;
 #[cfg(test)]
 mod tests;
-mod text;
 
 use crate::answer::Answer;
 use crate::commands::run_words;

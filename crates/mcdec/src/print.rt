@@ -1,19 +1,18 @@
 //! Printing an answer into a sink, piece by piece. It takes no memory.
 
 ghost use Rattle.std.specs.Prelude.{◌≡◌, ◌≤◌, ℕ, List, map, codes, ◌++◌};
-ghost use Rattle.mcdec.specs.Printed.{lines, done_lines, memory_line, met_lines, register_line, register_lines, fault_words, stuck_words, status, IsDelivered};
+ghost use Rattle.mcdec.specs.Printed.{count_lines, each, end_lines, lines, memory_line, register_line, register_lines, fault_words, stuck_words, status, IsDelivered};
 ghost use Rattle.std.specs.Fmt.{decimal};
 ghost use Rattle.hex.specs.Hex.{encode_lower};
 ghost use Rattle.mc_shelf.specs.Fault.{Rose};
-ghost use Rattle.mcdec.specs.Text.{each};
-ghost use Rattle.mcdec.specs.Number.{hex};
+ghost use Rattle.mc_text.specs.Number.{hex};
 ghost use Rattle.mcdec.specs.Printing.{Prints, piece_text, pieces_text};
 
 use crate::answer::Answer;
-use crate::number::{HexBuffer, hex_pair};
 use elf_image::ElfFault;
 use itoa::Buffer;
 use mc_shelf::{Sink, Stop};
+use mc_text::{digit_pair, hex_into};
 use rv_machine::Stuck;
 use word_terms::Range;
 
@@ -46,9 +45,9 @@ fn put_piece<O: Sink>(out: &mut O, piece: &Piece<'_>) -> Result<(), Stop>
             out.put(buffer.format(*n).as_bytes())
         }
         Piece::Hex(n) => {
-            out.put(b"0x")?;
-            let mut buffer = HexBuffer::new();
-            out.put(buffer.format(*n))
+            let mut buffer = [0; 18];
+            let end = hex_into(*n, &mut buffer);
+            out.put(&buffer[..end])
         }
         Piece::Bytes(bytes) => put_bytes(out, bytes),
     }
@@ -58,7 +57,7 @@ fn put_bytes<O: Sink>(out: &mut O, bytes: &[u8]) -> Result<(), Stop>
     ensures { Prints result (encode_lower bytes.now) (O.written out.old) (O.written out.new) (O.faults out.old) (O.faults out.new) }
 {
     for byte in bytes {
-        put_text(out, &hex_pair(*byte))?;
+        put_text(out, &digit_pair(*byte))?;
     }
     Ok(())
 }
@@ -92,6 +91,8 @@ fn status(answer: &Answer) -> u8
     match answer {
         Answer::Evaluated { .. } => 0,
         Answer::Met { .. } => 0,
+        Answer::IllFormed(..) => 1,
+        Answer::SideFalse(..) => 1,
         Answer::NoFunction => 1,
         Answer::NoSuchStart(_) => 1,
         Answer::AmbiguousStart(..) => 1,
@@ -117,21 +118,33 @@ fn put_answer<O: Sink>(out: &mut O, answer: &Answer) -> Result<(), Stop>
             pc,
             registers,
             words,
-        } => put_evaluated(out, *used, *pc, registers.as_slice(), words.as_slice()),
+            memory,
+        } => put_end(
+            out,
+            b"done ",
+            *used,
+            *pc,
+            registers.as_slice(),
+            words.as_slice(),
+            memory.as_slice(),
+        ),
         Answer::Met {
             steps,
             pc,
             registers,
             words,
             memory,
-        } => put_met(
+        } => put_end(
             out,
+            b"met ",
             *steps,
             *pc,
             registers.as_slice(),
             words.as_slice(),
             memory.as_slice(),
         ),
+        Answer::IllFormed(group, def) => put_ill_formed(out, *group, *def),
+        Answer::SideFalse(def, ordinal) => put_side_false(out, *def, *ordinal),
         Answer::NoFunction => put_text(out, b"refused no function\n"),
         Answer::NoSuchStart(name) => put_no_such(out, name.as_slice()),
         Answer::AmbiguousStart(name, low, high) => {
@@ -154,6 +167,36 @@ fn put_text<O: Sink>(out: &mut O, text: &[u8]) -> Result<(), Stop>
     ensures { Prints result text.now (O.written out.old) (O.written out.new) (O.faults out.old) (O.faults out.new) }
 {
     out.put(text)
+}
+
+fn put_ill_formed<O: Sink>(out: &mut O, group: u64, def: u32) -> Result<(), Stop>
+    ensures { Prints result (codes "refused def " ++ decimal group ++ codes " " ++ decimal def ++ codes "\n") (O.written out.old) (O.written out.new) (O.faults out.old) (O.faults out.new) }
+{
+    put_all(
+        out,
+        &[
+            Piece::Text(b"refused def "),
+            Piece::Decimal(group),
+            Piece::Text(b" "),
+            Piece::Decimal(u64::from(def)),
+            Piece::Text(b"\n"),
+        ],
+    )
+}
+
+fn put_side_false<O: Sink>(out: &mut O, def: u32, ordinal: u64) -> Result<(), Stop>
+    ensures { Prints result (codes "refused side " ++ decimal def ++ codes " " ++ decimal ordinal ++ codes "\n") (O.written out.old) (O.written out.new) (O.faults out.old) (O.faults out.new) }
+{
+    put_all(
+        out,
+        &[
+            Piece::Text(b"refused side "),
+            Piece::Decimal(u64::from(def)),
+            Piece::Text(b" "),
+            Piece::Decimal(ordinal),
+            Piece::Text(b"\n"),
+        ],
+    )
 }
 
 fn put_no_such<O: Sink>(out: &mut O, name: &[u8]) -> Result<(), Stop>
@@ -304,32 +347,21 @@ fn put_overlap<O: Sink>(out: &mut O, i: u64, j: u64) -> Result<(), Stop>
     )
 }
 
-fn put_met<O: Sink>(
+/// The lines of the end of a run or an evaluation.
+fn put_end<O: Sink>(
     out: &mut O,
-    steps: u64,
+    word: &[u8],
+    count: u64,
     pc: u64,
     registers: &[u8],
     words: &[u64],
     memory: &[Range],
 ) -> Result<(), Stop>
-    ensures { Prints result (met_lines steps pc ++ register_lines registers.now words.now ++ each memory_line memory.now) (O.written out.old) (O.written out.new) (O.faults out.old) (O.faults out.new) }
+    ensures { Prints result (end_lines word.now count pc registers.now words.now memory.now) (O.written out.old) (O.written out.new) (O.faults out.old) (O.faults out.new) }
 {
-    put_ended(out, b"met ", steps, pc)?;
+    put_count(out, word, count, pc)?;
     put_registers(out, registers, words)?;
     put_memory(out, memory)
-}
-
-fn put_evaluated<O: Sink>(
-    out: &mut O,
-    used: u64,
-    pc: u64,
-    registers: &[u8],
-    words: &[u64],
-) -> Result<(), Stop>
-    ensures { Prints result (done_lines used pc ++ register_lines registers.now words.now) (O.written out.old) (O.written out.new) (O.faults out.old) (O.faults out.new) }
-{
-    put_ended(out, b"done ", used, pc)?;
-    put_registers(out, registers, words)
 }
 
 /// The lines of ranges of memory.
@@ -358,8 +390,8 @@ fn put_range<O: Sink>(out: &mut O, range: &Range) -> Result<(), Stop>
 }
 
 /// How many steps or turns there were, and the program counter after them.
-fn put_ended<O: Sink>(out: &mut O, word: &[u8], count: u64, pc: u64) -> Result<(), Stop>
-    ensures { Prints result (word.now ++ decimal count ++ codes "\npc " ++ hex pc ++ codes "\n") (O.written out.old) (O.written out.new) (O.faults out.old) (O.faults out.new) }
+fn put_count<O: Sink>(out: &mut O, word: &[u8], count: u64, pc: u64) -> Result<(), Stop>
+    ensures { Prints result (count_lines word.now count pc) (O.written out.old) (O.written out.new) (O.faults out.old) (O.faults out.new) }
 {
     put_all(
         out,

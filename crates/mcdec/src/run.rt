@@ -9,13 +9,15 @@ ghost use Rattle.rv_machine.specs.State.{empty_state, state_of, with_bytes};
 ghost use Rattle.mcdec.specs.Answer.{ForContents, Gives, ReadsAreTold};
 ghost use Rattle.mcdec.specs.Command.{AreArgs, AreGiven, Arg, Given, IsMemory, value_of};
 ghost use Rattle.mcdec.specs.CommandReading.{Holds, HoldsArgs, IsReadRun};
-ghost use Rattle.mcdec.specs.RunAnswer.{ImageGives, MachineGives, StandsFor, begin, held_at, placed, shown, start_refused};
+ghost use Rattle.mcdec.specs.Memory.{placed};
+ghost use Rattle.mcdec.specs.RunAnswer.{ImageGives, MachineGives, StandsFor, begin, shown, start_refused};
 
 use crate::answer::Answer;
 use crate::command::{Registers, Run};
-use crate::reader::hex_number;
+use crate::memory::ranges_now;
 use elf_image::{ElfFault, Image, NameFault, Piece, read};
 use mc_shelf::{ReadEnd, Shelf, read_file};
+use mc_text::hexnum;
 use rv_machine::{RunEnd, State};
 use rv_words::{Bytes, List, NoMemory, Text};
 use std::alloc::Global;
@@ -69,7 +71,7 @@ fn run_bytes(alloc: Global, file: Bytes, r: &Run<'_>) -> Result<Answer, NoMemory
 fn address_of(image: &Image, start: &[u8]) -> Result<u64, NameFault>
     ensures { (file : List ℕ) → image.now ≡ image_of file → StandsFor file start.now result }
 {
-    match hex_number(start) {
+    match hexnum(start) {
         Some(address) => Ok(address),
         None => image.symbol(start),
     }
@@ -99,7 +101,7 @@ fn run_image(alloc: Global, image: Image, start: u64, r: &Run<'_>) -> Result<Ans
     set_registers(&mut state, &r.given);
     match state.run(r.until, r.steps) {
         RunEnd::Met(steps) => {
-            let memory = ranges_now(alloc, &state, r.memory.as_slice())?;
+            let memory = ranges_now(alloc, state.memory(), r.memory.as_slice())?;
             met(alloc, steps, &state, &r.given, memory)
         }
         RunEnd::Stuck(steps, why) => Ok(Answer::StuckAfter(steps, why)),
@@ -148,35 +150,6 @@ fn set_registers(state: &mut State, values: &Registers)
     for register in 1..32 {
         state.set_reg(register, values.value(register));
     }
-}
-
-/// The ranges with the bytes that are in memory now.
-fn ranges_now(alloc: Global, state: &State, ranges: &[Range]) -> Result<List<Range>, NoMemory>
-    requires { All IsMemory ranges.now }
-    ensures { IfOk result (λ now. now ≡ map (held_at (state_of state.now).mem) ranges.now) }
-{
-    let mut now = List::new(alloc);
-    for range in ranges {
-        now.push(range_now(alloc, state, range)?)?;
-    }
-    Ok(now)
-}
-
-/// The range with the bytes that are in memory now.
-fn range_now(alloc: Global, state: &State, range: &Range) -> Result<Range, NoMemory>
-    requires { range.now.at + length range.now.bytes ≤ 2 ^ 64 }
-    ensures { IfOk result (λ now. now ≡ held_at (state_of state.now).mem range.now) }
-{
-    let memory = state.memory();
-    let mut bytes = List::new(alloc);
-    for k in 0..range.bytes.len() {
-        let byte = memory.byte(range.at + k as u64);
-        bytes.push(byte.unwrap_or(0))?;
-    }
-    Ok(Range {
-        at: range.at,
-        bytes,
-    })
 }
 
 /// The answer where the address was met: the state there, with the registers that were given a value or don't hold 0.

@@ -3,6 +3,8 @@
 
 use crate::commands::run_words;
 use mc_shelf::{MemShelf, MemSink};
+use mc_text::{put_atom, put_dec};
+use rv_words::{Bytes, NoMemory};
 use std::alloc::{AllocError, Global};
 use std::test::Fail;
 
@@ -24,6 +26,186 @@ const LEAVE: &str = "leave 0 v2 v1 ;\n";
 
 /// The answer to `eval p sum 1 x10=0x2 x11=0x3` on `SUM`.
 const SUM_LINES: &str = "done 1\npc 0x10004\nx10 0x5\nx11 0x3\n";
+
+/// A loop that adds x11 to x10 and counts x11 down to 0, the return behind it, and the two called one after the other.
+const LOOP: &str = "\
+mcproof 1
+group 0x10000
+regs 1 10 11
+mems 0
+code (0x10000 3305b5009385f5ffe39c05fe67800000)
+def 0x10000 0x1000c
+let (add v1 v2)
+let (add v2 0xffffffffffffffff)
+if (ne v4 0x0)
+again v0 v3 v4 ;
+else
+leave 0 v0 v3 v4 ;
+def 0x1000c ret
+need (eq (and (add v0 0x0) 0x2) 0x0)
+leave 0 (and (add v0 0x0) 0xfffffffffffffffe) v0 v1 v2 ;
+def 0x10000 ret
+call 0 1 v0 v1 v2 ;
+arm
+call 1 1 v3 v4 v5 ;
+arm
+leave 0 v6 v7 v8 v9 ;
+end
+";
+
+/// A function that stores x10 at the address in x11, and returns.
+const STORE: &str = "\
+mcproof 1
+group f
+regs 1 10 11
+mems 1
+code (0x10000 23b0a50067800000)
+def 0x10000 ret
+need (in8 m0 (add v2 0x0))
+letm (st8 m0 (add v2 0x0) v1)
+need (eq (and (add v0 0x0) 0x2) 0x0)
+leave 0 (and (add v0 0x0) 0xfffffffffffffffe) v0 v1 v2 ; m1
+end
+";
+
+/// What stands in `SUM`, what is put in its place, and the line at which the text is no proof file then.
+static UNREADABLE: [(&str, &str, u64); 40] = [
+    (SUM, "", 1),
+    ("mcproof 1", "mcproof 2", 1),
+    ("mcproof 1", "mcproof 01", 1),
+    ("mcproof 1", "mcproof  1", 1),
+    ("mcproof 1", " mcproof 1", 1),
+    ("group sum", "group", 2),
+    ("group sum", "group su m", 2),
+    ("regs 10 11", "regs 11 10", 3),
+    ("regs 10 11", "regs 10 10", 3),
+    ("regs 10 11", "regs 0 11", 3),
+    ("regs 10 11", "regs 10 32", 3),
+    ("mems 0", "mems 2", 4),
+    ("mems 0", "mems", 4),
+    ("(0x10000 ", "(0x010000 ", 5),
+    ("3305b500", "3305b50", 5),
+    ("3305b500", "3305B500", 5),
+    ("(0x10000 3305b500)", "(0x10000 33) (0x10001 05)", 5),
+    ("(0x10000 3305b500)", "(0xffffffffffffffff 3305)", 5),
+    ("def 0x10000 0x10004", "def", 6),
+    ("def 0x10000 0x10004", "def 0x10000 ret ret", 6),
+    ("def 0x10000 0x10004", "def ret", 6),
+    ("(add v0 v1)", "(add v0  v1)", 7),
+    ("(add v0 v1)", "(add v0 0xA)", 7),
+    ("(add v0 v1)", "(add v0 0x0a)", 7),
+    ("(add v0 v1)", "(sum v0 v1)", 7),
+    ("(add v0 v1)", "(add v0 v4294967296)", 7),
+    ("(add v0 v1)", "(add v0)", 7),
+    ("(add v0 v1)", "(add v0 v1", 7),
+    ("let (add v0 v1)\n", "let (add v0 v1)\n\n", 8),
+    (LEAVE, "", 8),
+    (LEAVE, "leave 0 v2 v1\n", 8),
+    (LEAVE, "call 0 17 v2 v1 ;\n", 8),
+    (LEAVE, "call 0 1 v2 v1 ;\n", 9),
+    (LEAVE, "if (eq v0 v1)\nagain v0 v1 ;\n", 10),
+    (LEAVE, "leave 0 v2 v1 ;\nforget 0\n", 9),
+    (LEAVE, "leave 0 v2 v1 ;\narm\n", 9),
+    ("end\n", "end", 9),
+    ("end\n", "", 9),
+    ("end\n", "end\n\n", 10),
+    ("end\n", "end\nend\n", 10),
+];
+
+/// Command lines over a text, with their statuses and lines.
+static EVALUATED: [(&str, &str, u8, &str); 16] = [
+    (
+        "eval p 0x10000 5 x1=0x2000 x11=0x3",
+        LOOP,
+        0,
+        "done 5\npc 0x2000\nx1 0x2000\nx10 0x6\nx11 0x0\n",
+    ),
+    (
+        "eval p 0x10000 4 x1=0x2000 x11=0x3",
+        LOOP,
+        7,
+        "turns used\n",
+    ),
+    (
+        "eval p 0x10000 5 x1=0x2002 x11=0x3",
+        LOOP,
+        1,
+        "refused side 1 0\n",
+    ),
+    (
+        "eval p f 1 x1=0x2000 x10=0x1122334455667788 x11=0xfffffffffffffffc mem=0xfffffffffffffffc:00000000 mem=0x0:00000000",
+        STORE,
+        0,
+        "done 1\npc 0x2000\nx1 0x2000\nx10 0x1122334455667788\nx11 0xfffffffffffffffc\nmem 0xfffffffffffffffc 88776655\nmem 0x0 44332211\n",
+    ),
+    (
+        "eval p f 1 x1=0x2000 x10=0x1122334455667788 x11=0xfffffffffffffffc mem=0xfffffffffffffffc:00000000",
+        STORE,
+        1,
+        "refused side 0 0\n",
+    ),
+    (
+        "eval p f 1 x1=0x2002 x11=0x8 mem=0x8:0000000000000000",
+        STORE,
+        1,
+        "refused side 0 1\n",
+    ),
+    (
+        "eval p f 1 x1=0x2000 x10=0xff x11=0x8 mem=0x8:0000000000000000 mem=0x9:0102",
+        STORE,
+        0,
+        "done 1\npc 0x2000\nx1 0x2000\nx10 0xff\nx11 0x8\nmem 0x8 ff00000000000000\nmem 0x9 0000\n",
+    ),
+    (
+        "eval p sum 1 x10=0x1 mem=0x0:00 x5=0x7",
+        SUM,
+        0,
+        "done 1\npc 0x10004\nx10 0x1\nx11 0x0\n",
+    ),
+    ("eval p f 1", "mcproof 1\nend\n", 1, "refused no function\n"),
+    (
+        "eval p f 1",
+        "mcproof 1\ngroup f\nregs\nmems 0\ncode\ndef 0x0 0x1\nleave 0 v0 ;\nend\n",
+        1,
+        "refused def 0 0\n",
+    ),
+    (
+        "eval p f 1",
+        "mcproof 1\ngroup f\nregs\nmems 0\ncode\ndef 0x0 0x1\nleave 0 v0 ;\nbad\n",
+        1,
+        "refused def 0 0\n",
+    ),
+    (
+        "eval p f 1",
+        "mcproof 1\ngroup f\nregs\nmems 0\ncode\ndef 0x0 0x1\nleave 0 v0 ;\ndef 0x0",
+        1,
+        "refused def 0 0\n",
+    ),
+    (
+        "eval p f 1",
+        "mcproof 1\ngroup f\nregs\nmems 0\ncode\ndef 0x0 0x1\nleave 0 v0 ;\ndef 0x\n",
+        3,
+        "unreadable text 8\n",
+    ),
+    (
+        "eval p f 1",
+        "mcproof 1\ngroup f\nregs\nmems 0\ncode\ndef 0x0 0x1\nleave 0 ;\ngroup g\nregs\nmems 0\ncode\ndef 0x0\nleave 0 ;\nend\n",
+        1,
+        "refused def 1 0\n",
+    ),
+    (
+        "eval p f 1",
+        "mcproof 1\ngroup f\nregs\nmems 0\ncode\ndef 0x0 0x1\nleave 0 ;\ngroup f\nregs\nmems 0\ncode\ndef 0x0 0x2\nleave 0 ;\nend\n",
+        0,
+        "done 1\npc 0x1\n",
+    ),
+    (
+        "eval p f 1",
+        "mcproof 1\ngroup f\nregs\nmems 0\ncode\ndef 0x0 0x1\ndef 0x0 0x1\nleave 0 ;\nend\n",
+        3,
+        "unreadable text 7\n",
+    ),
+];
 
 /// The words of a command line.
 fn words_of(alloc: Global, line: &str) -> Result<Vec<String>, AllocError> {
@@ -180,7 +362,9 @@ fn other_words_are_no_command(rt: HostRuntime) -> Result<(), Fail> {
         "eval p sum 1 x10=0x01",
         "eval p sum 1 x10=0xA",
         "eval p sum 1 x10=1",
-        "eval p sum 1 mem=0x0:00",
+        "eval p sum 1 mem=0x0:0",
+        "eval p sum 1 mem=0x0",
+        "eval p sum 1 mem=0xffffffffffffffff:0000",
         "evaluate p sum 1",
         "check e p",
         "run",
@@ -212,35 +396,142 @@ fn other_words_are_no_command(rt: HostRuntime) -> Result<(), Fail> {
     Ok(())
 }
 
+/// The line of a text that is no proof file from that line on.
+fn unreadable(alloc: Global, line: u64) -> Result<Bytes, NoMemory> {
+    let mut text = Bytes::new(alloc);
+    put_atom(&mut text, b"unreadable text ")?;
+    put_dec(&mut text, line)?;
+    put_atom(&mut text, b"\n")?;
+    Ok(text)
+}
+
+/// Whether `eval` finds a text to be no proof file from that line on.
+fn is_unreadable_at(alloc: Global, text: &[u8], line: u64) -> Result<bool, Fail> {
+    let words = words_of(alloc, "eval p f 1")?;
+    let mut shelf = MemShelf::new(alloc);
+    shelf.set("p", text)?;
+    let mut out = MemSink::new(alloc);
+    let answer = run_words(alloc, &words, &mut shelf, &mut out);
+    let lines = unreadable(alloc, line)?;
+    Ok(answer == 3 && out.written() == lines.as_slice())
+}
+
+/// Whether the text with a piece in the place of another is no proof file from that line on.
+fn change_is_unreadable(alloc: Global, (old, new, line): (&str, &str, u64)) -> Result<bool, Fail> {
+    let text = SUM.replace(alloc, old, new)?;
+    is_unreadable_at(alloc, text.as_bytes(), line)
+}
+
 #[test]
 fn other_texts_are_unreadable(rt: HostRuntime) -> Result<(), Fail> {
-    for (old, new) in [
-        (LEAVE, "leave 0 v2 v3 ;\n"),
-        (LEAVE, "leave 1 v2 v1 ;\n"),
-        (LEAVE, "leave 0 v2 ;\n"),
-        (LEAVE, "leave 0 v2 v1 ; m0\n"),
-        (LEAVE, "leave 0 v2 v1 ;\nforget 0\n"),
-        (LEAVE, "again v2 v1 ;\n"),
-        ("end\n", "end"),
-        ("end\n", "end\n\n"),
-        ("mems 0", "mems 1"),
-        ("0x10004", "ret"),
-        ("let (add v0 v1)", "need (eq v0 v1)"),
-        ("regs 10 11", "regs 11 10"),
-        ("regs 10 11", "regs 10 10"),
-        ("0x10000 ", "0x010000 "),
-        ("(add v0 v1)", "(xor v0 v1)"),
-        ("(add v0 v1)", "(add v0  v1)"),
-        ("(add v0 v1)", "(add v0 0xA)"),
-        ("3305b500", "3305b50"),
-        ("3305b500", "3305B500"),
-        (SUM, ""),
-    ] {
-        let text = SUM.replace(rt.alloc(), old, new)?;
-        let file = ("p", text.as_bytes());
-        let ended = ends_with(rt.alloc(), "eval p sum 1", file, (3, "unreadable text 0\n"))?;
-        assert!(rt; ended, "{new}");
+    for &(old, new, line) in &UNREADABLE {
+        assert!(rt;
+            change_is_unreadable(rt.alloc(), (old, new, line))?,
+            "{new}"
+        );
     }
+    Ok(())
+}
+
+#[test]
+fn functions_are_evaluated(rt: HostRuntime) -> Result<(), Fail> {
+    for &(line, text, status, lines) in &EVALUATED {
+        let ended = ends_with(rt.alloc(), line, ("p", text.as_bytes()), (status, lines))?;
+        assert!(rt; ended, "{line}");
+    }
+    Ok(())
+}
+
+/// The line in which the byte at a place stands, from 1.
+fn line_of(text: &[u8], place: usize) -> u64 {
+    let mut line = 1;
+    for byte in &text[..place] {
+        if *byte == b'\n' {
+            line += 1;
+        }
+    }
+    line
+}
+
+/// Whether each front of a text is no proof file from the line on that isn't whole.
+fn fronts_are_unreadable(alloc: Global, text: &[u8]) -> Result<bool, Fail> {
+    for end in 0..text.len() {
+        if !is_unreadable_at(alloc, &text[..end], line_of(text, end))? {
+            return Ok(false);
+        }
+    }
+    Ok(true)
+}
+
+#[test]
+fn fronts_of_a_text_are_unreadable(rt: HostRuntime) -> Result<(), Fail> {
+    assert!(rt; fronts_are_unreadable(rt.alloc(), LOOP.as_bytes())?);
+    assert!(rt; fronts_are_unreadable(rt.alloc(), STORE.as_bytes())?);
+    Ok(())
+}
+
+/// Whether `eval` finds the text to be no proof file from the line on, or, where a line was parted in two there, from the
+/// next one on, or its first definition not to be well-formed.
+fn is_refused_at(alloc: Global, text: &[u8], (line, is_parted): (u64, bool)) -> Result<bool, Fail> {
+    if is_unreadable_at(alloc, text, line)? {
+        return Ok(true);
+    }
+    if !is_parted {
+        return Ok(false);
+    }
+    if is_unreadable_at(alloc, text, line + 1)? {
+        return Ok(true);
+    }
+    ends_with(alloc, "eval p f 1", ("p", text), (1, "refused def 0 0\n"))
+}
+
+/// Whether a text with this byte at each place but those that hold it is refused at that place's line.
+fn changes_are_refused(alloc: Global, text: &[u8], byte: u8) -> Result<bool, Fail> {
+    for place in 0..text.len() {
+        let line = line_of(text, place);
+        let mut changed = Vec::from_slice(alloc, text)?;
+        changed[place] = byte;
+        let is_changed = text[place] != byte;
+        if is_changed && !is_refused_at(alloc, &changed, (line, byte == b'\n'))? {
+            return Ok(false);
+        }
+    }
+    Ok(true)
+}
+
+#[test]
+fn texts_with_another_byte_are_refused(rt: HostRuntime) -> Result<(), Fail> {
+    for byte in [b' ', b'\n', b'(', b';', 0] {
+        assert!(rt;
+            changes_are_refused(rt.alloc(), LOOP.as_bytes(), byte)?,
+            "{byte}"
+        );
+        assert!(rt;
+            changes_are_refused(rt.alloc(), STORE.as_bytes(), byte)?,
+            "{byte}"
+        );
+    }
+    Ok(())
+}
+
+/// Whether a condition behind so many left brackets is no proof file from its line on.
+fn brackets_are_unreadable(alloc: Global, count: usize) -> Result<bool, Fail> {
+    let mut text = Bytes::new(alloc);
+    put_atom(
+        &mut text,
+        b"mcproof 1\ngroup f\nregs\nmems 0\ncode\ndef 0x0 0x1\nneed ",
+    )?;
+    for _ in 0..count {
+        put_atom(&mut text, b"(not ")?;
+    }
+    put_atom(&mut text, b"\n")?;
+    is_unreadable_at(alloc, text.as_slice(), 7)
+}
+
+#[test]
+fn deep_terms_are_unreadable(rt: HostRuntime) -> Result<(), Fail> {
+    assert!(rt; brackets_are_unreadable(rt.alloc(), 64)?);
+    assert!(rt; brackets_are_unreadable(rt.alloc(), 100000)?);
     Ok(())
 }
 

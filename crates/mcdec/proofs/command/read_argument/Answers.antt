@@ -1,8 +1,13 @@
-use Rattle.mcdec.proofs.Givens.{unless-either}
-use Rattle.mcdec.proofs.ArgWords.{exit-with}
+use Rattle.std.proofs.Common.{true, true≢false, codes, sym, ◌∙◌}
+use Rattle.std.proofs.lemmas.Slice.Eq.{bytes_eq-Decides}
+use Rattle.mcdec.proofs.Givens.{no-mark, no-given}
 use Rattle.mcdec.proofs.command.read_argument.Goals as goal
 
-pub returns-in_err-read_memory-in-None : goal.returns-in_err-read_memory-in-None
-returns-in_err-read_memory-in-None c =
-    let e = c.in_err-read_memory-in-None.field-0.0 in
-    exit-with _ e _ _ c.from_residual.ensures.1 (unless-either c.args.word.now e c.in-None.ensures c.in_err-read_memory-in-None.ensures)
+pub returns-in_default : goal.returns-in_default
+returns-in_default c = no-mark c.args.word.now c.in_default.ensures
+
+pub returns-in-None : goal.returns-in-None
+returns-in-None c =
+    no-given c.args.word.now c.in-Some.name.now c.in-Some.value.now c.in-Some.ensures
+    (λ e. true≢false (sym (c.eq.ensures ∙ (bytes_eq-Decides c.in-Some.name.now (codes "mem")).1 e) ∙ c.if-eq.false))
+    (λ g is n v. c.in-None.ensures g is (c.as_bytes.ensures.value ∙ n) (c.as_bytes-2.ensures.value ∙ v))

@@ -1,21 +1,24 @@
-use Rattle.std.proofs.Common.{sym, ◌∙◌, ap, length, true≢false}
-use Rattle.std.proofs.lemmas.Bool.{eqb-true, eqb-false}
-use Rattle.std.proofs.lemmas.List.{nil_from_length}
-use Rattle.mcdec.proofs.Givens.{memory-taken, memory-other, memory-unread}
-use Rattle.mcdec.proofs.ArgWords.{exit-with}
+use Rattle.std.proofs.Common.{arith, subst, ◌∙◌, Option, Some, List, ℕ}
+use Rattle.hex.specs.Hex.{encode_lower}
+use Rattle.mc_text.specs.Number.{hex, IsWord, AreBytes, Spelled}
+use Rattle.mcdec.proofs.Givens.{no-colon, no-address, no-digits, past-the-end}
 use Rattle.mcdec.proofs.command.read_memory.Goals as goal
-use Rattle.mcdec.proofs.command.read_memory.Goals.{else-is_empty-via-then-is_empty+else-is_memory, else-is_empty-via-else-is_empty}
 
-pub returns-in_err-range : goal.returns-in_err-range
-returns-in_err-range c = exit-with _ c.in_err-range.field-0.0 _ _ c.from_residual.ensures.1 (memory-unread c.args.word.now c.in_err-range.field-0.0 c.in_err-range.ensures)
+pub returns-in_default : goal.returns-in_default
+returns-in_default c = no-colon c.args.value.now c.in_default.ensures
 
-pub returns-then-is_memory : goal.returns-then-is_memory
-returns-then-is_memory c =
-    memory-taken c.args.word.now c.in_ok-range.range c.in_ok-range.rest.now c.in_ok-range.ensures (nil_from_length _ (eqb-true _ _ (sym c.is_empty.ensures ∙ c.if-is_empty.true))) (c.is_memory.ensures.0 c.if-is_memory.true)
+pub returns-in_default-hexnum : goal.returns-in_default-hexnum
+returns-in_default-hexnum c =
+    no-address c.args.value.now c.in-Some.address.now c.in-Some.digits.now c.in-Some.ensures (λ n h e. c.in_default-hexnum.ensures.spelled n h (c.as_bytes.ensures.value ∙ e))
 
-pub returns-else-is_empty : goal.returns-else-is_empty
-returns-else-is_empty c =
-    memory-other c.args.word.now c.in_ok-range.range c.in_ok-range.rest.now c.in_ok-range.ensures (λ empty fits. elim c.else-is_empty.branch [
-      | else-is_empty-via-then-is_empty+else-is_memory w ↦ true≢false (sym (w.is_memory.ensures.1 fits) ∙ w.if-is_memory.false)
-      | else-is_empty-via-else-is_empty w ↦ eqb-false _ _ (sym c.is_empty.ensures ∙ w.if-is_empty.false) (ap length empty)
-    ])
+pub returns-in_default-2 : goal.returns-in_default-2
+returns-in_default-2 c =
+    let none = subst (λ (o : Option (List ℕ)). Spelled AreBytes encode_lower c.as_bytes-2.result.now o) c.in_default-2.is c.in_ok-bytes.ensures.spelled in
+    no-digits c.args.value.now c.in-Some.address.now c.in-Some.digits.now c.in-Some.ensures (λ bytes h e. none bytes h (c.as_bytes-2.ensures.value ∙ e))
+
+pub returns-else-from-len : goal.returns-else-from-len
+returns-else-from-len c =
+    let some = subst (λ (o : Option (List ℕ)). Spelled AreBytes encode_lower c.as_bytes-2.result.now o) c.in-Some-2.is c.in_ok-bytes.ensures.spelled in
+    past-the-end c.args.value.now c.in-Some.address.now c.in-Some.digits.now c.in-Some.ensures c.in-Some-hexnum.at c.in-Some-2.bytes
+    (subst (λ (w : List ℕ). Spelled IsWord hex w (Some c.in-Some-hexnum.at)) c.as_bytes.ensures.value c.in-Some-hexnum.ensures.spelled) (subst (λ (w : List ℕ). Spelled AreBytes encode_lower w (Some c.in-Some-2.bytes)) c.as_bytes-2.ensures.value some)
+    (λ fits. omega (arith, c.if-from-len.false, c.from.ensures, c.len.ensures, fits))

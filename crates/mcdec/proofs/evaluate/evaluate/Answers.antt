@@ -18,7 +18,7 @@ pub returns-in-Ok-evaluate_text-clause-gives : goal.returns-in-Ok-evaluate_text-
 returns-in-Ok-evaluate_text-clause-gives g c ws is =
     let text = c.in-Ok.text in
     let small : length text ≤ proof_limit = c.in-Ok.ensures.within in
-    let gives : TextGives text c.args.e.now.name.now c.args.e.now.turns is.0 c.in-Ok-evaluate_text.answer = subst (λ t. TextGives t c.args.e.now.name.now c.args.e.now.turns is.0 c.in-Ok-evaluate_text.answer) c.as_slice.ensures (c.in-Ok-evaluate_text.ensures is.0 is.2) in
+    let gives : TextGives text c.args.e.now.name.now c.args.e.now.turns is.0 c.in-Ok-evaluate_text.answer = subst (λ t. TextGives t c.args.e.now.name.now c.args.e.now.turns is.0 c.in-Ok-evaluate_text.answer) c.as_slice.ensures (c.in-Ok-evaluate_text.ensures is.0 is.1.0.3 is.2) in
     text-given (g.S.Shelf.contents c.args.shelf.now) ws _ c.args.e.now.proof.now c.args.e.now.name.now c.args.e.now.turns is.0 is.1 text c.in-Ok.ensures.whole small c.in-Ok-evaluate_text.answer gives
 
 pub returns-clause-gives : goal.returns-clause-gives

@@ -1,27 +1,32 @@
-use Rattle.std.proofs.Common.{refl, sym, ap, subst, map, ◌∙◌}
+use Rattle.std.proofs.Common.{sym, ap, map, ◌∙◌}
 use Rattle.std.specs.FinMap.{get}
 use Rattle.tailrec_lang.specs.Tree.{group_tree}
-use Rattle.tailrec_lang.specs.Eval.{LeavesInScope, outcome_of}
+use Rattle.tailrec_lang.specs.Eval.{outcome_of}
 use Rattle.mcdec.specs.CommandReading.{value_in}
-use Rattle.mcdec.proofs.Answers.{listed-done, listed-outcome, only-first}
-use Rattle.mcdec.proofs.Straight.{few-needs, small-side}
+use Rattle.mcdec.specs.EvalAnswer.{ranges_in}
+use Rattle.mcdec.specs.Memory.{no_bytes, placed}
+use Rattle.std.proofs.Common.{replicate}
+use Rattle.mcdec.proofs.Answers.{last-def, listed-outcome, evaluated}
 use Rattle.mcdec.proofs.evaluate.evaluate_group.Goals as goal
 
-pub eval-requires-clause-needs : goal.eval-requires-clause-needs
-eval-requires-clause-needs c = few-needs (group_tree c.args.g) c.requires
-
-pub unreachable-requires : goal.unreachable-requires
-unreachable-requires c = small-side (group_tree c.args.g) c.requires _ _ c.args.e.now.turns _ _ (ap outcome_of (sym c.in-SideFalse.is) ∙ c.in_ok-outcome.ensures.ok)
-
-pub returns-in-Done : goal.returns-in-Done
-returns-in-Done c given h =
+pub returns-in_ok-memory-in-Done : goal.returns-in_ok-memory-in-Done
+returns-in_ok-memory-in-Done c args h =
     let words = c.in_ok-words.ensures ∙ ap (map (value_in c.args.e.now.given.values)) c.as_slice.ensures in
-    let first = only-first c.args.g.defs c.len.result c.len.ensures c.requires.one in
-    let within = subst (LeavesInScope (group_tree c.args.g) _ c.args.e.now.turns) (ap outcome_of c.in-Done.is) c.in_ok-outcome.ensures.within in
-    (refl, _, _, listed-done (group_tree c.args.g) c.requires given c.args.e.now.given.values h _ words (ap (map get) c.new-mems.ensures) _ first c.args.e.now.turns _ _ _ _ (ap outcome_of (sym c.in-Done.is) ∙ c.in_ok-outcome.ensures.ok) within, refl)
+    let mems = c.in_ok-mems.ensures ∙ (λ i. replicate c.args.g.mems (placed (c.as_slice-2.ensures i) no_bytes)) in
+    let last = (last-def c.args.g c.requires.group c.len.result c.len.ensures).2 in
+    let shown = c.in_ok-memory-in-Done.ensures ∙ (λ i. ranges_in (map get (c.as_slice-in-Done.ensures i)) (c.as_slice-in-Done-2.ensures i)) in
+    evaluated (group_tree c.args.g) c.requires.group args c.args.e.now.given.values c.args.e.now.memory h _ words mems _ last c.args.e.now.turns c.in-Done.exit c.in-Done.pc c.in-Done.left _ (ap outcome_of (sym c.in-Done.is) ∙ c.in_ok-pc.ensures.ok) c.in_ok-memory-in-Done.memory shown
+
+pub returns-in-SideFalse : goal.returns-in-SideFalse
+returns-in-SideFalse c args h =
+    let words = c.in_ok-words.ensures ∙ ap (map (value_in c.args.e.now.given.values)) c.as_slice.ensures in
+    let mems = c.in_ok-mems.ensures ∙ (λ i. replicate c.args.g.mems (placed (c.as_slice-2.ensures i) no_bytes)) in
+    let last = (last-def c.args.g c.requires.group c.len.result c.len.ensures).2 in
+    listed-outcome (group_tree c.args.g) c.requires.group args c.args.e.now.given.values c.args.e.now.memory h _ words mems _ last c.args.e.now.turns _ (ap outcome_of (sym c.in-SideFalse.is) ∙ c.in_ok-pc.ensures.ok)
 
 pub returns-in-Turns : goal.returns-in-Turns
-returns-in-Turns c given h =
+returns-in-Turns c args h =
     let words = c.in_ok-words.ensures ∙ ap (map (value_in c.args.e.now.given.values)) c.as_slice.ensures in
-    let first = only-first c.args.g.defs c.len.result c.len.ensures c.requires.one in
-    listed-outcome (group_tree c.args.g) c.requires given c.args.e.now.given.values h _ words (ap (map get) c.new-mems.ensures) _ first c.args.e.now.turns _ (ap outcome_of (sym c.in-Turns.is) ∙ c.in_ok-outcome.ensures.ok)
+    let mems = c.in_ok-mems.ensures ∙ (λ i. replicate c.args.g.mems (placed (c.as_slice-2.ensures i) no_bytes)) in
+    let last = (last-def c.args.g c.requires.group c.len.result c.len.ensures).2 in
+    listed-outcome (group_tree c.args.g) c.requires.group args c.args.e.now.given.values c.args.e.now.memory h _ words mems _ last c.args.e.now.turns _ (ap outcome_of (sym c.in-Turns.is) ∙ c.in_ok-pc.ensures.ok)

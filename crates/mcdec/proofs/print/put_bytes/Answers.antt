@@ -1,6 +1,6 @@
 use Rattle.std.proofs.Common.{arith, Ok, Err, ap, ◌∙◌, length, ◌≤◌}
 use Rattle.std.proofs.lemmas.List.{take_all}
-use Rattle.mcdec.specs.Text.{each}
+use Rattle.mcdec.specs.Printed.{each}
 use Rattle.mcdec.proofs.Prints.{prints-as, prints-exit, items-more, items-broken, byte_text, encode-each}
 use Rattle.mcdec.proofs.print.put_bytes.Goals as goal
 
@@ -10,12 +10,12 @@ returns-in_err-put_text g c =
     prints-exit _ e _ _ _ _ _ c.from_residual.ensures.1
     (prints-as (Err e) _ _ _ _ _ _ (encode-each c.args.bytes.now)
     (items-broken byte_text c.args.bytes.now c.loop-byte.byte-index _ c.loop-byte-test.true _ _ _ _ _ _ c.loop-byte.invariant e
-    (prints-as (Err e) _ _ _ _ _ _ c.hex_pair.ensures c.in_err-put_text.ensures)))
+    (prints-as (Err e) _ _ _ _ _ _ c.digit_pair.ensures c.in_err-put_text.ensures)))
 
 pub loop-byte-preserved : goal.loop-byte-preserved
 loop-byte-preserved g c =
     items-more byte_text c.args.bytes.now c.loop-byte.byte-index _ c.loop-byte-test.true _ _ _ _ _ _ c.loop-byte.invariant
-    (prints-as (Ok tt) _ _ _ _ _ _ c.hex_pair.ensures c.in_ok-put_text.ensures)
+    (prints-as (Ok tt) _ _ _ _ _ _ c.digit_pair.ensures c.in_ok-put_text.ensures)
 
 pub returns : goal.returns
 returns g c =

@@ -1,5 +1,5 @@
 use Rattle.std.proofs.Common.{take, Ok}
-use Rattle.mcdec.specs.Text.{each}
+use Rattle.mcdec.specs.Printed.{each}
 use Rattle.mcdec.specs.Printed.{memory_line}
 use Rattle.mcdec.specs.Printing.{Prints}
 use Rattle.mcdec.proofs.print.put_memory.Given as goal

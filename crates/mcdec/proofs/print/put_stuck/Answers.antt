@@ -1,6 +1,6 @@
 use Rattle.std.proofs.Common.{codes, ◌++◌}
 use Rattle.std.specs.Fmt.{decimal}
-use Rattle.mcdec.specs.Number.{hex}
+use Rattle.mc_text.specs.Number.{hex}
 use Rattle.mcdec.proofs.Prints.{prints-as, stuck-text}
 use Rattle.mcdec.proofs.print.put_stuck.Goals as goal
 

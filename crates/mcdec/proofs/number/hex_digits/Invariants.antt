@@ -1,8 +1,0 @@
-use Rattle.mcdec.proofs.HexDigits.{IsWriting}
-use Rattle.mcdec.proofs.number.hex_digits.Given as goal
-
-abbrev pub invariant-loop-start : goal.invariant-loop-start
-invariant-loop-start l = IsWriting l.n l.rest l.start l.into
-
-abbrev pub decreases-loop-start : goal.decreases-loop-start
-decreases-loop-start l = l.start

@@ -1,0 +1,18 @@
+-- The words' ranges of bytes, put into a memory and looked at there.
+use Rattle.std.specs.Prelude.{ℕ, ◌+◌, List, [], ◌∷◌, length, map, None, unwrap_or}
+use Rattle.std.specs.List.{range_with_len}
+use Rattle.rv_words.specs.Bytes.{Bytes, bytes_from, over}
+use Rattle.word_terms.specs.declared.code.Range.{Range}
+
+-- no byte anywhere
+abbrev pub no_bytes : Bytes
+no_bytes a = None
+
+-- the ranges' bytes put over those of a memory, one range after the other
+abbrev pub placed : List Range → Bytes → Bytes
+placed [] m = m
+placed (r ∷ rs) m = placed rs (over (bytes_from r.at r.bytes) m)
+
+-- the range with the bytes of a memory there; an absent one counts as 0
+abbrev pub held_at : Bytes → Range → Range
+held_at m r = record { at = r.at; bytes = map (λ k. unwrap_or (m (r.at + k)) 0) (range_with_len 0 (length r.bytes)) }
