@@ -1,13 +1,22 @@
-//! Laws of texts. This function does nothing: its contract is the law.
+//! Laws of texts. These functions do nothing: their contracts are the laws.
 
-ghost use Rattle.std.specs.Prelude.{◌≡◌, ◌++◌, List};
+ghost use Rattle.std.specs.Prelude.{◌≡◌, ◌++◌, ℕ, List};
 ghost use Rattle.mc_text.specs.Tokens.{spell};
 ghost use Rattle.mc_text.specs.declared.token.Before.TheVariants.{Start};
 ghost use Rattle.tailrec_lang.specs.Tree.{GroupTree};
+ghost use Rattle.proof_text.specs.Front.{AreRead};
+ghost use Rattle.proof_text.specs.Limits.{AreGroups};
 ghost use Rattle.proof_text.specs.Spelling.{end_tokens, head_tokens, text_of};
 ghost use Rattle.proof_text.specs.Parts.{group_texts};
 
 /// The text of groups is what `put_head`, `put_group` of each and `put_end` append, one after the other.
 pub fn law_of_parts()
     ensures { (gs : List GroupTree) → text_of gs ≡ spell Start head_tokens ++ (group_texts gs ++ spell Start end_tokens) }
+{}
+
+/// A text is that of one list of groups, and the groups that a reader gives of it are these, from the first on.
+pub fn law_of_one_spelling()
+    ensures once { (gs hs : List GroupTree) → AreGroups gs → AreGroups hs → text_of gs ≡ text_of hs → gs ≡ hs }
+    ensures read { (text : List ℕ) (gs hs : List GroupTree) → AreGroups gs → text ≡ text_of gs → AreRead text hs
+        → (more : List GroupTree) × (gs ≡ hs ++ more) }
 {}
