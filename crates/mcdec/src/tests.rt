@@ -445,9 +445,9 @@ fn functions_are_evaluated(rt: HostRuntime) -> Result<(), Fail> {
 /// The line in which the byte at a place stands, from 1.
 fn line_of(text: &[u8], place: usize) -> u64 {
     let mut line = 1;
-    for byte in &text[..place] {
-        if *byte == b'\n' {
-            line += 1;
+    for (i, byte) in text.iter().enumerate() {
+        if i < place && *byte == b'\n' {
+            line = u64::saturating_add(line, 1);
         }
     }
     line
@@ -479,7 +479,7 @@ fn is_refused_at(alloc: Global, text: &[u8], (line, is_parted): (u64, bool)) -> 
     if !is_parted {
         return Ok(false);
     }
-    if is_unreadable_at(alloc, text, line + 1)? {
+    if is_unreadable_at(alloc, text, line.saturating_add(1))? {
         return Ok(true);
     }
     ends_with(alloc, "eval p f 1", ("p", text), (1, "refused def 0 0\n"))
