@@ -1,0 +1,4 @@
+pub mod SameLists
+pub mod Unions
+pub mod CodeLemmas
+pub mod JoinLemmas

@@ -1,0 +1,108 @@
+//! Code compared and joined byte by byte.
+
+ghost use Rattle.std.specs.Prelude.{◌≡◌, ◌↔◌, IsTrue};
+ghost use Rattle.rv_words.specs.Bytes.{bytes_from, over};
+ghost use Rattle.sep_assert.specs.Code.{code_bytes, Agree, AreSameAt, IsWithin};
+
+use word_terms::{Code, Range};
+
+/// Whether every byte of `a` is that byte of `b`.
+#[tactic(auto, using(crate::proofs::CodeLemmas::over_none))]
+pub fn code_within(a: &Code, b: &Code) -> bool
+    ensures { IsTrue result ↔ IsWithin (code_bytes a.now.ranges) (code_bytes b.now.ranges) }
+{
+    are_bytes_of(a.ranges.as_slice(), b.ranges.as_slice(), &[])
+}
+
+/// Whether no address has two different bytes.
+#[tactic(auto, using(crate::proofs::CodeLemmas::within_of_agree, crate::proofs::CodeLemmas::agree_of_within))]
+pub fn code_agree(a: &Code, b: &Code) -> bool
+    ensures { IsTrue result ↔ Agree (code_bytes a.now.ranges) (code_bytes b.now.ranges) }
+{
+    let a = a.ranges.as_slice();
+    are_bytes_of(a, b.ranges.as_slice(), a)
+}
+
+/// Whether every byte of `a` is that byte of `b` or, where `b` has none, of `c`.
+pub fn code_within_either(a: &Code, b: &Code, c: &Code) -> bool
+    ensures { IsTrue result ↔ IsWithin (code_bytes a.now.ranges) (over (code_bytes b.now.ranges) (code_bytes c.now.ranges)) }
+{
+    are_bytes_of(
+        a.ranges.as_slice(),
+        b.ranges.as_slice(),
+        c.ranges.as_slice(),
+    )
+}
+
+fn are_bytes_of(a: &[Range], b: &[Range], c: &[Range]) -> bool
+    ensures { IsTrue result ↔ IsWithin (code_bytes a.now) (over (code_bytes b.now) (code_bytes c.now)) }
+{
+    for range in a {
+        if !are_bytes_at(range, a, b, c) {
+            return false;
+        }
+    }
+    true
+}
+
+/// Whether the bytes of `a` at the addresses of a range are those of `b` or of `c`.
+fn are_bytes_at(range: &Range, a: &[Range], b: &[Range], c: &[Range]) -> bool
+    ensures { IsTrue result ↔ AreSameAt (code_bytes a.now) (over (code_bytes b.now) (code_bytes c.now)) range.now }
+{
+    for i in 0..range.bytes.len() {
+        let address = u128::from(range.at) + i as u128;
+        if byte_of(a, address) != byte_of(b, address).or(byte_of(c, address)) {
+            return false;
+        }
+    }
+    true
+}
+
+/// The byte at an address, which may lie past the last one.
+fn byte_of(ranges: &[Range], address: u128) -> Option<u8>
+    ensures { result ≡ code_bytes ranges.now address }
+{
+    for range in ranges {
+        if let Some(byte) = byte_in(range, address) {
+            return Some(byte);
+        }
+    }
+    None
+}
+
+fn byte_in(range: &Range, address: u128) -> Option<u8>
+    ensures { result ≡ bytes_from range.now.at range.now.bytes address }
+{
+    let at = u128::from(range.at);
+    if address < at {
+        return None;
+    }
+    let place = address - at;
+    if place < range.bytes.len() as u128 {
+        return range.bytes.get(place as usize).copied();
+    }
+    None
+}
+
+/// Whether two codes are the same ranges.
+pub fn same_code(a: &Code, b: &Code) -> bool
+    ensures { IsTrue result ↔ (a.now.ranges ≡ b.now.ranges) }
+{
+    let a = a.ranges.as_slice();
+    let b = b.ranges.as_slice();
+    if a.len() != b.len() {
+        return false;
+    }
+    for i in 0..a.len() {
+        if !same_range(&a[i], &b[i]) {
+            return false;
+        }
+    }
+    true
+}
+
+fn same_range(a: &Range, b: &Range) -> bool
+    ensures { IsTrue result ↔ (a.now ≡ b.now) }
+{
+    a.at == b.at && a.bytes.as_slice() == b.bytes.as_slice()
+}
