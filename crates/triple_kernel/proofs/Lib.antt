@@ -1,0 +1,9 @@
+pub mod ValidLemmas
+pub mod PutInLemmas
+pub mod SwapLemmas
+pub mod RuleLemmas
+pub mod Among
+pub mod StatedLemmas
+pub mod Zips
+pub mod ImageLemmas
+pub mod SameLemmas
