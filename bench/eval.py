@@ -22,7 +22,7 @@ let (add v1 (sltu v2 0x123456789abcdef0))
 letm (st8 m0 (add v2 0x8) v4)
 need (in4 m1 (sub v4 v3))
 if (ltu v4 0x0)
-again v0 v4 v5 v3 ; m1
+again v0 v4 v2 v3 ; m1
 else
 leave 0 v0 v3 v4 (ld2 m1 v1) ; m1
 def 0x10000 ret
@@ -79,17 +79,19 @@ def main():
     if len(sys.argv) != 2:
         sys.exit(__doc__)
     program = os.path.abspath(sys.argv[1])
-    cases = {f"text of {size} MiB": text(size * MIB) for size in (8, 16, 32, 64)}
-    cases["10 million open terms"] = brackets(10_000_000)
-    cases["adds"] = loop(ADDS, 0)
-    cases["accesses, 64 bytes"] = loop(ACCESSES, 64)
-    cases["accesses, 4096 bytes"] = loop(ACCESSES, 4096)
+    cases = {f"text of {size} MiB": (text, size * MIB) for size in (8, 16, 32, 64)}
+    cases["10 million open terms"] = brackets, 10_000_000
+    cases["adds"] = loop, ADDS, 0
+    cases["accesses, 64 bytes"] = loop, ACCESSES, 64
+    cases["accesses, 4096 bytes"] = loop, ACCESSES, 4096
     print(f"{'case':24} {'seconds':>9} {'peak MiB':>9} {'turns a second':>15}")
     with tempfile.TemporaryDirectory() as folder:
         path = os.path.join(folder, "p")
-        for name, (proof, arguments, expected, turns) in cases.items():
+        for name, (make, *parameters) in cases.items():
+            proof, arguments, expected, turns = make(*parameters)
             with open(path, "w") as file:
                 file.write(proof)
+            del proof  # a child begins with its parent's peak
             lines, seconds, peak = measure(program, ["eval", path, "f", *arguments])
             if not lines.startswith(expected):
                 sys.exit(f"{name}: {lines[:200]!r}")
