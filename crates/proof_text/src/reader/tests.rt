@@ -1,6 +1,8 @@
 //! What no clause says: that groups are read while there is memory. The texts are told by hand.
 
 use super::{Reader, TextFault};
+use crate::put::{put_end, put_group, put_head};
+use rv_words::{Bytes, NoMemory};
 use std::alloc::Global;
 use std::test::Fail;
 
@@ -103,6 +105,34 @@ fn is_read(alloc: Global, text: &[u8], groups: u64, lines: u64, bad: Option<u64>
 fn texts_are_read(rt: HostRuntime) -> Result<(), Fail> {
     for &(text, groups, lines, bad) in &TEXTS {
         assert!(rt; is_read(rt.alloc(), text, groups, lines, bad));
+    }
+    Ok(())
+}
+
+/// Whether the groups of a text are printed as they stand there.
+fn is_printed_again(alloc: Global, text: &[u8]) -> Result<bool, NoMemory> {
+    let mut reader = Reader::new(text);
+    let mut out = Bytes::new(alloc);
+    put_head(&mut out)?;
+    for _ in 0..3 {
+        match reader.group(alloc) {
+            Ok(Some(group)) => put_group(&mut out, &group)?,
+            Ok(None) => {
+                put_end(&mut out)?;
+                return Ok(out.as_slice() == text);
+            }
+            Err(_) => return Ok(false),
+        }
+    }
+    Ok(false)
+}
+
+#[test]
+fn texts_are_printed_as_they_stand(rt: HostRuntime) -> Result<(), Fail> {
+    for &(text, _, _, bad) in &TEXTS {
+        if bad.is_none() {
+            assert!(rt; is_printed_again(rt.alloc(), text)?);
+        }
     }
     Ok(())
 }
