@@ -6,7 +6,8 @@ use Rattle.mc_text.specs.Scanning.{newlines}
 use Rattle.mc_text.specs.Fault.{first_lines, Grammar, InGrammar, AreThere, IsBadAt}
 use Rattle.mc_text.proofs.FaultLine.{AreLines, EndsByte, one-newline, first-step, lines-zeroth, lines-next}
 
-count-cons : (b : ℕ) (bs : List ℕ) (f : Bool) → eqb b 10 ≡ f → newlines (b ∷ bs) ≡ cond f (suc (newlines bs)) (newlines bs)
+-- a byte more
+pub count-cons : (b : ℕ) (bs : List ℕ) (f : Bool) → eqb b 10 ≡ f → newlines (b ∷ bs) ≡ cond f (suc (newlines bs)) (newlines bs)
 count-cons b bs f e = ap (λ (g : Bool). cond g (suc (newlines bs)) (newlines bs)) e
 
 none-step : (n b : ℕ) (bs : List ℕ) (f : Bool) → eqb b 10 ≡ f → newlines (b ∷ bs) ≡ 0 → (newlines bs ≡ 0 → first_lines (suc n) bs ≡ None) → first_lines (suc n) (b ∷ bs) ≡ None

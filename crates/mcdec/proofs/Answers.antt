@@ -8,7 +8,7 @@ use Rattle.std.proofs.lemmas.List.{length-map, length-replicate}
 use Rattle.rv_words.specs.Bytes.{Bytes}
 use Rattle.rv_words.specs.declared.memory.NoMemory.{NoMemory}
 use Rattle.mc_shelf.specs.Shelf.{Contents, TellsName}
-use Rattle.word_terms.specs.declared.code.Range.{Range}
+use Rattle.rv_words.specs.declared.range.Range.{Range}
 use Rattle.tailrec_lang.specs.declared.group.Group.{Group}
 use Rattle.tailrec_lang.specs.Tree.{GroupTree, group_tree, def_tree}
 use Rattle.tailrec_lang.specs.WellFormed.{IsWellFormed}

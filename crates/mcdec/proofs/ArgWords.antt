@@ -10,7 +10,7 @@ use Rattle.std.proofs.lemmas.Bool.{eqb-true, eqb-false}
 use Rattle.std.proofs.lemmas.List.{append-nil, map-append, map_more}
 use Rattle.std.proofs.lemmas.List.Elements.{All-from_recursion}
 use Rattle.std.proofs.lemmas.Option.{get_or_from_slice_get}
-use Rattle.word_terms.specs.declared.code.Range.{Range}
+use Rattle.rv_words.specs.declared.range.Range.{Range}
 use Rattle.mcdec.specs.declared.command.Unread.{Unread}
 use Rattle.mcdec.specs.declared.command.Unread.TheVariants as unread
 use Rattle.mcdec.specs.declared.command.Eval.{Eval as ReadEval}

@@ -8,7 +8,7 @@ use Rattle.std.proofs.lemmas.Bool.Decides.{nat_tests}
 use Rattle.std.proofs.lemmas.List.{length-append, take_all}
 use Rattle.std.proofs.lemmas.List.Sums.{fails_before_first, passes_at_first, split_at_first}
 use Rattle.std.proofs.lemmas.Str.Pattern.{IsSplitOnceResult, split_once_first}
-use Rattle.word_terms.specs.declared.code.Range.{Range}
+use Rattle.rv_words.specs.declared.range.Range.{Range}
 use Rattle.mc_text.specs.Number.{hex, IsWord, AreBytes, Spelled}
 use Rattle.mc_text.proofs.Numbers.{Passes, Pass, digits-pass}
 use Rattle.mc_text.proofs.OneSpelling.{decimal-once, hex-once, bytes-once}

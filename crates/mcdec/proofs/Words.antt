@@ -14,7 +14,7 @@ use Rattle.mcdec.specs.Command.{Eval, Run, Arg, IsCommand, IsNoCommand, Words, a
 use Rattle.proof_text.specs.Limits.{IsName}
 use Rattle.mcdec.specs.CommandReading.{HoldsArgs, NoArgs, AllArgs, Unless, NoEval, IsEval, eval_words, NoRun, IsRun, run_words, texts}
 use Rattle.mcdec.specs.declared.command.Unread.{Unread}
-use Rattle.word_terms.specs.declared.code.Range.{Range}
+use Rattle.rv_words.specs.declared.range.Range.{Range}
 use Rattle.mcdec.proofs.ArgWords.{unless-also}
 use Rattle.mc_text.proofs.Numbers.{number_of-takes, number_of-again}
 

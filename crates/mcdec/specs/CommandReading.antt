@@ -12,7 +12,7 @@ use Rattle.mcdec.specs.declared.command.Argument.{Argument as ReadArg}
 use Rattle.mcdec.specs.declared.command.Argument.TheVariants as read_arg
 use Rattle.mcdec.specs.declared.command.Unread.{Unread}
 use Rattle.mcdec.specs.declared.command.Unread.TheVariants as unread
-use Rattle.word_terms.specs.declared.code.Range.{Range}
+use Rattle.rv_words.specs.declared.range.Range.{Range}
 use Rattle.mc_text.specs.Number.{hex}
 use Rattle.mcdec.specs.Command.{Eval, Run, Arg, Value, Memory, Given, IsGiven, IsMemory, IsCommand, AreArgs, Words, given_to, arg_word, givens, ranges}
 

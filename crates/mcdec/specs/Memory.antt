@@ -2,7 +2,7 @@
 use Rattle.std.specs.Prelude.{ℕ, ◌+◌, List, [], ◌∷◌, length, map, None, unwrap_or}
 use Rattle.std.specs.List.{range_with_len}
 use Rattle.rv_words.specs.Bytes.{Bytes, bytes_from, over}
-use Rattle.word_terms.specs.declared.code.Range.{Range}
+use Rattle.rv_words.specs.declared.range.Range.{Range}
 
 -- no byte anywhere
 abbrev pub no_bytes : Bytes

@@ -2,8 +2,7 @@
 
 use elf_image::ElfFault;
 use rv_machine::Stuck;
-use rv_words::{List, Text};
-use word_terms::Range;
+use rv_words::{List, Range, Text};
 
 /// The answer to a list of words.
 #[derive(Debug, Drop)]

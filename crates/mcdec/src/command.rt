@@ -8,12 +8,11 @@ ghost use Rattle.proof_text.specs.Limits.{IsName};
 ghost use Rattle.mcdec.specs.Command.{Arg, Given, IsGiven, IsMemory, IsNoCommand, arg_word};
 ghost use Rattle.mcdec.specs.CommandReading.{AllArgs, IsArg, IsEval, IsRead, IsRun, Lacks, NoArgs, NoEval, NoRun, Unless, arg_of, given_in, texts, value_in};
 ghost use Rattle.mcdec.specs.declared.command.Unread.TheVariants.{NoMemory};
-ghost use Rattle.word_terms.specs.declared.code.Range.{Range as RangeOf};
+ghost use Rattle.rv_words.specs.declared.range.Range.{Range as RangeOf};
 
 use mc_text::{dec, hex_bytes, hexnum, is_atom};
-use rv_words::{List, NoMemory};
+use rv_words::{List, NoMemory, Range};
 use std::alloc::{AllocError, AllocFailed, Global};
-use word_terms::Range;
 
 /// Why the words are no command.
 #[derive(Clone, Copy, Debug, PartialEq, Eq)]

@@ -6,9 +6,8 @@ ghost use Rattle.mcdec.specs.Command.{IsMemory};
 ghost use Rattle.mcdec.specs.EvalAnswer.{ranges_in as ranges_of_first};
 ghost use Rattle.mcdec.specs.Memory.{held_at, no_bytes, placed};
 
-use rv_words::{ByteMap, List, NoMemory};
+use rv_words::{ByteMap, List, NoMemory, Range};
 use std::alloc::Global;
-use word_terms::Range;
 
 /// As many memories with the ranges' bytes alone.
 pub fn memories(alloc: Global, count: u8, ranges: &[Range]) -> Result<List<ByteMap>, NoMemory>

@@ -19,9 +19,8 @@ use elf_image::{ElfFault, Image, NameFault, Piece, read};
 use mc_shelf::{ReadEnd, Shelf, read_file};
 use mc_text::hexnum;
 use rv_machine::{RunEnd, State};
-use rv_words::{Bytes, List, NoMemory, Text};
+use rv_words::{Bytes, List, NoMemory, Range, Text};
 use std::alloc::Global;
-use word_terms::Range;
 
 /// The most bytes of an ELF file that are read.
 const ELF_LIMIT: u64 = 67_108_864;

@@ -7,23 +7,19 @@ use Rattle.std.proofs.Math.ListN.{drop_of_length-le}
 use Rattle.std.proofs.lemmas.Bool.Decides.{nat_tests}
 use Rattle.std.proofs.lemmas.Bool.{eqb-true}
 use Rattle.std.proofs.lemmas.Slice.Eq.{bytes_eq-Decides}
-use Rattle.mc_text.specs.Tokens.{Tok, Left, Right, Semi, Atom, Eol, Done, Stuck, is_atom_byte, IsAtomText, IsAtom, gap, bytes_of, after, spell, HasNoAtomByte, Stands}
-use Rattle.mc_text.specs.declared.token.Before.{Before}
-use Rattle.mc_text.specs.declared.token.Before.TheVariants.{Start, Later}
+use Rattle.mc_text.specs.Tokens.{Tok, Left, Right, Semi, Atom, Eol, Done, Stuck, Stands}
+use Rattle.mc_text.specs.declared.token.Before.TheVariants.{Start}
 use Rattle.mc_text.specs.Scanning.{lex, At, newlines}
 use Rattle.mc_text.specs.Fault.{first_lines}
 use Rattle.mc_text.specs.Reading.{goes_on}
-use Rattle.mc_text.proofs.Lines.{EndsIn, IsLines, follows, stands-lex}
+use Rattle.mc_text.proofs.Lines.{stands-lex, atom-stands}
 use Rattle.mc_text.proofs.FaultLine.{AreLines, EndsByte, one-newline, first-step, lines-zeroth, newlines-append, SameLine, same-line}
-use Rattle.mc_text.proofs.Tail.{first-before}
+use Rattle.mc_text.proofs.Tail.{count-cons, first-before}
 use Rattle.proof_text.specs.Cut.{AreWholeLines, drop_lines}
 use Rattle.proof_text.specs.Front.{DefFollows}
 use Rattle.proof_text.specs.Reading.{is_def}
 
 -- ---- a text is whole lines, and a rest without a newline
-
-count-cons : (b : ℕ) (bs : List ℕ) (f : Bool) → eqb b 10 ≡ f → newlines (b ∷ bs) ≡ cond f (suc (newlines bs)) (newlines bs)
-count-cons b bs f e = ap (λ (g : Bool). cond g (suc (newlines bs)) (newlines bs)) e
 
 pub record Parts (bytes : List ℕ) : Type 0 where
   pub lines : List ℕ
@@ -118,60 +114,7 @@ within (c ∷ lines) tail (b ∷ w) r e none h =
     let k = within lines tail w r (other-bytes c b (lines ++ tail) (w ++ r) e) none (lines-cons b w h) in
     record { more = k.more; is = (λ i. first-byte c b (lines ++ tail) (w ++ r) e i ∷ k.is i); rest = k.rest }
 
--- ---- spelling one after the other
-
-spell-ends : (m : Before) (t : Tok) (a b : List Tok) → EndsIn t a → spell m ((t ∷ a) ++ b) ≡ spell m (t ∷ a) ++ spell Start b
-spell-ends m t [] b h =
-    let same : spell (after t) b ≡ spell Start b = ap (λ (u : Tok). spell (after u) b) h in
-    ap (λ (v : List ℕ). (gap m t ++ bytes_of t) ++ v) same ∙ ap (λ (v : List ℕ). v ++ spell Start b) (sym (append-nil (gap m t ++ bytes_of t)))
-spell-ends m t (u ∷ us) b h = ap (λ (v : List ℕ). (gap m t ++ bytes_of t) ++ v) (spell-ends (after t) u us b h) ∙ sym (append_assoc (gap m t ++ bytes_of t) (spell (after t) (u ∷ us)) (spell Start b))
-
-pub spell-more : (a b : List Tok) → IsLines a → spell Start (a ++ b) ≡ spell Start a ++ spell Start b
-spell-more [] b h = refl
-spell-more (t ∷ a) b h = spell-ends Start t a b h
-
 -- ---- whether a definition follows
-
-first-is : (t u : Tok) (ts us : List Tok) → t ∷ ts ≡ u ∷ us → t ≡ u
-first-is t u ts us e = cc
-
-atom-is : (a b : List ℕ) → Atom a ≡ Atom b → a ≡ b
-atom-is a b e = cc
-
--- an atom and what stands behind it
-pub record Run (bytes : List ℕ) : Type 0 where
-  pub atom : List ℕ
-  pub rest : List ℕ
-  pub is : bytes ≡ atom ++ rest
-  pub text : IsAtomText atom
-  pub ends : HasNoAtomByte rest
-
-longer : (b : ℕ) (bs : List ℕ) (f : Bool) → is_atom_byte b ≡ f → Run bs → Run (b ∷ bs)
-longer b bs true e r = record { atom = b ∷ r.atom; rest = r.rest; is = ap (λ (v : List ℕ). b ∷ v) r.is; text = (e, r.text); ends = r.ends }
-longer b bs false e r = record { atom = []; rest = b ∷ bs; is = refl; text = tt; ends = e }
-
-run : (bytes : List ℕ) → Run bytes
-run [] = record { atom = []; rest = []; is = refl; text = tt; ends = tt }
-run (b ∷ bs) = longer b bs (is_atom_byte b) refl (run bs)
-
-begun : (bytes a rest x y : List ℕ) → IsAtom a → bytes ≡ a ++ rest → bytes ≡ x ++ y → IsAtomText x → HasNoAtomByte y → IsAtom x
-begun bytes [] rest x y h e f tx ny = absurd h
-begun bytes (b ∷ a) rest (c ∷ x) y h e f tx ny = tx
-begun bytes (b ∷ a) rest [] y h e f tx ny = absurd (none y (sym f ∙ e) ny)
-  where
-    none : (y : List ℕ) → y ≡ b ∷ (a ++ rest) → HasNoAtomByte y → ⊥
-    none [] k n = cc
-    none (c ∷ y) k n = true≢false (sym (ap is_atom_byte (first-byte c b y (a ++ rest) k) ∙ h.0) ∙ n)
-
--- where an atom is read it stands
-pub atom-stands : (bytes a : List ℕ) (us : List Tok) → lex bytes (At Start) ≡ Atom a ∷ us → (rest : List ℕ) × Stands Start bytes (Atom a) rest
-atom-stands bytes a us e =
-    let f = follows Start bytes (Atom a) us tt e in
-    let r = run bytes in
-    let stands : Stands Start bytes (Atom r.atom) r.rest = record { spelled = r.is; may = (begun bytes a f.rest r.atom r.rest f.fits f.is r.is r.text r.ends, r.ends) } in
-    let read = stands-lex Start bytes (Atom r.atom) r.rest (λ k. cc) stands in
-    let same : r.atom ≡ a = atom-is r.atom a (first-is (Atom r.atom) (Atom a) (lex r.rest (At Later)) us (sym read ∙ e)) in
-    (r.rest, subst (λ (x : List ℕ). Stands Start bytes (Atom x) r.rest) same stands)
 
 some-front : (b : ℕ) (o : Option (List ℕ)) → (o ≡ None → ⊥) → option_map (λ (x : List ℕ). b ∷ x) o ≡ None → ⊥
 some-front b None h e = h refl

@@ -1,14 +1,14 @@
 -- The groups that are read of a text are determined: of two lists of them one is a front of the other.
-use Rattle.std.proofs.Common.{◌≡◌, ◌≢◌, ℕ, ◌+◌, ◌<◌, ◌≤◌, Bool, true, false, cond, List, [], ◌∷◌, ◌++◌, length, codes, Option, Some, None, Ok, true≢false, get_or, refl, sym, ap, subst, ◌∙◌, arith, append_assoc, inl, inr, ◌⊎◌}
+use Rattle.std.proofs.Common.{◌≡◌, ℕ, ◌+◌, ◌<◌, ◌≤◌, Bool, true, false, List, [], ◌∷◌, ◌++◌, length, codes, Option, Some, None, Ok, true≢false, get_or, refl, sym, ap, subst, ◌∙◌, arith, append_assoc, inl, inr, ◌⊎◌}
 use Rattle.std.specs.List.{AllByRecursion}
 use Rattle.std.proofs.lemmas.Slice.Eq.{bytes_eq-Decides}
 use Rattle.std.proofs.lemmas.List.{append-nil, length-append}
-use Rattle.mc_text.specs.Tokens.{Tok, Left, Right, Semi, Atom, Eol, Done, Stuck, Stands, eol, spell}
+use Rattle.mc_text.specs.Tokens.{Tok, Left, Right, Semi, Atom, Eol, Done, Stuck, spell}
 use Rattle.mc_text.specs.declared.token.Before.TheVariants.{Start}
-use Rattle.mc_text.specs.Scanning.{lex, At, eols, newlines}
+use Rattle.mc_text.specs.Scanning.{lex, At, eols}
 use Rattle.mc_text.specs.Reading.{Reader, goes_on, each}
 use Rattle.mc_text.specs.Fault.{first_lines}
-use Rattle.mc_text.proofs.Laws.{Out, ok-value, ok-rest}
+use Rattle.mc_text.proofs.Laws.{ok-value, ok-rest}
 use Rattle.mc_text.proofs.Lines.{EndsIn, IsLines, atom-stands}
 use Rattle.mc_text.proofs.Unended.{no-eols}
 use Rattle.mc_text.proofs.Printed.{spell-after_lines}
@@ -17,13 +17,13 @@ use Rattle.mc_text.proofs.Shown.{tokens-append}
 use Rattle.mc_text.proofs.OneSpelling.{lines-read}
 use Rattle.mc_text.proofs.FaultLine.{front-lex, eols-append, text-read}
 use Rattle.tailrec_lang.specs.Tree.{DefTree, GroupTree}
-use Rattle.proof_text.specs.Limits.{IsDef, IsGroup, AreGroups, texts}
+use Rattle.proof_text.specs.Limits.{IsDef, IsGroup, AreGroups}
 use Rattle.std.specs.Str.{bytes_eq}
 use Rattle.proof_text.specs.Spelling.{def_tokens, group_tokens, head_tokens, end_tokens, text_tokens, text_of}
 use Rattle.proof_text.specs.Front.{Progress, passed, DefFollows, Ended, HasGiven, AreRead}
-use Rattle.proof_text.specs.Reading.{Head, def_at, is_def, head_at, group_of, text_at}
-use Rattle.proof_text.proofs.Texts.{HeadFits, lines_of_head, group_row, group-split, def-cover, head-cover, text-law}
-use Rattle.proof_text.proofs.Parts.{group-whole}
+use Rattle.proof_text.specs.Reading.{def_at, is_def, head_at, group_of, text_at}
+use Rattle.proof_text.proofs.Texts.{HeadFits, head_of, head-fits, lines_of_head, group_row, group-split, def-cover, head-cover, text-law}
+use Rattle.proof_text.proofs.Parts.{groups-whole, groups-append}
 use Rattle.proof_text.proofs.Real.{groups-tokens, title-tokens, text-tokens, spell-long}
 
 -- ---- where definitions end
@@ -77,12 +77,6 @@ defs-once (d ∷ ds) (c ∷ es) us vs h k s r e =
 
 -- ---- groups
 
-abbrev head_of : GroupTree → Head
-head_of g = record { name = g.name; regs = g.regs; mems = g.mems; code = g.code }
-
-head-fits : (g : GroupTree) → IsGroup g → HeadFits (head_of g)
-head-fits g h = record { name = h.name; registers = h.registers; memories = h.memories; code = (h.code, h.bytes) }
-
 behind-word : (us vs : List Tok) → Atom (codes "group") ∷ us ≡ Atom (codes "group") ∷ vs → us ≡ vs
 behind-word us vs e = cc
 
@@ -119,16 +113,12 @@ groups-once (g ∷ gs) (f ∷ hs) us vs h k s r e =
 
 -- ---- from bytes to tokens
 
-lines-of : (gs : List GroupTree) → IsLines (each group_tokens gs)
-lines-of [] = tt
-lines-of (g ∷ gs) = lines-append (group_tokens g) (each group_tokens gs) (group-whole g) (lines-of gs)
-
 behind-title : (us vs : List Tok) → head_tokens ++ us ≡ head_tokens ++ vs → us ≡ vs
 behind-title us vs e = cc
 
 passed-tokens : (g : GroupTree) (gs : List GroupTree) (rest : List ℕ) → AreGroups (g ∷ gs) → lex (passed (g ∷ gs) ++ rest) (At Start) ≡ head_tokens ++ (each group_tokens (g ∷ gs) ++ lex rest (At Start))
 passed-tokens g gs rest h =
-    front-lex (head_tokens ++ each group_tokens (g ∷ gs)) rest (lines-append head_tokens (each group_tokens (g ∷ gs)) refl (lines-of (g ∷ gs))) (tokens-append head_tokens (each group_tokens (g ∷ gs)) title-tokens (groups-tokens (g ∷ gs) h))
+    front-lex (head_tokens ++ each group_tokens (g ∷ gs)) rest (lines-append head_tokens (each group_tokens (g ∷ gs)) refl (groups-whole (g ∷ gs))) (tokens-append head_tokens (each group_tokens (g ∷ gs)) title-tokens (groups-tokens (g ∷ gs) h))
     ∙ append_assoc head_tokens (each group_tokens (g ∷ gs)) (lex rest (At Start))
 
 -- where no whole line begins with def
@@ -187,7 +177,7 @@ pub text-front : (p : List ℕ) (gs hs : List GroupTree) → AreGroups gs → p 
 text-front p gs [] are is read = (gs, refl)
 text-front p gs (f ∷ hs) are is read =
     let ended : IsStop (end_tokens ++ (Done ∷ [])) = inl refl in
-    let lines = lines-append head_tokens (each group_tokens gs ++ end_tokens) refl (lines-append (each group_tokens gs) end_tokens (lines-of gs) refl) in
+    let lines = lines-append head_tokens (each group_tokens gs ++ end_tokens) refl (lines-append (each group_tokens gs) end_tokens (groups-whole gs) refl) in
     let whole : lex p (At Start) ≡ head_tokens ++ (each group_tokens gs ++ (end_tokens ++ (Done ∷ []))) =
     ap (λ (v : List ℕ). lex v (At Start)) is ∙ lines-read (text_tokens gs) (text-tokens gs are) lines ∙ append_assoc head_tokens (each group_tokens gs ++ end_tokens) (Done ∷ [])
     ∙ ap (λ (v : List Tok). head_tokens ++ v) (append_assoc (each group_tokens gs) end_tokens (Done ∷ [])) in
@@ -214,10 +204,6 @@ passed-is : (gs : List GroupTree) (g : GroupTree) (more : List GroupTree) → pa
 passed-is [] g more = refl
 passed-is (x ∷ gs) g more = refl
 
-each-append : (gs hs : List GroupTree) → each group_tokens (gs ++ hs) ≡ each group_tokens gs ++ each group_tokens hs
-each-append [] hs = refl
-each-append (g ∷ gs) hs = ap (λ (v : List Tok). group_tokens g ++ v) (each-append gs hs) ∙ sym (append_assoc (group_tokens g) (each group_tokens gs) (each group_tokens hs))
-
 -- a group stands behind
 no-def : (m : GroupTree) (more : List GroupTree) (rest : List ℕ) → DefFollows (spell Start (each group_tokens (m ∷ more)) ++ rest) → ⊥
 no-def m more rest d = let first : ◌≡◌ {A = ℕ} 103 100 = ap (λ (w : List ℕ). get_or w 0 0) d.word.spelled in omega arith
@@ -230,8 +216,8 @@ front-read p gs g (m ∷ more) h =
     let fits = all-front IsGroup hs (m ∷ more) (subst AreGroups whole h.1.fit) in
     let front : List Tok = head_tokens ++ each group_tokens hs in
     let tokens : head_tokens ++ each group_tokens (gs ++ g ∷ m ∷ more) ≡ front ++ each group_tokens (m ∷ more) =
-    ap (λ (xs : List GroupTree). head_tokens ++ each group_tokens xs) whole ∙ ap (λ (v : List Tok). head_tokens ++ v) (each-append hs (m ∷ more)) ∙ sym (append_assoc head_tokens (each group_tokens hs) (each group_tokens (m ∷ more))) in
-    let lines : IsLines front = lines-append head_tokens (each group_tokens hs) refl (lines-of hs) in
+    ap (λ (xs : List GroupTree). head_tokens ++ each group_tokens xs) whole ∙ ap (λ (v : List Tok). head_tokens ++ v) (groups-append hs (m ∷ more)) ∙ sym (append_assoc head_tokens (each group_tokens hs) (each group_tokens (m ∷ more))) in
+    let lines : IsLines front = lines-append head_tokens (each group_tokens hs) refl (groups-whole hs) in
     let parts : passed (gs ++ g ∷ m ∷ more) ≡ passed hs ++ spell Start (each group_tokens (m ∷ more)) =
     passed-is gs g (m ∷ more) ∙ ap (spell Start) tokens ∙ spell-after_lines front (each group_tokens (m ∷ more)) lines ∙ ap (λ (v : List ℕ). v ++ spell Start (each group_tokens (m ∷ more))) (sym (passed-is gs g [])) in (
       spell Start (each group_tokens (m ∷ more)) ++ h.0,

@@ -10,6 +10,7 @@ use Rattle.mc_text.specs.Fault.{IsBadAt}
 use Rattle.mc_text.proofs.Lines.{Spelled}
 use Rattle.mc_text.proofs.FaultLine.{AreLines, spell-lines, front-lex, spelled, eols-append, newlines-append, newlines-spell, bad-line, bad-rest, whole-text}
 use Rattle.mc_text.proofs.Tail.{bad-tail, bad-end}
+use Rattle.mc_text.proofs.Printed.{spell-after_lines}
 use Rattle.tailrec_lang.specs.Tree.{GroupTree}
 use Rattle.tailrec_lang.specs.Eval.{HasFewNeeds}
 use Rattle.proof_text.specs.Limits.{AreGroups, texts}
@@ -19,7 +20,7 @@ use Rattle.proof_text.specs.Cut.{drop_lines}
 use Rattle.proof_text.specs.Reading.{is_def, text_at, turn_at}
 use Rattle.proof_text.proofs.Texts.{text-law}
 use Rattle.proof_text.proofs.Real.{text-tokens, few-needs, spell-long}
-use Rattle.proof_text.proofs.Cuts.{dropped, lines-behind, newlines-short, within, spell-more, def-follows, follows-def}
+use Rattle.proof_text.proofs.Cuts.{dropped, lines-behind, newlines-short, within, def-follows, follows-def}
 use Rattle.proof_text.proofs.Passed.{front_tokens, is_first, Quiet, turn_tokens, Turn, turn-takes, turn-again, turn-stops, turn-end, front-lines, front-real, turn-lines, turn-real, front-more, groups-more, groups-fewer}
 
 passed-is : (gs : List GroupTree) → passed gs ≡ spell Start (front_tokens gs)
@@ -34,7 +35,7 @@ passed-lex gs bytes h = ap (λ (v : List ℕ). lex (v ++ bytes) (At Start)) (pas
 
 passed-more : (gs : List GroupTree) (g : GroupTree) → AreGroups gs → passed (gs ++ g ∷ []) ≡ passed gs ++ spell Start (turn_tokens (is_first gs) g)
 passed-more gs g h =
-    passed-is (gs ++ g ∷ []) ∙ ap (spell Start) (front-more gs g) ∙ spell-more (front_tokens gs) (turn_tokens (is_first gs) g) (front-lines gs h)
+    passed-is (gs ++ g ∷ []) ∙ ap (spell Start) (front-more gs g) ∙ spell-after_lines (front_tokens gs) (turn_tokens (is_first gs) g) (front-lines gs h)
     ∙ ap (λ (v : List ℕ). v ++ spell Start (turn_tokens (is_first gs) g)) (sym (passed-is gs))
 
 text-lines : (gs : List GroupTree) → AreGroups gs → AreLines (text_of gs)

@@ -15,8 +15,8 @@ use Rattle.mc_text.proofs.Inline.{reads-list}
 use Rattle.mc_text.proofs.Choices.{reads-as}
 use Rattle.mc_text.proofs.Closed.{reads-closed}
 use Rattle.mc_text.proofs.Shown.{Always, shows-atom, shows-hex}
-use Rattle.word_terms.specs.Code.{AreRanges, AreRangesFrom}
-use Rattle.word_terms.specs.declared.code.Range.{Range}
+use Rattle.rv_words.specs.Ranges.{AreRanges, AreRangesFrom}
+use Rattle.rv_words.specs.declared.range.Range.{Range}
 use Rattle.term_text.specs.Limits.{IsRange}
 use Rattle.term_text.specs.Spelling.{range_tokens}
 use Rattle.term_text.specs.Reading.{number_at, address_at, range_at, is_open}

@@ -65,6 +65,14 @@ group-whole g =
     (lines-append (line (codes "mems") mems) (line (codes "code") code ++ defs) (line-whole (codes "mems") mems)
     (lines-append (line (codes "code") code) defs (line-whole (codes "code") code) (defs-whole g.defs))))
 
+pub groups-whole : (gs : List GroupTree) → IsLines (each group_tokens gs)
+groups-whole [] = tt
+groups-whole (g ∷ gs) = lines-append (group_tokens g) (each group_tokens gs) (group-whole g) (groups-whole gs)
+
+pub groups-append : (gs hs : List GroupTree) → each group_tokens (gs ++ hs) ≡ each group_tokens gs ++ each group_tokens hs
+groups-append [] hs = refl
+groups-append (g ∷ gs) hs = ap (λ (v : List Tok). group_tokens g ++ v) (groups-append gs hs) ∙ sym (append_assoc (group_tokens g) (each group_tokens gs) (each group_tokens hs))
+
 groups-apart : (gs : List GroupTree) → spell Start (each group_tokens gs ++ end_tokens) ≡ group_texts gs ++ spell Start end_tokens
 groups-apart [] = refl
 groups-apart (g ∷ gs) =

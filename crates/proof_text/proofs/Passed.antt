@@ -1,20 +1,18 @@
 -- Reading a whole text, behind the groups that were given.
-use Rattle.std.proofs.Common.{◌≡◌, Bool, true, false, codes, List, [], ◌∷◌, ◌++◌, Option, Some, None, Ok, Err, refl, sym, ap, ◌∙◌, append_assoc}
-use Rattle.std.specs.List.{AllByRecursion}
+use Rattle.std.proofs.Common.{◌≡◌, Bool, true, false, List, [], ◌∷◌, ◌++◌, Option, Some, None, Ok, Err, refl, sym, ap, ◌∙◌, append_assoc}
 use Rattle.std.proofs.lemmas.List.{append-nil}
-use Rattle.mc_text.specs.Tokens.{Tok, Atom}
+use Rattle.mc_text.specs.Tokens.{Tok}
 use Rattle.mc_text.specs.Reading.{◌>>=◌, pair, goes_on, with_front, each}
 use Rattle.mc_text.proofs.Lines.{AreTokens, IsLines}
 use Rattle.mc_text.proofs.Laws.{Out}
 use Rattle.mc_text.proofs.Covers.{lines-append}
 use Rattle.mc_text.proofs.Shown.{tokens-append}
-use Rattle.term_text.specs.Spelling.{range_tokens}
-use Rattle.tailrec_lang.specs.Tree.{DefTree, GroupTree}
-use Rattle.proof_text.specs.Limits.{IsDef, IsGroup, AreGroups}
-use Rattle.proof_text.specs.Spelling.{line, number, def_tokens, group_tokens, head_tokens}
+use Rattle.tailrec_lang.specs.Tree.{GroupTree}
+use Rattle.proof_text.specs.Limits.{IsGroup, AreGroups}
+use Rattle.proof_text.specs.Spelling.{group_tokens, head_tokens}
 use Rattle.proof_text.specs.Reading.{is_def, next_at, title_row, all_groups, text_at, turn_at}
-use Rattle.proof_text.proofs.Texts.{title-cover, def-cover}
-use Rattle.proof_text.proofs.StepLaws.{ends-eol}
+use Rattle.proof_text.proofs.Texts.{title-cover}
+use Rattle.proof_text.proofs.Parts.{group-whole, groups-whole, groups-append}
 use Rattle.proof_text.proofs.Real.{group-tokens, groups-tokens, title-tokens}
 use Rattle.proof_text.proofs.Resumed.{made-bad, made-good, pair-good, pair-bad, next-stops, next-end, next-takes, next-again, OneGroup, all-one, cons}
 
@@ -136,49 +134,26 @@ turn-end (g ∷ gs) ts us h q e = behind-front g gs ts h q ∙ ap (with_front (g
 
 -- ---- the tokens are those of whole lines
 
-defs-lines : (ds : List DefTree) → AllByRecursion IsDef ds → IsLines (each def_tokens ds)
-defs-lines [] h = tt
-defs-lines (d ∷ ds) h = lines-append (def_tokens d) (each def_tokens ds) (def-cover.ends d h.0) (defs-lines ds h.1)
-
-one-lines : (g : GroupTree) → IsGroup g → IsLines (group_tokens g)
-one-lines g h =
-    let regs : List Tok = line (codes "regs") (each number g.regs ∷ []) in
-    let mems : List Tok = line (codes "mems") (number g.mems ∷ []) in
-    let code : List Tok = line (codes "code") (each range_tokens g.code ∷ []) in
-    let defs : List Tok = each def_tokens g.defs in
-    lines-append (line (codes "group") ((Atom g.name ∷ []) ∷ [])) (regs ++ (mems ++ (code ++ defs))) refl
-    (lines-append regs (mems ++ (code ++ defs)) (ends-eol (Atom (codes "regs")) (each number g.regs))
-    (lines-append mems (code ++ defs) refl
-    (lines-append code defs (ends-eol (Atom (codes "code")) (each range_tokens g.code)) (defs-lines g.defs h.defs))))
-
-pub groups-lines : (gs : List GroupTree) → AreGroups gs → IsLines (each group_tokens gs)
-groups-lines [] h = tt
-groups-lines (g ∷ gs) h = lines-append (group_tokens g) (each group_tokens gs) (one-lines g h.0) (groups-lines gs h.1)
-
 pub front-lines : (gs : List GroupTree) → AreGroups gs → IsLines (front_tokens gs)
 front-lines [] h = tt
-front-lines (g ∷ gs) h = lines-append head_tokens (each group_tokens (g ∷ gs)) refl (groups-lines (g ∷ gs) h)
+front-lines (g ∷ gs) h = lines-append head_tokens (each group_tokens (g ∷ gs)) refl (groups-whole (g ∷ gs))
 
 pub front-real : (gs : List GroupTree) → AreGroups gs → AreTokens (front_tokens gs)
 front-real [] h = tt
 front-real (g ∷ gs) h = tokens-append head_tokens (each group_tokens (g ∷ gs)) title-tokens (groups-tokens (g ∷ gs) h)
 
 pub turn-lines : (first : Bool) (g : GroupTree) → IsGroup g → IsLines (turn_tokens first g)
-turn-lines true g h = lines-append head_tokens (group_tokens g) refl (one-lines g h)
-turn-lines false g h = one-lines g h
+turn-lines true g h = lines-append head_tokens (group_tokens g) refl (group-whole g)
+turn-lines false g h = group-whole g
 
 pub turn-real : (first : Bool) (g : GroupTree) → IsGroup g → AreTokens (turn_tokens first g)
 turn-real true g h = tokens-append head_tokens (group_tokens g) title-tokens (group-tokens g h)
 turn-real false g h = group-tokens g h
 
-each-append : (gs hs : List GroupTree) → each group_tokens (gs ++ hs) ≡ each group_tokens gs ++ each group_tokens hs
-each-append [] hs = refl
-each-append (g ∷ gs) hs = ap (λ (v : List Tok). group_tokens g ++ v) (each-append gs hs) ∙ sym (append_assoc (group_tokens g) (each group_tokens gs) (each group_tokens hs))
-
 pub front-more : (gs : List GroupTree) (g : GroupTree) → front_tokens (gs ++ g ∷ []) ≡ front_tokens gs ++ turn_tokens (is_first gs) g
 front-more [] g = ap (λ (v : List Tok). head_tokens ++ v) (append-nil (group_tokens g))
 front-more (h ∷ gs) g =
-    ap (λ (v : List Tok). head_tokens ++ v) (each-append (h ∷ gs) (g ∷ []) ∙ ap (λ (v : List Tok). each group_tokens (h ∷ gs) ++ v) (append-nil (group_tokens g)))
+    ap (λ (v : List Tok). head_tokens ++ v) (groups-append (h ∷ gs) (g ∷ []) ∙ ap (λ (v : List Tok). each group_tokens (h ∷ gs) ++ v) (append-nil (group_tokens g)))
     ∙ sym (append_assoc head_tokens (each group_tokens (h ∷ gs)) (group_tokens g))
 
 pub groups-more : (gs : List GroupTree) (g : GroupTree) → AreGroups gs → IsGroup g → AreGroups (gs ++ g ∷ [])

@@ -7,8 +7,8 @@ use Rattle.mc_text.specs.declared.token.Before.{Before}
 use Rattle.mc_text.specs.Reading.{each}
 use Rattle.mc_text.proofs.Lines.{AreTokens}
 use Rattle.mc_text.proofs.Shown.{decimal-atom, hex-atom, tokens-append, tokens-each}
-use Rattle.word_terms.specs.Code.{AreRangesFrom}
-use Rattle.word_terms.specs.declared.code.Range.{Range}
+use Rattle.rv_words.specs.Ranges.{AreRangesFrom}
+use Rattle.rv_words.specs.declared.range.Range.{Range}
 use Rattle.term_text.specs.Limits.{IsWord, IsMem}
 use Rattle.term_text.specs.Spelling.{word_tokens, mem_tokens, cond_tokens, range_tokens}
 use Rattle.term_text.proofs.TermFacts.{word-tokens, mem-tokens, cond-tokens, range-tokens}

@@ -13,7 +13,7 @@ use Rattle.proof_text.specs.Spelling.{def_tokens, group_tokens}
 use Rattle.proof_text.specs.Reading.{Head, def_at, is_def, are_some, own_defs, head_at, group_of, group_at, next_at, more_defs, defs_at, groups_at, all_groups}
 use Rattle.proof_text.proofs.HeadLaws.{true-le}
 use Rattle.proof_text.proofs.OwnDefs.{Defs, good, bad, guard, judge, sent, many-again, own-takes, own-again, def-refuses}
-use Rattle.proof_text.proofs.Texts.{HeadFits, lines_of_head, head-cover, def-cover, def-begins, group_row, group-split, enough-groups, group_reader, end_row}
+use Rattle.proof_text.proofs.Texts.{HeadFits, head_of, head-fits, lines_of_head, head-cover, def-cover, def-begins, group_row, group-split, enough-groups, group_reader, end_row}
 
 -- ---- a reader's parts
 
@@ -246,12 +246,6 @@ next-takes ts g us h =
     ]
 
 -- ---- and it is read again
-
-abbrev head_of : GroupTree → Head
-head_of g = record { name = g.name; regs = g.regs; mems = g.mems; code = g.code }
-
-head-fits : (g : GroupTree) → IsGroup g → HeadFits (head_of g)
-head-fits g h = record { name = h.name; registers = h.registers; memories = h.memories; code = (h.code, h.bytes) }
 
 group-parts : (g : GroupTree) (us : List Tok) → group_row g ++ us ≡ lines_of_head (head_of g) ++ (each def_tokens g.defs ++ us)
 group-parts g us = ap (λ (v : List Tok). v ++ us) (group-split (head_of g) g.defs) ∙ append_assoc (lines_of_head (head_of g)) (each def_tokens g.defs) us

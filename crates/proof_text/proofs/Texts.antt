@@ -10,7 +10,7 @@ use Rattle.mc_text.proofs.Shown.{Always}
 use Rattle.mc_text.proofs.Covers.{Covers, Part, row-covers, covers-with, covers-made, covers-part, part-refused, part-keyed, Never}
 use Rattle.mc_text.proofs.Repeated.{covers-bounded}
 use Rattle.mc_text.proofs.Fuel.{no-longer, pair-alike, made-alike, keyed-alike, keyed-else, many-no-longer, covers-whole}
-use Rattle.word_terms.specs.declared.code.Range.{Range}
+use Rattle.rv_words.specs.declared.range.Range.{Range}
 use Rattle.term_text.specs.Spelling.{range_tokens}
 use Rattle.tailrec_lang.specs.Tree.{BodyTree, DefTree, GroupTree}
 use Rattle.tailrec_lang.specs.declared.group.Exit.{Exit}
@@ -137,6 +137,13 @@ head-from h f = (((h.name, tt), ((tt, (h.regs, tt)), ((tt, (h.mems, tt)), (tt, (
 pub head-cover : Covers head_at HeadFits lines_of_head
 unfolding head_at
 head-cover = covers-made make_head (pair (pair (one (atom_of name_of)) eol) (pair regs_row (pair mems_row code_row))) _ _ head-parts HeadFits lines_of_head head-into (λ p. refl) head-from
+
+-- the head of a group
+abbrev pub head_of : GroupTree → Head
+head_of g = record { name = g.name; regs = g.regs; mems = g.mems; code = g.code }
+
+pub head-fits : (g : GroupTree) → IsGroup g → HeadFits (head_of g)
+head-fits g h = record { name = h.name; registers = h.registers; memories = h.memories; code = (h.code, h.bytes) }
 
 -- ---- groups, one after the other, and the end
 

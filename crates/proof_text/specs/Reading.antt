@@ -4,7 +4,7 @@ use Rattle.std.specs.Str.{bytes_eq}
 use Rattle.mc_text.specs.Number.{hex_of}
 use Rattle.mc_text.specs.Tokens.{Tok, Atom, Done, is_atom_byte}
 use Rattle.mc_text.specs.Reading.{Reader, pair, with, made, one, is_semi, atom_of, many, star, times, eol, word, keyed, refused, checked, unless}
-use Rattle.word_terms.specs.declared.code.Range.{Range}
+use Rattle.rv_words.specs.declared.range.Range.{Range}
 use Rattle.term_text.specs.Limits.{depth_limit}
 use Rattle.term_text.specs.Reading.{number_at, address_at, word_at, mem_at, cond_at, range_at, begins_word, begins_mem, is_open}
 use Rattle.tailrec_lang.specs.Tree.{ValuesTree, StepTree, Bind, BindMem, Need, BodyTree, Branch, Call, Again, Leave, DefTree, GroupTree, with_steps, arms_of}

@@ -12,12 +12,12 @@ ghost use Rattle.proof_text.specs.Reading.{are_atom_bytes, are_few_exits, code_r
 
 use crate::bodies::read_body;
 use mc_text::{Scan, Token, hexnum, is_atom_byte};
-use rv_words::{List, Text};
+use rv_words::{List, Range, Text};
 use std::alloc::Global;
 use tailrec_lang::{Def, Exit};
 use term_text::cursor::{address, eol, keyword, number, peek};
 use term_text::{Stop, read_ranges};
-use word_terms::{Code, Range};
+use word_terms::Code;
 
 /// The deepest nesting of bodies.
 const DEEPEST_BODY: u32 = 64;

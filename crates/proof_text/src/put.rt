@@ -13,10 +13,10 @@ ghost use Rattle.proof_text.specs.Spelling.{arm_tokens, body_tokens, def_tokens,
 ghost use Rattle.proof_text.specs.Limits.{IsGroup};
 
 use mc_text::Pen;
-use rv_words::{Bytes, NoMemory};
+use rv_words::{Bytes, NoMemory, Range};
 use tailrec_lang::{Body, Def, End, Exit, Group, Step, Values};
 use term_text::{put_cond, put_mem, put_range, put_word};
-use word_terms::{Cond, Mem, Range, Word};
+use word_terms::{Cond, Mem, Word};
 
 /// Prints what stands before the groups of a text.
 #[tactic(auto, using(mc_text::proofs::Printed::printed_bytes, mc_text::proofs::Printed::prints))]

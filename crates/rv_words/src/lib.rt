@@ -8,6 +8,7 @@ mod list;
 mod memory;
 mod operation;
 mod pieces;
+mod range;
 mod width;
 
 pub use byte_map::ByteMap;
@@ -16,6 +17,7 @@ pub use extension::{Ext, extend};
 pub use list::{Bytes, List, Text};
 pub use memory::NoMemory;
 pub use operation::{Op, apply};
+pub use range::Range;
 pub use width::Width;
 
 #[cfg(test)]

@@ -8,8 +8,9 @@ use Rattle.std.proofs.lemmas.List.Elements.{All-head, All-tail}
 use Rattle.std.proofs.lemmas.Option.{none-some, slice_get_within, slice_get-get_or}
 use Rattle.rv_words.proofs.PieceLemmas.{or_none}
 use Rattle.rv_words.specs.Bytes.{Bytes, bytes_from, over}
-use Rattle.word_terms.specs.declared.code.Range.{Range}
-use Rattle.sep_assert.specs.Code.{code_bytes, Agree, AreSameAt, IsWithin}
+use Rattle.rv_words.specs.declared.range.Range.{Range}
+use Rattle.rv_words.specs.Ranges.{range_bytes}
+use Rattle.sep_assert.specs.Code.{Agree, AreSameAt, IsWithin}
 
 -- an address with a byte of a range is one of its addresses
 range-address : (r : Range) (a b : ℕ) → bytes_from r.at r.bytes a ≡ Some b → (r.at ≤ a) × (a - r.at < length r.bytes)
@@ -40,30 +41,30 @@ address-in P r x a b here later e = at (bytes_from r.at r.bytes a) refl e
         subst P same (here (a - r.at) is.1)
 
 -- what holds at the addresses of each range holds wherever there is a byte
-each-address : (P : ℕ → Type 0) (rs : List Range) → All (HoldsIn P) rs → (a b : ℕ) → code_bytes rs a ≡ Some b → P a
+each-address : (P : ℕ → Type 0) (rs : List Range) → All (HoldsIn P) rs → (a b : ℕ) → range_bytes rs a ≡ Some b → P a
 each-address P [] all a b e = absurd (none-some b e)
 each-address P (r ∷ rs) all a b e =
-    address-in P r (code_bytes rs) a b (All-head (HoldsIn P) r rs all) (each-address P rs (All-tail (HoldsIn P) r rs all) a b) e
+    address-in P r (range_bytes rs) a b (All-head (HoldsIn P) r rs all) (each-address P rs (All-tail (HoldsIn P) r rs all) a b) e
 
 -- code has a byte wherever one of its ranges has one
-some-byte : (r : Range) (rs : List Range) (a b : ℕ) → bytes_from r.at r.bytes a ≡ Some b → (c : ℕ) × (code_bytes (r ∷ rs) a ≡ Some c)
-some-byte r rs a b e = (b, λ i. option_or (e i) (code_bytes rs a))
+some-byte : (r : Range) (rs : List Range) (a b : ℕ) → bytes_from r.at r.bytes a ≡ Some b → (c : ℕ) × (range_bytes (r ∷ rs) a ≡ Some c)
+some-byte r rs a b e = (b, λ i. option_or (e i) (range_bytes rs a))
 
 later-byte : (o : Option ℕ) (p : Option ℕ) (b : ℕ) → p ≡ Some b → (c : ℕ) × (option_or o p ≡ Some c)
 later-byte None p b e = (b, e)
 later-byte (Some c) p b e = (c, refl)
 
-has-byte : (rs : List Range) (i : ℕ) (d : Range) (k : ℕ) → i < length rs → k < length (get_or rs i d).bytes → (c : ℕ) × (code_bytes rs ((get_or rs i d).at + k) ≡ Some c)
+has-byte : (rs : List Range) (i : ℕ) (d : Range) (k : ℕ) → i < length rs → k < length (get_or rs i d).bytes → (c : ℕ) × (range_bytes rs ((get_or rs i d).at + k) ≡ Some c)
 has-byte [] i d k lt le = absurd (omega arith)
 has-byte (r ∷ rs) zero d k lt le = some-byte r rs (r.at + k) (get_or r.bytes k 0) (range-byte r k le)
 has-byte (r ∷ rs) (suc i) d k lt le =
     let rest = has-byte rs i d k (omega arith) le in
-    later-byte (bytes_from r.at r.bytes ((get_or rs i d).at + k)) (code_bytes rs ((get_or rs i d).at + k)) rest.0 rest.1
+    later-byte (bytes_from r.at r.bytes ((get_or rs i d).at + k)) (range_bytes rs ((get_or rs i d).at + k)) rest.0 rest.1
 
-pub within_of_all : (rs : List Range) (y : Bytes) → All (AreSameAt (code_bytes rs) y) rs → IsWithin (code_bytes rs) y
-within_of_all rs y all a b e = sym (each-address (λ q. code_bytes rs q ≡ y q) rs all a b e) ∙ e
+pub within_of_all : (rs : List Range) (y : Bytes) → All (AreSameAt (range_bytes rs) y) rs → IsWithin (range_bytes rs) y
+within_of_all rs y all a b e = sym (each-address (λ q. range_bytes rs q ≡ y q) rs all a b e) ∙ e
 
-pub all_of_within : (rs : List Range) (y : Bytes) → IsWithin (code_bytes rs) y → All (AreSameAt (code_bytes rs) y) rs
+pub all_of_within : (rs : List Range) (y : Bytes) → IsWithin (range_bytes rs) y → All (AreSameAt (range_bytes rs) y) rs
 all_of_within rs y is i d lt k le =
     let c = has-byte rs i d k lt le in
     c.1 ∙ sym (is _ c.0 c.1)
@@ -71,7 +72,7 @@ all_of_within rs y is i d lt k le =
 -- ---- bytes over others
 
 -- there is no byte in no ranges
-pub over_none : (x : Bytes) → over x (code_bytes []) ≡ x
+pub over_none : (x : Bytes) → over x (range_bytes []) ≡ x
 over_none x = λ i a. or_none (x a) i
 
 or-agree : (o p : Option ℕ) (b : ℕ) → p ≡ Some b → ((c : ℕ) → o ≡ Some c → b ≡ c) → option_or o p ≡ Some b

@@ -8,9 +8,10 @@ use Rattle.std.proofs.lemmas.List.Elements.{All-push, All-pop}
 use Rattle.std.proofs.lemmas.Option.{slice_get-get_or}
 use Rattle.rv_words.proofs.PieceLemmas.{or_assoc, bytes_append, bytes_before, bytes_within, bytes_drop}
 use Rattle.rv_words.specs.Bytes.{Bytes, bytes_from, over}
-use Rattle.word_terms.specs.Code.{AreRanges, AreRangesFrom}
-use Rattle.word_terms.specs.declared.code.Range.{Range}
-use Rattle.sep_assert.specs.Code.{code_bytes, Agree, BeginsBy, BeginsFirst, IsRange, Joins}
+use Rattle.rv_words.specs.Ranges.{AreRanges, AreRangesFrom}
+use Rattle.rv_words.specs.declared.range.Range.{Range}
+use Rattle.rv_words.specs.Ranges.{range_bytes}
+use Rattle.sep_assert.specs.Code.{Agree, BeginsBy, BeginsFirst, IsRange, Joins}
 use Rattle.sep_assert.proofs.CodeLemmas.{over_none}
 
 -- ---- bytes
@@ -18,21 +19,21 @@ use Rattle.sep_assert.proofs.CodeLemmas.{over_none}
 pub over-assoc : (x y z : Bytes) → over (over x y) z ≡ over x (over y z)
 over-assoc x y z = λ i a. or_assoc (x a) (y a) (z a) i
 
-pub code_bytes-append : (xs ys : List Range) → code_bytes (xs ++ ys) ≡ over (code_bytes xs) (code_bytes ys)
-code_bytes-append [] ys = refl
-code_bytes-append (x ∷ xs) ys = (λ i. over (bytes_from x.at x.bytes) (code_bytes-append xs ys i)) ∙ sym (over-assoc (bytes_from x.at x.bytes) (code_bytes xs) (code_bytes ys))
+pub range_bytes-append : (xs ys : List Range) → range_bytes (xs ++ ys) ≡ over (range_bytes xs) (range_bytes ys)
+range_bytes-append [] ys = refl
+range_bytes-append (x ∷ xs) ys = (λ i. over (bytes_from x.at x.bytes) (range_bytes-append xs ys i)) ∙ sym (over-assoc (bytes_from x.at x.bytes) (range_bytes xs) (range_bytes ys))
 
-pub code_bytes-push : (xs : List Range) (x : Range) → code_bytes (xs ++ x ∷ []) ≡ over (code_bytes xs) (bytes_from x.at x.bytes)
-code_bytes-push xs x = code_bytes-append xs (x ∷ []) ∙ (λ i. over (code_bytes xs) (over_none (bytes_from x.at x.bytes) i))
+pub range_bytes-push : (xs : List Range) (x : Range) → range_bytes (xs ++ x ∷ []) ≡ over (range_bytes xs) (bytes_from x.at x.bytes)
+range_bytes-push xs x = range_bytes-append xs (x ∷ []) ∙ (λ i. over (range_bytes xs) (over_none (bytes_from x.at x.bytes) i))
 
 -- the bytes of the first i + 1 ranges
-pub code_bytes-more : (xs : List Range) (i : ℕ) (x : Range) → i < length xs → x ≡ get_or xs i x → code_bytes (take (i + 1) xs) ≡ over (code_bytes (take i xs)) (bytes_from x.at x.bytes)
-code_bytes-more xs i x lt is = ap code_bytes (take_more xs i x lt ∙ (λ k. take i xs ++ sym is k ∷ [])) ∙ code_bytes-push (take i xs) x
+pub range_bytes-more : (xs : List Range) (i : ℕ) (x : Range) → i < length xs → x ≡ get_or xs i x → range_bytes (take (i + 1) xs) ≡ over (range_bytes (take i xs)) (bytes_from x.at x.bytes)
+range_bytes-more xs i x lt is = ap range_bytes (take_more xs i x lt ∙ (λ k. take i xs ++ sym is k ∷ [])) ∙ range_bytes-push (take i xs) x
 
 -- a byte of the first ranges is a byte of all
-pub code_bytes-front : (xs : List Range) (i a b : ℕ) → code_bytes (take i xs) a ≡ Some b → code_bytes xs a ≡ Some b
-code_bytes-front xs i a b e =
-    ap (λ rs. code_bytes rs a) (sym (take-append-drop i xs)) ∙ (λ k. code_bytes-append (take i xs) (drop i xs) k a) ∙ (λ k. option_or (e k) (code_bytes (drop i xs) a))
+pub range_bytes-front : (xs : List Range) (i a b : ℕ) → range_bytes (take i xs) a ≡ Some b → range_bytes xs a ≡ Some b
+range_bytes-front xs i a b e =
+    ap (λ rs. range_bytes rs a) (sym (take-append-drop i xs)) ∙ (λ k. range_bytes-append (take i xs) (drop i xs) k a) ∙ (λ k. option_or (e k) (range_bytes (drop i xs) a))
 
 or-exchange : (x y z : Option ℕ) → ((b c : ℕ) → x ≡ None → z ≡ Some b → y ≡ Some c → b ≡ c) → option_or (option_or x y) z ≡ option_or (option_or x z) y
 or-exchange (Some b) y z same = refl
@@ -42,16 +43,16 @@ or-exchange None (Some c) None same = refl
 or-exchange None (Some c) (Some b) same = ap Some (sym (same b c refl refl refl))
 
 -- A range of xs goes over those of ys where both agree.
-pub exchanged : (xs ys : List Range) (i j : ℕ) (x : Range) → i < length xs → x ≡ get_or xs i x → Agree (code_bytes xs) (code_bytes ys)
-    → over (over (code_bytes (take i xs)) (code_bytes (take j ys))) (bytes_from x.at x.bytes) ≡ over (code_bytes (take (i + 1) xs)) (code_bytes (take j ys))
+pub exchanged : (xs ys : List Range) (i j : ℕ) (x : Range) → i < length xs → x ≡ get_or xs i x → Agree (range_bytes xs) (range_bytes ys)
+    → over (over (range_bytes (take i xs)) (range_bytes (take j ys))) (bytes_from x.at x.bytes) ≡ over (range_bytes (take (i + 1) xs)) (range_bytes (take j ys))
 exchanged xs ys i j x lt is agree =
-    let at : (a : ℕ) → option_or (option_or (code_bytes (take i xs) a) (code_bytes (take j ys) a)) (bytes_from x.at x.bytes a)
-    ≡ option_or (option_or (code_bytes (take i xs) a) (bytes_from x.at x.bytes a)) (code_bytes (take j ys) a) =
-    λ a. or-exchange (code_bytes (take i xs) a) (code_bytes (take j ys) a) (bytes_from x.at x.bytes a) (λ b c none has other.
+    let at : (a : ℕ) → option_or (option_or (range_bytes (take i xs) a) (range_bytes (take j ys) a)) (bytes_from x.at x.bytes a)
+    ≡ option_or (option_or (range_bytes (take i xs) a) (bytes_from x.at x.bytes a)) (range_bytes (take j ys) a) =
+    λ a. or-exchange (range_bytes (take i xs) a) (range_bytes (take j ys) a) (bytes_from x.at x.bytes a) (λ b c none has other.
     agree a b c
-    (code_bytes-front xs (i + 1) a b ((λ k. code_bytes-more xs i x lt is k a) ∙ (λ k. option_or (none k) (bytes_from x.at x.bytes a)) ∙ has))
-    (code_bytes-front ys j a c other)) in
-    (λ k a. at a k) ∙ (λ k. over (sym (code_bytes-more xs i x lt is) k) (code_bytes (take j ys)))
+    (range_bytes-front xs (i + 1) a b ((λ k. range_bytes-more xs i x lt is k a) ∙ (λ k. option_or (none k) (bytes_from x.at x.bytes a)) ∙ has))
+    (range_bytes-front ys j a c other)) in
+    (λ k a. at a k) ∙ (λ k. over (sym (range_bytes-more xs i x lt is) k) (range_bytes (take j ys)))
 
 or-some : (x y z : Option ℕ) (b : ℕ) → x ≡ Some b → option_or x y ≡ option_or x z
 or-some x y z b e = (λ i. option_or (e i) y) ∙ (λ i. option_or (sym e i) z)
@@ -131,7 +132,7 @@ joins-none old new r is none same =
     record {
       ranges = subst AreRanges (sym alone) (omega arith, is.0, is.1, tt);
       order = subst (All (BeginsBy r.at)) (sym alone) (All-push (BeginsBy r.at) [] r (λ k d lt. absurd (omega arith)) (omega arith));
-      bytes = ap code_bytes same ∙ code_bytes-push old r;
+      bytes = ap range_bytes same ∙ range_bytes-push old r;
     }
 
 module _ (kept old new : List Range) (last r : Range) (are : AreRanges old) (is : IsRange r) (order : All (BeginsBy r.at) old) (popped : old ≡ kept ++ last ∷ []) where
@@ -149,7 +150,7 @@ module _ (kept old new : List Range) (last r : Range) (are : AreRanges old) (is 
   joins-apart far same = record {
     ranges = subst AreRanges (sym (same ∙ (λ i. popped i ++ r ∷ []))) (ranges-push 0 (kept ++ last ∷ []) r were (omega (arith, next-push 0 kept last)) is);
     order = subst (All (BeginsBy r.at)) (sym same) (All-push (BeginsBy r.at) old r order (omega arith));
-    bytes = ap code_bytes same ∙ code_bytes-push old r;
+    bytes = ap range_bytes same ∙ range_bytes-push old r;
   }
 
   -- a range that touches the last one, which becomes longer
@@ -174,9 +175,9 @@ module _ (kept old new : List Range) (last r : Range) (are : AreRanges old) (is 
       order = subst (All (BeginsBy r.at)) (sym same)
           (All-push (BeginsBy r.at) kept longer begin.0 (omega (arith, at, before)));
       bytes =
-          ap code_bytes same ∙ code_bytes-push kept longer ∙ (λ i. over (code_bytes kept) (bytes-longer i))
-          ∙ sym (over-assoc (code_bytes kept) (bytes_from last.at last.bytes) (bytes_from r.at r.bytes))
-          ∙ (λ i. over (sym (ap code_bytes popped ∙ code_bytes-push kept last) i) (bytes_from r.at r.bytes));
+          ap range_bytes same ∙ range_bytes-push kept longer ∙ (λ i. over (range_bytes kept) (bytes-longer i))
+          ∙ sym (over-assoc (range_bytes kept) (bytes_from last.at last.bytes) (bytes_from r.at r.bytes))
+          ∙ (λ i. over (sym (ap range_bytes popped ∙ range_bytes-push kept last) i) (bytes_from r.at r.bytes));
     }
 
 -- ---- the ranges of two codes
@@ -186,12 +187,12 @@ pub record Merged (a b : List Range) (i j : ℕ) (ranges : List Range) : Type 0 
   pub first : i ≤ length a
   pub second : j ≤ length b
   pub are : AreRanges ranges
-  pub bytes : code_bytes ranges ≡ over (code_bytes (take i a)) (code_bytes (take j b))
+  pub bytes : range_bytes ranges ≡ over (range_bytes (take i a)) (range_bytes (take j b))
   pub next_first : (d : Range) → i < length a → All (BeginsBy (get_or a i d).at) ranges
   pub next_second : (d : Range) → j < length b → All (BeginsBy (get_or b j d).at) ranges
 
 module _ (a b : List Range) (i j : ℕ) (ranges new : List Range) (x : Range) (so_far : Merged a b i j ranges) (joins : Joins ranges x new) where
-  pub merged-first : AreRanges a → Agree (code_bytes a) (code_bytes b) → x ≡ get_or a i x → BeginsFirst a i b j → Merged a b (i + 1) j new
+  pub merged-first : AreRanges a → Agree (range_bytes a) (range_bytes b) → x ≡ get_or a i x → BeginsFirst a i b j → Merged a b (i + 1) j new
   merged-first are agree is begins = record {
     first = omega (arith, begins.within);
     second = so_far.second;
@@ -208,12 +209,12 @@ module _ (a b : List Range) (i j : ℕ) (ranges new : List Range) (x : Range) (s
     are = joins.ranges;
     bytes =
         joins.bytes ∙ (λ k. over (so_far.bytes k) (bytes_from x.at x.bytes))
-        ∙ over-assoc (code_bytes (take i a)) (code_bytes (take j b)) (bytes_from x.at x.bytes)
-        ∙ (λ k. over (code_bytes (take i a)) (sym (code_bytes-more b j x begins.within is) k));
+        ∙ over-assoc (range_bytes (take i a)) (range_bytes (take j b)) (bytes_from x.at x.bytes)
+        ∙ (λ k. over (range_bytes (take i a)) (sym (range_bytes-more b j x begins.within is) k));
     next_first = λ d lt. begin-by x.at (get_or a i d).at new (omega (arith, begins.first x d lt, ap (λ (r : Range). r.at) is)) joins.order;
     next_second = λ d lt. begin-by x.at (get_or b (j + 1) d).at new (omega (arith, rises b j x d are lt, ap (λ (r : Range). r.at) is)) joins.order;
   }
 
 -- all of both
-pub merged-all : (a b : List Range) (i j : ℕ) (ranges : List Range) → Merged a b i j ranges → length a ≤ i → length b ≤ j → code_bytes ranges ≡ over (code_bytes a) (code_bytes b)
-merged-all a b i j ranges merged le ge = merged.bytes ∙ (λ k. over (code_bytes (take_all i a le k)) (code_bytes (take_all j b ge k)))
+pub merged-all : (a b : List Range) (i j : ℕ) (ranges : List Range) → Merged a b i j ranges → length a ≤ i → length b ≤ j → range_bytes ranges ≡ over (range_bytes a) (range_bytes b)
+merged-all a b i j ranges merged le ge = merged.bytes ∙ (λ k. over (range_bytes (take_all i a le k)) (range_bytes (take_all j b ge k)))

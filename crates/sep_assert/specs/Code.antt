@@ -1,13 +1,8 @@
 -- Code as bytes at addresses.
 use Rattle.std.specs.Prelude.{◌≡◌, ℕ, ◌+◌, ◌^◌, ◌<◌, ◌≤◌, List, [], ◌∷◌, length, slice_index_or, All, Some, None}
 use Rattle.rv_words.specs.Bytes.{Bytes, bytes_from, over}
-use Rattle.word_terms.specs.Code.{AreRanges}
-use Rattle.word_terms.specs.declared.code.Range.{Range}
-
--- the bytes of ranges; where two of them have an address, that of the first
-abbrev pub code_bytes : List Range → Bytes
-code_bytes [] = λ a. None
-code_bytes (r ∷ rs) = over (bytes_from r.at r.bytes) (code_bytes rs)
+use Rattle.rv_words.specs.Ranges.{AreRanges, range_bytes}
+use Rattle.rv_words.specs.declared.range.Range.{Range}
 
 -- every byte of x is that byte of y
 abbrev pub IsWithin : Bytes → Bytes → Type 0
@@ -40,4 +35,4 @@ pub record BeginsFirst (xs : List Range) (i : ℕ) (ys : List Range) (j : ℕ) :
 pub record Joins (old : List Range) (r : Range) (new : List Range) : Type 0 where
   pub ranges : AreRanges new
   pub order : All (BeginsBy r.at) new
-  pub bytes : code_bytes new ≡ over (code_bytes old) (bytes_from r.at r.bytes)
+  pub bytes : range_bytes new ≡ over (range_bytes old) (bytes_from r.at r.bytes)

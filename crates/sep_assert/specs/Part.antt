@@ -3,12 +3,12 @@
 -- without a look at the others (Reynolds, Separation Logic, 2002).
 use Rattle.std.specs.Prelude.{◌≡◌, ℕ, ◌==◌, if◌then◌else◌, ◌↔◌, ◌⊎◌, Option, Some, None, List, [], ◌∷◌}
 use Rattle.rv_words.specs.Bytes.{Bytes}
-use Rattle.word_terms.specs.declared.code.Range.{Range}
+use Rattle.rv_words.specs.declared.range.Range.{Range}
 use Rattle.word_terms.specs.Tree.{WordTree, MemTree}
 use Rattle.word_terms.specs.Environment.{Environment}
 use Rattle.word_terms.specs.Value.{word_value, mem_value}
 use Rattle.sep_assert.specs.Tree.{AssertionTree}
-use Rattle.sep_assert.specs.Code.{code_bytes}
+use Rattle.rv_words.specs.Ranges.{range_bytes}
 
 -- what a part may hold: the program counter, a register, or the byte at an address
 pub data Key : Type 0 where
@@ -88,7 +88,7 @@ bytes_part m (Byte a) = slot_of (m a)
 
 -- the bytes of code alone
 abbrev pub code_part : List Range → Part
-code_part ranges = bytes_part (code_bytes ranges)
+code_part ranges = bytes_part (range_bytes ranges)
 
 -- registers with the values of their terms
 abbrev pub registers_part : List (ℕ × WordTree) → Environment → Part

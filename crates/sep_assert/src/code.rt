@@ -2,14 +2,16 @@
 
 ghost use Rattle.std.specs.Prelude.{◌≡◌, ◌↔◌, IsTrue};
 ghost use Rattle.rv_words.specs.Bytes.{bytes_from, over};
-ghost use Rattle.sep_assert.specs.Code.{code_bytes, Agree, AreSameAt, IsWithin};
+ghost use Rattle.rv_words.specs.Ranges.{range_bytes};
+ghost use Rattle.sep_assert.specs.Code.{Agree, AreSameAt, IsWithin};
 
-use word_terms::{Code, Range};
+use rv_words::Range;
+use word_terms::Code;
 
 /// Whether every byte of `a` is that byte of `b`.
 #[tactic(auto, using(crate::proofs::CodeLemmas::over_none))]
 pub fn code_within(a: &Code, b: &Code) -> bool
-    ensures { IsTrue result ↔ IsWithin (code_bytes a.now.ranges) (code_bytes b.now.ranges) }
+    ensures { IsTrue result ↔ IsWithin (range_bytes a.now.ranges) (range_bytes b.now.ranges) }
 {
     are_bytes_of(a.ranges.as_slice(), b.ranges.as_slice(), &[])
 }
@@ -17,7 +19,7 @@ pub fn code_within(a: &Code, b: &Code) -> bool
 /// Whether no address has two different bytes.
 #[tactic(auto, using(crate::proofs::CodeLemmas::within_of_agree, crate::proofs::CodeLemmas::agree_of_within))]
 pub fn code_agree(a: &Code, b: &Code) -> bool
-    ensures { IsTrue result ↔ Agree (code_bytes a.now.ranges) (code_bytes b.now.ranges) }
+    ensures { IsTrue result ↔ Agree (range_bytes a.now.ranges) (range_bytes b.now.ranges) }
 {
     let a = a.ranges.as_slice();
     are_bytes_of(a, b.ranges.as_slice(), a)
@@ -25,7 +27,7 @@ pub fn code_agree(a: &Code, b: &Code) -> bool
 
 /// Whether every byte of `a` is that byte of `b` or, where `b` has none, of `c`.
 pub fn code_within_either(a: &Code, b: &Code, c: &Code) -> bool
-    ensures { IsTrue result ↔ IsWithin (code_bytes a.now.ranges) (over (code_bytes b.now.ranges) (code_bytes c.now.ranges)) }
+    ensures { IsTrue result ↔ IsWithin (range_bytes a.now.ranges) (over (range_bytes b.now.ranges) (range_bytes c.now.ranges)) }
 {
     are_bytes_of(
         a.ranges.as_slice(),
@@ -35,7 +37,7 @@ pub fn code_within_either(a: &Code, b: &Code, c: &Code) -> bool
 }
 
 fn are_bytes_of(a: &[Range], b: &[Range], c: &[Range]) -> bool
-    ensures { IsTrue result ↔ IsWithin (code_bytes a.now) (over (code_bytes b.now) (code_bytes c.now)) }
+    ensures { IsTrue result ↔ IsWithin (range_bytes a.now) (over (range_bytes b.now) (range_bytes c.now)) }
 {
     for range in a {
         if !are_bytes_at(range, a, b, c) {
@@ -47,7 +49,7 @@ fn are_bytes_of(a: &[Range], b: &[Range], c: &[Range]) -> bool
 
 /// Whether the bytes of `a` at the addresses of a range are those of `b` or of `c`.
 fn are_bytes_at(range: &Range, a: &[Range], b: &[Range], c: &[Range]) -> bool
-    ensures { IsTrue result ↔ AreSameAt (code_bytes a.now) (over (code_bytes b.now) (code_bytes c.now)) range.now }
+    ensures { IsTrue result ↔ AreSameAt (range_bytes a.now) (over (range_bytes b.now) (range_bytes c.now)) range.now }
 {
     for i in 0..range.bytes.len() {
         let address = u128::from(range.at) + i as u128;
@@ -60,7 +62,7 @@ fn are_bytes_at(range: &Range, a: &[Range], b: &[Range], c: &[Range]) -> bool
 
 /// The byte at an address, which may lie past the last one.
 fn byte_of(ranges: &[Range], address: u128) -> Option<u8>
-    ensures { result ≡ code_bytes ranges.now address }
+    ensures { result ≡ range_bytes ranges.now address }
 {
     for range in ranges {
         if let Some(byte) = byte_in(range, address) {

@@ -2,19 +2,20 @@
 
 ghost use Rattle.std.specs.Prelude.{◌≡◌, ◌<◌, ◌≤◌, ◌+◌, ◌-◌, ◌++◌, ◌⊎◌, All, IfOk, OnOk, IsTrue, IsFalse, drop, length};
 ghost use Rattle.rv_words.specs.Bytes.{over};
-ghost use Rattle.word_terms.specs.Code.{AreRanges};
-ghost use Rattle.sep_assert.specs.Code.{code_bytes, Agree, BeginsBy, BeginsFirst, IsRange, Joins};
+ghost use Rattle.rv_words.specs.Ranges.{AreRanges};
+ghost use Rattle.rv_words.specs.Ranges.{range_bytes};
+ghost use Rattle.sep_assert.specs.Code.{Agree, BeginsBy, BeginsFirst, IsRange, Joins};
 
-use rv_words::{List, NoMemory};
+use rv_words::{List, NoMemory, Range};
 use std::alloc::Global;
-use word_terms::{Code, Range};
+use word_terms::Code;
 
 /// The bytes of both codes, which have no two different bytes at one address. Ranges that touch become one.
 pub fn code_join(alloc: Global, a: &Code, b: &Code) -> Result<Code, NoMemory>
     requires first { AreRanges a.now.ranges }
     requires second { AreRanges b.now.ranges }
-    requires agree { Agree (code_bytes a.now.ranges) (code_bytes b.now.ranges) }
-    ensures bytes { IfOk result (λ c. code_bytes c.ranges ≡ over (code_bytes a.now.ranges) (code_bytes b.now.ranges)) }
+    requires agree { Agree (range_bytes a.now.ranges) (range_bytes b.now.ranges) }
+    ensures bytes { IfOk result (λ c. range_bytes c.ranges ≡ over (range_bytes a.now.ranges) (range_bytes b.now.ranges)) }
     ensures ranges { IfOk result (λ c. AreRanges c.ranges) }
 {
     let a = a.ranges.as_slice();

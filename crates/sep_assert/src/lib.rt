@@ -10,7 +10,7 @@ pub use assertion::{Assertion, same_assertion, same_mems};
 pub use code::{code_agree, code_within, code_within_either, same_code};
 pub use joining::code_join;
 pub use laws::law_of_unions;
-pub use word_terms::{Code, Range};
+pub use word_terms::Code;
 
 #[cfg(test)]
 mod tests;

@@ -1,14 +1,14 @@
 //! What no clause says: that codes are joined where there is memory, and the ranges of small codes.
 
 ghost use Rattle.std.specs.Prelude.{◌<◌, ◌≤◌, ◌+◌, ◌^◌, IfOk, length};
-ghost use Rattle.word_terms.specs.Code.{AreRanges};
+ghost use Rattle.rv_words.specs.Ranges.{AreRanges};
 
 use super::*;
-use rv_words::{List, NoMemory};
+use rv_words::{List, NoMemory, Range};
 use std::alloc::Global;
 use std::process::Abort;
 use std::test::Fail;
-use word_terms::{Code, Mem, Range, Word};
+use word_terms::{Code, Mem, Word};
 
 /// Code of one range.
 fn one_range(alloc: Global, at: u64, bytes: &[u8]) -> Result<Code, NoMemory>

@@ -6,4 +6,3 @@ pub use Rattle.word_terms.specs.Tree as Terms
 pub use Rattle.word_terms.specs.Environment
 pub use Rattle.word_terms.specs.Value
 pub use Rattle.word_terms.specs.Scope
-pub use Rattle.word_terms.specs.Code

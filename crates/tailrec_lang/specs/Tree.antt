@@ -1,7 +1,7 @@
 -- Groups as trees: what contracts see of them, whatever their places in memory.
 use Rattle.std.specs.Prelude.{ℕ, List, [], ◌∷◌, map, slice_get, Option, Some, None}
 use Rattle.word_terms.specs.Tree.{WordTree, MemTree, CondTree, word_tree, mem_tree, cond_tree}
-use Rattle.word_terms.specs.declared.code.Range.{Range}
+use Rattle.rv_words.specs.declared.range.Range.{Range}
 use Rattle.tailrec_lang.specs.declared.group.Values.{Values}
 use Rattle.tailrec_lang.specs.declared.group.Step.{Step}
 use Rattle.tailrec_lang.specs.declared.group.Step.TheVariants as step

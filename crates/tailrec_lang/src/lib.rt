@@ -16,7 +16,7 @@ pub use group::{Body, Def, End, Exit, Group, Step, Values};
 pub use laws::law_of_more_turns;
 pub use needs::has_few_needs;
 pub use scope::{BadDef, well_formed};
-pub use word_terms::{Code, Range};
+pub use word_terms::Code;
 
 #[cfg(test)]
 mod tests;

@@ -1,7 +1,7 @@
 -- Which terms have a text: their numbers fit, and they are at most 64 deep. And which ranges.
 use Rattle.std.specs.Prelude.{ℕ, ◌≤◌, ◌<◌, ◌^◌}
 use Rattle.mc_text.specs.Number.{AreBytes}
-use Rattle.word_terms.specs.declared.code.Range.{Range}
+use Rattle.rv_words.specs.declared.range.Range.{Range}
 use Rattle.word_terms.specs.Tree.{WordTree, Const, Var, Bin, Extend, Load, MemTree, MemVar, Store, CondTree, Compare, Neg, Inside, depth_of_word, depth_of_mem, depth_of_cond}
 
 -- constants have 64 bits, and the numbers of variables 32

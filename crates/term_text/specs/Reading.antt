@@ -12,7 +12,7 @@ use Rattle.rv_words.specs.declared.comparison.Cmp.{Cmp}
 use Rattle.rv_words.specs.declared.comparison.Cmp.TheVariants.{Eq, Ne, Lt, Ge, Ltu, Geu}
 use Rattle.rv_words.specs.declared.width.Width.{Width}
 use Rattle.rv_words.specs.declared.width.Width.TheVariants.{B1, B2, B4, B8}
-use Rattle.word_terms.specs.declared.code.Range.{Range}
+use Rattle.rv_words.specs.declared.range.Range.{Range}
 use Rattle.word_terms.specs.Tree.{WordTree, Const, Var, Bin, Extend, Load, MemTree, MemVar, Store, CondTree, Compare, Neg, Inside}
 use Rattle.term_text.specs.declared.head.WordHead.{WordHead}
 use Rattle.term_text.specs.declared.head.WordHead.TheVariants as word_head

@@ -10,9 +10,9 @@ ghost use Rattle.term_text.specs.Reading.{begins_word, begins_mem, is_open, word
 use crate::cursor::{Stop, begins_mem, begins_word, is_open};
 use crate::read::{read_mem, read_range, read_word};
 use mc_text::Scan;
-use rv_words::List;
+use rv_words::{List, Range};
 use std::alloc::Global;
-use word_terms::{DEEPEST, Mem, Range, Word};
+use word_terms::{DEEPEST, Mem, Word};
 
 /// The words up to a token that none begins with.
 pub fn read_words<'a>(alloc: Global, scan: &mut Scan<'a>) -> Result<List<Word>, Stop>

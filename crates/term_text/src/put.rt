@@ -11,8 +11,8 @@ use crate::name::{
     name_of_store,
 };
 use mc_text::Pen;
-use rv_words::NoMemory;
-use word_terms::{Cond, Mem, Range, Word};
+use rv_words::{NoMemory, Range};
+use word_terms::{Cond, Mem, Word};
 
 /// Prints a term for a word.
 #[cycle(terms)]

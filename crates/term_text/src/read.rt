@@ -9,9 +9,9 @@ ghost use Rattle.term_text.specs.Reading.{variable_of, word_leaf_of, mem_leaf_of
 use crate::cursor::{Stop, accept, address, bytes, is_open, left, peek, right};
 use crate::head::{CondHead, WordHead, cond_head_of, store_of, word_head_of};
 use mc_text::{Scan, Token, dec, hexnum};
-use rv_words::Width;
+use rv_words::{Range, Width};
 use std::alloc::Global;
-use word_terms::{Cond, Mem, Range, Word};
+use word_terms::{Cond, Mem, Word};
 
 /// The number where it has at most 32 bits.
 fn low_half(number: Option<u64>) -> Option<u32>

@@ -79,7 +79,7 @@ abbrev pub IsInside : Width → (MemTree → Type 0) → (WordTree → Type 0) �
 IsInside width P Q (Inside w m a) = (width ≡ w) × P m × Q a
 IsInside width P Q c = ⊥
 
--- memories that may be swapped, or that may be without their outer stores: these add and take away no address
+-- memories that may be swapped, or that may be swapped without their outer stores: these add and take away no address
 abbrev pub SameAddresses : List FactTree → MemTree → MemTree → Type 0
 SameAddresses facts m n = SwapMem facts m n ⊎ SwapMem facts (before_stores m) (before_stores n)
 

@@ -1,7 +1,7 @@
 -- Facts and triples as trees: what contracts see of them, whatever their places in memory.
 use Rattle.std.specs.Prelude.{ℕ, List, map}
 use Rattle.word_terms.specs.Tree.{WordTree, MemTree, CondTree, word_tree, mem_tree, cond_tree}
-use Rattle.word_terms.specs.declared.code.Range.{Range}
+use Rattle.rv_words.specs.declared.range.Range.{Range}
 use Rattle.tailrec_lang.specs.Tree.{ValuesTree, values_tree}
 use Rattle.sep_assert.specs.Tree.{AssertionTree, assertion_tree}
 use Rattle.triple_kernel.specs.declared.triple.Fact.{Fact}

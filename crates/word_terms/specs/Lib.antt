@@ -3,6 +3,5 @@ pub mod Environment
 pub mod Value
 pub mod Scope
 pub mod Substitution
-pub mod Code
 pub use Rattle.rv_words.specs.Operation
 pub use Rattle.rv_words.specs.Bytes

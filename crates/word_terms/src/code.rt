@@ -1,13 +1,6 @@
 //! Machine code as bytes at addresses.
 
-use rv_words::{Bytes, List};
-
-/// Bytes from an address on.
-#[derive(Debug, Drop)]
-pub struct Range {
-    pub at: u64,
-    pub bytes: Bytes,
-}
+use rv_words::{List, Range};
 
 /// The bytes of a function's code: ranges that aren't empty, rise, neither overlap nor touch, and end at
 /// most at 2^64.

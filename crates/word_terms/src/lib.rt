@@ -8,7 +8,7 @@ mod scope;
 mod substitution;
 mod term;
 
-pub use code::{Code, Range};
+pub use code::Code;
 pub use evaluation::{Env, byte_of, memory_of, truth, value};
 pub use laws::{law_of_agreement, law_of_scopes, law_of_stores, law_of_substitution};
 pub use scope::{is_cond_in_scope, is_mem_in_scope, is_word_in_scope};

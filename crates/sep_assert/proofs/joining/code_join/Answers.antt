@@ -1,6 +1,7 @@
 use Rattle.std.proofs.Common.{sym, subst}
-use Rattle.word_terms.specs.Code.{AreRanges}
-use Rattle.sep_assert.specs.Code.{code_bytes, Agree}
+use Rattle.rv_words.specs.Ranges.{AreRanges}
+use Rattle.rv_words.specs.Ranges.{range_bytes}
+use Rattle.sep_assert.specs.Code.{Agree}
 use Rattle.sep_assert.proofs.JoinLemmas.{is_range-at, merged-first, merged-second}
 use Rattle.sep_assert.proofs.joining.code_join.Goals as goal
 
@@ -12,8 +13,8 @@ add_range-requires-clause-range c =
 pub loop-i-preserved-then-begins_first : goal.loop-i-preserved-then-begins_first
 loop-i-preserved-then-begins_first c =
     let are = subst AreRanges (sym c.as_slice-a.ensures) c.requires.first in
-    let agree = subst (λ rs. Agree (code_bytes rs) (code_bytes c.as_slice-b.result.now)) (sym c.as_slice-a.ensures)
-    (subst (λ rs. Agree (code_bytes c.args.a.now.ranges) (code_bytes rs)) (sym c.as_slice-b.ensures) c.requires.agree) in
+    let agree = subst (λ rs. Agree (range_bytes rs) (range_bytes c.as_slice-b.result.now)) (sym c.as_slice-a.ensures)
+    (subst (λ rs. Agree (range_bytes c.args.a.now.ranges) (range_bytes rs)) (sym c.as_slice-b.ensures) c.requires.agree) in
     merged-first c.as_slice-a.result.now c.as_slice-b.result.now c.loop-i.i c.loop-i.j c.loop-i.ranges c.add_range.new.ranges c.index-a-i.result
     c.loop-i.invariant c.in_ok-add_range.ensures are agree c.index-a-i.is (c.begins_first.ensures.yes c.if-begins_first.true)
 

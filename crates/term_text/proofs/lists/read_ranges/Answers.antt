@@ -2,7 +2,7 @@ use Rattle.std.proofs.Common.{ap, sym, ◌∙◌, List as Items}
 use Rattle.mc_text.specs.Reading.{star, with_front}
 use Rattle.mc_text.specs.Scanning.{tokens_at}
 use Rattle.mc_text.proofs.Star.{star-more, star-ends}
-use Rattle.word_terms.specs.declared.code.Range.{Range}
+use Rattle.rv_words.specs.declared.range.Range.{Range}
 use Rattle.term_text.specs.Reading.{is_open, range_at}
 use Rattle.term_text.proofs.TermLaws.{range-shrinks}
 use Rattle.term_text.proofs.StarReads.{star-stopped}
