@@ -1,0 +1,141 @@
+-- Each axiom is valid.
+use Rattle.std.proofs.Common.{◌≡◌, ℕ, zero, suc, ◌+◌, ◌-◌, ◌%◌, ◌^◌, ◌<◌, Bool, true, false, cond, eqb, eq-eqb, eqb-true, ◌||◌, Option, Some, None, List, [], ◌∷◌, length, get_or, filter, Contains, refl, sym, ap, subst, ◌∙◌, arith}
+use Rattle.std.specs.Prelude.{IfSome}
+use Rattle.std.specs.Option.{option_and_then, option_or}
+use Rattle.std.specs.Int.{w32, to_le_bytes}
+use Rattle.std.specs.List.{list_any, range_with_len}
+use Rattle.std.proofs.lemmas.List.FromFn.{length-range_with_len, get_or-range_with_len}
+use Rattle.rv_words.specs.Bytes.{bytes_from}
+use Rattle.rv_decode.specs.declared.instruction.Instr.{Instr}
+use Rattle.rv_decode.specs.declared.instruction.Instr.TheVariants as instr
+use Rattle.rv_decode.specs.Decodes.{NamesRegisters, decoded}
+use Rattle.rv_decode.proofs.EncodeLemmas.{decoded_named}
+use Rattle.rv_machine.specs.Step.{is_aligned}
+use Rattle.rv_words.specs.Ranges.{AreRanges}
+use Rattle.tailrec_lang.specs.Tree.{GroupTree}
+use Rattle.rv_words.specs.Ranges.{range_bytes}
+use Rattle.sep_assert.specs.Code.{IsWithin}
+use Rattle.triple_kernel.specs.Tree.{TripleTree}
+use Rattle.triple_kernel.specs.Valid.{Valid}
+use Rattle.instr_axioms.specs.declared.form.Form.{Form}
+use Rattle.instr_axioms.specs.Terms.{sources, destination, has_memory, has_form}
+use Rattle.instr_axioms.specs.Axiom.{axiom_of, is_own, own, variables_for, own_triple, triple_if, word_code}
+use Rattle.instr_axioms.proofs.Valid.{StandsIn, valid_over}
+
+-- ---- an instruction's own registers
+
+abbrev AreSmall : List ℕ → Type 0
+AreSmall [] = Unit {0}
+AreSmall (r ∷ rs) = (r < 32) × AreSmall rs
+
+small_at : (rs : List ℕ) (r k : ℕ) → AreSmall rs → k < length rs → get_or rs k r ≡ r → r < 32
+small_at [] r k h l at = absurd (omega arith)
+small_at (q ∷ rs) r zero h l at = subst (λ x. x < 32) at h.0
+small_at (q ∷ rs) r (suc k) h l at = small_at rs r k h.1 (omega arith) at
+
+zero_small : 0 < 32
+zero_small = omega arith
+
+are_small : (i : Instr) → NamesRegisters i → AreSmall (destination i ∷ sources i)
+are_small (instr.Op o rd rs1 rs2) h = (h.0, (h.1, (h.2, tt)))
+are_small (instr.OpImm o rd rs1 imm) h = (h.0, (h.1, tt))
+are_small (instr.Lui rd imm) h = (h, tt)
+are_small (instr.Auipc rd imm) h = (h, tt)
+are_small (instr.Jal rd offset) h = (h, tt)
+are_small (instr.Jalr rd rs1 imm) h = (h.0, (h.1, tt))
+are_small (instr.Branch c rs1 rs2 offset) h = (zero_small, (h.0, (h.1, tt)))
+are_small (instr.Load w signed rd rs1 imm) h = (h.0, (h.1, tt))
+are_small (instr.Store w rs1 rs2 imm) h = (zero_small, (h.0, (h.1, tt)))
+are_small (instr.Fence imm rs1 rd) h = (zero_small, tt)
+are_small instr.Ecall h = (zero_small, tt)
+are_small instr.Ebreak h = (zero_small, tt)
+
+or_left : (b c : Bool) → b ≡ true → (b || c) ≡ true
+or_left true c e = refl
+or_left false c e = absurd (cc)
+
+or_right : (b c : Bool) → c ≡ true → (b || c) ≡ true
+or_right true c e = refl
+or_right false c e = e
+
+any_own : (rs : List ℕ) (r k : ℕ) → k < length rs → get_or rs k r ≡ r → list_any (λ q. eqb q r) rs ≡ true
+any_own [] r k l at = absurd (omega arith)
+any_own (q ∷ rs) r zero l at = or_left (eqb q r) (list_any (λ x. eqb x r) rs) (eq-eqb q r at)
+any_own (q ∷ rs) r (suc k) l at = or_right (eqb q r) (list_any (λ x. eqb x r) rs) (any_own rs r k (omega arith) at)
+
+-- what passes stays
+filtered : (p : ℕ → Bool) (xs : List ℕ) (x k : ℕ) → k < length xs → get_or xs k x ≡ x → p x ≡ true → Contains (filter p xs) x
+filtered p [] x k l at h = absurd (omega arith)
+filtered p (y ∷ ys) x zero l at h = subst (λ zs. Contains zs x) (λ i. cond (sym (ap p at ∙ h) i) (y ∷ filter p ys) (filter p ys)) (0, omega arith, at)
+filtered p (y ∷ ys) x (suc k) l at h = put (p y) (filtered p ys x k (omega arith) at h)
+  where
+    put : (t : Bool) → Contains (filter p ys) x → Contains (cond t (y ∷ filter p ys) (filter p ys)) x
+    put true c = (suc c.0, omega (arith, c.1), c.2)
+    put false c = c
+
+some : (r : ℕ) → (r ≡ 0 → ⊥) → 0 < r
+some zero h = absurd (h refl)
+some (suc r) h = omega arith
+
+-- each of its registers but x0 is among its own
+own-has : (i : Instr) (r k : ℕ) → NamesRegisters i → k < length (destination i ∷ sources i) → get_or (destination i ∷ sources i) k r ≡ r → (r ≡ 0 → ⊥) → Contains (own i) r
+unfolding own
+own-has i r k h l at not_x0 =
+    let least = some r not_x0 in
+    let small = small_at (destination i ∷ sources i) r k (are_small i h) l at in
+    let place : 1 + (r - 1) ≡ r = omega arith in
+    filtered (is_own i) (range_with_len 1 31) r (r - 1) (omega (arith, length-range_with_len 1 31)) (get_or-range_with_len 1 31 (r - 1) r (omega arith) ∙ place) (any_own (destination i ∷ sources i) r k l at)
+
+-- ---- the law
+
+or_none : (o : Option ℕ) → option_or o None ≡ o
+or_none None = refl
+or_none (Some b) = refl
+
+code_is : (a w : ℕ) → IsWithin (bytes_from a (to_le_bytes w32 w)) (range_bytes (word_code a w))
+code_is a w q b e = or_none (bytes_from a (to_le_bytes w32 w) q) ∙ e
+
+stands : (i : Instr) (a w : ℕ) → a < 2 ^ 64 → is_aligned a ≡ true → w < 2 ^ 32 → decoded w ≡ Some i → StandsIn i a w (word_code a w) (own i) (has_memory i)
+stands i a w small even low is =
+    let named : NamesRegisters i = (subst (λ o. IfSome o NamesRegisters) is (decoded_named w (decoded w) low refl)) in record {
+      small = small;
+      even = even;
+      word = low;
+      is = is;
+      bytes = code_is a w;
+      reads = λ r c. own-has i r (suc c.0) named (omega (arith, c.1)) c.2;
+      writes = λ h. own-has i (destination i) 0 named (omega arith) refl h;
+      memory = λ k. k;
+    }
+
+pub own-valid : (g : GroupTree) (i : Instr) (form : Form) (a w : ℕ) → a < 2 ^ 64 → is_aligned a ≡ true → w < 2 ^ 32 → decoded w ≡ Some i → has_form i form a ≡ true → Valid g (own_triple i form a w)
+own-valid g i form a w small even low is has = valid_over i form a w (word_code a w) (own i) (has_memory i) (variables_for (own i)) (stands i a w small even low is) has g
+
+-- an axiom, taken apart
+pub record IsAxiom (a w : ℕ) (form : Form) (t : TripleTree) : Type 0 where
+  pub even : is_aligned a ≡ true
+  pub instruction : Instr
+  pub is : decoded w ≡ Some instruction
+  pub has : has_form instruction form a ≡ true
+  pub same : own_triple instruction form a w ≡ t
+
+pub axiom-parts : (a w : ℕ) (form : Form) (t : TripleTree) → axiom_of a w form ≡ Some t → IsAxiom a w form t
+unfolding axiom_of
+axiom-parts a w form t e = at (is_aligned a) (decoded w) refl refl e
+  where
+    formed : (even : is_aligned a ≡ true) (i : Instr) (b : Bool) → decoded w ≡ Some i → has_form i form a ≡ b → cond b (Some (own_triple i form a w)) None ≡ Some t → IsAxiom a w form t
+    formed even i true is has e = record { even = even; instruction = i; is = is; has = has; same = cc }
+    formed even i false is has e = absurd (cc)
+
+    at : (b : Bool) (o : Option Instr) → is_aligned a ≡ b → decoded w ≡ o → cond b (option_and_then (triple_if a w form) o) None ≡ Some t → IsAxiom a w form t
+    at true (Some i) even is e = formed even i (has_form i form a) is refl e
+    at true None even is e = absurd (cc)
+    at false o even is e = absurd (cc)
+
+-- an axiom of an address and a word is valid for every group
+pub axiom_valid : (g : GroupTree) (a w : ℕ) (form : Form) (t : TripleTree) → a < 2 ^ 64 → w < 2 ^ 32 → axiom_of a w form ≡ Some t → Valid g t
+axiom_valid g a w form t small low e = let p = axiom-parts a w form t e in subst (λ x. Valid g x) p.same (own-valid g p.instruction form a w small p.even low p.is p.has)
+
+-- an axiom's code is a range, as code_join asks for
+pub word_code-ranges : (a w : ℕ) → a < 2 ^ 64 → is_aligned a ≡ true → AreRanges (word_code a w)
+word_code-ranges a w small even = let zero = eqb-true (a % 4) 0 even in (omega arith, omega arith, omega arith, tt)

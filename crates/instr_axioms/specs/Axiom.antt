@@ -1,0 +1,75 @@
+-- The axioms: a triple for an instruction word at an address, in a form. Each is valid (`law_of_axioms`).
+use Rattle.std.specs.Prelude.{ℕ, ◌==◌, Bool, ◌||◌, if◌then◌else◌, Option, Some, None, option_and_then, List, [], ◌∷◌, map, filter}
+use Rattle.std.specs.Int.{w32, to_le_bytes}
+use Rattle.std.specs.List.{list_any, position_or_len, range_with_len}
+use Rattle.rv_decode.specs.declared.instruction.Instr.{Instr}
+use Rattle.rv_decode.specs.Decodes.{decoded}
+use Rattle.rv_machine.specs.Step.{is_aligned}
+use Rattle.word_terms.specs.Tree.{WordTree, MemTree, Const, Var, MemVar}
+use Rattle.rv_words.specs.declared.range.Range.{Range}
+use Rattle.sep_assert.specs.Tree.{AssertionTree}
+use Rattle.triple_kernel.specs.Tree.{TripleTree, So}
+use Rattle.instr_axioms.specs.declared.form.Form.{Form}
+use Rattle.instr_axioms.specs.Terms.{Names, sources, destination, has_memory, conditions, word_after, memory_after, pc_after, has_form}
+
+-- ---- the triple of an instruction over any registers and names
+
+-- a register with the term of its word
+abbrev pub register_with : (ℕ → WordTree) → ℕ → ℕ × WordTree
+register_with word r = (r, word r)
+
+-- one memory, where there is one
+abbrev pub memory_if : Bool → MemTree → List MemTree
+memory_if has m = if has then m ∷ [] else []
+
+-- what holds before an instruction at a, over these registers, and over a memory where there is one
+abbrev pub before : ℕ → List ℕ → Bool → Names → AssertionTree
+before a regs mem n = record { pc = Const a; regs = map (register_with n.word) regs; mems = memory_if mem n.memory }
+
+-- what holds after it, in that form
+abbrev pub after : Instr → Form → ℕ → List ℕ → Bool → Names → AssertionTree
+after i form a regs mem n =
+    record { pc = pc_after i form a n; regs = map (register_with (word_after i a n)) regs; mems = memory_if mem (memory_after i n) }
+
+-- the instruction in code, in that form
+abbrev pub triple_over : Instr → Form → ℕ → List Range → List ℕ → Bool → Names → TripleTree
+triple_over i form a code regs mem n = record {
+  facts = map So (conditions i form n);
+  pre = before a regs mem n;
+  code = code;
+  post = after i form a regs mem n;
+}
+
+-- ---- the axiom of an instruction: over its own registers
+
+-- the instruction reads the register
+abbrev pub is_source : Instr → ℕ → Bool
+is_source i r = list_any (λ q. q == r) (sources i)
+
+-- the register stands in the instruction
+abbrev pub is_own : Instr → ℕ → Bool
+is_own i r = (destination i == r) || is_source i r
+
+-- its registers but x0, rising
+unfoldable pub own : Instr → List ℕ
+own i = filter (is_own i) (range_with_len 1 31)
+
+-- the variables v0, v1 and so on for registers in their order, and m0 for the memory
+abbrev pub variables_for : List ℕ → Names
+variables_for regs = record { word = λ r. Var (position_or_len (λ q. q == r) regs); memory = MemVar 0 }
+
+-- the four bytes of the word at a, the low one first
+abbrev pub word_code : ℕ → ℕ → List Range
+word_code a w = record { at = a; bytes = to_le_bytes w32 w } ∷ []
+
+-- the axiom of the instruction, whose word is w, at a
+abbrev pub own_triple : Instr → Form → ℕ → ℕ → TripleTree
+own_triple i form a w = triple_over i form a (word_code a w) (own i) (has_memory i) (variables_for (own i))
+
+-- .. if it has that form there
+abbrev pub triple_if : ℕ → ℕ → Form → Instr → Option TripleTree
+triple_if a w form i = if has_form i form a then Some (own_triple i form a w) else None
+
+-- the axiom of the address, the word and the form, if there is one
+unfoldable pub axiom_of : ℕ → ℕ → Form → Option TripleTree
+axiom_of a w form = if is_aligned a then option_and_then (triple_if a w form) (decoded w) else None

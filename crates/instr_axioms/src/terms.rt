@@ -1,0 +1,237 @@
+//! Terms for what an instruction needs, writes and goes on to, over variables for its registers.
+
+ghost use Rattle.std.specs.Prelude.{◌≡◌, ◌≤◌, IfOk, length, map, [], ◌∷◌};
+ghost use Rattle.word_terms.specs.Tree.{word_tree, mem_tree, cond_tree, MemVar, Bin, Extend, Inside, Compare, Neg};
+ghost use Rattle.triple_kernel.specs.Tree.{fact_tree, So};
+ghost use Rattle.instr_axioms.specs.Terms as terms;
+ghost use Rattle.instr_axioms.specs.Axiom.{variables_for};
+
+use crate::address::next;
+use crate::form::Form;
+use crate::registers::place_of;
+use rv_decode::Instr;
+use rv_machine::{immediate_word, plus_immediate, upper_word};
+use rv_words::{Cmp, Ext, List, NoMemory, Op, Width};
+use std::alloc::Global;
+use triple_kernel::Fact;
+use word_terms::{Cond, Mem, Word};
+
+/// The word in a register; x0 reads as 0.
+fn word_in(regs: &[u8], r: u8) -> Word
+    requires { length regs.now ≤ 31 }
+    ensures { word_tree result ≡ terms.word_in (variables_for regs.now) r }
+{
+    if r == 0 {
+        return Word::Const(0);
+    }
+    Word::Var(place_of(regs, r))
+}
+
+fn bin(alloc: Global, op: Op, a: Word, b: Word) -> Result<Word, NoMemory>
+    ensures { IfOk result (λ t. word_tree t ≡ Bin op (word_tree a) (word_tree b)) }
+{
+    let a = Box::new(alloc, a)?;
+    let b = Box::new(alloc, b)?;
+    Ok(Word::Bin(op, a, b))
+}
+
+/// The word in a register, plus an immediate.
+fn sum(alloc: Global, regs: &[u8], r: u8, imm: i32) -> Result<Word, NoMemory>
+    requires { length regs.now ≤ 31 }
+    ensures { IfOk result (λ t. word_tree t ≡ terms.sum (variables_for regs.now) r imm) }
+{
+    bin(alloc, Op::Add, word_in(regs, r), Word::Const(immediate_word(imm)))
+}
+
+fn sign_extended(alloc: Global, width: Width, t: Word) -> Result<Word, NoMemory>
+    ensures { IfOk result (λ x. word_tree x ≡ terms.sign_extended width (word_tree t)) }
+{
+    match width {
+        Width::B1 => extend(alloc, Ext::Sx1, t),
+        Width::B2 => extend(alloc, Ext::Sx2, t),
+        Width::B4 => extend(alloc, Ext::Sx4, t),
+        Width::B8 => Ok(t),
+    }
+}
+
+fn extend(alloc: Global, ext: Ext, t: Word) -> Result<Word, NoMemory>
+    ensures { IfOk result (λ x. word_tree x ≡ Extend ext (word_tree t)) }
+{
+    let t = Box::new(alloc, t)?;
+    Ok(Word::Extend(ext, t))
+}
+
+/// The word that a load from an address gives.
+fn loaded(alloc: Global, width: Width, signed: bool, a: Word) -> Result<Word, NoMemory>
+    ensures { IfOk result (λ t. word_tree t ≡ terms.loaded width signed (MemVar 0) (word_tree a)) }
+{
+    let m = Box::new(alloc, Mem::Var(0))?;
+    let a = Box::new(alloc, a)?;
+    let t = Word::Load(width, m, a);
+    if signed {
+        sign_extended(alloc, width, t)
+    } else {
+        Ok(t)
+    }
+}
+
+fn inside(alloc: Global, width: Width, a: Word) -> Result<Cond, NoMemory>
+    ensures { IfOk result (λ c. cond_tree c ≡ Inside width (MemVar 0) (word_tree a)) }
+{
+    let m = Box::new(alloc, Mem::Var(0))?;
+    let a = Box::new(alloc, a)?;
+    Ok(Cond::Inside(width, m, a))
+}
+
+fn compare(alloc: Global, cmp: Cmp, a: Word, b: Word) -> Result<Cond, NoMemory>
+    ensures { IfOk result (λ c. cond_tree c ≡ Compare cmp (word_tree a) (word_tree b)) }
+{
+    let a = Box::new(alloc, a)?;
+    let b = Box::new(alloc, b)?;
+    Ok(Cond::Compare(cmp, a, b))
+}
+
+fn contrary(alloc: Global, c: Cond) -> Result<Cond, NoMemory>
+    ensures { IfOk result (λ d. cond_tree d ≡ Neg (cond_tree c)) }
+{
+    let c = Box::new(alloc, c)?;
+    Ok(Cond::Neg(c))
+}
+
+/// The one fact that the condition is true.
+fn only(alloc: Global, c: Cond) -> Result<List<Fact>, NoMemory>
+    ensures { IfOk result (λ fs. map fact_tree fs ≡ So (cond_tree c) ∷ []) }
+{
+    let mut facts = List::new(alloc);
+    facts.push(Fact::So(c))?;
+    Ok(facts)
+}
+
+/// The conditions under which an instruction is carried out in that form, as facts.
+pub fn facts(alloc: Global, i: Instr, form: Form, regs: &[u8]) -> Result<List<Fact>, NoMemory>
+    requires { length regs.now ≤ 31 }
+    ensures { IfOk result (λ fs. map fact_tree fs ≡ map So (terms.conditions i form (variables_for regs.now))) }
+{
+    match i {
+        Instr::Load {
+            width, rs1, imm, ..
+        } => {
+            let a = sum(alloc, regs, rs1, imm)?;
+            let c = inside(alloc, width, a)?;
+            only(alloc, c)
+        }
+        Instr::Store {
+            width, rs1, imm, ..
+        } => {
+            let a = sum(alloc, regs, rs1, imm)?;
+            let c = inside(alloc, width, a)?;
+            only(alloc, c)
+        }
+        Instr::Jalr { rs1, imm, .. } => {
+            let a = sum(alloc, regs, rs1, imm)?;
+            let bit = bin(alloc, Op::And, a, Word::Const(2))?;
+            let c = compare(alloc, Cmp::Eq, bit, Word::Const(0))?;
+            only(alloc, c)
+        }
+        Instr::Branch { cmp, rs1, rs2, .. } => {
+            let c = compare(alloc, cmp, word_in(regs, rs1), word_in(regs, rs2))?;
+            branch_fact(alloc, form, c)
+        }
+        _ => Ok(List::new(alloc)),
+    }
+}
+
+/// The fact of a branch.
+fn branch_fact(alloc: Global, form: Form, c: Cond) -> Result<List<Fact>, NoMemory>
+    ensures { IfOk result (λ fs. map fact_tree fs ≡ So (terms.branch_condition form (cond_tree c)) ∷ []) }
+{
+    match form {
+        Form::Next => {
+            let d = contrary(alloc, c)?;
+            only(alloc, d)
+        }
+        Form::Taken => only(alloc, c),
+    }
+}
+
+/// What the instruction at an address writes to its destination.
+pub fn result(alloc: Global, i: Instr, addr: u64, regs: &[u8]) -> Result<Word, NoMemory>
+    requires { length regs.now ≤ 31 }
+    ensures { IfOk result (λ t. word_tree t ≡ terms.result i addr (variables_for regs.now)) }
+{
+    match i {
+        Instr::Op { op, rs1, rs2, .. } => bin(alloc, op, word_in(regs, rs1), word_in(regs, rs2)),
+        Instr::OpImm { op, rs1, imm, .. } => {
+            bin(alloc, op, word_in(regs, rs1), Word::Const(immediate_word(imm)))
+        }
+        Instr::Lui { imm, .. } => Ok(Word::Const(upper_word(imm))),
+        Instr::Auipc { imm, .. } => Ok(Word::Const(addr.wrapping_add(upper_word(imm)))),
+        Instr::Jal { .. } => Ok(Word::Const(next(addr))),
+        Instr::Jalr { .. } => Ok(Word::Const(next(addr))),
+        Instr::Load {
+            width,
+            signed,
+            rs1,
+            imm,
+            ..
+        } => {
+            let a = sum(alloc, regs, rs1, imm)?;
+            loaded(alloc, width, signed, a)
+        }
+        _ => Ok(Word::Const(0)),
+    }
+}
+
+/// The memory after an instruction.
+pub fn memory_after(alloc: Global, i: Instr, regs: &[u8]) -> Result<Mem, NoMemory>
+    requires { length regs.now ≤ 31 }
+    ensures { IfOk result (λ m. mem_tree m ≡ terms.memory_after i (variables_for regs.now)) }
+{
+    match i {
+        Instr::Store {
+            width,
+            rs1,
+            rs2,
+            imm,
+        } => {
+            let a = sum(alloc, regs, rs1, imm)?;
+            let m = Box::new(alloc, Mem::Var(0))?;
+            let a = Box::new(alloc, a)?;
+            let v = Box::new(alloc, word_in(regs, rs2))?;
+            Ok(Mem::Store(width, m, a, v))
+        }
+        _ => Ok(Mem::Var(0)),
+    }
+}
+
+/// Where the instruction at an address goes in that form.
+pub fn pc_after(
+    alloc: Global,
+    i: Instr,
+    form: Form,
+    addr: u64,
+    regs: &[u8],
+) -> Result<Word, NoMemory>
+    requires { length regs.now ≤ 31 }
+    ensures { IfOk result (λ t. word_tree t ≡ terms.pc_after i form addr (variables_for regs.now)) }
+{
+    match i {
+        Instr::Jal { offset, .. } => Ok(Word::Const(plus_immediate(addr, offset))),
+        Instr::Jalr { rs1, imm, .. } => {
+            let a = sum(alloc, regs, rs1, imm)?;
+            bin(alloc, Op::And, a, Word::Const(0xffff_ffff_ffff_fffe))
+        }
+        Instr::Branch { offset, .. } => Ok(Word::Const(branch_target(form, addr, offset))),
+        _ => Ok(Word::Const(next(addr))),
+    }
+}
+
+/// Where a branch goes.
+fn branch_target(form: Form, addr: u64, offset: i32) -> u64
+    ensures { result ≡ terms.branch_target form addr offset }
+{
+    match form {
+        Form::Next => next(addr),
+        Form::Taken => plus_immediate(addr, offset),
+    }
+}
