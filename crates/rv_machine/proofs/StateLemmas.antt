@@ -1,6 +1,6 @@
 -- States of words and bytes, and that a step leads from one to another.
 use Rattle.std.proofs.Common.{◌≡◌, ℕ, zero, suc, ◌+◌, ◌-◌, ◌*◌, ◌/◌, ◌%◌, ◌^◌, ◌<◌, Bool, true, false, cond, eqb, Option, Some, None, is_some, option_map, refl, sym, ap, subst, ◌∙◌, arith}
-use Rattle.std.specs.Option.{unwrap_or}
+use Rattle.std.specs.Option.{option_and_then, unwrap_or}
 use Rattle.std.proofs.Math.Nat.{mod-lt, pow-succ'}
 use Rattle.std.proofs.lemmas.Nat.{pow_pos, and_le_l}
 use Rattle.rv_words.specs.Bytes.{Bytes, after, bytes_of, load, store}
@@ -11,17 +11,11 @@ use Rattle.rv_words.specs.Operation.{comparison_holds, word_of}
 use Rattle.rv_words.proofs.WordLemmas.{operation_small, extension_small, word_of_small}
 use Rattle.rv_decode.specs.declared.instruction.Instr.{Instr}
 use Rattle.rv_decode.specs.declared.instruction.Instr.TheVariants.{Op, OpImm, Lui, Auipc, Jal, Jalr, Branch, Load, Store, Fence, Ecall, Ebreak}
-use Rattle.rv_machine.specs.State.{State, with_register}
-use Rattle.rv_machine.specs.Step.{loaded, plus, reads, step}
-use Rattle.rv_machine.proofs.StepLemmas.{act-some, mem_after, pc_after, reg_after, step-act, step-present, step-zero, updated}
-
--- the program counter, the registers and the addresses are words, x0 is 0, and the bytes are below 256
-pub record IsState (s : State) : Type 0 where
-  pub pc : s.pc < 2 ^ 64
-  pub x0 : s.reg 0 ≡ 0
-  pub words : (r : ℕ) → s.reg r < 2 ^ 64
-  pub bytes : (a b : ℕ) → s.mem a ≡ Some b → b < 256
-  pub places : (a : ℕ) → is_some (s.mem a) ≡ true → a < 2 ^ 64
+use Rattle.rv_machine.specs.State.{IsState, State, with_register}
+use Rattle.rv_machine.specs.Step.{length_at, loaded, plus, reads, step}
+use Rattle.rv_machine.specs.Update.{mem_after, pc_after, reg_after, updated}
+use Rattle.rv_machine.specs.Run.{run}
+use Rattle.rv_machine.proofs.StepLemmas.{step-present, step-updated, step-zero}
 
 word_small : (n : ℕ) → n % 2 ^ 64 < 2 ^ 64
 word_small n = mod-lt n (pow_pos 64)
@@ -30,19 +24,19 @@ cond_small : (t : Bool) (x y : ℕ) → x < 2 ^ 64 → y < 2 ^ 64 → cond t x y
 cond_small true x y p q = p
 cond_small false x y p q = q
 
-pc_small : (i : Instr) (s : State) → pc_after i s < 2 ^ 64
-pc_small (Op o rd rs1 rs2) s = word_small _
-pc_small (OpImm o rd rs1 imm) s = word_small _
-pc_small (Lui rd imm) s = word_small _
-pc_small (Auipc rd imm) s = word_small _
-pc_small (Jal rd offset) s = word_small _
-pc_small (Jalr rd rs1 imm) s = let l = word_small (reads rs1 s + word_of imm) in omega (arith, and_le_l (plus (reads rs1 s) imm) (2 ^ 64 - 2))
-pc_small (Branch c rs1 rs2 offset) s = cond_small (comparison_holds c (reads rs1 s) (reads rs2 s)) _ _ (word_small _) (word_small _)
-pc_small (Load w signed rd rs1 imm) s = word_small _
-pc_small (Store w rs1 rs2 imm) s = word_small _
-pc_small (Fence imm rs1 rd) s = word_small _
-pc_small Ecall s = word_small _
-pc_small Ebreak s = word_small _
+pc_small : (i : Instr) (n : ℕ) (s : State) → pc_after i n s < 2 ^ 64
+pc_small (Op o rd rs1 rs2) n s = word_small _
+pc_small (OpImm o rd rs1 imm) n s = word_small _
+pc_small (Lui rd imm) n s = word_small _
+pc_small (Auipc rd imm) n s = word_small _
+pc_small (Jal rd offset) n s = word_small _
+pc_small (Jalr rd rs1 imm) n s = let l = word_small (reads rs1 s + word_of imm) in omega (arith, and_le_l (plus (reads rs1 s) imm) (2 ^ 64 - 2))
+pc_small (Branch c rs1 rs2 offset) n s = cond_small (comparison_holds c (reads rs1 s) (reads rs2 s)) _ _ (word_small _) (word_small _)
+pc_small (Load w signed rd rs1 imm) n s = word_small _
+pc_small (Store w rs1 rs2 imm) n s = word_small _
+pc_small (Fence imm rs1 rd) n s = word_small _
+pc_small Ecall n s = word_small _
+pc_small Ebreak n s = word_small _
 
 -- ---- loads
 
@@ -76,19 +70,19 @@ reads_small r s h = cond_small (eqb r 0) 0 (s.reg r) (omega arith) (h r)
 with_small : (d x : ℕ) (reg : ℕ → ℕ) (r : ℕ) → x < 2 ^ 64 → reg r < 2 ^ 64 → with_register d x reg r < 2 ^ 64
 with_small d x reg r p q = cond_small (eqb d 0) (reg r) _ q (cond_small (eqb r d) x (reg r) p q)
 
-reg_small : (i : Instr) (s : State) (r : ℕ) → IsState s → reg_after i s r < 2 ^ 64
-reg_small (Op o rd rs1 rs2) s r h = with_small rd _ s.reg r (operation_small o _ _ (reads_small rs1 s h.words) (reads_small rs2 s h.words)) (h.words r)
-reg_small (OpImm o rd rs1 imm) s r h = with_small rd _ s.reg r (operation_small o _ _ (reads_small rs1 s h.words) (word_of_small imm)) (h.words r)
-reg_small (Lui rd imm) s r h = with_small rd _ s.reg r (extension_small Sx4 (imm * 2 ^ 12)) (h.words r)
-reg_small (Auipc rd imm) s r h = with_small rd _ s.reg r (word_small _) (h.words r)
-reg_small (Jal rd offset) s r h = with_small rd _ s.reg r (word_small _) (h.words r)
-reg_small (Jalr rd rs1 imm) s r h = with_small rd _ s.reg r (word_small _) (h.words r)
-reg_small (Branch c rs1 rs2 offset) s r h = h.words r
-reg_small (Load w signed rd rs1 imm) s r h = with_small rd _ s.reg r (loaded_small w signed s.mem (plus (reads rs1 s) imm) h.bytes) (h.words r)
-reg_small (Store w rs1 rs2 imm) s r h = h.words r
-reg_small (Fence imm rs1 rd) s r h = h.words r
-reg_small Ecall s r h = h.words r
-reg_small Ebreak s r h = h.words r
+reg_small : (i : Instr) (n : ℕ) (s : State) (r : ℕ) → IsState s → reg_after i n s r < 2 ^ 64
+reg_small (Op o rd rs1 rs2) n s r h = with_small rd _ s.reg r (operation_small o _ _ (reads_small rs1 s h.words) (reads_small rs2 s h.words)) (h.words r)
+reg_small (OpImm o rd rs1 imm) n s r h = with_small rd _ s.reg r (operation_small o _ _ (reads_small rs1 s h.words) (word_of_small imm)) (h.words r)
+reg_small (Lui rd imm) n s r h = with_small rd _ s.reg r (extension_small Sx4 (imm * 2 ^ 12)) (h.words r)
+reg_small (Auipc rd imm) n s r h = with_small rd _ s.reg r (word_small _) (h.words r)
+reg_small (Jal rd offset) n s r h = with_small rd _ s.reg r (word_small _) (h.words r)
+reg_small (Jalr rd rs1 imm) n s r h = with_small rd _ s.reg r (word_small _) (h.words r)
+reg_small (Branch c rs1 rs2 offset) n s r h = h.words r
+reg_small (Load w signed rd rs1 imm) n s r h = with_small rd _ s.reg r (loaded_small w signed s.mem (plus (reads rs1 s) imm) h.bytes) (h.words r)
+reg_small (Store w rs1 rs2 imm) n s r h = h.words r
+reg_small (Fence imm rs1 rd) n s r h = h.words r
+reg_small Ecall n s r h = h.words r
+reg_small Ebreak n s r h = h.words r
 
 -- ---- stores
 
@@ -116,11 +110,11 @@ mem_small (Fence imm rs1 rd) s a b h e = h.bytes a b e
 mem_small Ecall s a b h e = h.bytes a b e
 mem_small Ebreak s a b h e = h.bytes a b e
 
-updated-state : (i : Instr) (s : State) → IsState s → reg_after i s 0 ≡ s.reg 0 → ((a : ℕ) → is_some (mem_after i s a) ≡ is_some (s.mem a)) → IsState (updated i s)
-updated-state i s h same there = record {
-  pc = pc_small i s;
+updated-state : (i : Instr) (n : ℕ) (s : State) → IsState s → reg_after i n s 0 ≡ s.reg 0 → ((a : ℕ) → is_some (mem_after i s a) ≡ is_some (s.mem a)) → IsState (updated i n s)
+updated-state i n s h same there = record {
+  pc = pc_small i n s;
   x0 = same ∙ h.x0;
-  words = λ r. reg_small i s r h;
+  words = λ r. reg_small i n s r h;
   bytes = λ a b e. mem_small i s a b h e;
   places = λ a e. h.places a (sym (there a) ∙ e);
 }
@@ -128,8 +122,17 @@ updated-state i s h same there = record {
 -- a step leads from a state of words and bytes to another
 pub step-state : (s t : State) → IsState s → step s ≡ Some t → IsState t
 step-state s t h e =
-    let a = step-act s t e in
-    let same = (act-some a.0 s t a.2).1 in
-    subst IsState (sym same) (updated-state a.0 s h
+    let a = step-updated s t e in
+    let same = a.3 in
+    subst IsState (sym same) (updated-state a.0 (length_at s) s h
     (ap (λ (u : State). u.reg 0) (sym same) ∙ step-zero s t e)
     (λ q. ap (λ (u : State). is_some (u.mem q)) (sym same) ∙ step-present s t e q))
+
+pub run-state : (s t : State) (k : ℕ) → IsState s → run s k ≡ Some t → IsState t
+unfolding run
+run-state s t zero h e = let same : s ≡ t = cc in subst IsState same h
+run-state s t (suc k) h e = after_step (step s) (λ u is rest. run-state u t k (step-state s u h is) rest) e
+  where
+    after_step : (o : Option State) → ((u : State) → o ≡ Some u → run u k ≡ Some t → IsState t) → option_and_then (λ u. run u k) o ≡ Some t → IsState t
+    after_step None more rest = absurd (cc)
+    after_step (Some u) more rest = more u refl rest

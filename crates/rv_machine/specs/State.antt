@@ -1,5 +1,5 @@
 -- The state of the machine (RISC-V Unprivileged ISA 20191213, section 2.1).
-use Rattle.std.specs.Prelude.{ℕ, ◌==◌, List, slice_index, None, if◌then◌else◌, refl}
+use Rattle.std.specs.Prelude.{◌≡◌, ℕ, ◌^◌, ◌<◌, ◌==◌, true, List, slice_index, Some, None, is_some, if◌then◌else◌, refl}
 use Rattle.std.specs.Ordering.{nat_cmp}
 use Rattle.std.specs.FinMap.{FinMap, get, code}
 use Rattle.std.specs.Coded.{Coded, code_by, coded×, coded_ℕ, coded_list}
@@ -42,3 +42,15 @@ empty_state pc = record { pc = pc; reg = λ r. 0; mem = λ a. None }
 -- the state with these bytes put over its own
 abbrev pub with_bytes : Bytes → State → State
 with_bytes bytes s = record s { mem = over bytes s.mem }
+
+-- the state with other bytes
+abbrev pub with_memory : Bytes → State → State
+with_memory m s = record s { mem = m }
+
+-- the program counter, the registers and the addresses are words, x0 is 0, and the bytes are below 256
+pub record IsState (s : State) : Type 0 where
+  pub pc : s.pc < 2 ^ 64
+  pub x0 : s.reg 0 ≡ 0
+  pub words : (r : ℕ) → s.reg r < 2 ^ 64
+  pub bytes : (a b : ℕ) → s.mem a ≡ Some b → b < 256
+  pub places : (a : ℕ) → is_some (s.mem a) ≡ true → a < 2 ^ 64
