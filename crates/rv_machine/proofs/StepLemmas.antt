@@ -3,7 +3,7 @@ use Rattle.std.proofs.Common.{◌≡◌, ℕ, ◌^◌, ◌<◌, Bool, true, fals
 use Rattle.std.specs.Option.{option_and_then, unwrap_or}
 use Rattle.std.proofs.Math.Nat.{mod-lt}
 use Rattle.std.proofs.lemmas.Nat.{pow_pos}
-use Rattle.rv_words.specs.Bytes.{Bytes, bytes_of, inside, load}
+use Rattle.rv_words.specs.Bytes.{AreSame, Bytes, away, bytes_of, inside, load}
 use Rattle.rv_words.specs.Operation.{comparison_holds}
 use Rattle.rv_words.specs.declared.width.Width.{Width}
 use Rattle.rv_decode.specs.declared.instruction.Instr.{Instr}
@@ -13,7 +13,7 @@ use Rattle.rv_machine.specs.State.{State, with_memory, with_register}
 use Rattle.rv_machine.specs.Step.{act, branches, goes_to, instruction_at, is_aligned, length_at, loaded, next, only_if, plus, reads, sign_extended, step}
 use Rattle.rv_machine.specs.Update.{is_possible, mem_after, pc_after, reg_after, updated}
 use Rattle.rv_machine.specs.Touches.{AreSameOn, IsStepWith, IsTouched, fetches, touched, touched_by, touches}
-use Rattle.rv_machine.proofs.MemoryLemmas.{AreSame, away, inside-all, inside-same, load-same, store-elsewhere, store-present, store-same}
+use Rattle.rv_words.proofs.MemoryLemmas.{inside-all, inside-same, load-same, store-elsewhere, store-present, store-same}
 
 -- ---- an instruction's test and its update
 

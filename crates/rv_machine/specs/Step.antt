@@ -1,7 +1,7 @@
 -- One step of the machine: RISC-V Unprivileged ISA 20191213, sections 2.4 to 2.8, 5.2, 5.3 and chapter 7.
 -- Sums are modulo 2 ^ 64. Loads and stores go byte by byte, the low byte first, wherever they begin.
 use Rattle.std.specs.Prelude.{ℕ, zero, suc, ◌+◌, ◌-◌, ◌*◌, ◌%◌, ◌^◌, ◌==◌, Bool, if◌then◌else◌, Option, Some, None, is_some, option_map, option_and_then, ℤ, bit_and}
-use Rattle.rv_words.specs.Bytes.{Bytes, after, bytes_of, load, inside, store}
+use Rattle.rv_words.specs.Bytes.{Bytes, after, bytes_of, load, inside, store, word_at}
 use Rattle.rv_words.specs.Operation.{operation_value, extension_value, comparison_holds, word_of}
 use Rattle.rv_words.specs.declared.width.Width.{Width}
 use Rattle.rv_words.specs.declared.width.Width.TheVariants.{B1, B2, B4, B8}
@@ -101,10 +101,7 @@ act (Fence imm rs1 rd) n s = Some (goes_on n s)
 act Ecall n s = None
 act Ebreak n s = None
 
--- the word that four bytes from a on make, if they are present
-abbrev pub word_at : Bytes → ℕ → Option ℕ
-word_at m a = if inside 4 m a then Some (load 4 m a) else None
-
+-- the word at pc, if its bytes are present
 abbrev pub fetched : State → Option ℕ
 fetched s = word_at s.mem s.pc
 

@@ -4,7 +4,7 @@ ghost use Rattle.std.specs.Prelude.{◌≡◌, ◌≢◌, ◌+◌, ◌*◌, ◌^
 ghost use Rattle.std.specs.FinMap.{empty};
 ghost use Rattle.rv_words.specs.Bytes.{bytes_from};
 ghost use Rattle.rv_decode.specs.Decodes.{NamesRegisters};
-ghost use Rattle.rv_machine.specs.State.{empty_state, state_of, with_bytes};
+ghost use Rattle.rv_machine.specs.State.{IsState, empty_state, state_of, with_bytes};
 ghost use Rattle.rv_machine.specs.Step.{act, branches, goes_on, has, instruction_at, jumps_to, length_at, loads_to, misaligned, next, no_byte, step as next_state, stores_at, stuck, stuck_branch, stuck_in, writes};
 
 use crate::access::{fetch, first_absent, load};
@@ -59,6 +59,15 @@ impl State {
             registers: Registers::new(),
             memory: ByteMap::new(alloc),
         }
+    }
+
+    /// Every value is a machine's state: its numbers are in their ranges.
+    pub fn law_of_values(&self)
+        ensures { IsState (state_of self.now) }
+    {
+        let _pc = self.pc;
+        self.registers.law_of_values();
+        self.memory.law_of_values();
     }
 
     pub fn pc(&self) -> u64
