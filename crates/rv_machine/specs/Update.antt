@@ -1,9 +1,10 @@
 -- An instruction's test and its update apart, part by part: what `act` says (`law_of_steps`).
-use Rattle.std.specs.Prelude.{ℕ, ◌+◌, ◌%◌, ◌^◌, Bool, true, false, if◌then◌else◌}
+use Rattle.std.specs.Prelude.{◌≡◌, ℕ, ◌+◌, ◌%◌, ◌^◌, Bool, true, false, if◌then◌else◌}
 use Rattle.rv_words.specs.Bytes.{Bytes, bytes_of, store}
 use Rattle.rv_words.specs.Operation.{operation_value, comparison_holds, word_of}
 use Rattle.rv_decode.specs.declared.instruction.Instr.{Instr}
 use Rattle.rv_decode.specs.declared.instruction.Instr.TheVariants.{Op, OpImm, Lui, Auipc, Jal, Jalr, Branch, Load, Store, Fence, Ecall, Ebreak}
+use Rattle.rv_decode.specs.Registers.{is_read}
 use Rattle.rv_machine.specs.State.{State, with_register}
 use Rattle.rv_machine.specs.Step.{has, is_aligned, jump_target, loaded, next, plus, reads, upper}
 
@@ -48,3 +49,9 @@ mem_after i s = s.mem
 -- the state after it
 abbrev pub updated : Instr → ℕ → State → State
 updated i n s = record { pc = pc_after i n s; reg = reg_after i n s; mem = mem_after i s }
+
+-- two states that an instruction can't tell apart: the same program counter, bytes and words that it reads
+pub record HaveSame (i : Instr) (s u : State) : Type 0 where
+  pub pc : u.pc ≡ s.pc
+  pub mem : u.mem ≡ s.mem
+  pub read : (r : ℕ) → is_read i r ≡ true → reads r u ≡ reads r s

@@ -1,13 +1,14 @@
 //! Laws of steps and runs. These functions do nothing: their contracts are the laws. Each speaks of the definitions alone.
 
-ghost use Rattle.std.specs.Prelude.{◌≡◌, ℕ, ◌+◌, ◌^◌, ◌<◌, true, ◌↔◌, Some, None, IsSome, is_some};
+ghost use Rattle.std.specs.Prelude.{◌≡◌, ℕ, ◌+◌, ◌^◌, ◌<◌, true, false, ◌↔◌, Some, None, IsSome, is_some};
 ghost use Rattle.rv_words.specs.Bytes.{Bytes, inside, load};
 ghost use Rattle.rv_decode.specs.declared.instruction.Instr.{Instr};
 ghost use Rattle.rv_decode.specs.Decodes.{decoded};
+ghost use Rattle.rv_decode.specs.Registers.{destination, is_written};
 ghost use Rattle.rv_machine.specs.declared.running.RunEnd.{RunEnd};
 ghost use Rattle.rv_machine.specs.State.{IsState, State};
 ghost use Rattle.rv_machine.specs.Step.{act, instruction_at, is_aligned, length_at, only_if, step, stuck, stuck_in};
-ghost use Rattle.rv_machine.specs.Update.{is_possible, updated};
+ghost use Rattle.rv_machine.specs.Update.{HaveSame, is_possible, updated};
 ghost use Rattle.rv_machine.specs.Run.{EndsIn, run};
 ghost use Rattle.rv_machine.specs.Touches.{AreSameOn, IsStepWith, IsTouched, fetches, touches};
 
@@ -50,4 +51,15 @@ pub fn law_of_touches()
 pub fn law_of_states()
     ensures step { (s t : State) → IsState s → step s ≡ Some t → IsState t }
     ensures run { (s t : State) (k : ℕ) → IsState s → run s k ≡ Some t → IsState t }
+{}
+
+/// An instruction changes no register but the one that it writes, and what it does depends on no register but those that
+/// it reads.
+pub fn law_of_registers()
+    ensures unwritten { (i : Instr) (n : ℕ) (s : State) (r : ℕ) → is_written i r ≡ false → (updated i n s).reg r ≡ s.reg r }
+    ensures possible { (i : Instr) (s u : State) → HaveSame i s u → is_possible i u ≡ is_possible i s }
+    ensures pc { (i : Instr) (n : ℕ) (s u : State) → HaveSame i s u → (updated i n u).pc ≡ (updated i n s).pc }
+    ensures word { (i : Instr) (n : ℕ) (s u : State) → HaveSame i s u → (destination i ≡ 0 → ⊥)
+        → (updated i n u).reg (destination i) ≡ (updated i n s).reg (destination i) }
+    ensures mem { (i : Instr) (n : ℕ) (s u : State) → HaveSame i s u → (updated i n u).mem ≡ (updated i n s).mem }
 {}
