@@ -1,6 +1,6 @@
 -- What a file puts into memory, and what is named in it.
-use Rattle.std.specs.Prelude.{ℕ, ◌+◌, ◌-◌, ◌%◌, ◌^◌, ◌≤◌, ◌==◌, nat_lt, ◌&&◌, if◌then◌else◌, Option, Some, None, List, [], ◌∷◌, ◌++◌, All, AllPairs, filter, min, max, map, length, take, drop, replicate}
-use Rattle.rv_words.specs.Bytes.{Bytes, load, inside, bytes_from, over}
+use Rattle.std.specs.Prelude.{ℕ, ◌+◌, ◌-◌, ◌%◌, ◌^◌, ◌≤◌, ◌==◌, nat_lt, if◌then◌else◌, Option, Some, None, List, [], ◌∷◌, ◌++◌, All, AllPairs, filter, min, max, map, length, take, drop, replicate}
+use Rattle.rv_words.specs.Bytes.{Bytes, bytes_from, over, word_at}
 use Rattle.elf_image.specs.declared.header.ProgramHeader.{ProgramHeader}
 use Rattle.elf_image.specs.declared.image.Piece.{Piece}
 use Rattle.elf_image.specs.Header.{loads}
@@ -74,7 +74,7 @@ code_in (p ∷ ps) = over (code_of p) (code_in ps)
 
 -- the word of the four code bytes from a on, if all are there and none is past the last address
 abbrev pub word_in : Bytes → ℕ → Option ℕ
-word_in code a = if nat_lt (a + 3) (2 ^ 64) && inside 4 code a then Some (load 4 code a) else None
+word_in code a = if nat_lt (a + 3) (2 ^ 64) then word_at code a else None
 
 -- the code bytes of a file
 abbrev pub code_of_file : List ℕ → Bytes

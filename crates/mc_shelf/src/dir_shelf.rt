@@ -57,6 +57,7 @@ impl<R: Files> DirShelf<R> {
         ensures err { OnErr result (self.new ≡ record self.old { write_faults = one_more self.old.write_faults }) }
         ensures failed { IsErrOf result Stop.NoMemory → ⊥ }
         ensures counted { (self.old.read_faults ≤ self.new.read_faults) × (self.old.write_faults ≤ self.new.write_faults) }
+        ensures reads { self.new.read_faults ≡ self.old.read_faults }
     {
         if outcome.is_ok() {
             return Ok(());
@@ -81,6 +82,7 @@ impl<R: Files> Shelf for DirShelf<R> {
 
         ensures fits { IfOk result (λ n. n ≤ length into.old) }
         ensures counted { (self.old.read_faults ≤ self.new.read_faults) × (self.old.write_faults ≤ self.new.write_faults) }
+        ensures writes { self.new.write_faults ≡ self.old.write_faults }
         ensures cause { IsErr result → Rose self.old.read_faults self.new.read_faults }
     {
         match self.read_from(name, at, into) {
@@ -98,6 +100,7 @@ impl<R: Files> Shelf for DirShelf<R> {
         ensures no_memory { IsErrOf result Stop.NoMemory → ⊥ }
 
         ensures counted { (self.old.read_faults ≤ self.new.read_faults) × (self.old.write_faults ≤ self.new.write_faults) }
+        ensures reads { self.new.read_faults ≡ self.old.read_faults }
         ensures cause { IsErrOf result Stop.Failed → Rose self.old.write_faults self.new.write_faults }
     {
         let outcome = File::create(&self.runtime, name).map(|_| ());
@@ -110,6 +113,7 @@ impl<R: Files> Shelf for DirShelf<R> {
         ensures no_memory { IsErrOf result Stop.NoMemory → ⊥ }
 
         ensures counted { (self.old.read_faults ≤ self.new.read_faults) × (self.old.write_faults ≤ self.new.write_faults) }
+        ensures reads { self.new.read_faults ≡ self.old.read_faults }
         ensures cause { IsErrOf result Stop.Failed → Rose self.old.write_faults self.new.write_faults }
     {
         let outcome = self.append_to(name, bytes);

@@ -120,6 +120,7 @@ impl Shelf for MemShelf {
         ensures copied { IfOk result (λ n. ReadsName (held self.old.files name.now) at n into.old into.new) }
         ensures kept { Some (held self.new.files) ≡ Some (held self.old.files) }
         ensures counted { (self.old.read_faults ≤ self.new.read_faults) × (self.old.write_faults ≤ self.new.write_faults) }
+        ensures writes { self.new.write_faults ≡ self.old.write_faults }
         ensures cause { IsErr result → Rose self.old.read_faults self.new.read_faults }
         ensures stays_sure { self.old.failures ≡ [] → self.new.failures ≡ [] }
         ensures sure_fault { self.old.failures ≡ [] → IsErr result → held self.old.files name.now ≡ None }
@@ -155,6 +156,7 @@ impl Shelf for MemShelf {
         // What the trait asks.
         ensures emptied { Creates result name.now (held self.old.files) (held self.new.files) }
         ensures counted { (self.old.read_faults ≤ self.new.read_faults) × (self.old.write_faults ≤ self.new.write_faults) }
+        ensures reads { self.new.read_faults ≡ self.old.read_faults }
         ensures cause { IsErrOf result Stop.Failed → Rose self.old.write_faults self.new.write_faults }
         ensures stays_sure { self.old.failures ≡ [] → self.new.failures ≡ [] }
         ensures sure_fault { self.old.failures ≡ [] → IsErrOf result Stop.Failed → ⊥ }
@@ -192,6 +194,7 @@ impl Shelf for MemShelf {
         // What the trait asks.
         ensures added { Appends result name.now bytes.now (held self.old.files) (held self.new.files) }
         ensures counted { (self.old.read_faults ≤ self.new.read_faults) × (self.old.write_faults ≤ self.new.write_faults) }
+        ensures reads { self.new.read_faults ≡ self.old.read_faults }
         ensures cause { IsErrOf result Stop.Failed → Rose self.old.write_faults self.new.write_faults }
         ensures stays_sure { self.old.failures ≡ [] → self.new.failures ≡ [] }
         ensures sure_fault { self.old.failures ≡ [] → IsErrOf result Stop.Failed → held self.old.files name.now ≡ None }

@@ -64,6 +64,7 @@ pub fn read_file<S: Shelf>(
     ensures cause { IsErrOf result ReadEnd.Fault → Rose (S.read_faults shelf.old) (S.read_faults shelf.new) }
 
     ensures kept { S.contents shelf.new ≡ S.contents shelf.old }
+    ensures writes { S.write_faults shelf.new ≡ S.write_faults shelf.old }
     ensures counted { (S.read_faults shelf.old ≤ S.read_faults shelf.new) × (S.write_faults shelf.old ≤ S.write_faults shelf.new) }
 
     ensures stays_sure { S.IsSure shelf.old → S.IsSure shelf.new }

@@ -29,6 +29,7 @@ pub trait Shelf {
         ensures kept { contents self.new ≡ contents self.old }
 
         ensures counted { (read_faults self.old ≤ read_faults self.new) × (write_faults self.old ≤ write_faults self.new) }
+        ensures writes { write_faults self.new ≡ write_faults self.old }
         ensures cause { IsErr result → Rose (read_faults self.old) (read_faults self.new) }
 
         ensures stays_sure { IsSure self.old → IsSure self.new }
@@ -41,6 +42,7 @@ pub trait Shelf {
         ensures emptied { WhereTold (contents self.old) (contents self.new) (Creates result name.now) }
 
         ensures counted { (read_faults self.old ≤ read_faults self.new) × (write_faults self.old ≤ write_faults self.new) }
+        ensures reads { read_faults self.new ≡ read_faults self.old }
         ensures cause { IsErrOf result Stop.Failed → Rose (write_faults self.old) (write_faults self.new) }
 
         ensures stays_sure { IsSure self.old → IsSure self.new }
@@ -54,6 +56,7 @@ pub trait Shelf {
         ensures added { WhereTold (contents self.old) (contents self.new) (Appends result name.now bytes.now) }
 
         ensures counted { (read_faults self.old ≤ read_faults self.new) × (write_faults self.old ≤ write_faults self.new) }
+        ensures reads { read_faults self.new ≡ read_faults self.old }
         ensures cause { IsErrOf result Stop.Failed → Rose (write_faults self.old) (write_faults self.new) }
 
         ensures stays_sure { IsSure self.old → IsSure self.new }

@@ -5,3 +5,4 @@ pub mod ImmediateLemmas
 pub mod BackLemmas
 pub mod ForthLemmas
 pub mod EncodeLemmas
+pub mod RegisterLemmas

@@ -2,3 +2,4 @@ pub mod Fields
 pub mod Decodes
 pub mod Ranges
 pub mod Encodes
+pub mod Registers

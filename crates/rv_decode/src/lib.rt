@@ -7,11 +7,13 @@ mod fields;
 mod formats;
 mod instruction;
 mod ranges;
+mod registers;
 mod rows;
 
 pub use decoder::decode;
 pub use encoder::encode;
 pub use instruction::Instr;
+pub use registers::{is_read, is_written, registers_read, registers_written};
 
 #[cfg(test)]
 mod tests;

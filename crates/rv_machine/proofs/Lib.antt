@@ -4,3 +4,4 @@ pub mod JumpLemmas
 pub mod MemoryLemmas
 pub mod StepLemmas
 pub mod StateLemmas
+pub mod RegisterLemmas

@@ -36,6 +36,39 @@ pub Misses-more : (a : ℕ) (s t : State) (k : ℕ) → Misses a s k → run s k
 Misses-more a s t k before at here =
     below_more (λ j. (x : State) → run s j ≡ Some x → x.pc ≢ a) k before (λ x now there. here (ap (λ (y : State). y.pc) (same t x (sym at ∙ now)) ∙ there))
 
+-- ---- runs one after the other
+
+and_then-parts : (o : Option State) (f g h : State → Option State) → ((r : State) → f r ≡ option_and_then h (g r))
+    → option_and_then f o ≡ option_and_then h (option_and_then g o)
+and_then-parts None f g h e = refl
+and_then-parts (Some r) f g h e = e r
+
+-- j + k steps are j steps and then k
+pub run-parts : (s : State) (j k : ℕ) → run s (j + k) ≡ option_and_then (λ t. run t k) (run s j)
+unfolding run
+run-parts s zero k = let e : 0 + k ≡ k = omega arith in λ i. run s (e i)
+run-parts s (suc j) k =
+    let e : suc j + k ≡ suc (j + k) = omega arith in
+    (λ i. run s (e i)) ∙ and_then-parts (step s) (λ t. run t (j + k)) (λ t. run t j) (λ t. run t k) (λ r. run-parts r j k)
+
+pub run-joined : (s t u : State) (j k : ℕ) → run s j ≡ Some t → run t k ≡ Some u → run s (j + k) ≡ Some u
+run-joined s t u j k first then = run-parts s j k ∙ ap (option_and_then (λ r. run r k)) first ∙ then
+
+and_then-middle : (o : Option State) (f : State → Option State) (u : State) → option_and_then f o ≡ Some u → (t : State) × (o ≡ Some t) × (f t ≡ Some u)
+and_then-middle None f u e = absurd (cc)
+and_then-middle (Some t) f u e = (t, refl, e)
+
+pub run-parted : (s u : State) (j k : ℕ) → run s (j + k) ≡ Some u → (t : State) × (run s j ≡ Some t) × (run t k ≡ Some u)
+run-parted s u j k e = and_then-middle (run s j) (λ t. run t k) u (sym (run-parts s j k) ∙ e)
+
+and_then-last : (o : Option State) → option_and_then (λ t. Some t) o ≡ o
+and_then-last None = refl
+and_then-last (Some t) = refl
+
+pub run-one : (s : State) → run s 1 ≡ step s
+unfolding run
+run-one s = and_then-last (step s)
+
 -- ---- a run ends once
 
 none_reason : (why : Stuck) → None ≡ Some why → ⊥

@@ -1,27 +1,23 @@
 -- States of words and bytes, and that a step leads from one to another.
-use Rattle.std.proofs.Common.{◌≡◌, ℕ, zero, suc, ◌+◌, ◌-◌, ◌*◌, ◌/◌, ◌%◌, ◌^◌, ◌<◌, Bool, true, false, cond, eqb, Option, Some, None, is_some, option_map, refl, sym, ap, subst, ◌∙◌, arith}
-use Rattle.std.specs.Option.{unwrap_or}
+use Rattle.std.proofs.Common.{◌≡◌, ℕ, zero, suc, ◌+◌, ◌-◌, ◌*◌, ◌/◌, ◌%◌, ◌^◌, ◌<◌, Bool, true, false, cond, eqb, Option, Some, None, is_some, option_map, List, get_or, replicate, refl, sym, ap, subst, ◌∙◌, arith}
+use Rattle.std.specs.Option.{option_and_then}
+use Rattle.std.specs.FinMap.{get}
 use Rattle.std.proofs.Math.Nat.{mod-lt, pow-succ'}
 use Rattle.std.proofs.lemmas.Nat.{pow_pos, and_le_l}
-use Rattle.rv_words.specs.Bytes.{Bytes, after, bytes_of, load, store}
+use Rattle.rv_words.specs.Bytes.{AreBytes, Bytes, IsMemory, bytes_of, load}
 use Rattle.rv_words.specs.declared.width.Width.{Width}
 use Rattle.rv_words.specs.declared.width.Width.TheVariants.{B1, B2, B4, B8}
 use Rattle.rv_words.specs.declared.extension.Ext.TheVariants.{Sx1, Sx2, Sx4}
 use Rattle.rv_words.specs.Operation.{comparison_holds, word_of}
+use Rattle.rv_words.proofs.MemoryLemmas.{load_small, store-memory}
 use Rattle.rv_words.proofs.WordLemmas.{operation_small, extension_small, word_of_small}
 use Rattle.rv_decode.specs.declared.instruction.Instr.{Instr}
 use Rattle.rv_decode.specs.declared.instruction.Instr.TheVariants.{Op, OpImm, Lui, Auipc, Jal, Jalr, Branch, Load, Store, Fence, Ecall, Ebreak}
-use Rattle.rv_machine.specs.State.{State, with_register}
-use Rattle.rv_machine.specs.Step.{loaded, plus, reads, step}
-use Rattle.rv_machine.proofs.StepLemmas.{act-some, mem_after, pc_after, reg_after, step-act, step-present, step-zero, updated}
-
--- the program counter, the registers and the addresses are words, x0 is 0, and the bytes are below 256
-pub record IsState (s : State) : Type 0 where
-  pub pc : s.pc < 2 ^ 64
-  pub x0 : s.reg 0 ≡ 0
-  pub words : (r : ℕ) → s.reg r < 2 ^ 64
-  pub bytes : (a b : ℕ) → s.mem a ≡ Some b → b < 256
-  pub places : (a : ℕ) → is_some (s.mem a) ≡ true → a < 2 ^ 64
+use Rattle.rv_machine.specs.State.{Contents, IsState, State, register, state_of, with_register}
+use Rattle.rv_machine.specs.Step.{length_at, loaded, plus, reads, step}
+use Rattle.rv_machine.specs.Update.{mem_after, pc_after, reg_after, updated}
+use Rattle.rv_machine.specs.Run.{run}
+use Rattle.rv_machine.proofs.StepLemmas.{step-updated, step-zero}
 
 word_small : (n : ℕ) → n % 2 ^ 64 < 2 ^ 64
 word_small n = mod-lt n (pow_pos 64)
@@ -30,35 +26,23 @@ cond_small : (t : Bool) (x y : ℕ) → x < 2 ^ 64 → y < 2 ^ 64 → cond t x y
 cond_small true x y p q = p
 cond_small false x y p q = q
 
-pc_small : (i : Instr) (s : State) → pc_after i s < 2 ^ 64
-pc_small (Op o rd rs1 rs2) s = word_small _
-pc_small (OpImm o rd rs1 imm) s = word_small _
-pc_small (Lui rd imm) s = word_small _
-pc_small (Auipc rd imm) s = word_small _
-pc_small (Jal rd offset) s = word_small _
-pc_small (Jalr rd rs1 imm) s = let l = word_small (reads rs1 s + word_of imm) in omega (arith, and_le_l (plus (reads rs1 s) imm) (2 ^ 64 - 2))
-pc_small (Branch c rs1 rs2 offset) s = cond_small (comparison_holds c (reads rs1 s) (reads rs2 s)) _ _ (word_small _) (word_small _)
-pc_small (Load w signed rd rs1 imm) s = word_small _
-pc_small (Store w rs1 rs2 imm) s = word_small _
-pc_small (Fence imm rs1 rd) s = word_small _
-pc_small Ecall s = word_small _
-pc_small Ebreak s = word_small _
+pc_small : (i : Instr) (n : ℕ) (s : State) → pc_after i n s < 2 ^ 64
+pc_small (Op o rd rs1 rs2) n s = word_small _
+pc_small (OpImm o rd rs1 imm) n s = word_small _
+pc_small (Lui rd imm) n s = word_small _
+pc_small (Auipc rd imm) n s = word_small _
+pc_small (Jal rd offset) n s = word_small _
+pc_small (Jalr rd rs1 imm) n s = let l = word_small (reads rs1 s + word_of imm) in omega (arith, and_le_l (plus (reads rs1 s) imm) (2 ^ 64 - 2))
+pc_small (Branch c rs1 rs2 offset) n s = cond_small (comparison_holds c (reads rs1 s) (reads rs2 s)) _ _ (word_small _) (word_small _)
+pc_small (Load w signed rd rs1 imm) n s = word_small _
+pc_small (Store w rs1 rs2 imm) n s = word_small _
+pc_small (Fence imm rs1 rd) n s = word_small _
+pc_small Ecall n s = word_small _
+pc_small Ebreak n s = word_small _
 
 -- ---- loads
 
-byte_small : (o : Option ℕ) → ((b : ℕ) → o ≡ Some b → b < 256) → unwrap_or o 0 < 256
-byte_small None h = omega arith
-byte_small (Some b) h = h b refl
-
-load_small : (n : ℕ) (m : Bytes) (a : ℕ) → ((q b : ℕ) → m q ≡ Some b → b < 256) → load n m a < 256 ^ n
-load_small zero m a h = omega arith
-load_small (suc n) m a h =
-    let low = byte_small (m a) (h a) in
-    let high = load_small n m (after a) h in
-    let more : 256 ^ suc n ≡ 256 * 256 ^ n = pow-succ' 256 n in
-    omega arith
-
-loaded_small : (w : Width) (signed : Bool) (m : Bytes) (a : ℕ) → ((q b : ℕ) → m q ≡ Some b → b < 256) → loaded w signed m a < 2 ^ 64
+loaded_small : (w : Width) (signed : Bool) (m : Bytes) (a : ℕ) → AreBytes m → loaded w signed m a < 2 ^ 64
 loaded_small B1 true m a h = extension_small Sx1 (load 1 m a)
 loaded_small B2 true m a h = extension_small Sx2 (load 2 m a)
 loaded_small B4 true m a h = extension_small Sx4 (load 4 m a)
@@ -76,60 +60,73 @@ reads_small r s h = cond_small (eqb r 0) 0 (s.reg r) (omega arith) (h r)
 with_small : (d x : ℕ) (reg : ℕ → ℕ) (r : ℕ) → x < 2 ^ 64 → reg r < 2 ^ 64 → with_register d x reg r < 2 ^ 64
 with_small d x reg r p q = cond_small (eqb d 0) (reg r) _ q (cond_small (eqb r d) x (reg r) p q)
 
-reg_small : (i : Instr) (s : State) (r : ℕ) → IsState s → reg_after i s r < 2 ^ 64
-reg_small (Op o rd rs1 rs2) s r h = with_small rd _ s.reg r (operation_small o _ _ (reads_small rs1 s h.words) (reads_small rs2 s h.words)) (h.words r)
-reg_small (OpImm o rd rs1 imm) s r h = with_small rd _ s.reg r (operation_small o _ _ (reads_small rs1 s h.words) (word_of_small imm)) (h.words r)
-reg_small (Lui rd imm) s r h = with_small rd _ s.reg r (extension_small Sx4 (imm * 2 ^ 12)) (h.words r)
-reg_small (Auipc rd imm) s r h = with_small rd _ s.reg r (word_small _) (h.words r)
-reg_small (Jal rd offset) s r h = with_small rd _ s.reg r (word_small _) (h.words r)
-reg_small (Jalr rd rs1 imm) s r h = with_small rd _ s.reg r (word_small _) (h.words r)
-reg_small (Branch c rs1 rs2 offset) s r h = h.words r
-reg_small (Load w signed rd rs1 imm) s r h = with_small rd _ s.reg r (loaded_small w signed s.mem (plus (reads rs1 s) imm) h.bytes) (h.words r)
-reg_small (Store w rs1 rs2 imm) s r h = h.words r
-reg_small (Fence imm rs1 rd) s r h = h.words r
-reg_small Ecall s r h = h.words r
-reg_small Ebreak s r h = h.words r
+reg_small : (i : Instr) (n : ℕ) (s : State) (r : ℕ) → IsState s → reg_after i n s r < 2 ^ 64
+reg_small (Op o rd rs1 rs2) n s r h = with_small rd _ s.reg r (operation_small o _ _ (reads_small rs1 s h.words) (reads_small rs2 s h.words)) (h.words r)
+reg_small (OpImm o rd rs1 imm) n s r h = with_small rd _ s.reg r (operation_small o _ _ (reads_small rs1 s h.words) (word_of_small imm)) (h.words r)
+reg_small (Lui rd imm) n s r h = with_small rd _ s.reg r (extension_small Sx4 (imm * 2 ^ 12)) (h.words r)
+reg_small (Auipc rd imm) n s r h = with_small rd _ s.reg r (word_small _) (h.words r)
+reg_small (Jal rd offset) n s r h = with_small rd _ s.reg r (word_small _) (h.words r)
+reg_small (Jalr rd rs1 imm) n s r h = with_small rd _ s.reg r (word_small _) (h.words r)
+reg_small (Branch c rs1 rs2 offset) n s r h = h.words r
+reg_small (Load w signed rd rs1 imm) n s r h = with_small rd _ s.reg r (loaded_small w signed s.mem (plus (reads rs1 s) imm) h.memory.bytes) (h.words r)
+reg_small (Store w rs1 rs2 imm) n s r h = h.words r
+reg_small (Fence imm rs1 rd) n s r h = h.words r
+reg_small Ecall n s r h = h.words r
+reg_small Ebreak n s r h = h.words r
 
 -- ---- stores
 
-put_small : (t : Bool) (o : Option ℕ) (x b : ℕ) → x < 256 → (o ≡ Some b → b < 256) → cond t (option_map (λ _. x) o) o ≡ Some b → b < 256
-put_small true None x b p h e = absurd (cc)
-put_small true (Some y) x b p h e = let same : x ≡ b = cc in subst (λ z. z < 256) same p
-put_small false o x b p h e = h e
+mem_small : (i : Instr) (s : State) → IsMemory s.mem → IsMemory (mem_after i s)
+mem_small (Op o rd rs1 rs2) s h = h
+mem_small (OpImm o rd rs1 imm) s h = h
+mem_small (Lui rd imm) s h = h
+mem_small (Auipc rd imm) s h = h
+mem_small (Jal rd offset) s h = h
+mem_small (Jalr rd rs1 imm) s h = h
+mem_small (Branch c rs1 rs2 offset) s h = h
+mem_small (Load w signed rd rs1 imm) s h = h
+mem_small (Store w rs1 rs2 imm) s h = store-memory (bytes_of w) s.mem (plus (reads rs1 s) imm) (reads rs2 s) h
+mem_small (Fence imm rs1 rd) s h = h
+mem_small Ecall s h = h
+mem_small Ebreak s h = h
 
-store_small : (n : ℕ) (m : Bytes) (a v q b : ℕ) → ((c : ℕ) → m q ≡ Some c → c < 256) → store n m a v q ≡ Some b → b < 256
-store_small zero m a v q b h e = h b e
-store_small (suc n) m a v q b h e =
-    put_small (eqb q a) (store n m (after a) (v / 256) q) (v % 256) b (omega arith) (store_small n m (after a) (v / 256) q b h) e
-
-mem_small : (i : Instr) (s : State) (a b : ℕ) → IsState s → mem_after i s a ≡ Some b → b < 256
-mem_small (Op o rd rs1 rs2) s a b h e = h.bytes a b e
-mem_small (OpImm o rd rs1 imm) s a b h e = h.bytes a b e
-mem_small (Lui rd imm) s a b h e = h.bytes a b e
-mem_small (Auipc rd imm) s a b h e = h.bytes a b e
-mem_small (Jal rd offset) s a b h e = h.bytes a b e
-mem_small (Jalr rd rs1 imm) s a b h e = h.bytes a b e
-mem_small (Branch c rs1 rs2 offset) s a b h e = h.bytes a b e
-mem_small (Load w signed rd rs1 imm) s a b h e = h.bytes a b e
-mem_small (Store w rs1 rs2 imm) s a b h e = store_small (bytes_of w) s.mem (plus (reads rs1 s) imm) (reads rs2 s) a b (h.bytes a) e
-mem_small (Fence imm rs1 rd) s a b h e = h.bytes a b e
-mem_small Ecall s a b h e = h.bytes a b e
-mem_small Ebreak s a b h e = h.bytes a b e
-
-updated-state : (i : Instr) (s : State) → IsState s → reg_after i s 0 ≡ s.reg 0 → ((a : ℕ) → is_some (mem_after i s a) ≡ is_some (s.mem a)) → IsState (updated i s)
-updated-state i s h same there = record {
-  pc = pc_small i s;
+updated-state : (i : Instr) (n : ℕ) (s : State) → IsState s → reg_after i n s 0 ≡ s.reg 0 → IsState (updated i n s)
+updated-state i n s h same = record {
+  pc = pc_small i n s;
   x0 = same ∙ h.x0;
-  words = λ r. reg_small i s r h;
-  bytes = λ a b e. mem_small i s a b h e;
-  places = λ a e. h.places a (sym (there a) ∙ e);
+  words = λ r. reg_small i n s r h;
+  memory = mem_small i s h.memory;
 }
 
 -- a step leads from a state of words and bytes to another
 pub step-state : (s t : State) → IsState s → step s ≡ Some t → IsState t
 step-state s t h e =
-    let a = step-act s t e in
-    let same = (act-some a.0 s t a.2).1 in
-    subst IsState (sym same) (updated-state a.0 s h
-    (ap (λ (u : State). u.reg 0) (sym same) ∙ step-zero s t e)
-    (λ q. ap (λ (u : State). is_some (u.mem q)) (sym same) ∙ step-present s t e q))
+    let a = step-updated s t e in
+    let same = a.3 in
+    subst IsState (sym same) (updated-state a.0 (length_at s) s h (ap (λ (u : State). u.reg 0) (sym same) ∙ step-zero s t e))
+
+pub run-state : (s t : State) (k : ℕ) → IsState s → run s k ≡ Some t → IsState t
+unfolding run
+run-state s t zero h e = let same : s ≡ t = cc in subst IsState same h
+run-state s t (suc k) h e = after_step (step s) (λ u is rest. run-state u t k (step-state s u h is) rest) e
+  where
+    after_step : (o : Option State) → ((u : State) → o ≡ Some u → run u k ≡ Some t → IsState t) → option_and_then (λ u. run u k) o ≡ Some t → IsState t
+    after_step None more rest = absurd (cc)
+    after_step (Some u) more rest = more u refl rest
+
+-- ---- contents
+
+zeros : (n r : ℕ) → let none : ℕ = 0 in get_or (replicate n none) r none ≡ none
+zeros zero r = refl
+zeros (suc n) zero = refl
+zeros (suc n) (suc r) = zeros n r
+
+pub zero_words : (n r : ℕ) → get_or (replicate n 0) r 0 < 2 ^ 64
+zero_words n r = let e = zeros n r in omega arith
+
+register_small : (words : List ℕ) (r : ℕ) → ((k : ℕ) → get_or words k 0 < 2 ^ 64) → register words r < 2 ^ 64
+register_small words r h = cond_small (eqb r 0) 0 (get_or words r 0) (omega arith) (h r)
+
+-- contents of words and bytes are a machine's state
+pub contents-state : (c : Contents) → c.pc < 2 ^ 64 → ((k : ℕ) → get_or c.registers k 0 < 2 ^ 64) → IsMemory (get c.memory) → IsState (state_of c)
+contents-state c pc words memory = record { pc = pc; x0 = refl; words = λ r. register_small c.registers r words; memory = memory }

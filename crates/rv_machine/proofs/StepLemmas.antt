@@ -1,88 +1,48 @@
 -- What a step changes, and on what it depends.
-use Rattle.std.proofs.Common.{◌≡◌, ℕ, ◌+◌, ◌%◌, ◌^◌, ◌<◌, Bool, true, false, cond, ◌↔◌, eqb, eqb-true, eq-eqb, ℤ, Option, Some, None, is_some, refl, sym, ap, subst, ◌∙◌, arith}
+use Rattle.std.proofs.Common.{◌≡◌, ℕ, ◌^◌, ◌<◌, Bool, true, false, cond, ◌↔◌, eqb, eqb-true, eq-eqb, ℤ, Option, Some, None, is_some, refl, sym, ap, subst, ◌∙◌, arith}
 use Rattle.std.specs.Option.{option_and_then, unwrap_or}
 use Rattle.std.proofs.Math.Nat.{mod-lt}
 use Rattle.std.proofs.lemmas.Nat.{pow_pos}
-use Rattle.rv_words.specs.Bytes.{Bytes, bytes_of, inside, load, store}
-use Rattle.rv_words.specs.Operation.{operation_value, comparison_holds, word_of}
+use Rattle.rv_words.specs.Bytes.{AreSame, Bytes, away, bytes_of, inside, load}
+use Rattle.rv_words.specs.Operation.{comparison_holds}
 use Rattle.rv_words.specs.declared.width.Width.{Width}
 use Rattle.rv_decode.specs.declared.instruction.Instr.{Instr}
 use Rattle.rv_decode.specs.declared.instruction.Instr.TheVariants.{Op, OpImm, Lui, Auipc, Jal, Jalr, Branch, Load, Store, Fence, Ecall, Ebreak}
 use Rattle.rv_decode.specs.Decodes.{decoded}
-use Rattle.rv_machine.specs.State.{State, with_register}
-use Rattle.rv_machine.specs.Step.{act, branches, goes_to, has, instruction_at, is_aligned, jump_target, loaded, next, only_if, plus, reads, sign_extended, step, upper}
-use Rattle.rv_machine.specs.Touches.{touched, touches, touched_by, IsTouched}
-use Rattle.rv_machine.proofs.MemoryLemmas.{AreSame, away, inside-all, inside-same, load-same, store-elsewhere, store-present, store-same}
+use Rattle.rv_machine.specs.State.{State, with_memory, with_register}
+use Rattle.rv_machine.specs.Step.{act, branches, goes_to, instruction_at, is_aligned, length_at, loaded, next, only_if, plus, reads, sign_extended, step}
+use Rattle.rv_machine.specs.Update.{is_possible, mem_after, pc_after, reg_after, updated}
+use Rattle.rv_machine.specs.Touches.{AreSameOn, IsStepWith, IsTouched, fetches, touched, touched_by, touches}
+use Rattle.rv_words.proofs.MemoryLemmas.{inside-all, inside-same, load-same, store-elsewhere, store-present, store-same}
 
 -- ---- an instruction's test and its update
 
--- the instruction can be carried out
-abbrev pub is_possible : Instr → State → Bool
-is_possible (Op o rd rs1 rs2) s = true
-is_possible (OpImm o rd rs1 imm) s = true
-is_possible (Lui rd imm) s = true
-is_possible (Auipc rd imm) s = true
-is_possible (Jal rd offset) s = is_aligned (plus s.pc offset)
-is_possible (Jalr rd rs1 imm) s = is_aligned (jump_target (reads rs1 s) imm)
-is_possible (Branch c rs1 rs2 offset) s = cond (comparison_holds c (reads rs1 s) (reads rs2 s)) (is_aligned (plus s.pc offset)) true
-is_possible (Load w signed rd rs1 imm) s = has w s.mem (plus (reads rs1 s) imm)
-is_possible (Store w rs1 rs2 imm) s = has w s.mem (plus (reads rs1 s) imm)
-is_possible (Fence imm rs1 rd) s = true
-is_possible Ecall s = false
-is_possible Ebreak s = false
-
--- the program counter after it
-abbrev pub pc_after : Instr → State → ℕ
-pc_after (Jal rd offset) s = plus s.pc offset
-pc_after (Jalr rd rs1 imm) s = jump_target (reads rs1 s) imm
-pc_after (Branch c rs1 rs2 offset) s = cond (comparison_holds c (reads rs1 s) (reads rs2 s)) (plus s.pc offset) (next s)
-pc_after i s = next s
-
--- the registers after it
-abbrev pub reg_after : Instr → State → ℕ → ℕ
-reg_after (Op o rd rs1 rs2) s = with_register rd (operation_value o (reads rs1 s) (reads rs2 s)) s.reg
-reg_after (OpImm o rd rs1 imm) s = with_register rd (operation_value o (reads rs1 s) (word_of imm)) s.reg
-reg_after (Lui rd imm) s = with_register rd (upper imm) s.reg
-reg_after (Auipc rd imm) s = with_register rd ((s.pc + upper imm) % 2 ^ 64) s.reg
-reg_after (Jal rd offset) s = with_register rd (next s) s.reg
-reg_after (Jalr rd rs1 imm) s = with_register rd (next s) s.reg
-reg_after (Load w signed rd rs1 imm) s = with_register rd (loaded w signed s.mem (plus (reads rs1 s) imm)) s.reg
-reg_after i s = s.reg
-
--- the bytes after it
-abbrev pub mem_after : Instr → State → Bytes
-mem_after (Store w rs1 rs2 imm) s = store (bytes_of w) s.mem (plus (reads rs1 s) imm) (reads rs2 s)
-mem_after i s = s.mem
-
-abbrev pub updated : Instr → State → State
-updated i s = record { pc = pc_after i s; reg = reg_after i s; mem = mem_after i s }
-
-by_branch : (taken : Bool) (offset : ℤ) (s : State)
-    → branches taken offset s ≡ only_if (cond taken (is_aligned (plus s.pc offset)) true) (goes_to (cond taken (plus s.pc offset) (next s)) s)
-by_branch true offset s = refl
-by_branch false offset s = refl
+by_branch : (taken : Bool) (offset : ℤ) (n : ℕ) (s : State)
+    → branches taken offset n s ≡ only_if (cond taken (is_aligned (plus s.pc offset)) true) (goes_to (cond taken (plus s.pc offset) (next n s)) s)
+by_branch true offset n s = refl
+by_branch false offset n s = refl
 
 -- an instruction gives its update exactly where its test is true
-pub act-is : (i : Instr) (s : State) → act i s ≡ only_if (is_possible i s) (updated i s)
-act-is (Op o rd rs1 rs2) s = refl
-act-is (OpImm o rd rs1 imm) s = refl
-act-is (Lui rd imm) s = refl
-act-is (Auipc rd imm) s = refl
-act-is (Jal rd offset) s = refl
-act-is (Jalr rd rs1 imm) s = refl
-act-is (Branch c rs1 rs2 offset) s = by_branch (comparison_holds c (reads rs1 s) (reads rs2 s)) offset s
-act-is (Load w signed rd rs1 imm) s = refl
-act-is (Store w rs1 rs2 imm) s = refl
-act-is (Fence imm rs1 rd) s = refl
-act-is Ecall s = refl
-act-is Ebreak s = refl
+pub act-is : (i : Instr) (n : ℕ) (s : State) → act i n s ≡ only_if (is_possible i s) (updated i n s)
+act-is (Op o rd rs1 rs2) n s = refl
+act-is (OpImm o rd rs1 imm) n s = refl
+act-is (Lui rd imm) n s = refl
+act-is (Auipc rd imm) n s = refl
+act-is (Jal rd offset) n s = refl
+act-is (Jalr rd rs1 imm) n s = refl
+act-is (Branch c rs1 rs2 offset) n s = by_branch (comparison_holds c (reads rs1 s) (reads rs2 s)) offset n s
+act-is (Load w signed rd rs1 imm) n s = refl
+act-is (Store w rs1 rs2 imm) n s = refl
+act-is (Fence imm rs1 rd) n s = refl
+act-is Ecall n s = refl
+act-is Ebreak n s = refl
 
 pub only_if-some : (b : Bool) (s t : State) → only_if b s ≡ Some t → (b ≡ true) × (t ≡ s)
 only_if-some true s t e = (refl, sym (ap (λ o. unwrap_or o s) e))
 only_if-some false s t e = absurd (cc)
 
-pub act-some : (i : Instr) (s t : State) → act i s ≡ Some t → (is_possible i s ≡ true) × (t ≡ updated i s)
-act-some i s t e = only_if-some (is_possible i s) (updated i s) t (sym (act-is i s) ∙ e)
+pub act-some : (i : Instr) (n : ℕ) (s t : State) → act i n s ≡ Some t → (is_possible i s ≡ true) × (t ≡ updated i n s)
+act-some i n s t e = only_if-some (is_possible i s) (updated i n s) t (sym (act-is i n s) ∙ e)
 
 -- ---- the instruction of a step
 
@@ -90,13 +50,20 @@ and_then-some : (o : Option Instr) (f : Instr → Option State) (t : State) → 
 and_then-some None f t e = absurd (cc)
 and_then-some (Some i) f t e = (i, refl, e)
 
-pub step-act : (s t : State) → step s ≡ Some t → (i : Instr) × (instruction_at s ≡ Some i) × (act i s ≡ Some t)
+pub step-act : (s t : State) → step s ≡ Some t → (i : Instr) × (instruction_at s ≡ Some i) × (act i (length_at s) s ≡ Some t)
 unfolding step
-step-act s t e = and_then-some (instruction_at s) (λ i. act i s) t e
+step-act s t e = and_then-some (instruction_at s) (λ i. act i (length_at s) s) t e
 
-pub act-step : (i : Instr) (s : State) → instruction_at s ≡ Some i → step s ≡ act i s
+pub act-step : (i : Instr) (s : State) → instruction_at s ≡ Some i → step s ≡ act i (length_at s) s
 unfolding step
-act-step i s e = ap (option_and_then (λ i. act i s)) e
+act-step i s e = ap (option_and_then (λ i. act i (length_at s) s)) e
+
+-- a step is the update of the instruction at pc, which can be carried out
+pub step-updated : (s t : State) → step s ≡ Some t → (i : Instr) × (instruction_at s ≡ Some i) × (is_possible i s ≡ true) × (t ≡ updated i (length_at s) s)
+step-updated s t e = let a = step-act s t e in let b = act-some a.0 (length_at s) s t a.2 in (a.0, a.1, b.0, b.1)
+
+pub updated-step : (i : Instr) (s : State) → instruction_at s ≡ Some i → is_possible i s ≡ true → step s ≡ Some (updated i (length_at s) s)
+updated-step i s e possible = act-step i s e ∙ act-is i (length_at s) s ∙ ap (λ b. only_if b (updated i (length_at s) s)) possible
 
 fetch_some : (t u : Bool) (w : ℕ) (i : Instr) → cond t (option_and_then decoded (cond u (Some w) None)) None ≡ Some i → (t ≡ true) × (u ≡ true) × (decoded w ≡ Some i)
 fetch_some true true w i e = (refl, refl, e)
@@ -122,23 +89,23 @@ with_zero d x reg = both (eqb d 0) (eqb 0 d) x (reg 0) (λ t. eq-eqb d 0 (sym (e
     both false false x y h = refl
     both false true x y h = absurd (let e = h refl in cc)
 
-reg_after-zero : (i : Instr) (s : State) → reg_after i s 0 ≡ s.reg 0
-reg_after-zero (Op o rd rs1 rs2) s = with_zero rd _ s.reg
-reg_after-zero (OpImm o rd rs1 imm) s = with_zero rd _ s.reg
-reg_after-zero (Lui rd imm) s = with_zero rd _ s.reg
-reg_after-zero (Auipc rd imm) s = with_zero rd _ s.reg
-reg_after-zero (Jal rd offset) s = with_zero rd _ s.reg
-reg_after-zero (Jalr rd rs1 imm) s = with_zero rd _ s.reg
-reg_after-zero (Branch c rs1 rs2 offset) s = refl
-reg_after-zero (Load w signed rd rs1 imm) s = with_zero rd _ s.reg
-reg_after-zero (Store w rs1 rs2 imm) s = refl
-reg_after-zero (Fence imm rs1 rd) s = refl
-reg_after-zero Ecall s = refl
-reg_after-zero Ebreak s = refl
+reg_after-zero : (i : Instr) (n : ℕ) (s : State) → reg_after i n s 0 ≡ s.reg 0
+reg_after-zero (Op o rd rs1 rs2) n s = with_zero rd _ s.reg
+reg_after-zero (OpImm o rd rs1 imm) n s = with_zero rd _ s.reg
+reg_after-zero (Lui rd imm) n s = with_zero rd _ s.reg
+reg_after-zero (Auipc rd imm) n s = with_zero rd _ s.reg
+reg_after-zero (Jal rd offset) n s = with_zero rd _ s.reg
+reg_after-zero (Jalr rd rs1 imm) n s = with_zero rd _ s.reg
+reg_after-zero (Branch c rs1 rs2 offset) n s = refl
+reg_after-zero (Load w signed rd rs1 imm) n s = with_zero rd _ s.reg
+reg_after-zero (Store w rs1 rs2 imm) n s = refl
+reg_after-zero (Fence imm rs1 rd) n s = refl
+reg_after-zero Ecall n s = refl
+reg_after-zero Ebreak n s = refl
 
 -- x0 is never changed
 pub step-zero : (s t : State) → step s ≡ Some t → t.reg 0 ≡ s.reg 0
-step-zero s t e = let a = step-act s t e in ap (λ (u : State). u.reg 0) (act-some a.0 s t a.2).1 ∙ reg_after-zero a.0 s
+step-zero s t e = let a = step-act s t e in ap (λ (u : State). u.reg 0) (act-some a.0 (length_at s) s t a.2).1 ∙ reg_after-zero a.0 (length_at s) s
 
 mem_after-present : (i : Instr) (s : State) (q : ℕ) → is_some (mem_after i s q) ≡ is_some (s.mem q)
 mem_after-present (Op o rd rs1 rs2) s q = refl
@@ -156,7 +123,7 @@ mem_after-present Ebreak s q = refl
 
 -- the addresses that are present stay the same
 pub step-present : (s t : State) → step s ≡ Some t → (q : ℕ) → is_some (t.mem q) ≡ is_some (s.mem q)
-step-present s t e q = let a = step-act s t e in ap (λ (u : State). is_some (u.mem q)) (act-some a.0 s t a.2).1 ∙ mem_after-present a.0 s q
+step-present s t e q = let a = step-act s t e in ap (λ (u : State). is_some (u.mem q)) (act-some a.0 (length_at s) s t a.2).1 ∙ mem_after-present a.0 s q
 
 -- ---- what it touches
 
@@ -189,7 +156,7 @@ touches-at i s e = ap (λ o. touched_by o s) e
 pub step-untouched : (s t : State) (q : ℕ) → step s ≡ Some t → (IsTouched (touches s) q → ⊥) → t.mem q ≡ s.mem q
 step-untouched s t q e h =
     let a = step-act s t e in
-    ap (λ (u : State). u.mem q) (act-some a.0 s t a.2).1 ∙ mem_after-untouched a.0 s q (λ k. h (subst (λ x. IsTouched x q) (sym (touches-at a.0 s a.1)) k))
+    ap (λ (u : State). u.mem q) (act-some a.0 (length_at s) s t a.2).1 ∙ mem_after-untouched a.0 s q (λ k. h (subst (λ x. IsTouched x q) (sym (touches-at a.0 s a.1)) k))
 
 present-touched : (i : Instr) (s : State) (q : ℕ) → is_possible i s ≡ true → IsTouched (touched i s) q → is_some (s.mem q) ≡ true
 present-touched (Op o rd rs1 rs2) s q e h = let l = h.1 in absurd (omega arith)
@@ -208,38 +175,34 @@ present-touched Ebreak s q e h = let l = h.1 in absurd (omega arith)
 -- all that a step touches is present
 pub step-there : (s t : State) (q : ℕ) → step s ≡ Some t → IsTouched (touches s) q → is_some (s.mem q) ≡ true
 step-there s t q e h =
-    let a = step-act s t e in present-touched a.0 s q (act-some a.0 s t a.2).0 (subst (λ x. IsTouched x q) (touches-at a.0 s a.1) h)
-
--- the state with other bytes
-abbrev pub with_memory : Bytes → State → State
-with_memory m s = record s { mem = m }
+    let a = step-act s t e in present-touched a.0 s q (act-some a.0 (length_at s) s t a.2).0 (subst (λ x. IsTouched x q) (touches-at a.0 s a.1) h)
 
 -- the same instruction in two states that differ only in bytes that it doesn't touch
-pub record IsAlike (i : Instr) (s u : State) : Type 0 where
+pub record IsAlike (i : Instr) (n : ℕ) (s u : State) : Type 0 where
   pub possible : is_possible i u ≡ is_possible i s
-  pub pc : pc_after i u ≡ pc_after i s
-  pub reg : reg_after i u ≡ reg_after i s
+  pub pc : pc_after i n u ≡ pc_after i n s
+  pub reg : reg_after i n u ≡ reg_after i n s
   pub mem : (q : ℕ) → u.mem q ≡ s.mem q → mem_after i u q ≡ mem_after i s q
 
 loaded-same : (w : Width) (signed : Bool) (m n : Bytes) (a : ℕ) → load (bytes_of w) m a ≡ load (bytes_of w) n a → loaded w signed m a ≡ loaded w signed n a
 loaded-same w signed m n a e = λ i. cond signed (sign_extended w (e i)) (e i)
 
 -- what an instruction does depends on no byte that it doesn't touch
-pub act-alike : (i : Instr) (s : State) (m : Bytes) → ((q : ℕ) → IsTouched (touched i s) q → m q ≡ s.mem q) → IsAlike i s (with_memory m s)
-act-alike (Op o rd rs1 rs2) s m h = record { possible = refl; pc = refl; reg = refl; mem = λ q e. e }
-act-alike (OpImm o rd rs1 imm) s m h = record { possible = refl; pc = refl; reg = refl; mem = λ q e. e }
-act-alike (Lui rd imm) s m h = record { possible = refl; pc = refl; reg = refl; mem = λ q e. e }
-act-alike (Auipc rd imm) s m h = record { possible = refl; pc = refl; reg = refl; mem = λ q e. e }
-act-alike (Jal rd offset) s m h = record { possible = refl; pc = refl; reg = refl; mem = λ q e. e }
-act-alike (Jalr rd rs1 imm) s m h = record { possible = refl; pc = refl; reg = refl; mem = λ q e. e }
-act-alike (Branch c rs1 rs2 offset) s m h = record { possible = refl; pc = refl; reg = refl; mem = λ q e. e }
-act-alike (Load w signed rd rs1 imm) s m h =
+pub act-alike : (i : Instr) (n : ℕ) (s : State) (m : Bytes) → AreSameOn (touched i s) m s.mem → IsAlike i n s (with_memory m s)
+act-alike (Op o rd rs1 rs2) n s m h = record { possible = refl; pc = refl; reg = refl; mem = λ q e. e }
+act-alike (OpImm o rd rs1 imm) n s m h = record { possible = refl; pc = refl; reg = refl; mem = λ q e. e }
+act-alike (Lui rd imm) n s m h = record { possible = refl; pc = refl; reg = refl; mem = λ q e. e }
+act-alike (Auipc rd imm) n s m h = record { possible = refl; pc = refl; reg = refl; mem = λ q e. e }
+act-alike (Jal rd offset) n s m h = record { possible = refl; pc = refl; reg = refl; mem = λ q e. e }
+act-alike (Jalr rd rs1 imm) n s m h = record { possible = refl; pc = refl; reg = refl; mem = λ q e. e }
+act-alike (Branch c rs1 rs2 offset) n s m h = record { possible = refl; pc = refl; reg = refl; mem = λ q e. e }
+act-alike (Load w signed rd rs1 imm) n s m h =
     let a = plus (reads rs1 s) imm in
     let small = plus_small (reads rs1 s) imm in
     let same = λ (k : ℕ) (l : k < bytes_of w). h (away a k) (k, l, refl) in
     let number = loaded-same w signed m s.mem a (load-same (bytes_of w) m s.mem a small same) in
     record { possible = inside-same (bytes_of w) m s.mem a small same; pc = refl; reg = λ i. with_register rd (number i) s.reg; mem = λ q e. e }
-act-alike (Store w rs1 rs2 imm) s m h =
+act-alike (Store w rs1 rs2 imm) n s m h =
     let a = plus (reads rs1 s) imm in
     let same = λ (k : ℕ) (l : k < bytes_of w). h (away a k) (k, l, refl) in
     record {
@@ -248,9 +211,9 @@ act-alike (Store w rs1 rs2 imm) s m h =
       reg = refl;
       mem = λ q e. store-same (bytes_of w) m s.mem a (reads rs2 s) q e;
     }
-act-alike (Fence imm rs1 rd) s m h = record { possible = refl; pc = refl; reg = refl; mem = λ q e. e }
-act-alike Ecall s m h = record { possible = refl; pc = refl; reg = refl; mem = λ q e. e }
-act-alike Ebreak s m h = record { possible = refl; pc = refl; reg = refl; mem = λ q e. e }
+act-alike (Fence imm rs1 rd) n s m h = record { possible = refl; pc = refl; reg = refl; mem = λ q e. e }
+act-alike Ecall n s m h = record { possible = refl; pc = refl; reg = refl; mem = λ q e. e }
+act-alike Ebreak n s m h = record { possible = refl; pc = refl; reg = refl; mem = λ q e. e }
 
 touched-alike : (i : Instr) (s : State) (m : Bytes) → touched i (with_memory m s) ≡ touched i s
 touched-alike (Op o rd rs1 rs2) s m = refl
@@ -273,30 +236,21 @@ instruction_at-same s m h same =
     let word = load-same 4 m s.mem s.pc h same in
     λ i. cond (is_aligned s.pc) (option_and_then decoded (cond (there i) (Some (word i)) None)) None
 
--- the step from s to t, made with the bytes m in place of those of s
-pub record IsStepWith (s t : State) (m : Bytes) : Type 0 where
-  pub next : State
-  pub steps : step (with_memory m s) ≡ Some next
-  pub touched : touches (with_memory m s) ≡ touches s
-  pub pc : next.pc ≡ t.pc
-  pub reg : next.reg ≡ t.reg
-  pub mem : (q : ℕ) → m q ≡ s.mem q → next.mem q ≡ t.mem q
-
 -- a step depends on no byte but those at pc and those that it touches
-pub step-alike : (s t : State) (m : Bytes) → s.pc < 2 ^ 64 → step s ≡ Some t → AreSame 4 m s.mem s.pc → ((q : ℕ) → IsTouched (touches s) q → m q ≡ s.mem q)
-    → IsStepWith s t m
+pub step-alike : (s t : State) (m : Bytes) → s.pc < 2 ^ 64 → step s ≡ Some t → AreSameOn (fetches s) m s.mem → AreSameOn (touches s) m s.mem → IsStepWith s t m
 step-alike s t m h e code same =
     let a = step-act s t e in
     let i = a.0 in
+    let n = length_at s in
     let u = with_memory m s in
     let at = touches-at i s a.1 in
-    let done = act-some i s t a.2 in
-    let like = act-alike i s m (λ q k. same q (subst (λ x. IsTouched x q) (sym at) k)) in
-    let there : instruction_at u ≡ Some i = instruction_at-same s m h code ∙ a.1 in
+    let done = act-some i n s t a.2 in
+    let like = act-alike i n s m (λ q k. same q (subst (λ x. IsTouched x q) (sym at) k)) in
+    let there : instruction_at u ≡ Some i = instruction_at-same s m h (λ k l. code (away s.pc k) (k, l, refl)) ∙ a.1 in
     let able : is_possible i u ≡ true = like.possible ∙ done.0 in
     record {
-      next = updated i u;
-      steps = act-step i u there ∙ act-is i u ∙ ap (λ b. only_if b (updated i u)) able;
+      next = updated i n u;
+      steps = updated-step i u there able;
       touched = touches-at i u there ∙ touched-alike i s m ∙ sym at;
       pc = like.pc ∙ sym (ap (λ (x : State). x.pc) done.1);
       reg = like.reg ∙ sym (ap (λ (x : State). x.reg) done.1);

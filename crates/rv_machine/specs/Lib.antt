@@ -1,4 +1,5 @@
 pub mod State
 pub mod Step
+pub mod Update
 pub mod Run
 pub mod Touches

@@ -1,9 +1,9 @@
 -- The state of the machine (RISC-V Unprivileged ISA 20191213, section 2.1).
-use Rattle.std.specs.Prelude.{ℕ, ◌==◌, List, slice_index, None, if◌then◌else◌, refl}
+use Rattle.std.specs.Prelude.{◌≡◌, ℕ, ◌^◌, ◌<◌, ◌==◌, List, slice_index, None, if◌then◌else◌, refl}
 use Rattle.std.specs.Ordering.{nat_cmp}
 use Rattle.std.specs.FinMap.{FinMap, get, code}
 use Rattle.std.specs.Coded.{Coded, code_by, coded×, coded_ℕ, coded_list}
-use Rattle.rv_words.specs.Bytes.{Bytes, over}
+use Rattle.rv_words.specs.Bytes.{Bytes, IsMemory, over}
 
 -- what a state holds: the program counter, the 32 registers, and the bytes that are present
 pub record Contents : Type 0 where
@@ -20,6 +20,11 @@ contents_code =
 -- the word in a register; x0 is 0
 abbrev pub register : List ℕ → ℕ → ℕ
 register words r = if r == 0 then 0 else slice_index words r
+
+-- words of registers, of which x0 is 0
+pub record AreRegisters (words : List ℕ) : Type 0 where
+  pub x0 : slice_index words 0 ≡ 0
+  pub small : (r : ℕ) → slice_index words r < 2 ^ 64
 
 -- registers after a write; x0 is never written
 abbrev pub with_register : ℕ → ℕ → (ℕ → ℕ) → ℕ → ℕ
@@ -42,3 +47,14 @@ empty_state pc = record { pc = pc; reg = λ r. 0; mem = λ a. None }
 -- the state with these bytes put over its own
 abbrev pub with_bytes : Bytes → State → State
 with_bytes bytes s = record s { mem = over bytes s.mem }
+
+-- the state with other bytes
+abbrev pub with_memory : Bytes → State → State
+with_memory m s = record s { mem = m }
+
+-- the program counter, the registers and the addresses are words, x0 is 0, and bytes are below 256
+pub record IsState (s : State) : Type 0 where
+  pub pc : s.pc < 2 ^ 64
+  pub x0 : s.reg 0 ≡ 0
+  pub words : (r : ℕ) → s.reg r < 2 ^ 64
+  pub memory : IsMemory s.mem

@@ -1,7 +1,7 @@
 -- One step of the machine: RISC-V Unprivileged ISA 20191213, sections 2.4 to 2.8, 5.2, 5.3 and chapter 7.
 -- Sums are modulo 2 ^ 64. Loads and stores go byte by byte, the low byte first, wherever they begin.
 use Rattle.std.specs.Prelude.{ℕ, zero, suc, ◌+◌, ◌-◌, ◌*◌, ◌%◌, ◌^◌, ◌==◌, Bool, if◌then◌else◌, Option, Some, None, is_some, option_map, option_and_then, ℤ, bit_and}
-use Rattle.rv_words.specs.Bytes.{Bytes, after, bytes_of, load, inside, store}
+use Rattle.rv_words.specs.Bytes.{Bytes, after, bytes_of, load, inside, store, word_at}
 use Rattle.rv_words.specs.Operation.{operation_value, extension_value, comparison_holds, word_of}
 use Rattle.rv_words.specs.declared.width.Width.{Width}
 use Rattle.rv_words.specs.declared.width.Width.TheVariants.{B1, B2, B4, B8}
@@ -23,16 +23,16 @@ reads r s = if r == 0 then 0 else s.reg r
 abbrev pub writes : ℕ → ℕ → State → State
 writes d x s = record s { reg = with_register d x s.reg }
 
--- the address after the instruction
-abbrev pub next : State → ℕ
-next s = (s.pc + 4) % 2 ^ 64
+-- the address after an instruction of n bytes
+abbrev pub next : ℕ → State → ℕ
+next n s = (s.pc + n) % 2 ^ 64
 
 abbrev pub goes_to : ℕ → State → State
 goes_to a s = record s { pc = a }
 
--- on to the instruction after this one
-abbrev pub goes_on : State → State
-goes_on s = goes_to (next s) s
+-- on to the instruction after this one, which has n bytes
+abbrev pub goes_on : ℕ → State → State
+goes_on n s = goes_to (next n s) s
 
 -- the sum of a word and an immediate
 abbrev pub plus : ℕ → ℤ → ℕ
@@ -58,8 +58,8 @@ abbrev pub jumps_to : ℕ → State → Option State
 jumps_to target s = only_if (is_aligned target) (goes_to target s)
 
 -- a jump by an offset where the branch is taken, else on
-abbrev pub branches : Bool → ℤ → State → Option State
-branches taken offset s = if taken then jumps_to (plus s.pc offset) s else Some (goes_on s)
+abbrev pub branches : Bool → ℤ → ℕ → State → Option State
+branches taken offset n s = if taken then jumps_to (plus s.pc offset) s else Some (goes_on n s)
 
 -- the number of a width's bytes as a word, its sign extended
 abbrev pub sign_extended : Width → ℕ → ℕ
@@ -77,34 +77,31 @@ abbrev pub has : Width → Bytes → ℕ → Bool
 has w m a = inside (bytes_of w) m a
 
 -- a load from a to a register
-abbrev pub loads_to : ℕ → Width → Bool → ℕ → State → Option State
-loads_to d w signed a s = only_if (has w s.mem a) (goes_on (writes d (loaded w signed s.mem a) s))
+abbrev pub loads_to : ℕ → Width → Bool → ℕ → ℕ → State → Option State
+loads_to d w signed a n s = only_if (has w s.mem a) (goes_on n (writes d (loaded w signed s.mem a) s))
 
 -- the low bytes of x stored from a on
-abbrev pub stores_at : Width → ℕ → ℕ → State → Option State
-stores_at w a x s = only_if (has w s.mem a) (goes_on (record s { mem = store (bytes_of w) s.mem a x }))
+abbrev pub stores_at : Width → ℕ → ℕ → ℕ → State → Option State
+stores_at w a x n s = only_if (has w s.mem a) (goes_on n (record s { mem = store (bytes_of w) s.mem a x }))
 
 -- ---- instructions
 
--- the state after an instruction, if it can be carried out
-abbrev pub act : Instr → State → Option State
-act (Op o rd rs1 rs2) s = Some (goes_on (writes rd (operation_value o (reads rs1 s) (reads rs2 s)) s))
-act (OpImm o rd rs1 imm) s = Some (goes_on (writes rd (operation_value o (reads rs1 s) (word_of imm)) s))
-act (Lui rd imm) s = Some (goes_on (writes rd (upper imm) s))
-act (Auipc rd imm) s = Some (goes_on (writes rd ((s.pc + upper imm) % 2 ^ 64) s))
-act (Jal rd offset) s = jumps_to (plus s.pc offset) (writes rd (next s) s)
-act (Jalr rd rs1 imm) s = jumps_to (jump_target (reads rs1 s) imm) (writes rd (next s) s)
-act (Branch c rs1 rs2 offset) s = branches (comparison_holds c (reads rs1 s) (reads rs2 s)) offset s
-act (Load w signed rd rs1 imm) s = loads_to rd w signed (plus (reads rs1 s) imm) s
-act (Store w rs1 rs2 imm) s = stores_at w (plus (reads rs1 s) imm) (reads rs2 s) s
-act (Fence imm rs1 rd) s = Some (goes_on s)
-act Ecall s = None
-act Ebreak s = None
+-- the state after an instruction of n bytes, if it can be carried out
+abbrev pub act : Instr → ℕ → State → Option State
+act (Op o rd rs1 rs2) n s = Some (goes_on n (writes rd (operation_value o (reads rs1 s) (reads rs2 s)) s))
+act (OpImm o rd rs1 imm) n s = Some (goes_on n (writes rd (operation_value o (reads rs1 s) (word_of imm)) s))
+act (Lui rd imm) n s = Some (goes_on n (writes rd (upper imm) s))
+act (Auipc rd imm) n s = Some (goes_on n (writes rd ((s.pc + upper imm) % 2 ^ 64) s))
+act (Jal rd offset) n s = jumps_to (plus s.pc offset) (writes rd (next n s) s)
+act (Jalr rd rs1 imm) n s = jumps_to (jump_target (reads rs1 s) imm) (writes rd (next n s) s)
+act (Branch c rs1 rs2 offset) n s = branches (comparison_holds c (reads rs1 s) (reads rs2 s)) offset n s
+act (Load w signed rd rs1 imm) n s = loads_to rd w signed (plus (reads rs1 s) imm) n s
+act (Store w rs1 rs2 imm) n s = stores_at w (plus (reads rs1 s) imm) (reads rs2 s) n s
+act (Fence imm rs1 rd) n s = Some (goes_on n s)
+act Ecall n s = None
+act Ebreak n s = None
 
--- the word that four bytes from a on make, if they are present
-abbrev pub word_at : Bytes → ℕ → Option ℕ
-word_at m a = if inside 4 m a then Some (load 4 m a) else None
-
+-- the word at pc, if its bytes are present
 abbrev pub fetched : State → Option ℕ
 fetched s = word_at s.mem s.pc
 
@@ -112,9 +109,13 @@ fetched s = word_at s.mem s.pc
 abbrev pub instruction_at : State → Option Instr
 instruction_at s = if is_aligned s.pc then option_and_then decoded (fetched s) else None
 
+-- how many bytes the instruction at pc has
+abbrev pub length_at : State → ℕ
+length_at s = 4
+
 -- the next state, if there is one
 unfoldable pub step : State → Option State
-step s = option_and_then (λ i. act i s) (instruction_at s)
+step s = option_and_then (λ i. act i (length_at s) s) (instruction_at s)
 
 -- ---- the first reason why there is no next state
 

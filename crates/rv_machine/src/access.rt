@@ -2,13 +2,14 @@
 
 ghost use Rattle.std.specs.Prelude.{◌≡◌, ◌+◌, ◌*◌};
 ghost use Rattle.std.specs.FinMap.{get};
+ghost use Rattle.rv_words.specs.Bytes.{word_at};
 ghost use Rattle.rv_machine.specs.Step as spec;
 
 use rv_words::{ByteMap, Ext, Width, extend};
 
 /// The word that the four bytes from `a` on make, if they are present.
 pub fn fetch(memory: &ByteMap, a: u64) -> Option<u32>
-    ensures { result ≡ spec.word_at (get memory.now) a }
+    ensures { result ≡ word_at (get memory.now) a }
 {
     let byte1 = a.wrapping_add(1);
     let byte2 = byte1.wrapping_add(1);

@@ -7,28 +7,28 @@ ghost use Rattle.rv_machine.specs.Step as spec;
 use rv_words::{Ext, extend};
 
 /// An immediate as a word.
-pub fn extended(imm: i32) -> u64
+pub fn immediate_word(imm: i32) -> u64
     ensures { result ≡ word_of imm }
 {
     i64::from(imm).cast_unsigned()
 }
 
 /// The sum of a word and an immediate.
-pub fn plus(word: u64, imm: i32) -> u64
+pub fn plus_immediate(word: u64, imm: i32) -> u64
     ensures { result ≡ spec.plus word imm }
 {
-    word.wrapping_add(extended(imm))
+    word.wrapping_add(immediate_word(imm))
 }
 
 /// The target of a jump to a word plus an immediate.
 pub fn jump_target(word: u64, imm: i32) -> u64
     ensures { result ≡ spec.jump_target word imm }
 {
-    plus(word, imm) & 0xffff_ffff_ffff_fffe
+    plus_immediate(word, imm) & 0xffff_ffff_ffff_fffe
 }
 
 /// The word with those upper 20 bits of its low half.
-pub fn upper(imm: u32) -> u64
+pub fn upper_word(imm: u32) -> u64
     ensures { result ≡ spec.upper imm }
 {
     extend(Ext::Sx4, u64::from(imm) * 4096)

@@ -1,6 +1,6 @@
 //! The registers.
 
-ghost use Rattle.std.specs.Prelude.{◌≡◌, ◌<◌, replicate};
+ghost use Rattle.std.specs.Prelude.{◌≡◌, ℕ, ◌^◌, ◌<◌, replicate, slice_index};
 ghost use Rattle.rv_machine.specs.State.{register, with_register};
 
 use std::marker::Model;
@@ -12,13 +12,14 @@ pub struct Registers {
 }
 
 impl Model for Registers {
-    ghost use Rattle.std.specs.Prelude.{ℕ, List, ◌≡◌, slice_index};
+    ghost use Rattle.std.specs.Prelude.{ℕ, List};
+    ghost use Rattle.rv_machine.specs.State.{AreRegisters};
 
     ghost Value = { List ℕ };
 
     ghost view = { λ r. r.words };
 
-    ghost invariant = { λ r. slice_index r.words 0 ≡ 0 };
+    ghost invariant = { λ r. AreRegisters r.words };
 }
 
 impl Registers {
@@ -27,6 +28,13 @@ impl Registers {
         ensures { result ≡ replicate 32 0 }
     {
         Registers { words: [0; 32] }
+    }
+
+    /// Every value holds words.
+    pub fn law_of_values(&self)
+        ensures { (r : ℕ) → slice_index self.now r < 2 ^ 64 }
+    {
+        let _ = &self.words;
     }
 
     pub fn get(&self, n: u8) -> u64

@@ -4,11 +4,11 @@ ghost use Rattle.std.specs.Prelude.{◌≡◌, ◌≢◌, ◌+◌, ◌*◌, ◌^
 ghost use Rattle.std.specs.FinMap.{empty};
 ghost use Rattle.rv_words.specs.Bytes.{bytes_from};
 ghost use Rattle.rv_decode.specs.Decodes.{NamesRegisters};
-ghost use Rattle.rv_machine.specs.State.{empty_state, state_of, with_bytes};
-ghost use Rattle.rv_machine.specs.Step.{act, branches, goes_on, has, instruction_at, jumps_to, loads_to, misaligned, next, no_byte, step as next_state, stores_at, stuck, stuck_branch, stuck_in, writes};
+ghost use Rattle.rv_machine.specs.State.{IsState, empty_state, state_of, with_bytes};
+ghost use Rattle.rv_machine.specs.Step.{act, branches, goes_on, has, instruction_at, jumps_to, length_at, loads_to, misaligned, next, no_byte, step as next_state, stores_at, stuck, stuck_branch, stuck_in, writes};
 
 use crate::access::{fetch, first_absent, load};
-use crate::address::{extended, jump_target, plus, upper};
+use crate::address::{immediate_word, jump_target, plus_immediate, upper_word};
 use crate::registers::Registers;
 use rv_decode::{Instr, decode};
 use rv_words::{ByteMap, NoMemory, Width, apply, compare};
@@ -59,6 +59,15 @@ impl State {
             registers: Registers::new(),
             memory: ByteMap::new(alloc),
         }
+    }
+
+    /// Every value is a machine's state: its numbers are in their ranges.
+    pub fn law_of_values(&self)
+        ensures { IsState (state_of self.now) }
+    {
+        let _pc = self.pc;
+        self.registers.law_of_values();
+        self.memory.law_of_values();
     }
 
     pub fn pc(&self) -> u64
@@ -115,7 +124,7 @@ impl State {
         ensures err { OnErr result (self.new ≡ self.old) }
     {
         let instruction = self.instruction()?;
-        self.carry_out(instruction)
+        self.carry_out(instruction, self.length())
     }
 
     /// The instruction at the program counter.
@@ -139,63 +148,85 @@ impl State {
         }
     }
 
-    /// Carries an instruction out.
-    fn carry_out(&mut self, instruction: Instr) -> Result<(), Stuck>
+    /// How many bytes the instruction at the program counter has.
+    fn length(&self) -> u64
+        ensures { result ≡ length_at (state_of self.now) }
+    {
+        4
+    }
+
+    /// Carries an instruction of that many bytes out.
+    fn carry_out(&mut self, instruction: Instr, length: u64) -> Result<(), Stuck>
         requires { NamesRegisters instruction }
-        ensures ok { OnOk result (act instruction (state_of self.old) ≡ Some (state_of self.new)) }
+        ensures ok { OnOk result (act instruction length (state_of self.old) ≡ Some (state_of self.new)) }
         ensures reason { IfErr result (λ why. stuck_in instruction (state_of self.old) ≡ Some why) }
         ensures err { OnErr result (self.new ≡ self.old) }
     {
         match instruction {
             Instr::Op { op, rd, rs1, rs2 } => {
-                self.finish(rd, apply(op, self.reg(rs1), self.reg(rs2)));
+                self.finish(rd, apply(op, self.reg(rs1), self.reg(rs2)), length);
             }
             Instr::OpImm { op, rd, rs1, imm } => {
-                self.finish(rd, apply(op, self.reg(rs1), extended(imm)));
+                self.finish(rd, apply(op, self.reg(rs1), immediate_word(imm)), length);
             }
-            Instr::Lui { rd, imm } => self.finish(rd, upper(imm)),
-            Instr::Auipc { rd, imm } => self.finish(rd, self.pc.wrapping_add(upper(imm))),
-            Instr::Jal { rd, offset } => self.jump(rd, plus(self.pc, offset))?,
-            Instr::Jalr { rd, rs1, imm } => self.jump(rd, jump_target(self.reg(rs1), imm))?,
+            Instr::Lui { rd, imm } => self.finish(rd, upper_word(imm), length),
+            Instr::Auipc { rd, imm } => {
+                self.finish(rd, self.pc.wrapping_add(upper_word(imm)), length);
+            }
+            Instr::Jal { rd, offset } => self.jump(rd, plus_immediate(self.pc, offset), length)?,
+            Instr::Jalr { rd, rs1, imm } => {
+                self.jump(rd, jump_target(self.reg(rs1), imm), length)?;
+            }
             Instr::Branch {
                 cmp,
                 rs1,
                 rs2,
                 offset,
-            } => self.branch(compare(cmp, self.reg(rs1), self.reg(rs2)), offset)?,
+            } => self.branch(compare(cmp, self.reg(rs1), self.reg(rs2)), offset, length)?,
             Instr::Load {
                 width,
                 signed,
                 rd,
                 rs1,
                 imm,
-            } => self.load(width, signed, rd, plus(self.reg(rs1), imm))?,
+            } => self.load(
+                width,
+                signed,
+                rd,
+                plus_immediate(self.reg(rs1), imm),
+                length,
+            )?,
             Instr::Store {
                 width,
                 rs1,
                 rs2,
                 imm,
-            } => self.store(width, plus(self.reg(rs1), imm), self.reg(rs2))?,
-            Instr::Fence { .. } => self.go_on(),
+            } => self.store(
+                width,
+                plus_immediate(self.reg(rs1), imm),
+                self.reg(rs2),
+                length,
+            )?,
+            Instr::Fence { .. } => self.go_on(length),
             Instr::Ecall | Instr::Ebreak => return Err(Stuck::Environment),
         }
         Ok(())
     }
 
-    /// On to the next instruction.
-    fn go_on(&mut self)
-        ensures { state_of self.new ≡ goes_on (state_of self.old) }
+    /// On to the next instruction, behind one of that many bytes.
+    fn go_on(&mut self, length: u64)
+        ensures { state_of self.new ≡ goes_on length (state_of self.old) }
     {
-        self.pc = self.pc.wrapping_add(4);
+        self.pc = self.pc.wrapping_add(length);
     }
 
     /// Writes a register, and on to the next instruction.
-    fn finish(&mut self, rd: u8, word: u64)
+    fn finish(&mut self, rd: u8, word: u64, length: u64)
         requires { rd < 32 }
-        ensures { state_of self.new ≡ goes_on (writes rd word (state_of self.old)) }
+        ensures { state_of self.new ≡ goes_on length (writes rd word (state_of self.old)) }
     {
         self.registers.set(rd, word);
-        self.go_on();
+        self.go_on(length);
     }
 
     /// To a target, if an instruction may stand there.
@@ -212,28 +243,28 @@ impl State {
     }
 
     /// Jumps to a target, and writes the address after the jump to a register.
-    fn jump(&mut self, rd: u8, target: u64) -> Result<(), Stuck>
+    fn jump(&mut self, rd: u8, target: u64, length: u64) -> Result<(), Stuck>
         requires { rd < 32 }
-        ensures ok { let s = state_of self.old in OnOk result (jumps_to target (writes rd (next s) s) ≡ Some (state_of self.new)) }
+        ensures ok { let s = state_of self.old in OnOk result (jumps_to target (writes rd (next length s) s) ≡ Some (state_of self.new)) }
         ensures reason { IfErr result (λ why. misaligned target ≡ Some why) }
         ensures err { OnErr result (self.new ≡ self.old) }
     {
-        let link = self.pc.wrapping_add(4);
+        let link = self.pc.wrapping_add(length);
         self.go_to(target)?;
         self.registers.set(rd, link);
         Ok(())
     }
 
     /// Goes by an offset or on to the next instruction.
-    fn branch(&mut self, taken: bool, offset: i32) -> Result<(), Stuck>
-        ensures ok { OnOk result (branches taken offset (state_of self.old) ≡ Some (state_of self.new)) }
+    fn branch(&mut self, taken: bool, offset: i32, length: u64) -> Result<(), Stuck>
+        ensures ok { OnOk result (branches taken offset length (state_of self.old) ≡ Some (state_of self.new)) }
         ensures reason { IfErr result (λ why. stuck_branch taken offset (state_of self.old) ≡ Some why) }
         ensures err { OnErr result (self.new ≡ self.old) }
     {
         if taken {
-            return self.go_to(plus(self.pc, offset));
+            return self.go_to(plus_immediate(self.pc, offset));
         }
-        self.go_on();
+        self.go_on(length);
         Ok(())
     }
 
@@ -252,27 +283,27 @@ impl State {
     }
 
     /// Loads from an address into a register.
-    fn load(&mut self, width: Width, signed: bool, rd: u8, a: u64) -> Result<(), Stuck>
+    fn load(&mut self, width: Width, signed: bool, rd: u8, a: u64, length: u64) -> Result<(), Stuck>
         requires { rd < 32 }
-        ensures ok { OnOk result (loads_to rd width signed a (state_of self.old) ≡ Some (state_of self.new)) }
+        ensures ok { OnOk result (loads_to rd width signed a length (state_of self.old) ≡ Some (state_of self.new)) }
         ensures reason { IfErr result (λ why. no_byte width (state_of self.old).mem a ≡ Some why) }
         ensures err { OnErr result (self.new ≡ self.old) }
     {
         self.find_bytes(width, a)?;
         let word = load(&self.memory, a, width, signed);
-        self.finish(rd, word);
+        self.finish(rd, word, length);
         Ok(())
     }
 
     /// Stores the low bytes of a word.
-    fn store(&mut self, width: Width, a: u64, word: u64) -> Result<(), Stuck>
-        ensures ok { OnOk result (stores_at width a word (state_of self.old) ≡ Some (state_of self.new)) }
+    fn store(&mut self, width: Width, a: u64, word: u64, length: u64) -> Result<(), Stuck>
+        ensures ok { OnOk result (stores_at width a word length (state_of self.old) ≡ Some (state_of self.new)) }
         ensures reason { IfErr result (λ why. no_byte width (state_of self.old).mem a ≡ Some why) }
         ensures err { OnErr result (self.new ≡ self.old) }
     {
         self.find_bytes(width, a)?;
         self.memory.store(a, width, word);
-        self.go_on();
+        self.go_on(length);
         Ok(())
     }
 }

@@ -5,7 +5,7 @@ ghost use Rattle.rv_decode.specs.Decodes.{NamesRegisters};
 ghost use Rattle.rv_machine.specs.State.{state_of};
 ghost use Rattle.rv_machine.specs.Touches as spec;
 
-use crate::address::plus;
+use crate::address::plus_immediate;
 use crate::state::State;
 use rv_decode::Instr;
 use rv_words::Width;
@@ -63,7 +63,7 @@ impl State {
         ensures { result ≡ spec.accessed width rs1 imm (state_of self.now) }
     {
         Touch {
-            at: plus(self.reg(rs1), imm),
+            at: plus_immediate(self.reg(rs1), imm),
             count: width.bytes(),
         }
     }

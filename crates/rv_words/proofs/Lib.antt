@@ -1,3 +1,4 @@
 pub mod PieceLemmas
+pub mod MemoryLemmas
 pub mod WordLemmas
 mod WorkedValues

@@ -2,7 +2,7 @@
 use Rattle.std.specs.Prelude.{ℕ, suc, ◌+◌, ◌^◌, ◌<◌, ◌≤◌, None, List, [], ◌∷◌, ◌++◌, length, slice_index_or}
 use Rattle.std.specs.Ordering.{nat_cmp}
 use Rattle.std.specs.FinMap.{FinMap, from_entries}
-use Rattle.rv_words.specs.Bytes.{Bytes, bytes_from, over}
+use Rattle.rv_words.specs.Bytes.{AreBytes, Bytes, bytes_from, over}
 use Rattle.rv_words.specs.declared.pieces.Piece.{Piece}
 
 -- the address right after a piece
@@ -31,6 +31,11 @@ above least (p ∷ ps) = above (past p) ps
 abbrev pub bytes_in : List Piece → Bytes
 bytes_in [] = λ q. None
 bytes_in (p ∷ ps) = over (bytes_from p.at p.bytes.items) (bytes_in ps)
+
+-- what a map keeps: pieces in order, with bytes in them
+pub record AreKept (ps : List Piece) : Type 0 where
+  pub rise : ArePieces ps
+  pub bytes : AreBytes (bytes_in ps)
 
 -- each address from a on with its byte
 abbrev pub entries_from : ℕ → List ℕ → List (ℕ × ℕ)

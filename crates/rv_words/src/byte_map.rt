@@ -2,7 +2,7 @@
 
 ghost use Rattle.std.specs.Prelude.{◌≡◌, ◌+◌, ◌^◌, ◌≤◌, length, replicate, IfOk, OnOk, OnErr};
 ghost use Rattle.std.specs.FinMap.{empty, get};
-ghost use Rattle.rv_words.specs.Bytes.{bytes_from, bytes_of, inside, load, over, store};
+ghost use Rattle.rv_words.specs.Bytes.{IsMemory, bytes_from, bytes_of, inside, load, over, store};
 
 use crate::memory::NoMemory;
 use crate::pieces::{
@@ -29,11 +29,11 @@ impl Model for ByteMap {
 
     ghost coded = { map.code coded_ℕ coded_ℕ };
 
-    ghost use Rattle.rv_words.specs.Pieces.{ArePieces, map_of};
+    ghost use Rattle.rv_words.specs.Pieces.{AreKept, map_of};
 
     ghost view = { λ m. map_of m.pieces.items };
 
-    ghost invariant = { λ m. ArePieces m.pieces.items };
+    ghost invariant = { λ m. AreKept m.pieces.items };
 }
 
 impl ByteMap {
@@ -44,6 +44,13 @@ impl ByteMap {
         ByteMap {
             pieces: Vec::new(alloc),
         }
+    }
+
+    /// Every value holds bytes below 256, at addresses below 2^64.
+    pub fn law_of_values(&self)
+        ensures { IsMemory (get self.now) }
+    {
+        let _ = &self.pieces;
     }
 
     /// The byte at an address, if it is present.

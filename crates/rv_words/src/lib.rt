@@ -4,6 +4,7 @@
 mod byte_map;
 mod comparison;
 mod extension;
+mod laws;
 mod list;
 mod memory;
 mod operation;
@@ -14,6 +15,7 @@ mod width;
 pub use byte_map::ByteMap;
 pub use comparison::{Cmp, compare};
 pub use extension::{Ext, extend};
+pub use laws::{law_of_loads, law_of_ranges, law_of_stores};
 pub use list::{Bytes, List, Text};
 pub use memory::NoMemory;
 pub use operation::{Op, apply};

@@ -114,4 +114,13 @@ impl<T: Copy> List<T> {
         let items = Vec::from_slice(alloc, items)?;
         Ok(List { items })
     }
+
+    /// Adds the items at the end.
+    pub fn extend_from_slice(&mut self, items: &[T]) -> Result<(), NoMemory>
+        ensures ok { OnOk result (self.new ≡ self.old ++ items.now) }
+        ensures err { OnErr result (self.new ≡ self.old) }
+    {
+        self.items.extend_from_slice(items)?;
+        Ok(())
+    }
 }

@@ -75,7 +75,8 @@ fn a_list_grows_and_shrinks(rt: HostRuntime) -> Result<(), Fail> {
     assert_eq!(rt; list.pop(), None);
     let mut copy = List::from_slice(rt.alloc(), b"ab")?;
     copy.append(List::from_slice(rt.alloc(), b"cd")?)?;
-    assert_eq!(rt; copy.as_slice(), b"abcd".as_slice());
+    copy.extend_from_slice(b"ef")?;
+    assert_eq!(rt; copy.as_slice(), b"abcdef".as_slice());
     Ok(())
 }
 

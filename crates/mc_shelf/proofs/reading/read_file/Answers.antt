@@ -22,6 +22,7 @@ loop-bytes-preserved g c =
       kept = search rules;
       read_faults = search rules;
       write_faults = search rules;
+      same_writes = search rules;
       stays_sure = search rules;
       sure_read_faults = search rules;
       sure_write_faults = search rules;

@@ -14,6 +14,7 @@ invariant-loop-bytes g l =
       kept : shelf.contents l.shelf ≡ shelf.contents l.initial.shelf;
       read_faults : shelf.read_faults l.initial.shelf ≤ shelf.read_faults l.shelf;
       write_faults : shelf.write_faults l.initial.shelf ≤ shelf.write_faults l.shelf;
+      same_writes : shelf.write_faults l.shelf ≡ shelf.write_faults l.initial.shelf;
       stays_sure : shelf.IsSure l.initial.shelf → shelf.IsSure l.shelf;
       sure_read_faults : shelf.IsSure l.initial.shelf → shelf.read_faults l.shelf ≡ shelf.read_faults l.initial.shelf;
       sure_write_faults : shelf.IsSure l.initial.shelf → shelf.write_faults l.shelf ≡ shelf.write_faults l.initial.shelf;
