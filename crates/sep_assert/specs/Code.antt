@@ -1,5 +1,5 @@
 -- Code as bytes at addresses.
-use Rattle.std.specs.Prelude.{◌≡◌, ℕ, ◌+◌, ◌^◌, ◌<◌, ◌≤◌, List, [], ◌∷◌, length, slice_index_or, All, Some, None}
+use Rattle.std.specs.Prelude.{◌≡◌, ℕ, ◌+◌, ◌^◌, ◌<◌, ◌≤◌, List, length, slice_index_or, All, Some}
 use Rattle.rv_words.specs.Bytes.{Bytes, bytes_from, over}
 use Rattle.rv_words.specs.Ranges.{AreRanges, range_bytes}
 use Rattle.rv_words.specs.declared.range.Range.{Range}

@@ -1,3 +1,4 @@
 pub mod Tree
 pub mod Code
 pub mod Part
+pub mod inner

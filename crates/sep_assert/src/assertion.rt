@@ -40,7 +40,8 @@ fn same_registers(a: &[(u8, Word)], b: &[(u8, Word)]) -> bool
     true
 }
 
-fn same_register(a: &(u8, Word), b: &(u8, Word)) -> bool
+/// Whether two registers are the same with the same term.
+pub fn same_register(a: &(u8, Word), b: &(u8, Word)) -> bool
     ensures { IsTrue result ↔ (register_tree a.now ≡ register_tree b.now) }
 {
     a.0 == b.0 && same_word(&a.1, &b.1)

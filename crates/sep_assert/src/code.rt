@@ -1,10 +1,11 @@
 //! Code compared and joined byte by byte.
 
 ghost use Rattle.std.specs.Prelude.{◌≡◌, ◌↔◌, IsTrue};
-ghost use Rattle.rv_words.specs.Bytes.{bytes_from, over};
+ghost use Rattle.rv_words.specs.Bytes.{over};
 ghost use Rattle.rv_words.specs.Ranges.{range_bytes};
 ghost use Rattle.sep_assert.specs.Code.{Agree, AreSameAt, IsWithin};
 
+use crate::search::Search;
 use rv_words::Range;
 use word_terms::Code;
 
@@ -36,11 +37,15 @@ pub fn code_within_either(a: &Code, b: &Code, c: &Code) -> bool
     )
 }
 
+/// Where the ranges rise, each is looked at once.
 fn are_bytes_of(a: &[Range], b: &[Range], c: &[Range]) -> bool
     ensures { IsTrue result ↔ IsWithin (range_bytes a.now) (over (range_bytes b.now) (range_bytes c.now)) }
 {
+    let mut in_a = Search::new(a);
+    let mut in_b = Search::new(b);
+    let mut in_c = Search::new(c);
     for range in a {
-        if !are_bytes_at(range, a, b, c) {
+        if !are_bytes_at(range, &mut in_a, &mut in_b, &mut in_c) {
             return false;
         }
     }
@@ -48,42 +53,19 @@ fn are_bytes_of(a: &[Range], b: &[Range], c: &[Range]) -> bool
 }
 
 /// Whether the bytes of `a` at the addresses of a range are those of `b` or of `c`.
-fn are_bytes_at(range: &Range, a: &[Range], b: &[Range], c: &[Range]) -> bool
-    ensures { IsTrue result ↔ AreSameAt (range_bytes a.now) (over (range_bytes b.now) (range_bytes c.now)) range.now }
+fn are_bytes_at(range: &Range, a: &mut Search, b: &mut Search, c: &mut Search) -> bool
+    ensures is { IsTrue result ↔ AreSameAt (range_bytes a.old) (over (range_bytes b.old) (range_bytes c.old)) range.now }
+    ensures first { a.new ≡ a.old }
+    ensures second { b.new ≡ b.old }
+    ensures third { c.new ≡ c.old }
 {
     for i in 0..range.bytes.len() {
         let address = u128::from(range.at) + i as u128;
-        if byte_of(a, address) != byte_of(b, address).or(byte_of(c, address)) {
+        if a.byte(address) != b.byte(address).or(c.byte(address)) {
             return false;
         }
     }
     true
-}
-
-/// The byte at an address, which may lie past the last one.
-fn byte_of(ranges: &[Range], address: u128) -> Option<u8>
-    ensures { result ≡ range_bytes ranges.now address }
-{
-    for range in ranges {
-        if let Some(byte) = byte_in(range, address) {
-            return Some(byte);
-        }
-    }
-    None
-}
-
-fn byte_in(range: &Range, address: u128) -> Option<u8>
-    ensures { result ≡ bytes_from range.now.at range.now.bytes address }
-{
-    let at = u128::from(range.at);
-    if address < at {
-        return None;
-    }
-    let place = address - at;
-    if place < range.bytes.len() as u128 {
-        return range.bytes.get(place as usize).copied();
-    }
-    None
 }
 
 /// Whether two codes are the same ranges.

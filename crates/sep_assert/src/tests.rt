@@ -147,3 +147,27 @@ fn assertions_compared(rt: HostRuntime) -> Result<(), Fail> {
     }
     Ok(())
 }
+
+/// Code of that many ranges of four bytes each.
+fn many_ranges(alloc: Global, count: u64) -> Result<Code, NoMemory> {
+    let mut ranges = List::new(alloc);
+    for i in 0..count {
+        let bytes = List::from_slice(alloc, &[0x13, 0, 0, 0])?;
+        let at = i.wrapping_mul(8);
+        ranges.push(Range { at, bytes })?;
+    }
+    Ok(Code { ranges })
+}
+
+/// Codes of many ranges are compared in time that grows as their length does.
+#[test]
+fn codes_of_many_ranges(rt: HostRuntime) -> Result<(), Fail> {
+    let alloc = rt.alloc();
+    let some = many_ranges(alloc, 10_000)?;
+    let all = many_ranges(alloc, 20_000)?;
+    assert!(rt; code_within(&some, &all));
+    assert!(rt; !code_within(&all, &some));
+    assert!(rt; code_agree(&all, &some));
+    assert!(rt; code_within_either(&all, &some, &all));
+    Ok(())
+}

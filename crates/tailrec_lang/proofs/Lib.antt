@@ -11,3 +11,4 @@ pub mod Counts
 pub mod WellFormedBodies
 pub mod Definitions
 pub mod Examples
+pub mod Fitting

@@ -1,5 +1,5 @@
 -- The depth of nested entries doesn't matter where it is enough, and neither do turns that aren't used.
-use Rattle.std.proofs.Common.{◌≡◌, ℕ, zero, suc, ◌+◌, ◌≤◌, arith, refl, sym, subst, ◌∙◌, Option, Some, None, Bool, true, false, cond, List}
+use Rattle.std.proofs.Common.{◌≡◌, ℕ, zero, suc, ◌+◌, ◌<◌, ◌≤◌, arith, refl, sym, subst, ◌∙◌, Option, Some, None, Bool, true, false, cond, List}
 use Rattle.std.specs.Prelude.{slice_get}
 use Rattle.tailrec_lang.specs.declared.group.Exit.{Exit}
 use Rattle.tailrec_lang.specs.declared.group.Exit.TheVariants.{At, Ret}
@@ -128,6 +128,15 @@ pub ending-enter : (g : GroupTree) (d : ℕ) (x : Arguments) (left : ℕ) (def :
     → ending g d x (suc left) ≡ body_ending (ending g) d def.body (with_arguments no_variables x) 0 left
 ending-enter g d x left def is = ending-suc g d x left ∙ (λ j. of_def (is j) (λ def'. body_ending (ending g) d def'.body (with_arguments no_variables x) 0 left))
 
+-- an entry that leaves by an exit used a turn
+pub ending-below : (g : GroupTree) (d : ℕ) (x : Arguments) (turns exit : ℕ) (results : Arguments) (left : ℕ) → ending g d x turns ≡ Exited exit results left → left < turns
+ending-below g d x zero exit results left e = absurd (cc)
+ending-below g d x (suc n) exit results left e =
+    let some = left-of_def n (slice_get g.defs d) (λ def. body_ending (ending g) d def.body (with_arguments no_variables x) 0 n)
+    (λ def. body_left (ending g) (ending-falls g) d def.body (with_arguments no_variables x) 0 n) in
+    let here : IsLeft n (Exited exit results left) = subst (IsLeft n) (sym (ending-suc g d x n) ∙ e) some in
+    omega (arith, here)
+
 -- ---- more turns
 
 -- where the first leaves by an exit, the second does with n more turns left
@@ -183,6 +192,14 @@ ending-grows g n (suc m) d x (suc r) le =
     (subst (Keeps n (of_def (slice_get g.defs d) (λ def. body_ending (ending g) d def.body (with_arguments no_variables x) 0 r))) (sym (ending-suc g d x (r + n)))
     (keeps-of_def n (slice_get g.defs d) _ _ (λ def. body_keeps (ending g) (ending-falls g) n d def.body (with_arguments no_variables x) 0 r
     (λ d' x' r' le'. ending-grows g n m d' x' r' (omega arith))))))
+
+pub ending-exited : (g : GroupTree) (d : ℕ) (x : Arguments) (turns more exit : ℕ) (results : Arguments) (left : ℕ)
+    → ending g d x turns ≡ Exited exit results left → ending g d x (turns + more) ≡ Exited exit results (left + more)
+ending-exited g d x turns more exit results left e = subst (λ o. Keeps more o (ending g d x (turns + more))) e (ending-grows g more turns d x turns (omega arith))
+
+pub ending-need_false : (g : GroupTree) (d : ℕ) (x : Arguments) (turns more def ordinal : ℕ)
+    → ending g d x turns ≡ NeedFalse def ordinal → ending g d x (turns + more) ≡ NeedFalse def ordinal
+ending-need_false g d x turns more def ordinal e = subst (λ o. Keeps more o (ending g d x (turns + more))) e (ending-grows g more turns d x turns (omega arith))
 
 -- ---- outcomes
 

@@ -9,6 +9,7 @@ use Rattle.tailrec_lang.specs.declared.group.Exit.TheVariants.{At, Ret}
 use Rattle.tailrec_lang.specs.declared.args.Args.{Args}
 use Rattle.tailrec_lang.specs.declared.evaluator.Outcome.{Outcome as Answer}
 use Rattle.tailrec_lang.specs.declared.evaluator.Outcome.TheVariants as answer
+use Rattle.tailrec_lang.specs.WellFormed.{exit_words}
 use Rattle.tailrec_lang.specs.Tree.{ValuesTree, StepTree, Bind, BindMem, Need, BodyTree, Do, Branch, Call, Again, Leave, ArmTrees, NoArm, Arm, DefTree, GroupTree, exits_at}
 
 -- what a definition is entered or left with
@@ -166,6 +167,11 @@ LeavesInScope g d turns (Done exit pc results left) =
 LeavesInScope g d turns (SideFalse def ordinal) = def < length g.defs
 LeavesInScope g d turns Turns = Unit {0}
 LeavesInScope g d turns NoOutcome = ⊥
+
+-- there is such an exit, and there are as many results as it is left with
+abbrev pub ExitFits : GroupTree → Option Exit → Arguments → Type 0
+ExitFits g None x = ⊥
+ExitFits g (Some exit) x = (length x.words ≡ exit_words g exit) × (length x.mems ≡ g.mems)
 
 -- each definition has fewer than 2 ^ 64 Needs
 abbrev pub HasFewNeeds : GroupTree → Type 0

@@ -3,6 +3,7 @@
 #![tactic(auto)]
 
 mod args;
+mod copy;
 mod evaluator;
 mod group;
 mod laws;
@@ -11,11 +12,12 @@ mod scope;
 mod walk;
 
 pub use args::Args;
+pub use copy::copy_values;
 pub use evaluator::{Outcome, eval};
 pub use group::{Body, Def, End, Exit, Group, Step, Values};
-pub use laws::law_of_more_turns;
+pub use laws::{law_of_more_turns, law_of_turns};
 pub use needs::has_few_needs;
-pub use scope::{BadDef, well_formed};
+pub use scope::{BadDef, def_at, exits_of, results_at, well_formed};
 pub use word_terms::Code;
 
 #[cfg(test)]

@@ -164,14 +164,22 @@ fn with_more(scope: Scope, words: usize, mems: usize) -> Scope
     )
 }
 
-/// How many words an exit is left with.
-fn results_at(g: &Group, exit: Exit) -> usize
+/// How many words an exit is left with: one for each register, and the returned address where there is one.
+pub fn results_at(g: &Group, exit: Exit) -> usize
     ensures { result ≡ exit_words (group_tree g.now) exit }
 {
     match exit {
         Exit::At(_) => g.regs.as_slice().len(),
         Exit::Ret => g.regs.as_slice().len() + 1,
     }
+}
+
+/// The definition of that number, if there is one.
+pub fn def_at(g: &Group, def: usize) -> Option<&Def>
+    ensures some { IfSome result (λ d. slice_get (group_tree g.now).defs def ≡ Some (def_tree d.now)) }
+    ensures none { IfNone result (slice_get (group_tree g.now).defs def ≡ None) }
+{
+    g.defs.get(def)
 }
 
 /// The exits of the definition of that number; none, if there is no such definition.

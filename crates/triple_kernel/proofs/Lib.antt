@@ -7,3 +7,5 @@ pub mod StatedLemmas
 pub mod Zips
 pub mod ImageLemmas
 pub mod SameLemmas
+pub mod Reaching
+pub mod MoreCode

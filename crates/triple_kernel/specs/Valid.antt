@@ -1,8 +1,8 @@
 -- When a Hoare triple is valid (Myreen, Formal Verification of Machine-Code Programs, 2009). This speaks of steps of the
 -- machine and of nothing else: no rule occurs in it.
-use Rattle.std.specs.Prelude.{◌≡◌, ◌⊎◌, ℕ, ◌^◌, ◌<◌, Bool, nat_le, nat_lt, ◌&&◌, if◌then◌else◌, List, Some}
+use Rattle.std.specs.Prelude.{◌≡◌, ◌⊎◌, ℕ, Bool, nat_le, nat_lt, ◌&&◌, if◌then◌else◌, List, Some}
 use Rattle.std.specs.List.{Contains}
-use Rattle.word_terms.specs.Environment.{Environment}
+use Rattle.word_terms.specs.Environment.{Environment, IsInRange}
 use Rattle.tailrec_lang.specs.Tree.{GroupTree}
 use Rattle.rv_machine.specs.State.{State}
 use Rattle.rv_machine.specs.Run.{run}
@@ -34,12 +34,6 @@ pub record Valid (g : GroupTree) (t : TripleTree) : Type 0 where
       → (u : State) × Reaches s u × (state_part u ≡ part_of t.post e ⊕ (code_part t.code ⊕ rest))
 
 -- ---- the same for finite parts, said at length
-
--- variables stand for 64-bit words and for bytes at 64-bit addresses
-pub record IsInRange (e : Environment) : Type 0 where
-  pub word : (i : ℕ) → e.word i < 2 ^ 64
-  pub address : (i a b : ℕ) → e.mem i a ≡ Some b → a < 2 ^ 64
-  pub byte : (i a b : ℕ) → e.mem i a ≡ Some b → b < 2 ^ 8
 
 -- nothing stands at any key but those of a list
 pub record IsFinite (p : Part) : Type 0 where

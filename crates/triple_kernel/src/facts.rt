@@ -1,14 +1,14 @@
-//! Facts compared as trees.
+//! Facts and triples compared as trees.
 
 ghost use Rattle.std.specs.Prelude.{◌≡◌, ◌↔◌, IsTrue, map};
 ghost use Rattle.std.specs.List.{Contains};
 ghost use Rattle.word_terms.specs.Tree.{word_tree};
 ghost use Rattle.tailrec_lang.specs.Tree.{values_tree};
-ghost use Rattle.triple_kernel.specs.Tree.{fact_tree};
+ghost use Rattle.triple_kernel.specs.Tree.{fact_tree, triple_tree};
 ghost use Rattle.triple_kernel.specs.Rules.{AreAmong};
 
-use crate::triple::Fact;
-use sep_assert::same_mems;
+use crate::triple::{Fact, Triple};
+use sep_assert::{same_assertion, same_code, same_mems};
 use tailrec_lang::Values;
 use word_terms::{Word, same_cond, same_mem, same_word};
 
@@ -35,6 +35,32 @@ pub fn is_among(fact: &Fact, others: &[Fact]) -> bool
         }
     }
     false
+}
+
+/// Whether two triples are the same tree.
+pub fn same_triple(a: &Triple, b: &Triple) -> bool
+    ensures { IsTrue result ↔ (triple_tree a.now ≡ triple_tree b.now) }
+{
+    same_facts(a.facts.as_slice(), b.facts.as_slice())
+        && same_assertion(&a.pre, &b.pre)
+        && same_code(&a.code, &b.code)
+        && same_assertion(&a.post, &b.post)
+}
+
+/// Whether two lists of facts are the same trees in the same order.
+#[tactic(auto, using(sep_assert::proofs::SameLists::map_differs))]
+pub fn same_facts(a: &[Fact], b: &[Fact]) -> bool
+    ensures { IsTrue result ↔ (map fact_tree a.now ≡ map fact_tree b.now) }
+{
+    if a.len() != b.len() {
+        return false;
+    }
+    for i in 0..a.len() {
+        if !same_fact(&a[i], &b[i]) {
+            return false;
+        }
+    }
+    true
 }
 
 /// Whether two facts are the same tree.

@@ -3,7 +3,7 @@
 ghost use Rattle.std.specs.Prelude.{◌≡◌};
 ghost use Rattle.tailrec_lang.specs.Tree.{group_tree};
 ghost use Rattle.triple_kernel.specs.Tree.{triple_tree};
-ghost use Rattle.triple_kernel.specs.Valid.{Valid};
+ghost use Rattle.triple_kernel.specs.Valid.{IsValidForFinite, Valid};
 
 use crate::triple::Triple;
 use std::marker::Model;
@@ -40,7 +40,7 @@ impl<'g> Model for Thm<'g> {
 }
 
 impl<'g> Thm<'g> {
-    /// The theorem that a valid triple is. Each rule proves its conclusion valid, and ends here.
+    /// The theorem that a valid triple is.
     pub fn from_valid(group: &'g Group, triple: Triple) -> Thm<'g>
         requires { Valid (group_tree group.now) (triple_tree triple) }
         ensures { result ≡ (group.now, triple) }
@@ -52,6 +52,7 @@ impl<'g> Thm<'g> {
     pub fn triple(&self) -> &Triple
         ensures triple { result.now ≡ self.now.1 }
         ensures valid { Valid (group_tree self.now.0) (triple_tree result.now) }
+        ensures finite { IsValidForFinite (group_tree self.now.0) (triple_tree result.now) }
     {
         &self.triple
     }
@@ -63,8 +64,8 @@ impl<'g> Thm<'g> {
         self.group
     }
 
-    /// The theorem that another valid triple of the group is.
-    pub(crate) fn concludes(&self, stated: Triple) -> Thm<'g>
+    /// The theorem that another valid triple of the group is. Each rule proves its conclusion valid, and ends here.
+    pub fn concludes(&self, stated: Triple) -> Thm<'g>
         requires { Valid (group_tree self.now.0) (triple_tree stated) }
         ensures { result ≡ (self.now.0, stated) }
     {

@@ -3,3 +3,7 @@ pub mod Agreement
 pub mod Stores
 pub mod Loads
 pub mod Depths
+pub mod LargerScopes
+pub mod Variables
+pub mod Ranges
+pub mod Copies

@@ -2,15 +2,7 @@
 use Rattle.std.proofs.Common.{◌≡◌, ℕ, ◌+◌, ◌*◌, ◌-◌, ◌<◌, ◌≤◌, refl, ap, arith, add-one, unwrap_or, pow-add}
 use Rattle.std.specs.Prelude.{◌%◌, ◌^◌}
 use Rattle.std.proofs.Math.Pow.{pow_mono}
-use Rattle.rv_words.specs.declared.width.Width.{Width}
-use Rattle.rv_words.specs.declared.width.Width.TheVariants.{B1, B2, B4, B8}
-use Rattle.rv_words.specs.Bytes.{Bytes, bytes_of, load}
-
-pub few_bytes : (w : Width) → bytes_of w ≤ 8
-few_bytes B1 = omega arith
-few_bytes B2 = omega arith
-few_bytes B4 = omega arith
-few_bytes B8 = omega arith
+use Rattle.rv_words.specs.Bytes.{Bytes, load}
 
 load-one_more : (m : Bytes) (i x : ℕ) → load (i + 1) m x ≡ unwrap_or (m x) 0 + 256 * load i m ((x + 1) % 2 ^ 64)
 load-one_more m i x = rw add-one refl

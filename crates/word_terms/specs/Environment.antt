@@ -1,6 +1,6 @@
 -- What the variables stand for: the word of each word variable and the bytes of each memory variable, and how many
 -- there are of both, which are numbered apart. Variables are levels: a new one takes the next number.
-use Rattle.std.specs.Prelude.{ℕ, ◌≡◌, ◌+◌, ◌<◌, ◌≤◌, ◌==◌, if◌then◌else◌, List, [], ◌∷◌, slice_index, slice_index_or, length}
+use Rattle.std.specs.Prelude.{ℕ, ◌≡◌, ◌+◌, ◌^◌, ◌<◌, ◌≤◌, ◌==◌, if◌then◌else◌, Some, List, [], ◌∷◌, slice_index, slice_index_or, length}
 use Rattle.std.specs.Ordering.{nat_cmp}
 use Rattle.std.specs.FinMap.{FinMap, empty, get}
 use Rattle.rv_words.specs.Bytes.{Bytes}
@@ -48,3 +48,9 @@ pub record Extends (e f : Environment) : Type 0 where
   pub mems : e.mems ≤ f.mems
   pub word : (i : ℕ) → i < e.words → e.word i ≡ f.word i
   pub mem : (i : ℕ) → i < e.mems → e.mem i ≡ f.mem i
+
+-- variables stand for 64-bit words and for bytes at 64-bit addresses
+pub record IsInRange (e : Environment) : Type 0 where
+  pub word : (i : ℕ) → e.word i < 2 ^ 64
+  pub address : (i a b : ℕ) → e.mem i a ≡ Some b → a < 2 ^ 64
+  pub byte : (i a b : ℕ) → e.mem i a ≡ Some b → b < 2 ^ 8

@@ -5,3 +5,4 @@ pub mod Scope
 pub mod Substitution
 pub use Rattle.rv_words.specs.Operation
 pub use Rattle.rv_words.specs.Bytes
+pub mod inner

@@ -1,5 +1,5 @@
--- The variables that stand in terms.
-use Rattle.std.specs.Prelude.{ℕ, ◌<◌}
+-- The variables and the constants that stand in terms.
+use Rattle.std.specs.Prelude.{ℕ, ◌^◌, ◌<◌}
 use Rattle.word_terms.specs.Tree.{WordTree, MemTree, CondTree, Const, Var, Bin, Extend, Load, MemVar, Store, Compare, Neg, Inside}
 
 abbrev mutual
@@ -29,3 +29,21 @@ MemInScope t words mems = EachInMem (λ i. i < words) (λ i. i < mems) t
 
 abbrev pub CondInScope : CondTree → ℕ → ℕ → Type 0
 CondInScope t words mems = EachInCond (λ i. i < words) (λ i. i < mems) t
+
+abbrev mutual
+  -- each constant in the term is a 64-bit word
+  pub WordInRange : WordTree → Type 0
+  WordInRange (Const n) = n < 2 ^ 64
+  WordInRange (Var i) = Unit {0}
+  WordInRange (Bin op a b) = WordInRange a × WordInRange b
+  WordInRange (Extend ext a) = WordInRange a
+  WordInRange (Load width m a) = MemInRange m × WordInRange a
+
+  pub MemInRange : MemTree → Type 0
+  MemInRange (MemVar i) = Unit {0}
+  MemInRange (Store width m a v) = MemInRange m × WordInRange a × WordInRange v
+
+abbrev pub CondInRange : CondTree → Type 0
+CondInRange (Compare cmp a b) = WordInRange a × WordInRange b
+CondInRange (Neg c) = CondInRange c
+CondInRange (Inside width m a) = MemInRange m × WordInRange a

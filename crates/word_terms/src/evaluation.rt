@@ -1,12 +1,13 @@
 //! What terms stand for.
 
-ghost use Rattle.std.specs.Prelude.{◌≡◌, ◌<◌, ◌*◌, ◌/◌, ◌%◌, ◌^◌, ℕ, IfOk, option_map, length};
+ghost use Rattle.std.specs.Prelude.{◌≡◌, ◌<◌, ◌≤◌, ◌*◌, ◌/◌, ◌%◌, ◌^◌, ℕ, IfOk, option_map, length};
 ghost use Rattle.std.specs.FinMap.{get};
-ghost use Rattle.rv_words.specs.Bytes.{bytes_of, inside, load, store};
+ghost use Rattle.rv_words.specs.Bytes.{Bytes, bytes_of, inside, load, store};
 ghost use Rattle.word_terms.specs.Tree.{cond_tree, mem_tree, word_tree};
 ghost use Rattle.word_terms.specs.Value.{cond_holds, mem_value, word_value};
 ghost use Rattle.word_terms.specs.Scope.{CondInScope, MemInScope, WordInScope};
 ghost use Rattle.word_terms.specs.Environment.{Environment, environment_of};
+ghost use Rattle.word_terms.specs.inner.Window.{StandFrom};
 
 use crate::term::{Cond, Mem, Word};
 use rv_words::{ByteMap, NoMemory, Width, apply, compare, extend};
@@ -35,7 +36,6 @@ pub fn value(t: &Word, e: &Env) -> u64
 }
 
 /// The byte at an address of the memory that a term stands for, if it is present.
-#[cycle(values)]
 pub fn byte_of(t: &Mem, e: &Env, a: u64) -> Option<u8>
     requires { MemInScope (mem_tree t.now) (length e.now.words.now) (length e.now.mems.now) }
     ensures { result ≡ mem_value (mem_tree t.now) (environment_of e.now) a }
@@ -44,18 +44,13 @@ pub fn byte_of(t: &Mem, e: &Env, a: u64) -> Option<u8>
         Mem::Var(i) => e.mems[*i as usize].byte(a),
         Mem::Store(width, m, at, v) => {
             let old = byte_of(m, e, a);
-            let at = value(at, e);
-            let offset = a.wrapping_sub(at);
-            if offset < u64::from(width.bytes()) {
-                stored(old, value(v, e), offset)
-            } else {
-                old
-            }
+            byte_after(old, a, value(at, e), *width, value(v, e))
         }
     }
 }
 
-/// The number of the width's bytes from an address on.
+/// The number of the width's bytes from an address on. They are looked up all together, so that the address and the
+/// word of each store are evaluated once.
 #[cycle(values)]
 fn load_of(t: &Mem, e: &Env, a: u64, width: Width) -> u64
     requires { MemInScope (mem_tree t.now) (length e.now.words.now) (length e.now.mems.now) }
@@ -64,15 +59,62 @@ fn load_of(t: &Mem, e: &Env, a: u64, width: Width) -> u64
     match t {
         Mem::Var(i) => e.mems[*i as usize].load(a, width),
         Mem::Store(_, _, _, _) => {
-            let mut number = 0u64;
-            let n = u64::from(width.bytes());
-            for i in 0..n {
-                let byte = byte_of(t, e, a.wrapping_add(n - 1 - i)).unwrap_or(0);
-                number = number * 256 + u64::from(byte);
-            }
-            number
+            let mut window: [Option<u8>; 8] = [None; 8];
+            let count = usize::from(width.bytes());
+            look_up(t, e, a, count, &mut window);
+            number_of(&window, count)
         }
     }
+}
+
+/// Looks up the bytes at `count` addresses from `a` on, those that are present.
+#[cycle(values)]
+fn look_up(t: &Mem, e: &Env, a: u64, count: usize, window: &mut [Option<u8>])
+    requires scope { MemInScope (mem_tree t.now) (length e.now.words.now) (length e.now.mems.now) }
+    requires count { count ≤ length window.old }
+    ensures { StandFrom (mem_value (mem_tree t.now) (environment_of e.now)) a count window.new }
+{
+    match t {
+        Mem::Var(i) => look_up_in(&e.mems[*i as usize], a, count, window),
+        Mem::Store(width, m, at, v) => {
+            look_up(m, e, a, count, window);
+            put_over(window, a, count, value(at, e), *width, value(v, e));
+        }
+    }
+}
+
+/// Looks up the bytes of a map at `count` addresses from `a` on.
+fn look_up_in(m: &ByteMap, a: u64, count: usize, window: &mut [Option<u8>])
+    requires { count ≤ length window.old }
+    ensures { StandFrom (get m.now) a count window.new }
+{
+    for k in 0..count {
+        window[k] = m.byte(a.wrapping_add(k as u64));
+    }
+}
+
+/// Puts the bytes of a store over those at `count` addresses from `a` on.
+fn put_over(window: &mut [Option<u8>], a: u64, count: usize, at: u64, width: Width, v: u64)
+    requires { count ≤ length window.old }
+    ensures { (m : Bytes) → StandFrom m a count window.old → StandFrom (store (bytes_of width) m at v) a count window.new }
+{
+    for k in 0..count {
+        window[k] = byte_after(window[k], a.wrapping_add(k as u64), at, width, v);
+    }
+}
+
+/// The number of the first `count` bytes, the low one first. An absent byte counts as 0.
+fn number_of(window: &[Option<u8>], count: usize) -> u64
+    requires few { count ≤ 8 }
+    requires count { count ≤ length window.now }
+    ensures { (m : Bytes) (a : ℕ) → a < 2 ^ 64 → StandFrom m a count window.now → result ≡ load count m a }
+{
+    let mut number = 0u64;
+    for i in 0..count {
+        let byte = window[count - 1 - i].unwrap_or(0);
+        number = number * 256 + u64::from(byte);
+    }
+    number
 }
 
 /// The whole memory that a term stands for.
@@ -113,6 +155,18 @@ fn variable_of(t: &Mem) -> u32
     match t {
         Mem::Var(i) => *i,
         Mem::Store(_, m, _, _) => variable_of(m),
+    }
+}
+
+/// What stands at an address after a store, where that byte stood before it, if one did.
+fn byte_after(old: Option<u8>, a: u64, at: u64, width: Width, v: u64) -> Option<u8>
+    ensures { (m : Bytes) → old ≡ m a → result ≡ store (bytes_of width) m at v a }
+{
+    let offset = a.wrapping_sub(at);
+    if offset < u64::from(width.bytes()) {
+        stored(old, v, offset)
+    } else {
+        old
     }
 }
 

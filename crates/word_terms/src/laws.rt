@@ -1,11 +1,12 @@
 //! Laws of terms and their values. These functions do nothing: their contracts are the laws.
 
-ghost use Rattle.std.specs.Prelude.{◌≡◌, ℕ, List, is_some};
+ghost use Rattle.std.specs.Prelude.{◌≡◌, ◌+◌, ◌^◌, ◌<◌, ◌≤◌, ℕ, List, Some, is_some, length, map};
+ghost use Rattle.std.specs.List.{range_with_len};
 ghost use Rattle.rv_words.specs.Bytes.{Bytes, inside, store};
-ghost use Rattle.word_terms.specs.Tree.{CondTree, MemTree, WordTree};
-ghost use Rattle.word_terms.specs.Environment.{Environment, Extends, with_mems, with_words};
+ghost use Rattle.word_terms.specs.Tree.{CondTree, MemTree, MemVar, Var, WordTree};
+ghost use Rattle.word_terms.specs.Environment.{Environment, Extends, IsInRange, with_mems, with_words};
 ghost use Rattle.word_terms.specs.Value.{cond_holds, mem_value, word_value};
-ghost use Rattle.word_terms.specs.Scope.{CondInScope, EachInCond, EachInMem, EachInWord, MemInScope, WordInScope};
+ghost use Rattle.word_terms.specs.Scope.{CondInScope, EachInCond, EachInMem, EachInWord, MemInScope, WordInRange, WordInScope};
 ghost use Rattle.word_terms.specs.Substitution.{Substitution, put_in_cond, put_in_mem, put_in_word, with_values_of};
 
 /// The value of a term after a substitution is the term's value where each listed variable has its term's value.
@@ -38,4 +39,33 @@ pub fn law_of_scopes()
 pub fn law_of_stores()
     ensures byte { (n : ℕ) (m : Bytes) (a v q : ℕ) → is_some (store n m a v q) ≡ is_some (m q) }
     ensures bytes { (n k : ℕ) (m : Bytes) (a v b : ℕ) → inside k (store n m a v) b ≡ inside k m b }
+{}
+
+/// A term in scope is in scope where there are more variables.
+pub fn law_of_larger_scopes()
+    ensures word { (t : WordTree) (words mems w m : ℕ) → words ≤ w → mems ≤ m → WordInScope t words mems → WordInScope t w m }
+    ensures mem { (t : MemTree) (words mems w m : ℕ) → words ≤ w → mems ≤ m → MemInScope t words mems → MemInScope t w m }
+    ensures cond { (t : CondTree) (words mems w m : ℕ) → words ≤ w → mems ≤ m → CondInScope t words mems → CondInScope t w m }
+{}
+
+/// How many variables there are after new ones, and what these stand for: the numbers and memories, in their order. New
+/// variables of one kind leave those of the other as they are.
+pub fn law_of_new_variables()
+    ensures words { (e : Environment) (ns : List ℕ) → (with_words e ns).words ≡ e.words + length ns }
+    ensures mems { (e : Environment) (ms : List Bytes) → (with_mems e ms).mems ≡ e.mems + length ms }
+    ensures same_words { (e : Environment) (ms : List Bytes) → (with_mems e ms).words ≡ e.words }
+    ensures same_mems { (e : Environment) (ns : List ℕ) → (with_words e ns).mems ≡ e.mems }
+    ensures word { (e : Environment) (ms : List Bytes) → (with_mems e ms).word ≡ e.word }
+    ensures mem { (e : Environment) (ns : List ℕ) → (with_words e ns).mem ≡ e.mem }
+    ensures new_words { (e : Environment) (ns : List ℕ)
+        → map (λ t. word_value t (with_words e ns)) (map Var (range_with_len e.words (length ns))) ≡ ns }
+    ensures new_mems { (e : Environment) (ms : List Bytes)
+        → map (λ t. mem_value t (with_mems e ms)) (map MemVar (range_with_len e.mems (length ms))) ≡ ms }
+{}
+
+/// Where variables stand for 64-bit words and for bytes at 64-bit addresses, so do terms.
+pub fn law_of_ranges()
+    ensures word { (e : Environment) (t : WordTree) → IsInRange e → WordInRange t → word_value t e < 2 ^ 64 }
+    ensures address { (e : Environment) (t : MemTree) (a b : ℕ) → IsInRange e → mem_value t e a ≡ Some b → a < 2 ^ 64 }
+    ensures byte { (e : Environment) (t : MemTree) (a b : ℕ) → IsInRange e → mem_value t e a ≡ Some b → b < 2 ^ 8 }
 {}

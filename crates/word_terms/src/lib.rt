@@ -2,6 +2,7 @@
 #![tactic(auto)]
 
 mod code;
+mod copy;
 mod evaluation;
 mod laws;
 mod scope;
@@ -9,8 +10,12 @@ mod substitution;
 mod term;
 
 pub use code::Code;
+pub use copy::{copy_cond, copy_mem, copy_mems, copy_word, copy_words};
 pub use evaluation::{Env, byte_of, memory_of, truth, value};
-pub use laws::{law_of_agreement, law_of_scopes, law_of_stores, law_of_substitution};
+pub use laws::{
+    law_of_agreement, law_of_larger_scopes, law_of_new_variables, law_of_ranges, law_of_scopes,
+    law_of_stores, law_of_substitution,
+};
 pub use scope::{is_cond_in_scope, is_mem_in_scope, is_word_in_scope};
 pub use substitution::{DEEPEST, Sub, TermFault, subst_cond, subst_mem, subst_word};
 pub use term::{

@@ -6,7 +6,8 @@ ghost use Rattle.word_terms.specs.Tree.{cond_tree, depth_of_cond, depth_of_mem, 
 ghost use Rattle.word_terms.specs.Substitution.{listed, put_in_cond, put_in_mem, put_in_word, substitution_of};
 ghost use Rattle.word_terms.specs.declared.substitution.TermFault.TheVariants.{NoMemory as NoRoom};
 
-use crate::term::{Cond, Mem, Word};
+use crate::copy::{copy_mem, copy_word};
+use crate::term::{Cond, Mem, Word, depth_mem, depth_word};
 use rv_words::{List, NoMemory};
 use std::alloc::{AllocFailed, Global};
 
@@ -75,6 +76,7 @@ pub fn subst_cond(alloc: Global, t: &Cond, s: &Sub) -> Result<Cond, TermFault>
 /// The term with its variables replaced, if it isn't deeper than `room`.
 #[cycle(substitutions)]
 fn word_within(alloc: Global, t: &Word, s: &Sub, room: u32) -> Result<Word, TermFault>
+    requires { room ≤ 64 }
     ensures ok { IfOk result (λ w. word_tree w ≡ put_in_word (substitution_of s.now) (word_tree t.now)) }
     ensures depth { IfOk result (λ w. depth_of_word (word_tree w) ≤ room) }
     ensures too_deep { IsErrOf result TermFault.TooDeep → room < depth_of_word (put_in_word (substitution_of s.now) (word_tree t.now)) }
@@ -85,7 +87,7 @@ fn word_within(alloc: Global, t: &Word, s: &Sub, room: u32) -> Result<Word, Term
             Ok(Word::Const(*n))
         }
         Word::Var(i) => match find(s.words.as_slice(), *i) {
-            Some(w) => copy_word(alloc, w, room),
+            Some(w) => word_copied(alloc, w, room),
             None => {
                 let _below = below(room)?;
                 Ok(Word::Var(*i))
@@ -119,13 +121,14 @@ fn word_within(alloc: Global, t: &Word, s: &Sub, room: u32) -> Result<Word, Term
 /// The term for a memory with its variables replaced, if it isn't deeper than `room`.
 #[cycle(substitutions)]
 fn mem_within(alloc: Global, t: &Mem, s: &Sub, room: u32) -> Result<Mem, TermFault>
+    requires { room ≤ 64 }
     ensures ok { IfOk result (λ w. mem_tree w ≡ put_in_mem (substitution_of s.now) (mem_tree t.now)) }
     ensures depth { IfOk result (λ w. depth_of_mem (mem_tree w) ≤ room) }
     ensures too_deep { IsErrOf result TermFault.TooDeep → room < depth_of_mem (put_in_mem (substitution_of s.now) (mem_tree t.now)) }
 {
     match t {
         Mem::Var(i) => match find(s.mems.as_slice(), *i) {
-            Some(m) => copy_mem(alloc, m, room),
+            Some(m) => mem_copied(alloc, m, room),
             None => {
                 let _below = below(room)?;
                 Ok(Mem::Var(*i))
@@ -147,6 +150,7 @@ fn mem_within(alloc: Global, t: &Mem, s: &Sub, room: u32) -> Result<Mem, TermFau
 /// The condition with its variables replaced, if it isn't deeper than `room`.
 #[tactic(auto, using(crate::proofs::Depths::deep_cond))]
 fn cond_within(alloc: Global, t: &Cond, s: &Sub, room: u32) -> Result<Cond, TermFault>
+    requires { room ≤ 64 }
     ensures ok { IfOk result (λ w. cond_tree w ≡ put_in_cond (substitution_of s.now) (cond_tree t.now)) }
     ensures depth { IfOk result (λ w. depth_of_cond (cond_tree w) ≤ room) }
     ensures too_deep { IsErrOf result TermFault.TooDeep → room < depth_of_cond (put_in_cond (substitution_of s.now) (cond_tree t.now)) }
@@ -176,60 +180,31 @@ fn cond_within(alloc: Global, t: &Cond, s: &Sub, room: u32) -> Result<Cond, Term
 }
 
 /// The same term in memory of its own, if it isn't deeper than `room`.
-#[cycle(copies)]
-#[tactic(auto, using(crate::proofs::Depths::deep_word, crate::proofs::Depths::deep_mem))]
-fn copy_word(alloc: Global, t: &Word, room: u32) -> Result<Word, TermFault>
+fn word_copied(alloc: Global, t: &Word, room: u32) -> Result<Word, TermFault>
+    requires { room ≤ 64 }
     ensures ok { IfOk result (λ w. word_tree w ≡ word_tree t.now) }
     ensures depth { IfOk result (λ w. depth_of_word (word_tree w) ≤ room) }
     ensures too_deep { IsErrOf result TermFault.TooDeep → room < depth_of_word (word_tree t.now) }
 {
-    let below = below(room)?;
-    match t {
-        Word::Const(n) => Ok(Word::Const(*n)),
-        Word::Var(i) => Ok(Word::Var(*i)),
-        Word::Bin(op, a, b) => {
-            let a = copy_word(alloc, a, below)?;
-            let b = copy_word(alloc, b, below)?;
-            let a = Box::new(alloc, a)?;
-            let b = Box::new(alloc, b)?;
-            Ok(Word::Bin(*op, a, b))
-        }
-        Word::Extend(ext, a) => {
-            let a = copy_word(alloc, a, below)?;
-            let a = Box::new(alloc, a)?;
-            Ok(Word::Extend(*ext, a))
-        }
-        Word::Load(width, m, a) => {
-            let m = copy_mem(alloc, m, below)?;
-            let a = copy_word(alloc, a, below)?;
-            let m = Box::new(alloc, m)?;
-            let a = Box::new(alloc, a)?;
-            Ok(Word::Load(*width, m, a))
-        }
+    if depth_word(t) > room {
+        return Err(TermFault::TooDeep);
     }
+    let copy = copy_word(alloc, t)?;
+    Ok(copy)
 }
 
 /// The same term for a memory in memory of its own, if it isn't deeper than `room`.
-#[cycle(copies)]
-#[tactic(auto, using(crate::proofs::Depths::deep_word, crate::proofs::Depths::deep_mem))]
-fn copy_mem(alloc: Global, t: &Mem, room: u32) -> Result<Mem, TermFault>
+fn mem_copied(alloc: Global, t: &Mem, room: u32) -> Result<Mem, TermFault>
+    requires { room ≤ 64 }
     ensures ok { IfOk result (λ w. mem_tree w ≡ mem_tree t.now) }
     ensures depth { IfOk result (λ w. depth_of_mem (mem_tree w) ≤ room) }
     ensures too_deep { IsErrOf result TermFault.TooDeep → room < depth_of_mem (mem_tree t.now) }
 {
-    let below = below(room)?;
-    match t {
-        Mem::Var(i) => Ok(Mem::Var(*i)),
-        Mem::Store(width, m, a, v) => {
-            let m = copy_mem(alloc, m, below)?;
-            let a = copy_word(alloc, a, below)?;
-            let v = copy_word(alloc, v, below)?;
-            let m = Box::new(alloc, m)?;
-            let a = Box::new(alloc, a)?;
-            let v = Box::new(alloc, v)?;
-            Ok(Mem::Store(*width, m, a, v))
-        }
+    if depth_mem(t) > room {
+        return Err(TermFault::TooDeep);
     }
+    let copy = copy_mem(alloc, t)?;
+    Ok(copy)
 }
 
 /// How deep the children may be of a term that may be as deep as `room`. No term has depth 0.

@@ -217,3 +217,60 @@ fn terms_are_put_in_at_once(rt: HostRuntime) -> Result<(), Fail> {
     assert!(rt; matches!(subst_cond(alloc, &c, &s), Ok(made) if same_cond(&made, &d)));
     Ok(())
 }
+
+/// A load from memory after a store at such a load, and so on: `levels` loads within one another.
+fn nested(alloc: Global, levels: u32) -> Result<Word, NoMemory> {
+    let mut t = Word::Const(0x1000);
+    for _ in 0..levels {
+        let m = Mem::Store(
+            Width::B8,
+            Box::new(alloc, Mem::Var(0))?,
+            Box::new(alloc, Word::Const(0x1000))?,
+            Box::new(alloc, t)?,
+        );
+        t = Word::Load(
+            Width::B8,
+            Box::new(alloc, m)?,
+            Box::new(alloc, Word::Const(0x1000))?,
+        );
+    }
+    Ok(t)
+}
+
+/// Loads within one another take time in their number.
+#[test]
+fn nested_loads(rt: HostRuntime) -> Result<(), Fail> {
+    let alloc = rt.alloc();
+    let mut memory = ByteMap::new(alloc);
+    memory.place(0x1000, &[1, 2, 3, 4, 5, 6, 7, 8])?;
+    let mems = [memory];
+    let env = Env {
+        words: &[],
+        mems: &mems,
+    };
+    let t = nested(alloc, 31)?;
+    assert!(rt; is_word_in_scope(&t, 0, 1));
+    assert_eq!(rt; depth_word(&t), 63);
+    assert_eq!(rt; value(&t, &env), 0x1000);
+    let copy = copy_word(alloc, &t)?;
+    assert!(rt; same_word(&copy, &t));
+    Ok(())
+}
+
+#[test]
+fn copies_at_any_depth(rt: HostRuntime) -> Result<(), Fail> {
+    let alloc = rt.alloc();
+    let t = tower(alloc, 1000)?;
+    let copy = copy_word(alloc, &t)?;
+    assert!(rt; same_word(&copy, &t));
+    let m = stored(alloc, 3)?;
+    let memory = copy_mem(alloc, &m)?;
+    assert!(rt; same_mem(&memory, &m));
+    let c = Cond::Neg(Box::new(
+        alloc,
+        Cond::Inside(Width::B2, Box::new(alloc, m)?, Box::new(alloc, t)?),
+    )?);
+    let condition = copy_cond(alloc, &c)?;
+    assert!(rt; same_cond(&condition, &c));
+    Ok(())
+}

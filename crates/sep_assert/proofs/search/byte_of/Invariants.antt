@@ -1,6 +1,6 @@
 use Rattle.std.proofs.Common.{◌≡◌, drop}
 use Rattle.rv_words.specs.Ranges.{range_bytes}
-use Rattle.sep_assert.proofs.code.byte_of.Given as goal
+use Rattle.sep_assert.proofs.search.byte_of.Given as goal
 
 -- those so far have no byte there
 abbrev pub invariant-loop-range : goal.invariant-loop-range
