@@ -14,6 +14,10 @@ use Rattle.proof_text.specs.Limits.{texts}
 use Rattle.proof_text.specs.Front.{AreRead}
 use Rattle.mcdec.specs.declared.answer.Answer.{Answer}
 use Rattle.mcdec.specs.declared.answer.Answer.TheVariants as answer
+use Rattle.mcdec.specs.declared.answer.EvalAnswer.{EvalAnswer}
+use Rattle.mcdec.specs.declared.answer.EvalAnswer.TheVariants as ev
+use Rattle.mcdec.specs.declared.answer.RunAnswer.{RunAnswer}
+use Rattle.mcdec.specs.declared.answer.RunAnswer.TheVariants as ra
 use Rattle.mcdec.specs.Command.{Command, Eval, Run, Arg, Words, IsNoCommand, arg_word, givens, ranges}
 use Rattle.elf_image.specs.declared.fault.ElfFault.{ElfFault}
 use Rattle.elf_image.specs.Fault.{IsReadable, fault_of}
@@ -25,9 +29,10 @@ use Rattle.rv_machine.specs.declared.running.RunEnd.{RunEnd}
 use Rattle.rv_machine.specs.declared.running.RunEnd.TheVariants as end
 use Rattle.rv_machine.proofs.RunLemmas.{ends-once}
 use Rattle.mcdec.specs.Memory.{held_at}
-use Rattle.mcdec.specs.RunAnswer.{elf_limit, begin, shown, StandsFor, start_refused, RunGives}
-use Rattle.mcdec.specs.EvalAnswer.{AreWellFormed, FirstNamed, IsTextOf, NoneNamed, proof_limit, listed, arguments_of, ranges_in, GroupGives, TextGives, EvalGives}
-use Rattle.mcdec.specs.Answer.{CommandGives, Gives, ForContents, IsDetermined}
+use Rattle.mcdec.specs.RunAnswer.{elf_limit, begin, shown_after, StandsFor, RunGives}
+use Rattle.mcdec.specs.EvalAnswer.{AreWellFormed, FirstNamed, IsTextOf, NoneNamed, proof_limit, listed, arguments_of, shown_of, EvalGives}
+use Rattle.mcdec.specs.Search.{GroupGives}
+use Rattle.mcdec.specs.Answer.{Gives, IsDetermined}
 use Rattle.mcdec.specs.Printed.{IsPrinted, IsDelivered}
 use Rattle.mcdec.proofs.ArgWords.{args-unique}
 use Rattle.mcdec.proofs.Words.{other-name}
@@ -68,32 +73,22 @@ words-unique ws (Run elf start until steps args) (Eval proof name turns args') a
 
 -- ---- groups
 
-abbrev answer_for : GroupTree → ℕ → List Arg → Outcome → Answer
-answer_for g turns args (Done exit pc results left) = answer.Evaluated (turns - left) pc g.regs results.words (ranges_in results.mems (ranges args))
-answer_for g turns args Turns = answer.TurnsUsed
-answer_for g turns args (SideFalse def ordinal) = answer.SideFalse def ordinal
-answer_for g turns args NoOutcome = answer.NoMemory
+abbrev answer_for : GroupTree → ℕ → List Arg → Outcome → EvalAnswer
+answer_for g turns args (Done exit pc results left) = ev.Done (shown_of g args (turns - left) pc results)
+answer_for g turns args Turns = ev.TurnsUsed
+answer_for g turns args (SideFalse def ordinal) = ev.SideFalse def ordinal
+answer_for g turns args NoOutcome = ev.NoFunction
 
-group-case : (g : GroupTree) (turns : ℕ) (args : List Arg) (a : Answer) → GroupGives g turns args a → a ≡ answer_for g turns args (eval g (listed g) (arguments_of args g) turns)
-group-case g turns args answer.TurnsUsed h = rw h refl
-group-case g turns args (answer.SideFalse def ordinal) h = rw h refl
-group-case g turns args (answer.Evaluated used pc registers words memory) h = rw h.3 (λ i. answer.Evaluated (h.4 i) pc (h.5 i) (h.6 i) (h.7 i))
-group-case g turns args (answer.IllFormed group def) h = absurd h
-group-case g turns args answer.NoFunction h = absurd h
-group-case g turns args answer.NotACommand h = absurd h
-group-case g turns args (answer.UnreadableText line) h = absurd h
-group-case g turns args answer.ReadFault h = absurd h
-group-case g turns args answer.NoMemory h = absurd h
-group-case g turns args answer.OverLimitProof h = absurd h
-group-case g turns args (answer.Met k pc registers words memory) h = absurd h
-group-case g turns args (answer.NoSuchStart start) h = absurd h
-group-case g turns args (answer.AmbiguousStart start low high) h = absurd h
-group-case g turns args (answer.StuckAfter k why) h = absurd h
-group-case g turns args (answer.UnreadableElf why) h = absurd h
-group-case g turns args answer.OverLimitElf h = absurd h
-group-case g turns args answer.StepsUsed h = absurd h
+group-case : (g : GroupTree) (turns : ℕ) (args : List Arg) (a : EvalAnswer) → GroupGives g turns args a → a ≡ answer_for g turns args (eval g (listed g) (arguments_of args g) turns)
+group-case g turns args ev.OverLimit h = absurd h
+group-case g turns args (ev.Unreadable line) h = absurd h
+group-case g turns args (ev.IllFormed group def) h = absurd h
+group-case g turns args ev.NoFunction h = absurd h
+group-case g turns args (ev.SideFalse def ordinal) h = rw h refl
+group-case g turns args ev.TurnsUsed h = rw h refl
+group-case g turns args (ev.Done shown) h = rw h.4 (ap ev.Done h.5)
 
-group-unique : (g : GroupTree) (turns : ℕ) (args : List Arg) (a b : Answer) → GroupGives g turns args a → GroupGives g turns args b → a ≡ b
+group-unique : (g : GroupTree) (turns : ℕ) (args : List Arg) (a b : EvalAnswer) → GroupGives g turns args a → GroupGives g turns args b → a ≡ b
 group-unique g turns args a b h k = group-case g turns args a h ∙ sym (group-case g turns args b k)
 
 -- ---- names
@@ -113,10 +108,10 @@ none-has : (name : List ℕ) (before behind : List GroupTree) (g : GroupTree) �
 none-has name [] behind g h named = h.0 named
 none-has name (x ∷ before) behind g h named = none-has name before behind g h.1 named
 
-abbrev Named : List ℕ → ℕ → List Arg → List GroupTree → Answer → Type 0
-Named name turns args gs a = (NoneNamed name gs × (a ≡ answer.NoFunction)) ⊎ ((g : GroupTree) × FirstNamed name gs g × GroupGives g turns args a)
+abbrev Named : List ℕ → ℕ → List Arg → List GroupTree → EvalAnswer → Type 0
+Named name turns args gs a = (NoneNamed name gs × (a ≡ ev.NoFunction)) ⊎ ((g : GroupTree) × FirstNamed name gs g × GroupGives g turns args a)
 
-named-unique : (name : List ℕ) (turns : ℕ) (args : List Arg) (gs : List GroupTree) (a b : Answer) → Named name turns args gs a → Named name turns args gs b → a ≡ b
+named-unique : (name : List ℕ) (turns : ℕ) (args : List Arg) (gs : List GroupTree) (a b : EvalAnswer) → Named name turns args gs a → Named name turns args gs b → a ≡ b
 named-unique name turns args gs a b (inl h) (inl k) = h.1 ∙ sym k.1
 named-unique name turns args gs a b (inl h) (inr k) = absurd (none-has name k.1.before k.1.behind k.0 (subst (NoneNamed name) k.1.parts h.0) k.1.named)
 named-unique name turns args gs a b (inr h) (inl k) = absurd (none-has name h.1.before h.1.behind h.0 (subst (NoneNamed name) h.1.parts k.0) h.1.named)
@@ -127,36 +122,17 @@ named-unique name turns args gs a b (inr h) (inr k) =
 -- ---- texts
 
 -- what an answer says of a text: a bad line, a definition that isn't well-formed, or its groups
-abbrev BadText : List ℕ → Answer → Type 0
-BadText p a = (n : ℕ) × IsBadAt texts p n × ((gs : List GroupTree) → AreRead p gs → AreWellFormed gs) × (a ≡ answer.UnreadableText n)
+abbrev BadText : List ℕ → EvalAnswer → Type 0
+BadText p a = (n : ℕ) × IsBadAt texts p n × ((gs : List GroupTree) → AreRead p gs → AreWellFormed gs) × (a ≡ ev.Unreadable n)
 
-abbrev BadDef : List ℕ → Answer → Type 0
-BadDef p a = (gs : List GroupTree) × (g : GroupTree) × (def : ℕ) × AreRead p (gs ++ g ∷ []) × AreWellFormed gs × IsFirstIllFormed g def × (a ≡ answer.IllFormed (length gs) def)
+abbrev BadDef : List ℕ → EvalAnswer → Type 0
+BadDef p a = (gs : List GroupTree) × (g : GroupTree) × (def : ℕ) × AreRead p (gs ++ g ∷ []) × AreWellFormed gs × IsFirstIllFormed g def × (a ≡ ev.IllFormed (length gs) def)
 
-abbrev GoodText : List ℕ → List ℕ → ℕ → List Arg → Answer → Type 0
+abbrev GoodText : List ℕ → List ℕ → ℕ → List Arg → EvalAnswer → Type 0
 GoodText p name turns args a = (gs : List GroupTree) × IsTextOf p gs × Named name turns args gs a
 
-abbrev TextCase : List ℕ → List ℕ → ℕ → List Arg → Answer → Type 0
+abbrev TextCase : List ℕ → List ℕ → ℕ → List Arg → EvalAnswer → Type 0
 TextCase p name turns args a = BadText p a ⊎ (BadDef p a ⊎ GoodText p name turns args a)
-
-text-case : (p name : List ℕ) (turns : ℕ) (args : List Arg) (a : Answer) → TextGives p name turns args a → TextCase p name turns args a
-text-case p name turns args (answer.UnreadableText line) h = inl (line, h.0, h.1, refl)
-text-case p name turns args (answer.IllFormed group def) (gs, g, read, well, same, first) = inr (inl (gs, g, def, read, well, first, ap (λ (n : ℕ). answer.IllFormed n def) same))
-text-case p name turns args answer.NoFunction (gs, are, none) = inr (inr (gs, are, inl (none, refl)))
-text-case p name turns args answer.TurnsUsed (gs, are, g, named, gives) = inr (inr (gs, are, inr (g, named, gives)))
-text-case p name turns args (answer.SideFalse def ordinal) (gs, are, g, named, gives) = inr (inr (gs, are, inr (g, named, gives)))
-text-case p name turns args (answer.Evaluated used pc registers words memory) (gs, are, g, named, gives) = inr (inr (gs, are, inr (g, named, gives)))
-text-case p name turns args answer.NotACommand h = absurd h.4
-text-case p name turns args answer.ReadFault h = absurd h.4
-text-case p name turns args answer.NoMemory h = absurd h.4
-text-case p name turns args answer.OverLimitProof h = absurd h.4
-text-case p name turns args (answer.Met k pc registers words memory) h = absurd h.4
-text-case p name turns args (answer.NoSuchStart start) h = absurd h.4
-text-case p name turns args (answer.AmbiguousStart start low high) h = absurd h.4
-text-case p name turns args (answer.StuckAfter k why) h = absurd h.4
-text-case p name turns args (answer.UnreadableElf why) h = absurd h.4
-text-case p name turns args answer.OverLimitElf h = absurd h.4
-text-case p name turns args answer.StepsUsed h = absurd h.4
 
 -- a group that isn't well-formed isn't among those that are
 last-of : (F : GroupTree → Type 0) (gs : List GroupTree) (g : GroupTree) → AllByRecursion F (gs ++ g ∷ []) → F g
@@ -200,10 +176,10 @@ same-last (y ∷ gs) (x ∷ hs) more g h e c first well =
     let r = same-last gs hs more g h rest c first well.1 in
     (omega (arith, r.0), r.1)
 
-bad-texts : (p : List ℕ) (a b : Answer) → BadText p a → BadText p b → a ≡ b
-bad-texts p a b h k = h.3 ∙ ap (λ (n : ℕ). answer.UnreadableText n) (bad-once texts p h.0 k.0 h.1 k.1) ∙ sym k.3
+bad-texts : (p : List ℕ) (a b : EvalAnswer) → BadText p a → BadText p b → a ≡ b
+bad-texts p a b h k = h.3 ∙ ap (λ (n : ℕ). ev.Unreadable n) (bad-once texts p h.0 k.0 h.1 k.1) ∙ sym k.3
 
-bad-defs : (p : List ℕ) (a b : Answer) → BadDef p a → BadDef p b → a ≡ b
+bad-defs : (p : List ℕ) (a b : EvalAnswer) → BadDef p a → BadDef p b → a ≡ b
 bad-defs p a b (gs, g, c, read, well, first, is) (hs, h, d, read', well', first', is') =
     elim (fronts p (gs ++ g ∷ []) (hs ++ h ∷ []) read read') [
       | inl m ↦ same (same-last gs hs m.0 g h m.1 c first well')
@@ -211,23 +187,23 @@ bad-defs p a b (gs, g, c, read, well, first, is) (hs, h, d, read', well', first'
     ]
   where
     same : (length gs ≡ length hs) × (g ≡ h) → a ≡ b
-    same r = is ∙ (λ i. answer.IllFormed (r.0 i) (first-def h c d (subst (λ (x : GroupTree). IsFirstIllFormed x c) r.1 first) first' i)) ∙ sym is'
+    same r = is ∙ (λ i. ev.IllFormed (r.0 i) (first-def h c d (subst (λ (x : GroupTree). IsFirstIllFormed x c) r.1 first) first' i)) ∙ sym is'
 
-bad-or-def : (p : List ℕ) (a b : Answer) → BadText p a → BadDef p b → ⊥
+bad-or-def : (p : List ℕ) (a b : EvalAnswer) → BadText p a → BadDef p b → ⊥
 bad-or-def p a b h (gs, g, c, read, well, first, is) = ill g c first (last-of IsWellFormed gs g (h.2 (gs ++ g ∷ []) read))
 
-def-or-good : (p name : List ℕ) (turns : ℕ) (args : List Arg) (a b : Answer) → BadDef p a → GoodText p name turns args b → ⊥
+def-or-good : (p name : List ℕ) (turns : ℕ) (args : List Arg) (a b : EvalAnswer) → BadDef p a → GoodText p name turns args b → ⊥
 def-or-good p name turns args a b (gs, g, c, read, well, first, is) k =
     let m = text-front p k.0 (gs ++ g ∷ []) k.1.0 k.1.1 read in not-front gs g c m.0 k.0 first m.1 k.1.2
 
-bad-or-good : (p name : List ℕ) (turns : ℕ) (args : List Arg) (a b : Answer) → BadText p a → GoodText p name turns args b → ⊥
+bad-or-good : (p name : List ℕ) (turns : ℕ) (args : List Arg) (a b : EvalAnswer) → BadText p a → GoodText p name turns args b → ⊥
 bad-or-good p name turns args a b h k = in-none p h.0 h.1 (k.0, k.1.0, k.1.1)
   where
     in-none : (p : List ℕ) (n : ℕ) → IsBadAt texts p n → InGrammar texts p → ⊥
     in-none p zero h g = absurd h
     in-none p (suc n) h g = h.0 g
 
-text-unique : (p name : List ℕ) (turns : ℕ) (args : List Arg) (a b : Answer) → TextCase p name turns args a → TextCase p name turns args b → a ≡ b
+text-unique : (p name : List ℕ) (turns : ℕ) (args : List Arg) (a b : EvalAnswer) → TextCase p name turns args a → TextCase p name turns args b → a ≡ b
 text-unique p name turns args a b (inl h) (inl k) = bad-texts p a b h k
 text-unique p name turns args a b (inl h) (inr (inl k)) = absurd (bad-or-def p a b h k)
 text-unique p name turns args a b (inl h) (inr (inr k)) = absurd (bad-or-good p name turns args a b h k)
@@ -241,48 +217,40 @@ text-unique p name turns args a b (inr (inr h)) (inr (inr k)) =
 
 -- ---- files
 
-abbrev FileCase : List ℕ → List ℕ → ℕ → List Arg → Answer → Type 0
-FileCase p name turns args a = ((proof_limit < length p) × (a ≡ answer.OverLimitProof)) ⊎ ((length p ≤ proof_limit) × TextGives p name turns args a)
+abbrev FileCase : List ℕ → List ℕ → ℕ → List Arg → EvalAnswer → Type 0
+FileCase p name turns args a = ((proof_limit < length p) × (a ≡ ev.OverLimit)) ⊎ ((length p ≤ proof_limit) × TextCase p name turns args a)
 
-file-case : (p name : List ℕ) (turns : ℕ) (args : List Arg) (a : Answer) → EvalGives p name turns args a → FileCase p name turns args a
-file-case p name turns args answer.OverLimitProof h = inl (h, refl)
-file-case p name turns args (answer.UnreadableText line) h = inr h
-file-case p name turns args (answer.IllFormed group def) h = inr h
-file-case p name turns args (answer.SideFalse def ordinal) h = inr h
-file-case p name turns args answer.NoFunction h = inr h
-file-case p name turns args answer.TurnsUsed h = inr h
-file-case p name turns args (answer.Evaluated used pc registers words memory) h = inr h
-file-case p name turns args answer.NotACommand h = inr h
-file-case p name turns args answer.ReadFault h = inr h
-file-case p name turns args answer.NoMemory h = inr h
-file-case p name turns args (answer.Met k pc registers words memory) h = inr h
-file-case p name turns args (answer.NoSuchStart start) h = inr h
-file-case p name turns args (answer.AmbiguousStart start low high) h = inr h
-file-case p name turns args (answer.StuckAfter k why) h = inr h
-file-case p name turns args (answer.UnreadableElf why) h = inr h
-file-case p name turns args answer.OverLimitElf h = inr h
-file-case p name turns args answer.StepsUsed h = inr h
+file-case : (p name : List ℕ) (turns : ℕ) (args : List Arg) (a : EvalAnswer) → EvalGives p name turns args a → FileCase p name turns args a
+file-case p name turns args ev.OverLimit h = inl (h, refl)
+file-case p name turns args (ev.Unreadable line) (small, bad, well) = inr (small, inl (line, bad, well, refl))
+file-case p name turns args (ev.IllFormed group def) (small, gs, g, read, well, same, first) =
+    inr (small, inr (inl (gs, g, def, read, well, first, ap (λ (n : ℕ). ev.IllFormed n def) same)))
+file-case p name turns args ev.NoFunction (small, gs, are, none) = inr (small, inr (inr (gs, are, inl (none, refl))))
+file-case p name turns args (ev.SideFalse def ordinal) (small, g, named, e) = inr (small, inr (inr (named.groups, named.spelled, inr (g, named.first, e))))
+file-case p name turns args ev.TurnsUsed (small, g, named, e) = inr (small, inr (inr (named.groups, named.spelled, inr (g, named.first, e))))
+file-case p name turns args (ev.Done shown) (small, g, named, exit, pc, left, results, e, is) =
+    inr (small, inr (inr (named.groups, named.spelled, inr (g, named.first, (exit, pc, left, results, e, is)))))
 
 over : (n limit : ℕ) → limit < n → n ≤ limit → ⊥
 over n limit a b = omega arith
 
-file-unique : (p name : List ℕ) (turns : ℕ) (args : List Arg) (a b : Answer) → FileCase p name turns args a → FileCase p name turns args b → a ≡ b
+file-unique : (p name : List ℕ) (turns : ℕ) (args : List Arg) (a b : EvalAnswer) → FileCase p name turns args a → FileCase p name turns args b → a ≡ b
 file-unique p name turns args a b (inl h) (inl k) = h.1 ∙ sym k.1
 file-unique p name turns args a b (inl h) (inr k) = absurd (over (length p) proof_limit h.0 k.0)
 file-unique p name turns args a b (inr h) (inl k) = absurd (over (length p) proof_limit k.0 h.0)
-file-unique p name turns args a b (inr h) (inr k) = text-unique p name turns args a b (text-case p name turns args a h.1) (text-case p name turns args b k.1)
+file-unique p name turns args a b (inr h) (inr k) = text-unique p name turns args a b h.1 k.1
 
 -- ---- runs
 
-abbrev answer_at : List Arg → State → RunEnd → Answer
-answer_at args t (end.Met k) = answer.Met k t.pc (shown (givens args) t) (map t.reg (shown (givens args) t)) (map (held_at t.mem) (ranges args))
-answer_at args t (end.Stuck k why) = answer.StuckAfter k why
-answer_at args t end.Steps = answer.StepsUsed
+abbrev answer_at : List Arg → State → RunEnd → RunAnswer
+answer_at args t (end.Met k) = ra.Met (shown_after args k t)
+answer_at args t (end.Stuck k why) = ra.Stuck k why
+answer_at args t end.Steps = ra.StepsUsed
 
-abbrev MachineCase : ℕ → ℕ → List Arg → State → Answer → Type 0
+abbrev MachineCase : ℕ → ℕ → List Arg → State → RunAnswer → Type 0
 MachineCase until steps args s a = (t : State) × (e : RunEnd) × EndsIn until steps s t e × (a ≡ answer_at args t e)
 
-machine-unique : (until steps : ℕ) (args : List Arg) (s : State) (a b : Answer) → MachineCase until steps args s a → MachineCase until steps args s b → a ≡ b
+machine-unique : (until steps : ℕ) (args : List Arg) (s : State) (a b : RunAnswer) → MachineCase until steps args s a → MachineCase until steps args s b → a ≡ b
 machine-unique until steps args s a b h k =
     let p = ends-once until steps s h.0 k.0 h.1 k.1 h.2 k.2 in h.3 ∙ (λ i. answer_at args (p.0 i) (p.1 i)) ∙ sym k.3
 
@@ -308,20 +276,20 @@ err_is f g e = cc
 ok_err : (a : ℕ) (f : NameFault) → ok_value a ≡ err_value f → ⊥
 ok_err a f e = cc
 
-abbrev StartCase : List ℕ → List ℕ → ℕ → ℕ → List Arg → Answer → Type 0
+abbrev StartCase : List ℕ → List ℕ → ℕ → ℕ → List Arg → RunAnswer → Type 0
 StartCase file start until steps args a =
-    ((f : NameFault) × StandsFor file start (Err f) × (a ≡ start_refused start f)) ⊎ ((n : ℕ) × StandsFor file start (Ok n) × MachineCase until steps args (begin file args n) a)
+    ((f : NameFault) × StandsFor file start (Err f) × (a ≡ ra.StartRefused start f)) ⊎ ((n : ℕ) × StandsFor file start (Ok n) × MachineCase until steps args (begin file args n) a)
 
-start-unique : (file start : List ℕ) (until steps : ℕ) (args : List Arg) (a b : Answer) → StartCase file start until steps args a → StartCase file start until steps args b → a ≡ b
-start-unique file start until steps args a b (inl h) (inl k) = h.2 ∙ ap (start_refused start) (err_is h.0 k.0 (stands-once file start (Err h.0) (Err k.0) h.1 k.1)) ∙ sym k.2
+start-unique : (file start : List ℕ) (until steps : ℕ) (args : List Arg) (a b : RunAnswer) → StartCase file start until steps args a → StartCase file start until steps args b → a ≡ b
+start-unique file start until steps args a b (inl h) (inl k) = h.2 ∙ ap (ra.StartRefused start) (err_is h.0 k.0 (stands-once file start (Err h.0) (Err k.0) h.1 k.1)) ∙ sym k.2
 start-unique file start until steps args a b (inl h) (inr k) = absurd (ok_err k.0 h.0 (stands-once file start (Ok k.0) (Err h.0) k.1 h.1))
 start-unique file start until steps args a b (inr h) (inl k) = absurd (ok_err h.0 k.0 (stands-once file start (Ok h.0) (Err k.0) h.1 k.1))
 start-unique file start until steps args a b (inr h) (inr k) =
     let n : h.0 ≡ k.0 = ok_is h.0 k.0 (stands-once file start (Ok h.0) (Ok k.0) h.1 k.1) in
     machine-unique until steps args (begin file args k.0) a b (subst (λ (x : ℕ). MachineCase until steps args (begin file args x) a) n h.2) k.2
 
-abbrev ImageCase : List ℕ → List ℕ → ℕ → ℕ → List Arg → Answer → Type 0
-ImageCase file start until steps args a = ((why : ElfFault) × (fault_of file ≡ Some why) × (a ≡ answer.UnreadableElf why)) ⊎ (IsReadable file × StartCase file start until steps args a)
+abbrev ImageCase : List ℕ → List ℕ → ℕ → ℕ → List Arg → RunAnswer → Type 0
+ImageCase file start until steps args a = ((why : ElfFault) × (fault_of file ≡ Some why) × (a ≡ ra.Unreadable why)) ⊎ (IsReadable file × StartCase file start until steps args a)
 
 some_fault : (x y : ElfFault) → Some x ≡ Some y → x ≡ y
 some_fault x y e = cc
@@ -329,37 +297,24 @@ some_fault x y e = cc
 none_fault : (x : ElfFault) → None ≡ Some x → ⊥
 none_fault x e = cc
 
-image-unique : (file start : List ℕ) (until steps : ℕ) (args : List Arg) (a b : Answer) → ImageCase file start until steps args a → ImageCase file start until steps args b → a ≡ b
-image-unique file start until steps args a b (inl h) (inl k) = h.2 ∙ ap answer.UnreadableElf (some_fault h.0 k.0 (sym h.1 ∙ k.1)) ∙ sym k.2
+image-unique : (file start : List ℕ) (until steps : ℕ) (args : List Arg) (a b : RunAnswer) → ImageCase file start until steps args a → ImageCase file start until steps args b → a ≡ b
+image-unique file start until steps args a b (inl h) (inl k) = h.2 ∙ ap ra.Unreadable (some_fault h.0 k.0 (sym h.1 ∙ k.1)) ∙ sym k.2
 image-unique file start until steps args a b (inl h) (inr k) = absurd (none_fault h.0 (sym k.0 ∙ h.1))
 image-unique file start until steps args a b (inr h) (inl k) = absurd (none_fault k.0 (sym h.0 ∙ k.1))
 image-unique file start until steps args a b (inr h) (inr k) = start-unique file start until steps args a b h.1 k.1
 
-abbrev RunCase : List ℕ → List ℕ → ℕ → ℕ → List Arg → Answer → Type 0
-RunCase file start until steps args a = ((elf_limit < length file) × (a ≡ answer.OverLimitElf)) ⊎ ((length file ≤ elf_limit) × ImageCase file start until steps args a)
+abbrev RunCase : List ℕ → List ℕ → ℕ → ℕ → List Arg → RunAnswer → Type 0
+RunCase file start until steps args a = ((elf_limit < length file) × (a ≡ ra.OverLimit)) ⊎ ((length file ≤ elf_limit) × ImageCase file start until steps args a)
 
-run-case : (file start : List ℕ) (until steps : ℕ) (args : List Arg) (a : Answer) → RunGives file start until steps args a → RunCase file start until steps args a
-run-case file start until steps args (answer.Evaluated used pc registers words memory) h = absurd h.1.1.2
-run-case file start until steps args (answer.Met k pc registers words memory) h =
-    let m = h.1.1.2 in
-    inr (h.0, inr (h.1.0, inr (h.1.1.0, h.1.1.1, (m.0, end.Met k, m.1, λ i. answer.Met k (m.2 i) (m.3 i) ((m.4 ∙ ap (map m.0.reg) m.3) i) (m.5 i)))))
-run-case file start until steps args answer.NoFunction h = absurd h.1.1.2
-run-case file start until steps args (answer.IllFormed group def) h = absurd h.1.1.2
-run-case file start until steps args (answer.SideFalse def ordinal) h = absurd h.1.1.2
-run-case file start until steps args (answer.NoSuchStart name) h = inr (h.0, inr (h.1.0, inl (NoSuch, h.1.1.0, ap answer.NoSuchStart h.1.1.1)))
-run-case file start until steps args (answer.AmbiguousStart name low high) h = inr (h.0, inr (h.1.0, inl (Ambiguous low high, h.1.1.0, λ i. answer.AmbiguousStart (h.1.1.1 i) low high)))
-run-case file start until steps args (answer.StuckAfter k why) h = let m = h.1.1.2 in inr (h.0, inr (h.1.0, inr (h.1.1.0, h.1.1.1, (m.0, end.Stuck k why, m.1, refl))))
-run-case file start until steps args answer.NotACommand h = absurd h.1.1.2
-run-case file start until steps args (answer.UnreadableText line) h = absurd h.1.1.2
-run-case file start until steps args (answer.UnreadableElf why) h = inr (h.0, inl (why, h.1, refl))
-run-case file start until steps args answer.ReadFault h = absurd h.1.1.2
-run-case file start until steps args answer.NoMemory h = absurd h.1.1.2
-run-case file start until steps args answer.OverLimitProof h = absurd h.1.1.2
-run-case file start until steps args answer.OverLimitElf h = inl (h, refl)
-run-case file start until steps args answer.TurnsUsed h = absurd h.1.1.2
-run-case file start until steps args answer.StepsUsed h = let m = h.1.1.2 in inr (h.0, inr (h.1.0, inr (h.1.1.0, h.1.1.1, (m.0, end.Steps, m.1, refl))))
+run-case : (file start : List ℕ) (until steps : ℕ) (args : List Arg) (a : RunAnswer) → RunGives file start until steps args a → RunCase file start until steps args a
+run-case file start until steps args ra.OverLimit h = inl (h, refl)
+run-case file start until steps args (ra.Unreadable why) h = inr (h.0, inl (why, h.1, refl))
+run-case file start until steps args (ra.StartRefused name why) (loaded, same, stands) = inr (loaded.0, inr (loaded.1, inl (why, stands, ap (λ (n : List ℕ). ra.StartRefused n why) same)))
+run-case file start until steps args (ra.Stuck k why) (loaded, t, r) = inr (loaded.0, inr (loaded.1, inr (r.at, r.stands, (t, end.Stuck k why, r.ends, refl))))
+run-case file start until steps args ra.StepsUsed (loaded, t, r) = inr (loaded.0, inr (loaded.1, inr (r.at, r.stands, (t, end.Steps, r.ends, refl))))
+run-case file start until steps args (ra.Met shown) (loaded, t, k, r, is) = inr (loaded.0, inr (loaded.1, inr (r.at, r.stands, (t, end.Met k, r.ends, ap ra.Met is))))
 
-run-unique : (file start : List ℕ) (until steps : ℕ) (args : List Arg) (a b : Answer) → RunCase file start until steps args a → RunCase file start until steps args b → a ≡ b
+run-unique : (file start : List ℕ) (until steps : ℕ) (args : List Arg) (a b : RunAnswer) → RunCase file start until steps args a → RunCase file start until steps args b → a ≡ b
 run-unique file start until steps args a b (inl h) (inl k) = h.1 ∙ sym k.1
 run-unique file start until steps args a b (inl h) (inr k) = absurd (over (length file) elf_limit h.0 k.0)
 run-unique file start until steps args a b (inr h) (inl k) = absurd (over (length file) elf_limit k.0 h.0)
@@ -368,37 +323,30 @@ run-unique file start until steps args a b (inr h) (inr k) = image-unique file s
 some_file : (x y : List ℕ) → Some x ≡ Some y → x ≡ y
 some_file x y e = cc
 
+-- the answer of a command, where the names hold these files
+abbrev CommandGives : Contents → Command → Answer → Type 0
+CommandGives files (Eval proof name turns args) a = (x : EvalAnswer) × (a ≡ answer.Eval x) × ((p : List ℕ) × (files proof ≡ Some p) × EvalGives p name turns args x)
+CommandGives files (Run elf start until steps args) a = (x : RunAnswer) × (a ≡ answer.Run x) × ((p : List ℕ) × (files elf ≡ Some p) × RunGives p start until steps args x)
+
 command-unique : (files : Contents) (c : Command) (a b : Answer) → CommandGives files c a → CommandGives files c b → a ≡ b
-command-unique files (Eval proof name turns args) a b h k =
-    let same : h.0 ≡ k.0 = some_file h.0 k.0 (sym h.1 ∙ k.1) in
-    file-unique k.0 name turns args a b (file-case k.0 name turns args a (subst (λ (p : List ℕ). EvalGives p name turns args a) same h.2)) (file-case k.0 name turns args b k.2)
-command-unique files (Run elf start until steps gs) a b h k =
-    let same : h.0 ≡ k.0 = some_file h.0 k.0 (sym h.1 ∙ k.1) in
-    run-unique k.0 start until steps gs a b (run-case k.0 start until steps gs a (subst (λ (p : List ℕ). RunGives p start until steps gs a) same h.2)) (run-case k.0 start until steps gs b k.2)
+command-unique files (Eval proof name turns args) a b (x, ax, (p, held, h)) (y, by, (q, holds, k)) =
+    let same : p ≡ q = some_file p q (sym held ∙ holds) in
+    ax ∙ ap answer.Eval (file-unique q name turns args x y (file-case q name turns args x (subst (λ (r : List ℕ). EvalGives r name turns args x) same h)) (file-case q name turns args y k)) ∙ sym by
+command-unique files (Run elf start until steps gs) a b (x, ax, (p, held, h)) (y, by, (q, holds, k)) =
+    let same : p ≡ q = some_file p q (sym held ∙ holds) in
+    ax ∙ ap answer.Run (run-unique q start until steps gs x y (run-case q start until steps gs x (subst (λ (r : List ℕ). RunGives r start until steps gs x) same h)) (run-case q start until steps gs y k)) ∙ sym by
 
 -- ---- answers
 
 abbrev WordsCase : Contents → List (List ℕ) → Answer → Type 0
 WordsCase files ws a = (IsNoCommand ws × (a ≡ answer.NotACommand)) ⊎ ((c : Command) × Words ws c × CommandGives files c a)
 
-words-case : (files : Contents) (ws : List (List ℕ)) (rose : Type 0) (a : Answer) → IsDetermined a → Gives files ws rose a → WordsCase files ws a
+words-case : (files : Contents) (ws : List (List ℕ)) (rose : Type 0) (a : Answer) → IsDetermined a → Gives (Some files) ws rose a → WordsCase files ws a
 words-case files ws rose answer.NotACommand d h = inl (h, refl)
 words-case files ws rose answer.ReadFault d h = absurd d
 words-case files ws rose answer.NoMemory d h = absurd d
-words-case files ws rose answer.OverLimitProof d h = inr h
-words-case files ws rose (answer.UnreadableText line) d h = inr h
-words-case files ws rose answer.NoFunction d h = inr h
-words-case files ws rose (answer.IllFormed group def) d h = inr h
-words-case files ws rose (answer.SideFalse def ordinal) d h = inr h
-words-case files ws rose answer.TurnsUsed d h = inr h
-words-case files ws rose (answer.Evaluated used pc registers words memory) d h = inr h
-words-case files ws rose (answer.Met k pc registers words memory) d h = inr h
-words-case files ws rose (answer.NoSuchStart start) d h = inr h
-words-case files ws rose (answer.AmbiguousStart start low high) d h = inr h
-words-case files ws rose (answer.StuckAfter k why) d h = inr h
-words-case files ws rose (answer.UnreadableElf why) d h = inr h
-words-case files ws rose answer.OverLimitElf d h = inr h
-words-case files ws rose answer.StepsUsed d h = inr h
+words-case files ws rose (answer.Eval x) d (proof, name, turns, args, w, h) = inr (Eval proof name turns args, w, (x, refl, h))
+words-case files ws rose (answer.Run x) d (elf, start, until, steps, args, w, h) = inr (Run elf start until steps args, w, (x, refl, h))
 
 case-unique : (files : Contents) (ws : List (List ℕ)) (a b : Answer) → WordsCase files ws a → WordsCase files ws b → a ≡ b
 case-unique files ws a b (inl h) (inl k) = h.1 ∙ sym k.1
@@ -407,7 +355,7 @@ case-unique files ws a b (inr h) (inl k) = absurd (k.0 h.0 h.1)
 case-unique files ws a b (inr h) (inr k) = command-unique files k.0 a b (subst (λ (c : Command). CommandGives files c a) (words-unique ws h.0 k.0 h.1 k.1) h.2) k.2
 
 -- the answer that the words and the files give
-pub answer-unique : (files : Contents) (ws : List (List ℕ)) (rose rose' : Type 0) (a b : Answer) → IsDetermined a → IsDetermined b → Gives files ws rose a → Gives files ws rose' b → a ≡ b
+pub answer-unique : (files : Contents) (ws : List (List ℕ)) (rose rose' : Type 0) (a b : Answer) → IsDetermined a → IsDetermined b → Gives (Some files) ws rose a → Gives (Some files) ws rose' b → a ≡ b
 answer-unique files ws rose rose' a b d d' h k = case-unique files ws a b (words-case files ws rose a d h) (words-case files ws rose' b d' k)
 
 -- ---- the top call
@@ -423,32 +371,20 @@ comes a b result old new same (inr (inr e, h)) = inr (inr (inr e))
 other-comes : (a b : Answer) (result : ℕ) (old new : Option (List ℕ)) → (result ≡ 4) ⊎ (result ≡ 5) ⊎ (result ≡ 6) → ComesBut a result old new
 other-comes a b result old new h = inr h
 
-delivered-exact : (files : Contents) (ws : List (List ℕ)) (rose : Type 0) (b : Answer) (result : ℕ) (old new : Option (List ℕ)) → Gives files ws rose b → IsDelivered b result old new
-    → (a : Answer) → IsDetermined a → Gives files ws rose a → ComesBut a result old new
+delivered-exact : (files : Contents) (ws : List (List ℕ)) (rose : Type 0) (b : Answer) (result : ℕ) (old new : Option (List ℕ)) → Gives (Some files) ws rose b → IsDelivered b result old new
+    → (a : Answer) → IsDetermined a → Gives (Some files) ws rose a → ComesBut a result old new
 delivered-exact files ws rose answer.ReadFault result old new g (inl h) a d k = inr (inl h.0)
 delivered-exact files ws rose answer.ReadFault result old new g (inr (inl e, h)) a d k = inr (inr (inl e))
 delivered-exact files ws rose answer.ReadFault result old new g (inr (inr e, h)) a d k = inr (inr (inr e))
 delivered-exact files ws rose answer.NoMemory result old new g (inl h) a d k = inr (inr (inr h.0))
 delivered-exact files ws rose answer.NoMemory result old new g (inr (inl e, h)) a d k = inr (inr (inl e))
 delivered-exact files ws rose answer.NoMemory result old new g (inr (inr e, h)) a d k = inr (inr (inr e))
-delivered-exact files ws rose (answer.Evaluated used pc registers words memory) result old new g h a d k = comes a (answer.Evaluated used pc registers words memory) result old new (answer-unique files ws rose rose (answer.Evaluated used pc registers words memory) a tt d g k) h
-delivered-exact files ws rose (answer.Met steps pc registers words memory) result old new g h a d k = comes a (answer.Met steps pc registers words memory) result old new (answer-unique files ws rose rose (answer.Met steps pc registers words memory) a tt d g k) h
-delivered-exact files ws rose answer.NoFunction result old new g h a d k = comes a answer.NoFunction result old new (answer-unique files ws rose rose answer.NoFunction a tt d g k) h
-delivered-exact files ws rose (answer.IllFormed group def) result old new g h a d k = comes a (answer.IllFormed group def) result old new (answer-unique files ws rose rose (answer.IllFormed group def) a tt d g k) h
-delivered-exact files ws rose (answer.SideFalse def ordinal) result old new g h a d k = comes a (answer.SideFalse def ordinal) result old new (answer-unique files ws rose rose (answer.SideFalse def ordinal) a tt d g k) h
-delivered-exact files ws rose (answer.NoSuchStart name) result old new g h a d k = comes a (answer.NoSuchStart name) result old new (answer-unique files ws rose rose (answer.NoSuchStart name) a tt d g k) h
-delivered-exact files ws rose (answer.AmbiguousStart name low high) result old new g h a d k = comes a (answer.AmbiguousStart name low high) result old new (answer-unique files ws rose rose (answer.AmbiguousStart name low high) a tt d g k) h
-delivered-exact files ws rose (answer.StuckAfter steps why) result old new g h a d k = comes a (answer.StuckAfter steps why) result old new (answer-unique files ws rose rose (answer.StuckAfter steps why) a tt d g k) h
 delivered-exact files ws rose answer.NotACommand result old new g h a d k = comes a answer.NotACommand result old new (answer-unique files ws rose rose answer.NotACommand a tt d g k) h
-delivered-exact files ws rose (answer.UnreadableText line) result old new g h a d k = comes a (answer.UnreadableText line) result old new (answer-unique files ws rose rose (answer.UnreadableText line) a tt d g k) h
-delivered-exact files ws rose (answer.UnreadableElf why) result old new g h a d k = comes a (answer.UnreadableElf why) result old new (answer-unique files ws rose rose (answer.UnreadableElf why) a tt d g k) h
-delivered-exact files ws rose answer.OverLimitProof result old new g h a d k = comes a answer.OverLimitProof result old new (answer-unique files ws rose rose answer.OverLimitProof a tt d g k) h
-delivered-exact files ws rose answer.OverLimitElf result old new g h a d k = comes a answer.OverLimitElf result old new (answer-unique files ws rose rose answer.OverLimitElf a tt d g k) h
-delivered-exact files ws rose answer.TurnsUsed result old new g h a d k = comes a answer.TurnsUsed result old new (answer-unique files ws rose rose answer.TurnsUsed a tt d g k) h
-delivered-exact files ws rose answer.StepsUsed result old new g h a d k = comes a answer.StepsUsed result old new (answer-unique files ws rose rose answer.StepsUsed a tt d g k) h
+delivered-exact files ws rose (answer.Eval x) result old new g h a d k = comes a (answer.Eval x) result old new (answer-unique files ws rose rose (answer.Eval x) a tt d g k) h
+delivered-exact files ws rose (answer.Run x) result old new g h a d k = comes a (answer.Run x) result old new (answer-unique files ws rose rose (answer.Run x) a tt d g k) h
 
 pub exact-given : (told : Option Contents) (ws : List (List ℕ)) (rose : Type 0) (b : Answer) (result : ℕ) (old new : Option (List ℕ))
-    → ForContents told (λ files. Gives files ws rose b) → IsDelivered b result old new
-    → IfSome told (λ files. (a : Answer) → IsDetermined a → Gives files ws rose a → ComesBut a result old new)
+    → Gives told ws rose b → IsDelivered b result old new
+    → IfSome told (λ files. (a : Answer) → IsDetermined a → Gives (Some files) ws rose a → ComesBut a result old new)
 exact-given None ws rose b result old new g h = tt
 exact-given (Some files) ws rose b result old new g h = delivered-exact files ws rose b result old new g h

@@ -8,8 +8,8 @@ use Rattle.std.proofs.lemmas.Bool.{eqb-true, eqb-false}
 use Rattle.std.proofs.lemmas.Bool.Decides.{eqb_tells}
 use Rattle.std.proofs.lemmas.List.{map-append, map_more, take-append-drop, get_or-set_same, get_or-set_other}
 use Rattle.std.proofs.lemmas.Option.{slice_get-get_or, get_or_from_slice_get}
-use Rattle.mcdec.specs.Command.{Given, IsGiven, AreGiven, given_to}
-use Rattle.mcdec.specs.CommandReading.{Holds, texts}
+use Rattle.mcdec.specs.Command.{Given, IsGiven, AreGiven, given_to, texts}
+use Rattle.mcdec.specs.CommandReading.{Holds}
 
 -- ---- one register more
 

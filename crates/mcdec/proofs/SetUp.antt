@@ -14,19 +14,19 @@ use Rattle.rv_words.specs.declared.range.Range.{Range}
 use Rattle.elf_image.specs.Fault.{IsReadable}
 use Rattle.elf_image.specs.declared.image.Piece.{Piece}
 use Rattle.elf_image.specs.Image.{bytes_in, padded, image_of}
-use Rattle.elf_image.specs.declared.symbol.NameFault.{NameFault}
-use Rattle.elf_image.specs.declared.symbol.NameFault.TheVariants.{NoSuch, Ambiguous}
 use Rattle.rv_machine.specs.State.{Contents, State, empty_state, state_of, with_bytes, with_register}
 use Rattle.rv_machine.specs.Step.{writes}
 use Rattle.rv_machine.specs.Run.{EndsIn}
 use Rattle.rv_machine.specs.declared.state.Stuck.{Stuck}
 use Rattle.rv_machine.specs.declared.running.RunEnd.TheVariants as end
-use Rattle.mcdec.specs.declared.answer.Answer.{Answer}
-use Rattle.mcdec.specs.declared.answer.Answer.TheVariants as answer
+use Rattle.mcdec.specs.declared.answer.RunAnswer.{RunAnswer}
+use Rattle.mcdec.specs.declared.answer.RunAnswer.TheVariants as answer
+use Rattle.mcdec.specs.declared.answer.Shown.{Shown}
 use Rattle.mcdec.specs.Command.{Arg, Given, AreGiven, given_to, value_of, givens, ranges}
 use Rattle.mcdec.specs.CommandReading.{Holds, given_in, value_in}
 use Rattle.mcdec.specs.Memory.{no_bytes, placed, held_at}
-use Rattle.mcdec.specs.RunAnswer.{begin, is_shown, shown, StandsFor, start_refused, MachineGives, ImageGives}
+use Rattle.mcdec.specs.RunAnswer.{begin, elf_limit, is_shown, shown_registers, StandsFor, RunGives}
+use Rattle.mcdec.specs.Running.{MachineGives, shown_with}
 
 -- ---- values
 
@@ -245,59 +245,39 @@ not-shown o w e z = λ i. e i || not (eqb (z i) 0)
 
 -- ---- the answer
 
+abbrev shown_of : ℕ → ℕ → List ℕ → List ℕ → List Range → Shown
+shown_of k pc rs ws memory = record { count = k; pc = pc; registers = rs; words = ws; memory = memory }
+
 -- all registers were looked at
 pub shown-all : (values : List (Option ℕ)) (t : State) (rs ws : List ℕ) (n : ℕ) → n ≡ 32 → HaveShown values t rs ws n → (gs : List Given) → Holds gs values → (k pc : ℕ) (memory : List Range) → pc ≡ t.pc
-    → answer.Met k pc rs ws memory ≡ answer.Met k t.pc (shown gs t) (map t.reg (shown gs t)) memory
+    → shown_of k pc rs ws memory ≡ shown_with gs k t memory
 shown-all values t rs ws n e before gs h k pc memory p =
     let b = before gs h in
-    let all : rs ≡ shown gs t = b.0 ∙ (λ i. filter (is_shown gs t) (range_with_len 1 (e i - 1))) in
-    λ i. answer.Met k (p i) (all i) ((b.1 ∙ ap (map t.reg) all) i) memory
+    let all : rs ≡ shown_registers gs t = b.0 ∙ (λ i. filter (is_shown gs t) (range_with_len 1 (e i - 1))) in
+    λ i. shown_of k (p i) (all i) ((b.1 ∙ ap (map t.reg) all) i) memory
 
 module _ (until steps : ℕ) (args : List Arg) (s begun t : State) (same : s ≡ begun) where
-  pub met-given : (result : Result Answer NoMemory) (k : ℕ) (memory asked : List Range) → EndsIn until steps s t (end.Met k) → asked ≡ ranges args → memory ≡ map (held_at t.mem) asked
-      → IfOk result (λ a. a ≡ answer.Met k t.pc (shown (givens args) t) (map t.reg (shown (givens args) t)) memory) → IfOk result (λ a. MachineGives until steps args begun a)
-  met-given (Err e) k memory asked ends m held is = tt
-  met-given (Ok a) k memory asked ends m held is =
-      subst (λ (x : Answer). MachineGives until steps args begun x) (sym is)
-      (t, subst (λ (x : State). EndsIn until steps x t (end.Met k)) same ends, refl, refl, refl, held ∙ ap (map (held_at t.mem)) m)
+  pub met-given : (shown : Shown) (k : ℕ) (memory asked : List Range) → EndsIn until steps s t (end.Met k) → asked ≡ ranges args → memory ≡ map (held_at t.mem) asked
+      → shown ≡ shown_with (givens args) k t memory → MachineGives until steps args begun (answer.Met shown)
+  met-given shown k memory asked ends m held is =
+      let all = held ∙ ap (map (held_at t.mem)) m in
+      (t, k, subst (λ (x : State). EndsIn until steps x t (end.Met k)) same ends, is ∙ ap (shown_with (givens args) k t) all)
 
-  pub stuck-given : (k : ℕ) (why : Stuck) → EndsIn until steps s t (end.Stuck k why) → MachineGives until steps args begun (answer.StuckAfter k why)
+  pub stuck-given : (k : ℕ) (why : Stuck) → EndsIn until steps s t (end.Stuck k why) → MachineGives until steps args begun (answer.Stuck k why)
   stuck-given k why ends = (t, subst (λ (x : State). EndsIn until steps x t (end.Stuck k why)) same ends)
 
   pub steps-given : EndsIn until steps s t end.Steps → MachineGives until steps args begun answer.StepsUsed
   steps-given ends = (t, subst (λ (x : State). EndsIn until steps x t end.Steps) same ends)
 
-module _ (file start : List ℕ) (until steps : ℕ) (args : List Arg) (at : ℕ) (readable : IsReadable file) (stands : StandsFor file start (Ok at)) where
-  image-gives : (a : Answer) → MachineGives until steps args (begin file args at) a → ImageGives file start until steps args a
-  image-gives (answer.Evaluated used pc registers words memory) h = absurd h
-  image-gives (answer.Met k pc registers words memory) h = (readable, (at, stands, h))
-  image-gives answer.NoFunction h = absurd h
-  image-gives (answer.IllFormed group def) h = absurd h
-  image-gives (answer.SideFalse def ordinal) h = absurd h
-  image-gives (answer.NoSuchStart name) h = absurd h
-  image-gives (answer.AmbiguousStart name low high) h = absurd h
-  image-gives (answer.StuckAfter k why) h = (readable, (at, stands, h))
-  image-gives answer.NotACommand h = absurd h
-  image-gives (answer.UnreadableText line) h = absurd h
-  image-gives (answer.UnreadableElf why) h = absurd h
-  image-gives answer.ReadFault h = absurd h
-  image-gives answer.NoMemory h = absurd h
-  image-gives answer.OverLimitProof h = absurd h
-  image-gives answer.OverLimitElf h = absurd h
-  image-gives answer.TurnsUsed h = absurd h
-  image-gives answer.StepsUsed h = (readable, (at, stands, h))
+module _ (file start : List ℕ) (until steps : ℕ) (args : List Arg) (at : ℕ) (small : length file ≤ elf_limit) (readable : IsReadable file) (stands : StandsFor file start (Ok at)) where
+  image-gives : (a : RunAnswer) → MachineGives until steps args (begin file args at) a → RunGives file start until steps args a
+  image-gives answer.OverLimit h = absurd h
+  image-gives (answer.Unreadable why) h = absurd h
+  image-gives (answer.StartRefused name why) h = absurd h
+  image-gives (answer.Stuck k why) h = ((small, readable), h.0, record { at = at; stands = stands; ends = h.1 })
+  image-gives answer.StepsUsed h = ((small, readable), h.0, record { at = at; stands = stands; ends = h.1 })
+  image-gives (answer.Met shown) h = ((small, readable), h.0, h.1, record { at = at; stands = stands; ends = h.2 }, h.3)
 
-  pub image-given : (result : Result Answer NoMemory) → IfOk result (λ a. MachineGives until steps args (begin file args at) a) → IfOk result (λ a. ImageGives file start until steps args a)
+  pub image-given : (result : Result RunAnswer NoMemory) → IfOk result (λ a. MachineGives until steps args (begin file args at) a) → IfOk result (λ a. RunGives file start until steps args a)
   image-given (Err e) h = tt
   image-given (Ok a) h = image-gives a h
-
--- where START has no one value
-module _ (file start : List ℕ) (until steps : ℕ) (args : List Arg) (readable : IsReadable file) where
-  refusal : (fault : NameFault) → StandsFor file start (Err fault) → ImageGives file start until steps args (start_refused start fault)
-  refusal NoSuch stands = (readable, (stands, refl))
-  refusal (Ambiguous low high) stands = (readable, (stands, refl))
-
-  pub refusal-given : (fault : NameFault) → StandsFor file start (Err fault) → (result : Result Answer NoMemory) → IfOk result (λ a. a ≡ start_refused start fault)
-      → IfOk result (λ a. ImageGives file start until steps args a)
-  refusal-given fault stands (Err e) is = tt
-  refusal-given fault stands (Ok a) is = subst (λ (x : Answer). ImageGives file start until steps args x) (sym is) (refusal fault stands)

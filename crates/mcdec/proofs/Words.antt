@@ -10,9 +10,9 @@ use Rattle.std.proofs.lemmas.Slice.Eq.{bytes_eq-Decides}
 use Rattle.mcdec.specs.declared.command.Eval.{Eval as ReadEval}
 use Rattle.mcdec.specs.declared.command.Run.{Run as ReadRun}
 use Rattle.mc_text.specs.Number.{hex, number_of}
-use Rattle.mcdec.specs.Command.{Eval, Run, Arg, IsCommand, IsNoCommand, Words, arg_word}
+use Rattle.mcdec.specs.Command.{Eval, Run, Arg, IsCommand, IsNoCommand, Words, arg_word, operands_of, texts}
 use Rattle.proof_text.specs.Limits.{IsName}
-use Rattle.mcdec.specs.CommandReading.{HoldsArgs, NoArgs, AllArgs, Unless, NoEval, IsEval, eval_words, NoRun, IsRun, run_words, texts}
+use Rattle.mcdec.specs.CommandReading.{HoldsArgs, NoArgs, AllArgs, Unless, NoEval, IsEval, NoRun, IsRun}
 use Rattle.mcdec.specs.declared.command.Unread.{Unread}
 use Rattle.rv_words.specs.declared.range.Range.{Range}
 use Rattle.mcdec.proofs.ArgWords.{unless-also}
@@ -75,10 +75,10 @@ module _ (words : List Word) (proof name turns : Word) (low : 3 ≤ length words
   eval-without why none = unless-also no-more why none
 
   pub eval-read : (p n : List ℕ) (t : ℕ) (values : List (Option ℕ)) (memory : List Range) → p ≡ string_bytes proof → n ≡ string_bytes name → string_bytes proof ≢ [] → IsName (string_bytes name) → Some t ≡ number_of 10 (string_bytes turns)
-      → AllArgs (behind_first 3 words) values memory → (args : List Arg) × IsCommand (Eval p n t args) × (texts words ≡ eval_words p n t args) × HoldsArgs args values memory
+      → AllArgs (behind_first 3 words) values memory → (args : List Arg) × IsCommand (Eval p n t args) × (texts words ≡ operands_of (Eval p n t args)) × HoldsArgs args values memory
   eval-read p n t values memory ep en some is number all =
       let d = number_of-takes 10 (string_bytes turns) t (sym number) in
-      let same : texts words ≡ eval_words p n t all.0 = split ∙ (λ i. sym ep i ∷ sym en i ∷ d.0 i ∷ all.2 i) in
+      let same : texts words ≡ operands_of (Eval p n t all.0) = split ∙ (λ i. sym ep i ∷ sym en i ∷ d.0 i ∷ all.2 i) in
       (all.0, (λ e. some (sym ep ∙ e), subst IsName (sym en) is, d.1, all.1), same, all.3)
 
 -- ---- the words behind `run`
@@ -114,10 +114,10 @@ module _ (words : List Word) (elf start until steps : Word) (low : 4 ≤ length 
 
   pub run-read : (e s : List ℕ) (u k : ℕ) (values : List (Option ℕ)) (memory : List Range) → e ≡ string_bytes elf → s ≡ string_bytes start → string_bytes elf ≢ [] → IsName (string_bytes start)
       → (u < 2 ^ 64) × (string_bytes until ≡ hex u) → Some k ≡ number_of 10 (string_bytes steps) → AllArgs (behind_first 4 words) values memory
-      → (args : List Arg) × IsCommand (Run e s u k args) × (texts words ≡ run_words e s u k args) × HoldsArgs args values memory
+      → (args : List Arg) × IsCommand (Run e s u k args) × (texts words ≡ operands_of (Run e s u k args)) × HoldsArgs args values memory
   run-read e s u k values memory ee es some is address number all =
       let d = number_of-takes 10 (string_bytes steps) k (sym number) in
-      let same : texts words ≡ run_words e s u k all.0 = split-run ∙ (λ i. sym ee i ∷ sym es i ∷ address.1 i ∷ d.0 i ∷ all.2 i) in
+      let same : texts words ≡ operands_of (Run e s u k all.0) = split-run ∙ (λ i. sym ee i ∷ sym es i ∷ address.1 i ∷ d.0 i ∷ all.2 i) in
       (all.0, ((λ n. some (sym ee ∙ n)), subst IsName (sym es) is, address.0, d.1, all.1), same, all.3)
 
 -- ---- all of the words
@@ -132,7 +132,7 @@ module _ (words : List Word) (first : Word) (low : 1 ≤ length words) (here : f
   not-eval : bytes_eq text (codes "eval") ≡ true → NoEval (behind_first 1 words) → IsNoCommand (texts words)
   not-eval is none (Eval p n t args) c =
       let whole = sym (named (codes "eval") is) ∙ c.1 in
-      let same : behind_first 1 words ≡ eval_words p n t args = cc in
+      let same : behind_first 1 words ≡ operands_of (Eval p n t args) = cc in
       none p n t args c.0 same
   not-eval is none (Run e s u k args) c =
       let whole = sym (named (codes "eval") is) ∙ c.1 in
@@ -149,7 +149,7 @@ module _ (words : List Word) (first : Word) (low : 1 ≤ length words) (here : f
   no-command : bytes_eq text (codes "run") ≡ true → NoRun (behind_first 1 words) → IsNoCommand (texts words)
   no-command is none (Run e s u k args) c =
       let whole = sym (named (codes "run") is) ∙ c.1 in
-      let same : behind_first 1 words ≡ run_words e s u k args = cc in
+      let same : behind_first 1 words ≡ operands_of (Run e s u k args) = cc in
       none e s u k args c.0 same
   no-command is none (Eval p n t args) c =
       let whole = sym (named (codes "run") is) ∙ c.1 in

@@ -2,10 +2,12 @@
 --
 --   eval PROOF NAME TURNS ARG*        ARG is xN=V, each N at most once,
 --   run ELF START UNTIL STEPS ARG*    or mem=A:H, with two hexadecimal digits for each byte, any number of them
-use Rattle.std.specs.Prelude.{◌≡◌, ◌≢◌, ℕ, ◌<◌, ◌≤◌, ◌^◌, ◌+◌, ◌==◌, if◌then◌else◌, List, [], ◌∷◌, ◌++◌, length, map, codes, Option, Some, None, unwrap_or, All}
+use Rattle.std.specs.Prelude.{◌≡◌, ◌≢◌, ℕ, ◌<◌, ◌≤◌, ◌^◌, ◌+◌, ◌==◌, if◌then◌else◌, List, [], ◌∷◌, ◌++◌, length, map, codes, Option, Some, None, unwrap_or, string_bytes}
 use Rattle.std.specs.List.{AllByRecursion}
 use Rattle.std.specs.Fmt.{decimal}
 use Rattle.hex.specs.Hex.{encode_lower}
+use Rattle.std.specs.declared.string.String.{String}
+use Rattle.std.specs.declared.alloc.Global.{Global}
 use Rattle.rv_words.specs.declared.range.Range.{Range}
 use Rattle.mc_text.specs.Number.{hex}
 use Rattle.proof_text.specs.Limits.{IsName}
@@ -36,10 +38,19 @@ abbrev pub arg_word : Arg → List ℕ
 arg_word (Value g) = given_word g
 arg_word (Memory r) = memory_word r
 
+-- the word that names a command
+abbrev pub name_of : Command → List ℕ
+name_of (Eval proof name turns args) = codes "eval"
+name_of (Run elf start until steps args) = codes "run"
+
+-- the words behind it
+abbrev pub operands_of : Command → List (List ℕ)
+operands_of (Eval proof name turns args) = proof ∷ name ∷ decimal turns ∷ map arg_word args
+operands_of (Run elf start until steps args) = elf ∷ start ∷ hex until ∷ decimal steps ∷ map arg_word args
+
 -- the words of a command
 abbrev pub words_of : Command → List (List ℕ)
-words_of (Eval proof name turns args) = codes "eval" ∷ proof ∷ name ∷ decimal turns ∷ map arg_word args
-words_of (Run elf start until steps args) = codes "run" ∷ elf ∷ start ∷ hex until ∷ decimal steps ∷ map arg_word args
+words_of c = name_of c ∷ operands_of c
 
 abbrev pub IsGiven : Given → Type 0
 IsGiven g = (1 ≤ g.register) × (g.register ≤ 31) × (g.value < 2 ^ 64)
@@ -77,6 +88,10 @@ AreArgs args = AreGiven (givens args) × AllByRecursion IsMemory (ranges args)
 abbrev pub IsCommand : Command → Type 0
 IsCommand (Eval proof name turns args) = (proof ≢ []) × IsName name × (turns < 2 ^ 64) × AreArgs args
 IsCommand (Run elf start until steps args) = (elf ≢ []) × IsName start × (until < 2 ^ 64) × (steps < 2 ^ 64) × AreArgs args
+
+-- the texts of the words
+abbrev pub texts : List (String Global) → List (List ℕ)
+texts ws = map (λ w. string_bytes w) ws
 
 -- the command that a list of words is
 abbrev pub Words : List (List ℕ) → Command → Type 0

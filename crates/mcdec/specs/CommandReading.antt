@@ -14,11 +14,7 @@ use Rattle.mcdec.specs.declared.command.Unread.{Unread}
 use Rattle.mcdec.specs.declared.command.Unread.TheVariants as unread
 use Rattle.rv_words.specs.declared.range.Range.{Range}
 use Rattle.mc_text.specs.Number.{hex}
-use Rattle.mcdec.specs.Command.{Eval, Run, Arg, Value, Memory, Given, IsGiven, IsMemory, IsCommand, AreArgs, Words, given_to, arg_word, givens, ranges}
-
--- the texts of the words
-abbrev pub texts : List (String Global) → List (List ℕ)
-texts ws = map (λ w. string_bytes w) ws
+use Rattle.mcdec.specs.Command.{Eval, Run, Arg, Value, Memory, Given, IsGiven, IsMemory, IsCommand, AreArgs, Words, given_to, arg_word, operands_of, givens, ranges}
 
 -- each register's value, or none
 abbrev pub Holds : List Given → List (Option ℕ) → Type 0
@@ -69,26 +65,18 @@ HoldsArgs args values memory = Holds (givens args) values × (memory ≡ ranges 
 abbrev pub AllArgs : List (List ℕ) → List (Option ℕ) → List Range → Type 0
 AllArgs ws values memory = (args : List Arg) × AreArgs args × (ws ≡ map arg_word args) × HoldsArgs args values memory
 
--- the words behind `eval`
-abbrev pub eval_words : List ℕ → List ℕ → ℕ → List Arg → List (List ℕ)
-eval_words proof name turns args = proof ∷ name ∷ decimal turns ∷ map arg_word args
-
 abbrev pub NoEval : List (List ℕ) → Type 0
-NoEval ws = (proof name : List ℕ) (turns : ℕ) (args : List Arg) → IsCommand (Eval proof name turns args) → ws ≢ eval_words proof name turns args
+NoEval ws = (proof name : List ℕ) (turns : ℕ) (args : List Arg) → IsCommand (Eval proof name turns args) → ws ≢ operands_of (Eval proof name turns args)
 
 abbrev pub IsEval : List (List ℕ) → ReadEval → Type 0
-IsEval ws e = (args : List Arg) × IsCommand (Eval e.proof.now e.name.now e.turns args) × (ws ≡ eval_words e.proof.now e.name.now e.turns args)
+IsEval ws e = (args : List Arg) × IsCommand (Eval e.proof.now e.name.now e.turns args) × (ws ≡ operands_of (Eval e.proof.now e.name.now e.turns args))
     × HoldsArgs args e.given.values e.memory
 
--- the words behind `run`
-abbrev pub run_words : List ℕ → List ℕ → ℕ → ℕ → List Arg → List (List ℕ)
-run_words elf start until steps args = elf ∷ start ∷ hex until ∷ decimal steps ∷ map arg_word args
-
 abbrev pub NoRun : List (List ℕ) → Type 0
-NoRun ws = (elf start : List ℕ) (until steps : ℕ) (args : List Arg) → IsCommand (Run elf start until steps args) → ws ≢ run_words elf start until steps args
+NoRun ws = (elf start : List ℕ) (until steps : ℕ) (args : List Arg) → IsCommand (Run elf start until steps args) → ws ≢ operands_of (Run elf start until steps args)
 
 abbrev pub IsRun : List (List ℕ) → ReadRun → Type 0
-IsRun ws r = (args : List Arg) × IsCommand (Run r.elf.now r.start.now r.until r.steps args) × (ws ≡ run_words r.elf.now r.start.now r.until r.steps args)
+IsRun ws r = (args : List Arg) × IsCommand (Run r.elf.now r.start.now r.until r.steps args) × (ws ≡ operands_of (Run r.elf.now r.start.now r.until r.steps args))
     × HoldsArgs args r.given.values r.memory
 
 -- the command, seen by what was read

@@ -10,8 +10,9 @@ use Rattle.tailrec_lang.specs.Eval.{Arguments, Done, SideFalse, Turns, eval}
 use Rattle.proof_text.specs.Spelling.{text_of}
 use Rattle.proof_text.specs.Limits.{AreGroups, texts}
 use Rattle.proof_text.specs.Front.{AreRead}
-use Rattle.mcdec.specs.declared.answer.Answer.{Answer}
-use Rattle.mcdec.specs.declared.answer.Answer.TheVariants as answer
+use Rattle.mcdec.specs.declared.answer.EvalAnswer.{EvalAnswer}
+use Rattle.mcdec.specs.declared.answer.EvalAnswer.TheVariants as answer
+use Rattle.mcdec.specs.declared.answer.Shown.{Shown}
 use Rattle.mcdec.specs.Command.{Arg, value_of, givens, ranges}
 use Rattle.mcdec.specs.Memory.{no_bytes, placed, held_at}
 
@@ -33,14 +34,10 @@ abbrev pub ranges_in : List Bytes → List Range → List Range
 ranges_in [] rs = []
 ranges_in (m ∷ ms) rs = map (held_at m) rs
 
--- `eval` of the listed function of a group within turns
-abbrev pub GroupGives : GroupTree → ℕ → List Arg → Answer → Type 0
-GroupGives g turns args answer.TurnsUsed = eval g (listed g) (arguments_of args g) turns ≡ Turns
-GroupGives g turns args (answer.SideFalse def ordinal) = eval g (listed g) (arguments_of args g) turns ≡ SideFalse def ordinal
-GroupGives g turns args (answer.Evaluated used pc registers words memory) =
-    (exit left : ℕ) × (results : Arguments) × (eval g (listed g) (arguments_of args g) turns ≡ Done exit pc results left) × (used ≡ turns - left)
-    × (registers ≡ g.regs) × (words ≡ results.words) × (memory ≡ ranges_in results.mems (ranges args))
-GroupGives g turns args _ = ⊥
+-- what is shown of an evaluation that is done
+abbrev pub shown_of : GroupTree → List Arg → (used pc : ℕ) → Arguments → Shown
+shown_of g args used pc results =
+    record { count = used; pc = pc; registers = g.regs; words = results.words; memory = ranges_in results.mems (ranges args) }
 
 -- the first group of the name, if there is one
 abbrev pub NoneNamed : List ℕ → List GroupTree → Type 0
@@ -61,16 +58,27 @@ AreWellFormed gs = AllByRecursion IsWellFormed gs
 abbrev pub IsTextOf : List ℕ → List GroupTree → Type 0
 IsTextOf text gs = AreGroups gs × (text ≡ text_of gs) × AreWellFormed gs
 
--- `eval` of a name, where the proof file is this text. The groups are judged as they are read: a definition that isn't
--- well-formed is told before a bad line behind its group, and after one in it.
-abbrev pub TextGives : List ℕ → List ℕ → ℕ → List Arg → Answer → Type 0
-TextGives text name turns args (answer.IllFormed group def) = (gs : List GroupTree) × (g : GroupTree) × AreRead text (gs ++ g ∷ [])
-    × AreWellFormed gs × (group ≡ length gs) × IsFirstIllFormed g def
-TextGives text name turns args (answer.UnreadableText line) = IsBadAt texts text line × ((gs : List GroupTree) → AreRead text gs → AreWellFormed gs)
-TextGives text name turns args answer.NoFunction = (gs : List GroupTree) × IsTextOf text gs × NoneNamed name gs
-TextGives text name turns args a = (gs : List GroupTree) × IsTextOf text gs × (g : GroupTree) × FirstNamed name gs g × GroupGives g turns args a
+-- the text is that of groups, all well-formed, and the first of this name is that one
+pub record IsNamed (text name : List ℕ) (g : GroupTree) : Type 0 where
+  pub groups : List GroupTree
+  pub spelled : IsTextOf text groups
+  pub first : FirstNamed name groups g
 
--- `eval` of a name, where the proof file has these bytes
-abbrev pub EvalGives : List ℕ → List ℕ → ℕ → List Arg → Answer → Type 0
-EvalGives p name turns args answer.OverLimitProof = proof_limit < length p
-EvalGives p name turns args a = (length p ≤ proof_limit) × TextGives p name turns args a
+-- What `eval` of a name comes to, where the proof file has these bytes. The groups are judged as they are read: a definition
+-- that isn't well-formed is told before a bad line behind its group, and after one in it.
+abbrev pub EvalGives : (file name : List ℕ) (turns : ℕ) (args : List Arg) → EvalAnswer → Type 0
+EvalGives file name turns args answer.OverLimit = proof_limit < length file
+EvalGives file name turns args (answer.Unreadable line) =
+    (length file ≤ proof_limit) × IsBadAt texts file line × ((gs : List GroupTree) → AreRead file gs → AreWellFormed gs)
+EvalGives file name turns args (answer.IllFormed group def) =
+    (length file ≤ proof_limit) × (gs : List GroupTree) × (g : GroupTree) × AreRead file (gs ++ g ∷ []) × AreWellFormed gs
+    × (group ≡ length gs) × IsFirstIllFormed g def
+EvalGives file name turns args answer.NoFunction =
+    (length file ≤ proof_limit) × (gs : List GroupTree) × IsTextOf file gs × NoneNamed name gs
+EvalGives file name turns args (answer.SideFalse def ordinal) =
+    (length file ≤ proof_limit) × (g : GroupTree) × IsNamed file name g × (eval g (listed g) (arguments_of args g) turns ≡ SideFalse def ordinal)
+EvalGives file name turns args answer.TurnsUsed =
+    (length file ≤ proof_limit) × (g : GroupTree) × IsNamed file name g × (eval g (listed g) (arguments_of args g) turns ≡ Turns)
+EvalGives file name turns args (answer.Done shown) =
+    (length file ≤ proof_limit) × (g : GroupTree) × IsNamed file name g × (exit pc left : ℕ) × (results : Arguments)
+    × (eval g (listed g) (arguments_of args g) turns ≡ Done exit pc results left) × (shown ≡ shown_of g args (turns - left) pc results)

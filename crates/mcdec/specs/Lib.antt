@@ -4,6 +4,7 @@ pub mod Memory
 pub mod EvalAnswer
 pub mod Search
 pub mod RunAnswer
+pub mod Running
 pub mod Answer
 pub mod Printed
 pub mod Printing

@@ -8,33 +8,21 @@ use Rattle.elf_image.specs.declared.fault.ElfFault.{ElfFault}
 use Rattle.elf_image.specs.declared.fault.ElfFault.TheVariants as fault
 use Rattle.rv_machine.specs.declared.state.Stuck.{Stuck}
 use Rattle.rv_machine.specs.declared.state.Stuck.TheVariants as stuck
+use Rattle.elf_image.specs.declared.symbol.NameFault.{NameFault}
+use Rattle.elf_image.specs.declared.symbol.NameFault.TheVariants as name
 use Rattle.mcdec.specs.declared.answer.Answer.{Answer}
 use Rattle.mcdec.specs.declared.answer.Answer.TheVariants as answer
+use Rattle.mcdec.specs.declared.answer.EvalAnswer.{EvalAnswer}
+use Rattle.mcdec.specs.declared.answer.EvalAnswer.TheVariants as eval
+use Rattle.mcdec.specs.declared.answer.RunAnswer.{RunAnswer}
+use Rattle.mcdec.specs.declared.answer.RunAnswer.TheVariants as run
+use Rattle.mcdec.specs.declared.answer.Shown.{Shown}
 use Rattle.mc_text.specs.Number.{hex}
 
 -- the texts of the items, one after the other
 abbrev pub each : {X : Type 0} → (X → List ℕ) → List X → List ℕ
 each text [] = []
 each text (x ∷ xs) = text x ++ each text xs
-
-abbrev pub status : Answer → ℕ
-status (answer.Evaluated used pc registers words memory) = 0
-status (answer.Met steps pc registers words memory) = 0
-status (answer.IllFormed group def) = 1
-status (answer.SideFalse def ordinal) = 1
-status answer.NoFunction = 1
-status (answer.NoSuchStart name) = 1
-status (answer.AmbiguousStart name low high) = 1
-status (answer.StuckAfter steps why) = 1
-status answer.NotACommand = 2
-status (answer.UnreadableText line) = 3
-status (answer.UnreadableElf why) = 3
-status answer.ReadFault = 4
-status answer.NoMemory = 6
-status answer.OverLimitProof = 7
-status answer.OverLimitElf = 7
-status answer.TurnsUsed = 7
-status answer.StepsUsed = 7
 
 -- xN V
 abbrev pub register_line : ℕ → ℕ → List ℕ
@@ -55,8 +43,8 @@ abbrev pub count_lines : List ℕ → ℕ → ℕ → List ℕ
 count_lines word count pc = word ++ decimal count ++ codes "\npc " ++ hex pc ++ codes "\n"
 
 -- these, and the lines of registers and of memory
-abbrev pub end_lines : List ℕ → ℕ → ℕ → List ℕ → List ℕ → List Range → List ℕ
-end_lines word count pc registers words memory = count_lines word count pc ++ register_lines registers words ++ each memory_line memory
+abbrev pub shown_lines : List ℕ → Shown → List ℕ
+shown_lines word s = count_lines word s.count s.pc ++ register_lines s.registers s.words ++ each memory_line s.memory
 
 -- why there is no step
 abbrev pub stuck_words : Stuck → List ℕ
@@ -83,24 +71,43 @@ fault_words (fault.Sizes i) = codes "sizes " ++ decimal i
 fault_words (fault.TooBig n) = codes "too-big " ++ decimal n
 fault_words fault.NoMemory = codes "no memory"
 
+-- why a name has no one value
+abbrev pub name_words : NameFault → List ℕ
+name_words name.NoSuch = codes "no-such"
+name_words (name.Ambiguous low high) = codes "ambiguous " ++ hex low ++ codes " " ++ hex high
+
+-- the status and the lines of what `eval` comes to
+abbrev pub eval_printed : EvalAnswer → ℕ × List ℕ
+eval_printed eval.OverLimit = (7, codes "over limit proof\n")
+eval_printed (eval.Unreadable line) = (3, codes "unreadable text " ++ decimal line ++ codes "\n")
+eval_printed (eval.IllFormed group def) = (1, codes "refused def " ++ decimal group ++ codes " " ++ decimal def ++ codes "\n")
+eval_printed eval.NoFunction = (1, codes "refused no function\n")
+eval_printed (eval.SideFalse def ordinal) = (1, codes "refused side " ++ decimal def ++ codes " " ++ decimal ordinal ++ codes "\n")
+eval_printed eval.TurnsUsed = (7, codes "turns used\n")
+eval_printed (eval.Done shown) = (0, shown_lines (codes "done ") shown)
+
+-- the status and the lines of what `run` comes to
+abbrev pub run_printed : RunAnswer → ℕ × List ℕ
+run_printed run.OverLimit = (7, codes "over limit elf\n")
+run_printed (run.Unreadable why) = (3, codes "unreadable elf " ++ fault_words why ++ codes "\n")
+run_printed (run.StartRefused start why) = (1, codes "refused " ++ start ++ codes " " ++ name_words why ++ codes "\n")
+run_printed (run.Stuck steps why) = (1, codes "refused stuck " ++ decimal steps ++ codes " " ++ stuck_words why ++ codes "\n")
+run_printed run.StepsUsed = (7, codes "steps used\n")
+run_printed (run.Met shown) = (0, shown_lines (codes "met ") shown)
+
+-- the status and the lines of each answer
+abbrev pub printed : Answer → ℕ × List ℕ
+printed answer.NotACommand = (2, codes "not a command\n")
+printed answer.ReadFault = (4, codes "read fault\n")
+printed answer.NoMemory = (6, codes "no memory\n")
+printed (answer.Eval a) = eval_printed a
+printed (answer.Run a) = run_printed a
+
+abbrev pub status : Answer → ℕ
+status a = (printed a).0
+
 abbrev pub lines : Answer → List ℕ
-lines (answer.Evaluated used pc registers words memory) = end_lines (codes "done ") used pc registers words memory
-lines (answer.Met steps pc registers words memory) = end_lines (codes "met ") steps pc registers words memory
-lines (answer.IllFormed group def) = codes "refused def " ++ decimal group ++ codes " " ++ decimal def ++ codes "\n"
-lines (answer.SideFalse def ordinal) = codes "refused side " ++ decimal def ++ codes " " ++ decimal ordinal ++ codes "\n"
-lines answer.NoFunction = codes "refused no function\n"
-lines (answer.NoSuchStart name) = codes "refused " ++ name ++ codes " no-such\n"
-lines (answer.AmbiguousStart name low high) = codes "refused " ++ name ++ codes " ambiguous " ++ hex low ++ codes " " ++ hex high ++ codes "\n"
-lines (answer.StuckAfter steps why) = codes "refused stuck " ++ decimal steps ++ codes " " ++ stuck_words why ++ codes "\n"
-lines answer.NotACommand = codes "not a command\n"
-lines (answer.UnreadableText line) = codes "unreadable text " ++ decimal line ++ codes "\n"
-lines (answer.UnreadableElf why) = codes "unreadable elf " ++ fault_words why ++ codes "\n"
-lines answer.ReadFault = codes "read fault\n"
-lines answer.NoMemory = codes "no memory\n"
-lines answer.OverLimitProof = codes "over limit proof\n"
-lines answer.OverLimitElf = codes "over limit elf\n"
-lines answer.TurnsUsed = codes "turns used\n"
-lines answer.StepsUsed = codes "steps used\n"
+lines a = (printed a).1
 
 -- the sink gained the text, or a front of it
 abbrev pub GainsFront : List ℕ → List ℕ → List ℕ → Type 0

@@ -5,12 +5,13 @@ use Rattle.elf_image.specs.Fault.{IsReadable, fault_of}
 use Rattle.elf_image.specs.Image.{image_of, bytes_in}
 use Rattle.elf_image.specs.Symbol.{value_of_name}
 use Rattle.elf_image.specs.declared.symbol.NameFault.{NameFault}
-use Rattle.elf_image.specs.declared.symbol.NameFault.TheVariants.{NoSuch, Ambiguous}
 use Rattle.rv_machine.specs.State.{State}
 use Rattle.rv_machine.specs.Run.{EndsIn}
+use Rattle.rv_machine.specs.declared.running.RunEnd.{RunEnd}
 use Rattle.rv_machine.specs.declared.running.RunEnd.TheVariants as end
-use Rattle.mcdec.specs.declared.answer.Answer.{Answer}
-use Rattle.mcdec.specs.declared.answer.Answer.TheVariants as answer
+use Rattle.mcdec.specs.declared.answer.RunAnswer.{RunAnswer}
+use Rattle.mcdec.specs.declared.answer.RunAnswer.TheVariants as answer
+use Rattle.mcdec.specs.declared.answer.Shown.{Shown}
 use Rattle.mc_text.specs.Number.{hex}
 use Rattle.mcdec.specs.Command.{Arg, Given, given_to, value_of, givens, ranges}
 use Rattle.mcdec.specs.Memory.{placed, held_at}
@@ -29,16 +30,18 @@ abbrev pub is_shown : List Given → State → ℕ → Bool
 is_shown given t r = is_some (given_to given r) || not (t.reg r == 0)
 
 -- the registers whose words are shown, rising
-abbrev pub shown : List Given → State → List ℕ
-shown given t = filter (is_shown given t) (range_with_len 1 31)
+abbrev pub shown_registers : List Given → State → List ℕ
+shown_registers given t = filter (is_shown given t) (range_with_len 1 31)
 
--- `run` from a state to an address within steps
-abbrev pub MachineGives : ℕ → ℕ → List Arg → State → Answer → Type 0
-MachineGives until steps args s (answer.Met k pc registers words memory) = (t : State) × EndsIn until steps s t (end.Met k)
-    × (pc ≡ t.pc) × (registers ≡ shown (givens args) t) × (words ≡ map t.reg registers) × (memory ≡ map (held_at t.mem) (ranges args))
-MachineGives until steps args s (answer.StuckAfter k why) = (t : State) × EndsIn until steps s t (end.Stuck k why)
-MachineGives until steps args s answer.StepsUsed = (t : State) × EndsIn until steps s t end.Steps
-MachineGives until steps args s _ = ⊥
+-- what is shown of a state after that many steps
+abbrev pub shown_after : List Arg → ℕ → State → Shown
+shown_after args k t = record {
+  count = k;
+  pc = t.pc;
+  registers = shown_registers (givens args) t;
+  words = map t.reg (shown_registers (givens args) t);
+  memory = map (held_at t.mem) (ranges args);
+}
 
 -- START is the spelling of that address
 abbrev pub Spells : List ℕ → ℕ → Type 0
@@ -49,23 +52,22 @@ abbrev pub StandsFor : List ℕ → List ℕ → Result ℕ NameFault → Type 0
 StandsFor file start value =
     ((a : ℕ) × Spells start a × (value ≡ Ok a)) ⊎ (((a : ℕ) → Spells start a → ⊥) × (value ≡ value_of_name start (image_of file).symbols))
 
--- the answer where START has no one value
-abbrev pub start_refused : List ℕ → NameFault → Answer
-start_refused start NoSuch = answer.NoSuchStart start
-start_refused start (Ambiguous low high) = answer.AmbiguousStart start low high
+-- the file is within the limit and has no fault
+abbrev pub IsLoaded : List ℕ → Type 0
+IsLoaded file = (length file ≤ elf_limit) × IsReadable file
 
--- `run` from START, where the ELF file has these bytes and is read
-abbrev pub StartGives : List ℕ → List ℕ → ℕ → ℕ → List Arg → Answer → Type 0
-StartGives file start until steps args (answer.NoSuchStart name) = StandsFor file start (Err NoSuch) × (name ≡ start)
-StartGives file start until steps args (answer.AmbiguousStart name low high) = StandsFor file start (Err (Ambiguous low high)) × (name ≡ start)
-StartGives file start until steps args a = (at : ℕ) × StandsFor file start (Ok at) × MachineGives until steps args (begin file args at) a
+-- the run from START ends so, in the state t
+pub record Runs (file start : List ℕ) (until steps : ℕ) (args : List Arg) (t : State) (how : RunEnd) : Type 0 where
+  pub at : ℕ
+  pub stands : StandsFor file start (Ok at)
+  pub ends : EndsIn until steps (begin file args at) t how
 
--- .. and is read or has a fault
-abbrev pub ImageGives : List ℕ → List ℕ → ℕ → ℕ → List Arg → Answer → Type 0
-ImageGives file start until steps args (answer.UnreadableElf why) = fault_of file ≡ Some why
-ImageGives file start until steps args a = IsReadable file × StartGives file start until steps args a
-
--- `run` from START, where the ELF file has these bytes
-abbrev pub RunGives : List ℕ → List ℕ → ℕ → ℕ → List Arg → Answer → Type 0
-RunGives file start until steps args answer.OverLimitElf = elf_limit < length file
-RunGives file start until steps args a = (length file ≤ elf_limit) × ImageGives file start until steps args a
+-- What `run` comes to, where the ELF file has these bytes.
+abbrev pub RunGives : (file start : List ℕ) (until steps : ℕ) (args : List Arg) → RunAnswer → Type 0
+RunGives file start until steps args answer.OverLimit = elf_limit < length file
+RunGives file start until steps args (answer.Unreadable why) = (length file ≤ elf_limit) × (fault_of file ≡ Some why)
+RunGives file start until steps args (answer.StartRefused name why) = IsLoaded file × (name ≡ start) × StandsFor file start (Err why)
+RunGives file start until steps args (answer.Stuck k why) = IsLoaded file × (t : State) × Runs file start until steps args t (end.Stuck k why)
+RunGives file start until steps args answer.StepsUsed = IsLoaded file × (t : State) × Runs file start until steps args t end.Steps
+RunGives file start until steps args (answer.Met shown) =
+    IsLoaded file × (t : State) × (k : ℕ) × Runs file start until steps args t (end.Met k) × (shown ≡ shown_after args k t)

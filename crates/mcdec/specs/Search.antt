@@ -1,16 +1,19 @@
--- What is found in the text of a proof file, group by group.
-use Rattle.std.specs.Prelude.{◌≡◌, ℕ, List, [], ◌∷◌, ◌++◌, length, Option, Some, None, Result, Ok, Err}
+-- What is found in the text of a proof file, group by group, and what evaluation of a group's function comes to.
+use Rattle.std.specs.Prelude.{◌≡◌, ℕ, List, [], ◌∷◌, ◌++◌, ◌-◌, length, Option, Some, None, Result, Ok, Err}
 use Rattle.mc_text.specs.Fault.{IsBadAt}
 use Rattle.tailrec_lang.specs.declared.group.Group.{Group}
 use Rattle.tailrec_lang.specs.Tree.{GroupTree, group_tree}
 use Rattle.tailrec_lang.specs.WellFormed.{IsWellFormed, IsFirstIllFormed}
-use Rattle.tailrec_lang.specs.Eval.{HasFewNeeds}
+use Rattle.tailrec_lang.specs.Eval.{Arguments, Done, SideFalse, Turns, HasFewNeeds, eval}
 use Rattle.proof_text.specs.Spelling.{text_of}
 use Rattle.proof_text.specs.Limits.{texts}
 use Rattle.proof_text.specs.Front.{Progress, HasGiven, AreRead}
 use Rattle.mcdec.specs.declared.evaluate.Refusal.{Refusal}
 use Rattle.mcdec.specs.declared.evaluate.Refusal.TheVariants as refusal
-use Rattle.mcdec.specs.EvalAnswer.{AreWellFormed, FirstNamed, IsTextOf, NoneNamed}
+use Rattle.mcdec.specs.declared.answer.EvalAnswer.{EvalAnswer}
+use Rattle.mcdec.specs.declared.answer.EvalAnswer.TheVariants as answer
+use Rattle.mcdec.specs.Command.{Arg}
+use Rattle.mcdec.specs.EvalAnswer.{AreWellFormed, FirstNamed, IsTextOf, NoneNamed, listed, arguments_of, shown_of}
 
 -- the next group, or why there is none
 abbrev pub NextIs : ℕ → Progress → Progress → Result (Option Group) Refusal → Type 0
@@ -46,3 +49,14 @@ pub record Searched (text name : List ℕ) (r : Progress) (count : ℕ) (found :
   pub well_formed : AreWellFormed groups
   pub counted : count ≡ length groups
   pub so : FoundSo name groups found
+
+-- what `eval` of a group's function within turns comes to
+abbrev pub GroupGives : GroupTree → ℕ → List Arg → EvalAnswer → Type 0
+GroupGives g turns args answer.OverLimit = ⊥
+GroupGives g turns args (answer.Unreadable line) = ⊥
+GroupGives g turns args (answer.IllFormed group def) = ⊥
+GroupGives g turns args answer.NoFunction = ⊥
+GroupGives g turns args (answer.SideFalse def ordinal) = eval g (listed g) (arguments_of args g) turns ≡ SideFalse def ordinal
+GroupGives g turns args answer.TurnsUsed = eval g (listed g) (arguments_of args g) turns ≡ Turns
+GroupGives g turns args (answer.Done shown) = (exit pc left : ℕ) × (results : Arguments)
+    × (eval g (listed g) (arguments_of args g) turns ≡ Done exit pc results left) × (shown ≡ shown_of g args (turns - left) pc results)

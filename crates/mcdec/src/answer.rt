@@ -1,58 +1,70 @@
-//! What is answered, and how it is printed.
+//! What is answered to a list of words.
 
-use elf_image::ElfFault;
+use elf_image::{ElfFault, NameFault};
 use rv_machine::Stuck;
 use rv_words::{List, Range, Text};
 
 /// The answer to a list of words.
 #[derive(Debug, Drop)]
 pub enum Answer {
-    /// The turns used, the program counter at the exit, the word of each register of the group there, and the bytes of
-    /// memory that were asked for, if the group has a memory.
-    Evaluated {
-        used: u64,
-        pc: u64,
-        registers: List<u8>,
-        words: List<u64>,
-        memory: List<Range>,
-    },
-    /// The steps made, the program counter, the registers that are shown with the word of each, and the bytes of memory
-    /// that were asked for.
-    Met {
-        steps: u64,
-        pc: u64,
-        registers: List<u8>,
-        words: List<u64>,
-        memory: List<Range>,
-    },
-    /// The definition of that number, in the group of that number, isn't well-formed.
-    IllFormed(u64, u32),
-    /// A condition that is needed is false: its definition, and its number there.
-    SideFalse(u32, u64),
-    /// No group of the proof file has the name.
-    NoFunction,
-    /// The word isn't the spelling of an address, and no function of the file has this name.
-    NoSuchStart(Text),
-    /// Functions of this name have different values, of which these are the two least.
-    AmbiguousStart(Text, u64, u64),
-    /// After that many steps there was no next one.
-    StuckAfter(u64, Stuck),
     /// The words are no command.
     NotACommand,
-    /// The proof file isn't one, from this line on.
-    UnreadableText(u64),
-    /// The ELF file has this fault.
-    UnreadableElf(ElfFault),
     /// A read of the shelf failed.
     ReadFault,
     /// There was no memory.
     NoMemory,
+    /// What the command `eval` comes to.
+    Eval(EvalAnswer),
+    /// What the command `run` comes to.
+    Run(RunAnswer),
+}
+
+/// What the command `eval` comes to.
+#[derive(Debug, Drop)]
+pub enum EvalAnswer {
     /// The proof file has more bytes than are read.
-    OverLimitProof,
-    /// The ELF file has more bytes than are read.
-    OverLimitElf,
+    OverLimit,
+    /// It isn't a proof file, from this line on.
+    Unreadable(u64),
+    /// In the group of that number, this definition isn't well-formed.
+    IllFormed(u64, u32),
+    /// No group has the name.
+    NoFunction,
+    /// A condition that is needed is false: its definition, and its number there.
+    SideFalse(u32, u64),
     /// The evaluation used all its turns.
     TurnsUsed,
+    /// It ended: the turns used, the program counter at the exit, the words of the group's registers there, and, if the
+    /// group has a memory, the bytes that were asked for.
+    Done(Shown),
+}
+
+/// What the command `run` comes to.
+#[derive(Debug, Drop)]
+pub enum RunAnswer {
+    /// The ELF file has more bytes than are read.
+    OverLimit,
+    /// It has this fault.
+    Unreadable(ElfFault),
+    /// START isn't the spelling of an address, and as a name it has no one value.
+    StartRefused(Text, NameFault),
+    /// After that many steps there was no next one.
+    Stuck(u64, Stuck),
     /// The run made all its steps.
     StepsUsed,
+    /// It met the address: the steps made, the program counter, the words of registers that were given one or don't hold 0, and
+    /// the bytes that were asked for.
+    Met(Shown),
+}
+
+/// What is shown of the end of an evaluation or a run.
+#[derive(Debug, Drop)]
+pub struct Shown {
+    /// How many turns or steps there were.
+    pub count: u64,
+    pub pc: u64,
+    pub registers: List<u8>,
+    /// The word of each of these registers.
+    pub words: List<u64>,
+    pub memory: List<Range>,
 }

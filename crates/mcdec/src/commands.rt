@@ -1,9 +1,9 @@
 //! The program's commands, over a shelf of files and a sink.
 
-ghost use Rattle.std.specs.Prelude.{◌≡◌, ℕ, ◌≤◌, ◌⊎◌, List, IfSome};
+ghost use Rattle.std.specs.Prelude.{◌≡◌, ℕ, ◌≤◌, ◌⊎◌, List, Some, IfSome};
 ghost use Rattle.mc_shelf.specs.Fault.{Rose, WhereTold};
-ghost use Rattle.mcdec.specs.Answer.{ForContents, Gives, IsDetermined, KeepsNames, ReadsAreTold};
-ghost use Rattle.mcdec.specs.CommandReading.{texts};
+ghost use Rattle.mcdec.specs.Answer.{Gives, IsDetermined, KeepsNames, ReadsAreTold};
+ghost use Rattle.mcdec.specs.Command.{texts};
 ghost use Rattle.mcdec.specs.Printed.{IsDelivered, IsPrinted};
 ghost use Rattle.mcdec.specs.declared.answer.Answer.{Answer as AnswerOf};
 
@@ -22,14 +22,14 @@ pub fn run_words<S: Shelf, O: Sink>(
     shelf: &mut S,
     out: &mut O,
 ) -> u8
-    // The sink gains the lines of an answer that the words and the files give, and the status is the answer's.
+    // The sink gains the lines of an answer that is given to the words, and the status is the answer's.
     ensures lines { (a : AnswerOf)
-        × ForContents (S.contents shelf.old) (λ files. Gives files (texts words.now) (Rose (S.read_faults shelf.old) (S.read_faults shelf.new)) a)
+        × Gives (S.contents shelf.old) (texts words.now) (Rose (S.read_faults shelf.old) (S.read_faults shelf.new)) a
         × IsDelivered a result (O.written out.old) (O.written out.new) }
 
-    // Where they give an answer, it comes, but for faults of the outside and want of memory.
+    // An answer that the words and the files give comes, but for faults of the outside and want of memory.
     ensures exact { IfSome (S.contents shelf.old) (λ files. (a : AnswerOf) → IsDetermined a
-        → Gives files (texts words.now) (Rose (S.read_faults shelf.old) (S.read_faults shelf.new)) a
+        → Gives (Some files) (texts words.now) (Rose (S.read_faults shelf.old) (S.read_faults shelf.new)) a
         → IsPrinted a result (O.written out.old) (O.written out.new) ⊎ (result ≡ 4) ⊎ (result ≡ 5) ⊎ (result ≡ 6)) }
 
     ensures read_fault { result ≡ 4 → Rose (S.read_faults shelf.old) (S.read_faults shelf.new) }
@@ -48,7 +48,7 @@ pub fn run_words<S: Shelf, O: Sink>(
 
 /// The answer to the words.
 fn answer_words<S: Shelf>(alloc: Global, words: &[String], shelf: &mut S) -> Answer
-    ensures gives { ForContents (S.contents shelf.old) (λ files. Gives files (texts words.now) (Rose (S.read_faults shelf.old) (S.read_faults shelf.new)) result) }
+    ensures gives { Gives (S.contents shelf.old) (texts words.now) (Rose (S.read_faults shelf.old) (S.read_faults shelf.new)) result }
 
     ensures kept { WhereTold (S.contents shelf.old) (S.contents shelf.new) (KeepsNames (texts words.now)) }
     ensures counted { (S.read_faults shelf.old ≤ S.read_faults shelf.new) × (S.write_faults shelf.old ≤ S.write_faults shelf.new) }

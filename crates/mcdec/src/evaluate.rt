@@ -1,18 +1,18 @@
 //! The command `eval`.
 
-ghost use Rattle.std.specs.Prelude.{◌≡◌, ℕ, ◌≤◌, List, [], ◌∷◌, ◌++◌, All, map, IfOk};
+ghost use Rattle.std.specs.Prelude.{◌≡◌, ℕ, ◌≤◌, List, [], ◌∷◌, ◌++◌, All, length, map, IfOk};
 ghost use Rattle.mc_shelf.specs.Fault.{Rose};
 ghost use Rattle.tailrec_lang.specs.Tree.{GroupTree, group_tree};
 ghost use Rattle.tailrec_lang.specs.Eval.{HasFewNeeds};
 ghost use Rattle.tailrec_lang.specs.WellFormed.{IsWellFormed};
 ghost use Rattle.proof_text.specs.Limits.{IsGroup};
-ghost use Rattle.mcdec.specs.Answer.{ForContents, Gives, ReadsAreTold};
+ghost use Rattle.mcdec.specs.Answer.{Gives, ReadsAreTold};
 ghost use Rattle.mcdec.specs.Command.{Arg, AreArgs, IsMemory};
 ghost use Rattle.mcdec.specs.CommandReading.{HoldsArgs, IsReadEval, value_in};
-ghost use Rattle.mcdec.specs.EvalAnswer.{GroupGives, TextGives};
-ghost use Rattle.mcdec.specs.Search.{Finds, FoundSo, NextIs};
+ghost use Rattle.mcdec.specs.EvalAnswer.{EvalGives, proof_limit};
+ghost use Rattle.mcdec.specs.Search.{Finds, FoundSo, GroupGives, NextIs};
 
-use crate::answer::Answer;
+use crate::answer::{Answer, EvalAnswer, Shown};
 use crate::command::{Eval, Registers};
 use crate::memory::{memories, ranges_in};
 use mc_shelf::{ReadEnd, Shelf, read_file};
@@ -41,7 +41,7 @@ pub enum Refusal {
 pub fn evaluate<S: Shelf>(alloc: Global, e: &Eval<'_>, shelf: &mut S) -> Answer
     requires { All IsMemory e.now.memory }
     ensures gives { (ws : List (List ℕ)) → IsReadEval ws e.now
-        → ForContents (S.contents shelf.old) (λ files. Gives files ws (Rose (S.read_faults shelf.old) (S.read_faults shelf.new)) result) }
+        → Gives (S.contents shelf.old) ws (Rose (S.read_faults shelf.old) (S.read_faults shelf.new)) result }
 
     ensures kept { S.contents shelf.new ≡ S.contents shelf.old }
     ensures counted { (S.read_faults shelf.old ≤ S.read_faults shelf.new) × (S.write_faults shelf.old ≤ S.write_faults shelf.new) }
@@ -51,26 +51,27 @@ pub fn evaluate<S: Shelf>(alloc: Global, e: &Eval<'_>, shelf: &mut S) -> Answer
     let text = match read_file(alloc, shelf, e.proof, PROOF_LIMIT) {
         Ok(text) => text,
         Err(ReadEnd::Fault) => return Answer::ReadFault,
-        Err(ReadEnd::TooLong) => return Answer::OverLimitProof,
+        Err(ReadEnd::TooLong) => return Answer::Eval(EvalAnswer::OverLimit),
         Err(ReadEnd::NoMemory) => return Answer::NoMemory,
     };
     match evaluate_text(alloc, text.as_slice(), e) {
-        Ok(answer) => answer,
+        Ok(answer) => Answer::Eval(answer),
         Err(NoMemory) => Answer::NoMemory,
     }
 }
 
 /// The answer to `eval` where its proof file has this text.
-fn evaluate_text(alloc: Global, text: &[u8], e: &Eval<'_>) -> Result<Answer, NoMemory>
-    requires { All IsMemory e.now.memory }
+fn evaluate_text(alloc: Global, text: &[u8], e: &Eval<'_>) -> Result<EvalAnswer, NoMemory>
+    requires memory { All IsMemory e.now.memory }
+    requires within { length text.now ≤ proof_limit }
     ensures { (args : List Arg) → AreArgs args → HoldsArgs args e.now.given.values e.now.memory
-        → IfOk result (λ a. TextGives text.now e.now.name.now e.now.turns args a) }
+        → IfOk result (λ a. EvalGives text.now e.now.name.now e.now.turns args a) }
 {
     match find_group(alloc, text, e.name) {
         Ok(g) => evaluate_group(alloc, g, e),
-        Err(Refusal::Text(line)) => Ok(Answer::UnreadableText(line)),
-        Err(Refusal::IllFormed(group, def)) => Ok(Answer::IllFormed(group, def)),
-        Err(Refusal::NoFunction) => Ok(Answer::NoFunction),
+        Err(Refusal::Text(line)) => Ok(EvalAnswer::Unreadable(line)),
+        Err(Refusal::IllFormed(group, def)) => Ok(EvalAnswer::IllFormed(group, def)),
+        Err(Refusal::NoFunction) => Ok(EvalAnswer::NoFunction),
         Err(Refusal::NoMemory) => Err(NoMemory),
     }
 }
@@ -125,7 +126,7 @@ fn next_group(alloc: Global, reader: &mut Reader<'_>, number: u64) -> Result<Opt
 }
 
 /// The answer to `eval` of the listed function of this group.
-fn evaluate_group(alloc: Global, g: Group, e: &Eval<'_>) -> Result<Answer, NoMemory>
+fn evaluate_group(alloc: Global, g: Group, e: &Eval<'_>) -> Result<EvalAnswer, NoMemory>
     requires group { IsGroup (group_tree g) }
     requires well_formed { IsWellFormed (group_tree g) }
     requires needs { HasFewNeeds (group_tree g) }
@@ -139,16 +140,16 @@ fn evaluate_group(alloc: Global, g: Group, e: &Eval<'_>) -> Result<Answer, NoMem
     match eval(alloc, &g, def, &Args { words, mems }, e.turns)? {
         Outcome::Done { pc, args, left, .. } => {
             let memory = ranges_in(alloc, args.mems.as_slice(), e.memory.as_slice())?;
-            Ok(Answer::Evaluated {
-                used: e.turns - left,
+            Ok(EvalAnswer::Done(Shown {
+                count: e.turns - left,
                 pc,
                 registers: g.regs,
                 words: args.words,
                 memory,
-            })
+            }))
         }
-        Outcome::SideFalse { def, ordinal } => Ok(Answer::SideFalse(def, ordinal)),
-        Outcome::Turns => Ok(Answer::TurnsUsed),
+        Outcome::SideFalse { def, ordinal } => Ok(EvalAnswer::SideFalse(def, ordinal)),
+        Outcome::Turns => Ok(EvalAnswer::TurnsUsed),
     }
 }
 

@@ -1,20 +1,20 @@
 //! Printing an answer into a sink, piece by piece. It takes no memory.
 
 ghost use Rattle.std.specs.Prelude.{◌≡◌, ◌≤◌, ℕ, List, map, codes, ◌++◌};
-ghost use Rattle.mcdec.specs.Printed.{count_lines, each, end_lines, lines, memory_line, register_line, register_lines, fault_words, stuck_words, status, IsDelivered};
+ghost use Rattle.mcdec.specs.Printed.{count_lines, each, eval_printed, fault_words, lines, memory_line, name_words, register_line, register_lines, run_printed, shown_lines, status, stuck_words, IsDelivered};
 ghost use Rattle.std.specs.Fmt.{decimal};
 ghost use Rattle.hex.specs.Hex.{encode_lower};
 ghost use Rattle.mc_shelf.specs.Fault.{Rose};
 ghost use Rattle.mc_text.specs.Number.{hex};
 ghost use Rattle.mcdec.specs.Printing.{Prints, piece_text, pieces_text};
 
-use crate::answer::Answer;
-use elf_image::ElfFault;
+use crate::answer::{Answer, EvalAnswer, RunAnswer, Shown};
+use elf_image::{ElfFault, NameFault};
 use itoa::Buffer;
-use rv_words::Range;
 use mc_shelf::{Sink, Stop};
 use mc_text::{digit_pair, hex_into};
 use rv_machine::Stuck;
+use rv_words::Range;
 
 /// A piece of a line.
 #[derive(Clone, Copy, Debug)]
@@ -89,23 +89,38 @@ fn status(answer: &Answer) -> u8
     ensures { result ≡ status answer.now }
 {
     match answer {
-        Answer::Evaluated { .. } => 0,
-        Answer::Met { .. } => 0,
-        Answer::IllFormed(..) => 1,
-        Answer::SideFalse(..) => 1,
-        Answer::NoFunction => 1,
-        Answer::NoSuchStart(_) => 1,
-        Answer::AmbiguousStart(..) => 1,
-        Answer::StuckAfter(..) => 1,
         Answer::NotACommand => 2,
-        Answer::UnreadableText(_) => 3,
-        Answer::UnreadableElf(_) => 3,
         Answer::ReadFault => 4,
         Answer::NoMemory => 6,
-        Answer::OverLimitProof => 7,
-        Answer::OverLimitElf => 7,
-        Answer::TurnsUsed => 7,
-        Answer::StepsUsed => 7,
+        Answer::Eval(a) => eval_status(a),
+        Answer::Run(a) => run_status(a),
+    }
+}
+
+fn eval_status(answer: &EvalAnswer) -> u8
+    ensures { result ≡ (eval_printed answer.now).0 }
+{
+    match answer {
+        EvalAnswer::OverLimit => 7,
+        EvalAnswer::Unreadable(_) => 3,
+        EvalAnswer::IllFormed(..) => 1,
+        EvalAnswer::NoFunction => 1,
+        EvalAnswer::SideFalse(..) => 1,
+        EvalAnswer::TurnsUsed => 7,
+        EvalAnswer::Done(_) => 0,
+    }
+}
+
+fn run_status(answer: &RunAnswer) -> u8
+    ensures { result ≡ (run_printed answer.now).0 }
+{
+    match answer {
+        RunAnswer::OverLimit => 7,
+        RunAnswer::Unreadable(_) => 3,
+        RunAnswer::StartRefused(..) => 1,
+        RunAnswer::Stuck(..) => 1,
+        RunAnswer::StepsUsed => 7,
+        RunAnswer::Met(_) => 0,
     }
 }
 
@@ -113,53 +128,38 @@ fn put_answer<O: Sink>(out: &mut O, answer: &Answer) -> Result<(), Stop>
     ensures { Prints result (lines answer.now) (O.written out.old) (O.written out.new) (O.faults out.old) (O.faults out.new) }
 {
     match answer {
-        Answer::Evaluated {
-            used,
-            pc,
-            registers,
-            words,
-            memory,
-        } => put_end(
-            out,
-            b"done ",
-            *used,
-            *pc,
-            registers.as_slice(),
-            words.as_slice(),
-            memory.as_slice(),
-        ),
-        Answer::Met {
-            steps,
-            pc,
-            registers,
-            words,
-            memory,
-        } => put_end(
-            out,
-            b"met ",
-            *steps,
-            *pc,
-            registers.as_slice(),
-            words.as_slice(),
-            memory.as_slice(),
-        ),
-        Answer::IllFormed(group, def) => put_ill_formed(out, *group, *def),
-        Answer::SideFalse(def, ordinal) => put_side_false(out, *def, *ordinal),
-        Answer::NoFunction => put_text(out, b"refused no function\n"),
-        Answer::NoSuchStart(name) => put_no_such(out, name.as_slice()),
-        Answer::AmbiguousStart(name, low, high) => {
-            put_ambiguous(out, name.as_slice(), *low, *high)
-        }
-        Answer::StuckAfter(steps, why) => put_stuck(out, *steps, why),
         Answer::NotACommand => put_text(out, b"not a command\n"),
-        Answer::UnreadableText(line) => put_unreadable_text(out, *line),
-        Answer::UnreadableElf(why) => put_unreadable_elf(out, why),
         Answer::ReadFault => put_text(out, b"read fault\n"),
         Answer::NoMemory => put_text(out, b"no memory\n"),
-        Answer::OverLimitProof => put_text(out, b"over limit proof\n"),
-        Answer::OverLimitElf => put_text(out, b"over limit elf\n"),
-        Answer::TurnsUsed => put_text(out, b"turns used\n"),
-        Answer::StepsUsed => put_text(out, b"steps used\n"),
+        Answer::Eval(a) => put_eval(out, a),
+        Answer::Run(a) => put_run(out, a),
+    }
+}
+
+fn put_eval<O: Sink>(out: &mut O, answer: &EvalAnswer) -> Result<(), Stop>
+    ensures { Prints result (eval_printed answer.now).1 (O.written out.old) (O.written out.new) (O.faults out.old) (O.faults out.new) }
+{
+    match answer {
+        EvalAnswer::OverLimit => put_text(out, b"over limit proof\n"),
+        EvalAnswer::Unreadable(line) => put_unreadable_text(out, *line),
+        EvalAnswer::IllFormed(group, def) => put_ill_formed(out, *group, *def),
+        EvalAnswer::NoFunction => put_text(out, b"refused no function\n"),
+        EvalAnswer::SideFalse(def, ordinal) => put_side_false(out, *def, *ordinal),
+        EvalAnswer::TurnsUsed => put_text(out, b"turns used\n"),
+        EvalAnswer::Done(shown) => put_shown(out, b"done ", shown),
+    }
+}
+
+fn put_run<O: Sink>(out: &mut O, answer: &RunAnswer) -> Result<(), Stop>
+    ensures { Prints result (run_printed answer.now).1 (O.written out.old) (O.written out.new) (O.faults out.old) (O.faults out.new) }
+{
+    match answer {
+        RunAnswer::OverLimit => put_text(out, b"over limit elf\n"),
+        RunAnswer::Unreadable(why) => put_unreadable_elf(out, why),
+        RunAnswer::StartRefused(start, why) => put_start_refused(out, start.as_slice(), *why),
+        RunAnswer::Stuck(steps, why) => put_stuck(out, *steps, why),
+        RunAnswer::StepsUsed => put_text(out, b"steps used\n"),
+        RunAnswer::Met(shown) => put_shown(out, b"met ", shown),
     }
 }
 
@@ -199,34 +199,32 @@ fn put_side_false<O: Sink>(out: &mut O, def: u32, ordinal: u64) -> Result<(), St
     )
 }
 
-fn put_no_such<O: Sink>(out: &mut O, name: &[u8]) -> Result<(), Stop>
-    ensures { Prints result (codes "refused " ++ name.now ++ codes " no-such\n") (O.written out.old) (O.written out.new) (O.faults out.old) (O.faults out.new) }
+/// The line of a START that stands for no address.
+fn put_start_refused<O: Sink>(out: &mut O, start: &[u8], why: NameFault) -> Result<(), Stop>
+    ensures { Prints result (codes "refused " ++ start.now ++ codes " " ++ name_words why ++ codes "\n") (O.written out.old) (O.written out.new) (O.faults out.old) (O.faults out.new) }
 {
-    put_all(
-        out,
-        &[
-            Piece::Text(b"refused "),
-            Piece::Text(name),
-            Piece::Text(b" no-such\n"),
-        ],
-    )
-}
-
-fn put_ambiguous<O: Sink>(out: &mut O, name: &[u8], low: u64, high: u64) -> Result<(), Stop>
-    ensures { Prints result (codes "refused " ++ name.now ++ codes " ambiguous " ++ hex low ++ codes " " ++ hex high ++ codes "\n") (O.written out.old) (O.written out.new) (O.faults out.old) (O.faults out.new) }
-{
-    put_all(
-        out,
-        &[
-            Piece::Text(b"refused "),
-            Piece::Text(name),
-            Piece::Text(b" ambiguous "),
-            Piece::Hex(low),
-            Piece::Text(b" "),
-            Piece::Hex(high),
-            Piece::Text(b"\n"),
-        ],
-    )
+    match why {
+        NameFault::NoSuch => put_all(
+            out,
+            &[
+                Piece::Text(b"refused "),
+                Piece::Text(start),
+                Piece::Text(b" no-such\n"),
+            ],
+        ),
+        NameFault::Ambiguous(low, high) => put_all(
+            out,
+            &[
+                Piece::Text(b"refused "),
+                Piece::Text(start),
+                Piece::Text(b" ambiguous "),
+                Piece::Hex(low),
+                Piece::Text(b" "),
+                Piece::Hex(high),
+                Piece::Text(b"\n"),
+            ],
+        ),
+    }
 }
 
 fn put_unreadable_text<O: Sink>(out: &mut O, line: u64) -> Result<(), Stop>
@@ -348,6 +346,20 @@ fn put_overlap<O: Sink>(out: &mut O, i: u64, j: u64) -> Result<(), Stop>
 }
 
 /// The lines of the end of a run or an evaluation.
+fn put_shown<O: Sink>(out: &mut O, word: &[u8], shown: &Shown) -> Result<(), Stop>
+    ensures { Prints result (shown_lines word.now shown.now) (O.written out.old) (O.written out.new) (O.faults out.old) (O.faults out.new) }
+{
+    put_end(
+        out,
+        word,
+        shown.count,
+        shown.pc,
+        shown.registers.as_slice(),
+        shown.words.as_slice(),
+        shown.memory.as_slice(),
+    )
+}
+
 fn put_end<O: Sink>(
     out: &mut O,
     word: &[u8],
@@ -357,7 +369,7 @@ fn put_end<O: Sink>(
     words: &[u64],
     memory: &[Range],
 ) -> Result<(), Stop>
-    ensures { Prints result (end_lines word.now count pc registers.now words.now memory.now) (O.written out.old) (O.written out.new) (O.faults out.old) (O.faults out.new) }
+    ensures { Prints result (count_lines word.now count pc ++ register_lines registers.now words.now ++ each memory_line memory.now) (O.written out.old) (O.written out.new) (O.faults out.old) (O.faults out.new) }
 {
     put_count(out, word, count, pc)?;
     put_registers(out, registers, words)?;

@@ -6,13 +6,14 @@ ghost use Rattle.elf_image.specs.Image.{IsPlaced, bytes_in, image_of, padded};
 ghost use Rattle.mc_shelf.specs.Fault.{Rose};
 ghost use Rattle.rv_words.specs.Bytes.{bytes_from};
 ghost use Rattle.rv_machine.specs.State.{empty_state, state_of, with_bytes};
-ghost use Rattle.mcdec.specs.Answer.{ForContents, Gives, ReadsAreTold};
+ghost use Rattle.mcdec.specs.Answer.{Gives, ReadsAreTold};
 ghost use Rattle.mcdec.specs.Command.{AreArgs, AreGiven, Arg, Given, IsMemory, value_of};
 ghost use Rattle.mcdec.specs.CommandReading.{Holds, HoldsArgs, IsReadRun};
 ghost use Rattle.mcdec.specs.Memory.{placed};
-ghost use Rattle.mcdec.specs.RunAnswer.{ImageGives, MachineGives, StandsFor, begin, shown, start_refused};
+ghost use Rattle.mcdec.specs.RunAnswer.{RunGives, StandsFor, begin, elf_limit};
+ghost use Rattle.mcdec.specs.Running.{MachineGives, shown_with};
 
-use crate::answer::Answer;
+use crate::answer::{Answer, RunAnswer, Shown};
 use crate::command::{Registers, Run};
 use crate::memory::ranges_now;
 use elf_image::{ElfFault, Image, NameFault, Piece, read};
@@ -29,7 +30,7 @@ const ELF_LIMIT: u64 = 67_108_864;
 pub fn run_file<S: Shelf>(alloc: Global, r: &Run<'_>, shelf: &mut S) -> Answer
     requires { All IsMemory r.now.memory }
     ensures gives { (ws : List (List ℕ)) → IsReadRun ws r.now
-        → ForContents (S.contents shelf.old) (λ files. Gives files ws (Rose (S.read_faults shelf.old) (S.read_faults shelf.new)) result) }
+        → Gives (S.contents shelf.old) ws (Rose (S.read_faults shelf.old) (S.read_faults shelf.new)) result }
 
     ensures kept { S.contents shelf.new ≡ S.contents shelf.old }
     ensures counted { (S.read_faults shelf.old ≤ S.read_faults shelf.new) × (S.write_faults shelf.old ≤ S.write_faults shelf.new) }
@@ -39,30 +40,34 @@ pub fn run_file<S: Shelf>(alloc: Global, r: &Run<'_>, shelf: &mut S) -> Answer
     let file = match read_file(alloc, shelf, r.elf, ELF_LIMIT) {
         Ok(file) => file,
         Err(ReadEnd::Fault) => return Answer::ReadFault,
-        Err(ReadEnd::TooLong) => return Answer::OverLimitElf,
+        Err(ReadEnd::TooLong) => return Answer::Run(RunAnswer::OverLimit),
         Err(ReadEnd::NoMemory) => return Answer::NoMemory,
     };
     match run_bytes(alloc, file, r) {
-        Ok(answer) => answer,
+        Ok(answer) => Answer::Run(answer),
         Err(NoMemory) => Answer::NoMemory,
     }
 }
 
 /// The answer to `run` where its ELF file has these bytes. They are let go before the run's memory is made.
-fn run_bytes(alloc: Global, file: Bytes, r: &Run<'_>) -> Result<Answer, NoMemory>
-    requires { All IsMemory r.now.memory }
+fn run_bytes(alloc: Global, file: Bytes, r: &Run<'_>) -> Result<RunAnswer, NoMemory>
+    requires memory { All IsMemory r.now.memory }
+    requires within { length file ≤ elf_limit }
     ensures { (args : List Arg) → AreArgs args → HoldsArgs args r.now.given.values r.now.memory
-        → IfOk result (λ a. ImageGives file r.now.start.now r.now.until r.now.steps args a) }
+        → IfOk result (λ a. RunGives file r.now.start.now r.now.until r.now.steps args a) }
 {
     let image = match read(alloc, file.as_slice()) {
         Ok(image) => image,
         Err(ElfFault::NoMemory) => return Err(NoMemory),
-        Err(why) => return Ok(Answer::UnreadableElf(why)),
+        Err(why) => return Ok(RunAnswer::Unreadable(why)),
     };
     drop(file);
     match address_of(&image, r.start) {
         Ok(start) => run_image(alloc, image, start, r),
-        Err(fault) => refused(alloc, r.start, fault),
+        Err(why) => {
+            let start = Text::from_slice(alloc, r.start)?;
+            Ok(RunAnswer::StartRefused(start, why))
+        }
     }
 }
 
@@ -76,19 +81,8 @@ fn address_of(image: &Image, start: &[u8]) -> Result<u64, NameFault>
     }
 }
 
-/// The answer where START stands for no address.
-fn refused(alloc: Global, start: &[u8], fault: NameFault) -> Result<Answer, NoMemory>
-    ensures { IfOk result (λ a. a ≡ start_refused start.now fault) }
-{
-    let name = Text::from_slice(alloc, start)?;
-    match fault {
-        NameFault::NoSuch => Ok(Answer::NoSuchStart(name)),
-        NameFault::Ambiguous(low, high) => Ok(Answer::AmbiguousStart(name, low, high)),
-    }
-}
-
 /// The answer to `run` from an address of this image. It is let go before the run.
-fn run_image(alloc: Global, image: Image, start: u64, r: &Run<'_>) -> Result<Answer, NoMemory>
+fn run_image(alloc: Global, image: Image, start: u64, r: &Run<'_>) -> Result<RunAnswer, NoMemory>
     requires { All IsMemory r.now.memory }
     ensures { (args : List Arg) → AreArgs args → HoldsArgs args r.now.given.values r.now.memory → (file : List ℕ) → image ≡ image_of file
         → IfOk result (λ a. MachineGives r.now.until r.now.steps args (begin file args start) a) }
@@ -101,10 +95,11 @@ fn run_image(alloc: Global, image: Image, start: u64, r: &Run<'_>) -> Result<Ans
     match state.run(r.until, r.steps) {
         RunEnd::Met(steps) => {
             let memory = ranges_now(alloc, state.memory(), r.memory.as_slice())?;
-            met(alloc, steps, &state, &r.given, memory)
+            let shown = shown(alloc, steps, &state, &r.given, memory)?;
+            Ok(RunAnswer::Met(shown))
         }
-        RunEnd::Stuck(steps, why) => Ok(Answer::StuckAfter(steps, why)),
-        RunEnd::Steps => Ok(Answer::StepsUsed),
+        RunEnd::Stuck(steps, why) => Ok(RunAnswer::Stuck(steps, why)),
+        RunEnd::Steps => Ok(RunAnswer::StepsUsed),
     }
 }
 
@@ -151,16 +146,16 @@ fn set_registers(state: &mut State, values: &Registers)
     }
 }
 
-/// The answer where the address was met: the state there, with the registers that were given a value or don't hold 0.
-fn met(
+/// What is shown of a state after that many steps: the registers that were given a value or don't hold 0.
+fn shown(
     alloc: Global,
-    steps: u64,
+    count: u64,
     state: &State,
     values: &Registers,
     memory: List<Range>,
-) -> Result<Answer, NoMemory>
+) -> Result<Shown, NoMemory>
     ensures { (given : List Given) → Holds given values.now.values
-        → IfOk result (λ a. a ≡ Answer.Met steps (state_of state.now).pc (shown given (state_of state.now)) (map (state_of state.now).reg (shown given (state_of state.now))) memory) }
+        → IfOk result (λ s. s ≡ shown_with given count (state_of state.now) memory) }
 {
     let mut registers = List::new(alloc);
     let mut words = List::new(alloc);
@@ -171,8 +166,8 @@ fn met(
             words.push(word)?;
         }
     }
-    Ok(Answer::Met {
-        steps,
+    Ok(Shown {
+        count,
         pc: state.pc(),
         registers,
         words,

@@ -1,5 +1,5 @@
 use Rattle.mcdec.proofs.Exactness.{exact-given}
-use Rattle.mcdec.specs.CommandReading.{texts}
+use Rattle.mcdec.specs.Command.{texts}
 use Rattle.mcdec.proofs.commands.run_words.Goals as goal
 
 pub returns-clause-exact : goal.returns-clause-exact

@@ -1,28 +1,27 @@
-use Rattle.std.proofs.Common.{rules, subst, length, ◌≤◌}
+use Rattle.std.proofs.Common.{rules, length, ◌≤◌, ◌<◌, subst}
 use Rattle.mcdec.specs.Command.{Eval}
-use Rattle.mcdec.specs.EvalAnswer.{proof_limit, TextGives}
-use Rattle.mcdec.proofs.Answers.{no-memory-given, fault-given, limit-given, text-given, proof-told}
+use Rattle.mcdec.specs.EvalAnswer.{proof_limit, EvalGives}
+use Rattle.mcdec.specs.declared.answer.EvalAnswer.TheVariants as answer
+use Rattle.mcdec.proofs.Answers.{held-with, held-such, proof-told, one-file}
 use Rattle.mcdec.proofs.evaluate.evaluate.Goals as goal
 
 pub returns-in-Err-Fault-clause-gives : goal.returns-in-Err-Fault-clause-gives
-returns-in-Err-Fault-clause-gives g c ws is = fault-given (g.S.Shelf.contents c.args.shelf.now) ws _ (Eval c.args.e.now.proof.now c.args.e.now.name.now c.args.e.now.turns is.0) is.1 (c.read_file.ensures.cause (search rules))
+returns-in-Err-Fault-clause-gives g c ws is = (Eval c.args.e.now.proof.now c.args.e.now.name.now c.args.e.now.turns is.0, is.1, one-file c.args.e.now.proof.now, c.read_file.ensures.cause (search rules))
 
 pub returns-in-Err-TooLong-clause-gives : goal.returns-in-Err-TooLong-clause-gives
 returns-in-Err-TooLong-clause-gives g c ws is =
-    limit-given (g.S.Shelf.contents c.args.shelf.now) ws c.args.e.now.proof.now c.args.e.now.name.now c.args.e.now.turns is.0 is.1 (c.read_file.ensures.too_long (search rules))
-
-pub returns-in-Err-NoMemory-clause-gives : goal.returns-in-Err-NoMemory-clause-gives
-returns-in-Err-NoMemory-clause-gives g c ws is = no-memory-given (g.S.Shelf.contents c.args.shelf.now)
+    (c.args.e.now.proof.now, c.args.e.now.name.now, c.args.e.now.turns, is.0, is.1, held-such (g.S.Shelf.contents c.args.shelf.now) c.args.e.now.proof.now (λ file. proof_limit < length file) (c.read_file.ensures.too_long (search rules)))
 
 pub returns-in-Ok-evaluate_text-clause-gives : goal.returns-in-Ok-evaluate_text-clause-gives
 returns-in-Ok-evaluate_text-clause-gives g c ws is =
-    let text = c.in-Ok.text in
-    let small : length text ≤ proof_limit = c.in-Ok.ensures.within in
-    let gives : TextGives text c.args.e.now.name.now c.args.e.now.turns is.0 c.in-Ok-evaluate_text.answer = subst (λ t. TextGives t c.args.e.now.name.now c.args.e.now.turns is.0 c.in-Ok-evaluate_text.answer) c.as_slice.ensures (c.in-Ok-evaluate_text.ensures is.0 is.1.0.3 is.2) in
-    text-given (g.S.Shelf.contents c.args.shelf.now) ws _ c.args.e.now.proof.now c.args.e.now.name.now c.args.e.now.turns is.0 is.1 text c.in-Ok.ensures.whole small c.in-Ok-evaluate_text.answer gives
-
-pub returns-clause-gives : goal.returns-clause-gives
-returns-clause-gives g c ws is = no-memory-given (g.S.Shelf.contents c.args.shelf.now)
+    let gives = subst (λ t. EvalGives t c.args.e.now.name.now c.args.e.now.turns is.0 c.in-Ok-evaluate_text.answer) c.as_slice.ensures (c.in-Ok-evaluate_text.ensures is.0 is.1.0.3 is.2) in (
+      c.args.e.now.proof.now,
+      c.args.e.now.name.now,
+      c.args.e.now.turns,
+      is.0,
+      is.1,
+      held-with (g.S.Shelf.contents c.args.shelf.now) c.args.e.now.proof.now c.in-Ok.text (λ file. EvalGives file c.args.e.now.name.now c.args.e.now.turns is.0 c.in-Ok-evaluate_text.answer) c.in-Ok.ensures.whole gives,
+    )
 
 pub returns-in-Err-Fault-clause-sure : goal.returns-in-Err-Fault-clause-sure
 returns-in-Err-Fault-clause-sure g c ws is sure told =

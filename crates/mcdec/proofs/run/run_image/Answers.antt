@@ -13,7 +13,7 @@ returns-in-Met c args all h file image =
     let same : state_of c.set_registers.new.state ≡ begin file args c.args.start =
     begun file args c.args.start c.pieces.result.now c.as_slice.result.now (state_of c.new-state.result) (state_of c.place_pieces.new.state) (state_of c.place_ranges.new.state) (state_of c.set_registers.new.state)
     (c.pieces.ensures.pieces ∙ ap (λ (i : ImageOf). i.pieces) image) (c.as_slice.ensures ∙ h.1) c.new-state.ensures.state c.in_ok-place_pieces.ensures c.in_ok-place_ranges.ensures (c.set_registers.ensures (givens args) all.0 h.0) in
-    met-given c.args.r.now.until c.args.r.now.steps args (state_of c.set_registers.new.state) (begin file args c.args.start) (state_of c.run.new.self) same c.met.result c.in-Met.steps c.in_ok-memory-in-Met.memory c.as_slice-in-Met.result.now c.in-Met.ensures (c.as_slice-in-Met.ensures ∙ h.1) (c.in_ok-memory-in-Met.ensures ∙ (λ i. map (held_at (get (c.memory.ensures i))) c.as_slice-in-Met.result.now)) (c.met.ensures (givens args) h.0)
+    met-given c.args.r.now.until c.args.r.now.steps args (state_of c.set_registers.new.state) (begin file args c.args.start) (state_of c.run.new.self) same c.in_ok-shown-in-Met.shown c.in-Met.steps c.in_ok-memory-in-Met.memory c.as_slice-in-Met.result.now c.in-Met.ensures (c.as_slice-in-Met.ensures ∙ h.1) (c.in_ok-memory-in-Met.ensures ∙ (λ i. map (held_at (get (c.memory.ensures i))) c.as_slice-in-Met.result.now)) (c.in_ok-shown-in-Met.ensures (givens args) h.0)
 
 pub returns-in-Stuck : goal.returns-in-Stuck
 returns-in-Stuck c args all h file image =

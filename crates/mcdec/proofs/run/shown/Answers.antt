@@ -1,8 +1,8 @@
 use Rattle.std.proofs.Common.{arith, sym, ◌∙◌, ◌||◌, not, eqb, is_some}
 use Rattle.rv_machine.specs.State.{state_of}
 use Rattle.mcdec.proofs.SetUp.{shown-more, shown-same, shown-all, shown-given, shown-word, not-shown}
-use Rattle.mcdec.proofs.run.met.Goals as goal
-use Rattle.mcdec.proofs.run.met.Goals.{then-is_some+in_ok-push+in_ok-push-2, then-is_some-via-then-is_some, then-is_some-via-else-is_some+then-word-ne0, else-is_some+else-word-ne0}
+use Rattle.mcdec.proofs.run.shown.Goals as goal
+use Rattle.mcdec.proofs.run.shown.Goals.{then-is_some+in_ok-push+in_ok-push-2, then-is_some-via-then-is_some, then-is_some-via-else-is_some+then-word-ne0, else-is_some+else-word-ne0}
 
 pub loop-register-preserved : goal.loop-register-preserved
 loop-register-preserved c =
@@ -25,4 +25,4 @@ loop-register-preserved c =
 pub returns : goal.returns
 returns c given h =
     shown-all c.args.values.now.values (state_of c.args.state.now) c.loop-register.registers c.loop-register.words c.loop-register.register
-    (omega (arith, c.loop-register-test.false, c.loop-register.auto.register-end)) c.loop-register.invariant given h c.args.steps c.pc.result c.args.memory c.pc.ensures
+    (omega (arith, c.loop-register-test.false, c.loop-register.auto.register-end)) c.loop-register.invariant given h c.args.count c.pc.result c.args.memory c.pc.ensures

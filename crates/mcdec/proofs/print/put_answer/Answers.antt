@@ -1,0 +1,4 @@
+use Rattle.mcdec.proofs.print.put_answer.Goals as goal
+
+pub returns-in-NoMemory : goal.returns-in-NoMemory
+returns-in-NoMemory g c = rw c.in-NoMemory.is c.put_text-in-NoMemory.ensures
