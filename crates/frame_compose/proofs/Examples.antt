@@ -7,9 +7,9 @@ use Rattle.word_terms.specs.Tree.{WordTree, Const, Var, Bin, Compare}
 use Rattle.rv_words.specs.declared.range.Range.{Range}
 use Rattle.sep_assert.specs.Tree.{AssertionTree}
 use Rattle.triple_kernel.specs.Tree.{FactTree, WordIs, So}
-use Rattle.frame_compose.specs.Rules.{IsFrame, AreMissing}
+use Rattle.frame_compose.specs.Rules.{IsFramed, AreMissing}
 
--- `add x10,x10,x11` at 0x10000, and `jalr x0,0(x1)` behind it
+-- `add x10,x10,x11` at 0x10000, and `jalr x0,0(x1)` after it
 abbrev sum : WordTree
 sum = Bin Add (Var 1) (Var 2)
 
@@ -29,12 +29,12 @@ abbrev at : WordTree → List (ℕ × WordTree) → AssertionTree
 at pc regs = record { pc = pc; regs = regs; mems = [] }
 
 -- x1 is further to the first, x10 and x11 to the second
-added : IsFrame
+added : IsFramed
     (record { facts = []; pre = at (Const 0x10000) ((10, Var 1) ∷ (11, Var 2) ∷ []); code = add; post = at (Const 0x10004) ((10, sum) ∷ (11, Var 2) ∷ []) })
     (record { facts = []; pre = at (Const 0x10000) ((1, Var 0) ∷ (10, Var 1) ∷ (11, Var 2) ∷ []); code = add; post = at (Const 0x10004) ((1, Var 0) ∷ (10, sum) ∷ (11, Var 2) ∷ []) })
 added = record { facts = refl; code = refl; pre_pc = refl; post_pc = refl; pre_regs = refl; post_regs = refl; further_regs = refl; pre_mems = refl; post_mems = refl }
 
-returned : IsFrame
+returned : IsFramed
     (record { facts = aligned ∷ []; pre = at (Const 0x10004) ((1, Var 0) ∷ []); code = ret; post = at next ((1, Var 0) ∷ []) })
     (record { facts = aligned ∷ []; pre = at (Const 0x10004) ((1, Var 0) ∷ (10, Var 3) ∷ (11, Var 2) ∷ []); code = ret; post = at next ((1, Var 0) ∷ (10, Var 3) ∷ (11, Var 2) ∷ []) })
 returned = record { facts = refl; code = refl; pre_pc = refl; post_pc = refl; pre_regs = refl; post_regs = refl; further_regs = refl; pre_mems = refl; post_mems = refl }
@@ -43,7 +43,7 @@ differ : sum ≡ Var 1 → ⊥
 differ e = cc
 
 -- the premise's own register can't keep its old term
-kept : IsFrame
+kept : IsFramed
     (record { facts = []; pre = at (Const 0x10000) ((10, Var 1) ∷ (11, Var 2) ∷ []); code = add; post = at (Const 0x10004) ((10, sum) ∷ (11, Var 2) ∷ []) })
     (record { facts = []; pre = at (Const 0x10000) ((1, Var 0) ∷ (10, Var 1) ∷ (11, Var 2) ∷ []); code = add; post = at (Const 0x10004) ((1, Var 0) ∷ (10, Var 1) ∷ (11, Var 2) ∷ []) })
     → ⊥

@@ -5,7 +5,7 @@ use Rattle.std.specs.List.{filter}
 use Rattle.word_terms.specs.Tree.{WordTree, MemTree}
 use Rattle.rv_words.specs.declared.range.Range.{Range}
 use Rattle.triple_kernel.specs.Tree.{FactTree, TripleTree}
-use Rattle.frame_compose.specs.Rules.{IsFrame}
+use Rattle.frame_compose.specs.Rules.{IsFramed}
 use Rattle.frame_compose.proofs.MapLemmas.{given, is_in, own-given, further-given}
 
 -- a triple over registers whose terms before and after are functions of their numbers
@@ -19,7 +19,7 @@ over_registers facts code pc next before after regs ms ns = record {
 
 pub frame_over : (facts : List FactTree) (code : List Range) (pc next : WordTree) (before after : ℕ → WordTree) (own group : List ℕ) (ms ns more : List MemTree)
     → own ≡ filter (is_in own) group → ((r : ℕ) → is_in own r ≡ false → before r ≡ after r)
-    → IsFrame (over_registers facts code pc next before after own ms ns) (over_registers facts code pc next before after group (ms ++ more) (ns ++ more))
+    → IsFramed (over_registers facts code pc next before after own ms ns) (over_registers facts code pc next before after group (ms ++ more) (ns ++ more))
 frame_over facts code pc next before after own group ms ns more within same =
     let rest : drop (length ms) (ms ++ more) ≡ more = drop_at ms more (length ms) refl in
     record {

@@ -6,9 +6,9 @@ use Rattle.rv_words.specs.Ranges.{range_bytes}
 use Rattle.sep_assert.specs.Code.{IsWithin, Agree}
 use Rattle.triple_kernel.specs.Tree.{TripleTree}
 
--- the items of the second list behind as many as the first has
-abbrev pub behind : {A : Type 0} → List A → List A → List A
-behind xs ys = drop (length xs) ys
+-- the items of the second list after as many as the first has
+abbrev pub rest_after : {A : Type 0} → List A → List A → List A
+rest_after xs ys = drop (length xs) ys
 
 -- ---- further registers and memories
 
@@ -26,7 +26,7 @@ further own all = filter (λ q. not (is_listed own q.0)) all
 
 -- t is p with further registers and memories that stay as they are. A further register is in neither pre nor post of p,
 -- since it is further in both (`law_of_further_registers`).
-pub record IsFrame (p t : TripleTree) : Type 0 where
+pub record IsFramed (p t : TripleTree) : Type 0 where
   pub facts : p.facts ≡ t.facts
   pub code : p.code ≡ t.code
   pub pre_pc : p.pre.pc ≡ t.pre.pc
@@ -34,13 +34,13 @@ pub record IsFrame (p t : TripleTree) : Type 0 where
   pub pre_regs : p.pre.regs ≡ listed p.pre.regs t.pre.regs
   pub post_regs : p.post.regs ≡ listed p.post.regs t.post.regs
   pub further_regs : further p.pre.regs t.pre.regs ≡ further p.post.regs t.post.regs
-  pub pre_mems : p.pre.mems ++ behind p.pre.mems t.pre.mems ≡ t.pre.mems
-  pub post_mems : p.post.mems ++ behind p.pre.mems t.pre.mems ≡ t.post.mems
+  pub pre_mems : p.pre.mems ++ rest_after p.pre.mems t.pre.mems ≡ t.pre.mems
+  pub post_mems : p.post.mems ++ rest_after p.pre.mems t.pre.mems ≡ t.post.mems
 
 -- ---- further code
 
 -- t is p over code that has p's
-pub record IsExtension (p t : TripleTree) : Type 0 where
+pub record IsExtended (p t : TripleTree) : Type 0 where
   pub facts : p.facts ≡ t.facts
   pub pre : p.pre ≡ t.pre
   pub post : p.post ≡ t.post
@@ -59,14 +59,14 @@ AreMissing known [] more = [] ≡ more
 AreMissing known (x ∷ xs) more = (Contains known x × AreMissing known xs more) ⊎ ((Contains known x → ⊥) × IsFirst x (AreMissing known xs) more)
 
 -- t is p and then q: q begins where p ends
-pub record IsComposition (p q t : TripleTree) : Type 0 where
+pub record IsComposed (p q t : TripleTree) : Type 0 where
   pub middle : p.post ≡ q.pre
   pub agree : Agree (range_bytes p.code) (range_bytes q.code)
   pub code : over (range_bytes p.code) (range_bytes q.code) ≡ range_bytes t.code
   pub pre : p.pre ≡ t.pre
   pub post : q.post ≡ t.post
-  pub first_facts : p.facts ++ behind p.facts t.facts ≡ t.facts
-  pub further_facts : AreMissing p.facts q.facts (behind p.facts t.facts)
+  pub first_facts : p.facts ++ rest_after p.facts t.facts ≡ t.facts
+  pub further_facts : AreMissing p.facts q.facts (rest_after p.facts t.facts)
 
 -- ---- what further registers are, said at length
 

@@ -17,8 +17,9 @@ use Rattle.rv_words.specs.Ranges.{range_bytes}
 use Rattle.sep_assert.specs.Code.{IsWithin}
 use Rattle.triple_kernel.specs.Tree.{TripleTree}
 use Rattle.triple_kernel.specs.Valid.{Valid}
-use Rattle.instr_axioms.specs.declared.form.Form.{Form}
-use Rattle.instr_axioms.specs.Terms.{sources, destination, has_memory, has_form}
+use Rattle.triple_kernel.specs.declared.form.Form.{Form}
+use Rattle.rv_decode.specs.Registers.{registers_where, sources, destination}
+use Rattle.instr_axioms.specs.Terms.{has_memory, has_form}
 use Rattle.instr_axioms.specs.Axiom.{axiom_of, is_own, own, variables_for, own_triple, triple_if, word_code}
 use Rattle.instr_axioms.proofs.Valid.{StandsIn, valid_over}
 
@@ -79,7 +80,7 @@ some (suc r) h = omega arith
 
 -- each of its registers but x0 is among its own
 own-has : (i : Instr) (r k : ℕ) → NamesRegisters i → k < length (destination i ∷ sources i) → get_or (destination i ∷ sources i) k r ≡ r → (r ≡ 0 → ⊥) → Contains (own i) r
-unfolding own
+unfolding registers_where
 own-has i r k h l at not_x0 =
     let least = some r not_x0 in
     let small = small_at (destination i ∷ sources i) r k (are_small i h) l at in

@@ -3,7 +3,7 @@ use Rattle.std.proofs.Common.{◌≡◌, ℕ, ◌+◌, ◌%◌, ◌^◌, ◌<◌
 use Rattle.std.proofs.Math.Nat.{mod-lt}
 use Rattle.std.proofs.lemmas.Nat.{pow_pos}
 use Rattle.rv_words.specs.Operation.{operation_value, comparison_holds, word_of}
-use Rattle.rv_words.specs.Bytes.{Bytes, bytes_of, inside, load, store}
+use Rattle.rv_words.specs.Bytes.{away, Bytes, bytes_of, inside, load, store}
 use Rattle.rv_words.specs.declared.width.Width.{Width}
 use Rattle.rv_words.specs.declared.width.Width.TheVariants.{B1, B2, B4, B8}
 use Rattle.rv_words.specs.declared.comparison.Cmp.{Cmp}
@@ -13,7 +13,7 @@ use Rattle.rv_machine.specs.State.{State, with_register}
 use Rattle.rv_machine.specs.Step as machine
 use Rattle.rv_machine.specs.Step.{act, is_aligned, jump_target, next, only_if, plus, reads, upper, has}
 use Rattle.rv_machine.specs.Touches.{IsTouched, touched}
-use Rattle.rv_machine.proofs.MemoryLemmas.{away, inside-all, store-present, store-same}
+use Rattle.rv_words.proofs.MemoryLemmas.{inside-all, store-present, store-same}
 use Rattle.rv_machine.specs.Update as step
 use Rattle.rv_machine.specs.Update.{is_possible, reg_after, updated}
 use Rattle.rv_machine.proofs.StepLemmas.{act-is, act-some}
@@ -22,9 +22,10 @@ use Rattle.word_terms.specs.Tree.{WordTree, MemTree, CondTree, Load}
 use Rattle.word_terms.specs.Environment.{Environment}
 use Rattle.word_terms.specs.Value.{word_value, mem_value, cond_holds}
 use Rattle.sep_assert.specs.Code.{IsWithin}
-use Rattle.instr_axioms.specs.declared.form.Form.{Form}
-use Rattle.instr_axioms.specs.declared.form.Form.TheVariants.{Next, Taken}
-use Rattle.instr_axioms.specs.Terms.{Names, sources, destination, has_memory, word_in, sum, loaded, conditions, result, memory_after, pc_after, has_form}
+use Rattle.triple_kernel.specs.declared.form.Form.{Form}
+use Rattle.triple_kernel.specs.declared.form.Form.TheVariants.{Next, Taken}
+use Rattle.rv_decode.specs.Registers.{sources, destination}
+use Rattle.instr_axioms.specs.Terms.{Names, has_memory, word_in, sum, loaded, conditions, result, memory_after, pc_after, has_form}
 use Rattle.instr_axioms.proofs.Memories.{inside-within, load-within}
 
 -- the conditions are true

@@ -13,9 +13,10 @@ use Rattle.rv_words.specs.declared.range.Range.{Range}
 use Rattle.word_terms.specs.Substitution.{Substitution, put_in_word, put_in_mem, put_in_cond}
 use Rattle.triple_kernel.specs.Tree.{FactTree, So}
 use Rattle.triple_kernel.specs.Rules.{IsInst, put_in_fact, put_in_register}
-use Rattle.instr_axioms.specs.declared.form.Form.{Form}
-use Rattle.instr_axioms.specs.declared.form.Form.TheVariants.{Next, Taken}
-use Rattle.instr_axioms.specs.Terms.{Names, sources, destination, has_memory, word_in, sum, loaded, branch_condition, conditions, result, word_after, memory_after, pc_after}
+use Rattle.triple_kernel.specs.declared.form.Form.{Form}
+use Rattle.triple_kernel.specs.declared.form.Form.TheVariants.{Next, Taken}
+use Rattle.rv_decode.specs.Registers.{sources, destination}
+use Rattle.instr_axioms.specs.Terms.{Names, has_memory, word_in, sum, loaded, branch_condition, conditions, result, word_after, memory_after, pc_after}
 use Rattle.instr_axioms.specs.Axiom.{triple_over, register_with, memory_if}
 
 -- what names over some registers, and a memory, become

@@ -13,7 +13,7 @@ use Rattle.rv_machine.specs.Run.{run}
 use Rattle.rv_machine.specs.Update as machine
 use Rattle.rv_machine.specs.Update.{is_possible, reg_after, updated}
 use Rattle.rv_machine.proofs.StepLemmas.{act-is, act-step, instruction_at-is}
-use Rattle.rv_machine.proofs.MemoryLemmas.{store-same}
+use Rattle.rv_words.proofs.MemoryLemmas.{store-same}
 use Rattle.word_terms.specs.Tree.{WordTree, CondTree, Const}
 use Rattle.word_terms.specs.Environment.{Environment}
 use Rattle.word_terms.specs.Value.{word_value, mem_value}
@@ -25,10 +25,12 @@ use Rattle.sep_assert.specs.Part.{Pc, Register, Byte, Key, Part, Slot, Free, Has
 use Rattle.triple_kernel.specs.Tree.{So}
 use Rattle.triple_kernel.specs.Fact.{AllHold}
 use Rattle.triple_kernel.specs.Valid.{Valid, is_register, state_part}
-use Rattle.instr_axioms.specs.declared.form.Form.{Form}
-use Rattle.instr_axioms.specs.Terms.{Names, sources, destination, has_memory, word_in, conditions, result, word_after, memory_after, has_form}
+use Rattle.triple_kernel.specs.declared.form.Form.{Form}
+use Rattle.rv_decode.specs.Registers.{sources, destination}
+use Rattle.instr_axioms.specs.Terms.{Names, has_memory, word_in, conditions, result, word_after, memory_after, has_form}
 use Rattle.instr_axioms.specs.Axiom.{triple_over}
-use Rattle.instr_axioms.proofs.Parts.{both_free, has_same, slot_in, registers-slot, Times, never, once, twice, times, not_free, part-pc, part-register, part-byte, memory_slot, memory-slot}
+use Rattle.sep_assert.proofs.Keys.{both_free, has_same, part-pc, part-register, part-byte}
+use Rattle.instr_axioms.proofs.Parts.{slot_in, registers-slot, Times, never, once, twice, times, not_free, memory_slot, memory-slot}
 use Rattle.instr_axioms.proofs.Memories.{HasWord, has-word, store-outside}
 use Rattle.instr_axioms.proofs.Effects.{AreTrue, Fits, possible, goes, writes}
 
@@ -222,8 +224,8 @@ module _ (i : Instr) (form : Form) (a w : ℕ) (code : List Range) (regs : List 
           → cond (is_register q) (Has (with_register (destination i) (word_value (result i a n) e) s.reg q)) Free ≡ both (slot_in regs q (word_value (word_after i a n q) e)) (rest (Register q))
       written q (never is) =
           let other = λ (k : eqb (destination i) 0 ≡ false). false_if (eqb q (destination i)) (λ same.
-              let there = h.writes (eqb-false (destination i) 0 k) in
-              not_free regs q 0 there.0 there.1 (missing q (destination i) there.0 (eqb-true q (destination i) same) there.2) (is 0)) in
+          let there = h.writes (eqb-false (destination i) 0 k) in
+          not_free regs q 0 there.0 there.1 (missing q (destination i) there.0 (eqb-true q (destination i) same) there.2) (is 0)) in
           ap (λ x. cond (is_register q) (Has x) Free) (not_written (eqb (destination i) 0) (eqb q (destination i)) (word_value (result i a n) e) (s.reg q) other)
           ∙ at_register q ∙ (λ j. both (is (word_value (n.word q) e) j) (rest (Register q))) ∙ (λ j. both (sym (is (word_value (word_after i a n q) e)) j) (rest (Register q)))
         where

@@ -4,13 +4,14 @@ use Rattle.std.specs.Int.{w32, to_le_bytes}
 use Rattle.std.specs.List.{list_any, position_or_len, range_with_len}
 use Rattle.rv_decode.specs.declared.instruction.Instr.{Instr}
 use Rattle.rv_decode.specs.Decodes.{decoded}
+use Rattle.rv_decode.specs.Registers.{is_read, is_written, registers_where}
 use Rattle.rv_machine.specs.Step.{is_aligned}
 use Rattle.word_terms.specs.Tree.{WordTree, MemTree, Const, Var, MemVar}
 use Rattle.rv_words.specs.declared.range.Range.{Range}
 use Rattle.sep_assert.specs.Tree.{AssertionTree}
 use Rattle.triple_kernel.specs.Tree.{TripleTree, So}
-use Rattle.instr_axioms.specs.declared.form.Form.{Form}
-use Rattle.instr_axioms.specs.Terms.{Names, sources, destination, has_memory, conditions, word_after, memory_after, pc_after, has_form}
+use Rattle.triple_kernel.specs.declared.form.Form.{Form}
+use Rattle.instr_axioms.specs.Terms.{Names, has_memory, conditions, word_after, memory_after, pc_after, has_form}
 
 -- ---- the triple of an instruction over any registers and names
 
@@ -42,17 +43,13 @@ triple_over i form a code regs mem n = record {
 
 -- ---- the axiom of an instruction: over its own registers
 
--- the instruction reads the register
-abbrev pub is_source : Instr → ℕ → Bool
-is_source i r = list_any (λ q. q == r) (sources i)
-
 -- the register stands in the instruction
 abbrev pub is_own : Instr → ℕ → Bool
-is_own i r = (destination i == r) || is_source i r
+is_own i r = is_written i r || is_read i r
 
 -- its registers but x0, rising
-unfoldable pub own : Instr → List ℕ
-own i = filter (is_own i) (range_with_len 1 31)
+abbrev pub own : Instr → List ℕ
+own i = registers_where (is_own i)
 
 -- the variables v0, v1 and so on for registers in their order, and m0 for the memory
 abbrev pub variables_for : List ℕ → Names

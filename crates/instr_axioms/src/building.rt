@@ -9,15 +9,14 @@ ghost use Rattle.instr_axioms.specs.Terms as terms;
 ghost use Rattle.instr_axioms.specs.Axiom as spec;
 
 use crate::address::is_aligned;
-use crate::form::Form;
-use crate::registers::{destination, own, place_of};
+use crate::registers::{own, place_of};
 use crate::terms::{facts, memory_after, pc_after, result};
-use rv_decode::{Instr, decode};
+use rv_decode::{Instr, decode, destination};
 use rv_machine::plus_immediate;
 use rv_words::{List, NoMemory, Range};
 use sep_assert::Assertion;
 use std::alloc::Global;
-use triple_kernel::Triple;
+use triple_kernel::{Form, Triple};
 use word_terms::{Code, Mem, Word};
 
 /// The axiom of an address, an instruction word and a form, if there is one.
@@ -73,13 +72,7 @@ fn has_form(i: Instr, form: Form, addr: u64) -> bool
 }
 
 /// The triple of an instruction over its own registers.
-fn own_triple(
-    alloc: Global,
-    i: Instr,
-    form: Form,
-    addr: u64,
-    word: u32,
-) -> Result<Triple, NoMemory>
+fn own_triple(alloc: Global, i: Instr, form: Form, addr: u64, word: u32) -> Result<Triple, NoMemory>
     ensures { IfOk result (λ t. triple_tree t ≡ spec.own_triple i form addr word) }
 {
     let regs = own(alloc, i)?;
@@ -121,13 +114,7 @@ fn before(alloc: Global, addr: u64, regs: &[u8], mem: bool) -> Result<Assertion,
 }
 
 /// What holds after an instruction.
-fn after(
-    alloc: Global,
-    i: Instr,
-    form: Form,
-    addr: u64,
-    regs: &[u8],
-) -> Result<Assertion, NoMemory>
+fn after(alloc: Global, i: Instr, form: Form, addr: u64, regs: &[u8]) -> Result<Assertion, NoMemory>
     requires { length regs.now ≤ 31 }
     ensures { IfOk result (λ a. assertion_tree a ≡ spec.after i form addr regs.now (terms.has_memory i) (spec.variables_for regs.now)) }
 {
@@ -195,7 +182,7 @@ fn word_after(alloc: Global, i: Instr, addr: u64, regs: &[u8], r: u8) -> Result<
     requires { length regs.now ≤ 31 }
     ensures { IfOk result (λ t. word_tree t ≡ terms.word_after i addr (spec.variables_for regs.now) r) }
 {
-    if r == destination(i) {
+    if r == destination(&i) {
         return result(alloc, i, addr, regs);
     }
     Ok(Word::Var(place_of(regs, r)))

@@ -7,13 +7,12 @@ ghost use Rattle.instr_axioms.specs.Terms as terms;
 ghost use Rattle.instr_axioms.specs.Axiom.{variables_for};
 
 use crate::address::next;
-use crate::form::Form;
 use crate::registers::place_of;
 use rv_decode::Instr;
 use rv_machine::{immediate_word, plus_immediate, upper_word};
 use rv_words::{Cmp, Ext, List, NoMemory, Op, Width};
 use std::alloc::Global;
-use triple_kernel::Fact;
+use triple_kernel::{Fact, Form};
 use word_terms::{Cond, Mem, Word};
 
 /// The word in a register; x0 reads as 0.
@@ -40,7 +39,12 @@ fn sum(alloc: Global, regs: &[u8], r: u8, imm: i32) -> Result<Word, NoMemory>
     requires { length regs.now ≤ 31 }
     ensures { IfOk result (λ t. word_tree t ≡ terms.sum (variables_for regs.now) r imm) }
 {
-    bin(alloc, Op::Add, word_in(regs, r), Word::Const(immediate_word(imm)))
+    bin(
+        alloc,
+        Op::Add,
+        word_in(regs, r),
+        Word::Const(immediate_word(imm)),
+    )
 }
 
 fn sign_extended(alloc: Global, width: Width, t: Word) -> Result<Word, NoMemory>
@@ -114,14 +118,20 @@ pub fn facts(alloc: Global, i: Instr, form: Form, regs: &[u8]) -> Result<List<Fa
 {
     match i {
         Instr::Load {
-            width, rs1, imm, ..
+            width,
+            rs1,
+            imm,
+            ..
         } => {
             let a = sum(alloc, regs, rs1, imm)?;
             let c = inside(alloc, width, a)?;
             only(alloc, c)
         }
         Instr::Store {
-            width, rs1, imm, ..
+            width,
+            rs1,
+            imm,
+            ..
         } => {
             let a = sum(alloc, regs, rs1, imm)?;
             let c = inside(alloc, width, a)?;
@@ -162,7 +172,12 @@ pub fn result(alloc: Global, i: Instr, addr: u64, regs: &[u8]) -> Result<Word, N
     match i {
         Instr::Op { op, rs1, rs2, .. } => bin(alloc, op, word_in(regs, rs1), word_in(regs, rs2)),
         Instr::OpImm { op, rs1, imm, .. } => {
-            bin(alloc, op, word_in(regs, rs1), Word::Const(immediate_word(imm)))
+            bin(
+                alloc,
+                op,
+                word_in(regs, rs1),
+                Word::Const(immediate_word(imm)),
+            )
         }
         Instr::Lui { imm, .. } => Ok(Word::Const(upper_word(imm))),
         Instr::Auipc { imm, .. } => Ok(Word::Const(addr.wrapping_add(upper_word(imm)))),

@@ -8,7 +8,7 @@ use rv_words::{List, NoMemory};
 use std::alloc::Global;
 
 /// The register that an instruction writes, or x0.
-fn destination(i: &Instr) -> u8
+pub fn destination(i: &Instr) -> u8
     ensures { result ≡ spec.destination i.now }
 {
     match *i {

@@ -42,10 +42,10 @@ with_words-mem e (n ∷ ns) = with_words-mem (with_word e n) ns
 test-same : (n : ℕ) → nat_eq n n ≡ true
 test-same n = grind (arith, nat_tests)
 
-new_word : (e : Environment) (n : ℕ) → (with_word e n).word e.words ≡ n
+pub new_word : (e : Environment) (n : ℕ) → (with_word e n).word e.words ≡ n
 new_word e n = λ i. cond (test-same e.words i) n (e.word e.words)
 
-new_mem : (e : Environment) (m : Bytes) → (with_mem e m).mem e.mems ≡ m
+pub new_mem : (e : Environment) (m : Bytes) → (with_mem e m).mem e.mems ≡ m
 new_mem e m = λ i. cond (test-same e.mems i) m (e.mem e.mems)
 
 pub words-are : (e : Environment) (ns : List ℕ) → map (λ t. word_value t (with_words e ns)) (map Var (range_with_len e.words (length ns))) ≡ ns

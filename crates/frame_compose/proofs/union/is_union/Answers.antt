@@ -1,5 +1,6 @@
 use Rattle.rv_words.specs.Ranges.{range_bytes}
-use Rattle.frame_compose.proofs.UnionLemmas.{agree-within, union-within, within-union}
+use Rattle.sep_assert.proofs.Parted.{agree-within}
+use Rattle.frame_compose.proofs.UnionLemmas.{union-within, within-union}
 use Rattle.frame_compose.proofs.union.is_union.Goals as goal
 
 pub returns-then-are_within : goal.returns-then-are_within
