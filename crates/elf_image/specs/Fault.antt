@@ -6,8 +6,15 @@ use Rattle.elf_image.specs.declared.fault.ElfFault.{ElfFault}
 use Rattle.elf_image.specs.declared.fault.ElfFault.TheVariants.{NotElf, Class, Order, Kind, Machine, Cut, Overlap, Wraps, TooMany, Symbols, Entry, Sizes, TooBig}
 use Rattle.elf_image.specs.declared.header.ProgramHeader.{ProgramHeader}
 use Rattle.elf_image.specs.declared.section.SectionHeader.{SectionHeader}
-use Rattle.elf_image.specs.Header.{file_type, machine, entry_size, header_count, header_place, loads, section_at, section_count, section_entry_size, section_place, symbol_table}
+use Rattle.elf_image.specs.Header.{class_64, entry_size, executable, file_type, header_count, header_place, header_size, loads, low_byte_first, machine, machine_riscv, magic, program_header_size, section_at, section_count, section_entry_size, section_header_size, section_place, shared_object, symbol_size, symbol_table}
 use Rattle.elf_image.specs.Symbol.{functions, is_ended, strings_of}
+
+-- how many PT_LOADs a file that is read has at most, and how many bytes of memory these take together: 1 GiB
+abbrev pub most_loads : ℕ
+most_loads = 64
+
+abbrev pub most_memory : ℕ
+most_memory = 2 ^ 30
 
 -- the fault where the condition holds
 abbrev pub when : Bool → ElfFault → Option ElfFault
@@ -24,7 +31,7 @@ cut_at file place size = when (nat_lt (length file) (place + size)) (Cut (min pl
 
 -- the program header doesn't lie in the file
 abbrev pub cut_header : List ℕ → ℕ → Option ElfFault
-cut_header file i = cut_at file (header_place file i) 56
+cut_header file i = cut_at file (header_place file i) program_header_size
 
 -- the sizes, the place in the file and the addresses of a PT_LOAD
 abbrev pub load_fault : List ℕ → ProgramHeader → Option ElfFault
@@ -46,13 +53,13 @@ first_overlap (h ∷ hs) = option_or (first (map (overlaps h) hs)) (first_overla
 -- what the header shows
 abbrev pub header_faults : List ℕ → List (Option ElfFault)
 header_faults file =
-    when (not (starts_with nat_eq file (127 ∷ 69 ∷ 76 ∷ 70 ∷ []))) NotElf
-    ∷ when (nat_lt (length file) 64) (Cut 0)
-    ∷ when (not (slice_index file 4 == 2)) Class
-    ∷ when (not (slice_index file 5 == 1)) Order
-    ∷ when (not (file_type file == 2 || file_type file == 3)) (Kind (file_type file))
-    ∷ when (not (machine file == 243)) (Machine (machine file))
-    ∷ when (not (header_count file == 0) && not (entry_size file == 56)) (Entry (entry_size file))
+    when (not (starts_with nat_eq file magic)) NotElf
+    ∷ when (nat_lt (length file) header_size) (Cut 0)
+    ∷ when (not (slice_index file 4 == class_64)) Class
+    ∷ when (not (slice_index file 5 == low_byte_first)) Order
+    ∷ when (not (file_type file == executable || file_type file == shared_object)) (Kind (file_type file))
+    ∷ when (not (machine file == machine_riscv)) (Machine (machine file))
+    ∷ when (not (header_count file == 0) && not (entry_size file == program_header_size)) (Entry (entry_size file))
     ∷ []
 
 -- the memory that the PT_LOADs take together
@@ -62,9 +69,9 @@ total_size hs = sum_by (λ h. h.memory_size) hs
 -- what the PT_LOADs show
 abbrev pub loads_faults : List ℕ → List ProgramHeader → List (Option ElfFault)
 loads_faults file hs =
-    when (nat_lt 64 (length hs)) (TooMany (length hs))
+    when (nat_lt most_loads (length hs)) (TooMany (length hs))
     ∷ first (map (load_fault file) hs)
-    ∷ when (nat_lt 1073741824 (total_size hs)) (TooBig (total_size hs))
+    ∷ when (nat_lt most_memory (total_size hs)) (TooBig (total_size hs))
     ∷ first_overlap hs
     ∷ []
 
@@ -77,7 +84,7 @@ table_faults file =
 
 -- the section header doesn't lie in the file
 abbrev pub cut_section : List ℕ → ℕ → Option ElfFault
-cut_section file i = cut_at file (section_place file i) 64
+cut_section file i = cut_at file (section_place file i) section_header_size
 
 -- the section's bytes don't lie in the file
 abbrev pub cut_bytes : List ℕ → SectionHeader → Option ElfFault
@@ -86,7 +93,7 @@ cut_bytes file s = when (nat_lt (length file) (s.offset + s.size)) (Cut s.offset
 -- what a symbol table shows, and the string table that it links to
 abbrev pub symbol_faults : List ℕ → SectionHeader → List (Option ElfFault)
 symbol_faults file table =
-    when (not (table.entry_size == 24)) (Entry table.entry_size)
+    when (not (table.entry_size == symbol_size)) (Entry table.entry_size)
     ∷ cut_bytes file table
     ∷ when (nat_le (section_count file) table.link) Symbols
     ∷ cut_bytes file (section_at file table.link)
@@ -101,7 +108,7 @@ symbol_fault file (Some table) = first (symbol_faults file table)
 -- what the section headers show
 abbrev pub section_faults : List ℕ → List (Option ElfFault)
 section_faults file =
-    when (not (section_count file == 0) && not (section_entry_size file == 64)) (Entry (section_entry_size file))
+    when (not (section_count file == 0) && not (section_entry_size file == section_header_size)) (Entry (section_entry_size file))
     ∷ first (map (cut_section file) (range_with_len 0 (section_count file)))
     ∷ symbol_fault file (symbol_table file)
     ∷ []

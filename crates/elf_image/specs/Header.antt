@@ -1,10 +1,58 @@
 -- The fields of an ELF file that are read (System V gABI, "ELF Header", "Program Header" and "Sections"; all numbers low
 -- byte first).
-use Rattle.std.specs.Prelude.{ℕ, ◌+◌, ◌*◌, ◌==◌, if◌then◌else◌, Option, List, map, take, drop, filter, find}
+use Rattle.std.specs.Prelude.{ℕ, ◌+◌, ◌*◌, ◌==◌, if◌then◌else◌, Option, List, ◌∷◌, codes, map, take, drop, filter, find}
 use Rattle.std.specs.List.{range_with_len}
 use Rattle.byteorder.specs.Endian.{little_number}
 use Rattle.elf_image.specs.declared.header.ProgramHeader.{ProgramHeader}
 use Rattle.elf_image.specs.declared.section.SectionHeader.{SectionHeader}
+
+-- ---- numbers of the standard (System V gABI; e_machine by the RISC-V ELF psABI)
+
+-- the first bytes of each ELF file: 0x7f and the letters
+abbrev pub magic : List ℕ
+magic = 127 ∷ codes "ELF"
+
+-- ELFCLASS64: 64-bit objects
+abbrev pub class_64 : ℕ
+class_64 = 2
+
+-- ELFDATA2LSB: numbers low byte first
+abbrev pub low_byte_first : ℕ
+low_byte_first = 1
+
+-- ET_EXEC and ET_DYN: executable files and shared objects
+abbrev pub executable : ℕ
+executable = 2
+
+abbrev pub shared_object : ℕ
+shared_object = 3
+
+-- EM_RISCV
+abbrev pub machine_riscv : ℕ
+machine_riscv = 243
+
+-- PT_LOAD: a segment that is loaded
+abbrev pub type_load : ℕ
+type_load = 1
+
+-- SHT_SYMTAB: a symbol table
+abbrev pub type_symbol_table : ℕ
+type_symbol_table = 2
+
+-- how many bytes the header, a program header, a section header and an entry of a symbol table have
+abbrev pub header_size : ℕ
+header_size = 64
+
+abbrev pub program_header_size : ℕ
+program_header_size = 56
+
+abbrev pub section_header_size : ℕ
+section_header_size = 64
+
+abbrev pub symbol_size : ℕ
+symbol_size = 24
+
+-- ---- the header and the program headers
 
 -- the number of `size` bytes at a place
 unfoldable pub number_at : ℕ → ℕ → List ℕ → ℕ
@@ -32,7 +80,7 @@ header_count file = number_at 56 2 file
 
 -- where program header i stands
 abbrev pub header_place : List ℕ → ℕ → ℕ
-header_place file i = table_place file + 56 * i
+header_place file i = table_place file + program_header_size * i
 
 -- program header i: p_type, p_flags, p_offset, p_vaddr, p_filesz and p_memsz
 abbrev pub header_at : List ℕ → ℕ → ProgramHeader
@@ -50,7 +98,7 @@ header_at file i =
 
 -- the program headers of type PT_LOAD, in table order
 abbrev pub loads : List ℕ → List ProgramHeader
-loads file = filter (λ h. h.kind == 1) (map (header_at file) (range_with_len 0 (header_count file)))
+loads file = filter (λ h. h.kind == type_load) (map (header_at file) (range_with_len 0 (header_count file)))
 
 -- ---- sections
 
@@ -68,7 +116,7 @@ section_count file = if section_table file == 0 then 0 else number_at 60 2 file
 
 -- where section header i stands
 abbrev pub section_place : List ℕ → ℕ → ℕ
-section_place file i = section_table file + 64 * i
+section_place file i = section_table file + section_header_size * i
 
 -- section header i: sh_type, sh_offset, sh_size, sh_link and sh_entsize
 abbrev pub section_at : List ℕ → ℕ → SectionHeader
@@ -84,7 +132,7 @@ section_at file i =
 
 -- the first section of type SHT_SYMTAB, if there is one
 abbrev pub symbol_table : List ℕ → Option SectionHeader
-symbol_table file = find (λ s. s.kind == 2) (map (section_at file) (range_with_len 0 (section_count file)))
+symbol_table file = find (λ s. s.kind == type_symbol_table) (map (section_at file) (range_with_len 0 (section_count file)))
 
 -- the bytes of a section
 abbrev pub section_bytes : List ℕ → SectionHeader → List ℕ

@@ -6,12 +6,12 @@ use Rattle.elf_image.specs.declared.section.SectionHeader.{SectionHeader}
 use Rattle.elf_image.specs.declared.section.SymbolEntry.{SymbolEntry}
 use Rattle.elf_image.specs.declared.symbol.NameFault.{NameFault}
 use Rattle.elf_image.specs.declared.symbol.NameFault.TheVariants.{NoSuch, Ambiguous}
-use Rattle.elf_image.specs.Header.{number_at, section_at, section_bytes, symbol_table}
+use Rattle.elf_image.specs.Header.{number_at, section_at, section_bytes, symbol_size, symbol_table}
 
 -- entry i of a symbol table: st_name, st_info, st_shndx and st_value
 abbrev pub entry_at : List ℕ → SectionHeader → ℕ → SymbolEntry
 entry_at file table i =
-    let place = table.offset + 24 * i in
+    let place = table.offset + symbol_size * i in
     record {
       name = number_at place 4 file;
       info = slice_index file (place + 4);
@@ -19,13 +19,17 @@ entry_at file table i =
       value = number_at (place + 8) 8 file;
     }
 
--- a function, STT_FUNC, in a section, not SHN_UNDEF: the type is the low four bits of the info
+-- STT_FUNC: a function
+abbrev pub type_function : ℕ
+type_function = 2
+
+-- a function in a section, not SHN_UNDEF: the type is the low four bits of the info
 abbrev pub is_function : SymbolEntry → Bool
-is_function e = e.info % 16 == 2 && not (e.section == 0)
+is_function e = e.info % 16 == type_function && not (e.section == 0)
 
 -- the functions of a symbol table, in table order; bytes after its last whole entry are none
 abbrev pub functions : List ℕ → SectionHeader → List SymbolEntry
-functions file table = filter is_function (map (entry_at file table) (range_with_len 0 (table.size / 24)))
+functions file table = filter is_function (map (entry_at file table) (range_with_len 0 (table.size / symbol_size)))
 
 -- the bytes of the string table that a symbol table links to
 abbrev pub strings_of : List ℕ → SectionHeader → List ℕ
