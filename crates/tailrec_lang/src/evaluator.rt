@@ -100,10 +100,8 @@ pub fn eval(
             }
             Stop::Left(exit, results) => return done(alloc, g, def, exit, results, left),
             Stop::False => {
-                return Ok(Outcome::SideFalse {
-                    def: place.def,
-                    ordinal,
-                });
+                let def = place.def;
+                return Ok(Outcome::SideFalse { def, ordinal });
             }
         }
     }
