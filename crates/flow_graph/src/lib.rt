@@ -13,7 +13,6 @@ pub use graph::{Graph, build};
 pub use laws::{law_of_edges, law_of_one_answer, law_of_reach};
 pub use links::Edges;
 pub use outside::{FlowFault, Outside};
-pub use visited::Visited;
 
 #[cfg(test)]
 mod tests;
