@@ -1,12 +1,11 @@
 -- Two entries at nodes are two entries at addresses.
-use Rattle.std.proofs.Common.{◌≡◌, ◌≢◌, ℕ, ◌+◌, ◌-◌, ◌<◌, List, length, get_or, map, inl, inr, refl, sym, ◌∙◌, ap, subst, arith}
+use Rattle.std.proofs.Common.{◌≡◌, ℕ, ◌+◌, ◌-◌, ◌<◌, List, length, get_or, map, inl, inr, refl, sym, ◌∙◌, ap, subst, arith}
 use Rattle.std.specs.List.{Contains}
 use Rattle.std.proofs.lemmas.List.{get_or-map, length-map}
-use Rattle.std.proofs.lemmas.Bool.{cases_eq}
 use Rattle.std.proofs.lemmas.Bool.Decides.{leb_tells}
 use Rattle.rv_words.specs.Bytes.{Bytes}
 use Rattle.flow_graph.specs.Flow.{Next}
-use Rattle.flow_graph.specs.Graph.{GraphOf, HasEdge, IsFlow, IsGraphOf, IsRising, number}
+use Rattle.flow_graph.specs.Graph.{GraphOf, HasEdge, IsFlow, IsGraphOf, number}
 use Rattle.flow_graph.specs.Walks.{Reaches, Stop}
 use Rattle.loop_forest.specs.Cycles.{IsLinked, IsCycle, Enters, ShowsTwoEntries, TwoEntries, last_of}
 use Rattle.loop_forest.specs.Loops.{IsSettled}

@@ -1,13 +1,12 @@
 -- The smallest loop among the first ones.
-use Rattle.std.proofs.Common.{◌≡◌, ◌≢◌, ℕ, ◌+◌, ◌<◌, ◌≤◌, ◌↔◌, ◌⊎◌, List, ◌++◌, ◌∷◌, [], length, get_or, map, Option, None, Some, option_map, inl, inr, refl, sym, ◌∙◌, ap, subst, arith, length-append}
-use Rattle.std.specs.List.{Contains}
+use Rattle.std.proofs.Common.{◌≡◌, ◌≢◌, ℕ, ◌+◌, ◌<◌, ◌≤◌, ◌↔◌, List, ◌++◌, ◌∷◌, [], length, get_or, Option, None, Some, option_map, inl, inr, refl, sym, ◌∙◌, ap, subst, arith, length-append}
 use Rattle.std.proofs.lemmas.Bool.{cases_eq}
 use Rattle.std.proofs.lemmas.List.{get_or-map, length-map, get_or_append_left}
 use Rattle.std.proofs.lemmas.List.Elements.{Contains-get_or}
 use Rattle.std.proofs.Math.Seq.{get_or-append_seam}
-use Rattle.flow_graph.specs.Graph.{GraphOf, HasEdge, IsFlow, IsRising}
+use Rattle.flow_graph.specs.Graph.{GraphOf, HasEdge, IsFlow}
 use Rattle.flow_graph.specs.Walks.{Reaches}
-use Rattle.flow_graph.proofs.Ways.{place_of, node_at}
+use Rattle.flow_graph.proofs.Ways.{place_of}
 use Rattle.flow_graph.proofs.NumberLemmas.{different_from_rising}
 use Rattle.flow_graph.proofs.VisitedLemmas.{few_from_distinct}
 use Rattle.loop_forest.specs.Loops.{IsHead, InLoop, AtHead}

@@ -1,10 +1,10 @@
 -- The parts of a forest.
-use Rattle.std.proofs.Common.{◌≡◌, ℕ, zero, suc, ◌<◌, ◌≤◌, ◌↔◌, List, [], ◌∷◌, length, get_or, map, Option, None, Bool, inl, inr, refl, sym, ◌∙◌, ap, subst, arith}
+use Rattle.std.proofs.Common.{◌≡◌, ℕ, zero, suc, ◌<◌, ◌≤◌, ◌↔◌, List, [], ◌∷◌, length, get_or, map, Option, None, Bool, inl, inr, refl, sym, ◌∙◌, subst, arith}
 use Rattle.std.specs.List.{Contains}
-use Rattle.std.proofs.lemmas.List.{get_or-map, length-map}
+use Rattle.std.proofs.lemmas.List.{get_or-map}
 use Rattle.flow_graph.specs.Graph.{GraphOf, HasEdge, IsFlow, IsRising}
 use Rattle.flow_graph.proofs.Ways.{Contains-cons, place_of}
-use Rattle.loop_forest.specs.Loops.{IsExit, IsHead, InLoop, IsSettled}
+use Rattle.loop_forest.specs.Loops.{IsExit, IsHead, IsSettled}
 use Rattle.loop_forest.specs.Forest.{IsForestOf, IsMany}
 use Rattle.loop_forest.specs.Regions.{HasManyExits, exit_limit}
 use Rattle.loop_forest.specs.inner.Found.{AreLoops, heads}
@@ -14,7 +14,6 @@ use Rattle.loop_forest.specs.inner.Standing.{AreBases, ArePlaces}
 use Rattle.loop_forest.specs.inner.Order.{IsNumbered, mark_of, number_of}
 use Rattle.loop_forest.specs.declared.heads.Looped.{Looped}
 use Rattle.loop_forest.specs.declared.order.Mark.{Mark}
-use Rattle.loop_forest.specs.declared.order.Mark.TheVariants.{Unseen}
 use Rattle.loop_forest.proofs.AddressLemmas.{graph_settled}
 use Rattle.loop_forest.proofs.BaseLemmas.{head_below, places_are}
 use Rattle.loop_forest.proofs.Closest.{closest_around, closest_within, head_at, head_is, heads_long, in_loop, looped_at, loops_few}

@@ -20,3 +20,6 @@ pub mod Closest
 pub mod ForestLemmas
 pub mod StandingLemmas
 pub mod AddressLemmas
+pub mod WalkLaws
+pub mod CodeEntries
+pub mod OneForest

@@ -1,19 +1,18 @@
 -- The order of parts: each part weighs more than those that it calls. And how near the next cut is.
-use Rattle.std.proofs.Common.{◌≡◌, ◌≢◌, ℕ, ◌+◌, ◌-◌, ◌*◌, ◌%◌, ◌<◌, ◌≤◌, ◌⊎◌, inl, inr, refl, sym, ap, ◌∙◌, subst, arith, Option, Some, None, List}
+use Rattle.std.proofs.Common.{◌≡◌, ◌≢◌, ℕ, ◌+◌, ◌-◌, ◌*◌, ◌<◌, ◌≤◌, inl, inr, refl, sym, subst, arith, Option, Some, None, List}
 use Rattle.std.specs.List.{Contains}
 use Rattle.std.proofs.lemmas.Bool.{cases_eq}
 use Rattle.flow_graph.specs.Walks.{Way, Stop, Leave, AnyNode, Reaches}
 use Rattle.loop_forest.specs.Cycles.{IsCycle}
 use Rattle.loop_forest.specs.Loops.{IsSettled}
-use Rattle.loop_forest.specs.Loops.{IsBackEdge, IsHead, InLoop, AtHead, Inside, IsExit}
+use Rattle.loop_forest.specs.Loops.{IsBackEdge, IsHead, InLoop, AtHead, IsExit}
 use Rattle.loop_forest.specs.Cuts.{StandsAt, AtBase, After}
-use Rattle.flow_graph.proofs.Ways.{way-join}
 use Rattle.loop_forest.specs.Regions.{IsAround}
 use Rattle.loop_forest.specs.inner.Inner.{IsInner}
-use Rattle.loop_forest.specs.Cuts.{IsBase, Head, IsCut}
+use Rattle.loop_forest.specs.Cuts.{Head, IsCut}
 use Rattle.loop_forest.proofs.Nested.{cycle_head}
 use Rattle.loop_forest.proofs.Regions.{down_to_no_head, left_in_loop}
-use Rattle.loop_forest.proofs.RegionLaws.{head_reached, holds_loop, nested, one, source_in}
+use Rattle.loop_forest.proofs.RegionLaws.{head_reached, nested, one, source_in}
 use Rattle.loop_forest.proofs.CutLemmas.{stands_once}
 
 -- the weight of the part Loop of a head, and of the part Rest of a cut

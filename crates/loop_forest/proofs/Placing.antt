@@ -1,6 +1,6 @@
 -- Nodes with a table of their places.
-use Rattle.std.proofs.Common.{◌≡◌, ◌≢◌, ℕ, ◌+◌, ◌<◌, ◌≤◌, ◌↔◌, List, [], ◌∷◌, ◌++◌, length, get_or, set, Option, None, Some, Bool, true, false, IsTrue, IfSome, is_some, inl, inr, refl, sym, ◌∙◌, ap, subst, arith, length-append, true≢false}
-use Rattle.std.specs.List.{All, Contains, IsDistinct}
+use Rattle.std.proofs.Common.{◌≡◌, ◌≢◌, ℕ, ◌+◌, ◌<◌, ◌≤◌, ◌↔◌, List, [], ◌∷◌, ◌++◌, length, get_or, set, Option, None, Some, Bool, IsTrue, IfSome, is_some, inl, inr, refl, sym, ◌∙◌, ap, subst, arith, length-append, true≢false}
+use Rattle.std.specs.List.{All, Contains}
 use Rattle.std.proofs.lemmas.List.{get_or-set_same, get_or-set_other, get_or_append_left}
 use Rattle.std.proofs.Math.Seq.{get_or-append_seam}
 use Rattle.std.proofs.lemmas.List.Elements.{Contains-push, Contains-push_cases, Contains-append_left}

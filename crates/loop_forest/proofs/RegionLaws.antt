@@ -1,8 +1,7 @@
 -- What a part of a function may lead to, from what loops and cuts are.
-use Rattle.std.proofs.Common.{◌≡◌, ◌≢◌, ℕ, ◌<◌, ◌⊎◌, inl, inr, refl, sym, ap, ◌∙◌, subst, Option, Some, None}
+use Rattle.std.proofs.Common.{◌≡◌, ◌≢◌, ℕ, ◌⊎◌, inl, inr, refl, sym, subst, Option, Some, None}
 use Rattle.std.proofs.lemmas.Bool.{cases_eq}
 use Rattle.flow_graph.specs.Walks.{Way, Stop, Leave, AnyNode, Reaches}
-use Rattle.loop_forest.specs.Loops.{IsMetBefore}
 use Rattle.loop_forest.specs.Loops.{IsBackEdge, IsHead, InLoop, AtHead, Inside, IsExit}
 use Rattle.flow_graph.proofs.Ways.{apart_or_from, way-weaken}
 use Rattle.loop_forest.specs.Regions.{IsAround}

@@ -1,10 +1,9 @@
 -- Back from a node to the last base.
-use Rattle.std.proofs.Common.{◌≢◌, ◌≤◌, ◌∙◌, ap, refl, inl, inr, false, true≢false, get_or, Option, Some, None, ◌≡◌, ℕ, ◌+◌, ◌%◌, ◌<◌, List, [], length, Bool, sym, arith, subst, ◌↔◌}
+use Rattle.std.proofs.Common.{◌≤◌, ◌∙◌, ap, inl, inr, get_or, ◌≡◌, ℕ, ◌+◌, ◌%◌, ◌<◌, List, [], length, Bool, sym, arith, subst}
 use Rattle.std.specs.List.{Contains}
 use Rattle.flow_graph.specs.Graph.{GraphOf, HasEdge, IsFlow, preds_of}
 use Rattle.loop_forest.specs.inner.Standing.{IsEnd, IsEndOf, IsMarked, HasBases}
 use Rattle.loop_forest.specs.inner.Order.{mark_of, number_of}
-use Rattle.std.specs.Prelude.{is_some}
 use Rattle.std.proofs.lemmas.Bool.{cases_eq}
 use Rattle.loop_forest.specs.declared.order.Mark.{Mark}
 use Rattle.loop_forest.specs.declared.heads.Looped.{Looped}

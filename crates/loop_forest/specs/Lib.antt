@@ -4,4 +4,5 @@ pub mod Regions
 pub mod Cuts
 pub mod Addresses
 pub mod Forest
+pub mod Walking
 pub mod inner

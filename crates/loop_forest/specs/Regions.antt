@@ -1,5 +1,5 @@
 -- Regions of a graph, given by its edges and its entry, and loops with many exits. A loop is named by its head.
-use Rattle.std.specs.Prelude.{◌≡◌, ◌≢◌, ℕ, ◌<◌, ◌≤◌, ◌⊎◌, Option, Some, None, List, length, slice_index}
+use Rattle.std.specs.Prelude.{◌≢◌, ℕ, ◌<◌, Option, Some, None, List, length, slice_index}
 use Rattle.std.specs.List.{Contains}
 use Rattle.loop_forest.specs.Loops.{IsHead, InLoop, IsExit}
 

@@ -7,6 +7,7 @@ mod cuts;
 mod entries;
 mod forest;
 mod heads;
+mod laws;
 mod loops;
 mod node_set;
 mod order;
@@ -14,6 +15,7 @@ mod search;
 mod second;
 
 pub use forest::{Forest, find_loops};
+pub use laws::{law_of_one_forest, law_of_two_entries, law_of_walks};
 
 #[cfg(test)]
 mod tests;

@@ -1,5 +1,5 @@
 -- The loops of a graph, as they are found.
-use Rattle.std.specs.Prelude.{◌≡◌, ℕ, ◌<◌, ◌≤◌, List, length, map}
+use Rattle.std.specs.Prelude.{ℕ, ◌<◌, ◌≤◌, List, length, map}
 use Rattle.std.specs.List.{All, Contains}
 use Rattle.flow_graph.specs.Graph.{GraphOf, HasEdge, IsRising}
 use Rattle.loop_forest.specs.Loops.{IsHead}

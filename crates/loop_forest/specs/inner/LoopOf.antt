@@ -1,5 +1,5 @@
 -- What a loop of the code is, and its exits.
-use Rattle.std.specs.Prelude.{◌≡◌, ℕ, ◌<◌, ◌⊎◌, ◌↔◌, List, length}
+use Rattle.std.specs.Prelude.{◌≡◌, ℕ, ◌<◌, ◌⊎◌, List, length}
 use Rattle.std.specs.List.{Contains}
 use Rattle.flow_graph.specs.Graph.{GraphOf, HasEdge, IsRising}
 use Rattle.loop_forest.specs.Loops.{IsBackEdge, IsHead, InLoop}

@@ -1,5 +1,3 @@
-use Rattle.std.proofs.Common.{inl, inr, refl}
-use Rattle.std.specs.List.{Contains}
 use Rattle.loop_forest.proofs.Following.{end_iff}
 use Rattle.loop_forest.proofs.bases.is_end_of.Goals as goal
 

@@ -1,5 +1,4 @@
-use Rattle.std.proofs.Common.{◌≡◌, ℕ, ◌+◌, ◌%◌, ◌<◌, List, [], length, sym, ◌∙◌, subst, arith, true≢false, refl}
-use Rattle.std.specs.List.{Contains}
+use Rattle.std.proofs.Common.{◌≡◌, ℕ, ◌+◌, ◌%◌, sym, ◌∙◌, subst, arith, true≢false, refl}
 use Rattle.flow_graph.specs.Graph.{HasEdge}
 use Rattle.loop_forest.specs.Cuts.{StandsAt, AtBase, After}
 use Rattle.flow_graph.proofs.ExactLemmas.{pred_succ}

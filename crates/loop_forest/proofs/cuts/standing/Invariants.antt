@@ -1,5 +1,5 @@
 use Rattle.std.proofs.Common.{ℕ, ◌+◌, ◌-◌, ◌%◌, ◌<◌, length}
-use Rattle.flow_graph.specs.Graph.{GraphOf, HasEdge}
+use Rattle.flow_graph.specs.Graph.{HasEdge}
 use Rattle.loop_forest.specs.Cuts.{StandsAt}
 use Rattle.loop_forest.specs.inner.Standing.{IsMarked}
 use Rattle.loop_forest.specs.inner.Order.{mark_of, number_of}

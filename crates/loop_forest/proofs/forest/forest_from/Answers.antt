@@ -1,4 +1,4 @@
-use Rattle.std.proofs.Common.{◌≡◌, ◌≤◌, ℕ, List, Bool, Option, length, sym, subst, arith}
+use Rattle.std.proofs.Common.{◌≤◌, List, Bool, length, subst, arith}
 use Rattle.loop_forest.specs.inner.Found.{IsFound, heads}
 use Rattle.loop_forest.specs.inner.Kept.{AreRegions}
 use Rattle.loop_forest.specs.inner.Standing.{AreBases, ArePlaces}

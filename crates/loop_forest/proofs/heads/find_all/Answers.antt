@@ -1,4 +1,4 @@
-use Rattle.std.proofs.Common.{◌≡◌, ◌+◌, ◌<◌, ◌≤◌, ℕ, length, arith}
+use Rattle.std.proofs.Common.{◌+◌, ◌<◌, ◌≤◌, length, arith}
 use Rattle.loop_forest.specs.inner.LoopOf.{IsLoopOf}
 use Rattle.loop_forest.proofs.Leaving.{some_holds, none_holds}
 use Rattle.loop_forest.proofs.FoundLemmas.{loops_more, loops_skip, looped, many_of}

@@ -1,6 +1,5 @@
-use Rattle.std.proofs.Common.{◌≡◌, ◌≤◌, ℕ, arith, ◌∙◌, ap, subst}
+use Rattle.std.proofs.Common.{arith}
 use Rattle.flow_graph.specs.Graph.{HasEdge}
-use Rattle.loop_forest.specs.Loops.{IsBackEdge}
 use Rattle.flow_graph.proofs.ExactLemmas.{pred_succ}
 use Rattle.loop_forest.specs.inner.Order.{mark_of, number_of}
 use Rattle.loop_forest.proofs.Falling.{back_iff}

@@ -1,11 +1,10 @@
-use Rattle.std.proofs.Common.{◌≡◌, ℕ, false, List, drop, get_or, subst, arith, inr, sym, ◌∙◌}
-use Rattle.std.specs.List.{All, Contains}
+use Rattle.std.proofs.Common.{◌≡◌, ℕ, false, List, drop, get_or, subst, arith, inr, sym}
+use Rattle.std.specs.List.{Contains}
 use Rattle.std.proofs.lemmas.List.Elements.{All-contains, Contains-get_or}
 use Rattle.loop_forest.proofs.Passing.{passed_end, passed_first, passed_more}
 use Rattle.loop_forest.specs.inner.Order.{mark_of, is_unseen, IsDone}
 use Rattle.loop_forest.proofs.Leaving.{last_on_cycle, none_holds, some_holds, done_left, marked_below}
-use Rattle.flow_graph.proofs.Ways.{node_at}
-use Rattle.flow_graph.specs.Graph.{GraphOf, HasEdge}
+use Rattle.flow_graph.specs.Graph.{HasEdge}
 use Rattle.loop_forest.specs.inner.Second.{EntersBeside}
 use Rattle.loop_forest.proofs.order.entered.Goals as goal
 

@@ -1,9 +1,8 @@
-use Rattle.std.proofs.Common.{◌≡◌, ℕ, false, List, subst}
-use Rattle.std.specs.List.{All}
+use Rattle.std.proofs.Common.{◌≡◌, false}
 use Rattle.std.proofs.lemmas.List.Elements.{Contains-get_or}
 use Rattle.loop_forest.specs.inner.Order.{mark_of, is_unseen}
 use Rattle.loop_forest.proofs.Leaving.{is_seen}
-use Rattle.loop_forest.proofs.Passing.{passed_end, passed_first, passed_more, passed_start}
+use Rattle.loop_forest.proofs.Passing.{passed_end, passed_more}
 use Rattle.loop_forest.proofs.order.first_unseen.Goals as goal
 
 pub loop-v-preserved : goal.loop-v-preserved

@@ -3,7 +3,7 @@ use Rattle.std.specs.List.{All, Contains}
 use Rattle.std.proofs.Math.ListN.{set}
 use Rattle.std.proofs.lemmas.List.{length-replicate}
 use Rattle.std.proofs.lemmas.List.Elements.{Contains-get_or}
-use Rattle.flow_graph.specs.Graph.{GraphOf, HasEdge, succs_of}
+use Rattle.flow_graph.specs.Graph.{HasEdge, succs_of}
 use Rattle.loop_forest.specs.Cycles.{last_of}
 use Rattle.loop_forest.specs.inner.Second.{EntersBeside}
 use Rattle.loop_forest.specs.inner.Order.{mark_of, IsDone, Searching}

@@ -1,5 +1,4 @@
-use Rattle.std.proofs.Common.{ℕ, subst, sym, refl}
-use Rattle.std.specs.List.{Contains}
+use Rattle.std.proofs.Common.{refl}
 use Rattle.loop_forest.proofs.Following.{met_where_none}
 use Rattle.loop_forest.proofs.second.second_entry.Goals as goal
 

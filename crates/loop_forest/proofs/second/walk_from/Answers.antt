@@ -1,6 +1,6 @@
-use Rattle.std.proofs.Common.{◌<◌, ℕ, length, subst, arith, sym, ◌∙◌, true≢false, ◌∷◌, []}
+use Rattle.std.proofs.Common.{ℕ, subst, sym, ◌∙◌, true≢false, ◌∷◌, []}
 use Rattle.std.specs.List.{Contains}
-use Rattle.loop_forest.proofs.Following.{decides_on, next_below, follow_step, follows_end, found_beside}
+use Rattle.loop_forest.proofs.Following.{decides_on, follow_step, follows_end, found_beside}
 use Rattle.loop_forest.proofs.second.walk_from.Goals as goal
 use Rattle.flow_graph.proofs.Ways.{node_at}
 

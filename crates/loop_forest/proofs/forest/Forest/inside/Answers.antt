@@ -1,8 +1,5 @@
-use Rattle.std.proofs.Common.{◌≡◌, ◌<◌, ℕ, length, get_or, sym, ◌∙◌, ap, subst, arith}
-use Rattle.std.specs.List.{Contains}
-use Rattle.loop_forest.specs.Forest.{ForestOf, inside_of}
-use Rattle.loop_forest.specs.inner.LoopOf.{IsIn}
-use Rattle.loop_forest.specs.declared.heads.Looped.{Looped}
+use Rattle.std.proofs.Common.{◌≡◌, length, sym, ◌∙◌, ap, arith}
+use Rattle.loop_forest.specs.Forest.{ForestOf}
 use Rattle.loop_forest.proofs.Closest.{heads_long}
 use Rattle.loop_forest.proofs.ForestLemmas.{front_or_in, inside_at}
 use Rattle.loop_forest.proofs.forest.Forest.inside.Goals as goal

@@ -1,6 +1,5 @@
-use Rattle.std.proofs.Common.{◌≡◌, ℕ, List, subst, sym, ap, ◌∙◌, true≢false, length, arith}
+use Rattle.std.proofs.Common.{◌≡◌, ℕ, List, subst, sym, ◌∙◌, true≢false, length}
 use Rattle.std.specs.List.{Contains}
-use Rattle.loop_forest.specs.inner.Placed.{HasPlaces}
 use Rattle.loop_forest.proofs.Placing.{placed_push, placed_same}
 use Rattle.loop_forest.proofs.node_set.NodeSet.add.Goals as goal
 
