@@ -1,0 +1,10 @@
+pub mod Ways
+pub mod VisitedLemmas
+pub mod Reaching
+pub mod LinkedLemmas
+pub mod NumberLemmas
+pub mod BuildLemmas
+pub mod FlowLemmas
+pub mod WorkedGraphs
+pub mod ExactLemmas
+pub mod GraphLaws

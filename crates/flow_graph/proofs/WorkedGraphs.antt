@@ -1,0 +1,81 @@
+-- Worked values: small programs at 0x10000, their successors and faults.
+use Rattle.std.specs.Prelude.{◌≡◌, ℕ, ◌/◌, ◌%◌, List, [], ◌∷◌, Ok, Err, refl, pos}
+use Rattle.rv_words.specs.Bytes.{Bytes, bytes_from}
+use Rattle.rv_decode.specs.Decodes.{decoded}
+use Rattle.rv_decode.specs.declared.instruction.Instr.TheVariants.{Jalr}
+use Rattle.flow_graph.specs.declared.outside.Outside.TheVariants.{OutsideCode, NotDecoded, Environment, Call, JumpThrough, Misaligned}
+use Rattle.flow_graph.specs.Flow.{look, next}
+
+abbrev pub bytes_of_words : List ℕ → List ℕ
+bytes_of_words [] = []
+bytes_of_words (w ∷ ws) = w % 256 ∷ w / 256 % 256 ∷ w / 65536 % 256 ∷ w / 16777216 ∷ bytes_of_words ws
+
+abbrev pub program : List ℕ → Bytes
+program ws = bytes_from 0x10000 (bytes_of_words ws)
+
+-- a cycle with two entries
+abbrev pub two_entries : Bytes
+two_entries = program (0x00050463 ∷ 0x00158593 ∷ 0xfe059ee3 ∷ 0x00008067 ∷ [])
+
+pub two_entries-0 : next two_entries 0x10000 ≡ 0x10004 ∷ 0x10008 ∷ []
+unfolding look decoded
+two_entries-0 = refl
+
+pub two_entries-4 : next two_entries 0x10004 ≡ 0x10008 ∷ []
+unfolding look decoded
+two_entries-4 = refl
+
+pub two_entries-8 : next two_entries 0x10008 ≡ 0x1000c ∷ 0x10004 ∷ []
+unfolding look decoded
+two_entries-8 = refl
+
+pub two_entries-c : next two_entries 0x1000c ≡ []
+unfolding look decoded
+two_entries-c = refl
+
+two_entries-return : look two_entries 0x1000c ≡ Ok (Jalr 0 1 (pos 0))
+unfolding look decoded
+two_entries-return = refl
+
+-- a compressed instruction is none, and behind it there is a return
+not_decoded : look (program (0x80820001 ∷ 0x00008067 ∷ [])) 0x10000 ≡ Err (NotDecoded 0x10000 0x80820001)
+unfolding look decoded
+not_decoded = refl
+
+not_decoded-4 : look (program (0x80820001 ∷ 0x00008067 ∷ [])) 0x10004 ≡ Ok (Jalr 0 1 (pos 0))
+unfolding look decoded
+not_decoded-4 = refl
+
+call : look (program (0x008000ef ∷ [])) 0x10000 ≡ Err (Call 0x10000)
+unfolding look decoded
+call = refl
+
+jump_through : look (program (0x00028067 ∷ [])) 0x10000 ≡ Err (JumpThrough 0x10000)
+unfolding look decoded
+jump_through = refl
+
+environment : look (program (0x00000073 ∷ [])) 0x10000 ≡ Err (Environment 0x10000)
+unfolding look decoded
+environment = refl
+
+outside_code : look (program (0x00150513 ∷ [])) 0x10004 ≡ Err (OutsideCode 0x10004)
+unfolding look decoded
+outside_code = refl
+
+misaligned_target : look (program (0x00000363 ∷ [])) 0x10000 ≡ Err (Misaligned 0x10000 0x10006)
+unfolding look decoded
+misaligned_target = refl
+
+misaligned : look (program (0x00000363 ∷ [])) 0x10002 ≡ Err (Misaligned 0x10002 0x10002)
+unfolding look
+misaligned = refl
+
+-- an address with a fault leads nowhere
+nowhere : next (program (0x008000ef ∷ [])) 0x10000 ≡ []
+unfolding look decoded
+nowhere = refl
+
+-- an endless loop of one jump
+endless : next (program (0x0000006f ∷ [])) 0x10000 ≡ 0x10000 ∷ []
+unfolding look decoded
+endless = refl

@@ -1,0 +1,17 @@
+use Rattle.std.proofs.Common.{◌≡◌, ◌≤◌, ◌+◌, ◌*◌, length, drop}
+use Rattle.rv_words.specs.Bytes.{Bytes}
+use Rattle.flow_graph.specs.Flow.{next}
+use Rattle.flow_graph.specs.Graph.{edges_from}
+use Rattle.flow_graph.specs.inner.Building.{AreOf}
+use Rattle.flow_graph.proofs.graph.linked.Given as goal
+
+abbrev pub invariant-nodes : goal.invariant-nodes
+invariant-nodes l = record {
+  count : l.links.0 ≡ length l.nodes;
+  upto : l.u ≤ length l.nodes;
+  few : length l.links.1 + 2 * l.u ≤ 2 * length l.nodes;
+  edges : (code : Bytes) → AreOf code l.nodes l.instrs → l.links.1 ≡ edges_from (next code) l.nodes l.u (drop l.u l.nodes);
+}
+
+abbrev pub decreases-nodes : goal.decreases-nodes
+decreases-nodes l = l.u

@@ -1,0 +1,7 @@
+use Rattle.flow_graph.specs.Walks.{Stop}
+use Rattle.flow_graph.proofs.ExactLemmas.{reached_closed}
+use Rattle.flow_graph.proofs.GraphLaws.{least_test}
+use Rattle.flow_graph.proofs.laws.law_of_reach.Goals as goal
+
+pub returns : goal.returns
+returns c = record { entry = λ code e. Stop; closed = reached_closed; least = λ code e a has w t closed. least_test code has closed w t }

@@ -1,0 +1,26 @@
+-- What the parts of a graph are while it is built.
+use Rattle.std.specs.Prelude.{◌≡◌, ℕ, ◌<◌, List, length, map, take, slice_index, Ok, Err}
+use Rattle.std.specs.List.{Contains}
+use Rattle.rv_words.specs.Bytes.{Bytes}
+use Rattle.rv_decode.specs.declared.instruction.Instr.{Instr}
+use Rattle.flow_graph.specs.declared.outside.Outside.{Outside as Fault}
+use Rattle.flow_graph.specs.declared.outside.FlowFault.{FlowFault}
+use Rattle.flow_graph.specs.declared.outside.FlowFault.TheVariants.{Outside, NoMemory}
+use Rattle.flow_graph.specs.Flow.{look, Next}
+
+-- the instructions at these addresses, none of which has a fault and which lead to each other alone
+pub record AreOf (code : Bytes) (nodes : List ℕ) (instrs : List Instr) : Type 0 where
+  pub same : map (λ i. Ok i) instrs ≡ map (look code) nodes
+  pub closed : (a b : ℕ) → Contains nodes a → Next code a b → Contains nodes b
+
+-- the first of these addresses that has a fault has this one
+pub record IsFirst (code : Bytes) (nodes : List ℕ) (why : Fault) : Type 0 where
+  pub place : ℕ
+  pub within : place < length nodes
+  pub fault : look code (slice_index nodes place) ≡ Err why
+  pub before : List Instr
+  pub fine : map (λ i. Ok i) before ≡ map (look code) (take place nodes)
+
+abbrev pub HasFault : Bytes → List ℕ → FlowFault → Type 0
+HasFault code nodes (Outside why) = IsFirst code nodes why
+HasFault code nodes NoMemory = Unit {0}

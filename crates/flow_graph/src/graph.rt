@@ -1,0 +1,188 @@
+//! The graph of the code that is reached from an entry.
+ghost use Rattle.std.specs.Prelude.{◌≡◌, ℕ, ◌+◌, ◌<◌, ◌≤◌, ◌^◌, ◌++◌, IfOk, IfErr, IfSome, IfNone, OnOk, Ok as Fine, length, map, slice_index};
+ghost use Rattle.std.specs.List.{Contains};
+ghost use Rattle.elf_image.specs.Image.{code_in};
+ghost use Rattle.flow_graph.specs.Flow as spec;
+ghost use Rattle.rv_words.specs.Bytes.{Bytes};
+ghost use Rattle.flow_graph.specs.Graph.{IsFlow, IsGraphOf, IsRefused, edge_to, edges_from, preds_of, succs_of};
+ghost use Rattle.flow_graph.specs.inner.Building.{AreOf, HasFault};
+ghost use Rattle.flow_graph.specs.inner.Reached.{targets_of};
+
+use crate::flow::{Targets, look, targets_at};
+use crate::links::{Edges, Links};
+use crate::outside::{FlowFault, Outside};
+use crate::reach::reached;
+use crate::visited::Visited;
+use elf_image::Image;
+use rv_decode::Instr;
+use rv_words::NoMemory;
+use std::alloc::Global;
+use std::marker::Model;
+
+/// The instructions that are reached from an entry, as nodes that rise by address, and the edges between them.
+#[derive(Drop)]
+pub struct Graph {
+    entry: u32,
+    nodes: Visited,
+    instrs: Vec<Instr>,
+    links: Links,
+}
+
+impl Model for Graph {
+    ghost use Rattle.std.specs.Prelude.{◌≡◌, length};
+    ghost use Rattle.flow_graph.specs.Graph.{GraphOf, IsFlow};
+
+    ghost Value = { GraphOf };
+
+    ghost view = { λ g. record { entry = g.entry; addrs = g.nodes; instrs = g.instrs.items; edges = g.links.1 } };
+
+    ghost invariant = { λ g. IsFlow (record { entry = g.entry; addrs = g.nodes; instrs = g.instrs.items; edges = g.links.1 }) × (g.links.0 ≡ length g.nodes) };
+}
+
+impl Graph {
+    ghost use Rattle.std.specs.Prelude.{slice_index_or, Some, slice_get};
+
+    /// How many nodes there are.
+    pub fn len(&self) -> u32
+        ensures len { result ≡ length self.now.addrs }
+        ensures flow { IsFlow self.now }
+    {
+        self.nodes.len() as u32
+    }
+
+    /// The number of the entry's node.
+    pub fn entry(&self) -> u32
+        ensures { result ≡ self.now.entry }
+    {
+        self.entry
+    }
+
+    /// The address of a node.
+    pub fn addr(&self, n: u32) -> u64
+        requires { n < length self.now.addrs }
+        ensures { result ≡ slice_index self.now.addrs n }
+    {
+        self.nodes.get(n as usize)
+    }
+
+    /// The instruction of a node.
+    pub fn instr(&self, n: u32) -> Instr
+        requires { n < length self.now.addrs }
+        ensures { Some result ≡ slice_get self.now.instrs n }
+    {
+        self.instrs[n as usize]
+    }
+
+    /// The node at an address.
+    pub fn node(&self, a: u64) -> Option<u32>
+        ensures some { IfSome result (λ n. (n < length self.now.addrs) × (slice_index self.now.addrs n ≡ a)) }
+        ensures none { IfNone result (Contains self.now.addrs a → ⊥) }
+    {
+        match self.nodes.place(a) {
+            Some(n) => Some(n as u32),
+            None => None,
+        }
+    }
+
+    /// The nodes to which edges lead from a node.
+    pub fn succs(&self, n: u32) -> Edges<'_>
+        requires { n < length self.now.addrs }
+        ensures { result ≡ succs_of self.now.edges n }
+    {
+        self.links.succs(n)
+    }
+
+    /// The nodes from which edges lead to a node.
+    pub fn preds(&self, n: u32) -> Edges<'_>
+        requires { n < length self.now.addrs }
+        ensures { result ≡ preds_of self.now.edges n }
+    {
+        self.links.preds(n)
+    }
+}
+
+/// The instructions at these addresses, or the fault of the first of them that has one.
+fn instructions(alloc: Global, image: &Image, nodes: &Visited) -> Result<Vec<Instr>, FlowFault>
+    ensures ok { IfOk result (λ is. map (λ i. Fine i) is.items ≡ map (spec.look (code_in image.now.pieces)) nodes.now) }
+    ensures err { IfErr result (HasFault (code_in image.now.pieces) nodes.now) }
+{
+    let mut instrs = Vec::new(alloc);
+    let mut i = 0;
+    'nodes: while i < nodes.len() {
+        match look(image, nodes.get(i)) {
+            Ok(instruction) => {
+                if instrs.push(instruction).is_err() {
+                    return Err(FlowFault::NoMemory);
+                }
+            }
+            Err(why) => return Err(FlowFault::Outside(why)),
+        }
+        i += 1;
+    }
+    Ok(instrs)
+}
+
+/// Adds the edges of a node to these addresses, the last one first.
+fn add_edges(links: &mut Links, nodes: &Visited, n: u32, targets: Targets) -> Result<(), NoMemory>
+    requires node { n < links.old.0 }
+    requires count { links.old.0 ≡ length nodes.now }
+    requires few { length nodes.now ≤ 1024 }
+    requires room { length links.old.1 < 2 ^ 20 }
+    requires closed { (b : ℕ) → Contains (targets_of targets) b → Contains nodes.now b }
+    ensures edges { OnOk result (links.new ≡ (links.old.0, map (edge_to nodes.now n) (targets_of targets) ++ links.old.1)) }
+    ensures grown { OnOk result (length links.new.1 ≤ length links.old.1 + 2) }
+{
+    match targets {
+        Targets::Nowhere => {}
+        Targets::One(a) => {
+            let to = nodes.number(a);
+            links.add(n, to)?;
+        }
+        Targets::Two(a, b) => {
+            let to = nodes.number(b);
+            links.add(n, to)?;
+            let next = nodes.number(a);
+            links.add(n, next)?;
+        }
+    }
+    Ok(())
+}
+
+/// The edges between the nodes with these addresses and instructions.
+fn linked(alloc: Global, nodes: &Visited, instrs: &[Instr]) -> Result<Links, NoMemory>
+    requires few { length nodes.now ≤ 1024 }
+    requires of { (code : Bytes) × AreOf code nodes.now instrs.now }
+    ensures { (code : Bytes) → AreOf code nodes.now instrs.now → IfOk result (λ l. l ≡ (length nodes.now, edges_from (spec.next code) nodes.now 0 nodes.now)) }
+{
+    let mut u = nodes.len();
+    let mut links = Links::new(alloc, u)?;
+    'nodes: while u > 0 {
+        u -= 1;
+        add_edges(
+            &mut links,
+            nodes,
+            u as u32,
+            targets_at(nodes.get(u), instrs[u]),
+        )?;
+    }
+    Ok(links)
+}
+
+/// The graph of the code that is reached from an entry, or the first fault of that code.
+pub fn build(alloc: Global, image: &Image, entry: u64) -> Result<Graph, FlowFault>
+    ensures ok { IfOk result (IsGraphOf (code_in image.now.pieces) entry) }
+    ensures err { IfErr result (IsRefused (code_in image.now.pieces) entry) }
+{
+    let Some(mut nodes) = reached(alloc, image, entry)? else {
+        return Err(FlowFault::Outside(Outside::TooLarge));
+    };
+    nodes.sort()?;
+    let instrs = instructions(alloc, image, &nodes)?;
+    let links = linked(alloc, &nodes, &instrs)?;
+    Ok(Graph {
+        entry: nodes.number(entry),
+        nodes,
+        instrs,
+        links,
+    })
+}

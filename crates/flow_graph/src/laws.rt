@@ -1,0 +1,34 @@
+//! Laws of reached code. These functions do nothing: their contracts are the laws. Each speaks of the definitions alone.
+
+ghost use Rattle.std.specs.Prelude.{◌≡◌, ◌<◌, ◌==◌, ℕ, Bool, IsTrue, Result, Ok as Fine, count_by, length, map, slice_index};
+ghost use Rattle.rv_words.specs.Bytes.{Bytes};
+ghost use Rattle.flow_graph.specs.Flow.{Next, look, next};
+ghost use Rattle.flow_graph.specs.Walks.{Reaches};
+ghost use Rattle.flow_graph.specs.Reach.{IsFault};
+ghost use Rattle.flow_graph.specs.Graph.{GraphOf, IsFlow, IsGraphOf, preds_of, succs_of};
+ghost use Rattle.flow_graph.specs.declared.outside.Outside.{Outside};
+
+/// The reached addresses are the least set that has the entry and is closed under successors.
+pub fn law_of_reach()
+    ensures entry { (code : Bytes) (e : ℕ) → Reaches (Next code) e e }
+    ensures closed { (code : Bytes) (e a b : ℕ) → Reaches (Next code) e a → Next code a b → Reaches (Next code) e b }
+    ensures least { (code : Bytes) (e a : ℕ) (has : ℕ → Bool) → Reaches (Next code) e a → IsTrue (has e)
+        → ((x y : ℕ) → IsTrue (has x) → Next code x y → IsTrue (has y)) → IsTrue (has a) }
+{}
+
+/// Code has a graph or a fault and not both, one graph at most, and one fault at most.
+pub fn law_of_one_answer()
+    ensures graph_or_fault { (code : Bytes) (e : ℕ) (g : GraphOf) (why : Outside) → IsGraphOf code e g → IsFault code e why → ⊥ }
+    ensures one_fault { (code : Bytes) (e : ℕ) (why other : Outside) → IsFault code e why → IsFault code e other → why ≡ other }
+    ensures one_graph { (code : Bytes) (e : ℕ) (g h : GraphOf) → IsGraphOf code e g → IsGraphOf code e h → g ≡ h }
+{}
+
+/// The edges of a graph are the successors of its addresses, in their order. An edge stands as often in the list of the
+/// node that it leads to as in that of the node that it comes from.
+pub fn law_of_edges()
+    ensures successors { (code : Bytes) (e : ℕ) (g : GraphOf) (n : ℕ) → IsGraphOf code e g → n < length g.addrs
+        → map (λ m. slice_index g.addrs m) (succs_of g.edges n) ≡ next code (slice_index g.addrs n) }
+    ensures both_lists { (g : GraphOf) (u v : ℕ) → count_by (λ m. m == v) (succs_of g.edges u) ≡ count_by (λ m. m == u) (preds_of g.edges v) }
+    ensures instructions { (code : Bytes) (e : ℕ) (g : GraphOf) → IsGraphOf code e g → map (λ a. look code a) g.addrs ≡ map (λ i. Fine i) g.instrs }
+    ensures flow { (code : Bytes) (e : ℕ) (g : GraphOf) → IsGraphOf code e g → IsFlow g }
+{}

@@ -1,0 +1,18 @@
+//! Reached code: the instructions that are reached from an entry, and where they lead.
+#![tactic(auto)]
+
+mod flow;
+mod graph;
+mod laws;
+mod links;
+mod outside;
+mod reach;
+mod visited;
+
+pub use graph::{Graph, build};
+pub use laws::{law_of_edges, law_of_one_answer, law_of_reach};
+pub use links::Edges;
+pub use outside::{FlowFault, Outside};
+
+#[cfg(test)]
+mod tests;

@@ -1,0 +1,9 @@
+pub mod Search
+pub mod Second
+pub mod Order
+pub mod LoopOf
+pub mod Found
+pub mod Standing
+pub mod Placed
+pub mod Inner
+pub mod Kept

@@ -1,0 +1,52 @@
+//! All loops of a graph.
+ghost use Rattle.std.specs.Prelude.{◌≡◌, ℕ, ◌<◌, IfOk};
+ghost use Rattle.flow_graph.specs.Graph.{HasEdge};
+ghost use Rattle.loop_forest.specs.Loops.{IsSettled};
+ghost use Rattle.loop_forest.specs.inner.Order.{mark_of, number_of};
+ghost use Rattle.loop_forest.specs.inner.Found.{IsFound};
+
+use crate::loops::{Loop, exits_of, loop_of};
+use crate::order::Mark;
+use flow_graph::Graph;
+use rv_words::{List, NoMemory};
+use std::alloc::Global;
+
+/// How many exits a loop may have.
+const EXIT_LIMIT: usize = 8;
+
+/// A loop with its exits.
+#[derive(Drop)]
+pub struct Looped {
+    pub body: Loop,
+    pub exits: List<u32>,
+}
+
+/// What is found of loops.
+#[derive(Drop)]
+pub enum Found {
+    /// All loops, by rising head.
+    Loops(Vec<Looped>),
+    /// The least head whose loop has too many exits.
+    Many(u32),
+}
+
+/// All loops, or the least head whose loop has too many exits.
+pub fn find_all(alloc: Global, g: &Graph, marks: &[Mark]) -> Result<Found, NoMemory>
+    requires settled { IsSettled (HasEdge g.now) g.now.entry (λ x. number_of (mark_of marks.now x)) }
+    ensures { IfOk result (IsFound g.now) }
+{
+    let count = g.len();
+    let mut loops = Vec::new(alloc);
+    let mut h = 0;
+    'heads: while h < count {
+        if let Some(body) = loop_of(alloc, g, marks, h)? {
+            let exits = exits_of(alloc, g, &body)?;
+            if exits.len() > EXIT_LIMIT {
+                return Ok(Found::Many(h));
+            }
+            loops.push(Looped { body, exits })?;
+        }
+        h += 1;
+    }
+    Ok(Found::Loops(loops))
+}

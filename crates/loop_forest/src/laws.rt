@@ -1,0 +1,30 @@
+//! Laws of forests. These functions do nothing: their contracts are the laws. Each speaks of the definitions alone.
+
+ghost use Rattle.std.specs.Prelude.{◌≡◌, ◌≢◌, ℕ, List};
+ghost use Rattle.rv_words.specs.Bytes.{Bytes};
+ghost use Rattle.flow_graph.specs.Flow.{Next};
+ghost use Rattle.flow_graph.specs.Graph.{GraphOf, HasEdge, IsFlow, IsGraphOf};
+ghost use Rattle.loop_forest.specs.Cycles.{ShowsTwoEntries, TwoEntries};
+ghost use Rattle.loop_forest.specs.Addresses.{GoesTo, entry_at};
+ghost use Rattle.loop_forest.specs.Forest.{ForestOf, IsForestOf, IsMany};
+ghost use Rattle.loop_forest.specs.Walking.{IsWalkable};
+
+/// What walks along a graph may rest on.
+pub fn law_of_walks()
+    ensures { (g : GraphOf) (f : ForestOf) → IsFlow g → IsForestOf g f → IsWalkable g f }
+{}
+
+/// A graph has a forest, two entries or a loop with too many exits, and only one of these. There is one first loop with too many exits.
+pub fn law_of_one_forest()
+    ensures no_two_entries { (g : GraphOf) (f : ForestOf) → IsFlow g → IsForestOf g f → TwoEntries (GoesTo g) (entry_at g) → ⊥ }
+    ensures no_many_exits { (g : GraphOf) (f : ForestOf) (a : ℕ) → IsFlow g → IsForestOf g f → IsMany g a → ⊥ }
+    ensures one_head { (g : GraphOf) (a b : ℕ) → IsMany g a → IsMany g b → a ≡ b }
+{}
+
+/// Two entries between the addresses of a graph are two entries of its code, and the other way.
+pub fn law_of_two_entries()
+    ensures shown { (code : Bytes) (e : ℕ) (g : GraphOf) (cycle first second : List ℕ) → IsGraphOf code e g
+        → ShowsTwoEntries (GoesTo g) (entry_at g) cycle first second → ShowsTwoEntries (Next code) e cycle first second }
+    ensures none { (code : Bytes) (e : ℕ) (g : GraphOf) (f : ForestOf) → IsGraphOf code e g → IsForestOf g f → TwoEntries (Next code) e → ⊥ }
+    ensures none_where_many { (code : Bytes) (e : ℕ) (g : GraphOf) (a : ℕ) → IsGraphOf code e g → IsMany g a → TwoEntries (Next code) e → ⊥ }
+{}

@@ -1,0 +1,57 @@
+//! Searches.
+ghost use Rattle.std.specs.Prelude.{◌≡◌, ℕ, ◌<◌, ◌≤◌, ◌≢◌, ◌⊎◌, IfOk, OnOk, length, slice_index};
+ghost use Rattle.std.specs.List.{All, Contains};
+ghost use Rattle.flow_graph.specs.Graph.{succs_of, HasEdge};
+ghost use Rattle.loop_forest.specs.inner.Search.{FindsSources, Notes};
+
+use crate::node_set::NodeSet;
+use flow_graph::Graph;
+use rv_words::NoMemory;
+use std::alloc::Global;
+
+/// The nodes that a search found, and for each the place of a node that an edge leads to from it.
+#[derive(Drop)]
+pub struct Search {
+    pub nodes: NodeSet,
+    pub toward: Vec<usize>,
+}
+
+impl Search {
+    /// Adds a node, unless it is there already.
+    fn note(&mut self, x: u32, place: usize) -> Result<(), NoMemory>
+        ensures { OnOk result (Notes self.old.nodes self.old.toward.items x place self.new.nodes self.new.toward.items) }
+    {
+        if self.nodes.add(x)? {
+            self.toward.push(place)?;
+        }
+        Ok(())
+    }
+}
+
+/// The nodes from which a target is reached without meeting h.
+pub fn sources(alloc: Global, g: &Graph, targets: &[u32], h: u32) -> Result<Search, NoMemory>
+    requires { All (λ t. t < length g.now.addrs) targets.now }
+    ensures { IfOk result (λ s. FindsSources g.now targets.now h s.nodes s.toward.items) }
+{
+    let _count = g.len();
+    let mut search = Search {
+        nodes: NodeSet::new(alloc),
+        toward: Vec::new(alloc),
+    };
+    for t in targets {
+        if *t != h {
+            search.note(*t, 0)?;
+        }
+    }
+    let mut i = 0;
+    'nodes: while i < search.nodes.len() {
+        let x = search.nodes.get(i);
+        for p in g.preds(x) {
+            if p != h {
+                search.note(p, i)?;
+            }
+        }
+        i += 1;
+    }
+    Ok(search)
+}
