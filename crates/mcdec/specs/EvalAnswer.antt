@@ -8,8 +8,8 @@ use Rattle.tailrec_lang.specs.Tree.{GroupTree}
 use Rattle.tailrec_lang.specs.WellFormed.{IsWellFormed, IsFirstIllFormed}
 use Rattle.tailrec_lang.specs.Eval.{Arguments, Done, SideFalse, Turns, eval}
 use Rattle.proof_text.specs.Spelling.{text_of}
-use Rattle.proof_text.specs.Limits.{AreGroups, texts}
-use Rattle.proof_text.specs.Front.{AreRead}
+use Rattle.proof_text.specs.Limits.{AreGroups, proof_texts}
+use Rattle.proof_text.specs.FirstGroups.{AreRead}
 use Rattle.mcdec.specs.declared.answer.Answer.{Answer}
 use Rattle.mcdec.specs.declared.answer.Answer.TheVariants as answer
 use Rattle.mcdec.specs.Command.{Arg, value_of, givens, ranges}
@@ -66,7 +66,7 @@ IsTextOf text gs = AreGroups gs × (text ≡ text_of gs) × AreWellFormed gs
 abbrev pub TextGives : List ℕ → List ℕ → ℕ → List Arg → Answer → Type 0
 TextGives text name turns args (answer.IllFormed group def) = (gs : List GroupTree) × (g : GroupTree) × AreRead text (gs ++ g ∷ [])
     × AreWellFormed gs × (group ≡ length gs) × IsFirstIllFormed g def
-TextGives text name turns args (answer.UnreadableText line) = IsBadAt texts text line × ((gs : List GroupTree) → AreRead text gs → AreWellFormed gs)
+TextGives text name turns args (answer.UnreadableText line) = IsBadAt proof_texts text line × ((gs : List GroupTree) → AreRead text gs → AreWellFormed gs)
 TextGives text name turns args answer.NoFunction = (gs : List GroupTree) × IsTextOf text gs × NoneNamed name gs
 TextGives text name turns args a = (gs : List GroupTree) × IsTextOf text gs × (g : GroupTree) × FirstNamed name gs g × GroupGives g turns args a
 
