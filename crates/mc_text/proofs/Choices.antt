@@ -2,7 +2,7 @@
 use Rattle.std.proofs.Common.{◌≡◌, Bool, true, false, cond, List, [], ◌∷◌, ◌++◌, Ok, Err, refl, sym, ap, subst, ◌∙◌, inl, inr, ◌⊎◌}
 use Rattle.mc_text.specs.Tokens.{Tok}
 use Rattle.mc_text.specs.Reading.{Reader, ◌>>=◌, made, choice, checked, goes_on}
-use Rattle.mc_text.proofs.Laws.{Out, Reads, Stops, StaysFlat, AreAlike, ok-is, err-is, made-takes, made-again, made-stops}
+use Rattle.mc_text.proofs.ReaderLaws.{Out, Reads, Stops, StaysFlat, AreAlike, ok-is, err-is, made-takes, made-again, made-stops}
 
 -- the same first token decides
 pub alike-first : (go : Tok → Bool) (front bad other : List Tok) → AreAlike bad other → goes_on go (front ++ bad) ≡ goes_on go (front ++ other)

@@ -2,7 +2,7 @@
 use Rattle.std.proofs.Common.{◌≡◌, Bool, true, false, cond, List, [], ◌∷◌, ◌++◌, Ok, Err, refl, sym, ap, subst, ◌∙◌, append_assoc}
 use Rattle.mc_text.specs.Tokens.{Tok, Left, Right, Semi, Atom, Eol, Done, Stuck}
 use Rattle.mc_text.specs.Reading.{Reader, ◌>>=◌, one, pair, eol, checked}
-use Rattle.mc_text.proofs.Laws.{Out, Reads, Stops, StaysFlat, AreAlike, ok-value, ok-rest, err-is}
+use Rattle.mc_text.proofs.ReaderLaws.{Out, Reads, Stops, StaysFlat, AreAlike, ok-value, ok-rest, err-is}
 
 abbrev Ended : Type 0
 Ended = Out (Unit {0})

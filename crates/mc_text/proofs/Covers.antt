@@ -2,12 +2,11 @@
 use Rattle.std.proofs.Common.{◌≡◌, ℕ, zero, suc, ◌<◌, Bool, true, false, List, [], ◌∷◌, ◌++◌, length, Ok, Err, refl, sym, ap, subst, ◌∙◌, arith, append_assoc, inl, inr, ◌⊎◌}
 use Rattle.std.specs.List.{AllByRecursion}
 use Rattle.std.proofs.lemmas.List.{append-nil}
-use Rattle.mc_text.specs.Tokens.{Tok, Left, Right, Semi, Atom, Eol, Done, Stuck}
+use Rattle.mc_text.specs.Tokens.{Tok, Left, Right, Semi, Atom, Eol, Done, Stuck, all_tokens}
 use Rattle.mc_text.specs.Reading.{Reader, ◌>>=◌, pair, with, made, many, star, goes_on, keyed, refused}
-use Rattle.mc_text.specs.Reading.{each}
 use Rattle.mc_text.proofs.Lines.{EndsIn, IsLines}
 use Rattle.mc_text.proofs.Star.{Shrinks, star-item, star-end}
-use Rattle.mc_text.proofs.Laws.{Out, Reads, IsFlat, AreAlike, ok-is, err-is, IsElse, keyed-cases, keyed-hit, keyed-miss}
+use Rattle.mc_text.proofs.ReaderLaws.{Out, Reads, IsFlat, AreAlike, ok-is, err-is, IsElse, keyed-cases, keyed-hit, keyed-miss}
 
 ends-append : (t : Tok) (a b : List Tok) → EndsIn t a → IsLines b → EndsIn t (a ++ b)
 ends-append t [] [] h k = h
@@ -136,7 +135,7 @@ module _ {X Y : Type 0} (go : Tok → Bool) (r : Reader X) (small : Shrinks r) (
   FL p = AllByRecursion F p.0 × G p.1
 
   abbrev tl : List X × Y → List Tok
-  tl p = each t p.0 ++ u p.1
+  tl p = all_tokens t p.0 ++ u p.1
 
   abbrev cons : X → Out (List X × Y) → Out (List X × Y)
   cons x q = ◌>>=◌ {A = (List X × Y) × List Tok} {B = (List X × Y) × List Tok} q (λ p. Ok ((x ∷ p.0.0, p.0.1), p.1))
@@ -187,7 +186,7 @@ module _ {X Y : Type 0} (go : Tok → Bool) (r : Reader X) (small : Shrinks r) (
   cons-takes ts us x (Ok z) p rest et f ih e =
       let k = ih z.0 z.1 refl in
       subst (λ (w : (List X × Y) × List Tok). (ts ≡ tl w.0 ++ w.1) × FL w.0) (ok-is ((x ∷ z.0.0, z.0.1), z.1) (p, rest) e)
-      (et ∙ ap (λ (v : List Tok). t x ++ v) k.0 ∙ sym (append_assoc (t x) (each t z.0.0 ++ u z.0.1) z.1) ∙ ap (λ (v : List Tok). v ++ z.1) (sym (append_assoc (t x) (each t z.0.0) (u z.0.1))), ((f, k.1.0), k.1.1))
+      (et ∙ ap (λ (v : List Tok). t x ++ v) k.0 ∙ sym (append_assoc (t x) (all_tokens t z.0.0 ++ u z.0.1) z.1) ∙ ap (λ (v : List Tok). v ++ z.1) (sym (append_assoc (t x) (all_tokens t z.0.0) (u z.0.1))), ((f, k.1.0), k.1.1))
   cons-takes ts us x (Err bad) p rest et f ih e = absurd cc
 
   last-takes : (ts : List Tok) (q : Out Y) (p : List X × Y) (rest : List Tok) → b ts ≡ q → last q ≡ Ok (p, rest) → (ts ≡ tl p ++ rest) × FL p
@@ -219,7 +218,7 @@ module _ {X Y : Type 0} (go : Tok → Bool) (r : Reader X) (small : Shrinks r) (
   list-again : (xs : List X) (y : Y) (rest : List Tok) → AllByRecursion F xs → G y → R (tl (xs, y) ++ rest) ≡ Ok ((xs, y), rest)
   list-again [] y rest h k = R-end (u y ++ rest) (quiet y k rest) ∙ rw (cb.again y rest k) refl
   list-again (x ∷ xs) y rest h k =
-      let parts : tl (x ∷ xs, y) ++ rest ≡ t x ++ (tl (xs, y) ++ rest) = ap (λ (v : List Tok). v ++ rest) (append_assoc (t x) (each t xs) (u y)) ∙ append_assoc (t x) (each t xs ++ u y) rest in
+      let parts : tl (x ∷ xs, y) ++ rest ≡ t x ++ (tl (xs, y) ++ rest) = ap (λ (v : List Tok). v ++ rest) (append_assoc (t x) (all_tokens t xs) (u y)) ∙ append_assoc (t x) (all_tokens t xs ++ u y) rest in
       ap R parts ∙ R-item (t x ++ (tl (xs, y) ++ rest)) x (tl (xs, y) ++ rest) (heads x h.0 (tl (xs, y) ++ rest)) (cr.again x (tl (xs, y) ++ rest) h.0) ∙ ap (cons x) (list-again xs y rest h.1 k)
 
   abbrev HaltsAt : List Tok → Type 0
@@ -247,7 +246,7 @@ module _ {X Y : Type 0} (go : Tok → Bool) (r : Reader X) (small : Shrinks r) (
         whole = (x.0 ∷ s.whole.0, s.whole.1);
         fits = ((k.1, s.fits.0), s.fits.1);
         more = s.more;
-        begun = append_assoc (t x.0) (each t s.whole.0) (u s.whole.1) ∙ ap (λ (v : List Tok). t x.0 ++ v) s.begun ∙ sym (append_assoc (t x.0) s.front s.more);
+        begun = append_assoc (t x.0) (all_tokens t s.whole.0) (u s.whole.1) ∙ ap (λ (v : List Tok). t x.0 ++ v) s.begun ∙ sym (append_assoc (t x.0) s.front s.more);
       }
   list-halts2 ts (Err other) g e ih bad h =
       let same : other ≡ bad = err-is other bad (sym (R-fails ts other g e) ∙ h) in
@@ -286,16 +285,16 @@ module _ {X Y : Type 0} (go : Tok → Bool) (r : Reader X) (small : Shrinks r) (
   list-halts zero ts lt bad h = absurd (omega arith)
   list-halts (suc n) ts lt bad h = list-halts1 ts (goes_on go ts) refl (λ us less. list-halts n us (omega arith)) bad h
 
-  each-lines : (xs : List X) → AllByRecursion F xs → IsLines (each t xs)
+  each-lines : (xs : List X) → AllByRecursion F xs → IsLines (all_tokens t xs)
   each-lines [] h = tt
-  each-lines (x ∷ xs) h = lines-append (t x) (each t xs) (cr.ends x h.0) (each-lines xs h.1)
+  each-lines (x ∷ xs) h = lines-append (t x) (all_tokens t xs) (cr.ends x h.0) (each-lines xs h.1)
 
   pub covers-list : Covers R FL tl
   covers-list = record {
     takes = λ ts p rest e. list-takes (suc (length ts)) ts (omega arith) p rest e;
     again = λ p rest h. list-again p.0 p.1 rest h.0 h.1;
     halts = λ ts bad e. list-halts (suc (length ts)) ts (omega arith) bad e;
-    ends = λ p h. lines-append (each t p.0) (u p.1) (each-lines p.0 h.0) (cb.ends p.1 h.1);
+    ends = λ p h. lines-append (all_tokens t p.0) (u p.1) (each-lines p.0 h.0) (cb.ends p.1 h.1);
     some = ([], cb.some);
     some-fits = (tt, cb.some-fits);
   }

@@ -4,17 +4,17 @@ use Rattle.std.specs.Prelude.{option_map}
 use Rattle.std.proofs.lemmas.List.{append-nil}
 use Rattle.std.proofs.lemmas.Bool.{eqb-true}
 use Rattle.std.proofs.lemmas.Bool.Decides.{nat_tests}
-use Rattle.mc_text.specs.Tokens.{Tok, Left, Right, Semi, Atom, Eol, Done, Stuck, is_atom_byte, IsAtomText, gap, bytes_of, after, eol, spell, IsToken}
+use Rattle.mc_text.specs.Tokens.{Tok, Left, Right, Semi, Atom, Eol, Done, Stuck, is_atom_byte, IsAtomText, gap, token_bytes, before_next, eol, spell, IsToken}
 use Rattle.mc_text.specs.declared.token.Before.{Before}
 use Rattle.mc_text.specs.declared.token.Before.TheVariants.{Start, Open, Later}
-use Rattle.mc_text.specs.Scanning.{class_of, State, At, Within, Spaced, lex, byte_step, prepend, or_stuck, ended, loose, tight, grows, parts, eols, newlines}
+use Rattle.mc_text.specs.Scanning.{class_of, State, At, Within, Spaced, lex, byte_step, prepend, or_stuck, ended, loose, tight, grows, parts, eols}
 use Rattle.mc_text.specs.declared.token.Class.{Class}
 use Rattle.mc_text.specs.declared.token.Class.TheVariants.{Letter, LeftMark, RightMark, SemiMark, Newline, Space, Other}
 use Rattle.mc_text.proofs.Atoms.{lex-cons}
 use Rattle.mc_text.proofs.Lines.{lex-spell, spell-lex, Spelled, AreReal, IsReal, AreTokens, EndsIn, IsLines}
 use Rattle.mc_text.specs.Reading.{Reader}
-use Rattle.mc_text.specs.Fault.{first_lines, Grammar, InGrammar, Begins, AreThere, LinesBegin, IsBadAt}
-use Rattle.mc_text.proofs.Laws.{IsFlat, AreAlike, ok-rest}
+use Rattle.mc_text.specs.Fault.{first_lines, Grammar, InGrammar, Begins, AreThere, LinesBegin, IsBadAt, newlines}
+use Rattle.mc_text.proofs.ReaderLaws.{IsFlat, AreAlike, ok-rest}
 use Rattle.mc_text.proofs.Covers.{Covers}
 
 -- the same tokens up to the end of a line
@@ -193,7 +193,7 @@ newlines-atom : (a : List ℕ) → IsAtomText a → newlines a ≡ 0
 newlines-atom [] h = refl
 newlines-atom (b ∷ a) h = rw (atom-newline b h.0) (newlines-atom a h.1)
 
-newlines-token : (t : Tok) → IsToken t → newlines (bytes_of t) ≡ eol t
+newlines-token : (t : Tok) → IsToken t → newlines (token_bytes t) ≡ eol t
 newlines-token Left h = refl
 newlines-token Right h = refl
 newlines-token Semi h = refl
@@ -206,9 +206,9 @@ newlines-token Stuck h = refl
 pub newlines-spell : (m : Before) (ts : List Tok) → AreTokens ts → newlines (spell m ts) ≡ eols ts
 newlines-spell m [] h = refl
 newlines-spell m (t ∷ ts) h =
-    let one = newlines-append (gap m t ++ bytes_of t) (spell (after t) ts) in
-    let two = newlines-append (gap m t) (bytes_of t) in
-    omega (arith, one, two, newlines-gap m t, newlines-token t h.0, newlines-spell (after t) ts h.1)
+    let one = newlines-append (gap m t ++ token_bytes t) (spell (before_next t) ts) in
+    let two = newlines-append (gap m t) (token_bytes t) in
+    omega (arith, one, two, newlines-gap m t, newlines-token t h.0, newlines-spell (before_next t) ts h.1)
 
 pub eols-append : (a b : List Tok) → eols (a ++ b) ≡ eols a + eols b
 eols-append [] b = omega arith
@@ -292,8 +292,8 @@ front-lex (t ∷ ts) x lines tokens = lex-spell Start t ts x tokens lines
 pub spell-append : (m : Before) (a b : List Tok) → (c : List ℕ) × (spell m (a ++ b) ≡ spell m a ++ c)
 spell-append m [] b = (spell m b, refl)
 spell-append m (t ∷ a) b =
-    let r = spell-append (after t) a b in
-    (r.0, ap (λ (v : List ℕ). (gap m t ++ bytes_of t) ++ v) r.1 ∙ sym (append_assoc (gap m t ++ bytes_of t) (spell (after t) a) r.0))
+    let r = spell-append (before_next t) a b in
+    (r.0, ap (λ (v : List ℕ). (gap m t ++ token_bytes t) ++ v) r.1 ∙ sym (append_assoc (gap m t ++ token_bytes t) (spell (before_next t) a) r.0))
 
 -- bytes that end with a newline
 abbrev Ending : List ℕ → Type 0
@@ -313,7 +313,7 @@ ending-eol Later = (10, [], refl, refl)
 
 pub ending-spell : (m : Before) (t : Tok) (ts : List Tok) → EndsIn t ts → Ending (spell m (t ∷ ts))
 ending-spell m t [] h = subst (λ (u : Tok). Ending (spell m (u ∷ []))) (sym h) (ending-eol m)
-ending-spell m t (u ∷ us) h = ending-append (gap m t ++ bytes_of t) (spell (after t) (u ∷ us)) (ending-spell (after t) u us h)
+ending-spell m t (u ∷ us) h = ending-append (gap m t ++ token_bytes t) (spell (before_next t) (u ∷ us)) (ending-spell (before_next t) u us h)
 
 are-lines : (v : List ℕ) → Ending v → AreLines v
 are-lines v h = subst AreLines (sym h.2) h.3

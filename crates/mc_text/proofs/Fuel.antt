@@ -4,7 +4,7 @@ use Rattle.std.specs.Str.{bytes_eq}
 use Rattle.std.proofs.lemmas.List.{append_cancel_right}
 use Rattle.mc_text.specs.Tokens.{Tok, Left, Right, Semi, Atom, Eol, Done, Stuck}
 use Rattle.mc_text.specs.Reading.{Reader, ◌>>=◌, pair, made, many, keyed}
-use Rattle.mc_text.proofs.Laws.{Out, AreAlike, ok-rest}
+use Rattle.mc_text.proofs.ReaderLaws.{Out, AreAlike, ok-rest}
 use Rattle.mc_text.proofs.Star.{Shrinks}
 use Rattle.mc_text.proofs.Covers.{Covers}
 

@@ -11,7 +11,7 @@ use Rattle.hex.specs.declared.error.FromHexError.{FromHexError}
 use Rattle.hex.specs.Hex.{lower_digits, encode_with, encode_lower, hex_digit_value, is_hex_digit as is_any_digit, digit_or_error, pair_value, value_at, decode_pairs, decode_of, IsBytes}
 use Rattle.hex.proofs.Pairs.{cons_byte, decode_pairs-ok_pair}
 use Rattle.hex.proofs.HexLemmas.{length-encode_with, decode_of-encode_lower, decode_of-ok, decode_of-even, decode_of-digits}
-use Rattle.mc_text.specs.Number.{is_hex_digit, AreBytes, AreDigitPairs, Spelled, value_of, spelled_by, bytes_of}
+use Rattle.mc_text.specs.Number.{is_hex_digit, AreBytes, AreDigitPairs, Spelled, value_of, spelled_by, bytes_of_digits}
 use Rattle.mc_text.proofs.Numbers.{Pass}
 
 -- the value of a digit in lower case
@@ -192,8 +192,8 @@ read-back b text (Ok []) e h = absurd (let len = (decode_of-ok (b ∷ text) [] e
 read-back b text (Ok (c ∷ bytes)) e h =
     spelled-back (b ∷ text) (c ∷ bytes) (bytes_eq (encode_lower (c ∷ bytes)) (b ∷ text)) refl ((λ none. cc), are_small (c ∷ bytes) (decode_of-ok (b ∷ text) (c ∷ bytes) e).3) h
 
-pub spelled-read : (text : List ℕ) (o : Option (List ℕ)) → SpelledBytes text o → o ≡ bytes_of text
-unfolding bytes_of encode_with
+pub spelled-read : (text : List ℕ) (o : Option (List ℕ)) → SpelledBytes text o → o ≡ bytes_of_digits text
+unfolding bytes_of_digits encode_with
 spelled-read [] None h = refl
 spelled-read [] (Some []) h = absurd (h.0.0 refl)
 spelled-read [] (Some (c ∷ bytes)) h = let e = h.1 in absurd cc
@@ -221,10 +221,10 @@ told-by b text (Err x) e = λ other f s. clash x other (sym e ∙ ap decode_of s
     clash : (x : FromHexError) (other : List ℕ) → Err x ≡ ok other → ⊥
     clash x other k = cc
 
-told : (text : List ℕ) → SpelledBytes text (bytes_of text)
-unfolding bytes_of
+told : (text : List ℕ) → SpelledBytes text (bytes_of_digits text)
+unfolding bytes_of_digits
 told [] = nothing-spelled
 told (b ∷ text) = told-by b text (decode_of (b ∷ text)) refl
 
-pub bytes_of-spelled : (text : List ℕ) (o : Option (List ℕ)) → o ≡ bytes_of text → SpelledBytes text o
+pub bytes_of-spelled : (text : List ℕ) (o : Option (List ℕ)) → o ≡ bytes_of_digits text → SpelledBytes text o
 bytes_of-spelled text o e = subst (SpelledBytes text) (sym e) (told text)

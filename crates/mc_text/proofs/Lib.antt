@@ -6,7 +6,7 @@ pub mod Printed
 pub mod Atoms
 pub mod Lines
 pub mod OneSpelling
-pub mod Laws
+pub mod ReaderLaws
 pub mod Choices
 pub mod Shown
 pub mod Star
@@ -20,3 +20,6 @@ pub mod Closed
 pub mod Turns
 pub mod FaultOnce
 pub mod Unended
+pub mod Ahead
+pub mod StarReads
+pub mod Items

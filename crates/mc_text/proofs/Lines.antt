@@ -2,7 +2,7 @@
 use Rattle.std.proofs.Common.{◌≡◌, ℕ, zero, suc, ◌+◌, ◌-◌, ◌<◌, ◌≤◌, Bool, true, false, cond, eqb, List, [], ◌∷◌, ◌++◌, length, get_or, take, drop, Option, Some, None, refl, sym, ap, subst, ◌∙◌, arith, append_assoc}
 use Rattle.std.proofs.lemmas.List.{append-nil, take_all}
 use Rattle.std.specs.Prelude.{IfSome}
-use Rattle.mc_text.specs.Tokens.{Tok, Left, Right, Semi, Atom, Eol, Done, Stuck, is_atom_byte, gap, bytes_of, after, token_text, spell, IsAtom, IsAtomText, IsToken, tok, eol, HasNoAtomByte, MayStand, Stands, Place, Passes}
+use Rattle.mc_text.specs.Tokens.{Tok, Left, Right, Semi, Atom, Eol, Done, Stuck, is_atom_byte, gap, token_bytes, before_next, token_text, spell, IsAtom, IsAtomText, IsToken, tok, eol, HasNoAtomByte, MayStand, Stands, Place, Passes}
 use Rattle.mc_text.specs.declared.token.Token.{Token}
 use Rattle.mc_text.specs.declared.token.Token.TheVariants as token
 use Rattle.mc_text.specs.declared.token.Before.{Before}
@@ -55,7 +55,7 @@ abbrev IsCutAfter : Tok → List ℕ → Type 0
 IsCutAfter (Atom a) x = IsCut x
 IsCutAfter _ x = Unit {0}
 
-token-at : (m : Before) (t : Tok) (x : List ℕ) → IsToken t → IsCutAfter t x → lex (gap m t ++ (bytes_of t ++ x)) (At m) ≡ t ∷ lex x (At (after t))
+token-at : (m : Before) (t : Tok) (x : List ℕ) → IsToken t → IsCutAfter t x → lex (gap m t ++ (token_bytes t ++ x)) (At m) ≡ t ∷ lex x (At (before_next t))
 unfolding lex
 token-at Start Left x h c = refl
 token-at Open Left x h c = refl
@@ -84,7 +84,7 @@ cut-before Eol us x h = λ e. cc
 cut-before Done us x h = absurd h
 cut-before Stuck us x h = absurd h
 
-cut-after : (t u : Tok) (us : List Tok) (x : List ℕ) → IsToken u → IsCutAfter t (spell (after t) (u ∷ us) ++ x)
+cut-after : (t u : Tok) (us : List Tok) (x : List ℕ) → IsToken u → IsCutAfter t (spell (before_next t) (u ∷ us) ++ x)
 cut-after Left u us x h = tt
 cut-after Right u us x h = tt
 cut-after Semi u us x h = tt
@@ -107,9 +107,9 @@ last-at m t x e = subst (λ (u : Tok). lex (spell m (u ∷ []) ++ x) (At m) ≡ 
 pub lex-spell : (m : Before) (t : Tok) (ts : List Tok) (x : List ℕ) → AreTokens (t ∷ ts) → EndsIn t ts → lex (spell m (t ∷ ts) ++ x) (At m) ≡ (t ∷ ts) ++ lex x (At Start)
 lex-spell m t [] x h e = last-at m t x e
 lex-spell m t (u ∷ us) x h e =
-    ap (λ (y : List ℕ). lex y (At m)) (append_assoc (gap m t ++ bytes_of t) (spell (after t) (u ∷ us)) x ∙ append_assoc (gap m t) (bytes_of t) (spell (after t) (u ∷ us) ++ x))
-    ∙ token-at m t (spell (after t) (u ∷ us) ++ x) h.0 (cut-after t u us x h.1.0)
-    ∙ ap (λ (v : List Tok). t ∷ v) (lex-spell (after t) u us x h.1 e)
+    ap (λ (y : List ℕ). lex y (At m)) (append_assoc (gap m t ++ token_bytes t) (spell (before_next t) (u ∷ us)) x ∙ append_assoc (gap m t) (token_bytes t) (spell (before_next t) (u ∷ us) ++ x))
+    ∙ token-at m t (spell (before_next t) (u ∷ us) ++ x) h.0 (cut-after t u us x h.1.0)
+    ∙ ap (λ (v : List Tok). t ∷ v) (lex-spell (before_next t) u us x h.1 e)
 
 -- ---- and back
 
@@ -178,12 +178,12 @@ opens s _ = false
 -- the bytes begin with a token, and the rest is read as us
 pub record AtFront (s : State) (bytes : List ℕ) (t : Tok) (us : List Tok) : Type 0 where
   pub rest : List ℕ
-  pub is : bytes ≡ bytes_of t ++ rest
-  pub reads : lex rest (At (after t)) ≡ us
+  pub is : bytes ≡ token_bytes t ++ rest
+  pub reads : lex rest (At (before_next t)) ≡ us
   pub fits : IsToken t
   pub may : opens s t ≡ true
 
-mark-begins : (s : State) (bytes rest : List ℕ) (t v : Tok) (us : List Tok) (f : Bool) → f ≡ opens s v → IsReal t → bytes ≡ bytes_of v ++ rest → IsToken v → or_stuck f (v ∷ lex rest (At (after v))) ≡ t ∷ us → AtFront s bytes t us
+mark-begins : (s : State) (bytes rest : List ℕ) (t v : Tok) (us : List Tok) (f : Bool) → f ≡ opens s v → IsReal t → bytes ≡ token_bytes v ++ rest → IsToken v → or_stuck f (v ∷ lex rest (At (before_next v))) ≡ t ∷ us → AtFront s bytes t us
 mark-begins s bytes rest t v us true f real is fits e =
     let same : v ≡ t = cc in
     subst (λ (w : Tok). AtFront s bytes w us) same (record { rest = rest; is = is; reads = cc; fits = fits; may = sym f })
@@ -207,8 +207,8 @@ begins s b bs Space t us plain nsp e real q = never-stuck t us real (ap (λ (f :
 -- the token at a place, with its space
 pub record Follows (m : Before) (bytes : List ℕ) (t : Tok) (us : List Tok) : Type 0 where
   pub rest : List ℕ
-  pub is : bytes ≡ gap m t ++ (bytes_of t ++ rest)
-  pub reads : lex rest (At (after t)) ≡ us
+  pub is : bytes ≡ gap m t ++ (token_bytes t ++ rest)
+  pub reads : lex rest (At (before_next t)) ≡ us
   pub fits : IsToken t
 
 gap-none : (t : Tok) → opens (At Later) t ≡ true → gap Later t ≡ []
@@ -234,7 +234,7 @@ unfolding lex chain
 spaced-follows b [] t us e real q = never-stuck t us real q
 spaced-follows b (c ∷ bs) t us e real q =
     let g = begins Spaced c bs (class_of c) t us (λ ts. refl) (λ h. refl) refl real q in
-    record { rest = g.rest; is = ap (λ (v : ℕ). v ∷ c ∷ bs) (byte-space (is_atom_byte b) b e) ∙ ap (λ (v : List ℕ). 32 ∷ v) g.is ∙ sym (ap (λ (v : List ℕ). v ++ (bytes_of t ++ g.rest)) (gap-one t g.may)); reads = g.reads; fits = g.fits }
+    record { rest = g.rest; is = ap (λ (v : ℕ). v ∷ c ∷ bs) (byte-space (is_atom_byte b) b e) ∙ ap (λ (v : List ℕ). 32 ∷ v) g.is ∙ sym (ap (λ (v : List ℕ). v ++ (token_bytes t ++ g.rest)) (gap-one t g.may)); reads = g.reads; fits = g.fits }
 
 later-follows : (b : ℕ) (bs : List ℕ) (c : Class) (t : Tok) (us : List Tok) → class_of b ≡ c → IsReal t → byte_step c b (At Later) (lex bs) ≡ t ∷ us → Follows Later (b ∷ bs) t us
 later-follows b bs Space t us e real q = spaced-follows b bs t us e real q
@@ -242,8 +242,8 @@ later-follows b bs Letter t us e real q = never-stuck t us real q
 later-follows b bs LeftMark t us e real q = never-stuck t us real q
 later-follows b bs SemiMark t us e real q = never-stuck t us real q
 later-follows b bs Other t us e real q = never-stuck t us real q
-later-follows b bs RightMark t us e real q = let g = begins (At Later) b bs RightMark t us (λ ts. refl) (λ h. cc) e real q in record { rest = g.rest; is = g.is ∙ sym (ap (λ (v : List ℕ). v ++ (bytes_of t ++ g.rest)) (gap-none t g.may)); reads = g.reads; fits = g.fits }
-later-follows b bs Newline t us e real q = let g = begins (At Later) b bs Newline t us (λ ts. refl) (λ h. cc) e real q in record { rest = g.rest; is = g.is ∙ sym (ap (λ (v : List ℕ). v ++ (bytes_of t ++ g.rest)) (gap-none t g.may)); reads = g.reads; fits = g.fits }
+later-follows b bs RightMark t us e real q = let g = begins (At Later) b bs RightMark t us (λ ts. refl) (λ h. cc) e real q in record { rest = g.rest; is = g.is ∙ sym (ap (λ (v : List ℕ). v ++ (token_bytes t ++ g.rest)) (gap-none t g.may)); reads = g.reads; fits = g.fits }
+later-follows b bs Newline t us e real q = let g = begins (At Later) b bs Newline t us (λ ts. refl) (λ h. cc) e real q in record { rest = g.rest; is = g.is ∙ sym (ap (λ (v : List ℕ). v ++ (token_bytes t ++ g.rest)) (gap-none t g.may)); reads = g.reads; fits = g.fits }
 
 nothing-follows : (m : Before) (t : Tok) (us : List Tok) → IsReal t → lex [] (At m) ≡ t ∷ us → Follows m [] t us
 unfolding lex
@@ -273,8 +273,8 @@ pub follows : (m : Before) (bytes : List ℕ) (t : Tok) (us : List Tok) → IsRe
 unfolding lex
 follows m [] t us real q = nothing-follows m t us real q
 follows Later (b ∷ bs) t us real q = later-follows b bs (class_of b) t us refl real q
-follows Start (b ∷ bs) t us real q = let g = begins (At Start) b bs (class_of b) t us (λ ts. refl) (λ h. refl) refl real q in record { rest = g.rest; is = g.is ∙ sym (ap (λ (v : List ℕ). v ++ (bytes_of t ++ g.rest)) (gap-start t)); reads = g.reads; fits = g.fits }
-follows Open (b ∷ bs) t us real q = let g = begins (At Open) b bs (class_of b) t us (λ ts. refl) (λ h. refl) refl real q in record { rest = g.rest; is = g.is ∙ sym (ap (λ (v : List ℕ). v ++ (bytes_of t ++ g.rest)) (gap-open t)); reads = g.reads; fits = g.fits }
+follows Start (b ∷ bs) t us real q = let g = begins (At Start) b bs (class_of b) t us (λ ts. refl) (λ h. refl) refl real q in record { rest = g.rest; is = g.is ∙ sym (ap (λ (v : List ℕ). v ++ (token_bytes t ++ g.rest)) (gap-start t)); reads = g.reads; fits = g.fits }
+follows Open (b ∷ bs) t us real q = let g = begins (At Open) b bs (class_of b) t us (λ ts. refl) (λ h. refl) refl real q in record { rest = g.rest; is = g.is ∙ sym (ap (λ (v : List ℕ). v ++ (token_bytes t ++ g.rest)) (gap-open t)); reads = g.reads; fits = g.fits }
 
 abbrev pub AreReal : List Tok → Type 0
 AreReal [] = Unit {0}
@@ -289,20 +289,20 @@ pub record Spelled (m : Before) (bytes : List ℕ) (front rest : List Tok) : Typ
 pub spell-lex : (m : Before) (bytes : List ℕ) (t : Tok) (ts rest : List Tok) → AreReal (t ∷ ts) → EndsIn t ts → lex bytes (At m) ≡ (t ∷ ts) ++ rest → Spelled m bytes (t ∷ ts) rest
 spell-lex m bytes t [] rest real e q =
     let f = follows m bytes t rest real.0 q in
-    record { more = f.rest; is = f.is ∙ sym (append_assoc (gap m t) (bytes_of t) f.rest) ∙ ap (λ (v : List ℕ). v ++ f.rest) (sym (append-nil (gap m t ++ bytes_of t))); reads = subst (λ (v : Tok). lex f.rest (At (after v)) ≡ rest) e f.reads }
+    record { more = f.rest; is = f.is ∙ sym (append_assoc (gap m t) (token_bytes t) f.rest) ∙ ap (λ (v : List ℕ). v ++ f.rest) (sym (append-nil (gap m t ++ token_bytes t))); reads = subst (λ (v : Tok). lex f.rest (At (before_next v)) ≡ rest) e f.reads }
 spell-lex m bytes t (u ∷ us) rest real e q =
     let f = follows m bytes t ((u ∷ us) ++ rest) real.0 q in
-    let s = spell-lex (after t) f.rest u us rest real.1 e f.reads in
-    record { more = s.more; is = f.is ∙ sym (append_assoc (gap m t) (bytes_of t) f.rest) ∙ ap (λ (v : List ℕ). (gap m t ++ bytes_of t) ++ v) s.is ∙ sym (append_assoc (gap m t ++ bytes_of t) (spell (after t) (u ∷ us)) s.more); reads = s.reads }
+    let s = spell-lex (before_next t) f.rest u us rest real.1 e f.reads in
+    record { more = s.more; is = f.is ∙ sym (append_assoc (gap m t) (token_bytes t) f.rest) ∙ ap (λ (v : List ℕ). (gap m t ++ token_bytes t) ++ v) s.is ∙ sym (append_assoc (gap m t ++ token_bytes t) (spell (before_next t) (u ∷ us)) s.more); reads = s.reads }
 
 -- ---- the token at a place, as it is defined
 
 -- what may stand there is read there
-pub stands-lex : (m : Before) (bytes : List ℕ) (t : Tok) (rest : List ℕ) → (t ≡ Done → ⊥) → Stands m bytes t rest → lex bytes (At m) ≡ t ∷ lex rest (At (after t))
-stands-lex m bytes Left rest n s = ap (λ (b : List ℕ). lex b (At m)) (s.spelled ∙ append_assoc (gap m Left) (bytes_of Left) rest) ∙ token-at m Left rest tt tt
-stands-lex m bytes Right rest n s = ap (λ (b : List ℕ). lex b (At m)) (s.spelled ∙ append_assoc (gap m Right) (bytes_of Right) rest) ∙ token-at m Right rest tt tt
-stands-lex m bytes Semi rest n s = ap (λ (b : List ℕ). lex b (At m)) (s.spelled ∙ append_assoc (gap m Semi) (bytes_of Semi) rest) ∙ token-at m Semi rest tt tt
-stands-lex m bytes Eol rest n s = ap (λ (b : List ℕ). lex b (At m)) (s.spelled ∙ append_assoc (gap m Eol) (bytes_of Eol) rest) ∙ token-at m Eol rest tt tt
+pub stands-lex : (m : Before) (bytes : List ℕ) (t : Tok) (rest : List ℕ) → (t ≡ Done → ⊥) → Stands m bytes t rest → lex bytes (At m) ≡ t ∷ lex rest (At (before_next t))
+stands-lex m bytes Left rest n s = ap (λ (b : List ℕ). lex b (At m)) (s.spelled ∙ append_assoc (gap m Left) (token_bytes Left) rest) ∙ token-at m Left rest tt tt
+stands-lex m bytes Right rest n s = ap (λ (b : List ℕ). lex b (At m)) (s.spelled ∙ append_assoc (gap m Right) (token_bytes Right) rest) ∙ token-at m Right rest tt tt
+stands-lex m bytes Semi rest n s = ap (λ (b : List ℕ). lex b (At m)) (s.spelled ∙ append_assoc (gap m Semi) (token_bytes Semi) rest) ∙ token-at m Semi rest tt tt
+stands-lex m bytes Eol rest n s = ap (λ (b : List ℕ). lex b (At m)) (s.spelled ∙ append_assoc (gap m Eol) (token_bytes Eol) rest) ∙ token-at m Eol rest tt tt
 stands-lex m bytes (Atom a) rest n s = ap (λ (b : List ℕ). lex b (At m)) (s.spelled ∙ append_assoc (gap m (Atom a)) a rest) ∙ token-at m (Atom a) rest s.may.0 (cut-here rest s.may.1)
 stands-lex m bytes Done rest n s = absurd (n refl)
 stands-lex m bytes Stuck rest n s = absurd s.may
@@ -356,20 +356,20 @@ gap-between Open false t h o = sym (gap-open t)
 gap-between Later false t h o = sym (gap-none t o)
 
 found-stands : (m : Before) (spaced : Bool) (bytes behind : List ℕ) (t : Token) (rest : List ℕ) (us : List Tok) → (spaced ≡ true → m ≡ Later) → IsSettled behind (state_of m spaced) → length rest < length behind
-    → bytes ≡ space_text spaced ++ behind → behind ≡ bytes_of (tok t) ++ rest → (lex behind (state_of m spaced) ≡ tok t ∷ us) × (tok t ≡ Done → ⊥) → IsWhole (tok t) rest → Stands m bytes (tok t) rest
+    → bytes ≡ space_text spaced ++ behind → behind ≡ token_bytes (tok t) ++ rest → (lex behind (state_of m spaced) ≡ tok t ∷ us) × (tok t ≡ Done → ⊥) → IsWhole (tok t) rest → Stands m bytes (tok t) rest
 unfolding lex
 found-stands m spaced bytes [] t rest us later settled less is split q whole = absurd (omega (arith, less))
 found-stands m spaced bytes (b ∷ bs) t rest us later settled less is split q whole =
     let g = begins (state_of m spaced) b bs (class_of b) (tok t) us (ended-between m spaced) settled refl (real-tok t q.1) q.0 in
     record {
-      spelled = is ∙ (λ i. gap-between m spaced (tok t) later g.may i ++ split i) ∙ sym (append_assoc (gap m (tok t)) (bytes_of (tok t)) rest);
+      spelled = is ∙ (λ i. gap-between m spaced (tok t) later g.may i ++ split i) ∙ sym (append_assoc (gap m (tok t)) (token_bytes (tok t)) rest);
       may = may-stand m (tok t) rest g.fits whole;
     }
 
 pub found-passes : (m : Before) (spaced : Bool) (bytes behind : List ℕ) (t : Token) (rest : List ℕ) (us : List Tok) (line count : ℕ) (next : Before) (p : Place) → record { before = m; rest = bytes; line = line } ≡ p
     → (spaced ≡ true → m ≡ Later) → IsSettled behind (state_of m spaced) → length rest < length behind
-    → bytes ≡ space_text spaced ++ behind → behind ≡ bytes_of (tok t) ++ rest → (lex behind (state_of m spaced) ≡ tok t ∷ us) × (tok t ≡ Done → ⊥) → IsWhole (tok t) rest
-    → next ≡ after (tok t) → count ≡ eol (tok t) → Passes (tok t) p (record { before = next; rest = rest; line = line + count })
+    → bytes ≡ space_text spaced ++ behind → behind ≡ token_bytes (tok t) ++ rest → (lex behind (state_of m spaced) ≡ tok t ∷ us) × (tok t ≡ Done → ⊥) → IsWhole (tok t) rest
+    → next ≡ before_next (tok t) → count ≡ eol (tok t) → Passes (tok t) p (record { before = next; rest = rest; line = line + count })
 found-passes m spaced bytes behind t rest us line count next p e later settled less is split q whole n c =
     subst (λ (q : Place). Passes (tok t) q (record { before = next; rest = rest; line = line + count })) e (record {
       stands = found-stands m spaced bytes behind t rest us later settled less is split q whole;
@@ -385,9 +385,9 @@ done-at m bytes line p e s h = subst (λ (q : Place). tokens_at q ≡ Done ∷ [
 
 -- a mark at the front
 module _ {S : Type 0} (now : S → List ℕ) (t : Token) (x : S) where
-  pub mark-parts : (bytes : List ℕ) (r : Option (Token × S)) → bytes ≡ bytes_of (tok t) ++ now x → IfSome r (λ p. p ≡ (t, x)) → IfSome r (λ p. bytes ≡ bytes_of (tok p.0) ++ now p.1)
+  pub mark-parts : (bytes : List ℕ) (r : Option (Token × S)) → bytes ≡ token_bytes (tok t) ++ now x → IfSome r (λ p. p ≡ (t, x)) → IfSome r (λ p. bytes ≡ token_bytes (tok p.0) ++ now p.1)
   mark-parts bytes None e h = tt
-  mark-parts bytes (Some p) e h = subst (λ (q : Token × S). bytes ≡ bytes_of (tok q.0) ++ now q.1) (sym h) e
+  mark-parts bytes (Some p) e h = subst (λ (q : Token × S). bytes ≡ token_bytes (tok q.0) ++ now q.1) (sym h) e
 
   pub mark-whole : (r : Option (Token × S)) → IsWhole (tok t) (now x) → IfSome r (λ p. p ≡ (t, x)) → IfSome r (λ p. IsWhole (tok p.0) (now p.1))
   mark-whole None e h = tt

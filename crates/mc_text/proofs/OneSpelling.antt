@@ -8,7 +8,7 @@ use Rattle.hex.proofs.HexLemmas.{decode_of-encode_lower}
 use Rattle.mc_text.specs.declared.token.Before.{Before}
 use Rattle.mc_text.specs.declared.token.Before.TheVariants.{Start}
 use Rattle.mc_text.specs.Number.{hex, IsWord, AreBytes, Spelled, number_of}
-use Rattle.mc_text.specs.Tokens.{Tok, Left, Right, Semi, Atom, Eol, Done, Stuck, token_text, after, spell, IsToken, Stands}
+use Rattle.mc_text.specs.Tokens.{Tok, Left, Right, Semi, Atom, Eol, Done, Stuck, token_text, before_next, spell, IsToken, Stands}
 use Rattle.mc_text.specs.Scanning.{At, lex}
 use Rattle.mc_text.proofs.Numbers.{number_of-again}
 use Rattle.mc_text.proofs.HexPairs.{is_bytes}
@@ -18,11 +18,11 @@ use Rattle.mc_text.proofs.Lines.{AreTokens, IsLines, lex-spell, stands-lex, done
 
 -- what is read where the token stands
 token-read : (m : Before) (bytes : List ℕ) (t : Tok) (rest : List ℕ) → Stands m bytes t rest → (us : List Tok) × (lex bytes (At m) ≡ t ∷ us)
-token-read m bytes Left rest s = (lex rest (At (after Left)), stands-lex m bytes Left rest (λ e. cc) s)
-token-read m bytes Right rest s = (lex rest (At (after Right)), stands-lex m bytes Right rest (λ e. cc) s)
-token-read m bytes Semi rest s = (lex rest (At (after Semi)), stands-lex m bytes Semi rest (λ e. cc) s)
-token-read m bytes (Atom a) rest s = (lex rest (At (after (Atom a))), stands-lex m bytes (Atom a) rest (λ e. cc) s)
-token-read m bytes Eol rest s = (lex rest (At (after Eol)), stands-lex m bytes Eol rest (λ e. cc) s)
+token-read m bytes Left rest s = (lex rest (At (before_next Left)), stands-lex m bytes Left rest (λ e. cc) s)
+token-read m bytes Right rest s = (lex rest (At (before_next Right)), stands-lex m bytes Right rest (λ e. cc) s)
+token-read m bytes Semi rest s = (lex rest (At (before_next Semi)), stands-lex m bytes Semi rest (λ e. cc) s)
+token-read m bytes (Atom a) rest s = (lex rest (At (before_next (Atom a))), stands-lex m bytes (Atom a) rest (λ e. cc) s)
+token-read m bytes Eol rest s = (lex rest (At (before_next Eol)), stands-lex m bytes Eol rest (λ e. cc) s)
 token-read m bytes Done rest s = ([], done-lex m bytes rest s)
 token-read m bytes Stuck rest s = absurd s.may
 

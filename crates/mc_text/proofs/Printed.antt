@@ -4,10 +4,9 @@ use Rattle.std.proofs.lemmas.List.{append-nil}
 use Rattle.std.proofs.Math.Seq.{drop-cons}
 use Rattle.std.proofs.Math.ListN.{drop_of_length-le}
 use base.Fml.{GName}
-use Rattle.mc_text.specs.Tokens.{Tok, Left, Semi, Atom, gap, after, spell, token_text}
+use Rattle.mc_text.specs.Tokens.{Tok, Left, Semi, Atom, gap, before_next, spell, token_text, all_tokens}
 use Rattle.mc_text.specs.declared.token.Before.{Before}
 use Rattle.mc_text.specs.declared.token.Before.TheVariants.{Start, Open, Later}
-use Rattle.mc_text.specs.Reading.{each}
 use Rattle.mc_text.proofs.Lines.{EndsIn, IsLines}
 use Rattle.mc_text.specs.Printing.{Page, put, print, begun, BeginsWith, Keeps, space}
 
@@ -33,7 +32,7 @@ print_place (t ∷ ts) p = print_place ts (put t p)
 print-from : (ts : List Tok) (p : Page) → (print ts p).bytes ≡ p.bytes ++ spell p.before ts
 unfolding print put
 print-from [] p = sym (append-nil p.bytes)
-print-from (t ∷ ts) p = print-from ts (put t p) ∙ append_assoc p.bytes (token_text p.before t) (spell (after t) ts)
+print-from (t ∷ ts) p = print-from ts (put t p) ∙ append_assoc p.bytes (token_text p.before t) (spell (before_next t) ts)
 
 pub printed_bytes : (ts : List Tok) (place : GName) (bytes : List ℕ) (p q : Page) → p ≡ begun place bytes → q ≡ print ts p → q.bytes ≡ bytes ++ spell Start ts
 printed_bytes ts place bytes p q begins printed = ap (λ r. r.bytes) (printed ∙ ap (print ts) begins) ∙ print-from ts (begun place bytes)
@@ -41,9 +40,9 @@ printed_bytes ts place bytes p q begins printed = ap (λ r. r.bytes) (printed �
 -- ---- whole lines
 
 after-line : (m : Before) (t : Tok) (a b : List Tok) → EndsIn t a → spell m ((t ∷ a) ++ b) ≡ spell m (t ∷ a) ++ spell Start b
-after-line m t [] b h = ap (λ u. token_text m t ++ spell (after u) b) h ∙ ap (λ (v : List ℕ). v ++ spell Start b) (sym (append-nil (token_text m t)))
+after-line m t [] b h = ap (λ u. token_text m t ++ spell (before_next u) b) h ∙ ap (λ (v : List ℕ). v ++ spell Start b) (sym (append-nil (token_text m t)))
 after-line m t (u ∷ us) b h =
-    ap (λ (v : List ℕ). token_text m t ++ v) (after-line (after t) u us b h) ∙ sym (append_assoc (token_text m t) (spell (after t) (u ∷ us)) (spell Start b))
+    ap (λ (v : List ℕ). token_text m t ++ v) (after-line (before_next t) u us b h) ∙ sym (append_assoc (token_text m t) (spell (before_next t) (u ∷ us)) (spell Start b))
 
 -- what stands behind whole lines is spelled as if it began the text
 pub spell-after_lines : (a b : List Tok) → IsLines a → spell Start (a ++ b) ≡ spell Start a ++ spell Start b
@@ -52,32 +51,32 @@ spell-after_lines (t ∷ a) b h = after-line Start t a b h
 
 -- ---- one item after the other
 
-each-next : {X : Type 0} (f : X → List Tok) (xs : List X) (i : ℕ) (d : X) → i < length xs → each f (drop i xs) ≡ f (get_or xs i d) ++ each f (drop (i + 1) xs)
+each-next : {X : Type 0} (f : X → List Tok) (xs : List X) (i : ℕ) (d : X) → i < length xs → all_tokens f (drop i xs) ≡ f (get_or xs i d) ++ all_tokens f (drop (i + 1) xs)
 each-next f xs i d lt =
     let next : suc i ≡ i + 1 = omega arith in
-    ap (each f) (drop-cons xs i d lt) ∙ (λ k. f (get_or xs i d) ++ each f (drop (next k) xs))
+    ap (all_tokens f) (drop-cons xs i d lt) ∙ (λ k. f (get_or xs i d) ++ all_tokens f (drop (next k) xs))
 
 -- the items from i on are still to be printed: the item at i is
 pub print_next_copied : {X : Type 0} (f : X → List Tok) (xs : List X) (i : ℕ) (d : X) (whole p q : Page) → i < length xs
-    → whole ≡ print (each f (drop i xs)) p → q ≡ print (f (get_or xs i d)) p → whole ≡ print (each f (drop (i + 1) xs)) q
+    → whole ≡ print (all_tokens f (drop i xs)) p → q ≡ print (f (get_or xs i d)) p → whole ≡ print (all_tokens f (drop (i + 1) xs)) q
 print_next_copied f xs i d whole p q lt told done =
-    let rest = each f (drop (i + 1) xs) in
+    let rest = all_tokens f (drop (i + 1) xs) in
     told ∙ ap (λ ts. print ts p) (each-next f xs i d lt) ∙ print_append (f (get_or xs i d)) rest p ∙ ap (print rest) (sym done)
 
 pub print_next : {X : Type 0} (f : X → List Tok) (xs : List X) (i : ℕ) (x : X) (whole p q : Page) → i < length xs → x ≡ get_or xs i x
-    → whole ≡ print (each f (drop i xs)) p → q ≡ print (f x) p → whole ≡ print (each f (drop (i + 1) xs)) q
+    → whole ≡ print (all_tokens f (drop i xs)) p → q ≡ print (f x) p → whole ≡ print (all_tokens f (drop (i + 1) xs)) q
 print_next f xs i x whole p q lt is told done = print_next_copied f xs i x whole p q lt told (done ∙ ap (λ y. print (f y) p) is)
 
 -- none is
-pub print_over : {X : Type 0} (f : X → List Tok) (xs : List X) (i : ℕ) (whole p : Page) → length xs ≤ i → whole ≡ print (each f (drop i xs)) p → p ≡ whole
-print_over f xs i whole p le told = sym (told ∙ ap (λ ys. print (each f ys) p) (drop_of_length-le xs le) ∙ print_nil p)
+pub print_over : {X : Type 0} (f : X → List Tok) (xs : List X) (i : ℕ) (whole p : Page) → length xs ≤ i → whole ≡ print (all_tokens f (drop i xs)) p → p ≡ whole
+print_over f xs i whole p le told = sym (told ∙ ap (λ ys. print (all_tokens f ys) p) (drop_of_length-le xs le) ∙ print_nil p)
 
-each-map : {X Y : Type 0} (f : Y → List Tok) (g : X → Y) (xs : List X) → each f (map g xs) ≡ each (λ x. f (g x)) xs
+each-map : {X Y : Type 0} (f : Y → List Tok) (g : X → Y) (xs : List X) → all_tokens f (map g xs) ≡ all_tokens (λ x. f (g x)) xs
 each-map f g [] = refl
 each-map f g (x ∷ xs) = ap (λ (ts : List Tok). f (g x) ++ ts) (each-map f g xs)
 
 pub print_over_map : {X Y : Type 0} (f : Y → List Tok) (g : X → Y) (xs : List X) (i : ℕ) (p q : Page) → length xs ≤ i
-    → print (each (λ x. f (g x)) xs) p ≡ print (each (λ x. f (g x)) (drop i xs)) q → q ≡ print (each f (map g xs)) p
+    → print (all_tokens (λ x. f (g x)) xs) p ≡ print (all_tokens (λ x. f (g x)) (drop i xs)) q → q ≡ print (all_tokens f (map g xs)) p
 print_over_map f g xs i p q le told = print_over (λ x. f (g x)) xs i _ q le told ∙ ap (λ ts. print ts p) (sym (each-map f g xs))
 
 -- ---- the space
@@ -103,13 +102,13 @@ begins_trans : (a b c : List ℕ) → BeginsWith a b → BeginsWith b c → Begi
 begins_trans a b c h k = record { rest = h.rest ++ k.rest; is = k.is ∙ ap (λ (v : List ℕ). v ++ k.rest) h.is ∙ append_assoc a h.rest k.rest }
 
 pub keeps_more : (p q r : Page) → Keeps p q → Keeps q r → Keeps p r
-keeps_more p q r h k = record { place = k.place ∙ h.place; front = begins_trans p.bytes q.bytes r.bytes h.front k.front }
+keeps_more p q r h k = record { place = k.place ∙ h.place; prefix = begins_trans p.bytes q.bytes r.bytes h.prefix k.prefix }
 
 pub keeps_same : (p q : Page) → q.place ≡ p.place → q.bytes ≡ p.bytes → Keeps p q
-keeps_same p q e f = record { place = e; front = record { rest = []; is = f ∙ sym (append-nil p.bytes) } }
+keeps_same p q e f = record { place = e; prefix = record { rest = []; is = f ∙ sym (append-nil p.bytes) } }
 
 pub keeps_appended : (p q : Page) (x : List ℕ) → q.place ≡ p.place → q.bytes ≡ p.bytes ++ x → Keeps p q
-keeps_appended p q x e f = record { place = e; front = record { rest = x; is = f } }
+keeps_appended p q x e f = record { place = e; prefix = record { rest = x; is = f } }
 
 -- ---- for the tactics
 

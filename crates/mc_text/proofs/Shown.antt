@@ -8,15 +8,15 @@ use Rattle.std.proofs.Math.Nat.{pow-le-pow_left}
 use Rattle.std.specs.Str.{bytes_eq}
 use Rattle.std.specs.Fmt.{decimal, digits}
 use Rattle.hex.specs.Hex.{encode_with, encode_lower}
-use Rattle.mc_text.specs.Number.{hex, is_hex_digit, IsWord, AreBytes, Spelled, number_of, hex_of, bytes_of as bytes_spelled}
-use Rattle.mc_text.specs.Tokens.{Tok, Left, Right, Semi, Atom, Eol, Done, Stuck, is_atom_byte, IsAtomText, IsAtom}
-use Rattle.mc_text.specs.Reading.{is_left, is_right, is_semi, is_eol, is_word, atom_of, below, each}
+use Rattle.mc_text.specs.Number.{hex, is_hex_digit, IsWord, AreBytes, Spelled, number_of, hex_of, bytes_of_digits as bytes_spelled}
+use Rattle.mc_text.specs.Tokens.{Tok, Left, Right, Semi, Atom, Eol, Done, Stuck, is_atom_byte, IsAtomText, IsAtom, all_tokens}
+use Rattle.mc_text.specs.Reading.{is_left, is_right, is_semi, is_eol, is_word, atom_of, below}
 use Rattle.std.specs.List.{AllByRecursion}
 use Rattle.mc_text.proofs.Numbers.{Pass, Passes, digits-pass, number-spelled, hex_of-spelled}
 use Rattle.mc_text.proofs.HexPairs.{bytes_of-spelled, encode-pass}
 use Rattle.mc_text.proofs.Lines.{AreTokens}
 use Rattle.mc_text.proofs.OneSpelling.{decimal-once, hex-once, bytes-once}
-use Rattle.mc_text.proofs.Laws.{Shows}
+use Rattle.mc_text.proofs.ReaderLaws.{Shows}
 
 abbrev pub Always : {X : Type 0} → X → Type 0
 Always x = Unit {0}
@@ -164,6 +164,6 @@ pub tokens-append : (a b : List Tok) → AreTokens a → AreTokens b → AreToke
 tokens-append [] b h k = k
 tokens-append (t ∷ a) b h k = (h.0, tokens-append a b h.1 k)
 
-pub tokens-each : {X : Type 0} (f : X → List Tok) (F : X → Type 0) → ((x : X) → F x → AreTokens (f x)) → (xs : List X) → AllByRecursion F xs → AreTokens (each f xs)
+pub tokens-each : {X : Type 0} (f : X → List Tok) (F : X → Type 0) → ((x : X) → F x → AreTokens (f x)) → (xs : List X) → AllByRecursion F xs → AreTokens (all_tokens f xs)
 tokens-each f F one [] h = tt
-tokens-each f F one (x ∷ xs) h = tokens-append (f x) (each f xs) (one x h.0) (tokens-each f F one xs h.1)
+tokens-each f F one (x ∷ xs) h = tokens-append (f x) (all_tokens f xs) (one x h.0) (tokens-each f F one xs h.1)

@@ -2,7 +2,7 @@
 use Rattle.std.proofs.Common.{◌≡◌, ℕ, zero, suc, ◌<◌, ◌≤◌, Bool, true, false, cond, List, [], ◌∷◌, ◌++◌, length, map, Result, Ok, Err, refl, sym, ap, ◌∙◌, arith, append_assoc}
 use Rattle.std.proofs.lemmas.List.{append-nil, map-append}
 use Rattle.mc_text.specs.Tokens.{Tok}
-use Rattle.mc_text.specs.Reading.{Reader, ◌>>=◌, pair, made, many, star, with_front, goes_on}
+use Rattle.mc_text.specs.Reading.{Reader, ◌>>=◌, pair, made, many, star, with_prefix, goes_on}
 
 -- what is read takes at least one token
 abbrev pub Shrinks : {X : Type 0} → Reader X → Type 0
@@ -12,7 +12,7 @@ abbrev Out : Type 0 → Type 0
 Out Y = Result (Y × List Tok) (List Tok)
 
 -- what was read before is in front of what is read now
-pub again-front : {X : Type 0} (front : List X) (x : X) (q : Out (List X)) → with_front front (◌>>=◌ {A = List X × List Tok} {B = List X × List Tok} q (λ xs. Ok (x ∷ xs.0, xs.1))) ≡ with_front (front ++ x ∷ []) q
+pub again-front : {X : Type 0} (front : List X) (x : X) (q : Out (List X)) → with_prefix front (◌>>=◌ {A = List X × List Tok} {B = List X × List Tok} q (λ xs. Ok (x ∷ xs.0, xs.1))) ≡ with_prefix (front ++ x ∷ []) q
 again-front {X} front x (Ok xs) = ap (λ (ys : List X). Ok (ys, xs.1)) (sym (append_assoc front (x ∷ []) xs.0))
 again-front front x (Err bad) = refl
 
@@ -49,24 +49,24 @@ module _ {X : Type 0} (go : Tok → Bool) (r : Reader X) (small : Shrinks r) whe
   star-end t ts e = rw e refl
 
   -- the item at the front, and the others
-  pub star-more : (front : List X) (ts : List Tok) (x : X) (rest : List Tok) (total : Out (List X)) → goes_on go ts ≡ true → r ts ≡ Ok (x, rest) → with_front front (star go r ts) ≡ total → with_front (front ++ x ∷ []) (star go r rest) ≡ total
+  pub star-more : (front : List X) (ts : List Tok) (x : X) (rest : List Tok) (total : Out (List X)) → goes_on go ts ≡ true → r ts ≡ Ok (x, rest) → with_prefix front (star go r ts) ≡ total → with_prefix (front ++ x ∷ []) (star go r rest) ≡ total
   star-more front [] x rest total g e h = absurd cc
   star-more front (t ∷ ts) x rest total g e h =
       let one : star go r (t ∷ ts) ≡ ◌>>=◌ {A = List X × List Tok} {B = List X × List Tok} (star go r rest) (λ xs. Ok (x ∷ xs.0, xs.1)) = star-item t ts g ∙ rw e (item-is x (star go r rest)) in
-      sym (again-front front x (star go r rest)) ∙ sym (ap (with_front front) one) ∙ h
+      sym (again-front front x (star go r rest)) ∙ sym (ap (with_prefix front) one) ∙ h
 
-  pub star-fails : (front : List X) (ts bad : List Tok) (total : Out (List X)) → goes_on go ts ≡ true → r ts ≡ Err bad → with_front front (star go r ts) ≡ total → total ≡ Err bad
+  pub star-fails : (front : List X) (ts bad : List Tok) (total : Out (List X)) → goes_on go ts ≡ true → r ts ≡ Err bad → with_prefix front (star go r ts) ≡ total → total ≡ Err bad
   star-fails front [] bad total g e h = absurd cc
   star-fails front (t ∷ ts) bad total g e h =
       let one : star go r (t ∷ ts) ≡ Err bad = star-item t ts g ∙ rw e refl in
-      sym h ∙ ap (with_front front) one
+      sym h ∙ ap (with_prefix front) one
 
-  pub star-ends : (front : List X) (ts : List Tok) (total : Out (List X)) → goes_on go ts ≡ false → with_front front (star go r ts) ≡ total → total ≡ Ok (front, ts)
+  pub star-ends : (front : List X) (ts : List Tok) (total : Out (List X)) → goes_on go ts ≡ false → with_prefix front (star go r ts) ≡ total → total ≡ Ok (front, ts)
   unfolding many
   star-ends front [] total g h = sym h ∙ ap (λ (xs : List X). Ok (xs, [])) (append-nil front)
-  star-ends front (t ∷ ts) total g h = sym h ∙ ap (with_front front) (star-end t ts g) ∙ ap (λ (xs : List X). Ok (xs, t ∷ ts)) (append-nil front)
+  star-ends front (t ∷ ts) total g h = sym h ∙ ap (with_prefix front) (star-end t ts g) ∙ ap (λ (xs : List X). Ok (xs, t ∷ ts)) (append-nil front)
 
 pub star-pushed : {X Y : Type 0} (view : X → Y) (go : Tok → Bool) (r : Reader Y) (small : Shrinks r) (items : List X) (x : X) (more : List X) (ts rest : List Tok) (total : Result (List Y × List Tok) (List Tok))
-    → more ≡ items ++ x ∷ [] → goes_on go ts ≡ true → r ts ≡ Ok (view x, rest) → with_front (map view items) (star go r ts) ≡ total → with_front (map view more) (star go r rest) ≡ total
+    → more ≡ items ++ x ∷ [] → goes_on go ts ≡ true → r ts ≡ Ok (view x, rest) → with_prefix (map view items) (star go r ts) ≡ total → with_prefix (map view more) (star go r rest) ≡ total
 star-pushed view go r small items x more ts rest total p g e h =
     rw (p, map-append) (star-more go r small (map view items) ts (view x) rest total g e h)

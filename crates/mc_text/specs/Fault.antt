@@ -1,11 +1,17 @@
 -- The line at which a text leaves a grammar. A grammar is no more than a set of values and the text of each.
 use Rattle.std.specs.Prelude.{◌≡◌, ℕ, zero, suc, List, [], ◌∷◌, ◌++◌, Option, Some, None, option_map, ◌==◌, if◌then◌else◌}
+use Rattle.mc_text.specs.Tokens.{newline}
 
 -- the first n lines, if they are there; a line ends with its newline
 unfoldable pub first_lines : ℕ → List ℕ → Option (List ℕ)
 first_lines zero bytes = Some []
 first_lines (suc n) [] = None
-first_lines (suc n) (b ∷ bytes) = option_map (λ front. b ∷ front) (if b == 10 then first_lines n bytes else first_lines (suc n) bytes)
+first_lines (suc n) (b ∷ bytes) = option_map (λ prefix. b ∷ prefix) (if b == newline then first_lines n bytes else first_lines (suc n) bytes)
+
+-- how many lines end in these bytes
+abbrev pub newlines : List ℕ → ℕ
+newlines [] = 0
+newlines (b ∷ bs) = if b == newline then suc (newlines bs) else newlines bs
 
 -- which values it has, and the text of each
 pub record Grammar (X : Type 0) : Type 1 where
@@ -15,13 +21,13 @@ pub record Grammar (X : Type 0) : Type 1 where
 abbrev pub InGrammar : {X : Type 0} → Grammar X → List ℕ → Type 0
 InGrammar {X} g bytes = (x : X) × g.Has x × (bytes ≡ g.text x)
 
--- the front of one of its texts
+-- a prefix of one of its texts
 abbrev pub Begins : {X : Type 0} → Grammar X → List ℕ → Type 0
-Begins {X} g front = (x : X) × g.Has x × (more : List ℕ) × (g.text x ≡ front ++ more)
+Begins {X} g prefix = (x : X) × g.Has x × (more : List ℕ) × (g.text x ≡ prefix ++ more)
 
 abbrev pub AreThere : {X : Type 0} → Grammar X → Option (List ℕ) → Type 0
 AreThere g None = ⊥
-AreThere g (Some front) = Begins g front
+AreThere g (Some prefix) = Begins g prefix
 
 -- the first n lines are there, and begin one of its texts
 abbrev pub LinesBegin : {X : Type 0} → Grammar X → List ℕ → ℕ → Type 0

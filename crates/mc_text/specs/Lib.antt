@@ -4,3 +4,5 @@ pub mod Scanning
 pub mod Printing
 pub mod Fault
 pub mod Reading
+pub mod Outcome
+pub mod Item

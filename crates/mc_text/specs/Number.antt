@@ -9,7 +9,7 @@ use Rattle.hex.specs.declared.error.FromHexError.{FromHexError}
 use Rattle.mc_text.specs.declared.number.Base.{Base}
 use Rattle.mc_text.specs.declared.number.Base.TheVariants.{Decimal, Hexadecimal}
 
--- A decimal is std's `decimal`: no leading zero. A hexadecimal number has 0x in front, and lower-case digits.
+-- A decimal is std's `decimal`: no leading zero. A hexadecimal number begins with 0x, and lower-case digits.
 abbrev pub hex : ℕ → List ℕ
 hex n = codes "0x" ++ digits 16 false n
 
@@ -61,6 +61,6 @@ spelled_by text (Ok bytes) = if bytes_eq (encode_lower bytes) text then Some byt
 spelled_by text (Err e) = None
 
 -- the bytes that the digits spell
-unfoldable pub bytes_of : List ℕ → Option (List ℕ)
-bytes_of [] = None
-bytes_of (b ∷ text) = spelled_by (b ∷ text) (decode_of (b ∷ text))
+unfoldable pub bytes_of_digits : List ℕ → Option (List ℕ)
+bytes_of_digits [] = None
+bytes_of_digits (b ∷ text) = spelled_by (b ∷ text) (decode_of (b ∷ text))

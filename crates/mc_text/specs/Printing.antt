@@ -1,7 +1,7 @@
 -- Writing tokens one by one.
-use Rattle.std.specs.Prelude.{◌≡◌, ℕ, List, [], ◌∷◌, ◌++◌}
+use Rattle.std.specs.Prelude.{◌≡◌, ℕ, List, [], ◌∷◌, ◌++◌, codes}
 use base.Fml.{GName}
-use Rattle.mc_text.specs.Tokens.{Tok, after, token_text}
+use Rattle.mc_text.specs.Tokens.{Tok, before_next, token_text}
 use Rattle.mc_text.specs.declared.token.Before.{Before}
 use Rattle.mc_text.specs.declared.token.Before.TheVariants.{Start, Open, Later}
 use Rattle.mc_text.specs.declared.pen.Pen.{Pen}
@@ -16,13 +16,13 @@ pub record Page : Type 0 where
 abbrev pub page : Pen → Page
 page p = record { place = p.out.ghost_name; bytes = p.out.now; before = p.before }
 
--- a page on which nothing was written behind those bytes
+-- a page on which nothing was written after those bytes
 abbrev pub begun : GName → List ℕ → Page
 begun place bytes = record { place = place; bytes = bytes; before = Start }
 
 -- the page with a further token
 unfoldable pub put : Tok → Page → Page
-put t p = record { place = p.place; bytes = p.bytes ++ token_text p.before t; before = after t }
+put t p = record { place = p.place; bytes = p.bytes ++ token_text p.before t; before = before_next t }
 
 -- the page with further tokens
 unfoldable pub print : List Tok → Page → Page
@@ -30,17 +30,17 @@ print [] p = p
 print (t ∷ ts) p = print ts (put t p)
 
 -- the text begins with those bytes
-pub record BeginsWith (front whole : List ℕ) : Type 0 where
+pub record BeginsWith (prefix whole : List ℕ) : Type 0 where
   pub rest : List ℕ
-  pub is : whole ≡ front ++ rest
+  pub is : whole ≡ prefix ++ rest
 
--- the same text, and what stood on the page before is its front
+-- the same text, and what stood on the page before is a prefix of it
 pub record Keeps (old new : Page) : Type 0 where
   pub place : new.place ≡ old.place
-  pub front : BeginsWith old.bytes new.bytes
+  pub prefix : BeginsWith old.bytes new.bytes
 
 -- the space before an atom
 abbrev pub space : Before → List ℕ
 space Start = []
 space Open = []
-space Later = 32 ∷ []
+space Later = codes " "

@@ -1,6 +1,7 @@
--- Reading tokens from left to right: an item and the tokens behind it, or the tokens from the first on that fits nothing.
-use Rattle.std.specs.Prelude.{ℕ, zero, suc, Bool, false, List, [], ◌∷◌, ◌++◌, length, Option, Some, None, Result, Ok, Err, nat_lt, if◌then◌else◌}
+-- Reading tokens from left to right: an item and the tokens after it, or the tokens from the first on that fits nothing.
+use Rattle.std.specs.Prelude.{ℕ, zero, suc, Bool, true, false, List, [], ◌∷◌, ◌++◌, length, Option, Some, None, Result, Ok, Err, nat_lt, if◌then◌else◌}
 use Rattle.std.specs.Str.{bytes_eq}
+use Rattle.mc_text.specs.Number.{number_of, hex_of, bytes_of_digits}
 use Rattle.mc_text.specs.Tokens.{Tok, Left, Right, Semi, Atom, Eol}
 
 abbrev pub Reader : Type 0 → Type 0
@@ -59,6 +60,10 @@ abbrev pub below : ℕ → Option ℕ → Option ℕ
 below limit (Some n) = if nat_lt n limit then Some n else None
 below limit None = None
 
+abbrev pub is_open : Tok → Bool
+is_open Left = true
+is_open _ = false
+
 -- an atom that the test takes
 abbrev pub atom_of : {X : Type 0} → (List ℕ → Option X) → Tok → Option X
 atom_of f (Atom a) = f a
@@ -89,6 +94,18 @@ eol = one is_eol
 abbrev pub word : List ℕ → Reader (Unit {0})
 word k = one (is_word k)
 
+-- a decimal below the limit
+abbrev pub number_at : ℕ → Reader ℕ
+number_at limit = one (atom_of (λ a. below limit (number_of 10 a)))
+
+-- a hexadecimal number
+abbrev pub address_at : Reader ℕ
+address_at = one (atom_of hex_of)
+
+-- two digits for each byte
+abbrev pub bytes_at : Reader (List ℕ)
+bytes_at = one (atom_of bytes_of_digits)
+
 -- what a word leads to, and else
 abbrev pub keyed : {X : Type 0} → List ℕ → Reader X → Reader X → Reader X
 keyed k r other [] = other []
@@ -110,12 +127,7 @@ checked {X} test r ts = ◌>>=◌ {A = X × List Tok} {B = X × List Tok} (r ts)
 abbrev pub unless : {X : Type 0} → (Tok → Bool) → Reader X → Reader X
 unless {X} go r ts = ◌>>=◌ {A = X × List Tok} {B = X × List Tok} (r ts) (λ p. if goes_on go p.1 then Err p.1 else Ok (p.0, p.1))
 
--- what was read before, in front
-abbrev pub with_front : {X : Type 0} → List X → Result (List X × List Tok) (List Tok) → Result (List X × List Tok) (List Tok)
-with_front front (Ok x) = Ok (front ++ x.0, x.1)
-with_front front (Err bad) = Err bad
-
--- the tokens of items, one after the other
-abbrev pub each : {X : Type 0} → (X → List Tok) → List X → List Tok
-each f [] = []
-each f (x ∷ xs) = f x ++ each f xs
+-- what was read before comes first
+abbrev pub with_prefix : {X : Type 0} → List X → Result (List X × List Tok) (List Tok) → Result (List X × List Tok) (List Tok)
+with_prefix front (Ok x) = Ok (front ++ x.0, x.1)
+with_prefix front (Err bad) = Err bad

@@ -1,19 +1,19 @@
 -- The tokens of a text from a place on, by computing.
-use Rattle.std.specs.Prelude.{◌≡◌, ◌⊎◌, ℕ, suc, ◌+◌, Bool, true, false, List, [], ◌∷◌, ◌==◌, if◌then◌else◌, Option, Some, None, Result, Ok, Err}
+use Rattle.std.specs.Prelude.{◌≡◌, ◌⊎◌, ℕ, suc, ◌+◌, Bool, true, false, List, [], ◌∷◌, codes, ◌==◌, if◌then◌else◌, Option, Some, None, Result, Ok, Err}
 use Rattle.mc_text.specs.declared.token.BadText.{BadText}
 use Rattle.mc_text.specs.declared.token.Token.{Token}
 use Rattle.mc_text.specs.declared.token.Before.{Before}
 use Rattle.mc_text.specs.declared.token.Before.TheVariants.{Start, Open, Later}
 use Rattle.mc_text.specs.declared.token.Class.{Class}
 use Rattle.mc_text.specs.declared.token.Class.TheVariants.{Letter, LeftMark, RightMark, SemiMark, Newline, Space, Other}
-use Rattle.mc_text.specs.Tokens.{Tok, Left, Right, Semi, Atom, Eol, Done, Stuck, tok, after, eol, is_atom_byte, HasNoAtomByte, Place}
+use Rattle.mc_text.specs.Tokens.{Tok, newline, Left, Right, Semi, Atom, Eol, Done, Stuck, tok, before_next, eol, is_atom_byte, HasNoAtomByte, Place}
 
 abbrev pub class_of : ℕ → Class
 class_of b =
     if is_atom_byte b then Letter else if b == 40 then LeftMark else if b == 41 then RightMark else if b == 59 then SemiMark
-    else if b == 10 then Newline else if b == 32 then Space else Other
+    else if b == newline then Newline else if b == 32 then Space else Other
 
--- at a place, behind the space of one, or in an atom
+-- at a place, after the space of one, or in an atom
 pub data State : Type 0 where
   At : Before → State
   Spaced : State
@@ -77,14 +77,10 @@ lex (b ∷ bs) s = byte_step (class_of b) b s (lex bs)
 abbrev pub tokens_at : Place → List Tok
 tokens_at p = lex p.rest (At p.before)
 
--- how many lines end in these tokens, and in these bytes
+-- how many lines end in these tokens
 abbrev pub eols : List Tok → ℕ
 eols [] = 0
 eols (t ∷ ts) = eol t + eols ts
-
-abbrev pub newlines : List ℕ → ℕ
-newlines [] = 0
-newlines (b ∷ bs) = if b == 10 then suc (newlines bs) else newlines bs
 
 -- ---- what the code gives
 
@@ -92,10 +88,10 @@ abbrev pub state_of : Before → Bool → State
 state_of m true = Spaced
 state_of m false = At m
 
--- a token other than the end, and the bytes behind it, are what the tokens begin with
+-- a token other than the end, and the bytes after it, are what the tokens begin with
 abbrev pub Found : {S : Type 0} → (S → List ℕ) → Option (Token × S) → List Tok → Type 0
 Found now None ts = ts ≡ Stuck ∷ []
-Found now (Some p) ts = (ts ≡ tok p.0 ∷ lex (now p.1) (At (after (tok p.0)))) × (tok p.0 ≡ Done → ⊥)
+Found now (Some p) ts = (ts ≡ tok p.0 ∷ lex (now p.1) (At (before_next (tok p.0)))) × (tok p.0 ≡ Done → ⊥)
 
 -- an atom goes on as far as it can
 abbrev pub IsWhole : Tok → List ℕ → Type 0
@@ -103,7 +99,7 @@ IsWhole (Atom a) rest = HasNoAtomByte rest
 IsWhole _ rest = Unit {0}
 
 abbrev pub space_text : Bool → List ℕ
-space_text true = 32 ∷ []
+space_text true = codes " "
 space_text false = []
 
 -- the text doesn't end here, or doesn't end well
@@ -116,7 +112,7 @@ abbrev pub IsSettled : List ℕ → State → Type 0
 IsSettled [] s = at_end s ≡ Stuck ∷ []
 IsSettled (b ∷ bs) s = class_of b ≡ Space → parts s ≡ false
 
--- a token and the tokens behind it are what stood there; the end of the text stays where it is
+-- a token and the tokens after it are what stood there; the end of the text stays where it is
 abbrev pub ScansOne : Tok → Place → Place → Type 0
 ScansOne t old new = ((t ≡ Done) × (tokens_at old ≡ Done ∷ []) × (new ≡ old)) ⊎ ((t ≡ Done → ⊥) × (tokens_at old ≡ t ∷ tokens_at new))
 

@@ -2,7 +2,7 @@
 --
 -- Between two tokens of a line stands one space, but none after ( and none before ) and the line's end, and no space
 -- stands at the beginning of a line. At the beginning of a line the end of the text is a token of its own.
-use Rattle.std.specs.Prelude.{◌≡◌, ℕ, ◌+◌, Bool, false, ◌&&◌, not, List, [], ◌∷◌, ◌++◌, nat_le, ◌==◌, IsTrue}
+use Rattle.std.specs.Prelude.{◌≡◌, ℕ, ◌+◌, Bool, false, ◌&&◌, not, List, [], ◌∷◌, ◌++◌, codes, nat_le, ◌==◌, IsTrue}
 use Rattle.mc_text.specs.declared.token.Token.{Token}
 use Rattle.mc_text.specs.declared.token.Token.TheVariants as token
 use Rattle.mc_text.specs.declared.token.Before.{Before}
@@ -41,36 +41,45 @@ abbrev pub IsAtom : List ℕ → Type 0
 IsAtom [] = ⊥
 IsAtom (b ∷ bs) = IsAtomText (b ∷ bs)
 
+-- the byte that ends a line
+abbrev pub newline : ℕ
+newline = 10
+
 -- the space before a token
 abbrev pub gap : Before → Tok → List ℕ
-gap Later Left = 32 ∷ []
-gap Later Semi = 32 ∷ []
-gap Later (Atom a) = 32 ∷ []
+gap Later Left = codes " "
+gap Later Semi = codes " "
+gap Later (Atom a) = codes " "
 gap _ _ = []
 
-abbrev pub bytes_of : Tok → List ℕ
-bytes_of Left = 40 ∷ []
-bytes_of Right = 41 ∷ []
-bytes_of Semi = 59 ∷ []
-bytes_of (Atom a) = a
-bytes_of Eol = 10 ∷ []
-bytes_of Done = []
-bytes_of Stuck = []
+abbrev pub token_bytes : Tok → List ℕ
+token_bytes Left = codes "("
+token_bytes Right = codes ")"
+token_bytes Semi = codes ";"
+token_bytes (Atom a) = a
+token_bytes Eol = newline ∷ []
+token_bytes Done = []
+token_bytes Stuck = []
 
--- what stands before the place behind a token
-abbrev pub after : Tok → Before
-after Left = Open
-after Eol = Start
-after Done = Start
-after _ = Later
+-- what stands before the place after a token
+abbrev pub before_next : Tok → Before
+before_next Left = Open
+before_next Eol = Start
+before_next Done = Start
+before_next _ = Later
 
 abbrev pub token_text : Before → Tok → List ℕ
-token_text m t = gap m t ++ bytes_of t
+token_text m t = gap m t ++ token_bytes t
 
 -- the text of tokens that follow a place
 abbrev pub spell : Before → List Tok → List ℕ
 spell m [] = []
-spell m (t ∷ ts) = token_text m t ++ spell (after t) ts
+spell m (t ∷ ts) = token_text m t ++ spell (before_next t) ts
+
+-- the tokens of items, one item after the other
+abbrev pub all_tokens : {X : Type 0} → (X → List Tok) → List X → List Tok
+all_tokens tokens [] = []
+all_tokens tokens (x ∷ xs) = tokens x ++ all_tokens tokens xs
 
 -- a token of a text, other than its end
 abbrev pub IsToken : Tok → Type 0
@@ -91,7 +100,7 @@ MayStand m (Atom a) rest = IsAtom a × HasNoAtomByte rest
 MayStand m Done rest = (m ≡ Start) × (rest ≡ [])
 MayStand m t rest = IsToken t
 
--- behind m, the bytes begin with this token, and with the space before it
+-- after m, the bytes begin with this token, and with the space before it
 pub record Stands (m : Before) (bytes : List ℕ) (t : Tok) (rest : List ℕ) : Type 0 where
   pub spelled : bytes ≡ token_text m t ++ rest
   pub may : MayStand m t rest
@@ -107,8 +116,8 @@ abbrev pub eol : Tok → ℕ
 eol Eol = 1
 eol _ = 0
 
--- a token stands at the one place, and the other is the place behind it
+-- a token stands at the one place, and the other is the place after it
 pub record Passes (t : Tok) (old new : Place) : Type 0 where
   pub stands : Stands old.before old.rest t new.rest
-  pub before : new.before ≡ after t
+  pub before : new.before ≡ before_next t
   pub line : new.line ≡ old.line + eol t

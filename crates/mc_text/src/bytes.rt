@@ -3,7 +3,7 @@
 ghost use Rattle.std.specs.Prelude.{◌≡◌, ◌≢◌, ◌↔◌, [], IfOk, IsSome, IsTrue};
 ghost use Rattle.std.specs.List.{AllPass};
 ghost use Rattle.hex.specs.Hex.{encode_lower, decode_of};
-ghost use Rattle.mc_text.specs.Number.{is_hex_digit, AreBytes, AreDigitPairs, Spelled, value_of, bytes_of};
+ghost use Rattle.mc_text.specs.Number.{is_hex_digit, AreBytes, AreDigitPairs, Spelled, value_of, bytes_of_digits};
 
 use hex::FromHexError;
 use rv_words::{Bytes, NoMemory};
@@ -13,7 +13,7 @@ use std::alloc::Global;
 pub fn hex_bytes(alloc: Global, atom: &[u8]) -> Result<Option<Bytes>, NoMemory>
     ensures spelled { IfOk result (λ found. Spelled AreBytes encode_lower atom.now found) }
     ensures found { IfOk result (λ found. IsSome found ↔ AreDigitPairs atom.now) }
-    ensures read { IfOk result (λ found. found ≡ bytes_of atom.now) }
+    ensures read { IfOk result (λ found. found ≡ bytes_of_digits atom.now) }
 {
     if are_hex_digits(atom) {
         decoded(alloc, atom)

@@ -2,7 +2,9 @@
 #![tactic(auto)]
 
 mod bytes;
+pub mod cursor;
 mod digits;
+mod laws;
 mod number;
 mod pen;
 mod put;
@@ -10,6 +12,8 @@ mod scan;
 mod token;
 
 pub use bytes::hex_bytes;
+pub use cursor::Stop;
+pub use laws::{law_of_one_spelling, law_of_tokens};
 pub use number::{dec, hexnum};
 pub use pen::Pen;
 pub use put::{dec_into, digit_pair, hex_into, put_atom, put_bytes, put_dec, put_hex};

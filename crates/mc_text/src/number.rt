@@ -47,7 +47,7 @@ pub fn hexnum(atom: &[u8]) -> Option<u64>
     }
 }
 
-/// What stands behind `0x`.
+/// What stands after `0x`.
 fn hex_part(atom: &[u8]) -> Option<&[u8]>
     ensures { MatchOption result (bytes_eq (take 2 atom.now) (codes "0x") ≡ false) (λ rest. (bytes_eq (take 2 atom.now) (codes "0x") ≡ true) × (rest.now ≡ drop 2 atom.now)) }
 {

@@ -1,4 +1,4 @@
-//! Writing tokens, each behind the one before.
+//! Writing tokens, one after the other.
 #![tactic(auto, unfolding(crate::specs::Printing::put), using(crate::proofs::Printed::writes))]
 
 ghost use Rattle.std.specs.Prelude.{◌≡◌, ◌++◌, ◌∷◌, OnOk};
@@ -13,7 +13,7 @@ use crate::put::{put_atom, put_bytes, put_dec, put_hex};
 use crate::token::Before;
 use rv_words::{Bytes, NoMemory};
 
-/// Writes tokens at the end of a text, with a space between two of them where one belongs. After a want of memory
+/// Writes tokens at the end of a text, with a space between two of them where one belongs. Out of memory,
 /// the text begins with what stood there before.
 #[derive(Debug, Drop)]
 pub struct Pen<'a> {
@@ -62,7 +62,7 @@ impl<'a> Pen<'a> {
         put_atom(self.out, b";")
     }
 
-    /// Writes `(` and the name behind it.
+    /// Writes `(` and the name after it.
     pub fn open(&mut self, name: &[u8]) -> Result<(), NoMemory>
         ensures ok { OnOk result (page self.new ≡ put (Atom name.now) (put Left (page self.old))) }
         ensures kept { Keeps (page self.old) (page self.new) }
@@ -127,7 +127,7 @@ impl<'a> Pen<'a> {
         put_dec(self.out, u64::from(n))
     }
 
-    /// Writes the space before a token that has one behind another token.
+    /// Writes the space between two tokens, where one belongs.
     fn space(&mut self) -> Result<(), NoMemory>
         ensures ok { OnOk result (page self.new ≡ record { place = (page self.old).place; bytes = (page self.old).bytes ++ space (page self.old).before; before = Later }) }
         ensures kept { Keeps (page self.old) (page self.new) }

@@ -9,7 +9,7 @@ use crate::digits::HexBuffer;
 use itoa::Buffer;
 use rv_words::{Bytes, NoMemory};
 
-/// Writes a number in decimal digits at the front, and gives how many bytes those are.
+/// Writes a number in decimal digits at the beginning, and gives how many bytes those are.
 pub fn dec_into(n: u64, into: &mut [u8; 20]) -> usize
     ensures length { result ≡ length (decimal n) }
     ensures written { take result into.new ≡ decimal n }
@@ -21,7 +21,7 @@ pub fn dec_into(n: u64, into: &mut [u8; 20]) -> usize
     digits.len()
 }
 
-/// Writes a number as `0x` and hexadecimal digits at the front, and gives how many bytes those are.
+/// Writes a number as `0x` and hexadecimal digits at the beginning, and gives how many bytes those are.
 pub fn hex_into(n: u64, into: &mut [u8; 18]) -> usize
     ensures length { result ≡ length (hex_text n) }
     ensures written { take result into.new ≡ hex_text n }

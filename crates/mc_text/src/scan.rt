@@ -2,7 +2,7 @@
 
 ghost use Rattle.std.specs.Prelude.{◌≡◌, ◌∷◌, ◌≤◌, ◌<◌, ℕ, List, length, slice_index, IfOk, IfErr, OnErr, IfSome, ◌++◌, [], true, false, IsTrue, ◌↔◌};
 ghost use Rattle.std.specs.List.{AllPass};
-ghost use Rattle.mc_text.specs.Tokens.{is_atom_byte, IsAtom, Tok, Atom, after, Stuck, Done, tok, bytes_of, eol, HasNoAtomByte, Place, Passes, Stands};
+ghost use Rattle.mc_text.specs.Tokens.{is_atom_byte, IsAtom, Tok, Atom, before_next, Stuck, Done, tok, token_bytes, eol, HasNoAtomByte, Place, Passes, Stands};
 ghost use Rattle.mc_text.specs.Scanning.{lex, At, Within, or_stuck, loose, tight, class_of, state_of, Found, IsWhole, IsSettled, IsInside, space_text, tokens_at, Scanned};
 ghost use Rattle.mc_text.specs.declared.token.Before.TheVariants.{Start, Later};
 
@@ -74,7 +74,7 @@ impl<'a> Scan<'a> {
         }
     }
 
-    /// The bytes behind the place.
+    /// The bytes after the place.
     pub fn rest(&self) -> &'a [u8]
         ensures { result.now ≡ self.now.rest }
     {
@@ -96,7 +96,7 @@ fn begins_line(before: Before) -> bool
     matches!(before, Before::Start)
 }
 
-/// The place behind the space between two tokens, if one stands here.
+/// The place after the space between two tokens, if one stands here.
 fn skip_space(bytes: &[u8], before: Before) -> (&[u8], bool)
     requires { IsInside bytes.now (At before) }
     ensures shorter { length result.0.now ≤ length bytes.now }
@@ -114,11 +114,11 @@ fn skip_space(bytes: &[u8], before: Before) -> (&[u8], bool)
     }
 }
 
-/// The token at a place that isn't the space behind another token, and the bytes behind it.
+/// The token at a place that isn't the space after another token, and the bytes after it.
 fn token_at<'a>(bytes: &'a [u8], before: Before, spaced: bool) -> Option<(Token<'a>, &'a [u8])>
     requires { IsSettled bytes.now (state_of before spaced) }
     ensures found { Found (λ r. r.now) result (lex bytes.now (state_of before spaced)) }
-    ensures parts { IfSome result (λ p. bytes.now ≡ bytes_of (tok p.0) ++ p.1.now) }
+    ensures parts { IfSome result (λ p. bytes.now ≡ token_bytes (tok p.0) ++ p.1.now) }
     ensures whole { IfSome result (λ p. IsWhole (tok p.0) p.1.now) }
     ensures shorter { IfSome result (λ p. length p.1.now < length bytes.now) }
 {
@@ -167,12 +167,12 @@ fn is_loose(before: Before, spaced: bool) -> bool
 fn if_some<'a>(fits: bool, token: Token<'a>, rest: &'a [u8]) -> Option<(Token<'a>, &'a [u8])>
     requires { tok token ≡ Done → ⊥ }
     ensures same { IfSome result (λ p. p ≡ (token.entry, rest.entry)) }
-    ensures found { Found (λ r. r.now) result (or_stuck fits (tok token.entry ∷ lex rest.now (At (after (tok token.entry))))) }
+    ensures found { Found (λ r. r.now) result (or_stuck fits (tok token.entry ∷ lex rest.now (At (before_next (tok token.entry))))) }
 {
     if fits { Some((token, rest)) } else { None }
 }
 
-/// The atom at the front, and the bytes behind it.
+/// The atom at the beginning, and the bytes after it.
 fn atom_at(bytes: &[u8]) -> (&[u8], &[u8])
     ensures atom { lex bytes.now Within ≡ Atom result.0.now ∷ lex result.1.now (At Later) }
     ensures parts { result.0.now ++ result.1.now ≡ bytes.now }
@@ -182,7 +182,7 @@ fn atom_at(bytes: &[u8]) -> (&[u8], &[u8])
     bytes.split_at(atom_len(bytes))
 }
 
-/// How many bytes at the front are part of an atom.
+/// How many bytes at the beginning are part of an atom.
 fn atom_len(bytes: &[u8]) -> usize
     ensures within { result ≤ length bytes.now }
     ensures before { (k : ℕ) → k < result → is_atom_byte (slice_index bytes.now k) ≡ true }
@@ -216,9 +216,9 @@ pub fn is_atom_byte(byte: u8) -> bool
     33 <= byte && byte <= 126 && byte != b'(' && byte != b')' && byte != b';'
 }
 
-/// What stands before the place behind a token.
+/// What stands before the place after a token.
 fn before_next(token: Token<'_>) -> Before
-    ensures { result ≡ after (tok token.entry) }
+    ensures { result ≡ before_next (tok token.entry) }
 {
     match token {
         Token::Left => Before::Open,

@@ -1,4 +1,4 @@
-//! What no clause says: that calls succeed while there is memory. The texts are told by hand.
+//! What no clause says: that calls succeed while there is memory. The texts are written by hand.
 
 use super::*;
 use rv_words::Bytes;

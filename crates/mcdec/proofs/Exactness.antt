@@ -10,8 +10,8 @@ use Rattle.mc_text.proofs.OneSpelling.{decimal-once, hex-once}
 use Rattle.tailrec_lang.specs.Tree.{DefTree, GroupTree}
 use Rattle.tailrec_lang.specs.WellFormed.{IsWellFormed, IsFirstIllFormed}
 use Rattle.tailrec_lang.specs.Eval.{Done, SideFalse, Turns, NoOutcome, Outcome, eval}
-use Rattle.proof_text.specs.Limits.{texts}
-use Rattle.proof_text.specs.Front.{AreRead}
+use Rattle.proof_text.specs.Limits.{proof_texts}
+use Rattle.proof_text.specs.FirstGroups.{AreRead}
 use Rattle.mcdec.specs.declared.answer.Answer.{Answer}
 use Rattle.mcdec.specs.declared.answer.Answer.TheVariants as answer
 use Rattle.mcdec.specs.declared.answer.EvalAnswer.{EvalAnswer}
@@ -123,7 +123,7 @@ named-unique name turns args gs a b (inr h) (inr k) =
 
 -- what an answer says of a text: a bad line, a definition that isn't well-formed, or its groups
 abbrev BadText : List ℕ → EvalAnswer → Type 0
-BadText p a = (n : ℕ) × IsBadAt texts p n × ((gs : List GroupTree) → AreRead p gs → AreWellFormed gs) × (a ≡ ev.Unreadable n)
+BadText p a = (n : ℕ) × IsBadAt proof_texts p n × ((gs : List GroupTree) → AreRead p gs → AreWellFormed gs) × (a ≡ ev.Unreadable n)
 
 abbrev BadDef : List ℕ → EvalAnswer → Type 0
 BadDef p a = (gs : List GroupTree) × (g : GroupTree) × (def : ℕ) × AreRead p (gs ++ g ∷ []) × AreWellFormed gs × IsFirstIllFormed g def × (a ≡ ev.IllFormed (length gs) def)
@@ -177,7 +177,7 @@ same-last (y ∷ gs) (x ∷ hs) more g h e c first well =
     (omega (arith, r.0), r.1)
 
 bad-texts : (p : List ℕ) (a b : EvalAnswer) → BadText p a → BadText p b → a ≡ b
-bad-texts p a b h k = h.3 ∙ ap (λ (n : ℕ). ev.Unreadable n) (bad-once texts p h.0 k.0 h.1 k.1) ∙ sym k.3
+bad-texts p a b h k = h.3 ∙ ap (λ (n : ℕ). ev.Unreadable n) (bad-once proof_texts p h.0 k.0 h.1 k.1) ∙ sym k.3
 
 bad-defs : (p : List ℕ) (a b : EvalAnswer) → BadDef p a → BadDef p b → a ≡ b
 bad-defs p a b (gs, g, c, read, well, first, is) (hs, h, d, read', well', first', is') =
@@ -199,7 +199,7 @@ def-or-good p name turns args a b (gs, g, c, read, well, first, is) k =
 bad-or-good : (p name : List ℕ) (turns : ℕ) (args : List Arg) (a b : EvalAnswer) → BadText p a → GoodText p name turns args b → ⊥
 bad-or-good p name turns args a b h k = in-none p h.0 h.1 (k.0, k.1.0, k.1.1)
   where
-    in-none : (p : List ℕ) (n : ℕ) → IsBadAt texts p n → InGrammar texts p → ⊥
+    in-none : (p : List ℕ) (n : ℕ) → IsBadAt proof_texts p n → InGrammar proof_texts p → ⊥
     in-none p zero h g = absurd h
     in-none p (suc n) h g = h.0 g
 

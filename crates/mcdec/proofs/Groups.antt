@@ -3,13 +3,12 @@ use Rattle.std.proofs.Common.{◌≡◌, ◌≢◌, ℕ, suc, ◌+◌, ◌-◌, 
 use Rattle.std.specs.List.{AllByRecursion}
 use Rattle.std.specs.Result.{IsErrAnd}
 use Rattle.std.proofs.lemmas.List.{append-nil, length-append}
-use Rattle.mc_text.specs.Fault.{IsBadAt}
-use Rattle.mc_text.specs.Scanning.{newlines}
+use Rattle.mc_text.specs.Fault.{IsBadAt, newlines}
 use Rattle.tailrec_lang.specs.declared.group.Group.{Group}
 use Rattle.tailrec_lang.specs.Tree.{GroupTree, group_tree}
 use Rattle.tailrec_lang.specs.WellFormed.{IsWellFormed}
-use Rattle.proof_text.specs.Limits.{texts}
-use Rattle.proof_text.specs.Front.{Progress, passed, HasGiven, AreRead}
+use Rattle.proof_text.specs.Limits.{proof_texts}
+use Rattle.proof_text.specs.FirstGroups.{Progress, passed, HasGiven, AreRead}
 use Rattle.proof_text.proofs.Fronts.{fronts, front-read, few-groups}
 use Rattle.mcdec.specs.declared.evaluate.Refusal.{Refusal}
 use Rattle.mcdec.specs.declared.evaluate.Refusal.TheVariants as refusal
@@ -30,7 +29,7 @@ none-more name gs g found none h other = all-behind (λ x. x.name ≢ name) gs g
 
 -- groups that were given of a text are read of it
 given-read : (gs : List GroupTree) (r : Progress) → HasGiven gs r → AreRead r.text gs
-given-read gs r h = (r.rest, record { fit = h.fit; text = h.text; place = refl; ended = h.ended })
+given-read gs r h = (r.rest, record { fit = h.fit; text = h.text; ended = h.ended })
 
 abbrev NoMore : List GroupTree → Progress → Type 0
 NoMore gs r = (g : GroupTree) (new : Progress) → new.text ≡ r.text → HasGiven (gs ++ g ∷ []) new → ⊥
@@ -41,14 +40,17 @@ within gs r h none hs read = elim (fronts r.text gs hs (given-read gs r h) read)
   where
     of : (more : List GroupTree) → hs ≡ gs ++ more → (rest : List GroupTree) × (gs ≡ hs ++ rest)
     of [] e = ([], sym (append-nil gs) ∙ sym e ∙ sym (append-nil hs))
-    of (g ∷ more) e = let a = front-read r.text gs g more (subst (AreRead r.text) e read) in absurd (none g _ refl a.1)
+    of (g ∷ more) e =
+        let a = front-read r.text gs g more (subst (AreRead r.text) e read) in
+        let new : Progress = record { text = r.text; rest = a.0; place = newlines (passed (gs ++ g ∷ [])) } in
+        absurd (none g new refl (record { fit = a.1.fit; text = a.1.text; place = refl; ended = a.1.ended }))
 
 module _ (text name : List ℕ) (r : Progress) (count : ℕ) (found : Option Group) (s : Searched text name r count found) where
   -- the search stopped
   pub stopped : (new : Progress) (e : Refusal) → NextIs count r new (Err e) → Finds text name (Err e)
   stopped new (refusal.Text line) h =
       let k = h s.groups s.given in (
-        subst (λ (t : List ℕ). IsBadAt texts t line) s.same k.0,
+        subst (λ (t : List ℕ). IsBadAt proof_texts t line) s.same k.0,
         λ hs read.
             let w = within s.groups r s.given k.1 hs (subst (λ (t : List ℕ). AreRead t hs) (sym s.same) read) in
             all-front IsWellFormed hs w.0 (subst AreWellFormed w.1 s.well_formed),

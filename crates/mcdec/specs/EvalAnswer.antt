@@ -8,8 +8,8 @@ use Rattle.tailrec_lang.specs.Tree.{GroupTree}
 use Rattle.tailrec_lang.specs.WellFormed.{IsWellFormed, IsFirstIllFormed}
 use Rattle.tailrec_lang.specs.Eval.{Arguments, Done, SideFalse, Turns, eval}
 use Rattle.proof_text.specs.Spelling.{text_of}
-use Rattle.proof_text.specs.Limits.{AreGroups, texts}
-use Rattle.proof_text.specs.Front.{AreRead}
+use Rattle.proof_text.specs.Limits.{AreGroups, proof_texts}
+use Rattle.proof_text.specs.FirstGroups.{AreRead}
 use Rattle.mcdec.specs.declared.answer.EvalAnswer.{EvalAnswer}
 use Rattle.mcdec.specs.declared.answer.EvalAnswer.TheVariants as answer
 use Rattle.mcdec.specs.declared.answer.Shown.{Shown}
@@ -69,7 +69,7 @@ pub record IsNamed (text name : List ℕ) (g : GroupTree) : Type 0 where
 abbrev pub EvalGives : (file name : List ℕ) (turns : ℕ) (args : List Arg) → EvalAnswer → Type 0
 EvalGives file name turns args answer.OverLimit = proof_limit < length file
 EvalGives file name turns args (answer.Unreadable line) =
-    (length file ≤ proof_limit) × IsBadAt texts file line × ((gs : List GroupTree) → AreRead file gs → AreWellFormed gs)
+    (length file ≤ proof_limit) × IsBadAt proof_texts file line × ((gs : List GroupTree) → AreRead file gs → AreWellFormed gs)
 EvalGives file name turns args (answer.IllFormed group def) =
     (length file ≤ proof_limit) × (gs : List GroupTree) × (g : GroupTree) × AreRead file (gs ++ g ∷ []) × AreWellFormed gs
     × (group ≡ length gs) × IsFirstIllFormed g def

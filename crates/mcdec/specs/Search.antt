@@ -6,8 +6,8 @@ use Rattle.tailrec_lang.specs.Tree.{GroupTree, group_tree}
 use Rattle.tailrec_lang.specs.WellFormed.{IsWellFormed, IsFirstIllFormed}
 use Rattle.tailrec_lang.specs.Eval.{Arguments, Done, SideFalse, Turns, HasFewNeeds, eval}
 use Rattle.proof_text.specs.Spelling.{text_of}
-use Rattle.proof_text.specs.Limits.{texts}
-use Rattle.proof_text.specs.Front.{Progress, HasGiven, AreRead}
+use Rattle.proof_text.specs.Limits.{proof_texts}
+use Rattle.proof_text.specs.FirstGroups.{Progress, HasGiven, AreRead}
 use Rattle.mcdec.specs.declared.evaluate.Refusal.{Refusal}
 use Rattle.mcdec.specs.declared.evaluate.Refusal.TheVariants as refusal
 use Rattle.mcdec.specs.declared.answer.EvalAnswer.{EvalAnswer}
@@ -21,7 +21,7 @@ NextIs n old new (Ok None) = (gs : List GroupTree) → HasGiven gs old → old.t
 NextIs n old new (Ok (Some g)) = (new.text ≡ old.text) × IsWellFormed (group_tree g) × HasFewNeeds (group_tree g)
     × ((gs : List GroupTree) → HasGiven gs old → HasGiven (gs ++ group_tree g ∷ []) new)
 NextIs n old new (Err (refusal.Text line)) = (gs : List GroupTree) → HasGiven gs old
-    → IsBadAt texts old.text line × ((g : GroupTree) (r : Progress) → r.text ≡ old.text → HasGiven (gs ++ g ∷ []) r → ⊥)
+    → IsBadAt proof_texts old.text line × ((g : GroupTree) (r : Progress) → r.text ≡ old.text → HasGiven (gs ++ g ∷ []) r → ⊥)
 NextIs n old new (Err (refusal.IllFormed m def)) = (m ≡ n) × (g : GroupTree) × IsFirstIllFormed g def
     × ((gs : List GroupTree) → HasGiven gs old → (r : Progress) × (r.text ≡ old.text) × HasGiven (gs ++ g ∷ []) r)
 NextIs n old new (Err refusal.NoFunction) = ⊥
@@ -30,7 +30,7 @@ NextIs n old new (Err refusal.NoMemory) = Unit {0}
 -- what a text has for a name
 abbrev pub Finds : List ℕ → List ℕ → Result Group Refusal → Type 0
 Finds text name (Ok g) = (gs : List GroupTree) × IsTextOf text gs × FirstNamed name gs (group_tree g) × HasFewNeeds (group_tree g)
-Finds text name (Err (refusal.Text line)) = IsBadAt texts text line × ((gs : List GroupTree) → AreRead text gs → AreWellFormed gs)
+Finds text name (Err (refusal.Text line)) = IsBadAt proof_texts text line × ((gs : List GroupTree) → AreRead text gs → AreWellFormed gs)
 Finds text name (Err (refusal.IllFormed n def)) = (gs : List GroupTree) × (g : GroupTree) × AreRead text (gs ++ g ∷ [])
     × AreWellFormed gs × (n ≡ length gs) × IsFirstIllFormed g def
 Finds text name (Err refusal.NoFunction) = (gs : List GroupTree) × IsTextOf text gs × NoneNamed name gs

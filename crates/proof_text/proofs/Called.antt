@@ -4,22 +4,22 @@ use Rattle.mc_text.specs.Tokens.{Tok, Left, Right, Semi, Atom, Eol, Done, Stuck,
 use Rattle.mc_text.specs.declared.token.Before.TheVariants.{Start, Open, Later}
 use Rattle.mc_text.specs.declared.token.Class.{Class}
 use Rattle.mc_text.specs.declared.token.Class.TheVariants.{Letter, LeftMark, RightMark, SemiMark, Newline, Space, Other}
-use Rattle.mc_text.specs.Scanning.{class_of, State, At, Spaced, Within, lex, byte_step, prepend, or_stuck, ended, loose, tight, grows, parts, at_end, tokens_at, newlines, eols}
+use Rattle.mc_text.specs.Scanning.{class_of, State, At, Spaced, Within, lex, byte_step, prepend, or_stuck, ended, loose, tight, grows, parts, at_end, tokens_at, eols}
 use Rattle.mc_text.specs.Reading.{goes_on}
-use Rattle.mc_text.specs.Fault.{IsBadAt}
-use Rattle.mc_text.proofs.Laws.{Out, ok-value}
+use Rattle.mc_text.specs.Fault.{IsBadAt, newlines}
+use Rattle.mc_text.proofs.ReaderLaws.{Out, ok-value}
 use Rattle.mc_text.proofs.FaultLine.{AreLines}
 use Rattle.mc_text.specs.Reading.{Reader}
-use Rattle.term_text.specs.declared.cursor.Stop.{Stop}
-use Rattle.term_text.specs.declared.cursor.Stop.TheVariants as stop
-use Rattle.term_text.specs.Outcome.{Gives, last_line}
+use Rattle.mc_text.specs.declared.cursor.Stop.{Stop}
+use Rattle.mc_text.specs.declared.cursor.Stop.TheVariants as stop
+use Rattle.mc_text.specs.Outcome.{Gives, last_line}
 use Rattle.tailrec_lang.specs.Tree.{GroupTree}
 use Rattle.tailrec_lang.specs.Eval.{HasFewNeeds}
-use Rattle.proof_text.specs.Limits.{IsGroup, texts}
+use Rattle.proof_text.specs.Limits.{IsGroup, proof_texts}
 use Rattle.proof_text.specs.Spelling.{text_of}
-use Rattle.proof_text.specs.Front.{Progress, HasGiven}
+use Rattle.proof_text.specs.FirstGroups.{Progress, HasGiven}
 use Rattle.proof_text.specs.Cut.{AreWholeLines, drop_lines}
-use Rattle.proof_text.specs.Answers.{GoesOn}
+use Rattle.proof_text.specs.Rest.{GoesOn}
 use Rattle.proof_text.specs.Reading.{is_done, turn_at}
 use Rattle.proof_text.proofs.Passed.{turn-takes}
 use Rattle.proof_text.proofs.Cuts.{are-lines, whole-lines}
@@ -95,8 +95,8 @@ module _ (text lines tail : List ℕ) (place : ℕ) (now : Progress) (is : recor
     stopped : turn_at (eqb place 0) (lex lines (At Start)) ≡ Err (tokens_at s1)
     stopped = ap (turn_at (eqb place 0)) (sym from-start) ∙ stop
 
-    pub called-bad : (gs : List GroupTree) → HasGiven gs now → IsBadAt texts now.text (place + line)
-    called-bad = subst (λ (p : Progress). (gs : List GroupTree) → HasGiven gs p → IsBadAt texts p.text (place + line)) is
+    pub called-bad : (gs : List GroupTree) → HasGiven gs now → IsBadAt proof_texts now.text (place + line)
+    called-bad = subst (λ (p : Progress). (gs : List GroupTree) → HasGiven gs p → IsBadAt proof_texts p.text (place + line)) is
         (λ gs h. bad-call gs r h lines tail refl (are-lines lines whole) none line (tokens_at s1) stopped counted)
 
     never : (q : Read) (us : List Tok) → Ok q ≡ Err us → ⊥
@@ -118,14 +118,14 @@ module _ (text lines tail : List ℕ) (place : ℕ) (now : Progress) (is : recor
     not-done : (us vs : List Tok) → goes_on is_done us ≡ false → us ≡ Done ∷ vs → ⊥
     not-done us vs g e = true≢false (sym (ap (goes_on is_done) e) ∙ g)
 
-    more-bad : GoesOn (tokens_at s1) tail → (gs : List GroupTree) → HasGiven gs r → IsBadAt texts r.text (place + line)
+    more-bad : GoesOn (tokens_at s1) tail → (gs : List GroupTree) → HasGiven gs r → IsBadAt proof_texts r.text (place + line)
     more-bad (inl g) gs h = bad-more gs r h lines tail refl (are-lines lines whole) none line (tokens_at s1) ended-at (λ vs e. not-done (tokens_at s1) vs g e) counted
     more-bad (inr g) gs h =
         bad-tail-more gs r h lines tail refl (are-lines lines whole) none line (ended-at ∙ ap (λ (us : List Tok). Ok (None, us)) g.0) g.1
         (ap (λ (us : List Tok). line + eols us) (sym g.0) ∙ counted)
 
-    pub called-more : GoesOn (tokens_at s1) tail → (gs : List GroupTree) → HasGiven gs now → IsBadAt texts now.text (place + line)
-    called-more q = subst (λ (p : Progress). (gs : List GroupTree) → HasGiven gs p → IsBadAt texts p.text (place + line)) is (more-bad q)
+    pub called-more : GoesOn (tokens_at s1) tail → (gs : List GroupTree) → HasGiven gs now → IsBadAt proof_texts now.text (place + line)
+    called-more q = subst (λ (p : Progress). (gs : List GroupTree) → HasGiven gs p → IsBadAt proof_texts p.text (place + line)) is (more-bad q)
 
     abbrev good : Read → Out (Option GroupTree)
     good q = Ok q

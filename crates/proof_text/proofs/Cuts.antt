@@ -9,14 +9,14 @@ use Rattle.std.proofs.lemmas.Bool.{eqb-true}
 use Rattle.std.proofs.lemmas.Slice.Eq.{bytes_eq-Decides}
 use Rattle.mc_text.specs.Tokens.{Tok, Left, Right, Semi, Atom, Eol, Done, Stuck, Stands}
 use Rattle.mc_text.specs.declared.token.Before.TheVariants.{Start}
-use Rattle.mc_text.specs.Scanning.{lex, At, newlines}
-use Rattle.mc_text.specs.Fault.{first_lines}
+use Rattle.mc_text.specs.Scanning.{lex, At}
+use Rattle.mc_text.specs.Fault.{first_lines, newlines}
 use Rattle.mc_text.specs.Reading.{goes_on}
 use Rattle.mc_text.proofs.Lines.{stands-lex, atom-stands}
 use Rattle.mc_text.proofs.FaultLine.{AreLines, EndsByte, one-newline, first-step, lines-zeroth, newlines-append, SameLine, same-line}
 use Rattle.mc_text.proofs.Tail.{count-cons, first-before}
 use Rattle.proof_text.specs.Cut.{AreWholeLines, drop_lines}
-use Rattle.proof_text.specs.Front.{DefFollows}
+use Rattle.proof_text.specs.FirstGroups.{DefFollows}
 use Rattle.proof_text.specs.Reading.{is_def}
 
 -- ---- a text is whole lines, and a rest without a newline
@@ -148,7 +148,7 @@ def-there bytes tail us h none e =
     let long : length bytes ≡ length (codes "def" ++ s.0) = ap length s.1.spelled in
     record {
       whole = λ k. some-line bytes h (omega (arith, long, length-append (codes "def") s.0)) (sym (first-before 1 bytes tail none) ∙ k);
-      behind = s.0 ++ tail;
+      others = s.0 ++ tail;
       word = stands-longer bytes tail (codes "def") s.0 some s.1;
     }
 
@@ -202,7 +202,7 @@ line-def bytes tail (Some l) os none e some read =
 -- and its first word is read where it follows
 pub follows-def : (bytes tail : List ℕ) → newlines tail ≡ 0 → DefFollows (bytes ++ tail) → goes_on is_def (lex bytes (At Start)) ≡ true
 follows-def bytes tail none d =
-    line-def bytes tail (first_lines 1 bytes) _ none refl (λ k. d.whole (first-before 1 bytes tail none ∙ k)) (stands-lex Start (bytes ++ tail) (Atom (codes "def")) d.behind (λ k. cc) d.word)
+    line-def bytes tail (first_lines 1 bytes) _ none refl (λ k. d.whole (first-before 1 bytes tail none ∙ k)) (stands-lex Start (bytes ++ tail) (Atom (codes "def")) d.others (λ k. cc) d.word)
 
 -- ---- loops over bytes
 

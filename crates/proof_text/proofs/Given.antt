@@ -2,20 +2,20 @@
 use Rattle.std.proofs.Common.{◌≡◌, ℕ, suc, ◌+◌, ◌-◌, ◌^◌, ◌≤◌, ◌<◌, Bool, true, false, eqb, true≢false, List, [], ◌∷◌, ◌++◌, length, Some, None, Ok, Err, refl, sym, ap, subst, ◌∙◌, arith, append_assoc, length-append}
 use Rattle.std.proofs.lemmas.List.{append-nil, append_cancel_left}
 use Rattle.std.proofs.lemmas.Bool.Decides.{nat_tests}
-use Rattle.mc_text.specs.Tokens.{Tok, Done, spell}
+use Rattle.mc_text.specs.Tokens.{Tok, Done, spell, all_tokens}
 use Rattle.mc_text.specs.declared.token.Before.TheVariants.{Start}
-use Rattle.mc_text.specs.Scanning.{lex, At, newlines, eols}
-use Rattle.mc_text.specs.Reading.{goes_on, each}
-use Rattle.mc_text.specs.Fault.{IsBadAt}
+use Rattle.mc_text.specs.Scanning.{lex, At, eols}
+use Rattle.mc_text.specs.Reading.{goes_on}
+use Rattle.mc_text.specs.Fault.{IsBadAt, newlines}
 use Rattle.mc_text.proofs.Lines.{Spelled}
 use Rattle.mc_text.proofs.FaultLine.{AreLines, spell-lines, front-lex, spelled, eols-append, newlines-append, newlines-spell, bad-line, bad-rest, whole-text}
 use Rattle.mc_text.proofs.Tail.{bad-tail, bad-end}
 use Rattle.mc_text.proofs.Printed.{spell-after_lines}
 use Rattle.tailrec_lang.specs.Tree.{GroupTree}
 use Rattle.tailrec_lang.specs.Eval.{HasFewNeeds}
-use Rattle.proof_text.specs.Limits.{AreGroups, texts}
+use Rattle.proof_text.specs.Limits.{AreGroups, proof_texts}
 use Rattle.proof_text.specs.Spelling.{group_tokens, head_tokens, text_tokens, text_of}
-use Rattle.proof_text.specs.Front.{Progress, passed, DefFollows, Ended, HasGiven}
+use Rattle.proof_text.specs.FirstGroups.{Progress, passed, DefFollows, Ended, HasGiven}
 use Rattle.proof_text.specs.Cut.{drop_lines}
 use Rattle.proof_text.specs.Reading.{is_def, text_at, turn_at}
 use Rattle.proof_text.proofs.Texts.{text-law}
@@ -49,7 +49,7 @@ more-is n le = grind (arith, nat_tests)
 
 first-count : (gs : List GroupTree) → AreGroups gs → eqb (newlines (passed gs)) 0 ≡ is_first gs
 first-count [] h = refl
-first-count (g ∷ gs) h = more-is (newlines (passed (g ∷ gs))) (omega (arith, passed-count (g ∷ gs) h, eols-append head_tokens (each group_tokens (g ∷ gs))))
+first-count (g ∷ gs) h = more-is (newlines (passed (g ∷ gs))) (omega (arith, passed-count (g ∷ gs) h, eols-append head_tokens (all_tokens group_tokens (g ∷ gs))))
 
 -- the text begins here exactly where no line was passed
 pub first-is : (gs : List GroupTree) (r : Progress) → HasGiven gs r → eqb r.place 0 ≡ is_first gs
@@ -149,11 +149,11 @@ module _ (gs : List GroupTree) (r : Progress) (given : HasGiven gs r) (lines tai
       let all : eols (lex front (At Start)) ≡ eols (front_tokens gs ++ ts) = ap eols front-read in
       omega (arith, e, all, eols-append (front_tokens gs) ts, given.place, passed-count gs given.fit)
 
-  in-text : (n : ℕ) → IsBadAt texts front n → IsBadAt texts r.text n
-  in-text n h = subst (λ (v : List ℕ). IsBadAt texts v n) (sym text-is) (bad-tail texts text-lines front tail n none h)
+  in-text : (n : ℕ) → IsBadAt proof_texts front n → IsBadAt proof_texts r.text n
+  in-text n h = subst (λ (v : List ℕ). IsBadAt proof_texts v n) (sym text-is) (bad-tail proof_texts text-lines front tail n none h)
 
   -- where a call stops
-  pub bad-call : (line : ℕ) (us : List Tok) → turn_at (eqb r.place 0) ts ≡ Err us → line + eols us ≡ 1 + eols ts → IsBadAt texts r.text (r.place + line)
+  pub bad-call : (line : ℕ) (us : List Tok) → turn_at (eqb r.place 0) ts ≡ Err us → line + eols us ≡ 1 + eols ts → IsBadAt proof_texts r.text (r.place + line)
   bad-call line us e count =
       let read : turn_at (is_first gs) ts ≡ Err us = ap (λ (b : Bool). turn_at b ts) (sym (first-is gs r given)) ∙ e in
       in-text (r.place + line)
@@ -163,19 +163,19 @@ module _ (gs : List GroupTree) (r : Progress) (given : HasGiven gs r) (lines tai
   end-read us e = ap text_at front-read ∙ turn-end gs ts us given.fit quiet (ap (λ (b : Bool). turn_at b ts) (sym (first-is gs r given)) ∙ e)
 
   -- where the end was read and something else follows
-  pub bad-more : (line : ℕ) (us : List Tok) → turn_at (eqb r.place 0) ts ≡ Ok (None, us) → ((vs : List Tok) → us ≡ Done ∷ vs → ⊥) → line + eols us ≡ 1 + eols ts → IsBadAt texts r.text (r.place + line)
+  pub bad-more : (line : ℕ) (us : List Tok) → turn_at (eqb r.place 0) ts ≡ Ok (None, us) → ((vs : List Tok) → us ≡ Done ∷ vs → ⊥) → line + eols us ≡ 1 + eols ts → IsBadAt proof_texts r.text (r.place + line)
   bad-more line us e more count =
       in-text (r.place + line) (bad-rest text_at AreGroups text_tokens text-law text-tokens front gs us (r.place + line) (end-read us e) more (counted line us count))
 
   -- where the end was read and a rest without a newline follows
-  pub bad-tail-more : (line : ℕ) → turn_at (eqb r.place 0) ts ≡ Ok (None, Done ∷ []) → (tail ≡ [] → ⊥) → line + eols (Done ∷ []) ≡ 1 + eols ts → IsBadAt texts r.text (r.place + line)
+  pub bad-tail-more : (line : ℕ) → turn_at (eqb r.place 0) ts ≡ Ok (None, Done ∷ []) → (tail ≡ [] → ⊥) → line + eols (Done ∷ []) ≡ 1 + eols ts → IsBadAt proof_texts r.text (r.place + line)
   bad-tail-more line e some count =
       let w = whole-text text_at AreGroups text_tokens text-law text-tokens front gs [] (end-read (Done ∷ []) e) in
       let read = text-law.takes (lex front (At Start)) gs (Done ∷ []) (end-read (Done ∷ []) e) in
       let all : eols (lex front (At Start)) ≡ eols (text_tokens gs ++ Done ∷ []) = ap eols read.0 in
       let number : suc (newlines (text_of gs)) ≡ r.place + line = omega (arith, counted line (Done ∷ []) count, all, eols-append (text_tokens gs) (Done ∷ []), newlines-spell Start (text_tokens gs) (text-tokens gs given.fit)) in
-      subst (λ (v : List ℕ). IsBadAt texts v (r.place + line)) (ap (λ (v : List ℕ). v ++ tail) (sym w.1) ∙ sym text-is)
-      (subst (IsBadAt texts (text_of gs ++ tail)) number (bad-end texts text-lines gs tail given.fit some none))
+      subst (λ (v : List ℕ). IsBadAt proof_texts v (r.place + line)) (ap (λ (v : List ℕ). v ++ tail) (sym w.1) ∙ sym text-is)
+      (subst (IsBadAt proof_texts (text_of gs ++ tail)) number (bad-end proof_texts text-lines gs tail given.fit some none))
 
   -- where the end was read and nothing follows
   pub whole-call : turn_at (eqb r.place 0) ts ≡ Ok (None, Done ∷ []) → tail ≡ [] → r.text ≡ text_of gs

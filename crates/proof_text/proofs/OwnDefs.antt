@@ -1,15 +1,15 @@
 -- The definitions of a group: as many as follow, at least one, and not too many.
 use Rattle.std.proofs.Common.{◌≡◌, ℕ, zero, suc, ◌+◌, ◌-◌, ◌≤◌, Bool, true, false, cond, List, [], ◌∷◌, ◌++◌, length, Ok, Err, refl, sym, ap, subst, ◌∙◌, arith, append_assoc}
 use Rattle.std.specs.List.{AllByRecursion}
-use Rattle.mc_text.specs.Tokens.{Tok, Left, Right, Semi, Atom, Eol, Done, Stuck, Place}
-use Rattle.mc_text.specs.Reading.{Reader, ◌>>=◌, many, one, goes_on, with_front, each}
+use Rattle.mc_text.specs.Tokens.{Tok, Left, Right, Semi, Atom, Eol, Done, Stuck, Place, all_tokens}
+use Rattle.mc_text.specs.Reading.{Reader, ◌>>=◌, many, one, goes_on, with_prefix}
 use Rattle.mc_text.specs.Scanning.{tokens_at}
-use Rattle.mc_text.proofs.Laws.{Out, ok-is}
+use Rattle.mc_text.proofs.ReaderLaws.{Out, ok-is}
 use Rattle.mc_text.proofs.Covers.{Covers}
 use Rattle.mc_text.proofs.Turns.{many-one, many-none, many-ends, many-full, many-fails}
-use Rattle.term_text.specs.declared.cursor.Stop.{Stop}
-use Rattle.term_text.specs.declared.cursor.Stop.TheVariants as stop
-use Rattle.term_text.specs.Outcome.{Gives}
+use Rattle.mc_text.specs.declared.cursor.Stop.{Stop}
+use Rattle.mc_text.specs.declared.cursor.Stop.TheVariants as stop
+use Rattle.mc_text.specs.Outcome.{Gives}
 use Rattle.tailrec_lang.specs.Tree.{DefTree}
 use Rattle.proof_text.specs.Limits.{def_limit, IsDef}
 use Rattle.proof_text.specs.Spelling.{def_tokens}
@@ -20,19 +20,19 @@ use Rattle.proof_text.proofs.Texts.{def-cover, def-begins}
 -- ---- as many items as there are
 
 module _ {X : Type 0} (go : Tok → Bool) (r : Reader X) (F : X → Type 0) (t : X → List Tok) (cr : Covers r F t) (heads : (x : X) → F x → (us : List Tok) → goes_on go (t x ++ us) ≡ true) where
-  pub many-again : (n : ℕ) (xs : List X) (us : List Tok) → AllByRecursion F xs → length xs ≤ n → goes_on go us ≡ false → many n go r (each t xs ++ us) ≡ Ok (xs, us)
+  pub many-again : (n : ℕ) (xs : List X) (us : List Tok) → AllByRecursion F xs → length xs ≤ n → goes_on go us ≡ false → many n go r (all_tokens t xs ++ us) ≡ Ok (xs, us)
   many-again n [] us h le g = many-none go r n us g
   many-again zero (x ∷ xs) us h le g = absurd (omega (arith, le))
   many-again (suc n) (x ∷ xs) us h le g =
-      ap (many (suc n) go r) (append_assoc (t x) (each t xs) us)
-      ∙ many-one go r n (t x ++ (each t xs ++ us)) x (each t xs ++ us) (heads x h.0 (each t xs ++ us)) (cr.again x (each t xs ++ us) h.0)
+      ap (many (suc n) go r) (append_assoc (t x) (all_tokens t xs) us)
+      ∙ many-one go r n (t x ++ (all_tokens t xs ++ us)) x (all_tokens t xs ++ us) (heads x h.0 (all_tokens t xs ++ us)) (cr.again x (all_tokens t xs ++ us) h.0)
       ∙ rw (many-again n xs us h.1 (omega (arith, le)) g) refl
 
   abbrev TakesAll : ℕ → Type 0
-  TakesAll n = (ts : List Tok) (xs : List X) (rest : List Tok) → many n go r ts ≡ Ok (xs, rest) → (ts ≡ each t xs ++ rest) × (AllByRecursion F xs × (length xs ≤ n))
+  TakesAll n = (ts : List Tok) (xs : List X) (rest : List Tok) → many n go r ts ≡ Ok (xs, rest) → (ts ≡ all_tokens t xs ++ rest) × (AllByRecursion F xs × (length xs ≤ n))
 
   abbrev All : ℕ → List Tok → List X × List Tok → Type 0
-  All n ts p = (ts ≡ each t p.0 ++ p.1) × (AllByRecursion F p.0 × (length p.0 ≤ n))
+  All n ts p = (ts ≡ all_tokens t p.0 ++ p.1) × (AllByRecursion F p.0 × (length p.0 ≤ n))
 
   abbrev item : Out X → (n : ℕ) → Out (List X)
   item q n = ◌>>=◌ {A = (X × List X) × List Tok} {B = List X × List Tok} (◌>>=◌ {A = X × List Tok} {B = (X × List X) × List Tok} q (λ p. ◌>>=◌ {A = List X × List Tok} {B = (X × List X) × List Tok} (many n go r p.1) (λ xs. Ok ((p.0, xs.0), xs.1)))) (λ p. Ok (p.0.0 ∷ p.0.1, p.1))
@@ -44,7 +44,7 @@ module _ {X : Type 0} (go : Tok → Bool) (r : Reader X) (F : X → Type 0) (t :
   took-more n ts us x (Ok xs) p is f e ih h =
       let k = ih us xs.0 xs.1 e in
       subst (All (suc n) ts) (ok-is {Y = List X} (x ∷ xs.0, xs.1) p h)
-      (is ∙ ap (λ (v : List Tok). t x ++ v) k.0 ∙ sym (append_assoc (t x) (each t xs.0) xs.1), ((f, k.1.0), omega (arith, k.1.1)))
+      (is ∙ ap (λ (v : List Tok). t x ++ v) k.0 ∙ sym (append_assoc (t x) (all_tokens t xs.0) xs.1), ((f, k.1.0), omega (arith, k.1.1)))
   took-more n ts us x (Err bad) p is f e ih h = absurd cc
 
   took-one : (n : ℕ) (ts : List Tok) (q : Out X) (p : List X × List Tok) → r ts ≡ q → TakesAll n → item q n ≡ Ok p → All (suc n) ts p
@@ -61,7 +61,7 @@ module _ {X : Type 0} (go : Tok → Bool) (r : Reader X) (F : X → Type 0) (t :
   chosen n k ts true p ih h = took-one n (k ∷ ts) (r (k ∷ ts)) p refl ih h
   chosen n k ts false p ih h = took-none (suc n) (k ∷ ts) p h
 
-  pub many-takes : (n : ℕ) (ts : List Tok) (xs : List X) (rest : List Tok) → many n go r ts ≡ Ok (xs, rest) → (ts ≡ each t xs ++ rest) × (AllByRecursion F xs × (length xs ≤ n))
+  pub many-takes : (n : ℕ) (ts : List Tok) (xs : List X) (rest : List Tok) → many n go r ts ≡ Ok (xs, rest) → (ts ≡ all_tokens t xs ++ rest) × (AllByRecursion F xs × (length xs ≤ n))
   unfolding many
   many-takes zero ts xs rest e = took-none zero ts (xs, rest) e
   many-takes (suc n) [] xs rest e = took-none (suc n) [] (xs, rest) e
@@ -108,13 +108,13 @@ pub record OwnDefs (ds : List DefTree) (us : List Tok) : Type 0 where
   pub few : length ds ≤ def_limit
   pub ended : goes_on is_def us ≡ false
 
-pub own-takes : (ts : List Tok) (ds : List DefTree) (us : List Tok) → own_defs ts ≡ Ok (ds, us) → (ts ≡ each def_tokens ds ++ us) × OwnDefs ds us
+pub own-takes : (ts : List Tok) (ds : List DefTree) (us : List Tok) → own_defs ts ≡ Ok (ds, us) → (ts ≡ all_tokens def_tokens ds ++ us) × OwnDefs ds us
 own-takes ts ds us e =
     let k = own-ok (many def_limit is_def def_at ts) (ds, us) e in
     let h = many-takes is_def def_at IsDef def_tokens def-cover def-begins def_limit ts ds us k.0 in
     (h.0, record { fit = h.1.0; some = le-true 1 (length ds) k.1.1; few = h.1.1; ended = k.1.0 })
 
-pub own-again : (ds : List DefTree) (us : List Tok) → OwnDefs ds us → own_defs (each def_tokens ds ++ us) ≡ Ok (ds, us)
+pub own-again : (ds : List DefTree) (us : List Tok) → OwnDefs ds us → own_defs (all_tokens def_tokens ds ++ us) ≡ Ok (ds, us)
 own-again ds us h =
     ap (λ (q : Defs). judge (guard q)) (many-again is_def def_at IsDef def_tokens def-cover def-begins def_limit ds us h.fit h.few h.ended)
     ∙ sent ds us false true h.ended (true-le 1 (length ds) h.some)
@@ -132,14 +132,14 @@ def-refuses (Stuck ∷ ts) g = refl
 
 -- ---- a loop over definitions
 
-module _ (n : ℕ) (front : List DefTree) (ts old : List Tok) (told : with_front front (many n is_def def_at ts) ≡ many def_limit is_def def_at old) where
+module _ (n : ℕ) (front : List DefTree) (ts old : List Tok) (told : with_prefix front (many n is_def def_at ts) ≡ many def_limit is_def def_at old) where
   abbrev sieved : Defs → Defs
   sieved q = judge (guard q)
 
   -- one more than may be
   pub own-full : n ≡ 0 → goes_on is_def ts ≡ true → own_defs old ≡ Err ts
   own-full e g =
-      let all = many-full is_def def_at front ts (many def_limit is_def def_at old) (ap (λ (k : ℕ). with_front front (many k is_def def_at ts)) (sym e) ∙ told) in
+      let all = many-full is_def def_at front ts (many def_limit is_def def_at old) (ap (λ (k : ℕ). with_prefix front (many k is_def def_at ts)) (sym e) ∙ told) in
       ap sieved all ∙ sent front ts true (are_some front) g refl
 
   own-end : goes_on is_def ts ≡ false → (s : Bool) → are_some front ≡ s → own_defs old ≡ cond s (Ok (front, ts)) (Err ts)
@@ -152,10 +152,10 @@ module _ (n : ℕ) (front : List DefTree) (ts old : List Tok) (told : with_front
   own-some g le = own-end g true (true-le 1 (length front) le)
 
 pub own-stopped : {X Z : Type 0} (view : X → DefTree) (views : Z → List DefTree) (n m : ℕ) (e : Stop) (front : List DefTree) (old at new : Place)
-    → n ≡ suc m → goes_on is_def (tokens_at at) ≡ true → Gives view (Err e) at new def_at → with_front front (many n is_def def_at (tokens_at at)) ≡ many def_limit is_def def_at (tokens_at old) → Gives views (Err e) old new own_defs
+    → n ≡ suc m → goes_on is_def (tokens_at at) ≡ true → Gives view (Err e) at new def_at → with_prefix front (many n is_def def_at (tokens_at at)) ≡ many def_limit is_def def_at (tokens_at old) → Gives views (Err e) old new own_defs
 own-stopped view views n m stop.Bad front old at new left g h told =
     ap (λ (q : Defs). judge (guard q)) (many-fails is_def def_at m front (tokens_at at) (tokens_at new) (many def_limit is_def def_at (tokens_at old)) g h
-    (ap (λ (k : ℕ). with_front front (many k is_def def_at (tokens_at at))) (sym left) ∙ told))
+    (ap (λ (k : ℕ). with_prefix front (many k is_def def_at (tokens_at at))) (sym left) ∙ told))
 own-stopped view views n m stop.NoMemory front old at new left g h told = tt
 
 -- how many more may follow

@@ -1,10 +1,10 @@
 -- Reading a whole text, behind the groups that were given.
 use Rattle.std.proofs.Common.{◌≡◌, Bool, true, false, List, [], ◌∷◌, ◌++◌, Option, Some, None, Ok, Err, refl, sym, ap, ◌∙◌, append_assoc}
 use Rattle.std.proofs.lemmas.List.{append-nil}
-use Rattle.mc_text.specs.Tokens.{Tok}
-use Rattle.mc_text.specs.Reading.{◌>>=◌, pair, goes_on, with_front, each}
+use Rattle.mc_text.specs.Tokens.{Tok, all_tokens}
+use Rattle.mc_text.specs.Reading.{◌>>=◌, pair, goes_on, with_prefix}
 use Rattle.mc_text.proofs.Lines.{AreTokens, IsLines}
-use Rattle.mc_text.proofs.Laws.{Out}
+use Rattle.mc_text.proofs.ReaderLaws.{Out}
 use Rattle.mc_text.proofs.Covers.{lines-append}
 use Rattle.mc_text.proofs.Shown.{tokens-append}
 use Rattle.tailrec_lang.specs.Tree.{GroupTree}
@@ -19,7 +19,7 @@ use Rattle.proof_text.proofs.Resumed.{made-bad, made-good, pair-good, pair-bad, 
 -- the tokens of the lines that were passed over
 abbrev pub front_tokens : List GroupTree → List Tok
 front_tokens [] = []
-front_tokens (g ∷ gs) = head_tokens ++ each group_tokens (g ∷ gs)
+front_tokens (g ∷ gs) = head_tokens ++ all_tokens group_tokens (g ∷ gs)
 
 -- the text begins here
 abbrev pub is_first : List GroupTree → Bool
@@ -97,50 +97,50 @@ turn-again false g us h e = next-again g us h e
 
 -- ---- behind groups
 
-front-is : (q : Groups) → with_front [] q ≡ q
+front-is : (q : Groups) → with_prefix [] q ≡ q
 front-is (Ok p) = refl
 front-is (Err bad) = refl
 
-front-cons : (g : GroupTree) (gs : List GroupTree) (q : Groups) → cons g (with_front gs q) ≡ with_front (g ∷ gs) q
+front-cons : (g : GroupTree) (gs : List GroupTree) (q : Groups) → cons g (with_prefix gs q) ≡ with_prefix (g ∷ gs) q
 front-cons g gs (Ok p) = refl
 front-cons g gs (Err bad) = refl
 
-quiet-behind : (g : GroupTree) (gs : List GroupTree) (ts : List Tok) → Quiet (g ∷ gs) ts → goes_on is_def (each group_tokens gs ++ ts) ≡ false
+quiet-behind : (g : GroupTree) (gs : List GroupTree) (ts : List Tok) → Quiet (g ∷ gs) ts → goes_on is_def (all_tokens group_tokens gs ++ ts) ≡ false
 quiet-behind g [] ts q = q
 quiet-behind g (h ∷ gs) ts q = refl
 
-all-more : (gs : List GroupTree) (ts : List Tok) → AreGroups gs → Quiet gs ts → all_groups (each group_tokens gs ++ ts) ≡ with_front gs (all_groups ts)
+all-more : (gs : List GroupTree) (ts : List Tok) → AreGroups gs → Quiet gs ts → all_groups (all_tokens group_tokens gs ++ ts) ≡ with_prefix gs (all_groups ts)
 all-more [] ts h q = sym (front-is (all_groups ts))
 all-more (g ∷ gs) ts h q =
-    ap all_groups (append_assoc (group_tokens g) (each group_tokens gs) ts) ∙ all-one g (each group_tokens gs ++ ts) h.0 (quiet-behind g gs ts q)
+    ap all_groups (append_assoc (group_tokens g) (all_tokens group_tokens gs) ts) ∙ all-one g (all_tokens group_tokens gs ++ ts) h.0 (quiet-behind g gs ts q)
     ∙ ap (cons g) (all-more gs ts h.1 (quiet-rest gs q)) ∙ front-cons g gs (all_groups ts)
   where
     quiet-rest : (gs : List GroupTree) → Quiet (g ∷ gs) ts → Quiet gs ts
     quiet-rest [] q = tt
     quiet-rest (h ∷ gs) q = q
 
-behind-front : (g : GroupTree) (gs : List GroupTree) (ts : List Tok) → AreGroups (g ∷ gs) → Quiet (g ∷ gs) ts → text_at (front_tokens (g ∷ gs) ++ ts) ≡ with_front (g ∷ gs) (all_groups ts)
-behind-front g gs ts h q = ap text_at (append_assoc head_tokens (each group_tokens (g ∷ gs)) ts) ∙ text-titled (each group_tokens (g ∷ gs) ++ ts) ∙ all-more (g ∷ gs) ts h q
+behind-front : (g : GroupTree) (gs : List GroupTree) (ts : List Tok) → AreGroups (g ∷ gs) → Quiet (g ∷ gs) ts → text_at (front_tokens (g ∷ gs) ++ ts) ≡ with_prefix (g ∷ gs) (all_groups ts)
+behind-front g gs ts h q = ap text_at (append_assoc head_tokens (all_tokens group_tokens (g ∷ gs)) ts) ∙ text-titled (all_tokens group_tokens (g ∷ gs) ++ ts) ∙ all-more (g ∷ gs) ts h q
 
 -- where a call stops, reading the whole text stops
 pub turn-stops : (gs : List GroupTree) (ts us : List Tok) → AreGroups gs → Quiet gs ts → turn_at (is_first gs) ts ≡ Err us → text_at (front_tokens gs ++ ts) ≡ Err us
 turn-stops [] ts us h q e = first-stops ts us e
-turn-stops (g ∷ gs) ts us h q e = behind-front g gs ts h q ∙ ap (with_front (g ∷ gs)) (next-stops ts us e)
+turn-stops (g ∷ gs) ts us h q e = behind-front g gs ts h q ∙ ap (with_prefix (g ∷ gs)) (next-stops ts us e)
 
 -- and where a call reads the end, the groups before are all
 pub turn-end : (gs : List GroupTree) (ts us : List Tok) → AreGroups gs → Quiet gs ts → turn_at (is_first gs) ts ≡ Ok (None, us) → text_at (front_tokens gs ++ ts) ≡ Ok (gs, us)
 turn-end [] ts us h q e = first-end ts us e
-turn-end (g ∷ gs) ts us h q e = behind-front g gs ts h q ∙ ap (with_front (g ∷ gs)) (next-end ts us e) ∙ ap (λ (xs : List GroupTree). Ok (xs, us)) (append-nil (g ∷ gs))
+turn-end (g ∷ gs) ts us h q e = behind-front g gs ts h q ∙ ap (with_prefix (g ∷ gs)) (next-end ts us e) ∙ ap (λ (xs : List GroupTree). Ok (xs, us)) (append-nil (g ∷ gs))
 
 -- ---- the tokens are those of whole lines
 
 pub front-lines : (gs : List GroupTree) → AreGroups gs → IsLines (front_tokens gs)
 front-lines [] h = tt
-front-lines (g ∷ gs) h = lines-append head_tokens (each group_tokens (g ∷ gs)) refl (groups-whole (g ∷ gs))
+front-lines (g ∷ gs) h = lines-append head_tokens (all_tokens group_tokens (g ∷ gs)) refl (groups-whole (g ∷ gs))
 
 pub front-real : (gs : List GroupTree) → AreGroups gs → AreTokens (front_tokens gs)
 front-real [] h = tt
-front-real (g ∷ gs) h = tokens-append head_tokens (each group_tokens (g ∷ gs)) title-tokens (groups-tokens (g ∷ gs) h)
+front-real (g ∷ gs) h = tokens-append head_tokens (all_tokens group_tokens (g ∷ gs)) title-tokens (groups-tokens (g ∷ gs) h)
 
 pub turn-lines : (first : Bool) (g : GroupTree) → IsGroup g → IsLines (turn_tokens first g)
 turn-lines true g h = lines-append head_tokens (group_tokens g) refl (group-whole g)
@@ -153,8 +153,8 @@ turn-real false g h = group-tokens g h
 pub front-more : (gs : List GroupTree) (g : GroupTree) → front_tokens (gs ++ g ∷ []) ≡ front_tokens gs ++ turn_tokens (is_first gs) g
 front-more [] g = ap (λ (v : List Tok). head_tokens ++ v) (append-nil (group_tokens g))
 front-more (h ∷ gs) g =
-    ap (λ (v : List Tok). head_tokens ++ v) (groups-append (h ∷ gs) (g ∷ []) ∙ ap (λ (v : List Tok). each group_tokens (h ∷ gs) ++ v) (append-nil (group_tokens g)))
-    ∙ sym (append_assoc head_tokens (each group_tokens (h ∷ gs)) (group_tokens g))
+    ap (λ (v : List Tok). head_tokens ++ v) (groups-append (h ∷ gs) (g ∷ []) ∙ ap (λ (v : List Tok). all_tokens group_tokens (h ∷ gs) ++ v) (append-nil (group_tokens g)))
+    ∙ sym (append_assoc head_tokens (all_tokens group_tokens (h ∷ gs)) (group_tokens g))
 
 pub groups-more : (gs : List GroupTree) (g : GroupTree) → AreGroups gs → IsGroup g → AreGroups (gs ++ g ∷ [])
 groups-more [] g h k = (k, tt)

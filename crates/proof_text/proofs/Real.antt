@@ -2,9 +2,8 @@
 use Rattle.std.proofs.Common.{◌≡◌, ℕ, zero, suc, ◌+◌, ◌^◌, ◌<◌, ◌≤◌, List, [], ◌∷◌, ◌++◌, length, codes, Some, refl, ap, arith, length-append}
 use Rattle.std.specs.Prelude.{slice_get}
 use Rattle.std.specs.List.{AllByRecursion}
-use Rattle.mc_text.specs.Tokens.{Tok, Left, Right, Semi, Atom, Eol, Done, Stuck, gap, bytes_of, after, spell, IsAtom, IsToken}
+use Rattle.mc_text.specs.Tokens.{Tok, Left, Right, Semi, Atom, Eol, Done, Stuck, gap, token_bytes, before_next, spell, IsAtom, IsToken, all_tokens}
 use Rattle.mc_text.specs.declared.token.Before.{Before}
-use Rattle.mc_text.specs.Reading.{each}
 use Rattle.mc_text.proofs.Lines.{AreTokens}
 use Rattle.mc_text.proofs.Shown.{decimal-atom, hex-atom, tokens-append, tokens-each}
 use Rattle.rv_words.specs.Ranges.{AreRangesFrom}
@@ -27,7 +26,7 @@ number-tokens : (n : ℕ) → n < 2 ^ 64 → AreTokens (number n)
 number-tokens n h = (decimal-atom n h, tt)
 
 values-tokens : (v : ValuesTree) → IsValues v → AreTokens (values_tokens v)
-values-tokens v h = tokens-append (each word_tokens v.words) (Semi ∷ each mem_tokens v.mems) (tokens-each word_tokens IsWord (λ t k. word-tokens t k.0) v.words h.0) (tt, tokens-each mem_tokens IsMem (λ m k. mem-tokens m k.0) v.mems h.1)
+values-tokens v h = tokens-append (all_tokens word_tokens v.words) (Semi ∷ all_tokens mem_tokens v.mems) (tokens-each word_tokens IsWord (λ t k. word-tokens t k.0) v.words h.0) (tt, tokens-each mem_tokens IsMem (λ m k. mem-tokens m k.0) v.mems h.1)
 
 step-tokens : (s : StepTree) → IsStep s → AreTokens (step_tokens s)
 step-tokens (Bind t) h = (text-there (codes "let") refl, eol-tokens (word_tokens t) (word-tokens t h.0))
@@ -65,48 +64,48 @@ exit-tokens Ret h = (text-there (codes "ret") refl, tt)
 def-tokens : (d : DefTree) → IsDef d → AreTokens (def_tokens d)
 def-tokens d h = (
   text-there (codes "def") refl,
-  tokens-append (address d.entry ++ (each exit_tokens d.exits ++ Eol ∷ [])) (body_tokens d.body)
-      (hex-atom d.entry, eol-tokens (each exit_tokens d.exits) (tokens-each exit_tokens IsExit exit-tokens d.exits h.exits)) (body-tokens d.body h.body),
+  tokens-append (address d.entry ++ (all_tokens exit_tokens d.exits ++ Eol ∷ [])) (body_tokens d.body)
+      (hex-atom d.entry, eol-tokens (all_tokens exit_tokens d.exits) (tokens-each exit_tokens IsExit exit-tokens d.exits h.exits)) (body-tokens d.body h.body),
 )
 
-registers-tokens : (least : ℕ) (rs : List ℕ) → AreRegistersFrom least rs → AreTokens (each number rs)
+registers-tokens : (least : ℕ) (rs : List ℕ) → AreRegistersFrom least rs → AreTokens (all_tokens number rs)
 registers-tokens least [] h = tt
 registers-tokens least (r ∷ rs) h = (decimal-atom r (omega (arith, h.1)), registers-tokens (r + 1) rs h.2)
 
-ranges-tokens : (least : ℕ) (rs : List Range) → AreRangesFrom least rs → AllByRecursion HasBytes rs → AreTokens (each range_tokens rs)
+ranges-tokens : (least : ℕ) (rs : List Range) → AreRangesFrom least rs → AllByRecursion HasBytes rs → AreTokens (all_tokens range_tokens rs)
 ranges-tokens least [] h k = tt
-ranges-tokens least (r ∷ rs) h k = tokens-append (range_tokens r) (each range_tokens rs) (range-tokens r (not-empty r.bytes h.1, k.0)) (ranges-tokens (r.at + length r.bytes + 1) rs h.3 k.1)
+ranges-tokens least (r ∷ rs) h k = tokens-append (range_tokens r) (all_tokens range_tokens rs) (range-tokens r (not-empty r.bytes h.1, k.0)) (ranges-tokens (r.at + length r.bytes + 1) rs h.3 k.1)
 
 line-tokens : (name : List ℕ) (v : List Tok) → IsAtom name → AreTokens v → AreTokens (line name (v ∷ []))
 line-tokens name v h k = (h, eol-tokens v k)
 
 pub group-tokens : (g : GroupTree) → IsGroup g → AreTokens (group_tokens g)
 group-tokens g h =
-    let regs : List Tok = line (codes "regs") (each number g.regs ∷ []) in
+    let regs : List Tok = line (codes "regs") (all_tokens number g.regs ∷ []) in
     let mems : List Tok = line (codes "mems") (number g.mems ∷ []) in
-    let code : List Tok = line (codes "code") (each range_tokens g.code ∷ []) in
-    let defs : List Tok = each def_tokens g.defs in (
+    let code : List Tok = line (codes "code") (all_tokens range_tokens g.code ∷ []) in
+    let defs : List Tok = all_tokens def_tokens g.defs in (
       text-there (codes "group") refl,
       (
         h.name.0,
         (
           tt,
-          tokens-append regs (mems ++ (code ++ defs)) (line-tokens (codes "regs") (each number g.regs) (text-there (codes "regs") refl) (registers-tokens 1 g.regs h.registers))
+          tokens-append regs (mems ++ (code ++ defs)) (line-tokens (codes "regs") (all_tokens number g.regs) (text-there (codes "regs") refl) (registers-tokens 1 g.regs h.registers))
               (tokens-append mems (code ++ defs) (line-tokens (codes "mems") (number g.mems) (text-there (codes "mems") refl) (number-tokens g.mems (omega (arith, h.memories))))
-              (tokens-append code defs (line-tokens (codes "code") (each range_tokens g.code) (text-there (codes "code") refl) (ranges-tokens 0 g.code h.code h.bytes))
+              (tokens-append code defs (line-tokens (codes "code") (all_tokens range_tokens g.code) (text-there (codes "code") refl) (ranges-tokens 0 g.code h.code h.bytes))
               (tokens-each def_tokens IsDef def-tokens g.defs h.defs))),
         ),
       ),
     )
 
-pub groups-tokens : (gs : List GroupTree) → AreGroups gs → AreTokens (each group_tokens gs)
+pub groups-tokens : (gs : List GroupTree) → AreGroups gs → AreTokens (all_tokens group_tokens gs)
 groups-tokens gs h = tokens-each group_tokens IsGroup group-tokens gs h
 
 pub title-tokens : AreTokens head_tokens
 title-tokens = (text-there (codes "mcproof") refl, (text-there (codes "1") refl, (tt, tt)))
 
 pub text-tokens : (gs : List GroupTree) → AreGroups gs → AreTokens (text_tokens gs)
-text-tokens gs h = tokens-append head_tokens (each group_tokens gs ++ end_tokens) title-tokens (tokens-append (each group_tokens gs) end_tokens (groups-tokens gs h) (text-there (codes "end") refl, (tt, tt)))
+text-tokens gs h = tokens-append head_tokens (all_tokens group_tokens gs ++ end_tokens) title-tokens (tokens-append (all_tokens group_tokens gs) end_tokens (groups-tokens gs h) (text-there (codes "end") refl, (tt, tt)))
 
 -- ---- how many Needs
 
@@ -131,20 +130,20 @@ mutual
   arms-few (Arm b bs) = omega (arith, body-few b, arms-few bs, length-append (line (codes "arm") []) (body_tokens b ++ arm_tokens bs), length-append (body_tokens b) (arm_tokens bs))
 
 def-few : (d : DefTree) → needs d.body ≤ length (def_tokens d)
-def-few d = omega (arith, body-few d.body, length-append (line (codes "def") (address d.entry ∷ each exit_tokens d.exits ∷ [])) (body_tokens d.body))
+def-few d = omega (arith, body-few d.body, length-append (line (codes "def") (address d.entry ∷ all_tokens exit_tokens d.exits ∷ [])) (body_tokens d.body))
 
-in-each : (ds : List DefTree) (i : ℕ) (d : DefTree) → slice_get ds i ≡ Some d → length (def_tokens d) ≤ length (each def_tokens ds)
+in-each : (ds : List DefTree) (i : ℕ) (d : DefTree) → slice_get ds i ≡ Some d → length (def_tokens d) ≤ length (all_tokens def_tokens ds)
 in-each [] i d e = absurd cc
-in-each (x ∷ ds) zero d e = let same : x ≡ d = cc in let len : length (def_tokens x) ≡ length (def_tokens d) = ap (λ (y : DefTree). length (def_tokens y)) same in omega (arith, len, length-append (def_tokens x) (each def_tokens ds))
-in-each (x ∷ ds) (suc i) d e = omega (arith, in-each ds i d e, length-append (def_tokens x) (each def_tokens ds))
+in-each (x ∷ ds) zero d e = let same : x ≡ d = cc in let len : length (def_tokens x) ≡ length (def_tokens d) = ap (λ (y : DefTree). length (def_tokens y)) same in omega (arith, len, length-append (def_tokens x) (all_tokens def_tokens ds))
+in-each (x ∷ ds) (suc i) d e = omega (arith, in-each ds i d e, length-append (def_tokens x) (all_tokens def_tokens ds))
 
-group-long : (g : GroupTree) → length (each def_tokens g.defs) ≤ length (group_tokens g)
+group-long : (g : GroupTree) → length (all_tokens def_tokens g.defs) ≤ length (group_tokens g)
 group-long g =
     let name : List Tok = line (codes "group") ((Atom g.name ∷ []) ∷ []) in
-    let regs : List Tok = line (codes "regs") (each number g.regs ∷ []) in
+    let regs : List Tok = line (codes "regs") (all_tokens number g.regs ∷ []) in
     let mems : List Tok = line (codes "mems") (number g.mems ∷ []) in
-    let code : List Tok = line (codes "code") (each range_tokens g.code ∷ []) in
-    let defs : List Tok = each def_tokens g.defs in
+    let code : List Tok = line (codes "code") (all_tokens range_tokens g.code ∷ []) in
+    let defs : List Tok = all_tokens def_tokens g.defs in
     omega (arith, length-append name (regs ++ (mems ++ (code ++ defs))), length-append regs (mems ++ (code ++ defs)), length-append mems (code ++ defs), length-append code defs)
 
 pub few-needs : (g : GroupTree) → length (group_tokens g) < 2 ^ 64 → HasFewNeeds g
@@ -152,16 +151,16 @@ few-needs g lt i d e = omega (arith, lt, group-long g, in-each g.defs i d e, def
 
 -- ---- each token has a byte
 
-some-bytes : (m : Before) (t : Tok) → IsToken t → 1 ≤ length (gap m t ++ bytes_of t)
-some-bytes m Left h = omega (arith, length-append (gap m Left) (bytes_of Left))
-some-bytes m Right h = omega (arith, length-append (gap m Right) (bytes_of Right))
-some-bytes m Semi h = omega (arith, length-append (gap m Semi) (bytes_of Semi))
+some-bytes : (m : Before) (t : Tok) → IsToken t → 1 ≤ length (gap m t ++ token_bytes t)
+some-bytes m Left h = omega (arith, length-append (gap m Left) (token_bytes Left))
+some-bytes m Right h = omega (arith, length-append (gap m Right) (token_bytes Right))
+some-bytes m Semi h = omega (arith, length-append (gap m Semi) (token_bytes Semi))
 some-bytes m (Atom []) h = absurd h
 some-bytes m (Atom (b ∷ a)) h = omega (arith, length-append (gap m (Atom (b ∷ a))) (b ∷ a))
-some-bytes m Eol h = omega (arith, length-append (gap m Eol) (bytes_of Eol))
+some-bytes m Eol h = omega (arith, length-append (gap m Eol) (token_bytes Eol))
 some-bytes m Done h = absurd h
 some-bytes m Stuck h = absurd h
 
 pub spell-long : (m : Before) (ts : List Tok) → AreTokens ts → length ts ≤ length (spell m ts)
 spell-long m [] h = omega arith
-spell-long m (t ∷ ts) h = omega (arith, some-bytes m t h.0, spell-long (after t) ts h.1, length-append (gap m t ++ bytes_of t) (spell (after t) ts))
+spell-long m (t ∷ ts) h = omega (arith, some-bytes m t h.0, spell-long (before_next t) ts h.1, length-append (gap m t ++ token_bytes t) (spell (before_next t) ts))

@@ -2,9 +2,9 @@
 use Rattle.std.proofs.Common.{◌≡◌, ℕ, zero, suc, ◌<◌, ◌≤◌, true, false, List, [], ◌∷◌, ◌++◌, length, codes, refl, sym, ap, subst, ◌∙◌, arith, append_assoc, inl, inr, ◌⊎◌}
 use Rattle.std.specs.List.{AllByRecursion}
 use Rattle.mc_text.specs.Number.{IsWord as IsNumber, hex}
-use Rattle.mc_text.specs.Tokens.{Tok, Atom, Eol}
-use Rattle.mc_text.specs.Reading.{Reader, pair, made, one, atom_of, goes_on, eol, word, keyed, refused, each}
-use Rattle.mc_text.proofs.Laws.{IsElse, Reads-pair}
+use Rattle.mc_text.specs.Tokens.{Tok, Atom, Eol, all_tokens}
+use Rattle.mc_text.specs.Reading.{Reader, pair, made, one, atom_of, goes_on, eol, word, keyed, refused}
+use Rattle.mc_text.proofs.ReaderLaws.{IsElse, Reads-pair}
 use Rattle.mc_text.proofs.Star.{Shrinks}
 use Rattle.mc_text.proofs.Shown.{Always}
 use Rattle.mc_text.proofs.Covers.{Covers, Part, row-covers, covers-with, covers-made, covers-part, part-refused, part-keyed, Never}
@@ -30,12 +30,12 @@ abbrev RowFits : Unit {0} × (ℕ × (List Exit × Unit {0})) → Type 0
 RowFits p = Always p.0 × (IsNumber p.1.0 × (AreExits p.1.1.0 × Always p.1.1.1))
 
 abbrev row_tokens : Unit {0} × (ℕ × (List Exit × Unit {0})) → List Tok
-row_tokens p = Atom (codes "def") ∷ (address p.1.0 ++ (each exit_tokens p.1.1.0 ++ Eol ∷ []))
+row_tokens p = Atom (codes "def") ∷ (address p.1.0 ++ (all_tokens exit_tokens p.1.1.0 ++ Eol ∷ []))
 
 row-cover : Covers (pair (word (codes "def")) def_row) RowFits row_tokens
 row-cover = row-covers (pair (word (codes "def")) def_row) RowFits row_tokens
     (Reads-pair (word (codes "def")) Always (λ _. Atom (codes "def") ∷ []) (name-law (codes "def")) (λ x h. atom-flat (codes "def")) def_row _ _ def-row-law)
-    (λ p h. ends-eol (Atom (hex p.1.0)) (each exit_tokens p.1.1.0)) (tt, (0, ([], tt))) (tt, (omega arith, ((tt, (omega arith, omega arith)), tt)))
+    (λ p h. ends-eol (Atom (hex p.1.0)) (all_tokens exit_tokens p.1.1.0)) (tt, (0, ([], tt))) (tt, (omega arith, ((tt, (omega arith, omega arith)), tt)))
 
 abbrev PartsFit : DefParts → Type 0
 PartsFit p = RowFits p.0 × Within nesting_limit p.1
@@ -65,7 +65,7 @@ pub record HeadFits (h : Head) : Type 0 where
 
 -- the lines of a head, behind the first word
 abbrev pub lines_of_head : Head → List Tok
-lines_of_head h = (Atom h.name ∷ Eol ∷ []) ++ (line (codes "regs") (each number h.regs ∷ []) ++ (line (codes "mems") (number h.mems ∷ []) ++ line (codes "code") (each range_tokens h.code ∷ [])))
+lines_of_head h = (Atom h.name ∷ Eol ∷ []) ++ (line (codes "regs") (all_tokens number h.regs ∷ []) ++ (line (codes "mems") (number h.mems ∷ []) ++ line (codes "code") (all_tokens range_tokens h.code ∷ [])))
 
 abbrev Regs : Type 0
 Regs = Unit {0} × (List ℕ × Unit {0})
@@ -98,26 +98,26 @@ abbrev name_tokens : List ℕ × Unit {0} → List Tok
 name_tokens p = (Atom p.0 ∷ []) ++ Eol ∷ []
 
 abbrev regs_tokens : Regs → List Tok
-regs_tokens p = line (codes "regs") (each number p.1.0 ∷ [])
+regs_tokens p = line (codes "regs") (all_tokens number p.1.0 ∷ [])
 
 abbrev mems_tokens : Mems → List Tok
 mems_tokens p = line (codes "mems") (number p.1.0 ∷ [])
 
 abbrev code_tokens : CodeRow → List Tok
-code_tokens p = line (codes "code") (each range_tokens p.1.0 ∷ [])
+code_tokens p = line (codes "code") (all_tokens range_tokens p.1.0 ∷ [])
 
 name-cover : Covers (pair (one (atom_of name_of)) eol) NameFits name_tokens
 name-cover = row-covers (pair (one (atom_of name_of)) eol) NameFits name_tokens (row-law (one (atom_of name_of)) IsName (λ a. Atom a ∷ []) group-name-law (λ a h. atom-flat a)) (λ p h. refl)
     (codes "f", tt) (((refl, tt), omega arith), tt)
 
 regs-cover : Covers regs_row RegsFit regs_tokens
-regs-cover = row-covers regs_row RegsFit regs_tokens regs-law (λ p h. ends-eol (Atom (codes "regs")) (each number p.1.0)) (tt, ([], tt)) (tt, (tt, tt))
+regs-cover = row-covers regs_row RegsFit regs_tokens regs-law (λ p h. ends-eol (Atom (codes "regs")) (all_tokens number p.1.0)) (tt, ([], tt)) (tt, (tt, tt))
 
 mems-cover : Covers mems_row MemsFit mems_tokens
 mems-cover = row-covers mems_row MemsFit mems_tokens mems-law (λ p h. refl) (tt, (0, tt)) (tt, (omega arith, tt))
 
 code-cover : Covers code_row CodeFits code_tokens
-code-cover = row-covers code_row CodeFits code_tokens code-law (λ p h. ends-eol (Atom (codes "code")) (each range_tokens p.1.0)) (tt, ([], tt)) (tt, ((tt, tt), tt))
+code-cover = row-covers code_row CodeFits code_tokens code-law (λ p h. ends-eol (Atom (codes "code")) (all_tokens range_tokens p.1.0)) (tt, ([], tt)) (tt, ((tt, tt), tt))
 
 head-parts : Covers (pair (pair (one (atom_of name_of)) eol) (pair regs_row (pair mems_row code_row))) HeadPartsFit (λ p. name_tokens p.0 ++ (regs_tokens p.1.0 ++ (mems_tokens p.1.1.0 ++ code_tokens p.1.1.1)))
 head-parts =
@@ -148,27 +148,27 @@ head-fits g h = record { name = h.name; registers = h.registers; memories = h.me
 -- ---- groups, one after the other, and the end
 
 abbrev pub rest_tokens : List GroupTree → List Tok
-rest_tokens gs = each group_tokens gs ++ end_tokens
+rest_tokens gs = all_tokens group_tokens gs ++ end_tokens
 
 -- a group's tokens behind the first word
 abbrev pub group_row : GroupTree → List Tok
 group_row g =
-    (Atom g.name ∷ Eol ∷ []) ++ (line (codes "regs") (each number g.regs ∷ []) ++ (line (codes "mems") (number g.mems ∷ []) ++ (line (codes "code") (each range_tokens g.code ∷ []) ++ each def_tokens g.defs)))
+    (Atom g.name ∷ Eol ∷ []) ++ (line (codes "regs") (all_tokens number g.regs ∷ []) ++ (line (codes "mems") (number g.mems ∷ []) ++ (line (codes "code") (all_tokens range_tokens g.code ∷ []) ++ all_tokens def_tokens g.defs)))
 
-pub group-split : (h : Head) (ds : List DefTree) → group_row (group_of h ds) ≡ lines_of_head h ++ each def_tokens ds
+pub group-split : (h : Head) (ds : List DefTree) → group_row (group_of h ds) ≡ lines_of_head h ++ all_tokens def_tokens ds
 group-split h ds =
     let name : List Tok = Atom h.name ∷ Eol ∷ [] in
-    let regs : List Tok = line (codes "regs") (each number h.regs ∷ []) in
+    let regs : List Tok = line (codes "regs") (all_tokens number h.regs ∷ []) in
     let mems : List Tok = line (codes "mems") (number h.mems ∷ []) in
-    let code : List Tok = line (codes "code") (each range_tokens h.code ∷ []) in
-    let defs : List Tok = each def_tokens ds in
+    let code : List Tok = line (codes "code") (all_tokens range_tokens h.code ∷ []) in
+    let defs : List Tok = all_tokens def_tokens ds in
     let one : (mems ++ code) ++ defs ≡ mems ++ (code ++ defs) = append_assoc mems code defs in
     let two : (regs ++ (mems ++ code)) ++ defs ≡ regs ++ (mems ++ (code ++ defs)) = append_assoc regs (mems ++ code) defs ∙ ap (λ (v : List Tok). regs ++ v) one in
     sym (append_assoc name (regs ++ (mems ++ code)) defs ∙ ap (λ (v : List Tok). name ++ v) two)
 
 abbrev rest_row : List GroupTree → List Tok
 rest_row [] = Eol ∷ []
-rest_row (g ∷ gs) = (group_row g ++ each group_tokens gs) ++ end_tokens
+rest_row (g ∷ gs) = (group_row g ++ all_tokens group_tokens gs) ++ end_tokens
 
 abbrev AtMost : ℕ → List GroupTree → Type 0
 AtMost n gs = AreGroups gs × (length gs ≤ n)
@@ -202,7 +202,7 @@ abbrev GroupPartsFit : ℕ → Parts → Type 0
 GroupPartsFit n x = HeadFits x.0 × (IsDef x.1.0 × ((AllByRecursion IsDef x.1.1.0 × (length x.1.1.0 ≤ more_defs)) × AtMost n x.1.1.1))
 
 abbrev parts_tokens : Parts → List Tok
-parts_tokens x = lines_of_head x.0 ++ (def_tokens x.1.0 ++ (each def_tokens x.1.1.0 ++ rest_tokens x.1.1.1))
+parts_tokens x = lines_of_head x.0 ++ (def_tokens x.1.0 ++ (all_tokens def_tokens x.1.1.0 ++ rest_tokens x.1.1.1))
 
 rest-quiet : (n : ℕ) (gs : List GroupTree) → AtMost n gs → (us : List Tok) → goes_on is_def (rest_tokens gs ++ us) ≡ false
 rest-quiet n [] h us = refl
@@ -212,8 +212,8 @@ parts-same : (x : Parts) → rest_row (make x) ≡ parts_tokens x
 parts-same x =
     let head : List Tok = lines_of_head x.0 in
     let def : List Tok = def_tokens x.1.0 in
-    let defs : List Tok = each def_tokens x.1.1.0 in
-    let groups : List Tok = each group_tokens x.1.1.1 in
+    let defs : List Tok = all_tokens def_tokens x.1.1.0 in
+    let groups : List Tok = all_tokens group_tokens x.1.1.1 in
     append_assoc (group_row (group_of x.0 (x.1.0 ∷ x.1.1.0))) groups end_tokens
     ∙ ap (λ (v : List Tok). v ++ (groups ++ end_tokens)) (group-split x.0 (x.1.0 ∷ x.1.1.0))
     ∙ append_assoc head (def ++ defs) (groups ++ end_tokens)
@@ -241,8 +241,8 @@ group_reader n = made make (pair head_at (pair def_at (pair defs_at (groups_at n
 
 group-parts : (n : ℕ) → Covers (groups_at n) (AtMost n) rest_tokens → Covers (pair head_at (pair def_at (pair defs_at (groups_at n)))) (GroupPartsFit n) parts_tokens
 group-parts n inner =
-    covers-with head_at HeadFits lines_of_head head-cover (λ _. pair def_at (pair defs_at (groups_at n))) (λ _ p. IsDef p.0 × ((AllByRecursion IsDef p.1.0 × (length p.1.0 ≤ more_defs)) × AtMost n p.1.1)) (λ _ p. def_tokens p.0 ++ (each def_tokens p.1.0 ++ rest_tokens p.1.1)) (λ _ _.
-    covers-with def_at IsDef def_tokens def-cover (λ _. pair defs_at (groups_at n)) (λ _ p. (AllByRecursion IsDef p.0 × (length p.0 ≤ more_defs)) × AtMost n p.1) (λ _ p. each def_tokens p.0 ++ rest_tokens p.1) (λ _ _.
+    covers-with head_at HeadFits lines_of_head head-cover (λ _. pair def_at (pair defs_at (groups_at n))) (λ _ p. IsDef p.0 × ((AllByRecursion IsDef p.1.0 × (length p.1.0 ≤ more_defs)) × AtMost n p.1.1)) (λ _ p. def_tokens p.0 ++ (all_tokens def_tokens p.1.0 ++ rest_tokens p.1.1)) (λ _ _.
+    covers-with def_at IsDef def_tokens def-cover (λ _. pair defs_at (groups_at n)) (λ _ p. (AllByRecursion IsDef p.0 × (length p.0 ≤ more_defs)) × AtMost n p.1) (λ _ p. all_tokens def_tokens p.0 ++ rest_tokens p.1) (λ _ _.
     covers-bounded is_def def_at IsDef def_tokens def-cover def-begins (groups_at n) (AtMost n) rest_tokens inner (rest-quiet n) more_defs))
 
 group-cover : (n : ℕ) → Covers (groups_at n) (AtMost n) rest_tokens → Covers (group_reader n) (IsSome n) rest_row

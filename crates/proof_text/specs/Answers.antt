@@ -1,11 +1,8 @@
 -- What a call of a reader answers.
-use Rattle.std.specs.Prelude.{◌≡◌, ◌⊎◌, ℕ, false, List, [], ◌∷◌, ◌++◌, Option, Some, None, Result, Ok, Err}
-use Rattle.mc_text.specs.Tokens.{Tok, Done}
-use Rattle.mc_text.specs.Reading.{goes_on}
+use Rattle.std.specs.Prelude.{◌≡◌, ℕ, List, [], ◌∷◌, ◌++◌, Option, Some, None, Result, Ok, Err}
 use Rattle.tailrec_lang.specs.declared.group.Group.{Group}
 use Rattle.tailrec_lang.specs.Tree.{GroupTree}
-use Rattle.proof_text.specs.Front.{Progress, HasGiven}
-use Rattle.proof_text.specs.Reading.{is_done}
+use Rattle.proof_text.specs.FirstGroups.{Progress, HasGiven}
 use Rattle.proof_text.specs.declared.reader.TextFault.{TextFault}
 use Rattle.proof_text.specs.declared.reader.TextFault.TheVariants.{Bad, NoMemory}
 
@@ -27,10 +24,6 @@ OnBad (Ok o) P = Unit {0}
 OnBad (Err (Bad n)) P = P n
 OnBad (Err NoMemory) P = Unit {0}
 
--- no group comes behind those that were given
+-- no group comes after those that were given
 abbrev pub NoGroup : Progress → Type 0
 NoGroup r = (gs : List GroupTree) → HasGiven gs r → (g : GroupTree) (new : Progress) → new.text ≡ r.text → HasGiven (gs ++ g ∷ []) new → ⊥
-
--- something follows: a token, or bytes that are no line
-abbrev pub GoesOn : List Tok → List ℕ → Type 0
-GoesOn ts tail = (goes_on is_done ts ≡ false) ⊎ ((ts ≡ Done ∷ []) × (tail ≡ [] → ⊥))

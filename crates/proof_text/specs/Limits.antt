@@ -8,7 +8,8 @@ use Rattle.term_text.specs.Limits.{IsWord, IsMem, IsCond}
 use Rattle.tailrec_lang.specs.Tree.{ValuesTree, StepTree, Bind, BindMem, Need, BodyTree, Do, Branch, Call, Again, Leave, ArmTrees, NoArm, Arm, DefTree, GroupTree}
 use Rattle.tailrec_lang.specs.declared.group.Exit.{Exit}
 use Rattle.tailrec_lang.specs.declared.group.Exit.TheVariants.{At, Ret}
-use Rattle.proof_text.specs.Spelling.{arm_count, text_of}
+use Rattle.proof_text.specs.Version.{Version, version_1}
+use Rattle.proof_text.specs.Spelling.{arm_count, text_in}
 
 abbrev pub IsValues : ValuesTree → Type 0
 IsValues v = AllByRecursion IsWord v.words × AllByRecursion IsMem v.mems
@@ -69,32 +70,50 @@ pub record IsDef (d : DefTree) : Type 0 where
   pub body : IsBody d.body
   pub nested : nesting d.body ≤ nesting_limit
 
--- a name: 1 to 4,096 bytes from 0x21 to 0x7e, none of them ( ) ;
-abbrev pub IsName : List ℕ → Type 0
-IsName name = IsAtom name × (length name ≤ 4096)
+-- the most bytes of a name
+abbrev pub name_limit : ℕ
+name_limit = 4096
 
--- registers from `least` on, up to 31, rising
+-- a name: at least one byte from 0x21 to 0x7e, none of them ( ) ;
+abbrev pub IsName : List ℕ → Type 0
+IsName name = IsAtom name × (length name ≤ name_limit)
+
+abbrev pub last_register : ℕ
+last_register = 31
+
+-- registers from `least` on, rising
 abbrev pub AreRegistersFrom : ℕ → List ℕ → Type 0
 AreRegistersFrom least [] = Unit {0}
-AreRegistersFrom least (r ∷ rs) = (least ≤ r) × (r ≤ 31) × AreRegistersFrom (r + 1) rs
+AreRegistersFrom least (r ∷ rs) = (least ≤ r) × (r ≤ last_register) × AreRegistersFrom (r + 1) rs
 
 -- the most definitions of a group
 abbrev pub def_limit : ℕ
 def_limit = 4096
 
-pub record IsGroup (g : GroupTree) : Type 0 where
+pub record IsGroupIn (v : Version) (g : GroupTree) : Type 0 where
   pub name : IsName g.name
   pub registers : AreRegistersFrom 1 g.regs
-  pub memories : g.mems ≤ 1
+  pub memories : g.mems ≤ v.most_mems
   pub code : AreRanges g.code
   pub bytes : AllByRecursion (λ r. AllByRecursion (λ b. b < 256) r.bytes) g.code
   pub defs : AllByRecursion IsDef g.defs
   pub some : 1 ≤ length g.defs
   pub few : length g.defs ≤ def_limit
 
+abbrev pub AreGroupsIn : Version → List GroupTree → Type 0
+AreGroupsIn v gs = AllByRecursion (IsGroupIn v) gs
+
+-- the texts of lists of groups in that version
+abbrev pub texts_in : Version → Grammar (List GroupTree)
+texts_in v = record { Has = AreGroupsIn v; text = text_in v }
+
+-- ---- the version that is read
+
+abbrev pub IsGroup : GroupTree → Type 0
+IsGroup g = IsGroupIn version_1 g
+
 abbrev pub AreGroups : List GroupTree → Type 0
 AreGroups gs = AllByRecursion IsGroup gs
 
--- the texts of lists of groups
-abbrev pub texts : Grammar (List GroupTree)
-texts = record { Has = AreGroups; text = text_of }
+abbrev pub proof_texts : Grammar (List GroupTree)
+proof_texts = texts_in version_1

@@ -3,14 +3,15 @@ use Rattle.std.specs.Prelude.{ℕ, zero, suc, ◌+◌, ◌-◌, ◌^◌, Bool, t
 use Rattle.std.specs.Str.{bytes_eq}
 use Rattle.mc_text.specs.Number.{hex_of}
 use Rattle.mc_text.specs.Tokens.{Tok, Atom, Done, is_atom_byte}
-use Rattle.mc_text.specs.Reading.{Reader, pair, with, made, one, is_semi, atom_of, many, star, times, eol, word, keyed, refused, checked, unless}
+use Rattle.mc_text.specs.Reading.{Reader, pair, with, made, one, is_semi, atom_of, many, star, times, eol, word, keyed, refused, checked, unless, number_at, address_at, is_open}
 use Rattle.rv_words.specs.declared.range.Range.{Range}
 use Rattle.term_text.specs.Limits.{depth_limit}
-use Rattle.term_text.specs.Reading.{number_at, address_at, word_at, mem_at, cond_at, range_at, begins_word, begins_mem, is_open}
+use Rattle.term_text.specs.Reading.{word_at, mem_at, cond_at, range_at, begins_word, begins_mem}
 use Rattle.tailrec_lang.specs.Tree.{ValuesTree, StepTree, Bind, BindMem, Need, BodyTree, Branch, Call, Again, Leave, DefTree, GroupTree, with_steps, arms_of}
 use Rattle.tailrec_lang.specs.declared.group.Exit.{Exit}
 use Rattle.tailrec_lang.specs.declared.group.Exit.TheVariants.{At, Ret}
-use Rattle.proof_text.specs.Limits.{exit_limit, nesting_limit, def_limit, returns}
+use Rattle.proof_text.specs.Version.{version_1}
+use Rattle.proof_text.specs.Limits.{exit_limit, nesting_limit, def_limit, name_limit, last_register, returns}
 
 -- a line that is one word
 abbrev pub mark_row : List ℕ → Reader (Unit {0} × Unit {0})
@@ -98,7 +99,7 @@ are_atom_bytes [] = true
 are_atom_bytes (b ∷ bs) = is_atom_byte b && are_atom_bytes bs
 
 abbrev pub is_name : List ℕ → Bool
-is_name a = nat_le 1 (length a) && nat_le (length a) 4096 && are_atom_bytes a
+is_name a = nat_le 1 (length a) && nat_le (length a) name_limit && are_atom_bytes a
 
 unfoldable pub name_of : List ℕ → Option (List ℕ)
 name_of a = if is_name a then Some a else None
@@ -106,7 +107,7 @@ name_of a = if is_name a then Some a else None
 -- registers from `least` on, up to 31, rising
 abbrev pub registers_rise : ℕ → List ℕ → Bool
 registers_rise least [] = true
-registers_rise least (r ∷ rs) = nat_le least r && nat_le r 31 && registers_rise (r + 1) rs
+registers_rise least (r ∷ rs) = nat_le least r && nat_le r last_register && registers_rise (r + 1) rs
 
 -- ranges from `least` on, each above the end of the one before, and not past 2 ^ 64
 abbrev pub ranges_rise : ℕ → List Range → Bool
@@ -124,12 +125,12 @@ unfoldable pub regs_row : Reader (Unit {0} × (List ℕ × Unit {0}))
 regs_row = pair (word (codes "regs")) (pair (checked (registers_rise 1) (star has_atom (number_at 32))) eol)
 
 unfoldable pub mems_row : Reader (Unit {0} × (ℕ × Unit {0}))
-mems_row = pair (word (codes "mems")) (pair (number_at 2) eol)
+mems_row = pair (word (codes "mems")) (pair (number_at (version_1.most_mems + 1)) eol)
 
 unfoldable pub code_row : Reader (Unit {0} × (List Range × Unit {0}))
 code_row = pair (word (codes "code")) (pair (checked (ranges_rise 0) (star is_open range_at)) eol)
 
--- the head, behind its first word
+-- the head, after its first word
 unfoldable pub head_at : Reader Head
 head_at =
     made (λ x. record { name = x.0.0; regs = x.1.0.1.0; mems = x.1.1.0.1.0; code = x.1.1.1.1.0 })
@@ -154,7 +155,7 @@ are_some defs = nat_le 1 (length defs)
 abbrev pub own_defs : Reader (List DefTree)
 own_defs = checked are_some (unless is_def (many def_limit is_def def_at))
 
--- one group, behind its first word
+-- one group, after its first word
 unfoldable pub group_at : Reader GroupTree
 group_at = made (λ x. group_of x.0 x.1) (pair head_at own_defs)
 
@@ -163,7 +164,7 @@ unfoldable pub next_at : Reader (Option GroupTree)
 next_at = keyed (codes "end") (made (λ _. None) eol) (keyed (codes "group") (made Some group_at) refused)
 
 abbrev pub title_row : Reader (Unit {0} × (Unit {0} × Unit {0}))
-title_row = pair (word (codes "mcproof")) (pair (word (codes "1")) eol)
+title_row = pair (word (codes "mcproof")) (pair (word version_1.title) eol)
 
 -- at most so many groups, and the end of the text
 unfoldable pub groups_at : ℕ → Reader (List GroupTree)

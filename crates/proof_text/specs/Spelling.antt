@@ -1,6 +1,6 @@
 -- How groups of definitions are written: the tokens of each form, a line a rule.
 --
---   TEXT   = mcproof 1 eol GROUP* end eol
+--   TEXT   = mcproof V eol GROUP* end eol
 --   GROUP  = group NAME eol regs REG* eol mems D eol code RANGE* eol DEF+
 --   DEF    = def N EXIT* eol BODY                the entry, the exits
 --   EXIT   = N | ret
@@ -13,19 +13,20 @@
 --   ARM    = arm eol BODY
 --   VALUES = W* ; M*
 --
--- D and REG are decimals, N is a hexadecimal number, eol the end of a line; W, M, C and RANGE are those of terms.
+-- V is the number of the version, D and REG are decimals, N is a hexadecimal number, eol the end of a line; W, M, C and
+-- RANGE are those of terms.
 use Rattle.std.specs.Prelude.{ℕ, suc, List, [], ◌∷◌, ◌++◌, codes}
 use Rattle.std.specs.Fmt.{decimal}
 use Rattle.mc_text.specs.Number.{hex}
-use Rattle.mc_text.specs.Reading.{each}
-use Rattle.mc_text.specs.Tokens.{Tok, Semi, Atom, Eol, spell}
+use Rattle.mc_text.specs.Tokens.{Tok, Semi, Atom, Eol, spell, all_tokens}
 use Rattle.mc_text.specs.declared.token.Before.TheVariants.{Start}
 use Rattle.term_text.specs.Spelling.{joined, word_tokens, mem_tokens, cond_tokens, range_tokens}
 use Rattle.tailrec_lang.specs.Tree.{ValuesTree, StepTree, Bind, BindMem, Need, BodyTree, Do, Branch, Call, Again, Leave, ArmTrees, NoArm, Arm, DefTree, GroupTree}
+use Rattle.proof_text.specs.Version.{Version, version_1}
 use Rattle.tailrec_lang.specs.declared.group.Exit.{Exit}
 use Rattle.tailrec_lang.specs.declared.group.Exit.TheVariants.{At, Ret}
 
--- a line: a word, and the parts behind it
+-- a line: a word, and the parts after it
 abbrev pub line : List ℕ → List (List Tok) → List Tok
 line word parts = Atom word ∷ joined parts (Eol ∷ [])
 
@@ -40,7 +41,7 @@ exit_tokens (At a) = address a
 exit_tokens Ret = Atom (codes "ret") ∷ []
 
 abbrev pub values_tokens : ValuesTree → List Tok
-values_tokens v = each word_tokens v.words ++ (Semi ∷ each mem_tokens v.mems)
+values_tokens v = all_tokens word_tokens v.words ++ (Semi ∷ all_tokens mem_tokens v.mems)
 
 abbrev pub step_tokens : StepTree → List Tok
 step_tokens (Bind t) = line (codes "let") (word_tokens t ∷ [])
@@ -64,25 +65,37 @@ abbrev mutual
   arm_tokens (Arm b bs) = line (codes "arm") [] ++ (body_tokens b ++ arm_tokens bs)
 
 abbrev pub def_tokens : DefTree → List Tok
-def_tokens d = line (codes "def") (address d.entry ∷ each exit_tokens d.exits ∷ []) ++ body_tokens d.body
+def_tokens d = line (codes "def") (address d.entry ∷ all_tokens exit_tokens d.exits ∷ []) ++ body_tokens d.body
 
 abbrev pub group_tokens : GroupTree → List Tok
 group_tokens g =
     line (codes "group") ((Atom g.name ∷ []) ∷ []) ++
-    (line (codes "regs") (each number g.regs ∷ []) ++
+    (line (codes "regs") (all_tokens number g.regs ∷ []) ++
     (line (codes "mems") (number g.mems ∷ []) ++
-    (line (codes "code") (each range_tokens g.code ∷ []) ++
-    each def_tokens g.defs)))
-
-abbrev pub head_tokens : List Tok
-head_tokens = line (codes "mcproof") ((Atom (codes "1") ∷ []) ∷ [])
+    (line (codes "code") (all_tokens range_tokens g.code ∷ []) ++
+    all_tokens def_tokens g.defs)))
 
 abbrev pub end_tokens : List Tok
 end_tokens = line (codes "end") []
 
-abbrev pub text_tokens : List GroupTree → List Tok
-text_tokens gs = head_tokens ++ (each group_tokens gs ++ end_tokens)
+-- the first line of a text of that version
+abbrev pub title_tokens : Version → List Tok
+title_tokens v = line (codes "mcproof") ((Atom v.title ∷ []) ∷ [])
 
--- the text of a list of groups
+abbrev pub tokens_in : Version → List GroupTree → List Tok
+tokens_in v gs = title_tokens v ++ (all_tokens group_tokens gs ++ end_tokens)
+
+-- the text of a list of groups in that version
+abbrev pub text_in : Version → List GroupTree → List ℕ
+text_in v gs = spell Start (tokens_in v gs)
+
+-- ---- the version that is written
+
+abbrev pub head_tokens : List Tok
+head_tokens = title_tokens version_1
+
+abbrev pub text_tokens : List GroupTree → List Tok
+text_tokens gs = tokens_in version_1 gs
+
 abbrev pub text_of : List GroupTree → List ℕ
-text_of gs = spell Start (text_tokens gs)
+text_of gs = text_in version_1 gs

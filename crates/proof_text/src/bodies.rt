@@ -1,19 +1,17 @@
 //! Reading bodies, by the nesting that is left.
 
 ghost use Rattle.std.specs.Prelude.{◌≡◌, ◌^◌, IfOk, ◌<◌, map};
-ghost use Rattle.mc_text.specs.Reading.{times};
-ghost use Rattle.term_text.specs.Outcome.{Gives, last_line};
-ghost use Rattle.term_text.specs.Reading.{number_at};
+ghost use Rattle.mc_text.specs.Reading.{times, number_at};
+ghost use Rattle.mc_text.specs.Outcome.{Gives, last_line};
 ghost use Rattle.tailrec_lang.specs.Tree.{body_tree, end_tree, values_tree};
 ghost use Rattle.proof_text.specs.Reading.{arm_at, arm_bound, body_at, branch_at, call_at, call_row, end_at, leave_at};
 
 use crate::rows::{cond_row, read_mark, read_steps, read_values};
-use mc_text::{Scan, Token};
+use mc_text::{Scan, Stop, Token};
 use rv_words::List;
 use std::alloc::Global;
 use tailrec_lang::{Body, End, Values};
-use term_text::Stop;
-use term_text::cursor::{number, peek};
+use mc_text::cursor::{number, peek};
 
 /// The number of a definition or an exit.
 fn read_index<'a>(scan: &mut Scan<'a>) -> Result<u32, Stop>
@@ -39,7 +37,7 @@ fn read_arm_count<'a>(scan: &mut Scan<'a>, room: u32) -> Result<u64, Stop>
     number(scan, arm_bound(room))
 }
 
-/// What stands behind the word of an exit.
+/// What stands after the word of an exit.
 #[tactic(auto, unfolding(crate::specs::Reading::leave_at))]
 fn read_leave<'a>(alloc: Global, scan: &mut Scan<'a>) -> Result<End, Stop>
     ensures gives { Gives end_tree result scan.old scan.new leave_at }
@@ -50,7 +48,7 @@ fn read_leave<'a>(alloc: Global, scan: &mut Scan<'a>) -> Result<End, Stop>
     Ok(End::Leave(exit, values))
 }
 
-/// What stands behind the word of a branch.
+/// What stands after the word of a branch.
 #[cycle(bodies)]
 #[tactic(auto, unfolding(crate::specs::Reading::branch_at))]
 fn read_branch<'a>(alloc: Global, scan: &mut Scan<'a>, room: u32) -> Result<End, Stop>
@@ -98,7 +96,7 @@ fn read_arms<'a>(
     Ok(arms)
 }
 
-/// What stands behind the word of a call in its line: the definition, how many arms, and the arguments.
+/// What stands after the word of a call in its line: the definition, how many arms, and the arguments.
 fn call_row<'a>(alloc: Global, scan: &mut Scan<'a>, room: u32) -> Result<(u32, u64, Values), Stop>
     ensures gives { Gives (λ row. (row.0, (row.1, values_tree row.2))) result scan.old scan.new (call_row (arm_bound room)) }
     ensures last { last_line scan.new ≡ last_line scan.old }
@@ -109,7 +107,7 @@ fn call_row<'a>(alloc: Global, scan: &mut Scan<'a>, room: u32) -> Result<(u32, u
     Ok((def, count, values))
 }
 
-/// What stands behind the word of a call.
+/// What stands after the word of a call.
 #[cycle(bodies)]
 #[tactic(auto, unfolding(crate::specs::Reading::call_at), using(tailrec_lang::proofs::Views::view_call))]
 fn read_call<'a>(alloc: Global, scan: &mut Scan<'a>, room: u32) -> Result<End, Stop>

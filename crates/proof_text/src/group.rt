@@ -3,18 +3,17 @@
 ghost use Rattle.std.specs.Prelude.{◌≡◌, map, option_map};
 ghost use Rattle.mc_text.specs.Reading.{goes_on};
 ghost use Rattle.mc_text.specs.Scanning.{tokens_at};
-ghost use Rattle.term_text.specs.Outcome.{Gives, last_line};
+ghost use Rattle.mc_text.specs.Outcome.{Gives, last_line};
 ghost use Rattle.tailrec_lang.specs.Tree.{def_tree, group_tree};
 ghost use Rattle.proof_text.specs.Reading.{group_at, is_def, next_at, own_defs, title_row, turn_at};
 
 use crate::heads::{Head, read_def, read_head};
 use crate::rows::read_mark;
-use mc_text::{Scan, Token};
+use mc_text::{Scan, Stop, Token};
 use rv_words::List;
 use std::alloc::Global;
 use tailrec_lang::{Def, Group};
-use term_text::Stop;
-use term_text::cursor::{eol, keyword, peek};
+use mc_text::cursor::{eol, keyword, peek};
 
 /// The most definitions of a group.
 const MOST_DEFS: usize = 4096;
@@ -50,7 +49,7 @@ fn read_defs<'a>(alloc: Global, scan: &mut Scan<'a>) -> Result<List<Def>, Stop>
     Ok(defs)
 }
 
-/// A group, behind its first word.
+/// A group, after its first word.
 #[tactic(auto, unfolding(crate::specs::Reading::group_at))]
 fn read_group<'a>(alloc: Global, scan: &mut Scan<'a>) -> Result<Group, Stop>
     ensures gives { Gives group_tree result scan.old scan.new group_at }
@@ -105,7 +104,7 @@ fn read_title<'a>(scan: &mut Scan<'a>) -> Result<(), Stop>
     Ok(())
 }
 
-/// The next group, or the line that ends the text, behind the title where the text begins here.
+/// The next group, or the line that ends the text, after the title where the text begins here.
 pub fn read_turn<'a>(alloc: Global, scan: &mut Scan<'a>, first: bool) -> Result<Option<Group>, Stop>
     ensures gives { Gives (λ found. option_map group_tree found) result scan.old scan.new (turn_at first) }
     ensures last { last_line scan.new ≡ last_line scan.old }

@@ -1,22 +1,21 @@
 //! Reading definitions, and the lines before them.
 
 ghost use Rattle.std.specs.Prelude.{◌≡◌, ◌<◌, ◌^◌, IfOk, map};
-ghost use Rattle.mc_text.specs.Reading.{atom_of, goes_on, one, star};
+ghost use Rattle.mc_text.specs.Reading.{atom_of, goes_on, one, star, number_at};
 ghost use Rattle.mc_text.specs.Scanning.{tokens_at};
-ghost use Rattle.term_text.specs.Outcome.{Gives, last_line};
-ghost use Rattle.term_text.specs.Reading.{number_at};
+ghost use Rattle.mc_text.specs.Outcome.{Gives, last_line};
 ghost use Rattle.tailrec_lang.specs.Tree.{def_tree};
 ghost use Rattle.proof_text.specs.Limits.{returns};
 ghost use Rattle.proof_text.specs.Heads.{head_of};
 ghost use Rattle.proof_text.specs.Reading.{are_atom_bytes, are_few_exits, code_row, def_at, def_row, exit_of, has_atom, head_at, is_name, mems_row, name_of, ranges_rise, registers_rise, regs_row};
 
 use crate::bodies::read_body;
-use mc_text::{Scan, Token, hexnum, is_atom_byte};
+use mc_text::{Scan, Stop, Token, hexnum, is_atom_byte};
 use rv_words::{List, Range, Text};
 use std::alloc::Global;
 use tailrec_lang::{Def, Exit};
-use term_text::cursor::{address, eol, keyword, number, peek};
-use term_text::{Stop, read_ranges};
+use mc_text::cursor::{address, eol, keyword, number, peek};
+use term_text::read_ranges;
 use word_terms::Code;
 
 /// The deepest nesting of bodies.
@@ -267,7 +266,7 @@ pub struct Head {
     pub code: Code,
 }
 
-/// The head of a group, behind its first word.
+/// The head of a group, after its first word.
 #[tactic(auto, unfolding(crate::specs::Reading::head_at))]
 pub fn read_head<'a>(alloc: Global, scan: &mut Scan<'a>) -> Result<Head, Stop>
     ensures gives { Gives head_of result scan.old scan.new head_at }

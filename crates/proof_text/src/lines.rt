@@ -1,10 +1,10 @@
 //! Lines of bytes.
 
 ghost use Rattle.std.specs.Prelude.{◌≡◌, ◌++◌, drop, length};
-ghost use Rattle.mc_text.specs.Scanning.{newlines};
+ghost use Rattle.mc_text.specs.Fault.{newlines};
 ghost use Rattle.proof_text.specs.Cut.{AreWholeLines, drop_lines};
 
-/// The whole lines of a text, and the bytes behind the last of them.
+/// The whole lines of a text, and the bytes after the last of them.
 pub fn whole_lines(text: &[u8]) -> (&[u8], &[u8])
     ensures parts { text.now ≡ result.0.now ++ result.1.now }
     ensures lines { AreWholeLines result.0.now }
@@ -20,8 +20,8 @@ pub fn whole_lines(text: &[u8]) -> (&[u8], &[u8])
     text.split_at(0)
 }
 
-/// The bytes behind that many lines.
-pub fn behind_lines(text: &[u8], count: u64) -> &[u8]
+/// The bytes after that many lines.
+pub fn after_lines(text: &[u8], count: u64) -> &[u8]
     ensures { result.now ≡ drop_lines count text.now }
 {
     let mut left = count;

@@ -3,8 +3,7 @@
 
 ghost use Rattle.std.specs.Prelude.{◌≡◌, ◌++◌, ◌∷◌, [], OnOk, codes, map};
 ghost use Rattle.mc_text.specs.Printing.{BeginsWith, Keeps, page, print};
-ghost use Rattle.mc_text.specs.Reading.{each};
-ghost use Rattle.mc_text.specs.Tokens.{Atom, spell};
+ghost use Rattle.mc_text.specs.Tokens.{Atom, spell, all_tokens};
 ghost use Rattle.mc_text.specs.declared.token.Before.TheVariants.{Start};
 ghost use Rattle.term_text.specs.Spelling.{cond_tokens, mem_tokens, range_tokens, word_tokens};
 ghost use Rattle.word_terms.specs.Tree.{cond_tree, mem_tree, word_tree};
@@ -22,7 +21,7 @@ use word_terms::{Cond, Mem, Word};
 #[tactic(auto, using(mc_text::proofs::Printed::printed_bytes, mc_text::proofs::Printed::prints))]
 pub fn put_head(out: &mut Bytes) -> Result<(), NoMemory>
     ensures ok { OnOk result (out.new ≡ out.old ++ spell Start head_tokens) }
-    ensures front { BeginsWith out.old out.new }
+    ensures prefix { BeginsWith out.old out.new }
 {
     let mut pen = Pen::new(out);
     put_head_line(&mut pen)?;
@@ -43,18 +42,18 @@ fn put_head_line(pen: &mut Pen<'_>) -> Result<(), NoMemory>
 pub fn put_group(out: &mut Bytes, g: &Group) -> Result<(), NoMemory>
     requires { IsGroup (group_tree g.now) }
     ensures ok { OnOk result (out.new ≡ out.old ++ spell Start (group_tokens (group_tree g.now))) }
-    ensures front { BeginsWith out.old out.new }
+    ensures prefix { BeginsWith out.old out.new }
 {
     let mut pen = Pen::new(out);
     put_group_lines(&mut pen, g)?;
     Ok(())
 }
 
-/// Prints what stands behind the groups of a text.
+/// Prints what stands after the groups of a text.
 #[tactic(auto, using(mc_text::proofs::Printed::printed_bytes, mc_text::proofs::Printed::prints))]
 pub fn put_end(out: &mut Bytes) -> Result<(), NoMemory>
     ensures ok { OnOk result (out.new ≡ out.old ++ spell Start end_tokens) }
-    ensures front { BeginsWith out.old out.new }
+    ensures prefix { BeginsWith out.old out.new }
 {
     let mut pen = Pen::new(out);
     put_bare_line(&mut pen, b"end")?;
@@ -82,7 +81,7 @@ fn put_name_line(pen: &mut Pen<'_>, name: &[u8]) -> Result<(), NoMemory>
 }
 
 fn put_registers_line(pen: &mut Pen<'_>, registers: &[u8]) -> Result<(), NoMemory>
-    ensures ok { OnOk result (page pen.new ≡ print (line (codes "regs") (each number registers.now ∷ [])) (page pen.old)) }
+    ensures ok { OnOk result (page pen.new ≡ print (line (codes "regs") (all_tokens number registers.now ∷ [])) (page pen.old)) }
     ensures kept { Keeps (page pen.old) (page pen.new) }
 {
     pen.atom(b"regs")?;
@@ -100,7 +99,7 @@ fn put_memories_line(pen: &mut Pen<'_>, count: u8) -> Result<(), NoMemory>
 }
 
 fn put_code_line(pen: &mut Pen<'_>, ranges: &[Range]) -> Result<(), NoMemory>
-    ensures ok { OnOk result (page pen.new ≡ print (line (codes "code") (each range_tokens ranges.now ∷ [])) (page pen.old)) }
+    ensures ok { OnOk result (page pen.new ≡ print (line (codes "code") (all_tokens range_tokens ranges.now ∷ [])) (page pen.old)) }
     ensures kept { Keeps (page pen.old) (page pen.new) }
 {
     pen.atom(b"code")?;
@@ -109,7 +108,7 @@ fn put_code_line(pen: &mut Pen<'_>, ranges: &[Range]) -> Result<(), NoMemory>
 }
 
 fn put_numbers(pen: &mut Pen<'_>, numbers: &[u8]) -> Result<(), NoMemory>
-    ensures ok { OnOk result (page pen.new ≡ print (each number numbers.now) (page pen.old)) }
+    ensures ok { OnOk result (page pen.new ≡ print (all_tokens number numbers.now) (page pen.old)) }
     ensures kept { Keeps (page pen.old) (page pen.new) }
 {
     for n in numbers {
@@ -126,7 +125,7 @@ fn put_number(pen: &mut Pen<'_>, n: u8) -> Result<(), NoMemory>
 }
 
 fn put_ranges(pen: &mut Pen<'_>, ranges: &[Range]) -> Result<(), NoMemory>
-    ensures ok { OnOk result (page pen.new ≡ print (each range_tokens ranges.now) (page pen.old)) }
+    ensures ok { OnOk result (page pen.new ≡ print (all_tokens range_tokens ranges.now) (page pen.old)) }
     ensures kept { Keeps (page pen.old) (page pen.new) }
 {
     for range in ranges {
@@ -137,7 +136,7 @@ fn put_ranges(pen: &mut Pen<'_>, ranges: &[Range]) -> Result<(), NoMemory>
 
 /// Prints the definitions' first lines and bodies.
 fn put_defs(pen: &mut Pen<'_>, defs: &[Def]) -> Result<(), NoMemory>
-    ensures ok { OnOk result (page pen.new ≡ print (each def_tokens (map def_tree defs.now)) (page pen.old)) }
+    ensures ok { OnOk result (page pen.new ≡ print (all_tokens def_tokens (map def_tree defs.now)) (page pen.old)) }
     ensures kept { Keeps (page pen.old) (page pen.new) }
 {
     for def in defs {
@@ -158,7 +157,7 @@ fn put_def(pen: &mut Pen<'_>, def: &Def) -> Result<(), NoMemory>
 }
 
 fn put_exits(pen: &mut Pen<'_>, exits: &[Exit]) -> Result<(), NoMemory>
-    ensures ok { OnOk result (page pen.new ≡ print (each exit_tokens exits.now) (page pen.old)) }
+    ensures ok { OnOk result (page pen.new ≡ print (all_tokens exit_tokens exits.now) (page pen.old)) }
     ensures kept { Keeps (page pen.old) (page pen.new) }
 {
     for exit in exits {
@@ -187,7 +186,7 @@ fn put_body(pen: &mut Pen<'_>, body: &Body) -> Result<(), NoMemory>
     put_body_end(pen, &body.end)
 }
 
-/// Prints what stands behind a body's steps.
+/// Prints what stands after a body's steps.
 #[cycle(bodies)]
 fn put_body_end(pen: &mut Pen<'_>, end: &End) -> Result<(), NoMemory>
     ensures ok { OnOk result (page pen.new ≡ print (body_tokens (end_tree end.now)) (page pen.old)) }
@@ -251,7 +250,7 @@ fn put_call_line(pen: &mut Pen<'_>, def: u32, arms: usize, values: &Values) -> R
 }
 
 fn put_steps(pen: &mut Pen<'_>, steps: &[Step]) -> Result<(), NoMemory>
-    ensures ok { OnOk result (page pen.new ≡ print (each step_tokens (map step_tree steps.now)) (page pen.old)) }
+    ensures ok { OnOk result (page pen.new ≡ print (all_tokens step_tokens (map step_tree steps.now)) (page pen.old)) }
     ensures kept { Keeps (page pen.old) (page pen.new) }
 {
     for step in steps {
@@ -293,7 +292,7 @@ fn put_values(pen: &mut Pen<'_>, values: &Values) -> Result<(), NoMemory>
 }
 
 fn put_words(pen: &mut Pen<'_>, terms: &[Word]) -> Result<(), NoMemory>
-    ensures ok { OnOk result (page pen.new ≡ print (each word_tokens (map word_tree terms.now)) (page pen.old)) }
+    ensures ok { OnOk result (page pen.new ≡ print (all_tokens word_tokens (map word_tree terms.now)) (page pen.old)) }
     ensures kept { Keeps (page pen.old) (page pen.new) }
 {
     for t in terms {
@@ -303,7 +302,7 @@ fn put_words(pen: &mut Pen<'_>, terms: &[Word]) -> Result<(), NoMemory>
 }
 
 fn put_mems(pen: &mut Pen<'_>, terms: &[Mem]) -> Result<(), NoMemory>
-    ensures ok { OnOk result (page pen.new ≡ print (each mem_tokens (map mem_tree terms.now)) (page pen.old)) }
+    ensures ok { OnOk result (page pen.new ≡ print (all_tokens mem_tokens (map mem_tree terms.now)) (page pen.old)) }
     ensures kept { Keeps (page pen.old) (page pen.new) }
 {
     for t in terms {

@@ -6,19 +6,19 @@ ghost use Rattle.mc_text.specs.Fault.{IsBadAt};
 ghost use Rattle.mc_text.specs.Scanning.{tokens_at};
 ghost use Rattle.tailrec_lang.specs.Eval.{HasFewNeeds};
 ghost use Rattle.tailrec_lang.specs.Tree.{GroupTree, group_tree};
-ghost use Rattle.proof_text.specs.Limits.{IsGroup, texts};
+ghost use Rattle.proof_text.specs.Limits.{IsGroup, proof_texts};
 ghost use Rattle.proof_text.specs.Spelling.{text_of};
-ghost use Rattle.proof_text.specs.Front.{HasGiven};
-ghost use Rattle.proof_text.specs.Answers.{GoesOn, NoGroup, OnBad, OnEnd, OnGroup};
+ghost use Rattle.proof_text.specs.FirstGroups.{HasGiven};
+ghost use Rattle.proof_text.specs.Answers.{NoGroup, OnBad, OnEnd, OnGroup};
+ghost use Rattle.proof_text.specs.Rest.{GoesOn};
 
 use crate::group::read_turn;
-use crate::lines::{behind_lines, whole_lines};
-use mc_text::{Scan, Token};
+use crate::lines::{after_lines, whole_lines};
+use mc_text::{Scan, Stop, Token};
 use std::alloc::Global;
 use std::marker::Model;
 use tailrec_lang::Group;
-use term_text::Stop;
-use term_text::cursor::peek;
+use mc_text::cursor::peek;
 
 /// Why there is no further group.
 #[derive(Clone, Copy, Debug, PartialEq, Eq)]
@@ -39,9 +39,9 @@ pub struct Reader<'a> {
 
 impl<'a> Model for Reader<'a> {
     ghost use Rattle.std.specs.Prelude.{◌≡◌, ◌+◌, ◌≤◌, ◌^◌, ◌++◌, length};
-    ghost use Rattle.mc_text.specs.Scanning.{newlines};
+    ghost use Rattle.mc_text.specs.Fault.{newlines};
     ghost use Rattle.proof_text.specs.Cut.{AreWholeLines};
-    ghost use Rattle.proof_text.specs.Front.{Progress};
+    ghost use Rattle.proof_text.specs.FirstGroups.{Progress};
 
     ghost Value = { Progress };
 
@@ -72,7 +72,7 @@ impl<'a> Reader<'a> {
         ensures fits { OnGroup result (λ g. IsGroup (group_tree g)) }
         ensures needs { OnGroup result (λ g. HasFewNeeds (group_tree g)) }
         ensures end { OnEnd result ((gs : Items GroupTree) → HasGiven gs self.old → self.old.text ≡ text_of gs) }
-        ensures bad { OnBad result (λ n. (gs : Items GroupTree) → HasGiven gs self.old → IsBadAt texts self.old.text n) }
+        ensures bad { OnBad result (λ n. (gs : Items GroupTree) → HasGiven gs self.old → IsBadAt proof_texts self.old.text n) }
         ensures no_group { OnBad result (λ n. NoGroup self.old) }
         ensures end_same { OnEnd result (self.new ≡ self.old) }
         ensures fault_same { OnErr result (self.new ≡ self.old) }
@@ -81,7 +81,7 @@ impl<'a> Reader<'a> {
         match read_turn(alloc, &mut scan, self.place == 0) {
             Ok(Some(group)) => {
                 let count = scan.line() - 1;
-                self.lines = behind_lines(self.lines, count);
+                self.lines = after_lines(self.lines, count);
                 self.place += count;
                 Ok(Some(group))
             }
@@ -105,7 +105,7 @@ impl<'a> Reader<'a> {
     }
 }
 
-/// Whether the text ends here, with no bytes behind its last line.
+/// Whether the text ends here, with no bytes after its last line.
 fn is_end(scan: &Scan<'_>, tail: &[u8]) -> bool
     ensures end { result ≡ true → (tokens_at scan.now ≡ Done ∷ []) × (tail.now ≡ []) }
     ensures more { result ≡ false → GoesOn (tokens_at scan.now) tail.now }

@@ -5,17 +5,17 @@ ghost use Rattle.mc_text.specs.Reading.{eol, goes_on, pair, star};
 ghost use Rattle.mc_text.specs.Scanning.{tokens_at};
 ghost use Rattle.word_terms.specs.Tree.{cond_tree, mem_tree, word_tree};
 ghost use Rattle.term_text.specs.Limits.{depth_limit};
-ghost use Rattle.term_text.specs.Outcome.{Gives, last_line};
+ghost use Rattle.mc_text.specs.Outcome.{Gives, last_line};
 ghost use Rattle.term_text.specs.Reading.{cond_at, mem_at, word_at};
 ghost use Rattle.tailrec_lang.specs.Tree.{step_tree, values_tree};
 ghost use Rattle.proof_text.specs.Reading.{is_step, mark_row, step_at, values_at};
 
-use mc_text::{Scan, Token};
+use mc_text::{Scan, Stop, Token};
 use rv_words::List;
 use std::alloc::Global;
 use tailrec_lang::{Step, Values};
-use term_text::cursor::{eol, keyword, peek, semi};
-use term_text::{Stop, read_cond, read_mem, read_mems, read_word, read_words};
+use mc_text::cursor::{eol, keyword, peek, semi};
+use term_text::{read_cond, read_mem, read_mems, read_word, read_words};
 use word_terms::{Cond, DEEPEST, Mem, Word};
 
 /// A line that is one word.

@@ -6,7 +6,7 @@ use Rattle.std.proofs.lemmas.Bool.{eqb-true}
 use Rattle.mc_text.specs.Number.{hex, number_of, hex_of}
 use Rattle.mc_text.specs.Tokens.{Atom}
 use Rattle.mc_text.specs.Reading.{one, atom_of, below}
-use Rattle.mc_text.proofs.Laws.{Reads, Reads-one}
+use Rattle.mc_text.proofs.ReaderLaws.{Reads, Reads-one}
 use Rattle.mc_text.proofs.Choices.{reads-told}
 use Rattle.mc_text.proofs.Shown.{shows-atom, shows-hex, shows-below}
 use Rattle.word_terms.specs.Tree.{WordTree, Const, Var, Bin, Extend, Load, MemTree, MemVar, Store}

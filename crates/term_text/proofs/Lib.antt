@@ -1,7 +1,5 @@
-pub mod Ahead
 pub mod NameTests
 pub mod Leaves
 pub mod TermFacts
 pub mod TermLaws
 pub mod TermLists
-pub mod StarReads

@@ -5,7 +5,7 @@ use Rattle.std.specs.Str.{bytes_eq}
 use Rattle.std.proofs.lemmas.Slice.Eq.{bytes_eq-Decides}
 use Rattle.mc_text.specs.Tokens.{Tok, Left, Atom}
 use Rattle.mc_text.specs.Reading.{atom_of, one, is_left, pair}
-use Rattle.mc_text.proofs.Laws.{Reads, Reads-one, Reads-pair}
+use Rattle.mc_text.proofs.ReaderLaws.{Reads, Reads-one, Reads-pair}
 use Rattle.mc_text.proofs.Choices.{reads-made}
 use Rattle.mc_text.proofs.Shown.{Always, shows-left, shows-atom}
 use Rattle.rv_words.specs.declared.operation.Op.{Op}

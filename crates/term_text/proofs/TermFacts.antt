@@ -4,9 +4,9 @@ use Rattle.std.specs.Prelude.{◌&&◌}
 use Rattle.std.specs.Fmt.{decimal}
 use Rattle.mc_text.specs.Number.{AreBytes}
 use Rattle.mc_text.specs.Tokens.{Tok, Left, Right, Atom, is_atom_byte, IsAtomText, IsAtom}
-use Rattle.mc_text.specs.Reading.{goes_on}
+use Rattle.mc_text.specs.Reading.{goes_on, is_open}
 use Rattle.mc_text.proofs.Lines.{AreTokens}
-use Rattle.mc_text.proofs.Laws.{IsFlat, flat-append}
+use Rattle.mc_text.proofs.ReaderLaws.{IsFlat, flat-append}
 use Rattle.mc_text.proofs.Shown.{decimal-atom, hex-atom, bytes-atom, tokens-append}
 use Rattle.rv_words.specs.declared.operation.Op.{Op}
 use Rattle.rv_words.specs.declared.operation.Op.TheVariants.{Add, Sub, Sll, Slt, Sltu, Xor, Srl, Sra, Or, And, Mul, Mulh, Mulhsu, Mulhu, Div, Divu, Rem, Remu, Addw, Subw, Sllw, Srlw, Sraw, Mulw, Divw, Divuw, Remw, Remuw}
@@ -20,7 +20,7 @@ use Rattle.rv_words.specs.declared.range.Range.{Range}
 use Rattle.word_terms.specs.Tree.{WordTree, Const, Var, Bin, Extend, Load, MemTree, MemVar, Store, CondTree, Compare, Neg, Inside}
 use Rattle.term_text.specs.Limits.{NumbersFit, MemNumbersFit, CondNumbersFit}
 use Rattle.term_text.specs.Spelling.{operation_name, extension_name, comparison_name, load_name, store_name, inside_name, joined, word_tokens, mem_tokens, cond_tokens, range_tokens}
-use Rattle.term_text.specs.Reading.{is_open, begins_word, begins_mem}
+use Rattle.term_text.specs.Reading.{begins_word, begins_mem}
 
 -- ---- within a line
 

@@ -1,10 +1,10 @@
 -- Words, memories, conditions and ranges are read as they are spelled.
 use Rattle.std.proofs.Common.{◌≡◌, ℕ, zero, suc, ◌<◌, ◌≤◌, List, [], ◌∷◌, ◌++◌, length, Option, Some, None, refl, sym, ap, arith, length-append, inl, inr, ◌⊎◌}
 use Rattle.hex.specs.Hex.{encode_lower}
-use Rattle.mc_text.specs.Number.{hex, IsWord as Fits64, AreBytes, hex_of, bytes_of}
+use Rattle.mc_text.specs.Number.{hex, IsWord as Fits64, AreBytes, hex_of, bytes_of_digits}
 use Rattle.mc_text.specs.Tokens.{Tok, Left, Right, Atom}
-use Rattle.mc_text.specs.Reading.{Reader, pair, with, one, is_left, is_right, atom_of, choice, refused}
-use Rattle.mc_text.proofs.Laws.{Reads, Reads-one, Reads-pair, Reads-with, err-is}
+use Rattle.mc_text.specs.Reading.{Reader, pair, with, one, is_left, is_right, atom_of, choice, refused, is_open}
+use Rattle.mc_text.proofs.ReaderLaws.{Reads, Reads-one, Reads-pair, Reads-with, err-is}
 use Rattle.mc_text.proofs.Choices.{reads-as, reads-choice, reads-made, reads-put}
 use Rattle.mc_text.proofs.Shown.{Always, shows-left, shows-right, shows-hex, shows-bytes}
 use Rattle.mc_text.proofs.Star.{Shrinks}
@@ -15,23 +15,12 @@ use Rattle.term_text.specs.declared.head.WordHead.{WordHead}
 use Rattle.term_text.specs.declared.head.WordHead.TheVariants as word_head
 use Rattle.term_text.specs.declared.head.CondHead.{CondHead}
 use Rattle.term_text.specs.declared.head.CondHead.TheVariants as cond_head
-use Rattle.term_text.specs.Limits.{NumbersFit, MemNumbersFit, CondNumbersFit, depth_limit, IsWord, IsMem, IsCond, IsRange}
+use Rattle.term_text.specs.Limits.{FitsWord, FitsMem, FitsCond, depth_limit, IsWord, IsMem, IsCond, IsRange}
 use Rattle.term_text.specs.Spelling.{store_name, word_tokens, mem_tokens, cond_tokens, range_tokens}
-use Rattle.term_text.specs.Reading.{is_open, opened, form_of, word_head_of, cond_head_of, store_of, word_leaf_of, mem_leaf_of, word_parts, mem_parts, cond_parts, word_at, mem_at, cond_at, range_at}
+use Rattle.term_text.specs.Reading.{opened, form_of, word_head_of, cond_head_of, store_of, word_leaf_of, mem_leaf_of, word_parts, mem_parts, cond_parts, word_at, mem_at, cond_at, range_at}
 use Rattle.term_text.proofs.NameTests.{word_head_name, cond_head_name, word-head-law, cond-head-law, store-head-law}
 use Rattle.term_text.proofs.Leaves.{IsWordLeaf, IsMemLeaf, word-leaf-law, mem-leaf-law}
 use Rattle.term_text.proofs.TermFacts.{word-flat, mem-flat, cond-flat, some-word, some-mem, some-cond}
-
--- ---- at most that deep
-
-abbrev pub FitsWord : ℕ → WordTree → Type 0
-FitsWord d t = NumbersFit t × (depth_of_word t ≤ d)
-
-abbrev pub FitsMem : ℕ → MemTree → Type 0
-FitsMem d m = MemNumbersFit m × (depth_of_mem m ≤ d)
-
-abbrev pub FitsCond : ℕ → CondTree → Type 0
-FitsCond d c = CondNumbersFit c × (depth_of_cond c ≤ d)
 
 -- a form whose parts are at most that deep
 abbrev IsWordForm : ℕ → WordTree → Type 0
@@ -336,16 +325,16 @@ cond-law = cond-law-at depth_limit
 abbrev RangeParts : Type 0
 RangeParts = Unit {0} × (ℕ × (List ℕ × Unit {0}))
 
-range-parts-law : Reads (pair (one is_left) (pair (one (atom_of hex_of)) (pair (one (atom_of bytes_of)) (one is_right)))) (λ (x : RangeParts). Always x.0 × (Fits64 x.1.0 × (AreBytes x.1.1.0 × Always x.1.1.1)))
+range-parts-law : Reads (pair (one is_left) (pair (one (atom_of hex_of)) (pair (one (atom_of bytes_of_digits)) (one is_right)))) (λ (x : RangeParts). Always x.0 × (Fits64 x.1.0 × (AreBytes x.1.1.0 × Always x.1.1.1)))
     (λ x. Left ∷ Atom (hex x.1.0) ∷ Atom (encode_lower x.1.1.0) ∷ end)
 range-parts-law =
-    Reads-pair (one is_left) Always (λ x. Left ∷ []) (Reads-one is_left Always (λ x. Left) shows-left) (λ x h. (λ e. absurd cc, tt)) (pair (one (atom_of hex_of)) (pair (one (atom_of bytes_of)) (one is_right))) _ _
-    (Reads-pair (one (atom_of hex_of)) Fits64 (λ n. Atom (hex n) ∷ []) (Reads-one (atom_of hex_of) Fits64 (λ n. Atom (hex n)) shows-hex) (λ n h. (λ e. absurd cc, tt)) (pair (one (atom_of bytes_of)) (one is_right)) _ _
-    (Reads-pair (one (atom_of bytes_of)) AreBytes (λ bytes. Atom (encode_lower bytes) ∷ []) (Reads-one (atom_of bytes_of) AreBytes (λ bytes. Atom (encode_lower bytes)) shows-bytes) (λ bytes h. (λ e. absurd cc, tt)) (one is_right) Always (λ x. end) right-law))
+    Reads-pair (one is_left) Always (λ x. Left ∷ []) (Reads-one is_left Always (λ x. Left) shows-left) (λ x h. (λ e. absurd cc, tt)) (pair (one (atom_of hex_of)) (pair (one (atom_of bytes_of_digits)) (one is_right))) _ _
+    (Reads-pair (one (atom_of hex_of)) Fits64 (λ n. Atom (hex n) ∷ []) (Reads-one (atom_of hex_of) Fits64 (λ n. Atom (hex n)) shows-hex) (λ n h. (λ e. absurd cc, tt)) (pair (one (atom_of bytes_of_digits)) (one is_right)) _ _
+    (Reads-pair (one (atom_of bytes_of_digits)) AreBytes (λ bytes. Atom (encode_lower bytes) ∷ []) (Reads-one (atom_of bytes_of_digits) AreBytes (λ bytes. Atom (encode_lower bytes)) shows-bytes) (λ bytes h. (λ e. absurd cc, tt)) (one is_right) Always (λ x. end) right-law))
 
 pub range-law : Reads range_at IsRange range_tokens
 unfolding range_at
-range-law = reads-made (λ (x : RangeParts). record { at = x.1.0; bytes = x.1.1.0 }) (pair (one is_left) (pair (one (atom_of hex_of)) (pair (one (atom_of bytes_of)) (one is_right)))) _ _ range-parts-law
+range-law = reads-made (λ (x : RangeParts). record { at = x.1.0; bytes = x.1.1.0 }) (pair (one is_left) (pair (one (atom_of hex_of)) (pair (one (atom_of bytes_of_digits)) (one is_right)))) _ _ range-parts-law
     IsRange range_tokens (λ x h. (h.1.0, h.1.1.0)) (λ x. refl) (λ r h. ((tt, (r.at, (r.bytes, tt))), refl, (tt, (h.0, (h.1, tt)))))
 
 -- ---- readers pass over tokens

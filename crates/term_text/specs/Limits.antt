@@ -22,18 +22,28 @@ CondNumbersFit (Compare cmp a b) = NumbersFit a × NumbersFit b
 CondNumbersFit (Neg c) = CondNumbersFit c
 CondNumbersFit (Inside width m a) = MemNumbersFit m × NumbersFit a
 
+-- numbers fit, and it is at most that deep
+abbrev pub FitsWord : ℕ → WordTree → Type 0
+FitsWord depth t = NumbersFit t × (depth_of_word t ≤ depth)
+
+abbrev pub FitsMem : ℕ → MemTree → Type 0
+FitsMem depth m = MemNumbersFit m × (depth_of_mem m ≤ depth)
+
+abbrev pub FitsCond : ℕ → CondTree → Type 0
+FitsCond depth c = CondNumbersFit c × (depth_of_cond c ≤ depth)
+
 -- the deepest term that is written
 abbrev pub depth_limit : ℕ
 depth_limit = 64
 
 abbrev pub IsWord : WordTree → Type 0
-IsWord t = NumbersFit t × (depth_of_word t ≤ depth_limit)
+IsWord t = FitsWord depth_limit t
 
 abbrev pub IsMem : MemTree → Type 0
-IsMem m = MemNumbersFit m × (depth_of_mem m ≤ depth_limit)
+IsMem m = FitsMem depth_limit m
 
 abbrev pub IsCond : CondTree → Type 0
-IsCond c = CondNumbersFit c × (depth_of_cond c ≤ depth_limit)
+IsCond c = FitsCond depth_limit c
 
 -- an address and one byte or more
 abbrev pub IsRange : Range → Type 0

@@ -1,9 +1,9 @@
 -- Reading terms and ranges from tokens, by computing. A term of the depth that is left is read; with none left, none is.
 use Rattle.std.specs.Prelude.{ℕ, zero, suc, ◌^◌, Bool, true, false, not, List, [], ◌∷◌, take, codes, Option, Some, None, option_map, ◌==◌, if◌then◌else◌}
 use Rattle.std.specs.Str.{bytes_eq}
-use Rattle.mc_text.specs.Number.{number_of, hex_of, bytes_of}
+use Rattle.mc_text.specs.Number.{number_of, hex_of}
 use Rattle.mc_text.specs.Tokens.{Tok, Left, Atom}
-use Rattle.mc_text.specs.Reading.{Reader, pair, with, made, one, is_left, is_right, atom_of, below, choice, refused}
+use Rattle.mc_text.specs.Reading.{Reader, pair, with, made, one, is_left, is_right, atom_of, below, choice, refused, is_open, address_at, bytes_at}
 use Rattle.rv_words.specs.declared.operation.Op.{Op}
 use Rattle.rv_words.specs.declared.operation.Op.TheVariants.{Add, Sub, Sll, Slt, Sltu, Xor, Srl, Sra, Or, And, Mul, Mulh, Mulhsu, Mulhu, Div, Divu, Rem, Remu, Addw, Subw, Sllw, Srlw, Sraw, Mulw, Divw, Divuw, Remw, Remuw}
 use Rattle.rv_words.specs.declared.extension.Ext.{Ext}
@@ -19,20 +19,6 @@ use Rattle.term_text.specs.declared.head.WordHead.TheVariants as word_head
 use Rattle.term_text.specs.declared.head.CondHead.{CondHead}
 use Rattle.term_text.specs.declared.head.CondHead.TheVariants as cond_head
 use Rattle.term_text.specs.Spelling.{operation_name, extension_name, comparison_name, load_name, store_name, inside_name}
-
--- ---- numbers and bytes
-
--- a decimal below the limit
-abbrev pub number_at : ℕ → Reader ℕ
-number_at limit = one (atom_of (λ a. below limit (number_of 10 a)))
-
--- a hexadecimal number
-abbrev pub address_at : Reader ℕ
-address_at = one (atom_of hex_of)
-
--- two digits for each byte
-abbrev pub bytes_at : Reader (List ℕ)
-bytes_at = one (atom_of bytes_of)
 
 -- ---- names
 
@@ -85,7 +71,7 @@ cond_head_of text =
 
 -- ---- constants and variables
 
--- the number of a variable, behind its letter
+-- the number of a variable, after its letter
 abbrev pub variable_of : ℕ → List ℕ → Option ℕ
 variable_of letter [] = None
 variable_of letter (b ∷ text) = if b == letter then below (2 ^ 32) (number_of 10 text) else None
@@ -99,15 +85,11 @@ mem_leaf_of text = option_map MemVar (variable_of 109 text)
 
 -- ---- terms
 
-abbrev pub is_open : Tok → Bool
-is_open Left = true
-is_open _ = false
-
--- a name behind a parenthesis
+-- a name after a parenthesis
 abbrev pub opened : {X : Type 0} → (List ℕ → Option X) → Reader X
 opened f = made (λ x. x.1) (pair (one is_left) (one (atom_of f)))
 
--- what stands behind the name, with the parenthesis at its end
+-- what stands after the name, with the parenthesis at its end
 abbrev pub word_parts : Reader WordTree → Reader MemTree → WordHead → Reader WordTree
 word_parts word mem (word_head.Bin op) = made (λ x. Bin op x.0 x.1.0) (pair word (pair word (one is_right)))
 word_parts word mem (word_head.Extend ext) = made (λ x. Extend ext x.0) (pair word (one is_right))
@@ -121,7 +103,7 @@ cond_parts word mem cond (cond_head.Compare cmp) = made (λ x. Compare cmp x.0 x
 cond_parts word mem cond (cond_head.Inside width) = made (λ x. Inside width x.0 x.1.0) (pair mem (pair word (one is_right)))
 cond_parts word mem cond cond_head.Neg = made (λ x. Neg x.0) (pair cond (one is_right))
 
--- a name behind a parenthesis, and what it leads to
+-- a name after a parenthesis, and what it leads to
 abbrev pub form_of : {H X : Type 0} → (List ℕ → Option H) → (H → Reader X) → Reader X
 form_of head parts = made (λ x. x.1) (with (opened head) parts)
 

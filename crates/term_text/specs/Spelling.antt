@@ -87,12 +87,12 @@ inside_name B2 = codes "in2"
 inside_name B4 = codes "in4"
 inside_name B8 = codes "in8"
 
--- the parts, one after the other, and what stands behind them
+-- the parts, one after the other, and what stands after them
 abbrev pub joined : List (List Tok) → List Tok → List Tok
 joined [] end = end
 joined (p ∷ ps) end = p ++ joined ps end
 
--- a name and the parts behind it, in parentheses
+-- a name and the parts after it, in parentheses
 abbrev pub form : List ℕ → List (List Tok) → List Tok
 form name parts = Left ∷ Atom name ∷ joined parts (Right ∷ [])
 

@@ -1,4 +1,4 @@
-//! The names of forms, which stand behind their parenthesis.
+//! The names of forms, which stand after their parenthesis.
 
 ghost use Rattle.std.specs.Prelude.{◌≡◌};
 ghost use Rattle.term_text.specs.Reading.{operation_of, extension_of, comparison_of, load_of, store_of, inside_of, word_head_of, cond_head_of};

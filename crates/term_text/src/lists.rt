@@ -1,15 +1,16 @@
 //! Reading terms and ranges one after the other, as long as one follows.
 
 ghost use Rattle.std.specs.Prelude.{◌≡◌, map};
-ghost use Rattle.mc_text.specs.Reading.{star};
+ghost use Rattle.mc_text.specs.Reading.{star, is_open};
 ghost use Rattle.word_terms.specs.Tree.{word_tree, mem_tree};
 ghost use Rattle.term_text.specs.Limits.{depth_limit};
-ghost use Rattle.term_text.specs.Outcome.{Gives, last_line};
-ghost use Rattle.term_text.specs.Reading.{begins_word, begins_mem, is_open, word_at, mem_at, range_at};
+ghost use Rattle.mc_text.specs.Outcome.{Gives, last_line};
+ghost use Rattle.term_text.specs.Reading.{begins_word, begins_mem, word_at, mem_at, range_at};
 
-use crate::cursor::{Stop, begins_mem, begins_word, is_open};
+use crate::ahead::{begins_mem, begins_word};
 use crate::read::{read_mem, read_range, read_word};
-use mc_text::Scan;
+use mc_text::cursor::is_open;
+use mc_text::{Scan, Stop};
 use rv_words::{List, Range};
 use std::alloc::Global;
 use word_terms::{DEEPEST, Mem, Word};

@@ -3,12 +3,15 @@
 ghost use Rattle.std.specs.Prelude.{◌≡◌, ◌^◌, option_map};
 ghost use Rattle.mc_text.specs.Reading.{one, atom_of, below};
 ghost use Rattle.word_terms.specs.Tree.{word_tree, mem_tree, cond_tree};
-ghost use Rattle.term_text.specs.Outcome.{Gives, last_line};
+ghost use Rattle.mc_text.specs.Outcome.{Gives, last_line};
+ghost use Rattle.mc_text.specs.Item.{ReadsItem};
+ghost use Rattle.term_text.specs.Limits.{FitsCond, FitsMem, FitsWord, IsRange};
+ghost use Rattle.term_text.specs.Spelling.{cond_tokens, mem_tokens, range_tokens, word_tokens};
 ghost use Rattle.term_text.specs.Reading.{variable_of, word_leaf_of, mem_leaf_of, word_head_of, cond_head_of, store_of, word_parts, mem_parts, cond_parts, word_at, mem_at, cond_at, range_at};
 
-use crate::cursor::{Stop, accept, address, bytes, is_open, left, peek, right};
 use crate::head::{CondHead, WordHead, cond_head_of, store_of, word_head_of};
-use mc_text::{Scan, Token, dec, hexnum};
+use mc_text::cursor::{accept, address, bytes, is_open, left, peek, right};
+use mc_text::{Scan, Stop, Token, dec, hexnum};
 use rv_words::{Range, Width};
 use std::alloc::Global;
 use word_terms::{Cond, Mem, Word};
@@ -23,7 +26,7 @@ fn low_half(number: Option<u64>) -> Option<u32>
     }
 }
 
-/// The number of a variable, behind its letter.
+/// The number of a variable, after its letter.
 fn variable_of(letter: u8, atom: &[u8]) -> Option<u32>
     ensures { result ≡ variable_of letter atom.now }
 {
@@ -116,10 +119,10 @@ fn cond_name<'a>(scan: &mut Scan<'a>) -> Result<CondHead, Stop>
     }
 }
 
-/// A word of at most that depth.
+/// A word of at most that depth, as its reading function gives it.
 #[cycle(terms)]
 #[tactic(auto, unfolding(crate::specs::Reading::word_at))]
-pub fn read_word<'a>(alloc: Global, scan: &mut Scan<'a>, room: u32) -> Result<Word, Stop>
+fn word_within<'a>(alloc: Global, scan: &mut Scan<'a>, room: u32) -> Result<Word, Stop>
     ensures gives { Gives word_tree result scan.old scan.new (word_at room) }
     ensures last { last_line scan.new ≡ last_line scan.old }
 {
@@ -135,7 +138,7 @@ pub fn read_word<'a>(alloc: Global, scan: &mut Scan<'a>, room: u32) -> Result<Wo
     }
 }
 
-/// What stands behind the name of a form.
+/// What stands after the name of a form.
 #[cycle(terms)]
 fn word_parts<'a>(
     alloc: Global,
@@ -148,29 +151,29 @@ fn word_parts<'a>(
 {
     match head {
         WordHead::Bin(op) => {
-            let a = read_word(alloc, scan, room)?;
-            let b = read_word(alloc, scan, room)?;
+            let a = word_within(alloc, scan, room)?;
+            let b = word_within(alloc, scan, room)?;
             right(scan)?;
             Ok(Word::Bin(op, Box::new(alloc, a)?, Box::new(alloc, b)?))
         }
         WordHead::Extend(ext) => {
-            let a = read_word(alloc, scan, room)?;
+            let a = word_within(alloc, scan, room)?;
             right(scan)?;
             Ok(Word::Extend(ext, Box::new(alloc, a)?))
         }
         WordHead::Load(width) => {
-            let m = read_mem(alloc, scan, room)?;
-            let a = read_word(alloc, scan, room)?;
+            let m = mem_within(alloc, scan, room)?;
+            let a = word_within(alloc, scan, room)?;
             right(scan)?;
             Ok(Word::Load(width, Box::new(alloc, m)?, Box::new(alloc, a)?))
         }
     }
 }
 
-/// A memory of at most that depth.
+/// A memory of at most that depth, as its reading function gives it.
 #[cycle(terms)]
 #[tactic(auto, unfolding(crate::specs::Reading::mem_at))]
-pub fn read_mem<'a>(alloc: Global, scan: &mut Scan<'a>, room: u32) -> Result<Mem, Stop>
+fn mem_within<'a>(alloc: Global, scan: &mut Scan<'a>, room: u32) -> Result<Mem, Stop>
     ensures gives { Gives mem_tree result scan.old scan.new (mem_at room) }
     ensures last { last_line scan.new ≡ last_line scan.old }
 {
@@ -186,15 +189,15 @@ pub fn read_mem<'a>(alloc: Global, scan: &mut Scan<'a>, room: u32) -> Result<Mem
     }
 }
 
-/// What stands behind the name of a store.
+/// What stands after the name of a store.
 #[cycle(terms)]
 fn mem_parts<'a>(alloc: Global, scan: &mut Scan<'a>, room: u32, width: Width) -> Result<Mem, Stop>
     ensures gives { Gives mem_tree result scan.old scan.new (mem_parts (word_at room) (mem_at room) width) }
     ensures last { last_line scan.new ≡ last_line scan.old }
 {
-    let m = read_mem(alloc, scan, room)?;
-    let a = read_word(alloc, scan, room)?;
-    let v = read_word(alloc, scan, room)?;
+    let m = mem_within(alloc, scan, room)?;
+    let a = word_within(alloc, scan, room)?;
+    let v = word_within(alloc, scan, room)?;
     right(scan)?;
     Ok(Mem::Store(
         width,
@@ -204,9 +207,9 @@ fn mem_parts<'a>(alloc: Global, scan: &mut Scan<'a>, room: u32, width: Width) ->
     ))
 }
 
-/// A range of bytes.
+/// A range of bytes, as its reading function gives it.
 #[tactic(auto, unfolding(crate::specs::Reading::range_at))]
-pub fn read_range<'a>(alloc: Global, scan: &mut Scan<'a>) -> Result<Range, Stop>
+fn range_within<'a>(alloc: Global, scan: &mut Scan<'a>) -> Result<Range, Stop>
     ensures gives { Gives (λ r. r) result scan.old scan.new range_at }
     ensures last { last_line scan.new ≡ last_line scan.old }
 {
@@ -217,10 +220,10 @@ pub fn read_range<'a>(alloc: Global, scan: &mut Scan<'a>) -> Result<Range, Stop>
     Ok(Range { at, bytes })
 }
 
-/// A condition of at most that depth.
+/// A condition of at most that depth, as its reading function gives it.
 #[cycle(conds)]
 #[tactic(auto, unfolding(crate::specs::Reading::cond_at))]
-pub fn read_cond<'a>(alloc: Global, scan: &mut Scan<'a>, room: u32) -> Result<Cond, Stop>
+fn cond_within<'a>(alloc: Global, scan: &mut Scan<'a>, room: u32) -> Result<Cond, Stop>
     ensures gives { Gives cond_tree result scan.old scan.new (cond_at room) }
     ensures last { last_line scan.new ≡ last_line scan.old }
 {
@@ -232,7 +235,7 @@ pub fn read_cond<'a>(alloc: Global, scan: &mut Scan<'a>, room: u32) -> Result<Co
     cond_parts(alloc, scan, room - 1, head)
 }
 
-/// What stands behind the name of a form of a condition.
+/// What stands after the name of a form of a condition.
 #[cycle(conds)]
 fn cond_parts<'a>(
     alloc: Global,
@@ -245,21 +248,57 @@ fn cond_parts<'a>(
 {
     match head {
         CondHead::Compare(cmp) => {
-            let a = read_word(alloc, scan, room)?;
-            let b = read_word(alloc, scan, room)?;
+            let a = word_within(alloc, scan, room)?;
+            let b = word_within(alloc, scan, room)?;
             right(scan)?;
             Ok(Cond::Compare(cmp, Box::new(alloc, a)?, Box::new(alloc, b)?))
         }
         CondHead::Neg => {
-            let c = read_cond(alloc, scan, room)?;
+            let c = cond_within(alloc, scan, room)?;
             right(scan)?;
             Ok(Cond::Neg(Box::new(alloc, c)?))
         }
         CondHead::Inside(width) => {
-            let m = read_mem(alloc, scan, room)?;
-            let a = read_word(alloc, scan, room)?;
+            let m = mem_within(alloc, scan, room)?;
+            let a = word_within(alloc, scan, room)?;
             right(scan)?;
             Ok(Cond::Inside(width, Box::new(alloc, m)?, Box::new(alloc, a)?))
         }
     }
+}
+
+/// A word of at most that depth.
+pub fn read_word<'a>(alloc: Global, scan: &mut Scan<'a>, room: u32) -> Result<Word, Stop>
+    ensures spelled { ReadsItem word_tree (FitsWord room) word_tokens result scan.old scan.new }
+    ensures gives { Gives word_tree result scan.old scan.new (word_at room) }
+    ensures last { last_line scan.new ≡ last_line scan.old }
+{
+    word_within(alloc, scan, room)
+}
+
+/// A memory of at most that depth.
+pub fn read_mem<'a>(alloc: Global, scan: &mut Scan<'a>, room: u32) -> Result<Mem, Stop>
+    ensures spelled { ReadsItem mem_tree (FitsMem room) mem_tokens result scan.old scan.new }
+    ensures gives { Gives mem_tree result scan.old scan.new (mem_at room) }
+    ensures last { last_line scan.new ≡ last_line scan.old }
+{
+    mem_within(alloc, scan, room)
+}
+
+/// A condition of at most that depth.
+pub fn read_cond<'a>(alloc: Global, scan: &mut Scan<'a>, room: u32) -> Result<Cond, Stop>
+    ensures spelled { ReadsItem cond_tree (FitsCond room) cond_tokens result scan.old scan.new }
+    ensures gives { Gives cond_tree result scan.old scan.new (cond_at room) }
+    ensures last { last_line scan.new ≡ last_line scan.old }
+{
+    cond_within(alloc, scan, room)
+}
+
+/// A range of bytes.
+pub fn read_range<'a>(alloc: Global, scan: &mut Scan<'a>) -> Result<Range, Stop>
+    ensures spelled { ReadsItem (λ r. r) IsRange range_tokens result scan.old scan.new }
+    ensures gives { Gives (λ r. r) result scan.old scan.new range_at }
+    ensures last { last_line scan.new ≡ last_line scan.old }
+{
+    range_within(alloc, scan)
 }

@@ -1,3 +1,3 @@
-//! What no clause says: that calls succeed while there is memory. The texts are told by hand.
+//! What no clause says: that calls succeed while there is memory. The texts are written by hand.
 
 mod reading;

@@ -1,4 +1,4 @@
-//! What no clause says: that printing succeeds while there is memory. The text is told by hand.
+//! What no clause says: that printing succeeds while there is memory. The text is written by hand.
 
 use super::*;
 use rv_words::{Cmp, Ext, List, Op, Width};

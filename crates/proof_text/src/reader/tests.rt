@@ -1,4 +1,4 @@
-//! What no clause says: that groups are read while there is memory. The texts are told by hand.
+//! What no clause says: that groups are read while there is memory. The texts are written by hand.
 
 use super::{Reader, TextFault};
 use crate::put::{put_end, put_group, put_head};

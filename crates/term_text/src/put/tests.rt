@@ -1,4 +1,4 @@
-//! What no clause says: that printing succeeds while there is memory. The texts are told by hand.
+//! What no clause says: that printing succeeds while there is memory. The texts are written by hand.
 
 use super::*;
 use crate::name::{
@@ -112,7 +112,7 @@ fn absent(alloc: Global) -> Result<Cond, NoMemory> {
     Ok(Cond::Neg(inside))
 }
 
-/// The two conditions, the word and the memory in them, and a range, behind one another.
+/// The two conditions, the word and the memory in them, and a range, after one another.
 fn printed(alloc: Global) -> Result<Bytes, NoMemory> {
     let mut out = Bytes::new(alloc);
     let mut pen = Pen::new(&mut out);

@@ -2,7 +2,7 @@ use Rattle.std.proofs.Common.{◌≡◌, None, true≢false, sym, ◌∙◌}
 use Rattle.std.specs.Prelude.{IsSome, ◌↔◌}
 use Rattle.std.proofs.lemmas.Result.{IfOk-weaker}
 use Rattle.hex.specs.Hex.{encode_lower, decode_of}
-use Rattle.mc_text.specs.Number.{AreBytes, AreDigitPairs, Spelled, value_of, bytes_of}
+use Rattle.mc_text.specs.Number.{AreBytes, AreDigitPairs, Spelled, value_of, bytes_of_digits}
 use Rattle.mc_text.proofs.HexPairs.{none-spelled, digits-spelled, spelled-found, spelled-read}
 use Rattle.mc_text.proofs.bytes.hex_bytes.Goals as goal
 
@@ -24,7 +24,7 @@ pub returns-then-are_hex_digits-clause-read : goal.returns-then-are_hex_digits-c
 returns-then-are_hex_digits-clause-read c =
     let text = c.args.atom.now in
     let h = c.are_hex_digits.ensures.0 c.if-are_hex_digits.true in
-    IfOk-weaker c.decoded.result (λ found. found ≡ value_of (decode_of text)) (λ found. found ≡ bytes_of text)
+    IfOk-weaker c.decoded.result (λ found. found ≡ value_of (decode_of text)) (λ found. found ≡ bytes_of_digits text)
     (λ found e. spelled-read text found (digits-spelled text found h.0 h.1 e)) c.decoded.ensures
 
 pub returns-else-are_hex_digits : goal.returns-else-are_hex_digits

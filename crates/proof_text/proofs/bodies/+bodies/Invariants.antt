@@ -1,7 +1,7 @@
 use Rattle.std.proofs.Common.{◌≡◌, ◌+◌, ◌*◌, map}
-use Rattle.mc_text.specs.Reading.{times, with_front}
+use Rattle.mc_text.specs.Reading.{times, with_prefix}
 use Rattle.mc_text.specs.Scanning.{tokens_at}
-use Rattle.term_text.specs.Outcome.{last_line}
+use Rattle.mc_text.specs.Outcome.{last_line}
 use Rattle.tailrec_lang.specs.Tree.{body_tree}
 use Rattle.proof_text.specs.Reading.{arm_at, body_at}
 use Rattle.proof_text.proofs.bodies.+bodies.Given as goal
@@ -27,7 +27,7 @@ decreases-read_end l = 6 * l.room + 4
 -- what was read, in front of what is left to read, is what all is read as
 abbrev pub invariant-read_arms-arms : goal.invariant-read_arms-arms
 invariant-read_arms-arms l = record {
-  told : with_front (map body_tree l.arms) (times l.left (arm_at (body_at l.room)) (tokens_at l.scan)) ≡ times l.fn.count (arm_at (body_at l.room)) (tokens_at l.fn.scan);
+  told : with_prefix (map body_tree l.arms) (times l.left (arm_at (body_at l.room)) (tokens_at l.scan)) ≡ times l.fn.count (arm_at (body_at l.room)) (tokens_at l.fn.scan);
   last : last_line l.scan ≡ last_line l.fn.scan;
 }
 

@@ -1,8 +1,8 @@
 use Rattle.std.proofs.Common.{ap, sym, ◌∙◌, List as Items}
-use Rattle.mc_text.specs.Reading.{star, with_front, atom_of, one}
+use Rattle.mc_text.specs.Reading.{star, with_prefix, atom_of, one}
 use Rattle.mc_text.specs.Scanning.{tokens_at}
 use Rattle.mc_text.proofs.Star.{star-more, star-ends}
-use Rattle.term_text.proofs.StarReads.{star-stopped}
+use Rattle.mc_text.proofs.StarReads.{star-stopped}
 use Rattle.proof_text.specs.Reading.{has_atom, exit_of}
 use Rattle.tailrec_lang.specs.declared.group.Exit.{Exit}
 use Rattle.proof_text.proofs.HeadLaws.{exit-shrinks}
@@ -13,7 +13,7 @@ each-smaller c = exit-shrinks _ _ _ c.in-Ok.ensures.gives
 
 pub each-preserved : goal.each-preserved
 each-preserved c = record {
-  told = ap (λ (front : Items Exit). with_front front (star has_atom (one (atom_of exit_of)) (tokens_at c.read_exit.new.scan))) c.in_ok-push-in-Ok.ensures.ok
+  told = ap (λ (front : Items Exit). with_prefix front (star has_atom (one (atom_of exit_of)) (tokens_at c.read_exit.new.scan))) c.in_ok-push-in-Ok.ensures.ok
       ∙ star-more has_atom (one (atom_of exit_of)) exit-shrinks c.each.exits _ _ _ _ (sym c.each-test.ensures) c.in-Ok.ensures.gives c.each.invariant.told;
   last = c.in-Ok.ensures.last ∙ c.each.invariant.last;
 }

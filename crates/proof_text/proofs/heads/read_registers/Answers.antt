@@ -1,9 +1,8 @@
 use Rattle.std.proofs.Common.{ℕ, ap, sym, ◌∙◌, List as Items}
-use Rattle.mc_text.specs.Reading.{star, with_front}
+use Rattle.mc_text.specs.Reading.{star, with_prefix, number_at}
 use Rattle.mc_text.specs.Scanning.{tokens_at}
 use Rattle.mc_text.proofs.Star.{star-more, star-ends}
-use Rattle.term_text.proofs.StarReads.{star-stopped}
-use Rattle.term_text.specs.Reading.{number_at}
+use Rattle.mc_text.proofs.StarReads.{star-stopped}
 use Rattle.proof_text.specs.Reading.{has_atom}
 use Rattle.proof_text.proofs.HeadLaws.{register-shrinks}
 use Rattle.proof_text.proofs.heads.read_registers.Goals as goal
@@ -13,7 +12,7 @@ each-smaller c = register-shrinks _ _ _ c.in-Ok.ensures.gives
 
 pub each-preserved : goal.each-preserved
 each-preserved c = record {
-  told = ap (λ (front : Items ℕ). with_front front (star has_atom (number_at 32) (tokens_at c.read_register.new.scan))) c.in_ok-push-in-Ok.ensures.ok
+  told = ap (λ (front : Items ℕ). with_prefix front (star has_atom (number_at 32) (tokens_at c.read_register.new.scan))) c.in_ok-push-in-Ok.ensures.ok
       ∙ star-more has_atom (number_at 32) register-shrinks c.each.registers _ _ _ _ (sym c.each-test.ensures) c.in-Ok.ensures.gives c.each.invariant.told;
   last = c.in-Ok.ensures.last ∙ c.each.invariant.last;
 }

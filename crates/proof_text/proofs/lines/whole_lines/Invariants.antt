@@ -1,5 +1,5 @@
 use Rattle.std.proofs.Common.{◌≡◌, ◌≤◌, drop, length}
-use Rattle.mc_text.specs.Scanning.{newlines}
+use Rattle.mc_text.specs.Fault.{newlines}
 use Rattle.proof_text.proofs.lines.whole_lines.Given as goal
 
 abbrev pub invariant-back : goal.invariant-back

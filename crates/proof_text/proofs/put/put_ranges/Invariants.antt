@@ -1,11 +1,11 @@
 use Rattle.std.proofs.Common.{◌≡◌, drop}
 use Rattle.mc_text.specs.Printing.{Keeps, page, print}
-use Rattle.mc_text.specs.Reading.{each}
+use Rattle.mc_text.specs.Tokens.{all_tokens}
 use Rattle.term_text.specs.Spelling.{range_tokens}
 use Rattle.proof_text.proofs.put.put_ranges.Given as goal
 
 abbrev pub invariant-loop-range : goal.invariant-loop-range
 invariant-loop-range l = record {
-  told : print (each range_tokens l.ranges) (page l.fn.pen) ≡ print (each range_tokens (drop l.range-index l.ranges)) (page l.pen);
+  told : print (all_tokens range_tokens l.ranges) (page l.fn.pen) ≡ print (all_tokens range_tokens (drop l.range-index l.ranges)) (page l.pen);
   kept : Keeps (page l.fn.pen) (page l.pen);
 }

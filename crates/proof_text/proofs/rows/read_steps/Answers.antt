@@ -1,6 +1,6 @@
 use Rattle.std.proofs.Common.{map, sym, ◌∙◌, List as Items}
 use Rattle.mc_text.proofs.Star.{star-pushed, star-ends}
-use Rattle.term_text.proofs.StarReads.{star-stopped}
+use Rattle.mc_text.proofs.StarReads.{star-stopped}
 use Rattle.tailrec_lang.specs.declared.group.Step.{Step}
 use Rattle.tailrec_lang.specs.Tree.{step_tree}
 use Rattle.proof_text.specs.Reading.{is_step, step_at}

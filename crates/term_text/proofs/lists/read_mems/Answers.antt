@@ -5,7 +5,7 @@ use Rattle.word_terms.specs.Tree.{mem_tree}
 use Rattle.term_text.specs.Limits.{depth_limit}
 use Rattle.term_text.specs.Reading.{begins_mem, mem_at}
 use Rattle.term_text.proofs.TermLaws.{mem-shrinks}
-use Rattle.term_text.proofs.StarReads.{star-stopped}
+use Rattle.mc_text.proofs.StarReads.{star-stopped}
 use Rattle.term_text.proofs.lists.read_mems.Goals as goal
 
 pub mems-smaller : goal.mems-smaller

@@ -1,11 +1,11 @@
 use Rattle.std.proofs.Common.{ap, sym, ◌∙◌, List as Items}
-use Rattle.mc_text.specs.Reading.{star, with_front}
+use Rattle.mc_text.specs.Reading.{star, with_prefix, is_open}
 use Rattle.mc_text.specs.Scanning.{tokens_at}
 use Rattle.mc_text.proofs.Star.{star-more, star-ends}
 use Rattle.rv_words.specs.declared.range.Range.{Range}
-use Rattle.term_text.specs.Reading.{is_open, range_at}
+use Rattle.term_text.specs.Reading.{range_at}
 use Rattle.term_text.proofs.TermLaws.{range-shrinks}
-use Rattle.term_text.proofs.StarReads.{star-stopped}
+use Rattle.mc_text.proofs.StarReads.{star-stopped}
 use Rattle.term_text.proofs.lists.read_ranges.Goals as goal
 
 pub each-smaller : goal.each-smaller
@@ -13,7 +13,7 @@ each-smaller c = range-shrinks _ _ _ c.in-Ok.ensures.gives
 
 pub each-preserved : goal.each-preserved
 each-preserved c = record {
-  told = ap (λ (front : Items Range). with_front front (star is_open range_at (tokens_at c.read_range.new.scan))) c.in_ok-push-in-Ok.ensures.ok
+  told = ap (λ (front : Items Range). with_prefix front (star is_open range_at (tokens_at c.read_range.new.scan))) c.in_ok-push-in-Ok.ensures.ok
       ∙ star-more is_open range_at range-shrinks c.each.ranges _ _ _ _ (sym c.each-test.ensures) c.in-Ok.ensures.gives c.each.invariant.told;
   last = c.in-Ok.ensures.last ∙ c.each.invariant.last;
 }

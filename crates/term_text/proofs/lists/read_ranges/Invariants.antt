@@ -1,14 +1,14 @@
 use Rattle.std.proofs.Common.{◌≡◌, length}
-use Rattle.mc_text.specs.Reading.{star, with_front}
+use Rattle.mc_text.specs.Reading.{star, with_prefix, is_open}
 use Rattle.mc_text.specs.Scanning.{tokens_at}
-use Rattle.term_text.specs.Reading.{is_open, range_at}
-use Rattle.term_text.specs.Outcome.{last_line}
+use Rattle.term_text.specs.Reading.{range_at}
+use Rattle.mc_text.specs.Outcome.{last_line}
 use Rattle.term_text.proofs.lists.read_ranges.Given as goal
 
 -- what was read, in front of what is left to read, is what all is read as
 abbrev pub invariant-each : goal.invariant-each
 invariant-each l = record {
-  told : with_front l.ranges (star is_open range_at (tokens_at l.scan)) ≡ star is_open range_at (tokens_at l.fn.scan);
+  told : with_prefix l.ranges (star is_open range_at (tokens_at l.scan)) ≡ star is_open range_at (tokens_at l.fn.scan);
   last : last_line l.scan ≡ last_line l.fn.scan;
 }
 

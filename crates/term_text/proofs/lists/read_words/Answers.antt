@@ -5,7 +5,7 @@ use Rattle.word_terms.specs.Tree.{word_tree}
 use Rattle.term_text.specs.Limits.{depth_limit}
 use Rattle.term_text.specs.Reading.{begins_word, word_at}
 use Rattle.term_text.proofs.TermLaws.{word-shrinks}
-use Rattle.term_text.proofs.StarReads.{star-stopped}
+use Rattle.mc_text.proofs.StarReads.{star-stopped}
 use Rattle.term_text.proofs.lists.read_words.Goals as goal
 
 pub words-smaller : goal.words-smaller

@@ -2,9 +2,9 @@ use Rattle.std.proofs.Common.{◌≡◌, eqb, Ok, refl, sym, ap, subst, ◌∙�
 use Rattle.mc_text.specs.Fault.{IsBadAt}
 use Rattle.mc_text.specs.Scanning.{tokens_at}
 use Rattle.tailrec_lang.specs.Tree.{GroupTree, group_tree}
-use Rattle.proof_text.specs.Limits.{texts}
+use Rattle.proof_text.specs.Limits.{proof_texts}
 use Rattle.proof_text.specs.Spelling.{text_of}
-use Rattle.proof_text.specs.Front.{HasGiven}
+use Rattle.proof_text.specs.FirstGroups.{HasGiven}
 use Rattle.proof_text.specs.Answers.{OnEnd, OnBad, NoGroup}
 use Rattle.proof_text.specs.Reading.{turn_at}
 use Rattle.proof_text.proofs.Called.{line-fits, gives-bad, called-bad, stopped-no-group, called-end, called-more, end-no-group, called-line, called-fits, called-needs, next-place, next-lines, called-given}
@@ -23,10 +23,10 @@ overflow_add-self c =
 pub invariant_of-self : goal.invariant_of-self
 invariant_of-self c = (
   next-lines c.self.inside.text.now c.self.inside.lines.now c.self.inside.tail.now c.self.inside.place c.args.self.now c.self.view_is c.self.invariant.0 c.self.invariant.1 c.new-scan.result c.read_turn.new.scan c.new-scan.ensures c.in-Ok-Some.ensures.last c.line-count.result c.line-count.ensures
-      (group_tree c.in-Ok-Some.group) (c.in-Ok-Some.ensures.gives ∙ ap (λ o. Ok (option_map group_tree o, tokens_at c.read_turn.new.scan)) c.in-Ok-Some.field-0-is) c.behind_lines-self-inside.result.now c.behind_lines-self-inside.ensures,
+      (group_tree c.in-Ok-Some.group) (c.in-Ok-Some.ensures.gives ∙ ap (λ o. Ok (option_map group_tree o, tokens_at c.read_turn.new.scan)) c.in-Ok-Some.field-0-is) c.after_lines-self-inside.result.now c.after_lines-self-inside.ensures,
   c.self.invariant.1,
   next-place c.self.inside.text.now c.self.inside.lines.now c.self.inside.tail.now c.self.inside.place c.args.self.now c.self.view_is c.self.invariant.0 c.self.invariant.1 c.new-scan.result c.read_turn.new.scan c.new-scan.ensures c.in-Ok-Some.ensures.last c.line-count.result c.line-count.ensures
-      (group_tree c.in-Ok-Some.group) (c.in-Ok-Some.ensures.gives ∙ ap (λ o. Ok (option_map group_tree o, tokens_at c.read_turn.new.scan)) c.in-Ok-Some.field-0-is) c.behind_lines-self-inside.result.now c.behind_lines-self-inside.ensures c.self.invariant.2,
+      (group_tree c.in-Ok-Some.group) (c.in-Ok-Some.ensures.gives ∙ ap (λ o. Ok (option_map group_tree o, tokens_at c.read_turn.new.scan)) c.in-Ok-Some.field-0-is) c.after_lines-self-inside.result.now c.after_lines-self-inside.ensures c.self.invariant.2,
 )
 
 pub overflow_add-result : goal.overflow_add-result
@@ -41,7 +41,7 @@ overflow_add-result-in-Err-Bad c =
 
 pub returns-in-Ok-Some-clause-given : goal.returns-in-Ok-Some-clause-given
 returns-in-Ok-Some-clause-given c = called-given c.self.inside.text.now c.self.inside.lines.now c.self.inside.tail.now c.self.inside.place c.args.self.now c.self.view_is c.self.invariant.0 c.self.invariant.1 c.new-scan.result c.read_turn.new.scan c.new-scan.ensures c.in-Ok-Some.ensures.last c.line-count.result c.line-count.ensures
-    (group_tree c.in-Ok-Some.group) (c.in-Ok-Some.ensures.gives ∙ ap (λ o. Ok (option_map group_tree o, tokens_at c.read_turn.new.scan)) c.in-Ok-Some.field-0-is) c.behind_lines-self-inside.result.now c.behind_lines-self-inside.ensures
+    (group_tree c.in-Ok-Some.group) (c.in-Ok-Some.ensures.gives ∙ ap (λ o. Ok (option_map group_tree o, tokens_at c.read_turn.new.scan)) c.in-Ok-Some.field-0-is) c.after_lines-self-inside.result.now c.after_lines-self-inside.ensures
 
 pub returns-in-Ok-Some-clause-fits : goal.returns-in-Ok-Some-clause-fits
 returns-in-Ok-Some-clause-fits c = called-fits c.self.inside.text.now c.self.inside.lines.now c.self.inside.tail.now c.self.inside.place c.args.self.now c.self.view_is c.self.invariant.0 c.self.invariant.1 c.new-scan.result c.read_turn.new.scan c.new-scan.ensures c.in-Ok-Some.ensures.last c.line-count.result c.line-count.ensures
@@ -69,8 +69,8 @@ returns-after-is_end-clause-end c = elim c.if-is_end.branch [
 
 pub returns-after-is_end-clause-bad : goal.returns-after-is_end-clause-bad
 returns-after-is_end-clause-bad c = elim c.if-is_end.branch [
-  | then-is_end w ↦ subst (λ q. OnBad q (λ n. (gs : Items GroupTree) → HasGiven gs c.args.self.now → IsBadAt texts c.args.self.now.text n)) (sym w.result-is) tt
-  | else-is_end w ↦ subst (λ q. OnBad q (λ n. (gs : Items GroupTree) → HasGiven gs c.args.self.now → IsBadAt texts c.args.self.now.text n)) (sym w.result-is)
+  | then-is_end w ↦ subst (λ q. OnBad q (λ n. (gs : Items GroupTree) → HasGiven gs c.args.self.now → IsBadAt proof_texts c.args.self.now.text n)) (sym w.result-is) tt
+  | else-is_end w ↦ subst (λ q. OnBad q (λ n. (gs : Items GroupTree) → HasGiven gs c.args.self.now → IsBadAt proof_texts c.args.self.now.text n)) (sym w.result-is)
       (called-more c.self.inside.text.now c.self.inside.lines.now c.self.inside.tail.now c.self.inside.place c.args.self.now c.self.view_is c.self.invariant.0 c.self.invariant.1 c.new-scan.result c.read_turn.new.scan c.new-scan.ensures c.in-Ok-None.ensures.last w.line.result w.line.ensures
       (c.in-Ok-None.ensures.gives ∙ ap (λ o. Ok (option_map group_tree o, tokens_at c.read_turn.new.scan)) c.in-Ok-None.field-0-is) (c.is_end.ensures.more w.if-is_end.false))
 ]

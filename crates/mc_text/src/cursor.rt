@@ -2,14 +2,16 @@
 
 ghost use Rattle.std.specs.Prelude.{◌≡◌, ◌≤◌, ◌<◌, ◌^◌, IfSome, IfOk, OnOk};
 ghost use Rattle.mc_text.specs.declared.token.Before.TheVariants.{Start};
-ghost use Rattle.mc_text.specs.Tokens.{tok, after};
+ghost use Rattle.mc_text.specs.Tokens.{tok, before_next};
 ghost use Rattle.mc_text.specs.Scanning.{tokens_at};
-ghost use Rattle.mc_text.specs.Reading.{one, is_left, is_right, is_semi, is_eol, is_atom, is_word, below, goes_on};
-ghost use Rattle.term_text.specs.Outcome.{Gives, last_line, IsAhead, Accepts};
-ghost use Rattle.term_text.specs.Reading.{number_at, address_at, bytes_at, begins_with_m, begins_word, begins_mem, is_open};
-ghost use Rattle.term_text.specs.declared.cursor.Stop.TheVariants.{NoMemory};
+ghost use Rattle.mc_text.specs.Reading.{one, is_left, is_right, is_semi, is_eol, is_atom, is_word, below, goes_on, number_at, address_at, bytes_at, is_open};
+ghost use Rattle.mc_text.specs.Outcome.{Gives, last_line, IsAhead, Accepts};
+ghost use Rattle.mc_text.specs.declared.cursor.Stop.TheVariants.{NoMemory};
 
-use mc_text::{Scan, Token, dec, hex_bytes, hexnum};
+use crate::bytes::hex_bytes;
+use crate::number::{dec, hexnum};
+use crate::scan::Scan;
+use crate::token::Token;
 use rv_words::{Bytes, NoMemory as OutOfMemory};
 use std::alloc::{AllocError, AllocFailed, Global};
 
@@ -45,11 +47,11 @@ impl<T: Drop> From<AllocFailed<T>> for Stop {
     }
 }
 
-/// The next token, and a scanner behind it; none where no token begins.
+/// The next token, and a scanner after it; none where no token begins.
 #[tactic(auto, using(crate::proofs::Ahead::ahead_is, crate::proofs::Ahead::ahead_last))]
 pub fn peek<'a>(scan: &Scan<'a>) -> Option<(Token<'a>, Scan<'a>)>
     ensures ahead { IsAhead result scan.now }
-    ensures before { IfSome result (λ q. q.1.before ≡ after (tok q.0)) }
+    ensures before { IfSome result (λ q. q.1.before ≡ before_next (tok q.0)) }
     ensures last { IfSome result (λ q. last_line q.1 ≡ last_line scan.now) }
 {
     let mut ahead = scan.fork();
@@ -59,7 +61,7 @@ pub fn peek<'a>(scan: &Scan<'a>) -> Option<(Token<'a>, Scan<'a>)>
     }
 }
 
-/// Stands behind the token where it gave something. Else it is bad.
+/// Stands after the token where it gave something. Else it is bad.
 pub fn accept<'a, T>(scan: &mut Scan<'a>, ahead: Scan<'a>, found: Option<T>) -> Result<T, Stop>
     ensures { Accepts found result scan.old ahead.entry scan.new }
 {
@@ -73,7 +75,7 @@ pub fn accept<'a, T>(scan: &mut Scan<'a>, ahead: Scan<'a>, found: Option<T>) -> 
 }
 
 /// Passes over a left parenthesis.
-#[tactic(auto, unfolding(mc_text::specs::Reading::one))]
+#[tactic(auto, unfolding(crate::specs::Reading::one))]
 pub fn left<'a>(scan: &mut Scan<'a>) -> Result<(), Stop>
     ensures gives { Gives (λ _. tt) result scan.old scan.new (one is_left) }
     ensures last { last_line scan.new ≡ last_line scan.old }
@@ -85,7 +87,7 @@ pub fn left<'a>(scan: &mut Scan<'a>) -> Result<(), Stop>
 }
 
 /// Passes over a right parenthesis.
-#[tactic(auto, unfolding(mc_text::specs::Reading::one))]
+#[tactic(auto, unfolding(crate::specs::Reading::one))]
 pub fn right<'a>(scan: &mut Scan<'a>) -> Result<(), Stop>
     ensures gives { Gives (λ _. tt) result scan.old scan.new (one is_right) }
     ensures last { last_line scan.new ≡ last_line scan.old }
@@ -97,7 +99,7 @@ pub fn right<'a>(scan: &mut Scan<'a>) -> Result<(), Stop>
 }
 
 /// Passes over a semicolon.
-#[tactic(auto, unfolding(mc_text::specs::Reading::one))]
+#[tactic(auto, unfolding(crate::specs::Reading::one))]
 pub fn semi<'a>(scan: &mut Scan<'a>) -> Result<(), Stop>
     ensures gives { Gives (λ _. tt) result scan.old scan.new (one is_semi) }
     ensures last { last_line scan.new ≡ last_line scan.old }
@@ -109,7 +111,7 @@ pub fn semi<'a>(scan: &mut Scan<'a>) -> Result<(), Stop>
 }
 
 /// Passes over the end of a line.
-#[tactic(auto, unfolding(mc_text::specs::Reading::one))]
+#[tactic(auto, unfolding(crate::specs::Reading::one))]
 pub fn eol<'a>(scan: &mut Scan<'a>) -> Result<(), Stop>
     ensures gives { Gives (λ _. tt) result scan.old scan.new (one is_eol) }
     ensures last { last_line scan.new ≡ last_line scan.old }
@@ -122,7 +124,7 @@ pub fn eol<'a>(scan: &mut Scan<'a>) -> Result<(), Stop>
 }
 
 /// An atom, whatever it spells.
-#[tactic(auto, unfolding(mc_text::specs::Reading::one))]
+#[tactic(auto, unfolding(crate::specs::Reading::one))]
 pub fn atom<'a>(scan: &mut Scan<'a>) -> Result<&'a [u8], Stop>
     ensures gives { Gives (λ a. a.now) result scan.old scan.new (one is_atom) }
     ensures last { last_line scan.new ≡ last_line scan.old }
@@ -134,7 +136,7 @@ pub fn atom<'a>(scan: &mut Scan<'a>) -> Result<&'a [u8], Stop>
 }
 
 /// Passes over this word.
-#[tactic(auto, unfolding(mc_text::specs::Reading::one))]
+#[tactic(auto, unfolding(crate::specs::Reading::one))]
 pub fn keyword<'a>(scan: &mut Scan<'a>, text: &[u8]) -> Result<(), Stop>
     ensures gives { Gives (λ _. tt) result scan.old scan.new (one (is_word text.now)) }
     ensures last { last_line scan.new ≡ last_line scan.old }
@@ -146,7 +148,7 @@ pub fn keyword<'a>(scan: &mut Scan<'a>, text: &[u8]) -> Result<(), Stop>
 }
 
 /// A decimal number below the limit.
-#[tactic(auto, unfolding(mc_text::specs::Reading::one))]
+#[tactic(auto, unfolding(crate::specs::Reading::one))]
 pub fn number<'a>(scan: &mut Scan<'a>, limit: u64) -> Result<u64, Stop>
     ensures gives { Gives (λ n. n) result scan.old scan.new (number_at limit) }
     ensures small { IfOk result (λ n. n < limit) }
@@ -159,7 +161,7 @@ pub fn number<'a>(scan: &mut Scan<'a>, limit: u64) -> Result<u64, Stop>
 }
 
 /// The number where it is below the limit.
-pub(crate) fn below(limit: u64, number: Option<u64>) -> Option<u64>
+fn below(limit: u64, number: Option<u64>) -> Option<u64>
     ensures below { result ≡ below limit number }
     ensures small { IfSome result (λ n. n < limit) }
 {
@@ -170,7 +172,7 @@ pub(crate) fn below(limit: u64, number: Option<u64>) -> Option<u64>
 }
 
 /// An address, in hexadecimal digits.
-#[tactic(auto, unfolding(mc_text::specs::Reading::one))]
+#[tactic(auto, unfolding(crate::specs::Reading::one))]
 pub fn address<'a>(scan: &mut Scan<'a>) -> Result<u64, Stop>
     ensures gives { Gives (λ n. n) result scan.old scan.new address_at }
     ensures last { last_line scan.new ≡ last_line scan.old }
@@ -182,7 +184,7 @@ pub fn address<'a>(scan: &mut Scan<'a>) -> Result<u64, Stop>
 }
 
 /// One byte or more, in two hexadecimal digits each.
-#[tactic(auto, unfolding(mc_text::specs::Reading::one))]
+#[tactic(auto, unfolding(crate::specs::Reading::one))]
 pub fn bytes<'a>(alloc: Global, scan: &mut Scan<'a>) -> Result<Bytes, Stop>
     ensures gives { Gives (λ bytes. bytes) result scan.old scan.new bytes_at }
     ensures last { last_line scan.new ≡ last_line scan.old }
@@ -191,34 +193,6 @@ pub fn bytes<'a>(alloc: Global, scan: &mut Scan<'a>) -> Result<Bytes, Stop>
         Some((Token::Atom(atom), ahead)) => accept(scan, ahead, hex_bytes(alloc, atom)?),
         _ => Err(Stop::Bad),
     }
-}
-
-/// Whether a word follows, to go by its first token.
-pub fn begins_word(scan: &Scan<'_>) -> bool
-    ensures { result ≡ goes_on begins_word (tokens_at scan.now) }
-{
-    match peek(scan) {
-        Some((Token::Left, _)) => true,
-        Some((Token::Atom(atom), _)) => !begins_with_m(atom),
-        _ => false,
-    }
-}
-
-/// Whether a memory follows, to go by its first token.
-pub fn begins_mem(scan: &Scan<'_>) -> bool
-    ensures { result ≡ goes_on begins_mem (tokens_at scan.now) }
-{
-    match peek(scan) {
-        Some((Token::Left, _)) => true,
-        Some((Token::Atom(atom), _)) => begins_with_m(atom),
-        _ => false,
-    }
-}
-
-fn begins_with_m(atom: &[u8]) -> bool
-    ensures { result ≡ begins_with_m atom.now }
-{
-    atom.starts_with(b"m")
 }
 
 /// Whether a left parenthesis follows.

@@ -1,6 +1,6 @@
 use Rattle.proof_text.proofs.Cuts.{left-none, left-end, next-true, next-false}
-use Rattle.proof_text.proofs.lines.behind_lines.Goals as goal
-use Rattle.proof_text.proofs.lines.behind_lines.Goals.{then-byte-eq10, else-byte-eq10}
+use Rattle.proof_text.proofs.lines.after_lines.Goals as goal
+use Rattle.proof_text.proofs.lines.after_lines.Goals.{then-byte-eq10, else-byte-eq10}
 
 pub returns-then-left-eq0 : goal.returns-then-left-eq0
 returns-then-left-eq0 c = left-none c.args.text.now c.loop-i.i c.loop-i.left _ c.if-left-eq0.true c.loop-i.invariant

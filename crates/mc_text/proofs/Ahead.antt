@@ -4,9 +4,9 @@ use Rattle.mc_text.specs.declared.token.Token.{Token}
 use Rattle.mc_text.specs.declared.token.Token.TheVariants as token
 use Rattle.mc_text.specs.Tokens.{Tok, Done, Place, Passes, tok, eol}
 use Rattle.mc_text.specs.Scanning.{tokens_at, eols, ScansOne}
-use Rattle.term_text.specs.Outcome.{last_line, behind, IsAhead}
+use Rattle.mc_text.specs.Outcome.{last_line, after_token, IsAhead}
 
-not-done : (t : Token) (ts : List Tok) → (tok t ≡ Done → ⊥) → behind t ts ≡ ts
+not-done : (t : Token) (ts : List Tok) → (tok t ≡ Done → ⊥) → after_token t ts ≡ ts
 not-done token.Left ts h = refl
 not-done token.Right ts h = refl
 not-done token.Semi ts h = refl
@@ -14,7 +14,7 @@ not-done (token.Atom a) ts h = refl
 not-done token.Eol ts h = refl
 not-done token.Done ts h = absurd (h refl)
 
-is-done : (t : Token) (ts : List Tok) → tok t ≡ Done → behind t ts ≡ []
+is-done : (t : Token) (ts : List Tok) → tok t ≡ Done → after_token t ts ≡ []
 is-done token.Left ts e = absurd cc
 is-done token.Right ts e = absurd cc
 is-done token.Semi ts e = absurd cc

@@ -1,0 +1,37 @@
+//! Which term follows, to go by its first token.
+
+ghost use Rattle.std.specs.Prelude.{◌≡◌};
+ghost use Rattle.mc_text.specs.Reading.{goes_on};
+ghost use Rattle.mc_text.specs.Scanning.{tokens_at};
+ghost use Rattle.term_text.specs.Reading.{begins_with_m, begins_word, begins_mem};
+
+use mc_text::cursor::peek;
+use mc_text::{Scan, Token};
+
+/// Whether a word follows, to go by its first token.
+pub fn begins_word(scan: &Scan<'_>) -> bool
+    ensures { result ≡ goes_on begins_word (tokens_at scan.now) }
+{
+    match peek(scan) {
+        Some((Token::Left, _)) => true,
+        Some((Token::Atom(atom), _)) => !begins_with_m(atom),
+        _ => false,
+    }
+}
+
+/// Whether a memory follows, to go by its first token.
+pub fn begins_mem(scan: &Scan<'_>) -> bool
+    ensures { result ≡ goes_on begins_mem (tokens_at scan.now) }
+{
+    match peek(scan) {
+        Some((Token::Left, _)) => true,
+        Some((Token::Atom(atom), _)) => begins_with_m(atom),
+        _ => false,
+    }
+}
+
+fn begins_with_m(atom: &[u8]) -> bool
+    ensures { result ≡ begins_with_m atom.now }
+{
+    atom.starts_with(b"m")
+}
