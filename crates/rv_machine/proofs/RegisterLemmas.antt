@@ -1,13 +1,12 @@
 -- What an instruction does to registers: it writes its destination alone, by what it reads.
-use Rattle.std.proofs.Common.{◌≡◌, ℕ, ◌+◌, ◌%◌, ◌^◌, Bool, true, false, cond, eqb, eqb-true, eq-eqb, ◌||◌, refl, sym, ap, ◌∙◌}
-use Rattle.std.proofs.lemmas.Bool.{cond-true, cond-false}
-use Rattle.rv_words.specs.Bytes.{bytes_of, load, store}
+use Rattle.std.proofs.Common.{◌≡◌, ℕ, ◌+◌, ◌%◌, ◌^◌, Bool, true, false, cond, eqb, eqb-true, eq-eqb, ◌||◌, refl, sym, ◌∙◌}
+use Rattle.rv_words.specs.Bytes.{bytes_of, store}
 use Rattle.rv_words.specs.Operation.{comparison_holds, operation_value, word_of}
 use Rattle.rv_decode.specs.declared.instruction.Instr.{Instr}
 use Rattle.rv_decode.specs.declared.instruction.Instr.TheVariants.{Op, OpImm, Lui, Auipc, Jal, Jalr, Branch, Load, Store, Fence, Ecall, Ebreak}
 use Rattle.rv_decode.specs.Registers.{destination, is_read, is_written}
 use Rattle.rv_machine.specs.State.{State, with_register}
-use Rattle.rv_machine.specs.Step.{has, is_aligned, jump_target, loaded, next, plus, reads, upper}
+use Rattle.rv_machine.specs.Step.{has, is_aligned, jump_target, loaded, plus, reads, upper}
 use Rattle.rv_machine.specs.Update.{HaveSame, is_possible, mem_after, pc_after, reg_after}
 
 -- ---- the register that is written

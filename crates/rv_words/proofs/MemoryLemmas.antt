@@ -1,5 +1,5 @@
 -- Bytes at n addresses from a on, modulo 2 ^ 64: which are present, what a store leaves and writes, and what a load gives.
-use Rattle.std.proofs.Common.{◌≡◌, ◌≢◌, ℕ, zero, suc, ◌+◌, ◌-◌, ◌*◌, ◌/◌, ◌%◌, ◌^◌, ◌<◌, ◌≤◌, Bool, true, false, cond, eqb, ◌&&◌, ◌↔◌, Option, Some, None, is_some, option_map, List, [], ◌∷◌, length, replicate, get_or, refl, sym, ap, subst, ◌∙◌, ⊎_elim, arith}
+use Rattle.std.proofs.Common.{◌≡◌, ◌≢◌, ℕ, zero, suc, ◌+◌, ◌-◌, ◌*◌, ◌/◌, ◌%◌, ◌^◌, ◌<◌, ◌≤◌, Bool, true, false, cond, eqb, ◌&&◌, ◌↔◌, Option, Some, None, is_some, option_map, List, [], ◌∷◌, length, refl, sym, ap, subst, ◌∙◌, ⊎_elim, arith}
 use Rattle.std.specs.Option.{option_or, unwrap_or}
 use Rattle.std.specs.List.{slice_get}
 use Rattle.std.specs.Prelude.{All}
@@ -9,8 +9,8 @@ use Rattle.std.proofs.lemmas.Nat.{pow_pos}
 use Rattle.std.proofs.lemmas.Option.{get_or_from_slice_get, slice_get-get_or, slice_get_within}
 use Rattle.rv_words.specs.Bytes.{AreAt, AreBytes, AreSame, Bytes, IsMemory, after, away, bytes_from, inside, load, number_of, over, store, word_at}
 use Rattle.rv_words.specs.declared.pieces.Piece.{Piece}
-use Rattle.rv_words.specs.Pieces.{AreKept, ArePiecesFrom, bytes_in, end, past}
-use Rattle.rv_words.proofs.PieceLemmas.{bytes_before, bytes_past, bytes_within}
+use Rattle.rv_words.specs.Pieces.{AreKept, ArePiecesFrom, bytes_in, past}
+use Rattle.rv_words.proofs.PieceLemmas.{bytes_before, bytes_within}
 
 pub away-zero : (a : ℕ) → a < 2 ^ 64 → away a 0 ≡ a
 away-zero a h = let e : a + 0 ≡ a = omega arith in ap (λ x. x % 2 ^ 64) e ∙ mod-eq_of_lt h

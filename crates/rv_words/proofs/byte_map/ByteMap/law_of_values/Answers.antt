@@ -1,4 +1,4 @@
-use Rattle.std.proofs.Common.{◌∙◌, ap, subst, sym}
+use Rattle.std.proofs.Common.{◌∙◌, subst, sym}
 use Rattle.std.specs.FinMap.{get}
 use Rattle.rv_words.specs.Bytes.{IsMemory}
 use Rattle.rv_words.proofs.MemoryLemmas.{kept-memory}
