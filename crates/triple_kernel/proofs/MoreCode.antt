@@ -1,5 +1,5 @@
 -- More code keeps a triple valid.
-use Rattle.std.proofs.Common.{◌≡◌, List, sym, ◌∙◌}
+use Rattle.std.proofs.Common.{List, sym, ◌∙◌}
 use Rattle.tailrec_lang.specs.Tree.{GroupTree}
 use Rattle.rv_words.specs.declared.range.Range.{Range}
 use Rattle.rv_words.specs.Ranges.{range_bytes}

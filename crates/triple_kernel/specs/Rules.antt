@@ -1,4 +1,6 @@
 -- The rules: when a stated triple is an instance of one. A rule that changes nothing is an instance too.
+-- In the figures `F ⊢ {P} code {Q}` is a triple with the facts F, above the line the premise p and what has to hold, and
+-- below it the stated triple t.
 use Rattle.std.specs.Prelude.{◌≡◌, ◌⊎◌, ℕ, List, map, IsTrue}
 use Rattle.std.specs.List.{Contains}
 use Rattle.rv_words.specs.declared.comparison.Cmp.{Cmp}
@@ -34,6 +36,10 @@ put_in_register s r = (r.0, put_in_word s r.1)
 abbrev pub put_in_assertion : Substitution → AssertionTree → AssertionTree
 put_in_assertion s a = record { pc = put_in_word s a.pc; regs = map (put_in_register s) a.regs; mems = map (put_in_mem s) a.mems }
 
+--     F ⊢ {P} code {Q}
+--   ──────────────────────────────
+--     F[s] ⊢ {P[s]} code {Q[s]}
+--
 -- t is p with terms put in everywhere at once, but for its code
 pub record IsInst (s : Substitution) (p t : TripleTree) : Type 0 where
   pub facts : map (put_in_fact s) p.facts ≡ t.facts
@@ -43,6 +49,10 @@ pub record IsInst (s : Substitution) (p t : TripleTree) : Type 0 where
 
 -- ---- terms that facts let stand for one another
 
+--     F ⊢ {P} code {Q}     F ⊆ G     P = P' by G
+--   ────────────────────────────────────────────────
+--     G ⊢ {P'} code {Q}
+--
 -- t is p with more facts, and with another precondition that is the same by these
 pub record IsStrengthened (p t : TripleTree) : Type 0 where
   pub code : p.code ≡ t.code
@@ -50,6 +60,10 @@ pub record IsStrengthened (p t : TripleTree) : Type 0 where
   pub facts : AreAmong p.facts t.facts
   pub pre : SwapAssertion t.facts p.pre t.pre
 
+--     F ⊢ {P} code {Q}     F ⊆ G     Q = Q' by G
+--   ────────────────────────────────────────────────
+--     G ⊢ {P} code {Q'}
+--
 -- t is p with more facts, and with another postcondition that is the same by these
 pub record IsWeakened (p t : TripleTree) : Type 0 where
   pub code : p.code ≡ t.code
@@ -104,6 +118,10 @@ Follows facts (Gives def exit args results) = ⊥
 pub record AreAmongOrFollow (some all : List FactTree) : Type 0 where
   pub each : (f : FactTree) → Contains some f → Contains all f ⊎ Follows all f
 
+--     F ⊢ {P} code {Q}     each fact of F is in G or follows from G
+--   ───────────────────────────────────────────────────────────────────
+--     G ⊢ {P} code {Q}
+--
 -- t is p but for its facts, among which those of p are, or from which they follow
 pub record IsDischarged (p t : TripleTree) : Type 0 where
   pub pre : p.pre ≡ t.pre

@@ -9,7 +9,7 @@ use rv_words::{Cmp, List, NoMemory, Width};
 use sep_assert::Assertion;
 use std::alloc::Global;
 use std::test::Fail;
-use tailrec_lang::Group;
+use tailrec_lang::{Group, Values};
 use word_terms::{Code, Cond, Mem, Sub, Word};
 
 /// A group without registers, code and definitions.
@@ -267,5 +267,75 @@ fn a_store_adds_no_address(rt: HostRuntime) -> Result<(), Fail> {
     let group = empty_group(alloc)?;
     let same = discharges_store(alloc, &group)?;
     assert!(rt; same == Some(true));
+    Ok(())
+}
+
+/// The fact that a definition leaves by that exit.
+fn leaves_by(alloc: Global, exit: u32) -> Fact {
+    let args = Values {
+        words: List::new(alloc),
+        mems: List::new(alloc),
+    };
+    let results = Values {
+        words: List::new(alloc),
+        mems: List::new(alloc),
+    };
+    Fact::Gives {
+        def: 1,
+        exit,
+        args,
+        results,
+    }
+}
+
+/// Whether a copy of the fact is that fact, and another one isn't.
+fn is_copied(alloc: Global, fact: &Fact, other: &Fact) -> Result<bool, NoMemory> {
+    let copy = copy_fact(alloc, fact)?;
+    Ok(same_fact(&copy, fact) && !same_fact(&copy, other))
+}
+
+/// Whether copies of facts are these facts in this order.
+fn are_copied(alloc: Global, facts: &[Fact]) -> Result<bool, NoMemory> {
+    let copies = copy_facts(alloc, facts)?;
+    Ok(same_facts(copies.as_slice(), facts) && are_among(facts, copies.as_slice()))
+}
+
+#[test]
+fn copies_are_the_same_facts(rt: HostRuntime) -> Result<(), Fail> {
+    let alloc = rt.alloc();
+    let facts = [
+        leaves_by(alloc, 2),
+        leaves_by(alloc, 3),
+        Fact::MemIs(Mem::Var(0), Mem::Var(1)),
+    ];
+    let one = is_copied(alloc, &facts[0], &facts[1])?;
+    assert!(rt; one);
+    let all = are_copied(alloc, &facts)?;
+    assert!(rt; all);
+    Ok(())
+}
+
+#[test]
+fn triples_are_compared(rt: HostRuntime) -> Result<(), Fail> {
+    let alloc = rt.alloc();
+    for (fact, before, after, answer) in [
+        (2, 1, 1, true),
+        (3, 1, 1, false),
+        (2, 2, 1, false),
+        (2, 1, 2, false),
+    ] {
+        let first = stays(alloc, equal(1, 2), 1, 1)?;
+        let second = stays(alloc, equal(1, fact), before, after)?;
+        let same = same_triple(&first, &second);
+        assert!(rt; same == answer);
+    }
+    Ok(())
+}
+
+#[test]
+fn want_of_memory_is_no_instance(rt: HostRuntime) -> Result<(), Fail> {
+    let fault = RuleFault::from(NoMemory);
+    assert!(rt; fault == RuleFault::NoMemory && fault != RuleFault::NoInstance);
+    assert!(rt; Form::Next != Form::Taken);
     Ok(())
 }
