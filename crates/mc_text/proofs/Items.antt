@@ -1,5 +1,5 @@
 -- A reader with a law reads an item by its spelling, and an item has one spelling.
-use Rattle.std.proofs.Common.{◌≡◌, ◌≢◌, List, ◌++◌, Result, Ok, Err, sym, ap, ◌∙◌}
+use Rattle.std.proofs.Common.{◌≡◌, List, ◌++◌, Result, Ok, Err, sym, ap, ◌∙◌}
 use Rattle.mc_text.specs.Tokens.{Tok, Place}
 use Rattle.mc_text.specs.Scanning.{tokens_at}
 use Rattle.mc_text.specs.Reading.{Reader}

@@ -10,6 +10,7 @@ pub mod ReaderLaws
 pub mod Choices
 pub mod Shown
 pub mod Star
+pub mod Listed
 pub mod Inline
 pub mod Covers
 pub mod FaultLine

@@ -7,11 +7,11 @@ ghost use Rattle.tailrec_lang.specs.Tree.{body_tree, end_tree, values_tree};
 ghost use Rattle.proof_text.specs.Reading.{arm_at, arm_bound, body_at, branch_at, call_at, call_row, end_at, leave_at};
 
 use crate::rows::{cond_row, read_mark, read_steps, read_values};
+use mc_text::cursor::{number, peek};
 use mc_text::{Scan, Stop, Token};
 use rv_words::List;
 use std::alloc::Global;
 use tailrec_lang::{Body, End, Values};
-use mc_text::cursor::{number, peek};
 
 /// The number of a definition or an exit.
 fn read_index<'a>(scan: &mut Scan<'a>) -> Result<u32, Stop>

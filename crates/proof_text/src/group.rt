@@ -9,11 +9,11 @@ ghost use Rattle.proof_text.specs.Reading.{group_at, is_def, next_at, own_defs, 
 
 use crate::heads::{Head, read_def, read_head};
 use crate::rows::read_mark;
+use mc_text::cursor::{eol, keyword, peek};
 use mc_text::{Scan, Stop, Token};
 use rv_words::List;
 use std::alloc::Global;
 use tailrec_lang::{Def, Group};
-use mc_text::cursor::{eol, keyword, peek};
 
 /// The most definitions of a group.
 const MOST_DEFS: usize = 4096;

@@ -10,11 +10,11 @@ ghost use Rattle.proof_text.specs.Heads.{head_of};
 ghost use Rattle.proof_text.specs.Reading.{are_atom_bytes, are_few_exits, code_row, def_at, def_row, exit_of, has_atom, head_at, is_name, mems_row, name_of, ranges_rise, registers_rise, regs_row};
 
 use crate::bodies::read_body;
+use mc_text::cursor::{address, eol, keyword, number, peek};
 use mc_text::{Scan, Stop, Token, hexnum, is_atom_byte};
 use rv_words::{List, Range, Text};
 use std::alloc::Global;
 use tailrec_lang::{Def, Exit};
-use mc_text::cursor::{address, eol, keyword, number, peek};
 use term_text::read_ranges;
 use word_terms::Code;
 

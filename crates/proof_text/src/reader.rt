@@ -14,11 +14,11 @@ ghost use Rattle.proof_text.specs.Rest.{GoesOn};
 
 use crate::group::read_turn;
 use crate::lines::{after_lines, whole_lines};
+use mc_text::cursor::peek;
 use mc_text::{Scan, Stop, Token};
 use std::alloc::Global;
 use std::marker::Model;
 use tailrec_lang::Group;
-use mc_text::cursor::peek;
 
 /// Why there is no further group.
 #[derive(Clone, Copy, Debug, PartialEq, Eq)]

@@ -10,11 +10,11 @@ ghost use Rattle.term_text.specs.Reading.{cond_at, mem_at, word_at};
 ghost use Rattle.tailrec_lang.specs.Tree.{step_tree, values_tree};
 ghost use Rattle.proof_text.specs.Reading.{is_step, mark_row, step_at, values_at};
 
+use mc_text::cursor::{eol, keyword, peek, semi};
 use mc_text::{Scan, Stop, Token};
 use rv_words::List;
 use std::alloc::Global;
 use tailrec_lang::{Step, Values};
-use mc_text::cursor::{eol, keyword, peek, semi};
 use term_text::{read_cond, read_mem, read_mems, read_word, read_words};
 use word_terms::{Cond, DEEPEST, Mem, Word};
 

@@ -1,5 +1,5 @@
 -- Words, memories, conditions and ranges are read as they are spelled.
-use Rattle.std.proofs.Common.{◌≡◌, ℕ, zero, suc, ◌<◌, ◌≤◌, List, [], ◌∷◌, ◌++◌, length, Option, Some, None, refl, sym, ap, arith, length-append, inl, inr, ◌⊎◌}
+use Rattle.std.proofs.Common.{◌≡◌, ℕ, zero, suc, ◌<◌, List, [], ◌∷◌, ◌++◌, length, Option, Some, None, refl, sym, ap, arith, length-append, inl, inr, ◌⊎◌}
 use Rattle.hex.specs.Hex.{encode_lower}
 use Rattle.mc_text.specs.Number.{hex, IsWord as Fits64, AreBytes, hex_of, bytes_of_digits}
 use Rattle.mc_text.specs.Tokens.{Tok, Left, Right, Atom}
@@ -9,7 +9,7 @@ use Rattle.mc_text.proofs.Choices.{reads-as, reads-choice, reads-made, reads-put
 use Rattle.mc_text.proofs.Shown.{Always, shows-left, shows-right, shows-hex, shows-bytes}
 use Rattle.mc_text.proofs.Star.{Shrinks}
 use Rattle.rv_words.specs.declared.width.Width.{Width}
-use Rattle.word_terms.specs.Tree.{WordTree, Const, Var, Bin, Extend, Load, MemTree, MemVar, Store, CondTree, Compare, Neg, Inside, depth_of_word, depth_of_mem, depth_of_cond}
+use Rattle.word_terms.specs.Tree.{WordTree, Const, Var, Bin, Extend, Load, MemTree, MemVar, Store, CondTree, Compare, Neg, Inside}
 use Rattle.word_terms.proofs.Depths.{deep_word, deep_mem, deep_cond}
 use Rattle.term_text.specs.declared.head.WordHead.{WordHead}
 use Rattle.term_text.specs.declared.head.WordHead.TheVariants as word_head

@@ -10,7 +10,7 @@ ghost use Rattle.term_text.specs.Spelling.{cond_tokens, mem_tokens, range_tokens
 ghost use Rattle.term_text.specs.Reading.{variable_of, word_leaf_of, mem_leaf_of, word_head_of, cond_head_of, store_of, word_parts, mem_parts, cond_parts, word_at, mem_at, cond_at, range_at};
 
 use crate::head::{CondHead, WordHead, cond_head_of, store_of, word_head_of};
-use mc_text::cursor::{accept, address, bytes, is_open, left, peek, right};
+use mc_text::cursor::{accept, address, bytes, left, peek, right};
 use mc_text::{Scan, Stop, Token, dec, hexnum};
 use rv_words::{Range, Width};
 use std::alloc::Global;
@@ -61,28 +61,6 @@ fn mem_leaf_of(atom: &[u8]) -> Option<Mem>
     }
 }
 
-#[tactic(auto, unfolding(mc_text::specs::Reading::one))]
-fn word_leaf<'a>(scan: &mut Scan<'a>) -> Result<Word, Stop>
-    ensures gives { Gives word_tree result scan.old scan.new (one (atom_of word_leaf_of)) }
-    ensures last { last_line scan.new ≡ last_line scan.old }
-{
-    match peek(scan) {
-        Some((Token::Atom(atom), ahead)) => accept(scan, ahead, word_leaf_of(atom)),
-        _ => Err(Stop::Bad),
-    }
-}
-
-#[tactic(auto, unfolding(mc_text::specs::Reading::one))]
-fn mem_leaf<'a>(scan: &mut Scan<'a>) -> Result<Mem, Stop>
-    ensures gives { Gives mem_tree result scan.old scan.new (one (atom_of mem_leaf_of)) }
-    ensures last { last_line scan.new ≡ last_line scan.old }
-{
-    match peek(scan) {
-        Some((Token::Atom(atom), ahead)) => accept(scan, ahead, mem_leaf_of(atom)),
-        _ => Err(Stop::Bad),
-    }
-}
-
 /// The name of a form of a word.
 #[tactic(auto, unfolding(mc_text::specs::Reading::one))]
 fn word_name<'a>(scan: &mut Scan<'a>) -> Result<WordHead, Stop>
@@ -121,7 +99,7 @@ fn cond_name<'a>(scan: &mut Scan<'a>) -> Result<CondHead, Stop>
 
 /// A word of at most that depth, as its reading function gives it.
 #[cycle(terms)]
-#[tactic(auto, unfolding(crate::specs::Reading::word_at))]
+#[tactic(auto, unfolding(crate::specs::Reading::word_at, mc_text::specs::Reading::one))]
 fn word_within<'a>(alloc: Global, scan: &mut Scan<'a>, room: u32) -> Result<Word, Stop>
     ensures gives { Gives word_tree result scan.old scan.new (word_at room) }
     ensures last { last_line scan.new ≡ last_line scan.old }
@@ -129,12 +107,14 @@ fn word_within<'a>(alloc: Global, scan: &mut Scan<'a>, room: u32) -> Result<Word
     if room == 0 {
         return Err(Stop::Bad);
     }
-    if is_open(scan) {
-        left(scan)?;
-        let head = word_name(scan)?;
-        word_parts(alloc, scan, room - 1, head)
-    } else {
-        word_leaf(scan)
+    match peek(scan) {
+        Some((Token::Left, ahead)) => {
+            *scan = ahead;
+            let head = word_name(scan)?;
+            word_parts(alloc, scan, room - 1, head)
+        }
+        Some((Token::Atom(atom), ahead)) => accept(scan, ahead, word_leaf_of(atom)),
+        _ => Err(Stop::Bad),
     }
 }
 
@@ -172,7 +152,7 @@ fn word_parts<'a>(
 
 /// A memory of at most that depth, as its reading function gives it.
 #[cycle(terms)]
-#[tactic(auto, unfolding(crate::specs::Reading::mem_at))]
+#[tactic(auto, unfolding(crate::specs::Reading::mem_at, mc_text::specs::Reading::one))]
 fn mem_within<'a>(alloc: Global, scan: &mut Scan<'a>, room: u32) -> Result<Mem, Stop>
     ensures gives { Gives mem_tree result scan.old scan.new (mem_at room) }
     ensures last { last_line scan.new ≡ last_line scan.old }
@@ -180,12 +160,14 @@ fn mem_within<'a>(alloc: Global, scan: &mut Scan<'a>, room: u32) -> Result<Mem, 
     if room == 0 {
         return Err(Stop::Bad);
     }
-    if is_open(scan) {
-        left(scan)?;
-        let width = store_name(scan)?;
-        mem_parts(alloc, scan, room - 1, width)
-    } else {
-        mem_leaf(scan)
+    match peek(scan) {
+        Some((Token::Left, ahead)) => {
+            *scan = ahead;
+            let width = store_name(scan)?;
+            mem_parts(alloc, scan, room - 1, width)
+        }
+        Some((Token::Atom(atom), ahead)) => accept(scan, ahead, mem_leaf_of(atom)),
+        _ => Err(Stop::Bad),
     }
 }
 

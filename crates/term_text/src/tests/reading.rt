@@ -1,5 +1,5 @@
-use mc_text::cursor::{address, atom, bytes, eol, keyword, left, number, right, semi};
 use crate::{read_cond, read_mem, read_mems, read_range, read_ranges, read_word, read_words};
+use mc_text::cursor::{address, atom, bytes, eol, keyword, left, number, right, semi};
 use mc_text::{Scan, Stop, put_atom};
 use rv_words::{ByteMap, Bytes, NoMemory};
 use std::alloc::Global;
