@@ -32,7 +32,11 @@ pub record IsLed (g : GroupTree) (def : DefTree) (leaf : LeafTree) : Type 0 wher
   pub leads : LeadsTo g def leaf triple
   pub valid : Valid g triple
 
--- there is such a definition, and one theorem is cited for each of its leaves, in their order, that leads to it
+--     for each leaf of d, with its path's facts:   facts ⊢ {entry of d, arguments} code {what the leaf asks for}
+--   ──────────────────────────────────────────────────────────────────────────────────────────────────────────────
+--     for each exit k of d:   d on the arguments gives the results by k ⊢ {entry of d, arguments} code {exit k, results}
+--
+-- There is such a definition, and one theorem is cited for each of its leaves, in their order, that leads to it.
 pub record IsClosedBy (g : GroupTree) (d : ℕ) (cited : List (Option TripleTree)) : Type 0 where
   pub def : DefTree
   pub is : slice_get g.defs d ≡ Some def
