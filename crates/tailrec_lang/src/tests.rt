@@ -302,3 +302,32 @@ fn the_first_ill_formed_definition(rt: HostRuntime) -> Result<(), Fail> {
     assert!(rt; is_first_bad(&g, Some(0)));
     Ok(())
 }
+
+#[test]
+fn definitions_and_their_exits(rt: HostRuntime) -> Result<(), Fail> {
+    let alloc = rt.alloc();
+    let g = group(alloc, 0)?;
+    for (d, exit, count) in [
+        (0, Some(Exit::At(0x10004)), 2),
+        (1, Some(Exit::Ret), 3),
+        (2, None, 0),
+    ] {
+        let first = exits_of(&g, d).first().copied();
+        assert!(rt; first == exit);
+        assert!(rt; def_at(&g, d).is_some() == exit.is_some());
+        if let Some(exit) = exit {
+            assert!(rt; results_at(&g, exit) == count);
+        }
+    }
+    Ok(())
+}
+
+#[test]
+fn copied_values(rt: HostRuntime) -> Result<(), Fail> {
+    let alloc = rt.alloc();
+    let copy = copy_values(alloc, &values(alloc, &[3, 1], 2)?)?;
+    assert!(rt; copy.words.len() == 2 && copy.mems.len() == 1);
+    assert!(rt; matches!(copy.words.get(0), Some(Word::Var(3))));
+    assert!(rt; matches!(copy.mems.get(0), Some(Mem::Var(2))));
+    Ok(())
+}
