@@ -8,3 +8,4 @@ pub mod FlowLemmas
 pub mod WorkedGraphs
 pub mod ExactLemmas
 pub mod GraphLaws
+pub mod Standing

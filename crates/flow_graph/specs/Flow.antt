@@ -1,5 +1,5 @@
 -- What stands at an address, and where it leads. Sums are modulo 2 ^ 64.
-use Rattle.std.specs.Prelude.{ℕ, ◌+◌, ◌%◌, ◌^◌, ◌==◌, Bool, false, ◌&&◌, if◌then◌else◌, ℤ, pos, Option, Some, None, Result, Ok, Err, List, [], ◌∷◌}
+use Rattle.std.specs.Prelude.{◌≡◌, ℕ, ◌+◌, ◌%◌, ◌^◌, ◌<◌, ◌==◌, Bool, true, false, ◌&&◌, if◌then◌else◌, ℤ, pos, Option, Some, None, Result, Ok, Err, List, [], ◌∷◌}
 use Rattle.std.specs.List.{Contains}
 use Rattle.rv_words.specs.Bytes.{Bytes}
 use Rattle.rv_words.specs.Operation.{word_of}
@@ -56,6 +56,16 @@ look_fetched a (Some w) = look_decoded a w (decoded w)
 -- the instruction at an address that has no fault, or the address's one fault
 unfoldable pub look : Bytes → ℕ → Result Instr Outside
 look code a = if a % 4 == 0 then look_fetched a (word_in code a) else Err (Misaligned a a)
+
+-- i stands at a, and may: a is a multiple of 4, the four bytes from a on are code, the last of them not past 2 ^ 64, their word is i, and
+-- i has no fault there
+pub record StandsIn (code : Bytes) (a : ℕ) (i : Instr) : Type 0 where
+  pub aligned : a % 4 == 0 ≡ true
+  pub below : a + 3 < 2 ^ 64
+  pub word : ℕ
+  pub there : word_in code a ≡ Some word
+  pub is : decoded word ≡ Some i
+  pub fine : admitted a i ≡ Ok i
 
 -- ---- successors
 

@@ -1,8 +1,10 @@
 //! Laws of reached code. These functions do nothing: their contracts are the laws. Each speaks of the definitions alone.
 
-ghost use Rattle.std.specs.Prelude.{◌≡◌, ◌<◌, ◌==◌, ℕ, Bool, IsTrue, Result, Ok as Fine, count_by, length, map, slice_index};
+ghost use Rattle.std.specs.Prelude.{◌≡◌, ◌<◌, ◌==◌, ℕ, Bool, IsTrue, Result, Ok as Fine, count_by, length, map, slice_get, slice_index, true, ℤ, Some};
 ghost use Rattle.rv_words.specs.Bytes.{Bytes};
-ghost use Rattle.flow_graph.specs.Flow.{Next, look, next};
+ghost use Rattle.rv_decode.specs.declared.instruction.Instr.{Instr};
+ghost use Rattle.rv_decode.specs.declared.instruction.Instr.TheVariants.{Jalr};
+ghost use Rattle.flow_graph.specs.Flow.{Next, StandsIn, admitted, is_return, look, next};
 ghost use Rattle.flow_graph.specs.Walks.{Reaches};
 ghost use Rattle.flow_graph.specs.Reach.{IsFault};
 ghost use Rattle.flow_graph.specs.Graph.{GraphOf, IsFlow, IsGraphOf, preds_of, succs_of};
@@ -31,4 +33,11 @@ pub fn law_of_edges()
     ensures both_lists { (g : GraphOf) (u v : ℕ) → count_by (λ m. m == v) (succs_of g.edges u) ≡ count_by (λ m. m == u) (preds_of g.edges v) }
     ensures instructions { (code : Bytes) (e : ℕ) (g : GraphOf) → IsGraphOf code e g → map (λ a. look code a) g.addrs ≡ map (λ i. Fine i) g.instrs }
     ensures flow { (code : Bytes) (e : ℕ) (g : GraphOf) → IsGraphOf code e g → IsFlow g }
+{}
+
+/// The instruction of each node stands at its address and has no fault there. A jump through a register without one is the return.
+pub fn law_of_instructions()
+    ensures stands { (code : Bytes) (e : ℕ) (g : GraphOf) (n : ℕ) (i : Instr) → IsGraphOf code e g → n < length g.addrs
+        → slice_get g.instrs n ≡ Some i → StandsIn code (slice_index g.addrs n) i }
+    ensures returns { (a rd rs1 : ℕ) (imm : ℤ) → admitted a (Jalr rd rs1 imm) ≡ Fine (Jalr rd rs1 imm) → is_return (Jalr rd rs1 imm) ≡ true }
 {}

@@ -10,7 +10,7 @@ mod reach;
 mod visited;
 
 pub use graph::{Graph, build};
-pub use laws::{law_of_edges, law_of_one_answer, law_of_reach};
+pub use laws::{law_of_edges, law_of_instructions, law_of_one_answer, law_of_reach};
 pub use links::Edges;
 pub use outside::{FlowFault, Outside};
 
