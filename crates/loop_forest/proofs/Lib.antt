@@ -23,3 +23,4 @@ pub mod AddressLemmas
 pub mod WalkLaws
 pub mod CodeEntries
 pub mod OneForest
+pub mod WorkedEntries

@@ -249,12 +249,13 @@ fn counts(alloc: Global, words: &[u32]) -> Option<(u32, u32)> {
     Some((f.loops(), cuts))
 }
 
-/// So many times one word, then a return.
+/// So many times one word, then two returns.
 fn repeated(alloc: Global, word: u32, count: usize) -> Result<Vec<u32>, AllocError> {
     let mut words = Vec::new(alloc);
     for _ in 0..count {
         words.push(word)?;
     }
+    words.push(RETURN)?;
     words.push(RETURN)?;
     Ok(words)
 }
@@ -281,7 +282,8 @@ fn nested(alloc: Global, count: i32) -> Result<Vec<u32>, AllocError> {
 }
 
 /// Straight code, branches to themselves, and branches over one instruction each, with their loops and cuts.
-static LONG: [(u32, usize, (u32, u32)); 4] = [
+static LONG: [(u32, usize, (u32, u32)); 5] = [
+    (0x00050463, 1000, (0, 1000)),
     (ADD, 1023, (0, 32)),
     (ADD, 32, (0, 2)),
     (TO_ITSELF, 1023, (1023, 1024)),
