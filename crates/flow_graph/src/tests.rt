@@ -2,6 +2,7 @@
 
 use super::*;
 use elf_image::{Image, read};
+use rv_decode::Instr;
 use std::alloc::{AllocError, Global};
 use std::test::Fail;
 
@@ -93,7 +94,7 @@ fn are_left(mut edges: Edges<'_>, nodes: &[u32]) -> bool {
     edges.next().is_none()
 }
 
-/// Whether a node is as the row says.
+/// Whether a node is as the row says. Those without successors are returns.
 fn is_as(g: &Graph, n: u32, row: &Row) -> bool {
     if n >= g.len() {
         return false;
@@ -102,6 +103,7 @@ fn is_as(g: &Graph, n: u32, row: &Row) -> bool {
         && g.node(row.0) == Some(n)
         && are_left(g.succs(n), row.1)
         && are_left(g.preds(n), row.2)
+        && row.1.is_empty() == matches!(g.instr(n), Instr::Jalr { .. })
 }
 
 /// Whether the nodes of a graph are as the rows say.

@@ -308,3 +308,30 @@ fn deep_loops_are_found(rt: HostRuntime) -> Result<(), Fail> {
     assert!(rt; counts(rt.alloc(), &words) == Some((500, 1000)));
     Ok(())
 }
+
+/// Whether these are the regions of a program's nodes, and the entry has the largest number.
+fn regions_are(alloc: Global, words: &[u32], regions: &[Option<u32>]) -> Option<bool> {
+    let g = graph(alloc, words)?;
+    let f = find_loops(alloc, &g).ok()?;
+    if g.len() as usize != regions.len() {
+        return Some(false);
+    }
+    for (n, region) in regions.iter().enumerate() {
+        let node = n as u32;
+        if node >= g.len() || f.region(node) != *region {
+            return Some(false);
+        }
+        if node != g.entry() && f.number(node) >= f.number(g.entry()) {
+            return Some(false);
+        }
+    }
+    Some(true)
+}
+
+#[test]
+fn regions_are_told(rt: HostRuntime) -> Result<(), Fail> {
+    let words = [ADD, ADD, ADD, 0xfe050ee3, 0xfe050ae3, RETURN];
+    let regions = [None, None, Some(0), Some(1), Some(0), None];
+    assert!(rt; regions_are(rt.alloc(), &words, &regions) == Some(true));
+    Ok(())
+}
