@@ -26,19 +26,8 @@ use Rattle.triple_kernel.specs.declared.form.Form.{Form}
 use Rattle.triple_kernel.specs.declared.form.Form.TheVariants.{Next, Taken}
 use Rattle.rv_decode.specs.Registers.{sources, destination}
 use Rattle.instr_axioms.specs.Terms.{Names, has_memory, word_in, sum, loaded, conditions, result, memory_after, pc_after, has_form}
+use Rattle.instr_axioms.specs.Effects.{AreTrue, Fits, IsTouchedIn, GoesOn, IsAfter}
 use Rattle.instr_axioms.proofs.Memories.{inside-within, load-within}
-
--- the conditions are true
-abbrev pub AreTrue : List CondTree → Environment → Type 0
-AreTrue [] e = Unit {0}
-AreTrue (c ∷ cs) e = IsTrue (cond_holds c e) × AreTrue cs e
-
--- the names stand for what a state has at the instruction's address, in the registers that it reads, and in the memory that
--- it loads or stores
-pub record Fits (i : Instr) (a : ℕ) (n : Names) (e : Environment) (s : State) : Type 0 where
-  pub pc : s.pc ≡ a
-  pub word : (r : ℕ) → Contains (sources i) r → reads r s ≡ word_value (word_in n r) e
-  pub bytes : has_memory i ≡ true → IsWithin (mem_value n.memory e) s.mem
 
 not_false : false ≡ true → ⊥
 not_false e = cc
@@ -170,16 +159,6 @@ module _ (a : ℕ) (n : Names) (e : Environment) (s : State) where
 
 -- ---- the other way: what a step that exists says of the conditions
 
--- each byte that the instruction touches is in the named memory
-abbrev pub IsTouchedIn : Instr → State → Bytes → Type 0
-IsTouchedIn i s m = (q : ℕ) → IsTouched (touched i s) q → is_some (m q) ≡ true
-
--- a form that the instruction has, and in which its conditions are true
-pub record GoesOn (i : Instr) (a : ℕ) (n : Names) (e : Environment) : Type 0 where
-  pub form : Form
-  pub has : has_form i form a ≡ true
-  pub conditions : AreTrue (conditions i form n) e
-
 module _ (a : ℕ) (n : Names) (e : Environment) (s : State) where
   -- an access whose bytes are all in the memory
   all_inside : (w : Width) (x y : ℕ) (imm : ℤ) → x ≡ y → ((q : ℕ) → (k : ℕ) × (k < bytes_of w) × (q ≡ (plus x imm + k) % 2 ^ 64) → is_some (mem_value n.memory e q) ≡ true)
@@ -213,14 +192,7 @@ module _ (a : ℕ) (n : Names) (e : Environment) (s : State) where
   goes_on instr.Ecall f t h = absurd (not_false h)
   goes_on instr.Ebreak f t h = absurd (not_false h)
 
-  -- u is the state after the instruction in a form that it has, by its terms
-  pub record IsAfter (i : Instr) (u : State) : Type 0 where
-    pub on : GoesOn i a n e
-    pub pc : u.pc ≡ word_value (pc_after i on.form a n) e
-    pub reg : u.reg ≡ with_register (destination i) (word_value (result i a n) e) s.reg
-    pub mem : u.mem ≡ step.mem_after i s
-
-  after_form : (i : Instr) (u : State) → Fits i a n e s → GoesOn i a n e → u ≡ updated i 4 s → IsAfter i u
+  after_form : (i : Instr) (u : State) → Fits i a n e s → GoesOn i a n e → u ≡ updated i 4 s → IsAfter i a n e s u
   after_form i u f g same = record {
     on = g;
     pc = ap (λ (x : State). x.pc) same ∙ goes a n e s i g.form f g.has g.conditions;
@@ -228,7 +200,7 @@ module _ (a : ℕ) (n : Names) (e : Environment) (s : State) where
     mem = ap (λ (x : State). x.mem) same;
   }
 
-  form_after : (i : Instr) (u : State) → Fits i a n e s → IsAfter i u → act i 4 s ≡ Some u
+  form_after : (i : Instr) (u : State) → Fits i a n e s → IsAfter i a n e s u → act i 4 s ≡ Some u
   form_after i u f is =
       let g = is.on in
       let pc = is.pc ∙ sym (goes a n e s i g.form f g.has g.conditions) in
@@ -238,7 +210,7 @@ module _ (a : ℕ) (n : Names) (e : Environment) (s : State) where
 
   -- An instruction is carried out exactly where its conditions are true in a form that it has, and then does what its terms
   -- say. The converse wants that the named memory has what the instruction touches.
-  pub act-terms : (i : Instr) (u : State) → Fits i a n e s → IsTouchedIn i s (mem_value n.memory e) → (act i 4 s ≡ Some u) ↔ IsAfter i u
+  pub act-terms : (i : Instr) (u : State) → Fits i a n e s → IsTouchedIn i s (mem_value n.memory e) → (act i 4 s ≡ Some u) ↔ IsAfter i a n e s u
   act-terms i u f t = (
     λ h. let done = act-some i 4 s u h in after_form i u f (goes_on i f t done.0) done.1,
     form_after i u f,

@@ -32,7 +32,8 @@ use Rattle.instr_axioms.specs.Axiom.{triple_over}
 use Rattle.sep_assert.proofs.Keys.{both_free, has_same, part-pc, part-register, part-byte}
 use Rattle.instr_axioms.proofs.Parts.{slot_in, registers-slot, Times, never, once, twice, times, not_free, memory_slot, memory-slot}
 use Rattle.instr_axioms.proofs.Memories.{HasWord, has-word, store-outside}
-use Rattle.instr_axioms.proofs.Effects.{AreTrue, Fits, possible, goes, writes}
+use Rattle.instr_axioms.specs.Effects.{AreTrue, Fits}
+use Rattle.instr_axioms.proofs.Effects.{possible, goes, writes}
 
 -- ---- facts
 
