@@ -11,10 +11,10 @@ ghost use Rattle.mcdec.specs.Printing.{Prints, piece_text, pieces_text};
 use crate::answer::Answer;
 use elf_image::ElfFault;
 use itoa::Buffer;
-use rv_words::Range;
 use mc_shelf::{Sink, Stop};
 use mc_text::{digit_pair, hex_into};
 use rv_machine::Stuck;
+use rv_words::Range;
 
 /// A piece of a line.
 #[derive(Clone, Copy, Debug)]
