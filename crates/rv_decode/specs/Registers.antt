@@ -1,6 +1,6 @@
 -- The registers whose words an instruction takes, and the one that it writes.
 -- RISC-V Unprivileged ISA 20191213, sections 2.2 and 2.4 to 2.7. The fields of FENCE are no registers (section 2.7).
-use Rattle.std.specs.Prelude.{ℕ, ◌==◌, Bool, ◌||◌, List, [], ◌∷◌, filter}
+use Rattle.std.specs.Prelude.{ℕ, ◌==◌, Bool, List, [], ◌∷◌, filter}
 use Rattle.std.specs.List.{list_any, range_with_len}
 use Rattle.rv_decode.specs.declared.instruction.Instr.{Instr}
 use Rattle.rv_decode.specs.declared.instruction.Instr.TheVariants.{Op, OpImm, Lui, Auipc, Jal, Jalr, Branch, Load, Store}
