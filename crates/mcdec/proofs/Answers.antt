@@ -10,7 +10,7 @@ use Rattle.rv_words.specs.declared.memory.NoMemory.{NoMemory}
 use Rattle.mc_shelf.specs.Shelf.{Contents, TellsName}
 use Rattle.rv_words.specs.declared.range.Range.{Range}
 use Rattle.tailrec_lang.specs.declared.group.Group.{Group}
-use Rattle.tailrec_lang.specs.Tree.{GroupTree, group_tree, def_tree}
+use Rattle.tailrec_lang.specs.Tree.{GroupTree, group_tree, def_tree, listed_def}
 use Rattle.tailrec_lang.specs.WellFormed.{IsWellFormed}
 use Rattle.tailrec_lang.specs.Eval.{Arguments, Outcome, Done, HasFewNeeds, eval}
 use Rattle.proof_text.specs.Limits.{AreRegistersFrom, IsGroup, AreGroups}
@@ -20,7 +20,7 @@ use Rattle.mcdec.specs.declared.answer.Shown.{Shown}
 use Rattle.mcdec.specs.Command.{Command, Eval, Run, Arg, Given, Words, value_of, givens, ranges}
 use Rattle.mcdec.specs.CommandReading.{Holds, HoldsArgs, value_in}
 use Rattle.mcdec.specs.Memory.{no_bytes, placed}
-use Rattle.mcdec.specs.EvalAnswer.{AreWellFormed, proof_limit, listed, arguments_of, ranges_in, EvalGives}
+use Rattle.mcdec.specs.EvalAnswer.{AreWellFormed, proof_limit, arguments_of, ranges_in, EvalGives}
 use Rattle.mcdec.specs.Search.{Finds, GroupGives}
 use Rattle.mcdec.specs.Answer.{HoldsWith, ReadsAreTold}
 
@@ -36,7 +36,7 @@ values-same gs values h least (r ∷ rs) are = rw (value-same gs values h r (ome
 -- ---- groups
 
 -- the last definition's number
-pub last-def : (g : Group) → IsGroup (group_tree g) → (n : ℕ) → n ≡ length g.defs → (1 ≤ n) × (n ≤ 4096) × (n - 1 ≡ listed (group_tree g))
+pub last-def : (g : Group) → IsGroup (group_tree g) → (n : ℕ) → n ≡ length g.defs → (1 ≤ n) × (n ≤ 4096) × (n - 1 ≡ listed_def (group_tree g))
 last-def g is n len = let same = length-map g.defs def_tree in (omega (arith, len, same, is.some), omega (arith, len, same, is.few), omega (arith, len, same))
 
 pub last-there : (g : Group) → IsGroup (group_tree g) → (n : ℕ) → n ≡ length g.defs → n - 1 < length g.defs
@@ -55,10 +55,10 @@ module _ (g : GroupTree) (is : IsGroup g) (args : List Arg) (values : List (Opti
       let ms : x.mems ≡ replicate g.mems (placed (ranges args) no_bytes) = mems ∙ ap (λ (rs : List Range). replicate g.mems (placed rs no_bytes)) h.1 in
       λ i. record { words = (words ∙ values-same (givens args) values h.0 1 g.regs is.registers) i; mems = ms i }
 
-  pub listed-outcome : (def : ℕ) → def ≡ listed g → (turns : ℕ) (o : Outcome) → o ≡ eval g def x turns → eval g (listed g) (arguments_of args g) turns ≡ o
-  listed-outcome def last turns o e = sym (e ∙ ap (λ (d : ℕ). eval g d x turns) last ∙ ap (λ (y : Arguments). eval g (listed g) y turns) arguments-same)
+  pub listed-outcome : (def : ℕ) → def ≡ listed_def g → (turns : ℕ) (o : Outcome) → o ≡ eval g def x turns → eval g (listed_def g) (arguments_of args g) turns ≡ o
+  listed-outcome def last turns o e = sym (e ∙ ap (λ (d : ℕ). eval g d x turns) last ∙ ap (λ (y : Arguments). eval g (listed_def g) y turns) arguments-same)
 
-  pub evaluated : (def : ℕ) → def ≡ listed g → (turns exit pc left : ℕ) (results : Arguments) → Done exit pc results left ≡ eval g def x turns
+  pub evaluated : (def : ℕ) → def ≡ listed_def g → (turns exit pc left : ℕ) (results : Arguments) → Done exit pc results left ≡ eval g def x turns
       → (shown : List Range) → shown ≡ ranges_in results.mems memory
       → GroupGives g turns args (answer.Done (record { count = turns - left; pc = pc; registers = g.regs; words = results.words; memory = shown }))
   evaluated def last turns exit pc left results e shown is-shown =

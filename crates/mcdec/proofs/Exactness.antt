@@ -7,7 +7,7 @@ use Rattle.mc_shelf.specs.Shelf.{Contents}
 use Rattle.mc_text.specs.Fault.{InGrammar, IsBadAt}
 use Rattle.mc_text.specs.Number.{hex}
 use Rattle.mc_text.proofs.OneSpelling.{decimal-once, hex-once}
-use Rattle.tailrec_lang.specs.Tree.{DefTree, GroupTree}
+use Rattle.tailrec_lang.specs.Tree.{DefTree, GroupTree, listed_def}
 use Rattle.tailrec_lang.specs.WellFormed.{IsWellFormed, IsFirstIllFormed}
 use Rattle.tailrec_lang.specs.Eval.{Done, SideFalse, Turns, NoOutcome, Outcome, eval}
 use Rattle.proof_text.specs.Limits.{proof_texts}
@@ -30,7 +30,7 @@ use Rattle.rv_machine.specs.declared.running.RunEnd.TheVariants as end
 use Rattle.rv_machine.proofs.RunLemmas.{ends-once}
 use Rattle.mcdec.specs.Memory.{held_at}
 use Rattle.mcdec.specs.RunAnswer.{elf_limit, begin, shown_after, StandsFor, RunGives}
-use Rattle.mcdec.specs.EvalAnswer.{AreWellFormed, FirstNamed, IsTextOf, NoneNamed, proof_limit, listed, arguments_of, shown_of, EvalGives}
+use Rattle.mcdec.specs.EvalAnswer.{AreWellFormed, FirstNamed, IsTextOf, NoneNamed, proof_limit, arguments_of, shown_of, EvalGives}
 use Rattle.mcdec.specs.Search.{GroupGives}
 use Rattle.mcdec.specs.Answer.{Gives, IsDetermined}
 use Rattle.mcdec.specs.Printed.{IsPrinted, IsDelivered}
@@ -79,7 +79,7 @@ answer_for g turns args Turns = ev.TurnsUsed
 answer_for g turns args (SideFalse def ordinal) = ev.SideFalse def ordinal
 answer_for g turns args NoOutcome = ev.NoFunction
 
-group-case : (g : GroupTree) (turns : ℕ) (args : List Arg) (a : EvalAnswer) → GroupGives g turns args a → a ≡ answer_for g turns args (eval g (listed g) (arguments_of args g) turns)
+group-case : (g : GroupTree) (turns : ℕ) (args : List Arg) (a : EvalAnswer) → GroupGives g turns args a → a ≡ answer_for g turns args (eval g (listed_def g) (arguments_of args g) turns)
 group-case g turns args ev.OverLimit h = absurd h
 group-case g turns args (ev.Unreadable line) h = absurd h
 group-case g turns args (ev.IllFormed group def) h = absurd h

@@ -4,7 +4,7 @@ use Rattle.std.specs.List.{AllByRecursion}
 use Rattle.rv_words.specs.Bytes.{Bytes}
 use Rattle.mc_text.specs.Fault.{IsBadAt}
 use Rattle.rv_words.specs.declared.range.Range.{Range}
-use Rattle.tailrec_lang.specs.Tree.{GroupTree}
+use Rattle.tailrec_lang.specs.Tree.{GroupTree, listed_def}
 use Rattle.tailrec_lang.specs.WellFormed.{IsWellFormed, IsFirstIllFormed}
 use Rattle.tailrec_lang.specs.Eval.{Arguments, Done, SideFalse, Turns, eval}
 use Rattle.proof_text.specs.Spelling.{text_of}
@@ -19,10 +19,6 @@ use Rattle.mcdec.specs.Memory.{no_bytes, placed, held_at}
 -- the most bytes of a proof file that are read
 abbrev pub proof_limit : ℕ
 proof_limit = 268435456
-
--- the listed function of a group is its last definition
-abbrev pub listed : GroupTree → ℕ
-listed g = length g.defs - 1
 
 -- the value of each register of the group, 0 where it is given none, and, where the group has a memory, the words' bytes
 -- in an empty one
@@ -76,9 +72,9 @@ EvalGives file name turns args (answer.IllFormed group def) =
 EvalGives file name turns args answer.NoFunction =
     (length file ≤ proof_limit) × (gs : List GroupTree) × IsTextOf file gs × NoneNamed name gs
 EvalGives file name turns args (answer.SideFalse def ordinal) =
-    (length file ≤ proof_limit) × (g : GroupTree) × IsNamed file name g × (eval g (listed g) (arguments_of args g) turns ≡ SideFalse def ordinal)
+    (length file ≤ proof_limit) × (g : GroupTree) × IsNamed file name g × (eval g (listed_def g) (arguments_of args g) turns ≡ SideFalse def ordinal)
 EvalGives file name turns args answer.TurnsUsed =
-    (length file ≤ proof_limit) × (g : GroupTree) × IsNamed file name g × (eval g (listed g) (arguments_of args g) turns ≡ Turns)
+    (length file ≤ proof_limit) × (g : GroupTree) × IsNamed file name g × (eval g (listed_def g) (arguments_of args g) turns ≡ Turns)
 EvalGives file name turns args (answer.Done shown) =
     (length file ≤ proof_limit) × (g : GroupTree) × IsNamed file name g × (exit pc left : ℕ) × (results : Arguments)
-    × (eval g (listed g) (arguments_of args g) turns ≡ Done exit pc results left) × (shown ≡ shown_of g args (turns - left) pc results)
+    × (eval g (listed_def g) (arguments_of args g) turns ≡ Done exit pc results left) × (shown ≡ shown_of g args (turns - left) pc results)

@@ -2,7 +2,7 @@
 use Rattle.std.specs.Prelude.{◌≡◌, ℕ, List, [], ◌∷◌, ◌++◌, ◌-◌, length, Option, Some, None, Result, Ok, Err}
 use Rattle.mc_text.specs.Fault.{IsBadAt}
 use Rattle.tailrec_lang.specs.declared.group.Group.{Group}
-use Rattle.tailrec_lang.specs.Tree.{GroupTree, group_tree}
+use Rattle.tailrec_lang.specs.Tree.{GroupTree, group_tree, listed_def}
 use Rattle.tailrec_lang.specs.WellFormed.{IsWellFormed, IsFirstIllFormed}
 use Rattle.tailrec_lang.specs.Eval.{Arguments, Done, SideFalse, Turns, HasFewNeeds, eval}
 use Rattle.proof_text.specs.Spelling.{text_of}
@@ -13,7 +13,7 @@ use Rattle.mcdec.specs.declared.evaluate.Refusal.TheVariants as refusal
 use Rattle.mcdec.specs.declared.answer.EvalAnswer.{EvalAnswer}
 use Rattle.mcdec.specs.declared.answer.EvalAnswer.TheVariants as answer
 use Rattle.mcdec.specs.Command.{Arg}
-use Rattle.mcdec.specs.EvalAnswer.{AreWellFormed, FirstNamed, IsTextOf, NoneNamed, listed, arguments_of, shown_of}
+use Rattle.mcdec.specs.EvalAnswer.{AreWellFormed, FirstNamed, IsTextOf, NoneNamed, arguments_of, shown_of}
 
 -- the next group, or why there is none
 abbrev pub NextIs : ℕ → Progress → Progress → Result (Option Group) Refusal → Type 0
@@ -56,7 +56,7 @@ GroupGives g turns args answer.OverLimit = ⊥
 GroupGives g turns args (answer.Unreadable line) = ⊥
 GroupGives g turns args (answer.IllFormed group def) = ⊥
 GroupGives g turns args answer.NoFunction = ⊥
-GroupGives g turns args (answer.SideFalse def ordinal) = eval g (listed g) (arguments_of args g) turns ≡ SideFalse def ordinal
-GroupGives g turns args answer.TurnsUsed = eval g (listed g) (arguments_of args g) turns ≡ Turns
+GroupGives g turns args (answer.SideFalse def ordinal) = eval g (listed_def g) (arguments_of args g) turns ≡ SideFalse def ordinal
+GroupGives g turns args answer.TurnsUsed = eval g (listed_def g) (arguments_of args g) turns ≡ Turns
 GroupGives g turns args (answer.Done shown) = (exit pc left : ℕ) × (results : Arguments)
-    × (eval g (listed g) (arguments_of args g) turns ≡ Done exit pc results left) × (shown ≡ shown_of g args (turns - left) pc results)
+    × (eval g (listed_def g) (arguments_of args g) turns ≡ Done exit pc results left) × (shown ≡ shown_of g args (turns - left) pc results)

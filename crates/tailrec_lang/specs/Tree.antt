@@ -1,5 +1,5 @@
 -- Groups as trees: what contracts see of them, whatever their places in memory.
-use Rattle.std.specs.Prelude.{ℕ, List, [], ◌∷◌, map, slice_get, Option, Some, None}
+use Rattle.std.specs.Prelude.{ℕ, List, [], ◌∷◌, map, slice_get, Option, Some, None, ◌-◌, length}
 use Rattle.word_terms.specs.Tree.{WordTree, MemTree, CondTree, word_tree, mem_tree, cond_tree}
 use Rattle.rv_words.specs.declared.range.Range.{Range}
 use Rattle.tailrec_lang.specs.declared.group.Values.{Values}
@@ -111,3 +111,7 @@ def_tree d = record { entry = d.entry; exits = d.exits; body = body_tree d.body 
 -- the tree of a group
 abbrev pub group_tree : Group → GroupTree
 group_tree g = record { name = g.name; regs = g.regs; mems = g.mems; code = g.code.ranges; defs = map def_tree g.defs }
+
+-- the number of the group's last definition, which is the function that the group lists
+abbrev pub listed_def : GroupTree → ℕ
+listed_def g = length g.defs - 1

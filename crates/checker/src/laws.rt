@@ -1,0 +1,33 @@
+//! Laws of proofs. These functions do nothing: their contracts are the laws. Each speaks of the definitions alone.
+
+ghost use Rattle.std.specs.Prelude.{ℕ, ◌≤◌, List};
+ghost use Rattle.elf_image.specs.Image.{code_of_file};
+ghost use Rattle.tailrec_lang.specs.Tree.{GroupTree, listed_def};
+ghost use Rattle.tailrec_lang.specs.WellFormed.{IsWellFormed};
+ghost use Rattle.rv_words.specs.Ranges.{range_bytes};
+ghost use Rattle.sep_assert.specs.Code.{IsWithin};
+ghost use Rattle.proof_text.specs.Limits.{AreGroups, AreRegistersFrom};
+ghost use Rattle.loop_rule.specs.Rule.{IsClosed};
+ghost use Rattle.checker.specs.Line.{LineTree, ProofTree};
+ghost use Rattle.checker.specs.Instance.{History, Instance, after_line};
+ghost use Rattle.checker.specs.Accepts.{Accepts, groups_of};
+ghost use Rattle.checker.specs.Headline.{IsRight, Headline};
+ghost use Rattle.checker.specs.Sound.{Sound};
+
+/// Where the triple of each exit of the last definition is valid, evaluation tells where the machine goes.
+pub fn law_of_exits()
+    ensures { (file : List ℕ) (g : GroupTree) → IsWellFormed g → AreRegistersFrom 1 g.regs → g.mems ≤ 1
+        → IsWithin (range_bytes g.code) (code_of_file file) → IsClosed g (listed_def g) → IsRight file g }
+{}
+
+/// A line that is right keeps theorems and closed definitions valid.
+pub fn law_of_lines()
+    ensures { (g : GroupTree) → IsWellFormed g
+        → (h : History) → Sound g h → (l : LineTree) → Instance g h l → Sound g (after_line h l) }
+{}
+
+/// What is accepted is right.
+pub fn law_of_proofs()
+    ensures { (file : List ℕ) (ps : List ProofTree)
+        → AreGroups (groups_of ps) → Accepts file ps → Headline file (groups_of ps) }
+{}
