@@ -31,7 +31,6 @@ pub record IsDoneBy (exits : List Exit) (o : Ending) (k pc : ℕ) (results : Arg
 done-parts : (j k a pc : ℕ) (x y : Arguments) (l left : ℕ) → Done j a x l ≡ Done k pc y left → (j ≡ k) × (a ≡ pc) × (x ≡ y) × (l ≡ left)
 done-parts j k a pc x y l left e = (cc, cc, cc, cc)
 
-
 module _ (exits : List Exit) (j k pc : ℕ) (x results : Arguments) (l left : ℕ) where
   exited-done : (o : Option Exit) → slice_get exits j ≡ o → done_by o j x l ≡ Done k pc results left → IsDoneBy exits (Exited j x l) k pc results left
   exited-done None there e = absurd (cc)

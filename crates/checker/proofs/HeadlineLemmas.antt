@@ -198,7 +198,7 @@ function-right file g well_formed are few of_file valid s regions starts turns k
     let words : length x.words ≡ length g.regs = length-map g.regs s.reg in
     let mems : length x.mems ≡ g.mems = length-map regions (cut s.mem) ∙ starts.count in
     let r = runs g well_formed (listed_def g) k d.0 d.1 valid x words mems turns left done.x done.ends done.exit leaves (left_over g regions s) s
-        (splits file g regions s starts are of_file ∙ (λ i. held_part (sym d.2 i) g.regs x.words x.mems ⊕ (code_part g.code ⊕ left_over g regions s))) in
+    (splits file g regions s starts are of_file ∙ (λ i. held_part (sym d.2 i) g.regs x.words x.mems ⊕ (code_part g.code ⊕ left_over g regions s))) in
     let counts = given-counts g done.exit done.x (fits g well_formed (listed_def g) k d.0 d.1 valid x words mems turns left done.x done.ends done.exit leaves) in
     let end = ends file g regions s starts are of_file r.0 (place_by done.exit done.x) (given_by done.exit done.x) r.1 r.2 few counts.1 counts.0 in
     (r.0, r.1, subst (λ a. Ends g regions s a results r.0) done.place (subst (λ y. Ends g regions s (place_by done.exit done.x) y r.0) done.given end))

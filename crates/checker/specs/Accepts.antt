@@ -10,7 +10,6 @@ use Rattle.sep_assert.specs.Code.{IsWithin}
 use Rattle.checker.specs.Line.{ProofTree}
 use Rattle.checker.specs.Instance.{AreInstances, no_lines, after_lines}
 
-
 -- The group's last definition is closed after all lines, and its code is the file's.
 pub record IsProved (file : List ℕ) (p : ProofTree) : Type 0 where
   pub closed : (after_lines p.lines).closed (listed_def p.group) ≡ true

@@ -3,7 +3,7 @@
 ghost use Rattle.std.specs.Prelude.{◌≡◌, All, AllPairs, IfSome, Some, slice_get};
 ghost use Rattle.rv_words.specs.Bytes.{bytes_from};
 ghost use Rattle.elf_image.specs.Image.{ArePlaced, IsApart, IsPlaced, bytes_in, code_in, code_of, padded, word_in};
-ghost use Rattle.elf_image.specs.Word.{word_of};
+ghost use Rattle.elf_image.specs.inner.Word.{word_of};
 
 use crate::symbol::{NameFault, Symbols};
 use byteorder::{ByteOrder, LittleEndian};

@@ -140,7 +140,7 @@ fn a_return_has_an_axiom(rt: HostRuntime) -> Result<(), Fail> {
 }
 
 /// An address, a word, a form, and whether there is an axiom of them.
-static AXIOMS: [(u64, u32, Form, bool); 14] = [
+static AXIOMS: [(u64, u32, Form, bool); 21] = [
     (0x10000, 0x00b5_0533, Form::Next, true),
     (0x10000, 0x00a5_b023, Form::Next, true),
     (0x10000, 0xffc4_2003, Form::Next, true),
@@ -150,6 +150,13 @@ static AXIOMS: [(u64, u32, Form, bool); 14] = [
     (0x10000, 0xffff_f517, Form::Next, true),
     (0x10000, 0x8000_0537, Form::Next, true),
     (0x10000, 0x0ff0_000f, Form::Next, true),
+    (0x10000, 0x0015_0513, Form::Next, true),
+    (0xffff_ffff_ffff_fffc, 0x00a5_0533, Form::Next, true),
+    (0x10000, 0x0000_2503, Form::Next, true),
+    (0x10000, 0x0005_0263, Form::Next, true),
+    (0x10000, 0x0005_0263, Form::Taken, true),
+    (0x10004, 0xffd0_80e7, Form::Next, true),
+    (0xffff_ffff_ffff_fffe, 0x00a5_0533, Form::Next, false),
     (0x10002, 0x00b5_0533, Form::Next, false),
     (0x10000, 0x0000_0073, Form::Next, false),
     (0x10000, 0x0000_0363, Form::Taken, false),

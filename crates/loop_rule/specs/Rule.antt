@@ -26,12 +26,6 @@ abbrev pub IsLedTo : GroupTree → DefTree → LeafTree → Option TripleTree �
 IsLedTo g def leaf None = ⊥
 IsLedTo g def leaf (Some p) = LeadsTo g def leaf p
 
--- a valid triple leads to the leaf
-pub record IsLed (g : GroupTree) (def : DefTree) (leaf : LeafTree) : Type 0 where
-  pub triple : TripleTree
-  pub leads : LeadsTo g def leaf triple
-  pub valid : Valid g triple
-
 --     for each leaf of d, with its path's facts:   facts ⊢ {entry of d, arguments} code {what the leaf asks for}
 --   ──────────────────────────────────────────────────────────────────────────────────────────────────────────────
 --     for each exit k of d:   d on the arguments gives the results by k ⊢ {entry of d, arguments} code {exit k, results}

@@ -4,7 +4,8 @@ use Rattle.mc_text.specs.declared.token.Token.{Token}
 use Rattle.mc_text.specs.declared.token.Token.TheVariants as token
 use Rattle.mc_text.specs.Tokens.{Tok, Done, Place, Passes, tok, eol}
 use Rattle.mc_text.specs.Scanning.{tokens_at, eols, ScansOne}
-use Rattle.mc_text.specs.Outcome.{last_line, after_token, IsAhead}
+use Rattle.mc_text.specs.Outcome.{last_line}
+use Rattle.mc_text.specs.inner.Outcome.{after_token, IsAhead}
 
 not-done : (t : Token) (ts : List Tok) → (tok t ≡ Done → ⊥) → after_token t ts ≡ ts
 not-done token.Left ts h = refl

@@ -4,7 +4,8 @@ use Rattle.std.proofs.lemmas.List.{take_all}
 use Rattle.std.specs.List.{AllByRecursion, AllPass}
 use Rattle.std.proofs.lemmas.List.Elements.{All-from_recursion, recursion_from_All}
 use Rattle.mc_text.specs.Tokens.{Tok, Atom, Stuck, is_atom_byte, IsAtom, IsAtomText}
-use Rattle.mc_text.specs.Scanning.{class_of, State, At, Within, Spaced, lex, byte_step, ended, state_of, loose, tight, grows, or_stuck, at_end, IsSettled}
+use Rattle.mc_text.specs.Scanning.{class_of, State, At, Within, Spaced, lex, byte_step, ended, loose, tight, grows, or_stuck, at_end}
+use Rattle.mc_text.specs.inner.Scanning.{state_of, IsSettled}
 use Rattle.mc_text.specs.declared.token.Before.{Before}
 use Rattle.mc_text.specs.declared.token.Before.TheVariants.{Start, Open, Later}
 use Rattle.mc_text.specs.declared.token.Class.{Class}

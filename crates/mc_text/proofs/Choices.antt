@@ -1,7 +1,8 @@
 -- Alternatives within a line, values of other shapes, and tests of what was read.
 use Rattle.std.proofs.Common.{◌≡◌, Bool, true, false, cond, List, [], ◌∷◌, ◌++◌, Ok, Err, refl, sym, ap, subst, ◌∙◌, inl, inr, ◌⊎◌}
 use Rattle.mc_text.specs.Tokens.{Tok}
-use Rattle.mc_text.specs.Reading.{Reader, ◌>>=◌, made, choice, checked, goes_on}
+use Rattle.mc_text.specs.Reading.{Reader, ◌>>=◌, made, choice, goes_on}
+use Rattle.mc_text.specs.inner.Reading.{checked}
 use Rattle.mc_text.proofs.ReaderLaws.{Out, Reads, Stops, StaysFlat, AreAlike, ok-is, err-is, made-takes, made-again, made-stops}
 
 -- the same first token decides

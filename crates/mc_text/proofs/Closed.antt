@@ -1,7 +1,8 @@
 -- A line whose items pass a test: where they don't, reading stops before the line's end.
 use Rattle.std.proofs.Common.{◌≡◌, Bool, true, false, cond, List, [], ◌∷◌, ◌++◌, Ok, Err, refl, sym, ap, subst, ◌∙◌, append_assoc}
 use Rattle.mc_text.specs.Tokens.{Tok, Left, Right, Semi, Atom, Eol, Done, Stuck}
-use Rattle.mc_text.specs.Reading.{Reader, ◌>>=◌, one, pair, eol, checked}
+use Rattle.mc_text.specs.Reading.{Reader, ◌>>=◌, one, pair}
+use Rattle.mc_text.specs.inner.Reading.{eol, checked}
 use Rattle.mc_text.proofs.ReaderLaws.{Out, Reads, Stops, StaysFlat, AreAlike, ok-value, ok-rest, err-is}
 
 abbrev Ended : Type 0

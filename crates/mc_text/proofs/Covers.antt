@@ -3,7 +3,8 @@ use Rattle.std.proofs.Common.{◌≡◌, ℕ, zero, suc, ◌<◌, Bool, true, fa
 use Rattle.std.specs.List.{AllByRecursion}
 use Rattle.std.proofs.lemmas.List.{append-nil}
 use Rattle.mc_text.specs.Tokens.{Tok, Left, Right, Semi, Atom, Eol, Done, Stuck, all_tokens}
-use Rattle.mc_text.specs.Reading.{Reader, ◌>>=◌, pair, with, made, star, goes_on, keyed, refused}
+use Rattle.mc_text.specs.Reading.{Reader, ◌>>=◌, pair, with, made, star, goes_on, refused}
+use Rattle.mc_text.specs.inner.Reading.{keyed}
 use Rattle.mc_text.proofs.Lines.{EndsIn, IsLines}
 use Rattle.mc_text.proofs.Star.{Shrinks}
 use Rattle.mc_text.proofs.Listed.{cons, last, cons-bad, last-bad, alike-go2, R-item, R-fails, R-end, list-takes, list-again}

@@ -3,7 +3,8 @@ use Rattle.std.proofs.Common.{◌≡◌, ℕ, zero, suc, ◌+◌, ◌≤◌, ◌
 use Rattle.std.specs.Str.{bytes_eq}
 use Rattle.std.proofs.lemmas.List.{append_cancel_right}
 use Rattle.mc_text.specs.Tokens.{Tok, Left, Right, Semi, Atom, Eol, Done, Stuck}
-use Rattle.mc_text.specs.Reading.{Reader, ◌>>=◌, pair, made, many, keyed}
+use Rattle.mc_text.specs.Reading.{Reader, ◌>>=◌, pair, made, many}
+use Rattle.mc_text.specs.inner.Reading.{keyed}
 use Rattle.mc_text.proofs.ReaderLaws.{Out, AreAlike, ok-rest}
 use Rattle.mc_text.proofs.Star.{Shrinks}
 use Rattle.mc_text.proofs.Covers.{Covers}

@@ -11,7 +11,8 @@ use Rattle.hex.specs.declared.error.FromHexError.{FromHexError}
 use Rattle.hex.specs.Hex.{lower_digits, encode_with, encode_lower, hex_digit_value, is_hex_digit as is_any_digit, digit_or_error, pair_value, value_at, decode_pairs, decode_of, IsBytes}
 use Rattle.hex.proofs.Pairs.{cons_byte, decode_pairs-ok_pair}
 use Rattle.hex.proofs.HexLemmas.{length-encode_with, decode_of-encode_lower, decode_of-ok, decode_of-even, decode_of-digits}
-use Rattle.mc_text.specs.Number.{is_hex_digit, AreBytes, AreDigitPairs, Spelled, value_of, spelled_by, bytes_of_digits}
+use Rattle.mc_text.specs.Number.{is_hex_digit, AreBytes, AreDigitPairs, Spelled, spelled_by, bytes_of_digits}
+use Rattle.mc_text.specs.inner.Number.{value_of}
 use Rattle.mc_text.proofs.Numbers.{Pass}
 
 -- the value of a digit in lower case

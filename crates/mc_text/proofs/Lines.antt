@@ -7,7 +7,8 @@ use Rattle.mc_text.specs.declared.token.Token.{Token}
 use Rattle.mc_text.specs.declared.token.Token.TheVariants as token
 use Rattle.mc_text.specs.declared.token.Before.{Before}
 use Rattle.mc_text.specs.declared.token.Before.TheVariants.{Start, Open, Later}
-use Rattle.mc_text.specs.Scanning.{class_of, State, At, Within, Spaced, lex, byte_step, prepend, loose, tight, grows, parts, ended, or_stuck, at_end, state_of, space_text, IsWhole, IsSettled, tokens_at}
+use Rattle.mc_text.specs.Scanning.{class_of, State, At, Within, Spaced, lex, byte_step, prepend, loose, tight, grows, parts, ended, or_stuck, at_end, tokens_at}
+use Rattle.mc_text.specs.inner.Scanning.{state_of, space_text, IsWhole, IsSettled}
 use Rattle.mc_text.specs.declared.token.Class.{Class}
 use Rattle.mc_text.specs.declared.token.Class.TheVariants.{Letter, LeftMark, RightMark, SemiMark, Newline, Space, Other}
 use Rattle.mc_text.proofs.Atoms.{class-letter, class-other, ends, lex-cons, ended-between, nothing-left}

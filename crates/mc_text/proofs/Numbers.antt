@@ -15,7 +15,8 @@ use Rattle.std.proofs.lemmas.Str.{IsUtf8-from_ascii}
 use Rattle.std.proofs.lemmas.Str.Parse.{without_leading_plus_none}
 use Rattle.mc_text.specs.declared.number.Base.{Base}
 use Rattle.mc_text.specs.declared.number.Base.TheVariants.{Decimal, Hexadecimal}
-use Rattle.mc_text.specs.Number.{base_number, hex, IsWord, Spelled, number_of, hex_of}
+use Rattle.mc_text.specs.Number.{hex, IsWord, Spelled, number_of, hex_of}
+use Rattle.mc_text.specs.inner.Number.{base_number}
 
 -- ---- the digits that a number is written with
 

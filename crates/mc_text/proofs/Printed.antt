@@ -8,7 +8,8 @@ use Rattle.mc_text.specs.Tokens.{Tok, Left, Semi, Atom, gap, before_next, spell,
 use Rattle.mc_text.specs.declared.token.Before.{Before}
 use Rattle.mc_text.specs.declared.token.Before.TheVariants.{Start, Open, Later}
 use Rattle.mc_text.proofs.Lines.{EndsIn, IsLines}
-use Rattle.mc_text.specs.Printing.{Page, put, print, begun, BeginsWith, Keeps, space}
+use Rattle.mc_text.specs.Printing.{Page, put, print, begun, BeginsWith, Keeps}
+use Rattle.mc_text.specs.inner.Printing.{space}
 
 pub print_append : (a b : List Tok) (p : Page) → print (a ++ b) p ≡ print b (print a p)
 unfolding print

@@ -3,7 +3,8 @@ use Rattle.std.proofs.Common.{◌≡◌, ℕ, Bool, true, false, cond, List, [],
 use Rattle.std.specs.Str.{bytes_eq}
 use Rattle.std.proofs.lemmas.Slice.Eq.{bytes_eq-Decides}
 use Rattle.mc_text.specs.Tokens.{Tok, Left, Right, Semi, Atom, Eol, Done, Stuck}
-use Rattle.mc_text.specs.Reading.{Reader, ◌>>=◌, or_else, one, pair, with, made, keyed}
+use Rattle.mc_text.specs.Reading.{Reader, ◌>>=◌, or_else, one, pair, with, made}
+use Rattle.mc_text.specs.inner.Reading.{keyed}
 
 abbrev pub Out : Type 0 → Type 0
 Out Y = Result (Y × List Tok) (List Tok)

@@ -2,7 +2,8 @@
 use Rattle.std.proofs.Common.{◌≡◌, ℕ, zero, suc, ◌≤◌, Bool, true, false, cond, List, [], ◌∷◌, ◌++◌, length, Ok, Err, refl, sym, ap, subst, ◌∙◌, arith, append_assoc, inl, inr, ◌⊎◌}
 use Rattle.std.specs.List.{AllByRecursion}
 use Rattle.mc_text.specs.Tokens.{Tok, all_tokens}
-use Rattle.mc_text.specs.Reading.{Reader, ◌>>=◌, pair, made, many, times, goes_on, choice}
+use Rattle.mc_text.specs.Reading.{Reader, ◌>>=◌, pair, made, many, goes_on, choice}
+use Rattle.mc_text.specs.inner.Reading.{times}
 use Rattle.mc_text.proofs.Lines.{IsLines}
 use Rattle.mc_text.proofs.ReaderLaws.{Out, AreAlike, ok-is}
 use Rattle.mc_text.proofs.Choices.{alike-first}

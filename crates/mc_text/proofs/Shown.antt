@@ -10,7 +10,8 @@ use Rattle.std.specs.Fmt.{decimal, digits}
 use Rattle.hex.specs.Hex.{encode_with, encode_lower}
 use Rattle.mc_text.specs.Number.{hex, is_hex_digit, IsWord, AreBytes, Spelled, number_of, hex_of, bytes_of_digits as bytes_spelled}
 use Rattle.mc_text.specs.Tokens.{Tok, Left, Right, Semi, Atom, Eol, Done, Stuck, is_atom_byte, IsAtomText, IsAtom, all_tokens}
-use Rattle.mc_text.specs.Reading.{is_left, is_right, is_semi, is_eol, is_word, atom_of, below}
+use Rattle.mc_text.specs.Reading.{is_left, is_right, atom_of, below}
+use Rattle.mc_text.specs.inner.Reading.{is_semi, is_eol, is_word}
 use Rattle.std.specs.List.{AllByRecursion}
 use Rattle.mc_text.proofs.Numbers.{Pass, Passes, digits-pass, number-spelled, hex_of-spelled}
 use Rattle.mc_text.proofs.HexPairs.{bytes_of-spelled, encode-pass}

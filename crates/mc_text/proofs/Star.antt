@@ -2,7 +2,8 @@
 use Rattle.std.proofs.Common.{◌≡◌, ℕ, zero, suc, ◌<◌, ◌≤◌, Bool, true, false, cond, List, [], ◌∷◌, ◌++◌, length, map, Result, Ok, Err, refl, sym, ap, ◌∙◌, arith, append_assoc}
 use Rattle.std.proofs.lemmas.List.{append-nil, map-append}
 use Rattle.mc_text.specs.Tokens.{Tok}
-use Rattle.mc_text.specs.Reading.{Reader, ◌>>=◌, pair, made, many, star, with_prefix, goes_on}
+use Rattle.mc_text.specs.Reading.{Reader, ◌>>=◌, pair, made, many, star, goes_on}
+use Rattle.mc_text.specs.inner.Reading.{with_prefix}
 
 -- what is read takes at least one token
 abbrev pub Shrinks : {X : Type 0} → Reader X → Type 0

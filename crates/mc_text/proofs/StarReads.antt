@@ -1,7 +1,8 @@
 -- A loop that reads items as long as one follows stops where the reading function does.
 use Rattle.std.proofs.Common.{◌≡◌, true, Bool, List, Err}
 use Rattle.mc_text.specs.Tokens.{Tok, Place}
-use Rattle.mc_text.specs.Reading.{Reader, star, with_prefix, goes_on}
+use Rattle.mc_text.specs.Reading.{Reader, star, goes_on}
+use Rattle.mc_text.specs.inner.Reading.{with_prefix}
 use Rattle.mc_text.specs.Scanning.{tokens_at}
 use Rattle.mc_text.proofs.Star.{Shrinks, star-fails}
 use Rattle.mc_text.specs.declared.cursor.Stop.{Stop}

@@ -2,7 +2,8 @@
 use Rattle.std.proofs.Common.{◌≡◌, ℕ, zero, suc, Bool, true, false, List, [], ◌∷◌, ◌++◌, Ok, Err, refl, sym, ap, ◌∙◌}
 use Rattle.std.proofs.lemmas.List.{append-nil}
 use Rattle.mc_text.specs.Tokens.{Tok}
-use Rattle.mc_text.specs.Reading.{Reader, ◌>>=◌, many, times, with_prefix, goes_on}
+use Rattle.mc_text.specs.Reading.{Reader, ◌>>=◌, many, goes_on}
+use Rattle.mc_text.specs.inner.Reading.{times, with_prefix}
 use Rattle.mc_text.proofs.ReaderLaws.{Out}
 use Rattle.mc_text.proofs.Star.{again-front, item-is}
 

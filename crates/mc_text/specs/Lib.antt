@@ -6,3 +6,4 @@ pub mod Fault
 pub mod Reading
 pub mod Outcome
 pub mod Item
+pub mod inner

@@ -6,8 +6,6 @@ use Rattle.std.specs.Str.Parse.{digits_value}
 use Rattle.std.specs.Fmt.{digits}
 use Rattle.hex.specs.Hex.{encode_lower, decode_of}
 use Rattle.hex.specs.declared.error.FromHexError.{FromHexError}
-use Rattle.mc_text.specs.declared.number.Base.{Base}
-use Rattle.mc_text.specs.declared.number.Base.TheVariants.{Decimal, Hexadecimal}
 
 -- A decimal is std's `decimal`: no leading zero. A hexadecimal number begins with 0x, and lower-case digits.
 abbrev pub hex : ℕ → List ℕ
@@ -36,12 +34,6 @@ abbrev pub Spelled : {X : Type 0} → (X → Type 0) → (X → List ℕ) → Li
 Spelled Fits spelling text (Some x) = Fits x × (text ≡ spelling x)
 Spelled {X} Fits spelling text None = (x : X) → Fits x → text ≢ spelling x
 
--- ---- the same by computing
-
-abbrev pub base_number : Base → ℕ
-base_number Decimal = 10
-base_number Hexadecimal = 16
-
 -- the number that the digits spell
 unfoldable pub number_of : ℕ → List ℕ → Option ℕ
 number_of base ds =
@@ -50,11 +42,6 @@ number_of base ds =
 -- the number that 0x and the digits spell
 unfoldable pub hex_of : List ℕ → Option ℕ
 hex_of text = if bytes_eq (take 2 text) (codes "0x") then number_of 16 (drop 2 text) else None
-
--- what decoding gives, if anything
-abbrev pub value_of : Result (List ℕ) FromHexError → Option (List ℕ)
-value_of (Ok bytes) = Some bytes
-value_of (Err e) = None
 
 abbrev pub spelled_by : List ℕ → Result (List ℕ) FromHexError → Option (List ℕ)
 spelled_by text (Ok bytes) = if bytes_eq (encode_lower bytes) text then Some bytes else None

@@ -1,9 +1,9 @@
 -- Writing tokens one by one.
-use Rattle.std.specs.Prelude.{◌≡◌, ℕ, List, [], ◌∷◌, ◌++◌, codes}
+use Rattle.std.specs.Prelude.{◌≡◌, ℕ, List, [], ◌∷◌, ◌++◌}
 use base.Fml.{GName}
 use Rattle.mc_text.specs.Tokens.{Tok, before_next, token_text}
 use Rattle.mc_text.specs.declared.token.Before.{Before}
-use Rattle.mc_text.specs.declared.token.Before.TheVariants.{Start, Open, Later}
+use Rattle.mc_text.specs.declared.token.Before.TheVariants.{Start}
 use Rattle.mc_text.specs.declared.pen.Pen.{Pen}
 
 -- which text is written, its bytes, and what stands before the next token
@@ -38,9 +38,3 @@ pub record BeginsWith (prefix whole : List ℕ) : Type 0 where
 pub record Keeps (old new : Page) : Type 0 where
   pub place : new.place ≡ old.place
   pub prefix : BeginsWith old.bytes new.bytes
-
--- the space before an atom
-abbrev pub space : Before → List ℕ
-space Start = []
-space Open = []
-space Later = codes " "

@@ -1,12 +1,12 @@
 -- The tokens of a text from a place on, by computing.
-use Rattle.std.specs.Prelude.{◌≡◌, ◌⊎◌, ℕ, ◌+◌, Bool, true, false, List, [], ◌∷◌, codes, ◌==◌, if◌then◌else◌, Option, Some, None, Result, Ok, Err}
+use Rattle.std.specs.Prelude.{◌≡◌, ◌⊎◌, ℕ, ◌+◌, Bool, true, false, List, [], ◌∷◌, ◌==◌, if◌then◌else◌, Result, Ok, Err}
 use Rattle.mc_text.specs.declared.token.BadText.{BadText}
 use Rattle.mc_text.specs.declared.token.Token.{Token}
 use Rattle.mc_text.specs.declared.token.Before.{Before}
 use Rattle.mc_text.specs.declared.token.Before.TheVariants.{Start, Open, Later}
 use Rattle.mc_text.specs.declared.token.Class.{Class}
 use Rattle.mc_text.specs.declared.token.Class.TheVariants.{Letter, LeftMark, RightMark, SemiMark, Newline, Space, Other}
-use Rattle.mc_text.specs.Tokens.{Tok, newline, Left, Right, Semi, Atom, Eol, Done, Stuck, tok, before_next, eol, is_atom_byte, HasNoAtomByte, Place}
+use Rattle.mc_text.specs.Tokens.{Tok, newline, Left, Right, Semi, Atom, Eol, Done, Stuck, tok, eol, is_atom_byte, Place}
 
 abbrev pub class_of : ℕ → Class
 class_of b =
@@ -81,36 +81,6 @@ tokens_at p = lex p.rest (At p.before)
 abbrev pub eols : List Tok → ℕ
 eols [] = 0
 eols (t ∷ ts) = eol t + eols ts
-
--- ---- what the code gives
-
-abbrev pub state_of : Before → Bool → State
-state_of m true = Spaced
-state_of m false = At m
-
--- a token other than the end, and the bytes after it, are what the tokens begin with
-abbrev pub Found : {S : Type 0} → (S → List ℕ) → Option (Token × S) → List Tok → Type 0
-Found now None ts = ts ≡ Stuck ∷ []
-Found now (Some p) ts = (ts ≡ tok p.0 ∷ lex (now p.1) (At (before_next (tok p.0)))) × (tok p.0 ≡ Done → ⊥)
-
--- an atom goes on as far as it can
-abbrev pub IsWhole : Tok → List ℕ → Type 0
-IsWhole (Atom a) rest = HasNoAtomByte rest
-IsWhole _ rest = Unit {0}
-
-abbrev pub space_text : Bool → List ℕ
-space_text true = codes " "
-space_text false = []
-
--- the text doesn't end here, or doesn't end well
-abbrev pub IsInside : List ℕ → State → Type 0
-IsInside [] s = at_end s ≡ Stuck ∷ []
-IsInside (b ∷ bs) s = Unit {0}
-
--- no space between two tokens stands here
-abbrev pub IsSettled : List ℕ → State → Type 0
-IsSettled [] s = at_end s ≡ Stuck ∷ []
-IsSettled (b ∷ bs) s = class_of b ≡ Space → parts s ≡ false
 
 -- a token and the tokens after it are what stood there; the end of the text stays where it is
 abbrev pub ScansOne : Tok → Place → Place → Type 0

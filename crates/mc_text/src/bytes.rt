@@ -3,7 +3,8 @@
 ghost use Rattle.std.specs.Prelude.{◌≡◌, ◌≢◌, ◌↔◌, [], IfOk, IsSome, IsTrue};
 ghost use Rattle.std.specs.List.{AllPass};
 ghost use Rattle.hex.specs.Hex.{encode_lower, decode_of};
-ghost use Rattle.mc_text.specs.Number.{is_hex_digit, AreBytes, AreDigitPairs, Spelled, value_of, bytes_of_digits};
+ghost use Rattle.mc_text.specs.Number.{is_hex_digit, AreBytes, AreDigitPairs, Spelled, bytes_of_digits};
+ghost use Rattle.mc_text.specs.inner.Number.{value_of};
 
 use hex::FromHexError;
 use rv_words::{Bytes, NoMemory};

@@ -4,8 +4,10 @@ ghost use Rattle.std.specs.Prelude.{◌≡◌, ◌≤◌, ◌<◌, ◌^◌, IfSo
 ghost use Rattle.mc_text.specs.declared.token.Before.TheVariants.{Start};
 ghost use Rattle.mc_text.specs.Tokens.{tok, before_next};
 ghost use Rattle.mc_text.specs.Scanning.{tokens_at};
-ghost use Rattle.mc_text.specs.Reading.{one, is_left, is_right, is_semi, is_eol, is_atom, is_word, below, goes_on, number_at, address_at, bytes_at, is_open};
-ghost use Rattle.mc_text.specs.Outcome.{Gives, last_line, IsAhead, Accepts};
+ghost use Rattle.mc_text.specs.Reading.{one, is_left, is_right, below, goes_on, address_at, bytes_at, is_open};
+ghost use Rattle.mc_text.specs.inner.Reading.{is_semi, is_eol, is_atom, is_word, number_at};
+ghost use Rattle.mc_text.specs.Outcome.{Gives, last_line};
+ghost use Rattle.mc_text.specs.inner.Outcome.{IsAhead, Accepts};
 ghost use Rattle.mc_text.specs.declared.cursor.Stop.TheVariants.{NoMemory};
 
 use crate::bytes::hex_bytes;

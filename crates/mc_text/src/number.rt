@@ -3,7 +3,8 @@
 ghost use Rattle.std.specs.Prelude.{◌≡◌, ◌<◌, ◌^◌, ℕ, Some, IfSome, IsTrue, ◌↔◌, true, false, MatchOption, take, drop, codes};
 ghost use Rattle.std.specs.Str.{bytes_eq};
 ghost use Rattle.std.specs.Fmt.{decimal, digits as digits_of};
-ghost use Rattle.mc_text.specs.Number.{base_number, hex, IsWord, Spelled, number_of, hex_of};
+ghost use Rattle.mc_text.specs.Number.{hex, IsWord, Spelled, number_of, hex_of};
+ghost use Rattle.mc_text.specs.inner.Number.{base_number};
 
 use crate::digits::HexBuffer;
 use itoa::Buffer;

@@ -6,7 +6,8 @@ ghost use Rattle.std.specs.Fmt.{decimal};
 ghost use Rattle.hex.specs.Hex.{encode_lower};
 ghost use Rattle.mc_text.specs.Number.{hex as hex_text};
 ghost use Rattle.mc_text.specs.Tokens.{Left, Right, Semi, Atom, Eol};
-ghost use Rattle.mc_text.specs.Printing.{Keeps, begun, page, put, space};
+ghost use Rattle.mc_text.specs.Printing.{Keeps, begun, page, put};
+ghost use Rattle.mc_text.specs.inner.Printing.{space};
 ghost use Rattle.mc_text.specs.declared.token.Before.TheVariants.{Later};
 
 use crate::put::{put_atom, put_bytes, put_dec, put_hex};

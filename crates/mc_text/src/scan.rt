@@ -3,7 +3,8 @@
 ghost use Rattle.std.specs.Prelude.{◌≡◌, ◌∷◌, ◌≤◌, ◌<◌, ℕ, List, length, slice_index, IfOk, IfErr, OnErr, IfSome, ◌++◌, [], true, false, IsTrue, ◌↔◌};
 ghost use Rattle.std.specs.List.{AllPass};
 ghost use Rattle.mc_text.specs.Tokens.{is_atom_byte, IsAtom, Tok, Atom, before_next, Stuck, Done, tok, token_bytes, eol, HasNoAtomByte, Place, Passes, Stands};
-ghost use Rattle.mc_text.specs.Scanning.{lex, At, Within, or_stuck, loose, tight, class_of, state_of, Found, IsWhole, IsSettled, IsInside, space_text, tokens_at, Scanned};
+ghost use Rattle.mc_text.specs.Scanning.{lex, At, Within, or_stuck, loose, tight, class_of, tokens_at, Scanned};
+ghost use Rattle.mc_text.specs.inner.Scanning.{state_of, Found, IsWhole, IsSettled, IsInside, space_text};
 ghost use Rattle.mc_text.specs.declared.token.Before.TheVariants.{Start, Later};
 
 use crate::token::{BadText, Before, Class, Token};

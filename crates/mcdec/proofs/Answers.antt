@@ -18,10 +18,10 @@ use Rattle.mcdec.specs.declared.answer.EvalAnswer.{EvalAnswer}
 use Rattle.mcdec.specs.declared.answer.EvalAnswer.TheVariants as answer
 use Rattle.mcdec.specs.declared.answer.Shown.{Shown}
 use Rattle.mcdec.specs.Command.{Command, Eval, Run, Arg, Given, Words, value_of, givens, ranges}
-use Rattle.mcdec.specs.CommandReading.{Holds, HoldsArgs, value_in}
+use Rattle.mcdec.specs.inner.CommandReading.{Holds, HoldsArgs, value_in}
 use Rattle.mcdec.specs.Memory.{no_bytes, placed}
 use Rattle.mcdec.specs.EvalAnswer.{AreWellFormed, proof_limit, arguments_of, ranges_in, EvalGives}
-use Rattle.mcdec.specs.Search.{Finds, GroupGives}
+use Rattle.mcdec.specs.inner.Search.{Finds, GroupGives}
 use Rattle.mcdec.specs.Answer.{HoldsWith, ReadsAreTold}
 
 -- ---- arguments

@@ -16,7 +16,7 @@ use Rattle.mcdec.specs.declared.command.Unread.TheVariants as unread
 use Rattle.mcdec.specs.declared.command.Eval.{Eval as ReadEval}
 use Rattle.mcdec.specs.declared.command.Run.{Run as ReadRun}
 use Rattle.mcdec.specs.Command.{Arg, Value, Memory, Given, IsGiven, IsMemory, AreGiven, AreArgs, given_to, given_word, memory_word, arg_word, givens, ranges, texts}
-use Rattle.mcdec.specs.CommandReading.{Holds, IsArg, IsReadEval, IsReadRun, NoArgs, AllArgs, Unless}
+use Rattle.mcdec.specs.inner.CommandReading.{Holds, IsArg, IsReadEval, IsReadRun, NoArgs, AllArgs, Unless}
 use Rattle.mcdec.proofs.Givens.{arg_word-injective}
 use Rattle.mcdec.proofs.Registers.{AreGiven-last, Holds-last, none-parts, none_some, nones, no_value, texts-split}
 

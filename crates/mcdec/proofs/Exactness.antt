@@ -31,7 +31,7 @@ use Rattle.rv_machine.proofs.RunLemmas.{ends-once}
 use Rattle.mcdec.specs.Memory.{held_at}
 use Rattle.mcdec.specs.RunAnswer.{elf_limit, begin, shown_after, StandsFor, RunGives}
 use Rattle.mcdec.specs.EvalAnswer.{AreWellFormed, FirstNamed, IsTextOf, NoneNamed, proof_limit, arguments_of, shown_of, EvalGives}
-use Rattle.mcdec.specs.Search.{GroupGives}
+use Rattle.mcdec.specs.inner.Search.{GroupGives}
 use Rattle.mcdec.specs.Answer.{Gives, IsDetermined}
 use Rattle.mcdec.specs.Printed.{IsPrinted, IsDelivered}
 use Rattle.mcdec.proofs.ArgWords.{args-unique}

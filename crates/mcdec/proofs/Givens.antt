@@ -15,7 +15,7 @@ use Rattle.mc_text.proofs.OneSpelling.{decimal-once, hex-once, bytes-once}
 use Rattle.mcdec.specs.declared.command.Unread.{Unread}
 use Rattle.mcdec.specs.declared.command.Unread.TheVariants as unread
 use Rattle.mcdec.specs.Command.{Arg, Value, Memory, Given, IsGiven, IsMemory, given_word, memory_word, arg_word}
-use Rattle.mcdec.specs.CommandReading.{IsArg, Lacks, Unless}
+use Rattle.mcdec.specs.inner.CommandReading.{IsArg, Lacks, Unless}
 
 -- ---- the first of a byte
 

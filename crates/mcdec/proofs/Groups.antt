@@ -13,7 +13,7 @@ use Rattle.proof_text.proofs.Fronts.{fronts, front-read, few-groups}
 use Rattle.mcdec.specs.declared.evaluate.Refusal.{Refusal}
 use Rattle.mcdec.specs.declared.evaluate.Refusal.TheVariants as refusal
 use Rattle.mcdec.specs.EvalAnswer.{AreWellFormed, NoneNamed}
-use Rattle.mcdec.specs.Search.{NextIs, Finds, FoundSo, Searched}
+use Rattle.mcdec.specs.inner.Search.{NextIs, Finds, FoundSo, Searched}
 
 all-behind : (F : GroupTree → Type 0) (gs : List GroupTree) (g : GroupTree) → AllByRecursion F gs → F g → AllByRecursion F (gs ++ g ∷ [])
 all-behind F [] g h k = (k, tt)

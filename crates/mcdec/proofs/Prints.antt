@@ -11,7 +11,7 @@ use Rattle.mc_shelf.specs.declared.sink.Stop.TheVariants.{Failed, NoMemory}
 use Rattle.hex.specs.Hex.{encode_with, encode_lower}
 use Rattle.mcdec.specs.Printed.{each, register_line, register_lines}
 use Rattle.mcdec.specs.declared.print.Piece.{Piece}
-use Rattle.mcdec.specs.Printing.{Gains, Prints, piece_text, pieces_text}
+use Rattle.mcdec.specs.inner.Printing.{Gains, Prints, piece_text, pieces_text}
 
 -- ---- meanings that are told
 

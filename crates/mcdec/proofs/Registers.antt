@@ -9,7 +9,7 @@ use Rattle.std.proofs.lemmas.Bool.Decides.{eqb_tells}
 use Rattle.std.proofs.lemmas.List.{map-append, map_more, take-append-drop, get_or-set_same, get_or-set_other}
 use Rattle.std.proofs.lemmas.Option.{slice_get-get_or, get_or_from_slice_get}
 use Rattle.mcdec.specs.Command.{Given, IsGiven, AreGiven, given_to, texts}
-use Rattle.mcdec.specs.CommandReading.{Holds}
+use Rattle.mcdec.specs.inner.CommandReading.{Holds}
 
 -- ---- one register more
 

@@ -23,10 +23,10 @@ use Rattle.mcdec.specs.declared.answer.RunAnswer.{RunAnswer}
 use Rattle.mcdec.specs.declared.answer.RunAnswer.TheVariants as answer
 use Rattle.mcdec.specs.declared.answer.Shown.{Shown}
 use Rattle.mcdec.specs.Command.{Arg, Given, AreGiven, given_to, value_of, givens, ranges}
-use Rattle.mcdec.specs.CommandReading.{Holds, given_in, value_in}
+use Rattle.mcdec.specs.inner.CommandReading.{Holds, given_in, value_in}
 use Rattle.mcdec.specs.Memory.{no_bytes, placed, held_at}
 use Rattle.mcdec.specs.RunAnswer.{begin, elf_limit, is_shown, shown_registers, StandsFor, RunGives}
-use Rattle.mcdec.specs.Running.{MachineGives, shown_with}
+use Rattle.mcdec.specs.inner.Running.{MachineGives, shown_with}
 
 -- ---- values
 

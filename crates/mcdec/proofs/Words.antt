@@ -12,7 +12,7 @@ use Rattle.mcdec.specs.declared.command.Run.{Run as ReadRun}
 use Rattle.mc_text.specs.Number.{hex, number_of}
 use Rattle.mcdec.specs.Command.{Eval, Run, Arg, IsCommand, IsNoCommand, Words, arg_word, operands_of, texts}
 use Rattle.proof_text.specs.Limits.{IsName}
-use Rattle.mcdec.specs.CommandReading.{HoldsArgs, NoArgs, AllArgs, Unless, NoEval, IsEval, NoRun, IsRun}
+use Rattle.mcdec.specs.inner.CommandReading.{HoldsArgs, NoArgs, AllArgs, Unless, NoEval, IsEval, NoRun, IsRun}
 use Rattle.mcdec.specs.declared.command.Unread.{Unread}
 use Rattle.rv_words.specs.declared.range.Range.{Range}
 use Rattle.mcdec.proofs.ArgWords.{unless-also}

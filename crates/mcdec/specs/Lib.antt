@@ -1,10 +1,7 @@
 pub mod Command
-pub mod CommandReading
 pub mod Memory
 pub mod EvalAnswer
-pub mod Search
 pub mod RunAnswer
-pub mod Running
 pub mod Answer
 pub mod Printed
-pub mod Printing
+pub mod inner

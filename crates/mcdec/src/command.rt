@@ -6,7 +6,7 @@ ghost use Rattle.hex.specs.Hex.{encode_lower};
 ghost use Rattle.mc_text.specs.Number.{hex};
 ghost use Rattle.proof_text.specs.Limits.{IsName};
 ghost use Rattle.mcdec.specs.Command.{Arg, Given, IsGiven, IsMemory, IsNoCommand, arg_word, texts};
-ghost use Rattle.mcdec.specs.CommandReading.{AllArgs, IsArg, IsEval, IsRead, IsRun, Lacks, NoArgs, NoEval, NoRun, Unless, arg_of, given_in, value_in};
+ghost use Rattle.mcdec.specs.inner.CommandReading.{AllArgs, IsArg, IsEval, IsRead, IsRun, Lacks, NoArgs, NoEval, NoRun, Unless, arg_of, given_in, value_in};
 ghost use Rattle.mcdec.specs.declared.command.Unread.TheVariants.{NoMemory};
 ghost use Rattle.rv_words.specs.declared.range.Range.{Range as RangeOf};
 

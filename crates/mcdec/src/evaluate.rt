@@ -8,9 +8,9 @@ ghost use Rattle.tailrec_lang.specs.WellFormed.{IsWellFormed};
 ghost use Rattle.proof_text.specs.Limits.{IsGroup};
 ghost use Rattle.mcdec.specs.Answer.{Gives, ReadsAreTold};
 ghost use Rattle.mcdec.specs.Command.{Arg, AreArgs, IsMemory};
-ghost use Rattle.mcdec.specs.CommandReading.{HoldsArgs, IsReadEval, value_in};
+ghost use Rattle.mcdec.specs.inner.CommandReading.{HoldsArgs, IsReadEval, value_in};
 ghost use Rattle.mcdec.specs.EvalAnswer.{EvalGives, proof_limit};
-ghost use Rattle.mcdec.specs.Search.{Finds, FoundSo, GroupGives, NextIs};
+ghost use Rattle.mcdec.specs.inner.Search.{Finds, FoundSo, GroupGives, NextIs};
 
 use crate::answer::{Answer, EvalAnswer, Shown};
 use crate::command::{Eval, Registers};

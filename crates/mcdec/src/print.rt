@@ -6,7 +6,7 @@ ghost use Rattle.std.specs.Fmt.{decimal};
 ghost use Rattle.hex.specs.Hex.{encode_lower};
 ghost use Rattle.mc_shelf.specs.Fault.{Rose};
 ghost use Rattle.mc_text.specs.Number.{hex};
-ghost use Rattle.mcdec.specs.Printing.{Prints, piece_text, pieces_text};
+ghost use Rattle.mcdec.specs.inner.Printing.{Prints, piece_text, pieces_text};
 
 use crate::answer::{Answer, EvalAnswer, RunAnswer, Shown};
 use elf_image::{ElfFault, NameFault};

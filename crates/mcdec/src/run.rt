@@ -8,10 +8,10 @@ ghost use Rattle.rv_words.specs.Bytes.{bytes_from};
 ghost use Rattle.rv_machine.specs.State.{empty_state, state_of, with_bytes};
 ghost use Rattle.mcdec.specs.Answer.{Gives, ReadsAreTold};
 ghost use Rattle.mcdec.specs.Command.{AreArgs, AreGiven, Arg, Given, IsMemory, value_of};
-ghost use Rattle.mcdec.specs.CommandReading.{Holds, HoldsArgs, IsReadRun};
+ghost use Rattle.mcdec.specs.inner.CommandReading.{Holds, HoldsArgs, IsReadRun};
 ghost use Rattle.mcdec.specs.Memory.{placed};
 ghost use Rattle.mcdec.specs.RunAnswer.{RunGives, StandsFor, begin, elf_limit};
-ghost use Rattle.mcdec.specs.Running.{MachineGives, shown_with};
+ghost use Rattle.mcdec.specs.inner.Running.{MachineGives, shown_with};
 
 use crate::answer::{Answer, RunAnswer, Shown};
 use crate::command::{Registers, Run};

@@ -4,7 +4,8 @@ use Rattle.std.specs.List.{AllByRecursion}
 use Rattle.std.proofs.lemmas.Bool.Decides.{nat_tests}
 use Rattle.std.specs.Fmt.{decimal}
 use Rattle.mc_text.specs.Tokens.{Tok, Atom, Eol, all_tokens}
-use Rattle.mc_text.specs.Reading.{Reader, pair, with, made, star, times, goes_on, eol, keyed, refused, number_at}
+use Rattle.mc_text.specs.Reading.{Reader, pair, with, made, star, goes_on, refused}
+use Rattle.mc_text.specs.inner.Reading.{times, eol, keyed, number_at}
 use Rattle.mc_text.proofs.ReaderLaws.{Reads, IsElse, Reads-pair}
 use Rattle.mc_text.proofs.Shown.{Always}
 use Rattle.mc_text.proofs.Covers.{Covers, Part, row-covers, covers-with, covers-list, covers-made, covers-part, part-refused, part-keyed, Never}
@@ -19,7 +20,7 @@ use Rattle.term_text.proofs.TermLaws.{cond-law}
 use Rattle.tailrec_lang.specs.Tree.{ValuesTree, StepTree, BodyTree, Do, Branch, Call, Again, Leave, ArmTrees, NoArm, Arm, with_steps, arms_of}
 use Rattle.proof_text.specs.Limits.{IsValues, IsStep, exit_limit, IsBody, AreArms, nesting, arms_nesting}
 use Rattle.proof_text.specs.Spelling.{number, values_tokens, arm_count, body_tokens, arm_tokens, step_tokens}
-use Rattle.proof_text.specs.Reading.{values_at, step_at, is_step, mark_row, where_room, arm_bound, branch_at, arm_at, call_row, call_at, leave_at, end_at, body_at}
+use Rattle.proof_text.specs.inner.Reading.{values_at, step_at, is_step, mark_row, where_room, arm_bound, branch_at, arm_at, call_row, call_at, leave_at, end_at, body_at}
 use Rattle.proof_text.proofs.StepLaws.{ends-eol, some-eol, atom-flat, number-law, mark-law, row-cover, values_row, values-law, values-cover, zero-cond, step-cover, step-begins, step-shrinks}
 
 -- a body whose nesting is at most d

@@ -18,9 +18,9 @@ use Rattle.tailrec_lang.specs.Eval.{HasFewNeeds}
 use Rattle.proof_text.specs.Limits.{IsGroup, proof_texts}
 use Rattle.proof_text.specs.Spelling.{text_of}
 use Rattle.proof_text.specs.FirstGroups.{Progress, HasGiven}
-use Rattle.proof_text.specs.Cut.{AreWholeLines, drop_lines}
-use Rattle.proof_text.specs.Rest.{GoesOn}
-use Rattle.proof_text.specs.Reading.{is_done, turn_at}
+use Rattle.proof_text.specs.inner.Cut.{AreWholeLines, drop_lines}
+use Rattle.proof_text.specs.inner.Rest.{GoesOn}
+use Rattle.proof_text.specs.inner.Reading.{is_done, turn_at}
 use Rattle.proof_text.proofs.Passed.{turn-takes}
 use Rattle.proof_text.proofs.Cuts.{are-lines, whole-lines}
 use Rattle.proof_text.proofs.Given.{some-line-read, shorter, still-lines, few, bad-call, bad-more, bad-tail-more, whole-call, given-more, would-read}

@@ -15,9 +15,9 @@ use Rattle.mc_text.specs.Reading.{goes_on}
 use Rattle.mc_text.proofs.Lines.{stands-lex, atom-stands}
 use Rattle.mc_text.proofs.FaultLine.{AreLines, EndsByte, one-newline, first-step, lines-zeroth, newlines-append, SameLine, same-line}
 use Rattle.mc_text.proofs.Tail.{count-cons, first-before}
-use Rattle.proof_text.specs.Cut.{AreWholeLines, drop_lines}
+use Rattle.proof_text.specs.inner.Cut.{AreWholeLines, drop_lines}
 use Rattle.proof_text.specs.FirstGroups.{DefFollows}
-use Rattle.proof_text.specs.Reading.{is_def}
+use Rattle.proof_text.specs.inner.Reading.{is_def}
 
 -- ---- a text is whole lines, and a rest without a newline
 

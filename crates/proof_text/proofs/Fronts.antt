@@ -19,9 +19,10 @@ use Rattle.mc_text.proofs.FaultLine.{front-lex, eols-append, text-read}
 use Rattle.tailrec_lang.specs.Tree.{DefTree, GroupTree}
 use Rattle.proof_text.specs.Limits.{IsDef, IsGroup, AreGroups}
 use Rattle.std.specs.Str.{bytes_eq}
-use Rattle.proof_text.specs.Spelling.{def_tokens, group_tokens, head_tokens, end_tokens, text_tokens, text_of}
+use Rattle.proof_text.specs.Spelling.{def_tokens, group_tokens, head_tokens, end_tokens, text_of}
+use Rattle.proof_text.specs.inner.Spelling.{text_tokens}
 use Rattle.proof_text.specs.FirstGroups.{Progress, passed, DefFollows, Ended, HasGiven, AreRead, BeginAlike}
-use Rattle.proof_text.specs.Reading.{def_at, is_def, head_at, group_of, text_at}
+use Rattle.proof_text.specs.inner.Reading.{def_at, is_def, head_at, group_of, text_at}
 use Rattle.proof_text.proofs.Texts.{HeadFits, head_of, head-fits, lines_of_head, group_row, group-split, def-cover, head-cover, text-law}
 use Rattle.proof_text.proofs.Parts.{groups-whole, groups-append}
 use Rattle.proof_text.proofs.Real.{groups-tokens, title-tokens, text-tokens, spell-long}

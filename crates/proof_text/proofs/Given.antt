@@ -14,10 +14,11 @@ use Rattle.mc_text.proofs.Printed.{spell-after_lines}
 use Rattle.tailrec_lang.specs.Tree.{GroupTree}
 use Rattle.tailrec_lang.specs.Eval.{HasFewNeeds}
 use Rattle.proof_text.specs.Limits.{AreGroups, proof_texts}
-use Rattle.proof_text.specs.Spelling.{group_tokens, head_tokens, text_tokens, text_of}
+use Rattle.proof_text.specs.Spelling.{group_tokens, head_tokens, text_of}
+use Rattle.proof_text.specs.inner.Spelling.{text_tokens}
 use Rattle.proof_text.specs.FirstGroups.{Progress, passed, DefFollows, Ended, HasGiven}
-use Rattle.proof_text.specs.Cut.{drop_lines}
-use Rattle.proof_text.specs.Reading.{is_def, text_at, turn_at}
+use Rattle.proof_text.specs.inner.Cut.{drop_lines}
+use Rattle.proof_text.specs.inner.Reading.{is_def, text_at, turn_at}
 use Rattle.proof_text.proofs.Texts.{text-law}
 use Rattle.proof_text.proofs.Real.{text-tokens, few-needs, spell-long}
 use Rattle.proof_text.proofs.Cuts.{dropped, lines-behind, newlines-short, within, def-follows, follows-def}

@@ -8,7 +8,8 @@ use Rattle.std.proofs.lemmas.Bool.Decides.{nat_tests}
 use Rattle.std.proofs.lemmas.Slice.Eq.{bytes_eq-Decides}
 use Rattle.mc_text.specs.Number.{IsWord as IsNumber, AreBytes, hex, hex_of}
 use Rattle.mc_text.specs.Tokens.{Tok, Atom, Eol, is_atom_byte, IsAtomText, IsAtom, all_tokens}
-use Rattle.mc_text.specs.Reading.{Reader, pair, one, atom_of, star, goes_on, eol, word, checked, number_at, address_at, is_open}
+use Rattle.mc_text.specs.Reading.{Reader, pair, one, atom_of, star, goes_on, address_at, is_open}
+use Rattle.mc_text.specs.inner.Reading.{eol, word, checked, number_at}
 use Rattle.mc_text.proofs.ReaderLaws.{Reads, StaysFlat, IsFlat, flat-append, Reads-one, Reads-pair}
 use Rattle.mc_text.proofs.Star.{Shrinks}
 use Rattle.mc_text.proofs.Inline.{reads-list}
@@ -26,7 +27,7 @@ use Rattle.tailrec_lang.specs.declared.group.Exit.{Exit}
 use Rattle.tailrec_lang.specs.declared.group.Exit.TheVariants.{At, Ret}
 use Rattle.proof_text.specs.Limits.{IsExit, exit_limit, returns, IsName, AreRegistersFrom}
 use Rattle.proof_text.specs.Spelling.{number, address, exit_tokens}
-use Rattle.proof_text.specs.Reading.{exit_of, has_atom, are_few_exits, def_row, are_atom_bytes, is_name, name_of, registers_rise, ranges_rise, regs_row, mems_row, code_row}
+use Rattle.proof_text.specs.inner.Reading.{exit_of, has_atom, are_few_exits, def_row, are_atom_bytes, is_name, name_of, registers_rise, ranges_rise, regs_row, mems_row, code_row}
 use Rattle.proof_text.proofs.StepLaws.{shrinks, atom-flat, name-law, number-law, address-law, eol-law}
 
 -- a list of items that all lie in a line

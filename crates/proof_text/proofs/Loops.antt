@@ -2,7 +2,8 @@
 use Rattle.std.proofs.Common.{◌≡◌, ℕ, zero, suc, ◌+◌, ◌-◌, ◌<◌, ◌≤◌, arith, length, length-append, refl, false, true≢false, true, Bool, List, [], ◌∷◌, ◌++◌, map, Ok, Err, sym, ap, ◌∙◌}
 use Rattle.std.proofs.lemmas.List.{map-append}
 use Rattle.mc_text.specs.Tokens.{Tok, Place}
-use Rattle.mc_text.specs.Reading.{Reader, many, times, with_prefix, goes_on}
+use Rattle.mc_text.specs.Reading.{Reader, many, goes_on}
+use Rattle.mc_text.specs.inner.Reading.{times, with_prefix}
 use Rattle.mc_text.specs.Scanning.{tokens_at}
 use Rattle.mc_text.proofs.ReaderLaws.{Out}
 use Rattle.mc_text.proofs.Turns.{times-more, times-fails, times-ends, many-more}

@@ -2,7 +2,8 @@
 use Rattle.std.proofs.Common.{◌≡◌, ℕ, zero, suc, ◌+◌, ◌-◌, ◌≤◌, Bool, true, false, cond, List, [], ◌∷◌, ◌++◌, length, Ok, Err, refl, sym, ap, subst, ◌∙◌, arith, append_assoc}
 use Rattle.std.specs.List.{AllByRecursion}
 use Rattle.mc_text.specs.Tokens.{Tok, Left, Right, Semi, Atom, Eol, Done, Stuck, Place, all_tokens}
-use Rattle.mc_text.specs.Reading.{Reader, ◌>>=◌, many, one, goes_on, with_prefix}
+use Rattle.mc_text.specs.Reading.{Reader, ◌>>=◌, many, one, goes_on}
+use Rattle.mc_text.specs.inner.Reading.{with_prefix}
 use Rattle.mc_text.specs.Scanning.{tokens_at}
 use Rattle.mc_text.proofs.ReaderLaws.{Out, ok-is}
 use Rattle.mc_text.proofs.Covers.{Covers}
@@ -13,7 +14,7 @@ use Rattle.mc_text.specs.Outcome.{Gives}
 use Rattle.tailrec_lang.specs.Tree.{DefTree}
 use Rattle.proof_text.specs.Limits.{def_limit, IsDef}
 use Rattle.proof_text.specs.Spelling.{def_tokens}
-use Rattle.proof_text.specs.Reading.{def_at, is_def, are_some, own_defs}
+use Rattle.proof_text.specs.inner.Reading.{def_at, is_def, are_some, own_defs}
 use Rattle.proof_text.proofs.HeadLaws.{true-le, le-true}
 use Rattle.proof_text.proofs.Texts.{def-cover, def-begins}
 

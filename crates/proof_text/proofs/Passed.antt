@@ -2,7 +2,8 @@
 use Rattle.std.proofs.Common.{◌≡◌, Bool, true, false, List, [], ◌∷◌, ◌++◌, Option, Some, None, Ok, Err, refl, sym, ap, ◌∙◌, append_assoc}
 use Rattle.std.proofs.lemmas.List.{append-nil}
 use Rattle.mc_text.specs.Tokens.{Tok, all_tokens}
-use Rattle.mc_text.specs.Reading.{◌>>=◌, pair, goes_on, with_prefix}
+use Rattle.mc_text.specs.Reading.{◌>>=◌, pair, goes_on}
+use Rattle.mc_text.specs.inner.Reading.{with_prefix}
 use Rattle.mc_text.proofs.Lines.{AreTokens, IsLines}
 use Rattle.mc_text.proofs.ReaderLaws.{Out}
 use Rattle.mc_text.proofs.Covers.{lines-append}
@@ -10,7 +11,7 @@ use Rattle.mc_text.proofs.Shown.{tokens-append}
 use Rattle.tailrec_lang.specs.Tree.{GroupTree}
 use Rattle.proof_text.specs.Limits.{IsGroup, AreGroups}
 use Rattle.proof_text.specs.Spelling.{group_tokens, head_tokens}
-use Rattle.proof_text.specs.Reading.{is_def, next_at, title_row, all_groups, text_at, turn_at}
+use Rattle.proof_text.specs.inner.Reading.{is_def, next_at, title_row, all_groups, text_at, turn_at}
 use Rattle.proof_text.proofs.Texts.{title-cover}
 use Rattle.proof_text.proofs.Parts.{group-whole, groups-whole, groups-append}
 use Rattle.proof_text.proofs.Real.{group-tokens, groups-tokens, title-tokens}

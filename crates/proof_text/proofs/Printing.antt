@@ -10,7 +10,8 @@ use Rattle.tailrec_lang.specs.declared.group.Values.{Values}
 use Rattle.tailrec_lang.specs.declared.group.Body.{Body}
 use Rattle.tailrec_lang.specs.declared.group.End.{End}
 use Rattle.tailrec_lang.specs.declared.group.End.TheVariants as end
-use Rattle.tailrec_lang.specs.Tree.{BodyTree, StepTree, arm_trees, body_tree, end_tree, step_tree, values_tree, with_steps}
+use Rattle.tailrec_lang.specs.Tree.{BodyTree, StepTree, body_tree, step_tree, values_tree, with_steps}
+use Rattle.tailrec_lang.specs.inner.Tree.{arm_trees, end_tree}
 use Rattle.tailrec_lang.proofs.Views.{view_body, view_branch, view_call, view_again, view_leave}
 use Rattle.proof_text.specs.Spelling.{line, number, step_tokens, values_tokens, body_tokens, arm_tokens, arm_count}
 

@@ -16,7 +16,8 @@ use Rattle.tailrec_lang.specs.Eval.{HasFewNeeds, step_needs, needs, arm_needs}
 use Rattle.tailrec_lang.specs.declared.group.Exit.{Exit}
 use Rattle.tailrec_lang.specs.declared.group.Exit.TheVariants.{At, Ret}
 use Rattle.proof_text.specs.Limits.{IsValues, IsStep, IsBody, AreArms, IsExit, IsDef, AreRegistersFrom, IsGroup, AreGroups}
-use Rattle.proof_text.specs.Spelling.{line, number, address, exit_tokens, values_tokens, arm_count, step_tokens, body_tokens, arm_tokens, def_tokens, group_tokens, head_tokens, end_tokens, text_tokens}
+use Rattle.proof_text.specs.Spelling.{line, number, address, exit_tokens, values_tokens, arm_count, step_tokens, body_tokens, arm_tokens, def_tokens, group_tokens, head_tokens, end_tokens}
+use Rattle.proof_text.specs.inner.Spelling.{text_tokens}
 use Rattle.proof_text.proofs.HeadLaws.{text-there, HasBytes, not-empty}
 
 eol-tokens : (v : List Tok) → AreTokens v → AreTokens (v ++ Eol ∷ [])

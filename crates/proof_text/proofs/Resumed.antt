@@ -4,13 +4,14 @@ use Rattle.std.specs.List.{AllByRecursion}
 use Rattle.std.specs.Str.{bytes_eq}
 use Rattle.std.proofs.lemmas.Slice.Eq.{bytes_eq-Decides}
 use Rattle.mc_text.specs.Tokens.{Tok, Left, Right, Semi, Atom, Eol, Done, Stuck, all_tokens}
-use Rattle.mc_text.specs.Reading.{Reader, ◌>>=◌, pair, made, many, goes_on, eol, keyed, refused}
+use Rattle.mc_text.specs.Reading.{Reader, ◌>>=◌, pair, made, many, goes_on, refused}
+use Rattle.mc_text.specs.inner.Reading.{eol, keyed}
 use Rattle.mc_text.proofs.ReaderLaws.{Out, ok-rest, ok-value, err-is, IsElse, keyed-cases, keyed-hit, keyed-miss}
 use Rattle.mc_text.proofs.Turns.{many-one, many-stop, many-none}
 use Rattle.tailrec_lang.specs.Tree.{DefTree, GroupTree}
 use Rattle.proof_text.specs.Limits.{def_limit, IsDef, IsGroup}
 use Rattle.proof_text.specs.Spelling.{def_tokens, group_tokens}
-use Rattle.proof_text.specs.Reading.{Head, def_at, is_def, are_some, own_defs, head_at, group_of, group_at, next_at, more_defs, defs_at, groups_at, all_groups}
+use Rattle.proof_text.specs.inner.Reading.{Head, def_at, is_def, are_some, own_defs, head_at, group_of, group_at, next_at, more_defs, defs_at, groups_at, all_groups}
 use Rattle.proof_text.proofs.HeadLaws.{true-le}
 use Rattle.proof_text.proofs.OwnDefs.{Defs, good, bad, guard, judge, sent, many-again, own-takes, own-again, def-refuses}
 use Rattle.proof_text.proofs.Texts.{HeadFits, head_of, head-fits, lines_of_head, head-cover, def-cover, def-begins, group_row, group-split, enough-groups, group_reader, end_row}

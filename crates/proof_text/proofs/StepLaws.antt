@@ -3,7 +3,8 @@ use Rattle.std.proofs.Common.{◌≡◌, ℕ, ◌^◌, ◌<◌, ◌≤◌, true,
 use Rattle.std.specs.List.{AllByRecursion}
 use Rattle.mc_text.specs.Number.{IsWord as IsNumber, hex, hex_of, number_of}
 use Rattle.mc_text.specs.Tokens.{Tok, Semi, Atom, Eol, all_tokens}
-use Rattle.mc_text.specs.Reading.{Reader, pair, made, one, is_semi, is_eol, is_word, atom_of, below, star, goes_on, eol, word, keyed, refused, number_at, address_at}
+use Rattle.mc_text.specs.Reading.{Reader, pair, made, one, atom_of, below, star, goes_on, refused, address_at}
+use Rattle.mc_text.specs.inner.Reading.{is_semi, is_eol, is_word, eol, word, keyed, number_at}
 use Rattle.mc_text.proofs.Lines.{EndsIn, IsLines}
 use Rattle.mc_text.proofs.ReaderLaws.{Reads, StaysFlat, IsFlat, Reads-one, Reads-pair}
 use Rattle.mc_text.proofs.Star.{Shrinks}
@@ -21,7 +22,7 @@ use Rattle.term_text.proofs.TermLaws.{word-law, mem-law, cond-law, word-shrinks,
 use Rattle.tailrec_lang.specs.Tree.{ValuesTree, StepTree, Bind, BindMem, Need}
 use Rattle.proof_text.specs.Limits.{IsValues, IsStep}
 use Rattle.proof_text.specs.Spelling.{number, address, values_tokens, step_tokens}
-use Rattle.proof_text.specs.Reading.{values_at, step_at, is_step, mark_row}
+use Rattle.proof_text.specs.inner.Reading.{values_at, step_at, is_step, mark_row}
 
 -- ---- the end of a line
 

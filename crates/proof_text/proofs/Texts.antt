@@ -3,7 +3,8 @@ use Rattle.std.proofs.Common.{◌≡◌, ℕ, zero, suc, ◌<◌, ◌≤◌, tru
 use Rattle.std.specs.List.{AllByRecursion}
 use Rattle.mc_text.specs.Number.{IsWord as IsNumber, hex}
 use Rattle.mc_text.specs.Tokens.{Tok, Atom, Eol, all_tokens}
-use Rattle.mc_text.specs.Reading.{Reader, pair, made, one, atom_of, goes_on, eol, word, keyed, refused}
+use Rattle.mc_text.specs.Reading.{Reader, pair, made, one, atom_of, goes_on, refused}
+use Rattle.mc_text.specs.inner.Reading.{eol, word, keyed}
 use Rattle.mc_text.proofs.ReaderLaws.{IsElse, Reads-pair}
 use Rattle.mc_text.proofs.Star.{Shrinks}
 use Rattle.mc_text.proofs.Shown.{Always}
@@ -15,8 +16,9 @@ use Rattle.term_text.specs.Spelling.{range_tokens}
 use Rattle.tailrec_lang.specs.Tree.{BodyTree, DefTree, GroupTree}
 use Rattle.tailrec_lang.specs.declared.group.Exit.{Exit}
 use Rattle.proof_text.specs.Limits.{nesting_limit, def_limit, IsDef, IsGroup, IsName, AreRegistersFrom, AreGroups}
-use Rattle.proof_text.specs.Spelling.{line, number, address, exit_tokens, body_tokens, def_tokens, group_tokens, head_tokens, end_tokens, text_tokens}
-use Rattle.proof_text.specs.Reading.{Head, def_row, def_at, is_def, name_of, regs_row, mems_row, code_row, head_at, group_of, more_defs, defs_at, title_row, groups_at, all_groups, text_at, body_at}
+use Rattle.proof_text.specs.Spelling.{line, number, address, exit_tokens, body_tokens, def_tokens, group_tokens, head_tokens, end_tokens}
+use Rattle.proof_text.specs.inner.Spelling.{text_tokens}
+use Rattle.proof_text.specs.inner.Reading.{Head, def_row, def_at, is_def, name_of, regs_row, mems_row, code_row, head_at, group_of, more_defs, defs_at, title_row, groups_at, all_groups, text_at, body_at}
 use Rattle.proof_text.proofs.StepLaws.{ends-eol, shrinks, atom-flat, name-law, eol-law, row-law}
 use Rattle.proof_text.proofs.HeadLaws.{AreExits, def-row-law, group-name-law, regs-law, mems-law, IsCode, code-law}
 use Rattle.proof_text.proofs.BodyLaws.{Within, body-law}

@@ -2,9 +2,6 @@ pub mod Version
 pub mod Spelling
 pub mod Limits
 pub mod FirstGroups
-pub mod Reading
-pub mod Cut
 pub mod Answers
-pub mod Heads
 pub mod Parts
-pub mod Rest
+pub mod inner

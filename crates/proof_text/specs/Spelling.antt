@@ -94,8 +94,5 @@ text_in v gs = spell Start (tokens_in v gs)
 abbrev pub head_tokens : List Tok
 head_tokens = title_tokens version_1
 
-abbrev pub text_tokens : List GroupTree → List Tok
-text_tokens gs = tokens_in version_1 gs
-
 abbrev pub text_of : List GroupTree → List ℕ
 text_of gs = text_in version_1 gs

@@ -1,10 +1,11 @@
 //! Reading bodies, by the nesting that is left.
 
 ghost use Rattle.std.specs.Prelude.{◌≡◌, ◌^◌, IfOk, ◌<◌, map};
-ghost use Rattle.mc_text.specs.Reading.{times, number_at};
+ghost use Rattle.mc_text.specs.inner.Reading.{times, number_at};
 ghost use Rattle.mc_text.specs.Outcome.{Gives, last_line};
-ghost use Rattle.tailrec_lang.specs.Tree.{body_tree, end_tree, values_tree};
-ghost use Rattle.proof_text.specs.Reading.{arm_at, arm_bound, body_at, branch_at, call_at, call_row, end_at, leave_at};
+ghost use Rattle.tailrec_lang.specs.Tree.{body_tree, values_tree};
+ghost use Rattle.tailrec_lang.specs.inner.Tree.{end_tree};
+ghost use Rattle.proof_text.specs.inner.Reading.{arm_at, arm_bound, body_at, branch_at, call_at, call_row, end_at, leave_at};
 
 use crate::rows::{cond_row, read_mark, read_steps, read_values};
 use mc_text::cursor::{number, peek};
@@ -38,7 +39,7 @@ fn read_arm_count<'a>(scan: &mut Scan<'a>, room: u32) -> Result<u64, Stop>
 }
 
 /// What stands after the word of an exit.
-#[tactic(auto, unfolding(crate::specs::Reading::leave_at))]
+#[tactic(auto, unfolding(crate::specs::inner::Reading::leave_at))]
 fn read_leave<'a>(alloc: Global, scan: &mut Scan<'a>) -> Result<End, Stop>
     ensures gives { Gives end_tree result scan.old scan.new leave_at }
     ensures last { last_line scan.new ≡ last_line scan.old }
@@ -50,7 +51,7 @@ fn read_leave<'a>(alloc: Global, scan: &mut Scan<'a>) -> Result<End, Stop>
 
 /// What stands after the word of a branch.
 #[cycle(bodies)]
-#[tactic(auto, unfolding(crate::specs::Reading::branch_at))]
+#[tactic(auto, unfolding(crate::specs::inner::Reading::branch_at))]
 fn read_branch<'a>(alloc: Global, scan: &mut Scan<'a>, room: u32) -> Result<End, Stop>
     ensures gives { Gives end_tree result scan.old scan.new (branch_at (body_at room)) }
     ensures last { last_line scan.new ≡ last_line scan.old }
@@ -109,7 +110,7 @@ fn call_row<'a>(alloc: Global, scan: &mut Scan<'a>, room: u32) -> Result<(u32, u
 
 /// What stands after the word of a call.
 #[cycle(bodies)]
-#[tactic(auto, unfolding(crate::specs::Reading::call_at), using(tailrec_lang::proofs::Views::view_call))]
+#[tactic(auto, unfolding(crate::specs::inner::Reading::call_at), using(tailrec_lang::proofs::Views::view_call))]
 fn read_call<'a>(alloc: Global, scan: &mut Scan<'a>, room: u32) -> Result<End, Stop>
     ensures gives { Gives end_tree result scan.old scan.new (call_at (arm_bound room) (body_at room)) }
     ensures last { last_line scan.new ≡ last_line scan.old }
@@ -121,7 +122,7 @@ fn read_call<'a>(alloc: Global, scan: &mut Scan<'a>, room: u32) -> Result<End, S
 
 /// How a body ends. Bodies stand inside only where there is room.
 #[cycle(bodies)]
-#[tactic(auto, unfolding(crate::specs::Reading::end_at))]
+#[tactic(auto, unfolding(crate::specs::inner::Reading::end_at))]
 fn read_end<'a>(alloc: Global, scan: &mut Scan<'a>, room: u32) -> Result<End, Stop>
     ensures gives { Gives end_tree result scan.old scan.new (end_at room (body_at room)) }
     ensures last { last_line scan.new ≡ last_line scan.old }
@@ -150,7 +151,7 @@ fn read_end<'a>(alloc: Global, scan: &mut Scan<'a>, room: u32) -> Result<End, St
 
 /// A body of at most that nesting.
 #[cycle(bodies)]
-#[tactic(auto, unfolding(crate::specs::Reading::body_at), using(tailrec_lang::proofs::Views::view_body))]
+#[tactic(auto, unfolding(crate::specs::inner::Reading::body_at), using(tailrec_lang::proofs::Views::view_body))]
 pub fn read_body<'a>(alloc: Global, scan: &mut Scan<'a>, room: u32) -> Result<Body, Stop>
     ensures gives { Gives body_tree result scan.old scan.new (body_at room) }
     ensures last { last_line scan.new ≡ last_line scan.old }

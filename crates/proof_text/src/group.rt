@@ -5,7 +5,7 @@ ghost use Rattle.mc_text.specs.Reading.{goes_on};
 ghost use Rattle.mc_text.specs.Scanning.{tokens_at};
 ghost use Rattle.mc_text.specs.Outcome.{Gives, last_line};
 ghost use Rattle.tailrec_lang.specs.Tree.{def_tree, group_tree};
-ghost use Rattle.proof_text.specs.Reading.{group_at, is_def, next_at, own_defs, title_row, turn_at};
+ghost use Rattle.proof_text.specs.inner.Reading.{group_at, is_def, next_at, own_defs, title_row, turn_at};
 
 use crate::heads::{Head, read_def, read_head};
 use crate::rows::read_mark;
@@ -50,7 +50,7 @@ fn read_defs<'a>(alloc: Global, scan: &mut Scan<'a>) -> Result<List<Def>, Stop>
 }
 
 /// A group, after its first word.
-#[tactic(auto, unfolding(crate::specs::Reading::group_at))]
+#[tactic(auto, unfolding(crate::specs::inner::Reading::group_at))]
 fn read_group<'a>(alloc: Global, scan: &mut Scan<'a>) -> Result<Group, Stop>
     ensures gives { Gives group_tree result scan.old scan.new group_at }
     ensures last { last_line scan.new ≡ last_line scan.old }
@@ -72,7 +72,7 @@ fn read_group<'a>(alloc: Global, scan: &mut Scan<'a>) -> Result<Group, Stop>
 }
 
 /// The next group, or the line that ends the text.
-#[tactic(auto, unfolding(crate::specs::Reading::next_at))]
+#[tactic(auto, unfolding(crate::specs::inner::Reading::next_at))]
 fn read_next<'a>(alloc: Global, scan: &mut Scan<'a>) -> Result<Option<Group>, Stop>
     ensures gives { Gives (λ found. option_map group_tree found) result scan.old scan.new next_at }
     ensures last { last_line scan.new ≡ last_line scan.old }

@@ -1,13 +1,14 @@
 //! Reading definitions, and the lines before them.
 
 ghost use Rattle.std.specs.Prelude.{◌≡◌, ◌<◌, ◌^◌, IfOk, map};
-ghost use Rattle.mc_text.specs.Reading.{atom_of, goes_on, one, star, number_at};
+ghost use Rattle.mc_text.specs.Reading.{atom_of, goes_on, one, star};
+ghost use Rattle.mc_text.specs.inner.Reading.{number_at};
 ghost use Rattle.mc_text.specs.Scanning.{tokens_at};
 ghost use Rattle.mc_text.specs.Outcome.{Gives, last_line};
 ghost use Rattle.tailrec_lang.specs.Tree.{def_tree};
 ghost use Rattle.proof_text.specs.Limits.{returns};
-ghost use Rattle.proof_text.specs.Heads.{head_of};
-ghost use Rattle.proof_text.specs.Reading.{are_atom_bytes, are_few_exits, code_row, def_at, def_row, exit_of, has_atom, head_at, is_name, mems_row, name_of, ranges_rise, registers_rise, regs_row};
+ghost use Rattle.proof_text.specs.inner.Heads.{head_of};
+ghost use Rattle.proof_text.specs.inner.Reading.{are_atom_bytes, are_few_exits, code_row, def_at, def_row, exit_of, has_atom, head_at, is_name, mems_row, name_of, ranges_rise, registers_rise, regs_row};
 
 use crate::bodies::read_body;
 use mc_text::cursor::{address, eol, keyword, number, peek};
@@ -31,7 +32,7 @@ fn has_atom(scan: &Scan<'_>) -> bool
 // ---- exits
 
 /// The exit that an atom spells.
-#[tactic(auto, unfolding(crate::specs::Reading::exit_of))]
+#[tactic(auto, unfolding(crate::specs::inner::Reading::exit_of))]
 fn exit_of(atom: &[u8]) -> Option<Exit>
     ensures { result ≡ exit_of atom.now }
 {
@@ -100,7 +101,7 @@ fn returns(exits: &[Exit]) -> usize
 // ---- definitions
 
 /// The entry and the exits, with the end of their line.
-#[tactic(auto, unfolding(crate::specs::Reading::def_row))]
+#[tactic(auto, unfolding(crate::specs::inner::Reading::def_row))]
 fn read_def_row<'a>(alloc: Global, scan: &mut Scan<'a>) -> Result<(u64, List<Exit>), Stop>
     ensures gives { Gives (λ row. (row.0, (row.1, tt))) result scan.old scan.new def_row }
     ensures last { last_line scan.new ≡ last_line scan.old }
@@ -115,7 +116,7 @@ fn read_def_row<'a>(alloc: Global, scan: &mut Scan<'a>) -> Result<(u64, List<Exi
 }
 
 /// A definition.
-#[tactic(auto, unfolding(crate::specs::Reading::def_at))]
+#[tactic(auto, unfolding(crate::specs::inner::Reading::def_at))]
 pub fn read_def<'a>(alloc: Global, scan: &mut Scan<'a>) -> Result<Def, Stop>
     ensures gives { Gives def_tree result scan.old scan.new def_at }
     ensures last { last_line scan.new ≡ last_line scan.old }
@@ -147,7 +148,7 @@ fn are_atom_bytes(atom: &[u8]) -> bool
 }
 
 /// The name of a group.
-#[tactic(auto, unfolding(mc_text::specs::Reading::one, crate::specs::Reading::name_of))]
+#[tactic(auto, unfolding(mc_text::specs::Reading::one, crate::specs::inner::Reading::name_of))]
 fn read_name<'a>(alloc: Global, scan: &mut Scan<'a>) -> Result<Text, Stop>
     ensures gives { Gives (λ name. name) result scan.old scan.new (one (atom_of name_of)) }
     ensures last { last_line scan.new ≡ last_line scan.old }
@@ -216,7 +217,7 @@ fn ranges_rise(ranges: &[Range]) -> bool
 }
 
 /// The line of registers.
-#[tactic(auto, unfolding(crate::specs::Reading::regs_row))]
+#[tactic(auto, unfolding(crate::specs::inner::Reading::regs_row))]
 fn read_regs_row<'a>(alloc: Global, scan: &mut Scan<'a>) -> Result<List<u8>, Stop>
     ensures gives { Gives (λ regs. (tt, (regs, tt))) result scan.old scan.new regs_row }
     ensures last { last_line scan.new ≡ last_line scan.old }
@@ -231,7 +232,7 @@ fn read_regs_row<'a>(alloc: Global, scan: &mut Scan<'a>) -> Result<List<u8>, Sto
 }
 
 /// The line of the number of memories.
-#[tactic(auto, unfolding(crate::specs::Reading::mems_row))]
+#[tactic(auto, unfolding(crate::specs::inner::Reading::mems_row))]
 fn read_mems_row<'a>(scan: &mut Scan<'a>) -> Result<u8, Stop>
     ensures gives { Gives (λ mems. (tt, (mems, tt))) result scan.old scan.new mems_row }
     ensures last { last_line scan.new ≡ last_line scan.old }
@@ -243,7 +244,7 @@ fn read_mems_row<'a>(scan: &mut Scan<'a>) -> Result<u8, Stop>
 }
 
 /// The line of the code.
-#[tactic(auto, unfolding(crate::specs::Reading::code_row))]
+#[tactic(auto, unfolding(crate::specs::inner::Reading::code_row))]
 fn read_code_row<'a>(alloc: Global, scan: &mut Scan<'a>) -> Result<Code, Stop>
     ensures gives { Gives (λ code. (tt, (code.ranges, tt))) result scan.old scan.new code_row }
     ensures last { last_line scan.new ≡ last_line scan.old }
@@ -267,7 +268,7 @@ pub struct Head {
 }
 
 /// The head of a group, after its first word.
-#[tactic(auto, unfolding(crate::specs::Reading::head_at))]
+#[tactic(auto, unfolding(crate::specs::inner::Reading::head_at))]
 pub fn read_head<'a>(alloc: Global, scan: &mut Scan<'a>) -> Result<Head, Stop>
     ensures gives { Gives head_of result scan.old scan.new head_at }
     ensures last { last_line scan.new ≡ last_line scan.old }

@@ -2,7 +2,7 @@
 
 ghost use Rattle.std.specs.Prelude.{◌≡◌, ◌++◌, drop, length};
 ghost use Rattle.mc_text.specs.Fault.{newlines};
-ghost use Rattle.proof_text.specs.Cut.{AreWholeLines, drop_lines};
+ghost use Rattle.proof_text.specs.inner.Cut.{AreWholeLines, drop_lines};
 
 /// The whole lines of a text, and the bytes after the last of them.
 pub fn whole_lines(text: &[u8]) -> (&[u8], &[u8])

@@ -7,7 +7,8 @@ ghost use Rattle.mc_text.specs.Tokens.{Atom, spell, all_tokens};
 ghost use Rattle.mc_text.specs.declared.token.Before.TheVariants.{Start};
 ghost use Rattle.term_text.specs.Spelling.{cond_tokens, mem_tokens, range_tokens, word_tokens};
 ghost use Rattle.word_terms.specs.Tree.{cond_tree, mem_tree, word_tree};
-ghost use Rattle.tailrec_lang.specs.Tree.{arm_trees, body_tree, def_tree, end_tree, group_tree, step_tree, values_tree};
+ghost use Rattle.tailrec_lang.specs.Tree.{body_tree, def_tree, group_tree, step_tree, values_tree};
+ghost use Rattle.tailrec_lang.specs.inner.Tree.{arm_trees, end_tree};
 ghost use Rattle.proof_text.specs.Spelling.{arm_tokens, body_tokens, def_tokens, end_tokens, exit_tokens, group_tokens, head_tokens, line, number, step_tokens, values_tokens};
 ghost use Rattle.proof_text.specs.Limits.{IsGroup};
 

@@ -10,7 +10,7 @@ ghost use Rattle.proof_text.specs.Limits.{IsGroup, proof_texts};
 ghost use Rattle.proof_text.specs.Spelling.{text_of};
 ghost use Rattle.proof_text.specs.FirstGroups.{HasGiven};
 ghost use Rattle.proof_text.specs.Answers.{NoGroup, OnBad, OnEnd, OnGroup};
-ghost use Rattle.proof_text.specs.Rest.{GoesOn};
+ghost use Rattle.proof_text.specs.inner.Rest.{GoesOn};
 
 use crate::group::read_turn;
 use crate::lines::{after_lines, whole_lines};
@@ -40,7 +40,7 @@ pub struct Reader<'a> {
 impl<'a> Model for Reader<'a> {
     ghost use Rattle.std.specs.Prelude.{◌≡◌, ◌+◌, ◌≤◌, ◌^◌, ◌++◌, length};
     ghost use Rattle.mc_text.specs.Fault.{newlines};
-    ghost use Rattle.proof_text.specs.Cut.{AreWholeLines};
+    ghost use Rattle.proof_text.specs.inner.Cut.{AreWholeLines};
     ghost use Rattle.proof_text.specs.FirstGroups.{Progress};
 
     ghost Value = { Progress };

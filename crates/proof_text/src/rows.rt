@@ -1,14 +1,15 @@
 //! Reading the lines of bodies.
 
 ghost use Rattle.std.specs.Prelude.{◌≡◌, map};
-ghost use Rattle.mc_text.specs.Reading.{eol, goes_on, pair, star};
+ghost use Rattle.mc_text.specs.Reading.{goes_on, pair, star};
+ghost use Rattle.mc_text.specs.inner.Reading.{eol};
 ghost use Rattle.mc_text.specs.Scanning.{tokens_at};
 ghost use Rattle.word_terms.specs.Tree.{cond_tree, mem_tree, word_tree};
 ghost use Rattle.term_text.specs.Limits.{depth_limit};
 ghost use Rattle.mc_text.specs.Outcome.{Gives, last_line};
 ghost use Rattle.term_text.specs.Reading.{cond_at, mem_at, word_at};
 ghost use Rattle.tailrec_lang.specs.Tree.{step_tree, values_tree};
-ghost use Rattle.proof_text.specs.Reading.{is_step, mark_row, step_at, values_at};
+ghost use Rattle.proof_text.specs.inner.Reading.{is_step, mark_row, step_at, values_at};
 
 use mc_text::cursor::{eol, keyword, peek, semi};
 use mc_text::{Scan, Stop, Token};
@@ -29,7 +30,7 @@ pub fn read_mark<'a>(scan: &mut Scan<'a>, name: &[u8]) -> Result<(), Stop>
 }
 
 /// Words and memories, with the end of their line.
-#[tactic(auto, unfolding(crate::specs::Reading::values_at))]
+#[tactic(auto, unfolding(crate::specs::inner::Reading::values_at))]
 pub fn read_values<'a>(alloc: Global, scan: &mut Scan<'a>) -> Result<Values, Stop>
     ensures gives { Gives values_tree result scan.old scan.new values_at }
     ensures last { last_line scan.new ≡ last_line scan.old }
@@ -72,7 +73,7 @@ pub fn cond_row<'a>(alloc: Global, scan: &mut Scan<'a>) -> Result<Cond, Stop>
 }
 
 /// A step's line.
-#[tactic(auto, unfolding(crate::specs::Reading::step_at))]
+#[tactic(auto, unfolding(crate::specs::inner::Reading::step_at))]
 fn read_step<'a>(alloc: Global, scan: &mut Scan<'a>) -> Result<Step, Stop>
     ensures gives { Gives step_tree result scan.old scan.new step_at }
     ensures last { last_line scan.new ≡ last_line scan.old }

@@ -3,3 +3,4 @@ pub mod Step
 pub mod Update
 pub mod Run
 pub mod Touches
+pub mod inner

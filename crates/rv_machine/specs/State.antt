@@ -1,8 +1,7 @@
 -- The state of the machine (RISC-V Unprivileged ISA 20191213, section 2.1).
-use Rattle.std.specs.Prelude.{◌≡◌, ℕ, ◌^◌, ◌<◌, ◌==◌, List, slice_index, None, if◌then◌else◌, refl}
+use Rattle.std.specs.Prelude.{◌≡◌, ℕ, ◌^◌, ◌<◌, ◌==◌, List, slice_index, None, if◌then◌else◌}
 use Rattle.std.specs.Ordering.{nat_cmp}
-use Rattle.std.specs.FinMap.{FinMap, get, code}
-use Rattle.std.specs.Coded.{Coded, code_by, coded×, coded_ℕ, coded_list}
+use Rattle.std.specs.FinMap.{FinMap, get}
 use Rattle.rv_words.specs.Bytes.{Bytes, IsMemory, over}
 
 -- what a state holds: the program counter, the 32 registers, and the bytes that are present
@@ -11,20 +10,9 @@ pub record Contents : Type 0 where
   pub registers : List ℕ
   pub memory : FinMap nat_cmp ℕ
 
--- contents are stored as their three parts
-abbrev pub contents_code : Coded Contents
-contents_code =
-    code_by (ℕ × (List ℕ × FinMap nat_cmp ℕ)) (coded× coded_ℕ (coded× (coded_list coded_ℕ) (code coded_ℕ coded_ℕ)))
-    (λ c. (c.pc, (c.registers, c.memory))) (λ p. record { pc = p.0; registers = p.1.0; memory = p.1.1 }) (λ _. refl)
-
 -- the word in a register; x0 is 0
 abbrev pub register : List ℕ → ℕ → ℕ
 register words r = if r == 0 then 0 else slice_index words r
-
--- words of registers, of which x0 is 0
-pub record AreRegisters (words : List ℕ) : Type 0 where
-  pub x0 : slice_index words 0 ≡ 0
-  pub small : (r : ℕ) → slice_index words r < 2 ^ 64
 
 -- registers after a write; x0 is never written
 abbrev pub with_register : ℕ → ℕ → (ℕ → ℕ) → ℕ → ℕ

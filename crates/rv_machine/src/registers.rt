@@ -13,7 +13,7 @@ pub struct Registers {
 
 impl Model for Registers {
     ghost use Rattle.std.specs.Prelude.{ℕ, List};
-    ghost use Rattle.rv_machine.specs.State.{AreRegisters};
+    ghost use Rattle.rv_machine.specs.inner.State.{AreRegisters};
 
     ghost Value = { List ℕ };
 

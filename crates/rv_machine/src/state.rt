@@ -39,7 +39,8 @@ pub struct State {
 }
 
 impl Model for State {
-    ghost use Rattle.rv_machine.specs.State.{Contents, contents_code};
+    ghost use Rattle.rv_machine.specs.State.{Contents};
+    ghost use Rattle.rv_machine.specs.inner.State.{contents_code};
 
     ghost Value = { Contents };
 

@@ -9,7 +9,7 @@ use Rattle.std.proofs.lemmas.Nat.{pow_pos}
 use Rattle.std.proofs.lemmas.Option.{get_or_from_slice_get, slice_get-get_or, slice_get_within}
 use Rattle.rv_words.specs.Bytes.{AreAt, AreBytes, AreSame, Bytes, IsMemory, after, away, bytes_from, inside, load, number_of, over, store, word_at}
 use Rattle.rv_words.specs.declared.pieces.Piece.{Piece}
-use Rattle.rv_words.specs.Pieces.{AreKept, ArePiecesFrom, bytes_in, past}
+use Rattle.rv_words.specs.inner.Pieces.{AreKept, ArePiecesFrom, bytes_in, past}
 use Rattle.rv_words.proofs.PieceLemmas.{bytes_before, bytes_within}
 
 pub away-zero : (a : ℕ) → a < 2 ^ 64 → away a 0 ≡ a

@@ -12,7 +12,7 @@ use Rattle.std.proofs.Math.Nat.{pow-le-pow_right, pow-succ'}
 use Rattle.std.proofs.lemmas.Option.{slice_get_past, slice_get-get_or}
 use Rattle.rv_words.specs.declared.pieces.Piece.{Piece}
 use Rattle.rv_words.specs.Bytes.{Bytes, after, inside, store, bytes_from, over, put_byte}
-use Rattle.rv_words.specs.Pieces.{end, past, above, ArePiecesFrom, ArePieces, bytes_in, entries_from, entries_in, map_of, Holds}
+use Rattle.rv_words.specs.inner.Pieces.{end, past, above, ArePiecesFrom, ArePieces, bytes_in, entries_from, entries_in, map_of, Holds}
 
 -- ---- options
 

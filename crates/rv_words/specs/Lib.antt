@@ -1,5 +1,5 @@
 pub mod Operation
 pub mod Bytes
 pub mod Ranges
-pub mod Pieces
 pub mod formers
+pub mod inner

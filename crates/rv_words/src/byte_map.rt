@@ -29,7 +29,7 @@ impl Model for ByteMap {
 
     ghost coded = { map.code coded_ℕ coded_ℕ };
 
-    ghost use Rattle.rv_words.specs.Pieces.{AreKept, map_of};
+    ghost use Rattle.rv_words.specs.inner.Pieces.{AreKept, map_of};
 
     ghost view = { λ m. map_of m.pieces.items };
 

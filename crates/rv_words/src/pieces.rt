@@ -2,7 +2,7 @@
 
 ghost use Rattle.std.specs.Prelude.{◌≡◌, ◌+◌, ◌-◌, ◌<◌, ◌≤◌, slice_index_or, slice_get, length, take, drop, replicate, ◌++◌, ◌∷◌, vec_len, IfOk, OnOk, OnErr, IsTrue, ◌↔◌, ◌^◌};
 ghost use Rattle.rv_words.specs.Bytes.{bytes_from, inside, load, over, put_byte, store};
-ghost use Rattle.rv_words.specs.Pieces.{ArePieces, ArePiecesFrom, Holds, above, bytes_in, end};
+ghost use Rattle.rv_words.specs.inner.Pieces.{ArePieces, ArePiecesFrom, Holds, above, bytes_in, end};
 
 use crate::memory::NoMemory;
 use std::alloc::Global;

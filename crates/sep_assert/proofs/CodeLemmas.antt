@@ -10,7 +10,8 @@ use Rattle.rv_words.proofs.PieceLemmas.{or_none}
 use Rattle.rv_words.specs.Bytes.{Bytes, bytes_from, over}
 use Rattle.rv_words.specs.declared.range.Range.{Range}
 use Rattle.rv_words.specs.Ranges.{range_bytes}
-use Rattle.sep_assert.specs.Code.{Agree, AreSameAt, IsWithin}
+use Rattle.sep_assert.specs.Code.{Agree, IsWithin}
+use Rattle.sep_assert.specs.inner.Code.{AreSameAt}
 
 -- an address with a byte of a range is one of its addresses
 range-address : (r : Range) (a b : ℕ) → bytes_from r.at r.bytes a ≡ Some b → (r.at ≤ a) × (a - r.at < length r.bytes)

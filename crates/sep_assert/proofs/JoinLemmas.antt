@@ -11,7 +11,8 @@ use Rattle.rv_words.specs.Bytes.{Bytes, bytes_from, over}
 use Rattle.rv_words.specs.Ranges.{AreRanges, AreRangesFrom}
 use Rattle.rv_words.specs.declared.range.Range.{Range}
 use Rattle.rv_words.specs.Ranges.{range_bytes}
-use Rattle.sep_assert.specs.Code.{Agree, BeginsBy, BeginsFirst, IsRange, Joins}
+use Rattle.sep_assert.specs.Code.{Agree}
+use Rattle.sep_assert.specs.inner.Code.{BeginsBy, BeginsFirst, IsRange, Joins}
 use Rattle.sep_assert.proofs.CodeLemmas.{over_none}
 
 -- ---- bytes

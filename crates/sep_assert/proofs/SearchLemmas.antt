@@ -8,7 +8,7 @@ use Rattle.rv_words.proofs.PieceLemmas.{bytes_before, bytes_past}
 use Rattle.rv_words.specs.Bytes.{bytes_from, over}
 use Rattle.rv_words.specs.declared.range.Range.{Range}
 use Rattle.rv_words.specs.Ranges.{range_bytes}
-use Rattle.sep_assert.specs.Code.{AreSameAt}
+use Rattle.sep_assert.specs.inner.Code.{AreSameAt}
 use Rattle.sep_assert.proofs.JoinLemmas.{range_bytes-append}
 use Rattle.sep_assert.specs.inner.Search.{EndsBy, RiseFrom}
 

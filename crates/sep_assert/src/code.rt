@@ -3,7 +3,8 @@
 ghost use Rattle.std.specs.Prelude.{◌≡◌, ◌↔◌, IsTrue};
 ghost use Rattle.rv_words.specs.Bytes.{over};
 ghost use Rattle.rv_words.specs.Ranges.{range_bytes};
-ghost use Rattle.sep_assert.specs.Code.{Agree, AreSameAt, IsWithin};
+ghost use Rattle.sep_assert.specs.Code.{Agree, IsWithin};
+ghost use Rattle.sep_assert.specs.inner.Code.{AreSameAt};
 
 use crate::search::Search;
 use rv_words::Range;

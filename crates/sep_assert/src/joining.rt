@@ -4,7 +4,8 @@ ghost use Rattle.std.specs.Prelude.{◌≡◌, ◌<◌, ◌≤◌, ◌+◌, ◌-
 ghost use Rattle.rv_words.specs.Bytes.{over};
 ghost use Rattle.rv_words.specs.Ranges.{AreRanges};
 ghost use Rattle.rv_words.specs.Ranges.{range_bytes};
-ghost use Rattle.sep_assert.specs.Code.{Agree, BeginsBy, BeginsFirst, IsRange, Joins};
+ghost use Rattle.sep_assert.specs.Code.{Agree};
+ghost use Rattle.sep_assert.specs.inner.Code.{BeginsBy, BeginsFirst, IsRange, Joins};
 
 use rv_words::{List, NoMemory, Range};
 use std::alloc::Global;

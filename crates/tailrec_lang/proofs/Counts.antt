@@ -6,7 +6,8 @@ use Rattle.word_terms.specs.Scope.{EachInWord, EachInMem, EachInCond, WordInScop
 use Rattle.word_terms.proofs.Agreement.{each_in_word-both, each_in_mem-both, each_in_cond-both}
 use Rattle.tailrec_lang.specs.declared.scope.Scope.{Scope}
 use Rattle.tailrec_lang.specs.Tree.{BodyTree, StepTree, GroupTree, with_steps}
-use Rattle.tailrec_lang.specs.WellFormed.{BodyIsWellFormed, Counts, StepsInScope, words_after, mems_after, words_after_all, mems_after_all}
+use Rattle.tailrec_lang.specs.WellFormed.{BodyIsWellFormed, words_after, mems_after}
+use Rattle.tailrec_lang.specs.inner.WellFormed.{Counts, StepsInScope, words_after_all, mems_after_all}
 
 pub iff_then : {A B C : Type 0} → (A ↔ B) → (B ↔ C) → (A ↔ C)
 iff_then f g = (λ a. g.0 (f.0 a), λ c. f.1 (g.1 c))

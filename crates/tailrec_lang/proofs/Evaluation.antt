@@ -11,7 +11,7 @@ use Rattle.tailrec_lang.specs.declared.walk.Walk.{Walk}
 use Rattle.tailrec_lang.specs.Tree.{BodyTree, DefTree, GroupTree, exits_at}
 use Rattle.tailrec_lang.specs.WellFormed.{BodyIsWellFormed, IsWellFormed}
 use Rattle.tailrec_lang.specs.Eval.{Meaning, LeavesInScope, arguments, body_ending, done_by, ending, variables_of}
-use Rattle.tailrec_lang.specs.Walk.{ResultsFit, walk_ending}
+use Rattle.tailrec_lang.specs.inner.Walk.{ResultsFit, walk_ending}
 use Rattle.tailrec_lang.proofs.Turns.{ending-enter}
 use Rattle.tailrec_lang.proofs.Environments.{entry_variables}
 

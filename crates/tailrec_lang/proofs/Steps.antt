@@ -6,7 +6,7 @@ use Rattle.word_terms.specs.Environment.{Environment}
 use Rattle.tailrec_lang.specs.declared.group.Step.{Step}
 use Rattle.tailrec_lang.specs.WellFormed.{StepInScope, BodyIsWellFormed, words_after, mems_after}
 use Rattle.tailrec_lang.specs.Eval.{Meaning, NeedFalse, body_ending, after_step, step_holds, step_needs, needs}
-use Rattle.tailrec_lang.specs.Walk.{steps_need}
+use Rattle.tailrec_lang.specs.inner.Walk.{steps_need}
 use Rattle.tailrec_lang.specs.Tree.{BodyTree, StepTree, GroupTree, step_tree, with_steps}
 
 -- the steps from step i on

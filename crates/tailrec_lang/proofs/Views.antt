@@ -8,9 +8,10 @@ use Rattle.tailrec_lang.specs.declared.group.Values.{Values}
 use Rattle.tailrec_lang.specs.declared.group.Body.{Body}
 use Rattle.tailrec_lang.specs.declared.group.End.{the_lemmas}
 use Rattle.tailrec_lang.specs.declared.group.End.TheVariants as end
-use Rattle.tailrec_lang.specs.Tree.{Branch, Call, Again, Leave, arm_trees, end_tree, body_tree, step_tree, values_tree, with_steps}
+use Rattle.tailrec_lang.specs.Tree.{Branch, Call, Again, Leave, body_tree, step_tree, values_tree, with_steps}
+use Rattle.tailrec_lang.specs.inner.Tree.{arm_trees, end_tree}
 use Rattle.tailrec_lang.specs.Eval.{needs}
-use Rattle.tailrec_lang.specs.Walk.{steps_need}
+use Rattle.tailrec_lang.specs.inner.Walk.{steps_need}
 use Rattle.tailrec_lang.proofs.Steps.{needs-steps}
 
 pub view_branch : (c : Cond) (a b : Box Body Global) → end_tree (end.Branch c a b) ≡ Branch (cond_tree c) (body_tree a.value) (body_tree b.value)

@@ -6,10 +6,11 @@ use Rattle.tailrec_lang.specs.declared.group.Body.{Body}
 use Rattle.tailrec_lang.specs.declared.evaluator.Frame.{Frame}
 use Rattle.tailrec_lang.specs.declared.args.Args.{Args}
 use Rattle.word_terms.specs.Environment.{Environment}
-use Rattle.tailrec_lang.specs.Tree.{GroupTree, arm_trees, body_tree, exits_at}
+use Rattle.tailrec_lang.specs.Tree.{GroupTree, body_tree, exits_at}
+use Rattle.tailrec_lang.specs.inner.Tree.{arm_trees}
 use Rattle.tailrec_lang.specs.WellFormed.{ArmsAreWellFormed, BodyIsWellFormed, exit_words}
 use Rattle.tailrec_lang.specs.Eval.{Ending, NeedFalse, NoTurns, Meaning, and_then, arm_ending, arm_needs, body_ending, needs, variables_of, with_arguments}
-use Rattle.tailrec_lang.specs.Walk.{FrameFits, ResultsFit, Waits, unwound}
+use Rattle.tailrec_lang.specs.inner.Walk.{FrameFits, ResultsFit, Waits, unwound}
 
 -- what comes of an ending of the definition that a call entered
 abbrev pub resumed : Meaning → Frame → Ending → Ending

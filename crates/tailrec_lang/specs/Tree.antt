@@ -6,8 +6,7 @@ use Rattle.tailrec_lang.specs.declared.group.Values.{Values}
 use Rattle.tailrec_lang.specs.declared.group.Step.{Step}
 use Rattle.tailrec_lang.specs.declared.group.Step.TheVariants as step
 use Rattle.tailrec_lang.specs.declared.group.Body.{Body}
-use Rattle.tailrec_lang.specs.declared.group.End.{End}
-use Rattle.tailrec_lang.specs.declared.group.End.TheFolds.{fold-End, fold-Body}
+use Rattle.tailrec_lang.specs.declared.group.End.TheFolds.{fold-Body}
 use Rattle.tailrec_lang.specs.declared.group.End.TheOpen.{End-F, Body-F}
 use Rattle.tailrec_lang.specs.declared.group.Exit.{Exit}
 use Rattle.tailrec_lang.specs.declared.group.Def.{Def}
@@ -92,17 +91,9 @@ end_step (End-F.Leave exit values) = Leave exit (values_tree values)
 abbrev pub body_step : Body-F BodyTree BodyTree → BodyTree
 body_step b = with_steps (map step_tree b.steps) b.end
 
--- the body that is that end alone
-abbrev pub end_tree : End → BodyTree
-end_tree = fold-End BodyTree BodyTree end_step body_step
-
 -- the tree of a body
 abbrev pub body_tree : Body → BodyTree
 body_tree = fold-Body BodyTree BodyTree end_step body_step
-
--- the trees of arms
-abbrev pub arm_trees : List Body → ArmTrees
-arm_trees bs = arms_of (map body_tree bs)
 
 -- the tree of a definition
 abbrev pub def_tree : Def → DefTree

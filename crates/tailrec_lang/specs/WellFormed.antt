@@ -1,11 +1,10 @@
 -- Which groups are well-formed: each variable is in scope at its place, each `Call` goes to an earlier definition and
 -- has an arm for each of its exits, each `Leave` names an exit of its definition, and each list of values has the right
 -- counts. Variables are levels, so a scope is how many word and memory variables there are.
-use Rattle.std.specs.Prelude.{◌≡◌, ℕ, ◌+◌, ◌^◌, ◌<◌, min, List, [], ◌∷◌, length, slice_get, Option, Some, None, All}
+use Rattle.std.specs.Prelude.{◌≡◌, ℕ, ◌+◌, ◌<◌, List, [], ◌∷◌, length, slice_get, Option, Some, None, All}
 use Rattle.word_terms.specs.Scope.{WordInScope, MemInScope, CondInScope}
 use Rattle.tailrec_lang.specs.declared.group.Exit.{Exit}
 use Rattle.tailrec_lang.specs.declared.group.Exit.TheVariants.{At, Ret}
-use Rattle.tailrec_lang.specs.declared.scope.Scope.{Scope}
 use Rattle.tailrec_lang.specs.Tree.{ValuesTree, StepTree, Bind, BindMem, Need, BodyTree, Do, Branch, Call, Again, Leave, ArmTrees, NoArm, Arm, DefTree, GroupTree, exits_at}
 
 -- the step's variables are in scope
@@ -77,26 +76,3 @@ pub record IsFirstIllFormed (g : GroupTree) (d : ℕ) : Type 0 where
   pub before : (k : ℕ) (def : DefTree) → k < d → slice_get g.defs k ≡ Some def → DefIsWellFormed g k def
   pub here : (def : DefTree) → slice_get g.defs d ≡ Some def → DefIsWellFormed g d def → ⊥
   pub there : d < length g.defs
-
--- ---- how the program counts variables
-
--- the counts of a scope of that many variables, where 2 ^ 32 stands for all that are larger: numbers of variables
--- have 32 bits
-pub record Counts (scope : Scope) (words mems : ℕ) : Type 0 where
-  pub words_are : scope.words ≡ min words (2 ^ 32)
-  pub mems_are : scope.mems ≡ min mems (2 ^ 32)
-
--- the variables of each step are in scope
-abbrev pub StepsInScope : List StepTree → ℕ → ℕ → Type 0
-StepsInScope [] words mems = Unit {0}
-StepsInScope (s ∷ ss) words mems = StepInScope s words mems × StepsInScope ss (words_after s words) (mems_after s mems)
-
--- how many word variables there are after the steps
-abbrev pub words_after_all : List StepTree → ℕ → ℕ
-words_after_all [] words = words
-words_after_all (s ∷ ss) words = words_after_all ss (words_after s words)
-
--- how many memory variables there are after the steps
-abbrev pub mems_after_all : List StepTree → ℕ → ℕ
-mems_after_all [] mems = mems
-mems_after_all (s ∷ ss) mems = mems_after_all ss (mems_after s mems)

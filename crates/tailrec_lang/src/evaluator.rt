@@ -1,11 +1,12 @@
 //! Evaluation within a number of turns.
 
 ghost use Rattle.std.specs.Prelude.{◌≡◌, ◌+◌, ◌<◌, ◌^◌, ℕ, [], length, slice_get, Some, IfOk};
-ghost use Rattle.tailrec_lang.specs.Tree.{DefTree, GroupTree, arm_trees, body_tree, exits_at, group_tree};
+ghost use Rattle.tailrec_lang.specs.Tree.{DefTree, GroupTree, body_tree, exits_at, group_tree};
+ghost use Rattle.tailrec_lang.specs.inner.Tree.{arm_trees};
 ghost use Rattle.tailrec_lang.specs.WellFormed.{IsWellFormed};
 ghost use Rattle.tailrec_lang.specs.Eval.{HasFewNeeds, LeavesInScope, Meaning, arguments, arm_ending, done_by, outcome_of, variables_of, with_arguments};
 ghost use Rattle.tailrec_lang.specs.Eval.{eval as outcome};
-ghost use Rattle.tailrec_lang.specs.Walk.{FrameFits, IsLeft, ResultsFit, Waits, WalkFits, unwound, walk_ending};
+ghost use Rattle.tailrec_lang.specs.inner.Walk.{FrameFits, IsLeft, ResultsFit, Waits, WalkFits, unwound, walk_ending};
 
 use crate::args::Args;
 use crate::group::{Body, Exit, Group};

@@ -1,7 +1,8 @@
 //! Whether a group's Needs can be counted with 64 bits.
 
 ghost use Rattle.std.specs.Prelude.{◌≡◌, ◌<◌, ◌≤◌, ◌^◌, ◌↔◌, IsTrue, IfSome, IfNone};
-ghost use Rattle.tailrec_lang.specs.Tree.{arm_trees, body_tree, group_tree};
+ghost use Rattle.tailrec_lang.specs.Tree.{body_tree, group_tree};
+ghost use Rattle.tailrec_lang.specs.inner.Tree.{arm_trees};
 ghost use Rattle.tailrec_lang.specs.Eval.{HasFewNeeds, arm_needs, needs};
 
 use crate::group::{Body, End, Group};

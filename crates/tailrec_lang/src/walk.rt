@@ -1,10 +1,11 @@
 //! The way through one body: its steps, and its branches up to an end.
 
 ghost use Rattle.std.specs.Prelude.{◌≡◌, ◌+◌, ◌<◌, ◌^◌, ℕ, IsTrue, IfOk, OnOk, length, map, true, false, cond};
-ghost use Rattle.tailrec_lang.specs.Tree.{BodyTree, GroupTree, arm_trees, body_tree, end_tree, step_tree, with_steps};
+ghost use Rattle.tailrec_lang.specs.Tree.{BodyTree, GroupTree, body_tree, step_tree, with_steps};
+ghost use Rattle.tailrec_lang.specs.inner.Tree.{arm_trees, end_tree};
 ghost use Rattle.tailrec_lang.specs.WellFormed.{BodyIsWellFormed, StepInScope, mems_after, words_after};
 ghost use Rattle.tailrec_lang.specs.Eval.{Meaning, NeedFalse, after_step, arm_needs, body_ending, needs, step_holds, step_needs, variables_of};
-ghost use Rattle.tailrec_lang.specs.Walk.{WalkFits, steps_need, walk_ending};
+ghost use Rattle.tailrec_lang.specs.inner.Walk.{WalkFits, steps_need, walk_ending};
 
 use crate::args::{Args, values_of};
 use crate::group::{Body, End, Step};

@@ -2,7 +2,8 @@ use Rattle.std.proofs.Common.{◌≡◌, None, true≢false, sym, ◌∙◌}
 use Rattle.std.specs.Prelude.{IsSome, ◌↔◌}
 use Rattle.std.proofs.lemmas.Result.{IfOk-weaker}
 use Rattle.hex.specs.Hex.{encode_lower, decode_of}
-use Rattle.mc_text.specs.Number.{AreBytes, AreDigitPairs, Spelled, value_of, bytes_of_digits}
+use Rattle.mc_text.specs.Number.{AreBytes, AreDigitPairs, Spelled, bytes_of_digits}
+use Rattle.mc_text.specs.inner.Number.{value_of}
 use Rattle.mc_text.proofs.HexPairs.{none-spelled, digits-spelled, spelled-found, spelled-read}
 use Rattle.mc_text.proofs.bytes.hex_bytes.Goals as goal
 

@@ -3,7 +3,7 @@ use Rattle.mc_text.specs.declared.token.Class.TheVariants.{Letter, LeftMark, Rig
 use Rattle.mc_text.proofs.Atoms.{first-lex, ended-between, letter-lex, letter-stuck, space-stuck, empty-stuck, tight-between}
 use Rattle.mc_text.proofs.Lines.{mark-parts, mark-whole, left-split, right-split, semi-split, newline-split}
 use Rattle.mc_text.specs.declared.token.Token.TheVariants as token
-use Rattle.mc_text.specs.Scanning.{state_of}
+use Rattle.mc_text.specs.inner.Scanning.{state_of}
 use Rattle.mc_text.proofs.scan.token_at.Goals as goal
 
 pub returns-in-LeftMark-clause-found : goal.returns-in-LeftMark-clause-found

@@ -1,7 +1,7 @@
 use Rattle.std.proofs.Common.{◌≡◌, sym, ◌∙◌, subst}
 use Rattle.mcdec.specs.declared.command.Argument.{Argument}
 use Rattle.mcdec.specs.Command.{arg_word}
-use Rattle.mcdec.specs.CommandReading.{IsArg, arg_of}
+use Rattle.mcdec.specs.inner.CommandReading.{IsArg, arg_of}
 use Rattle.mcdec.proofs.Registers.{held-some, held-none}
 use Rattle.mcdec.proofs.ArgWords.{args-none, arg-unread, arg-twice, value-more, memory-more, exit-with}
 use Rattle.mcdec.proofs.command.read_arguments.Goals as goal

@@ -1,6 +1,6 @@
 use Rattle.std.proofs.Common.{subst}
 use Rattle.mcdec.specs.Command.{texts}
-use Rattle.mcdec.specs.CommandReading.{IsRead}
+use Rattle.mcdec.specs.inner.CommandReading.{IsRead}
 use Rattle.mcdec.specs.declared.command.Command.{Command as Read}
 use Rattle.mcdec.proofs.ArgWords.{eval-ranges, run-ranges}
 use Rattle.mcdec.proofs.commands.answer_words.Goals as goal

@@ -1,7 +1,7 @@
 use Rattle.std.proofs.Common.{arith, subst, Option, Result, Ok}
 use Rattle.tailrec_lang.specs.declared.group.Group.{Group}
 use Rattle.mcdec.specs.declared.evaluate.Refusal.{Refusal}
-use Rattle.mcdec.specs.Search.{NextIs}
+use Rattle.mcdec.specs.inner.Search.{NextIs}
 use Rattle.mcdec.proofs.Groups.{stopped, count-fits, counted-on, more, found-exit}
 use Rattle.mcdec.proofs.evaluate.find_group.Goals as goal
 

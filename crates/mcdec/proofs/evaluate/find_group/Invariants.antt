@@ -1,5 +1,5 @@
 use Rattle.std.proofs.Common.{length, ◌-◌}
-use Rattle.mcdec.specs.Search.{Searched}
+use Rattle.mcdec.specs.inner.Search.{Searched}
 use Rattle.mcdec.proofs.evaluate.find_group.Given as goal
 
 abbrev pub invariant-loop-found : goal.invariant-loop-found

@@ -1,5 +1,5 @@
 use Rattle.std.proofs.Common.{take, Ok}
-use Rattle.mcdec.specs.Printing.{Prints, pieces_text}
+use Rattle.mcdec.specs.inner.Printing.{Prints, pieces_text}
 use Rattle.mcdec.proofs.print.put_all.Given as goal
 
 abbrev pub invariant-loop-piece : goal.invariant-loop-piece

@@ -1,6 +1,6 @@
 use Rattle.std.proofs.Common.{take, Ok}
 use Rattle.mcdec.specs.Printed.{each}
-use Rattle.mcdec.specs.Printing.{Prints}
+use Rattle.mcdec.specs.inner.Printing.{Prints}
 use Rattle.mcdec.proofs.Prints.{byte_text}
 use Rattle.mcdec.proofs.print.put_bytes.Given as goal
 

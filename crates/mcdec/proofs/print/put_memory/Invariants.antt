@@ -1,7 +1,7 @@
 use Rattle.std.proofs.Common.{take, Ok}
 use Rattle.mcdec.specs.Printed.{each}
 use Rattle.mcdec.specs.Printed.{memory_line}
-use Rattle.mcdec.specs.Printing.{Prints}
+use Rattle.mcdec.specs.inner.Printing.{Prints}
 use Rattle.mcdec.proofs.print.put_memory.Given as goal
 
 abbrev pub invariant-loop-range : goal.invariant-loop-range

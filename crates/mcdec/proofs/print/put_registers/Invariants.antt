@@ -1,6 +1,6 @@
 use Rattle.std.proofs.Common.{length, take, Ok}
 use Rattle.mcdec.specs.Printed.{register_lines}
-use Rattle.mcdec.specs.Printing.{Prints}
+use Rattle.mcdec.specs.inner.Printing.{Prints}
 use Rattle.mcdec.proofs.print.put_registers.Given as goal
 
 abbrev pub invariant-loop-register : goal.invariant-loop-register

@@ -1,7 +1,7 @@
 use Rattle.std.proofs.Common.{map, ◌∙◌, List as Items}
 use Rattle.tailrec_lang.specs.declared.group.Body.{Body}
 use Rattle.tailrec_lang.specs.Tree.{body_tree}
-use Rattle.proof_text.specs.Reading.{arm_at, body_at}
+use Rattle.proof_text.specs.inner.Reading.{arm_at, body_at}
 use Rattle.proof_text.proofs.Loops.{times-pushed, times-stopped, one-less, none-left}
 use Rattle.proof_text.proofs.bodies.+bodies.Goals as goal
 

@@ -1,9 +1,9 @@
 use Rattle.std.proofs.Common.{◌≡◌, ◌+◌, ◌*◌, map}
-use Rattle.mc_text.specs.Reading.{times, with_prefix}
+use Rattle.mc_text.specs.inner.Reading.{times, with_prefix}
 use Rattle.mc_text.specs.Scanning.{tokens_at}
 use Rattle.mc_text.specs.Outcome.{last_line}
 use Rattle.tailrec_lang.specs.Tree.{body_tree}
-use Rattle.proof_text.specs.Reading.{arm_at, body_at}
+use Rattle.proof_text.specs.inner.Reading.{arm_at, body_at}
 use Rattle.proof_text.proofs.bodies.+bodies.Given as goal
 
 abbrev pub decreases-read_body : goal.decreases-read_body

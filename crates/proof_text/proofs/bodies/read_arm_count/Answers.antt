@@ -1,6 +1,6 @@
 use Rattle.std.proofs.Common.{ℕ, subst}
 use Rattle.mc_text.specs.Outcome.{Gives}
-use Rattle.mc_text.specs.Reading.{number_at}
+use Rattle.mc_text.specs.inner.Reading.{number_at}
 use Rattle.proof_text.proofs.bodies.read_arm_count.Goals as goal
 
 pub returns-clause-gives : goal.returns-clause-gives

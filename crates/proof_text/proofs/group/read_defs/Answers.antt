@@ -2,7 +2,7 @@ use Rattle.std.proofs.Common.{suc, ◌-◌, length, map, sym, ap, ◌∙◌, ari
 use Rattle.tailrec_lang.specs.declared.group.Def.{Def}
 use Rattle.tailrec_lang.specs.Tree.{def_tree}
 use Rattle.proof_text.specs.Limits.{def_limit}
-use Rattle.proof_text.specs.Reading.{is_def, def_at}
+use Rattle.proof_text.specs.inner.Reading.{is_def, def_at}
 use Rattle.proof_text.proofs.Texts.{def-shrinks}
 use Rattle.proof_text.proofs.Loops.{many-pushed, one-longer, some-mapped, none-mapped}
 use Rattle.proof_text.proofs.OwnDefs.{own-full, own-none, own-some, own-stopped, one-fewer, fewer, full}

@@ -1,10 +1,11 @@
 use Rattle.std.proofs.Common.{◌≡◌, ◌-◌, ◌≤◌, length, map}
-use Rattle.mc_text.specs.Reading.{many, with_prefix}
+use Rattle.mc_text.specs.Reading.{many}
+use Rattle.mc_text.specs.inner.Reading.{with_prefix}
 use Rattle.mc_text.specs.Scanning.{tokens_at}
 use Rattle.mc_text.specs.Outcome.{last_line}
 use Rattle.tailrec_lang.specs.Tree.{def_tree}
 use Rattle.proof_text.specs.Limits.{def_limit}
-use Rattle.proof_text.specs.Reading.{is_def, def_at}
+use Rattle.proof_text.specs.inner.Reading.{is_def, def_at}
 use Rattle.proof_text.proofs.group.read_defs.Given as goal
 
 -- what was read, in front of what is left to read, is what all is read as

@@ -1,5 +1,5 @@
 use Rattle.std.proofs.Common.{◌≡◌, drop}
-use Rattle.proof_text.specs.Reading.{are_atom_bytes}
+use Rattle.proof_text.specs.inner.Reading.{are_atom_bytes}
 use Rattle.proof_text.proofs.heads.are_atom_bytes.Given as goal
 
 abbrev pub invariant-loop-byte : goal.invariant-loop-byte

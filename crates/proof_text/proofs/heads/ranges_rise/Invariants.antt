@@ -1,5 +1,5 @@
 use Rattle.std.proofs.Common.{◌≡◌, drop}
-use Rattle.proof_text.specs.Reading.{ranges_rise}
+use Rattle.proof_text.specs.inner.Reading.{ranges_rise}
 use Rattle.proof_text.proofs.heads.ranges_rise.Given as goal
 
 abbrev pub invariant-loop-range : goal.invariant-loop-range

@@ -1,9 +1,10 @@
 use Rattle.std.proofs.Common.{ap, sym, ◌∙◌, List as Items}
-use Rattle.mc_text.specs.Reading.{star, with_prefix, atom_of, one}
+use Rattle.mc_text.specs.Reading.{star, atom_of, one}
+use Rattle.mc_text.specs.inner.Reading.{with_prefix}
 use Rattle.mc_text.specs.Scanning.{tokens_at}
 use Rattle.mc_text.proofs.Star.{star-more, star-ends}
 use Rattle.mc_text.proofs.StarReads.{star-stopped}
-use Rattle.proof_text.specs.Reading.{has_atom, exit_of}
+use Rattle.proof_text.specs.inner.Reading.{has_atom, exit_of}
 use Rattle.tailrec_lang.specs.declared.group.Exit.{Exit}
 use Rattle.proof_text.proofs.HeadLaws.{exit-shrinks}
 use Rattle.proof_text.proofs.heads.read_exits.Goals as goal

@@ -1,8 +1,9 @@
 use Rattle.std.proofs.Common.{◌≡◌, length}
-use Rattle.mc_text.specs.Reading.{star, with_prefix, atom_of, one}
+use Rattle.mc_text.specs.Reading.{star, atom_of, one}
+use Rattle.mc_text.specs.inner.Reading.{with_prefix}
 use Rattle.mc_text.specs.Scanning.{tokens_at}
 use Rattle.mc_text.specs.Outcome.{last_line}
-use Rattle.proof_text.specs.Reading.{has_atom, exit_of}
+use Rattle.proof_text.specs.inner.Reading.{has_atom, exit_of}
 use Rattle.proof_text.proofs.heads.read_exits.Given as goal
 
 -- what was read, in front of what is left to read, is what all is read as

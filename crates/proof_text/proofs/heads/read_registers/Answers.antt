@@ -1,9 +1,10 @@
 use Rattle.std.proofs.Common.{ℕ, ap, sym, ◌∙◌, List as Items}
-use Rattle.mc_text.specs.Reading.{star, with_prefix, number_at}
+use Rattle.mc_text.specs.Reading.{star}
+use Rattle.mc_text.specs.inner.Reading.{with_prefix, number_at}
 use Rattle.mc_text.specs.Scanning.{tokens_at}
 use Rattle.mc_text.proofs.Star.{star-more, star-ends}
 use Rattle.mc_text.proofs.StarReads.{star-stopped}
-use Rattle.proof_text.specs.Reading.{has_atom}
+use Rattle.proof_text.specs.inner.Reading.{has_atom}
 use Rattle.proof_text.proofs.HeadLaws.{register-shrinks}
 use Rattle.proof_text.proofs.heads.read_registers.Goals as goal
 

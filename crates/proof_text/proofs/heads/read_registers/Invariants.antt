@@ -1,8 +1,9 @@
 use Rattle.std.proofs.Common.{◌≡◌, length}
-use Rattle.mc_text.specs.Reading.{star, with_prefix, number_at}
+use Rattle.mc_text.specs.Reading.{star}
+use Rattle.mc_text.specs.inner.Reading.{with_prefix, number_at}
 use Rattle.mc_text.specs.Scanning.{tokens_at}
 use Rattle.mc_text.specs.Outcome.{last_line}
-use Rattle.proof_text.specs.Reading.{has_atom}
+use Rattle.proof_text.specs.inner.Reading.{has_atom}
 use Rattle.proof_text.proofs.heads.read_registers.Given as goal
 
 -- what was read, in front of what is left to read, is what all is read as

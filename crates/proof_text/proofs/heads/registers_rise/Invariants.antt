@@ -1,5 +1,5 @@
 use Rattle.std.proofs.Common.{◌≡◌, drop}
-use Rattle.proof_text.specs.Reading.{registers_rise}
+use Rattle.proof_text.specs.inner.Reading.{registers_rise}
 use Rattle.proof_text.proofs.heads.registers_rise.Given as goal
 
 abbrev pub invariant-loop-register : goal.invariant-loop-register

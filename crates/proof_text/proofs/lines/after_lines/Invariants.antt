@@ -1,5 +1,5 @@
 use Rattle.std.proofs.Common.{◌≡◌, drop}
-use Rattle.proof_text.specs.Cut.{drop_lines}
+use Rattle.proof_text.specs.inner.Cut.{drop_lines}
 use Rattle.proof_text.proofs.lines.after_lines.Given as goal
 
 abbrev pub invariant-loop-i : goal.invariant-loop-i

@@ -3,7 +3,7 @@ use Rattle.mc_text.proofs.Star.{star-pushed, star-ends}
 use Rattle.mc_text.proofs.StarReads.{star-stopped}
 use Rattle.tailrec_lang.specs.declared.group.Step.{Step}
 use Rattle.tailrec_lang.specs.Tree.{step_tree}
-use Rattle.proof_text.specs.Reading.{is_step, step_at}
+use Rattle.proof_text.specs.inner.Reading.{is_step, step_at}
 use Rattle.proof_text.proofs.StepLaws.{step-shrinks}
 use Rattle.proof_text.proofs.rows.read_steps.Goals as goal
 

@@ -1,8 +1,9 @@
 use Rattle.std.proofs.Common.{◌≡◌, length, map}
-use Rattle.mc_text.specs.Reading.{star, with_prefix}
+use Rattle.mc_text.specs.Reading.{star}
+use Rattle.mc_text.specs.inner.Reading.{with_prefix}
 use Rattle.mc_text.specs.Scanning.{tokens_at}
 use Rattle.tailrec_lang.specs.Tree.{step_tree}
-use Rattle.proof_text.specs.Reading.{is_step, step_at}
+use Rattle.proof_text.specs.inner.Reading.{is_step, step_at}
 use Rattle.mc_text.specs.Outcome.{last_line}
 use Rattle.proof_text.proofs.rows.read_steps.Given as goal
 

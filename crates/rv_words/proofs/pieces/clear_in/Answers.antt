@@ -1,7 +1,7 @@
 use Rattle.std.proofs.Common.{◌≡◌, ◌+◌, ◌-◌, ◌++◌, ℕ, List, take, drop, length, replicate, get_or, refl, sym, subst, ◌∙◌}
 use Rattle.std.proofs.lemmas.List.{length-replicate}
 use Rattle.rv_words.specs.declared.pieces.Piece.{Piece}
-use Rattle.rv_words.specs.Pieces.{Holds}
+use Rattle.rv_words.specs.inner.Pieces.{Holds}
 use Rattle.rv_words.proofs.PieceLemmas.{written_rise, written}
 use Rattle.rv_words.proofs.pieces.clear_in.Goals as goal
 

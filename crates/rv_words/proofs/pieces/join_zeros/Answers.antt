@@ -1,6 +1,6 @@
 use Rattle.std.proofs.Common.{◌≡◌, ◌-◌, ◌+◌, ◌≤◌, ◌∷◌, ◌++◌, take, drop, replicate, ◌∙◌, sym, subst, arith}
 use Rattle.rv_words.specs.declared.pieces.Piece.{Piece}
-use Rattle.rv_words.specs.Pieces.{end}
+use Rattle.rv_words.specs.inner.Pieces.{end}
 use Rattle.rv_words.proofs.PieceLemmas.{replaced_range, joined_rise, joined_in, joined_holds}
 use Rattle.rv_words.proofs.pieces.join_zeros.Goals as goal
 

@@ -1,7 +1,7 @@
 use Rattle.std.proofs.Common.{length, refl, ◌∙◌, arith}
 use Rattle.std.proofs.lemmas.List.{with_items_is}
 use Rattle.rv_words.specs.Bytes.{bytes_from, over}
-use Rattle.rv_words.specs.Pieces.{bytes_in}
+use Rattle.rv_words.specs.inner.Pieces.{bytes_in}
 use Rattle.rv_words.proofs.PieceLemmas.{over_zeros}
 use Rattle.rv_words.proofs.pieces.put_bytes.Goals as goal
 

@@ -1,7 +1,7 @@
 use Rattle.std.proofs.Common.{◌≡◌, ◌-◌, get_or, sym, ◌∙◌, ap, arith, refl}
 use Rattle.std.specs.Option.{is_some}
 use Rattle.std.proofs.lemmas.Bool.{false≢true}
-use Rattle.rv_words.specs.Pieces.{bytes_in}
+use Rattle.rv_words.specs.inner.Pieces.{bytes_in}
 use Rattle.rv_words.proofs.PieceLemmas.{found, found_none, put_byte-absent, put_byte-over, held_some, unheld_none}
 use Rattle.rv_words.proofs.pieces.store_byte.Goals as goal
 

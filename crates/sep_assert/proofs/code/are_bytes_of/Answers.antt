@@ -3,7 +3,7 @@ use Rattle.std.specs.Prelude.{All}
 use Rattle.std.proofs.lemmas.List.Elements.{All-more}
 use Rattle.rv_words.specs.Bytes.{over}
 use Rattle.rv_words.specs.Ranges.{range_bytes}
-use Rattle.sep_assert.specs.Code.{AreSameAt}
+use Rattle.sep_assert.specs.inner.Code.{AreSameAt}
 use Rattle.sep_assert.proofs.CodeLemmas.{within_of_all, all_of_within}
 use Rattle.sep_assert.proofs.SearchLemmas.{same-in}
 use Rattle.sep_assert.proofs.code.are_bytes_of.Goals as goal

@@ -4,7 +4,7 @@ use Rattle.std.proofs.lemmas.List.{length-map}
 use Rattle.tailrec_lang.specs.declared.evaluator.Frame.{Frame}
 use Rattle.tailrec_lang.specs.Tree.{body_tree, def_tree, exits_at, group_tree}
 use Rattle.tailrec_lang.specs.Eval.{LeavesInScope, arguments, ending, needs, with_pc}
-use Rattle.tailrec_lang.specs.Walk.{IsLeaving, ResultsFit, StopFits, Waits, stop_ending, unwound}
+use Rattle.tailrec_lang.specs.inner.Walk.{IsLeaving, ResultsFit, StopFits, Waits, stop_ending, unwound}
 use Rattle.tailrec_lang.proofs.Results.{if_ok-then}
 use Rattle.tailrec_lang.proofs.Waiting.{unwound-push, unwound-turns, unwound-false, waits-push}
 use Rattle.tailrec_lang.proofs.Evaluation.{item_there, turn_taken, entry_fits, done_in_scope}

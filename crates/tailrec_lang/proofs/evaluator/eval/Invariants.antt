@@ -1,7 +1,7 @@
 use Rattle.std.proofs.Common.{◌≡◌, ◌<◌, ◌≤◌, length}
 use Rattle.tailrec_lang.specs.Tree.{group_tree}
 use Rattle.tailrec_lang.specs.Eval.{arguments, ending}
-use Rattle.tailrec_lang.specs.Walk.{Waits, unwound}
+use Rattle.tailrec_lang.specs.inner.Walk.{Waits, unwound}
 use Rattle.tailrec_lang.proofs.evaluator.eval.Given as goal
 
 abbrev pub invariant-turns_left : goal.invariant-turns_left

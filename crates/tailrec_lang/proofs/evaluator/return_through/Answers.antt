@@ -2,7 +2,7 @@ use Rattle.std.proofs.Common.{sym, subst, ◌∙◌}
 use Rattle.std.specs.Prelude.{slice_get}
 use Rattle.tailrec_lang.specs.Tree.{exits_at}
 use Rattle.tailrec_lang.specs.Eval.{Exited, arguments}
-use Rattle.tailrec_lang.specs.Walk.{ResultsFit, StopFits, Waits, stop_ending, unwound}
+use Rattle.tailrec_lang.specs.inner.Walk.{ResultsFit, StopFits, Waits, stop_ending, unwound}
 use Rattle.tailrec_lang.proofs.Waiting.{unwound-push, waits-pop}
 use Rattle.tailrec_lang.proofs.evaluator.return_through.Goals as goal
 

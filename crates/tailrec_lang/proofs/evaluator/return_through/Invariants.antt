@@ -1,7 +1,7 @@
 use Rattle.std.proofs.Common.{◌≡◌, ◌<◌, ℕ, length}
 use Rattle.tailrec_lang.specs.Tree.{GroupTree}
 use Rattle.tailrec_lang.specs.Eval.{Meaning}
-use Rattle.tailrec_lang.specs.Walk.{Waits, WalkFits, unwound, walk_ending}
+use Rattle.tailrec_lang.specs.inner.Walk.{Waits, WalkFits, unwound, walk_ending}
 use Rattle.tailrec_lang.proofs.evaluator.return_through.Given as goal
 
 abbrev pub invariant-pops : goal.invariant-pops

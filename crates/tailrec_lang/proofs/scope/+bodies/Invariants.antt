@@ -1,6 +1,8 @@
 use Rattle.std.proofs.Common.{ℕ, drop, ◌↔◌}
-use Rattle.tailrec_lang.specs.Tree.{arm_trees, group_tree}
-use Rattle.tailrec_lang.specs.WellFormed.{ArmsAreWellFormed, Counts}
+use Rattle.tailrec_lang.specs.Tree.{group_tree}
+use Rattle.tailrec_lang.specs.inner.Tree.{arm_trees}
+use Rattle.tailrec_lang.specs.WellFormed.{ArmsAreWellFormed}
+use Rattle.tailrec_lang.specs.inner.WellFormed.{Counts}
 use Rattle.tailrec_lang.proofs.scope.+bodies.Given as goal
 
 abbrev pub invariant-are_arms_well_formed-loop-i : goal.invariant-are_arms_well_formed-loop-i

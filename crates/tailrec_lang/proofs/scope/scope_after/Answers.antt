@@ -1,6 +1,7 @@
 use Rattle.std.proofs.Common.{refl, ap, sym, subst, ◌∙◌}
 use Rattle.tailrec_lang.specs.Tree.{step_tree}
-use Rattle.tailrec_lang.specs.WellFormed.{StepsInScope, words_after, mems_after, words_after_all, mems_after_all}
+use Rattle.tailrec_lang.specs.WellFormed.{words_after, mems_after}
+use Rattle.tailrec_lang.specs.inner.WellFormed.{StepsInScope, words_after_all, mems_after_all}
 use Rattle.tailrec_lang.proofs.Steps.{steps_from-step, steps_from-end}
 use Rattle.tailrec_lang.proofs.Counts.{counts_as}
 use Rattle.tailrec_lang.proofs.scope.scope_after.Goals as goal

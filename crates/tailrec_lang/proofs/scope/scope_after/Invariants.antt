@@ -1,6 +1,6 @@
 use Rattle.std.proofs.Common.{◌≡◌, ℕ, map, ◌↔◌}
 use Rattle.tailrec_lang.specs.Tree.{step_tree}
-use Rattle.tailrec_lang.specs.WellFormed.{Counts, StepsInScope, words_after_all, mems_after_all}
+use Rattle.tailrec_lang.specs.inner.WellFormed.{Counts, StepsInScope, words_after_all, mems_after_all}
 use Rattle.tailrec_lang.proofs.Steps.{steps_from}
 use Rattle.tailrec_lang.proofs.scope.scope_after.Given as goal
 

@@ -1,6 +1,6 @@
 use Rattle.std.proofs.Common.{arith, ap, map}
 use Rattle.tailrec_lang.specs.Tree.{step_tree}
-use Rattle.tailrec_lang.specs.Walk.{steps_need}
+use Rattle.tailrec_lang.specs.inner.Walk.{steps_need}
 use Rattle.tailrec_lang.proofs.Steps.{needs-step}
 use Rattle.tailrec_lang.proofs.Views.{needs_body}
 use Rattle.tailrec_lang.proofs.walk.+counts.Goals as goal

@@ -1,7 +1,8 @@
 use Rattle.std.proofs.Common.{◌≡◌, ◌+◌, drop}
-use Rattle.tailrec_lang.specs.Tree.{arm_trees, body_tree, end_tree}
+use Rattle.tailrec_lang.specs.Tree.{body_tree}
+use Rattle.tailrec_lang.specs.inner.Tree.{arm_trees, end_tree}
 use Rattle.tailrec_lang.specs.Eval.{arm_needs, needs}
-use Rattle.tailrec_lang.specs.Walk.{steps_need}
+use Rattle.tailrec_lang.specs.inner.Walk.{steps_need}
 use Rattle.tailrec_lang.proofs.Steps.{steps_from}
 use Rattle.tailrec_lang.proofs.walk.+counts.Given as goal
 

@@ -1,5 +1,6 @@
 use Rattle.std.proofs.Common.{rules, arith, length, sym, subst, ap, IsTrue}
-use Rattle.tailrec_lang.specs.Tree.{body_tree, end_tree, arm_trees, exits_at, values_tree}
+use Rattle.tailrec_lang.specs.Tree.{body_tree, exits_at, values_tree}
+use Rattle.tailrec_lang.specs.inner.Tree.{end_tree, arm_trees}
 use Rattle.tailrec_lang.specs.WellFormed.{ArmsAreWellFormed, BodyIsWellFormed}
 use Rattle.tailrec_lang.specs.Eval.{needs, arm_needs, variables_of}
 use Rattle.tailrec_lang.proofs.Bodies.{scope_body, needs_steps_end, scope_branch, needs_branch, scope_call, needs_call, scope_again, scope_leave, counts_of, results_fit, branches, branches_branch}

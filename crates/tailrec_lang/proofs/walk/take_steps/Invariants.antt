@@ -2,7 +2,7 @@ use Rattle.std.proofs.Common.{◌≡◌, ◌+◌, ℕ, length, map}
 use Rattle.tailrec_lang.specs.Tree.{BodyTree, GroupTree, step_tree, with_steps}
 use Rattle.tailrec_lang.specs.WellFormed.{BodyIsWellFormed}
 use Rattle.tailrec_lang.specs.Eval.{Meaning, body_ending, variables_of}
-use Rattle.tailrec_lang.specs.Walk.{steps_need}
+use Rattle.tailrec_lang.specs.inner.Walk.{steps_need}
 use Rattle.tailrec_lang.proofs.Steps.{steps_from}
 use Rattle.tailrec_lang.proofs.walk.take_steps.Given as goal
 

@@ -1,5 +1,6 @@
 use Rattle.std.proofs.Common.{ap, sym, ◌∙◌, List as Items}
-use Rattle.mc_text.specs.Reading.{star, with_prefix, is_open}
+use Rattle.mc_text.specs.Reading.{star, is_open}
+use Rattle.mc_text.specs.inner.Reading.{with_prefix}
 use Rattle.mc_text.specs.Scanning.{tokens_at}
 use Rattle.mc_text.proofs.Star.{star-more, star-ends}
 use Rattle.rv_words.specs.declared.range.Range.{Range}

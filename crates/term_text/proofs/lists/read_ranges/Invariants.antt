@@ -1,5 +1,6 @@
 use Rattle.std.proofs.Common.{◌≡◌, length}
-use Rattle.mc_text.specs.Reading.{star, with_prefix, is_open}
+use Rattle.mc_text.specs.Reading.{star, is_open}
+use Rattle.mc_text.specs.inner.Reading.{with_prefix}
 use Rattle.mc_text.specs.Scanning.{tokens_at}
 use Rattle.term_text.specs.Reading.{range_at}
 use Rattle.mc_text.specs.Outcome.{last_line}

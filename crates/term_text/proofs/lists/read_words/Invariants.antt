@@ -1,5 +1,6 @@
 use Rattle.std.proofs.Common.{◌≡◌, length, map}
-use Rattle.mc_text.specs.Reading.{star, with_prefix}
+use Rattle.mc_text.specs.Reading.{star}
+use Rattle.mc_text.specs.inner.Reading.{with_prefix}
 use Rattle.mc_text.specs.Scanning.{tokens_at}
 use Rattle.word_terms.specs.Tree.{word_tree}
 use Rattle.term_text.specs.Limits.{depth_limit}

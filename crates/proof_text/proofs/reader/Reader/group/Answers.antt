@@ -6,7 +6,7 @@ use Rattle.proof_text.specs.Limits.{proof_texts}
 use Rattle.proof_text.specs.Spelling.{text_of}
 use Rattle.proof_text.specs.FirstGroups.{HasGiven}
 use Rattle.proof_text.specs.Answers.{OnEnd, OnBad, NoGroup}
-use Rattle.proof_text.specs.Reading.{turn_at}
+use Rattle.proof_text.specs.inner.Reading.{turn_at}
 use Rattle.proof_text.proofs.Called.{line-fits, gives-bad, called-bad, stopped-no-group, called-end, called-more, end-no-group, called-line, called-fits, called-needs, next-place, next-lines, called-given}
 use Rattle.proof_text.proofs.reader.Reader.group.Goals as goal
 use Rattle.proof_text.proofs.reader.Reader.group.Goals.{then-is_end, else-is_end}

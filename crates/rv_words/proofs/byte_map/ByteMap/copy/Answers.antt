@@ -1,5 +1,5 @@
 use Rattle.std.proofs.Common.{◌∙◌}
-use Rattle.rv_words.specs.Pieces.{bytes_in}
+use Rattle.rv_words.specs.inner.Pieces.{bytes_in}
 use Rattle.rv_words.proofs.PieceLemmas.{same_map_of}
 use Rattle.rv_words.proofs.byte_map.ByteMap.copy.Goals as goal
 

@@ -1,6 +1,6 @@
 use Rattle.std.proofs.Common.{◌∙◌, sym}
 use Rattle.std.specs.FinMap.{get}
-use Rattle.rv_words.specs.Pieces.{bytes_in}
+use Rattle.rv_words.specs.inner.Pieces.{bytes_in}
 use Rattle.rv_words.proofs.PieceLemmas.{get-map_of}
 use Rattle.rv_words.specs.Bytes.{bytes_of, inside}
 use Rattle.rv_words.proofs.byte_map.ByteMap.has.Goals as goal

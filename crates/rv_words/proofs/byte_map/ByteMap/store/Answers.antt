@@ -1,6 +1,6 @@
 use Rattle.std.proofs.Common.{◌∙◌, sym, arith}
 use Rattle.std.specs.FinMap.{get}
-use Rattle.rv_words.specs.Pieces.{bytes_in}
+use Rattle.rv_words.specs.inner.Pieces.{bytes_in}
 use Rattle.rv_words.proofs.PieceLemmas.{get-map_of}
 use Rattle.rv_words.specs.Bytes.{bytes_of, store}
 use Rattle.std.proofs.lemmas.List.{with_items_is}

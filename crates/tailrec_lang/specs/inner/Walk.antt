@@ -6,7 +6,8 @@ use Rattle.tailrec_lang.specs.declared.walk.Stop.{Stop}
 use Rattle.tailrec_lang.specs.declared.walk.Stop.TheVariants as stop
 use Rattle.tailrec_lang.specs.declared.walk.Walk.{Walk}
 use Rattle.tailrec_lang.specs.declared.evaluator.Frame.{Frame}
-use Rattle.tailrec_lang.specs.Tree.{StepTree, GroupTree, arm_trees, exits_at}
+use Rattle.tailrec_lang.specs.Tree.{StepTree, GroupTree, exits_at}
+use Rattle.tailrec_lang.specs.inner.Tree.{arm_trees}
 use Rattle.tailrec_lang.specs.WellFormed.{ArmsAreWellFormed, exit_words}
 use Rattle.tailrec_lang.specs.Eval.{Meaning, Ending, Exited, NeedFalse, and_then, arguments, arm_ending, arm_needs, step_needs, variables_of, with_arguments}
 

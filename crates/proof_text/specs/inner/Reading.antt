@@ -3,7 +3,8 @@ use Rattle.std.specs.Prelude.{ℕ, zero, suc, ◌+◌, ◌-◌, ◌^◌, Bool, t
 use Rattle.std.specs.Str.{bytes_eq}
 use Rattle.mc_text.specs.Number.{hex_of}
 use Rattle.mc_text.specs.Tokens.{Tok, Atom, Done, is_atom_byte}
-use Rattle.mc_text.specs.Reading.{Reader, pair, with, made, one, is_semi, atom_of, many, star, times, eol, word, keyed, refused, checked, unless, number_at, address_at, is_open}
+use Rattle.mc_text.specs.Reading.{Reader, pair, with, made, one, atom_of, many, star, refused, address_at, is_open}
+use Rattle.mc_text.specs.inner.Reading.{is_semi, times, eol, word, keyed, checked, unless, number_at}
 use Rattle.rv_words.specs.declared.range.Range.{Range}
 use Rattle.term_text.specs.Limits.{depth_limit}
 use Rattle.term_text.specs.Reading.{word_at, mem_at, cond_at, range_at, begins_word, begins_mem}

@@ -1,9 +1,6 @@
 -- What the reader of the command line's words gives.
 use Rattle.std.specs.List.{AllByRecursion}
-use Rattle.std.specs.Prelude.{◌≡◌, ◌≢◌, ℕ, ◌<◌, List, ◌∷◌, map, codes, Option, Some, None, slice_get, string_bytes, unwrap_or}
-use Rattle.std.specs.Fmt.{decimal}
-use Rattle.std.specs.declared.string.String.{String}
-use Rattle.std.specs.declared.alloc.Global.{Global}
+use Rattle.std.specs.Prelude.{◌≡◌, ◌≢◌, ℕ, ◌<◌, List, map, Option, Some, None, slice_get, unwrap_or}
 use Rattle.mcdec.specs.declared.command.Command.{Command as Read}
 use Rattle.mcdec.specs.declared.command.Command.TheVariants as read
 use Rattle.mcdec.specs.declared.command.Eval.{Eval as ReadEval}
@@ -13,7 +10,6 @@ use Rattle.mcdec.specs.declared.command.Argument.TheVariants as read_arg
 use Rattle.mcdec.specs.declared.command.Unread.{Unread}
 use Rattle.mcdec.specs.declared.command.Unread.TheVariants as unread
 use Rattle.rv_words.specs.declared.range.Range.{Range}
-use Rattle.mc_text.specs.Number.{hex}
 use Rattle.mcdec.specs.Command.{Eval, Run, Arg, Value, Memory, Given, IsGiven, IsMemory, IsCommand, AreArgs, Words, given_to, arg_word, operands_of, givens, ranges}
 
 -- each register's value, or none

@@ -1,0 +1,4 @@
+pub mod Running
+pub mod Search
+pub mod Printing
+pub mod CommandReading

@@ -1,0 +1,5 @@
+pub mod Heads
+pub mod Reading
+pub mod Cut
+pub mod Spelling
+pub mod Rest
