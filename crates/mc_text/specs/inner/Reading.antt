@@ -3,7 +3,7 @@ use Rattle.std.specs.Prelude.{ℕ, zero, suc, Bool, List, [], ◌∷◌, ◌++�
 use Rattle.std.specs.Str.{bytes_eq}
 use Rattle.mc_text.specs.Number.{number_of}
 use Rattle.mc_text.specs.Tokens.{Tok, Semi, Atom, Eol}
-use Rattle.mc_text.specs.Reading.{Reader, atom_of, below, goes_on, made, one, pair}
+use Rattle.mc_text.specs.Reading.{◌>>=◌, Reader, atom_of, below, goes_on, made, one, pair}
 
 abbrev pub is_semi : Tok → Option (Unit {0})
 is_semi Semi = Some tt
