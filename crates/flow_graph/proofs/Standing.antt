@@ -1,9 +1,9 @@
 -- The instruction that is found at an address stands there.
-use Rattle.std.proofs.Common.{◌≡◌, ℕ, ◌+◌, ◌%◌, ◌^◌, ◌<◌, length, get_or, Bool, true, false, cond, eqb, nat_lt, ◌&&◌, Option, None, Some, Result, Ok, Err, ℤ, refl, ◌∙◌, ap, subst}
+use Rattle.std.proofs.Common.{◌≡◌, ℕ, ◌+◌, ◌%◌, ◌^◌, ◌<◌, length, get_or, Bool, true, false, cond, eqb, nat_lt, Option, None, Some, Result, Ok, Err, ℤ, refl, ◌∙◌, ap, subst}
 use Rattle.std.specs.Prelude.{slice_get}
 use Rattle.std.proofs.lemmas.Bool.{ltb-true}
 use Rattle.std.proofs.lemmas.Option.{get_or_from_slice_get}
-use Rattle.rv_words.specs.Bytes.{Bytes, inside, load}
+use Rattle.rv_words.specs.Bytes.{Bytes, word_at}
 use Rattle.rv_decode.specs.declared.instruction.Instr.{Instr}
 use Rattle.rv_decode.specs.declared.instruction.Instr.TheVariants.{Op, OpImm, Lui, Auipc, Jal, Jalr, Branch, Load, Store, Fence, Ecall, Ebreak}
 use Rattle.rv_decode.specs.Decodes.{decoded}
@@ -50,7 +50,7 @@ through_return a rd rs1 imm e = if_so (is_return (Jalr rd rs1 imm)) (Ok (Jalr rd
 pub word_below : (code : Bytes) (a w : ℕ) → word_in code a ≡ Some w → a + 3 < 2 ^ 64
 word_below code a w e = by (nat_lt (a + 3) (2 ^ 64)) refl e
   where
-    by : (t : Bool) → nat_lt (a + 3) (2 ^ 64) ≡ t → cond (t && inside 4 code a) (Some (load 4 code a)) None ≡ Some w → a + 3 < 2 ^ 64
+    by : (t : Bool) → nat_lt (a + 3) (2 ^ 64) ≡ t → cond t (word_at code a) None ≡ Some w → a + 3 < 2 ^ 64
     by true p q = ltb-true (a + 3) (2 ^ 64) p
     by false p q = absurd (cc)
 
