@@ -4,6 +4,3 @@
 mod laws;
 
 pub use laws::{law_of_exits, law_of_lines, law_of_proofs};
-
-#[cfg(test)]
-mod tests;
