@@ -26,11 +26,11 @@ variable-there letter b text true i t e =
     (ap (λ (c : ℕ). c ∷ text) (eqb-true b letter t) ∙ ap (λ (ds : List ℕ). letter ∷ ds) digits, h.1)
 variable-there letter b text false i t e = absurd cc
 
-variable : (letter : ℕ) (text : List ℕ) (i : ℕ) → variable_of letter text ≡ some i → (text ≡ letter ∷ decimal i) × (i < 2 ^ 32)
+pub variable : (letter : ℕ) (text : List ℕ) (i : ℕ) → variable_of letter text ≡ some i → (text ≡ letter ∷ decimal i) × (i < 2 ^ 32)
 variable letter [] i e = absurd cc
 variable letter (b ∷ text) i e = variable-there letter b text (eqb b letter) i refl e
 
-variable-back : (i : ℕ) → i < 2 ^ 32 → below (2 ^ 32) (number_of 10 (decimal i)) ≡ some i
+pub variable-back : (i : ℕ) → i < 2 ^ 32 → below (2 ^ 32) (number_of 10 (decimal i)) ≡ some i
 variable-back i h = (shows-below (2 ^ 32) (omega arith)).back i h
 
 -- ---- leaves of words

@@ -31,7 +31,7 @@ module _ {X : Type 0} (name : X → List ℕ) where
   pick x y text true others behind t e = let same : y ≡ x = cc in (bytes_eq-Decides text (name y)).0 t ∙ ap name same
   pick x y text false others behind t e = behind e
 
-  named-there : (xs : List X) (text : List ℕ) (x : X) → named name xs text ≡ some x → text ≡ name x
+  pub named-there : (xs : List X) (text : List ℕ) (x : X) → named name xs text ≡ some x → text ≡ name x
   named-there [] text x e = absurd cc
   named-there (y ∷ ys) text x e = pick x y text (bytes_eq text (name y)) (named name ys text) (named-there ys text x) refl e
 

@@ -27,7 +27,7 @@ fn low_half(number: Option<u64>) -> Option<u32>
 }
 
 /// The number of a variable, after its letter.
-fn variable_of(letter: u8, atom: &[u8]) -> Option<u32>
+pub fn variable_of(letter: u8, atom: &[u8]) -> Option<u32>
     ensures { result ≡ variable_of letter atom.now }
 {
     match atom {
