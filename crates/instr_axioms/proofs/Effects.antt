@@ -12,20 +12,19 @@ use Rattle.rv_decode.specs.declared.instruction.Instr.TheVariants as instr
 use Rattle.rv_machine.specs.State.{State, with_register}
 use Rattle.rv_machine.specs.Step as machine
 use Rattle.rv_machine.specs.Step.{act, is_aligned, jump_target, next, only_if, plus, reads, upper, has}
-use Rattle.rv_machine.specs.Touches.{IsTouched, touched}
 use Rattle.rv_words.proofs.MemoryLemmas.{inside-all, store-present, store-same}
 use Rattle.rv_machine.specs.Update as step
 use Rattle.rv_machine.specs.Update.{is_possible, reg_after, updated}
 use Rattle.rv_machine.proofs.StepLemmas.{act-is, act-some}
 use Rattle.rv_machine.proofs.JumpLemmas.{jump_target-aligned}
-use Rattle.word_terms.specs.Tree.{WordTree, MemTree, CondTree, Load}
+use Rattle.word_terms.specs.Tree.{WordTree, MemTree, Load}
 use Rattle.word_terms.specs.Environment.{Environment}
-use Rattle.word_terms.specs.Value.{word_value, mem_value, cond_holds}
+use Rattle.word_terms.specs.Value.{word_value, mem_value}
 use Rattle.sep_assert.specs.Code.{IsWithin}
 use Rattle.triple_kernel.specs.declared.form.Form.{Form}
 use Rattle.triple_kernel.specs.declared.form.Form.TheVariants.{Next, Taken}
-use Rattle.rv_decode.specs.Registers.{sources, destination}
-use Rattle.instr_axioms.specs.Terms.{Names, has_memory, word_in, sum, loaded, conditions, result, memory_after, pc_after, has_form}
+use Rattle.rv_decode.specs.Registers.{destination}
+use Rattle.instr_axioms.specs.Terms.{Names, word_in, sum, loaded, conditions, result, memory_after, pc_after, has_form}
 use Rattle.instr_axioms.specs.Effects.{AreTrue, Fits, IsTouchedIn, GoesOn, IsAfter}
 use Rattle.instr_axioms.proofs.Memories.{inside-within, load-within}
 

@@ -1,7 +1,7 @@
 -- The axioms: a triple for an instruction word at an address, in a form. Each is valid (`law_of_axioms`).
-use Rattle.std.specs.Prelude.{ℕ, ◌==◌, Bool, ◌||◌, if◌then◌else◌, Option, Some, None, option_and_then, List, [], ◌∷◌, map, filter}
+use Rattle.std.specs.Prelude.{ℕ, ◌==◌, Bool, ◌||◌, if◌then◌else◌, Option, Some, None, option_and_then, List, [], ◌∷◌, map}
 use Rattle.std.specs.Int.{w32, to_le_bytes}
-use Rattle.std.specs.List.{list_any, position_or_len, range_with_len}
+use Rattle.std.specs.List.{position_or_len}
 use Rattle.rv_decode.specs.declared.instruction.Instr.{Instr}
 use Rattle.rv_decode.specs.Decodes.{decoded}
 use Rattle.rv_decode.specs.Registers.{is_read, is_written, registers_where}

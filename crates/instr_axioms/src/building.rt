@@ -1,16 +1,18 @@
 //! The axiom of an address, an instruction word and a form.
 
-ghost use Rattle.std.specs.Prelude.{◌≡◌, ◌≤◌, ◌<◌, ◌^◌, IfOk, Some, length, map, option_map};
+ghost use Rattle.std.specs.Prelude.{◌≡◌, IfOk, map, option_map};
 ghost use Rattle.word_terms.specs.Tree.{word_tree, mem_tree};
 ghost use Rattle.tailrec_lang.specs.Tree.{group_tree};
 ghost use Rattle.sep_assert.specs.Tree.{assertion_tree, register_tree};
 ghost use Rattle.triple_kernel.specs.Tree.{triple_tree};
 ghost use Rattle.instr_axioms.specs.Terms as terms;
 ghost use Rattle.instr_axioms.specs.Axiom as spec;
+ghost use Rattle.instr_axioms.specs.Variables.{names_of};
 
 use crate::address::is_aligned;
-use crate::registers::{own, place_of};
+use crate::registers::own;
 use crate::terms::{facts, memory_after, pc_after, result};
+use crate::variables::Variables;
 use rv_decode::{Instr, decode, destination};
 use rv_machine::plus_immediate;
 use rv_words::{List, NoMemory, Range};
@@ -77,10 +79,27 @@ fn own_triple(alloc: Global, i: Instr, form: Form, addr: u64, word: u32) -> Resu
 {
     let regs = own(alloc, i)?;
     let regs = regs.as_slice();
-    let facts = facts(alloc, i, form, regs)?;
-    let pre = before(alloc, addr, regs, has_memory(i))?;
+    let names = Variables::numbered(regs, 0, 0);
+    triple_over(alloc, i, form, addr, word, regs, has_memory(i), &names)
+}
+
+/// The triple of an instruction over any registers and variables, and over a memory where there is one.
+pub fn triple_over(
+    alloc: Global,
+    i: Instr,
+    form: Form,
+    addr: u64,
+    word: u32,
+    regs: &[u8],
+    mem: bool,
+    names: &Variables,
+) -> Result<Triple, NoMemory>
+    ensures { IfOk result (λ t. triple_tree t ≡ spec.triple_over i form addr (spec.word_code addr word) regs.now mem (names_of names.now)) }
+{
+    let facts = facts(alloc, i, form, names)?;
+    let pre = before(alloc, addr, regs, mem, names)?;
     let code = word_code(alloc, addr, word)?;
-    let post = after(alloc, i, form, addr, regs)?;
+    let post = after(alloc, i, form, addr, regs, mem, names)?;
     Ok(Triple {
         facts,
         pre,
@@ -90,7 +109,7 @@ fn own_triple(alloc: Global, i: Instr, form: Form, addr: u64, word: u32) -> Resu
 }
 
 /// The four bytes of a word at an address, the low one first.
-fn word_code(alloc: Global, addr: u64, word: u32) -> Result<Code, NoMemory>
+pub fn word_code(alloc: Global, addr: u64, word: u32) -> Result<Code, NoMemory>
     ensures { IfOk result (λ c. c.ranges ≡ spec.word_code addr word) }
 {
     let bytes = List::from_slice(alloc, &word.to_le_bytes())?;
@@ -99,13 +118,18 @@ fn word_code(alloc: Global, addr: u64, word: u32) -> Result<Code, NoMemory>
     Ok(Code { ranges })
 }
 
-/// What holds before an instruction, which has a memory or none.
-fn before(alloc: Global, addr: u64, regs: &[u8], mem: bool) -> Result<Assertion, NoMemory>
-    requires { length regs.now ≤ 31 }
-    ensures { IfOk result (λ a. assertion_tree a ≡ spec.before addr regs.now mem (spec.variables_for regs.now)) }
+/// What holds before an instruction, over a memory where there is one.
+pub fn before(
+    alloc: Global,
+    addr: u64,
+    regs: &[u8],
+    mem: bool,
+    names: &Variables,
+) -> Result<Assertion, NoMemory>
+    ensures { IfOk result (λ a. assertion_tree a ≡ spec.before addr regs.now mem (names_of names.now)) }
 {
-    let words = words_before(alloc, regs)?;
-    let mems = memory_if(alloc, mem, Mem::Var(0))?;
+    let words = words_before(alloc, regs, names)?;
+    let mems = memory_if(alloc, mem, Mem::Var(names.memory))?;
     Ok(Assertion {
         pc: Word::Const(addr),
         regs: words,
@@ -113,15 +137,22 @@ fn before(alloc: Global, addr: u64, regs: &[u8], mem: bool) -> Result<Assertion,
     })
 }
 
-/// What holds after an instruction.
-fn after(alloc: Global, i: Instr, form: Form, addr: u64, regs: &[u8]) -> Result<Assertion, NoMemory>
-    requires { length regs.now ≤ 31 }
-    ensures { IfOk result (λ a. assertion_tree a ≡ spec.after i form addr regs.now (terms.has_memory i) (spec.variables_for regs.now)) }
+/// What holds after an instruction, over a memory where there is one.
+fn after(
+    alloc: Global,
+    i: Instr,
+    form: Form,
+    addr: u64,
+    regs: &[u8],
+    mem: bool,
+    names: &Variables,
+) -> Result<Assertion, NoMemory>
+    ensures { IfOk result (λ a. assertion_tree a ≡ spec.after i form addr regs.now mem (names_of names.now)) }
 {
-    let pc = pc_after(alloc, i, form, addr, regs)?;
-    let words = words_after(alloc, i, addr, regs)?;
-    let m = memory_after(alloc, i, regs)?;
-    let mems = memory_if(alloc, has_memory(i), m)?;
+    let pc = pc_after(alloc, i, form, addr, names)?;
+    let words = words_after(alloc, i, addr, regs, names)?;
+    let m = memory_after(alloc, i, names)?;
+    let mems = memory_if(alloc, mem, m)?;
     Ok(Assertion {
         pc,
         regs: words,
@@ -130,14 +161,14 @@ fn after(alloc: Global, i: Instr, form: Form, addr: u64, regs: &[u8]) -> Result<
 }
 
 /// Whether an instruction loads or stores.
-fn has_memory(i: Instr) -> bool
+pub fn has_memory(i: Instr) -> bool
     ensures { result ≡ terms.has_memory i }
 {
     matches!(i, Instr::Load { .. } | Instr::Store { .. })
 }
 
 /// One memory, or none.
-fn memory_if(alloc: Global, has: bool, m: Mem) -> Result<List<Mem>, NoMemory>
+pub fn memory_if(alloc: Global, has: bool, m: Mem) -> Result<List<Mem>, NoMemory>
     ensures { IfOk result (λ ms. map mem_tree ms ≡ spec.memory_if has (mem_tree m)) }
 {
     let mut mems = List::new(alloc);
@@ -147,14 +178,17 @@ fn memory_if(alloc: Global, has: bool, m: Mem) -> Result<List<Mem>, NoMemory>
     Ok(mems)
 }
 
-/// A variable for each register.
-fn words_before(alloc: Global, regs: &[u8]) -> Result<List<(u8, Word)>, NoMemory>
-    requires { length regs.now ≤ 31 }
-    ensures { IfOk result (λ ws. map register_tree ws ≡ map (spec.register_with (spec.variables_for regs.now).word) regs.now) }
+/// The variable of each register.
+pub fn words_before(
+    alloc: Global,
+    regs: &[u8],
+    names: &Variables,
+) -> Result<List<(u8, Word)>, NoMemory>
+    ensures { IfOk result (λ ws. map register_tree ws ≡ map (spec.register_with (names_of names.now).word) regs.now) }
 {
     let mut words = List::new(alloc);
     for r in regs {
-        words.push((*r, Word::Var(place_of(regs, *r))))?;
+        words.push((*r, Word::Var(names.word(*r))))?;
     }
     Ok(words)
 }
@@ -165,25 +199,30 @@ fn words_after(
     i: Instr,
     addr: u64,
     regs: &[u8],
+    names: &Variables,
 ) -> Result<List<(u8, Word)>, NoMemory>
-    requires { length regs.now ≤ 31 }
-    ensures { IfOk result (λ ws. map register_tree ws ≡ map (spec.register_with (terms.word_after i addr (spec.variables_for regs.now))) regs.now) }
+    ensures { IfOk result (λ ws. map register_tree ws ≡ map (spec.register_with (terms.word_after i addr (names_of names.now))) regs.now) }
 {
     let mut words = List::new(alloc);
     for r in regs {
-        let t = word_after(alloc, i, addr, regs, *r)?;
+        let t = word_after(alloc, i, addr, *r, names)?;
         words.push((*r, t))?;
     }
     Ok(words)
 }
 
 /// The word in a register after an instruction.
-fn word_after(alloc: Global, i: Instr, addr: u64, regs: &[u8], r: u8) -> Result<Word, NoMemory>
-    requires { length regs.now ≤ 31 }
-    ensures { IfOk result (λ t. word_tree t ≡ terms.word_after i addr (spec.variables_for regs.now) r) }
+fn word_after(
+    alloc: Global,
+    i: Instr,
+    addr: u64,
+    r: u8,
+    names: &Variables,
+) -> Result<Word, NoMemory>
+    ensures { IfOk result (λ t. word_tree t ≡ terms.word_after i addr (names_of names.now) r) }
 {
     if r == destination(&i) {
-        return result(alloc, i, addr, regs);
+        return result(alloc, i, addr, names);
     }
-    Ok(Word::Var(place_of(regs, r)))
+    Ok(Word::Var(names.word(r)))
 }

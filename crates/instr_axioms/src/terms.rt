@@ -1,13 +1,13 @@
-//! Terms for what an instruction needs, writes and goes on to, over variables for its registers.
+//! Terms for what an instruction needs, writes and goes on to, over the variables of its registers.
 
-ghost use Rattle.std.specs.Prelude.{◌≡◌, ◌≤◌, IfOk, length, map, [], ◌∷◌};
+ghost use Rattle.std.specs.Prelude.{◌≡◌, IfOk, map, option_map, option_to_list};
 ghost use Rattle.word_terms.specs.Tree.{word_tree, mem_tree, cond_tree, MemVar, Bin, Extend, Inside, Compare, Neg};
 ghost use Rattle.triple_kernel.specs.Tree.{fact_tree, So};
 ghost use Rattle.instr_axioms.specs.Terms as terms;
-ghost use Rattle.instr_axioms.specs.Axiom.{variables_for};
+ghost use Rattle.instr_axioms.specs.Variables.{names_of};
 
 use crate::address::next;
-use crate::registers::place_of;
+use crate::variables::Variables;
 use rv_decode::Instr;
 use rv_machine::{immediate_word, plus_immediate, upper_word};
 use rv_words::{Cmp, Ext, List, NoMemory, Op, Width};
@@ -16,14 +16,13 @@ use triple_kernel::{Fact, Form};
 use word_terms::{Cond, Mem, Word};
 
 /// The word in a register; x0 reads as 0.
-fn word_in(regs: &[u8], r: u8) -> Word
-    requires { length regs.now ≤ 31 }
-    ensures { word_tree result ≡ terms.word_in (variables_for regs.now) r }
+fn word_in(names: &Variables, r: u8) -> Word
+    ensures { word_tree result ≡ terms.word_in (names_of names.now) r }
 {
     if r == 0 {
         return Word::Const(0);
     }
-    Word::Var(place_of(regs, r))
+    Word::Var(names.word(r))
 }
 
 fn bin(alloc: Global, op: Op, a: Word, b: Word) -> Result<Word, NoMemory>
@@ -35,14 +34,13 @@ fn bin(alloc: Global, op: Op, a: Word, b: Word) -> Result<Word, NoMemory>
 }
 
 /// The word in a register, plus an immediate.
-fn sum(alloc: Global, regs: &[u8], r: u8, imm: i32) -> Result<Word, NoMemory>
-    requires { length regs.now ≤ 31 }
-    ensures { IfOk result (λ t. word_tree t ≡ terms.sum (variables_for regs.now) r imm) }
+fn sum(alloc: Global, names: &Variables, r: u8, imm: i32) -> Result<Word, NoMemory>
+    ensures { IfOk result (λ t. word_tree t ≡ terms.sum (names_of names.now) r imm) }
 {
     bin(
         alloc,
         Op::Add,
-        word_in(regs, r),
+        word_in(names, r),
         Word::Const(immediate_word(imm)),
     )
 }
@@ -66,10 +64,10 @@ fn extend(alloc: Global, ext: Ext, t: Word) -> Result<Word, NoMemory>
 }
 
 /// The word that a load from an address gives.
-fn loaded(alloc: Global, width: Width, signed: bool, a: Word) -> Result<Word, NoMemory>
-    ensures { IfOk result (λ t. word_tree t ≡ terms.loaded width signed (MemVar 0) (word_tree a)) }
+fn loaded(alloc: Global, width: Width, signed: bool, memory: u32, a: Word) -> Result<Word, NoMemory>
+    ensures { IfOk result (λ t. word_tree t ≡ terms.loaded width signed (MemVar memory) (word_tree a)) }
 {
-    let m = Box::new(alloc, Mem::Var(0))?;
+    let m = Box::new(alloc, Mem::Var(memory))?;
     let a = Box::new(alloc, a)?;
     let t = Word::Load(width, m, a);
     if signed {
@@ -77,14 +75,6 @@ fn loaded(alloc: Global, width: Width, signed: bool, a: Word) -> Result<Word, No
     } else {
         Ok(t)
     }
-}
-
-fn inside(alloc: Global, width: Width, a: Word) -> Result<Cond, NoMemory>
-    ensures { IfOk result (λ c. cond_tree c ≡ Inside width (MemVar 0) (word_tree a)) }
-{
-    let m = Box::new(alloc, Mem::Var(0))?;
-    let a = Box::new(alloc, a)?;
-    Ok(Cond::Inside(width, m, a))
 }
 
 fn compare(alloc: Global, cmp: Cmp, a: Word, b: Word) -> Result<Cond, NoMemory>
@@ -102,19 +92,14 @@ fn contrary(alloc: Global, c: Cond) -> Result<Cond, NoMemory>
     Ok(Cond::Neg(c))
 }
 
-/// The one fact that the condition is true.
-fn only(alloc: Global, c: Cond) -> Result<List<Fact>, NoMemory>
-    ensures { IfOk result (λ fs. map fact_tree fs ≡ So (cond_tree c) ∷ []) }
-{
-    let mut facts = List::new(alloc);
-    facts.push(Fact::So(c))?;
-    Ok(facts)
-}
-
-/// The conditions under which an instruction is carried out in that form, as facts.
-pub fn facts(alloc: Global, i: Instr, form: Form, regs: &[u8]) -> Result<List<Fact>, NoMemory>
-    requires { length regs.now ≤ 31 }
-    ensures { IfOk result (λ fs. map fact_tree fs ≡ map So (terms.conditions i form (variables_for regs.now))) }
+/// The condition under which an instruction is carried out in that form, if there is one.
+pub fn condition(
+    alloc: Global,
+    i: Instr,
+    form: Form,
+    names: &Variables,
+) -> Result<Option<Cond>, NoMemory>
+    ensures { IfOk result (λ c. option_to_list (option_map cond_tree c) ≡ terms.conditions i form (names_of names.now)) }
 {
     match i {
         Instr::Load {
@@ -123,9 +108,8 @@ pub fn facts(alloc: Global, i: Instr, form: Form, regs: &[u8]) -> Result<List<Fa
             imm,
             ..
         } => {
-            let a = sum(alloc, regs, rs1, imm)?;
-            let c = inside(alloc, width, a)?;
-            only(alloc, c)
+            let c = accessible(alloc, width, names, rs1, imm)?;
+            Ok(Some(c))
         }
         Instr::Store {
             width,
@@ -133,49 +117,85 @@ pub fn facts(alloc: Global, i: Instr, form: Form, regs: &[u8]) -> Result<List<Fa
             imm,
             ..
         } => {
-            let a = sum(alloc, regs, rs1, imm)?;
-            let c = inside(alloc, width, a)?;
-            only(alloc, c)
+            let c = accessible(alloc, width, names, rs1, imm)?;
+            Ok(Some(c))
         }
         Instr::Jalr { rs1, imm, .. } => {
-            let a = sum(alloc, regs, rs1, imm)?;
+            let a = sum(alloc, names, rs1, imm)?;
             let bit = bin(alloc, Op::And, a, Word::Const(2))?;
             let c = compare(alloc, Cmp::Eq, bit, Word::Const(0))?;
-            only(alloc, c)
+            Ok(Some(c))
         }
         Instr::Branch { cmp, rs1, rs2, .. } => {
-            let c = compare(alloc, cmp, word_in(regs, rs1), word_in(regs, rs2))?;
-            branch_fact(alloc, form, c)
+            let c = comparison(alloc, cmp, rs1, rs2, names)?;
+            let d = branch_condition(alloc, form, c)?;
+            Ok(Some(d))
         }
-        _ => Ok(List::new(alloc)),
+        _ => Ok(None),
     }
 }
 
-/// The fact of a branch.
-fn branch_fact(alloc: Global, form: Form, c: Cond) -> Result<List<Fact>, NoMemory>
-    ensures { IfOk result (λ fs. map fact_tree fs ≡ So (terms.branch_condition form (cond_tree c)) ∷ []) }
+/// The comparison of the words in two registers.
+pub fn comparison(
+    alloc: Global,
+    cmp: Cmp,
+    rs1: u8,
+    rs2: u8,
+    names: &Variables,
+) -> Result<Cond, NoMemory>
+    ensures { IfOk result (λ c. cond_tree c ≡ Compare cmp (terms.word_in (names_of names.now) rs1) (terms.word_in (names_of names.now) rs2)) }
+{
+    compare(alloc, cmp, word_in(names, rs1), word_in(names, rs2))
+}
+
+/// The condition that the memory has the bytes at a register's word plus an immediate.
+fn accessible(
+    alloc: Global,
+    width: Width,
+    names: &Variables,
+    r: u8,
+    imm: i32,
+) -> Result<Cond, NoMemory>
+    ensures { IfOk result (λ c. cond_tree c ≡ Inside width (MemVar names.now.memory) (terms.sum (names_of names.now) r imm)) }
+{
+    let a = sum(alloc, names, r, imm)?;
+    let m = Box::new(alloc, Mem::Var(names.memory))?;
+    let a = Box::new(alloc, a)?;
+    Ok(Cond::Inside(width, m, a))
+}
+
+/// The condition of a branch in that form, where it is taken if c is true.
+fn branch_condition(alloc: Global, form: Form, c: Cond) -> Result<Cond, NoMemory>
+    ensures { IfOk result (λ d. cond_tree d ≡ terms.branch_condition form (cond_tree c)) }
 {
     match form {
-        Form::Next => {
-            let d = contrary(alloc, c)?;
-            only(alloc, d)
-        }
-        Form::Taken => only(alloc, c),
+        Form::Next => contrary(alloc, c),
+        Form::Taken => Ok(c),
     }
+}
+
+/// The conditions as facts.
+pub fn facts(alloc: Global, i: Instr, form: Form, names: &Variables) -> Result<List<Fact>, NoMemory>
+    ensures { IfOk result (λ fs. map fact_tree fs ≡ map So (terms.conditions i form (names_of names.now))) }
+{
+    let mut facts = List::new(alloc);
+    if let Some(c) = condition(alloc, i, form, names)? {
+        facts.push(Fact::So(c))?;
+    }
+    Ok(facts)
 }
 
 /// What the instruction at an address writes to its destination.
-pub fn result(alloc: Global, i: Instr, addr: u64, regs: &[u8]) -> Result<Word, NoMemory>
-    requires { length regs.now ≤ 31 }
-    ensures { IfOk result (λ t. word_tree t ≡ terms.result i addr (variables_for regs.now)) }
+pub fn result(alloc: Global, i: Instr, addr: u64, names: &Variables) -> Result<Word, NoMemory>
+    ensures { IfOk result (λ t. word_tree t ≡ terms.result i addr (names_of names.now)) }
 {
     match i {
-        Instr::Op { op, rs1, rs2, .. } => bin(alloc, op, word_in(regs, rs1), word_in(regs, rs2)),
+        Instr::Op { op, rs1, rs2, .. } => bin(alloc, op, word_in(names, rs1), word_in(names, rs2)),
         Instr::OpImm { op, rs1, imm, .. } => {
             bin(
                 alloc,
                 op,
-                word_in(regs, rs1),
+                word_in(names, rs1),
                 Word::Const(immediate_word(imm)),
             )
         }
@@ -190,17 +210,16 @@ pub fn result(alloc: Global, i: Instr, addr: u64, regs: &[u8]) -> Result<Word, N
             imm,
             ..
         } => {
-            let a = sum(alloc, regs, rs1, imm)?;
-            loaded(alloc, width, signed, a)
+            let a = sum(alloc, names, rs1, imm)?;
+            loaded(alloc, width, signed, names.memory, a)
         }
         _ => Ok(Word::Const(0)),
     }
 }
 
 /// The memory after an instruction.
-pub fn memory_after(alloc: Global, i: Instr, regs: &[u8]) -> Result<Mem, NoMemory>
-    requires { length regs.now ≤ 31 }
-    ensures { IfOk result (λ m. mem_tree m ≡ terms.memory_after i (variables_for regs.now)) }
+pub fn memory_after(alloc: Global, i: Instr, names: &Variables) -> Result<Mem, NoMemory>
+    ensures { IfOk result (λ m. mem_tree m ≡ terms.memory_after i (names_of names.now)) }
 {
     match i {
         Instr::Store {
@@ -209,13 +228,13 @@ pub fn memory_after(alloc: Global, i: Instr, regs: &[u8]) -> Result<Mem, NoMemor
             rs2,
             imm,
         } => {
-            let a = sum(alloc, regs, rs1, imm)?;
-            let m = Box::new(alloc, Mem::Var(0))?;
+            let a = sum(alloc, names, rs1, imm)?;
+            let m = Box::new(alloc, Mem::Var(names.memory))?;
             let a = Box::new(alloc, a)?;
-            let v = Box::new(alloc, word_in(regs, rs2))?;
+            let v = Box::new(alloc, word_in(names, rs2))?;
             Ok(Mem::Store(width, m, a, v))
         }
-        _ => Ok(Mem::Var(0)),
+        _ => Ok(Mem::Var(names.memory)),
     }
 }
 
@@ -225,15 +244,14 @@ pub fn pc_after(
     i: Instr,
     form: Form,
     addr: u64,
-    regs: &[u8],
+    names: &Variables,
 ) -> Result<Word, NoMemory>
-    requires { length regs.now ≤ 31 }
-    ensures { IfOk result (λ t. word_tree t ≡ terms.pc_after i form addr (variables_for regs.now)) }
+    ensures { IfOk result (λ t. word_tree t ≡ terms.pc_after i form addr (names_of names.now)) }
 {
     match i {
         Instr::Jal { offset, .. } => Ok(Word::Const(plus_immediate(addr, offset))),
         Instr::Jalr { rs1, imm, .. } => {
-            let a = sum(alloc, regs, rs1, imm)?;
+            let a = sum(alloc, names, rs1, imm)?;
             bin(alloc, Op::And, a, Word::Const(0xffff_ffff_ffff_fffe))
         }
         Instr::Branch { offset, .. } => Ok(Word::Const(branch_target(form, addr, offset))),
