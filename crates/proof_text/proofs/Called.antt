@@ -1,5 +1,5 @@
 -- What a call answers, from what its parts found.
-use Rattle.std.proofs.Common.{◌≡◌, ℕ, suc, ◌+◌, ◌-◌, ◌^◌, ◌≤◌, ◌<◌, Bool, true, false, eqb, true≢false, List, [], ◌∷◌, ◌++◌, length, Option, Some, None, Ok, Err, refl, sym, ap, subst, ◌∙◌, arith, inl, inr}
+use Rattle.std.proofs.Common.{◌≡◌, ℕ, suc, ◌+◌, ◌-◌, ◌^◌, ◌≤◌, ◌<◌, Bool, true, false, eqb, true≢false, List, [], ◌∷◌, ◌++◌, length, Option, Some, None, Result, Ok, Err, refl, sym, ap, subst, ◌∙◌, arith, length-append, inl, inr}
 use Rattle.mc_text.specs.Tokens.{Tok, Left, Right, Semi, Atom, Eol, Done, Stuck, Place}
 use Rattle.mc_text.specs.declared.token.Before.TheVariants.{Start, Open, Later}
 use Rattle.mc_text.specs.declared.token.Class.{Class}
@@ -7,23 +7,38 @@ use Rattle.mc_text.specs.declared.token.Class.TheVariants.{Letter, LeftMark, Rig
 use Rattle.mc_text.specs.Scanning.{class_of, State, At, Spaced, Within, lex, byte_step, prepend, or_stuck, ended, loose, tight, grows, parts, at_end, tokens_at, eols}
 use Rattle.mc_text.specs.Reading.{goes_on}
 use Rattle.mc_text.specs.Fault.{IsBadAt, newlines}
-use Rattle.mc_text.proofs.ReaderLaws.{Out, ok-value}
+use Rattle.mc_text.proofs.Lines.{AreTokens, IsLines}
+use Rattle.mc_text.proofs.ReaderLaws.{Out, ok-value, ok-not-err}
 use Rattle.mc_text.proofs.FaultLine.{AreLines}
 use Rattle.mc_text.specs.Reading.{Reader}
 use Rattle.mc_text.specs.declared.cursor.Stop.{Stop}
 use Rattle.mc_text.specs.declared.cursor.Stop.TheVariants as stop
 use Rattle.mc_text.specs.Outcome.{Gives, last_line}
+use Rattle.rv_words.specs.declared.range.Range.{Range}
 use Rattle.tailrec_lang.specs.Tree.{GroupTree}
 use Rattle.tailrec_lang.specs.Eval.{HasFewNeeds}
-use Rattle.proof_text.specs.Limits.{IsGroup, proof_texts}
-use Rattle.proof_text.specs.Spelling.{text_of}
-use Rattle.proof_text.specs.FirstGroups.{Progress, HasGiven}
+use Rattle.proof_text.specs.Limits.{IsGroup}
+use Rattle.proof_text.specs.Line.{LineTree, ProofTree}
+use Rattle.proof_text.specs.LineLimits.{IsLine}
+use Rattle.proof_text.specs.LineSpelling.{line_tokens}
+use Rattle.proof_text.specs.Proofs.{bare, texts_of_proofs, text_of_proofs}
+use Rattle.proof_text.specs.FirstProofs.{Progress, ItemTree, Opens, Adds, items, with_line, ProofEnds, MayOpen, HasGiven}
+use Rattle.proof_text.specs.Answers.{NoItem}
 use Rattle.proof_text.specs.inner.Cut.{AreWholeLines, drop_lines}
 use Rattle.proof_text.specs.inner.Rest.{GoesOn}
-use Rattle.proof_text.specs.inner.Reading.{is_done, turn_at}
-use Rattle.proof_text.proofs.Passed.{turn-takes}
-use Rattle.proof_text.proofs.Cuts.{are-lines, whole-lines}
-use Rattle.proof_text.proofs.Given.{some-line-read, shorter, still-lines, few, bad-call, bad-more, bad-tail-more, whole-call, given-more, would-read}
+use Rattle.proof_text.specs.inner.Reading.{is_def, is_done, turn_at}
+use Rattle.proof_text.specs.inner.LineReading.{begins_line, ends_proof, proofs_text_at, turn_of}
+use Rattle.proof_text.proofs.HeadLaws.{IsCode}
+use Rattle.proof_text.proofs.Parts.{group-whole}
+use Rattle.proof_text.proofs.ProofParts.{whole-line}
+use Rattle.proof_text.proofs.Real.{group-tokens}
+use Rattle.proof_text.proofs.LineTokens.{line-is-tokens}
+use Rattle.proof_text.proofs.ProofTexts.{line-begins, some-line}
+use Rattle.proof_text.proofs.Cuts.{are-lines, whole-lines, ends-follow, follow-ends}
+use Rattle.proof_text.proofs.TextItems.{IsItem, AreItems, StartsOpen, last_code, items-fit, items-start, items-opened, items-added, items-fewer, last-is, last-fits}
+use Rattle.proof_text.proofs.Resumed.{OneLine, ends-no-line, ends-nothing, line-takes, line-ends, line-again}
+use Rattle.proof_text.proofs.Passed.{front_tokens, is_first, group_turn, turn_tokens, MayFollow, Turn, turn-takes, turn-again, turn-stops, turn-end, line-stops, turn-lines, turn-real, group-turned}
+use Rattle.proof_text.proofs.Given.{Given, given-items, items-given, first-is, some-line-read, shorter, still-lines, short, less, few, quiet, bad-call, bad-more, bad-tail-more, whole-call, given-more, would-read}
 
 -- ---- no more lines than bytes
 
@@ -73,101 +88,338 @@ eols-short (b ∷ bs) s = step-eols (class_of b) b s (lex bs) (length bs) (eols-
 pub gives-bad : {X Y : Type 0} (view : X → Y) (e : Stop) (old new : Place) (read : Reader Y) → e ≡ stop.Bad → Gives view (Err e) old new read → read (tokens_at old) ≡ Err (tokens_at new)
 gives-bad view e old new read is h = subst (λ (k : Stop). Gives view (Err k) old new read) is h
 
+-- the first item is a group
+starts-more : (is : List ItemTree) (i : ItemTree) → StartsOpen is → (is ≡ [] → StartsOpen (i ∷ [])) → StartsOpen (is ++ i ∷ [])
+starts-more [] i s h = h refl
+starts-more (Opens g ∷ is) i s h = tt
+starts-more (Adds l ∷ is) i s h = s
+
+some-items : (ps : List ProofTree) (p : ProofTree) → items (ps ++ p ∷ []) ≡ [] → ⊥
+some-items [] p e = cc
+some-items (q ∷ ps) p e = cc
+
+last-item : (is js : List ItemTree) (i : ItemTree) → js ≡ is ++ i ∷ [] → AreItems js → IsItem i
+last-item is js i e h = (items-fewer is (i ∷ []) (subst AreItems e h)).1.0
+
 module _ (text lines tail : List ℕ) (place : ℕ) (now : Progress) (is : record { text = text; rest = lines ++ tail; place = place } ≡ now) (whole : AreWholeLines lines) (none : newlines tail ≡ 0)
     (s0 s1 : Place) (start : s0 ≡ record { before = Start; rest = lines; line = 1 }) (last : last_line s1 ≡ last_line s0) (line : ℕ) (line-is : line ≡ s1.line) where
   abbrev r : Progress
   r = record { text = text; rest = lines ++ tail; place = place }
 
-  abbrev Read : Type 0
-  Read = Option GroupTree × List Tok
+  abbrev ts : List Tok
+  ts = lex lines (At Start)
 
-  from-start : tokens_at s0 ≡ lex lines (At Start)
+  abbrev us : List Tok
+  us = tokens_at s1
+
+  from-start : tokens_at s0 ≡ ts
   from-start = ap tokens_at start
 
-  counted : line + eols (tokens_at s1) ≡ 1 + eols (lex lines (At Start))
-  counted = ap (λ (n : ℕ). n + eols (tokens_at s1)) line-is ∙ last ∙ ap last_line start
+  counted : line + eols us ≡ 1 + eols ts
+  counted = ap (λ (n : ℕ). n + eols us) line-is ∙ last ∙ ap last_line start
 
-  pub line-fits : place + length lines ≤ 2 ^ 63 → place + line < 2 ^ 64
-  line-fits le = omega (arith, le, counted, eols-short lines (At Start))
+  pub line-small : place + length lines ≤ 2 ^ 63 → place + line < 2 ^ 64
+  line-small le = omega (arith, le, counted, eols-short lines (At Start))
 
-  -- where reading stopped
-  module _ (stop : turn_at (eqb place 0) (tokens_at s0) ≡ Err (tokens_at s1)) where
-    stopped : turn_at (eqb place 0) (lex lines (At Start)) ≡ Err (tokens_at s1)
-    stopped = ap (turn_at (eqb place 0)) (sym from-start) ∙ stop
+  here : (ps : List ProofTree) → HasGiven ps now → Given (items ps) r
+  here ps h = given-items ps r (subst (HasGiven ps) (sym is) h)
 
-    pub called-bad : (gs : List GroupTree) → HasGiven gs now → IsBadAt proof_texts now.text (place + line)
-    called-bad = subst (λ (p : Progress). (gs : List GroupTree) → HasGiven gs p → IsBadAt proof_texts p.text (place + line)) is
-        (λ gs h. bad-call gs r h lines tail refl (are-lines lines whole) none line (tokens_at s1) stopped counted)
+  bytes-whole : AreLines lines
+  bytes-whole = are-lines lines whole
 
-    never : (q : Read) (us : List Tok) → Ok q ≡ Err us → ⊥
-    never q us e = cc
+  -- ---- the next item
 
-    pub stopped-no-group : (gs : List GroupTree) → HasGiven gs now → (g : GroupTree) (new : Progress) → new.text ≡ now.text → HasGiven (gs ++ g ∷ []) new → ⊥
-    stopped-no-group = subst (λ (p : Progress). (gs : List GroupTree) → HasGiven gs p → (g : GroupTree) (new : Progress) → new.text ≡ p.text → HasGiven (gs ++ g ∷ []) new → ⊥) is
-        (λ gs h g new same k. let w = would-read gs r h lines tail refl (are-lines lines whole) none g new same k in never (Some g, w.0) (tokens_at s1) (sym w.1 ∙ stopped))
+  -- where it would have been read
+  abbrev Would : ItemTree → List ItemTree → Type 0
+  Would i front = (vs : List Tok) × (ts ≡ turn_tokens front i ++ vs) × ((g : GroupTree) → i ≡ Opens g → goes_on is_def vs ≡ false)
 
-  -- where the end was read
-  module _ (end : turn_at (eqb place 0) (tokens_at s0) ≡ Ok (None, tokens_at s1)) where
-    ended-at : turn_at (eqb place 0) (lex lines (At Start)) ≡ Ok (None, tokens_at s1)
-    ended-at = ap (turn_at (eqb place 0)) (sym from-start) ∙ end
+  would : (ps : List ProofTree) → HasGiven ps now → (i : ItemTree) (qs : List ProofTree) (new : Progress) → new.text ≡ now.text → items qs ≡ items ps ++ i ∷ [] → HasGiven qs new → IsItem i × Would i (items ps)
+  would ps h i qs new same e k =
+      let fits = last-item (items ps) (items qs) i e (items-fit qs k.fit) in
+      let more : Given (items ps ++ i ∷ []) new = subst (λ (js : List ItemTree). Given js new) e (given-items qs new k) in
+      (fits, would-read (items ps) r (here ps h) lines tail refl bytes-whole none i fits new (same ∙ ap (λ (p : Progress). p.text) (sym is)) more)
 
-    pub called-end : (tokens_at s1 ≡ Done ∷ []) × (tail ≡ []) → (gs : List GroupTree) → HasGiven gs now → now.text ≡ text_of gs
-    called-end q = subst (λ (p : Progress). (gs : List GroupTree) → HasGiven gs p → p.text ≡ text_of gs) is
-        (λ gs h. whole-call gs r h lines tail refl (are-lines lines whole) none (ended-at ∙ ap (λ (us : List Tok). Ok (None, us)) q.0) q.1)
+  -- none comes where no group and no line can be read
+  module _ (ps : List ProofTree) (h : HasGiven ps now) (no_group : (g : GroupTree) (vs : List Tok) → turn_at (eqb place 0) ts ≡ Ok (Some g, vs) → ⊥)
+      (no_line : (l : LineTree) (vs : List Tok) → (items ps ≡ [] → ⊥) → IsLine l → ts ≡ line_tokens (last_code [] (items ps)) l ++ vs → ⊥) where
+    not-group : (g : GroupTree) → IsGroup g → Would (Opens g) (items ps) → ⊥
+    not-group g f w =
+        let first = first-is (items ps) r (here ps h) in
+        no_group g w.0 (ap (λ (b : Bool). turn_at b ts) first ∙ ap (turn_at (is_first (items ps))) (w.1 ∙ ap (λ (v : List Tok). v ++ w.0) (group-turned (items ps) g)) ∙ turn-again (is_first (items ps)) g w.0 f (w.2 g refl))
 
-    not-done : (us vs : List Tok) → goes_on is_done us ≡ false → us ≡ Done ∷ vs → ⊥
-    not-done us vs g e = true≢false (sym (ap (goes_on is_done) e) ∙ g)
-
-    more-bad : GoesOn (tokens_at s1) tail → (gs : List GroupTree) → HasGiven gs r → IsBadAt proof_texts r.text (place + line)
-    more-bad (inl g) gs h = bad-more gs r h lines tail refl (are-lines lines whole) none line (tokens_at s1) ended-at (λ vs e. not-done (tokens_at s1) vs g e) counted
-    more-bad (inr g) gs h =
-        bad-tail-more gs r h lines tail refl (are-lines lines whole) none line (ended-at ∙ ap (λ (us : List Tok). Ok (None, us)) g.0) g.1
-        (ap (λ (us : List Tok). line + eols us) (sym g.0) ∙ counted)
-
-    pub called-more : GoesOn (tokens_at s1) tail → (gs : List GroupTree) → HasGiven gs now → IsBadAt proof_texts now.text (place + line)
-    called-more q = subst (λ (p : Progress). (gs : List GroupTree) → HasGiven gs p → IsBadAt proof_texts p.text (place + line)) is (more-bad q)
-
-    abbrev good : Read → Out (Option GroupTree)
-    good q = Ok q
-
-    same-answer : (g : GroupTree) (us vs : List Tok) → good (Some g, us) ≡ good (None, vs) → Some g ≡ None
-    same-answer g us vs e = ok-value {Y = Option GroupTree} (Some g) None us vs e
-
-    never-some : (g : GroupTree) (us vs : List Tok) → good (Some g, us) ≡ good (None, vs) → ⊥
-    never-some g us vs e = absurd (clash g (same-answer g us vs e))
+    not-line : (l : LineTree) (front : List ItemTree) → items ps ≡ front → StartsOpen (front ++ Adds l ∷ []) → IsLine l → Would (Adds l) front → ⊥
+    not-line l [] e s f w = s
+    not-line l (i ∷ js) e s f w = no_line l w.0 (λ n. clash (sym e ∙ n)) f (w.1 ∙ ap (λ (front : List ItemTree). line_tokens (last_code [] front) l ++ w.0) (sym e))
       where
-        clash : (g : GroupTree) → Some g ≡ None → ⊥
-        clash g k = cc
+        clash : i ∷ js ≡ [] → ⊥
+        clash k = cc
 
-    pub end-no-group : (gs : List GroupTree) → HasGiven gs now → (g : GroupTree) (new : Progress) → new.text ≡ now.text → HasGiven (gs ++ g ∷ []) new → ⊥
-    end-no-group = subst (λ (p : Progress). (gs : List GroupTree) → HasGiven gs p → (g : GroupTree) (new : Progress) → new.text ≡ p.text → HasGiven (gs ++ g ∷ []) new → ⊥) is
-        (λ gs h g new same k. let w = would-read gs r h lines tail refl (are-lines lines whole) none g new same k in never-some g w.0 (tokens_at s1) (sym w.1 ∙ ended-at))
+    pub none-comes : NoItem ps now
+    none-comes (Opens g) qs new same e k = let w = would ps h (Opens g) qs new same e k in not-group g w.0 w.1
+    none-comes (Adds l) qs new same e k =
+        let w = would ps h (Adds l) qs new same e k in
+        not-line l (items ps) refl (subst StartsOpen e (items-start qs)) w.0 w.1
 
-  -- where a group was read
-  module _ (g : GroupTree) (group : turn_at (eqb place 0) (tokens_at s0) ≡ Ok (Some g, tokens_at s1)) where
-    found : turn_at (eqb place 0) (lex lines (At Start)) ≡ Ok (Some g, tokens_at s1)
-    found = ap (turn_at (eqb place 0)) (sym from-start) ∙ group
+  -- ---- where an item was read
 
-    pub called-fits : IsGroup g
-    called-fits = (turn-takes (eqb place 0) (lex lines (At Start)) g (tokens_at s1) found).fits
+  module _ (piece : List Tok) (ends : IsLines piece) (real : AreTokens piece) (read : tokens_at s0 ≡ piece ++ us) where
+    lexed : ts ≡ piece ++ us
+    lexed = sym from-start ∙ read
 
-    pub called-line : 1 ≤ line
-    called-line = some-line-read (eqb place 0) lines g (tokens_at s1) found line counted
+    item-line : 1 ≤ line
+    item-line = some-line-read lines piece us lexed ends real line counted
 
-    pub called-needs : place + length lines ≤ 2 ^ 63 → HasFewNeeds g
-    called-needs le = few (eqb place 0) lines g (tokens_at s1) found (omega (arith, le))
+    item-short : length piece ≤ length lines
+    item-short = short lines piece us lexed ends real
 
     module _ (next : List ℕ) (next-is : next ≡ drop_lines (line - 1) lines) where
-      pub next-place : place + length lines ≤ 2 ^ 63 → place + (line - 1) + length next ≤ 2 ^ 63
-      next-place le =
-          let short = shorter (eqb place 0) lines g (tokens_at s1) found line counted in
+      item-place : place + length lines ≤ 2 ^ 63 → place + (line - 1) + length next ≤ 2 ^ 63
+      item-place le =
+          let less = shorter lines piece us lexed ends real line counted in
           let len : length next ≡ length (drop_lines (line - 1) lines) = ap length next-is in
-          omega (arith, le, short, len)
+          omega (arith, le, less, len)
 
-      pub next-lines : AreWholeLines next
-      next-lines = whole-lines next (subst AreLines (sym next-is) (still-lines (eqb place 0) lines g (tokens_at s1) found line counted (are-lines lines whole)))
+      item-lines : AreWholeLines next
+      item-lines = whole-lines next (subst AreLines (sym next-is) (still-lines lines piece us lexed ends real line counted bytes-whole))
 
-      pub called-given : (gs : List GroupTree) → HasGiven gs now → HasGiven (gs ++ g ∷ []) (record { text = text; rest = next ++ tail; place = place + (line - 1) })
-      called-given gs h =
-          subst (λ (v : List ℕ). HasGiven (gs ++ g ∷ []) (record { text = text; rest = v ++ tail; place = place + (line - 1) })) (sym next-is)
-          (given-more gs r (subst (HasGiven gs) (sym is) h) lines tail refl (are-lines lines whole) none g (tokens_at s1) line found counted)
+      item-less : 1 ≤ length piece → length (next ++ tail) < length now.rest
+      item-less some =
+          let fewer = less lines piece us lexed ends real line counted some in
+          let len : length next ≡ length (drop_lines (line - 1) lines) = ap length next-is in
+          let old : length (lines ++ tail) ≡ length now.rest = ap (λ (p : Progress). length p.rest) is in
+          omega (arith, fewer, len, sym old, length-append next tail, length-append lines tail)
+
+  module _ (next : List ℕ) (next-is : next ≡ drop_lines (line - 1) lines) where
+    abbrev new : Progress
+    new = record { text = text; rest = next ++ tail; place = place + (line - 1) }
+
+    item-given : (ps : List ProofTree) → HasGiven ps now → (i : ItemTree) → IsItem i → ts ≡ turn_tokens (items ps) i ++ us → ((g : GroupTree) → i ≡ Opens g → goes_on is_def us ≡ false) → (items ps ≡ [] → StartsOpen (i ∷ [])) → Given (items ps ++ i ∷ []) new
+    item-given ps h i f e stop first =
+        subst (λ (v : List ℕ). Given (items ps ++ i ∷ []) (record { text = text; rest = v ++ tail; place = place + (line - 1) })) (sym next-is)
+        (given-more (items ps) r (here ps h) lines tail refl bytes-whole none i f us line e stop (starts-more (items ps) i (items-start ps) first) counted)
+
+  -- a group
+  module _ (g : GroupTree) (read : turn_at (eqb place 0) (tokens_at s0) ≡ Ok (Some g, us)) where
+    took : Turn (eqb place 0) (tokens_at s0) g us
+    took = turn-takes (eqb place 0) (tokens_at s0) g us read
+
+    abbrev group_piece : List Tok
+    group_piece = group_turn (eqb place 0) g
+
+    turn-ends : (first : Bool) → IsLines (group_turn first g)
+    turn-ends true = turn-lines [] (Opens g)
+    turn-ends false = group-whole g
+
+    turn-tokens : (first : Bool) → IsGroup g → AreTokens (group_turn first g)
+    turn-tokens true f = turn-real [] (Opens g) f
+    turn-tokens false f = group-tokens g f
+
+    ends : IsLines group_piece
+    ends = turn-ends (eqb place 0)
+
+    real : AreTokens group_piece
+    real = turn-tokens (eqb place 0) took.fits
+
+    pub group-fits : IsGroup g
+    group-fits = took.fits
+
+    pub group-line : 1 ≤ line
+    group-line = item-line group_piece ends real took.is
+
+    pub group-needs : place + length lines ≤ 2 ^ 63 → HasFewNeeds g
+    group-needs le = few (eqb place 0) g (length lines) (item-short group_piece ends real took.is) (omega (arith, le))
+
+    module _ (next : List ℕ) (next-is : next ≡ drop_lines (line - 1) lines) where
+      pub group-place : place + length lines ≤ 2 ^ 63 → place + (line - 1) + length next ≤ 2 ^ 63
+      group-place = item-place group_piece ends real took.is next next-is
+
+      pub group-lines : AreWholeLines next
+      group-lines = item-lines group_piece ends real took.is next next-is
+
+      some-tokens : (first : Bool) → 1 ≤ length (group_turn first g)
+      some-tokens true = omega arith
+      some-tokens false = omega arith
+
+      pub group-less : length (next ++ tail) < length now.rest
+      group-less = item-less group_piece ends real took.is next next-is (some-tokens (eqb place 0))
+
+      pub group-given : (ps : List ProofTree) → HasGiven ps now → HasGiven (ps ++ bare g ∷ []) (record { text = text; rest = next ++ tail; place = place + (line - 1) })
+      group-given ps h =
+          let first = first-is (items ps) r (here ps h) in
+          let t = turn-takes (is_first (items ps)) ts g us (ap (λ (b : Bool). turn_at b ts) (sym first) ∙ ap (turn_at (eqb place 0)) (sym from-start) ∙ read) in
+          items-given (ps ++ bare g ∷ []) (new next next-is)
+          (subst (λ (js : List ItemTree). Given js (new next next-is)) (sym (items-opened ps g))
+          (item-given next next-is ps h (Opens g) t.fits (t.is ∙ ap (λ (v : List Tok). v ++ us) (sym (group-turned (items ps) g))) (λ k e. t.ended) (λ e. tt)))
+
+  -- a line of the group that was given last
+  module _ (g : GroupTree) (fits : IsGroup g) (l : LineTree) (read : turn_of g.code (tokens_at s0) ≡ Ok (Some l, us)) where
+    one : OneLine g.code (tokens_at s0) l us
+    one = line-takes g.code (fits.code, fits.bytes) (tokens_at s0) l us read
+
+    abbrev line_piece : List Tok
+    line_piece = line_tokens g.code l
+
+    line-real : AreTokens line_piece
+    line-real = line-is-tokens g.code l one.fits
+
+    line-whole : IsLines line_piece
+    line-whole = whole-line g.code l
+
+    pub line-fits : IsLine l
+    line-fits = one.fits
+
+    pub line-line : 1 ≤ line
+    line-line = item-line line_piece line-whole line-real one.is
+
+    module _ (next : List ℕ) (next-is : next ≡ drop_lines (line - 1) lines) where
+      pub line-place : place + length lines ≤ 2 ^ 63 → place + (line - 1) + length next ≤ 2 ^ 63
+      line-place = item-place line_piece line-whole line-real one.is next next-is
+
+      pub line-lines : AreWholeLines next
+      line-lines = item-lines line_piece line-whole line-real one.is next next-is
+
+      pub line-less : length (next ++ tail) < length now.rest
+      line-less = item-less line_piece line-whole line-real one.is next next-is (omega (arith, some-line g.code l))
+
+      not-opened : (k : GroupTree) → Adds l ≡ Opens k → ⊥
+      not-opened k e = cc
+
+      at-turn : (js : List ItemTree) → (js ≡ [] → ⊥) → last_code [] js ≡ g.code → line_tokens g.code l ≡ turn_tokens js (Adds l)
+      at-turn [] some own = absurd (some refl)
+      at-turn (i ∷ js) some own = ap (λ (c : List Range). line_tokens c l) (sym own)
+
+      pub line-given : (ps : List ProofTree) (p : ProofTree) → HasGiven (ps ++ p ∷ []) now → p.group ≡ g → HasGiven (ps ++ with_line p l ∷ []) (record { text = text; rest = next ++ tail; place = place + (line - 1) })
+      line-given ps p h same =
+          let qs : List ProofTree = ps ++ p ∷ [] in
+          let own : last_code [] (items qs) ≡ g.code = last-is [] ps p ∙ ap (λ (x : GroupTree). x.code) same in
+          items-given (ps ++ with_line p l ∷ []) (new next next-is)
+          (subst (λ (js : List ItemTree). Given js (new next next-is)) (sym (items-added ps p l))
+          (item-given next next-is qs h (Adds l) one.fits (sym from-start ∙ one.is ∙ ap (λ (v : List Tok). v ++ us) (at-turn (items qs) (some-items ps p) own)) (λ k e. absurd (not-opened k e)) (λ e. absurd (some-items ps p e))))
+
+  -- ---- a call for a group
+
+  abbrev never : Out (Option GroupTree) → Out (Option GroupTree) → Type 0
+  never a b = a ≡ b → ⊥
+
+  may-follow : (ps : List ProofTree) → MayOpen ps now.rest → MayFollow (items ps) ts
+  may-follow [] m = tt
+  may-follow (p ∷ ps) m = follow-ends lines tail none (subst (λ (q : Progress). ProofEnds q.rest) (sym is) m)
+
+  -- no line is read where a group may follow
+  no-line-read : (ps : List ProofTree) → MayFollow (items ps) ts → (l : LineTree) (vs : List Tok) → (items ps ≡ [] → ⊥) → IsLine l → ts ≡ line_tokens (last_code [] (items ps)) l ++ vs → ⊥
+  no-line-read [] m l vs some f e = some refl
+  no-line-read (p ∷ ps) m l vs some f e = true≢false (sym (ap (goes_on begins_line) e ∙ line-begins (last_code [] (items (p ∷ ps))) l vs) ∙ ends-no-line ts m)
+
+  module _ (stop : turn_at (eqb place 0) (tokens_at s0) ≡ Err us) where
+    stopped : turn_at (eqb place 0) ts ≡ Err us
+    stopped = ap (turn_at (eqb place 0)) (sym from-start) ∙ stop
+
+    pub group-bad : (ps : List ProofTree) → HasGiven ps now → MayOpen ps now.rest → IsBadAt texts_of_proofs now.text (place + line)
+    group-bad ps h m =
+        let g = here ps h in
+        let q = quiet (items ps) r g lines tail refl bytes-whole none in
+        subst (λ (p : Progress). IsBadAt texts_of_proofs p.text (place + line)) is
+        (bad-call (items ps) r g lines tail refl bytes-whole none line us
+        (turn-stops (items ps) ts us g.start g.fit q (may-follow ps m) (ap (λ (b : Bool). turn_at b ts) (sym (first-is (items ps) r g)) ∙ stopped)) counted)
+
+    pub group-none : (ps : List ProofTree) → HasGiven ps now → MayOpen ps now.rest → NoItem ps now
+    group-none ps h m = none-comes ps h (λ g vs e. ok-not-err {Y = Option GroupTree} (Some g) vs us (sym e ∙ stopped)) (no-line-read ps (may-follow ps m))
+
+  -- where the end was read
+  module _ (end : turn_at (eqb place 0) (tokens_at s0) ≡ Ok (None, us)) where
+    ended-at : turn_at (eqb place 0) ts ≡ Ok (None, us)
+    ended-at = ap (turn_at (eqb place 0)) (sym from-start) ∙ end
+
+    all-read : (ps : List ProofTree) (h : HasGiven ps now) → proofs_text_at (front_tokens (items ps) ++ ts) ≡ Ok (ps, us)
+    all-read ps h =
+        let g = here ps h in
+        turn-end ps ts us g.fit (quiet (items ps) r g lines tail refl bytes-whole none) (ap (λ (b : Bool). turn_at b ts) (sym (first-is (items ps) r g)) ∙ ended-at)
+
+    pub called-end : (us ≡ Done ∷ []) × (tail ≡ []) → (ps : List ProofTree) → HasGiven ps now → now.text ≡ text_of_proofs ps
+    called-end q ps h =
+        subst (λ (p : Progress). p.text ≡ text_of_proofs ps) is
+        (whole-call (items ps) r (here ps h) lines tail refl bytes-whole none ps (all-read ps h ∙ ap (λ (v : List Tok). Ok (ps, v)) q.0) q.1)
+
+    not-done : (ws vs : List Tok) → goes_on is_done ws ≡ false → ws ≡ Done ∷ vs → ⊥
+    not-done ws vs g e = true≢false (sym (ap (goes_on is_done) e) ∙ g)
+
+    more-bad : GoesOn us tail → (ps : List ProofTree) → HasGiven ps now → IsBadAt texts_of_proofs text (place + line)
+    more-bad (inl g) ps h = bad-more (items ps) r (here ps h) lines tail refl bytes-whole none ps us (all-read ps h) line (λ vs e. not-done us vs g e) counted
+    more-bad (inr g) ps h =
+        bad-tail-more (items ps) r (here ps h) lines tail refl bytes-whole none ps (all-read ps h ∙ ap (λ (v : List Tok). Ok (ps, v)) g.0) line g.1
+        (ap (λ (v : List Tok). line + eols v) (sym g.0) ∙ counted)
+
+    pub called-more : GoesOn us tail → (ps : List ProofTree) → HasGiven ps now → MayOpen ps now.rest → IsBadAt texts_of_proofs now.text (place + line)
+    called-more q ps h m = subst (λ (p : Progress). IsBadAt texts_of_proofs p.text (place + line)) is (more-bad q ps h)
+
+    not-some : (g : GroupTree) → Some g ≡ None → ⊥
+    not-some g k = cc
+
+    pub end-none : (ps : List ProofTree) → HasGiven ps now → MayOpen ps now.rest → NoItem ps now
+    end-none ps h m = none-comes ps h (λ g vs e. not-some g (ok-value {Y = Option GroupTree} (Some g) None vs us (sym e ∙ ended-at))) (no-line-read ps (may-follow ps m))
+
+  -- ---- a call for a line
+
+  module _ (g : GroupTree) (ps : List ProofTree) (p : ProofTree) (h : HasGiven (ps ++ p ∷ []) now) (same : p.group ≡ g) where
+    abbrev qs : List ProofTree
+    qs = ps ++ p ∷ []
+
+    own-is : last_code [] (items qs) ≡ g.code
+    own-is = last-is [] ps p ∙ ap (λ (x : GroupTree). x.code) same
+
+    own-fits : IsCode g.code
+    own-fits = subst IsCode own-is (last-fits [] (items qs) (tt, tt) (items-fit qs h.fit))
+
+    module _ (stop : turn_of g.code (tokens_at s0) ≡ Err us) where
+      line-stopped : turn_of g.code ts ≡ Err us
+      line-stopped = ap (turn_of g.code) (sym from-start) ∙ stop
+
+      stops : (js : List ItemTree) → items qs ≡ js → Given js r → proofs_text_at (front_tokens js ++ ts) ≡ Err us
+      stops [] e k = absurd (some-items ps p e)
+      stops (i ∷ js) e k =
+          line-stops i js ts us k.start k.fit (quiet (i ∷ js) r k lines tail refl bytes-whole none)
+          (ap (λ (c : List Range). turn_of c ts) (ap (last_code []) (sym e) ∙ own-is) ∙ line-stopped)
+
+      pub line-bad : IsBadAt texts_of_proofs now.text (place + line)
+      line-bad =
+          let k = here qs h in
+          subst (λ (p : Progress). IsBadAt texts_of_proofs p.text (place + line)) is
+          (bad-call (items qs) r k lines tail refl bytes-whole none line us (stops (items qs) refl k) counted)
+
+      -- no group comes
+      no-group-read : (k : GroupTree) (vs : List Tok) → turn_at (eqb place 0) ts ≡ Ok (Some k, vs) → ⊥
+      no-group-read k vs e =
+          let t = turn-takes false ts k vs (ap (λ (b : Bool). turn_at b ts) (sym (first-is (items qs) r (here qs h) ∙ not-first (items qs) refl)) ∙ e) in
+          ok-not-err {Y = Option LineTree} None ts us (sym (ends-nothing g.code ts (ap (goes_on ends_proof) t.is)) ∙ line-stopped)
+        where
+          not-first : (js : List ItemTree) → items qs ≡ js → is_first js ≡ false
+          not-first [] e = absurd (some-items ps p e)
+          not-first (i ∷ js) e = refl
+
+      pub line-none : NoItem qs now
+      line-none = none-comes qs h no-group-read
+          (λ l vs some f e. ok-not-err {Y = Option LineTree} (Some l) vs us (sym (ap (turn_of g.code) (e ∙ ap (λ (c : List Range). line_tokens c l ++ vs) own-is) ∙ line-again g.code own-fits l vs f) ∙ line-stopped))
+
+  -- where the lines have ended
+  pub lines-ended : (own : List Range) → IsCode own → turn_of own (tokens_at s0) ≡ Ok (None, us) → ProofEnds now.rest
+  lines-ended own fits e = subst (λ (p : Progress). ProofEnds p.rest) is (ends-follow lines tail bytes-whole none (line-ends own fits ts us (ap (turn_of own) (sym from-start) ∙ e)))
+
+  pub ended-here : ProofEnds now.rest → goes_on ends_proof (tokens_at s0) ≡ true
+  ended-here e = ap (goes_on ends_proof) from-start ∙ follow-ends lines tail none (subst (λ (p : Progress). ProofEnds p.rest) (sym is) e)
+
+-- where a line was read, or reading stopped, they haven't
+module _ {X : Type 0} (q : Result (Option X) Stop) (P : Type 0) (ends : P → q ≡ Ok None) where
+  pub not-ended : (o : Option X) (x : X) → q ≡ Ok o → o ≡ Some x → P → ⊥
+  not-ended o x e f p = clash x (sym f ∙ same o None (sym e ∙ ends p))
+    where
+      same : (a b : Option X) → ◌≡◌ {A = Result (Option X) Stop} (Ok a) (Ok b) → a ≡ b
+      same a b k = cc
+
+      clash : (x : X) → Some x ≡ None → ⊥
+      clash x k = cc
+
+  pub not-stopped : (e : Stop) → q ≡ Err e → P → ⊥
+  not-stopped e f p = clash e (sym f ∙ ends p)
+    where
+      clash : (e : Stop) → ◌≡◌ {A = Result (Option X) Stop} (Err e) (Ok None) → ⊥
+      clash e k = cc

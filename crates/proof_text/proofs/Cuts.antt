@@ -1,6 +1,7 @@
 -- Whole lines of bytes: cutting them off, and what they are read as.
-use Rattle.std.proofs.Common.{◌≡◌, ℕ, zero, suc, ◌+◌, ◌-◌, ◌≤◌, ◌<◌, Bool, true, false, cond, eqb, List, [], ◌∷◌, ◌++◌, length, codes, get_or, take, drop, length-drop, Option, Some, None, true≢false, refl, sym, ap, subst, ◌∙◌, arith, append_assoc, length-append}
-use Rattle.std.specs.Prelude.{option_map}
+use Rattle.std.proofs.Common.{◌≡◌, ℕ, zero, suc, ◌+◌, ◌-◌, ◌≤◌, ◌<◌, Bool, true, false, cond, eqb, List, [], ◌∷◌, ◌++◌, length, codes, get_or, take, drop, length-drop, Option, Some, None, true≢false, refl, sym, ap, subst, ◌∙◌, arith, append_assoc, length-append, inl, inr}
+use Rattle.std.specs.Prelude.{◌||◌, option_map}
+use Rattle.std.specs.Str.{bytes_eq}
 use Rattle.std.proofs.lemmas.List.{append-nil, take_all}
 use Rattle.std.proofs.Math.Seq.{drop-cons}
 use Rattle.std.proofs.Math.ListN.{drop_of_length-le}
@@ -16,8 +17,9 @@ use Rattle.mc_text.proofs.Lines.{stands-lex, atom-stands}
 use Rattle.mc_text.proofs.FaultLine.{AreLines, EndsByte, one-newline, first-step, lines-zeroth, newlines-append, SameLine, same-line}
 use Rattle.mc_text.proofs.Tail.{count-cons, first-before}
 use Rattle.proof_text.specs.inner.Cut.{AreWholeLines, drop_lines}
-use Rattle.proof_text.specs.FirstGroups.{DefFollows}
+use Rattle.proof_text.specs.FirstProofs.{Follows, ProofEnds}
 use Rattle.proof_text.specs.inner.Reading.{is_def}
+use Rattle.proof_text.specs.inner.LineReading.{ends_proof}
 
 -- ---- a text is whole lines, and a rest without a newline
 
@@ -134,39 +136,65 @@ stands-longer : (bytes tail a : List ℕ) (rest : List ℕ) → 1 ≤ length res
 stands-longer bytes tail a [] le s = absurd (omega (arith, le))
 stands-longer bytes tail a (b ∷ rest) le s = record { spelled = ap (λ (v : List ℕ). v ++ tail) s.spelled ∙ append_assoc a (b ∷ rest) tail; may = s.may }
 
-def-behind : (bytes rest : List ℕ) → bytes ≡ codes "def" ++ rest → AreLines bytes → 1 ≤ length rest
-def-behind bytes [] e h = absurd (never (subst AreLines e h))
-  where
-    never : ◌≡◌ {A = ℕ} 102 10 → ⊥
-    never k = omega (arith, k)
-def-behind bytes (b ∷ rest) e h = omega arith
+name-behind : (k bytes rest : List ℕ) → (AreLines k → ⊥) → bytes ≡ k ++ rest → AreLines bytes → 1 ≤ length rest
+name-behind k bytes [] not e h = absurd (not (subst AreLines (e ∙ append-nil k) h))
+name-behind k bytes (b ∷ rest) not e h = omega arith
 
-def-there : (bytes tail : List ℕ) (us : List Tok) → AreLines bytes → newlines tail ≡ 0 → lex bytes (At Start) ≡ Atom (codes "def") ∷ us → DefFollows (bytes ++ tail)
-def-there bytes tail us h none e =
-    let s = atom-stands bytes (codes "def") us e in
-    let some = def-behind bytes s.0 s.1.spelled h in
-    let long : length bytes ≡ length (codes "def" ++ s.0) = ap length s.1.spelled in
+-- a word follows where it is read first
+pub word-follows : (k bytes tail : List ℕ) (us : List Tok) → 1 ≤ length k → (AreLines k → ⊥) → AreLines bytes → newlines tail ≡ 0 → lex bytes (At Start) ≡ Atom k ∷ us → Follows k (bytes ++ tail)
+word-follows k bytes tail us some not h none e =
+    let s = atom-stands bytes k us e in
+    let more = name-behind k bytes s.0 not s.1.spelled h in
+    let long : length bytes ≡ length (k ++ s.0) = ap length s.1.spelled in
     record {
-      whole = λ k. some-line bytes h (omega (arith, long, length-append (codes "def") s.0)) (sym (first-before 1 bytes tail none) ∙ k);
+      whole = λ n. some-line bytes h (omega (arith, some, long, length-append k s.0)) (sym (first-before 1 bytes tail none) ∙ n);
       others = s.0 ++ tail;
-      word = stands-longer bytes tail (codes "def") s.0 some s.1;
+      word = stands-longer bytes tail k s.0 more s.1;
     }
 
-def-read : (bytes tail : List ℕ) (ts : List Tok) → AreLines bytes → newlines tail ≡ 0 → lex bytes (At Start) ≡ ts → goes_on is_def ts ≡ true → DefFollows (bytes ++ tail)
-def-read bytes tail [] h none e g = absurd cc
-def-read bytes tail (Atom a ∷ us) h none e g =
-    let same : a ≡ codes "def" = (bytes_eq-Decides a (codes "def")).0 g in
-    def-there bytes tail us h none (e ∙ ap (λ (b : List ℕ). Atom b ∷ us) same)
-def-read bytes tail (Left ∷ us) h none e g = absurd cc
-def-read bytes tail (Right ∷ us) h none e g = absurd cc
-def-read bytes tail (Semi ∷ us) h none e g = absurd cc
-def-read bytes tail (Eol ∷ us) h none e g = absurd cc
-def-read bytes tail (Done ∷ us) h none e g = absurd cc
-def-read bytes tail (Stuck ∷ us) h none e g = absurd cc
+-- a word that doesn't end in a newline
+not-lines : (b c : ℕ) (k : List ℕ) → eqb c 10 ≡ false → AreLines ((b ∷ k) ++ c ∷ []) → ⊥
+not-lines b c [] e h = true≢false (sym (ap (λ (n : ℕ). eqb n 10) h) ∙ e)
+not-lines b c (d ∷ k) e h = not-lines d c k e h
 
 -- a definition follows where its first word is read
-pub def-follows : (bytes tail : List ℕ) → AreLines bytes → newlines tail ≡ 0 → goes_on is_def (lex bytes (At Start)) ≡ true → DefFollows (bytes ++ tail)
-def-follows bytes tail h none g = def-read bytes tail (lex bytes (At Start)) h none refl g
+pub def-follows : (bytes tail : List ℕ) → AreLines bytes → newlines tail ≡ 0 → goes_on is_def (lex bytes (At Start)) ≡ true → Follows (codes "def") (bytes ++ tail)
+def-follows bytes tail h none g = by (lex bytes (At Start)) refl g
+  where
+    by : (ts : List Tok) → lex bytes (At Start) ≡ ts → goes_on is_def ts ≡ true → Follows (codes "def") (bytes ++ tail)
+    by [] e g = absurd cc
+    by (Atom a ∷ us) e g =
+        let same : a ≡ codes "def" = (bytes_eq-Decides a (codes "def")).0 g in
+        word-follows (codes "def") bytes tail us (omega arith) (not-lines 100 102 (codes "e") refl) h none (e ∙ ap (λ (b : List ℕ). Atom b ∷ us) same)
+    by (Left ∷ us) e g = absurd cc
+    by (Right ∷ us) e g = absurd cc
+    by (Semi ∷ us) e g = absurd cc
+    by (Eol ∷ us) e g = absurd cc
+    by (Done ∷ us) e g = absurd cc
+    by (Stuck ∷ us) e g = absurd cc
+
+-- and the next group, or the end
+pub ends-follow : (bytes tail : List ℕ) → AreLines bytes → newlines tail ≡ 0 → goes_on ends_proof (lex bytes (At Start)) ≡ true → ProofEnds (bytes ++ tail)
+ends-follow bytes tail h none g = by (lex bytes (At Start)) refl g
+  where
+    by-word : (a : List ℕ) (us : List Tok) → lex bytes (At Start) ≡ Atom a ∷ us → (x y : Bool) → bytes_eq a (codes "group") ≡ x → bytes_eq a (codes "end") ≡ y → x || y ≡ true → ProofEnds (bytes ++ tail)
+    by-word a us e true y f k g =
+        let same : a ≡ codes "group" = (bytes_eq-Decides a (codes "group")).0 f in
+        inl (word-follows (codes "group") bytes tail us (omega arith) (not-lines 103 112 (codes "rou") refl) h none (e ∙ ap (λ (b : List ℕ). Atom b ∷ us) same))
+    by-word a us e false true f k g =
+        let same : a ≡ codes "end" = (bytes_eq-Decides a (codes "end")).0 k in
+        inr (word-follows (codes "end") bytes tail us (omega arith) (not-lines 101 100 (codes "n") refl) h none (e ∙ ap (λ (b : List ℕ). Atom b ∷ us) same))
+    by-word a us e false false f k g = absurd (true≢false (sym g))
+
+    by : (ts : List Tok) → lex bytes (At Start) ≡ ts → goes_on ends_proof ts ≡ true → ProofEnds (bytes ++ tail)
+    by [] e g = absurd cc
+    by (Atom a ∷ us) e g = by-word a us e (bytes_eq a (codes "group")) (bytes_eq a (codes "end")) refl refl g
+    by (Left ∷ us) e g = absurd cc
+    by (Right ∷ us) e g = absurd cc
+    by (Semi ∷ us) e g = absurd cc
+    by (Eol ∷ us) e g = absurd cc
+    by (Done ∷ us) e g = absurd cc
+    by (Stuck ∷ us) e g = absurd cc
 
 front-mapped : (b : ℕ) (o : Option (List ℕ)) (l : List ℕ) → option_map (λ (x : List ℕ). b ∷ x) o ≡ Some l → (m : List ℕ) × (o ≡ Some m) × (b ∷ m ≡ l)
 front-mapped b (Some m) l e = (m, refl, cc)
@@ -188,21 +216,31 @@ unfolding first_lines
 first-front [] l e = absurd cc
 first-front (b ∷ bs) l e = first-step-front b bs l (eqb b 10) refl (first-front bs) e
 
-same-first : (ts : List Tok) (o : Tok) (os : List Tok) → SameLine ts (o ∷ os) → is_def o ≡ true → goes_on is_def ts ≡ true
-same-first [] o os h e = absurd cc
-same-first (t ∷ ts) o os h e = ap is_def h.0 ∙ e
+same-first : (ts : List Tok) (o : Tok) (os : List Tok) → SameLine ts (o ∷ os) → (us : List Tok) × (ts ≡ o ∷ us)
+same-first [] o os h = absurd (clash h)
+  where
+    clash : o ∷ os ≡ [] → ⊥
+    clash e = cc
+same-first (t ∷ ts) o os h = (ts, ap (λ (z : Tok). z ∷ ts) h.0)
 
-line-def : (bytes tail : List ℕ) (o : Option (List ℕ)) (os : List Tok) → newlines tail ≡ 0 → first_lines 1 bytes ≡ o → (o ≡ None → ⊥) → lex (bytes ++ tail) (At Start) ≡ Atom (codes "def") ∷ os → goes_on is_def (lex bytes (At Start)) ≡ true
-line-def bytes tail None os none e some read = absurd (some refl)
-line-def bytes tail (Some l) os none e some read =
+line-word : (k bytes tail : List ℕ) (o : Option (List ℕ)) (os : List Tok) → newlines tail ≡ 0 → first_lines 1 bytes ≡ o → (o ≡ None → ⊥) → lex (bytes ++ tail) (At Start) ≡ Atom k ∷ os → (us : List Tok) × (lex bytes (At Start) ≡ Atom k ∷ us)
+line-word k bytes tail None os none e some read = absurd (some refl)
+line-word k bytes tail (Some l) os none e some read =
     let f = first-front (bytes ++ tail) l (first-before 1 bytes tail none ∙ e) in
     let same = same-line bytes f.0 l (At Start) e in
-    same-first (lex bytes (At Start)) (Atom (codes "def")) os (subst (λ (v : List Tok). SameLine (lex bytes (At Start)) v) (ap (λ (v : List ℕ). lex v (At Start)) (sym f.1) ∙ read) same) refl
+    same-first (lex bytes (At Start)) (Atom k) os (subst (λ (v : List Tok). SameLine (lex bytes (At Start)) v) (ap (λ (v : List ℕ). lex v (At Start)) (sym f.1) ∙ read) same)
 
--- and its first word is read where it follows
-pub follows-def : (bytes tail : List ℕ) → newlines tail ≡ 0 → DefFollows (bytes ++ tail) → goes_on is_def (lex bytes (At Start)) ≡ true
-follows-def bytes tail none d =
-    line-def bytes tail (first_lines 1 bytes) _ none refl (λ k. d.whole (first-before 1 bytes tail none ∙ k)) (stands-lex Start (bytes ++ tail) (Atom (codes "def")) d.others (λ k. cc) d.word)
+-- and a word is read first where it follows
+pub follows-word : (k bytes tail : List ℕ) → newlines tail ≡ 0 → Follows k (bytes ++ tail) → (us : List Tok) × (lex bytes (At Start) ≡ Atom k ∷ us)
+follows-word k bytes tail none d =
+    line-word k bytes tail (first_lines 1 bytes) _ none refl (λ n. d.whole (first-before 1 bytes tail none ∙ n)) (stands-lex Start (bytes ++ tail) (Atom k) d.others (λ n. cc) d.word)
+
+pub follows-def : (bytes tail : List ℕ) → newlines tail ≡ 0 → Follows (codes "def") (bytes ++ tail) → goes_on is_def (lex bytes (At Start)) ≡ true
+follows-def bytes tail none d = ap (goes_on is_def) (follows-word (codes "def") bytes tail none d).1
+
+pub follow-ends : (bytes tail : List ℕ) → newlines tail ≡ 0 → ProofEnds (bytes ++ tail) → goes_on ends_proof (lex bytes (At Start)) ≡ true
+follow-ends bytes tail none (inl d) = ap (goes_on ends_proof) (follows-word (codes "group") bytes tail none d).1
+follow-ends bytes tail none (inr d) = ap (goes_on ends_proof) (follows-word (codes "end") bytes tail none d).1
 
 -- ---- loops over bytes
 

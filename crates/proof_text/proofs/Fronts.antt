@@ -1,31 +1,42 @@
--- The groups that are read of a text are determined: of two lists of them one is a front of the other.
-use Rattle.std.proofs.Common.{◌≡◌, ℕ, ◌+◌, ◌<◌, ◌≤◌, Bool, true, false, List, [], ◌∷◌, ◌++◌, length, codes, Option, Some, None, Ok, true≢false, get_or, refl, sym, ap, subst, ◌∙◌, arith, append_assoc, inl, inr, ◌⊎◌}
+-- What is read of a text is determined: of two lists of first proofs the items of one begin with those of the other.
+use Rattle.std.proofs.Common.{◌≡◌, ℕ, ◌+◌, ◌<◌, ◌≤◌, Bool, true, false, List, [], ◌∷◌, ◌++◌, length, codes, Option, Some, None, Ok, true≢false, refl, sym, ap, subst, ◌∙◌, arith, append_assoc, length-append, inl, inr, ◌⊎◌}
 use Rattle.std.specs.List.{AllByRecursion}
+use Rattle.std.specs.Str.{bytes_eq}
+use Rattle.std.proofs.lemmas.List.{append-nil}
 use Rattle.std.proofs.lemmas.Slice.Eq.{bytes_eq-Decides}
-use Rattle.std.proofs.lemmas.List.{append-nil, length-append}
+use Rattle.mc_text.proofs.Unended.{no-eols}
 use Rattle.mc_text.specs.Tokens.{Tok, Left, Right, Semi, Atom, Eol, Done, Stuck, spell, all_tokens}
 use Rattle.mc_text.specs.declared.token.Before.TheVariants.{Start}
 use Rattle.mc_text.specs.Scanning.{lex, At, eols}
 use Rattle.mc_text.specs.Reading.{Reader, goes_on}
-use Rattle.mc_text.specs.Fault.{first_lines}
+use Rattle.mc_text.specs.Fault.{first_lines, newlines}
 use Rattle.mc_text.proofs.ReaderLaws.{ok-value, ok-rest}
-use Rattle.mc_text.proofs.Lines.{EndsIn, IsLines, atom-stands}
-use Rattle.mc_text.proofs.Unended.{no-eols}
+use Rattle.mc_text.proofs.Lines.{EndsIn, IsLines, atom-stands, stands-lex}
 use Rattle.mc_text.proofs.Printed.{spell-after_lines}
-use Rattle.mc_text.proofs.Covers.{Covers, lines-append}
-use Rattle.mc_text.proofs.Shown.{tokens-append}
+use Rattle.mc_text.proofs.Covers.{Covers}
 use Rattle.mc_text.proofs.OneSpelling.{lines-read}
-use Rattle.mc_text.proofs.FaultLine.{front-lex, eols-append, text-read}
+use Rattle.mc_text.proofs.Items.{item-once}
+use Rattle.mc_text.proofs.FaultLine.{front-lex, eols-append}
+use Rattle.rv_words.specs.declared.range.Range.{Range}
 use Rattle.tailrec_lang.specs.Tree.{DefTree, GroupTree}
-use Rattle.proof_text.specs.Limits.{IsDef, IsGroup, AreGroups}
-use Rattle.std.specs.Str.{bytes_eq}
-use Rattle.proof_text.specs.Spelling.{def_tokens, group_tokens, head_tokens, end_tokens, text_of}
-use Rattle.proof_text.specs.inner.Spelling.{text_tokens}
-use Rattle.proof_text.specs.FirstGroups.{Progress, passed, DefFollows, Ended, HasGiven, AreRead, BeginAlike}
-use Rattle.proof_text.specs.inner.Reading.{def_at, is_def, head_at, group_of, text_at}
-use Rattle.proof_text.proofs.Texts.{HeadFits, head_of, head-fits, lines_of_head, group_row, group-split, def-cover, head-cover, text-law}
-use Rattle.proof_text.proofs.Parts.{groups-whole, groups-append}
-use Rattle.proof_text.proofs.Real.{groups-tokens, title-tokens, text-tokens, spell-long}
+use Rattle.proof_text.specs.Limits.{IsDef, IsGroup}
+use Rattle.proof_text.specs.Line.{LineTree, ProofTree}
+use Rattle.proof_text.specs.LineLimits.{IsLine}
+use Rattle.proof_text.specs.Spelling.{def_tokens, group_tokens, head_tokens, end_tokens}
+use Rattle.proof_text.specs.LineSpelling.{line_tokens}
+use Rattle.proof_text.specs.Proofs.{AreProofs, text_of_proofs, proof_tokens}
+use Rattle.proof_text.specs.FirstProofs.{Progress, ItemTree, Opens, Adds, items, passed, Follows, HasGiven, AreRead, BeginsWithItems}
+use Rattle.proof_text.specs.inner.Reading.{def_at, is_def, head_at, group_of}
+use Rattle.proof_text.specs.inner.LineReading.{line_at, begins_line}
+use Rattle.proof_text.proofs.HeadLaws.{IsCode}
+use Rattle.proof_text.proofs.Texts.{HeadFits, head_of, head-fits, lines_of_head, group_row, group-split, def-cover, head-cover}
+use Rattle.proof_text.proofs.LineLaws.{line-law}
+use Rattle.proof_text.proofs.LineTokens.{proofs-tokens}
+use Rattle.proof_text.proofs.ProofTexts.{no-def, line-begins, some-line, proofs_tokens, proof-text-law}
+use Rattle.proof_text.proofs.Real.{spell-long}
+use Rattle.proof_text.proofs.TextItems.{item_tokens, items_tokens, code_behind, last_code, AreItems, proofs-items, items-fit, items-fewer, starts-fewer, tokens-behind, items-whole, items-real}
+use Rattle.proof_text.proofs.Passed.{front_tokens, front-lines, front-real}
+use Rattle.proof_text.proofs.Given.{Given, passed_items, given-items, items-given}
 
 -- ---- where definitions end
 
@@ -90,26 +101,53 @@ group-once g h us vs fg fh s r e =
     let defs = defs-once g.defs h.defs us vs fg.defs fh.defs s r head.1 in
     ((λ i. group_of (head.0 i) (defs.0 i)), defs.1)
 
--- what stands behind a group of a list
-behind-stops : (gs : List GroupTree) (us : List Tok) → IsStop us → IsStop (all_tokens group_tokens gs ++ us)
-behind-stops [] us s = s
-behind-stops (g ∷ gs) us s = inl refl
+-- ---- items
+
+-- what stands behind a group that was opened
+abbrev Ends : List ItemTree → List Tok → Type 0
+Ends is us = (before : List ItemTree) (g : GroupTree) → is ≡ before ++ Opens g ∷ [] → IsStop us
+
+ends-rest : (i : ItemTree) (is : List ItemTree) (us : List Tok) → Ends (i ∷ is) us → Ends is us
+ends-rest i is us h before g e = h (i ∷ before) g (ap (λ (js : List ItemTree). i ∷ js) e)
+
+behind-stops : (own : List Range) (g : GroupTree) (is : List ItemTree) (us : List Tok) → Ends (Opens g ∷ is) us → IsStop (items_tokens own is ++ us)
+behind-stops own g [] us h = h [] g refl
+behind-stops own g (Opens k ∷ is) us h = inl refl
+behind-stops own g (Adds l ∷ is) us h = inl (ap (goes_on is_def) (append_assoc (line_tokens own l) (items_tokens own is) us) ∙ no-def own l (items_tokens own is ++ us))
 
 -- one of the lists goes on where the other ends
-abbrev GoesOn : List GroupTree → List GroupTree → List Tok → List Tok → Type 0
-GoesOn gs hs us vs = (more : List GroupTree) × (hs ≡ gs ++ more) × (us ≡ all_tokens group_tokens more ++ vs)
+abbrev GoesOn : List Range → List ItemTree → List ItemTree → List Tok → List Tok → Type 0
+GoesOn own is js us vs = (more : List ItemTree) × (js ≡ is ++ more) × (us ≡ items_tokens (last_code own is) more ++ vs)
 
-groups-once : (gs hs : List GroupTree) (us vs : List Tok) → AreGroups gs → AreGroups hs → IsStop us → IsStop vs → all_tokens group_tokens gs ++ us ≡ all_tokens group_tokens hs ++ vs
-    → GoesOn gs hs us vs ⊎ GoesOn hs gs vs us
-groups-once [] hs us vs h k s r e = inl (hs, refl, e)
-groups-once (g ∷ gs) [] us vs h k s r e = inr (g ∷ gs, refl, sym e)
-groups-once (g ∷ gs) (f ∷ hs) us vs h k s r e =
-    let parts : group_tokens g ++ (all_tokens group_tokens gs ++ us) ≡ group_tokens f ++ (all_tokens group_tokens hs ++ vs) =
-    sym (append_assoc (group_tokens g) (all_tokens group_tokens gs) us) ∙ e ∙ append_assoc (group_tokens f) (all_tokens group_tokens hs) vs in
-    let first = group-once g f (all_tokens group_tokens gs ++ us) (all_tokens group_tokens hs ++ vs) h.0 k.0 (behind-stops gs us s) (behind-stops hs vs r) parts in
-    elim (groups-once gs hs us vs h.1 k.1 s r first.1) [
-      | inl m ↦ inl (m.0, (λ i. sym first.0 i ∷ m.1 i), m.2)
-      | inr m ↦ inr (m.0, (λ i. first.0 i ∷ m.1 i), m.2)
+parted : (own : List Range) (i : ItemTree) (is : List ItemTree) (us : List Tok) → items_tokens own (i ∷ is) ++ us ≡ item_tokens own i ++ (items_tokens (code_behind own i) is ++ us)
+parted own i is us = append_assoc (item_tokens own i) (items_tokens (code_behind own i) is) us
+
+-- a group is no line
+apart : (own : List Range) (g : GroupTree) (l : LineTree) (us vs : List Tok) → group_tokens g ++ us ≡ line_tokens own l ++ vs → ⊥
+apart own g l us vs e = true≢false (sym (line-begins own l vs) ∙ ap (goes_on begins_line) (sym e))
+
+items-once : (own : List Range) (is js : List ItemTree) (us vs : List Tok) → IsCode own → AreItems is → AreItems js → Ends is us → Ends js vs → items_tokens own is ++ us ≡ items_tokens own js ++ vs
+    → GoesOn own is js us vs ⊎ GoesOn own js is vs us
+items-once own [] js us vs c h k s r e = inl (js, refl, e)
+items-once own (i ∷ is) [] us vs c h k s r e = inr (i ∷ is, refl, sym e)
+items-once own (Opens g ∷ is) (Opens f ∷ js) us vs c h k s r e =
+    let parts : group_tokens g ++ (items_tokens g.code is ++ us) ≡ group_tokens f ++ (items_tokens f.code js ++ vs) = sym (parted own (Opens g) is us) ∙ e ∙ parted own (Opens f) js vs in
+    let first = group-once g f (items_tokens g.code is ++ us) (items_tokens f.code js ++ vs) h.0 k.0 (behind-stops g.code g is us s) (behind-stops f.code f js vs r) parts in
+    let more : items_tokens g.code is ++ us ≡ items_tokens g.code js ++ vs = first.1 ∙ ap (λ (x : GroupTree). items_tokens x.code js ++ vs) (sym first.0) in
+    elim (items-once g.code is js us vs (h.0.code, h.0.bytes) h.1 k.1 (ends-rest (Opens g) is us s) (ends-rest (Opens f) js vs r) more) [
+      | inl m ↦ inl (m.0, (λ n. Opens (sym first.0 n) ∷ m.1 n), m.2)
+      | inr m ↦ inr (m.0, (λ n. Opens (first.0 n) ∷ m.1 n), m.2 ∙ ap (λ (x : GroupTree). items_tokens (last_code x.code js) m.0 ++ us) first.0)
+    ]
+items-once own (Opens g ∷ is) (Adds l ∷ js) us vs c h k s r e =
+    absurd (apart own g l (items_tokens g.code is ++ us) (items_tokens own js ++ vs) (sym (parted own (Opens g) is us) ∙ e ∙ parted own (Adds l) js vs))
+items-once own (Adds l ∷ is) (Opens f ∷ js) us vs c h k s r e =
+    absurd (apart own f l (items_tokens f.code js ++ vs) (items_tokens own is ++ us) (sym (parted own (Opens f) js vs) ∙ sym e ∙ parted own (Adds l) is us))
+items-once own (Adds l ∷ is) (Adds m ∷ js) us vs c h k s r e =
+    let parts : line_tokens own l ++ (items_tokens own is ++ us) ≡ line_tokens own m ++ (items_tokens own js ++ vs) = sym (parted own (Adds l) is us) ∙ e ∙ parted own (Adds m) js vs in
+    let first = item-once (line_at own) IsLine (line_tokens own) (line-law own c) l m (items_tokens own is ++ us) (items_tokens own js ++ vs) h.0 k.0 parts in
+    elim (items-once own is js us vs c h.1 k.1 (ends-rest (Adds l) is us s) (ends-rest (Adds m) js vs r) first.1) [
+      | inl x ↦ inl (x.0, (λ n. Adds (sym first.0 n) ∷ x.1 n), x.2)
+      | inr x ↦ inr (x.0, (λ n. Adds (first.0 n) ∷ x.1 n), x.2)
     ]
 
 -- ---- from bytes to tokens
@@ -117,13 +155,8 @@ groups-once (g ∷ gs) (f ∷ hs) us vs h k s r e =
 behind-title : (us vs : List Tok) → head_tokens ++ us ≡ head_tokens ++ vs → us ≡ vs
 behind-title us vs e = cc
 
-passed-tokens : (g : GroupTree) (gs : List GroupTree) (rest : List ℕ) → AreGroups (g ∷ gs) → lex (passed (g ∷ gs) ++ rest) (At Start) ≡ head_tokens ++ (all_tokens group_tokens (g ∷ gs) ++ lex rest (At Start))
-passed-tokens g gs rest h =
-    front-lex (head_tokens ++ all_tokens group_tokens (g ∷ gs)) rest (lines-append head_tokens (all_tokens group_tokens (g ∷ gs)) refl (groups-whole (g ∷ gs))) (tokens-append head_tokens (all_tokens group_tokens (g ∷ gs)) title-tokens (groups-tokens (g ∷ gs) h))
-    ∙ append_assoc head_tokens (all_tokens group_tokens (g ∷ gs)) (lex rest (At Start))
-
 -- where no whole line begins with def
-pub ended-stops : (rest : List ℕ) → (DefFollows rest → ⊥) → IsStop (lex rest (At Start))
+pub ended-stops : (rest : List ℕ) → (Follows (codes "def") rest → ⊥) → IsStop (lex rest (At Start))
 ended-stops rest h = by-first (lex rest (At Start)) refl
   where
     by-lines : (us : List Tok) → lex rest (At Start) ≡ Atom (codes "def") ∷ us → (o : Option (List ℕ)) → first_lines 1 rest ≡ o → IsStop (Atom (codes "def") ∷ us)
@@ -149,103 +182,138 @@ ended-stops rest h = by-first (lex rest (At Start)) refl
     by-first (Done ∷ us) e = inl refl
     by-first (Stuck ∷ us) e = inl refl
 
--- ---- what is read of a text
+-- what was read of a text, as a call of a reader has it
+as-given : (p : List ℕ) (ps : List ProofTree) (h : AreRead p ps) → HasGiven ps (record { text = p; rest = h.0; place = newlines (passed ps) })
+as-given p ps h = record { fit = h.1.fit; text = h.1.text; place = refl; ended = h.1.ended }
 
--- of two lists of groups that are read of one text, one is a front of the other
-pub fronts : (p : List ℕ) (gs hs : List GroupTree) → AreRead p gs → AreRead p hs → BeginAlike gs hs
-fronts p [] hs a b = inl (hs, refl)
-fronts p (g ∷ gs) [] a b = inr (g ∷ gs, refl)
-fronts p (g ∷ gs) (f ∷ hs) a b =
-    let tokens : head_tokens ++ (all_tokens group_tokens (g ∷ gs) ++ lex a.0 (At Start)) ≡ head_tokens ++ (all_tokens group_tokens (f ∷ hs) ++ lex b.0 (At Start)) =
-    sym (passed-tokens g gs a.0 a.1.fit) ∙ ap (λ (v : List ℕ). lex v (At Start)) (sym a.1.text ∙ b.1.text) ∙ passed-tokens f hs b.0 b.1.fit in
-    elim (groups-once (g ∷ gs) (f ∷ hs) (lex a.0 (At Start)) (lex b.0 (At Start)) a.1.fit b.1.fit (ended-stops a.0 a.1.ended) (ended-stops b.0 b.1.ended) (behind-title _ _ tokens)) [
-      | inl m ↦ inl (m.0, m.1)
-      | inr m ↦ inr (m.0, m.1)
+pub given-read : (ps : List ProofTree) (r : Progress) → HasGiven ps r → AreRead r.text ps
+given-read ps r h = (r.rest, record { fit = h.fit; text = h.text; ended = h.ended })
+
+lexed : (is : List ItemTree) (r : Progress) → Given is r → lex r.text (At Start) ≡ front_tokens is ++ lex r.rest (At Start)
+lexed is r h = ap (λ (v : List ℕ). lex v (At Start)) h.text ∙ front-lex (front_tokens is) r.rest (front-lines is) (front-real is h.fit)
+
+stops : (is : List ItemTree) (r : Progress) → Given is r → Ends is (lex r.rest (At Start))
+stops is r h before g e = ended-stops r.rest (h.ended before g e)
+
+abbrev Begins : List ItemTree → List ItemTree → Type 0
+Begins is js = (more : List ItemTree) × (is ≡ js ++ more)
+
+no-code : IsCode []
+no-code = (tt, tt)
+
+items-fronts : (is js : List ItemTree) (r q : Progress) → Given is r → Given js q → r.text ≡ q.text → Begins is js ⊎ Begins js is
+items-fronts [] js r q h k e = inr (js, refl)
+items-fronts (i ∷ is) [] r q h k e = inl (i ∷ is, refl)
+items-fronts (i ∷ is) (j ∷ js) r q h k e =
+    let us = lex r.rest (At Start) in
+    let vs = lex q.rest (At Start) in
+    let tokens : front_tokens (i ∷ is) ++ us ≡ front_tokens (j ∷ js) ++ vs = sym (lexed (i ∷ is) r h) ∙ ap (λ (v : List ℕ). lex v (At Start)) e ∙ lexed (j ∷ js) q k in
+    let parts : head_tokens ++ (items_tokens [] (i ∷ is) ++ us) ≡ head_tokens ++ (items_tokens [] (j ∷ js) ++ vs) =
+    sym (append_assoc head_tokens (items_tokens [] (i ∷ is)) us) ∙ tokens ∙ append_assoc head_tokens (items_tokens [] (j ∷ js)) vs in
+    elim (items-once [] (i ∷ is) (j ∷ js) us vs no-code h.fit k.fit (stops (i ∷ is) r h) (stops (j ∷ js) q k) (behind-title _ _ parts)) [
+      | inl m ↦ inr (m.0, m.1)
+      | inr m ↦ inl (m.0, m.1)
     ]
 
-end-group : (more : List GroupTree) (vs : List Tok) → end_tokens ++ (Done ∷ []) ≡ all_tokens group_tokens more ++ vs → (hs gs : List GroupTree) → hs ≡ gs ++ more → gs ≡ hs
-end-group [] vs e hs gs same = sym (same ∙ append-nil gs)
-end-group (m ∷ more) vs e hs gs same = absurd (clash (cc))
+-- of two lists of proofs that are read of one text, one begins with the other
+pub fronts : (p : List ℕ) (ps qs : List ProofTree) → AreRead p ps → AreRead p qs → BeginsWithItems ps qs ⊎ BeginsWithItems qs ps
+fronts p ps qs a b = items-fronts (items ps) (items qs) _ _ (given-items ps _ (as-given p ps a)) (given-items qs _ (as-given p qs b)) refl
+
+end-item : (own : List Range) (more : List ItemTree) (vs : List Tok) → end_tokens ++ (Done ∷ []) ≡ items_tokens own more ++ vs → (is js : List ItemTree) → js ≡ is ++ more → is ≡ js
+end-item own [] vs e is js same = sym (same ∙ append-nil is)
+end-item own (Opens g ∷ more) vs e is js same = absurd (clash cc)
   where
     clash : codes "end" ≡ codes "group" → ⊥
     clash e = true≢false (ap (bytes_eq (codes "end")) e)
+end-item own (Adds l ∷ more) vs e is js same =
+    absurd (true≢false (sym (line-begins own l (items_tokens own more ++ vs)) ∙ ap (goes_on begins_line) (sym (e ∙ parted own (Adds l) more vs))))
 
--- what is read of the text of groups is a front of them
-pub text-front : (p : List ℕ) (gs hs : List GroupTree) → AreGroups gs → p ≡ text_of gs → AreRead p hs → (more : List GroupTree) × (gs ≡ hs ++ more)
-text-front p gs [] are is read = (gs, refl)
-text-front p gs (f ∷ hs) are is read =
-    let ended : IsStop (end_tokens ++ (Done ∷ [])) = inl refl in
-    let lines = lines-append head_tokens (all_tokens group_tokens gs ++ end_tokens) refl (lines-append (all_tokens group_tokens gs) end_tokens (groups-whole gs) refl) in
-    let whole : lex p (At Start) ≡ head_tokens ++ (all_tokens group_tokens gs ++ (end_tokens ++ (Done ∷ []))) =
-    ap (λ (v : List ℕ). lex v (At Start)) is ∙ lines-read (text_tokens gs) (text-tokens gs are) lines ∙ append_assoc head_tokens (all_tokens group_tokens gs ++ end_tokens) (Done ∷ [])
-    ∙ ap (λ (v : List Tok). head_tokens ++ v) (append_assoc (all_tokens group_tokens gs) end_tokens (Done ∷ [])) in
-    let tokens : head_tokens ++ (all_tokens group_tokens gs ++ (end_tokens ++ (Done ∷ []))) ≡ head_tokens ++ (all_tokens group_tokens (f ∷ hs) ++ lex read.0 (At Start)) =
-    sym whole ∙ ap (λ (v : List ℕ). lex v (At Start)) read.1.text ∙ passed-tokens f hs read.0 read.1.fit in
-    elim (groups-once gs (f ∷ hs) (end_tokens ++ (Done ∷ [])) (lex read.0 (At Start)) are read.1.fit ended (ended-stops read.0 read.1.ended) (behind-title _ _ tokens)) [
-      | inl m ↦ ([], end-group m.0 (lex read.0 (At Start)) m.2 (f ∷ hs) gs m.1 ∙ sym (append-nil (f ∷ hs)))
-      | inr m ↦ (m.0, m.1)
-    ]
-
--- a text is that of one list of groups
-pub text-once : (gs hs : List GroupTree) → AreGroups gs → AreGroups hs → text_of gs ≡ text_of hs → gs ≡ hs
-text-once gs hs a b e =
-    let same : Ok (gs, Done ∷ []) ≡ Ok (hs, Done ∷ []) = sym (text-read text_at AreGroups _ text-law text-tokens gs a) ∙ ap (λ (v : List ℕ). text_at (lex v (At Start))) e ∙ text-read text_at AreGroups _ text-law text-tokens hs b in
-    ok-value gs hs (Done ∷ []) (Done ∷ []) same
-
--- ---- fewer groups
-
-all-front : (F : GroupTree → Type 0) (gs hs : List GroupTree) → AllByRecursion F (gs ++ hs) → AllByRecursion F gs × AllByRecursion F hs
-all-front F [] hs h = (tt, h)
-all-front F (g ∷ gs) hs h = let r = all-front F gs hs h.1 in ((h.0, r.0), r.1)
-
-passed-is : (gs : List GroupTree) (g : GroupTree) (more : List GroupTree) → passed (gs ++ g ∷ more) ≡ spell Start (head_tokens ++ all_tokens group_tokens (gs ++ g ∷ more))
-passed-is [] g more = refl
-passed-is (x ∷ gs) g more = refl
-
--- a group stands behind
-no-def : (m : GroupTree) (more : List GroupTree) (rest : List ℕ) → DefFollows (spell Start (all_tokens group_tokens (m ∷ more)) ++ rest) → ⊥
-no-def m more rest d = let first : ◌≡◌ {A = ℕ} 103 100 = ap (λ (w : List ℕ). get_or w 0 0) d.word.spelled in omega arith
-
-pub front-read : (p : List ℕ) (gs : List GroupTree) (g : GroupTree) (more : List GroupTree) → AreRead p (gs ++ g ∷ more) → AreRead p (gs ++ g ∷ [])
-front-read p gs g [] h = h
-front-read p gs g (m ∷ more) h =
-    let hs : List GroupTree = gs ++ g ∷ [] in
-    let whole : gs ++ g ∷ m ∷ more ≡ hs ++ m ∷ more = sym (append_assoc gs (g ∷ []) (m ∷ more)) in
-    let fits = all-front IsGroup hs (m ∷ more) (subst AreGroups whole h.1.fit) in
-    let front : List Tok = head_tokens ++ all_tokens group_tokens hs in
-    let tokens : head_tokens ++ all_tokens group_tokens (gs ++ g ∷ m ∷ more) ≡ front ++ all_tokens group_tokens (m ∷ more) =
-    ap (λ (xs : List GroupTree). head_tokens ++ all_tokens group_tokens xs) whole ∙ ap (λ (v : List Tok). head_tokens ++ v) (groups-append hs (m ∷ more)) ∙ sym (append_assoc head_tokens (all_tokens group_tokens hs) (all_tokens group_tokens (m ∷ more))) in
-    let lines : IsLines front = lines-append head_tokens (all_tokens group_tokens hs) refl (groups-whole hs) in
-    let parts : passed (gs ++ g ∷ m ∷ more) ≡ passed hs ++ spell Start (all_tokens group_tokens (m ∷ more)) =
-    passed-is gs g (m ∷ more) ∙ ap (spell Start) tokens ∙ spell-after_lines front (all_tokens group_tokens (m ∷ more)) lines ∙ ap (λ (v : List ℕ). v ++ spell Start (all_tokens group_tokens (m ∷ more))) (sym (passed-is gs g [])) in (
-      spell Start (all_tokens group_tokens (m ∷ more)) ++ h.0,
-      record {
-        fit = fits.0;
-        text = h.1.text ∙ ap (λ (v : List ℕ). v ++ h.0) parts ∙ append_assoc (passed hs) (spell Start (all_tokens group_tokens (m ∷ more))) h.0;
-        ended = ended-of gs;
-      },
-    )
+-- what is read of the text of proofs is a front of them
+items-front : (ps : List ProofTree) (js : List ItemTree) (r : Progress) → AreProofs ps → r.text ≡ text_of_proofs ps → Given js r → Begins (items ps) js
+items-front ps [] r are is h = (items ps, refl)
+items-front ps (j ∷ js) r are is h =
+    let own = items_tokens [] (items ps) in
+    let us = end_tokens ++ (Done ∷ []) in
+    let vs = lex r.rest (At Start) in
+    let whole : lex (text_of_proofs ps) (At Start) ≡ proofs_tokens ps ++ Done ∷ [] = lines-read (proofs_tokens ps) (proofs-tokens ps are) (proof-text-law.ends ps are) in
+    let split : proofs_tokens ps ++ Done ∷ [] ≡ head_tokens ++ (own ++ us) =
+    append_assoc head_tokens (all_tokens proof_tokens ps ++ end_tokens) (Done ∷ [])
+    ∙ ap (λ (v : List Tok). head_tokens ++ v) (append_assoc (all_tokens proof_tokens ps) end_tokens (Done ∷ []) ∙ ap (λ (v : List Tok). v ++ us) (proofs-items [] ps)) in
+    let tokens : head_tokens ++ (own ++ us) ≡ head_tokens ++ (items_tokens [] (j ∷ js) ++ vs) =
+    sym (whole ∙ split) ∙ sym (ap (λ (v : List ℕ). lex v (At Start)) is) ∙ lexed (j ∷ js) r h ∙ append_assoc head_tokens (items_tokens [] (j ∷ js)) vs in
+    pick (items-once [] (items ps) (j ∷ js) us vs no-code (items-fit ps are) h.fit (λ before g e. inl refl) (stops (j ∷ js) r h) (behind-title _ _ tokens))
   where
-    ended-of : (xs : List GroupTree) → Ended (xs ++ g ∷ []) (spell Start (all_tokens group_tokens (m ∷ more)) ++ h.0)
-    ended-of [] = no-def m more h.0
-    ended-of (x ∷ xs) = no-def m more h.0
+    pick : GoesOn [] (items ps) (j ∷ js) (end_tokens ++ (Done ∷ [])) (lex r.rest (At Start)) ⊎ GoesOn [] (j ∷ js) (items ps) (lex r.rest (At Start)) (end_tokens ++ (Done ∷ [])) → Begins (items ps) (j ∷ js)
+    pick (inl m) = ([], end-item (last_code [] (items ps)) m.0 (lex r.rest (At Start)) m.2 (items ps) (j ∷ js) m.1 ∙ sym (append-nil (j ∷ js)))
+    pick (inr m) = (m.0, m.1)
 
--- each group takes a byte
-each-long : (gs : List GroupTree) → length gs ≤ length (all_tokens group_tokens gs)
-each-long [] = omega arith
-each-long (g ∷ gs) = omega (arith, length-append (group_tokens g) (all_tokens group_tokens gs), each-long gs)
+pub text-front : (p : List ℕ) (ps qs : List ProofTree) → AreProofs ps → p ≡ text_of_proofs ps → AreRead p qs → BeginsWithItems ps qs
+text-front p ps qs are is read = items-front ps (items qs) _ are is (given-items qs _ (as-given p qs read))
 
-pub few-read : (text : List ℕ) (gs : List GroupTree) → AreRead text gs → length gs ≤ length text
-few-read text [] h = omega arith
-few-read text (g ∷ gs) h =
-    let ts : List Tok = head_tokens ++ all_tokens group_tokens (g ∷ gs) in
-    let long = spell-long Start ts (tokens-append head_tokens (all_tokens group_tokens (g ∷ gs)) title-tokens (groups-tokens (g ∷ gs) h.1.fit)) in
-    let all : length text ≡ length (spell Start ts) + length h.0 = ap length h.1.text ∙ length-append (spell Start ts) h.0 in
-    omega (arith, each-long (g ∷ gs), length-append head_tokens (all_tokens group_tokens (g ∷ gs)), long, all)
+-- ---- fewer items
 
--- groups that were given of a text are read of it
-pub given-read : (gs : List GroupTree) (r : Progress) → HasGiven gs r → AreRead r.text gs
-given-read gs r h = (r.rest, record { fit = h.fit; text = h.text; ended = h.ended })
+no-def-first : (own : List Range) (i : ItemTree) (is : List ItemTree) (rest : List ℕ) → AreItems (i ∷ is) → Follows (codes "def") (spell Start (items_tokens own (i ∷ is)) ++ rest) → ⊥
+no-def-first own i is rest h d =
+    let ts = items_tokens own (i ∷ is) in
+    let read : Atom (codes "def") ∷ _ ≡ ts ++ lex rest (At Start) = sym (stands-lex Start (spell Start ts ++ rest) (Atom (codes "def")) d.others (λ n. cc) d.word) ∙ front-lex ts rest (items-whole own (i ∷ is)) (items-real own (i ∷ is) h) in
+    true≢false (ap (goes_on is_def) read ∙ ap (goes_on is_def) (parted own i is (lex rest (At Start))) ∙ first-word i (items_tokens (code_behind own i) is ++ lex rest (At Start)))
+  where
+    first-word : (i : ItemTree) (us : List Tok) → goes_on is_def (item_tokens own i ++ us) ≡ false
+    first-word (Opens g) us = refl
+    first-word (Adds l) us = no-def own l us
 
-pub few-groups : (gs : List GroupTree) (r : Progress) → HasGiven gs r → length gs ≤ length r.text
-few-groups gs r h = few-read r.text gs (given-read gs r h)
+-- the bytes of further items
+abbrev further : List ItemTree → List ItemTree → List ℕ
+further is js = spell Start (items_tokens (last_code [] is) js)
+
+fewer-given : (i : ItemTree) (is js : List ItemTree) (r : Progress) → Given ((i ∷ is) ++ js) r → Given (i ∷ is) (record { text = r.text; rest = further (i ∷ is) js ++ r.rest; place = newlines (passed_items (i ∷ is)) })
+fewer-given i is js r h =
+    let fits = items-fewer (i ∷ is) js h.fit in
+    let front = front_tokens (i ∷ is) in
+    let more = items_tokens (last_code [] (i ∷ is)) js in
+    let tokens : front_tokens ((i ∷ is) ++ js) ≡ front ++ more = ap (λ (v : List Tok). head_tokens ++ v) (tokens-behind [] (i ∷ is) js) ∙ sym (append_assoc head_tokens (items_tokens [] (i ∷ is)) more) in
+    let parts : passed_items ((i ∷ is) ++ js) ≡ passed_items (i ∷ is) ++ further (i ∷ is) js = ap (spell Start) tokens ∙ spell-after_lines front more (front-lines (i ∷ is)) in
+    record {
+      fit = fits.0;
+      start = starts-fewer (i ∷ is) js h.start;
+      text = h.text ∙ ap (λ (v : List ℕ). v ++ r.rest) parts ∙ append_assoc (passed_items (i ∷ is)) (further (i ∷ is) js) r.rest;
+      place = refl;
+      ended = λ before g e. by js fits.1 h.ended before g e;
+    }
+  where
+    by : (js : List ItemTree) → AreItems js → ((before : List ItemTree) (g : GroupTree) → (i ∷ is) ++ js ≡ before ++ Opens g ∷ [] → Follows (codes "def") r.rest → ⊥)
+        → (before : List ItemTree) (g : GroupTree) → i ∷ is ≡ before ++ Opens g ∷ [] → Follows (codes "def") (further (i ∷ is) js ++ r.rest) → ⊥
+    by [] f ended before g e d = ended before g (append-nil (i ∷ is) ∙ e) d
+    by (j ∷ js) f ended before g e d = no-def-first (last_code [] (i ∷ is)) j js r.rest f d
+
+nothing-given : (text : List ℕ) → HasGiven [] (record { text = text; rest = text; place = 0 })
+nothing-given text = record { fit = tt; text = refl; place = refl; ended = λ before g e d. no-item before g e }
+  where
+    no-item : (before : List ItemTree) (g : GroupTree) → [] ≡ before ++ Opens g ∷ [] → ⊥
+    no-item [] g e = cc
+    no-item (i ∷ before) g e = cc
+
+pub front-read : (p : List ℕ) (ps qs : List ProofTree) → AreRead p ps → BeginsWithItems ps qs → AreRead p qs
+front-read p ps [] h b = given-read [] _ (nothing-given p)
+front-read p ps (q ∷ qs) h b =
+    let all = subst (λ (js : List ItemTree). Given js (record { text = p; rest = h.0; place = newlines (passed ps) })) b.1 (given-items ps _ (as-given p ps h)) in
+    given-read (q ∷ qs) _ (items-given (q ∷ qs) _ (fewer-given (Opens q.group) _ b.0 _ all))
+
+-- each item takes a byte
+item-some : (own : List Range) (i : ItemTree) → 1 ≤ length (item_tokens own i)
+item-some own (Opens g) = omega arith
+item-some own (Adds l) = omega (arith, some-line own l)
+
+each-long : (own : List Range) (is : List ItemTree) → length is ≤ length (items_tokens own is)
+each-long own [] = omega arith
+each-long own (i ∷ is) = omega (arith, item-some own i, length-append (item_tokens own i) (items_tokens (code_behind own i) is), each-long (code_behind own i) is)
+
+few-items : (is : List ItemTree) (r : Progress) → Given is r → length is ≤ length r.text
+few-items [] r h = omega arith
+few-items (i ∷ is) r h =
+    let ts : List Tok = front_tokens (i ∷ is) in
+    let all : length r.text ≡ length (spell Start ts) + length r.rest = ap length h.text ∙ length-append (spell Start ts) r.rest in
+    omega (arith, each-long [] (i ∷ is), length-append head_tokens (items_tokens [] (i ∷ is)), spell-long Start ts (front-real (i ∷ is) h.fit), all)
+
+pub few-read : (text : List ℕ) (ps : List ProofTree) → AreRead text ps → length (items ps) ≤ length text
+few-read text ps h = few-items (items ps) _ (given-items ps _ (as-given text ps h))

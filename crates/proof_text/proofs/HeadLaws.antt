@@ -31,7 +31,7 @@ use Rattle.proof_text.specs.inner.Reading.{exit_of, has_atom, are_few_exits, def
 use Rattle.proof_text.proofs.StepLaws.{shrinks, atom-flat, name-law, number-law, address-law, eol-law}
 
 -- a list of items that all lie in a line
-flat-each : {X : Type 0} (F : X → Type 0) (t : X → List Tok) → StaysFlat F t → StaysFlat (AllByRecursion F) (all_tokens t)
+pub flat-each : {X : Type 0} (F : X → Type 0) (t : X → List Tok) → StaysFlat F t → StaysFlat (AllByRecursion F) (all_tokens t)
 flat-each F t flat [] h = tt
 flat-each F t flat (x ∷ xs) h = flat-append (t x) (all_tokens t xs) (flat x h.0) (flat-each F t flat xs h.1)
 
@@ -71,7 +71,7 @@ some x = Some x
 abbrev choose : List ℕ → Bool → Option Exit
 choose a v = cond v (Some Ret) (option_map At (hex_of a))
 
-hex-there : (a : List ℕ) (n : ℕ) → hex_of a ≡ Some n → (a ≡ hex n) × IsNumber n
+pub hex-there : (a : List ℕ) (n : ℕ) → hex_of a ≡ Some n → (a ≡ hex n) × IsNumber n
 hex-there a n e = let h = shows-hex.there (Atom a) n e in (same a (hex n) h.0, h.1)
   where
     same : (a b : List ℕ) → Atom a ≡ Atom b → a ≡ b
@@ -182,14 +182,14 @@ group-name-law = Reads-one (atom_of name_of) IsName (λ a. Atom a) (shows-atom n
 
 -- ---- registers, memories, code
 
-rising-true : (least : ℕ) (rs : List ℕ) → registers_rise least rs ≡ true → AreRegistersFrom least rs
+pub rising-true : (least : ℕ) (rs : List ℕ) → registers_rise least rs ≡ true → AreRegistersFrom least rs
 rising-true least [] e = tt
 rising-true least (r ∷ rs) e =
     let k = both-true (nat_le least r && nat_le r 31) (registers_rise (r + 1) rs) e in
     let l = both-true (nat_le least r) (nat_le r 31) k.0 in
     (le-true least r l.0, le-true r 31 l.1, rising-true (r + 1) rs k.1)
 
-true-rising : (least : ℕ) (rs : List ℕ) → AreRegistersFrom least rs → AllByRecursion (λ n. n < 32) rs × (registers_rise least rs ≡ true)
+pub true-rising : (least : ℕ) (rs : List ℕ) → AreRegistersFrom least rs → AllByRecursion (λ n. n < 32) rs × (registers_rise least rs ≡ true)
 true-rising least [] h = (tt, refl)
 true-rising least (r ∷ rs) h =
     let k = true-rising (r + 1) rs h.2 in
@@ -222,7 +222,7 @@ some-bytes (b ∷ bs) h = omega arith
 pub not-empty : (bs : List ℕ) → 0 < length bs → bs ≡ [] → ⊥
 not-empty bs lt e = let len : length bs ≡ 0 = ap length e in omega (arith, lt, len)
 
-code-true : (least : ℕ) (rs : List Range) → AllByRecursion IsRange rs → ranges_rise least rs ≡ true → AreRangesFrom least rs × AllByRecursion HasBytes rs
+pub code-true : (least : ℕ) (rs : List Range) → AllByRecursion IsRange rs → ranges_rise least rs ≡ true → AreRangesFrom least rs × AllByRecursion HasBytes rs
 code-true least [] h e = (tt, tt)
 code-true least (r ∷ rs) h e =
     let k = both-true (nat_le least r.at && nat_le (r.at + length r.bytes) (2 ^ 64)) (ranges_rise (r.at + length r.bytes + 1) rs) e in
@@ -230,7 +230,7 @@ code-true least (r ∷ rs) h e =
     let m = code-true (r.at + length r.bytes + 1) rs h.1 k.1 in
     ((le-true least r.at l.0, some-bytes r.bytes h.0.1, le-true (r.at + length r.bytes) (2 ^ 64) l.1, m.0), (h.0.1.1, m.1))
 
-true-code : (least : ℕ) (rs : List Range) → AreRangesFrom least rs → AllByRecursion HasBytes rs → AllByRecursion IsRange rs × (ranges_rise least rs ≡ true)
+pub true-code : (least : ℕ) (rs : List Range) → AreRangesFrom least rs → AllByRecursion HasBytes rs → AllByRecursion IsRange rs × (ranges_rise least rs ≡ true)
 true-code least [] h bytes = (tt, refl)
 true-code least (r ∷ rs) h bytes =
     let m = true-code (r.at + length r.bytes + 1) rs h.3 bytes.1 in (

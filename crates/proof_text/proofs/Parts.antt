@@ -11,7 +11,7 @@ use Rattle.proof_text.specs.Spelling.{line, number, address, exit_tokens, values
 use Rattle.proof_text.specs.Parts.{group_texts}
 
 -- ends however it begins
-ends-behind : (t : Tok) (p rest : List Tok) → ((u : Tok) → EndsIn u rest) → EndsIn t (p ++ rest)
+pub ends-behind : (t : Tok) (p rest : List Tok) → ((u : Tok) → EndsIn u rest) → EndsIn t (p ++ rest)
 ends-behind t [] rest h = h t
 ends-behind t (u ∷ p) rest h = ends-behind u p rest h
 
@@ -19,7 +19,7 @@ ends-joined : (t : Tok) (parts : List (List Tok)) → EndsIn t (joined parts (Eo
 ends-joined t [] = refl
 ends-joined t (p ∷ ps) = ends-behind t p (joined ps (Eol ∷ [])) (λ u. ends-joined u ps)
 
-line-whole : (word : List ℕ) (parts : List (List Tok)) → IsLines (line word parts)
+pub line-whole : (word : List ℕ) (parts : List (List Tok)) → IsLines (line word parts)
 line-whole word parts = ends-joined _ parts
 
 step-whole : (s : StepTree) → IsLines (step_tokens s)
@@ -63,14 +63,6 @@ group-whole g =
     (lines-append (line (codes "regs") regs) (line (codes "mems") mems ++ (line (codes "code") code ++ defs)) (line-whole (codes "regs") regs)
     (lines-append (line (codes "mems") mems) (line (codes "code") code ++ defs) (line-whole (codes "mems") mems)
     (lines-append (line (codes "code") code) defs (line-whole (codes "code") code) (defs-whole g.defs))))
-
-pub groups-whole : (gs : List GroupTree) → IsLines (all_tokens group_tokens gs)
-groups-whole [] = tt
-groups-whole (g ∷ gs) = lines-append (group_tokens g) (all_tokens group_tokens gs) (group-whole g) (groups-whole gs)
-
-pub groups-append : (gs hs : List GroupTree) → all_tokens group_tokens (gs ++ hs) ≡ all_tokens group_tokens gs ++ all_tokens group_tokens hs
-groups-append [] hs = refl
-groups-append (g ∷ gs) hs = ap (λ (v : List Tok). group_tokens g ++ v) (groups-append gs hs) ∙ sym (append_assoc (group_tokens g) (all_tokens group_tokens gs) (all_tokens group_tokens hs))
 
 groups-apart : (gs : List GroupTree) → spell Start (all_tokens group_tokens gs ++ end_tokens) ≡ group_texts gs ++ spell Start end_tokens
 groups-apart [] = refl

@@ -1,47 +1,54 @@
--- Reading a whole text, behind the groups that were given.
-use Rattle.std.proofs.Common.{◌≡◌, Bool, true, false, List, [], ◌∷◌, ◌++◌, Option, Some, None, Ok, Err, refl, sym, ap, ◌∙◌, append_assoc}
+-- Reading a whole text, behind the items that were given.
+use Rattle.std.proofs.Common.{◌≡◌, Bool, true, false, List, [], ◌∷◌, ◌++◌, map, Option, Some, None, Ok, Err, refl, sym, ap, ◌∙◌, append_assoc}
 use Rattle.std.proofs.lemmas.List.{append-nil}
-use Rattle.mc_text.specs.Tokens.{Tok, all_tokens}
+use Rattle.mc_text.specs.Tokens.{Tok}
 use Rattle.mc_text.specs.Reading.{◌>>=◌, pair, goes_on}
-use Rattle.mc_text.specs.inner.Reading.{with_prefix}
 use Rattle.mc_text.proofs.Lines.{AreTokens, IsLines}
 use Rattle.mc_text.proofs.ReaderLaws.{Out}
 use Rattle.mc_text.proofs.Covers.{lines-append}
 use Rattle.mc_text.proofs.Shown.{tokens-append}
+use Rattle.rv_words.specs.declared.range.Range.{Range}
 use Rattle.tailrec_lang.specs.Tree.{GroupTree}
-use Rattle.proof_text.specs.Limits.{IsGroup, AreGroups}
+use Rattle.proof_text.specs.Limits.{IsGroup}
+use Rattle.proof_text.specs.Line.{LineTree, ProofTree}
 use Rattle.proof_text.specs.Spelling.{group_tokens, head_tokens}
-use Rattle.proof_text.specs.inner.Reading.{is_def, next_at, title_row, all_groups, text_at, turn_at}
+use Rattle.proof_text.specs.LineSpelling.{line_tokens}
+use Rattle.proof_text.specs.FirstProofs.{ItemTree, Opens, Adds, items}
+use Rattle.proof_text.specs.inner.Reading.{is_def, next_at, title_row, turn_at}
+use Rattle.proof_text.specs.inner.LineReading.{ends_proof, all_proofs, proofs_text_at, turn_of}
+use Rattle.proof_text.proofs.HeadLaws.{IsCode}
 use Rattle.proof_text.proofs.Texts.{title-cover}
-use Rattle.proof_text.proofs.Parts.{group-whole, groups-whole, groups-append}
-use Rattle.proof_text.proofs.Real.{group-tokens, groups-tokens, title-tokens}
-use Rattle.proof_text.proofs.Resumed.{made-bad, made-good, pair-good, pair-bad, next-stops, next-end, next-takes, next-again, OneGroup, all-one, cons}
+use Rattle.proof_text.proofs.Real.{title-tokens}
+use Rattle.proof_text.proofs.ProofTexts.{Tail, no-def}
+use Rattle.proof_text.proofs.TextItems.{item_tokens, items_tokens, last_code, IsItem, AreItems, StartsOpen, tokens-more, last-fits, item-whole, items-whole, item-real, items-real}
+use Rattle.proof_text.proofs.Resumed.{made-bad, made-good, pair-good, with-bad, next-stops, next-end, next-takes, next-again, next-word, OneGroup, Proofs, opened, no_lines, added, rest_at, rest-none, rest-added, rest-refused, ends-no-line, all-one}
 
 -- the tokens of the lines that were passed over
-abbrev pub front_tokens : List GroupTree → List Tok
+abbrev pub front_tokens : List ItemTree → List Tok
 front_tokens [] = []
-front_tokens (g ∷ gs) = head_tokens ++ all_tokens group_tokens (g ∷ gs)
+front_tokens (i ∷ is) = head_tokens ++ items_tokens [] (i ∷ is)
 
 -- the text begins here
-abbrev pub is_first : List GroupTree → Bool
+abbrev pub is_first : List ItemTree → Bool
 is_first [] = true
-is_first (g ∷ gs) = false
+is_first (i ∷ is) = false
 
--- no further definition follows the last group
-abbrev pub Quiet : List GroupTree → List Tok → Type 0
-Quiet [] ts = Unit {0}
-Quiet (g ∷ gs) ts = goes_on is_def ts ≡ false
+-- no further definition follows a group
+abbrev pub Quiet : List ItemTree → List Tok → Type 0
+Quiet is ts = (before : List ItemTree) (g : GroupTree) → is ≡ before ++ Opens g ∷ [] → goes_on is_def ts ≡ false
+
+-- where a group may follow
+abbrev pub MayFollow : List ItemTree → List Tok → Type 0
+MayFollow [] ts = Unit {0}
+MayFollow (i ∷ is) ts = goes_on ends_proof ts ≡ true
 
 -- the tokens of a group, behind the title where the text begins
-abbrev pub turn_tokens : Bool → GroupTree → List Tok
-turn_tokens true g = head_tokens ++ group_tokens g
-turn_tokens false g = group_tokens g
+abbrev pub group_turn : Bool → GroupTree → List Tok
+group_turn true g = head_tokens ++ group_tokens g
+group_turn false g = group_tokens g
 
 abbrev Title : Type 0
 Title = Unit {0} × (Unit {0} × Unit {0})
-
-abbrev Groups : Type 0
-Groups = Out (List GroupTree)
 
 abbrev title : Title
 title = (tt, (tt, tt))
@@ -49,12 +56,12 @@ title = (tt, (tt, tt))
 title-again : (us : List Tok) → title_row (head_tokens ++ us) ≡ Ok (title, us)
 title-again us = title-cover.again title us title
 
-titled : (q : Groups) → ◌>>=◌ {A = (Title × List GroupTree) × List Tok} {B = List GroupTree × List Tok} (◌>>=◌ {A = List GroupTree × List Tok} {B = (Title × List GroupTree) × List Tok} q (λ y. Ok ((title, y.0), y.1))) (λ p. Ok (p.0.1, p.1)) ≡ q
+titled : (q : Proofs) → ◌>>=◌ {A = (Title × List ProofTree) × List Tok} {B = List ProofTree × List Tok} (◌>>=◌ {A = List ProofTree × List Tok} {B = (Title × List ProofTree) × List Tok} q (λ y. Ok ((title, y.0), y.1))) (λ p. Ok (p.0.1, p.1)) ≡ q
 titled (Ok p) = refl
 titled (Err bad) = refl
 
-text-titled : (us : List Tok) → text_at (head_tokens ++ us) ≡ all_groups us
-text-titled us = rw (title-again us) (titled (all_groups us))
+text-titled : (us : List Tok) → proofs_text_at (head_tokens ++ us) ≡ all_proofs us
+text-titled us = rw (title-again us) (titled (all_proofs us))
 
 turn-titled : (us : List Tok) (q : Out (Option GroupTree)) → next_at us ≡ q → turn_at true (head_tokens ++ us) ≡ q
 turn-titled us (Ok p) e = rw (title-again us, e) refl
@@ -62,12 +69,12 @@ turn-titled us (Err bad) e = rw (title-again us, e) refl
 
 -- ---- where the text begins
 
-first-stops : (ts us : List Tok) → turn_at true ts ≡ Err us → text_at ts ≡ Err us
+first-stops : (ts us : List Tok) → turn_at true ts ≡ Err us → proofs_text_at ts ≡ Err us
 first-stops ts us h =
     let parts = made-bad {X = Title × Option GroupTree} {Y = Option GroupTree} (λ x. x.1) (pair title_row next_at ts) us h in
-    rw (pair-bad title_row all_groups next_at ts us next-stops parts) refl
+    rw (with-bad title_row (λ _. all_proofs) next_at ts us (λ _. next-stops) parts) refl
 
-first-end : (ts us : List Tok) → turn_at true ts ≡ Ok (None, us) → text_at ts ≡ Ok ([], us)
+first-end : (ts us : List Tok) → turn_at true ts ≡ Ok (None, us) → proofs_text_at ts ≡ Ok ([], us)
 first-end ts us h =
     let m = made-good {X = Title × Option GroupTree} {Y = Option GroupTree} (λ x. x.1) (pair title_row next_at ts) None us h in
     let p = pair-good title_row next_at ts m.0 us m.1 in
@@ -82,7 +89,7 @@ first-takes ts g us h =
 -- ---- what a call reads
 
 pub record Turn (first : Bool) (ts : List Tok) (g : GroupTree) (us : List Tok) : Type 0 where
-  pub is : ts ≡ turn_tokens first g ++ us
+  pub is : ts ≡ group_turn first g ++ us
   pub fits : IsGroup g
   pub ended : goes_on is_def us ≡ false
 
@@ -92,75 +99,124 @@ turn-takes true ts g us h =
     record { is = k.1 ∙ ap (λ (v : List Tok). head_tokens ++ v) k.2.is ∙ sym (append_assoc head_tokens (group_tokens g) us); fits = k.2.fits; ended = k.2.ended }
 turn-takes false ts g us h = let k = next-takes ts g us h in record { is = k.is; fits = k.fits; ended = k.ended }
 
-pub turn-again : (first : Bool) (g : GroupTree) (us : List Tok) → IsGroup g → goes_on is_def us ≡ false → turn_at first (turn_tokens first g ++ us) ≡ Ok (Some g, us)
+pub turn-again : (first : Bool) (g : GroupTree) (us : List Tok) → IsGroup g → goes_on is_def us ≡ false → turn_at first (group_turn first g ++ us) ≡ Ok (Some g, us)
 turn-again true g us h e = ap (turn_at true) (append_assoc head_tokens (group_tokens g) us) ∙ turn-titled (group_tokens g ++ us) (Ok (Some g, us)) (next-again g us h e)
 turn-again false g us h e = next-again g us h e
 
--- ---- behind groups
+-- ---- behind items
 
-front-is : (q : Groups) → with_prefix [] q ≡ q
-front-is (Ok p) = refl
-front-is (Err bad) = refl
+-- what is read behind items, with them in front
+abbrev joined : List ItemTree → Out Tail → Out Tail
+joined [] q = q
+joined (Opens g ∷ is) q = no_lines (opened g (joined is q))
+joined (Adds l ∷ is) q = added l (joined is q)
 
-front-cons : (g : GroupTree) (gs : List GroupTree) (q : Groups) → cons g (with_prefix gs q) ≡ with_prefix (g ∷ gs) q
-front-cons g gs (Ok p) = refl
-front-cons g gs (Err bad) = refl
+quiet-behind : (own : List Range) (g : GroupTree) (is : List ItemTree) (ts : List Tok) → Quiet (Opens g ∷ is) ts → goes_on is_def (items_tokens own is ++ ts) ≡ false
+quiet-behind own g [] ts q = q [] g refl
+quiet-behind own g (Opens h ∷ is) ts q = refl
+quiet-behind own g (Adds l ∷ is) ts q = ap (goes_on is_def) (append_assoc (line_tokens own l) (items_tokens own is) ts) ∙ no-def own l (items_tokens own is ++ ts)
 
-quiet-behind : (g : GroupTree) (gs : List GroupTree) (ts : List Tok) → Quiet (g ∷ gs) ts → goes_on is_def (all_tokens group_tokens gs ++ ts) ≡ false
-quiet-behind g [] ts q = q
-quiet-behind g (h ∷ gs) ts q = refl
+quiet-rest : (i : ItemTree) (is : List ItemTree) (ts : List Tok) → Quiet (i ∷ is) ts → Quiet is ts
+quiet-rest i is ts q before g e = q (i ∷ before) g (ap (λ (js : List ItemTree). i ∷ js) e)
 
-all-more : (gs : List GroupTree) (ts : List Tok) → AreGroups gs → Quiet gs ts → all_groups (all_tokens group_tokens gs ++ ts) ≡ with_prefix gs (all_groups ts)
-all-more [] ts h q = sym (front-is (all_groups ts))
-all-more (g ∷ gs) ts h q =
-    ap all_groups (append_assoc (group_tokens g) (all_tokens group_tokens gs) ts) ∙ all-one g (all_tokens group_tokens gs ++ ts) h.0 (quiet-behind g gs ts q)
-    ∙ ap (cons g) (all-more gs ts h.1 (quiet-rest gs q)) ∙ front-cons g gs (all_groups ts)
-  where
-    quiet-rest : (gs : List GroupTree) → Quiet (g ∷ gs) ts → Quiet gs ts
-    quiet-rest [] q = tt
-    quiet-rest (h ∷ gs) q = q
+behind-items : (own : List Range) (is : List ItemTree) (ts : List Tok) → IsCode own → AreItems is → Quiet is ts → rest_at own (items_tokens own is ++ ts) ≡ joined is (rest_at (last_code own is) ts)
+behind-items own [] ts fits h q = refl
+behind-items own (Opens g ∷ is) ts fits h q =
+    let more = items_tokens g.code is ++ ts in
+    ap (rest_at own) (append_assoc (group_tokens g) (items_tokens g.code is) ts)
+    ∙ rest-none own (group_tokens g ++ more) refl
+    ∙ ap no_lines (all-one g more h.0 (quiet-behind g.code g is ts q))
+    ∙ ap (λ (r : Out Tail). no_lines (opened g r)) (behind-items g.code is ts (h.0.code, h.0.bytes) h.1 (quiet-rest (Opens g) is ts q))
+behind-items own (Adds l ∷ is) ts fits h q =
+    ap (rest_at own) (append_assoc (line_tokens own l) (items_tokens own is) ts)
+    ∙ rest-added own fits l (items_tokens own is ++ ts) h.0
+    ∙ ap (added l) (behind-items own is ts fits h.1 (quiet-rest (Adds l) is ts q))
 
-behind-front : (g : GroupTree) (gs : List GroupTree) (ts : List Tok) → AreGroups (g ∷ gs) → Quiet (g ∷ gs) ts → text_at (front_tokens (g ∷ gs) ++ ts) ≡ with_prefix (g ∷ gs) (all_groups ts)
-behind-front g gs ts h q = ap text_at (append_assoc head_tokens (all_tokens group_tokens (g ∷ gs)) ts) ∙ text-titled (all_tokens group_tokens (g ∷ gs) ++ ts) ∙ all-more (g ∷ gs) ts h q
+-- the proofs alone
+abbrev only_proofs : Out Tail → Proofs
+only_proofs q = ◌>>=◌ {A = Tail × List Tok} {B = List ProofTree × List Tok} q (λ p. Ok (p.0.1, p.1))
 
--- where a call stops, reading the whole text stops
-pub turn-stops : (gs : List GroupTree) (ts us : List Tok) → AreGroups gs → Quiet gs ts → turn_at (is_first gs) ts ≡ Err us → text_at (front_tokens gs ++ ts) ≡ Err us
-turn-stops [] ts us h q e = first-stops ts us e
-turn-stops (g ∷ gs) ts us h q e = behind-front g gs ts h q ∙ ap (with_prefix (g ∷ gs)) (next-stops ts us e)
+without-lines : (q : Proofs) → q ≡ only_proofs (no_lines q)
+without-lines (Ok p) = refl
+without-lines (Err bad) = refl
 
--- and where a call reads the end, the groups before are all
-pub turn-end : (gs : List GroupTree) (ts us : List Tok) → AreGroups gs → Quiet gs ts → turn_at (is_first gs) ts ≡ Ok (None, us) → text_at (front_tokens gs ++ ts) ≡ Ok (gs, us)
+no-code : IsCode []
+no-code = (tt, tt)
+
+pub behind-front : (i : ItemTree) (is : List ItemTree) (ts : List Tok) → StartsOpen (i ∷ is) → AreItems (i ∷ is) → Quiet (i ∷ is) ts
+    → proofs_text_at (front_tokens (i ∷ is) ++ ts) ≡ only_proofs (joined (i ∷ is) (rest_at (last_code [] (i ∷ is)) ts))
+behind-front (Adds l) is ts s h q = absurd s
+behind-front (Opens g) is ts s h q =
+    let us = items_tokens [] (Opens g ∷ is) ++ ts in
+    ap proofs_text_at (append_assoc head_tokens (items_tokens [] (Opens g ∷ is)) ts) ∙ text-titled us ∙ without-lines (all_proofs us)
+    ∙ ap only_proofs (sym (rest-none [] us refl) ∙ behind-items [] (Opens g ∷ is) ts no-code h q)
+
+joined-bad : (is : List ItemTree) (us : List Tok) → joined is (Err us) ≡ Err us
+joined-bad [] us = refl
+joined-bad (Opens g ∷ is) us = ap (λ (r : Out Tail). no_lines (opened g r)) (joined-bad is us)
+joined-bad (Adds l ∷ is) us = ap (added l) (joined-bad is us)
+
+joined-lines : (ls ms : List LineTree) (is : List ItemTree) (q : Out Tail) (qs : List ProofTree) (us : List Tok) → joined is q ≡ Ok ((ms, qs), us) → joined (map Adds ls ++ is) q ≡ Ok ((ls ++ ms, qs), us)
+joined-lines [] ms is q qs us e = e
+joined-lines (l ∷ ls) ms is q qs us e = ap (added l) (joined-lines ls ms is q qs us e)
+
+joined-end : (ps : List ProofTree) (us : List Tok) → joined (items ps) (Ok (([], []), us)) ≡ Ok (([], ps), us)
+joined-end [] us = refl
+joined-end (p ∷ ps) us =
+    ap (λ (r : Out Tail). no_lines (opened p.group r)) (joined-lines p.lines [] (items ps) (Ok (([], []), us)) ps us (joined-end ps us))
+    ∙ ap (λ (ls : List LineTree). Ok (([], record { group = p.group; lines = ls } ∷ ps), us)) (append-nil p.lines)
+
+-- where the rest can't be read, the whole text can't
+front-stops : (i : ItemTree) (is : List ItemTree) (ts us : List Tok) → StartsOpen (i ∷ is) → AreItems (i ∷ is) → Quiet (i ∷ is) ts → rest_at (last_code [] (i ∷ is)) ts ≡ Err us → proofs_text_at (front_tokens (i ∷ is) ++ ts) ≡ Err us
+front-stops i is ts us s h q e = behind-front i is ts s h q ∙ ap (λ (r : Out Tail). only_proofs (joined (i ∷ is) r)) e ∙ ap only_proofs (joined-bad (i ∷ is) us)
+
+-- where a call for a group stops, reading the whole text stops
+pub turn-stops : (is : List ItemTree) (ts us : List Tok) → StartsOpen is → AreItems is → Quiet is ts → MayFollow is ts → turn_at (is_first is) ts ≡ Err us → proofs_text_at (front_tokens is ++ ts) ≡ Err us
+turn-stops [] ts us s h q m e = first-stops ts us e
+turn-stops (i ∷ is) ts us s h q m e = front-stops i is ts us s h q (rest-none (last_code [] (i ∷ is)) ts (ends-no-line ts m) ∙ ap no_lines (next-stops ts us e))
+
+-- and where it reads the end, the proofs before are all
+pub turn-end : (ps : List ProofTree) (ts us : List Tok) → AreItems (items ps) → Quiet (items ps) ts → turn_at (is_first (items ps)) ts ≡ Ok (None, us) → proofs_text_at (front_tokens (items ps) ++ ts) ≡ Ok (ps, us)
 turn-end [] ts us h q e = first-end ts us e
-turn-end (g ∷ gs) ts us h q e = behind-front g gs ts h q ∙ ap (with_prefix (g ∷ gs)) (next-end ts us e) ∙ ap (λ (xs : List GroupTree). Ok (xs, us)) (append-nil (g ∷ gs))
+turn-end (p ∷ ps) ts us h q e =
+    let is = map Adds p.lines ++ items ps in
+    behind-front (Opens p.group) is ts tt h q
+    ∙ ap (λ (r : Out Tail). only_proofs (joined (Opens p.group ∷ is) r)) (rest-none (last_code p.group.code is) ts (ends-no-line ts (next-word ts None us e)) ∙ ap no_lines (next-end ts us e))
+    ∙ ap only_proofs (joined-end (p ∷ ps) us)
+
+-- where a call for a line stops, reading the whole text stops
+pub line-stops : (i : ItemTree) (is : List ItemTree) (ts us : List Tok) → StartsOpen (i ∷ is) → AreItems (i ∷ is) → Quiet (i ∷ is) ts → turn_of (last_code [] (i ∷ is)) ts ≡ Err us → proofs_text_at (front_tokens (i ∷ is) ++ ts) ≡ Err us
+line-stops i is ts us s h q e = front-stops i is ts us s h q (rest-refused (last_code [] (i ∷ is)) (last-fits [] (i ∷ is) no-code h) ts us e)
 
 -- ---- the tokens are those of whole lines
 
-pub front-lines : (gs : List GroupTree) → AreGroups gs → IsLines (front_tokens gs)
-front-lines [] h = tt
-front-lines (g ∷ gs) h = lines-append head_tokens (all_tokens group_tokens (g ∷ gs)) refl (groups-whole (g ∷ gs))
+pub front-lines : (is : List ItemTree) → IsLines (front_tokens is)
+front-lines [] = tt
+front-lines (i ∷ is) = lines-append head_tokens (items_tokens [] (i ∷ is)) refl (items-whole [] (i ∷ is))
 
-pub front-real : (gs : List GroupTree) → AreGroups gs → AreTokens (front_tokens gs)
+pub front-real : (is : List ItemTree) → AreItems is → AreTokens (front_tokens is)
 front-real [] h = tt
-front-real (g ∷ gs) h = tokens-append head_tokens (all_tokens group_tokens (g ∷ gs)) title-tokens (groups-tokens (g ∷ gs) h)
+front-real (i ∷ is) h = tokens-append head_tokens (items_tokens [] (i ∷ is)) title-tokens (items-real [] (i ∷ is) h)
 
-pub turn-lines : (first : Bool) (g : GroupTree) → IsGroup g → IsLines (turn_tokens first g)
-turn-lines true g h = lines-append head_tokens (group_tokens g) refl (group-whole g)
-turn-lines false g h = group-whole g
+-- the tokens of a further item, behind the title where the text begins
+abbrev pub turn_tokens : List ItemTree → ItemTree → List Tok
+turn_tokens [] i = head_tokens ++ item_tokens [] i
+turn_tokens (j ∷ js) i = item_tokens (last_code [] (j ∷ js)) i
 
-pub turn-real : (first : Bool) (g : GroupTree) → IsGroup g → AreTokens (turn_tokens first g)
-turn-real true g h = tokens-append head_tokens (group_tokens g) title-tokens (group-tokens g h)
-turn-real false g h = group-tokens g h
+pub turn-lines : (is : List ItemTree) (i : ItemTree) → IsLines (turn_tokens is i)
+turn-lines [] i = lines-append head_tokens (item_tokens [] i) refl (item-whole [] i)
+turn-lines (j ∷ js) i = item-whole (last_code [] (j ∷ js)) i
 
-pub front-more : (gs : List GroupTree) (g : GroupTree) → front_tokens (gs ++ g ∷ []) ≡ front_tokens gs ++ turn_tokens (is_first gs) g
-front-more [] g = ap (λ (v : List Tok). head_tokens ++ v) (append-nil (group_tokens g))
-front-more (h ∷ gs) g =
-    ap (λ (v : List Tok). head_tokens ++ v) (groups-append (h ∷ gs) (g ∷ []) ∙ ap (λ (v : List Tok). all_tokens group_tokens (h ∷ gs) ++ v) (append-nil (group_tokens g)))
-    ∙ sym (append_assoc head_tokens (all_tokens group_tokens (h ∷ gs)) (group_tokens g))
+pub turn-real : (is : List ItemTree) (i : ItemTree) → IsItem i → AreTokens (turn_tokens is i)
+turn-real [] i h = tokens-append head_tokens (item_tokens [] i) title-tokens (item-real [] i h)
+turn-real (j ∷ js) i h = item-real (last_code [] (j ∷ js)) i h
 
-pub groups-more : (gs : List GroupTree) (g : GroupTree) → AreGroups gs → IsGroup g → AreGroups (gs ++ g ∷ [])
-groups-more [] g h k = (k, tt)
-groups-more (x ∷ gs) g h k = (h.0, groups-more gs g h.1 k)
+pub front-more : (is : List ItemTree) (i : ItemTree) → front_tokens (is ++ i ∷ []) ≡ front_tokens is ++ turn_tokens is i
+front-more [] i = ap (λ (v : List Tok). head_tokens ++ v) (append-nil (item_tokens [] i))
+front-more (j ∷ js) i =
+    ap (λ (v : List Tok). head_tokens ++ v) (tokens-more [] (j ∷ js) i)
+    ∙ sym (append_assoc head_tokens (items_tokens [] (j ∷ js)) (item_tokens (last_code [] (j ∷ js)) i))
 
-pub groups-fewer : (gs : List GroupTree) (g : GroupTree) → AreGroups (gs ++ g ∷ []) → AreGroups gs × IsGroup g
-groups-fewer [] g h = (tt, h.0)
-groups-fewer (x ∷ gs) g h = let k = groups-fewer gs g h.1 in ((h.0, k.0), k.1)
+pub group-turned : (is : List ItemTree) (g : GroupTree) → turn_tokens is (Opens g) ≡ group_turn (is_first is) g
+group-turned [] g = refl
+group-turned (i ∷ is) g = refl

@@ -15,18 +15,17 @@ use Rattle.tailrec_lang.specs.Tree.{ValuesTree, StepTree, Bind, BindMem, Need, B
 use Rattle.tailrec_lang.specs.Eval.{HasFewNeeds, step_needs, needs, arm_needs}
 use Rattle.tailrec_lang.specs.declared.group.Exit.{Exit}
 use Rattle.tailrec_lang.specs.declared.group.Exit.TheVariants.{At, Ret}
-use Rattle.proof_text.specs.Limits.{IsValues, IsStep, IsBody, AreArms, IsExit, IsDef, AreRegistersFrom, IsGroup, AreGroups}
-use Rattle.proof_text.specs.Spelling.{line, number, address, exit_tokens, values_tokens, arm_count, step_tokens, body_tokens, arm_tokens, def_tokens, group_tokens, head_tokens, end_tokens}
-use Rattle.proof_text.specs.inner.Spelling.{text_tokens}
+use Rattle.proof_text.specs.Limits.{IsValues, IsStep, IsBody, AreArms, IsExit, IsDef, AreRegistersFrom, IsGroup}
+use Rattle.proof_text.specs.Spelling.{line, number, address, exit_tokens, values_tokens, arm_count, step_tokens, body_tokens, arm_tokens, def_tokens, group_tokens, head_tokens}
 use Rattle.proof_text.proofs.HeadLaws.{text-there, HasBytes, not-empty}
 
-eol-tokens : (v : List Tok) → AreTokens v → AreTokens (v ++ Eol ∷ [])
+pub eol-tokens : (v : List Tok) → AreTokens v → AreTokens (v ++ Eol ∷ [])
 eol-tokens v h = tokens-append v (Eol ∷ []) h (tt, tt)
 
 number-tokens : (n : ℕ) → n < 2 ^ 64 → AreTokens (number n)
 number-tokens n h = (decimal-atom n h, tt)
 
-values-tokens : (v : ValuesTree) → IsValues v → AreTokens (values_tokens v)
+pub values-tokens : (v : ValuesTree) → IsValues v → AreTokens (values_tokens v)
 values-tokens v h = tokens-append (all_tokens word_tokens v.words) (Semi ∷ all_tokens mem_tokens v.mems) (tokens-each word_tokens IsWord (λ t k. word-tokens t k.0) v.words h.0) (tt, tokens-each mem_tokens IsMem (λ m k. mem-tokens m k.0) v.mems h.1)
 
 step-tokens : (s : StepTree) → IsStep s → AreTokens (step_tokens s)
@@ -73,7 +72,7 @@ registers-tokens : (least : ℕ) (rs : List ℕ) → AreRegistersFrom least rs �
 registers-tokens least [] h = tt
 registers-tokens least (r ∷ rs) h = (decimal-atom r (omega (arith, h.1)), registers-tokens (r + 1) rs h.2)
 
-ranges-tokens : (least : ℕ) (rs : List Range) → AreRangesFrom least rs → AllByRecursion HasBytes rs → AreTokens (all_tokens range_tokens rs)
+pub ranges-tokens : (least : ℕ) (rs : List Range) → AreRangesFrom least rs → AllByRecursion HasBytes rs → AreTokens (all_tokens range_tokens rs)
 ranges-tokens least [] h k = tt
 ranges-tokens least (r ∷ rs) h k = tokens-append (range_tokens r) (all_tokens range_tokens rs) (range-tokens r (not-empty r.bytes h.1, k.0)) (ranges-tokens (r.at + length r.bytes + 1) rs h.3 k.1)
 
@@ -99,14 +98,8 @@ group-tokens g h =
       ),
     )
 
-pub groups-tokens : (gs : List GroupTree) → AreGroups gs → AreTokens (all_tokens group_tokens gs)
-groups-tokens gs h = tokens-each group_tokens IsGroup group-tokens gs h
-
 pub title-tokens : AreTokens head_tokens
 title-tokens = (text-there (codes "mcproof") refl, (text-there (codes "1") refl, (tt, tt)))
-
-pub text-tokens : (gs : List GroupTree) → AreGroups gs → AreTokens (text_tokens gs)
-text-tokens gs h = tokens-append head_tokens (all_tokens group_tokens gs ++ end_tokens) title-tokens (tokens-append (all_tokens group_tokens gs) end_tokens (groups-tokens gs h) (text-there (codes "end") refl, (tt, tt)))
 
 -- ---- how many Needs
 

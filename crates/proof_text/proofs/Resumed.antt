@@ -1,20 +1,31 @@
--- Reading goes on behind groups that were read, one call a group.
-use Rattle.std.proofs.Common.{◌≡◌, ℕ, zero, suc, ◌≤◌, Bool, true, false, List, [], ◌∷◌, ◌++◌, length, codes, Option, Some, None, Ok, Err, refl, sym, ap, subst, ◌∙◌, arith, append_assoc, length-append, inl, inr}
+-- Reading goes on behind groups and lines that were read, one call for each.
+use Rattle.std.proofs.Common.{◌≡◌, ℕ, suc, ◌≤◌, Bool, true, false, true≢false, cond, List, [], ◌∷◌, ◌++◌, length, codes, Option, Some, None, Ok, Err, refl, sym, ap, subst, ◌∙◌, arith, append_assoc, length-append, inl, inr}
+use Rattle.std.specs.Prelude.{◌&&◌, ◌||◌, not}
 use Rattle.std.specs.List.{AllByRecursion}
 use Rattle.std.specs.Str.{bytes_eq}
 use Rattle.std.proofs.lemmas.Slice.Eq.{bytes_eq-Decides}
 use Rattle.mc_text.specs.Tokens.{Tok, Left, Right, Semi, Atom, Eol, Done, Stuck, all_tokens}
-use Rattle.mc_text.specs.Reading.{Reader, ◌>>=◌, pair, made, many, goes_on, refused}
-use Rattle.mc_text.specs.inner.Reading.{eol, keyed}
+use Rattle.mc_text.specs.Reading.{Reader, ◌>>=◌, pair, with, made, many, one, goes_on, refused}
+use Rattle.mc_text.specs.inner.Reading.{eol, keyed, with_prefix}
 use Rattle.mc_text.proofs.ReaderLaws.{Out, ok-rest, ok-value, err-is, IsElse, keyed-cases, keyed-hit, keyed-miss}
+use Rattle.mc_text.proofs.Star.{star-more, star-fails}
 use Rattle.mc_text.proofs.Turns.{many-one, many-stop, many-none}
+use Rattle.mc_text.proofs.Fuel.{pair-alike}
+use Rattle.rv_words.specs.declared.range.Range.{Range}
 use Rattle.tailrec_lang.specs.Tree.{DefTree, GroupTree}
 use Rattle.proof_text.specs.Limits.{def_limit, IsDef, IsGroup}
+use Rattle.proof_text.specs.Line.{LineTree, ProofTree}
+use Rattle.proof_text.specs.LineLimits.{IsLine}
+use Rattle.proof_text.specs.LineSpelling.{line_tokens}
 use Rattle.proof_text.specs.Spelling.{def_tokens, group_tokens}
-use Rattle.proof_text.specs.inner.Reading.{Head, def_at, is_def, are_some, own_defs, head_at, group_of, group_at, next_at, more_defs, defs_at, groups_at, all_groups}
+use Rattle.proof_text.specs.inner.Reading.{Head, def_at, is_def, are_some, own_defs, head_at, group_of, group_at, next_at, more_defs, defs_at}
+use Rattle.proof_text.specs.inner.LineReading.{line_at, rule_at, rule_head_of, begins_line, ends_proof, lines_at, turn_of, proof_of, proofs_at, all_proofs}
 use Rattle.proof_text.proofs.HeadLaws.{true-le}
 use Rattle.proof_text.proofs.OwnDefs.{Defs, good, bad, guard, judge, sent, many-again, own-takes, own-again, def-refuses}
-use Rattle.proof_text.proofs.Texts.{HeadFits, head_of, head-fits, lines_of_head, head-cover, def-cover, def-begins, group_row, group-split, enough-groups, group_reader, end_row}
+use Rattle.proof_text.proofs.HeadLaws.{IsCode}
+use Rattle.proof_text.proofs.Texts.{HeadFits, head_of, head-fits, lines_of_head, head-cover, def-cover, def-begins, group_row, group-split}
+use Rattle.proof_text.proofs.LineLaws.{line-law}
+use Rattle.proof_text.proofs.ProofTexts.{Tail, tail_at, behind_at, proof_reader, end_row, enough-proofs, line-shrinks, line-begins, lines-no-longer}
 
 -- ---- a reader's parts
 
@@ -46,52 +57,52 @@ module _ {X Y : Type 0} (a : Reader X) (b : Reader Y) where
   pub pair-good : (ts : List Tok) (p : X × Y) (rest : List Tok) → pair a b ts ≡ Ok (p, rest) → (us : List Tok) × (a ts ≡ Ok (p.0, us)) × (b us ≡ Ok (p.1, rest))
   pair-good ts p rest e = both-good (a ts) p rest e
 
--- a pair stops where another stops whose second part is read by b too
-pub pair-bad : {X Y Z : Type 0} (a : Reader X) (b : Reader Y) (c : Reader Z) (ts bad : List Tok) → ((us bad : List Tok) → c us ≡ Err bad → b us ≡ Err bad) → pair a c ts ≡ Err bad → pair a b ts ≡ Err bad
-pair-bad {X} {Y} {Z} a b c ts bad h e = by (a ts) e
+-- reading stops where a pair stops whose second part is read by b too
+pub with-bad : {X Y Z : Type 0} (a : Reader X) (b : X → Reader Y) (c : Reader Z) (ts bad : List Tok) → ((x : X) (us bad : List Tok) → c us ≡ Err bad → b x us ≡ Err bad) → pair a c ts ≡ Err bad → with a b ts ≡ Err bad
+with-bad {X} {Y} {Z} a b c ts bad h e = by (a ts) e
   where
     third : (x : X) (q : Out Z) (bad : List Tok) → ◌>>=◌ {A = Z × List Tok} {B = (X × Z) × List Tok} q (λ y. Ok ((x, y.0), y.1)) ≡ Err bad → q ≡ Err bad
     third x (Ok y) bad e = absurd cc
     third x (Err other) bad e = ap (λ (v : List Tok). Err v) (err-is {Y = X × Z} other bad e)
 
     by : (q : Out X) → ◌>>=◌ {A = X × List Tok} {B = (X × Z) × List Tok} q (λ p. ◌>>=◌ {A = Z × List Tok} {B = (X × Z) × List Tok} (c p.1) (λ y. Ok ((p.0, y.0), y.1))) ≡ Err bad
-        → ◌>>=◌ {A = X × List Tok} {B = (X × Y) × List Tok} q (λ p. ◌>>=◌ {A = Y × List Tok} {B = (X × Y) × List Tok} (b p.1) (λ y. Ok ((p.0, y.0), y.1))) ≡ Err bad
-    by (Ok x) e = ap (λ (q : Out Y). ◌>>=◌ {A = Y × List Tok} {B = (X × Y) × List Tok} q (λ y. Ok ((x.0, y.0), y.1))) (h x.1 bad (third x.0 (c x.1) bad e))
+        → ◌>>=◌ {A = X × List Tok} {B = (X × Y) × List Tok} q (λ p. ◌>>=◌ {A = Y × List Tok} {B = (X × Y) × List Tok} (b p.0 p.1) (λ y. Ok ((p.0, y.0), y.1))) ≡ Err bad
+    by (Ok x) e = ap (λ (q : Out Y). ◌>>=◌ {A = Y × List Tok} {B = (X × Y) × List Tok} q (λ y. Ok ((x.0, y.0), y.1))) (h x.0 x.1 bad (third x.0 (c x.1) bad e))
     by (Err other) e = ap (λ (v : List Tok). Err v) (err-is {Y = X × Z} other bad e)
 
--- ---- where one group stops, all groups stop
+-- ---- where one group stops, all proofs stop
 
-abbrev Groups : Type 0
-Groups = Out (List GroupTree)
+abbrev pub Proofs : Type 0
+Proofs = Out (List ProofTree)
 
 abbrev joined : DefTree → Defs → Defs
 joined d q = ◌>>=◌ {A = List DefTree × List Tok} {B = List DefTree × List Tok} q (λ xs. Ok (d ∷ xs.0, xs.1))
 
-module _ (R : Reader (List GroupTree)) (refuse : (us : List Tok) → goes_on is_def us ≡ true → R us ≡ Err us) where
+module _ {Z : Type 0} (R : Reader Z) (refuse : (us : List Tok) → goes_on is_def us ≡ true → R us ≡ Err us) where
   abbrev Behind : Type 0
-  Behind = Out (List DefTree × List GroupTree)
+  Behind = Out (List DefTree × Z)
 
-  abbrev with_groups : Defs → Behind
-  with_groups q = ◌>>=◌ {A = List DefTree × List Tok} {B = (List DefTree × List GroupTree) × List Tok} q (λ p. ◌>>=◌ {A = List GroupTree × List Tok} {B = (List DefTree × List GroupTree) × List Tok} (R p.1) (λ y. Ok ((p.0, y.0), y.1)))
+  abbrev with_more : Defs → Behind
+  with_more q = ◌>>=◌ {A = List DefTree × List Tok} {B = (List DefTree × Z) × List Tok} q (λ p. ◌>>=◌ {A = Z × List Tok} {B = (List DefTree × Z) × List Tok} (R p.1) (λ y. Ok ((p.0, y.0), y.1)))
 
   not-bad : (p : List DefTree × List Tok) (us : List Tok) → good p ≡ bad us → ⊥
   not-bad p us e = cc
 
-  rest-stops : (d : DefTree) (q : Defs) (us : List Tok) → judge (guard (joined d q)) ≡ Err us → with_groups q ≡ Err us
+  rest-stops : (d : DefTree) (q : Defs) (us : List Tok) → judge (guard (joined d q)) ≡ Err us → with_more q ≡ Err us
   rest-stops d (Ok p) us h = by (goes_on is_def p.1) refl
     where
       some-is : are_some (d ∷ p.0) ≡ true
       some-is = true-le 1 (length (d ∷ p.0)) (omega arith)
 
-      by : (g : Bool) → goes_on is_def p.1 ≡ g → with_groups (good p) ≡ Err us
+      by : (g : Bool) → goes_on is_def p.1 ≡ g → with_more (good p) ≡ Err us
       by true e =
           let same : p.1 ≡ us = err-is {Y = List DefTree} p.1 us (sym (sent (d ∷ p.0) p.1 true true e some-is) ∙ h) in
           rw (refuse p.1 e) (ap (λ (v : List Tok). Err v) same)
       by false e = absurd (not-bad (d ∷ p.0, p.1) us (sym (sent (d ∷ p.0) p.1 false true e some-is) ∙ h))
   rest-stops d (Err other) us h = ap (λ (v : List Tok). Err v) (err-is {Y = List DefTree} other us h)
 
-  abbrev front : Out DefTree → Out (DefTree × (List DefTree × List GroupTree))
-  front q = ◌>>=◌ {A = DefTree × List Tok} {B = (DefTree × (List DefTree × List GroupTree)) × List Tok} q (λ p. ◌>>=◌ {A = (List DefTree × List GroupTree) × List Tok} {B = (DefTree × (List DefTree × List GroupTree)) × List Tok} (pair defs_at R p.1) (λ y. Ok ((p.0, y.0), y.1)))
+  abbrev front : Out DefTree → Out (DefTree × (List DefTree × Z))
+  front q = ◌>>=◌ {A = DefTree × List Tok} {B = (DefTree × (List DefTree × Z)) × List Tok} q (λ p. ◌>>=◌ {A = (List DefTree × Z) × List Tok} {B = (DefTree × (List DefTree × Z)) × List Tok} (pair defs_at R p.1) (λ y. Ok ((p.0, y.0), y.1)))
 
   defs-stop : (ts us : List Tok) (q : Out DefTree) → goes_on is_def ts ≡ true → def_at ts ≡ q → own_defs ts ≡ Err us → front q ≡ Err us
   defs-stop ts us (Ok p) g e h =
@@ -108,27 +119,29 @@ module _ (R : Reader (List GroupTree)) (refuse : (us : List Tok) → goes_on is_
           let same : ts ≡ us = err-is {Y = List DefTree} ts us (sym (ap (λ (q : Defs). judge (guard q)) (many-none is_def def_at def_limit ts g) ∙ sent [] ts false false g refl) ∙ h) in
           rw (def-refuses ts g) (ap (λ (v : List Tok). Err v) same)
 
--- no group begins with a definition
-refuse-atom : (n : ℕ) (a : List ℕ) (us : List Tok) → bytes_eq a (codes "def") ≡ true → groups_at n (Atom a ∷ us) ≡ Err (Atom a ∷ us)
-unfolding groups_at
-refuse-atom zero a us e = let same : a ≡ codes "def" = (bytes_eq-Decides a (codes "def")).0 e in rw same refl
-refuse-atom (suc n) a us e = let same : a ≡ codes "def" = (bytes_eq-Decides a (codes "def")).0 e in rw same refl
+-- no line begins as a definition does
+def-no-line : (own : List Range) (us : List Tok) → line_at own (Atom (codes "def") ∷ us) ≡ Err (Atom (codes "def") ∷ us)
+unfolding line_at rule_at rule_head_of one
+def-no-line own us = refl
 
-refuse-def : (n : ℕ) (us : List Tok) → goes_on is_def us ≡ true → groups_at n us ≡ Err us
-refuse-def n [] e = absurd cc
-refuse-def n (Atom a ∷ us) e = refuse-atom n a us e
-refuse-def n (Left ∷ us) e = absurd cc
-refuse-def n (Right ∷ us) e = absurd cc
-refuse-def n (Semi ∷ us) e = absurd cc
-refuse-def n (Eol ∷ us) e = absurd cc
-refuse-def n (Done ∷ us) e = absurd cc
-refuse-def n (Stuck ∷ us) e = absurd cc
+refuse-word : (own : List Range) (n : ℕ) (us : List Tok) → pair (lines_at own) (proofs_at n) (Atom (codes "def") ∷ us) ≡ Err (Atom (codes "def") ∷ us)
+refuse-word own n us = rw (many-stop begins_line (line_at own) (length us) (Atom (codes "def") ∷ us) (Atom (codes "def") ∷ us) refl (def-no-line own us)) refl
 
-group-stops : (n : ℕ) (ts us : List Tok) → group_at ts ≡ Err us → group_reader n ts ≡ Err us
+refuse-def : (own : List Range) (n : ℕ) (us : List Tok) → goes_on is_def us ≡ true → pair (lines_at own) (proofs_at n) us ≡ Err us
+refuse-def own n [] e = absurd cc
+refuse-def own n (Atom a ∷ us) e = let same : a ≡ codes "def" = (bytes_eq-Decides a (codes "def")).0 e in rw same (refuse-word own n us)
+refuse-def own n (Left ∷ us) e = absurd cc
+refuse-def own n (Right ∷ us) e = absurd cc
+refuse-def own n (Semi ∷ us) e = absurd cc
+refuse-def own n (Eol ∷ us) e = absurd cc
+refuse-def own n (Done ∷ us) e = absurd cc
+refuse-def own n (Stuck ∷ us) e = absurd cc
+
+group-stops : (n : ℕ) (ts us : List Tok) → group_at ts ≡ Err us → proof_reader n ts ≡ Err us
 unfolding group_at
 group-stops n ts us h =
     let parts : pair head_at own_defs ts ≡ Err us = made-bad {X = Head × List DefTree} {Y = GroupTree} (λ x. group_of x.0 x.1) (pair head_at own_defs ts) us h in
-    rw (pair-bad head_at (pair def_at (pair defs_at (groups_at n))) own_defs ts us (λ vs bad. own-stops (groups_at n) (refuse-def n) vs bad) parts) refl
+    rw (with-bad head_at (λ x. behind_at x n) own_defs ts us (λ x vs bad. own-stops (tail_at x n) (refuse-def x.code n) vs bad) parts) refl
 
 abbrev some_group : Reader (Option GroupTree)
 some_group = made Some group_at
@@ -150,34 +163,34 @@ else-alike k r other q more (Eol ∷ ts) h = tt
 else-alike k r other q more (Done ∷ ts) h = tt
 else-alike k r other q more (Stuck ∷ ts) h = tt
 
-abbrev groups_key : ℕ → Reader (List GroupTree)
-groups_key n = keyed (codes "group") (group_reader n) refused
+abbrev proofs_key : ℕ → Reader (List ProofTree)
+proofs_key n = keyed (codes "group") (proof_reader n) refused
 
-as-keys : (n : ℕ) (ts : List Tok) → groups_at (suc n) ts ≡ keyed (codes "end") end_row (groups_key n) ts
-unfolding groups_at
+as-keys : (n : ℕ) (ts : List Tok) → proofs_at (suc n) ts ≡ keyed (codes "end") end_row (proofs_key n) ts
+unfolding proofs_at
 as-keys n ts = refl
 
-more-groups : (n : ℕ) (ts : List Tok) → length ts ≤ n → all_groups ts ≡ groups_at n ts
-more-groups n ts le = enough-groups (length ts) n ts (omega arith) le
+more-proofs : (n : ℕ) (ts : List Tok) → length ts ≤ n → all_proofs ts ≡ proofs_at n ts
+more-proofs n ts le = enough-proofs (length ts) n ts (omega arith) le
 
-in-keys : (ts : List Tok) → all_groups ts ≡ keyed (codes "end") end_row (groups_key (length ts)) ts
-in-keys ts = more-groups (suc (length ts)) ts (omega arith) ∙ as-keys (length ts) ts
+in-keys : (ts : List Tok) → all_proofs ts ≡ keyed (codes "end") end_row (proofs_key (length ts)) ts
+in-keys ts = more-proofs (suc (length ts)) ts (omega arith) ∙ as-keys (length ts) ts
 
-key-stops : (n : ℕ) (ts us : List Tok) → group_key ts ≡ Err us → groups_key n ts ≡ Err us
+key-stops : (n : ℕ) (ts us : List Tok) → group_key ts ≡ Err us → proofs_key n ts ≡ Err us
 key-stops n ts us h =
     elim (keyed-cases (codes "group") some_group refused ts (Err us) h) [
-      | inl k ↦ ap (groups_key n) k.1 ∙ keyed-hit (codes "group") (group_reader n) refused k.0 ∙ group-stops n k.0 us (made-bad {X = GroupTree} {Y = Option GroupTree} Some (group_at k.0) us k.2)
-      | inr k ↦ keyed-miss (codes "group") (group_reader n) refused ts (else-alike (codes "group") some_group refused (group_reader n) refused ts k.0) ∙ ap (λ (v : List Tok). Err v) (err-is {Y = Option GroupTree} ts us k.1)
+      | inl k ↦ ap (proofs_key n) k.1 ∙ keyed-hit (codes "group") (proof_reader n) refused k.0 ∙ group-stops n k.0 us (made-bad {X = GroupTree} {Y = Option GroupTree} Some (group_at k.0) us k.2)
+      | inr k ↦ keyed-miss (codes "group") (proof_reader n) refused ts (else-alike (codes "group") some_group refused (proof_reader n) refused ts k.0) ∙ ap (λ (v : List Tok). Err v) (err-is {Y = Option GroupTree} ts us k.1)
     ]
 
-pub next-stops : (ts us : List Tok) → next_at ts ≡ Err us → all_groups ts ≡ Err us
+pub next-stops : (ts us : List Tok) → next_at ts ≡ Err us → all_proofs ts ≡ Err us
 unfolding next_at
 next-stops ts us h =
     let n : ℕ = length ts in
     in-keys ts ∙
     elim (keyed-cases (codes "end") no_group group_key ts (Err us) h) [
-      | inl k ↦ ap (keyed (codes "end") end_row (groups_key n)) k.1 ∙ keyed-hit (codes "end") end_row (groups_key n) k.0 ∙ rw (made-bad {X = Unit {0}} {Y = Option GroupTree} (λ _. None) (eol k.0) us k.2) refl
-      | inr k ↦ keyed-miss (codes "end") end_row (groups_key n) ts (else-alike (codes "end") no_group group_key end_row (groups_key n) ts k.0) ∙ key-stops n ts us k.1
+      | inl k ↦ ap (keyed (codes "end") end_row (proofs_key n)) k.1 ∙ keyed-hit (codes "end") end_row (proofs_key n) k.0 ∙ rw (made-bad {X = Unit {0}} {Y = Option GroupTree} (λ _. None) (eol k.0) us k.2) refl
+      | inr k ↦ keyed-miss (codes "end") end_row (proofs_key n) ts (else-alike (codes "end") no_group group_key end_row (proofs_key n) ts k.0) ∙ key-stops n ts us k.1
     ]
 
 not-none : (g : GroupTree) → Some g ≡ None → ⊥
@@ -196,13 +209,13 @@ no-end ts us h =
       | inr k ↦ never-read ts us None k.1
     ]
 
-pub next-end : (ts us : List Tok) → next_at ts ≡ Ok (None, us) → all_groups ts ≡ Ok ([], us)
+pub next-end : (ts us : List Tok) → next_at ts ≡ Ok (None, us) → all_proofs ts ≡ Ok ([], us)
 unfolding next_at
 next-end ts us h =
     let n : ℕ = length ts in
     in-keys ts ∙
     elim (keyed-cases (codes "end") no_group group_key ts (Ok (None, us)) h) [
-      | inl k ↦ ap (keyed (codes "end") end_row (groups_key n)) k.1 ∙ keyed-hit (codes "end") end_row (groups_key n) k.0 ∙ rw (made-good {X = Unit {0}} {Y = Option GroupTree} (λ _. None) (eol k.0) None us k.2).1 refl
+      | inl k ↦ ap (keyed (codes "end") end_row (proofs_key n)) k.1 ∙ keyed-hit (codes "end") end_row (proofs_key n) k.0 ∙ rw (made-good {X = Unit {0}} {Y = Option GroupTree} (λ _. None) (eol k.0) None us k.2).1 refl
       | inr k ↦ absurd (no-end ts us k.1)
     ]
 
@@ -264,40 +277,221 @@ as-some vs = refl
 pub next-again : (g : GroupTree) (us : List Tok) → IsGroup g → goes_on is_def us ≡ false → next_at (group_tokens g ++ us) ≡ Ok (Some g, us)
 next-again g us h e = as-some (group_row g ++ us) ∙ rw (group-again g us h e) refl
 
-abbrev pub cons : GroupTree → Groups → Groups
-cons g q = ◌>>=◌ {A = List GroupTree × List Tok} {B = List GroupTree × List Tok} q (λ p. Ok (g ∷ p.0, p.1))
+-- ---- behind the first word of a group
 
-abbrev put : Head → DefTree → List DefTree → Groups → Groups
-put h d ds q = ◌>>=◌ {A = (Head × (DefTree × (List DefTree × List GroupTree))) × List Tok} {B = List GroupTree × List Tok}
-    (◌>>=◌ {A = (DefTree × (List DefTree × List GroupTree)) × List Tok} {B = (Head × (DefTree × (List DefTree × List GroupTree))) × List Tok}
-    (◌>>=◌ {A = (List DefTree × List GroupTree) × List Tok} {B = (DefTree × (List DefTree × List GroupTree)) × List Tok}
-    (◌>>=◌ {A = List GroupTree × List Tok} {B = (List DefTree × List GroupTree) × List Tok} q (λ p. Ok ((ds, p.0), p.1))) (λ p. Ok ((d, p.0), p.1))) (λ p. Ok ((h, p.0), p.1))) (λ p. Ok (group_of p.0.0 (p.0.1.0 ∷ p.0.1.1.0) ∷ p.0.1.1.1, p.1))
+-- a proof in front, of which lines follow
+abbrev pub opened : GroupTree → Out Tail → Proofs
+opened g q = ◌>>=◌ {A = Tail × List Tok} {B = List ProofTree × List Tok} q (λ p. Ok (record { group = g; lines = p.0.0 } ∷ p.0.1, p.1))
 
-put-is : (h : Head) (d : DefTree) (ds : List DefTree) (q : Groups) → put h d ds q ≡ cons (group_of h (d ∷ ds)) q
+abbrev GroupTail : Type 0
+GroupTail = DefTree × (List DefTree × Tail)
+
+abbrev put : Head → DefTree → List DefTree → Out Tail → Proofs
+put h d ds q = ◌>>=◌ {A = (Head × GroupTail) × List Tok} {B = List ProofTree × List Tok}
+    (◌>>=◌ {A = GroupTail × List Tok} {B = (Head × GroupTail) × List Tok}
+    (◌>>=◌ {A = (List DefTree × Tail) × List Tok} {B = GroupTail × List Tok}
+    (◌>>=◌ {A = Tail × List Tok} {B = (List DefTree × Tail) × List Tok} q (λ p. Ok ((ds, p.0), p.1))) (λ p. Ok ((d, p.0), p.1))) (λ p. Ok ((h, p.0), p.1))) (λ p. Ok (proof_of p.0.0 (p.0.1.0 ∷ p.0.1.1.0) p.0.1.1.1.0 ∷ p.0.1.1.1.1, p.1))
+
+put-is : (h : Head) (d : DefTree) (ds : List DefTree) (q : Out Tail) → put h d ds q ≡ opened (group_of h (d ∷ ds)) q
 put-is h d ds (Ok p) = refl
 put-is h d ds (Err bad) = refl
 
 reader-again : (n : ℕ) (h : Head) (d : DefTree) (ds : List DefTree) (us : List Tok) → HeadFits h → IsDef d → AllByRecursion IsDef ds → length ds ≤ more_defs → goes_on is_def us ≡ false
-    → group_reader n (lines_of_head h ++ ((def_tokens d ++ all_tokens def_tokens ds) ++ us)) ≡ cons (group_of h (d ∷ ds)) (groups_at n us)
+    → proof_reader n (lines_of_head h ++ ((def_tokens d ++ all_tokens def_tokens ds) ++ us)) ≡ opened (group_of h (d ∷ ds)) (tail_at h n us)
 reader-again n h d ds us fh fd fds le e =
     rw (head-cover.again h ((def_tokens d ++ all_tokens def_tokens ds) ++ us) fh, append_assoc (def_tokens d) (all_tokens def_tokens ds) us, def-cover.again d (all_tokens def_tokens ds ++ us) fd, many-again is_def def_at IsDef def_tokens def-cover def-begins more_defs ds us fds le e)
-    (put-is h d ds (groups_at n us))
+    (put-is h d ds (tail_at h n us))
 
-as-group : (n : ℕ) (vs : List Tok) → groups_at (suc n) (Atom (codes "group") ∷ vs) ≡ group_reader n vs
-unfolding groups_at
-as-group n vs = refl
+as-proof : (n : ℕ) (vs : List Tok) → proofs_at (suc n) (Atom (codes "group") ∷ vs) ≡ proof_reader n vs
+unfolding proofs_at
+as-proof n vs = refl
 
 -- a group in front
-one-more : (n : ℕ) (g : GroupTree) (ds : List DefTree) (us : List Tok) → g.defs ≡ ds → IsGroup g → goes_on is_def us ≡ false → groups_at (suc n) (group_tokens g ++ us) ≡ cons g (groups_at n us)
+one-more : (n : ℕ) (g : GroupTree) (ds : List DefTree) (us : List Tok) → g.defs ≡ ds → IsGroup g → goes_on is_def us ≡ false → proofs_at (suc n) (group_tokens g ++ us) ≡ opened g (tail_at (head_of g) n us)
 one-more n g [] us is h e = absurd (let len : length g.defs ≡ 0 = ap length is in omega (arith, h.some, len))
 one-more n g (d ∷ ds) us is h e =
     let fits : AllByRecursion IsDef (d ∷ ds) = subst (AllByRecursion IsDef) is h.defs in
     let len : length g.defs ≡ suc (length ds) = ap length is in
-    as-group n (group_row g ++ us) ∙ ap (group_reader n) (group-parts g us ∙ ap (λ (v : List DefTree). lines_of_head (head_of g) ++ (all_tokens def_tokens v ++ us)) is)
+    as-proof n (group_row g ++ us) ∙ ap (proof_reader n) (group-parts g us ∙ ap (λ (v : List DefTree). lines_of_head (head_of g) ++ (all_tokens def_tokens v ++ us)) is)
     ∙ reader-again n (head_of g) d ds us (head-fits g h) fits.0 fits.1 (omega (arith, h.few, len)) e
-    ∙ ap (λ (v : List DefTree). cons (group_of (head_of g) v) (groups_at n us)) (sym is)
+    ∙ ap (λ (v : List DefTree). opened (group_of (head_of g) v) (tail_at (head_of g) n us)) (sym is)
 
-pub all-one : (g : GroupTree) (us : List Tok) → IsGroup g → goes_on is_def us ≡ false → all_groups (group_tokens g ++ us) ≡ cons g (all_groups us)
+-- ---- behind items
+
+-- further lines of the group of that code, and all proofs behind
+abbrev pub rest_at : List Range → Reader Tail
+rest_at own = pair (lines_at own) all_proofs
+
+tail-is : (n : ℕ) (g : GroupTree) (us : List Tok) → IsGroup g → length us ≤ n → tail_at (head_of g) n us ≡ rest_at g.code us
+tail-is n g us h le = pair-alike (lines_at g.code) (lines-no-longer (head_of g) (head-fits g h)) (proofs_at n) all_proofs us (λ xs lx. sym (more-proofs n xs (omega (arith, le, lx))))
+
+pub all-one : (g : GroupTree) (us : List Tok) → IsGroup g → goes_on is_def us ≡ false → all_proofs (group_tokens g ++ us) ≡ opened g (rest_at g.code us)
 all-one g us h e =
     let n : ℕ = length (group_tokens g ++ us) in
-    more-groups (suc n) (group_tokens g ++ us) (omega arith) ∙ one-more n g g.defs us refl h e ∙ ap (cons g) (sym (more-groups n us (omega (arith, length-append (group_tokens g) us))))
+    more-proofs (suc n) (group_tokens g ++ us) (omega arith) ∙ one-more n g g.defs us refl h e ∙ ap (opened g) (tail-is n g us h (omega (arith, length-append (group_tokens g) us)))
+
+-- no lines in front
+abbrev pub no_lines : Proofs → Out Tail
+no_lines q = ◌>>=◌ {A = List ProofTree × List Tok} {B = Tail × List Tok} q (λ p. Ok (([], p.0), p.1))
+
+-- a line in front
+abbrev pub added : LineTree → Out Tail → Out Tail
+added l q = ◌>>=◌ {A = Tail × List Tok} {B = Tail × List Tok} q (λ p. Ok ((l ∷ p.0.0, p.0.1), p.1))
+
+pub rest-none : (own : List Range) (ts : List Tok) → goes_on begins_line ts ≡ false → rest_at own ts ≡ no_lines (all_proofs ts)
+rest-none own ts e = rw (many-none begins_line (line_at own) (length ts) ts e) refl
+
+abbrev Lines : Type 0
+Lines = Out (List LineTree)
+
+abbrev behind_lines : Lines → Out Tail
+behind_lines q = ◌>>=◌ {A = List LineTree × List Tok} {B = Tail × List Tok} q (λ p. ◌>>=◌ {A = List ProofTree × List Tok} {B = Tail × List Tok} (all_proofs p.1) (λ y. Ok ((p.0, y.0), y.1)))
+
+front-is : (q : Lines) → with_prefix [] q ≡ q
+front-is (Ok p) = refl
+front-is (Err bad) = refl
+
+line-in-front : (l : LineTree) (ls : List LineTree) (q : Proofs) → ◌>>=◌ {A = List ProofTree × List Tok} {B = Tail × List Tok} q (λ y. Ok ((l ∷ ls, y.0), y.1)) ≡ added l (◌>>=◌ {A = List ProofTree × List Tok} {B = Tail × List Tok} q (λ y. Ok ((ls, y.0), y.1)))
+line-in-front l ls (Ok y) = refl
+line-in-front l ls (Err bad) = refl
+
+lines-in-front : (l : LineTree) (q : Lines) → behind_lines (with_prefix (l ∷ []) q) ≡ added l (behind_lines q)
+lines-in-front l (Ok p) = line-in-front l p.0 (all_proofs p.1)
+lines-in-front l (Err bad) = refl
+
+-- ---- first words
+
+-- a line doesn't begin as a group does, or the end
+pub ends-no-line : (ts : List Tok) → goes_on ends_proof ts ≡ true → goes_on begins_line ts ≡ false
+ends-no-line [] e = absurd (true≢false (sym e))
+ends-no-line (Atom a ∷ ts) e = one-of (bytes_eq a (codes "group")) (bytes_eq a (codes "end")) e
+  where
+    one-of : (g f : Bool) → g || f ≡ true → not g && not f ≡ false
+    one-of true f e = refl
+    one-of false true e = refl
+    one-of false false e = absurd (true≢false (sym e))
+ends-no-line (Left ∷ ts) e = absurd (true≢false (sym e))
+ends-no-line (Right ∷ ts) e = absurd (true≢false (sym e))
+ends-no-line (Semi ∷ ts) e = absurd (true≢false (sym e))
+ends-no-line (Eol ∷ ts) e = absurd (true≢false (sym e))
+ends-no-line (Done ∷ ts) e = absurd (true≢false (sym e))
+ends-no-line (Stuck ∷ ts) e = absurd (true≢false (sym e))
+
+pub goes-on-line : (ts : List Tok) → goes_on begins_line ts ≡ true → goes_on ends_proof ts ≡ false
+goes-on-line ts b = by (goes_on ends_proof ts) refl
+  where
+    by : (e : Bool) → goes_on ends_proof ts ≡ e → goes_on ends_proof ts ≡ false
+    by true e = absurd (true≢false (sym b ∙ ends-no-line ts e))
+    by false e = e
+
+pub ends-nothing : (own : List Range) (ts : List Tok) → goes_on ends_proof ts ≡ true → turn_of own ts ≡ Ok (None, ts)
+ends-nothing own ts e = rw e refl
+
+-- where a call reads a group or the end, no line stands
+word-first : (k : List ℕ) (ts us : List Tok) → (bytes_eq k (codes "group") || bytes_eq k (codes "end")) ≡ true → ts ≡ Atom k ∷ us → goes_on ends_proof ts ≡ true
+word-first k ts us e is = ap (goes_on ends_proof) is ∙ e
+
+pub next-word : (ts : List Tok) (o : Option GroupTree) (us : List Tok) → next_at ts ≡ Ok (o, us) → goes_on ends_proof ts ≡ true
+unfolding next_at
+next-word ts o us h =
+    elim (keyed-cases (codes "end") no_group group_key ts (Ok (o, us)) h) [
+      | inl k ↦ word-first (codes "end") ts k.0 refl k.1
+      | inr k ↦ elim (keyed-cases (codes "group") some_group refused ts (Ok (o, us)) k.1) [
+        | inl m ↦ word-first (codes "group") ts m.0 refl m.1
+        | inr m ↦ absurd (never-read ts us o m.1)
+      ]
+    ]
+
+pub record OneLine (own : List Range) (ts : List Tok) (l : LineTree) (us : List Tok) : Type 0 where
+  pub is : ts ≡ line_tokens own l ++ us
+  pub fits : IsLine l
+
+module _ (own : List Range) (fits : IsCode own) where
+  pub rest-added : (l : LineTree) (us : List Tok) → IsLine l → rest_at own (line_tokens own l ++ us) ≡ added l (rest_at own us)
+  rest-added l us h =
+      let ts = line_tokens own l ++ us in
+      ap behind_lines (sym (star-more begins_line (line_at own) (line-shrinks own fits) [] ts l us _ (line-begins own l us) ((line-law own fits).again l us h) (front-is (lines_at own ts)))) ∙ lines-in-front l (lines_at own us)
+
+  -- ---- where a line stops
+
+  line-at-stops : (ts us : List Tok) → goes_on begins_line ts ≡ true → line_at own ts ≡ Err us → rest_at own ts ≡ Err us
+  line-at-stops ts us g e = rw (star-fails begins_line (line_at own) (line-shrinks own fits) [] ts us (lines_at own ts) g e (front-is (lines_at own ts))) refl
+
+  -- ---- where a line, or the end of the lines, is not read
+
+  abbrev Turned : Type 0
+  Turned = Out (Option LineTree)
+
+  abbrev nothing : List Tok → Turned
+  nothing ts = Ok (None, ts)
+
+  not-stopped : (ts us : List Tok) → nothing ts ≡ Err us → ⊥
+  not-stopped ts us e = cc
+
+  -- no proof begins so, and no line
+  abbrev IsRefused : List Tok → Type 0
+  IsRefused ts = (line_at own ts ≡ Err ts) × (all_proofs ts ≡ Err ts)
+
+  refused-first : (ts : List Tok) → goes_on ends_proof ts ≡ false → goes_on begins_line ts ≡ false → IsRefused ts
+  unfolding line_at rule_at one proofs_at
+  refused-first [] e b = (refl, refl)
+  refused-first (Atom a ∷ ts) e b = absurd (neither (bytes_eq a (codes "group")) (bytes_eq a (codes "end")) e b)
+    where
+      neither : (g f : Bool) → g || f ≡ false → not g && not f ≡ false → ⊥
+      neither true f e b = absurd (true≢false e)
+      neither false true e b = absurd (true≢false e)
+      neither false false e b = absurd (true≢false b)
+  refused-first (Left ∷ ts) e b = (refl, refl)
+  refused-first (Right ∷ ts) e b = (refl, refl)
+  refused-first (Semi ∷ ts) e b = (refl, refl)
+  refused-first (Eol ∷ ts) e b = (refl, refl)
+  refused-first (Done ∷ ts) e b = (refl, refl)
+  refused-first (Stuck ∷ ts) e b = (refl, refl)
+
+  line-stops : (ts us : List Tok) → goes_on ends_proof ts ≡ false → line_at own ts ≡ Err us → (b : Bool) → goes_on begins_line ts ≡ b → rest_at own ts ≡ Err us
+  line-stops ts us e h true b = line-at-stops ts us b h
+  line-stops ts us e h false b =
+      let k = refused-first ts e b in
+      let same : ts ≡ us = err-is {Y = LineTree} ts us (sym k.0 ∙ h) in
+      rest-none own ts b ∙ ap no_lines k.1 ∙ ap (λ (v : List Tok). Err v) same
+
+  turn-stops : (ts us : List Tok) (e : Bool) → goes_on ends_proof ts ≡ e → cond e (nothing ts) (made Some (line_at own) ts) ≡ Err us → rest_at own ts ≡ Err us
+  turn-stops ts us true e h = absurd (not-stopped ts us h)
+  turn-stops ts us false e h = line-stops ts us e (made-bad {X = LineTree} {Y = Option LineTree} Some (line_at own ts) us h) (goes_on begins_line ts) refl
+
+  -- where a call stops, reading the rest stops
+  pub rest-refused : (ts us : List Tok) → turn_of own ts ≡ Err us → rest_at own ts ≡ Err us
+  rest-refused ts us h = turn-stops ts us (goes_on ends_proof ts) refl h
+
+  -- ---- what a line was read from
+
+  same-line : (l m : LineTree) → Some l ≡ Some m → l ≡ m
+  same-line l m e = cc
+
+  not-line : (l : LineTree) → None ≡ Some l → ⊥
+  not-line l e = cc
+
+  no-line : (l : LineTree) → Some l ≡ None → ⊥
+  no-line l e = cc
+
+  taken : (ts : List Tok) (l : LineTree) (us : List Tok) (e : Bool) → cond e (nothing ts) (made Some (line_at own) ts) ≡ Ok (Some l, us) → OneLine own ts l us
+  taken ts l us true h = absurd (not-line l (ok-value {Y = Option LineTree} None (Some l) ts us h))
+  taken ts l us false h =
+      let m = made-good {X = LineTree} {Y = Option LineTree} Some (line_at own ts) (Some l) us h in
+      let k = (line-law own fits).takes ts m.0 us m.1 in
+      subst (λ (x : LineTree). OneLine own ts x us) (same-line m.0 l m.2) (record { is = k.0; fits = k.1 })
+
+  pub line-takes : (ts : List Tok) (l : LineTree) (us : List Tok) → turn_of own ts ≡ Ok (Some l, us) → OneLine own ts l us
+  line-takes ts l us h = taken ts l us (goes_on ends_proof ts) h
+
+  not-taken : (ts us : List Tok) (e : Bool) → cond e (nothing ts) (made Some (line_at own) ts) ≡ Ok (None, us) → e ≡ true
+  not-taken ts us true h = refl
+  not-taken ts us false h = let m = made-good {X = LineTree} {Y = Option LineTree} Some (line_at own ts) None us h in absurd (no-line m.0 m.2)
+
+  pub line-ends : (ts us : List Tok) → turn_of own ts ≡ Ok (None, us) → goes_on ends_proof ts ≡ true
+  line-ends ts us h = not-taken ts us (goes_on ends_proof ts) h
+
+  -- ---- and it is read again
+
+  pub line-again : (l : LineTree) (us : List Tok) → IsLine l → turn_of own (line_tokens own l ++ us) ≡ Ok (Some l, us)
+  line-again l us h = rw (goes-on-line (line_tokens own l ++ us) (line-begins own l us), (line-law own fits).again l us h) refl

@@ -1,7 +1,11 @@
 pub mod Version
+pub mod Line
 pub mod Spelling
+pub mod LineSpelling
 pub mod Limits
-pub mod FirstGroups
+pub mod LineLimits
+pub mod Proofs
+pub mod FirstProofs
 pub mod Answers
 pub mod Parts
 pub mod inner

@@ -1,5 +1,6 @@
 pub mod Heads
 pub mod Reading
+pub mod LineReading
+pub mod Subs
 pub mod Cut
-pub mod Spelling
 pub mod Rest

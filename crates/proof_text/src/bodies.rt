@@ -15,7 +15,7 @@ use std::alloc::Global;
 use tailrec_lang::{Body, End, Values};
 
 /// The number of a definition or an exit.
-fn read_index<'a>(scan: &mut Scan<'a>) -> Result<u32, Stop>
+pub fn read_index<'a>(scan: &mut Scan<'a>) -> Result<u32, Stop>
     ensures gives { Gives (λ n. n) result scan.old scan.new (number_at (2 ^ 32)) }
     ensures last { last_line scan.new ≡ last_line scan.old }
 {

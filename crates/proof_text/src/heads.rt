@@ -23,7 +23,7 @@ use word_terms::Code;
 const DEEPEST_BODY: u32 = 64;
 
 /// Whether an atom follows.
-fn has_atom(scan: &Scan<'_>) -> bool
+pub fn has_atom(scan: &Scan<'_>) -> bool
     ensures { result ≡ goes_on has_atom (tokens_at scan.now) }
 {
     matches!(peek(scan), Some((Token::Atom(_), _)))
@@ -163,7 +163,8 @@ fn read_name<'a>(alloc: Global, scan: &mut Scan<'a>) -> Result<Text, Stop>
     }
 }
 
-fn read_register<'a>(scan: &mut Scan<'a>) -> Result<u8, Stop>
+/// The number of a register.
+pub fn read_register<'a>(scan: &mut Scan<'a>) -> Result<u8, Stop>
     ensures gives { Gives (λ n. n) result scan.old scan.new (number_at 32) }
     ensures last { last_line scan.new ≡ last_line scan.old }
 {
@@ -201,7 +202,7 @@ fn registers_rise(registers: &[u8]) -> bool
 }
 
 /// Whether ranges rise, neither overlap nor touch, and end at most at 2^64.
-fn ranges_rise(ranges: &[Range]) -> bool
+pub fn ranges_rise(ranges: &[Range]) -> bool
     ensures { result ≡ ranges_rise 0 ranges.now }
 {
     let mut least = 0;

@@ -1,13 +1,18 @@
 //! Laws of texts. These functions do nothing: their contracts are the laws.
 
-ghost use Rattle.std.specs.Prelude.{◌≡◌, ◌≤◌, ◌∷◌, [], ◌++◌, ℕ, List, length};
-ghost use Rattle.mc_text.specs.Tokens.{spell};
+ghost use Rattle.std.specs.Prelude.{◌≡◌, ◌≤◌, ◌⊎◌, ◌++◌, ℕ, List, length, map};
+ghost use Rattle.mc_text.specs.Tokens.{Tok, spell};
 ghost use Rattle.mc_text.specs.declared.token.Before.TheVariants.{Start};
 ghost use Rattle.mc_text.specs.Fault.{IsBadAt};
 ghost use Rattle.tailrec_lang.specs.Tree.{GroupTree};
-ghost use Rattle.proof_text.specs.FirstGroups.{AreRead, BeginAlike};
-ghost use Rattle.proof_text.specs.Limits.{AreGroups, proof_texts};
-ghost use Rattle.proof_text.specs.Spelling.{end_tokens, head_tokens, text_of};
+ghost use Rattle.proof_text.specs.FirstProofs.{AreRead, BeginsWithItems, items};
+ghost use Rattle.proof_text.specs.Limits.{AreGroups, AreGroupsIn, IsGroup, proof_texts};
+ghost use Rattle.proof_text.specs.Line.{LineTree, ProofTree};
+ghost use Rattle.proof_text.specs.LineLimits.{IsLine};
+ghost use Rattle.proof_text.specs.LineSpelling.{line_tokens};
+ghost use Rattle.proof_text.specs.Proofs.{AreProofs, AreProofsIn, bare, proof_texts_of, text_of_proofs, text_of_proofs_in, texts_of_proofs};
+ghost use Rattle.proof_text.specs.Spelling.{end_tokens, head_tokens, text_in, text_of};
+ghost use Rattle.proof_text.specs.Version.{Version};
 ghost use Rattle.proof_text.specs.Parts.{group_texts};
 
 /// The text of groups is what `put_head`, `put_group` of each and `put_end` append, one after the other.
@@ -15,19 +20,43 @@ pub fn law_of_parts()
     ensures { (gs : List GroupTree) → text_of gs ≡ spell Start head_tokens ++ (group_texts gs ++ spell Start end_tokens) }
 {}
 
-/// A text is that of one list of groups, and the groups that a reader gives of it are these, from the first on.
-pub fn law_of_one_spelling()
-    ensures once { (gs hs : List GroupTree) → AreGroups gs → AreGroups hs → text_of gs ≡ text_of hs → gs ≡ hs }
-    ensures read { (text : List ℕ) (gs hs : List GroupTree) → AreGroups gs → text ≡ text_of gs → AreRead text hs
-        → (more : List GroupTree) × (gs ≡ hs ++ more) }
+/// The text of groups with the lines of their proofs is what `put_head`, for each group `put_group` and then `put_line`
+/// of each of its lines, and `put_end` append, one after the other.
+pub fn law_of_proof_parts()
+    ensures { (ps : List ProofTree) → text_of_proofs ps ≡ spell Start head_tokens ++ (proof_texts_of ps ++ spell Start end_tokens) }
 {}
 
-/// Of two lists of first groups of a text one begins with the other, each of them is found with those before it, and
-/// there are no more of them than bytes.
-pub fn law_of_first_groups()
-    ensures alike { (text : List ℕ) (gs hs : List GroupTree) → AreRead text gs → AreRead text hs → BeginAlike gs hs }
-    ensures fewer { (text : List ℕ) (gs more : List GroupTree) (g : GroupTree) → AreRead text (gs ++ g ∷ more) → AreRead text (gs ++ g ∷ []) }
-    ensures few { (text : List ℕ) (gs : List GroupTree) → AreRead text gs → length gs ≤ length text }
+/// Groups alone are proofs without lines.
+pub fn law_of_groups_alone()
+    ensures text { (v : Version) (gs : List GroupTree) → text_of_proofs_in v (map bare gs) ≡ text_in v gs }
+    ensures fits { (v : Version) (gs : List GroupTree) → AreGroupsIn v gs → AreProofsIn v (map bare gs) }
+    ensures groups { (v : Version) (gs : List GroupTree) → AreProofsIn v (map bare gs) → AreGroupsIn v gs }
+{}
+
+/// A text is that of one list of groups, and the groups and lines that a reader gives of it are its own, from the first on.
+pub fn law_of_one_spelling()
+    ensures once { (gs hs : List GroupTree) → AreGroups gs → AreGroups hs → text_of gs ≡ text_of hs → gs ≡ hs }
+    ensures read { (text : List ℕ) (ps qs : List ProofTree) → AreProofs ps → text ≡ text_of_proofs ps → AreRead text qs → BeginsWithItems ps qs }
+{}
+
+/// Tokens begin with the spelling of one line of a group's proof at most.
+pub fn law_of_one_line()
+    ensures { (g : GroupTree) → IsGroup g → (l m : LineTree) (rest more : List Tok) → IsLine l → IsLine m → line_tokens g.code l ++ rest ≡ line_tokens g.code m ++ more
+        → (l ≡ m) × (rest ≡ more) }
+{}
+
+/// A text of groups with their lines is that of one list of them, and is none from one line on.
+pub fn law_of_proof_texts()
+    ensures once { (ps qs : List ProofTree) → AreProofs ps → AreProofs qs → text_of_proofs ps ≡ text_of_proofs qs → ps ≡ qs }
+    ensures faults { (text : List ℕ) (m n : ℕ) → IsBadAt texts_of_proofs text m → IsBadAt texts_of_proofs text n → m ≡ n }
+{}
+
+/// Of two lists of first proofs of a text the items of one begin with those of the other, what these begin with is found
+/// too, and there are no more of them than bytes.
+pub fn law_of_first_proofs()
+    ensures alike { (text : List ℕ) (ps qs : List ProofTree) → AreRead text ps → AreRead text qs → BeginsWithItems ps qs ⊎ BeginsWithItems qs ps }
+    ensures fewer { (text : List ℕ) (ps qs : List ProofTree) → AreRead text ps → BeginsWithItems ps qs → AreRead text qs }
+    ensures few { (text : List ℕ) (ps : List ProofTree) → AreRead text ps → length (items ps) ≤ length text }
 {}
 
 /// A text is no proof text from one line on.

@@ -125,7 +125,7 @@ fn put_number(pen: &mut Pen<'_>, n: u8) -> Result<(), NoMemory>
     pen.dec(u64::from(n))
 }
 
-fn put_ranges(pen: &mut Pen<'_>, ranges: &[Range]) -> Result<(), NoMemory>
+pub fn put_ranges(pen: &mut Pen<'_>, ranges: &[Range]) -> Result<(), NoMemory>
     ensures ok { OnOk result (page pen.new ≡ print (all_tokens range_tokens ranges.now) (page pen.old)) }
     ensures kept { Keeps (page pen.old) (page pen.new) }
 {
@@ -283,7 +283,7 @@ fn put_step(pen: &mut Pen<'_>, step: &Step) -> Result<(), NoMemory>
     }
 }
 
-fn put_values(pen: &mut Pen<'_>, values: &Values) -> Result<(), NoMemory>
+pub fn put_values(pen: &mut Pen<'_>, values: &Values) -> Result<(), NoMemory>
     ensures ok { OnOk result (page pen.new ≡ print (values_tokens (values_tree values.now)) (page pen.old)) }
     ensures kept { Keeps (page pen.old) (page pen.new) }
 {
@@ -302,7 +302,7 @@ fn put_words(pen: &mut Pen<'_>, terms: &[Word]) -> Result<(), NoMemory>
     Ok(())
 }
 
-fn put_mems(pen: &mut Pen<'_>, terms: &[Mem]) -> Result<(), NoMemory>
+pub fn put_mems(pen: &mut Pen<'_>, terms: &[Mem]) -> Result<(), NoMemory>
     ensures ok { OnOk result (page pen.new ≡ print (all_tokens mem_tokens (map mem_tree terms.now)) (page pen.old)) }
     ensures kept { Keeps (page pen.old) (page pen.new) }
 {

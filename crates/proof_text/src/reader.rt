@@ -1,26 +1,30 @@
-//! Reading a text, one group a call.
+//! Reading a text, one group or line a call.
 
-ghost use Rattle.std.specs.Prelude.{◌≡◌, ◌+◌, ◌∷◌, ◌++◌, [], List as Items, OnErr, false, true};
+ghost use Rattle.std.specs.Prelude.{◌≡◌, ◌<◌, ◌↔◌, ◌∷◌, ◌++◌, [], List as Items, OnErr, false, length, true};
 ghost use Rattle.mc_text.specs.Tokens.{Done};
 ghost use Rattle.mc_text.specs.Fault.{IsBadAt};
 ghost use Rattle.mc_text.specs.Scanning.{tokens_at};
 ghost use Rattle.tailrec_lang.specs.Eval.{HasFewNeeds};
-ghost use Rattle.tailrec_lang.specs.Tree.{GroupTree, group_tree};
-ghost use Rattle.proof_text.specs.Limits.{IsGroup, proof_texts};
-ghost use Rattle.proof_text.specs.Spelling.{text_of};
-ghost use Rattle.proof_text.specs.FirstGroups.{HasGiven};
-ghost use Rattle.proof_text.specs.Answers.{NoGroup, OnBad, OnEnd, OnGroup};
+ghost use Rattle.tailrec_lang.specs.Tree.{group_tree};
+ghost use Rattle.proof_text.specs.Limits.{IsGroup};
+ghost use Rattle.proof_text.specs.Line.{ProofTree, line_tree};
+ghost use Rattle.proof_text.specs.LineLimits.{IsLine};
+ghost use Rattle.proof_text.specs.Proofs.{bare, text_of_proofs, texts_of_proofs};
+ghost use Rattle.proof_text.specs.FirstProofs.{HasGiven, MayOpen, ProofEnds, with_line};
+ghost use Rattle.proof_text.specs.Answers.{IsEnd, NoItem, OnBad, OnEnd, OnGiven};
 ghost use Rattle.proof_text.specs.inner.Rest.{GoesOn};
 
 use crate::group::read_turn;
+use crate::line::Line;
 use crate::lines::{after_lines, whole_lines};
+use crate::proof_lines::read_turn as read_line_turn;
 use mc_text::cursor::peek;
 use mc_text::{Scan, Stop, Token};
 use std::alloc::Global;
 use std::marker::Model;
 use tailrec_lang::Group;
 
-/// Why there is no further group.
+/// Why there is no further group or line.
 #[derive(Clone, Copy, Debug, PartialEq, Eq)]
 pub enum TextFault {
     /// The number of the first line that is missing or with which no text goes on.
@@ -28,7 +32,7 @@ pub enum TextFault {
     NoMemory,
 }
 
-/// Goes over the groups of a text.
+/// Goes over the groups of a text and the lines of their proofs.
 #[derive(Debug, Drop)]
 pub struct Reader<'a> {
     text: &'a [u8],
@@ -41,7 +45,7 @@ impl<'a> Model for Reader<'a> {
     ghost use Rattle.std.specs.Prelude.{◌≡◌, ◌+◌, ◌≤◌, ◌^◌, ◌++◌, length};
     ghost use Rattle.mc_text.specs.Fault.{newlines};
     ghost use Rattle.proof_text.specs.inner.Cut.{AreWholeLines};
-    ghost use Rattle.proof_text.specs.FirstGroups.{Progress};
+    ghost use Rattle.proof_text.specs.FirstProofs.{Progress};
 
     ghost Value = { Progress };
 
@@ -65,15 +69,17 @@ impl<'a> Reader<'a> {
         }
     }
 
-    /// The next group, or none where the text ends well. A fault and the end are answered again and again.
+    /// The next group, or none where the text ends well: to be called where the text begins, or where `line` has given
+    /// none. A fault and the end are answered again and again.
     pub fn group(&mut self, alloc: Global) -> Result<Option<Group>, TextFault>
         ensures text { self.new.text ≡ self.old.text }
-        ensures given { OnGroup result (λ g. (gs : Items GroupTree) → HasGiven gs self.old → HasGiven (gs ++ group_tree g ∷ []) self.new) }
-        ensures fits { OnGroup result (λ g. IsGroup (group_tree g)) }
-        ensures needs { OnGroup result (λ g. HasFewNeeds (group_tree g)) }
-        ensures end { OnEnd result ((gs : Items GroupTree) → HasGiven gs self.old → self.old.text ≡ text_of gs) }
-        ensures bad { OnBad result (λ n. (gs : Items GroupTree) → HasGiven gs self.old → IsBadAt proof_texts self.old.text n) }
-        ensures no_group { OnBad result (λ n. NoGroup self.old) }
+        ensures given { OnGiven result (λ g. (ps : Items ProofTree) → HasGiven ps self.old → HasGiven (ps ++ bare (group_tree g) ∷ []) self.new) }
+        ensures fits { OnGiven result (λ g. IsGroup (group_tree g)) }
+        ensures needs { OnGiven result (λ g. HasFewNeeds (group_tree g)) }
+        ensures shorter { OnGiven result (λ _. length self.new.rest < length self.old.rest) }
+        ensures end { OnEnd result ((ps : Items ProofTree) → HasGiven ps self.old → self.old.text ≡ text_of_proofs ps) }
+        ensures bad { OnBad result (λ n. (ps : Items ProofTree) → HasGiven ps self.old → MayOpen ps self.old.rest → IsBadAt texts_of_proofs self.old.text n) }
+        ensures no_item { OnBad result (λ n. (ps : Items ProofTree) → HasGiven ps self.old → MayOpen ps self.old.rest → NoItem ps self.old) }
         ensures end_same { OnEnd result (self.new ≡ self.old) }
         ensures fault_same { OnErr result (self.new ≡ self.old) }
     {
@@ -97,7 +103,35 @@ impl<'a> Reader<'a> {
         }
     }
 
-    /// How many lines the groups took that were given.
+    /// The next line of the proof of the group that was given last, or none where its lines end. Both that and a fault are
+    /// answered again and again.
+    pub fn line(&mut self, alloc: Global, group: &Group) -> Result<Option<Line>, TextFault>
+        requires { IsGroup (group_tree group.now) }
+        ensures text { self.new.text ≡ self.old.text }
+        ensures given { OnGiven result (λ l. (ps : Items ProofTree) (p : ProofTree) → HasGiven (ps ++ p ∷ []) self.old → p.group ≡ group_tree group.now → HasGiven (ps ++ with_line p (line_tree l) ∷ []) self.new) }
+        ensures fits { OnGiven result (λ l. IsLine (line_tree l)) }
+        ensures shorter { OnGiven result (λ _. length self.new.rest < length self.old.rest) }
+        ensures end { IsEnd result ↔ ProofEnds self.old.rest }
+        ensures bad { OnBad result (λ n. (ps : Items ProofTree) (p : ProofTree) → HasGiven (ps ++ p ∷ []) self.old → p.group ≡ group_tree group.now → IsBadAt texts_of_proofs self.old.text n) }
+        ensures no_item { OnBad result (λ n. (ps : Items ProofTree) (p : ProofTree) → HasGiven (ps ++ p ∷ []) self.old → p.group ≡ group_tree group.now → NoItem (ps ++ p ∷ []) self.old) }
+        ensures end_same { OnEnd result (self.new ≡ self.old) }
+        ensures fault_same { OnErr result (self.new ≡ self.old) }
+    {
+        let mut ahead = Scan::new(self.lines);
+        match read_line_turn(alloc, &mut ahead, &group.code) {
+            Ok(Some(line)) => {
+                let passed = ahead.line() - 1;
+                self.lines = after_lines(self.lines, passed);
+                self.place += passed;
+                Ok(Some(line))
+            }
+            Ok(None) => Ok(None),
+            Err(Stop::Bad) => Err(TextFault::Bad(self.place + ahead.line())),
+            Err(Stop::NoMemory) => Err(TextFault::NoMemory),
+        }
+    }
+
+    /// The number of the last line of the group or line that was given last, and 0 before the first.
     pub fn place(&self) -> u64
         ensures { result ≡ self.now.place }
     {

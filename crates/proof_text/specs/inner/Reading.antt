@@ -167,19 +167,6 @@ next_at = keyed (codes "end") (made (λ _. None) eol) (keyed (codes "group") (ma
 abbrev pub title_row : Reader (Unit {0} × (Unit {0} × Unit {0}))
 title_row = pair (word (codes "mcproof")) (pair (word version_1.title) eol)
 
--- at most so many groups, and the end of the text
-unfoldable pub groups_at : ℕ → Reader (List GroupTree)
-groups_at zero ts = keyed (codes "end") (made (λ _. []) eol) refused ts
-groups_at (suc n) ts =
-    keyed (codes "end") (made (λ _. []) eol)
-    (keyed (codes "group") (made (λ x. group_of x.0 (x.1.0 ∷ x.1.1.0) ∷ x.1.1.1) (pair head_at (pair def_at (pair defs_at (groups_at n))))) refused) ts
-
-abbrev pub all_groups : Reader (List GroupTree)
-all_groups ts = groups_at (length ts) ts
-
-abbrev pub text_at : Reader (List GroupTree)
-text_at = made (λ x. x.1) (pair title_row all_groups)
-
 -- what one call reads: before the first group the title too
 abbrev pub turn_at : Bool → Reader (Option GroupTree)
 turn_at true = made (λ x. x.1) (pair title_row next_at)

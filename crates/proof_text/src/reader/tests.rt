@@ -1,10 +1,16 @@
-//! What no clause says: that groups are read while there is memory. The texts are written by hand.
+//! What no clause says: that groups and lines are read while there is memory. The texts are written by hand.
+
+ghost use Rattle.tailrec_lang.specs.Tree.{group_tree};
+ghost use Rattle.proof_text.specs.Limits.{IsGroup};
 
 use super::{Reader, TextFault};
+use crate::line::Line;
 use crate::put::{put_end, put_group, put_head};
+use crate::put_lines::put_line;
 use rv_words::{Bytes, NoMemory};
 use std::alloc::Global;
 use std::test::Fail;
+use tailrec_lang::Group;
 
 /// Texts, how many groups each gives and how many lines those take, and the line that is refused after them; none
 /// where the text ends there.
@@ -133,6 +139,239 @@ fn texts_are_printed_as_they_stand(rt: HostRuntime) -> Result<(), Fail> {
         if bad.is_none() {
             assert!(rt; is_printed_again(rt.alloc(), text)?);
         }
+    }
+    Ok(())
+}
+
+// ---- lines
+
+/// A text up to the end of the definitions of its first group: seven lines.
+static GROUP: &[u8] =
+    b"mcproof 1\ngroup f\nregs 1 10 11\nmems 0\ncode (0x10000 3305b50067800000)\ndef 0x10000 ret\nleave 0 v0 ;\n";
+
+/// Lines of its proof.
+static GOOD: [&[u8]; 18] = [
+    b"forget 0\n",
+    b"loop 0\n",
+    b"loop 4294967295 18446744073709551615 0\n",
+    b"frame 0 facts pre (0x0 ;) code post (0x0 ;)\n",
+    b"frame 0 facts pre (0x0 ;) code all post (0x0 ;)\n",
+    b"frame 0 facts pre (0x0 ;) code (0x0 13) (0x2 13) post (0x0 ;)\n",
+    b"frame 0 facts pre (0x0 (1 0x0) (31 0x0) ; m0 m0) code post (0x0 ;)\n",
+    b"frame 0 facts pre ((sx1 (sx1 (sx1 (sx1 (sx1 (sx1 (sx1 (sx1 (sx1 (sx1 (sx1 (sx1 (sx1 (sx1 (sx1 (sx1 (sx1 (sx1 (sx1 (sx1 (sx1 (sx1 (sx1 (sx1 (sx1 (sx1 (sx1 (sx1 (sx1 (sx1 (sx1 (sx1 (sx1 (sx1 (sx1 (sx1 (sx1 (sx1 (sx1 (sx1 (sx1 (sx1 (sx1 (sx1 (sx1 (sx1 (sx1 (sx1 (sx1 (sx1 (sx1 (sx1 (sx1 (sx1 (sx1 (sx1 (sx1 (sx1 (sx1 (sx1 (sx1 (sx1 (sx1 0x0))))))))))))))))))))))))))))))))))))))))))))))))))))))))))))))) ;) code post (0x0 ;)\n",
+    b"frame 0 facts (is 0x0 0x0) (mis m0 m0) (so (eq 0x0 0x0)) (gives 0 0 0x0 v0 ; m0 ; ;) pre (0x0 ;) code post (0x0 ;)\n",
+    b"inst 0 (v0 0x0) (v9 0x0) (m0 m0) (m1 m0) facts pre (0x0 ;) code post (0x0 ;)\n",
+    b"inst 0 facts pre (0x0 ;) code post (0x0 ;)\n",
+    b"axiom 0xffffffffffffffff 0xffffffff taken facts pre (0x0 ;) code post (0x0 ;)\n",
+    b"compose 0 1 facts pre (0x0 ;) code post (0x0 ;)\n",
+    b"extend 0 facts pre (0x0 ;) code post (0x0 ;)\n",
+    b"strengthen 0 facts pre (0x0 ;) code post (0x0 ;)\n",
+    b"weaken 0 facts pre (0x0 ;) code post (0x0 ;)\n",
+    b"discharge 0 facts pre (0x0 ;) code post (0x0 ;)\n",
+    b"use 0 0 facts pre (0x0 ;) code post (0x0 ;)\n",
+];
+
+/// What is no line of its proof.
+static BAD: [&[u8]; 74] = [
+    b"",
+    b"\n",
+    b"forget 0",
+    b" forget 0\n",
+    b"forget 0 \n",
+    b"forget  0\n",
+    b"forget\n",
+    b"forget 00\n",
+    b"forget 0x0\n",
+    b"forget 18446744073709551616\n",
+    b"forget 0 1\n",
+    b"forgets 0\n",
+    b"(forget 0)\n",
+    b"defx\n",
+    b" def 0x0\n",
+    b"def 0x0",
+    b"loop\n",
+    b"loop 4294967296\n",
+    b"loop 0 18446744073709551616\n",
+    b"loop 0 01\n",
+    b"loop 0 ;\n",
+    b"frame facts pre (0x0 ;) code post (0x0 ;)\n",
+    b"frame 0 1 facts pre (0x0 ;) code post (0x0 ;)\n",
+    b"compose 0 facts pre (0x0 ;) code post (0x0 ;)\n",
+    b"use 4294967296 0 facts pre (0x0 ;) code post (0x0 ;)\n",
+    b"use 0 facts pre (0x0 ;) code post (0x0 ;)\n",
+    b"axiom 0x0 0x100000000 next facts pre (0x0 ;) code post (0x0 ;)\n",
+    b"axiom 0x0 0x0 facts pre (0x0 ;) code post (0x0 ;)\n",
+    b"axiom 0x0 0x0 Next facts pre (0x0 ;) code post (0x0 ;)\n",
+    b"axiom 0 0x0 next facts pre (0x0 ;) code post (0x0 ;)\n",
+    b"frame 0 pre (0x0 ;) code post (0x0 ;)\n",
+    b"frame 0 facts (0x0 ;) code post (0x0 ;)\n",
+    b"frame 0 facts pre (0x0 ;) code (0x0 ;)\n",
+    b"frame 0 facts pre (0x0 ;) code post (0x0 ;)",
+    b"frame 0 facts pre (0x0 ;) code post (0x0 ;) \n",
+    b"frame 0 facts pre (0x0 ;) code post (0x0 ;) (0x0 ;)\n",
+    b"frame 0 facts pre (0x0 ;) code (0x10000 3305b50067800000) post (0x0 ;)\n",
+    b"frame 0 facts pre (0x0 ;) code all (0x0 13) post (0x0 ;)\n",
+    b"frame 0 facts pre (0x0 ;) code (0x0 13) (0x1 13) post (0x0 ;)\n",
+    b"frame 0 facts pre (0x0 ;) code (0x2 13) (0x0 13) post (0x0 ;)\n",
+    b"frame 0 facts pre (0x0 ;) code (0xffffffffffffffff 1313) post (0x0 ;)\n",
+    b"frame 0 facts pre (0x0 ;) code (0x0 1) post (0x0 ;)\n",
+    b"frame 0 facts pre (0x0 ;) code (0x0 1A) post (0x0 ;)\n",
+    b"frame 0 facts pre (0x0 ;) code (0x0) post (0x0 ;)\n",
+    b"frame 0 facts pre (0x0) code post (0x0 ;)\n",
+    b"frame 0 facts pre (;) code post (0x0 ;)\n",
+    b"frame 0 facts pre (0x0 (0 0x0) ;) code post (0x0 ;)\n",
+    b"frame 0 facts pre (0x0 (32 0x0) ;) code post (0x0 ;)\n",
+    b"frame 0 facts pre (0x0 (01 0x0) ;) code post (0x0 ;)\n",
+    b"frame 0 facts pre (0x0 (1 0x0) (1 0x0) ;) code post (0x0 ;)\n",
+    b"frame 0 facts pre (0x0 ;) code post (0x0 (2 0x0) (1 0x0) ;)\n",
+    b"frame 0 facts pre (0x0 (1 m0) ;) code post (0x0 ;)\n",
+    b"frame 0 facts pre (0x0 ; 0x0) code post (0x0 ;)\n",
+    b"frame 0 facts pre (m0 ;) code post (0x0 ;)\n",
+    b"frame 0 facts pre ((sx1 (sx1 (sx1 (sx1 (sx1 (sx1 (sx1 (sx1 (sx1 (sx1 (sx1 (sx1 (sx1 (sx1 (sx1 (sx1 (sx1 (sx1 (sx1 (sx1 (sx1 (sx1 (sx1 (sx1 (sx1 (sx1 (sx1 (sx1 (sx1 (sx1 (sx1 (sx1 (sx1 (sx1 (sx1 (sx1 (sx1 (sx1 (sx1 (sx1 (sx1 (sx1 (sx1 (sx1 (sx1 (sx1 (sx1 (sx1 (sx1 (sx1 (sx1 (sx1 (sx1 (sx1 (sx1 (sx1 (sx1 (sx1 (sx1 (sx1 (sx1 (sx1 (sx1 (sx1 0x0)))))))))))))))))))))))))))))))))))))))))))))))))))))))))))))))) ;) code post (0x0 ;)\n",
+    b"frame 0 facts (is 0x0) pre (0x0 ;) code post (0x0 ;)\n",
+    b"frame 0 facts (is m0 m0) pre (0x0 ;) code post (0x0 ;)\n",
+    b"frame 0 facts (mis 0x0 0x0) pre (0x0 ;) code post (0x0 ;)\n",
+    b"frame 0 facts (so (eq 0x0)) pre (0x0 ;) code post (0x0 ;)\n",
+    b"frame 0 facts (gives 0 0 ; ; 0x0) pre (0x0 ;) code post (0x0 ;)\n",
+    b"frame 0 facts (gives 0 ; ; ;) pre (0x0 ;) code post (0x0 ;)\n",
+    b"frame 0 facts (gives 0 4294967296 ; ; ;) pre (0x0 ;) code post (0x0 ;)\n",
+    b"frame 0 facts (has 0x0 0x0) pre (0x0 ;) code post (0x0 ;)\n",
+    b"frame 0 facts is 0x0 0x0 pre (0x0 ;) code post (0x0 ;)\n",
+    b"inst 0 (v0 0x0) (v0 0x0) facts pre (0x0 ;) code post (0x0 ;)\n",
+    b"inst 0 (v1 0x0) (v0 0x0) facts pre (0x0 ;) code post (0x0 ;)\n",
+    b"inst 0 (m0 m0) (v0 0x0) facts pre (0x0 ;) code post (0x0 ;)\n",
+    b"inst 0 (m0 m0) (m0 m0) facts pre (0x0 ;) code post (0x0 ;)\n",
+    b"inst 0 (v0 m0) facts pre (0x0 ;) code post (0x0 ;)\n",
+    b"inst 0 (m0 0x0) facts pre (0x0 ;) code post (0x0 ;)\n",
+    b"inst 0 (v4294967296 0x0) facts pre (0x0 ;) code post (0x0 ;)\n",
+    b"inst 0 (v00 0x0) facts pre (0x0 ;) code post (0x0 ;)\n",
+    b"inst 0 (0x0 0x0) facts pre (0x0 ;) code post (0x0 ;)\n",
+    b"inst (v0 0x0) facts pre (0x0 ;) code post (0x0 ;)\n",
+];
+
+/// What stands behind the group: how many lines of its proof, the line that is refused after these, and, where none is,
+/// the line that is refused by the next call for a group; none where the text ends there.
+static BEHIND: [(&[u8], u64, Option<u64>, Option<u64>); 10] = [
+    (b"forget 0\nloop 0\nend\n", 2, None, None),
+    (b"end\n", 0, None, None),
+    (b"forget 0\ndef 0x0\nagain ;\nend\n", 1, Some(9), None),
+    (b"forget 0\n", 1, Some(9), None),
+    (b"forget 0\nend x\n", 1, None, Some(9)),
+    (b"forget 0\nend\nend\n", 1, None, Some(10)),
+    (b"forget 0\ngroup f g\n", 1, None, Some(9)),
+    (b"group f\nregs 1 1\n", 0, None, Some(9)),
+    (b"end", 0, Some(8), None),
+    (b"group f", 0, Some(8), None),
+];
+
+/// The text up to the end of the group, and these bytes.
+fn behind_group(alloc: Global, bytes: &[u8]) -> Result<Bytes, NoMemory> {
+    let mut text = Bytes::from_slice(alloc, GROUP)?;
+    text.extend_from_slice(bytes)?;
+    Ok(text)
+}
+
+fn is_eighth(answer: Result<Option<Line>, TextFault>) -> bool {
+    matches!(answer, Err(TextFault::Bad(8)))
+}
+
+/// Whether the line behind the group is refused, again and again.
+fn is_refused(alloc: Global, bytes: &[u8]) -> Result<bool, NoMemory> {
+    let text = behind_group(alloc, bytes)?;
+    let mut reader = Reader::new(text.as_slice());
+    match reader.group(alloc) {
+        Ok(Some(group)) => {
+            let first = is_eighth(reader.line(alloc, &group));
+            let second = is_eighth(reader.line(alloc, &group));
+            Ok(first && second && reader.place() == 7)
+        }
+        _ => Ok(false),
+    }
+}
+
+#[test]
+fn bad_lines_are_refused(rt: HostRuntime) -> Result<(), Fail> {
+    for &line in &BAD {
+        assert!(rt; is_refused(rt.alloc(), line)?);
+    }
+    Ok(())
+}
+
+/// Whether a line is printed as it stands behind the group.
+fn line_is_printed_again(alloc: Global, bytes: &[u8]) -> Result<bool, NoMemory> {
+    let text = behind_group(alloc, bytes)?;
+    let mut reader = Reader::new(text.as_slice());
+    let mut out = Bytes::new(alloc);
+    match reader.group(alloc) {
+        Ok(Some(group)) => match reader.line(alloc, &group) {
+            Ok(Some(line)) => put_line(&mut out, &group, &line)?,
+            _ => return Ok(false),
+        },
+        _ => return Ok(false),
+    }
+    Ok(out.as_slice() == bytes && reader.place() == 8)
+}
+
+#[test]
+fn lines_are_printed_as_they_stand(rt: HostRuntime) -> Result<(), Fail> {
+    for &line in &GOOD {
+        assert!(rt; line_is_printed_again(rt.alloc(), line)?);
+    }
+    Ok(())
+}
+
+/// Whether so many lines of the group follow.
+fn lines_follow(alloc: Global, reader: &mut Reader<'_>, group: &Group, lines: u64) -> bool
+    requires { IsGroup (group_tree group.now) }
+{
+    for _ in 0..lines {
+        if !matches!(reader.line(alloc, group), Ok(Some(_))) {
+            return false;
+        }
+    }
+    true
+}
+
+/// Whether no line follows, and it is this that is refused.
+fn line_answers(
+    alloc: Global,
+    reader: &mut Reader<'_>,
+    group: &Group,
+    bad: Option<u64>,
+    next: Option<u64>,
+) -> bool
+    requires { IsGroup (group_tree group.now) }
+{
+    match (reader.line(alloc, group), bad) {
+        (Ok(None), None) => answers(alloc, reader, next),
+        (Err(TextFault::Bad(line)), Some(number)) => line == number,
+        _ => false,
+    }
+}
+
+/// Whether what stands behind the group is read so.
+fn is_read_behind(
+    alloc: Global,
+    bytes: &[u8],
+    lines: u64,
+    bad: Option<u64>,
+    next: Option<u64>,
+) -> Result<bool, NoMemory> {
+    let text = behind_group(alloc, bytes)?;
+    let mut reader = Reader::new(text.as_slice());
+    match reader.group(alloc) {
+        Ok(Some(group)) => {
+            let follow = lines_follow(alloc, &mut reader, &group, lines);
+            Ok(follow && line_answers(alloc, &mut reader, &group, bad, next))
+        }
+        _ => Ok(false),
+    }
+}
+
+#[test]
+fn groups_are_read_with_their_lines(rt: HostRuntime) -> Result<(), Fail> {
+    for &(bytes, lines, bad, next) in &BEHIND {
+        assert!(rt; is_read_behind(rt.alloc(), bytes, lines, bad, next)?);
     }
     Ok(())
 }

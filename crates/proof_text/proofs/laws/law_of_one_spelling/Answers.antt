@@ -1,8 +1,9 @@
-use Rattle.proof_text.proofs.Fronts.{text-once, text-front}
+use Rattle.proof_text.proofs.Fronts.{text-front}
+use Rattle.proof_text.proofs.ProofTexts.{groups-once}
 use Rattle.proof_text.proofs.laws.law_of_one_spelling.Goals as goal
 
 pub returns-clause-once : goal.returns-clause-once
-returns-clause-once c = text-once
+returns-clause-once c = groups-once
 
 pub returns-clause-read : goal.returns-clause-read
 returns-clause-read c = text-front

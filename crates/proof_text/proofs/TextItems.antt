@@ -1,0 +1,181 @@
+-- The items of proofs, one after the other, and their tokens by the code of the group that was opened last.
+use Rattle.std.proofs.Common.{◌≡◌, List, [], ◌∷◌, ◌++◌, map, refl, sym, ap, ◌∙◌, append_assoc}
+use Rattle.std.specs.List.{AllByRecursion}
+use Rattle.std.proofs.lemmas.List.{append-nil}
+use Rattle.mc_text.specs.Tokens.{Tok, all_tokens}
+use Rattle.mc_text.proofs.Lines.{AreTokens, IsLines}
+use Rattle.mc_text.proofs.Covers.{lines-append}
+use Rattle.mc_text.proofs.Shown.{tokens-append}
+use Rattle.rv_words.specs.declared.range.Range.{Range}
+use Rattle.tailrec_lang.specs.Tree.{GroupTree}
+use Rattle.proof_text.specs.Line.{LineTree, ProofTree}
+use Rattle.proof_text.specs.Spelling.{group_tokens}
+use Rattle.proof_text.specs.LineSpelling.{line_tokens}
+use Rattle.proof_text.specs.Limits.{IsGroup}
+use Rattle.proof_text.specs.LineLimits.{IsLine}
+use Rattle.proof_text.specs.Proofs.{proof_tokens, AreProofs, bare}
+use Rattle.proof_text.specs.FirstProofs.{ItemTree, Opens, Adds, items, with_line}
+use Rattle.proof_text.proofs.HeadLaws.{IsCode}
+use Rattle.proof_text.proofs.Parts.{group-whole}
+use Rattle.proof_text.proofs.ProofParts.{whole-line}
+use Rattle.proof_text.proofs.Real.{group-tokens}
+use Rattle.proof_text.proofs.LineTokens.{line-is-tokens}
+
+abbrev pub item_tokens : List Range → ItemTree → List Tok
+item_tokens own (Opens g) = group_tokens g
+item_tokens own (Adds l) = line_tokens own l
+
+-- the code of the group that is open behind an item
+abbrev pub code_behind : List Range → ItemTree → List Range
+code_behind own (Opens g) = g.code
+code_behind own (Adds l) = own
+
+abbrev pub items_tokens : List Range → List ItemTree → List Tok
+items_tokens own [] = []
+items_tokens own (i ∷ is) = item_tokens own i ++ items_tokens (code_behind own i) is
+
+-- and behind items
+abbrev pub last_code : List Range → List ItemTree → List Range
+last_code own [] = own
+last_code own (i ∷ is) = last_code (code_behind own i) is
+
+abbrev pub IsItem : ItemTree → Type 0
+IsItem (Opens g) = IsGroup g
+IsItem (Adds l) = IsLine l
+
+abbrev pub AreItems : List ItemTree → Type 0
+AreItems is = AllByRecursion IsItem is
+
+-- nothing, or a group first
+abbrev pub StartsOpen : List ItemTree → Type 0
+StartsOpen [] = Unit {0}
+StartsOpen (Opens g ∷ is) = Unit {0}
+StartsOpen (Adds l ∷ is) = ⊥
+
+-- ---- proofs as items
+
+lines-items : (own : List Range) (ls : List LineTree) (is : List ItemTree) → items_tokens own (map Adds ls ++ is) ≡ all_tokens (line_tokens own) ls ++ items_tokens own is
+lines-items own [] is = refl
+lines-items own (l ∷ ls) is = ap (λ (ts : List Tok). line_tokens own l ++ ts) (lines-items own ls is) ∙ sym (append_assoc (line_tokens own l) (all_tokens (line_tokens own) ls) (items_tokens own is))
+
+pub proofs-items : (own : List Range) (ps : List ProofTree) → all_tokens proof_tokens ps ≡ items_tokens own (items ps)
+proofs-items own [] = refl
+proofs-items own (p ∷ ps) =
+    let lines = all_tokens (line_tokens p.group.code) p.lines in
+    append_assoc (group_tokens p.group) lines (all_tokens proof_tokens ps)
+    ∙ ap (λ (ts : List Tok). group_tokens p.group ++ (lines ++ ts)) (proofs-items p.group.code ps)
+    ∙ ap (λ (ts : List Tok). group_tokens p.group ++ ts) (sym (lines-items p.group.code p.lines (items ps)))
+
+lines-fit : (ls : List LineTree) (is : List ItemTree) → AllByRecursion IsLine ls → AreItems is → AreItems (map Adds ls ++ is)
+lines-fit [] is h k = k
+lines-fit (l ∷ ls) is h k = (h.0, lines-fit ls is h.1 k)
+
+pub items-fit : (ps : List ProofTree) → AreProofs ps → AreItems (items ps)
+items-fit [] h = tt
+items-fit (p ∷ ps) h = (h.0.group, lines-fit p.lines (items ps) h.0.lines (items-fit ps h.1))
+
+fit-lines : (ls : List LineTree) (is : List ItemTree) → AreItems (map Adds ls ++ is) → AllByRecursion IsLine ls × AreItems is
+fit-lines [] is h = (tt, h)
+fit-lines (l ∷ ls) is h = let k = fit-lines ls is h.1 in ((h.0, k.0), k.1)
+
+pub fit-items : (ps : List ProofTree) → AreItems (items ps) → AreProofs ps
+fit-items [] h = tt
+fit-items (p ∷ ps) h = let k = fit-lines p.lines (items ps) h.1 in (record { group = h.0; lines = k.0 }, fit-items ps k.1)
+
+pub items-start : (ps : List ProofTree) → StartsOpen (items ps)
+items-start [] = tt
+items-start (p ∷ ps) = tt
+
+-- a group more
+pub items-opened : (ps : List ProofTree) (g : GroupTree) → items (ps ++ bare g ∷ []) ≡ items ps ++ Opens g ∷ []
+items-opened [] g = refl
+items-opened (p ∷ ps) g = ap (λ (is : List ItemTree). Opens p.group ∷ (map Adds p.lines ++ is)) (items-opened ps g) ∙ ap (λ (is : List ItemTree). Opens p.group ∷ is) (sym (append_assoc (map Adds p.lines) (items ps) (Opens g ∷ [])))
+
+lines-more : (ls : List LineTree) (l : LineTree) → map Adds (ls ++ l ∷ []) ≡ map Adds ls ++ Adds l ∷ []
+lines-more [] l = refl
+lines-more (m ∷ ls) l = ap (λ (is : List ItemTree). Adds m ∷ is) (lines-more ls l)
+
+-- a line more
+pub items-added : (ps : List ProofTree) (p : ProofTree) (l : LineTree) → items (ps ++ with_line p l ∷ []) ≡ items (ps ++ p ∷ []) ++ Adds l ∷ []
+items-added [] p l =
+    ap (λ (is : List ItemTree). Opens p.group ∷ is) (append-nil (map Adds (p.lines ++ l ∷ [])) ∙ lines-more p.lines l ∙ ap (λ (is : List ItemTree). is ++ Adds l ∷ []) (sym (append-nil (map Adds p.lines))))
+items-added (q ∷ ps) p l =
+    ap (λ (is : List ItemTree). Opens q.group ∷ (map Adds q.lines ++ is)) (items-added ps p l)
+    ∙ ap (λ (is : List ItemTree). Opens q.group ∷ is) (sym (append_assoc (map Adds q.lines) (items (ps ++ p ∷ [])) (Adds l ∷ [])))
+
+lines-keep : (own : List Range) (ls : List LineTree) (is : List ItemTree) → last_code own (map Adds ls ++ is) ≡ last_code own is
+lines-keep own [] is = refl
+lines-keep own (l ∷ ls) is = lines-keep own ls is
+
+-- the code of the last proof's group
+pub last-is : (own : List Range) (ps : List ProofTree) (p : ProofTree) → last_code own (items (ps ++ p ∷ [])) ≡ p.group.code
+last-is own [] p = lines-keep p.group.code p.lines []
+last-is own (q ∷ ps) p = lines-keep q.group.code q.lines (items (ps ++ p ∷ [])) ∙ last-is q.group.code ps p
+
+-- ---- one item more
+
+pub tokens-more : (own : List Range) (is : List ItemTree) (i : ItemTree) → items_tokens own (is ++ i ∷ []) ≡ items_tokens own is ++ item_tokens (last_code own is) i
+tokens-more own [] i = append-nil (item_tokens own i)
+tokens-more own (j ∷ is) i = ap (λ (ts : List Tok). item_tokens own j ++ ts) (tokens-more (code_behind own j) is i) ∙ sym (append_assoc (item_tokens own j) (items_tokens (code_behind own j) is) (item_tokens (last_code (code_behind own j) is) i))
+
+pub tokens-behind : (own : List Range) (is js : List ItemTree) → items_tokens own (is ++ js) ≡ items_tokens own is ++ items_tokens (last_code own is) js
+tokens-behind own [] js = refl
+tokens-behind own (i ∷ is) js = ap (λ (ts : List Tok). item_tokens own i ++ ts) (tokens-behind (code_behind own i) is js) ∙ sym (append_assoc (item_tokens own i) (items_tokens (code_behind own i) is) (items_tokens (last_code (code_behind own i) is) js))
+
+pub items-more : (is : List ItemTree) (i : ItemTree) → AreItems is → IsItem i → AreItems (is ++ i ∷ [])
+items-more [] i h k = (k, tt)
+items-more (j ∷ is) i h k = (h.0, items-more is i h.1 k)
+
+pub items-fewer : (is js : List ItemTree) → AreItems (is ++ js) → AreItems is × AreItems js
+items-fewer [] js h = (tt, h)
+items-fewer (i ∷ is) js h = let k = items-fewer is js h.1 in ((h.0, k.0), k.1)
+
+pub starts-fewer : (is js : List ItemTree) → StartsOpen (is ++ js) → StartsOpen is
+starts-fewer [] js h = tt
+starts-fewer (Opens g ∷ is) js h = tt
+starts-fewer (Adds l ∷ is) js h = h
+
+-- the last of them is determined
+item-first : (x y : ItemTree) (xs ys : List ItemTree) → x ∷ xs ≡ y ∷ ys → (x ≡ y) × (xs ≡ ys)
+item-first x y xs ys e = (cc, cc)
+
+no-more : (x : ItemTree) (xs : List ItemTree) (y : ItemTree) → xs ++ y ∷ [] ≡ [] → ⊥
+no-more x [] y e = absurd cc
+no-more x (z ∷ xs) y e = absurd cc
+
+pub last-once : (is js : List ItemTree) (x y : ItemTree) → is ++ x ∷ [] ≡ js ++ y ∷ [] → (is ≡ js) × (x ≡ y)
+last-once [] [] x y e = (refl, (item-first x y [] [] e).0)
+last-once [] (j ∷ js) x y e = absurd (no-more x js y (sym (item-first x j [] (js ++ y ∷ []) e).1))
+last-once (i ∷ is) [] x y e = absurd (no-more x is x (item-first i y (is ++ x ∷ []) [] e).1)
+last-once (i ∷ is) (j ∷ js) x y e =
+    let h = item-first i j (is ++ x ∷ []) (js ++ y ∷ []) e in
+    let k = last-once is js x y h.1 in
+    ((λ n. h.0 n ∷ k.0 n), k.1)
+
+-- ---- codes of groups
+
+pub own-code : (own : List Range) (i : ItemTree) → IsCode own → IsItem i → IsCode (code_behind own i)
+own-code own (Opens g) h k = (k.code, k.bytes)
+own-code own (Adds l) h k = h
+
+pub last-fits : (own : List Range) (is : List ItemTree) → IsCode own → AreItems is → IsCode (last_code own is)
+last-fits own [] h k = h
+last-fits own (i ∷ is) h k = last-fits (code_behind own i) is (own-code own i h k.0) k.1
+
+-- ---- whole lines
+
+pub item-whole : (own : List Range) (i : ItemTree) → IsLines (item_tokens own i)
+item-whole own (Opens g) = group-whole g
+item-whole own (Adds l) = whole-line own l
+
+pub items-whole : (own : List Range) (is : List ItemTree) → IsLines (items_tokens own is)
+items-whole own [] = tt
+items-whole own (i ∷ is) = lines-append (item_tokens own i) (items_tokens (code_behind own i) is) (item-whole own i) (items-whole (code_behind own i) is)
+
+pub item-real : (own : List Range) (i : ItemTree) → IsItem i → AreTokens (item_tokens own i)
+item-real own (Opens g) h = group-tokens g h
+item-real own (Adds l) h = line-is-tokens own l h
+
+pub items-real : (own : List Range) (is : List ItemTree) → AreItems is → AreTokens (items_tokens own is)
+items-real own [] h = tt
+items-real own (i ∷ is) h = tokens-append (item_tokens own i) (items_tokens (code_behind own i) is) (item-real own i h.0) (items-real (code_behind own i) is h.1)

@@ -1,0 +1,80 @@
+-- How far a text was read: the first proofs, whose groups and lines were given one by one. The last of them may go on.
+use Rattle.std.specs.Prelude.{◌≡◌, ◌≢◌, ◌⊎◌, ℕ, List, [], ◌∷◌, ◌++◌, map, codes, None}
+use Rattle.mc_text.specs.Tokens.{Atom, Stands, spell, all_tokens}
+use Rattle.mc_text.specs.Fault.{first_lines, newlines}
+use Rattle.mc_text.specs.declared.token.Before.TheVariants.{Start}
+use Rattle.tailrec_lang.specs.Tree.{GroupTree}
+use Rattle.proof_text.specs.Version.{Version, version_1}
+use Rattle.proof_text.specs.Line.{LineTree, ProofTree}
+use Rattle.proof_text.specs.Spelling.{title_tokens}
+use Rattle.proof_text.specs.Proofs.{proof_tokens, AreProofs, AreProofsIn}
+
+-- a reader's text, its rest from the beginning of a line on, and how many lines lie before that
+pub record Progress : Type 0 where
+  pub text : List ℕ
+  pub rest : List ℕ
+  pub place : ℕ
+
+-- what is given one after the other: a group, or a line of its proof
+pub data ItemTree : Type 0 where
+  Opens : (g : GroupTree) → ItemTree
+  Adds : (l : LineTree) → ItemTree
+
+abbrev pub items : List ProofTree → List ItemTree
+items [] = []
+items (p ∷ ps) = Opens p.group ∷ (map Adds p.lines ++ items ps)
+
+-- a proof with one line more
+abbrev pub with_line : ProofTree → LineTree → ProofTree
+with_line p l = record { group = p.group; lines = p.lines ++ l ∷ [] }
+
+-- the lines up to the end of the last item
+abbrev pub passed_in : Version → List ProofTree → List ℕ
+passed_in v [] = []
+passed_in v (p ∷ ps) = spell Start (title_tokens v ++ all_tokens proof_tokens (p ∷ ps))
+
+abbrev pub passed : List ProofTree → List ℕ
+passed ps = passed_in version_1 ps
+
+-- a whole line follows that begins with this word
+pub record Follows (name : List ℕ) (rest : List ℕ) : Type 0 where
+  pub whole : first_lines 1 rest ≢ None
+  pub others : List ℕ
+  pub word : Stands Start rest (Atom name) others
+
+-- a group ends where no further definition follows
+abbrev pub Ended : List ProofTree → List ℕ → Type 0
+Ended ps rest = (before : List ItemTree) (g : GroupTree) → items ps ≡ before ++ Opens g ∷ [] → Follows (codes "def") rest → ⊥
+
+-- the items of these proofs were given, and are all that stands before the rest
+pub record HasGiven (ps : List ProofTree) (r : Progress) : Type 0 where
+  pub fit : AreProofs ps
+  pub text : r.text ≡ passed ps ++ r.rest
+  pub place : r.place ≡ newlines (passed ps)
+  pub ended : Ended ps r.rest
+
+-- the lines of a proof have ended: the next group follows, or the line that ends the text
+abbrev pub ProofEnds : List ℕ → Type 0
+ProofEnds rest = Follows (codes "group") rest ⊎ Follows (codes "end") rest
+
+-- the text begins here, or the lines of the last proof have ended
+abbrev pub MayOpen : List ProofTree → List ℕ → Type 0
+MayOpen [] rest = Unit {0}
+MayOpen (p ∷ ps) rest = ProofEnds rest
+
+-- these proofs are all that stands before the rest of a text
+pub record AreBefore (v : Version) (bytes : List ℕ) (ps : List ProofTree) (rest : List ℕ) : Type 0 where
+  pub fit : AreProofsIn v ps
+  pub text : bytes ≡ passed_in v ps ++ rest
+  pub ended : Ended ps rest
+
+-- the first items of a text
+abbrev pub AreReadIn : Version → List ℕ → List ProofTree → Type 0
+AreReadIn v bytes ps = (rest : List ℕ) × AreBefore v bytes ps rest
+
+abbrev pub AreRead : List ℕ → List ProofTree → Type 0
+AreRead bytes ps = AreReadIn version_1 bytes ps
+
+-- the items of the one list begin with those of the other
+abbrev pub BeginsWithItems : List ProofTree → List ProofTree → Type 0
+BeginsWithItems ps qs = (more : List ItemTree) × (items ps ≡ items qs ++ more)

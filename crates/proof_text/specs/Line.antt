@@ -1,0 +1,60 @@
+-- The lines of a proof as trees: what contracts see of them, whatever their places in memory.
+use Rattle.std.specs.Prelude.{ℕ, List, map}
+use Rattle.word_terms.specs.Tree.{WordTree, MemTree, word_tree, mem_tree}
+use Rattle.word_terms.specs.declared.term.Word.{Word}
+use Rattle.word_terms.specs.declared.term.Mem.{Mem}
+use Rattle.tailrec_lang.specs.Tree.{GroupTree}
+use Rattle.triple_kernel.specs.Tree.{TripleTree, triple_tree}
+use Rattle.triple_kernel.specs.declared.form.Form.{Form}
+use Rattle.proof_text.specs.declared.line.Rule.{Rule}
+use Rattle.proof_text.specs.declared.line.Rule.TheVariants as rule
+use Rattle.proof_text.specs.declared.line.Line.{Line}
+use Rattle.proof_text.specs.declared.line.Line.TheVariants as line
+
+-- the rule by which a triple is stated, with the theorems that it is stated from
+pub data RuleTree : Type 0 where
+  Axiom : (address word : ℕ) (form : Form) → RuleTree
+  Inst : (p : ℕ) (words : List (ℕ × WordTree)) (mems : List (ℕ × MemTree)) → RuleTree
+  Frame : (p : ℕ) → RuleTree
+  Compose : (p q : ℕ) → RuleTree
+  ExtendCode : (p : ℕ) → RuleTree
+  Strengthen : (p : ℕ) → RuleTree
+  Weaken : (p : ℕ) → RuleTree
+  Discharge : (p : ℕ) → RuleTree
+  UseExit : (def exit : ℕ) → RuleTree
+
+-- a line states a triple, closes a definition by a theorem for each leaf of its body, or forgets a theorem
+pub data LineTree : Type 0 where
+  States : (rule : RuleTree) (stated : TripleTree) → LineTree
+  Loop : (def : ℕ) (cited : List ℕ) → LineTree
+  Forget : (k : ℕ) → LineTree
+
+-- a group with its proof
+pub record ProofTree : Type 0 where
+  pub group : GroupTree
+  pub lines : List LineTree
+
+-- a variable's number and the tree of its term
+abbrev pub word_put_in : ℕ × Word → ℕ × WordTree
+word_put_in s = (s.0, word_tree s.1)
+
+abbrev pub mem_put_in : ℕ × Mem → ℕ × MemTree
+mem_put_in s = (s.0, mem_tree s.1)
+
+-- the tree of a rule
+abbrev pub rule_tree : Rule → RuleTree
+rule_tree (rule.Axiom address word form) = Axiom address word form
+rule_tree (rule.Inst p s) = Inst p (map word_put_in s.words) (map mem_put_in s.mems)
+rule_tree (rule.Frame p) = Frame p
+rule_tree (rule.Compose p q) = Compose p q
+rule_tree (rule.ExtendCode p) = ExtendCode p
+rule_tree (rule.Strengthen p) = Strengthen p
+rule_tree (rule.Weaken p) = Weaken p
+rule_tree (rule.Discharge p) = Discharge p
+rule_tree (rule.UseExit def exit) = UseExit def exit
+
+-- the tree of a line
+abbrev pub line_tree : Line → LineTree
+line_tree (line.States by stated) = States (rule_tree by) (triple_tree stated)
+line_tree (line.Loop def cited) = Loop def cited
+line_tree (line.Forget k) = Forget k

@@ -1,0 +1,68 @@
+-- How groups are written with the lines of their proofs. A group without lines is written as it is alone.
+--
+--   TEXT  = mcproof V eol PROOF* end eol
+--   PROOF = GROUP LINE*
+use Rattle.std.specs.Prelude.{ℕ, List, [], ◌∷◌, ◌++◌, map}
+use Rattle.std.specs.List.{AllByRecursion}
+use Rattle.mc_text.specs.Tokens.{Tok, spell, all_tokens}
+use Rattle.mc_text.specs.Fault.{Grammar}
+use Rattle.mc_text.specs.declared.token.Before.TheVariants.{Start}
+use Rattle.rv_words.specs.declared.range.Range.{Range}
+use Rattle.tailrec_lang.specs.Tree.{GroupTree}
+use Rattle.proof_text.specs.Version.{Version, version_1}
+use Rattle.proof_text.specs.Line.{LineTree, ProofTree}
+use Rattle.proof_text.specs.Spelling.{group_tokens, title_tokens, end_tokens}
+use Rattle.proof_text.specs.LineSpelling.{line_tokens}
+use Rattle.proof_text.specs.Limits.{IsGroupIn}
+use Rattle.proof_text.specs.LineLimits.{IsLine}
+
+abbrev pub proof_tokens : ProofTree → List Tok
+proof_tokens p = group_tokens p.group ++ all_tokens (line_tokens p.group.code) p.lines
+
+abbrev pub tokens_of_proofs_in : Version → List ProofTree → List Tok
+tokens_of_proofs_in v ps = title_tokens v ++ (all_tokens proof_tokens ps ++ end_tokens)
+
+-- the text of a list of proofs in that version
+abbrev pub text_of_proofs_in : Version → List ProofTree → List ℕ
+text_of_proofs_in v ps = spell Start (tokens_of_proofs_in v ps)
+
+pub record IsProofIn (v : Version) (p : ProofTree) : Type 0 where
+  pub group : IsGroupIn v p.group
+  pub lines : AllByRecursion IsLine p.lines
+
+abbrev pub AreProofsIn : Version → List ProofTree → Type 0
+AreProofsIn v ps = AllByRecursion (IsProofIn v) ps
+
+-- the texts of lists of proofs in that version
+abbrev pub texts_of_proofs_in : Version → Grammar (List ProofTree)
+texts_of_proofs_in v = record { Has = AreProofsIn v; text = text_of_proofs_in v }
+
+abbrev pub groups_of : List ProofTree → List GroupTree
+groups_of ps = map (λ (p : ProofTree). p.group) ps
+
+-- a group as a proof without lines
+abbrev pub bare : GroupTree → ProofTree
+bare g = record { group = g; lines = [] }
+
+-- ---- the parts of a text, which are printed one by one
+
+-- the lines' texts, one after the other, beside the group's own code
+abbrev pub line_texts : List Range → List LineTree → List ℕ
+line_texts own [] = []
+line_texts own (l ∷ ls) = spell Start (line_tokens own l) ++ line_texts own ls
+
+-- each group's text, and those of its lines after it
+abbrev pub proof_texts_of : List ProofTree → List ℕ
+proof_texts_of [] = []
+proof_texts_of (p ∷ ps) = (spell Start (group_tokens p.group) ++ line_texts p.group.code p.lines) ++ proof_texts_of ps
+
+-- ---- the version that is written
+
+abbrev pub text_of_proofs : List ProofTree → List ℕ
+text_of_proofs ps = text_of_proofs_in version_1 ps
+
+abbrev pub AreProofs : List ProofTree → Type 0
+AreProofs ps = AreProofsIn version_1 ps
+
+abbrev pub texts_of_proofs : Grammar (List ProofTree)
+texts_of_proofs = texts_of_proofs_in version_1

@@ -1,0 +1,111 @@
+//! Reading the lines of proofs.
+
+ghost use Rattle.std.specs.Prelude.{◌≡◌, Ok, None, option_map, true};
+ghost use Rattle.mc_text.specs.Reading.{goes_on, star};
+ghost use Rattle.mc_text.specs.Scanning.{tokens_at};
+ghost use Rattle.mc_text.specs.Outcome.{Gives, last_line};
+ghost use Rattle.proof_text.specs.Line.{line_tree};
+ghost use Rattle.proof_text.specs.inner.Reading.{has_atom};
+ghost use Rattle.proof_text.specs.inner.LineReading.{ends_proof, forget_row, line_at, loop_row, stated_row, theorem_at, turn_of};
+
+use crate::bodies::read_index;
+use crate::heads::has_atom;
+use crate::line::Line;
+use crate::line_rules::{read_rule, read_theorem};
+use crate::line_triples::read_triple;
+use mc_text::cursor::{eol, peek};
+use mc_text::{Scan, Stop, Token};
+use rv_words::List;
+use std::alloc::Global;
+use word_terms::Code;
+
+/// The numbers of theorems up to the end of the line.
+fn read_theorems<'a>(alloc: Global, scan: &mut Scan<'a>) -> Result<List<u64>, Stop>
+    ensures gives { Gives (λ theorems. theorems) result scan.old scan.new (star has_atom theorem_at) }
+    ensures last { last_line scan.new ≡ last_line scan.old }
+{
+    let mut theorems = List::new(alloc);
+    'each: while has_atom(scan) {
+        match read_theorem(scan) {
+            Ok(theorem) => theorems.push(theorem)?,
+            Err(stop) => return Err(stop),
+        }
+    }
+    Ok(theorems)
+}
+
+/// What stands after the word of a line that closes a definition.
+fn read_loop<'a>(alloc: Global, scan: &mut Scan<'a>) -> Result<Line, Stop>
+    ensures gives { Gives line_tree result scan.old scan.new loop_row }
+    ensures last { last_line scan.new ≡ last_line scan.old }
+{
+    let def = read_index(scan)?;
+    let cited = read_theorems(alloc, scan)?;
+    eol(scan)?;
+    Ok(Line::Loop { def, cited })
+}
+
+/// What stands after the word of a line that forgets a theorem.
+fn read_forget<'a>(scan: &mut Scan<'a>) -> Result<Line, Stop>
+    ensures gives { Gives line_tree result scan.old scan.new forget_row }
+    ensures last { last_line scan.new ≡ last_line scan.old }
+{
+    let k = read_theorem(scan)?;
+    eol(scan)?;
+    Ok(Line::Forget(k))
+}
+
+/// A line that states a triple, by the group's own code.
+fn read_stated<'a>(alloc: Global, scan: &mut Scan<'a>, own: &Code) -> Result<Line, Stop>
+    ensures gives { Gives line_tree result scan.old scan.new (stated_row own.now.ranges) }
+    ensures last { last_line scan.new ≡ last_line scan.old }
+{
+    let rule = read_rule(alloc, scan)?;
+    let stated = read_triple(alloc, scan, own)?;
+    eol(scan)?;
+    Ok(Line::States { rule, stated })
+}
+
+/// A line, by the group's own code.
+#[tactic(auto, unfolding(crate::specs::inner::LineReading::line_at))]
+fn read_line<'a>(alloc: Global, scan: &mut Scan<'a>, own: &Code) -> Result<Line, Stop>
+    ensures gives { Gives line_tree result scan.old scan.new (line_at own.now.ranges) }
+    ensures last { last_line scan.new ≡ last_line scan.old }
+{
+    match peek(scan) {
+        Some((Token::Atom(name), ahead)) => {
+            if name == b"loop".as_slice() {
+                *scan = ahead;
+                read_loop(alloc, scan)
+            } else if name == b"forget".as_slice() {
+                *scan = ahead;
+                read_forget(scan)
+            } else {
+                read_stated(alloc, scan, own)
+            }
+        }
+        _ => read_stated(alloc, scan, own),
+    }
+}
+
+/// Whether the next group follows or the line that ends the text, to go by the first word.
+fn ends_proof(scan: &Scan<'_>) -> bool
+    ensures { result ≡ goes_on ends_proof (tokens_at scan.now) }
+{
+    match peek(scan) {
+        Some((Token::Atom(name), _)) => name == b"group".as_slice() || name == b"end".as_slice(),
+        _ => false,
+    }
+}
+
+/// The next line, by the group's own code, or none where the group's proof ends.
+pub fn read_turn<'a>(alloc: Global, scan: &mut Scan<'a>, own: &Code) -> Result<Option<Line>, Stop>
+    ensures gives { Gives (λ found. option_map line_tree found) result scan.old scan.new (turn_of own.now.ranges) }
+    ensures ends { goes_on ends_proof (tokens_at scan.old) ≡ true → result ≡ Ok None }
+    ensures last { last_line scan.new ≡ last_line scan.old }
+{
+    if ends_proof(scan) {
+        return Ok(None);
+    }
+    Ok(Some(read_line(alloc, scan, own)?))
+}
