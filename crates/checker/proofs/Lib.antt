@@ -5,3 +5,9 @@ pub mod VariableLemmas
 pub mod SplitLemmas
 pub mod HeadlineLemmas
 pub mod SoundLemmas
+pub mod SubLemmas
+pub mod BenchLemmas
+pub mod FileCodeLemmas
+pub mod FirstLemmas
+pub mod OneVerdict
+pub mod CheckLemmas

@@ -14,11 +14,12 @@ use Rattle.proof_text.specs.Limits.{IsGroup, AreGroups}
 use Rattle.instr_axioms.proofs.AxiomLemmas.{axiom_valid}
 use Rattle.loop_rule.specs.Rule.{IsClosed}
 use Rattle.loop_rule.proofs.LoopLemmas.{closed-valid}
-use Rattle.checker.specs.Line.{RuleTree, Axiom, Inst, Frame, Compose, ExtendCode, Strengthen, Weaken, Discharge, UseExit, LineTree, States, Loop, Forget, ProofTree}
+use Rattle.proof_text.specs.Line.{RuleTree, Axiom, Inst, Frame, Compose, ExtendCode, Strengthen, Weaken, Discharge, UseExit, LineTree, States, Loop, Forget, ProofTree}
 use Rattle.checker.specs.Instance.{History, no_lines, after_line, put_for, Meets, Instance, AreInstances}
 use Rattle.frame_compose.specs.Rules.{IsFramed, IsExtended, IsComposed}
 use Rattle.checker.specs.Sound.{Sound}
-use Rattle.checker.specs.Accepts.{IsAccepted, Accepts, groups_of}
+use Rattle.proof_text.specs.Proofs.{groups_of}
+use Rattle.checker.specs.Accepts.{IsAccepted, Accepts}
 use Rattle.checker.specs.Headline.{IsRight, Headline}
 use Rattle.frame_compose.proofs.FrameLemmas.{valid_frame}
 use Rattle.frame_compose.proofs.ExtendLemmas.{valid_extension}

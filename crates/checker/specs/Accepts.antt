@@ -1,5 +1,5 @@
 -- Which proofs are accepted for a file.
-use Rattle.std.specs.Prelude.{◌≡◌, ℕ, true, List, map}
+use Rattle.std.specs.Prelude.{◌≡◌, ℕ, true, List}
 use Rattle.std.specs.List.{AllByRecursion}
 use Rattle.elf_image.specs.Image.{code_of_file}
 use Rattle.elf_image.specs.Fault.{IsReadable}
@@ -7,7 +7,7 @@ use Rattle.tailrec_lang.specs.Tree.{GroupTree, listed_def}
 use Rattle.tailrec_lang.specs.WellFormed.{IsWellFormed}
 use Rattle.rv_words.specs.Ranges.{range_bytes}
 use Rattle.sep_assert.specs.Code.{IsWithin}
-use Rattle.checker.specs.Line.{ProofTree}
+use Rattle.proof_text.specs.Line.{ProofTree}
 use Rattle.checker.specs.Instance.{AreInstances, no_lines, after_lines}
 
 -- The group's last definition is closed after all lines, and its code is the file's.
@@ -25,7 +25,3 @@ pub record IsAccepted (file : List ℕ) (p : ProofTree) : Type 0 where
 pub record Accepts (file : List ℕ) (ps : List ProofTree) : Type 0 where
   pub readable : IsReadable file
   pub each : AllByRecursion (IsAccepted file) ps
-
--- the groups of proofs
-abbrev pub groups_of : List ProofTree → List GroupTree
-groups_of ps = map (λ (p : ProofTree). p.group) ps

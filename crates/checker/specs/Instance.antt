@@ -7,7 +7,7 @@ use Rattle.triple_kernel.specs.Tree.{TripleTree}
 use Rattle.triple_kernel.specs.Rules.{IsInst, IsStrengthened, IsWeakened, IsDischarged}
 use Rattle.instr_axioms.specs.Axiom.{axiom_of}
 use Rattle.loop_rule.specs.Rule.{IsClosedBy, IsExit}
-use Rattle.checker.specs.Line.{RuleTree, Axiom, Inst, Frame, Compose, ExtendCode, Strengthen, Weaken, Discharge, UseExit, LineTree, States, Loop, Forget}
+use Rattle.proof_text.specs.Line.{RuleTree, Axiom, Inst, Frame, Compose, ExtendCode, Strengthen, Weaken, Discharge, UseExit, LineTree, States, Loop, Forget}
 use Rattle.frame_compose.specs.Rules.{IsFramed, IsExtended, IsComposed}
 
 -- what lines leave behind them: the number of the next theorem, the theorem of each number, if it exists and wasn't

@@ -1,5 +1,7 @@
-pub mod Line
 pub mod Instance
 pub mod Headline
 pub mod Sound
 pub mod Accepts
+pub mod Bench
+pub mod Verdicts
+pub mod inner

@@ -8,9 +8,10 @@ ghost use Rattle.rv_words.specs.Ranges.{range_bytes};
 ghost use Rattle.sep_assert.specs.Code.{IsWithin};
 ghost use Rattle.proof_text.specs.Limits.{AreGroups, AreRegistersFrom};
 ghost use Rattle.loop_rule.specs.Rule.{IsClosed};
-ghost use Rattle.checker.specs.Line.{LineTree, ProofTree};
+ghost use Rattle.proof_text.specs.Line.{LineTree, ProofTree};
+ghost use Rattle.proof_text.specs.Proofs.{groups_of};
 ghost use Rattle.checker.specs.Instance.{History, Instance, after_line};
-ghost use Rattle.checker.specs.Accepts.{Accepts, groups_of};
+ghost use Rattle.checker.specs.Accepts.{Accepts};
 ghost use Rattle.checker.specs.Headline.{IsRight, Headline};
 ghost use Rattle.checker.specs.Sound.{Sound};
 
