@@ -8,7 +8,7 @@ use Rattle.std.proofs.lemmas.Grind.{get_or_default_zero}
 use Rattle.std.proofs.lemmas.Bool.Decides.{Decides-eqb}
 use Rattle.std.proofs.Math.ListN.{set, length-set}
 use Rattle.flow_graph.specs.Graph.{GraphOf, HasEdge}
-use Rattle.flow_graph.specs.Walks.{Way, Stop, Leave, AnyNode}
+use Rattle.flow_graph.specs.Walks.{Way, Stop, Leave, AnyNode, Reaches}
 use Rattle.loop_forest.specs.Cycles.{last_of, ShowsTwoEntries, Enters}
 use Rattle.loop_forest.specs.Loops.{IsSettled}
 use Rattle.loop_forest.specs.inner.Second.{EntersBeside}
@@ -39,6 +39,10 @@ searching_start g e n long l =
       starts = λ h. refl;
       seen = ap is_unseen (mark_same M e (Open 0) within e refl);
       left = λ u m h. elim (cases_eq u e) [
+        | inl q ↦ absurd (open_not_left 0 m (sym (mark_same M e (Open 0) within u q) ∙ h))
+        | inr o ↦ absurd (true≢false (ap is_unseen (sym (only u o) ∙ h)))
+      ];
+      different = λ u w m h k. elim (cases_eq u e) [
         | inl q ↦ absurd (open_not_left 0 m (sym (mark_same M e (Open 0) within u q) ∙ h))
         | inr o ↦ absurd (true≢false (ap is_unseen (sym (only u o) ∙ h)))
       ];
@@ -88,6 +92,20 @@ settled_end g e marks count s = record {
 pub settled_at_end : (g : GraphOf) (e : ℕ) (marks : List Mark) (path : List ℕ) (count : ℕ) → Searching g e marks path count → length path ≡ 0 → IsSettled (HasEdge g) e (λ x. number_of (mark_of marks x))
 settled_at_end g e marks [] count s z = settled_end g e marks count s
 settled_at_end g e marks (x ∷ xs) count s z = absurd (omega arith)
+
+pub different_end : (g : GraphOf) (e : ℕ) (marks : List Mark) (count : ℕ) → Searching g e marks [] count → (u v : ℕ) → Reaches (HasEdge g) e u → Reaches (HasEdge g) e v
+    → number_of (mark_of marks u) ≡ number_of (mark_of marks v) → u ≡ v
+different_end g e marks count s u v r t same =
+    let start = was_left (mark_of marks e) s.seen (λ i q. absurd (omega (arith, (s.on_path e i q).0))) in
+    let n = reached_left g e marks count s r start in
+    let m = reached_left g e marks count s t start in
+    let one : m.0 ≡ n.0 = sym (ap number_of m.1) ∙ sym same ∙ ap number_of n.1 in
+    s.different u v n.0 n.1 (m.1 ∙ ap Left one)
+
+pub different_at_end : (g : GraphOf) (e : ℕ) (marks : List Mark) (path : List ℕ) (count : ℕ) → Searching g e marks path count → length path ≡ 0 → (u v : ℕ) → Reaches (HasEdge g) e u → Reaches (HasEdge g) e v
+    → number_of (mark_of marks u) ≡ number_of (mark_of marks v) → u ≡ v
+different_at_end g e marks [] count s z = different_end g e marks count s
+different_at_end g e marks (x ∷ xs) count s z = absurd (omega arith)
 
 -- an edge back to the path, and a walk that enters beside
 pub two_entries : (g : GraphOf) (e : ℕ) (marks : List Mark) (path : List ℕ) (count i : ℕ) (second : List ℕ) → Searching g e marks path count → i < length path → HasEdge g (last_of path) (get_or path i 0) → EntersBeside g (drop i path) e (get_or path i 0) second

@@ -87,6 +87,7 @@ forest_is g loops regions marks table places f m a r t p = record {
   within = λ n l i e. closest_within g (heads loops) n l (get_or regions n None) (r.each n i) e;
   places = λ n l. places_are g loops table n (get_or places n 0) f a t (p.each n l);
   settled = settled_same (HasEdge g) g.entry (λ x. number_of (mark_of marks x)) (λ x. get_or (map number_of marks) x 0) (numbers_are marks) m.settled;
+  different = λ n k l i same. m.different n k (f.reached n l) (f.reached k i) (numbers_are marks n ∙ same ∙ sym (numbers_are marks k));
   as_long = p.as_long;
 }
 

@@ -107,6 +107,13 @@ searching_down g e marks path count v s some edge l unseen =
             let old = s.left u n (sym (mark_other marks v m u o) ∙ h) in
             (old.0, λ w d. done_kept g e marks v m l refl not_left n u w (old.1 w d))
       ];
+      different = λ u w n h k. elim (cases_eq u v) [
+        | inl q ↦ absurd (open_not_left (length path) n (sym (mark_same marks v m l u q) ∙ h))
+        | inr o ↦ elim (cases_eq w v) [
+          | inl q ↦ absurd (open_not_left (length path) n (sym (mark_same marks v m l w q) ∙ k))
+          | inr p ↦ s.different u w n (sym (mark_other marks v m u o) ∙ h) (sym (mark_other marks v m w p) ∙ k)
+        ]
+      ];
       as_long = length-set marks v m ∙ s.as_long;
     }
 
@@ -149,6 +156,21 @@ searching_up g e marks path count u s some u_is done =
         | inr o ↦
             let old = s.left w n (sym (mark_other marks u m w o) ∙ h) in
             (omega (arith, old.0), λ v d. done_kept g e marks u m l refl not_left n w v (old.1 v d))
+      ];
+      different = λ w x n h k. elim (cases_eq w u) [
+        | inl q ↦
+            let same : count ≡ n = left_same count n (sym (mark_same marks u m l w q) ∙ h) in
+            elim (cases_eq x u) [
+              | inl r ↦ q ∙ sym r
+              | inr o ↦ let old = s.left x n (sym (mark_other marks u m x o) ∙ k) in absurd (omega (arith, same, old.0))
+            ]
+        | inr o ↦ elim (cases_eq x u) [
+          | inl r ↦
+              let same : count ≡ n = left_same count n (sym (mark_same marks u m l x r) ∙ k) in
+              let old = s.left w n (sym (mark_other marks u m w o) ∙ h) in
+              absurd (omega (arith, same, old.0))
+          | inr p ↦ s.different w x n (sym (mark_other marks u m w o) ∙ h) (sym (mark_other marks u m x p) ∙ k)
+        ]
       ];
       as_long = length-set marks u m ∙ s.as_long;
     }

@@ -45,7 +45,7 @@ abbrev pub incoming : GraphOf → ℕ → ℕ
 incoming g n = length (preds_of g.edges n)
 
 -- The forest of a graph: all loops, by rising head, with exactly their nodes and their exits, which rise and are few; the region and
--- the place of each node; and numbers that fall along each edge that is no back edge.
+-- the place of each node; and numbers, a different one for each node, that fall along each edge that is no back edge.
 pub record IsForestOf (g : GraphOf) (f : ForestOf) : Type 0 where
   pub rising : IsRising f.heads
   pub heads : (h : ℕ) → Contains f.heads h ↔ IsHead (HasEdge g) g.entry h
@@ -57,6 +57,7 @@ pub record IsForestOf (g : GraphOf) (f : ForestOf) : Type 0 where
   pub within : (n l : ℕ) → n < length g.addrs → region_of f n ≡ Some l → l < length f.heads
   pub places : (n : ℕ) → n < length g.addrs → StandsAt (HasEdge g) (IsBase (HasEdge g) g.entry (incoming g)) n (place_of f n)
   pub settled : IsSettled (HasEdge g) g.entry (number_of f)
+  pub different : (n m : ℕ) → n < length g.addrs → m < length g.addrs → number_of f n ≡ number_of f m → n ≡ m
   pub as_long : length f.places ≡ length g.addrs
 
 -- there are no two entries, and the node at a is the least head whose loop has too many exits

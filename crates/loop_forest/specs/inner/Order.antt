@@ -1,6 +1,7 @@
 -- The order in which a search in depth leaves the nodes.
 use Rattle.std.specs.Prelude.{◌≡◌, ℕ, ◌+◌, ◌<◌, ◌≤◌, ◌⊎◌, Bool, true, false, List, length, slice_index, slice_index_or}
 use Rattle.flow_graph.specs.Graph.{GraphOf, HasEdge}
+use Rattle.flow_graph.specs.Walks.{Reaches}
 use Rattle.loop_forest.specs.Loops.{IsMetBefore, IsSettled}
 use Rattle.loop_forest.specs.Cycles.{ShowsTwoEntries}
 use Rattle.loop_forest.specs.declared.order.Mark.{Mark}
@@ -33,11 +34,13 @@ pub record Searching (g : GraphOf) (e : ℕ) (marks : List Mark) (path : List �
   pub starts : 0 < length path → slice_index path 0 ≡ e
   pub seen : is_unseen (mark_of marks e) ≡ false
   pub left : (u n : ℕ) → mark_of marks u ≡ Left n → (n < count) × ((v : ℕ) → HasEdge g u v → IsDone g e marks n u v)
+  pub different : (u v n : ℕ) → mark_of marks u ≡ Left n → mark_of marks v ≡ Left n → u ≡ v
   pub as_long : length marks ≡ length g.addrs
 
 -- the marks of all nodes at the end, where there are no two entries
 pub record IsNumbered (g : GraphOf) (e : ℕ) (marks : List Mark) : Type 0 where
   pub settled : IsSettled (HasEdge g) e (λ x. number_of (mark_of marks x))
+  pub different : (u v : ℕ) → Reaches (HasEdge g) e u → Reaches (HasEdge g) e v → number_of (mark_of marks u) ≡ number_of (mark_of marks v) → u ≡ v
   pub few : (x : ℕ) → number_of (mark_of marks x) ≤ length g.addrs
   pub as_long : length marks ≡ length g.addrs
 
