@@ -1,0 +1,158 @@
+-- The lines of a call, for one of its exits: use, inst, compose.
+use Rattle.std.proofs.Common.{◌≡◌, ℕ, suc, ◌+◌, List, [], ◌∷◌, ◌++◌, map, length, drop, zip, true, false, cond, refl, sym, ap, ◌∙◌, arith, Some, ◌⊎◌, Contains}
+use Rattle.std.specs.Prelude.{slice_get, slice_index_or}
+use Rattle.std.specs.List.{range_with_len}
+use Rattle.std.proofs.lemmas.List.Elements.{Contains-append_left, Contains-append_right}
+use Rattle.std.proofs.lemmas.List.FromFn.{length-range_with_len}
+use Rattle.word_terms.specs.Tree.{WordTree, MemTree, Const, Var, MemVar}
+use Rattle.rv_words.specs.declared.range.Range.{Range}
+use Rattle.word_terms.specs.Substitution.{Substitution, put_in_word, put_in_mem}
+use Rattle.tailrec_lang.specs.declared.group.Exit.{Exit}
+use Rattle.tailrec_lang.specs.declared.group.Exit.TheVariants.{At, Ret}
+use Rattle.tailrec_lang.specs.Tree.{ValuesTree, DefTree, GroupTree}
+use Rattle.tailrec_lang.specs.WellFormed.{exit_words}
+use Rattle.triple_kernel.specs.Tree.{FactTree, Gives, TripleTree}
+use Rattle.triple_kernel.specs.Rules.{IsInst, put_in_values, put_in_register, put_in_assertion}
+use Rattle.proof_text.specs.Limits.{AreRegistersFrom}
+use Rattle.loop_rule.specs.Leaves.{variables_after, parameters, with_values, at_exit}
+use Rattle.loop_rule.specs.Rule.{results, exit_triple}
+use Rattle.proof_text.specs.Line.{UseExit, Inst}
+use Rattle.checker.specs.Instance.{History, with_theorem, put_for, Meets}
+use Rattle.instr_axioms.specs.Axiom.{memory_if}
+use Rattle.path_walk.specs.Bodies.{Flow, Place, mem_count, current}
+use Rattle.path_walk.specs.inner.Histories.{exit_place, group_over, pc_of}
+use Rattle.path_walk.proofs.Lists.{numbered, listed-left, listed-right, put-words, put-mems, length-map, current-fresh}
+use Rattle.path_walk.proofs.Made.{made_one, made_join, held_last}
+use Rattle.path_walk.proofs.Fits.{Stands, From, from-counted, Makes}
+use Rattle.path_walk.proofs.Joins.{some_and, goes_on}
+
+-- ---- terms put in
+
+put-zip : (s : Substitution) (rs : List ℕ) (ts : List WordTree) → map (put_in_register s) (zip rs ts) ≡ zip rs (map (put_in_word s) ts)
+put-zip s [] ts = refl
+put-zip s (r ∷ rs) [] = refl
+put-zip s (r ∷ rs) (t ∷ ts) = let rest = put-zip s rs ts in λ i. (r, put_in_word s t) ∷ rest i
+
+put-with : (s : Substitution) (g : GroupTree) (pc : WordTree) (v : ValuesTree) → put_in_assertion s (with_values g pc v) ≡ with_values g (put_in_word s pc) (put_in_values s v)
+put-with s g pc v = let regs = put-zip s g.regs v.words in λ i. record { pc = put_in_word s pc; regs = regs i; mems = map (put_in_mem s) v.mems }
+
+put-first : (s : Substitution) (ts : List WordTree) → put_in_word s (slice_index_or ts 0 (Const 0)) ≡ slice_index_or (map (put_in_word s) ts) 0 (Const 0)
+put-first s [] = refl
+put-first s (t ∷ ts) = refl
+
+put-rest : (s : Substitution) (ts : List WordTree) → map (put_in_word s) (drop 1 ts) ≡ drop 1 (map (put_in_word s) ts)
+put-rest s [] = refl
+put-rest s (t ∷ ts) = refl
+
+put-exit : (s : Substitution) (g : GroupTree) (x : Exit) (v : ValuesTree) → put_in_assertion s (at_exit g (Some x) v) ≡ at_exit g (Some x) (put_in_values s v)
+put-exit s g (At a) v = put-with s g (Const a) v
+put-exit s g Ret v =
+    let pc = put-first s v.words in
+    let words = put-rest s v.words in
+    put-with s g (slice_index_or v.words 0 (Const 0)) (record { words = drop 1 v.words; mems = v.mems })
+    ∙ (λ i. with_values g (pc i) (record { words = words i; mems = map (put_in_mem s) v.mems }))
+
+length-memory : (f : Flow) (m : MemTree) → length (memory_if f.has_mem m) ≡ mem_count f
+length-memory f m = elim f.has_mem as (λ b. length (memory_if b m) ≡ (cond b 1 0)) [ true ↦ refl | false ↦ refl ]
+
+length-variables : (from n : ℕ) → length (map Var (range_with_len from n)) ≡ n
+length-variables from n = length-map Var (range_with_len from n) ∙ length-range_with_len from n
+
+length-mem_variables : (from n : ℕ) → length (map MemVar (range_with_len from n)) ≡ n
+length-mem_variables from n = length-map MemVar (range_with_len from n) ∙ length-range_with_len from n
+
+-- ---- results
+
+pub exit-fresh : (f : Flow) (name : List ℕ) (ranges : List Range) (defs : List DefTree) (x : Exit) (words mems : ℕ) → AreRegistersFrom 1 f.regs →
+    at_exit (group_over f name ranges defs) (Some x) (variables_after words mems (exit_words (group_over f name ranges defs) x) (mem_count f))
+    ≡ with_values (group_over f name ranges defs) (pc_of x words) (current f (exit_place f x words mems))
+exit-fresh f name ranges defs (At a) words mems rise = ap (with_values (group_over f name ranges defs) (Const a)) (current-fresh f words mems rise)
+exit-fresh f name ranges defs Ret words mems rise =
+    let count : length f.regs + 1 ≡ suc (length f.regs) = omega arith in
+    let next : words + 1 ≡ suc words = omega arith in
+    (λ i. at_exit (group_over f name ranges defs) (Some Ret) (variables_after words mems (count i) (mem_count f)))
+    ∙ (λ i. with_values (group_over f name ranges defs) (Var words) (variables_after (next i) mems (length f.regs) (mem_count f)))
+    ∙ ap (with_values (group_over f name ranges defs) (Var words)) (current-fresh f (suc words) mems rise)
+
+module _ (f : Flow) (name : List ℕ) (ranges : List Range) (defs : List DefTree) (def : DefTree)
+    (decides : (known : List FactTree) (x : FactTree) → Contains known x ⊎ (Contains known x → ⊥)) (rise : AreRegistersFrom 1 f.regs) where
+  abbrev g : GroupTree
+  g = group_over f name ranges defs
+
+  module _ (v : Place) (x : Exit) where
+    abbrev count : ℕ
+    count = exit_words (group_over f name ranges defs) x
+
+    -- the next variables, for the results
+    abbrev news : ValuesTree
+    news = variables_after v.words v.mems (exit_words (group_over f name ranges defs) x) (mem_count f)
+
+    -- the parameters become the current variables, the results the next ones
+    abbrev pub call_words : List (ℕ × WordTree)
+    call_words = numbered 0 ((current f v).words ++ news.words)
+
+    abbrev pub call_mems : List (ℕ × MemTree)
+    call_mems = numbered 0 ((current f v).mems ++ news.mems)
+
+    abbrev sub : Substitution
+    sub = put_for call_words call_mems
+
+    many : length (current f v).words ≡ length f.regs
+    many = length-map (λ r. Var (v.reg r)) f.regs
+
+    many_mems : length (current f v).mems ≡ mem_count f
+    many_mems = length-memory f (MemVar v.memory)
+
+    put-parameters : put_in_values sub (parameters g) ≡ current f v
+    put-parameters =
+        let ws = (λ i. map (put_in_word sub) (map Var (range_with_len 0 (sym many i)))) ∙ put-words sub 0 (current f v).words (λ k t e. listed-left 0 k (current f v).words news.words t e) in
+        let ms = (λ i. map (put_in_mem sub) (map MemVar (range_with_len 0 (sym many_mems i)))) ∙ put-mems sub 0 (current f v).mems (λ k t e. listed-left 0 k (current f v).mems news.mems t e) in
+        λ i. record { words = ws i; mems = ms i }
+
+    put-results : put_in_values sub (variables_after (length f.regs) (mem_count f) count (mem_count f)) ≡ news
+    put-results =
+        let ws = (λ i. map (put_in_word sub) (map Var (range_with_len (length f.regs) (sym (length-variables v.words count) i)))) ∙ put-words sub (length f.regs) news.words (λ k t e.
+        let sum : length f.regs + k ≡ 0 + (length (current f v).words + k) = omega (arith, many) in
+        (λ i. sub.word (sum i)) ∙ listed-right 0 k (current f v).words news.words t e) in
+        let ms = (λ i. map (put_in_mem sub) (map MemVar (range_with_len (mem_count f) (sym (length-mem_variables v.mems (mem_count f)) i)))) ∙ put-mems sub (mem_count f) news.mems (λ k t e.
+        let sum : mem_count f + k ≡ 0 + (length (current f v).mems + k) = omega (arith, many_mems) in
+        (λ i. sub.mem (sum i)) ∙ listed-right 0 k (current f v).mems news.mems t e) in
+        λ i. record { words = ws i; mems = ms i }
+
+    -- the exit's triple, over the current variables
+    abbrev pub used : ℕ → DefTree → ℕ → TripleTree
+    used d callee k = record {
+      facts = Gives d k (current f v) news ∷ [];
+      pre = with_values g (Const callee.entry) (current f v);
+      code = ranges;
+      post = at_exit g (Some x) news;
+    }
+
+    pub used-inst : (d : ℕ) (callee : DefTree) (k : ℕ) → IsInst sub (exit_triple g d callee k x) (used d callee k)
+    used-inst d callee k = record {
+      facts = λ i. Gives d k (put-parameters i) (put-results i) ∷ [];
+      pre = put-with sub g (Const callee.entry) (parameters g) ∙ (λ i. with_values g (Const callee.entry) (put-parameters i));
+      code = refl;
+      post = put-exit sub g x (results g x) ∙ (λ i. at_exit g (Some x) (put-results i));
+    }
+
+  -- the lines of a call leave the theorem of the arm's beginning
+  pub calls : (d k : ℕ) (callee : DefTree) (x : Exit) → slice_get defs d ≡ Some callee → slice_get callee.exits k ≡ Some x →
+      (h : History) → h.closed d ≡ true → (v : Place) (path : List FactTree) → From f name ranges defs def h (Const callee.entry) v path →
+      Makes f name ranges defs def h (λ m. Stands f name ranges defs def m (pc_of x v.words) (exit_place f x v.words v.mems)
+      (path ++ Gives d k (current f v) (variables_after v.words v.mems (exit_words g x) (mem_count f)) ∷ []))
+  calls d k callee x is at h closed v path from =
+      let counted = from-counted f name ranges defs def h (Const callee.entry) v path from in
+      let t0 : TripleTree = exit_triple g d callee k x in
+      let t1 : TripleTree = used v x d callee k in
+      let h1 : History = with_theorem t0 h in
+      let h2 : History = with_theorem t1 h1 in
+      let meets0 : Meets g h (UseExit d k) t0 = (closed, record { def = callee; is = is; x = x; at = at; same = refl }) in
+      let one = made_one g h (UseExit d k) t0 counted meets0 in
+      let meets1 : Meets g h1 (Inst h.next (call_words v x) (call_mems v x)) t1 =
+      some_and (h1.theorem h.next) t0 (λ p. IsInst (put_for (call_words v x) (call_mems v x)) p t1) (held_last t0 h) (used-inst v x d callee k) in
+      let two = made_one g h1 (Inst h.next (call_words v x) (call_mems v x)) t1 one.counted meets1 in
+      goes_on f name ranges defs def decides rise h h2 (Const callee.entry) v path from (made_join g h h1 h2 one two) h1.next t1 (held_last t1 h1) refl
+      (pc_of x v.words) (exit_place f x v.words v.mems) (path ++ Gives d k (current f v) (variables_after v.words v.mems (exit_words g x) (mem_count f)) ∷ [])
+      (exit-fresh f name ranges defs x v.words v.mems rise) (λ a b e. e)
+      (record { each = λ y c. Contains-append_right path t1.facts y c }) (record { each = λ y c. Contains-append_left path t1.facts y c })

@@ -1,0 +1,300 @@
+-- The triples of one instruction: its axiom, over the current variables, over all registers, and with new variables.
+use Rattle.std.proofs.Common.{◌≡◌, ℕ, zero, suc, ◌+◌, ◌<◌, ◌≤◌, List, [], ◌∷◌, ◌++◌, map, length, drop, filter, Bool, true, false, cond, not, eqb, ◌||◌, refl, sym, ap, ◌∙◌, subst, arith, Some, None, inl, inr, Contains, eqb-true, eq-eqb, ne_eqb}
+use Rattle.std.proofs.lemmas.Bool.{eqb-false}
+use Rattle.std.specs.List.{AllZip, range_with_len, position_or_len}
+use Rattle.std.specs.Option.{option_and_then}
+use Rattle.std.specs.Prelude.{unwrap_or}
+use Rattle.std.proofs.lemmas.List.Elements.{Contains-append_left, Contains-append_right}
+use Rattle.rv_decode.specs.declared.instruction.Instr.{Instr}
+use Rattle.rv_decode.specs.declared.instruction.Instr.TheVariants as instr
+use Rattle.rv_decode.specs.Decodes.{decoded}
+use Rattle.rv_machine.specs.Step.{is_aligned}
+use Rattle.word_terms.specs.Tree.{WordTree, MemTree, Const, Var, Bin, Extend, Load, MemVar, Store}
+use Rattle.rv_words.specs.declared.range.Range.{Range}
+use Rattle.word_terms.specs.Substitution.{listed, put_in_mem}
+use Rattle.triple_kernel.specs.Tree.{FactTree, WordIs, MemIs, So, TripleTree}
+use Rattle.triple_kernel.specs.Rules.{IsInst, IsWeakened}
+use Rattle.triple_kernel.specs.Swap.{WordsStated, MemsStated, SwapWord, SwapMem, SwapRegister}
+use Rattle.proof_text.specs.Limits.{AreRegistersFrom}
+use Rattle.frame_compose.specs.Rules.{is_listed, listed as those_listed, IsFramed}
+use Rattle.checker.specs.Instance.{put_for}
+use Rattle.triple_kernel.specs.declared.form.Form.{Form}
+use Rattle.rv_decode.specs.Registers.{is_read, registers_where, sources, destination}
+use Rattle.instr_axioms.specs.Terms.{Names, has_memory, conditions, result, word_after, memory_after, pc_after, has_form}
+use Rattle.instr_axioms.specs.Axiom.{register_with, memory_if, before, triple_over, is_own, own, variables_for, own_triple, triple_if, axiom_of}
+use Rattle.instr_axioms.proofs.Instances.{Becomes, is_inst}
+use Rattle.path_walk.specs.Bodies.{Place, names, is_store, wrote, stored, place_after}
+pub use Rattle.path_walk.specs.inner.Acts.{named_triple, new_facts, own_mems, own_words}
+use Rattle.path_walk.proofs.Lists.{here, later, in_range, is_in, in-true, smaller-is, numbered, listed-place}
+
+-- ---- an instruction's own registers
+
+abbrev range_of : (a n : ℕ) → List ℕ
+range_of a n = range_with_len a n
+
+pub filter-rise : (p : ℕ → Bool) (a n : ℕ) → a + n ≤ 32 → AreRegistersFrom a (filter p (range_with_len a n))
+filter-rise p a zero le = tt
+filter-rise p a (suc n) le = go (p a) (filter-rise p (a + 1) n (omega arith))
+  where
+    up : (b c : ℕ) (xs : List ℕ) → b ≤ c → AreRegistersFrom c xs → AreRegistersFrom b xs
+    up b c [] low h = tt
+    up b c (x ∷ xs) low h = (omega (arith, h.0, low), h.1, h.2)
+
+    go : (b : Bool) → AreRegistersFrom (a + 1) (filter p (range_with_len (a + 1) n)) → AreRegistersFrom a (cond b (a ∷ filter p (range_with_len (a + 1) n)) (filter p (range_with_len (a + 1) n)))
+    go true h = (omega arith, omega arith, h)
+    go false h = up a (a + 1) (filter p (range_with_len (a + 1) n)) (omega arith) h
+
+pub filter-has : (p : ℕ → Bool) (a n r : ℕ) → a ≤ r → r < a + n → p r ≡ true → Contains (filter p (range_with_len a n)) r
+filter-has p a zero r low high e = absurd (omega arith)
+filter-has p a (suc n) r low high e = go (eqb a r) refl (λ more. filter-has p (a + 1) n r more (omega (arith, high)) e)
+  where
+    put : (b : Bool) → Contains (filter p (range_with_len (a + 1) n)) r → Contains (cond b (a ∷ filter p (range_with_len (a + 1) n)) (filter p (range_with_len (a + 1) n))) r
+    put true c = later a (filter p (range_with_len (a + 1) n)) r c
+    put false c = c
+
+    go : (b : Bool) → eqb a r ≡ b → (a + 1 ≤ r → Contains (filter p (range_with_len (a + 1) n)) r) → Contains (cond (p a) (a ∷ filter p (range_with_len (a + 1) n)) (filter p (range_with_len (a + 1) n))) r
+    go true is on =
+        let same : a ≡ r = eqb-true a r is in
+        subst (λ b. Contains (cond b (a ∷ filter p (range_with_len (a + 1) n)) (filter p (range_with_len (a + 1) n))) r) (sym (ap p same ∙ e)) (0, omega arith, same)
+    go false is on = let ne = eqb-false a r is in put (p a) (on (above a r low ne))
+      where
+        above : (a r : ℕ) → a ≤ r → (a ≡ r → ⊥) → a + 1 ≤ r
+        above a r low ne = omega (arith, low, ne)
+
+filter-test : (p : ℕ → Bool) (xs : List ℕ) (r : ℕ) → Contains (filter p xs) r → p r ≡ true
+filter-test p [] r c = absurd (omega (arith, c.1))
+filter-test p (x ∷ xs) r c = go (p x) refl c (λ d. filter-test p xs r d)
+  where
+    go : (b : Bool) → p x ≡ b → Contains (cond b (x ∷ filter p xs) (filter p xs)) r → (Contains (filter p xs) r → p r ≡ true) → p r ≡ true
+    go true is (zero, lt, at) on = ap p (sym at) ∙ is
+    go true is (suc k, lt, at) on = on (k, omega (arith, lt), at)
+    go false is c on = on c
+
+pub own-rise : (i : Instr) → AreRegistersFrom 1 (own i)
+unfolding registers_where
+own-rise i = filter-rise (is_own i) 1 31 (omega arith)
+
+pub own-has : (i : Instr) (r : ℕ) → 1 ≤ r → r ≤ 31 → is_own i r ≡ true → Contains (own i) r
+unfolding registers_where
+own-has i r low high e = filter-has (is_own i) 1 31 r low (omega arith) e
+
+pub own-test : (i : Instr) (r : ℕ) → Contains (own i) r → is_own i r ≡ true
+unfolding registers_where
+own-test i r c = filter-test (is_own i) (range_with_len 1 31) r c
+
+pub or_left : (b c : Bool) → b ≡ true → (b || c) ≡ true
+or_left true c e = refl
+or_left false c e = absurd (cc)
+
+pub or_right : (b c : Bool) → c ≡ true → (b || c) ≡ true
+or_right true c e = refl
+or_right false c e = e
+
+-- ---- the axiom
+
+pub axiom-is : (i : Instr) (a w : ℕ) (form : Form) → is_aligned a ≡ true → decoded w ≡ Some i → has_form i form a ≡ true → axiom_of a w form ≡ Some (own_triple i form a w)
+unfolding axiom_of
+axiom-is i a w form even is has =
+    (λ j. cond (even j) (option_and_then (triple_if a w form) (is j)) None) ∙ (λ j. cond (has j) (Some (own_triple i form a w)) None)
+
+-- ---- rows of the table
+
+pub store-writes_none : (i : Instr) → is_store i ≡ true → destination i ≡ 0
+store-writes_none (instr.Op o rd rs1 rs2) e = absurd (cc)
+store-writes_none (instr.OpImm o rd rs1 imm) e = absurd (cc)
+store-writes_none (instr.Lui rd imm) e = absurd (cc)
+store-writes_none (instr.Auipc rd imm) e = absurd (cc)
+store-writes_none (instr.Jal rd offset) e = absurd (cc)
+store-writes_none (instr.Jalr rd rs1 imm) e = absurd (cc)
+store-writes_none (instr.Branch c rs1 rs2 offset) e = absurd (cc)
+store-writes_none (instr.Load w signed rd rs1 imm) e = absurd (cc)
+store-writes_none (instr.Store w rs1 rs2 imm) e = refl
+store-writes_none (instr.Fence imm rs1 rd) e = absurd (cc)
+store-writes_none instr.Ecall e = absurd (cc)
+store-writes_none instr.Ebreak e = absurd (cc)
+
+memory-same : (i : Instr) (n : Names) → is_store i ≡ false → memory_after i n ≡ n.memory
+memory-same (instr.Op o rd rs1 rs2) n e = refl
+memory-same (instr.OpImm o rd rs1 imm) n e = refl
+memory-same (instr.Lui rd imm) n e = refl
+memory-same (instr.Auipc rd imm) n e = refl
+memory-same (instr.Jal rd offset) n e = refl
+memory-same (instr.Jalr rd rs1 imm) n e = refl
+memory-same (instr.Branch c rs1 rs2 offset) n e = refl
+memory-same (instr.Load w signed rd rs1 imm) n e = refl
+memory-same (instr.Store w rs1 rs2 imm) n e = absurd (cc)
+memory-same (instr.Fence imm rs1 rd) n e = refl
+memory-same instr.Ecall n e = refl
+memory-same instr.Ebreak n e = refl
+
+store-has_memory : (i : Instr) → has_memory i ≡ false → is_store i ≡ false
+store-has_memory (instr.Op o rd rs1 rs2) e = refl
+store-has_memory (instr.OpImm o rd rs1 imm) e = refl
+store-has_memory (instr.Lui rd imm) e = refl
+store-has_memory (instr.Auipc rd imm) e = refl
+store-has_memory (instr.Jal rd offset) e = refl
+store-has_memory (instr.Jalr rd rs1 imm) e = refl
+store-has_memory (instr.Branch c rs1 rs2 offset) e = refl
+store-has_memory (instr.Load w signed rd rs1 imm) e = refl
+store-has_memory (instr.Store w rs1 rs2 imm) e = absurd (cc)
+store-has_memory (instr.Fence imm rs1 rd) e = refl
+store-has_memory instr.Ecall e = refl
+store-has_memory instr.Ebreak e = refl
+
+-- ---- frame
+
+any-map : (w : ℕ → WordTree) (xs : List ℕ) (r : ℕ) → is_listed (map (register_with w) xs) r ≡ is_in xs r
+any-map w [] r = refl
+any-map w (x ∷ xs) r = ap (λ (b : Bool). eqb x r || b) (any-map w xs r)
+
+-- registers that pass tests which are the same, with terms that are the same
+passing : (w u : ℕ → WordTree) (p q : ℕ → Bool) (rs : List ℕ) → ((r : ℕ) → Contains rs r → p r ≡ q r) → ((r : ℕ) → Contains rs r → q r ≡ true → w r ≡ u r) →
+    filter (λ (r : ℕ × WordTree). p r.0) (map (register_with w) rs) ≡ map (register_with u) (filter q rs)
+passing w u p q [] tests terms = refl
+passing w u p q (r ∷ rs) tests terms = go (q r) refl (passing w u p q rs (λ x c. tests x (later r rs x c)) (λ x c. terms x (later r rs x c)))
+  where
+    go : (b : Bool) → q r ≡ b → filter (λ (r : ℕ × WordTree). p r.0) (map (register_with w) rs) ≡ map (register_with u) (filter q rs) →
+        cond (p r) ((r, w r) ∷ filter (λ (r : ℕ × WordTree). p r.0) (map (register_with w) rs)) (filter (λ (r : ℕ × WordTree). p r.0) (map (register_with w) rs)) ≡ map (register_with u) (cond (q r) (r ∷ filter q rs) (filter q rs))
+    go true is rest =
+        let p_is = tests r (here r rs) ∙ is in
+        let term = terms r (here r rs) is in
+        (λ j. cond (p_is j) ((r, term j) ∷ rest j) (rest j)) ∙ (λ j. map (register_with u) (cond (sym is j) (r ∷ filter q rs) (filter q rs)))
+    go false is rest =
+        let p_is = tests r (here r rs) ∙ is in
+        (λ j. cond (p_is j) ((r, w r) ∷ rest j) (rest j)) ∙ (λ j. map (register_with u) (cond (sym is j) (r ∷ filter q rs) (filter q rs)))
+
+-- the memory after an instruction, and those that are further before it
+wider-mems : (h m : Bool) (x y : MemTree) → (h ≡ true → m ≡ true) → (h ≡ false → x ≡ y) → memory_if h y ++ drop (length (memory_if h x)) (memory_if m x) ≡ memory_if m y
+wider-mems true m x y e f = (λ i. y ∷ drop 1 (memory_if (e refl i) x)) ∙ (λ i. memory_if (sym (e refl) i) y)
+wider-mems false m x y e f = ap (memory_if m) (f refl)
+
+module _ (i : Instr) (form : Form) (a : ℕ) (code : List Range) (regs : List ℕ) (mem : Bool) (rise : AreRegistersFrom 1 regs)
+    (within : (r : ℕ) → Contains (own i) r → Contains regs r) (memory : has_memory i ≡ true → mem ≡ true) (n : Names) where
+  own-wider : (w : ℕ → WordTree) → map (register_with w) (own i) ≡ those_listed (map (register_with w) (own i)) (map (register_with w) regs)
+  own-wider w =
+      sym (passing w w (λ r. is_listed (map (register_with w) (own i)) r) (is_in (own i)) regs (λ r c. any-map w (own i) r) (λ r c t. refl)
+      ∙ ap (map (register_with w)) (smaller-is 1 (own i) regs (own-rise i) rise within))
+
+  apart : (r : ℕ) → Contains regs r → not (is_in (own i) r) ≡ true → n.word r ≡ word_after i a n r
+  apart r c t = λ j. cond (sym other j) (result i a n) (n.word r)
+    where
+      not_in : (b : Bool) → not b ≡ true → b ≡ false
+      not_in true e = absurd (cc)
+      not_in false e = refl
+
+      other : eqb r (destination i) ≡ false
+      other = ne_eqb r (destination i) (λ e.
+          let range = in_range 1 regs r rise c in
+          let owned = own-has i r range.0 range.1 (or_left (eqb (destination i) r) (is_read i r) (eq-eqb (destination i) r (sym e))) in
+          let yes_in = in-true (own i) r owned in
+          let no_in = not_in (is_in (own i) r) t in
+          let clash : true ≡ false = sym yes_in ∙ no_in in cc)
+
+  pub is_framed : IsFramed (triple_over i form a code (own i) (has_memory i) n) (triple_over i form a code regs mem n)
+  is_framed = record {
+    facts = refl;
+    code = refl;
+    pre_pc = refl;
+    post_pc = refl;
+    pre_regs = own-wider n.word;
+    post_regs = own-wider (word_after i a n);
+    further_regs = passing n.word (word_after i a n) (λ r. not (is_listed (map (register_with n.word) (own i)) r)) (λ r. not (is_in (own i) r)) regs (λ r c. ap not (any-map n.word (own i) r)) apart
+        ∙ sym (passing (word_after i a n) (word_after i a n) (λ r. not (is_listed (map (register_with (word_after i a n)) (own i)) r)) (λ r. not (is_in (own i) r)) regs (λ r c. ap not (any-map (word_after i a n) (own i) r)) (λ r c t. refl));
+    pre_mems = wider-mems (has_memory i) mem n.memory n.memory memory (λ e. refl);
+    post_mems = wider-mems (has_memory i) mem n.memory (memory_after i n) memory (λ e. sym (memory-same i n (store-has_memory i e)));
+  }
+
+-- ---- inst
+
+put-memory : (b : Bool) (x : MemTree) → b ≡ true → put_in_mem (put_for [] (numbered 0 (memory_if b x))) (MemVar 0) ≡ x
+put-memory true x e = refl
+put-memory false x e = absurd (cc)
+
+module _ (i : Instr) (v : Place) (reads : (r : ℕ) → Contains (sources i) r → (r ≡ 0 → ⊥) → (1 ≤ r) × (r ≤ 31)) where
+  becomes : Becomes (put_for (own_words i v) (own_mems i v)) (variables_for (own i)) (names v) (own i) (has_memory i)
+  becomes = record {
+    word = λ r c.
+        let place : position_or_len (λ q. eqb q r) (own i) ≡ 0 + position_or_len (λ q. eqb q r) (own i) = omega arith in
+        ap (λ o. unwrap_or o (Var (position_or_len (λ q. eqb q r) (own i)))) ((λ j. listed (own_words i v) (place j)) ∙ listed-place (names v).word 0 (own i) r c);
+    memory = λ e. by_memory (has_memory i) e;
+  }
+    where
+      by_memory : (b : Bool) → b ≡ true → put_in_mem (put_for (own_words i v) (numbered 0 (memory_if b (MemVar v.memory)))) (MemVar 0) ≡ MemVar v.memory
+      by_memory true e = refl
+      by_memory false e = absurd (cc)
+
+  pub is_put : (form : Form) (a : ℕ) (code : List Range) → IsInst (put_for (own_words i v) (own_mems i v)) (triple_over i form a code (own i) (has_memory i) (variables_for (own i))) (triple_over i form a code (own i) (has_memory i) (names v))
+  is_put form a code = is_inst (put_for (own_words i v) (own_mems i v)) (variables_for (own i)) (names v) (own i) (has_memory i) becomes a i form code (record {
+    reads = λ r c ne. let range = reads r c ne in own-has i r range.0 range.1 (or_right (eqb (destination i) r) (is_read i r) (in-true (sources i) r c));
+    memory = λ e. e;
+  })
+
+-- ---- weaken
+
+pub stated-word : (facts : List FactTree) (t u : WordTree) → WordsStated facts t u → SwapWord facts t u
+stated-word facts (Const n) u h = h
+stated-word facts (Var i) u h = h
+stated-word facts (Bin op a b) u h = inl h
+stated-word facts (Extend ext a) u h = inl h
+stated-word facts (Load width m a) u h = inl h
+
+pub stated-mem : (facts : List FactTree) (t u : MemTree) → MemsStated facts t u → SwapMem facts t u
+stated-mem facts (MemVar i) u h = h
+stated-mem facts (Store width m a v) u h = inl h
+
+swap-registers : (facts : List FactTree) (w u : ℕ → WordTree) (rs : List ℕ) → ((r : ℕ) → Contains rs r → SwapWord facts (w r) (u r)) → AllZip (SwapRegister facts) (map (register_with w) rs) (map (register_with u) rs)
+swap-registers facts w u [] h = tt
+swap-registers facts w u (r ∷ rs) h = ((refl, h r (here r rs)), swap-registers facts w u rs (λ x c. h x (later r rs x c)))
+
+swap-memory : (facts : List FactTree) (b : Bool) (x y : MemTree) → SwapMem facts x y → AllZip (SwapMem facts) (memory_if b x) (memory_if b y)
+swap-memory facts true x y h = (h, tt)
+swap-memory facts false x y h = tt
+
+module _ (i : Instr) (a : ℕ) (v : Place) (facts : List FactTree) (known : (x : FactTree) → Contains (new_facts i a v) x → Contains facts x) where
+  new-word : (r : ℕ) → 1 ≤ r → SwapWord facts (word_after i a (names v) r) (Var ((place_after i v).reg r))
+  new-word r low = go (is_store i) refl known
+    where
+      goes : (b c : Bool) → eqb (destination i) 0 ≡ b → eqb r (destination i) ≡ c → ((x : FactTree) → Contains (cond b [] (WordIs (Var v.words) (result i a (names v)) ∷ [])) x → Contains facts x) →
+          SwapWord facts (cond c (result i a (names v)) (Var (v.reg r))) (Var ((cond b v (record { words = suc v.words; mems = v.mems; reg = λ q. cond (eqb q (destination i)) v.words (v.reg q); memory = v.memory })).reg r))
+      goes true true is at more = absurd (let z = eqb-true (destination i) 0 is in let y = eqb-true r (destination i) at in omega (arith, z, y, low))
+      goes true false is at more = inl refl
+      goes false true is at more = stated-word facts (result i a (names v)) (Var (cond (eqb r (destination i)) v.words (v.reg r)))
+          (subst (λ k. WordsStated facts (result i a (names v)) (Var (cond k v.words (v.reg r)))) (sym at) (inr (inr (more (WordIs (Var v.words) (result i a (names v))) (0, omega arith, refl)))))
+      goes false false is at more = subst (λ k. WordsStated facts (Var (v.reg r)) (Var (cond k v.words (v.reg r)))) (sym at) (inl refl)
+
+      none : eqb (destination i) 0 ≡ true → (c : Bool) → eqb r (destination i) ≡ c → SwapWord facts (cond c (result i a (names v)) (Var (v.reg r))) (Var (v.reg r))
+      none is true at = absurd (let z = eqb-true (destination i) 0 is in let y = eqb-true r (destination i) at in omega (arith, z, y, low))
+      none is false at = inl refl
+
+      go : (s : Bool) → is_store i ≡ s → ((x : FactTree) → Contains (cond s (MemIs (MemVar v.mems) (memory_after i (names v)) ∷ []) (cond (eqb (destination i) 0) [] (WordIs (Var v.words) (result i a (names v)) ∷ []))) x → Contains facts x) →
+          SwapWord facts (word_after i a (names v) r) (Var ((cond s (stored v) (wrote (destination i) v)).reg r))
+      go true is more = none (eq-eqb (destination i) 0 (store-writes_none i is)) (eqb r (destination i)) refl
+      go false is more = goes (eqb (destination i) 0) (eqb r (destination i)) refl refl more
+
+  new-memory : SwapMem facts (memory_after i (names v)) (MemVar (place_after i v).memory)
+  new-memory = go (is_store i) refl known
+    where
+      kept : (b : Bool) → (cond b v (record { words = suc v.words; mems = v.mems; reg = λ q. cond (eqb q (destination i)) v.words (v.reg q); memory = v.memory })).memory ≡ v.memory
+      kept true = refl
+      kept false = refl
+
+      go : (s : Bool) → is_store i ≡ s → ((x : FactTree) → Contains (cond s (MemIs (MemVar v.mems) (memory_after i (names v)) ∷ []) (cond (eqb (destination i) 0) [] (WordIs (Var v.words) (result i a (names v)) ∷ []))) x → Contains facts x) →
+          SwapMem facts (memory_after i (names v)) (MemVar (cond s (stored v) (wrote (destination i) v)).memory)
+      go true is more = stated-mem facts (memory_after i (names v)) (MemVar v.mems) (inr (inr (more (MemIs (MemVar v.mems) (memory_after i (names v))) (0, omega arith, refl))))
+      go false is more = stated-mem facts (memory_after i (names v)) (MemVar (wrote (destination i) v).memory) (inl (memory-same i (names v) is ∙ ap MemVar (sym (kept (eqb (destination i) 0)))))
+
+pub is_weakened : (i : Instr) (form : Form) (a : ℕ) (code : List Range) (regs : List ℕ) (mem : Bool) (v : Place) → AreRegistersFrom 1 regs →
+    IsWeakened (triple_over i form a code regs mem (names v)) (named_triple i form a code regs mem v)
+is_weakened i form a code regs mem v rise =
+    let facts : List FactTree = map So (conditions i form (names v)) ++ new_facts i a v in
+    let known = λ (x : FactTree) (c : Contains (new_facts i a v) x). Contains-append_right (map So (conditions i form (names v))) (new_facts i a v) x c in
+    record {
+      code = refl;
+      pre = refl;
+      facts = record { each = λ x c. Contains-append_left (map So (conditions i form (names v))) (new_facts i a v) x c };
+      post = record {
+        pc = stated-word facts (pc_after i form a (names v)) (pc_after i form a (names v)) (inl refl);
+        regs = swap-registers facts (word_after i a (names v)) (names (place_after i v)).word regs (λ r c. let range = in_range 1 regs r rise c in new-word i a v facts known r range.0);
+        mems = swap-memory facts mem (memory_after i (names v)) (MemVar (place_after i v).memory) (new-memory i a v facts known);
+      };
+    }

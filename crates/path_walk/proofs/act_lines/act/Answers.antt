@@ -1,0 +1,45 @@
+use Rattle.std.proofs.Common.{◌≡◌, ℕ, ◌^◌, ◌<◌, true, sym, ◌∙◌, subst, arith}
+use Rattle.rv_decode.specs.declared.instruction.Instr.{Instr}
+use Rattle.rv_machine.specs.Step.{is_aligned}
+use Rattle.triple_kernel.specs.Tree.{fact_tree}
+use Rattle.path_walk.specs.Bodies.{Flow, Place}
+use Rattle.path_walk.specs.inner.Acts.{IsFineAct, act_standing, acted}
+use Rattle.path_walk.specs.inner.Kept.{flow_in}
+use Rattle.path_walk.specs.inner.Logs.{LogTree, log_tree}
+use Rattle.path_walk.specs.inner.Places.{place_of}
+use Rattle.path_walk.proofs.Fine.{act-fine, act-standing-fine}
+use Rattle.path_walk.proofs.Places.{low_place}
+use Rattle.path_walk.proofs.act_lines.act.Goals as goal
+
+pub act_lines-requires-clause-fine : goal.act_lines-requires-clause-fine
+act_lines-requires-clause-fine c =
+    let f : Flow = flow_in c.args.flow.now in
+    let v : Place = place_of c.args.place.now in
+    let w : ℕ = c.word-word.result in
+    let at = c.word-word.ensures.stands in
+    let fine : IsFineAct f (f.instr c.args.n) c.args.form (f.addr c.args.n) w v =
+    act-fine (f.instr c.args.n) c.args.form (f.addr c.args.n) w at.address at.even f c.law_of_code.ensures.registers v 32768
+    (low_place c.args.place.now 32768 (omega (arith, c.requires.words)) (omega (arith, c.requires.mems))) (omega arith) in
+    subst (λ (i : Instr). IsFineAct f i c.args.form c.addr-addr.result w v) (sym c.instr-i.ensures.is) (subst (λ (a : ℕ). IsFineAct f (f.instr c.args.n) c.args.form a w v) (sym c.addr-addr.ensures) fine)
+
+pub new-requires : goal.new-requires
+new-requires c =
+    let v : Place = place_of c.args.place.now in
+    let at = c.word-word.ensures.stands in
+    act-standing-fine c.instr-i.result c.args.form c.addr-addr.result c.word-word.result (subst (λ (a : ℕ). a < 2 ^ 64) (sym c.addr-addr.ensures) at.address)
+    (subst (λ (a : ℕ). is_aligned a ≡ true) (sym c.addr-addr.ensures) at.even) v 32768 (low_place c.args.place.now 32768 (omega (arith, c.requires.words)) (omega (arith, c.requires.mems))) (omega arith)
+    c.in_ok-number.number _ _ c.in_ok-number.ensures.fits c.in_ok-known.ensures c.in_ok-code.ensures
+
+pub returns : goal.returns
+returns c =
+    let f : Flow = flow_in c.args.flow.now in
+    let v : Place = place_of c.args.place.now in
+    let l : LogTree = log_tree c.args.log.now in
+    let w : ℕ = c.word-word.result in (
+      w,
+      c.word-word.ensures.stands,
+      c.new.ensures
+          ∙ (λ j. record { number = c.in_ok-number.ensures.number j; facts = c.in_ok-known.ensures j; code = c.in_ok-code.ensures j })
+          ∙ (λ j. act_standing (c.instr-i.ensures.is j) c.args.form (c.addr-addr.ensures j) w v l),
+      c.in_ok-number.ensures.log ∙ (λ j. acted f (c.instr-i.ensures.is j) c.args.form (c.addr-addr.ensures j) w v l),
+    )

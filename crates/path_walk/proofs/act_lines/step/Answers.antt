@@ -1,0 +1,26 @@
+use Rattle.std.proofs.Common.{ap, ◌∙◌, arith}
+use Rattle.instr_axioms.specs.Terms.{pc_after}
+use Rattle.path_walk.specs.Bodies.{Place, names, place_after}
+use Rattle.path_walk.specs.inner.Kept.{flow_in}
+use Rattle.path_walk.specs.inner.Places.{place_of}
+use Rattle.path_walk.proofs.Acted.{steps_made}
+use Rattle.path_walk.proofs.Places.{after_few}
+use Rattle.path_walk.proofs.act_lines.step.Goals as goal
+
+pub go_on-requires-clause-words : goal.go_on-requires-clause-words
+go_on-requires-clause-words c =
+    let few = after_few c.instr-i.result (place_of c.args.place.now) in
+    let same = ap (λ (v : Place). v.words) c.after-next.ensures in
+    omega (arith, few.0, same, c.requires.words)
+
+pub go_on-requires-clause-mems : goal.go_on-requires-clause-mems
+go_on-requires-clause-mems c =
+    let few = after_few c.instr-i.result (place_of c.args.place.now) in
+    let same = ap (λ (v : Place). v.mems) c.after-next.ensures in
+    omega (arith, few.1, same, c.requires.mems)
+
+pub returns-clause-steps : goal.returns-clause-steps
+returns-clause-steps c =
+    let v : Place = place_of c.args.place.now in
+    steps_made (flow_in c.args.flow.now) c.args.flow.now.code c.args.n c.in_ok-last.ensures.0 c.args.entry c.args.form v _ _ _ _ _ _ _ _ c.in_ok-last.ensures.1 c.requires.form c.in_ok-last.ensures.2 c.in_ok-last.ensures.3
+    (c.in_ok-pc.ensures ∙ (λ j. pc_after (c.instr-i.ensures.is j) c.args.form (c.addr.ensures j) (names v))) (c.after-next.ensures ∙ (λ j. place_after (c.instr-i.ensures.is j) v)) c.in_ok-there.ensures.on

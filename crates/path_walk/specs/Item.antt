@@ -1,0 +1,41 @@
+-- A function's group with the lines of its proof: what the decompiler makes of a graph and its forest.
+use Rattle.std.specs.Prelude.{◌≡◌, ℕ, List, [], ◌++◌, map, fold, true, length, slice_get, Some}
+use Rattle.std.specs.List.{AllByRecursion}
+use Rattle.rv_words.specs.declared.range.Range.{Range}
+use Rattle.tailrec_lang.specs.Tree.{GroupTree, group_tree}
+use Rattle.proof_text.specs.Line.{LineTree, line_tree}
+use Rattle.proof_text.specs.LineLimits.{IsLine}
+use Rattle.checker.specs.Instance.{AreInstances, History, after_line, after_lines}
+use Rattle.flow_graph.specs.Graph.{GraphOf}
+use Rattle.loop_forest.specs.Forest.{ForestOf, number_of}
+use Rattle.path_walk.specs.declared.part.Part.{Part}
+use Rattle.path_walk.specs.declared.item.Item.{Item}
+use Rattle.path_walk.specs.Bodies.{Flow, part_body, part_def}
+use Rattle.path_walk.specs.Graph.{AreClosed, AreClosedBy, IsFor}
+use Rattle.path_walk.specs.Flows.{AreCodeOf, flow_of, group_of}
+use Rattle.path_walk.specs.Order.{AreParts}
+
+-- lines after those that left h behind them, each of which is right, close definition d and open none again
+pub record AreClosing (g : GroupTree) (h : History) (d : ℕ) (lines : List LineTree) : Type 0 where
+  pub right : AreInstances g h lines
+  pub closed : (fold after_line h lines).closed d ≡ true
+  pub keeps : (c : ℕ) → h.closed c ≡ true → (fold after_line h lines).closed c ≡ true
+
+-- Lines were added that have a text and close the definition of a part, in each group of the graph with this code that has that
+-- definition, after any lines that closed what it calls.
+pub record IsWalked (f : Flow) (ranges : List Range) (p : Part) (old new : List LineTree) : Type 0 where
+  pub added : List LineTree
+  pub lines : new ≡ old ++ added
+  pub fine : AllByRecursion IsLine added
+  pub closing : (g : GroupTree) → IsFor f g → g.code ≡ ranges → slice_get g.defs (f.number p) ≡ Some (part_def f p)
+      → AreClosed (after_lines old) (part_body f p) → AreClosing g (after_lines old) (f.number p) added
+
+-- The group of a graph's parts in their order, with its code, and lines that close each of its definitions.
+pub record IsItemOf (g : GraphOf) (f : ForestOf) (name : List ℕ) (item : Item) : Type 0 where
+  pub parts : List Part
+  pub ordered : AreParts (flow_of g f parts) (number_of f) parts
+  pub code : AreCodeOf g item.group.code.ranges
+  pub group : group_tree item.group ≡ group_of (flow_of g f parts) name item.group.code.ranges parts
+  pub lines : AreClosedBy (group_tree item.group) (map line_tree item.lines)
+  pub fine : AllByRecursion IsLine (map line_tree item.lines)
+  pub reached : item.reached ≡ length g.addrs

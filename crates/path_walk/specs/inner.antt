@@ -1,0 +1,11 @@
+pub mod Kept
+pub mod Low
+pub mod Places
+pub mod Ends
+pub mod Ranks
+pub mod Words
+pub mod Histories
+pub mod Logs
+pub mod Walks
+pub mod Acts
+pub mod Lines

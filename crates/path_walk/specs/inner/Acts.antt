@@ -1,0 +1,136 @@
+-- The lines of one instruction, and of one exit of a call.
+use Rattle.std.specs.Prelude.{◌≡◌, ◌⊎◌, ℕ, suc, ◌+◌, ◌==◌, Bool, if◌then◌else◌, List, [], ◌∷◌, ◌++◌, map, Option, None, Some}
+use Rattle.std.specs.List.{Contains}
+use Rattle.mc_text.specs.Number.{IsWord as IsNumber}
+use Rattle.rv_words.specs.Bytes.{over}
+use Rattle.rv_words.specs.declared.range.Range.{Range}
+use Rattle.rv_words.specs.Ranges.{range_bytes}
+use Rattle.rv_decode.specs.declared.instruction.Instr.{Instr}
+use Rattle.rv_decode.specs.Registers.{destination}
+use Rattle.word_terms.specs.Tree.{WordTree, MemTree, Const, Var, MemVar}
+use Rattle.tailrec_lang.specs.declared.group.Exit.{Exit}
+use Rattle.tailrec_lang.specs.declared.group.Exit.TheVariants.{At, Ret}
+use Rattle.tailrec_lang.specs.Tree.{ValuesTree}
+use Rattle.triple_kernel.specs.declared.form.Form.{Form}
+use Rattle.triple_kernel.specs.Tree.{FactTree, Gives, MemIs, So, TripleTree, WordIs}
+use Rattle.frame_compose.specs.Rules.{AreMissing}
+use Rattle.instr_axioms.specs.Terms.{conditions, has_memory, memory_after, pc_after, result}
+use Rattle.instr_axioms.specs.Axiom.{before, memory_if, own, own_triple, register_with, triple_over, word_code}
+use Rattle.proof_text.specs.Line.{Axiom, Compose, Frame, Inst, UseExit, Weaken}
+use Rattle.proof_text.specs.LineLimits.{IsRule, IsTriple}
+use Rattle.path_walk.specs.Bodies.{Flow, Place, current, fresh, is_store, names, place_after, start, with_pc}
+use Rattle.path_walk.specs.inner.Histories.{exit_place, pc_of}
+use Rattle.path_walk.specs.inner.Logs.{LogTree, StandingTree, standing_at, stating}
+
+-- the terms for the variables from i on
+abbrev pub numbered : {A : Type 0} → ℕ → List A → List (ℕ × A)
+numbered i [] = []
+numbered i (t ∷ ts) = (i, t) ∷ numbered (suc i) ts
+
+-- ---- one instruction
+
+-- the current variables of an instruction's own registers and of its memory, for those of its axiom
+abbrev pub own_words : Instr → Place → List (ℕ × WordTree)
+own_words i v = numbered 0 (map (names v).word (own i))
+
+abbrev pub own_mems : Instr → Place → List (ℕ × MemTree)
+own_mems i v = numbered 0 (memory_if (has_memory i) (MemVar v.memory))
+
+-- what the definition knows of the new variable
+abbrev pub new_facts : Instr → ℕ → Place → List FactTree
+new_facts i a v =
+    if is_store i then MemIs (MemVar v.mems) (memory_after i (names v)) ∷ [] else (if destination i == 0 then [] else WordIs (Var v.words) (result i a (names v)) ∷ [])
+
+-- the instruction's triple, with new variables for what was written
+abbrev pub named_triple : Instr → Form → ℕ → List Range → List ℕ → Bool → Place → TripleTree
+named_triple i form a code regs mem v = record {
+  facts = map So (conditions i form (names v)) ++ new_facts i a v;
+  pre = before a regs mem (names v);
+  code = code;
+  post = record {
+    pc = pc_after i form a (names v);
+    regs = map (register_with (names (place_after i v)).word) regs;
+    mems = memory_if mem (names (place_after i v)).memory;
+  };
+}
+
+-- its axiom, over the current variables, over all registers, and with new variables
+abbrev pub acted : Flow → Instr → Form → ℕ → ℕ → Place → LogTree → LogTree
+acted f i form a w v l =
+    stating (Weaken (l.next + 1 + 1)) (named_triple i form a (word_code a w) f.regs f.has_mem v)
+    (stating (Frame (l.next + 1)) (triple_over i form a (word_code a w) f.regs f.has_mem (names v))
+    (stating (Inst l.next (own_words i v) (own_mems i v)) (triple_over i form a (word_code a w) (own i) (has_memory i) (names v))
+    (stating (Axiom a w form) (own_triple i form a w) l)))
+
+-- the theorem that these end with
+abbrev pub act_standing : Instr → Form → ℕ → ℕ → Place → LogTree → StandingTree
+act_standing i form a w v l = record {
+  number = l.next + 1 + 1 + 1;
+  facts = map So (conditions i form (names v)) ++ new_facts i a v;
+  code = word_code a w;
+}
+
+-- these lines have a text
+pub record IsFineAct (f : Flow) (i : Instr) (form : Form) (a w : ℕ) (v : Place) : Type 0 where
+  pub rule : (k : ℕ) → IsNumber k → IsRule (Inst k (own_words i v) (own_mems i v))
+  pub first : IsTriple (own_triple i form a w)
+  pub current_over : IsTriple (triple_over i form a (word_code a w) (own i) (has_memory i) (names v))
+  pub wide : IsTriple (triple_over i form a (word_code a w) f.regs f.has_mem (names v))
+  pub named : IsTriple (named_triple i form a (word_code a w) f.regs f.has_mem v)
+
+-- ---- one exit of a call
+
+-- what the definition is left with by an exit: the next variables
+abbrev pub results_at : Flow → Exit → ℕ → ℕ → ValuesTree
+results_at f (At a) words mems = current f (fresh f words mems)
+results_at f Ret words mems = with_pc (Var words) (current f (fresh f (suc words) mems))
+
+-- the triple of exit k of definition d, over these variables
+abbrev pub gives_over : Flow → List Range → ℕ → ℕ → ℕ → Exit → Place → TripleTree
+gives_over f ranges entry d k x v = record {
+  facts = Gives d k (current f v) (results_at f x v.words v.mems) ∷ [];
+  pre = standing_at f (Const entry) v;
+  code = ranges;
+  post = standing_at f (pc_of x v.words) (exit_place f x v.words v.mems);
+}
+
+-- the current variables for the parameters, and the next ones for the results
+abbrev pub call_words : Flow → Exit → Place → List (ℕ × WordTree)
+call_words f x v = numbered 0 ((current f v).words ++ (results_at f x v.words v.mems).words)
+
+abbrev pub call_mems : Flow → Exit → Place → List (ℕ × MemTree)
+call_mems f x v = numbered 0 ((current f v).mems ++ (results_at f x v.words v.mems).mems)
+
+abbrev pub exited : Flow → List Range → ℕ → ℕ → ℕ → Exit → Place → LogTree → LogTree
+exited f ranges entry d k x v l =
+    stating (Inst l.next (call_words f x v) (call_mems f x v)) (gives_over f ranges entry d k x v) (stating (UseExit d k) (gives_over f ranges entry d k x (start f)) l)
+
+-- the theorem that these end with
+abbrev pub exit_standing : Flow → List Range → ℕ → ℕ → Exit → Place → LogTree → StandingTree
+exit_standing f ranges d k x v l = record { number = l.next + 1; facts = Gives d k (current f v) (results_at f x v.words v.mems) ∷ []; code = ranges }
+
+-- these lines have a text
+pub record IsFineExit (f : Flow) (ranges : List Range) (entry d k : ℕ) (x : Exit) (v : Place) : Type 0 where
+  pub rule : (j : ℕ) → IsNumber j → IsRule (Inst j (call_words f x v) (call_mems f x v))
+  pub first : IsTriple (gives_over f ranges entry d k x (start f))
+  pub current_over : IsTriple (gives_over f ranges entry d k x v)
+
+-- ---- joined to the way to here
+
+-- a fact was added, if it isn't known
+abbrev pub IsAdded : (known : List FactTree) (x : FactTree) (old new : List FactTree) → Type 0
+IsAdded known x old new = (Contains known x × (new ≡ old)) ⊎ ((Contains known x → ⊥) × (new ≡ old ++ x ∷ []))
+
+-- a theorem after another, which leads from the definition's entry
+pub record Joined (f : Flow) (entry : ℕ) (st there : StandingTree) (to : WordTree) (u : Place) (old new : LogTree) (t : StandingTree) : Type 0 where
+  pub more : List FactTree
+  pub are : AreMissing st.facts there.facts more
+  pub facts : t.facts ≡ st.facts ++ more
+  pub bytes : range_bytes t.code ≡ over (range_bytes st.code) (range_bytes there.code)
+  pub number : t.number ≡ old.next
+  pub log : new ≡ stating (Compose st.number there.number) (record { facts = t.facts; pre = standing_at f (Const entry) (start f); code = t.code; post = standing_at f to u }) old
+
+-- at the front of the definition it stands by itself
+abbrev pub GoesOn : (f : Flow) (entry : ℕ) → Option StandingTree → StandingTree → WordTree → Place → LogTree → LogTree → StandingTree → Type 0
+GoesOn f entry None there to u old new t = (new ≡ old) × (t ≡ there)
+GoesOn f entry (Some st) there to u old new t = Joined f entry st there to u old new t

@@ -1,0 +1,32 @@
+-- Groups over a graph's registers, and lines that forget nothing.
+use Rattle.std.specs.Prelude.{◌≡◌, ℕ, suc, ◌<◌, List, Some, true}
+use Rattle.rv_words.specs.declared.range.Range.{Range}
+use Rattle.word_terms.specs.Tree.{WordTree, Const, Var}
+use Rattle.tailrec_lang.specs.declared.group.Exit.{Exit}
+use Rattle.tailrec_lang.specs.declared.group.Exit.TheVariants.{At, Ret}
+use Rattle.tailrec_lang.specs.Tree.{DefTree, GroupTree}
+use Rattle.triple_kernel.specs.Tree.{TripleTree}
+use Rattle.checker.specs.Instance.{History}
+use Rattle.path_walk.specs.Bodies.{Flow, Place, fresh, mem_count}
+
+-- a group over the graph's registers and memory
+abbrev pub group_over : Flow → List ℕ → List Range → List DefTree → GroupTree
+group_over f name code defs = record { name = name; regs = f.regs; mems = mem_count f; code = code; defs = defs }
+
+-- where a walk goes on after an exit
+abbrev pub pc_of : Exit → ℕ → WordTree
+pc_of (At a) words = Const a
+pc_of Ret words = Var words
+
+abbrev pub exit_place : Flow → Exit → ℕ → ℕ → Place
+exit_place f (At a) words mems = fresh f words mems
+exit_place f Ret words mems = fresh f (suc words) mems
+
+-- the numbers of theorems are below that of the next
+abbrev pub IsCounted : History → Type 0
+IsCounted h = (j : ℕ) (t : TripleTree) → h.theorem j ≡ Some t → j < h.next
+
+-- what is there stays there
+pub record Keeps (h k : History) : Type 0 where
+  pub theorem : (j : ℕ) (t : TripleTree) → h.theorem j ≡ Some t → k.theorem j ≡ Some t
+  pub closed : (d : ℕ) → h.closed d ≡ true → k.closed d ≡ true

@@ -1,0 +1,64 @@
+//! A function's group with the lines of its proof.
+
+ghost use Rattle.std.specs.Prelude.{◌≡◌, IfOk, length};
+ghost use Rattle.loop_forest.specs.Forest.{IsForestOf, number_of};
+ghost use Rattle.path_walk.specs.Flows.{IsReached};
+ghost use Rattle.path_walk.specs.Item.{IsItemOf};
+ghost use Rattle.path_walk.specs.Order.{AreParts};
+ghost use Rattle.path_walk.specs.inner.Kept.{flow_in};
+
+use crate::flow::Flow;
+use crate::group::group_with;
+use crate::order::parts_of;
+use crate::part::Part;
+use crate::walks::walk_all;
+use flow_graph::Graph;
+use loop_forest::Forest;
+use proof_text::Line;
+use rv_words::{List, NoMemory, Text};
+use std::alloc::Global;
+use tailrec_lang::Group;
+
+/// A function's group, the lines of its proof, and how many instructions are reached from its entry.
+#[derive(Debug, Drop)]
+pub struct Item {
+    pub group: Group,
+    pub lines: List<Line>,
+    pub reached: u32,
+}
+
+/// The group of that name for a graph and its forest, with lines that close each of its definitions.
+pub fn item_of(alloc: Global, name: Text, graph: &Graph, forest: &Forest) -> Result<Item, NoMemory>
+    requires reached { IsReached graph.now }
+    requires forest { IsForestOf graph.now forest.now }
+    ensures { IfOk result (λ item. IsItemOf graph.now forest.now name item) }
+{
+    let parts = parts_of(alloc, graph, forest)?;
+    let flow = Flow::new(alloc, graph, forest, parts.as_slice())?;
+    item_in(alloc, name, &flow, parts.as_slice(), graph.len())
+}
+
+/// The group of that name for a flow of all parts in their order.
+fn item_in(
+    alloc: Global,
+    name: Text,
+    flow: &Flow<'_>,
+    parts: &[Part],
+    reached: u32,
+) -> Result<Item, NoMemory>
+    requires reached { IsReached flow.now.graph }
+    requires forest { IsForestOf flow.now.graph flow.now.forest }
+    requires parts { parts.now ≡ flow.now.parts }
+    requires ordered { AreParts (flow_in flow.now) (number_of flow.now.forest) flow.now.parts }
+    requires count { reached ≡ length flow.now.graph.addrs }
+    ensures { IfOk result (λ item. IsItemOf flow.now.graph flow.now.forest name item) }
+{
+    flow.law_of_code();
+    let walks = walk_all(alloc, flow, parts)?;
+    let group = group_with(alloc, name, flow, walks.defs)?;
+    Ok(Item {
+        group,
+        lines: walks.lines,
+        reached,
+    })
+}

@@ -1,0 +1,95 @@
+//! The walk through a part: its definition, and the lines that close it.
+
+ghost use Rattle.std.specs.Prelude.{◌≡◌, ◌+◌, ◌∷◌, ◌++◌, [], List as Items, IfOk, OnOk, OnErr, map};
+ghost use Rattle.tailrec_lang.specs.Tree.{def_tree};
+ghost use Rattle.proof_text.specs.Line.{LineTree, line_tree};
+ghost use Rattle.checker.specs.Instance.{after_lines};
+ghost use Rattle.path_walk.specs.Bodies as spec;
+ghost use Rattle.path_walk.specs.Graph.{IsPart};
+ghost use Rattle.path_walk.specs.Item.{IsWalked};
+ghost use Rattle.path_walk.specs.inner.Kept.{flow_in};
+ghost use Rattle.path_walk.specs.inner.Lines.{stated};
+
+use crate::body_lines::part_lines;
+use crate::definition::part_def;
+use crate::flow::Flow;
+use crate::log::Log;
+use crate::part::Part;
+use proof_text::Line;
+use rv_words::{List, NoMemory};
+use std::alloc::Global;
+use tailrec_lang::Def;
+
+/// The definition of a part, and the number of the next theorem.
+#[derive(Debug, Drop)]
+pub struct Walked {
+    pub def: Def,
+    pub next: u64,
+}
+
+/// How many theorems a line makes.
+fn count_of(line: &Line) -> u64
+    ensures { result ≡ stated (line_tree line.now ∷ []) }
+{
+    match line {
+        Line::States { .. } => 1,
+        Line::Loop { .. } => 0,
+        Line::Forget(_) => 0,
+    }
+}
+
+/// The number of the next theorem after these lines.
+fn next_after(first: u64, lines: &[Line]) -> Result<u64, NoMemory>
+    ensures { IfOk result (λ k. k ≡ first + stated (map line_tree lines.now)) }
+{
+    let mut next = first;
+    for line in lines {
+        let Some(more) = next.checked_add(count_of(line)) else {
+            return Err(NoMemory);
+        };
+        next = more;
+    }
+    Ok(next)
+}
+
+/// The lines that close the definition of a part.
+fn closing_lines(
+    alloc: Global,
+    flow: &Flow<'_>,
+    part: Part,
+    first: u64,
+) -> Result<List<Line>, NoMemory>
+    requires { IsPart (flow_in flow.now) part }
+    ensures { IfOk result (λ more. (old : Items LineTree) → first ≡ (after_lines old).next → IsWalked (flow_in flow.now) flow.now.code part old (old ++ map line_tree more)) }
+{
+    let mut log = Log::new(alloc, first);
+    part_lines(alloc, flow, part, &mut log)?;
+    let (mut lines, cited) = log.into_parts();
+    lines.push(Line::Loop {
+        def: flow.number(part),
+        cited,
+    })?;
+    Ok(lines)
+}
+
+/// Walks through a part: adds lines that close its definition, where `first` is the number of the next theorem.
+pub fn walk(
+    alloc: Global,
+    flow: &Flow<'_>,
+    part: Part,
+    first: u64,
+    lines: &mut List<Line>,
+) -> Result<Walked, NoMemory>
+    requires part { IsPart (flow_in flow.now) part }
+    requires first { first ≡ (after_lines (map line_tree lines.old)).next }
+    ensures def { IfOk result (λ w. def_tree w.def ≡ spec.part_def (flow_in flow.now) part) }
+    ensures next { IfOk result (λ w. w.next ≡ (after_lines (map line_tree lines.new)).next) }
+    ensures lines { OnOk result (IsWalked (flow_in flow.now) flow.now.code part (map line_tree lines.old) (map line_tree lines.new)) }
+    ensures same { OnErr result (lines.new ≡ lines.old) }
+{
+    let def = part_def(alloc, flow, part)?;
+    let more = closing_lines(alloc, flow, part, first)?;
+    let next = next_after(first, more.as_slice())?;
+    lines.append(more)?;
+    Ok(Walked { def, next })
+}

@@ -1,0 +1,42 @@
+//! The walk through all parts of a function.
+
+ghost use Rattle.std.specs.Prelude.{◌≡◌, IfOk, length, map};
+ghost use Rattle.std.specs.List.{All};
+ghost use Rattle.tailrec_lang.specs.Tree.{def_tree};
+ghost use Rattle.proof_text.specs.Line.{line_tree};
+ghost use Rattle.path_walk.specs.Graph.{IsPart};
+ghost use Rattle.path_walk.specs.inner.Kept.{flow_in};
+ghost use Rattle.path_walk.specs.inner.Walks.{AreWalked};
+
+use crate::flow::Flow;
+use crate::part::Part;
+use crate::walk::walk;
+use proof_text::Line;
+use rv_words::{List, NoMemory};
+use std::alloc::Global;
+use tailrec_lang::Def;
+
+/// The definitions of parts, and lines that close them.
+#[derive(Debug, Drop)]
+pub struct Walks {
+    pub defs: List<Def>,
+    pub lines: List<Line>,
+}
+
+/// Walks through all parts of a flow, in their order.
+pub fn walk_all(alloc: Global, flow: &Flow<'_>, parts: &[Part]) -> Result<Walks, NoMemory>
+    requires parts { parts.now ≡ flow.now.parts }
+    requires each { All (IsPart (flow_in flow.now)) parts.now }
+    ensures { IfOk result (λ w. AreWalked flow.now (length parts.now) (map def_tree w.defs) (map line_tree w.lines)) }
+{
+    flow.law_of_graphs();
+    let mut defs = List::new(alloc);
+    let mut lines = List::new(alloc);
+    let mut next = 0;
+    for part in parts {
+        let walked = walk(alloc, flow, *part, next, &mut lines)?;
+        defs.push(walked.def)?;
+        next = walked.next;
+    }
+    Ok(Walks { defs, lines })
+}
