@@ -1,0 +1,346 @@
+-- The law of a part: a run from the part's first node that first returns is an evaluation of the part's definition.
+use Rattle.std.proofs.Common.{◌≡◌, ℕ, zero, suc, ◌+◌, ◌*◌, ◌<◌, ◌≤◌, Bool, true, false, cond, eqb, eqb-true, ◌⊎◌, inl, inr, Option, Some, None, option_map, [], ◌∷◌, length, refl, sym, ap, subst, ◌∙◌, arith}
+use Rattle.std.specs.Prelude.{slice_get}
+use Rattle.word_terms.specs.Tree.{Var}
+use Rattle.word_terms.specs.Environment.{Environment, no_variables}
+use Rattle.word_terms.specs.Value.{word_value, cond_holds}
+use Rattle.tailrec_lang.specs.Tree.{ValuesTree, BodyTree, Call, Again, Leave, NoArm, Arm}
+use Rattle.tailrec_lang.specs.Eval.{Arguments, Meaning, Ending, Exited, and_then, body_ending, arm_ending, arguments_of, with_arguments, needs}
+use Rattle.proof_text.specs.Limits.{AreRegistersFrom}
+use Rattle.path_walk.specs.declared.part.Part.{Part}
+use Rattle.path_walk.specs.declared.part.Part.TheVariants.{Loop, Rest}
+use Rattle.path_walk.specs.Bodies.{Flow, Place, Action, Straight, Fork, Return, action, mem_count, fresh, start, current, with_pc, own, first, rest_targets, targets, rest_from, index_of, end_of, or_else, arms_over, last_at, rest_arms, end_at, action_body, body_at, rest_body, part_body}
+use Rattle.exactness.proofs.Returns.{Comes}
+use Rattle.exactness.proofs.Places.{Stands, stands-fresh, stands-start, returned-values}
+use Rattle.exactness.proofs.BodyLemmas.{after_steps, AllHold, needs_passed, ending-steps, arm-over, is-found, found-at, contains-at}
+use Rattle.path_walk.specs.Graph.{IsPart, IsPlaced, IsGraph}
+use Rattle.path_walk.proofs.PartLines.{Leads, end-some, leads-edge}
+use Rattle.exactness.proofs.Graphs.{return-row}
+
+-- results with the returned address in front
+abbrev pub with_address : ℕ → Arguments → Arguments
+with_address pc x = record { words = pc ∷ x.words; mems = x.mems }
+
+-- the entries into bodies that a part needs before its first step are two for the rest of a head, and one elsewhere
+abbrev pub slack_at : Option ℕ → ℕ
+slack_at None = 1
+slack_at (Some l) = 0
+
+abbrev pub slack : Flow → Part → ℕ
+slack f (Loop l) = 1
+slack f (Rest r n) = slack_at (f.loop_of n)
+
+module _ (f : Flow) (State : Type 0) (pc : State → ℕ) (args : State → Arguments) (Returns : State → Type 0) (Good : State → Type 0) (Steps : State → State → Type 0) where
+  -- the step from s to u is what a definition has for the instruction
+  abbrev pub IsDone : Action → Place → Environment → State → State → Type 0
+  IsDone (Straight ss w to) v e s u = AllHold ss e × Stands f w (after_steps ss e) (args u) × (pc u ≡ f.addr to) × (Returns s → ⊥)
+  IsDone (Fork c a b) v e s u = (args u ≡ args s) × (pc u ≡ f.addr (cond (cond_holds c e) a b)) × (Returns s → ⊥)
+  IsDone (Return ss t) v e s u = AllHold ss e × (word_value t (after_steps ss e) ≡ pc u) × (arguments_of (current f v) (after_steps ss e) ≡ args u) × Returns s
+
+  -- the evaluation of a part leaves by the return, in t
+  pub record LeavesIn (p : Part) (t : State) (o : Ending) : Type 0 where
+    pub region : own p ≡ None
+    pub returns : f.returns ≡ true
+    pub good : Good t
+    pub left : ℕ
+    pub ends : o ≡ Exited 0 (with_address (pc t) (args t)) left
+
+  -- .. or by an exit that the run meets later, with two turns left for each step that it still has to go
+  pub record LeavesAt (p : Part) (k : ℕ) (t : State) (o : Ending) : Type 0 where
+    pub exit : ℕ
+    pub node : ℕ
+    pub there : slice_get (targets f p) exit ≡ Some node
+    pub steps : ℕ
+    pub fewer : steps < k
+    pub state : State
+    pub place : pc state ≡ f.addr node
+    pub good : Good state
+    pub comes : Comes State Returns Steps steps state t
+    pub left : ℕ
+    pub enough : 2 * steps ≤ left
+    pub ends : o ≡ Exited exit (args state) left
+
+  abbrev pub Leaves : Part → ℕ → State → Ending → Type 0
+  Leaves p k t o = LeavesIn p t o ⊎ LeavesAt p k t o
+
+module _ (f : Flow) (graph : IsGraph f) (rise : AreRegistersFrom 1 f.regs)
+    (State : Type 0) (pc : State → ℕ) (args : State → Arguments) (Returns : State → Type 0) (Good : State → Type 0) (Steps : State → State → Type 0)
+    (long : (s : State) → (length (args s).words ≡ length f.regs) × (length (args s).mems ≡ mem_count f))
+    (done : (n : ℕ) (v : Place) (e : Environment) (s u : State) → n < f.nodes → Good s → pc s ≡ f.addr n → Stands f v e (args s) → Steps s u
+    → Good u × IsDone f State pc args Returns Good Steps (action f n v) v e s u)
+    (call : Meaning)
+    (enter : (p : Part) (x : Arguments) (m : ℕ) → IsPart f p → call (f.number p) x (suc m) ≡ body_ending call (f.number p) (part_body f p) (with_arguments no_variables x) 0 m)
+  where
+    abbrev Runs : ℕ → State → State → Type 0
+    Runs = Comes State Returns Steps
+
+    abbrev Gives : Part → ℕ → State → Ending → Type 0
+    Gives = Leaves f State pc args Returns Good Steps
+
+    -- what is owed of a part and a number of steps, for each number of turns that is large enough
+    abbrev pub Law : ℕ → Part → Type 0
+    Law k p = (s t : State) (m : ℕ) → Good s → pc s ≡ f.addr (first f p) → Runs k s t → 2 * k ≤ m + slack f p → Gives p k t (call (f.number p) (args s) m)
+
+    abbrev LawsBelow : ℕ → Type 0
+    LawsBelow k = (j : ℕ) → j < k → (p : Part) → IsPart f p → Law j p
+
+    along : (p : Part) (k : ℕ) (t : State) (o o' : Ending) → o' ≡ o → Gives p k t o → Gives p k t o'
+    along p k t o o' e h = subst (Gives p k t) (sym e) h
+
+    longer : (p : Part) (j k : ℕ) (t : State) (o : Ending) → j ≤ k → Gives p j t o → Gives p k t o
+    longer p j k t o le (inl r) = inl r
+    longer p j k t o le (inr l) = inr (record {
+      exit = l.exit;
+      node = l.node;
+      there = l.there;
+      steps = l.steps;
+      fewer = omega (arith, l.fewer);
+      state = l.state;
+      place = l.place;
+      good = l.good;
+      comes = l.comes;
+      left = l.left;
+      enough = l.enough;
+      ends = l.ends;
+    })
+
+    -- ---- at an exit
+
+    leaves : (k : ℕ) (p : Part) (t : State) (n : ℕ) (x : ValuesTree) (e : Environment) (u : State) (j o m : ℕ) → j < k → Good u → pc u ≡ f.addr n → arguments_of x e ≡ args u → Runs j u t
+        → 2 * j ≤ m → (i : Option ℕ) → index_of (targets f p) n ≡ i → (b : BodyTree) → option_map (λ q. Leave q x) i ≡ Some b → Gives p k t (body_ending call (f.number p) b e o m)
+    leaves k p t n x e u j o m lt good place same comes enough None is b h = absurd (cc)
+    leaves k p t n x e u j o m lt good place same comes enough (Some i) is b h =
+        let q : Leave i x ≡ b = cc in
+        subst (λ c. Gives p k t (body_ending call (f.number p) c e o m)) q (inr (record {
+          exit = i;
+          node = n;
+          there = found-at (targets f p) n i is;
+          steps = j;
+          fewer = lt;
+          state = u;
+          place = place;
+          good = good;
+          comes = comes;
+          left = m;
+          enough = enough;
+          ends = λ z. Exited i (same z) m;
+        }))
+
+    -- where the part ends by itself
+    end-law : (k : ℕ) → LawsBelow k → (p : Part) → IsPart f p → (t : State) (n : ℕ) (x : ValuesTree) (e : Environment) (u : State) (j o m : ℕ) → j < k → Good u → pc u ≡ f.addr n
+        → arguments_of x e ≡ args u → Runs j u t → 2 * j ≤ m → (b : BodyTree) → end_of f p n x ≡ Some b → Gives p k t (body_ending call (f.number p) b e o m)
+    end-law k laws (Rest r c) there t n x e u j o m lt good place same comes enough b h =
+        leaves k (Rest r c) t n x e u j o m lt good place same comes enough (index_of (rest_targets f r) n) refl b h
+    end-law k laws (Loop l) there t n x e u j o m lt good place same comes enough b h =
+        by (λ at. longer (Loop l) j k t _ (omega arith)
+        (along (Loop l) j t (call (f.number (Loop l)) (args u) m) (call (f.number (Loop l)) (arguments_of x e) m) (λ z. call (f.number (Loop l)) (same z) m)
+        (laws j lt (Loop l) there u t m good (place ∙ ap f.addr at) comes (omega (arith, enough)))))
+        (λ c g. leaves k (Loop l) t n x e u j o m lt good place same comes enough (index_of (f.exits l) n) refl c g)
+        (eqb n (f.head l)) refl h
+      where
+        by : (n ≡ f.head l → Gives (Loop l) k t (call (f.number (Loop l)) (arguments_of x e) m))
+            → ((c : BodyTree) → option_map (λ q. Leave q x) (index_of (f.exits l) n) ≡ Some c → Gives (Loop l) k t (body_ending call (f.number (Loop l)) c e o m))
+            → (q : Bool) → eqb n (f.head l) ≡ q → cond q (Some (Again x)) (option_map (λ q. Leave q x) (index_of (f.exits l) n)) ≡ Some b
+            → Gives (Loop l) k t (body_ending call (f.number (Loop l)) b e o m)
+        by again out true w g = let q : Again x ≡ b = cc in subst (λ c. Gives (Loop l) k t (body_ending call (f.number (Loop l)) c e o m)) q (again (eqb-true n (f.head l) w))
+        by again out false w g = out b g
+
+    -- at an exit of the own region, after a call
+    last-law : (k : ℕ) → LawsBelow k → (p : Part) → IsPart f p → (t : State) (n : ℕ) (v : Place) (e : Environment) (u : State) (j o m i : ℕ) → j < k → Good u → pc u ≡ f.addr n
+        → Stands f v e (args u) → Runs j u t → 2 * j ≤ m → slice_get (rest_targets f (own p)) i ≡ Some n → Gives p k t (body_ending call (f.number p) (last_at f p n v) e o m)
+    last-law k laws p there t n v e u j o m i lt good place is comes enough at =
+        by (λ b h. end-law k laws p there t n (current f v) e u j o m lt good place is.same comes enough b h) (end_of f p n (current f v)) refl
+      where
+        by : ((b : BodyTree) → end_of f p n (current f v) ≡ Some b → Gives p k t (body_ending call (f.number p) b e o m))
+            → (c : Option BodyTree) → end_of f p n (current f v) ≡ c → Gives p k t (body_ending call (f.number p) (or_else c (Leave 0 (current f v))) e o m)
+        by ends None none = absurd (let q = is-found (rest_targets f (own p)) n (contains-at (rest_targets f (own p)) i n at) in end-some f p n q.place (current f v) q.found none)
+        by ends (Some b) some = ends b some
+
+    -- after the call of the rest from a node on, of the own region
+    called : (k : ℕ) → LawsBelow k → (p : Part) → IsPart f p → (t : State) (n : ℕ) (v : Place) (e : Environment) (j o : ℕ) → j < k → v.words ≡ e.words → v.mems ≡ e.mems
+        → (r : Option ℕ) → own p ≡ r → (c : Ending) → Gives (Rest r n) j t c
+        → Gives p k t (and_then c (λ i x m. arm_ending call (f.number p) (rest_arms f p r v) i (with_arguments e x) o m))
+    called k laws p there t n v e j o lt ew em None q c (inl r) =
+        let x = with_address (pc t) (args t) in
+        let lens = long t in
+        inl (record {
+          region = q;
+          returns = r.returns;
+          good = r.good;
+          left = r.left;
+          ends =
+              (λ z. and_then (r.ends z) (λ i y m. arm_ending call (f.number p) (rest_arms f p None v) i (with_arguments e y) o m))
+              ∙ (λ z. arm_ending call (f.number p) (cond (r.returns z) (Arm (Leave 0 (with_pc (Var v.words) (current f (fresh f (suc v.words) v.mems)))) NoArm) NoArm) 0 (with_arguments e x) o r.left)
+              ∙ (λ z. Exited 0 (returned-values f rise e v.words v.mems x ew em (ap suc lens.0) lens.1 z) r.left);
+        })
+    called k laws p there t n v e j o lt ew em None q c (inr l) = let h : slice_get [] l.exit ≡ Some l.node = l.there in absurd (cc)
+    called k laws p there t n v e j o lt ew em (Some i) q c (inl r) = let h : Some i ≡ None = r.region in absurd (cc)
+    called k laws p there t n v e j o lt ew em (Some i) q c (inr l) =
+        let lens = long l.state in
+        let w = fresh f v.words v.mems in
+        let d = with_arguments e (args l.state) in
+        let arm = arm-over call (f.number p) (λ x. last_at f p x w) (rest_targets f (Some i)) l.exit l.node d o l.left l.there in
+        along p k t (body_ending call (f.number p) (last_at f p l.node w) d arm.ordinal l.left) _
+        ((λ z. and_then (l.ends z) (λ a x m. arm_ending call (f.number p) (rest_arms f p (Some i) v) a (with_arguments e x) o m)) ∙ arm.ends)
+        (last-law k laws p there t l.node w d l.state l.steps arm.ordinal l.left l.exit (omega (arith, l.fewer)) l.good l.place
+        (stands-fresh f rise e v.words v.mems (args l.state) ew em lens.0 lens.1) l.comes l.enough
+        (subst (λ r. slice_get (rest_targets f r) l.exit ≡ Some l.node) (sym q) l.there))
+
+    -- at a cut
+    cut-law : (k : ℕ) → LawsBelow k → (p : Part) → IsPart f p → (t : State) (n : ℕ) (v : Place) (e : Environment) (u : State) (j o m : ℕ) → j < k → n < f.nodes → f.is_cut n ≡ true
+        → IsPlaced f (own p) n → Good u → pc u ≡ f.addr n → Stands f v e (args u) → Runs j u t → 2 * j ≤ m → Gives p k t (body_ending call (f.number p) (end_at f p n v) e o m)
+    cut-law k laws p there t n v e u j o m lt node cut placed good place is comes enough =
+        by (λ b h. end-law k laws p there t n (current f v) e u j o m lt good place is.same comes enough b h)
+        (λ r. called k laws p there t n v e j o lt is.words is.mems (f.around n) (sym r) (call (f.number (rest_from f n)) (arguments_of (current f v) e) m)
+        (along (rest_from f n) j t (call (f.number (rest_from f n)) (args u) m) _ (λ z. call (f.number (rest_from f n)) (is.same z) m)
+        (laws j lt (rest_from f n) (node, cut, refl) u t m good place comes (omega (arith, enough)))))
+        (end_of f p n (current f v)) refl
+      where
+        inside : IsPlaced f (own p) n → end_of f p n (current f v) ≡ None → f.around n ≡ own p
+        inside (inl q) none = absurd (end-some f p n q.0 (current f v) q.1 none)
+        inside (inr q) none = q
+
+        by : ((b : BodyTree) → end_of f p n (current f v) ≡ Some b → Gives p k t (body_ending call (f.number p) b e o m))
+            → (f.around n ≡ own p → Gives p k t (body_ending call (f.number p) (Call (f.number (rest_from f n)) (current f v) (rest_arms f p (f.around n) v)) e o m))
+            → (c : Option BodyTree) → end_of f p n (current f v) ≡ c
+            → Gives p k t (body_ending call (f.number p) (or_else c (Call (f.number (rest_from f n)) (current f v) (rest_arms f p (f.around n) v))) e o m)
+        by ends calls None none = calls (inside placed none)
+        by ends calls (Some b) some = ends b some
+
+    -- ---- along a body
+
+    -- the body from a node on, where fewer than b instructions stand before the next cut
+    abbrev FromNode : ℕ → ℕ → Part → State → Type 0
+    FromNode b k p t =
+        (n : ℕ) (v : Place) (e : Environment) (s : State) (j o m : ℕ) → graph.rank n < b → n < f.nodes → graph.inner n ≡ own p → j ≤ k → Good s → pc s ≡ f.addr n → Stands f v e (args s) → Runs j s t
+        → 2 * j ≤ m + 2 → Gives p k t (body_ending call (f.number p) (body_at b f p n v) e o m)
+
+    -- after an edge
+    arrives : (b k : ℕ) → LawsBelow k → (p : Part) → IsPart f p → (t : State) → FromNode b k p t → (from : ℕ) (w : Place) → from < f.nodes → graph.inner from ≡ own p → graph.rank from < suc b
+        → (n : ℕ) → Leads (action f from w) n → (v : Place) (e : Environment) (u : State) (j o m : ℕ) → j < k → Good u → pc u ≡ f.addr n → Stands f v e (args u) → Runs j u t → 2 * j ≤ m
+        → Gives p k t (body_ending call (f.number p) (cond (f.is_cut n) (end_at f p n v) (body_at b f p n v)) e o m)
+    arrives b k laws p there t on from w node region near n leads v e u j o m lt good place is comes enough = by (f.is_cut n) refl
+      where
+        by : (c : Bool) → f.is_cut n ≡ c → Gives p k t (body_ending call (f.number p) (cond c (end_at f p n v) (body_at b f p n v)) e o m)
+        by true h =
+            let q = graph.placed from n node (leads-edge (f.instr from) (f.addr from) (f.to from) w n leads) h in
+            cut-law k laws p there t n v e u j o m lt q.0 h (subst (λ r. IsPlaced f r n) region q.1) good place is comes enough
+        by false h =
+            let q = graph.stays from n node (leads-edge (f.instr from) (f.addr from) (f.to from) w n leads) h in
+            on n v e u j o m (omega (arith, q.2)) q.0 (q.1 ∙ region) (omega arith) good place is comes (omega arith)
+
+    -- one instruction
+    acts : (b k : ℕ) → LawsBelow k → (p : Part) → IsPart f p → (t : State) → FromNode b k p t → (n : ℕ) (v : Place) (e : Environment) (s u : State) (j o m : ℕ) → graph.rank n < suc b → n < f.nodes
+        → graph.inner n ≡ own p → suc j ≤ k → (Returns s × (j ≡ 0) × (u ≡ t)) ⊎ ((Returns s → ⊥) × Runs j u t) → 2 * suc j ≤ m + 2 → Stands f v e (args s) → Good u
+        → (y : Action) → action f n v ≡ y → IsDone f State pc args Returns Good Steps y v e s u → Gives p k t (body_ending call (f.number p) (action_body f p y v (body_at b f p)) e o m)
+    acts b k laws p there t on n v e s u j o m near node region le (inl r) enough is good (Straight ss w to) has step = absurd (step.3 r.0)
+    acts b k laws p there t on n v e s u j o m near node region le (inr r) enough is good (Straight ss w to) has step =
+        along p k t _ _ (ending-steps call (f.number p) (cond (f.is_cut to) (end_at f p to w) (body_at b f p to w)) ss e o m step.0)
+        (arrives b k laws p there t on n v node region near to (subst (λ y. Leads y to) (sym has) refl) w (after_steps ss e) u j (needs_passed ss o) m (omega arith) good step.2 step.1 r.1 (omega arith))
+    acts b k laws p there t on n v e s u j o m near node region le (inl r) enough is good (Fork c x y) has step = absurd (step.2 r.0)
+    acts b k laws p there t on n v e s u j o m near node region le (inr r) enough is good (Fork c x y) has step = by (cond_holds c e) step.1
+      where
+        now : Stands f v e (args u)
+        now = subst (λ z. Stands f v e z) (sym step.0) is
+
+        one : Gives p k t (body_ending call (f.number p) (cond (f.is_cut x) (end_at f p x v) (body_at b f p x v)) e o m) → Unit {0}
+        one h = tt
+
+        by : (z : Bool) → pc u ≡ f.addr (cond z x y) → Gives p k t (cond z (body_ending call (f.number p) (cond (f.is_cut x) (end_at f p x v) (body_at b f p x v)) e o m)
+            (body_ending call (f.number p) (cond (f.is_cut y) (end_at f p y v) (body_at b f p y v)) e (o + needs (cond (f.is_cut x) (end_at f p x v) (body_at b f p x v))) m))
+        by true h = arrives b k laws p there t on n v node region near x (subst (λ z. Leads z x) (sym has) (inl refl)) v e u j o m (omega arith) good h now r.1 (omega arith)
+        by false h =
+            arrives b k laws p there t on n v node region near y (subst (λ z. Leads z y) (sym has) (inr refl)) v e u j (o + needs (cond (f.is_cut x) (end_at f p x v) (body_at b f p x v))) m
+            (omega arith) good h now r.1 (omega arith)
+    acts b k laws p there t on n v e s u j o m near node region le (inr r) enough is good (Return ss a) has step = absurd (r.0 step.3)
+    acts b k laws p there t on n v e s u j o m near node region le (inl r) enough is good (Return ss a) has step =
+        let q = graph.returned n node (return-row (f.instr n) (f.addr n) (f.to n) v ss a has) in
+        let results : arguments_of (with_pc a (current f v)) (after_steps ss e) ≡ with_address (pc u) (args u) = (λ z. record { words = step.1 z ∷ (step.2 z).words; mems = (step.2 z).mems }) in
+        inl (record {
+          region = sym region ∙ q.0;
+          returns = q.1;
+          good = subst Good r.2 good;
+          left = m;
+          ends =
+              ending-steps call (f.number p) (Leave 0 (with_pc a (current f v))) ss e o m step.0
+              ∙ (λ z. Exited 0 (results z) m) ∙ (λ z. Exited 0 (with_address (pc (r.2 z)) (args (r.2 z))) m);
+        })
+
+    body-law : (b k : ℕ) → LawsBelow k → (p : Part) → IsPart f p → (t : State) → FromNode b k p t
+    body-law zero k laws p there t n v e s j o m near node region le good place is comes enough = absurd (omega arith)
+    body-law (suc b) k laws p there t n v e s zero o m near node region le good place is comes enough = absurd comes
+    body-law (suc b) k laws p there t n v e s (suc j) o m near node region le good place is (u, steps, how) enough =
+        let step = done n v e s u node good place is steps in
+        acts b k laws p there t (body-law b k laws p there t) n v e s u j o m near node region le how enough is step.0 (action f n v) refl step.1
+
+    -- ---- parts
+
+    starts : (s : State) → Stands f (start f) (with_arguments no_variables (args s)) (args s)
+    starts s = let lens = long s in stands-start f rise (args s) lens.0 lens.1
+
+    -- a part whose body begins with its first node
+    plain-law : (k : ℕ) → LawsBelow k → (p : Part) → IsPart f p → (n : ℕ) → n < f.nodes → graph.inner n ≡ own p → part_body f p ≡ body_at 32 f p n (start f) → (s t : State) (m : ℕ)
+        → Good s → pc s ≡ f.addr n → Runs k s t → 2 * k ≤ m + 1 → Gives p k t (call (f.number p) (args s) m)
+    plain-law zero laws p there n node region body s t m good place comes enough = absurd comes
+    plain-law (suc k) laws p there n node region body s t zero good place comes enough = absurd (omega arith)
+    plain-law (suc k) laws p there n node region body s t (suc m) good place comes enough =
+        along p (suc k) t _ _ (enter p (args s) m there ∙ (λ z. body_ending call (f.number p) (body z) (with_arguments no_variables (args s)) 0 m))
+        (body-law 32 (suc k) laws p there t n (start f) (with_arguments no_variables (args s)) s (suc k) 0 m (graph.near n node) node region (omega arith) good place (starts s) comes (omega arith))
+
+    -- after the loop of the rest of a head
+    looped : (k : ℕ) → LawsBelow k → (r : Option ℕ) (n l : ℕ) → IsPart f (Rest r n) → l < f.loops → f.head l ≡ n → (t : State) (e : Environment) → (start f).words ≡ e.words
+        → (start f).mems ≡ e.mems → (c : Ending) → Gives (Loop l) k t c
+        → Gives (Rest r n) k t (and_then c (λ i x m. arm_ending call (f.number (Rest r n)) (arms_over (f.exits l) (λ x. end_at f (Rest r n) x (fresh f (start f).words (start f).mems))) i (with_arguments e x) 0 m))
+    looped k laws r n l there is_loop at t e ew em c (inl q) = let h : Some l ≡ None = q.region in absurd (cc)
+    looped k laws r n l there is_loop at t e ew em c (inr q) =
+        let lens = long q.state in
+        let exit = graph.loop_exit l q.exit q.node is_loop q.there in
+        let v : Place = fresh f (start f).words (start f).mems in
+        let d = with_arguments e (args q.state) in
+        let placed : IsPlaced f r q.node = subst (λ z. IsPlaced f z q.node) (ap f.around at ∙ there.2) exit.2 in
+        let arm = arm-over call (f.number (Rest r n)) (λ x. end_at f (Rest r n) x v) (f.exits l) q.exit q.node d 0 q.left q.there in
+        along (Rest r n) k t (body_ending call (f.number (Rest r n)) (end_at f (Rest r n) q.node v) d arm.ordinal q.left) _
+        ((λ z. and_then (q.ends z) (λ i x m. arm_ending call (f.number (Rest r n)) (arms_over (f.exits l) (λ x. end_at f (Rest r n) x v)) i (with_arguments e x) 0 m)) ∙ arm.ends)
+        (cut-law k laws (Rest r n) there t q.node v d q.state q.steps arm.ordinal q.left q.fewer exit.0 exit.1 placed q.good q.place
+        (stands-fresh f rise e (start f).words (start f).mems (args q.state) ew em lens.0 lens.1) q.comes q.enough)
+
+    loop-law : (k : ℕ) → LawsBelow k → (l : ℕ) → l < f.loops → Law k (Loop l)
+    loop-law k laws l is_loop s t m good place comes enough =
+        let h = graph.loop_head l is_loop in
+        plain-law k laws (Loop l) is_loop (f.head l) h.0 h.1 refl s t m good place comes enough
+
+    rest-law : (k : ℕ) → LawsBelow k → (r : Option ℕ) (n : ℕ) → IsPart f (Rest r n) → (s t : State) (m : ℕ) → Good s → pc s ≡ f.addr n → Runs k s t
+        → (o : Option ℕ) → f.loop_of n ≡ o → 2 * k ≤ m + slack_at o → Gives (Rest r n) k t (call (f.number (Rest r n)) (args s) m)
+    rest-law k laws r n there s t m good place comes None has enough =
+        plain-law k laws (Rest r n) there n there.0 (graph.cut_inner n there.0 there.1 has ∙ there.2) (λ z. rest_body 32 f (Rest r n) n (has z)) s t m good place comes enough
+    rest-law zero laws r n there s t m good place comes (Some l) has enough = absurd comes
+    rest-law (suc k) laws r n there s t zero good place comes (Some l) has enough = absurd (omega arith)
+    rest-law (suc k) laws r n there s t (suc m) good place comes (Some l) has enough =
+        let h = graph.head_is n l there.0 has in
+        let e : Environment = with_arguments no_variables (args s) in
+        let is = starts s in
+        along (Rest r n) (suc k) t _ _ (enter (Rest r n) (args s) m there ∙ (λ z. body_ending call (f.number (Rest r n)) (rest_body 32 f (Rest r n) n (has z)) e 0 m))
+        (looped (suc k) laws r n l there h.0 h.1 t e is.words is.mems (call (f.number (Loop l)) (arguments_of (current f (start f)) e) m)
+        (along (Loop l) (suc k) t (call (f.number (Loop l)) (args s) m) _ (λ z. call (f.number (Loop l)) (is.same z) m)
+        (loop-law (suc k) laws l h.0 s t m good (place ∙ ap f.addr (sym h.1)) comes (omega (arith, enough)))))
+
+    one-law : (k : ℕ) → LawsBelow k → (p : Part) → IsPart f p → Law k p
+    one-law k laws (Loop l) there = loop-law k laws l there
+    one-law k laws (Rest r n) there = λ s t m good place comes enough. rest-law k laws r n there s t m good place comes (f.loop_of n) refl enough
+
+    laws-below : (k : ℕ) → LawsBelow k
+    laws-below zero j lt p there = absurd (omega arith)
+    laws-below (suc k) j lt p there = one-law j (λ i below q there'. laws-below k i (omega arith) q there') p there
+
+    -- the law of a part
+    pub part-law : (k : ℕ) (p : Part) → IsPart f p → Law k p
+    part-law k p there = one-law k (laws-below k) p there
+
+    -- the whole function: a run that first returns after k steps is an evaluation within 2 k turns
+    pub whole-law : (n k : ℕ) (s t : State) → IsPart f (Rest None n) → Good s → pc s ≡ f.addr n → Runs k s t
+        → LeavesIn f State pc args Returns Good Steps (Rest None n) t (call (f.number (Rest None n)) (args s) (2 * k))
+    whole-law n k s t there good place comes = by (part-law k (Rest None n) there s t (2 * k) good place comes (omega arith))
+      where
+        by : Gives (Rest None n) k t (call (f.number (Rest None n)) (args s) (2 * k)) → LeavesIn f State pc args Returns Good Steps (Rest None n) t (call (f.number (Rest None n)) (args s) (2 * k))
+        by (inl r) = r
+        by (inr l) = let h : slice_get [] l.exit ≡ Some l.node = l.there in absurd (cc)

@@ -1,0 +1,218 @@
+-- The law of a part, told by the machine's run and by evaluation, and that nothing is lost of the whole function.
+use Rattle.std.proofs.Common.{◌≡◌, ℕ, zero, suc, ◌+◌, ◌*◌, ◌<◌, ◌≤◌, true, cond, ◌⊎◌, inl, inr, Option, Some, None, List, [], ◌∷◌, ◌++◌, map, refl, sym, ap, subst, ◌∙◌, arith, Bool, false, Contains}
+use Rattle.std.specs.Prelude.{slice_get, option_map}
+use Rattle.rv_machine.specs.State.{State}
+use Rattle.rv_machine.specs.Run.{run}
+use Rattle.rv_machine.proofs.RunLemmas.{run-none, run-more}
+use Rattle.word_terms.specs.Environment.{Environment}
+use Rattle.rv_words.specs.Ranges.{range_bytes}
+use Rattle.sep_assert.specs.Code.{IsWithin}
+use Rattle.elf_image.specs.Image.{code_of_file}
+use Rattle.tailrec_lang.specs.declared.group.Exit.{Exit}
+use Rattle.tailrec_lang.specs.declared.group.Exit.TheVariants.{At, Ret}
+use Rattle.tailrec_lang.specs.Tree.{DefTree, GroupTree, exits_of, exits_at, listed_def}
+use Rattle.tailrec_lang.specs.Eval.{Arguments, Exited, Done, done_by, with_pc, ending, eval}
+use Rattle.tailrec_lang.proofs.Turns.{ending-enter}
+use Rattle.path_walk.specs.declared.part.Part.{Part}
+use Rattle.path_walk.specs.declared.part.Part.TheVariants.{Loop, Rest}
+use Rattle.path_walk.specs.Bodies.{Flow, Place, Action, Straight, Fork, Return, action, own, first, targets, part_def}
+use Rattle.path_walk.specs.Bodies as bodies
+use Rattle.path_walk.specs.Graph.{IsPart, IsGraph, IsCode}
+use Rattle.checker.specs.Headline.{Region, is_within, held_in, Ends}
+use Rattle.exactness.specs.Exact.{IsAtReturn, FirstReturns, Gives, Exact}
+use Rattle.exactness.specs.Parts.{HasParts, HoldsCode, LeavesAs, Meets, turns_at, turns_for, LawOfPart}
+use Rattle.exactness.proofs.Returns.{Steps, Comes, comes, IsKept, kept-here}
+use Rattle.exactness.proofs.Places.{Stands}
+use Rattle.exactness.proofs.PartLaw.{with_address, IsDone, Leaves, slack, slack_at, part-law}
+use Rattle.exactness.proofs.Simulation.{held}
+use Rattle.exactness.proofs.Whole.{step-done, held-long, held-is}
+
+-- a state with the number of steps that were made before it
+abbrev Counted : Type 0
+Counted = State × ℕ
+
+abbrev CountedSteps : List Region → Counted → Counted → Type 0
+CountedSteps regions x y = Steps regions x.0 y.0 × (y.1 ≡ x.1 + 1)
+
+abbrev ReturnsThere : Counted → Type 0
+ReturnsThere x = IsAtReturn x.0
+
+counted : (regions : List Region) (k i : ℕ) (s t : State) → Comes State IsAtReturn (Steps regions) k s t → Comes Counted ReturnsThere (CountedSteps regions) k (s, i) (t, i + k)
+counted regions zero i s t h = absurd h
+counted regions (suc k) i s t (u, steps, inl r) =
+    let more : i + 1 ≡ i + suc k = omega (arith, r.1) in
+    ((u, i + 1), (steps, refl), inl (r.0, r.1, (λ j. (r.2 j, more j))))
+counted regions (suc k) i s t (u, steps, inr r) =
+    let more : i + 1 + k ≡ i + suc k = omega arith in
+    ((u, i + 1), (steps, refl), inr (r.0, subst (λ n. Comes Counted ReturnsThere (CountedSteps regions) k (u, i + 1) (t, n)) more (counted regions k (i + 1) u t r.1)))
+
+-- the number of steps tells how many there are
+count-is : (regions : List Region) (k : ℕ) (x y : Counted) → Comes Counted ReturnsThere (CountedSteps regions) k x y → (y.1 ≡ x.1 + k) × (0 < k)
+count-is regions zero x y h = absurd h
+count-is regions (suc k) x y (u, steps, inl r) = let e : u.1 ≡ y.1 = ap (λ (z : Counted). z.1) r.2 in (omega (arith, steps.1, r.1), omega arith)
+count-is regions (suc k) x y (u, steps, inr r) = let rest = count-is regions k u y r.1 in (omega (arith, rest.0, steps.1), omega arith)
+
+exit-at : (f : Flow) (ns : List ℕ) (more : List Exit) (k n : ℕ) → slice_get ns k ≡ Some n → slice_get (map (λ m. At (f.addr m)) ns ++ more) k ≡ Some (At (f.addr n))
+exit-at f [] more k n h = absurd (cc)
+exit-at f (m ∷ ns) more zero n h = let q : m ≡ n = cc in λ i. Some (At (f.addr (q i)))
+exit-at f (m ∷ ns) more (suc k) n h = exit-at f ns more k n h
+
+ret-at : (f : Flow) (p : Part) → own p ≡ None → f.returns ≡ true → slice_get (bodies.exits_of f p) 0 ≡ Some Ret
+ret-at f (Loop l) region h = let q : Some l ≡ None = region in absurd (cc)
+ret-at f (Rest None n) region h = λ i. slice_get (cond (h i) (Ret ∷ []) []) 0
+ret-at f (Rest (Some l) n) region h = let q : Some l ≡ None = region in absurd (cc)
+
+done-return : (exits : List Exit) (pc : ℕ) (x : Arguments) (left : ℕ) → slice_get exits 0 ≡ Some Ret → with_pc exits (Exited 0 (with_address pc x) left) ≡ Done 0 pc x left
+done-return exits pc x left h = λ i. done_by (h i) 0 (with_address pc x) left
+
+done-exit : (exits : List Exit) (exit a : ℕ) (x : Arguments) (left : ℕ) → slice_get exits exit ≡ Some (At a) → with_pc exits (Exited exit x left) ≡ Done exit a x left
+done-exit exits exit a x left h = λ i. done_by (h i) exit x left
+
+enough-turns : (f : Flow) (p : Part) (k turns : ℕ) → turns_for f p k ≤ turns → 2 * k ≤ turns + slack f p
+enough-turns f (Loop l) k turns le = omega arith
+enough-turns f (Rest r n) k turns le = by (f.loop_of n) le
+  where
+    by : (o : Option ℕ) → turns_at o k ≤ turns → 2 * k ≤ turns + slack_at o
+    by None h = omega arith
+    by (Some l) h = omega arith
+
+module _ (f : Flow) (g : GroupTree) (entry : ℕ) (graph : IsGraph f) (has : IsCode f g.code) (parts : HasParts f entry g)
+    (regions : List Region) (s0 : State) (holds : HoldsCode g regions s0) where
+  abbrev Good : State → Type 0
+  Good = IsKept f.regs regions s0
+
+  abbrev GoodThere : Counted → Type 0
+  GoodThere x = Good x.0 × (run s0 x.1 ≡ Some x.0)
+
+  abbrev args : State → Arguments
+  args = held f (is_within regions)
+
+  abbrev args_there : Counted → Arguments
+  args_there x = args x.0
+
+  abbrev pc_there : Counted → ℕ
+  pc_there x = x.0.pc
+
+  lift : (y : Action) (v : Place) (e : Environment) (x u : Counted) → IsDone f State (λ s. s.pc) args IsAtReturn Good (Steps regions) y v e x.0 u.0
+      → IsDone f Counted pc_there args_there ReturnsThere GoodThere (CountedSteps regions) y v e x u
+  lift (Straight ss w to) v e x u h = h
+  lift (Fork c a b) v e x u h = h
+  lift (Return ss t) v e x u h = h
+
+  done-there : (n : ℕ) (v : Place) (e : Environment) (x u : Counted) → n < f.nodes → GoodThere x → pc_there x ≡ f.addr n → Stands f v e (args_there x) → CountedSteps regions x u
+      → GoodThere u × IsDone f Counted pc_there args_there ReturnsThere GoodThere (CountedSteps regions) (action f n v) v e x u
+  done-there n v e x u node good at is steps =
+      let one = step-done f g.code has regions s0 holds.code holds.beside_code n v e x.0 u.0 node good.0 at is steps.0 in
+      ((one.0, ap (run s0) steps.1 ∙ run-more s0 x.0 u.0 x.1 good.1 steps.0.0), lift (action f n v) v e x u one.1)
+
+  same : (u : State) → held_in u g regions ≡ args u
+  same u = held-is f g regions u parts.regs (holds.count ∙ parts.mems)
+
+  ends : (u : State) → Good u → Ends g regions s0 u.pc (held_in u g regions) u
+  ends u good = record {
+    pc = refl;
+    results = refl;
+    registers = λ r low out. good.registers r (λ c. out (subst (λ rs. Contains rs r) (sym parts.regs) c));
+    bytes = good.bytes;
+    present = good.present;
+  }
+
+  module _ (p : Part) (there : IsPart f p) where
+    def : exits_at g (f.number p) ≡ bodies.exits_of f p
+    def = ap exits_of (parts.defs p there)
+
+    told : (t : State) (k turns : ℕ) → Leaves f Counted pc_there args_there ReturnsThere GoodThere (CountedSteps regions) p k (t, 0 + k) (ending g (f.number p) (args s0) turns)
+        → LeavesAs g (f.number p) regions s0 turns Ret 0 t ⊎ Meets g (f.number p) regions s0 turns k
+    told t k turns (inl r) =
+        let exits : slice_get (exits_at g (f.number p)) 0 ≡ Some Ret = ap (λ xs. slice_get xs 0) def ∙ ret-at f p r.region r.returns in
+        inl (record {
+          number = 0;
+          there = exits;
+          left = r.left;
+          enough = omega arith;
+          done =
+              (λ i. with_pc (exits_at g (f.number p)) (ending g (f.number p) (same s0 i) turns)) ∙ ap (with_pc (exits_at g (f.number p))) r.ends
+              ∙ done-return (exits_at g (f.number p)) t.pc (args t) r.left exits ∙ (λ i. Done 0 t.pc (sym (same t) i) r.left);
+          ends = ends t r.good.0;
+        })
+    told t k turns (inr l) =
+        let count = count-is regions l.steps l.state (t, 0 + k) l.comes in
+        let u = l.state.0 in
+        let exits : slice_get (exits_at g (f.number p)) l.exit ≡ Some (At u.pc) =
+        ap (λ xs. slice_get xs l.exit) def ∙ exit-at f (targets f p) (bodies.returned f p) l.exit l.node l.there ∙ (λ i. Some (At (sym l.place i))) in
+        inr (record {
+          after = l.state.1;
+          some = omega (arith, count.0, l.fewer);
+          fewer = omega (arith, count.0, count.1);
+          state = u;
+          met = l.good.1;
+          leaves = record {
+            number = l.exit;
+            there = exits;
+            left = l.left;
+            enough = omega (arith, count.0, l.enough);
+            done =
+                (λ i. with_pc (exits_at g (f.number p)) (ending g (f.number p) (same s0 i) turns)) ∙ ap (with_pc (exits_at g (f.number p))) l.ends
+                ∙ done-exit (exits_at g (f.number p)) l.exit u.pc (args u) l.left exits ∙ (λ i. Done l.exit u.pc (sym (same u) i) l.left);
+            ends = ends u l.good.0;
+          };
+        })
+
+    pub part-of-run : (t : State) (k : ℕ) → s0.pc ≡ f.addr (first f p) → FirstReturns regions s0 k t → (turns : ℕ) → turns_for f p k ≤ turns
+        → LeavesAs g (f.number p) regions s0 turns Ret 0 t ⊎ Meets g (f.number p) regions s0 turns k
+    part-of-run t k at returns turns le =
+        told t k turns (part-law f graph has.registers Counted pc_there args_there ReturnsThere GoodThere (CountedSteps regions) (λ x. held-long f (is_within regions) x.0) done-there
+        (ending g) (λ q x m is. ending-enter g (f.number q) x m (part_def f q) (parts.defs q is))
+        k p there (s0, 0) (t, 0 + k) turns (kept-here f.regs regions s0, run-none s0) at (counted regions k 0 s0 t (comes regions k s0 t returns)) (enough-turns f p k turns le))
+
+-- the law of each part
+pub law-of-part : (f : Flow) (g : GroupTree) (entry : ℕ) → IsGraph f → IsCode f g.code → HasParts f entry g → (p : Part) → IsPart f p → LawOfPart f g p
+law-of-part f g entry graph has parts p there regions s t k holds at returns turns le = part-of-run f g entry graph has parts regions s holds p there t k at returns turns le
+
+-- ---- the whole function
+
+-- the rest of the whole function has no exit at an address
+no-address : (returns : Bool) (k a : ℕ) → slice_get (cond returns (Ret ∷ []) []) k ≡ Some (At a) → ⊥
+no-address true zero a h = cc
+no-address true (suc k) a h = cc
+no-address false k a h = cc
+
+same-pc : (a b : ℕ) → Some a ≡ Some b → b ≡ a
+same-pc a b e = cc
+
+whole-turns : (o : Option ℕ) (k : ℕ) → turns_at o k ≤ 2 * k
+whole-turns None k = omega arith
+whole-turns (Some l) k = omega arith
+
+-- A group of a definition for each part of a graph, whose code is the file's, loses nothing.
+pub nothing-lost : (file : List ℕ) (g : GroupTree) (f : Flow) (entry : ℕ) → IsGraph f → IsCode f g.code → HasParts f entry g
+    → IsWithin (range_bytes g.code) (code_of_file file) → Exact file g
+nothing-lost file g f entry graph has parts in_file s regions starts k t returns =
+    by (law-of-part f g entry graph has parts last parts.whole regions s t k holds at returns (2 * k) (whole-turns (f.loop_of entry) k))
+  where
+    last : Part
+    last = Rest None entry
+
+    number : listed_def g ≡ f.number (Rest None entry)
+    number = omega (arith, parts.last)
+
+    def : slice_get g.defs (f.number (Rest None entry)) ≡ Some (part_def f (Rest None entry))
+    def = parts.defs (Rest None entry) parts.whole
+
+    at : s.pc ≡ f.addr entry
+    at = same-pc (f.addr entry) s.pc (ap (option_map (λ (d : DefTree). d.entry)) (sym (ap (slice_get g.defs) number ∙ def)) ∙ starts.entry)
+
+    holds : HoldsCode g regions s
+    holds = record { count = starts.count; code = λ a b e. starts.code a b e ∙ in_file a b e; beside_code = starts.beside_code }
+
+    by : LeavesAs g (f.number (Rest None entry)) regions s (2 * k) Ret 0 t ⊎ Meets g (f.number (Rest None entry)) regions s (2 * k) k → Gives g regions s (2 * k) t
+    by (inl r) = record {
+      exit = r.number;
+      pc = t.pc;
+      results = held_in t g regions;
+      left = r.left;
+      done = (λ i. eval g (number i) (held_in s g regions) (2 * k)) ∙ r.done;
+      return = ap (λ d. slice_get (exits_at g d) r.number) number ∙ r.there;
+      ends = r.ends;
+    }
+    by (inr m) = absurd (no-address f.returns m.leaves.number m.state.pc (ap (λ d. slice_get (exits_of d) m.leaves.number) (sym def) ∙ m.leaves.there))

@@ -1,0 +1,5 @@
+use Rattle.exactness.proofs.Made.{flow-exact}
+use Rattle.exactness.proofs.laws.law_of_functions.Goals as goal
+
+pub returns : goal.returns
+returns c = flow-exact

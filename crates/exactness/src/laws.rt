@@ -1,0 +1,39 @@
+//! Laws of runs through a group that is made of a graph's parts. These functions do nothing: their contracts are the laws. Each speaks
+//! of the definitions alone.
+
+ghost use Rattle.std.specs.Prelude.{ℕ, List};
+ghost use Rattle.rv_words.specs.Bytes.{AreBytes};
+ghost use Rattle.rv_words.specs.Ranges.{range_bytes};
+ghost use Rattle.rv_words.specs.declared.range.Range.{Range as TheRange};
+ghost use Rattle.elf_image.specs.Image.{code_of_file};
+ghost use Rattle.sep_assert.specs.Code.{IsWithin};
+ghost use Rattle.tailrec_lang.specs.Tree.{GroupTree};
+ghost use Rattle.flow_graph.specs.Graph.{GraphOf, IsGraphOf};
+ghost use Rattle.loop_forest.specs.Forest.{ForestOf, IsForestOf, number_of};
+ghost use Rattle.path_walk.specs.declared.part.Part.{Part as ThePart};
+ghost use Rattle.path_walk.specs.Bodies.{Flow};
+ghost use Rattle.path_walk.specs.Graph.{IsCode, IsGraph, IsPart};
+ghost use Rattle.path_walk.specs.Flows.{HaveCode, flow_of, group_of};
+ghost use Rattle.path_walk.specs.Order.{AreParts};
+ghost use Rattle.exactness.specs.Exact.{Exact};
+ghost use Rattle.exactness.specs.Parts.{HasParts, LawOfPart};
+
+/// A run from the entry of a part that returns is an evaluation of its definition, up to where the run leaves the part.
+pub fn law_of_parts()
+    ensures { (f : Flow) (g : GroupTree) (entry : ℕ) → IsGraph f → IsCode f g.code → HasParts f entry g
+        → (p : ThePart) → IsPart f p → LawOfPart f g p }
+{}
+
+/// Nothing is lost of a function: a run from its entry that returns is an evaluation.
+pub fn law_of_returns()
+    ensures { (file : List ℕ) (g : GroupTree) (f : Flow) (entry : ℕ) → IsGraph f → IsCode f g.code → HasParts f entry g
+        → IsWithin (range_bytes g.code) (code_of_file file) → Exact file g }
+{}
+
+/// So nothing is lost of the group that is made of a function's code, its loops and its parts in their order.
+pub fn law_of_functions()
+    ensures { (file : List ℕ) (e : ℕ) (g : GraphOf) (f : ForestOf) (parts : List ThePart) (name : List ℕ) (ranges : List TheRange)
+        → IsGraphOf (code_of_file file) e g → IsForestOf g f → AreBytes (code_of_file file) → HaveCode g (code_of_file file) ranges
+        → AreParts (flow_of g f parts) (number_of f) parts → IsWithin (range_bytes ranges) (code_of_file file)
+        → Exact file (group_of (flow_of g f parts) name ranges parts) }
+{}

@@ -1,0 +1,6 @@
+//! Nothing is lost: a run of the machine that returns is an evaluation.
+#![tactic(auto)]
+
+mod laws;
+
+pub use laws::{law_of_functions, law_of_parts, law_of_returns};
