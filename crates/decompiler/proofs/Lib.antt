@@ -1,0 +1,9 @@
+pub mod ByteLemmas
+pub mod Fragment
+pub mod Graphs
+pub mod InOrder
+pub mod CodeListed
+pub mod PartsListed
+pub mod Items
+pub mod Texts
+pub mod Accepted

@@ -1,0 +1,149 @@
+-- What the decompiler makes of a name of a file.
+use Rattle.std.specs.Prelude.{◌≡◌, ◌↔◌, ◌⊎◌, ℕ, ◌+◌, ◌<◌, ◌≤◌, if◌then◌else◌, Option, Some, None, Ok, List, [], ◌∷◌, map, length, slice_index, slice_get, true}
+use Rattle.std.specs.List.{Contains, AllZip, list_any}
+use Rattle.rv_words.specs.Bytes.{Bytes}
+use Rattle.rv_words.specs.Ranges.{range_bytes}
+use Rattle.elf_image.specs.Image.{code_of_file}
+use Rattle.rv_decode.specs.declared.instruction.Instr.{Instr}
+use Rattle.rv_decode.specs.Registers.{sources, destination}
+use Rattle.tailrec_lang.specs.declared.group.Exit.{Exit}
+use Rattle.tailrec_lang.specs.declared.group.Exit.TheVariants.{At, Ret}
+use Rattle.tailrec_lang.specs.Tree.{DefTree, GroupTree, group_tree, listed_def}
+use Rattle.instr_axioms.specs.Terms.{has_memory}
+use Rattle.proof_text.specs.Line.{ProofTree, line_tree}
+use Rattle.proof_text.specs.Version.{version_1}
+use Rattle.proof_text.specs.Proofs.{IsProofIn}
+use Rattle.checker.specs.Accepts.{IsAccepted}
+use Rattle.checker.specs.Headline.{entry_at}
+use Rattle.exactness.specs.Exact.{Exact}
+use Rattle.flow_graph.specs.Flow.{Next, look, is_return}
+use Rattle.flow_graph.specs.Walks.{Reaches}
+use Rattle.flow_graph.specs.Graph.{GraphOf, HasEdge, IsGraphOf, IsRising}
+use Rattle.flow_graph.specs.declared.outside.Outside.{Outside}
+use Rattle.loop_forest.specs.Loops.{IsHead, IsExit}
+use Rattle.loop_forest.specs.Regions.{IsAround}
+use Rattle.loop_forest.specs.Cuts.{IsCut}
+use Rattle.loop_forest.specs.Forest.{incoming}
+use Rattle.path_walk.specs.declared.item.Item.{Item}
+use Rattle.decompiler.specs.Names.{StandsFor}
+use Rattle.decompiler.specs.Faults.{IsFirst, IsInFragment}
+use Rattle.decompiler.specs.declared.functions.Proof.{Proof}
+
+-- an item as a group with the lines of its proof
+abbrev pub proof_of : Item → ProofTree
+proof_of item = record { group = group_tree item.group; lines = map line_tree item.lines }
+
+-- those of a proof, in order
+abbrev pub proofs_of : Proof → List ProofTree
+proofs_of p = map proof_of p.items
+
+-- ---- the code that is reached from e
+
+-- the instruction stands at a reached address
+pub record IsInstructionOf (code : Bytes) (e : ℕ) (i : Instr) : Type 0 where
+  pub at : ℕ
+  pub reached : Reaches (Next code) e at
+  pub is : look code at ≡ Ok i
+
+-- one of the four bytes of a reached instruction
+pub record IsCodeOf (code : Bytes) (e a : ℕ) : Type 0 where
+  pub from : ℕ
+  pub place : ℕ
+  pub reached : Reaches (Next code) e from
+  pub within : place < 4
+  pub is : a ≡ from + place
+
+-- an instruction reads or writes the register
+pub record IsUsed (code : Bytes) (e r : ℕ) : Type 0 where
+  pub instr : Instr
+  pub reached : IsInstructionOf code e instr
+  pub stands : Contains (sources instr) r ⊎ (destination instr ≡ r)
+
+-- an instruction loads or stores
+pub record UsesMemory (code : Bytes) (e : ℕ) : Type 0 where
+  pub instr : Instr
+  pub reached : IsInstructionOf code e instr
+  pub uses : has_memory instr ≡ true
+
+-- ---- its parts
+
+-- A part of the code: a loop, by the node of its head; or what is done from a cut on in a region, which is a loop by its head, or the
+-- whole function.
+pub data CodePart : Type 0 where
+  LoopOf : (head : ℕ) → CodePart
+  RestFrom : (region : Option ℕ) (cut : ℕ) → CodePart
+
+-- a loop is a part, and the rest from each cut on in the smallest region that has it, where a head counts as a node of the region
+-- around its loop
+abbrev pub IsPartOf : GraphOf → CodePart → Type 0
+IsPartOf g (LoopOf h) = IsHead (HasEdge g) g.entry h
+IsPartOf g (RestFrom region c) = IsCut (HasEdge g) g.entry (incoming g) c × IsAround (HasEdge g) g.entry c region
+
+abbrev pub first_of : CodePart → ℕ
+first_of (LoopOf h) = h
+first_of (RestFrom region c) = c
+
+-- the nodes outside the loop of h to which edges from inside it lead, rising
+pub record AreTargets (g : GraphOf) (h : ℕ) (targets : List ℕ) : Type 0 where
+  pub rising : IsRising targets
+  pub each : (n : ℕ) → Contains targets n ↔ IsExit (HasEdge g) g.entry h n
+
+-- exits at the addresses of these nodes
+abbrev pub exits_to : GraphOf → List ℕ → List Exit
+exits_to g nodes = map (λ n. At (slice_index g.addrs n)) nodes
+
+-- The exits of a part: a loop has its targets; a rest in a loop the head, then the targets; a rest of the whole function the return,
+-- if there is one.
+abbrev pub HasExits : GraphOf → CodePart → List Exit → Type 0
+HasExits g (LoopOf h) exits = (targets : List ℕ) × AreTargets g h targets × (exits ≡ exits_to g targets)
+HasExits g (RestFrom (Some h) c) exits = (targets : List ℕ) × AreTargets g h targets × (exits ≡ exits_to g (h ∷ targets))
+HasExits g (RestFrom None c) exits = exits ≡ (if list_any is_return g.instrs then Ret ∷ [] else [])
+
+-- a definition of the part: it is entered at its first node and has its exits
+pub record IsDefOf (g : GraphOf) (p : CodePart) (d : DefTree) : Type 0 where
+  pub entry : d.entry ≡ slice_index g.addrs (first_of p)
+  pub exits : HasExits g p d.exits
+
+-- one definition for each part
+pub record HasDefs (g : GraphOf) (defs : List DefTree) : Type 0 where
+  pub parts : List CodePart
+  pub all : (p : CodePart) → Contains parts p ↔ IsPartOf g p
+  pub once : (j k : ℕ) (p : CodePart) → slice_get parts j ≡ Some p → slice_get parts k ≡ Some p → j ≡ k
+  pub each : AllZip (IsDefOf g) parts defs
+
+-- ---- what is listed
+
+-- What the group lists: the function under the name, entered at e; exactly the bytes of the reached code; the registers but x0 that it
+-- reads or writes; a memory exactly where it loads or stores; and one definition for each of its parts.
+pub record Lists (code : Bytes) (e : ℕ) (graph : GraphOf) (name : List ℕ) (g : GroupTree) : Type 0 where
+  pub named : g.name ≡ name
+  pub entry : entry_at g (listed_def g) ≡ Some e
+  pub bytes : (a b : ℕ) → (range_bytes g.code a ≡ Some b) ↔ (IsCodeOf code e a × (code a ≡ Some b))
+  pub registers : (r : ℕ) → Contains g.regs r ↔ ((1 ≤ r) × (r ≤ 31) × IsUsed code e r)
+  pub memory : ((g.mems ≡ 1) × UsesMemory code e) ⊎ ((g.mems ≡ 0) × (UsesMemory code e → ⊥))
+  pub defs : HasDefs graph g.defs
+
+-- The item of a name, which has no fault: what it lists is of the code that is reached from the name's address, as many instructions as it
+-- tells; it is accepted for the file, nothing is lost of the function, and it has a text.
+pub record IsItemFor (file name : List ℕ) (item : Item) : Type 0 where
+  pub entry : ℕ
+  pub stands : StandsFor file name (Ok entry)
+  pub inside : IsInFragment file name
+  pub graph : GraphOf
+  pub reach : IsGraphOf (code_of_file file) entry graph
+  pub reached : item.reached ≡ length graph.addrs
+  pub lists : Lists (code_of_file file) entry graph name (group_tree item.group)
+  pub accepted : IsAccepted file (proof_of item)
+  pub exact : Exact file (group_tree item.group)
+  pub text : IsProofIn version_1 (proof_of item)
+
+-- an item for each of the names, in order
+abbrev pub AreItemsFor : List ℕ → List (List ℕ) → Proof → Type 0
+AreItemsFor file names p = AllZip (IsItemFor file) names p.items
+
+-- the first of the names that is outside the fragment is the one of that number, for this reason; the names before it have items
+pub record IsRefused (file : List ℕ) (names : List (List ℕ)) (number : ℕ) (why : Outside) : Type 0 where
+  pub name : List ℕ
+  pub at : slice_get names number ≡ Some name
+  pub first : IsFirst file name why
+  pub before : (k : ℕ) (other : List ℕ) → k < number → slice_get names k ≡ Some other → (item : Item) × IsItemFor file other item
