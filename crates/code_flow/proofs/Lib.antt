@@ -1,0 +1,4 @@
+pub mod Edges
+pub mod Leads
+pub mod Loops
+pub mod Flows

@@ -1,0 +1,11 @@
+pub mod Each
+pub mod BytesLemmas
+pub mod KindLemmas
+pub mod DrawnLemmas
+pub mod SizeLemmas
+pub mod WrittenLemmas
+pub mod ShapeLemmas
+pub mod CodeLemmas
+pub mod CounterLemmas
+pub mod TargetLemmas
+pub mod StepLemmas

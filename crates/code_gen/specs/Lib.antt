@@ -1,0 +1,6 @@
+pub mod Draws
+pub mod Pieces
+pub mod Program
+pub mod ElfFile
+pub mod Structure
+pub mod inner

@@ -1,0 +1,6 @@
+pub mod Ways
+pub mod Passing
+pub mod Turns
+pub mod Through
+pub mod FileLemmas
+pub mod WordLemmas

@@ -1,0 +1,4 @@
+pub mod SetUp
+pub mod InFragment
+pub mod Returned
+pub mod Evaluated
