@@ -1,6 +1,6 @@
 -- Words that give a register's value or bytes of memory are read as they are spelled.
-use Rattle.std.proofs.Common.{◌≡◌, ◌≢◌, ℕ, ◌+◌, ◌^◌, ◌<◌, ◌≤◌, Bool, true, false, not, ltb, leb, ◌||◌, eqb, zero, suc, take, drop, ◌-◌, Bor, MatchOption, List, get_or, [], ◌∷◌, ◌++◌, length, codes, Option, Some, None, refl, sym, ap, subst, ◌∙◌, append_assoc, arith}
-use Rattle.std.specs.List.{AllByRecursion, before_first, position_or_len}
+use Rattle.std.proofs.Common.{◌≡◌, ◌≢◌, ℕ, ◌+◌, ◌^◌, ◌<◌, ◌≤◌, Bool, false, ltb, ◌||◌, eqb, zero, suc, take, drop, ◌-◌, Bor, MatchOption, List, get_or, [], ◌∷◌, ◌++◌, length, codes, Option, Some, None, refl, sym, ap, subst, ◌∙◌, append_assoc, arith}
+use Rattle.std.specs.List.{before_first, position_or_len}
 use Rattle.std.specs.Fmt.{decimal, digits}
 use Rattle.hex.specs.Hex.{encode_lower}
 use Rattle.std.proofs.lemmas.Bool.{eqb-true, eqb-false}

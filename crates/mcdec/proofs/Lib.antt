@@ -1,4 +1,6 @@
+pub mod NameWords
 pub mod Prints
+pub mod Writing
 pub mod Givens
 pub mod Registers
 pub mod ArgWords
@@ -6,6 +8,10 @@ pub mod Words
 pub mod SetUp
 pub mod Asked
 pub mod Answers
+pub mod Checking
 pub mod Groups
+pub mod OneListing
 pub mod Exactness
+pub mod Decompiling
+pub mod SelfTesting
 pub mod Examples

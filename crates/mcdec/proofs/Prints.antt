@@ -15,13 +15,13 @@ use Rattle.mcdec.specs.inner.Printing.{Gains, Prints, piece_text, pieces_text}
 
 -- ---- meanings that are told
 
-where_told : {T : Type 0} (o n : Option T) (R S : T → T → Type 0) → ((x z : T) → R x z → S x z) → WhereTold o n R → WhereTold o n S
+pub where_told : {T : Type 0} (o n : Option T) (R S : T → T → Type 0) → ((x z : T) → R x z → S x z) → WhereTold o n R → WhereTold o n S
 where_told None None R S h a = tt
 where_told None (Some z) R S h a = a
 where_told (Some x) None R S h a = a
 where_told (Some x) (Some z) R S h a = h x z a
 
-told_then : {T : Type 0} (o m n : Option T) (R S Q : T → T → Type 0) → ((x y z : T) → R x y → S y z → Q x z) → WhereTold o m R → WhereTold m n S → WhereTold o n Q
+pub told_then : {T : Type 0} (o m n : Option T) (R S Q : T → T → Type 0) → ((x y z : T) → R x y → S y z → Q x z) → WhereTold o m R → WhereTold m n S → WhereTold o n Q
 told_then None None None R S Q h a b = tt
 told_then None None (Some z) R S Q h a b = b
 told_then None (Some y) n R S Q h a b = absurd a
@@ -29,29 +29,29 @@ told_then (Some x) None n R S Q h a b = absurd a
 told_then (Some x) (Some y) None R S Q h a b = b
 told_then (Some x) (Some y) (Some z) R S Q h a b = h x y z a b
 
-told_same : {T : Type 0} (o : Option T) (R : T → T → Type 0) → ((x : T) → R x x) → WhereTold o o R
+pub told_same : {T : Type 0} (o : Option T) (R : T → T → Type 0) → ((x : T) → R x x) → WhereTold o o R
 told_same None R h = tt
 told_same (Some x) R h = h x
 
 -- ---- counts of faults
 
-rose-later : (a b c : ℕ) → a ≤ b → Rose b c → Rose a c
+pub rose-later : (a b c : ℕ) → a ≤ b → Rose b c → Rose a c
 rose-later a b c le (inl lt) = inl (omega arith)
 rose-later a b c le (inr last) = inr last
 
 -- ---- texts
 
 -- a front of the first text is a front of both
-stops_in_first : (e : Stop) (a b x z : List ℕ) → Gains (Err e) a x z → Gains (Err e) (a ++ b) x z
+pub stops_in_first : (e : Stop) (a b x z : List ℕ) → Gains (Err e) a x z → Gains (Err e) (a ++ b) x z
 stops_in_first e a b x z g =
     (min g.0 (length a), g.1 ∙ ap (λ (s : List ℕ). x ++ s) (sym (take-append-le (min g.0 (length a)) a b (omega arith) ∙ take_min g.0 a)))
 
-gains-then : (r : Result Unit Stop) (a b x y z : List ℕ) → Gains (Ok tt) a x y → Gains r b y z → Gains r (a ++ b) x z
+pub gains-then : (r : Result Unit Stop) (a b x y z : List ℕ) → Gains (Ok tt) a x y → Gains r b y z → Gains r (a ++ b) x z
 gains-then (Ok u) a b x y z g h = h ∙ ap (λ (s : List ℕ). s ++ b) g ∙ append_assoc x a b
 gains-then (Err e) a b x y z g h =
     (length a + h.0, h.1 ∙ ap (λ (s : List ℕ). s ++ take h.0 b) g ∙ append_assoc x a (take h.0 b) ∙ ap (λ (s : List ℕ). x ++ s) (sym (take-append-add a b h.0)))
 
-gains-added : (r : Result Unit Stop) (text x z : List ℕ) → Adds r text x z → Gains r text x z
+pub gains-added : (r : Result Unit Stop) (text x z : List ℕ) → Adds r text x z → Gains r text x z
 gains-added (Ok u) text x z h = h
 gains-added (Err Failed) text x z h = h
 gains-added (Err NoMemory) text x z h = (0, h ∙ sym (append-nil x))
@@ -114,6 +114,17 @@ module _ (ps : List Piece) (i : ℕ) (d : Piece) (lt : i < length ps) (o m n : O
 -- the line of a run that is stuck
 pub stuck-text : (steps why : List ℕ) → codes "refused stuck " ++ (steps ++ (codes " " ++ (why ++ codes "\n"))) ≡ codes "refused stuck " ++ steps ++ codes " " ++ why ++ codes "\n"
 stuck-text steps why = simp append_assoc
+
+-- the line of a program that was tested
+pub test-text : (number size instructions defs steps turns value : List ℕ)
+    → codes "selftest " ++ (number ++ (codes " " ++ (size ++ (codes " instructions " ++ (instructions ++ (codes " defs " ++ (defs ++ (codes " steps " ++ (steps ++ (codes " turns " ++ (turns ++ (codes " x10 " ++ (value ++ codes "\n")))))))))))))
+    ≡ codes "selftest " ++ number ++ codes " " ++ size ++ codes " instructions " ++ instructions ++ codes " defs " ++ defs ++ codes " steps " ++ steps ++ codes " turns " ++ turns ++ codes " x10 " ++ value ++ codes "\n"
+test-text number size instructions defs steps turns value = simp append_assoc
+
+-- the line of a name that was decompiled
+pub listed-text : (name entry reached defs : List ℕ) → codes "decompiled " ++ (name ++ (codes " " ++ (entry ++ (codes " " ++ (reached ++ (codes " " ++ (defs ++ codes "\n")))))))
+    ≡ codes "decompiled " ++ name ++ codes " " ++ entry ++ codes " " ++ reached ++ codes " " ++ defs ++ codes "\n"
+listed-text name entry reached defs = simp append_assoc
 
 -- ---- lines of registers
 

@@ -24,8 +24,9 @@ use Rattle.mcdec.specs.declared.answer.RunAnswer.TheVariants as answer
 use Rattle.mcdec.specs.declared.answer.Shown.{Shown}
 use Rattle.mcdec.specs.Command.{Arg, Given, AreGiven, given_to, value_of, givens, ranges}
 use Rattle.mcdec.specs.inner.CommandReading.{Holds, given_in, value_in}
-use Rattle.mcdec.specs.Memory.{no_bytes, placed, held_at}
-use Rattle.mcdec.specs.RunAnswer.{begin, elf_limit, is_shown, shown_registers, StandsFor, RunGives}
+use Rattle.mcdec.specs.Memory.{placed, held_at}
+use Rattle.decompiler.specs.Names.{StandsFor}
+use Rattle.mcdec.specs.RunAnswer.{begin, elf_limit, is_shown, shown_registers, RunGives}
 use Rattle.mcdec.specs.inner.Running.{MachineGives, shown_with}
 
 -- ---- values

@@ -1,22 +1,26 @@
 -- The words of a command, from the first to the last.
-use Rattle.std.proofs.Common.{true, true≢false, ◌<◌, ◌^◌, ◌≡◌, ◌≢◌, ℕ, ◌-◌, ◌≤◌, List, [], ◌∷◌, length, take, drop, map, get_or, codes, Option, Some, None, string_bytes, string_len, eqb, false, sym, ap, subst, ◌∙◌, arith}
+use Rattle.std.proofs.Common.{true, true≢false, ◌<◌, ◌^◌, ◌≡◌, ◌≢◌, ℕ, ◌-◌, ◌≤◌, List, [], ◌∷◌, length, take, drop, map, get_or, codes, Option, Some, None, string_bytes, string_len, suc, eqb, false, refl, sym, ap, subst, ◌∙◌, arith}
 use Rattle.std.specs.Fmt.{decimal}
 use Rattle.std.specs.Str.{bytes_eq}
 use Rattle.std.specs.declared.string.String.{String}
 use Rattle.std.specs.declared.alloc.Global.{Global}
-use Rattle.std.proofs.lemmas.Bool.{eqb-false}
+use Rattle.std.proofs.lemmas.Bool.{eqb-false, eqb-true}
 use Rattle.std.proofs.lemmas.List.{take_rest}
 use Rattle.std.proofs.lemmas.Slice.Eq.{bytes_eq-Decides}
 use Rattle.mcdec.specs.declared.command.Eval.{Eval as ReadEval}
 use Rattle.mcdec.specs.declared.command.Run.{Run as ReadRun}
+use Rattle.mcdec.specs.declared.command.Check.{Check as ReadCheck}
+use Rattle.mcdec.specs.declared.command.Decompile.{Decompile as ReadDecompile}
+use Rattle.mcdec.specs.declared.command.SelfTest.{SelfTest as ReadSelfTest}
 use Rattle.mc_text.specs.Number.{hex, number_of}
-use Rattle.mcdec.specs.Command.{Eval, Run, Arg, IsCommand, IsNoCommand, Words, arg_word, operands_of, texts}
+use Rattle.mcdec.specs.Command.{AreNames, Eval, Run, Check, Decompile, SelfTest, Arg, IsCommand, IsNoCommand, Words, arg_word, operands_of, texts}
 use Rattle.proof_text.specs.Limits.{IsName}
-use Rattle.mcdec.specs.inner.CommandReading.{HoldsArgs, NoArgs, AllArgs, Unless, NoEval, IsEval, NoRun, IsRun}
+use Rattle.mcdec.specs.inner.CommandReading.{HoldsArgs, NoArgs, AllArgs, Unless, NoEval, IsEval, NoRun, IsRun, NoCheck, IsCheck, NoDecompile, IsDecompile, NoSelfTest, IsSelfTest}
 use Rattle.mcdec.specs.declared.command.Unread.{Unread}
 use Rattle.rv_words.specs.declared.range.Range.{Range}
 use Rattle.mcdec.proofs.ArgWords.{unless-also}
 use Rattle.mc_text.proofs.Numbers.{number_of-takes, number_of-again}
+use Rattle.mc_text.proofs.OneSpelling.{decimal-once}
 
 abbrev Word : Type 0
 Word = String Global
@@ -49,6 +53,14 @@ four-words (w ∷ v ∷ u ∷ t ∷ ws) a b c d low ha hb hc hd =
 -- a word that is not empty has bytes
 pub filled : (a : Word) → eqb (string_len a) 0 ≡ false → string_bytes a ≢ []
 filled a some none = eqb-false (string_len a) 0 some (a.bytes.ok.0 ∙ ap length none)
+
+-- one that is empty has none
+pub emptied : (a : Word) → eqb (string_len a) 0 ≡ true → string_bytes a ≡ []
+emptied a none = no-bytes (string_bytes a) (sym a.bytes.ok.0 ∙ eqb-true (string_len a) 0 none)
+  where
+    no-bytes : (bs : List ℕ) → length bs ≡ 0 → bs ≡ []
+    no-bytes [] e = refl
+    no-bytes (b ∷ bs) e = absurd (omega (arith, e))
 
 -- ---- the words behind `eval`
 
@@ -120,10 +132,143 @@ module _ (words : List Word) (elf start until steps : Word) (low : 4 ≤ length 
       let same : texts words ≡ operands_of (Run e s u k all.0) = split-run ∙ (λ i. sym ee i ∷ sym es i ∷ address.1 i ∷ d.0 i ∷ all.2 i) in
       (all.0, ((λ n. some (sym ee ∙ n)), subst IsName (sym es) is, address.0, d.1, all.1), same, all.3)
 
+-- ---- the words behind `check`
+
+two-words : (words : List Word) (a b : Word) → length words ≡ 2 → a ≡ get_or words 0 a → b ≡ get_or words 1 b → texts words ≡ string_bytes a ∷ string_bytes b ∷ []
+two-words [] a b two ha hb = absurd (omega (arith, two))
+two-words (w ∷ []) a b two ha hb = absurd (omega (arith, two))
+two-words (w ∷ v ∷ []) a b two ha hb = λ i. string_bytes (sym ha i) ∷ string_bytes (sym hb i) ∷ []
+two-words (w ∷ v ∷ u ∷ ws) a b two ha hb = absurd (omega (arith, two))
+
+as-many : (words : List Word) → length (texts words) ≡ length words
+as-many [] = refl
+as-many (w ∷ ws) = ap suc (as-many ws)
+
+-- words of another number
+pub not-two : (words : List Word) → (length words ≡ 2 → ⊥) → NoCheck (texts words)
+not-two words other e p is same = other (sym (as-many words) ∙ ap length same)
+
+module _ (words : List Word) (elf proof : Word) (two : length words ≡ 2) (first : elf ≡ get_or words 0 elf) (second : proof ≡ get_or words 1 proof) where
+  split-check : texts words ≡ string_bytes elf ∷ string_bytes proof ∷ []
+  split-check = two-words words elf proof two first second
+
+  pub empty-elf : string_bytes elf ≡ [] → NoCheck (texts words)
+  empty-elf none e p is same =
+      let whole = sym split-check ∙ same in
+      let word : string_bytes elf ≡ e = cc in
+      is.0 (sym word ∙ none)
+
+  pub empty-proof : string_bytes proof ≡ [] → NoCheck (texts words)
+  empty-proof none e p is same =
+      let whole = sym split-check ∙ same in
+      let word : string_bytes proof ≡ p = cc in
+      is.1 (sym word ∙ none)
+
+  pub check-read : (e p : List ℕ) → e ≡ string_bytes elf → p ≡ string_bytes proof → string_bytes elf ≢ [] → string_bytes proof ≢ [] → IsCommand (Check e p) × (texts words ≡ operands_of (Check e p))
+  check-read e p ee ep some more = (((λ n. some (sym ee ∙ n)), (λ n. more (sym ep ∙ n))), split-check ∙ (λ i. sym ee i ∷ sym ep i ∷ []))
+
+-- ---- the words behind `decompile`
+
+first-two : (words : List Word) (a b : Word) → 2 ≤ length words → a ≡ get_or words 0 a → b ≡ get_or words 1 b → texts words ≡ string_bytes a ∷ string_bytes b ∷ behind_first 2 words
+first-two [] a b low ha hb = absurd (omega arith)
+first-two (w ∷ []) a b low ha hb = absurd (omega arith)
+first-two (w ∷ v ∷ ws) a b low ha hb = λ i. string_bytes (sym ha i) ∷ string_bytes (sym hb i) ∷ texts (sym (take_rest (w ∷ v ∷ ws) 2) i)
+
+module _ (words : List Word) (elf out : Word) (low : 2 ≤ length words) (first : elf ≡ get_or words 0 elf) (second : out ≡ get_or words 1 out) where
+  split-decompile : texts words ≡ string_bytes elf ∷ string_bytes out ∷ behind_first 2 words
+  split-decompile = first-two words elf out low first second
+
+  pub no-elf : string_bytes elf ≡ [] → NoDecompile (texts words)
+  no-elf none e o ns is same =
+      let whole = sym split-decompile ∙ same in
+      let word : string_bytes elf ≡ e = cc in
+      is.0 (sym word ∙ none)
+
+  pub no-out : string_bytes out ≡ [] → NoDecompile (texts words)
+  no-out none e o ns is same =
+      let whole = sym split-decompile ∙ same in
+      let word : string_bytes out ≡ o = cc in
+      is.1 (sym word ∙ none)
+
+  pub one-file : string_bytes elf ≡ string_bytes out → NoDecompile (texts words)
+  one-file one e o ns is same =
+      let whole = sym split-decompile ∙ same in
+      let word : string_bytes elf ≡ e = cc in
+      let other : string_bytes out ≡ o = cc in
+      is.2 (sym word ∙ one ∙ other)
+
+  pub no-names : behind_first 2 words ≡ [] → NoDecompile (texts words)
+  no-names none e o ns is same =
+      let whole = sym split-decompile ∙ same in
+      let names : behind_first 2 words ≡ ns = cc in
+      is.3 (sym names ∙ none)
+
+  -- whether there are further words
+  pub none-further : eqb (length (take (length words - 2) (drop 2 words))) 0 ≡ true → behind_first 2 words ≡ []
+  none-further e = at (take (length words - 2) (drop 2 words)) (eqb-true _ 0 e)
+    where
+      at : (ws : List Word) → length ws ≡ 0 → texts ws ≡ []
+      at [] e = refl
+      at (w ∷ ws) e = absurd (omega (arith, e))
+
+  pub some-further : eqb (length (take (length words - 2) (drop 2 words))) 0 ≡ false → behind_first 2 words ≡ [] → ⊥
+  some-further e none = at (take (length words - 2) (drop 2 words)) (eqb-false _ 0 e) none
+    where
+      at : (ws : List Word) → (length ws ≡ 0 → ⊥) → texts ws ≡ [] → ⊥
+      at [] some e = some refl
+      at (w ∷ ws) some e = cc
+
+  other-names : (AreNames (behind_first 2 words) → ⊥) → NoDecompile (texts words)
+  other-names none e o ns is same =
+      let whole = sym split-decompile ∙ same in
+      let names : behind_first 2 words ≡ ns = cc in
+      none (subst AreNames (sym names) is.4)
+
+  pub bad-names : (why : Unread) → Unless (AreNames (behind_first 2 words) → ⊥) why → Unless (NoDecompile (texts words)) why
+  bad-names why none = unless-also other-names why none
+
+  pub decompile-read : (e o : List ℕ) (ns : List (List ℕ)) → e ≡ string_bytes elf → o ≡ string_bytes out → ns ≡ behind_first 2 words → string_bytes elf ≢ [] → string_bytes out ≢ [] → (string_bytes elf ≡ string_bytes out → ⊥)
+      → (behind_first 2 words ≡ [] → ⊥) → AreNames ns → IsCommand (Decompile e o ns) × (texts words ≡ operands_of (Decompile e o ns))
+  decompile-read e o ns ee eo en some more apart any are = (
+    ((λ n. some (sym ee ∙ n)), (λ n. more (sym eo ∙ n)), (λ same. apart (sym ee ∙ same ∙ eo)), (λ n. any (sym en ∙ n)), are),
+    split-decompile ∙ (λ i. sym ee i ∷ sym eo i ∷ sym en i),
+  )
+
+-- ---- the words behind `selftest`
+
+pub not-two-numbers : (words : List Word) → (length words ≡ 2 → ⊥) → NoSelfTest (texts words)
+not-two-numbers words other n k is same = other (sym (as-many words) ∙ ap length same)
+
+module _ (words : List Word) (number size : Word) (two : length words ≡ 2) (first : number ≡ get_or words 0 number) (second : size ≡ get_or words 1 size) where
+  split-test : texts words ≡ string_bytes number ∷ string_bytes size ∷ []
+  split-test = two-words words number size two first second
+
+  pub no-number : ((n : ℕ) → n < 2 ^ 64 → string_bytes number ≢ decimal n) → NoSelfTest (texts words)
+  no-number none n k is same =
+      let whole = sym split-test ∙ same in
+      let word : string_bytes number ≡ decimal n = cc in
+      none n is.0 word
+
+  pub no-size : ((k : ℕ) → 1 ≤ k → k ≤ 600 → string_bytes size ≢ decimal k) → NoSelfTest (texts words)
+  no-size none n k is same =
+      let whole = sym split-test ∙ same in
+      let word : string_bytes size ≡ decimal k = cc in
+      none k is.1 is.2 word
+
+  pub test-read : (n k : ℕ) → (n < 2 ^ 64) × (string_bytes number ≡ decimal n) → (1 ≤ k) × (k ≤ 600) × (string_bytes size ≡ decimal k)
+      → IsCommand (SelfTest n k) × (texts words ≡ operands_of (SelfTest n k))
+  test-read n k x y = ((x.0, y.0, y.1), split-test ∙ (λ i. x.1 i ∷ y.2 i ∷ []))
+
+-- a number that is no size
+pub other-size : (word : List ℕ) (n : ℕ) → (n < 2 ^ 64) × (word ≡ decimal n) → (1 ≤ n → n ≤ 600 → ⊥) → (k : ℕ) → 1 ≤ k → k ≤ 600 → word ≢ decimal k
+other-size word n spelled none k low high e =
+    let same : n ≡ k = decimal-once n k spelled.0 (omega (arith, high)) (sym spelled.1 ∙ e) in
+    none (omega (arith, same, low)) (omega (arith, same, high))
+
 -- ---- all of the words
 
-pub other-name : codes "eval" ≡ codes "run" → ⊥
-other-name e = true≢false (ap (bytes_eq (codes "eval")) e)
+pub other-name : (a b : List ℕ) → bytes_eq a b ≡ false → a ≡ b → ⊥
+other-name a b other e = true≢false (sym ((bytes_eq-Decides a b).1 e) ∙ other)
 
 module _ (words : List Word) (first : Word) (low : 1 ≤ length words) (here : first ≡ get_or words 0 first) (text : List ℕ) (value : text ≡ string_bytes first) where
   named : (name : List ℕ) → bytes_eq text name ≡ true → texts words ≡ name ∷ behind_first 1 words
@@ -137,7 +282,19 @@ module _ (words : List Word) (first : Word) (low : 1 ≤ length words) (here : f
   not-eval is none (Run e s u k args) c =
       let whole = sym (named (codes "eval") is) ∙ c.1 in
       let same : codes "eval" ≡ codes "run" = cc in
-      absurd (other-name same)
+      absurd (other-name (codes "eval") (codes "run") refl same)
+  not-eval is none (Decompile e o ns) c =
+      let whole = sym (named (codes "eval") is) ∙ c.1 in
+      let same : codes "eval" ≡ codes "decompile" = cc in
+      absurd (other-name (codes "eval") (codes "decompile") refl same)
+  not-eval is none (SelfTest n k) c =
+      let whole = sym (named (codes "eval") is) ∙ c.1 in
+      let same : codes "eval" ≡ codes "selftest" = cc in
+      absurd (other-name (codes "eval") (codes "selftest") refl same)
+  not-eval is none (Check e p) c =
+      let whole = sym (named (codes "eval") is) ∙ c.1 in
+      let same : codes "eval" ≡ codes "check" = cc in
+      absurd (other-name (codes "eval") (codes "check") refl same)
 
   pub no-eval : bytes_eq text (codes "eval") ≡ true → (e : Unread) → Unless (NoEval (behind_first 1 words)) e → Unless (IsNoCommand (texts words)) e
   no-eval is e none = unless-also (not-eval is) e none
@@ -153,8 +310,20 @@ module _ (words : List Word) (first : Word) (low : 1 ≤ length words) (here : f
       none e s u k args c.0 same
   no-command is none (Eval p n t args) c =
       let whole = sym (named (codes "run") is) ∙ c.1 in
-      let same : codes "eval" ≡ codes "run" = cc in
-      absurd (other-name same)
+      let same : codes "run" ≡ codes "eval" = cc in
+      absurd (other-name (codes "run") (codes "eval") refl same)
+  no-command is none (Decompile e o ns) c =
+      let whole = sym (named (codes "run") is) ∙ c.1 in
+      let same : codes "run" ≡ codes "decompile" = cc in
+      absurd (other-name (codes "run") (codes "decompile") refl same)
+  no-command is none (SelfTest n k) c =
+      let whole = sym (named (codes "run") is) ∙ c.1 in
+      let same : codes "run" ≡ codes "selftest" = cc in
+      absurd (other-name (codes "run") (codes "selftest") refl same)
+  no-command is none (Check e p) c =
+      let whole = sym (named (codes "run") is) ∙ c.1 in
+      let same : codes "run" ≡ codes "check" = cc in
+      absurd (other-name (codes "run") (codes "check") refl same)
 
   pub no-run : bytes_eq text (codes "run") ≡ true → (e : Unread) → Unless (NoRun (behind_first 1 words)) e → Unless (IsNoCommand (texts words)) e
   no-run is e none = unless-also (no-command is) e none
@@ -162,3 +331,87 @@ module _ (words : List Word) (first : Word) (low : 1 ≤ length words) (here : f
   pub run-is : bytes_eq text (codes "run") ≡ true → (r : ReadRun) → IsRun (behind_first 1 words) r
       → (args : List Arg) × Words (texts words) (Run r.elf.now r.start.now r.until r.steps args) × HoldsArgs args r.given.values r.memory
   run-is is r all = (all.0, (all.1, named (codes "run") is ∙ ap (λ (ws : List (List ℕ)). codes "run" ∷ ws) all.2), all.3)
+
+  not-check : bytes_eq text (codes "check") ≡ true → NoCheck (behind_first 1 words) → IsNoCommand (texts words)
+  not-check is none (Check e p) c =
+      let whole = sym (named (codes "check") is) ∙ c.1 in
+      let same : behind_first 1 words ≡ operands_of (Check e p) = cc in
+      none e p c.0 same
+  not-check is none (Decompile e o ns) c =
+      let whole = sym (named (codes "check") is) ∙ c.1 in
+      let same : codes "check" ≡ codes "decompile" = cc in
+      absurd (other-name (codes "check") (codes "decompile") refl same)
+  not-check is none (Eval p n t args) c =
+      let whole = sym (named (codes "check") is) ∙ c.1 in
+      let same : codes "check" ≡ codes "eval" = cc in
+      absurd (other-name (codes "check") (codes "eval") refl same)
+  not-check is none (SelfTest n k) c =
+      let whole = sym (named (codes "check") is) ∙ c.1 in
+      let same : codes "check" ≡ codes "selftest" = cc in
+      absurd (other-name (codes "check") (codes "selftest") refl same)
+  not-check is none (Run e s u k args) c =
+      let whole = sym (named (codes "check") is) ∙ c.1 in
+      let same : codes "check" ≡ codes "run" = cc in
+      absurd (other-name (codes "check") (codes "run") refl same)
+
+  pub no-check : bytes_eq text (codes "check") ≡ true → (e : Unread) → Unless (NoCheck (behind_first 1 words)) e → Unless (IsNoCommand (texts words)) e
+  no-check is e none = unless-also (not-check is) e none
+
+  pub check-is : bytes_eq text (codes "check") ≡ true → (c : ReadCheck) → IsCheck (behind_first 1 words) c → Words (texts words) (Check c.elf.now c.proof.now)
+  check-is is c all = (all.0, named (codes "check") is ∙ ap (λ (ws : List (List ℕ)). codes "check" ∷ ws) all.1)
+
+  not-decompile : bytes_eq text (codes "decompile") ≡ true → NoDecompile (behind_first 1 words) → IsNoCommand (texts words)
+  not-decompile is none (Decompile e o ns) c =
+      let whole = sym (named (codes "decompile") is) ∙ c.1 in
+      let same : behind_first 1 words ≡ operands_of (Decompile e o ns) = cc in
+      none e o ns c.0 same
+  not-decompile is none (Eval p n t args) c =
+      let whole = sym (named (codes "decompile") is) ∙ c.1 in
+      let same : codes "decompile" ≡ codes "eval" = cc in
+      absurd (other-name (codes "decompile") (codes "eval") refl same)
+  not-decompile is none (Run e s u k args) c =
+      let whole = sym (named (codes "decompile") is) ∙ c.1 in
+      let same : codes "decompile" ≡ codes "run" = cc in
+      absurd (other-name (codes "decompile") (codes "run") refl same)
+  not-decompile is none (SelfTest n k) c =
+      let whole = sym (named (codes "decompile") is) ∙ c.1 in
+      let same : codes "decompile" ≡ codes "selftest" = cc in
+      absurd (other-name (codes "decompile") (codes "selftest") refl same)
+  not-decompile is none (Check e p) c =
+      let whole = sym (named (codes "decompile") is) ∙ c.1 in
+      let same : codes "decompile" ≡ codes "check" = cc in
+      absurd (other-name (codes "decompile") (codes "check") refl same)
+
+  pub no-decompile : bytes_eq text (codes "decompile") ≡ true → (e : Unread) → Unless (NoDecompile (behind_first 1 words)) e → Unless (IsNoCommand (texts words)) e
+  no-decompile is e none = unless-also (not-decompile is) e none
+
+  pub decompile-is : bytes_eq text (codes "decompile") ≡ true → (d : ReadDecompile) → IsDecompile (behind_first 1 words) d → Words (texts words) (Decompile d.elf.now d.out.now d.names)
+  decompile-is is d all = (all.0, named (codes "decompile") is ∙ ap (λ (ws : List (List ℕ)). codes "decompile" ∷ ws) all.1)
+
+  not-test : bytes_eq text (codes "selftest") ≡ true → NoSelfTest (behind_first 1 words) → IsNoCommand (texts words)
+  not-test is none (SelfTest n k) c =
+      let whole = sym (named (codes "selftest") is) ∙ c.1 in
+      let same : behind_first 1 words ≡ operands_of (SelfTest n k) = cc in
+      none n k c.0 same
+  not-test is none (Eval p n t args) c =
+      let whole = sym (named (codes "selftest") is) ∙ c.1 in
+      let same : codes "selftest" ≡ codes "eval" = cc in
+      absurd (other-name (codes "selftest") (codes "eval") refl same)
+  not-test is none (Run e s u k args) c =
+      let whole = sym (named (codes "selftest") is) ∙ c.1 in
+      let same : codes "selftest" ≡ codes "run" = cc in
+      absurd (other-name (codes "selftest") (codes "run") refl same)
+  not-test is none (Check e p) c =
+      let whole = sym (named (codes "selftest") is) ∙ c.1 in
+      let same : codes "selftest" ≡ codes "check" = cc in
+      absurd (other-name (codes "selftest") (codes "check") refl same)
+  not-test is none (Decompile e o ns) c =
+      let whole = sym (named (codes "selftest") is) ∙ c.1 in
+      let same : codes "selftest" ≡ codes "decompile" = cc in
+      absurd (other-name (codes "selftest") (codes "decompile") refl same)
+
+  pub no-test : bytes_eq text (codes "selftest") ≡ true → (e : Unread) → Unless (NoSelfTest (behind_first 1 words)) e → Unless (IsNoCommand (texts words)) e
+  no-test is e none = unless-also (not-test is) e none
+
+  pub test-is : bytes_eq text (codes "selftest") ≡ true → (t : ReadSelfTest) → IsSelfTest (behind_first 1 words) t → Words (texts words) (SelfTest t.number t.size)
+  test-is is t all = (all.0, named (codes "selftest") is ∙ ap (λ (ws : List (List ℕ)). codes "selftest" ∷ ws) all.1)

@@ -2,8 +2,11 @@
 --
 --   eval PROOF NAME TURNS ARG*        ARG is xN=V, each N at most once,
 --   run ELF START UNTIL STEPS ARG*    or mem=A:H, with two hexadecimal digits for each byte, any number of them
+--   check ELF PROOF
+--   decompile ELF OUT NAME+
+--   selftest NUMBER SIZE
 use Rattle.std.specs.Prelude.{◌≡◌, ◌≢◌, ℕ, ◌<◌, ◌≤◌, ◌^◌, ◌+◌, ◌==◌, if◌then◌else◌, List, [], ◌∷◌, ◌++◌, length, map, codes, Option, Some, None, unwrap_or, string_bytes}
-use Rattle.std.specs.List.{AllByRecursion}
+use Rattle.std.specs.List.{All, AllByRecursion, AllPairs}
 use Rattle.std.specs.Fmt.{decimal}
 use Rattle.hex.specs.Hex.{encode_lower}
 use Rattle.std.specs.declared.string.String.{String}
@@ -25,6 +28,9 @@ pub data Arg : Type 0 where
 pub data Command : Type 0 where
   Eval : (proof name : List ℕ) (turns : ℕ) (args : List Arg) → Command
   Run : (elf start : List ℕ) (until steps : ℕ) (args : List Arg) → Command
+  Check : (elf proof : List ℕ) → Command
+  Decompile : (elf out : List ℕ) (names : List (List ℕ)) → Command
+  SelfTest : (number size : ℕ) → Command
 
 -- xN=V
 abbrev pub given_word : Given → List ℕ
@@ -42,11 +48,17 @@ arg_word (Memory r) = memory_word r
 abbrev pub name_of : Command → List ℕ
 name_of (Eval proof name turns args) = codes "eval"
 name_of (Run elf start until steps args) = codes "run"
+name_of (Check elf proof) = codes "check"
+name_of (Decompile elf out names) = codes "decompile"
+name_of (SelfTest number size) = codes "selftest"
 
 -- the words behind it
 abbrev pub operands_of : Command → List (List ℕ)
 operands_of (Eval proof name turns args) = proof ∷ name ∷ decimal turns ∷ map arg_word args
 operands_of (Run elf start until steps args) = elf ∷ start ∷ hex until ∷ decimal steps ∷ map arg_word args
+operands_of (Check elf proof) = elf ∷ proof ∷ []
+operands_of (Decompile elf out names) = elf ∷ out ∷ names
+operands_of (SelfTest number size) = decimal number ∷ decimal size ∷ []
 
 -- the words of a command
 abbrev pub words_of : Command → List (List ℕ)
@@ -84,10 +96,17 @@ ranges (Memory r ∷ args) = r ∷ ranges args
 abbrev pub AreArgs : List Arg → Type 0
 AreArgs args = AreGiven (givens args) × AllByRecursion IsMemory (ranges args)
 
+-- names, none of which stands twice
+abbrev pub AreNames : List (List ℕ) → Type 0
+AreNames names = All IsName names × AllPairs (λ a b. a ≢ b) names
+
 -- what its words may be
 abbrev pub IsCommand : Command → Type 0
 IsCommand (Eval proof name turns args) = (proof ≢ []) × IsName name × (turns < 2 ^ 64) × AreArgs args
 IsCommand (Run elf start until steps args) = (elf ≢ []) × IsName start × (until < 2 ^ 64) × (steps < 2 ^ 64) × AreArgs args
+IsCommand (Check elf proof) = (elf ≢ []) × (proof ≢ [])
+IsCommand (Decompile elf out names) = (elf ≢ []) × (out ≢ []) × (elf ≢ out) × (names ≢ []) × AreNames names
+IsCommand (SelfTest number size) = (number < 2 ^ 64) × (1 ≤ size) × (size ≤ 600)
 
 -- the texts of the words
 abbrev pub texts : List (String Global) → List (List ℕ)
@@ -108,8 +127,14 @@ value_of gs n = unwrap_or (given_to gs n) 0
 abbrev pub inputs_of : Command → List (List ℕ)
 inputs_of (Eval proof name turns args) = proof ∷ []
 inputs_of (Run elf start until steps args) = elf ∷ []
+inputs_of (Check elf proof) = elf ∷ proof ∷ []
+inputs_of (Decompile elf out names) = elf ∷ []
+inputs_of (SelfTest number size) = []
 
 -- the file that a command writes
 abbrev pub output_of : Command → Option (List ℕ)
 output_of (Eval proof name turns args) = None
 output_of (Run elf start until steps args) = None
+output_of (Check elf proof) = None
+output_of (Decompile elf out names) = Some out
+output_of (SelfTest number size) = None

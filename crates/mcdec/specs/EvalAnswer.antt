@@ -7,9 +7,9 @@ use Rattle.rv_words.specs.declared.range.Range.{Range}
 use Rattle.tailrec_lang.specs.Tree.{GroupTree, listed_def}
 use Rattle.tailrec_lang.specs.WellFormed.{IsWellFormed, IsFirstIllFormed}
 use Rattle.tailrec_lang.specs.Eval.{Arguments, Done, SideFalse, Turns, eval}
-use Rattle.proof_text.specs.Spelling.{text_of}
-use Rattle.proof_text.specs.Limits.{AreGroups, proof_texts}
-use Rattle.proof_text.specs.FirstGroups.{AreRead}
+use Rattle.proof_text.specs.Line.{ProofTree}
+use Rattle.proof_text.specs.Proofs.{AreProofs, bare, groups_of, text_of_proofs, texts_of_proofs}
+use Rattle.proof_text.specs.FirstProofs.{AreRead}
 use Rattle.mcdec.specs.declared.answer.EvalAnswer.{EvalAnswer}
 use Rattle.mcdec.specs.declared.answer.EvalAnswer.TheVariants as answer
 use Rattle.mcdec.specs.declared.answer.Shown.{Shown}
@@ -50,27 +50,27 @@ pub record FirstNamed (name : List ℕ) (gs : List GroupTree) (g : GroupTree) : 
 abbrev pub AreWellFormed : List GroupTree → Type 0
 AreWellFormed gs = AllByRecursion IsWellFormed gs
 
--- the text is that of these groups, and all are well-formed
-abbrev pub IsTextOf : List ℕ → List GroupTree → Type 0
-IsTextOf text gs = AreGroups gs × (text ≡ text_of gs) × AreWellFormed gs
+-- the text is that of these groups with the lines of their proofs, and all groups are well-formed
+abbrev pub IsTextOf : List ℕ → List ProofTree → Type 0
+IsTextOf text ps = AreProofs ps × (text ≡ text_of_proofs ps) × AreWellFormed (groups_of ps)
 
--- the text is that of groups, all well-formed, and the first of this name is that one
+-- the text is that of groups with the lines of their proofs, all groups are well-formed, and the first of this name is that one
 pub record IsNamed (text name : List ℕ) (g : GroupTree) : Type 0 where
-  pub groups : List GroupTree
-  pub spelled : IsTextOf text groups
-  pub first : FirstNamed name groups g
+  pub proofs : List ProofTree
+  pub spelled : IsTextOf text proofs
+  pub first : FirstNamed name (groups_of proofs) g
 
--- What `eval` of a name comes to, where the proof file has these bytes. The groups are judged as they are read: a definition
--- that isn't well-formed is told before a bad line behind its group, and after one in it.
+-- What `eval` of a name comes to, where the proof file has these bytes. Lines of proofs are read, and not judged. A group is judged
+-- when its definitions are read: one that isn't well-formed is told before a bad line behind them, and after one among them.
 abbrev pub EvalGives : (file name : List ℕ) (turns : ℕ) (args : List Arg) → EvalAnswer → Type 0
 EvalGives file name turns args answer.OverLimit = proof_limit < length file
 EvalGives file name turns args (answer.Unreadable line) =
-    (length file ≤ proof_limit) × IsBadAt proof_texts file line × ((gs : List GroupTree) → AreRead file gs → AreWellFormed gs)
+    (length file ≤ proof_limit) × IsBadAt texts_of_proofs file line × ((ps : List ProofTree) → AreRead file ps → AreWellFormed (groups_of ps))
 EvalGives file name turns args (answer.IllFormed group def) =
-    (length file ≤ proof_limit) × (gs : List GroupTree) × (g : GroupTree) × AreRead file (gs ++ g ∷ []) × AreWellFormed gs
-    × (group ≡ length gs) × IsFirstIllFormed g def
+    (length file ≤ proof_limit) × (ps : List ProofTree) × (g : GroupTree) × AreRead file (ps ++ bare g ∷ []) × AreWellFormed (groups_of ps)
+    × (group ≡ length ps) × IsFirstIllFormed g def
 EvalGives file name turns args answer.NoFunction =
-    (length file ≤ proof_limit) × (gs : List GroupTree) × IsTextOf file gs × NoneNamed name gs
+    (length file ≤ proof_limit) × (ps : List ProofTree) × IsTextOf file ps × NoneNamed name (groups_of ps)
 EvalGives file name turns args (answer.SideFalse def ordinal) =
     (length file ≤ proof_limit) × (g : GroupTree) × IsNamed file name g × (eval g (listed_def g) (arguments_of args g) turns ≡ SideFalse def ordinal)
 EvalGives file name turns args answer.TurnsUsed =

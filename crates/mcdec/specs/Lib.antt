@@ -2,6 +2,10 @@ pub mod Command
 pub mod Memory
 pub mod EvalAnswer
 pub mod RunAnswer
+pub mod Held
+pub mod CheckAnswer
+pub mod DecompileAnswer
+pub mod SelfTestAnswer
 pub mod Answer
 pub mod Printed
 pub mod inner

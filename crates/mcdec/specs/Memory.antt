@@ -1,5 +1,5 @@
 -- The words' ranges of bytes, put into a memory and looked at there.
-use Rattle.std.specs.Prelude.{ℕ, ◌+◌, List, [], ◌∷◌, length, map, None, unwrap_or}
+use Rattle.std.specs.Prelude.{◌+◌, List, [], ◌∷◌, length, map, None, unwrap_or}
 use Rattle.std.specs.List.{range_with_len}
 use Rattle.rv_words.specs.Bytes.{Bytes, bytes_from, over}
 use Rattle.rv_words.specs.declared.range.Range.{Range}

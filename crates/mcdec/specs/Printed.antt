@@ -1,5 +1,5 @@
 -- How an answer is printed: its status, and its lines.
-use Rattle.std.specs.Prelude.{◌≡◌, ℕ, List, [], ◌∷◌, ◌++◌, take, codes, Option, ◌⊎◌}
+use Rattle.std.specs.Prelude.{◌≡◌, ℕ, List, [], ◌∷◌, ◌++◌, take, codes, min, max, Option, ◌⊎◌}
 use Rattle.std.specs.Fmt.{decimal}
 use Rattle.hex.specs.Hex.{encode_lower}
 use Rattle.rv_words.specs.declared.range.Range.{Range}
@@ -16,6 +16,15 @@ use Rattle.mcdec.specs.declared.answer.EvalAnswer.{EvalAnswer}
 use Rattle.mcdec.specs.declared.answer.EvalAnswer.TheVariants as eval
 use Rattle.mcdec.specs.declared.answer.RunAnswer.{RunAnswer}
 use Rattle.mcdec.specs.declared.answer.RunAnswer.TheVariants as run
+use Rattle.mcdec.specs.declared.answer.CheckAnswer.{CheckAnswer}
+use Rattle.mcdec.specs.declared.answer.CheckAnswer.TheVariants as check
+use Rattle.flow_graph.specs.declared.outside.Outside.{Outside}
+use Rattle.flow_graph.specs.declared.outside.Outside.TheVariants as outside
+use Rattle.loop_forest.specs.Cycles.{last_of}
+use Rattle.mcdec.specs.declared.answer.DecompileAnswer.{DecompileAnswer}
+use Rattle.mcdec.specs.declared.answer.DecompileAnswer.TheVariants as decompile
+use Rattle.mcdec.specs.declared.answer.Listed.{Listed}
+use Rattle.mcdec.specs.declared.answer.SelfTestAnswer.{SelfTestAnswer}
 use Rattle.mcdec.specs.declared.answer.Shown.{Shown}
 use Rattle.mc_text.specs.Number.{hex}
 
@@ -76,6 +85,31 @@ abbrev pub name_words : NameFault → List ℕ
 name_words name.NoSuch = codes "no-such"
 name_words (name.Ambiguous low high) = codes "ambiguous " ++ hex low ++ codes " " ++ hex high
 
+-- Why a name is outside the fragment. Two entries are told by the nodes at which two walks meet the cycle, the lesser first.
+abbrev pub outside_words : Outside → List ℕ
+outside_words outside.NoSuch = codes "no-such"
+outside_words (outside.Ambiguous low high) = codes "ambiguous " ++ hex low ++ codes " " ++ hex high
+outside_words outside.TooLarge = codes "too-large"
+outside_words (outside.OutsideCode a) = codes "outside-code " ++ hex a
+outside_words (outside.NotDecoded a w) = codes "not-decoded " ++ hex a ++ codes " " ++ hex w
+outside_words (outside.Environment a) = codes "environment " ++ hex a
+outside_words (outside.Call a) = codes "call " ++ hex a
+outside_words (outside.JumpThrough a) = codes "jump-through " ++ hex a
+outside_words (outside.Misaligned a target) = codes "misaligned " ++ hex a ++ codes " " ++ hex target
+outside_words (outside.TwoEntries cycle first second) =
+    codes "two-entries " ++ hex (min (last_of first) (last_of second)) ++ codes " " ++ hex (max (last_of first) (last_of second))
+outside_words (outside.ManyExits a) = codes "many-exits " ++ hex a
+
+-- decompiled NAME A I D
+abbrev pub listed_line : Listed → List ℕ
+listed_line l = codes "decompiled " ++ l.name ++ codes " " ++ hex l.entry ++ codes " " ++ decimal l.reached ++ codes " " ++ decimal l.defs ++ codes "\n"
+
+-- selftest NUMBER SIZE instructions I defs D steps K turns T x10 V
+abbrev pub self_test_line : SelfTestAnswer → List ℕ
+self_test_line a =
+    codes "selftest " ++ decimal a.number ++ codes " " ++ decimal a.size ++ codes " instructions " ++ decimal a.outcome.instructions ++ codes " defs " ++ decimal a.outcome.defs
+    ++ codes " steps " ++ decimal a.outcome.steps ++ codes " turns " ++ decimal a.outcome.turns ++ codes " x10 " ++ hex a.outcome.value ++ codes "\n"
+
 -- the status and the lines of what `eval` comes to
 abbrev pub eval_printed : EvalAnswer → ℕ × List ℕ
 eval_printed eval.OverLimit = (7, codes "over limit proof\n")
@@ -95,13 +129,35 @@ run_printed (run.Stuck steps why) = (1, codes "refused stuck " ++ decimal steps 
 run_printed run.StepsUsed = (7, codes "steps used\n")
 run_printed (run.Met shown) = (0, shown_lines (codes "met ") shown)
 
+-- the status and the lines of what `check` comes to
+abbrev pub check_printed : CheckAnswer → ℕ × List ℕ
+check_printed check.ElfOverLimit = (7, codes "over limit elf\n")
+check_printed (check.UnreadableElf why) = (3, codes "unreadable elf " ++ fault_words why ++ codes "\n")
+check_printed check.ProofOverLimit = (7, codes "over limit proof\n")
+check_printed (check.UnreadableText line) = (3, codes "unreadable text " ++ decimal line ++ codes "\n")
+check_printed (check.IllFormed group def) = (1, codes "refused def " ++ decimal group ++ codes " " ++ decimal def ++ codes "\n")
+check_printed (check.WrongLine line) = (1, codes "refused line " ++ decimal line ++ codes "\n")
+check_printed (check.NotProved group) = (1, codes "refused group " ++ decimal group ++ codes "\n")
+check_printed (check.Accepted functions lines) = (0, codes "accepted " ++ decimal functions ++ codes " " ++ decimal lines ++ codes "\n")
+
+-- the status and the lines of what `decompile` comes to
+abbrev pub decompile_printed : DecompileAnswer → ℕ × List ℕ
+decompile_printed decompile.OverLimit = (7, codes "over limit elf\n")
+decompile_printed (decompile.Unreadable why) = (3, codes "unreadable elf " ++ fault_words why ++ codes "\n")
+decompile_printed (decompile.Refused name why) = (1, codes "refused " ++ name ++ codes " " ++ outside_words why ++ codes "\n")
+decompile_printed (decompile.Decompiled listed) = (0, each listed_line listed)
+
 -- the status and the lines of each answer
 abbrev pub printed : Answer → ℕ × List ℕ
 printed answer.NotACommand = (2, codes "not a command\n")
 printed answer.ReadFault = (4, codes "read fault\n")
+printed answer.WriteFault = (5, codes "write fault\n")
 printed answer.NoMemory = (6, codes "no memory\n")
 printed (answer.Eval a) = eval_printed a
 printed (answer.Run a) = run_printed a
+printed (answer.Check a) = check_printed a
+printed (answer.Decompile a) = decompile_printed a
+printed (answer.SelfTest a) = (0, self_test_line a)
 
 abbrev pub status : Answer → ℕ
 status a = (printed a).0

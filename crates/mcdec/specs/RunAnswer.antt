@@ -1,10 +1,9 @@
 -- When each answer to `run` comes.
-use Rattle.std.specs.Prelude.{◌≡◌, ℕ, ◌+◌, ◌<◌, ◌≤◌, ◌^◌, ◌==◌, Bool, not, ◌||◌, List, [], ◌∷◌, length, map, filter, is_some, unwrap_or, Some, Result, Ok, Err, ◌⊎◌}
+use Rattle.std.specs.Prelude.{◌≡◌, ℕ, ◌<◌, ◌≤◌, ◌==◌, Bool, not, ◌||◌, List, length, map, filter, is_some, Some, Ok, Err}
 use Rattle.std.specs.List.{range_with_len}
 use Rattle.elf_image.specs.Fault.{IsReadable, fault_of}
 use Rattle.elf_image.specs.Image.{image_of, bytes_in}
-use Rattle.elf_image.specs.Symbol.{value_of_name}
-use Rattle.elf_image.specs.declared.symbol.NameFault.{NameFault}
+use Rattle.decompiler.specs.Names.{StandsFor}
 use Rattle.rv_machine.specs.State.{State}
 use Rattle.rv_machine.specs.Run.{EndsIn}
 use Rattle.rv_machine.specs.declared.running.RunEnd.{RunEnd}
@@ -12,7 +11,6 @@ use Rattle.rv_machine.specs.declared.running.RunEnd.TheVariants as end
 use Rattle.mcdec.specs.declared.answer.RunAnswer.{RunAnswer}
 use Rattle.mcdec.specs.declared.answer.RunAnswer.TheVariants as answer
 use Rattle.mcdec.specs.declared.answer.Shown.{Shown}
-use Rattle.mc_text.specs.Number.{hex}
 use Rattle.mcdec.specs.Command.{Arg, Given, given_to, value_of, givens, ranges}
 use Rattle.mcdec.specs.Memory.{placed, held_at}
 
@@ -42,15 +40,6 @@ shown_after args k t = record {
   words = map t.reg (shown_registers (givens args) t);
   memory = map (held_at t.mem) (ranges args);
 }
-
--- START is the spelling of that address
-abbrev pub Spells : List ℕ → ℕ → Type 0
-Spells start a = (a < 2 ^ 64) × (start ≡ hex a)
-
--- what START stands for: the address that it spells; where it spells none, the value of that name in the file
-abbrev pub StandsFor : List ℕ → List ℕ → Result ℕ NameFault → Type 0
-StandsFor file start value =
-    ((a : ℕ) × Spells start a × (value ≡ Ok a)) ⊎ (((a : ℕ) → Spells start a → ⊥) × (value ≡ value_of_name start (image_of file).symbols))
 
 -- the file is within the limit and has no fault
 abbrev pub IsLoaded : List ℕ → Type 0

@@ -1,4 +1,8 @@
 pub mod Running
+pub mod Checking
 pub mod Search
 pub mod Printing
 pub mod CommandReading
+pub mod Writing
+pub mod Decompiling
+pub mod SelfTesting

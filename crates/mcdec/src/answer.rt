@@ -1,8 +1,10 @@
 //! What is answered to a list of words.
 
 use elf_image::{ElfFault, NameFault};
+use flow_graph::Outside;
 use rv_machine::Stuck;
 use rv_words::{List, Range, Text};
+use self_test::Outcome;
 
 /// The answer to a list of words.
 #[derive(Debug, Drop)]
@@ -11,12 +13,20 @@ pub enum Answer {
     NotACommand,
     /// A read of the shelf failed.
     ReadFault,
+    /// A write to the shelf failed.
+    WriteFault,
     /// There was no memory.
     NoMemory,
     /// What the command `eval` comes to.
     Eval(EvalAnswer),
     /// What the command `run` comes to.
     Run(RunAnswer),
+    /// What the command `check` comes to.
+    Check(CheckAnswer),
+    /// What the command `decompile` comes to.
+    Decompile(DecompileAnswer),
+    /// What the command `selftest` comes to.
+    SelfTest(SelfTestAnswer),
 }
 
 /// What the command `eval` comes to.
@@ -55,6 +65,58 @@ pub enum RunAnswer {
     /// It met the address: the steps made, the program counter, the words of registers that were given one or don't hold 0, and
     /// the bytes that were asked for.
     Met(Shown),
+}
+
+/// What the command `check` comes to.
+#[derive(Clone, Copy, Debug)]
+pub enum CheckAnswer {
+    /// The ELF file has more bytes than are read.
+    ElfOverLimit,
+    /// It has this fault.
+    UnreadableElf(ElfFault),
+    /// The proof file has more bytes than are read.
+    ProofOverLimit,
+    /// It isn't a proof file, from this line on.
+    UnreadableText(u64),
+    /// In the group of that number, this definition isn't well-formed.
+    IllFormed(u64, u32),
+    /// The line of that number isn't right after those before it.
+    WrongLine(u64),
+    /// The function of the group of that number isn't closed, or its code isn't the file's.
+    NotProved(u64),
+    /// All is right: so many functions, with so many lines of proofs.
+    Accepted(u64, u64),
+}
+
+/// What the command `decompile` comes to.
+#[derive(Debug, Drop)]
+pub enum DecompileAnswer {
+    /// The ELF file has more bytes than are read.
+    OverLimit,
+    /// It has this fault.
+    Unreadable(ElfFault),
+    /// This name is outside the fragment.
+    Refused(Text, Outside),
+    /// The text was written, with a function for each of these names.
+    Decompiled(List<Listed>),
+}
+
+/// What is told of a name: where its function is entered, how many instructions are reached from there, and how many
+/// definitions it has.
+#[derive(Debug, Drop)]
+pub struct Listed {
+    pub name: Text,
+    pub entry: u64,
+    pub reached: u32,
+    pub defs: u64,
+}
+
+/// What the command `selftest` comes to: the number and the size, and what came of the program.
+#[derive(Clone, Copy, Debug)]
+pub struct SelfTestAnswer {
+    pub number: u64,
+    pub size: u32,
+    pub outcome: Outcome,
 }
 
 /// What is shown of the end of an evaluation or a run.

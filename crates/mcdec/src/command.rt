@@ -1,17 +1,17 @@
 //! The words of the command line.
 
-ghost use Rattle.std.specs.Prelude.{◌≡◌, ◌≢◌, ◌↔◌, ◌+◌, ◌<◌, ◌≤◌, ◌^◌, ◌++◌, ◌∷◌, ℕ, List, IsTrue, MatchOption, MatchResult, length, codes};
+ghost use Rattle.std.specs.Prelude.{◌≡◌, ◌≢◌, ◌↔◌, ◌+◌, ◌<◌, ◌≤◌, ◌^◌, ◌++◌, ◌∷◌, ℕ, Contains, List, IsTrue, MatchOption, MatchResult, length, codes};
 ghost use Rattle.std.specs.Fmt.{decimal};
 ghost use Rattle.hex.specs.Hex.{encode_lower};
 ghost use Rattle.mc_text.specs.Number.{hex};
 ghost use Rattle.proof_text.specs.Limits.{IsName};
-ghost use Rattle.mcdec.specs.Command.{Arg, Given, IsGiven, IsMemory, IsNoCommand, arg_word, texts};
-ghost use Rattle.mcdec.specs.inner.CommandReading.{AllArgs, IsArg, IsEval, IsRead, IsRun, Lacks, NoArgs, NoEval, NoRun, Unless, arg_of, given_in, value_in};
+ghost use Rattle.mcdec.specs.Command.{AreNames, Arg, Given, IsGiven, IsMemory, IsNoCommand, arg_word, texts};
+ghost use Rattle.mcdec.specs.inner.CommandReading.{AllArgs, IsArg, IsCheck, IsDecompile, IsEval, IsRead, IsRun, IsSelfTest, Lacks, NoArgs, NoCheck, NoDecompile, NoEval, NoRun, NoSelfTest, Unless, arg_of, given_in, value_in};
 ghost use Rattle.mcdec.specs.declared.command.Unread.TheVariants.{NoMemory};
 ghost use Rattle.rv_words.specs.declared.range.Range.{Range as RangeOf};
 
 use mc_text::{dec, hex_bytes, hexnum, is_atom};
-use rv_words::{List, NoMemory, Range};
+use rv_words::{List, NoMemory, Range, Text};
 use std::alloc::{AllocError, AllocFailed, Global};
 
 /// Why the words are no command.
@@ -36,6 +36,9 @@ impl From<NoMemory> for Unread {
 pub enum Command<'a> {
     Eval(Eval<'a>),
     Run(Run<'a>),
+    Check(Check<'a>),
+    Decompile(Decompile<'a>),
+    SelfTest(SelfTest),
 }
 
 /// `eval PROOF NAME TURNS ARG*`
@@ -57,6 +60,28 @@ pub struct Run<'a> {
     pub steps: u64,
     pub given: Registers,
     pub memory: List<Range>,
+}
+
+/// `check ELF PROOF`
+#[derive(Clone, Copy, Debug)]
+pub struct Check<'a> {
+    pub elf: &'a str,
+    pub proof: &'a str,
+}
+
+/// `decompile ELF OUT NAME+`
+#[derive(Drop)]
+pub struct Decompile<'a> {
+    pub elf: &'a str,
+    pub out: &'a str,
+    pub names: List<Text>,
+}
+
+/// `selftest NUMBER SIZE`
+#[derive(Clone, Copy, Debug)]
+pub struct SelfTest {
+    pub number: u64,
+    pub size: u32,
 }
 
 /// A word behind the others.
@@ -108,6 +133,15 @@ pub fn read_words(alloc: Global, words: &[String]) -> Result<Command<'_>, Unread
     }
     if first.as_str() == "run" {
         return Ok(Command::Run(read_run(alloc, rest)?));
+    }
+    if first.as_str() == "check" {
+        return Ok(Command::Check(read_check(rest)?));
+    }
+    if first.as_str() == "decompile" {
+        return Ok(Command::Decompile(read_decompile(alloc, rest)?));
+    }
+    if first.as_str() == "selftest" {
+        return Ok(Command::SelfTest(read_self_test(rest)?));
     }
     Err(Unread::NotThere)
 }
@@ -163,6 +197,95 @@ fn read_run(alloc: Global, words: &[String]) -> Result<Run<'_>, Unread>
         given,
         memory,
     })
+}
+
+/// The words behind `check`.
+fn read_check(words: &[String]) -> Result<Check<'_>, Unread>
+    ensures { MatchResult result (λ c. IsCheck (texts words.now) c) (λ e. Unless (NoCheck (texts words.now)) e) }
+{
+    let [elf, proof] = words else {
+        return Err(Unread::NotThere);
+    };
+    if elf.is_empty() || proof.is_empty() {
+        return Err(Unread::NotThere);
+    }
+    Ok(Check {
+        elf: elf.as_str(),
+        proof: proof.as_str(),
+    })
+}
+
+/// The words behind `decompile`.
+fn read_decompile(alloc: Global, words: &[String]) -> Result<Decompile<'_>, Unread>
+    ensures { MatchResult result (λ d. IsDecompile (texts words.now) d) (λ e. Unless (NoDecompile (texts words.now)) e) }
+{
+    let [elf, out, names @ ..] = words else {
+        return Err(Unread::NotThere);
+    };
+    if elf.is_empty() || out.is_empty() || elf.as_str() == out.as_str() || names.is_empty() {
+        return Err(Unread::NotThere);
+    }
+    let names = read_names(alloc, names)?;
+    Ok(Decompile {
+        elf: elf.as_str(),
+        out: out.as_str(),
+        names,
+    })
+}
+
+/// The words behind `selftest`.
+fn read_self_test(words: &[String]) -> Result<SelfTest, Unread>
+    ensures { MatchResult result (λ t. IsSelfTest (texts words.now) t) (λ e. Unless (NoSelfTest (texts words.now)) e) }
+{
+    let [number, size] = words else {
+        return Err(Unread::NotThere);
+    };
+    let Some(number) = dec(number.as_bytes()) else {
+        return Err(Unread::NotThere);
+    };
+    let Some(size) = read_size(size.as_bytes()) else {
+        return Err(Unread::NotThere);
+    };
+    Ok(SelfTest { number, size })
+}
+
+/// The size of a program.
+fn read_size(word: &[u8]) -> Option<u32>
+    ensures { MatchOption result ((n : ℕ) → 1 ≤ n → n ≤ 600 → word.now ≢ decimal n) (λ n. (1 ≤ n) × (n ≤ 600) × (word.now ≡ decimal n)) }
+{
+    let size = dec(word)?;
+    if 1 <= size && size <= 600 {
+        Some(size as u32)
+    } else {
+        None
+    }
+}
+
+/// Names, none of which stands twice.
+fn read_names(alloc: Global, words: &[String]) -> Result<List<Text>, Unread>
+    ensures { MatchResult result (λ names. (names ≡ texts words.now) × AreNames names) (λ e. Unless (AreNames (texts words.now) → ⊥) e) }
+{
+    let mut names = List::new(alloc);
+    for word in words {
+        let name = word.as_bytes();
+        if !is_name(name) || has_name(names.as_slice(), name) {
+            return Err(Unread::NotThere);
+        }
+        names.push(Text::from_slice(alloc, name)?)?;
+    }
+    Ok(names)
+}
+
+/// Whether one of the names is this one.
+fn has_name(names: &[Text], name: &[u8]) -> bool
+    ensures { IsTrue result ↔ Contains names.now name.now }
+{
+    for other in names {
+        if other.as_slice() == name {
+            return true;
+        }
+    }
+    false
 }
 
 /// Whether the bytes are a name.

@@ -10,19 +10,19 @@ ghost use Rattle.mcdec.specs.Answer.{Gives, ReadsAreTold};
 ghost use Rattle.mcdec.specs.Command.{Arg, AreArgs, IsMemory};
 ghost use Rattle.mcdec.specs.inner.CommandReading.{HoldsArgs, IsReadEval, value_in};
 ghost use Rattle.mcdec.specs.EvalAnswer.{EvalGives, proof_limit};
-ghost use Rattle.mcdec.specs.inner.Search.{Finds, FoundSo, GroupGives, NextIs};
+ghost use Rattle.mcdec.specs.inner.Search.{Finds, FoundSo, GroupGives, LineIs, LinesArePassed, NextIs};
 
 use crate::answer::{Answer, EvalAnswer, Shown};
 use crate::command::{Eval, Registers};
 use crate::memory::{memories, ranges_in};
 use mc_shelf::{ReadEnd, Shelf, read_file};
-use proof_text::{Reader, TextFault};
+use proof_text::{Line, Reader, TextFault};
 use rv_words::{List, NoMemory};
 use std::alloc::Global;
 use tailrec_lang::{Args, BadDef, Group, Outcome, eval, well_formed};
 
 /// The most bytes of a proof file that are read.
-const PROOF_LIMIT: u64 = 268_435_456;
+pub const PROOF_LIMIT: u64 = 268_435_456;
 
 /// Why a text has no function to evaluate.
 #[derive(Clone, Copy, Debug, PartialEq, Eq)]
@@ -76,7 +76,7 @@ fn evaluate_text(alloc: Global, text: &[u8], e: &Eval<'_>) -> Result<EvalAnswer,
     }
 }
 
-/// The first group of that name. Each group of the text is read and judged.
+/// The first group of that name. Each group of the text is read and judged, and the lines of its proof are read.
 fn find_group(alloc: Global, text: &[u8], name: &[u8]) -> Result<Group, Refusal>
     ensures { Finds text.now name.now result }
 {
@@ -110,17 +110,41 @@ fn first_named(found: Option<Group>, next: Group, name: &[u8]) -> Option<Group>
     }
 }
 
-/// The next group, if it is well-formed. Its number is told of one that isn't.
+/// The next group, if it is well-formed, with the lines of its proof passed over. Its number is told of one that isn't.
 fn next_group(alloc: Global, reader: &mut Reader<'_>, number: u64) -> Result<Option<Group>, Refusal>
     ensures { NextIs number reader.old reader.new result }
 {
     match reader.group(alloc) {
         Ok(None) => Ok(None),
         Ok(Some(g)) => match well_formed(&g) {
-            Ok(()) => Ok(Some(g)),
+            Ok(()) => {
+                pass_lines(alloc, reader, &g)?;
+                Ok(Some(g))
+            }
             Err(BadDef { def }) => Err(Refusal::IllFormed(number, def)),
         },
         Err(TextFault::Bad(line)) => Err(Refusal::Text(line)),
+        Err(TextFault::NoMemory) => Err(Refusal::NoMemory),
+    }
+}
+
+/// Reads the lines of a group's proof, up to where they end.
+fn pass_lines(alloc: Global, reader: &mut Reader<'_>, g: &Group) -> Result<(), Refusal>
+    requires { IsGroup (group_tree g.now) }
+    ensures { LinesArePassed (group_tree g.now) reader.old reader.new result }
+{
+    while let Some(_) = next_line(alloc, reader, g)? {}
+    Ok(())
+}
+
+/// The next line of a group's proof, or none where they end.
+fn next_line(alloc: Global, reader: &mut Reader<'_>, g: &Group) -> Result<Option<Line>, Refusal>
+    requires { IsGroup (group_tree g.now) }
+    ensures { LineIs (group_tree g.now) reader.old reader.new result }
+{
+    match reader.line(alloc, g) {
+        Ok(line) => Ok(line),
+        Err(TextFault::Bad(number)) => Err(Refusal::Text(number)),
         Err(TextFault::NoMemory) => Err(Refusal::NoMemory),
     }
 }

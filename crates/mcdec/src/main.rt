@@ -2,12 +2,16 @@
 #![tactic(auto)]
 
 mod answer;
+mod check;
 mod command;
 mod commands;
+mod decompile;
 mod evaluate;
 mod memory;
+mod output;
 mod print;
 mod run;
+mod selftest;
 #[cfg(test)]
 mod tests;
 

@@ -1,20 +1,24 @@
 //! Printing an answer into a sink, piece by piece. It takes no memory.
 
-ghost use Rattle.std.specs.Prelude.{◌≡◌, ◌≤◌, ℕ, List, map, codes, ◌++◌};
-ghost use Rattle.mcdec.specs.Printed.{count_lines, each, eval_printed, fault_words, lines, memory_line, name_words, register_line, register_lines, run_printed, shown_lines, status, stuck_words, IsDelivered};
+ghost use Rattle.std.specs.Prelude.{◌≡◌, ◌⊎◌, ◌≤◌, ℕ, List, map, max, min, codes, ◌++◌};
+ghost use Rattle.mcdec.specs.Printed.{check_printed, count_lines, decompile_printed, each, eval_printed, fault_words, lines, listed_line, memory_line, name_words, outside_words, register_line, register_lines, run_printed, self_test_line, shown_lines, status, stuck_words, IsDelivered};
 ghost use Rattle.std.specs.Fmt.{decimal};
 ghost use Rattle.hex.specs.Hex.{encode_lower};
+ghost use Rattle.loop_forest.specs.Cycles.{last_of};
 ghost use Rattle.mc_shelf.specs.Fault.{Rose};
 ghost use Rattle.mc_text.specs.Number.{hex};
 ghost use Rattle.mcdec.specs.inner.Printing.{Prints, piece_text, pieces_text};
 
-use crate::answer::{Answer, EvalAnswer, RunAnswer, Shown};
+use crate::answer::{
+    Answer, CheckAnswer, DecompileAnswer, EvalAnswer, Listed, RunAnswer, SelfTestAnswer, Shown,
+};
 use elf_image::{ElfFault, NameFault};
+use flow_graph::Outside;
 use itoa::Buffer;
 use mc_shelf::{Sink, Stop};
 use mc_text::{digit_pair, hex_into};
 use rv_machine::Stuck;
-use rv_words::Range;
+use rv_words::{List as Items, Range};
 
 /// A piece of a line.
 #[derive(Clone, Copy, Debug)]
@@ -75,7 +79,7 @@ fn put_all<O: Sink>(out: &mut O, pieces: &[Piece<'_>]) -> Result<(), Stop>
 pub fn deliver<O: Sink>(out: &mut O, answer: &Answer) -> u8
     ensures delivered { IsDelivered answer.now result (O.written out.old) (O.written out.new) }
     ensures counted { O.faults out.old ≤ O.faults out.new }
-    ensures cause { result ≡ 5 → Rose (O.faults out.old) (O.faults out.new) }
+    ensures cause { result ≡ 5 → Rose (O.faults out.old) (O.faults out.new) ⊎ (status answer.now ≡ 5) }
 {
     match put_answer(out, answer) {
         Ok(()) => status(answer),
@@ -91,9 +95,13 @@ fn status(answer: &Answer) -> u8
     match answer {
         Answer::NotACommand => 2,
         Answer::ReadFault => 4,
+        Answer::WriteFault => 5,
         Answer::NoMemory => 6,
         Answer::Eval(a) => eval_status(a),
         Answer::Run(a) => run_status(a),
+        Answer::Check(a) => check_status(a),
+        Answer::Decompile(a) => decompile_status(a),
+        Answer::SelfTest(_) => 0,
     }
 }
 
@@ -124,15 +132,45 @@ fn run_status(answer: &RunAnswer) -> u8
     }
 }
 
+fn check_status(answer: &CheckAnswer) -> u8
+    ensures { result ≡ (check_printed answer.now).0 }
+{
+    match answer {
+        CheckAnswer::ElfOverLimit => 7,
+        CheckAnswer::UnreadableElf(_) => 3,
+        CheckAnswer::ProofOverLimit => 7,
+        CheckAnswer::UnreadableText(_) => 3,
+        CheckAnswer::IllFormed(..) => 1,
+        CheckAnswer::WrongLine(_) => 1,
+        CheckAnswer::NotProved(_) => 1,
+        CheckAnswer::Accepted(..) => 0,
+    }
+}
+
+fn decompile_status(answer: &DecompileAnswer) -> u8
+    ensures { result ≡ (decompile_printed answer.now).0 }
+{
+    match answer {
+        DecompileAnswer::OverLimit => 7,
+        DecompileAnswer::Unreadable(_) => 3,
+        DecompileAnswer::Refused(..) => 1,
+        DecompileAnswer::Decompiled(_) => 0,
+    }
+}
+
 fn put_answer<O: Sink>(out: &mut O, answer: &Answer) -> Result<(), Stop>
     ensures { Prints result (lines answer.now) (O.written out.old) (O.written out.new) (O.faults out.old) (O.faults out.new) }
 {
     match answer {
         Answer::NotACommand => put_text(out, b"not a command\n"),
         Answer::ReadFault => put_text(out, b"read fault\n"),
+        Answer::WriteFault => put_text(out, b"write fault\n"),
         Answer::NoMemory => put_text(out, b"no memory\n"),
         Answer::Eval(a) => put_eval(out, a),
         Answer::Run(a) => put_run(out, a),
+        Answer::Check(a) => put_check(out, a),
+        Answer::Decompile(a) => put_decompile(out, a),
+        Answer::SelfTest(a) => put_self_test(out, a),
     }
 }
 
@@ -161,6 +199,208 @@ fn put_run<O: Sink>(out: &mut O, answer: &RunAnswer) -> Result<(), Stop>
         RunAnswer::StepsUsed => put_text(out, b"steps used\n"),
         RunAnswer::Met(shown) => put_shown(out, b"met ", shown),
     }
+}
+
+fn put_check<O: Sink>(out: &mut O, answer: &CheckAnswer) -> Result<(), Stop>
+    ensures { Prints result (check_printed answer.now).1 (O.written out.old) (O.written out.new) (O.faults out.old) (O.faults out.new) }
+{
+    match answer {
+        CheckAnswer::ElfOverLimit => put_text(out, b"over limit elf\n"),
+        CheckAnswer::UnreadableElf(why) => put_unreadable_elf(out, why),
+        CheckAnswer::ProofOverLimit => put_text(out, b"over limit proof\n"),
+        CheckAnswer::UnreadableText(line) => put_unreadable_text(out, *line),
+        CheckAnswer::IllFormed(group, def) => put_ill_formed(out, *group, *def),
+        CheckAnswer::WrongLine(line) => put_wrong_line(out, *line),
+        CheckAnswer::NotProved(group) => put_not_proved(out, *group),
+        CheckAnswer::Accepted(functions, lines) => put_accepted(out, *functions, *lines),
+    }
+}
+
+fn put_decompile<O: Sink>(out: &mut O, answer: &DecompileAnswer) -> Result<(), Stop>
+    ensures { Prints result (decompile_printed answer.now).1 (O.written out.old) (O.written out.new) (O.faults out.old) (O.faults out.new) }
+{
+    match answer {
+        DecompileAnswer::OverLimit => put_text(out, b"over limit elf\n"),
+        DecompileAnswer::Unreadable(why) => put_unreadable_elf(out, why),
+        DecompileAnswer::Refused(name, why) => put_refused(out, name.as_slice(), why),
+        DecompileAnswer::Decompiled(listed) => put_all_listed(out, listed.as_slice()),
+    }
+}
+
+/// The line of a name that is outside the fragment.
+fn put_refused<O: Sink>(out: &mut O, name: &[u8], why: &Outside) -> Result<(), Stop>
+    ensures { Prints result (codes "refused " ++ name.now ++ codes " " ++ outside_words why.now ++ codes "\n") (O.written out.old) (O.written out.new) (O.faults out.old) (O.faults out.new) }
+{
+    put_refused_name(out, name)?;
+    put_outside(out, why)?;
+    put_text(out, b"\n")
+}
+
+fn put_refused_name<O: Sink>(out: &mut O, name: &[u8]) -> Result<(), Stop>
+    ensures { Prints result (codes "refused " ++ name.now ++ codes " ") (O.written out.old) (O.written out.new) (O.faults out.old) (O.faults out.new) }
+{
+    put_all(
+        out,
+        &[
+            Piece::Text(b"refused "),
+            Piece::Text(name),
+            Piece::Text(b" "),
+        ],
+    )
+}
+
+fn put_outside<O: Sink>(out: &mut O, why: &Outside) -> Result<(), Stop>
+    ensures { Prints result (outside_words why.now) (O.written out.old) (O.written out.new) (O.faults out.old) (O.faults out.new) }
+{
+    match why {
+        Outside::NoSuch => put_text(out, b"no-such"),
+        Outside::Ambiguous(low, high) => put_two(out, b"ambiguous ", *low, *high),
+        Outside::TooLarge => put_text(out, b"too-large"),
+        Outside::OutsideCode(a) => put_address(out, b"outside-code ", *a),
+        Outside::NotDecoded(a, w) => put_two(out, b"not-decoded ", *a, u64::from(*w)),
+        Outside::Environment(a) => put_address(out, b"environment ", *a),
+        Outside::Call(a) => put_address(out, b"call ", *a),
+        Outside::JumpThrough(a) => put_address(out, b"jump-through ", *a),
+        Outside::Misaligned(a, target) => put_two(out, b"misaligned ", *a, *target),
+        Outside::TwoEntries { first, second, .. } => put_entries(
+            out,
+            last_of(first),
+            last_of(second),
+        ),
+        Outside::ManyExits(a) => put_address(out, b"many-exits ", *a),
+    }
+}
+
+fn put_address<O: Sink>(out: &mut O, word: &[u8], a: u64) -> Result<(), Stop>
+    ensures { Prints result (word.now ++ hex a) (O.written out.old) (O.written out.new) (O.faults out.old) (O.faults out.new) }
+{
+    put_all(out, &[Piece::Text(word), Piece::Hex(a)])
+}
+
+fn put_two<O: Sink>(out: &mut O, word: &[u8], a: u64, b: u64) -> Result<(), Stop>
+    ensures { Prints result (word.now ++ hex a ++ codes " " ++ hex b) (O.written out.old) (O.written out.new) (O.faults out.old) (O.faults out.new) }
+{
+    put_all(
+        out,
+        &[
+            Piece::Text(word),
+            Piece::Hex(a),
+            Piece::Text(b" "),
+            Piece::Hex(b),
+        ],
+    )
+}
+
+/// Two nodes, the lesser first.
+fn put_entries<O: Sink>(out: &mut O, a: u64, b: u64) -> Result<(), Stop>
+    ensures { Prints result (codes "two-entries " ++ hex (min a b) ++ codes " " ++ hex (max a b)) (O.written out.old) (O.written out.new) (O.faults out.old) (O.faults out.new) }
+{
+    put_two(out, b"two-entries ", a.min(b), a.max(b))
+}
+
+/// The last node of a walk.
+fn last_of(walk: &Items<u64>) -> u64
+    ensures { result ≡ last_of walk.now }
+{
+    match walk.as_slice().last() {
+        Some(node) => *node,
+        None => 0,
+    }
+}
+
+/// A line for each name.
+fn put_all_listed<O: Sink>(out: &mut O, all: &[Listed]) -> Result<(), Stop>
+    ensures { Prints result (each listed_line all.now) (O.written out.old) (O.written out.new) (O.faults out.old) (O.faults out.new) }
+{
+    for listed in all {
+        put_listed(out, listed)?;
+    }
+    Ok(())
+}
+
+fn put_listed<O: Sink>(out: &mut O, listed: &Listed) -> Result<(), Stop>
+    ensures { Prints result (listed_line listed.now) (O.written out.old) (O.written out.new) (O.faults out.old) (O.faults out.new) }
+{
+    put_all(
+        out,
+        &[
+            Piece::Text(b"decompiled "),
+            Piece::Text(listed.name.as_slice()),
+            Piece::Text(b" "),
+            Piece::Hex(listed.entry),
+            Piece::Text(b" "),
+            Piece::Decimal(u64::from(listed.reached)),
+            Piece::Text(b" "),
+            Piece::Decimal(listed.defs),
+            Piece::Text(b"\n"),
+        ],
+    )
+}
+
+fn put_self_test<O: Sink>(out: &mut O, answer: &SelfTestAnswer) -> Result<(), Stop>
+    ensures { Prints result (self_test_line answer.now) (O.written out.old) (O.written out.new) (O.faults out.old) (O.faults out.new) }
+{
+    put_all(
+        out,
+        &[
+            Piece::Text(b"selftest "),
+            Piece::Decimal(answer.number),
+            Piece::Text(b" "),
+            Piece::Decimal(u64::from(answer.size)),
+            Piece::Text(b" instructions "),
+            Piece::Decimal(u64::from(answer.outcome.instructions)),
+            Piece::Text(b" defs "),
+            Piece::Decimal(answer.outcome.defs),
+            Piece::Text(b" steps "),
+            Piece::Decimal(answer.outcome.steps),
+            Piece::Text(b" turns "),
+            Piece::Decimal(answer.outcome.turns),
+            Piece::Text(b" x10 "),
+            Piece::Hex(answer.outcome.value),
+            Piece::Text(b"\n"),
+        ],
+    )
+}
+
+fn put_wrong_line<O: Sink>(out: &mut O, line: u64) -> Result<(), Stop>
+    ensures { Prints result (codes "refused line " ++ decimal line ++ codes "\n") (O.written out.old) (O.written out.new) (O.faults out.old) (O.faults out.new) }
+{
+    put_all(
+        out,
+        &[
+            Piece::Text(b"refused line "),
+            Piece::Decimal(line),
+            Piece::Text(b"\n"),
+        ],
+    )
+}
+
+fn put_not_proved<O: Sink>(out: &mut O, group: u64) -> Result<(), Stop>
+    ensures { Prints result (codes "refused group " ++ decimal group ++ codes "\n") (O.written out.old) (O.written out.new) (O.faults out.old) (O.faults out.new) }
+{
+    put_all(
+        out,
+        &[
+            Piece::Text(b"refused group "),
+            Piece::Decimal(group),
+            Piece::Text(b"\n"),
+        ],
+    )
+}
+
+fn put_accepted<O: Sink>(out: &mut O, functions: u64, lines: u64) -> Result<(), Stop>
+    ensures { Prints result (codes "accepted " ++ decimal functions ++ codes " " ++ decimal lines ++ codes "\n") (O.written out.old) (O.written out.new) (O.faults out.old) (O.faults out.new) }
+{
+    put_all(
+        out,
+        &[
+            Piece::Text(b"accepted "),
+            Piece::Decimal(functions),
+            Piece::Text(b" "),
+            Piece::Decimal(lines),
+            Piece::Text(b"\n"),
+        ],
+    )
 }
 
 fn put_text<O: Sink>(out: &mut O, text: &[u8]) -> Result<(), Stop>

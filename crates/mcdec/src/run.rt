@@ -10,21 +10,21 @@ ghost use Rattle.mcdec.specs.Answer.{Gives, ReadsAreTold};
 ghost use Rattle.mcdec.specs.Command.{AreArgs, AreGiven, Arg, Given, IsMemory, value_of};
 ghost use Rattle.mcdec.specs.inner.CommandReading.{Holds, HoldsArgs, IsReadRun};
 ghost use Rattle.mcdec.specs.Memory.{placed};
-ghost use Rattle.mcdec.specs.RunAnswer.{RunGives, StandsFor, begin, elf_limit};
+ghost use Rattle.mcdec.specs.RunAnswer.{RunGives, begin, elf_limit};
 ghost use Rattle.mcdec.specs.inner.Running.{MachineGives, shown_with};
 
 use crate::answer::{Answer, RunAnswer, Shown};
 use crate::command::{Registers, Run};
 use crate::memory::ranges_now;
-use elf_image::{ElfFault, Image, NameFault, Piece, read};
+use decompiler::address_of;
+use elf_image::{ElfFault, Image, Piece, read};
 use mc_shelf::{ReadEnd, Shelf, read_file};
-use mc_text::hexnum;
 use rv_machine::{RunEnd, State};
 use rv_words::{Bytes, List, NoMemory, Range, Text};
 use std::alloc::Global;
 
 /// The most bytes of an ELF file that are read.
-const ELF_LIMIT: u64 = 67_108_864;
+pub const ELF_LIMIT: u64 = 67_108_864;
 
 /// The answer to `run`.
 pub fn run_file<S: Shelf>(alloc: Global, r: &Run<'_>, shelf: &mut S) -> Answer
@@ -68,16 +68,6 @@ fn run_bytes(alloc: Global, file: Bytes, r: &Run<'_>) -> Result<RunAnswer, NoMem
             let start = Text::from_slice(alloc, r.start)?;
             Ok(RunAnswer::StartRefused(start, why))
         }
-    }
-}
-
-/// The address that START stands for.
-fn address_of(image: &Image, start: &[u8]) -> Result<u64, NameFault>
-    ensures { (file : List ℕ) → image.now ≡ image_of file → StandsFor file start.now result }
-{
-    match hexnum(start) {
-        Some(address) => Ok(address),
-        None => image.symbol(start),
     }
 }
 

@@ -1,6 +1,10 @@
 //! Whole commands over files and a sink in memory: what comes while there is memory, which no clause says, and
 //! what is left by calls that fail.
 
+mod check;
+mod decompile;
+mod selftest;
+
 use crate::commands::run_words;
 use mc_shelf::{MemShelf, MemSink};
 use mc_text::{put_atom, put_dec};
@@ -104,7 +108,7 @@ static UNREADABLE: [(&str, &str, u64); 40] = [
     (LEAVE, "call 0 17 v2 v1 ;\n", 8),
     (LEAVE, "call 0 1 v2 v1 ;\n", 9),
     (LEAVE, "if (eq v0 v1)\nagain v0 v1 ;\n", 10),
-    (LEAVE, "leave 0 v2 v1 ;\nforget 0\n", 9),
+    (LEAVE, "leave 0 v2 v1 ;\nforget 00\n", 9),
     (LEAVE, "leave 0 v2 v1 ;\narm\n", 9),
     ("end\n", "end", 9),
     ("end\n", "", 9),
@@ -366,7 +370,9 @@ fn other_words_are_no_command(rt: HostRuntime) -> Result<(), Fail> {
         "eval p sum 1 mem=0x0",
         "eval p sum 1 mem=0xffffffffffffffff:0000",
         "evaluate p sum 1",
-        "check e p",
+        "check",
+        "check p",
+        "check p p p",
         "run",
         "run p 0x10000 0x0",
         "run p 0x10000 10 1",
@@ -591,6 +597,9 @@ fn failing_puts_leave_a_front_of_the_lines(rt: HostRuntime) -> Result<(), Fail> 
         ("eval p tot 1", 1, "refused no function\n"),
         ("eval q sum 1", 4, "read fault\n"),
         ("eval", 2, "not a command\n"),
+        ("check p p", 3, "unreadable elf not-elf\n"),
+        ("run p f 0x0 0", 3, "unreadable elf not-elf\n"),
+        ("decompile p q f", 3, "unreadable elf not-elf\n"),
     ] {
         for failing in 0..30 {
             assert!(rt; ends_with_a_front(alloc, line, (failing, 0), (status, lines))?);

@@ -5,12 +5,15 @@ use Rattle.mcdec.specs.declared.command.Command.{Command as Read}
 use Rattle.mcdec.specs.declared.command.Command.TheVariants as read
 use Rattle.mcdec.specs.declared.command.Eval.{Eval as ReadEval}
 use Rattle.mcdec.specs.declared.command.Run.{Run as ReadRun}
+use Rattle.mcdec.specs.declared.command.Check.{Check as ReadCheck}
+use Rattle.mcdec.specs.declared.command.Decompile.{Decompile as ReadDecompile}
+use Rattle.mcdec.specs.declared.command.SelfTest.{SelfTest as ReadSelfTest}
 use Rattle.mcdec.specs.declared.command.Argument.{Argument as ReadArg}
 use Rattle.mcdec.specs.declared.command.Argument.TheVariants as read_arg
 use Rattle.mcdec.specs.declared.command.Unread.{Unread}
 use Rattle.mcdec.specs.declared.command.Unread.TheVariants as unread
 use Rattle.rv_words.specs.declared.range.Range.{Range}
-use Rattle.mcdec.specs.Command.{Eval, Run, Arg, Value, Memory, Given, IsGiven, IsMemory, IsCommand, AreArgs, Words, given_to, arg_word, operands_of, givens, ranges}
+use Rattle.mcdec.specs.Command.{Eval, Run, Check, Decompile, SelfTest, Arg, Value, Memory, Given, IsGiven, IsMemory, IsCommand, AreArgs, Words, given_to, arg_word, operands_of, givens, ranges}
 
 -- each register's value, or none
 abbrev pub Holds : List Given → List (Option ℕ) → Type 0
@@ -75,6 +78,24 @@ abbrev pub IsRun : List (List ℕ) → ReadRun → Type 0
 IsRun ws r = (args : List Arg) × IsCommand (Run r.elf.now r.start.now r.until r.steps args) × (ws ≡ operands_of (Run r.elf.now r.start.now r.until r.steps args))
     × HoldsArgs args r.given.values r.memory
 
+abbrev pub NoCheck : List (List ℕ) → Type 0
+NoCheck ws = (elf proof : List ℕ) → IsCommand (Check elf proof) → ws ≢ operands_of (Check elf proof)
+
+abbrev pub IsCheck : List (List ℕ) → ReadCheck → Type 0
+IsCheck ws c = IsCommand (Check c.elf.now c.proof.now) × (ws ≡ operands_of (Check c.elf.now c.proof.now))
+
+abbrev pub NoDecompile : List (List ℕ) → Type 0
+NoDecompile ws = (elf out : List ℕ) (names : List (List ℕ)) → IsCommand (Decompile elf out names) → ws ≢ operands_of (Decompile elf out names)
+
+abbrev pub IsDecompile : List (List ℕ) → ReadDecompile → Type 0
+IsDecompile ws d = IsCommand (Decompile d.elf.now d.out.now d.names) × (ws ≡ operands_of (Decompile d.elf.now d.out.now d.names))
+
+abbrev pub NoSelfTest : List (List ℕ) → Type 0
+NoSelfTest ws = (number size : ℕ) → IsCommand (SelfTest number size) → ws ≢ operands_of (SelfTest number size)
+
+abbrev pub IsSelfTest : List (List ℕ) → ReadSelfTest → Type 0
+IsSelfTest ws t = IsCommand (SelfTest t.number t.size) × (ws ≡ operands_of (SelfTest t.number t.size))
+
 -- the command, seen by what was read
 abbrev pub IsReadEval : List (List ℕ) → ReadEval → Type 0
 IsReadEval ws e = (args : List Arg) × Words ws (Eval e.proof.now e.name.now e.turns args) × HoldsArgs args e.given.values e.memory
@@ -82,6 +103,18 @@ IsReadEval ws e = (args : List Arg) × Words ws (Eval e.proof.now e.name.now e.t
 abbrev pub IsReadRun : List (List ℕ) → ReadRun → Type 0
 IsReadRun ws r = (args : List Arg) × Words ws (Run r.elf.now r.start.now r.until r.steps args) × HoldsArgs args r.given.values r.memory
 
+abbrev pub IsReadCheck : List (List ℕ) → ReadCheck → Type 0
+IsReadCheck ws c = Words ws (Check c.elf.now c.proof.now)
+
+abbrev pub IsReadDecompile : List (List ℕ) → ReadDecompile → Type 0
+IsReadDecompile ws d = Words ws (Decompile d.elf.now d.out.now d.names)
+
+abbrev pub IsReadSelfTest : List (List ℕ) → ReadSelfTest → Type 0
+IsReadSelfTest ws t = Words ws (SelfTest t.number t.size)
+
 abbrev pub IsRead : List (List ℕ) → Read → Type 0
 IsRead ws (read.Eval e) = IsReadEval ws e
 IsRead ws (read.Run r) = IsReadRun ws r
+IsRead ws (read.Check c) = IsReadCheck ws c
+IsRead ws (read.Decompile d) = IsReadDecompile ws d
+IsRead ws (read.SelfTest t) = IsReadSelfTest ws t

@@ -1,13 +1,15 @@
 -- What is found in the text of a proof file, group by group, and what evaluation of a group's function comes to.
-use Rattle.std.specs.Prelude.{◌≡◌, ℕ, List, [], ◌∷◌, ◌++◌, ◌-◌, length, Option, Some, None, Result, Ok, Err}
+use Rattle.std.specs.Prelude.{◌≡◌, ℕ, List, [], ◌∷◌, ◌++◌, ◌-◌, ◌<◌, ◌≤◌, length, Option, Some, None, Result, Ok, Err}
 use Rattle.mc_text.specs.Fault.{IsBadAt}
 use Rattle.tailrec_lang.specs.declared.group.Group.{Group}
 use Rattle.tailrec_lang.specs.Tree.{GroupTree, group_tree, listed_def}
 use Rattle.tailrec_lang.specs.WellFormed.{IsWellFormed, IsFirstIllFormed}
 use Rattle.tailrec_lang.specs.Eval.{Arguments, Done, SideFalse, Turns, HasFewNeeds, eval}
-use Rattle.proof_text.specs.Spelling.{text_of}
-use Rattle.proof_text.specs.Limits.{proof_texts}
-use Rattle.proof_text.specs.FirstGroups.{Progress, HasGiven, AreRead}
+use Rattle.proof_text.specs.Line.{ProofTree, line_tree}
+use Rattle.proof_text.specs.Proofs.{bare, groups_of, text_of_proofs, texts_of_proofs}
+use Rattle.proof_text.specs.FirstProofs.{Progress, HasGiven, MayOpen, ProofEnds, AreRead, with_line}
+use Rattle.proof_text.specs.Answers.{NoItem}
+use Rattle.proof_text.specs.declared.line.Line.{Line}
 use Rattle.mcdec.specs.declared.evaluate.Refusal.{Refusal}
 use Rattle.mcdec.specs.declared.evaluate.Refusal.TheVariants as refusal
 use Rattle.mcdec.specs.declared.answer.EvalAnswer.{EvalAnswer}
@@ -15,25 +17,60 @@ use Rattle.mcdec.specs.declared.answer.EvalAnswer.TheVariants as answer
 use Rattle.mcdec.specs.Command.{Arg}
 use Rattle.mcdec.specs.EvalAnswer.{AreWellFormed, FirstNamed, IsTextOf, NoneNamed, arguments_of, shown_of}
 
+-- these proofs were given, and the lines of the last one have ended
+pub record HasPassed (ps : List ProofTree) (r : Progress) : Type 0 where
+  pub given : HasGiven ps r
+  pub over : MayOpen ps r.rest
+
+-- a text is bad at a line, and the groups that are read of it are well-formed
+abbrev pub IsBadText : List ℕ → ℕ → Type 0
+IsBadText text line = IsBadAt texts_of_proofs text line × ((ps : List ProofTree) → AreRead text ps → AreWellFormed (groups_of ps))
+
+-- the next line of a group's proof, or why there is none
+abbrev pub LineIs : GroupTree → Progress → Progress → Result (Option Line) Refusal → Type 0
+LineIs g old new (Ok None) = (new ≡ old) × ProofEnds old.rest
+LineIs g old new (Ok (Some l)) = (new.text ≡ old.text) × (length new.rest < length old.rest)
+    × ((ps : List ProofTree) (p : ProofTree) → HasGiven (ps ++ p ∷ []) old → p.group ≡ g → HasGiven (ps ++ with_line p (line_tree l) ∷ []) new)
+LineIs g old new (Err (refusal.Text line)) = (ps : List ProofTree) (p : ProofTree) → HasGiven (ps ++ p ∷ []) old → p.group ≡ g
+    → IsBadAt texts_of_proofs old.text line × NoItem (ps ++ p ∷ []) old
+LineIs g old new (Err (refusal.IllFormed m def)) = ⊥
+LineIs g old new (Err refusal.NoFunction) = ⊥
+LineIs g old new (Err refusal.NoMemory) = Unit {0}
+
+-- the lines of a group's proof were passed over, or why not
+abbrev pub LinesArePassed : GroupTree → Progress → Progress → Result (Unit {0}) Refusal → Type 0
+LinesArePassed g old new (Ok done) = (new.text ≡ old.text) × (length new.rest ≤ length old.rest)
+    × ((ps : List ProofTree) (p : ProofTree) → HasGiven (ps ++ p ∷ []) old → p.group ≡ g → (q : ProofTree) × (q.group ≡ g) × HasPassed (ps ++ q ∷ []) new)
+LinesArePassed g old new (Err (refusal.Text line)) = (ps : List ProofTree) (p : ProofTree) → HasGiven (ps ++ p ∷ []) old → p.group ≡ g
+    → AreWellFormed (groups_of (ps ++ p ∷ [])) → IsBadText old.text line
+LinesArePassed g old new (Err (refusal.IllFormed m def)) = ⊥
+LinesArePassed g old new (Err refusal.NoFunction) = ⊥
+LinesArePassed g old new (Err refusal.NoMemory) = Unit {0}
+
+-- so far the lines of a group's proof were passed over
+pub record Passing (g : GroupTree) (start now : Progress) : Type 0 where
+  pub text : now.text ≡ start.text
+  pub no_longer : length now.rest ≤ length start.rest
+  pub given : (ps : List ProofTree) (p : ProofTree) → HasGiven (ps ++ p ∷ []) start → p.group ≡ g → (q : ProofTree) × (q.group ≡ g) × HasGiven (ps ++ q ∷ []) now
+
 -- the next group, or why there is none
 abbrev pub NextIs : ℕ → Progress → Progress → Result (Option Group) Refusal → Type 0
-NextIs n old new (Ok None) = (gs : List GroupTree) → HasGiven gs old → old.text ≡ text_of gs
-NextIs n old new (Ok (Some g)) = (new.text ≡ old.text) × IsWellFormed (group_tree g) × HasFewNeeds (group_tree g)
-    × ((gs : List GroupTree) → HasGiven gs old → HasGiven (gs ++ group_tree g ∷ []) new)
-NextIs n old new (Err (refusal.Text line)) = (gs : List GroupTree) → HasGiven gs old
-    → IsBadAt proof_texts old.text line × ((g : GroupTree) (r : Progress) → r.text ≡ old.text → HasGiven (gs ++ g ∷ []) r → ⊥)
+NextIs n old new (Ok None) = (ps : List ProofTree) → HasPassed ps old → old.text ≡ text_of_proofs ps
+NextIs n old new (Ok (Some g)) = (new.text ≡ old.text) × (length new.rest < length old.rest) × IsWellFormed (group_tree g) × HasFewNeeds (group_tree g)
+    × ((ps : List ProofTree) → HasPassed ps old → (q : ProofTree) × (q.group ≡ group_tree g) × HasPassed (ps ++ q ∷ []) new)
+NextIs n old new (Err (refusal.Text line)) = (ps : List ProofTree) → HasPassed ps old → AreWellFormed (groups_of ps) → IsBadText old.text line
 NextIs n old new (Err (refusal.IllFormed m def)) = (m ≡ n) × (g : GroupTree) × IsFirstIllFormed g def
-    × ((gs : List GroupTree) → HasGiven gs old → (r : Progress) × (r.text ≡ old.text) × HasGiven (gs ++ g ∷ []) r)
+    × ((ps : List ProofTree) → HasPassed ps old → AreRead old.text (ps ++ bare g ∷ []))
 NextIs n old new (Err refusal.NoFunction) = ⊥
 NextIs n old new (Err refusal.NoMemory) = Unit {0}
 
 -- what a text has for a name
 abbrev pub Finds : List ℕ → List ℕ → Result Group Refusal → Type 0
-Finds text name (Ok g) = (gs : List GroupTree) × IsTextOf text gs × FirstNamed name gs (group_tree g) × HasFewNeeds (group_tree g)
-Finds text name (Err (refusal.Text line)) = IsBadAt proof_texts text line × ((gs : List GroupTree) → AreRead text gs → AreWellFormed gs)
-Finds text name (Err (refusal.IllFormed n def)) = (gs : List GroupTree) × (g : GroupTree) × AreRead text (gs ++ g ∷ [])
-    × AreWellFormed gs × (n ≡ length gs) × IsFirstIllFormed g def
-Finds text name (Err refusal.NoFunction) = (gs : List GroupTree) × IsTextOf text gs × NoneNamed name gs
+Finds text name (Ok g) = (ps : List ProofTree) × IsTextOf text ps × FirstNamed name (groups_of ps) (group_tree g) × HasFewNeeds (group_tree g)
+Finds text name (Err (refusal.Text line)) = IsBadText text line
+Finds text name (Err (refusal.IllFormed n def)) = (ps : List ProofTree) × (g : GroupTree) × AreRead text (ps ++ bare g ∷ [])
+    × AreWellFormed (groups_of ps) × (n ≡ length ps) × IsFirstIllFormed g def
+Finds text name (Err refusal.NoFunction) = (ps : List ProofTree) × IsTextOf text ps × NoneNamed name (groups_of ps)
 Finds text name (Err refusal.NoMemory) = Unit {0}
 
 -- what was found of a name among these groups
@@ -41,14 +78,14 @@ abbrev pub FoundSo : List ℕ → List GroupTree → Option Group → Type 0
 FoundSo name gs None = NoneNamed name gs
 FoundSo name gs (Some g) = FirstNamed name gs (group_tree g) × HasFewNeeds (group_tree g)
 
--- groups that a reader has given of a text, that are well-formed, as many as were counted, and what was found among them
+-- proofs that a reader has given of a text, whose groups are well-formed and as many as were counted, and what was found among them
 pub record Searched (text name : List ℕ) (r : Progress) (count : ℕ) (found : Option Group) : Type 0 where
-  pub groups : List GroupTree
-  pub given : HasGiven groups r
+  pub proofs : List ProofTree
+  pub passed : HasPassed proofs r
   pub same : r.text ≡ text
-  pub well_formed : AreWellFormed groups
-  pub counted : count ≡ length groups
-  pub so : FoundSo name groups found
+  pub well_formed : AreWellFormed (groups_of proofs)
+  pub counted : count ≡ length proofs
+  pub so : FoundSo name (groups_of proofs) found
 
 -- what `eval` of a group's function within turns comes to
 abbrev pub GroupGives : GroupTree → ℕ → List Arg → EvalAnswer → Type 0

@@ -1,4 +1,4 @@
-use Rattle.std.proofs.Common.{true, true≢false, codes, sym, ◌∙◌}
+use Rattle.std.proofs.Common.{true≢false, codes, sym, ◌∙◌}
 use Rattle.std.proofs.lemmas.Slice.Eq.{bytes_eq-Decides}
 use Rattle.mcdec.proofs.Givens.{no-mark, no-given}
 use Rattle.mcdec.proofs.command.read_argument.Goals as goal

@@ -1,7 +1,6 @@
-use Rattle.std.proofs.Common.{rules, length, ◌≤◌, ◌<◌, subst}
+use Rattle.std.proofs.Common.{rules, length, ◌<◌, subst}
 use Rattle.mcdec.specs.Command.{Eval}
 use Rattle.mcdec.specs.EvalAnswer.{proof_limit, EvalGives}
-use Rattle.mcdec.specs.declared.answer.EvalAnswer.TheVariants as answer
 use Rattle.mcdec.proofs.Answers.{held-with, held-such, proof-told, one-file}
 use Rattle.mcdec.proofs.evaluate.evaluate.Goals as goal
 

@@ -1,8 +1,7 @@
-use Rattle.std.proofs.Common.{arith, subst, Option, Result, Ok}
+use Rattle.std.proofs.Common.{arith, subst, Option, Ok}
 use Rattle.tailrec_lang.specs.declared.group.Group.{Group}
-use Rattle.mcdec.specs.declared.evaluate.Refusal.{Refusal}
 use Rattle.mcdec.specs.inner.Search.{NextIs}
-use Rattle.mcdec.proofs.Groups.{stopped, count-fits, counted-on, more, found-exit}
+use Rattle.mcdec.proofs.Groups.{stopped, count-fits, more, found-exit}
 use Rattle.mcdec.proofs.evaluate.find_group.Goals as goal
 
 pub returns-in_err-g : goal.returns-in_err-g
@@ -21,5 +20,5 @@ loop-found-preserved c =
 
 pub loop-found-smaller : goal.loop-found-smaller
 loop-found-smaller c =
-    counted-on c.args.text.now c.args.name.now c.loop-found.reader c.loop-found.count c.loop-found.found c.loop-found.invariant c.next_group.new.reader c.in-Some.g c.first_named-found.result
-    (subst (λ (o : Option Group). NextIs c.loop-found.count c.loop-found.reader c.next_group.new.reader (Ok o)) c.in-Some.is c.in_ok-g.ensures) c.first_named-found.ensures
+    let next = subst (λ (o : Option Group). NextIs c.loop-found.count c.loop-found.reader c.next_group.new.reader (Ok o)) c.in-Some.is c.in_ok-g.ensures in
+    omega (arith, next.1)

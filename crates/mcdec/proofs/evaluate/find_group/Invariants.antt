@@ -1,4 +1,4 @@
-use Rattle.std.proofs.Common.{length, ◌-◌}
+use Rattle.std.proofs.Common.{length}
 use Rattle.mcdec.specs.inner.Search.{Searched}
 use Rattle.mcdec.proofs.evaluate.find_group.Given as goal
 
@@ -6,4 +6,4 @@ abbrev pub invariant-loop-found : goal.invariant-loop-found
 invariant-loop-found l = Searched l.text l.name l.reader l.count l.found
 
 abbrev pub decreases-loop-found : goal.decreases-loop-found
-decreases-loop-found l = length l.text - l.count
+decreases-loop-found l = length l.reader.rest

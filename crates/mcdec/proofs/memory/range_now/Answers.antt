@@ -1,4 +1,4 @@
-use Rattle.std.proofs.Common.{ℕ, ◌+◌, ◌∙◌, ap, Option, unwrap_or}
+use Rattle.std.proofs.Common.{ℕ, ◌∙◌, ap, Option, unwrap_or}
 use Rattle.std.specs.FinMap.{get}
 use Rattle.mcdec.proofs.SetUp.{held-more}
 use Rattle.mcdec.proofs.memory.range_now.Goals as goal

@@ -1,0 +1,7 @@
+-- What is claimed of a file that a name holds.
+use Rattle.std.specs.Prelude.{◌≡◌, List, ℕ, Option, Some, IfSome}
+use Rattle.mc_shelf.specs.Shelf.{Contents}
+
+-- the name holds a file with P, as far as it is told what names hold
+abbrev pub HoldsWith : Option Contents → List ℕ → (List ℕ → Type 0) → Type 0
+HoldsWith told name P = IfSome told (λ files. (file : List ℕ) × (files name ≡ Some file) × P file)
