@@ -22,6 +22,9 @@ BEGIN, END = '<!-- definitions.py: begin -->\n', '<!-- definitions.py: end -->\n
 # The contracts that are counted: a title, the file, the function, and its clauses (none: all).
 CONTRACTS = [
     ('`run_words`, all clauses', 'mcdec/src/commands.rt', 'run_words', ()),
+    ('`run_words`, `headline`', 'mcdec/src/commands.rt', 'run_words', ('headline',)),
+    ('`run_words`, `written`', 'mcdec/src/commands.rt', 'run_words', ('written',)),
+    ('`check_bytes`, all clauses', 'checker/src/check.rt', 'check_bytes', ()),
     ('`Thm::triple`, a theorem is valid', 'triple_kernel/src/thm.rt', 'triple', ('valid',)),
     ('`FunThm::def`, a closed definition', 'loop_rule/src/closing.rt', 'def', ('closed',)),
     ('`find_loops`, loops and cuts', 'loop_forest/src/forest.rt', 'find_loops', ()),
