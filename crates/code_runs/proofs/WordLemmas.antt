@@ -127,6 +127,7 @@ stand number size m h holds =
     words-there m start 0 [] (instructions number size) refl (program-small number size) (omega (arith, program-few number size, h)) holds
 
 pub program-code : (number size : ℕ) → size ≤ 600 → EachAt (IsWordAt (code_of_file (elf_of (program_of number size))) start) 0 (instructions number size)
+unfolding image_of
 program-code number size h =
     let words : List ℕ = program_of number size in
     subst (λ m. EachAt (IsWordAt m start) 0 (instructions number size)) (sym (λ i. code_in (image words (few-words number size h) i).pieces))

@@ -78,4 +78,4 @@ word_in code a = if nat_lt (a + 3) (2 ^ 64) then word_at code a else None
 
 -- the code bytes of a file
 abbrev pub code_of_file : List ℕ → Bytes
-code_of_file file = code_in (image_of file).pieces
+code_of_file file = code_in (rising (pieces_of file))
