@@ -23,4 +23,5 @@ pub mod AddressLemmas
 pub mod WalkLaws
 pub mod CodeEntries
 pub mod OneForest
+pub mod Depths
 pub mod WorkedEntries

@@ -1,6 +1,6 @@
 -- What a forest holds, which forest is that of a graph, and why there is none.
-use Rattle.std.specs.Prelude.{◌≡◌, ◌↔◌, ℕ, ◌<◌, ◌≤◌, Option, Some, None, option_map, List, [], length, slice_index, slice_index_or}
-use Rattle.std.specs.List.{Contains}
+use Rattle.std.specs.Prelude.{◌≡◌, ◌↔◌, ℕ, zero, suc, ◌<◌, ◌≤◌, ◌==◌, Bool, if◌then◌else◌, Option, Some, None, option_map, List, [], length, slice_index, slice_index_or}
+use Rattle.std.specs.List.{Contains, list_any}
 use Rattle.flow_graph.specs.Graph.{GraphOf, HasEdge, IsRising, preds_of}
 use Rattle.flow_graph.specs.declared.outside.Outside.{Outside as Fault}
 use Rattle.flow_graph.specs.declared.outside.Outside.TheVariants.{TwoEntries as Entries, ManyExits}
@@ -39,6 +39,23 @@ number_of f n = slice_index f.numbers n
 
 abbrev pub place_of : ForestOf → ℕ → ℕ
 place_of f n = slice_index f.places n
+
+abbrev pub has_inside : ForestOf → ℕ → ℕ → Bool
+has_inside f n l = list_any (λ m. n == m) (inside_of f l)
+
+-- how many numbers below n pass the test
+abbrev pub count_below : (ℕ → Bool) → ℕ → ℕ
+count_below test zero = 0
+count_below test (suc n) = if test n then suc (count_below test n) else count_below test n
+
+-- how many loops have a node
+abbrev pub loops_around : ForestOf → ℕ → ℕ
+loops_around f n = count_below (has_inside f n) (length f.heads)
+
+-- how many loops there are around what is in a region, its own included
+abbrev pub depth_of : ForestOf → Option ℕ → ℕ
+depth_of f None = 0
+depth_of f (Some l) = loops_around f (head_of f l)
 
 -- how many edges lead to a node
 abbrev pub incoming : GraphOf → ℕ → ℕ

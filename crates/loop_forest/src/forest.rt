@@ -1,7 +1,7 @@
 //! The loops and cuts of a graph.
-ghost use Rattle.std.specs.Prelude.{◌≡◌, ◌<◌, ◌↔◌, ℕ, IfOk, IfErr, IsTrue, length};
+ghost use Rattle.std.specs.Prelude.{◌≡◌, ◌<◌, ◌≤◌, ◌↔◌, ℕ, IfOk, IfErr, IsTrue, Some, length};
 ghost use Rattle.std.specs.List.{Contains};
-ghost use Rattle.loop_forest.specs.Forest.{IsForestOf, IsNoForest, exits_of, head_of, inside_of, number_of, place_of, region_of};
+ghost use Rattle.loop_forest.specs.Forest.{IsForestOf, IsNoForest, depth_of, exits_of, has_inside, head_of, inside_of, loops_around, number_of, place_of, region_of};
 ghost use Rattle.loop_forest.specs.inner.Order.{IsNumbered};
 
 use crate::around::region_table;
@@ -82,6 +82,40 @@ impl Forest {
     {
         let _ = &self.loops;
         self.region(self.head(l))
+    }
+
+    /// Whether a loop has a node.
+    fn has_inside(&self, l: u32, n: u32) -> bool
+        requires { l < length self.now.heads }
+        ensures { result ≡ has_inside self.now n l }
+    {
+        self.inside(l, n)
+    }
+
+    /// How many loops have a node.
+    fn loops_around(&self, n: u32) -> u32
+        ensures is { result ≡ loops_around self.now n }
+        ensures most { result ≤ length self.now.heads }
+    {
+        let mut count = 0;
+        for l in 0..self.loops() {
+            if self.has_inside(l, n) {
+                count += 1;
+            }
+        }
+        count
+    }
+
+    /// How many loops there are around what is in a region, its own included.
+    pub fn depth(&self, region: Option<u32>) -> u32
+        requires { (l : ℕ) → region ≡ Some l → l < length self.now.heads }
+        ensures is { result ≡ depth_of self.now region }
+        ensures most { result ≤ length self.now.heads }
+    {
+        match region {
+            Some(l) => self.loops_around(self.head(l)),
+            None => 0,
+        }
     }
 
     /// The number with which the search left a node. It falls along each edge that is no back edge.

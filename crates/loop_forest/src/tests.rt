@@ -309,16 +309,26 @@ fn deep_loops_are_found(rt: HostRuntime) -> Result<(), Fail> {
     Ok(())
 }
 
-/// Whether these are the regions of a program's nodes, and the entry has the largest number.
-fn regions_are(alloc: Global, words: &[u32], regions: &[Option<u32>]) -> Option<bool> {
+/// How deep a node's region is.
+fn depth_at(f: &Forest, node: u32) -> u32
+    requires { node < length f.now.places }
+{
+    match f.region(node) {
+        Some(l) if l < f.loops() => f.depth(Some(l)),
+        _ => f.depth(None),
+    }
+}
+
+/// Whether these are the regions of a program's nodes with their depths, and the entry has the largest number.
+fn regions_are(alloc: Global, words: &[u32], regions: &[(Option<u32>, u32)]) -> Option<bool> {
     let g = graph(alloc, words)?;
     let f = find_loops(alloc, &g).ok()?;
     if g.len() as usize != regions.len() {
         return Some(false);
     }
-    for (n, region) in regions.iter().enumerate() {
+    for (n, &(region, depth)) in regions.iter().enumerate() {
         let node = n as u32;
-        if node >= g.len() || f.region(node) != *region {
+        if node >= g.len() || f.region(node) != region || depth_at(&f, node) != depth {
             return Some(false);
         }
         if node != g.entry() && f.number(node) >= f.number(g.entry()) {
@@ -331,7 +341,14 @@ fn regions_are(alloc: Global, words: &[u32], regions: &[Option<u32>]) -> Option<
 #[test]
 fn regions_are_told(rt: HostRuntime) -> Result<(), Fail> {
     let words = [ADD, ADD, ADD, 0xfe050ee3, 0xfe050ae3, RETURN];
-    let regions = [None, None, Some(0), Some(1), Some(0), None];
+    let regions = [
+        (None, 0),
+        (None, 0),
+        (Some(0), 1),
+        (Some(1), 2),
+        (Some(0), 1),
+        (None, 0),
+    ];
     assert!(rt; regions_are(rt.alloc(), &words, &regions) == Some(true));
     Ok(())
 }
