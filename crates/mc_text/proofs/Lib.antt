@@ -1,5 +1,6 @@
 pub mod HexDigits
 pub mod Numbers
+pub mod DigitValues
 pub mod HexPairs
 pub mod Puts
 pub mod Printed

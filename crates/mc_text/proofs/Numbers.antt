@@ -1,18 +1,14 @@
 -- A number has one spelling in each base.
-use Rattle.std.proofs.Common.{◌≡◌, ℕ, zero, suc, ◌/◌, ◌%◌, ◌^◌, ◌<◌, ◌≤◌, Bool, true, false, ◌&&◌, cond, eqb, ltb, List, [], ◌∷◌, ◌++◌, take, drop, codes, get_or, Option, Some, None, Result, Ok, Err, true≢false, refl, sym, ap, subst, ◌∙◌, arith}
+use Rattle.std.proofs.Common.{◌≡◌, ℕ, zero, suc, ◌/◌, ◌%◌, ◌^◌, ◌<◌, ◌≤◌, Bool, true, false, ◌&&◌, cond, eqb, ltb, List, [], ◌∷◌, ◌++◌, take, drop, codes, Option, Some, None, true≢false, refl, sym, ap, subst, ◌∙◌, arith}
 use Rattle.std.specs.List.{AllByRecursion}
-use Rattle.std.specs.Char.{digit_value}
-use Rattle.std.specs.Str.{bytes_eq, IsAscii, IsUtf8}
-use Rattle.std.specs.Str.Parse.{digits_value, ParsesUnsigned, IsNumeral, without_leading_plus}
+use Rattle.std.specs.Str.{bytes_eq}
+use Rattle.std.specs.Str.Parse.{digits_value}
 use Rattle.std.specs.Fmt.{digits, digits_onto, digit_glyph}
 use Rattle.std.proofs.Math.Nat.{pow-le-pow_left}
 use Rattle.std.proofs.lemmas.Bool.{ltb-true, lt-ltb}
 use Rattle.std.proofs.lemmas.Slice.Eq.{bytes_eq-Decides}
 use Rattle.std.proofs.lemmas.Fmt.{digits_is_IsNumeral}
 use Rattle.std.proofs.lemmas.List.{take-append-drop}
-use Rattle.std.proofs.lemmas.Result.{Ok-from_Ok_iff}
-use Rattle.std.proofs.lemmas.Str.{IsUtf8-from_ascii}
-use Rattle.std.proofs.lemmas.Str.Parse.{without_leading_plus_none}
 use Rattle.mc_text.specs.declared.number.Base.{Base}
 use Rattle.mc_text.specs.declared.number.Base.TheVariants.{Decimal, Hexadecimal}
 use Rattle.mc_text.specs.Number.{hex, IsWord, Spelled, number_of, hex_of}
@@ -42,19 +38,6 @@ pub digits-pass : (p : ℕ → Bool) (base n : ℕ) → 0 < base → Passes p ba
 unfolding digits
 digits-pass p base n some h = digits_onto-pass p base 64 n [] some h tt
 
-ascii : ℕ → Bool
-ascii b = ltb b 128
-
-is_ascii : (ds : List ℕ) → Pass ascii ds → IsAscii ds
-unfolding ascii
-is_ascii [] h i = omega arith
-is_ascii (d ∷ ds) h zero = ltb-true d 128 h.0
-is_ascii (d ∷ ds) h (suc i) = is_ascii ds h.1 i
-
-glyph-ascii : Passes ascii 16
-unfolding ascii
-glyph-ascii d lt = grind arith
-
 -- ---- from digits to the number, and back
 
 chosen : (small same : Bool) (v n : ℕ) → cond (small && same) (Some v) None ≡ Some n → (small ≡ true) × (same ≡ true) × (v ≡ n)
@@ -69,7 +52,7 @@ number_of-takes base ds n e =
     let c = chosen (ltb v (2 ^ 64)) (bytes_eq (digits base false v) ds) v n e in
     (sym ((bytes_eq-Decides (digits base false v) ds).0 c.1) ∙ ap (digits base false) c.2, subst (λ (k : ℕ). k < 2 ^ 64) c.2 (ltb-true _ _ c.0))
 
-wide : (base n : ℕ) → 2 ≤ base → n < 2 ^ 64 → n < base ^ 64
+pub wide : (base n : ℕ) → 2 ≤ base → n < 2 ^ 64 → n < base ^ 64
 wide base n low lt = omega (arith, pow-le-pow_left low 64)
 
 pub number_of-again : (base n : ℕ) → 2 ≤ base → base ≤ 16 → n < 2 ^ 64 → number_of base (digits base false n) ≡ Some n
@@ -77,25 +60,6 @@ unfolding number_of
 number_of-again base n low high lt =
     let h = digits_is_IsNumeral base false low high n (wide base n low lt) in
     rw (h.1, lt-ltb n (2 ^ 64) lt, (bytes_eq-Decides (digits base false n) (digits base false n)).1 refl) refl
-
--- ---- what std reads
-
-no_plus : (base : ℕ) (ds : List ℕ) → base ≤ 16 → IsNumeral base ds → get_or ds 0 0 ≡ 43 → ⊥
-no_plus base [] high h e = omega (arith, h.0)
-no_plus base (c ∷ cs) high h e =
-    let v : digit_value c ≡ 36 = ap digit_value e in
-    omega (arith, h.1.0, v)
-
-pub parsed-number : {E : Type 0} (base n : ℕ) (ds : List ℕ) (r : Result ℕ E) → 2 ≤ base → base ≤ 16 → n < 2 ^ 64 → ds ≡ digits base false n → ParsesUnsigned 64 base ds r → r ≡ Ok n
-parsed-number base n ds r low high lt e h =
-    let is = digits_is_IsNumeral base false low high n (wide base n low lt) in
-    let numeral : IsNumeral base ds = subst (IsNumeral base) (sym e) is.0 in
-    let plain : without_leading_plus ds ≡ ds = without_leading_plus_none ds (no_plus base ds high numeral) in
-    let value : digits_value base ds ≡ n = ap (digits_value base) e ∙ is.1 in
-    Ok-from_Ok_iff r _ _ h (subst (IsNumeral base) (sym plain) numeral, omega (arith, ap (digits_value base) plain, value)) ∙ ap Ok (ap (digits_value base) plain ∙ value)
-
-pub digits-utf8 : (base n : ℕ) (ds : List ℕ) → 2 ≤ base → base ≤ 16 → ds ≡ digits base false n → IsUtf8 ds
-digits-utf8 base n ds low high e = subst IsUtf8 (sym e) (IsUtf8-from_ascii _ (is_ascii _ (digits-pass ascii base n (omega arith) (λ d lt. glyph-ascii d (omega arith)))))
 
 pub base_number-low : (b : Base) → 2 ≤ base_number b
 base_number-low Decimal = omega arith
@@ -118,24 +82,8 @@ module _ (base : Base) where
   pub number-none : (ds : List ℕ) → ((n : ℕ) → n < 2 ^ 64 → ds ≡ digits (base_number base) false n → ⊥) → None ≡ number_of (base_number base) ds
   number-none ds h = none-unless ds (number_of (base_number base) ds) refl h
 
-  -- what was read first is another number's, so it is spelled by none
-  pub other-spelled : (m n : ℕ) (ds : List ℕ) (same : Bool) → same ≡ false → (digits (base_number base) false m ≡ ds → same ≡ true) → Some m ≡ Some n → ds ≡ digits (base_number base) false n → ⊥
-  other-spelled m n ds same f h e k = let equal : m ≡ n = cc in true≢false (sym (h (ap (digits (base_number base) false) equal ∙ sym k)) ∙ f)
-
-  pub text-read : {E : Type 0} (n : ℕ) (ds : List ℕ) (r : Result ℕ E) → n < 2 ^ 64 → ds ≡ digits (base_number base) false n → ParsesUnsigned 64 (base_number base) ds r → r ≡ Ok n
-  text-read n ds r lt e h = parsed-number (base_number base) n ds r (base_number-low base) (base_number-high base) lt e h
-
-  pub text-utf8 : (n : ℕ) (ds : List ℕ) → ds ≡ digits (base_number base) false n → IsUtf8 ds
-  text-utf8 n ds e = digits-utf8 (base_number base) n ds (base_number-low base) (base_number-high base) e
-
-pub none-found : (n : ℕ) → None ≡ Some n → ⊥
+none-found : (n : ℕ) → None ≡ Some n → ⊥
 none-found n e = cc
-
-pub same-read : {E : Type 0} (r : Result ℕ E) (m n : ℕ) → r ≡ Ok m → r ≡ Ok n → Some m ≡ Some n
-same-read r m n a b = cc
-
-pub not-read : {E : Type 0} (r : Result ℕ E) (e : E) (n : ℕ) → r ≡ Err e → r ≡ Ok n → None ≡ Some n
-not-read r e n a b = absurd cc
 
 -- ---- what an atom spells, or that it spells nothing
 

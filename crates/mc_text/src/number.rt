@@ -1,14 +1,11 @@
 //! Numbers that an atom spells.
 
-ghost use Rattle.std.specs.Prelude.{◌≡◌, ◌<◌, ◌^◌, ℕ, Some, IfSome, IsTrue, ◌↔◌, true, false, MatchOption, take, drop, codes};
+ghost use Rattle.std.specs.Prelude.{◌≡◌, MatchOption, true, false, take, drop, codes};
+ghost use Rattle.std.specs.Char.{digit_value};
 ghost use Rattle.std.specs.Str.{bytes_eq};
-ghost use Rattle.std.specs.Fmt.{decimal, digits as digits_of};
+ghost use Rattle.std.specs.Fmt.{decimal};
 ghost use Rattle.mc_text.specs.Number.{hex, IsWord, Spelled, number_of, hex_of};
-ghost use Rattle.mc_text.specs.inner.Number.{base_number};
-
-use crate::digits::HexBuffer;
-use itoa::Buffer;
-use std::str;
+ghost use Rattle.mc_text.specs.inner.Number.{base_number, is_digit_of, is_padded, ReadsDigits};
 
 /// The bases in which numbers are written.
 #[derive(Clone, Copy, Debug, PartialEq, Eq)]
@@ -18,7 +15,7 @@ pub enum Base {
 }
 
 impl Base {
-    fn radix(self) -> u32
+    fn radix(self) -> u64
         ensures { result ≡ base_number self }
     {
         match self {
@@ -59,44 +56,38 @@ fn hex_part(atom: &[u8]) -> Option<&[u8]>
 fn number_of(base: Base, digits: &[u8]) -> Option<u64>
     ensures { result ≡ number_of (base_number base) digits.now }
 {
-    match parsed(base, digits) {
-        None => None,
-        Some(n) => {
-            if is_spelled(base, n, digits) {
-                Some(n)
-            } else {
-                None
-            }
-        }
+    if digits.is_empty() || is_padded(digits) {
+        return None;
     }
+    value_of(base, digits)
 }
 
-/// What std reads of the digits, which takes more spellings than the one.
-fn parsed(base: Base, digits: &[u8]) -> Option<u64>
-    ensures small { IfSome result (λ n. n < 2 ^ 64) }
-    ensures found { (n : ℕ) → n < 2 ^ 64 → digits.now ≡ digits_of (base_number base) false n → result ≡ Some n }
+/// Whether a zero stands in front of another digit.
+fn is_padded(digits: &[u8]) -> bool
+    ensures { result ≡ is_padded digits.now }
 {
-    match str::from_utf8(digits) {
-        Ok(text) => match u64::from_str_radix(text, base.radix()) {
-            Ok(n) => Some(n),
-            Err(_) => None,
-        },
-        Err(_) => None,
-    }
+    digits.len() > 1 && digits[0] == b'0'
 }
 
-/// Whether the digits are the one spelling of the number.
-fn is_spelled(base: Base, n: u64, digits: &[u8]) -> bool
-    ensures { IsTrue result ↔ (digits_of (base_number base) false n ≡ digits.now) }
+/// The number that digits of that base write, also with zeros in front.
+fn value_of(base: Base, digits: &[u8]) -> Option<u64>
+    ensures { ReadsDigits (base_number base) digits.now result }
 {
-    match base {
-        Base::Decimal => {
-            let mut buffer = Buffer::new();
-            buffer.format(n).as_bytes() == digits
-        }
-        Base::Hexadecimal => {
-            let mut buffer = HexBuffer::new();
-            buffer.format(n) == digits
-        }
+    let mut value: u64 = 0;
+    'digits: for byte in digits {
+        let digit = digit_of(base, *byte)?;
+        value = value.checked_mul(base.radix())?.checked_add(digit)?;
+    }
+    Some(value)
+}
+
+/// The value of a digit of that base, of which letters are in lower case.
+fn digit_of(base: Base, byte: u8) -> Option<u64>
+    ensures { MatchOption result (is_digit_of (base_number base) byte ≡ false) (λ digit. (is_digit_of (base_number base) byte ≡ true) × (digit ≡ digit_value byte)) }
+{
+    match byte {
+        b'0'..=b'9' => Some(u64::from(byte - b'0')),
+        b'a'..=b'f' if matches!(base, Base::Hexadecimal) => Some(u64::from(byte - b'a') + 10),
+        _ => None,
     }
 }
