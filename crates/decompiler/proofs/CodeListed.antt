@@ -20,14 +20,14 @@ use Rattle.flow_graph.specs.Graph.{GraphOf}
 use Rattle.flow_graph.proofs.FlowLemmas.{is_flow}
 use Rattle.flow_graph.proofs.Standing.{graph_stands, through_return}
 use Rattle.flow_graph.proofs.Ways.{node_at}
-use Rattle.path_walk.specs.Flows.{AreCodeOf, IsReached, registers_of}
-use Rattle.path_walk.specs.Graph.{is_return as is_jump_through}
-use Rattle.path_walk.proofs.AnyOf.{slice-below}
-use Rattle.path_walk.proofs.CodeOf.{have_code}
-use Rattle.path_walk.proofs.Coded.{code_in}
-use Rattle.path_walk.proofs.FlowCode.{code-byte, registered, registers-rise}
-use Rattle.path_walk.proofs.FlowGraph.{any-at}
-use Rattle.path_walk.proofs.Lists.{in_range, in-contains, in-true}
+use Rattle.code_parts.specs.Flows.{AreCodeOf, IsReached, registers_of}
+use Rattle.code_parts.specs.Graph.{is_return as is_jump_through}
+use Rattle.code_parts.proofs.AnyOf.{slice-below}
+use Rattle.code_parts.proofs.CodeOf.{have_code}
+use Rattle.code_parts.proofs.Coded.{code_in}
+use Rattle.code_parts.proofs.FlowCode.{code-byte, registered, registers-rise}
+use Rattle.code_parts.proofs.FlowGraph.{any-at}
+use Rattle.code_parts.proofs.Lists.{in_range, in-contains, in-true}
 use Rattle.decompiler.specs.Listing.{IsCodeOf, IsUsed, UsesMemory}
 use Rattle.decompiler.proofs.Graphs.{node_of, reached_node, reaches_node}
 

@@ -13,22 +13,23 @@ use Rattle.exactness.specs.Exact.{Exact}
 use Rattle.exactness.proofs.Made.{flow-exact}
 use Rattle.flow_graph.specs.Graph.{GraphOf, IsGraphOf}
 use Rattle.loop_forest.specs.Forest.{ForestOf, IsForestOf, number_of}
-use Rattle.path_walk.specs.declared.part.Part.{Part}
+use Rattle.code_parts.specs.declared.part.Part.{Part}
 use Rattle.path_walk.specs.declared.item.Item.{Item}
-use Rattle.path_walk.specs.Bodies.{part_def}
-use Rattle.path_walk.specs.Flows.{AreCodeOf, HaveCode, flow_of, group_of}
-use Rattle.path_walk.specs.Flows as flows
-use Rattle.path_walk.specs.Graph.{AreClosedBy, IsMade}
+use Rattle.code_parts.specs.Bodies.{part_def}
+use Rattle.code_parts.specs.Flows.{AreCodeOf, HaveCode, flow_of, group_of}
+use Rattle.code_parts.specs.Flows as flows
+use Rattle.path_walk.specs.Closed.{AreClosedBy}
+use Rattle.code_parts.specs.Graph.{IsMade}
 use Rattle.path_walk.specs.Item.{IsItemOf}
-use Rattle.path_walk.specs.Order.{AreParts}
-use Rattle.path_walk.proofs.CodeOf.{have_code}
-use Rattle.path_walk.proofs.Coded.{code_in}
-use Rattle.path_walk.proofs.FlowEntry.{last-is, lists-entry}
-use Rattle.path_walk.proofs.FlowGraph.{is-graph}
-use Rattle.path_walk.proofs.FlowMade.{is-made}
-use Rattle.path_walk.proofs.FlowSize.{is-group}
-use Rattle.path_walk.proofs.Groups.{group-formed}
-use Rattle.path_walk.proofs.Lists.{length-map}
+use Rattle.code_parts.specs.Order.{AreParts}
+use Rattle.code_parts.proofs.CodeOf.{have_code}
+use Rattle.code_parts.proofs.Coded.{code_in}
+use Rattle.code_parts.proofs.FlowEntry.{last-is, lists-entry}
+use Rattle.code_parts.proofs.FlowGraph.{is-graph}
+use Rattle.code_parts.proofs.FlowMade.{is-made}
+use Rattle.path_walk.proofs.Texts.{is-group}
+use Rattle.code_parts.proofs.Groups.{group-formed}
+use Rattle.code_parts.proofs.Lists.{length-map}
 use Rattle.decompiler.specs.Names.{StandsFor}
 use Rattle.decompiler.specs.Listing.{IsItemFor, Lists}
 use Rattle.decompiler.proofs.CodeListed.{bytes_are, memory_is, ranges_small, registers_are}

@@ -9,16 +9,16 @@ use Rattle.flow_graph.proofs.NumberLemmas.{different_from_rising, number_at}
 use Rattle.flow_graph.proofs.Ways.{node_at, place_of}
 use Rattle.loop_forest.specs.Regions.{IsAround}
 use Rattle.loop_forest.specs.Forest.{ForestOf, IsForestOf, exits_of, head_of, number_of, place_of as cut_place, region_of}
-use Rattle.path_walk.specs.declared.part.Part.{Part}
-use Rattle.path_walk.specs.declared.part.Part.TheVariants.{Loop, Rest}
-use Rattle.path_walk.specs.Bodies.{Flow, part_def}
-use Rattle.path_walk.specs.Flows.{flow_of, place_in}
-use Rattle.path_walk.specs.Flows as flows
-use Rattle.path_walk.specs.Graph.{IsPart}
-use Rattle.path_walk.specs.Order.{AreParts}
-use Rattle.path_walk.proofs.FlowGraph.{exits-are, region-within}
-use Rattle.path_walk.proofs.FlowOrder.{part-at}
-use Rattle.path_walk.proofs.Lists.{contains-cases, here, later}
+use Rattle.code_parts.specs.declared.part.Part.{Part}
+use Rattle.code_parts.specs.declared.part.Part.TheVariants.{Loop, Rest}
+use Rattle.code_parts.specs.Bodies.{Flow, part_def}
+use Rattle.code_parts.specs.Flows.{flow_of, place_in}
+use Rattle.code_parts.specs.Flows as flows
+use Rattle.code_parts.specs.Graph.{IsPart}
+use Rattle.code_parts.specs.Order.{AreParts}
+use Rattle.code_parts.proofs.FlowGraph.{exits-are, region-within}
+use Rattle.code_parts.proofs.FlowOrder.{part-at}
+use Rattle.code_parts.proofs.Lists.{contains-cases, here, later}
 use Rattle.decompiler.specs.Listing.{AreTargets, CodePart, HasDefs, IsDefOf, IsPartOf, LoopOf, RestFrom, exits_to}
 use Rattle.decompiler.proofs.CodeListed.{returns_are}
 use Rattle.decompiler.proofs.Graphs.{cut_at, cut_node, cut_of, region_at}

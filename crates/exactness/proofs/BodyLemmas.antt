@@ -6,7 +6,7 @@ use Rattle.word_terms.specs.Environment.{Environment}
 use Rattle.tailrec_lang.specs.Tree.{StepTree, Need, BodyTree, ArmTrees, with_steps}
 use Rattle.tailrec_lang.specs.Eval.{Meaning, NeedFalse, body_ending, arm_ending, after_step, step_holds, step_needs, needs}
 use Rattle.instr_axioms.specs.Effects.{AreTrue}
-use Rattle.path_walk.specs.Bodies.{arms_over, index_of}
+use Rattle.code_parts.specs.Bodies.{arms_over, index_of}
 
 -- ---- steps
 

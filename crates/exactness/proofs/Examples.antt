@@ -27,10 +27,10 @@ use Rattle.tailrec_lang.specs.Eval.{Arguments, Done, Turns, eval}
 use Rattle.triple_kernel.specs.declared.form.Form.{Form}
 use Rattle.triple_kernel.specs.declared.form.Form.TheVariants.{Next, Taken}
 use Rattle.instr_axioms.specs.Axiom.{word_code}
-use Rattle.path_walk.specs.declared.part.Part.{Part}
-use Rattle.path_walk.specs.declared.part.Part.TheVariants.{Loop, Rest}
-use Rattle.path_walk.specs.Bodies.{Flow, part_def}
-use Rattle.path_walk.specs.Graph.{has_edge, IsEdge, IsPart, IsPlaced, IsGraph, StandsAt, IsCode}
+use Rattle.code_parts.specs.declared.part.Part.{Part}
+use Rattle.code_parts.specs.declared.part.Part.TheVariants.{Loop, Rest}
+use Rattle.code_parts.specs.Bodies.{Flow, part_def}
+use Rattle.code_parts.specs.Graph.{has_edge, IsEdge, IsPart, IsPlaced, IsGraph, StandsAt, IsCode}
 use Rattle.exactness.specs.Exact.{IsAtReturn, FirstReturns, Exact}
 use Rattle.exactness.specs.Parts.{HasParts, LeavesAs, Meets}
 use Rattle.exactness.proofs.Runs.{law-of-part, nothing-lost}
@@ -141,7 +141,7 @@ is_graph = record {
   loop_exit = loop_exit;
 }
   where
-    returned : (n : ℕ) → n < 4 → Rattle.path_walk.specs.Graph.is_return (summing.instr n) ≡ true → (inner n ≡ None) × (true ≡ true)
+    returned : (n : ℕ) → n < 4 → Rattle.code_parts.specs.Graph.is_return (summing.instr n) ≡ true → (inner n ≡ None) × (true ≡ true)
     returned zero lt h = absurd (no_cut h)
     returned (suc zero) lt h = absurd (no_cut h)
     returned (suc (suc zero)) lt h = absurd (no_cut h)

@@ -5,8 +5,8 @@ use Rattle.rv_decode.specs.declared.instruction.Instr.TheVariants as instr
 use Rattle.word_terms.specs.Tree.{WordTree}
 use Rattle.tailrec_lang.specs.Tree.{StepTree}
 use Rattle.triple_kernel.specs.declared.form.Form.{Form}
-use Rattle.path_walk.specs.Bodies.{Place, Return, action_of}
-use Rattle.path_walk.specs.Graph.{is_return}
+use Rattle.code_parts.specs.Bodies.{Place, Return, action_of}
+use Rattle.code_parts.specs.Graph.{is_return}
 
 -- a jump through a register alone returns
 pub return-row : (i : Instr) (a : ℕ) (to : Form → ℕ) (v : Place) (ss : List StepTree) (t : WordTree) → action_of i a to v ≡ Return ss t → is_return i ≡ true

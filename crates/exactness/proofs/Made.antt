@@ -10,16 +10,16 @@ use Rattle.sep_assert.specs.Code.{IsWithin}
 use Rattle.flow_graph.specs.Graph.{GraphOf, IsGraphOf}
 use Rattle.loop_forest.specs.Forest.{ForestOf, IsForestOf, number_of}
 use Rattle.tailrec_lang.specs.Tree.{DefTree, GroupTree}
-use Rattle.path_walk.specs.declared.part.Part.{Part}
-use Rattle.path_walk.specs.declared.part.Part.TheVariants.{Rest}
-use Rattle.path_walk.specs.Bodies.{Flow, part_def}
-use Rattle.path_walk.specs.Graph.{IsPart, IsMade}
-use Rattle.path_walk.specs.Flows.{HaveCode, flow_of, group_of}
-use Rattle.path_walk.specs.Order.{AreParts}
-use Rattle.path_walk.proofs.FlowEntry.{last-is, whole-is}
-use Rattle.path_walk.proofs.FlowGraph.{is-graph}
-use Rattle.path_walk.proofs.FlowMade.{is-made}
-use Rattle.path_walk.proofs.Lists.{slice-mapped}
+use Rattle.code_parts.specs.declared.part.Part.{Part}
+use Rattle.code_parts.specs.declared.part.Part.TheVariants.{Rest}
+use Rattle.code_parts.specs.Bodies.{Flow, part_def}
+use Rattle.code_parts.specs.Graph.{IsPart, IsMade}
+use Rattle.code_parts.specs.Flows.{HaveCode, flow_of, group_of}
+use Rattle.code_parts.specs.Order.{AreParts}
+use Rattle.code_parts.proofs.FlowEntry.{last-is, whole-is}
+use Rattle.code_parts.proofs.FlowGraph.{is-graph}
+use Rattle.code_parts.proofs.FlowMade.{is-made}
+use Rattle.code_parts.proofs.Lists.{slice-mapped}
 use Rattle.exactness.specs.Exact.{Exact}
 use Rattle.exactness.specs.Parts.{HasParts}
 use Rattle.exactness.proofs.Runs.{nothing-lost}

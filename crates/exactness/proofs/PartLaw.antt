@@ -6,15 +6,14 @@ use Rattle.word_terms.specs.Environment.{Environment, no_variables}
 use Rattle.word_terms.specs.Value.{word_value, cond_holds}
 use Rattle.tailrec_lang.specs.Tree.{ValuesTree, BodyTree, Call, Again, Leave, NoArm, Arm}
 use Rattle.tailrec_lang.specs.Eval.{Arguments, Meaning, Ending, Exited, and_then, body_ending, arm_ending, arguments_of, with_arguments, needs}
-use Rattle.proof_text.specs.Limits.{AreRegistersFrom}
-use Rattle.path_walk.specs.declared.part.Part.{Part}
-use Rattle.path_walk.specs.declared.part.Part.TheVariants.{Loop, Rest}
-use Rattle.path_walk.specs.Bodies.{Flow, Place, Action, Straight, Fork, Return, action, mem_count, fresh, start, current, with_pc, own, first, rest_targets, targets, rest_from, index_of, end_of, or_else, arms_over, last_at, rest_arms, end_at, action_body, body_at, rest_body, part_body}
+use Rattle.code_parts.specs.declared.part.Part.{Part}
+use Rattle.code_parts.specs.declared.part.Part.TheVariants.{Loop, Rest}
+use Rattle.code_parts.specs.Bodies.{Flow, Place, Action, Straight, Fork, Return, action, mem_count, fresh, start, current, with_pc, own, first, rest_targets, targets, rest_from, index_of, end_of, or_else, arms_over, last_at, rest_arms, end_at, action_body, body_at, rest_body, part_body}
 use Rattle.exactness.proofs.Returns.{Comes}
 use Rattle.exactness.proofs.Places.{Stands, stands-fresh, stands-start, returned-values}
 use Rattle.exactness.proofs.BodyLemmas.{after_steps, AllHold, needs_passed, ending-steps, arm-over, is-found, found-at, contains-at}
-use Rattle.path_walk.specs.Graph.{IsPart, IsPlaced, IsGraph}
-use Rattle.path_walk.proofs.PartLines.{Leads, end-some, leads-edge}
+use Rattle.code_parts.specs.Graph.{IsPart, IsPlaced, IsGraph, RiseFrom}
+use Rattle.code_parts.proofs.Edges.{Leads, end-some, leads-edge}
 use Rattle.exactness.proofs.Graphs.{return-row}
 
 -- results with the returned address in front
@@ -63,7 +62,7 @@ module _ (f : Flow) (State : Type 0) (pc : State → ℕ) (args : State → Argu
   abbrev pub Leaves : Part → ℕ → State → Ending → Type 0
   Leaves p k t o = LeavesIn p t o ⊎ LeavesAt p k t o
 
-module _ (f : Flow) (graph : IsGraph f) (rise : AreRegistersFrom 1 f.regs)
+module _ (f : Flow) (graph : IsGraph f) (rise : RiseFrom 1 f.regs)
     (State : Type 0) (pc : State → ℕ) (args : State → Arguments) (Returns : State → Type 0) (Good : State → Type 0) (Steps : State → State → Type 0)
     (long : (s : State) → (length (args s).words ≡ length f.regs) × (length (args s).mems ≡ mem_count f))
     (done : (n : ℕ) (v : Place) (e : Environment) (s u : State) → n < f.nodes → Good s → pc s ≡ f.addr n → Stands f v e (args s) → Steps s u

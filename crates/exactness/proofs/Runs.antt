@@ -13,11 +13,11 @@ use Rattle.tailrec_lang.specs.declared.group.Exit.TheVariants.{At, Ret}
 use Rattle.tailrec_lang.specs.Tree.{DefTree, GroupTree, exits_of, exits_at, listed_def}
 use Rattle.tailrec_lang.specs.Eval.{Arguments, Exited, Done, done_by, with_pc, ending, eval}
 use Rattle.tailrec_lang.proofs.Turns.{ending-enter}
-use Rattle.path_walk.specs.declared.part.Part.{Part}
-use Rattle.path_walk.specs.declared.part.Part.TheVariants.{Loop, Rest}
-use Rattle.path_walk.specs.Bodies.{Flow, Place, Action, Straight, Fork, Return, action, own, first, targets, part_def}
-use Rattle.path_walk.specs.Bodies as bodies
-use Rattle.path_walk.specs.Graph.{IsPart, IsGraph, IsCode}
+use Rattle.code_parts.specs.declared.part.Part.{Part}
+use Rattle.code_parts.specs.declared.part.Part.TheVariants.{Loop, Rest}
+use Rattle.code_parts.specs.Bodies.{Flow, Place, Action, Straight, Fork, Return, action, own, first, targets, part_def}
+use Rattle.code_parts.specs.Bodies as bodies
+use Rattle.code_parts.specs.Graph.{IsPart, IsGraph, IsCode}
 use Rattle.checker.specs.Headline.{Region, is_within, held_in, Ends}
 use Rattle.exactness.specs.Exact.{IsAtReturn, FirstReturns, Gives, Exact}
 use Rattle.exactness.specs.Parts.{HasParts, HoldsCode, LeavesAs, Meets, turns_at, turns_for, LawOfPart}

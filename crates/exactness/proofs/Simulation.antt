@@ -25,8 +25,8 @@ use Rattle.instr_axioms.specs.Axiom.{memory_if}
 use Rattle.instr_axioms.specs.Effects.{Fits, IsTouchedIn, IsAfter}
 use Rattle.instr_axioms.proofs.Effects.{cut, cut-within, memory-cut}
 use Rattle.instr_axioms.proofs.Valid.{StandsIn}
-use Rattle.path_walk.proofs.Lines.{store-writes_none}
-use Rattle.path_walk.specs.Bodies.{Flow, Place, names, is_store, stored, place_after, writes}
+use Rattle.code_parts.proofs.Counts.{store-writes_none}
+use Rattle.code_parts.specs.Bodies.{Flow, Place, names, is_store, stored, place_after, writes}
 use Rattle.word_terms.proofs.Variables.{new_word, new_mem}
 use Rattle.exactness.proofs.Places.{Stands}
 use Rattle.exactness.proofs.BodyLemmas.{AllHold, after_steps}

@@ -23,10 +23,10 @@ use Rattle.triple_kernel.specs.declared.form.Form.{Form}
 use Rattle.triple_kernel.specs.declared.form.Form.TheVariants.{Next, Taken}
 use Rattle.instr_axioms.specs.Terms.{Names, pc_after, has_form}
 use Rattle.instr_axioms.specs.Axiom.{word_code}
-use Rattle.path_walk.specs.declared.part.Part.{Part}
-use Rattle.path_walk.specs.declared.part.Part.TheVariants.{Loop, Rest}
-use Rattle.path_walk.specs.Bodies.{Flow, part_def}
-use Rattle.path_walk.specs.Graph.{has_edge, IsEdge, IsPart, IsPlaced, IsGraph, StandsAt, IsCode}
+use Rattle.code_parts.specs.declared.part.Part.{Part}
+use Rattle.code_parts.specs.declared.part.Part.TheVariants.{Loop, Rest}
+use Rattle.code_parts.specs.Bodies.{Flow, part_def}
+use Rattle.code_parts.specs.Graph.{has_edge, IsEdge, IsPart, IsPlaced, IsGraph, StandsAt, IsCode}
 use Rattle.checker.specs.Headline.{Region, is_within}
 use Rattle.exactness.specs.Exact.{IsAtReturn, FirstReturns, Exact}
 use Rattle.exactness.specs.Parts.{HasParts}

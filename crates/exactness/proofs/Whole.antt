@@ -25,15 +25,15 @@ use Rattle.instr_axioms.specs.Effects.{AreTrue, IsAfter}
 use Rattle.instr_axioms.proofs.Effects.{act-terms, cut}
 use Rattle.instr_axioms.proofs.Memories.{has-word}
 use Rattle.instr_axioms.proofs.Valid.{StandsIn}
-use Rattle.path_walk.specs.Bodies.{mem_count, Flow, Place, Action, Straight, names, place_after, needs, writes, action_of, action}
+use Rattle.code_parts.specs.Bodies.{mem_count, Flow, Place, Action, Straight, names, place_after, needs, writes, action_of, action}
 use Rattle.checker.specs.Headline.{Region, is_within, entry_at, held_in, Starts, Ends}
 use Rattle.checker.specs.Headline as headline
 use Rattle.exactness.specs.Exact.{IsAtReturn}
 use Rattle.exactness.proofs.Returns.{Steps, IsKept, kept-step}
 use Rattle.exactness.proofs.Places.{Stands}
 use Rattle.exactness.proofs.BodyLemmas.{needs-hold, needs-after}
-use Rattle.path_walk.proofs.Lists.{length-map}
-use Rattle.path_walk.specs.Graph.{has_edge, is_return, StandsAt, IsCode}
+use Rattle.code_parts.proofs.Lists.{length-map}
+use Rattle.code_parts.specs.Graph.{has_edge, is_return, StandsAt, IsCode}
 use Rattle.exactness.proofs.PartLaw.{IsDone}
 use Rattle.exactness.proofs.Simulation.{held, one_if, fits, touched-in, written, only-next, regs_same}
 

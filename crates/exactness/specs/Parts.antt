@@ -8,10 +8,10 @@ use Rattle.tailrec_lang.specs.declared.group.Exit.{Exit}
 use Rattle.tailrec_lang.specs.declared.group.Exit.TheVariants.{At, Ret}
 use Rattle.tailrec_lang.specs.Tree.{GroupTree, exits_at}
 use Rattle.tailrec_lang.specs.Eval.{Done, eval}
-use Rattle.path_walk.specs.declared.part.Part.{Part}
-use Rattle.path_walk.specs.declared.part.Part.TheVariants.{Loop, Rest}
-use Rattle.path_walk.specs.Bodies.{Flow, mem_count, first, part_def}
-use Rattle.path_walk.specs.Graph.{IsPart}
+use Rattle.code_parts.specs.declared.part.Part.{Part}
+use Rattle.code_parts.specs.declared.part.Part.TheVariants.{Loop, Rest}
+use Rattle.code_parts.specs.Bodies.{Flow, mem_count, first, part_def}
+use Rattle.code_parts.specs.Graph.{IsPart}
 use Rattle.checker.specs.Headline.{Region, is_within, held_in, Ends}
 use Rattle.exactness.specs.Exact.{FirstReturns}
 

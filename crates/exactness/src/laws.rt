@@ -10,11 +10,11 @@ ghost use Rattle.sep_assert.specs.Code.{IsWithin};
 ghost use Rattle.tailrec_lang.specs.Tree.{GroupTree};
 ghost use Rattle.flow_graph.specs.Graph.{GraphOf, IsGraphOf};
 ghost use Rattle.loop_forest.specs.Forest.{ForestOf, IsForestOf, number_of};
-ghost use Rattle.path_walk.specs.declared.part.Part.{Part as ThePart};
-ghost use Rattle.path_walk.specs.Bodies.{Flow};
-ghost use Rattle.path_walk.specs.Graph.{IsCode, IsGraph, IsPart};
-ghost use Rattle.path_walk.specs.Flows.{HaveCode, flow_of, group_of};
-ghost use Rattle.path_walk.specs.Order.{AreParts};
+ghost use Rattle.code_parts.specs.declared.part.Part.{Part as ThePart};
+ghost use Rattle.code_parts.specs.Bodies.{Flow};
+ghost use Rattle.code_parts.specs.Graph.{IsCode, IsGraph, IsPart};
+ghost use Rattle.code_parts.specs.Flows.{HaveCode, flow_of, group_of};
+ghost use Rattle.code_parts.specs.Order.{AreParts};
 ghost use Rattle.exactness.specs.Exact.{Exact};
 ghost use Rattle.exactness.specs.Parts.{HasParts, LawOfPart};
 

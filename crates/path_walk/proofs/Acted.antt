@@ -13,14 +13,14 @@ use Rattle.proof_text.specs.Line.{Axiom, Frame, Inst, Weaken}
 use Rattle.checker.specs.Instance.{Meets, put_for}
 use Rattle.instr_axioms.specs.Terms.{conditions, has_form, has_memory, pc_after}
 use Rattle.instr_axioms.specs.Axiom.{own, own_triple, triple_over, word_code}
-use Rattle.path_walk.specs.Bodies.{Flow, Place, names, place_after}
-use Rattle.path_walk.specs.Graph.{StandsAt}
+use Rattle.code_parts.specs.Bodies.{Flow, Place, names, place_after}
+use Rattle.code_parts.specs.Graph.{StandsAt}
 use Rattle.path_walk.specs.inner.Acts.{GoesOn, act_standing, acted, named_triple, new_facts, own_mems, own_words}
 use Rattle.path_walk.specs.inner.Logs.{FromAs, Grown, IsReady, LogTree, Setting, StandingTree, Steps, Stood, group_in, past, stating}
 use Rattle.path_walk.proofs.Grown.{from_on, grown_join, grown_state, held_now, ready_state}
 use Rattle.path_walk.proofs.Joins.{some_and}
 use Rattle.path_walk.proofs.Lines.{axiom-is, is_framed, is_put, is_weakened, own-rise, own-test}
-use Rattle.path_walk.proofs.Lists.{in_range, in-contains}
+use Rattle.code_parts.proofs.Lists.{in_range, in-contains}
 use Rattle.path_walk.proofs.Stood.{goes_on}
 
 module _ (f : Flow) (ranges : List Range) (s : Setting f ranges) (n w : ℕ) (at : StandsAt f ranges w n) where

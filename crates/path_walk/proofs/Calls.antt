@@ -1,8 +1,7 @@
--- The lines of a call, for one of its exits: use, inst, compose.
-use Rattle.std.proofs.Common.{◌≡◌, ℕ, suc, ◌+◌, List, [], ◌∷◌, ◌++◌, map, length, drop, zip, true, false, cond, refl, sym, ap, ◌∙◌, arith, Some, ◌⊎◌, Contains}
-use Rattle.std.specs.Prelude.{slice_get, slice_index_or}
+-- The triple of a call's exit over the current variables, and what its variables become.
+use Rattle.std.proofs.Common.{◌≡◌, ℕ, suc, ◌+◌, List, [], ◌∷◌, ◌++◌, map, length, drop, zip, true, false, cond, refl, sym, ap, ◌∙◌, arith, Some}
+use Rattle.std.specs.Prelude.{slice_index_or}
 use Rattle.std.specs.List.{range_with_len}
-use Rattle.std.proofs.lemmas.List.Elements.{Contains-append_left, Contains-append_right}
 use Rattle.std.proofs.lemmas.List.FromFn.{length-range_with_len}
 use Rattle.word_terms.specs.Tree.{WordTree, MemTree, Const, Var, MemVar}
 use Rattle.rv_words.specs.declared.range.Range.{Range}
@@ -11,20 +10,19 @@ use Rattle.tailrec_lang.specs.declared.group.Exit.{Exit}
 use Rattle.tailrec_lang.specs.declared.group.Exit.TheVariants.{At, Ret}
 use Rattle.tailrec_lang.specs.Tree.{ValuesTree, DefTree, GroupTree}
 use Rattle.tailrec_lang.specs.WellFormed.{exit_words}
-use Rattle.triple_kernel.specs.Tree.{FactTree, Gives, TripleTree}
+use Rattle.triple_kernel.specs.Tree.{Gives, TripleTree}
 use Rattle.triple_kernel.specs.Rules.{IsInst, put_in_values, put_in_register, put_in_assertion}
-use Rattle.proof_text.specs.Limits.{AreRegistersFrom}
+use Rattle.code_parts.specs.Graph.{RiseFrom}
 use Rattle.loop_rule.specs.Leaves.{variables_after, parameters, with_values, at_exit}
 use Rattle.loop_rule.specs.Rule.{results, exit_triple}
-use Rattle.proof_text.specs.Line.{UseExit, Inst}
-use Rattle.checker.specs.Instance.{History, with_theorem, put_for, Meets}
+use Rattle.checker.specs.Instance.{put_for}
 use Rattle.instr_axioms.specs.Axiom.{memory_if}
-use Rattle.path_walk.specs.Bodies.{Flow, Place, mem_count, current}
-use Rattle.path_walk.specs.inner.Histories.{exit_place, group_over, pc_of}
-use Rattle.path_walk.proofs.Lists.{numbered, listed-left, listed-right, put-words, put-mems, length-map, current-fresh}
-use Rattle.path_walk.proofs.Made.{made_one, made_join, held_last}
-use Rattle.path_walk.proofs.Fits.{Stands, From, from-counted, Makes}
-use Rattle.path_walk.proofs.Joins.{some_and, goes_on}
+use Rattle.code_parts.specs.Bodies.{Flow, Place, mem_count, current}
+use Rattle.path_walk.specs.inner.Histories.{exit_place, pc_of}
+use Rattle.code_parts.specs.Flows.{group_over}
+use Rattle.path_walk.specs.inner.Acts.{numbered}
+use Rattle.path_walk.proofs.Lists.{listed-left, listed-right, put-words, put-mems, current-fresh}
+use Rattle.code_parts.proofs.Lists.{length-map}
 
 -- ---- terms put in
 
@@ -63,7 +61,7 @@ length-mem_variables from n = length-map MemVar (range_with_len from n) ∙ leng
 
 -- ---- results
 
-pub exit-fresh : (f : Flow) (name : List ℕ) (ranges : List Range) (defs : List DefTree) (x : Exit) (words mems : ℕ) → AreRegistersFrom 1 f.regs →
+pub exit-fresh : (f : Flow) (name : List ℕ) (ranges : List Range) (defs : List DefTree) (x : Exit) (words mems : ℕ) → RiseFrom 1 f.regs →
     at_exit (group_over f name ranges defs) (Some x) (variables_after words mems (exit_words (group_over f name ranges defs) x) (mem_count f))
     ≡ with_values (group_over f name ranges defs) (pc_of x words) (current f (exit_place f x words mems))
 exit-fresh f name ranges defs (At a) words mems rise = ap (with_values (group_over f name ranges defs) (Const a)) (current-fresh f words mems rise)
@@ -74,8 +72,7 @@ exit-fresh f name ranges defs Ret words mems rise =
     ∙ (λ i. with_values (group_over f name ranges defs) (Var words) (variables_after (next i) mems (length f.regs) (mem_count f)))
     ∙ ap (with_values (group_over f name ranges defs) (Var words)) (current-fresh f (suc words) mems rise)
 
-module _ (f : Flow) (name : List ℕ) (ranges : List Range) (defs : List DefTree) (def : DefTree)
-    (decides : (known : List FactTree) (x : FactTree) → Contains known x ⊎ (Contains known x → ⊥)) (rise : AreRegistersFrom 1 f.regs) where
+module _ (f : Flow) (name : List ℕ) (ranges : List Range) (defs : List DefTree) (def : DefTree) (rise : RiseFrom 1 f.regs) where
   abbrev g : GroupTree
   g = group_over f name ranges defs
 
@@ -135,24 +132,3 @@ module _ (f : Flow) (name : List ℕ) (ranges : List Range) (defs : List DefTree
       code = refl;
       post = put-exit sub g x (results g x) ∙ (λ i. at_exit g (Some x) (put-results i));
     }
-
-  -- the lines of a call leave the theorem of the arm's beginning
-  pub calls : (d k : ℕ) (callee : DefTree) (x : Exit) → slice_get defs d ≡ Some callee → slice_get callee.exits k ≡ Some x →
-      (h : History) → h.closed d ≡ true → (v : Place) (path : List FactTree) → From f name ranges defs def h (Const callee.entry) v path →
-      Makes f name ranges defs def h (λ m. Stands f name ranges defs def m (pc_of x v.words) (exit_place f x v.words v.mems)
-      (path ++ Gives d k (current f v) (variables_after v.words v.mems (exit_words g x) (mem_count f)) ∷ []))
-  calls d k callee x is at h closed v path from =
-      let counted = from-counted f name ranges defs def h (Const callee.entry) v path from in
-      let t0 : TripleTree = exit_triple g d callee k x in
-      let t1 : TripleTree = used v x d callee k in
-      let h1 : History = with_theorem t0 h in
-      let h2 : History = with_theorem t1 h1 in
-      let meets0 : Meets g h (UseExit d k) t0 = (closed, record { def = callee; is = is; x = x; at = at; same = refl }) in
-      let one = made_one g h (UseExit d k) t0 counted meets0 in
-      let meets1 : Meets g h1 (Inst h.next (call_words v x) (call_mems v x)) t1 =
-      some_and (h1.theorem h.next) t0 (λ p. IsInst (put_for (call_words v x) (call_mems v x)) p t1) (held_last t0 h) (used-inst v x d callee k) in
-      let two = made_one g h1 (Inst h.next (call_words v x) (call_mems v x)) t1 one.counted meets1 in
-      goes_on f name ranges defs def decides rise h h2 (Const callee.entry) v path from (made_join g h h1 h2 one two) h1.next t1 (held_last t1 h1) refl
-      (pc_of x v.words) (exit_place f x v.words v.mems) (path ++ Gives d k (current f v) (variables_after v.words v.mems (exit_words g x) (mem_count f)) ∷ [])
-      (exit-fresh f name ranges defs x v.words v.mems rise) (λ a b e. e)
-      (record { each = λ y c. Contains-append_right path t1.facts y c }) (record { each = λ y c. Contains-append_left path t1.facts y c })

@@ -16,16 +16,17 @@ use Rattle.loop_rule.specs.Tree.{LeafTree}
 use Rattle.loop_rule.specs.Leaves.{body_leaves, leaves_of}
 use Rattle.loop_rule.specs.Rule.{IsClosedBy, IsLedTo, LeadsTo}
 use Rattle.checker.specs.Instance.{AreInstances, History, after_line, after_lines, no_lines, with_closed}
-use Rattle.path_walk.specs.declared.part.Part.{Part}
-use Rattle.path_walk.specs.declared.part.Part.TheVariants as part
-use Rattle.path_walk.specs.Bodies.{Flow, Place, arms_over, body_at, current, end_at, exits_of, first, fresh, mem_count, part_body, part_def, rest_body, start}
-use Rattle.path_walk.specs.Graph.{AreClosed, HasPart, IsCode, IsFor, IsPart}
+use Rattle.code_parts.specs.declared.part.Part.{Part}
+use Rattle.code_parts.specs.declared.part.Part.TheVariants as part
+use Rattle.code_parts.specs.Bodies.{Flow, Place, arms_over, body_at, current, end_at, exits_of, first, fresh, mem_count, part_body, part_def, rest_body, start}
+use Rattle.path_walk.specs.Closed.{AreClosed}
+use Rattle.code_parts.specs.Graph.{HasPart, IsCode, IsFor, IsPart}
 use Rattle.path_walk.specs.Item.{AreClosing, IsWalked}
 use Rattle.path_walk.specs.inner.Acts.{results_at}
-use Rattle.path_walk.specs.inner.Histories.{group_over}
+use Rattle.code_parts.specs.Flows.{group_over}
 use Rattle.path_walk.specs.inner.Lines.{ArmsLead, stated}
 use Rattle.path_walk.specs.inner.Logs.{IsFineLog, Leads, LogTree, Setting, StandingTree, StepsBy, group_in, past}
-use Rattle.path_walk.proofs.Built.{part_head, part_loop, part_node}
+use Rattle.code_parts.proofs.Built.{part_head, part_loop, part_node}
 use Rattle.path_walk.proofs.Led.{arms_more, arms_none, call_leads}
 use Rattle.path_walk.proofs.Made.{fold-join, joined, lines-counted, none-counted}
 

@@ -10,20 +10,19 @@ use Rattle.tailrec_lang.specs.Tree.{DefTree, GroupTree, ValuesTree}
 use Rattle.tailrec_lang.specs.WellFormed.{exit_words}
 use Rattle.triple_kernel.specs.Tree.{FactTree, Gives, TripleTree}
 use Rattle.triple_kernel.specs.Rules.{IsInst}
-use Rattle.proof_text.specs.Limits.{AreRegistersFrom}
 use Rattle.loop_rule.specs.Leaves.{at_exit, parameters, variables_after, with_values}
 use Rattle.loop_rule.specs.Rule.{exit_triple, results}
 use Rattle.proof_text.specs.Line.{Inst, UseExit}
 use Rattle.checker.specs.Instance.{Meets, put_for}
-use Rattle.path_walk.specs.declared.part.Part.{Part}
-use Rattle.path_walk.specs.Bodies.{Flow, Place, current, exits_of, first, fresh, mem_count, start, with_pc}
-use Rattle.path_walk.specs.Graph.{HasPart, IsPart}
-use Rattle.path_walk.specs.inner.Histories.{exit_place, group_over, pc_of}
+use Rattle.code_parts.specs.declared.part.Part.{Part}
+use Rattle.code_parts.specs.Bodies.{Flow, Place, current, exits_of, first, mem_count, start, with_pc}
+use Rattle.code_parts.specs.Graph.{HasPart, IsPart, RiseFrom}
+use Rattle.path_walk.specs.inner.Histories.{exit_place, pc_of}
+use Rattle.code_parts.specs.Flows.{group_over}
 use Rattle.path_walk.specs.inner.Acts.{GoesOn, call_mems, call_words, exit_standing, exited, gives_over, numbered, results_at}
 use Rattle.path_walk.specs.inner.Logs.{FromAs, Grown, IsReady, LogTree, Setting, StandingTree, StepsBy, Stood, group_in, past, standing_at, stating}
 use Rattle.path_walk.proofs.Calls as calls
 use Rattle.path_walk.proofs.Calls.{exit-fresh}
-use Rattle.path_walk.proofs.Decides.{decides}
 use Rattle.path_walk.proofs.Grown.{from_on, grown_join, grown_state, held_now, ready_state}
 use Rattle.path_walk.proofs.Joins.{some_and}
 use Rattle.path_walk.proofs.Lists.{current-fresh, zip-map}
@@ -34,7 +33,7 @@ pub standing_is : (f : Flow) (name : List ℕ) (ranges : List Range) (defs : Lis
 standing_is f name ranges defs pc v = let regs = zip-map (λ r. Var (v.reg r)) f.regs in λ i. record { pc = pc; regs = regs i; mems = (current f v).mems }
 
 -- the next variables for an exit's results
-pub results_are : (f : Flow) (g : GroupTree) (x : Exit) (words mems : ℕ) → g.regs ≡ f.regs → AreRegistersFrom 1 f.regs → variables_after words mems (exit_words g x) (mem_count f) ≡ results_at f x words mems
+pub results_are : (f : Flow) (g : GroupTree) (x : Exit) (words mems : ℕ) → g.regs ≡ f.regs → RiseFrom 1 f.regs → variables_after words mems (exit_words g x) (mem_count f) ≡ results_at f x words mems
 results_are f g (At a) words mems regs rise = (λ i. variables_after words mems (length (regs i)) (mem_count f)) ∙ current-fresh f words mems rise
 results_are f g Ret words mems regs rise =
     let next : words + 1 ≡ suc words = omega arith in
@@ -46,7 +45,7 @@ module _ (f : Flow) (ranges : List Range) (s : Setting f ranges) where
   abbrev g : GroupTree
   g = group_over f s.name ranges s.defs
 
-  rise : AreRegistersFrom 1 f.regs
+  rise : RiseFrom 1 f.regs
   rise = s.code.registers
 
   module _ (d k : ℕ) (callee : DefTree) (x : Exit) where
@@ -65,7 +64,7 @@ module _ (f : Flow) (ranges : List Range) (s : Setting f ranges) where
         λ i. record { facts = Gives d k (params i) (res i) ∷ []; pre = pre i; code = ranges; post = post i }
 
     -- .. and over the current variables the one after it
-    used-is : (v : Place) → calls.used f s.name ranges s.defs callee decides rise v x d callee k ≡ gives_over f ranges callee.entry d k x v
+    used-is : (v : Place) → calls.used f s.name ranges s.defs callee rise v x d callee k ≡ gives_over f ranges callee.entry d k x v
     used-is v =
         let res : variables_after v.words v.mems (exit_words g x) (mem_count f) ≡ results_at f x v.words v.mems = results_are f g x v.words v.mems refl rise in
         let pre = standing_is f s.name ranges s.defs (Const callee.entry) v in
@@ -78,7 +77,7 @@ module _ (f : Flow) (ranges : List Range) (s : Setting f ranges) where
         subst (λ (t : TripleTree). IsInst (put_for (call_words f x v) (call_mems f x v)) t (gives_over f ranges callee.entry d k x v)) first-is
         (subst (λ (t : TripleTree). IsInst (put_for (call_words f x v) (call_mems f x v)) (exit_triple g d callee k x) t) (used-is v)
         (subst (λ (r : ValuesTree). IsInst (put_for (numbered 0 ((current f v).words ++ r.words)) (numbered 0 ((current f v).mems ++ r.mems))) (exit_triple g d callee k x)
-        (calls.used f s.name ranges s.defs callee decides rise v x d callee k)) res (calls.used-inst f s.name ranges s.defs callee decides rise v x d callee k)))
+        (calls.used f s.name ranges s.defs callee rise v x d callee k)) res (calls.used-inst f s.name ranges s.defs callee rise v x d callee k)))
 
     module _ (is : slice_get s.defs d ≡ Some callee) (at : slice_get callee.exits k ≡ Some x) (v : Place) (l : LogTree) (ready : IsReady f ranges s l) (closed : (past f ranges s l).closed d ≡ true) where
       abbrev t0 : TripleTree

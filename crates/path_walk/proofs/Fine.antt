@@ -25,15 +25,17 @@ use Rattle.instr_axioms.specs.Terms.{conditions, has_memory, memory_after, pc_af
 use Rattle.instr_axioms.specs.Axiom.{memory_if, own, own_triple, register_with, triple_over, variables_for, word_code}
 use Rattle.proof_text.specs.Limits.{AreRegistersFrom, IsExit, IsValues}
 use Rattle.proof_text.specs.LineLimits.{AreRisingFrom, IsAssertion, IsFact, IsRule, IsTriple}
-use Rattle.path_walk.specs.Bodies.{Flow, Place, current, fresh, is_store, mem_count, names, place_after, start, with_pc}
-use Rattle.path_walk.specs.Graph.{StandsAt}
+use Rattle.code_parts.specs.Bodies.{Flow, Place, current, fresh, is_store, mem_count, names, place_after, start, with_pc}
+use Rattle.code_parts.specs.Graph.{StandsAt, RiseFrom}
 use Rattle.path_walk.specs.inner.Acts.{IsFineAct, IsFineExit, gives_over, named_triple, new_facts, numbered, results_at}
 use Rattle.path_walk.specs.inner.Histories.{exit_place, pc_of}
 use Rattle.path_walk.specs.inner.Logs.{IsFineStanding, StandingTree, standing_at}
 use Rattle.path_walk.proofs.Joins.{or-within, some-same}
 use Rattle.path_walk.proofs.Lines.{own-rise}
-use Rattle.path_walk.proofs.Lists.{length-map, rising-short}
-use Rattle.path_walk.proofs.Printed.{IsLow, conditions-small, memory-small, memory_after-small, mems-most, place-low, position-most, result-small, sum-small, values-printed}
+use Rattle.code_parts.proofs.Lists.{length-map, rising-short}
+use Rattle.path_walk.proofs.Texts.{as_registers}
+use Rattle.path_walk.proofs.Printed.{IsLow, conditions-small, memory-small, memory_after-small, mems-most, place-low, result-small, sum-small, values-printed}
+use Rattle.code_parts.proofs.Places.{position-most}
 
 -- ---- lists
 
@@ -70,11 +72,11 @@ mems-few false m = omega arith
 
 -- ---- assertions
 
-assertion-fine : (pc : WordTree) (w : ℕ → WordTree) (rs : List ℕ) (b : Bool) (m : MemTree) → IsWord pc → AreRegistersFrom 1 rs → ((r : ℕ) → IsWord (w r)) → IsMem m →
+assertion-fine : (pc : WordTree) (w : ℕ → WordTree) (rs : List ℕ) (b : Bool) (m : MemTree) → IsWord pc → RiseFrom 1 rs → ((r : ℕ) → IsWord (w r)) → IsMem m →
     IsAssertion (record { pc = pc; regs = map (register_with w) rs; mems = memory_if b m })
 assertion-fine pc w rs b m pc_fine rise words mem = record {
   pc = pc_fine;
-  registers = subst (AreRegistersFrom 1) (sym (numbers-are w rs)) rise;
+  registers = subst (AreRegistersFrom 1) (sym (numbers-are w rs)) (as_registers 1 rs rise);
   words = map-fine (λ (r : ℕ × WordTree). IsWord r.1) (register_with w) rs words;
   mems = mems-fine b m mem;
 }
@@ -141,7 +143,7 @@ module _ (v : Place) (n : ℕ) (low : IsLow v n) (few : n < 2 ^ 16) where
   pub facts-fine : (i : Instr) (form : Form) (a : ℕ) → AllByRecursion IsFact (map So (conditions i form (names v)) ++ new_facts i a v)
   facts-fine i form a = all-join IsFact (map So (conditions i form (names v))) (new_facts i a v) (so-fine i form) (news-fine i a)
 
-  pub standing-fine : (f : Flow) (pc : WordTree) → AreRegistersFrom 1 f.regs → IsWord pc → IsAssertion (standing_at f pc v)
+  pub standing-fine : (f : Flow) (pc : WordTree) → RiseFrom 1 f.regs → IsWord pc → IsAssertion (standing_at f pc v)
   standing-fine f pc rise fine = assertion-fine pc (λ r. Var (v.reg r)) f.regs f.has_mem (MemVar v.memory) fine rise named-fine memory-fine
 
 -- ---- code
@@ -169,7 +171,7 @@ code-ranges a w low even =
 -- ---- one instruction
 
 module _ (i : Instr) (form : Form) (a w : ℕ) (low_address : a < 2 ^ 64) (even : is_aligned a ≡ true) where
-  over-fine : (regs : List ℕ) (mem : Bool) (v : Place) (n : ℕ) → AreRegistersFrom 1 regs → IsLow v n → n < 2 ^ 16 → IsTriple (triple_over i form a (word_code a w) regs mem (names v))
+  over-fine : (regs : List ℕ) (mem : Bool) (v : Place) (n : ℕ) → RiseFrom 1 regs → IsLow v n → n < 2 ^ 16 → IsTriple (triple_over i form a (word_code a w) regs mem (names v))
   over-fine regs mem v n rise low few = record {
     facts = so-fine v n low few i form;
     pre = assertion-fine (Const a) (λ r. Var (v.reg r)) regs mem (MemVar v.memory) (const-fine a low_address) rise (named-fine v n low few) (memory-fine v n low few);
@@ -203,7 +205,7 @@ module _ (i : Instr) (form : Form) (a w : ℕ) (low_address : a < 2 ^ 64) (even 
     mems = omega arith;
   }) (omega arith)
 
-  module _ (f : Flow) (rise : AreRegistersFrom 1 f.regs) (v : Place) (n : ℕ) (low : IsLow v n) (few : n ≤ 2 ^ 15) where
+  module _ (f : Flow) (rise : RiseFrom 1 f.regs) (v : Place) (n : ℕ) (low : IsLow v n) (few : n ≤ 2 ^ 15) where
     named-triple-fine : IsTriple (named_triple i form a (word_code a w) f.regs f.has_mem v)
     named-triple-fine =
         let next = place-low v n low (omega (arith, few)) i in
@@ -237,7 +239,7 @@ module _ (i : Instr) (form : Form) (a w : ℕ) (low_address : a < 2 ^ 64) (even 
 
 -- ---- one exit of a call
 
-module _ (f : Flow) (rise : AreRegistersFrom 1 f.regs) where
+module _ (f : Flow) (rise : RiseFrom 1 f.regs) where
   regs-few : length f.regs ≤ 31
   regs-few = let short = rising-short 1 f.regs (omega arith) rise in omega (arith, short)
 
@@ -333,7 +335,7 @@ module _ (f : Flow) (rise : AreRegistersFrom 1 f.regs) where
 
 -- ---- one theorem after another
 
-module _ (f : Flow) (rise : AreRegistersFrom 1 f.regs) (entry : ℕ) (low_entry : entry < 2 ^ 64) (st there : StandingTree) (first : IsFineStanding st) (second : IsFineStanding there) (more : List FactTree)
+module _ (f : Flow) (rise : RiseFrom 1 f.regs) (entry : ℕ) (low_entry : entry < 2 ^ 64) (st there : StandingTree) (first : IsFineStanding st) (second : IsFineStanding there) (more : List FactTree)
     (are : AreMissing st.facts there.facts more) (ranges : List Range) (order : AreRanges ranges) (bytes : HaveBytes ranges) where
   both-fine : AllByRecursion IsFact (st.facts ++ more)
   both-fine = all-join IsFact st.facts more first.facts (missing-fine IsFact st.facts there.facts more are second.facts)

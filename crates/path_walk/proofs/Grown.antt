@@ -5,7 +5,7 @@ use Rattle.word_terms.specs.Tree.{WordTree}
 use Rattle.triple_kernel.specs.Tree.{FactTree, TripleTree}
 use Rattle.proof_text.specs.Line.{LineTree, RuleTree, States}
 use Rattle.checker.specs.Instance.{AreInstances, History, Meets, after_line, after_lines, with_theorem}
-use Rattle.path_walk.specs.Bodies.{Flow, Place}
+use Rattle.code_parts.specs.Bodies.{Flow, Place}
 use Rattle.path_walk.specs.inner.Histories.{IsCounted, Keeps}
 use Rattle.path_walk.specs.inner.Logs.{FromAs, Grown, IsReady, LogTree, Setting, StandingTree, StandsAs, group_in, past, stating}
 use Rattle.path_walk.proofs.Made.{Made, fold-join, held_last, joined, made_one}

@@ -17,27 +17,31 @@ use Rattle.triple_kernel.specs.Tree.{FactTree, So, Gives, TripleTree}
 use Rattle.triple_kernel.specs.Rules.{AreAmong}
 use Rattle.triple_kernel.specs.declared.form.Form.{Form}
 use Rattle.triple_kernel.specs.declared.form.Form.TheVariants.{Next, Taken}
-use Rattle.proof_text.specs.Limits.{AreRegistersFrom}
 use Rattle.instr_axioms.specs.Terms.{conditions, pc_after, word_in}
 use Rattle.loop_rule.specs.Tree.{LeafTree}
 use Rattle.loop_rule.specs.Leaves.{arm_leaves, at_exit, body_leaves, parameters, variables_after, with_values}
 use Rattle.loop_rule.specs.Rule.{LeadsTo}
 use Rattle.checker.specs.Instance.{History}
-use Rattle.path_walk.specs.declared.part.Part.{Part}
-use Rattle.path_walk.specs.declared.part.Part.TheVariants.{Loop, Rest}
-use Rattle.path_walk.specs.Bodies.{Flow, Place, arms_over, body_at, current, end_at, end_of, exits_of, first, fresh, index_of, last_at, mem_count, names, needs, or_else, own, part_def, place_after, rest_arms, rest_from, rest_targets, returned, start, targets, with_pc, writes}
-use Rattle.path_walk.specs.Graph.{AreClosed, ArmsClosed, IsPart, IsPlaced, has_edge, is_return}
+use Rattle.code_parts.specs.declared.part.Part.{Part}
+use Rattle.code_parts.specs.declared.part.Part.TheVariants.{Loop, Rest}
+use Rattle.code_parts.specs.Bodies.{Flow, Place, arms_over, body_at, current, end_at, end_of, exits_of, first, fresh, index_of, last_at, mem_count, names, needs, or_else, own, part_def, place_after, rest_arms, rest_from, rest_targets, returned, start, targets, with_pc, writes}
+use Rattle.path_walk.specs.Closed.{AreClosed, ArmsClosed}
+use Rattle.code_parts.specs.Graph.{IsPart, IsPlaced, has_edge, is_return, RiseFrom}
 use Rattle.path_walk.specs.inner.Acts.{new_facts, results_at}
-use Rattle.path_walk.specs.inner.Ends.{IsEnd, IsNear, IsNext, body_on, ends_at, returned_body, returning}
+use Rattle.path_walk.specs.inner.Near.{IsEnd, IsNear, IsNext}
+use Rattle.code_parts.specs.inner.Ends.{body_on, returned_body, returning}
+use Rattle.code_parts.specs.Regions.{ends_at}
 use Rattle.path_walk.specs.inner.Lines.{ArmsLead}
 use Rattle.path_walk.specs.inner.Logs.{FromAs, Grown, IsReady, Leads, Led, LogTree, Setting, StandingTree, StandsAs, Steps, StepsBy, Stood, citing, group_in, past, standing_at}
-use Rattle.path_walk.proofs.Acts.{all-facts, all-mems, all-words, need-facts}
-use Rattle.path_walk.proofs.Built.{IsNoBranch, goes_back, goes_straight, goes_two_ways, straight_edge}
+use Rattle.path_walk.proofs.Facts.{all-facts, need-facts, facts_after, leaves-steps}
+use Rattle.code_parts.proofs.Counts.{all-mems, all-words, all_mems_after, all_words_after}
+use Rattle.code_parts.proofs.Built.{IsNoBranch, goes_back, goes_straight, goes_two_ways, straight_edge}
 use Rattle.path_walk.proofs.Exited.{results_are, standing_is}
-use Rattle.path_walk.proofs.Fits.{all_mems_after, all_words_after, arms_closed_more, closed_more, closed_steps, facts_after, index-at, index-some, leaves-steps, slice-map}
+use Rattle.path_walk.proofs.Closed.{arms_closed_more, closed_more, closed_steps}
+use Rattle.code_parts.proofs.Lists.{index-at, index-some, slice-map}
 use Rattle.path_walk.proofs.Grown.{from_on, grown_join, grown_none}
 use Rattle.path_walk.proofs.Lists.{current-fresh}
-use Rattle.path_walk.proofs.PartLines.{end-some}
+use Rattle.code_parts.proofs.Edges.{end-some}
 
 module _ (f : Flow) (p : Part) (ranges : List Range) where
   abbrev def : DefTree
@@ -91,7 +95,7 @@ module _ (f : Flow) (p : Part) (ranges : List Range) where
     cited_led : (old : LogTree) (pc : WordTree) (v : Place) (path : List FactTree) (t : StandingTree) → IsReady f ranges s old → Here s old pc v path t →
         Led f p ranges s old (citing t.number old) (record { facts = path; post = with_values (group_in f ranges s) pc (current f v) } ∷ [])
     cited_led old pc v path t ready here =
-        let rise : AreRegistersFrom 1 f.regs = s.code.registers in
+        let rise : RiseFrom 1 f.regs = s.code.registers in
         let entry : ℕ = (part_def f p).entry in
         let theorem : TripleTree = record { facts = t.facts; pre = standing_at f (Const entry) (start f); code = t.code; post = standing_at f pc v } in
         let front : standing_at f (Const entry) (start f) ≡ with_values (group_in f ranges s) (Const entry) (parameters (group_in f ranges s)) =

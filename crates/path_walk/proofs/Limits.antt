@@ -5,9 +5,9 @@ use Rattle.tailrec_lang.specs.declared.group.Exit.TheVariants.{At, Ret}
 use Rattle.tailrec_lang.specs.Tree.{ValuesTree, StepTree, BodyTree, Call, Again, Leave, NoArm, Arm, with_steps}
 use Rattle.word_terms.specs.Tree.{Var}
 use Rattle.proof_text.specs.Limits.{nesting, arms_nesting}
-use Rattle.path_walk.specs.declared.part.Part.{Part}
-use Rattle.path_walk.specs.declared.part.Part.TheVariants.{Loop, Rest}
-use Rattle.path_walk.specs.Bodies.{Flow, Place, current, fresh, start, with_pc, Action, Straight, Fork, Return, action, rest_targets, exits_of, rest_from, index_of, end_of, or_else, arms_over, last_at, rest_arms, end_at, action_body, body_at, rest_body, part_body}
+use Rattle.code_parts.specs.declared.part.Part.{Part}
+use Rattle.code_parts.specs.declared.part.Part.TheVariants.{Loop, Rest}
+use Rattle.code_parts.specs.Bodies.{Flow, Place, current, fresh, start, with_pc, Action, Straight, Fork, Return, action, rest_targets, exits_of, rest_from, index_of, end_of, or_else, arms_over, last_at, rest_arms, end_at, action_body, body_at, rest_body, part_body}
 
 -- ---- nesting
 

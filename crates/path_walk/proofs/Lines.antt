@@ -1,6 +1,5 @@
 -- The triples of one instruction: its axiom, over the current variables, over all registers, and with new variables.
-use Rattle.std.proofs.Common.{◌≡◌, ℕ, zero, suc, ◌+◌, ◌<◌, ◌≤◌, List, [], ◌∷◌, ◌++◌, map, length, drop, filter, Bool, true, false, cond, not, eqb, ◌||◌, refl, sym, ap, ◌∙◌, subst, arith, Some, None, inl, inr, Contains, eqb-true, eq-eqb, ne_eqb}
-use Rattle.std.proofs.lemmas.Bool.{eqb-false}
+use Rattle.std.proofs.Common.{◌≡◌, ℕ, zero, suc, ◌+◌, ◌≤◌, List, [], ◌∷◌, ◌++◌, map, length, drop, filter, Bool, true, false, cond, not, eqb, ◌||◌, refl, sym, ap, ◌∙◌, subst, arith, Some, None, inl, inr, Contains, eqb-true, eq-eqb, ne_eqb}
 use Rattle.std.specs.List.{AllZip, range_with_len, position_or_len}
 use Rattle.std.specs.Option.{option_and_then}
 use Rattle.std.specs.Prelude.{unwrap_or}
@@ -12,54 +11,24 @@ use Rattle.rv_machine.specs.Step.{is_aligned}
 use Rattle.word_terms.specs.Tree.{WordTree, MemTree, Const, Var, Bin, Extend, Load, MemVar, Store}
 use Rattle.rv_words.specs.declared.range.Range.{Range}
 use Rattle.word_terms.specs.Substitution.{listed, put_in_mem}
-use Rattle.triple_kernel.specs.Tree.{FactTree, WordIs, MemIs, So, TripleTree}
+use Rattle.triple_kernel.specs.Tree.{FactTree, WordIs, MemIs, So}
 use Rattle.triple_kernel.specs.Rules.{IsInst, IsWeakened}
 use Rattle.triple_kernel.specs.Swap.{WordsStated, MemsStated, SwapWord, SwapMem, SwapRegister}
-use Rattle.proof_text.specs.Limits.{AreRegistersFrom}
+use Rattle.code_parts.specs.Graph.{RiseFrom}
 use Rattle.frame_compose.specs.Rules.{is_listed, listed as those_listed, IsFramed}
 use Rattle.checker.specs.Instance.{put_for}
 use Rattle.triple_kernel.specs.declared.form.Form.{Form}
 use Rattle.rv_decode.specs.Registers.{is_read, registers_where, sources, destination}
 use Rattle.instr_axioms.specs.Terms.{Names, has_memory, conditions, result, word_after, memory_after, pc_after, has_form}
-use Rattle.instr_axioms.specs.Axiom.{register_with, memory_if, before, triple_over, is_own, own, variables_for, own_triple, triple_if, axiom_of}
+use Rattle.instr_axioms.specs.Axiom.{register_with, memory_if, triple_over, is_own, own, variables_for, own_triple, triple_if, axiom_of}
 use Rattle.instr_axioms.proofs.Instances.{Becomes, is_inst}
-use Rattle.path_walk.specs.Bodies.{Place, names, is_store, wrote, stored, place_after}
-pub use Rattle.path_walk.specs.inner.Acts.{named_triple, new_facts, own_mems, own_words}
-use Rattle.path_walk.proofs.Lists.{here, later, in_range, is_in, in-true, smaller-is, numbered, listed-place}
-
--- ---- an instruction's own registers
-
-abbrev range_of : (a n : ℕ) → List ℕ
-range_of a n = range_with_len a n
-
-pub filter-rise : (p : ℕ → Bool) (a n : ℕ) → a + n ≤ 32 → AreRegistersFrom a (filter p (range_with_len a n))
-filter-rise p a zero le = tt
-filter-rise p a (suc n) le = go (p a) (filter-rise p (a + 1) n (omega arith))
-  where
-    up : (b c : ℕ) (xs : List ℕ) → b ≤ c → AreRegistersFrom c xs → AreRegistersFrom b xs
-    up b c [] low h = tt
-    up b c (x ∷ xs) low h = (omega (arith, h.0, low), h.1, h.2)
-
-    go : (b : Bool) → AreRegistersFrom (a + 1) (filter p (range_with_len (a + 1) n)) → AreRegistersFrom a (cond b (a ∷ filter p (range_with_len (a + 1) n)) (filter p (range_with_len (a + 1) n)))
-    go true h = (omega arith, omega arith, h)
-    go false h = up a (a + 1) (filter p (range_with_len (a + 1) n)) (omega arith) h
-
-pub filter-has : (p : ℕ → Bool) (a n r : ℕ) → a ≤ r → r < a + n → p r ≡ true → Contains (filter p (range_with_len a n)) r
-filter-has p a zero r low high e = absurd (omega arith)
-filter-has p a (suc n) r low high e = go (eqb a r) refl (λ more. filter-has p (a + 1) n r more (omega (arith, high)) e)
-  where
-    put : (b : Bool) → Contains (filter p (range_with_len (a + 1) n)) r → Contains (cond b (a ∷ filter p (range_with_len (a + 1) n)) (filter p (range_with_len (a + 1) n))) r
-    put true c = later a (filter p (range_with_len (a + 1) n)) r c
-    put false c = c
-
-    go : (b : Bool) → eqb a r ≡ b → (a + 1 ≤ r → Contains (filter p (range_with_len (a + 1) n)) r) → Contains (cond (p a) (a ∷ filter p (range_with_len (a + 1) n)) (filter p (range_with_len (a + 1) n))) r
-    go true is on =
-        let same : a ≡ r = eqb-true a r is in
-        subst (λ b. Contains (cond b (a ∷ filter p (range_with_len (a + 1) n)) (filter p (range_with_len (a + 1) n))) r) (sym (ap p same ∙ e)) (0, omega arith, same)
-    go false is on = let ne = eqb-false a r is in put (p a) (on (above a r low ne))
-      where
-        above : (a r : ℕ) → a ≤ r → (a ≡ r → ⊥) → a + 1 ≤ r
-        above a r low ne = omega (arith, low, ne)
+use Rattle.code_parts.specs.Bodies.{Place, names, is_store, wrote, stored, place_after}
+use Rattle.path_walk.specs.inner.Acts.{named_triple, new_facts, own_mems, own_words}
+use Rattle.code_parts.proofs.Lists.{here, later, in_range, is_in, in-true}
+use Rattle.path_walk.proofs.Lists.{smaller-is, listed-place}
+use Rattle.path_walk.specs.inner.Acts.{numbered}
+use Rattle.code_parts.proofs.Registers.{filter-has, filter-rise, or_left, or_right}
+use Rattle.code_parts.proofs.Counts.{store-writes_none}
 
 filter-test : (p : ℕ → Bool) (xs : List ℕ) (r : ℕ) → Contains (filter p xs) r → p r ≡ true
 filter-test p [] r c = absurd (omega (arith, c.1))
@@ -70,7 +39,7 @@ filter-test p (x ∷ xs) r c = go (p x) refl c (λ d. filter-test p xs r d)
     go true is (suc k, lt, at) on = on (k, omega (arith, lt), at)
     go false is c on = on c
 
-pub own-rise : (i : Instr) → AreRegistersFrom 1 (own i)
+pub own-rise : (i : Instr) → RiseFrom 1 (own i)
 unfolding registers_where
 own-rise i = filter-rise (is_own i) 1 31 (omega arith)
 
@@ -82,36 +51,12 @@ pub own-test : (i : Instr) (r : ℕ) → Contains (own i) r → is_own i r ≡ t
 unfolding registers_where
 own-test i r c = filter-test (is_own i) (range_with_len 1 31) r c
 
-pub or_left : (b c : Bool) → b ≡ true → (b || c) ≡ true
-or_left true c e = refl
-or_left false c e = absurd (cc)
-
-pub or_right : (b c : Bool) → c ≡ true → (b || c) ≡ true
-or_right true c e = refl
-or_right false c e = e
-
 -- ---- the axiom
 
 pub axiom-is : (i : Instr) (a w : ℕ) (form : Form) → is_aligned a ≡ true → decoded w ≡ Some i → has_form i form a ≡ true → axiom_of a w form ≡ Some (own_triple i form a w)
 unfolding axiom_of
 axiom-is i a w form even is has =
     (λ j. cond (even j) (option_and_then (triple_if a w form) (is j)) None) ∙ (λ j. cond (has j) (Some (own_triple i form a w)) None)
-
--- ---- rows of the table
-
-pub store-writes_none : (i : Instr) → is_store i ≡ true → destination i ≡ 0
-store-writes_none (instr.Op o rd rs1 rs2) e = absurd (cc)
-store-writes_none (instr.OpImm o rd rs1 imm) e = absurd (cc)
-store-writes_none (instr.Lui rd imm) e = absurd (cc)
-store-writes_none (instr.Auipc rd imm) e = absurd (cc)
-store-writes_none (instr.Jal rd offset) e = absurd (cc)
-store-writes_none (instr.Jalr rd rs1 imm) e = absurd (cc)
-store-writes_none (instr.Branch c rs1 rs2 offset) e = absurd (cc)
-store-writes_none (instr.Load w signed rd rs1 imm) e = absurd (cc)
-store-writes_none (instr.Store w rs1 rs2 imm) e = refl
-store-writes_none (instr.Fence imm rs1 rd) e = absurd (cc)
-store-writes_none instr.Ecall e = absurd (cc)
-store-writes_none instr.Ebreak e = absurd (cc)
 
 memory-same : (i : Instr) (n : Names) → is_store i ≡ false → memory_after i n ≡ n.memory
 memory-same (instr.Op o rd rs1 rs2) n e = refl
@@ -168,7 +113,7 @@ wider-mems : (h m : Bool) (x y : MemTree) → (h ≡ true → m ≡ true) → (h
 wider-mems true m x y e f = (λ i. y ∷ drop 1 (memory_if (e refl i) x)) ∙ (λ i. memory_if (sym (e refl) i) y)
 wider-mems false m x y e f = ap (memory_if m) (f refl)
 
-module _ (i : Instr) (form : Form) (a : ℕ) (code : List Range) (regs : List ℕ) (mem : Bool) (rise : AreRegistersFrom 1 regs)
+module _ (i : Instr) (form : Form) (a : ℕ) (code : List Range) (regs : List ℕ) (mem : Bool) (rise : RiseFrom 1 regs)
     (within : (r : ℕ) → Contains (own i) r → Contains regs r) (memory : has_memory i ≡ true → mem ≡ true) (n : Names) where
   own-wider : (w : ℕ → WordTree) → map (register_with w) (own i) ≡ those_listed (map (register_with w) (own i)) (map (register_with w) regs)
   own-wider w =
@@ -283,7 +228,7 @@ module _ (i : Instr) (a : ℕ) (v : Place) (facts : List FactTree) (known : (x :
       go true is more = stated-mem facts (memory_after i (names v)) (MemVar v.mems) (inr (inr (more (MemIs (MemVar v.mems) (memory_after i (names v))) (0, omega arith, refl))))
       go false is more = stated-mem facts (memory_after i (names v)) (MemVar (wrote (destination i) v).memory) (inl (memory-same i (names v) is ∙ ap MemVar (sym (kept (eqb (destination i) 0)))))
 
-pub is_weakened : (i : Instr) (form : Form) (a : ℕ) (code : List Range) (regs : List ℕ) (mem : Bool) (v : Place) → AreRegistersFrom 1 regs →
+pub is_weakened : (i : Instr) (form : Form) (a : ℕ) (code : List Range) (regs : List ℕ) (mem : Bool) (v : Place) → RiseFrom 1 regs →
     IsWeakened (triple_over i form a code regs mem (names v)) (named_triple i form a code regs mem v)
 is_weakened i form a code regs mem v rise =
     let facts : List FactTree = map So (conditions i form (names v)) ++ new_facts i a v in

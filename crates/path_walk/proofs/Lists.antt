@@ -1,27 +1,16 @@
--- Lists of registers and of variables.
-use Rattle.std.proofs.Common.{◌≡◌, ℕ, zero, suc, ◌+◌, ◌<◌, ◌≤◌, List, [], ◌∷◌, ◌++◌, map, length, filter, zip, Bool, true, false, cond, not, eqb, refl, sym, ap, ◌∙◌, subst, arith, Some, eqb-true, eq-eqb, ne_eqb, Contains, ◌||◌}
+-- Lists of variables and of terms for them.
+use Rattle.std.proofs.Common.{◌≡◌, ℕ, zero, suc, ◌+◌, ◌≤◌, List, [], ◌∷◌, ◌++◌, map, length, filter, zip, Bool, true, false, cond, not, eqb, refl, sym, ap, ◌∙◌, subst, arith, Some, eqb-true, eq-eqb, ne_eqb, Contains, ◌||◌}
 use Rattle.std.proofs.lemmas.Bool.{eqb-false}
 use Rattle.std.specs.Prelude.{slice_get, unwrap_or}
-use Rattle.std.specs.List.{position_or_len, range_with_len, list_any}
+use Rattle.std.specs.List.{position_or_len, range_with_len}
 use Rattle.word_terms.specs.Tree.{WordTree, MemTree, Var, MemVar}
 use Rattle.word_terms.specs.Substitution.{Substitution, listed, put_in_word, put_in_mem}
-use Rattle.proof_text.specs.Limits.{AreRegistersFrom}
+use Rattle.code_parts.specs.Graph.{RiseFrom}
 use Rattle.instr_axioms.specs.Axiom.{memory_if}
 use Rattle.loop_rule.specs.Leaves.{variables_after}
-use Rattle.path_walk.specs.Bodies.{Flow, mem_count, current, fresh}
-pub use Rattle.path_walk.specs.inner.Acts.{numbered}
-
--- ---- lists
-
-pub here : {A : Type 0} (x : A) (xs : List A) → Contains (x ∷ xs) x
-here x xs = (0, omega arith, refl)
-
-pub later : {A : Type 0} (y : A) (xs : List A) (x : A) → Contains xs x → Contains (y ∷ xs) x
-later y xs x c = (suc c.0, omega (arith, c.1), c.2)
-
-pub contains-cases : {A B : Type 0} (y : A) (xs : List A) (x : A) → Contains (y ∷ xs) x → (y ≡ x → B) → (Contains xs x → B) → B
-contains-cases y xs x (zero, lt, at) one two = one at
-contains-cases y xs x (suc k, lt, at) one two = two (k, omega (arith, lt), at)
+use Rattle.code_parts.specs.Bodies.{Flow, mem_count, current, fresh}
+use Rattle.path_walk.specs.inner.Acts.{numbered}
+use Rattle.code_parts.proofs.Lists.{contains-cases, here, in-false, in_range, is_in, later}
 
 pub map_among : {B : Type 0} (f h : ℕ → B) (rs : List ℕ) → ((r : ℕ) → Contains rs r → f r ≡ h r) → map f rs ≡ map h rs
 map_among f h [] same = refl
@@ -31,37 +20,8 @@ pub zip-map : {B : Type 0} (h : ℕ → B) (rs : List ℕ) → zip rs (map h rs)
 zip-map h [] = refl
 zip-map h (r ∷ rs) = let rest = zip-map h rs in λ i. (r, h r) ∷ rest i
 
-pub length-map : {A B : Type 0} (h : A → B) (xs : List A) → length (map h xs) ≡ length xs
-length-map h [] = refl
-length-map h (x ∷ xs) = ap suc (length-map h xs)
-
-pub slice-mapped : {A B : Type 0} (h : A → B) (xs : List A) (k : ℕ) (x : A) → slice_get xs k ≡ Some x → slice_get (map h xs) k ≡ Some (h x)
-slice-mapped h [] k x e = absurd (cc)
-slice-mapped h (y ∷ xs) zero x e = let same : y ≡ x = cc in ap (λ z. Some (h z)) same
-slice-mapped h (y ∷ xs) (suc k) x e = slice-mapped h xs k x e
-
-pub slice-there : {A : Type 0} (xs : List A) (k : ℕ) → k < length xs → (x : A) × (slice_get xs k ≡ Some x)
-slice-there [] k lt = absurd (omega arith)
-slice-there (x ∷ xs) zero lt = (x, refl)
-slice-there (x ∷ xs) (suc k) lt = slice-there xs k (omega (arith, lt))
-
--- ---- registers rise
-
-pub in_range : (least : ℕ) (rs : List ℕ) (r : ℕ) → AreRegistersFrom least rs → Contains rs r → (least ≤ r) × (r ≤ 31)
-in_range least [] r rise c = absurd (omega (arith, c.1))
-in_range least (q ∷ rs) r rise (zero, lt, at) = let same : q ≡ r = at in (subst (λ x. least ≤ x) same rise.0, subst (λ x. x ≤ 31) same rise.1)
-in_range least (q ∷ rs) r rise (suc k, lt, at) = let rest = in_range (q + 1) rs r rise.2 (k, omega (arith, lt), at) in (omega (arith, rest.0, rise.0), rest.1)
-
-pub rising-short : (least : ℕ) (rs : List ℕ) → least ≤ 32 → AreRegistersFrom least rs → length rs + least ≤ 32
-rising-short least [] le h = omega (arith, le)
-rising-short least (r ∷ rs) le h =
-    let low = h.0 in
-    let high = h.1 in
-    let rest = rising-short (r + 1) rs (omega (arith, high)) h.2 in
-    omega (arith, low, rest)
-
 -- the variables of registers in order
-words-are : (least words : ℕ) (rs : List ℕ) → AreRegistersFrom least rs →
+words-are : (least words : ℕ) (rs : List ℕ) → RiseFrom least rs →
     map Var (range_with_len words (length rs)) ≡ map (λ r. Var (words + position_or_len (λ q. eqb q r) rs)) rs
 words-are least words [] rise = refl
 words-are least words (r ∷ rs) rise =
@@ -79,7 +39,7 @@ mems-are : (b : Bool) (mems : ℕ) → map MemVar (range_with_len mems (cond b 1
 mems-are true mems = refl
 mems-are false mems = refl
 
-pub current-fresh : (f : Flow) (words mems : ℕ) → AreRegistersFrom 1 f.regs → variables_after words mems (length f.regs) (mem_count f) ≡ current f (fresh f words mems)
+pub current-fresh : (f : Flow) (words mems : ℕ) → RiseFrom 1 f.regs → variables_after words mems (length f.regs) (mem_count f) ≡ current f (fresh f words mems)
 current-fresh f words mems rise =
     let ws = words-are 1 words f.regs rise in
     let ms = mems-are f.has_mem mems in
@@ -146,39 +106,6 @@ put-mems s from (t ∷ ts) h =
     let rest = put-mems s (from + 1) ts (λ k u e. let sum : from + 1 + k ≡ from + suc k = omega arith in (λ i. s.mem (sum i)) ∙ h (suc k) u e) in
     λ i. first i ∷ rest i
 
--- ---- two rising lists
-
--- the register is in the list
-abbrev pub is_in : List ℕ → ℕ → Bool
-is_in xs r = list_any (λ q. eqb q r) xs
-
-pub in-true : (xs : List ℕ) (r : ℕ) → Contains xs r → is_in xs r ≡ true
-in-true [] r c = absurd (omega (arith, c.1))
-in-true (x ∷ xs) r c = contains-cases x xs r c (λ e. by_first (eqb x r) (eq-eqb x r e)) (λ d. by_rest (eqb x r) (in-true xs r d))
-  where
-    by_first : (b : Bool) → b ≡ true → (b || is_in xs r) ≡ true
-    by_first true e = refl
-    by_first false e = absurd (cc)
-
-    by_rest : (b : Bool) → is_in xs r ≡ true → (b || is_in xs r) ≡ true
-    by_rest true e = refl
-    by_rest false e = e
-
-pub in-false : (xs : List ℕ) (r : ℕ) → (Contains xs r → ⊥) → is_in xs r ≡ false
-in-false [] r no_one = refl
-in-false (x ∷ xs) r no_one =
-    let head : eqb x r ≡ false = ne_eqb x r (λ e. no_one (0, omega arith, e)) in
-    let rest = in-false xs r (λ c. no_one (later x xs r c)) in
-    λ i. head i || rest i
-
-pub in-contains : (xs : List ℕ) (r : ℕ) → is_in xs r ≡ true → Contains xs r
-in-contains [] r e = absurd (cc)
-in-contains (x ∷ xs) r e = go (λ e. in-contains xs r e) (eqb x r) refl e
-  where
-    go : (is_in xs r ≡ true → Contains xs r) → (b : Bool) → eqb x r ≡ b → (b || is_in xs r) ≡ true → Contains (x ∷ xs) r
-    go on true is e = (0, omega arith, eqb-true x r is)
-    go on false is e = later x xs r (on e)
-
 filter-same : (p q : ℕ → Bool) (xs : List ℕ) → ((x : ℕ) → Contains xs x → p x ≡ q x) → filter p xs ≡ filter q xs
 filter-same p q [] h = refl
 filter-same p q (x ∷ xs) h =
@@ -190,12 +117,12 @@ filter-none : (xs : List ℕ) → filter (λ x. false) xs ≡ []
 filter-none [] = refl
 filter-none (x ∷ xs) = filter-none xs
 
-weaker : (a b : ℕ) (xs : List ℕ) → a ≤ b → AreRegistersFrom b xs → AreRegistersFrom a xs
+weaker : (a b : ℕ) (xs : List ℕ) → a ≤ b → RiseFrom b xs → RiseFrom a xs
 weaker a b [] le h = tt
 weaker a b (x ∷ xs) le h = (omega (arith, h.0, le), h.1, h.2)
 
 -- those of a rising list that are in a smaller one are the smaller one
-pub smaller-is : (least : ℕ) (xs ys : List ℕ) → AreRegistersFrom least xs → AreRegistersFrom least ys → ((x : ℕ) → Contains xs x → Contains ys x) → filter (is_in xs) ys ≡ xs
+pub smaller-is : (least : ℕ) (xs ys : List ℕ) → RiseFrom least xs → RiseFrom least ys → ((x : ℕ) → Contains xs x → Contains ys x) → filter (is_in xs) ys ≡ xs
 smaller-is least [] ys low high all = filter-none ys
 smaller-is least (x ∷ xs) [] low high all = absurd (let c = all x (here x xs) in omega (arith, c.1))
 smaller-is least (x ∷ xs) (y ∷ ys) low high all =
@@ -204,12 +131,12 @@ smaller-is least (x ∷ xs) (y ∷ ys) low high all =
     head_is : Contains (y ∷ ys) x
     head_is = all x (here x xs)
 
-    go : (AreRegistersFrom (y + 1) xs → AreRegistersFrom (y + 1) ys → ((z : ℕ) → Contains xs z → Contains ys z) → filter (is_in xs) ys ≡ xs) →
-        (AreRegistersFrom (y + 1) (x ∷ xs) → AreRegistersFrom (y + 1) ys → ((z : ℕ) → Contains (x ∷ xs) z → Contains ys z) → filter (is_in (x ∷ xs)) ys ≡ x ∷ xs) →
+    go : (RiseFrom (y + 1) xs → RiseFrom (y + 1) ys → ((z : ℕ) → Contains xs z → Contains ys z) → filter (is_in xs) ys ≡ xs) →
+        (RiseFrom (y + 1) (x ∷ xs) → RiseFrom (y + 1) ys → ((z : ℕ) → Contains (x ∷ xs) z → Contains ys z) → filter (is_in (x ∷ xs)) ys ≡ x ∷ xs) →
         (b : Bool) → eqb x y ≡ b → cond (b || is_in xs y) (y ∷ filter (is_in (x ∷ xs)) ys) (filter (is_in (x ∷ xs)) ys) ≡ x ∷ xs
     go same more true is =
         let e : x ≡ y = eqb-true x y is in
-        let low_rest : AreRegistersFrom (y + 1) xs = subst (λ z. AreRegistersFrom (z + 1) xs) e low.2 in
+        let low_rest : RiseFrom (y + 1) xs = subst (λ z. RiseFrom (z + 1) xs) e low.2 in
         let tests = filter-same (is_in (x ∷ xs)) (is_in xs) ys (λ z c. let far = in_range (y + 1) ys z high.2 c in let other : eqb x z ≡ false = ne_eqb x z (λ d. absurd (omega (arith, d, e, far.0))) in λ i. other i || is_in xs z) in
         let rest = tests ∙ same low_rest high.2 (λ z c. let far = in_range (y + 1) xs z low_rest c in contains-cases y ys z (all z (later x xs z c)) (λ d. absurd (omega (arith, d, far.0))) (λ c. c)) in
         λ i. sym e i ∷ rest i
@@ -217,7 +144,7 @@ smaller-is least (x ∷ xs) (y ∷ ys) low high all =
         let ne = eqb-false x y is in
         let inside : Contains ys x = contains-cases y ys x head_is (λ d. absurd (ne (sym d))) (λ c. c) in
         let far = in_range (y + 1) ys x high.2 inside in
-        let low_all : AreRegistersFrom (y + 1) (x ∷ xs) = (far.0, low.1, low.2) in
+        let low_all : RiseFrom (y + 1) (x ∷ xs) = (far.0, low.1, low.2) in
         let none : is_in xs y ≡ false = in-false xs y (λ c. let up = in_range (x + 1) xs y low.2 c in absurd (omega (arith, up.0, far.0))) in
         (λ i. cond (none i) (y ∷ filter (is_in (x ∷ xs)) ys) (filter (is_in (x ∷ xs)) ys)) ∙
         more low_all high.2 (λ z c. let up = in_range (y + 1) (x ∷ xs) z low_all c in contains-cases y ys z (all z c) (λ d. absurd (omega (arith, d, up.0))) (λ c. c))

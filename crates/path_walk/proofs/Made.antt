@@ -1,5 +1,5 @@
 -- Lines that are right one after the other.
-use Rattle.std.proofs.Common.{◌≡◌, ℕ, ◌+◌, ◌<◌, List, [], ◌∷◌, ◌++◌, Bool, true, false, cond, eqb, fold, refl, sym, ◌∙◌, subst, arith, Some, None, eqb-true}
+use Rattle.std.proofs.Common.{◌≡◌, ℕ, ◌+◌, ◌<◌, List, [], ◌∷◌, ◌++◌, Bool, true, false, cond, eqb, fold, refl, arith, Some, None, eqb-true}
 use Rattle.tailrec_lang.specs.Tree.{GroupTree}
 use Rattle.triple_kernel.specs.Tree.{TripleTree}
 use Rattle.proof_text.specs.Line.{RuleTree, LineTree, States, Loop, Forget}
@@ -14,9 +14,6 @@ pub record Made (g : GroupTree) (h k : History) : Type 0 where
   pub keeps : Keeps h k
   pub counted : IsCounted k
 
-pub made_none : (g : GroupTree) (h : History) → IsCounted h → Made g h h
-made_none g h c = record { lines = []; right = tt; after = refl; keeps = record { theorem = λ j t e. e; closed = λ d e. e }; counted = c }
-
 pub joined : (g : GroupTree) (h : History) (ls ms : List LineTree) → AreInstances g h ls → AreInstances g (fold after_line h ls) ms → AreInstances g h (ls ++ ms)
 joined g h [] ms r s = s
 joined g h (l ∷ ls) ms r s = (r.0, joined g (after_line h l) ls ms r.1 s)
@@ -24,15 +21,6 @@ joined g h (l ∷ ls) ms r s = (r.0, joined g (after_line h l) ls ms r.1 s)
 pub fold-join : (h : History) (ls ms : List LineTree) → fold after_line h (ls ++ ms) ≡ fold after_line (fold after_line h ls) ms
 fold-join h [] ms = refl
 fold-join h (l ∷ ls) ms = fold-join (after_line h l) ls ms
-
-pub made_join : (g : GroupTree) (h k m : History) → Made g h k → Made g k m → Made g h m
-made_join g h k m a b = record {
-  lines = a.lines ++ b.lines;
-  right = joined g h a.lines b.lines a.right (subst (λ x. AreInstances g x b.lines) (sym a.after) b.right);
-  after = fold-join h a.lines b.lines ∙ (λ i. fold after_line (a.after i) b.lines) ∙ b.after;
-  keeps = record { theorem = λ j t e. b.keeps.theorem j t (a.keeps.theorem j t e); closed = λ d e. b.keeps.closed d (a.keeps.closed d e) };
-  counted = b.counted;
-}
 
 old-there : (h : History) (j : ℕ) (t s : TripleTree) → IsCounted h → h.theorem j ≡ Some t → cond (eqb j h.next) (Some s) (h.theorem j) ≡ Some t
 old-there h j t s c e = go (eqb j h.next) refl

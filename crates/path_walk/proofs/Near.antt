@@ -7,12 +7,12 @@ use Rattle.rv_decode.specs.declared.instruction.Instr.TheVariants as instr
 use Rattle.triple_kernel.specs.declared.form.Form.{Form}
 use Rattle.triple_kernel.specs.declared.form.Form.TheVariants.{Next}
 use Rattle.instr_axioms.specs.Terms.{has_form}
-use Rattle.path_walk.specs.declared.part.Part.{Part}
-use Rattle.path_walk.specs.declared.part.Part.TheVariants.{Loop, Rest}
+use Rattle.code_parts.specs.declared.part.Part.{Part}
+use Rattle.code_parts.specs.declared.part.Part.TheVariants.{Loop, Rest}
 use Rattle.rv_decode.specs.Registers.{destination}
-use Rattle.path_walk.specs.Bodies.{Flow, Place, is_store, own, place_after, stored}
-use Rattle.path_walk.specs.Graph.{IsCode, IsEdge, IsGraph, IsPart, IsPlaced, has_edge, is_return}
-use Rattle.path_walk.specs.inner.Ends.{IsEnd, IsNear, IsNext}
+use Rattle.code_parts.specs.Bodies.{Flow, Place, is_store, own, place_after, stored}
+use Rattle.code_parts.specs.Graph.{IsCode, IsEdge, IsGraph, IsPart, IsPlaced, has_edge, is_return}
+use Rattle.path_walk.specs.inner.Near.{IsEnd, IsNear, IsNext}
 
 -- ---- forms
 

@@ -5,7 +5,7 @@ use Rattle.word_terms.specs.Tree.{WordTree, MemTree, MemVar}
 use Rattle.tailrec_lang.specs.declared.group.Exit.{Exit}
 use Rattle.tailrec_lang.specs.declared.group.Exit.TheVariants.{At, Ret}
 use Rattle.instr_axioms.specs.Axiom.{memory_if}
-use Rattle.path_walk.specs.Bodies.{Flow, Place, current}
+use Rattle.code_parts.specs.Bodies.{Flow, Place, current}
 use Rattle.path_walk.specs.inner.Acts.{call_mems, numbered, results_at}
 
 pub numbered-append : {A : Type 0} (i : ℕ) (xs ys : List A) → numbered i (xs ++ ys) ≡ numbered i xs ++ numbered (i + length xs) ys

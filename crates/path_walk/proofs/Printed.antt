@@ -1,7 +1,7 @@
 -- The definitions of parts are within the limits of the grammar.
-use Rattle.std.proofs.Common.{◌≡◌, ℕ, zero, suc, ◌+◌, ◌^◌, ◌<◌, ◌≤◌, ℤ, List, [], ◌∷◌, ◌++◌, map, length, max, Bool, true, false, cond, not, eqb, refl, ap, subst, arith, Option, Some, None, mod-lt}
+use Rattle.std.proofs.Common.{◌≡◌, ℕ, zero, suc, ◌+◌, ◌^◌, ◌<◌, ◌≤◌, ℤ, List, [], ◌∷◌, ◌++◌, map, length, max, Bool, true, false, cond, eqb, refl, ap, subst, arith, Option, Some, None, mod-lt}
 use Rattle.std.specs.Prelude.{option_map}
-use Rattle.std.specs.List.{AllByRecursion, position_or_len}
+use Rattle.std.specs.List.{AllByRecursion}
 use Rattle.rv_words.proofs.WordLemmas.{word_of_small}
 use Rattle.rv_words.specs.declared.width.Width.{Width}
 use Rattle.rv_words.specs.declared.width.Width.TheVariants.{B1, B2, B4, B8}
@@ -20,11 +20,12 @@ use Rattle.triple_kernel.specs.declared.form.Form.TheVariants.{Next, Taken}
 use Rattle.rv_decode.specs.Registers.{destination}
 use Rattle.instr_axioms.specs.Terms.{word_in, sum, loaded, conditions, result, memory_after, pc_after}
 use Rattle.instr_axioms.specs.Axiom.{memory_if}
-use Rattle.path_walk.specs.declared.part.Part.{Part}
-use Rattle.path_walk.specs.declared.part.Part.TheVariants.{Loop, Rest}
-use Rattle.path_walk.specs.Bodies.{Flow, Place, names, mem_count, current, fresh, start, with_pc, is_store, stored, place_after, needs, writes, Straight, action_of, first, rest_targets, targets, returned, rest_from, index_of, end_of, or_else, arms_over, last_at, rest_arms, end_at, action_body, body_at, rest_body, part_body, part_def}
-use Rattle.path_walk.specs.Graph.{IsSmall}
+use Rattle.code_parts.specs.declared.part.Part.{Part}
+use Rattle.code_parts.specs.declared.part.Part.TheVariants.{Loop, Rest}
+use Rattle.code_parts.specs.Bodies.{Flow, Place, names, mem_count, current, fresh, start, with_pc, is_store, stored, place_after, needs, writes, Straight, action_of, first, rest_targets, targets, returned, rest_from, index_of, end_of, or_else, arms_over, last_at, rest_arms, end_at, action_body, body_at, rest_body, part_body, part_def}
+use Rattle.code_parts.specs.Graph.{IsSmall}
 use Rattle.path_walk.proofs.Limits.{exits-few, part-nested}
+use Rattle.code_parts.proofs.Places.{position-most}
 
 -- ---- terms
 
@@ -157,16 +158,6 @@ steps-join (s ∷ ss) ts h k = (h.0, steps-join ss ts h.1 k)
 steps-printed : (ss : List StepTree) (b : BodyTree) → AllByRecursion IsStep ss → IsBody b → IsBody (with_steps ss b)
 steps-printed [] b h k = k
 steps-printed (s ∷ ss) b h k = (h.0, steps-printed ss b h.1 k)
-
--- ---- bodies
-
-pub position-most : (rs : List ℕ) (r : ℕ) → position_or_len (λ q. eqb q r) rs ≤ length rs
-position-most [] r = omega arith
-position-most (x ∷ rs) r = go (eqb x r) (position-most rs r)
-  where
-    go : (b : Bool) → position_or_len (λ q. eqb q r) rs ≤ length rs → cond (not b) (1 + position_or_len (λ q. eqb q r) rs) 0 ≤ suc (length rs)
-    go true h = omega arith
-    go false h = omega (arith, h)
 
 pub mems-most : (f : Flow) → mem_count f ≤ 1
 mems-most f = go f.has_mem

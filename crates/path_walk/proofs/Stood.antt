@@ -12,12 +12,12 @@ use Rattle.triple_kernel.specs.Rules.{AreAmong}
 use Rattle.frame_compose.specs.Rules.{AreMissing, IsComposed}
 use Rattle.proof_text.specs.Line.{Compose}
 use Rattle.checker.specs.Instance.{Meets}
-use Rattle.path_walk.specs.Bodies.{Flow, Place, start}
+use Rattle.code_parts.specs.Bodies.{Flow, Place, start}
 use Rattle.path_walk.specs.inner.Acts.{GoesOn}
 use Rattle.path_walk.specs.inner.Logs.{FromAs, IsReady, LogTree, Setting, StandingTree, Stood, group_in, past, standing_at, stating}
 use Rattle.path_walk.proofs.Grown.{grown_none, grown_state, held_now}
 use Rattle.path_walk.proofs.Joins.{drop-all, or-within, some-same, some_and}
-use Rattle.path_walk.proofs.Lists.{later}
+use Rattle.code_parts.proofs.Lists.{later}
 
 pub among-missing : (known fs more : List FactTree) → AreMissing known fs more → AreAmong more fs
 among-missing known fs more h = record { each = λ x c. go fs more h x c }

@@ -11,20 +11,21 @@ use Rattle.proof_text.specs.LineLimits.{IsLine}
 use Rattle.checker.specs.Instance.{AreInstances, History, after_line, after_lines, no_lines}
 use Rattle.flow_graph.specs.Graph.{GraphOf}
 use Rattle.loop_forest.specs.Forest.{ForestOf, IsForestOf, number_of}
-use Rattle.path_walk.specs.declared.part.Part.{Part}
+use Rattle.code_parts.specs.declared.part.Part.{Part}
 use Rattle.path_walk.specs.declared.item.Item.{Item}
-use Rattle.path_walk.specs.Bodies.{Flow, part_body, part_def}
-use Rattle.path_walk.specs.Graph.{AreClosedBy, IsCode, IsGraph, IsMade}
-use Rattle.path_walk.specs.Flows.{AreCodeOf, IsReached, flow_of, group_of}
+use Rattle.code_parts.specs.Bodies.{Flow, part_body, part_def}
+use Rattle.path_walk.specs.Closed.{AreClosedBy}
+use Rattle.code_parts.specs.Graph.{IsCode, IsGraph, IsMade}
+use Rattle.code_parts.specs.Flows.{AreCodeOf, IsReached, flow_of, group_of, group_over}
 use Rattle.path_walk.specs.Item.{IsItemOf, IsWalked}
-use Rattle.path_walk.specs.Order.{AreParts}
-use Rattle.path_walk.specs.inner.Histories.{group_over}
-use Rattle.path_walk.specs.inner.Kept.{FlowOf, flow_in}
+use Rattle.code_parts.specs.Order.{AreParts}
+use Rattle.code_parts.specs.Kept.{FlowOf, flow_in}
 use Rattle.path_walk.specs.inner.Walks.{AreWalked, CloseFirst}
-use Rattle.path_walk.proofs.FlowMade.{made-over}
-use Rattle.path_walk.proofs.FlowSize.{parts-fit}
-use Rattle.path_walk.proofs.Groups.{below_closed, closed_to, for}
-use Rattle.path_walk.proofs.Lists.{length-map, slice-mapped}
+use Rattle.code_parts.proofs.FlowMade.{made-over}
+use Rattle.code_parts.proofs.FlowSize.{parts-fit}
+use Rattle.path_walk.proofs.Closed.{below_closed, closed_to}
+use Rattle.code_parts.proofs.Groups.{for}
+use Rattle.code_parts.proofs.Lists.{length-map, slice-mapped}
 use Rattle.path_walk.proofs.Made.{fold-join, joined}
 
 all_join : {A : Type 0} (P : A → Type 0) (xs ys : List A) → AllByRecursion P xs → AllByRecursion P ys → AllByRecursion P (xs ++ ys)

@@ -8,12 +8,13 @@ use Rattle.proof_text.specs.LineLimits.{IsLine}
 use Rattle.checker.specs.Instance.{AreInstances, History, after_line, after_lines}
 use Rattle.flow_graph.specs.Graph.{GraphOf}
 use Rattle.loop_forest.specs.Forest.{ForestOf, number_of}
-use Rattle.path_walk.specs.declared.part.Part.{Part}
+use Rattle.code_parts.specs.declared.part.Part.{Part}
 use Rattle.path_walk.specs.declared.item.Item.{Item}
-use Rattle.path_walk.specs.Bodies.{Flow, part_body, part_def}
-use Rattle.path_walk.specs.Graph.{AreClosed, AreClosedBy, IsFor}
-use Rattle.path_walk.specs.Flows.{AreCodeOf, flow_of, group_of}
-use Rattle.path_walk.specs.Order.{AreParts}
+use Rattle.code_parts.specs.Bodies.{Flow, part_body, part_def}
+use Rattle.path_walk.specs.Closed.{AreClosed, AreClosedBy}
+use Rattle.code_parts.specs.Graph.{IsFor}
+use Rattle.code_parts.specs.Flows.{AreCodeOf, flow_of, group_of}
+use Rattle.code_parts.specs.Order.{AreParts}
 
 -- lines after those that left h behind them, each of which is right, close definition d and open none again
 pub record AreClosing (g : GroupTree) (h : History) (d : ℕ) (lines : List LineTree) : Type 0 where

@@ -1,6 +1,3 @@
-pub mod Bodies
-pub mod Graph
-pub mod Flows
-pub mod Order
+pub mod Closed
 pub mod Item
 pub mod inner

@@ -1,9 +1,4 @@
-pub mod Kept
-pub mod Low
-pub mod Places
-pub mod Ends
-pub mod Ranks
-pub mod Words
+pub mod Near
 pub mod Histories
 pub mod Logs
 pub mod Walks

@@ -10,18 +10,17 @@ ghost use Rattle.instr_axioms.specs.Terms as terms;
 ghost use Rattle.instr_axioms.specs.Axiom as axioms;
 ghost use Rattle.proof_text.specs.Line.{Inst};
 ghost use Rattle.proof_text.specs.LineLimits.{IsRule, IsTriple};
-ghost use Rattle.path_walk.specs.Bodies as bodies;
-ghost use Rattle.path_walk.specs.Graph.{StandsAt};
+ghost use Rattle.code_parts.specs.Bodies as bodies;
+ghost use Rattle.code_parts.specs.Graph.{StandsAt};
 ghost use Rattle.path_walk.specs.inner.Acts as spec;
-ghost use Rattle.path_walk.specs.inner.Kept.{flow_in};
+ghost use Rattle.code_parts.specs.Kept.{flow_in};
 ghost use Rattle.path_walk.specs.inner.Logs.{IsOver, Steps, log_tree, standing_tree, stating};
-ghost use Rattle.path_walk.specs.inner.Places.{place_of};
+ghost use Rattle.code_parts.specs.Places.{place_of};
 
-use crate::flow::Flow;
 use crate::joining::{go_on, standing_at};
 use crate::log::{Log, Standing};
-use crate::place::{Place, after};
 use crate::subs::{own_mems, own_words};
+use code_parts::{Flow, Place, after};
 use instr_axioms::{
     Form, Variables, facts, has_memory, memory_after, own, pc_after, result, triple_over, word_code,
 };

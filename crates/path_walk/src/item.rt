@@ -2,16 +2,13 @@
 
 ghost use Rattle.std.specs.Prelude.{◌≡◌, IfOk, length};
 ghost use Rattle.loop_forest.specs.Forest.{IsForestOf, number_of};
-ghost use Rattle.path_walk.specs.Flows.{IsReached};
+ghost use Rattle.code_parts.specs.Flows.{IsReached};
 ghost use Rattle.path_walk.specs.Item.{IsItemOf};
-ghost use Rattle.path_walk.specs.Order.{AreParts};
-ghost use Rattle.path_walk.specs.inner.Kept.{flow_in};
+ghost use Rattle.code_parts.specs.Order.{AreParts};
+ghost use Rattle.code_parts.specs.Kept.{flow_in};
 
-use crate::flow::Flow;
-use crate::group::group_with;
-use crate::order::parts_of;
-use crate::part::Part;
 use crate::walks::walk_all;
+use code_parts::{Flow, Part, group_with, parts_of};
 use flow_graph::Graph;
 use loop_forest::Forest;
 use proof_text::Line;

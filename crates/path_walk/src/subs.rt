@@ -2,14 +2,13 @@
 
 ghost use Rattle.std.specs.Prelude.{◌≡◌, ◌++◌, ◌+◌, ◌≤◌, ◌<◌, ◌^◌, IfOk, OnOk, length, map};
 ghost use Rattle.proof_text.specs.Line.{mem_put_in, word_put_in};
-ghost use Rattle.path_walk.specs.Bodies.{names};
+ghost use Rattle.code_parts.specs.Bodies.{names};
 ghost use Rattle.path_walk.specs.inner.Acts as spec;
 ghost use Rattle.path_walk.specs.inner.Histories.{exit_place};
-ghost use Rattle.path_walk.specs.inner.Kept.{flow_in};
-ghost use Rattle.path_walk.specs.inner.Places.{place_of};
+ghost use Rattle.code_parts.specs.Kept.{flow_in};
+ghost use Rattle.code_parts.specs.Places.{place_of};
 
-use crate::flow::Flow;
-use crate::place::{Place, fresh};
+use code_parts::{Flow, Place, fresh};
 use instr_axioms::has_memory;
 use rv_decode::Instr;
 use rv_words::{List, NoMemory};

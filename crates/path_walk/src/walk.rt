@@ -4,17 +4,15 @@ ghost use Rattle.std.specs.Prelude.{◌≡◌, ◌+◌, ◌∷◌, ◌++◌, [],
 ghost use Rattle.tailrec_lang.specs.Tree.{def_tree};
 ghost use Rattle.proof_text.specs.Line.{LineTree, line_tree};
 ghost use Rattle.checker.specs.Instance.{after_lines};
-ghost use Rattle.path_walk.specs.Bodies as spec;
-ghost use Rattle.path_walk.specs.Graph.{IsPart};
+ghost use Rattle.code_parts.specs.Bodies as spec;
+ghost use Rattle.code_parts.specs.Graph.{IsPart};
 ghost use Rattle.path_walk.specs.Item.{IsWalked};
-ghost use Rattle.path_walk.specs.inner.Kept.{flow_in};
+ghost use Rattle.code_parts.specs.Kept.{flow_in};
 ghost use Rattle.path_walk.specs.inner.Lines.{stated};
 
 use crate::body_lines::part_lines;
-use crate::definition::part_def;
-use crate::flow::Flow;
 use crate::log::Log;
-use crate::part::Part;
+use code_parts::{Flow, Part, part_def};
 use proof_text::Line;
 use rv_words::{List, NoMemory};
 use std::alloc::Global;

@@ -4,13 +4,12 @@ ghost use Rattle.std.specs.Prelude.{◌≡◌, IfOk, length, map};
 ghost use Rattle.std.specs.List.{All};
 ghost use Rattle.tailrec_lang.specs.Tree.{def_tree};
 ghost use Rattle.proof_text.specs.Line.{line_tree};
-ghost use Rattle.path_walk.specs.Graph.{IsPart};
-ghost use Rattle.path_walk.specs.inner.Kept.{flow_in};
+ghost use Rattle.code_parts.specs.Graph.{IsPart};
+ghost use Rattle.code_parts.specs.Kept.{flow_in};
 ghost use Rattle.path_walk.specs.inner.Walks.{AreWalked};
 
-use crate::flow::Flow;
-use crate::part::Part;
 use crate::walk::walk;
+use code_parts::{Flow, Part};
 use proof_text::Line;
 use rv_words::{List, NoMemory};
 use std::alloc::Global;

@@ -38,6 +38,7 @@ one-apart p i j d h l = absurd (omega (arith, h, l))
 
 -- a code byte of the program's file is in memory
 code-there : (number size a b : ℕ) → size ≤ 600 → code_of_file (file_of number size) a ≡ Some b → bytes_in (image_of (file_of number size)).pieces a ≡ Some b
+unfolding image_of
 code-there number size a b small e =
     let words : List ℕ = program_of number size in
     let p : Piece = piece_of_words words in

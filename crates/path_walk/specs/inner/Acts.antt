@@ -18,9 +18,10 @@ use Rattle.instr_axioms.specs.Terms.{conditions, has_memory, memory_after, pc_af
 use Rattle.instr_axioms.specs.Axiom.{before, memory_if, own, own_triple, register_with, triple_over, word_code}
 use Rattle.proof_text.specs.Line.{Axiom, Compose, Frame, Inst, UseExit, Weaken}
 use Rattle.proof_text.specs.LineLimits.{IsRule, IsTriple}
-use Rattle.path_walk.specs.Bodies.{Flow, Place, current, fresh, is_store, names, place_after, start, with_pc}
+use Rattle.code_parts.specs.Bodies.{Flow, Place, current, fresh, is_store, names, place_after, start, with_pc}
 use Rattle.path_walk.specs.inner.Histories.{exit_place, pc_of}
 use Rattle.path_walk.specs.inner.Logs.{LogTree, StandingTree, standing_at, stating}
+use Rattle.code_parts.proofs.Lists.{here}
 
 -- the terms for the variables from i on
 abbrev pub numbered : {A : Type 0} → ℕ → List A → List (ℕ × A)

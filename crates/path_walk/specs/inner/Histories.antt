@@ -1,17 +1,11 @@
--- Groups over a graph's registers, and lines that forget nothing.
-use Rattle.std.specs.Prelude.{◌≡◌, ℕ, suc, ◌<◌, List, Some, true}
-use Rattle.rv_words.specs.declared.range.Range.{Range}
+-- Where a walk goes on after an exit, and lines that forget nothing.
+use Rattle.std.specs.Prelude.{◌≡◌, ℕ, suc, ◌<◌, Some, true}
 use Rattle.word_terms.specs.Tree.{WordTree, Const, Var}
 use Rattle.tailrec_lang.specs.declared.group.Exit.{Exit}
 use Rattle.tailrec_lang.specs.declared.group.Exit.TheVariants.{At, Ret}
-use Rattle.tailrec_lang.specs.Tree.{DefTree, GroupTree}
 use Rattle.triple_kernel.specs.Tree.{TripleTree}
 use Rattle.checker.specs.Instance.{History}
-use Rattle.path_walk.specs.Bodies.{Flow, Place, fresh, mem_count}
-
--- a group over the graph's registers and memory
-abbrev pub group_over : Flow → List ℕ → List Range → List DefTree → GroupTree
-group_over f name code defs = record { name = name; regs = f.regs; mems = mem_count f; code = code; defs = defs }
+use Rattle.code_parts.specs.Bodies.{Flow, Place, fresh}
 
 -- where a walk goes on after an exit
 abbrev pub pc_of : Exit → ℕ → WordTree

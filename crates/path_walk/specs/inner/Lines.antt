@@ -7,9 +7,9 @@ use Rattle.tailrec_lang.specs.Tree.{ArmTrees}
 use Rattle.triple_kernel.specs.Tree.{FactTree}
 use Rattle.loop_rule.specs.Leaves.{arm_leaves}
 use Rattle.proof_text.specs.Line.{LineTree, Forget, Loop, States}
-use Rattle.path_walk.specs.declared.part.Part.{Part}
-use Rattle.path_walk.specs.Bodies.{Flow, Place, current, part_def}
-use Rattle.path_walk.specs.Graph.{ArmsClosed}
+use Rattle.code_parts.specs.declared.part.Part.{Part}
+use Rattle.code_parts.specs.Bodies.{Flow, Place, current, part_def}
+use Rattle.path_walk.specs.Closed.{ArmsClosed}
 use Rattle.path_walk.specs.inner.Logs.{FromAs, IsReady, Led, LogTree, Setting, StandingTree, group_in, past}
 
 -- how many lines state a triple

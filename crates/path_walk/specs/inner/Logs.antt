@@ -19,10 +19,12 @@ use Rattle.proof_text.specs.declared.line.Line.{Line}
 use Rattle.proof_text.specs.Line.{LineTree, RuleTree, States, line_tree}
 use Rattle.proof_text.specs.LineLimits.{IsFact, IsLine}
 use Rattle.checker.specs.Instance.{AreInstances, History, after_line, after_lines}
-use Rattle.path_walk.specs.declared.part.Part.{Part}
-use Rattle.path_walk.specs.Bodies.{Flow, Place, names, part_def, start}
-use Rattle.path_walk.specs.Graph.{AreClosed, HasPart, IsCode, IsPart}
-use Rattle.path_walk.specs.inner.Histories.{IsCounted, Keeps, group_over}
+use Rattle.code_parts.specs.declared.part.Part.{Part}
+use Rattle.code_parts.specs.Bodies.{Flow, Place, names, part_def, start}
+use Rattle.path_walk.specs.Closed.{AreClosed}
+use Rattle.code_parts.specs.Graph.{HasPart, IsCode, IsPart}
+use Rattle.path_walk.specs.inner.Histories.{IsCounted, Keeps}
+use Rattle.code_parts.specs.Flows.{group_over}
 
 -- a theorem by its number, with its facts and its code
 pub record StandingTree : Type 0 where

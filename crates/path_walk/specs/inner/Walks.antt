@@ -5,9 +5,9 @@ use Rattle.tailrec_lang.specs.Tree.{DefTree, GroupTree}
 use Rattle.proof_text.specs.Line.{LineTree}
 use Rattle.proof_text.specs.LineLimits.{IsLine}
 use Rattle.checker.specs.Instance.{AreInstances, after_lines, no_lines}
-use Rattle.path_walk.specs.Bodies.{part_def}
-use Rattle.path_walk.specs.Graph.{IsMade}
-use Rattle.path_walk.specs.inner.Kept.{FlowOf, flow_in}
+use Rattle.code_parts.specs.Bodies.{part_def}
+use Rattle.code_parts.specs.Graph.{IsMade}
+use Rattle.code_parts.specs.Kept.{FlowOf, flow_in}
 
 -- lines that are right, after which the first n definitions are closed
 pub record CloseFirst (g : GroupTree) (n : ℕ) (lines : List LineTree) : Type 0 where

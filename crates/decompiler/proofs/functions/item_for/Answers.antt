@@ -1,6 +1,6 @@
 use Rattle.std.proofs.Common.{List, ℕ, Ok, Err, sym, subst}
 use Rattle.std.proofs.lemmas.Result.{IfErr-weaker}
-use Rattle.elf_image.specs.Image.{ImageOf, code_in}
+use Rattle.elf_image.specs.Image.{ImageOf, code_in, image_of}
 use Rattle.flow_graph.specs.declared.outside.Outside.{Outside}
 use Rattle.decompiler.specs.Faults.{IsFirst}
 use Rattle.decompiler.specs.Names.{StandsFor}
@@ -9,6 +9,7 @@ use Rattle.decompiler.proofs.Fragment.{first_of_name, none_at}
 use Rattle.decompiler.proofs.functions.item_for.Goals as goal
 
 pub returns-in_ok-name-in-Ok-clause-none : goal.returns-in_ok-name-in-Ok-clause-none
+unfolding image_of
 returns-in_ok-name-in-Ok-clause-none c file is =
     let stands : StandsFor file c.args.name.now (Ok c.in-Ok.entry) =
     subst (λ (name : List ℕ). StandsFor file name (Ok c.in-Ok.entry)) c.as_slice.ensures (subst (StandsFor file c.as_slice.result.now) c.in-Ok.is (c.address_of.ensures file is)) in

@@ -2,11 +2,11 @@ use Rattle.std.proofs.Common.{◌≡◌, ℕ, ◌^◌, ◌<◌, true, sym, ◌�
 use Rattle.rv_decode.specs.declared.instruction.Instr.{Instr}
 use Rattle.rv_machine.specs.Step.{is_aligned}
 use Rattle.triple_kernel.specs.Tree.{fact_tree}
-use Rattle.path_walk.specs.Bodies.{Flow, Place}
+use Rattle.code_parts.specs.Bodies.{Flow, Place}
 use Rattle.path_walk.specs.inner.Acts.{IsFineAct, act_standing, acted}
-use Rattle.path_walk.specs.inner.Kept.{flow_in}
+use Rattle.code_parts.specs.Kept.{flow_in}
 use Rattle.path_walk.specs.inner.Logs.{LogTree, log_tree}
-use Rattle.path_walk.specs.inner.Places.{place_of}
+use Rattle.code_parts.specs.Places.{place_of}
 use Rattle.path_walk.proofs.Fine.{act-fine, act-standing-fine}
 use Rattle.path_walk.proofs.Places.{low_place}
 use Rattle.path_walk.proofs.act_lines.act.Goals as goal

@@ -4,10 +4,10 @@ use Rattle.instr_axioms.specs.Axiom.{own, triple_over, word_code}
 use Rattle.instr_axioms.specs.Variables.{names_of}
 use Rattle.proof_text.specs.Line.{Axiom, Frame, Inst, Weaken}
 use Rattle.proof_text.specs.LineLimits.{IsTriple}
-use Rattle.path_walk.specs.Bodies.{Place, names}
+use Rattle.code_parts.specs.Bodies.{Place, names}
 use Rattle.path_walk.specs.inner.Acts.{own_mems, own_words}
 use Rattle.path_walk.specs.inner.Logs.{LogTree, log_tree, stating}
-use Rattle.path_walk.specs.inner.Places.{place_of}
+use Rattle.code_parts.specs.Places.{place_of}
 use Rattle.path_walk.proofs.act_lines.act_lines.Goals as goal
 
 pub state-requires-2-clause-stated : goal.state-requires-2-clause-stated

@@ -3,10 +3,10 @@ use Rattle.instr_axioms.specs.Axiom.{own, triple_over, word_code}
 use Rattle.instr_axioms.specs.Variables.{names_of}
 use Rattle.proof_text.specs.Line.{Inst}
 use Rattle.proof_text.specs.LineLimits.{IsTriple}
-use Rattle.path_walk.specs.Bodies.{names}
+use Rattle.code_parts.specs.Bodies.{names}
 use Rattle.path_walk.specs.inner.Acts.{numbered}
 use Rattle.path_walk.specs.inner.Logs.{log_tree, stating}
-use Rattle.path_walk.specs.inner.Places.{place_of}
+use Rattle.code_parts.specs.Places.{place_of}
 use Rattle.path_walk.proofs.act_lines.put_current.Goals as goal
 
 pub state-requires-clause-stated : goal.state-requires-clause-stated

@@ -1,8 +1,8 @@
 use Rattle.std.proofs.Common.{ap, ◌∙◌, arith}
 use Rattle.instr_axioms.specs.Terms.{pc_after}
-use Rattle.path_walk.specs.Bodies.{Place, names, place_after}
-use Rattle.path_walk.specs.inner.Kept.{flow_in}
-use Rattle.path_walk.specs.inner.Places.{place_of}
+use Rattle.code_parts.specs.Bodies.{Place, names, place_after}
+use Rattle.code_parts.specs.Kept.{flow_in}
+use Rattle.code_parts.specs.Places.{place_of}
 use Rattle.path_walk.proofs.Acted.{steps_made}
 use Rattle.path_walk.proofs.Places.{after_few}
 use Rattle.path_walk.proofs.act_lines.step.Goals as goal

@@ -3,12 +3,12 @@ use Rattle.std.proofs.lemmas.Result.{on_ok_weaker}
 use Rattle.rv_decode.specs.declared.instruction.Instr.{Instr}
 use Rattle.word_terms.specs.Tree.{Const}
 use Rattle.triple_kernel.specs.declared.form.Form.TheVariants.{Next, Taken}
-use Rattle.path_walk.specs.Bodies.{Flow, Place, body_at}
-use Rattle.path_walk.specs.Graph.{has_edge, is_return}
-use Rattle.path_walk.specs.inner.Kept.{flow_in}
+use Rattle.code_parts.specs.Bodies.{Flow, Place, body_at}
+use Rattle.code_parts.specs.Graph.{has_edge, is_return}
+use Rattle.code_parts.specs.Kept.{flow_in}
 use Rattle.path_walk.specs.inner.Logs.{Leads, LogTree, StandingTree, log_tree, standing_tree}
-use Rattle.path_walk.specs.inner.Places.{place_of}
-use Rattle.path_walk.proofs.Built.{straight_edge}
+use Rattle.code_parts.specs.Places.{place_of}
+use Rattle.code_parts.proofs.Built.{straight_edge}
 use Rattle.path_walk.proofs.Led.{branch_leads, return_leads, steps_front, straight_leads}
 use Rattle.path_walk.proofs.Near.{few_more, next_is}
 use Rattle.path_walk.proofs.body_lines.+body_lines.Goals as goal

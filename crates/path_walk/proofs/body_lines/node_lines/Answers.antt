@@ -1,7 +1,7 @@
 use Rattle.std.proofs.Common.{OnOk, None, subst}
 use Rattle.word_terms.specs.Tree.{Const}
-use Rattle.path_walk.specs.Bodies.{Flow, Place, body_at}
-use Rattle.path_walk.specs.inner.Kept.{flow_in}
+use Rattle.code_parts.specs.Bodies.{Flow, Place, body_at}
+use Rattle.code_parts.specs.Kept.{flow_in}
 use Rattle.path_walk.specs.inner.Logs.{Leads, log_tree}
 use Rattle.path_walk.proofs.body_lines.node_lines.Goals as goal
 

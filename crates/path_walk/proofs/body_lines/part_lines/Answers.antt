@@ -1,12 +1,12 @@
 use Rattle.std.proofs.Common.{◌≡◌, ◌<◌, ℕ, Option, Some, None, refl, sym, ◌∙◌, subst}
 use Rattle.std.proofs.lemmas.Result.{on_ok_weaker}
 use Rattle.word_terms.specs.Tree.{Const}
-use Rattle.path_walk.specs.declared.part.Part.{Part}
-use Rattle.path_walk.specs.declared.part.Part.TheVariants.{Loop, Rest}
-use Rattle.path_walk.specs.Bodies.{Flow, first, part_body, start}
-use Rattle.path_walk.specs.Graph.{IsPart}
-use Rattle.path_walk.specs.inner.Ends.{IsNear}
-use Rattle.path_walk.specs.inner.Kept.{flow_in}
+use Rattle.code_parts.specs.declared.part.Part.{Part}
+use Rattle.code_parts.specs.declared.part.Part.TheVariants.{Loop, Rest}
+use Rattle.code_parts.specs.Bodies.{Flow, first, part_body, start}
+use Rattle.code_parts.specs.Graph.{IsPart}
+use Rattle.path_walk.specs.inner.Near.{IsNear}
+use Rattle.code_parts.specs.Kept.{flow_in}
 use Rattle.path_walk.specs.inner.Logs.{Leads, log_tree}
 use Rattle.path_walk.proofs.Closing.{head_part}
 use Rattle.path_walk.proofs.Near.{head_there, loop_near, rest_near}

@@ -1,10 +1,10 @@
 use Rattle.std.proofs.Common.{◌≡◌, true, false, rules, Some}
 use Rattle.std.proofs.lemmas.Result.{on_ok_weaker}
 use Rattle.word_terms.specs.Tree.{Const}
-use Rattle.path_walk.specs.Bodies.{Flow}
-use Rattle.path_walk.specs.inner.Kept.{flow_in}
+use Rattle.code_parts.specs.Bodies.{Flow}
+use Rattle.code_parts.specs.Kept.{flow_in}
 use Rattle.path_walk.specs.inner.Logs.{log_tree, standing_tree}
-use Rattle.path_walk.specs.inner.Places.{place_of}
+use Rattle.code_parts.specs.Places.{place_of}
 use Rattle.path_walk.proofs.Led.{back_leads, back_none}
 use Rattle.path_walk.proofs.cut_lines.back_lines.Goals as goal
 

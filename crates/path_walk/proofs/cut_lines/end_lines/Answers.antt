@@ -1,10 +1,10 @@
 use Rattle.std.proofs.Common.{Some, sym, ◌∙◌, subst}
 use Rattle.std.proofs.lemmas.Result.{on_ok_weaker}
 use Rattle.word_terms.specs.Tree.{Const}
-use Rattle.path_walk.specs.Bodies.{Flow, end_at}
-use Rattle.path_walk.specs.inner.Kept.{flow_in}
+use Rattle.code_parts.specs.Bodies.{Flow, end_at}
+use Rattle.code_parts.specs.Kept.{flow_in}
 use Rattle.path_walk.specs.inner.Logs.{Leads, LogTree, log_tree, standing_tree}
-use Rattle.path_walk.specs.inner.Places.{place_of}
+use Rattle.code_parts.specs.Places.{place_of}
 use Rattle.path_walk.proofs.Led.{around-own, end_called, end_own}
 use Rattle.path_walk.proofs.cut_lines.end_lines.Goals as goal
 

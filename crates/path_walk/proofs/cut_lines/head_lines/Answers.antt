@@ -4,13 +4,13 @@ use Rattle.std.specs.Prelude.{slice_get}
 use Rattle.word_terms.specs.Tree.{Const}
 use Rattle.tailrec_lang.specs.declared.group.Exit.TheVariants.{At}
 use Rattle.triple_kernel.specs.Tree.{Gives}
-use Rattle.path_walk.specs.declared.part.Part.TheVariants.{Loop}
-use Rattle.path_walk.specs.Bodies.{Flow, Place, arms_over, current, end_at, fresh, start}
+use Rattle.code_parts.specs.declared.part.Part.TheVariants.{Loop}
+use Rattle.code_parts.specs.Bodies.{Flow, Place, arms_over, current, end_at, fresh, start}
 use Rattle.path_walk.specs.inner.Acts.{results_at}
-use Rattle.path_walk.specs.inner.Kept.{flow_in}
+use Rattle.code_parts.specs.Kept.{flow_in}
 use Rattle.path_walk.specs.inner.Lines.{ArmsLead}
 use Rattle.path_walk.specs.inner.Logs.{Leads, StandingTree, StepsBy, log_tree, standing_tree}
-use Rattle.path_walk.specs.inner.Places.{place_of}
+use Rattle.code_parts.specs.Places.{place_of}
 use Rattle.path_walk.proofs.Closing.{left_next, left_none}
 use Rattle.path_walk.proofs.Near.{exit_end}
 use Rattle.path_walk.proofs.cut_lines.head_lines.Goals as goal

@@ -1,8 +1,8 @@
 use Rattle.std.proofs.Common.{◌≡◌, [], None}
 use Rattle.word_terms.specs.Tree.{Const}
-use Rattle.path_walk.specs.declared.part.Part.TheVariants.{Loop}
-use Rattle.path_walk.specs.Bodies.{end_at, fresh, start}
-use Rattle.path_walk.specs.inner.Kept.{flow_in}
+use Rattle.code_parts.specs.declared.part.Part.TheVariants.{Loop}
+use Rattle.code_parts.specs.Bodies.{end_at, fresh, start}
+use Rattle.code_parts.specs.Kept.{flow_in}
 use Rattle.path_walk.specs.inner.Logs.{log_tree}
 use Rattle.path_walk.proofs.Closing.{ArmsLeft}
 use Rattle.path_walk.proofs.cut_lines.head_lines.Given as goal

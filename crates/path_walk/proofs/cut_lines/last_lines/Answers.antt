@@ -2,10 +2,10 @@ use Rattle.std.proofs.Common.{◌≡◌, ℕ, get_or, refl, sym, ◌∙◌, subs
 use Rattle.std.proofs.lemmas.Option.{slice_get-get_or}
 use Rattle.std.specs.Prelude.{slice_get}
 use Rattle.word_terms.specs.Tree.{Const}
-use Rattle.path_walk.specs.Bodies.{Flow, Place, fresh, last_at, own, rest_targets}
-use Rattle.path_walk.specs.inner.Kept.{flow_in}
+use Rattle.code_parts.specs.Bodies.{Flow, Place, fresh, last_at, own, rest_targets}
+use Rattle.code_parts.specs.Kept.{flow_in}
 use Rattle.path_walk.specs.inner.Logs.{Leads, LogTree, log_tree, standing_tree}
-use Rattle.path_walk.specs.inner.Places.{place_of}
+use Rattle.code_parts.specs.Places.{place_of}
 use Rattle.path_walk.proofs.Closing.{left_next, left_none}
 use Rattle.path_walk.proofs.Led.{last_leads}
 use Rattle.path_walk.proofs.cut_lines.last_lines.Goals as goal

@@ -1,9 +1,9 @@
 use Rattle.std.proofs.Common.{◌≡◌, [], Some}
 use Rattle.word_terms.specs.Tree.{Const}
-use Rattle.path_walk.specs.Bodies.{first, fresh, last_at}
-use Rattle.path_walk.specs.inner.Kept.{flow_in}
+use Rattle.code_parts.specs.Bodies.{first, fresh, last_at}
+use Rattle.code_parts.specs.Kept.{flow_in}
 use Rattle.path_walk.specs.inner.Logs.{log_tree, standing_tree}
-use Rattle.path_walk.specs.inner.Places.{place_of}
+use Rattle.code_parts.specs.Places.{place_of}
 use Rattle.path_walk.proofs.Closing.{ArmsLeft}
 use Rattle.path_walk.proofs.cut_lines.last_lines.Given as goal
 

@@ -1,12 +1,12 @@
 use Rattle.std.proofs.Common.{◌≡◌, ℕ, OnOk, List, [], ◌++◌, Some, ap, map, sym, ◌∙◌, subst}
 use Rattle.word_terms.specs.Tree.{Const}
 use Rattle.tailrec_lang.specs.declared.group.Exit.TheVariants.{At}
-use Rattle.path_walk.specs.declared.part.Part.TheVariants.{Rest}
-use Rattle.path_walk.specs.Bodies.{Flow, Place, arms_over, fresh, last_at, rest_targets}
-use Rattle.path_walk.specs.inner.Kept.{flow_in}
+use Rattle.code_parts.specs.declared.part.Part.TheVariants.{Rest}
+use Rattle.code_parts.specs.Bodies.{Flow, Place, arms_over, fresh, last_at, rest_targets}
+use Rattle.code_parts.specs.Kept.{flow_in}
 use Rattle.path_walk.specs.inner.Lines.{ArmsLead}
 use Rattle.path_walk.specs.inner.Logs.{log_tree, standing_tree}
-use Rattle.path_walk.specs.inner.Places.{place_of}
+use Rattle.code_parts.specs.Places.{place_of}
 use Rattle.path_walk.proofs.cut_lines.loop_rest_lines.Goals as goal
 
 pub last_lines-requires-clause-targets : goal.last_lines-requires-clause-targets

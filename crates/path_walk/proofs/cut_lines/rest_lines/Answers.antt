@@ -1,11 +1,11 @@
 use Rattle.std.proofs.Common.{ℕ, OnOk, Option, Some, sym, ◌∙◌, subst}
 use Rattle.word_terms.specs.Tree.{Const}
-use Rattle.path_walk.specs.declared.part.Part.TheVariants.{Rest}
-use Rattle.path_walk.specs.Bodies.{Flow, exits_of, rest_arms}
-use Rattle.path_walk.specs.inner.Kept.{flow_in}
+use Rattle.code_parts.specs.declared.part.Part.TheVariants.{Rest}
+use Rattle.code_parts.specs.Bodies.{Flow, exits_of, rest_arms}
+use Rattle.code_parts.specs.Kept.{flow_in}
 use Rattle.path_walk.specs.inner.Lines.{ArmsLead}
 use Rattle.path_walk.specs.inner.Logs.{log_tree, standing_tree}
-use Rattle.path_walk.specs.inner.Places.{place_of}
+use Rattle.code_parts.specs.Places.{place_of}
 use Rattle.path_walk.proofs.cut_lines.rest_lines.Goals as goal
 
 pub returns-in-Some : goal.returns-in-Some

@@ -1,11 +1,11 @@
 use Rattle.std.proofs.Common.{sym, ◌∙◌, subst}
 use Rattle.proof_text.specs.Line.{Inst, UseExit}
 use Rattle.proof_text.specs.LineLimits.{IsTriple}
-use Rattle.path_walk.specs.Bodies.{Flow, Place}
+use Rattle.code_parts.specs.Bodies.{Flow, Place}
 use Rattle.path_walk.specs.inner.Acts.{call_mems, call_words, gives_over}
-use Rattle.path_walk.specs.inner.Kept.{flow_in}
+use Rattle.code_parts.specs.Kept.{flow_in}
 use Rattle.path_walk.specs.inner.Logs.{log_tree, stating}
-use Rattle.path_walk.specs.inner.Places.{place_of}
+use Rattle.code_parts.specs.Places.{place_of}
 use Rattle.path_walk.proofs.exit_lines.exit_lines.Goals as goal
 
 pub state-requires-clause-stated : goal.state-requires-clause-stated

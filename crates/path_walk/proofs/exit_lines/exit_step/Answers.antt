@@ -1,6 +1,6 @@
 use Rattle.std.proofs.Common.{ap, ◌∙◌}
-use Rattle.path_walk.specs.inner.Kept.{flow_in}
-use Rattle.path_walk.specs.inner.Places.{place_of}
+use Rattle.code_parts.specs.Kept.{flow_in}
+use Rattle.code_parts.specs.Places.{place_of}
 use Rattle.path_walk.proofs.Exited.{exit_made}
 use Rattle.path_walk.proofs.exit_lines.exit_step.Goals as goal
 

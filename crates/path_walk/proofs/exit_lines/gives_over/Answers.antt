@@ -1,5 +1,5 @@
 use Rattle.std.proofs.Common.{◌∙◌}
-use Rattle.path_walk.specs.inner.Kept.{flow_in}
+use Rattle.code_parts.specs.Kept.{flow_in}
 use Rattle.path_walk.specs.inner.Logs.{standing_at}
 use Rattle.path_walk.proofs.exit_lines.gives_over.Goals as goal
 

@@ -2,8 +2,8 @@ use Rattle.std.proofs.Common.{◌<◌, List, subst, ◌∙◌, arith}
 use Rattle.std.specs.List.{AllByRecursion}
 use Rattle.rv_words.specs.declared.range.Range.{Range}
 use Rattle.rv_words.specs.Ranges.{AreRanges}
-use Rattle.path_walk.specs.inner.Kept.{flow_in}
-use Rattle.path_walk.specs.inner.Places.{place_of}
+use Rattle.code_parts.specs.Kept.{flow_in}
+use Rattle.code_parts.specs.Places.{place_of}
 use Rattle.path_walk.proofs.Fine.{exit-fine, exit-standing-fine}
 use Rattle.path_walk.proofs.Places.{low_place}
 use Rattle.path_walk.proofs.exit_lines.leave_by.Goals as goal

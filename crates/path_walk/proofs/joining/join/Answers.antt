@@ -6,10 +6,10 @@ use Rattle.sep_assert.specs.Code.{IsWithin}
 use Rattle.triple_kernel.specs.Tree.{FactTree, fact_tree}
 use Rattle.frame_compose.specs.Rules.{AreMissing}
 use Rattle.proof_text.specs.LineLimits.{IsTriple}
-use Rattle.path_walk.specs.Bodies.{Flow, start}
-use Rattle.path_walk.specs.inner.Kept.{flow_in}
+use Rattle.code_parts.specs.Bodies.{Flow, start}
+use Rattle.code_parts.specs.Kept.{flow_in}
 use Rattle.path_walk.specs.inner.Logs.{IsFineStanding, StandingTree, standing_at, standing_tree}
-use Rattle.path_walk.specs.inner.Places.{place_of}
+use Rattle.code_parts.specs.Places.{place_of}
 use Rattle.path_walk.proofs.Fine.{joined-fine, union_within, whole-fine}
 use Rattle.path_walk.proofs.Places.{low_place}
 use Rattle.path_walk.proofs.joining.join.Goals as goal

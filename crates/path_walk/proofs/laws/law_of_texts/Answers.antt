@@ -1,4 +1,4 @@
-use Rattle.path_walk.proofs.FlowSize.{is-group}
+use Rattle.path_walk.proofs.Texts.{is-group}
 use Rattle.path_walk.proofs.laws.law_of_texts.Goals as goal
 
 pub returns : goal.returns

@@ -2,8 +2,8 @@ use Rattle.std.proofs.Common.{◌+◌, ◌∷◌, [], ◌++◌, length, map, ap,
 use Rattle.std.proofs.lemmas.List.{map-append}
 use Rattle.word_terms.specs.Tree.{Var}
 use Rattle.proof_text.specs.Line.{word_put_in}
-use Rattle.path_walk.specs.Bodies.{names}
-use Rattle.path_walk.specs.inner.Places.{place_of}
+use Rattle.code_parts.specs.Bodies.{names}
+use Rattle.code_parts.specs.Places.{place_of}
 use Rattle.path_walk.proofs.Numbered.{added_more}
 use Rattle.path_walk.proofs.subs.add_registers.Goals as goal
 

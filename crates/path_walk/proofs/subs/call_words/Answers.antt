@@ -1,9 +1,9 @@
 use Rattle.std.proofs.Common.{◌≡◌, ◌+◌, ◌++◌, length, map, sym, ◌∙◌, arith}
 use Rattle.proof_text.specs.Line.{word_put_in}
-use Rattle.path_walk.specs.Bodies.{Flow, Place, current, names}
+use Rattle.code_parts.specs.Bodies.{Flow, Place, current, names}
 use Rattle.path_walk.specs.inner.Acts.{numbered, results_at}
-use Rattle.path_walk.specs.inner.Kept.{flow_in}
-use Rattle.path_walk.specs.inner.Places.{place_of}
+use Rattle.code_parts.specs.Kept.{flow_in}
+use Rattle.code_parts.specs.Places.{place_of}
 use Rattle.path_walk.proofs.Numbered.{listed-long, map-long, numbered-append}
 use Rattle.path_walk.proofs.subs.call_words.Goals as goal
 

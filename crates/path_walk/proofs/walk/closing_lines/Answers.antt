@@ -1,6 +1,6 @@
 use Rattle.std.proofs.Common.{refl, map}
 use Rattle.proof_text.specs.Line.{Loop, line_tree}
-use Rattle.path_walk.specs.inner.Kept.{flow_in}
+use Rattle.code_parts.specs.Kept.{flow_in}
 use Rattle.path_walk.specs.inner.Logs.{log_tree}
 use Rattle.path_walk.proofs.Closing.{closing, pushed}
 use Rattle.path_walk.proofs.walk.closing_lines.Goals as goal

@@ -1,0 +1,149 @@
+-- A graph has few parts, and small numbers.
+use Rattle.std.proofs.Common.{◌≡◌, ℕ, zero, suc, ◌+◌, ◌^◌, ◌<◌, ◌≤◌, List, [], ◌∷◌, map, length, get_or, Bool, true, false, cond, eqb, ltb, nat_eq, refl, sym, ap, subst, ◌∙◌, arith, Some, inl, inr}
+use Rattle.std.proofs.lemmas.Bool.{ltb-true}
+use Rattle.std.proofs.lemmas.Bool.Decides.{eqb_tells}
+use Rattle.std.proofs.lemmas.Cmp.{nat_eq_equiv}
+use Rattle.std.proofs.lemmas.Grind.{get_or_default_zero}
+use Rattle.std.proofs.lemmas.List.FromFn.{get_or-range_with_len, length-range_with_len}
+use Rattle.std.proofs.lemmas.Map.Keys.{IsDistinct-from_apart}
+use Rattle.std.proofs.lemmas.Map.Made.{length-le_from_is_member}
+use Rattle.std.proofs.lemmas.Map.Views.{Contains-from_any, exact_unsigned_eq, list_any-from_Contains}
+use Rattle.std.proofs.lemmas.Option.{get_or_from_slice_get, slice_get-get_or}
+use Rattle.std.specs.Prelude.{slice_get}
+use Rattle.std.specs.List.{Contains, range_with_len}
+use Rattle.rv_words.specs.Bytes.{Bytes}
+use Rattle.rv_decode.specs.declared.instruction.Instr.TheVariants as instr
+use Rattle.flow_graph.specs.Graph.{GraphOf, IsGraphOf}
+use Rattle.flow_graph.proofs.FlowLemmas.{is_flow}
+use Rattle.flow_graph.proofs.Standing.{graph_stands}
+use Rattle.loop_forest.specs.Forest.{ForestOf, IsForestOf, exits_of, number_of}
+use Rattle.code_parts.specs.declared.part.Part.{Part}
+use Rattle.code_parts.specs.declared.part.Part.TheVariants.{Loop, Rest}
+use Rattle.code_parts.specs.Bodies.{Flow}
+use Rattle.code_parts.specs.Graph.{IsPart, IsSmall}
+use Rattle.code_parts.specs.Flows.{flow_of, registers_of}
+use Rattle.code_parts.specs.Order.{AreParts}
+use Rattle.code_parts.proofs.Lists.{contains-cases, here, later, length-map, rising-short, slice-mapped, slice-there}
+use Rattle.code_parts.proofs.FlowGraph.{flow, walks}
+use Rattle.code_parts.proofs.FlowCode.{registers-rise}
+use Rattle.code_parts.proofs.FlowOrder.{never-before, part-at, place-below}
+
+-- ---- lists of different numbers
+
+range-has : (n q : ℕ) → q < n → Contains (range_with_len 0 n) q
+range-has n q lt =
+    let long = length-range_with_len 0 n in
+    let none : 0 + q ≡ q = omega arith in
+    (q, omega (arith, lt, long), get_or-range_with_len 0 n q q lt ∙ none)
+
+below-few : (xs : List ℕ) (n : ℕ) → ((i j d : ℕ) → i < j → j < length xs → eqb (get_or xs i d) (get_or xs j d) ≡ false) → ((q : ℕ) → Contains xs q → q < n) → length xs ≤ n
+below-few xs n apart low =
+    let le = length-le_from_is_member nat_eq_equiv xs (range_with_len 0 n) (IsDistinct-from_apart nat_eq xs apart)
+    (λ q h. list_any-from_Contains nat_eq_equiv q (range_with_len 0 n) (range-has n q (low q (Contains-from_any exact_unsigned_eq q xs h)))) in
+    let long = length-range_with_len 0 n in
+    omega (arith, le, long)
+
+mapped-has : {A B : Type 0} (h : A → B) (xs : List A) (q : B) → Contains (map h xs) q → (x : A) × Contains xs x × (h x ≡ q)
+mapped-has h [] q c = absurd (omega (arith, c.1))
+mapped-has h (x ∷ xs) q c = contains-cases (h x) (map h xs) q c (λ e. (x, here x xs, e)) (λ d. let r = mapped-has h xs q d in (r.0, later x xs r.0 r.1, r.2))
+
+-- ---- parts
+
+-- each part has a number of its own: those of loops, and then those of nodes
+abbrev part_number : ℕ → Part → ℕ
+part_number loops (Loop l) = l
+part_number loops (Rest r n) = loops + n
+
+module _ (f : Flow) (left : ℕ → ℕ) (parts : List Part) (order : AreParts f left parts) where
+  number-low : (p : Part) → IsPart f p → part_number f.loops p < f.loops + f.nodes
+  number-low (Loop l) there = omega (arith, there)
+  number-low (Rest r n) there = let lt = there.0 in omega (arith, lt)
+
+  number-is : (p q : Part) → IsPart f p → IsPart f q → part_number f.loops p ≡ part_number f.loops q → p ≡ q
+  number-is (Loop l) (Loop k) x y e = ap Loop e
+  number-is (Loop l) (Rest r n) x y e = absurd (omega (arith, x, e))
+  number-is (Rest r n) (Loop l) x y e = absurd (omega (arith, y, e))
+  number-is (Rest r n) (Rest q m) x y e =
+      let same : n ≡ m = omega (arith, e) in
+      let region = sym x.2 ∙ ap f.around same ∙ y.2 in
+      λ i. Rest (region i) (same i)
+
+  different : (i j d : ℕ) → i < j → j < length (map (part_number f.loops) parts) → eqb (get_or (map (part_number f.loops) parts) i d) (get_or (map (part_number f.loops) parts) j d) ≡ false
+  different i j d lt low = elim (eqb_tells (get_or (map (part_number f.loops) parts) i d) (get_or (map (part_number f.loops) parts) j d)) [ inl t ↦ absurd (clash t.1) | inr t ↦ t.0 ]
+    where
+      long : length (map (part_number f.loops) parts) ≡ length parts
+      long = length-map (part_number f.loops) parts
+
+      p : (x : Part) × (slice_get parts i ≡ Some x)
+      p = slice-there parts i (omega (arith, lt, low, long))
+
+      q : (x : Part) × (slice_get parts j ≡ Some x)
+      q = slice-there parts j (omega (arith, low, long))
+
+      at : (k : ℕ) (x : Part) → slice_get parts k ≡ Some x → get_or (map (part_number f.loops) parts) k d ≡ part_number f.loops x
+      at k x e = get_or_from_slice_get (map (part_number f.loops) parts) k (part_number f.loops x) d (slice-mapped (part_number f.loops) parts k x e)
+
+      clash : get_or (map (part_number f.loops) parts) i d ≡ get_or (map (part_number f.loops) parts) j d → ⊥
+      clash e =
+          let one = number-is p.0 q.0 (part-at f left parts order i p.0 p.1).0 (part-at f left parts order j q.0 q.1).0 (sym (at i p.0 p.1) ∙ e ∙ at j q.0 q.1) in
+          never-before f left order.depth q.0 (order.ordered i j q.0 q.0 lt (p.1 ∙ ap Some one) q.1)
+
+  pub parts-few : length parts ≤ f.loops + f.nodes
+  parts-few =
+      let few = below-few (map (part_number f.loops) parts) (f.loops + f.nodes) different (λ q c.
+      let x = mapped-has (part_number f.loops) parts q c in
+      let low = number-low x.0 ((order.all x.0).0 x.1) in
+      subst (λ n. n < f.loops + f.nodes) x.2 low) in
+      let long = length-map (part_number f.loops) parts in
+      omega (arith, few, long)
+
+-- ---- numbers
+
+all-below : (xs : List ℕ) (b : ℕ) → 0 < b → ((k : ℕ) → k < length xs → get_or xs k 0 < b) → (n : ℕ) → get_or xs n 0 < b
+all-below [] b some each n = some
+all-below (x ∷ xs) b some each zero = each 0 (omega arith)
+all-below (x ∷ xs) b some each (suc n) = all-below xs b some (λ k lt. each (suc k) (omega (arith, lt))) n
+
+module _ (code : Bytes) (entry : ℕ) (g : GraphOf) (f : ForestOf) (parts : List Part) (graph : IsGraphOf code entry g) (forest : IsForestOf g f)
+    (order : AreParts (flow_of g f parts) (number_of f) parts) where
+  -- heads are nodes, and differ
+  heads-few : length f.heads ≤ length g.addrs
+  heads-few = below-few f.heads (length g.addrs) apart (λ h c. low h c)
+    where
+      apart : (i j d : ℕ) → i < j → j < length f.heads → eqb (get_or f.heads i d) (get_or f.heads j d) ≡ false
+      apart i j d lt long = elim (eqb_tells (get_or f.heads i d) (get_or f.heads j d)) [
+        | inl t ↦ (
+            let up = forest.rising.below i j lt long in
+            let same : get_or f.heads i 0 ≡ get_or f.heads j 0 = sym (get_or_default_zero f.heads i d (omega (arith, lt, long))) ∙ t.1 ∙ get_or_default_zero f.heads j d long in
+            absurd (omega (arith, up, same)))
+        | inr t ↦ t.0
+      ]
+
+      low : (h : ℕ) → Contains f.heads h → h < length g.addrs
+      low h c =
+          let is : get_or f.heads c.0 0 ≡ h = sym (get_or_default_zero f.heads c.0 h c.1) ∙ c.2 in
+          subst (λ n. n < length g.addrs) is ((walks code entry g f parts graph forest).head c.0 c.1).0
+
+  pub parts-fit : length parts ≤ 4096
+  parts-fit =
+      let few = parts-few (flow_of g f parts) (number_of f) parts order in
+      let heads = heads-few in
+      let nodes = (flow code entry g f parts graph forest).few in
+      omega (arith, few, heads, nodes)
+
+  pub is-small : IsSmall (flow_of g f parts)
+  is-small = record {
+    regs = (let short = rising-short 1 (registers_of g.instrs) (omega arith) (registers-rise g.instrs) in omega (arith, short));
+    exits = λ l. exit-few l (ltb l (length f.heads)) refl;
+    addr = all-below g.addrs (2 ^ 64) (omega arith) (λ n lt. let low = below n lt in omega (arith, low));
+    number = λ q. let low = place-below parts q in let few = parts-fit in omega (arith, low, few);
+  }
+    where
+      exit-few : (l : ℕ) (t : Bool) → ltb l (length f.heads) ≡ t → length (cond t (exits_of f l) []) ≤ 8
+      exit-few l true is = forest.few l (ltb-true l (length f.heads) is)
+      exit-few l false is = omega arith
+
+      below : (n : ℕ) → n < length g.addrs → get_or g.addrs n 0 + 3 < 2 ^ 64
+      below n lt =
+          let same = (is_flow code entry g graph).as_long in
+          (graph_stands code entry g n (get_or g.instrs n instr.Ebreak) graph lt (slice_get-get_or g.instrs n instr.Ebreak (omega (arith, lt, same)))).below

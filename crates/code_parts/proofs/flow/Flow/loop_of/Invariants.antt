@@ -1,0 +1,5 @@
+use Rattle.code_parts.proofs.Settings.{IsMissing}
+use Rattle.code_parts.proofs.flow.Flow.loop_of.Given as goal
+
+abbrev pub invariant-loop-l : goal.invariant-loop-l
+invariant-loop-l l = IsMissing l.self.forest.heads l.n l.l

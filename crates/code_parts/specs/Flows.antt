@@ -1,0 +1,99 @@
+-- What a graph and its forest tell of a function, in the form from which definitions of parts are made.
+use Rattle.std.specs.Prelude.{◌≡◌, ℕ, suc, ◌+◌, ◌==◌, ◌<◌, ◌^◌, nat_lt, Bool, true, false, ◌&&◌, if◌then◌else◌, Option, Some, None, List, [], ◌∷◌, map, length, slice_index, slice_index_or}
+use Rattle.std.specs.List.{list_any}
+use Rattle.rv_words.specs.Bytes.{Bytes, AreBytes}
+use Rattle.rv_words.specs.declared.range.Range.{Range}
+use Rattle.rv_words.specs.Ranges.{AreRanges, range_bytes}
+use Rattle.sep_assert.specs.Code.{IsWithin}
+use Rattle.rv_decode.specs.Decodes.{decoded}
+use Rattle.rv_decode.specs.declared.instruction.Instr.{Instr}
+use Rattle.rv_decode.specs.declared.instruction.Instr.TheVariants.{Ebreak}
+use Rattle.rv_decode.specs.Registers.{registers_where}
+use Rattle.tailrec_lang.specs.Tree.{GroupTree, DefTree}
+use Rattle.triple_kernel.specs.declared.form.Form.{Form}
+use Rattle.triple_kernel.specs.declared.form.Form.TheVariants.{Next, Taken}
+use Rattle.instr_axioms.specs.Terms.{has_memory}
+use Rattle.instr_axioms.specs.Axiom.{is_own, word_code}
+use Rattle.flow_graph.specs.Graph.{GraphOf, IsGraphOf, succs_of}
+use Rattle.loop_forest.specs.Forest.{ForestOf, exits_of, head_of, place_of, region_of}
+use Rattle.loop_forest.specs.Walking.{loop_of}
+use Rattle.code_parts.specs.declared.part.Part.{Part}
+use Rattle.code_parts.specs.declared.part.Part.TheVariants.{Loop, Rest}
+use Rattle.code_parts.specs.Bodies.{Flow, mem_count, part_def}
+use Rattle.code_parts.specs.Graph.{is_return}
+
+-- ---- numbers of parts
+
+abbrev pub same_region : Option ℕ → Option ℕ → Bool
+same_region None None = true
+same_region (Some l) (Some k) = l == k
+same_region r q = false
+
+abbrev pub same_part : Part → Part → Bool
+same_part (Loop l) (Loop k) = l == k
+same_part (Rest r n) (Rest q m) = same_region r q && n == m
+same_part p q = false
+
+-- the place of a part in a list
+abbrev pub place_in : List Part → Part → ℕ
+place_in [] p = 0
+place_in (q ∷ qs) p = if same_part q p then 0 else suc (place_in qs p)
+
+-- ---- the flow of a graph
+
+-- which of a node's edges an instruction takes in that form
+abbrev pub edge_number : Form → ℕ
+edge_number Next = 0
+edge_number Taken = 1
+
+-- the registers but x0 that stand in the instructions, rising
+abbrev pub registers_of : List Instr → List ℕ
+registers_of instrs = registers_where (λ r. list_any (λ i. is_own i r) instrs)
+
+-- The nodes and loops have the numbers that they have in the graph and in the forest, and a part that of its place in the list of parts.
+abbrev pub flow_of : GraphOf → ForestOf → List Part → Flow
+flow_of g f parts = record {
+  nodes = length g.addrs;
+  loops = length f.heads;
+  addr = λ n. slice_index g.addrs n;
+  instr = λ n. slice_index_or g.instrs n Ebreak;
+  to = λ n form. slice_index (succs_of g.edges n) (edge_number form);
+  is_cut = λ n. place_of f n == 0;
+  loop_of = loop_of f;
+  around = region_of f;
+  head = head_of f;
+  exits = λ l. if nat_lt l (length f.heads) then exits_of f l else [];
+  returns = list_any is_return g.instrs;
+  number = place_in parts;
+  regs = registers_of g.instrs;
+  has_mem = list_any has_memory g.instrs;
+}
+
+-- a group over the graph's registers and memory
+abbrev pub group_over : Flow → List ℕ → List Range → List DefTree → GroupTree
+group_over f name code defs = record { name = name; regs = f.regs; mems = mem_count f; code = code; defs = defs }
+
+-- .. that has the definition of each of the parts
+abbrev pub group_of : Flow → List ℕ → List Range → List Part → GroupTree
+group_of f name ranges parts = record { name = name; regs = f.regs; mems = mem_count f; code = ranges; defs = map (part_def f) parts }
+
+-- the four bytes of each node's instruction are in the ranges
+abbrev pub HaveCode : GraphOf → Bytes → List Range → Type 0
+HaveCode g code ranges = (n k b : ℕ) → n < length g.addrs → k < 4 → code (slice_index g.addrs n + k) ≡ Some b → range_bytes ranges (slice_index g.addrs n + k) ≡ Some b
+
+-- the graph of some code that is reached
+pub record IsReached (g : GraphOf) : Type 0 where
+  pub code : Bytes
+  pub entry : ℕ
+  pub bytes : AreBytes code
+  pub is : IsGraphOf code entry g
+
+-- the node's instruction is that word
+abbrev pub IsWordAt : GraphOf → ℕ → ℕ → Type 0
+IsWordAt g n w = (w < 2 ^ 32) × (decoded w ≡ Some (slice_index_or g.instrs n Ebreak))
+
+-- exactly the bytes of the nodes' instructions, in order
+pub record AreCodeOf (g : GraphOf) (ranges : List Range) : Type 0 where
+  pub order : AreRanges ranges
+  pub each : (n w : ℕ) → n < length g.addrs → IsWordAt g n w → IsWithin (range_bytes (word_code (slice_index g.addrs n) w)) (range_bytes ranges)
+  pub only : (a b : ℕ) → range_bytes ranges a ≡ Some b → (n : ℕ) × (w : ℕ) × (n < length g.addrs) × IsWordAt g n w × (range_bytes (word_code (slice_index g.addrs n) w) a ≡ Some b)

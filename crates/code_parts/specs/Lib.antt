@@ -1,0 +1,9 @@
+pub mod Bodies
+pub mod Graph
+pub mod Flows
+pub mod Order
+pub mod Regions
+pub mod Kept
+pub mod Low
+pub mod Places
+pub mod inner

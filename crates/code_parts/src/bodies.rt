@@ -1,0 +1,240 @@
+//! Bodies of parts.
+
+ghost use Rattle.std.specs.Prelude.{◌≡◌, ◌++◌, ◌+◌, ◌<◌, ◌^◌, ℕ, IfOk, Some, map};
+ghost use Rattle.std.specs.List.{All};
+ghost use Rattle.tailrec_lang.specs.Tree.{body_tree, step_tree, with_steps};
+ghost use Rattle.tailrec_lang.specs.inner.Tree.{end_tree};
+ghost use Rattle.code_parts.specs.Bodies as spec;
+ghost use Rattle.code_parts.specs.Graph.{IsPart};
+ghost use Rattle.code_parts.specs.Regions.{IsOfRegion};
+ghost use Rattle.code_parts.specs.inner.Ends.{body_on, returned_body};
+ghost use Rattle.code_parts.specs.Kept.{flow_in};
+ghost use Rattle.code_parts.specs.Places.{place_of};
+
+use crate::ends::{end_at, with_pc};
+use crate::flow::Flow;
+use crate::part::Part;
+use crate::place::{Place, after, current, fresh};
+use crate::steps::{add_needs, add_writes};
+use crate::uses::is_jump_through;
+use instr_axioms::{Form, comparison, pc_after};
+use rv_decode::Instr;
+use rv_words::{List, NoMemory};
+use std::alloc::Global;
+use tailrec_lang::{Body, End, Step};
+
+/// How many instructions there are at most from one cut to the next.
+pub const ROOM: u32 = 32;
+
+/// These steps, and those of an instruction that goes on to one node.
+fn steps_of(
+    alloc: Global,
+    i: Instr,
+    addr: u64,
+    place: &Place,
+    steps: List<Step>,
+) -> Result<List<Step>, NoMemory>
+    ensures { IfOk result (λ ss. map step_tree ss ≡ map step_tree steps ++ (spec.needs i (place_of place.now) ++ spec.writes i addr (place_of place.now))) }
+{
+    let mut steps = steps;
+    add_needs(alloc, i, place, &mut steps)?;
+    add_writes(alloc, i, addr, place, &mut steps)?;
+    Ok(steps)
+}
+
+/// These steps, and the body for a return.
+#[tactic(auto, using(tailrec_lang::proofs::Views::view_body, tailrec_lang::proofs::Views::view_leave))]
+fn returning_body(
+    alloc: Global,
+    flow: &Flow<'_>,
+    i: Instr,
+    addr: u64,
+    place: &Place,
+    steps: List<Step>,
+) -> Result<Body, NoMemory>
+    ensures { IfOk result (λ b. body_tree b ≡ with_steps (map step_tree steps) (returned_body (flow_in flow.now) i addr (place_of place.now))) }
+{
+    let mut steps = steps;
+    add_needs(alloc, i, place, &mut steps)?;
+    let pc = pc_after(alloc, i, Form::Next, addr, &place.names)?;
+    let values = current(alloc, flow, place)?;
+    let values = with_pc(alloc, pc, values)?;
+    Ok(Body {
+        steps,
+        end: End::Leave(0, values),
+    })
+}
+
+/// The body from a node on, after some steps: it follows the branches to the next cuts.
+#[tactic(auto, using(tailrec_lang::proofs::Views::view_body, tailrec_lang::proofs::Views::view_leave, tailrec_lang::proofs::Views::view_branch))]
+#[cycle(bodies)]
+fn body_from(
+    alloc: Global,
+    flow: &Flow<'_>,
+    p: Part,
+    n: u32,
+    place: &Place,
+    room: u32,
+    steps: List<Step>,
+) -> Result<Body, NoMemory>
+    requires own { IsOfRegion (flow_in flow.now) p }
+    requires node { n < (flow_in flow.now).nodes }
+    requires words { place.now.words + room < 2 ^ 14 }
+    requires mems { place.now.mems + room < 2 ^ 14 }
+    ensures { IfOk result (λ b. body_tree b ≡ with_steps (map step_tree steps) (spec.body_at room (flow_in flow.now) p n (place_of place.now))) }
+{
+    if room == 0 {
+        let values = current(alloc, flow, place)?;
+        return Ok(Body {
+            steps,
+            end: End::Leave(0, values),
+        });
+    }
+    let i = flow.instr(n);
+    if is_jump_through(i) {
+        return returning_body(alloc, flow, i, flow.addr(n), place, steps);
+    }
+    match i {
+        Instr::Branch { cmp, rs1, rs2, .. } => {
+            let c = comparison(alloc, cmp, rs1, rs2, &place.names)?;
+            let none = List::new(alloc);
+            let a = body_to(
+                alloc,
+                flow,
+                p,
+                flow.to(n, Form::Taken),
+                place,
+                room - 1,
+                none,
+            )?;
+            let none = List::new(alloc);
+            let b = body_to(
+                alloc,
+                flow,
+                p,
+                flow.to(n, Form::Next),
+                place,
+                room - 1,
+                none,
+            )?;
+            let end = End::Branch(c, Box::new(alloc, a)?, Box::new(alloc, b)?);
+            Ok(Body { steps, end })
+        }
+        _ => {
+            let steps = steps_of(alloc, i, flow.addr(n), place, steps)?;
+            let next = after(i, *place);
+            body_to(
+                alloc,
+                flow,
+                p,
+                flow.to(n, Form::Next),
+                &next,
+                room - 1,
+                steps,
+            )
+        }
+    }
+}
+
+/// The body from a node on to which an edge leads: at a cut it ends or calls the rest.
+#[tactic(auto, using(tailrec_lang::proofs::Views::view_body))]
+#[cycle(bodies)]
+fn body_to(
+    alloc: Global,
+    flow: &Flow<'_>,
+    p: Part,
+    n: u32,
+    place: &Place,
+    room: u32,
+    steps: List<Step>,
+) -> Result<Body, NoMemory>
+    requires own { IsOfRegion (flow_in flow.now) p }
+    requires node { n < (flow_in flow.now).nodes }
+    requires words { place.now.words + room < 2 ^ 14 }
+    requires mems { place.now.mems + room < 2 ^ 14 }
+    ensures { IfOk result (λ b. body_tree b ≡ with_steps (map step_tree steps) (body_on room (flow_in flow.now) p n (place_of place.now))) }
+{
+    if flow.is_cut(n) {
+        let end = end_at(alloc, flow, p, n, place)?;
+        return Ok(Body { steps, end });
+    }
+    body_from(alloc, flow, p, n, place, room, steps)
+}
+
+/// An arm for each of these nodes.
+#[tactic(auto, using(tailrec_lang::proofs::Views::view_body))]
+fn end_arms(
+    alloc: Global,
+    flow: &Flow<'_>,
+    p: Part,
+    targets: &[u32],
+    place: &Place,
+) -> Result<List<Body>, NoMemory>
+    requires own { IsOfRegion (flow_in flow.now) p }
+    requires nodes { All (λ x. x < (flow_in flow.now).nodes) targets.now }
+    requires words { place.now.words < 2 ^ 14 }
+    requires mems { place.now.mems < 2 ^ 14 }
+    ensures { IfOk result (λ arms. map body_tree arms ≡ map (λ x. spec.end_at (flow_in flow.now) p x (place_of place.now)) targets.now) }
+{
+    let mut arms = List::new(alloc);
+    for x in targets {
+        let end = end_at(alloc, flow, p, *x, place)?;
+        arms.push(Body {
+            steps: List::new(alloc),
+            end,
+        })?;
+    }
+    Ok(arms)
+}
+
+/// The body of the rest from a loop's head on: a call of the loop.
+#[tactic(auto, using(tailrec_lang::proofs::Views::view_body, tailrec_lang::proofs::Views::view_call))]
+fn head_body(alloc: Global, flow: &Flow<'_>, p: Part, l: u32) -> Result<Body, NoMemory>
+    requires own { IsOfRegion (flow_in flow.now) p }
+    requires loops { l < (flow_in flow.now).loops }
+    ensures { (n : ℕ) → IfOk result (λ b. body_tree b ≡ spec.rest_body 32 (flow_in flow.now) p n (Some l)) }
+{
+    let start = fresh(flow, 0, 0);
+    let number = flow.number(Part::Loop(l));
+    let values = current(alloc, flow, &start)?;
+    let next = fresh(flow, start.words, start.mems);
+    let arms = end_arms(alloc, flow, p, flow.exits(l), &next)?;
+    Ok(Body {
+        steps: List::new(alloc),
+        end: End::Call(number, values, arms),
+    })
+}
+
+/// The body of a part from its first node on, if that is no head of another loop.
+fn node_body(alloc: Global, flow: &Flow<'_>, p: Part, n: u32) -> Result<Body, NoMemory>
+    requires own { IsOfRegion (flow_in flow.now) p }
+    requires node { n < (flow_in flow.now).nodes }
+    ensures { IfOk result (λ b. body_tree b ≡ spec.body_at 32 (flow_in flow.now) p n (spec.start (flow_in flow.now))) }
+{
+    let start = fresh(flow, 0, 0);
+    body_from(alloc, flow, p, n, &start, ROOM, List::new(alloc))
+}
+
+/// The body of a rest from its node on.
+fn rest_body(alloc: Global, flow: &Flow<'_>, p: Part, node: u32) -> Result<Body, NoMemory>
+    requires own { IsOfRegion (flow_in flow.now) p }
+    requires node { node < (flow_in flow.now).nodes }
+    ensures { IfOk result (λ b. body_tree b ≡ spec.rest_body 32 (flow_in flow.now) p node ((flow_in flow.now).loop_of node)) }
+{
+    match flow.loop_of(node) {
+        Some(l) => head_body(alloc, flow, p, l),
+        None => node_body(alloc, flow, p, node),
+    }
+}
+
+/// The body of a part.
+pub fn part_body(alloc: Global, flow: &Flow<'_>, p: Part) -> Result<Body, NoMemory>
+    requires { IsPart (flow_in flow.now) p }
+    ensures { IfOk result (λ b. body_tree b ≡ spec.part_body (flow_in flow.now) p) }
+{
+    flow.law_of_regions(p);
+    match p {
+        Part::Loop(l) => node_body(alloc, flow, p, flow.head(l)),
+        Part::Rest { node, .. } => rest_body(alloc, flow, p, node),
+    }
+}

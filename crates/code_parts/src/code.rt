@@ -1,0 +1,110 @@
+//! The code of a graph.
+
+ghost use Rattle.std.specs.Prelude.{◌≡◌, ◌+◌, ◌<◌, ◌^◌, ℕ, IfOk, Some, length};
+ghost use Rattle.std.specs.List.{AllByRecursion};
+ghost use Rattle.rv_decode.specs.Decodes.{decoded};
+ghost use Rattle.code_parts.specs.Flows.{AreCodeOf, IsReached, IsWordAt};
+ghost use Rattle.code_parts.specs.inner.Words.{AreCodeTo};
+
+use flow_graph::Graph;
+use instr_axioms::word_code;
+use rv_decode::{Instr, encode};
+use rv_words::{List, NoMemory, Range};
+use sep_assert::code_join;
+use std::alloc::Global;
+use word_terms::Code;
+
+/// The word of an instruction that was decoded.
+fn word_of(i: Instr) -> u32
+    requires { (w : ℕ) × (w < 2 ^ 32) × (decoded w ≡ Some i) }
+    ensures { decoded result ≡ Some i }
+{
+    match encode(&i) {
+        Some(w) => w,
+        None => 0,
+    }
+}
+
+/// The word of a node's instruction.
+pub fn node_word(graph: &Graph, n: u32) -> u32
+    requires reached { IsReached graph.now }
+    requires node { n < length graph.now.addrs }
+    ensures { IsWordAt graph.now n result }
+{
+    graph.len();
+    word_of(graph.instr(n))
+}
+
+/// This code, and that of the next node's instruction.
+fn with_node(alloc: Global, graph: &Graph, n: u32, code: &Code) -> Result<Code, NoMemory>
+    requires reached { IsReached graph.now }
+    requires node { n < length graph.now.addrs }
+    requires code { AreCodeTo graph.now n code.now.ranges }
+    ensures { IfOk result (λ c. AreCodeTo graph.now (n + 1) c.ranges) }
+{
+    let more = word_code(alloc, graph.addr(n), node_word(graph, n))?;
+    let all = code_join(alloc, code, &more)?;
+    Ok(all)
+}
+
+/// The bytes of all instructions, as ranges in order.
+pub fn code_of(alloc: Global, graph: &Graph) -> Result<Code, NoMemory>
+    requires { IsReached graph.now }
+    ensures { IfOk result (λ c. AreCodeOf graph.now c.ranges) }
+{
+    let mut code = Code {
+        ranges: List::new(alloc),
+    };
+    for n in 0..graph.len() {
+        code = with_node(alloc, graph, n, &code)?;
+    }
+    Ok(code)
+}
+
+/// The same code in memory of its own.
+pub fn copy_code(alloc: Global, code: &Code) -> Result<Code, NoMemory>
+    ensures { IfOk result (λ copy. copy.ranges ≡ code.now.ranges) }
+{
+    let ranges = copy_ranges(alloc, code.ranges.as_slice())?;
+    Ok(Code { ranges })
+}
+
+fn copy_ranges(alloc: Global, ranges: &[Range]) -> Result<List<Range>, NoMemory>
+    ensures { IfOk result (λ copies. copies ≡ ranges.now) }
+{
+    let mut copies = List::new(alloc);
+    for range in ranges {
+        let copy = copy_range(alloc, range)?;
+        copies.push(copy)?;
+    }
+    Ok(copies)
+}
+
+fn copy_range(alloc: Global, range: &Range) -> Result<Range, NoMemory>
+    ensures { IfOk result (λ copy. copy ≡ range.now) }
+{
+    let bytes = List::from_slice(alloc, range.bytes.as_slice())?;
+    Ok(Range {
+        at: range.at,
+        bytes,
+    })
+}
+
+/// The bytes of code are bytes.
+pub fn law_of_bytes(code: &Code)
+    ensures { AllByRecursion (λ r. AllByRecursion (λ b. b < 256) r.bytes) code.now.ranges }
+{
+    law_of_ranges(code.ranges.as_slice());
+}
+
+fn law_of_ranges(ranges: &[Range])
+    ensures { AllByRecursion (λ r. AllByRecursion (λ b. b < 256) r.bytes) ranges.now }
+{
+    for range in ranges {
+        law_of_items(range.bytes.as_slice());
+    }
+}
+
+fn law_of_items(bytes: &[u8])
+    ensures { AllByRecursion (λ b. b < 256) bytes.now }
+{}

@@ -1,0 +1,260 @@
+//! What a graph and its forest tell of a function, in the form from which definitions of parts are made.
+
+ghost use Rattle.std.specs.Prelude.{◌≡◌, ◌<◌, ◌≤◌, ◌^◌, IfOk, IfSome, drop, length, slice_index, true};
+ghost use Rattle.std.specs.List.{All};
+ghost use Rattle.loop_forest.specs.Forest.{IsForestOf};
+ghost use Rattle.code_parts.specs.Graph.{IsCode, IsGraph, IsPart, StandsAt, has_edge};
+ghost use Rattle.code_parts.specs.Flows.{AreCodeOf, IsReached, IsWordAt, place_in, same_part};
+ghost use Rattle.code_parts.specs.Regions.{IsOfRegion, IsRegion};
+ghost use Rattle.code_parts.specs.Kept.{flow_in};
+ghost use Rattle.rv_decode.specs.Registers.{destination};
+
+use crate::code::{code_of, node_word};
+use crate::part::Part;
+use crate::uses::{registers, returns, uses_memory};
+use flow_graph::{Edges, Graph};
+use instr_axioms::Form;
+use loop_forest::Forest;
+use rv_decode::Instr;
+use rv_words::{List, NoMemory};
+use std::alloc::Global;
+use std::marker::Model;
+use word_terms::Code;
+
+/// A graph and its forest, with the parts that have numbers, what the instructions use, and their code.
+#[derive(Drop)]
+pub struct Flow<'a> {
+    graph: &'a Graph,
+    forest: &'a Forest,
+    parts: &'a [Part],
+    regs: List<u8>,
+    has_mem: bool,
+    returns: bool,
+    code: Code,
+}
+
+impl<'a> Model for Flow<'a> {
+    ghost use Rattle.code_parts.specs.Kept.{FlowOf, IsKept};
+
+    ghost Value = { FlowOf };
+
+    ghost view = { λ s. record { graph = s.graph.now; forest = s.forest.now; parts = s.parts.now; code = s.code.ranges } };
+
+    ghost invariant = { λ s. IsKept s.graph.now s.forest.now s.parts.now s.regs s.has_mem s.returns s.code.ranges };
+}
+
+impl<'a> Flow<'a> {
+    /// The flow of a graph and its forest, where these parts have their places as numbers.
+    pub fn new(
+        alloc: Global,
+        graph: &'a Graph,
+        forest: &'a Forest,
+        parts: &'a [Part],
+    ) -> Result<Flow<'a>, NoMemory>
+        requires reached { IsReached graph.now }
+        requires forest { IsForestOf graph.now forest.now }
+        requires few { length parts.now < 2 ^ 32 }
+        ensures graph { IfOk result (λ s. s.graph ≡ graph.now) }
+        ensures forest { IfOk result (λ s. s.forest ≡ forest.now) }
+        ensures parts { IfOk result (λ s. s.parts ≡ parts.now) }
+    {
+        let regs = registers(alloc, graph)?;
+        let code = code_of(alloc, graph)?;
+        Ok(Flow {
+            graph,
+            forest,
+            parts,
+            regs,
+            has_mem: uses_memory(graph),
+            returns: returns(graph),
+            code,
+        })
+    }
+
+    /// The address of a node.
+    pub fn addr(&self, n: u32) -> u64
+        requires { n < (flow_in self.now).nodes }
+        ensures { result ≡ (flow_in self.now).addr n }
+    {
+        self.graph.addr(n)
+    }
+
+    /// The instruction of a node.
+    pub fn instr(&self, n: u32) -> Instr
+        requires { n < (flow_in self.now).nodes }
+        ensures is { result ≡ (flow_in self.now).instr n }
+        ensures named { destination result < 32 }
+    {
+        let _count = self.graph.len();
+        self.graph.instr(n)
+    }
+
+    /// The node where a node's instruction goes on in that form.
+    pub fn to(&self, n: u32, form: Form) -> u32
+        requires node { n < (flow_in self.now).nodes }
+        ensures is { result ≡ (flow_in self.now).to n form }
+        ensures node { has_edge ((flow_in self.now).instr n) form ≡ true → result < (flow_in self.now).nodes }
+    {
+        let _count = self.graph.len();
+        let mut ends = self.graph.succs(n);
+        match form {
+            Form::Next => next_end(&mut ends),
+            Form::Taken => {
+                next_end(&mut ends);
+                next_end(&mut ends)
+            }
+        }
+    }
+
+    /// Whether a node is a cut.
+    pub fn is_cut(&self, n: u32) -> bool
+        requires { n < (flow_in self.now).nodes }
+        ensures { result ≡ (flow_in self.now).is_cut n }
+    {
+        self.forest.is_cut(n)
+    }
+
+    /// The loop whose head a node is.
+    pub fn loop_of(&self, n: u32) -> Option<u32>
+        ensures is { result ≡ (flow_in self.now).loop_of n }
+        ensures within { IfSome result (λ l. l < (flow_in self.now).loops) }
+    {
+        for l in 0..self.forest.loops() {
+            if self.forest.head(l) == n {
+                return Some(l);
+            }
+        }
+        None
+    }
+
+    /// The smallest loop that has a node, where a head counts as a node of the region around its loop.
+    pub fn around(&self, n: u32) -> Option<u32>
+        requires { n < (flow_in self.now).nodes }
+        ensures is { result ≡ (flow_in self.now).around n }
+        ensures within { IsRegion (flow_in self.now) result }
+    {
+        self.forest.region(n)
+    }
+
+    /// The head of a loop.
+    pub fn head(&self, l: u32) -> u32
+        requires { l < (flow_in self.now).loops }
+        ensures is { result ≡ (flow_in self.now).head l }
+        ensures node { result < (flow_in self.now).nodes }
+    {
+        self.forest.head(l)
+    }
+
+    /// The exit targets of a loop.
+    pub fn exits(&self, l: u32) -> &[u32]
+        requires { l < (flow_in self.now).loops }
+        ensures are { result.now ≡ (flow_in self.now).exits l }
+        ensures few { length result.now ≤ 8 }
+        ensures nodes { All (λ x. x < (flow_in self.now).nodes) result.now }
+    {
+        self.forest.exits(l)
+    }
+
+    /// Whether an instruction returns.
+    pub fn returns(&self) -> bool
+        ensures { result ≡ (flow_in self.now).returns }
+    {
+        self.returns
+    }
+
+    /// The number of a part's definition.
+    pub fn number(&self, p: Part) -> u32
+        ensures { result ≡ (flow_in self.now).number p }
+    {
+        place_of(self.parts, p)
+    }
+
+    /// The registers that are used.
+    pub fn regs(&self) -> &[u8]
+        ensures are { result.now ≡ (flow_in self.now).regs }
+        ensures few { length result.now ≤ 31 }
+        ensures registers { All (λ r. (0 < r) × (r < 32)) result.now }
+    {
+        self.regs.as_slice()
+    }
+
+    /// Whether there is a memory.
+    pub fn has_mem(&self) -> bool
+        ensures { result ≡ (flow_in self.now).has_mem }
+    {
+        self.has_mem
+    }
+
+    /// The code of the instructions.
+    pub fn code(&self) -> &Code
+        ensures is { result.now.ranges ≡ self.now.code }
+        ensures whole { AreCodeOf self.now.graph result.now.ranges }
+    {
+        &self.code
+    }
+
+    /// The word of a node's instruction.
+    pub fn word(&self, n: u32) -> u32
+        requires { n < (flow_in self.now).nodes }
+        ensures is { IsWordAt self.now.graph n result }
+        ensures stands { StandsAt (flow_in self.now) self.now.code result n }
+    {
+        node_word(self.graph, n)
+    }
+
+    /// Each instruction stands in the code.
+    pub fn law_of_code(&self)
+        ensures { IsCode (flow_in self.now) self.now.code }
+    {
+        let _parts = self.parts;
+    }
+
+    /// The regions of parts exist.
+    pub fn law_of_regions(&self, p: Part)
+        requires { IsPart (flow_in self.now) p }
+        ensures { IsOfRegion (flow_in self.now) p }
+    {
+        let _parts = self.parts;
+    }
+
+    /// The flow is what bodies of parts rest on.
+    pub fn law_of_graphs(&self)
+        ensures { IsGraph (flow_in self.now) }
+    {
+        let _parts = self.parts;
+    }
+}
+
+/// The next of these nodes, or 0 where there is none.
+fn next_end(ends: &mut Edges<'_>) -> u32
+    ensures first { result ≡ slice_index ends.old 0 }
+    ensures rest { ends.new ≡ drop 1 ends.old }
+{
+    ends.next().unwrap_or(0)
+}
+
+/// The place of a part among these, or their number.
+fn place_of(parts: &[Part], p: Part) -> u32
+    requires { length parts.now < 2 ^ 32 }
+    ensures { result ≡ place_in parts.now p }
+{
+    let mut place = 0;
+    for q in parts {
+        if same(*q, p) {
+            return place;
+        }
+        place += 1;
+    }
+    place
+}
+
+/// Whether two parts are the same.
+fn same(p: Part, q: Part) -> bool
+    ensures { result ≡ same_part p q }
+{
+    match (p, q) {
+        (Part::Loop(l), Part::Loop(k)) => l == k,
+        (Part::Rest { region: r, node: n }, Part::Rest { region: s, node: m }) => r == s && n == m,
+        _ => false,
+    }
+}

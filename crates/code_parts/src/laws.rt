@@ -1,0 +1,46 @@
+//! Laws of the parts of a graph. These functions do nothing: their contracts are the laws. Each speaks of the definitions alone.
+
+ghost use Rattle.std.specs.Prelude.{◌≡◌, ℕ, List, option_map, slice_get, Some};
+ghost use Rattle.rv_words.specs.Bytes.{Bytes, AreBytes};
+ghost use Rattle.rv_words.specs.declared.range.Range.{Range as TheRange};
+ghost use Rattle.tailrec_lang.specs.Tree.{DefTree, GroupTree, listed_def};
+ghost use Rattle.tailrec_lang.specs.WellFormed.{IsWellFormed};
+ghost use Rattle.flow_graph.specs.Graph.{GraphOf, IsGraphOf};
+ghost use Rattle.loop_forest.specs.Forest.{ForestOf, IsForestOf, number_of};
+ghost use Rattle.code_parts.specs.declared.part.Part.{Part as ThePart};
+ghost use Rattle.code_parts.specs.Bodies.{Flow};
+ghost use Rattle.code_parts.specs.Graph.{IsCode, IsGraph, IsMade, IsSmall};
+ghost use Rattle.code_parts.specs.Flows.{HaveCode, flow_of, group_of};
+ghost use Rattle.code_parts.specs.Order.{AreParts};
+
+/// A group of all parts is well-formed: each variable is in scope, each call goes to an earlier definition and has an arm for
+/// each of its exits.
+pub fn law_of_definitions()
+    ensures { (f : Flow) (g : GroupTree) (parts : List ThePart) → IsGraph f → IsMade f g parts → IsWellFormed g }
+{}
+
+/// Reached code with its loops and cuts is what bodies of parts rest on.
+pub fn law_of_flows()
+    ensures graph { (code : Bytes) (e : ℕ) (g : GraphOf) (f : ForestOf) (parts : List ThePart) → IsGraphOf code e g → IsForestOf g f → IsGraph (flow_of g f parts) }
+    ensures code { (code : Bytes) (e : ℕ) (g : GraphOf) (f : ForestOf) (parts : List ThePart) (ranges : List TheRange) → IsGraphOf code e g → IsForestOf g f
+        → AreBytes code → HaveCode g code ranges → IsCode (flow_of g f parts) ranges }
+    ensures small { (code : Bytes) (e : ℕ) (g : GraphOf) (f : ForestOf) (parts : List ThePart) → IsGraphOf code e g → IsForestOf g f
+        → AreParts (flow_of g f parts) (number_of f) parts → IsSmall (flow_of g f parts) }
+{}
+
+/// A group of the parts of reached code, in their order, is made of it: each definition stands after those that it calls. There is
+/// one such order.
+pub fn law_of_orders()
+    ensures made { (code : Bytes) (e : ℕ) (g : GraphOf) (f : ForestOf) (parts : List ThePart) (name : List ℕ) (ranges : List TheRange) → IsGraphOf code e g → IsForestOf g f
+        → AreBytes code → HaveCode g code ranges → AreParts (flow_of g f parts) (number_of f) parts
+        → IsMade (flow_of g f parts) (group_of (flow_of g f parts) name ranges parts) parts }
+    ensures one_order { (code : Bytes) (e : ℕ) (g : GraphOf) (f : ForestOf) (parts others : List ThePart) → IsGraphOf code e g → IsForestOf g f
+        → AreParts (flow_of g f parts) (number_of f) parts → AreParts (flow_of g f others) (number_of f) others → parts ≡ others }
+{}
+
+/// The last of these definitions, which the group lists, is entered where the code is.
+pub fn law_of_entries()
+    ensures { (code : Bytes) (e : ℕ) (g : GraphOf) (f : ForestOf) (parts : List ThePart) (name : List ℕ) (ranges : List TheRange) → IsGraphOf code e g → IsForestOf g f
+        → AreParts (flow_of g f parts) (number_of f) parts
+        → option_map (λ (d : DefTree). d.entry) (slice_get (group_of (flow_of g f parts) name ranges parts).defs (listed_def (group_of (flow_of g f parts) name ranges parts))) ≡ Some e }
+{}

@@ -1,0 +1,29 @@
+//! The parts of a function's code, and their definitions.
+#![tactic(auto)]
+
+mod bodies;
+mod code;
+mod definition;
+mod ends;
+mod flow;
+mod group;
+mod laws;
+mod order;
+mod part;
+mod place;
+mod scope;
+mod steps;
+mod uses;
+
+pub use bodies::ROOM;
+pub use code::{copy_code, law_of_bytes};
+pub use definition::{first_node, part_def};
+pub use ends::{ends_at, rest_targets, with_pc};
+pub use flow::Flow;
+pub use group::group_with;
+pub use laws::{law_of_definitions, law_of_entries, law_of_flows, law_of_orders};
+pub use order::parts_of;
+pub use part::Part;
+pub use place::{after, current, fresh};
+pub use scope::Place;
+pub use uses::is_jump_through;

@@ -1,0 +1,48 @@
+//! The steps of a body for an instruction.
+
+ghost use Rattle.std.specs.Prelude.{◌≡◌, ◌++◌, OnOk, map};
+ghost use Rattle.tailrec_lang.specs.Tree.{step_tree};
+ghost use Rattle.code_parts.specs.Bodies as spec;
+ghost use Rattle.code_parts.specs.Places.{place_of};
+
+use crate::place::Place;
+use instr_axioms::{Form, condition, memory_after, result};
+use rv_decode::{Instr, destination};
+use rv_words::{List, NoMemory};
+use std::alloc::Global;
+use tailrec_lang::Step;
+
+/// Adds the condition of an access or of a return.
+pub fn add_needs(
+    alloc: Global,
+    i: Instr,
+    place: &Place,
+    steps: &mut List<Step>,
+) -> Result<(), NoMemory>
+    ensures { OnOk result (map step_tree steps.new ≡ map step_tree steps.old ++ spec.needs i (place_of place.now)) }
+{
+    if let Some(c) = condition(alloc, i, Form::Next, &place.names)? {
+        steps.push(Step::Need(c))?;
+    }
+    Ok(())
+}
+
+/// Adds what an instruction writes.
+pub fn add_writes(
+    alloc: Global,
+    i: Instr,
+    addr: u64,
+    place: &Place,
+    steps: &mut List<Step>,
+) -> Result<(), NoMemory>
+    ensures { OnOk result (map step_tree steps.new ≡ map step_tree steps.old ++ spec.writes i addr (place_of place.now)) }
+{
+    if let Instr::Store { .. } = i {
+        let m = memory_after(alloc, i, &place.names)?;
+        steps.push(Step::BindMem(m))?;
+    } else if destination(&i) != 0 {
+        let t = result(alloc, i, addr, &place.names)?;
+        steps.push(Step::Bind(t))?;
+    }
+    Ok(())
+}

@@ -1,5 +1,0 @@
-use Rattle.path_walk.specs.inner.Words.{AreCodeTo}
-use Rattle.path_walk.proofs.code.code_of.Given as goal
-
-abbrev pub invariant-loop-n : goal.invariant-loop-n
-invariant-loop-n l = AreCodeTo l.graph l.n l.code.ranges

@@ -1,5 +1,0 @@
-use Rattle.path_walk.proofs.Settings.{region_is}
-use Rattle.path_walk.proofs.flow.Flow.law_of_regions.Goals as goal
-
-pub returns : goal.returns
-returns c = region_is _ _ _ _ _ _ _ c.self.invariant _ c.self.view_is c.args.p c.requires
