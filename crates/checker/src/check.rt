@@ -86,6 +86,7 @@ fn conclude(tally: Tally) -> Verdict
 }
 
 /// Judges a text for a file's image.
+#[tactic(auto, unfolding(elf_image::specs::Image::image_of))]
 fn judge(alloc: Global, image: &Image, text: &[u8]) -> Result<Tally, Verdict>
     ensures judged { IfOk result (λ t. (file : Items ℕ) → image.now ≡ image_of file → TextJudged file text.now t) }
     ensures fault { IfErr result (λ v. (file : Items ℕ) → IsReadable file → Says file text.now v) }
@@ -208,6 +209,3 @@ fn judge_line(alloc: Global, bench: &mut Bench<'_>, line: Line, place: u64) -> R
         Err(RuleFault::NoMemory) => Err(Verdict::NoMemory),
     }
 }
-
-#[cfg(test)]
-mod tests;

@@ -12,6 +12,3 @@ pub use bench::Bench;
 pub use check::{check_bytes, check_text};
 pub use laws::{law_of_exits, law_of_lines, law_of_proofs};
 pub use verdict::Verdict;
-
-#[cfg(test)]
-mod tests;

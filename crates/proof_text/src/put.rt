@@ -320,6 +320,3 @@ fn put_bare_line(pen: &mut Pen<'_>, word: &[u8]) -> Result<(), NoMemory>
     pen.atom(word)?;
     pen.eol()
 }
-
-#[cfg(test)]
-mod tests;

@@ -318,6 +318,3 @@ pub fn is_own(own: &Code, code: &Code) -> bool
 {
     same_code(code, own)
 }
-
-#[cfg(test)]
-mod tests;

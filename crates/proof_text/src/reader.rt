@@ -149,6 +149,3 @@ fn is_end(scan: &Scan<'_>, tail: &[u8]) -> bool
         _ => false,
     }
 }
-
-#[cfg(test)]
-mod tests;

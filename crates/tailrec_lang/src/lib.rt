@@ -19,6 +19,3 @@ pub use laws::{law_of_more_turns, law_of_turns};
 pub use needs::has_few_needs;
 pub use scope::{BadDef, def_at, exits_of, results_at, well_formed};
 pub use word_terms::Code;
-
-#[cfg(test)]
-mod tests;

@@ -24,6 +24,3 @@ pub use laws::{
 pub use rules::{NoInstance, discharge, inst, strengthen, weaken};
 pub use thm::Thm;
 pub use triple::{Fact, Triple};
-
-#[cfg(test)]
-mod tests;

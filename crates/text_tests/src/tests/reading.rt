@@ -1,12 +1,9 @@
-//! What no clause says: that groups and lines are read while there is memory. The texts are written by hand.
+//! Groups and lines are read, and printed as they stand.
 
 ghost use Rattle.tailrec_lang.specs.Tree.{group_tree};
 ghost use Rattle.proof_text.specs.Limits.{IsGroup};
 
-use super::{Reader, TextFault};
-use crate::line::Line;
-use crate::put::{put_end, put_group, put_head};
-use crate::put_lines::put_line;
+use proof_text::{Line, Reader, TextFault, put_end, put_group, put_head, put_line};
 use rv_words::{Bytes, NoMemory};
 use std::alloc::Global;
 use std::test::Fail;
@@ -14,8 +11,14 @@ use tailrec_lang::Group;
 
 /// Texts, how many groups each gives and how many lines those take, and the line that is refused after them; none
 /// where the text ends there.
-static TEXTS: [(&[u8], u64, u64, Option<u64>); 20] = [
+static TEXTS: [(&[u8], u64, u64, Option<u64>); 21] = [
     (b"mcproof 1\nend\n", 0, 0, None),
+    (
+        b"mcproof 1\ngroup f.1\nregs 5 31\nmems 1\ncode (0x1000 1300f0) (0x2000 ff)\ndef 0xfffffffffffffffe\nagain v0 ; m0\ndef 0x1000 0x10a0 ret 0x0\nif (geu v0 v1)\ncall 0 2 v0 v1 ; (st8 m0 0x1000 (sub v2 0x1))\narm\nleave 1 0xab ;\narm\nlet (sub v2 0x1)\nletm (st8 m0 0x1000 (sub v2 0x1))\nneed (not (in1 m0 v2))\nagain (sx2 v3) (ld4 m1 0x1000) ; m1\nelse\nlet (sub v2 0x1)\nletm (st8 m0 0x1000 (sub v2 0x1))\nneed (not (in1 m0 v2))\nagain (sx2 v3) (ld4 m1 0x1000) ; m1\ngroup ~\nregs\nmems 0\ncode\ndef 0xfffffffffffffffe\nagain v0 ; m0\nend\n",
+        2,
+        28,
+        None,
+    ),
     (
         b"mcproof 1\ngroup f\nregs 1 31\nmems 1\ncode (0x0 13) (0x2 1300)\ndef 0x10 0x0 ret\nlet (add v0 v1)\nletm m0\nneed (eq v2 v2)\nleave 1 v0 v1 ; m1\nend\n",
         1,
@@ -150,7 +153,7 @@ static GROUP: &[u8] =
     b"mcproof 1\ngroup f\nregs 1 10 11\nmems 0\ncode (0x10000 3305b50067800000)\ndef 0x10000 ret\nleave 0 v0 ;\n";
 
 /// Lines of its proof.
-static GOOD: [&[u8]; 18] = [
+static GOOD: [&[u8]; 34] = [
     b"forget 0\n",
     b"loop 0\n",
     b"loop 4294967295 18446744073709551615 0\n",
@@ -169,6 +172,22 @@ static GOOD: [&[u8]; 18] = [
     b"weaken 0 facts pre (0x0 ;) code post (0x0 ;)\n",
     b"discharge 0 facts pre (0x0 ;) code post (0x0 ;)\n",
     b"use 0 0 facts pre (0x0 ;) code post (0x0 ;)\n",
+    b"axiom 0x10000 0xb50533 next facts pre (0x10000 (10 v0) (11 v1) ;) code (0x10000 3305b500) post (0x10004 (10 (add v0 v1)) (11 v1) ;)\n",
+    b"inst 0 (v0 v1) (v1 v2) facts pre (0x10000 (10 v1) (11 v2) ;) code (0x10000 3305b500) post (0x10004 (10 (add v1 v2)) (11 v2) ;)\n",
+    b"frame 1 facts pre (0x10000 (1 v0) (10 v1) (11 v2) ;) code (0x10000 3305b500) post (0x10004 (1 v0) (10 (add v1 v2)) (11 v2) ;)\n",
+    b"weaken 2 facts (is v3 (add v1 v2)) pre (0x10000 (1 v0) (10 v1) (11 v2) ;) code (0x10000 3305b500) post (0x10004 (1 v0) (10 v3) (11 v2) ;)\n",
+    b"axiom 0x10004 0x8067 next facts (so (eq (and (add v0 0x0) 0x2) 0x0)) pre (0x10004 (1 v0) ;) code (0x10004 67800000) post ((and (add v0 0x0) 0xfffffffffffffffe) (1 v0) ;)\n",
+    b"frame 4 facts (so (eq (and (add v0 0x0) 0x2) 0x0)) pre (0x10004 (1 v0) (10 v3) (11 v2) ;) code (0x10004 67800000) post ((and (add v0 0x0) 0xfffffffffffffffe) (1 v0) (10 v3) (11 v2) ;)\n",
+    b"compose 3 5 facts (is v3 (add v1 v2)) (so (eq (and (add v0 0x0) 0x2) 0x0)) pre (0x10000 (1 v0) (10 v1) (11 v2) ;) code all post ((and (add v0 0x0) 0xfffffffffffffffe) (1 v0) (10 v3) (11 v2) ;)\n",
+    b"loop 0 6\n",
+    b"inst 18446744073709551615 (v4294967295 0x0) (m0 (st1 m0 v1 0x7)) facts (mis m1 (st1 m0 v1 0x7)) (gives 0 1 v0 ; (st1 m0 v1 0x7) ; v1 ; m0) pre (0x0 ; m0) code post (0xffffffffffffffff ; (st1 m0 v1 0x7))\n",
+    b"axiom 0xffffffffffffffff 0xffffffff taken facts (mis m1 (st1 m0 v1 0x7)) (gives 0 1 v0 ; (st1 m0 v1 0x7) ; v1 ; m0) pre (0x0 ; m0) code post (0xffffffffffffffff ; (st1 m0 v1 0x7))\n",
+    b"extend 7 facts (is v3 (add v1 v2)) (so (eq (and (add v0 0x0) 0x2) 0x0)) pre (0x10000 (1 v0) (10 v1) (11 v2) ;) code all post ((and (add v0 0x0) 0xfffffffffffffffe) (1 v0) (10 v3) (11 v2) ;)\n",
+    b"strengthen 8 facts (so (eq (and (add v0 0x0) 0x2) 0x0)) pre (0x10004 (1 v0) ;) code (0x10004 67800000) post ((and (add v0 0x0) 0xfffffffffffffffe) (1 v0) ;)\n",
+    b"discharge 9 facts (so (eq (and (add v0 0x0) 0x2) 0x0)) pre (0x10004 (1 v0) ;) code (0x10004 67800000) post ((and (add v0 0x0) 0xfffffffffffffffe) (1 v0) ;)\n",
+    b"use 0 1 facts (so (eq (and (add v0 0x0) 0x2) 0x0)) pre (0x10004 (1 v0) ;) code (0x10004 67800000) post ((and (add v0 0x0) 0xfffffffffffffffe) (1 v0) ;)\n",
+    b"loop 4294967295\n",
+    b"forget 18446744073709551615\n",
 ];
 
 /// What is no line of its proof.

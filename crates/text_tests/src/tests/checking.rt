@@ -1,14 +1,13 @@
-//! What no clause says: with memory at hand a file and a text have their verdict.
+//! A file and a text have their verdict.
 
-use super::check_bytes;
-use crate::verdict::Verdict;
+use checker::{Verdict, check_bytes};
 use elf_image::ElfFault;
 use rv_words::{Bytes, List, NoMemory};
 use std::alloc::Global;
 use std::test::Fail;
 
 /// An ELF file with `add x10,x10,x11` and `jalr x0,0(x1)` at 0x10000.
-static ELF: [u8; 128] = [
+pub(super) static ELF: [u8; 128] = [
     0x7f, 0x45, 0x4c, 0x46, 2, 1, 1, 0, 0, 0, 0, 0, 0, 0, 0, 0, 2, 0, 0xf3, 0, 1, 0, 0, 0, 0, 0, 1,
     0, 0, 0, 0, 0, 0x40, 0, 0, 0, 0, 0, 0, 0, 0, 0, 0, 0, 0, 0, 0, 0, 0, 0, 0, 0, 0x40, 0, 0x38, 0,
     1, 0, 0, 0, 0, 0, 0, 0, 1, 0, 0, 0, 5, 0, 0, 0, 0x78, 0, 0, 0, 0, 0, 0, 0, 0, 0, 1, 0, 0, 0, 0,
@@ -130,24 +129,28 @@ static FILES: [(usize, u8, Verdict); 4] = [
 ];
 
 /// The text with that line in the place of one.
-fn text(alloc: Global, number: usize, is: &str) -> Result<Bytes, NoMemory> {
+pub(super) fn text(alloc: Global, number: usize, is: &[u8]) -> Result<Bytes, NoMemory> {
     let mut text = List::new(alloc);
     for i in 0..18 {
-        let line = if i + 1 == number { is } else { TEXT[i] };
-        text.extend_from_slice(line.as_bytes())?;
+        let line = if i + 1 == number {
+            is
+        } else {
+            TEXT[i].as_bytes()
+        };
+        text.extend_from_slice(line)?;
         text.push(b'\n')?;
     }
     Ok(text)
 }
 
 fn is_row(alloc: Global, row: &Row) -> Result<bool, NoMemory> {
-    let text = text(alloc, row.line, row.is)?;
+    let text = text(alloc, row.line, row.is.as_bytes())?;
     Ok(check_bytes(alloc, &ELF, text.as_slice()) == row.verdict)
 }
 
 /// Whether the file with that byte has that verdict.
 fn is_file(alloc: Global, place: usize, byte: u8, verdict: Verdict) -> Result<bool, NoMemory> {
-    let text = text(alloc, 0, "")?;
+    let text = text(alloc, 0, b"")?;
     let mut elf = ELF;
     if place < 128 {
         elf[place] = byte;

@@ -1,0 +1,47 @@
+//! Which instructions have axioms, and of which forms.
+
+use instr_axioms::axiom_triple;
+use rv_words::NoMemory;
+use std::alloc::Global;
+use std::test::Fail;
+use triple_kernel::Form;
+
+/// An address, a word, a form, and whether there is an axiom of them.
+static AXIOMS: [(u64, u32, Form, bool); 21] = [
+    (0x10000, 0x00b5_0533, Form::Next, true),
+    (0x10000, 0x00a5_b023, Form::Next, true),
+    (0x10000, 0xffc4_2003, Form::Next, true),
+    (0x10008, 0xfe05_9ee3, Form::Next, true),
+    (0x10008, 0xfe05_9ee3, Form::Taken, true),
+    (0x1001c, 0x0500_006f, Form::Next, true),
+    (0x10000, 0xffff_f517, Form::Next, true),
+    (0x10000, 0x8000_0537, Form::Next, true),
+    (0x10000, 0x0ff0_000f, Form::Next, true),
+    (0x10000, 0x0015_0513, Form::Next, true),
+    (0xffff_ffff_ffff_fffc, 0x00a5_0533, Form::Next, true),
+    (0x10000, 0x0000_2503, Form::Next, true),
+    (0x10000, 0x0005_0263, Form::Next, true),
+    (0x10000, 0x0005_0263, Form::Taken, true),
+    (0x10004, 0xffd0_80e7, Form::Next, true),
+    (0xffff_ffff_ffff_fffe, 0x00a5_0533, Form::Next, false),
+    (0x10002, 0x00b5_0533, Form::Next, false),
+    (0x10000, 0x0000_0073, Form::Next, false),
+    (0x10000, 0x0000_0363, Form::Taken, false),
+    (0x10000, 0x00b5_0533, Form::Taken, false),
+    (0x10000, 0x0060_006f, Form::Next, false),
+];
+
+/// Whether there is an axiom.
+fn is_there(alloc: Global, addr: u64, word: u32, form: Form) -> Result<bool, NoMemory> {
+    let triple = axiom_triple(alloc, addr, word, form)?;
+    Ok(triple.is_some())
+}
+
+#[test]
+fn there_are_axioms_of_these(rt: HostRuntime) -> Result<(), Fail> {
+    for &(addr, word, form, answer) in &AXIOMS {
+        let found = is_there(rt.alloc(), addr, word, form)?;
+        assert!(rt; found == answer);
+    }
+    Ok(())
+}
