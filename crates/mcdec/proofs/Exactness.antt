@@ -662,6 +662,30 @@ no-decompile-check e o ns elf proof same = cc
 no-test-check : (n s : ℕ) (elf proof : List ℕ) → SelfTest n s ≡ Check elf proof → ⊥
 no-test-check n s elf proof same = cc
 
+-- the words of `check` are those of no other command
+check-alone : (ws : List (List ℕ)) (c : Command) (elf proof : List ℕ) → Words ws c → ws ≡ codes "check" ∷ elf ∷ proof ∷ [] → c ≡ Check elf proof
+check-alone ws (Eval proof' name turns args) elf proof v w =
+    let e = sym v.1 ∙ w in
+    let n : codes "eval" ≡ codes "check" = cc in
+    absurd (other-name (codes "eval") (codes "check") refl n)
+check-alone ws (Run elf' start until steps args) elf proof v w =
+    let e = sym v.1 ∙ w in
+    let n : codes "run" ≡ codes "check" = cc in
+    absurd (other-name (codes "run") (codes "check") refl n)
+check-alone ws (Check elf' proof') elf proof v w =
+    let e = sym v.1 ∙ w in
+    let f : elf' ≡ elf = cc in
+    let p : proof' ≡ proof = cc in
+    λ i. Check (f i) (p i)
+check-alone ws (Decompile elf' out names) elf proof v w =
+    let e = sym v.1 ∙ w in
+    let n : codes "decompile" ≡ codes "check" = cc in
+    absurd (other-name (codes "decompile") (codes "check") refl n)
+check-alone ws (SelfTest number size) elf proof v w =
+    let e = sym v.1 ∙ w in
+    let n : codes "selftest" ≡ codes "check" = cc in
+    absurd (other-name (codes "selftest") (codes "check") refl n)
+
 accepted-files : (files : Contents) (elf proof file : List ℕ) (functions lines : ℕ) → files elf ≡ Some file → CheckGives (Some files) proof file (ca.Accepted functions lines) → AreRightFiles files elf proof
 accepted-files files elf proof file functions lines holds (loaded, (text, held, (short, good))) = record {
   file = file;
@@ -683,22 +707,22 @@ status-zero files elf proof file (ca.WrongLine line) holds h e = absurd (omega (
 status-zero files elf proof file (ca.NotProved group) holds h e = absurd (omega (arith, e))
 status-zero files elf proof file (ca.Accepted functions lines) holds h e = accepted-files files elf proof file functions lines holds h
 
-answered : (files : Contents) (ws : List (List ℕ)) (rose : Type 0) (b : Answer) (elf proof : List ℕ) → Gives (Some files) ws rose b → Words ws (Check elf proof) → status b ≡ 0 → AreRightFiles files elf proof
-answered files ws rose answer.NotACommand elf proof g w e = absurd (g (Check elf proof) w)
+answered : (files : Contents) (ws : List (List ℕ)) (rose : Type 0) (b : Answer) (elf proof : List ℕ) → Gives (Some files) ws rose b → ws ≡ codes "check" ∷ elf ∷ proof ∷ [] → status b ≡ 0 → AreRightFiles files elf proof
+answered files ws rose answer.NotACommand elf proof g w e = absurd (omega (arith, e))
 answered files ws rose answer.ReadFault elf proof g w e = absurd (omega (arith, e))
 answered files ws rose answer.WriteFault elf proof g w e = absurd (omega (arith, e))
 answered files ws rose answer.NoMemory elf proof g w e = absurd (omega (arith, e))
-answered files ws rose (answer.Eval x) elf proof (p, n, t, args, v, h) w e = absurd (no-eval-check p n t args elf proof (words-unique ws (Eval p n t args) (Check elf proof) v w))
-answered files ws rose (answer.Run x) elf proof (f, s, u, k, args, v, h) w e = absurd (no-run-check f s u k args elf proof (words-unique ws (Run f s u k args) (Check elf proof) v w))
+answered files ws rose (answer.Eval x) elf proof (p, n, t, args, v, h) w e = absurd (no-eval-check p n t args elf proof (check-alone ws (Eval p n t args) elf proof v w))
+answered files ws rose (answer.Run x) elf proof (f, s, u, k, args, v, h) w e = absurd (no-run-check f s u k args elf proof (check-alone ws (Run f s u k args) elf proof v w))
 answered files ws rose (answer.Check x) elf proof (elf', proof', v, (file, holds, h)) w e =
-    let same = same-words elf' proof' elf proof (words-unique ws (Check elf' proof') (Check elf proof) v w) in
+    let same = same-words elf' proof' elf proof (check-alone ws (Check elf' proof') elf proof v w) in
     status-zero files elf proof file x (ap files (sym same.0) ∙ holds) (subst (λ (p : List ℕ). CheckGives (Some files) p file x) same.1 h) e
 answered files ws rose (answer.Decompile x) elf proof (elf', out, names, v, h) w e =
-    absurd (no-decompile-check elf' out names elf proof (words-unique ws (Decompile elf' out names) (Check elf proof) v w))
-answered files ws rose (answer.SelfTest x) elf proof (n, s, v, h) w e = absurd (no-test-check n s elf proof (words-unique ws (SelfTest n s) (Check elf proof) v w))
+    absurd (no-decompile-check elf' out names elf proof (check-alone ws (Decompile elf' out names) elf proof v w))
+answered files ws rose (answer.SelfTest x) elf proof (n, s, v, h) w e = absurd (no-test-check n s elf proof (check-alone ws (SelfTest n s) elf proof v w))
 
 pub headline-given : (told : Option Contents) (ws : List (List ℕ)) (rose : Type 0) (b : Answer) (result : ℕ) (old new : Option (List ℕ))
     → Gives told ws rose b → IsDelivered b result old new
-    → IfSome told (λ files. (elf proof : List ℕ) → Words ws (Check elf proof) → result ≡ 0 → AreRightFiles files elf proof)
+    → IfSome told (λ files. (elf proof : List ℕ) → ws ≡ codes "check" ∷ elf ∷ proof ∷ [] → result ≡ 0 → AreRightFiles files elf proof)
 headline-given None ws rose b result old new g d = tt
 headline-given (Some files) ws rose b result old new g d = λ elf proof w none. answered files ws rose b elf proof g w (given-status b result old new d none)

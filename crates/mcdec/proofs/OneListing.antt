@@ -27,7 +27,7 @@ use Rattle.loop_forest.specs.Forest.{IsMany}
 use Rattle.loop_forest.proofs.CodeEntries.{two_entries_back}
 use Rattle.loop_forest.proofs.OneForest.{one_head}
 use Rattle.path_walk.specs.declared.item.Item.{Item}
-use Rattle.path_walk.proofs.Lists.{here, later}
+use Rattle.code_parts.proofs.Lists.{here, later}
 use Rattle.decompiler.specs.Names.{StandsFor}
 use Rattle.decompiler.specs.Faults.{IsFirst, Missing, Doubled, InCode, InCycle, InLoop}
 use Rattle.decompiler.specs.Listing.{HasDefs, IsDefOf, IsItemFor}

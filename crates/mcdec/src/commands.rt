@@ -1,10 +1,10 @@
 //! The program's commands, over a shelf of files and a sink.
 
-ghost use Rattle.std.specs.Prelude.{◌≡◌, ℕ, ◌≤◌, ◌⊎◌, List, Some, IfSome};
+ghost use Rattle.std.specs.Prelude.{◌≡◌, ℕ, ◌≤◌, ◌⊎◌, List, [], ◌∷◌, Some, IfSome, codes};
 ghost use Rattle.mc_shelf.specs.Fault.{Rose, WhereTold};
 ghost use Rattle.mcdec.specs.Answer.{Gives, IsDetermined, KeepsNames, ReadsAreTold};
 ghost use Rattle.mcdec.specs.CheckAnswer.{AreRightFiles};
-ghost use Rattle.mcdec.specs.Command.{Check, Decompile, Words, texts};
+ghost use Rattle.mcdec.specs.Command.{Decompile, Words, texts};
 ghost use Rattle.mcdec.specs.DecompileAnswer.{LeavesOut};
 ghost use Rattle.mcdec.specs.Printed.{IsDelivered, IsPrinted, status};
 ghost use Rattle.mcdec.specs.inner.Decompiling.{LeavesBy};
@@ -39,7 +39,7 @@ pub fn run_words<S: Shelf, O: Sink>(
         → IsPrinted a result (O.written out.old) (O.written out.new) ⊎ (result ≡ 4) ⊎ (result ≡ 5) ⊎ (result ≡ 6)) }
 
     // Where `check` ends with status 0, the functions of the proof file are right of the ELF file.
-    ensures headline { IfSome (S.contents shelf.old) (λ files. (elf proof : List ℕ) → Words (texts words.now) (Check elf proof)
+    ensures headline { IfSome (S.contents shelf.old) (λ files. (elf proof : List ℕ) → texts words.now ≡ codes "check" ∷ elf ∷ proof ∷ []
         → result ≡ 0 → AreRightFiles files elf proof) }
 
     // What `decompile` leaves in its output file: with status 0 all of the text of such proofs, with 5 and 6 a front of it or what was there,

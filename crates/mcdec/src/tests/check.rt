@@ -1,12 +1,14 @@
-//! The command `check` over files in memory.
+//! The command `check`.
 
-use super::{elf_of, line_of, put_number, unreadable, words_of};
-use crate::commands::run_words;
-use mc_shelf::{MemShelf, MemSink};
+use super::files::{changed_elf, elf_of};
+use super::{Left, ends_with, fronts_are_unreadable, is_unreadable_at, leaves};
 use mc_text::put_atom;
-use rv_words::Bytes;
-use std::alloc::{AllocError, Global};
+use rv_words::{Bytes, NoMemory};
+use std::alloc::Global;
 use std::test::Fail;
+
+/// `add x10, x10, x11` and `ret`.
+const CODE: [u32; 2] = [0x00b5_0533, 0x0000_8067];
 
 /// A function that adds x11 to x10 and returns, with its proof.
 const PROOF: &str = "\
@@ -73,7 +75,7 @@ forget 0
 ";
 
 /// What stands in the text, what is put in its place, and the status and the lines of `check` then.
-static CHECKED: [(&[(&str, &str)], u8, &str); 18] = [
+static CHECKED: [(&[(&str, &str)], u8, &str); 33] = [
     (&[], 0, "accepted 1 8\n"),
     (&[(NAMED_SUM, OTHER_SUM)], 1, "refused line 13\n"),
     (&[(CLOSING, LONGER)], 0, "accepted 1 11\n"),
@@ -131,10 +133,7 @@ static CHECKED: [(&[(&str, &str)], u8, &str); 18] = [
         3,
         "unreadable text 1\n",
     ),
-];
-
-/// The same of texts that are made to do harm.
-static HOSTILE: [(&[(&str, &str)], u8, &str); 15] = [
+    // texts that are made to do harm
     (&[("end\n", "end\nend\n")], 3, "unreadable text 19\n"),
     (&[("end\n", "end\nmcproof 1\n")], 3, "unreadable text 19\n"),
     (&[("end\n", "end\n\n")], 3, "unreadable text 19\n"),
@@ -222,30 +221,8 @@ static WORDS: [(&str, u8, &str); 7] = [
     ("check e e", 3, "unreadable text 1\n"),
 ];
 
-/// `add x10, x10, x11` and `ret` at 0x10000.
-fn elf(alloc: Global) -> Result<Vec<u8>, AllocError> {
-    elf_of(alloc, 1, &[0x00b5_0533, 0x0000_8067])
-}
-
-/// Whether a command over the ELF file and the text ends so, and leaves both as they were.
-fn ends_so(
-    alloc: Global,
-    line: &str,
-    (elf, text): (&[u8], &[u8]),
-    (status, lines): (u8, &[u8]),
-) -> Result<bool, Fail> {
-    let words = words_of(alloc, line)?;
-    let mut shelf = MemShelf::new(alloc);
-    shelf.set("e", elf)?;
-    shelf.set("p", text)?;
-    let mut out = MemSink::new(alloc);
-    let answer = run_words(alloc, &words, &mut shelf, &mut out);
-    let kept = shelf.held("e") == Some(elf) && shelf.held("p") == Some(text);
-    Ok(answer == status && out.written() == lines && kept)
-}
-
 /// The text with pieces put in the place of others.
-fn changed(alloc: Global, changes: &[(&str, &str)]) -> Result<String, AllocError> {
+fn changed(alloc: Global, changes: &[(&str, &str)]) -> Result<String, NoMemory> {
     let mut text = String::from_str(alloc, PROOF)?;
     for &(old, new) in changes {
         text = text.replace(alloc, old, new)?;
@@ -255,122 +232,75 @@ fn changed(alloc: Global, changes: &[(&str, &str)]) -> Result<String, AllocError
 
 fn text_ends_so(
     alloc: Global,
+    elf: &[u8],
     changes: &[(&str, &str)],
-    (status, lines): (u8, &str),
-) -> Result<bool, Fail> {
-    let elf = elf(alloc)?;
+    (status, lines): (u8, &[u8]),
+) -> Result<bool, NoMemory> {
     let text = changed(alloc, changes)?;
-    ends_so(
-        alloc,
-        "check e p",
-        (&elf, text.as_bytes()),
-        (status, lines.as_bytes()),
-    )
+    ends_with(alloc, "check e p", (elf, text.as_bytes()), (status, lines))
 }
 
 fn file_ends_so(
     alloc: Global,
     changes: &[(usize, usize, u64)],
-    (status, lines): (u8, &str),
-) -> Result<bool, Fail> {
-    let mut elf = elf(alloc)?;
-    for &(place, size, number) in changes {
-        put_number(&mut elf, place, size, number);
-    }
-    ends_so(
-        alloc,
-        "check e p",
-        (&elf, PROOF.as_bytes()),
-        (status, lines.as_bytes()),
-    )
-}
-
-fn words_end_so(alloc: Global, line: &str, (status, lines): (u8, &str)) -> Result<bool, Fail> {
-    let elf = elf(alloc)?;
-    ends_so(
-        alloc,
-        line,
-        (&elf, PROOF.as_bytes()),
-        (status, lines.as_bytes()),
-    )
+    line: &str,
+    (status, lines): (u8, &[u8]),
+) -> Result<bool, NoMemory> {
+    let elf = changed_elf(alloc, 1, &CODE, changes)?;
+    ends_with(alloc, line, (&elf, PROOF.as_bytes()), (status, lines))
 }
 
 #[test]
 fn texts_are_checked(rt: HostRuntime) -> Result<(), Fail> {
+    let elf = elf_of(rt.alloc(), 1, &CODE)?;
     for &(changes, status, lines) in &CHECKED {
-        let ended = text_ends_so(rt.alloc(), changes, (status, lines))?;
+        let ended = text_ends_so(rt.alloc(), &elf, changes, (status, lines.as_bytes()))?;
         assert!(rt; ended, "{lines}");
     }
     Ok(())
 }
 
 #[test]
-fn hostile_texts_are_refused(rt: HostRuntime) -> Result<(), Fail> {
-    for &(changes, status, lines) in &HOSTILE {
-        let ended = text_ends_so(rt.alloc(), changes, (status, lines))?;
-        assert!(rt; ended, "{lines}");
-    }
-    Ok(())
-}
-
-#[test]
-fn code_is_compared_with_the_file(rt: HostRuntime) -> Result<(), Fail> {
+fn files_are_read_in_their_order_and_compared(rt: HostRuntime) -> Result<(), Fail> {
     for &(changes, status, lines) in &FILES {
-        let ended = file_ends_so(rt.alloc(), changes, (status, lines))?;
+        let answer = (status, lines.as_bytes());
+        let ended = file_ends_so(rt.alloc(), changes, "check e p", answer)?;
         assert!(rt; ended, "{lines}");
     }
-    Ok(())
-}
-
-#[test]
-fn files_are_read_in_their_order(rt: HostRuntime) -> Result<(), Fail> {
     for &(line, status, lines) in &WORDS {
-        let ended = words_end_so(rt.alloc(), line, (status, lines))?;
+        let ended = file_ends_so(rt.alloc(), &[], line, (status, lines.as_bytes()))?;
         assert!(rt; ended, "{line}");
     }
     Ok(())
 }
 
-/// Whether `check` finds a text to be no proof file from that line on.
-fn is_unreadable_at(alloc: Global, text: &[u8], line: u64) -> Result<bool, Fail> {
-    let elf = elf(alloc)?;
-    let lines = unreadable(alloc, line)?;
-    ends_so(alloc, "check e p", (&elf, text), (3, lines.as_slice()))
-}
-
-/// Whether the front of that length is no proof file from the line on that isn't whole.
-fn front_is_unreadable(alloc: Global, length: usize) -> Result<bool, Fail> {
-    let text = PROOF.as_bytes();
-    if length < text.len() {
-        is_unreadable_at(alloc, &text[..length], line_of(text, length))
-    } else {
-        Ok(true)
-    }
+/// Whether the fronts of the proof between these lengths are unreadable.
+fn fronts_of_the_proof_are_unreadable(
+    alloc: Global,
+    lengths: (usize, usize),
+) -> Result<bool, NoMemory> {
+    let elf = elf_of(alloc, 1, &CODE)?;
+    fronts_are_unreadable(alloc, "check e p", (&elf, PROOF.as_bytes()), lengths)
 }
 
 #[test]
 fn short_fronts_of_a_proof_are_unreadable(rt: HostRuntime) -> Result<(), Fail> {
-    for length in 0..800 {
-        let unreadable = front_is_unreadable(rt.alloc(), length)?;
-        assert!(rt; unreadable, "{length} bytes");
-    }
+    let are_unreadable = fronts_of_the_proof_are_unreadable(rt.alloc(), (0, 800))?;
+    assert!(rt; are_unreadable);
     Ok(())
 }
 
 #[test]
 fn long_fronts_of_a_proof_are_unreadable(rt: HostRuntime) -> Result<(), Fail> {
-    for length in 800..PROOF.len() {
-        let unreadable = front_is_unreadable(rt.alloc(), length)?;
-        assert!(rt; unreadable, "{length} bytes");
-    }
+    let are_unreadable = fronts_of_the_proof_are_unreadable(rt.alloc(), (800, PROOF.len()))?;
+    assert!(rt; are_unreadable);
     Ok(())
 }
 
 /// Whether a term below so many operations is no proof file from its line on.
-fn is_too_deep(alloc: Global, depth: usize) -> Result<bool, Fail> {
-    let mut text = Bytes::new(alloc);
-    put_atom(
-        &mut text,
+fn is_too_deep(alloc: Global, elf: &[u8], depth: usize) -> Result<bool, NoMemory> {
+    let mut text = Bytes::from_slice(
+        alloc,
         b"mcproof 1\ngroup f\nregs 10\nmems 0\ncode\ndef 0x0 0x1\nlet ",
     )?;
     for _ in 0..depth {
@@ -381,42 +311,39 @@ fn is_too_deep(alloc: Global, depth: usize) -> Result<bool, Fail> {
         put_atom(&mut text, b" v0)")?;
     }
     put_atom(&mut text, b"\nleave 0 v1 ;\nend\n")?;
-    is_unreadable_at(alloc, text.as_slice(), 7)
+    is_unreadable_at(alloc, "check e p", (elf, text.as_slice()), 7)
 }
 
 #[test]
 fn a_term_is_at_most_64_deep(rt: HostRuntime) -> Result<(), Fail> {
-    let refused = is_too_deep(rt.alloc(), 63)?;
-    assert!(rt; !refused);
-    let refused = is_too_deep(rt.alloc(), 64)?;
-    assert!(rt; refused);
+    let elf = elf_of(rt.alloc(), 1, &CODE)?;
+    for (depth, is_refused) in [(63, false), (64, true)] {
+        let refused = is_too_deep(rt.alloc(), &elf, depth)?;
+        assert!(rt; refused == is_refused);
+    }
     Ok(())
-}
-
-/// Whether `check` ends so where a call on the shelf fails.
-fn ends_with_failing_read(
-    alloc: Global,
-    (failing, kept): (u64, u64),
-    (status, lines): (u8, &str),
-) -> Result<bool, Fail> {
-    let words = words_of(alloc, "check e p")?;
-    let elf = elf(alloc)?;
-    let mut shelf = MemShelf::new(alloc);
-    shelf.set("e", &elf)?;
-    shelf.set("p", PROOF.as_bytes())?;
-    shelf.fail(failing, kept)?;
-    let mut out = MemSink::new(alloc);
-    let answer = run_words(alloc, &words, &mut shelf, &mut out);
-    Ok(answer == status && out.written() == lines.as_bytes())
 }
 
 #[test]
 fn a_failing_read_is_a_fault_of_a_check(rt: HostRuntime) -> Result<(), Fail> {
-    for failing in 0..4 {
-        let ended = ends_with_failing_read(rt.alloc(), (failing, 1), (4, "read fault\n"))?;
+    let elf = elf_of(rt.alloc(), 1, &CODE)?;
+    for failing in 0..5 {
+        let left = if failing < 4 {
+            Left {
+                status: 4,
+                lines: b"read fault\n",
+                p: PROOF.as_bytes(),
+            }
+        } else {
+            Left {
+                status: 0,
+                lines: b"accepted 1 8\n",
+                p: PROOF.as_bytes(),
+            }
+        };
+        let files = (elf.as_slice(), PROOF.as_bytes());
+        let ended = leaves(rt.alloc(), "check e p", files, (failing, 1), left)?;
         assert!(rt; ended);
     }
-    let ended = ends_with_failing_read(rt.alloc(), (4, 1), (0, "accepted 1 8\n"))?;
-    assert!(rt; ended);
     Ok(())
 }

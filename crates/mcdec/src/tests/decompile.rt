@@ -1,9 +1,10 @@
-//! The command `decompile` over files in memory.
+//! The command `decompile`.
 
-use super::{add_symbols, elf_of, words_of};
-use crate::commands::run_words;
-use mc_shelf::{MemShelf, MemSink};
-use std::alloc::{AllocError, Global};
+use super::files::{add_symbols, elf_of};
+use super::{Left, carry_out, ends_with, leaves, shelf_of};
+use mc_shelf::MemSink;
+use rv_words::NoMemory;
+use std::alloc::Global;
 use std::test::Fail;
 
 /// Adds x11 to x10 and counts x11 down to 0, and returns.
@@ -68,7 +69,7 @@ static DECOMPILED: [(&[u32], &str); 4] = [
 ];
 
 /// Command lines over a file with symbols, and their statuses and lines.
-static NAMES: [(&str, u8, &str); 11] = [
+static NAMES: [(&str, u8, &str); 6] = [
     (
         "decompile e p f",
         1,
@@ -83,163 +84,103 @@ static NAMES: [(&str, u8, &str); 11] = [
     ),
     ("decompile q p f", 4, "read fault\n"),
     ("decompile p q f", 3, "unreadable elf cut 0\n"),
-    ("decompile", 2, "not a command\n"),
-    ("decompile e p", 2, "not a command\n"),
-    ("decompile e e f", 2, "not a command\n"),
-    ("decompile e p f g f", 2, "not a command\n"),
-    ("decompile e p f(", 2, "not a command\n"),
 ];
 
 /// What the name `p` holds before.
 const OLD: &[u8] = b"\x7fELF";
 
-/// Whether a command over the ELF file ends so, and `p` holds what it held.
-fn is_refused(
-    alloc: Global,
-    line: &str,
-    elf: &[u8],
-    (status, lines): (u8, &str),
-) -> Result<bool, Fail> {
-    let words = words_of(alloc, line)?;
-    let mut shelf = MemShelf::new(alloc);
-    shelf.set("e", elf)?;
-    shelf.set("p", OLD)?;
-    let mut out = MemSink::new(alloc);
-    let answer = run_words(alloc, &words, &mut shelf, &mut out);
-    let kept = shelf.held("e") == Some(elf) && shelf.held("p") == Some(OLD);
-    Ok(answer == status && out.written() == lines.as_bytes() && kept)
-}
-
-fn code_is_refused(alloc: Global, code: &[u32], lines: &str) -> Result<bool, Fail> {
+/// Whether `decompile` refuses the code with that line.
+fn code_is_refused(alloc: Global, code: &[u32], lines: &[u8]) -> Result<bool, NoMemory> {
     let elf = elf_of(alloc, 1, code)?;
-    is_refused(alloc, "decompile e p 0x10000", &elf, (1, lines))
-}
-
-/// Two returns, and two functions of one name.
-fn elf_with_symbols(alloc: Global) -> Result<Vec<u8>, AllocError> {
-    let mut elf = elf_of(alloc, 1, &[0x0000_8067, 0x0000_8067])?;
-    add_symbols(alloc, &mut elf, &[("f", 0x10000), ("f", 0x10004)])?;
-    Ok(elf)
-}
-
-fn words_end_so(alloc: Global, line: &str, (status, lines): (u8, &str)) -> Result<bool, Fail> {
-    let elf = elf_with_symbols(alloc)?;
-    is_refused(alloc, line, &elf, (status, lines))
-}
-
-#[test]
-fn code_outside_the_fragment_is_refused(rt: HostRuntime) -> Result<(), Fail> {
-    for &(code, lines) in &REFUSED {
-        let refused = code_is_refused(rt.alloc(), code, lines)?;
-        assert!(rt; refused, "{lines}");
-    }
-    Ok(())
-}
-
-#[test]
-fn names_are_found_in_order(rt: HostRuntime) -> Result<(), Fail> {
-    for &(line, status, lines) in &NAMES {
-        let ended = words_end_so(rt.alloc(), line, (status, lines))?;
-        assert!(rt; ended, "{line}");
-    }
-    Ok(())
+    ends_with(alloc, "decompile e p 0x10000", (&elf, OLD), (1, lines))
 }
 
 /// Whether so many instructions and a return are one more than may be reached.
-fn is_too_large(alloc: Global, count: usize) -> Result<bool, Fail> {
+fn is_too_large(alloc: Global, count: usize) -> Result<bool, NoMemory> {
     let mut code = Vec::new(alloc);
     for _ in 0..count {
         code.push(0x0015_0513)?;
     }
     code.push(0x0000_8067)?;
-    code_is_refused(alloc, &code, "refused 0x10000 too-large\n")
+    code_is_refused(alloc, &code, b"refused 0x10000 too-large\n")
 }
 
 #[test]
-fn at_most_1024_instructions_are_reached(rt: HostRuntime) -> Result<(), Fail> {
+fn code_outside_the_fragment_is_refused(rt: HostRuntime) -> Result<(), Fail> {
+    for &(code, lines) in &REFUSED {
+        let refused = code_is_refused(rt.alloc(), code, lines.as_bytes())?;
+        assert!(rt; refused, "{lines}");
+    }
     let refused = is_too_large(rt.alloc(), 1024)?;
     assert!(rt; refused);
     Ok(())
 }
 
-/// Whether the line of `check e p` is that of one function that is accepted.
-fn is_accepted(alloc: Global, shelf: &mut MemShelf) -> Result<bool, Fail> {
-    let words = words_of(alloc, "check e p")?;
-    let mut out = MemSink::new(alloc);
-    let status = run_words(alloc, &words, shelf, &mut out);
-    Ok(status == 0 && out.written().starts_with(b"accepted 1 "))
+/// Whether a command ends so over two returns, each a function of the name f.
+fn words_end_so(alloc: Global, line: &str, answer: (u8, &[u8])) -> Result<bool, NoMemory> {
+    let mut elf = elf_of(alloc, 1, &[0x0000_8067, 0x0000_8067])?;
+    add_symbols(&mut elf, b"\0f\0", &[(1, 0x10000), (1, 0x10004)])?;
+    ends_with(alloc, line, (&elf, OLD), answer)
+}
+
+#[test]
+fn names_are_found_in_order(rt: HostRuntime) -> Result<(), Fail> {
+    for &(line, status, lines) in &NAMES {
+        let ended = words_end_so(rt.alloc(), line, (status, lines.as_bytes()))?;
+        assert!(rt; ended, "{line}");
+    }
+    Ok(())
 }
 
 /// Whether the code is decompiled with this line, and the text is accepted.
-fn is_decompiled(alloc: Global, code: &[u32], lines: &str) -> Result<bool, Fail> {
+fn is_decompiled(alloc: Global, code: &[u32], lines: &[u8]) -> Result<bool, NoMemory> {
     let elf = elf_of(alloc, 1, code)?;
-    let words = words_of(alloc, "decompile e p 0x10000")?;
-    let mut shelf = MemShelf::new(alloc);
-    shelf.set("e", &elf)?;
+    let mut shelf = shelf_of(alloc, &elf, OLD)?;
     let mut out = MemSink::new(alloc);
-    let status = run_words(alloc, &words, &mut shelf, &mut out);
-    let told = status == 0 && out.written() == lines.as_bytes();
-    Ok(told && is_accepted(alloc, &mut shelf)?)
+    let status = carry_out(alloc, "decompile e p 0x10000", &mut shelf, &mut out)?;
+    let is_told = status == 0 && out.written() == lines;
+    let mut out = MemSink::new(alloc);
+    let status = carry_out(alloc, "check e p", &mut shelf, &mut out)?;
+    Ok(is_told && status == 0 && out.written().starts_with(b"accepted 1 "))
 }
 
 #[test]
 fn code_is_decompiled_and_accepted(rt: HostRuntime) -> Result<(), Fail> {
     for &(code, lines) in &DECOMPILED {
-        let decompiled = is_decompiled(rt.alloc(), code, lines)?;
+        let decompiled = is_decompiled(rt.alloc(), code, lines.as_bytes())?;
         assert!(rt; decompiled, "{lines}");
     }
     Ok(())
 }
 
-/// Calls on a shelf that fail, with the bytes that are kept, the status, the line, and what `p` holds then.
-static FAILING: [(u64, u64, u8, &str, Option<&str>); 7] = [
-    (0, 0, 4, "read fault\n", None),
-    (1, 1, 4, "read fault\n", None),
-    (2, 0, 5, "write fault\n", None),
-    (2, 1, 5, "write fault\n", None),
-    (3, 0, 5, "write fault\n", Some("")),
-    (
-        5,
-        2,
-        5,
-        "write fault\n",
-        Some("mcproof 1\ngroup 0x10000\nre"),
-    ),
+/// Calls on the shelf that fail, with the bytes that are kept, the status, the line, and what `p` holds then.
+static FAILING: [(u64, u64, u8, &str, &str); 7] = [
+    (0, 0, 4, "read fault\n", "\x7fELF"),
+    (1, 1, 4, "read fault\n", "\x7fELF"),
+    (2, 0, 5, "write fault\n", "\x7fELF"),
+    (2, 1, 5, "write fault\n", "\x7fELF"),
+    (3, 0, 5, "write fault\n", ""),
+    (5, 2, 5, "write fault\n", "mcproof 1\ngroup 0x10000\nre"),
     (
         4,
         u64::MAX,
         5,
         "write fault\n",
-        Some("mcproof 1\ngroup 0x10000\n"),
+        "mcproof 1\ngroup 0x10000\n",
     ),
 ];
 
-/// Whether a `decompile` ends so where a call on the shelf fails.
-fn ends_with_failing_call(
-    alloc: Global,
-    (failing, kept): (u64, u64),
-    (status, lines): (u8, &str),
-    left: Option<&str>,
-) -> Result<bool, Fail> {
-    let elf = elf_of(alloc, 1, &LOOP)?;
-    let words = words_of(alloc, "decompile e p 0x10000")?;
-    let mut shelf = MemShelf::new(alloc);
-    shelf.set("e", &elf)?;
-    shelf.fail(failing, kept)?;
-    let mut out = MemSink::new(alloc);
-    let answer = run_words(alloc, &words, &mut shelf, &mut out);
-    let holds = match (shelf.held("p"), left) {
-        (Some(bytes), Some(text)) => bytes == text.as_bytes(),
-        (None, None) => true,
-        _ => false,
-    };
-    Ok(answer == status && out.written() == lines.as_bytes() && holds)
-}
-
 #[test]
 fn failing_calls_leave_a_front_of_the_text(rt: HostRuntime) -> Result<(), Fail> {
-    for &(failing, kept, status, lines, left) in &FAILING {
-        let ended = ends_with_failing_call(rt.alloc(), (failing, kept), (status, lines), left)?;
+    let elf = elf_of(rt.alloc(), 1, &LOOP)?;
+    for &(failing, kept, status, lines, text) in &FAILING {
+        let left = Left {
+            status,
+            lines: lines.as_bytes(),
+            p: text.as_bytes(),
+        };
+        let line = "decompile e p 0x10000";
+        let ended = leaves(rt.alloc(), line, (&elf, OLD), (failing, kept), left)?;
         assert!(rt; ended, "call {failing}, {kept} bytes kept");
     }
     Ok(())
