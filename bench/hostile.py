@@ -125,7 +125,7 @@ class Small:
 
 def changes(data, step, others):
     """Each place with each byte that is put there."""
-    return [(place, byte) for place in range(0, len(data), step) for byte in others(data[place]) if byte != data[place]]
+    return [(place, byte) for place in range(0, len(data), step) for byte in sorted(set(others(data[place])) - {data[place]})]
 
 
 def main():
