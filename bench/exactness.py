@@ -1,9 +1,9 @@
 #!/usr/bin/env python3
 """exactness.py PROGRAM [COUNT [FIRST]]: draws functions of machine code, and compares what the commands of a built program say of each.
 
-COUNT functions are drawn, 200 where it isn't given, from the numbers from FIRST on, 0 where it isn't given (`drawn.py`): code of all instructions
-of RV64IM but those that call the environment or jump through other registers, with loops in loops, joins, and loads and stores in one region. Of each
-it makes an ELF file and
+First comes a loop whose lines are known. Then COUNT functions are drawn, 200 where it isn't given, from the numbers from FIRST on, 0 where it isn't
+given (`drawn.py`): code of all instructions of RV64IM but those that call the environment or jump through other registers, with loops in loops, joins,
+and loads and stores in one region. Of each it makes an ELF file and
 
 - decompiles it: the line must name the entry and as many instructions as there are, and the text exactly the registers that these name and a
   memory where one of them loads or stores;
@@ -227,6 +227,19 @@ def compare(program, folder, number):
         return comparison, why, time.perf_counter() - start
 
 
+def try_sum(program, folder):
+    """A function whose answers are known: it adds x11 to x10 and counts x11 down to 0, and returns."""
+    elf, text = os.path.join(folder, "sum.elf"), os.path.join(folder, "sum")
+    code = bytes_of([0x00B50533, 0xFFF58593, 0xFE059CE3, 0x00008067])
+    write_elf(elf, [(BASE, code, len(code), len(code))])
+    name, start = f"{BASE:#x}", ("x1=0x2000", "x10=0x0", "x11=0x1")
+    registers = "x1 0x2000\nx10 0x1\nx11 0x0\n"
+    program.expect(0, f"decompiled {name} {name} 4 3\n", "decompile", elf, text, name)
+    program.expect(0, f"met 4\npc 0x2000\n{registers}", "run", elf, name, "0x2000", "100", *start)
+    program.expect(0, f"done 3\npc 0x2000\n{registers}", "eval", text, name, "3", *start)
+    program.expect(7, "turns used\n", "eval", text, name, "2", *start)
+
+
 def main():
     if not 2 <= len(sys.argv) <= 4:
         sys.exit(__doc__)
@@ -234,6 +247,7 @@ def main():
     count, first = (int(word) for word in (sys.argv[2:] + ["200", "0"][len(sys.argv) - 2 :]))
     start = time.perf_counter()
     with tempfile.TemporaryDirectory() as folder, ThreadPoolExecutor(os.cpu_count()) as pool:
+        try_sum(program, folder)
         done = list(pool.map(lambda number: compare(program, folder, number), range(first, first + count)))
     failed = [(comparison, why) for comparison, why, _ in done if why]
     for comparison, why in failed:
