@@ -70,6 +70,9 @@ all_of_within rs y is i d lt k le =
     let c = has-byte rs i d k lt le in
     c.1 ∙ sym (is _ c.0 c.1)
 
+pub within_same : (xs ys : List Range) → xs ≡ ys → IsWithin (range_bytes xs) (range_bytes ys)
+within_same xs ys e a b h = (λ i. range_bytes (sym e i) a) ∙ h
+
 -- ---- bytes over others
 
 -- there is no byte in no ranges

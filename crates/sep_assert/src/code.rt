@@ -10,12 +10,12 @@ use crate::search::Search;
 use rv_words::Range;
 use word_terms::Code;
 
-/// Whether every byte of `a` is that byte of `b`.
-#[tactic(auto, using(crate::proofs::CodeLemmas::over_none))]
+/// Whether every byte of `a` is that byte of `b`. Mostly they are the same ranges, which is seen at once.
+#[tactic(auto, using(crate::proofs::CodeLemmas::over_none, crate::proofs::CodeLemmas::within_same))]
 pub fn code_within(a: &Code, b: &Code) -> bool
     ensures { IsTrue result ↔ IsWithin (range_bytes a.now.ranges) (range_bytes b.now.ranges) }
 {
-    are_bytes_of(a.ranges.as_slice(), b.ranges.as_slice(), &[])
+    same_code(a, b) || are_bytes_of(a.ranges.as_slice(), b.ranges.as_slice(), &[])
 }
 
 /// Whether no address has two different bytes.

@@ -9,6 +9,6 @@ returns-then-are_within c =
     let b = range_bytes c.args.b.now.ranges in
     let all = range_bytes c.args.all.now.ranges in
     let within = c.are_within.ensures.0 c.if-are_within.true in (
-      λ yes. (agree-within a b all within.0 within.1, union-within a b all within.0 within.1 (c.code_within_either.ensures.0 yes)),
-      λ e. c.code_within_either.ensures.1 (within-union a b all e.1),
+      λ yes. (agree-within a b all within.0 within.1, union-within a b all within.0 within.1 (c.is_covered.ensures.0 yes)),
+      λ e. c.is_covered.ensures.1 (within-union a b all e.1),
     )
