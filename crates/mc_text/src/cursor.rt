@@ -50,6 +50,7 @@ impl<T: Drop> From<AllocFailed<T>> for Stop {
 }
 
 /// The next token, and a scanner after it; none where no token begins.
+#[inline(always)]
 #[tactic(auto, using(crate::proofs::Ahead::ahead_is, crate::proofs::Ahead::ahead_last))]
 pub fn peek<'a>(scan: &Scan<'a>) -> Option<(Token<'a>, Scan<'a>)>
     ensures ahead { IsAhead result scan.now }

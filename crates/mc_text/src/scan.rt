@@ -42,6 +42,7 @@ impl<'a> Scan<'a> {
     }
 
     /// The next token. The end of the text is met again and again.
+    #[inline(always)]
     pub fn next(&mut self) -> Result<Token<'a>, BadText>
         ensures ok { IfOk result (λ t. Passes (tok t) self.old self.new) }
         ensures none { OnErr result ((t : Tok) (rest : List ℕ) → Stands self.old.before self.old.rest t rest → ⊥) }
@@ -91,6 +92,7 @@ impl<'a> Scan<'a> {
 }
 
 /// Whether a line begins at a place.
+#[inline(always)]
 fn begins_line(before: Before) -> bool
     ensures { IsTrue result ↔ (before ≡ Start) }
 {
@@ -98,6 +100,7 @@ fn begins_line(before: Before) -> bool
 }
 
 /// The place after the space between two tokens, if one stands here.
+#[inline(always)]
 fn skip_space(bytes: &[u8], before: Before) -> (&[u8], bool)
     requires { IsInside bytes.now (At before) }
     ensures shorter { length result.0.now ≤ length bytes.now }
@@ -116,6 +119,7 @@ fn skip_space(bytes: &[u8], before: Before) -> (&[u8], bool)
 }
 
 /// The token at a place that isn't the space after another token, and the bytes after it.
+#[inline(always)]
 fn token_at<'a>(bytes: &'a [u8], before: Before, spaced: bool) -> Option<(Token<'a>, &'a [u8])>
     requires { IsSettled bytes.now (state_of before spaced) }
     ensures found { Found (λ r. r.now) result (lex bytes.now (state_of before spaced)) }
@@ -144,6 +148,7 @@ fn token_at<'a>(bytes: &'a [u8], before: Before, spaced: bool) -> Option<(Token<
     }
 }
 
+#[inline(always)]
 fn class(byte: u8) -> Class
     ensures { result ≡ class_of byte }
 {
@@ -159,12 +164,14 @@ fn class(byte: u8) -> Class
 }
 
 /// Whether a token that wants a space before it may stand there.
+#[inline(always)]
 fn is_loose(before: Before, spaced: bool) -> bool
     ensures { result ≡ loose (state_of before spaced) }
 {
     spaced || before != Before::Later
 }
 
+#[inline(always)]
 fn if_some<'a>(fits: bool, token: Token<'a>, rest: &'a [u8]) -> Option<(Token<'a>, &'a [u8])>
     requires { tok token ≡ Done → ⊥ }
     ensures same { IfSome result (λ p. p ≡ (token.entry, rest.entry)) }
@@ -174,6 +181,7 @@ fn if_some<'a>(fits: bool, token: Token<'a>, rest: &'a [u8]) -> Option<(Token<'a
 }
 
 /// The atom at the beginning, and the bytes after it.
+#[inline(always)]
 fn atom_at(bytes: &[u8]) -> (&[u8], &[u8])
     ensures atom { lex bytes.now Within ≡ Atom result.0.now ∷ lex result.1.now (At Later) }
     ensures parts { result.0.now ++ result.1.now ≡ bytes.now }
@@ -218,6 +226,7 @@ pub fn is_atom_byte(byte: u8) -> bool
 }
 
 /// What stands before the place after a token.
+#[inline(always)]
 fn before_next(token: Token<'_>) -> Before
     ensures { result ≡ before_next (tok token.entry) }
 {
@@ -232,6 +241,7 @@ fn before_next(token: Token<'_>) -> Before
 }
 
 /// How many lines end with a token.
+#[inline(always)]
 fn ends_line(token: Token<'_>) -> u64
     ensures count { result ≡ eol (tok token.entry) }
     ensures one { result ≤ 1 }
