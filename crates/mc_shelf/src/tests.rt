@@ -1,112 +1,161 @@
 //! What no clause says: that the calls succeed while there is memory, and what the adapters do.
 
 use super::*;
-use std::alloc::{AllocError, Global};
+use rv_words::NoMemory;
+use std::alloc::Global;
 use std::fs;
 use std::test::Fail;
 
-/// So many bytes that differ from place to place.
-fn pattern(alloc: Global, length: usize) -> Result<Vec<u8>, AllocError> {
+/// 200,000 bytes that differ from place to place.
+fn pattern(alloc: Global) -> Result<Vec<u8>, NoMemory> {
     let mut bytes = Vec::new(alloc);
-    for i in 0..length {
+    for i in 0..200_000usize {
         bytes.push((i % 251) as u8)?;
     }
     Ok(bytes)
 }
 
-/// How reading the file `e` of 200,000 bytes ends: three whole pieces, a part of one, and nothing.
-fn end_of_long_file(
+/// Whether reading a file of these bytes ends so, where a call fails.
+fn ends_so(
     alloc: Global,
-    name: &str,
-    limit: u64,
-    failing: u64,
-) -> Result<Option<ReadEnd>, Fail> {
-    let whole = pattern(alloc, 200_000)?;
+    whole: &[u8],
+    (name, limit, failing): (&str, u64, u64),
+    end: Option<ReadEnd>,
+) -> Result<bool, NoMemory> {
     let mut shelf = MemShelf::new(alloc);
-    shelf.set("e", whole.as_slice())?;
+    shelf.set("e", whole)?;
     shelf.fail(failing, 0)?;
     match read_file(alloc, &mut shelf, name, limit) {
-        Ok(bytes) if bytes.as_slice() == whole.as_slice() => Ok(None),
-        Ok(_) => Err(Fail::from("other bytes")),
-        Err(end) => Ok(Some(end)),
+        Ok(bytes) => Ok(end.is_none() && bytes.as_slice() == whole),
+        Err(fault) => Ok(end == Some(fault)),
     }
 }
+
+/// A name, a limit and a call that fails, and how reading 200,000 bytes ends: three whole pieces, a part of one, and nothing.
+static ENDS: [((&str, u64, u64), Option<ReadEnd>); 9] = [
+    (("e", 200_000, 5), None),
+    (("e", u64::MAX, 5), None),
+    (("e", 199_999, 9), Some(ReadEnd::TooLong)),
+    (("e", 65_535, 1), Some(ReadEnd::TooLong)),
+    (("e", 0, 1), Some(ReadEnd::TooLong)),
+    (("e", 200_000, 0), Some(ReadEnd::Fault)),
+    (("e", 200_000, 2), Some(ReadEnd::Fault)),
+    (("e", 200_000, 4), Some(ReadEnd::Fault)),
+    (("f", 200_000, 9), Some(ReadEnd::Fault)),
+];
 
 #[test]
 fn whole_files_are_read(rt: HostRuntime) -> Result<(), Fail> {
-    for (name, limit, failing, end) in [
-        ("e", 200_000, 5, None),
-        ("e", u64::MAX, 5, None),
-        ("e", 199_999, 9, Some(ReadEnd::TooLong)),
-        ("e", 65_535, 1, Some(ReadEnd::TooLong)),
-        ("e", 0, 1, Some(ReadEnd::TooLong)),
-        ("e", 200_000, 0, Some(ReadEnd::Fault)),
-        ("e", 200_000, 2, Some(ReadEnd::Fault)),
-        ("e", 200_000, 4, Some(ReadEnd::Fault)),
-        ("f", 200_000, 9, Some(ReadEnd::Fault)),
-    ] {
-        let answer = end_of_long_file(rt.alloc(), name, limit, failing)?;
-        assert_eq!(rt; answer, end, "{name}, limit {limit}, failing {failing}");
+    let whole = pattern(rt.alloc())?;
+    for &(read, end) in &ENDS {
+        let ended = ends_so(rt.alloc(), &whole, read, end)?;
+        assert!(rt; ended);
     }
+    let ended = ends_so(rt.alloc(), &[], ("e", 0, 9), None)?;
+    assert!(rt; ended);
     Ok(())
 }
 
-#[test]
-fn an_empty_file_is_read(rt: HostRuntime) -> Result<(), Fail> {
-    let alloc = rt.alloc();
-    let mut shelf = MemShelf::new(alloc);
-    shelf.set("e", &[])?;
-    let bytes = read_file(alloc, &mut shelf, "e", 0).ok().ok_or("read")?;
-    assert!(rt; bytes.is_empty());
-    Ok(())
+/// A call on a shelf, and what it gives: whether it succeeds, or up to four bytes that are read.
+#[derive(Clone, Copy)]
+enum Call {
+    Create(bool),
+    Append(&'static [u8], bool),
+    Read(u64, Option<&'static [u8]>),
 }
 
-/// What a call to read four bytes of a file gives, and what the bytes behind the end hold: 9, as before.
-fn read_four<S: Shelf>(shelf: &mut S, name: &str, at: u64) -> (Result<usize, Failed>, [u8; 4]) {
+/// Whether reading four bytes gives these, and leaves what stands behind them as it was; or fails.
+fn reads<S: Shelf>(shelf: &mut S, name: &str, at: u64, wanted: Option<&[u8]>) -> bool {
     let mut buffer = [9u8; 4];
-    let count = shelf.read(name, at, &mut buffer);
-    (count, buffer)
+    match shelf.read(name, at, &mut buffer) {
+        Ok(count) => {
+            let Some(bytes) = wanted else { return false };
+            let behind = [9u8; 4];
+            count == bytes.len()
+                && count <= 4
+                && &buffer[..count] == bytes
+                && buffer[count..] == behind[count..]
+        }
+        Err(Failed) => wanted.is_none(),
+    }
 }
 
-#[test]
-fn a_shelf_in_memory_holds_files(rt: HostRuntime) -> Result<(), Fail> {
-    let mut shelf = MemShelf::new(rt.alloc());
-    assert_eq!(rt; shelf.held("p"), None);
-    assert_eq!(rt; read_four(&mut shelf, "p", 0), (Err(Failed), [9; 4]));
-    assert_eq!(rt; shelf.append("p", b"ab"), Err(Stop::Failed));
-    assert_eq!(rt; shelf.held("p"), None);
-    assert_eq!(rt; shelf.create("p"), Ok(()));
-    assert_eq!(rt; shelf.held("p"), Some([].as_slice()));
-    assert_eq!(rt; shelf.append("p", b"abc"), Ok(()));
-    assert_eq!(rt; shelf.append("p", b"def"), Ok(()));
-    shelf.set("q", b"other")?;
-    assert_eq!(rt; shelf.held("p"), Some(b"abcdef".as_slice()));
-    assert_eq!(rt; read_four(&mut shelf, "p", 0), (Ok(4), *b"abcd"));
-    assert_eq!(rt; read_four(&mut shelf, "p", 4), (Ok(2), *b"ef\x09\x09"));
-    assert_eq!(rt; read_four(&mut shelf, "p", 6), (Ok(0), [9; 4]));
-    assert_eq!(rt; read_four(&mut shelf, "p", u64::MAX), (Ok(0), [9; 4]));
-    assert_eq!(rt; shelf.create("p"), Ok(()));
-    assert_eq!(rt; shelf.held("p"), Some([].as_slice()));
-    assert_eq!(rt; shelf.held("q"), Some(b"other".as_slice()));
-    Ok(())
+fn gives<S: Shelf>(shelf: &mut S, name: &str, call: Call) -> bool {
+    match call {
+        Call::Create(is_done) => match shelf.create(name) {
+            Ok(()) => is_done,
+            Err(stop) => !is_done && stop == Stop::Failed,
+        },
+        Call::Append(bytes, is_done) => match shelf.append(name, bytes) {
+            Ok(()) => is_done,
+            Err(stop) => !is_done && stop == Stop::Failed,
+        },
+        Call::Read(at, wanted) => reads(shelf, name, at, wanted),
+    }
 }
+
+/// Whether the calls, one after the other, give what they are to give.
+fn all_give<S: Shelf>(shelf: &mut S, name: &str, calls: &[Call]) -> bool {
+    for &call in calls {
+        if !gives(shelf, name, call) {
+            return false;
+        }
+    }
+    true
+}
+
+/// Calls on a name that is missing at first.
+static CALLS: [Call; 13] = [
+    Call::Read(0, None),
+    Call::Append(b"ab", false),
+    Call::Read(0, None),
+    Call::Create(true),
+    Call::Read(0, Some(b"")),
+    Call::Append(b"abc", true),
+    Call::Append(b"def", true),
+    Call::Read(0, Some(b"abcd")),
+    Call::Read(4, Some(b"ef")),
+    Call::Read(6, Some(b"")),
+    Call::Read(100, Some(b"")),
+    Call::Create(true),
+    Call::Read(0, Some(b"")),
+];
+
+/// Calls that fail on no file.
+static NO_FILE: [Call; 2] = [Call::Read(0, None), Call::Append(b"abc", false)];
+
+/// Whether a shelf in memory gives that, and another name holds what it held.
+fn memory_gives(alloc: Global) -> Result<bool, NoMemory> {
+    let mut shelf = MemShelf::new(alloc);
+    shelf.set("q", b"other")?;
+    let is_so = all_give(&mut shelf, "p", &CALLS);
+    let end = [Call::Append(b"xyz", true), Call::Read(u64::MAX, Some(b""))];
+    let is_so = is_so && all_give(&mut shelf, "p", &end);
+    let p = shelf.held("p") == Some(b"xyz".as_slice());
+    let q = shelf.held("q") == Some(b"other".as_slice());
+    Ok(is_so && p && q)
+}
+
+/// What fails on a shelf where the second call, an append, keeps a part.
+static FAILING: [Call; 3] = [
+    Call::Read(0, None),
+    Call::Append(b"abc", false),
+    Call::Create(false),
+];
 
 /// Whether the second call, an append, fails with so many bytes kept and the third, a create, fails too.
-fn fails_on_a_shelf(alloc: Global, kept: u64, left: &[u8]) -> Result<bool, Fail> {
+fn fails_on_a_shelf(alloc: Global, kept: u64, left: &[u8]) -> Result<bool, NoMemory> {
     let mut shelf = MemShelf::new(alloc);
     shelf.set("p", b"x")?;
-    shelf.fail(1, kept)?;
+    for call in [1, 0, 2] {
+        shelf.fail(call, kept)?;
+    }
     shelf.fail(1, 2)?;
-    shelf.fail(0, kept)?;
-    shelf.fail(2, kept)?;
-    let read = read_four(&mut shelf, "p", 0) == (Err(Failed), [9; 4]);
-    let append = shelf.append("p", b"abc") == Err(Stop::Failed);
-    let create = shelf.create("p") == Err(Stop::Failed);
-    Ok(read && append && create && shelf.held("p") == Some(left))
+    Ok(all_give(&mut shelf, "p", &FAILING) && shelf.held("p") == Some(left))
 }
 
 /// Whether the second call, a put, fails with so many bytes kept, and the next one doesn't.
-fn fails_on_a_sink(alloc: Global, kept: u64, left: &[u8]) -> Result<bool, Fail> {
+fn fails_on_a_sink(alloc: Global, kept: u64, left: &[u8]) -> Result<bool, NoMemory> {
     let mut sink = MemSink::new(alloc);
     sink.fail(1, kept)?;
     sink.fail(1, 2)?;
@@ -116,49 +165,46 @@ fn fails_on_a_sink(alloc: Global, kept: u64, left: &[u8]) -> Result<bool, Fail> 
     Ok(first && second && third && sink.written() == left)
 }
 
+/// How many bytes are kept, and what is left then.
+static KEPT: [(u64, &[u8]); 4] = [(0, b"x"), (1, b"xa"), (3, b"xabc"), (u64::MAX, b"xabc")];
+
 #[test]
-fn calls_in_memory_fail(rt: HostRuntime) -> Result<(), Fail> {
-    for (kept, left) in [
-        (0, b"x".as_slice()),
-        (1, b"xa".as_slice()),
-        (3, b"xabc".as_slice()),
-        (u64::MAX, b"xabc".as_slice()),
-    ] {
-        assert!(rt; fails_on_a_shelf(rt.alloc(), kept, left)?, "kept {kept}");
-        assert!(rt; fails_on_a_sink(rt.alloc(), kept, left)?, "kept {kept}");
+fn calls_in_memory_are_answered_or_fail(rt: HostRuntime) -> Result<(), Fail> {
+    let is_so = memory_gives(rt.alloc())?;
+    assert!(rt; is_so);
+    for &(kept, left) in &KEPT {
+        let shelf_fails = fails_on_a_shelf(rt.alloc(), kept, left)?;
+        let sink_fails = fails_on_a_sink(rt.alloc(), kept, left)?;
+        assert!(rt; shelf_fails && sink_fails, "kept {kept}");
     }
     Ok(())
+}
+
+/// Whether reading the file to its end gives these bytes.
+fn file_is<S: Shelf>(alloc: Global, shelf: &mut S, name: &str, bytes: &[u8]) -> bool {
+    match read_file(alloc, shelf, name, 6) {
+        Ok(found) => found.as_slice() == bytes,
+        Err(_) => false,
+    }
 }
 
 #[test]
 fn the_system_has_files(rt: HostRuntime) -> Result<(), Fail> {
     let name = "mc_shelf_test_file";
     let mut shelf = DirShelf::new(&rt);
-    assert_eq!(rt; shelf.create(name), Ok(()));
-    assert_eq!(rt; shelf.append(name, b"abc"), Ok(()));
-    assert_eq!(rt; shelf.append(name, b"def"), Ok(()));
-    assert_eq!(rt; read_four(&mut shelf, name, 0), (Ok(4), *b"abcd"));
-    assert_eq!(rt; read_four(&mut shelf, name, 4), (Ok(2), *b"ef\x09\x09"));
-    assert_eq!(rt; read_four(&mut shelf, name, 6), (Ok(0), [9; 4]));
-    assert_eq!(rt; read_four(&mut shelf, name, 100), (Ok(0), [9; 4]));
-    let bytes = read_file(rt.alloc(), &mut shelf, name, 6)
-        .ok()
-        .ok_or("read")?;
-    assert_eq!(rt; bytes.as_slice(), b"abcdef".as_slice());
-    assert_eq!(rt; shelf.create(name), Ok(()));
-    assert_eq!(rt; read_four(&mut shelf, name, 0), (Ok(0), [9; 4]));
+    assert!(rt; all_give(&mut shelf, name, &CALLS));
+    assert!(rt; gives(&mut shelf, name, Call::Append(b"abcdef", true)));
+    assert!(rt; file_is(rt.alloc(), &mut shelf, name, b"abcdef"));
     fs::remove_file(&rt, name)?;
     for name in [name, ".", ""] {
-        assert_eq!(rt; read_four(&mut shelf, name, 0), (Err(Failed), [9; 4]));
-        assert_eq!(rt; shelf.append(name, b"abc"), Err(Stop::Failed));
+        assert!(rt; all_give(&mut shelf, name, &NO_FILE));
     }
-    assert_eq!(rt; shelf.create("."), Err(Stop::Failed));
+    assert!(rt; gives(&mut shelf, ".", Call::Create(false)));
     Ok(())
 }
 
 #[test]
 fn the_system_has_an_output(rt: HostRuntime) {
     let mut sink = OutSink::new(&rt);
-    assert_eq!(rt; sink.put(b"output\n"), Ok(()));
-    assert_eq!(rt; sink.put(b""), Ok(()));
+    assert!(rt; sink.put(b"output\n").is_ok() && sink.put(b"").is_ok());
 }

@@ -14,6 +14,3 @@ pub use laws::law_of_one_spelling;
 pub use lists::{read_mems, read_ranges, read_words};
 pub use put::{put_cond, put_mem, put_range, put_word};
 pub use read::{read_cond, read_mem, read_range, read_word, variable_of};
-
-#[cfg(test)]
-mod tests;

@@ -97,6 +97,3 @@ pub fn put_range(pen: &mut Pen<'_>, range: &Range) -> Result<(), NoMemory>
     pen.bytes(range.bytes.as_slice())?;
     pen.right()
 }
-
-#[cfg(test)]
-mod tests;

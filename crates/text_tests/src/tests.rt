@@ -6,3 +6,4 @@ mod evaluating;
 mod loops;
 mod reading;
 mod rules;
+mod terms;

@@ -21,6 +21,3 @@ pub use substitution::{DEEPEST, Sub, TermFault, subst_cond, subst_mem, subst_wor
 pub use term::{
     Cond, Mem, Word, depth_cond, depth_mem, depth_word, same_cond, same_mem, same_word,
 };
-
-#[cfg(test)]
-mod tests;
