@@ -1,19 +1,15 @@
 -- What a call answers, from what its parts found.
-use Rattle.std.proofs.Common.{◌≡◌, ℕ, suc, ◌+◌, ◌-◌, ◌^◌, ◌≤◌, ◌<◌, Bool, true, false, eqb, true≢false, List, [], ◌∷◌, ◌++◌, length, Option, Some, None, Result, Ok, Err, refl, sym, ap, subst, ◌∙◌, arith, length-append, inl, inr}
-use Rattle.mc_text.specs.Tokens.{Tok, Left, Right, Semi, Atom, Eol, Done, Stuck, Place}
+use Rattle.std.proofs.Common.{◌≡◌, ℕ, suc, ◌+◌, ◌-◌, ◌^◌, ◌≤◌, ◌<◌, Bool, true, false, eqb, true≢false, List, [], ◌∷◌, ◌++◌, length, Option, Some, None, Ok, Err, refl, sym, ap, subst, ◌∙◌, arith, length-append, inl, inr}
+use Rattle.mc_text.specs.Tokens.{Tok, Left, Right, Semi, Atom, Eol, Done, Stuck}
 use Rattle.mc_text.specs.declared.token.Before.TheVariants.{Start, Open, Later}
 use Rattle.mc_text.specs.declared.token.Class.{Class}
 use Rattle.mc_text.specs.declared.token.Class.TheVariants.{Letter, LeftMark, RightMark, SemiMark, Newline, Space, Other}
-use Rattle.mc_text.specs.Scanning.{class_of, State, At, Spaced, Within, lex, byte_step, prepend, or_stuck, ended, loose, tight, grows, parts, at_end, tokens_at, eols}
+use Rattle.mc_text.specs.Scanning.{class_of, State, At, Spaced, Within, lex, byte_step, prepend, or_stuck, ended, loose, tight, grows, parts, at_end, eols}
 use Rattle.mc_text.specs.Reading.{goes_on}
 use Rattle.mc_text.specs.Fault.{IsBadAt, newlines}
 use Rattle.mc_text.proofs.Lines.{AreTokens, IsLines}
 use Rattle.mc_text.proofs.ReaderLaws.{Out, ok-value, ok-not-err}
 use Rattle.mc_text.proofs.FaultLine.{AreLines}
-use Rattle.mc_text.specs.Reading.{Reader}
-use Rattle.mc_text.specs.declared.cursor.Stop.{Stop}
-use Rattle.mc_text.specs.declared.cursor.Stop.TheVariants as stop
-use Rattle.mc_text.specs.Outcome.{Gives, last_line}
 use Rattle.rv_words.specs.declared.range.Range.{Range}
 use Rattle.tailrec_lang.specs.Tree.{GroupTree}
 use Rattle.tailrec_lang.specs.Eval.{HasFewNeeds}
@@ -38,7 +34,7 @@ use Rattle.proof_text.proofs.Cuts.{are-lines, whole-lines, ends-follow, follow-e
 use Rattle.proof_text.proofs.TextItems.{IsItem, AreItems, StartsOpen, last_code, items-fit, items-start, items-opened, items-added, items-fewer, last-is, last-fits}
 use Rattle.proof_text.proofs.Resumed.{OneLine, ends-no-line, ends-nothing, line-takes, line-ends, line-again}
 use Rattle.proof_text.proofs.Passed.{front_tokens, is_first, group_turn, turn_tokens, MayFollow, Turn, turn-takes, turn-again, turn-stops, turn-end, line-stops, turn-lines, turn-real, group-turned}
-use Rattle.proof_text.proofs.Given.{Given, given-items, items-given, first-is, some-line-read, shorter, still-lines, short, less, few, quiet, bad-call, bad-more, bad-tail-more, whole-call, given-more, would-read}
+use Rattle.proof_text.proofs.Given.{Given, given-items, items-given, first-is, shorter, still-lines, short, less, few, quiet, bad-call, bad-more, bad-tail-more, whole-call, given-more, would-read}
 
 -- ---- no more lines than bytes
 
@@ -84,10 +80,6 @@ eols-short (b ∷ bs) s = step-eols (class_of b) b s (lex bs) (length bs) (eols-
 
 -- ---- a call
 
--- a reader that stopped
-pub gives-bad : {X Y : Type 0} (view : X → Y) (e : Stop) (old new : Place) (read : Reader Y) → e ≡ stop.Bad → Gives view (Err e) old new read → read (tokens_at old) ≡ Err (tokens_at new)
-gives-bad view e old new read is h = subst (λ (k : Stop). Gives view (Err k) old new read) is h
-
 -- the first item is a group
 starts-more : (is : List ItemTree) (i : ItemTree) → StartsOpen is → (is ≡ [] → StartsOpen (i ∷ [])) → StartsOpen (is ++ i ∷ [])
 starts-more [] i s h = h refl
@@ -102,21 +94,27 @@ last-item : (is js : List ItemTree) (i : ItemTree) → js ≡ is ++ i ∷ [] →
 last-item is js i e h = (items-fewer is (i ∷ []) (subst AreItems e h)).1.0
 
 module _ (text lines tail : List ℕ) (place : ℕ) (now : Progress) (is : record { text = text; rest = lines ++ tail; place = place } ≡ now) (whole : AreWholeLines lines) (none : newlines tail ≡ 0)
-    (s0 s1 : Place) (start : s0 ≡ record { before = Start; rest = lines; line = 1 }) (last : last_line s1 ≡ last_line s0) (line : ℕ) (line-is : line ≡ s1.line) where
+    (us : List Tok) (passed : ℕ) (counted : passed + 1 + eols us ≡ 1 + eols (lex lines (At Start))) where
   abbrev r : Progress
   r = record { text = text; rest = lines ++ tail; place = place }
 
   abbrev ts : List Tok
   ts = lex lines (At Start)
 
-  abbrev us : List Tok
-  us = tokens_at s1
+  abbrev line : ℕ
+  line = passed + 1
 
-  from-start : tokens_at s0 ≡ ts
-  from-start = ap tokens_at start
+  passed-is : line - 1 ≡ passed
+  passed-is = omega arith
 
-  counted : line + eols us ≡ 1 + eols ts
-  counted = ap (λ (n : ℕ). n + eols us) line-is ∙ last ∙ ap last_line start
+  at-passed : drop_lines (line - 1) lines ≡ drop_lines passed lines
+  at-passed = ap (λ (n : ℕ). drop_lines n lines) passed-is
+
+  line-at : place + line ≡ place + passed + 1
+  line-at = omega arith
+
+  told-bad : IsBadAt texts_of_proofs text (place + line) → IsBadAt texts_of_proofs now.text (place + passed + 1)
+  told-bad b = subst (λ (n : ℕ). IsBadAt texts_of_proofs now.text n) line-at (subst (λ (p : Progress). IsBadAt texts_of_proofs p.text (place + line)) is b)
 
   pub line-small : place + length lines ≤ 2 ^ 63 → place + line < 2 ^ 64
   line-small le = omega (arith, le, counted, eols-short lines (At Start))
@@ -162,46 +160,43 @@ module _ (text lines tail : List ℕ) (place : ℕ) (now : Progress) (is : recor
 
   -- ---- where an item was read
 
-  module _ (piece : List Tok) (ends : IsLines piece) (real : AreTokens piece) (read : tokens_at s0 ≡ piece ++ us) where
-    lexed : ts ≡ piece ++ us
-    lexed = sym from-start ∙ read
-
-    item-line : 1 ≤ line
-    item-line = some-line-read lines piece us lexed ends real line counted
-
+  module _ (piece : List Tok) (ends : IsLines piece) (real : AreTokens piece) (lexed : ts ≡ piece ++ us) where
     item-short : length piece ≤ length lines
     item-short = short lines piece us lexed ends real
 
-    module _ (next : List ℕ) (next-is : next ≡ drop_lines (line - 1) lines) where
-      item-place : place + length lines ≤ 2 ^ 63 → place + (line - 1) + length next ≤ 2 ^ 63
+    module _ (next : List ℕ) (next-is : next ≡ drop_lines passed lines) where
+      next-at : next ≡ drop_lines (line - 1) lines
+      next-at = next-is ∙ sym at-passed
+
+      item-place : place + length lines ≤ 2 ^ 63 → place + passed + length next ≤ 2 ^ 63
       item-place le =
           let less = shorter lines piece us lexed ends real line counted in
-          let len : length next ≡ length (drop_lines (line - 1) lines) = ap length next-is in
-          omega (arith, le, less, len)
+          let len : length next ≡ length (drop_lines (line - 1) lines) = ap length next-at in
+          omega (arith, le, less, len, passed-is)
 
       item-lines : AreWholeLines next
-      item-lines = whole-lines next (subst AreLines (sym next-is) (still-lines lines piece us lexed ends real line counted bytes-whole))
+      item-lines = whole-lines next (subst AreLines (sym next-at) (still-lines lines piece us lexed ends real line counted bytes-whole))
 
       item-less : 1 ≤ length piece → length (next ++ tail) < length now.rest
       item-less some =
           let fewer = less lines piece us lexed ends real line counted some in
-          let len : length next ≡ length (drop_lines (line - 1) lines) = ap length next-is in
+          let len : length next ≡ length (drop_lines (line - 1) lines) = ap length next-at in
           let old : length (lines ++ tail) ≡ length now.rest = ap (λ (p : Progress). length p.rest) is in
           omega (arith, fewer, len, sym old, length-append next tail, length-append lines tail)
 
-  module _ (next : List ℕ) (next-is : next ≡ drop_lines (line - 1) lines) where
+  module _ (next : List ℕ) (next-is : next ≡ drop_lines passed lines) where
     abbrev new : Progress
-    new = record { text = text; rest = next ++ tail; place = place + (line - 1) }
+    new = record { text = text; rest = next ++ tail; place = place + passed }
 
     item-given : (ps : List ProofTree) → HasGiven ps now → (i : ItemTree) → IsItem i → ts ≡ turn_tokens (items ps) i ++ us → ((g : GroupTree) → i ≡ Opens g → goes_on is_def us ≡ false) → (items ps ≡ [] → StartsOpen (i ∷ [])) → Given (items ps ++ i ∷ []) new
     item-given ps h i f e stop first =
-        subst (λ (v : List ℕ). Given (items ps ++ i ∷ []) (record { text = text; rest = v ++ tail; place = place + (line - 1) })) (sym next-is)
+        subst (λ (x : List ℕ × ℕ). Given (items ps ++ i ∷ []) (record { text = text; rest = x.0 ++ tail; place = place + x.1 })) (λ k. ((at-passed ∙ sym next-is) k, passed-is k))
         (given-more (items ps) r (here ps h) lines tail refl bytes-whole none i f us line e stop (starts-more (items ps) i (items-start ps) first) counted)
 
   -- a group
-  module _ (g : GroupTree) (read : turn_at (eqb place 0) (tokens_at s0) ≡ Ok (Some g, us)) where
-    took : Turn (eqb place 0) (tokens_at s0) g us
-    took = turn-takes (eqb place 0) (tokens_at s0) g us read
+  module _ (g : GroupTree) (read : turn_at (eqb place 0) ts ≡ Ok (Some g, us)) where
+    took : Turn (eqb place 0) ts g us
+    took = turn-takes (eqb place 0) ts g us read
 
     abbrev group_piece : List Tok
     group_piece = group_turn (eqb place 0) g
@@ -223,14 +218,11 @@ module _ (text lines tail : List ℕ) (place : ℕ) (now : Progress) (is : recor
     pub group-fits : IsGroup g
     group-fits = took.fits
 
-    pub group-line : 1 ≤ line
-    group-line = item-line group_piece ends real took.is
-
     pub group-needs : place + length lines ≤ 2 ^ 63 → HasFewNeeds g
     group-needs le = few (eqb place 0) g (length lines) (item-short group_piece ends real took.is) (omega (arith, le))
 
-    module _ (next : List ℕ) (next-is : next ≡ drop_lines (line - 1) lines) where
-      pub group-place : place + length lines ≤ 2 ^ 63 → place + (line - 1) + length next ≤ 2 ^ 63
+    module _ (next : List ℕ) (next-is : next ≡ drop_lines passed lines) where
+      pub group-place : place + length lines ≤ 2 ^ 63 → place + passed + length next ≤ 2 ^ 63
       group-place = item-place group_piece ends real took.is next next-is
 
       pub group-lines : AreWholeLines next
@@ -243,18 +235,18 @@ module _ (text lines tail : List ℕ) (place : ℕ) (now : Progress) (is : recor
       pub group-less : length (next ++ tail) < length now.rest
       group-less = item-less group_piece ends real took.is next next-is (some-tokens (eqb place 0))
 
-      pub group-given : (ps : List ProofTree) → HasGiven ps now → HasGiven (ps ++ bare g ∷ []) (record { text = text; rest = next ++ tail; place = place + (line - 1) })
+      pub group-given : (ps : List ProofTree) → HasGiven ps now → HasGiven (ps ++ bare g ∷ []) (record { text = text; rest = next ++ tail; place = place + passed })
       group-given ps h =
           let first = first-is (items ps) r (here ps h) in
-          let t = turn-takes (is_first (items ps)) ts g us (ap (λ (b : Bool). turn_at b ts) (sym first) ∙ ap (turn_at (eqb place 0)) (sym from-start) ∙ read) in
+          let t = turn-takes (is_first (items ps)) ts g us (ap (λ (b : Bool). turn_at b ts) (sym first) ∙ read) in
           items-given (ps ++ bare g ∷ []) (new next next-is)
           (subst (λ (js : List ItemTree). Given js (new next next-is)) (sym (items-opened ps g))
           (item-given next next-is ps h (Opens g) t.fits (t.is ∙ ap (λ (v : List Tok). v ++ us) (sym (group-turned (items ps) g))) (λ k e. t.ended) (λ e. tt)))
 
   -- a line of the group that was given last
-  module _ (g : GroupTree) (fits : IsGroup g) (l : LineTree) (read : turn_of g.code (tokens_at s0) ≡ Ok (Some l, us)) where
-    one : OneLine g.code (tokens_at s0) l us
-    one = line-takes g.code (fits.code, fits.bytes) (tokens_at s0) l us read
+  module _ (g : GroupTree) (fits : IsGroup g) (l : LineTree) (read : turn_of g.code ts ≡ Ok (Some l, us)) where
+    one : OneLine g.code ts l us
+    one = line-takes g.code (fits.code, fits.bytes) ts l us read
 
     abbrev line_piece : List Tok
     line_piece = line_tokens g.code l
@@ -268,11 +260,8 @@ module _ (text lines tail : List ℕ) (place : ℕ) (now : Progress) (is : recor
     pub line-fits : IsLine l
     line-fits = one.fits
 
-    pub line-line : 1 ≤ line
-    line-line = item-line line_piece line-whole line-real one.is
-
-    module _ (next : List ℕ) (next-is : next ≡ drop_lines (line - 1) lines) where
-      pub line-place : place + length lines ≤ 2 ^ 63 → place + (line - 1) + length next ≤ 2 ^ 63
+    module _ (next : List ℕ) (next-is : next ≡ drop_lines passed lines) where
+      pub line-place : place + length lines ≤ 2 ^ 63 → place + passed + length next ≤ 2 ^ 63
       line-place = item-place line_piece line-whole line-real one.is next next-is
 
       pub line-lines : AreWholeLines next
@@ -288,13 +277,13 @@ module _ (text lines tail : List ℕ) (place : ℕ) (now : Progress) (is : recor
       at-turn [] some own = absurd (some refl)
       at-turn (i ∷ js) some own = ap (λ (c : List Range). line_tokens c l) (sym own)
 
-      pub line-given : (ps : List ProofTree) (p : ProofTree) → HasGiven (ps ++ p ∷ []) now → p.group ≡ g → HasGiven (ps ++ with_line p l ∷ []) (record { text = text; rest = next ++ tail; place = place + (line - 1) })
+      pub line-given : (ps : List ProofTree) (p : ProofTree) → HasGiven (ps ++ p ∷ []) now → p.group ≡ g → HasGiven (ps ++ with_line p l ∷ []) (record { text = text; rest = next ++ tail; place = place + passed })
       line-given ps p h same =
           let qs : List ProofTree = ps ++ p ∷ [] in
           let own : last_code [] (items qs) ≡ g.code = last-is [] ps p ∙ ap (λ (x : GroupTree). x.code) same in
           items-given (ps ++ with_line p l ∷ []) (new next next-is)
           (subst (λ (js : List ItemTree). Given js (new next next-is)) (sym (items-added ps p l))
-          (item-given next next-is qs h (Adds l) one.fits (sym from-start ∙ one.is ∙ ap (λ (v : List Tok). v ++ us) (at-turn (items qs) (some-items ps p) own)) (λ k e. absurd (not-opened k e)) (λ e. absurd (some-items ps p e))))
+          (item-given next next-is qs h (Adds l) one.fits (one.is ∙ ap (λ (v : List Tok). v ++ us) (at-turn (items qs) (some-items ps p) own)) (λ k e. absurd (not-opened k e)) (λ e. absurd (some-items ps p e))))
 
   -- ---- a call for a group
 
@@ -310,15 +299,12 @@ module _ (text lines tail : List ℕ) (place : ℕ) (now : Progress) (is : recor
   no-line-read [] m l vs some f e = some refl
   no-line-read (p ∷ ps) m l vs some f e = true≢false (sym (ap (goes_on begins_line) e ∙ line-begins (last_code [] (items (p ∷ ps))) l vs) ∙ ends-no-line ts m)
 
-  module _ (stop : turn_at (eqb place 0) (tokens_at s0) ≡ Err us) where
-    stopped : turn_at (eqb place 0) ts ≡ Err us
-    stopped = ap (turn_at (eqb place 0)) (sym from-start) ∙ stop
-
-    pub group-bad : (ps : List ProofTree) → HasGiven ps now → MayOpen ps now.rest → IsBadAt texts_of_proofs now.text (place + line)
+  module _ (stopped : turn_at (eqb place 0) ts ≡ Err us) where
+    pub group-bad : (ps : List ProofTree) → HasGiven ps now → MayOpen ps now.rest → IsBadAt texts_of_proofs now.text (place + passed + 1)
     group-bad ps h m =
         let g = here ps h in
         let q = quiet (items ps) r g lines tail refl bytes-whole none in
-        subst (λ (p : Progress). IsBadAt texts_of_proofs p.text (place + line)) is
+        told-bad
         (bad-call (items ps) r g lines tail refl bytes-whole none line us
         (turn-stops (items ps) ts us g.start g.fit q (may-follow ps m) (ap (λ (b : Bool). turn_at b ts) (sym (first-is (items ps) r g)) ∙ stopped)) counted)
 
@@ -326,10 +312,7 @@ module _ (text lines tail : List ℕ) (place : ℕ) (now : Progress) (is : recor
     group-none ps h m = none-comes ps h (λ g vs e. ok-not-err {Y = Option GroupTree} (Some g) vs us (sym e ∙ stopped)) (no-line-read ps (may-follow ps m))
 
   -- where the end was read
-  module _ (end : turn_at (eqb place 0) (tokens_at s0) ≡ Ok (None, us)) where
-    ended-at : turn_at (eqb place 0) ts ≡ Ok (None, us)
-    ended-at = ap (turn_at (eqb place 0)) (sym from-start) ∙ end
-
+  module _ (ended-at : turn_at (eqb place 0) ts ≡ Ok (None, us)) where
     all-read : (ps : List ProofTree) (h : HasGiven ps now) → proofs_text_at (front_tokens (items ps) ++ ts) ≡ Ok (ps, us)
     all-read ps h =
         let g = here ps h in
@@ -349,8 +332,8 @@ module _ (text lines tail : List ℕ) (place : ℕ) (now : Progress) (is : recor
         bad-tail-more (items ps) r (here ps h) lines tail refl bytes-whole none ps (all-read ps h ∙ ap (λ (v : List Tok). Ok (ps, v)) g.0) line g.1
         (ap (λ (v : List Tok). line + eols v) (sym g.0) ∙ counted)
 
-    pub called-more : GoesOn us tail → (ps : List ProofTree) → HasGiven ps now → MayOpen ps now.rest → IsBadAt texts_of_proofs now.text (place + line)
-    called-more q ps h m = subst (λ (p : Progress). IsBadAt texts_of_proofs p.text (place + line)) is (more-bad q ps h)
+    pub called-more : GoesOn us tail → (ps : List ProofTree) → HasGiven ps now → MayOpen ps now.rest → IsBadAt texts_of_proofs now.text (place + passed + 1)
+    called-more q ps h m = told-bad (more-bad q ps h)
 
     not-some : (g : GroupTree) → Some g ≡ None → ⊥
     not-some g k = cc
@@ -370,20 +353,17 @@ module _ (text lines tail : List ℕ) (place : ℕ) (now : Progress) (is : recor
     own-fits : IsCode g.code
     own-fits = subst IsCode own-is (last-fits [] (items qs) (tt, tt) (items-fit qs h.fit))
 
-    module _ (stop : turn_of g.code (tokens_at s0) ≡ Err us) where
-      line-stopped : turn_of g.code ts ≡ Err us
-      line-stopped = ap (turn_of g.code) (sym from-start) ∙ stop
-
+    module _ (line-stopped : turn_of g.code ts ≡ Err us) where
       stops : (js : List ItemTree) → items qs ≡ js → Given js r → proofs_text_at (front_tokens js ++ ts) ≡ Err us
       stops [] e k = absurd (some-items ps p e)
       stops (i ∷ js) e k =
           line-stops i js ts us k.start k.fit (quiet (i ∷ js) r k lines tail refl bytes-whole none)
           (ap (λ (c : List Range). turn_of c ts) (ap (last_code []) (sym e) ∙ own-is) ∙ line-stopped)
 
-      pub line-bad : IsBadAt texts_of_proofs now.text (place + line)
+      pub line-bad : IsBadAt texts_of_proofs now.text (place + passed + 1)
       line-bad =
           let k = here qs h in
-          subst (λ (p : Progress). IsBadAt texts_of_proofs p.text (place + line)) is
+          told-bad
           (bad-call (items qs) r k lines tail refl bytes-whole none line us (stops (items qs) refl k) counted)
 
       -- no group comes
@@ -401,25 +381,21 @@ module _ (text lines tail : List ℕ) (place : ℕ) (now : Progress) (is : recor
           (λ l vs some f e. ok-not-err {Y = Option LineTree} (Some l) vs us (sym (ap (turn_of g.code) (e ∙ ap (λ (c : List Range). line_tokens c l ++ vs) own-is) ∙ line-again g.code own-fits l vs f) ∙ line-stopped))
 
   -- where the lines have ended
-  pub lines-ended : (own : List Range) → IsCode own → turn_of own (tokens_at s0) ≡ Ok (None, us) → ProofEnds now.rest
-  lines-ended own fits e = subst (λ (p : Progress). ProofEnds p.rest) is (ends-follow lines tail bytes-whole none (line-ends own fits ts us (ap (turn_of own) (sym from-start) ∙ e)))
+  pub lines-ended : (own : List Range) → IsCode own → turn_of own ts ≡ Ok (None, us) → ProofEnds now.rest
+  lines-ended own fits e = subst (λ (p : Progress). ProofEnds p.rest) is (ends-follow lines tail bytes-whole none (line-ends own fits ts us e))
 
-  pub ended-here : ProofEnds now.rest → goes_on ends_proof (tokens_at s0) ≡ true
-  ended-here e = ap (goes_on ends_proof) from-start ∙ follow-ends lines tail none (subst (λ (p : Progress). ProofEnds p.rest) (sym is) e)
+  pub ended-here : ProofEnds now.rest → goes_on ends_proof ts ≡ true
+  ended-here e = follow-ends lines tail none (subst (λ (p : Progress). ProofEnds p.rest) (sym is) e)
 
--- where a line was read, or reading stopped, they haven't
-module _ {X : Type 0} (q : Result (Option X) Stop) (P : Type 0) (ends : P → q ≡ Ok None) where
-  pub not-ended : (o : Option X) (x : X) → q ≡ Ok o → o ≡ Some x → P → ⊥
-  not-ended o x e f p = clash x (sym f ∙ same o None (sym e ∙ ends p))
+  -- where a line was read, or reading stopped, or a row was lost, they haven't
+  pub not-ended : (own : List Range) (l : LineTree) (vs : List Tok) → turn_of own ts ≡ Ok (Some l, vs) → ProofEnds now.rest → ⊥
+  not-ended own l vs e p = not-none l (ok-value {Y = Option LineTree} (Some l) None vs ts (sym e ∙ ends-nothing own ts (ended-here p)))
     where
-      same : (a b : Option X) → ◌≡◌ {A = Result (Option X) Stop} (Ok a) (Ok b) → a ≡ b
-      same a b k = cc
+      not-none : (l : LineTree) → Some l ≡ None → ⊥
+      not-none l k = cc
 
-      clash : (x : X) → Some x ≡ None → ⊥
-      clash x k = cc
+  pub not-stopped : (own : List Range) (bad : List Tok) → turn_of own ts ≡ Err bad → ProofEnds now.rest → ⊥
+  not-stopped own bad e p = ok-not-err {Y = Option LineTree} None ts bad (sym (ends-nothing own ts (ended-here p)) ∙ e)
 
-  pub not-stopped : (e : Stop) → q ≡ Err e → P → ⊥
-  not-stopped e f p = clash e (sym f ∙ ends p)
-    where
-      clash : (e : Stop) → ◌≡◌ {A = Result (Option X) Stop} (Err e) (Ok None) → ⊥
-      clash e k = cc
+  pub not-lost : goes_on ends_proof ts ≡ false → ProofEnds now.rest → ⊥
+  not-lost e p = true≢false (sym (ended-here p) ∙ e)

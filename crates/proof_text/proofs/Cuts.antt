@@ -1,11 +1,8 @@
 -- Whole lines of bytes: cutting them off, and what they are read as.
-use Rattle.std.proofs.Common.{◌≡◌, ℕ, zero, suc, ◌+◌, ◌-◌, ◌≤◌, ◌<◌, Bool, true, false, cond, eqb, List, [], ◌∷◌, ◌++◌, length, codes, get_or, take, drop, length-drop, Option, Some, None, true≢false, refl, sym, ap, subst, ◌∙◌, arith, append_assoc, length-append, inl, inr}
+use Rattle.std.proofs.Common.{◌≡◌, ℕ, zero, suc, ◌+◌, ◌-◌, ◌≤◌, ◌<◌, Bool, true, false, cond, eqb, List, [], ◌∷◌, ◌++◌, length, codes, get_or, take, Option, Some, None, true≢false, refl, sym, ap, subst, ◌∙◌, arith, append_assoc, length-append, inl, inr}
 use Rattle.std.specs.Prelude.{◌||◌, option_map}
 use Rattle.std.specs.Str.{bytes_eq}
-use Rattle.std.proofs.lemmas.List.{append-nil, take_all}
-use Rattle.std.proofs.Math.Seq.{drop-cons}
-use Rattle.std.proofs.Math.ListN.{drop_of_length-le}
-use Rattle.std.proofs.lemmas.Bool.Decides.{nat_tests}
+use Rattle.std.proofs.lemmas.List.{append-nil}
 use Rattle.std.proofs.lemmas.Bool.{eqb-true}
 use Rattle.std.proofs.lemmas.Slice.Eq.{bytes_eq-Decides}
 use Rattle.mc_text.specs.Tokens.{Tok, Left, Right, Semi, Atom, Eol, Done, Stuck, Stands}
@@ -63,15 +60,15 @@ pub lines-behind : (w r : List ℕ) → AreLines (w ++ r) → AreLines r
 lines-behind [] r h = h
 lines-behind (b ∷ w) r h = lines-behind w r (lines-cons b (w ++ r) h)
 
-drop-true : (n b : ℕ) (bs : List ℕ) → eqb b 10 ≡ true → drop_lines (suc n) (b ∷ bs) ≡ drop_lines n bs
+pub drop-true : (n b : ℕ) (bs : List ℕ) → eqb b 10 ≡ true → drop_lines (suc n) (b ∷ bs) ≡ drop_lines n bs
 unfolding drop_lines
 drop-true n b bs e = rw e refl
 
-drop-false : (n b : ℕ) (bs : List ℕ) → eqb b 10 ≡ false → drop_lines (suc n) (b ∷ bs) ≡ drop_lines (suc n) bs
+pub drop-false : (n b : ℕ) (bs : List ℕ) → eqb b 10 ≡ false → drop_lines (suc n) (b ∷ bs) ≡ drop_lines (suc n) bs
 unfolding drop_lines
 drop-false n b bs e = rw e refl
 
-drop-none : (bytes : List ℕ) → drop_lines 0 bytes ≡ bytes
+pub drop-none : (bytes : List ℕ) → drop_lines 0 bytes ≡ bytes
 unfolding drop_lines
 drop-none bytes = refl
 
@@ -260,49 +257,24 @@ pub no-lines : (text front : List ℕ) → front ≡ take 0 text → AreWholeLin
 unfolding first_lines
 no-lines text front is = whole-lines front (subst AreLines (sym is) tt)
 
-drop-left : (text : List ℕ) (i left : ℕ) (total : List ℕ) → left ≡ 0 → drop_lines left (drop i text) ≡ total → drop i text ≡ total
-drop-left text i left total e h = sym (drop-none (drop i text)) ∙ ap (λ (n : ℕ). drop_lines n (drop i text)) (sym e) ∙ h
-
-pub left-none : (text : List ℕ) (i left : ℕ) (total : List ℕ) → left ≡ 0 → drop_lines left (drop i text) ≡ total → take (length text - i) (drop i text) ≡ total
-left-none text i left total e h = take_all (length text - i) (drop i text) (omega (arith, length-drop i text)) ∙ drop-left text i left total e h
+-- ---- behind the first line
 
 no-bytes : (n : ℕ) → drop_lines n [] ≡ []
 unfolding drop_lines
 no-bytes zero = refl
 no-bytes (suc n) = refl
 
-pub left-end : (text : List ℕ) (i left : ℕ) (total : List ℕ) → length text ≤ i → drop_lines left (drop i text) ≡ total → take (length text - length text) (drop (length text) text) ≡ total
-left-end text i left total le h =
-    let none : drop i text ≡ [] = drop_of_length-le text le in
-    take_all (length text - length text) (drop (length text) text) (omega (arith, length-drop (length text) text)) ∙ drop_of_length-le text (omega arith)
-    ∙ sym (no-bytes left) ∙ ap (drop_lines left) (sym none) ∙ h
-
-drop-next : (text : List ℕ) (i d : ℕ) → i < length text → drop i text ≡ get_or text i d ∷ drop (i + 1) text
-drop-next text i d lt = let next : suc i ≡ i + 1 = omega arith in drop-cons text i d lt ∙ ap (λ (n : ℕ). get_or text i d ∷ drop n text) next
-
-line-true : (n b : ℕ) (bs : List ℕ) → b ≡ 10 → 0 < n → drop_lines n (b ∷ bs) ≡ drop_lines (n - 1) bs
-line-true zero b bs e lt = absurd (omega (arith, lt))
-line-true (suc n) b bs e lt = let less : n ≡ suc n - 1 = omega arith in drop-true n b bs (ap (λ (k : ℕ). eqb k 10) e) ∙ ap (λ (k : ℕ). drop_lines k bs) less
-
-line-false : (n b : ℕ) (bs : List ℕ) → eqb b 10 ≡ false → 0 < n → drop_lines n (b ∷ bs) ≡ drop_lines n bs
-line-false zero b bs e lt = absurd (omega (arith, lt))
-line-false (suc n) b bs e lt = drop-false n b bs e
-
-pub next-true : (text : List ℕ) (i d left new : ℕ) (total : List ℕ) → i < length text → get_or text i d ≡ 10 → (left ≡ 0 → ⊥) → new ≡ left - 1 → drop_lines left (drop i text) ≡ total → drop_lines new (drop (i + 1) text) ≡ total
-next-true text i d left new total lt e some is h =
-    ap (λ (n : ℕ). drop_lines n (drop (i + 1) text)) is ∙ sym (line-true left (get_or text i d) (drop (i + 1) text) e (positive left some)) ∙ ap (drop_lines left) (sym (drop-next text i d lt)) ∙ h
+-- lines one after the other
+one-more : (n : ℕ) (bytes : List ℕ) → drop_lines (suc n) bytes ≡ drop_lines n (drop_lines 1 bytes)
+one-more n [] = no-bytes (suc n) ∙ sym (no-bytes n) ∙ ap (drop_lines n) (sym (no-bytes 1))
+one-more n (b ∷ bs) = choose (eqb b 10) refl (one-more n bs)
   where
-    positive : (n : ℕ) → (n ≡ 0 → ⊥) → 0 < n
-    positive zero h = absurd (h refl)
-    positive (suc n) h = omega arith
+    choose : (f : Bool) → eqb b 10 ≡ f → drop_lines (suc n) bs ≡ drop_lines n (drop_lines 1 bs) → drop_lines (suc n) (b ∷ bs) ≡ drop_lines n (drop_lines 1 (b ∷ bs))
+    choose true e ih = drop-true n b bs e ∙ ap (drop_lines n) (sym (drop-true 0 b bs e ∙ drop-none bs))
+    choose false e ih = drop-false n b bs e ∙ ih ∙ ap (drop_lines n) (sym (drop-false 0 b bs e))
 
-not-ten : (b : ℕ) → (b ≡ 10 → ⊥) → eqb b 10 ≡ false
-not-ten b h = grind (arith, nat_tests)
-
-pub next-false : (text : List ℕ) (i d left new : ℕ) (total : List ℕ) → i < length text → (get_or text i d ≡ 10 → ⊥) → (left ≡ 0 → ⊥) → new ≡ left → drop_lines left (drop i text) ≡ total → drop_lines new (drop (i + 1) text) ≡ total
-next-false text i d left new total lt e some is h =
-    ap (λ (n : ℕ). drop_lines n (drop (i + 1) text)) is ∙ sym (line-false left (get_or text i d) (drop (i + 1) text) (not-ten (get_or text i d) e) (positive left some)) ∙ ap (drop_lines left) (sym (drop-next text i d lt)) ∙ h
-  where
-    positive : (n : ℕ) → (n ≡ 0 → ⊥) → 0 < n
-    positive zero h = absurd (h refl)
-    positive (suc n) h = omega arith
+pub lines-after-lines : (m n : ℕ) (bytes : List ℕ) → drop_lines (m + n) bytes ≡ drop_lines n (drop_lines m bytes)
+lines-after-lines zero n bytes = let e : 0 + n ≡ n = omega arith in ap (λ (k : ℕ). drop_lines k bytes) e ∙ ap (drop_lines n) (sym (drop-none bytes))
+lines-after-lines (suc m) n bytes =
+    let e : suc m + n ≡ suc (m + n) = omega arith in
+    ap (λ (k : ℕ). drop_lines k bytes) e ∙ one-more (m + n) bytes ∙ lines-after-lines m n (drop_lines 1 bytes) ∙ ap (drop_lines n) (sym (one-more m bytes))

@@ -114,9 +114,6 @@ module _ (lines : List ℕ) (piece us : List Tok) (is : lex lines (At Start) ≡
       let count : line - 1 ≡ newlines text = omega (arith, lines-read line e) in
       ap (λ (n : ℕ). drop_lines n lines) count ∙ ap (drop_lines (newlines text)) split.is ∙ dropped text split.more text-whole
 
-  pub some-line-read : (line : ℕ) → line + eols us ≡ 1 + eols (lex lines (At Start)) → 1 ≤ line
-  some-line-read line e = omega (arith, lines-read line e)
-
   pub shorter : (line : ℕ) → line + eols us ≡ 1 + eols (lex lines (At Start)) → (line - 1) + length (drop_lines (line - 1) lines) ≤ length lines
   shorter line e =
       let long : length lines ≡ length (text ++ split.more) = ap length split.is in

@@ -23,3 +23,12 @@ pub mod Cuts
 pub mod Given
 pub mod Fronts
 pub mod Called
+pub mod RowAt
+pub mod RowLaws
+pub mod RowReaders
+pub mod RowLawsOf
+pub mod Joins
+pub mod BodyJoins
+pub mod GroupJoins
+pub mod Claims
+pub mod LineJoins

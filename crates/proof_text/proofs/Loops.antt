@@ -1,26 +1,16 @@
--- Loops that read at most, or just, so many items stop where the reading function does.
-use Rattle.std.proofs.Common.{◌≡◌, ℕ, zero, suc, ◌+◌, ◌-◌, ◌<◌, ◌≤◌, arith, length, length-append, refl, false, true≢false, true, Bool, List, [], ◌∷◌, ◌++◌, map, Ok, Err, sym, ap, ◌∙◌}
+-- Loops that read at most, or just, so many items.
+use Rattle.std.proofs.Common.{◌≡◌, ℕ, zero, suc, ◌+◌, ◌-◌, ◌<◌, ◌≤◌, arith, length, length-append, refl, false, true≢false, true, Bool, List, [], ◌∷◌, ◌++◌, map, Ok, sym, ap, ◌∙◌}
 use Rattle.std.proofs.lemmas.List.{map-append}
-use Rattle.mc_text.specs.Tokens.{Tok, Place}
+use Rattle.mc_text.specs.Tokens.{Tok}
 use Rattle.mc_text.specs.Reading.{Reader, many, goes_on}
 use Rattle.mc_text.specs.inner.Reading.{times, with_prefix}
-use Rattle.mc_text.specs.Scanning.{tokens_at}
 use Rattle.mc_text.proofs.ReaderLaws.{Out}
-use Rattle.mc_text.proofs.Turns.{times-more, times-fails, times-ends, many-more}
-use Rattle.mc_text.specs.declared.cursor.Stop.{Stop}
-use Rattle.mc_text.specs.declared.cursor.Stop.TheVariants as stop
-use Rattle.mc_text.specs.Outcome.{Gives}
+use Rattle.mc_text.proofs.Turns.{times-more, times-ends, many-more}
 
 pub times-pushed : {X Y : Type 0} (view : X → Y) (r : Reader Y) (n m : ℕ) (items : List X) (x : X) (more : List X) (ts rest : List Tok) (total : Out (List Y))
     → n ≡ suc m → more ≡ items ++ x ∷ [] → r ts ≡ Ok (view x, rest) → with_prefix (map view items) (times n r ts) ≡ total → with_prefix (map view more) (times m r rest) ≡ total
 times-pushed view r n m items x more ts rest total count p e h =
     rw (p, map-append) (times-more r m (map view items) ts (view x) rest total e (ap (λ (k : ℕ). with_prefix (map view items) (times k r ts)) (sym count) ∙ h))
-
-pub times-stopped : {X Y Z : Type 0} (view : X → Y) (views : Z → List Y) (r : Reader Y) (n m count : ℕ) (e : Stop) (front : List Y) (old at new : Place)
-    → n ≡ suc m → Gives view (Err e) at new r → with_prefix front (times n r (tokens_at at)) ≡ times count r (tokens_at old) → Gives views (Err e) old new (times count r)
-times-stopped view views r n m count stop.Bad front old at new left h told =
-    times-fails r m front (tokens_at at) (tokens_at new) (times count r (tokens_at old)) h (ap (λ (k : ℕ). with_prefix front (times k r (tokens_at at))) (sym left) ∙ told)
-times-stopped view views r n m count stop.NoMemory front old at new left h told = tt
 
 pub many-pushed : {X Y : Type 0} (view : X → Y) (go : Tok → Bool) (r : Reader Y) (n m : ℕ) (items : List X) (x : X) (more : List X) (ts rest : List Tok) (total : Out (List Y))
     → n ≡ suc m → more ≡ items ++ x ∷ [] → goes_on go ts ≡ true → r ts ≡ Ok (view x, rest) → with_prefix (map view items) (many n go r ts) ≡ total → with_prefix (map view more) (many m go r rest) ≡ total

@@ -1,16 +1,12 @@
 -- The definitions of a group: as many as follow, at least one, and not too many.
 use Rattle.std.proofs.Common.{◌≡◌, ℕ, zero, suc, ◌+◌, ◌-◌, ◌≤◌, Bool, true, false, cond, List, [], ◌∷◌, ◌++◌, length, Ok, Err, refl, sym, ap, subst, ◌∙◌, arith, append_assoc}
 use Rattle.std.specs.List.{AllByRecursion}
-use Rattle.mc_text.specs.Tokens.{Tok, Left, Right, Semi, Atom, Eol, Done, Stuck, Place, all_tokens}
+use Rattle.mc_text.specs.Tokens.{Tok, Left, Right, Semi, Atom, Eol, Done, Stuck, all_tokens}
 use Rattle.mc_text.specs.Reading.{Reader, ◌>>=◌, many, one, goes_on}
 use Rattle.mc_text.specs.inner.Reading.{with_prefix}
-use Rattle.mc_text.specs.Scanning.{tokens_at}
 use Rattle.mc_text.proofs.ReaderLaws.{Out, ok-is}
 use Rattle.mc_text.proofs.Covers.{Covers}
-use Rattle.mc_text.proofs.Turns.{many-one, many-none, many-ends, many-full, many-fails}
-use Rattle.mc_text.specs.declared.cursor.Stop.{Stop}
-use Rattle.mc_text.specs.declared.cursor.Stop.TheVariants as stop
-use Rattle.mc_text.specs.Outcome.{Gives}
+use Rattle.mc_text.proofs.Turns.{many-one, many-none, many-ends, many-full}
 use Rattle.tailrec_lang.specs.Tree.{DefTree}
 use Rattle.proof_text.specs.Limits.{def_limit, IsDef}
 use Rattle.proof_text.specs.Spelling.{def_tokens}
@@ -151,13 +147,6 @@ module _ (n : ℕ) (front : List DefTree) (ts old : List Tok) (told : with_prefi
 
   pub own-some : goes_on is_def ts ≡ false → 1 ≤ length front → own_defs old ≡ Ok (front, ts)
   own-some g le = own-end g true (true-le 1 (length front) le)
-
-pub own-stopped : {X Z : Type 0} (view : X → DefTree) (views : Z → List DefTree) (n m : ℕ) (e : Stop) (front : List DefTree) (old at new : Place)
-    → n ≡ suc m → goes_on is_def (tokens_at at) ≡ true → Gives view (Err e) at new def_at → with_prefix front (many n is_def def_at (tokens_at at)) ≡ many def_limit is_def def_at (tokens_at old) → Gives views (Err e) old new own_defs
-own-stopped view views n m stop.Bad front old at new left g h told =
-    ap (λ (q : Defs). judge (guard q)) (many-fails is_def def_at m front (tokens_at at) (tokens_at new) (many def_limit is_def def_at (tokens_at old)) g h
-    (ap (λ (k : ℕ). with_prefix front (many k is_def def_at (tokens_at at))) (sym left) ∙ told))
-own-stopped view views n m stop.NoMemory front old at new left g h told = tt
 
 -- how many more may follow
 pub one-fewer : (n : ℕ) → n ≤ def_limit → (n ≡ def_limit → ⊥) → def_limit - n ≡ suc (def_limit - (n + 1))

@@ -4,3 +4,8 @@ pub mod LineReading
 pub mod Subs
 pub mod Cut
 pub mod Rest
+pub mod Rows
+pub mod TextRows
+pub mod BodyRows
+pub mod GroupRows
+pub mod OwnCode

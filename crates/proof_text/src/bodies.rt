@@ -1,165 +1,133 @@
 //! Reading bodies, by the nesting that is left.
 
-ghost use Rattle.std.specs.Prelude.{◌≡◌, ◌^◌, IfOk, ◌<◌, map};
-ghost use Rattle.mc_text.specs.inner.Reading.{times, number_at};
-ghost use Rattle.mc_text.specs.Outcome.{Gives, last_line};
-ghost use Rattle.tailrec_lang.specs.Tree.{body_tree, values_tree};
+ghost use Rattle.std.specs.Prelude.{◌≤◌, codes, map};
+ghost use Rattle.mc_text.specs.Reading.{pair, star};
+ghost use Rattle.mc_text.specs.inner.Reading.{times};
+ghost use Rattle.tailrec_lang.specs.Tree.{body_tree, step_tree};
 ghost use Rattle.tailrec_lang.specs.inner.Tree.{end_tree};
-ghost use Rattle.proof_text.specs.inner.Reading.{arm_at, arm_bound, body_at, branch_at, call_at, call_row, end_at, leave_at};
+ghost use Rattle.proof_text.specs.inner.Rows.{RowsGive};
+ghost use Rattle.proof_text.specs.inner.Reading.{arm_at, body_at, end_at, is_step, mark_row, step_at};
 
-use crate::rows::{cond_row, read_mark, read_steps, read_values};
-use mc_text::cursor::{number, peek};
-use mc_text::{Scan, Stop, Token};
+use crate::body_rows::EndRow;
+use crate::next_rows::{end_row, mark_row, step_row, steps_go_on};
+use crate::rows::Rows;
+use crate::stop::Halt;
 use rv_words::List;
 use std::alloc::Global;
-use tailrec_lang::{Body, End, Values};
+use tailrec_lang::{Body, End, Step};
 
-/// The number of a definition or an exit.
-pub fn read_index<'a>(scan: &mut Scan<'a>) -> Result<u32, Stop>
-    ensures gives { Gives (λ n. n) result scan.old scan.new (number_at (2 ^ 32)) }
-    ensures last { last_line scan.new ≡ last_line scan.old }
+/// The steps up to a row that isn't one.
+fn read_steps<E, R: Rows<E>>(alloc: Global, rows: &mut R, from: &mut E) -> Result<List<Step>, Halt>
+    ensures gives { RowsGive (λ steps. map step_tree steps) result (R.May rows.old from.old) (R.May rows.new from.new) (star is_step step_at) }
+    ensures left { R.left rows.new ≤ R.left rows.old }
 {
-    let index = number(scan, 1 << 32)?;
-    Ok(index as u32)
+    let mut steps = List::new(alloc);
+    'steps: while steps_go_on(alloc, rows, from)? {
+        match step_row(alloc, rows, from) {
+            Ok(step) => steps.push(step)?,
+            Err(halt) => return Err(halt),
+        }
+    }
+    Ok(steps)
 }
 
-/// A call's number of arms is below this: it has at most 16, and none where no body may stand inside.
-fn arm_bound(room: u32) -> u64
-    ensures { result ≡ arm_bound room }
-{
-    if room == 0 { 1 } else { 17 }
-}
-
-/// How many arms a call has.
-fn read_arm_count<'a>(scan: &mut Scan<'a>, room: u32) -> Result<u64, Stop>
-    ensures gives { Gives (λ n. n) result scan.old scan.new (number_at (arm_bound room)) }
-    ensures last { last_line scan.new ≡ last_line scan.old }
-{
-    number(scan, arm_bound(room))
-}
-
-/// What stands after the word of an exit.
-#[tactic(auto, unfolding(crate::specs::inner::Reading::leave_at))]
-fn read_leave<'a>(alloc: Global, scan: &mut Scan<'a>) -> Result<End, Stop>
-    ensures gives { Gives end_tree result scan.old scan.new leave_at }
-    ensures last { last_line scan.new ≡ last_line scan.old }
-{
-    let exit = read_index(scan)?;
-    let values = read_values(alloc, scan)?;
-    Ok(End::Leave(exit, values))
-}
-
-/// What stands after the word of a branch.
+/// An arm: its row, and its body.
 #[cycle(bodies)]
-#[tactic(auto, unfolding(crate::specs::inner::Reading::branch_at))]
-fn read_branch<'a>(alloc: Global, scan: &mut Scan<'a>, room: u32) -> Result<End, Stop>
-    ensures gives { Gives end_tree result scan.old scan.new (branch_at (body_at room)) }
-    ensures last { last_line scan.new ≡ last_line scan.old }
+fn read_arm<E, R: Rows<E>>(
+    alloc: Global,
+    rows: &mut R,
+    from: &mut E,
+    room: u32,
+) -> Result<Body, Halt>
+    ensures gives { RowsGive body_tree result (R.May rows.old from.old) (R.May rows.new from.new) (arm_at (body_at room)) }
+    ensures left { R.left rows.new ≤ R.left rows.old }
 {
-    let cond = cond_row(alloc, scan)?;
-    let first = read_body(alloc, scan, room)?;
-    read_mark(scan, b"else")?;
-    let second = read_body(alloc, scan, room)?;
-    Ok(End::Branch(cond, Box::new(alloc, first)?, Box::new(alloc, second)?))
-}
-
-/// An arm: its line, and its body.
-#[cycle(bodies)]
-fn read_arm<'a>(alloc: Global, scan: &mut Scan<'a>, room: u32) -> Result<Body, Stop>
-    ensures gives { Gives body_tree result scan.old scan.new (arm_at (body_at room)) }
-    ensures last { last_line scan.new ≡ last_line scan.old }
-{
-    read_mark(scan, b"arm")?;
-    let body = read_body(alloc, scan, room)?;
+    mark_row(alloc, rows, from, b"arm")?;
+    let body = read_body(alloc, rows, from, room)?;
     Ok(body)
 }
 
 /// That many arms.
 #[cycle(bodies)]
-fn read_arms<'a>(
+fn read_arms<E, R: Rows<E>>(
     alloc: Global,
-    scan: &mut Scan<'a>,
+    rows: &mut R,
+    from: &mut E,
     room: u32,
     count: u64,
-) -> Result<List<Body>, Stop>
-    ensures gives { Gives (λ arms. map body_tree arms) result scan.old scan.new (times count (arm_at (body_at room))) }
-    ensures last { last_line scan.new ≡ last_line scan.old }
+) -> Result<List<Body>, Halt>
+    ensures gives { RowsGive (λ arms. map body_tree arms) result (R.May rows.old from.old) (R.May rows.new from.new) (times count (arm_at (body_at room))) }
+    ensures left { R.left rows.new ≤ R.left rows.old }
 {
     let mut arms = List::new(alloc);
     let mut left = count;
     'arms: while left > 0 {
         left -= 1;
-        match read_arm(alloc, scan, room) {
+        match read_arm(alloc, rows, from, room) {
             Ok(arm) => arms.push(arm)?,
-            Err(stop) => return Err(stop),
+            Err(halt) => return Err(halt),
         }
     }
     Ok(arms)
 }
 
-/// What stands after the word of a call in its line: the definition, how many arms, and the arguments.
-fn call_row<'a>(alloc: Global, scan: &mut Scan<'a>, room: u32) -> Result<(u32, u64, Values), Stop>
-    ensures gives { Gives (λ row. (row.0, (row.1, values_tree row.2))) result scan.old scan.new (call_row (arm_bound room)) }
-    ensures last { last_line scan.new ≡ last_line scan.old }
-{
-    let def = read_index(scan)?;
-    let count = read_arm_count(scan, room)?;
-    let values = read_values(alloc, scan)?;
-    Ok((def, count, values))
-}
-
-/// What stands after the word of a call.
+/// What stands behind the condition of a branch.
 #[cycle(bodies)]
-#[tactic(auto, unfolding(crate::specs::inner::Reading::call_at), using(tailrec_lang::proofs::Views::view_call))]
-fn read_call<'a>(alloc: Global, scan: &mut Scan<'a>, room: u32) -> Result<End, Stop>
-    ensures gives { Gives end_tree result scan.old scan.new (call_at (arm_bound room) (body_at room)) }
-    ensures last { last_line scan.new ≡ last_line scan.old }
+fn read_branch<E, R: Rows<E>>(
+    alloc: Global,
+    rows: &mut R,
+    from: &mut E,
+    room: u32,
+) -> Result<(Body, Body), Halt>
+    ensures gives { RowsGive (λ b. (body_tree b.0, ((tt, tt), body_tree b.1))) result (R.May rows.old from.old) (R.May rows.new from.new) (pair (body_at room) (pair (mark_row (codes "else")) (body_at room))) }
+    ensures left { R.left rows.new ≤ R.left rows.old }
 {
-    let (def, count, values) = call_row(alloc, scan, room)?;
-    let arms = read_arms(alloc, scan, room, count)?;
-    Ok(End::Call(def, values, arms))
+    let first = read_body(alloc, rows, from, room)?;
+    mark_row(alloc, rows, from, b"else")?;
+    let second = read_body(alloc, rows, from, room)?;
+    Ok((first, second))
 }
 
 /// How a body ends. Bodies stand inside only where there is room.
 #[cycle(bodies)]
-#[tactic(auto, unfolding(crate::specs::inner::Reading::end_at))]
-fn read_end<'a>(alloc: Global, scan: &mut Scan<'a>, room: u32) -> Result<End, Stop>
-    ensures gives { Gives end_tree result scan.old scan.new (end_at room (body_at room)) }
-    ensures last { last_line scan.new ≡ last_line scan.old }
+fn read_end<E, R: Rows<E>>(
+    alloc: Global,
+    rows: &mut R,
+    from: &mut E,
+    room: u32,
+) -> Result<End, Halt>
+    ensures gives { RowsGive end_tree result (R.May rows.old from.old) (R.May rows.new from.new) (end_at room (body_at room)) }
+    ensures left { R.left rows.new ≤ R.left rows.old }
 {
-    match peek(scan) {
-        Some((Token::Atom(name), ahead)) => {
-            if name == b"call".as_slice() {
-                *scan = ahead;
-                read_call(alloc, scan, room)
-            } else if name == b"again".as_slice() {
-                *scan = ahead;
-                Ok(End::Again(read_values(alloc, scan)?))
-            } else if name == b"leave".as_slice() {
-                *scan = ahead;
-                read_leave(alloc, scan)
-            } else if name == b"if".as_slice() && room > 0 {
-                *scan = ahead;
-                read_branch(alloc, scan, room)
-            } else {
-                Err(Stop::Bad)
-            }
+    match end_row(alloc, rows, from, room)? {
+        EndRow::If(cond) => {
+            let (first, second) = read_branch(alloc, rows, from, room)?;
+            Ok(End::Branch(cond, Box::new(alloc, first)?, Box::new(alloc, second)?))
         }
-        _ => Err(Stop::Bad),
+        EndRow::Call(def, count, values) => {
+            let arms = read_arms(alloc, rows, from, room, count)?;
+            Ok(End::Call(def, values, arms))
+        }
+        EndRow::Again(values) => Ok(End::Again(values)),
+        EndRow::Leave(exit, values) => Ok(End::Leave(exit, values)),
     }
 }
 
 /// A body of at most that nesting.
 #[cycle(bodies)]
-#[tactic(auto, unfolding(crate::specs::inner::Reading::body_at), using(tailrec_lang::proofs::Views::view_body))]
-pub fn read_body<'a>(alloc: Global, scan: &mut Scan<'a>, room: u32) -> Result<Body, Stop>
-    ensures gives { Gives body_tree result scan.old scan.new (body_at room) }
-    ensures last { last_line scan.new ≡ last_line scan.old }
+pub fn read_body<E, R: Rows<E>>(
+    alloc: Global,
+    rows: &mut R,
+    from: &mut E,
+    room: u32,
+) -> Result<Body, Halt>
+    ensures gives { RowsGive body_tree result (R.May rows.old from.old) (R.May rows.new from.new) (body_at room) }
+    ensures left { R.left rows.new ≤ R.left rows.old }
 {
     if room == 0 {
-        return Err(Stop::Bad);
+        return Err(Halt::Bad);
     }
-    let steps = read_steps(alloc, scan)?;
-    let end = read_end(alloc, scan, room - 1)?;
+    let steps = read_steps(alloc, rows, from)?;
+    let end = read_end(alloc, rows, from, room - 1)?;
     Ok(Body { steps, end })
 }

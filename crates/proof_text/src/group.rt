@@ -1,67 +1,98 @@
 //! Reading groups.
 
-ghost use Rattle.std.specs.Prelude.{◌≡◌, map, option_map};
-ghost use Rattle.mc_text.specs.Reading.{goes_on};
-ghost use Rattle.mc_text.specs.Scanning.{tokens_at};
-ghost use Rattle.mc_text.specs.Outcome.{Gives, last_line};
+ghost use Rattle.std.specs.Prelude.{◌<◌, ◌≤◌, OnOk, Some, map, option_map};
+ghost use Rattle.mc_text.specs.Reading.{made, pair};
 ghost use Rattle.tailrec_lang.specs.Tree.{def_tree, group_tree};
-ghost use Rattle.proof_text.specs.inner.Reading.{group_at, is_def, next_at, own_defs, title_row, turn_at};
+ghost use Rattle.proof_text.specs.inner.Heads.{head_of};
+ghost use Rattle.proof_text.specs.inner.Rows.{RowsGive};
+ghost use Rattle.proof_text.specs.inner.Reading.{def_at, group_of, next_at, own_defs, turn_at};
+ghost use Rattle.proof_text.specs.inner.GroupRows.{more_head};
 
-use crate::heads::{Head, read_def, read_head};
-use crate::rows::read_mark;
-use mc_text::cursor::{eol, keyword, peek};
-use mc_text::{Scan, Stop, Token};
-use rv_words::List;
+use crate::bodies::read_body;
+use crate::heads::{FirstRow, Head};
+use crate::next_rows::{code_row, def_row, defs_go_on, first_row, mems_row, regs_row, title_row};
+use crate::rows::Rows;
+use crate::stop::Halt;
+use rv_words::{List, Text};
 use std::alloc::Global;
 use tailrec_lang::{Def, Group};
+
+/// The deepest nesting of bodies.
+const DEEPEST_BODY: u32 = 64;
 
 /// The most definitions of a group.
 const MOST_DEFS: usize = 4096;
 
-/// Whether a definition follows, to go by its first word.
-fn begins_def(scan: &Scan<'_>) -> bool
-    ensures { result ≡ goes_on is_def (tokens_at scan.now) }
+/// A definition.
+fn read_def<E, R: Rows<E>>(alloc: Global, rows: &mut R, from: &mut E) -> Result<Def, Halt>
+    ensures gives { RowsGive def_tree result (R.May rows.old from.old) (R.May rows.new from.new) def_at }
+    ensures left { R.left rows.new ≤ R.left rows.old }
+    ensures fewer { OnOk result (R.left rows.new < R.left rows.old) }
 {
-    match peek(scan) {
-        Some((Token::Atom(name), _)) => name == b"def".as_slice(),
-        _ => false,
-    }
+    let (entry, exits) = def_row(alloc, rows, from)?;
+    let body = read_body(alloc, rows, from, DEEPEST_BODY)?;
+    Ok(Def { entry, exits, body })
 }
 
 /// The definitions of a group, as many as follow. There is at least one.
-fn read_defs<'a>(alloc: Global, scan: &mut Scan<'a>) -> Result<List<Def>, Stop>
-    ensures gives { Gives (λ defs. map def_tree defs) result scan.old scan.new own_defs }
-    ensures last { last_line scan.new ≡ last_line scan.old }
+fn read_defs<E, R: Rows<E>>(alloc: Global, rows: &mut R, from: &mut E) -> Result<List<Def>, Halt>
+    ensures gives { RowsGive (λ defs. map def_tree defs) result (R.May rows.old from.old) (R.May rows.new from.new) own_defs }
+    ensures left { R.left rows.new ≤ R.left rows.old }
 {
     let mut defs = List::new(alloc);
-    'defs: while begins_def(scan) {
+    'defs: while defs_go_on(alloc, rows, from)? {
         if defs.len() == MOST_DEFS {
-            return Err(Stop::Bad);
+            return Err(Halt::Bad);
         }
-        match read_def(alloc, scan) {
+        match read_def(alloc, rows, from) {
             Ok(def) => defs.push(def)?,
-            Err(stop) => return Err(stop),
+            Err(halt) => return Err(halt),
         }
     }
     if defs.is_empty() {
-        return Err(Stop::Bad);
+        return Err(Halt::Bad);
     }
     Ok(defs)
 }
 
-/// A group, after its first word.
-#[tactic(auto, unfolding(crate::specs::inner::Reading::group_at))]
-fn read_group<'a>(alloc: Global, scan: &mut Scan<'a>) -> Result<Group, Stop>
-    ensures gives { Gives group_tree result scan.old scan.new group_at }
-    ensures last { last_line scan.new ≡ last_line scan.old }
+/// What stands before the definitions, after the name.
+fn read_head<E, R: Rows<E>>(
+    alloc: Global,
+    rows: &mut R,
+    from: &mut E,
+    name: Text,
+) -> Result<Head, Halt>
+    ensures gives { RowsGive head_of result (R.May rows.old from.old) (R.May rows.new from.new) (more_head name) }
+    ensures left { R.left rows.new ≤ R.left rows.old }
+{
+    let regs = regs_row(alloc, rows, from)?;
+    let mems = mems_row(alloc, rows, from)?;
+    let code = code_row(alloc, rows, from)?;
+    Ok(Head {
+        name,
+        regs,
+        mems,
+        code,
+    })
+}
+
+/// A group, after the row of its name.
+fn read_group<E, R: Rows<E>>(
+    alloc: Global,
+    rows: &mut R,
+    from: &mut E,
+    name: Text,
+) -> Result<Group, Halt>
+    ensures gives { RowsGive (λ g. Some (group_tree g)) result (R.May rows.old from.old) (R.May rows.new from.new) (made (λ x. Some (group_of x.0 x.1)) (pair (more_head name) own_defs)) }
+    ensures left { R.left rows.new ≤ R.left rows.old }
 {
     let Head {
         name,
         regs,
         mems,
         code,
-    } = read_head(alloc, scan)?;
-    let defs = read_defs(alloc, scan)?;
+    } = read_head(alloc, rows, from, name)?;
+    let defs = read_defs(alloc, rows, from)?;
     Ok(Group {
         name,
         regs,
@@ -71,46 +102,39 @@ fn read_group<'a>(alloc: Global, scan: &mut Scan<'a>) -> Result<Group, Stop>
     })
 }
 
-/// The next group, or the line that ends the text.
-#[tactic(auto, unfolding(crate::specs::inner::Reading::next_at))]
-fn read_next<'a>(alloc: Global, scan: &mut Scan<'a>) -> Result<Option<Group>, Stop>
-    ensures gives { Gives (λ found. option_map group_tree found) result scan.old scan.new next_at }
-    ensures last { last_line scan.new ≡ last_line scan.old }
+/// The next group, or none at the row that ends the text.
+fn read_next<E, R: Rows<E>>(
+    alloc: Global,
+    rows: &mut R,
+    from: &mut E,
+) -> Result<Option<Group>, Halt>
+    ensures gives { RowsGive (λ found. option_map group_tree found) result (R.May rows.old from.old) (R.May rows.new from.new) next_at }
+    ensures left { R.left rows.new ≤ R.left rows.old }
 {
-    match peek(scan) {
-        Some((Token::Atom(name), ahead)) => {
-            if name == b"end".as_slice() {
-                *scan = ahead;
-                eol(scan)?;
-                Ok(None)
-            } else if name == b"group".as_slice() {
-                *scan = ahead;
-                Ok(Some(read_group(alloc, scan)?))
-            } else {
-                Err(Stop::Bad)
-            }
+    let first = first_row(alloc, rows, from)?;
+    match first {
+        FirstRow::End => Ok(None),
+        FirstRow::Group(name) => {
+            let group = read_group(alloc, rows, from, name)?;
+            Ok(Some(group))
         }
-        _ => Err(Stop::Bad),
     }
 }
 
-/// The line before the first group.
-fn read_title<'a>(scan: &mut Scan<'a>) -> Result<(), Stop>
-    ensures gives { Gives (λ _. (tt, (tt, tt))) result scan.old scan.new title_row }
-    ensures last { last_line scan.new ≡ last_line scan.old }
-{
-    keyword(scan, b"mcproof")?;
-    read_mark(scan, b"1")?;
-    Ok(())
-}
-
-/// The next group, or the line that ends the text, after the title where the text begins here.
-pub fn read_turn<'a>(alloc: Global, scan: &mut Scan<'a>, first: bool) -> Result<Option<Group>, Stop>
-    ensures gives { Gives (λ found. option_map group_tree found) result scan.old scan.new (turn_at first) }
-    ensures last { last_line scan.new ≡ last_line scan.old }
+/// The next group, or none at the row that ends the text, after the title where the text begins here.
+pub fn read_turn<E, R: Rows<E>>(
+    alloc: Global,
+    rows: &mut R,
+    from: &mut E,
+    first: bool,
+) -> Result<Option<Group>, Halt>
+    ensures gives { RowsGive (λ found. option_map group_tree found) result (R.May rows.old from.old) (R.May rows.new from.new) (turn_at first) }
+    ensures left { R.left rows.new ≤ R.left rows.old }
 {
     if first {
-        read_title(scan)?;
+        title_row(alloc, rows, from)?;
+        read_next(alloc, rows, from)
+    } else {
+        read_next(alloc, rows, from)
     }
-    read_next(alloc, scan)
 }

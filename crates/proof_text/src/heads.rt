@@ -1,26 +1,22 @@
-//! Reading definitions, and the lines before them.
+//! Reading the rows of definitions and of what stands before them, each by itself.
 
-ghost use Rattle.std.specs.Prelude.{◌≡◌, ◌<◌, ◌^◌, IfOk, map};
+ghost use Rattle.std.specs.Prelude.{◌≡◌};
 ghost use Rattle.mc_text.specs.Reading.{atom_of, goes_on, one, star};
 ghost use Rattle.mc_text.specs.inner.Reading.{number_at};
 ghost use Rattle.mc_text.specs.Scanning.{tokens_at};
 ghost use Rattle.mc_text.specs.Outcome.{Gives, last_line};
-ghost use Rattle.tailrec_lang.specs.Tree.{def_tree};
 ghost use Rattle.proof_text.specs.Limits.{returns};
-ghost use Rattle.proof_text.specs.inner.Heads.{head_of};
-ghost use Rattle.proof_text.specs.inner.Reading.{are_atom_bytes, are_few_exits, code_row, def_at, def_row, exit_of, has_atom, head_at, is_name, mems_row, name_of, ranges_rise, registers_rise, regs_row};
+ghost use Rattle.proof_text.specs.inner.GroupRows.{end_of, first_row, first_row_tree, name_row};
+ghost use Rattle.proof_text.specs.inner.Reading.{are_atom_bytes, are_few_exits, code_row, def_row, def_start, exit_of, has_atom, is_def, is_name, mems_row, name_of, ranges_rise, registers_rise, regs_row, title_row};
 
-use crate::bodies::read_body;
+use crate::body_rows::read_mark;
 use mc_text::cursor::{address, eol, keyword, number, peek};
 use mc_text::{Scan, Stop, Token, hexnum, is_atom_byte};
 use rv_words::{List, Range, Text};
 use std::alloc::Global;
-use tailrec_lang::{Def, Exit};
+use tailrec_lang::Exit;
 use term_text::read_ranges;
 use word_terms::Code;
-
-/// The deepest nesting of bodies.
-const DEEPEST_BODY: u32 = 64;
 
 /// Whether an atom follows.
 pub fn has_atom(scan: &Scan<'_>) -> bool
@@ -115,16 +111,24 @@ fn read_def_row<'a>(alloc: Global, scan: &mut Scan<'a>) -> Result<(u64, List<Exi
     Ok((entry, exits))
 }
 
-/// A definition.
-#[tactic(auto, unfolding(crate::specs::inner::Reading::def_at))]
-pub fn read_def<'a>(alloc: Global, scan: &mut Scan<'a>) -> Result<Def, Stop>
-    ensures gives { Gives def_tree result scan.old scan.new def_at }
+/// The row of a definition.
+pub fn read_def_start<'a>(alloc: Global, scan: &mut Scan<'a>) -> Result<(u64, List<Exit>), Stop>
+    ensures gives { Gives (λ row. (tt, (row.0, (row.1, tt)))) result scan.old scan.new def_start }
     ensures last { last_line scan.new ≡ last_line scan.old }
 {
     keyword(scan, b"def")?;
-    let (entry, exits) = read_def_row(alloc, scan)?;
-    let body = read_body(alloc, scan, DEEPEST_BODY)?;
-    Ok(Def { entry, exits, body })
+    let row = read_def_row(alloc, scan)?;
+    Ok(row)
+}
+
+/// Whether a definition follows, to go by its first word.
+pub fn begins_def(scan: &Scan<'_>) -> bool
+    ensures { result ≡ goes_on is_def (tokens_at scan.now) }
+{
+    match peek(scan) {
+        Some((Token::Atom(name), _)) => name == b"def".as_slice(),
+        _ => false,
+    }
 }
 
 // ---- the head of a group
@@ -219,7 +223,7 @@ pub fn ranges_rise(ranges: &[Range]) -> bool
 
 /// The line of registers.
 #[tactic(auto, unfolding(crate::specs::inner::Reading::regs_row))]
-fn read_regs_row<'a>(alloc: Global, scan: &mut Scan<'a>) -> Result<List<u8>, Stop>
+pub fn read_regs_row<'a>(alloc: Global, scan: &mut Scan<'a>) -> Result<List<u8>, Stop>
     ensures gives { Gives (λ regs. (tt, (regs, tt))) result scan.old scan.new regs_row }
     ensures last { last_line scan.new ≡ last_line scan.old }
 {
@@ -234,7 +238,7 @@ fn read_regs_row<'a>(alloc: Global, scan: &mut Scan<'a>) -> Result<List<u8>, Sto
 
 /// The line of the number of memories.
 #[tactic(auto, unfolding(crate::specs::inner::Reading::mems_row))]
-fn read_mems_row<'a>(scan: &mut Scan<'a>) -> Result<u8, Stop>
+pub fn read_mems_row<'a>(scan: &mut Scan<'a>) -> Result<u8, Stop>
     ensures gives { Gives (λ mems. (tt, (mems, tt))) result scan.old scan.new mems_row }
     ensures last { last_line scan.new ≡ last_line scan.old }
 {
@@ -246,7 +250,7 @@ fn read_mems_row<'a>(scan: &mut Scan<'a>) -> Result<u8, Stop>
 
 /// The line of the code.
 #[tactic(auto, unfolding(crate::specs::inner::Reading::code_row))]
-fn read_code_row<'a>(alloc: Global, scan: &mut Scan<'a>) -> Result<Code, Stop>
+pub fn read_code_row<'a>(alloc: Global, scan: &mut Scan<'a>) -> Result<Code, Stop>
     ensures gives { Gives (λ code. (tt, (code.ranges, tt))) result scan.old scan.new code_row }
     ensures last { last_line scan.new ≡ last_line scan.old }
 {
@@ -268,21 +272,62 @@ pub struct Head {
     pub code: Code,
 }
 
-/// The head of a group, after its first word.
-#[tactic(auto, unfolding(crate::specs::inner::Reading::head_at))]
-pub fn read_head<'a>(alloc: Global, scan: &mut Scan<'a>) -> Result<Head, Stop>
-    ensures gives { Gives head_of result scan.old scan.new head_at }
+// ---- the rows of groups
+
+/// The row of a group's name, or the one that ends the text.
+#[derive(Debug, Drop)]
+pub enum FirstRow {
+    End,
+    Group(Text),
+}
+
+/// What stands after the word of a group.
+fn name_row<'a>(alloc: Global, scan: &mut Scan<'a>) -> Result<FirstRow, Stop>
+    ensures gives { Gives first_row_tree result scan.old scan.new name_row }
     ensures last { last_line scan.new ≡ last_line scan.old }
 {
     let name = read_name(alloc, scan)?;
     eol(scan)?;
-    let regs = read_regs_row(alloc, scan)?;
-    let mems = read_mems_row(scan)?;
-    let code = read_code_row(alloc, scan)?;
-    Ok(Head {
-        name,
-        regs,
-        mems,
-        code,
-    })
+    Ok(FirstRow::Group(name))
+}
+
+/// What stands after the word of the text's end.
+fn end_of<'a>(scan: &mut Scan<'a>) -> Result<FirstRow, Stop>
+    ensures gives { Gives first_row_tree result scan.old scan.new end_of }
+    ensures last { last_line scan.new ≡ last_line scan.old }
+{
+    eol(scan)?;
+    Ok(FirstRow::End)
+}
+
+/// The row of a group's name, or the one that ends the text.
+#[tactic(auto, unfolding(crate::specs::inner::GroupRows::first_row))]
+pub fn read_first_row<'a>(alloc: Global, scan: &mut Scan<'a>) -> Result<FirstRow, Stop>
+    ensures gives { Gives first_row_tree result scan.old scan.new first_row }
+    ensures last { last_line scan.new ≡ last_line scan.old }
+{
+    match peek(scan) {
+        Some((Token::Atom(name), ahead)) => {
+            if name == b"end".as_slice() {
+                *scan = ahead;
+                end_of(scan)
+            } else if name == b"group".as_slice() {
+                *scan = ahead;
+                name_row(alloc, scan)
+            } else {
+                Err(Stop::Bad)
+            }
+        }
+        _ => Err(Stop::Bad),
+    }
+}
+
+/// The row before the first group.
+pub fn read_title<'a>(scan: &mut Scan<'a>) -> Result<(), Stop>
+    ensures gives { Gives (λ _. (tt, (tt, tt))) result scan.old scan.new title_row }
+    ensures last { last_line scan.new ≡ last_line scan.old }
+{
+    keyword(scan, b"mcproof")?;
+    read_mark(scan, b"1")?;
+    Ok(())
 }

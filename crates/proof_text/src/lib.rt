@@ -2,6 +2,7 @@
 #![tactic(auto)]
 
 mod bodies;
+mod body_rows;
 mod group;
 mod heads;
 mod laws;
@@ -12,11 +13,14 @@ mod line_rules;
 mod line_subs;
 mod line_triples;
 mod lines;
+mod next_rows;
 mod proof_lines;
 mod put;
 mod put_lines;
 mod reader;
 mod rows;
+mod stop;
+mod text_rows;
 
 pub use laws::{
     law_of_faults, law_of_first_proofs, law_of_groups_alone, law_of_one_line, law_of_one_spelling,

@@ -1,8 +1,8 @@
 //! Lines of bytes.
 
-ghost use Rattle.std.specs.Prelude.{◌≡◌, ◌++◌, drop, length};
+ghost use Rattle.std.specs.Prelude.{◌≡◌, ◌++◌};
 ghost use Rattle.mc_text.specs.Fault.{newlines};
-ghost use Rattle.proof_text.specs.inner.Cut.{AreWholeLines, drop_lines};
+ghost use Rattle.proof_text.specs.inner.Cut.{AreWholeLines};
 
 /// The whole lines of a text, and the bytes after the last of them.
 pub fn whole_lines(text: &[u8]) -> (&[u8], &[u8])
@@ -18,20 +18,4 @@ pub fn whole_lines(text: &[u8]) -> (&[u8], &[u8])
         end -= 1;
     }
     text.split_at(0)
-}
-
-/// The bytes after that many lines.
-pub fn after_lines(text: &[u8], count: u64) -> &[u8]
-    ensures { result.now ≡ drop_lines count text.now }
-{
-    let mut left = count;
-    for (i, byte) in text.iter().enumerate() {
-        if left == 0 {
-            return &text[i..];
-        }
-        if *byte == b'\n' {
-            left -= 1;
-        }
-    }
-    &text[text.len()..]
 }

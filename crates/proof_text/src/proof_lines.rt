@@ -1,18 +1,23 @@
 //! Reading the lines of proofs.
 
-ghost use Rattle.std.specs.Prelude.{◌≡◌, Ok, None, option_map, true};
+ghost use Rattle.std.specs.Prelude.{◌≡◌, ◌≤◌, false, option_map};
 ghost use Rattle.mc_text.specs.Reading.{goes_on, star};
 ghost use Rattle.mc_text.specs.Scanning.{tokens_at};
 ghost use Rattle.mc_text.specs.Outcome.{Gives, last_line};
 ghost use Rattle.proof_text.specs.Line.{line_tree};
+ghost use Rattle.proof_text.specs.inner.Rows.{OnLost, RowsGive, Spot, tokens};
+ghost use Rattle.proof_text.specs.inner.OwnCode.{IsOwnCode};
 ghost use Rattle.proof_text.specs.inner.Reading.{has_atom};
 ghost use Rattle.proof_text.specs.inner.LineReading.{ends_proof, forget_row, line_at, loop_row, stated_row, theorem_at, turn_of};
 
-use crate::bodies::read_index;
+use crate::body_rows::read_index;
 use crate::heads::has_atom;
 use crate::line::Line;
 use crate::line_rules::{read_rule, read_theorem};
 use crate::line_triples::read_triple;
+use crate::next_rows::{line_row, proof_ends};
+use crate::rows::Rows;
+use crate::stop::Halt;
 use mc_text::cursor::{eol, peek};
 use mc_text::{Scan, Stop, Token};
 use rv_words::List;
@@ -68,7 +73,7 @@ fn read_stated<'a>(alloc: Global, scan: &mut Scan<'a>, own: &Code) -> Result<Lin
 
 /// A line, by the group's own code.
 #[tactic(auto, unfolding(crate::specs::inner::LineReading::line_at))]
-fn read_line<'a>(alloc: Global, scan: &mut Scan<'a>, own: &Code) -> Result<Line, Stop>
+pub fn read_line<'a>(alloc: Global, scan: &mut Scan<'a>, own: &Code) -> Result<Line, Stop>
     ensures gives { Gives line_tree result scan.old scan.new (line_at own.now.ranges) }
     ensures last { last_line scan.new ≡ last_line scan.old }
 {
@@ -89,7 +94,7 @@ fn read_line<'a>(alloc: Global, scan: &mut Scan<'a>, own: &Code) -> Result<Line,
 }
 
 /// Whether the next group follows or the line that ends the text, to go by the first word.
-fn ends_proof(scan: &Scan<'_>) -> bool
+pub fn ends_proof(scan: &Scan<'_>) -> bool
     ensures { result ≡ goes_on ends_proof (tokens_at scan.now) }
 {
     match peek(scan) {
@@ -99,13 +104,19 @@ fn ends_proof(scan: &Scan<'_>) -> bool
 }
 
 /// The next line, by the group's own code, or none where the group's proof ends.
-pub fn read_turn<'a>(alloc: Global, scan: &mut Scan<'a>, own: &Code) -> Result<Option<Line>, Stop>
-    ensures gives { Gives (λ found. option_map line_tree found) result scan.old scan.new (turn_of own.now.ranges) }
-    ensures ends { goes_on ends_proof (tokens_at scan.old) ≡ true → result ≡ Ok None }
-    ensures last { last_line scan.new ≡ last_line scan.old }
+pub fn read_turn<E, R: Rows<E>>(
+    alloc: Global,
+    rows: &mut R,
+    from: &mut E,
+    own: &Code,
+) -> Result<Option<Line>, Halt>
+    ensures gives { IsOwnCode own.now.ranges → RowsGive (λ found. option_map line_tree found) result (R.May rows.old from.old) (R.May rows.new from.new) (turn_of own.now.ranges) }
+    ensures lost { R.Sure rows.old from.old → OnLost result ((p : Spot) → R.May rows.new from.new p → R.May rows.old from.old p × (goes_on ends_proof (tokens p) ≡ false)) }
+    ensures left { R.left rows.new ≤ R.left rows.old }
 {
-    if ends_proof(scan) {
+    if proof_ends(alloc, rows, from)? {
         return Ok(None);
     }
-    Ok(Some(read_line(alloc, scan, own)?))
+    let line = line_row(alloc, rows, from, own)?;
+    Ok(Some(line))
 }

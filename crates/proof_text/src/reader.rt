@@ -1,9 +1,9 @@
 //! Reading a text, one group or line a call.
 
 ghost use Rattle.std.specs.Prelude.{◌≡◌, ◌<◌, ◌↔◌, ◌∷◌, ◌++◌, [], List as Items, OnErr, false, length, true};
-ghost use Rattle.mc_text.specs.Tokens.{Done};
+ghost use Rattle.mc_text.specs.declared.token.Before.TheVariants.{Start};
 ghost use Rattle.mc_text.specs.Fault.{IsBadAt};
-ghost use Rattle.mc_text.specs.Scanning.{tokens_at};
+ghost use Rattle.mc_text.specs.Scanning.{lex, At};
 ghost use Rattle.tailrec_lang.specs.Eval.{HasFewNeeds};
 ghost use Rattle.tailrec_lang.specs.Tree.{group_tree};
 ghost use Rattle.proof_text.specs.Limits.{IsGroup};
@@ -16,10 +16,11 @@ ghost use Rattle.proof_text.specs.inner.Rest.{GoesOn};
 
 use crate::group::read_turn;
 use crate::line::Line;
-use crate::lines::{after_lines, whole_lines};
+use crate::lines::whole_lines;
 use crate::proof_lines::read_turn as read_line_turn;
-use mc_text::cursor::peek;
-use mc_text::{Scan, Stop, Token};
+use crate::rows::Rows;
+use crate::stop::Halt;
+use crate::text_rows::TextRows;
 use std::alloc::Global;
 use std::marker::Model;
 use tailrec_lang::Group;
@@ -83,23 +84,24 @@ impl<'a> Reader<'a> {
         ensures end_same { OnEnd result (self.new ≡ self.old) }
         ensures fault_same { OnErr result (self.new ≡ self.old) }
     {
-        let mut scan = Scan::new(self.lines);
-        match read_turn(alloc, &mut scan, self.place == 0) {
+        let mut rows = TextRows::new(self.lines);
+        match read_turn(alloc, &mut rows, &mut (), self.place == 0) {
             Ok(Some(group)) => {
-                let count = scan.line() - 1;
-                self.lines = after_lines(self.lines, count);
-                self.place += count;
+                let passed = rows.taken(&());
+                self.lines = rows.rest();
+                self.place += passed;
                 Ok(Some(group))
             }
             Ok(None) => {
-                if is_end(&scan, self.tail) {
+                if is_end(rows.rest(), self.tail) {
                     Ok(None)
                 } else {
-                    Err(TextFault::Bad(self.place + scan.line()))
+                    Err(TextFault::Bad(self.place + rows.taken(&()) + 1))
                 }
             }
-            Err(Stop::Bad) => Err(TextFault::Bad(self.place + scan.line())),
-            Err(Stop::NoMemory) => Err(TextFault::NoMemory),
+            Err(Halt::Bad) => Err(TextFault::Bad(self.place + rows.taken(&()) + 1)),
+            Err(Halt::Fault) => Err(TextFault::NoMemory),
+            Err(Halt::NoMemory) => Err(TextFault::NoMemory),
         }
     }
 
@@ -117,17 +119,18 @@ impl<'a> Reader<'a> {
         ensures end_same { OnEnd result (self.new ≡ self.old) }
         ensures fault_same { OnErr result (self.new ≡ self.old) }
     {
-        let mut ahead = Scan::new(self.lines);
-        match read_line_turn(alloc, &mut ahead, &group.code) {
+        let mut ahead = TextRows::new(self.lines);
+        match read_line_turn(alloc, &mut ahead, &mut (), &group.code) {
             Ok(Some(line)) => {
-                let passed = ahead.line() - 1;
-                self.lines = after_lines(self.lines, passed);
+                let passed = ahead.taken(&());
+                self.lines = ahead.rest();
                 self.place += passed;
                 Ok(Some(line))
             }
             Ok(None) => Ok(None),
-            Err(Stop::Bad) => Err(TextFault::Bad(self.place + ahead.line())),
-            Err(Stop::NoMemory) => Err(TextFault::NoMemory),
+            Err(Halt::Bad) => Err(TextFault::Bad(self.place + ahead.taken(&()) + 1)),
+            Err(Halt::Fault) => Err(TextFault::NoMemory),
+            Err(Halt::NoMemory) => Err(TextFault::NoMemory),
         }
     }
 
@@ -140,12 +143,9 @@ impl<'a> Reader<'a> {
 }
 
 /// Whether the text ends here, with no bytes after its last line.
-fn is_end(scan: &Scan<'_>, tail: &[u8]) -> bool
-    ensures end { result ≡ true → (tokens_at scan.now ≡ Done ∷ []) × (tail.now ≡ []) }
-    ensures more { result ≡ false → GoesOn (tokens_at scan.now) tail.now }
+fn is_end(rest: &[u8], tail: &[u8]) -> bool
+    ensures end { result ≡ true → (rest.now ≡ []) × (tail.now ≡ []) }
+    ensures more { result ≡ false → GoesOn (lex rest.now (At Start)) tail.now }
 {
-    match peek(scan) {
-        Some((Token::Done, _)) => tail.is_empty(),
-        _ => false,
-    }
+    rest.is_empty() && tail.is_empty()
 }

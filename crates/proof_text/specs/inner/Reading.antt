@@ -86,8 +86,12 @@ are_few_exits xs = nat_le (length xs) exit_limit && nat_le (returns xs) 1
 unfoldable pub def_row : Reader (ℕ × (List Exit × Unit {0}))
 def_row = pair address_at (pair (checked are_few_exits (star has_atom (one (atom_of exit_of)))) eol)
 
+-- the row of a definition
+abbrev pub def_start : Reader (Unit {0} × (ℕ × (List Exit × Unit {0})))
+def_start = pair (word (codes "def")) def_row
+
 unfoldable pub def_at : Reader DefTree
-def_at = made (λ x. record { entry = x.0.1.0; exits = x.0.1.1.0; body = x.1 }) (pair (pair (word (codes "def")) def_row) (body_at nesting_limit))
+def_at = made (λ x. record { entry = x.0.1.0; exits = x.0.1.1.0; body = x.1 }) (pair def_start (body_at nesting_limit))
 
 abbrev pub is_def : Tok → Bool
 is_def (Atom a) = bytes_eq a (codes "def")

@@ -1,0 +1,18 @@
+use Rattle.std.proofs.Common.{ℕ, List as Items}
+use Rattle.tailrec_lang.specs.declared.group.Exit.{Exit}
+use Rattle.proof_text.specs.inner.Reading.{def_start}
+use Rattle.proof_text.proofs.Joins.{lost-row, none-held, passed-row, stopped-row}
+use Rattle.proof_text.proofs.RowLawsOf.{def-row}
+use Rattle.proof_text.proofs.next_rows.def_row.Goals as goal
+
+pub returns-in_err-hold-clause-gives : goal.returns-in_err-hold-clause-gives
+returns-in_err-hold-clause-gives g c = lost-row {X = ℕ × Items Exit} {Y = Unit {0} × (ℕ × (Items Exit × Unit {0}))} (λ row. (tt, (row.0, (row.1, tt)))) def_start c.in_err-hold.field-0.0 c.from_residual.result _ _ c.from_residual.ensures.1
+
+pub returns-then-not-branch-clause-gives : goal.returns-then-not-branch-clause-gives
+returns-then-not-branch-clause-gives g c = none-held {X = ℕ × Items Exit} {Y = Unit {0} × (ℕ × (Items Exit × Unit {0}))} (λ row. (tt, (row.0, (row.1, tt)))) def_start def-row _ _ _ _ c.in_ok-hold.ensures.kept c.in_ok-hold.ensures.holds c.if-not-branch.true
+
+pub returns-in-Ok-clause-gives : goal.returns-in-Ok-clause-gives
+returns-in-Ok-clause-gives g c = passed-row {X = ℕ × Items Exit} {Y = Unit {0} × (ℕ × (Items Exit × Unit {0}))} (λ row. (tt, (row.0, (row.1, tt)))) def_start def-row _ _ _ _ _ c.in-Ok.item _ c.in_ok-hold.ensures.kept c.in_ok-hold.ensures.holds c.if-not-branch.false c.row.ensures c.pass.ensures.passed c.in-Ok.ensures
+
+pub returns-in-Err-clause-gives : goal.returns-in-Err-clause-gives
+returns-in-Err-clause-gives g c = stopped-row {X = ℕ × Items Exit} {Y = Unit {0} × (ℕ × (Items Exit × Unit {0}))} {Z = ℕ × Items Exit} (λ row. (tt, (row.0, (row.1, tt)))) (λ row. (tt, (row.0, (row.1, tt)))) def_start def-row _ _ _ _ c.in-Err.stop _ _ c.in_ok-hold.ensures.kept c.in_ok-hold.ensures.holds c.if-not-branch.false c.row.ensures c.into.ensures c.in-Err.ensures

@@ -1,0 +1,17 @@
+use Rattle.proof_text.specs.Line.{line_tree}
+use Rattle.proof_text.specs.inner.LineReading.{line_at}
+use Rattle.proof_text.proofs.Joins.{lost-row, none-held, passed-row, stopped-row}
+use Rattle.proof_text.proofs.RowLawsOf.{line-row}
+use Rattle.proof_text.proofs.next_rows.line_row.Goals as goal
+
+pub returns-in_err-hold-clause-gives : goal.returns-in_err-hold-clause-gives
+returns-in_err-hold-clause-gives g c = λ fits. lost-row line_tree (line_at c.args.own.now.ranges) c.in_err-hold.field-0.0 c.from_residual.result _ _ c.from_residual.ensures.1
+
+pub returns-then-not-branch-clause-gives : goal.returns-then-not-branch-clause-gives
+returns-then-not-branch-clause-gives g c = λ fits. none-held line_tree (line_at c.args.own.now.ranges) (line-row c.args.own.now.ranges fits) _ _ _ _ c.in_ok-hold.ensures.kept c.in_ok-hold.ensures.holds c.if-not-branch.true
+
+pub returns-in-Ok-clause-gives : goal.returns-in-Ok-clause-gives
+returns-in-Ok-clause-gives g c = λ fits. passed-row line_tree (line_at c.args.own.now.ranges) (line-row c.args.own.now.ranges fits) _ _ _ _ _ c.in-Ok.item _ c.in_ok-hold.ensures.kept c.in_ok-hold.ensures.holds c.if-not-branch.false c.row.ensures c.pass.ensures.passed c.in-Ok.ensures
+
+pub returns-in-Err-clause-gives : goal.returns-in-Err-clause-gives
+returns-in-Err-clause-gives g c = λ fits. stopped-row line_tree line_tree (line_at c.args.own.now.ranges) (line-row c.args.own.now.ranges fits) _ _ _ _ c.in-Err.stop _ _ c.in_ok-hold.ensures.kept c.in_ok-hold.ensures.holds c.if-not-branch.false c.row.ensures c.into.ensures c.in-Err.ensures
