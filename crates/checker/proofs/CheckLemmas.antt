@@ -1,7 +1,7 @@
 -- What one more line and one more group make of what was judged.
-use Rattle.std.proofs.Common.{◌≡◌, ℕ, zero, suc, ◌+◌, ◌-◌, ◌<◌, ◌≤◌, ◌^◌, Bool, true, false, List, [], ◌∷◌, ◌++◌, length, take, Option, map, Some, None, Result, Ok, Err, slice_get, refl, sym, ap, subst, ◌∙◌, ◌⊎◌, ⊎_elim, inl, inr, append_assoc, arith}
+use Rattle.std.proofs.Common.{◌≡◌, ℕ, zero, suc, ◌+◌, ◌-◌, ◌≤◌, Bool, true, false, List, [], ◌∷◌, ◌++◌, length, take, Option, map, Some, None, Result, Ok, Err, slice_get, refl, sym, ap, subst, ◌∙◌, ◌⊎◌, ⊎_elim, inl, inr, append_assoc, arith}
 use Rattle.std.specs.List.{AllByRecursion}
-use Rattle.std.specs.Prelude.{◌↔◌, IsTrue, IfErr, sum_by}
+use Rattle.std.specs.Prelude.{◌↔◌, IsTrue, IfErr}
 use Rattle.std.specs.Result.{IsErrAnd}
 use Rattle.std.proofs.lemmas.List.{append-nil, length-append}
 use Rattle.std.proofs.lemmas.List.Sums.{sum_by-append}
@@ -13,7 +13,7 @@ use Rattle.rv_words.specs.Ranges.{range_bytes}
 use Rattle.sep_assert.specs.Code.{IsWithin}
 use Rattle.tailrec_lang.specs.Tree.{GroupTree, group_tree, listed_def}
 use Rattle.proof_text.specs.Line.{LineTree, ProofTree}
-use Rattle.proof_text.specs.Proofs.{AreProofs, bare, groups_of, text_of_proofs, texts_of_proofs}
+use Rattle.proof_text.specs.Proofs.{AreProofs, bare, groups_of, texts_of_proofs}
 use Rattle.checker.specs.declared.check.Judged.{Judged}
 use Rattle.checker.specs.declared.check.Tally.{Tally}
 use Rattle.checker.specs.declared.verdict.Verdict.{Verdict}
@@ -25,7 +25,7 @@ use Rattle.proof_text.specs.FirstProofs.{Adds, AreRead, BeginsWithItems, HasGive
 use Rattle.proof_text.specs.Answers.{NoItem}
 use Rattle.proof_text.proofs.TextItems.{items-opened, items-added}
 use Rattle.proof_text.proofs.Fronts.{fronts, front-read, given-read}
-use Rattle.checker.specs.Verdicts.{AreRightSoFar, IsAcceptance, IsBadText, IsFirstNotProved, IsRightSoFar, IsTextOf, Says, line_count}
+use Rattle.checker.specs.Verdicts.{AreRightSoFar, IsAcceptance, IsBadText, IsRightSoFar, IsTextOf, Says, line_count}
 use Rattle.checker.specs.inner.Checking.{GivesLine, GivesLines, GroupsJudged, IsBadAfter, IsCodeOf, IsShorter, LineJudged, LinesJudged, NextGroup, NextLine, ProofJudged, ProvedSo, TextJudged, first_not_proved, proof_of, verdict_for, verdict_of, with_group}
 use Rattle.checker.specs.Headline.{Headline}
 use Rattle.proof_text.specs.Limits.{AreGroups}

@@ -1,10 +1,8 @@
 -- The bytes of ranges and of pieces, one more at a time.
-use Rattle.std.proofs.Common.{◌≡◌, ℕ, suc, ◌+◌, ◌<◌, Bool, true, false, cond, Option, Some, None, List, [], ◌∷◌, ◌++◌, length, take, get_or, refl, sym, ◌∙◌, ap, add-one}
+use Rattle.std.proofs.Common.{◌≡◌, ℕ, ◌+◌, ◌<◌, Option, Some, None, List, [], ◌∷◌, ◌++◌, length, take, get_or, refl, sym, ◌∙◌, ap, add-one}
 use Rattle.std.specs.Option.{option_or}
 use Rattle.std.proofs.Math.Seq.{take-suc}
-use Rattle.rv_words.specs.Bytes.{Bytes, over, bytes_from}
-use Rattle.rv_words.specs.Ranges.{range_bytes}
-use Rattle.rv_words.specs.declared.range.Range.{Range}
+use Rattle.rv_words.specs.Bytes.{Bytes, over}
 use Rattle.elf_image.specs.declared.image.Piece.{Piece}
 use Rattle.elf_image.specs.Image.{code_in, code_of}
 

@@ -7,16 +7,15 @@ use Rattle.elf_image.specs.Fault.{IsReadable, fault_of}
 use Rattle.tailrec_lang.specs.Tree.{GroupTree}
 use Rattle.tailrec_lang.specs.WellFormed.{IsFirstIllFormed}
 use Rattle.proof_text.specs.Line.{LineTree, ProofTree}
-use Rattle.proof_text.specs.Proofs.{AreProofs, bare, text_of_proofs, texts_of_proofs}
+use Rattle.proof_text.specs.Proofs.{bare, texts_of_proofs}
 use Rattle.checker.specs.declared.verdict.Verdict.{Verdict}
 use Rattle.checker.specs.declared.verdict.Verdict.TheVariants as verdict
-use Rattle.checker.specs.Instance.{after_lines, no_lines}
-use Rattle.checker.specs.Accepts.{Accepts, IsAccepted, IsProved}
+use Rattle.checker.specs.Accepts.{IsAccepted, IsProved}
 use Rattle.proof_text.specs.FirstProofs.{AreRead, BeginsWithItems, passed, with_line}
 use Rattle.proof_text.proofs.Fronts.{fronts, text-front}
 use Rattle.proof_text.proofs.ProofTexts.{proofs-once}
 use Rattle.mc_text.proofs.FaultOnce.{bad-once}
-use Rattle.checker.specs.Verdicts.{AreRightSoFar, IsBadText, IsRightSoFar, IsTextOf, Says, line_count}
+use Rattle.checker.specs.Verdicts.{AreRightSoFar, IsBadText, IsTextOf, Says, line_count}
 use Rattle.checker.proofs.FirstLemmas.{AreFirst, begins-first, def-wrong, first-def, first-right, group-last, line-last, line-wrong, same-last}
 
 -- ---- what is refused: a definition or a line

@@ -3,7 +3,7 @@ use Rattle.std.specs.Prelude.{◌≡◌, ℕ, true, List}
 use Rattle.std.specs.List.{AllByRecursion}
 use Rattle.elf_image.specs.Image.{code_of_file}
 use Rattle.elf_image.specs.Fault.{IsReadable}
-use Rattle.tailrec_lang.specs.Tree.{GroupTree, listed_def}
+use Rattle.tailrec_lang.specs.Tree.{listed_def}
 use Rattle.tailrec_lang.specs.WellFormed.{IsWellFormed}
 use Rattle.rv_words.specs.Ranges.{range_bytes}
 use Rattle.sep_assert.specs.Code.{IsWithin}

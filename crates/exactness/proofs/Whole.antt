@@ -26,7 +26,7 @@ use Rattle.instr_axioms.proofs.Effects.{act-terms, cut}
 use Rattle.instr_axioms.proofs.Memories.{has-word}
 use Rattle.instr_axioms.proofs.Valid.{StandsIn}
 use Rattle.code_parts.specs.Bodies.{mem_count, Flow, Place, Action, Straight, names, place_after, needs, writes, action_of, action}
-use Rattle.checker.specs.Headline.{Region, is_within, entry_at, held_in, Starts, Ends}
+use Rattle.checker.specs.Headline.{Region, is_within, held_in}
 use Rattle.checker.specs.Headline as headline
 use Rattle.exactness.specs.Exact.{IsAtReturn}
 use Rattle.exactness.proofs.Returns.{Steps, IsKept, kept-step}

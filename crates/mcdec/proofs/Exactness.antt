@@ -35,7 +35,7 @@ use Rattle.mcdec.specs.declared.answer.DecompileAnswer.{DecompileAnswer}
 use Rattle.mcdec.specs.declared.answer.DecompileAnswer.TheVariants as de
 use Rattle.mcdec.specs.DecompileAnswer.{DecompileGives, IsToldOnce, all_listed}
 use Rattle.mcdec.specs.declared.answer.SelfTestAnswer.{SelfTestAnswer}
-use Rattle.mcdec.specs.Command.{Command, Eval, Run, Check, Decompile, SelfTest, Arg, Words, IsNoCommand, arg_word, givens, ranges}
+use Rattle.mcdec.specs.Command.{Command, Eval, Run, Check, Decompile, SelfTest, Arg, Words, IsNoCommand, arg_word}
 use Rattle.elf_image.specs.declared.fault.ElfFault.{ElfFault}
 use Rattle.elf_image.specs.Fault.{IsReadable, fault_of}
 use Rattle.elf_image.specs.declared.symbol.NameFault.{NameFault}

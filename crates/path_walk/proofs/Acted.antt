@@ -2,7 +2,6 @@
 use Rattle.std.proofs.Common.{◌≡◌, ℕ, ◌+◌, ◌≤◌, arith, List, ◌++◌, map, Bool, true, false, eqb, refl, sym, ◌∙◌, subst, Option, Contains, eqb-true, ◌||◌}
 use Rattle.std.proofs.lemmas.List.Elements.{Contains-append_left, Contains-append_right}
 use Rattle.rv_words.specs.declared.range.Range.{Range}
-use Rattle.rv_decode.specs.declared.instruction.Instr.{Instr}
 use Rattle.rv_decode.specs.Registers.{destination, is_read, sources}
 use Rattle.word_terms.specs.Tree.{WordTree, Const}
 use Rattle.triple_kernel.specs.declared.form.Form.{Form}

@@ -2,12 +2,11 @@
 use Rattle.std.proofs.Common.{◌≡◌, ℕ, zero, suc, ◌+◌, ◌<◌, ◌^◌, List, [], ◌∷◌, ◌++◌, map, length, get_or, take, take-suc, drop, fold, Bool, true, false, cond, eqb, refl, sym, ap, ◌∙◌, subst, arith, Option, Some, None, add-one, eq-eqb}
 use Rattle.std.specs.Prelude.{slice_get}
 use Rattle.std.specs.List.{AllByRecursion, AllZip}
-use Rattle.mc_text.specs.Number.{IsWord as IsNumber}
 use Rattle.rv_words.specs.declared.range.Range.{Range}
 use Rattle.word_terms.specs.Tree.{WordTree, Const}
 use Rattle.tailrec_lang.specs.declared.group.Exit.{Exit}
 use Rattle.tailrec_lang.specs.declared.group.Exit.TheVariants.{At}
-use Rattle.tailrec_lang.specs.Tree.{BodyTree, Call, DefTree, GroupTree}
+use Rattle.tailrec_lang.specs.Tree.{BodyTree, DefTree, GroupTree}
 use Rattle.triple_kernel.specs.Tree.{Gives, TripleTree}
 use Rattle.proof_text.specs.declared.line.Line.{Line}
 use Rattle.proof_text.specs.Line.{LineTree, States, Loop, Forget, line_tree}
@@ -18,9 +17,9 @@ use Rattle.loop_rule.specs.Rule.{IsClosedBy, IsLedTo, LeadsTo}
 use Rattle.checker.specs.Instance.{AreInstances, History, after_line, after_lines, no_lines, with_closed}
 use Rattle.code_parts.specs.declared.part.Part.{Part}
 use Rattle.code_parts.specs.declared.part.Part.TheVariants as part
-use Rattle.code_parts.specs.Bodies.{Flow, Place, arms_over, body_at, current, end_at, exits_of, first, fresh, mem_count, part_body, part_def, rest_body, start}
+use Rattle.code_parts.specs.Bodies.{Flow, Place, arms_over, body_at, current, end_at, first, fresh, mem_count, part_body, part_def, start}
 use Rattle.path_walk.specs.Closed.{AreClosed}
-use Rattle.code_parts.specs.Graph.{HasPart, IsCode, IsFor, IsPart}
+use Rattle.code_parts.specs.Graph.{HasPart, IsCode, IsFor}
 use Rattle.path_walk.specs.Item.{AreClosing, IsWalked}
 use Rattle.path_walk.specs.inner.Acts.{results_at}
 use Rattle.code_parts.specs.Flows.{group_over}

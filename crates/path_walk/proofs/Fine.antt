@@ -1,5 +1,5 @@
 -- The lines of an instruction and of a call have a text.
-use Rattle.std.proofs.Common.{◌≡◌, ℕ, zero, suc, ◌+◌, ◌^◌, ◌<◌, ◌≤◌, ℤ, List, [], ◌∷◌, ◌++◌, map, length, Bool, true, false, cond, eqb, refl, sym, ap, ◌∙◌, subst, arith, mod-lt, length-append, Some, inl, inr, eqb-true, ◌%◌, ◌/◌}
+use Rattle.std.proofs.Common.{◌≡◌, ℕ, zero, suc, ◌+◌, ◌^◌, ◌<◌, ◌≤◌, List, [], ◌∷◌, ◌++◌, map, length, Bool, true, false, cond, eqb, refl, sym, ap, ◌∙◌, subst, arith, mod-lt, length-append, Some, inl, inr, eqb-true, ◌%◌, ◌/◌}
 use Rattle.std.specs.Int.{byte_at, bytes_low_first, to_le_bytes, w32}
 use Rattle.std.specs.List.{AllByRecursion, position_or_len}
 use Rattle.rv_words.specs.declared.range.Range.{Range}
@@ -11,22 +11,20 @@ use Rattle.rv_decode.specs.Registers.{destination}
 use Rattle.rv_words.specs.Operation.{word_of}
 use Rattle.rv_machine.specs.Step.{is_aligned}
 use Rattle.word_terms.specs.Tree.{WordTree, MemTree, CondTree, Const, Var, MemVar, depth_of_cond}
-use Rattle.term_text.specs.Limits.{CondNumbersFit, IsCond, IsMem, IsWord}
+use Rattle.term_text.specs.Limits.{CondNumbersFit, IsMem, IsWord}
 use Rattle.sep_assert.specs.Code.{Agree, IsWithin}
-use Rattle.sep_assert.specs.Tree.{AssertionTree}
 use Rattle.tailrec_lang.specs.declared.group.Exit.{Exit}
 use Rattle.tailrec_lang.specs.declared.group.Exit.TheVariants.{At, Ret}
-use Rattle.tailrec_lang.specs.Tree.{ValuesTree}
 use Rattle.triple_kernel.specs.declared.form.Form.{Form}
 use Rattle.triple_kernel.specs.declared.form.Form.TheVariants.{Next, Taken}
-use Rattle.triple_kernel.specs.Tree.{FactTree, Gives, MemIs, So, TripleTree, WordIs}
+use Rattle.triple_kernel.specs.Tree.{FactTree, Gives, MemIs, So, WordIs}
 use Rattle.frame_compose.specs.Rules.{AreMissing}
 use Rattle.instr_axioms.specs.Terms.{conditions, has_memory, memory_after, pc_after, result, word_after}
-use Rattle.instr_axioms.specs.Axiom.{memory_if, own, own_triple, register_with, triple_over, variables_for, word_code}
+use Rattle.instr_axioms.specs.Axiom.{memory_if, own, own_triple, register_with, triple_over, word_code}
 use Rattle.proof_text.specs.Limits.{AreRegistersFrom, IsExit, IsValues}
-use Rattle.proof_text.specs.LineLimits.{AreRisingFrom, IsAssertion, IsFact, IsRule, IsTriple}
-use Rattle.code_parts.specs.Bodies.{Flow, Place, current, fresh, is_store, mem_count, names, place_after, start, with_pc}
-use Rattle.code_parts.specs.Graph.{StandsAt, RiseFrom}
+use Rattle.proof_text.specs.LineLimits.{AreRisingFrom, IsAssertion, IsFact, IsTriple}
+use Rattle.code_parts.specs.Bodies.{Flow, Place, current, fresh, is_store, names, place_after, start}
+use Rattle.code_parts.specs.Graph.{RiseFrom}
 use Rattle.path_walk.specs.inner.Acts.{IsFineAct, IsFineExit, gives_over, named_triple, new_facts, numbered, results_at}
 use Rattle.path_walk.specs.inner.Histories.{exit_place, pc_of}
 use Rattle.path_walk.specs.inner.Logs.{IsFineStanding, StandingTree, standing_at}
@@ -34,7 +32,7 @@ use Rattle.path_walk.proofs.Joins.{or-within, some-same}
 use Rattle.path_walk.proofs.Lines.{own-rise}
 use Rattle.code_parts.proofs.Lists.{length-map, rising-short}
 use Rattle.path_walk.proofs.Texts.{as_registers}
-use Rattle.path_walk.proofs.Printed.{IsLow, conditions-small, memory-small, memory_after-small, mems-most, place-low, result-small, sum-small, values-printed}
+use Rattle.path_walk.proofs.Printed.{IsLow, conditions-small, memory_after-small, mems-most, place-low, result-small, sum-small, values-printed}
 use Rattle.code_parts.proofs.Places.{position-most}
 
 -- ---- lists

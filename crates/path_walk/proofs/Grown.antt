@@ -3,7 +3,7 @@ use Rattle.std.proofs.Common.{◌≡◌, ℕ, ◌+◌, List, [], ◌∷◌, ◌+
 use Rattle.rv_words.specs.declared.range.Range.{Range}
 use Rattle.word_terms.specs.Tree.{WordTree}
 use Rattle.triple_kernel.specs.Tree.{FactTree, TripleTree}
-use Rattle.proof_text.specs.Line.{LineTree, RuleTree, States}
+use Rattle.proof_text.specs.Line.{RuleTree, States}
 use Rattle.checker.specs.Instance.{AreInstances, History, Meets, after_line, after_lines, with_theorem}
 use Rattle.code_parts.specs.Bodies.{Flow, Place}
 use Rattle.path_walk.specs.inner.Histories.{IsCounted, Keeps}

@@ -1,12 +1,11 @@
 -- Lines after which a theorem is cited for each leaf: one way after another.
-use Rattle.std.proofs.Common.{◌≡◌, ℕ, zero, suc, ◌+◌, ◌-◌, ◌<◌, List, [], ◌∷◌, ◌++◌, map, length, Bool, true, false, cond, eqb, refl, sym, ap, ◌∙◌, subst, arith, Option, Some, None, eqb-true, ◌⊎◌, inl, inr, append_assoc, append-nil}
+use Rattle.std.proofs.Common.{◌≡◌, ℕ, suc, ◌+◌, ◌-◌, ◌<◌, List, [], ◌∷◌, ◌++◌, map, length, Bool, true, false, cond, eqb, refl, sym, ap, ◌∙◌, subst, Option, Some, None, eqb-true, inl, inr, append_assoc, append-nil}
 use Rattle.std.specs.Prelude.{ℤ, pos, slice_get, option_map, is_some}
 use Rattle.std.specs.List.{AllZip}
 use Rattle.rv_words.specs.declared.range.Range.{Range}
 use Rattle.rv_words.specs.declared.comparison.Cmp.{Cmp}
 use Rattle.rv_decode.specs.declared.instruction.Instr.{Instr}
 use Rattle.rv_decode.specs.declared.instruction.Instr.TheVariants as instr
-use Rattle.rv_decode.specs.Registers.{destination}
 use Rattle.word_terms.specs.Tree.{WordTree, CondTree, Compare, Const, Neg, Var}
 use Rattle.tailrec_lang.specs.declared.group.Exit.{Exit}
 use Rattle.tailrec_lang.specs.declared.group.Exit.TheVariants.{At, Ret}
@@ -14,27 +13,24 @@ use Rattle.tailrec_lang.specs.Tree.{ValuesTree, StepTree, BodyTree, Branch, Call
 use Rattle.tailrec_lang.specs.Tree as tree
 use Rattle.tailrec_lang.specs.WellFormed.{exit_words}
 use Rattle.triple_kernel.specs.Tree.{FactTree, So, Gives, TripleTree}
-use Rattle.triple_kernel.specs.Rules.{AreAmong}
 use Rattle.triple_kernel.specs.declared.form.Form.{Form}
 use Rattle.triple_kernel.specs.declared.form.Form.TheVariants.{Next, Taken}
 use Rattle.instr_axioms.specs.Terms.{conditions, pc_after, word_in}
 use Rattle.loop_rule.specs.Tree.{LeafTree}
 use Rattle.loop_rule.specs.Leaves.{arm_leaves, at_exit, body_leaves, parameters, variables_after, with_values}
 use Rattle.loop_rule.specs.Rule.{LeadsTo}
-use Rattle.checker.specs.Instance.{History}
 use Rattle.code_parts.specs.declared.part.Part.{Part}
 use Rattle.code_parts.specs.declared.part.Part.TheVariants.{Loop, Rest}
-use Rattle.code_parts.specs.Bodies.{Flow, Place, arms_over, body_at, current, end_at, end_of, exits_of, first, fresh, index_of, last_at, mem_count, names, needs, or_else, own, part_def, place_after, rest_arms, rest_from, rest_targets, returned, start, targets, with_pc, writes}
-use Rattle.path_walk.specs.Closed.{AreClosed, ArmsClosed}
+use Rattle.code_parts.specs.Bodies.{Flow, Place, body_at, current, end_at, end_of, exits_of, first, fresh, index_of, last_at, mem_count, names, needs, or_else, own, part_def, place_after, rest_arms, rest_from, rest_targets, returned, start, targets, with_pc, writes}
 use Rattle.code_parts.specs.Graph.{IsPart, IsPlaced, has_edge, is_return, RiseFrom}
 use Rattle.path_walk.specs.inner.Acts.{new_facts, results_at}
-use Rattle.path_walk.specs.inner.Near.{IsEnd, IsNear, IsNext}
+use Rattle.path_walk.specs.inner.Near.{IsEnd, IsNear}
 use Rattle.code_parts.specs.inner.Ends.{body_on, returned_body, returning}
 use Rattle.code_parts.specs.Regions.{ends_at}
 use Rattle.path_walk.specs.inner.Lines.{ArmsLead}
-use Rattle.path_walk.specs.inner.Logs.{FromAs, Grown, IsReady, Leads, Led, LogTree, Setting, StandingTree, StandsAs, Steps, StepsBy, Stood, citing, group_in, past, standing_at}
+use Rattle.path_walk.specs.inner.Logs.{FromAs, Grown, IsReady, Leads, Led, LogTree, Setting, StandingTree, StandsAs, Steps, StepsBy, citing, group_in, past, standing_at}
 use Rattle.path_walk.proofs.Facts.{all-facts, need-facts, facts_after, leaves-steps}
-use Rattle.code_parts.proofs.Counts.{all-mems, all-words, all_mems_after, all_words_after}
+use Rattle.code_parts.proofs.Counts.{all-mems, all-words}
 use Rattle.code_parts.proofs.Built.{IsNoBranch, goes_back, goes_straight, goes_two_ways, straight_edge}
 use Rattle.path_walk.proofs.Exited.{results_are, standing_is}
 use Rattle.path_walk.proofs.Closed.{arms_closed_more, closed_more, closed_steps}

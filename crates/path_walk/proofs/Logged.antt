@@ -1,15 +1,14 @@
 -- One more line of a log.
-use Rattle.std.proofs.Common.{◌≡◌, ℕ, ◌+◌, ◌^◌, ◌<◌, List, [], ◌∷◌, ◌++◌, map, refl, ap, ◌∙◌, sym, subst, arith}
+use Rattle.std.proofs.Common.{◌≡◌, ℕ, ◌+◌, ◌^◌, ◌<◌, List, [], ◌∷◌, ◌++◌, map, ap, ◌∙◌, sym, subst}
 use Rattle.std.proofs.lemmas.List.{map-append}
-use Rattle.std.specs.List.{AllByRecursion}
 use Rattle.triple_kernel.specs.declared.triple.Triple.{Triple}
 use Rattle.triple_kernel.specs.Tree.{triple_tree}
 use Rattle.proof_text.specs.declared.line.Line.{Line}
 use Rattle.proof_text.specs.declared.line.Rule.{Rule}
 use Rattle.proof_text.specs.declared.line.Line.TheVariants as line
-use Rattle.proof_text.specs.Line.{LineTree, States, line_tree, rule_tree}
+use Rattle.proof_text.specs.Line.{States, line_tree, rule_tree}
 use Rattle.proof_text.specs.LineLimits.{IsLine, IsRule, IsTriple}
-use Rattle.path_walk.specs.inner.Logs.{IsFineLog, LogOf, citing, log_tree, stating}
+use Rattle.path_walk.specs.inner.Logs.{IsFineLog, log_tree, stating}
 use Rattle.path_walk.proofs.Fine.{all-join}
 
 -- it is stated

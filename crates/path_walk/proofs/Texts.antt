@@ -1,5 +1,5 @@
 -- The group of a graph's parts has a text.
-use Rattle.std.proofs.Common.{ℕ, List, [], ◌∷◌, map, length, Bool, true, false, cond, arith, ◌+◌, ◌<◌, ◌≤◌}
+use Rattle.std.proofs.Common.{ℕ, List, [], ◌∷◌, map, Bool, true, false, cond, arith, ◌+◌, ◌<◌, ◌≤◌}
 use Rattle.std.specs.List.{AllByRecursion}
 use Rattle.rv_words.specs.Bytes.{Bytes}
 use Rattle.rv_words.specs.declared.range.Range.{Range}

@@ -3,19 +3,18 @@ use Rattle.std.proofs.Common.{◌≡◌, ℕ, zero, suc, ◌+◌, ◌^◌, ◌<�
 use Rattle.std.proofs.lemmas.Option.{slice_get-get_or}
 use Rattle.std.specs.Prelude.{slice_get}
 use Rattle.std.specs.List.{AllByRecursion}
-use Rattle.rv_words.specs.declared.range.Range.{Range}
 use Rattle.tailrec_lang.specs.declared.group.Def.{Def}
 use Rattle.tailrec_lang.specs.Tree.{DefTree, GroupTree, def_tree, group_tree}
 use Rattle.proof_text.specs.Line.{LineTree, line_tree}
 use Rattle.proof_text.specs.LineLimits.{IsLine}
-use Rattle.checker.specs.Instance.{AreInstances, History, after_line, after_lines, no_lines}
+use Rattle.checker.specs.Instance.{History, after_line, after_lines, no_lines}
 use Rattle.flow_graph.specs.Graph.{GraphOf}
 use Rattle.loop_forest.specs.Forest.{ForestOf, IsForestOf, number_of}
 use Rattle.code_parts.specs.declared.part.Part.{Part}
 use Rattle.path_walk.specs.declared.item.Item.{Item}
-use Rattle.code_parts.specs.Bodies.{Flow, part_body, part_def}
+use Rattle.code_parts.specs.Bodies.{part_body, part_def}
 use Rattle.path_walk.specs.Closed.{AreClosedBy}
-use Rattle.code_parts.specs.Graph.{IsCode, IsGraph, IsMade}
+use Rattle.code_parts.specs.Graph.{IsCode, IsGraph}
 use Rattle.code_parts.specs.Flows.{AreCodeOf, IsReached, flow_of, group_of, group_over}
 use Rattle.path_walk.specs.Item.{IsItemOf, IsWalked}
 use Rattle.code_parts.specs.Order.{AreParts}

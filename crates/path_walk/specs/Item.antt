@@ -1,5 +1,5 @@
 -- A function's group with the lines of its proof: what the decompiler makes of a graph and its forest.
-use Rattle.std.specs.Prelude.{◌≡◌, ℕ, List, [], ◌++◌, map, fold, true, length, slice_get, Some}
+use Rattle.std.specs.Prelude.{◌≡◌, ℕ, List, ◌++◌, map, fold, true, length, slice_get, Some}
 use Rattle.std.specs.List.{AllByRecursion}
 use Rattle.rv_words.specs.declared.range.Range.{Range}
 use Rattle.tailrec_lang.specs.Tree.{GroupTree, group_tree}

@@ -21,7 +21,6 @@ use Rattle.proof_text.specs.LineLimits.{IsRule, IsTriple}
 use Rattle.code_parts.specs.Bodies.{Flow, Place, current, fresh, is_store, names, place_after, start, with_pc}
 use Rattle.path_walk.specs.inner.Histories.{exit_place, pc_of}
 use Rattle.path_walk.specs.inner.Logs.{LogTree, StandingTree, standing_at, stating}
-use Rattle.code_parts.proofs.Lists.{here}
 
 -- the terms for the variables from i on
 abbrev pub numbered : {A : Type 0} → ℕ → List A → List (ℕ × A)

@@ -1,7 +1,6 @@
 use Rattle.std.proofs.Common.{◌≡◌, ℕ, ◌^◌, ◌<◌, true, sym, ◌∙◌, subst, arith}
 use Rattle.rv_decode.specs.declared.instruction.Instr.{Instr}
 use Rattle.rv_machine.specs.Step.{is_aligned}
-use Rattle.triple_kernel.specs.Tree.{fact_tree}
 use Rattle.code_parts.specs.Bodies.{Flow, Place}
 use Rattle.path_walk.specs.inner.Acts.{IsFineAct, act_standing, acted}
 use Rattle.code_parts.specs.Kept.{flow_in}

@@ -1,4 +1,4 @@
-use Rattle.std.proofs.Common.{◌≡◌, ℕ, ap, sym, ◌∙◌, subst}
+use Rattle.std.proofs.Common.{ap, sym, ◌∙◌, subst}
 use Rattle.instr_axioms.specs.Terms.{has_memory}
 use Rattle.instr_axioms.specs.Axiom.{own, triple_over, word_code}
 use Rattle.instr_axioms.specs.Variables.{names_of}

@@ -1,4 +1,4 @@
-use Rattle.std.proofs.Common.{ℕ, ◌^◌, ◌<◌, List, length, sym, subst}
+use Rattle.std.proofs.Common.{◌^◌, ◌<◌, List, length, sym, subst}
 use Rattle.code_parts.specs.declared.part.Part.{Part}
 use Rattle.path_walk.proofs.Walked.{parts_small}
 use Rattle.path_walk.proofs.item.item_of.Goals as goal
