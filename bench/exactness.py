@@ -36,7 +36,7 @@ STEPS = 10_000_000
 STARTS = 2
 SPACE = 1 << 64
 SIDE = re.compile(r"refused side \d+ \d+\n")
-STUCK = re.compile(r"refused stuck \d+ no-byte (0x[0-9a-f]+)\n")
+STUCK = re.compile(r"refused stuck (\d+) (no-byte|misaligned) (0x[0-9a-f]+)\n")
 
 
 class Difference(Exception):
@@ -156,7 +156,7 @@ class Comparison:
         machine = self.model(start, lines)
         steps, turns = self.agree(start, lines, words, start.bytes)
         self.runs, self.steps = self.runs + 1, self.steps + steps
-        self.last = start, steps, sorted(machine.touched)
+        self.last = start, sorted(machine.touched)
         if self.eval(turns - 1, words) != (7, "turns used\n"):
             raise Difference(f"eval within {turns - 1} turns isn't one turn short")
 
@@ -190,7 +190,7 @@ class Comparison:
 
     def refuse(self):
         """Runs that stop before they return, and their evaluations."""
-        start, steps, touched = self.last
+        start, touched = self.last
         draw = self.function.random
         missing = draw.sample(touched, min(1, len(touched))) + draw.sample(sorted(start.bytes), int(self.function.has_memory))
         for gone in missing:
@@ -200,18 +200,18 @@ class Comparison:
             if status == 0 and gone not in touched:
                 self.agree(start, lines, words, present)
                 continue
-            match = STUCK.fullmatch(lines)
-            if status != 1 or match is None or int(match[1], 16) != gone:
-                raise Difference(f"run without byte {gone:#x}, {words}: status {status}, {lines!r}")
-            self.is_side(steps, words)
+            self.is_stuck(status, lines, words, "no-byte", gone)
+        # (the function may read x1, and take another way)
         start.registers[1] = BACK + 2
-        status, lines = self.run(BACK + 2, start.words())
-        if status != 1 or not lines.endswith(f" misaligned {BACK + 2:#x}\n"):
-            raise Difference(f"run to {BACK + 2:#x}, {start.words()}: status {status}, {lines!r}")
-        self.is_side(steps, start.words())
+        words = start.words()
+        self.is_stuck(*self.run(BACK + 2, words), words, "misaligned", BACK + 2)
 
-    def is_side(self, steps, words):
-        status, lines = self.eval(2 * steps, words)
+    def is_stuck(self, status, lines, words, why, address):
+        """A run stopped for this, and evaluation is refused at a side condition, within two turns for each of the run's steps and the one that it stopped at."""
+        match = STUCK.fullmatch(lines)
+        if status != 1 or match is None or (match[2], int(match[3], 16)) != (why, address):
+            raise Difference(f"run {words}: status {status}, {lines!r}, and not stuck by {why} {address:#x}")
+        status, lines = self.eval(2 * (int(match[1]) + 1), words)
         if status != 1 or SIDE.fullmatch(lines) is None:
             raise Difference(f"eval {words}: status {status}, {lines[:200]!r}, and not refused at a side condition")
         self.refused += 1
