@@ -207,7 +207,7 @@ class Comparison:
         self.is_stuck(*self.run(BACK + 2, words), words, "misaligned", BACK + 2)
 
     def is_stuck(self, status, lines, words, why, address):
-        """A run stopped for this, and evaluation is refused at a side condition, within two turns for each of the run's steps and the one that it stopped at."""
+        """A run stopped for this, and evaluation is refused at a side condition, within two turns for each step and the one that couldn't be made."""
         match = STUCK.fullmatch(lines)
         if status != 1 or match is None or (match[2], int(match[3], 16)) != (why, address):
             raise Difference(f"run {words}: status {status}, {lines!r}, and not stuck by {why} {address:#x}")
