@@ -9,7 +9,7 @@ use Rattle.std.proofs.lemmas.Nat.{pow_pos}
 use Rattle.std.proofs.lemmas.Option.{get_or_from_slice_get, slice_get-get_or, slice_get_within}
 use Rattle.rv_words.specs.Bytes.{AreAt, AreBytes, AreSame, Bytes, IsMemory, after, away, bytes_from, inside, load, number_of, over, store, word_at}
 use Rattle.rv_words.specs.declared.pieces.Piece.{Piece}
-use Rattle.rv_words.specs.inner.Pieces.{AreKept, ArePiecesFrom, bytes_in, past}
+use Rattle.rv_words.specs.inner.Pieces.{AreKept, ArePiecesFrom, bytes_in, end}
 use Rattle.rv_words.proofs.PieceLemmas.{bytes_before, bytes_within}
 
 pub away-zero : (a : ℕ) → a < 2 ^ 64 → away a 0 ≡ a
@@ -251,7 +251,7 @@ load-byte (suc n) m a k h small e l = here (m a) refl k l (both_true (is_some (m
 
 pieces_place : (least : ℕ) (ps : List Piece) (a : ℕ) → ArePiecesFrom least ps → is_some (bytes_in ps a) ≡ true → a < 2 ^ 64
 pieces_place least [] a h e = absurd (cc)
-pieces_place least (p ∷ ps) a h e = one (bytes_from p.at p.bytes.items a) refl e (λ rest. pieces_place (past p) ps a h.3 rest)
+pieces_place least (p ∷ ps) a h e = one (bytes_from p.at p.bytes.items a) refl e (λ rest. pieces_place (end p) ps a h.3 rest)
   where
     one : (o : Option ℕ) → bytes_from p.at p.bytes.items a ≡ o → is_some (option_or o (bytes_in ps a)) ≡ true → (is_some (bytes_in ps a) ≡ true → a < 2 ^ 64) → a < 2 ^ 64
     one None is e more = more e

@@ -6,13 +6,13 @@ use Rattle.std.specs.Ordering.{nat_cmp, eq_by_cmp}
 use Rattle.std.specs.Cmp.{nat_cmp_total}
 use Rattle.std.specs.FinMap.{empty, get, find, from_entries, get-from_entries, same_map, nat_cmp-IsAntisymmetric}
 use Rattle.std.proofs.lemmas.Bool.{le-leb, lt-leb, eq-eqb, ne_eqb, cases_lt, cases_order, eqb-true, cond-true, cond-false}
-use Rattle.std.proofs.lemmas.List.{take-append-drop, length-take-le, drop_all, length-drop, length-append, length-take, length-replicate, length-set, drop-drop, take_more_set, drop-set-lt, append_assoc, get_or-drop, get_or-take, get_or-replicate, get_or-set_same, get_or_at}
+use Rattle.std.proofs.lemmas.List.{take-append-drop, length-take-le, drop_all, length-drop, length-append, length-take, length-replicate, length-set, drop-drop, take_more_set, drop-set-lt, append_assoc, append-nil, get_or-drop, get_or-take, get_or-replicate, get_or-set_same, get_or_at}
 use Rattle.std.proofs.lemmas.Bool.Decides.{nat_tests}
 use Rattle.std.proofs.Math.Nat.{pow-le-pow_right, pow-succ'}
 use Rattle.std.proofs.lemmas.Option.{slice_get_past, slice_get-get_or}
 use Rattle.rv_words.specs.declared.pieces.Piece.{Piece}
 use Rattle.rv_words.specs.Bytes.{Bytes, after, inside, store, bytes_from, over, put_byte}
-use Rattle.rv_words.specs.inner.Pieces.{end, past, above, ArePiecesFrom, ArePieces, bytes_in, entries_from, entries_in, map_of, Holds}
+use Rattle.rv_words.specs.inner.Pieces.{end, above, ArePiecesFrom, ArePieces, bytes_in, entries_from, entries_in, map_of, Holds}
 
 -- ---- options
 
@@ -125,23 +125,23 @@ same_map_of ps qs e =
 
 pub above-le : (least : ℕ) (ps : List Piece) → ArePiecesFrom least ps → least ≤ above least ps
 above-le least [] h = omega arith
-above-le least (p ∷ ps) h = omega (arith, above-le (past p) ps h.3)
+above-le least (p ∷ ps) h = omega (arith, above-le (end p) ps h.3)
 
 pub above-append : (least : ℕ) (ps qs : List Piece) → above least (ps ++ qs) ≡ above (above least ps) qs
 above-append least [] qs = refl
-above-append least (p ∷ ps) qs = above-append (past p) ps qs
+above-append least (p ∷ ps) qs = above-append (end p) ps qs
 
 pub front_rises : (least : ℕ) (ps qs : List Piece) → ArePiecesFrom least (ps ++ qs) → ArePiecesFrom least ps
 front_rises least [] qs h = tt
-front_rises least (p ∷ ps) qs h = (h.0, h.1, h.2, front_rises (past p) ps qs h.3)
+front_rises least (p ∷ ps) qs h = (h.0, h.1, h.2, front_rises (end p) ps qs h.3)
 
 pub back_rises : (least : ℕ) (ps qs : List Piece) → ArePiecesFrom least (ps ++ qs) → ArePiecesFrom (above least ps) qs
 back_rises least [] qs h = h
-back_rises least (p ∷ ps) qs h = back_rises (past p) ps qs h.3
+back_rises least (p ∷ ps) qs h = back_rises (end p) ps qs h.3
 
 pub both_rise : (least : ℕ) (ps qs : List Piece) → ArePiecesFrom least ps → ArePiecesFrom (above least ps) qs → ArePiecesFrom least (ps ++ qs)
 both_rise least [] qs h k = k
-both_rise least (p ∷ ps) qs h k = (h.0, h.1, h.2, both_rise (past p) ps qs h.3 k)
+both_rise least (p ∷ ps) qs h k = (h.0, h.1, h.2, both_rise (end p) ps qs h.3 k)
 
 -- pieces whose first begins at or above b
 pub raised : (least b : ℕ) (ps : List Piece) → ArePiecesFrom least ps → ((d : Piece) → 0 < length ps → b ≤ (get_or ps 0 d).at) → ArePiecesFrom b ps
@@ -151,13 +151,13 @@ raised least b (p ∷ ps) h f = (f p (omega arith), h.1, h.2, h.3)
 pub none_below : (least : ℕ) (ps : List Piece) (q : ℕ) → ArePiecesFrom least ps → q < least → bytes_in ps q ≡ None
 none_below least [] q h l = refl
 none_below least (p ∷ ps) q h l =
-    λ i. option_or (bytes_before p.at p.bytes.items q (omega arith) i) (none_below (past p) ps q h.3 (omega arith) i)
+    λ i. option_or (bytes_before p.at p.bytes.items q (omega arith) i) (none_below (end p) ps q h.3 (omega arith) i)
 
-pub none_above : (least : ℕ) (ps : List Piece) (q : ℕ) → ArePiecesFrom least ps → above least ps ≤ q + 1 → bytes_in ps q ≡ None
+pub none_above : (least : ℕ) (ps : List Piece) (q : ℕ) → ArePiecesFrom least ps → above least ps ≤ q → bytes_in ps q ≡ None
 none_above least [] q h l = refl
 none_above least (p ∷ ps) q h l =
-    let a = above-le (past p) ps h.3 in
-    λ i. option_or (bytes_past p.at p.bytes.items q (omega arith) i) (none_above (past p) ps q h.3 l i)
+    let a = above-le (end p) ps h.3 in
+    λ i. option_or (bytes_past p.at p.bytes.items q (omega arith) i) (none_above (end p) ps q h.3 l i)
 
 pub bytes_in-append : (ps qs : List Piece) (q : ℕ) → bytes_in (ps ++ qs) q ≡ option_or (bytes_in ps q) (bytes_in qs q)
 bytes_in-append [] qs q = refl
@@ -170,14 +170,14 @@ bytes_in-append (p ∷ ps) qs q =
 least_at : (least : ℕ) (ps : List Piece) (k : ℕ) (d : Piece) → ArePiecesFrom least ps → k < length ps → least ≤ (get_or ps k d).at
 least_at least [] k d h l = absurd (omega arith)
 least_at least (p ∷ ps) zero d h l = h.0
-least_at least (p ∷ ps) (suc k) d h l = omega (arith, least_at (past p) ps k d h.3 (omega arith))
+least_at least (p ∷ ps) (suc k) d h l = omega (arith, least_at (end p) ps k d h.3 (omega arith))
 
 pub at_rises : (least : ℕ) (ps : List Piece) (k l : ℕ) (d : Piece) → ArePiecesFrom least ps → k ≤ l → l < length ps → (get_or ps k d).at ≤ (get_or ps l d).at
 at_rises least [] k l d h le lt = absurd (omega arith)
 at_rises least (p ∷ ps) zero zero d h le lt = omega arith
-at_rises least (p ∷ ps) zero (suc l) d h le lt = omega (arith, least_at (past p) ps l d h.3 (omega arith))
+at_rises least (p ∷ ps) zero (suc l) d h le lt = omega (arith, least_at (end p) ps l d h.3 (omega arith))
 at_rises least (p ∷ ps) (suc k) zero d h le lt = absurd (omega arith)
-at_rises least (p ∷ ps) (suc k) (suc l) d h le lt = at_rises (past p) ps k l d h.3 (omega arith) (omega arith)
+at_rises least (p ∷ ps) (suc k) (suc l) d h le lt = at_rises (end p) ps k l d h.3 (omega arith) (omega arith)
 
 -- no piece begins at or below a
 pub found_none : (ps : List Piece) (begun a : ℕ) → ArePieces ps → begun ≡ 0 → ((d : Piece) → begun < length ps → a + 0 < (get_or ps begun d).at) → bytes_in ps a ≡ None
@@ -190,12 +190,12 @@ found_from : (least : ℕ) (ps : List Piece) (k a : ℕ) (d : Piece) → ArePiec
     → ((d : Piece) → suc k < length ps → a < (get_or ps (suc k) d).at) → bytes_in ps a ≡ bytes_from (get_or ps k d).at (get_or ps k d).bytes.items a
 found_from least [] k a d h l b n = absurd (omega arith)
 found_from least (p ∷ ps) zero a d h l b n =
-    (λ i. option_or (bytes_from p.at p.bytes.items a) (none_below (suc a) ps a (raised (past p) (suc a) ps h.3 (λ d l. n d (omega arith))) (omega arith) i))
+    (λ i. option_or (bytes_from p.at p.bytes.items a) (none_below (suc a) ps a (raised (end p) (suc a) ps h.3 (λ d l. n d (omega arith))) (omega arith) i))
     ∙ or_none (bytes_from p.at p.bytes.items a)
 found_from least (p ∷ ps) (suc k) a d h l b n =
-    let low = least_at (past p) ps k d h.3 (omega arith) in
+    let low = least_at (end p) ps k d h.3 (omega arith) in
     (λ i. option_or (bytes_past p.at p.bytes.items a (omega arith) i) (bytes_in ps a))
-    ∙ found_from (past p) ps k a d h.3 (omega arith) b (λ d l. n d (omega arith))
+    ∙ found_from (end p) ps k a d h.3 (omega arith) b (λ d l. n d (omega arith))
 
 -- the first `begun` pieces begin at or below a, and the next one doesn't
 pub found : (ps : List Piece) (begun a : ℕ) (p : Piece) → ArePieces ps → 0 < begun → begun ≤ length ps
@@ -212,9 +212,9 @@ pub put_rises : (least : ℕ) (ps : List Piece) (k : ℕ) (d p : Piece) → AreP
     → length p.bytes.items ≡ length (get_or ps k d).bytes.items → ArePiecesFrom least (set ps k p)
 put_rises least [] k d p h l e n = absurd (omega arith)
 put_rises least (x ∷ ps) zero d p h l e n =
-    let rest : ArePiecesFrom (past p) ps = raised (past x) (past p) ps h.3 (λ d l. omega (arith, least_at (past x) ps 0 d h.3 l)) in
+    let rest : ArePiecesFrom (end p) ps = raised (end x) (end p) ps h.3 (λ d l. omega (arith, least_at (end x) ps 0 d h.3 l)) in
     (omega arith, omega arith, omega arith, rest)
-put_rises least (x ∷ ps) (suc k) d p h l e n = (h.0, h.1, h.2, put_rises (past x) ps k d p h.3 (omega arith) e n)
+put_rises least (x ∷ ps) (suc k) d p h l e n = (h.0, h.1, h.2, put_rises (end x) ps k d p h.3 (omega arith) e n)
 
 -- m lies in piece k, and the new bytes are m over the old ones
 put_over : (least : ℕ) (ps : List Piece) (k : ℕ) (d p : Piece) (m : Bytes) (q : ℕ) → ArePiecesFrom least ps → k < length ps
@@ -224,8 +224,8 @@ put_over : (least : ℕ) (ps : List Piece) (k : ℕ) (d p : Piece) (m : Bytes) (
 put_over least [] k d p m q h l e o = absurd (omega arith)
 put_over least (x ∷ ps) zero d p m q h l e o = (λ i. option_or (e i) (bytes_in ps q)) ∙ or_assoc (m q) (bytes_from x.at x.bytes.items q) (bytes_in ps q)
 put_over least (x ∷ ps) (suc k) d p m q h l e o =
-    let low = least_at (past x) ps k d h.3 (omega arith) in
-    (λ i. option_or (bytes_from x.at x.bytes.items q) (put_over (past x) ps k d p m q h.3 (omega arith) e o i))
+    let low = least_at (end x) ps k d h.3 (omega arith) in
+    (λ i. option_or (bytes_from x.at x.bytes.items q) (put_over (end x) ps k d p m q h.3 (omega arith) e o i))
     ∙ ⊎_elim
     (λ below. or_swap-none (bytes_from x.at x.bytes.items q) (m q) (bytes_in ps q) (o (omega arith)))
     (λ after. or_swap (bytes_from x.at x.bytes.items q) (m q) (bytes_in ps q) (bytes_past x.at x.bytes.items q after))
@@ -236,12 +236,12 @@ put_over least (x ∷ ps) (suc k) d p m q h l e o =
 pub above-take-le : (least : ℕ) (ps : List Piece) (k : ℕ) (d : Piece) → ArePiecesFrom least ps → k < length ps → above least (take k ps) ≤ (get_or ps k d).at
 above-take-le least [] k d h l = absurd (omega arith)
 above-take-le least (p ∷ ps) zero d h l = h.0
-above-take-le least (p ∷ ps) (suc k) d h l = above-take-le (past p) ps k d h.3 (omega arith)
+above-take-le least (p ∷ ps) (suc k) d h l = above-take-le (end p) ps k d h.3 (omega arith)
 
-pub above-take : (least : ℕ) (ps : List Piece) (k : ℕ) (d : Piece) → k < length ps → above least (take (suc k) ps) ≡ past (get_or ps k d)
+pub above-take : (least : ℕ) (ps : List Piece) (k : ℕ) (d : Piece) → k < length ps → above least (take (suc k) ps) ≡ end (get_or ps k d)
 above-take least [] k d l = absurd (omega arith)
 above-take least (p ∷ ps) zero d l = refl
-above-take least (p ∷ ps) (suc k) d l = above-take (past p) ps k d (omega arith)
+above-take least (p ∷ ps) (suc k) d l = above-take (end p) ps k d (omega arith)
 
 pub drop_rises : (least : ℕ) (ps : List Piece) (k : ℕ) → ArePiecesFrom least ps → ArePiecesFrom (above least (take k ps)) (drop k ps)
 drop_rises least ps k h = back_rises least (take k ps) (drop k ps) (subst (λ x. ArePiecesFrom least x) (sym (take-append-drop k ps)) h)
@@ -261,7 +261,7 @@ drop_raised ps k b h f =
 pub front_apart : (ps : List Piece) (begun a : ℕ) (p : Piece) → begun ≤ length ps → 0 < begun → p ≡ get_or ps (begun - 1) p → (a ≤ end p → ⊥) → above 0 (take begun ps) ≤ a
 front_apart ps begun a p l pos is e =
     let b : begun ≡ suc (begun - 1) = omega arith in
-    let at : above 0 (take begun ps) ≡ past p = (λ i. above 0 (take (b i) ps)) ∙ above-take 0 ps (begun - 1) p (omega arith) ∙ (λ i. past (sym is i)) in
+    let at : above 0 (take begun ps) ≡ end p = (λ i. above 0 (take (b i) ps)) ∙ above-take 0 ps (begun - 1) p (omega arith) ∙ (λ i. end (sym is i)) in
     ⊎_elim (λ apart. omega arith) (λ reached. absurd (e reached)) (cases_lt (end p) a)
 
 pub front_none : (ps : List Piece) (begun a : ℕ) → begun ≡ 0 → above 0 (take begun ps) ≤ a
@@ -271,6 +271,10 @@ pub front_reached : (ps : List Piece) (begun a : ℕ) (p : Piece) → ArePieces 
     → ((d : Piece) → 0 < begun → (get_or ps (begun - 1) d).at ≤ a + 0) → above 0 (take (begun - 1) ps) ≤ a
 front_reached ps begun a p h l pos is le =
     omega (arith, above-take-le 0 ps (begun - 1) p h (omega arith), le p pos)
+
+-- the pieces behind one that begins at b
+pub behind_rise : (ps : List Piece) (k b : ℕ) → ArePieces ps → k < length ps → ((d : Piece) → (get_or ps k d).at ≡ b) → ArePiecesFrom b (drop (k + 1) ps)
+behind_rise ps k b h l e = drop_raised ps (k + 1) b h (λ d m. omega (arith, e d, at_rises 0 ps k (k + 1) d h (omega arith) m))
 
 -- of two counts of the pieces that begin at or below a place, the higher place has no smaller count
 pub counts_rise : (ps : List Piece) (a n begun last : ℕ) → ArePieces ps → begun ≤ length ps → ((d : Piece) → 0 < begun → (get_or ps (begun - 1) d).at ≤ a + 0)
@@ -284,7 +288,7 @@ counts_rise (p ∷ ps) a n begun last h l b f =
 
 -- a new piece between those before and those after
 pub placed_rise : (ps : List Piece) (first last : ℕ) (p : Piece) → ArePieces ps → above 0 (take first ps) ≤ p.at → 0 < length p.bytes.items → end p ≤ 2 ^ 64
-    → ArePiecesFrom (past p) (drop last ps) → ArePieces (take first ps ++ p ∷ drop last ps)
+    → ArePiecesFrom (end p) (drop last ps) → ArePieces (take first ps ++ p ∷ drop last ps)
 placed_rise ps first last p h b n e r = both_rise 0 (take first ps) (p ∷ drop last ps) (take_rises 0 ps first h) (b, n, e, r)
 
 -- its bytes are m over those of the touched pieces, and m has none before a
@@ -301,11 +305,11 @@ placed_bytes xs mid ys p m a q h l o e =
     ∙ (λ i. option_or (m q) (option_or x (sym (bytes_in-append mid ys q) i))) ∙ (λ i. option_or (m q) (sym (bytes_in-append xs (mid ++ ys) q) i))
 
 -- the first touched piece has all touched bytes up to its end, the last one all from its begin
-mid_low : (least : ℕ) (ps : List Piece) (q : ℕ) (d : Piece) → ArePiecesFrom least ps → 0 < length ps → q < past (get_or ps 0 d)
+mid_low : (least : ℕ) (ps : List Piece) (q : ℕ) (d : Piece) → ArePiecesFrom least ps → 0 < length ps → q < end (get_or ps 0 d)
     → bytes_in ps q ≡ bytes_from (get_or ps 0 d).at (get_or ps 0 d).bytes.items q
 mid_low least [] q d h l b = absurd (omega arith)
 mid_low least (p ∷ ps) q d h l b =
-    (λ i. option_or (bytes_from p.at p.bytes.items q) (none_below (past p) ps q h.3 b i)) ∙ or_none (bytes_from p.at p.bytes.items q)
+    (λ i. option_or (bytes_from p.at p.bytes.items q) (none_below (end p) ps q h.3 b i)) ∙ or_none (bytes_from p.at p.bytes.items q)
 
 mid_high : (least : ℕ) (ps : List Piece) (q : ℕ) (d : Piece) → ArePiecesFrom least ps → 0 < length ps → (get_or ps (length ps - 1) d).at ≤ q
     → bytes_in ps q ≡ bytes_from (get_or ps (length ps - 1) d).at (get_or ps (length ps - 1) d).bytes.items q
@@ -350,8 +354,8 @@ joined_bytes least mid a n q head tail p h pos first last reach begin at is =
     let x = bytes_from p.at l q in let y = bytes_from a z q in let w = bytes_from (a + n) r q in
     let parts : bytes_from p.at p.bytes.items q ≡ option_or (option_or x y) w =
     (λ i. bytes_from p.at (is i) q) ∙ bytes_append p.at (l ++ z) r q ∙ (λ i. option_or (bytes_append p.at l z q i) (bytes_from (to_end i) r q)) ∙ (λ i. option_or (option_or x (bytes_from (to_a i) z q)) w) in
-    let low : q < past head → bytes_in mid q ≡ bytes_from head.at head.bytes.items q =
-    λ lt. mid_low least mid q head h pos (subst (λ (p : Piece). q < past p) first lt) ∙ (λ i. bytes_from (sym first i).at (sym first i).bytes.items q) in
+    let low : q < end head → bytes_in mid q ≡ bytes_from head.at head.bytes.items q =
+    λ lt. mid_low least mid q head h pos (subst (λ (p : Piece). q < end p) first lt) ∙ (λ i. bytes_from (sym first i).at (sym first i).bytes.items q) in
     let high : tail.at ≤ q → bytes_in mid q ≡ bytes_from tail.at tail.bytes.items q =
     λ le. mid_high least mid q tail h pos (subst (λ (p : Piece). p.at ≤ q) last le) ∙ (λ i. bytes_from (sym last i).at (sym last i).bytes.items q) in
     parts
@@ -371,7 +375,7 @@ joined_bytes least mid a n q head tail p h pos first last reach begin at is =
 end_at : (least : ℕ) (ps : List Piece) (k : ℕ) (d : Piece) → ArePiecesFrom least ps → k < length ps → end (get_or ps k d) ≤ 2 ^ 64
 end_at least [] k d h l = absurd (omega arith)
 end_at least (p ∷ ps) zero d h l = h.2
-end_at least (p ∷ ps) (suc k) d h l = end_at (past p) ps k d h.3 (omega arith)
+end_at least (p ∷ ps) (suc k) d h l = end_at (end p) ps k d h.3 (omega arith)
 
 pub touched_split : (ps : List Piece) (first last : ℕ) → first ≤ last → take first ps ++ (take (last - first) (drop first ps) ++ drop last ps) ≡ ps
 touched_split ps first last l =
@@ -390,11 +394,11 @@ placed ps first last p m a h l b o e =
     λ i q. at q i
 
 -- zeros that touch no piece
-pub inserted_rise : (ps : List Piece) (i a n : ℕ) (p : Piece) → ArePieces ps → 0 < n → a + n ≤ 2 ^ 64 → above 0 (take i ps) ≤ a → ArePiecesFrom (a + n + 1) (drop i ps)
+pub inserted_rise : (ps : List Piece) (i a n : ℕ) (p : Piece) → ArePieces ps → 0 < n → a + n ≤ 2 ^ 64 → above 0 (take i ps) ≤ a → ArePiecesFrom (a + n) (drop i ps)
     → p.at ≡ a → p.bytes.items ≡ replicate n 0 → ArePieces (take i ps ++ p ∷ drop i ps)
 inserted_rise ps i a n p h pos fits before after at is =
     let len : length p.bytes.items ≡ n = (λ j. length (is j)) ∙ length-replicate n 0 in
-    let next : a + n + 1 ≡ past p = omega arith in
+    let next : a + n ≡ end p = omega arith in
     placed_rise ps i i p h (omega arith) (omega arith) (omega arith) (subst (λ x. ArePiecesFrom x (drop i ps)) next after)
 
 pub inserted : (ps : List Piece) (i a n : ℕ) (p : Piece) → ArePieces ps → above 0 (take i ps) ≤ a → p.at ≡ a → p.bytes.items ≡ replicate n 0
@@ -414,7 +418,7 @@ placed_holds ps i last a n p l b e =
 
 module _ (ps : List Piece) (first last a n : ℕ) (head tail p : Piece)
     (h : ArePieces ps) (ordered : first < last) (within : last ≤ length ps) (pos : 0 < n) (fits : a + n ≤ 2 ^ 64)
-    (before : above 0 (take first ps) ≤ a) (after : ArePiecesFrom (a + n + 1) (drop last ps))
+    (before : above 0 (take first ps) ≤ a) (after : ArePiecesFrom (a + n) (drop last ps))
     (at_first : head ≡ get_or ps first head) (at_last : tail ≡ get_or ps (last - 1) tail) (reach : a ≤ end head) (begin : tail.at ≤ a + n)
     (at : p.at ≡ min a head.at) (is : p.bytes.items ≡ take (a - head.at) head.bytes.items ++ replicate n 0 ++ drop (a + n - tail.at) tail.bytes.items) where
   joined_length : p.at + length p.bytes.items ≡ a + n + (length tail.bytes.items - (a + n - tail.at))
@@ -434,12 +438,12 @@ module _ (ps : List Piece) (first last a n : ℕ) (head tail p : Piece)
       let head_at : above 0 (take first ps) ≤ head.at = subst (λ (x : Piece). above 0 (take first ps) ≤ x.at) (sym at_first) (above-take-le 0 ps first head h (omega arith)) in
       let tail_end : end tail ≤ 2 ^ 64 = subst (λ (x : Piece). end x ≤ 2 ^ 64) (sym at_last) (end_at 0 ps (last - 1) tail h (omega arith)) in
       let s : suc (last - 1) ≡ last = omega arith in
-      let above_last : above 0 (take last ps) ≡ past tail = (λ i. above 0 (take (sym s i) ps)) ∙ above-take 0 ps (last - 1) tail (omega arith) ∙ (λ i. past (sym at_last i)) in
-      let rest : ArePiecesFrom (past tail) (drop last ps) = subst (λ x. ArePiecesFrom x (drop last ps)) above_last (drop_rises 0 ps last h) in
-      let next : ArePiecesFrom (past p) (drop last ps) =
+      let above_last : above 0 (take last ps) ≡ end tail = (λ i. above 0 (take (sym s i) ps)) ∙ above-take 0 ps (last - 1) tail (omega arith) ∙ (λ i. end (sym at_last i)) in
+      let rest : ArePiecesFrom (end tail) (drop last ps) = subst (λ x. ArePiecesFrom x (drop last ps)) above_last (drop_rises 0 ps last h) in
+      let next : ArePiecesFrom (end p) (drop last ps) =
       ⊎_elim
-      (λ inside. let e : past tail ≡ past p = omega (arith, joined_length) in subst (λ x. ArePiecesFrom x (drop last ps)) e rest)
-      (λ outside. let e : a + n + 1 ≡ past p = omega (arith, joined_length) in subst (λ x. ArePiecesFrom x (drop last ps)) e after)
+      (λ inside. let e : end tail ≡ end p = omega (arith, joined_length) in subst (λ x. ArePiecesFrom x (drop last ps)) e rest)
+      (λ outside. let e : a + n ≡ end p = omega (arith, joined_length) in subst (λ x. ArePiecesFrom x (drop last ps)) e after)
       (cases_lt (a + n) (end tail)) in
       placed_rise ps first last p h (omega arith) (omega (arith, joined_length)) (omega (arith, joined_length)) next
 
@@ -465,6 +469,51 @@ pub replaced_range : (ps : List Piece) (first last : ℕ) (p : Piece) → first 
     → take (first + 1) (set ps first p) ++ drop last (set ps first p) ≡ take first ps ++ p ∷ drop last ps
 replaced_range ps first last p l b =
     (λ i. take_more_set ps first p (omega arith) i ++ drop-set-lt last ps first p l i) ∙ append_assoc (take first ps) (p ∷ []) (drop last ps)
+
+-- ---- a piece that grows
+
+-- a piece with the same bytes at the same addresses
+pub same_rise : (ps : List Piece) (i : ℕ) (old p : Piece) → ArePieces ps → i < length ps → old ≡ get_or ps i old → p.at ≡ old.at → p.bytes.items ≡ old.bytes.items → ArePieces (set ps i p)
+same_rise ps i old p h l was at is = put_rises 0 ps i old p h l (at ∙ (λ j. (was j).at)) ((λ j. length (is j)) ∙ (λ j. length (was j).bytes.items))
+
+pub same_bytes : (ps : List Piece) (i : ℕ) (old p : Piece) → ArePieces ps → i < length ps → old ≡ get_or ps i old → p.at ≡ old.at → p.bytes.items ≡ old.bytes.items
+    → bytes_in (set ps i p) ≡ bytes_in ps
+same_bytes ps i old p h l was at is =
+    let one : (q : ℕ) → bytes_in (set ps i p) q ≡ bytes_in ps q =
+    λ q. put_over 0 ps i old p (λ q. None) q h l ((λ j. bytes_from (at j) (is j) q) ∙ (λ j. bytes_from (was j).at (was j).bytes.items q)) (λ l. refl) in
+    λ j q. one q j
+
+module _ (ps : List Piece) (i a n : ℕ) (old p : Piece)
+    (h : ArePieces ps) (within : i < length ps) (pos : 0 < n) (fits : a + n ≤ 2 ^ 64) (after : ArePiecesFrom (a + n) (drop (i + 1) ps))
+    (was : old ≡ get_or ps i old) (begin : old.at ≤ a) (reach : a ≤ end old) (short : end old ≤ a + n)
+    (at : p.at ≡ old.at) (is : p.bytes.items ≡ take (a - old.at) old.bytes.items ++ replicate n 0) where
+  before : above 0 (take i ps) ≤ a
+  before =
+      let low : above 0 (take i ps) ≤ old.at = subst (λ (x : Piece). above 0 (take i ps) ≤ x.at) (sym was) (above-take-le 0 ps i old h within) in
+      omega arith
+
+  at_last : old ≡ get_or ps (i + 1 - 1) old
+  at_last = let e : i ≡ i + 1 - 1 = omega arith in was ∙ (λ j. get_or ps (e j) old)
+
+  begins_there : p.at ≡ min a old.at
+  begins_there = omega arith
+
+  nothing_behind : p.bytes.items ≡ take (a - old.at) old.bytes.items ++ replicate n 0 ++ drop (a + n - old.at) old.bytes.items
+  nothing_behind = is ∙ sym (append-nil _) ∙ (λ j. take (a - old.at) old.bytes.items ++ replicate n 0 ++ sym (drop_all (a + n - old.at) old.bytes.items (omega arith)) j)
+
+  one_piece : set ps i p ≡ take i ps ++ p ∷ drop (i + 1) ps
+  one_piece = sym (take-append-drop (i + 1) (set ps i p)) ∙ replaced_range ps i (i + 1) p (omega arith) (omega arith)
+
+  pub grown_rise : ArePieces (set ps i p)
+  grown_rise = subst ArePieces (sym one_piece) (joined_rise ps i (i + 1) a n old old p h (omega arith) (omega arith) pos fits before after was at_last reach (omega arith) begins_there nothing_behind)
+
+  pub grown_in : bytes_in (set ps i p) ≡ over (bytes_from a (replicate n 0)) (bytes_in ps)
+  grown_in = (λ j. bytes_in (one_piece j)) ∙ joined_in ps i (i + 1) a n old old p h (omega arith) (omega arith) pos fits before after was at_last reach (omega arith) begins_there nothing_behind
+
+  pub grown_holds : Holds (set ps i p) i a n
+  grown_holds =
+      subst (λ qs. Holds qs i a n) (sym one_piece)
+      (joined_holds ps i (i + 1) a n old old p h (omega arith) (omega arith) pos fits before after was at_last reach (omega arith) begins_there nothing_behind)
 
 -- ---- bytes written in place
 
@@ -618,7 +667,7 @@ bytes_in_blocks (b ∷ bs) = over (bytes_from b.0 b.1) (bytes_in_blocks bs)
 
 abbrev BlocksFrom : ℕ → List (ℕ × List ℕ) → Type 0
 BlocksFrom least [] = Unit {0}
-BlocksFrom least (b ∷ bs) = (least ≤ b.0) × (0 < length b.1) × (b.0 + length b.1 ≤ 2 ^ 64) × BlocksFrom (b.0 + length b.1 + 1) bs
+BlocksFrom least (b ∷ bs) = (least ≤ b.0) × (0 < length b.1) × (b.0 + length b.1 ≤ 2 ^ 64) × BlocksFrom (b.0 + length b.1) bs
 
 of_blocks : (ps : List Piece) → bytes_in ps ≡ bytes_in_blocks (map block_of ps)
 of_blocks [] = refl
@@ -629,11 +678,11 @@ copied_bytes ps qs e = of_blocks ps ∙ (λ i. bytes_in_blocks (e i)) ∙ sym (o
 
 to_blocks : (least : ℕ) (ps : List Piece) → ArePiecesFrom least ps → BlocksFrom least (map block_of ps)
 to_blocks least [] h = tt
-to_blocks least (p ∷ ps) h = (h.0, h.1, h.2, to_blocks (past p) ps h.3)
+to_blocks least (p ∷ ps) h = (h.0, h.1, h.2, to_blocks (end p) ps h.3)
 
 from_blocks : (least : ℕ) (ps : List Piece) → BlocksFrom least (map block_of ps) → ArePiecesFrom least ps
 from_blocks least [] h = tt
-from_blocks least (p ∷ ps) h = (h.0, h.1, h.2, from_blocks (past p) ps h.3)
+from_blocks least (p ∷ ps) h = (h.0, h.1, h.2, from_blocks (end p) ps h.3)
 
 pub copied_rise : (ps qs : List Piece) → map block_of ps ≡ map block_of qs → ArePieces qs → ArePieces ps
 copied_rise ps qs e h = from_blocks 0 ps (subst (λ bs. BlocksFrom 0 bs) (sym e) (to_blocks 0 qs h))

@@ -12,8 +12,8 @@ use crate::width::Width;
 use std::alloc::Global;
 use std::marker::Model;
 
-/// The bytes that are present, at addresses below 2^64. It is kept as rising pieces that neither overlap
-/// nor touch, so that a look-up takes time in the logarithm of their number.
+/// The bytes that are present, at addresses below 2^64. It is kept as rising pieces that don't overlap, so that
+/// a look-up takes time in the logarithm of their number.
 #[derive(Debug, Drop)]
 pub struct ByteMap {
     pieces: Vec<Piece>,
@@ -82,7 +82,8 @@ impl ByteMap {
         store_bytes(&mut self.pieces, a, w.bytes(), v);
     }
 
-    /// Puts bytes at the addresses from `a` on, over those that are present.
+    /// Puts bytes at the addresses from `a` on, over those that are present. Where none of these is, that takes time
+    /// in proportion to the number of bytes and, behind them, of pieces.
     pub fn place(&mut self, a: u64, bytes: &[u8]) -> Result<(), NoMemory>
         requires { a + length bytes.now ≤ 2 ^ 64 }
         ensures ok { OnOk result (get self.new ≡ over (bytes_from a bytes.now) (get self.old)) }
@@ -91,7 +92,7 @@ impl ByteMap {
         put_bytes(&mut self.pieces, a, bytes)
     }
 
-    /// Puts `n` zeros at the addresses from `a` on. Where these touch no piece, that takes one allocation.
+    /// Puts `n` zeros at the addresses from `a` on. Where none of these is present, that takes one allocation.
     pub fn place_zeros(&mut self, a: u64, n: u64) -> Result<(), NoMemory>
         requires { a + n ≤ 2 ^ 64 }
         ensures ok { OnOk result (get self.new ≡ over (bytes_from a (replicate n 0)) (get self.old)) }

@@ -1,4 +1,5 @@
-//! Pieces of memory: they rise, and neither overlap nor touch.
+//! Pieces of memory: they rise and don't overlap. Two may touch: a piece grows at its end in place, and where new
+//! bytes stand right in front of one, it is copied behind them only if it is short.
 
 ghost use Rattle.std.specs.Prelude.{◌≡◌, ◌+◌, ◌-◌, ◌<◌, ◌≤◌, slice_index_or, slice_get, length, take, drop, replicate, ◌++◌, ◌∷◌, vec_len, IfOk, OnOk, OnErr, IsTrue, ◌↔◌, ◌^◌};
 ghost use Rattle.rv_words.specs.Bytes.{bytes_from, inside, load, over, put_byte, store};
@@ -6,6 +7,9 @@ ghost use Rattle.rv_words.specs.inner.Pieces.{ArePieces, ArePiecesFrom, Holds, a
 
 use crate::memory::NoMemory;
 use std::alloc::Global;
+
+/// A piece of fewer bytes is joined with new ones right in front of it.
+const SHORT: usize = 4096;
 
 /// Bytes from an address on.
 #[derive(Debug, Drop)]
@@ -37,6 +41,21 @@ impl Piece {
     {
         let len = self.bytes.len() as u64;
         self.at <= a && a - self.at <= len && n <= len - (a - self.at)
+    }
+
+    /// Whether `n` bytes from `a` on begin in the piece or right behind it, and end no earlier than it does.
+    fn grows(&self, a: u64, n: u64) -> bool
+        ensures { IsTrue result → (self.now.at ≤ a) × (a ≤ end self.now) × (end self.now ≤ a + n) }
+    {
+        let len = self.bytes.len() as u64;
+        self.at <= a && a - self.at <= len && len - (a - self.at) <= n
+    }
+
+    /// Whether the piece is short and begins right behind `n` bytes from `a` on.
+    fn follows(&self, a: u64, n: u64) -> bool
+        ensures { IsTrue result → self.now.at ≡ a + n }
+    {
+        self.bytes.len() < SHORT && a <= self.at && self.at - a == n
     }
 
     /// The piece's bytes before an address.
@@ -144,6 +163,19 @@ fn clear(bytes: &mut Vec<u8>, from: usize, n: usize)
     bytes[from..from + n].fill(0);
 }
 
+/// Puts `n` zeros from a place on over all the bytes there and behind the last one. It copies none of those before.
+fn extend(bytes: &mut Vec<u8>, from: usize, n: usize) -> Result<(), NoMemory>
+    requires begins { from ≤ vec_len bytes.old }
+    requires ends { vec_len bytes.old ≤ from + n }
+    ensures ok { OnOk result (bytes.new.items ≡ take from bytes.old.items ++ replicate n 0) }
+    ensures err { OnErr result (bytes.new.items ≡ bytes.old.items) }
+{
+    let len = from.checked_add(n).ok_or(NoMemory)?;
+    bytes.resize(len, 0)?;
+    bytes[from..].fill(0);
+    Ok(())
+}
+
 /// Writes other bytes from a place on.
 fn overwrite(bytes: &mut Vec<u8>, from: usize, new: &[u8])
     requires { from + length new.now ≤ vec_len bytes.old }
@@ -152,33 +184,45 @@ fn overwrite(bytes: &mut Vec<u8>, from: usize, new: &[u8])
     bytes[from..from + new.len()].copy_from_slice(new);
 }
 
-/// The first and the one after the last of the pieces that have one of the `n` addresses from `a` on, or
-/// an address next to these.
+/// Whether piece `i` is there, short, and begins right behind `n` bytes from `a` on.
+fn follows_at(pieces: &[Piece], i: usize, a: u64, n: u64) -> bool
+    ensures within { IsTrue result → i < length pieces.now }
+    ensures at { (d : Piece) → IsTrue result → (slice_index_or pieces.now i d).at ≡ a + n }
+{
+    i < pieces.len() && pieces[i].follows(a, n)
+}
+
+/// The first and the one after the last of the pieces with which `n` bytes from `a` on make one: those that have
+/// one of these addresses, and the one that ends at `a`; where there is none of these, a short one right behind.
 fn touched(pieces: &[Piece], a: u64, n: u64) -> (usize, usize)
-    requires { ArePieces pieces.now }
+    requires pieces { ArePieces pieces.now }
+    requires some { 0 < n }
     ensures ordered { result.0 ≤ result.1 }
     ensures within { result.1 ≤ length pieces.now }
     ensures before { above 0 (take result.0 pieces.now) ≤ a }
-    ensures after { ArePiecesFrom (a + n + 1) (drop result.1 pieces.now) }
+    ensures after { ArePiecesFrom (a + n) (drop result.1 pieces.now) }
     ensures reaches { (d : Piece) → result.0 < result.1 → a ≤ end (slice_index_or pieces.now result.0 d) }
     ensures begins { (d : Piece) → result.0 < result.1 → (slice_index_or pieces.now (result.1 - 1) d).at ≤ a + n }
 {
     let begun = count_begun(pieces, a, 0);
-    let last = count_begun(pieces, a, n);
+    let last = count_begun(pieces, a, n - 1);
     if begun > 0 && pieces[begun - 1].reaches(a) {
         return (begun - 1, last);
+    }
+    if begun == last && follows_at(pieces, last, a, n) {
+        return (begun, last + 1);
     }
     (begun, last)
 }
 
-/// Puts `n` zeros from `a` on in front of piece `i`, where they touch no piece.
+/// Puts `n` zeros from `a` on in front of piece `i`, as a piece of their own.
 fn insert_zeros(pieces: &mut Vec<Piece>, i: usize, a: u64, n: u64) -> Result<(), NoMemory>
     requires pieces { ArePieces pieces.old.items }
     requires within { i ≤ vec_len pieces.old }
     requires some { 0 < n }
     requires fits { a + n ≤ 2 ^ 64 }
     requires before { above 0 (take i pieces.old.items) ≤ a }
-    requires after { ArePiecesFrom (a + n + 1) (drop i pieces.old.items) }
+    requires after { ArePiecesFrom (a + n) (drop i pieces.old.items) }
     ensures pieces { ArePieces pieces.new.items }
     ensures cleared { OnOk result (bytes_in pieces.new.items ≡ over (bytes_from a (replicate n 0)) (bytes_in pieces.old.items)) }
     ensures held { OnOk result (Holds pieces.new.items i a n) }
@@ -203,7 +247,7 @@ fn join_zeros(
     requires some { 0 < n }
     requires fits { a + n ≤ 2 ^ 64 }
     requires before { above 0 (take first pieces.old.items) ≤ a }
-    requires after { ArePiecesFrom (a + n + 1) (drop last pieces.old.items) }
+    requires after { ArePiecesFrom (a + n) (drop last pieces.old.items) }
     requires reaches { (d : Piece) → a ≤ end (slice_index_or pieces.old.items first d) }
     requires begins { (d : Piece) → (slice_index_or pieces.old.items (last - 1) d).at ≤ a + n }
     ensures pieces { ArePieces pieces.new.items }
@@ -219,6 +263,24 @@ fn join_zeros(
     pieces[first] = Piece { at, bytes };
     remove_range(pieces, first + 1, last);
     Ok(())
+}
+
+/// Makes piece `i` longer, with `n` zeros from `a` on.
+fn extend_zeros(pieces: &mut Vec<Piece>, i: usize, a: u64, n: u64) -> Result<(), NoMemory>
+    requires pieces { ArePieces pieces.old.items }
+    requires within { i < vec_len pieces.old }
+    requires some { 0 < n }
+    requires fits { a + n ≤ 2 ^ 64 }
+    requires after { ArePiecesFrom (a + n) (drop (i + 1) pieces.old.items) }
+    requires grows { (d : Piece) → ((slice_index_or pieces.old.items i d).at ≤ a) × (a ≤ end (slice_index_or pieces.old.items i d)) × (end (slice_index_or pieces.old.items i d) ≤ a + n) }
+    ensures pieces { ArePieces pieces.new.items }
+    ensures cleared { OnOk result (bytes_in pieces.new.items ≡ over (bytes_from a (replicate n 0)) (bytes_in pieces.old.items)) }
+    ensures held { OnOk result (Holds pieces.new.items i a n) }
+    ensures err { OnErr result (bytes_in pieces.new.items ≡ bytes_in pieces.old.items) }
+{
+    let piece = &mut pieces[i];
+    let from = (a - piece.at) as usize;
+    extend(&mut piece.bytes, from, n as usize)
 }
 
 /// Writes zeros over `n` bytes of piece `i`.
@@ -254,7 +316,7 @@ fn cover(pieces: &mut Vec<Piece>, a: u64, n: u64) -> Result<usize, NoMemory>
     ensures pieces { ArePieces pieces.new.items }
     ensures cleared { OnOk result (bytes_in pieces.new.items ≡ over (bytes_from a (replicate n 0)) (bytes_in pieces.old.items)) }
     ensures held { IfOk result (λ i. Holds pieces.new.items i a n) }
-    ensures err { OnErr result (pieces.new.items ≡ pieces.old.items) }
+    ensures err { OnErr result (bytes_in pieces.new.items ≡ bytes_in pieces.old.items) }
 {
     let (first, last) = touched(pieces, a, n);
     if first == last {
@@ -263,6 +325,10 @@ fn cover(pieces: &mut Vec<Piece>, a: u64, n: u64) -> Result<usize, NoMemory>
     }
     if pieces[first].holds(a, n) {
         clear_in(pieces, first, a, n);
+        return Ok(first);
+    }
+    if last == first + 1 && pieces[first].grows(a, n) {
+        extend_zeros(pieces, first, a, n)?;
         return Ok(first);
     }
     join_zeros(pieces, first, last, a, n)?;
@@ -275,7 +341,7 @@ pub fn put_bytes(pieces: &mut Vec<Piece>, a: u64, bytes: &[u8]) -> Result<(), No
     requires fits { a + length bytes.now ≤ 2 ^ 64 }
     ensures pieces { ArePieces pieces.new.items }
     ensures ok { OnOk result (bytes_in pieces.new.items ≡ over (bytes_from a bytes.now) (bytes_in pieces.old.items)) }
-    ensures err { OnErr result (pieces.new.items ≡ pieces.old.items) }
+    ensures err { OnErr result (bytes_in pieces.new.items ≡ bytes_in pieces.old.items) }
 {
     if bytes.is_empty() {
         return Ok(());
@@ -291,7 +357,7 @@ pub fn put_zeros(pieces: &mut Vec<Piece>, a: u64, n: u64) -> Result<(), NoMemory
     requires fits { a + n ≤ 2 ^ 64 }
     ensures pieces { ArePieces pieces.new.items }
     ensures ok { OnOk result (bytes_in pieces.new.items ≡ over (bytes_from a (replicate n 0)) (bytes_in pieces.old.items)) }
-    ensures err { OnErr result (pieces.new.items ≡ pieces.old.items) }
+    ensures err { OnErr result (bytes_in pieces.new.items ≡ bytes_in pieces.old.items) }
 {
     if n == 0 {
         return Ok(());

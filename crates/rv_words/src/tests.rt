@@ -1,5 +1,5 @@
 //! What no clause says: that the calls succeed while there is memory, that a type may reach itself through a
-//! list, and that pieces of memory become one where they touch.
+//! list, and which pieces of memory become one.
 
 mod edges;
 
@@ -175,7 +175,7 @@ fn bytes_are_placed_stored_and_found(rt: HostRuntime) -> Result<(), Fail> {
 }
 
 #[test]
-fn pieces_that_touch_become_one(rt: HostRuntime) -> Result<(), Fail> {
+fn pieces_grow_and_long_ones_stay_apart(rt: HostRuntime) -> Result<(), Fail> {
     let mut pieces = Vec::new(rt.alloc());
     put_bytes(&mut pieces, 20, b"cd")?;
     put_bytes(&mut pieces, 10, b"ab")?;
@@ -186,10 +186,14 @@ fn pieces_that_touch_become_one(rt: HostRuntime) -> Result<(), Fail> {
     put_zeros(&mut pieces, 15, 5)?;
     assert_eq!(rt; pieces.len(), 3);
     put_zeros(&mut pieces, 14, 1)?;
-    assert_eq!(rt; pieces.len(), 2);
+    assert_eq!(rt; pieces.len(), 3);
     put_zeros(&mut pieces, 9, 22)?;
     assert_eq!(rt; pieces.len(), 1);
-    put_zeros(&mut pieces, 0, 1 << 20)?;
+    put_zeros(&mut pieces, 4, 1 << 20)?;
     assert_eq!(rt; pieces.len(), 1);
+    put_zeros(&mut pieces, 2, 2)?;
+    assert_eq!(rt; pieces.len(), 2);
+    put_zeros(&mut pieces, 0, 2)?;
+    assert_eq!(rt; pieces.len(), 2);
     Ok(())
 }

@@ -9,23 +9,19 @@ use Rattle.rv_words.specs.declared.pieces.Piece.{Piece}
 abbrev pub end : Piece → ℕ
 end p = p.at + length p.bytes.items
 
--- the least address at which the next piece may begin
-abbrev pub past : Piece → ℕ
-past p = end p + 1
-
--- each piece begins at or above `least`, isn't empty and ends at most at 2 ^ 64, and the next begins above its end
+-- each piece begins at or above `least`, isn't empty and ends at most at 2 ^ 64, and the next begins at or above its end
 abbrev pub ArePiecesFrom : ℕ → List Piece → Type 0
 ArePiecesFrom least [] = Unit {0}
-ArePiecesFrom least (p ∷ ps) = (least ≤ p.at) × (0 < length p.bytes.items) × (end p ≤ 2 ^ 64) × ArePiecesFrom (past p) ps
+ArePiecesFrom least (p ∷ ps) = (least ≤ p.at) × (0 < length p.bytes.items) × (end p ≤ 2 ^ 64) × ArePiecesFrom (end p) ps
 
--- pieces that aren't empty, rise, neither overlap nor touch, and end at most at 2 ^ 64
+-- pieces that aren't empty, rise, don't overlap, and end at most at 2 ^ 64
 abbrev pub ArePieces : List Piece → Type 0
 ArePieces ps = ArePiecesFrom 0 ps
 
 -- the least address at which a piece after these may begin
 abbrev pub above : ℕ → List Piece → ℕ
 above least [] = least
-above least (p ∷ ps) = above (past p) ps
+above least (p ∷ ps) = above (end p) ps
 
 -- the bytes that are in the pieces
 abbrev pub bytes_in : List Piece → Bytes
