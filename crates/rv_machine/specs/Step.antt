@@ -1,6 +1,6 @@
 -- One step of the machine: RISC-V Unprivileged ISA 20191213, sections 2.4 to 2.8, 5.2, 5.3 and chapter 7.
 -- Sums are modulo 2 ^ 64. Loads and stores go byte by byte, the low byte first, wherever they begin.
-use Rattle.std.specs.Prelude.{ℕ, zero, suc, ◌+◌, ◌-◌, ◌*◌, ◌%◌, ◌^◌, ◌==◌, Bool, if◌then◌else◌, Option, Some, None, is_some, option_map, option_and_then, ℤ, bit_and}
+use Rattle.std.specs.Prelude.{ℕ, zero, suc, ◌+◌, ◌-◌, ◌*◌, ◌%◌, ◌^◌, ◌==◌, Bool, if◌then◌else◌, Option, Some, None, is_some, unwrap_or, option_map, option_and_then, ℤ, bit_and}
 use Rattle.rv_words.specs.Bytes.{Bytes, after, bytes_of, load, inside, store, word_at}
 use Rattle.rv_words.specs.Operation.{operation_value, extension_value, comparison_holds, word_of}
 use Rattle.rv_words.specs.declared.width.Width.{Width}
@@ -117,50 +117,30 @@ length_at s = 4
 unfoldable pub step : State → Option State
 step s = option_and_then (λ i. act i (length_at s) s) (instruction_at s)
 
--- ---- the first reason why there is no next state
+-- ---- why there is no next state
 
--- why there is no jump to that target
-abbrev pub misaligned : ℕ → Option Stuck
-misaligned target = if is_aligned target then None else Some (Misaligned target)
+-- the first absent one of n addresses from a on, or the address behind them
+abbrev pub first_absent : ℕ → Bytes → ℕ → ℕ
+first_absent zero m a = a
+first_absent (suc n) m a = if is_some (m a) then first_absent n m (after a) else a
 
--- why a branch can't be carried out
-abbrev pub stuck_branch : Bool → ℤ → State → Option Stuck
-stuck_branch taken offset s = if taken then misaligned (plus s.pc offset) else None
+-- why an instruction can't be carried out, where it can't
+abbrev pub hindrance : Instr → State → Stuck
+hindrance (Jal rd offset) s = Misaligned (plus s.pc offset)
+hindrance (Jalr rd rs1 imm) s = Misaligned (jump_target (reads rs1 s) imm)
+hindrance (Branch c rs1 rs2 offset) s = Misaligned (plus s.pc offset)
+hindrance (Load w signed rd rs1 imm) s = NoByte (first_absent (bytes_of w) s.mem (plus (reads rs1 s) imm))
+hindrance (Store w rs1 rs2 imm) s = NoByte (first_absent (bytes_of w) s.mem (plus (reads rs1 s) imm))
+hindrance i s = Environment
 
--- the first absent one of n addresses from a on
-abbrev pub first_absent : ℕ → Bytes → ℕ → Option ℕ
-first_absent zero m a = None
-first_absent (suc n) m a = if is_some (m a) then first_absent n m (after a) else Some a
+-- why the word at pc can't be carried out: it is no instruction, or one that is hindered
+abbrev pub cause_of : ℕ → State → Stuck
+cause_of w s = unwrap_or (option_map (λ i. hindrance i s) (decoded w)) (NotDecoded w)
 
--- why there is no load or store of the width from a on
-abbrev pub no_byte : Width → Bytes → ℕ → Option Stuck
-no_byte w m a = option_map (λ q. NoByte q) (first_absent (bytes_of w) m a)
+-- why there is no next state, where there is none: pc first, then the fetch, then the decoding, then the instruction
+abbrev pub cause : State → Stuck
+cause s = if is_aligned s.pc then unwrap_or (option_map (λ w. cause_of w s) (fetched s)) NoFetch else Misaligned s.pc
 
--- why an instruction can't be carried out
-abbrev pub stuck_in : Instr → State → Option Stuck
-stuck_in (Op o rd rs1 rs2) s = None
-stuck_in (OpImm o rd rs1 imm) s = None
-stuck_in (Lui rd imm) s = None
-stuck_in (Auipc rd imm) s = None
-stuck_in (Jal rd offset) s = misaligned (plus s.pc offset)
-stuck_in (Jalr rd rs1 imm) s = misaligned (jump_target (reads rs1 s) imm)
-stuck_in (Branch c rs1 rs2 offset) s = stuck_branch (comparison_holds c (reads rs1 s) (reads rs2 s)) offset s
-stuck_in (Load w signed rd rs1 imm) s = no_byte w s.mem (plus (reads rs1 s) imm)
-stuck_in (Store w rs1 rs2 imm) s = no_byte w s.mem (plus (reads rs1 s) imm)
-stuck_in (Fence imm rs1 rd) s = None
-stuck_in Ecall s = Some Environment
-stuck_in Ebreak s = Some Environment
-
--- .. where the word at pc is that instruction or none
-abbrev pub stuck_decoded : ℕ → Option Instr → State → Option Stuck
-stuck_decoded w None s = Some (NotDecoded w)
-stuck_decoded w (Some i) s = stuck_in i s
-
--- .. where that word is at pc or none
-abbrev pub stuck_fetched : Option ℕ → State → Option Stuck
-stuck_fetched None s = Some NoFetch
-stuck_fetched (Some w) s = stuck_decoded w (decoded w) s
-
--- pc first, then the fetch, then the decoding, then the instruction
+-- the cause, exactly where there is no next state
 unfoldable pub stuck : State → Option Stuck
-stuck s = if is_aligned s.pc then stuck_fetched (fetched s) s else Some (Misaligned s.pc)
+stuck s = if is_some (step s) then None else Some (cause s)

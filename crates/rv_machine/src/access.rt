@@ -1,8 +1,8 @@
 //! Reading memory. Addresses go on from 0 after the last one.
 
-ghost use Rattle.std.specs.Prelude.{◌≡◌, ◌+◌, ◌*◌};
+ghost use Rattle.std.specs.Prelude.{◌≡◌, ◌+◌, ◌*◌, Some, None, if◌then◌else◌};
 ghost use Rattle.std.specs.FinMap.{get};
-ghost use Rattle.rv_words.specs.Bytes.{word_at};
+ghost use Rattle.rv_words.specs.Bytes.{inside, word_at};
 ghost use Rattle.rv_machine.specs.Step as spec;
 
 use rv_words::{ByteMap, Ext, Width, extend};
@@ -54,7 +54,7 @@ fn sign_extended(number: u64, width: Width) -> u64
 
 /// The first absent one of `n` addresses from `a` on.
 pub fn first_absent(memory: &ByteMap, a: u64, n: u8) -> Option<u64>
-    ensures { result ≡ spec.first_absent n (get memory.now) a }
+    ensures { result ≡ if inside n (get memory.now) a then None else Some (spec.first_absent n (get memory.now) a) }
 {
     if n == 0 {
         return None;

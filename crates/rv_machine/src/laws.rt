@@ -7,7 +7,7 @@ ghost use Rattle.rv_decode.specs.Decodes.{decoded};
 ghost use Rattle.rv_decode.specs.Registers.{destination, is_written};
 ghost use Rattle.rv_machine.specs.declared.running.RunEnd.{RunEnd};
 ghost use Rattle.rv_machine.specs.State.{IsState, State};
-ghost use Rattle.rv_machine.specs.Step.{act, instruction_at, is_aligned, length_at, only_if, step, stuck, stuck_in};
+ghost use Rattle.rv_machine.specs.Step.{act, instruction_at, is_aligned, length_at, only_if, step, stuck};
 ghost use Rattle.rv_machine.specs.Update.{HaveSame, is_possible, updated};
 ghost use Rattle.rv_machine.specs.Run.{EndsIn, run};
 ghost use Rattle.rv_machine.specs.Touches.{AreSameOn, IsStepWith, IsTouched, fetches, touches};
@@ -22,7 +22,6 @@ pub fn law_of_steps()
         → (i : Instr) × (instruction_at s ≡ Some i) × (is_possible i s ≡ true) × (t ≡ updated i (length_at s) s) }
     ensures fetch { (i : Instr) (s : State) → (instruction_at s ≡ Some i)
         ↔ ((is_aligned s.pc ≡ true) × (inside 4 s.mem s.pc ≡ true) × (decoded (load 4 s.mem s.pc) ≡ Some i)) }
-    ensures possible { (i : Instr) (n : ℕ) (s : State) → (stuck_in i s ≡ None) ↔ IsSome (act i n s) }
     ensures exactly { (s : State) → (stuck s ≡ None) ↔ IsSome (step s) }
 {}
 

@@ -1,11 +1,12 @@
 //! The state of the machine and its step.
 
-ghost use Rattle.std.specs.Prelude.{◌≡◌, ◌≢◌, ◌+◌, ◌*◌, ◌^◌, ◌<◌, ◌≤◌, ◌↔◌, Some, None, IsSome, IsTrue, length, replicate, OnOk, OnErr, IfOk, IfErr};
+ghost use Rattle.std.specs.Prelude.{◌≡◌, ◌≢◌, ◌+◌, ◌*◌, ◌^◌, ◌<◌, ◌≤◌, ◌↔◌, false, Some, None, IsSome, IsTrue, length, replicate, OnOk, OnErr, IfOk, IfErr};
 ghost use Rattle.std.specs.FinMap.{empty};
-ghost use Rattle.rv_words.specs.Bytes.{bytes_from};
+ghost use Rattle.rv_words.specs.Bytes.{bytes_from, bytes_of};
 ghost use Rattle.rv_decode.specs.Decodes.{NamesRegisters};
 ghost use Rattle.rv_machine.specs.State.{IsState, empty_state, state_of, with_bytes};
-ghost use Rattle.rv_machine.specs.Step.{act, branches, goes_on, has, instruction_at, jumps_to, length_at, loads_to, misaligned, next, no_byte, step as next_state, stores_at, stuck, stuck_branch, stuck_in, writes};
+ghost use Rattle.rv_machine.specs.declared.state.Stuck.TheVariants.{Misaligned, NoByte};
+ghost use Rattle.rv_machine.specs.Step.{act, branches, cause, first_absent as absent_from, goes_on, has, hindrance, instruction_at, is_aligned, jumps_to, length_at, loads_to, next, plus, step as next_state, stores_at, stuck, writes};
 
 use crate::access::{fetch, first_absent, load};
 use crate::address::{immediate_word, jump_target, plus_immediate, upper_word};
@@ -117,7 +118,7 @@ impl State {
     }
 
     /// Makes one step. It takes no memory.
-    #[tactic(auto, unfolding(crate::specs::Step::step))]
+    #[tactic(auto, unfolding(crate::specs::Step::step, crate::specs::Step::stuck))]
     pub fn step(&mut self) -> Result<(), Stuck>
         ensures ok { OnOk result (next_state (state_of self.old) ≡ Some (state_of self.new)) }
         ensures reason { IfErr result (λ why. stuck (state_of self.old) ≡ Some why) }
@@ -129,13 +130,12 @@ impl State {
     }
 
     /// The instruction at the program counter.
-    #[tactic(auto, unfolding(crate::specs::Step::stuck))]
     pub(crate) fn instruction(&self) -> Result<Instr, Stuck>
         ensures ok { IfOk result (λ i. instruction_at (state_of self.now) ≡ Some i) }
         ensures registers { IfOk result NamesRegisters }
-        ensures later { IfOk result (λ i. stuck (state_of self.now) ≡ stuck_in i (state_of self.now)) }
+        ensures later { IfOk result (λ i. cause (state_of self.now) ≡ hindrance i (state_of self.now)) }
         ensures none { OnErr result (instruction_at (state_of self.now) ≡ None) }
-        ensures reason { IfErr result (λ why. stuck (state_of self.now) ≡ Some why) }
+        ensures reason { IfErr result (λ why. cause (state_of self.now) ≡ why) }
     {
         if self.pc % 4 != 0 {
             return Err(Stuck::Misaligned(self.pc));
@@ -160,7 +160,8 @@ impl State {
     fn carry_out(&mut self, instruction: Instr, length: u64) -> Result<(), Stuck>
         requires { NamesRegisters instruction }
         ensures ok { OnOk result (act instruction length (state_of self.old) ≡ Some (state_of self.new)) }
-        ensures reason { IfErr result (λ why. stuck_in instruction (state_of self.old) ≡ Some why) }
+        ensures none { OnErr result (act instruction length (state_of self.old) ≡ None) }
+        ensures reason { IfErr result (λ why. hindrance instruction (state_of self.old) ≡ why) }
         ensures err { OnErr result (self.new ≡ self.old) }
     {
         match instruction {
@@ -233,7 +234,8 @@ impl State {
     /// To a target, if an instruction may stand there.
     fn go_to(&mut self, target: u64) -> Result<(), Stuck>
         ensures ok { OnOk result (jumps_to target (state_of self.old) ≡ Some (state_of self.new)) }
-        ensures reason { IfErr result (λ why. misaligned target ≡ Some why) }
+        ensures none { OnErr result (is_aligned target ≡ false) }
+        ensures reason { IfErr result (λ why. Misaligned target ≡ why) }
         ensures err { OnErr result (self.new ≡ self.old) }
     {
         if target % 4 != 0 {
@@ -247,7 +249,8 @@ impl State {
     fn jump(&mut self, rd: u8, target: u64, length: u64) -> Result<(), Stuck>
         requires { rd < 32 }
         ensures ok { let s = state_of self.old in OnOk result (jumps_to target (writes rd (next length s) s) ≡ Some (state_of self.new)) }
-        ensures reason { IfErr result (λ why. misaligned target ≡ Some why) }
+        ensures none { OnErr result (is_aligned target ≡ false) }
+        ensures reason { IfErr result (λ why. Misaligned target ≡ why) }
         ensures err { OnErr result (self.new ≡ self.old) }
     {
         let link = self.pc.wrapping_add(length);
@@ -259,7 +262,8 @@ impl State {
     /// Goes by an offset or on to the next instruction.
     fn branch(&mut self, taken: bool, offset: i32, length: u64) -> Result<(), Stuck>
         ensures ok { OnOk result (branches taken offset length (state_of self.old) ≡ Some (state_of self.new)) }
-        ensures reason { IfErr result (λ why. stuck_branch taken offset (state_of self.old) ≡ Some why) }
+        ensures none { OnErr result (branches taken offset length (state_of self.old) ≡ None) }
+        ensures reason { IfErr result (λ why. Misaligned (plus self.old.pc offset) ≡ why) }
         ensures err { OnErr result (self.new ≡ self.old) }
     {
         if taken {
@@ -272,7 +276,8 @@ impl State {
     /// Tests that all bytes of the width from an address on are present.
     fn find_bytes(&self, width: Width, a: u64) -> Result<(), Stuck>
         ensures ok { OnOk result (IsTrue (has width (state_of self.now).mem a)) }
-        ensures reason { IfErr result (λ why. no_byte width (state_of self.now).mem a ≡ Some why) }
+        ensures none { OnErr result (has width (state_of self.now).mem a ≡ false) }
+        ensures reason { IfErr result (λ why. NoByte (absent_from (bytes_of width) (state_of self.now).mem a) ≡ why) }
     {
         if self.memory.has(a, width) {
             return Ok(());
@@ -287,7 +292,8 @@ impl State {
     fn load(&mut self, width: Width, signed: bool, rd: u8, a: u64, length: u64) -> Result<(), Stuck>
         requires { rd < 32 }
         ensures ok { OnOk result (loads_to rd width signed a length (state_of self.old) ≡ Some (state_of self.new)) }
-        ensures reason { IfErr result (λ why. no_byte width (state_of self.old).mem a ≡ Some why) }
+        ensures none { OnErr result (has width (state_of self.old).mem a ≡ false) }
+        ensures reason { IfErr result (λ why. NoByte (absent_from (bytes_of width) (state_of self.old).mem a) ≡ why) }
         ensures err { OnErr result (self.new ≡ self.old) }
     {
         self.find_bytes(width, a)?;
@@ -299,7 +305,8 @@ impl State {
     /// Stores the low bytes of a word.
     fn store(&mut self, width: Width, a: u64, word: u64, length: u64) -> Result<(), Stuck>
         ensures ok { OnOk result (stores_at width a word length (state_of self.old) ≡ Some (state_of self.new)) }
-        ensures reason { IfErr result (λ why. no_byte width (state_of self.old).mem a ≡ Some why) }
+        ensures none { OnErr result (has width (state_of self.old).mem a ≡ false) }
+        ensures reason { IfErr result (λ why. NoByte (absent_from (bytes_of width) (state_of self.old).mem a) ≡ why) }
         ensures err { OnErr result (self.new ≡ self.old) }
     {
         self.find_bytes(width, a)?;

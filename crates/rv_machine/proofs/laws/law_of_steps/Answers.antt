@@ -1,5 +1,5 @@
 use Rattle.rv_machine.proofs.StepLemmas.{act-is, act-step, instruction_at-is, step-updated, updated-step}
-use Rattle.rv_machine.proofs.StuckLemmas.{stuck-act, stuck-step}
+use Rattle.rv_machine.proofs.StuckLemmas.{stuck-step}
 use Rattle.rv_machine.proofs.laws.law_of_steps.Goals as goal
 
 pub returns-clause-act : goal.returns-clause-act
@@ -16,9 +16,6 @@ returns-clause-instruction c = step-updated
 
 pub returns-clause-fetch : goal.returns-clause-fetch
 returns-clause-fetch c = instruction_at-is
-
-pub returns-clause-possible : goal.returns-clause-possible
-returns-clause-possible c = stuck-act
 
 pub returns-clause-exactly : goal.returns-clause-exactly
 returns-clause-exactly c = stuck-step
