@@ -2,13 +2,13 @@
 use Rattle.std.proofs.Common.{◌≡◌, ℕ, zero, suc, ◌<◌, Bool, true, false, List, [], ◌∷◌, ◌++◌, length, Ok, Err, refl, sym, ap, subst, ◌∙◌, arith, append_assoc, inl, inr, ◌⊎◌}
 use Rattle.std.specs.List.{AllByRecursion}
 use Rattle.std.proofs.lemmas.List.{append-nil}
-use Rattle.mc_text.specs.Tokens.{Tok, Left, Right, Semi, Atom, Eol, Done, Stuck, all_tokens}
+use Rattle.mc_text.specs.Tokens.{Tok, Atom, Eol, all_tokens}
 use Rattle.mc_text.specs.Reading.{Reader, ◌>>=◌, pair, with, made, star, goes_on, refused}
 use Rattle.mc_text.specs.inner.Reading.{keyed}
 use Rattle.mc_text.proofs.Lines.{EndsIn, IsLines}
 use Rattle.mc_text.proofs.Star.{Shrinks}
 use Rattle.mc_text.proofs.Listed.{cons, last, cons-bad, last-bad, alike-go2, R-item, R-fails, R-end, list-takes, list-again}
-use Rattle.mc_text.proofs.ReaderLaws.{Out, Reads, IsFlat, AreAlike, ok-is, err-is, IsElse, keyed-cases, keyed-hit, keyed-miss}
+use Rattle.mc_text.proofs.ReaderLaws.{Out, Reads, IsFlat, AreAlike, ok-is, err-is, IsElse, else-alike, keyed-cases, keyed-hit, keyed-miss}
 
 ends-append : (t : Tok) (a b : List Tok) → EndsIn t a → IsLines b → EndsIn t (a ++ b)
 ends-append t [] [] h k = h
@@ -340,28 +340,6 @@ module _ {X : Type 0} (k : List ℕ) (r other : Reader X) (F : X → Type 0) (t 
     begun = hit s.whole s.fits ∙ ap (λ (z : List Tok). Atom k ∷ z) (s.begun ∙ ap (λ (z : List Tok). z ++ s.more) e);
   }
 
-  -- the same first token
-  else-alike : (v bad o : List Tok) → AreAlike bad o → IsElse k r other (v ++ bad) → IsElse k r other (v ++ o)
-  else-alike [] [] o a h = subst (IsElse k r other) (sym a) h
-  else-alike [] (q ∷ bad) [] a h = absurd a
-  else-alike [] (q ∷ bad) (p ∷ o) a h = subst (λ (z : Tok). IsElse k r other (z ∷ o)) a (head q bad o h)
-    where
-      head : (q : Tok) (bad o : List Tok) → IsElse k r other (q ∷ bad) → IsElse k r other (q ∷ o)
-      head (Atom a) bad o h = h
-      head Left bad o h = tt
-      head Right bad o h = tt
-      head Semi bad o h = tt
-      head Eol bad o h = tt
-      head Done bad o h = tt
-      head Stuck bad o h = tt
-  else-alike (Atom b ∷ v) bad o a h = h
-  else-alike (Left ∷ v) bad o a h = tt
-  else-alike (Right ∷ v) bad o a h = tt
-  else-alike (Semi ∷ v) bad o a h = tt
-  else-alike (Eol ∷ v) bad o a h = tt
-  else-alike (Done ∷ v) bad o a h = tt
-  else-alike (Stuck ∷ v) bad o a h = tt
-
   elsewhere : (ts bad : List Tok) → IsElse k r other ts → other ts ≡ Err bad → Halts (keyed k r other) G w ts bad
   elsewhere ts bad h e =
       let s = law2.halts ts bad e in
@@ -372,7 +350,7 @@ module _ {X : Type 0} (k : List ℕ) (r other : Reader X) (F : X → Type 0) (t 
         is = s.is;
         lines = s.lines;
         flat = s.flat;
-        fixed = λ o a. keyed-miss k r other (s.front ++ (s.part ++ o)) (subst (IsElse k r other) (append_assoc s.front s.part o) (else-alike (s.front ++ s.part) bad o a g)) ∙ s.fixed o a;
+        fixed = λ o a. keyed-miss k r other (s.front ++ (s.part ++ o)) (subst (IsElse k r other) (append_assoc s.front s.part o) (else-alike k r other (s.front ++ s.part) bad o a g)) ∙ s.fixed o a;
         whole = s.whole;
         fits = s.fits;
         more = s.more;

@@ -1,6 +1,6 @@
 -- Where reading stops is the line at which the text leaves the grammar.
 use Rattle.std.proofs.Common.{◌≡◌, ℕ, suc, ◌+◌, Bool, true, false, cond, eqb, List, [], ◌∷◌, ◌++◌, Option, Some, None, Result, Ok, Err, refl, sym, ap, subst, ◌∙◌, arith, append_assoc, inl, inr, ◌⊎◌}
-use Rattle.std.specs.Prelude.{option_map}
+use Rattle.std.specs.Prelude.{option_map, IsSomeAnd}
 use Rattle.std.proofs.lemmas.List.{append-nil}
 use Rattle.std.proofs.lemmas.Bool.{eqb-true}
 use Rattle.std.proofs.lemmas.Bool.Decides.{nat_tests}
@@ -13,7 +13,7 @@ use Rattle.mc_text.specs.declared.token.Class.TheVariants.{Letter, LeftMark, Rig
 use Rattle.mc_text.proofs.Atoms.{lex-cons}
 use Rattle.mc_text.proofs.Lines.{lex-spell, spell-lex, Spelled, AreReal, IsReal, AreTokens, EndsIn, IsLines}
 use Rattle.mc_text.specs.Reading.{Reader}
-use Rattle.mc_text.specs.Fault.{first_lines, Grammar, InGrammar, Begins, AreThere, LinesBegin, IsBadAt, newlines}
+use Rattle.mc_text.specs.Fault.{first_lines, Grammar, InGrammar, Begins, LinesBegin, IsBadAt, newlines}
 use Rattle.mc_text.proofs.ReaderLaws.{IsFlat, AreAlike, ok-rest}
 use Rattle.mc_text.proofs.Covers.{Covers}
 
@@ -85,7 +85,7 @@ same-line [] more l s e = absurd cc
 same-line (b ∷ bytes) more l s e = line-step b bytes l more s (eqb b 10) (same-line bytes more) refl (mapped b (cond (eqb b 10) (first_lines 0 bytes) (first_lines 1 bytes)) l e)
 
 -- the same up to a token within the line, and that token
-same-part : (part bad os : List Tok) → IsFlat part → SameLine (part ++ bad) os → (o : List Tok) × (os ≡ part ++ o) × AreAlike bad o
+pub same-part : (part bad os : List Tok) → IsFlat part → SameLine (part ++ bad) os → (o : List Tok) × (os ≡ part ++ o) × AreAlike bad o
 same-part [] [] os f h = (os, refl, h)
 same-part [] (t ∷ bad) [] f h = absurd h
 same-part [] (t ∷ bad) (o ∷ os) f h = (o ∷ os, refl, h.0)
@@ -223,7 +223,7 @@ eol-flat Eol h = absurd (h refl)
 eol-flat Done h = refl
 eol-flat Stuck h = refl
 
-eols-flat : (ts : List Tok) → IsFlat ts → eols ts ≡ 0
+pub eols-flat : (ts : List Tok) → IsFlat ts → eols ts ≡ 0
 eols-flat [] h = refl
 eols-flat (t ∷ ts) h = omega (arith, eol-flat t h.0, eols-flat ts h.1)
 
@@ -258,7 +258,11 @@ some-front : (w : List ℕ) (o : Option (List ℕ)) (f : List ℕ) → option_ma
 some-front w (Some l) f e = (l, refl, cc)
 some-front w None f e = absurd cc
 
-there : {X : Type 0} (g : Grammar X) (o : Option (List ℕ)) → AreThere g o → (f : List ℕ) × (o ≡ Some f) × Begins g f
+-- the lines are there, and begin a text
+abbrev pub AreThere : {X : Type 0} → Grammar X → Option (List ℕ) → Type 0
+AreThere g o = IsSomeAnd o (Begins g)
+
+pub there : {X : Type 0} (g : Grammar X) (o : Option (List ℕ)) → AreThere g o → (f : List ℕ) × (o ≡ Some f) × Begins g f
 there g (Some f) h = (f, refl, h)
 there g None h = absurd h
 

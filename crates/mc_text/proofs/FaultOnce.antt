@@ -1,8 +1,8 @@
 -- A text leaves a grammar at one line.
 use Rattle.std.proofs.Common.{◌≡◌, ℕ, zero, suc, ◌+◌, ◌-◌, ◌<◌, Bool, true, false, eqb, List, [], ◌∷◌, ◌++◌, Option, Some, None, refl, sym, ap, subst, ◌∙◌, append_assoc, arith}
 use Rattle.std.specs.Prelude.{option_map}
-use Rattle.mc_text.specs.Fault.{first_lines, Grammar, Begins, AreThere, LinesBegin, IsBadAt}
-use Rattle.mc_text.proofs.FaultLine.{first-step}
+use Rattle.mc_text.specs.Fault.{first_lines, Grammar, LinesBegin, IsBadAt}
+use Rattle.mc_text.proofs.FaultLine.{AreThere, there, first-step}
 
 -- ---- one line less
 
@@ -36,13 +36,9 @@ fewer (b ∷ bs) (suc n) w e = fewer-by n b bs w (eqb b 10) refl (λ k m q. fewe
 -- ---- fewer lines
 
 module _ {X : Type 0} (g : Grammar X) (p : List ℕ) where
-  there : (o : Option (List ℕ)) → AreThere g o → (w : List ℕ) × (o ≡ Some w) × Begins g w
-  there None h = absurd h
-  there (Some w) h = (w, refl, h)
-
   begins-less : (n : ℕ) → LinesBegin g p (suc n) → LinesBegin g p n
   begins-less n h =
-      let t = there (first_lines (suc n) p) h in
+      let t = there g (first_lines (suc n) p) h in
       let f = fewer p n t.0 t.1 in
       let b = t.2 in
       subst (AreThere g) (sym f.1) (b.0, b.1, f.2 ++ b.2, b.3 ∙ ap (λ (v : List ℕ). v ++ b.2) f.3 ∙ append_assoc f.0 f.2 b.2)

@@ -6,6 +6,7 @@ pub mod Puts
 pub mod Printed
 pub mod Atoms
 pub mod Lines
+pub mod Parentheses
 pub mod OneSpelling
 pub mod ReaderLaws
 pub mod Choices

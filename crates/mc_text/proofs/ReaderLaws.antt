@@ -195,6 +195,28 @@ module _ {X : Type 0} (k : List ℕ) (r other : Reader X) where
   IsElse (Atom a ∷ ts) = bytes_eq a k ≡ false
   IsElse (t ∷ ts) = Unit {0}
 
+  -- the same first token
+  pub else-alike : (v bad o : List Tok) → AreAlike bad o → IsElse (v ++ bad) → IsElse (v ++ o)
+  else-alike [] [] o a h = subst (IsElse) (sym a) h
+  else-alike [] (q ∷ bad) [] a h = absurd a
+  else-alike [] (q ∷ bad) (p ∷ o) a h = subst (λ (z : Tok). IsElse (z ∷ o)) a (head q bad o h)
+    where
+      head : (q : Tok) (bad o : List Tok) → IsElse (q ∷ bad) → IsElse (q ∷ o)
+      head (Atom a) bad o h = h
+      head Left bad o h = tt
+      head Right bad o h = tt
+      head Semi bad o h = tt
+      head Eol bad o h = tt
+      head Done bad o h = tt
+      head Stuck bad o h = tt
+  else-alike (Atom b ∷ v) bad o a h = h
+  else-alike (Left ∷ v) bad o a h = tt
+  else-alike (Right ∷ v) bad o a h = tt
+  else-alike (Semi ∷ v) bad o a h = tt
+  else-alike (Eol ∷ v) bad o a h = tt
+  else-alike (Done ∷ v) bad o a h = tt
+  else-alike (Stuck ∷ v) bad o a h = tt
+
   pub keyed-cases : (ts : List Tok) (q : Out X) → keyed k r other ts ≡ q → ((us : List Tok) × (ts ≡ Atom k ∷ us) × (r us ≡ q)) ⊎ (IsElse ts × (other ts ≡ q))
   keyed-cases [] q e = inr (tt, e)
   keyed-cases (Atom a ∷ ts) q e = keyed-atom a ts (bytes_eq a k) q refl e

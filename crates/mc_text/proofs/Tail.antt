@@ -2,8 +2,8 @@
 use Rattle.std.proofs.Common.{◌≡◌, ℕ, zero, suc, Bool, true, false, cond, eqb, List, [], ◌∷◌, ◌++◌, None, refl, sym, ap, subst, ◌∙◌, arith}
 use Rattle.std.specs.Prelude.{option_map}
 use Rattle.std.proofs.lemmas.List.{append-nil}
-use Rattle.mc_text.specs.Fault.{first_lines, Grammar, InGrammar, AreThere, IsBadAt, newlines}
-use Rattle.mc_text.proofs.FaultLine.{AreLines, EndsByte, one-newline, first-step, lines-zeroth, lines-next}
+use Rattle.mc_text.specs.Fault.{first_lines, Grammar, InGrammar, IsBadAt, newlines}
+use Rattle.mc_text.proofs.FaultLine.{AreLines, AreThere, EndsByte, one-newline, first-step, lines-zeroth, lines-next}
 
 -- a byte more
 pub count-cons : (b : ℕ) (bs : List ℕ) (f : Bool) → eqb b 10 ≡ f → newlines (b ∷ bs) ≡ cond f (suc (newlines bs)) (newlines bs)

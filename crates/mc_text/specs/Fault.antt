@@ -1,5 +1,5 @@
 -- The line at which a text leaves a grammar. A grammar is no more than a set of values and the text of each.
-use Rattle.std.specs.Prelude.{◌≡◌, ℕ, zero, suc, List, [], ◌∷◌, ◌++◌, Option, Some, None, option_map, ◌==◌, if◌then◌else◌}
+use Rattle.std.specs.Prelude.{◌≡◌, ℕ, zero, suc, List, [], ◌∷◌, ◌++◌, Option, Some, None, IsSomeAnd, option_map, ◌==◌, if◌then◌else◌}
 use Rattle.mc_text.specs.Tokens.{newline}
 
 -- the first n lines, if they are there; a line ends with its newline
@@ -25,13 +25,9 @@ InGrammar {X} g bytes = (x : X) × g.Has x × (bytes ≡ g.text x)
 abbrev pub Begins : {X : Type 0} → Grammar X → List ℕ → Type 0
 Begins {X} g prefix = (x : X) × g.Has x × (more : List ℕ) × (g.text x ≡ prefix ++ more)
 
-abbrev pub AreThere : {X : Type 0} → Grammar X → Option (List ℕ) → Type 0
-AreThere g None = ⊥
-AreThere g (Some prefix) = Begins g prefix
-
 -- the first n lines are there, and begin one of its texts
 abbrev pub LinesBegin : {X : Type 0} → Grammar X → List ℕ → ℕ → Type 0
-LinesBegin g bytes n = AreThere g (first_lines n bytes)
+LinesBegin g bytes n = IsSomeAnd (first_lines n bytes) (Begins g)
 
 -- the bytes are none of its texts; the lines before line n are there and begin one, but not so with line n
 abbrev pub IsBadAt : {X : Type 0} → Grammar X → List ℕ → ℕ → Type 0

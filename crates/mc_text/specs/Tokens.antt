@@ -58,8 +58,7 @@ token_bytes Right = codes ")"
 token_bytes Semi = codes ";"
 token_bytes (Atom a) = a
 token_bytes Eol = newline ∷ []
-token_bytes Done = []
-token_bytes Stuck = []
+token_bytes _ = []
 
 -- what stands before the place after a token
 abbrev pub before_next : Tok → Before

@@ -78,26 +78,26 @@ pub fn accept<'a, T>(scan: &mut Scan<'a>, ahead: Scan<'a>, found: Option<T>) -> 
 }
 
 /// Passes over a left parenthesis.
-#[tactic(auto, unfolding(crate::specs::Reading::one))]
 pub fn left<'a>(scan: &mut Scan<'a>) -> Result<(), Stop>
     ensures gives { Gives (λ _. tt) result scan.old scan.new (one is_left) }
     ensures last { last_line scan.new ≡ last_line scan.old }
 {
-    match peek(scan) {
-        Some((Token::Left, ahead)) => accept(scan, ahead, Some(())),
-        _ => Err(Stop::Bad),
+    if scan.pass_left() {
+        Ok(())
+    } else {
+        Err(Stop::Bad)
     }
 }
 
 /// Passes over a right parenthesis.
-#[tactic(auto, unfolding(crate::specs::Reading::one))]
 pub fn right<'a>(scan: &mut Scan<'a>) -> Result<(), Stop>
     ensures gives { Gives (λ _. tt) result scan.old scan.new (one is_right) }
     ensures last { last_line scan.new ≡ last_line scan.old }
 {
-    match peek(scan) {
-        Some((Token::Right, ahead)) => accept(scan, ahead, Some(())),
-        _ => Err(Stop::Bad),
+    if scan.pass_right() {
+        Ok(())
+    } else {
+        Err(Stop::Bad)
     }
 }
 
@@ -202,5 +202,5 @@ pub fn bytes<'a>(alloc: Global, scan: &mut Scan<'a>) -> Result<Bytes, Stop>
 pub fn is_open(scan: &Scan<'_>) -> bool
     ensures { result ≡ goes_on is_open (tokens_at scan.now) }
 {
-    matches!(peek(scan), Some((Token::Left, _)))
+    scan.is_at_left()
 }

@@ -1,9 +1,10 @@
 //! The tokens of a text, one by one.
 
-ghost use Rattle.std.specs.Prelude.{◌≡◌, ◌∷◌, ◌≤◌, ◌<◌, ℕ, List, length, slice_index, IfOk, IfErr, OnErr, IfSome, ◌++◌, [], true, false, IsTrue, ◌↔◌};
+ghost use Rattle.std.specs.Prelude.{◌≡◌, ◌∷◌, ◌≤◌, ◌<◌, ℕ, List, length, slice_index, IfOk, IfErr, OnErr, IfSome, IfNone, ◌++◌, [], true, false, IsTrue, ◌↔◌};
 ghost use Rattle.std.specs.List.{AllPass};
-ghost use Rattle.mc_text.specs.Tokens.{is_atom_byte, IsAtom, Tok, Atom, before_next, Stuck, Done, tok, token_bytes, eol, HasNoAtomByte, Place, Passes, Stands};
+ghost use Rattle.mc_text.specs.Tokens.{is_atom_byte, IsAtom, Tok, Left, Right, Atom, before_next, Stuck, Done, tok, token_bytes, token_text, eol, HasNoAtomByte, Place, Passes, Stands};
 ghost use Rattle.mc_text.specs.Scanning.{lex, At, Within, or_stuck, loose, tight, class_of, tokens_at, Scanned};
+ghost use Rattle.mc_text.specs.Reading.{goes_on, is_open};
 ghost use Rattle.mc_text.specs.inner.Scanning.{state_of, Found, IsWhole, IsSettled, IsInside, space_text};
 ghost use Rattle.mc_text.specs.declared.token.Before.TheVariants.{Start, Later};
 
@@ -65,6 +66,48 @@ impl<'a> Scan<'a> {
         }
     }
 
+    /// Passes over a left parenthesis, if one stands here.
+    #[inline(always)]
+    pub(crate) fn pass_left(&mut self) -> bool
+        ensures passes { IsTrue result → Passes Left self.old self.new }
+        ensures none { result ≡ false → (rest : List ℕ) → Stands self.old.before self.old.rest Left rest → ⊥ }
+        ensures same { result ≡ false → self.new ≡ self.old }
+    {
+        match behind_left(self.rest, self.before) {
+            Some(rest) => {
+                self.rest = rest;
+                self.before = Before::Open;
+                true
+            }
+            None => false,
+        }
+    }
+
+    /// Passes over a right parenthesis, if one stands here.
+    #[inline(always)]
+    pub(crate) fn pass_right(&mut self) -> bool
+        ensures passes { IsTrue result → Passes Right self.old self.new }
+        ensures none { result ≡ false → (rest : List ℕ) → Stands self.old.before self.old.rest Right rest → ⊥ }
+        ensures same { result ≡ false → self.new ≡ self.old }
+    {
+        match behind_right(self.rest) {
+            Some(rest) => {
+                self.rest = rest;
+                self.before = Before::Later;
+                true
+            }
+            None => false,
+        }
+    }
+
+    /// Whether a left parenthesis stands here.
+    #[inline(always)]
+    pub(crate) fn is_at_left(&self) -> bool
+        ensures { result ≡ goes_on is_open (tokens_at self.now) }
+    {
+        behind_left(self.rest, self.before).is_some()
+    }
+
     /// Another scanner at the same place.
     pub fn fork(&self) -> Scan<'a>
         ensures { result ≡ self.now }
@@ -97,6 +140,38 @@ fn begins_line(before: Before) -> bool
     ensures { IsTrue result ↔ (before ≡ Start) }
 {
     matches!(before, Before::Start)
+}
+
+/// The bytes after a left parenthesis, and after the space before it where one belongs.
+#[inline(always)]
+fn behind_left(bytes: &[u8], before: Before) -> Option<&[u8]>
+    ensures parts { IfSome result (λ rest. bytes.now ≡ token_text before Left ++ rest.now) }
+    ensures shorter { IfSome result (λ rest. length rest.now ≤ length bytes.now) }
+    ensures none { IfNone result ((rest : List ℕ) → bytes.now ≡ token_text before Left ++ rest → ⊥) }
+{
+    match before {
+        Before::Later => match bytes {
+            [b' ', b'(', rest @ ..] => Some(rest),
+            _ => None,
+        },
+        _ => match bytes {
+            [b'(', rest @ ..] => Some(rest),
+            _ => None,
+        },
+    }
+}
+
+/// The bytes after a right parenthesis.
+#[inline(always)]
+fn behind_right(bytes: &[u8]) -> Option<&[u8]>
+    ensures parts { IfSome result (λ rest. bytes.now ≡ token_bytes Right ++ rest.now) }
+    ensures shorter { IfSome result (λ rest. length rest.now ≤ length bytes.now) }
+    ensures none { IfNone result ((rest : List ℕ) → bytes.now ≡ token_bytes Right ++ rest → ⊥) }
+{
+    match bytes {
+        [b')', rest @ ..] => Some(rest),
+        _ => None,
+    }
 }
 
 /// The place after the space between two tokens, if one stands here.

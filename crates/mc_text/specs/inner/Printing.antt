@@ -1,6 +1,5 @@
 -- The space before a token, where one stands.
 use Rattle.std.specs.Prelude.{ℕ, List, [], codes}
-use base.Fml.{GName}
 use Rattle.mc_text.specs.declared.token.Before.{Before}
 use Rattle.mc_text.specs.declared.token.Before.TheVariants.{Start, Open, Later}
 
