@@ -1,6 +1,7 @@
 -- The tests of names take each name, and nothing else.
 use Rattle.std.proofs.Common.{◌≡◌, ℕ, zero, suc, ◌+◌, ◌<◌, arith, length, drop, get_or, Bool, true, false, cond, List, [], ◌∷◌, ◌++◌, codes, Option, Some, None, refl, sym, ap, ◌∙◌}
 use Rattle.std.specs.Prelude.{option_map}
+pub use Rattle.std.specs.Fmt.{digits}
 use Rattle.std.specs.Str.{bytes_eq}
 use Rattle.std.proofs.lemmas.Slice.Eq.{bytes_eq-Decides}
 use Rattle.mc_text.specs.Tokens.{Tok, Left, Atom}
@@ -8,6 +9,7 @@ use Rattle.mc_text.specs.Reading.{atom_of, one, is_left, pair}
 use Rattle.mc_text.proofs.ReaderLaws.{Reads, Reads-one, Reads-pair}
 use Rattle.mc_text.proofs.Choices.{reads-made}
 use Rattle.mc_text.proofs.Shown.{Always, shows-left, shows-atom}
+use Rattle.rv_words.specs.Operation.{operation_name, comparison_name}
 use Rattle.rv_words.specs.declared.operation.Op.{Op}
 use Rattle.rv_words.specs.declared.operation.Op.TheVariants.{Add, Sub, Sll, Slt, Sltu, Xor, Srl, Sra, Or, And, Mul, Mulh, Mulhsu, Mulhu, Div, Divu, Rem, Remu, Addw, Subw, Sllw, Srlw, Sraw, Mulw, Divw, Divuw, Remw, Remuw}
 use Rattle.rv_words.specs.declared.extension.Ext.TheVariants.{Sx1, Sx2, Sx4}
@@ -18,7 +20,7 @@ use Rattle.term_text.specs.declared.head.WordHead.{WordHead}
 use Rattle.term_text.specs.declared.head.WordHead.TheVariants as word_head
 use Rattle.term_text.specs.declared.head.CondHead.{CondHead}
 use Rattle.term_text.specs.declared.head.CondHead.TheVariants as cond_head
-use Rattle.term_text.specs.Spelling.{operation_name, extension_name, comparison_name, load_name, store_name, inside_name}
+use Rattle.term_text.specs.Spelling.{extension_name, load_name, store_name, inside_name}
 use Rattle.term_text.specs.Reading.{named, or_option, operations, widths, operation_of, extension_of, comparison_of, load_of, store_of, inside_of, word_head_of, cond_head_of, opened}
 
 abbrev some : {X : Type 0} → X → Option X
@@ -117,7 +119,7 @@ word-head-there text h e = (
 )
 
 word-head-back : (h : WordHead) → word_head_of (word_head_name h) ≡ Some h
-unfolding word_head_of operation_of extension_of load_of
+unfolding word_head_of operation_of extension_of load_of digits
 word-head-back (word_head.Bin op) = rw (operation-back op) refl
 word-head-back (word_head.Extend Sx1) = refl
 word-head-back (word_head.Extend Sx2) = refl
@@ -143,7 +145,7 @@ cond-head-there text h e = (
 )
 
 cond-head-back : (h : CondHead) → cond_head_of (cond_head_name h) ≡ Some h
-unfolding cond_head_of comparison_of inside_of
+unfolding cond_head_of comparison_of inside_of digits
 cond-head-back (cond_head.Compare Eq) = refl
 cond-head-back (cond_head.Compare Ne) = refl
 cond-head-back (cond_head.Compare Lt) = refl
@@ -157,7 +159,7 @@ cond-head-back (cond_head.Inside B4) = refl
 cond-head-back (cond_head.Inside B8) = refl
 
 store-back : (width : Width) → store_of (store_name width) ≡ Some width
-unfolding store_of
+unfolding store_of digits
 store-back B1 = refl
 store-back B2 = refl
 store-back B4 = refl

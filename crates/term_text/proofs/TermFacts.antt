@@ -1,13 +1,14 @@
 -- The tokens of terms: none ends a line, each is a token of a text, and the first shows what follows.
-use Rattle.std.proofs.Common.{◌≡◌, ℕ, ◌^◌, ◌<◌, Bool, true, false, List, [], ◌∷◌, ◌++◌, length, codes, refl, arith}
+use Rattle.std.proofs.Common.{◌≡◌, ℕ, zero, suc, ◌^◌, ◌<◌, Bool, true, false, List, [], ◌∷◌, ◌++◌, length, codes, refl, arith}
 use Rattle.std.specs.Prelude.{◌&&◌}
-use Rattle.std.specs.Fmt.{decimal}
+use Rattle.std.specs.Fmt.{decimal, digits}
 use Rattle.mc_text.specs.Number.{AreBytes}
 use Rattle.mc_text.specs.Tokens.{Tok, Left, Right, Atom, is_atom_byte, IsAtomText, IsAtom}
 use Rattle.mc_text.specs.Reading.{goes_on, is_open}
 use Rattle.mc_text.proofs.Lines.{AreTokens}
 use Rattle.mc_text.proofs.ReaderLaws.{IsFlat, flat-append}
 use Rattle.mc_text.proofs.Shown.{decimal-atom, hex-atom, bytes-atom, tokens-append}
+use Rattle.rv_words.specs.Operation.{operation_name, comparison_name}
 use Rattle.rv_words.specs.declared.operation.Op.{Op}
 use Rattle.rv_words.specs.declared.operation.Op.TheVariants.{Add, Sub, Sll, Slt, Sltu, Xor, Srl, Sra, Or, And, Mul, Mulh, Mulhsu, Mulhu, Div, Divu, Rem, Remu, Addw, Subw, Sllw, Srlw, Sraw, Mulw, Divw, Divuw, Remw, Remuw}
 use Rattle.rv_words.specs.declared.extension.Ext.{Ext}
@@ -18,8 +19,8 @@ use Rattle.rv_words.specs.declared.width.Width.{Width}
 use Rattle.rv_words.specs.declared.width.Width.TheVariants.{B1, B2, B4, B8}
 use Rattle.rv_words.specs.declared.range.Range.{Range}
 use Rattle.word_terms.specs.Tree.{WordTree, Const, Var, Bin, Extend, Load, MemTree, MemVar, Store, CondTree, Compare, Neg, Inside}
-use Rattle.term_text.specs.Limits.{NumbersFit, MemNumbersFit, CondNumbersFit}
-use Rattle.term_text.specs.Spelling.{operation_name, extension_name, comparison_name, load_name, store_name, inside_name, joined, word_tokens, mem_tokens, cond_tokens, range_tokens}
+use Rattle.term_text.specs.Limits.{FitsWord, FitsMem, FitsCond, depth_limit, IsWord, IsMem, IsCond}
+use Rattle.term_text.specs.Spelling.{extension_name, load_name, store_name, inside_name, joined, word_tokens, mem_tokens, cond_tokens, range_tokens}
 use Rattle.term_text.specs.Reading.{begins_word, begins_mem}
 
 -- ---- within a line
@@ -148,18 +149,21 @@ comparison-atom Ltu = atom-text (codes "ltu") refl
 comparison-atom Geu = atom-text (codes "geu") refl
 
 load-atom : (width : Width) → IsAtom (load_name width)
+unfolding digits
 load-atom B1 = atom-text (codes "ld1") refl
 load-atom B2 = atom-text (codes "ld2") refl
 load-atom B4 = atom-text (codes "ld4") refl
 load-atom B8 = atom-text (codes "ld8") refl
 
 store-atom : (width : Width) → IsAtom (store_name width)
+unfolding digits
 store-atom B1 = atom-text (codes "st1") refl
 store-atom B2 = atom-text (codes "st2") refl
 store-atom B4 = atom-text (codes "st4") refl
 store-atom B8 = atom-text (codes "st8") refl
 
 inside-atom : (width : Width) → IsAtom (inside_name width)
+unfolding digits
 inside-atom B1 = atom-text (codes "in1") refl
 inside-atom B2 = atom-text (codes "in2") refl
 inside-atom B4 = atom-text (codes "in4") refl
@@ -175,21 +179,33 @@ joined-tokens-2 : (p q : List Tok) → AreTokens p → AreTokens q → AreTokens
 joined-tokens-2 p q h k = tokens-append p (q ++ Right ∷ []) h (joined-tokens-1 q k)
 
 mutual
-  pub word-tokens : (t : WordTree) → NumbersFit t → AreTokens (word_tokens t)
-  word-tokens (Const n) h = (hex-atom n, tt)
-  word-tokens (Var i) h = (variable-atom 118 i refl h, tt)
-  word-tokens (Bin op a b) h = (tt, (operation-atom op, joined-tokens-2 (word_tokens a) (word_tokens b) (word-tokens a h.0) (word-tokens b h.1)))
-  word-tokens (Extend ext a) h = (tt, (extension-atom ext, joined-tokens-1 (word_tokens a) (word-tokens a h)))
-  word-tokens (Load width m a) h = (tt, (load-atom width, joined-tokens-2 (mem_tokens m) (word_tokens a) (mem-tokens m h.0) (word-tokens a h.1)))
+  word-tokens-at : (d : ℕ) (t : WordTree) → FitsWord d t → AreTokens (word_tokens t)
+  word-tokens-at zero t h = absurd h
+  word-tokens-at (suc d) (Const n) h = (hex-atom n, tt)
+  word-tokens-at (suc d) (Var i) h = (variable-atom 118 i refl h, tt)
+  word-tokens-at (suc d) (Bin op a b) h = (tt, (operation-atom op, joined-tokens-2 (word_tokens a) (word_tokens b) (word-tokens-at d a h.0) (word-tokens-at d b h.1)))
+  word-tokens-at (suc d) (Extend ext a) h = (tt, (extension-atom ext, joined-tokens-1 (word_tokens a) (word-tokens-at d a h)))
+  word-tokens-at (suc d) (Load width m a) h = (tt, (load-atom width, joined-tokens-2 (mem_tokens m) (word_tokens a) (mem-tokens-at d m h.0) (word-tokens-at d a h.1)))
 
-  pub mem-tokens : (m : MemTree) → MemNumbersFit m → AreTokens (mem_tokens m)
-  mem-tokens (MemVar i) h = (variable-atom 109 i refl h, tt)
-  mem-tokens (Store width m a v) h = (tt, (store-atom width, tokens-append (mem_tokens m) (word_tokens a ++ (word_tokens v ++ Right ∷ [])) (mem-tokens m h.0) (joined-tokens-2 (word_tokens a) (word_tokens v) (word-tokens a h.1) (word-tokens v h.2))))
+  mem-tokens-at : (d : ℕ) (m : MemTree) → FitsMem d m → AreTokens (mem_tokens m)
+  mem-tokens-at zero m h = absurd h
+  mem-tokens-at (suc d) (MemVar i) h = (variable-atom 109 i refl h, tt)
+  mem-tokens-at (suc d) (Store width m a v) h = (tt, (store-atom width, tokens-append (mem_tokens m) (word_tokens a ++ (word_tokens v ++ Right ∷ [])) (mem-tokens-at d m h.0) (joined-tokens-2 (word_tokens a) (word_tokens v) (word-tokens-at d a h.1) (word-tokens-at d v h.2))))
 
-pub cond-tokens : (c : CondTree) → CondNumbersFit c → AreTokens (cond_tokens c)
-cond-tokens (Compare cmp a b) h = (tt, (comparison-atom cmp, joined-tokens-2 (word_tokens a) (word_tokens b) (word-tokens a h.0) (word-tokens b h.1)))
-cond-tokens (Neg c) h = (tt, (atom-text (codes "not") refl, joined-tokens-1 (cond_tokens c) (cond-tokens c h)))
-cond-tokens (Inside width m a) h = (tt, (inside-atom width, joined-tokens-2 (mem_tokens m) (word_tokens a) (mem-tokens m h.0) (word-tokens a h.1)))
+cond-tokens-at : (d : ℕ) (c : CondTree) → FitsCond d c → AreTokens (cond_tokens c)
+cond-tokens-at zero c h = absurd h
+cond-tokens-at (suc d) (Compare cmp a b) h = (tt, (comparison-atom cmp, joined-tokens-2 (word_tokens a) (word_tokens b) (word-tokens-at d a h.0) (word-tokens-at d b h.1)))
+cond-tokens-at (suc d) (Neg c) h = (tt, (atom-text (codes "not") refl, joined-tokens-1 (cond_tokens c) (cond-tokens-at d c h)))
+cond-tokens-at (suc d) (Inside width m a) h = (tt, (inside-atom width, joined-tokens-2 (mem_tokens m) (word_tokens a) (mem-tokens-at d m h.0) (word-tokens-at d a h.1)))
+
+pub word-tokens : (t : WordTree) → IsWord t → AreTokens (word_tokens t)
+word-tokens t h = word-tokens-at depth_limit t h
+
+pub mem-tokens : (m : MemTree) → IsMem m → AreTokens (mem_tokens m)
+mem-tokens m h = mem-tokens-at depth_limit m h
+
+pub cond-tokens : (c : CondTree) → IsCond c → AreTokens (cond_tokens c)
+cond-tokens c h = cond-tokens-at depth_limit c h
 
 pub range-tokens : (r : Range) → AreBytes r.bytes → AreTokens (range_tokens r)
 range-tokens r h = (tt, (hex-atom r.at, (bytes-atom r.bytes h, (tt, tt))))

@@ -10,7 +10,6 @@ use Rattle.mc_text.proofs.Shown.{Always, shows-left, shows-right, shows-hex, sho
 use Rattle.mc_text.proofs.Star.{Shrinks}
 use Rattle.rv_words.specs.declared.width.Width.{Width}
 use Rattle.word_terms.specs.Tree.{WordTree, Const, Var, Bin, Extend, Load, MemTree, MemVar, Store, CondTree, Compare, Neg, Inside}
-use Rattle.word_terms.proofs.Depths.{deep_word, deep_mem, deep_cond}
 use Rattle.term_text.specs.declared.head.WordHead.{WordHead}
 use Rattle.term_text.specs.declared.head.WordHead.TheVariants as word_head
 use Rattle.term_text.specs.declared.head.CondHead.{CondHead}
@@ -33,11 +32,6 @@ IsWordForm d (Load width m a) = FitsMem d m × FitsWord d a
 abbrev IsMemForm : ℕ → MemTree → Type 0
 IsMemForm d (MemVar i) = ⊥
 IsMemForm d (Store width m a v) = FitsMem d m × FitsWord d a × FitsWord d v
-
-abbrev IsCondForm : ℕ → CondTree → Type 0
-IsCondForm d (Compare cmp a b) = FitsWord d a × FitsWord d b
-IsCondForm d (Neg c) = FitsCond d c
-IsCondForm d (Inside width m a) = FitsMem d m × FitsWord d a
 
 -- ---- names of forms, and the tokens behind them
 
@@ -87,7 +81,7 @@ abbrev IsMemOf : ℕ → Width → MemTree → Type 0
 IsMemOf d h m = IsMemForm d m × (head_of_mem m ≡ some h)
 
 abbrev IsCondOf : ℕ → CondHead → CondTree → Type 0
-IsCondOf d h c = IsCondForm d c × (head_of_cond c ≡ some h)
+IsCondOf d h c = FitsCond (suc d) c × (head_of_cond c ≡ some h)
 
 -- ---- one level above
 
@@ -159,22 +153,22 @@ module _ (d : ℕ) (words : Reads (word_at d) (FitsWord d) word_tokens) (mems : 
 
   word-up : (t : WordTree) → IsWordForm d t ⊎ IsWordLeaf t → FitsWord (suc d) t
   word-up (Const n) (inl h) = absurd h
-  word-up (Const n) (inr h) = (h, omega arith)
+  word-up (Const n) (inr h) = h
   word-up (Var i) (inl h) = absurd h
-  word-up (Var i) (inr h) = (h, omega arith)
-  word-up (Bin op a b) (inl h) = ((h.0.0, h.1.0), omega (arith, h.0.1, h.1.1))
+  word-up (Var i) (inr h) = h
+  word-up (Bin op a b) (inl h) = h
   word-up (Bin op a b) (inr h) = absurd h
-  word-up (Extend ext a) (inl h) = (h.0, omega (arith, h.1))
+  word-up (Extend ext a) (inl h) = h
   word-up (Extend ext a) (inr h) = absurd h
-  word-up (Load width m a) (inl h) = ((h.0.0, h.1.0), omega (arith, h.0.1, h.1.1))
+  word-up (Load width m a) (inl h) = h
   word-up (Load width m a) (inr h) = absurd h
 
   word-down : (t : WordTree) → FitsWord (suc d) t → IsWordForm d t ⊎ IsWordLeaf t
-  word-down (Const n) h = inr h.0
-  word-down (Var i) h = inr h.0
-  word-down (Bin op a b) h = inl ((h.0.0, omega (arith, h.1)), (h.0.1, omega (arith, h.1)))
-  word-down (Extend ext a) h = inl (h.0, omega (arith, h.1))
-  word-down (Load width m a) h = inl ((h.0.0, omega (arith, h.1)), (h.0.1, omega (arith, h.1)))
+  word-down (Const n) h = inr h
+  word-down (Var i) h = inr h
+  word-down (Bin op a b) h = inl h
+  word-down (Extend ext a) h = inl h
+  word-down (Load width m a) h = inl h
 
   word-above : Reads (word_at (suc d)) (FitsWord (suc d)) word_tokens
   unfolding word_at
@@ -208,13 +202,13 @@ module _ (d : ℕ) (words : Reads (word_at d) (FitsWord d) word_tokens) (mems : 
 
   mem-up : (m : MemTree) → IsMemForm d m ⊎ IsMemLeaf m → FitsMem (suc d) m
   mem-up (MemVar i) (inl h) = absurd h
-  mem-up (MemVar i) (inr h) = (h, omega arith)
-  mem-up (Store width m a v) (inl h) = ((h.0.0, h.1.0, h.2.0), omega (arith, h.0.1, h.1.1, h.2.1))
+  mem-up (MemVar i) (inr h) = h
+  mem-up (Store width m a v) (inl h) = h
   mem-up (Store width m a v) (inr h) = absurd h
 
   mem-down : (m : MemTree) → FitsMem (suc d) m → IsMemForm d m ⊎ IsMemLeaf m
-  mem-down (MemVar i) h = inr h.0
-  mem-down (Store width m a v) h = inl ((h.0.0, omega (arith, h.1)), (h.0.1, omega (arith, h.1)), (h.0.2, omega (arith, h.1)))
+  mem-down (MemVar i) h = inr h
+  mem-down (Store width m a v) h = inl h
 
   mem-above : Reads (mem_at (suc d)) (FitsMem (suc d)) mem_tokens
   unfolding word_at
@@ -258,29 +252,19 @@ module _ (d : ℕ) (words : Reads (word_at d) (FitsWord d) word_tokens) (mems : 
     abbrev cond_form : Reader CondTree
     cond_form = form_of cond_head_of (cond_parts (word_at d) (mem_at d) (cond_at d))
 
-    cond-form-law : Reads cond_form (IsCondForm d) cond_tokens
+    cond-form-law : Reads cond_form (FitsCond (suc d)) cond_tokens
     cond-form-law = reads-put (λ (x : CondHead × CondTree). x.1) (with (opened cond_head_of) (cond_parts (word_at d) (mem_at d) (cond_at d))) _ _
         (Reads-with (opened cond_head_of) Always (λ h. Left ∷ Atom (cond_head_name h) ∷ []) cond-head-law (λ h f. (λ e. absurd cc, (λ e. absurd cc, tt))) (cond_parts (word_at d) (mem_at d) (cond_at d)) (IsCondOf d) (λ h. cond_rest) (λ h f. cond-parts-law h))
-        (IsCondForm d) cond_tokens (λ x h. h.1.0) (λ x h. cond-head-is x.1 x.0 h.1.1)
+        (FitsCond (suc d)) cond_tokens (λ x h. h.1.0) (λ x h. cond-head-is x.1 x.0 h.1.1)
         (elim [
           | Compare cmp a b ↦ λ g. ((cond_head.Compare cmp, Compare cmp a b), refl, (tt, (g, refl)))
           | Neg c ↦ λ g. ((cond_head.Neg, Neg c), refl, (tt, (g, refl)))
           | Inside width m a ↦ λ g. ((cond_head.Inside width, Inside width m a), refl, (tt, (g, refl)))
         ])
 
-    cond-up : (c : CondTree) → IsCondForm d c → FitsCond (suc d) c
-    cond-up (Compare cmp a b) h = ((h.0.0, h.1.0), omega (arith, h.0.1, h.1.1))
-    cond-up (Neg c) h = (h.0, omega (arith, h.1))
-    cond-up (Inside width m a) h = ((h.0.0, h.1.0), omega (arith, h.0.1, h.1.1))
-
-    cond-down : (c : CondTree) → FitsCond (suc d) c → IsCondForm d c
-    cond-down (Compare cmp a b) h = ((h.0.0, omega (arith, h.1)), (h.0.1, omega (arith, h.1)))
-    cond-down (Neg c) h = (h.0, omega (arith, h.1))
-    cond-down (Inside width m a) h = ((h.0.0, omega (arith, h.1)), (h.0.1, omega (arith, h.1)))
-
     cond-above : Reads (cond_at (suc d)) (FitsCond (suc d)) cond_tokens
     unfolding cond_at
-    cond-above = reads-as cond_form (IsCondForm d) (FitsCond (suc d)) cond_tokens cond-form-law cond-up cond-down
+    cond-above = cond-form-law
 
 -- ---- at every level
 
@@ -297,7 +281,7 @@ Both d = Reads (word_at d) (FitsWord d) word_tokens × Reads (mem_at d) (FitsMem
 
 both : (d : ℕ) → Both d
 unfolding word_at
-both zero = (reads-none (FitsWord zero) word_tokens (λ t h. omega (arith, h.1, deep_word t)), reads-none (FitsMem zero) mem_tokens (λ m h. omega (arith, h.1, deep_mem m)))
+both zero = (reads-none (FitsWord zero) word_tokens (λ t h. h), reads-none (FitsMem zero) mem_tokens (λ m h. h))
 both (suc d) = let below = both d in (word-above d below.0 below.1, mem-above d below.0 below.1)
 
 pub word-law-at : (d : ℕ) → Reads (word_at d) (FitsWord d) word_tokens
@@ -308,7 +292,7 @@ mem-law-at d = (both d).1
 
 pub cond-law-at : (d : ℕ) → Reads (cond_at d) (FitsCond d) cond_tokens
 unfolding cond_at
-cond-law-at zero = reads-none (FitsCond zero) cond_tokens (λ c h. omega (arith, h.1, deep_cond c))
+cond-law-at zero = reads-none (FitsCond zero) cond_tokens (λ c h. h)
 cond-law-at (suc d) = cond-above d (word-law-at d) (mem-law-at d) (cond-law-at d)
 
 pub word-law : Reads (word_at depth_limit) IsWord word_tokens

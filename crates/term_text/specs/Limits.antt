@@ -1,36 +1,29 @@
 -- Which terms have a text: their numbers fit, and they are at most 64 deep. And which ranges.
-use Rattle.std.specs.Prelude.{ℕ, ◌≤◌, ◌<◌, ◌^◌}
+use Rattle.std.specs.Prelude.{ℕ, zero, suc, ◌<◌, ◌^◌}
 use Rattle.mc_text.specs.Number.{AreBytes}
 use Rattle.rv_words.specs.declared.range.Range.{Range}
-use Rattle.word_terms.specs.Tree.{WordTree, Const, Var, Bin, Extend, Load, MemTree, MemVar, Store, CondTree, Compare, Neg, Inside, depth_of_word, depth_of_mem, depth_of_cond}
+use Rattle.word_terms.specs.Tree.{WordTree, Const, Var, Bin, Extend, Load, MemTree, MemVar, Store, CondTree, Compare, Neg, Inside}
 
--- constants have 64 bits, and the numbers of variables 32
+-- a term that is at most that deep; constants have 64 bits, and the numbers of variables 32
 abbrev mutual
-  pub NumbersFit : WordTree → Type 0
-  NumbersFit (Const n) = n < 2 ^ 64
-  NumbersFit (Var i) = i < 2 ^ 32
-  NumbersFit (Bin op a b) = NumbersFit a × NumbersFit b
-  NumbersFit (Extend ext a) = NumbersFit a
-  NumbersFit (Load width m a) = MemNumbersFit m × NumbersFit a
+  pub FitsWord : ℕ → WordTree → Type 0
+  FitsWord zero t = ⊥
+  FitsWord (suc d) (Const n) = n < 2 ^ 64
+  FitsWord (suc d) (Var i) = i < 2 ^ 32
+  FitsWord (suc d) (Bin op a b) = FitsWord d a × FitsWord d b
+  FitsWord (suc d) (Extend ext a) = FitsWord d a
+  FitsWord (suc d) (Load width m a) = FitsMem d m × FitsWord d a
 
-  pub MemNumbersFit : MemTree → Type 0
-  MemNumbersFit (MemVar i) = i < 2 ^ 32
-  MemNumbersFit (Store width m a v) = MemNumbersFit m × NumbersFit a × NumbersFit v
-
-abbrev pub CondNumbersFit : CondTree → Type 0
-CondNumbersFit (Compare cmp a b) = NumbersFit a × NumbersFit b
-CondNumbersFit (Neg c) = CondNumbersFit c
-CondNumbersFit (Inside width m a) = MemNumbersFit m × NumbersFit a
-
--- numbers fit, and it is at most that deep
-abbrev pub FitsWord : ℕ → WordTree → Type 0
-FitsWord depth t = NumbersFit t × (depth_of_word t ≤ depth)
-
-abbrev pub FitsMem : ℕ → MemTree → Type 0
-FitsMem depth m = MemNumbersFit m × (depth_of_mem m ≤ depth)
+  pub FitsMem : ℕ → MemTree → Type 0
+  FitsMem zero m = ⊥
+  FitsMem (suc d) (MemVar i) = i < 2 ^ 32
+  FitsMem (suc d) (Store width m a v) = FitsMem d m × FitsWord d a × FitsWord d v
 
 abbrev pub FitsCond : ℕ → CondTree → Type 0
-FitsCond depth c = CondNumbersFit c × (depth_of_cond c ≤ depth)
+FitsCond zero c = ⊥
+FitsCond (suc d) (Compare cmp a b) = FitsWord d a × FitsWord d b
+FitsCond (suc d) (Neg c) = FitsCond d c
+FitsCond (suc d) (Inside width m a) = FitsMem d m × FitsWord d a
 
 -- the deepest term that is written
 abbrev pub depth_limit : ℕ

@@ -4,6 +4,7 @@ use Rattle.std.specs.Str.{bytes_eq}
 use Rattle.mc_text.specs.Number.{number_of, hex_of}
 use Rattle.mc_text.specs.Tokens.{Tok, Left, Atom}
 use Rattle.mc_text.specs.Reading.{Reader, pair, with, made, one, is_left, is_right, atom_of, below, choice, refused, is_open, address_at, bytes_at}
+use Rattle.rv_words.specs.Operation.{operation_name, comparison_name}
 use Rattle.rv_words.specs.declared.operation.Op.{Op}
 use Rattle.rv_words.specs.declared.operation.Op.TheVariants.{Add, Sub, Sll, Slt, Sltu, Xor, Srl, Sra, Or, And, Mul, Mulh, Mulhsu, Mulhu, Div, Divu, Rem, Remu, Addw, Subw, Sllw, Srlw, Sraw, Mulw, Divw, Divuw, Remw, Remuw}
 use Rattle.rv_words.specs.declared.extension.Ext.{Ext}
@@ -18,7 +19,7 @@ use Rattle.term_text.specs.declared.head.WordHead.{WordHead}
 use Rattle.term_text.specs.declared.head.WordHead.TheVariants as word_head
 use Rattle.term_text.specs.declared.head.CondHead.{CondHead}
 use Rattle.term_text.specs.declared.head.CondHead.TheVariants as cond_head
-use Rattle.term_text.specs.Spelling.{operation_name, extension_name, comparison_name, load_name, store_name, inside_name}
+use Rattle.term_text.specs.Spelling.{extension_name, load_name, store_name, inside_name}
 
 -- ---- names
 

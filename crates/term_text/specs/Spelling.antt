@@ -3,7 +3,7 @@
 --   W     = N | vD | ( OP W W ) | ( EXT W ) | ( LOAD M W )      the memory, the address
 --   M     = mD | ( STORE M W W )                                the memory, the address, the value
 --   C     = ( CMP W W ) | ( not C ) | ( IN M W )
---   OP    = add | sub | and so on, the names of `operation_name`
+--   OP    = add | sub | and so on, the names of `operation_name` in rv_words
 --   EXT   = sx1 | sx2 | sx4
 --   LOAD  = ld1 | ld2 | ld4 | ld8        likewise STORE = st1 ..,  IN = in1 ..
 --   CMP   = eq | ne | lt | ge | ltu | geu
@@ -15,77 +15,28 @@ use Rattle.std.specs.Fmt.{decimal}
 use Rattle.hex.specs.Hex.{encode_lower}
 use Rattle.mc_text.specs.Number.{hex}
 use Rattle.mc_text.specs.Tokens.{Tok, Left, Right, Atom}
-use Rattle.rv_words.specs.declared.operation.Op.{Op}
-use Rattle.rv_words.specs.declared.operation.Op.TheVariants.{Add, Sub, Sll, Slt, Sltu, Xor, Srl, Sra, Or, And, Mul, Mulh, Mulhsu, Mulhu, Div, Divu, Rem, Remu, Addw, Subw, Sllw, Srlw, Sraw, Mulw, Divw, Divuw, Remw, Remuw}
+use Rattle.rv_words.specs.Bytes.{bytes_of}
+use Rattle.rv_words.specs.Operation.{operation_name, comparison_name}
 use Rattle.rv_words.specs.declared.extension.Ext.{Ext}
 use Rattle.rv_words.specs.declared.extension.Ext.TheVariants.{Sx1, Sx2, Sx4}
-use Rattle.rv_words.specs.declared.comparison.Cmp.{Cmp}
-use Rattle.rv_words.specs.declared.comparison.Cmp.TheVariants.{Eq, Ne, Lt, Ge, Ltu, Geu}
 use Rattle.rv_words.specs.declared.width.Width.{Width}
-use Rattle.rv_words.specs.declared.width.Width.TheVariants.{B1, B2, B4, B8}
 use Rattle.rv_words.specs.declared.range.Range.{Range}
 use Rattle.word_terms.specs.Tree.{WordTree, Const, Var, Bin, Extend, Load, MemTree, MemVar, Store, CondTree, Compare, Neg, Inside}
-
-abbrev pub operation_name : Op → List ℕ
-operation_name Add = codes "add"
-operation_name Sub = codes "sub"
-operation_name Sll = codes "sll"
-operation_name Slt = codes "slt"
-operation_name Sltu = codes "sltu"
-operation_name Xor = codes "xor"
-operation_name Srl = codes "srl"
-operation_name Sra = codes "sra"
-operation_name Or = codes "or"
-operation_name And = codes "and"
-operation_name Mul = codes "mul"
-operation_name Mulh = codes "mulh"
-operation_name Mulhsu = codes "mulhsu"
-operation_name Mulhu = codes "mulhu"
-operation_name Div = codes "div"
-operation_name Divu = codes "divu"
-operation_name Rem = codes "rem"
-operation_name Remu = codes "remu"
-operation_name Addw = codes "addw"
-operation_name Subw = codes "subw"
-operation_name Sllw = codes "sllw"
-operation_name Srlw = codes "srlw"
-operation_name Sraw = codes "sraw"
-operation_name Mulw = codes "mulw"
-operation_name Divw = codes "divw"
-operation_name Divuw = codes "divuw"
-operation_name Remw = codes "remw"
-operation_name Remuw = codes "remuw"
 
 abbrev pub extension_name : Ext → List ℕ
 extension_name Sx1 = codes "sx1"
 extension_name Sx2 = codes "sx2"
 extension_name Sx4 = codes "sx4"
 
-abbrev pub comparison_name : Cmp → List ℕ
-comparison_name Eq = codes "eq"
-comparison_name Ne = codes "ne"
-comparison_name Lt = codes "lt"
-comparison_name Ge = codes "ge"
-comparison_name Ltu = codes "ltu"
-comparison_name Geu = codes "geu"
-
+-- the name of an access, and how many bytes it has
 abbrev pub load_name : Width → List ℕ
-load_name B1 = codes "ld1"
-load_name B2 = codes "ld2"
-load_name B4 = codes "ld4"
-load_name B8 = codes "ld8"
+load_name width = codes "ld" ++ decimal (bytes_of width)
 
 abbrev pub store_name : Width → List ℕ
-store_name B1 = codes "st1"
-store_name B2 = codes "st2"
-store_name B4 = codes "st4"
-store_name B8 = codes "st8"
+store_name width = codes "st" ++ decimal (bytes_of width)
 
 abbrev pub inside_name : Width → List ℕ
-inside_name B1 = codes "in1"
-inside_name B2 = codes "in2"
-inside_name B4 = codes "in4"
-inside_name B8 = codes "in8"
+inside_name width = codes "in" ++ decimal (bytes_of width)
 
 -- the parts, one after the other, and what stands after them
 abbrev pub joined : List (List Tok) → List Tok → List Tok

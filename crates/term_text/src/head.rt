@@ -96,7 +96,7 @@ pub fn comparison_of(name: &[u8]) -> Option<Cmp>
 }
 
 /// The width of a load of that name.
-#[tactic(auto, unfolding(crate::specs::Reading::load_of))]
+#[tactic(auto, unfolding(crate::specs::Reading::load_of, crate::proofs::NameTests::digits))]
 pub fn load_of(name: &[u8]) -> Option<Width>
     ensures { result ≡ load_of name.now }
 {
@@ -110,7 +110,7 @@ pub fn load_of(name: &[u8]) -> Option<Width>
 }
 
 /// The width of a store of that name.
-#[tactic(auto, unfolding(crate::specs::Reading::store_of))]
+#[tactic(auto, unfolding(crate::specs::Reading::store_of, crate::proofs::NameTests::digits))]
 pub fn store_of(name: &[u8]) -> Option<Width>
     ensures { result ≡ store_of name.now }
 {
@@ -124,7 +124,7 @@ pub fn store_of(name: &[u8]) -> Option<Width>
 }
 
 /// The width that a condition of that name asks for.
-#[tactic(auto, unfolding(crate::specs::Reading::inside_of))]
+#[tactic(auto, unfolding(crate::specs::Reading::inside_of, crate::proofs::NameTests::digits))]
 pub fn inside_of(name: &[u8]) -> Option<Width>
     ensures { result ≡ inside_of name.now }
 {

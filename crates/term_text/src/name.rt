@@ -1,7 +1,8 @@
 //! The names of forms.
 
 ghost use Rattle.std.specs.Prelude.{◌≡◌};
-ghost use Rattle.term_text.specs.Spelling.{comparison_name, extension_name, inside_name, load_name, operation_name, store_name};
+ghost use Rattle.rv_words.specs.Operation.{comparison_name, operation_name};
+ghost use Rattle.term_text.specs.Spelling.{extension_name, inside_name, load_name, store_name};
 
 use rv_words::{Cmp, Ext, Op, Width};
 
@@ -67,6 +68,7 @@ pub fn name_of_comparison(cmp: Cmp) -> &'static [u8]
 }
 
 /// The name of a load of that width.
+#[tactic(auto, unfolding(crate::proofs::NameTests::digits))]
 pub fn name_of_load(width: Width) -> &'static [u8]
     ensures { result.now ≡ load_name width }
 {
@@ -79,6 +81,7 @@ pub fn name_of_load(width: Width) -> &'static [u8]
 }
 
 /// The name of a store of that width.
+#[tactic(auto, unfolding(crate::proofs::NameTests::digits))]
 pub fn name_of_store(width: Width) -> &'static [u8]
     ensures { result.now ≡ store_name width }
 {
@@ -91,6 +94,7 @@ pub fn name_of_store(width: Width) -> &'static [u8]
 }
 
 /// The name of the condition that all addresses of a width are present.
+#[tactic(auto, unfolding(crate::proofs::NameTests::digits))]
 pub fn name_of_inside(width: Width) -> &'static [u8]
     ensures { result.now ≡ inside_name width }
 {

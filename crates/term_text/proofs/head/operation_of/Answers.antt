@@ -1,7 +1,7 @@
 use Rattle.std.proofs.Common.{◌≡◌, ℕ, List, get_or, refl, sym, ap, ◌∙◌}
 use Rattle.std.specs.Str.{bytes_eq}
 use Rattle.rv_words.specs.declared.operation.Op.TheVariants.{Add}
-use Rattle.term_text.specs.Spelling.{operation_name}
+use Rattle.rv_words.specs.Operation.{operation_name}
 use Rattle.term_text.specs.Reading.{operations}
 use Rattle.term_text.proofs.NameTests.{named-next}
 use Rattle.term_text.proofs.head.operation_of.Goals as goal

@@ -1,5 +1,5 @@
 use Rattle.std.proofs.Common.{◌≡◌, drop}
-use Rattle.term_text.specs.Spelling.{operation_name}
+use Rattle.rv_words.specs.Operation.{operation_name}
 use Rattle.term_text.specs.Reading.{named, operations}
 use Rattle.term_text.proofs.head.operation_of.Given as goal
 
