@@ -29,9 +29,8 @@ arguments_of v e = record { words = map (λ t. word_value t e) v.words; mems = m
 
 -- 1 for a Need
 abbrev pub step_needs : StepTree → ℕ
-step_needs (Bind t) = 0
-step_needs (BindMem m) = 0
 step_needs (Need c) = 1
+step_needs _ = 0
 
 -- how many Needs there are in a body, and in arms
 abbrev mutual
@@ -39,8 +38,7 @@ abbrev mutual
   needs (Do step rest) = step_needs step + needs rest
   needs (Branch c a b) = needs a + needs b
   needs (Call def v arms) = arm_needs arms
-  needs (Again v) = 0
-  needs (Leave exit v) = 0
+  needs _ = 0
 
   pub arm_needs : ArmTrees → ℕ
   arm_needs NoArm = 0
@@ -63,15 +61,12 @@ Meaning = ℕ → Arguments → ℕ → Ending
 -- where an entry leaves by an exit, what comes of it then; any other ending stays
 abbrev pub and_then : Ending → (ℕ → Arguments → ℕ → Ending) → Ending
 and_then (Exited exit results left) go = go exit results left
-and_then (NeedFalse def ordinal) go = NeedFalse def ordinal
-and_then NoTurns go = NoTurns
-and_then Nothing go = Nothing
+and_then other go = other
 
 -- whether evaluation goes on after a step
 abbrev pub step_holds : StepTree → Environment → Bool
-step_holds (Bind t) e = true
-step_holds (BindMem m) e = true
 step_holds (Need c) e = cond_holds c e
+step_holds _ e = true
 
 -- the variables after a step
 abbrev pub after_step : StepTree → Environment → Environment

@@ -16,14 +16,12 @@ StepInScope (Need c) words mems = CondInScope c words mems
 -- how many word variables there are after the step
 abbrev pub words_after : StepTree → ℕ → ℕ
 words_after (Bind t) words = words + 1
-words_after (BindMem m) words = words
-words_after (Need c) words = words
+words_after _ words = words
 
 -- how many memory variables there are after the step
 abbrev pub mems_after : StepTree → ℕ → ℕ
-mems_after (Bind t) mems = mems
 mems_after (BindMem m) mems = mems + 1
-mems_after (Need c) mems = mems
+mems_after _ mems = mems
 
 -- the values' variables are in scope
 abbrev pub ValuesInScope : ValuesTree → ℕ → ℕ → Type 0
@@ -58,10 +56,9 @@ abbrev mutual
   -- arms in definition d of a call with these exits, each of which has the exit's results as further variables
   pub ArmsAreWellFormed : GroupTree → ℕ → List Exit → ArmTrees → ℕ → ℕ → Type 0
   ArmsAreWellFormed g d [] NoArm words mems = Unit {0}
-  ArmsAreWellFormed g d [] (Arm b bs) words mems = ⊥
-  ArmsAreWellFormed g d (x ∷ xs) NoArm words mems = ⊥
   ArmsAreWellFormed g d (x ∷ xs) (Arm b bs) words mems =
       BodyIsWellFormed g d b (words + exit_words g x) (mems + g.mems) × ArmsAreWellFormed g d xs bs words mems
+  ArmsAreWellFormed g d _ _ words mems = ⊥
 
 -- at its entry a definition's variables are its parameters: a word for each register, and the group's memories
 abbrev pub DefIsWellFormed : GroupTree → ℕ → DefTree → Type 0
