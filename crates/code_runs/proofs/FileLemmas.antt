@@ -5,7 +5,8 @@ use Rattle.std.specs.Option.{option_or}
 use Rattle.std.proofs.lemmas.Bool.{le-ltb}
 use Rattle.std.proofs.lemmas.List.{length-append, take_all}
 use Rattle.elf_image.specs.Header.{number_at}
-use Rattle.elf_image.specs.Image.{image_of}
+use Rattle.elf_image.specs.declared.image.Piece.{Piece}
+use Rattle.elf_image.specs.Image.{image_of, pieces_of, rising}
 use Rattle.elf_image.specs.Fault.{IsReadable, fault_of, most_memory, when}
 use Rattle.elf_image.specs.declared.fault.ElfFault.{ElfFault}
 use Rattle.elf_image.specs.declared.fault.ElfFault.TheVariants.{Cut, Sizes, TooBig, Wraps}
@@ -62,10 +63,14 @@ readable words h =
     (le-ltb most_memory (0 + n) (omega (arith, size, h)) i)
     n
 
-pub image : (words : List ℕ) → length words ≤ 2 ^ 20 → image_of (elf_of words) ≡ record { pieces = piece_of_words words ∷ []; symbols = [] }
-unfolding image_of elf_of number_at
-image words h =
+pub one-piece : (words : List ℕ) → length words ≤ 2 ^ 20 → pieces_of (elf_of words) ≡ piece_of_words words ∷ []
+unfolding elf_of number_at
+one-piece words h =
     let size : size_read words ≡ 4 * length words = size-is words h in
     let all : take (4 * length words) (body words) ≡ body words = take_all (4 * length words) (body words) (omega (arith, body-length words)) in
-    (λ i. record { pieces = record { at = start; flags = 5; size = size i; from = take (size i) (body words) } ∷ []; symbols = [] })
-    ∙ (λ i. record { pieces = record { at = start; flags = 5; size = 4 * length words; from = all i } ∷ []; symbols = [] })
+    let read : ℕ → List ℕ → List Piece = λ n bytes. record { at = start; flags = 5; size = n; from = bytes } ∷ [] in
+    (λ i. read (size i) (take (size i) (body words))) ∙ (λ i. read (4 * length words) (all i))
+
+pub image : (words : List ℕ) → length words ≤ 2 ^ 20 → image_of (elf_of words) ≡ record { pieces = piece_of_words words ∷ []; symbols = [] }
+unfolding image_of elf_of number_at
+image words h = λ i. record { pieces = rising (one-piece words h i); symbols = [] }

@@ -14,7 +14,7 @@ use Rattle.rv_words.specs.declared.operation.Op.TheVariants.{Add as Addition}
 use Rattle.rv_words.specs.declared.comparison.Cmp.TheVariants.{Ne}
 use Rattle.rv_decode.specs.Encodes.{word_of, fields_of}
 use Rattle.rv_decode.proofs.JoinLemmas.{join_below}
-use Rattle.elf_image.specs.Image.{bytes_in, code_in, code_of_file, image_of, padded}
+use Rattle.elf_image.specs.Image.{bytes_in, code_in, code_of_file, memory_of_file, padded}
 use Rattle.code_gen.specs.Pieces.{Pieces, Done, Add, Mix, Choose, Repeat, drawn}
 use Rattle.code_gen.specs.Program.{counter, adding, mixing, counting, loop_end, code, instructions, program_of}
 use Rattle.code_gen.specs.Structure.{EachAt}
@@ -23,7 +23,7 @@ use Rattle.code_gen.proofs.Each.{Each, each-append}
 use Rattle.code_gen.proofs.CodeLemmas.{program-few}
 use Rattle.code_runs.specs.Files.{piece_of_words}
 use Rattle.code_gen.specs.Structure.{IsWordAt}
-use Rattle.code_runs.proofs.FileLemmas.{body-length, image}
+use Rattle.code_runs.proofs.FileLemmas.{body-length, one-piece}
 
 -- ---- words have 32 bits
 
@@ -127,18 +127,16 @@ stand number size m h holds =
     words-there m start 0 [] (instructions number size) refl (program-small number size) (omega (arith, program-few number size, h)) holds
 
 pub program-code : (number size : ℕ) → size ≤ 600 → EachAt (IsWordAt (code_of_file (elf_of (program_of number size))) start) 0 (instructions number size)
-unfolding image_of
 program-code number size h =
     let words : List ℕ = program_of number size in
-    subst (λ m. EachAt (IsWordAt m start) 0 (instructions number size)) (sym (λ i. code_in (image words (few-words number size h) i).pieces))
+    subst (λ m. EachAt (IsWordAt m start) 0 (instructions number size)) (sym (λ i. code_in (one-piece words (few-words number size h) i)))
     (stand number size (code_in (piece_of_words words ∷ [])) h (alone-holds (flat_map (little 4) words)))
 
-pub program-memory : (number size : ℕ) → size ≤ 600
-    → EachAt (IsWordAt (bytes_in (image_of (elf_of (program_of number size))).pieces) start) 0 (instructions number size)
+pub program-memory : (number size : ℕ) → size ≤ 600 → EachAt (IsWordAt (memory_of_file (elf_of (program_of number size))) start) 0 (instructions number size)
 program-memory number size h =
     let words : List ℕ = program_of number size in
     let holds : Holds (bytes_in (piece_of_words words ∷ [])) start (flat_map (little 4) words) =
     subst (λ bytes. Holds (over (bytes_from start bytes) (λ a. None)) start (flat_map (little 4) words)) (sym (padding words))
     (alone-holds (flat_map (little 4) words)) in
-    subst (λ m. EachAt (IsWordAt m start) 0 (instructions number size)) (sym (λ i. bytes_in (image words (few-words number size h) i).pieces))
+    subst (λ m. EachAt (IsWordAt m start) 0 (instructions number size)) (sym (λ i. bytes_in (one-piece words (few-words number size h) i)))
     (stand number size (bytes_in (piece_of_words words ∷ [])) h holds)

@@ -7,7 +7,7 @@ ghost use Rattle.code_gen.specs.Pieces.{Pieces};
 ghost use Rattle.code_gen.specs.Program.{code};
 ghost use Rattle.code_gen.specs.Structure.{AreShaped, EachAt, IsWordAt};
 ghost use Rattle.elf_image.specs.Fault.{IsReadable};
-ghost use Rattle.elf_image.specs.Image.{ImageOf, bytes_in, code_of_file, image_of};
+ghost use Rattle.elf_image.specs.Image.{ImageOf, code_of_file, image_of, memory_of_file};
 ghost use Rattle.code_gen.specs.ElfFile.{elf_of, start};
 ghost use Rattle.code_gen.specs.Program.{instructions, program_of};
 ghost use Rattle.code_runs.specs.Files.{piece_of_words};
@@ -36,5 +36,5 @@ pub fn law_of_program_files()
     ensures code { (number size : ℕ) → size ≤ 600
         → EachAt (IsWordAt (code_of_file (elf_of (program_of number size))) start) 0 (instructions number size) }
     ensures memory { (number size : ℕ) → size ≤ 600
-        → EachAt (IsWordAt (bytes_in (image_of (elf_of (program_of number size))).pieces) start) 0 (instructions number size) }
+        → EachAt (IsWordAt (memory_of_file (elf_of (program_of number size))) start) 0 (instructions number size) }
 {}

@@ -23,14 +23,14 @@ front a q xs ys b e = step (leb a q) e
     step true e = slice_get_front xs ys (q - a) b e
     step false e = absurd (none-some b e)
 
-within : (a q : ℕ) (xs : List ℕ) (b : ℕ) → bytes_from a xs q ≡ Some b → (a ≤ q) × (q < a + length xs)
+pub within : (a q : ℕ) (xs : List ℕ) (b : ℕ) → bytes_from a xs q ≡ Some b → (a ≤ q) × (q < a + length xs)
 within a q xs b e = step (leb a q) refl e
   where
     step : (t : Bool) → leb a q ≡ t → cond t (slice_get xs (q - a)) None ≡ Some b → (a ≤ q) × (q < a + length xs)
     step true h e = let le = leb-true a q h in (le, omega (arith, le, slice_get_within xs (q - a) b e))
     step false h e = absurd (none-some b e)
 
-in_piece : (p : Piece) (a b : ℕ) → IsPlaced p → bytes_from p.at (padded p) a ≡ Some b → (p.at ≤ a) × (a < p.at + p.size)
+pub in_piece : (p : Piece) (a b : ℕ) → IsPlaced p → bytes_from p.at (padded p) a ≡ Some b → (p.at ≤ a) × (a < p.at + p.size)
 in_piece p a b h e =
     let zeros : List ℕ = replicate (p.size - length p.from) 0 in
     let at = within p.at a (padded p) b e in

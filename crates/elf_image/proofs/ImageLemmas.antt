@@ -52,7 +52,7 @@ before_all P p (q ∷ qs) h k = step (nat_lt q.at p.at) p q qs h k (before_all P
     step false p q qs h k r = All-cons P p (q ∷ qs) h k
 
 -- R holds of each piece and each later one
-abbrev ByPairs : (Piece → Piece → Type 0) → List Piece → Type 0
+abbrev pub ByPairs : (Piece → Piece → Type 0) → List Piece → Type 0
 ByPairs R [] = Unit {0}
 ByPairs R (p ∷ ps) = All (R p) ps × ByPairs R ps
 
@@ -87,11 +87,11 @@ rising_rises ps = pairs Rises (rising ps) (all_rise ps)
 
 -- ---- pieces apart
 
-rising_all : (P : Piece → Type 0) (ps : List Piece) → All P ps → All P (rising ps)
+pub rising_all : (P : Piece → Type 0) (ps : List Piece) → All P ps → All P (rising ps)
 rising_all P [] h = h
 rising_all P (p ∷ ps) h = before_all P p (rising ps) (All-head P p ps h) (rising_all P ps (All-tail P p ps h))
 
-apart_sym : (p q : Piece) → IsApart p q → IsApart q p
+pub apart_sym : (p q : Piece) → IsApart p q → IsApart q p
 apart_sym p q h = omega arith
 
 before_apart : (p : Piece) (ps : List Piece) → All (IsApart p) ps → ByPairs IsApart ps → ByPairs IsApart (before p ps)

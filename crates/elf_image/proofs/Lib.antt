@@ -5,3 +5,4 @@ pub mod ValueLemmas
 pub mod FaultLemmas
 pub mod ImageLemmas
 pub mod CodeLemmas
+pub mod OrderLemmas

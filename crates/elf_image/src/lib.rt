@@ -5,6 +5,7 @@ mod checks;
 mod fault;
 mod header;
 mod image;
+mod laws;
 mod reader;
 mod section;
 mod section_checks;
@@ -12,6 +13,7 @@ mod symbol;
 
 pub use fault::ElfFault;
 pub use image::{Image, Piece};
+pub use laws::law_of_image;
 pub use reader::read;
 pub use symbol::NameFault;
 
