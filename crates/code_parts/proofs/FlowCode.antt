@@ -29,7 +29,8 @@ use Rattle.flow_graph.proofs.FlowLemmas.{is_flow}
 use Rattle.flow_graph.proofs.Standing.{graph_stands, through_return}
 use Rattle.loop_forest.specs.Forest.{ForestOf, IsForestOf}
 use Rattle.code_parts.specs.declared.part.Part.{Part}
-use Rattle.code_parts.specs.Graph.{IsCode, StandsAt, has_edge, is_return, RiseFrom}
+use Rattle.sep_assert.specs.Registers.{AreRegistersFrom}
+use Rattle.code_parts.specs.Graph.{IsCode, StandsAt, has_edge, is_return}
 use Rattle.code_parts.specs.Flows.{HaveCode, edge_number, flow_of, registers_of}
 use Rattle.code_parts.proofs.Lists.{in-true}
 use Rattle.code_parts.proofs.Registers.{filter-has, filter-rise, or_left, or_right}
@@ -162,7 +163,7 @@ unfolding registers_where
 registered instrs n r d lt own some low =
     filter-has (λ q. list_any (λ i. is_own i q) instrs) 1 31 r (above-zero r some) (omega (arith, low)) (any-at (λ i. is_own i r) instrs n d lt own)
 
-pub registers-rise : (instrs : List Instr) → RiseFrom 1 (registers_of instrs)
+pub registers-rise : (instrs : List Instr) → AreRegistersFrom 1 (registers_of instrs)
 unfolding registers_where
 registers-rise instrs = filter-rise (λ r. list_any (λ i. is_own i r) instrs) 1 31 (omega arith)
 

@@ -2,7 +2,7 @@
 use Rattle.std.proofs.Common.{◌≡◌, ℕ, zero, suc, ◌+◌, ◌<◌, ◌≤◌, List, [], ◌∷◌, ◌++◌, map, length, Bool, true, false, cond, eqb, refl, sym, ap, subst, arith, Some, eqb-true, eq-eqb, ne_eqb, Contains, ◌||◌, Option, None}
 use Rattle.std.specs.Prelude.{slice_get, option_map}
 use Rattle.std.specs.List.{list_any}
-use Rattle.code_parts.specs.Graph.{RiseFrom}
+use Rattle.sep_assert.specs.Registers.{AreRegistersFrom}
 use Rattle.code_parts.specs.Bodies.{index_of}
 
 -- ---- lists
@@ -33,12 +33,12 @@ slice-there (x ∷ xs) (suc k) lt = slice-there xs k (omega (arith, lt))
 
 -- ---- registers rise
 
-pub in_range : (least : ℕ) (rs : List ℕ) (r : ℕ) → RiseFrom least rs → Contains rs r → (least ≤ r) × (r ≤ 31)
+pub in_range : (least : ℕ) (rs : List ℕ) (r : ℕ) → AreRegistersFrom least rs → Contains rs r → (least ≤ r) × (r ≤ 31)
 in_range least [] r rise c = absurd (omega (arith, c.1))
 in_range least (q ∷ rs) r rise (zero, lt, at) = let same : q ≡ r = at in (subst (λ x. least ≤ x) same rise.0, subst (λ x. x ≤ 31) same rise.1)
 in_range least (q ∷ rs) r rise (suc k, lt, at) = let rest = in_range (q + 1) rs r rise.2 (k, omega (arith, lt), at) in (omega (arith, rest.0, rise.0), rest.1)
 
-pub rising-short : (least : ℕ) (rs : List ℕ) → least ≤ 32 → RiseFrom least rs → length rs + least ≤ 32
+pub rising-short : (least : ℕ) (rs : List ℕ) → least ≤ 32 → AreRegistersFrom least rs → length rs + least ≤ 32
 rising-short least [] le h = omega (arith, le)
 rising-short least (r ∷ rs) le h =
     let low = h.0 in

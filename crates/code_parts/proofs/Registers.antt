@@ -2,18 +2,18 @@
 use Rattle.std.proofs.Common.{◌≡◌, ℕ, zero, suc, ◌+◌, ◌<◌, ◌≤◌, List, [], ◌∷◌, filter, Bool, true, false, cond, eqb, ◌||◌, refl, sym, ap, ◌∙◌, subst, arith, Contains, eqb-true}
 use Rattle.std.proofs.lemmas.Bool.{eqb-false}
 use Rattle.std.specs.List.{range_with_len}
-use Rattle.code_parts.specs.Graph.{RiseFrom}
+use Rattle.sep_assert.specs.Registers.{AreRegistersFrom}
 use Rattle.code_parts.proofs.Lists.{later}
 
-pub filter-rise : (p : ℕ → Bool) (a n : ℕ) → a + n ≤ 32 → RiseFrom a (filter p (range_with_len a n))
+pub filter-rise : (p : ℕ → Bool) (a n : ℕ) → a + n ≤ 32 → AreRegistersFrom a (filter p (range_with_len a n))
 filter-rise p a zero le = tt
 filter-rise p a (suc n) le = go (p a) (filter-rise p (a + 1) n (omega arith))
   where
-    up : (b c : ℕ) (xs : List ℕ) → b ≤ c → RiseFrom c xs → RiseFrom b xs
+    up : (b c : ℕ) (xs : List ℕ) → b ≤ c → AreRegistersFrom c xs → AreRegistersFrom b xs
     up b c [] low h = tt
     up b c (x ∷ xs) low h = (omega (arith, h.0, low), h.1, h.2)
 
-    go : (b : Bool) → RiseFrom (a + 1) (filter p (range_with_len (a + 1) n)) → RiseFrom a (cond b (a ∷ filter p (range_with_len (a + 1) n)) (filter p (range_with_len (a + 1) n)))
+    go : (b : Bool) → AreRegistersFrom (a + 1) (filter p (range_with_len (a + 1) n)) → AreRegistersFrom a (cond b (a ∷ filter p (range_with_len (a + 1) n)) (filter p (range_with_len (a + 1) n)))
     go true h = (omega arith, omega arith, h)
     go false h = up a (a + 1) (filter p (range_with_len (a + 1) n)) (omega arith) h
 

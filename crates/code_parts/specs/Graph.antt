@@ -9,6 +9,7 @@ use Rattle.word_terms.specs.Tree.{Const}
 use Rattle.rv_words.specs.declared.range.Range.{Range}
 use Rattle.rv_words.specs.Ranges.{range_bytes}
 use Rattle.sep_assert.specs.Code.{IsWithin}
+use Rattle.sep_assert.specs.Registers.{AreRegistersFrom}
 use Rattle.tailrec_lang.specs.Tree.{BodyTree, Do, Branch, Call, Again, Leave, ArmTrees, NoArm, Arm, DefTree, GroupTree}
 use Rattle.triple_kernel.specs.declared.form.Form.{Form}
 use Rattle.triple_kernel.specs.declared.form.Form.TheVariants.{Next, Taken}
@@ -72,16 +73,11 @@ pub record StandsAt (f : Flow) (code : List Range) (word n : ℕ) : Type 0 where
   pub goes : (form : Form) (v : Names) → has_edge (f.instr n) form ≡ true → pc_after (f.instr n) form (f.addr n) v ≡ Const (f.addr (f.to n form))
   pub return_is : is_return (f.instr n) ≡ true → f.instr n ≡ instr.Jalr 0 1 (pos 0)
 
--- registers from `least` on, rising
-abbrev pub RiseFrom : ℕ → List ℕ → Type 0
-RiseFrom least [] = Unit {0}
-RiseFrom least (r ∷ rs) = (least ≤ r) × (r ≤ 31) × RiseFrom (r + 1) rs
-
 -- each instruction of the graph stands in the code, and its registers rise
 pub record IsCode (f : Flow) (code : List Range) : Type 0 where
   pub word : ℕ → ℕ
   pub each : (n : ℕ) → n < f.nodes → StandsAt f code (word n) n
-  pub registers : RiseFrom 1 f.regs
+  pub registers : AreRegistersFrom 1 f.regs
 
 -- the group has the definition of a part under its number, as far as a call of it tells: where it is entered and its exits
 pub record HasPart (f : Flow) (g : GroupTree) (q : Part) : Type 0 where

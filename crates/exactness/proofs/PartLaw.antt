@@ -12,7 +12,8 @@ use Rattle.code_parts.specs.Bodies.{Flow, Place, Action, Straight, Fork, Return,
 use Rattle.exactness.proofs.Returns.{Comes}
 use Rattle.exactness.proofs.Places.{Stands, stands-fresh, stands-start, returned-values}
 use Rattle.exactness.proofs.BodyLemmas.{after_steps, AllHold, needs_passed, ending-steps, arm-over, is-found, found-at, contains-at}
-use Rattle.code_parts.specs.Graph.{IsPart, IsPlaced, IsGraph, RiseFrom}
+use Rattle.sep_assert.specs.Registers.{AreRegistersFrom}
+use Rattle.code_parts.specs.Graph.{IsPart, IsPlaced, IsGraph}
 use Rattle.code_parts.proofs.Edges.{Leads, end-some, leads-edge}
 use Rattle.exactness.proofs.Graphs.{return-row}
 
@@ -62,7 +63,7 @@ module _ (f : Flow) (State : Type 0) (pc : State → ℕ) (args : State → Argu
   abbrev pub Leaves : Part → ℕ → State → Ending → Type 0
   Leaves p k t o = LeavesIn p t o ⊎ LeavesAt p k t o
 
-module _ (f : Flow) (graph : IsGraph f) (rise : RiseFrom 1 f.regs)
+module _ (f : Flow) (graph : IsGraph f) (rise : AreRegistersFrom 1 f.regs)
     (State : Type 0) (pc : State → ℕ) (args : State → Arguments) (Returns : State → Type 0) (Good : State → Type 0) (Steps : State → State → Type 0)
     (long : (s : State) → (length (args s).words ≡ length f.regs) × (length (args s).mems ≡ mem_count f))
     (done : (n : ℕ) (v : Place) (e : Environment) (s u : State) → n < f.nodes → Good s → pc s ≡ f.addr n → Stands f v e (args s) → Steps s u

@@ -5,7 +5,7 @@ use Rattle.std.specs.List.{position_or_len, range_with_len}
 use Rattle.word_terms.specs.Tree.{Var, MemVar}
 use Rattle.word_terms.specs.Environment.{Environment, no_variables}
 use Rattle.tailrec_lang.specs.Eval.{Arguments, arguments_of, with_arguments}
-use Rattle.code_parts.specs.Graph.{RiseFrom}
+use Rattle.sep_assert.specs.Registers.{AreRegistersFrom}
 use Rattle.instr_axioms.specs.Axiom.{memory_if}
 use Rattle.code_parts.specs.Bodies.{Flow, Place, mem_count, fresh, start, current, with_pc}
 use Rattle.loop_rule.specs.Leaves.{variables_after}
@@ -29,13 +29,13 @@ differs a b ne = by (eqb a b) refl
     by true e = absurd (ne (eqb-true a b e))
     by false e = refl
 
-pub contains-least : (least : ℕ) (rs : List ℕ) → RiseFrom least rs → (r : ℕ) → Contains rs r → least ≤ r
+pub contains-least : (least : ℕ) (rs : List ℕ) → AreRegistersFrom least rs → (r : ℕ) → Contains rs r → least ≤ r
 contains-least least [] are r (k, l, e) = absurd (omega arith)
 contains-least least (x ∷ rs) are r (zero, l, e) = let q : x ≡ r = e in omega (arith, are.0)
 contains-least least (x ∷ rs) are r (suc k, l, e) = omega (arith, contains-least (x + 1) rs are.2 r (k, omega arith, e), are.0)
 
 -- the variables of rising registers, by their places, are the next ones
-by-places : (t : ℕ → ℕ) (w least : ℕ) (rs : List ℕ) → RiseFrom least rs → ((r : ℕ) → Contains rs r → t r ≡ w + position_or_len (λ q. q == r) rs)
+by-places : (t : ℕ → ℕ) (w least : ℕ) (rs : List ℕ) → AreRegistersFrom least rs → ((r : ℕ) → Contains rs r → t r ≡ w + position_or_len (λ q. q == r) rs)
     → map (λ r. Var (t r)) rs ≡ map Var (range_with_len w (length rs))
 by-places t w least [] are at = refl
 by-places t w least (x ∷ rs) are at =
@@ -56,7 +56,7 @@ by-count : (b : Bool) (q : ℕ) → memory_if b (MemVar q) ≡ map MemVar (range
 by-count true q = refl
 by-count false q = refl
 
-module _ (f : Flow) (rise : RiseFrom 1 f.regs) where
+module _ (f : Flow) (rise : AreRegistersFrom 1 f.regs) where
   pub current-fresh : (w q : ℕ) → current f (fresh f w q) ≡ variables_after w q (length f.regs) (mem_count f)
   current-fresh w q = λ i. record {
     words = by-places (λ r. w + position_or_len (λ k. k == r) f.regs) w 1 f.regs rise (λ r c. refl) i;

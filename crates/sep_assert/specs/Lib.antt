@@ -1,4 +1,5 @@
 pub mod Tree
 pub mod Code
+pub mod Registers
 pub mod Part
 pub mod inner
