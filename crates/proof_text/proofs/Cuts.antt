@@ -5,7 +5,7 @@ use Rattle.std.specs.Str.{bytes_eq}
 use Rattle.std.proofs.lemmas.List.{append-nil}
 use Rattle.std.proofs.lemmas.Bool.{eqb-true}
 use Rattle.std.proofs.lemmas.Slice.Eq.{bytes_eq-Decides}
-use Rattle.mc_text.specs.Tokens.{Tok, Left, Right, Semi, Atom, Eol, Done, Stuck, Stands}
+use Rattle.mc_text.specs.Tokens.{Tok, Left, Right, Semi, Atom, Eol, Done, Stuck, IsAtom, HasNoAtomByte, Stands}
 use Rattle.mc_text.specs.declared.token.Before.TheVariants.{Start}
 use Rattle.mc_text.specs.Scanning.{lex, At}
 use Rattle.mc_text.specs.Fault.{first_lines, newlines}
@@ -129,9 +129,9 @@ pub some-line : (bytes : List ℕ) → AreLines bytes → 1 ≤ length bytes →
 some-line [] h le k = omega (arith, le)
 some-line (b ∷ bs) h le k = line-there b bs (eqb b 10) refl h (some-line bs) k
 
-stands-longer : (bytes tail a : List ℕ) (rest : List ℕ) → 1 ≤ length rest → Stands Start bytes (Atom a) rest → Stands Start (bytes ++ tail) (Atom a) (rest ++ tail)
-stands-longer bytes tail a [] le s = absurd (omega (arith, le))
-stands-longer bytes tail a (b ∷ rest) le s = record { spelled = ap (λ (v : List ℕ). v ++ tail) s.spelled ∙ append_assoc a (b ∷ rest) tail; may = s.may }
+stays-apart : (rest tail : List ℕ) → 1 ≤ length rest → HasNoAtomByte rest → HasNoAtomByte (rest ++ tail)
+stays-apart [] tail le h = absurd (omega (arith, le))
+stays-apart (b ∷ rest) tail le h = h
 
 name-behind : (k bytes rest : List ℕ) → (AreLines k → ⊥) → bytes ≡ k ++ rest → AreLines bytes → 1 ≤ length rest
 name-behind k bytes [] not e h = absurd (not (subst AreLines (e ∙ append-nil k) h))
@@ -142,12 +142,12 @@ pub word-follows : (k bytes tail : List ℕ) (us : List Tok) → 1 ≤ length k 
 word-follows k bytes tail us some not h none e =
     let s = atom-stands bytes k us e in
     let more = name-behind k bytes s.0 not s.1.spelled h in
-    let long : length bytes ≡ length (k ++ s.0) = ap length s.1.spelled in
-    record {
-      whole = λ n. some-line bytes h (omega (arith, some, long, length-append k s.0)) (sym (first-before 1 bytes tail none) ∙ n);
-      others = s.0 ++ tail;
-      word = stands-longer bytes tail k s.0 more s.1;
-    }
+    let long : length bytes ≡ length (k ++ s.0) = ap length s.1.spelled in (
+      λ n. some-line bytes h (omega (arith, some, long, length-append k s.0)) (sym (first-before 1 bytes tail none) ∙ n),
+      s.0 ++ tail,
+      ap (λ (v : List ℕ). v ++ tail) s.1.spelled ∙ append_assoc k s.0 tail,
+      stays-apart s.0 tail more s.1.may.1,
+    )
 
 -- a word that doesn't end in a newline
 not-lines : (b c : ℕ) (k : List ℕ) → eqb c 10 ≡ false → AreLines ((b ∷ k) ++ c ∷ []) → ⊥
@@ -227,17 +227,23 @@ line-word k bytes tail (Some l) os none e some read =
     let same = same-line bytes f.0 l (At Start) e in
     same-first (lex bytes (At Start)) (Atom k) os (subst (λ (v : List Tok). SameLine (lex bytes (At Start)) v) (ap (λ (v : List ℕ). lex v (At Start)) (sym f.1) ∙ read) same)
 
+pub follows-stands : (k rest : List ℕ) → IsAtom k → (d : Follows k rest) → Stands Start rest (Atom k) d.1
+follows-stands k rest atom d = record { spelled = d.2; may = (atom, d.3) }
+
 -- and a word is read first where it follows
-pub follows-word : (k bytes tail : List ℕ) → newlines tail ≡ 0 → Follows k (bytes ++ tail) → (us : List Tok) × (lex bytes (At Start) ≡ Atom k ∷ us)
-follows-word k bytes tail none d =
-    line-word k bytes tail (first_lines 1 bytes) _ none refl (λ n. d.whole (first-before 1 bytes tail none ∙ n)) (stands-lex Start (bytes ++ tail) (Atom k) d.others (λ n. cc) d.word)
+pub follows-word : (k bytes tail : List ℕ) → IsAtom k → newlines tail ≡ 0 → Follows k (bytes ++ tail) → (us : List Tok) × (lex bytes (At Start) ≡ Atom k ∷ us)
+follows-word k bytes tail atom none d =
+    line-word k bytes tail (first_lines 1 bytes) _ none refl (λ n. d.0 (first-before 1 bytes tail none ∙ n)) (stands-lex Start (bytes ++ tail) (Atom k) d.1 (λ n. cc) (follows-stands k (bytes ++ tail) atom d))
+
+pub def-atom : IsAtom (codes "def")
+def-atom = (refl, (refl, (refl, tt)))
 
 pub follows-def : (bytes tail : List ℕ) → newlines tail ≡ 0 → Follows (codes "def") (bytes ++ tail) → goes_on is_def (lex bytes (At Start)) ≡ true
-follows-def bytes tail none d = ap (goes_on is_def) (follows-word (codes "def") bytes tail none d).1
+follows-def bytes tail none d = ap (goes_on is_def) (follows-word (codes "def") bytes tail def-atom none d).1
 
 pub follow-ends : (bytes tail : List ℕ) → newlines tail ≡ 0 → ProofEnds (bytes ++ tail) → goes_on ends_proof (lex bytes (At Start)) ≡ true
-follow-ends bytes tail none (inl d) = ap (goes_on ends_proof) (follows-word (codes "group") bytes tail none d).1
-follow-ends bytes tail none (inr d) = ap (goes_on ends_proof) (follows-word (codes "end") bytes tail none d).1
+follow-ends bytes tail none (inl d) = ap (goes_on ends_proof) (follows-word (codes "group") bytes tail (refl, (refl, (refl, (refl, (refl, tt))))) none d).1
+follow-ends bytes tail none (inr d) = ap (goes_on ends_proof) (follows-word (codes "end") bytes tail (refl, (refl, (refl, tt))) none d).1
 
 -- ---- loops over bytes
 

@@ -24,7 +24,7 @@ use Rattle.proof_text.specs.Line.{LineTree, ProofTree}
 use Rattle.proof_text.specs.LineLimits.{IsLine}
 use Rattle.proof_text.specs.Spelling.{def_tokens, group_tokens, head_tokens, end_tokens}
 use Rattle.proof_text.specs.LineSpelling.{line_tokens}
-use Rattle.proof_text.specs.Proofs.{AreProofs, text_of_proofs, proof_tokens}
+use Rattle.proof_text.specs.Proofs.{AreProofs, bare, text_of_proofs, proof_tokens}
 use Rattle.proof_text.specs.FirstProofs.{Progress, ItemTree, Opens, Adds, items, passed, Follows, HasGiven, AreRead, BeginsWithItems}
 use Rattle.proof_text.specs.inner.Reading.{def_at, is_def, head_at, group_of}
 use Rattle.proof_text.specs.inner.LineReading.{line_at, begins_line}
@@ -34,6 +34,7 @@ use Rattle.proof_text.proofs.LineLaws.{line-law}
 use Rattle.proof_text.proofs.LineTokens.{proofs-tokens}
 use Rattle.proof_text.proofs.ProofTexts.{no-def, line-begins, some-line, proofs_tokens, proof-text-law}
 use Rattle.proof_text.proofs.Real.{spell-long}
+use Rattle.proof_text.proofs.Cuts.{follows-stands, def-atom}
 use Rattle.proof_text.proofs.TextItems.{item_tokens, items_tokens, code_behind, last_code, AreItems, proofs-items, items-fit, items-fewer, starts-fewer, tokens-behind, items-whole, items-real}
 use Rattle.proof_text.proofs.Passed.{front_tokens, front-lines, front-real}
 use Rattle.proof_text.proofs.Given.{Given, passed_items, given-items, items-given}
@@ -161,7 +162,7 @@ ended-stops rest h = by-first (lex rest (At Start)) refl
   where
     by-lines : (us : List Tok) → lex rest (At Start) ≡ Atom (codes "def") ∷ us → (o : Option (List ℕ)) → first_lines 1 rest ≡ o → IsStop (Atom (codes "def") ∷ us)
     by-lines us e None none = inr (ap eols (sym e) ∙ no-eols rest (At Start) none)
-    by-lines us e (Some l) some = let s = atom-stands rest (codes "def") us e in absurd (h (record { whole = λ none. clash l (sym some ∙ none); others = s.0; word = s.1 }))
+    by-lines us e (Some l) some = let s = atom-stands rest (codes "def") us e in absurd (h (λ none. clash l (sym some ∙ none), s.0, s.1.spelled, s.1.may.1))
       where
         clash : (l : List ℕ) → ◌≡◌ {A = Option (List ℕ)} (Some l) None → ⊥
         clash l e = cc
@@ -255,7 +256,7 @@ text-front p ps qs are is read = items-front ps (items qs) _ are is (given-items
 no-def-first : (own : List Range) (i : ItemTree) (is : List ItemTree) (rest : List ℕ) → AreItems (i ∷ is) → Follows (codes "def") (spell Start (items_tokens own (i ∷ is)) ++ rest) → ⊥
 no-def-first own i is rest h d =
     let ts = items_tokens own (i ∷ is) in
-    let read : Atom (codes "def") ∷ _ ≡ ts ++ lex rest (At Start) = sym (stands-lex Start (spell Start ts ++ rest) (Atom (codes "def")) d.others (λ n. cc) d.word) ∙ front-lex ts rest (items-whole own (i ∷ is)) (items-real own (i ∷ is) h) in
+    let read : Atom (codes "def") ∷ _ ≡ ts ++ lex rest (At Start) = sym (stands-lex Start (spell Start ts ++ rest) (Atom (codes "def")) d.1 (λ n. cc) (follows-stands (codes "def") (spell Start ts ++ rest) def-atom d)) ∙ front-lex ts rest (items-whole own (i ∷ is)) (items-real own (i ∷ is) h) in
     true≢false (ap (goes_on is_def) read ∙ ap (goes_on is_def) (parted own i is (lex rest (At Start))) ∙ first-word i (items_tokens (code_behind own i) is ++ lex rest (At Start)))
   where
     first-word : (i : ItemTree) (us : List Tok) → goes_on is_def (item_tokens own i ++ us) ≡ false
@@ -287,11 +288,11 @@ fewer-given i is js r h =
     by (j ∷ js) f ended before g e d = no-def-first (last_code [] (i ∷ is)) j js r.rest f d
 
 nothing-given : (text : List ℕ) → HasGiven [] (record { text = text; rest = text; place = 0 })
-nothing-given text = record { fit = tt; text = refl; place = refl; ended = λ before g e d. no-item before g e }
+nothing-given text = record { fit = tt; text = refl; place = refl; ended = λ before g e d. no-proof before g e }
   where
-    no-item : (before : List ItemTree) (g : GroupTree) → [] ≡ before ++ Opens g ∷ [] → ⊥
-    no-item [] g e = cc
-    no-item (i ∷ before) g e = cc
+    no-proof : (before : List ProofTree) (g : GroupTree) → [] ≡ before ++ bare g ∷ [] → ⊥
+    no-proof [] g e = cc
+    no-proof (p ∷ before) g e = cc
 
 pub front-read : (p : List ℕ) (ps qs : List ProofTree) → AreRead p ps → BeginsWithItems ps qs → AreRead p qs
 front-read p ps [] h b = given-read [] _ (nothing-given p)

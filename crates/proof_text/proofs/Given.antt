@@ -24,7 +24,7 @@ use Rattle.proof_text.proofs.LineTokens.{proofs-tokens}
 use Rattle.proof_text.proofs.ProofTexts.{proofs_tokens, proof-text-law}
 use Rattle.proof_text.proofs.Real.{few-needs, spell-long}
 use Rattle.proof_text.proofs.Cuts.{dropped, lines-behind, newlines-short, within, def-follows, follows-def}
-use Rattle.proof_text.proofs.TextItems.{items_tokens, IsItem, AreItems, StartsOpen, proofs-items, items-fit, fit-items, items-start, items-more, last-once}
+use Rattle.proof_text.proofs.TextItems.{items_tokens, IsItem, AreItems, StartsOpen, proofs-items, items-fit, fit-items, items-start, items-opened, items-more, last-once, last-bare}
 use Rattle.proof_text.proofs.Passed.{front_tokens, is_first, Quiet, group_turn, turn_tokens, front-lines, front-real, turn-lines, turn-real, front-more}
 
 -- ---- items that were given
@@ -49,7 +49,7 @@ given-items ps r h = record {
   start = items-start ps;
   text = h.text ∙ ap (λ (v : List ℕ). v ++ r.rest) (passed-is ps);
   place = h.place ∙ ap newlines (passed-is ps);
-  ended = h.ended;
+  ended = λ before g e. let k = last-bare ps before g e in h.ended k.0 g k.1;
 }
 
 pub items-given : (ps : List ProofTree) (r : Progress) → Given (items ps) r → HasGiven ps r
@@ -57,7 +57,7 @@ items-given ps r h = record {
   fit = fit-items ps h.fit;
   text = h.text ∙ ap (λ (v : List ℕ). v ++ r.rest) (sym (passed-is ps));
   place = h.place ∙ ap newlines (sym (passed-is ps));
-  ended = h.ended;
+  ended = λ before g e. h.ended (items before) g (ap items e ∙ items-opened before g);
 }
 
 passed-count : (is : List ItemTree) → AreItems is → newlines (passed_items is) ≡ eols (front_tokens is)

@@ -13,15 +13,10 @@ use Rattle.proof_text.specs.declared.stop.Halt.{Halt}
 use Rattle.proof_text.specs.declared.stop.Halt.TheVariants as stop
 use Rattle.proof_text.specs.declared.stop.Lost.{Lost}
 use Rattle.proof_text.specs.declared.stop.Lost.TheVariants as lost
-use Rattle.proof_text.specs.inner.Rows.{lost_halt, Spot, Spots, tokens, total, IsRow, Passed, Holds, RowGives, in_row, ReadOk, ReadBad, RowsGive, Way}
+use Rattle.proof_text.specs.inner.Rows.{lost_halt, Spot, Spots, tokens, total, IsRow, Passed, Holds, in_row, ReadOk, ReadBad, RowsGive, Way}
+use Rattle.proof_text.specs.inner.RowReader.{ReadAs, ReadsRows}
 use Rattle.proof_text.proofs.RowAt.{way-same, way-more, way-row}
-use Rattle.proof_text.proofs.RowLaws.{Row, row-ok, row-bad, row-none, row-goes-on, none-goes-on}
-
--- what a scanner over a row finds
-pub in-row : {X Y : Type 0} (view : X → Y) (result : Result X RowStop) (row : List ℕ) (old new : Place) (r : Reader Y) → old ≡ record { before = Start; rest = row; line = 1 } → Gives view result old new r → RowGives view result row r
-in-row view (Ok x) row old new r e h = (tokens_at new, ap (λ (p : Place). r (tokens_at p)) (sym e) ∙ h)
-in-row view (Err row_stop.Bad) row old new r e h = (tokens_at new, ap (λ (p : Place). r (tokens_at p)) (sym e) ∙ h)
-in-row view (Err row_stop.NoMemory) row old new r e h = tt
+use Rattle.proof_text.proofs.RowLaws.{row-ok, row-bad, row-none, row-goes-on}
 
 abbrev pub Kept : Spots → Spots → Type 0
 Kept old new = (p : Spot) → new p → old p
@@ -34,7 +29,7 @@ AllBad r old new = (q : Spot) → new q → ReadBad r old q
 
 -- ---- one row
 
-module _ {Y : Type 0} (r : Reader Y) (law : Row r) (old held : Spots) (kept : Kept old held) where
+module _ {Y : Type 0} (r : Reader Y) (law : ReadsRows r) (old held : Spots) (kept : Kept old held) where
   pub took-row : (new : Spots) (row : List ℕ) (y : Y) (rest : List Tok) → IsRow row → ((q : Spot) → new q → (p : Spot) × held p × Passed row p q) → r (lex row (At Start)) ≡ Ok (y, rest) → AllOk r y old new
   took-row new row y rest is passed e q may =
       let h = passed q may in
@@ -57,24 +52,33 @@ module _ {Y : Type 0} (r : Reader Y) (law : Row r) (old held : Spots) (kept : Ke
       let same : tokens q ≡ Done ∷ [] = ap (λ (b : List ℕ). lex b (At Start)) (h q may) in
       record { spot = q; may = kept q may; bad = k.0; is = ap r same ∙ k.1; row = k.2 ∙ sym (ap eols same); total = refl }
 
-pub none-held : {X Y : Type 0} (view : X → Y) (r : Reader Y) → Row r → (old held : Spots) (row : List ℕ) (b : Bool) → Kept old held → Holds b row held → b ≡ false → RowsGive view (Err stop.Bad) old held r
-none-held view r law old held row b kept h e = no-row r law old held kept row (subst (λ (b : Bool). Holds b row held) e h)
+-- a scanner that stands before these bytes
+abbrev pub Over : List ℕ → Place → Type 0
+Over row scan = scan ≡ record { before = Start; rest = row; line = 1 }
 
-pub stopped-row : {X Y Z : Type 0} (view : X → Y) (all : Z → Y) (r : Reader Y) → Row r → (old held : Spots) (row bytes : List ℕ) (e : RowStop) (f : Halt) (b : Bool) → Kept old held → Holds b row held → b ≡ true → bytes ≡ row
-    → f ≡ in_row e → RowGives view (Err e) bytes r → RowsGive all (Err f) old held r
-stopped-row view all r law old held row bytes e f b kept h told same is g =
-    subst (λ (f : Halt). RowsGive all (Err f) old held r) (sym is) (by e (subst (λ (w : List ℕ). RowGives view (Err e) w r) same g))
-  where
-    by : (e : RowStop) → RowGives view (Err e) row r → RowsGive all (Err (in_row e)) old held r
-    by row_stop.Bad g = bad-row r law old held kept row g.0 (subst (λ (b : Bool). Holds b row held) told h) g.1
-    by row_stop.NoMemory g = tt
+over-row : {Y : Type 0} (r : Reader Y) (row bytes : List ℕ) (scan : Place) → bytes ≡ row → Over bytes scan → r (lex row (At Start)) ≡ r (tokens_at scan)
+over-row r row bytes scan same over = ap (λ (w : List ℕ). r (lex w (At Start))) (sym same) ∙ ap (λ (p : Place). r (tokens_at p)) (sym over)
 
-pub passed-row : {X Y : Type 0} (view : X → Y) (r : Reader Y) → Row r → (old held new : Spots) (row bytes : List ℕ) (x : X) (b : Bool) → Kept old held → Holds b row held → b ≡ true → bytes ≡ row
-    → ((q : Spot) → new q → (p : Spot) × held p × Passed row p q) → RowGives view (Ok x) bytes r → RowsGive view (Ok x) old new r
-passed-row view r law old held new row bytes x b kept h told same passed g =
-    let k : Holds true row held = subst (λ (b : Bool). Holds b row held) told h in
-    let g : RowGives view (Ok x) row r = subst (λ (w : List ℕ). RowGives view (Ok x) w r) same g in
-    took-row r law old held kept new row (view x) g.0 k.0 passed g.1
+module _ {X : Type 0} (w : ReadAs X) (law : ReadsRows w.reader) (old held : Spots) (row : List ℕ) (b : Bool) (kept : Kept old held) (h : Holds b row held) where
+  pub none-held : b ≡ false → RowsGive w.view (Err stop.Bad) old held w.reader
+  none-held e = no-row w.reader law old held kept row (subst (λ (b : Bool). Holds b row held) e h)
+
+  module _ (told : b ≡ true) (bytes : List ℕ) (same : bytes ≡ row) (scan after : Place) (over : Over bytes scan) where
+    pub stopped-row : (e : RowStop) (result : Result X Halt) → IsErrAnd result (λ f. f ≡ in_row e) → Gives w.view (Err e) scan after w.reader → RowsGive w.view result old held w.reader
+    stopped-row e (Ok x) is g = absurd is
+    stopped-row e (Err f) is g = subst (λ (f : Halt). RowsGive w.view (err f) old held w.reader) (sym is) (by e g)
+      where
+        err : Halt → Result X Halt
+        err f = Err f
+
+        by : (e : RowStop) → Gives w.view (Err e) scan after w.reader → RowsGive w.view (err (in_row e)) old held w.reader
+        by row_stop.Bad g = bad-row w.reader law old held kept row (tokens_at after) (subst (λ (b : Bool). Holds b row held) told h) (over-row w.reader row bytes scan same over ∙ g)
+        by row_stop.NoMemory g = tt
+
+    pub passed-row : (new : Spots) (x : X) → ((q : Spot) → new q → (p : Spot) × held p × Passed row p q) → Gives w.view (Ok x) scan after w.reader → RowsGive w.view (Ok x) old new w.reader
+    passed-row new x passed g =
+        let k : Holds true row held = subst (λ (b : Bool). Holds b row held) told h in
+        took-row w.reader law old held kept new row (w.view x) (tokens_at after) k.0 passed (over-row w.reader row bytes scan same over ∙ g)
 
 -- where the rows could not be held
 pub lost-row : {X Y : Type 0} (view : X → Y) (r : Reader Y) (e : Lost) (result : Result X Halt) (old new : Spots) → IsErrAnd result (λ f. f ≡ lost_halt e) → RowsGive view result old new r
@@ -171,14 +175,14 @@ so-more view r s x old mid held new now next so kept step g q may =
     let k = so h.spot (kept h.spot h.may) in
     record { spot = k.spot; may = k.may; is = step h.spot h.may (tokens q) (s (tokens k.spot)) h.is k.is; way = way-more k.spot h.spot q k.way h.way; total = k.total ∙ h.total }
 
--- whether a row follows that begins so
-pub none-begins : (go : Tok → Bool) (row : List ℕ) (may : Spots) (b : Bool) → Holds b row may → b ≡ false → go Done ≡ false → (p : Spot) → may p → false ≡ goes_on go (tokens p)
-none-begins go row may b h e quiet p k =
+-- how the next row begins, or nothing where none follows
+pub none-begins : (go : Tok → Bool) (row : List ℕ) (scan : Place) (may : Spots) (b c : Bool) → Holds b row may → b ≡ false → Over [] scan → c ≡ goes_on go (tokens_at scan) → (p : Spot) → may p → c ≡ goes_on go (tokens p)
+none-begins go row scan may b c h e over is p k =
     let h : Holds false row may = subst (λ (b : Bool). Holds b row may) e h in
-    sym (ap (λ (w : List ℕ). goes_on go (lex w (At Start))) (h p k) ∙ none-goes-on go quiet)
+    is ∙ ap (λ (s : Place). goes_on go (tokens_at s)) over ∙ ap (λ (w : List ℕ). goes_on go (lex w (At Start))) (sym (h p k))
 
-pub row-begins : (go : Tok → Bool) (row bytes : List ℕ) (may : Spots) (b c : Bool) → Holds b row may → b ≡ true → bytes ≡ row → c ≡ goes_on go (lex bytes (At Start)) → (p : Spot) → may p → c ≡ goes_on go (tokens p)
-row-begins go row bytes may b c h e same is p k =
+pub row-begins : (go : Tok → Bool) (row bytes : List ℕ) (scan : Place) (may : Spots) (b c : Bool) → Holds b row may → b ≡ true → bytes ≡ row → Over bytes scan → c ≡ goes_on go (tokens_at scan) → (p : Spot) → may p → c ≡ goes_on go (tokens p)
+row-begins go row bytes scan may b c h e same over is p k =
     let h : Holds true row may = subst (λ (b : Bool). Holds b row may) e h in
     let f = h.1 p k in
-    is ∙ ap (λ (w : List ℕ). goes_on go (lex w (At Start))) same ∙ row-goes-on go row f.rest h.0 ∙ ap (λ (w : List ℕ). goes_on go (lex w (At Start))) (sym f.is)
+    is ∙ ap (λ (s : Place). goes_on go (tokens_at s)) over ∙ ap (λ (w : List ℕ). goes_on go (lex w (At Start))) same ∙ row-goes-on go row f.rest h.0 ∙ ap (λ (w : List ℕ). goes_on go (lex w (At Start))) (sym f.is)

@@ -43,9 +43,9 @@ letter-atom b (c ∷ a) e h = (e, h)
 -- ---- triples
 
 fact-tokens : (f : FactTree) → IsFact f → AreTokens (fact_tokens f)
-fact-tokens (WordIs a b) h = (tt, (text-there (codes "is") refl, two-tokens (word_tokens a) (word_tokens b) (word-tokens a h.0.0) (word-tokens b h.1.0)))
-fact-tokens (MemIs a b) h = (tt, (text-there (codes "mis") refl, two-tokens (mem_tokens a) (mem_tokens b) (mem-tokens a h.0.0) (mem-tokens b h.1.0)))
-fact-tokens (So c) h = (tt, (text-there (codes "so") refl, closed-tokens (cond_tokens c) (cond-tokens c h.0)))
+fact-tokens (WordIs a b) h = (tt, (text-there (codes "is") refl, two-tokens (word_tokens a) (word_tokens b) (word-tokens a h.0) (word-tokens b h.1)))
+fact-tokens (MemIs a b) h = (tt, (text-there (codes "mis") refl, two-tokens (mem_tokens a) (mem_tokens b) (mem-tokens a h.0) (mem-tokens b h.1)))
+fact-tokens (So c) h = (tt, (text-there (codes "so") refl, closed-tokens (cond_tokens c) (cond-tokens c h)))
 fact-tokens (Gives def exit args results) h = (
   tt,
   (
@@ -61,16 +61,16 @@ fact-tokens (Gives def exit args results) h = (
 )
 
 register-tokens : (r : ℕ × WordTree) → IsRegister r → AreTokens (register_tokens r)
-register-tokens r h = (tt, (decimal-atom r.0 (omega (arith, h.0)), closed-tokens (word_tokens r.1) (word-tokens r.1 h.1.0)))
+register-tokens r h = (tt, (decimal-atom r.0 (omega (arith, h.0)), closed-tokens (word_tokens r.1) (word-tokens r.1 h.1)))
 
 assertion-tokens : (a : AssertionTree) → IsAssertion a → AreTokens (assertion_tokens a)
 assertion-tokens a h =
     let regs = all_tokens register_tokens a.regs in
     let mems = all_tokens mem_tokens a.mems in (
       tt,
-      tokens-append (word_tokens a.pc) (regs ++ (Semi ∷ (mems ++ close))) (word-tokens a.pc h.pc.0)
+      tokens-append (word_tokens a.pc) (regs ++ (Semi ∷ (mems ++ close))) (word-tokens a.pc h.pc)
           (tokens-append regs (Semi ∷ (mems ++ close)) (tokens-each register_tokens IsRegister register-tokens a.regs (registers-of a.regs (registers-small a h) h.words))
-          (tt, closed-tokens mems (tokens-each mem_tokens IsMem (λ m k. mem-tokens m k.0) a.mems h.mems))),
+          (tt, closed-tokens mems (tokens-each mem_tokens IsMem mem-tokens a.mems h.mems))),
     )
 
 code-tokens : (own rs : List Range) → IsCode rs → AreTokens (code_tokens own rs)
@@ -102,13 +102,13 @@ word-subs-tokens : (least : ℕ) (ss : List (ℕ × WordTree)) → AreRisingFrom
 word-subs-tokens least [] h = tt
 word-subs-tokens least (s ∷ ss) h =
     tokens-append (word_sub_tokens s) (all_tokens word_sub_tokens ss)
-    (tt, (letter-atom 118 (decimal s.0) refl (decimal-atom s.0 (small s.0 h.1)), closed-tokens (word_tokens s.1) (word-tokens s.1 h.2.0))) (word-subs-tokens (s.0 + 1) ss h.3)
+    (tt, (letter-atom 118 (decimal s.0) refl (decimal-atom s.0 (small s.0 h.1)), closed-tokens (word_tokens s.1) (word-tokens s.1 h.2))) (word-subs-tokens (s.0 + 1) ss h.3)
 
 mem-subs-tokens : (least : ℕ) (ss : List (ℕ × MemTree)) → AreRisingFrom IsMem least ss → AreTokens (all_tokens mem_sub_tokens ss)
 mem-subs-tokens least [] h = tt
 mem-subs-tokens least (s ∷ ss) h =
     tokens-append (mem_sub_tokens s) (all_tokens mem_sub_tokens ss)
-    (tt, (letter-atom 109 (decimal s.0) refl (decimal-atom s.0 (small s.0 h.1)), closed-tokens (mem_tokens s.1) (mem-tokens s.1 h.2.0))) (mem-subs-tokens (s.0 + 1) ss h.3)
+    (tt, (letter-atom 109 (decimal s.0) refl (decimal-atom s.0 (small s.0 h.1)), closed-tokens (mem_tokens s.1) (mem-tokens s.1 h.2))) (mem-subs-tokens (s.0 + 1) ss h.3)
 
 form-tokens : (f : Form) → AreTokens (form_tokens f ++ [])
 form-tokens Next = (text-there (codes "next") refl, tt)

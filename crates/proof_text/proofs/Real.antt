@@ -15,7 +15,8 @@ use Rattle.tailrec_lang.specs.Tree.{ValuesTree, StepTree, Bind, BindMem, Need, B
 use Rattle.tailrec_lang.specs.Eval.{HasFewNeeds, step_needs, needs, arm_needs}
 use Rattle.tailrec_lang.specs.declared.group.Exit.{Exit}
 use Rattle.tailrec_lang.specs.declared.group.Exit.TheVariants.{At, Ret}
-use Rattle.proof_text.specs.Limits.{IsValues, IsStep, IsBody, AreArms, IsExit, IsDef, AreRegistersFrom, IsGroup}
+use Rattle.sep_assert.specs.Registers.{AreRegistersFrom}
+use Rattle.proof_text.specs.Limits.{IsValues, IsStep, IsBody, AreArms, nesting_limit, IsExit, IsDef, IsGroup}
 use Rattle.proof_text.specs.Spelling.{line, number, address, exit_tokens, values_tokens, arm_count, step_tokens, body_tokens, arm_tokens, def_tokens, group_tokens, head_tokens}
 use Rattle.proof_text.proofs.HeadLaws.{text-there, HasBytes, not-empty}
 
@@ -26,36 +27,37 @@ number-tokens : (n : ℕ) → n < 2 ^ 64 → AreTokens (number n)
 number-tokens n h = (decimal-atom n h, tt)
 
 pub values-tokens : (v : ValuesTree) → IsValues v → AreTokens (values_tokens v)
-values-tokens v h = tokens-append (all_tokens word_tokens v.words) (Semi ∷ all_tokens mem_tokens v.mems) (tokens-each word_tokens IsWord (λ t k. word-tokens t k.0) v.words h.0) (tt, tokens-each mem_tokens IsMem (λ m k. mem-tokens m k.0) v.mems h.1)
+values-tokens v h = tokens-append (all_tokens word_tokens v.words) (Semi ∷ all_tokens mem_tokens v.mems) (tokens-each word_tokens IsWord word-tokens v.words h.0) (tt, tokens-each mem_tokens IsMem mem-tokens v.mems h.1)
 
 step-tokens : (s : StepTree) → IsStep s → AreTokens (step_tokens s)
-step-tokens (Bind t) h = (text-there (codes "let") refl, eol-tokens (word_tokens t) (word-tokens t h.0))
-step-tokens (BindMem m) h = (text-there (codes "letm") refl, eol-tokens (mem_tokens m) (mem-tokens m h.0))
-step-tokens (Need c) h = (text-there (codes "need") refl, eol-tokens (cond_tokens c) (cond-tokens c h.0))
+step-tokens (Bind t) h = (text-there (codes "let") refl, eol-tokens (word_tokens t) (word-tokens t h))
+step-tokens (BindMem m) h = (text-there (codes "letm") refl, eol-tokens (mem_tokens m) (mem-tokens m h))
+step-tokens (Need c) h = (text-there (codes "need") refl, eol-tokens (cond_tokens c) (cond-tokens c h))
 
 numbered : (n : ℕ) (v : List Tok) → n < 2 ^ 64 → AreTokens v → AreTokens (number n ++ v)
 numbered n v h k = (decimal-atom n h, k)
 
 mutual
-  body-tokens : (b : BodyTree) → IsBody b → AreTokens (body_tokens b)
-  body-tokens (Do s b) h = tokens-append (step_tokens s) (body_tokens b) (step-tokens s h.0) (body-tokens b h.1)
-  body-tokens (Branch c a b) h = (
+  body-tokens : (n : ℕ) (b : BodyTree) → IsBody n b → AreTokens (body_tokens b)
+  body-tokens zero b h = absurd h
+  body-tokens (suc n) (Do s b) h = tokens-append (step_tokens s) (body_tokens b) (step-tokens s h.0) (body-tokens (suc n) b h.1)
+  body-tokens (suc n) (Branch c a b) h = (
     text-there (codes "if") refl,
-    tokens-append (cond_tokens c ++ Eol ∷ []) (body_tokens a ++ (line (codes "else") [] ++ body_tokens b)) (eol-tokens (cond_tokens c) (cond-tokens c h.0.0))
-        (tokens-append (body_tokens a) (line (codes "else") [] ++ body_tokens b) (body-tokens a h.1) (text-there (codes "else") refl, (tt, body-tokens b h.2))),
+    tokens-append (cond_tokens c ++ Eol ∷ []) (body_tokens a ++ (line (codes "else") [] ++ body_tokens b)) (eol-tokens (cond_tokens c) (cond-tokens c h.0))
+        (tokens-append (body_tokens a) (line (codes "else") [] ++ body_tokens b) (body-tokens n a h.1) (text-there (codes "else") refl, (tt, body-tokens n b h.2))),
   )
-  body-tokens (Call def v arms) h = (
+  body-tokens (suc n) (Call def v arms) h = (
     text-there (codes "call") refl,
     tokens-append (number def ++ (number (arm_count arms) ++ (values_tokens v ++ Eol ∷ []))) (arm_tokens arms)
         (numbered def (number (arm_count arms) ++ (values_tokens v ++ Eol ∷ [])) (omega (arith, h.0)) (numbered (arm_count arms) (values_tokens v ++ Eol ∷ []) (omega (arith, h.1)) (eol-tokens (values_tokens v) (values-tokens v h.2))))
-        (arms-tokens arms h.3),
+        (arms-tokens n arms h.3),
   )
-  body-tokens (Again v) h = (text-there (codes "again") refl, eol-tokens (values_tokens v) (values-tokens v h))
-  body-tokens (Leave exit v) h = (text-there (codes "leave") refl, numbered exit (values_tokens v ++ Eol ∷ []) (omega (arith, h.0)) (eol-tokens (values_tokens v) (values-tokens v h.1)))
+  body-tokens (suc n) (Again v) h = (text-there (codes "again") refl, eol-tokens (values_tokens v) (values-tokens v h))
+  body-tokens (suc n) (Leave exit v) h = (text-there (codes "leave") refl, numbered exit (values_tokens v ++ Eol ∷ []) (omega (arith, h.0)) (eol-tokens (values_tokens v) (values-tokens v h.1)))
 
-  arms-tokens : (bs : ArmTrees) → AreArms bs → AreTokens (arm_tokens bs)
-  arms-tokens NoArm h = tt
-  arms-tokens (Arm b bs) h = (text-there (codes "arm") refl, (tt, tokens-append (body_tokens b) (arm_tokens bs) (body-tokens b h.0) (arms-tokens bs h.1)))
+  arms-tokens : (n : ℕ) (bs : ArmTrees) → AreArms n bs → AreTokens (arm_tokens bs)
+  arms-tokens n NoArm h = tt
+  arms-tokens n (Arm b bs) h = (text-there (codes "arm") refl, (tt, tokens-append (body_tokens b) (arm_tokens bs) (body-tokens n b h.0) (arms-tokens n bs h.1)))
 
 exit-tokens : (x : Exit) → IsExit x → AreTokens (exit_tokens x)
 exit-tokens (At a) h = (hex-atom a, tt)
@@ -65,7 +67,7 @@ def-tokens : (d : DefTree) → IsDef d → AreTokens (def_tokens d)
 def-tokens d h = (
   text-there (codes "def") refl,
   tokens-append (address d.entry ++ (all_tokens exit_tokens d.exits ++ Eol ∷ [])) (body_tokens d.body)
-      (hex-atom d.entry, eol-tokens (all_tokens exit_tokens d.exits) (tokens-each exit_tokens IsExit exit-tokens d.exits h.exits)) (body-tokens d.body h.body),
+      (hex-atom d.entry, eol-tokens (all_tokens exit_tokens d.exits) (tokens-each exit_tokens IsExit exit-tokens d.exits h.exits)) (body-tokens nesting_limit d.body h.body),
 )
 
 registers-tokens : (least : ℕ) (rs : List ℕ) → AreRegistersFrom least rs → AreTokens (all_tokens number rs)

@@ -11,9 +11,10 @@ use Rattle.mc_text.specs.Fault.{first_lines}
 use Rattle.mc_text.specs.Reading.{Reader, goes_on}
 use Rattle.mc_text.proofs.Atoms.{lex-cons}
 use Rattle.mc_text.proofs.Lines.{EndsIn, newline-is}
-use Rattle.mc_text.proofs.ReaderLaws.{IsFlat, AreAlike, Stops}
+use Rattle.mc_text.proofs.ReaderLaws.{IsFlat, AreAlike}
 use Rattle.mc_text.proofs.FaultLine.{SameLine, same-line, eols-append}
 use Rattle.proof_text.specs.inner.Rows.{IsRow}
+use Rattle.proof_text.specs.inner.RowReader.{ReadsRows, TookRow}
 
 -- k is one line and the end, and l that line and what follows; or both stop within the line
 pub record Ends (k l m : List Tok) : Type 0 where
@@ -144,20 +145,7 @@ eols-flat (Atom a ∷ part) f = ap (λ (n : ℕ). 0 + n) (eols-flat part f.1)
 eols-flat (Done ∷ part) f = ap (λ (n : ℕ). 0 + n) (eols-flat part f.1)
 eols-flat (Stuck ∷ part) f = ap (λ (n : ℕ). 0 + n) (eols-flat part f.1)
 
--- just this row was read, whatever follows it
-pub record TookRow {X : Type 0} (read : Reader X) (ts : List Tok) (x : X) (rest : List Tok) : Type 0 where
-  pub first : Tok
-  pub others : List Tok
-  pub ends : EndsIn first others
-  pub is : ts ≡ (first ∷ others) ++ rest
-  pub fixed : (o : List Tok) → read ((first ∷ others) ++ o) ≡ Ok (x, o)
-
--- a reader of rows: what it reads ends with a row, and where it stops it does so within the row, whatever follows
-pub record Row {X : Type 0} (read : Reader X) : Type 0 where
-  pub takes : (ts : List Tok) (x : X) (rest : List Tok) → read ts ≡ Ok (x, rest) → TookRow read ts x rest
-  pub stops : (ts bad : List Tok) → read ts ≡ Err bad → Stops read ts bad
-
-module _ {X : Type 0} (read : Reader X) (law : Row read) (row more : List ℕ) (is-row : IsRow row) where
+module _ {X : Type 0} (read : Reader X) (law : ReadsRows read) (row more : List ℕ) (is-row : IsRow row) where
   abbrev ts : List Tok
   ts = lex row (At Start)
 
@@ -188,7 +176,7 @@ module _ {X : Type 0} (read : Reader X) (law : Row read) (row more : List ℕ) (
       (p.0, ap read p.1 ∙ s.fixed p.0 p.2, omega (arith, count, none, eols-append s.part p.0))
 
 -- nothing is read where no row follows
-module _ {X : Type 0} (read : Reader X) (law : Row read) where
+module _ {X : Type 0} (read : Reader X) (law : ReadsRows read) where
   none-by : (q : Result (X × List Tok) (List Tok)) → read (Done ∷ []) ≡ q → (bad : List Tok) × (read (Done ∷ []) ≡ Err bad) × (eols bad ≡ 0)
   none-by (Ok p) e =
       let h = law.takes (Done ∷ []) p.0 p.1 e in
@@ -209,8 +197,3 @@ goes-on-alike go (q ∷ qs) (o ∷ os) h = ap go h.0
 
 pub row-goes-on : (go : Tok → Bool) (row more : List ℕ) → IsRow row → goes_on go (lex row (At Start)) ≡ goes_on go (lex (row ++ more) (At Start))
 row-goes-on go row more h = goes-on-alike go _ _ (same-line row more row (At Start) h)
-
--- behind the last row nothing goes on
-pub none-goes-on : (go : Tok → Bool) → go Done ≡ false → goes_on go (lex [] (At Start)) ≡ false
-unfolding lex
-none-goes-on go h = h

@@ -25,42 +25,42 @@ use Rattle.proof_text.proofs.HeadLaws.{def-row-law, group-name-law, regs-law, me
 use Rattle.proof_text.proofs.LineLaws.{line-law}
 use Rattle.proof_text.proofs.ProofParts.{whole-line}
 use Rattle.proof_text.proofs.ProofTexts.{some-line}
-use Rattle.proof_text.proofs.RowLaws.{Row}
+use Rattle.proof_text.specs.inner.RowReader.{ReadsRows}
 use Rattle.proof_text.proofs.RowReaders.{row-reads, row-lines, row-made, row-keyed, row-refused, row-room}
 
-row-of : {X : Type 0} (r : Reader X) (F : X → Type 0) (t : X → List Tok) → Reads r F t → StaysFlat F t → Row (pair r eol)
+row-of : {X : Type 0} (r : Reader X) (F : X → Type 0) (t : X → List Tok) → Reads r F t → StaysFlat F t → ReadsRows (pair r eol)
 row-of r F t law flat = row-reads (pair r eol) _ _ (row-law r F t law flat) (λ x h. (t x.0, refl))
 
-word-row : Row (pair (word_at depth_limit) eol)
+word-row : ReadsRows (pair (word_at depth_limit) eol)
 word-row = row-of (word_at depth_limit) IsWord word_tokens word-law (λ t h. word-flat t)
 
-mem-row : Row (pair (mem_at depth_limit) eol)
+mem-row : ReadsRows (pair (mem_at depth_limit) eol)
 mem-row = row-of (mem_at depth_limit) IsMem mem_tokens mem-law (λ m h. mem-flat m)
 
-cond-row : Row (pair (cond_at depth_limit) eol)
+cond-row : ReadsRows (pair (cond_at depth_limit) eol)
 cond-row = row-of (cond_at depth_limit) IsCond cond_tokens cond-law (λ c h. cond-flat c)
 
-pub mark-row : (k : List ℕ) → Row (mark_row k)
+pub mark-row : (k : List ℕ) → ReadsRows (mark_row k)
 mark-row k = row-reads (mark_row k) _ _ (mark-law k) (λ x h. (Atom k ∷ [], refl))
 
-pub step-row : Row step_at
+pub step-row : ReadsRows step_at
 unfolding step_at
 step-row = row-keyed _ _ _ (row-made _ _ word-row) (row-keyed _ _ _ (row-made _ _ mem-row) (row-keyed _ _ _ (row-made _ _ cond-row) row-refused))
 
-values-row : Row values_at
+values-row : ReadsRows values_at
 values-row = row-reads values_at IsValues values_row values-law (λ v h. (values_tokens v, refl))
 
 -- a number and values
 numbered-row : {X : Type 0} (limit : ℕ) → limit ≤ 2 ^ 64 → (r : Reader X) (F : X → Type 0) (t : X → List Tok) → Reads r F t → Reads (pair (number_at limit) r) (λ p. (p.0 < limit) × F p.1) (λ p. number p.0 ++ t p.1)
 numbered-row limit le r F t law = Reads-pair (number_at limit) (λ n. n < limit) number (number-law limit le) (λ n h. atom-flat _) r F t law
 
-leave-row : Row (pair (number_at (2 ^ 32)) values_at)
+leave-row : ReadsRows (pair (number_at (2 ^ 32)) values_at)
 leave-row = row-reads _ _ _ (numbered-row (2 ^ 32) (omega arith) values_at IsValues values_row values-law) (λ p h. (number p.0 ++ values_tokens p.1, refl))
 
-call-row : (bound : ℕ) → bound ≤ 2 ^ 64 → Row (call_row bound)
+call-row : (bound : ℕ) → bound ≤ 2 ^ 64 → ReadsRows (call_row bound)
 call-row bound le = row-reads _ _ _ (numbered-row (2 ^ 32) (omega arith) _ _ _ (numbered-row bound le values_at IsValues values_row values-law)) (λ p h. (number p.0 ++ (number p.1.0 ++ values_tokens p.1.1), refl))
 
-pub end-row : (room : ℕ) → arm_bound room ≤ 2 ^ 64 → Row (end_row room)
+pub end-row : (room : ℕ) → arm_bound room ≤ 2 ^ 64 → ReadsRows (end_row room)
 unfolding end_row
 end-row room le =
     row-keyed _ _ _ (row-made _ _ (call-row (arm_bound room) le))
@@ -77,32 +77,32 @@ small-bound room = by (eqb room 0)
 
 -- ---- the rows of groups
 
-pub def-row : Row def_start
+pub def-row : ReadsRows def_start
 def-row = row-reads def_start _ _
     (Reads-pair (word (codes "def")) Always (λ _. Atom (codes "def") ∷ []) (name-law (codes "def")) (λ x h. atom-flat (codes "def")) _ _ _ def-row-law)
     (λ p h. (Atom (codes "def") ∷ (address p.1.0 ++ all_tokens exit_tokens p.1.1.0), refl))
 
-pub first-row : Row first_row
+pub first-row : ReadsRows first_row
 unfolding first_row
 first-row =
     row-keyed _ _ _ (row-made _ _ (row-reads eol Always (λ _. Eol ∷ []) eol-law (λ x h. ([], refl))))
     (row-keyed _ _ _ (row-made _ _ (row-of (one (atom_of name_of)) IsName (λ a. Atom a ∷ []) group-name-law (λ a h. atom-flat a))) row-refused)
 
-pub regs-row : Row regs_row
+pub regs-row : ReadsRows regs_row
 regs-row = row-reads regs_row _ _ regs-law (λ p h. (Atom (codes "regs") ∷ all_tokens number p.1.0, refl))
 
-pub mems-row : Row mems_row
+pub mems-row : ReadsRows mems_row
 mems-row = row-reads mems_row _ _ mems-law (λ p h. (Atom (codes "mems") ∷ number p.1.0, refl))
 
-pub code-row : Row code_row
+pub code-row : ReadsRows code_row
 code-row = row-reads code_row _ _ code-law (λ p h. (Atom (codes "code") ∷ all_tokens range_tokens p.1.0, refl))
 
-pub title-row : Row title_row
+pub title-row : ReadsRows title_row
 title-row = row-reads title_row _ _
     (Reads-pair (word (codes "mcproof")) Always (λ _. Atom (codes "mcproof") ∷ []) (name-law (codes "mcproof")) (λ x h. atom-flat (codes "mcproof")) _ _ _ (mark-law (codes "1")))
     (λ p h. (Atom (codes "mcproof") ∷ Atom (codes "1") ∷ [], refl))
 
 -- ---- the lines of proofs
 
-pub line-row : (own : List Range) → IsOwnCode own → Row (line_at own)
+pub line-row : (own : List Range) → IsOwnCode own → ReadsRows (line_at own)
 line-row own fits = row-lines (line_at own) IsLine (line_tokens own) (line-law own fits) (λ l h. whole-line own l) (λ l h. some-line own l)

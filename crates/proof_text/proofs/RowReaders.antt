@@ -7,7 +7,7 @@ use Rattle.mc_text.specs.inner.Reading.{keyed}
 use Rattle.mc_text.proofs.Lines.{EndsIn, IsLines}
 use Rattle.mc_text.proofs.ReaderLaws.{Out, AreAlike, Stops, Reads, IsElse, keyed-cases, keyed-hit, keyed-miss, ok-value, ok-rest, err-is}
 use Rattle.proof_text.specs.inner.Reading.{where_room}
-use Rattle.proof_text.proofs.RowLaws.{Row, TookRow}
+use Rattle.proof_text.specs.inner.RowReader.{ReadsRows, TookRow}
 
 ends-eol : (t : Tok) (v : List Tok) → EndsIn t (v ++ Eol ∷ [])
 ends-eol t [] = refl
@@ -19,7 +19,7 @@ module _ {X : Type 0} (r : Reader X) (F : X → Type 0) (t : X → List Tok) (la
   took [] ts x rest f e is = record { first = Eol; others = []; ends = refl; is = is ∙ ap (λ (w : List Tok). w ++ rest) e; fixed = λ o. ap (λ (w : List Tok). r (w ++ o)) (sym e) ∙ law.again x o f }
   took (u ∷ v) ts x rest f e is = record { first = u; others = v ++ Eol ∷ []; ends = ends-eol u v; is = is ∙ ap (λ (w : List Tok). w ++ rest) e; fixed = λ o. ap (λ (w : List Tok). r (w ++ o)) (sym e) ∙ law.again x o f }
 
-  pub row-reads : Row r
+  pub row-reads : ReadsRows r
   row-reads = record {
     takes = λ ts x rest e. let h = law.takes ts x rest e in let w = row x h.1 in took w.0 ts x rest h.1 w.1 h.0;
     stops = law.stops;
@@ -31,13 +31,13 @@ module _ {X : Type 0} (r : Reader X) (F : X → Type 0) (t : X → List Tok) (la
   took-lines [] ts x rest f e lines some is = absurd (omega (arith, some))
   took-lines (u ∷ v) ts x rest f e lines some is = record { first = u; others = v; ends = lines; is = is ∙ ap (λ (w : List Tok). w ++ rest) e; fixed = λ o. ap (λ (w : List Tok). r (w ++ o)) (sym e) ∙ law.again x o f }
 
-  pub row-lines : Row r
+  pub row-lines : ReadsRows r
   row-lines = record {
     takes = λ ts x rest e. let h = law.takes ts x rest e in took-lines (t x) ts x rest h.1 refl (whole x h.1) (some x h.1) h.0;
     stops = law.stops;
   }
 
-module _ {X Y : Type 0} (make : X → Y) (r : Reader X) (law : Row r) where
+module _ {X Y : Type 0} (make : X → Y) (r : Reader X) (law : ReadsRows r) where
   made-took : (ts : List Tok) (q : Out X) (y : Y) (rest : List Tok) → r ts ≡ q → ◌>>=◌ {A = X × List Tok} {B = Y × List Tok} q (λ p. Ok (make p.0, p.1)) ≡ Ok (y, rest) → TookRow (made make r) ts y rest
   made-took ts (Ok p) y rest e h =
       let k = law.takes ts p.0 p.1 e in
@@ -56,10 +56,10 @@ module _ {X Y : Type 0} (make : X → Y) (r : Reader X) (law : Row r) where
       let s = law.stops ts bad (e ∙ ap (λ (v : List Tok). Err v) (err-is other bad h)) in
       record { part = s.part; is = s.is; flat = s.flat; fixed = λ o alike. rw (s.fixed o alike) refl }
 
-  pub row-made : Row (made make r)
+  pub row-made : ReadsRows (made make r)
   row-made = record { takes = λ ts y rest e. made-took ts (r ts) y rest refl e; stops = λ ts bad e. made-err ts (r ts) bad refl e }
 
-pub row-refused : {X : Type 0} → Row {X = X} refused
+pub row-refused : {X : Type 0} → ReadsRows {X = X} refused
 row-refused {X} = record { takes = λ ts x rest e. absurd cc; stops = λ ts bad e. record { part = []; is = err-is {Y = X} ts bad e; flat = tt; fixed = λ o a. refl } }
 
 module _ {X : Type 0} (k : List ℕ) (r other : Reader X) where
@@ -95,7 +95,7 @@ module _ {X : Type 0} (k : List ℕ) (r other : Reader X) where
   else-row Done v rest o h = tt
   else-row Stuck v rest o h = tt
 
-  module _ (law : Row r) (law2 : Row other) where
+  module _ (law : ReadsRows r) (law2 : ReadsRows other) where
     keyed-took : (ts : List Tok) (x : X) (rest : List Tok) → keyed k r other ts ≡ Ok (x, rest) → TookRow (keyed k r other) ts x rest
     keyed-took ts x rest e =
         elim (keyed-cases k r other ts (Ok (x, rest)) e) [
@@ -120,18 +120,18 @@ module _ {X : Type 0} (k : List ℕ) (r other : Reader X) where
               record { part = s.part; is = s.is; flat = s.flat; fixed = λ o a. keyed-miss k r other (s.part ++ o) (else-alike s.part bad o a (subst (IsElse k r other) s.is h.0)) ∙ s.fixed o a }
         ]
 
-    pub row-keyed : Row (keyed k r other)
+    pub row-keyed : ReadsRows (keyed k r other)
     row-keyed = record { takes = keyed-took; stops = keyed-err }
 
 room-left : (n : ℕ) → eqb (suc n) 0 ≡ false
 room-left n = grind (arith, nat_tests)
 
-pub row-same : {X : Type 0} (r q : Reader X) → r ≡ q → Row q → Row r
-row-same r q e law = subst Row (sym e) law
+pub row-same : {X : Type 0} (r q : Reader X) → r ≡ q → ReadsRows q → ReadsRows r
+row-same r q e law = subst ReadsRows (sym e) law
 
 abbrev err : {X : Type 0} → List Tok → Out X
 err ts = Err ts
 
-pub row-room : {X : Type 0} (room : ℕ) (r : Reader X) → Row r → Row (where_room room r)
+pub row-room : {X : Type 0} (room : ℕ) (r : Reader X) → ReadsRows r → ReadsRows (where_room room r)
 row-room zero r law = row-refused
 row-room {X} (suc n) r law = row-same (where_room (suc n) r) r (ap (λ (b : Bool). λ (ts : List Tok). cond b (err ts) (r ts)) (room-left n)) law

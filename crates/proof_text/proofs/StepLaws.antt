@@ -93,7 +93,7 @@ values-cover = row-covers values_at IsValues values_row values-law (λ v h. line
 -- ---- steps
 
 pub zero-word : IsWord (Const 0)
-zero-word = (omega arith, omega arith)
+zero-word = omega arith
 
 -- the tokens behind a step's first word
 abbrev step_row : StepTree → List Tok
@@ -128,11 +128,11 @@ bind-cover = covers-made (λ (x : WordTree × Unit {0}). Bind x.0) _ _ _ (row-co
     (elim [ Bind t ↦ λ h. ((t, tt), refl, (h, tt)) | BindMem m ↦ λ h. absurd h | Need c ↦ λ h. absurd h ])
 
 bind-mem-cover : Covers (made (λ (x : MemTree × Unit {0}). BindMem x.0) (pair (mem_at depth_limit) eol)) IsBindMem step_row
-bind-mem-cover = covers-made (λ (x : MemTree × Unit {0}). BindMem x.0) _ _ _ (row-cover (mem_at depth_limit) IsMem mem_tokens mem-law (λ m h. mem-flat m) (MemVar 0) (omega arith, omega arith)) IsBindMem step_row (λ x h. h.0) (λ x. refl)
+bind-mem-cover = covers-made (λ (x : MemTree × Unit {0}). BindMem x.0) _ _ _ (row-cover (mem_at depth_limit) IsMem mem_tokens mem-law (λ m h. mem-flat m) (MemVar 0) (omega arith)) IsBindMem step_row (λ x h. h.0) (λ x. refl)
     (elim [ Bind t ↦ λ h. absurd h | BindMem m ↦ λ h. ((m, tt), refl, (h, tt)) | Need c ↦ λ h. absurd h ])
 
 pub zero-cond : IsCond (Compare Eq (Const 0) (Const 0))
-zero-cond = ((omega arith, omega arith), omega arith)
+zero-cond = (omega arith, omega arith)
 
 need-cover : Covers (made (λ (x : CondTree × Unit {0}). Need x.0) (pair (cond_at depth_limit) eol)) IsNeed step_row
 need-cover = covers-made (λ (x : CondTree × Unit {0}). Need x.0) _ _ _ (row-cover (cond_at depth_limit) IsCond cond_tokens cond-law (λ c h. cond-flat c) (Compare Eq (Const 0) (Const 0)) zero-cond) IsNeed step_row (λ x h. h.0) (λ x. refl)

@@ -139,18 +139,49 @@ starts-fewer (Adds l ∷ is) js h = h
 item-first : (x y : ItemTree) (xs ys : List ItemTree) → x ∷ xs ≡ y ∷ ys → (x ≡ y) × (xs ≡ ys)
 item-first x y xs ys e = (cc, cc)
 
-no-more : (x : ItemTree) (xs : List ItemTree) (y : ItemTree) → xs ++ y ∷ [] ≡ [] → ⊥
-no-more x [] y e = absurd cc
-no-more x (z ∷ xs) y e = absurd cc
+no-more : (is : List ItemTree) (j : ItemTree) (js : List ItemTree) → is ++ j ∷ js ≡ [] → ⊥
+no-more [] j js e = absurd cc
+no-more (i ∷ is) j js e = absurd cc
 
 pub last-once : (is js : List ItemTree) (x y : ItemTree) → is ++ x ∷ [] ≡ js ++ y ∷ [] → (is ≡ js) × (x ≡ y)
 last-once [] [] x y e = (refl, (item-first x y [] [] e).0)
-last-once [] (j ∷ js) x y e = absurd (no-more x js y (sym (item-first x j [] (js ++ y ∷ []) e).1))
-last-once (i ∷ is) [] x y e = absurd (no-more x is x (item-first i y (is ++ x ∷ []) [] e).1)
+last-once [] (j ∷ js) x y e = absurd (no-more js y [] (sym (item-first x j [] (js ++ y ∷ []) e).1))
+last-once (i ∷ is) [] x y e = absurd (no-more is x [] (item-first i y (is ++ x ∷ []) [] e).1)
 last-once (i ∷ is) (j ∷ js) x y e =
     let h = item-first i j (is ++ x ∷ []) (js ++ y ∷ []) e in
     let k = last-once is js x y h.1 in
     ((λ n. h.0 n ∷ k.0 n), k.1)
+
+-- the last item is the last of those behind
+last-behind : (is : List ItemTree) (j : ItemTree) (js before : List ItemTree) (x : ItemTree) → is ++ j ∷ js ≡ before ++ x ∷ [] → (b : List ItemTree) × (j ∷ js ≡ b ++ x ∷ [])
+last-behind [] j js before x e = (before, e)
+last-behind (i ∷ is) j js [] x e = absurd (no-more is j js (item-first i x (is ++ j ∷ js) [] e).1)
+last-behind (i ∷ is) j js (b ∷ before) x e = last-behind is j js before x (item-first i b (is ++ j ∷ js) (before ++ x ∷ []) e).1
+
+same-group : (g h : GroupTree) → Opens g ≡ Opens h → g ≡ h
+same-group g h e = cc
+
+not-line : (l : LineTree) (g : GroupTree) → Adds l ≡ Opens g → ⊥
+not-line l g e = cc
+
+-- behind lines no group is last
+last-line : (l : LineTree) (ls : List LineTree) (before : List ItemTree) (g : GroupTree) → map Adds (l ∷ ls) ++ [] ≡ before ++ Opens g ∷ [] → ⊥
+last-line l [] before g e = not-line l g (last-once [] before (Adds l) (Opens g) e).1
+last-line l (m ∷ ls) [] g e = not-line l g (item-first (Adds l) (Opens g) (map Adds (m ∷ ls) ++ []) [] e).0
+last-line l (m ∷ ls) (b ∷ before) g e = last-line m ls before g (item-first (Adds l) b (map Adds (m ∷ ls) ++ []) (before ++ Opens g ∷ []) e).1
+
+-- where a group is last, the last proof has no lines
+pub last-bare : (ps : List ProofTree) (before : List ItemTree) (g : GroupTree) → items ps ≡ before ++ Opens g ∷ [] → (qs : List ProofTree) × (ps ≡ qs ++ bare g ∷ [])
+last-bare [] before g e = absurd (no-more before (Opens g) [] (sym e))
+last-bare (p ∷ []) before g e = by p.lines refl e
+  where
+    by : (ls : List LineTree) → p.lines ≡ ls → Opens p.group ∷ (map Adds ls ++ []) ≡ before ++ Opens g ∷ [] → (qs : List ProofTree) × (p ∷ [] ≡ qs ++ bare g ∷ [])
+    by [] none e = let same = same-group p.group g (last-once [] before (Opens p.group) (Opens g) e).1 in ([], λ i. record { group = same i; lines = none i } ∷ [])
+    by (l ∷ ls) some e = let k = last-behind (Opens p.group ∷ []) (Adds l) (map Adds ls ++ []) before (Opens g) e in absurd (last-line l ls k.0 g k.1)
+last-bare (p ∷ q ∷ ps) before g e =
+    let k = last-behind (Opens p.group ∷ map Adds p.lines) (Opens q.group) (map Adds q.lines ++ items ps) before (Opens g) e in
+    let r = last-bare (q ∷ ps) k.0 g k.1 in
+    (p ∷ r.0, ap (λ (v : List ProofTree). p ∷ v) r.1)
 
 -- ---- codes of groups
 

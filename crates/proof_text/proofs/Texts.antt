@@ -12,12 +12,13 @@ use Rattle.rv_words.specs.declared.range.Range.{Range}
 use Rattle.term_text.specs.Spelling.{range_tokens}
 use Rattle.tailrec_lang.specs.Tree.{BodyTree, DefTree, GroupTree}
 use Rattle.tailrec_lang.specs.declared.group.Exit.{Exit}
-use Rattle.proof_text.specs.Limits.{nesting_limit, IsDef, IsGroup, IsName, AreRegistersFrom}
+use Rattle.sep_assert.specs.Registers.{AreRegistersFrom}
+use Rattle.proof_text.specs.Limits.{nesting_limit, IsBody, IsDef, IsGroup, IsName}
 use Rattle.proof_text.specs.Spelling.{line, number, address, exit_tokens, body_tokens, def_tokens, head_tokens}
 use Rattle.proof_text.specs.inner.Reading.{Head, def_row, def_at, is_def, name_of, regs_row, mems_row, code_row, head_at, group_of, title_row, body_at}
 use Rattle.proof_text.proofs.StepLaws.{ends-eol, shrinks, atom-flat, name-law, eol-law, row-law}
 use Rattle.proof_text.proofs.HeadLaws.{AreExits, def-row-law, group-name-law, regs-law, mems-law, IsCode, code-law}
-use Rattle.proof_text.proofs.BodyLaws.{Within, body-law}
+use Rattle.proof_text.proofs.BodyLaws.{body-law}
 
 -- ---- definitions
 
@@ -36,16 +37,16 @@ row-cover = row-covers (pair (word (codes "def")) def_row) RowFits row_tokens
     (λ p h. ends-eol (Atom (hex p.1.0)) (all_tokens exit_tokens p.1.1.0)) (tt, (0, ([], tt))) (tt, (omega arith, ((tt, (omega arith, omega arith)), tt)))
 
 abbrev PartsFit : DefParts → Type 0
-PartsFit p = RowFits p.0 × Within nesting_limit p.1
+PartsFit p = RowFits p.0 × IsBody nesting_limit p.1
 
 def-from : (d : DefTree) → IsDef d → (p : DefParts) × (record { entry = p.0.1.0; exits = p.0.1.1.0; body = p.1 } ≡ d) × PartsFit p
-def-from d h = (((tt, (d.entry, (d.exits, tt))), d.body), refl, ((tt, (h.entry, ((h.exits, (h.few, h.one_return)), tt))), (h.body, h.nested)))
+def-from d h = (((tt, (d.entry, (d.exits, tt))), d.body), refl, ((tt, (h.entry, ((h.exits, (h.few, h.one_return)), tt))), h.body))
 
 pub def-cover : Covers def_at IsDef def_tokens
 unfolding def_at
 def-cover = covers-made (λ (x : DefParts). record { entry = x.0.1.0; exits = x.0.1.1.0; body = x.1 }) (pair (pair (word (codes "def")) def_row) (body_at nesting_limit)) _ _
-    (covers-with (pair (word (codes "def")) def_row) RowFits row_tokens row-cover (λ _. body_at nesting_limit) (λ _. Within nesting_limit) (λ _. body_tokens) (λ _ _. body-law 63))
-    IsDef def_tokens (λ p h. record { entry = h.0.1.0; exits = h.0.1.1.0.0; few = h.0.1.1.0.1.0; one_return = h.0.1.1.0.1.1; body = h.1.0; nested = h.1.1 }) (λ p. refl) def-from
+    (covers-with (pair (word (codes "def")) def_row) RowFits row_tokens row-cover (λ _. body_at nesting_limit) (λ _. IsBody nesting_limit) (λ _. body_tokens) (λ _ _. body-law 63))
+    IsDef def_tokens (λ p h. record { entry = h.0.1.0; exits = h.0.1.1.0.0; few = h.0.1.1.0.1.0; one_return = h.0.1.1.0.1.1; body = h.1 }) (λ p. refl) def-from
 
 pub def-begins : (d : DefTree) → IsDef d → (us : List Tok) → goes_on is_def (def_tokens d ++ us) ≡ true
 def-begins d h us = refl

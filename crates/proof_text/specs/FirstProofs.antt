@@ -1,13 +1,13 @@
 -- How far a text was read: the first proofs, whose groups and lines were given one by one. The last of them may go on.
 use Rattle.std.specs.Prelude.{◌≡◌, ◌≢◌, ◌⊎◌, ℕ, List, [], ◌∷◌, ◌++◌, map, codes, None}
-use Rattle.mc_text.specs.Tokens.{Atom, Stands, spell, all_tokens}
+use Rattle.mc_text.specs.Tokens.{HasNoAtomByte, spell, all_tokens}
 use Rattle.mc_text.specs.Fault.{first_lines, newlines}
 use Rattle.mc_text.specs.declared.token.Before.TheVariants.{Start}
 use Rattle.tailrec_lang.specs.Tree.{GroupTree}
 use Rattle.proof_text.specs.Version.{Version, version_1}
 use Rattle.proof_text.specs.Line.{LineTree, ProofTree}
 use Rattle.proof_text.specs.Spelling.{title_tokens}
-use Rattle.proof_text.specs.Proofs.{proof_tokens, AreProofs, AreProofsIn}
+use Rattle.proof_text.specs.Proofs.{proof_tokens, AreProofs, AreProofsIn, bare}
 
 -- a reader's text, its rest from the beginning of a line on, and how many lines lie before that
 pub record Progress : Type 0 where
@@ -37,14 +37,12 @@ abbrev pub passed : List ProofTree → List ℕ
 passed ps = passed_in version_1 ps
 
 -- a whole line follows that begins with this word
-pub record Follows (name : List ℕ) (rest : List ℕ) : Type 0 where
-  pub whole : first_lines 1 rest ≢ None
-  pub others : List ℕ
-  pub word : Stands Start rest (Atom name) others
+abbrev pub Follows : List ℕ → List ℕ → Type 0
+Follows word rest = (first_lines 1 rest ≢ None) × (others : List ℕ) × (rest ≡ word ++ others) × HasNoAtomByte others
 
 -- a group ends where no further definition follows
 abbrev pub Ended : List ProofTree → List ℕ → Type 0
-Ended ps rest = (before : List ItemTree) (g : GroupTree) → items ps ≡ before ++ Opens g ∷ [] → Follows (codes "def") rest → ⊥
+Ended ps rest = (before : List ProofTree) (g : GroupTree) → ps ≡ before ++ bare g ∷ [] → Follows (codes "def") rest → ⊥
 
 -- the items of these proofs were given, and are all that stands before the rest
 pub record HasGiven (ps : List ProofTree) (r : Progress) : Type 0 where

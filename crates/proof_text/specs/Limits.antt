@@ -1,5 +1,5 @@
 -- Which groups have a text.
-use Rattle.std.specs.Prelude.{ℕ, ◌+◌, ◌≤◌, ◌<◌, ◌^◌, max, List, [], ◌∷◌, length}
+use Rattle.std.specs.Prelude.{ℕ, zero, suc, ◌+◌, ◌≤◌, ◌<◌, ◌^◌, List, [], ◌∷◌, length}
 use Rattle.std.specs.List.{AllByRecursion}
 use Rattle.mc_text.specs.Tokens.{IsAtom}
 use Rattle.mc_text.specs.Fault.{Grammar}
@@ -8,6 +8,7 @@ use Rattle.term_text.specs.Limits.{IsWord, IsMem, IsCond}
 use Rattle.tailrec_lang.specs.Tree.{ValuesTree, StepTree, Bind, BindMem, Need, BodyTree, Do, Branch, Call, Again, Leave, ArmTrees, NoArm, Arm, DefTree, GroupTree}
 use Rattle.tailrec_lang.specs.declared.group.Exit.{Exit}
 use Rattle.tailrec_lang.specs.declared.group.Exit.TheVariants.{At, Ret}
+use Rattle.sep_assert.specs.Registers.{AreRegistersFrom}
 use Rattle.proof_text.specs.Version.{Version, version_1}
 use Rattle.proof_text.specs.Spelling.{arm_count, text_in}
 
@@ -23,30 +24,19 @@ IsStep (Need c) = IsCond c
 abbrev pub exit_limit : ℕ
 exit_limit = 16
 
+-- by the nesting that is left: the bodies of a branch and of a call have one less
 abbrev mutual
-  pub IsBody : BodyTree → Type 0
-  IsBody (Do step rest) = IsStep step × IsBody rest
-  IsBody (Branch c a b) = IsCond c × IsBody a × IsBody b
-  IsBody (Call def v arms) = (def < 2 ^ 32) × (arm_count arms ≤ exit_limit) × IsValues v × AreArms arms
-  IsBody (Again v) = IsValues v
-  IsBody (Leave exit v) = (exit < 2 ^ 32) × IsValues v
+  pub IsBody : ℕ → BodyTree → Type 0
+  IsBody zero b = ⊥
+  IsBody (suc n) (Do step rest) = IsStep step × IsBody (suc n) rest
+  IsBody (suc n) (Branch c a b) = IsCond c × IsBody n a × IsBody n b
+  IsBody (suc n) (Call def v arms) = (def < 2 ^ 32) × (arm_count arms ≤ exit_limit) × IsValues v × AreArms n arms
+  IsBody (suc n) (Again v) = IsValues v
+  IsBody (suc n) (Leave exit v) = (exit < 2 ^ 32) × IsValues v
 
-  pub AreArms : ArmTrees → Type 0
-  AreArms NoArm = Unit {0}
-  AreArms (Arm b bs) = IsBody b × AreArms bs
-
--- 1 for a body without bodies in it, else one more than the deepest of them
-abbrev mutual
-  pub nesting : BodyTree → ℕ
-  nesting (Do step rest) = nesting rest
-  nesting (Branch c a b) = max (nesting a) (nesting b) + 1
-  nesting (Call def v arms) = arms_nesting arms + 1
-  nesting (Again v) = 1
-  nesting (Leave exit v) = 1
-
-  pub arms_nesting : ArmTrees → ℕ
-  arms_nesting NoArm = 0
-  arms_nesting (Arm b bs) = max (nesting b) (arms_nesting bs)
+  pub AreArms : ℕ → ArmTrees → Type 0
+  AreArms n NoArm = Unit {0}
+  AreArms n (Arm b bs) = IsBody n b × AreArms n bs
 
 -- the deepest nesting of bodies that is written
 abbrev pub nesting_limit : ℕ
@@ -67,8 +57,7 @@ pub record IsDef (d : DefTree) : Type 0 where
   pub exits : AllByRecursion IsExit d.exits
   pub few : length d.exits ≤ exit_limit
   pub one_return : returns d.exits ≤ 1
-  pub body : IsBody d.body
-  pub nested : nesting d.body ≤ nesting_limit
+  pub body : IsBody nesting_limit d.body
 
 -- the most bytes of a name
 abbrev pub name_limit : ℕ
@@ -77,14 +66,6 @@ name_limit = 4096
 -- a name: at least one byte from 0x21 to 0x7e, none of them ( ) ;
 abbrev pub IsName : List ℕ → Type 0
 IsName name = IsAtom name × (length name ≤ name_limit)
-
-abbrev pub last_register : ℕ
-last_register = 31
-
--- registers from `least` on, rising
-abbrev pub AreRegistersFrom : ℕ → List ℕ → Type 0
-AreRegistersFrom least [] = Unit {0}
-AreRegistersFrom least (r ∷ rs) = (least ≤ r) × (r ≤ last_register) × AreRegistersFrom (r + 1) rs
 
 -- the most definitions of a group
 abbrev pub def_limit : ℕ

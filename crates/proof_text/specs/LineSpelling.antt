@@ -51,9 +51,8 @@ assertion_tokens a = Left ∷ joined (word_tokens a.pc ∷ all_tokens register_t
 -- whether two codes are the same ranges
 abbrev pub same_ranges : List Range → List Range → Bool
 same_ranges [] [] = true
-same_ranges [] (s ∷ ss) = false
-same_ranges (r ∷ rs) [] = false
 same_ranges (r ∷ rs) (s ∷ ss) = r.at == s.at && bytes_eq r.bytes s.bytes && same_ranges rs ss
+same_ranges _ _ = false
 
 -- code, beside the group's own
 abbrev pub code_tokens : List Range → List Range → List Tok

@@ -5,6 +5,7 @@ pub mod Subs
 pub mod Cut
 pub mod Rest
 pub mod Rows
+pub mod RowReader
 pub mod TextRows
 pub mod BodyRows
 pub mod GroupRows

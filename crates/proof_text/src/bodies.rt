@@ -9,7 +9,7 @@ ghost use Rattle.proof_text.specs.inner.Rows.{RowsGive};
 ghost use Rattle.proof_text.specs.inner.Reading.{arm_at, body_at, end_at, is_step, mark_row, step_at};
 
 use crate::body_rows::EndRow;
-use crate::next_rows::{end_row, mark_row, step_row, steps_go_on};
+use crate::next_rows::{LastRow, MarkRow, StepRow, next_row, row_begins};
 use crate::rows::Rows;
 use crate::stop::Halt;
 use rv_words::List;
@@ -22,8 +22,8 @@ fn read_steps<E, R: Rows<E>>(alloc: Global, rows: &mut R, from: &mut E) -> Resul
     ensures left { R.left rows.new ≤ R.left rows.old }
 {
     let mut steps = List::new(alloc);
-    'steps: while steps_go_on(alloc, rows, from)? {
-        match step_row(alloc, rows, from) {
+    'steps: while row_begins(alloc, rows, from, &StepRow)? {
+        match next_row(alloc, rows, from, &StepRow) {
             Ok(step) => steps.push(step)?,
             Err(halt) => return Err(halt),
         }
@@ -42,7 +42,7 @@ fn read_arm<E, R: Rows<E>>(
     ensures gives { RowsGive body_tree result (R.May rows.old from.old) (R.May rows.new from.new) (arm_at (body_at room)) }
     ensures left { R.left rows.new ≤ R.left rows.old }
 {
-    mark_row(alloc, rows, from, b"arm")?;
+    next_row(alloc, rows, from, &MarkRow(b"arm"))?;
     let body = read_body(alloc, rows, from, room)?;
     Ok(body)
 }
@@ -83,7 +83,7 @@ fn read_branch<E, R: Rows<E>>(
     ensures left { R.left rows.new ≤ R.left rows.old }
 {
     let first = read_body(alloc, rows, from, room)?;
-    mark_row(alloc, rows, from, b"else")?;
+    next_row(alloc, rows, from, &MarkRow(b"else"))?;
     let second = read_body(alloc, rows, from, room)?;
     Ok((first, second))
 }
@@ -99,7 +99,7 @@ fn read_end<E, R: Rows<E>>(
     ensures gives { RowsGive end_tree result (R.May rows.old from.old) (R.May rows.new from.new) (end_at room (body_at room)) }
     ensures left { R.left rows.new ≤ R.left rows.old }
 {
-    match end_row(alloc, rows, from, room)? {
+    match next_row(alloc, rows, from, &LastRow(room))? {
         EndRow::If(cond) => {
             let (first, second) = read_branch(alloc, rows, from, room)?;
             Ok(End::Branch(cond, Box::new(alloc, first)?, Box::new(alloc, second)?))

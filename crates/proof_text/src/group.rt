@@ -10,7 +10,9 @@ ghost use Rattle.proof_text.specs.inner.GroupRows.{more_head};
 
 use crate::bodies::read_body;
 use crate::heads::{FirstRow, Head};
-use crate::next_rows::{code_row, def_row, defs_go_on, first_row, mems_row, regs_row, title_row};
+use crate::next_rows::{
+    CodeRow, DefRow, GroupRow, MemsRow, RegsRow, TitleRow, next_row, row_begins,
+};
 use crate::rows::Rows;
 use crate::stop::Halt;
 use rv_words::{List, Text};
@@ -29,7 +31,7 @@ fn read_def<E, R: Rows<E>>(alloc: Global, rows: &mut R, from: &mut E) -> Result<
     ensures left { R.left rows.new ≤ R.left rows.old }
     ensures fewer { OnOk result (R.left rows.new < R.left rows.old) }
 {
-    let (entry, exits) = def_row(alloc, rows, from)?;
+    let (entry, exits) = next_row(alloc, rows, from, &DefRow)?;
     let body = read_body(alloc, rows, from, DEEPEST_BODY)?;
     Ok(Def { entry, exits, body })
 }
@@ -40,7 +42,7 @@ fn read_defs<E, R: Rows<E>>(alloc: Global, rows: &mut R, from: &mut E) -> Result
     ensures left { R.left rows.new ≤ R.left rows.old }
 {
     let mut defs = List::new(alloc);
-    'defs: while defs_go_on(alloc, rows, from)? {
+    'defs: while row_begins(alloc, rows, from, &DefRow)? {
         if defs.len() == MOST_DEFS {
             return Err(Halt::Bad);
         }
@@ -65,9 +67,9 @@ fn read_head<E, R: Rows<E>>(
     ensures gives { RowsGive head_of result (R.May rows.old from.old) (R.May rows.new from.new) (more_head name) }
     ensures left { R.left rows.new ≤ R.left rows.old }
 {
-    let regs = regs_row(alloc, rows, from)?;
-    let mems = mems_row(alloc, rows, from)?;
-    let code = code_row(alloc, rows, from)?;
+    let regs = next_row(alloc, rows, from, &RegsRow)?;
+    let mems = next_row(alloc, rows, from, &MemsRow)?;
+    let code = next_row(alloc, rows, from, &CodeRow)?;
     Ok(Head {
         name,
         regs,
@@ -111,7 +113,7 @@ fn read_next<E, R: Rows<E>>(
     ensures gives { RowsGive (λ found. option_map group_tree found) result (R.May rows.old from.old) (R.May rows.new from.new) next_at }
     ensures left { R.left rows.new ≤ R.left rows.old }
 {
-    let first = first_row(alloc, rows, from)?;
+    let first = next_row(alloc, rows, from, &GroupRow)?;
     match first {
         FirstRow::End => Ok(None),
         FirstRow::Group(name) => {
@@ -132,7 +134,7 @@ pub fn read_turn<E, R: Rows<E>>(
     ensures left { R.left rows.new ≤ R.left rows.old }
 {
     if first {
-        title_row(alloc, rows, from)?;
+        next_row(alloc, rows, from, &TitleRow)?;
         read_next(alloc, rows, from)
     } else {
         read_next(alloc, rows, from)

@@ -15,7 +15,7 @@ use crate::heads::has_atom;
 use crate::line::Line;
 use crate::line_rules::{read_rule, read_theorem};
 use crate::line_triples::read_triple;
-use crate::next_rows::{line_row, proof_ends};
+use crate::next_rows::{LineRow, ProofEnd, next_row, row_begins};
 use crate::rows::Rows;
 use crate::stop::Halt;
 use mc_text::cursor::{eol, peek};
@@ -114,9 +114,9 @@ pub fn read_turn<E, R: Rows<E>>(
     ensures lost { R.Sure rows.old from.old → OnLost result ((p : Spot) → R.May rows.new from.new p → R.May rows.old from.old p × (goes_on ends_proof (tokens p) ≡ false)) }
     ensures left { R.left rows.new ≤ R.left rows.old }
 {
-    if proof_ends(alloc, rows, from)? {
+    if row_begins(alloc, rows, from, &ProofEnd)? {
         return Ok(None);
     }
-    let line = line_row(alloc, rows, from, own)?;
+    let line = next_row(alloc, rows, from, &LineRow(own))?;
     Ok(Some(line))
 }

@@ -51,12 +51,6 @@ abbrev pub Holds : Bool → List ℕ → Spots → Type 0
 Holds true row may = IsRow row × ((p : Spot) → may p → BeginsWith row p.rest)
 Holds false row may = (p : Spot) → may p → p.rest ≡ []
 
--- what a row reader finds in a row by itself
-abbrev pub RowGives : {X Y : Type 0} → (X → Y) → Result X Stop → List ℕ → Reader Y → Type 0
-RowGives view (Ok x) row read = (rest : List Tok) × (read (lex row (At Start)) ≡ Ok (view x, rest))
-RowGives view (Err stop.Bad) row read = (bad : List Tok) × (read (lex row (At Start)) ≡ Err bad)
-RowGives view (Err stop.NoMemory) row read = Unit {0}
-
 -- why rows could not be held
 abbrev pub lost_halt : Lost → Halt
 lost_halt lost.Fault = halt.Fault
