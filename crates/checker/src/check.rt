@@ -18,7 +18,7 @@ ghost use Rattle.checker.specs.inner.Checking.{IsCodeOf, LineJudged, NextGroup, 
 use crate::bench::Bench;
 use crate::file_code::code_of_image;
 use crate::verdict::Verdict;
-use elf_image::{ElfFault, Image, read};
+use elf_image::{ElfFault, Image, law_of_image, read};
 use proof_text::{Line, Reader, TextFault};
 use rv_words::NoMemory;
 use sep_assert::code_within;
@@ -86,11 +86,11 @@ fn conclude(tally: Tally) -> Verdict
 }
 
 /// Judges a text for a file's image.
-#[tactic(auto, unfolding(elf_image::specs::Image::image_of))]
 fn judge(alloc: Global, image: &Image, text: &[u8]) -> Result<Tally, Verdict>
     ensures judged { IfOk result (λ t. (file : Items ℕ) → image.now ≡ image_of file → TextJudged file text.now t) }
     ensures fault { IfErr result (λ v. (file : Items ℕ) → IsReadable file → Says file text.now v) }
 {
+    law_of_image(image);
     match code_of_image(alloc, image) {
         Ok(code) => judge_text(alloc, &code, text),
         Err(NoMemory) => Err(Verdict::NoMemory),

@@ -10,7 +10,7 @@ ghost use Rattle.decompiler.specs.inner.Functions.{IsNoFunction, IsNoItem, outsi
 
 use crate::bytes::law_of_bytes;
 use crate::name::address_of;
-use elf_image::{Image, NameFault};
+use elf_image::{Image, NameFault, law_of_image};
 use flow_graph::{FlowFault, Outside, build};
 use loop_forest::find_loops;
 use path_walk::{Item, item_of};
@@ -77,6 +77,7 @@ fn item_for(alloc: Global, image: &Image, name: &Text) -> Result<Item, FlowFault
     ensures item { (file : Items ℕ) → image.now ≡ image_of file → IfOk result (IsItemFor file name.now) }
     ensures none { (file : Items ℕ) → image.now ≡ image_of file → IfErr result (IsNoItem file name.now) }
 {
+    law_of_image(image);
     match address_of(image, name.as_slice()) {
         Ok(entry) => {
             let name = List::from_slice(alloc, name.as_slice())?;
@@ -103,6 +104,7 @@ fn function_at(alloc: Global, image: &Image, entry: u64, name: Text) -> Result<I
     ensures none { IfErr result (IsNoFunction (code_in image.now.pieces) entry) }
 {
     law_of_bytes(image);
+    law_of_image(image);
     let graph = build(alloc, image, entry)?;
     let forest = find_loops(alloc, &graph)?;
     let item = item_of(alloc, name, &graph, &forest)?;

@@ -12,7 +12,7 @@ use Rattle.tailrec_lang.specs.Tree.{ValuesTree, DefTree, GroupTree}
 use Rattle.tailrec_lang.specs.WellFormed.{exit_words}
 use Rattle.triple_kernel.specs.Tree.{Gives, TripleTree}
 use Rattle.triple_kernel.specs.Rules.{IsInst, put_in_values, put_in_register, put_in_assertion}
-use Rattle.code_parts.specs.Graph.{RiseFrom}
+use Rattle.sep_assert.specs.Registers.{AreRegistersFrom}
 use Rattle.loop_rule.specs.Leaves.{variables_after, parameters, with_values, at_exit}
 use Rattle.loop_rule.specs.Rule.{results, exit_triple}
 use Rattle.checker.specs.Instance.{put_for}
@@ -61,7 +61,7 @@ length-mem_variables from n = length-map MemVar (range_with_len from n) ∙ leng
 
 -- ---- results
 
-pub exit-fresh : (f : Flow) (name : List ℕ) (ranges : List Range) (defs : List DefTree) (x : Exit) (words mems : ℕ) → RiseFrom 1 f.regs →
+pub exit-fresh : (f : Flow) (name : List ℕ) (ranges : List Range) (defs : List DefTree) (x : Exit) (words mems : ℕ) → AreRegistersFrom 1 f.regs →
     at_exit (group_over f name ranges defs) (Some x) (variables_after words mems (exit_words (group_over f name ranges defs) x) (mem_count f))
     ≡ with_values (group_over f name ranges defs) (pc_of x words) (current f (exit_place f x words mems))
 exit-fresh f name ranges defs (At a) words mems rise = ap (with_values (group_over f name ranges defs) (Const a)) (current-fresh f words mems rise)
@@ -72,7 +72,7 @@ exit-fresh f name ranges defs Ret words mems rise =
     ∙ (λ i. with_values (group_over f name ranges defs) (Var words) (variables_after (next i) mems (length f.regs) (mem_count f)))
     ∙ ap (with_values (group_over f name ranges defs) (Var words)) (current-fresh f (suc words) mems rise)
 
-module _ (f : Flow) (name : List ℕ) (ranges : List Range) (defs : List DefTree) (def : DefTree) (rise : RiseFrom 1 f.regs) where
+module _ (f : Flow) (name : List ℕ) (ranges : List Range) (defs : List DefTree) (def : DefTree) (rise : AreRegistersFrom 1 f.regs) where
   abbrev g : GroupTree
   g = group_over f name ranges defs
 

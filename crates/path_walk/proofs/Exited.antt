@@ -16,7 +16,8 @@ use Rattle.proof_text.specs.Line.{Inst, UseExit}
 use Rattle.checker.specs.Instance.{Meets, put_for}
 use Rattle.code_parts.specs.declared.part.Part.{Part}
 use Rattle.code_parts.specs.Bodies.{Flow, Place, current, exits_of, first, mem_count, start, with_pc}
-use Rattle.code_parts.specs.Graph.{HasPart, IsPart, RiseFrom}
+use Rattle.sep_assert.specs.Registers.{AreRegistersFrom}
+use Rattle.code_parts.specs.Graph.{HasPart, IsPart}
 use Rattle.path_walk.specs.inner.Histories.{exit_place, pc_of}
 use Rattle.code_parts.specs.Flows.{group_over}
 use Rattle.path_walk.specs.inner.Acts.{GoesOn, call_mems, call_words, exit_standing, exited, gives_over, numbered, results_at}
@@ -33,7 +34,7 @@ pub standing_is : (f : Flow) (name : List ℕ) (ranges : List Range) (defs : Lis
 standing_is f name ranges defs pc v = let regs = zip-map (λ r. Var (v.reg r)) f.regs in λ i. record { pc = pc; regs = regs i; mems = (current f v).mems }
 
 -- the next variables for an exit's results
-pub results_are : (f : Flow) (g : GroupTree) (x : Exit) (words mems : ℕ) → g.regs ≡ f.regs → RiseFrom 1 f.regs → variables_after words mems (exit_words g x) (mem_count f) ≡ results_at f x words mems
+pub results_are : (f : Flow) (g : GroupTree) (x : Exit) (words mems : ℕ) → g.regs ≡ f.regs → AreRegistersFrom 1 f.regs → variables_after words mems (exit_words g x) (mem_count f) ≡ results_at f x words mems
 results_are f g (At a) words mems regs rise = (λ i. variables_after words mems (length (regs i)) (mem_count f)) ∙ current-fresh f words mems rise
 results_are f g Ret words mems regs rise =
     let next : words + 1 ≡ suc words = omega arith in
@@ -45,7 +46,7 @@ module _ (f : Flow) (ranges : List Range) (s : Setting f ranges) where
   abbrev g : GroupTree
   g = group_over f s.name ranges s.defs
 
-  rise : RiseFrom 1 f.regs
+  rise : AreRegistersFrom 1 f.regs
   rise = s.code.registers
 
   module _ (d k : ℕ) (callee : DefTree) (x : Exit) where

@@ -10,8 +10,8 @@ use Rattle.rv_decode.specs.declared.instruction.Instr.TheVariants as instr
 use Rattle.rv_decode.specs.Registers.{destination}
 use Rattle.rv_words.specs.Operation.{word_of}
 use Rattle.rv_machine.specs.Step.{is_aligned}
-use Rattle.word_terms.specs.Tree.{WordTree, MemTree, CondTree, Const, Var, MemVar, depth_of_cond}
-use Rattle.term_text.specs.Limits.{CondNumbersFit, IsMem, IsWord}
+use Rattle.word_terms.specs.Tree.{WordTree, MemTree, CondTree, Const, Var, MemVar}
+use Rattle.term_text.specs.Limits.{IsCond, IsMem, IsWord}
 use Rattle.sep_assert.specs.Code.{Agree, IsWithin}
 use Rattle.tailrec_lang.specs.declared.group.Exit.{Exit}
 use Rattle.tailrec_lang.specs.declared.group.Exit.TheVariants.{At, Ret}
@@ -21,17 +21,16 @@ use Rattle.triple_kernel.specs.Tree.{FactTree, Gives, MemIs, So, WordIs}
 use Rattle.frame_compose.specs.Rules.{AreMissing}
 use Rattle.instr_axioms.specs.Terms.{conditions, has_memory, memory_after, pc_after, result, word_after}
 use Rattle.instr_axioms.specs.Axiom.{memory_if, own, own_triple, register_with, triple_over, word_code}
-use Rattle.proof_text.specs.Limits.{AreRegistersFrom, IsExit, IsValues}
+use Rattle.sep_assert.specs.Registers.{AreRegistersFrom}
+use Rattle.proof_text.specs.Limits.{IsExit, IsValues}
 use Rattle.proof_text.specs.LineLimits.{AreRisingFrom, IsAssertion, IsFact, IsTriple}
 use Rattle.code_parts.specs.Bodies.{Flow, Place, current, fresh, is_store, names, place_after, start}
-use Rattle.code_parts.specs.Graph.{RiseFrom}
 use Rattle.path_walk.specs.inner.Acts.{IsFineAct, IsFineExit, gives_over, named_triple, new_facts, numbered, results_at}
 use Rattle.path_walk.specs.inner.Histories.{exit_place, pc_of}
 use Rattle.path_walk.specs.inner.Logs.{IsFineStanding, StandingTree, standing_at}
 use Rattle.path_walk.proofs.Joins.{or-within, some-same}
 use Rattle.path_walk.proofs.Lines.{own-rise}
 use Rattle.code_parts.proofs.Lists.{length-map, rising-short}
-use Rattle.path_walk.proofs.Texts.{as_registers}
 use Rattle.path_walk.proofs.Printed.{IsLow, conditions-small, memory_after-small, mems-most, place-low, result-small, sum-small, values-printed}
 use Rattle.code_parts.proofs.Places.{position-most}
 
@@ -70,23 +69,20 @@ mems-few false m = omega arith
 
 -- ---- assertions
 
-assertion-fine : (pc : WordTree) (w : ℕ → WordTree) (rs : List ℕ) (b : Bool) (m : MemTree) → IsWord pc → RiseFrom 1 rs → ((r : ℕ) → IsWord (w r)) → IsMem m →
+assertion-fine : (pc : WordTree) (w : ℕ → WordTree) (rs : List ℕ) (b : Bool) (m : MemTree) → IsWord pc → AreRegistersFrom 1 rs → ((r : ℕ) → IsWord (w r)) → IsMem m →
     IsAssertion (record { pc = pc; regs = map (register_with w) rs; mems = memory_if b m })
 assertion-fine pc w rs b m pc_fine rise words mem = record {
   pc = pc_fine;
-  registers = subst (AreRegistersFrom 1) (sym (numbers-are w rs)) (as_registers 1 rs rise);
+  registers = subst (AreRegistersFrom 1) (sym (numbers-are w rs)) rise;
   words = map-fine (λ (r : ℕ × WordTree). IsWord r.1) (register_with w) rs words;
   mems = mems-fine b m mem;
 }
 
-const-fine : (a : ℕ) → a < 2 ^ 64 → IsWord (Const a)
-const-fine a low = (low, omega arith)
-
 pub var-fine : (k : ℕ) → k < 2 ^ 16 → IsWord (Var k)
-var-fine k low = (omega (arith, low), omega arith)
+var-fine k low = omega (arith, low)
 
 mem_var-fine : (k : ℕ) → k < 2 ^ 16 → IsMem (MemVar k)
-mem_var-fine k low = (omega (arith, low), omega arith)
+mem_var-fine k low = omega (arith, low)
 
 module _ (v : Place) (n : ℕ) (low : IsLow v n) (few : n < 2 ^ 16) where
   named-fine : (r : ℕ) → IsWord (Var (v.reg r))
@@ -95,53 +91,47 @@ module _ (v : Place) (n : ℕ) (low : IsLow v n) (few : n < 2 ^ 16) where
   memory-fine : IsMem (MemVar v.memory)
   memory-fine = let most = low.memory in mem_var-fine v.memory (omega (arith, most, few))
 
-  result-fine : (i : Instr) (a : ℕ) → IsWord (result i a (names v))
-  result-fine i a = let s = result-small v n low few i a in let d = s.1 in (s.0, omega (arith, d))
-
   after-fine : (i : Instr) (a r : ℕ) → IsWord (word_after i a (names v) r)
   after-fine i a r = go (eqb r (destination i))
     where
       go : (b : Bool) → IsWord (cond b (result i a (names v)) (Var (v.reg r)))
-      go true = result-fine i a
+      go true = result-small v n low few i a
       go false = named-fine r
 
-  memory_after-fine : (i : Instr) → IsMem (memory_after i (names v))
-  memory_after-fine i = let s = memory_after-small v n low few i in let d = s.1 in (s.0, omega (arith, d))
-
   pub pc-fine : (i : Instr) (form : Form) (a : ℕ) → IsWord (pc_after i form a (names v))
-  pc-fine (instr.Op o rd rs1 rs2) form a = const-fine _ (mod-lt (a + 4) (omega arith))
-  pc-fine (instr.OpImm o rd rs1 imm) form a = const-fine _ (mod-lt (a + 4) (omega arith))
-  pc-fine (instr.Lui rd imm) form a = const-fine _ (mod-lt (a + 4) (omega arith))
-  pc-fine (instr.Auipc rd imm) form a = const-fine _ (mod-lt (a + 4) (omega arith))
-  pc-fine (instr.Jal rd offset) form a = const-fine _ (mod-lt (a + word_of offset) (omega arith))
-  pc-fine (instr.Jalr rd rs1 imm) form a = let s = sum-small v n low few rs1 imm in let d = s.1 in ((s.0, omega arith), omega (arith, d))
-  pc-fine (instr.Branch c rs1 rs2 offset) Next a = const-fine _ (mod-lt (a + 4) (omega arith))
-  pc-fine (instr.Branch c rs1 rs2 offset) Taken a = const-fine _ (mod-lt (a + word_of offset) (omega arith))
-  pc-fine (instr.Load w signed rd rs1 imm) form a = const-fine _ (mod-lt (a + 4) (omega arith))
-  pc-fine (instr.Store w rs1 rs2 imm) form a = const-fine _ (mod-lt (a + 4) (omega arith))
-  pc-fine (instr.Fence imm rs1 rd) form a = const-fine _ (mod-lt (a + 4) (omega arith))
-  pc-fine instr.Ecall form a = const-fine _ (mod-lt (a + 4) (omega arith))
-  pc-fine instr.Ebreak form a = const-fine _ (mod-lt (a + 4) (omega arith))
+  pc-fine (instr.Op o rd rs1 rs2) form a = mod-lt (a + 4) (omega arith)
+  pc-fine (instr.OpImm o rd rs1 imm) form a = mod-lt (a + 4) (omega arith)
+  pc-fine (instr.Lui rd imm) form a = mod-lt (a + 4) (omega arith)
+  pc-fine (instr.Auipc rd imm) form a = mod-lt (a + 4) (omega arith)
+  pc-fine (instr.Jal rd offset) form a = mod-lt (a + word_of offset) (omega arith)
+  pc-fine (instr.Jalr rd rs1 imm) form a = (sum-small v n low few 61 rs1 imm, omega arith)
+  pc-fine (instr.Branch c rs1 rs2 offset) Next a = mod-lt (a + 4) (omega arith)
+  pc-fine (instr.Branch c rs1 rs2 offset) Taken a = mod-lt (a + word_of offset) (omega arith)
+  pc-fine (instr.Load w signed rd rs1 imm) form a = mod-lt (a + 4) (omega arith)
+  pc-fine (instr.Store w rs1 rs2 imm) form a = mod-lt (a + 4) (omega arith)
+  pc-fine (instr.Fence imm rs1 rd) form a = mod-lt (a + 4) (omega arith)
+  pc-fine instr.Ecall form a = mod-lt (a + 4) (omega arith)
+  pc-fine instr.Ebreak form a = mod-lt (a + 4) (omega arith)
 
   so-fine : (i : Instr) (form : Form) → AllByRecursion IsFact (map So (conditions i form (names v)))
   so-fine i form = go (conditions i form (names v)) (conditions-small v n low few i form)
     where
-      go : (cs : List CondTree) → AllByRecursion (λ c. CondNumbersFit c × (depth_of_cond c ≤ 4)) cs → AllByRecursion IsFact (map So cs)
+      go : (cs : List CondTree) → AllByRecursion IsCond cs → AllByRecursion IsFact (map So cs)
       go [] h = tt
-      go (c ∷ cs) h = let d = h.0.1 in ((h.0.0, omega (arith, d)), go cs h.1)
+      go (c ∷ cs) h = (h.0, go cs h.1)
 
   news-fine : (i : Instr) (a : ℕ) → AllByRecursion IsFact (new_facts i a v)
   news-fine i a = go (is_store i) (eqb (destination i) 0)
     where
       go : (s d : Bool) → AllByRecursion IsFact (cond s (MemIs (MemVar v.mems) (memory_after i (names v)) ∷ []) (cond d [] (WordIs (Var v.words) (result i a (names v)) ∷ [])))
-      go true d = let most = low.mems in ((mem_var-fine v.mems (omega (arith, most, few)), memory_after-fine i), tt)
+      go true d = let most = low.mems in ((mem_var-fine v.mems (omega (arith, most, few)), memory_after-small v n low few i), tt)
       go false true = tt
-      go false false = let most = low.words in ((var-fine v.words (omega (arith, most, few)), result-fine i a), tt)
+      go false false = let most = low.words in ((var-fine v.words (omega (arith, most, few)), result-small v n low few i a), tt)
 
   pub facts-fine : (i : Instr) (form : Form) (a : ℕ) → AllByRecursion IsFact (map So (conditions i form (names v)) ++ new_facts i a v)
   facts-fine i form a = all-join IsFact (map So (conditions i form (names v))) (new_facts i a v) (so-fine i form) (news-fine i a)
 
-  pub standing-fine : (f : Flow) (pc : WordTree) → RiseFrom 1 f.regs → IsWord pc → IsAssertion (standing_at f pc v)
+  pub standing-fine : (f : Flow) (pc : WordTree) → AreRegistersFrom 1 f.regs → IsWord pc → IsAssertion (standing_at f pc v)
   standing-fine f pc rise fine = assertion-fine pc (λ r. Var (v.reg r)) f.regs f.has_mem (MemVar v.memory) fine rise named-fine memory-fine
 
 -- ---- code
@@ -169,13 +159,13 @@ code-ranges a w low even =
 -- ---- one instruction
 
 module _ (i : Instr) (form : Form) (a w : ℕ) (low_address : a < 2 ^ 64) (even : is_aligned a ≡ true) where
-  over-fine : (regs : List ℕ) (mem : Bool) (v : Place) (n : ℕ) → RiseFrom 1 regs → IsLow v n → n < 2 ^ 16 → IsTriple (triple_over i form a (word_code a w) regs mem (names v))
+  over-fine : (regs : List ℕ) (mem : Bool) (v : Place) (n : ℕ) → AreRegistersFrom 1 regs → IsLow v n → n < 2 ^ 16 → IsTriple (triple_over i form a (word_code a w) regs mem (names v))
   over-fine regs mem v n rise low few = record {
     facts = so-fine v n low few i form;
-    pre = assertion-fine (Const a) (λ r. Var (v.reg r)) regs mem (MemVar v.memory) (const-fine a low_address) rise (named-fine v n low few) (memory-fine v n low few);
+    pre = assertion-fine (Const a) (λ r. Var (v.reg r)) regs mem (MemVar v.memory) low_address rise (named-fine v n low few) (memory-fine v n low few);
     code = code-ranges a w low_address even;
     bytes = code-bytes a w;
-    post = assertion-fine (pc_after i form a (names v)) (word_after i a (names v)) regs mem (memory_after i (names v)) (pc-fine v n low few i form a) rise (after-fine v n low few i a) (memory_after-fine v n low few i);
+    post = assertion-fine (pc_after i form a (names v)) (word_after i a (names v)) regs mem (memory_after i (names v)) (pc-fine v n low few i form a) rise (after-fine v n low few i a) (memory_after-small v n low few i);
   }
 
   pub act-standing-fine : (v : Place) (n : ℕ) → IsLow v n → n < 2 ^ 16 → (k : ℕ) (facts : List FactTree) (code : List Range) → k < 2 ^ 64 → facts ≡ map So (conditions i form (names v)) ++ new_facts i a v → code ≡ word_code a w →
@@ -203,13 +193,13 @@ module _ (i : Instr) (form : Form) (a w : ℕ) (low_address : a < 2 ^ 64) (even 
     mems = omega arith;
   }) (omega arith)
 
-  module _ (f : Flow) (rise : RiseFrom 1 f.regs) (v : Place) (n : ℕ) (low : IsLow v n) (few : n ≤ 2 ^ 15) where
+  module _ (f : Flow) (rise : AreRegistersFrom 1 f.regs) (v : Place) (n : ℕ) (low : IsLow v n) (few : n ≤ 2 ^ 15) where
     named-triple-fine : IsTriple (named_triple i form a (word_code a w) f.regs f.has_mem v)
     named-triple-fine =
         let next = place-low v n low (omega (arith, few)) i in
         record {
           facts = facts-fine v n low (omega (arith, few)) i form a;
-          pre = standing-fine v n low (omega (arith, few)) f (Const a) rise (const-fine a low_address);
+          pre = standing-fine v n low (omega (arith, few)) f (Const a) rise low_address;
           code = code-ranges a w low_address even;
           bytes = code-bytes a w;
           post = standing-fine (place_after i v) (suc n) next (omega (arith, few)) f (pc_after i form a (names v)) rise (pc-fine v n low (omega (arith, few)) i form a);
@@ -237,7 +227,7 @@ module _ (i : Instr) (form : Form) (a w : ℕ) (low_address : a < 2 ^ 64) (even 
 
 -- ---- one exit of a call
 
-module _ (f : Flow) (rise : RiseFrom 1 f.regs) where
+module _ (f : Flow) (rise : AreRegistersFrom 1 f.regs) where
   regs-few : length f.regs ≤ 31
   regs-few = let short = rising-short 1 f.regs (omega arith) rise in omega (arith, short)
 
@@ -266,7 +256,7 @@ module _ (f : Flow) (rise : RiseFrom 1 f.regs) where
       ((var-fine words (omega (arith, h, few)), vals.0), vals.1)
 
   pub exit-pc-fine : (x : Exit) (words : ℕ) → IsExit x → words < 2 ^ 16 → IsWord (pc_of x words)
-  exit-pc-fine (At a) words fine few = const-fine a fine
+  exit-pc-fine (At a) words fine few = fine
   exit-pc-fine Ret words fine few = var-fine words few
 
   words-few : (x : Exit) (words mems : ℕ) → length (results_at f x words mems).words ≤ 32
@@ -286,7 +276,7 @@ module _ (f : Flow) (rise : RiseFrom 1 f.regs) where
         let most = low.words in
         record {
           facts = fact-fine v n low few;
-          pre = standing-fine v n low (omega (arith, few)) f (Const entry) rise (const-fine entry low_entry);
+          pre = standing-fine v n low (omega (arith, few)) f (Const entry) rise low_entry;
           code = order;
           bytes = bytes;
           post = standing-fine (exit_place f x v.words v.mems) (n + 1 + 31) (exit-low x v.words v.mems n low.words low.mems) (omega (arith, few)) f (pc_of x v.words) rise (exit-pc-fine x v.words fine_exit (omega (arith, most, few)));
@@ -333,7 +323,7 @@ module _ (f : Flow) (rise : RiseFrom 1 f.regs) where
 
 -- ---- one theorem after another
 
-module _ (f : Flow) (rise : RiseFrom 1 f.regs) (entry : ℕ) (low_entry : entry < 2 ^ 64) (st there : StandingTree) (first : IsFineStanding st) (second : IsFineStanding there) (more : List FactTree)
+module _ (f : Flow) (rise : AreRegistersFrom 1 f.regs) (entry : ℕ) (low_entry : entry < 2 ^ 64) (st there : StandingTree) (first : IsFineStanding st) (second : IsFineStanding there) (more : List FactTree)
     (are : AreMissing st.facts there.facts more) (ranges : List Range) (order : AreRanges ranges) (bytes : HaveBytes ranges) where
   both-fine : AllByRecursion IsFact (st.facts ++ more)
   both-fine = all-join IsFact st.facts more first.facts (missing-fine IsFact st.facts there.facts more are second.facts)
@@ -341,7 +331,7 @@ module _ (f : Flow) (rise : RiseFrom 1 f.regs) (entry : ℕ) (low_entry : entry 
   pub whole-fine : (to : WordTree) (u : Place) (n : ℕ) → IsWord to → IsLow u n → n < 2 ^ 16 → IsTriple (record { facts = st.facts ++ more; pre = standing_at f (Const entry) (start f); code = ranges; post = standing_at f to u })
   whole-fine to u n fine low few = record {
     facts = both-fine;
-    pre = standing-fine (start f) 31 (front-low f rise) (omega arith) f (Const entry) rise (const-fine entry low_entry);
+    pre = standing-fine (start f) 31 (front-low f rise) (omega arith) f (Const entry) rise low_entry;
     code = order;
     bytes = bytes;
     post = standing-fine u n low few f to rise fine;

@@ -22,7 +22,8 @@ use Rattle.loop_rule.specs.Rule.{LeadsTo}
 use Rattle.code_parts.specs.declared.part.Part.{Part}
 use Rattle.code_parts.specs.declared.part.Part.TheVariants.{Loop, Rest}
 use Rattle.code_parts.specs.Bodies.{Flow, Place, body_at, current, end_at, end_of, exits_of, first, fresh, index_of, last_at, mem_count, names, needs, or_else, own, part_def, place_after, rest_arms, rest_from, rest_targets, returned, start, targets, with_pc, writes}
-use Rattle.code_parts.specs.Graph.{IsPart, IsPlaced, has_edge, is_return, RiseFrom}
+use Rattle.sep_assert.specs.Registers.{AreRegistersFrom}
+use Rattle.code_parts.specs.Graph.{IsPart, IsPlaced, has_edge, is_return}
 use Rattle.path_walk.specs.inner.Acts.{new_facts, results_at}
 use Rattle.path_walk.specs.inner.Near.{IsEnd, IsNear}
 use Rattle.code_parts.specs.inner.Ends.{body_on, returned_body, returning}
@@ -91,7 +92,7 @@ module _ (f : Flow) (p : Part) (ranges : List Range) where
     cited_led : (old : LogTree) (pc : WordTree) (v : Place) (path : List FactTree) (t : StandingTree) → IsReady f ranges s old → Here s old pc v path t →
         Led f p ranges s old (citing t.number old) (record { facts = path; post = with_values (group_in f ranges s) pc (current f v) } ∷ [])
     cited_led old pc v path t ready here =
-        let rise : RiseFrom 1 f.regs = s.code.registers in
+        let rise : AreRegistersFrom 1 f.regs = s.code.registers in
         let entry : ℕ = (part_def f p).entry in
         let theorem : TripleTree = record { facts = t.facts; pre = standing_at f (Const entry) (start f); code = t.code; post = standing_at f pc v } in
         let front : standing_at f (Const entry) (start f) ≡ with_values (group_in f ranges s) (Const entry) (parameters (group_in f ranges s)) =

@@ -14,7 +14,7 @@ use Rattle.word_terms.specs.Substitution.{listed, put_in_mem}
 use Rattle.triple_kernel.specs.Tree.{FactTree, WordIs, MemIs, So}
 use Rattle.triple_kernel.specs.Rules.{IsInst, IsWeakened}
 use Rattle.triple_kernel.specs.Swap.{WordsStated, MemsStated, SwapWord, SwapMem, SwapRegister}
-use Rattle.code_parts.specs.Graph.{RiseFrom}
+use Rattle.sep_assert.specs.Registers.{AreRegistersFrom}
 use Rattle.frame_compose.specs.Rules.{is_listed, listed as those_listed, IsFramed}
 use Rattle.checker.specs.Instance.{put_for}
 use Rattle.triple_kernel.specs.declared.form.Form.{Form}
@@ -39,7 +39,7 @@ filter-test p (x ∷ xs) r c = go (p x) refl c (λ d. filter-test p xs r d)
     go true is (suc k, lt, at) on = on (k, omega (arith, lt), at)
     go false is c on = on c
 
-pub own-rise : (i : Instr) → RiseFrom 1 (own i)
+pub own-rise : (i : Instr) → AreRegistersFrom 1 (own i)
 unfolding registers_where
 own-rise i = filter-rise (is_own i) 1 31 (omega arith)
 
@@ -113,7 +113,7 @@ wider-mems : (h m : Bool) (x y : MemTree) → (h ≡ true → m ≡ true) → (h
 wider-mems true m x y e f = (λ i. y ∷ drop 1 (memory_if (e refl i) x)) ∙ (λ i. memory_if (sym (e refl) i) y)
 wider-mems false m x y e f = ap (memory_if m) (f refl)
 
-module _ (i : Instr) (form : Form) (a : ℕ) (code : List Range) (regs : List ℕ) (mem : Bool) (rise : RiseFrom 1 regs)
+module _ (i : Instr) (form : Form) (a : ℕ) (code : List Range) (regs : List ℕ) (mem : Bool) (rise : AreRegistersFrom 1 regs)
     (within : (r : ℕ) → Contains (own i) r → Contains regs r) (memory : has_memory i ≡ true → mem ≡ true) (n : Names) where
   own-wider : (w : ℕ → WordTree) → map (register_with w) (own i) ≡ those_listed (map (register_with w) (own i)) (map (register_with w) regs)
   own-wider w =
@@ -228,7 +228,7 @@ module _ (i : Instr) (a : ℕ) (v : Place) (facts : List FactTree) (known : (x :
       go true is more = stated-mem facts (memory_after i (names v)) (MemVar v.mems) (inr (inr (more (MemIs (MemVar v.mems) (memory_after i (names v))) (0, omega arith, refl))))
       go false is more = stated-mem facts (memory_after i (names v)) (MemVar (wrote (destination i) v).memory) (inl (memory-same i (names v) is ∙ ap MemVar (sym (kept (eqb (destination i) 0)))))
 
-pub is_weakened : (i : Instr) (form : Form) (a : ℕ) (code : List Range) (regs : List ℕ) (mem : Bool) (v : Place) → RiseFrom 1 regs →
+pub is_weakened : (i : Instr) (form : Form) (a : ℕ) (code : List Range) (regs : List ℕ) (mem : Bool) (v : Place) → AreRegistersFrom 1 regs →
     IsWeakened (triple_over i form a code regs mem (names v)) (named_triple i form a code regs mem v)
 is_weakened i form a code regs mem v rise =
     let facts : List FactTree = map So (conditions i form (names v)) ++ new_facts i a v in

@@ -5,7 +5,7 @@ use Rattle.std.specs.Prelude.{slice_get, unwrap_or}
 use Rattle.std.specs.List.{position_or_len, range_with_len}
 use Rattle.word_terms.specs.Tree.{WordTree, MemTree, Var, MemVar}
 use Rattle.word_terms.specs.Substitution.{Substitution, listed, put_in_word, put_in_mem}
-use Rattle.code_parts.specs.Graph.{RiseFrom}
+use Rattle.sep_assert.specs.Registers.{AreRegistersFrom}
 use Rattle.instr_axioms.specs.Axiom.{memory_if}
 use Rattle.loop_rule.specs.Leaves.{variables_after}
 use Rattle.code_parts.specs.Bodies.{Flow, mem_count, current, fresh}
@@ -21,7 +21,7 @@ zip-map h [] = refl
 zip-map h (r ∷ rs) = let rest = zip-map h rs in λ i. (r, h r) ∷ rest i
 
 -- the variables of registers in order
-words-are : (least words : ℕ) (rs : List ℕ) → RiseFrom least rs →
+words-are : (least words : ℕ) (rs : List ℕ) → AreRegistersFrom least rs →
     map Var (range_with_len words (length rs)) ≡ map (λ r. Var (words + position_or_len (λ q. eqb q r) rs)) rs
 words-are least words [] rise = refl
 words-are least words (r ∷ rs) rise =
@@ -39,7 +39,7 @@ mems-are : (b : Bool) (mems : ℕ) → map MemVar (range_with_len mems (cond b 1
 mems-are true mems = refl
 mems-are false mems = refl
 
-pub current-fresh : (f : Flow) (words mems : ℕ) → RiseFrom 1 f.regs → variables_after words mems (length f.regs) (mem_count f) ≡ current f (fresh f words mems)
+pub current-fresh : (f : Flow) (words mems : ℕ) → AreRegistersFrom 1 f.regs → variables_after words mems (length f.regs) (mem_count f) ≡ current f (fresh f words mems)
 current-fresh f words mems rise =
     let ws = words-are 1 words f.regs rise in
     let ms = mems-are f.has_mem mems in
@@ -117,12 +117,12 @@ filter-none : (xs : List ℕ) → filter (λ x. false) xs ≡ []
 filter-none [] = refl
 filter-none (x ∷ xs) = filter-none xs
 
-weaker : (a b : ℕ) (xs : List ℕ) → a ≤ b → RiseFrom b xs → RiseFrom a xs
+weaker : (a b : ℕ) (xs : List ℕ) → a ≤ b → AreRegistersFrom b xs → AreRegistersFrom a xs
 weaker a b [] le h = tt
 weaker a b (x ∷ xs) le h = (omega (arith, h.0, le), h.1, h.2)
 
 -- those of a rising list that are in a smaller one are the smaller one
-pub smaller-is : (least : ℕ) (xs ys : List ℕ) → RiseFrom least xs → RiseFrom least ys → ((x : ℕ) → Contains xs x → Contains ys x) → filter (is_in xs) ys ≡ xs
+pub smaller-is : (least : ℕ) (xs ys : List ℕ) → AreRegistersFrom least xs → AreRegistersFrom least ys → ((x : ℕ) → Contains xs x → Contains ys x) → filter (is_in xs) ys ≡ xs
 smaller-is least [] ys low high all = filter-none ys
 smaller-is least (x ∷ xs) [] low high all = absurd (let c = all x (here x xs) in omega (arith, c.1))
 smaller-is least (x ∷ xs) (y ∷ ys) low high all =
@@ -131,12 +131,12 @@ smaller-is least (x ∷ xs) (y ∷ ys) low high all =
     head_is : Contains (y ∷ ys) x
     head_is = all x (here x xs)
 
-    go : (RiseFrom (y + 1) xs → RiseFrom (y + 1) ys → ((z : ℕ) → Contains xs z → Contains ys z) → filter (is_in xs) ys ≡ xs) →
-        (RiseFrom (y + 1) (x ∷ xs) → RiseFrom (y + 1) ys → ((z : ℕ) → Contains (x ∷ xs) z → Contains ys z) → filter (is_in (x ∷ xs)) ys ≡ x ∷ xs) →
+    go : (AreRegistersFrom (y + 1) xs → AreRegistersFrom (y + 1) ys → ((z : ℕ) → Contains xs z → Contains ys z) → filter (is_in xs) ys ≡ xs) →
+        (AreRegistersFrom (y + 1) (x ∷ xs) → AreRegistersFrom (y + 1) ys → ((z : ℕ) → Contains (x ∷ xs) z → Contains ys z) → filter (is_in (x ∷ xs)) ys ≡ x ∷ xs) →
         (b : Bool) → eqb x y ≡ b → cond (b || is_in xs y) (y ∷ filter (is_in (x ∷ xs)) ys) (filter (is_in (x ∷ xs)) ys) ≡ x ∷ xs
     go same more true is =
         let e : x ≡ y = eqb-true x y is in
-        let low_rest : RiseFrom (y + 1) xs = subst (λ z. RiseFrom (z + 1) xs) e low.2 in
+        let low_rest : AreRegistersFrom (y + 1) xs = subst (λ z. AreRegistersFrom (z + 1) xs) e low.2 in
         let tests = filter-same (is_in (x ∷ xs)) (is_in xs) ys (λ z c. let far = in_range (y + 1) ys z high.2 c in let other : eqb x z ≡ false = ne_eqb x z (λ d. absurd (omega (arith, d, e, far.0))) in λ i. other i || is_in xs z) in
         let rest = tests ∙ same low_rest high.2 (λ z c. let far = in_range (y + 1) xs z low_rest c in contains-cases y ys z (all z (later x xs z c)) (λ d. absurd (omega (arith, d, far.0))) (λ c. c)) in
         λ i. sym e i ∷ rest i
@@ -144,7 +144,7 @@ smaller-is least (x ∷ xs) (y ∷ ys) low high all =
         let ne = eqb-false x y is in
         let inside : Contains ys x = contains-cases y ys x head_is (λ d. absurd (ne (sym d))) (λ c. c) in
         let far = in_range (y + 1) ys x high.2 inside in
-        let low_all : RiseFrom (y + 1) (x ∷ xs) = (far.0, low.1, low.2) in
+        let low_all : AreRegistersFrom (y + 1) (x ∷ xs) = (far.0, low.1, low.2) in
         let none : is_in xs y ≡ false = in-false xs y (λ c. let up = in_range (x + 1) xs y low.2 c in absurd (omega (arith, up.0, far.0))) in
         (λ i. cond (none i) (y ∷ filter (is_in (x ∷ xs)) ys) (filter (is_in (x ∷ xs)) ys)) ∙
         more low_all high.2 (λ z c. let up = in_range (y + 1) (x ∷ xs) z low_all c in contains-cases y ys z (all z c) (λ d. absurd (omega (arith, d, up.0))) (λ c. c))

@@ -4,12 +4,12 @@ use Rattle.std.specs.List.{AllByRecursion}
 use Rattle.rv_words.specs.Bytes.{Bytes}
 use Rattle.rv_words.specs.declared.range.Range.{Range}
 use Rattle.rv_words.specs.Ranges.{AreRanges}
-use Rattle.proof_text.specs.Limits.{AreRegistersFrom, IsDef, IsGroup, IsName}
+use Rattle.sep_assert.specs.Registers.{AreRegistersFrom}
+use Rattle.proof_text.specs.Limits.{IsDef, IsGroup, IsName}
 use Rattle.flow_graph.specs.Graph.{GraphOf, IsGraphOf}
 use Rattle.loop_forest.specs.Forest.{ForestOf, IsForestOf, number_of}
 use Rattle.code_parts.specs.declared.part.Part.{Part}
 use Rattle.code_parts.specs.Bodies.{part_def}
-use Rattle.code_parts.specs.Graph.{RiseFrom}
 use Rattle.code_parts.specs.Flows.{flow_of, group_of, registers_of}
 use Rattle.code_parts.specs.Order.{AreParts}
 use Rattle.code_parts.proofs.FlowCode.{registers-rise}
@@ -18,18 +18,13 @@ use Rattle.code_parts.proofs.FlowSize.{is-small, parts-fit}
 use Rattle.code_parts.proofs.Lists.{length-map}
 use Rattle.path_walk.proofs.Printed.{part-printed}
 
--- registers that rise, as the grammar says it
-pub as_registers : (least : ℕ) (rs : List ℕ) → RiseFrom least rs → AreRegistersFrom least rs
-as_registers least [] rise = tt
-as_registers least (r ∷ rs) rise = (rise.0, rise.1, as_registers (r + 1) rs rise.2)
-
 module _ (code : Bytes) (entry : ℕ) (g : GraphOf) (f : ForestOf) (parts : List Part) (graph : IsGraphOf code entry g) (forest : IsForestOf g f)
     (order : AreParts (flow_of g f parts) (number_of f) parts) where
   -- the group has a text
   pub is-group : (name : List ℕ) (ranges : List Range) → IsName name → AreRanges ranges → AllByRecursion (λ r. AllByRecursion (λ b. b < 256) r.bytes) ranges → IsGroup (group_of (flow_of g f parts) name ranges parts)
   is-group name ranges named are bytes = record {
     name = named;
-    registers = as_registers 1 (registers_of g.instrs) (registers-rise g.instrs);
+    registers = registers-rise g.instrs;
     memories = one (flow_of g f parts).has_mem;
     code = are;
     bytes = bytes;

@@ -3,7 +3,7 @@ use Rattle.std.proofs.Common.{◌≡◌, ℕ, zero, suc, ◌*◌, ◌≤◌, Boo
 use Rattle.std.specs.Prelude.{AllPairs}
 use Rattle.std.proofs.lemmas.List.{length-replicate}
 use Rattle.elf_image.specs.declared.image.Piece.{Piece}
-use Rattle.elf_image.specs.Image.{IsApart, IsPlaced, bytes_in, code_in, code_of_file, image_of}
+use Rattle.elf_image.specs.Image.{IsApart, IsPlaced, bytes_in, code_in, code_of_file, memory_of_file}
 use Rattle.elf_image.proofs.CodeLemmas.{code_is_byte}
 use Rattle.rv_machine.specs.State.{State}
 use Rattle.rv_machine.specs.Run.{EndsIn}
@@ -25,7 +25,7 @@ use Rattle.code_runs.proofs.WordLemmas.{few-words, program-memory}
 use Rattle.self_test.specs.Start.{begin, empty_regions, file_of, function_name}
 use Rattle.self_test.specs.Results.{most_steps}
 use Rattle.self_test.proofs.InFragment.{stands-at}
-use Rattle.self_test.proofs.SetUp.{pieces-are}
+use Rattle.self_test.proofs.SetUp.{file-piece}
 
 -- ---- the code in memory
 
@@ -37,12 +37,11 @@ one-apart : (p : Piece) → AllPairs IsApart (p ∷ [])
 one-apart p i j d h l = absurd (omega (arith, h, l))
 
 -- a code byte of the program's file is in memory
-code-there : (number size a b : ℕ) → size ≤ 600 → code_of_file (file_of number size) a ≡ Some b → bytes_in (image_of (file_of number size)).pieces a ≡ Some b
-unfolding image_of
+code-there : (number size a b : ℕ) → size ≤ 600 → code_of_file (file_of number size) a ≡ Some b → memory_of_file (file_of number size) a ≡ Some b
 code-there number size a b small e =
     let words : List ℕ = program_of number size in
     let p : Piece = piece_of_words words in
-    let are = pieces-are number size small in
+    let are = file-piece number size small in
     let long = body-length words in
     let fits : IsPlaced p = (omega (arith, long), omega (arith, long, few-words number size small)) in
     (λ i. bytes_in (are i) a) ∙ code_is_byte (p ∷ []) a b (one-placed p fits) (one-apart p) ((λ i. code_in (sym are i) a) ∙ e)

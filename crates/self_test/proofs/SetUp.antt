@@ -5,18 +5,21 @@ use Rattle.rv_words.specs.Bytes.{Bytes, bytes_from, over}
 use Rattle.elf_image.specs.Fault.{fault_of}
 use Rattle.elf_image.specs.declared.fault.ElfFault.{ElfFault}
 use Rattle.elf_image.specs.declared.image.Piece.{Piece}
-use Rattle.elf_image.specs.Image.{ImageOf, bytes_in, image_of}
+use Rattle.elf_image.specs.Image.{ImageOf, bytes_in, image_of, memory_of_file, pieces_of}
 use Rattle.rv_machine.specs.State.{State, empty_state, with_bytes}
 use Rattle.rv_machine.specs.Step.{writes}
 use Rattle.code_gen.specs.ElfFile.{little, start}
 use Rattle.code_gen.specs.Program.{program_of}
 use Rattle.code_runs.specs.Files.{piece_of_words}
 use Rattle.code_runs.specs.Runs.{behind}
-use Rattle.code_runs.proofs.FileLemmas.{body-length, image, readable}
+use Rattle.code_runs.proofs.FileLemmas.{body-length, image, one-piece, readable}
 use Rattle.code_runs.proofs.WordLemmas.{few-words, padding}
 use Rattle.self_test.specs.Start.{begin, file_of, given}
 
-pub pieces-are : (number size : ℕ) → size ≤ 600 → (image_of (file_of number size)).pieces ≡ piece_of_words (program_of number size) ∷ []
+pub file-piece : (number size : ℕ) → size ≤ 600 → pieces_of (file_of number size) ≡ piece_of_words (program_of number size) ∷ []
+file-piece number size small = one-piece (program_of number size) (few-words number size small)
+
+pieces-are : (number size : ℕ) → size ≤ 600 → (image_of (file_of number size)).pieces ≡ piece_of_words (program_of number size) ∷ []
 pieces-are number size small = ap (λ (i : ImageOf). i.pieces) (image (program_of number size) (few-words number size small))
 
 -- the file's one piece lies in memory
@@ -36,8 +39,8 @@ begun number size p s t u v w small is empty put x1 x10 x11 =
     let body : List ℕ = flat_map (little 4) words in
     let placed : t ≡ with_bytes (bytes_from start body) (empty_state start) = put ∙ (λ i. with_bytes (bytes_from (is i).at (is i).from) (empty i)) in
     let nothing : Bytes = λ a. None in
-    let memory : over (bytes_from start body) nothing ≡ bytes_in (image_of (file_of number size)).pieces =
-    (λ i. over (bytes_from start (sym (padding words) i)) nothing) ∙ (λ i. bytes_in (sym (pieces-are number size small) i)) in
+    let memory : over (bytes_from start body) nothing ≡ memory_of_file (file_of number size) =
+    (λ i. over (bytes_from start (sym (padding words) i)) nothing) ∙ (λ i. bytes_in (sym (file-piece number size small) i)) in
     let last : writes 11 size (writes 10 number (writes 1 behind (with_bytes (bytes_from start body) (empty_state start)))) ≡ begin number size =
     (λ i. record { pc = start; reg = given number size; mem = memory i }) in
     x11 ∙ ap (writes 11 size) (x10 ∙ ap (writes 10 number) (x1 ∙ ap (writes 1 behind) placed)) ∙ last

@@ -1,6 +1,6 @@
 -- Where a program that is drawn from a number begins.
 use Rattle.std.specs.Prelude.{ℕ, ◌==◌, if◌then◌else◌, false, List, codes, replicate}
-use Rattle.elf_image.specs.Image.{image_of, bytes_in}
+use Rattle.elf_image.specs.Image.{memory_of_file}
 use Rattle.rv_machine.specs.State.{State}
 use Rattle.tailrec_lang.specs.Tree.{GroupTree}
 use Rattle.checker.specs.Headline.{Region}
@@ -22,7 +22,7 @@ given number size r = if r == 11 then size else (if r == 10 then number else (if
 
 -- the state in which it begins: at its first instruction, with its file in memory
 abbrev pub begin : ℕ → ℕ → State
-begin number size = record { pc = start; reg = given number size; mem = bytes_in (image_of (file_of number size)).pieces }
+begin number size = record { pc = start; reg = given number size; mem = memory_of_file (file_of number size) }
 
 -- regions without an address, as many as the group has memories
 abbrev pub empty_regions : GroupTree → List Region
