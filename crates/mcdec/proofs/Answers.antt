@@ -1,6 +1,6 @@
 -- What is answered is what the words and the files give, and nothing else.
-use Rattle.std.proofs.Common.{◌≡◌, ◌≢◌, ℕ, ◌+◌, ◌-◌, ◌<◌, ◌≤◌, List, [], ◌∷◌, ◌++◌, length, map, replicate, Option, Some, None, Result, Ok, Err, refl, sym, ap, subst, ◌∙◌, arith}
-use Rattle.std.specs.Prelude.{IfOk, IfSome, IsSomeAnd}
+use Rattle.std.proofs.Common.{◌≡◌, ◌≢◌, ℕ, Bool, true, false, cond, ◌+◌, ◌-◌, ◌<◌, ◌≤◌, List, [], ◌∷◌, length, map, replicate, Option, Some, None, Result, Ok, Err, refl, sym, ap, subst, ◌∙◌, arith}
+use Rattle.std.specs.Prelude.{IfOk, IfSome, IsSomeAnd, bytes_eq}
 use Rattle.std.specs.List.{AllByRecursion}
 use Rattle.std.specs.Ordering.{nat_cmp}
 use Rattle.std.specs.FinMap.{FinMap, get}
@@ -13,7 +13,8 @@ use Rattle.tailrec_lang.specs.declared.group.Group.{Group}
 use Rattle.tailrec_lang.specs.Tree.{GroupTree, group_tree, def_tree, listed_def}
 use Rattle.tailrec_lang.specs.WellFormed.{IsWellFormed}
 use Rattle.tailrec_lang.specs.Eval.{Arguments, Outcome, Done, HasFewNeeds, eval}
-use Rattle.proof_text.specs.Limits.{AreRegistersFrom, IsGroup}
+use Rattle.sep_assert.specs.Registers.{AreRegistersFrom}
+use Rattle.proof_text.specs.Limits.{IsGroup}
 use Rattle.proof_text.specs.Line.{ProofTree}
 use Rattle.proof_text.specs.Proofs.{AreProofs, groups_of}
 use Rattle.mcdec.specs.declared.answer.EvalAnswer.{EvalAnswer}
@@ -21,7 +22,7 @@ use Rattle.mcdec.specs.declared.answer.EvalAnswer.TheVariants as answer
 use Rattle.mcdec.specs.Command.{Eval, Run, Arg, Given, Words, value_of, givens, ranges}
 use Rattle.mcdec.specs.inner.CommandReading.{Holds, HoldsArgs, value_in}
 use Rattle.mcdec.specs.Memory.{no_bytes, placed}
-use Rattle.mcdec.specs.EvalAnswer.{AreWellFormed, proof_limit, arguments_of, ranges_in, EvalGives}
+use Rattle.mcdec.specs.EvalAnswer.{proof_limit, arguments_of, first_named, ranges_in, EvalGives}
 use Rattle.mcdec.specs.inner.Search.{Finds, GroupGives}
 use Rattle.mcdec.specs.Answer.{ReadsAreTold}
 use Rattle.mcdec.specs.Held.{HoldsWith}
@@ -86,14 +87,18 @@ module _ (text name : List ℕ) (turns : ℕ) (args : List Arg) (small : length 
       of-group (answer.Unreadable line) h = absurd h
       of-group (answer.IllFormed group def) h = absurd h
       of-group answer.NoFunction h = absurd h
-      of-group (answer.SideFalse def ordinal) h = (small, group_tree g, record { proofs = f.0; spelled = f.1; first = f.2 }, h)
-      of-group answer.TurnsUsed h = (small, group_tree g, record { proofs = f.0; spelled = f.1; first = f.2 }, h)
-      of-group (answer.Done shown) (exit, pc, left, results, e, is) = (small, group_tree g, record { proofs = f.0; spelled = f.1; first = f.2 }, exit, pc, left, results, e, is)
+      of-group (answer.SideFalse def ordinal) h = (small, group_tree g, f.0, h)
+      of-group answer.TurnsUsed h = (small, group_tree g, f.0, h)
+      of-group (answer.Done shown) (exit, pc, left, results, e, is) = (small, group_tree g, f.0, exit, pc, left, results, e, is)
 
--- what holds of all groups of a list holds of one of them
-all-here : (F : GroupTree → Type 0) (before : List GroupTree) (g : GroupTree) (behind : List GroupTree) → AllByRecursion F (before ++ g ∷ behind) → F g
-all-here F [] g behind h = h.0
-all-here F (b ∷ before) g behind h = all-here F before g behind h.1
+-- what holds of all groups of a list holds of the first of a name
+all-first : (F : GroupTree → Type 0) (name : List ℕ) (gs : List GroupTree) (g : GroupTree) → first_named name gs ≡ Some g → AllByRecursion F gs → F g
+all-first F name [] g e h = absurd cc
+all-first F name (x ∷ gs) g e h = here (bytes_eq x.name name) e (λ k. all-first F name gs g k h.1)
+  where
+    here : (b : Bool) → cond b (Some x) (first_named name gs) ≡ Some g → (first_named name gs ≡ Some g → F g) → F g
+    here true e behind = let same : x ≡ g = cc in subst F same h.0
+    here false e behind = behind e
 
 -- groups of proofs that have a text have one too
 groups-fit : (ps : List ProofTree) → AreProofs ps → AllByRecursion IsGroup (groups_of ps)
@@ -102,10 +107,10 @@ groups-fit (p ∷ ps) h = (h.0.group, groups-fit ps h.1)
 
 pub found-fits : (text name : List ℕ) (g : Group) → Finds text name (Ok g) → IsGroup (group_tree g) × IsWellFormed (group_tree g) × HasFewNeeds (group_tree g)
 found-fits text name g f =
-    let n = f.2 in (
-      all-here IsGroup n.before (group_tree g) n.behind (subst (AllByRecursion IsGroup) n.parts (groups-fit f.0 f.1.0)),
-      all-here IsWellFormed n.before (group_tree g) n.behind (subst AreWellFormed n.parts f.1.2),
-      f.3,
+    let n = f.0 in (
+      all-first IsGroup name (groups_of n.proofs) (group_tree g) n.first (groups-fit n.proofs n.spelled.fit),
+      all-first IsWellFormed name (groups_of n.proofs) (group_tree g) n.first n.well_formed,
+      f.1,
     )
 
 -- ---- files

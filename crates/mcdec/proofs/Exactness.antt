@@ -46,7 +46,7 @@ use Rattle.rv_machine.specs.declared.running.RunEnd.TheVariants as end
 use Rattle.rv_machine.proofs.RunLemmas.{ends-once}
 use Rattle.decompiler.specs.Names.{StandsFor}
 use Rattle.mcdec.specs.RunAnswer.{elf_limit, IsLoaded, begin, shown_after, RunGives}
-use Rattle.mcdec.specs.EvalAnswer.{AreWellFormed, FirstNamed, IsTextOf, NoneNamed, proof_limit, arguments_of, shown_of, EvalGives}
+use Rattle.mcdec.specs.EvalAnswer.{AreWellFormed, IsNamed, first_named, proof_limit, arguments_of, shown_of, EvalGives}
 use Rattle.mcdec.specs.inner.Search.{GroupGives}
 use Rattle.mcdec.specs.Answer.{Gives, IsDetermined}
 use Rattle.mcdec.specs.Printed.{IsPrinted, IsDelivered, status}
@@ -203,31 +203,14 @@ group-unique g turns args a b h k = group-case g turns args a h ∙ sym (group-c
 
 -- ---- names
 
--- the group of a name is one
-first-once : (name : List ℕ) (before behind before' behind' : List GroupTree) (g g' : GroupTree) → before ++ g ∷ behind ≡ before' ++ g' ∷ behind' → NoneNamed name before → NoneNamed name before'
-    → g.name ≡ name → g'.name ≡ name → g ≡ g'
-first-once name [] behind [] behind' g g' e none none' named named' = cc
-first-once name [] behind (x ∷ before') behind' g g' e none none' named named' =
-    let same : g ≡ x = cc in absurd (none'.0 (sym (ap (λ (y : GroupTree). y.name) same) ∙ named))
-first-once name (x ∷ before) behind [] behind' g g' e none none' named named' =
-    let same : x ≡ g' = cc in absurd (none.0 (ap (λ (y : GroupTree). y.name) same ∙ named'))
-first-once name (x ∷ before) behind (x' ∷ before') behind' g g' e none none' named named' =
-    let rest : before ++ g ∷ behind ≡ before' ++ g' ∷ behind' = cc in first-once name before behind before' behind' g g' rest none.1 none'.1 named named'
+-- what an answer says of the first group of a name, if there is one
+abbrev Named : ℕ → List Arg → Option GroupTree → EvalAnswer → Type 0
+Named turns args None a = a ≡ ev.NoFunction
+Named turns args (Some g) a = GroupGives g turns args a
 
-none-has : (name : List ℕ) (before behind : List GroupTree) (g : GroupTree) → NoneNamed name (before ++ g ∷ behind) → g.name ≡ name → ⊥
-none-has name [] behind g h named = h.0 named
-none-has name (x ∷ before) behind g h named = none-has name before behind g h.1 named
-
-abbrev Named : List ℕ → ℕ → List Arg → List GroupTree → EvalAnswer → Type 0
-Named name turns args gs a = (NoneNamed name gs × (a ≡ ev.NoFunction)) ⊎ ((g : GroupTree) × FirstNamed name gs g × GroupGives g turns args a)
-
-named-unique : (name : List ℕ) (turns : ℕ) (args : List Arg) (gs : List GroupTree) (a b : EvalAnswer) → Named name turns args gs a → Named name turns args gs b → a ≡ b
-named-unique name turns args gs a b (inl h) (inl k) = h.1 ∙ sym k.1
-named-unique name turns args gs a b (inl h) (inr k) = absurd (none-has name k.1.before k.1.behind k.0 (subst (NoneNamed name) k.1.parts h.0) k.1.named)
-named-unique name turns args gs a b (inr h) (inl k) = absurd (none-has name h.1.before h.1.behind h.0 (subst (NoneNamed name) h.1.parts k.0) h.1.named)
-named-unique name turns args gs a b (inr h) (inr k) =
-    let same = first-once name h.1.before h.1.behind k.1.before k.1.behind h.0 k.0 (sym h.1.parts ∙ k.1.parts) h.1.others k.1.others h.1.named k.1.named in
-    group-unique k.0 turns args a b (subst (λ (g : GroupTree). GroupGives g turns args a) same h.2) k.2
+named-unique : (turns : ℕ) (args : List Arg) (found : Option GroupTree) (a b : EvalAnswer) → Named turns args found a → Named turns args found b → a ≡ b
+named-unique turns args None a b h k = h ∙ sym k
+named-unique turns args (Some g) a b h k = group-unique g turns args a b h k
 
 -- ---- texts
 
@@ -239,7 +222,7 @@ abbrev BadDef : List ℕ → EvalAnswer → Type 0
 BadDef p a = (ps : List ProofTree) × (g : GroupTree) × (def : ℕ) × AreRead p (ps ++ bare g ∷ []) × AreWellFormed (groups_of ps) × IsFirstIllFormed g def × (a ≡ ev.IllFormed (length ps) def)
 
 abbrev GoodText : List ℕ → List ℕ → ℕ → List Arg → EvalAnswer → Type 0
-GoodText p name turns args a = (ps : List ProofTree) × IsTextOf p ps × Named name turns args (groups_of ps) a
+GoodText p name turns args a = (found : Option GroupTree) × IsNamed p name found × Named turns args found a
 
 abbrev TextCase : List ℕ → List ℕ → ℕ → List Arg → EvalAnswer → Type 0
 TextCase p name turns args a = BadText p a ⊎ (BadDef p a ⊎ GoodText p name turns args a)
@@ -319,11 +302,12 @@ bad-or-def p a b h (ps, g, c, read, well, first, is) =
 
 def-or-good : (p name : List ℕ) (turns : ℕ) (args : List Arg) (a b : EvalAnswer) → BadDef p a → GoodText p name turns args b → ⊥
 def-or-good p name turns args a b (ps, g, c, read, well, first, is) k =
-    let f = groups-front k.0 (ps ++ bare g ∷ []) (text-front p k.0 (ps ++ bare g ∷ []) k.1.0 k.1.1 read) in
-    not-front (groups_of ps) g c f.0 (groups_of k.0) first (f.1 ∙ ap (λ (gs : List GroupTree). gs ++ f.0) (groups-more ps (bare g))) k.1.2
+    let n = k.1 in
+    let f = groups-front n.proofs (ps ++ bare g ∷ []) (text-front p n.proofs (ps ++ bare g ∷ []) n.spelled.fit n.spelled.spelled read) in
+    not-front (groups_of ps) g c f.0 (groups_of n.proofs) first (f.1 ∙ ap (λ (gs : List GroupTree). gs ++ f.0) (groups-more ps (bare g))) n.well_formed
 
 bad-or-good : (p name : List ℕ) (turns : ℕ) (args : List Arg) (a b : EvalAnswer) → BadText p a → GoodText p name turns args b → ⊥
-bad-or-good p name turns args a b h k = in-none p h.0 h.1 (k.0, k.1.0, k.1.1)
+bad-or-good p name turns args a b h k = in-none p h.0 h.1 (k.1.proofs, k.1.spelled.fit, k.1.spelled.spelled)
   where
     in-none : (p : List ℕ) (n : ℕ) → IsBadAt texts_of_proofs p n → InGrammar texts_of_proofs p → ⊥
     in-none p zero h g = absurd h
@@ -339,7 +323,11 @@ text-unique p name turns args a b (inr (inl h)) (inr (inr k)) = absurd (def-or-g
 text-unique p name turns args a b (inr (inr h)) (inl k) = absurd (bad-or-good p name turns args b a k h)
 text-unique p name turns args a b (inr (inr h)) (inr (inl k)) = absurd (def-or-good p name turns args b a k h)
 text-unique p name turns args a b (inr (inr h)) (inr (inr k)) =
-    named-unique name turns args (groups_of k.0) a b (subst (λ (ps : List ProofTree). Named name turns args (groups_of ps) a) (proofs-once h.0 k.0 h.1.0 k.1.0 (sym h.1.1 ∙ k.1.1)) h.2) k.2
+    let m = h.1 in
+    let n = k.1 in
+    let same = proofs-once m.proofs n.proofs m.spelled.fit n.spelled.fit (sym m.spelled.spelled ∙ n.spelled.spelled) in
+    let found : h.0 ≡ k.0 = sym m.first ∙ ap (λ (ps : List ProofTree). first_named name (groups_of ps)) same ∙ n.first in
+    named-unique turns args k.0 a b (subst (λ (o : Option GroupTree). Named turns args o a) found h.2) k.2
 
 -- ---- files
 
@@ -351,11 +339,11 @@ file-case p name turns args ev.OverLimit h = inl (h, refl)
 file-case p name turns args (ev.Unreadable line) (small, bad, well) = inr (small, inl (line, bad, well, refl))
 file-case p name turns args (ev.IllFormed group def) (small, ps, g, read, well, same, first) =
     inr (small, inr (inl (ps, g, def, read, well, first, ap (λ (n : ℕ). ev.IllFormed n def) same)))
-file-case p name turns args ev.NoFunction (small, ps, are, none) = inr (small, inr (inr (ps, are, inl (none, refl))))
-file-case p name turns args (ev.SideFalse def ordinal) (small, g, named, e) = inr (small, inr (inr (named.proofs, named.spelled, inr (g, named.first, e))))
-file-case p name turns args ev.TurnsUsed (small, g, named, e) = inr (small, inr (inr (named.proofs, named.spelled, inr (g, named.first, e))))
+file-case p name turns args ev.NoFunction (small, named) = inr (small, inr (inr (None, named, refl)))
+file-case p name turns args (ev.SideFalse def ordinal) (small, g, named, e) = inr (small, inr (inr (Some g, named, e)))
+file-case p name turns args ev.TurnsUsed (small, g, named, e) = inr (small, inr (inr (Some g, named, e)))
 file-case p name turns args (ev.Done shown) (small, g, named, exit, pc, left, results, e, is) =
-    inr (small, inr (inr (named.proofs, named.spelled, inr (g, named.first, (exit, pc, left, results, e, is)))))
+    inr (small, inr (inr (Some g, named, (exit, pc, left, results, e, is))))
 
 over : (n limit : ℕ) → limit < n → n ≤ limit → ⊥
 over n limit a b = omega arith

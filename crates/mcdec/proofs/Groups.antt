@@ -1,12 +1,14 @@
 -- What a search through a text's groups has found.
-use Rattle.std.proofs.Common.{◌≡◌, ◌≢◌, ℕ, ◌+◌, ◌^◌, ◌<◌, ◌≤◌, List, [], ◌∷◌, ◌++◌, length, map, Option, Some, None, Result, Ok, Err, refl, sym, ap, subst, ◌∙◌, inl, inr, arith, append_assoc}
+use Rattle.std.proofs.Common.{◌≡◌, ℕ, Bool, true, false, cond, ◌+◌, ◌^◌, ◌<◌, ◌≤◌, List, [], ◌∷◌, ◌++◌, length, map, Option, Some, None, Result, Ok, Err, refl, sym, ap, subst, ◌∙◌, inl, inr, arith, append_assoc}
 use Rattle.std.specs.List.{AllByRecursion}
+use Rattle.std.specs.Prelude.{bytes_eq}
 use Rattle.std.specs.Result.{IsErrAnd}
 use Rattle.std.proofs.lemmas.List.{append-nil, length-append}
 use Rattle.mc_text.specs.Fault.{IsBadAt, newlines}
 use Rattle.tailrec_lang.specs.declared.group.Group.{Group}
 use Rattle.tailrec_lang.specs.Tree.{GroupTree, group_tree}
 use Rattle.tailrec_lang.specs.WellFormed.{IsWellFormed}
+use Rattle.tailrec_lang.specs.Eval.{HasFewNeeds}
 use Rattle.proof_text.specs.declared.line.Line.{Line}
 use Rattle.proof_text.specs.Line.{LineTree, ProofTree, line_tree}
 use Rattle.proof_text.specs.Proofs.{bare, groups_of, texts_of_proofs}
@@ -18,7 +20,7 @@ use Rattle.proof_text.proofs.TextItems.{items-opened, items-added}
 use Rattle.proof_text.proofs.Fronts.{fronts, front-read, few-read, given-read}
 use Rattle.mcdec.specs.declared.evaluate.Refusal.{Refusal}
 use Rattle.mcdec.specs.declared.evaluate.Refusal.TheVariants as refusal
-use Rattle.mcdec.specs.EvalAnswer.{AreWellFormed, NoneNamed}
+use Rattle.mcdec.specs.EvalAnswer.{AreWellFormed, first_named}
 use Rattle.mcdec.specs.inner.Search.{HasPassed, IsBadText, LineIs, LinesArePassed, Passing, NextIs, Finds, FoundSo, Searched}
 
 all-behind : (F : GroupTree → Type 0) (gs : List GroupTree) (g : GroupTree) → AllByRecursion F gs → F g → AllByRecursion F (gs ++ g ∷ [])
@@ -29,9 +31,39 @@ all-front : (F : GroupTree → Type 0) (gs hs : List GroupTree) → AllByRecursi
 all-front F [] hs h = tt
 all-front F (g ∷ gs) hs h = (h.0, all-front F gs hs h.1)
 
--- one more group of another name
-pub none-more : (name : List ℕ) (gs : List GroupTree) (g : GroupTree) (found : Option Group) → found ≡ None → FoundSo name gs found → g.name ≢ name → NoneNamed name (gs ++ g ∷ [])
-none-more name gs g found none h other = all-behind (λ x. x.name ≢ name) gs g (subst (FoundSo name gs) none h) other
+-- the first of a name, with one more group behind
+first-kept : (name : List ℕ) (gs : List GroupTree) (g first : GroupTree) → first_named name gs ≡ Some first → first_named name (gs ++ g ∷ []) ≡ Some first
+first-kept name [] g first e = absurd cc
+first-kept name (x ∷ gs) g first e = here (bytes_eq x.name name) e (first-kept name gs g first)
+  where
+    here : (b : Bool) → cond b (Some x) (first_named name gs) ≡ Some first → (first_named name gs ≡ Some first → first_named name (gs ++ g ∷ []) ≡ Some first)
+        → cond b (Some x) (first_named name (gs ++ g ∷ [])) ≡ Some first
+    here true e behind = e
+    here false e behind = behind e
+
+first-behind : (name : List ℕ) (gs : List GroupTree) (g : GroupTree) → first_named name gs ≡ None → first_named name (gs ++ g ∷ []) ≡ cond (bytes_eq g.name name) (Some g) None
+first-behind name [] g e = refl
+first-behind name (x ∷ gs) g e = here (bytes_eq x.name name) e (first-behind name gs g)
+  where
+    here : (b : Bool) → cond b (Some x) (first_named name gs) ≡ None → (first_named name gs ≡ None → first_named name (gs ++ g ∷ []) ≡ cond (bytes_eq g.name name) (Some g) None)
+        → cond b (Some x) (first_named name (gs ++ g ∷ [])) ≡ cond (bytes_eq g.name name) (Some g) None
+    here true e behind = absurd cc
+    here false e behind = behind e
+
+-- one more group where one was found
+pub found-kept : (name : List ℕ) (gs : List GroupTree) (next : GroupTree) (found : Option Group) (g : Group) → found ≡ Some g → FoundSo name gs found → FoundSo name (gs ++ next ∷ []) (Some g)
+found-kept name gs next found g is h = let s = subst (FoundSo name gs) is h in (first-kept name gs next (group_tree g) s.0, s.1)
+
+-- one more group where none was found
+module _ (name : List ℕ) (gs : List GroupTree) (next : Group) (found : Option Group) (none : found ≡ None) (h : FoundSo name gs found) where
+  more-is : first_named name (gs ++ group_tree next ∷ []) ≡ cond (bytes_eq (group_tree next).name name) (Some (group_tree next)) None
+  more-is = first-behind name gs (group_tree next) (subst (FoundSo name gs) none h)
+
+  pub found-now : bytes_eq (group_tree next).name name ≡ true → HasFewNeeds (group_tree next) → FoundSo name (gs ++ group_tree next ∷ []) (Some next)
+  found-now is few = (more-is ∙ ap (λ (b : Bool). cond b (Some (group_tree next)) None) is, few)
+
+  pub none-more : bytes_eq (group_tree next).name name ≡ false → FoundSo name (gs ++ group_tree next ∷ []) None
+  none-more is = more-is ∙ ap (λ (b : Bool). cond b (Some (group_tree next)) None) is
 
 -- ---- groups among items
 

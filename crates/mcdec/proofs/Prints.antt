@@ -1,6 +1,6 @@
 -- What is printed in pieces is printed as a whole.
 use Rattle.std.proofs.Common.{◌≡◌, ℕ, zero, suc, ◌+◌, ◌<◌, ◌≤◌, min, List, [], ◌∷◌, ◌++◌, length, take, drop, get_or, codes, Option, Some, None, Result, Ok, Err, refl, sym, ap, subst, ◌∙◌, append_assoc, arith, inl, inr}
-use Rattle.std.specs.Prelude.{IsErrOf}
+use Rattle.std.specs.Prelude.{IsErrOf, flat_map}
 use Rattle.std.specs.Result.{IsErrAnd}
 use Rattle.std.proofs.lemmas.List.{append-nil, take-append-le, take_min, take_more, take-append-drop}
 use Rattle.std.proofs.Math.Seq.{take-append-add}
@@ -9,7 +9,7 @@ use Rattle.mc_shelf.specs.Sink.{Adds}
 use Rattle.mc_shelf.specs.declared.sink.Stop.{Stop}
 use Rattle.mc_shelf.specs.declared.sink.Stop.TheVariants.{Failed, NoMemory}
 use Rattle.hex.specs.Hex.{encode_with, encode_lower}
-use Rattle.mcdec.specs.Printed.{each, register_line, register_lines}
+use Rattle.mcdec.specs.Printed.{register_line, register_lines}
 use Rattle.mcdec.specs.declared.print.Piece.{Piece}
 use Rattle.mcdec.specs.inner.Printing.{Gains, Prints, piece_text, pieces_text}
 
@@ -170,36 +170,36 @@ module _ (rs ws : List ℕ) (k r w : ℕ) (lr : k < length rs) (lw : k < length 
 -- ---- texts of items
 
 module _ {X : Type 0} (text : X → List ℕ) where
-  each-append : (xs ys : List X) → each text (xs ++ ys) ≡ each text xs ++ each text ys
+  each-append : (xs ys : List X) → flat_map text (xs ++ ys) ≡ flat_map text xs ++ flat_map text ys
   each-append [] ys = refl
-  each-append (x ∷ xs) ys = ap (λ (s : List ℕ). text x ++ s) (each-append xs ys) ∙ sym (append_assoc (text x) (each text xs) (each text ys))
+  each-append (x ∷ xs) ys = ap (λ (s : List ℕ). text x ++ s) (each-append xs ys) ∙ sym (append_assoc (text x) (flat_map text xs) (flat_map text ys))
 
-  each-more : (xs : List X) (i : ℕ) (d : X) → i < length xs → each text (take (i + 1) xs) ≡ each text (take i xs) ++ text (get_or xs i d)
+  each-more : (xs : List X) (i : ℕ) (d : X) → i < length xs → flat_map text (take (i + 1) xs) ≡ flat_map text (take i xs) ++ text (get_or xs i d)
   each-more xs i d lt =
-      ap (each text) (take_more xs i d lt) ∙ each-append (take i xs) (get_or xs i d ∷ [])
-      ∙ ap (λ (s : List ℕ). each text (take i xs) ++ s) (append-nil (text (get_or xs i d)))
+      ap (flat_map text) (take_more xs i d lt) ∙ each-append (take i xs) (get_or xs i d ∷ [])
+      ∙ ap (λ (s : List ℕ). flat_map text (take i xs) ++ s) (append-nil (text (get_or xs i d)))
 
-  each-split : (xs : List X) (i : ℕ) (d : X) → i < length xs → each text xs ≡ (each text (take i xs) ++ text (get_or xs i d)) ++ each text (drop (i + 1) xs)
+  each-split : (xs : List X) (i : ℕ) (d : X) → i < length xs → flat_map text xs ≡ (flat_map text (take i xs) ++ text (get_or xs i d)) ++ flat_map text (drop (i + 1) xs)
   each-split xs i d lt =
-      ap (each text) (sym (take-append-drop (i + 1) xs)) ∙ each-append (take (i + 1) xs) (drop (i + 1) xs)
-      ∙ ap (λ (s : List ℕ). s ++ each text (drop (i + 1) xs)) (each-more xs i d lt)
+      ap (flat_map text) (sym (take-append-drop (i + 1) xs)) ∙ each-append (take (i + 1) xs) (drop (i + 1) xs)
+      ∙ ap (λ (s : List ℕ). s ++ flat_map text (drop (i + 1) xs)) (each-more xs i d lt)
 
-  module _ (xs : List X) (i : ℕ) (d : X) (lt : i < length xs) (o m n : Option (List ℕ)) (f g h : ℕ) (front : Prints (Ok tt) (each text (take i xs)) o m f g) where
+  module _ (xs : List X) (i : ℕ) (d : X) (lt : i < length xs) (o m n : Option (List ℕ)) (f g h : ℕ) (front : Prints (Ok tt) (flat_map text (take i xs)) o m f g) where
     -- one item more
-    pub items-more : Prints (Ok tt) (text (get_or xs i d)) m n g h → Prints (Ok tt) (each text (take (i + 1) xs)) o n f h
-    items-more next = prints-as (Ok tt) _ _ o n f h (sym (each-more xs i d lt)) (prints-then (Ok tt) (each text (take i xs)) (text (get_or xs i d)) o m n f g h front next)
+    pub items-more : Prints (Ok tt) (text (get_or xs i d)) m n g h → Prints (Ok tt) (flat_map text (take (i + 1) xs)) o n f h
+    items-more next = prints-as (Ok tt) _ _ o n f h (sym (each-more xs i d lt)) (prints-then (Ok tt) (flat_map text (take i xs)) (text (get_or xs i d)) o m n f g h front next)
 
     -- the next item failed
-    pub items-broken : (e : Stop) → Prints (Err e) (text (get_or xs i d)) m n g h → Prints (Err e) (each text xs) o n f h
+    pub items-broken : (e : Stop) → Prints (Err e) (text (get_or xs i d)) m n g h → Prints (Err e) (flat_map text xs) o n f h
     items-broken e next =
         prints-as (Err e) _ _ o n f h (sym (each-split xs i d lt))
-        (prints-stopped e (each text (take i xs) ++ text (get_or xs i d)) (each text (drop (i + 1) xs)) o n f h (prints-then (Err e) (each text (take i xs)) (text (get_or xs i d)) o m n f g h front next))
+        (prints-stopped e (flat_map text (take i xs) ++ text (get_or xs i d)) (flat_map text (drop (i + 1) xs)) o n f h (prints-then (Err e) (flat_map text (take i xs)) (text (get_or xs i d)) o m n f g h front next))
 
 -- the digits of each byte
 abbrev pub byte_text : ℕ → List ℕ
 byte_text b = encode_lower (b ∷ [])
 
-pub encode-each : (bs : List ℕ) → each byte_text bs ≡ encode_lower bs
+pub encode-each : (bs : List ℕ) → flat_map byte_text bs ≡ encode_lower bs
 unfolding encode_with
 encode-each [] = refl
 encode-each (b ∷ bs) = ap (λ (s : List ℕ). byte_text b ++ s) (encode-each bs)

@@ -13,7 +13,7 @@ use Rattle.rv_words.specs.declared.memory.NoMemory.{NoMemory}
 use Rattle.rv_words.specs.declared.range.Range.{Range}
 use Rattle.elf_image.specs.Fault.{IsReadable}
 use Rattle.elf_image.specs.declared.image.Piece.{Piece}
-use Rattle.elf_image.specs.Image.{bytes_in, padded, image_of}
+use Rattle.elf_image.specs.Image.{bytes_in, memory_of_file, padded}
 use Rattle.rv_machine.specs.State.{Contents, State, empty_state, state_of, with_bytes, with_register}
 use Rattle.rv_machine.specs.Step.{writes}
 use Rattle.rv_machine.specs.Run.{EndsIn}
@@ -182,12 +182,12 @@ held-all m r k bytes e is = λ i. record { at = r.at; bytes = (is ∙ (λ j. map
 
 -- ---- the whole state
 
-pub begun : (file : List ℕ) (args : List Arg) (a : ℕ) (pieces : List Piece) (memory : List Range) (s t v u : State) → pieces ≡ (image_of file).pieces → memory ≡ ranges args → s ≡ empty_state a
+pub begun : (file : List ℕ) (args : List Arg) (a : ℕ) (pieces : List Piece) (memory : List Range) (s t v u : State) → bytes_in pieces ≡ memory_of_file file → memory ≡ ranges args → s ≡ empty_state a
     → t ≡ with_bytes (bytes_in pieces) s → v ≡ record t { mem = placed memory t.mem } → ((v.reg ≡ (λ r. 0)) → u ≡ record v { reg = value_of (givens args) }) → u ≡ begin file args a
-begun file args a pieces memory s t v u image same empty put over_it set =
-    let loaded : t ≡ with_bytes (bytes_in (image_of file).pieces) (empty_state a) = put ∙ (λ i. with_bytes (bytes_in (image i)) (empty i)) in
-    let here : v ≡ record { pc = a; reg = λ r. 0; mem = placed (ranges args) (bytes_in (image_of file).pieces) } =
-    over_it ∙ (λ i. with_placed (same i) (loaded i)) ∙ (λ i. record { pc = a; reg = λ r. 0; mem = placed (ranges args) (λ q. or-none (bytes_in (image_of file).pieces q) i) }) in
+begun file args a pieces memory s t v u bytes same empty put over_it set =
+    let loaded : t ≡ with_bytes (memory_of_file file) (empty_state a) = put ∙ (λ i. with_bytes (bytes i) (empty i)) in
+    let here : v ≡ record { pc = a; reg = λ r. 0; mem = placed (ranges args) (memory_of_file file) } =
+    over_it ∙ (λ i. with_placed (same i) (loaded i)) ∙ (λ i. record { pc = a; reg = λ r. 0; mem = placed (ranges args) (λ q. or-none (memory_of_file file q) i) }) in
     set (ap (λ (x : State). x.reg) here) ∙ ap (λ (x : State). record x { reg = value_of (givens args) }) here
   where
     or-none : (o : Option ℕ) → option_or o None ≡ o

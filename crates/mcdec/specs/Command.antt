@@ -44,25 +44,13 @@ abbrev pub arg_word : Arg → List ℕ
 arg_word (Value g) = given_word g
 arg_word (Memory r) = memory_word r
 
--- the word that names a command
-abbrev pub name_of : Command → List ℕ
-name_of (Eval proof name turns args) = codes "eval"
-name_of (Run elf start until steps args) = codes "run"
-name_of (Check elf proof) = codes "check"
-name_of (Decompile elf out names) = codes "decompile"
-name_of (SelfTest number size) = codes "selftest"
-
--- the words behind it
-abbrev pub operands_of : Command → List (List ℕ)
-operands_of (Eval proof name turns args) = proof ∷ name ∷ decimal turns ∷ map arg_word args
-operands_of (Run elf start until steps args) = elf ∷ start ∷ hex until ∷ decimal steps ∷ map arg_word args
-operands_of (Check elf proof) = elf ∷ proof ∷ []
-operands_of (Decompile elf out names) = elf ∷ out ∷ names
-operands_of (SelfTest number size) = decimal number ∷ decimal size ∷ []
-
--- the words of a command
+-- the words of a command: its name, and its operands
 abbrev pub words_of : Command → List (List ℕ)
-words_of c = name_of c ∷ operands_of c
+words_of (Eval proof name turns args) = codes "eval" ∷ proof ∷ name ∷ decimal turns ∷ map arg_word args
+words_of (Run elf start until steps args) = codes "run" ∷ elf ∷ start ∷ hex until ∷ decimal steps ∷ map arg_word args
+words_of (Check elf proof) = codes "check" ∷ elf ∷ proof ∷ []
+words_of (Decompile elf out names) = codes "decompile" ∷ elf ∷ out ∷ names
+words_of (SelfTest number size) = codes "selftest" ∷ decimal number ∷ decimal size ∷ []
 
 abbrev pub IsGiven : Given → Type 0
 IsGiven g = (1 ≤ g.register) × (g.register ≤ 31) × (g.value < 2 ^ 64)
@@ -133,8 +121,5 @@ inputs_of (SelfTest number size) = []
 
 -- the file that a command writes
 abbrev pub output_of : Command → Option (List ℕ)
-output_of (Eval proof name turns args) = None
-output_of (Run elf start until steps args) = None
-output_of (Check elf proof) = None
 output_of (Decompile elf out names) = Some out
-output_of (SelfTest number size) = None
+output_of other = None

@@ -1,5 +1,5 @@
 -- When each answer to `eval` comes.
-use Rattle.std.specs.Prelude.{◌≡◌, ◌≢◌, ℕ, ◌-◌, ◌<◌, ◌≤◌, List, [], ◌∷◌, ◌++◌, length, map, replicate}
+use Rattle.std.specs.Prelude.{◌≡◌, ℕ, ◌-◌, ◌<◌, ◌≤◌, List, [], ◌∷◌, ◌++◌, Option, Some, None, bytes_eq, find, length, map, replicate}
 use Rattle.std.specs.List.{AllByRecursion}
 use Rattle.rv_words.specs.Bytes.{Bytes}
 use Rattle.mc_text.specs.Fault.{IsBadAt}
@@ -8,8 +8,9 @@ use Rattle.tailrec_lang.specs.Tree.{GroupTree, listed_def}
 use Rattle.tailrec_lang.specs.WellFormed.{IsWellFormed, IsFirstIllFormed}
 use Rattle.tailrec_lang.specs.Eval.{Arguments, Done, SideFalse, Turns, eval}
 use Rattle.proof_text.specs.Line.{ProofTree}
-use Rattle.proof_text.specs.Proofs.{AreProofs, bare, groups_of, text_of_proofs, texts_of_proofs}
+use Rattle.proof_text.specs.Proofs.{bare, groups_of, texts_of_proofs}
 use Rattle.proof_text.specs.FirstProofs.{AreRead}
+use Rattle.checker.specs.Verdicts.{IsTextOf}
 use Rattle.mcdec.specs.declared.answer.EvalAnswer.{EvalAnswer}
 use Rattle.mcdec.specs.declared.answer.EvalAnswer.TheVariants as answer
 use Rattle.mcdec.specs.declared.answer.Shown.{Shown}
@@ -36,29 +37,19 @@ shown_of g args used pc results =
     record { count = used; pc = pc; registers = g.regs; words = results.words; memory = ranges_in results.mems (ranges args) }
 
 -- the first group of the name, if there is one
-abbrev pub NoneNamed : List ℕ → List GroupTree → Type 0
-NoneNamed name gs = AllByRecursion (λ g. g.name ≢ name) gs
-
-pub record FirstNamed (name : List ℕ) (gs : List GroupTree) (g : GroupTree) : Type 0 where
-  pub before : List GroupTree
-  pub behind : List GroupTree
-  pub parts : gs ≡ before ++ g ∷ behind
-  pub others : NoneNamed name before
-  pub named : g.name ≡ name
+abbrev pub first_named : List ℕ → List GroupTree → Option GroupTree
+first_named name gs = find (λ g. bytes_eq g.name name) gs
 
 -- each group is well-formed
 abbrev pub AreWellFormed : List GroupTree → Type 0
 AreWellFormed gs = AllByRecursion IsWellFormed gs
 
--- the text is that of these groups with the lines of their proofs, and all groups are well-formed
-abbrev pub IsTextOf : List ℕ → List ProofTree → Type 0
-IsTextOf text ps = AreProofs ps × (text ≡ text_of_proofs ps) × AreWellFormed (groups_of ps)
-
--- the text is that of groups with the lines of their proofs, all groups are well-formed, and the first of this name is that one
-pub record IsNamed (text name : List ℕ) (g : GroupTree) : Type 0 where
+-- the text is that of groups with the lines of their proofs, all groups are well-formed, and this is the first of the name, if any
+pub record IsNamed (text name : List ℕ) (found : Option GroupTree) : Type 0 where
   pub proofs : List ProofTree
   pub spelled : IsTextOf text proofs
-  pub first : FirstNamed name (groups_of proofs) g
+  pub well_formed : AreWellFormed (groups_of proofs)
+  pub first : first_named name (groups_of proofs) ≡ found
 
 -- What `eval` of a name comes to, where the proof file has these bytes. Lines of proofs are read, and not judged. A group is judged
 -- when its definitions are read: one that isn't well-formed is told before a bad line behind them, and after one among them.
@@ -69,12 +60,11 @@ EvalGives file name turns args (answer.Unreadable line) =
 EvalGives file name turns args (answer.IllFormed group def) =
     (length file ≤ proof_limit) × (ps : List ProofTree) × (g : GroupTree) × AreRead file (ps ++ bare g ∷ []) × AreWellFormed (groups_of ps)
     × (group ≡ length ps) × IsFirstIllFormed g def
-EvalGives file name turns args answer.NoFunction =
-    (length file ≤ proof_limit) × (ps : List ProofTree) × IsTextOf file ps × NoneNamed name (groups_of ps)
+EvalGives file name turns args answer.NoFunction = (length file ≤ proof_limit) × IsNamed file name None
 EvalGives file name turns args (answer.SideFalse def ordinal) =
-    (length file ≤ proof_limit) × (g : GroupTree) × IsNamed file name g × (eval g (listed_def g) (arguments_of args g) turns ≡ SideFalse def ordinal)
+    (length file ≤ proof_limit) × (g : GroupTree) × IsNamed file name (Some g) × (eval g (listed_def g) (arguments_of args g) turns ≡ SideFalse def ordinal)
 EvalGives file name turns args answer.TurnsUsed =
-    (length file ≤ proof_limit) × (g : GroupTree) × IsNamed file name g × (eval g (listed_def g) (arguments_of args g) turns ≡ Turns)
+    (length file ≤ proof_limit) × (g : GroupTree) × IsNamed file name (Some g) × (eval g (listed_def g) (arguments_of args g) turns ≡ Turns)
 EvalGives file name turns args (answer.Done shown) =
-    (length file ≤ proof_limit) × (g : GroupTree) × IsNamed file name g × (exit pc left : ℕ) × (results : Arguments)
+    (length file ≤ proof_limit) × (g : GroupTree) × IsNamed file name (Some g) × (exit pc left : ℕ) × (results : Arguments)
     × (eval g (listed_def g) (arguments_of args g) turns ≡ Done exit pc results left) × (shown ≡ shown_of g args (turns - left) pc results)

@@ -1,5 +1,5 @@
 -- How an answer is printed: its status, and its lines.
-use Rattle.std.specs.Prelude.{◌≡◌, ℕ, List, [], ◌∷◌, ◌++◌, take, codes, min, max, Option, ◌⊎◌}
+use Rattle.std.specs.Prelude.{◌≡◌, ℕ, List, [], ◌∷◌, ◌++◌, take, flat_map, codes, min, max, Option, ◌⊎◌}
 use Rattle.std.specs.Fmt.{decimal}
 use Rattle.hex.specs.Hex.{encode_lower}
 use Rattle.rv_words.specs.declared.range.Range.{Range}
@@ -28,11 +28,6 @@ use Rattle.mcdec.specs.declared.answer.SelfTestAnswer.{SelfTestAnswer}
 use Rattle.mcdec.specs.declared.answer.Shown.{Shown}
 use Rattle.mc_text.specs.Number.{hex}
 
--- the texts of the items, one after the other
-abbrev pub each : {X : Type 0} → (X → List ℕ) → List X → List ℕ
-each text [] = []
-each text (x ∷ xs) = text x ++ each text xs
-
 -- xN V
 abbrev pub register_line : ℕ → ℕ → List ℕ
 register_line r w = codes "x" ++ decimal r ++ codes " " ++ hex w ++ codes "\n"
@@ -40,8 +35,7 @@ register_line r w = codes "x" ++ decimal r ++ codes " " ++ hex w ++ codes "\n"
 -- a line for each register
 abbrev pub register_lines : List ℕ → List ℕ → List ℕ
 register_lines (r ∷ rs) (w ∷ ws) = register_line r w ++ register_lines rs ws
-register_lines [] ws = []
-register_lines (r ∷ rs) [] = []
+register_lines _ _ = []
 
 -- mem A H
 abbrev pub memory_line : Range → List ℕ
@@ -53,7 +47,7 @@ count_lines word count pc = word ++ decimal count ++ codes "\npc " ++ hex pc ++ 
 
 -- these, and the lines of registers and of memory
 abbrev pub shown_lines : List ℕ → Shown → List ℕ
-shown_lines word s = count_lines word s.count s.pc ++ register_lines s.registers s.words ++ each memory_line s.memory
+shown_lines word s = count_lines word s.count s.pc ++ register_lines s.registers s.words ++ flat_map memory_line s.memory
 
 -- why there is no step
 abbrev pub stuck_words : Stuck → List ℕ
@@ -145,7 +139,7 @@ abbrev pub decompile_printed : DecompileAnswer → ℕ × List ℕ
 decompile_printed decompile.OverLimit = (7, codes "over limit elf\n")
 decompile_printed (decompile.Unreadable why) = (3, codes "unreadable elf " ++ fault_words why ++ codes "\n")
 decompile_printed (decompile.Refused name why) = (1, codes "refused " ++ name ++ codes " " ++ outside_words why ++ codes "\n")
-decompile_printed (decompile.Decompiled listed) = (0, each listed_line listed)
+decompile_printed (decompile.Decompiled listed) = (0, flat_map listed_line listed)
 
 -- the status and the lines of each answer
 abbrev pub printed : Answer → ℕ × List ℕ

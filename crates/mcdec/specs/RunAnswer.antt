@@ -2,7 +2,7 @@
 use Rattle.std.specs.Prelude.{◌≡◌, ℕ, ◌<◌, ◌≤◌, ◌==◌, Bool, not, ◌||◌, List, length, map, filter, is_some, Some, Ok, Err}
 use Rattle.std.specs.List.{range_with_len}
 use Rattle.elf_image.specs.Fault.{IsReadable, fault_of}
-use Rattle.elf_image.specs.Image.{image_of, bytes_in}
+use Rattle.elf_image.specs.Image.{memory_of_file}
 use Rattle.decompiler.specs.Names.{StandsFor}
 use Rattle.rv_machine.specs.State.{State}
 use Rattle.rv_machine.specs.Run.{EndsIn}
@@ -18,10 +18,10 @@ use Rattle.mcdec.specs.Memory.{placed, held_at}
 abbrev pub elf_limit : ℕ
 elf_limit = 67108864
 
--- the state at an address: in memory the file's pieces and the words' ranges over them, and in each register the value that it
+-- the state at an address: in memory the file's bytes and the words' ranges over them, and in each register the value that it
 -- is given, or 0
 abbrev pub begin : List ℕ → List Arg → ℕ → State
-begin file args a = record { pc = a; reg = value_of (givens args); mem = placed (ranges args) (bytes_in (image_of file).pieces) }
+begin file args a = record { pc = a; reg = value_of (givens args); mem = placed (ranges args) (memory_of_file file) }
 
 -- a register that is given a value, or doesn't hold 0
 abbrev pub is_shown : List Given → State → ℕ → Bool

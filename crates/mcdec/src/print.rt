@@ -1,7 +1,7 @@
 //! Printing an answer into a sink, piece by piece. It takes no memory.
 
-ghost use Rattle.std.specs.Prelude.{◌≡◌, ◌⊎◌, ◌≤◌, ℕ, List, map, max, min, codes, ◌++◌};
-ghost use Rattle.mcdec.specs.Printed.{check_printed, count_lines, decompile_printed, each, eval_printed, fault_words, lines, listed_line, memory_line, name_words, outside_words, register_line, register_lines, run_printed, self_test_line, shown_lines, status, stuck_words, IsDelivered};
+ghost use Rattle.std.specs.Prelude.{◌≡◌, ◌⊎◌, ◌≤◌, ℕ, List, flat_map, map, max, min, codes, ◌++◌};
+ghost use Rattle.mcdec.specs.Printed.{check_printed, count_lines, decompile_printed, eval_printed, fault_words, lines, listed_line, memory_line, name_words, outside_words, register_line, register_lines, run_printed, self_test_line, shown_lines, status, stuck_words, IsDelivered};
 ghost use Rattle.std.specs.Fmt.{decimal};
 ghost use Rattle.hex.specs.Hex.{encode_lower};
 ghost use Rattle.loop_forest.specs.Cycles.{last_of};
@@ -310,7 +310,7 @@ fn last_of(walk: &Items<u64>) -> u64
 
 /// A line for each name.
 fn put_all_listed<O: Sink>(out: &mut O, all: &[Listed]) -> Result<(), Stop>
-    ensures { Prints result (each listed_line all.now) (O.written out.old) (O.written out.new) (O.faults out.old) (O.faults out.new) }
+    ensures { Prints result (flat_map listed_line all.now) (O.written out.old) (O.written out.new) (O.faults out.old) (O.faults out.new) }
 {
     for listed in all {
         put_listed(out, listed)?;
@@ -609,7 +609,7 @@ fn put_end<O: Sink>(
     words: &[u64],
     memory: &[Range],
 ) -> Result<(), Stop>
-    ensures { Prints result (count_lines word.now count pc ++ register_lines registers.now words.now ++ each memory_line memory.now) (O.written out.old) (O.written out.new) (O.faults out.old) (O.faults out.new) }
+    ensures { Prints result (count_lines word.now count pc ++ register_lines registers.now words.now ++ flat_map memory_line memory.now) (O.written out.old) (O.written out.new) (O.faults out.old) (O.faults out.new) }
 {
     put_count(out, word, count, pc)?;
     put_registers(out, registers, words)?;
@@ -618,7 +618,7 @@ fn put_end<O: Sink>(
 
 /// The lines of ranges of memory.
 fn put_memory<O: Sink>(out: &mut O, memory: &[Range]) -> Result<(), Stop>
-    ensures { Prints result (each memory_line memory.now) (O.written out.old) (O.written out.new) (O.faults out.old) (O.faults out.new) }
+    ensures { Prints result (flat_map memory_line memory.now) (O.written out.old) (O.written out.new) (O.faults out.old) (O.faults out.new) }
 {
     for range in memory {
         put_range(out, range)?;

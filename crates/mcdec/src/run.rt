@@ -17,7 +17,7 @@ use crate::answer::{Answer, RunAnswer, Shown};
 use crate::command::{Registers, Run};
 use crate::memory::ranges_now;
 use decompiler::address_of;
-use elf_image::{ElfFault, Image, Piece, read};
+use elf_image::{ElfFault, Image, Piece, law_of_image, read};
 use mc_shelf::{ReadEnd, Shelf, read_file};
 use rv_machine::{RunEnd, State};
 use rv_words::{Bytes, List, NoMemory, Range, Text};
@@ -77,6 +77,7 @@ fn run_image(alloc: Global, image: Image, start: u64, r: &Run<'_>) -> Result<Run
     ensures { (args : List Arg) → AreArgs args → HoldsArgs args r.now.given.values r.now.memory → (file : List ℕ) → image ≡ image_of file
         → IfOk result (λ a. MachineGives r.now.until r.now.steps args (begin file args start) a) }
 {
+    law_of_image(&image);
     let mut state = State::new(alloc, start);
     place_pieces(&mut state, image.pieces())?;
     drop(image);

@@ -1,6 +1,6 @@
 -- What the reader of the command line's words gives.
 use Rattle.std.specs.List.{AllByRecursion}
-use Rattle.std.specs.Prelude.{◌≡◌, ◌≢◌, ℕ, ◌<◌, List, map, Option, Some, None, slice_get, unwrap_or}
+use Rattle.std.specs.Prelude.{◌≡◌, ◌≢◌, ℕ, ◌<◌, List, drop, map, Option, Some, None, slice_get, unwrap_or}
 use Rattle.mcdec.specs.declared.command.Command.{Command as Read}
 use Rattle.mcdec.specs.declared.command.Command.TheVariants as read
 use Rattle.mcdec.specs.declared.command.Eval.{Eval as ReadEval}
@@ -13,7 +13,7 @@ use Rattle.mcdec.specs.declared.command.Argument.TheVariants as read_arg
 use Rattle.mcdec.specs.declared.command.Unread.{Unread}
 use Rattle.mcdec.specs.declared.command.Unread.TheVariants as unread
 use Rattle.rv_words.specs.declared.range.Range.{Range}
-use Rattle.mcdec.specs.Command.{Eval, Run, Check, Decompile, SelfTest, Arg, Value, Memory, Given, IsGiven, IsMemory, IsCommand, AreArgs, Words, given_to, arg_word, operands_of, givens, ranges}
+use Rattle.mcdec.specs.Command.{Eval, Run, Check, Decompile, SelfTest, Arg, Value, Memory, Given, IsGiven, IsMemory, IsCommand, AreArgs, Command, Words, given_to, arg_word, words_of, givens, ranges}
 
 -- each register's value, or none
 abbrev pub Holds : List Given → List (Option ℕ) → Type 0
@@ -63,6 +63,10 @@ HoldsArgs args values memory = Holds (givens args) values × (memory ≡ ranges 
 
 abbrev pub AllArgs : List (List ℕ) → List (Option ℕ) → List Range → Type 0
 AllArgs ws values memory = (args : List Arg) × AreArgs args × (ws ≡ map arg_word args) × HoldsArgs args values memory
+
+-- the words behind the command's name
+abbrev pub operands_of : Command → List (List ℕ)
+operands_of c = drop 1 (words_of c)
 
 abbrev pub NoEval : List (List ℕ) → Type 0
 NoEval ws = (proof name : List ℕ) (turns : ℕ) (args : List Arg) → IsCommand (Eval proof name turns args) → ws ≢ operands_of (Eval proof name turns args)

@@ -15,7 +15,7 @@ use Rattle.mcdec.specs.declared.evaluate.Refusal.TheVariants as refusal
 use Rattle.mcdec.specs.declared.answer.EvalAnswer.{EvalAnswer}
 use Rattle.mcdec.specs.declared.answer.EvalAnswer.TheVariants as answer
 use Rattle.mcdec.specs.Command.{Arg}
-use Rattle.mcdec.specs.EvalAnswer.{AreWellFormed, FirstNamed, IsTextOf, NoneNamed, arguments_of, shown_of}
+use Rattle.mcdec.specs.EvalAnswer.{AreWellFormed, IsNamed, arguments_of, first_named, shown_of}
 
 -- these proofs were given, and the lines of the last one have ended
 pub record HasPassed (ps : List ProofTree) (r : Progress) : Type 0 where
@@ -66,17 +66,17 @@ NextIs n old new (Err refusal.NoMemory) = Unit {0}
 
 -- what a text has for a name
 abbrev pub Finds : List ℕ → List ℕ → Result Group Refusal → Type 0
-Finds text name (Ok g) = (ps : List ProofTree) × IsTextOf text ps × FirstNamed name (groups_of ps) (group_tree g) × HasFewNeeds (group_tree g)
+Finds text name (Ok g) = IsNamed text name (Some (group_tree g)) × HasFewNeeds (group_tree g)
 Finds text name (Err (refusal.Text line)) = IsBadText text line
 Finds text name (Err (refusal.IllFormed n def)) = (ps : List ProofTree) × (g : GroupTree) × AreRead text (ps ++ bare g ∷ [])
     × AreWellFormed (groups_of ps) × (n ≡ length ps) × IsFirstIllFormed g def
-Finds text name (Err refusal.NoFunction) = (ps : List ProofTree) × IsTextOf text ps × NoneNamed name (groups_of ps)
+Finds text name (Err refusal.NoFunction) = IsNamed text name None
 Finds text name (Err refusal.NoMemory) = Unit {0}
 
 -- what was found of a name among these groups
 abbrev pub FoundSo : List ℕ → List GroupTree → Option Group → Type 0
-FoundSo name gs None = NoneNamed name gs
-FoundSo name gs (Some g) = FirstNamed name gs (group_tree g) × HasFewNeeds (group_tree g)
+FoundSo name gs None = first_named name gs ≡ None
+FoundSo name gs (Some g) = (first_named name gs ≡ Some (group_tree g)) × HasFewNeeds (group_tree g)
 
 -- proofs that a reader has given of a text, whose groups are well-formed and as many as were counted, and what was found among them
 pub record Searched (text name : List ℕ) (r : Progress) (count : ℕ) (found : Option Group) : Type 0 where

@@ -1,6 +1,6 @@
 use Rattle.std.proofs.Common.{arith, Ok, Err, ap, ◌∙◌, length, ◌≤◌}
+use Rattle.std.specs.Prelude.{flat_map}
 use Rattle.std.proofs.lemmas.List.{take_all}
-use Rattle.mcdec.specs.Printed.{each}
 use Rattle.mcdec.proofs.Prints.{prints-as, prints-exit, items-more, items-broken, byte_text, encode-each}
 use Rattle.mcdec.proofs.print.put_bytes.Goals as goal
 
@@ -20,4 +20,4 @@ loop-byte-preserved g c =
 pub returns : goal.returns
 returns g c =
     let whole : length c.args.bytes.now ≤ c.loop-byte.byte-index = omega (arith, c.loop-byte-test.false) in
-    prints-as (Ok tt) _ _ _ _ _ _ (ap (each byte_text) (take_all c.loop-byte.byte-index c.args.bytes.now whole) ∙ encode-each c.args.bytes.now) c.loop-byte.invariant
+    prints-as (Ok tt) _ _ _ _ _ _ (ap (flat_map byte_text) (take_all c.loop-byte.byte-index c.args.bytes.now whole) ∙ encode-each c.args.bytes.now) c.loop-byte.invariant

@@ -1,5 +1,6 @@
 use Rattle.std.proofs.Common.{◌++◌, Ok, Err}
-use Rattle.mcdec.specs.Printed.{count_lines, each, memory_line, register_lines}
+use Rattle.std.specs.Prelude.{flat_map}
+use Rattle.mcdec.specs.Printed.{count_lines, memory_line, register_lines}
 use Rattle.mcdec.proofs.Prints.{prints-exit, prints-then, prints-stopped}
 use Rattle.mcdec.proofs.print.put_end.Goals as goal
 
@@ -9,7 +10,7 @@ returns-in_err-put_count g c =
     let first = count_lines c.args.word.now c.args.count c.args.pc in
     let second = register_lines c.args.registers.now c.args.words.now in
     prints-exit _ e _ _ _ _ _ c.from_residual.ensures.1
-    (prints-stopped e (first ++ second) (each memory_line c.args.memory.now) _ _ _ _ (prints-stopped e first second _ _ _ _ c.in_err-put_count.ensures))
+    (prints-stopped e (first ++ second) (flat_map memory_line c.args.memory.now) _ _ _ _ (prints-stopped e first second _ _ _ _ c.in_err-put_count.ensures))
 
 pub returns-in_err-put_registers : goal.returns-in_err-put_registers
 returns-in_err-put_registers g c =
@@ -17,12 +18,12 @@ returns-in_err-put_registers g c =
     let first = count_lines c.args.word.now c.args.count c.args.pc in
     let second = register_lines c.args.registers.now c.args.words.now in
     prints-exit _ e _ _ _ _ _ c.from_residual-in_err-put_registers.ensures.1
-    (prints-stopped e (first ++ second) (each memory_line c.args.memory.now) _ _ _ _
+    (prints-stopped e (first ++ second) (flat_map memory_line c.args.memory.now) _ _ _ _
     (prints-then (Err e) first second _ _ _ _ _ _ c.in_ok-put_count.ensures c.in_err-put_registers.ensures))
 
 pub returns : goal.returns
 returns g c =
     let first = count_lines c.args.word.now c.args.count c.args.pc in
     let second = register_lines c.args.registers.now c.args.words.now in
-    prints-then _ (first ++ second) (each memory_line c.args.memory.now) _ _ _ _ _ _
+    prints-then _ (first ++ second) (flat_map memory_line c.args.memory.now) _ _ _ _ _ _
     (prints-then (Ok tt) first second _ _ _ _ _ _ c.in_ok-put_count.ensures c.in_ok-put_registers.ensures) c.put_memory.ensures
