@@ -19,8 +19,9 @@ CRATES = os.path.join(TOP, 'crates')
 DOCUMENT = os.path.join(TOP, 'docs', 'DEFINITIONS.md')
 BEGIN, END = '<!-- definitions.py: begin -->\n', '<!-- definitions.py: end -->\n'
 
-# The contracts that are counted: a title, the file, the function, and its clauses (none: all).
+# The contracts that are counted: a title, the file, the function, and its clauses (none: all). Without a file: definitions by name.
 CONTRACTS = [
+    ('`EvalGives` and `RunGives`: answers of `eval` and `run`', None, ('mcdec.specs.EvalAnswer.EvalGives', 'mcdec.specs.RunAnswer.RunGives'), ()),
     ('`run_words`, all clauses', 'mcdec/src/commands.rt', 'run_words', ()),
     ('`run_words`, `headline`', 'mcdec/src/commands.rt', 'run_words', ('headline',)),
     ('`run_words`, `written`', 'mcdec/src/commands.rt', 'run_words', ('written',)),
@@ -130,7 +131,9 @@ class Definitions:
         return self.meant(named, aliases, module, head) if rest else None
 
     def needed(self, file, function, clauses):
-        """The definitions that the clauses of a function stand on."""
+        """The definitions that the clauses of a function stand on, and those that were named themselves."""
+        if file is None:
+            return self.all_below([tuple(name.rsplit('.', 1)) for name in function])
         with open(os.path.join(CRATES, file), encoding='utf8') as source:
             text = source.read()
         head = re.search(r'fn\s+%s\b.*?\n\s*\{(?=\n|\})' % re.escape(function), text, re.S)
@@ -139,7 +142,10 @@ class Definitions:
         parts = re.findall(r'(?:ensures|requires)\s+(\w*)\s*\{(.*?)\}\s*(?=\n\s*(?://|ensures|requires|\{))', head[0] + '\n{', re.S)
         named, aliases = imports_of('\n'.join(line for line in text.split('\n') if 'ghost use' in line))
         cited = names_in('\n'.join(part for name, part in parts if not clauses or name in clauses))
-        todo = [self.meant(named, aliases, None, name) for name in cited]
+        return self.all_below([self.meant(named, aliases, None, name) for name in cited])
+
+    def all_below(self, todo):
+        """These definitions, and those that they stand on."""
         seen = set()
         while todo:
             definition = todo.pop()
