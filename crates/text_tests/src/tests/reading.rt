@@ -3,6 +3,7 @@
 ghost use Rattle.tailrec_lang.specs.Tree.{group_tree};
 ghost use Rattle.proof_text.specs.Limits.{IsGroup};
 
+use mc_text::put_atom;
 use proof_text::{Line, Reader, TextFault, put_end, put_group, put_head, put_line};
 use rv_words::{Bytes, NoMemory};
 use std::alloc::Global;
@@ -142,6 +143,44 @@ fn texts_are_printed_as_they_stand(rt: HostRuntime) -> Result<(), Fail> {
         if bad.is_none() {
             assert!(rt; is_printed_again(rt.alloc(), text)?);
         }
+    }
+    Ok(())
+}
+
+// ---- nesting
+
+/// A text with one body: so many lines that open a body, the innermost body, and so many that close one.
+fn nested(alloc: Global, count: u32, open: &[u8], close: &[u8]) -> Result<Bytes, NoMemory> {
+    let mut text = Bytes::new(alloc);
+    put_atom(
+        &mut text,
+        b"mcproof 1\ngroup f\nregs\nmems 0\ncode\ndef 0x0\n",
+    )?;
+    for _ in 0..count {
+        put_atom(&mut text, open)?;
+    }
+    put_atom(&mut text, b"again ;\n")?;
+    for _ in 0..count {
+        put_atom(&mut text, close)?;
+    }
+    put_atom(&mut text, b"end\n")?;
+    Ok(text)
+}
+
+/// What opens a body and what closes it, of branches and of calls; how many lines a text has up to the end of 63 such
+/// bodies, and the line that is refused where there are 64.
+static NESTED: [(&[u8], &[u8], u64, u64); 2] = [
+    (b"if (eq 0x0 0x0)\n", b"else\nagain ;\n", 196, 70),
+    (b"call 0 1 ;\narm\n", b"", 133, 133),
+];
+
+#[test]
+fn bodies_nested_64_deep_are_read(rt: HostRuntime) -> Result<(), Fail> {
+    for &(open, close, lines, bad) in &NESTED {
+        let deepest = nested(rt.alloc(), 63, open, close)?;
+        let too_deep = nested(rt.alloc(), 64, open, close)?;
+        assert!(rt; is_read(rt.alloc(), deepest.as_slice(), 1, lines, None));
+        assert!(rt; is_read(rt.alloc(), too_deep.as_slice(), 0, 0, Some(bad)));
     }
     Ok(())
 }
