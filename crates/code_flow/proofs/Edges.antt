@@ -1,7 +1,6 @@
 -- Where the instructions of drawn code lead, from place to place, and the branches back of its loops.
-use Rattle.std.proofs.Common.{◌≡◌, ℕ, zero, suc, ◌+◌, ◌<◌, ◌≤◌, ◌⊎◌, inl, inr, length, refl, sym, arith}
+use Rattle.std.proofs.Common.{◌≡◌, ℕ, suc, ◌+◌, ◌<◌, ◌≤◌, ◌⊎◌, inl, inr, arith}
 use Rattle.code_gen.specs.Pieces.{Pieces, Done, Add, Mix, Choose, Repeat}
-use Rattle.code_gen.specs.Program.{code}
 use Rattle.code_gen.proofs.SizeLemmas.{count, repeat-count}
 
 -- the edge from u to v is that from a to b

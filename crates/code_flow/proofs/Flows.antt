@@ -1,5 +1,5 @@
 -- The flow of a program.
-use Rattle.std.proofs.Common.{◌≡◌, ◌≢◌, ℕ, zero, suc, ◌+◌, ◌-◌, ◌*◌, ◌/◌, ◌%◌, ◌^◌, ◌<◌, ◌≤◌, inl, inr, nat_eq, pos, List, [], ◌∷◌, length, map, get_or, Result, Ok, Err, refl, sym, ap, subst, ◌∙◌, arith}
+use Rattle.std.proofs.Common.{◌≡◌, ◌≢◌, ℕ, ◌+◌, ◌-◌, ◌/◌, ◌<◌, ◌≤◌, inl, inr, pos, List, [], ◌∷◌, length, map, get_or, Ok, refl, sym, ap, subst, ◌∙◌, arith}
 use Rattle.std.specs.List.{Contains}
 use Rattle.std.specs.Prelude.{All}
 use Rattle.std.proofs.lemmas.Bool.Decides.{leb_tells}
@@ -8,10 +8,10 @@ use Rattle.std.proofs.lemmas.List.Elements.{All-from_get_or}
 use Rattle.rv_words.specs.Bytes.{Bytes}
 use Rattle.rv_decode.specs.declared.instruction.Instr.{Instr}
 use Rattle.rv_decode.specs.declared.instruction.Instr.TheVariants.{Jalr}
-use Rattle.flow_graph.specs.Flow.{look, leads, targets, next, Next}
+use Rattle.flow_graph.specs.Flow.{look, leads, next, Next}
 use Rattle.flow_graph.specs.Walks.{Reaches}
 use Rattle.flow_graph.specs.Reach.{IsFault, Large, Least, ReachesOver, reach_limit}
-use Rattle.flow_graph.specs.Graph.{GraphOf, HasEdge, IsFlow, IsGraphOf, number}
+use Rattle.flow_graph.specs.Graph.{GraphOf, IsFlow, IsGraphOf, number}
 use Rattle.flow_graph.specs.declared.outside.Outside.{Outside}
 use Rattle.flow_graph.specs.declared.outside.Outside.TheVariants.{NoSuch, Ambiguous, TooLarge, OutsideCode, NotDecoded, Environment, Call, JumpThrough, Misaligned, TwoEntries as Entries, ManyExits}
 use Rattle.flow_graph.proofs.BuildLemmas.{ok_err, closed_from_reach}
@@ -22,7 +22,6 @@ use Rattle.flow_graph.proofs.VisitedLemmas.{few_from_distinct}
 use Rattle.flow_graph.proofs.Ways.{node_at}
 use Rattle.loop_forest.specs.Forest.{IsForestFault}
 use Rattle.loop_forest.specs.Cycles.{TwoEntries}
-use Rattle.loop_forest.specs.Addresses.{GoesTo, entry_at}
 use Rattle.loop_forest.proofs.AddressLemmas.{graph_settled, code_settled, entry_is}
 use Rattle.loop_forest.proofs.FoundLemmas.{different_distinct}
 use Rattle.code_gen.specs.Pieces.{Pieces, drawn}

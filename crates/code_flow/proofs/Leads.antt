@@ -1,33 +1,29 @@
 -- Where the code of pieces leads, address by address: as their edges say.
-use Rattle.std.proofs.Common.{◌≡◌, ◌≢◌, ℕ, zero, suc, ◌+◌, ◌-◌, ◌*◌, ◌%◌, ◌^◌, ◌==◌, ◌<◌, ◌≤◌, ◌⊎◌, inl, inr, ℤ, pos, negsuc, List, [], ◌∷◌, ◌++◌, length, Bool, true, false, cond, Option, Some, None, Result, Ok, Err, refl, sym, ap, subst, ◌∙◌, arith}
-use Rattle.std.specs.Option.{option_and_then}
+use Rattle.std.proofs.Common.{◌≡◌, ℕ, ◌+◌, ◌-◌, ◌*◌, ◌%◌, ◌^◌, ◌==◌, ◌<◌, ◌≤◌, inl, inr, ℤ, pos, negsuc, List, [], ◌∷◌, ◌++◌, length, true, cond, None, Ok, Err, refl, sym, subst, ◌∙◌, arith}
 use Rattle.std.specs.List.{Contains}
 use Rattle.std.proofs.Math.Nat.{mod-eq_of_lt, add-mul-mod_self_left}
 use Rattle.std.proofs.lemmas.Bool.{eq-eqb, lt-ltb}
 use Rattle.std.proofs.lemmas.Bool.Decides.{leb_tells}
 use Rattle.std.proofs.lemmas.List.{length-append}
-use Rattle.rv_words.specs.Bytes.{Bytes, word_at}
+use Rattle.rv_words.specs.Bytes.{Bytes}
 use Rattle.rv_words.specs.declared.comparison.Cmp.{Cmp}
 use Rattle.rv_words.specs.declared.comparison.Cmp.TheVariants.{Eq, Ne}
 use Rattle.rv_decode.specs.declared.instruction.Instr.{Instr}
 use Rattle.rv_decode.specs.declared.instruction.Instr.TheVariants.{OpImm, Jal, Branch}
 use Rattle.rv_words.specs.declared.operation.Op.TheVariants.{Add as Addition, And}
-use Rattle.rv_decode.specs.Decodes.{decoded}
 use Rattle.rv_decode.specs.Encodes.{word_of}
 use Rattle.rv_decode.specs.Ranges.{is_encodable}
 use Rattle.rv_decode.proofs.ForthLemmas.{forth}
-use Rattle.elf_image.specs.Image.{word_in}
-use Rattle.flow_graph.specs.Flow.{admitted, following, look, look_fetched, look_decoded, target, targets, next, Next}
-use Rattle.flow_graph.specs.declared.outside.Outside.{Outside}
+use Rattle.flow_graph.specs.Flow.{admitted, following, look, look_fetched, look_decoded, target, targets, next}
 use Rattle.flow_graph.specs.declared.outside.Outside.TheVariants.{Misaligned}
 use Rattle.flow_graph.proofs.Ways.{Contains-cons}
 use Rattle.code_gen.specs.Pieces.{Pieces, Done, Add, Mix, Choose, Repeat}
-use Rattle.code_gen.specs.Program.{counter, adding, mixing, choosing, counting, loop_end, code}
-use Rattle.code_gen.specs.Structure.{IsLoop, AreShaped, EachAt, IsWordAt}
+use Rattle.code_gen.specs.Program.{counter, adding, mixing, counting, loop_end, code}
+use Rattle.code_gen.specs.Structure.{AreShaped, EachAt, IsWordAt}
 use Rattle.code_gen.proofs.SizeLemmas.{count, repeat-count}
 use Rattle.code_gen.proofs.TargetLemmas.{each-split}
 use Rattle.code_gen.proofs.CodeLemmas.{adding-encodable, counting-encodable, loop_end-encodable}
-use Rattle.code_flow.proofs.Edges.{Edge, Is}
+use Rattle.code_flow.proofs.Edges.{Edge}
 
 -- code stands from b on, and the place behind it is an address
 pub record Ground (b n : ℕ) : Type 0 where

@@ -1,13 +1,12 @@
 -- A graph whose nodes are the places of drawn code: its loops are entered at their heads, and left at one place.
-use Rattle.std.proofs.Common.{◌≡◌, ◌≢◌, ℕ, zero, suc, ◌+◌, ◌-◌, ◌<◌, ◌≤◌, ◌⊎◌, inl, inr, List, length, get_or, refl, sym, ap, subst, ◌∙◌, arith}
+use Rattle.std.proofs.Common.{◌≡◌, ◌≢◌, ℕ, zero, suc, ◌+◌, ◌-◌, ◌<◌, ◌≤◌, inl, inr, length, refl, sym, ap, subst, ◌∙◌, arith}
 use Rattle.std.specs.Prelude.{slice_index}
-use Rattle.std.specs.List.{Contains}
 use Rattle.std.proofs.lemmas.Bool.Decides.{leb_tells}
 use Rattle.flow_graph.specs.Graph.{GraphOf, HasEdge, IsFlow}
-use Rattle.flow_graph.specs.Walks.{Way, Stop, Leave, Reaches}
+use Rattle.flow_graph.specs.Walks.{Way, Stop, Leave}
 use Rattle.flow_graph.proofs.Ways.{node_at}
-use Rattle.loop_forest.specs.Loops.{IsMetBefore, IsBackEdge, IsHead, ReachesApart, InLoop, AtHead, Inside, IsExit, IsSettled}
-use Rattle.loop_forest.specs.Regions.{ExitsOver, HasManyExits, exit_limit}
+use Rattle.loop_forest.specs.Loops.{IsBackEdge, InLoop, AtHead, Inside, IsExit, IsSettled}
+use Rattle.loop_forest.specs.Regions.{HasManyExits, exit_limit}
 use Rattle.loop_forest.proofs.Falling.{back_iff}
 use Rattle.code_gen.specs.Pieces.{Pieces}
 use Rattle.code_gen.proofs.SizeLemmas.{count}

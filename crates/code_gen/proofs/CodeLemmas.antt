@@ -1,6 +1,6 @@
 -- The words of pieces decode to their instructions, since all fields are in their ranges.
-use Rattle.std.proofs.Common.{◌≡◌, ◌≢◌, ℕ, zero, suc, ◌+◌, ◌-◌, ◌*◌, ◌%◌, ◌^◌, ◌==◌, ◌<◌, ◌≤◌, ℤ, pos, negsuc, ◌+ℤ◌, List, [], ◌∷◌, ◌++◌, map, length, refl, ap, sym, ◌∙◌, arith}
-use Rattle.std.specs.Prelude.{Bool, true, ◌&&◌, IsTrue}
+use Rattle.std.proofs.Common.{◌≡◌, ℕ, suc, ◌+◌, ◌-◌, ◌*◌, ◌%◌, ◌==◌, ◌<◌, ◌≤◌, pos, negsuc, List, [], ◌∷◌, ◌++◌, map, length, refl, arith}
+use Rattle.std.specs.Prelude.{true, ◌&&◌, IsTrue}
 use Rattle.std.specs.List.{AllZip}
 use Rattle.std.proofs.Math.Dec.{leb}
 use Rattle.std.proofs.lemmas.Bool.{le-leb, eq-eqb}
@@ -13,9 +13,9 @@ use Rattle.rv_decode.specs.Ranges.{is_encodable, is_register, has_bits, is_offse
 use Rattle.rv_decode.proofs.TableLemmas.{decoded-Decodes}
 use Rattle.rv_decode.proofs.ForthLemmas.{forth}
 use Rattle.rv_decode.proofs.ImmediateLemmas.{below_true, and_both}
-use Rattle.code_gen.specs.Pieces.{Pieces, Done, Add, Mix, Choose, Repeat, Drawn, drawn}
+use Rattle.code_gen.specs.Pieces.{Pieces, Done, Add, Mix, Choose, Repeat, drawn}
 use Rattle.code_gen.specs.Program.{counter, adding, counting, loop_end, code, instructions, program_of}
-use Rattle.code_gen.specs.Structure.{IsLoop, AreShaped}
+use Rattle.code_gen.specs.Structure.{AreShaped}
 use Rattle.code_gen.proofs.Each.{Each, each-append}
 use Rattle.code_gen.proofs.SizeLemmas.{drawn-count}
 use Rattle.code_gen.proofs.ShapeLemmas.{drawn-shaped}

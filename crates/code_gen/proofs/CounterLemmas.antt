@@ -1,11 +1,11 @@
 -- The counter of a loop is written by no instruction within it.
-use Rattle.std.proofs.Common.{◌≡◌, ◌≢◌, ℕ, zero, suc, ◌+◌, ◌<◌, ◌≤◌, List, [], ◌∷◌, ◌++◌, length, refl, arith}
+use Rattle.std.proofs.Common.{◌≡◌, ◌≢◌, ℕ, ◌+◌, ◌<◌, ◌≤◌, List, ◌++◌, length, refl, arith}
 use Rattle.std.specs.Prelude.{All}
 use Rattle.rv_decode.specs.declared.instruction.Instr.{Instr}
 use Rattle.rv_decode.specs.Registers.{destination}
 use Rattle.code_gen.specs.Pieces.{Pieces, Done, Add, Mix, Choose, Repeat}
 use Rattle.code_gen.specs.Program.{counter, code, loop_end}
-use Rattle.code_gen.specs.Structure.{IsLoop, AreShaped}
+use Rattle.code_gen.specs.Structure.{AreShaped}
 use Rattle.code_gen.proofs.Each.{Each, each-append, each-all}
 
 abbrev Keeps : ℕ → Instr → Type 0

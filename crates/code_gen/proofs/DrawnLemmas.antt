@@ -1,7 +1,7 @@
 -- Drawn code begins with the piece of its kind, whatever bounds the number of pieces.
-use Rattle.std.proofs.Common.{◌≡◌, ℕ, zero, suc, ◌+◌, ◌-◌, ◌*◌, ◌/◌, ◌%◌, ◌^◌, ◌<◌, ◌≤◌, min, refl, ap, sym, ◌∙◌, arith, rules}
+use Rattle.std.proofs.Common.{◌≡◌, ℕ, zero, suc, ◌+◌, ◌-◌, ◌<◌, ◌≤◌, min, refl, ap, ◌∙◌, arith}
 use Rattle.code_gen.specs.Draws.{draw, next}
-use Rattle.code_gen.specs.Pieces.{Pieces, Done, Add, Mix, Choose, Repeat, Kind, Adds, Mixes, Chooses, Repeats, kind, Drawn, Drawing, in_front, repeating, beginning, drawn_within, drawn}
+use Rattle.code_gen.specs.Pieces.{Done, Add, Mix, Choose, Repeat, Kind, Adds, Mixes, Chooses, Repeats, kind, Drawing, in_front, beginning, drawn_within, drawn}
 use Rattle.code_gen.proofs.KindLemmas.{kind-repeats-size}
 
 pub draw_below : (n s : ℕ) → 0 < n → draw n s < n

@@ -1,10 +1,8 @@
 -- Drawn code has the structure of loops within loops.
-use Rattle.std.proofs.Common.{◌≡◌, ℕ, zero, suc, ◌+◌, ◌-◌, ◌*◌, ◌^◌, ◌<◌, ◌≤◌, min, List, ◌++◌, length, refl, ap, sym, ◌∙◌, subst, arith}
-use Rattle.std.proofs.Math.Nat.{mul-add, mul-le-mul_right, one-le-pow}
+use Rattle.std.proofs.Common.{◌≡◌, ℕ, zero, suc, ◌+◌, ◌-◌, ◌*◌, ◌<◌, ◌≤◌, min, refl, arith}
 use Rattle.code_gen.specs.Draws.{draw, next}
-use Rattle.code_gen.specs.Pieces.{Pieces, Done, Add, Mix, Choose, Repeat, Kind, Adds, Mixes, Chooses, Repeats, kind, Drawn, Drawing, in_front, beginning, drawn_within, drawn}
-use Rattle.code_gen.specs.Program.{code}
-use Rattle.code_gen.specs.Structure.{IsLoop, AreShaped, most_steps}
+use Rattle.code_gen.specs.Pieces.{Kind, Adds, Mixes, Chooses, Repeats, kind, Drawn, Drawing, beginning, drawn_within, drawn}
+use Rattle.code_gen.specs.Structure.{AreShaped}
 use Rattle.code_gen.proofs.KindLemmas.{kind-chooses-size, kind-repeats-size, kind-repeats-depth}
 use Rattle.code_gen.proofs.DrawnLemmas.{draw_below, body_within}
 use Rattle.code_gen.proofs.SizeLemmas.{count, within-count}

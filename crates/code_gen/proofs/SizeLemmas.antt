@@ -1,8 +1,8 @@
 -- How many instructions drawn code has.
-use Rattle.std.proofs.Common.{◌≡◌, ℕ, zero, suc, ◌+◌, ◌-◌, ◌*◌, ◌<◌, ◌≤◌, min, List, ◌++◌, length, refl, arith}
+use Rattle.std.proofs.Common.{◌≡◌, ℕ, zero, suc, ◌+◌, ◌-◌, ◌*◌, ◌≤◌, min, ◌++◌, length, refl, arith}
 use Rattle.std.proofs.lemmas.List.{length-append}
 use Rattle.code_gen.specs.Draws.{draw, next}
-use Rattle.code_gen.specs.Pieces.{Pieces, Done, Add, Mix, Choose, Repeat, Kind, Adds, Mixes, Chooses, Repeats, kind, Drawn, Drawing, in_front, beginning, drawn_within, drawn}
+use Rattle.code_gen.specs.Pieces.{Pieces, Repeat, Kind, Adds, Mixes, Chooses, Repeats, kind, Drawn, Drawing, beginning, drawn_within, drawn}
 use Rattle.code_gen.specs.Program.{code, loop_end}
 use Rattle.code_gen.proofs.KindLemmas.{kind-chooses-size, kind-repeats-size}
 use Rattle.code_gen.proofs.DrawnLemmas.{body_within}

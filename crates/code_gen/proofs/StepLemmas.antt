@@ -1,8 +1,8 @@
 -- How many steps drawn code takes at most.
-use Rattle.std.proofs.Common.{◌≡◌, ℕ, zero, suc, ◌+◌, ◌-◌, ◌*◌, ◌^◌, ◌<◌, ◌≤◌, min, refl, ap, sym, ◌∙◌, arith}
+use Rattle.std.proofs.Common.{◌≡◌, ℕ, zero, suc, ◌+◌, ◌-◌, ◌*◌, ◌^◌, ◌<◌, ◌≤◌, min, refl, ap, ◌∙◌, arith}
 use Rattle.std.proofs.Math.Nat.{mul-add, mul_assoc, mul-le-mul_right, pow-suc}
 use Rattle.code_gen.specs.Draws.{draw, next}
-use Rattle.code_gen.specs.Pieces.{Pieces, Done, Add, Mix, Choose, Repeat, Kind, Adds, Mixes, Chooses, Repeats, kind, Drawn, Drawing, beginning, drawn_within, drawn}
+use Rattle.code_gen.specs.Pieces.{Kind, Adds, Mixes, Chooses, Repeats, kind, Drawn, Drawing, beginning, drawn_within, drawn}
 use Rattle.code_gen.specs.Structure.{most_steps}
 use Rattle.code_gen.proofs.KindLemmas.{kind-chooses-size, kind-repeats-size, kind-repeats-depth}
 use Rattle.code_gen.proofs.DrawnLemmas.{draw_below, body_within}

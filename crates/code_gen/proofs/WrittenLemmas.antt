@@ -1,10 +1,10 @@
 -- The words of a piece, and behind them those of what comes after.
-use Rattle.std.proofs.Common.{◌≡◌, ℕ, suc, ◌+◌, ◌-◌, ◌*◌, ◌<◌, ◌≤◌, min, List, [], ◌∷◌, ◌++◌, map, length, refl, ap, sym, ◌∙◌, append_assoc, arith, pos}
+use Rattle.std.proofs.Common.{◌≡◌, ℕ, ◌+◌, ◌-◌, ◌<◌, min, List, [], ◌∷◌, ◌++◌, map, length, sym, ◌∙◌, append_assoc, arith}
 use Rattle.std.proofs.lemmas.List.{map-append, length-map, length-append}
 use Rattle.rv_decode.specs.declared.instruction.Instr.{Instr}
 use Rattle.rv_decode.specs.Encodes.{word_of}
 use Rattle.code_gen.specs.Draws.{draw, next}
-use Rattle.code_gen.specs.Pieces.{Pieces, Repeat, Kind, Adds, Mixes, Chooses, Repeats, kind, Drawn, beginning, drawn}
+use Rattle.code_gen.specs.Pieces.{Pieces, Repeat, Kind, Adds, Mixes, Chooses, kind, Drawn, beginning, drawn}
 use Rattle.code_gen.specs.Program.{code, adding, mixing, choosing, counting, loop_end}
 use Rattle.code_gen.specs.inner.Written.{with_drawn, drawn_loop}
 use Rattle.code_gen.proofs.DrawnLemmas.{drawn-is}

@@ -1,11 +1,11 @@
 -- The instructions of drawn code, and the words of a program.
-use Rattle.std.specs.Prelude.{ℕ, ◌+◌, ◌*◌, ℤ, pos, negsuc, List, [], ◌∷◌, ◌++◌, length, map}
+use Rattle.std.specs.Prelude.{ℕ, ◌+◌, ◌*◌, pos, negsuc, List, [], ◌∷◌, ◌++◌, length, map}
 use Rattle.rv_words.specs.declared.operation.Op.TheVariants.{Add as Addition, Xor, And}
 use Rattle.rv_words.specs.declared.comparison.Cmp.TheVariants.{Eq, Ne}
 use Rattle.rv_decode.specs.declared.instruction.Instr.{Instr}
 use Rattle.rv_decode.specs.declared.instruction.Instr.TheVariants.{Op, OpImm, Jal, Jalr, Branch}
 use Rattle.rv_decode.specs.Encodes.{word_of}
-use Rattle.code_gen.specs.Pieces.{Pieces, Done, Add, Mix, Choose, Repeat, Drawn, drawn}
+use Rattle.code_gen.specs.Pieces.{Pieces, Done, Add, Mix, Choose, Repeat, drawn}
 
 -- the register that counts the turns of a loop at depth d
 abbrev pub counter : ℕ → ℕ

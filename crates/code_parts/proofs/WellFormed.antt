@@ -8,7 +8,7 @@ use Rattle.word_terms.specs.Tree.{CondTree, Var}
 use Rattle.word_terms.specs.Scope.{WordInScope, CondInScope}
 use Rattle.rv_words.specs.declared.range.Range.{Range}
 use Rattle.tailrec_lang.specs.declared.group.Exit.TheVariants.{At, Ret}
-use Rattle.tailrec_lang.specs.Tree.{ValuesTree, StepTree, Need, BodyTree, Do, Branch, Call, Again, Leave, ArmTrees, NoArm, Arm, DefTree, GroupTree, with_steps}
+use Rattle.tailrec_lang.specs.Tree.{ValuesTree, StepTree, Need, BodyTree, Branch, Call, Again, Leave, NoArm, Arm, GroupTree, with_steps}
 use Rattle.tailrec_lang.specs.Tree as tree
 use Rattle.tailrec_lang.specs.inner.WellFormed.{StepsInScope}
 use Rattle.tailrec_lang.specs.WellFormed.{HasCounts, FitsExit, exit_words, words_after, mems_after, BodyIsWellFormed, ArmsAreWellFormed}

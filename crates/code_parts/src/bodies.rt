@@ -3,7 +3,6 @@
 ghost use Rattle.std.specs.Prelude.{◌≡◌, ◌++◌, ◌+◌, ◌<◌, ◌^◌, ℕ, IfOk, Some, map};
 ghost use Rattle.std.specs.List.{All};
 ghost use Rattle.tailrec_lang.specs.Tree.{body_tree, step_tree, with_steps};
-ghost use Rattle.tailrec_lang.specs.inner.Tree.{end_tree};
 ghost use Rattle.code_parts.specs.Bodies as spec;
 ghost use Rattle.code_parts.specs.Graph.{IsPart};
 ghost use Rattle.code_parts.specs.Regions.{IsOfRegion};

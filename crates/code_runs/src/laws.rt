@@ -7,7 +7,7 @@ ghost use Rattle.code_gen.specs.Pieces.{Pieces};
 ghost use Rattle.code_gen.specs.Program.{code};
 ghost use Rattle.code_gen.specs.Structure.{AreShaped, EachAt, IsWordAt};
 ghost use Rattle.elf_image.specs.Fault.{IsReadable};
-ghost use Rattle.elf_image.specs.Image.{ImageOf, code_of_file, image_of, memory_of_file};
+ghost use Rattle.elf_image.specs.Image.{code_of_file, image_of, memory_of_file};
 ghost use Rattle.code_gen.specs.ElfFile.{elf_of, start};
 ghost use Rattle.code_gen.specs.Program.{instructions, program_of};
 ghost use Rattle.code_runs.specs.Files.{piece_of_words};

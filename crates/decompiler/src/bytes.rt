@@ -2,7 +2,7 @@
 
 ghost use Rattle.std.specs.Prelude.{◌<◌, All};
 ghost use Rattle.rv_words.specs.Bytes.{AreBytes};
-ghost use Rattle.elf_image.specs.Image.{code_in, code_of};
+ghost use Rattle.elf_image.specs.Image.{code_in};
 ghost use Rattle.decompiler.specs.inner.CodeBytes.{HasBytes};
 
 use elf_image::{Image, Piece};

@@ -1,6 +1,6 @@
 //! The conditions under which a file is not read.
 
-ghost use Rattle.std.specs.Prelude.{◌≡◌, ◌+◌, ◌*◌, ◌^◌, ◌<◌, ◌≤◌, None, length, map};
+ghost use Rattle.std.specs.Prelude.{◌≡◌, ◌+◌, ◌*◌, ◌<◌, ◌≤◌, None, length, map};
 ghost use Rattle.std.specs.List.{range_with_len};
 ghost use Rattle.elf_image.specs.Fault.{cut_at, cut_header, first, first_overlap, header_faults, load_fault, loads_faults, overlaps, total_size};
 ghost use Rattle.elf_image.specs.Header.{header_count};

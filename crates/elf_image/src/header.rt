@@ -1,6 +1,6 @@
 //! The fields of the header and of the program headers.
 
-ghost use Rattle.std.specs.Prelude.{◌≡◌, ◌+◌, ◌*◌, ◌<◌, ◌≤◌, length, ◌^◌};
+ghost use Rattle.std.specs.Prelude.{◌≡◌, ◌+◌, ◌*◌, ◌≤◌, length};
 ghost use Rattle.elf_image.specs.Header.{header_at, header_place, number_at};
 
 use byteorder::{ByteOrder, LittleEndian};

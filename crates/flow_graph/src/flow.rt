@@ -1,7 +1,6 @@
 //! The instruction at an address, and where it leads.
 
 ghost use Rattle.std.specs.Prelude.{◌≡◌};
-ghost use Rattle.rv_words.specs.Operation.{word_of};
 ghost use Rattle.elf_image.specs.Image.{code_in};
 ghost use Rattle.flow_graph.specs.Flow as spec;
 ghost use Rattle.flow_graph.specs.inner.Reached.{targets_of};

@@ -40,7 +40,7 @@ impl Model for Graph {
 }
 
 impl Graph {
-    ghost use Rattle.std.specs.Prelude.{slice_index_or, Some, slice_get};
+    ghost use Rattle.std.specs.Prelude.{Some, slice_get};
 
     /// How many nodes there are.
     pub fn len(&self) -> u32

@@ -1,6 +1,6 @@
 //! Laws of reached code. These functions do nothing: their contracts are the laws. Each speaks of the definitions alone.
 
-ghost use Rattle.std.specs.Prelude.{◌≡◌, ◌<◌, ◌==◌, ℕ, Bool, IsTrue, Result, Ok as Fine, count_by, length, map, slice_get, slice_index, true, ℤ, Some};
+ghost use Rattle.std.specs.Prelude.{◌≡◌, ◌<◌, ◌==◌, ℕ, Bool, IsTrue, Ok as Fine, count_by, length, map, slice_get, slice_index, true, ℤ, Some};
 ghost use Rattle.rv_words.specs.Bytes.{Bytes};
 ghost use Rattle.rv_decode.specs.declared.instruction.Instr.{Instr};
 ghost use Rattle.rv_decode.specs.declared.instruction.Instr.TheVariants.{Jalr};

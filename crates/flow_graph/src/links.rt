@@ -1,5 +1,5 @@
 //! Edges in two lists linked by index.
-ghost use Rattle.std.specs.Prelude.{◌≡◌, ℕ, ◌+◌, ◌<◌, ◌^◌, ◌++◌, ◌∷◌, [], OnOk, OnErr, IfOk, None, length, replicate};
+ghost use Rattle.std.specs.Prelude.{◌≡◌, ℕ, ◌<◌, ◌^◌, ◌∷◌, [], OnOk, OnErr, IfOk, None, length, replicate};
 ghost use Rattle.flow_graph.specs.Graph.{succs_of, preds_of};
 
 use rv_words::NoMemory;
@@ -31,7 +31,7 @@ pub struct Links {
 }
 
 impl Model for Links {
-    ghost use Rattle.std.specs.Prelude.{ℕ, List, map, length};
+    ghost use Rattle.std.specs.Prelude.{ℕ, List, length};
     ghost use Rattle.flow_graph.specs.inner.Linked.{AreLinked, pairs_of};
 
     ghost Value = { ℕ × List (ℕ × ℕ) };

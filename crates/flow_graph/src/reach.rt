@@ -1,5 +1,5 @@
 //! Reached addresses.
-ghost use Rattle.std.specs.Prelude.{◌≡◌, ℕ, ◌<◌, ◌≤◌, ◌⊎◌, OnOk, IfOk, IfSome, IfNone, length};
+ghost use Rattle.std.specs.Prelude.{◌≡◌, ◌<◌, ◌≤◌, OnOk, IfOk, IfSome, IfNone, length};
 ghost use Rattle.elf_image.specs.Image.{code_in};
 ghost use Rattle.flow_graph.specs.Flow as spec;
 ghost use Rattle.flow_graph.specs.Flow.{Next};

@@ -1,5 +1,5 @@
 //! Numbers in the order in which they were first met.
-ghost use Rattle.std.specs.Prelude.{◌≡◌, ℕ, ◌+◌, ◌<◌, ◌≤◌, ◌≢◌, ◌↔◌, List, [], ◌∷◌, ◌++◌, ◌^◌, IfOk, OnOk, OnErr, IsTrue, IfSome, length, slice_index, slice_get, if◌then◌else◌};
+ghost use Rattle.std.specs.Prelude.{◌≡◌, ℕ, ◌+◌, ◌<◌, ◌≤◌, ◌≢◌, ◌↔◌, List, [], ◌∷◌, ◌++◌, ◌^◌, IfOk, OnOk, OnErr, IsTrue, IfSome, length, slice_index, if◌then◌else◌};
 ghost use Rattle.std.specs.List.{All, Contains};
 
 use indexmap::IndexSet;

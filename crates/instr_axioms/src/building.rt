@@ -2,7 +2,6 @@
 
 ghost use Rattle.std.specs.Prelude.{◌≡◌, IfOk, map, option_map};
 ghost use Rattle.word_terms.specs.Tree.{word_tree, mem_tree};
-ghost use Rattle.tailrec_lang.specs.Tree.{group_tree};
 ghost use Rattle.sep_assert.specs.Tree.{assertion_tree, register_tree};
 ghost use Rattle.triple_kernel.specs.Tree.{triple_tree};
 ghost use Rattle.instr_axioms.specs.Terms as terms;

@@ -1,5 +1,5 @@
 //! The regions of nodes: the smallest loops that have them.
-ghost use Rattle.std.specs.Prelude.{◌≡◌, ℕ, ◌<◌, ◌≤◌, ◌↔◌, IfOk, IfSome, IsTrue, length};
+ghost use Rattle.std.specs.Prelude.{◌<◌, ◌≤◌, ◌↔◌, IfOk, IfSome, IsTrue, length};
 ghost use Rattle.loop_forest.specs.inner.Found.{AreLoops, heads};
 ghost use Rattle.loop_forest.specs.inner.Kept.{AreRegions, IsCloser, IsClosest};
 

@@ -1,5 +1,5 @@
 //! Nodes that are cuts whatever stands before them, and the places of all nodes.
-ghost use Rattle.std.specs.Prelude.{◌≡◌, ℕ, ◌<◌, ◌≤◌, ◌↔◌, IfOk, IsTrue, length};
+ghost use Rattle.std.specs.Prelude.{◌<◌, ◌≤◌, ◌↔◌, IfOk, IsTrue, length};
 ghost use Rattle.flow_graph.specs.Graph.{preds_of};
 ghost use Rattle.loop_forest.specs.inner.Standing.{AreBases, ArePlaces, HasBases, IsBaseOf, IsEnd, IsEndOf};
 

@@ -1,5 +1,5 @@
 //! Places after the last cut.
-ghost use Rattle.std.specs.Prelude.{◌≡◌, ℕ, ◌<◌, length};
+ghost use Rattle.std.specs.Prelude.{◌<◌, length};
 ghost use Rattle.flow_graph.specs.Graph.{HasEdge};
 ghost use Rattle.loop_forest.specs.Cuts.{StandsAt};
 ghost use Rattle.loop_forest.specs.inner.Standing.{IsMarked, HasBases};

@@ -1,5 +1,5 @@
 //! All loops of a graph.
-ghost use Rattle.std.specs.Prelude.{◌≡◌, ℕ, ◌<◌, IfOk};
+ghost use Rattle.std.specs.Prelude.{◌<◌, IfOk};
 ghost use Rattle.flow_graph.specs.Graph.{HasEdge};
 ghost use Rattle.loop_forest.specs.Loops.{IsSettled};
 ghost use Rattle.loop_forest.specs.inner.Order.{mark_of, number_of};

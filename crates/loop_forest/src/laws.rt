@@ -1,9 +1,9 @@
 //! Laws of forests. These functions do nothing: their contracts are the laws. Each speaks of the definitions alone.
 
-ghost use Rattle.std.specs.Prelude.{◌≡◌, ◌≢◌, ◌+◌, ◌<◌, ℕ, List, Some, length};
+ghost use Rattle.std.specs.Prelude.{◌≡◌, ◌+◌, ◌<◌, ℕ, List, Some, length};
 ghost use Rattle.rv_words.specs.Bytes.{Bytes};
 ghost use Rattle.flow_graph.specs.Flow.{Next};
-ghost use Rattle.flow_graph.specs.Graph.{GraphOf, HasEdge, IsFlow, IsGraphOf};
+ghost use Rattle.flow_graph.specs.Graph.{GraphOf, IsFlow, IsGraphOf};
 ghost use Rattle.loop_forest.specs.Cycles.{ShowsTwoEntries, TwoEntries};
 ghost use Rattle.loop_forest.specs.Addresses.{GoesTo, entry_at};
 ghost use Rattle.loop_forest.specs.Forest.{ForestOf, IsForestOf, IsMany, depth_of, head_of, region_of};

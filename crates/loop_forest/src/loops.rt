@@ -1,9 +1,9 @@
 //! Loops and their exits.
-ghost use Rattle.std.specs.Prelude.{◌≡◌, ℕ, ◌<◌, ◌↔◌, ◌⊎◌, IfOk, IfSome, IfNone, OnOk, IsTrue, length};
+ghost use Rattle.std.specs.Prelude.{◌≡◌, ℕ, ◌<◌, ◌↔◌, IfOk, IfSome, IfNone, OnOk, IsTrue, length};
 ghost use Rattle.std.specs.List.{Contains};
-ghost use Rattle.flow_graph.specs.Graph.{HasEdge, succs_of};
+ghost use Rattle.flow_graph.specs.Graph.{HasEdge};
 ghost use Rattle.loop_forest.specs.Loops.{IsSettled};
-ghost use Rattle.loop_forest.specs.Loops.{IsHead, InLoop};
+ghost use Rattle.loop_forest.specs.Loops.{IsHead};
 ghost use Rattle.loop_forest.specs.inner.LoopOf.{AreBackTo, AreExits, IsIn, IsLoopOf, NotesExits};
 ghost use Rattle.loop_forest.specs.inner.Order.{mark_of, number_of};
 

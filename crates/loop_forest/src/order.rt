@@ -1,8 +1,7 @@
 //! A search in depth.
-ghost use Rattle.std.specs.Prelude.{◌≡◌, ℕ, ◌+◌, ◌<◌, ◌≤◌, ◌≢◌, ◌⊎◌, IfOk, IfSome, IfNone, length, slice_index, drop, take, false};
+ghost use Rattle.std.specs.Prelude.{◌≡◌, ◌+◌, ◌<◌, ◌≤◌, IfOk, IfSome, IfNone, length, slice_index, drop, take, false};
 ghost use Rattle.std.specs.List.{All, Contains};
 ghost use Rattle.flow_graph.specs.Graph.{succs_of, HasEdge};
-ghost use Rattle.loop_forest.specs.Loops.{IsMetBefore};
 ghost use Rattle.loop_forest.specs.Cycles.{last_of};
 ghost use Rattle.loop_forest.specs.inner.Second.{EntersBeside};
 ghost use Rattle.loop_forest.specs.inner.Order.{mark_of, is_unseen, Searching, IsOrder, IsDone};

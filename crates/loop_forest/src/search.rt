@@ -1,7 +1,6 @@
 //! Searches.
-ghost use Rattle.std.specs.Prelude.{◌≡◌, ℕ, ◌<◌, ◌≤◌, ◌≢◌, ◌⊎◌, IfOk, OnOk, length, slice_index};
-ghost use Rattle.std.specs.List.{All, Contains};
-ghost use Rattle.flow_graph.specs.Graph.{succs_of, HasEdge};
+ghost use Rattle.std.specs.Prelude.{◌<◌, IfOk, OnOk, length};
+ghost use Rattle.std.specs.List.{All};
 ghost use Rattle.loop_forest.specs.inner.Search.{FindsSources, Notes};
 
 use crate::node_set::NodeSet;

@@ -1,7 +1,7 @@
 //! The second search.
-ghost use Rattle.std.specs.Prelude.{◌≡◌, ℕ, ◌<◌, ◌≤◌, ◌≢◌, ◌⊎◌, IfOk, IfSome, IfNone, length, slice_index, ◌∷◌, []};
-ghost use Rattle.std.specs.List.{All, Contains};
-ghost use Rattle.flow_graph.specs.Graph.{succs_of, HasEdge};
+ghost use Rattle.std.specs.Prelude.{◌<◌, IfOk, IfSome, IfNone, length, slice_index, ◌∷◌, []};
+ghost use Rattle.std.specs.List.{Contains};
+ghost use Rattle.flow_graph.specs.Graph.{HasEdge};
 ghost use Rattle.loop_forest.specs.Loops.{IsMetBefore};
 ghost use Rattle.loop_forest.specs.inner.Search.{FindsSources};
 ghost use Rattle.loop_forest.specs.inner.Second.{EntersBeside};

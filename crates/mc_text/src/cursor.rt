@@ -1,6 +1,6 @@
 //! Reading single tokens.
 
-ghost use Rattle.std.specs.Prelude.{◌≡◌, ◌≤◌, ◌<◌, ◌^◌, IfSome, IfOk, OnOk};
+ghost use Rattle.std.specs.Prelude.{◌≡◌, ◌<◌, IfSome, IfOk, OnOk};
 ghost use Rattle.mc_text.specs.declared.token.Before.TheVariants.{Start};
 ghost use Rattle.mc_text.specs.Tokens.{tok, before_next};
 ghost use Rattle.mc_text.specs.Scanning.{tokens_at};

@@ -2,8 +2,8 @@
 
 ghost use Rattle.std.specs.Prelude.{◌≡◌, ◌∷◌, ◌≤◌, ◌<◌, ℕ, List, length, slice_index, IfOk, IfErr, OnErr, IfSome, IfNone, ◌++◌, [], true, false, IsTrue, ◌↔◌};
 ghost use Rattle.std.specs.List.{AllPass};
-ghost use Rattle.mc_text.specs.Tokens.{is_atom_byte, IsAtom, Tok, Left, Right, Atom, before_next, Stuck, Done, tok, token_bytes, token_text, eol, HasNoAtomByte, Place, Passes, Stands};
-ghost use Rattle.mc_text.specs.Scanning.{lex, At, Within, or_stuck, loose, tight, class_of, tokens_at, Scanned};
+ghost use Rattle.mc_text.specs.Tokens.{is_atom_byte, IsAtom, Tok, Left, Right, Atom, before_next, Done, tok, token_bytes, token_text, eol, HasNoAtomByte, Place, Passes, Stands};
+ghost use Rattle.mc_text.specs.Scanning.{lex, At, Within, or_stuck, loose, class_of, tokens_at, Scanned};
 ghost use Rattle.mc_text.specs.Reading.{goes_on, is_open};
 ghost use Rattle.mc_text.specs.inner.Scanning.{state_of, Found, IsWhole, IsSettled, IsInside, space_text};
 ghost use Rattle.mc_text.specs.declared.token.Before.TheVariants.{Start, Later};

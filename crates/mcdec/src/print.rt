@@ -1,6 +1,6 @@
 //! Printing an answer into a sink, piece by piece. It takes no memory.
 
-ghost use Rattle.std.specs.Prelude.{◌≡◌, ◌⊎◌, ◌≤◌, ℕ, List, flat_map, map, max, min, codes, ◌++◌};
+ghost use Rattle.std.specs.Prelude.{◌≡◌, ◌⊎◌, ◌≤◌, flat_map, max, min, codes, ◌++◌};
 ghost use Rattle.mcdec.specs.Printed.{check_printed, count_lines, decompile_printed, eval_printed, fault_words, lines, listed_line, memory_line, name_words, outside_words, register_line, register_lines, run_printed, self_test_line, shown_lines, status, stuck_words, IsDelivered};
 ghost use Rattle.std.specs.Fmt.{decimal};
 ghost use Rattle.hex.specs.Hex.{encode_lower};

@@ -1,11 +1,10 @@
 //! The command `run`.
 
-ghost use Rattle.std.specs.Prelude.{◌≡◌, ℕ, ◌+◌, ◌≤◌, ◌^◌, List, All, IfOk, OnOk, length, map};
-ghost use Rattle.elf_image.specs.Fault.{IsReadable};
+ghost use Rattle.std.specs.Prelude.{◌≡◌, ℕ, ◌≤◌, List, All, IfOk, OnOk, length};
 ghost use Rattle.elf_image.specs.Image.{IsPlaced, bytes_in, image_of, padded};
 ghost use Rattle.mc_shelf.specs.Fault.{Rose};
 ghost use Rattle.rv_words.specs.Bytes.{bytes_from};
-ghost use Rattle.rv_machine.specs.State.{empty_state, state_of, with_bytes};
+ghost use Rattle.rv_machine.specs.State.{state_of, with_bytes};
 ghost use Rattle.mcdec.specs.Answer.{Gives, ReadsAreTold};
 ghost use Rattle.mcdec.specs.Command.{AreArgs, AreGiven, Arg, Given, IsMemory, value_of};
 ghost use Rattle.mcdec.specs.inner.CommandReading.{Holds, HoldsArgs, IsReadRun};

@@ -1,16 +1,15 @@
 -- The group of a graph's parts has a text.
-use Rattle.std.proofs.Common.{ℕ, List, [], ◌∷◌, map, Bool, true, false, cond, arith, ◌+◌, ◌<◌, ◌≤◌}
+use Rattle.std.proofs.Common.{ℕ, List, [], ◌∷◌, map, Bool, true, false, cond, arith, ◌<◌, ◌≤◌}
 use Rattle.std.specs.List.{AllByRecursion}
 use Rattle.rv_words.specs.Bytes.{Bytes}
 use Rattle.rv_words.specs.declared.range.Range.{Range}
 use Rattle.rv_words.specs.Ranges.{AreRanges}
-use Rattle.sep_assert.specs.Registers.{AreRegistersFrom}
 use Rattle.proof_text.specs.Limits.{IsDef, IsGroup, IsName}
 use Rattle.flow_graph.specs.Graph.{GraphOf, IsGraphOf}
 use Rattle.loop_forest.specs.Forest.{ForestOf, IsForestOf, number_of}
 use Rattle.code_parts.specs.declared.part.Part.{Part}
 use Rattle.code_parts.specs.Bodies.{part_def}
-use Rattle.code_parts.specs.Flows.{flow_of, group_of, registers_of}
+use Rattle.code_parts.specs.Flows.{flow_of, group_of}
 use Rattle.code_parts.specs.Order.{AreParts}
 use Rattle.code_parts.proofs.FlowCode.{registers-rise}
 use Rattle.code_parts.proofs.FlowEntry.{last-is}

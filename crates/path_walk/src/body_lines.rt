@@ -1,6 +1,6 @@
 //! The lines of the bodies of parts.
 
-ghost use Rattle.std.specs.Prelude.{◌≡◌, ◌+◌, ◌<◌, ◌^◌, ℕ, None, OnOk, Some, option_map};
+ghost use Rattle.std.specs.Prelude.{◌+◌, ◌<◌, ◌^◌, None, OnOk, Some, option_map};
 ghost use Rattle.std.specs.Option.{option_copied};
 ghost use Rattle.rv_words.specs.Ranges.{range_bytes};
 ghost use Rattle.word_terms.specs.Tree.{Const};

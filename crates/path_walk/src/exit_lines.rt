@@ -6,7 +6,7 @@ ghost use Rattle.word_terms.specs.Tree.{Const, word_tree};
 ghost use Rattle.sep_assert.specs.Code.{IsWithin};
 ghost use Rattle.tailrec_lang.specs.Tree.{values_tree};
 ghost use Rattle.triple_kernel.specs.Tree.{Gives, fact_tree, triple_tree};
-ghost use Rattle.proof_text.specs.Line.{Inst, mem_put_in, word_put_in};
+ghost use Rattle.proof_text.specs.Line.{Inst};
 ghost use Rattle.proof_text.specs.LineLimits.{IsRule, IsTriple};
 ghost use Rattle.proof_text.specs.Limits.{IsExit};
 ghost use Rattle.code_parts.specs.Bodies as bodies;

@@ -1,6 +1,6 @@
 //! Laws of the group that is made of a graph. These functions do nothing: their contracts are the laws. Each speaks of the definitions alone.
 
-ghost use Rattle.std.specs.Prelude.{◌≡◌, ◌<◌, ℕ, List};
+ghost use Rattle.std.specs.Prelude.{◌<◌, ℕ, List};
 ghost use Rattle.std.specs.List.{AllByRecursion};
 ghost use Rattle.rv_words.specs.Bytes.{Bytes};
 ghost use Rattle.rv_words.specs.Ranges.{AreRanges};

@@ -1,6 +1,6 @@
 //! From an instruction to its word.
 
-ghost use Rattle.std.specs.Prelude.{◌≡◌, ◌<◌, ◌≤◌, ◌↔◌, ◌^◌, ℕ, IfSome, IsSome, IsTrue, Some};
+ghost use Rattle.std.specs.Prelude.{◌≡◌, ◌<◌, ◌↔◌, ◌^◌, ℕ, IfSome, IsSome, IsTrue, Some};
 ghost use Rattle.rv_decode.specs.Decodes.{Decodes, IsOneToOne};
 ghost use Rattle.rv_decode.specs.Encodes as spec;
 ghost use Rattle.rv_decode.specs.Ranges.{is_encodable as is_encodable_spec};

@@ -1,6 +1,6 @@
 //! The state of the machine and its step.
 
-ghost use Rattle.std.specs.Prelude.{◌≡◌, ◌≢◌, ◌+◌, ◌*◌, ◌^◌, ◌<◌, ◌≤◌, ◌↔◌, false, Some, None, IsSome, IsTrue, length, replicate, OnOk, OnErr, IfOk, IfErr};
+ghost use Rattle.std.specs.Prelude.{◌≡◌, ◌≢◌, ◌+◌, ◌^◌, ◌<◌, ◌≤◌, ◌↔◌, false, Some, None, IsSome, IsTrue, length, replicate, OnOk, OnErr, IfOk, IfErr};
 ghost use Rattle.std.specs.FinMap.{empty};
 ghost use Rattle.rv_words.specs.Bytes.{bytes_from, bytes_of};
 ghost use Rattle.rv_decode.specs.Decodes.{NamesRegisters};

@@ -1,6 +1,6 @@
 //! A search in code for bytes at addresses that mostly rise.
 
-ghost use Rattle.std.specs.Prelude.{◌≡◌, ◌+◌, ◌<◌, ◌≤◌, ◌↔◌, All, IsTrue, length, take, drop, slice_index_or};
+ghost use Rattle.std.specs.Prelude.{◌≡◌, ◌+◌, ◌<◌, ◌↔◌, IsTrue, length, drop, slice_index_or};
 ghost use Rattle.rv_words.specs.Bytes.{bytes_from};
 ghost use Rattle.rv_words.specs.Ranges.{range_bytes};
 ghost use Rattle.rv_words.specs.declared.range.Range.{Range};

@@ -4,7 +4,7 @@ ghost use Rattle.std.specs.Prelude.{◌≡◌, ◌+◌, ◌<◌, ◌^◌, ◌↔
 ghost use Rattle.word_terms.specs.Tree.{cond_tree, mem_tree, word_tree};
 ghost use Rattle.word_terms.specs.Scope.{CondInScope, MemInScope, WordInScope};
 ghost use Rattle.tailrec_lang.specs.Tree.{body_tree, def_tree, exits_at, group_tree, step_tree, values_tree};
-ghost use Rattle.tailrec_lang.specs.inner.Tree.{arm_trees, end_tree};
+ghost use Rattle.tailrec_lang.specs.inner.Tree.{arm_trees};
 ghost use Rattle.tailrec_lang.specs.WellFormed.{ArmsAreWellFormed, BodyIsWellFormed, DefIsWellFormed, FitsExit, HasCounts, IsFirstIllFormed, IsWellFormed, StepInScope, ValuesInScope, exit_words, mems_after, words_after};
 ghost use Rattle.tailrec_lang.specs.inner.WellFormed.{Counts, StepsInScope, mems_after_all, words_after_all};
 

@@ -2,7 +2,7 @@
 
 ghost use Rattle.std.specs.Prelude.{◌≡◌, ◌+◌, ◌<◌, ◌^◌, ℕ, IsTrue, IfOk, OnOk, length, map, true, false, cond};
 ghost use Rattle.tailrec_lang.specs.Tree.{BodyTree, GroupTree, body_tree, step_tree, with_steps};
-ghost use Rattle.tailrec_lang.specs.inner.Tree.{arm_trees, end_tree};
+ghost use Rattle.tailrec_lang.specs.inner.Tree.{arm_trees};
 ghost use Rattle.tailrec_lang.specs.WellFormed.{BodyIsWellFormed, StepInScope, mems_after, words_after};
 ghost use Rattle.tailrec_lang.specs.Eval.{Meaning, NeedFalse, after_step, arm_needs, body_ending, needs, step_holds, step_needs, variables_of};
 ghost use Rattle.tailrec_lang.specs.inner.Walk.{WalkFits, steps_need, walk_ending};

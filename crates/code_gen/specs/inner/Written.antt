@@ -1,6 +1,5 @@
 -- What a list of words becomes once drawn code is written.
 use Rattle.std.specs.Prelude.{ℕ, List, ◌++◌, map}
-use Rattle.rv_decode.specs.declared.instruction.Instr.{Instr}
 use Rattle.rv_decode.specs.Encodes.{word_of}
 use Rattle.code_gen.specs.Pieces.{Drawn, Drawing, Repeats, beginning, drawn}
 use Rattle.code_gen.specs.Program.{code}

@@ -1,4 +1,4 @@
-use Rattle.std.proofs.Common.{rules, ◌≡◌, ℕ, ◌+◌, ◌-◌, ◌<◌, ◌≤◌, min, [], ◌∷◌, ◌++◌, ◌∙◌, sym, map, List, length, arith, Result, Ok, Err, IfOk}
+use Rattle.std.proofs.Common.{rules, ◌≡◌, ℕ, ◌+◌, ◌-◌, ◌<◌, min, [], ◌∷◌, ◌++◌, ◌∙◌, sym, List, length, arith, Result, Ok, Err, IfOk}
 use Rattle.std.proofs.lemmas.List.{append-nil as append_nil_at}
 use Rattle.rv_decode.specs.Encodes.{word_of}
 use Rattle.code_gen.specs.Draws.{draw, next}

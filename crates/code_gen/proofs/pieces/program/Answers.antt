@@ -1,4 +1,4 @@
-use Rattle.std.proofs.Common.{◌≡◌, ◌++◌, ◌∷◌, [], ◌∙◌, sym, ℕ, List, map, pos}
+use Rattle.std.proofs.Common.{◌++◌, ◌∷◌, [], ◌∙◌, sym, ℕ, List, pos}
 use Rattle.std.proofs.lemmas.List.{map-append}
 use Rattle.rv_decode.specs.declared.instruction.Instr.TheVariants.{Jalr}
 use Rattle.rv_decode.specs.Encodes.{word_of}

@@ -2,7 +2,6 @@ use Rattle.std.proofs.Common.{◌≡◌, ℕ, ◌<◌, List, [], ◌∷◌, leng
 use Rattle.std.specs.List.{Contains}
 use Rattle.elf_image.specs.Image.{code_in}
 use Rattle.flow_graph.specs.Flow.{next, Next}
-use Rattle.flow_graph.specs.Reach.{}
 use Rattle.flow_graph.specs.inner.Reached.{GrowsBy, targets_of}
 use Rattle.flow_graph.proofs.Reaching.{reaching_start, reaching_next, reaching_end}
 use Rattle.flow_graph.proofs.reach.reached.Goals as goal
