@@ -10,12 +10,12 @@ use Rattle.rv_words.specs.declared.comparison.Cmp.TheVariants.{Eq, Ne, Lt, Ge, L
 use Rattle.rv_words.specs.declared.width.Width.{Width}
 use Rattle.rv_words.specs.declared.width.Width.TheVariants.{B1, B2, B4, B8}
 use Rattle.rv_decode.specs.declared.instruction.Instr.{Instr}
-use Rattle.rv_decode.specs.declared.instruction.Instr.TheVariants.{Ecall, Ebreak}
 use Rattle.rv_decode.specs.Fields.{bits, opcode, rd, funct3, rs1, rs2, funct7, funct6, funct12, immediate_i, immediate_s, immediate_b, immediate_u, immediate_j, shift_amount, half_shift_amount}
-use Rattle.rv_decode.specs.Decodes.{Row, row_opcode, row, row_7, row_6, row_12, op, op_immediate, shift_immediate, half_shift_immediate, lui, auipc, jal, jalr, branch, load, store, fence, meets, table}
+use Rattle.rv_decode.specs.Decodes.{Opcode, Funct3, Funct7, Funct6, Funct12, fits, op, op_immediate, shift_immediate, half_shift_immediate, branch, load, store, table}
+use Rattle.rv_decode.specs.inner.Rows.{lui, auipc, jal, jalr, fence}
 use Rattle.rv_decode.specs.Ranges.{is_register, has_bits, is_amount, is_offset, takes_immediate, may_load, is_encodable}
 use Rattle.rv_decode.specs.Encodes.{join, fields_r, fields_i, fields_shift, fields_s, fields_b, fields_u, fields_j, unsigned_of, branch_funct3, width_funct3, load_funct3, op_fields, op_immediate_fields, word_of}
-use Rattle.rv_decode.proofs.RowLemmas.{and_true}
+use Rattle.rv_decode.proofs.RowLemmas.{Row, and_true}
 use Rattle.rv_decode.proofs.JoinLemmas.{cut, whole, join_same, mod_twice}
 use Rattle.rv_decode.proofs.ImmediateLemmas.{low_12, low_13, low_21, has_12, amount_true, offset_13, offset_21, below_true, and_both}
 
@@ -85,39 +85,36 @@ word_j w p n below at_p at_n =
 
 -- ---- the fixed fields of a row
 
-fixed_1 : (w p : ℕ) (gives : ℕ → Instr) → meets w (row_opcode p gives) ≡ true → opcode w ≡ p
-fixed_1 w p gives h = eqb-true (opcode w) p (and_true (eqb (opcode w) p) true h).0
+fixed_1 : (w p : ℕ) → fits w (Opcode p) ≡ true → opcode w ≡ p
+fixed_1 w p h = eqb-true (opcode w) p h
 
-fixed_2 : (w p f : ℕ) (gives : ℕ → Instr) → meets w (row p f gives) ≡ true → (opcode w ≡ p) × (funct3 w ≡ f)
-fixed_2 w p f gives h =
-    let first = and_true (eqb (opcode w) p) (eqb (funct3 w) f && true) h in
-    (eqb-true (opcode w) p first.0, eqb-true (funct3 w) f (and_true (eqb (funct3 w) f) true first.1).0)
+fixed_2 : (w p f : ℕ) → fits w (Funct3 p f) ≡ true → (opcode w ≡ p) × (funct3 w ≡ f)
+fixed_2 w p f h = let both = and_true (eqb (opcode w) p) (eqb (funct3 w) f) h in (eqb-true (opcode w) p both.0, eqb-true (funct3 w) f both.1)
 
-fixed_7 : (w p f g : ℕ) (gives : ℕ → Instr) → meets w (row_7 p f g gives) ≡ true → (opcode w ≡ p) × (funct3 w ≡ f) × (funct7 w ≡ g)
-fixed_7 w p f g gives h =
-    let first = and_true (eqb (opcode w) p) (eqb (funct3 w) f && (eqb (funct7 w) g && true)) h in
-    let second = and_true (eqb (funct3 w) f) (eqb (funct7 w) g && true) first.1 in
-    (eqb-true (opcode w) p first.0, eqb-true (funct3 w) f second.0, eqb-true (funct7 w) g (and_true (eqb (funct7 w) g) true second.1).0)
+fixed_7 : (w p f g : ℕ) → fits w (Funct7 p f g) ≡ true → (opcode w ≡ p) × (funct3 w ≡ f) × (funct7 w ≡ g)
+fixed_7 w p f g h =
+    let both = and_true (fits w (Funct3 p f)) (eqb (funct7 w) g) h in
+    let two = fixed_2 w p f both.0 in
+    (two.0, two.1, eqb-true (funct7 w) g both.1)
 
-fixed_6 : (w p f g : ℕ) (gives : ℕ → Instr) → meets w (row_6 p f g gives) ≡ true → (opcode w ≡ p) × (funct3 w ≡ f) × (funct6 w ≡ g)
-fixed_6 w p f g gives h =
-    let first = and_true (eqb (opcode w) p) (eqb (funct3 w) f && (eqb (funct6 w) g && true)) h in
-    let second = and_true (eqb (funct3 w) f) (eqb (funct6 w) g && true) first.1 in
-    (eqb-true (opcode w) p first.0, eqb-true (funct3 w) f second.0, eqb-true (funct6 w) g (and_true (eqb (funct6 w) g) true second.1).0)
+fixed_6 : (w p f g : ℕ) → fits w (Funct6 p f g) ≡ true → (opcode w ≡ p) × (funct3 w ≡ f) × (funct6 w ≡ g)
+fixed_6 w p f g h =
+    let both = and_true (fits w (Funct3 p f)) (eqb (funct6 w) g) h in
+    let two = fixed_2 w p f both.0 in
+    (two.0, two.1, eqb-true (funct6 w) g both.1)
 
 -- a row of which each field is fixed tells the whole word
-fixed_12 : (w p f g : ℕ) (gives : ℕ → Instr) → w < 2 ^ 32 → meets w (row_12 p f g gives) ≡ true → p + 2 ^ 12 * f + 2 ^ 20 * g ≡ w
-fixed_12 w p f g gives below h =
-    let a = and_true (eqb (opcode w) p) (eqb (funct3 w) f && (eqb (funct12 w) g && (eqb (rs1 w) 0 && (eqb (rd w) 0 && true)))) h in
-    let b = and_true (eqb (funct3 w) f) (eqb (funct12 w) g && (eqb (rs1 w) 0 && (eqb (rd w) 0 && true))) a.1 in
-    let c = and_true (eqb (funct12 w) g) (eqb (rs1 w) 0 && (eqb (rd w) 0 && true)) b.1 in
-    let d = and_true (eqb (rs1 w) 0) (eqb (rd w) 0 && true) c.1 in
-    let e = and_true (eqb (rd w) 0) true d.1 in
-    let p_is = eqb-true (opcode w) p a.0 in
-    let f_is = eqb-true (funct3 w) f b.0 in
-    let g_is = eqb-true (funct12 w) g c.0 in
-    let rs1_is = eqb-true (rs1 w) 0 d.0 in
-    let rd_is = eqb-true (rd w) 0 e.0 in
+fixed_12 : (w p f g : ℕ) → w < 2 ^ 32 → fits w (Funct12 p f g) ≡ true → p + 2 ^ 12 * f + 2 ^ 20 * g ≡ w
+fixed_12 w p f g below h =
+    let d = and_true (fits w (Funct3 p f) && eqb (funct12 w) g && eqb (rs1 w) 0) (eqb (rd w) 0) h in
+    let a = and_true (fits w (Funct3 p f) && eqb (funct12 w) g) (eqb (rs1 w) 0) d.0 in
+    let b = and_true (fits w (Funct3 p f)) (eqb (funct12 w) g) a.0 in
+    let two = fixed_2 w p f b.0 in
+    let p_is = two.0 in
+    let f_is = two.1 in
+    let g_is = eqb-true (funct12 w) g b.1 in
+    let rs1_is = eqb-true (rs1 w) 0 a.1 in
+    let rd_is = eqb-true (rd w) 0 d.1 in
     omega arith
 
 -- ---- each kind of rows
@@ -127,7 +124,7 @@ abbrev pub Back : ℕ → Instr → Type 0
 Back w i = (is_encodable i ≡ true) × (word_of i ≡ w)
 
 abbrev Gives : ℕ → Row → Type 0
-Gives w r = meets w r ≡ true → Back w (r.gives w)
+Gives w r = fits w r.0 ≡ true → Back w (r.1 w)
 
 in_range : (low k w : ℕ) → nat_lt (bits low k w) (2 ^ k) ≡ true
 in_range low k w = below_true (bits low k w) (2 ^ k) (bits_below low k w)
@@ -136,59 +133,59 @@ in_range low k w = below_true (bits low k w) (2 ^ k) (bits_below low k w)
 two : (x y w : ℕ) (t : Bool) → t ≡ true → (is_register (bits x 5 w) && is_register (bits y 5 w) && t) ≡ true
 two x y w t h = and_both (is_register (bits x 5 w) && is_register (bits y 5 w)) t (and_both (is_register (bits x 5 w)) (is_register (bits y 5 w)) (in_range x 5 w) (in_range y 5 w)) h
 
-back_op : (o : Operation) (p f g w : ℕ) → op_fields o ≡ fields_r p f g → w < 2 ^ 32 → Gives w (row_7 p f g (op o))
+back_op : (o : Operation) (p f g w : ℕ) → op_fields o ≡ fields_r p f g → w < 2 ^ 32 → Gives w (Funct7 p f g, op o)
 back_op o p f g w is below h =
-    let e = fixed_7 w p f g (op o) h in
+    let e = fixed_7 w p f g h in
     (two 7 15 w (is_register (rs2 w)) (in_range 20 5 w), (λ i. join (is i (rd w) (rs1 w) (rs2 w))) ∙ word_r w p f g below e.0 e.1 e.2)
 
-back_immediate : (o : Operation) (p f w : ℕ) → op_immediate_fields o ≡ fields_i p f → takes_immediate o ≡ has_bits 12 → w < 2 ^ 32 → Gives w (row p f (op_immediate o))
+back_immediate : (o : Operation) (p f w : ℕ) → op_immediate_fields o ≡ fields_i p f → takes_immediate o ≡ has_bits 12 → w < 2 ^ 32 → Gives w (Funct3 p f, op_immediate o)
 back_immediate o p f w is takes below h =
-    let e = fixed_2 w p f (op_immediate o) h in (
+    let e = fixed_2 w p f h in (
       two 7 15 w (takes_immediate o (immediate_i w)) ((λ i. takes i (immediate_i w)) ∙ has_12 (bits 20 12 w) (bits_below 20 12 w)),
       (λ i. join (is i (rd w) (rs1 w) (unsigned_of (immediate_i w)))) ∙ word_i w p f (unsigned_of (immediate_i w)) below e.0 e.1 (low_12 (bits 20 12 w) (bits_below 20 12 w)),
     )
 
-back_shift : (o : Operation) (p f g w : ℕ) → op_immediate_fields o ≡ fields_shift p f g → takes_immediate o ≡ is_amount 64 → w < 2 ^ 32 → Gives w (row_6 p f g (shift_immediate o))
+back_shift : (o : Operation) (p f g w : ℕ) → op_immediate_fields o ≡ fields_shift p f g → takes_immediate o ≡ is_amount 64 → w < 2 ^ 32 → Gives w (Funct6 p f g, shift_immediate o)
 back_shift o p f g w is takes below h =
-    let e = fixed_6 w p f g (shift_immediate o) h in (
+    let e = fixed_6 w p f g h in (
       two 7 15 w (takes_immediate o (shift_amount w)) ((λ i. takes i (shift_amount w)) ∙ amount_true 64 (bits 20 6 w) (bits_below 20 6 w)),
       (λ i. join (is i (rd w) (rs1 w) (bits 20 6 w))) ∙ word_shift w p f g below e.0 e.1 e.2,
     )
 
-back_half_shift : (o : Operation) (p f g w : ℕ) → op_immediate_fields o ≡ fields_r p f g → takes_immediate o ≡ is_amount 32 → w < 2 ^ 32 → Gives w (row_7 p f g (half_shift_immediate o))
+back_half_shift : (o : Operation) (p f g w : ℕ) → op_immediate_fields o ≡ fields_r p f g → takes_immediate o ≡ is_amount 32 → w < 2 ^ 32 → Gives w (Funct7 p f g, half_shift_immediate o)
 back_half_shift o p f g w is takes below h =
-    let e = fixed_7 w p f g (half_shift_immediate o) h in (
+    let e = fixed_7 w p f g h in (
       two 7 15 w (takes_immediate o (half_shift_amount w)) ((λ i. takes i (half_shift_amount w)) ∙ amount_true 32 (bits 20 5 w) (bits_below 20 5 w)),
       (λ i. join (is i (rd w) (rs1 w) (rs2 w))) ∙ word_r w p f g below e.0 e.1 e.2,
     )
 
-back_lui : (w : ℕ) → w < 2 ^ 32 → Gives w (row_opcode 0x37 lui)
-back_lui w below h = (and_both (is_register (rd w)) (nat_lt (immediate_u w) (2 ^ 20)) (in_range 7 5 w) (in_range 12 20 w), word_u w 0x37 below (fixed_1 w 0x37 lui h))
+back_lui : (w : ℕ) → w < 2 ^ 32 → Gives w (Opcode 0x37, lui)
+back_lui w below h = (and_both (is_register (rd w)) (nat_lt (immediate_u w) (2 ^ 20)) (in_range 7 5 w) (in_range 12 20 w), word_u w 0x37 below (fixed_1 w 0x37 h))
 
-back_auipc : (w : ℕ) → w < 2 ^ 32 → Gives w (row_opcode 0x17 auipc)
-back_auipc w below h = (and_both (is_register (rd w)) (nat_lt (immediate_u w) (2 ^ 20)) (in_range 7 5 w) (in_range 12 20 w), word_u w 0x17 below (fixed_1 w 0x17 auipc h))
+back_auipc : (w : ℕ) → w < 2 ^ 32 → Gives w (Opcode 0x17, auipc)
+back_auipc w below h = (and_both (is_register (rd w)) (nat_lt (immediate_u w) (2 ^ 20)) (in_range 7 5 w) (in_range 12 20 w), word_u w 0x17 below (fixed_1 w 0x17 h))
 
-back_jal : (w : ℕ) → w < 2 ^ 32 → Gives w (row_opcode 0x6f jal)
+back_jal : (w : ℕ) → w < 2 ^ 32 → Gives w (Opcode 0x6f, jal)
 back_jal w below h =
     let n = 2 ^ 20 * bits 31 1 w + 2 ^ 12 * bits 12 8 w + 2 ^ 11 * bits 20 1 w + 2 ^ 1 * bits 21 10 w in
     let small : n < 2 ^ 21 = sum_j (bits 31 1 w) (bits 12 8 w) (bits 20 1 w) (bits 21 10 w) (bits_below 31 1 w) (bits_below 12 8 w) (bits_below 20 1 w) (bits_below 21 10 w) in (
       and_both (is_register (rd w)) (is_offset 21 (immediate_j w)) (in_range 7 5 w) (offset_21 n small (omega arith)),
-      word_j w 0x6f (unsigned_of (immediate_j w)) below (fixed_1 w 0x6f jal h) (low_21 n small),
+      word_j w 0x6f (unsigned_of (immediate_j w)) below (fixed_1 w 0x6f h) (low_21 n small),
     )
   where
     sum_j : (a b c d : ℕ) → a < 2 → b < 256 → c < 2 → d < 1024 → 1048576 * a + 4096 * b + 2048 * c + 2 * d < 2 ^ 21
     sum_j a b c d la lb lc ld = omega arith
 
-back_jalr : (w : ℕ) → w < 2 ^ 32 → Gives w (row 0x67 0 jalr)
+back_jalr : (w : ℕ) → w < 2 ^ 32 → Gives w (Funct3 0x67 0, jalr)
 back_jalr w below h =
-    let e = fixed_2 w 0x67 0 jalr h in (
+    let e = fixed_2 w 0x67 0 h in (
       two 7 15 w (has_bits 12 (immediate_i w)) (has_12 (bits 20 12 w) (bits_below 20 12 w)),
       word_i w 0x67 0 (unsigned_of (immediate_i w)) below e.0 e.1 (low_12 (bits 20 12 w) (bits_below 20 12 w)),
     )
 
-back_branch : (c : Cmp) (w : ℕ) → w < 2 ^ 32 → Gives w (row 0x63 (branch_funct3 c) (branch c))
+back_branch : (c : Cmp) (w : ℕ) → w < 2 ^ 32 → Gives w (Funct3 0x63 (branch_funct3 c), branch c)
 back_branch c w below h =
-    let e = fixed_2 w 0x63 (branch_funct3 c) (branch c) h in
+    let e = fixed_2 w 0x63 (branch_funct3 c) h in
     let n = 2 ^ 12 * bits 31 1 w + 2 ^ 11 * bits 7 1 w + 2 ^ 5 * bits 25 6 w + 2 ^ 1 * bits 8 4 w in
     let small : n < 2 ^ 13 = sum_b (bits 31 1 w) (bits 7 1 w) (bits 25 6 w) (bits 8 4 w) (bits_below 31 1 w) (bits_below 7 1 w) (bits_below 25 6 w) (bits_below 8 4 w) in (
       two 15 20 w (is_offset 13 (immediate_b w)) (offset_13 n small (omega arith)),
@@ -198,18 +195,18 @@ back_branch c w below h =
     sum_b : (a b c d : ℕ) → a < 2 → b < 2 → c < 64 → d < 16 → 4096 * a + 2048 * b + 32 * c + 2 * d < 2 ^ 13
     sum_b a b c d la lb lc ld = omega arith
 
-back_load : (n : Width) (s : Bool) (w : ℕ) → may_load n s ≡ true → w < 2 ^ 32 → Gives w (row 0x03 (load_funct3 n s) (load n s))
+back_load : (n : Width) (s : Bool) (w : ℕ) → may_load n s ≡ true → w < 2 ^ 32 → Gives w (Funct3 0x03 (load_funct3 n s), load n s)
 back_load n s w may below h =
-    let e = fixed_2 w 0x03 (load_funct3 n s) (load n s) h in
+    let e = fixed_2 w 0x03 (load_funct3 n s) h in
     let first = and_both (may_load n s) (is_register (rd w)) may (in_range 7 5 w) in
     let second = and_both (may_load n s && is_register (rd w)) (is_register (rs1 w)) first (in_range 15 5 w) in (
       and_both (may_load n s && is_register (rd w) && is_register (rs1 w)) (has_bits 12 (immediate_i w)) second (has_12 (bits 20 12 w) (bits_below 20 12 w)),
       word_i w 0x03 (load_funct3 n s) (unsigned_of (immediate_i w)) below e.0 e.1 (low_12 (bits 20 12 w) (bits_below 20 12 w)),
     )
 
-back_store : (n : Width) (w : ℕ) → w < 2 ^ 32 → Gives w (row 0x23 (width_funct3 n) (store n))
+back_store : (n : Width) (w : ℕ) → w < 2 ^ 32 → Gives w (Funct3 0x23 (width_funct3 n), store n)
 back_store n w below h =
-    let e = fixed_2 w 0x23 (width_funct3 n) (store n) h in
+    let e = fixed_2 w 0x23 (width_funct3 n) h in
     let m = 2 ^ 5 * bits 25 7 w + bits 7 5 w in
     let small : m < 2 ^ 12 = sum_s (bits 25 7 w) (bits 7 5 w) (bits_below 25 7 w) (bits_below 7 5 w) in
     (two 15 20 w (has_bits 12 (immediate_s w)) (has_12 m small), word_s w 0x23 (width_funct3 n) (unsigned_of (immediate_s w)) below e.0 e.1 (low_12 m small))
@@ -217,9 +214,9 @@ back_store n w below h =
     sum_s : (a b : ℕ) → a < 128 → b < 32 → 32 * a + b < 2 ^ 12
     sum_s a b la lb = omega arith
 
-back_fence : (w : ℕ) → w < 2 ^ 32 → Gives w (row 0x0f 0 fence)
+back_fence : (w : ℕ) → w < 2 ^ 32 → Gives w (Funct3 0x0f 0, fence)
 back_fence w below h =
-    let e = fixed_2 w 0x0f 0 fence h in
+    let e = fixed_2 w 0x0f 0 h in
     let n = bits 20 12 w in
     let first = and_both (nat_lt n (2 ^ 12)) (is_register (rs1 w)) (in_range 20 12 w) (in_range 15 5 w) in
     (and_both (nat_lt n (2 ^ 12) && is_register (rs1 w)) (is_register (rd w)) first (in_range 7 5 w), word_i w 0x0f 0 n below e.0 e.1 (mod_twice (w / 2 ^ 20) 12))
@@ -302,9 +299,9 @@ all_give w below = (
                                                                     (
                                                                       back_fence w below,
                                                                       (
-                                                                        (λ h. (refl, fixed_12 w 0x73 0 0 (λ v. Ecall) below h)),
+                                                                        (λ h. (refl, fixed_12 w 0x73 0 0 below h)),
                                                                         (
-                                                                          (λ h. (refl, fixed_12 w 0x73 0 1 (λ v. Ebreak) below h)),
+                                                                          (λ h. (refl, fixed_12 w 0x73 0 1 below h)),
                                                                           (
                                                                             back_load B4 false w refl below,
                                                                             (

@@ -4,17 +4,17 @@ use Rattle.std.specs.Prelude.{◌&&◌, nat_lt, IsTrue, IsSome, IfSome}
 use Rattle.std.proofs.lemmas.Bool.{ltb-true, false≢true}
 use Rattle.rv_decode.specs.declared.instruction.Instr.{Instr}
 use Rattle.rv_decode.specs.declared.instruction.Instr.TheVariants.{Op, OpImm, Lui, Auipc, Jal, Jalr, Branch, Load, Store, Fence, Ecall, Ebreak}
-use Rattle.rv_decode.specs.Decodes.{Row, table, meets, decoded, Decodes, IsOneToOne, NamesRegisters}
+use Rattle.rv_decode.specs.Decodes.{table, fits, decoded, Decodes, IsOneToOne, NamesRegisters}
 use Rattle.rv_decode.specs.Ranges.{is_register, has_bits, is_offset, takes_immediate, may_load, is_encodable}
 use Rattle.rv_decode.specs.Encodes.{word_of, encoded}
-use Rattle.rv_decode.proofs.RowLemmas.{and_true}
+use Rattle.rv_decode.proofs.RowLemmas.{Row, and_true}
 use Rattle.rv_decode.proofs.TableLemmas.{decoded-Decodes}
 use Rattle.rv_decode.proofs.BackLemmas.{Back, AllGive, all_give}
 use Rattle.rv_decode.proofs.ForthLemmas.{forth}
 
-row_back : (w : ℕ) (rs : List Row) → AllGive w rs → (k : ℕ) (r : Row) → k < length rs → get_or rs k r ≡ r → meets w r ≡ true → Back w (r.gives w)
+row_back : (w : ℕ) (rs : List Row) → AllGive w rs → (k : ℕ) (r : Row) → k < length rs → get_or rs k r ≡ r → fits w r.0 ≡ true → Back w (r.1 w)
 row_back w [] all k r l at met = absurd (omega arith)
-row_back w (q ∷ rs) all zero r l at met = subst (λ s. Back w (s.gives w)) at (all.0 (ap (meets w) at ∙ met))
+row_back w (q ∷ rs) all zero r l at met = subst (λ s. Back w (s.1 w)) at (all.0 (ap (λ s. fits w s.0) at ∙ met))
 row_back w (q ∷ rs) all (suc k) r l at met = row_back w rs all.1 k r (omega arith) at met
 
 -- what a word decodes to has its fields in their ranges, and that word

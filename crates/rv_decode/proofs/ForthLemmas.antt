@@ -13,10 +13,11 @@ use Rattle.rv_words.specs.Operation.{signed_of}
 use Rattle.rv_decode.specs.declared.instruction.Instr.{Instr}
 use Rattle.rv_decode.specs.declared.instruction.Instr.TheVariants.{Op, OpImm, Lui, Auipc, Jal, Jalr, Branch, Load, Store, Fence, Ecall, Ebreak}
 use Rattle.rv_decode.specs.Fields.{bits, rd, rs1, rs2, immediate_i, immediate_s, immediate_b, immediate_u, immediate_j}
-use Rattle.rv_decode.specs.Decodes.{opcode_is, funct3_is, funct7_is, funct6_is, op, op_immediate, shift_immediate, half_shift_immediate, jalr, branch, load, store, fence, table, decoded}
+use Rattle.rv_decode.specs.Decodes.{op, op_immediate, shift_immediate, half_shift_immediate, branch, load, store, table, decoded}
+use Rattle.rv_decode.specs.inner.Rows.{jalr, fence}
 use Rattle.rv_decode.specs.Ranges.{is_register, has_bits, is_amount, is_offset, is_encodable}
 use Rattle.rv_decode.specs.Encodes.{join, fields_r, fields_i, fields_shift, fields_s, fields_b, fields_u, fields_j, unsigned_of, word_of}
-use Rattle.rv_decode.proofs.RowLemmas.{is, left_by, at_opcode, at_funct3, at_funct7, at_funct6, and_true, call_word, break_word}
+use Rattle.rv_decode.proofs.RowLemmas.{opcode_is, funct3_is, funct7_is, funct6_is, is, left_by, at_opcode, at_funct3, at_funct7, at_funct6, and_true, call_word, break_word}
 use Rattle.rv_decode.proofs.JoinLemmas.{bits_at}
 use Rattle.rv_decode.proofs.ImmediateLemmas.{signed_12, signed_13, signed_21, offset_even}
 

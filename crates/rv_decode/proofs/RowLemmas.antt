@@ -2,15 +2,109 @@
 use Rattle.std.proofs.Common.{◌≡◌, ◌≢◌, ℕ, ◌+◌, ◌*◌, ◌^◌, ◌<◌, eqb, Bool, true, false, cond, not, ◌&&◌, ◌||◌, ◌⊎◌, ⊎_elim, inl, inr, arith, Option, Some, None, List, [], ◌∷◌, refl, sym, ◌∙◌, eq-eqb, eqb-true}
 use Rattle.std.proofs.lemmas.Bool.{eqb-false, false≢true}
 use Rattle.std.proofs.lemmas.Bool.Decides.{nat_tests}
-use Rattle.std.specs.List.{list_all}
+use Rattle.std.specs.Prelude.{option_map}
+use Rattle.std.specs.List.{list_all, find}
 use Rattle.rv_decode.specs.declared.instruction.Instr.{Instr}
 use Rattle.rv_decode.specs.declared.instruction.Instr.TheVariants.{Ecall, Ebreak}
-use Rattle.rv_decode.specs.Fields.{bits, opcode, funct3, funct7, funct6}
-use Rattle.rv_decode.specs.Decodes.{Fixed, Row, opcode_is, funct3_is, funct7_is, funct6_is, table, has, meets, decoded_by, decoded}
+use Rattle.rv_decode.specs.Fields.{bits, opcode, rd, funct3, rs1, funct7, funct6, funct12}
+use Rattle.rv_decode.specs.Decodes.{Fixed, Opcode, Funct3, Funct7, Funct6, Funct12, fits, table, decoded}
+
+-- ---- the fixed fields of a row as a list
+
+-- a field with a fixed value: its lowest bit, the number of its bits, and the value
+pub record FixedBits : Type 0 where
+  pub low : ℕ
+  pub count : ℕ
+  pub value : ℕ
+
+abbrev pub opcode_is : ℕ → FixedBits
+opcode_is n = record { low = 0; count = 7; value = n }
+
+abbrev rd_is : ℕ → FixedBits
+rd_is n = record { low = 7; count = 5; value = n }
+
+abbrev pub funct3_is : ℕ → FixedBits
+funct3_is n = record { low = 12; count = 3; value = n }
+
+abbrev rs1_is : ℕ → FixedBits
+rs1_is n = record { low = 15; count = 5; value = n }
+
+abbrev pub funct7_is : ℕ → FixedBits
+funct7_is n = record { low = 25; count = 7; value = n }
+
+abbrev pub funct6_is : ℕ → FixedBits
+funct6_is n = record { low = 26; count = 6; value = n }
+
+abbrev funct12_is : ℕ → FixedBits
+funct12_is n = record { low = 20; count = 12; value = n }
+
+-- the fixed fields of a row, each by itself
+abbrev pub bits_of : Fixed → List FixedBits
+bits_of (Opcode o) = opcode_is o ∷ []
+bits_of (Funct3 o f) = opcode_is o ∷ funct3_is f ∷ []
+bits_of (Funct7 o f g) = opcode_is o ∷ funct3_is f ∷ funct7_is g ∷ []
+bits_of (Funct6 o f g) = opcode_is o ∷ funct3_is f ∷ funct6_is g ∷ []
+bits_of (Funct12 o f g) = opcode_is o ∷ funct3_is f ∷ funct12_is g ∷ rs1_is 0 ∷ rd_is 0 ∷ []
+
+-- the word has that value in that field
+abbrev pub has : ℕ → FixedBits → Bool
+has w f = eqb (bits f.low f.count w) f.value
+
+-- one test after the other, and all tests of a list
+and_2 : (a b : Bool) → (a && (b && true)) ≡ (a && b)
+and_2 true true = refl
+and_2 true false = refl
+and_2 false b = refl
+
+and_3 : (a b c : Bool) → (a && (b && (c && true))) ≡ (a && b && c)
+and_3 true b c = and_2 b c
+and_3 false b c = refl
+
+and_5 : (a b c d e : Bool) → (a && (b && (c && (d && (e && true))))) ≡ (a && b && c && d && e)
+and_5 true true c d e = and_3 c d e
+and_5 true false c d e = refl
+and_5 false b c d e = refl
+
+pub has-fits : (w : ℕ) (f : Fixed) → list_all (has w) (bits_of f) ≡ fits w f
+has-fits w (Opcode o) = and_1 (eqb (opcode w) o)
+  where
+    and_1 : (a : Bool) → (a && true) ≡ a
+    and_1 true = refl
+    and_1 false = refl
+has-fits w (Funct3 o f) = and_2 (eqb (opcode w) o) (eqb (funct3 w) f)
+has-fits w (Funct7 o f g) = and_3 (eqb (opcode w) o) (eqb (funct3 w) f) (eqb (funct7 w) g)
+has-fits w (Funct6 o f g) = and_3 (eqb (opcode w) o) (eqb (funct3 w) f) (eqb (funct6 w) g)
+has-fits w (Funct12 o f g) = and_5 (eqb (opcode w) o) (eqb (funct3 w) f) (eqb (funct12 w) g) (eqb (rs1 w) 0) (eqb (rd w) 0)
+
+-- ---- the first row whose fixed fields a word has
+
+-- the fixed fields, and the instruction that a word with these is
+abbrev pub Row : Type 0
+Row = Fixed × (ℕ → Instr)
+
+-- the instruction that the first of the rows gives whose fixed fields the word has
+abbrev pub decoded_by : List Row → ℕ → Option Instr
+decoded_by [] w = None
+decoded_by (r ∷ rs) w = cond (fits w r.0) (Some (r.1 w)) (decoded_by rs w)
+
+found : (w : ℕ) (rs : List Row) → decoded_by rs w ≡ option_map (λ (fixed, gives). gives w) (find (λ (fixed, gives). fits w fixed) rs)
+found w [] = refl
+found w (r ∷ rs) = by_test (fits w r.0) (decoded_by rs w) (find (λ (fixed, gives). fits w fixed) rs) (found w rs)
+  where
+    by_test : (t : Bool) (x : Option Instr) (o : Option Row) → x ≡ option_map (λ (fixed, gives). gives w) o
+        → cond t (Some (r.1 w)) x ≡ option_map (λ (fixed, gives). gives w) (cond t (Some r) o)
+    by_test true x o h = refl
+    by_test false x o h = h
+
+pub decoded_by-table : (w : ℕ) → decoded_by table w ≡ decoded w
+unfolding decoded
+decoded_by-table w = found w table
+
+-- ---- the rows that facts leave
 
 -- a field, and whether the word has that value in it
 pub record Fact : Type 0 where
-  pub field : Fixed
+  pub field : FixedBits
   pub holds : Bool
 
 abbrev pub AreFacts : ℕ → List Fact → Type 0
@@ -18,31 +112,31 @@ AreFacts w [] = Unit {0}
 AreFacts w (k ∷ ks) = (has w k.field ≡ k.holds) × AreFacts w ks
 
 -- two fields are the same bits
-abbrev pub same_bits : Fixed → Fixed → Bool
+abbrev pub same_bits : FixedBits → FixedBits → Bool
 same_bits f g = eqb f.low g.low && eqb f.count g.count
 
 -- the test of a field, where the facts tell its outcome
-abbrev pub told : List Fact → ℕ → Fixed → Bool
+abbrev pub told : List Fact → ℕ → FixedBits → Bool
 told [] w f = has w f
 told (k ∷ ks) w f = cond (same_bits k.field f) (cond (eqb k.field.value f.value) k.holds (cond k.holds false (told ks w f))) (told ks w f)
 
-abbrev pub all_told : List Fact → ℕ → List Fixed → Bool
+abbrev pub all_told : List Fact → ℕ → List FixedBits → Bool
 all_told ks w [] = true
 all_told ks w (f ∷ fs) = told ks w f && all_told ks w fs
 
 -- the facts tell that the word hasn't that value in that field
-abbrev pub refuted : List Fact → Fixed → Bool
+abbrev pub refuted : List Fact → FixedBits → Bool
 refuted [] f = false
 refuted (k ∷ ks) f = (same_bits k.field f && cond (eqb k.field.value f.value) (not k.holds) k.holds) || refuted ks f
 
-abbrev pub any_refuted : List Fact → List Fixed → Bool
+abbrev pub any_refuted : List Fact → List FixedBits → Bool
 any_refuted ks [] = false
 any_refuted ks (f ∷ fs) = refuted ks f || any_refuted ks fs
 
 -- the instruction that the first row gives that the facts leave
 abbrev pub left_by : List Fact → List Row → ℕ → Option Instr
 left_by ks [] w = None
-left_by ks (r ∷ rs) w = cond (any_refuted ks r.fixed) (left_by ks rs w) (cond (all_told ks w r.fixed) (Some (r.gives w)) (left_by ks rs w))
+left_by ks (r ∷ rs) w = cond (any_refuted ks (bits_of r.0)) (left_by ks rs w) (cond (all_told ks w (bits_of r.0)) (Some (r.1 w)) (left_by ks rs w))
 
 -- what a fact tells of a test of the same bits x and y
 told_same : (x y v u : ℕ) (t h rest : Bool) → x ≡ y → eqb v u ≡ t → eqb x v ≡ h → rest ≡ eqb y u → cond t h (cond h false rest) ≡ eqb y u
@@ -60,18 +154,18 @@ pub and_true : (a b : Bool) → (a && b) ≡ true → (a ≡ true) × (b ≡ tru
 and_true true b h = (refl, h)
 and_true false b h = absurd (false≢true h)
 
-told_field : (k f : Fixed) (w : ℕ) (h rest : Bool) (s : Bool) → same_bits k f ≡ s → has w k ≡ h → rest ≡ has w f → cond s (cond (eqb k.value f.value) h (cond h false rest)) rest ≡ has w f
+told_field : (k f : FixedBits) (w : ℕ) (h rest : Bool) (s : Bool) → same_bits k f ≡ s → has w k ≡ h → rest ≡ has w f → cond s (cond (eqb k.value f.value) h (cond h false rest)) rest ≡ has w f
 told_field k f w h rest false is known other = other
 told_field k f w h rest true is known other =
     let both = and_true (eqb k.low f.low) (eqb k.count f.count) is in
     let same : bits k.low k.count w ≡ bits f.low f.count w = λ i. bits (eqb-true k.low f.low both.0 i) (eqb-true k.count f.count both.1 i) w in
     told_same (bits k.low k.count w) (bits f.low f.count w) k.value f.value (eqb k.value f.value) h rest same refl known other
 
-told-has : (ks : List Fact) (w : ℕ) (f : Fixed) → AreFacts w ks → told ks w f ≡ has w f
+told-has : (ks : List Fact) (w : ℕ) (f : FixedBits) → AreFacts w ks → told ks w f ≡ has w f
 told-has [] w f h = refl
 told-has (k ∷ ks) w f h = told_field k.field f w k.holds (told ks w f) (same_bits k.field f) refl h.0 (told-has ks w f h.1)
 
-all_told-has : (ks : List Fact) (w : ℕ) (fs : List Fixed) → AreFacts w ks → all_told ks w fs ≡ list_all (has w) fs
+all_told-has : (ks : List Fact) (w : ℕ) (fs : List FixedBits) → AreFacts w ks → all_told ks w fs ≡ list_all (has w) fs
 all_told-has ks w [] h = refl
 all_told-has ks w (f ∷ fs) h = λ i. told-has ks w f h i && all_told-has ks w fs h i
 
@@ -83,7 +177,7 @@ or_true false b h = inr h
 refuted_same : (x v u : ℕ) (h : Bool) → eqb x v ≡ h → cond (eqb v u) (not h) h ≡ true → eqb x u ≡ false
 refuted_same x v u h is e = grind (arith, nat_tests)
 
-refuted-has : (ks : List Fact) (w : ℕ) (f : Fixed) → AreFacts w ks → refuted ks f ≡ true → has w f ≡ false
+refuted-has : (ks : List Fact) (w : ℕ) (f : FixedBits) → AreFacts w ks → refuted ks f ≡ true → has w f ≡ false
 refuted-has [] w f h e = absurd (false≢true e)
 refuted-has (k ∷ ks) w f h e =
     ⊎_elim
@@ -95,7 +189,7 @@ refuted-has (k ∷ ks) w f h e =
     (λ there. refuted-has ks w f h.1 there)
     (or_true (same_bits k.field f && cond (eqb k.field.value f.value) (not k.holds) k.holds) (refuted ks f) e)
 
-pub any_refuted-has : (ks : List Fact) (w : ℕ) (fs : List Fixed) → AreFacts w ks → any_refuted ks fs ≡ true → list_all (has w) fs ≡ false
+pub any_refuted-has : (ks : List Fact) (w : ℕ) (fs : List FixedBits) → AreFacts w ks → any_refuted ks fs ≡ true → list_all (has w) fs ≡ false
 any_refuted-has ks w [] h e = absurd (false≢true e)
 any_refuted-has ks w (f ∷ fs) h e =
     ⊎_elim
@@ -114,20 +208,21 @@ skipped false met here rest h = refl
 left_by-decoded : (ks : List Fact) (w : ℕ) (rs : List Row) → AreFacts w ks → left_by ks rs w ≡ decoded_by rs w
 left_by-decoded ks w [] h = refl
 left_by-decoded ks w (r ∷ rs) h =
-    (λ i. cond (any_refuted ks r.fixed) (left_by-decoded ks w rs h i) (cond (all_told-has ks w r.fixed h i) (Some (r.gives w)) (left_by-decoded ks w rs h i)))
-    ∙ skipped (any_refuted ks r.fixed) (meets w r) (Some (r.gives w)) (decoded_by rs w) (any_refuted-has ks w r.fixed h)
+    let fs = bits_of r.0 in
+    let told_fits : all_told ks w fs ≡ fits w r.0 = all_told-has ks w fs h ∙ has-fits w r.0 in
+    (λ i. cond (any_refuted ks fs) (left_by-decoded ks w rs h i) (cond (told_fits i) (Some (r.1 w)) (left_by-decoded ks w rs h i)))
+    ∙ skipped (any_refuted ks fs) (fits w r.0) (Some (r.1 w)) (decoded_by rs w) (λ t. sym (has-fits w r.0) ∙ any_refuted-has ks w fs h t)
 
 -- a word is the instruction that is left by what is known of it
 pub left_by-is : (ks : List Fact) (w : ℕ) → AreFacts w ks → left_by ks table w ≡ decoded w
-unfolding decoded
-left_by-is ks w h = left_by-decoded ks w table h
+left_by-is ks w h = left_by-decoded ks w table h ∙ decoded_by-table w
 
 -- ---- facts
 
-abbrev pub is : Fixed → Fact
+abbrev pub is : FixedBits → Fact
 is f = record { field = f; holds = true }
 
-abbrev pub is_not : Fixed → Fact
+abbrev pub is_not : FixedBits → Fact
 is_not f = record { field = f; holds = false }
 
 pub neq-eqb : (a b : ℕ) → a ≢ b → eqb a b ≡ false

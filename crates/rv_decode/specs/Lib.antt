@@ -3,3 +3,4 @@ pub mod Decodes
 pub mod Ranges
 pub mod Encodes
 pub mod Registers
+pub mod inner

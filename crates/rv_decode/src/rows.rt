@@ -2,6 +2,7 @@
 
 ghost use Rattle.std.specs.Prelude.{◌≡◌};
 ghost use Rattle.rv_decode.specs.Decodes as spec;
+ghost use Rattle.rv_decode.specs.inner.Rows as inner;
 
 use crate::fields::{
     amount, fence_bits, half_amount, immediate_b, immediate_i, immediate_j, immediate_s,
@@ -60,7 +61,7 @@ pub fn half_shift_immediate(op: Op, w: u32) -> Instr
 
 /// A load of the upper bits of format U.
 pub fn lui(w: u32) -> Instr
-    ensures { result ≡ spec.lui w }
+    ensures { result ≡ inner.lui w }
 {
     Instr::Lui {
         rd: rd(w),
@@ -70,7 +71,7 @@ pub fn lui(w: u32) -> Instr
 
 /// A sum of the address and the upper bits of format U.
 pub fn auipc(w: u32) -> Instr
-    ensures { result ≡ spec.auipc w }
+    ensures { result ≡ inner.auipc w }
 {
     Instr::Auipc {
         rd: rd(w),
@@ -80,7 +81,7 @@ pub fn auipc(w: u32) -> Instr
 
 /// A jump by the offset of format J.
 pub fn jal(w: u32) -> Instr
-    ensures { result ≡ spec.jal w }
+    ensures { result ≡ inner.jal w }
 {
     Instr::Jal {
         rd: rd(w),
@@ -90,7 +91,7 @@ pub fn jal(w: u32) -> Instr
 
 /// A jump to a register plus the immediate of format I.
 pub fn jalr(w: u32) -> Instr
-    ensures { result ≡ spec.jalr w }
+    ensures { result ≡ inner.jalr w }
 {
     Instr::Jalr {
         rd: rd(w),
@@ -138,7 +139,7 @@ pub fn store(width: Width, w: u32) -> Instr
 
 /// A fence with its fields.
 pub fn fence(w: u32) -> Instr
-    ensures { result ≡ spec.fence w }
+    ensures { result ≡ inner.fence w }
 {
     Instr::Fence {
         imm: fence_bits(w),

@@ -1,7 +1,6 @@
 use Rattle.std.proofs.Common.{[], ◌∷◌, arith, eq-eqb}
 use Rattle.rv_decode.specs.Fields.{opcode, funct7}
-use Rattle.rv_decode.specs.Decodes.{opcode_is, funct7_is}
-use Rattle.rv_decode.proofs.RowLemmas.{is, is_not, neq-eqb, left_by-is}
+use Rattle.rv_decode.proofs.RowLemmas.{opcode_is, funct7_is, is, is_not, neq-eqb, left_by-is}
 use Rattle.rv_decode.proofs.decoder.decode_half_op.Goals as goal
 
 pub returns-in_default : goal.returns-in_default

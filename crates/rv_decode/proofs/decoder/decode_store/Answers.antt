@@ -1,7 +1,6 @@
 use Rattle.std.proofs.Common.{Some, [], ◌∷◌, ap, ◌∙◌, arith, eq-eqb}
 use Rattle.rv_decode.specs.Fields.{opcode, funct3}
-use Rattle.rv_decode.specs.Decodes.{opcode_is, funct3_is}
-use Rattle.rv_decode.proofs.RowLemmas.{is, is_not, neq-eqb, left_by-is, at_funct3}
+use Rattle.rv_decode.proofs.RowLemmas.{opcode_is, funct3_is, is, is_not, neq-eqb, left_by-is, at_funct3}
 use Rattle.rv_decode.proofs.decoder.decode_store.Goals as goal
 
 pub returns-in-0 : goal.returns-in-0

@@ -1,7 +1,6 @@
 use Rattle.std.proofs.Common.{Some, [], ◌∷◌, ap, ◌∙◌, arith}
 use Rattle.rv_decode.specs.Fields.{opcode}
-use Rattle.rv_decode.specs.Decodes.{opcode_is}
-use Rattle.rv_decode.proofs.RowLemmas.{is_not, neq-eqb, left_by-is, at_opcode}
+use Rattle.rv_decode.proofs.RowLemmas.{opcode_is, is_not, neq-eqb, left_by-is, at_opcode}
 use Rattle.rv_decode.proofs.decoder.decode_word.Goals as goal
 
 pub returns-in-23 : goal.returns-in-23
