@@ -2,10 +2,9 @@
 -- Sums are modulo 2 ^ 64. Loads and stores go byte by byte, the low byte first, wherever they begin.
 use Rattle.std.specs.Prelude.{ℕ, zero, suc, ◌+◌, ◌-◌, ◌*◌, ◌%◌, ◌^◌, ◌==◌, Bool, if◌then◌else◌, Option, Some, None, is_some, unwrap_or, option_map, option_and_then, ℤ, bit_and}
 use Rattle.rv_words.specs.Bytes.{Bytes, after, bytes_of, load, inside, store, word_at}
-use Rattle.rv_words.specs.Operation.{operation_value, extension_value, comparison_holds, word_of}
+use Rattle.rv_words.specs.Operation.{operation_value, comparison_holds, word_of, extended}
 use Rattle.rv_words.specs.declared.width.Width.{Width}
-use Rattle.rv_words.specs.declared.width.Width.TheVariants.{B1, B2, B4, B8}
-use Rattle.rv_words.specs.declared.extension.Ext.TheVariants.{Sx1, Sx2, Sx4}
+use Rattle.rv_words.specs.declared.width.Width.TheVariants.{B8}
 use Rattle.rv_decode.specs.declared.instruction.Instr.{Instr}
 use Rattle.rv_decode.specs.declared.instruction.Instr.TheVariants.{Op, OpImm, Lui, Auipc, Jal, Jalr, Branch, Load, Store, Fence, Ecall, Ebreak}
 use Rattle.rv_decode.specs.Decodes.{decoded}
@@ -44,7 +43,7 @@ jump_target x imm = bit_and (plus x imm) (2 ^ 64 - 2)
 
 -- 20 upper bits above 12 zeros, sign-extended
 abbrev pub upper : ℕ → ℕ
-upper imm = extension_value Sx4 (imm * 2 ^ 12)
+upper imm = extended 32 (imm * 2 ^ 12)
 
 -- an address at which an instruction may stand
 abbrev pub is_aligned : ℕ → Bool
@@ -61,12 +60,10 @@ jumps_to target s = only_if (is_aligned target) (goes_to target s)
 abbrev pub branches : Bool → ℤ → ℕ → State → Option State
 branches taken offset n s = if taken then jumps_to (plus s.pc offset) s else Some (goes_on n s)
 
--- the number of a width's bytes as a word, its sign extended
+-- the number of a width's bytes as a word, its sign extended; that of eight bytes is one
 abbrev pub sign_extended : Width → ℕ → ℕ
-sign_extended B1 x = extension_value Sx1 x
-sign_extended B2 x = extension_value Sx2 x
-sign_extended B4 x = extension_value Sx4 x
 sign_extended B8 x = x
+sign_extended w x = extended (8 * bytes_of w) x
 
 -- the word that a load from a gives
 abbrev pub loaded : Width → Bool → Bytes → ℕ → ℕ
