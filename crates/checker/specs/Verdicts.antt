@@ -7,7 +7,8 @@ use Rattle.elf_image.specs.Fault.{IsReadable, fault_of}
 use Rattle.tailrec_lang.specs.Tree.{GroupTree}
 use Rattle.tailrec_lang.specs.WellFormed.{IsWellFormed, IsFirstIllFormed}
 use Rattle.proof_text.specs.Line.{LineTree, ProofTree}
-use Rattle.proof_text.specs.Proofs.{AreProofs, bare, text_of_proofs, texts_of_proofs}
+use Rattle.proof_text.specs.Proofs.{AreProofsIn, bare, text_of_proofs_in, texts_of_proofs}
+use Rattle.proof_text.specs.Version.{version_1}
 use Rattle.proof_text.specs.FirstProofs.{AreRead, passed, with_line}
 use Rattle.checker.specs.declared.verdict.Verdict.{Verdict}
 use Rattle.checker.specs.declared.verdict.Verdict.TheVariants as verdict
@@ -16,8 +17,8 @@ use Rattle.checker.specs.Accepts.{Accepts, IsProved}
 
 -- the text is that of these proofs
 pub record IsTextOf (text : List ℕ) (ps : List ProofTree) : Type 0 where
-  pub fit : AreProofs ps
-  pub spelled : text ≡ text_of_proofs ps
+  pub fit : AreProofsIn version_1 ps
+  pub spelled : text ≡ text_of_proofs_in version_1 ps
 
 -- The group is well-formed, and each line is right after those before it.
 pub record IsRightSoFar (p : ProofTree) : Type 0 where

@@ -67,11 +67,8 @@ pub record AreBefore (v : Version) (bytes : List ℕ) (ps : List ProofTree) (res
   pub ended : Ended ps rest
 
 -- the first items of a text
-abbrev pub AreReadIn : Version → List ℕ → List ProofTree → Type 0
-AreReadIn v bytes ps = (rest : List ℕ) × AreBefore v bytes ps rest
-
 abbrev pub AreRead : List ℕ → List ProofTree → Type 0
-AreRead bytes ps = AreReadIn version_1 bytes ps
+AreRead bytes ps = (rest : List ℕ) × AreBefore version_1 bytes ps rest
 
 -- the items of the one list begin with those of the other
 abbrev pub BeginsWithItems : List ProofTree → List ProofTree → Type 0
