@@ -1,5 +1,5 @@
 -- When a line of a proof is right after the lines before it.
-use Rattle.std.specs.Prelude.{◌≡◌, ℕ, ◌+◌, ◌==◌, ◌<◌, ◌^◌, map, Bool, true, false, if◌then◌else◌, List, [], ◌∷◌, fold, take, slice_get, Option, Some, None, is_some, IsSomeAnd}
+use Rattle.std.specs.Prelude.{◌≡◌, ℕ, ◌+◌, ◌==◌, ◌<◌, ◌^◌, map, Bool, true, false, if◌then◌else◌, List, [], ◌∷◌, fold, Option, Some, None, is_some, IsSomeAnd}
 use Rattle.word_terms.specs.Substitution.{Substitution, listed}
 use Rattle.word_terms.specs.Tree.{WordTree, MemTree}
 use Rattle.tailrec_lang.specs.Tree.{GroupTree}
@@ -64,10 +64,3 @@ Instance g h (Forget k) = is_some (h.theorem k) ≡ true
 abbrev pub AreInstances : GroupTree → History → List LineTree → Type 0
 AreInstances g h [] = Unit {0}
 AreInstances g h (l ∷ ls) = Instance g h l × AreInstances g (after_line h l) ls
-
--- the line at that place is the first that isn't
-pub record IsFirstWrong (g : GroupTree) (lines : List LineTree) (place : ℕ) : Type 0 where
-  pub line : LineTree
-  pub there : slice_get lines place ≡ Some line
-  pub before : AreInstances g no_lines (take place lines)
-  pub wrong : Instance g (after_lines (take place lines)) line → ⊥
