@@ -38,8 +38,8 @@ abbrev sized : Bool → Bool → Bool → Bool → Bool → Bool → ℕ → Opt
 sized a b c d e f n =
     option_or (when a (Cut 0))
     (option_or (option_or (when b (Cut 64)) None)
-    (option_or (option_or (option_or (option_or (when c (Sizes 0)) (option_or (when d (Cut 120)) (option_or (when e (Wraps 0)) None))) None)
-    (option_or (when f (TooBig (0 + n))) None)) None))
+    (option_or (option_or (option_or (when c (Sizes 0)) (option_or (when d (Cut 120)) (option_or (when e (Wraps 0)) None))) None)
+    (option_or (when f (TooBig (0 + n))) None)))
 
 -- the size of the words, as it is read
 abbrev size_read : List ℕ → ℕ

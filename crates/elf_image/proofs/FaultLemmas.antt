@@ -5,7 +5,8 @@ use Rattle.std.specs.List.{range_with_len}
 use Rattle.std.proofs.lemmas.Bool.{lt-ltb, le-ltb, cond-true, cond-false}
 use Rattle.elf_image.specs.declared.fault.ElfFault.{ElfFault}
 use Rattle.elf_image.specs.Header.{header_count, loads}
-use Rattle.elf_image.specs.Fault.{when, first, cut_header, header_faults, loads_faults, section_faults, table_faults, fault_of}
+use Rattle.elf_image.specs.Fault.{when, first, header_faults, section_faults, table_faults, fault_of}
+use Rattle.elf_image.specs.inner.Faults.{cut_header, loads_faults}
 
 or_assoc : (x y z : Option ElfFault) → option_or (option_or x y) z ≡ option_or x (option_or y z)
 or_assoc None y z = refl
@@ -45,10 +46,10 @@ module _ (file : List ℕ) where
   at_header f h = rows file ∙ (λ j. option_or (option_or (h j) (first (table_faults file))) sections)
 
   pub at_table : (f : ElfFault) → header ≡ None → table ≡ Some f → fault_of file ≡ Some f
-  at_table f h t = rows file ∙ (λ j. option_or (option_or (h j) (option_or (t j) (option_or load None))) sections)
+  at_table f h t = rows file ∙ (λ j. option_or (option_or (h j) (option_or (t j) load)) sections)
 
   pub at_loads : (f : ElfFault) → header ≡ None → table ≡ None → load ≡ Some f → fault_of file ≡ Some f
-  at_loads f h t l = rows file ∙ (λ j. option_or (option_or (h j) (option_or (t j) (option_or (l j) None))) sections)
+  at_loads f h t l = rows file ∙ (λ j. option_or (option_or (h j) (option_or (t j) (l j))) sections)
 
   pub at_sections : header ≡ None → table ≡ None → load ≡ None → fault_of file ≡ sections
-  at_sections h t l = rows file ∙ (λ j. option_or (option_or (h j) (option_or (t j) (option_or (l j) None))) sections)
+  at_sections h t l = rows file ∙ (λ j. option_or (option_or (h j) (option_or (t j) (l j))) sections)

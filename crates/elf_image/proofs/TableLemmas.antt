@@ -8,7 +8,8 @@ use Rattle.std.proofs.lemmas.List.FromFn.{get_or-range_with_len, length-range_wi
 use Rattle.elf_image.specs.declared.fault.ElfFault.{ElfFault}
 use Rattle.elf_image.specs.declared.fault.ElfFault.TheVariants.{Cut}
 use Rattle.elf_image.specs.Header.{header_place, section_place}
-use Rattle.elf_image.specs.Fault.{first, cut_at, cut_header, cut_section}
+use Rattle.elf_image.specs.Fault.{first, cut_at}
+use Rattle.elf_image.specs.inner.Faults.{cut_header, cut_section}
 
 pub both : (x y : Option ElfFault) → option_or x y ≡ None → (x ≡ None) × (y ≡ None)
 both None y e = (refl, e)
@@ -42,7 +43,7 @@ none_at f (x ∷ xs) zero d e l = (both (f x) (first (map f xs)) e).0
 none_at f (x ∷ xs) (suc i) d e l = none_at f xs i d (both (f x) (first (map f xs)) e).1 (omega arith)
 
 -- what isn't cut lies in the file
-uncut : (file : List ℕ) (place size : ℕ) → cut_at file place size ≡ None → place + size ≤ length file
+pub uncut : (file : List ℕ) (place size : ℕ) → cut_at file place size ≡ None → place + size ≤ length file
 uncut file place size e =
     ⊎_elim
     (λ past. absurd (none-some (Cut (min place (2 ^ 64 - 1))) (sym e ∙ cond-true (nat_lt (length file) (place + size)) _ _ (lt-ltb (length file) (place + size) past))))

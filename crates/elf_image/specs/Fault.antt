@@ -1,6 +1,6 @@
 -- Why a file is not read: of these conditions, in this order, the first that holds.
 use Rattle.std.specs.Prelude.{◌≡◌, ℕ, ◌+◌, ◌-◌, ◌^◌, ◌==◌, nat_eq, nat_lt, nat_le, min, max, Bool, ◌&&◌, ◌||◌, not, if◌then◌else◌, Option, Some, None, List, [], ◌∷◌, ◌++◌, map, length, slice_index}
-use Rattle.std.specs.Option.{option_or}
+use Rattle.std.specs.Option.{option_and_then, option_or}
 use Rattle.std.specs.List.{list_any, range_with_len, sum_by, starts_with}
 use Rattle.elf_image.specs.declared.fault.ElfFault.{ElfFault}
 use Rattle.elf_image.specs.declared.fault.ElfFault.TheVariants.{NotElf, Class, Order, Kind, Machine, Cut, Overlap, Wraps, TooMany, Symbols, Entry, Sizes, TooBig}
@@ -29,15 +29,11 @@ first (fault ∷ faults) = option_or fault (first faults)
 abbrev pub cut_at : List ℕ → ℕ → ℕ → Option ElfFault
 cut_at file place size = when (nat_lt (length file) (place + size)) (Cut (min place (2 ^ 64 - 1)))
 
--- the program header doesn't lie in the file
-abbrev pub cut_header : List ℕ → ℕ → Option ElfFault
-cut_header file i = cut_at file (header_place file i) program_header_size
-
 -- the sizes, the place in the file and the addresses of a PT_LOAD
 abbrev pub load_fault : List ℕ → ProgramHeader → Option ElfFault
 load_fault file h = first (
     when (nat_lt h.memory_size h.file_size) (Sizes h.index)
-    ∷ when (nat_lt (length file) (h.offset + h.file_size)) (Cut h.offset)
+    ∷ cut_at file h.offset h.file_size
     ∷ when (nat_lt (2 ^ 64) (h.address + h.memory_size)) (Wraps h.index)
     ∷ [])
 
@@ -66,51 +62,32 @@ header_faults file =
 abbrev pub total_size : List ProgramHeader → ℕ
 total_size hs = sum_by (λ h. h.memory_size) hs
 
--- what the PT_LOADs show
-abbrev pub loads_faults : List ℕ → List ProgramHeader → List (Option ElfFault)
-loads_faults file hs =
-    when (nat_lt most_loads (length hs)) (TooMany (length hs))
-    ∷ first (map (load_fault file) hs)
-    ∷ when (nat_lt most_memory (total_size hs)) (TooBig (total_size hs))
-    ∷ first_overlap hs
-    ∷ []
-
--- what the program headers show
+-- what the program headers show: one that doesn't lie in the file, and then what the PT_LOADs do
 abbrev pub table_faults : List ℕ → List (Option ElfFault)
 table_faults file =
-    first (map (cut_header file) (range_with_len 0 (header_count file)))
-    ∷ first (loads_faults file (loads file))
+    first (map (λ i. cut_at file (header_place file i) program_header_size) (range_with_len 0 (header_count file)))
+    ∷ when (nat_lt most_loads (length (loads file))) (TooMany (length (loads file)))
+    ∷ first (map (load_fault file) (loads file))
+    ∷ when (nat_lt most_memory (total_size (loads file))) (TooBig (total_size (loads file)))
+    ∷ first_overlap (loads file)
     ∷ []
-
--- the section header doesn't lie in the file
-abbrev pub cut_section : List ℕ → ℕ → Option ElfFault
-cut_section file i = cut_at file (section_place file i) section_header_size
-
--- the section's bytes don't lie in the file
-abbrev pub cut_bytes : List ℕ → SectionHeader → Option ElfFault
-cut_bytes file s = when (nat_lt (length file) (s.offset + s.size)) (Cut s.offset)
 
 -- what a symbol table shows, and the string table that it links to
 abbrev pub symbol_faults : List ℕ → SectionHeader → List (Option ElfFault)
 symbol_faults file table =
     when (not (table.entry_size == symbol_size)) (Entry table.entry_size)
-    ∷ cut_bytes file table
+    ∷ cut_at file table.offset table.size
     ∷ when (nat_le (section_count file) table.link) Symbols
-    ∷ cut_bytes file (section_at file table.link)
+    ∷ cut_at file (section_at file table.link).offset (section_at file table.link).size
     ∷ when (list_any (λ e. not (is_ended (strings_of file table) e.name)) (functions file table)) Symbols
     ∷ []
 
--- the first of these, if there is a symbol table
-abbrev pub symbol_fault : List ℕ → Option SectionHeader → Option ElfFault
-symbol_fault file None = None
-symbol_fault file (Some table) = first (symbol_faults file table)
-
--- what the section headers show
+-- what the section headers show, and then the symbol table, if there is one
 abbrev pub section_faults : List ℕ → List (Option ElfFault)
 section_faults file =
     when (not (section_count file == 0) && not (section_entry_size file == section_header_size)) (Entry (section_entry_size file))
-    ∷ first (map (cut_section file) (range_with_len 0 (section_count file)))
-    ∷ symbol_fault file (symbol_table file)
+    ∷ first (map (λ i. cut_at file (section_place file i) section_header_size) (range_with_len 0 (section_count file)))
+    ∷ option_and_then (λ table. first (symbol_faults file table)) (symbol_table file)
     ∷ []
 
 -- the fault of a file, or none

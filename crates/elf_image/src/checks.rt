@@ -2,8 +2,9 @@
 
 ghost use Rattle.std.specs.Prelude.{◌≡◌, ◌+◌, ◌*◌, ◌<◌, ◌≤◌, None, length, map};
 ghost use Rattle.std.specs.List.{range_with_len};
-ghost use Rattle.elf_image.specs.Fault.{cut_at, cut_header, first, first_overlap, header_faults, load_fault, loads_faults, overlaps, total_size};
+ghost use Rattle.elf_image.specs.Fault.{cut_at, first, first_overlap, header_faults, load_fault, overlaps, total_size};
 ghost use Rattle.elf_image.specs.Header.{header_count};
+ghost use Rattle.elf_image.specs.inner.Faults.{cut_header, loads_faults};
 
 use crate::fault::ElfFault;
 use crate::header::{ProgramHeader, double_at, half_at};

@@ -2,10 +2,11 @@
 
 ghost use Rattle.std.specs.Prelude.{◌≡◌, ◌≢◌, ℕ, ◌+◌, ◌≤◌, None, Some, IfOk, IfErr, OnOk, length, map, nat_lt};
 ghost use Rattle.std.specs.List.{prefix_len, range_with_len};
-ghost use Rattle.elf_image.specs.Fault.{IsReadable, cut_header, fault_of, first, first_overlap, load_fault, section_faults};
+ghost use Rattle.elf_image.specs.Fault.{IsReadable, fault_of, first, first_overlap, load_fault, section_faults};
 ghost use Rattle.elf_image.specs.Header.{header_count, loads};
 ghost use Rattle.elf_image.specs.Image.{ArePlaced, IsPlaced, IsRising, before, image_of, piece_of, pieces_at, pieces_of, rising};
 ghost use Rattle.elf_image.specs.Symbol.{functions, symbols_of};
+ghost use Rattle.elf_image.specs.inner.Faults.{cut_header};
 
 use crate::checks::{header_fault, loads_fault, table_fault};
 use crate::fault::ElfFault;

@@ -2,9 +2,10 @@
 
 ghost use Rattle.std.specs.Prelude.{◌≡◌, ◌+◌, ◌*◌, ◌<◌, ◌≤◌, ◌/◌, None, length, map};
 ghost use Rattle.std.specs.List.{range_with_len};
-ghost use Rattle.elf_image.specs.Fault.{cut_section, first};
+ghost use Rattle.elf_image.specs.Fault.{first};
 ghost use Rattle.elf_image.specs.Header.{section_at, section_count, section_place, symbol_table};
 ghost use Rattle.elf_image.specs.Symbol.{entry_at};
+ghost use Rattle.elf_image.specs.inner.Faults.{cut_section};
 
 use crate::header::{double_at, half_at, word_at};
 

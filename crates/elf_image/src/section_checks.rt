@@ -2,9 +2,10 @@
 
 ghost use Rattle.std.specs.Prelude.{◌≡◌, ◌+◌, ◌≤◌, ℕ, None, length, map, nat_lt, not};
 ghost use Rattle.std.specs.List.{list_any, range_with_len};
-ghost use Rattle.elf_image.specs.Fault.{cut_bytes, cut_section, first, section_faults, symbol_faults};
+ghost use Rattle.elf_image.specs.Fault.{cut_at, first, section_faults, symbol_faults};
 ghost use Rattle.elf_image.specs.Header.{section_count};
 ghost use Rattle.elf_image.specs.Symbol.{functions, is_ended};
+ghost use Rattle.elf_image.specs.inner.Faults.{cut_section};
 
 use crate::checks::first_cut;
 use crate::fault::ElfFault;
@@ -64,7 +65,7 @@ fn symbols_fault(file: &[u8], table: &SectionHeader) -> Option<ElfFault>
 
 /// The fault of a section whose bytes don't lie in the file.
 fn bytes_fault(file: &[u8], section: &SectionHeader) -> Option<ElfFault>
-    ensures { result ≡ cut_bytes file.now section.now }
+    ensures { result ≡ cut_at file.now section.now.offset section.now.size }
 {
     let len = file.len() as u64;
     if section.offset > len || section.size > len - section.offset {

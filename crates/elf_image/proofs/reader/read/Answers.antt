@@ -1,6 +1,7 @@
 use Rattle.std.proofs.Common.{◌≡◌, map, sym, subst, ◌∙◌}
-use Rattle.elf_image.specs.Fault.{first, loads_faults}
+use Rattle.elf_image.specs.Fault.{first}
 use Rattle.elf_image.specs.Image.{IsRising, image_of, piece_of, pieces_at, pieces_of, rising}
+use Rattle.elf_image.specs.inner.Faults.{loads_faults}
 use Rattle.elf_image.proofs.ImageLemmas.{rising_rises, rising_at}
 use Rattle.elf_image.proofs.FaultLemmas.{at_header, at_table, at_loads, at_sections}
 use Rattle.elf_image.proofs.reader.read.Goals as goal

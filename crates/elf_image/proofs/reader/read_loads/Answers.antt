@@ -1,6 +1,7 @@
 use Rattle.std.proofs.Common.{◌∙◌, map}
 use Rattle.std.specs.List.{range_with_len}
-use Rattle.elf_image.specs.Fault.{first, cut_header}
+use Rattle.elf_image.specs.Fault.{first}
+use Rattle.elf_image.specs.inner.Faults.{cut_header}
 use Rattle.elf_image.proofs.TableLemmas.{whole_at}
 use Rattle.elf_image.proofs.ImageLemmas.{loads_kept, loads_skipped}
 use Rattle.elf_image.proofs.reader.read_loads.Goals as goal

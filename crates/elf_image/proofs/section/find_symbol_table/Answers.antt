@@ -1,8 +1,9 @@
 use Rattle.std.proofs.Common.{◌≡◌, ◌==◌, map, false, sym, ◌∙◌}
 use Rattle.std.specs.List.{range_with_len}
 use Rattle.std.proofs.lemmas.Bool.{ne_eqb}
-use Rattle.elf_image.specs.Fault.{first, cut_section}
+use Rattle.elf_image.specs.Fault.{first}
 use Rattle.elf_image.specs.Header.{section_at}
+use Rattle.elf_image.specs.inner.Faults.{cut_section}
 use Rattle.elf_image.proofs.TableLemmas.{section_whole_at}
 use Rattle.elf_image.proofs.SymbolLemmas.{found_later}
 use Rattle.elf_image.proofs.section.find_symbol_table.Goals as goal
