@@ -1,7 +1,9 @@
 -- The symbol table, one entry after the other, and the strings of its names.
 use Rattle.std.proofs.Common.{◌≡◌, ℕ, suc, ◌+◌, ◌-◌, ◌<◌, ◌≤◌, ◌==◌, Bool, true, false, cond, not, ◌||◌, Some, List, [], ◌∷◌, ◌++◌, map, get_or, length, take, drop, nat_eq, nat_lt, eqb, refl, sym, ◌∙◌, ⊎_elim, arith}
 use Rattle.std.specs.Prelude.{filter, find, take_while, bytes_eq, slice_get, unwrap_or, ◌&&◌}
-use Rattle.std.specs.List.{list_any, range_with_len, starts_with}
+use Rattle.std.specs.BTreeSet.{insert_key}
+use Rattle.std.specs.List.{fold, list_any, range_with_len, starts_with}
+use Rattle.std.specs.Ordering.{nat_cmp}
 use Rattle.std.proofs.lemmas.Bool.{eq-eqb, eqb-true, lt-ltb, le-ltb, cases_lt}
 use Rattle.std.proofs.lemmas.List.{append-nil, take_more, get_or-drop, length-drop}
 use Rattle.std.proofs.lemmas.List.Folds.{list_any_at}
@@ -144,34 +146,46 @@ module _ (strings name string : List ℕ) (place : ℕ) (at : string ≡ drop pl
 abbrev pub has_name : List ℕ → List ℕ → SymbolEntry → Bool
 has_name strings name e = bytes_eq (string_at strings e.name) name
 
+-- these values, and those of the symbols of a name
+abbrev values_from : List ℕ → List ℕ → List Symbol → List ℕ
+values_from vs name symbols = fold (insert_key nat_cmp) vs (map (λ s. s.value) (filter (λ s. bytes_eq s.name name) symbols))
+
+-- the same with a first symbol, which has the name or not
+abbrev values_with : List ℕ → List ℕ → Symbol → List Symbol → Bool → List ℕ
+values_with vs name s symbols t =
+    let named = filter (λ s. bytes_eq s.name name) symbols in
+    fold (insert_key nat_cmp) vs (map (λ s. s.value) (cond t (s ∷ named) named))
+
 -- the values of the first i symbols of a name
 abbrev pub values_to : List ℕ → List ℕ → List SymbolEntry → ℕ → List ℕ
 values_to strings name es i = values_of name (map (symbol_of strings) (take i es))
 
-values-push : (strings name : List ℕ) (es : List SymbolEntry) (e : SymbolEntry)
-    → values_of name (map (symbol_of strings) (es ++ e ∷ [])) ≡ values_of name (map (symbol_of strings) es) ++ cond (has_name strings name e) (e.value ∷ []) []
-values-push strings name [] e = step (has_name strings name e)
+values-push : (strings name : List ℕ) (es : List SymbolEntry) (e : SymbolEntry) (vs : List ℕ)
+    → values_from vs name (map (symbol_of strings) (es ++ e ∷ []))
+    ≡ (let before = values_from vs name (map (symbol_of strings) es) in cond (has_name strings name e) (insert_key nat_cmp before e.value) before)
+values-push strings name [] e vs = step (has_name strings name e)
   where
-    step : (t : Bool) → map (λ (s : Symbol). s.value) (cond t (symbol_of strings e ∷ []) []) ≡ cond t (e.value ∷ []) []
+    step : (t : Bool) → fold (insert_key nat_cmp) vs (map (λ (s : Symbol). s.value) (cond t (symbol_of strings e ∷ []) [])) ≡ cond t (insert_key nat_cmp vs e.value) vs
     step true = refl
     step false = refl
-values-push strings name (x ∷ xs) e = step (has_name strings name x) (values-push strings name xs e)
+values-push strings name (x ∷ xs) e vs = step (has_name strings name x) (λ ws. values-push strings name xs e ws)
   where
     step : (t : Bool)
-        → values_of name (map (symbol_of strings) (xs ++ e ∷ [])) ≡ values_of name (map (symbol_of strings) xs) ++ cond (has_name strings name e) (e.value ∷ []) []
-        → map (λ (s : Symbol). s.value) (cond t (symbol_of strings x ∷ filter (λ s. bytes_eq s.name name) (map (symbol_of strings) (xs ++ e ∷ []))) (filter (λ s. bytes_eq s.name name) (map (symbol_of strings) (xs ++ e ∷ []))))
-        ≡ map (λ (s : Symbol). s.value) (cond t (symbol_of strings x ∷ filter (λ s. bytes_eq s.name name) (map (symbol_of strings) xs)) (filter (λ s. bytes_eq s.name name) (map (symbol_of strings) xs))) ++ cond (has_name strings name e) (e.value ∷ []) []
-    step true h = λ j. x.value ∷ h j
-    step false h = h
+        → ((ws : List ℕ) → values_from ws name (map (symbol_of strings) (xs ++ e ∷ []))
+        ≡ (let before = values_from ws name (map (symbol_of strings) xs) in cond (has_name strings name e) (insert_key nat_cmp before e.value) before))
+        → values_with vs name (symbol_of strings x) (map (symbol_of strings) (xs ++ e ∷ [])) t
+        ≡ (let before = values_with vs name (symbol_of strings x) (map (symbol_of strings) xs) t in cond (has_name strings name e) (insert_key nat_cmp before e.value) before)
+    step true h = h (insert_key nat_cmp vs x.value)
+    step false h = h vs
 
 pub value_kept : (strings name : List ℕ) (es : List SymbolEntry) (i : ℕ) (d : SymbolEntry) → i < length es → has_name strings name (get_or es i d) ≡ true
-    → values_to strings name es i ++ (get_or es i d).value ∷ [] ≡ values_to strings name es (i + 1)
+    → insert_key nat_cmp (values_to strings name es i) (get_or es i d).value ≡ values_to strings name es (i + 1)
 value_kept strings name es i d l h =
-    (λ j. values_to strings name es i ++ cond (sym h j) ((get_or es i d).value ∷ []) [])
-    ∙ sym ((λ j. values_of name (map (symbol_of strings) (take_more es i d l j))) ∙ values-push strings name (take i es) (get_or es i d))
+    (λ j. cond (sym h j) (insert_key nat_cmp (values_to strings name es i) (get_or es i d).value) (values_to strings name es i))
+    ∙ sym ((λ j. values_of name (map (symbol_of strings) (take_more es i d l j))) ∙ values-push strings name (take i es) (get_or es i d) [])
 
 pub value_skipped : (strings name : List ℕ) (es : List SymbolEntry) (i : ℕ) (d : SymbolEntry) → i < length es → has_name strings name (get_or es i d) ≡ false
     → values_to strings name es i ≡ values_to strings name es (i + 1)
 value_skipped strings name es i d l h =
-    sym (append-nil (values_to strings name es i)) ∙ (λ j. values_to strings name es i ++ cond (sym h j) ((get_or es i d).value ∷ []) [])
-    ∙ sym ((λ j. values_of name (map (symbol_of strings) (take_more es i d l j))) ∙ values-push strings name (take i es) (get_or es i d))
+    (λ j. cond (sym h j) (insert_key nat_cmp (values_to strings name es i) (get_or es i d).value) (values_to strings name es i))
+    ∙ sym ((λ j. values_of name (map (symbol_of strings) (take_more es i d l j))) ∙ values-push strings name (take i es) (get_or es i d) [])

@@ -1,140 +1,76 @@
--- The one value of a list, with one value more at its end.
-use Rattle.std.proofs.Common.{◌≡◌, ℕ, suc, ◌<◌, ◌==◌, min, max, Bool, true, false, cond, not, Option, Some, None, List, [], ◌∷◌, ◌++◌, eqb, refl, sym, ap, ◌∙◌, ⊎_elim, arith}
-use Rattle.std.specs.Prelude.{Ok, Err, filter, unwrap_or}
-use Rattle.std.proofs.lemmas.Bool.{eq-eqb, ne_eqb, cases_lt}
-use Rattle.std.proofs.lemmas.List.{append-nil}
+-- The one value of some, with one value more among them.
+use Rattle.std.proofs.Common.{◌≡◌, ℕ, ◌<◌, ◌≤◌, min, max, List, [], ◌∷◌, sym, ◌∙◌, ⊎_elim, arith}
+use Rattle.std.specs.Prelude.{Ok, Err}
+use Rattle.std.specs.declared.cmp.Ordering.{Ordering}
+use Rattle.std.specs.declared.cmp.Ordering.TheVariants.{Less, Equal, Greater}
+use Rattle.std.specs.BTreeSet.{insert_key}
+use Rattle.std.specs.Cmp.{nat_cmp_is}
+use Rattle.std.specs.Ordering.{MatchOrdering, match_ordering, nat_cmp}
+use Rattle.std.proofs.lemmas.Bool.{cases_lt}
 use Rattle.elf_image.specs.declared.symbol.NameFault.TheVariants.{NoSuch, Ambiguous}
-use Rattle.elf_image.specs.Symbol.{alone, chosen, least, one_of}
+use Rattle.elf_image.specs.Symbol.{one_of}
 
--- the values that differ from a
-abbrev others : ℕ → List ℕ → List ℕ
-others a vs = filter (λ v. not (v == a)) vs
+-- the values, with one more at its place
+abbrev with : List ℕ → ℕ → List ℕ
+with vs v = insert_key nat_cmp vs v
 
-least-push : (vs : List ℕ) (v : ℕ) → least (vs ++ v ∷ []) ≡ Some (min v (unwrap_or (least vs) v))
-least-push [] v = refl
-least-push (x ∷ xs) v = (λ j. Some (min x (unwrap_or (least-push xs v j) x))) ∙ step (least xs)
-  where
-    step : (o : Option ℕ) → Some (min x (min v (unwrap_or o v))) ≡ Some (min v (min x (unwrap_or o x)))
-    step None = ap Some (omega arith)
-    step (Some w) = ap Some (omega arith)
+at_place : (x : ℕ) (vs : List ℕ) (v : ℕ) (r : Ordering) → MatchOrdering r (v < x) (v ≡ x) (x < v) → with (x ∷ vs) v ≡ match_ordering r (v ∷ x ∷ vs) (x ∷ vs) (x ∷ with vs v)
+at_place x vs v r is = λ j. match_ordering (sym (nat_cmp_is v x r is) j) (v ∷ x ∷ vs) (x ∷ vs) (x ∷ with vs v)
 
-others-push : (a : ℕ) (vs : List ℕ) (v : ℕ) → others a (vs ++ v ∷ []) ≡ others a vs ++ cond (not (eqb v a)) (v ∷ []) []
-others-push a [] v = refl
-others-push a (x ∷ xs) v = step (not (eqb x a)) (others-push a xs v)
-  where
-    step : (t : Bool) → others a (xs ++ v ∷ []) ≡ others a xs ++ cond (not (eqb v a)) (v ∷ []) []
-        → cond t (x ∷ others a (xs ++ v ∷ [])) (others a (xs ++ v ∷ [])) ≡ cond t (x ∷ others a xs) (others a xs) ++ cond (not (eqb v a)) (v ∷ []) []
-    step true e = λ j. x ∷ e j
-    step false e = e
-
--- the same value once more changes nothing
-others-same : (a : ℕ) (vs : List ℕ) (v : ℕ) → v ≡ a → others a (vs ++ v ∷ []) ≡ others a vs
-others-same a vs v e = others-push a vs v ∙ (λ j. others a vs ++ cond (not (eq-eqb v a e j)) (v ∷ []) []) ∙ append-nil (others a vs)
-
-others-more : (a : ℕ) (vs : List ℕ) (v : ℕ) → (v ≡ a → ⊥) → others a (vs ++ v ∷ []) ≡ others a vs ++ v ∷ []
-others-more a vs v n = others-push a vs v ∙ (λ j. others a vs ++ cond (not (ne_eqb v a n j)) (v ∷ []) [])
-
--- all values differ from one below the least
-others-all : (v : ℕ) (vs : List ℕ) → v < unwrap_or (least vs) (suc v) → others v vs ≡ vs
-others-all v [] l = refl
-others-all v (x ∷ xs) l = step (others-all v xs) (least xs) refl l
-  where
-    rest : others v xs ≡ xs → v < x → cond (not (eqb x v)) (x ∷ others v xs) (others v xs) ≡ x ∷ xs
-    rest all h = (λ j. cond (not (ne_eqb x v (λ e. omega arith) j)) (x ∷ others v xs) (others v xs)) ∙ (λ j. x ∷ all j)
-
-    step : (v < unwrap_or (least xs) (suc v) → others v xs ≡ xs) → (o : Option ℕ) → least xs ≡ o → v < min x (unwrap_or o x)
-        → cond (not (eqb x v)) (x ∷ others v xs) (others v xs) ≡ x ∷ xs
-    step all None e h = rest (all (omega (arith, ap (λ p. unwrap_or p (suc v)) e))) (omega arith)
-    step all (Some w) e h = rest (all (omega (arith, ap (λ p. unwrap_or p (suc v)) e))) (omega arith)
-
--- ---- what an answer says of the values
-
-none_are : (vs : List ℕ) → one_of vs ≡ Err NoSuch → vs ≡ []
-none_are [] e = refl
-none_are (x ∷ xs) e = step (min x (unwrap_or (least xs) x)) (least (others (min x (unwrap_or (least xs) x)) (x ∷ xs))) e
-  where
-    step : (a : ℕ) (o : Option ℕ) → alone a o ≡ Err NoSuch → x ∷ xs ≡ []
-    step a None e = absurd (cc)
-    step a (Some b) e = absurd (cc)
-
-pub record AreAlone (vs : List ℕ) (a : ℕ) (next : Option ℕ) : Type 0 where
-  pub least_is : least vs ≡ Some a
-  pub next_is : least (others a vs) ≡ next
-
-all_are : (vs : List ℕ) (a : ℕ) → one_of vs ≡ Ok a → AreAlone vs a None
-all_are vs a e = go (least vs) refl e
-  where
-    inner : (x : ℕ) → least vs ≡ Some x → (o : Option ℕ) → least (others x vs) ≡ o → alone x o ≡ Ok a → AreAlone vs a None
-    inner x l None n e =
-        let same : x ≡ a = cc in
-        record { least_is = l ∙ (λ j. Some (same j)); next_is = (λ j. least (others (sym same j) vs)) ∙ n }
-    inner x l (Some b) n e = absurd (cc)
-
-    go : (o : Option ℕ) → least vs ≡ o → chosen o vs ≡ Ok a → AreAlone vs a None
-    go None l e = absurd (cc)
-    go (Some x) l e = inner x l (least (others x vs)) refl e
-
-two_are : (vs : List ℕ) (a b : ℕ) → one_of vs ≡ Err (Ambiguous a b) → AreAlone vs a (Some b)
-two_are vs a b e = go (least vs) refl e
-  where
-    inner : (x : ℕ) → least vs ≡ Some x → (o : Option ℕ) → least (others x vs) ≡ o → alone x o ≡ Err (Ambiguous a b) → AreAlone vs a (Some b)
-    inner x l None n e = absurd (cc)
-    inner x l (Some y) n e =
-        let same : x ≡ a = cc in
-        let other : y ≡ b = cc in
-        record { least_is = l ∙ (λ j. Some (same j)); next_is = (λ j. least (others (sym same j) vs)) ∙ n ∙ (λ j. Some (other j)) }
-
-    go : (o : Option ℕ) → least vs ≡ o → chosen o vs ≡ Err (Ambiguous a b) → AreAlone vs a (Some b)
-    go None l e = absurd (cc)
-    go (Some x) l e = inner x l (least (others x vs)) refl e
-
--- ---- one value more
-
-module _ (vs : List ℕ) (a : ℕ) (next : Option ℕ) (are : AreAlone vs a next) (v : ℕ) where
-  pushed : (w : ℕ) → w ≡ min v a → one_of (vs ++ v ∷ []) ≡ alone w (least (others w (vs ++ v ∷ [])))
-  pushed w e =
-      let small : least (vs ++ v ∷ []) ≡ Some w = least-push vs v ∙ (λ j. Some (min v (unwrap_or (are.least_is j) v))) ∙ (λ j. Some (sym e j)) in
-      λ j. chosen (small j) (vs ++ v ∷ [])
-
-  pub same_value : v ≡ a → one_of (vs ++ v ∷ []) ≡ alone a next
-  same_value e = pushed a (omega arith) ∙ (λ j. alone a (least (others-same a vs v e j))) ∙ (λ j. alone a (are.next_is j))
-
-  pub less_value : v < a → one_of (vs ++ v ∷ []) ≡ Err (Ambiguous v a)
-  less_value l =
-      let all : others v vs ≡ vs = others-all v vs (omega (arith, ap (λ p. unwrap_or p (suc v)) are.least_is)) in
-      pushed v (omega arith) ∙ (λ j. alone v (least ((others-same v vs v refl ∙ all) j))) ∙ (λ j. alone v (are.least_is j))
-
-  pub more_value : a < v → one_of (vs ++ v ∷ []) ≡ Err (Ambiguous a (min v (unwrap_or next v)))
-  more_value l =
-      pushed a (omega arith) ∙ (λ j. alone a (least (others-more a vs v (λ e. omega arith) j))) ∙ (λ j. alone a (least-push (others a vs) v j))
-      ∙ (λ j. alone a (Some (min v (unwrap_or (are.next_is j) v))))
+-- what isn't below the second value leaves the first two
+no_lower : (x y : ℕ) (vs : List ℕ) (v : ℕ) → y ≤ v → one_of (x ∷ with (y ∷ vs) v) ≡ Err (Ambiguous x y)
+no_lower x y vs v le =
+    ⊎_elim
+    (λ lt. λ j. one_of (x ∷ at_place y vs v Greater lt j))
+    (λ ge. λ j. one_of (x ∷ at_place y vs v Equal (omega arith) j))
+    (cases_lt y v)
 
 -- ---- the steps
 
-pub first_value : (vs : List ℕ) (v : ℕ) → one_of vs ≡ Err NoSuch → one_of (vs ++ v ∷ []) ≡ Ok v
-first_value vs v e = (λ j. one_of (none_are vs e j ++ v ∷ [])) ∙ pushed_alone
-  where
-    pushed_alone : one_of ([] ++ v ∷ []) ≡ Ok v
-    pushed_alone =
-        let one : min v v ≡ v = omega arith in
-        (λ j. alone (one j) (least (others (one j) (v ∷ [])))) ∙ (λ j. alone v (least (others-same v [] v refl j)))
+pub first_value : (vs : List ℕ) (v : ℕ) → one_of vs ≡ Err NoSuch → one_of (with vs v) ≡ Ok v
+first_value [] v e = λ j. Ok v
+first_value (x ∷ []) v e = absurd (cc)
+first_value (x ∷ y ∷ vs) v e = absurd (cc)
 
-pub again_one : (vs : List ℕ) (a v : ℕ) → one_of vs ≡ Ok a → v ≡ a → one_of (vs ++ v ∷ []) ≡ Ok a
-again_one vs a v e is = same_value vs a None (all_are vs a e) v is
+pub again_one : (vs : List ℕ) (a v : ℕ) → one_of vs ≡ Ok a → v ≡ a → one_of (with vs v) ≡ Ok a
+again_one [] a v e is = absurd (cc)
+again_one (x ∷ []) a v e is =
+    let same : x ≡ a = cc in
+    (λ j. one_of (at_place x [] v Equal (is ∙ sym same) j)) ∙ (λ j. Ok (same j))
+again_one (x ∷ y ∷ vs) a v e is = absurd (cc)
 
-pub second_value : (vs : List ℕ) (a v low high : ℕ) → one_of vs ≡ Ok a → (v ≡ a → ⊥) → low ≡ min a v → high ≡ max a v → one_of (vs ++ v ∷ []) ≡ Err (Ambiguous low high)
-second_value vs a v low high e n low_is high_is =
+pub second_value : (vs : List ℕ) (a v low high : ℕ) → one_of vs ≡ Ok a → (v ≡ a → ⊥) → low ≡ min a v → high ≡ max a v → one_of (with vs v) ≡ Err (Ambiguous low high)
+second_value [] a v low high e n low_is high_is = absurd (cc)
+second_value (x ∷ []) a v low high e n low_is high_is =
+    let same : x ≡ a = cc in
     ⊎_elim
-    (λ lt. less_value vs a None (all_are vs a e) v lt ∙ (let p : v ≡ low = omega arith in let q : a ≡ high = omega arith in λ j. Err (Ambiguous (p j) (q j))))
-    (λ le. more_value vs a None (all_are vs a e) v (omega arith) ∙ (let p : a ≡ low = omega arith in let q : min v v ≡ high = omega arith in λ j. Err (Ambiguous (p j) (q j))))
+    (λ lt. (λ j. one_of (at_place x [] v Less (omega (arith, same)) j)) ∙ (let p : v ≡ low = omega arith in let q : x ≡ high = omega (arith, same) in λ j. Err (Ambiguous (p j) (q j))))
+    (λ le. (λ j. one_of (at_place x [] v Greater (omega (arith, same)) j)) ∙ (let p : x ≡ low = omega (arith, same) in let q : v ≡ high = omega arith in λ j. Err (Ambiguous (p j) (q j))))
     (cases_lt v a)
+second_value (x ∷ y ∷ vs) a v low high e n low_is high_is = absurd (cc)
 
-pub again_two : (vs : List ℕ) (a b v : ℕ) → one_of vs ≡ Err (Ambiguous a b) → v ≡ a → one_of (vs ++ v ∷ []) ≡ Err (Ambiguous a b)
-again_two vs a b v e is = same_value vs a (Some b) (two_are vs a b e) v is
+pub again_two : (vs : List ℕ) (a b v : ℕ) → one_of vs ≡ Err (Ambiguous a b) → v ≡ a → one_of (with vs v) ≡ Err (Ambiguous a b)
+again_two [] a b v e is = absurd (cc)
+again_two (x ∷ []) a b v e is = absurd (cc)
+again_two (x ∷ y ∷ vs) a b v e is =
+    let same : x ≡ a = cc in
+    (λ j. one_of (at_place x (y ∷ vs) v Equal (is ∙ sym same) j)) ∙ e
 
-pub lower_value : (vs : List ℕ) (a b v : ℕ) → one_of vs ≡ Err (Ambiguous a b) → v < a → one_of (vs ++ v ∷ []) ≡ Err (Ambiguous v a)
-lower_value vs a b v e l = less_value vs a (Some b) (two_are vs a b e) v l
+pub lower_value : (vs : List ℕ) (a b v : ℕ) → one_of vs ≡ Err (Ambiguous a b) → v < a → one_of (with vs v) ≡ Err (Ambiguous v a)
+lower_value [] a b v e l = absurd (cc)
+lower_value (x ∷ []) a b v e l = absurd (cc)
+lower_value (x ∷ y ∷ vs) a b v e l =
+    let same : x ≡ a = cc in
+    (λ j. one_of (at_place x (y ∷ vs) v Less (omega (arith, same)) j)) ∙ (λ j. Err (Ambiguous v (same j)))
 
-pub higher_value : (vs : List ℕ) (a b v next : ℕ) → one_of vs ≡ Err (Ambiguous a b) → a < v → next ≡ min b v → one_of (vs ++ v ∷ []) ≡ Err (Ambiguous a next)
-higher_value vs a b v next e l is =
-    more_value vs a (Some b) (two_are vs a b e) v l ∙ (let p : min v b ≡ next = omega arith in λ j. Err (Ambiguous a (p j)))
+pub higher_value : (vs : List ℕ) (a b v next : ℕ) → one_of vs ≡ Err (Ambiguous a b) → a < v → next ≡ min b v → one_of (with vs v) ≡ Err (Ambiguous a next)
+higher_value [] a b v next e l is = absurd (cc)
+higher_value (x ∷ []) a b v next e l is = absurd (cc)
+higher_value (x ∷ y ∷ vs) a b v next e l is =
+    let same : x ≡ a = cc in
+    let other : y ≡ b = cc in
+    let past : one_of (with (x ∷ y ∷ vs) v) ≡ one_of (x ∷ with (y ∷ vs) v) = λ j. one_of (at_place x (y ∷ vs) v Greater (omega (arith, same)) j) in
+    ⊎_elim
+    (λ lt. past ∙ (λ j. one_of (x ∷ at_place y vs v Less lt j)) ∙ (let q : v ≡ next = omega (arith, other) in λ j. Err (Ambiguous (same j) (q j))))
+    (λ le. past ∙ no_lower x y vs v le ∙ (let q : y ≡ next = omega (arith, other) in λ j. Err (Ambiguous (same j) (q j))))
+    (cases_lt v y)

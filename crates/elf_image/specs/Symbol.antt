@@ -1,7 +1,10 @@
 -- The function symbols of a file, and the value that a name has among them (System V gABI, "Symbol Table" and "String
 -- Table").
-use Rattle.std.specs.Prelude.{ℕ, ◌+◌, ◌*◌, ◌/◌, ◌%◌, ◌==◌, Bool, ◌&&◌, not, min, Option, Some, None, unwrap_or, Result, Ok, Err, List, [], ◌∷◌, map, drop, filter, take_while, slice_index, bytes_eq}
-use Rattle.std.specs.List.{list_any, range_with_len}
+use Rattle.std.specs.Prelude.{ℕ, ◌+◌, ◌*◌, ◌/◌, ◌%◌, ◌==◌, Bool, ◌&&◌, not, Result, Ok, Err, List, [], ◌∷◌, map, drop, filter, take_while, slice_index, bytes_eq}
+use Rattle.std.specs.BTreeSet.{insert_key}
+use Rattle.std.specs.List.{fold, list_any, range_with_len}
+use Rattle.std.specs.Option.{option_map_or}
+use Rattle.std.specs.Ordering.{nat_cmp}
 use Rattle.elf_image.specs.declared.section.SectionHeader.{SectionHeader}
 use Rattle.elf_image.specs.declared.section.SymbolEntry.{SymbolEntry}
 use Rattle.elf_image.specs.declared.symbol.NameFault.{NameFault}
@@ -51,39 +54,21 @@ pub record Symbol : Type 0 where
 abbrev pub symbol_of : List ℕ → SymbolEntry → Symbol
 symbol_of strings e = record { name = string_at strings e.name; value = e.value }
 
--- the symbols of a table
-abbrev pub symbols_in : List ℕ → Option SectionHeader → List Symbol
-symbols_in file None = []
-symbols_in file (Some table) = map (symbol_of (strings_of file table)) (functions file table)
-
--- the function symbols of a file, in table order
+-- the function symbols of a file, in table order; without a symbol table there are none
 abbrev pub symbols_of : List ℕ → List Symbol
-symbols_of file = symbols_in file (symbol_table file)
+symbols_of file = option_map_or (λ table. map (symbol_of (strings_of file table)) (functions file table)) (symbol_table file) []
 
 -- ---- the value of a name
 
--- the values of the symbols of a name
+-- the values of the symbols of a name: each once, in rising order
 abbrev pub values_of : List ℕ → List Symbol → List ℕ
-values_of name symbols = map (λ s. s.value) (filter (λ s. bytes_eq s.name name) symbols)
+values_of name symbols = fold (insert_key nat_cmp) [] (map (λ s. s.value) (filter (λ s. bytes_eq s.name name) symbols))
 
--- the least of some values
-abbrev pub least : List ℕ → Option ℕ
-least [] = None
-least (v ∷ vs) = Some (min v (unwrap_or (least vs) v))
-
--- a value beside which there is no other, or else the two
-abbrev pub alone : ℕ → Option ℕ → Result ℕ NameFault
-alone a None = Ok a
-alone a (Some b) = Err (Ambiguous a b)
-
--- the least value beside the least of those that differ from it
-abbrev pub chosen : Option ℕ → List ℕ → Result ℕ NameFault
-chosen None values = Err NoSuch
-chosen (Some a) values = alone a (least (filter (λ v. not (v == a)) values))
-
--- the one value of these, or why there is none: there is no value, or there are two, of which these are the least two
+-- the one value of these, or why there is none: there is no value, or there are two or more, of which these are the first two
 abbrev pub one_of : List ℕ → Result ℕ NameFault
-one_of values = chosen (least values) values
+one_of [] = Err NoSuch
+one_of (a ∷ []) = Ok a
+one_of (a ∷ b ∷ values) = Err (Ambiguous a b)
 
 -- the value of the symbols of a name
 abbrev pub value_of_name : List ℕ → List Symbol → Result ℕ NameFault

@@ -1,6 +1,8 @@
 //! Functions by name.
 
-ghost use Rattle.std.specs.Prelude.{◌≡◌, ℕ, Err, List as Items, [], ◌∷◌, ◌++◌, bytes_eq, drop, map, slice_get, unwrap_or, ◌==◌};
+ghost use Rattle.std.specs.Prelude.{◌≡◌, ℕ, Err, List as Items, bytes_eq, drop, map, slice_get, unwrap_or, ◌==◌};
+ghost use Rattle.std.specs.BTreeSet.{insert_key};
+ghost use Rattle.std.specs.Ordering.{nat_cmp};
 ghost use Rattle.elf_image.specs.Symbol.{one_of, string_at};
 
 use crate::section::SymbolEntry;
@@ -59,7 +61,7 @@ impl Symbols {
 
 /// What is found with one value more.
 fn with_value(found: Result<u64, NameFault>, value: u64) -> Result<u64, NameFault>
-    ensures { (values : Items ℕ) → found ≡ one_of values → result ≡ one_of (values ++ value ∷ []) }
+    ensures { (values : Items ℕ) → found ≡ one_of values → result ≡ one_of (insert_key nat_cmp values value) }
 {
     match found {
         Ok(least) => {
@@ -74,7 +76,7 @@ fn with_value(found: Result<u64, NameFault>, value: u64) -> Result<u64, NameFaul
 
 /// What is found with one value more than those that have no one value.
 fn after_fault(fault: NameFault, value: u64) -> Result<u64, NameFault>
-    ensures { (values : Items ℕ) → Err fault ≡ one_of values → result ≡ one_of (values ++ value ∷ []) }
+    ensures { (values : Items ℕ) → Err fault ≡ one_of values → result ≡ one_of (insert_key nat_cmp values value) }
 {
     match fault {
         NameFault::NoSuch => Ok(value),
