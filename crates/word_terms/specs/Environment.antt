@@ -1,6 +1,6 @@
 -- What the variables stand for: the word of each word variable and the bytes of each memory variable, and how many
 -- there are of both, which are numbered apart. Variables are levels: a new one takes the next number.
-use Rattle.std.specs.Prelude.{ℕ, ◌≡◌, ◌+◌, ◌^◌, ◌<◌, ◌≤◌, ◌==◌, if◌then◌else◌, Some, List, [], ◌∷◌, slice_index, slice_index_or, length}
+use Rattle.std.specs.Prelude.{ℕ, ◌≡◌, ◌+◌, ◌^◌, ◌<◌, ◌≤◌, ◌==◌, if◌then◌else◌, Some, List, [], fold, slice_index, slice_index_or, length}
 use Rattle.std.specs.Ordering.{nat_cmp}
 use Rattle.std.specs.FinMap.{FinMap, empty, get}
 use Rattle.rv_words.specs.Bytes.{Bytes}
@@ -22,13 +22,11 @@ with_mem e m = record { word = e.word; words = e.words; mem = λ i. if i == e.me
 
 -- one more word variable for each number, in order
 abbrev pub with_words : Environment → List ℕ → Environment
-with_words e [] = e
-with_words e (n ∷ ns) = with_words (with_word e n) ns
+with_words e ns = fold with_word e ns
 
 -- one more memory variable for each memory, in order
 abbrev pub with_mems : Environment → List Bytes → Environment
-with_mems e [] = e
-with_mems e (m ∷ ms) = with_mems (with_mem e m) ms
+with_mems e ms = fold with_mem e ms
 
 -- the words and the memories as the variables from 0 on
 abbrev pub variables : List ℕ → List (FinMap nat_cmp ℕ) → Environment
