@@ -9,9 +9,10 @@ use Rattle.word_terms.specs.Tree.{Const}
 use Rattle.word_terms.specs.Environment.{Environment}
 use Rattle.tailrec_lang.specs.declared.group.Exit.{Exit}
 use Rattle.tailrec_lang.specs.declared.group.Exit.TheVariants.{At, Ret}
-use Rattle.tailrec_lang.specs.Tree.{DefTree, GroupTree, exits_of, exits_at, listed_def}
+use Rattle.tailrec_lang.specs.Tree.{DefTree, GroupTree, exits_at, listed_def}
 use Rattle.tailrec_lang.specs.WellFormed.{IsWellFormed}
 use Rattle.tailrec_lang.specs.Eval.{ExitFits, Arguments, arguments_of, Exited, ending, Done, eval}
+use Rattle.tailrec_lang.proofs.Definitions.{exits_there}
 use Rattle.rv_machine.specs.State.{State}
 use Rattle.rv_words.specs.Ranges.{range_bytes}
 use Rattle.sep_assert.specs.Code.{IsWithin}
@@ -150,7 +151,7 @@ given-counts g Ret y fits = let e : length g.regs + 1 - 1 ≡ length g.regs = om
 module _ (g : GroupTree) (well_formed : IsWellFormed g) (d k : ℕ) (def : DefTree) (there : slice_get g.defs d ≡ Some def) (valid : IsClosed g d) (x : Arguments)
     (words : length x.words ≡ length g.regs) (mems : length x.mems ≡ g.mems) (turns left : ℕ) (y : Arguments) (ends : ending g d x turns ≡ Exited k y left) (exit : Exit) (leaves : slice_get def.exits k ≡ Some exit) where
   fits : ExitFits g (Some exit) y
-  fits = subst (λ o. ExitFits g o y) ((λ i. slice_get (exits_of (there i)) k) ∙ leaves) (exited-fits g d x turns k y left well_formed ends)
+  fits = subst (λ o. ExitFits g o y) ((λ i. slice_get (exits_there g d def there i) k) ∙ leaves) (exited-fits g d x turns k y left well_formed ends)
 
   abbrev env : Environment
   env = both_as_variables x y
@@ -194,7 +195,7 @@ function-right file g well_formed are few of_file valid s regions starts turns k
     let x = held_in s g regions in
     let d = entered-def (slice_get g.defs (listed_def g)) s.pc starts.entry in
     let done = done-by (exits_at g (listed_def g)) (ending g (listed_def g) x turns) k pc results left e in
-    let leaves : slice_get d.0.exits k ≡ Some done.exit = (λ i. slice_get (exits_of (sym d.1 i)) k) ∙ done.there in
+    let leaves : slice_get d.0.exits k ≡ Some done.exit = (λ i. slice_get (sym (exits_there g (listed_def g) d.0 d.1) i) k) ∙ done.there in
     let words : length x.words ≡ length g.regs = length-map g.regs s.reg in
     let mems : length x.mems ≡ g.mems = length-map regions (cut s.mem) ∙ starts.count in
     let r = runs g well_formed (listed_def g) k d.0 d.1 valid x words mems turns left done.x done.ends done.exit leaves (left_over g regions s) s

@@ -2,8 +2,8 @@
 use Rattle.std.proofs.Common.{◌≡◌, ℕ, zero, suc, List, [], ◌∷◌, map, refl, sym, ◌∙◌, subst, Some}
 use Rattle.std.specs.Prelude.{slice_get}
 use Rattle.tailrec_lang.specs.Tree.{GroupTree, exits_at}
-use Rattle.tailrec_lang.specs.Tree as tree
 use Rattle.tailrec_lang.specs.WellFormed.{DefIsWellFormed, IsWellFormed}
+use Rattle.tailrec_lang.proofs.Definitions.{exits_there}
 use Rattle.code_parts.specs.declared.part.Part.{Part}
 use Rattle.code_parts.specs.Bodies.{Flow, exits_of, part_def}
 use Rattle.code_parts.specs.Graph.{IsGraph, IsFor, IsMade}
@@ -34,6 +34,6 @@ pub group-formed : (f : Flow) (g : GroupTree) (parts : List Part) → IsGraph f 
 group-formed f g parts graph made d def is =
     let q = slice-unmapped (part_def f) parts d def ((λ i. slice_get (sym made.defs i) d) ∙ is) in
     let there = made.part d q.0 q.1 in
-    let exits : exits_at g d ≡ exits_of f q.0 = (λ i. tree.exits_of (is i)) ∙ (λ i. (sym q.2 i).exits) in
+    let exits : exits_at g d ≡ exits_of f q.0 = exits_there g d def is ∙ (λ i. (sym q.2 i).exits) in
     subst (λ x. DefIsWellFormed g d x) q.2
     (part-formed f g q.0 d made.regs made.mems graph made.code (for f g parts graph made).has exits there.0 (made.below d q.0 q.1))

@@ -10,8 +10,9 @@ use Rattle.rv_words.specs.declared.range.Range.{Range}
 use Rattle.tailrec_lang.specs.declared.group.Exit.TheVariants.{At, Ret}
 use Rattle.tailrec_lang.specs.Tree.{ValuesTree, StepTree, Need, BodyTree, Branch, Call, Again, Leave, NoArm, Arm, GroupTree, with_steps}
 use Rattle.tailrec_lang.specs.Tree as tree
-use Rattle.tailrec_lang.specs.inner.WellFormed.{StepsInScope}
-use Rattle.tailrec_lang.specs.WellFormed.{HasCounts, FitsExit, exit_words, words_after, mems_after, BodyIsWellFormed, ArmsAreWellFormed}
+use Rattle.tailrec_lang.specs.inner.WellFormed.{FitsExit, StepsInScope}
+use Rattle.tailrec_lang.specs.WellFormed.{HasCounts, exit_words, words_after, mems_after, BodyIsWellFormed, ArmsAreWellFormed}
+use Rattle.tailrec_lang.proofs.Definitions.{exits_there}
 use Rattle.triple_kernel.specs.declared.form.Form.TheVariants.{Next, Taken}
 use Rattle.rv_decode.specs.Registers.{sources}
 use Rattle.instr_axioms.specs.Terms.{has_memory, conditions}
@@ -133,7 +134,7 @@ module _ (f : Flow) (g : GroupTree) (p : Part) (d : ℕ) (regs : g.regs ≡ f.re
   arms_formed go words mems (x ∷ xs) each ok = (same-counts (go x) words (f.addr x) mems (each 0 x refl ok.0), arms_formed go words mems xs (λ i y e. each (suc i) y e) ok.1)
 
   callee-exits : (q : Part) → (there : IsPart f q) → tree.exits_at g (f.number q) ≡ exits_of f q
-  callee-exits q there = (λ i. tree.exits_of ((has q there).is i)) ∙ (has q there).exits
+  callee-exits q there = exits_there g (f.number q) (has q there).def (has q there).is ∙ (has q there).exits
 
   call_formed : (n : ℕ) → n < f.nodes → f.is_cut n ≡ true → (r : Option ℕ) → own p ≡ r → f.around n ≡ r → (v : Place) → IsIn f v → ArmsBelow d (rest_arms f p r v) →
       ArmsAreWellFormed g d (tree.exits_at g (f.number (rest_from f n))) (rest_arms f p r v) v.words v.mems

@@ -10,9 +10,10 @@ use Rattle.sep_assert.specs.Code.{IsWithin}
 use Rattle.elf_image.specs.Image.{code_of_file}
 use Rattle.tailrec_lang.specs.declared.group.Exit.{Exit}
 use Rattle.tailrec_lang.specs.declared.group.Exit.TheVariants.{At, Ret}
-use Rattle.tailrec_lang.specs.Tree.{DefTree, GroupTree, exits_of, exits_at, listed_def}
+use Rattle.tailrec_lang.specs.Tree.{DefTree, GroupTree, exits_at, listed_def}
 use Rattle.tailrec_lang.specs.Eval.{Arguments, Exited, Done, done_by, with_pc, ending, eval}
 use Rattle.tailrec_lang.proofs.Turns.{ending-enter}
+use Rattle.tailrec_lang.proofs.Definitions.{exits_there}
 use Rattle.code_parts.specs.declared.part.Part.{Part}
 use Rattle.code_parts.specs.declared.part.Part.TheVariants.{Loop, Rest}
 use Rattle.code_parts.specs.Bodies.{Flow, Place, Action, Straight, Fork, Return, action, own, first, targets, part_def}
@@ -119,7 +120,7 @@ module _ (f : Flow) (g : GroupTree) (entry : ℕ) (graph : IsGraph f) (has : IsC
 
   module _ (p : Part) (there : IsPart f p) where
     def : exits_at g (f.number p) ≡ bodies.exits_of f p
-    def = ap exits_of (parts.defs p there)
+    def = exits_there g (f.number p) (part_def f p) (parts.defs p there)
 
     told : (t : State) (k turns : ℕ) → Leaves f Counted pc_there args_there ReturnsThere GoodThere (CountedSteps regions) p k (t, 0 + k) (ending g (f.number p) (args s0) turns)
         → LeavesAs g (f.number p) regions s0 turns Ret 0 t ⊎ Meets g (f.number p) regions s0 turns k
@@ -215,4 +216,4 @@ nothing-lost file g f entry graph has parts in_file s regions starts k t returns
       return = ap (λ d. slice_get (exits_at g d) r.number) number ∙ r.there;
       ends = r.ends;
     }
-    by (inr m) = absurd (no-address f.returns m.leaves.number m.state.pc (ap (λ d. slice_get (exits_of d) m.leaves.number) (sym def) ∙ m.leaves.there))
+    by (inr m) = absurd (no-address f.returns m.leaves.number m.state.pc (ap (λ xs. slice_get xs m.leaves.number) (sym (exits_there g (f.number last) (part_def f last) def)) ∙ m.leaves.there))

@@ -12,6 +12,7 @@ use Rattle.tailrec_lang.specs.declared.group.Exit.TheVariants.{At, Ret}
 use Rattle.tailrec_lang.specs.Tree.{ValuesTree, StepTree, BodyTree, Branch, Call, Again, Leave, ArmTrees, NoArm, Arm, DefTree, GroupTree, with_steps}
 use Rattle.tailrec_lang.specs.Tree as tree
 use Rattle.tailrec_lang.specs.WellFormed.{exit_words}
+use Rattle.tailrec_lang.proofs.Definitions.{exits_there}
 use Rattle.triple_kernel.specs.Tree.{FactTree, So, Gives, TripleTree}
 use Rattle.triple_kernel.specs.declared.form.Form.{Form}
 use Rattle.triple_kernel.specs.declared.form.Form.TheVariants.{Next, Taken}
@@ -227,7 +228,7 @@ module _ (f : Flow) (p : Part) (ranges : List Range) where
   call_leads q there old new pc v from arms lead = record {
     each = λ s path ready here closed.
         let part = s.has q there in
-        let their : tree.exits_at (group_in f ranges s) (f.number q) ≡ exits_of f q = (λ i. tree.exits_of (part.is i)) ∙ part.exits in
+        let their : tree.exits_at (group_in f ranges s) (f.number q) ≡ exits_of f q = exits_there (group_in f ranges s) (f.number q) part.def part.is ∙ part.exits in
         subst (λ (xs : List Exit). Led f p ranges s old new (arm_leaves (group_in f ranges s) (part_def f p) (f.number q) xs 0 (current f v) arms v.words v.mems path)) (sym their)
         (lead.each s path ready closed.0 here closed.1);
   }

@@ -18,7 +18,8 @@ use Rattle.tailrec_lang.specs.declared.group.End.{End}
 use Rattle.tailrec_lang.specs.declared.group.End.TheVariants as end
 use Rattle.tailrec_lang.specs.Tree.{BodyTree, StepTree, GroupTree, ValuesTree, Do, Branch, Call, Again, Leave, body_tree, exits_at, step_tree, values_tree, with_steps}
 use Rattle.tailrec_lang.specs.inner.Tree.{arm_trees, end_tree}
-use Rattle.tailrec_lang.specs.WellFormed.{ArmsAreWellFormed, BodyIsWellFormed, FitsExit, HasCounts, ValuesInScope}
+use Rattle.tailrec_lang.specs.WellFormed.{ArmsAreWellFormed, BodyIsWellFormed, HasCounts, ValuesInScope}
+use Rattle.tailrec_lang.specs.inner.WellFormed.{FitsExit}
 use Rattle.tailrec_lang.specs.Eval.{arguments, arguments_of, needs, arm_needs}
 use Rattle.tailrec_lang.specs.inner.Walk.{ResultsFit, steps_need}
 use Rattle.tailrec_lang.proofs.Views.{view_body, view_branch, view_call, view_again, view_leave, needs_body}

@@ -1,13 +1,17 @@
 -- The definitions of a group, one after another.
-use Rattle.std.proofs.Common.{◌≡◌, ℕ, ◌+◌, ◌<◌, List, length, map, get_or, sym, ap, ◌∙◌, arith, subst, ⊎_elim, Some}
-use Rattle.std.specs.Prelude.{◌^◌, slice_get}
+use Rattle.std.proofs.Common.{◌≡◌, ℕ, ◌+◌, ◌<◌, List, [], length, map, get_or, sym, ap, ◌∙◌, arith, subst, ⊎_elim, Some}
+use Rattle.std.specs.Prelude.{◌^◌, slice_get, option_map, unwrap_or}
 use Rattle.std.proofs.lemmas.Bool.{cases_eq}
 use Rattle.std.proofs.lemmas.List.{length-map}
-use Rattle.tailrec_lang.specs.Tree.{DefTree, GroupTree}
+use Rattle.tailrec_lang.specs.Tree.{DefTree, GroupTree, exits_at}
 use Rattle.tailrec_lang.specs.WellFormed.{DefIsWellFormed}
 use Rattle.tailrec_lang.specs.Eval.{needs}
 use Rattle.tailrec_lang.proofs.Lists.{image-at}
 use Rattle.tailrec_lang.proofs.Evaluation.{item_there}
+
+-- the exits of a definition that is there
+pub exits_there : (g : GroupTree) (d : ℕ) (def : DefTree) → slice_get g.defs d ≡ Some def → exits_at g d ≡ def.exits
+exits_there g d def is = ap (λ o. unwrap_or (option_map (λ (x : DefTree). x.exits) o) []) is
 
 -- the image at i
 pub image_is : {A B : Type 0} (f : A → B) (xs : List A) (i : ℕ) (x : A) → i < length xs → x ≡ get_or xs i x → slice_get (map f xs) i ≡ Some (f x)

@@ -6,8 +6,10 @@ use Rattle.word_terms.specs.Environment.{Environment, no_variables}
 use Rattle.word_terms.specs.Value.{word_value, mem_value, cond_holds}
 use Rattle.tailrec_lang.specs.declared.group.Exit.{Exit}
 use Rattle.tailrec_lang.specs.Tree.{ValuesTree, BodyTree, Do, Branch, Call, Again, Leave, ArmTrees, NoArm, Arm, DefTree, GroupTree, exits_at}
-use Rattle.tailrec_lang.specs.WellFormed.{FitsExit, BodyIsWellFormed, ArmsAreWellFormed, IsWellFormed, exit_words, words_after, mems_after}
-use Rattle.tailrec_lang.specs.Eval.{Arguments, Ending, Exited, NeedFalse, NoTurns, Nothing, Meaning, and_then, after_step, step_holds, step_needs, needs, arguments_of, body_ending, arm_ending, with_arguments, entered, of_def, ending_within, ending, ExitFits}
+use Rattle.tailrec_lang.specs.WellFormed.{BodyIsWellFormed, ArmsAreWellFormed, IsWellFormed, exit_words, words_after, mems_after}
+use Rattle.tailrec_lang.specs.inner.WellFormed.{FitsExit}
+use Rattle.tailrec_lang.specs.Eval.{Arguments, Ending, Exited, NeedFalse, NoTurns, Nothing, Meaning, and_then, after_step, step_holds, step_needs, needs, arguments_of, body_ending, arm_ending, with_arguments, ending_within, ending, ExitFits}
+use Rattle.tailrec_lang.proofs.Turns.{of_def}
 
 abbrev pub Fits : GroupTree → ℕ → Ending → Type 0
 Fits g d (Exited exit results left) = ExitFits g (slice_get (exits_at g d) exit) results
@@ -51,19 +53,16 @@ module _ (g : GroupTree) (call : Meaning) (fit : AllFit g call) (d : ℕ) where
     arm-fits (Arm b bs) (x ∷ xs) zero e o left w m wf = body-fits b e o left (w + exit_words g x) (m + g.mems) wf.0
     arm-fits (Arm b bs) (x ∷ xs) (suc k) e o left w m wf = arm-fits bs xs k e (o + needs b) left w m wf.1
 
-fits-entered : (g : GroupTree) (d n : ℕ) (go : ℕ → Ending) → ((m : ℕ) → Fits g d (go m)) → Fits g d (entered n go)
-fits-entered g d zero go h = tt
-fits-entered g d (suc m) go h = h m
-
 fits-of_def : (g : GroupTree) (d : ℕ) (o : Option DefTree) (go : DefTree → Ending) → ((def : DefTree) → o ≡ Some def → Fits g d (go def)) → Fits g d (of_def o go)
 fits-of_def g d None go h = tt
 fits-of_def g d (Some def) go h = h def refl
 
 ending_within-fits : (g : GroupTree) → IsWellFormed g → (depth : ℕ) → AllFit g (ending_within depth g)
 ending_within-fits g wf zero d x n = tt
-ending_within-fits g wf (suc depth) d x n =
-    fits-entered g d n _ (λ left. fits-of_def g d (slice_get g.defs d) _ (λ def is.
-    body-fits g (ending_within depth g) (ending_within-fits g wf depth) d def.body (with_arguments no_variables x) 0 left (length g.regs) g.mems (wf d def is)))
+ending_within-fits g wf (suc depth) d x zero = tt
+ending_within-fits g wf (suc depth) d x (suc left) =
+    fits-of_def g d (slice_get g.defs d) _ (λ def is.
+    body-fits g (ending_within depth g) (ending_within-fits g wf depth) d def.body (with_arguments no_variables x) 0 left (length g.regs) g.mems (wf d def is))
 
 pub ending-fits : (g : GroupTree) → IsWellFormed g → AllFit g (ending g)
 ending-fits g wf d x n = ending_within-fits g wf n d x n

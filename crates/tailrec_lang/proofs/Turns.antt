@@ -1,12 +1,16 @@
 -- The depth of nested entries doesn't matter where it is enough, and neither do turns that aren't used.
 use Rattle.std.proofs.Common.{◌≡◌, ℕ, zero, suc, ◌+◌, ◌<◌, ◌≤◌, arith, refl, sym, subst, ◌∙◌, Option, Some, None, Bool, true, false, cond, List}
-use Rattle.std.specs.Prelude.{slice_get}
+use Rattle.std.specs.Prelude.{slice_get, option_map, unwrap_or}
 use Rattle.tailrec_lang.specs.declared.group.Exit.{Exit}
 use Rattle.tailrec_lang.specs.declared.group.Exit.TheVariants.{At, Ret}
 use Rattle.word_terms.specs.Environment.{Environment, no_variables}
 use Rattle.word_terms.specs.Value.{cond_holds}
 use Rattle.tailrec_lang.specs.Tree.{BodyTree, Do, Branch, Call, Again, Leave, ArmTrees, NoArm, Arm, DefTree, GroupTree, exits_at}
-use Rattle.tailrec_lang.specs.Eval.{Arguments, Ending, Exited, NeedFalse, NoTurns, Nothing, Meaning, Done, SideFalse, and_then, after_step, step_holds, step_needs, needs, arguments_of, body_ending, arm_ending, with_arguments, entered, of_def, ending_within, ending, eval, done_by, with_pc}
+use Rattle.tailrec_lang.specs.Eval.{Arguments, Ending, Exited, NeedFalse, NoTurns, Nothing, Meaning, Done, SideFalse, and_then, after_step, step_holds, step_needs, needs, arguments_of, body_ending, arm_ending, with_arguments, ending_within, ending, eval, done_by, with_pc}
+
+-- what comes of a definition, if there is one of its number
+abbrev pub of_def : Option DefTree → (DefTree → Ending) → Ending
+of_def o go = unwrap_or (option_map go o) Nothing
 
 -- at most that many turns are left
 abbrev pub IsLeft : ℕ → Ending → Type 0
@@ -51,18 +55,16 @@ module _ (call : Meaning) (falls : Falls call) (d : ℕ) where
     arm_left (Arm b bs) zero e o m = body_left b e o m
     arm_left (Arm b bs) (suc k) e o m = arm_left bs k e (o + needs b) m
 
-left-entered : (n : ℕ) (go : ℕ → Ending) → ((m : ℕ) → IsLeft m (go m)) → IsLeft n (entered n go)
-left-entered zero go h = tt
-left-entered (suc m) go h = is_left-more m (suc m) (go m) (omega arith) (h m)
-
 left-of_def : (m : ℕ) (o : Option DefTree) (go : DefTree → Ending) → ((d : DefTree) → IsLeft m (go d)) → IsLeft m (of_def o go)
 left-of_def m None go h = tt
 left-of_def m (Some d) go h = h d
 
 ending_within-falls : (g : GroupTree) (depth : ℕ) → Falls (ending_within depth g)
 ending_within-falls g zero d x n = tt
-ending_within-falls g (suc depth) d x n =
-    left-entered n _ (λ m. left-of_def m (slice_get g.defs d) _ (λ def. body_left (ending_within depth g) (ending_within-falls g depth) d def.body (with_arguments no_variables x) 0 m))
+ending_within-falls g (suc depth) d x zero = tt
+ending_within-falls g (suc depth) d x (suc m) =
+    is_left-more m (suc m) _ (omega arith)
+    (left-of_def m (slice_get g.defs d) _ (λ def. body_left (ending_within depth g) (ending_within-falls g depth) d def.body (with_arguments no_variables x) 0 m))
 
 pub ending-falls : (g : GroupTree) → Falls (ending g)
 ending-falls g d x n = ending_within-falls g n d x n

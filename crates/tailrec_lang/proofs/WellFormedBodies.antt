@@ -15,8 +15,8 @@ use Rattle.tailrec_lang.specs.declared.group.End.{End}
 use Rattle.tailrec_lang.specs.declared.group.End.TheVariants as end
 use Rattle.tailrec_lang.specs.Tree.{BodyTree, GroupTree, body_tree, exits_at, step_tree, values_tree, with_steps}
 use Rattle.tailrec_lang.specs.inner.Tree.{arm_trees, end_tree}
-use Rattle.tailrec_lang.specs.WellFormed.{ArmsAreWellFormed, BodyIsWellFormed, FitsExit, HasCounts, ValuesInScope, exit_words}
-use Rattle.tailrec_lang.specs.inner.WellFormed.{StepsInScope, words_after_all, mems_after_all}
+use Rattle.tailrec_lang.specs.WellFormed.{ArmsAreWellFormed, BodyIsWellFormed, HasCounts, ValuesInScope, exit_words}
+use Rattle.tailrec_lang.specs.inner.WellFormed.{FitsExit, StepsInScope, words_after_all, mems_after_all}
 use Rattle.tailrec_lang.proofs.Views.{view_body, view_branch, view_call, view_again, view_leave}
 use Rattle.tailrec_lang.proofs.Bodies.{scope_body}
 use Rattle.tailrec_lang.proofs.Counts.{steps_well_formed}

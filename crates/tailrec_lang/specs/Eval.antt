@@ -1,5 +1,5 @@
 -- Evaluation within a number of turns. Each entry into a body takes one turn.
-use Rattle.std.specs.Prelude.{◌≡◌, ◌<◌, ◌^◌, ◌+◌, ℕ, zero, suc, Bool, true, if◌then◌else◌, List, map, length, drop, slice_get, slice_index, Option, Some, None}
+use Rattle.std.specs.Prelude.{◌≡◌, ◌<◌, ◌^◌, ◌+◌, ℕ, zero, suc, Bool, true, if◌then◌else◌, List, map, length, drop, slice_get, slice_index, Option, Some, None, option_map, unwrap_or}
 use Rattle.std.specs.FinMap.{get}
 use Rattle.rv_words.specs.Bytes.{Bytes}
 use Rattle.word_terms.specs.Environment.{Environment, no_variables, with_word, with_mem, with_words, with_mems, variables}
@@ -93,21 +93,13 @@ abbrev mutual
   arm_ending call d (Arm b bs) zero e ordinal left = body_ending call d b e ordinal left
   arm_ending call d (Arm b bs) (suc exit) e ordinal left = arm_ending call d bs exit e (ordinal + needs b) left
 
--- an entry takes one turn
-abbrev pub entered : ℕ → (ℕ → Ending) → Ending
-entered zero go = NoTurns
-entered (suc left) go = go left
-
--- what comes of a definition, if there is one of its number
-abbrev pub of_def : Option DefTree → (DefTree → Ending) → Ending
-of_def None go = Nothing
-of_def (Some d) go = go d
-
--- entries that are nested at most as deep as the first number
+-- entries that are nested at most as deep as the first number: an entry takes one turn, and then its definition's body
+-- ends it, if there is a definition of its number
 abbrev pub ending_within : ℕ → GroupTree → Meaning
-ending_within zero g d x turns = NoTurns
-ending_within (suc depth) g d x turns =
-    entered turns (λ left. of_def (slice_get g.defs d) (λ def. body_ending (ending_within depth g) d def.body (with_arguments no_variables x) 0 left))
+ending_within (suc depth) g d x (suc left) =
+    unwrap_or (option_map (λ (def : DefTree).
+    body_ending (ending_within depth g) d def.body (with_arguments no_variables x) 0 left) (slice_get g.defs d)) Nothing
+ending_within depth g d x turns = NoTurns
 
 -- each entry takes a turn, so none is nested deeper than there are turns
 abbrev pub ending : GroupTree → Meaning

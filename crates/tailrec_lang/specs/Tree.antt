@@ -1,5 +1,5 @@
 -- Groups as trees: what contracts see of them, whatever their places in memory.
-use Rattle.std.specs.Prelude.{ℕ, List, [], ◌∷◌, map, slice_get, Option, Some, None, ◌-◌, length}
+use Rattle.std.specs.Prelude.{ℕ, List, [], ◌∷◌, map, slice_get, option_map, unwrap_or, ◌-◌, length}
 use Rattle.word_terms.specs.Tree.{WordTree, MemTree, CondTree, word_tree, mem_tree, cond_tree}
 use Rattle.rv_words.specs.declared.range.Range.{Range}
 use Rattle.tailrec_lang.specs.declared.group.Values.{Values}
@@ -52,14 +52,9 @@ pub record GroupTree : Type 0 where
   pub code : List Range
   pub defs : List DefTree
 
--- the exits of a definition, if there is one
-abbrev pub exits_of : Option DefTree → List Exit
-exits_of None = []
-exits_of (Some d) = d.exits
-
--- the exits of the definition of that number
+-- the exits of the definition of that number, if there is one
 abbrev pub exits_at : GroupTree → ℕ → List Exit
-exits_at g d = exits_of (slice_get g.defs d)
+exits_at g d = unwrap_or (option_map (λ (def : DefTree). def.exits) (slice_get g.defs d)) []
 
 -- the trees of the values' terms
 abbrev pub values_tree : Values → ValuesTree

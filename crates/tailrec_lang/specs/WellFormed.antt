@@ -1,7 +1,7 @@
 -- Which groups are well-formed: each variable is in scope at its place, each `Call` goes to an earlier definition and
 -- has an arm for each of its exits, each `Leave` names an exit of its definition, and each list of values has the right
 -- counts. Variables are levels, so a scope is how many word and memory variables there are.
-use Rattle.std.specs.Prelude.{◌≡◌, ℕ, ◌+◌, ◌<◌, List, [], ◌∷◌, length, slice_get, Option, Some, None, All}
+use Rattle.std.specs.Prelude.{◌≡◌, ℕ, ◌+◌, ◌<◌, List, [], ◌∷◌, length, slice_get, Some, IsSomeAnd, All}
 use Rattle.word_terms.specs.Scope.{WordInScope, MemInScope, CondInScope}
 use Rattle.tailrec_lang.specs.declared.group.Exit.{Exit}
 use Rattle.tailrec_lang.specs.declared.group.Exit.TheVariants.{At, Ret}
@@ -36,11 +36,6 @@ abbrev pub exit_words : GroupTree → Exit → ℕ
 exit_words g (At a) = length g.regs
 exit_words g Ret = length g.regs + 1
 
--- there are as many values as an exit is left with, if there is one
-abbrev pub FitsExit : GroupTree → Option Exit → ValuesTree → Type 0
-FitsExit g None v = ⊥
-FitsExit g (Some x) v = HasCounts v (exit_words g x) g.mems
-
 abbrev mutual
   -- a body of definition d, where that many variables are in scope
   pub BodyIsWellFormed : GroupTree → ℕ → BodyTree → ℕ → ℕ → Type 0
@@ -51,7 +46,8 @@ abbrev mutual
   BodyIsWellFormed g d (Call def v arms) words mems =
       (def < d) × HasCounts v (length g.regs) g.mems × ValuesInScope v words mems × ArmsAreWellFormed g d (exits_at g def) arms words mems
   BodyIsWellFormed g d (Again v) words mems = HasCounts v (length g.regs) g.mems × ValuesInScope v words mems
-  BodyIsWellFormed g d (Leave exit v) words mems = FitsExit g (slice_get (exits_at g d) exit) v × ValuesInScope v words mems
+  BodyIsWellFormed g d (Leave exit v) words mems =
+      IsSomeAnd (slice_get (exits_at g d) exit) (λ x. HasCounts v (exit_words g x) g.mems) × ValuesInScope v words mems
 
   -- arms in definition d of a call with these exits, each of which has the exit's results as further variables
   pub ArmsAreWellFormed : GroupTree → ℕ → List Exit → ArmTrees → ℕ → ℕ → Type 0

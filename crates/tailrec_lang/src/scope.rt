@@ -5,8 +5,8 @@ ghost use Rattle.word_terms.specs.Tree.{cond_tree, mem_tree, word_tree};
 ghost use Rattle.word_terms.specs.Scope.{CondInScope, MemInScope, WordInScope};
 ghost use Rattle.tailrec_lang.specs.Tree.{body_tree, def_tree, exits_at, group_tree, step_tree, values_tree};
 ghost use Rattle.tailrec_lang.specs.inner.Tree.{arm_trees};
-ghost use Rattle.tailrec_lang.specs.WellFormed.{ArmsAreWellFormed, BodyIsWellFormed, DefIsWellFormed, FitsExit, HasCounts, IsFirstIllFormed, IsWellFormed, StepInScope, ValuesInScope, exit_words, mems_after, words_after};
-ghost use Rattle.tailrec_lang.specs.inner.WellFormed.{Counts, StepsInScope, mems_after_all, words_after_all};
+ghost use Rattle.tailrec_lang.specs.WellFormed.{ArmsAreWellFormed, BodyIsWellFormed, DefIsWellFormed, HasCounts, IsFirstIllFormed, IsWellFormed, StepInScope, ValuesInScope, exit_words, mems_after, words_after};
+ghost use Rattle.tailrec_lang.specs.inner.WellFormed.{Counts, FitsExit, StepsInScope, mems_after_all, words_after_all};
 
 use crate::group::{Body, Def, End, Exit, Group, Step, Values};
 use word_terms::{Cond, Mem, Word, is_cond_in_scope, is_mem_in_scope, is_word_in_scope};

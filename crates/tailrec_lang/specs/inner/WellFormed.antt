@@ -1,8 +1,9 @@
--- Counts and scopes on the way through a body.
-use Rattle.std.specs.Prelude.{◌≡◌, ℕ, ◌^◌, min, List, [], ◌∷◌}
+-- Counts and scopes on the way through a body, and values that fit an exit.
+use Rattle.std.specs.Prelude.{◌≡◌, ℕ, ◌^◌, min, List, [], ◌∷◌, Option, IsSomeAnd}
+use Rattle.tailrec_lang.specs.declared.group.Exit.{Exit}
 use Rattle.tailrec_lang.specs.declared.scope.Scope.{Scope}
-use Rattle.tailrec_lang.specs.Tree.{StepTree}
-use Rattle.tailrec_lang.specs.WellFormed.{StepInScope, mems_after, words_after}
+use Rattle.tailrec_lang.specs.Tree.{StepTree, ValuesTree, GroupTree}
+use Rattle.tailrec_lang.specs.WellFormed.{HasCounts, StepInScope, exit_words, mems_after, words_after}
 
 -- ---- how the program counts variables
 
@@ -26,3 +27,7 @@ words_after_all (s ∷ ss) words = words_after_all ss (words_after s words)
 abbrev pub mems_after_all : List StepTree → ℕ → ℕ
 mems_after_all [] mems = mems
 mems_after_all (s ∷ ss) mems = mems_after_all ss (mems_after s mems)
+
+-- there are as many values as an exit is left with, if there is one
+abbrev pub FitsExit : GroupTree → Option Exit → ValuesTree → Type 0
+FitsExit g exit v = IsSomeAnd exit (λ x. HasCounts v (exit_words g x) g.mems)

@@ -2,8 +2,8 @@ use Rattle.std.proofs.Common.{◌<◌, length, map, refl, ap, ◌∙◌, subst, 
 use Rattle.std.specs.Prelude.{slice_get}
 use Rattle.tailrec_lang.specs.Tree.{body_tree, exits_at, group_tree, step_tree, values_tree}
 use Rattle.tailrec_lang.specs.inner.Tree.{arm_trees}
-use Rattle.tailrec_lang.specs.WellFormed.{ArmsAreWellFormed, BodyIsWellFormed, FitsExit, HasCounts}
-use Rattle.tailrec_lang.specs.inner.WellFormed.{words_after_all, mems_after_all}
+use Rattle.tailrec_lang.specs.WellFormed.{ArmsAreWellFormed, BodyIsWellFormed, HasCounts}
+use Rattle.tailrec_lang.specs.inner.WellFormed.{FitsExit, words_after_all, mems_after_all}
 use Rattle.tailrec_lang.proofs.Counts.{iff_then}
 use Rattle.tailrec_lang.proofs.WellFormedBodies.{two, three, four, branch_well_formed, call_well_formed, again_well_formed, leave_well_formed, body_well_formed, body_ill_formed, arms_count, arms_step, arms_end}
 use Rattle.tailrec_lang.proofs.scope.+bodies.Goals as goal
