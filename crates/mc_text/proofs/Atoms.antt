@@ -1,9 +1,10 @@
 -- An atom is the run of its bytes.
-use Rattle.std.proofs.Common.{◌≡◌, ℕ, zero, suc, ◌-◌, ◌<◌, ◌≤◌, Bool, true, false, not, cond, eqb, List, [], ◌∷◌, length, get_or, take, drop, refl, sym, ap, ◌∙◌, arith}
+use Rattle.std.proofs.Common.{◌≡◌, ◌≢◌, ℕ, zero, suc, ◌-◌, ◌<◌, ◌≤◌, Bool, true, false, not, cond, eqb, List, [], ◌∷◌, length, get_or, take, drop, refl, sym, ap, ◌∙◌, arith}
 use Rattle.std.proofs.lemmas.List.{take_all}
-use Rattle.std.specs.List.{AllByRecursion, AllPass}
+use Rattle.std.specs.List.{AllByRecursion, list_all}
 use Rattle.std.proofs.lemmas.List.Elements.{All-from_recursion, recursion_from_All}
-use Rattle.mc_text.specs.Tokens.{Tok, Atom, Stuck, is_atom_byte, IsAtom, IsAtomText}
+use Rattle.std.proofs.lemmas.List.Sums.{AllPass-from_list_all}
+use Rattle.mc_text.specs.Tokens.{Tok, Atom, Stuck, is_atom_byte, IsAtom}
 use Rattle.mc_text.specs.Scanning.{class_of, State, At, Within, Spaced, lex, byte_step, ended, loose, tight, grows, or_stuck, at_end}
 use Rattle.mc_text.specs.inner.Scanning.{state_of, IsSettled}
 use Rattle.mc_text.specs.declared.token.Before.{Before}
@@ -98,24 +99,24 @@ empty-stuck (b ∷ bs) s h e = absurd (omega arith)
 
 -- ---- the bytes of an atom
 
-atom_text-bytes : (bs : List ℕ) → IsAtomText bs → AllPass is_atom_byte bs
-atom_text-bytes bs h = All-from_recursion (λ b. is_atom_byte b ≡ true) bs (each bs h)
-  where
-    each : (bs : List ℕ) → IsAtomText bs → AllByRecursion (λ b. is_atom_byte b ≡ true) bs
-    each [] h = tt
-    each (b ∷ bs) h = (h.0, each bs h.1)
+abbrev pub IsAtomText : List ℕ → Type 0
+IsAtomText a = AllByRecursion (λ b. is_atom_byte b ≡ true) a
 
-bytes-atom_text : (bs : List ℕ) → AllPass is_atom_byte bs → IsAtomText bs
-bytes-atom_text bs h = each bs (recursion_from_All (λ b. is_atom_byte b ≡ true) bs h)
-  where
-    each : (bs : List ℕ) → AllByRecursion (λ b. is_atom_byte b ≡ true) bs → IsAtomText bs
-    each [] h = tt
-    each (b ∷ bs) h = (h.0, each bs h.1)
+pub atom-text : (a : List ℕ) → IsAtom a → IsAtomText a
+atom-text a h = recursion_from_All (λ b. is_atom_byte b ≡ true) a h.1
 
-pub atom-bytes : (bs : List ℕ) → IsAtom bs → AllPass is_atom_byte bs
-atom-bytes [] h = absurd h
-atom-bytes (b ∷ bs) h = atom_text-bytes (b ∷ bs) h
+pub text-atom : (a : List ℕ) → a ≢ [] → IsAtomText a → IsAtom a
+text-atom a some h = (some, All-from_recursion (λ b. is_atom_byte b ≡ true) a h)
 
-pub bytes-atom : (bs : List ℕ) → (length bs ≡ 0 → ⊥) → AllPass is_atom_byte bs → IsAtom bs
-bytes-atom [] some h = absurd (some refl)
-bytes-atom (b ∷ bs) some h = bytes-atom_text (b ∷ bs) h
+-- a byte before an atom
+pub letter-atom : (b : ℕ) (a : List ℕ) → is_atom_byte b ≡ true → IsAtom a → IsAtom (b ∷ a)
+letter-atom b a e h = text-atom (b ∷ a) (λ n. absurd cc) (e, atom-text a h)
+
+-- a test of atoms
+abbrev pub is_atom_text : List ℕ → Bool
+is_atom_text [] = false
+is_atom_text (b ∷ bs) = list_all is_atom_byte (b ∷ bs)
+
+pub word-atom : (a : List ℕ) → is_atom_text a ≡ true → IsAtom a
+word-atom [] e = absurd cc
+word-atom (b ∷ bs) e = (λ n. absurd cc, AllPass-from_list_all is_atom_byte (b ∷ bs) e)

@@ -1,8 +1,8 @@
 -- Items of whole lines. Where reading stops, the lines before can be completed.
 use Rattle.std.proofs.Common.{◌≡◌, ℕ, zero, suc, ◌<◌, Bool, true, false, List, [], ◌∷◌, ◌++◌, length, Ok, Err, refl, sym, ap, subst, ◌∙◌, arith, append_assoc, inl, inr, ◌⊎◌}
-use Rattle.std.specs.List.{AllByRecursion}
+use Rattle.std.specs.List.{AllByRecursion, flat_map}
 use Rattle.std.proofs.lemmas.List.{append-nil}
-use Rattle.mc_text.specs.Tokens.{Tok, Atom, Eol, all_tokens}
+use Rattle.mc_text.specs.Tokens.{Tok, Atom, Eol}
 use Rattle.mc_text.specs.Reading.{Reader, ◌>>=◌, pair, with, made, star, goes_on, refused}
 use Rattle.mc_text.specs.inner.Reading.{keyed}
 use Rattle.mc_text.proofs.Lines.{EndsIn, IsLines}
@@ -137,7 +137,7 @@ module _ {X Y : Type 0} (go : Tok → Bool) (r : Reader X) (small : Shrinks r) (
   FL p = AllByRecursion F p.0 × G p.1
 
   abbrev tl : List X × Y → List Tok
-  tl p = all_tokens t p.0 ++ u p.1
+  tl p = flat_map t p.0 ++ u p.1
 
   abbrev HaltsAt : List Tok → Type 0
   HaltsAt ts = (bad : List Tok) → R ts ≡ Err bad → Halts R FL tl ts bad
@@ -156,7 +156,7 @@ module _ {X Y : Type 0} (go : Tok → Bool) (r : Reader X) (small : Shrinks r) (
         whole = (x.0 ∷ s.whole.0, s.whole.1);
         fits = ((k.1, s.fits.0), s.fits.1);
         more = s.more;
-        begun = append_assoc (t x.0) (all_tokens t s.whole.0) (u s.whole.1) ∙ ap (λ (v : List Tok). t x.0 ++ v) s.begun ∙ sym (append_assoc (t x.0) s.front s.more);
+        begun = append_assoc (t x.0) (flat_map t s.whole.0) (u s.whole.1) ∙ ap (λ (v : List Tok). t x.0 ++ v) s.begun ∙ sym (append_assoc (t x.0) s.front s.more);
       }
   list-halts2 ts (Err other) g e ih bad h =
       let same : other ≡ bad = err-is other bad (sym (R-fails go r small b ts other g e) ∙ h) in
@@ -195,16 +195,16 @@ module _ {X Y : Type 0} (go : Tok → Bool) (r : Reader X) (small : Shrinks r) (
   list-halts zero ts lt bad h = absurd (omega arith)
   list-halts (suc n) ts lt bad h = list-halts1 ts (goes_on go ts) refl (λ us less. list-halts n us (omega arith)) bad h
 
-  each-lines : (xs : List X) → AllByRecursion F xs → IsLines (all_tokens t xs)
+  each-lines : (xs : List X) → AllByRecursion F xs → IsLines (flat_map t xs)
   each-lines [] h = tt
-  each-lines (x ∷ xs) h = lines-append (t x) (all_tokens t xs) (cr.ends x h.0) (each-lines xs h.1)
+  each-lines (x ∷ xs) h = lines-append (t x) (flat_map t xs) (cr.ends x h.0) (each-lines xs h.1)
 
   pub covers-list : Covers R FL tl
   covers-list = record {
     takes = λ ts p rest e. list-takes go r small F t cr.takes cr.again heads b G u cb.takes cb.again quiet (suc (length ts)) ts (omega arith) p rest e;
     again = λ p rest h. list-again go r small F t cr.takes cr.again heads b G u cb.takes cb.again quiet p.0 p.1 rest h.0 h.1;
     halts = λ ts bad e. list-halts (suc (length ts)) ts (omega arith) bad e;
-    ends = λ p h. lines-append (all_tokens t p.0) (u p.1) (each-lines p.0 h.0) (cb.ends p.1 h.1);
+    ends = λ p h. lines-append (flat_map t p.0) (u p.1) (each-lines p.0 h.0) (cb.ends p.1 h.1);
     some = ([], cb.some);
     some-fits = (tt, cb.some-fits);
   }

@@ -4,13 +4,13 @@ use Rattle.std.specs.Prelude.{option_map, IsSomeAnd}
 use Rattle.std.proofs.lemmas.List.{append-nil}
 use Rattle.std.proofs.lemmas.Bool.{eqb-true}
 use Rattle.std.proofs.lemmas.Bool.Decides.{nat_tests}
-use Rattle.mc_text.specs.Tokens.{Tok, Left, Right, Semi, Atom, Eol, Done, Stuck, is_atom_byte, IsAtomText, gap, token_bytes, before_next, eol, spell, IsToken}
+use Rattle.mc_text.specs.Tokens.{Tok, Left, Right, Semi, Atom, Eol, Done, Stuck, is_atom_byte, gap, token_bytes, before_next, eol, spell, IsToken}
 use Rattle.mc_text.specs.declared.token.Before.{Before}
 use Rattle.mc_text.specs.declared.token.Before.TheVariants.{Start, Open, Later}
 use Rattle.mc_text.specs.Scanning.{class_of, State, At, Within, Spaced, lex, byte_step, prepend, or_stuck, ended, loose, tight, grows, parts, eols}
 use Rattle.mc_text.specs.declared.token.Class.{Class}
 use Rattle.mc_text.specs.declared.token.Class.TheVariants.{Letter, LeftMark, RightMark, SemiMark, Newline, Space, Other}
-use Rattle.mc_text.proofs.Atoms.{lex-cons}
+use Rattle.mc_text.proofs.Atoms.{lex-cons, IsAtomText, atom-text}
 use Rattle.mc_text.proofs.Lines.{lex-spell, spell-lex, Spelled, AreReal, IsReal, AreTokens, EndsIn, IsLines}
 use Rattle.mc_text.specs.Reading.{Reader}
 use Rattle.mc_text.specs.Fault.{first_lines, Grammar, InGrammar, Begins, LinesBegin, IsBadAt, newlines}
@@ -197,8 +197,7 @@ newlines-token : (t : Tok) → IsToken t → newlines (token_bytes t) ≡ eol t
 newlines-token Left h = refl
 newlines-token Right h = refl
 newlines-token Semi h = refl
-newlines-token (Atom []) h = refl
-newlines-token (Atom (b ∷ a)) h = newlines-atom (b ∷ a) h
+newlines-token (Atom a) h = newlines-atom a (atom-text a h)
 newlines-token Eol h = refl
 newlines-token Done h = refl
 newlines-token Stuck h = refl

@@ -1,7 +1,7 @@
 -- Items within a line, as long as one follows.
 use Rattle.std.proofs.Common.{◌≡◌, ℕ, zero, suc, ◌<◌, Bool, true, false, List, ◌++◌, length, Ok, Err, refl, sym, ap, ◌∙◌, arith, append_assoc}
-use Rattle.std.specs.List.{AllByRecursion}
-use Rattle.mc_text.specs.Tokens.{Tok, all_tokens}
+use Rattle.std.specs.List.{AllByRecursion, flat_map}
+use Rattle.mc_text.specs.Tokens.{Tok}
 use Rattle.mc_text.specs.Reading.{Reader, pair, star, goes_on}
 use Rattle.mc_text.proofs.Star.{Shrinks}
 use Rattle.mc_text.proofs.Listed.{cons, last, cons-bad, last-bad, alike-go, R-item, R-fails, R-end, list-takes, list-again}
@@ -21,7 +21,7 @@ module _ {X Y : Type 0} (go : Tok → Bool) (r : Reader X) (small : Shrinks r) (
   FL p = AllByRecursion F p.0 × G p.1
 
   abbrev tl : List X × Y → List Tok
-  tl p = all_tokens t p.0 ++ u p.1
+  tl p = flat_map t p.0 ++ u p.1
 
   abbrev HaltsAt : List Tok → Type 0
   HaltsAt ts = (bad : List Tok) → R ts ≡ Err bad → Stops R ts bad

@@ -2,7 +2,7 @@
 use Rattle.std.proofs.Common.{◌≡◌, ℕ, zero, suc, ◌+◌, ◌-◌, ◌<◌, ◌≤◌, Bool, true, false, cond, eqb, List, [], ◌∷◌, ◌++◌, length, get_or, take, drop, Option, Some, None, refl, sym, ap, subst, ◌∙◌, arith, append_assoc}
 use Rattle.std.proofs.lemmas.List.{append-nil, take_all}
 use Rattle.std.specs.Prelude.{IfSome}
-use Rattle.mc_text.specs.Tokens.{Tok, Left, Right, Semi, Atom, Eol, Done, Stuck, is_atom_byte, gap, token_bytes, before_next, token_text, spell, IsAtom, IsAtomText, IsToken, tok, eol, HasNoAtomByte, MayStand, Stands, Place, Passes}
+use Rattle.mc_text.specs.Tokens.{Tok, Left, Right, Semi, Atom, Eol, Done, Stuck, is_atom_byte, gap, token_bytes, before_next, token_text, spell, IsAtom, IsToken, tok, eol, HasNoAtomByte, MayStand, Stands, Place, Passes}
 use Rattle.mc_text.specs.declared.token.Token.{Token}
 use Rattle.mc_text.specs.declared.token.Token.TheVariants as token
 use Rattle.mc_text.specs.declared.token.Before.{Before}
@@ -11,7 +11,7 @@ use Rattle.mc_text.specs.Scanning.{class_of, State, At, Within, Spaced, lex, byt
 use Rattle.mc_text.specs.inner.Scanning.{state_of, space_text, IsWhole, IsSettled}
 use Rattle.mc_text.specs.declared.token.Class.{Class}
 use Rattle.mc_text.specs.declared.token.Class.TheVariants.{Letter, LeftMark, RightMark, SemiMark, Newline, Space, Other}
-use Rattle.mc_text.proofs.Atoms.{class-letter, class-other, ends, lex-cons, ended-between, nothing-left}
+use Rattle.mc_text.proofs.Atoms.{class-letter, class-other, ends, lex-cons, ended-between, nothing-left, IsAtomText, atom-text, text-atom}
 
 abbrev pub AreTokens : List Tok → Type 0
 AreTokens [] = Unit {0}
@@ -70,8 +70,8 @@ token-at Later Semi x h c = refl
 token-at Start Eol x h c = refl
 token-at Open Eol x h c = refl
 token-at Later Eol x h c = refl
-token-at m (Atom []) x h c = absurd h
-token-at m (Atom (b ∷ a)) x h c = atom-at m b a x h c
+token-at m (Atom []) x h c = absurd (h.0 refl)
+token-at m (Atom (b ∷ a)) x h c = atom-at m b a x (atom-text (b ∷ a) h) c
 token-at m Done x h c = absurd h
 token-at m Stuck x h c = absurd h
 
@@ -79,8 +79,7 @@ cut-before : (u : Tok) (us : List Tok) (x : List ℕ) → IsToken u → IsCut (s
 cut-before Left us x h = λ e. cc
 cut-before Right us x h = λ e. cc
 cut-before Semi us x h = λ e. cc
-cut-before (Atom []) us x h = absurd h
-cut-before (Atom (b ∷ a)) us x h = λ e. cc
+cut-before (Atom a) us x h = λ e. cc
 cut-before Eol us x h = λ e. cc
 cut-before Done us x h = absurd h
 cut-before Stuck us x h = absurd h
@@ -197,7 +196,7 @@ begins : (s : State) (b : ℕ) (bs : List ℕ) (c : Class) (t : Tok) (us : List 
 unfolding chain
 begins s b bs Letter t us plain nsp e real q =
     let r = run-of bs in
-    mark-begins s (b ∷ bs) r.rest t (Atom (b ∷ r.atom)) us (grows s) refl real (ap (λ (v : List ℕ). b ∷ v) r.is) (byte-letter (is_atom_byte b) b e, r.fits) (ap (λ (v : List Tok). or_stuck (grows s) v) (sym (ap (prepend b) r.reads)) ∙ q)
+    mark-begins s (b ∷ bs) r.rest t (Atom (b ∷ r.atom)) us (grows s) refl real (ap (λ (v : List ℕ). b ∷ v) r.is) (text-atom (b ∷ r.atom) (λ n. absurd cc) (byte-letter (is_atom_byte b) b e, r.fits)) (ap (λ (v : List Tok). or_stuck (grows s) v) (sym (ap (prepend b) r.reads)) ∙ q)
 begins s b bs LeftMark t us plain nsp e real q = mark-begins s (b ∷ bs) bs t Left us (loose s) refl real (ap (λ (v : ℕ). v ∷ bs) (byte-left (is_atom_byte b) b e)) tt (sym (plain _) ∙ q)
 begins s b bs RightMark t us plain nsp e real q = mark-begins s (b ∷ bs) bs t Right us (tight s) refl real (ap (λ (v : ℕ). v ∷ bs) (byte-right (is_atom_byte b) b e)) tt (sym (plain _) ∙ q)
 begins s b bs SemiMark t us plain nsp e real q = mark-begins s (b ∷ bs) bs t Semi us (loose s) refl real (ap (λ (v : ℕ). v ∷ bs) (byte-semi (is_atom_byte b) b e)) tt (sym (plain _) ∙ q)
@@ -450,9 +449,10 @@ first-atom : (a b : List ℕ) (us vs : List Tok) → Atom a ∷ us ≡ Atom b �
 first-atom a b us vs e = cc
 
 whole-atom : (a x : List ℕ) (us : List Tok) → IsAtom a → lex (a ++ x) (At Start) ≡ Atom a ∷ us → HasNoAtomByte x
-whole-atom [] x us h e = absurd h
+whole-atom [] x us h e = absurd (h.0 refl)
 whole-atom (b ∷ a) x us h e =
-    let here : lex ((b ∷ a) ++ x) (At Start) ≡ Atom (b ∷ (a ++ (run-of x).atom)) ∷ lex (run-of x).rest (At Later) = lex-cons b (a ++ x) (At Start) Letter (sym (class-letter b h.0)) ∙ ap (prepend b) (atom-run a x h.1) in
+    let fits = atom-text (b ∷ a) h in
+    let here : lex ((b ∷ a) ++ x) (At Start) ≡ Atom (b ∷ (a ++ (run-of x).atom)) ∷ lex (run-of x).rest (At Later) = lex-cons b (a ++ x) (At Start) Letter (sym (class-letter b fits.0)) ∙ ap (prepend b) (atom-run a x fits.1) in
     no-more x (none-behind (b ∷ a) (run-of x).atom (first-atom _ _ _ _ (sym here ∙ e)))
 
 pub atom-stands : (bytes a : List ℕ) (us : List Tok) → lex bytes (At Start) ≡ Atom a ∷ us → (rest : List ℕ) × Stands Start bytes (Atom a) rest

@@ -1,7 +1,7 @@
 -- Items as long as one follows, and then what follows them: what is read is spelled so, and what is spelled so is read.
 use Rattle.std.proofs.Common.{◌≡◌, ℕ, zero, suc, ◌<◌, Bool, true, false, List, [], ◌∷◌, ◌++◌, length, Ok, Err, refl, sym, ap, subst, ◌∙◌, arith, append_assoc}
-use Rattle.std.specs.List.{AllByRecursion}
-use Rattle.mc_text.specs.Tokens.{Tok, all_tokens}
+use Rattle.std.specs.List.{AllByRecursion, flat_map}
+use Rattle.mc_text.specs.Tokens.{Tok}
 use Rattle.mc_text.specs.Reading.{Reader, ◌>>=◌, pair, many, star, goes_on}
 use Rattle.mc_text.proofs.Star.{Shrinks, star-item, star-end}
 use Rattle.mc_text.proofs.ReaderLaws.{Out, AreAlike, ok-is, err-is}
@@ -83,14 +83,14 @@ module _ {X Y : Type 0} (go : Tok → Bool) (r : Reader X) (small : Shrinks r) (
   FL p = AllByRecursion F p.0 × G p.1
 
   abbrev tl : List X × Y → List Tok
-  tl p = all_tokens t p.0 ++ u p.1
+  tl p = flat_map t p.0 ++ u p.1
 
   cons-takes : (ts us : List Tok) (x : X) (q : Out (List X × Y)) (p : List X × Y) (rest : List Tok) → ts ≡ t x ++ us → F x
       → ((p : List X × Y) (rest : List Tok) → q ≡ Ok (p, rest) → (us ≡ tl p ++ rest) × FL p) → cons x q ≡ Ok (p, rest) → (ts ≡ tl p ++ rest) × FL p
   cons-takes ts us x (Ok z) p rest et f ih e =
       let k = ih z.0 z.1 refl in
       subst (λ (w : (List X × Y) × List Tok). (ts ≡ tl w.0 ++ w.1) × FL w.0) (ok-is ((x ∷ z.0.0, z.0.1), z.1) (p, rest) e)
-      (et ∙ ap (λ (v : List Tok). t x ++ v) k.0 ∙ sym (append_assoc (t x) (all_tokens t z.0.0 ++ u z.0.1) z.1) ∙ ap (λ (v : List Tok). v ++ z.1) (sym (append_assoc (t x) (all_tokens t z.0.0) (u z.0.1))), ((f, k.1.0), k.1.1))
+      (et ∙ ap (λ (v : List Tok). t x ++ v) k.0 ∙ sym (append_assoc (t x) (flat_map t z.0.0 ++ u z.0.1) z.1) ∙ ap (λ (v : List Tok). v ++ z.1) (sym (append_assoc (t x) (flat_map t z.0.0) (u z.0.1))), ((f, k.1.0), k.1.1))
   cons-takes ts us x (Err bad) p rest et f ih e = absurd cc
 
   last-takes : (ts : List Tok) (q : Out Y) (p : List X × Y) (rest : List Tok) → b ts ≡ q → last {X = X} q ≡ Ok (p, rest) → (ts ≡ tl p ++ rest) × FL p
@@ -122,5 +122,5 @@ module _ {X Y : Type 0} (go : Tok → Bool) (r : Reader X) (small : Shrinks r) (
   pub list-again : (xs : List X) (y : Y) (rest : List Tok) → AllByRecursion F xs → G y → Q (tl (xs, y) ++ rest) ≡ Ok ((xs, y), rest)
   list-again [] y rest h k = R-end go r small b (u y ++ rest) (quiet y k rest) ∙ rw (b-again y rest k) refl
   list-again (x ∷ xs) y rest h k =
-      let parts : tl (x ∷ xs, y) ++ rest ≡ t x ++ (tl (xs, y) ++ rest) = ap (λ (v : List Tok). v ++ rest) (append_assoc (t x) (all_tokens t xs) (u y)) ∙ append_assoc (t x) (all_tokens t xs ++ u y) rest in
+      let parts : tl (x ∷ xs, y) ++ rest ≡ t x ++ (tl (xs, y) ++ rest) = ap (λ (v : List Tok). v ++ rest) (append_assoc (t x) (flat_map t xs) (u y)) ∙ append_assoc (t x) (flat_map t xs ++ u y) rest in
       ap Q parts ∙ R-item go r small b (t x ++ (tl (xs, y) ++ rest)) x (tl (xs, y) ++ rest) (heads x h.0 (tl (xs, y) ++ rest)) (item-again x (tl (xs, y) ++ rest) h.0) ∙ ap (cons x) (list-again xs y rest h.1 k)

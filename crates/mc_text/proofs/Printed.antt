@@ -1,10 +1,10 @@
 -- What is printed in parts is printed as a whole, and is the spelling.
-use Rattle.std.proofs.Common.{◌≡◌, ℕ, suc, ◌+◌, ◌<◌, ◌≤◌, List, [], ◌∷◌, ◌++◌, length, map, drop, get_or, refl, sym, ap, ◌∙◌, append_assoc, arith}
+use Rattle.std.proofs.Common.{◌≡◌, ℕ, suc, ◌+◌, ◌<◌, ◌≤◌, List, [], ◌∷◌, ◌++◌, length, map, drop, get_or, refl, sym, ap, ◌∙◌, append_assoc, arith, flat_map}
 use Rattle.std.proofs.lemmas.List.{append-nil}
 use Rattle.std.proofs.Math.Seq.{drop-cons}
 use Rattle.std.proofs.Math.ListN.{drop_of_length-le}
 use base.Fml.{GName}
-use Rattle.mc_text.specs.Tokens.{Tok, Left, Semi, Atom, gap, before_next, spell, token_text, all_tokens}
+use Rattle.mc_text.specs.Tokens.{Tok, Left, Semi, Atom, gap, before_next, spell, token_text}
 use Rattle.mc_text.specs.declared.token.Before.{Before}
 use Rattle.mc_text.specs.declared.token.Before.TheVariants.{Start, Open, Later}
 use Rattle.mc_text.proofs.Lines.{EndsIn, IsLines}
@@ -52,32 +52,32 @@ spell-after_lines (t ∷ a) b h = after-line Start t a b h
 
 -- ---- one item after the other
 
-each-next : {X : Type 0} (f : X → List Tok) (xs : List X) (i : ℕ) (d : X) → i < length xs → all_tokens f (drop i xs) ≡ f (get_or xs i d) ++ all_tokens f (drop (i + 1) xs)
+each-next : {X : Type 0} (f : X → List Tok) (xs : List X) (i : ℕ) (d : X) → i < length xs → flat_map f (drop i xs) ≡ f (get_or xs i d) ++ flat_map f (drop (i + 1) xs)
 each-next f xs i d lt =
     let next : suc i ≡ i + 1 = omega arith in
-    ap (all_tokens f) (drop-cons xs i d lt) ∙ (λ k. f (get_or xs i d) ++ all_tokens f (drop (next k) xs))
+    ap (flat_map f) (drop-cons xs i d lt) ∙ (λ k. f (get_or xs i d) ++ flat_map f (drop (next k) xs))
 
 -- the items from i on are still to be printed: the item at i is
 pub print_next_copied : {X : Type 0} (f : X → List Tok) (xs : List X) (i : ℕ) (d : X) (whole p q : Page) → i < length xs
-    → whole ≡ print (all_tokens f (drop i xs)) p → q ≡ print (f (get_or xs i d)) p → whole ≡ print (all_tokens f (drop (i + 1) xs)) q
+    → whole ≡ print (flat_map f (drop i xs)) p → q ≡ print (f (get_or xs i d)) p → whole ≡ print (flat_map f (drop (i + 1) xs)) q
 print_next_copied f xs i d whole p q lt told done =
-    let rest = all_tokens f (drop (i + 1) xs) in
+    let rest = flat_map f (drop (i + 1) xs) in
     told ∙ ap (λ ts. print ts p) (each-next f xs i d lt) ∙ print_append (f (get_or xs i d)) rest p ∙ ap (print rest) (sym done)
 
 pub print_next : {X : Type 0} (f : X → List Tok) (xs : List X) (i : ℕ) (x : X) (whole p q : Page) → i < length xs → x ≡ get_or xs i x
-    → whole ≡ print (all_tokens f (drop i xs)) p → q ≡ print (f x) p → whole ≡ print (all_tokens f (drop (i + 1) xs)) q
+    → whole ≡ print (flat_map f (drop i xs)) p → q ≡ print (f x) p → whole ≡ print (flat_map f (drop (i + 1) xs)) q
 print_next f xs i x whole p q lt is told done = print_next_copied f xs i x whole p q lt told (done ∙ ap (λ y. print (f y) p) is)
 
 -- none is
-pub print_over : {X : Type 0} (f : X → List Tok) (xs : List X) (i : ℕ) (whole p : Page) → length xs ≤ i → whole ≡ print (all_tokens f (drop i xs)) p → p ≡ whole
-print_over f xs i whole p le told = sym (told ∙ ap (λ ys. print (all_tokens f ys) p) (drop_of_length-le xs le) ∙ print_nil p)
+pub print_over : {X : Type 0} (f : X → List Tok) (xs : List X) (i : ℕ) (whole p : Page) → length xs ≤ i → whole ≡ print (flat_map f (drop i xs)) p → p ≡ whole
+print_over f xs i whole p le told = sym (told ∙ ap (λ ys. print (flat_map f ys) p) (drop_of_length-le xs le) ∙ print_nil p)
 
-each-map : {X Y : Type 0} (f : Y → List Tok) (g : X → Y) (xs : List X) → all_tokens f (map g xs) ≡ all_tokens (λ x. f (g x)) xs
+each-map : {X Y : Type 0} (f : Y → List Tok) (g : X → Y) (xs : List X) → flat_map f (map g xs) ≡ flat_map (λ x. f (g x)) xs
 each-map f g [] = refl
 each-map f g (x ∷ xs) = ap (λ (ts : List Tok). f (g x) ++ ts) (each-map f g xs)
 
 pub print_over_map : {X Y : Type 0} (f : Y → List Tok) (g : X → Y) (xs : List X) (i : ℕ) (p q : Page) → length xs ≤ i
-    → print (all_tokens (λ x. f (g x)) xs) p ≡ print (all_tokens (λ x. f (g x)) (drop i xs)) q → q ≡ print (all_tokens f (map g xs)) p
+    → print (flat_map (λ x. f (g x)) xs) p ≡ print (flat_map (λ x. f (g x)) (drop i xs)) q → q ≡ print (flat_map f (map g xs)) p
 print_over_map f g xs i p q le told = print_over (λ x. f (g x)) xs i _ q le told ∙ ap (λ ts. print ts p) (sym (each-map f g xs))
 
 -- ---- the space

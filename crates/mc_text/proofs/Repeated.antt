@@ -1,7 +1,7 @@
 -- Items of whole lines, at most so many or just so many of them.
 use Rattle.std.proofs.Common.{◌≡◌, ℕ, zero, suc, ◌≤◌, Bool, true, false, cond, List, [], ◌∷◌, ◌++◌, length, Ok, Err, refl, sym, ap, subst, ◌∙◌, arith, append_assoc, inl, inr, ◌⊎◌}
-use Rattle.std.specs.List.{AllByRecursion}
-use Rattle.mc_text.specs.Tokens.{Tok, all_tokens}
+use Rattle.std.specs.List.{AllByRecursion, flat_map}
+use Rattle.mc_text.specs.Tokens.{Tok}
 use Rattle.mc_text.specs.Reading.{Reader, ◌>>=◌, pair, made, many, goes_on, choice}
 use Rattle.mc_text.specs.inner.Reading.{times}
 use Rattle.mc_text.proofs.Lines.{IsLines}
@@ -131,7 +131,7 @@ module _ {X Y : Type 0} (go : Tok → Bool) (r : Reader X) (F : X → Type 0) (t
   Upto n p = (AllByRecursion F p.0 × (length p.0 ≤ n)) × G p.1
 
   abbrev tl : List X × Y → List Tok
-  tl p = all_tokens t p.0 ++ u p.1
+  tl p = flat_map t p.0 ++ u p.1
 
   abbrev none : Y → List X × Y
   none y = ([], y)
@@ -191,7 +191,7 @@ module _ {X Y : Type 0} (go : Tok → Bool) (r : Reader X) (F : X → Type 0) (t
 
   some-item : (n : ℕ) → Covers (pair (many n go r) b) (Upto n) tl → Covers (made more (pair r (pair (many n go r) b))) (Starts n) tl
   some-item n law = covers-made more (pair r (pair (many n go r) b)) _ _ (covers-with r F t cr (λ _. pair (many n go r) b) (λ _. Upto n) (λ _. tl) (λ _ _. law))
-      (Starts n) tl (λ p h. h) (λ p. append_assoc (t p.0) (all_tokens t p.1.0) (u p.1.1)) from
+      (Starts n) tl (λ p h. h) (λ p. append_assoc (t p.0) (flat_map t p.1.0) (u p.1.1)) from
     where
       from : (p : List X × Y) → Starts n p → (q : X × (List X × Y)) × (more q ≡ p) × (F q.0 × Upto n q.1)
       from ([], y) h = absurd h
@@ -199,7 +199,7 @@ module _ {X Y : Type 0} (go : Tok → Bool) (r : Reader X) (F : X → Type 0) (t
 
   starts-head : (n : ℕ) (p : List X × Y) → Starts n p → (us : List Tok) → goes_on go (tl p ++ us) ≡ true
   starts-head n ([], y) h us = absurd h
-  starts-head n (x ∷ xs, y) h us = ap (goes_on go) (ap (λ (v : List Tok). v ++ us) (append_assoc (t x) (all_tokens t xs) (u y)) ∙ append_assoc (t x) (all_tokens t xs ++ u y) us) ∙ heads x h.0 ((all_tokens t xs ++ u y) ++ us)
+  starts-head n (x ∷ xs, y) h us = ap (goes_on go) (ap (λ (v : List Tok). v ++ us) (append_assoc (t x) (flat_map t xs) (u y)) ∙ append_assoc (t x) (flat_map t xs ++ u y) us) ∙ heads x h.0 ((flat_map t xs ++ u y) ++ us)
 
   lacks-head : (p : List X × Y) → Lacks p → (us : List Tok) → goes_on go (tl p ++ us) ≡ false
   lacks-head ([], y) h us = quiet y h us
@@ -223,7 +223,7 @@ module _ {X Y : Type 0} (go : Tok → Bool) (r : Reader X) (F : X → Type 0) (t
   more-down n ([], y) h = inr h.1
   more-down n (x ∷ xs, y) h = inl (h.0.0.0, ((h.0.0.1, omega (arith, h.0.1)), h.1))
 
-  pub covers-bounded : (n : ℕ) → Covers (pair (many n go r) b) (λ p. (AllByRecursion F p.0 × (length p.0 ≤ n)) × G p.1) (λ p. all_tokens t p.0 ++ u p.1)
+  pub covers-bounded : (n : ℕ) → Covers (pair (many n go r) b) (λ p. (AllByRecursion F p.0 × (length p.0 ≤ n)) × G p.1) (λ p. flat_map t p.0 ++ u p.1)
   covers-bounded zero = covers-alike (pair (many zero go r) b) (made none b) (Upto zero) tl as-none (covers-as (made none b) Lacks (Upto zero) tl tl no-item none-up none-down (λ p h. refl))
   covers-bounded (suc n) =
       covers-alike (pair (many (suc n) go r) b) (choice go (made more (pair r (pair (many n go r) b))) (made none b)) (Upto (suc n)) tl (as-choice n)
@@ -253,12 +253,12 @@ module _ {X : Type 0} (r : Reader X) (F : X → Type 0) (t : X → List Tok) (cr
   just-from n [] h = absurd (omega (arith, h.1))
   just-from n (x ∷ xs) h = ((x, xs), refl, (h.0.0, (h.0.1, omega (arith, h.1))))
 
-  pub covers-times : (n : ℕ) → Covers (times n r) (λ xs. AllByRecursion F xs × (length xs ≡ n)) (all_tokens t)
-  covers-times zero = covers-nothing (times zero r) (Just zero) (all_tokens t) [] (tt, refl) refl just-none times-none
+  pub covers-times : (n : ℕ) → Covers (times n r) (λ xs. AllByRecursion F xs × (length xs ≡ n)) (flat_map t)
+  covers-times zero = covers-nothing (times zero r) (Just zero) (flat_map t) [] (tt, refl) refl just-none times-none
   covers-times (suc n) =
-      covers-alike (times (suc n) r) (made (λ (x : X × List X). x.0 ∷ x.1) (pair r (times n r))) (Just (suc n)) (all_tokens t) (times-as n)
-      (covers-made (λ (x : X × List X). x.0 ∷ x.1) (pair r (times n r)) _ _ (covers-with r F t cr (λ _. times n r) (λ _. Just n) (λ _. all_tokens t) (λ _ _. covers-times n))
-      (Just (suc n)) (all_tokens t) (λ p h. ((h.0, h.1.0), omega (arith, h.1.1))) (λ p. refl) (just-from n))
+      covers-alike (times (suc n) r) (made (λ (x : X × List X). x.0 ∷ x.1) (pair r (times n r))) (Just (suc n)) (flat_map t) (times-as n)
+      (covers-made (λ (x : X × List X). x.0 ∷ x.1) (pair r (times n r)) _ _ (covers-with r F t cr (λ _. times n r) (λ _. Just n) (λ _. flat_map t) (λ _ _. covers-times n))
+      (Just (suc n)) (flat_map t) (λ p h. ((h.0, h.1.0), omega (arith, h.1.1))) (λ p. refl) (just-from n))
 
 -- fewer or other words for the values that a part reads
 pub part-as : {X : Type 0} (r : Reader X) (F H G : X → Type 0) (t : X → List Tok) → Part r F G t → ((x : X) → F x → H x) → ((x : X) → H x → F x) → Part r H G t

@@ -9,12 +9,13 @@ use Rattle.std.specs.Str.{bytes_eq}
 use Rattle.std.specs.Fmt.{decimal, digits}
 use Rattle.hex.specs.Hex.{encode_with, encode_lower}
 use Rattle.mc_text.specs.Number.{hex, is_hex_digit, IsWord, AreBytes, Spelled, number_of, hex_of, bytes_of_digits as bytes_spelled}
-use Rattle.mc_text.specs.Tokens.{Tok, Left, Right, Semi, Atom, Eol, Done, Stuck, is_atom_byte, IsAtomText, IsAtom, all_tokens}
+use Rattle.mc_text.specs.Tokens.{Tok, Left, Right, Semi, Atom, Eol, Done, Stuck, is_atom_byte, IsAtom}
 use Rattle.mc_text.specs.Reading.{is_left, is_right, atom_of, below}
 use Rattle.mc_text.specs.inner.Reading.{is_semi, is_eol, is_word}
-use Rattle.std.specs.List.{AllByRecursion}
+use Rattle.std.specs.List.{AllByRecursion, flat_map}
 use Rattle.mc_text.proofs.Numbers.{Pass, Passes, digits-pass, number-spelled, hex_of-spelled}
 use Rattle.mc_text.proofs.HexPairs.{bytes_of-spelled, encode-pass}
+use Rattle.mc_text.proofs.Atoms.{text-atom}
 use Rattle.mc_text.proofs.Lines.{AreTokens}
 use Rattle.mc_text.proofs.OneSpelling.{decimal-once, hex-once, bytes-once}
 use Rattle.mc_text.proofs.ReaderLaws.{Shows}
@@ -123,14 +124,6 @@ shows-below limit le = shows-atom (λ a. below limit (number_of 10 a)) (λ n. n 
 
 -- ---- what is written is an atom
 
-atom-text : (ds : List ℕ) → Pass is_atom_byte ds → IsAtomText ds
-atom-text [] h = tt
-atom-text (d ∷ ds) h = (h.0, atom-text ds h.1)
-
-is-atom : (ds : List ℕ) → (ds ≡ [] → ⊥) → IsAtomText ds → IsAtom ds
-is-atom [] n h = n refl
-is-atom (d ∷ ds) n h = h
-
 glyph-atom : Passes is_atom_byte 16
 glyph-atom d lt = grind (arith, nat_tests)
 
@@ -142,22 +135,22 @@ some-digits base n low high lt e =
     omega (arith, h.0, len)
 
 pub decimal-atom : (n : ℕ) → IsWord n → IsAtom (decimal n)
-decimal-atom n h = is-atom (decimal n) (some-digits 10 n (omega arith) (omega arith) h) (atom-text (decimal n) (digits-pass is_atom_byte 10 n (omega arith) (λ d lt. glyph-atom d (omega arith))))
+decimal-atom n h = text-atom (decimal n) (some-digits 10 n (omega arith) (omega arith) h) (digits-pass is_atom_byte 10 n (omega arith) (λ d lt. glyph-atom d (omega arith)))
 
 pub hex-atom : (n : ℕ) → IsAtom (hex n)
-hex-atom n = (refl, (refl, atom-text (digits 16 false n) (digits-pass is_atom_byte 16 n (omega arith) glyph-atom)))
+hex-atom n = text-atom (hex n) (λ e. absurd cc) (refl, (refl, digits-pass is_atom_byte 16 n (omega arith) glyph-atom))
 
 hex-digit-atom : (b : ℕ) → is_hex_digit b ≡ true → is_atom_byte b ≡ true
 hex-digit-atom b h = grind (arith, nat_tests)
 
-hex-digits-atom : (ds : List ℕ) → Pass is_hex_digit ds → IsAtomText ds
+hex-digits-atom : (ds : List ℕ) → Pass is_hex_digit ds → Pass is_atom_byte ds
 hex-digits-atom [] h = tt
 hex-digits-atom (d ∷ ds) h = (hex-digit-atom d h.0, hex-digits-atom ds h.1)
 
 pub bytes-atom : (bytes : List ℕ) → AreBytes bytes → IsAtom (encode_lower bytes)
 unfolding encode_with
-bytes-atom [] h = h.0 refl
-bytes-atom (b ∷ bs) h = hex-digits-atom (encode_lower (b ∷ bs)) (encode-pass (b ∷ bs) h.1)
+bytes-atom [] h = absurd (h.0 refl)
+bytes-atom (b ∷ bs) h = text-atom (encode_lower (b ∷ bs)) (λ e. absurd cc) (hex-digits-atom (encode_lower (b ∷ bs)) (encode-pass (b ∷ bs) h.1))
 
 -- ---- lists of tokens of a text
 
@@ -165,6 +158,6 @@ pub tokens-append : (a b : List Tok) → AreTokens a → AreTokens b → AreToke
 tokens-append [] b h k = k
 tokens-append (t ∷ a) b h k = (h.0, tokens-append a b h.1 k)
 
-pub tokens-each : {X : Type 0} (f : X → List Tok) (F : X → Type 0) → ((x : X) → F x → AreTokens (f x)) → (xs : List X) → AllByRecursion F xs → AreTokens (all_tokens f xs)
+pub tokens-each : {X : Type 0} (f : X → List Tok) (F : X → Type 0) → ((x : X) → F x → AreTokens (f x)) → (xs : List X) → AllByRecursion F xs → AreTokens (flat_map f xs)
 tokens-each f F one [] h = tt
-tokens-each f F one (x ∷ xs) h = tokens-append (f x) (all_tokens f xs) (one x h.0) (tokens-each f F one xs h.1)
+tokens-each f F one (x ∷ xs) h = tokens-append (f x) (flat_map f xs) (one x h.0) (tokens-each f F one xs h.1)

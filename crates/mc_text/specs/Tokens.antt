@@ -2,7 +2,8 @@
 --
 -- Between two tokens of a line stands one space, but none after ( and none before ) and the line's end, and no space
 -- stands at the beginning of a line. At the beginning of a line the end of the text is a token of its own.
-use Rattle.std.specs.Prelude.{◌≡◌, ℕ, ◌+◌, Bool, false, ◌&&◌, not, List, [], ◌∷◌, ◌++◌, codes, nat_le, ◌==◌, IsTrue}
+use Rattle.std.specs.Prelude.{◌≡◌, ◌≢◌, ℕ, ◌+◌, Bool, false, ◌&&◌, not, List, [], ◌∷◌, ◌++◌, codes, nat_le, ◌==◌}
+use Rattle.std.specs.List.{AllPass}
 use Rattle.mc_text.specs.declared.token.Token.{Token}
 use Rattle.mc_text.specs.declared.token.Token.TheVariants as token
 use Rattle.mc_text.specs.declared.token.Before.{Before}
@@ -32,14 +33,9 @@ tok token.Done = Done
 abbrev pub is_atom_byte : ℕ → Bool
 is_atom_byte b = nat_le 33 b && nat_le b 126 && not (b == 40) && not (b == 41) && not (b == 59)
 
-abbrev pub IsAtomText : List ℕ → Type 0
-IsAtomText [] = Unit {0}
-IsAtomText (b ∷ bs) = IsTrue (is_atom_byte b) × IsAtomText bs
-
 -- one byte or more
 abbrev pub IsAtom : List ℕ → Type 0
-IsAtom [] = ⊥
-IsAtom (b ∷ bs) = IsAtomText (b ∷ bs)
+IsAtom a = (a ≢ []) × AllPass is_atom_byte a
 
 -- the byte that ends a line
 abbrev pub newline : ℕ
@@ -74,11 +70,6 @@ token_text m t = gap m t ++ token_bytes t
 abbrev pub spell : Before → List Tok → List ℕ
 spell m [] = []
 spell m (t ∷ ts) = token_text m t ++ spell (before_next t) ts
-
--- the tokens of items, one item after the other
-abbrev pub all_tokens : {X : Type 0} → (X → List Tok) → List X → List Tok
-all_tokens tokens [] = []
-all_tokens tokens (x ∷ xs) = tokens x ++ all_tokens tokens xs
 
 -- a token of a text, other than its end
 abbrev pub IsToken : Tok → Type 0
