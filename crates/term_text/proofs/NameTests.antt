@@ -20,7 +20,7 @@ use Rattle.term_text.specs.declared.head.WordHead.{WordHead}
 use Rattle.term_text.specs.declared.head.WordHead.TheVariants as word_head
 use Rattle.term_text.specs.declared.head.CondHead.{CondHead}
 use Rattle.term_text.specs.declared.head.CondHead.TheVariants as cond_head
-use Rattle.term_text.specs.Spelling.{extension_name, load_name, store_name, inside_name}
+use Rattle.term_text.specs.Spelling.{extension_name, access_name}
 use Rattle.term_text.specs.Reading.{named, or_option, operations, widths, operation_of, extension_of, comparison_of, load_of, store_of, inside_of, word_head_of, cond_head_of, opened}
 
 abbrev some : {X : Type 0} → X → Option X
@@ -94,12 +94,12 @@ either None b x P f g e = g e
 abbrev pub word_head_name : WordHead → List ℕ
 word_head_name (word_head.Bin op) = operation_name op
 word_head_name (word_head.Extend ext) = extension_name ext
-word_head_name (word_head.Load width) = load_name width
+word_head_name (word_head.Load width) = access_name (codes "ld") width
 
 abbrev pub cond_head_name : CondHead → List ℕ
 cond_head_name (cond_head.Compare cmp) = comparison_name cmp
 cond_head_name cond_head.Neg = codes "not"
-cond_head_name (cond_head.Inside width) = inside_name width
+cond_head_name (cond_head.Inside width) = access_name (codes "in") width
 
 -- a name of one kind is the name of a form
 kind-there : {X Y : Type 0} (name : X → List ℕ) (xs : List X) (form : X → Y) (form_name : Y → List ℕ) → ((x : X) → name x ≡ form_name (form x)) → (text : List ℕ) (y : Y) → option_map form (named name xs text) ≡ some y → text ≡ form_name y
@@ -114,7 +114,7 @@ word-head-there text h e = (
       (kind-there operation_name operations (λ op. word_head.Bin op) word_head_name (λ op. refl) text h)
       (either (option_map word_head.Extend (extension_of text)) (option_map word_head.Load (load_of text)) h (text ≡ word_head_name h)
       (kind-there extension_name (Sx1 ∷ Sx2 ∷ Sx4 ∷ []) (λ ext. word_head.Extend ext) word_head_name (λ ext. refl) text h)
-      (kind-there load_name widths (λ width. word_head.Load width) word_head_name (λ width. refl) text h)) e,
+      (kind-there (access_name (codes "ld")) widths (λ width. word_head.Load width) word_head_name (λ width. refl) text h)) e,
   tt,
 )
 
@@ -139,7 +139,7 @@ cond-head-there text h e = (
   either (option_map cond_head.Compare (comparison_of text)) (or_option (option_map cond_head.Inside (inside_of text)) (cond (bytes_eq text (codes "not")) (some cond_head.Neg) None)) h (text ≡ cond_head_name h)
       (kind-there comparison_name (Eq ∷ Ne ∷ Lt ∷ Ge ∷ Ltu ∷ Geu ∷ []) (λ cmp. cond_head.Compare cmp) cond_head_name (λ cmp. refl) text h)
       (either (option_map cond_head.Inside (inside_of text)) (cond (bytes_eq text (codes "not")) (some cond_head.Neg) None) h (text ≡ cond_head_name h)
-      (kind-there inside_name widths (λ width. cond_head.Inside width) cond_head_name (λ width. refl) text h)
+      (kind-there (access_name (codes "in")) widths (λ width. cond_head.Inside width) cond_head_name (λ width. refl) text h)
       (not-there text (bytes_eq text (codes "not")) h refl)) e,
   tt,
 )
@@ -158,16 +158,16 @@ cond-head-back (cond_head.Inside B2) = refl
 cond-head-back (cond_head.Inside B4) = refl
 cond-head-back (cond_head.Inside B8) = refl
 
-store-back : (width : Width) → store_of (store_name width) ≡ Some width
+store-back : (width : Width) → store_of (access_name (codes "st") width) ≡ Some width
 unfolding store_of digits
 store-back B1 = refl
 store-back B2 = refl
 store-back B4 = refl
 store-back B8 = refl
 
-store-there : (text : List ℕ) (width : Width) → store_of text ≡ Some width → (text ≡ store_name width) × Always width
+store-there : (text : List ℕ) (width : Width) → store_of text ≡ Some width → (text ≡ access_name (codes "st") width) × Always width
 unfolding store_of
-store-there text width e = (named-there store_name widths text width e, tt)
+store-there text width e = (named-there (access_name (codes "st")) widths text width e, tt)
 
 -- ---- names behind a parenthesis
 
@@ -187,5 +187,5 @@ word-head-law = opened-law word_head_of word_head_name word-head-there word-head
 pub cond-head-law : Reads (opened cond_head_of) Always (λ h. Left ∷ Atom (cond_head_name h) ∷ [])
 cond-head-law = opened-law cond_head_of cond_head_name cond-head-there cond-head-back
 
-pub store-head-law : Reads (opened store_of) Always (λ width. Left ∷ Atom (store_name width) ∷ [])
-store-head-law = opened-law store_of store_name store-there store-back
+pub store-head-law : Reads (opened store_of) Always (λ width. Left ∷ Atom (access_name (codes "st") width) ∷ [])
+store-head-law = opened-law store_of (access_name (codes "st")) store-there store-back

@@ -1,10 +1,10 @@
 -- The tokens of terms: none ends a line, each is a token of a text, and the first shows what follows.
-use Rattle.std.proofs.Common.{◌≡◌, ℕ, zero, suc, ◌^◌, ◌<◌, Bool, true, false, List, [], ◌∷◌, ◌++◌, length, codes, refl, arith}
-use Rattle.std.specs.Prelude.{◌&&◌}
+use Rattle.std.proofs.Common.{◌≡◌, ℕ, zero, suc, ◌^◌, ◌<◌, true, List, [], ◌∷◌, ◌++◌, length, codes, refl, arith}
 use Rattle.std.specs.Fmt.{decimal, digits}
 use Rattle.mc_text.specs.Number.{AreBytes}
-use Rattle.mc_text.specs.Tokens.{Tok, Left, Right, Atom, is_atom_byte, IsAtomText, IsAtom}
+use Rattle.mc_text.specs.Tokens.{Tok, Left, Right, Atom, is_atom_byte, IsAtom}
 use Rattle.mc_text.specs.Reading.{goes_on, is_open}
+use Rattle.mc_text.proofs.Atoms.{letter-atom, word-atom}
 use Rattle.mc_text.proofs.Lines.{AreTokens}
 use Rattle.mc_text.proofs.ReaderLaws.{IsFlat, flat-append}
 use Rattle.mc_text.proofs.Shown.{decimal-atom, hex-atom, bytes-atom, tokens-append}
@@ -20,7 +20,7 @@ use Rattle.rv_words.specs.declared.width.Width.TheVariants.{B1, B2, B4, B8}
 use Rattle.rv_words.specs.declared.range.Range.{Range}
 use Rattle.word_terms.specs.Tree.{WordTree, Const, Var, Bin, Extend, Load, MemTree, MemVar, Store, CondTree, Compare, Neg, Inside}
 use Rattle.term_text.specs.Limits.{FitsWord, FitsMem, FitsCond, depth_limit, IsWord, IsMem, IsCond}
-use Rattle.term_text.specs.Spelling.{extension_name, load_name, store_name, inside_name, joined, word_tokens, mem_tokens, cond_tokens, range_tokens}
+use Rattle.term_text.specs.Spelling.{extension_name, access_name, joined, word_tokens, mem_tokens, cond_tokens, range_tokens}
 use Rattle.term_text.specs.Reading.{begins_word, begins_mem}
 
 -- ---- within a line
@@ -40,16 +40,16 @@ mutual
   word-flat (Var i) = (λ e. absurd cc, tt)
   word-flat (Bin op a b) = opened-flat (operation_name op) (word_tokens a ++ (word_tokens b ++ Right ∷ [])) (joined-flat-2 (word_tokens a) (word_tokens b) (word-flat a) (word-flat b))
   word-flat (Extend ext a) = opened-flat (extension_name ext) (word_tokens a ++ Right ∷ []) (joined-flat-1 (word_tokens a) (word-flat a))
-  word-flat (Load width m a) = opened-flat (load_name width) (mem_tokens m ++ (word_tokens a ++ Right ∷ [])) (joined-flat-2 (mem_tokens m) (word_tokens a) (mem-flat m) (word-flat a))
+  word-flat (Load width m a) = opened-flat (access_name (codes "ld") width) (mem_tokens m ++ (word_tokens a ++ Right ∷ [])) (joined-flat-2 (mem_tokens m) (word_tokens a) (mem-flat m) (word-flat a))
 
   pub mem-flat : (m : MemTree) → IsFlat (mem_tokens m)
   mem-flat (MemVar i) = (λ e. absurd cc, tt)
-  mem-flat (Store width m a v) = opened-flat (store_name width) (mem_tokens m ++ (word_tokens a ++ (word_tokens v ++ Right ∷ []))) (flat-append (mem_tokens m) (word_tokens a ++ (word_tokens v ++ Right ∷ [])) (mem-flat m) (joined-flat-2 (word_tokens a) (word_tokens v) (word-flat a) (word-flat v)))
+  mem-flat (Store width m a v) = opened-flat (access_name (codes "st") width) (mem_tokens m ++ (word_tokens a ++ (word_tokens v ++ Right ∷ []))) (flat-append (mem_tokens m) (word_tokens a ++ (word_tokens v ++ Right ∷ [])) (mem-flat m) (joined-flat-2 (word_tokens a) (word_tokens v) (word-flat a) (word-flat v)))
 
 pub cond-flat : (c : CondTree) → IsFlat (cond_tokens c)
 cond-flat (Compare cmp a b) = opened-flat (comparison_name cmp) (word_tokens a ++ (word_tokens b ++ Right ∷ [])) (joined-flat-2 (word_tokens a) (word_tokens b) (word-flat a) (word-flat b))
 cond-flat (Neg c) = opened-flat (codes "not") (cond_tokens c ++ Right ∷ []) (joined-flat-1 (cond_tokens c) (cond-flat c))
-cond-flat (Inside width m a) = opened-flat (inside_name width) (mem_tokens m ++ (word_tokens a ++ Right ∷ [])) (joined-flat-2 (mem_tokens m) (word_tokens a) (mem-flat m) (word-flat a))
+cond-flat (Inside width m a) = opened-flat (access_name (codes "in") width) (mem_tokens m ++ (word_tokens a ++ Right ∷ [])) (joined-flat-2 (mem_tokens m) (word_tokens a) (mem-flat m) (word-flat a))
 
 pub range-flat : (r : Range) → IsFlat (range_tokens r)
 range-flat r = (λ e. absurd cc, (λ e. absurd cc, (λ e. absurd cc, (λ e. absurd cc, tt))))
@@ -88,86 +88,69 @@ some-cond (Inside width m a) = omega arith
 
 -- ---- tokens of a text
 
-abbrev is_atom_text : List ℕ → Bool
-is_atom_text [] = true
-is_atom_text (b ∷ bs) = is_atom_byte b && is_atom_text bs
-
-and-both : (a b : Bool) → a && b ≡ true → (a ≡ true) × (b ≡ true)
-and-both true true e = (refl, refl)
-and-both true false e = absurd cc
-and-both false b e = absurd cc
-
-atom-text : (a : List ℕ) → is_atom_text a ≡ true → IsAtomText a
-atom-text [] e = tt
-atom-text (b ∷ bs) e = let h = and-both (is_atom_byte b) (is_atom_text bs) e in (h.0, atom-text bs h.1)
-
-letter-atom : (b : ℕ) (a : List ℕ) → is_atom_byte b ≡ true → IsAtom a → IsAtom (b ∷ a)
-letter-atom b [] e h = absurd h
-letter-atom b (c ∷ a) e h = (e, h)
-
 operation-atom : (op : Op) → IsAtom (operation_name op)
-operation-atom Add = atom-text (codes "add") refl
-operation-atom Sub = atom-text (codes "sub") refl
-operation-atom Sll = atom-text (codes "sll") refl
-operation-atom Slt = atom-text (codes "slt") refl
-operation-atom Sltu = atom-text (codes "sltu") refl
-operation-atom Xor = atom-text (codes "xor") refl
-operation-atom Srl = atom-text (codes "srl") refl
-operation-atom Sra = atom-text (codes "sra") refl
-operation-atom Or = atom-text (codes "or") refl
-operation-atom And = atom-text (codes "and") refl
-operation-atom Mul = atom-text (codes "mul") refl
-operation-atom Mulh = atom-text (codes "mulh") refl
-operation-atom Mulhsu = atom-text (codes "mulhsu") refl
-operation-atom Mulhu = atom-text (codes "mulhu") refl
-operation-atom Div = atom-text (codes "div") refl
-operation-atom Divu = atom-text (codes "divu") refl
-operation-atom Rem = atom-text (codes "rem") refl
-operation-atom Remu = atom-text (codes "remu") refl
-operation-atom Addw = atom-text (codes "addw") refl
-operation-atom Subw = atom-text (codes "subw") refl
-operation-atom Sllw = atom-text (codes "sllw") refl
-operation-atom Srlw = atom-text (codes "srlw") refl
-operation-atom Sraw = atom-text (codes "sraw") refl
-operation-atom Mulw = atom-text (codes "mulw") refl
-operation-atom Divw = atom-text (codes "divw") refl
-operation-atom Divuw = atom-text (codes "divuw") refl
-operation-atom Remw = atom-text (codes "remw") refl
-operation-atom Remuw = atom-text (codes "remuw") refl
+operation-atom Add = word-atom (codes "add") refl
+operation-atom Sub = word-atom (codes "sub") refl
+operation-atom Sll = word-atom (codes "sll") refl
+operation-atom Slt = word-atom (codes "slt") refl
+operation-atom Sltu = word-atom (codes "sltu") refl
+operation-atom Xor = word-atom (codes "xor") refl
+operation-atom Srl = word-atom (codes "srl") refl
+operation-atom Sra = word-atom (codes "sra") refl
+operation-atom Or = word-atom (codes "or") refl
+operation-atom And = word-atom (codes "and") refl
+operation-atom Mul = word-atom (codes "mul") refl
+operation-atom Mulh = word-atom (codes "mulh") refl
+operation-atom Mulhsu = word-atom (codes "mulhsu") refl
+operation-atom Mulhu = word-atom (codes "mulhu") refl
+operation-atom Div = word-atom (codes "div") refl
+operation-atom Divu = word-atom (codes "divu") refl
+operation-atom Rem = word-atom (codes "rem") refl
+operation-atom Remu = word-atom (codes "remu") refl
+operation-atom Addw = word-atom (codes "addw") refl
+operation-atom Subw = word-atom (codes "subw") refl
+operation-atom Sllw = word-atom (codes "sllw") refl
+operation-atom Srlw = word-atom (codes "srlw") refl
+operation-atom Sraw = word-atom (codes "sraw") refl
+operation-atom Mulw = word-atom (codes "mulw") refl
+operation-atom Divw = word-atom (codes "divw") refl
+operation-atom Divuw = word-atom (codes "divuw") refl
+operation-atom Remw = word-atom (codes "remw") refl
+operation-atom Remuw = word-atom (codes "remuw") refl
 
 extension-atom : (ext : Ext) → IsAtom (extension_name ext)
-extension-atom Sx1 = atom-text (codes "sx1") refl
-extension-atom Sx2 = atom-text (codes "sx2") refl
-extension-atom Sx4 = atom-text (codes "sx4") refl
+extension-atom Sx1 = word-atom (codes "sx1") refl
+extension-atom Sx2 = word-atom (codes "sx2") refl
+extension-atom Sx4 = word-atom (codes "sx4") refl
 
 comparison-atom : (cmp : Cmp) → IsAtom (comparison_name cmp)
-comparison-atom Eq = atom-text (codes "eq") refl
-comparison-atom Ne = atom-text (codes "ne") refl
-comparison-atom Lt = atom-text (codes "lt") refl
-comparison-atom Ge = atom-text (codes "ge") refl
-comparison-atom Ltu = atom-text (codes "ltu") refl
-comparison-atom Geu = atom-text (codes "geu") refl
+comparison-atom Eq = word-atom (codes "eq") refl
+comparison-atom Ne = word-atom (codes "ne") refl
+comparison-atom Lt = word-atom (codes "lt") refl
+comparison-atom Ge = word-atom (codes "ge") refl
+comparison-atom Ltu = word-atom (codes "ltu") refl
+comparison-atom Geu = word-atom (codes "geu") refl
 
-load-atom : (width : Width) → IsAtom (load_name width)
+load-atom : (width : Width) → IsAtom (access_name (codes "ld") width)
 unfolding digits
-load-atom B1 = atom-text (codes "ld1") refl
-load-atom B2 = atom-text (codes "ld2") refl
-load-atom B4 = atom-text (codes "ld4") refl
-load-atom B8 = atom-text (codes "ld8") refl
+load-atom B1 = word-atom (codes "ld1") refl
+load-atom B2 = word-atom (codes "ld2") refl
+load-atom B4 = word-atom (codes "ld4") refl
+load-atom B8 = word-atom (codes "ld8") refl
 
-store-atom : (width : Width) → IsAtom (store_name width)
+store-atom : (width : Width) → IsAtom (access_name (codes "st") width)
 unfolding digits
-store-atom B1 = atom-text (codes "st1") refl
-store-atom B2 = atom-text (codes "st2") refl
-store-atom B4 = atom-text (codes "st4") refl
-store-atom B8 = atom-text (codes "st8") refl
+store-atom B1 = word-atom (codes "st1") refl
+store-atom B2 = word-atom (codes "st2") refl
+store-atom B4 = word-atom (codes "st4") refl
+store-atom B8 = word-atom (codes "st8") refl
 
-inside-atom : (width : Width) → IsAtom (inside_name width)
+inside-atom : (width : Width) → IsAtom (access_name (codes "in") width)
 unfolding digits
-inside-atom B1 = atom-text (codes "in1") refl
-inside-atom B2 = atom-text (codes "in2") refl
-inside-atom B4 = atom-text (codes "in4") refl
-inside-atom B8 = atom-text (codes "in8") refl
+inside-atom B1 = word-atom (codes "in1") refl
+inside-atom B2 = word-atom (codes "in2") refl
+inside-atom B4 = word-atom (codes "in4") refl
+inside-atom B8 = word-atom (codes "in8") refl
 
 variable-atom : (letter i : ℕ) → is_atom_byte letter ≡ true → i < 2 ^ 32 → IsAtom (letter ∷ decimal i)
 variable-atom letter i e h = letter-atom letter (decimal i) e (decimal-atom i (omega arith))
@@ -195,7 +178,7 @@ mutual
 cond-tokens-at : (d : ℕ) (c : CondTree) → FitsCond d c → AreTokens (cond_tokens c)
 cond-tokens-at zero c h = absurd h
 cond-tokens-at (suc d) (Compare cmp a b) h = (tt, (comparison-atom cmp, joined-tokens-2 (word_tokens a) (word_tokens b) (word-tokens-at d a h.0) (word-tokens-at d b h.1)))
-cond-tokens-at (suc d) (Neg c) h = (tt, (atom-text (codes "not") refl, joined-tokens-1 (cond_tokens c) (cond-tokens-at d c h)))
+cond-tokens-at (suc d) (Neg c) h = (tt, (word-atom (codes "not") refl, joined-tokens-1 (cond_tokens c) (cond-tokens-at d c h)))
 cond-tokens-at (suc d) (Inside width m a) h = (tt, (inside-atom width, joined-tokens-2 (mem_tokens m) (word_tokens a) (mem-tokens-at d m h.0) (word-tokens-at d a h.1)))
 
 pub word-tokens : (t : WordTree) → IsWord t → AreTokens (word_tokens t)

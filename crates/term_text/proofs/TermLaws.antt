@@ -1,5 +1,5 @@
 -- Words, memories, conditions and ranges are read as they are spelled.
-use Rattle.std.proofs.Common.{◌≡◌, ℕ, zero, suc, ◌<◌, List, [], ◌∷◌, ◌++◌, length, Option, Some, None, refl, sym, ap, arith, length-append, inl, inr, ◌⊎◌}
+use Rattle.std.proofs.Common.{◌≡◌, ℕ, zero, suc, ◌<◌, List, [], ◌∷◌, ◌++◌, length, codes, Option, Some, None, refl, sym, ap, arith, length-append, inl, inr, ◌⊎◌}
 use Rattle.hex.specs.Hex.{encode_lower}
 use Rattle.mc_text.specs.Number.{hex, IsWord as Fits64, AreBytes, hex_of, bytes_of_digits}
 use Rattle.mc_text.specs.Tokens.{Tok, Left, Right, Atom}
@@ -15,7 +15,7 @@ use Rattle.term_text.specs.declared.head.WordHead.TheVariants as word_head
 use Rattle.term_text.specs.declared.head.CondHead.{CondHead}
 use Rattle.term_text.specs.declared.head.CondHead.TheVariants as cond_head
 use Rattle.term_text.specs.Limits.{FitsWord, FitsMem, FitsCond, depth_limit, IsWord, IsMem, IsCond, IsRange}
-use Rattle.term_text.specs.Spelling.{store_name, word_tokens, mem_tokens, cond_tokens, range_tokens}
+use Rattle.term_text.specs.Spelling.{access_name, word_tokens, mem_tokens, cond_tokens, range_tokens}
 use Rattle.term_text.specs.Reading.{opened, form_of, word_head_of, cond_head_of, store_of, word_leaf_of, mem_leaf_of, word_parts, mem_parts, cond_parts, word_at, mem_at, cond_at, range_at}
 use Rattle.term_text.proofs.NameTests.{word_head_name, cond_head_name, word-head-law, cond-head-law, store-head-law}
 use Rattle.term_text.proofs.Leaves.{IsWordLeaf, IsMemLeaf, word-leaf-law, mem-leaf-law}
@@ -187,16 +187,16 @@ module _ (d : ℕ) (words : Reads (word_at d) (FitsWord d) word_tokens) (mems : 
         | Store w m a v ↦ λ g. ((m, (a, (v, tt))), (let same : w ≡ width = cc in ap (λ (k : Width). Store k m a v) (sym same)), (g.0.0, (g.0.1, (g.0.2, tt))))
       ])
 
-  mem-head-is : (m : MemTree) (h : Width) → head_of_mem m ≡ some h → mem_tokens m ≡ Left ∷ Atom (store_name h) ∷ mem_rest m
+  mem-head-is : (m : MemTree) (h : Width) → head_of_mem m ≡ some h → mem_tokens m ≡ Left ∷ Atom (access_name (codes "st") h) ∷ mem_rest m
   mem-head-is (MemVar i) h e = absurd cc
-  mem-head-is (Store width m a v) h e = let same : width ≡ h = cc in ap (λ (k : Width). Left ∷ Atom (store_name k) ∷ (mem_tokens m ++ (word_tokens a ++ (word_tokens v ++ end)))) same
+  mem-head-is (Store width m a v) h e = let same : width ≡ h = cc in ap (λ (k : Width). Left ∷ Atom (access_name (codes "st") k) ∷ (mem_tokens m ++ (word_tokens a ++ (word_tokens v ++ end)))) same
 
   abbrev mem_form : Reader MemTree
   mem_form = form_of store_of (mem_parts (word_at d) (mem_at d))
 
   mem-form-law : Reads mem_form (IsMemForm d) mem_tokens
   mem-form-law = reads-put (λ (x : Width × MemTree). x.1) (with (opened store_of) (mem_parts (word_at d) (mem_at d))) _ _
-      (Reads-with (opened store_of) Always (λ h. Left ∷ Atom (store_name h) ∷ []) store-head-law (λ h f. (λ e. absurd cc, (λ e. absurd cc, tt))) (mem_parts (word_at d) (mem_at d)) (IsMemOf d) (λ h. mem_rest) (λ h f. mem-parts-law h))
+      (Reads-with (opened store_of) Always (λ h. Left ∷ Atom (access_name (codes "st") h) ∷ []) store-head-law (λ h f. (λ e. absurd cc, (λ e. absurd cc, tt))) (mem_parts (word_at d) (mem_at d)) (IsMemOf d) (λ h. mem_rest) (λ h f. mem-parts-law h))
       (IsMemForm d) mem_tokens (λ x h. h.1.0) (λ x h. mem-head-is x.1 x.0 h.1.1)
       (elim [ MemVar i ↦ λ g. absurd g | Store width m a v ↦ λ g. ((width, Store width m a v), refl, (tt, (g, refl))) ])
 

@@ -19,7 +19,7 @@ use Rattle.term_text.specs.declared.head.WordHead.{WordHead}
 use Rattle.term_text.specs.declared.head.WordHead.TheVariants as word_head
 use Rattle.term_text.specs.declared.head.CondHead.{CondHead}
 use Rattle.term_text.specs.declared.head.CondHead.TheVariants as cond_head
-use Rattle.term_text.specs.Spelling.{extension_name, load_name, store_name, inside_name}
+use Rattle.term_text.specs.Spelling.{extension_name, access_name}
 
 -- ---- names
 
@@ -46,13 +46,13 @@ unfoldable pub comparison_of : List ℕ → Option Cmp
 comparison_of text = named comparison_name (Eq ∷ Ne ∷ Lt ∷ Ge ∷ Ltu ∷ Geu ∷ []) text
 
 unfoldable pub load_of : List ℕ → Option Width
-load_of text = named load_name widths text
+load_of text = named (access_name (codes "ld")) widths text
 
 unfoldable pub store_of : List ℕ → Option Width
-store_of text = named store_name widths text
+store_of text = named (access_name (codes "st")) widths text
 
 unfoldable pub inside_of : List ℕ → Option Width
-inside_of text = named inside_name widths text
+inside_of text = named (access_name (codes "in")) widths text
 
 -- the one option where it has an item, else the other
 abbrev pub or_option : {X : Type 0} → Option X → Option X → Option X

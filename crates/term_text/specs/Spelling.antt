@@ -28,15 +28,9 @@ extension_name Sx1 = codes "sx1"
 extension_name Sx2 = codes "sx2"
 extension_name Sx4 = codes "sx4"
 
--- the name of an access, and how many bytes it has
-abbrev pub load_name : Width → List ℕ
-load_name width = codes "ld" ++ decimal (bytes_of width)
-
-abbrev pub store_name : Width → List ℕ
-store_name width = codes "st" ++ decimal (bytes_of width)
-
-abbrev pub inside_name : Width → List ℕ
-inside_name width = codes "in" ++ decimal (bytes_of width)
+-- the letters of an access, and how many bytes it has
+abbrev pub access_name : List ℕ → Width → List ℕ
+access_name letters width = letters ++ decimal (bytes_of width)
 
 -- the parts, one after the other, and what stands after them
 abbrev pub joined : List (List Tok) → List Tok → List Tok
@@ -53,16 +47,16 @@ abbrev mutual
   word_tokens (Var i) = Atom (codes "v" ++ decimal i) ∷ []
   word_tokens (Bin op a b) = form (operation_name op) (word_tokens a ∷ word_tokens b ∷ [])
   word_tokens (Extend ext a) = form (extension_name ext) (word_tokens a ∷ [])
-  word_tokens (Load width m a) = form (load_name width) (mem_tokens m ∷ word_tokens a ∷ [])
+  word_tokens (Load width m a) = form (access_name (codes "ld") width) (mem_tokens m ∷ word_tokens a ∷ [])
 
   pub mem_tokens : MemTree → List Tok
   mem_tokens (MemVar i) = Atom (codes "m" ++ decimal i) ∷ []
-  mem_tokens (Store width m a v) = form (store_name width) (mem_tokens m ∷ word_tokens a ∷ word_tokens v ∷ [])
+  mem_tokens (Store width m a v) = form (access_name (codes "st") width) (mem_tokens m ∷ word_tokens a ∷ word_tokens v ∷ [])
 
 abbrev pub cond_tokens : CondTree → List Tok
 cond_tokens (Compare cmp a b) = form (comparison_name cmp) (word_tokens a ∷ word_tokens b ∷ [])
 cond_tokens (Neg c) = form (codes "not") (cond_tokens c ∷ [])
-cond_tokens (Inside width m a) = form (inside_name width) (mem_tokens m ∷ word_tokens a ∷ [])
+cond_tokens (Inside width m a) = form (access_name (codes "in") width) (mem_tokens m ∷ word_tokens a ∷ [])
 
 abbrev pub range_tokens : Range → List Tok
 range_tokens r = form (hex r.at) ((Atom (encode_lower r.bytes) ∷ []) ∷ [])

@@ -1,8 +1,8 @@
 //! The names of forms.
 
-ghost use Rattle.std.specs.Prelude.{◌≡◌};
+ghost use Rattle.std.specs.Prelude.{◌≡◌, codes};
 ghost use Rattle.rv_words.specs.Operation.{comparison_name, operation_name};
-ghost use Rattle.term_text.specs.Spelling.{extension_name, inside_name, load_name, store_name};
+ghost use Rattle.term_text.specs.Spelling.{access_name, extension_name};
 
 use rv_words::{Cmp, Ext, Op, Width};
 
@@ -70,7 +70,7 @@ pub fn name_of_comparison(cmp: Cmp) -> &'static [u8]
 /// The name of a load of that width.
 #[tactic(auto, unfolding(crate::proofs::NameTests::digits))]
 pub fn name_of_load(width: Width) -> &'static [u8]
-    ensures { result.now ≡ load_name width }
+    ensures { result.now ≡ access_name (codes "ld") width }
 {
     match width {
         Width::B1 => b"ld1",
@@ -83,7 +83,7 @@ pub fn name_of_load(width: Width) -> &'static [u8]
 /// The name of a store of that width.
 #[tactic(auto, unfolding(crate::proofs::NameTests::digits))]
 pub fn name_of_store(width: Width) -> &'static [u8]
-    ensures { result.now ≡ store_name width }
+    ensures { result.now ≡ access_name (codes "st") width }
 {
     match width {
         Width::B1 => b"st1",
@@ -96,7 +96,7 @@ pub fn name_of_store(width: Width) -> &'static [u8]
 /// The name of the condition that all addresses of a width are present.
 #[tactic(auto, unfolding(crate::proofs::NameTests::digits))]
 pub fn name_of_inside(width: Width) -> &'static [u8]
-    ensures { result.now ≡ inside_name width }
+    ensures { result.now ≡ access_name (codes "in") width }
 {
     match width {
         Width::B1 => b"in1",
