@@ -1,9 +1,9 @@
 -- Bodies are read as they are spelled, and the lines before a fault can be completed.
 use Rattle.std.proofs.Common.{◌≡◌, ℕ, zero, suc, ◌+◌, ◌^◌, ◌<◌, ◌≤◌, Bool, false, cond, eqb, List, [], ◌∷◌, ◌++◌, length, codes, Ok, Err, refl, sym, ap, subst, ◌∙◌, arith, append_assoc, length-append, inl, inr, ◌⊎◌}
-use Rattle.std.specs.List.{AllByRecursion}
+use Rattle.std.specs.List.{AllByRecursion, flat_map}
 use Rattle.std.proofs.lemmas.Bool.Decides.{nat_tests}
 use Rattle.std.specs.Fmt.{decimal}
-use Rattle.mc_text.specs.Tokens.{Tok, Atom, Eol, all_tokens}
+use Rattle.mc_text.specs.Tokens.{Tok, Atom, Eol}
 use Rattle.mc_text.specs.Reading.{Reader, pair, with, made, star, goes_on, refused}
 use Rattle.mc_text.specs.inner.Reading.{times, eol, keyed, number_at}
 use Rattle.mc_text.proofs.ReaderLaws.{Reads, IsElse, Reads-pair}
@@ -106,7 +106,7 @@ bodies-count : (bs : ArmTrees) → length (bodies bs) ≡ arm_count bs
 bodies-count NoArm = refl
 bodies-count (Arm b bs) = ap suc (bodies-count bs)
 
-arms-tokens : (bs : List BodyTree) → arm_tokens (arms_of bs) ≡ all_tokens arm_row bs
+arms-tokens : (bs : List BodyTree) → arm_tokens (arms_of bs) ≡ flat_map arm_row bs
 arms-tokens [] = refl
 arms-tokens (b ∷ bs) = ap (λ (v : List Tok). Atom (codes "arm") ∷ Eol ∷ (body_tokens b ++ v)) (arms-tokens bs)
 
@@ -139,12 +139,12 @@ abbrev CallParts : Type 0
 CallParts = (ℕ × (ℕ × ValuesTree)) × List BodyTree
 
 module _ (bound d : ℕ) (low : 1 ≤ bound) (high : bound ≤ 2 ^ 64) (body : Reader BodyTree)
-    (arms : (n : ℕ) → n < bound → Covers (times n (arm_at body)) (λ bs. AllByRecursion (IsBody d) bs × (length bs ≡ n)) (all_tokens arm_row)) where
+    (arms : (n : ℕ) → n < bound → Covers (times n (arm_at body)) (λ bs. AllByRecursion (IsBody d) bs × (length bs ≡ n)) (flat_map arm_row)) where
   abbrev CallFits : CallParts → Type 0
   CallFits p = ((p.0.0 < 2 ^ 32) × ((p.0.1.0 < bound) × IsValues p.0.1.1)) × (AllByRecursion (IsBody d) p.1 × (length p.1 ≡ p.0.1.0))
 
   abbrev call_parts_tokens : CallParts → List Tok
-  call_parts_tokens p = (number p.0.0 ++ (number p.0.1.0 ++ values_row p.0.1.1)) ++ all_tokens arm_row p.1
+  call_parts_tokens p = (number p.0.0 ++ (number p.0.1.0 ++ values_row p.0.1.1)) ++ flat_map arm_row p.1
 
   abbrev call : CallParts → BodyTree
   call x = Call x.0.0 x.0.1.1 (arms_of x.1)
@@ -152,12 +152,12 @@ module _ (bound d : ℕ) (low : 1 ≤ bound) (high : bound ≤ 2 ^ 64) (body : R
   call-parts : Covers (with (call_row bound) (λ row. times row.1.0 (arm_at body))) CallFits call_parts_tokens
   call-parts = covers-with (call_row bound) _ _
       (row-covers (call_row bound) _ _ (call-row bound high) (λ p h. ends-eol (Atom (decimal p.1.0)) (values_tokens p.1.1)) (0, (0, nothing)) (omega arith, (omega (arith, low), (tt, tt))))
-      (λ row. times row.1.0 (arm_at body)) (λ row bs. AllByRecursion (IsBody d) bs × (length bs ≡ row.1.0)) (λ row. all_tokens arm_row) (λ row h. arms row.1.0 h.1.0)
+      (λ row. times row.1.0 (arm_at body)) (λ row bs. AllByRecursion (IsBody d) bs × (length bs ≡ row.1.0)) (λ row. flat_map arm_row) (λ row h. arms row.1.0 h.1.0)
 
   call-told : (x : CallParts) → CallFits x → end_row (call x) ≡ call_parts_tokens x
   call-told x h =
       let count : arm_count (arms_of x.1) ≡ x.0.1.0 = arms-count x.1 ∙ h.1.1 in
-      let rows : arm_tokens (arms_of x.1) ≡ all_tokens arm_row x.1 = arms-tokens x.1 in
+      let rows : arm_tokens (arms_of x.1) ≡ flat_map arm_row x.1 = arms-tokens x.1 in
       (λ i. (number x.0.0 ++ (number (count i) ++ values_row x.0.1.1)) ++ rows i)
 
   call-into : (x : CallParts) → CallFits x → IsCall bound d (call x)
@@ -229,7 +229,7 @@ abbrev again_or : ℕ → Reader BodyTree → Reader BodyTree
 again_or room body = keyed (codes "again") (made Again values_at) (leave_or room body)
 
 module _ (d : ℕ) (body : Reader BodyTree) (ifs : Part (if_at d body) (IsBranch d) (EndFits d) body_tokens)
-    (arms : (n : ℕ) → n < arm_bound d → Covers (times n (arm_at body)) (λ bs. AllByRecursion (IsBody d) bs × (length bs ≡ n)) (all_tokens arm_row)) (low : 1 ≤ arm_bound d) (high : arm_bound d ≤ 2 ^ 64) where
+    (arms : (n : ℕ) → n < arm_bound d → Covers (times n (arm_at body)) (λ bs. AllByRecursion (IsBody d) bs × (length bs ≡ n)) (flat_map arm_row)) (low : 1 ≤ arm_bound d) (high : arm_bound d ≤ 2 ^ 64) where
   leave-part : Part (leave_or d body) (λ b. IsLeave b ⊎ IsBranch d b) (EndFits d) body_tokens
   leave-part = part-keyed (codes "leave") leave_at (if_at d body) IsLeave end_row leave-cover (IsBranch d) (EndFits d) body_tokens ifs
       (elim [ Do s b ↦ λ h. absurd h | Branch c a b ↦ λ h. absurd h | Call def v bs ↦ λ h. absurd h | Again v ↦ λ h. absurd h | Leave exit v ↦ λ h. omega arith ])
@@ -291,9 +291,9 @@ end-quiet d (Call def v bs) h us = refl
 end-quiet d (Again v) h us = refl
 end-quiet d (Leave exit v) h us = refl
 
-steps-tokens : (ss : List StepTree) (b : BodyTree) → body_tokens (with_steps ss b) ≡ all_tokens step_tokens ss ++ body_tokens b
+steps-tokens : (ss : List StepTree) (b : BodyTree) → body_tokens (with_steps ss b) ≡ flat_map step_tokens ss ++ body_tokens b
 steps-tokens [] b = refl
-steps-tokens (s ∷ ss) b = ap (λ (v : List Tok). step_tokens s ++ v) (steps-tokens ss b) ∙ sym (append_assoc (step_tokens s) (all_tokens step_tokens ss) (body_tokens b))
+steps-tokens (s ∷ ss) b = ap (λ (v : List Tok). step_tokens s ++ v) (steps-tokens ss b) ∙ sym (append_assoc (step_tokens s) (flat_map step_tokens ss) (body_tokens b))
 
 -- there is room
 room-left : (d : ℕ) → eqb (suc d) 0 ≡ false
@@ -371,8 +371,8 @@ unfolding times
 times-zero zero r ts e = refl
 times-zero (suc n) r ts e = absurd (omega (arith, e))
 
-no-arm-cover : (r : Reader BodyTree) (n : ℕ) → n ≡ 0 → Covers (times n r) (λ bs. AllByRecursion (IsBody 0) bs × (length bs ≡ n)) (all_tokens arm_row)
-no-arm-cover r n e = covers-nothing (times n r) (λ bs. AllByRecursion (IsBody 0) bs × (length bs ≡ n)) (all_tokens arm_row) [] (tt, sym e) refl only (λ ts. times-zero n r ts e)
+no-arm-cover : (r : Reader BodyTree) (n : ℕ) → n ≡ 0 → Covers (times n r) (λ bs. AllByRecursion (IsBody 0) bs × (length bs ≡ n)) (flat_map arm_row)
+no-arm-cover r n e = covers-nothing (times n r) (λ bs. AllByRecursion (IsBody 0) bs × (length bs ≡ n)) (flat_map arm_row) [] (tt, sym e) refl only (λ ts. times-zero n r ts e)
   where
     only : (bs : List BodyTree) → AllByRecursion (IsBody 0) bs × (length bs ≡ n) → [] ≡ bs
     only [] h = refl

@@ -10,6 +10,7 @@ use Rattle.mc_text.specs.declared.token.Before.TheVariants.{Start}
 use Rattle.mc_text.specs.Scanning.{lex, At}
 use Rattle.mc_text.specs.Fault.{first_lines, newlines}
 use Rattle.mc_text.specs.Reading.{goes_on}
+use Rattle.mc_text.proofs.Atoms.{word-atom}
 use Rattle.mc_text.proofs.Lines.{stands-lex, atom-stands}
 use Rattle.mc_text.proofs.FaultLine.{AreLines, EndsByte, one-newline, first-step, lines-zeroth, newlines-append, SameLine, same-line}
 use Rattle.mc_text.proofs.Tail.{count-cons, first-before}
@@ -236,14 +237,14 @@ follows-word k bytes tail atom none d =
     line-word k bytes tail (first_lines 1 bytes) _ none refl (λ n. d.0 (first-before 1 bytes tail none ∙ n)) (stands-lex Start (bytes ++ tail) (Atom k) d.1 (λ n. cc) (follows-stands k (bytes ++ tail) atom d))
 
 pub def-atom : IsAtom (codes "def")
-def-atom = (refl, (refl, (refl, tt)))
+def-atom = word-atom (codes "def") refl
 
 pub follows-def : (bytes tail : List ℕ) → newlines tail ≡ 0 → Follows (codes "def") (bytes ++ tail) → goes_on is_def (lex bytes (At Start)) ≡ true
 follows-def bytes tail none d = ap (goes_on is_def) (follows-word (codes "def") bytes tail def-atom none d).1
 
 pub follow-ends : (bytes tail : List ℕ) → newlines tail ≡ 0 → ProofEnds (bytes ++ tail) → goes_on ends_proof (lex bytes (At Start)) ≡ true
-follow-ends bytes tail none (inl d) = ap (goes_on ends_proof) (follows-word (codes "group") bytes tail (refl, (refl, (refl, (refl, (refl, tt))))) none d).1
-follow-ends bytes tail none (inr d) = ap (goes_on ends_proof) (follows-word (codes "end") bytes tail (refl, (refl, (refl, tt))) none d).1
+follow-ends bytes tail none (inl d) = ap (goes_on ends_proof) (follows-word (codes "group") bytes tail (word-atom (codes "group") refl) none d).1
+follow-ends bytes tail none (inr d) = ap (goes_on ends_proof) (follows-word (codes "end") bytes tail (word-atom (codes "end") refl) none d).1
 
 -- ---- loops over bytes
 

@@ -1,8 +1,8 @@
 -- Facts are read as they are spelled.
 use Rattle.std.proofs.Common.{◌≡◌, ℕ, ◌^◌, ◌<◌, true, false, List, [], ◌∷◌, ◌++◌, length, codes, Some, refl, sym, ap, subst, arith, append_assoc}
 use Rattle.std.specs.Fmt.{decimal}
-use Rattle.std.specs.List.{AllByRecursion}
-use Rattle.mc_text.specs.Tokens.{Tok, Left, Right, Semi, Atom, all_tokens}
+use Rattle.std.specs.List.{AllByRecursion, flat_map}
+use Rattle.mc_text.specs.Tokens.{Tok, Left, Right, Semi, Atom}
 use Rattle.mc_text.specs.Reading.{Reader, pair, one, star, goes_on, is_open, is_right}
 use Rattle.mc_text.specs.inner.Reading.{is_semi}
 use Rattle.mc_text.proofs.ReaderLaws.{Reads, IsFlat, flat-append, Reads-pair}
@@ -23,7 +23,8 @@ use Rattle.proof_text.specs.declared.line_heads.FactHead.TheVariants as fact_hea
 use Rattle.proof_text.specs.Limits.{IsValues}
 use Rattle.proof_text.specs.Spelling.{number, values_tokens}
 use Rattle.proof_text.specs.LineSpelling.{fact_tokens}
-use Rattle.proof_text.specs.LineLimits.{IsFact, index_limit}
+use Rattle.proof_text.specs.Limits.{index_limit}
+use Rattle.proof_text.specs.LineLimits.{IsFact}
 use Rattle.proof_text.specs.inner.LineReading.{index_at, values_with, fact_name, fact_heads, fact_head_of, fact_parts, fact_at}
 use Rattle.proof_text.proofs.StepLaws.{shrinks, atom-flat, number-law}
 use Rattle.proof_text.proofs.HeadLaws.{flat-each}
@@ -32,26 +33,26 @@ use Rattle.proof_text.proofs.Keyed.{Image, reads-image, reads-forms, named-law, 
 -- ---- values, and a mark behind them
 
 module _ (end : Reader (Unit {0})) (e : Tok) (law : Reads end Always (λ _. e ∷ [])) (quiet : begins_mem e ≡ false) where
-  mems-with : Reads (pair (star begins_mem (mem_at depth_limit)) end) (λ p. AllByRecursion IsMem p.0 × Always p.1) (λ p. all_tokens mem_tokens p.0 ++ e ∷ [])
+  mems-with : Reads (pair (star begins_mem (mem_at depth_limit)) end) (λ p. AllByRecursion IsMem p.0 × Always p.1) (λ p. flat_map mem_tokens p.0 ++ e ∷ [])
   mems-with = reads-list begins_mem (mem_at depth_limit) (mem-shrinks depth_limit) IsMem mem_tokens mem-law (λ m h. mem-flat m) (λ m h us. mem-begins m us) end Always (λ _. e ∷ []) law (λ y h us. quiet)
 
-  pub behind-words : Reads (pair (one is_semi) (pair (star begins_mem (mem_at depth_limit)) end)) (λ p. Always p.0 × (AllByRecursion IsMem p.1.0 × Always p.1.1)) (λ p. Semi ∷ (all_tokens mem_tokens p.1.0 ++ e ∷ []))
+  pub behind-words : Reads (pair (one is_semi) (pair (star begins_mem (mem_at depth_limit)) end)) (λ p. Always p.0 × (AllByRecursion IsMem p.1.0 × Always p.1.1)) (λ p. Semi ∷ (flat_map mem_tokens p.1.0 ++ e ∷ []))
   behind-words = Reads-pair (one is_semi) Always (λ _. Semi ∷ []) semi-law (λ x h. semi-flat) _ _ _ mems-with
 
   abbrev Values : Type 0
   Values = List WordTree × (Unit {0} × (List MemTree × Unit {0}))
 
   values-row : Reads (pair (star begins_word (word_at depth_limit)) (pair (one is_semi) (pair (star begins_mem (mem_at depth_limit)) end)))
-      (λ (p : Values). AllByRecursion IsWord p.0 × (Always p.1.0 × (AllByRecursion IsMem p.1.1.0 × Always p.1.1.1))) (λ p. all_tokens word_tokens p.0 ++ (Semi ∷ (all_tokens mem_tokens p.1.1.0 ++ e ∷ [])))
+      (λ (p : Values). AllByRecursion IsWord p.0 × (Always p.1.0 × (AllByRecursion IsMem p.1.1.0 × Always p.1.1.1))) (λ p. flat_map word_tokens p.0 ++ (Semi ∷ (flat_map mem_tokens p.1.1.0 ++ e ∷ [])))
   values-row = reads-list begins_word (word_at depth_limit) (word-shrinks depth_limit) IsWord word_tokens word-law (λ t h. word-flat t) (λ t h us. word-begins t us) _ _ _ behind-words (λ y h us. refl)
 
   pub values-with-law : Reads (values_with end) IsValues (λ v. values_tokens v ++ e ∷ [])
   values-with-law = reads-made (λ (x : Values). record { words = x.0; mems = x.1.1.0 }) _ _ _ values-row IsValues (λ v. values_tokens v ++ e ∷ []) (λ x h. (h.0, h.1.1.0))
-      (λ x. append_assoc (all_tokens word_tokens x.0) (Semi ∷ all_tokens mem_tokens x.1.1.0) (e ∷ [])) (λ v h. ((v.words, (tt, (v.mems, tt))), refl, (h.0, (tt, (h.1, tt)))))
+      (λ x. append_assoc (flat_map word_tokens x.0) (Semi ∷ flat_map mem_tokens x.1.1.0) (e ∷ [])) (λ v h. ((v.words, (tt, (v.mems, tt))), refl, (h.0, (tt, (h.1, tt)))))
 
 pub values-flat : (v : ValuesTree) → IsValues v → IsFlat (values_tokens v)
 values-flat v h =
-    flat-append (all_tokens word_tokens v.words) (Semi ∷ all_tokens mem_tokens v.mems) (flat-each IsWord word_tokens (λ t f. word-flat t) v.words h.0)
+    flat-append (flat_map word_tokens v.words) (Semi ∷ flat_map mem_tokens v.mems) (flat-each IsWord word_tokens (λ t f. word-flat t) v.words h.0)
     ((λ e. absurd cc), flat-each IsMem mem_tokens (λ m f. mem-flat m) v.mems h.1)
 
 -- ---- the parts of each form

@@ -1,11 +1,11 @@
 -- What is read of a text is determined: of two lists of first proofs the items of one begin with those of the other.
 use Rattle.std.proofs.Common.{◌≡◌, ℕ, ◌+◌, ◌<◌, ◌≤◌, Bool, true, false, List, [], ◌∷◌, ◌++◌, length, codes, Option, Some, None, Ok, true≢false, refl, sym, ap, subst, ◌∙◌, arith, append_assoc, length-append, inl, inr, ◌⊎◌}
-use Rattle.std.specs.List.{AllByRecursion}
+use Rattle.std.specs.List.{AllByRecursion, flat_map}
 use Rattle.std.specs.Str.{bytes_eq}
 use Rattle.std.proofs.lemmas.List.{append-nil}
 use Rattle.std.proofs.lemmas.Slice.Eq.{bytes_eq-Decides}
 use Rattle.mc_text.proofs.Unended.{no-eols}
-use Rattle.mc_text.specs.Tokens.{Tok, Left, Right, Semi, Atom, Eol, Done, Stuck, spell, all_tokens}
+use Rattle.mc_text.specs.Tokens.{Tok, Left, Right, Semi, Atom, Eol, Done, Stuck, spell}
 use Rattle.mc_text.specs.declared.token.Before.TheVariants.{Start}
 use Rattle.mc_text.specs.Scanning.{lex, At, eols}
 use Rattle.mc_text.specs.Reading.{Reader, goes_on}
@@ -73,18 +73,18 @@ module _ {X : Type 0} (read : Reader X) (F : X → Type 0) (t : X → List Tok) 
 
 -- ---- definitions
 
-defs-once : (ds es : List DefTree) (us vs : List Tok) → AllByRecursion IsDef ds → AllByRecursion IsDef es → IsStop us → IsStop vs → all_tokens def_tokens ds ++ us ≡ all_tokens def_tokens es ++ vs → (ds ≡ es) × (us ≡ vs)
+defs-once : (ds es : List DefTree) (us vs : List Tok) → AllByRecursion IsDef ds → AllByRecursion IsDef es → IsStop us → IsStop vs → flat_map def_tokens ds ++ us ≡ flat_map def_tokens es ++ vs → (ds ≡ es) × (us ≡ vs)
 defs-once [] [] us vs h k s r e = (refl, e)
 defs-once [] (d ∷ es) us vs h k s r e =
-    let here : us ≡ def_tokens d ++ (all_tokens def_tokens es ++ vs) = e ∙ append_assoc (def_tokens d) (all_tokens def_tokens es) vs in
-    absurd (goes-not us (ap (goes_on is_def) here) (subst (λ (w : List Tok). 1 ≤ eols w) (sym here) (def-ends d k.0 (all_tokens def_tokens es ++ vs))) s)
+    let here : us ≡ def_tokens d ++ (flat_map def_tokens es ++ vs) = e ∙ append_assoc (def_tokens d) (flat_map def_tokens es) vs in
+    absurd (goes-not us (ap (goes_on is_def) here) (subst (λ (w : List Tok). 1 ≤ eols w) (sym here) (def-ends d k.0 (flat_map def_tokens es ++ vs))) s)
 defs-once (d ∷ ds) [] us vs h k s r e =
-    let here : vs ≡ def_tokens d ++ (all_tokens def_tokens ds ++ us) = sym e ∙ append_assoc (def_tokens d) (all_tokens def_tokens ds) us in
-    absurd (goes-not vs (ap (goes_on is_def) here) (subst (λ (w : List Tok). 1 ≤ eols w) (sym here) (def-ends d h.0 (all_tokens def_tokens ds ++ us))) r)
+    let here : vs ≡ def_tokens d ++ (flat_map def_tokens ds ++ us) = sym e ∙ append_assoc (def_tokens d) (flat_map def_tokens ds) us in
+    absurd (goes-not vs (ap (goes_on is_def) here) (subst (λ (w : List Tok). 1 ≤ eols w) (sym here) (def-ends d h.0 (flat_map def_tokens ds ++ us))) r)
 defs-once (d ∷ ds) (c ∷ es) us vs h k s r e =
-    let parts : def_tokens d ++ (all_tokens def_tokens ds ++ us) ≡ def_tokens c ++ (all_tokens def_tokens es ++ vs) =
-    sym (append_assoc (def_tokens d) (all_tokens def_tokens ds) us) ∙ e ∙ append_assoc (def_tokens c) (all_tokens def_tokens es) vs in
-    let first = read-once def_at IsDef def_tokens def-cover d c (all_tokens def_tokens ds ++ us) (all_tokens def_tokens es ++ vs) h.0 k.0 parts in
+    let parts : def_tokens d ++ (flat_map def_tokens ds ++ us) ≡ def_tokens c ++ (flat_map def_tokens es ++ vs) =
+    sym (append_assoc (def_tokens d) (flat_map def_tokens ds) us) ∙ e ∙ append_assoc (def_tokens c) (flat_map def_tokens es) vs in
+    let first = read-once def_at IsDef def_tokens def-cover d c (flat_map def_tokens ds ++ us) (flat_map def_tokens es ++ vs) h.0 k.0 parts in
     let others = defs-once ds es us vs h.1 k.1 s r first.1 in
     ((λ i. first.0 i ∷ others.0 i), others.1)
 
@@ -95,10 +95,10 @@ behind-word us vs e = cc
 
 group-once : (g h : GroupTree) (us vs : List Tok) → IsGroup g → IsGroup h → IsStop us → IsStop vs → group_tokens g ++ us ≡ group_tokens h ++ vs → (g ≡ h) × (us ≡ vs)
 group-once g h us vs fg fh s r e =
-    let lines : (x : GroupTree) (ws : List Tok) → group_row x ++ ws ≡ lines_of_head (head_of x) ++ (all_tokens def_tokens x.defs ++ ws) =
-    λ x ws. ap (λ (v : List Tok). v ++ ws) (group-split (head_of x) x.defs) ∙ append_assoc (lines_of_head (head_of x)) (all_tokens def_tokens x.defs) ws in
+    let lines : (x : GroupTree) (ws : List Tok) → group_row x ++ ws ≡ lines_of_head (head_of x) ++ (flat_map def_tokens x.defs ++ ws) =
+    λ x ws. ap (λ (v : List Tok). v ++ ws) (group-split (head_of x) x.defs) ∙ append_assoc (lines_of_head (head_of x)) (flat_map def_tokens x.defs) ws in
     let rows : group_row g ++ us ≡ group_row h ++ vs = behind-word (group_row g ++ us) (group_row h ++ vs) e in
-    let head = read-once head_at HeadFits lines_of_head head-cover (head_of g) (head_of h) (all_tokens def_tokens g.defs ++ us) (all_tokens def_tokens h.defs ++ vs) (head-fits g fg) (head-fits h fh) (sym (lines g us) ∙ rows ∙ lines h vs) in
+    let head = read-once head_at HeadFits lines_of_head head-cover (head_of g) (head_of h) (flat_map def_tokens g.defs ++ us) (flat_map def_tokens h.defs ++ vs) (head-fits g fg) (head-fits h fh) (sym (lines g us) ∙ rows ∙ lines h vs) in
     let defs = defs-once g.defs h.defs us vs fg.defs fh.defs s r head.1 in
     ((λ i. group_of (head.0 i) (defs.0 i)), defs.1)
 
@@ -238,8 +238,8 @@ items-front ps (j ∷ js) r are is h =
     let vs = lex r.rest (At Start) in
     let whole : lex (text_of_proofs ps) (At Start) ≡ proofs_tokens ps ++ Done ∷ [] = lines-read (proofs_tokens ps) (proofs-tokens ps are) (proof-text-law.ends ps are) in
     let split : proofs_tokens ps ++ Done ∷ [] ≡ head_tokens ++ (own ++ us) =
-    append_assoc head_tokens (all_tokens proof_tokens ps ++ end_tokens) (Done ∷ [])
-    ∙ ap (λ (v : List Tok). head_tokens ++ v) (append_assoc (all_tokens proof_tokens ps) end_tokens (Done ∷ []) ∙ ap (λ (v : List Tok). v ++ us) (proofs-items [] ps)) in
+    append_assoc head_tokens (flat_map proof_tokens ps ++ end_tokens) (Done ∷ [])
+    ∙ ap (λ (v : List Tok). head_tokens ++ v) (append_assoc (flat_map proof_tokens ps) end_tokens (Done ∷ []) ∙ ap (λ (v : List Tok). v ++ us) (proofs-items [] ps)) in
     let tokens : head_tokens ++ (own ++ us) ≡ head_tokens ++ (items_tokens [] (j ∷ js) ++ vs) =
     sym (whole ∙ split) ∙ sym (ap (λ (v : List ℕ). lex v (At Start)) is) ∙ lexed (j ∷ js) r h ∙ append_assoc head_tokens (items_tokens [] (j ∷ js)) vs in
     pick (items-once [] (items ps) (j ∷ js) us vs no-code (items-fit ps are) h.fit (λ before g e. inl refl) (stops (j ∷ js) r h) (behind-title _ _ tokens))

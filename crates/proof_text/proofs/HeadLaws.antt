@@ -1,15 +1,16 @@
 -- The lines of a group's head and the line of a definition are read as they are spelled.
 use Rattle.std.proofs.Common.{◌≡◌, ℕ, ◌+◌, ◌^◌, ◌<◌, ◌≤◌, Bool, true, false, cond, List, [], ◌∷◌, ◌++◌, length, codes, Option, Some, None, refl, ap, subst, arith}
 use Rattle.std.specs.Prelude.{◌&&◌, nat_le, option_map}
-use Rattle.std.specs.List.{AllByRecursion}
+use Rattle.std.specs.List.{AllByRecursion, flat_map}
 use Rattle.std.specs.Str.{bytes_eq}
 use Rattle.std.specs.Fmt.{decimal}
 use Rattle.std.proofs.lemmas.Bool.Decides.{nat_tests}
 use Rattle.std.proofs.lemmas.Slice.Eq.{bytes_eq-Decides}
 use Rattle.mc_text.specs.Number.{IsWord as IsNumber, AreBytes, hex, hex_of}
-use Rattle.mc_text.specs.Tokens.{Tok, Atom, Eol, is_atom_byte, IsAtomText, IsAtom, all_tokens}
+use Rattle.mc_text.specs.Tokens.{Tok, Atom, Eol, is_atom_byte, IsAtom}
 use Rattle.mc_text.specs.Reading.{Reader, pair, one, atom_of, star, goes_on, address_at, is_open}
 use Rattle.mc_text.specs.inner.Reading.{eol, word, checked, number_at}
+use Rattle.mc_text.proofs.Atoms.{IsAtomText, atom-text, text-atom}
 use Rattle.mc_text.proofs.ReaderLaws.{Reads, StaysFlat, IsFlat, flat-append, Reads-one, Reads-pair}
 use Rattle.mc_text.proofs.Star.{Shrinks}
 use Rattle.mc_text.proofs.Inline.{reads-list}
@@ -32,16 +33,16 @@ use Rattle.proof_text.specs.inner.Reading.{exit_of, has_atom, are_few_exits, def
 use Rattle.proof_text.proofs.StepLaws.{shrinks, atom-flat, name-law, number-law, address-law, eol-law}
 
 -- a list of items that all lie in a line
-pub flat-each : {X : Type 0} (F : X → Type 0) (t : X → List Tok) → StaysFlat F t → StaysFlat (AllByRecursion F) (all_tokens t)
+pub flat-each : {X : Type 0} (F : X → Type 0) (t : X → List Tok) → StaysFlat F t → StaysFlat (AllByRecursion F) (flat_map t)
 flat-each F t flat [] h = tt
-flat-each F t flat (x ∷ xs) h = flat-append (t x) (all_tokens t xs) (flat x h.0) (flat-each F t flat xs h.1)
+flat-each F t flat (x ∷ xs) h = flat-append (t x) (flat_map t xs) (flat x h.0) (flat-each F t flat xs h.1)
 
 -- a line of items that pass a test
 row-of : {X : Type 0} (go : Tok → Bool) (r : Reader X) (F : X → Type 0) (t : X → List Tok) (test : List X → Bool) (G : List X → Type 0) → Reads r F t → Shrinks r → StaysFlat F t → ((x : X) → F x → (us : List Tok) → goes_on go (t x ++ us) ≡ true) → go Eol ≡ false
-    → ((xs : List X) → AllByRecursion F xs → test xs ≡ true → G xs) → ((xs : List X) → G xs → AllByRecursion F xs × (test xs ≡ true)) → Reads (pair (checked test (star go r)) eol) (λ p. G p.0 × Always p.1) (λ p. all_tokens t p.0 ++ Eol ∷ [])
+    → ((xs : List X) → AllByRecursion F xs → test xs ≡ true → G xs) → ((xs : List X) → G xs → AllByRecursion F xs × (test xs ≡ true)) → Reads (pair (checked test (star go r)) eol) (λ p. G p.0 × Always p.1) (λ p. flat_map t p.0 ++ Eol ∷ [])
 row-of {X} go r F t test G law small flat heads quiet up down =
-    reads-as (pair (checked test (star go r)) eol) (λ p. (AllByRecursion F p.0 × (test p.0 ≡ true)) × Unit {0}) (λ p. G p.0 × Always p.1) (λ p. all_tokens t p.0 ++ Eol ∷ [])
-    (reads-closed test (star go r) (AllByRecursion F) (all_tokens t) (reads-list go r small F t law flat heads eol Always (λ _. Eol ∷ []) eol-law (λ y h us. quiet)) (flat-each F t flat))
+    reads-as (pair (checked test (star go r)) eol) (λ p. (AllByRecursion F p.0 × (test p.0 ≡ true)) × Unit {0}) (λ p. G p.0 × Always p.1) (λ p. flat_map t p.0 ++ Eol ∷ [])
+    (reads-closed test (star go r) (AllByRecursion F) (flat_map t) (reads-list go r small F t law flat heads eol Always (λ _. Eol ∷ []) eol-law (λ y h us. quiet)) (flat-each F t flat))
     (λ p h. (up p.0 h.0.0 h.0.1, tt)) (λ p h. (down p.0 h.0, tt))
 
 -- ---- tests
@@ -126,7 +127,7 @@ exit-shrinks = shrinks (one (atom_of exit_of)) IsExit exit_tokens exit-law.takes
 abbrev pub AreExits : List Exit → Type 0
 AreExits xs = AllByRecursion IsExit xs × ((length xs ≤ exit_limit) × (returns xs ≤ 1))
 
-pub def-row-law : Reads def_row (λ p. IsNumber p.0 × (AreExits p.1.0 × Always p.1.1)) (λ p. address p.0 ++ (all_tokens exit_tokens p.1.0 ++ Eol ∷ []))
+pub def-row-law : Reads def_row (λ p. IsNumber p.0 × (AreExits p.1.0 × Always p.1.1)) (λ p. address p.0 ++ (flat_map exit_tokens p.1.0 ++ Eol ∷ []))
 unfolding def_row
 def-row-law = Reads-pair address_at IsNumber address address-law (λ n h. atom-flat (hex n)) _ _ _
     (row-of has_atom (one (atom_of exit_of)) IsExit exit_tokens are_few_exits AreExits exit-law exit-shrinks exit-flat exit-begins refl
@@ -135,7 +136,7 @@ def-row-law = Reads-pair address_at IsNumber address address-law (λ n h. atom-f
 
 -- ---- names
 
-pub text-there : (a : List ℕ) → are_atom_bytes a ≡ true → IsAtomText a
+text-there : (a : List ℕ) → are_atom_bytes a ≡ true → IsAtomText a
 text-there [] e = tt
 text-there (b ∷ bs) e = let k = both-true (is_atom_byte b) (are_atom_bytes bs) e in (k.0, text-there bs k.1)
 
@@ -145,15 +146,11 @@ text-back (b ∷ bs) h = true-both (is_atom_byte b) (are_atom_bytes bs) h.0 (tex
 
 atom-there : (a : List ℕ) → 1 ≤ length a → IsAtomText a → IsAtom a
 atom-there [] le h = absurd (omega (arith, le))
-atom-there (b ∷ bs) le h = h
+atom-there (b ∷ bs) le h = text-atom (b ∷ bs) (λ e. absurd cc) h
 
 atom-length : (a : List ℕ) → IsAtom a → 1 ≤ length a
-atom-length [] h = absurd h
+atom-length [] h = absurd (h.0 refl)
 atom-length (b ∷ bs) h = omega arith
-
-atom-text : (a : List ℕ) → IsAtom a → IsAtomText a
-atom-text [] h = absurd h
-atom-text (b ∷ bs) h = h
 
 name-true : (a : List ℕ) → is_name a ≡ true → IsName a
 name-true a e =
@@ -199,7 +196,7 @@ true-rising least (r ∷ rs) h =
 pub small-number-shrinks : (limit : ℕ) → limit ≤ 2 ^ 64 → Shrinks (number_at limit)
 small-number-shrinks limit le = shrinks (number_at limit) (λ n. n < limit) number (number-law limit le).takes (λ n h. omega arith)
 
-pub regs-law : Reads regs_row (λ p. Always p.0 × (AreRegistersFrom 1 p.1.0 × Always p.1.1)) (λ p. Atom (codes "regs") ∷ (all_tokens number p.1.0 ++ Eol ∷ []))
+pub regs-law : Reads regs_row (λ p. Always p.0 × (AreRegistersFrom 1 p.1.0 × Always p.1.1)) (λ p. Atom (codes "regs") ∷ (flat_map number p.1.0 ++ Eol ∷ []))
 unfolding regs_row
 regs-law = Reads-pair (word (codes "regs")) Always (λ _. Atom (codes "regs") ∷ []) (name-law (codes "regs")) (λ x h. atom-flat (codes "regs")) _ _ _
     (row-of has_atom (number_at 32) (λ n. n < 32) number (registers_rise 1) (AreRegistersFrom 1) (number-law 32 (omega arith)) (small-number-shrinks 32 (omega arith)) (λ n h. atom-flat (decimal n)) (λ n h us. refl) refl
@@ -240,7 +237,7 @@ true-code least (r ∷ rs) h bytes =
           (true-both (nat_le least r.at) (nat_le (r.at + length r.bytes) (2 ^ 64)) (true-le least r.at h.0) (true-le (r.at + length r.bytes) (2 ^ 64) h.2)) m.1,
     )
 
-pub code-law : Reads code_row (λ p. Always p.0 × (IsCode p.1.0 × Always p.1.1)) (λ p. Atom (codes "code") ∷ (all_tokens range_tokens p.1.0 ++ Eol ∷ []))
+pub code-law : Reads code_row (λ p. Always p.0 × (IsCode p.1.0 × Always p.1.1)) (λ p. Atom (codes "code") ∷ (flat_map range_tokens p.1.0 ++ Eol ∷ []))
 unfolding code_row
 code-law = Reads-pair (word (codes "code")) Always (λ _. Atom (codes "code") ∷ []) (name-law (codes "code")) (λ x h. atom-flat (codes "code")) _ _ _
     (row-of is_open range_at IsRange range_tokens (ranges_rise 0) IsCode range-law range-shrinks (λ r h. range-flat r) (λ r h us. refl) refl

@@ -1,9 +1,9 @@
 -- A line of a proof is read as it is spelled.
 use Rattle.std.proofs.Common.{◌≡◌, ℕ, ◌<◌, List, [], ◌∷◌, ◌++◌, codes, refl, sym, ap, subst, ◌∙◌, arith, append_assoc, inl, inr, ◌⊎◌}
 use Rattle.std.specs.Fmt.{decimal}
-use Rattle.std.specs.List.{AllByRecursion}
+use Rattle.std.specs.List.{AllByRecursion, flat_map}
 use Rattle.mc_text.specs.Number.{IsWord as IsNumber}
-use Rattle.mc_text.specs.Tokens.{Tok, Atom, Eol, all_tokens}
+use Rattle.mc_text.specs.Tokens.{Tok, Atom, Eol}
 use Rattle.mc_text.specs.Reading.{Reader, pair, made, star}
 use Rattle.mc_text.specs.inner.Reading.{eol, keyed}
 use Rattle.mc_text.proofs.ReaderLaws.{Reads, IsElse, Reads-pair}
@@ -16,7 +16,8 @@ use Rattle.triple_kernel.specs.Tree.{TripleTree}
 use Rattle.proof_text.specs.Line.{RuleTree, Axiom, Inst, Frame, Compose, ExtendCode, Strengthen, Weaken, Discharge, UseExit, LineTree, States, Loop, Forget}
 use Rattle.proof_text.specs.Spelling.{number}
 use Rattle.proof_text.specs.LineSpelling.{rule_tokens, triple_tokens, line_tokens}
-use Rattle.proof_text.specs.LineLimits.{index_limit, IsRule, IsTriple, IsLine}
+use Rattle.proof_text.specs.Limits.{index_limit}
+use Rattle.proof_text.specs.LineLimits.{IsRule, IsTriple, IsLine}
 use Rattle.proof_text.specs.inner.Reading.{has_atom}
 use Rattle.proof_text.specs.inner.LineReading.{index_at, theorem_at, triple_at, rule_at, line_at}
 use Rattle.proof_text.proofs.StepLaws.{atom-flat, eol-law}
@@ -67,7 +68,7 @@ module _ (own : List Range) (fits : IsCode own) where
   -- the tokens behind a line's first word
   abbrev line_rest : LineTree → List Tok
   line_rest (States rule t) = []
-  line_rest (Loop def cited) = number def ++ (all_tokens number cited ++ end)
+  line_rest (Loop def cited) = number def ++ (flat_map number cited ++ end)
   line_rest (Forget k) = number k ++ end
 
   abbrev LoopParts : Type 0
@@ -83,7 +84,7 @@ module _ (own : List Range) (fits : IsCode own) where
   loop_at = made (λ (x : LoopParts). Loop x.0 x.1.0) (pair index_at (pair (star has_atom theorem_at) eol))
 
   loop-law : Reads loop_at (Image loop FitLoop) line_rest
-  loop-law = reads-image loop (pair index_at (pair (star has_atom theorem_at) eol)) FitLoop (λ x. number x.0 ++ (all_tokens number x.1.0 ++ end))
+  loop-law = reads-image loop (pair index_at (pair (star has_atom theorem_at) eol)) FitLoop (λ x. number x.0 ++ (flat_map number x.1.0 ++ end))
       (Reads-pair index_at (λ n. n < index_limit) number index-law (λ n h. atom-flat (decimal n)) (pair (star has_atom theorem_at) eol) _ _
       (reads-list has_atom theorem_at theorem-shrinks IsNumber number theorem-law (λ n h. atom-flat (decimal n)) (λ n h us. refl) eol Always (λ _. end) eol-law (λ y h us. refl)))
       line_rest (λ x f. refl)

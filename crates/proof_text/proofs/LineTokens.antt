@@ -1,8 +1,9 @@
 -- What is written of proofs are tokens of a text.
-use Rattle.std.proofs.Common.{◌≡◌, ℕ, ◌+◌, ◌^◌, ◌<◌, Bool, true, false, cond, List, [], ◌∷◌, ◌++◌, codes, refl, arith}
+use Rattle.std.proofs.Common.{ℕ, ◌+◌, ◌^◌, ◌<◌, Bool, true, false, cond, List, [], ◌∷◌, ◌++◌, codes, refl, arith, flat_map}
 use Rattle.std.specs.Fmt.{decimal}
 use Rattle.mc_text.specs.Number.{IsWord as IsNumber}
-use Rattle.mc_text.specs.Tokens.{Tok, Right, Semi, Atom, Eol, is_atom_byte, IsAtom, all_tokens}
+use Rattle.mc_text.specs.Tokens.{Tok, Right, Semi, Atom, Eol}
+use Rattle.mc_text.proofs.Atoms.{letter-atom, word-atom}
 use Rattle.mc_text.proofs.Lines.{AreTokens}
 use Rattle.mc_text.proofs.Shown.{decimal-atom, hex-atom, tokens-append, tokens-each}
 use Rattle.rv_words.specs.declared.range.Range.{Range}
@@ -19,8 +20,8 @@ use Rattle.proof_text.specs.Spelling.{number, values_tokens, group_tokens, head_
 use Rattle.proof_text.specs.LineSpelling.{fact_tokens, register_tokens, assertion_tokens, same_ranges, code_tokens, triple_tokens, form_tokens, word_sub_tokens, mem_sub_tokens, rule_tokens, line_tokens}
 use Rattle.proof_text.specs.LineLimits.{IsFact, IsAssertion, IsTriple, AreRisingFrom, IsRule, IsLine}
 use Rattle.proof_text.specs.Version.{version_1}
-use Rattle.proof_text.specs.Proofs.{proof_tokens, tokens_of_proofs_in, IsProofIn, AreProofs}
-use Rattle.proof_text.proofs.HeadLaws.{text-there, IsCode}
+use Rattle.proof_text.specs.Proofs.{proof_tokens, IsProofIn, AreProofs}
+use Rattle.proof_text.proofs.HeadLaws.{IsCode}
 use Rattle.proof_text.proofs.Real.{eol-tokens, values-tokens, ranges-tokens, group-tokens, title-tokens}
 use Rattle.proof_text.proofs.TripleLaws.{IsRegister, registers-of, registers-small}
 
@@ -36,20 +37,16 @@ two-tokens v w h k = tokens-append v (w ++ close) h (closed-tokens w k)
 small : (n : ℕ) → n < 2 ^ 32 → IsNumber n
 small n h = omega (arith, h)
 
-letter-atom : (b : ℕ) (a : List ℕ) → is_atom_byte b ≡ true → IsAtom a → IsAtom (b ∷ a)
-letter-atom b [] e h = absurd h
-letter-atom b (c ∷ a) e h = (e, h)
-
 -- ---- triples
 
 fact-tokens : (f : FactTree) → IsFact f → AreTokens (fact_tokens f)
-fact-tokens (WordIs a b) h = (tt, (text-there (codes "is") refl, two-tokens (word_tokens a) (word_tokens b) (word-tokens a h.0) (word-tokens b h.1)))
-fact-tokens (MemIs a b) h = (tt, (text-there (codes "mis") refl, two-tokens (mem_tokens a) (mem_tokens b) (mem-tokens a h.0) (mem-tokens b h.1)))
-fact-tokens (So c) h = (tt, (text-there (codes "so") refl, closed-tokens (cond_tokens c) (cond-tokens c h)))
+fact-tokens (WordIs a b) h = (tt, (word-atom (codes "is") refl, two-tokens (word_tokens a) (word_tokens b) (word-tokens a h.0) (word-tokens b h.1)))
+fact-tokens (MemIs a b) h = (tt, (word-atom (codes "mis") refl, two-tokens (mem_tokens a) (mem_tokens b) (mem-tokens a h.0) (mem-tokens b h.1)))
+fact-tokens (So c) h = (tt, (word-atom (codes "so") refl, closed-tokens (cond_tokens c) (cond-tokens c h)))
 fact-tokens (Gives def exit args results) h = (
   tt,
   (
-    text-there (codes "gives") refl,
+    word-atom (codes "gives") refl,
     (
       decimal-atom def (small def h.0),
       (
@@ -65,8 +62,8 @@ register-tokens r h = (tt, (decimal-atom r.0 (omega (arith, h.0)), closed-tokens
 
 assertion-tokens : (a : AssertionTree) → IsAssertion a → AreTokens (assertion_tokens a)
 assertion-tokens a h =
-    let regs = all_tokens register_tokens a.regs in
-    let mems = all_tokens mem_tokens a.mems in (
+    let regs = flat_map register_tokens a.regs in
+    let mems = flat_map mem_tokens a.mems in (
       tt,
       tokens-append (word_tokens a.pc) (regs ++ (Semi ∷ (mems ++ close))) (word-tokens a.pc h.pc)
           (tokens-append regs (Semi ∷ (mems ++ close)) (tokens-each register_tokens IsRegister register-tokens a.regs (registers-of a.regs (registers-small a h) h.words))
@@ -76,8 +73,8 @@ assertion-tokens a h =
 code-tokens : (own rs : List Range) → IsCode rs → AreTokens (code_tokens own rs)
 code-tokens own rs h = by (same_ranges rs own)
   where
-    by : (b : Bool) → AreTokens (cond b (Atom (codes "all") ∷ []) (all_tokens range_tokens rs))
-    by true = (text-there (codes "all") refl, tt)
+    by : (b : Bool) → AreTokens (cond b (Atom (codes "all") ∷ []) (flat_map range_tokens rs))
+    by true = (word-atom (codes "all") refl, tt)
     by false = ranges-tokens 0 rs h.0 h.1
 
 triple-tokens : (own : List Range) (t : TripleTree) → IsTriple t → AreTokens (triple_tokens own t)
@@ -85,65 +82,65 @@ triple-tokens own t h =
     let behind_code = Atom (codes "post") ∷ assertion_tokens t.post in
     let behind_pre = Atom (codes "code") ∷ (code_tokens own t.code ++ behind_code) in
     let behind_facts = Atom (codes "pre") ∷ (assertion_tokens t.pre ++ behind_pre) in (
-      text-there (codes "facts") refl,
-      tokens-append (all_tokens fact_tokens t.facts) behind_facts (tokens-each fact_tokens IsFact fact-tokens t.facts h.facts) (
-        text-there (codes "pre") refl,
+      word-atom (codes "facts") refl,
+      tokens-append (flat_map fact_tokens t.facts) behind_facts (tokens-each fact_tokens IsFact fact-tokens t.facts h.facts) (
+        word-atom (codes "pre") refl,
         tokens-append (assertion_tokens t.pre) behind_pre (assertion-tokens t.pre h.pre) (
-          text-there (codes "code") refl,
+          word-atom (codes "code") refl,
           tokens-append (code_tokens own t.code) behind_code (code-tokens own t.code (h.code, h.bytes))
-              (text-there (codes "post") refl, assertion-tokens t.post h.post),
+              (word-atom (codes "post") refl, assertion-tokens t.post h.post),
         ),
       ),
     )
 
 -- ---- rules
 
-word-subs-tokens : (least : ℕ) (ss : List (ℕ × WordTree)) → AreRisingFrom IsWord least ss → AreTokens (all_tokens word_sub_tokens ss)
+word-subs-tokens : (least : ℕ) (ss : List (ℕ × WordTree)) → AreRisingFrom IsWord least ss → AreTokens (flat_map word_sub_tokens ss)
 word-subs-tokens least [] h = tt
 word-subs-tokens least (s ∷ ss) h =
-    tokens-append (word_sub_tokens s) (all_tokens word_sub_tokens ss)
+    tokens-append (word_sub_tokens s) (flat_map word_sub_tokens ss)
     (tt, (letter-atom 118 (decimal s.0) refl (decimal-atom s.0 (small s.0 h.1)), closed-tokens (word_tokens s.1) (word-tokens s.1 h.2))) (word-subs-tokens (s.0 + 1) ss h.3)
 
-mem-subs-tokens : (least : ℕ) (ss : List (ℕ × MemTree)) → AreRisingFrom IsMem least ss → AreTokens (all_tokens mem_sub_tokens ss)
+mem-subs-tokens : (least : ℕ) (ss : List (ℕ × MemTree)) → AreRisingFrom IsMem least ss → AreTokens (flat_map mem_sub_tokens ss)
 mem-subs-tokens least [] h = tt
 mem-subs-tokens least (s ∷ ss) h =
-    tokens-append (mem_sub_tokens s) (all_tokens mem_sub_tokens ss)
+    tokens-append (mem_sub_tokens s) (flat_map mem_sub_tokens ss)
     (tt, (letter-atom 109 (decimal s.0) refl (decimal-atom s.0 (small s.0 h.1)), closed-tokens (mem_tokens s.1) (mem-tokens s.1 h.2))) (mem-subs-tokens (s.0 + 1) ss h.3)
 
 form-tokens : (f : Form) → AreTokens (form_tokens f ++ [])
-form-tokens Next = (text-there (codes "next") refl, tt)
-form-tokens Taken = (text-there (codes "taken") refl, tt)
+form-tokens Next = (word-atom (codes "next") refl, tt)
+form-tokens Taken = (word-atom (codes "taken") refl, tt)
 
 rule-tokens : (r : RuleTree) → IsRule r → AreTokens (rule_tokens r)
-rule-tokens (Axiom a w form) h = (text-there (codes "axiom") refl, (hex-atom a, (hex-atom w, form-tokens form)))
+rule-tokens (Axiom a w form) h = (word-atom (codes "axiom") refl, (hex-atom a, (hex-atom w, form-tokens form)))
 rule-tokens (Inst p words mems) h = (
-  text-there (codes "inst") refl,
+  word-atom (codes "inst") refl,
   (
     decimal-atom p h.0,
-    tokens-append (all_tokens word_sub_tokens words) (all_tokens mem_sub_tokens mems ++ []) (word-subs-tokens 0 words h.1)
-        (tokens-append (all_tokens mem_sub_tokens mems) [] (mem-subs-tokens 0 mems h.2) tt),
+    tokens-append (flat_map word_sub_tokens words) (flat_map mem_sub_tokens mems ++ []) (word-subs-tokens 0 words h.1)
+        (tokens-append (flat_map mem_sub_tokens mems) [] (mem-subs-tokens 0 mems h.2) tt),
   ),
 )
-rule-tokens (Frame p) h = (text-there (codes "frame") refl, (decimal-atom p h, tt))
-rule-tokens (Compose p q) h = (text-there (codes "compose") refl, (decimal-atom p h.0, (decimal-atom q h.1, tt)))
-rule-tokens (ExtendCode p) h = (text-there (codes "extend") refl, (decimal-atom p h, tt))
-rule-tokens (Strengthen p) h = (text-there (codes "strengthen") refl, (decimal-atom p h, tt))
-rule-tokens (Weaken p) h = (text-there (codes "weaken") refl, (decimal-atom p h, tt))
-rule-tokens (Discharge p) h = (text-there (codes "discharge") refl, (decimal-atom p h, tt))
-rule-tokens (UseExit def exit) h = (text-there (codes "use") refl, (decimal-atom def (small def h.0), (decimal-atom exit (small exit h.1), tt)))
+rule-tokens (Frame p) h = (word-atom (codes "frame") refl, (decimal-atom p h, tt))
+rule-tokens (Compose p q) h = (word-atom (codes "compose") refl, (decimal-atom p h.0, (decimal-atom q h.1, tt)))
+rule-tokens (ExtendCode p) h = (word-atom (codes "extend") refl, (decimal-atom p h, tt))
+rule-tokens (Strengthen p) h = (word-atom (codes "strengthen") refl, (decimal-atom p h, tt))
+rule-tokens (Weaken p) h = (word-atom (codes "weaken") refl, (decimal-atom p h, tt))
+rule-tokens (Discharge p) h = (word-atom (codes "discharge") refl, (decimal-atom p h, tt))
+rule-tokens (UseExit def exit) h = (word-atom (codes "use") refl, (decimal-atom def (small def h.0), (decimal-atom exit (small exit h.1), tt)))
 
 -- ---- lines and texts
 
 pub line-is-tokens : (own : List Range) (l : LineTree) → IsLine l → AreTokens (line_tokens own l)
 line-is-tokens own (States rule t) h = tokens-append (rule_tokens rule) (triple_tokens own t ++ Eol ∷ []) (rule-tokens rule h.0) (eol-tokens (triple_tokens own t) (triple-tokens own t h.1))
 line-is-tokens own (Loop def cited) h =
-    (text-there (codes "loop") refl, (decimal-atom def (small def h.0), eol-tokens (all_tokens number cited) (tokens-each number IsNumber (λ n k. (decimal-atom n k, tt)) cited h.1)))
-line-is-tokens own (Forget k) h = (text-there (codes "forget") refl, (decimal-atom k h, (tt, tt)))
+    (word-atom (codes "loop") refl, (decimal-atom def (small def h.0), eol-tokens (flat_map number cited) (tokens-each number IsNumber (λ n k. (decimal-atom n k, tt)) cited h.1)))
+line-is-tokens own (Forget k) h = (word-atom (codes "forget") refl, (decimal-atom k h, (tt, tt)))
 
 proof-is-tokens : (p : ProofTree) → IsProofIn version_1 p → AreTokens (proof_tokens p)
-proof-is-tokens p h = tokens-append (group_tokens p.group) (all_tokens (line_tokens p.group.code) p.lines) (group-tokens p.group h.group) (tokens-each (line_tokens p.group.code) IsLine (line-is-tokens p.group.code) p.lines h.lines)
+proof-is-tokens p h = tokens-append (group_tokens p.group) (flat_map (line_tokens p.group.code) p.lines) (group-tokens p.group h.group) (tokens-each (line_tokens p.group.code) IsLine (line-is-tokens p.group.code) p.lines h.lines)
 
-pub proofs-tokens : (ps : List ProofTree) → AreProofs ps → AreTokens (tokens_of_proofs_in version_1 ps)
+pub proofs-tokens : (ps : List ProofTree) → AreProofs ps → AreTokens (head_tokens ++ (flat_map proof_tokens ps ++ end_tokens))
 proofs-tokens ps h =
-    tokens-append head_tokens (all_tokens proof_tokens ps ++ end_tokens) title-tokens
-    (tokens-append (all_tokens proof_tokens ps) end_tokens (tokens-each proof_tokens (IsProofIn version_1) proof-is-tokens ps h) (text-there (codes "end") refl, (tt, tt)))
+    tokens-append head_tokens (flat_map proof_tokens ps ++ end_tokens) title-tokens
+    (tokens-append (flat_map proof_tokens ps) end_tokens (tokens-each proof_tokens (IsProofIn version_1) proof-is-tokens ps h) (word-atom (codes "end") refl, (tt, tt)))

@@ -1,7 +1,7 @@
 -- The definitions of a group: as many as follow, at least one, and not too many.
 use Rattle.std.proofs.Common.{◌≡◌, ℕ, zero, suc, ◌+◌, ◌-◌, ◌≤◌, Bool, true, false, cond, List, [], ◌∷◌, ◌++◌, length, Ok, Err, refl, sym, ap, subst, ◌∙◌, arith, append_assoc}
-use Rattle.std.specs.List.{AllByRecursion}
-use Rattle.mc_text.specs.Tokens.{Tok, Left, Right, Semi, Atom, Eol, Done, Stuck, all_tokens}
+use Rattle.std.specs.List.{AllByRecursion, flat_map}
+use Rattle.mc_text.specs.Tokens.{Tok, Left, Right, Semi, Atom, Eol, Done, Stuck}
 use Rattle.mc_text.specs.Reading.{Reader, ◌>>=◌, many, one, goes_on}
 use Rattle.mc_text.specs.inner.Reading.{with_prefix}
 use Rattle.mc_text.proofs.ReaderLaws.{Out, ok-is}
@@ -17,19 +17,19 @@ use Rattle.proof_text.proofs.Texts.{def-cover, def-begins}
 -- ---- as many items as there are
 
 module _ {X : Type 0} (go : Tok → Bool) (r : Reader X) (F : X → Type 0) (t : X → List Tok) (cr : Covers r F t) (heads : (x : X) → F x → (us : List Tok) → goes_on go (t x ++ us) ≡ true) where
-  pub many-again : (n : ℕ) (xs : List X) (us : List Tok) → AllByRecursion F xs → length xs ≤ n → goes_on go us ≡ false → many n go r (all_tokens t xs ++ us) ≡ Ok (xs, us)
+  pub many-again : (n : ℕ) (xs : List X) (us : List Tok) → AllByRecursion F xs → length xs ≤ n → goes_on go us ≡ false → many n go r (flat_map t xs ++ us) ≡ Ok (xs, us)
   many-again n [] us h le g = many-none go r n us g
   many-again zero (x ∷ xs) us h le g = absurd (omega (arith, le))
   many-again (suc n) (x ∷ xs) us h le g =
-      ap (many (suc n) go r) (append_assoc (t x) (all_tokens t xs) us)
-      ∙ many-one go r n (t x ++ (all_tokens t xs ++ us)) x (all_tokens t xs ++ us) (heads x h.0 (all_tokens t xs ++ us)) (cr.again x (all_tokens t xs ++ us) h.0)
+      ap (many (suc n) go r) (append_assoc (t x) (flat_map t xs) us)
+      ∙ many-one go r n (t x ++ (flat_map t xs ++ us)) x (flat_map t xs ++ us) (heads x h.0 (flat_map t xs ++ us)) (cr.again x (flat_map t xs ++ us) h.0)
       ∙ rw (many-again n xs us h.1 (omega (arith, le)) g) refl
 
   abbrev TakesAll : ℕ → Type 0
-  TakesAll n = (ts : List Tok) (xs : List X) (rest : List Tok) → many n go r ts ≡ Ok (xs, rest) → (ts ≡ all_tokens t xs ++ rest) × (AllByRecursion F xs × (length xs ≤ n))
+  TakesAll n = (ts : List Tok) (xs : List X) (rest : List Tok) → many n go r ts ≡ Ok (xs, rest) → (ts ≡ flat_map t xs ++ rest) × (AllByRecursion F xs × (length xs ≤ n))
 
   abbrev All : ℕ → List Tok → List X × List Tok → Type 0
-  All n ts p = (ts ≡ all_tokens t p.0 ++ p.1) × (AllByRecursion F p.0 × (length p.0 ≤ n))
+  All n ts p = (ts ≡ flat_map t p.0 ++ p.1) × (AllByRecursion F p.0 × (length p.0 ≤ n))
 
   abbrev item : Out X → (n : ℕ) → Out (List X)
   item q n = ◌>>=◌ {A = (X × List X) × List Tok} {B = List X × List Tok} (◌>>=◌ {A = X × List Tok} {B = (X × List X) × List Tok} q (λ p. ◌>>=◌ {A = List X × List Tok} {B = (X × List X) × List Tok} (many n go r p.1) (λ xs. Ok ((p.0, xs.0), xs.1)))) (λ p. Ok (p.0.0 ∷ p.0.1, p.1))
@@ -41,7 +41,7 @@ module _ {X : Type 0} (go : Tok → Bool) (r : Reader X) (F : X → Type 0) (t :
   took-more n ts us x (Ok xs) p is f e ih h =
       let k = ih us xs.0 xs.1 e in
       subst (All (suc n) ts) (ok-is {Y = List X} (x ∷ xs.0, xs.1) p h)
-      (is ∙ ap (λ (v : List Tok). t x ++ v) k.0 ∙ sym (append_assoc (t x) (all_tokens t xs.0) xs.1), ((f, k.1.0), omega (arith, k.1.1)))
+      (is ∙ ap (λ (v : List Tok). t x ++ v) k.0 ∙ sym (append_assoc (t x) (flat_map t xs.0) xs.1), ((f, k.1.0), omega (arith, k.1.1)))
   took-more n ts us x (Err bad) p is f e ih h = absurd cc
 
   took-one : (n : ℕ) (ts : List Tok) (q : Out X) (p : List X × List Tok) → r ts ≡ q → TakesAll n → item q n ≡ Ok p → All (suc n) ts p
@@ -58,7 +58,7 @@ module _ {X : Type 0} (go : Tok → Bool) (r : Reader X) (F : X → Type 0) (t :
   chosen n k ts true p ih h = took-one n (k ∷ ts) (r (k ∷ ts)) p refl ih h
   chosen n k ts false p ih h = took-none (suc n) (k ∷ ts) p h
 
-  pub many-takes : (n : ℕ) (ts : List Tok) (xs : List X) (rest : List Tok) → many n go r ts ≡ Ok (xs, rest) → (ts ≡ all_tokens t xs ++ rest) × (AllByRecursion F xs × (length xs ≤ n))
+  pub many-takes : (n : ℕ) (ts : List Tok) (xs : List X) (rest : List Tok) → many n go r ts ≡ Ok (xs, rest) → (ts ≡ flat_map t xs ++ rest) × (AllByRecursion F xs × (length xs ≤ n))
   unfolding many
   many-takes zero ts xs rest e = took-none zero ts (xs, rest) e
   many-takes (suc n) [] xs rest e = took-none (suc n) [] (xs, rest) e
@@ -105,13 +105,13 @@ pub record OwnDefs (ds : List DefTree) (us : List Tok) : Type 0 where
   pub few : length ds ≤ def_limit
   pub ended : goes_on is_def us ≡ false
 
-pub own-takes : (ts : List Tok) (ds : List DefTree) (us : List Tok) → own_defs ts ≡ Ok (ds, us) → (ts ≡ all_tokens def_tokens ds ++ us) × OwnDefs ds us
+pub own-takes : (ts : List Tok) (ds : List DefTree) (us : List Tok) → own_defs ts ≡ Ok (ds, us) → (ts ≡ flat_map def_tokens ds ++ us) × OwnDefs ds us
 own-takes ts ds us e =
     let k = own-ok (many def_limit is_def def_at ts) (ds, us) e in
     let h = many-takes is_def def_at IsDef def_tokens def-cover def-begins def_limit ts ds us k.0 in
     (h.0, record { fit = h.1.0; some = le-true 1 (length ds) k.1.1; few = h.1.1; ended = k.1.0 })
 
-pub own-again : (ds : List DefTree) (us : List Tok) → OwnDefs ds us → own_defs (all_tokens def_tokens ds ++ us) ≡ Ok (ds, us)
+pub own-again : (ds : List DefTree) (us : List Tok) → OwnDefs ds us → own_defs (flat_map def_tokens ds ++ us) ≡ Ok (ds, us)
 own-again ds us h =
     ap (λ (q : Defs). judge (guard q)) (many-again is_def def_at IsDef def_tokens def-cover def-begins def_limit ds us h.fit h.few h.ended)
     ∙ sent ds us false true h.ended (true-le 1 (length ds) h.some)

@@ -1,6 +1,6 @@
 -- A text is its head, its groups and its end, one behind the other.
-use Rattle.std.proofs.Common.{◌≡◌, ℕ, List, [], ◌∷◌, ◌++◌, codes, refl, sym, ap, ◌∙◌, append_assoc}
-use Rattle.mc_text.specs.Tokens.{Tok, Atom, Eol, spell, all_tokens}
+use Rattle.std.proofs.Common.{◌≡◌, ℕ, List, [], ◌∷◌, ◌++◌, codes, refl, sym, ap, ◌∙◌, append_assoc, flat_map}
+use Rattle.mc_text.specs.Tokens.{Tok, Atom, Eol, spell}
 use Rattle.mc_text.specs.declared.token.Before.TheVariants.{Start}
 use Rattle.mc_text.proofs.Lines.{EndsIn, IsLines}
 use Rattle.mc_text.proofs.Covers.{lines-append}
@@ -46,33 +46,33 @@ mutual
 
 def-whole : (d : DefTree) → IsLines (def_tokens d)
 def-whole d =
-    let parts : List (List Tok) = address d.entry ∷ all_tokens exit_tokens d.exits ∷ [] in
+    let parts : List (List Tok) = address d.entry ∷ flat_map exit_tokens d.exits ∷ [] in
     lines-append (line (codes "def") parts) (body_tokens d.body) (line-whole (codes "def") parts) (body-whole d.body)
 
-defs-whole : (ds : List DefTree) → IsLines (all_tokens def_tokens ds)
+defs-whole : (ds : List DefTree) → IsLines (flat_map def_tokens ds)
 defs-whole [] = tt
-defs-whole (d ∷ ds) = lines-append (def_tokens d) (all_tokens def_tokens ds) (def-whole d) (defs-whole ds)
+defs-whole (d ∷ ds) = lines-append (def_tokens d) (flat_map def_tokens ds) (def-whole d) (defs-whole ds)
 
 pub group-whole : (g : GroupTree) → IsLines (group_tokens g)
 group-whole g =
-    let regs : List (List Tok) = all_tokens number g.regs ∷ [] in
+    let regs : List (List Tok) = flat_map number g.regs ∷ [] in
     let mems : List (List Tok) = number g.mems ∷ [] in
-    let code : List (List Tok) = all_tokens range_tokens g.code ∷ [] in
-    let defs = all_tokens def_tokens g.defs in
+    let code : List (List Tok) = flat_map range_tokens g.code ∷ [] in
+    let defs = flat_map def_tokens g.defs in
     lines-append (line (codes "group") ((Atom g.name ∷ []) ∷ [])) (line (codes "regs") regs ++ (line (codes "mems") mems ++ (line (codes "code") code ++ defs))) refl
     (lines-append (line (codes "regs") regs) (line (codes "mems") mems ++ (line (codes "code") code ++ defs)) (line-whole (codes "regs") regs)
     (lines-append (line (codes "mems") mems) (line (codes "code") code ++ defs) (line-whole (codes "mems") mems)
     (lines-append (line (codes "code") code) defs (line-whole (codes "code") code) (defs-whole g.defs))))
 
-groups-apart : (gs : List GroupTree) → spell Start (all_tokens group_tokens gs ++ end_tokens) ≡ group_texts gs ++ spell Start end_tokens
+groups-apart : (gs : List GroupTree) → spell Start (flat_map group_tokens gs ++ end_tokens) ≡ group_texts gs ++ spell Start end_tokens
 groups-apart [] = refl
 groups-apart (g ∷ gs) =
-    ap (spell Start) (append_assoc (group_tokens g) (all_tokens group_tokens gs) end_tokens)
-    ∙ spell-after_lines (group_tokens g) (all_tokens group_tokens gs ++ end_tokens) (group-whole g)
+    ap (spell Start) (append_assoc (group_tokens g) (flat_map group_tokens gs) end_tokens)
+    ∙ spell-after_lines (group_tokens g) (flat_map group_tokens gs ++ end_tokens) (group-whole g)
     ∙ ap (λ (v : List ℕ). spell Start (group_tokens g) ++ v) (groups-apart gs)
     ∙ sym (append_assoc (spell Start (group_tokens g)) (group_texts gs) (spell Start end_tokens))
 
 pub text-apart : (gs : List GroupTree) → text_of gs ≡ spell Start head_tokens ++ (group_texts gs ++ spell Start end_tokens)
 text-apart gs =
-    spell-after_lines head_tokens (all_tokens group_tokens gs ++ end_tokens) refl
+    spell-after_lines head_tokens (flat_map group_tokens gs ++ end_tokens) refl
     ∙ ap (λ (v : List ℕ). spell Start head_tokens ++ v) (groups-apart gs)

@@ -1,8 +1,8 @@
 -- The tokens of bodies and ends, as they are printed.
 use Rattle.std.proofs.Common.{◌≡◌, ℕ, suc, List, [], ◌∷◌, ◌++◌, length, map, codes, refl, sym, ap, ◌∙◌, append_assoc}
-use Rattle.std.specs.Prelude.{Box}
+use Rattle.std.specs.Prelude.{Box, flat_map}
 use Rattle.std.specs.declared.alloc.Global.{Global}
-use Rattle.mc_text.specs.Tokens.{Tok, all_tokens}
+use Rattle.mc_text.specs.Tokens.{Tok}
 use Rattle.word_terms.specs.Tree.{cond_tree}
 use Rattle.word_terms.specs.declared.term.Cond.{Cond}
 use Rattle.term_text.specs.Spelling.{cond_tokens}
@@ -19,7 +19,7 @@ use Rattle.proof_text.specs.Spelling.{line, number, step_tokens, values_tokens, 
 abbrev pub arm_lines : Body → List Tok
 arm_lines b = line (codes "arm") [] ++ body_tokens (body_tree b)
 
-pub arms_printed : (bs : List Body) → arm_tokens (arm_trees bs) ≡ all_tokens arm_lines bs
+pub arms_printed : (bs : List Body) → arm_tokens (arm_trees bs) ≡ flat_map arm_lines bs
 arms_printed [] = refl
 arms_printed (b ∷ bs) = ap (λ (ts : List Tok). line (codes "arm") [] ++ (body_tokens (body_tree b) ++ ts)) (arms_printed bs)
 
@@ -27,11 +27,11 @@ arms-counted : (bs : List Body) → arm_count (arm_trees bs) ≡ length bs
 arms-counted [] = refl
 arms-counted (b ∷ bs) = ap suc (arms-counted bs)
 
-steps-printed : (ss : List StepTree) (rest : BodyTree) → body_tokens (with_steps ss rest) ≡ all_tokens step_tokens ss ++ body_tokens rest
+steps-printed : (ss : List StepTree) (rest : BodyTree) → body_tokens (with_steps ss rest) ≡ flat_map step_tokens ss ++ body_tokens rest
 steps-printed [] rest = refl
-steps-printed (s ∷ ss) rest = ap (λ (ts : List Tok). step_tokens s ++ ts) (steps-printed ss rest) ∙ sym (append_assoc (step_tokens s) (all_tokens step_tokens ss) (body_tokens rest))
+steps-printed (s ∷ ss) rest = ap (λ (ts : List Tok). step_tokens s ++ ts) (steps-printed ss rest) ∙ sym (append_assoc (step_tokens s) (flat_map step_tokens ss) (body_tokens rest))
 
-pub body_printed : (b : Body) → body_tokens (body_tree b) ≡ all_tokens step_tokens (map step_tree b.steps) ++ body_tokens (end_tree b.end)
+pub body_printed : (b : Body) → body_tokens (body_tree b) ≡ flat_map step_tokens (map step_tree b.steps) ++ body_tokens (end_tree b.end)
 body_printed b = ap body_tokens (view_body b) ∙ steps-printed (map step_tree b.steps) (end_tree b.end)
 
 pub branch_printed : (x : End) (c : Cond) (a b : Box Body Global) → x ≡ end.Branch c a b

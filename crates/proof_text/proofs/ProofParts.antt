@@ -1,7 +1,7 @@
 -- Proofs without lines are written as their groups alone, and a text of proofs is what is printed of it, one behind the other.
-use Rattle.std.proofs.Common.{◌≡◌, ℕ, List, [], ◌∷◌, ◌++◌, map, codes, refl, sym, ap, ◌∙◌, append_assoc}
+use Rattle.std.proofs.Common.{◌≡◌, ℕ, List, [], ◌∷◌, ◌++◌, map, codes, refl, sym, ap, ◌∙◌, append_assoc, flat_map}
 use Rattle.std.proofs.lemmas.List.{append-nil}
-use Rattle.mc_text.specs.Tokens.{Tok, Eol, spell, all_tokens}
+use Rattle.mc_text.specs.Tokens.{Tok, Eol, spell}
 use Rattle.mc_text.specs.declared.token.Before.TheVariants.{Start}
 use Rattle.mc_text.proofs.Lines.{EndsIn, IsLines}
 use Rattle.mc_text.proofs.Printed.{spell-after_lines}
@@ -18,10 +18,10 @@ use Rattle.proof_text.proofs.Parts.{ends-behind, line-whole, group-whole}
 
 -- ---- without lines
 
-bare-tokens : (gs : List GroupTree) → all_tokens proof_tokens (map bare gs) ≡ all_tokens group_tokens gs
+bare-tokens : (gs : List GroupTree) → flat_map proof_tokens (map bare gs) ≡ flat_map group_tokens gs
 bare-tokens [] = refl
 bare-tokens (g ∷ gs) =
-    ap (λ (ts : List Tok). ts ++ all_tokens proof_tokens (map bare gs)) (append-nil (group_tokens g))
+    ap (λ (ts : List Tok). ts ++ flat_map proof_tokens (map bare gs)) (append-nil (group_tokens g))
     ∙ ap (λ (ts : List Tok). group_tokens g ++ ts) (bare-tokens gs)
 
 pub bare-text : (v : Version) (gs : List GroupTree) → text_of_proofs_in v (map bare gs) ≡ text_in v gs
@@ -42,7 +42,7 @@ keyed-whole word parts rest h = ends-behind _ (joined parts []) rest h
 
 rule-whole : (rule : RuleTree) (rest : List Tok) → ((u : Tok) → EndsIn u rest) → IsLines (rule_tokens rule ++ rest)
 rule-whole (Axiom a word form) = keyed-whole (codes "axiom") (address a ∷ address word ∷ form_tokens form ∷ [])
-rule-whole (Inst p words mems) = keyed-whole (codes "inst") (number p ∷ all_tokens word_sub_tokens words ∷ all_tokens mem_sub_tokens mems ∷ [])
+rule-whole (Inst p words mems) = keyed-whole (codes "inst") (number p ∷ flat_map word_sub_tokens words ∷ flat_map mem_sub_tokens mems ∷ [])
 rule-whole (Frame p) = keyed-whole (codes "frame") (number p ∷ [])
 rule-whole (Compose p q) = keyed-whole (codes "compose") (number p ∷ number q ∷ [])
 rule-whole (ExtendCode p) = keyed-whole (codes "extend") (number p ∷ [])
@@ -53,35 +53,35 @@ rule-whole (UseExit def exit) = keyed-whole (codes "use") (number def ∷ number
 
 pub whole-line : (own : List Range) (l : LineTree) → IsLines (line_tokens own l)
 whole-line own (States rule t) = rule-whole rule (triple_tokens own t ++ Eol ∷ []) (λ u. ends-behind u (triple_tokens own t) (Eol ∷ []) (λ _. refl))
-whole-line own (Loop def cited) = line-whole (codes "loop") (number def ∷ all_tokens number cited ∷ [])
+whole-line own (Loop def cited) = line-whole (codes "loop") (number def ∷ flat_map number cited ∷ [])
 whole-line own (Forget k) = line-whole (codes "forget") (number k ∷ [])
 
-lines-apart : (own : List Range) (ls : List LineTree) (rest : List Tok) → spell Start (all_tokens (line_tokens own) ls ++ rest) ≡ line_texts own ls ++ spell Start rest
+lines-apart : (own : List Range) (ls : List LineTree) (rest : List Tok) → spell Start (flat_map (line_tokens own) ls ++ rest) ≡ line_texts own ls ++ spell Start rest
 lines-apart own [] rest = refl
 lines-apart own (l ∷ ls) rest =
-    ap (spell Start) (append_assoc (line_tokens own l) (all_tokens (line_tokens own) ls) rest)
-    ∙ spell-after_lines (line_tokens own l) (all_tokens (line_tokens own) ls ++ rest) (whole-line own l)
+    ap (spell Start) (append_assoc (line_tokens own l) (flat_map (line_tokens own) ls) rest)
+    ∙ spell-after_lines (line_tokens own l) (flat_map (line_tokens own) ls ++ rest) (whole-line own l)
     ∙ ap (λ (v : List ℕ). spell Start (line_tokens own l) ++ v) (lines-apart own ls rest)
     ∙ sym (append_assoc (spell Start (line_tokens own l)) (line_texts own ls) (spell Start rest))
 
 proof-apart : (p : ProofTree) (rest : List Tok) → spell Start (proof_tokens p ++ rest) ≡ (spell Start (group_tokens p.group) ++ line_texts p.group.code p.lines) ++ spell Start rest
 proof-apart p rest =
-    let lines = all_tokens (line_tokens p.group.code) p.lines in
+    let lines = flat_map (line_tokens p.group.code) p.lines in
     ap (spell Start) (append_assoc (group_tokens p.group) lines rest)
     ∙ spell-after_lines (group_tokens p.group) (lines ++ rest) (group-whole p.group)
     ∙ ap (λ (v : List ℕ). spell Start (group_tokens p.group) ++ v) (lines-apart p.group.code p.lines rest)
     ∙ sym (append_assoc (spell Start (group_tokens p.group)) (line_texts p.group.code p.lines) (spell Start rest))
 
-proofs-apart : (ps : List ProofTree) → spell Start (all_tokens proof_tokens ps ++ end_tokens) ≡ proof_texts_of ps ++ spell Start end_tokens
+proofs-apart : (ps : List ProofTree) → spell Start (flat_map proof_tokens ps ++ end_tokens) ≡ proof_texts_of ps ++ spell Start end_tokens
 proofs-apart [] = refl
 proofs-apart (p ∷ ps) =
     let own = spell Start (group_tokens p.group) ++ line_texts p.group.code p.lines in
-    ap (spell Start) (append_assoc (proof_tokens p) (all_tokens proof_tokens ps) end_tokens)
-    ∙ proof-apart p (all_tokens proof_tokens ps ++ end_tokens)
+    ap (spell Start) (append_assoc (proof_tokens p) (flat_map proof_tokens ps) end_tokens)
+    ∙ proof-apart p (flat_map proof_tokens ps ++ end_tokens)
     ∙ ap (λ (v : List ℕ). own ++ v) (proofs-apart ps)
     ∙ sym (append_assoc own (proof_texts_of ps) (spell Start end_tokens))
 
 pub proof-text-apart : (ps : List ProofTree) → text_of_proofs ps ≡ spell Start head_tokens ++ (proof_texts_of ps ++ spell Start end_tokens)
 proof-text-apart ps =
-    spell-after_lines head_tokens (all_tokens proof_tokens ps ++ end_tokens) refl
+    spell-after_lines head_tokens (flat_map proof_tokens ps ++ end_tokens) refl
     ∙ ap (λ (v : List ℕ). spell Start head_tokens ++ v) (proofs-apart ps)

@@ -1,7 +1,7 @@
 -- Groups with the lines of their proofs are read as they are spelled, and the lines before a fault can be completed.
 use Rattle.std.proofs.Common.{◌≡◌, ℕ, zero, suc, ◌<◌, ◌≤◌, true, false, List, [], ◌∷◌, ◌++◌, map, length, codes, Ok, Err, refl, sym, ap, subst, ◌∙◌, arith, append_assoc, inl, inr, ◌⊎◌}
-use Rattle.std.specs.List.{AllByRecursion}
-use Rattle.mc_text.specs.Tokens.{Tok, Eol, Done, all_tokens}
+use Rattle.std.specs.List.{AllByRecursion, flat_map}
+use Rattle.mc_text.specs.Tokens.{Tok, Eol, Done}
 use Rattle.mc_text.specs.Reading.{Reader, ◌>>=◌, pair, with, made, goes_on, refused}
 use Rattle.mc_text.specs.Scanning.{lex, At}
 use Rattle.mc_text.specs.declared.token.Before.TheVariants.{Start}
@@ -17,11 +17,11 @@ use Rattle.rv_words.specs.declared.range.Range.{Range}
 use Rattle.tailrec_lang.specs.Tree.{DefTree, GroupTree}
 use Rattle.proof_text.specs.Limits.{def_limit, IsDef, AreGroups}
 use Rattle.proof_text.specs.Line.{Axiom, Inst, Frame, Compose, ExtendCode, Strengthen, Weaken, Discharge, UseExit, LineTree, States, Loop, Forget, ProofTree}
-use Rattle.proof_text.specs.Spelling.{def_tokens, end_tokens, text_of}
+use Rattle.proof_text.specs.Spelling.{def_tokens, head_tokens, end_tokens, text_of}
 use Rattle.proof_text.specs.LineSpelling.{line_tokens}
 use Rattle.proof_text.specs.LineLimits.{IsLine}
 use Rattle.proof_text.specs.Version.{version_1}
-use Rattle.proof_text.specs.Proofs.{proof_tokens, tokens_of_proofs_in, IsProofIn, AreProofs, bare, text_of_proofs}
+use Rattle.proof_text.specs.Proofs.{proof_tokens, IsProofIn, AreProofs, bare, text_of_proofs}
 use Rattle.proof_text.specs.inner.Reading.{Head, def_at, is_def, head_at, group_of, more_defs, defs_at, title_row}
 use Rattle.proof_text.specs.inner.LineReading.{line_at, begins_line, lines_at, proof_of, proofs_at, all_proofs, proofs_text_at}
 use Rattle.proof_text.proofs.StepLaws.{shrinks, eol-law}
@@ -77,7 +77,7 @@ module _ (own : List Range) where
 -- ---- proofs, one after the other, and the end
 
 abbrev pub rest_tokens : List ProofTree → List Tok
-rest_tokens ps = all_tokens proof_tokens ps ++ end_tokens
+rest_tokens ps = flat_map proof_tokens ps ++ end_tokens
 
 abbrev AtMost : ℕ → List ProofTree → Type 0
 AtMost n ps = AreProofs ps × (length ps ≤ n)
@@ -90,7 +90,7 @@ abbrev TailFits : ℕ → Tail → Type 0
 TailFits n p = AllByRecursion IsLine p.0 × AtMost n p.1
 
 abbrev tail_tokens : Head → Tail → List Tok
-tail_tokens h p = all_tokens (line_tokens h.code) p.0 ++ rest_tokens p.1
+tail_tokens h p = flat_map (line_tokens h.code) p.0 ++ rest_tokens p.1
 
 abbrev pub tail_at : Head → ℕ → Reader Tail
 tail_at h n = pair (lines_at h.code) (proofs_at n)
@@ -102,12 +102,12 @@ rest-quiet n (p ∷ ps) h us = refl
 tail-quiet : (h : Head) (n : ℕ) (p : Tail) → TailFits n p → (us : List Tok) → goes_on is_def (tail_tokens h p ++ us) ≡ false
 tail-quiet h n p f us = by p.0 p.1
   where
-    by : (ls : List LineTree) (ps : List ProofTree) → goes_on is_def ((all_tokens (line_tokens h.code) ls ++ rest_tokens ps) ++ us) ≡ false
+    by : (ls : List LineTree) (ps : List ProofTree) → goes_on is_def ((flat_map (line_tokens h.code) ls ++ rest_tokens ps) ++ us) ≡ false
     by [] [] = refl
     by [] (q ∷ ps) = refl
     by (l ∷ ls) ps =
         let line = line_tokens h.code l in
-        let lines = all_tokens (line_tokens h.code) ls in
+        let lines = flat_map (line_tokens h.code) ls in
         ap (λ (ts : List Tok). goes_on is_def (ts ++ us)) (append_assoc line lines (rest_tokens ps))
         ∙ ap (goes_on is_def) (append_assoc line (lines ++ rest_tokens ps) us)
         ∙ no-def h.code l ((lines ++ rest_tokens ps) ++ us)
@@ -129,7 +129,7 @@ IsSome n (p ∷ ps) = IsProofIn version_1 p × AtMost n ps
 
 abbrev rest_row : List ProofTree → List Tok
 rest_row [] = Eol ∷ []
-rest_row (p ∷ ps) = ((group_row p.group ++ all_tokens (line_tokens p.group.code) p.lines) ++ all_tokens proof_tokens ps) ++ end_tokens
+rest_row (p ∷ ps) = ((group_row p.group ++ flat_map (line_tokens p.group.code) p.lines) ++ flat_map proof_tokens ps) ++ end_tokens
 
 abbrev pub end_row : Reader (List ProofTree)
 end_row = made (λ (_ : Unit {0}). []) eol
@@ -155,7 +155,7 @@ abbrev BehindFits : ℕ → Behind → Type 0
 BehindFits n p = IsDef p.0 × ((AllByRecursion IsDef p.1.0 × (length p.1.0 ≤ more_defs)) × TailFits n p.1.1)
 
 abbrev behind_tokens : Head → Behind → List Tok
-behind_tokens h p = def_tokens p.0 ++ (all_tokens def_tokens p.1.0 ++ tail_tokens h p.1.1)
+behind_tokens h p = def_tokens p.0 ++ (flat_map def_tokens p.1.0 ++ tail_tokens h p.1.1)
 
 abbrev pub behind_at : Head → ℕ → Reader Behind
 behind_at h n = pair def_at (pair defs_at (tail_at h n))
@@ -170,9 +170,9 @@ parts-same : (x : Parts) → rest_row (make x) ≡ parts_tokens x
 parts-same x =
     let head : List Tok = lines_of_head x.0 in
     let def : List Tok = def_tokens x.1.0 in
-    let defs : List Tok = all_tokens def_tokens x.1.1.0 in
-    let lines : List Tok = all_tokens (line_tokens x.0.code) x.1.1.1.0 in
-    let proofs : List Tok = all_tokens proof_tokens x.1.1.1.1 in
+    let defs : List Tok = flat_map def_tokens x.1.1.0 in
+    let lines : List Tok = flat_map (line_tokens x.0.code) x.1.1.1.0 in
+    let proofs : List Tok = flat_map proof_tokens x.1.1.1.1 in
     let group : List Tok = group_row (group_of x.0 (x.1.0 ∷ x.1.1.0)) in
     append_assoc (group ++ lines) proofs end_tokens
     ∙ append_assoc group lines (proofs ++ end_tokens)
@@ -209,7 +209,7 @@ proof_reader n = made make (with head_at (λ h. behind_at h n))
 proof-parts : (n : ℕ) → Covers (proofs_at n) (AtMost n) rest_tokens → Covers (with head_at (λ h. behind_at h n)) (PartsFit n) parts_tokens
 proof-parts n inner =
     covers-with head_at HeadFits lines_of_head head-cover (λ h. behind_at h n) (λ h. BehindFits n) behind_tokens (λ h f.
-    covers-with def_at IsDef def_tokens def-cover (λ _. pair defs_at (tail_at h n)) (λ _ p. (AllByRecursion IsDef p.0 × (length p.0 ≤ more_defs)) × TailFits n p.1) (λ _ p. all_tokens def_tokens p.0 ++ tail_tokens h p.1) (λ _ _.
+    covers-with def_at IsDef def_tokens def-cover (λ _. pair defs_at (tail_at h n)) (λ _ p. (AllByRecursion IsDef p.0 × (length p.0 ≤ more_defs)) × TailFits n p.1) (λ _ p. flat_map def_tokens p.0 ++ tail_tokens h p.1) (λ _ _.
     covers-bounded is_def def_at IsDef def_tokens def-cover def-begins (tail_at h n) (TailFits n) (tail_tokens h) (tail-cover h f n inner) (tail-quiet h n) more_defs))
 
 proof-cover : (n : ℕ) → Covers (proofs_at n) (AtMost n) rest_tokens → Covers (proof_reader n) (IsSome n) rest_row
@@ -289,7 +289,7 @@ abbrev Title : Type 0
 Title = Unit {0} × (Unit {0} × Unit {0})
 
 abbrev pub proofs_tokens : List ProofTree → List Tok
-proofs_tokens ps = tokens_of_proofs_in version_1 ps
+proofs_tokens ps = head_tokens ++ (flat_map proof_tokens ps ++ end_tokens)
 
 -- a whole text is read as it is spelled, and where reading stops the lines before begin a text
 pub proof-text-law : Covers proofs_text_at AreProofs proofs_tokens

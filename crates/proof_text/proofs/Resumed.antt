@@ -1,10 +1,10 @@
 -- Reading goes on behind groups and lines that were read, one call for each.
 use Rattle.std.proofs.Common.{◌≡◌, ℕ, suc, ◌≤◌, Bool, true, false, true≢false, cond, List, [], ◌∷◌, ◌++◌, length, codes, Option, Some, None, Ok, Err, refl, sym, ap, subst, ◌∙◌, arith, append_assoc, length-append, inl, inr}
 use Rattle.std.specs.Prelude.{◌&&◌, ◌||◌, not}
-use Rattle.std.specs.List.{AllByRecursion}
+use Rattle.std.specs.List.{AllByRecursion, flat_map}
 use Rattle.std.specs.Str.{bytes_eq}
 use Rattle.std.proofs.lemmas.Slice.Eq.{bytes_eq-Decides}
-use Rattle.mc_text.specs.Tokens.{Tok, Left, Right, Semi, Atom, Eol, Done, Stuck, all_tokens}
+use Rattle.mc_text.specs.Tokens.{Tok, Left, Right, Semi, Atom, Eol, Done, Stuck}
 use Rattle.mc_text.specs.Reading.{Reader, ◌>>=◌, pair, with, made, many, one, goes_on, refused}
 use Rattle.mc_text.specs.inner.Reading.{eol, keyed, with_prefix}
 use Rattle.mc_text.proofs.ReaderLaws.{Out, ok-rest, ok-value, err-is, IsElse, keyed-cases, keyed-hit, keyed-miss}
@@ -234,7 +234,7 @@ group-takes ts g us h =
     let a = head-cover.takes ts m.0.0 p.0 p.1 in
     let b = own-takes p.0 m.0.1 us p.2 in
     subst (λ (z : GroupTree). OneGroup (Atom (codes "group") ∷ ts) z us) m.2 (record {
-      is = ap (λ (v : List Tok). Atom (codes "group") ∷ v) (a.0 ∙ ap (λ (v : List Tok). lines_of_head m.0.0 ++ v) b.0 ∙ sym (append_assoc (lines_of_head m.0.0) (all_tokens def_tokens m.0.1) us) ∙ ap (λ (v : List Tok). v ++ us) (sym (group-split m.0.0 m.0.1)));
+      is = ap (λ (v : List Tok). Atom (codes "group") ∷ v) (a.0 ∙ ap (λ (v : List Tok). lines_of_head m.0.0 ++ v) b.0 ∙ sym (append_assoc (lines_of_head m.0.0) (flat_map def_tokens m.0.1) us) ∙ ap (λ (v : List Tok). v ++ us) (sym (group-split m.0.0 m.0.1)));
       fits = record { name = a.1.name; registers = a.1.registers; memories = a.1.memories; code = a.1.code.0; bytes = a.1.code.1; defs = b.1.fit; some = b.1.some; few = b.1.few };
       ended = b.1.ended;
     })
@@ -261,14 +261,14 @@ next-takes ts g us h =
 
 -- ---- and it is read again
 
-group-parts : (g : GroupTree) (us : List Tok) → group_row g ++ us ≡ lines_of_head (head_of g) ++ (all_tokens def_tokens g.defs ++ us)
-group-parts g us = ap (λ (v : List Tok). v ++ us) (group-split (head_of g) g.defs) ∙ append_assoc (lines_of_head (head_of g)) (all_tokens def_tokens g.defs) us
+group-parts : (g : GroupTree) (us : List Tok) → group_row g ++ us ≡ lines_of_head (head_of g) ++ (flat_map def_tokens g.defs ++ us)
+group-parts g us = ap (λ (v : List Tok). v ++ us) (group-split (head_of g) g.defs) ∙ append_assoc (lines_of_head (head_of g)) (flat_map def_tokens g.defs) us
 
 group-again : (g : GroupTree) (us : List Tok) → IsGroup g → goes_on is_def us ≡ false → group_at (group_row g ++ us) ≡ Ok (g, us)
 unfolding group_at
 group-again g us h e =
     ap (made (λ (x : Head × List DefTree). group_of x.0 x.1) (pair head_at own_defs)) (group-parts g us)
-    ∙ rw (head-cover.again (head_of g) (all_tokens def_tokens g.defs ++ us) (head-fits g h), own-again g.defs us (record { fit = h.defs; some = h.some; few = h.few; ended = e })) refl
+    ∙ rw (head-cover.again (head_of g) (flat_map def_tokens g.defs ++ us) (head-fits g h), own-again g.defs us (record { fit = h.defs; some = h.some; few = h.few; ended = e })) refl
 
 as-some : (vs : List Tok) → next_at (Atom (codes "group") ∷ vs) ≡ some_group vs
 unfolding next_at
@@ -297,9 +297,9 @@ put-is h d ds (Ok p) = refl
 put-is h d ds (Err bad) = refl
 
 reader-again : (n : ℕ) (h : Head) (d : DefTree) (ds : List DefTree) (us : List Tok) → HeadFits h → IsDef d → AllByRecursion IsDef ds → length ds ≤ more_defs → goes_on is_def us ≡ false
-    → proof_reader n (lines_of_head h ++ ((def_tokens d ++ all_tokens def_tokens ds) ++ us)) ≡ opened (group_of h (d ∷ ds)) (tail_at h n us)
+    → proof_reader n (lines_of_head h ++ ((def_tokens d ++ flat_map def_tokens ds) ++ us)) ≡ opened (group_of h (d ∷ ds)) (tail_at h n us)
 reader-again n h d ds us fh fd fds le e =
-    rw (head-cover.again h ((def_tokens d ++ all_tokens def_tokens ds) ++ us) fh, append_assoc (def_tokens d) (all_tokens def_tokens ds) us, def-cover.again d (all_tokens def_tokens ds ++ us) fd, many-again is_def def_at IsDef def_tokens def-cover def-begins more_defs ds us fds le e)
+    rw (head-cover.again h ((def_tokens d ++ flat_map def_tokens ds) ++ us) fh, append_assoc (def_tokens d) (flat_map def_tokens ds) us, def-cover.again d (flat_map def_tokens ds ++ us) fd, many-again is_def def_at IsDef def_tokens def-cover def-begins more_defs ds us fds le e)
     (put-is h d ds (tail_at h n us))
 
 as-proof : (n : ℕ) (vs : List Tok) → proofs_at (suc n) (Atom (codes "group") ∷ vs) ≡ proof_reader n vs
@@ -312,7 +312,7 @@ one-more n g [] us is h e = absurd (let len : length g.defs ≡ 0 = ap length is
 one-more n g (d ∷ ds) us is h e =
     let fits : AllByRecursion IsDef (d ∷ ds) = subst (AllByRecursion IsDef) is h.defs in
     let len : length g.defs ≡ suc (length ds) = ap length is in
-    as-proof n (group_row g ++ us) ∙ ap (proof_reader n) (group-parts g us ∙ ap (λ (v : List DefTree). lines_of_head (head_of g) ++ (all_tokens def_tokens v ++ us)) is)
+    as-proof n (group_row g ++ us) ∙ ap (proof_reader n) (group-parts g us ∙ ap (λ (v : List DefTree). lines_of_head (head_of g) ++ (flat_map def_tokens v ++ us)) is)
     ∙ reader-again n (head_of g) d ds us (head-fits g h) fits.0 fits.1 (omega (arith, h.few, len)) e
     ∙ ap (λ (v : List DefTree). opened (group_of (head_of g) v) (tail_at (head_of g) n us)) (sym is)
 

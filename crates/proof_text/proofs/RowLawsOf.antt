@@ -1,6 +1,6 @@
 -- Each row of a text has the law of rows.
-use Rattle.std.proofs.Common.{ℕ, ◌^◌, List, [], ◌∷◌, ◌++◌, codes, refl, arith, ◌+◌, ◌≤◌, ◌<◌, eqb, cond, Bool, true, false}
-use Rattle.mc_text.specs.Tokens.{Tok, Atom, Eol, all_tokens}
+use Rattle.std.proofs.Common.{ℕ, ◌^◌, List, [], ◌∷◌, ◌++◌, codes, refl, arith, ◌+◌, ◌≤◌, ◌<◌, eqb, cond, Bool, true, false, flat_map}
+use Rattle.mc_text.specs.Tokens.{Tok, Atom, Eol}
 use Rattle.mc_text.specs.Reading.{Reader, pair, one, atom_of}
 use Rattle.mc_text.specs.inner.Reading.{eol, number_at, word}
 use Rattle.mc_text.proofs.ReaderLaws.{Reads, StaysFlat, Reads-pair}
@@ -80,7 +80,7 @@ small-bound room = by (eqb room 0)
 pub def-row : ReadsRows def_start
 def-row = row-reads def_start _ _
     (Reads-pair (word (codes "def")) Always (λ _. Atom (codes "def") ∷ []) (name-law (codes "def")) (λ x h. atom-flat (codes "def")) _ _ _ def-row-law)
-    (λ p h. (Atom (codes "def") ∷ (address p.1.0 ++ all_tokens exit_tokens p.1.1.0), refl))
+    (λ p h. (Atom (codes "def") ∷ (address p.1.0 ++ flat_map exit_tokens p.1.1.0), refl))
 
 pub first-row : ReadsRows first_row
 unfolding first_row
@@ -89,13 +89,13 @@ first-row =
     (row-keyed _ _ _ (row-made _ _ (row-of (one (atom_of name_of)) IsName (λ a. Atom a ∷ []) group-name-law (λ a h. atom-flat a))) row-refused)
 
 pub regs-row : ReadsRows regs_row
-regs-row = row-reads regs_row _ _ regs-law (λ p h. (Atom (codes "regs") ∷ all_tokens number p.1.0, refl))
+regs-row = row-reads regs_row _ _ regs-law (λ p h. (Atom (codes "regs") ∷ flat_map number p.1.0, refl))
 
 pub mems-row : ReadsRows mems_row
 mems-row = row-reads mems_row _ _ mems-law (λ p h. (Atom (codes "mems") ∷ number p.1.0, refl))
 
 pub code-row : ReadsRows code_row
-code-row = row-reads code_row _ _ code-law (λ p h. (Atom (codes "code") ∷ all_tokens range_tokens p.1.0, refl))
+code-row = row-reads code_row _ _ code-law (λ p h. (Atom (codes "code") ∷ flat_map range_tokens p.1.0, refl))
 
 pub title-row : ReadsRows title_row
 title-row = row-reads title_row _ _

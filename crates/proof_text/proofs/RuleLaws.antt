@@ -2,10 +2,10 @@
 use Rattle.std.proofs.Common.{◌≡◌, ℕ, ◌+◌, ◌^◌, ◌<◌, Bool, true, false, cond, ltb, List, [], ◌∷◌, ◌++◌, length, codes, Option, Some, None, refl, sym, ap, subst, ◌∙◌, arith, append_assoc}
 use Rattle.std.specs.Prelude.{nat_le, option_map}
 use Rattle.std.specs.Fmt.{decimal}
-use Rattle.std.specs.List.{AllByRecursion}
+use Rattle.std.specs.List.{AllByRecursion, flat_map}
 use Rattle.std.proofs.lemmas.Bool.{and_parts, and_from, ltb-true, lt-ltb}
 use Rattle.mc_text.specs.Number.{IsWord as IsNumber, hex, hex_of, number_of}
-use Rattle.mc_text.specs.Tokens.{Tok, Left, Right, Atom, all_tokens}
+use Rattle.mc_text.specs.Tokens.{Tok, Left, Right, Atom}
 use Rattle.mc_text.specs.Reading.{pair, one, atom_of, below, star, goes_on, is_open, is_right, address_at}
 use Rattle.mc_text.proofs.ReaderLaws.{Reads, IsFlat, flat-append, Reads-one, Reads-pair}
 use Rattle.mc_text.proofs.Star.{Shrinks}
@@ -29,7 +29,8 @@ use Rattle.proof_text.specs.declared.line_heads.SubHead.TheVariants as sub_head
 use Rattle.proof_text.specs.Line.{RuleTree, Axiom, Inst, Frame, Compose, ExtendCode, Strengthen, Weaken, Discharge, UseExit}
 use Rattle.proof_text.specs.Spelling.{number, address}
 use Rattle.proof_text.specs.LineSpelling.{form_tokens, word_sub_tokens, mem_sub_tokens, rule_tokens}
-use Rattle.proof_text.specs.LineLimits.{index_limit, AreRisingFrom, IsRule}
+use Rattle.proof_text.specs.Limits.{index_limit}
+use Rattle.proof_text.specs.LineLimits.{AreRisingFrom, IsRule}
 use Rattle.proof_text.specs.inner.LineReading.{index_at, theorem_at, instruction_of, SubTree, ForWord, ForMem, sub_head_of, sub_parts, sub_at, mems_rise, subs_rise, words_of, mems_of, rule_name, rule_heads, rule_head_of, axiom_form_name, axiom_forms, axiom_form_of, facts_word, cited_at, inst_parts, rule_parts, rule_at}
 use Rattle.proof_text.proofs.StepLaws.{shrinks, atom-flat, name-law, address-law}
 use Rattle.proof_text.proofs.HeadLaws.{flat-each, hex-there, le-true, true-le}
@@ -171,19 +172,19 @@ mems-none least [] e = refl
 mems-none least (ForWord i t ∷ ss) e = absurd cc
 mems-none least (ForMem i m ∷ ss) e = mems-none (i + 1) ss (and_parts (nat_le least i) (mems_rise (i + 1) ss) e).1
 
-mems-tokens : (least : ℕ) (ss : List SubTree) → mems_rise least ss ≡ true → all_tokens sub_tokens ss ≡ all_tokens mem_sub_tokens (mems_of ss)
+mems-tokens : (least : ℕ) (ss : List SubTree) → mems_rise least ss ≡ true → flat_map sub_tokens ss ≡ flat_map mem_sub_tokens (mems_of ss)
 mems-tokens least [] e = refl
 mems-tokens least (ForWord i t ∷ ss) e = absurd cc
 mems-tokens least (ForMem i m ∷ ss) e = ap (λ (ts : List Tok). mem_sub_tokens (i, m) ++ ts) (mems-tokens (i + 1) ss (and_parts (nat_le least i) (mems_rise (i + 1) ss) e).1)
 
-subs-tokens : (least : ℕ) (ss : List SubTree) → subs_rise least ss ≡ true → all_tokens sub_tokens ss ≡ all_tokens word_sub_tokens (words_of ss) ++ all_tokens mem_sub_tokens (mems_of ss)
+subs-tokens : (least : ℕ) (ss : List SubTree) → subs_rise least ss ≡ true → flat_map sub_tokens ss ≡ flat_map word_sub_tokens (words_of ss) ++ flat_map mem_sub_tokens (mems_of ss)
 subs-tokens least [] e = refl
 subs-tokens least (ForWord i t ∷ ss) e =
     ap (λ (ts : List Tok). word_sub_tokens (i, t) ++ ts) (subs-tokens (i + 1) ss (and_parts (nat_le least i) (subs_rise (i + 1) ss) e).1)
-    ∙ sym (append_assoc (word_sub_tokens (i, t)) (all_tokens word_sub_tokens (words_of ss)) (all_tokens mem_sub_tokens (mems_of ss)))
+    ∙ sym (append_assoc (word_sub_tokens (i, t)) (flat_map word_sub_tokens (words_of ss)) (flat_map mem_sub_tokens (mems_of ss)))
 subs-tokens least (ForMem i m ∷ ss) e =
     mems-tokens 0 (ForMem i m ∷ ss) e
-    ∙ ap (λ ws. all_tokens word_sub_tokens ws ++ all_tokens mem_sub_tokens (mems_of (ForMem i m ∷ ss))) (sym (mems-none 0 (ForMem i m ∷ ss) e))
+    ∙ ap (λ ws. flat_map word_sub_tokens ws ++ flat_map mem_sub_tokens (mems_of (ForMem i m ∷ ss))) (sym (mems-none 0 (ForMem i m ∷ ss) e))
 
 mems-fit : (least : ℕ) (ss : List SubTree) → AllByRecursion IsSub ss → mems_rise least ss ≡ true → AreRisingFrom IsMem least (mems_of ss)
 mems-fit least [] h e = tt
@@ -277,7 +278,7 @@ abbrev LooseInst : InstParts → Type 0
 LooseInst x = IsNumber x.0 × (AllByRecursion IsSub x.1.0 × Always x.1.1)
 
 abbrev inst_tokens : InstParts → List Tok
-inst_tokens x = number x.0 ++ (all_tokens sub_tokens x.1.0 ++ facts)
+inst_tokens x = number x.0 ++ (flat_map sub_tokens x.1.0 ++ facts)
 
 loose-inst-law : Reads (pair theorem_at (pair (star is_open sub_at) facts_word)) LooseInst inst_tokens
 loose-inst-law =
@@ -286,8 +287,8 @@ loose-inst-law =
 
 inst-tokens-flat : (x : InstParts) → LooseInst x → IsFlat (inst_tokens x)
 inst-tokens-flat x h =
-    flat-append (number x.0) (all_tokens sub_tokens x.1.0 ++ facts) (atom-flat (decimal x.0))
-    (flat-append (all_tokens sub_tokens x.1.0) facts (flat-each IsSub sub_tokens (λ s f. sub-flat s) x.1.0 h.1.0) (atom-flat (codes "facts")))
+    flat-append (number x.0) (flat_map sub_tokens x.1.0 ++ facts) (atom-flat (decimal x.0))
+    (flat-append (flat_map sub_tokens x.1.0) facts (flat-each IsSub sub_tokens (λ s f. sub-flat s) x.1.0 h.1.0) (atom-flat (codes "facts")))
 
 abbrev rises : InstParts → Bool
 rises x = subs_rise 0 x.1.0
@@ -360,7 +361,7 @@ RuleOf rule_head.UseExit = Image use_rule FitUse
 -- the tokens behind a rule's name
 abbrev rule_rest : RuleTree → List Tok
 rule_rest (Axiom a w form) = address a ++ (address w ++ (Atom (axiom_form_name form) ∷ facts))
-rule_rest (Inst p words mems) = number p ++ (all_tokens word_sub_tokens words ++ (all_tokens mem_sub_tokens mems ++ facts))
+rule_rest (Inst p words mems) = number p ++ (flat_map word_sub_tokens words ++ (flat_map mem_sub_tokens mems ++ facts))
 rule_rest (Frame p) = number p ++ facts
 rule_rest (Compose p q) = number p ++ (number q ++ facts)
 rule_rest (ExtendCode p) = number p ++ facts
@@ -371,8 +372,8 @@ rule_rest (UseExit def exit) = number def ++ (number exit ++ facts)
 
 inst-spelled : (x : InstParts) → FitInst x → rule_rest (inst_rule x) ≡ inst_tokens x
 inst-spelled x h =
-    let ws = all_tokens word_sub_tokens (words_of x.1.0) in
-    let ms = all_tokens mem_sub_tokens (mems_of x.1.0) in
+    let ws = flat_map word_sub_tokens (words_of x.1.0) in
+    let ms = flat_map mem_sub_tokens (mems_of x.1.0) in
     ap (λ (ts : List Tok). number x.0 ++ ts) (sym (append_assoc ws ms facts) ∙ ap (λ (ts : List Tok). ts ++ facts) (sym (subs-tokens 0 x.1.0 h.1)))
 
 rule-parts-law : (h : RuleHead) → Reads (rule_parts h) (RuleOf h) rule_rest
@@ -414,8 +415,8 @@ axiom-named a w form = ap (λ (ts : List Tok). Atom (codes "axiom") ∷ Atom (he
 
 inst-named : (p : ℕ) (words : List (ℕ × WordTree)) (mems : List (ℕ × MemTree)) → RuleNamed rule_head.Inst (Inst p words mems)
 inst-named p words mems =
-    let ws = all_tokens word_sub_tokens words in
-    let ms = all_tokens mem_sub_tokens mems in
+    let ws = flat_map word_sub_tokens words in
+    let ms = flat_map mem_sub_tokens mems in
     ap (λ (ts : List Tok). Atom (codes "inst") ∷ Atom (decimal p) ∷ ts) (append_assoc ws (ms ++ []) facts ∙ ap (λ (ts : List Tok). ws ++ ts) (append_assoc ms [] facts))
 
 rule-same : (h : RuleHead) (x : RuleTree) → RuleOf h x → RuleNamed h x

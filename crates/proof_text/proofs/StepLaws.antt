@@ -1,8 +1,8 @@
 -- Lines within bodies: values and steps are read as they are spelled.
 use Rattle.std.proofs.Common.{◌≡◌, ℕ, ◌^◌, ◌<◌, ◌≤◌, true, List, [], ◌∷◌, ◌++◌, length, codes, Ok, refl, ap, arith, append_assoc, length-append, inl, inr, ◌⊎◌}
-use Rattle.std.specs.List.{AllByRecursion}
+use Rattle.std.specs.List.{AllByRecursion, flat_map}
 use Rattle.mc_text.specs.Number.{IsWord as IsNumber, hex, hex_of, number_of}
-use Rattle.mc_text.specs.Tokens.{Tok, Semi, Atom, Eol, all_tokens}
+use Rattle.mc_text.specs.Tokens.{Tok, Semi, Atom, Eol}
 use Rattle.mc_text.specs.Reading.{Reader, pair, made, one, atom_of, below, star, goes_on, refused, address_at}
 use Rattle.mc_text.specs.inner.Reading.{is_semi, is_eol, is_word, eol, word, keyed, number_at}
 use Rattle.mc_text.proofs.Lines.{EndsIn, IsLines}
@@ -66,17 +66,17 @@ shrinks r F t takes some ts x rest e =
 
 -- ---- values
 
-mems-law : Reads (pair (star begins_mem (mem_at depth_limit)) eol) (λ p. AllByRecursion IsMem p.0 × Always p.1) (λ p. all_tokens mem_tokens p.0 ++ Eol ∷ [])
+mems-law : Reads (pair (star begins_mem (mem_at depth_limit)) eol) (λ p. AllByRecursion IsMem p.0 × Always p.1) (λ p. flat_map mem_tokens p.0 ++ Eol ∷ [])
 mems-law = reads-list begins_mem (mem_at depth_limit) (mem-shrinks depth_limit) IsMem mem_tokens mem-law (λ m h. mem-flat m) (λ m h us. mem-begins m us) eol Always (λ _. Eol ∷ []) eol-law (λ y h us. refl)
 
-behind-words : Reads (pair (one is_semi) (pair (star begins_mem (mem_at depth_limit)) eol)) (λ p. Always p.0 × (AllByRecursion IsMem p.1.0 × Always p.1.1)) (λ p. Semi ∷ (all_tokens mem_tokens p.1.0 ++ Eol ∷ []))
+behind-words : Reads (pair (one is_semi) (pair (star begins_mem (mem_at depth_limit)) eol)) (λ p. Always p.0 × (AllByRecursion IsMem p.1.0 × Always p.1.1)) (λ p. Semi ∷ (flat_map mem_tokens p.1.0 ++ Eol ∷ []))
 behind-words = Reads-pair (one is_semi) Always (λ _. Semi ∷ []) (Reads-one is_semi Always (λ _. Semi) shows-semi) (λ x h. (λ e. absurd cc, tt)) _ _ _ mems-law
 
 abbrev Values : Type 0
 Values = List WordTree × (Unit {0} × (List MemTree × Unit {0}))
 
 values-row : Reads (pair (star begins_word (word_at depth_limit)) (pair (one is_semi) (pair (star begins_mem (mem_at depth_limit)) eol)))
-    (λ (p : Values). AllByRecursion IsWord p.0 × (Always p.1.0 × (AllByRecursion IsMem p.1.1.0 × Always p.1.1.1))) (λ p. all_tokens word_tokens p.0 ++ (Semi ∷ (all_tokens mem_tokens p.1.1.0 ++ Eol ∷ [])))
+    (λ (p : Values). AllByRecursion IsWord p.0 × (Always p.1.0 × (AllByRecursion IsMem p.1.1.0 × Always p.1.1.1))) (λ p. flat_map word_tokens p.0 ++ (Semi ∷ (flat_map mem_tokens p.1.1.0 ++ Eol ∷ [])))
 values-row = reads-list begins_word (word_at depth_limit) (word-shrinks depth_limit) IsWord word_tokens word-law (λ t h. word-flat t) (λ t h us. word-begins t us) _ _ _ behind-words (λ y h us. refl)
 
 abbrev pub values_row : ValuesTree → List Tok
@@ -85,7 +85,7 @@ values_row v = values_tokens v ++ Eol ∷ []
 pub values-law : Reads values_at IsValues values_row
 unfolding values_at
 values-law = reads-made (λ (x : Values). record { words = x.0; mems = x.1.1.0 }) _ _ _ values-row IsValues values_row (λ x h. (h.0, h.1.1.0))
-    (λ x. append_assoc (all_tokens word_tokens x.0) (Semi ∷ all_tokens mem_tokens x.1.1.0) (Eol ∷ [])) (λ v h. ((v.words, (tt, (v.mems, tt))), refl, (h.0, (tt, (h.1, tt)))))
+    (λ x. append_assoc (flat_map word_tokens x.0) (Semi ∷ flat_map mem_tokens x.1.1.0) (Eol ∷ [])) (λ v h. ((v.words, (tt, (v.mems, tt))), refl, (h.0, (tt, (h.1, tt)))))
 
 pub values-cover : Covers values_at IsValues values_row
 values-cover = row-covers values_at IsValues values_row values-law (λ v h. lines-eol (values_tokens v)) (record { words = []; mems = [] }) (tt, tt)

@@ -1,8 +1,8 @@
 -- The items of proofs, one after the other, and their tokens by the code of the group that was opened last.
 use Rattle.std.proofs.Common.{◌≡◌, List, [], ◌∷◌, ◌++◌, map, refl, sym, ap, ◌∙◌, append_assoc}
-use Rattle.std.specs.List.{AllByRecursion}
+use Rattle.std.specs.List.{AllByRecursion, flat_map}
 use Rattle.std.proofs.lemmas.List.{append-nil}
-use Rattle.mc_text.specs.Tokens.{Tok, all_tokens}
+use Rattle.mc_text.specs.Tokens.{Tok}
 use Rattle.mc_text.proofs.Lines.{AreTokens, IsLines}
 use Rattle.mc_text.proofs.Covers.{lines-append}
 use Rattle.mc_text.proofs.Shown.{tokens-append}
@@ -54,15 +54,15 @@ StartsOpen (Adds l ∷ is) = ⊥
 
 -- ---- proofs as items
 
-lines-items : (own : List Range) (ls : List LineTree) (is : List ItemTree) → items_tokens own (map Adds ls ++ is) ≡ all_tokens (line_tokens own) ls ++ items_tokens own is
+lines-items : (own : List Range) (ls : List LineTree) (is : List ItemTree) → items_tokens own (map Adds ls ++ is) ≡ flat_map (line_tokens own) ls ++ items_tokens own is
 lines-items own [] is = refl
-lines-items own (l ∷ ls) is = ap (λ (ts : List Tok). line_tokens own l ++ ts) (lines-items own ls is) ∙ sym (append_assoc (line_tokens own l) (all_tokens (line_tokens own) ls) (items_tokens own is))
+lines-items own (l ∷ ls) is = ap (λ (ts : List Tok). line_tokens own l ++ ts) (lines-items own ls is) ∙ sym (append_assoc (line_tokens own l) (flat_map (line_tokens own) ls) (items_tokens own is))
 
-pub proofs-items : (own : List Range) (ps : List ProofTree) → all_tokens proof_tokens ps ≡ items_tokens own (items ps)
+pub proofs-items : (own : List Range) (ps : List ProofTree) → flat_map proof_tokens ps ≡ items_tokens own (items ps)
 proofs-items own [] = refl
 proofs-items own (p ∷ ps) =
-    let lines = all_tokens (line_tokens p.group.code) p.lines in
-    append_assoc (group_tokens p.group) lines (all_tokens proof_tokens ps)
+    let lines = flat_map (line_tokens p.group.code) p.lines in
+    append_assoc (group_tokens p.group) lines (flat_map proof_tokens ps)
     ∙ ap (λ (ts : List Tok). group_tokens p.group ++ (lines ++ ts)) (proofs-items p.group.code ps)
     ∙ ap (λ (ts : List Tok). group_tokens p.group ++ ts) (sym (lines-items p.group.code p.lines (items ps)))
 

@@ -1,9 +1,10 @@
 -- Definitions, groups and texts are read as they are spelled, and the lines before a fault can be completed.
-use Rattle.std.proofs.Common.{◌≡◌, ℕ, ◌<◌, ◌≤◌, true, List, [], ◌∷◌, ◌++◌, codes, refl, sym, ap, ◌∙◌, arith, append_assoc}
+use Rattle.std.proofs.Common.{◌≡◌, ℕ, ◌<◌, ◌≤◌, true, List, [], ◌∷◌, ◌++◌, codes, refl, sym, ap, ◌∙◌, arith, append_assoc, flat_map}
 use Rattle.mc_text.specs.Number.{IsWord as IsNumber, hex}
-use Rattle.mc_text.specs.Tokens.{Tok, Atom, Eol, all_tokens}
+use Rattle.mc_text.specs.Tokens.{Tok, Atom, Eol}
 use Rattle.mc_text.specs.Reading.{pair, one, atom_of, goes_on}
 use Rattle.mc_text.specs.inner.Reading.{eol, word}
+use Rattle.mc_text.proofs.Atoms.{word-atom}
 use Rattle.mc_text.proofs.ReaderLaws.{Reads-pair}
 use Rattle.mc_text.proofs.Star.{Shrinks}
 use Rattle.mc_text.proofs.Shown.{Always}
@@ -29,12 +30,12 @@ abbrev RowFits : Unit {0} × (ℕ × (List Exit × Unit {0})) → Type 0
 RowFits p = Always p.0 × (IsNumber p.1.0 × (AreExits p.1.1.0 × Always p.1.1.1))
 
 abbrev row_tokens : Unit {0} × (ℕ × (List Exit × Unit {0})) → List Tok
-row_tokens p = Atom (codes "def") ∷ (address p.1.0 ++ (all_tokens exit_tokens p.1.1.0 ++ Eol ∷ []))
+row_tokens p = Atom (codes "def") ∷ (address p.1.0 ++ (flat_map exit_tokens p.1.1.0 ++ Eol ∷ []))
 
 row-cover : Covers (pair (word (codes "def")) def_row) RowFits row_tokens
 row-cover = row-covers (pair (word (codes "def")) def_row) RowFits row_tokens
     (Reads-pair (word (codes "def")) Always (λ _. Atom (codes "def") ∷ []) (name-law (codes "def")) (λ x h. atom-flat (codes "def")) def_row _ _ def-row-law)
-    (λ p h. ends-eol (Atom (hex p.1.0)) (all_tokens exit_tokens p.1.1.0)) (tt, (0, ([], tt))) (tt, (omega arith, ((tt, (omega arith, omega arith)), tt)))
+    (λ p h. ends-eol (Atom (hex p.1.0)) (flat_map exit_tokens p.1.1.0)) (tt, (0, ([], tt))) (tt, (omega arith, ((tt, (omega arith, omega arith)), tt)))
 
 abbrev PartsFit : DefParts → Type 0
 PartsFit p = RowFits p.0 × IsBody nesting_limit p.1
@@ -64,7 +65,7 @@ pub record HeadFits (h : Head) : Type 0 where
 
 -- the lines of a head, behind the first word
 abbrev pub lines_of_head : Head → List Tok
-lines_of_head h = (Atom h.name ∷ Eol ∷ []) ++ (line (codes "regs") (all_tokens number h.regs ∷ []) ++ (line (codes "mems") (number h.mems ∷ []) ++ line (codes "code") (all_tokens range_tokens h.code ∷ [])))
+lines_of_head h = (Atom h.name ∷ Eol ∷ []) ++ (line (codes "regs") (flat_map number h.regs ∷ []) ++ (line (codes "mems") (number h.mems ∷ []) ++ line (codes "code") (flat_map range_tokens h.code ∷ [])))
 
 abbrev Regs : Type 0
 Regs = Unit {0} × (List ℕ × Unit {0})
@@ -97,26 +98,26 @@ abbrev name_tokens : List ℕ × Unit {0} → List Tok
 name_tokens p = (Atom p.0 ∷ []) ++ Eol ∷ []
 
 abbrev regs_tokens : Regs → List Tok
-regs_tokens p = line (codes "regs") (all_tokens number p.1.0 ∷ [])
+regs_tokens p = line (codes "regs") (flat_map number p.1.0 ∷ [])
 
 abbrev mems_tokens : Mems → List Tok
 mems_tokens p = line (codes "mems") (number p.1.0 ∷ [])
 
 abbrev code_tokens : CodeRow → List Tok
-code_tokens p = line (codes "code") (all_tokens range_tokens p.1.0 ∷ [])
+code_tokens p = line (codes "code") (flat_map range_tokens p.1.0 ∷ [])
 
 name-cover : Covers (pair (one (atom_of name_of)) eol) NameFits name_tokens
 name-cover = row-covers (pair (one (atom_of name_of)) eol) NameFits name_tokens (row-law (one (atom_of name_of)) IsName (λ a. Atom a ∷ []) group-name-law (λ a h. atom-flat a)) (λ p h. refl)
-    (codes "f", tt) (((refl, tt), omega arith), tt)
+    (codes "f", tt) ((word-atom (codes "f") refl, omega arith), tt)
 
 regs-cover : Covers regs_row RegsFit regs_tokens
-regs-cover = row-covers regs_row RegsFit regs_tokens regs-law (λ p h. ends-eol (Atom (codes "regs")) (all_tokens number p.1.0)) (tt, ([], tt)) (tt, (tt, tt))
+regs-cover = row-covers regs_row RegsFit regs_tokens regs-law (λ p h. ends-eol (Atom (codes "regs")) (flat_map number p.1.0)) (tt, ([], tt)) (tt, (tt, tt))
 
 mems-cover : Covers mems_row MemsFit mems_tokens
 mems-cover = row-covers mems_row MemsFit mems_tokens mems-law (λ p h. refl) (tt, (0, tt)) (tt, (omega arith, tt))
 
 code-cover : Covers code_row CodeFits code_tokens
-code-cover = row-covers code_row CodeFits code_tokens code-law (λ p h. ends-eol (Atom (codes "code")) (all_tokens range_tokens p.1.0)) (tt, ([], tt)) (tt, ((tt, tt), tt))
+code-cover = row-covers code_row CodeFits code_tokens code-law (λ p h. ends-eol (Atom (codes "code")) (flat_map range_tokens p.1.0)) (tt, ([], tt)) (tt, ((tt, tt), tt))
 
 head-parts : Covers (pair (pair (one (atom_of name_of)) eol) (pair regs_row (pair mems_row code_row))) HeadPartsFit (λ p. name_tokens p.0 ++ (regs_tokens p.1.0 ++ (mems_tokens p.1.1.0 ++ code_tokens p.1.1.1)))
 head-parts =
@@ -149,15 +150,15 @@ head-fits g h = record { name = h.name; registers = h.registers; memories = h.me
 -- a group's tokens behind the first word
 abbrev pub group_row : GroupTree → List Tok
 group_row g =
-    (Atom g.name ∷ Eol ∷ []) ++ (line (codes "regs") (all_tokens number g.regs ∷ []) ++ (line (codes "mems") (number g.mems ∷ []) ++ (line (codes "code") (all_tokens range_tokens g.code ∷ []) ++ all_tokens def_tokens g.defs)))
+    (Atom g.name ∷ Eol ∷ []) ++ (line (codes "regs") (flat_map number g.regs ∷ []) ++ (line (codes "mems") (number g.mems ∷ []) ++ (line (codes "code") (flat_map range_tokens g.code ∷ []) ++ flat_map def_tokens g.defs)))
 
-pub group-split : (h : Head) (ds : List DefTree) → group_row (group_of h ds) ≡ lines_of_head h ++ all_tokens def_tokens ds
+pub group-split : (h : Head) (ds : List DefTree) → group_row (group_of h ds) ≡ lines_of_head h ++ flat_map def_tokens ds
 group-split h ds =
     let name : List Tok = Atom h.name ∷ Eol ∷ [] in
-    let regs : List Tok = line (codes "regs") (all_tokens number h.regs ∷ []) in
+    let regs : List Tok = line (codes "regs") (flat_map number h.regs ∷ []) in
     let mems : List Tok = line (codes "mems") (number h.mems ∷ []) in
-    let code : List Tok = line (codes "code") (all_tokens range_tokens h.code ∷ []) in
-    let defs : List Tok = all_tokens def_tokens ds in
+    let code : List Tok = line (codes "code") (flat_map range_tokens h.code ∷ []) in
+    let defs : List Tok = flat_map def_tokens ds in
     let one : (mems ++ code) ++ defs ≡ mems ++ (code ++ defs) = append_assoc mems code defs in
     let two : (regs ++ (mems ++ code)) ++ defs ≡ regs ++ (mems ++ (code ++ defs)) = append_assoc regs (mems ++ code) defs ∙ ap (λ (v : List Tok). regs ++ v) one in
     sym (append_assoc name (regs ++ (mems ++ code)) defs ∙ ap (λ (v : List Tok). name ++ v) two)

@@ -2,9 +2,9 @@
 use Rattle.std.proofs.Common.{◌≡◌, ℕ, ◌<◌, Bool, true, false, cond, List, [], ◌∷◌, ◌++◌, map, codes, refl, sym, ap, subst, arith, append_assoc, inl, inr, ◌⊎◌}
 use Rattle.std.specs.Prelude.{not}
 use Rattle.std.specs.Fmt.{decimal}
-use Rattle.std.specs.List.{AllByRecursion}
+use Rattle.std.specs.List.{AllByRecursion, flat_map}
 use Rattle.std.proofs.lemmas.Bool.{and_parts, and_from, not-true}
-use Rattle.mc_text.specs.Tokens.{Tok, Left, Right, Semi, Atom, all_tokens}
+use Rattle.mc_text.specs.Tokens.{Tok, Left, Right, Semi, Atom}
 use Rattle.mc_text.specs.Reading.{Reader, pair, made, one, star, is_open, is_left, is_right}
 use Rattle.mc_text.specs.inner.Reading.{is_semi, number_at, word, checked}
 use Rattle.mc_text.proofs.ReaderLaws.{Reads, IsFlat, IsElse, flat-append, Reads-pair}
@@ -86,8 +86,8 @@ loose-law = reads-made assertion _ _ _
 
 loose-flat : (a : AssertionTree) → IsLoose a → IsFlat (assertion_tokens a)
 loose-flat a h =
-    let regs = all_tokens register_tokens a.regs in
-    let mems = all_tokens mem_tokens a.mems in
+    let regs = flat_map register_tokens a.regs in
+    let mems = flat_map mem_tokens a.mems in
     flat-append (Left ∷ []) (word_tokens a.pc ++ (regs ++ (Semi ∷ (mems ++ close)))) left-flat
     (flat-append (word_tokens a.pc) (regs ++ (Semi ∷ (mems ++ close))) (word-flat a.pc)
     (flat-append regs (Semi ∷ (mems ++ close)) (flat-each IsRegister register_tokens (λ r f. register-flat r) a.regs h.1.0)
@@ -125,17 +125,17 @@ post = Atom (codes "post") ∷ []
 abbrev post_at : Reader (Unit {0})
 post_at = word (codes "post")
 
-ranges-law : Reads ranges_to_post (AllByRecursion IsRange) (λ rs. all_tokens range_tokens rs ++ post)
+ranges-law : Reads ranges_to_post (AllByRecursion IsRange) (λ rs. flat_map range_tokens rs ++ post)
 ranges-law = reads-made (λ (x : List Range × Unit {0}). x.0) (pair (star is_open range_at) post_at) _ _
     (reads-list is_open range_at range-shrinks IsRange range_tokens range-law (λ r h. range-flat r) (λ r h us. range-begins r us) post_at Always (λ _. post) (name-law (codes "post")) (λ y h us. refl))
-    (AllByRecursion IsRange) (λ rs. all_tokens range_tokens rs ++ post) (λ x h. h.0) (λ x. refl) (λ rs h. ((rs, tt), refl, (h, tt)))
+    (AllByRecursion IsRange) (λ rs. flat_map range_tokens rs ++ post) (λ x h. h.0) (λ x. refl) (λ rs h. ((rs, tt), refl, (h, tt)))
 
-ranges-flat : (rs : List Range) → AllByRecursion IsRange rs → IsFlat (all_tokens range_tokens rs ++ post)
-ranges-flat rs h = flat-append (all_tokens range_tokens rs) post (flat-each IsRange range_tokens (λ r f. range-flat r) rs h) (atom-flat (codes "post"))
+ranges-flat : (rs : List Range) → AllByRecursion IsRange rs → IsFlat (flat_map range_tokens rs ++ post)
+ranges-flat rs h = flat-append (flat_map range_tokens rs) post (flat-each IsRange range_tokens (λ r f. range-flat r) rs h) (atom-flat (codes "post"))
 
 module _ (own : List Range) where
   abbrev chosen : List Range → Bool → List Tok
-  chosen rs b = cond b (Atom (codes "all") ∷ []) (all_tokens range_tokens rs)
+  chosen rs b = cond b (Atom (codes "all") ∷ []) (flat_map range_tokens rs)
 
   abbrev code_row : List Range → List Tok
   code_row rs = code_tokens own rs ++ post
@@ -155,8 +155,8 @@ module _ (own : List Range) where
   not-false b e = ap not e
 
   other-law : Reads (checked (is_other own) ranges_to_post) IsOther code_row
-  other-law = reads-told (checked (is_other own) ranges_to_post) (λ rs. AllByRecursion IsRange rs × (is_other own rs ≡ true)) IsOther (λ rs. all_tokens range_tokens rs ++ post) code_row
-      (reads-checked (is_other own) ranges_to_post (AllByRecursion IsRange) (λ rs. all_tokens range_tokens rs ++ post) ranges-law ranges-flat)
+  other-law = reads-told (checked (is_other own) ranges_to_post) (λ rs. AllByRecursion IsRange rs × (is_other own rs ≡ true)) IsOther (λ rs. flat_map range_tokens rs ++ post) code_row
+      (reads-checked (is_other own) ranges_to_post (AllByRecursion IsRange) (λ rs. flat_map range_tokens rs ++ post) ranges-law ranges-flat)
       (λ rs h. let k = and_parts (ranges_rise 0 rs) (not (same_ranges rs own)) h.1 in (code-true 0 rs h.0 k.0, not-true (same_ranges rs own) k.1))
       (λ rs h. let k = true-code 0 rs h.0.0 h.0.1 in (k.0, and_from (ranges_rise 0 rs) (not (same_ranges rs own)) k.1 (not-false (same_ranges rs own) h.1)))
       (λ rs h. let k = and_parts (ranges_rise 0 rs) (not (same_ranges rs own)) h.1 in ap (λ b. chosen rs b ++ post) (not-true (same_ranges rs own) k.1))
@@ -167,7 +167,7 @@ module _ (own : List Range) where
   abbrev Else : List Tok → Type 0
   Else ts = IsElse (codes "all") (made (λ (x : Unit {0}). own) post_at) (checked (is_other own) ranges_to_post) ts
 
-  ranges-else : (rs : List Range) (rest : List Tok) → Else ((all_tokens range_tokens rs ++ post) ++ rest)
+  ranges-else : (rs : List Range) (rest : List Tok) → Else ((flat_map range_tokens rs ++ post) ++ rest)
   ranges-else [] rest = refl
   ranges-else (r ∷ rs) rest = tt
 
@@ -206,7 +206,7 @@ module _ (own : List Range) where
   -- the tokens behind the first word
   abbrev pub triple_rest : TripleTree → List Tok
   triple_rest t =
-      all_tokens fact_tokens t.facts ++
+      flat_map fact_tokens t.facts ++
       (Atom (codes "pre") ∷ (assertion_tokens t.pre ++
       (Atom (codes "code") ∷ (code_row t.code ++
       assertion_tokens t.post))))
@@ -226,12 +226,12 @@ module _ (own : List Range) where
 
   pub triple-spelled : (t : TripleTree) → triple_tokens own t ≡ Atom (codes "facts") ∷ triple_rest t
   triple-spelled t =
-      ap (λ (ts : List Tok). Atom (codes "facts") ∷ (all_tokens fact_tokens t.facts ++ (Atom (codes "pre") ∷ (assertion_tokens t.pre ++ (Atom (codes "code") ∷ ts)))))
+      ap (λ (ts : List Tok). Atom (codes "facts") ∷ (flat_map fact_tokens t.facts ++ (Atom (codes "pre") ∷ (assertion_tokens t.pre ++ (Atom (codes "code") ∷ ts)))))
       (sym (append_assoc (code_tokens own t.code) post (assertion_tokens t.post)))
 
   pub triple-flat : (t : TripleTree) → IsTriple t → IsFlat (triple_rest t)
   triple-flat t h =
-      flat-append (all_tokens fact_tokens t.facts) (Atom (codes "pre") ∷ (assertion_tokens t.pre ++ (Atom (codes "code") ∷ (code_row t.code ++ assertion_tokens t.post)))) (flat-each IsFact fact_tokens fact-flat t.facts h.facts)
+      flat-append (flat_map fact_tokens t.facts) (Atom (codes "pre") ∷ (assertion_tokens t.pre ++ (Atom (codes "code") ∷ (code_row t.code ++ assertion_tokens t.post)))) (flat-each IsFact fact_tokens fact-flat t.facts h.facts)
       (flat-append (Atom (codes "pre") ∷ []) (assertion_tokens t.pre ++ (Atom (codes "code") ∷ (code_row t.code ++ assertion_tokens t.post))) (atom-flat (codes "pre"))
       (flat-append (assertion_tokens t.pre) (Atom (codes "code") ∷ (code_row t.code ++ assertion_tokens t.post)) (assertion-flat t.pre h.pre)
       (flat-append (Atom (codes "code") ∷ []) (code_row t.code ++ assertion_tokens t.post) (atom-flat (codes "code"))

@@ -1,6 +1,6 @@
 -- How far a text was read: the first proofs, whose groups and lines were given one by one. The last of them may go on.
-use Rattle.std.specs.Prelude.{◌≡◌, ◌≢◌, ◌⊎◌, ℕ, List, [], ◌∷◌, ◌++◌, map, codes, None}
-use Rattle.mc_text.specs.Tokens.{HasNoAtomByte, spell, all_tokens}
+use Rattle.std.specs.Prelude.{◌≡◌, ◌≢◌, ◌⊎◌, ℕ, List, [], ◌∷◌, ◌++◌, map, codes, None, flat_map}
+use Rattle.mc_text.specs.Tokens.{HasNoAtomByte, spell}
 use Rattle.mc_text.specs.Fault.{first_lines, newlines}
 use Rattle.mc_text.specs.declared.token.Before.TheVariants.{Start}
 use Rattle.tailrec_lang.specs.Tree.{GroupTree}
@@ -31,7 +31,7 @@ with_line p l = record { group = p.group; lines = p.lines ++ l ∷ [] }
 -- the lines up to the end of the last item
 abbrev pub passed_in : Version → List ProofTree → List ℕ
 passed_in v [] = []
-passed_in v (p ∷ ps) = spell Start (title_tokens v ++ all_tokens proof_tokens (p ∷ ps))
+passed_in v (p ∷ ps) = spell Start (title_tokens v ++ flat_map proof_tokens (p ∷ ps))
 
 abbrev pub passed : List ProofTree → List ℕ
 passed ps = passed_in version_1 ps

@@ -20,6 +20,10 @@ IsStep (Bind t) = IsWord t
 IsStep (BindMem m) = IsMem m
 IsStep (Need c) = IsCond c
 
+-- the numbers of definitions, exits and variables are below this
+abbrev pub index_limit : ℕ
+index_limit = 2 ^ 32
+
 -- the most arms of a call, and the most exits of a definition
 abbrev pub exit_limit : ℕ
 exit_limit = 16
@@ -30,9 +34,9 @@ abbrev mutual
   IsBody zero b = ⊥
   IsBody (suc n) (Do step rest) = IsStep step × IsBody (suc n) rest
   IsBody (suc n) (Branch c a b) = IsCond c × IsBody n a × IsBody n b
-  IsBody (suc n) (Call def v arms) = (def < 2 ^ 32) × (arm_count arms ≤ exit_limit) × IsValues v × AreArms n arms
+  IsBody (suc n) (Call def v arms) = (def < index_limit) × (arm_count arms ≤ exit_limit) × IsValues v × AreArms n arms
   IsBody (suc n) (Again v) = IsValues v
-  IsBody (suc n) (Leave exit v) = (exit < 2 ^ 32) × IsValues v
+  IsBody (suc n) (Leave exit v) = (exit < index_limit) × IsValues v
 
   pub AreArms : ℕ → ArmTrees → Type 0
   AreArms n NoArm = Unit {0}

@@ -8,11 +8,7 @@ use Rattle.sep_assert.specs.Tree.{AssertionTree}
 use Rattle.triple_kernel.specs.Tree.{FactTree, WordIs, MemIs, So, Gives, TripleTree}
 use Rattle.proof_text.specs.Line.{RuleTree, Axiom, Inst, Frame, Compose, ExtendCode, Strengthen, Weaken, Discharge, UseExit, LineTree, States, Loop, Forget}
 use Rattle.sep_assert.specs.Registers.{AreRegistersFrom}
-use Rattle.proof_text.specs.Limits.{IsValues}
-
--- the numbers of definitions, exits and variables are below this
-abbrev pub index_limit : ℕ
-index_limit = 2 ^ 32
+use Rattle.proof_text.specs.Limits.{index_limit, IsValues}
 
 abbrev pub IsFact : FactTree → Type 0
 IsFact (WordIs a b) = IsWord a × IsWord b

@@ -18,10 +18,11 @@
 --   CODE   = all | RANGE*                        `all` where it is the group's code, and only there
 --
 -- K is a decimal, the number of a theorem; D, N, REG, VALUES and eol are those of groups, W, M, C and RANGE those of terms.
-use Rattle.std.specs.Prelude.{ℕ, Bool, true, false, ◌&&◌, ◌==◌, if◌then◌else◌, List, [], ◌∷◌, ◌++◌, codes}
+use lib.Pointwise.{pointwise}
+use Rattle.std.specs.Prelude.{ℕ, Bool, ◌&&◌, ◌==◌, if◌then◌else◌, List, [], ◌∷◌, ◌++◌, codes, flat_map}
 use Rattle.std.specs.Str.{bytes_eq}
 use Rattle.std.specs.Fmt.{decimal}
-use Rattle.mc_text.specs.Tokens.{Tok, Left, Right, Semi, Atom, Eol, all_tokens}
+use Rattle.mc_text.specs.Tokens.{Tok, Left, Right, Semi, Atom, Eol}
 use Rattle.rv_words.specs.declared.range.Range.{Range}
 use Rattle.word_terms.specs.Tree.{WordTree, MemTree}
 use Rattle.term_text.specs.Spelling.{form, joined, word_tokens, mem_tokens, cond_tokens, range_tokens}
@@ -46,22 +47,20 @@ abbrev pub register_tokens : ℕ × WordTree → List Tok
 register_tokens r = form (decimal r.0) (word_tokens r.1 ∷ [])
 
 abbrev pub assertion_tokens : AssertionTree → List Tok
-assertion_tokens a = Left ∷ joined (word_tokens a.pc ∷ all_tokens register_tokens a.regs ∷ (Semi ∷ []) ∷ all_tokens mem_tokens a.mems ∷ []) (Right ∷ [])
+assertion_tokens a = Left ∷ joined (word_tokens a.pc ∷ flat_map register_tokens a.regs ∷ (Semi ∷ []) ∷ flat_map mem_tokens a.mems ∷ []) (Right ∷ [])
 
 -- whether two codes are the same ranges
 abbrev pub same_ranges : List Range → List Range → Bool
-same_ranges [] [] = true
-same_ranges (r ∷ rs) (s ∷ ss) = r.at == s.at && bytes_eq r.bytes s.bytes && same_ranges rs ss
-same_ranges _ _ = false
+same_ranges rs ss = pointwise (λ (r s : Range). r.at == s.at && bytes_eq r.bytes s.bytes) rs ss
 
 -- code, beside the group's own
 abbrev pub code_tokens : List Range → List Range → List Tok
-code_tokens own code = if same_ranges code own then Atom (codes "all") ∷ [] else all_tokens range_tokens code
+code_tokens own code = if same_ranges code own then Atom (codes "all") ∷ [] else flat_map range_tokens code
 
 -- a triple, beside the group's own code
 abbrev pub triple_tokens : List Range → TripleTree → List Tok
 triple_tokens own t =
-    Atom (codes "facts") ∷ (all_tokens fact_tokens t.facts ++
+    Atom (codes "facts") ∷ (flat_map fact_tokens t.facts ++
     (Atom (codes "pre") ∷ (assertion_tokens t.pre ++
     (Atom (codes "code") ∷ (code_tokens own t.code ++
     (Atom (codes "post") ∷ assertion_tokens t.post))))))
@@ -78,7 +77,7 @@ mem_sub_tokens s = form (codes "m" ++ decimal s.0) (mem_tokens s.1 ∷ [])
 
 abbrev pub rule_tokens : RuleTree → List Tok
 rule_tokens (Axiom a word form) = keyed_tokens (codes "axiom") (address a ∷ address word ∷ form_tokens form ∷ [])
-rule_tokens (Inst p words mems) = keyed_tokens (codes "inst") (number p ∷ all_tokens word_sub_tokens words ∷ all_tokens mem_sub_tokens mems ∷ [])
+rule_tokens (Inst p words mems) = keyed_tokens (codes "inst") (number p ∷ flat_map word_sub_tokens words ∷ flat_map mem_sub_tokens mems ∷ [])
 rule_tokens (Frame p) = keyed_tokens (codes "frame") (number p ∷ [])
 rule_tokens (Compose p q) = keyed_tokens (codes "compose") (number p ∷ number q ∷ [])
 rule_tokens (ExtendCode p) = keyed_tokens (codes "extend") (number p ∷ [])
@@ -90,5 +89,5 @@ rule_tokens (UseExit def exit) = keyed_tokens (codes "use") (number def ∷ numb
 -- a line, beside the group's own code
 abbrev pub line_tokens : List Range → LineTree → List Tok
 line_tokens own (States rule t) = rule_tokens rule ++ (triple_tokens own t ++ Eol ∷ [])
-line_tokens own (Loop def cited) = line (codes "loop") (number def ∷ all_tokens number cited ∷ [])
+line_tokens own (Loop def cited) = line (codes "loop") (number def ∷ flat_map number cited ∷ [])
 line_tokens own (Forget k) = line (codes "forget") (number k ∷ [])

@@ -3,8 +3,8 @@
 --   TEXT  = mcproof V eol PROOF* end eol
 --   PROOF = GROUP LINE*
 use Rattle.std.specs.Prelude.{ℕ, List, [], ◌∷◌, ◌++◌, map}
-use Rattle.std.specs.List.{AllByRecursion}
-use Rattle.mc_text.specs.Tokens.{Tok, spell, all_tokens}
+use Rattle.std.specs.List.{AllByRecursion, flat_map}
+use Rattle.mc_text.specs.Tokens.{Tok, spell}
 use Rattle.mc_text.specs.Fault.{Grammar}
 use Rattle.mc_text.specs.declared.token.Before.TheVariants.{Start}
 use Rattle.rv_words.specs.declared.range.Range.{Range}
@@ -17,14 +17,11 @@ use Rattle.proof_text.specs.Limits.{IsGroupIn}
 use Rattle.proof_text.specs.LineLimits.{IsLine}
 
 abbrev pub proof_tokens : ProofTree → List Tok
-proof_tokens p = group_tokens p.group ++ all_tokens (line_tokens p.group.code) p.lines
-
-abbrev pub tokens_of_proofs_in : Version → List ProofTree → List Tok
-tokens_of_proofs_in v ps = title_tokens v ++ (all_tokens proof_tokens ps ++ end_tokens)
+proof_tokens p = group_tokens p.group ++ flat_map (line_tokens p.group.code) p.lines
 
 -- the text of a list of proofs in that version
 abbrev pub text_of_proofs_in : Version → List ProofTree → List ℕ
-text_of_proofs_in v ps = spell Start (tokens_of_proofs_in v ps)
+text_of_proofs_in v ps = spell Start (title_tokens v ++ (flat_map proof_tokens ps ++ end_tokens))
 
 pub record IsProofIn (v : Version) (p : ProofTree) : Type 0 where
   pub group : IsGroupIn v p.group

@@ -15,10 +15,10 @@
 --
 -- V is the number of the version, D and REG are decimals, N is a hexadecimal number, eol the end of a line; W, M, C and
 -- RANGE are those of terms.
-use Rattle.std.specs.Prelude.{ℕ, suc, List, [], ◌∷◌, ◌++◌, codes}
+use Rattle.std.specs.Prelude.{ℕ, suc, List, [], ◌∷◌, ◌++◌, codes, flat_map}
 use Rattle.std.specs.Fmt.{decimal}
 use Rattle.mc_text.specs.Number.{hex}
-use Rattle.mc_text.specs.Tokens.{Tok, Semi, Atom, Eol, spell, all_tokens}
+use Rattle.mc_text.specs.Tokens.{Tok, Semi, Atom, Eol, spell}
 use Rattle.mc_text.specs.declared.token.Before.TheVariants.{Start}
 use Rattle.term_text.specs.Spelling.{joined, word_tokens, mem_tokens, cond_tokens, range_tokens}
 use Rattle.tailrec_lang.specs.Tree.{ValuesTree, StepTree, Bind, BindMem, Need, BodyTree, Do, Branch, Call, Again, Leave, ArmTrees, NoArm, Arm, DefTree, GroupTree}
@@ -41,7 +41,7 @@ exit_tokens (At a) = address a
 exit_tokens Ret = Atom (codes "ret") ∷ []
 
 abbrev pub values_tokens : ValuesTree → List Tok
-values_tokens v = all_tokens word_tokens v.words ++ (Semi ∷ all_tokens mem_tokens v.mems)
+values_tokens v = flat_map word_tokens v.words ++ (Semi ∷ flat_map mem_tokens v.mems)
 
 abbrev pub step_tokens : StepTree → List Tok
 step_tokens (Bind t) = line (codes "let") (word_tokens t ∷ [])
@@ -65,15 +65,15 @@ abbrev mutual
   arm_tokens (Arm b bs) = line (codes "arm") [] ++ (body_tokens b ++ arm_tokens bs)
 
 abbrev pub def_tokens : DefTree → List Tok
-def_tokens d = line (codes "def") (address d.entry ∷ all_tokens exit_tokens d.exits ∷ []) ++ body_tokens d.body
+def_tokens d = line (codes "def") (address d.entry ∷ flat_map exit_tokens d.exits ∷ []) ++ body_tokens d.body
 
 abbrev pub group_tokens : GroupTree → List Tok
 group_tokens g =
     line (codes "group") ((Atom g.name ∷ []) ∷ []) ++
-    (line (codes "regs") (all_tokens number g.regs ∷ []) ++
+    (line (codes "regs") (flat_map number g.regs ∷ []) ++
     (line (codes "mems") (number g.mems ∷ []) ++
-    (line (codes "code") (all_tokens range_tokens g.code ∷ []) ++
-    all_tokens def_tokens g.defs)))
+    (line (codes "code") (flat_map range_tokens g.code ∷ []) ++
+    flat_map def_tokens g.defs)))
 
 abbrev pub end_tokens : List Tok
 end_tokens = line (codes "end") []
@@ -82,12 +82,9 @@ end_tokens = line (codes "end") []
 abbrev pub title_tokens : Version → List Tok
 title_tokens v = line (codes "mcproof") ((Atom v.title ∷ []) ∷ [])
 
-abbrev pub tokens_in : Version → List GroupTree → List Tok
-tokens_in v gs = title_tokens v ++ (all_tokens group_tokens gs ++ end_tokens)
-
 -- the text of a list of groups in that version
 abbrev pub text_in : Version → List GroupTree → List ℕ
-text_in v gs = spell Start (tokens_in v gs)
+text_in v gs = spell Start (title_tokens v ++ (flat_map group_tokens gs ++ end_tokens))
 
 -- ---- the version that is written
 

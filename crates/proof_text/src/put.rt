@@ -1,9 +1,9 @@
 //! Printing groups.
 #![tactic(auto, using(mc_text::proofs::Printed::prints))]
 
-ghost use Rattle.std.specs.Prelude.{◌≡◌, ◌++◌, ◌∷◌, [], OnOk, codes, map};
+ghost use Rattle.std.specs.Prelude.{◌≡◌, ◌++◌, ◌∷◌, [], OnOk, codes, map, flat_map};
 ghost use Rattle.mc_text.specs.Printing.{BeginsWith, Keeps, page, print};
-ghost use Rattle.mc_text.specs.Tokens.{Atom, spell, all_tokens};
+ghost use Rattle.mc_text.specs.Tokens.{Atom, spell};
 ghost use Rattle.mc_text.specs.declared.token.Before.TheVariants.{Start};
 ghost use Rattle.term_text.specs.Spelling.{cond_tokens, mem_tokens, range_tokens, word_tokens};
 ghost use Rattle.word_terms.specs.Tree.{cond_tree, mem_tree, word_tree};
@@ -82,7 +82,7 @@ fn put_name_line(pen: &mut Pen<'_>, name: &[u8]) -> Result<(), NoMemory>
 }
 
 fn put_registers_line(pen: &mut Pen<'_>, registers: &[u8]) -> Result<(), NoMemory>
-    ensures ok { OnOk result (page pen.new ≡ print (line (codes "regs") (all_tokens number registers.now ∷ [])) (page pen.old)) }
+    ensures ok { OnOk result (page pen.new ≡ print (line (codes "regs") (flat_map number registers.now ∷ [])) (page pen.old)) }
     ensures kept { Keeps (page pen.old) (page pen.new) }
 {
     pen.atom(b"regs")?;
@@ -100,7 +100,7 @@ fn put_memories_line(pen: &mut Pen<'_>, count: u8) -> Result<(), NoMemory>
 }
 
 fn put_code_line(pen: &mut Pen<'_>, ranges: &[Range]) -> Result<(), NoMemory>
-    ensures ok { OnOk result (page pen.new ≡ print (line (codes "code") (all_tokens range_tokens ranges.now ∷ [])) (page pen.old)) }
+    ensures ok { OnOk result (page pen.new ≡ print (line (codes "code") (flat_map range_tokens ranges.now ∷ [])) (page pen.old)) }
     ensures kept { Keeps (page pen.old) (page pen.new) }
 {
     pen.atom(b"code")?;
@@ -109,7 +109,7 @@ fn put_code_line(pen: &mut Pen<'_>, ranges: &[Range]) -> Result<(), NoMemory>
 }
 
 fn put_numbers(pen: &mut Pen<'_>, numbers: &[u8]) -> Result<(), NoMemory>
-    ensures ok { OnOk result (page pen.new ≡ print (all_tokens number numbers.now) (page pen.old)) }
+    ensures ok { OnOk result (page pen.new ≡ print (flat_map number numbers.now) (page pen.old)) }
     ensures kept { Keeps (page pen.old) (page pen.new) }
 {
     for n in numbers {
@@ -126,7 +126,7 @@ fn put_number(pen: &mut Pen<'_>, n: u8) -> Result<(), NoMemory>
 }
 
 pub fn put_ranges(pen: &mut Pen<'_>, ranges: &[Range]) -> Result<(), NoMemory>
-    ensures ok { OnOk result (page pen.new ≡ print (all_tokens range_tokens ranges.now) (page pen.old)) }
+    ensures ok { OnOk result (page pen.new ≡ print (flat_map range_tokens ranges.now) (page pen.old)) }
     ensures kept { Keeps (page pen.old) (page pen.new) }
 {
     for range in ranges {
@@ -137,7 +137,7 @@ pub fn put_ranges(pen: &mut Pen<'_>, ranges: &[Range]) -> Result<(), NoMemory>
 
 /// Prints the definitions' first lines and bodies.
 fn put_defs(pen: &mut Pen<'_>, defs: &[Def]) -> Result<(), NoMemory>
-    ensures ok { OnOk result (page pen.new ≡ print (all_tokens def_tokens (map def_tree defs.now)) (page pen.old)) }
+    ensures ok { OnOk result (page pen.new ≡ print (flat_map def_tokens (map def_tree defs.now)) (page pen.old)) }
     ensures kept { Keeps (page pen.old) (page pen.new) }
 {
     for def in defs {
@@ -158,7 +158,7 @@ fn put_def(pen: &mut Pen<'_>, def: &Def) -> Result<(), NoMemory>
 }
 
 fn put_exits(pen: &mut Pen<'_>, exits: &[Exit]) -> Result<(), NoMemory>
-    ensures ok { OnOk result (page pen.new ≡ print (all_tokens exit_tokens exits.now) (page pen.old)) }
+    ensures ok { OnOk result (page pen.new ≡ print (flat_map exit_tokens exits.now) (page pen.old)) }
     ensures kept { Keeps (page pen.old) (page pen.new) }
 {
     for exit in exits {
@@ -251,7 +251,7 @@ fn put_call_line(pen: &mut Pen<'_>, def: u32, arms: usize, values: &Values) -> R
 }
 
 fn put_steps(pen: &mut Pen<'_>, steps: &[Step]) -> Result<(), NoMemory>
-    ensures ok { OnOk result (page pen.new ≡ print (all_tokens step_tokens (map step_tree steps.now)) (page pen.old)) }
+    ensures ok { OnOk result (page pen.new ≡ print (flat_map step_tokens (map step_tree steps.now)) (page pen.old)) }
     ensures kept { Keeps (page pen.old) (page pen.new) }
 {
     for step in steps {
@@ -293,7 +293,7 @@ pub fn put_values(pen: &mut Pen<'_>, values: &Values) -> Result<(), NoMemory>
 }
 
 fn put_words(pen: &mut Pen<'_>, terms: &[Word]) -> Result<(), NoMemory>
-    ensures ok { OnOk result (page pen.new ≡ print (all_tokens word_tokens (map word_tree terms.now)) (page pen.old)) }
+    ensures ok { OnOk result (page pen.new ≡ print (flat_map word_tokens (map word_tree terms.now)) (page pen.old)) }
     ensures kept { Keeps (page pen.old) (page pen.new) }
 {
     for t in terms {
@@ -303,7 +303,7 @@ fn put_words(pen: &mut Pen<'_>, terms: &[Word]) -> Result<(), NoMemory>
 }
 
 pub fn put_mems(pen: &mut Pen<'_>, terms: &[Mem]) -> Result<(), NoMemory>
-    ensures ok { OnOk result (page pen.new ≡ print (all_tokens mem_tokens (map mem_tree terms.now)) (page pen.old)) }
+    ensures ok { OnOk result (page pen.new ≡ print (flat_map mem_tokens (map mem_tree terms.now)) (page pen.old)) }
     ensures kept { Keeps (page pen.old) (page pen.new) }
 {
     for t in terms {

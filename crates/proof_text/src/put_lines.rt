@@ -1,9 +1,9 @@
 //! Printing the lines of proofs.
 #![tactic(auto, using(mc_text::proofs::Printed::prints))]
 
-ghost use Rattle.std.specs.Prelude.{◌≡◌, ◌++◌, ◌∷◌, [], OnOk, codes, map};
+ghost use Rattle.std.specs.Prelude.{◌≡◌, ◌++◌, ◌∷◌, [], OnOk, codes, map, flat_map};
 ghost use Rattle.mc_text.specs.Printing.{BeginsWith, Keeps, page, print};
-ghost use Rattle.mc_text.specs.Tokens.{Atom, Semi, all_tokens, spell};
+ghost use Rattle.mc_text.specs.Tokens.{Atom, Semi, spell};
 ghost use Rattle.mc_text.specs.declared.token.Before.TheVariants.{Start};
 ghost use Rattle.sep_assert.specs.Tree.{assertion_tree, register_tree};
 ghost use Rattle.tailrec_lang.specs.Tree.{group_tree, values_tree};
@@ -62,7 +62,7 @@ fn put_line_tokens(pen: &mut Pen<'_>, own: &Code, line: &Line) -> Result<(), NoM
 
 /// Prints the numbers of theorems.
 fn put_theorems(pen: &mut Pen<'_>, theorems: &[u64]) -> Result<(), NoMemory>
-    ensures ok { OnOk result (page pen.new ≡ print (all_tokens number theorems.now) (page pen.old)) }
+    ensures ok { OnOk result (page pen.new ≡ print (flat_map number theorems.now) (page pen.old)) }
     ensures kept { Keeps (page pen.old) (page pen.new) }
 {
     for k in theorems {
@@ -131,7 +131,7 @@ fn put_form(pen: &mut Pen<'_>, form: Form) -> Result<(), NoMemory>
 }
 
 fn put_sub(pen: &mut Pen<'_>, sub: &Sub) -> Result<(), NoMemory>
-    ensures ok { OnOk result (page pen.new ≡ print (all_tokens word_sub_tokens (map word_put_in sub.now.words) ++ all_tokens mem_sub_tokens (map mem_put_in sub.now.mems)) (page pen.old)) }
+    ensures ok { OnOk result (page pen.new ≡ print (flat_map word_sub_tokens (map word_put_in sub.now.words) ++ flat_map mem_sub_tokens (map mem_put_in sub.now.mems)) (page pen.old)) }
     ensures kept { Keeps (page pen.old) (page pen.new) }
 {
     put_word_subs(pen, sub.words.as_slice())?;
@@ -139,7 +139,7 @@ fn put_sub(pen: &mut Pen<'_>, sub: &Sub) -> Result<(), NoMemory>
 }
 
 fn put_word_subs(pen: &mut Pen<'_>, subs: &[(u32, Word)]) -> Result<(), NoMemory>
-    ensures ok { OnOk result (page pen.new ≡ print (all_tokens word_sub_tokens (map word_put_in subs.now)) (page pen.old)) }
+    ensures ok { OnOk result (page pen.new ≡ print (flat_map word_sub_tokens (map word_put_in subs.now)) (page pen.old)) }
     ensures kept { Keeps (page pen.old) (page pen.new) }
 {
     for sub in subs {
@@ -160,7 +160,7 @@ fn put_word_sub(pen: &mut Pen<'_>, sub: &(u32, Word)) -> Result<(), NoMemory>
 }
 
 fn put_mem_subs(pen: &mut Pen<'_>, subs: &[(u32, Mem)]) -> Result<(), NoMemory>
-    ensures ok { OnOk result (page pen.new ≡ print (all_tokens mem_sub_tokens (map mem_put_in subs.now)) (page pen.old)) }
+    ensures ok { OnOk result (page pen.new ≡ print (flat_map mem_sub_tokens (map mem_put_in subs.now)) (page pen.old)) }
     ensures kept { Keeps (page pen.old) (page pen.new) }
 {
     for sub in subs {
@@ -194,7 +194,7 @@ fn put_triple(pen: &mut Pen<'_>, own: &Code, t: &Triple) -> Result<(), NoMemory>
 }
 
 fn put_facts(pen: &mut Pen<'_>, facts: &[Fact]) -> Result<(), NoMemory>
-    ensures ok { OnOk result (page pen.new ≡ print (Atom (codes "facts") ∷ all_tokens fact_tokens (map fact_tree facts.now)) (page pen.old)) }
+    ensures ok { OnOk result (page pen.new ≡ print (Atom (codes "facts") ∷ flat_map fact_tokens (map fact_tree facts.now)) (page pen.old)) }
     ensures kept { Keeps (page pen.old) (page pen.new) }
 {
     pen.atom(b"facts")?;
@@ -202,7 +202,7 @@ fn put_facts(pen: &mut Pen<'_>, facts: &[Fact]) -> Result<(), NoMemory>
 }
 
 fn put_all_facts(pen: &mut Pen<'_>, facts: &[Fact]) -> Result<(), NoMemory>
-    ensures ok { OnOk result (page pen.new ≡ print (all_tokens fact_tokens (map fact_tree facts.now)) (page pen.old)) }
+    ensures ok { OnOk result (page pen.new ≡ print (flat_map fact_tokens (map fact_tree facts.now)) (page pen.old)) }
     ensures kept { Keeps (page pen.old) (page pen.new) }
 {
     for fact in facts {
@@ -280,7 +280,7 @@ fn put_assertion_parts(pen: &mut Pen<'_>, a: &Assertion) -> Result<(), NoMemory>
 }
 
 fn put_registers(pen: &mut Pen<'_>, registers: &[(u8, Word)]) -> Result<(), NoMemory>
-    ensures ok { OnOk result (page pen.new ≡ print (all_tokens register_tokens (map register_tree registers.now)) (page pen.old)) }
+    ensures ok { OnOk result (page pen.new ≡ print (flat_map register_tokens (map register_tree registers.now)) (page pen.old)) }
     ensures kept { Keeps (page pen.old) (page pen.new) }
 {
     for register in registers {
