@@ -3,7 +3,8 @@
 
     tools/definitions.py            prints the table of the contracts below
     tools/definitions.py --write    writes it into docs/DEFINITIONS.md
-    tools/definitions.py --check    fails where the table there is another one
+    tools/definitions.py --check    fails where the table there is another one, where a row of the document names a definition that isn't in
+                                    its file, and where one that a contract in EXPLAINED stands on has no row
     tools/definitions.py --names    names the definitions of each file, needed and not
 
 Lines are those of definitions in specs/, without imports, comments and blank lines. A name that a lambda binds and that is spelled
@@ -30,6 +31,9 @@ CONTRACTS = [
     ('`FunThm::def`, a closed definition', 'loop_rule/src/closing.rt', 'def', ('closed',)),
     ('`find_loops`, loops and cuts', 'loop_forest/src/forest.rt', 'find_loops', ()),
 ]
+
+# Those that the document explains whole: each definition that they stand on has a row.
+EXPLAINED = [CONTRACTS[0], CONTRACTS[2]]
 
 NAME = re.compile(r"[A-Za-z_][A-Za-z_0-9'\-]*(?:\.[A-Za-z_][A-Za-z_0-9'\-]*)*")
 OPERATOR = re.compile(r'(?<=[\s(])([^\s\w(){},.;:"]+)(?=[\s)])')
@@ -177,6 +181,40 @@ def table(definitions):
     return '\n'.join(rows) + '\n'
 
 
+def rows_of(definitions, document):
+    """The rows of the document that explain definitions: the line's number, the file of definitions, and the names, of which `a` to `b` are all."""
+    for number, line in enumerate(document.split('\n'), 1):
+        cells = [cell.strip() for cell in line.strip('|').split('|')]
+        if not line.startswith('| `') or len(cells) < 3:
+            continue
+        modules = []
+        for place in cells[1].split(';'):
+            crate, _, files = place.strip().partition(', ')
+            modules += [f'{crate}.specs.{file}' for file in re.split(r',\s*|\s+and\s+', files)]
+        names = re.findall(r'`([^`]+)`', cells[0])
+        for first, last in re.findall(r'`([^`]+)` to `([^`]+)`', cells[0]):
+            for module in modules:
+                here = list(definitions.modules[module].definitions) if module in definitions.modules else []
+                if first in here and last in here:
+                    names += here[here.index(first):here.index(last) + 1]
+        yield number, modules, names
+
+
+def faults(definitions, document):
+    """What is wrong with the rows: names that aren't where a row says, and definitions that ought to be explained and aren't."""
+    explained = set()
+    for number, modules, names in rows_of(definitions, document):
+        for name in names:
+            at = {(module, known) for module in modules if module in definitions.modules
+                  for known in definitions.modules[module].definitions if known.strip('◌') == name}
+            explained |= at
+            if not at:
+                yield f"docs/DEFINITIONS.md:{number}: {name} isn't in {' or '.join(modules)}"
+    for title, *contract in EXPLAINED:
+        for module, name in sorted(definitions.needed(*contract) - explained):
+            yield f'docs/DEFINITIONS.md has no row for {name} of {module}: {title}'
+
+
 def main():
     definitions = Definitions()
     if sys.argv[1:] == ['--names']:
@@ -204,6 +242,9 @@ def main():
     elif sys.argv[1:] == ['--check']:
         if document != current:
             sys.exit('the table of docs/DEFINITIONS.md is another one: tools/definitions.py --write')
+        wrong = list(faults(definitions, document))
+        if wrong:
+            sys.exit('\n'.join(wrong))
     else:
         sys.exit(__doc__)
 
