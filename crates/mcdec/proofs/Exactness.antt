@@ -27,6 +27,7 @@ use Rattle.checker.proofs.CheckLemmas.{accepted-headline}
 use Rattle.mcdec.specs.declared.answer.CheckAnswer.{CheckAnswer}
 use Rattle.mcdec.specs.declared.answer.CheckAnswer.TheVariants as ca
 use Rattle.mcdec.specs.CheckAnswer.{CheckGives, AreRightFiles}
+use Rattle.mcdec.specs.Listed.{without_proofs}
 use Rattle.flow_graph.specs.declared.outside.Outside.{Outside}
 use Rattle.path_walk.specs.declared.item.Item.{Item}
 use Rattle.decompiler.specs.Listing.{IsItemFor}
@@ -56,6 +57,7 @@ use Rattle.mc_text.proofs.FaultOnce.{bad-once}
 use Rattle.proof_text.proofs.Fronts.{fronts, text-front}
 use Rattle.proof_text.proofs.ProofTexts.{proofs-once}
 use Rattle.mcdec.proofs.Groups.{groups-front, groups-more}
+use Rattle.mcdec.proofs.Listed.{groups-fit, groups-left}
 use Rattle.mcdec.proofs.OneListing.{all-listed-once, err_is, none-refused, ok_err, ok_is, refused-once, stands-once}
 use Rattle.std.proofs.lemmas.List.{length-map}
 
@@ -680,8 +682,9 @@ accepted-files files elf proof file functions lines holds (loaded, (text, held, 
   text = text;
   holds_file = holds;
   holds_text = held;
-  proofs = good.proofs;
-  spelled = good.spelled;
+  groups = groups_of good.proofs;
+  fit = groups-fit good.proofs good.spelled.fit;
+  listed = ap without_proofs good.spelled.spelled ∙ groups-left good.proofs good.spelled.fit;
   right = accepted-headline file text (verdict.Accepted functions lines) good tt good.proofs good.spelled;
 }
 

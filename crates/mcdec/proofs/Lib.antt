@@ -11,6 +11,7 @@ pub mod Answers
 pub mod Checking
 pub mod Groups
 pub mod OneListing
+pub mod Listed
 pub mod Exactness
 pub mod Decompiling
 pub mod SelfTesting

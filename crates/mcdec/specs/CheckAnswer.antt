@@ -2,13 +2,15 @@
 use Rattle.std.specs.Prelude.{◌≡◌, ℕ, ◌<◌, ◌≤◌, List, length, Option, Some}
 use Rattle.mc_shelf.specs.Shelf.{Contents}
 use Rattle.elf_image.specs.Fault.{fault_of}
-use Rattle.proof_text.specs.Line.{ProofTree}
-use Rattle.proof_text.specs.Proofs.{groups_of}
+use Rattle.tailrec_lang.specs.Tree.{GroupTree}
+use Rattle.proof_text.specs.Spelling.{text_of}
+use Rattle.proof_text.specs.Limits.{AreGroups}
 use Rattle.checker.specs.Headline.{Headline}
-use Rattle.checker.specs.Verdicts.{IsTextOf, IsBadText, IsBadDef, IsBadLine, IsNotProved, IsAcceptedText}
+use Rattle.checker.specs.Verdicts.{IsBadText, IsBadDef, IsBadLine, IsNotProved, IsAcceptedText}
 use Rattle.mcdec.specs.declared.answer.CheckAnswer.{CheckAnswer}
 use Rattle.mcdec.specs.declared.answer.CheckAnswer.TheVariants as answer
 use Rattle.mcdec.specs.Held.{HoldsWith}
+use Rattle.mcdec.specs.Listed.{lines_of, without_proofs}
 use Rattle.mcdec.specs.EvalAnswer.{proof_limit}
 use Rattle.mcdec.specs.RunAnswer.{elf_limit, IsLoaded}
 
@@ -27,12 +29,14 @@ CheckGives told proof file (answer.WrongLine line) = IsLoaded file × HoldsText 
 CheckGives told proof file (answer.NotProved group) = IsLoaded file × HoldsText told proof (λ text. IsNotProved file text group)
 CheckGives told proof file (answer.Accepted functions lines) = IsLoaded file × HoldsText told proof (λ text. IsAcceptedText file text functions lines)
 
--- The one name holds an ELF file, the other a text, and the functions of the text are right of the file.
+-- The one name holds an ELF file, the other a text. Without the lines of proofs this is the text of these groups, whose
+-- functions are right of the file.
 pub record AreRightFiles (files : Contents) (elf proof : List ℕ) : Type 0 where
   pub file : List ℕ
   pub text : List ℕ
   pub holds_file : files elf ≡ Some file
   pub holds_text : files proof ≡ Some text
-  pub proofs : List ProofTree
-  pub spelled : IsTextOf text proofs
-  pub right : Headline file (groups_of proofs)
+  pub groups : List GroupTree
+  pub fit : AreGroups groups
+  pub listed : without_proofs text ≡ lines_of (text_of groups)
+  pub right : Headline file groups

@@ -3,6 +3,7 @@ pub mod Memory
 pub mod EvalAnswer
 pub mod RunAnswer
 pub mod Held
+pub mod Listed
 pub mod CheckAnswer
 pub mod DecompileAnswer
 pub mod SelfTestAnswer
