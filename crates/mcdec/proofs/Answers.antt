@@ -22,7 +22,7 @@ use Rattle.mcdec.specs.declared.answer.EvalAnswer.TheVariants as answer
 use Rattle.mcdec.specs.Command.{Eval, Run, Arg, Given, Words, value_of, givens, ranges}
 use Rattle.mcdec.specs.inner.CommandReading.{Holds, HoldsArgs, value_in}
 use Rattle.mcdec.specs.Memory.{no_bytes, placed}
-use Rattle.mcdec.specs.EvalAnswer.{proof_limit, arguments_of, first_named, ranges_in, EvalGives}
+use Rattle.mcdec.specs.EvalAnswer.{proof_limit, arguments_given, first_named, ranges_in, EvalGives}
 use Rattle.mcdec.specs.inner.Search.{Finds, GroupGives}
 use Rattle.mcdec.specs.Answer.{ReadsAreTold}
 use Rattle.mcdec.specs.Held.{HoldsWith}
@@ -53,12 +53,12 @@ mems-there maps n m e = sym (length-map maps get) ∙ ap length e ∙ length-rep
 
 module _ (g : GroupTree) (is : IsGroup g) (args : List Arg) (values : List (Option ℕ)) (memory : List Range) (h : HoldsArgs args values memory)
     (x : Arguments) (words : x.words ≡ map (value_in values) g.regs) (mems : x.mems ≡ replicate g.mems (placed memory no_bytes)) where
-  arguments-same : x ≡ arguments_of args g
+  arguments-same : x ≡ arguments_given args g
   arguments-same =
       let ms : x.mems ≡ replicate g.mems (placed (ranges args) no_bytes) = mems ∙ ap (λ (rs : List Range). replicate g.mems (placed rs no_bytes)) h.1 in
       λ i. record { words = (words ∙ values-same (givens args) values h.0 1 g.regs is.registers) i; mems = ms i }
 
-  pub listed-outcome : (def : ℕ) → def ≡ listed_def g → (turns : ℕ) (o : Outcome) → o ≡ eval g def x turns → eval g (listed_def g) (arguments_of args g) turns ≡ o
+  pub listed-outcome : (def : ℕ) → def ≡ listed_def g → (turns : ℕ) (o : Outcome) → o ≡ eval g def x turns → eval g (listed_def g) (arguments_given args g) turns ≡ o
   listed-outcome def last turns o e = sym (e ∙ ap (λ (d : ℕ). eval g d x turns) last ∙ ap (λ (y : Arguments). eval g (listed_def g) y turns) arguments-same)
 
   pub evaluated : (def : ℕ) → def ≡ listed_def g → (turns exit pc left : ℕ) (results : Arguments) → Done exit pc results left ≡ eval g def x turns

@@ -11,7 +11,7 @@ use Rattle.rv_machine.specs.Run.{run}
 use Rattle.rv_machine.proofs.StepLemmas.{step-present}
 use Rattle.mcdec.specs.Command.{Arg, ranges}
 use Rattle.mcdec.specs.Memory.{placed}
-use Rattle.mcdec.specs.RunAnswer.{begin}
+use Rattle.mcdec.specs.RunAnswer.{state_given}
 
 -- all addresses of the range have a byte
 abbrev pub IsPresent : Bytes → Range → Type 0
@@ -67,7 +67,7 @@ still-there m n same [] all = tt
 still-there m n same (r ∷ rs) all = ((λ k lt. same (r.at + k) ∙ all.0 k lt), still-there m n same rs all.1)
 
 -- no byte of the lines of memory is one that is absent
-pub asked-present : (file : List ℕ) (args : List Arg) (a k : ℕ) (t : State) → run (begin file args a) k ≡ Some t → AllByRecursion (IsPresent t.mem) (ranges args)
+pub asked-present : (file : List ℕ) (args : List Arg) (a k : ℕ) (t : State) → run (state_given file args a) k ≡ Some t → AllByRecursion (IsPresent t.mem) (ranges args)
 asked-present file args a k t e =
-    let s = begin file args a in
+    let s = state_given file args a in
     still-there s.mem t.mem (run-present k s t e) (ranges args) (placed-has (ranges args) _)

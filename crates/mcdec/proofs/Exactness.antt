@@ -46,8 +46,8 @@ use Rattle.rv_machine.specs.declared.running.RunEnd.{RunEnd}
 use Rattle.rv_machine.specs.declared.running.RunEnd.TheVariants as end
 use Rattle.rv_machine.proofs.RunLemmas.{ends-once}
 use Rattle.decompiler.specs.Names.{StandsFor}
-use Rattle.mcdec.specs.RunAnswer.{elf_limit, IsLoaded, begin, shown_after, RunGives}
-use Rattle.mcdec.specs.EvalAnswer.{AreWellFormed, IsNamed, first_named, proof_limit, arguments_of, shown_of, EvalGives}
+use Rattle.mcdec.specs.RunAnswer.{elf_limit, IsLoaded, state_given, shown_after, RunGives}
+use Rattle.mcdec.specs.EvalAnswer.{AreWellFormed, IsNamed, first_named, proof_limit, arguments_given, shown_of, EvalGives}
 use Rattle.mcdec.specs.inner.Search.{GroupGives}
 use Rattle.mcdec.specs.Answer.{Gives, IsDetermined}
 use Rattle.mcdec.specs.Printed.{IsPrinted, IsDelivered, status}
@@ -191,7 +191,7 @@ answer_for g turns args Turns = ev.TurnsUsed
 answer_for g turns args (SideFalse def ordinal) = ev.SideFalse def ordinal
 answer_for g turns args NoOutcome = ev.NoFunction
 
-group-case : (g : GroupTree) (turns : ℕ) (args : List Arg) (a : EvalAnswer) → GroupGives g turns args a → a ≡ answer_for g turns args (eval g (listed_def g) (arguments_of args g) turns)
+group-case : (g : GroupTree) (turns : ℕ) (args : List Arg) (a : EvalAnswer) → GroupGives g turns args a → a ≡ answer_for g turns args (eval g (listed_def g) (arguments_given args g) turns)
 group-case g turns args ev.OverLimit h = absurd h
 group-case g turns args (ev.Unreadable line) h = absurd h
 group-case g turns args (ev.IllFormed group def) h = absurd h
@@ -372,7 +372,7 @@ machine-unique until steps args s a b h k =
 
 abbrev StartCase : List ℕ → List ℕ → ℕ → ℕ → List Arg → RunAnswer → Type 0
 StartCase file start until steps args a =
-    ((f : NameFault) × StandsFor file start (Err f) × (a ≡ ra.StartRefused start f)) ⊎ ((n : ℕ) × StandsFor file start (Ok n) × MachineCase until steps args (begin file args n) a)
+    ((f : NameFault) × StandsFor file start (Err f) × (a ≡ ra.StartRefused start f)) ⊎ ((n : ℕ) × StandsFor file start (Ok n) × MachineCase until steps args (state_given file args n) a)
 
 start-unique : (file start : List ℕ) (until steps : ℕ) (args : List Arg) (a b : RunAnswer) → StartCase file start until steps args a → StartCase file start until steps args b → a ≡ b
 start-unique file start until steps args a b (inl h) (inl k) = h.2 ∙ ap (ra.StartRefused start) (err_is h.0 k.0 (stands-once file start (Err h.0) (Err k.0) h.1 k.1)) ∙ sym k.2
@@ -380,7 +380,7 @@ start-unique file start until steps args a b (inl h) (inr k) = absurd (ok_err k.
 start-unique file start until steps args a b (inr h) (inl k) = absurd (ok_err h.0 k.0 (stands-once file start (Ok h.0) (Err k.0) h.1 k.1))
 start-unique file start until steps args a b (inr h) (inr k) =
     let n : h.0 ≡ k.0 = ok_is h.0 k.0 (stands-once file start (Ok h.0) (Ok k.0) h.1 k.1) in
-    machine-unique until steps args (begin file args k.0) a b (subst (λ (x : ℕ). MachineCase until steps args (begin file args x) a) n h.2) k.2
+    machine-unique until steps args (state_given file args k.0) a b (subst (λ (x : ℕ). MachineCase until steps args (state_given file args x) a) n h.2) k.2
 
 abbrev ImageCase : List ℕ → List ℕ → ℕ → ℕ → List Arg → RunAnswer → Type 0
 ImageCase file start until steps args a = ((why : ElfFault) × (fault_of file ≡ Some why) × (a ≡ ra.Unreadable why)) ⊎ (IsReadable file × StartCase file start until steps args a)

@@ -6,7 +6,7 @@ use Rattle.tailrec_lang.specs.declared.group.Exit.TheVariants.{At}
 use Rattle.tailrec_lang.specs.Tree.{Bind, Do, Leave, GroupTree, listed_def}
 use Rattle.tailrec_lang.specs.Eval.{Done, Turns, eval}
 use Rattle.mcdec.specs.Command.{Arg, Value, value_of, givens}
-use Rattle.mcdec.specs.EvalAnswer.{arguments_of}
+use Rattle.mcdec.specs.EvalAnswer.{arguments_given}
 
 -- sum: x10 gets x10 + x11
 abbrev sum : GroupTree
@@ -21,10 +21,10 @@ sum = record {
 abbrev two_and_three : List Arg
 two_and_three = Value (record { register = 10; value = 2 }) ∷ Value (record { register = 11; value = 3 }) ∷ []
 
-sum-done : eval sum (listed_def sum) (arguments_of two_and_three sum) 1 ≡ Done 0 65540 (record { words = 5 ∷ 3 ∷ []; mems = [] }) 0
+sum-done : eval sum (listed_def sum) (arguments_given two_and_three sum) 1 ≡ Done 0 65540 (record { words = 5 ∷ 3 ∷ []; mems = [] }) 0
 sum-done = refl
 
-sum-turns : eval sum (listed_def sum) (arguments_of two_and_three sum) 0 ≡ Turns
+sum-turns : eval sum (listed_def sum) (arguments_given two_and_three sum) 0 ≡ Turns
 sum-turns = refl
 
 other-register : value_of (givens two_and_three) 12 ≡ 0

@@ -26,7 +26,7 @@ use Rattle.mcdec.specs.Command.{Arg, Given, AreGiven, given_to, value_of, givens
 use Rattle.mcdec.specs.inner.CommandReading.{Holds, given_in, value_in}
 use Rattle.mcdec.specs.Memory.{placed, held_at}
 use Rattle.decompiler.specs.Names.{StandsFor}
-use Rattle.mcdec.specs.RunAnswer.{begin, elf_limit, is_shown, shown_registers, RunGives}
+use Rattle.mcdec.specs.RunAnswer.{state_given, elf_limit, is_shown, shown_registers, RunGives}
 use Rattle.mcdec.specs.inner.Running.{MachineGives, shown_with}
 
 -- ---- values
@@ -183,7 +183,7 @@ held-all m r k bytes e is = λ i. record { at = r.at; bytes = (is ∙ (λ j. map
 -- ---- the whole state
 
 pub begun : (file : List ℕ) (args : List Arg) (a : ℕ) (pieces : List Piece) (memory : List Range) (s t v u : State) → bytes_in pieces ≡ memory_of_file file → memory ≡ ranges args → s ≡ empty_state a
-    → t ≡ with_bytes (bytes_in pieces) s → v ≡ record t { mem = placed memory t.mem } → ((v.reg ≡ (λ r. 0)) → u ≡ record v { reg = value_of (givens args) }) → u ≡ begin file args a
+    → t ≡ with_bytes (bytes_in pieces) s → v ≡ record t { mem = placed memory t.mem } → ((v.reg ≡ (λ r. 0)) → u ≡ record v { reg = value_of (givens args) }) → u ≡ state_given file args a
 begun file args a pieces memory s t v u bytes same empty put over_it set =
     let loaded : t ≡ with_bytes (memory_of_file file) (empty_state a) = put ∙ (λ i. with_bytes (bytes i) (empty i)) in
     let here : v ≡ record { pc = a; reg = λ r. 0; mem = placed (ranges args) (memory_of_file file) } =
@@ -271,7 +271,7 @@ module _ (until steps : ℕ) (args : List Arg) (s begun t : State) (same : s ≡
   steps-given ends = (t, subst (λ (x : State). EndsIn until steps x t end.Steps) same ends)
 
 module _ (file start : List ℕ) (until steps : ℕ) (args : List Arg) (at : ℕ) (small : length file ≤ elf_limit) (readable : IsReadable file) (stands : StandsFor file start (Ok at)) where
-  image-gives : (a : RunAnswer) → MachineGives until steps args (begin file args at) a → RunGives file start until steps args a
+  image-gives : (a : RunAnswer) → MachineGives until steps args (state_given file args at) a → RunGives file start until steps args a
   image-gives answer.OverLimit h = absurd h
   image-gives (answer.Unreadable why) h = absurd h
   image-gives (answer.StartRefused name why) h = absurd h
@@ -279,6 +279,6 @@ module _ (file start : List ℕ) (until steps : ℕ) (args : List Arg) (at : ℕ
   image-gives answer.StepsUsed h = ((small, readable), h.0, record { at = at; stands = stands; ends = h.1 })
   image-gives (answer.Met shown) h = ((small, readable), h.0, h.1, record { at = at; stands = stands; ends = h.2 }, h.3)
 
-  pub image-given : (result : Result RunAnswer NoMemory) → IfOk result (λ a. MachineGives until steps args (begin file args at) a) → IfOk result (λ a. RunGives file start until steps args a)
+  pub image-given : (result : Result RunAnswer NoMemory) → IfOk result (λ a. MachineGives until steps args (state_given file args at) a) → IfOk result (λ a. RunGives file start until steps args a)
   image-given (Err e) h = tt
   image-given (Ok a) h = image-gives a h

@@ -23,8 +23,8 @@ proof_limit = 268435456
 
 -- the value of each register of the group, 0 where it is given none, and, where the group has a memory, the words' bytes
 -- in an empty one
-abbrev pub arguments_of : List Arg → GroupTree → Arguments
-arguments_of args g = record { words = map (value_of (givens args)) g.regs; mems = replicate g.mems (placed (ranges args) no_bytes) }
+abbrev pub arguments_given : List Arg → GroupTree → Arguments
+arguments_given args g = record { words = map (value_of (givens args)) g.regs; mems = replicate g.mems (placed (ranges args) no_bytes) }
 
 -- the words' ranges with the bytes that a group's memory has there, if it has one
 abbrev pub ranges_in : List Bytes → List Range → List Range
@@ -62,9 +62,9 @@ EvalGives file name turns args (answer.IllFormed group def) =
     × (group ≡ length ps) × IsFirstIllFormed g def
 EvalGives file name turns args answer.NoFunction = (length file ≤ proof_limit) × IsNamed file name None
 EvalGives file name turns args (answer.SideFalse def ordinal) =
-    (length file ≤ proof_limit) × (g : GroupTree) × IsNamed file name (Some g) × (eval g (listed_def g) (arguments_of args g) turns ≡ SideFalse def ordinal)
+    (length file ≤ proof_limit) × (g : GroupTree) × IsNamed file name (Some g) × (eval g (listed_def g) (arguments_given args g) turns ≡ SideFalse def ordinal)
 EvalGives file name turns args answer.TurnsUsed =
-    (length file ≤ proof_limit) × (g : GroupTree) × IsNamed file name (Some g) × (eval g (listed_def g) (arguments_of args g) turns ≡ Turns)
+    (length file ≤ proof_limit) × (g : GroupTree) × IsNamed file name (Some g) × (eval g (listed_def g) (arguments_given args g) turns ≡ Turns)
 EvalGives file name turns args (answer.Done shown) =
     (length file ≤ proof_limit) × (g : GroupTree) × IsNamed file name (Some g) × (exit pc left : ℕ) × (results : Arguments)
-    × (eval g (listed_def g) (arguments_of args g) turns ≡ Done exit pc results left) × (shown ≡ shown_of g args (turns - left) pc results)
+    × (eval g (listed_def g) (arguments_given args g) turns ≡ Done exit pc results left) × (shown ≡ shown_of g args (turns - left) pc results)

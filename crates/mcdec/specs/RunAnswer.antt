@@ -20,8 +20,8 @@ elf_limit = 67108864
 
 -- the state at an address: in memory the file's bytes and the words' ranges over them, and in each register the value that it
 -- is given, or 0
-abbrev pub begin : List ℕ → List Arg → ℕ → State
-begin file args a = record { pc = a; reg = value_of (givens args); mem = placed (ranges args) (memory_of_file file) }
+abbrev pub state_given : List ℕ → List Arg → ℕ → State
+state_given file args a = record { pc = a; reg = value_of (givens args); mem = placed (ranges args) (memory_of_file file) }
 
 -- a register that is given a value, or doesn't hold 0
 abbrev pub is_shown : List Given → State → ℕ → Bool
@@ -46,17 +46,17 @@ abbrev pub IsLoaded : List ℕ → Type 0
 IsLoaded file = (length file ≤ elf_limit) × IsReadable file
 
 -- the run from START ends so, in the state t
-pub record Runs (file start : List ℕ) (until steps : ℕ) (args : List Arg) (t : State) (how : RunEnd) : Type 0 where
+pub record RunsTo (file start : List ℕ) (until steps : ℕ) (args : List Arg) (t : State) (how : RunEnd) : Type 0 where
   pub at : ℕ
   pub stands : StandsFor file start (Ok at)
-  pub ends : EndsIn until steps (begin file args at) t how
+  pub ends : EndsIn until steps (state_given file args at) t how
 
 -- What `run` comes to, where the ELF file has these bytes.
 abbrev pub RunGives : (file start : List ℕ) (until steps : ℕ) (args : List Arg) → RunAnswer → Type 0
 RunGives file start until steps args answer.OverLimit = elf_limit < length file
 RunGives file start until steps args (answer.Unreadable why) = (length file ≤ elf_limit) × (fault_of file ≡ Some why)
 RunGives file start until steps args (answer.StartRefused name why) = IsLoaded file × (name ≡ start) × StandsFor file start (Err why)
-RunGives file start until steps args (answer.Stuck k why) = IsLoaded file × (t : State) × Runs file start until steps args t (end.Stuck k why)
-RunGives file start until steps args answer.StepsUsed = IsLoaded file × (t : State) × Runs file start until steps args t end.Steps
+RunGives file start until steps args (answer.Stuck k why) = IsLoaded file × (t : State) × RunsTo file start until steps args t (end.Stuck k why)
+RunGives file start until steps args answer.StepsUsed = IsLoaded file × (t : State) × RunsTo file start until steps args t end.Steps
 RunGives file start until steps args (answer.Met shown) =
-    IsLoaded file × (t : State) × (k : ℕ) × Runs file start until steps args t (end.Met k) × (shown ≡ shown_after args k t)
+    IsLoaded file × (t : State) × (k : ℕ) × RunsTo file start until steps args t (end.Met k) × (shown ≡ shown_after args k t)

@@ -9,7 +9,7 @@ ghost use Rattle.mcdec.specs.Answer.{Gives, ReadsAreTold};
 ghost use Rattle.mcdec.specs.Command.{AreArgs, AreGiven, Arg, Given, IsMemory, value_of};
 ghost use Rattle.mcdec.specs.inner.CommandReading.{Holds, HoldsArgs, IsReadRun};
 ghost use Rattle.mcdec.specs.Memory.{placed};
-ghost use Rattle.mcdec.specs.RunAnswer.{RunGives, begin, elf_limit};
+ghost use Rattle.mcdec.specs.RunAnswer.{RunGives, state_given, elf_limit};
 ghost use Rattle.mcdec.specs.inner.Running.{MachineGives, shown_with};
 
 use crate::answer::{Answer, RunAnswer, Shown};
@@ -74,7 +74,7 @@ fn run_bytes(alloc: Global, file: Bytes, r: &Run<'_>) -> Result<RunAnswer, NoMem
 fn run_image(alloc: Global, image: Image, start: u64, r: &Run<'_>) -> Result<RunAnswer, NoMemory>
     requires { All IsMemory r.now.memory }
     ensures { (args : List Arg) → AreArgs args → HoldsArgs args r.now.given.values r.now.memory → (file : List ℕ) → image ≡ image_of file
-        → IfOk result (λ a. MachineGives r.now.until r.now.steps args (begin file args start) a) }
+        → IfOk result (λ a. MachineGives r.now.until r.now.steps args (state_given file args start) a) }
 {
     law_of_image(&image);
     let mut state = State::new(alloc, start);

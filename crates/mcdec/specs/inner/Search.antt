@@ -15,7 +15,7 @@ use Rattle.mcdec.specs.declared.evaluate.Refusal.TheVariants as refusal
 use Rattle.mcdec.specs.declared.answer.EvalAnswer.{EvalAnswer}
 use Rattle.mcdec.specs.declared.answer.EvalAnswer.TheVariants as answer
 use Rattle.mcdec.specs.Command.{Arg}
-use Rattle.mcdec.specs.EvalAnswer.{AreWellFormed, IsNamed, arguments_of, first_named, shown_of}
+use Rattle.mcdec.specs.EvalAnswer.{AreWellFormed, IsNamed, arguments_given, first_named, shown_of}
 
 -- these proofs were given, and the lines of the last one have ended
 pub record HasPassed (ps : List ProofTree) (r : Progress) : Type 0 where
@@ -93,7 +93,7 @@ GroupGives g turns args answer.OverLimit = ⊥
 GroupGives g turns args (answer.Unreadable line) = ⊥
 GroupGives g turns args (answer.IllFormed group def) = ⊥
 GroupGives g turns args answer.NoFunction = ⊥
-GroupGives g turns args (answer.SideFalse def ordinal) = eval g (listed_def g) (arguments_of args g) turns ≡ SideFalse def ordinal
-GroupGives g turns args answer.TurnsUsed = eval g (listed_def g) (arguments_of args g) turns ≡ Turns
+GroupGives g turns args (answer.SideFalse def ordinal) = eval g (listed_def g) (arguments_given args g) turns ≡ SideFalse def ordinal
+GroupGives g turns args answer.TurnsUsed = eval g (listed_def g) (arguments_given args g) turns ≡ Turns
 GroupGives g turns args (answer.Done shown) = (exit pc left : ℕ) × (results : Arguments)
-    × (eval g (listed_def g) (arguments_of args g) turns ≡ Done exit pc results left) × (shown ≡ shown_of g args (turns - left) pc results)
+    × (eval g (listed_def g) (arguments_given args g) turns ≡ Done exit pc results left) × (shown ≡ shown_of g args (turns - left) pc results)
