@@ -34,7 +34,7 @@ two a b t h =
     let inner = and_true (is_register a) (is_register b) outer.0 in
     (register a inner.0, register b inner.1, outer.1)
 
-named : (i : Instr) → is_encodable i ≡ true → NamesRegisters i
+pub named : (i : Instr) → is_encodable i ≡ true → NamesRegisters i
 named (Op o d a b) h = let r = two d a (is_register b) h in (r.0, r.1, register b r.2)
 named (OpImm o d a imm) h = let r = two d a (takes_immediate o imm) h in (r.0, r.1)
 named (Lui d imm) h = register d (and_true (is_register d) (nat_lt imm (2 ^ 20)) h).0
