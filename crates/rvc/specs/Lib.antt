@@ -1,0 +1,3 @@
+pub mod Parcel
+pub mod Expands
+pub mod Number
