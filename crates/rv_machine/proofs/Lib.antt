@@ -1,6 +1,5 @@
 pub mod RunLemmas
 pub mod StuckLemmas
-pub mod JumpLemmas
 pub mod MemoryLemmas
 pub mod StepLemmas
 pub mod StateLemmas

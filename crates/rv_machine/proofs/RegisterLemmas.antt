@@ -6,7 +6,7 @@ use Rattle.rv_decode.specs.declared.instruction.Instr.{Instr}
 use Rattle.rv_decode.specs.declared.instruction.Instr.TheVariants.{Op, OpImm, Lui, Auipc, Jal, Jalr, Branch, Load, Store, Fence, Ecall, Ebreak}
 use Rattle.rv_decode.specs.Registers.{destination, is_read, is_written}
 use Rattle.rv_machine.specs.State.{State, with_register}
-use Rattle.rv_machine.specs.Step.{has, is_aligned, jump_target, loaded, plus, reads, upper}
+use Rattle.rv_machine.specs.Step.{has, jump_target, loaded, plus, reads, upper}
 use Rattle.rv_machine.specs.Update.{HaveSame, is_possible, mem_after, pc_after, reg_after}
 
 -- ---- the register that is written
@@ -51,9 +51,9 @@ same-possible (Op o rd rs1 rs2) s u h = refl
 same-possible (OpImm o rd rs1 imm) s u h = refl
 same-possible (Lui rd imm) s u h = refl
 same-possible (Auipc rd imm) s u h = refl
-same-possible (Jal rd offset) s u h = λ j. is_aligned (plus (h.pc j) offset)
-same-possible (Jalr rd rs1 imm) s u h = let a = same_first (Jalr rd rs1 imm) s u rs1 _ h refl in λ j. is_aligned (jump_target (a j) imm)
-same-possible (Branch c rs1 rs2 offset) s u h = let a = same_first (Branch c rs1 rs2 offset) s u rs1 _ h refl in let b = same_last (Branch c rs1 rs2 offset) s u rs1 rs2 h refl in λ j. cond (comparison_holds c (a j) (b j)) (is_aligned (plus (h.pc j) offset)) true
+same-possible (Jal rd offset) s u h = refl
+same-possible (Jalr rd rs1 imm) s u h = refl
+same-possible (Branch c rs1 rs2 offset) s u h = refl
 same-possible (Load w signed rd rs1 imm) s u h = let a = same_first (Load w signed rd rs1 imm) s u rs1 _ h refl in λ j. has w (h.mem j) (plus (a j) imm)
 same-possible (Store w rs1 rs2 imm) s u h = let a = same_first (Store w rs1 rs2 imm) s u rs1 _ h refl in λ j. has w (h.mem j) (plus (a j) imm)
 same-possible (Fence imm rs1 rd) s u h = refl

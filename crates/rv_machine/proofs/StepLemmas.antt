@@ -4,21 +4,21 @@ use Rattle.std.specs.Option.{option_and_then, unwrap_or}
 use Rattle.std.proofs.Math.Nat.{mod-lt}
 use Rattle.std.proofs.lemmas.Nat.{pow_pos}
 use Rattle.rv_words.specs.Bytes.{AreSame, Bytes, away, bytes_of, inside, load}
+use Rattle.rvc.specs.Number.{instruction_of, length_of, number_at}
+use Rattle.rvc.proofs.NumberLemmas.{number-same}
 use Rattle.rv_words.specs.Operation.{comparison_holds}
 use Rattle.rv_words.specs.declared.width.Width.{Width}
 use Rattle.rv_decode.specs.declared.instruction.Instr.{Instr}
 use Rattle.rv_decode.specs.declared.instruction.Instr.TheVariants.{Op, OpImm, Lui, Auipc, Jal, Jalr, Branch, Load, Store, Fence, Ecall, Ebreak}
-use Rattle.rv_decode.specs.Decodes.{decoded}
 use Rattle.rv_machine.specs.State.{State, with_memory, with_register}
-use Rattle.rv_machine.specs.Step.{act, branches, goes_to, instruction_at, is_aligned, length_at, loaded, next, only_if, plus, reads, sign_extended, step}
+use Rattle.rv_machine.specs.Step.{act, branches, goes_to, instruction_at, is_even, length_at, loaded, next, only_if, plus, reads, sign_extended, step}
 use Rattle.rv_machine.specs.Update.{is_possible, mem_after, pc_after, reg_after, updated}
 use Rattle.rv_machine.specs.Touches.{AreSameOn, IsStepWith, IsTouched, fetches, touched, touched_by, touches}
 use Rattle.rv_words.proofs.MemoryLemmas.{inside-all, inside-same, load-same, store-elsewhere, store-present, store-same}
 
 -- ---- an instruction's test and its update
 
-by_branch : (taken : Bool) (offset : ℤ) (n : ℕ) (s : State)
-    → branches taken offset n s ≡ only_if (cond taken (is_aligned (plus s.pc offset)) true) (goes_to (cond taken (plus s.pc offset) (next n s)) s)
+by_branch : (taken : Bool) (offset : ℤ) (n : ℕ) (s : State) → branches taken offset n s ≡ goes_to (cond taken (plus s.pc offset) (next n s)) s
 by_branch true offset n s = refl
 by_branch false offset n s = refl
 
@@ -30,7 +30,7 @@ act-is (Lui rd imm) n s = refl
 act-is (Auipc rd imm) n s = refl
 act-is (Jal rd offset) n s = refl
 act-is (Jalr rd rs1 imm) n s = refl
-act-is (Branch c rs1 rs2 offset) n s = by_branch (comparison_holds c (reads rs1 s) (reads rs2 s)) offset n s
+act-is (Branch c rs1 rs2 offset) n s = ap Some (by_branch (comparison_holds c (reads rs1 s) (reads rs2 s)) offset n s)
 act-is (Load w signed rd rs1 imm) n s = refl
 act-is (Store w rs1 rs2 imm) n s = refl
 act-is (Fence imm rs1 rd) n s = refl
@@ -65,19 +65,22 @@ step-updated s t e = let a = step-act s t e in let b = act-some a.0 (length_at s
 pub updated-step : (i : Instr) (s : State) → instruction_at s ≡ Some i → is_possible i s ≡ true → step s ≡ Some (updated i (length_at s) s)
 updated-step i s e possible = act-step i s e ∙ act-is i (length_at s) s ∙ ap (λ b. only_if b (updated i (length_at s) s)) possible
 
-fetch_some : (t u : Bool) (w : ℕ) (i : Instr) → cond t (option_and_then decoded (cond u (Some w) None)) None ≡ Some i → (t ≡ true) × (u ≡ true) × (decoded w ≡ Some i)
-fetch_some true true w i e = (refl, refl, e)
-fetch_some true false w i e = absurd (cc)
-fetch_some false u w i e = absurd (cc)
+fetch_some : (t : Bool) (o : Option ℕ) (i : Instr) → cond t (option_and_then instruction_of o) None ≡ Some i → (w : ℕ) × (t ≡ true) × (o ≡ Some w) × (instruction_of w ≡ Some i)
+fetch_some true (Some w) i e = (w, refl, refl, e)
+fetch_some true None i e = absurd (cc)
+fetch_some false o i e = absurd (cc)
 
--- the instruction at pc: pc is aligned, its four bytes are present, and their word is the instruction
+-- the instruction at pc: pc is even, a parcel or a word stands there, and it is the instruction
 pub instruction_at-is : (i : Instr) (s : State)
-    → (instruction_at s ≡ Some i) ↔ ((is_aligned s.pc ≡ true) × (inside 4 s.mem s.pc ≡ true) × (decoded (load 4 s.mem s.pc) ≡ Some i))
-instruction_at-is i s =
-    let w = load 4 s.mem s.pc in (
-      fetch_some (is_aligned s.pc) (inside 4 s.mem s.pc) w i,
-      λ h. (λ j. cond (h.0 j) (option_and_then decoded (cond (h.1 j) (Some w) None)) None) ∙ h.2,
-    )
+    → (instruction_at s ≡ Some i) ↔ ((w : ℕ) × (is_even s.pc ≡ true) × (number_at s.mem s.pc ≡ Some w) × (instruction_of w ≡ Some i))
+instruction_at-is i s = (
+  fetch_some (is_even s.pc) (number_at s.mem s.pc) i,
+  λ (w, even, there, is). (λ j. cond (even j) (option_and_then instruction_of (there j)) None) ∙ is,
+)
+
+-- its length
+pub length_at-is : (s : State) (w : ℕ) → number_at s.mem s.pc ≡ Some w → length_at s ≡ length_of w
+length_at-is s w e = ap (λ o. length_of (unwrap_or o 0)) e
 
 -- ---- what a step never changes
 
@@ -229,12 +232,11 @@ touched-alike (Fence imm rs1 rd) s m = refl
 touched-alike Ecall s m = refl
 touched-alike Ebreak s m = refl
 
--- the instruction at pc depends on its four bytes alone
-pub instruction_at-same : (s : State) (m : Bytes) → s.pc < 2 ^ 64 → AreSame 4 m s.mem s.pc → instruction_at (with_memory m s) ≡ instruction_at s
-instruction_at-same s m h same =
-    let there = inside-same 4 m s.mem s.pc h same in
-    let word = load-same 4 m s.mem s.pc h same in
-    λ i. cond (is_aligned s.pc) (option_and_then decoded (cond (there i) (Some (word i)) None)) None
+-- the number at pc, where an instruction stands there, depends on its bytes alone
+pub number-alike : (i : Instr) (s : State) (m : Bytes) → s.pc < 2 ^ 64 → instruction_at s ≡ Some i → AreSame (length_at s) m s.mem s.pc → number_at m s.pc ≡ number_at s.mem s.pc
+number-alike i s m h e same =
+    let at = (instruction_at-is i s).0 e in
+    number-same s.mem m s.pc at.0 h at.2 (subst (λ n. AreSame n m s.mem s.pc) (length_at-is s at.0 at.2) same) ∙ sym at.2
 
 -- a step depends on no byte but those at pc and those that it touches
 pub step-alike : (s t : State) (m : Bytes) → s.pc < 2 ^ 64 → step s ≡ Some t → AreSameOn (fetches s) m s.mem → AreSameOn (touches s) m s.mem → IsStepWith s t m
@@ -246,11 +248,13 @@ step-alike s t m h e code same =
     let at = touches-at i s a.1 in
     let done = act-some i n s t a.2 in
     let like = act-alike i n s m (λ q k. same q (subst (λ x. IsTouched x q) (sym at) k)) in
-    let there : instruction_at u ≡ Some i = instruction_at-same s m h (λ k l. code (away s.pc k) (k, l, refl)) ∙ a.1 in
+    let number : number_at m s.pc ≡ number_at s.mem s.pc = number-alike i s m h a.1 (λ k l. code (away s.pc k) (k, l, refl)) in
+    let there : instruction_at u ≡ Some i = (λ j. cond (is_even s.pc) (option_and_then instruction_of (number j)) None) ∙ a.1 in
+    let long : length_at u ≡ n = λ j. length_of (unwrap_or (number j) 0) in
     let able : is_possible i u ≡ true = like.possible ∙ done.0 in
     record {
       next = updated i n u;
-      steps = updated-step i u there able;
+      steps = updated-step i u there able ∙ (λ j. Some (updated i (long j) u));
       touched = touches-at i u there ∙ touched-alike i s m ∙ sym at;
       pc = like.pc ∙ sym (ap (λ (x : State). x.pc) done.1);
       reg = like.reg ∙ sym (ap (λ (x : State). x.reg) done.1);

@@ -6,7 +6,7 @@ use Rattle.rv_decode.specs.declared.instruction.Instr.{Instr}
 use Rattle.rv_decode.specs.declared.instruction.Instr.TheVariants.{Load, Store}
 use Rattle.rv_machine.specs.declared.touch.Touch.{Touch}
 use Rattle.rv_machine.specs.State.{State, with_memory}
-use Rattle.rv_machine.specs.Step.{instruction_at, plus, reads, step}
+use Rattle.rv_machine.specs.Step.{instruction_at, length_at, plus, reads, step}
 
 -- no address
 abbrev pub nothing : Touch
@@ -34,9 +34,9 @@ touches s = touched_by (instruction_at s) s
 abbrev pub IsTouched : Touch → ℕ → Type 0
 IsTouched t a = (k : ℕ) × (k < t.count) × (a ≡ (t.at + k) % 2 ^ 64)
 
--- the addresses of the word at pc
+-- the addresses of the instruction at pc
 abbrev pub fetches : State → Touch
-fetches s = record { at = s.pc; count = 4 }
+fetches s = record { at = s.pc; count = length_at s }
 
 -- two memories have the same bytes there, or have them not
 abbrev pub AreSameOn : Touch → Bytes → Bytes → Type 0

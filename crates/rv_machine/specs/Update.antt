@@ -6,7 +6,7 @@ use Rattle.rv_decode.specs.declared.instruction.Instr.{Instr}
 use Rattle.rv_decode.specs.declared.instruction.Instr.TheVariants.{Op, OpImm, Lui, Auipc, Jal, Jalr, Branch, Load, Store, Fence, Ecall, Ebreak}
 use Rattle.rv_decode.specs.Registers.{is_read}
 use Rattle.rv_machine.specs.State.{State, with_register}
-use Rattle.rv_machine.specs.Step.{has, is_aligned, jump_target, loaded, next, plus, reads, upper}
+use Rattle.rv_machine.specs.Step.{has, jump_target, loaded, next, plus, reads, upper}
 
 -- the instruction can be carried out
 abbrev pub is_possible : Instr → State → Bool
@@ -14,9 +14,9 @@ is_possible (Op o rd rs1 rs2) s = true
 is_possible (OpImm o rd rs1 imm) s = true
 is_possible (Lui rd imm) s = true
 is_possible (Auipc rd imm) s = true
-is_possible (Jal rd offset) s = is_aligned (plus s.pc offset)
-is_possible (Jalr rd rs1 imm) s = is_aligned (jump_target (reads rs1 s) imm)
-is_possible (Branch c rs1 rs2 offset) s = if comparison_holds c (reads rs1 s) (reads rs2 s) then is_aligned (plus s.pc offset) else true
+is_possible (Jal rd offset) s = true
+is_possible (Jalr rd rs1 imm) s = true
+is_possible (Branch c rs1 rs2 offset) s = true
 is_possible (Load w signed rd rs1 imm) s = has w s.mem (plus (reads rs1 s) imm)
 is_possible (Store w rs1 rs2 imm) s = has w s.mem (plus (reads rs1 s) imm)
 is_possible (Fence imm rs1 rd) s = true

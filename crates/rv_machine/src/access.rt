@@ -1,31 +1,35 @@
 //! Reading memory. Addresses go on from 0 after the last one.
 
-ghost use Rattle.std.specs.Prelude.{◌≡◌, ◌+◌, ◌*◌, Some, None, if◌then◌else◌};
+ghost use Rattle.std.specs.Prelude.{◌≡◌, ◌<◌, ◌^◌, IfSome, Some, None, if◌then◌else◌};
 ghost use Rattle.std.specs.FinMap.{get};
-ghost use Rattle.rv_words.specs.Bytes.{inside, word_at};
+ghost use Rattle.rv_words.specs.Bytes.{inside, load};
+ghost use Rattle.rvc.specs.Number.{number_at};
 ghost use Rattle.rv_machine.specs.Step as spec;
 
 use rv_words::{ByteMap, Ext, Width, extend};
+use rvc::is_word;
 
-/// The word that the four bytes from `a` on make, if they are present.
+/// The parcel or the word that stands at `a`, if its bytes are present.
+#[tactic(auto, using(rvc::proofs::NumberLemmas::long_number, rvc::proofs::NumberLemmas::short_number))]
 pub fn fetch(memory: &ByteMap, a: u64) -> Option<u32>
-    ensures { result ≡ word_at (get memory.now) a }
+    ensures { result ≡ number_at (get memory.now) a }
 {
-    let byte1 = a.wrapping_add(1);
-    let byte2 = byte1.wrapping_add(1);
-    let byte3 = byte2.wrapping_add(1);
-    let low = memory.byte(a)?;
-    let second = memory.byte(byte1)?;
-    let third = memory.byte(byte2)?;
-    let high = memory.byte(byte3)?;
-    Some(join(low, second, third, high))
+    let parcel = pair(memory, a)?;
+    if !is_word(parcel) {
+        return Some(parcel);
+    }
+    let high = pair(memory, a.wrapping_add(1).wrapping_add(1))?;
+    Some(parcel + 65536 * high)
 }
 
-/// The number that four bytes make, the low one first.
-fn join(low: u8, second: u8, third: u8, high: u8) -> u32
-    ensures { result ≡ low + 256 * (second + 256 * (third + 256 * (high + 256 * 0))) }
+/// The number that the two bytes from `a` on make, the low one first, if they are present.
+fn pair(memory: &ByteMap, a: u64) -> Option<u32>
+    ensures value { result ≡ if inside 2 (get memory.now) a then Some (load 2 (get memory.now) a) else None }
+    ensures small { IfSome result (λ w. w < 2 ^ 16) }
 {
-    u32::from(low) + 256 * (u32::from(second) + 256 * (u32::from(third) + 256 * u32::from(high)))
+    let low = memory.byte(a)?;
+    let high = memory.byte(a.wrapping_add(1))?;
+    Some(u32::from(low) + 256 * (u32::from(high) + 256 * 0))
 }
 
 /// The word that a load from `a` gives.

@@ -1,13 +1,13 @@
 //! Laws of steps and runs. These functions do nothing: their contracts are the laws. Each speaks of the definitions alone.
 
 ghost use Rattle.std.specs.Prelude.{◌≡◌, ℕ, ◌+◌, ◌^◌, ◌<◌, true, false, ◌↔◌, Some, None, IsSome, is_some};
-ghost use Rattle.rv_words.specs.Bytes.{Bytes, inside, load};
+ghost use Rattle.rv_words.specs.Bytes.{Bytes};
 ghost use Rattle.rv_decode.specs.declared.instruction.Instr.{Instr};
-ghost use Rattle.rv_decode.specs.Decodes.{decoded};
 ghost use Rattle.rv_decode.specs.Registers.{destination, is_written};
+ghost use Rattle.rvc.specs.Number.{instruction_of, length_of, number_at};
 ghost use Rattle.rv_machine.specs.declared.running.RunEnd.{RunEnd};
 ghost use Rattle.rv_machine.specs.State.{IsState, State};
-ghost use Rattle.rv_machine.specs.Step.{act, instruction_at, is_aligned, length_at, only_if, step, stuck};
+ghost use Rattle.rv_machine.specs.Step.{act, instruction_at, is_even, length_at, only_if, step, stuck};
 ghost use Rattle.rv_machine.specs.Update.{HaveSame, is_possible, updated};
 ghost use Rattle.rv_machine.specs.Run.{EndsIn, run};
 ghost use Rattle.rv_machine.specs.Touches.{AreSameOn, IsStepWith, IsTouched, fetches, touches};
@@ -21,7 +21,8 @@ pub fn law_of_steps()
     ensures instruction { (s t : State) → step s ≡ Some t
         → (i : Instr) × (instruction_at s ≡ Some i) × (is_possible i s ≡ true) × (t ≡ updated i (length_at s) s) }
     ensures fetch { (i : Instr) (s : State) → (instruction_at s ≡ Some i)
-        ↔ ((is_aligned s.pc ≡ true) × (inside 4 s.mem s.pc ≡ true) × (decoded (load 4 s.mem s.pc) ≡ Some i)) }
+        ↔ ((w : ℕ) × (is_even s.pc ≡ true) × (number_at s.mem s.pc ≡ Some w) × (instruction_of w ≡ Some i)) }
+    ensures length { (s : State) (w : ℕ) → number_at s.mem s.pc ≡ Some w → length_at s ≡ length_of w }
     ensures exactly { (s : State) → (stuck s ≡ None) ↔ IsSome (step s) }
 {}
 

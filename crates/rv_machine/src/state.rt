@@ -5,30 +5,38 @@ ghost use Rattle.std.specs.FinMap.{empty};
 ghost use Rattle.rv_words.specs.Bytes.{bytes_from, bytes_of};
 ghost use Rattle.rv_decode.specs.Decodes.{NamesRegisters};
 ghost use Rattle.rv_machine.specs.State.{IsState, empty_state, state_of, with_bytes};
-ghost use Rattle.rv_machine.specs.declared.state.Stuck.TheVariants.{Misaligned, NoByte};
-ghost use Rattle.rv_machine.specs.Step.{act, branches, cause, first_absent as absent_from, goes_on, has, hindrance, instruction_at, is_aligned, jumps_to, length_at, loads_to, next, plus, step as next_state, stores_at, stuck, writes};
+ghost use Rattle.rv_machine.specs.declared.state.Stuck.TheVariants.{NoByte};
+ghost use Rattle.rv_machine.specs.Step.{act, branches, cause, first_absent as absent_from, goes_on, goes_to, has, hindrance, instruction_at, length_at, loads_to, next, step as next_state, stores_at, stuck, writes};
 
 use crate::access::{fetch, first_absent, load};
 use crate::address::{immediate_word, jump_target, plus_immediate, upper_word};
 use crate::registers::Registers;
-use rv_decode::{Instr, decode};
+use rv_decode::Instr;
 use rv_words::{ByteMap, NoMemory, Width, apply, compare};
+use rvc::{instruction_of, length_of};
 use std::alloc::Global;
 use std::marker::Model;
 
 /// Why there is no step, in the order of the tests.
 #[derive(Clone, Copy, Debug, PartialEq, Eq)]
 pub enum Stuck {
-    /// The program counter, or the target of a jump or a taken branch, isn't a multiple of 4.
+    /// The program counter is odd.
     Misaligned(u64),
-    /// One of the four bytes at the program counter is absent.
+    /// One of the bytes of the instruction at the program counter is absent.
     NoFetch,
-    /// The word at the program counter is no instruction.
+    /// The parcel or the word at the program counter is no instruction.
     NotDecoded(u32),
     /// The instruction calls the environment.
     Environment,
     /// A byte that is to be loaded or stored is absent: the first one counting up from the address.
     NoByte(u64),
+}
+
+/// An instruction, and how many bytes it has where it stands.
+#[derive(Clone, Copy)]
+pub struct Found {
+    pub instruction: Instr,
+    pub length: u64,
 }
 
 /// A state of the machine. Memory has no permissions.
@@ -125,35 +133,32 @@ impl State {
         ensures exactly { (stuck (state_of self.old) ≡ None) ↔ IsSome (next_state (state_of self.old)) }
         ensures err { OnErr result (self.new ≡ self.old) }
     {
-        let instruction = self.instruction()?;
-        self.carry_out(instruction, self.length())
+        let found = self.instruction()?;
+        self.carry_out(found.instruction, found.length)
     }
 
     /// The instruction at the program counter.
-    pub(crate) fn instruction(&self) -> Result<Instr, Stuck>
-        ensures ok { IfOk result (λ i. instruction_at (state_of self.now) ≡ Some i) }
-        ensures registers { IfOk result NamesRegisters }
-        ensures later { IfOk result (λ i. cause (state_of self.now) ≡ hindrance i (state_of self.now)) }
+    pub(crate) fn instruction(&self) -> Result<Found, Stuck>
+        ensures ok { IfOk result (λ f. instruction_at (state_of self.now) ≡ Some f.instruction) }
+        ensures length { IfOk result (λ f. length_at (state_of self.now) ≡ f.length) }
+        ensures registers { IfOk result (λ f. NamesRegisters f.instruction) }
+        ensures later { IfOk result (λ f. cause (state_of self.now) ≡ hindrance f.instruction (state_of self.now)) }
         ensures none { OnErr result (instruction_at (state_of self.now) ≡ None) }
         ensures reason { IfErr result (λ why. cause (state_of self.now) ≡ why) }
     {
-        if self.pc % 4 != 0 {
+        if self.pc % 2 != 0 {
             return Err(Stuck::Misaligned(self.pc));
         }
-        let Some(word) = fetch(&self.memory, self.pc) else {
+        let Some(number) = fetch(&self.memory, self.pc) else {
             return Err(Stuck::NoFetch);
         };
-        match decode(word) {
-            Some(instruction) => Ok(instruction),
-            None => Err(Stuck::NotDecoded(word)),
+        match instruction_of(number) {
+            Some(instruction) => Ok(Found {
+                instruction,
+                length: u64::from(length_of(number)),
+            }),
+            None => Err(Stuck::NotDecoded(number)),
         }
-    }
-
-    /// How many bytes the instruction at the program counter has.
-    fn length(&self) -> u64
-        ensures { result ≡ length_at (state_of self.now) }
-    {
-        4
     }
 
     /// Carries an instruction of that many bytes out.
@@ -175,16 +180,16 @@ impl State {
             Instr::Auipc { rd, imm } => {
                 self.finish(rd, self.pc.wrapping_add(upper_word(imm)), length);
             }
-            Instr::Jal { rd, offset } => self.jump(rd, plus_immediate(self.pc, offset), length)?,
+            Instr::Jal { rd, offset } => self.jump(rd, plus_immediate(self.pc, offset), length),
             Instr::Jalr { rd, rs1, imm } => {
-                self.jump(rd, jump_target(self.reg(rs1), imm), length)?;
+                self.jump(rd, jump_target(self.reg(rs1), imm), length);
             }
             Instr::Branch {
                 cmp,
                 rs1,
                 rs2,
                 offset,
-            } => self.branch(compare(cmp, self.reg(rs1), self.reg(rs2)), offset, length)?,
+            } => self.branch(compare(cmp, self.reg(rs1), self.reg(rs2)), offset, length),
             Instr::Load {
                 width,
                 signed,
@@ -231,46 +236,25 @@ impl State {
         self.go_on(length);
     }
 
-    /// To a target, if an instruction may stand there.
-    fn go_to(&mut self, target: u64) -> Result<(), Stuck>
-        ensures ok { OnOk result (jumps_to target (state_of self.old) ≡ Some (state_of self.new)) }
-        ensures none { OnErr result (is_aligned target ≡ false) }
-        ensures reason { IfErr result (λ why. Misaligned target ≡ why) }
-        ensures err { OnErr result (self.new ≡ self.old) }
-    {
-        if target % 4 != 0 {
-            return Err(Stuck::Misaligned(target));
-        }
-        self.pc = target;
-        Ok(())
-    }
-
     /// Jumps to a target, and writes the address after the jump to a register.
-    fn jump(&mut self, rd: u8, target: u64, length: u64) -> Result<(), Stuck>
+    fn jump(&mut self, rd: u8, target: u64, length: u64)
         requires { rd < 32 }
-        ensures ok { let s = state_of self.old in OnOk result (jumps_to target (writes rd (next length s) s) ≡ Some (state_of self.new)) }
-        ensures none { OnErr result (is_aligned target ≡ false) }
-        ensures reason { IfErr result (λ why. Misaligned target ≡ why) }
-        ensures err { OnErr result (self.new ≡ self.old) }
+        ensures { let s = state_of self.old in state_of self.new ≡ goes_to target (writes rd (next length s) s) }
     {
         let link = self.pc.wrapping_add(length);
-        self.go_to(target)?;
+        self.pc = target;
         self.registers.set(rd, link);
-        Ok(())
     }
 
     /// Goes by an offset or on to the next instruction.
-    fn branch(&mut self, taken: bool, offset: i32, length: u64) -> Result<(), Stuck>
-        ensures ok { OnOk result (branches taken offset length (state_of self.old) ≡ Some (state_of self.new)) }
-        ensures none { OnErr result (branches taken offset length (state_of self.old) ≡ None) }
-        ensures reason { IfErr result (λ why. Misaligned (plus self.old.pc offset) ≡ why) }
-        ensures err { OnErr result (self.new ≡ self.old) }
+    fn branch(&mut self, taken: bool, offset: i32, length: u64)
+        ensures { state_of self.new ≡ branches taken offset length (state_of self.old) }
     {
         if taken {
-            return self.go_to(plus_immediate(self.pc, offset));
+            self.pc = plus_immediate(self.pc, offset);
+        } else {
+            self.go_on(length);
         }
-        self.go_on(length);
-        Ok(())
     }
 
     /// Tests that all bytes of the width from an address on are present.

@@ -58,18 +58,45 @@ fn a_leaf_function_runs(rt: HostRuntime) -> Result<(), Fail> {
 /// `ret`: bit 0 of the target is cleared, bit 1 isn't.
 #[test]
 fn targets_of_jumps(rt: HostRuntime) -> Result<(), Fail> {
-    let mut state = with_words(rt.alloc(), &[0x0000_8067])?;
-    state.set_reg(1, 0x2002);
+    for (x1, pc) in [(0x2001, 0x2000), (0x2002, 0x2002), (0x2003, 0x2002)] {
+        let mut state = with_words(rt.alloc(), &[0x0000_8067])?;
+        state.set_reg(1, x1);
+        assert_eq!(rt; state.run(pc, 1), RunEnd::Met(1));
+        assert_eq!(rt; state.pc(), pc);
+    }
+    Ok(())
+}
+
+/// A state with these bytes from the start on.
+fn with_bytes(alloc: Global, bytes: &[u8]) -> Result<State, NoMemory> {
+    let mut state = State::new(alloc, START);
+    state.place(START, bytes)?;
+    Ok(state)
+}
+
+/// `c.jalr x10`, `c.j` by 4, `addi x10, x10, 1` after `c.nop` at an address that isn't a multiple of four, and `lw x15, 16(x10)`, of
+/// two bytes: how far a step goes, and what it needs.
+#[test]
+fn steps_of_two_bytes(rt: HostRuntime) -> Result<(), Fail> {
+    let mut call = with_bytes(rt.alloc(), b"\x02\x95")?;
+    call.set_reg(10, 0x2000);
+    assert_eq!(rt; call.run(0x2000, 1), RunEnd::Met(1));
+    assert_eq!(rt; call.reg(1), 0x10002);
+    let mut jump = with_bytes(rt.alloc(), b"\x11\xa0")?;
+    assert_eq!(rt; jump.run(0x10004, 1), RunEnd::Met(1));
+    let mut beside = with_bytes(rt.alloc(), b"\x01\0\x13\x05\x15\0")?;
+    assert_eq!(rt; beside.run(0x10006, 2), RunEnd::Met(2));
+    assert_eq!(rt; beside.reg(10), 1);
+    let mut load = with_bytes(rt.alloc(), b"\x1c\x49\x01\0\0\0\0\0")?;
+    load.set_reg(10, START);
     assert_eq!(rt;
-        state.run(0x2002, 1),
-        RunEnd::Stuck(0, Stuck::Misaligned(0x2002))
+        load.touches(),
+        Touch {
+            at: 0x10010,
+            count: 4
+        }
     );
-    state.set_reg(1, 0x2003);
-    assert_eq!(rt; state.step(), Err(Stuck::Misaligned(0x2002)));
-    assert_eq!(rt; state.pc(), START);
-    state.set_reg(1, 0x2001);
-    assert_eq!(rt; state.step(), Ok(()));
-    assert_eq!(rt; state.pc(), 0x2000);
+    assert_eq!(rt; load.step(), Err(Stuck::NoByte(0x10010)));
     Ok(())
 }
 
@@ -87,11 +114,19 @@ fn a_jump_links(rt: HostRuntime) -> Result<(), Fail> {
 #[test]
 fn reasons_for_no_step(rt: HostRuntime) -> Result<(), Fail> {
     for (pc, bytes, reason) in [
-        (0x1002, b"\x13\0\0\0", Stuck::Misaligned(0x1002)),
+        (0x1001, b"\x13\0\0\0", Stuck::Misaligned(0x1001)),
+        (0x0ffe, b"\x13\0\0\0", Stuck::NoFetch),
+        (0x1002, b"\x13\0\x02\x90", Stuck::Environment),
         (0x0ffc, b"\x13\0\0\0", Stuck::NoFetch),
         (0x1000, b"\x73\0\0\0", Stuck::Environment),
         (0x1000, b"\x73\0\x10\0", Stuck::Environment),
-        (0x1000, b"\0\0\0\x80", Stuck::NotDecoded(0x8000_0000)),
+        (
+            0x1000,
+            b"\x03\0\0\x80",
+            Stuck::NoByte(0xffff_ffff_ffff_f800),
+        ),
+        (0x1000, b"\x07\0\0\x80", Stuck::NotDecoded(0x8000_0007)),
+        (0x1000, b"\0\x20\0\x80", Stuck::NotDecoded(0x2000)),
     ] {
         let mut state = State::new(rt.alloc(), pc);
         state.place(0x1000, bytes)?;
@@ -101,6 +136,9 @@ fn reasons_for_no_step(rt: HostRuntime) -> Result<(), Fail> {
     let mut cut = State::new(rt.alloc(), 0x1000);
     cut.place(0x1000, b"\x13\0\0")?;
     assert_eq!(rt; cut.step(), Err(Stuck::NoFetch));
+    let mut last = State::new(rt.alloc(), 0x1000);
+    last.place(0x1000, b"\x01\0\x01")?;
+    assert_eq!(rt; last.run(0, 2), RunEnd::Stuck(1, Stuck::NoFetch));
     Ok(())
 }
 
@@ -110,6 +148,11 @@ fn addresses_go_round(rt: HostRuntime) -> Result<(), Fail> {
     let mut state = State::new(rt.alloc(), 0xffff_ffff_ffff_fffc);
     state.place(0xffff_ffff_ffff_fffc, b"\x13\0\0\0")?;
     assert_eq!(rt; state.run(0, 9), RunEnd::Met(1));
+    let mut split = State::new(rt.alloc(), 0xffff_ffff_ffff_fffe);
+    split.place(0xffff_ffff_ffff_fffe, b"\x13\x05")?;
+    split.place(0, b"\x15\0")?;
+    assert_eq!(rt; split.run(2, 1), RunEnd::Met(1));
+    assert_eq!(rt; split.reg(10), 1);
     Ok(())
 }
 
@@ -259,7 +302,7 @@ fn expect_branch(rt: &impl Abort, mut state: State, x1: u64, x2: u64, address: u
     assert_eq!(rt; state.pc(), address, "{x1:#x}, {x2:#x}");
 }
 
-/// `beq`, `bne`, `blt`, `bge`, `bltu` and `bgeu` of x1 and x2 by 16 bytes, and `beq` by -16 and, not taken, by 2.
+/// `beq`, `bne`, `blt`, `bge`, `bltu` and `bgeu` of x1 and x2 by 16 bytes, and `beq` by -16 and by 2, taken or not.
 #[test]
 fn branches_each_way(rt: HostRuntime) -> Result<(), Fail> {
     for (word, x1, x2, address) in [
@@ -277,24 +320,9 @@ fn branches_each_way(rt: HostRuntime) -> Result<(), Fail> {
         (0x0020_f863, 1, 0xffff_ffff_ffff_ffff, 0x10004),
         (0xfe20_88e3, 7, 7, 0xfff0),
         (0x0020_8163, 1, 2, 0x10004),
+        (0x0020_8163, 1, 1, 0x10002),
     ] {
         expect_branch(&rt, with_data(rt.alloc(), word)?, x1, x2, address);
-    }
-    Ok(())
-}
-
-/// One step is refused for its target.
-fn expect_misaligned(rt: &impl Abort, mut state: State, target: u64) {
-    assert_eq!(rt; state.step(), Err(Stuck::Misaligned(target)));
-    assert_eq!(rt; state.pc(), START);
-    assert_eq!(rt; state.reg(2), 0);
-}
-
-/// `beq` x1, x2 by 2 bytes, and `jal` x2 by 6.
-#[test]
-fn targets_by_offsets(rt: HostRuntime) -> Result<(), Fail> {
-    for (word, target) in [(0x0020_8163, 0x10002), (0x0060_016f, 0x10006)] {
-        expect_misaligned(&rt, with_data(rt.alloc(), word)?, target);
     }
     Ok(())
 }
@@ -306,7 +334,7 @@ fn expect_step(rt: &impl Abort, mut state: State, x2: u64, pc: u64) {
     assert_eq!(rt; state.pc(), pc, "{x2:#x}");
 }
 
-/// `lui` and `auipc` of x2, twice each, `jal` x2 by -8 bytes, and `fence`.
+/// `lui` and `auipc` of x2, twice each, `jal` x2 by -8 bytes and by 6, and `fence`.
 #[test]
 fn upper_bits_links_and_fences(rt: HostRuntime) -> Result<(), Fail> {
     for (word, x2, pc) in [
@@ -315,6 +343,7 @@ fn upper_bits_links_and_fences(rt: HostRuntime) -> Result<(), Fail> {
         (0xffff_f117, 0xf000, 0x10004),
         (0x7fff_f117, 0x8000_f000, 0x10004),
         (0xff9f_f16f, 0x10004, 0xfff8),
+        (0x0060_016f, 0x10004, 0x10006),
         (0x0ff0_000f, 0, 0x10004),
     ] {
         expect_step(&rt, with_data(rt.alloc(), word)?, x2, pc);

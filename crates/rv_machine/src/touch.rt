@@ -30,7 +30,7 @@ impl State {
         ensures { result ≡ spec.touches (state_of self.now) }
     {
         match self.instruction() {
-            Ok(instruction) => self.touched(instruction),
+            Ok(found) => self.touched(found.instruction),
             Err(_) => NOTHING,
         }
     }
