@@ -1,16 +1,17 @@
 -- Each axiom is valid.
-use Rattle.std.proofs.Common.{◌≡◌, ℕ, zero, suc, ◌+◌, ◌-◌, ◌%◌, ◌^◌, ◌<◌, Bool, true, false, cond, eqb, eq-eqb, eqb-true, ◌||◌, Option, Some, None, List, [], ◌∷◌, length, get_or, filter, Contains, refl, sym, ap, subst, ◌∙◌, arith}
-use Rattle.std.specs.Prelude.{IfSome}
+use Rattle.std.proofs.Common.{◌≡◌, ℕ, zero, suc, ◌+◌, ◌-◌, ◌%◌, ◌^◌, ◌<◌, ◌≤◌, Bool, true, false, cond, eqb, eq-eqb, leb, ◌&&◌, ◌||◌, Option, Some, None, List, [], ◌∷◌, length, get_or, filter, Contains, refl, sym, ap, subst, ◌∙◌, arith}
+use Rattle.std.proofs.lemmas.Bool.Decides.{nat_tests}
 use Rattle.std.specs.Option.{option_and_then, option_or}
-use Rattle.std.specs.Int.{w32, to_le_bytes}
+use Rattle.std.specs.Int.{w16, w32, to_le_bytes}
+use Rattle.rvc.specs.Number.{bytes_of, instruction_of, is_word, length_of}
+use Rattle.rvc.proofs.NumberLemmas.{instruction-named}
 use Rattle.std.specs.List.{list_any, range_with_len}
 use Rattle.std.proofs.lemmas.List.FromFn.{length-range_with_len, get_or-range_with_len}
 use Rattle.rv_words.specs.Bytes.{bytes_from}
 use Rattle.rv_decode.specs.declared.instruction.Instr.{Instr}
 use Rattle.rv_decode.specs.declared.instruction.Instr.TheVariants as instr
-use Rattle.rv_decode.specs.Decodes.{NamesRegisters, decoded}
-use Rattle.rv_decode.proofs.EncodeLemmas.{decoded_named}
-use Rattle.rv_machine.specs.Step.{is_aligned}
+use Rattle.rv_decode.specs.Decodes.{NamesRegisters}
+use Rattle.rv_machine.specs.Step.{is_even}
 use Rattle.rv_words.specs.Ranges.{AreRanges}
 use Rattle.tailrec_lang.specs.Tree.{GroupTree}
 use Rattle.rv_words.specs.Ranges.{range_bytes}
@@ -20,7 +21,7 @@ use Rattle.triple_kernel.specs.Valid.{Valid}
 use Rattle.triple_kernel.specs.declared.form.Form.{Form}
 use Rattle.rv_decode.specs.Registers.{registers_where, sources, destination}
 use Rattle.instr_axioms.specs.Terms.{has_memory, has_form}
-use Rattle.instr_axioms.specs.Axiom.{axiom_of, is_own, own, variables_for, own_triple, triple_if, word_code}
+use Rattle.instr_axioms.specs.Axiom.{axiom_of, has_room, is_own, own, variables_for, own_triple, triple_if, word_code}
 use Rattle.instr_axioms.proofs.Valid.{StandsIn, valid_over}
 
 -- ---- an instruction's own registers
@@ -93,14 +94,24 @@ or_none : (o : Option ℕ) → option_or o None ≡ o
 or_none None = refl
 or_none (Some b) = refl
 
-code_is : (a w : ℕ) → IsWithin (bytes_from a (to_le_bytes w32 w)) (range_bytes (word_code a w))
-code_is a w q b e = or_none (bytes_from a (to_le_bytes w32 w) q) ∙ e
+code_is : (a w : ℕ) → IsWithin (bytes_from a (bytes_of w)) (range_bytes (word_code a w))
+code_is a w q b e = or_none (bytes_from a (bytes_of w) q) ∙ e
 
-stands : (i : Instr) (a w : ℕ) → a < 2 ^ 64 → is_aligned a ≡ true → w < 2 ^ 32 → decoded w ≡ Some i → StandsIn i a w (word_code a w) (own i) (has_memory i)
-stands i a w small even low is =
-    let named : NamesRegisters i = (subst (λ o. IfSome o NamesRegisters) is (decoded_named w (decoded w) low refl)) in record {
+room_parts : (a w : ℕ) → has_room a w ≡ true → (is_even a ≡ true) × (a + length_of w ≤ 2 ^ 64)
+room_parts a w h = both (is_even a) (leb (a + length_of w) (2 ^ 64)) refl h
+  where
+    both : (t u : Bool) → leb (a + length_of w) (2 ^ 64) ≡ u → (t && u) ≡ true → (t ≡ true) × (a + length_of w ≤ 2 ^ 64)
+    both true true is e = (refl, grind (arith, nat_tests))
+    both true false is e = absurd (cc)
+    both false u is e = absurd (cc)
+
+stands : (i : Instr) (a w : ℕ) → a < 2 ^ 64 → has_room a w ≡ true → w < 2 ^ 32 → instruction_of w ≡ Some i → StandsIn i a w (word_code a w) (own i) (has_memory i)
+stands i a w small room low is =
+    let named : NamesRegisters i = instruction-named w i low is in
+    let parts = room_parts a w room in record {
       small = small;
-      even = even;
+      even = parts.0;
+      room = parts.1;
       word = low;
       is = is;
       bytes = code_is a w;
@@ -109,34 +120,38 @@ stands i a w small even low is =
       memory = λ k. k;
     }
 
-pub own-valid : (g : GroupTree) (i : Instr) (form : Form) (a w : ℕ) → a < 2 ^ 64 → is_aligned a ≡ true → w < 2 ^ 32 → decoded w ≡ Some i → has_form i form a ≡ true → Valid g (own_triple i form a w)
+pub own-valid : (g : GroupTree) (i : Instr) (form : Form) (a w : ℕ) → a < 2 ^ 64 → has_room a w ≡ true → w < 2 ^ 32 → instruction_of w ≡ Some i → has_form i form ≡ true → Valid g (own_triple i form a w)
 own-valid g i form a w small even low is has = valid_over i form a w (word_code a w) (own i) (has_memory i) (variables_for (own i)) (stands i a w small even low is) has g
 
 -- an axiom, taken apart
 pub record IsAxiom (a w : ℕ) (form : Form) (t : TripleTree) : Type 0 where
-  pub even : is_aligned a ≡ true
+  pub room : has_room a w ≡ true
   pub instruction : Instr
-  pub is : decoded w ≡ Some instruction
-  pub has : has_form instruction form a ≡ true
+  pub is : instruction_of w ≡ Some instruction
+  pub has : has_form instruction form ≡ true
   pub same : own_triple instruction form a w ≡ t
 
 pub axiom-parts : (a w : ℕ) (form : Form) (t : TripleTree) → axiom_of a w form ≡ Some t → IsAxiom a w form t
 unfolding axiom_of
-axiom-parts a w form t e = at (is_aligned a) (decoded w) refl refl e
+axiom-parts a w form t e = at (has_room a w) (instruction_of w) refl refl e
   where
-    formed : (even : is_aligned a ≡ true) (i : Instr) (b : Bool) → decoded w ≡ Some i → has_form i form a ≡ b → cond b (Some (own_triple i form a w)) None ≡ Some t → IsAxiom a w form t
-    formed even i true is has e = record { even = even; instruction = i; is = is; has = has; same = cc }
-    formed even i false is has e = absurd (cc)
+    formed : (room : has_room a w ≡ true) (i : Instr) (b : Bool) → instruction_of w ≡ Some i → has_form i form ≡ b → cond b (Some (own_triple i form a w)) None ≡ Some t → IsAxiom a w form t
+    formed room i true is has e = record { room = room; instruction = i; is = is; has = has; same = cc }
+    formed room i false is has e = absurd (cc)
 
-    at : (b : Bool) (o : Option Instr) → is_aligned a ≡ b → decoded w ≡ o → cond b (option_and_then (triple_if a w form) o) None ≡ Some t → IsAxiom a w form t
-    at true (Some i) even is e = formed even i (has_form i form a) is refl e
+    at : (b : Bool) (o : Option Instr) → has_room a w ≡ b → instruction_of w ≡ o → cond b (option_and_then (triple_if a w form) o) None ≡ Some t → IsAxiom a w form t
+    at true (Some i) even is e = formed even i (has_form i form) is refl e
     at true None even is e = absurd (cc)
     at false o even is e = absurd (cc)
 
 -- an axiom of an address and a word is valid for every group
 pub axiom_valid : (g : GroupTree) (a w : ℕ) (form : Form) (t : TripleTree) → a < 2 ^ 64 → w < 2 ^ 32 → axiom_of a w form ≡ Some t → Valid g t
-axiom_valid g a w form t small low e = let p = axiom-parts a w form t e in subst (λ x. Valid g x) p.same (own-valid g p.instruction form a w small p.even low p.is p.has)
+axiom_valid g a w form t small low e = let p = axiom-parts a w form t e in subst (λ x. Valid g x) p.same (own-valid g p.instruction form a w small p.room low p.is p.has)
 
 -- an axiom's code is a range, as code_join asks for
-pub word_code-ranges : (a w : ℕ) → a < 2 ^ 64 → is_aligned a ≡ true → AreRanges (word_code a w)
-word_code-ranges a w small even = let zero = eqb-true (a % 4) 0 even in (omega arith, omega arith, omega arith, tt)
+pub word_code-ranges : (a w : ℕ) → a + length_of w ≤ 2 ^ 64 → AreRanges (word_code a w)
+word_code-ranges a w room = by_length (is_word w) room
+  where
+    by_length : (t : Bool) → a + cond t 4 2 ≤ 2 ^ 64 → AreRanges (record { at = a; bytes = cond t (to_le_bytes w32 w) (to_le_bytes w16 w) } ∷ [])
+    by_length true h = (omega arith, omega arith, omega arith, tt)
+    by_length false h = (omega arith, omega arith, omega arith, tt)

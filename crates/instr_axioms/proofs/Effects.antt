@@ -1,5 +1,5 @@
 -- What an instruction's terms say is what the machine does: where its conditions are true it is carried out, and the other way.
-use Rattle.std.proofs.Common.{◌≡◌, ℕ, ◌+◌, ◌%◌, ◌^◌, ◌<◌, Bool, true, false, cond, not, eqb, eqb-true, eq-eqb, ◌↔◌, ℤ, IsTrue, Option, Some, None, is_some, List, [], ◌∷◌, Contains, refl, sym, ap, ◌∙◌, arith, bit_and}
+use Rattle.std.proofs.Common.{◌≡◌, ℕ, ◌+◌, ◌%◌, ◌^◌, ◌<◌, Bool, true, false, cond, not, eqb, eqb-true, eq-eqb, ◌↔◌, ℤ, IsTrue, Option, Some, None, is_some, List, [], ◌∷◌, Contains, refl, sym, ap, ◌∙◌, arith}
 use Rattle.std.proofs.Math.Nat.{mod-lt}
 use Rattle.std.proofs.lemmas.Nat.{pow_pos}
 use Rattle.rv_words.specs.Operation.{operation_value, comparison_holds, word_of}
@@ -11,12 +11,11 @@ use Rattle.rv_decode.specs.declared.instruction.Instr.{Instr}
 use Rattle.rv_decode.specs.declared.instruction.Instr.TheVariants as instr
 use Rattle.rv_machine.specs.State.{State, with_register}
 use Rattle.rv_machine.specs.Step as machine
-use Rattle.rv_machine.specs.Step.{act, is_aligned, jump_target, next, only_if, plus, reads, upper, has}
+use Rattle.rv_machine.specs.Step.{act, jump_target, next, only_if, plus, reads, upper, has}
 use Rattle.rv_words.proofs.MemoryLemmas.{inside-all, store-present, store-same}
 use Rattle.rv_machine.specs.Update as step
 use Rattle.rv_machine.specs.Update.{is_possible, reg_after, updated}
 use Rattle.rv_machine.proofs.StepLemmas.{act-is, act-some}
-use Rattle.rv_machine.proofs.JumpLemmas.{jump_target-aligned}
 use Rattle.word_terms.specs.Tree.{WordTree, MemTree, Load}
 use Rattle.word_terms.specs.Environment.{Environment}
 use Rattle.word_terms.specs.Value.{word_value, mem_value}
@@ -42,8 +41,8 @@ load-value B8 true m t e bytes a h = h
 load-value w false m t e bytes a h = h
 
 module _ (a : ℕ) (n : Names) (e : Environment) (s : State) where
-  next_is : s.pc ≡ a → next 4 s ≡ (a + 4) % 2 ^ 64
-  next_is at = ap (λ p. (p + 4) % 2 ^ 64) at
+  next_is : (k : ℕ) → s.pc ≡ a → next k s ≡ (a + k) % 2 ^ 64
+  next_is k at = ap (λ p. (p + k) % 2 ^ 64) at
 
   first : (r : ℕ) (rs : List ℕ) → Contains (r ∷ rs) r
   first r rs = (0, omega arith, refl)
@@ -55,39 +54,17 @@ module _ (a : ℕ) (n : Names) (e : Environment) (s : State) where
   has_all : (w : Width) (x y : ℕ) (imm : ℤ) → x ≡ y → IsWithin (mem_value n.memory e) s.mem → inside (bytes_of w) (mem_value n.memory e) (plus y imm) ≡ true → has w s.mem (plus x imm) ≡ true
   has_all w x y imm same within h = ap (λ z. has w s.mem (plus z imm)) same ∙ inside-within (bytes_of w) (mem_value n.memory e) s.mem (plus y imm) within h
 
-  jump_aligned : (x y : ℕ) (imm : ℤ) → x ≡ y → IsTrue (eqb (bit_and (plus y imm) 2) 0) → is_aligned (jump_target x imm) ≡ true
-  jump_aligned x y imm same h = ap (λ z. is_aligned (jump_target z imm)) same ∙ (jump_target-aligned y imm).1 (eqb-true (bit_and (plus y imm) 2) 0 h)
-
-  branch_next : (t u : Bool) (b : Bool) → t ≡ u → IsTrue (not u) → cond t b true ≡ true
-  branch_next true true b same h = absurd (not_false h)
-  branch_next true false b same h = absurd (not_false (sym same))
-  branch_next false u b same h = refl
-
-  branch_taken : (t u : Bool) (b : Bool) → t ≡ u → IsTrue u → b ≡ true → cond t b true ≡ true
-  branch_taken true u b same h to = to
-  branch_taken false u b same h to = refl
-
   -- ---- where the conditions are true
 
   -- an instruction whose conditions are true in a form that it has is carried out
-  pub possible : (i : Instr) (form : Form) → Fits i a n e s → has_form i form a ≡ true → AreTrue (conditions i form n) e → is_possible i s ≡ true
+  pub possible : (i : Instr) (form : Form) → Fits i a n e s → has_form i form ≡ true → AreTrue (conditions i form n) e → is_possible i s ≡ true
   possible (instr.Op o rd rs1 rs2) form f h c = refl
   possible (instr.OpImm o rd rs1 imm) form f h c = refl
   possible (instr.Lui rd imm) form f h c = refl
   possible (instr.Auipc rd imm) form f h c = refl
-  possible (instr.Jal rd offset) Next f h c = ap (λ p. is_aligned (plus p offset)) f.pc ∙ h
-  possible (instr.Jal rd offset) Taken f h c = absurd (not_false h)
-  possible (instr.Jalr rd rs1 imm) form f h c = jump_aligned (reads rs1 s) (word_value (word_in n rs1) e) imm (f.word rs1 (first rs1 [])) c.0
-  possible (instr.Branch c rs1 rs2 offset) Next f h k =
-      let one = f.word rs1 (first rs1 (rs2 ∷ [])) in
-      let two = f.word rs2 (second rs1 rs2) in
-      branch_next (comparison_holds c (reads rs1 s) (reads rs2 s)) (comparison_holds c (word_value (word_in n rs1) e) (word_value (word_in n rs2) e)) (is_aligned (plus s.pc offset))
-      (λ i. comparison_holds c (one i) (two i)) k.0
-  possible (instr.Branch c rs1 rs2 offset) Taken f h k =
-      let one = f.word rs1 (first rs1 (rs2 ∷ [])) in
-      let two = f.word rs2 (second rs1 rs2) in
-      branch_taken (comparison_holds c (reads rs1 s) (reads rs2 s)) (comparison_holds c (word_value (word_in n rs1) e) (word_value (word_in n rs2) e)) (is_aligned (plus s.pc offset))
-      (λ i. comparison_holds c (one i) (two i)) k.0 (ap (λ p. is_aligned (plus p offset)) f.pc ∙ h)
+  possible (instr.Jal rd offset) form f h c = refl
+  possible (instr.Jalr rd rs1 imm) form f h c = refl
+  possible (instr.Branch c rs1 rs2 offset) form f h k = refl
   possible (instr.Load w signed rd rs1 imm) form f h c = has_all w (reads rs1 s) (word_value (word_in n rs1) e) imm (f.word rs1 (first rs1 [])) (f.bytes refl) c.0
   possible (instr.Store w rs1 rs2 imm) form f h c = has_all w (reads rs1 s) (word_value (word_in n rs1) e) imm (f.word rs1 (first rs1 (rs2 ∷ []))) (f.bytes refl) c.0
   possible (instr.Fence imm rs1 rd) form f h c = refl
@@ -105,28 +82,28 @@ module _ (a : ℕ) (n : Names) (e : Environment) (s : State) where
   to_target false false x y z same h k = absurd (not_false h)
 
   -- .. and goes where its term says
-  pub goes : (i : Instr) (form : Form) → Fits i a n e s → has_form i form a ≡ true → AreTrue (conditions i form n) e → step.pc_after i 4 s ≡ word_value (pc_after i form a n) e
-  goes (instr.Op o rd rs1 rs2) form f h c = next_is f.pc
-  goes (instr.OpImm o rd rs1 imm) form f h c = next_is f.pc
-  goes (instr.Lui rd imm) form f h c = next_is f.pc
-  goes (instr.Auipc rd imm) form f h c = next_is f.pc
-  goes (instr.Jal rd offset) form f h c = ap (λ p. plus p offset) f.pc
-  goes (instr.Jalr rd rs1 imm) form f h c = ap (λ x. jump_target x imm) (f.word rs1 (first rs1 []))
-  goes (instr.Branch c rs1 rs2 offset) Next f h k =
+  pub goes : (k : ℕ) (i : Instr) (form : Form) → Fits i a n e s → has_form i form ≡ true → AreTrue (conditions i form n) e → step.pc_after i k s ≡ word_value (pc_after i form a k n) e
+  goes k (instr.Op o rd rs1 rs2) form f h c = next_is k f.pc
+  goes k (instr.OpImm o rd rs1 imm) form f h c = next_is k f.pc
+  goes k (instr.Lui rd imm) form f h c = next_is k f.pc
+  goes k (instr.Auipc rd imm) form f h c = next_is k f.pc
+  goes k (instr.Jal rd offset) form f h c = ap (λ p. plus p offset) f.pc
+  goes k (instr.Jalr rd rs1 imm) form f h c = ap (λ x. jump_target x imm) (f.word rs1 (first rs1 []))
+  goes k (instr.Branch c rs1 rs2 offset) Next f h t =
       let one = f.word rs1 (first rs1 (rs2 ∷ [])) in
       let two = f.word rs2 (second rs1 rs2) in
       to_next (comparison_holds c (reads rs1 s) (reads rs2 s)) (comparison_holds c (word_value (word_in n rs1) e) (word_value (word_in n rs2) e)) _ _ _
-      (λ i. comparison_holds c (one i) (two i)) k.0 (next_is f.pc)
-  goes (instr.Branch c rs1 rs2 offset) Taken f h k =
+      (λ i. comparison_holds c (one i) (two i)) t.0 (next_is k f.pc)
+  goes k (instr.Branch c rs1 rs2 offset) Taken f h t =
       let one = f.word rs1 (first rs1 (rs2 ∷ [])) in
       let two = f.word rs2 (second rs1 rs2) in
       to_target (comparison_holds c (reads rs1 s) (reads rs2 s)) (comparison_holds c (word_value (word_in n rs1) e) (word_value (word_in n rs2) e)) _ _ _
-      (λ i. comparison_holds c (one i) (two i)) k.0 (ap (λ p. plus p offset) f.pc)
-  goes (instr.Load w signed rd rs1 imm) form f h c = next_is f.pc
-  goes (instr.Store w rs1 rs2 imm) form f h c = next_is f.pc
-  goes (instr.Fence imm rs1 rd) form f h c = next_is f.pc
-  goes instr.Ecall form f h c = absurd (not_false h)
-  goes instr.Ebreak form f h c = absurd (not_false h)
+      (λ i. comparison_holds c (one i) (two i)) t.0 (ap (λ p. plus p offset) f.pc)
+  goes k (instr.Load w signed rd rs1 imm) form f h c = next_is k f.pc
+  goes k (instr.Store w rs1 rs2 imm) form f h c = next_is k f.pc
+  goes k (instr.Fence imm rs1 rd) form f h c = next_is k f.pc
+  goes k instr.Ecall form f h c = absurd (not_false h)
+  goes k instr.Ebreak form f h c = absurd (not_false h)
 
   -- what a load gives
   gives : (w : Width) (signed : Bool) (x : ℕ) (rs1 : ℕ) (imm : ℤ) → x ≡ word_value (word_in n rs1) e → IsWithin (mem_value n.memory e) s.mem
@@ -138,23 +115,23 @@ module _ (a : ℕ) (n : Names) (e : Environment) (s : State) where
       (load-within (bytes_of w) (mem_value n.memory e) s.mem (plus (word_value (word_in n rs1) e) imm) within h)
 
   -- .. and writes what its term says to its destination
-  pub writes : (i : Instr) (form : Form) → Fits i a n e s → has_form i form a ≡ true → AreTrue (conditions i form n) e → reg_after i 4 s ≡ with_register (destination i) (word_value (result i a n) e) s.reg
-  writes (instr.Op o rd rs1 rs2) form f h c =
+  pub writes : (k : ℕ) (i : Instr) (form : Form) → Fits i a n e s → has_form i form ≡ true → AreTrue (conditions i form n) e → reg_after i k s ≡ with_register (destination i) (word_value (result i a k n) e) s.reg
+  writes k (instr.Op o rd rs1 rs2) form f h c =
       let one = f.word rs1 (first rs1 (rs2 ∷ [])) in
       let two = f.word rs2 (second rs1 rs2) in
       λ i. with_register rd (operation_value o (one i) (two i)) s.reg
-  writes (instr.OpImm o rd rs1 imm) form f h c = let one = f.word rs1 (first rs1 []) in λ i. with_register rd (operation_value o (one i) (word_of imm)) s.reg
-  writes (instr.Lui rd imm) form f h c = refl
-  writes (instr.Auipc rd imm) form f h c = ap (λ p. with_register rd ((p + upper imm) % 2 ^ 64) s.reg) f.pc
-  writes (instr.Jal rd offset) form f h c = ap (λ p. with_register rd p s.reg) (next_is f.pc)
-  writes (instr.Jalr rd rs1 imm) form f h c = ap (λ p. with_register rd p s.reg) (next_is f.pc)
-  writes (instr.Branch c rs1 rs2 offset) form f h k = refl
-  writes (instr.Load w signed rd rs1 imm) form f h c =
+  writes k (instr.OpImm o rd rs1 imm) form f h c = let one = f.word rs1 (first rs1 []) in λ i. with_register rd (operation_value o (one i) (word_of imm)) s.reg
+  writes k (instr.Lui rd imm) form f h c = refl
+  writes k (instr.Auipc rd imm) form f h c = ap (λ p. with_register rd ((p + upper imm) % 2 ^ 64) s.reg) f.pc
+  writes k (instr.Jal rd offset) form f h c = ap (λ p. with_register rd p s.reg) (next_is k f.pc)
+  writes k (instr.Jalr rd rs1 imm) form f h c = ap (λ p. with_register rd p s.reg) (next_is k f.pc)
+  writes k (instr.Branch c rs1 rs2 offset) form f h t = refl
+  writes k (instr.Load w signed rd rs1 imm) form f h c =
       ap (λ x. with_register rd x s.reg) (gives w signed (reads rs1 s) rs1 imm (f.word rs1 (first rs1 [])) (f.bytes refl) c.0)
-  writes (instr.Store w rs1 rs2 imm) form f h c = refl
-  writes (instr.Fence imm rs1 rd) form f h c = refl
-  writes instr.Ecall form f h c = refl
-  writes instr.Ebreak form f h c = refl
+  writes k (instr.Store w rs1 rs2 imm) form f h c = refl
+  writes k (instr.Fence imm rs1 rd) form f h c = refl
+  writes k instr.Ecall form f h c = refl
+  writes k instr.Ebreak form f h c = refl
 
 -- ---- the other way: what a step that exists says of the conditions
 
@@ -166,53 +143,49 @@ module _ (a : ℕ) (n : Names) (e : Environment) (s : State) where
       ap (λ z. inside (bytes_of w) (mem_value n.memory e) (plus z imm)) (sym same)
       ∙ (inside-all (bytes_of w) (mem_value n.memory e) (plus x imm) (mod-lt (x + word_of imm) (pow_pos 64))).1 (λ k l. there (away (plus x imm) k) (k, l, refl))
 
-  branch_either : (c : Cmp) (rs1 rs2 : ℕ) (offset : ℤ) (t u : Bool) → t ≡ comparison_holds c (word_value (word_in n rs1) e) (word_value (word_in n rs2) e) → u ≡ is_aligned (plus a offset)
-      → cond t u true ≡ true → GoesOn (instr.Branch c rs1 rs2 offset) a n e
-  branch_either c rs1 rs2 offset true u is to h = record { form = Taken; has = sym to ∙ h; conditions = (sym is, tt) }
-  branch_either c rs1 rs2 offset false u is to h = record { form = Next; has = refl; conditions = (ap not (sym is), tt) }
+  branch_either : (c : Cmp) (rs1 rs2 : ℕ) (offset : ℤ) (t : Bool) → t ≡ comparison_holds c (word_value (word_in n rs1) e) (word_value (word_in n rs2) e) → GoesOn (instr.Branch c rs1 rs2 offset) n e
+  branch_either c rs1 rs2 offset true is = record { form = Taken; has = refl; conditions = (sym is, tt) }
+  branch_either c rs1 rs2 offset false is = record { form = Next; has = refl; conditions = (ap not (sym is), tt) }
 
-  pub goes_on : (i : Instr) → Fits i a n e s → IsTouchedIn i s (mem_value n.memory e) → is_possible i s ≡ true → GoesOn i a n e
+  pub goes_on : (i : Instr) → Fits i a n e s → IsTouchedIn i s (mem_value n.memory e) → is_possible i s ≡ true → GoesOn i n e
   goes_on (instr.Op o rd rs1 rs2) f t h = record { form = Next; has = refl; conditions = tt }
   goes_on (instr.OpImm o rd rs1 imm) f t h = record { form = Next; has = refl; conditions = tt }
   goes_on (instr.Lui rd imm) f t h = record { form = Next; has = refl; conditions = tt }
   goes_on (instr.Auipc rd imm) f t h = record { form = Next; has = refl; conditions = tt }
-  goes_on (instr.Jal rd offset) f t h = record { form = Next; has = ap (λ p. is_aligned (plus p offset)) (sym f.pc) ∙ h; conditions = tt }
-  goes_on (instr.Jalr rd rs1 imm) f t h =
-      let same = f.word rs1 (0, omega arith, refl) in
-      let zero = (jump_target-aligned (word_value (word_in n rs1) e) imm).0 (ap (λ z. is_aligned (jump_target z imm)) (sym same) ∙ h) in
-      record { form = Next; has = refl; conditions = (eq-eqb (bit_and (plus (word_value (word_in n rs1) e) imm) 2) 0 zero, tt) }
+  goes_on (instr.Jal rd offset) f t h = record { form = Next; has = refl; conditions = tt }
+  goes_on (instr.Jalr rd rs1 imm) f t h = record { form = Next; has = refl; conditions = tt }
   goes_on (instr.Branch c rs1 rs2 offset) f t h =
       let one = f.word rs1 (0, omega arith, refl) in
       let two = f.word rs2 (1, omega arith, refl) in
-      branch_either c rs1 rs2 offset (comparison_holds c (reads rs1 s) (reads rs2 s)) (is_aligned (plus s.pc offset)) (λ i. comparison_holds c (one i) (two i)) (ap (λ p. is_aligned (plus p offset)) f.pc) h
+      branch_either c rs1 rs2 offset (comparison_holds c (reads rs1 s) (reads rs2 s)) (λ i. comparison_holds c (one i) (two i))
   goes_on (instr.Load w signed rd rs1 imm) f t h = record { form = Next; has = refl; conditions = (all_inside w (reads rs1 s) (word_value (word_in n rs1) e) imm (f.word rs1 (0, omega arith, refl)) t, tt) }
   goes_on (instr.Store w rs1 rs2 imm) f t h = record { form = Next; has = refl; conditions = (all_inside w (reads rs1 s) (word_value (word_in n rs1) e) imm (f.word rs1 (0, omega arith, refl)) t, tt) }
   goes_on (instr.Fence imm rs1 rd) f t h = record { form = Next; has = refl; conditions = tt }
   goes_on instr.Ecall f t h = absurd (not_false h)
   goes_on instr.Ebreak f t h = absurd (not_false h)
 
-  after_form : (i : Instr) (u : State) → Fits i a n e s → GoesOn i a n e → u ≡ updated i 4 s → IsAfter i a n e s u
-  after_form i u f g same = record {
+  after_form : (k : ℕ) (i : Instr) (u : State) → Fits i a n e s → GoesOn i n e → u ≡ updated i k s → IsAfter i a k n e s u
+  after_form k i u f g same = record {
     on = g;
-    pc = ap (λ (x : State). x.pc) same ∙ goes a n e s i g.form f g.has g.conditions;
-    reg = ap (λ (x : State). x.reg) same ∙ writes a n e s i g.form f g.has g.conditions;
+    pc = ap (λ (x : State). x.pc) same ∙ goes a n e s k i g.form f g.has g.conditions;
+    reg = ap (λ (x : State). x.reg) same ∙ writes a n e s k i g.form f g.has g.conditions;
     mem = ap (λ (x : State). x.mem) same;
   }
 
-  form_after : (i : Instr) (u : State) → Fits i a n e s → IsAfter i a n e s u → act i 4 s ≡ Some u
-  form_after i u f is =
+  form_after : (k : ℕ) (i : Instr) (u : State) → Fits i a n e s → IsAfter i a k n e s u → act i k s ≡ Some u
+  form_after k i u f is =
       let g = is.on in
-      let pc = is.pc ∙ sym (goes a n e s i g.form f g.has g.conditions) in
-      let reg = is.reg ∙ sym (writes a n e s i g.form f g.has g.conditions) in
-      act-is i 4 s ∙ ap (λ b. only_if b (updated i 4 s)) (possible a n e s i g.form f g.has g.conditions)
-      ∙ ap Some (λ k. record { pc = sym pc k; reg = sym reg k; mem = sym is.mem k })
+      let pc = is.pc ∙ sym (goes a n e s k i g.form f g.has g.conditions) in
+      let reg = is.reg ∙ sym (writes a n e s k i g.form f g.has g.conditions) in
+      act-is i k s ∙ ap (λ b. only_if b (updated i k s)) (possible a n e s i g.form f g.has g.conditions)
+      ∙ ap Some (λ j. record { pc = sym pc j; reg = sym reg j; mem = sym is.mem j })
 
   -- An instruction is carried out exactly where its conditions are true in a form that it has, and then does what its terms
   -- say. The converse wants that the named memory has what the instruction touches.
-  pub act-terms : (i : Instr) (u : State) → Fits i a n e s → IsTouchedIn i s (mem_value n.memory e) → (act i 4 s ≡ Some u) ↔ IsAfter i a n e s u
-  act-terms i u f t = (
-    λ h. let done = act-some i 4 s u h in after_form i u f (goes_on i f t done.0) done.1,
-    form_after i u f,
+  pub act-terms : (k : ℕ) (i : Instr) (u : State) → Fits i a n e s → IsTouchedIn i s (mem_value n.memory e) → (act i k s ≡ Some u) ↔ IsAfter i a k n e s u
+  act-terms k i u f t = (
+    λ h. let done = act-some i k s u h in after_form k i u f (goes_on i f t done.0) done.1,
+    form_after k i u f,
   )
 
 -- ---- a memory cut down to a region
@@ -266,23 +239,23 @@ contrary : (b : Bool) → IsTrue (not b) → IsTrue b → ⊥
 contrary true h k = not_false h
 contrary false h k = not_false k
 
-not_both : (i : Instr) (a : ℕ) (n : Names) (e : Environment) → has_form i Taken a ≡ true → AreTrue (conditions i Next n) e → AreTrue (conditions i Taken n) e → ⊥
-not_both (instr.Op o rd rs1 rs2) a n e h p q = not_false h
-not_both (instr.OpImm o rd rs1 imm) a n e h p q = not_false h
-not_both (instr.Lui rd imm) a n e h p q = not_false h
-not_both (instr.Auipc rd imm) a n e h p q = not_false h
-not_both (instr.Jal rd offset) a n e h p q = not_false h
-not_both (instr.Jalr rd rs1 imm) a n e h p q = not_false h
-not_both (instr.Branch c rs1 rs2 offset) a n e h p q = contrary (comparison_holds c (word_value (word_in n rs1) e) (word_value (word_in n rs2) e)) p.0 q.0
-not_both (instr.Load w signed rd rs1 imm) a n e h p q = not_false h
-not_both (instr.Store w rs1 rs2 imm) a n e h p q = not_false h
-not_both (instr.Fence imm rs1 rd) a n e h p q = not_false h
-not_both instr.Ecall a n e h p q = not_false h
-not_both instr.Ebreak a n e h p q = not_false h
+not_both : (i : Instr) (n : Names) (e : Environment) → has_form i Taken ≡ true → AreTrue (conditions i Next n) e → AreTrue (conditions i Taken n) e → ⊥
+not_both (instr.Op o rd rs1 rs2) n e h p q = not_false h
+not_both (instr.OpImm o rd rs1 imm) n e h p q = not_false h
+not_both (instr.Lui rd imm) n e h p q = not_false h
+not_both (instr.Auipc rd imm) n e h p q = not_false h
+not_both (instr.Jal rd offset) n e h p q = not_false h
+not_both (instr.Jalr rd rs1 imm) n e h p q = not_false h
+not_both (instr.Branch c rs1 rs2 offset) n e h p q = contrary (comparison_holds c (word_value (word_in n rs1) e) (word_value (word_in n rs2) e)) p.0 q.0
+not_both (instr.Load w signed rd rs1 imm) n e h p q = not_false h
+not_both (instr.Store w rs1 rs2 imm) n e h p q = not_false h
+not_both (instr.Fence imm rs1 rd) n e h p q = not_false h
+not_both instr.Ecall n e h p q = not_false h
+not_both instr.Ebreak n e h p q = not_false h
 
 -- at most one form that an instruction has has true conditions
-pub one_form : (i : Instr) (f g : Form) (a : ℕ) (n : Names) (e : Environment) → has_form i f a ≡ true → has_form i g a ≡ true → AreTrue (conditions i f n) e → AreTrue (conditions i g n) e → f ≡ g
-one_form i Next Next a n e h k p q = refl
-one_form i Taken Taken a n e h k p q = refl
-one_form i Next Taken a n e h k p q = absurd (not_both i a n e k p q)
-one_form i Taken Next a n e h k p q = absurd (not_both i a n e h q p)
+pub one_form : (i : Instr) (f g : Form) (n : Names) (e : Environment) → has_form i f ≡ true → has_form i g ≡ true → AreTrue (conditions i f n) e → AreTrue (conditions i g n) e → f ≡ g
+one_form i Next Next n e h k p q = refl
+one_form i Taken Taken n e h k p q = refl
+one_form i Next Taken n e h k p q = absurd (not_both i n e k p q)
+one_form i Taken Next n e h k p q = absurd (not_both i n e h q p)

@@ -4,7 +4,6 @@ use Rattle.std.proofs.lemmas.Bool.{eqb-false}
 use Rattle.rv_words.specs.declared.width.Width.{Width}
 use Rattle.rv_words.specs.declared.width.Width.TheVariants.{B1, B2, B4, B8}
 use Rattle.rv_words.specs.declared.operation.Op.TheVariants.{Add, And}
-use Rattle.rv_words.specs.declared.comparison.Cmp.TheVariants.{Eq}
 use Rattle.rv_words.specs.Operation.{word_of}
 use Rattle.rv_decode.specs.declared.instruction.Instr.{Instr}
 use Rattle.rv_decode.specs.declared.instruction.Instr.TheVariants as instr
@@ -61,14 +60,14 @@ memory_map : (s : Substitution) (b : Bool) (m k : MemTree) → (b ≡ true → p
 memory_map s true m k h = ap (λ x. x ∷ []) (h refl)
 memory_map s false m k h = refl
 
-module _ (s : Substitution) (n m : Names) (regs : List ℕ) (mem : Bool) (is : Becomes s n m regs mem) (a : ℕ) where
+module _ (s : Substitution) (n m : Names) (regs : List ℕ) (mem : Bool) (is : Becomes s n m regs mem) (a k : ℕ) where
   -- the registers that an instruction reads, and its memory, are among those
   pub record Reaches (i : Instr) : Type 0 where
     pub reads : (r : ℕ) → Contains (sources i) r → (r ≡ 0 → ⊥) → Contains regs r
     pub memory : has_memory i ≡ true → mem ≡ true
 
   in_word : (i : Instr) → Reaches i → (r : ℕ) → Contains (sources i) r → put_in_word s (word_in n r) ≡ word_in m r
-  in_word i h r c = by_zero s (eqb r 0) (n.word r) (m.word r) (λ k. is.word r (h.reads r c (eqb-false r 0 k)))
+  in_word i h r c = by_zero s (eqb r 0) (n.word r) (m.word r) (λ z. is.word r (h.reads r c (eqb-false r 0 z)))
 
   in_sum : (i : Instr) → Reaches i → (r : ℕ) (imm : ℤ) → Contains (sources i) r → put_in_word s (sum n r imm) ≡ sum m r imm
   in_sum i h r imm c = let one = in_word i h r c in λ j. Bin Add (one j) (Const (word_of imm))
@@ -85,8 +84,7 @@ module _ (s : Substitution) (n m : Names) (regs : List ℕ) (mem : Bool) (is : B
   in_conditions (instr.Lui rd imm) form h = refl
   in_conditions (instr.Auipc rd imm) form h = refl
   in_conditions (instr.Jal rd offset) form h = refl
-  in_conditions (instr.Jalr rd rs1 imm) form h =
-      let one = in_sum (instr.Jalr rd rs1 imm) h rs1 imm (first rs1 []) in λ j. Compare Eq (Bin And (one j) (Const 2)) (Const 0) ∷ []
+  in_conditions (instr.Jalr rd rs1 imm) form h = refl
   in_conditions (instr.Branch c rs1 rs2 offset) form h =
       let one = in_word (instr.Branch c rs1 rs2 offset) h rs1 (first rs1 (rs2 ∷ [])) in
       let two = in_word (instr.Branch c rs1 rs2 offset) h rs2 (second rs1 rs2) in
@@ -101,7 +99,7 @@ module _ (s : Substitution) (n m : Names) (regs : List ℕ) (mem : Bool) (is : B
   in_conditions instr.Ecall form h = refl
   in_conditions instr.Ebreak form h = refl
 
-  in_result : (i : Instr) → Reaches i → put_in_word s (result i a n) ≡ result i a m
+  in_result : (i : Instr) → Reaches i → put_in_word s (result i a k n) ≡ result i a k m
   in_result (instr.Op o rd rs1 rs2) h =
       let one = in_word (instr.Op o rd rs1 rs2) h rs1 (first rs1 (rs2 ∷ [])) in
       let two = in_word (instr.Op o rd rs1 rs2) h rs2 (second rs1 rs2) in λ j. Bin o (one j) (two j)
@@ -135,7 +133,7 @@ module _ (s : Substitution) (n m : Names) (regs : List ℕ) (mem : Bool) (is : B
   in_memory_after instr.Ecall h t = is.memory t
   in_memory_after instr.Ebreak h t = is.memory t
 
-  in_pc_after : (i : Instr) (form : Form) → Reaches i → put_in_word s (pc_after i form a n) ≡ pc_after i form a m
+  in_pc_after : (i : Instr) (form : Form) → Reaches i → put_in_word s (pc_after i form a k n) ≡ pc_after i form a k m
   in_pc_after (instr.Op o rd rs1 rs2) form h = refl
   in_pc_after (instr.OpImm o rd rs1 imm) form h = refl
   in_pc_after (instr.Lui rd imm) form h = refl
@@ -150,12 +148,12 @@ module _ (s : Substitution) (n m : Names) (regs : List ℕ) (mem : Bool) (is : B
   in_pc_after instr.Ebreak form h = refl
 
   -- the triple over the first names, with the terms put in, is that over the second
-  pub is_inst : (i : Instr) (form : Form) (code : List Range) → Reaches i → IsInst s (triple_over i form a code regs mem n) (triple_over i form a code regs mem m)
+  pub is_inst : (i : Instr) (form : Form) (code : List Range) → Reaches i → IsInst s (triple_over i form a k code regs mem n) (triple_over i form a k code regs mem m)
   is_inst i form code h =
       let words = registers_map s n.word m.word regs is.word in
       let memory = memory_map s mem n.memory m.memory is.memory in
       let pc = in_pc_after i form h in
-      let later = registers_map s (word_after i a n) (word_after i a m) regs (λ r c. by_place s (eqb r (destination i)) (result i a n) (n.word r) (result i a m) (m.word r) (in_result i h) (is.word r c)) in
+      let later = registers_map s (word_after i a k n) (word_after i a k m) regs (λ r c. by_place s (eqb r (destination i)) (result i a k n) (n.word r) (result i a k m) (m.word r) (in_result i h) (is.word r c)) in
       let stored = memory_map s mem (memory_after i n) (memory_after i m) (in_memory_after i h) in
       record {
         facts = facts_map s (conditions i form n) (conditions i form m) (in_conditions i form h);

@@ -1,18 +1,18 @@
 -- The triple of an instruction is valid: one step leads from a state in which `pre` holds to one in which `post` does.
-use Rattle.std.proofs.Common.{◌≡◌, ℕ, suc, ◌%◌, ◌^◌, ◌<◌, Bool, true, false, cond, eqb, eqb-true, Option, Some, None, List, [], ◌∷◌, get_or, map, Contains, refl, sym, ap, ◌∙◌, arith}
+use Rattle.std.proofs.Common.{◌≡◌, ℕ, suc, ◌+◌, ◌^◌, ◌<◌, ◌≤◌, Bool, true, false, cond, eqb, eqb-true, Option, Some, None, List, [], ◌∷◌, get_or, map, Contains, refl, sym, ap, ◌∙◌, arith}
 use Rattle.std.proofs.lemmas.Bool.{eqb-false}
-use Rattle.std.specs.Int.{w32, to_le_bytes}
 use Rattle.std.specs.Option.{option_and_then}
-use Rattle.rv_words.specs.Bytes.{Bytes, bytes_from, bytes_of, inside, load, store}
+use Rattle.rvc.specs.Number.{bytes_of as bytes_of_number, instruction_of, is_word, length_of, number_at}
+use Rattle.rvc.proofs.NumberLemmas.{instruction-small}
+use Rattle.rv_words.specs.Bytes.{Bytes, bytes_from, bytes_of, inside, store}
 use Rattle.rv_decode.specs.declared.instruction.Instr.{Instr}
 use Rattle.rv_decode.specs.declared.instruction.Instr.TheVariants as instr
-use Rattle.rv_decode.specs.Decodes.{decoded}
 use Rattle.rv_machine.specs.State.{State, with_register}
-use Rattle.rv_machine.specs.Step.{is_aligned, instruction_at, only_if, plus, step}
+use Rattle.rv_machine.specs.Step.{is_even, instruction_at, length_at, only_if, plus, step}
 use Rattle.rv_machine.specs.Run.{run}
 use Rattle.rv_machine.specs.Update as machine
 use Rattle.rv_machine.specs.Update.{is_possible, reg_after, updated}
-use Rattle.rv_machine.proofs.StepLemmas.{act-is, act-step, instruction_at-is}
+use Rattle.rv_machine.proofs.StepLemmas.{act-is, act-step, instruction_at-is, length_at-is}
 use Rattle.rv_words.proofs.MemoryLemmas.{store-same}
 use Rattle.word_terms.specs.Tree.{WordTree, CondTree, Const}
 use Rattle.word_terms.specs.Environment.{Environment}
@@ -31,7 +31,7 @@ use Rattle.instr_axioms.specs.Terms.{Names, has_memory, word_in, conditions, res
 use Rattle.instr_axioms.specs.Axiom.{triple_over}
 use Rattle.sep_assert.proofs.Keys.{both_free, has_same, part-pc, part-register, part-byte}
 use Rattle.instr_axioms.proofs.Parts.{slot_in, registers-slot, Times, never, once, twice, times, not_free, memory_slot, memory-slot}
-use Rattle.instr_axioms.proofs.Memories.{HasWord, has-word, store-outside}
+use Rattle.instr_axioms.proofs.Memories.{has-number, store-outside}
 use Rattle.instr_axioms.specs.Effects.{AreTrue, Fits}
 use Rattle.instr_axioms.proofs.Effects.{possible, goes, writes}
 
@@ -50,18 +50,13 @@ run_one : (s u : State) → step s ≡ Some u → run s 1 ≡ Some u
 unfolding run
 run_one s u e = ap (option_and_then (λ t. Some t)) e
 
-aligned : (a : ℕ) → is_aligned a ≡ true → a % 4 ≡ 0
-aligned a h = eqb-true (a % 4) 0 h
-
 -- the instruction at a step's address, where it is possible
-step_to : (i : Instr) (a w : ℕ) (s : State) → s.pc ≡ a → is_aligned a ≡ true → decoded w ≡ Some i → HasWord s.mem a w → is_possible i s ≡ true → step s ≡ Some (updated i 4 s)
-step_to i a w s at even is word can =
-    let here : instruction_at s ≡ Some i = (instruction_at-is i s).1 (
-      ap is_aligned at ∙ even,
-      ap (inside 4 s.mem) at ∙ word.present,
-      ap (λ p. decoded (load 4 s.mem p)) at ∙ ap decoded word.word ∙ is,
-    ) in
-    act-step i s here ∙ act-is i 4 s ∙ ap (λ b. only_if b (updated i 4 s)) can
+step_to : (i : Instr) (a w : ℕ) (s : State) → s.pc ≡ a → is_even a ≡ true → instruction_of w ≡ Some i → number_at s.mem a ≡ Some w → is_possible i s ≡ true → step s ≡ Some (updated i (length_of w) s)
+step_to i a w s at even is number can =
+    let there : number_at s.mem s.pc ≡ Some w = ap (number_at s.mem) at ∙ number in
+    let here : instruction_at s ≡ Some i = (instruction_at-is i s).1 (w, ap is_even at ∙ even, there, is) in
+    let long : length_at s ≡ length_of w = length_at-is s w there in
+    act-step i s here ∙ act-is i (length_at s) s ∙ ap (λ b. only_if b (updated i (length_at s) s)) can ∙ (λ j. Some (updated i (long j) s))
 
 -- ---- what a state says of its parts, key by key
 
@@ -152,30 +147,31 @@ stored k part all x v q others there e = at (part q) refl e
 
 -- ---- the law
 
--- the instruction stands at a as the word w in code, and its registers and its memory are among those
+-- the instruction stands at a as the parcel or word w in code, and its registers and its memory are among those
 pub record StandsIn (i : Instr) (a w : ℕ) (code : List Range) (regs : List ℕ) (mem : Bool) : Type 0 where
   pub small : a < 2 ^ 64
-  pub even : is_aligned a ≡ true
+  pub even : is_even a ≡ true
+  pub room : a + length_of w ≤ 2 ^ 64
   pub word : w < 2 ^ 32
-  pub is : decoded w ≡ Some i
-  pub bytes : IsWithin (bytes_from a (to_le_bytes w32 w)) (range_bytes code)
+  pub is : instruction_of w ≡ Some i
+  pub bytes : IsWithin (bytes_from a (bytes_of_number w)) (range_bytes code)
   pub reads : (r : ℕ) → Contains (sources i) r → (r ≡ 0 → ⊥) → Contains regs r
   pub writes : (destination i ≡ 0 → ⊥) → Contains regs (destination i)
   pub memory : has_memory i ≡ true → mem ≡ true
 
-module _ (i : Instr) (form : Form) (a w : ℕ) (code : List Range) (regs : List ℕ) (mem : Bool) (n : Names) (h : StandsIn i a w code regs mem) (has : has_form i form a ≡ true) where
-  module _ (e : Environment) (s : State) (rest : Part) (whole : state_part s ≡ part_of (triple_over i form a code regs mem n).pre e ⊕ (code_part code ⊕ rest)) where
+module _ (i : Instr) (form : Form) (a w : ℕ) (code : List Range) (regs : List ℕ) (mem : Bool) (n : Names) (h : StandsIn i a w code regs mem) (has : has_form i form ≡ true) where
+  module _ (e : Environment) (s : State) (rest : Part) (whole : state_part s ≡ part_of (triple_over i form a (length_of w) code regs mem n).pre e ⊕ (code_part code ⊕ rest)) where
     at_pc : Has s.pc ≡ both (Has a) (rest Pc)
-    at_pc = (λ j. whole j Pc) ∙ (λ j. both (part-pc (triple_over i form a code regs mem n).pre e j) (rest Pc))
+    at_pc = (λ j. whole j Pc) ∙ (λ j. both (part-pc (triple_over i form a (length_of w) code regs mem n).pre e j) (rest Pc))
 
     at_register : (q : ℕ) → cond (is_register q) (Has (s.reg q)) Free ≡ both (slot_in regs q (word_value (n.word q) e)) (rest (Register q))
     at_register q =
-        let part = part-register (triple_over i form a code regs mem n).pre e q ∙ registers-slot e n.word regs q in
+        let part = part-register (triple_over i form a (length_of w) code regs mem n).pre e q ∙ registers-slot e n.word regs q in
         (λ j. whole j (Register q)) ∙ (λ j. both (part j) (rest (Register q)))
 
     at_byte : (q : ℕ) → slot_of (s.mem q) ≡ both (memory_slot mem (mem_value n.memory e q)) (both (slot_of (range_bytes code q)) (rest (Byte q)))
     at_byte q =
-        let part = part-byte (triple_over i form a code regs mem n).pre e q ∙ memory-slot mem n.memory e q in
+        let part = part-byte (triple_over i form a (length_of w) code regs mem n).pre e q ∙ memory-slot mem n.memory e q in
         (λ j. whole j (Byte q)) ∙ (λ j. both (part j) (both (slot_of (range_bytes code q)) (rest (Byte q))))
 
     pc_held : IsHeld true s.pc a (rest Pc)
@@ -198,7 +194,7 @@ module _ (i : Instr) (form : Form) (a w : ℕ) (code : List Range) (regs : List 
         (byte_held (s.mem q) b (both (slot_of (range_bytes code q)) (rest (Byte q)))
         (at_byte q ∙ (λ j. both (cond (there j) (slot_of (is j)) Free) (both (slot_of (range_bytes code q)) (rest (Byte q)))))).0
 
-    code_there : IsWithin (bytes_from a (to_le_bytes w32 w)) s.mem
+    code_there : IsWithin (bytes_from a (bytes_of_number w)) s.mem
     code_there q b is =
         let c = h.bytes q b is in
         code_held (s.mem q) b (memory_slot mem (mem_value n.memory e q)) (rest (Byte q))
@@ -213,36 +209,36 @@ module _ (i : Instr) (form : Form) (a w : ℕ) (code : List Range) (regs : List 
 
     -- ---- after the step
     module _ (c : AreTrue (conditions i form n) e) where
-      steps : step s ≡ Some (updated i 4 s)
-      steps = step_to i a w s pc_held.value h.even h.is (has-word s.mem a w h.small (aligned a h.even) h.word code_there) (possible a n e s i form fits has c)
+      steps : step s ≡ Some (updated i (length_of w) s)
+      steps = step_to i a w s pc_held.value h.even h.is (has-number s.mem a w h.room h.word (instruction-small w i h.is) code_there) (possible a n e s i form fits has c)
 
-      after_pc : Has (machine.pc_after i 4 s) ≡ both (part_of (triple_over i form a code regs mem n).post e Pc) (rest Pc)
+      after_pc : Has (machine.pc_after i (length_of w) s) ≡ both (part_of (triple_over i form a (length_of w) code regs mem n).post e Pc) (rest Pc)
       after_pc =
-          let part = part-pc (triple_over i form a code regs mem n).post e in
-          ap Has (goes a n e s i form fits has c) ∙ (λ j. both (sym part j) (sym pc_held.free j))
+          let part = part-pc (triple_over i form a (length_of w) code regs mem n).post e in
+          ap Has (goes a n e s (length_of w) i form fits has c) ∙ (λ j. both (sym part j) (sym pc_held.free j))
 
       written : (q : ℕ) → Times regs q
-          → cond (is_register q) (Has (with_register (destination i) (word_value (result i a n) e) s.reg q)) Free ≡ both (slot_in regs q (word_value (word_after i a n q) e)) (rest (Register q))
+          → cond (is_register q) (Has (with_register (destination i) (word_value (result i a (length_of w) n) e) s.reg q)) Free ≡ both (slot_in regs q (word_value (word_after i a (length_of w) n q) e)) (rest (Register q))
       written q (never is) =
           let other = λ (k : eqb (destination i) 0 ≡ false). false_if (eqb q (destination i)) (λ same.
           let there = h.writes (eqb-false (destination i) 0 k) in
           not_free regs q 0 there.0 there.1 (missing q (destination i) there.0 (eqb-true q (destination i) same) there.2) (is 0)) in
-          ap (λ x. cond (is_register q) (Has x) Free) (not_written (eqb (destination i) 0) (eqb q (destination i)) (word_value (result i a n) e) (s.reg q) other)
-          ∙ at_register q ∙ (λ j. both (is (word_value (n.word q) e) j) (rest (Register q))) ∙ (λ j. both (sym (is (word_value (word_after i a n q) e)) j) (rest (Register q)))
+          ap (λ x. cond (is_register q) (Has x) Free) (not_written (eqb (destination i) 0) (eqb q (destination i)) (word_value (result i a (length_of w) n) e) (s.reg q) other)
+          ∙ at_register q ∙ (λ j. both (is (word_value (n.word q) e) j) (rest (Register q))) ∙ (λ j. both (sym (is (word_value (word_after i a (length_of w) n q) e)) j) (rest (Register q)))
         where
           missing : (x d k : ℕ) → x ≡ d → get_or regs k d ≡ d → get_or regs k x ≡ x
           missing x d k same there = (λ j. get_or regs k (same j)) ∙ there ∙ sym same
       written q (once is) =
           let k = register_held q (word_value (n.word q) e) (is _) in
           let other = λ (z : eqb (destination i) 0 ≡ true). false_if (eqb q (destination i)) (λ same. no_zero q k.register (eqb-true q (destination i) same ∙ eqb-true (destination i) 0 z)) in
-          let value = by_tests (eqb (destination i) 0) (eqb q (destination i)) (word_value (result i a n) e) (s.reg q) (result i a n) (n.word q) e other refl k.value in
-          (λ j. cond (k.register j) (Has (value j)) Free) ∙ (λ j. both (sym (is (word_value (word_after i a n q) e)) j) (sym k.free j))
+          let value = by_tests (eqb (destination i) 0) (eqb q (destination i)) (word_value (result i a (length_of w) n) e) (s.reg q) (result i a (length_of w) n) (n.word q) e other refl k.value in
+          (λ j. cond (k.register j) (Has (value j)) Free) ∙ (λ j. both (sym (is (word_value (word_after i a (length_of w) n q) e)) j) (sym k.free j))
       written q (twice is) = absurd (not_twice q (is _))
 
-      after_register : (q : ℕ) → cond (is_register q) (Has (reg_after i 4 s q)) Free ≡ both (part_of (triple_over i form a code regs mem n).post e (Register q)) (rest (Register q))
+      after_register : (q : ℕ) → cond (is_register q) (Has (reg_after i (length_of w) s q)) Free ≡ both (part_of (triple_over i form a (length_of w) code regs mem n).post e (Register q)) (rest (Register q))
       after_register q =
-          let part = part-register (triple_over i form a code regs mem n).post e q ∙ registers-slot e (word_after i a n) regs q in
-          ap (λ (f : ℕ → ℕ). cond (is_register q) (Has (f q)) Free) (writes a n e s i form fits has c) ∙ written q (times regs q) ∙ (λ j. both (sym part j) (rest (Register q)))
+          let part = part-register (triple_over i form a (length_of w) code regs mem n).post e q ∙ registers-slot e (word_after i a (length_of w) n) regs q in
+          ap (λ (f : ℕ → ℕ). cond (is_register q) (Has (f q)) Free) (writes a n e s (length_of w) i form fits has c) ∙ written q (times regs q) ∙ (λ j. both (sym part j) (rest (Register q)))
 
       memory_after-slot : (j : Instr) (q : ℕ) (others : Slot) → Fits j a n e s → AreTrue (conditions j form n) e → (has_memory j ≡ true → mem ≡ true)
           → slot_of (s.mem q) ≡ both (memory_slot mem (mem_value n.memory e q)) others
@@ -267,20 +263,20 @@ module _ (i : Instr) (form : Form) (a w : ℕ) (code : List Range) (regs : List 
       memory_after-slot instr.Ecall q others f k there before = before
       memory_after-slot instr.Ebreak q others f k there before = before
 
-      after_byte : (q : ℕ) → slot_of (machine.mem_after i s q) ≡ both (part_of (triple_over i form a code regs mem n).post e (Byte q)) (both (slot_of (range_bytes code q)) (rest (Byte q)))
+      after_byte : (q : ℕ) → slot_of (machine.mem_after i s q) ≡ both (part_of (triple_over i form a (length_of w) code regs mem n).post e (Byte q)) (both (slot_of (range_bytes code q)) (rest (Byte q)))
       after_byte q =
-          let part = part-byte (triple_over i form a code regs mem n).post e q ∙ memory-slot mem (memory_after i n) e q in
+          let part = part-byte (triple_over i form a (length_of w) code regs mem n).post e q ∙ memory-slot mem (memory_after i n) e q in
           memory_after-slot i q (both (slot_of (range_bytes code q)) (rest (Byte q))) fits c h.memory (at_byte q) ∙ (λ j. both (sym part j) (both (slot_of (range_bytes code q)) (rest (Byte q))))
 
-      after : (k : Key) → state_part (updated i 4 s) k ≡ (part_of (triple_over i form a code regs mem n).post e ⊕ (code_part code ⊕ rest)) k
+      after : (k : Key) → state_part (updated i (length_of w) s) k ≡ (part_of (triple_over i form a (length_of w) code regs mem n).post e ⊕ (code_part code ⊕ rest)) k
       after Pc = after_pc
       after (Register q) = after_register q
       after (Byte q) = after_byte q
 
   -- the triple of the instruction is valid, over any registers and names, in any code in which it stands
-  pub valid_over : (g : GroupTree) → Valid g (triple_over i form a code regs mem n)
+  pub valid_over : (g : GroupTree) → Valid g (triple_over i form a (length_of w) code regs mem n)
   valid_over g = record {
     runs = λ e holds rest s whole.
         let c = are-true g e (conditions i form n) holds in
-        (updated i 4 s, record { steps = 1; ran = run_one s (updated i 4 s) (steps e s rest whole c) }, λ j k. after e s rest whole c k j);
+        (updated i (length_of w) s, record { steps = 1; ran = run_one s (updated i (length_of w) s) (steps e s rest whole c) }, λ j k. after e s rest whole c k j);
   }

@@ -33,14 +33,14 @@ abbrev pub IsTouchedIn : Instr → State → Bytes → Type 0
 IsTouchedIn i s m = (q : ℕ) → IsTouched (touched i s) q → is_some (m q) ≡ true
 
 -- a form that the instruction has, and in which its conditions are true
-pub record GoesOn (i : Instr) (a : ℕ) (n : Names) (e : Environment) : Type 0 where
+pub record GoesOn (i : Instr) (n : Names) (e : Environment) : Type 0 where
   pub form : Form
-  pub has : has_form i form a ≡ true
+  pub has : has_form i form ≡ true
   pub conditions : AreTrue (conditions i form n) e
 
--- u is the state after the instruction in a form that it has, by its terms; the memory is the machine's
-pub record IsAfter (i : Instr) (a : ℕ) (n : Names) (e : Environment) (s u : State) : Type 0 where
-  pub on : GoesOn i a n e
-  pub pc : u.pc ≡ word_value (pc_after i on.form a n) e
-  pub reg : u.reg ≡ with_register (destination i) (word_value (result i a n) e) s.reg
+-- u is the state after the instruction of k bytes at a in a form that it has, by its terms; the memory is the machine's
+pub record IsAfter (i : Instr) (a k : ℕ) (n : Names) (e : Environment) (s u : State) : Type 0 where
+  pub on : GoesOn i n e
+  pub pc : u.pc ≡ word_value (pc_after i on.form a k n) e
+  pub reg : u.reg ≡ with_register (destination i) (word_value (result i a k n) e) s.reg
   pub mem : u.mem ≡ mem_after i s

@@ -1,19 +1,21 @@
 //! Addresses of instructions.
 
 ghost use Rattle.std.specs.Prelude.{◌≡◌};
-ghost use Rattle.rv_machine.specs.Step as spec;
+ghost use Rattle.instr_axioms.specs.Axiom as spec;
 ghost use Rattle.instr_axioms.specs.Terms.{following};
 
-/// Whether an instruction may stand there.
-pub fn is_aligned(a: u64) -> bool
-    ensures { result ≡ spec.is_aligned a }
+use rvc::length_of;
+
+/// Whether an instruction of that parcel or word may stand there.
+pub fn has_room(a: u64, number: u32) -> bool
+    ensures { result ≡ spec.has_room a number }
 {
-    a % 4 == 0
+    a % 2 == 0 && u64::from(length_of(number)) - 1 <= u64::MAX - a
 }
 
-/// The address of the next instruction.
-pub fn next(a: u64) -> u64
-    ensures { result ≡ following a }
+/// The address of the next instruction, behind one of that many bytes.
+pub fn next(a: u64, length: u8) -> u64
+    ensures { result ≡ following a length }
 {
-    a.wrapping_add(4)
+    a.wrapping_add(u64::from(length))
 }

@@ -120,12 +120,6 @@ pub fn condition(
             let c = accessible(alloc, width, names, rs1, imm)?;
             Ok(Some(c))
         }
-        Instr::Jalr { rs1, imm, .. } => {
-            let a = sum(alloc, names, rs1, imm)?;
-            let bit = bin(alloc, Op::And, a, Word::Const(2))?;
-            let c = compare(alloc, Cmp::Eq, bit, Word::Const(0))?;
-            Ok(Some(c))
-        }
         Instr::Branch { cmp, rs1, rs2, .. } => {
             let c = comparison(alloc, cmp, rs1, rs2, names)?;
             let d = branch_condition(alloc, form, c)?;
@@ -185,9 +179,15 @@ pub fn facts(alloc: Global, i: Instr, form: Form, names: &Variables) -> Result<L
     Ok(facts)
 }
 
-/// What the instruction at an address writes to its destination.
-pub fn result(alloc: Global, i: Instr, addr: u64, names: &Variables) -> Result<Word, NoMemory>
-    ensures { IfOk result (λ t. word_tree t ≡ terms.result i addr (names_of names.now)) }
+/// What the instruction of that many bytes at an address writes to its destination.
+pub fn result(
+    alloc: Global,
+    i: Instr,
+    addr: u64,
+    length: u8,
+    names: &Variables,
+) -> Result<Word, NoMemory>
+    ensures { IfOk result (λ t. word_tree t ≡ terms.result i addr length (names_of names.now)) }
 {
     match i {
         Instr::Op { op, rs1, rs2, .. } => bin(alloc, op, word_in(names, rs1), word_in(names, rs2)),
@@ -201,8 +201,8 @@ pub fn result(alloc: Global, i: Instr, addr: u64, names: &Variables) -> Result<W
         }
         Instr::Lui { imm, .. } => Ok(Word::Const(upper_word(imm))),
         Instr::Auipc { imm, .. } => Ok(Word::Const(addr.wrapping_add(upper_word(imm)))),
-        Instr::Jal { .. } => Ok(Word::Const(next(addr))),
-        Instr::Jalr { .. } => Ok(Word::Const(next(addr))),
+        Instr::Jal { .. } => Ok(Word::Const(next(addr, length))),
+        Instr::Jalr { .. } => Ok(Word::Const(next(addr, length))),
         Instr::Load {
             width,
             signed,
@@ -238,15 +238,16 @@ pub fn memory_after(alloc: Global, i: Instr, names: &Variables) -> Result<Mem, N
     }
 }
 
-/// Where the instruction at an address goes in that form.
+/// Where the instruction of that many bytes at an address goes in that form.
 pub fn pc_after(
     alloc: Global,
     i: Instr,
     form: Form,
     addr: u64,
+    length: u8,
     names: &Variables,
 ) -> Result<Word, NoMemory>
-    ensures { IfOk result (λ t. word_tree t ≡ terms.pc_after i form addr (names_of names.now)) }
+    ensures { IfOk result (λ t. word_tree t ≡ terms.pc_after i form addr length (names_of names.now)) }
 {
     match i {
         Instr::Jal { offset, .. } => Ok(Word::Const(plus_immediate(addr, offset))),
@@ -254,17 +255,17 @@ pub fn pc_after(
             let a = sum(alloc, names, rs1, imm)?;
             bin(alloc, Op::And, a, Word::Const(0xffff_ffff_ffff_fffe))
         }
-        Instr::Branch { offset, .. } => Ok(Word::Const(branch_target(form, addr, offset))),
-        _ => Ok(Word::Const(next(addr))),
+        Instr::Branch { offset, .. } => Ok(Word::Const(branch_target(form, addr, length, offset))),
+        _ => Ok(Word::Const(next(addr, length))),
     }
 }
 
 /// Where a branch goes.
-fn branch_target(form: Form, addr: u64, offset: i32) -> u64
-    ensures { result ≡ terms.branch_target form addr offset }
+fn branch_target(form: Form, addr: u64, length: u8, offset: i32) -> u64
+    ensures { result ≡ terms.branch_target form addr length offset }
 {
     match form {
-        Form::Next => next(addr),
+        Form::Next => next(addr, length),
         Form::Taken => plus_immediate(addr, offset),
     }
 }

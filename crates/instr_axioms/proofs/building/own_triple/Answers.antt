@@ -1,5 +1,6 @@
 use Rattle.std.proofs.Common.{◌≡◌, IfOk, ap, subst, ◌∙◌}
 use Rattle.triple_kernel.specs.Tree.{triple_tree}
+use Rattle.rvc.specs.Number.{length_of}
 use Rattle.instr_axioms.specs.Axiom.{own, own_triple, triple_over, variables_for, word_code}
 use Rattle.instr_axioms.specs.Variables.{names_of}
 use Rattle.instr_axioms.proofs.Numbered.{named_for}
@@ -10,6 +11,6 @@ returns c =
     let regs : c.as_slice-regs.result.now ≡ own c.args.i = c.as_slice-regs.ensures ∙ c.in_ok-regs.ensures.own in
     let names : names_of c.numbered-names.result ≡ variables_for (own c.args.i) =
     named_for c.numbered-names.result c.as_slice-regs.result.now c.numbered-names.ensures.words c.numbered-names.ensures.memory ∙ ap variables_for regs in
-    let same : triple_over c.args.i c.args.form c.args.addr (word_code c.args.addr c.args.word) c.as_slice-regs.result.now c.has_memory.result (names_of c.numbered-names.result) ≡ own_triple c.args.i c.args.form c.args.addr c.args.word =
-    λ j. triple_over c.args.i c.args.form c.args.addr (word_code c.args.addr c.args.word) (regs j) (c.has_memory.ensures j) (names j) in
+    let same : triple_over c.args.i c.args.form c.args.addr (length_of c.args.word) (word_code c.args.addr c.args.word) c.as_slice-regs.result.now c.has_memory.result (names_of c.numbered-names.result) ≡ own_triple c.args.i c.args.form c.args.addr c.args.word =
+    λ j. triple_over c.args.i c.args.form c.args.addr (length_of c.args.word) (word_code c.args.addr c.args.word) (regs j) (c.has_memory.ensures j) (names j) in
     subst (λ x. IfOk c.triple_over.result (λ t. triple_tree t ≡ x)) same c.triple_over.ensures
