@@ -1,6 +1,7 @@
 -- The parts of a graph while it is built.
 use Rattle.std.proofs.Common.{◌≡◌, ℕ, suc, ◌+◌, ◌-◌, ◌<◌, ◌≤◌, ◌↔◌, List, [], ◌∷◌, ◌++◌, inl, inr, length, get_or, take, drop, map, sym, ◌∙◌, ap, subst, arith, Result, Ok, Err, Option, Some, None, IfSome, IfNone}
 use Rattle.std.specs.List.{Contains}
+use Rattle.std.specs.Option.{unwrap_or}
 use Rattle.std.specs.Result.{IfErr, IsErrAnd}
 use Rattle.std.proofs.Math.Seq.{drop-cons}
 use Rattle.std.proofs.lemmas.List.{get_or-map, length-map, get_or-take, length-take}
@@ -10,7 +11,8 @@ use Rattle.rv_decode.specs.declared.instruction.Instr.{Instr}
 use Rattle.flow_graph.specs.declared.outside.Outside.{Outside as Fault}
 use Rattle.flow_graph.specs.declared.outside.FlowFault.{FlowFault}
 use Rattle.flow_graph.specs.declared.outside.FlowFault.TheVariants.{Outside, NoMemory}
-use Rattle.flow_graph.specs.Flow.{look, leads, next, targets, Next}
+use Rattle.rvc.specs.Number.{length_of, number_in}
+use Rattle.flow_graph.specs.Flow.{look, leads, length_in, next, targets, Next}
 use Rattle.flow_graph.specs.Walks.{Leave, Stop}
 use Rattle.flow_graph.specs.Reach.{IsReach, IsLeastFault, Least, reach_limit}
 use Rattle.flow_graph.specs.Graph.{IsGraphOf, IsRising, IsRefused, edge_to, edges_from, number}
@@ -20,15 +22,23 @@ use Rattle.flow_graph.proofs.Reaching.{reach_few}
 use Rattle.flow_graph.proofs.NumberLemmas.{different_from_rising}
 
 -- what is at a place of two lists that are the same after two maps
+pub both_same : {A B : Type 0} (f : A → B) (g : ℕ → B) (xs : List A) (ns : List ℕ) (n : ℕ) (d : A) → map f xs ≡ map g ns → n < length ns → g (get_or ns n 0) ≡ f (get_or xs n d)
+both_same f g xs ns n d e l =
+    let long : length xs ≡ length ns = sym (length-map xs f) ∙ ap length e ∙ length-map ns g in
+    sym (get_or-map g ns n 0 (f d) l) ∙ ap (λ ys. get_or ys n (f d)) (sym e) ∙ get_or-map f xs n d (f d) (omega arith)
+
 pub at_same : (code : Bytes) (is : List Instr) (ns : List ℕ) (n : ℕ) (d : Instr) → map (λ i. Ok i) is ≡ map (look code) ns → n < length ns → look code (get_or ns n 0) ≡ Ok (get_or is n d)
 at_same code is ns n d e l =
     let long : length is ≡ length ns = sym (length-map is (λ i. Ok i)) ∙ ap length e ∙ length-map ns (look code) in
     sym (get_or-map (look code) ns n 0 (Ok d) l) ∙ ap (λ xs. get_or xs n (Ok d)) (sym e) ∙ get_or-map (λ i. Ok i) is n d (Ok d) (omega arith)
 
 -- the instruction of a node leads where its address does
-pub node_targets : (code : Bytes) (nodes : List ℕ) (is : List Instr) → AreOf code nodes is → (n a : ℕ) (d : Instr) → n < length nodes → a ≡ get_or nodes n 0 → targets a (get_or is n d) ≡ next code (get_or nodes n 0)
-node_targets code nodes is of n a d l at_a =
-    (λ j. targets (at_a j) (get_or is n d)) ∙ ap (leads (get_or nodes n 0)) (sym (at_same code is nodes n d of.same l))
+pub node_targets : (code : Bytes) (nodes ws : List ℕ) (is : List Instr) → AreOf code nodes ws is → (n a k : ℕ) (d : Instr) → n < length nodes → a ≡ get_or nodes n 0 → k ≡ length_of (get_or ws n 0)
+    → targets a k (get_or is n d) ≡ next code (get_or nodes n 0)
+node_targets code nodes ws is of n a k d l at_a long =
+    let number = both_same (λ w. Some w) (number_in code) ws nodes n 0 of.numbers_are l in
+    let same : k ≡ length_in code (get_or nodes n 0) = long ∙ (λ j. length_of (unwrap_or (sym number j) 0)) in
+    (λ j. targets (at_a j) (same j) (get_or is n d)) ∙ ap (leads (get_or nodes n 0) (length_in code (get_or nodes n 0))) (sym (at_same code is nodes n d of.same l))
 
 -- the edges from a node on are its own and those from the node after it on
 pub edges_down : (leads : ℕ → List ℕ) (all : List ℕ) (u : ℕ) → u < length all → edges_from leads all u (drop u all) ≡ map (edge_to all u) (leads (get_or all u 0)) ++ edges_from leads all (u + 1) (drop (u + 1) all)
@@ -97,9 +107,9 @@ some_holds None P x e h = absurd (cc)
 some_holds (Some y) P x e h = subst P (let q : y ≡ x = cc in q) h
 
 -- what was built is the graph
-pub graph_of : (code : Bytes) (e : ℕ) (nodes : List ℕ) (is : List Instr) (es : List (ℕ × ℕ)) (n : ℕ) → IsReach (Next code) e nodes → IsRising nodes → length nodes ≤ reach_limit → map (λ i. Ok i) is ≡ map (look code) nodes
-    → es ≡ edges_from (next code) nodes 0 nodes → n ≡ number nodes e → IsGraphOf code e (record { entry = n; addrs = nodes; instrs = is; edges = es })
-graph_of code e nodes is es n r up few same edges entry = record { reach = r; rising = up; few = few; instrs = same; edges = edges; entry = entry }
+pub graph_of : (code : Bytes) (e : ℕ) (nodes ws : List ℕ) (is : List Instr) (es : List (ℕ × ℕ)) (n : ℕ) → IsReach (Next code) e nodes → IsRising nodes → length nodes ≤ reach_limit → map (λ w. Some w) ws ≡ map (number_in code) nodes → map (λ i. Ok i) is ≡ map (look code) nodes
+    → es ≡ edges_from (next code) nodes 0 nodes → n ≡ number nodes e → IsGraphOf code e (record { entry = n; addrs = nodes; numbers = ws; instrs = is; edges = es })
+graph_of code e nodes ws is es n r up few numbers same edges entry = record { reach = r; rising = up; few = few; numbers = numbers; instrs = same; edges = edges; entry = entry }
 
 -- the exit of a `?`
 pub exit_with : {X : Type 0} (r : Result X FlowFault) (e : FlowFault) (Q : FlowFault → Type 0) → IsErrAnd r (λ y. y ≡ e) → Q e → IfErr r Q

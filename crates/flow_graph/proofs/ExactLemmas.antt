@@ -1,18 +1,19 @@
 -- A graph and a fault exclude each other, and there is one fault at most. Reached is what is in each set that has the entry
 -- and is closed.
-use Rattle.std.proofs.Common.{◌≡◌, ℕ, suc, ◌<◌, ◌↔◌, List, [], ◌∷◌, inl, inr, length, get_or, refl, sym, ◌∙◌, ap, subst, arith, Bool, true, false, cond, eqb, Result, Ok, Err}
+use Rattle.std.proofs.Common.{◌≡◌, ℕ, suc, ◌<◌, ◌↔◌, List, [], ◌∷◌, inl, inr, length, get_or, refl, sym, ◌∙◌, ap, subst, arith, Bool, true, false, cond, eqb, Some, Result, Ok, Err}
 use Rattle.std.specs.List.{Contains}
 use Rattle.std.proofs.lemmas.Bool.Decides.{eqb_tells, leb_tells}
 use Rattle.rv_words.specs.Bytes.{Bytes}
 use Rattle.rv_decode.specs.declared.instruction.Instr.{Instr}
 use Rattle.flow_graph.specs.declared.outside.Outside.{Outside as Fault}
+use Rattle.rvc.specs.Number.{number_in}
 use Rattle.flow_graph.specs.Flow.{look, Next}
 use Rattle.flow_graph.specs.Walks.{Stop, Leave, Reaches}
 use Rattle.flow_graph.specs.Reach.{IsFault, Large, Least, reach_limit}
 use Rattle.flow_graph.specs.Graph.{GraphOf, IsGraphOf, preds_of, succs_of}
 use Rattle.flow_graph.proofs.Ways.{Contains-cons, place_of, way-join}
 use Rattle.flow_graph.proofs.Reaching.{reach_few}
-use Rattle.flow_graph.proofs.BuildLemmas.{at_same, ok_err}
+use Rattle.flow_graph.proofs.BuildLemmas.{at_same, both_same, ok_err}
 
 -- the reached addresses are closed, and in each set that has the entry and is closed
 pub reached_closed : (code : Bytes) (e a b : ℕ) → Reaches (Next code) e a → Next code a b → Reaches (Next code) e b
@@ -25,6 +26,9 @@ reached_least code S closed (Leave {a = a} {c = c} p d w) s = reached_least code
 -- no address of a graph has a fault
 pub graph_looks : (code : Bytes) (e : ℕ) (g : GraphOf) → IsGraphOf code e g → (n : ℕ) (i : Instr) → n < length g.addrs → look code (get_or g.addrs n 0) ≡ Ok (get_or g.instrs n i)
 graph_looks code e g r n i l = at_same code g.instrs g.addrs n i r.instrs l
+
+pub graph_numbers : (code : Bytes) (e : ℕ) (g : GraphOf) (n : ℕ) → IsGraphOf code e g → n < length g.addrs → number_in code (get_or g.addrs n 0) ≡ Some (get_or g.numbers n 0)
+graph_numbers code e g n r l = both_same (λ w. Some w) (number_in code) g.numbers g.addrs n 0 r.numbers l
 
 -- where there is a graph there is no fault
 pub graph_or_fault : (code : Bytes) (e : ℕ) (g : GraphOf) (why : Fault) → IsGraphOf code e g → IsFault code e why → ⊥

@@ -1,9 +1,10 @@
 -- The graph of reached code is one: its edges lie between its nodes, which are reached from its entry.
-use Rattle.std.proofs.Common.{◌≡◌, ℕ, zero, suc, ◌+◌, ◌<◌, ◌≤◌, ◌≢◌, List, [], ◌∷◌, ◌++◌, inl, inr, length, get_or, map, refl, sym, ◌∙◌, ap, subst, arith, Bool, true, false, cond, eqb, Ok, append-nil}
+use Rattle.std.proofs.Common.{◌≡◌, ℕ, zero, suc, ◌+◌, ◌<◌, ◌≤◌, ◌≢◌, List, [], ◌∷◌, ◌++◌, inl, inr, length, get_or, map, refl, sym, ◌∙◌, ap, subst, arith, Bool, true, false, cond, eqb, Some, Ok, append-nil}
 use Rattle.std.specs.List.{Contains}
 use Rattle.std.proofs.lemmas.Bool.Decides.{eqb_tells, leb_tells}
 use Rattle.std.proofs.lemmas.List.{get_or-map, length-map}
 use Rattle.rv_words.specs.Bytes.{Bytes}
+use Rattle.rvc.specs.Number.{number_in}
 use Rattle.flow_graph.specs.Flow.{look, next, Next}
 use Rattle.flow_graph.specs.Walks.{Way, Stop, Leave, AnyNode}
 use Rattle.flow_graph.specs.Graph.{GraphOf, HasEdge, IsFlow, IsGraphOf, edge_to, edges_from, number, succs_of}
@@ -100,6 +101,7 @@ is_flow code e g r = record {
   few = r.few;
   rising = r.rising;
   as_long = sym (length-map g.instrs (λ i. Ok i)) ∙ ap length r.instrs ∙ length-map g.addrs (look code);
+  as_many = sym (length-map g.numbers (λ w. Some w)) ∙ ap length r.numbers ∙ length-map g.addrs (number_in code);
   source = λ u v d. (edge_is code e g r u v d).0;
   within = λ u v d.
       let c = edge_is code e g r u v d in

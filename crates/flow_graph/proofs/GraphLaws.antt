@@ -1,10 +1,11 @@
 -- Laws of graphs: there is one at most, its edges are the code's successors, and each edge is in both lists.
-use Rattle.std.proofs.Common.{◌≡◌, ℕ, suc, ◌+◌, ◌<◌, List, [], ◌∷◌, inl, inr, length, get_or, map, refl, sym, ◌∙◌, ap, subst, arith, Bool, true, false, cond, eqb, IsTrue, Result, Ok, count_by, zero-add}
+use Rattle.std.proofs.Common.{◌≡◌, ℕ, suc, ◌+◌, ◌<◌, List, [], ◌∷◌, inl, inr, length, get_or, map, refl, sym, ◌∙◌, ap, subst, arith, Bool, true, false, cond, eqb, IsTrue, Option, Some, Result, Ok, count_by, zero-add}
 use Rattle.std.specs.List.{Contains}
 use Rattle.std.proofs.lemmas.List.Sums.{sum_by-cons}
 use Rattle.rv_words.specs.Bytes.{Bytes}
 use Rattle.rv_decode.specs.declared.instruction.Instr.{Instr}
 use Rattle.flow_graph.specs.declared.outside.Outside.{Outside}
+use Rattle.rvc.specs.Number.{number_in}
 use Rattle.flow_graph.specs.Flow.{look, next, Next}
 use Rattle.flow_graph.specs.Walks.{Stop, Leave, Reaches}
 use Rattle.flow_graph.specs.Graph.{GraphOf, IsGraphOf, IsRising, edges_from, number, preds_of, succs_of}
@@ -65,14 +66,25 @@ fine_same (i ∷ is) (j ∷ js) e =
     let tail : is ≡ js = fine_same is js rest in
     λ k. head k ∷ tail k
 
+pub some_same : (ws vs : List ℕ) → map {B = Option ℕ} (λ w. Some w) ws ≡ map (λ w. Some w) vs → ws ≡ vs
+some_same [] [] e = refl
+some_same [] (v ∷ vs) e = absurd (cc)
+some_same (w ∷ ws) [] e = absurd (cc)
+some_same (w ∷ ws) (v ∷ vs) e =
+    let head : w ≡ v = cc in
+    let rest : map {B = Option ℕ} (λ k. Some k) ws ≡ map (λ k. Some k) vs = cc in
+    let tail : ws ≡ vs = some_same ws vs rest in
+    λ k. head k ∷ tail k
+
 pub one_graph : (code : Bytes) (e : ℕ) (g h : GraphOf) → IsGraphOf code e g → IsGraphOf code e h → g ≡ h
 one_graph code e g h r s =
     let addrs : g.addrs ≡ h.addrs = rising_same g.addrs h.addrs r.rising s.rising
     (λ z c. s.reach.all z (r.reach.reached z c)) (λ z c. r.reach.all z (s.reach.reached z c)) in
     let entry : g.entry ≡ h.entry = r.entry ∙ ap (λ ns. number ns e) addrs ∙ sym s.entry in
     let instrs : g.instrs ≡ h.instrs = fine_same g.instrs h.instrs (r.instrs ∙ ap (map (look code)) addrs ∙ sym s.instrs) in
+    let numbers : g.numbers ≡ h.numbers = some_same g.numbers h.numbers (r.numbers ∙ ap (map (number_in code)) addrs ∙ sym s.numbers) in
     let edges : g.edges ≡ h.edges = r.edges ∙ ap (λ ns. edges_from (next code) ns 0 ns) addrs ∙ sym s.edges in
-    λ i. record { entry = entry i; addrs = addrs i; instrs = instrs i; edges = edges i }
+    λ i. record { entry = entry i; addrs = addrs i; numbers = numbers i; instrs = instrs i; edges = edges i }
 
 -- ---- edges
 

@@ -9,3 +9,4 @@ pub mod WorkedGraphs
 pub mod ExactLemmas
 pub mod GraphLaws
 pub mod Standing
+pub mod Fetching

@@ -1,17 +1,18 @@
 -- The instruction that is found at an address stands there.
-use Rattle.std.proofs.Common.{◌≡◌, ℕ, ◌+◌, ◌%◌, ◌^◌, ◌<◌, length, get_or, Bool, true, false, cond, eqb, nat_lt, Option, None, Some, Result, Ok, Err, ℤ, refl, ◌∙◌, ap, subst}
+use Rattle.std.proofs.Common.{◌≡◌, ℕ, ◌+◌, ◌%◌, ◌<◌, List, [], ◌∷◌, ◌++◌, length, get_or, map, take, sym, Bool, true, false, cond, eqb, Option, None, Some, Result, Ok, Err, ℤ, refl, ◌∙◌, ap, subst}
+use Rattle.std.proofs.lemmas.List.{map-append, take_more}
+use Rattle.std.specs.Option.{unwrap_or}
 use Rattle.std.specs.Prelude.{slice_get}
-use Rattle.std.proofs.lemmas.Bool.{ltb-true}
 use Rattle.std.proofs.lemmas.Option.{get_or_from_slice_get}
-use Rattle.rv_words.specs.Bytes.{Bytes, word_at}
+use Rattle.rv_words.specs.Bytes.{Bytes}
 use Rattle.rv_decode.specs.declared.instruction.Instr.{Instr}
 use Rattle.rv_decode.specs.declared.instruction.Instr.TheVariants.{Op, OpImm, Lui, Auipc, Jal, Jalr, Branch, Load, Store, Fence, Ecall, Ebreak}
-use Rattle.rv_decode.specs.Decodes.{decoded}
-use Rattle.elf_image.specs.Image.{word_in}
+use Rattle.rvc.specs.Number.{instruction_of, number_in}
 use Rattle.flow_graph.specs.declared.outside.Outside.{Outside}
 use Rattle.flow_graph.specs.declared.outside.Outside.TheVariants.{Misaligned}
-use Rattle.flow_graph.specs.Flow.{StandsIn, admitted, aimed, is_return, look, look_decoded, look_fetched, target}
+use Rattle.flow_graph.specs.Flow.{StandsIn, admitted, is_return, look, look_decoded, look_fetched}
 use Rattle.flow_graph.specs.Graph.{GraphOf, IsGraphOf}
+use Rattle.flow_graph.proofs.BuildLemmas.{at_same}
 use Rattle.flow_graph.proofs.ExactLemmas.{graph_looks}
 
 if_ok : (t : Bool) (x : Result Instr Outside) (why : Outside) (i : Instr) → cond t x (Err why) ≡ Ok i → x ≡ Ok i
@@ -34,9 +35,9 @@ admitted_same a (Op o rd rs1 rs2) i e = fine_same _ i e
 admitted_same a (OpImm o rd rs1 imm) i e = fine_same _ i e
 admitted_same a (Lui rd imm) i e = fine_same _ i e
 admitted_same a (Auipc rd imm) i e = fine_same _ i e
-admitted_same a (Jal rd offset) i e = fine_same _ i (if_ok (eqb (target a offset % 4) 0) (Ok (Jal rd offset)) _ i (if_ok (eqb rd 0) (aimed a (target a offset) (Jal rd offset)) _ i e))
+admitted_same a (Jal rd offset) i e = fine_same _ i (if_ok (eqb rd 0) (Ok (Jal rd offset)) _ i e)
 admitted_same a (Jalr rd rs1 imm) i e = fine_same _ i (if_ok (is_return (Jalr rd rs1 imm)) (Ok (Jalr rd rs1 imm)) _ i (if_ok (eqb rd 0) _ _ i e))
-admitted_same a (Branch c rs1 rs2 offset) i e = fine_same _ i (if_ok (eqb (target a offset % 4) 0) (Ok (Branch c rs1 rs2 offset)) _ i e)
+admitted_same a (Branch c rs1 rs2 offset) i e = fine_same _ i e
 admitted_same a (Load w s rd rs1 imm) i e = fine_same _ i e
 admitted_same a (Store w rs1 rs2 imm) i e = fine_same _ i e
 admitted_same a (Fence imm rs1 rd) i e = fine_same _ i e
@@ -47,30 +48,32 @@ admitted_same a Ebreak i e = absurd (cc)
 pub through_return : (a rd rs1 : ℕ) (imm : ℤ) → admitted a (Jalr rd rs1 imm) ≡ Ok (Jalr rd rs1 imm) → is_return (Jalr rd rs1 imm) ≡ true
 through_return a rd rs1 imm e = if_so (is_return (Jalr rd rs1 imm)) (Ok (Jalr rd rs1 imm)) _ (Jalr rd rs1 imm) (if_ok (eqb rd 0) _ _ (Jalr rd rs1 imm) e)
 
-pub word_below : (code : Bytes) (a w : ℕ) → word_in code a ≡ Some w → a + 3 < 2 ^ 64
-word_below code a w e = by (nat_lt (a + 3) (2 ^ 64)) refl e
-  where
-    by : (t : Bool) → nat_lt (a + 3) (2 ^ 64) ≡ t → cond t (word_at code a) None ≡ Some w → a + 3 < 2 ^ 64
-    by true p q = ltb-true (a + 3) (2 ^ 64) p
-    by false p q = absurd (cc)
-
-by_decoded : (code : Bytes) (a w : ℕ) (i : Instr) (o : Option Instr) → eqb (a % 4) 0 ≡ true → word_in code a ≡ Some w → decoded w ≡ o → look_decoded a w o ≡ Ok i → StandsIn code a i
+by_decoded : (code : Bytes) (a w : ℕ) (i : Instr) (o : Option Instr) → eqb (a % 2) 0 ≡ true → number_in code a ≡ Some w → instruction_of w ≡ o → look_decoded a w o ≡ Ok i → StandsIn code a i
 by_decoded code a w i None p q d e = absurd (cc)
 by_decoded code a w i (Some j) p q d e =
     let same : j ≡ i = admitted_same a j i e in
-    record { aligned = p; below = word_below code a w q; word = w; there = q; is = d ∙ ap Some same; fine = subst (λ (k : Instr). admitted a k ≡ Ok i) same e }
+    record { even = p; number = w; there = q; is = d ∙ ap Some same; fine = subst (λ (k : Instr). admitted a k ≡ Ok i) same e }
 
-by_word : (code : Bytes) (a : ℕ) (i : Instr) (o : Option ℕ) → eqb (a % 4) 0 ≡ true → word_in code a ≡ o → look_fetched a o ≡ Ok i → StandsIn code a i
+by_word : (code : Bytes) (a : ℕ) (i : Instr) (o : Option ℕ) → eqb (a % 2) 0 ≡ true → number_in code a ≡ o → look_fetched a o ≡ Ok i → StandsIn code a i
 by_word code a i None p q e = absurd (cc)
-by_word code a i (Some w) p q e = by_decoded code a w i (decoded w) p q refl e
+by_word code a i (Some w) p q e = by_decoded code a w i (instruction_of w) p q refl e
 
-by_aligned : (code : Bytes) (a : ℕ) (i : Instr) (t : Bool) → eqb (a % 4) 0 ≡ t → cond t (look_fetched a (word_in code a)) (Err (Misaligned a a)) ≡ Ok i → StandsIn code a i
-by_aligned code a i true p e = by_word code a i (word_in code a) p refl e
+by_aligned : (code : Bytes) (a : ℕ) (i : Instr) (t : Bool) → eqb (a % 2) 0 ≡ t → cond t (look_fetched a (number_in code a)) (Err (Misaligned a a)) ≡ Ok i → StandsIn code a i
+by_aligned code a i true p e = by_word code a i (number_in code a) p refl e
 by_aligned code a i false p e = absurd (cc)
 
 pub look_stands : (code : Bytes) (a : ℕ) (i : Instr) → look code a ≡ Ok i → StandsIn code a i
 unfolding look
-look_stands code a i e = by_aligned code a i (eqb (a % 4) 0) refl e
+look_stands code a i e = by_aligned code a i (eqb (a % 2) 0) refl e
 
 pub graph_stands : (code : Bytes) (e : ℕ) (g : GraphOf) (n : ℕ) (i : Instr) → IsGraphOf code e g → n < length g.addrs → slice_get g.instrs n ≡ Some i → StandsIn code (get_or g.addrs n 0) i
 graph_stands code e g n i r l at = look_stands code (get_or g.addrs n 0) i (graph_looks code e g r n i l ∙ ap (λ j. Ok j) (get_or_from_slice_get g.instrs n i i at))
+
+-- one more number
+pub number_more : (code : Bytes) (nodes ws vs : List ℕ) (is : List Instr) (i a x : ℕ) → map (λ j. Ok j) is ≡ map (look code) nodes → i < length nodes → a ≡ get_or nodes i 0
+    → map (λ w. Some w) ws ≡ map (number_in code) (take i nodes) → x ≡ unwrap_or (number_in code a) 0 → vs ≡ ws ++ x ∷ [] → map (λ w. Some w) vs ≡ map (number_in code) (take (i + 1) nodes)
+number_more code nodes ws vs is i a x same l at before here pushed =
+    let stood = look_stands code (get_or nodes i 0) (get_or is i Ecall) (at_same code is nodes i Ecall same l) in
+    let number : number_in code (get_or nodes i 0) ≡ Some x = stood.there ∙ ap Some (sym (here ∙ (λ j. unwrap_or (number_in code (at j)) 0) ∙ ap (λ o. unwrap_or o 0) stood.there)) in
+    ap (map (λ w. Some w)) pushed ∙ map-append (λ w. Some w) ws (x ∷ []) ∙ (λ j. before j ++ sym number j ∷ [])
+    ∙ sym (ap (map (number_in code)) (take_more nodes i 0 l) ∙ map-append (number_in code) (take i nodes) (get_or nodes i 0 ∷ []))

@@ -2,6 +2,8 @@
 use Rattle.std.specs.Prelude.{◌≡◌, ℕ, ◌/◌, ◌%◌, List, [], ◌∷◌, Ok, Err, refl, pos}
 use Rattle.rv_words.specs.Bytes.{Bytes, bytes_from}
 use Rattle.rv_decode.specs.Decodes.{decoded}
+use Rattle.rv_decode.specs.Encodes.{encoded}
+use Rattle.rvc.specs.Expands.{compressed, expanded}
 use Rattle.rv_decode.specs.declared.instruction.Instr.TheVariants.{Jalr}
 use Rattle.flow_graph.specs.declared.outside.Outside.TheVariants.{OutsideCode, NotDecoded, Environment, Call, JumpThrough, Misaligned}
 use Rattle.flow_graph.specs.Flow.{look, next}
@@ -37,9 +39,17 @@ two_entries-return : look two_entries 0x1000c ≡ Ok (Jalr 0 1 (pos 0))
 unfolding look decoded
 two_entries-return = refl
 
--- a compressed instruction is none, and behind it there is a return
-not_decoded : look (program (0x80820001 ∷ 0x00008067 ∷ [])) 0x10000 ≡ Err (NotDecoded 0x10000 0x80820001)
-unfolding look decoded
+-- compressed instructions, c.nop and c.jr x1, and behind them a return; and a reserved number
+compressed_nop : next (program (0x80820001 ∷ 0x00008067 ∷ [])) 0x10000 ≡ 0x10002 ∷ []
+unfolding look decoded expanded compressed encoded
+compressed_nop = refl
+
+compressed_return : look (program (0x80820001 ∷ 0x00008067 ∷ [])) 0x10002 ≡ Ok (Jalr 0 1 (pos 0))
+unfolding look decoded expanded compressed encoded
+compressed_return = refl
+
+not_decoded : look (program (0x00008002 ∷ [])) 0x10000 ≡ Err (NotDecoded 0x10000 0x8002)
+unfolding look decoded expanded compressed encoded
 not_decoded = refl
 
 not_decoded-4 : look (program (0x80820001 ∷ 0x00008067 ∷ [])) 0x10004 ≡ Ok (Jalr 0 1 (pos 0))
@@ -62,11 +72,11 @@ outside_code : look (program (0x00150513 ∷ [])) 0x10004 ≡ Err (OutsideCode 0
 unfolding look decoded
 outside_code = refl
 
-misaligned_target : look (program (0x00000363 ∷ [])) 0x10000 ≡ Err (Misaligned 0x10000 0x10006)
+near_target : next (program (0x00000363 ∷ [])) 0x10000 ≡ 0x10004 ∷ 0x10006 ∷ []
 unfolding look decoded
-misaligned_target = refl
+near_target = refl
 
-misaligned : look (program (0x00000363 ∷ [])) 0x10002 ≡ Err (Misaligned 0x10002 0x10002)
+misaligned : look (program (0x00000363 ∷ [])) 0x10001 ≡ Err (Misaligned 0x10001 0x10001)
 unfolding look
 misaligned = refl
 

@@ -1,18 +1,17 @@
 -- What stands at an address, and where it leads. Sums are modulo 2 ^ 64.
-use Rattle.std.specs.Prelude.{◌≡◌, ℕ, ◌+◌, ◌%◌, ◌^◌, ◌<◌, ◌==◌, Bool, true, false, ◌&&◌, if◌then◌else◌, ℤ, pos, Option, Some, None, Result, Ok, Err, List, [], ◌∷◌}
+use Rattle.std.specs.Prelude.{◌≡◌, ℕ, ◌+◌, ◌%◌, ◌^◌, ◌<◌, ◌==◌, Bool, true, false, ◌&&◌, if◌then◌else◌, ℤ, pos, Option, Some, None, unwrap_or, Result, Ok, Err, List, [], ◌∷◌}
 use Rattle.std.specs.List.{Contains}
 use Rattle.rv_words.specs.Bytes.{Bytes}
 use Rattle.rv_words.specs.Operation.{word_of}
 use Rattle.rv_decode.specs.declared.instruction.Instr.{Instr}
 use Rattle.rv_decode.specs.declared.instruction.Instr.TheVariants.{Jal, Jalr, Branch, Ecall, Ebreak}
-use Rattle.rv_decode.specs.Decodes.{decoded}
-use Rattle.elf_image.specs.Image.{word_in}
+use Rattle.rvc.specs.Number.{instruction_of, length_of, number_in}
 use Rattle.flow_graph.specs.declared.outside.Outside.{Outside}
 use Rattle.flow_graph.specs.declared.outside.Outside.TheVariants.{OutsideCode, NotDecoded, Environment, Call, JumpThrough, Misaligned}
 
--- the address of the instruction after this one
-abbrev pub following : ℕ → ℕ
-following a = (a + 4) % 2 ^ 64
+-- the address of the instruction after one of k bytes
+abbrev pub following : ℕ → ℕ → ℕ
+following a k = (a + k) % 2 ^ 64
 
 -- the target of a jump by an offset
 abbrev pub target : ℕ → ℤ → ℕ
@@ -29,61 +28,59 @@ is_return i = false
 
 -- ---- faults, each before those below it
 
--- an instruction, if its target is a multiple of 4
-abbrev pub aimed : ℕ → ℕ → Instr → Result Instr Outside
-aimed a t i = if t % 4 == 0 then Ok i else Err (Misaligned a t)
-
 -- an instruction at a, if it may stand in a function: no call of the environment, no jump with a link, no jump through a
--- register but a return, no jump to where no instruction may stand
+-- register but a return
 abbrev pub admitted : ℕ → Instr → Result Instr Outside
 admitted a Ecall = Err (Environment a)
 admitted a Ebreak = Err (Environment a)
-admitted a (Jal rd offset) = if rd == 0 then aimed a (target a offset) (Jal rd offset) else Err (Call a)
+admitted a (Jal rd offset) = if rd == 0 then Ok (Jal rd offset) else Err (Call a)
 admitted a (Jalr rd rs1 imm) = if rd == 0 then (if is_return (Jalr rd rs1 imm) then Ok (Jalr rd rs1 imm) else Err (JumpThrough a)) else Err (Call a)
-admitted a (Branch c rs1 rs2 offset) = aimed a (target a offset) (Branch c rs1 rs2 offset)
 admitted a i = Ok i
 
--- .. where the word at a is that instruction or none
+-- .. where the parcel or word at a is that instruction or none
 abbrev pub look_decoded : ℕ → ℕ → Option Instr → Result Instr Outside
 look_decoded a w None = Err (NotDecoded a w)
 look_decoded a w (Some i) = admitted a i
 
--- .. where that code word is at a or none
+-- .. where that parcel or word is at a or none
 abbrev pub look_fetched : ℕ → Option ℕ → Result Instr Outside
 look_fetched a None = Err (OutsideCode a)
-look_fetched a (Some w) = look_decoded a w (decoded w)
+look_fetched a (Some w) = look_decoded a w (instruction_of w)
 
 -- the instruction at an address that has no fault, or the address's one fault
 unfoldable pub look : Bytes → ℕ → Result Instr Outside
-look code a = if a % 4 == 0 then look_fetched a (word_in code a) else Err (Misaligned a a)
+look code a = if a % 2 == 0 then look_fetched a (number_in code a) else Err (Misaligned a a)
 
--- i stands at a, and may: a is a multiple of 4, the four bytes from a on are code, the last of them not past 2 ^ 64, their word is i, and
--- i has no fault there
+-- i stands at a, and may: a is even, the bytes of a parcel or a word from a on are code, the last of them not past 2 ^ 64, it is i,
+-- and i has no fault there
 pub record StandsIn (code : Bytes) (a : ℕ) (i : Instr) : Type 0 where
-  pub aligned : a % 4 == 0 ≡ true
-  pub below : a + 3 < 2 ^ 64
-  pub word : ℕ
-  pub there : word_in code a ≡ Some word
-  pub is : decoded word ≡ Some i
+  pub even : a % 2 == 0 ≡ true
+  pub number : ℕ
+  pub there : number_in code a ≡ Some number
+  pub is : instruction_of number ≡ Some i
   pub fine : admitted a i ≡ Ok i
 
 -- ---- successors
 
--- where an instruction without a fault leads from a: a branch on and to its target, in that order, also where these are equal
-abbrev pub targets : ℕ → Instr → List ℕ
-targets a (Branch c rs1 rs2 offset) = following a ∷ target a offset ∷ []
-targets a (Jal rd offset) = target a offset ∷ []
-targets a (Jalr rd rs1 imm) = []
-targets a i = following a ∷ []
+-- where an instruction of k bytes without a fault leads from a: a branch on and to its target, in that order, also where these are equal
+abbrev pub targets : ℕ → ℕ → Instr → List ℕ
+targets a k (Branch c rs1 rs2 offset) = following a k ∷ target a offset ∷ []
+targets a k (Jal rd offset) = target a offset ∷ []
+targets a k (Jalr rd rs1 imm) = []
+targets a k i = following a k ∷ []
 
 -- where what was found at a leads; a fault leads nowhere
-abbrev pub leads : ℕ → Result Instr Outside → List ℕ
-leads a (Err why) = []
-leads a (Ok i) = targets a i
+abbrev pub leads : ℕ → ℕ → Result Instr Outside → List ℕ
+leads a k (Err why) = []
+leads a k (Ok i) = targets a k i
+
+-- how many bytes the instruction at a has, where there is one
+abbrev pub length_in : Bytes → ℕ → ℕ
+length_in code a = length_of (unwrap_or (number_in code a) 0)
 
 -- the successors of an address
 abbrev pub next : Bytes → ℕ → List ℕ
-next code a = leads a (look code a)
+next code a = leads a (length_in code a) (look code a)
 
 -- b is a successor of a
 abbrev pub Next : Bytes → ℕ → ℕ → Type 0

@@ -1,18 +1,20 @@
 -- What a graph holds, and which graph is that of the code reached from an entry.
-use Rattle.std.specs.Prelude.{◌≡◌, ℕ, ◌+◌, ◌<◌, ◌≤◌, ◌==◌, List, [], ◌∷◌, ◌++◌, length, slice_index, if◌then◌else◌, Ok, map}
+use Rattle.std.specs.Prelude.{◌≡◌, ℕ, ◌+◌, ◌<◌, ◌≤◌, ◌==◌, List, [], ◌∷◌, ◌++◌, length, slice_index, if◌then◌else◌, Ok, Some, map}
 use Rattle.std.specs.List.{Contains}
 use Rattle.rv_words.specs.Bytes.{Bytes}
 use Rattle.rv_decode.specs.declared.instruction.Instr.{Instr}
 use Rattle.flow_graph.specs.declared.outside.FlowFault.{FlowFault}
 use Rattle.flow_graph.specs.declared.outside.FlowFault.TheVariants.{Outside, NoMemory}
+use Rattle.rvc.specs.Number.{number_in}
 use Rattle.flow_graph.specs.Flow.{look, next, Next}
 use Rattle.flow_graph.specs.Walks.{Reaches}
 use Rattle.flow_graph.specs.Reach.{IsReach, IsFault, reach_limit}
 
--- the number of the entry's node, the address and the instruction of each node, and the edges between nodes
+-- the number of the entry's node, the address, the parcel or word and the instruction of each node, and the edges between nodes
 pub record GraphOf : Type 0 where
   pub entry : ℕ
   pub addrs : List ℕ
+  pub numbers : List ℕ
   pub instrs : List Instr
   pub edges : List (ℕ × ℕ)
 
@@ -52,6 +54,7 @@ pub record IsGraphOf (code : Bytes) (e : ℕ) (g : GraphOf) : Type 0 where
   pub reach : IsReach (Next code) e g.addrs
   pub rising : IsRising g.addrs
   pub few : length g.addrs ≤ reach_limit
+  pub numbers : map (λ w. Some w) g.numbers ≡ map (number_in code) g.addrs
   pub instrs : map (λ i. Ok i) g.instrs ≡ map (look code) g.addrs
   pub edges : g.edges ≡ edges_from (next code) g.addrs 0 g.addrs
   pub entry : g.entry ≡ number g.addrs e
@@ -67,6 +70,7 @@ pub record IsFlow (g : GraphOf) : Type 0 where
   pub few : length g.addrs ≤ reach_limit
   pub rising : IsRising g.addrs
   pub as_long : length g.instrs ≡ length g.addrs
+  pub as_many : length g.numbers ≡ length g.addrs
   pub source : (u v : ℕ) → HasEdge g u v → u < length g.addrs
   pub within : (u v : ℕ) → HasEdge g u v → v < length g.addrs
   pub reached : (n : ℕ) → n < length g.addrs → Reaches (HasEdge g) g.entry n

@@ -1,13 +1,16 @@
 //! The instruction at an address, and where it leads.
 
-ghost use Rattle.std.specs.Prelude.{◌≡◌};
+ghost use Rattle.std.specs.Prelude.{◌≡◌, ◌+◌, ◌<◌, ◌^◌, Some, None, if◌then◌else◌};
+ghost use Rattle.rv_words.specs.Bytes.{inside, load};
+ghost use Rattle.rvc.specs.Number.{number_in};
 ghost use Rattle.elf_image.specs.Image.{code_in};
 ghost use Rattle.flow_graph.specs.Flow as spec;
 ghost use Rattle.flow_graph.specs.inner.Reached.{targets_of};
 
 use crate::outside::Outside;
 use elf_image::Image;
-use rv_decode::{Instr, decode};
+use rv_decode::Instr;
+use rvc::{instruction_of, is_word, length_of};
 
 /// Where an instruction leads.
 #[derive(Clone, Copy, Debug)]
@@ -17,11 +20,11 @@ pub enum Targets {
     Two(u64, u64),
 }
 
-/// The address of the instruction after this one.
-fn following(a: u64) -> u64
-    ensures { result ≡ spec.following a }
+/// The address of the instruction after one of that many bytes.
+fn following(a: u64, length: u8) -> u64
+    ensures { result ≡ spec.following a length }
 {
-    a.wrapping_add(4)
+    a.wrapping_add(u64::from(length))
 }
 
 /// The target of a jump by an offset.
@@ -41,15 +44,15 @@ pub fn is_return(instruction: Instr) -> bool
     }
 }
 
-/// Where an instruction leads from an address.
-pub fn targets_at(a: u64, instruction: Instr) -> Targets
-    ensures { targets_of result ≡ spec.targets a instruction }
+/// Where an instruction of that many bytes leads from an address.
+pub fn targets_at(a: u64, length: u8, instruction: Instr) -> Targets
+    ensures { targets_of result ≡ spec.targets a length instruction }
 {
     match instruction {
         Instr::Jal { offset, .. } => Targets::One(target(a, offset)),
         Instr::Jalr { .. } => Targets::Nowhere,
-        Instr::Branch { offset, .. } => Targets::Two(following(a), target(a, offset)),
-        _ => Targets::One(following(a)),
+        Instr::Branch { offset, .. } => Targets::Two(following(a, length), target(a, offset)),
+        _ => Targets::One(following(a, length)),
     }
 }
 
@@ -60,11 +63,11 @@ fn admitted(a: u64, instruction: Instr) -> Result<Instr, Outside>
     match instruction {
         Instr::Ecall => Err(Outside::Environment(a)),
         Instr::Ebreak => Err(Outside::Environment(a)),
-        Instr::Jal { rd, offset } => {
+        Instr::Jal { rd, .. } => {
             if rd != 0 {
                 return Err(Outside::Call(a));
             }
-            aimed(a, target(a, offset), instruction)
+            Ok(instruction)
         }
         Instr::Jalr { rd, .. } => {
             if rd != 0 {
@@ -75,19 +78,43 @@ fn admitted(a: u64, instruction: Instr) -> Result<Instr, Outside>
             }
             Ok(instruction)
         }
-        Instr::Branch { offset, .. } => aimed(a, target(a, offset), instruction),
         _ => Ok(instruction),
     }
 }
 
-/// The instruction, if its target is aligned.
-fn aimed(a: u64, t: u64, instruction: Instr) -> Result<Instr, Outside>
-    ensures { result ≡ spec.aimed a t instruction }
+/// The parcel or word of the code bytes from an address on, none of them past the last address.
+#[tactic(auto, using(crate::proofs::Fetching::no_parcel, crate::proofs::Fetching::parcel_alone, crate::proofs::Fetching::whole_word))]
+pub fn number_at(image: &Image, a: u64) -> Option<u32>
+    ensures { result ≡ number_in (code_in image.now.pieces) a }
 {
-    if t % 4 != 0 {
-        return Err(Outside::Misaligned(a, t));
+    if a == u64::MAX {
+        return None;
     }
-    Ok(instruction)
+    let parcel = parcel_at(image, a)?;
+    if !is_word(parcel) {
+        return Some(parcel);
+    }
+    image.word_at(a)
+}
+
+/// The number of the two code bytes from an address on, the low one first.
+fn parcel_at(image: &Image, a: u64) -> Option<u32>
+    requires { a + 1 < 2 ^ 64 }
+    ensures { result ≡ if inside 2 (code_in image.now.pieces) a then Some (load 2 (code_in image.now.pieces) a) else None }
+{
+    let low = image.code_byte(a)?;
+    let high = image.code_byte(a + 1)?;
+    Some(u32::from(low) + 256 * u32::from(high))
+}
+
+/// How many bytes the instruction at an address has, where there is one.
+pub fn length_at(image: &Image, a: u64) -> u8
+    ensures { result ≡ spec.length_in (code_in image.now.pieces) a }
+{
+    match number_at(image, a) {
+        Some(number) => length_of(number),
+        None => length_of(0),
+    }
 }
 
 /// The instruction at an address, or the address's fault.
@@ -95,12 +122,12 @@ fn aimed(a: u64, t: u64, instruction: Instr) -> Result<Instr, Outside>
 pub fn look(image: &Image, a: u64) -> Result<Instr, Outside>
     ensures { result ≡ spec.look (code_in image.now.pieces) a }
 {
-    if a % 4 != 0 {
+    if a % 2 != 0 {
         return Err(Outside::Misaligned(a, a));
     }
-    match image.word_at(a) {
+    match number_at(image, a) {
         None => Err(Outside::OutsideCode(a)),
-        Some(w) => match decode(w) {
+        Some(w) => match instruction_of(w) {
             None => Err(Outside::NotDecoded(a, w)),
             Some(instruction) => admitted(a, instruction),
         },

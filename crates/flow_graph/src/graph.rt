@@ -1,14 +1,16 @@
 //! The graph of the code that is reached from an entry.
-ghost use Rattle.std.specs.Prelude.{◌≡◌, ℕ, ◌+◌, ◌<◌, ◌≤◌, ◌^◌, ◌++◌, IfOk, IfErr, IfSome, IfNone, OnOk, Ok as Fine, length, map, slice_index};
+ghost use Rattle.std.specs.Prelude.{◌≡◌, ℕ, ◌+◌, ◌<◌, ◌≤◌, ◌^◌, ◌++◌, IfOk, IfErr, IfSome, IfNone, List, OnOk, Some, Ok as Fine, length, map, slice_index};
 ghost use Rattle.std.specs.List.{Contains};
 ghost use Rattle.elf_image.specs.Image.{code_in};
 ghost use Rattle.flow_graph.specs.Flow as spec;
 ghost use Rattle.rv_words.specs.Bytes.{Bytes};
+ghost use Rattle.rv_decode.specs.declared.instruction.Instr.{Instr as TheInstr};
+ghost use Rattle.rvc.specs.Number.{length_of as length_in_bytes, number_in};
 ghost use Rattle.flow_graph.specs.Graph.{IsFlow, IsGraphOf, IsRefused, edge_to, edges_from, preds_of, succs_of};
 ghost use Rattle.flow_graph.specs.inner.Building.{AreOf, HasFault};
 ghost use Rattle.flow_graph.specs.inner.Reached.{targets_of};
 
-use crate::flow::{Targets, look, targets_at};
+use crate::flow::{Targets, look, number_at, targets_at};
 use crate::links::{Edges, Links};
 use crate::outside::{FlowFault, Outside};
 use crate::reach::reached;
@@ -16,6 +18,7 @@ use crate::visited::Visited;
 use elf_image::Image;
 use rv_decode::Instr;
 use rv_words::NoMemory;
+use rvc::length_of;
 use std::alloc::Global;
 use std::marker::Model;
 
@@ -24,6 +27,7 @@ use std::marker::Model;
 pub struct Graph {
     entry: u32,
     nodes: Visited,
+    numbers: Vec<u32>,
     instrs: Vec<Instr>,
     links: Links,
 }
@@ -34,13 +38,13 @@ impl Model for Graph {
 
     ghost Value = { GraphOf };
 
-    ghost view = { λ g. record { entry = g.entry; addrs = g.nodes; instrs = g.instrs.items; edges = g.links.1 } };
+    ghost view = { λ g. record { entry = g.entry; addrs = g.nodes; numbers = g.numbers.items; instrs = g.instrs.items; edges = g.links.1 } };
 
-    ghost invariant = { λ g. IsFlow (record { entry = g.entry; addrs = g.nodes; instrs = g.instrs.items; edges = g.links.1 }) × (g.links.0 ≡ length g.nodes) };
+    ghost invariant = { λ g. IsFlow (record { entry = g.entry; addrs = g.nodes; numbers = g.numbers.items; instrs = g.instrs.items; edges = g.links.1 }) × (g.links.0 ≡ length g.nodes) };
 }
 
 impl Graph {
-    ghost use Rattle.std.specs.Prelude.{Some, slice_get};
+    ghost use Rattle.std.specs.Prelude.{slice_get};
 
     /// How many nodes there are.
     pub fn len(&self) -> u32
@@ -71,6 +75,22 @@ impl Graph {
         ensures { Some result ≡ slice_get self.now.instrs n }
     {
         self.instrs[n as usize]
+    }
+
+    /// The parcel or word that stands at a node's address.
+    pub fn number(&self, n: u32) -> u32
+        requires { n < length self.now.addrs }
+        ensures { Some result ≡ slice_get self.now.numbers n }
+    {
+        self.numbers[n as usize]
+    }
+
+    /// How many bytes the instruction of a node has.
+    pub fn length(&self, n: u32) -> u8
+        requires { n < length self.now.addrs }
+        ensures { result ≡ length_in_bytes (slice_index self.now.numbers n) }
+    {
+        length_of(self.number(n))
     }
 
     /// The node at an address.
@@ -122,6 +142,20 @@ fn instructions(alloc: Global, image: &Image, nodes: &Visited) -> Result<Vec<Ins
     Ok(instrs)
 }
 
+/// The parcels and words at these addresses.
+fn numbers(alloc: Global, image: &Image, nodes: &Visited) -> Result<Vec<u32>, NoMemory>
+    requires { (is : List TheInstr) × (map (λ i. Fine i) is ≡ map (spec.look (code_in image.now.pieces)) nodes.now) }
+    ensures { IfOk result (λ ws. map (λ w. Some w) ws.items ≡ map (number_in (code_in image.now.pieces)) nodes.now) }
+{
+    let mut numbers = Vec::new(alloc);
+    let mut i = 0;
+    'nodes: while i < nodes.len() {
+        numbers.push(number_at(image, nodes.get(i)).unwrap_or(0))?;
+        i += 1;
+    }
+    Ok(numbers)
+}
+
 /// Adds the edges of a node to these addresses, the last one first.
 fn add_edges(links: &mut Links, nodes: &Visited, n: u32, targets: Targets) -> Result<(), NoMemory>
     requires node { n < links.old.0 }
@@ -148,11 +182,16 @@ fn add_edges(links: &mut Links, nodes: &Visited, n: u32, targets: Targets) -> Re
     Ok(())
 }
 
-/// The edges between the nodes with these addresses and instructions.
-fn linked(alloc: Global, nodes: &Visited, instrs: &[Instr]) -> Result<Links, NoMemory>
+/// The edges between the nodes with these addresses, numbers and instructions.
+fn linked(
+    alloc: Global,
+    nodes: &Visited,
+    numbers: &[u32],
+    instrs: &[Instr],
+) -> Result<Links, NoMemory>
     requires few { length nodes.now ≤ 1024 }
-    requires of { (code : Bytes) × AreOf code nodes.now instrs.now }
-    ensures { (code : Bytes) → AreOf code nodes.now instrs.now → IfOk result (λ l. l ≡ (length nodes.now, edges_from (spec.next code) nodes.now 0 nodes.now)) }
+    requires of { (code : Bytes) × AreOf code nodes.now numbers.now instrs.now }
+    ensures { (code : Bytes) → AreOf code nodes.now numbers.now instrs.now → IfOk result (λ l. l ≡ (length nodes.now, edges_from (spec.next code) nodes.now 0 nodes.now)) }
 {
     let mut u = nodes.len();
     let mut links = Links::new(alloc, u)?;
@@ -162,7 +201,7 @@ fn linked(alloc: Global, nodes: &Visited, instrs: &[Instr]) -> Result<Links, NoM
             &mut links,
             nodes,
             u as u32,
-            targets_at(nodes.get(u), instrs[u]),
+            targets_at(nodes.get(u), length_of(numbers[u]), instrs[u]),
         )?;
     }
     Ok(links)
@@ -178,10 +217,12 @@ pub fn build(alloc: Global, image: &Image, entry: u64) -> Result<Graph, FlowFaul
     };
     nodes.sort()?;
     let instrs = instructions(alloc, image, &nodes)?;
-    let links = linked(alloc, &nodes, &instrs)?;
+    let numbers = numbers(alloc, image, &nodes)?;
+    let links = linked(alloc, &nodes, &numbers, &instrs)?;
     Ok(Graph {
         entry: nodes.number(entry),
         nodes,
+        numbers,
         instrs,
         links,
     })

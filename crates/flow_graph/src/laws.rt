@@ -4,6 +4,7 @@ ghost use Rattle.std.specs.Prelude.{◌≡◌, ◌<◌, ◌==◌, ℕ, Bool, IsT
 ghost use Rattle.rv_words.specs.Bytes.{Bytes};
 ghost use Rattle.rv_decode.specs.declared.instruction.Instr.{Instr};
 ghost use Rattle.rv_decode.specs.declared.instruction.Instr.TheVariants.{Jalr};
+ghost use Rattle.rvc.specs.Number.{number_in};
 ghost use Rattle.flow_graph.specs.Flow.{Next, StandsIn, admitted, is_return, look, next};
 ghost use Rattle.flow_graph.specs.Walks.{Reaches};
 ghost use Rattle.flow_graph.specs.Reach.{IsFault};
@@ -39,5 +40,7 @@ pub fn law_of_edges()
 pub fn law_of_instructions()
     ensures stands { (code : Bytes) (e : ℕ) (g : GraphOf) (n : ℕ) (i : Instr) → IsGraphOf code e g → n < length g.addrs
         → slice_get g.instrs n ≡ Some i → StandsIn code (slice_index g.addrs n) i }
+    ensures number { (code : Bytes) (e : ℕ) (g : GraphOf) (n : ℕ) → IsGraphOf code e g → n < length g.addrs
+        → number_in code (slice_index g.addrs n) ≡ Some (slice_index g.numbers n) }
     ensures returns { (a rd rs1 : ℕ) (imm : ℤ) → admitted a (Jalr rd rs1 imm) ≡ Fine (Jalr rd rs1 imm) → is_return (Jalr rd rs1 imm) ≡ true }
 {}

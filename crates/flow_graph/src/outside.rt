@@ -13,9 +13,9 @@ pub enum Outside {
     Ambiguous(u64, u64),
     /// More than 1,024 addresses are reached.
     TooLarge,
-    /// No code word is at the address.
+    /// No parcel or word of code is at the address.
     OutsideCode(u64),
-    /// The word at the address is no instruction.
+    /// The parcel or word at the address is no instruction.
     NotDecoded(u64, u32),
     /// A call of the environment, ECALL or EBREAK.
     Environment(u64),
@@ -23,7 +23,7 @@ pub enum Outside {
     Call(u64),
     /// A jump through a register that is no return, which is `jalr x0, 0(x1)`.
     JumpThrough(u64),
-    /// An address, and what isn't aligned there: the address itself, or the target of its jump.
+    /// An odd address, twice.
     Misaligned(u64, u64),
     /// A cycle, and two walks from the entry that meet it at their last addresses alone, which differ.
     TwoEntries {

@@ -6,7 +6,7 @@ ghost use Rattle.flow_graph.specs.Flow.{Next};
 ghost use Rattle.flow_graph.specs.Reach.{IsReach, ReachesOver};
 ghost use Rattle.flow_graph.specs.inner.Reached.{GrowsBy, targets_of};
 
-use crate::flow::{Targets, look, targets_at};
+use crate::flow::{Targets, length_at, look, targets_at};
 use crate::visited::Visited;
 use elf_image::Image;
 use rv_words::NoMemory;
@@ -20,7 +20,7 @@ fn next(image: &Image, a: u64) -> Targets
     ensures { targets_of result ≡ spec.next (code_in image.now.pieces) a }
 {
     match look(image, a) {
-        Ok(instruction) => targets_at(a, instruction),
+        Ok(instruction) => targets_at(a, length_at(image, a), instruction),
         Err(_) => Targets::Nowhere,
     }
 }

@@ -120,7 +120,7 @@ fn are_as(g: &Graph, rows: &[Row]) -> bool {
 }
 
 /// Programs at 0x10000 with the nodes of their graphs.
-static GRAPHS: [(&[u32], &[Row]); 8] = [
+static GRAPHS: [(&[u32], &[Row]); 10] = [
     (&[RETURN], &[(0x10000, &[], &[])]),
     // a cycle with two entries
     (
@@ -160,6 +160,26 @@ static GRAPHS: [(&[u32], &[Row]); 8] = [
     ),
     // a return with a successor in the file
     (&[RETURN, ADD], &[(0x10000, &[], &[])]),
+    // c.add x10, x11; c.addi x11, -1; c.bnez x11, -4; c.jr x1
+    (
+        &[0x15fd952e, 0x8082fdf5],
+        &[
+            (0x10000, &[1], &[2]),
+            (0x10002, &[2], &[0]),
+            (0x10004, &[3, 0], &[1]),
+            (0x10006, &[], &[2]),
+        ],
+    ),
+    // beq x10, x0, 6, to c.jr x1 in the upper half of addi x10, x4, -2040
+    (
+        &[0x00050363, 0x80820513, RETURN],
+        &[
+            (0x10000, &[1, 2], &[]),
+            (0x10004, &[3], &[0]),
+            (0x10006, &[], &[0]),
+            (0x10008, &[], &[1]),
+        ],
+    ),
 ];
 
 #[test]
@@ -168,6 +188,24 @@ fn graphs_are_built(rt: HostRuntime) -> Result<(), Fail> {
         let graph = built(rt.alloc(), words);
         let right = matches!(&graph, Some(Ok(g)) if are_as(g, rows) && g.entry() == 0);
         assert!(rt; right, "the program of {} words", words.len());
+    }
+    Ok(())
+}
+
+#[test]
+fn numbers_and_lengths(rt: HostRuntime) -> Result<(), Fail> {
+    let Some(Ok(g)) = built(rt.alloc(), &[0x00050363, 0x80820513, RETURN]) else {
+        assert!(rt; false, "no graph");
+        return Ok(());
+    };
+    for (n, number, length) in [
+        (0, 0x00050363, 4),
+        (1, 0x80820513, 4),
+        (2, 0x8082, 2),
+        (3, RETURN, 4),
+    ] {
+        assert_eq!(rt; g.number(n), number);
+        assert_eq!(rt; g.length(n), length);
     }
     Ok(())
 }
@@ -199,10 +237,19 @@ fn refusal(alloc: Global, words: &[u32], entry: u64) -> Option<(u32, u64, u64)> 
 }
 
 /// Programs at 0x10000, an entry, and the fault with its numbers.
-static FAULTS: [(&[u32], u64, (u32, u64, u64)); 15] = [
+static FAULTS: [(&[u32], u64, (u32, u64, u64)); 22] = [
     (&[ADD], 0x10000, (4, 0x10004, 0)),
     (&[RETURN], 0x20000, (4, 0x20000, 0)),
-    (&[0x80820001, RETURN], 0x10000, (5, 0x10000, 0x80820001)),
+    (&[0x80820007, RETURN], 0x10000, (5, 0x10000, 0x80820007)),
+    (&[0], 0x10000, (5, 0x10000, 0)),
+    // c.nop, and a parcel that is no instruction
+    (&[0x20000001], 0x10000, (5, 0x10002, 0x2000)),
+    // c.nop, and half a word
+    (&[0x05130001], 0x10000, (4, 0x10002, 0)),
+    // c.ebreak, c.jalr x10 and c.jr x10
+    (&[0x9002], 0x10000, (6, 0x10000, 0)),
+    (&[0x9502], 0x10000, (7, 0x10000, 0)),
+    (&[0x8502], 0x10000, (8, 0x10000, 0)),
     (&[ENVIRONMENT], 0x10000, (6, 0x10000, 0)),
     // ebreak
     (&[0x00100073], 0x10000, (6, 0x10000, 0)),
@@ -214,11 +261,12 @@ static FAULTS: [(&[u32], u64, (u32, u64, u64)); 15] = [
     // jalr x0, 4(x1)
     (&[0x00408067], 0x10000, (8, 0x10000, 0)),
     // beq x0, x0, 6
-    (&[0x00000363], 0x10000, (9, 0x10000, 0x10006)),
-    (&[RETURN], 0x10002, (9, 0x10002, 0x10002)),
+    (&[0x00000363], 0x10000, (4, 0x10004, 0)),
+    (&[RETURN], 0x10002, (5, 0x10002, 0)),
+    (&[RETURN], 0x10001, (9, 0x10001, 0x10001)),
     // jal x0, 6
-    (&[0x0060006f], 0x10000, (9, 0x10000, 0x10006)),
-    // a call before a target that isn't aligned: jal x1, 6
+    (&[0x0060006f], 0x10000, (4, 0x10006, 0)),
+    // a call before a target that is no code: jal x1, 6
     (&[0x006000ef], 0x10000, (7, 0x10000, 0)),
     // the least address first: beq x10, x0, 8, then a call of the environment and a call
     (&[0x00050463, ENVIRONMENT, CALL], 0x10000, (6, 0x10004, 0)),
@@ -291,5 +339,25 @@ fn code_goes_on_at_zero(rt: HostRuntime) -> Result<(), Fail> {
     let graph = build(rt.alloc(), &image, last);
     let right = matches!(&graph, Ok(g) if are_as(g, &rows) && g.entry() == 1);
     assert!(rt; right);
+    Ok(())
+}
+
+/// `c.nop` of two bytes before a word whose last two bytes are past the last address.
+#[test]
+fn no_word_goes_on_at_zero(rt: HostRuntime) -> Result<(), Fail> {
+    let last = 0xffff_ffff_ffff_fffc;
+    let Some(image) = image(
+        rt.alloc(),
+        &[(last, 1), (0, 1)],
+        &[0x0513_0001, 0x0000_0015],
+    ) else {
+        assert!(rt; false, "no image");
+        return Ok(());
+    };
+    let fault = match build(rt.alloc(), &image, last) {
+        Err(FlowFault::Outside(why)) => Some(numbers(&why)),
+        _ => None,
+    };
+    assert!(rt; fault == Some((4, 0xffff_ffff_ffff_fffe, 0)));
     Ok(())
 }

@@ -1,15 +1,17 @@
 -- What the parts of a graph are while it is built.
-use Rattle.std.specs.Prelude.{◌≡◌, ℕ, ◌<◌, List, length, map, take, slice_index, Ok, Err}
+use Rattle.std.specs.Prelude.{◌≡◌, ℕ, ◌<◌, List, length, map, take, slice_index, Some, Ok, Err}
 use Rattle.std.specs.List.{Contains}
 use Rattle.rv_words.specs.Bytes.{Bytes}
 use Rattle.rv_decode.specs.declared.instruction.Instr.{Instr}
 use Rattle.flow_graph.specs.declared.outside.Outside.{Outside as Fault}
 use Rattle.flow_graph.specs.declared.outside.FlowFault.{FlowFault}
 use Rattle.flow_graph.specs.declared.outside.FlowFault.TheVariants.{Outside, NoMemory}
+use Rattle.rvc.specs.Number.{number_in}
 use Rattle.flow_graph.specs.Flow.{look, Next}
 
--- the instructions at these addresses, none of which has a fault and which lead to each other alone
-pub record AreOf (code : Bytes) (nodes : List ℕ) (instrs : List Instr) : Type 0 where
+-- the numbers and instructions at these addresses, none of which has a fault and which lead to each other alone
+pub record AreOf (code : Bytes) (nodes numbers : List ℕ) (instrs : List Instr) : Type 0 where
+  pub numbers_are : map (λ w. Some w) numbers ≡ map (number_in code) nodes
   pub same : map (λ i. Ok i) instrs ≡ map (look code) nodes
   pub closed : (a b : ℕ) → Contains nodes a → Next code a b → Contains nodes b
 

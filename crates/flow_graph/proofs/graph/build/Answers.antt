@@ -1,4 +1,4 @@
-use Rattle.std.proofs.Common.{◌≤◌, ◌∙◌, Ok, map, length, ap, arith}
+use Rattle.std.proofs.Common.{◌≤◌, ◌∙◌, Ok, Some, map, length, ap, arith}
 use Rattle.elf_image.specs.Image.{code_in}
 use Rattle.flow_graph.specs.Flow.{Next}
 use Rattle.flow_graph.specs.Walks.{Stop}
@@ -21,7 +21,7 @@ pub linked-requires-clause-of : goal.linked-requires-clause-of
 linked-requires-clause-of c =
     let code = code_in c.args.image.now.pieces in
     let r = sorted_reach (Next code) c.args.entry c.in-Some.nodes c.sort.new.self (some_holds _ _ c.in-Some.nodes c.in-Some.is c.in_ok-nodes.ensures.reach) c.sort.ensures.members c.in_ok-sort.ensures.rising in
-    (code, record { same = ap (map (λ i. Ok i)) c.deref.ensures.value ∙ c.in_ok-instrs.ensures.ok; closed = closed_from_reach code c.args.entry c.sort.new.self r })
+    (code, record { numbers_are = ap (map (λ w. Some w)) c.deref.ensures.value ∙ c.in_ok-numbers.ensures; same = ap (map (λ i. Ok i)) c.deref-2.ensures.value ∙ c.in_ok-instrs.ensures.ok; closed = closed_from_reach code c.args.entry c.sort.new.self r })
 
 pub number-requires-clause-member : goal.number-requires-clause-member
 number-requires-clause-member c =
@@ -34,15 +34,15 @@ returns-clause-ok c =
     let code = code_in c.args.image.now.pieces in
     let r = sorted_reach (Next code) c.args.entry c.in-Some.nodes c.sort.new.self (some_holds _ _ c.in-Some.nodes c.in-Some.is c.in_ok-nodes.ensures.reach) c.sort.ensures.members c.in_ok-sort.ensures.rising in
     let few : length c.sort.new.self ≤ 1024 = omega (arith, c.sort.ensures.len, some_holds _ (λ v. length v ≤ 1024) c.in-Some.nodes c.in-Some.is c.in_ok-nodes.ensures.few) in
-    let links = c.in_ok-links.ensures code (record { same = ap (map (λ i. Ok i)) c.deref.ensures.value ∙ c.in_ok-instrs.ensures.ok; closed = closed_from_reach code c.args.entry c.sort.new.self r }) in
-    graph_of code c.args.entry c.sort.new.self c.in_ok-instrs.instrs.items c.in_ok-links.links.1 c.number.result r c.in_ok-sort.ensures.rising few c.in_ok-instrs.ensures.ok (ap (λ p. p.1) links) c.number.ensures.value
+    let links = c.in_ok-links.ensures code (record { numbers_are = ap (map (λ w. Some w)) c.deref.ensures.value ∙ c.in_ok-numbers.ensures; same = ap (map (λ i. Ok i)) c.deref-2.ensures.value ∙ c.in_ok-instrs.ensures.ok; closed = closed_from_reach code c.args.entry c.sort.new.self r }) in
+    graph_of code c.args.entry c.sort.new.self c.in_ok-numbers.numbers.items c.in_ok-instrs.instrs.items c.in_ok-links.links.1 c.number.result r c.in_ok-sort.ensures.rising few c.in_ok-numbers.ensures c.in_ok-instrs.ensures.ok (ap (λ p. p.1) links) c.number.ensures.value
 
 pub invariant_of-result : goal.invariant_of-result
 invariant_of-result c =
     let code = code_in c.args.image.now.pieces in
     let r = sorted_reach (Next code) c.args.entry c.in-Some.nodes c.sort.new.self (some_holds _ _ c.in-Some.nodes c.in-Some.is c.in_ok-nodes.ensures.reach) c.sort.ensures.members c.in_ok-sort.ensures.rising in
     let few : length c.sort.new.self ≤ 1024 = omega (arith, c.sort.ensures.len, some_holds _ (λ v. length v ≤ 1024) c.in-Some.nodes c.in-Some.is c.in_ok-nodes.ensures.few) in
-    let links = c.in_ok-links.ensures code (record { same = ap (map (λ i. Ok i)) c.deref.ensures.value ∙ c.in_ok-instrs.ensures.ok; closed = closed_from_reach code c.args.entry c.sort.new.self r }) in (
-      is_flow code c.args.entry _ (graph_of code c.args.entry c.sort.new.self c.in_ok-instrs.instrs.items c.in_ok-links.links.1 c.number.result r c.in_ok-sort.ensures.rising few c.in_ok-instrs.ensures.ok (ap (λ p. p.1) links) c.number.ensures.value),
+    let links = c.in_ok-links.ensures code (record { numbers_are = ap (map (λ w. Some w)) c.deref.ensures.value ∙ c.in_ok-numbers.ensures; same = ap (map (λ i. Ok i)) c.deref-2.ensures.value ∙ c.in_ok-instrs.ensures.ok; closed = closed_from_reach code c.args.entry c.sort.new.self r }) in (
+      is_flow code c.args.entry _ (graph_of code c.args.entry c.sort.new.self c.in_ok-numbers.numbers.items c.in_ok-instrs.instrs.items c.in_ok-links.links.1 c.number.result r c.in_ok-sort.ensures.rising few c.in_ok-numbers.ensures c.in_ok-instrs.ensures.ok (ap (λ p. p.1) links) c.number.ensures.value),
       ap (λ p. p.0) links,
     )

@@ -10,7 +10,7 @@ invariant-nodes l = record {
   count : l.links.0 ≡ length l.nodes;
   upto : l.u ≤ length l.nodes;
   few : length l.links.1 + 2 * l.u ≤ 2 * length l.nodes;
-  edges : (code : Bytes) → AreOf code l.nodes l.instrs → l.links.1 ≡ edges_from (next code) l.nodes l.u (drop l.u l.nodes);
+  edges : (code : Bytes) → AreOf code l.nodes l.numbers l.instrs → l.links.1 ≡ edges_from (next code) l.nodes l.u (drop l.u l.nodes);
 }
 
 abbrev pub decreases-nodes : goal.decreases-nodes
