@@ -18,39 +18,39 @@ Leads (Straight ss u to) m = to ≡ m
 Leads (Fork c a b) m = (a ≡ m) ⊎ (b ≡ m)
 Leads (Return ss t) m = ⊥
 
-pub leads-edge : (i : Instr) (a : ℕ) (to : Form → ℕ) (v : Place) (m : ℕ) → Leads (action_of i a to v) m → (form : Form) × (has_edge i form ≡ true) × (to form ≡ m)
-leads-edge (instr.Op o rd rs1 rs2) a to v m h = (Next, refl, h)
-leads-edge (instr.OpImm o rd rs1 imm) a to v m h = (Next, refl, h)
-leads-edge (instr.Lui rd imm) a to v m h = (Next, refl, h)
-leads-edge (instr.Auipc rd imm) a to v m h = (Next, refl, h)
-leads-edge (instr.Jal rd offset) a to v m h = (Next, refl, h)
-leads-edge (instr.Jalr rd rs1 imm) a to v m h = absurd h
-leads-edge (instr.Branch c rs1 rs2 offset) a to v m (inl h) = (Taken, refl, h)
-leads-edge (instr.Branch c rs1 rs2 offset) a to v m (inr h) = (Next, refl, h)
-leads-edge (instr.Load w signed rd rs1 imm) a to v m h = (Next, refl, h)
-leads-edge (instr.Store w rs1 rs2 imm) a to v m h = (Next, refl, h)
-leads-edge (instr.Fence imm rs1 rd) a to v m h = (Next, refl, h)
-leads-edge instr.Ecall a to v m h = (Next, refl, h)
-leads-edge instr.Ebreak a to v m h = (Next, refl, h)
+pub leads-edge : (i : Instr) (a k : ℕ) (to : Form → ℕ) (v : Place) (m : ℕ) → Leads (action_of i a k to v) m → (form : Form) × (has_edge i form ≡ true) × (to form ≡ m)
+leads-edge (instr.Op o rd rs1 rs2) a k to v m h = (Next, refl, h)
+leads-edge (instr.OpImm o rd rs1 imm) a k to v m h = (Next, refl, h)
+leads-edge (instr.Lui rd imm) a k to v m h = (Next, refl, h)
+leads-edge (instr.Auipc rd imm) a k to v m h = (Next, refl, h)
+leads-edge (instr.Jal rd offset) a k to v m h = (Next, refl, h)
+leads-edge (instr.Jalr rd rs1 imm) a k to v m h = absurd h
+leads-edge (instr.Branch c rs1 rs2 offset) a k to v m (inl h) = (Taken, refl, h)
+leads-edge (instr.Branch c rs1 rs2 offset) a k to v m (inr h) = (Next, refl, h)
+leads-edge (instr.Load w signed rd rs1 imm) a k to v m h = (Next, refl, h)
+leads-edge (instr.Store w rs1 rs2 imm) a k to v m h = (Next, refl, h)
+leads-edge (instr.Fence imm rs1 rd) a k to v m h = (Next, refl, h)
+leads-edge instr.Ecall a k to v m h = (Next, refl, h)
+leads-edge instr.Ebreak a k to v m h = (Next, refl, h)
 
 abbrev pub Returns : Action → Type 0
 Returns (Straight ss u to) = ⊥
 Returns (Fork c a b) = ⊥
 Returns (Return ss t) = Unit {0}
 
-pub returns-is : (i : Instr) (a : ℕ) (to : Form → ℕ) (v : Place) → Returns (action_of i a to v) → is_return i ≡ true
-returns-is (instr.Op o rd rs1 rs2) a to v h = absurd h
-returns-is (instr.OpImm o rd rs1 imm) a to v h = absurd h
-returns-is (instr.Lui rd imm) a to v h = absurd h
-returns-is (instr.Auipc rd imm) a to v h = absurd h
-returns-is (instr.Jal rd offset) a to v h = absurd h
-returns-is (instr.Jalr rd rs1 imm) a to v h = refl
-returns-is (instr.Branch c rs1 rs2 offset) a to v h = absurd h
-returns-is (instr.Load w signed rd rs1 imm) a to v h = absurd h
-returns-is (instr.Store w rs1 rs2 imm) a to v h = absurd h
-returns-is (instr.Fence imm rs1 rd) a to v h = absurd h
-returns-is instr.Ecall a to v h = absurd h
-returns-is instr.Ebreak a to v h = absurd h
+pub returns-is : (i : Instr) (a k : ℕ) (to : Form → ℕ) (v : Place) → Returns (action_of i a k to v) → is_return i ≡ true
+returns-is (instr.Op o rd rs1 rs2) a k to v h = absurd h
+returns-is (instr.OpImm o rd rs1 imm) a k to v h = absurd h
+returns-is (instr.Lui rd imm) a k to v h = absurd h
+returns-is (instr.Auipc rd imm) a k to v h = absurd h
+returns-is (instr.Jal rd offset) a k to v h = absurd h
+returns-is (instr.Jalr rd rs1 imm) a k to v h = refl
+returns-is (instr.Branch c rs1 rs2 offset) a k to v h = absurd h
+returns-is (instr.Load w signed rd rs1 imm) a k to v h = absurd h
+returns-is (instr.Store w rs1 rs2 imm) a k to v h = absurd h
+returns-is (instr.Fence imm rs1 rd) a k to v h = absurd h
+returns-is instr.Ecall a k to v h = absurd h
+returns-is instr.Ebreak a k to v h = absurd h
 
 -- ---- ends of parts
 

@@ -40,11 +40,15 @@ numbers (Rest r n) = if n == 3 then 1 else 2
 abbrev loop_at : ℕ → Option ℕ
 loop_at n = if n == 0 then Some 0 else None
 
+abbrev summing_word : ℕ → ℕ
+summing_word n = slice_index_or (0x00b5_0533 ∷ 0xfff5_8593 ∷ 0xfe05_9ce3 ∷ 0x0000_8067 ∷ []) n 0
+
 abbrev summing : Flow
 summing = record {
   nodes = 4;
   loops = 1;
   addr = λ n. slice_index_or (0x10000 ∷ 0x10004 ∷ 0x10008 ∷ 0x1000c ∷ []) n 0;
+  word = summing_word;
   instr = instructions;
   to = goes_to;
   is_cut = λ n. slice_index_or (true ∷ false ∷ false ∷ true ∷ []) n false;
@@ -72,8 +76,7 @@ summing-loop = refl
 summing-end : part_def summing (Rest None 3) ≡ record {
   entry = 0x1000c;
   exits = Ret ∷ [];
-  body = Do (Need (Compare Eq (Bin And (Bin Add (Var 0) (Const 0)) (Const 2)) (Const 0)))
-      (Leave 0 (record { words = Bin And (Bin Add (Var 0) (Const 0)) (Const 0xffff_ffff_ffff_fffe) ∷ Var 0 ∷ Var 1 ∷ Var 2 ∷ []; mems = [] }));
+  body = Leave 0 (record { words = Bin And (Bin Add (Var 0) (Const 0)) (Const 0xffff_ffff_ffff_fffe) ∷ Var 0 ∷ Var 1 ∷ Var 2 ∷ []; mems = [] });
 }
 summing-end = refl
 
@@ -167,6 +170,7 @@ storing = record {
   nodes = 2;
   loops = 0;
   addr = λ n. slice_index_or (0x10000 ∷ 0x10004 ∷ []) n 0;
+  word = λ n. slice_index_or (0x00a5_b023 ∷ 0x0000_8067 ∷ []) n 0;
   instr = λ n. slice_index_or (instr.Store B8 11 10 (pos 0) ∷ instr.Jalr 0 1 (pos 0) ∷ []) n instr.Ecall;
   to = λ n form. suc n;
   is_cut = λ n. slice_index_or (true ∷ false ∷ []) n false;
@@ -184,15 +188,11 @@ storing-whole : part_def storing (Rest None 0) ≡ record {
   entry = 0x10000;
   exits = Ret ∷ [];
   body = Do (Need (Inside B8 (MemVar 0) (Bin Add (Var 2) (Const 0)))) (Do (BindMem (Store B8 (MemVar 0) (Bin Add (Var 2) (Const 0)) (Var 1)))
-      (Do (Need (Compare Eq (Bin And (Bin Add (Var 0) (Const 0)) (Const 2)) (Const 0)))
-      (Leave 0 (record { words = Bin And (Bin Add (Var 0) (Const 0)) (Const 0xffff_ffff_ffff_fffe) ∷ Var 0 ∷ Var 1 ∷ Var 2 ∷ []; mems = MemVar 1 ∷ [] }))));
+      (Leave 0 (record { words = Bin And (Bin Add (Var 0) (Const 0)) (Const 0xffff_ffff_ffff_fffe) ∷ Var 0 ∷ Var 1 ∷ Var 2 ∷ []; mems = MemVar 1 ∷ [] })));
 }
 storing-whole = refl
 
 -- ---- a group of its parts, where each instruction's bytes are in the code
-
-abbrev summing_word : ℕ → ℕ
-summing_word n = slice_index_or (0x00b5_0533 ∷ 0xfff5_8593 ∷ 0xfe05_9ce3 ∷ 0x0000_8067 ∷ []) n 0
 
 abbrev summing_parts : List Part
 summing_parts = Loop 0 ∷ Rest None 3 ∷ Rest None 0 ∷ []
@@ -210,11 +210,12 @@ module _ (code : List Range) (bytes : (n : ℕ) → n < 4 → IsWithin (range_by
   abbrev IsListed : ℕ → Type 0
   IsListed r = (r ≡ 0 → ⊥) → Contains (1 ∷ 10 ∷ 11 ∷ []) r
 
-  summing-stands : (n : ℕ) → n < 4 → StandsAt summing code (summing_word n) n
+  summing-stands : (n : ℕ) → n < 4 → StandsAt summing code n
   unfolding decoded
   summing-stands zero lt = record {
     address = omega arith;
     even = refl;
+    room = omega arith;
     small = omega arith;
     is = refl;
     bytes = bytes 0 (omega arith);
@@ -226,16 +227,17 @@ module _ (code : List Range) (bytes : (n : ℕ) → n < 4 → IsWithin (range_by
     return_is = λ e. absurd (cc);
   }
     where
-      forms : (form : Form) → has_edge (summing.instr 0) form ≡ true → has_form (summing.instr 0) form 0x10000 ≡ true
+      forms : (form : Form) → has_edge (summing.instr 0) form ≡ true → has_form (summing.instr 0) form ≡ true
       forms Next e = refl
       forms Taken e = absurd (cc)
 
-      goes : (form : Form) (v : Names) → has_edge (summing.instr 0) form ≡ true → pc_after (summing.instr 0) form 0x10000 v ≡ Const (summing.addr (summing.to 0 form))
+      goes : (form : Form) (v : Names) → has_edge (summing.instr 0) form ≡ true → pc_after (summing.instr 0) form 0x10000 4 v ≡ Const (summing.addr (summing.to 0 form))
       goes Next v e = refl
       goes Taken v e = absurd (cc)
   summing-stands (suc zero) lt = record {
     address = omega arith;
     even = refl;
+    room = omega arith;
     small = omega arith;
     is = refl;
     bytes = bytes 1 (omega arith);
@@ -247,16 +249,17 @@ module _ (code : List Range) (bytes : (n : ℕ) → n < 4 → IsWithin (range_by
     return_is = λ e. absurd (cc);
   }
     where
-      forms : (form : Form) → has_edge (summing.instr 1) form ≡ true → has_form (summing.instr 1) form 0x10004 ≡ true
+      forms : (form : Form) → has_edge (summing.instr 1) form ≡ true → has_form (summing.instr 1) form ≡ true
       forms Next e = refl
       forms Taken e = absurd (cc)
 
-      goes : (form : Form) (v : Names) → has_edge (summing.instr 1) form ≡ true → pc_after (summing.instr 1) form 0x10004 v ≡ Const (summing.addr (summing.to 1 form))
+      goes : (form : Form) (v : Names) → has_edge (summing.instr 1) form ≡ true → pc_after (summing.instr 1) form 0x10004 4 v ≡ Const (summing.addr (summing.to 1 form))
       goes Next v e = refl
       goes Taken v e = absurd (cc)
   summing-stands (suc (suc zero)) lt = record {
     address = omega arith;
     even = refl;
+    room = omega arith;
     small = omega arith;
     is = refl;
     bytes = bytes 2 (omega arith);
@@ -268,16 +271,17 @@ module _ (code : List Range) (bytes : (n : ℕ) → n < 4 → IsWithin (range_by
     return_is = λ e. absurd (cc);
   }
     where
-      forms : (form : Form) → has_edge (summing.instr 2) form ≡ true → has_form (summing.instr 2) form 0x10008 ≡ true
+      forms : (form : Form) → has_edge (summing.instr 2) form ≡ true → has_form (summing.instr 2) form ≡ true
       forms Next e = refl
       forms Taken e = refl
 
-      goes : (form : Form) (v : Names) → has_edge (summing.instr 2) form ≡ true → pc_after (summing.instr 2) form 0x10008 v ≡ Const (summing.addr (summing.to 2 form))
+      goes : (form : Form) (v : Names) → has_edge (summing.instr 2) form ≡ true → pc_after (summing.instr 2) form 0x10008 4 v ≡ Const (summing.addr (summing.to 2 form))
       goes Next v e = refl
       goes Taken v e = refl
   summing-stands (suc (suc (suc zero))) lt = record {
     address = omega arith;
     even = refl;
+    room = omega arith;
     small = omega arith;
     is = refl;
     bytes = bytes 3 (omega arith);
@@ -289,11 +293,11 @@ module _ (code : List Range) (bytes : (n : ℕ) → n < 4 → IsWithin (range_by
     return_is = λ e. refl;
   }
     where
-      forms : (form : Form) → has_edge (summing.instr 3) form ≡ true → has_form (summing.instr 3) form 0x1000c ≡ true
+      forms : (form : Form) → has_edge (summing.instr 3) form ≡ true → has_form (summing.instr 3) form ≡ true
       forms Next e = refl
       forms Taken e = absurd (cc)
 
-      goes : (form : Form) (v : Names) → has_edge (summing.instr 3) form ≡ true → pc_after (summing.instr 3) form 0x1000c v ≡ Const (summing.addr (summing.to 3 form))
+      goes : (form : Form) (v : Names) → has_edge (summing.instr 3) form ≡ true → pc_after (summing.instr 3) form 0x1000c 4 v ≡ Const (summing.addr (summing.to 3 form))
       goes Next v e = absurd (cc)
       goes Taken v e = absurd (cc)
   summing-stands (suc (suc (suc (suc n)))) lt = absurd (omega arith)
@@ -305,7 +309,7 @@ module _ (code : List Range) (bytes : (n : ℕ) → n < 4 → IsWithin (range_by
   summing-made = record {
     regs = refl;
     mems = refl;
-    code = record { word = summing_word; each = summing-stands; registers = (omega arith, omega arith, (omega arith, omega arith, (omega arith, omega arith, tt))) };
+    code = record { each = summing-stands; registers = (omega arith, omega arith, (omega arith, omega arith, (omega arith, omega arith, tt))) };
     defs = refl;
     listed = listed;
     part = part;

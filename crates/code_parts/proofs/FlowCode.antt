@@ -1,31 +1,31 @@
 -- The instructions of a graph stand in code that has their bytes.
-use Rattle.std.proofs.Common.{◌≡◌, ℕ, zero, suc, ◌+◌, ◌-◌, ◌*◌, ◌%◌, ◌^◌, ◌<◌, ◌≤◌, List, [], ◌∷◌, length, get_or, Bool, true, false, cond, eqb, leb, nat_lt, ◌&&◌, refl, sym, ap, subst, ◌∙◌, arith, Option, None, Some, is_some, unwrap_or, Result, Ok, Err, ℤ, pos, negsuc, eq-eqb}
+use Rattle.std.proofs.Common.{◌≡◌, ℕ, zero, suc, ◌+◌, ◌-◌, ◌^◌, ◌<◌, ◌≤◌, List, [], ◌∷◌, length, get_or, Bool, true, false, cond, eqb, leb, ◌&&◌, refl, sym, ap, subst, ◌∙◌, arith, Option, None, Some, Result, Ok, Err, ℤ, pos, negsuc, eq-eqb}
 use Rattle.std.proofs.lemmas.Bool.{eqb-true, leb-true}
-use Rattle.std.proofs.lemmas.Option.{slice_get-get_or}
-use Rattle.std.proofs.lemmas.Nat.{le_bytes_4}
+use Rattle.std.proofs.lemmas.Option.{slice_get-get_or, slice_get_within}
 use Rattle.std.specs.Prelude.{slice_get}
-use Rattle.std.specs.Int.{w32, to_le_bytes}
 use Rattle.std.specs.List.{Contains, list_any}
 use Rattle.std.specs.Option.{option_or}
-use Rattle.rv_words.specs.Bytes.{Bytes, AreBytes, after, bytes_from, inside, load}
+use Rattle.rv_words.specs.Bytes.{Bytes, AreBytes, bytes_from}
+use Rattle.rvc.specs.Number.{bytes_of, instruction_of, is_word, length_of, number_at}
+use Rattle.rvc.proofs.ByteLemmas.{bytes-long, number-bytes, number-small}
+use Rattle.rvc.proofs.NumberLemmas.{instruction-named, number_in-is}
 use Rattle.rv_words.specs.declared.range.Range.{Range}
 use Rattle.rv_words.specs.Ranges.{range_bytes}
 use Rattle.rv_decode.specs.declared.instruction.Instr.{Instr}
 use Rattle.rv_decode.specs.declared.instruction.Instr.TheVariants as instr
-use Rattle.rv_decode.specs.Decodes.{NamesRegisters, decoded}
+use Rattle.rv_decode.specs.Decodes.{NamesRegisters}
 use Rattle.rv_decode.specs.Registers.{destination, is_read, registers_where, sources}
-use Rattle.rv_decode.proofs.EncodeLemmas.{decoded_named}
 use Rattle.word_terms.specs.Tree.{Const}
-use Rattle.elf_image.specs.Image.{word_in}
 use Rattle.sep_assert.specs.Code.{IsWithin}
 use Rattle.triple_kernel.specs.declared.form.Form.{Form}
 use Rattle.triple_kernel.specs.declared.form.Form.TheVariants.{Next, Taken}
 use Rattle.instr_axioms.specs.Terms.{Names, has_form, has_memory, pc_after}
 use Rattle.instr_axioms.specs.Axiom.{is_own, word_code}
 use Rattle.flow_graph.specs.declared.outside.Outside.{Outside}
-use Rattle.flow_graph.specs.Flow.{StandsIn, admitted, aimed, is_zero, target, targets}
+use Rattle.flow_graph.specs.Flow.{StandsIn, admitted, is_zero, targets}
 use Rattle.flow_graph.specs.Graph.{GraphOf, IsGraphOf}
 use Rattle.flow_graph.proofs.FlowLemmas.{is_flow}
+use Rattle.flow_graph.proofs.ExactLemmas.{graph_numbers}
 use Rattle.flow_graph.proofs.Standing.{graph_stands, through_return}
 use Rattle.loop_forest.specs.Forest.{ForestOf, IsForestOf}
 use Rattle.code_parts.specs.declared.part.Part.{Part}
@@ -38,19 +38,10 @@ use Rattle.code_parts.proofs.FlowGraph.{any-at, edge-at}
 
 -- ---- instructions that may stand in a function
 
-if_ok : (t : Bool) (x : Result Instr Outside) (why : Outside) (i : Instr) → cond t x (Err why) ≡ Ok i → x ≡ Ok i
-if_ok true x why i e = e
-if_ok false x why i e = absurd (cc)
-
-if_so : (t : Bool) (x : Result Instr Outside) (why : Outside) (i : Instr) → cond t x (Err why) ≡ Ok i → t ≡ true
-if_so true x why i e = refl
-if_so false x why i e = absurd (cc)
-
-form-is : (a : ℕ) (i : Instr) (form : Form) → admitted a i ≡ Ok i → has_edge i form ≡ true → has_form i form a ≡ true
+form-is : (a : ℕ) (i : Instr) (form : Form) → admitted a i ≡ Ok i → has_edge i form ≡ true → has_form i form ≡ true
 form-is a (instr.Branch c rs1 rs2 offset) Next fine e = refl
-form-is a (instr.Branch c rs1 rs2 offset) Taken fine e = if_so (eqb (target a offset % 4) 0) (Ok (instr.Branch c rs1 rs2 offset)) _ (instr.Branch c rs1 rs2 offset) fine
-form-is a (instr.Jal rd offset) Next fine e =
-    if_so (eqb (target a offset % 4) 0) (Ok (instr.Jal rd offset)) _ (instr.Jal rd offset) (if_ok (eqb rd 0) (aimed a (target a offset) (instr.Jal rd offset)) _ (instr.Jal rd offset) fine)
+form-is a (instr.Branch c rs1 rs2 offset) Taken fine e = refl
+form-is a (instr.Jal rd offset) Next fine e = refl
 form-is a (instr.Jal rd offset) Taken fine e = absurd (cc)
 form-is a (instr.Jalr rd rs1 imm) form fine e = absurd (cc)
 form-is a (instr.Op o rd rs1 rs2) Next fine e = refl
@@ -71,30 +62,30 @@ form-is a instr.Ecall form fine e = absurd (cc)
 form-is a instr.Ebreak form fine e = absurd (cc)
 
 -- in each form it goes to that target
-target-is : (a : ℕ) (i : Instr) (form : Form) (v : Names) → has_edge i form ≡ true → pc_after i form a v ≡ Const (get_or (targets a i) (edge_number form) 0)
-target-is a (instr.Branch c rs1 rs2 offset) Next v e = refl
-target-is a (instr.Branch c rs1 rs2 offset) Taken v e = refl
-target-is a (instr.Jalr rd rs1 imm) form v e = absurd (cc)
-target-is a (instr.Jal rd offset) Next v e = refl
-target-is a (instr.Jal rd offset) Taken v e = absurd (cc)
-target-is a (instr.Op o rd rs1 rs2) Next v e = refl
-target-is a (instr.Op o rd rs1 rs2) Taken v e = absurd (cc)
-target-is a (instr.OpImm o rd rs1 imm) Next v e = refl
-target-is a (instr.OpImm o rd rs1 imm) Taken v e = absurd (cc)
-target-is a (instr.Lui rd imm) Next v e = refl
-target-is a (instr.Lui rd imm) Taken v e = absurd (cc)
-target-is a (instr.Auipc rd imm) Next v e = refl
-target-is a (instr.Auipc rd imm) Taken v e = absurd (cc)
-target-is a (instr.Load w signed rd rs1 imm) Next v e = refl
-target-is a (instr.Load w signed rd rs1 imm) Taken v e = absurd (cc)
-target-is a (instr.Store w rs1 rs2 imm) Next v e = refl
-target-is a (instr.Store w rs1 rs2 imm) Taken v e = absurd (cc)
-target-is a (instr.Fence imm rs1 rd) Next v e = refl
-target-is a (instr.Fence imm rs1 rd) Taken v e = absurd (cc)
-target-is a instr.Ecall Next v e = refl
-target-is a instr.Ecall Taken v e = absurd (cc)
-target-is a instr.Ebreak Next v e = refl
-target-is a instr.Ebreak Taken v e = absurd (cc)
+target-is : (a k : ℕ) (i : Instr) (form : Form) (v : Names) → has_edge i form ≡ true → pc_after i form a k v ≡ Const (get_or (targets a k i) (edge_number form) 0)
+target-is a k (instr.Branch c rs1 rs2 offset) Next v e = refl
+target-is a k (instr.Branch c rs1 rs2 offset) Taken v e = refl
+target-is a k (instr.Jalr rd rs1 imm) form v e = absurd (cc)
+target-is a k (instr.Jal rd offset) Next v e = refl
+target-is a k (instr.Jal rd offset) Taken v e = absurd (cc)
+target-is a k (instr.Op o rd rs1 rs2) Next v e = refl
+target-is a k (instr.Op o rd rs1 rs2) Taken v e = absurd (cc)
+target-is a k (instr.OpImm o rd rs1 imm) Next v e = refl
+target-is a k (instr.OpImm o rd rs1 imm) Taken v e = absurd (cc)
+target-is a k (instr.Lui rd imm) Next v e = refl
+target-is a k (instr.Lui rd imm) Taken v e = absurd (cc)
+target-is a k (instr.Auipc rd imm) Next v e = refl
+target-is a k (instr.Auipc rd imm) Taken v e = absurd (cc)
+target-is a k (instr.Load w signed rd rs1 imm) Next v e = refl
+target-is a k (instr.Load w signed rd rs1 imm) Taken v e = absurd (cc)
+target-is a k (instr.Store w rs1 rs2 imm) Next v e = refl
+target-is a k (instr.Store w rs1 rs2 imm) Taken v e = absurd (cc)
+target-is a k (instr.Fence imm rs1 rd) Next v e = refl
+target-is a k (instr.Fence imm rs1 rd) Taken v e = absurd (cc)
+target-is a k instr.Ecall Next v e = refl
+target-is a k instr.Ecall Taken v e = absurd (cc)
+target-is a k instr.Ebreak Next v e = refl
+target-is a k instr.Ebreak Taken v e = absurd (cc)
 
 all_three : (x y z : Bool) → (x && y && z) ≡ true → (x ≡ true) × (y ≡ true) × (z ≡ true)
 all_three true true true e = (refl, refl, refl)
@@ -169,71 +160,6 @@ registers-rise instrs = filter-rise (λ r. list_any (λ i. is_own i r) instrs) 1
 
 -- ---- bytes
 
--- the bytes of a word, where the first is at none, have it as their number
-pub record FourBytes (o0 o1 o2 o3 : Option ℕ) (w : ℕ) : Type 0 where
-  pub b0 : ℕ
-  pub b1 : ℕ
-  pub b2 : ℕ
-  pub b3 : ℕ
-  pub is0 : o0 ≡ Some b0
-  pub is1 : o1 ≡ Some b1
-  pub is2 : o2 ≡ Some b2
-  pub is3 : o3 ≡ Some b3
-  pub sum : b0 + 256 * (b1 + 256 * (b2 + 256 * (b3 + 256 * 0))) ≡ w
-
-same-some : (a b : ℕ) → Some a ≡ Some b → a ≡ b
-same-some a b e = cc
-
-four : (o0 o1 o2 o3 : Option ℕ) (w : ℕ) →
-    cond (is_some o0 && (is_some o1 && (is_some o2 && (is_some o3 && true)))) (Some (unwrap_or o0 0 + 256 * (unwrap_or o1 0 + 256 * (unwrap_or o2 0 + 256 * (unwrap_or o3 0 + 256 * 0))))) None ≡ Some w → FourBytes o0 o1 o2 o3 w
-four None o1 o2 o3 w e = absurd (cc)
-four (Some a) None o2 o3 w e = absurd (cc)
-four (Some a) (Some b) None o3 w e = absurd (cc)
-four (Some a) (Some b) (Some c) None w e = absurd (cc)
-four (Some a) (Some b) (Some c) (Some d) w e =
-    record { b0 = a; b1 = b; b2 = c; b3 = d; is0 = refl; is1 = refl; is2 = refl; is3 = refl; sum = same-some (a + 256 * (b + 256 * (c + 256 * (d + 256 * 0)))) w e }
-
-if_some : (t : Bool) (o : Option ℕ) (w : ℕ) → cond t o None ≡ Some w → o ≡ Some w
-if_some true o w e = e
-if_some false o w e = absurd (cc)
-
-pub fetched : (code : Bytes) (a w : ℕ) → a + 3 < 2 ^ 64 → word_in code a ≡ Some w → FourBytes (code a) (code (a + 1)) (code (a + 2)) (code (a + 3)) w
-fetched code a w low e =
-    let s1 : after a ≡ a + 1 = omega (arith, low) in
-    let s2 : after (after a) ≡ a + 2 = omega (arith, low) in
-    let s3 : after (after (after a)) ≡ a + 3 = omega (arith, low) in
-    let there = four (code a) (code (after a)) (code (after (after a))) (code (after (after (after a)))) w (if_some (nat_lt (a + 3) (2 ^ 64)) (cond (inside 4 code a) (Some (load 4 code a)) None) w e) in
-    record {
-      b0 = there.b0;
-      b1 = there.b1;
-      b2 = there.b2;
-      b3 = there.b3;
-      is0 = there.is0;
-      is1 = ap code (sym s1) ∙ there.is1;
-      is2 = ap code (sym s2) ∙ there.is2;
-      is3 = ap code (sym s3) ∙ there.is3;
-      sum = there.sum;
-    }
-
-pub word-small : (code : Bytes) (a w : ℕ) → AreBytes code → FourBytes (code a) (code (a + 1)) (code (a + 2)) (code (a + 3)) w → w < 2 ^ 32
-word-small code a w bytes four =
-    let l0 = bytes a four.b0 four.is0 in
-    let l1 = bytes (a + 1) four.b1 four.is1 in
-    let l2 = bytes (a + 2) four.b2 four.is2 in
-    let l3 = bytes (a + 3) four.b3 four.is3 in
-    omega (arith, l0, l1, l2, l3, four.sum)
-
-pub word-bytes : (code : Bytes) (a w : ℕ) → AreBytes code → (four : FourBytes (code a) (code (a + 1)) (code (a + 2)) (code (a + 3)) w) → to_le_bytes w32 w ≡ four.b0 ∷ four.b1 ∷ four.b2 ∷ four.b3 ∷ []
-word-bytes code a w bytes four =
-    le_bytes_4 (four.b0 ∷ four.b1 ∷ four.b2 ∷ four.b3 ∷ []) w refl each (let s = four.sum in omega (arith, s))
-  where
-    each : (i : ℕ) → get_or (four.b0 ∷ four.b1 ∷ four.b2 ∷ four.b3 ∷ []) i 0 < 256
-    each zero = bytes a four.b0 four.is0
-    each (suc zero) = bytes (a + 1) four.b1 four.is1
-    each (suc (suc zero)) = bytes (a + 2) four.b2 four.is2
-    each (suc (suc (suc zero))) = bytes (a + 3) four.b3 four.is3
-    each (suc (suc (suc (suc i)))) = omega arith
-
 -- a byte of a word's code is one of the word's bytes
 pub code-byte : (a : ℕ) (bs : List ℕ) (q b : ℕ) → option_or (bytes_from a bs q) None ≡ Some b → (k : ℕ) × (q ≡ a + k) × (slice_get bs k ≡ Some b)
 code-byte a bs q b e = go (leb a q) refl e
@@ -246,21 +172,22 @@ code-byte a bs q b e = go (leb a q) refl e
     go true le e = let low = leb-true a q le in (q - a, omega (arith, low), none (slice_get bs (q - a)) e)
     go false le e = absurd (cc)
 
-code-within : (code : Bytes) (a w : ℕ) (ranges : List Range) → AreBytes code → FourBytes (code a) (code (a + 1)) (code (a + 2)) (code (a + 3)) w →
-    ((k b : ℕ) → k < 4 → code (a + k) ≡ Some b → range_bytes ranges (a + k) ≡ Some b) → IsWithin (range_bytes (word_code a w)) (range_bytes ranges)
-code-within code a w ranges bytes four have q b e =
-    let at = code-byte a (to_le_bytes w32 w) q b e in
-    subst (λ x. range_bytes ranges x ≡ Some b) (sym at.1) (by at.0 ((λ i. slice_get (sym (word-bytes code a w bytes four) i) at.0) ∙ at.2))
-  where
-    none : a ≡ a + 0
-    none = omega arith
+within-code : (code : Bytes) (a w : ℕ) (ranges : List Range) → AreBytes code → a + length_of w ≤ 2 ^ 64 → number_at code a ≡ Some w →
+    ((k b : ℕ) → k < length_of w → code (a + k) ≡ Some b → range_bytes ranges (a + k) ≡ Some b) → IsWithin (range_bytes (word_code a w)) (range_bytes ranges)
+within-code code a w ranges bytes room there have q b e =
+    let at = code-byte a (bytes_of w) q b e in
+    let low : at.0 < length_of w = omega (arith, slice_get_within (bytes_of w) at.0 b at.2, bytes-long w) in
+    subst (λ x. range_bytes ranges x ≡ Some b) (sym at.1) (have at.0 b low (number-bytes code a w bytes room there at.0 low ∙ at.2))
 
-    by : (k : ℕ) → slice_get (four.b0 ∷ four.b1 ∷ four.b2 ∷ four.b3 ∷ []) k ≡ Some b → range_bytes ranges (a + k) ≡ Some b
-    by zero e = have 0 b (omega arith) (ap code (sym none) ∙ four.is0 ∙ e)
-    by (suc zero) e = have 1 b (omega arith) (four.is1 ∙ e)
-    by (suc (suc zero)) e = have 2 b (omega arith) (four.is2 ∙ e)
-    by (suc (suc (suc zero))) e = have 3 b (omega arith) (four.is3 ∙ e)
-    by (suc (suc (suc (suc k)))) e = absurd (cc)
+same-some : (a b : ℕ) → Some a ≡ Some b → a ≡ b
+same-some a b e = cc
+
+pub long-enough : (w : ℕ) → 2 ≤ length_of w
+long-enough w = by_test (is_word w)
+  where
+    by_test : (t : Bool) → 2 ≤ cond t 4 2
+    by_test true = omega arith
+    by_test false = omega arith
 
 -- ---- nodes
 
@@ -278,40 +205,41 @@ module _ (code : Bytes) (entry : ℕ) (g : GraphOf) (f : ForestOf) (parts : List
   stands : (n : ℕ) → n < length g.addrs → StandsIn code (address n) (instr_at n)
   stands n lt = graph_stands code entry g n (instr_at n) graph lt (slice_get-get_or g.instrs n instr.Ebreak (instructed n lt))
 
-  named : (n w : ℕ) → w < 2 ^ 32 → decoded w ≡ Some (instr_at n) → NamesRegisters (instr_at n)
-  named n w low is = decoded_named w (Some (instr_at n)) low (sym is)
+  -- the number that stands at a node
+  number-there : (n : ℕ) → n < length g.addrs → (number_at code (address n) ≡ Some (get_or g.numbers n 0)) × (address n + length_of (get_or g.numbers n 0) ≤ 2 ^ 64)
+  number-there n lt = (number_in-is code (address n) (get_or g.numbers n 0)).0 (graph_numbers code entry g n graph lt)
 
-  -- the instruction of a node, as the word that stands there
-  node-stands : (n : ℕ) (lt : n < length g.addrs) → StandsAt (flow_of g f parts) ranges (stands n lt).word n
+  number-is : (n : ℕ) → n < length g.addrs → instruction_of (get_or g.numbers n 0) ≡ Some (instr_at n)
+  number-is n lt = let at = stands n lt in let same : at.number ≡ get_or g.numbers n 0 = same-some at.number (get_or g.numbers n 0) (sym at.there ∙ graph_numbers code entry g n graph lt) in ap instruction_of (sym same) ∙ at.is
+
+  -- the instruction of a node, as what stands there
+  node-stands : (n : ℕ) → n < length g.addrs → StandsAt (flow_of g f parts) ranges n
   node-stands n lt =
       let at = stands n lt in
-      let below = at.below in
-      let there = fetched code (address n) at.word below at.there in
-      let small = word-small code (address n) at.word bytes there in
-      let names = are-small (instr_at n) (named n at.word small at.is) in
+      let there = number-there n lt in
+      let small = number-small code (address n) (get_or g.numbers n 0) bytes there.0 in
+      let is = number-is n lt in
+      let names = are-small (instr_at n) (instruction-named (get_or g.numbers n 0) (instr_at n) small is) in
+      let room = there.1 in
       record {
-        address = omega (arith, below);
-        even = at.aligned;
+        address = omega (arith, room, long-enough (get_or g.numbers n 0));
+        even = at.even;
+        room = room;
         small = small;
-        is = at.is;
-        bytes = code-within code (address n) at.word ranges bytes there (λ k b low e. have n k b lt low e);
+        is = is;
+        bytes = within-code code (address n) (get_or g.numbers n 0) ranges bytes room there.0 (λ k b low e. have n k b lt low e);
         reads = λ r c some. registered g.instrs n r instr.Ebreak (instructed n lt) (or_right (eqb (destination (instr_at n)) r) (is_read (instr_at n) r) (in-true (sources (instr_at n)) r c)) some
             (small-at (sources (instr_at n)) r names.1 c);
         writes = λ some. registered g.instrs n (destination (instr_at n)) instr.Ebreak (instructed n lt)
             (or_left (eqb (destination (instr_at n)) (destination (instr_at n))) (is_read (instr_at n) (destination (instr_at n))) (eq-eqb (destination (instr_at n)) (destination (instr_at n)) refl)) some names.0;
         memory = λ e. any-at has_memory g.instrs n instr.Ebreak (instructed n lt) e;
         form = λ form e. form-is (address n) (instr_at n) form at.fine e;
-        goes = λ form v e. target-is (address n) (instr_at n) form v e ∙ ap Const (sym (edge-at code entry g f parts graph forest n form lt e).1);
+        goes = λ form v e. target-is (address n) (length_of (get_or g.numbers n 0)) (instr_at n) form v e ∙ ap Const (sym (edge-at code entry g f parts graph forest n form lt e).1);
         return_is = λ e. return-is (address n) (instr_at n) at.fine e;
       }
 
-  word_at : ℕ → ℕ
-  word_at n = unwrap_or (word_in code (address n)) 0
-
   pub is-code : IsCode (flow_of g f parts) ranges
-  unfolding word_at
   is-code = record {
-    word = word_at;
-    each = λ n lt. subst (λ w. StandsAt (flow_of g f parts) ranges w n) (ap (λ o. unwrap_or o 0) (sym (stands n lt).there)) (node-stands n lt);
+    each = node-stands;
     registers = registers-rise g.instrs;
   }

@@ -1,6 +1,7 @@
 -- A graph and its forest are what bodies of parts rest on.
 use Rattle.std.proofs.Common.{◌≡◌, ◌≢◌, ℕ, zero, suc, ◌+◌, ◌-◌, ◌<◌, List, [], ◌∷◌, map, length, get_or, Bool, true, false, cond, eqb, ltb, ◌||◌, refl, sym, ap, subst, ◌∙◌, arith, Option, None, Some, option_map, inl, inr, eq-eqb}
 use Rattle.std.proofs.lemmas.Bool.{eqb-false, lt-ltb}
+use Rattle.std.specs.Option.{unwrap_or}
 use Rattle.std.specs.Prelude.{slice_get}
 use Rattle.std.specs.List.{Contains, list_any}
 use Rattle.rv_words.specs.Bytes.{Bytes}
@@ -8,9 +9,10 @@ use Rattle.rv_decode.specs.declared.instruction.Instr.{Instr}
 use Rattle.rv_decode.specs.declared.instruction.Instr.TheVariants as instr
 use Rattle.triple_kernel.specs.declared.form.Form.{Form}
 use Rattle.triple_kernel.specs.declared.form.Form.TheVariants.{Next, Taken}
-use Rattle.flow_graph.specs.Flow.{leads, targets}
+use Rattle.rvc.specs.Number.{length_of}
+use Rattle.flow_graph.specs.Flow.{leads, length_in, targets}
 use Rattle.flow_graph.specs.Graph.{GraphOf, HasEdge, IsFlow, IsGraphOf, succs_of}
-use Rattle.flow_graph.proofs.ExactLemmas.{graph_looks}
+use Rattle.flow_graph.proofs.ExactLemmas.{graph_looks, graph_numbers}
 use Rattle.flow_graph.proofs.FlowLemmas.{is_flow}
 use Rattle.flow_graph.proofs.GraphLaws.{successors_are}
 use Rattle.flow_graph.proofs.Ways.{node_at}
@@ -64,45 +66,45 @@ mapped-none h (n ∷ ns) e = absurd (cc)
 -- ---- edges
 
 -- where an instruction has an edge in a form, it leads to a target
-pub has-target : (a : ℕ) (i : Instr) (form : Form) → has_edge i form ≡ true → edge_number form < length (targets a i)
-has-target a (instr.Branch c rs1 rs2 offset) Next e = omega arith
-has-target a (instr.Branch c rs1 rs2 offset) Taken e = omega arith
-has-target a (instr.Jalr rd rs1 imm) form e = absurd (cc)
-has-target a (instr.Op o rd rs1 rs2) Next e = omega arith
-has-target a (instr.Op o rd rs1 rs2) Taken e = absurd (cc)
-has-target a (instr.OpImm o rd rs1 imm) Next e = omega arith
-has-target a (instr.OpImm o rd rs1 imm) Taken e = absurd (cc)
-has-target a (instr.Lui rd imm) Next e = omega arith
-has-target a (instr.Lui rd imm) Taken e = absurd (cc)
-has-target a (instr.Auipc rd imm) Next e = omega arith
-has-target a (instr.Auipc rd imm) Taken e = absurd (cc)
-has-target a (instr.Jal rd offset) Next e = omega arith
-has-target a (instr.Jal rd offset) Taken e = absurd (cc)
-has-target a (instr.Load w signed rd rs1 imm) Next e = omega arith
-has-target a (instr.Load w signed rd rs1 imm) Taken e = absurd (cc)
-has-target a (instr.Store w rs1 rs2 imm) Next e = omega arith
-has-target a (instr.Store w rs1 rs2 imm) Taken e = absurd (cc)
-has-target a (instr.Fence imm rs1 rd) Next e = omega arith
-has-target a (instr.Fence imm rs1 rd) Taken e = absurd (cc)
-has-target a instr.Ecall Next e = omega arith
-has-target a instr.Ecall Taken e = absurd (cc)
-has-target a instr.Ebreak Next e = omega arith
-has-target a instr.Ebreak Taken e = absurd (cc)
+pub has-target : (a k : ℕ) (i : Instr) (form : Form) → has_edge i form ≡ true → edge_number form < length (targets a k i)
+has-target a k (instr.Branch c rs1 rs2 offset) Next e = omega arith
+has-target a k (instr.Branch c rs1 rs2 offset) Taken e = omega arith
+has-target a k (instr.Jalr rd rs1 imm) form e = absurd (cc)
+has-target a k (instr.Op o rd rs1 rs2) Next e = omega arith
+has-target a k (instr.Op o rd rs1 rs2) Taken e = absurd (cc)
+has-target a k (instr.OpImm o rd rs1 imm) Next e = omega arith
+has-target a k (instr.OpImm o rd rs1 imm) Taken e = absurd (cc)
+has-target a k (instr.Lui rd imm) Next e = omega arith
+has-target a k (instr.Lui rd imm) Taken e = absurd (cc)
+has-target a k (instr.Auipc rd imm) Next e = omega arith
+has-target a k (instr.Auipc rd imm) Taken e = absurd (cc)
+has-target a k (instr.Jal rd offset) Next e = omega arith
+has-target a k (instr.Jal rd offset) Taken e = absurd (cc)
+has-target a k (instr.Load w signed rd rs1 imm) Next e = omega arith
+has-target a k (instr.Load w signed rd rs1 imm) Taken e = absurd (cc)
+has-target a k (instr.Store w rs1 rs2 imm) Next e = omega arith
+has-target a k (instr.Store w rs1 rs2 imm) Taken e = absurd (cc)
+has-target a k (instr.Fence imm rs1 rd) Next e = omega arith
+has-target a k (instr.Fence imm rs1 rd) Taken e = absurd (cc)
+has-target a k instr.Ecall Next e = omega arith
+has-target a k instr.Ecall Taken e = absurd (cc)
+has-target a k instr.Ebreak Next e = omega arith
+has-target a k instr.Ebreak Taken e = absurd (cc)
 
 -- a return has none
-no-target : (a : ℕ) (i : Instr) → is_return i ≡ true → targets a i ≡ []
-no-target a (instr.Jalr rd rs1 imm) e = refl
-no-target a (instr.Branch c rs1 rs2 offset) e = absurd (cc)
-no-target a (instr.Op o rd rs1 rs2) e = absurd (cc)
-no-target a (instr.OpImm o rd rs1 imm) e = absurd (cc)
-no-target a (instr.Lui rd imm) e = absurd (cc)
-no-target a (instr.Auipc rd imm) e = absurd (cc)
-no-target a (instr.Jal rd offset) e = absurd (cc)
-no-target a (instr.Load w signed rd rs1 imm) e = absurd (cc)
-no-target a (instr.Store w rs1 rs2 imm) e = absurd (cc)
-no-target a (instr.Fence imm rs1 rd) e = absurd (cc)
-no-target a instr.Ecall e = absurd (cc)
-no-target a instr.Ebreak e = absurd (cc)
+no-target : (a k : ℕ) (i : Instr) → is_return i ≡ true → targets a k i ≡ []
+no-target a k (instr.Jalr rd rs1 imm) e = refl
+no-target a k (instr.Branch c rs1 rs2 offset) e = absurd (cc)
+no-target a k (instr.Op o rd rs1 rs2) e = absurd (cc)
+no-target a k (instr.OpImm o rd rs1 imm) e = absurd (cc)
+no-target a k (instr.Lui rd imm) e = absurd (cc)
+no-target a k (instr.Auipc rd imm) e = absurd (cc)
+no-target a k (instr.Jal rd offset) e = absurd (cc)
+no-target a k (instr.Load w signed rd rs1 imm) e = absurd (cc)
+no-target a k (instr.Store w rs1 rs2 imm) e = absurd (cc)
+no-target a k (instr.Fence imm rs1 rd) e = absurd (cc)
+no-target a k instr.Ecall e = absurd (cc)
+no-target a k instr.Ebreak e = absurd (cc)
 
 not_zero : (n : ℕ) → eqb n 0 ≡ false → n ≢ 0
 not_zero n e = eqb-false n 0 e
@@ -127,12 +129,14 @@ module _ (code : Bytes) (entry : ℕ) (g : GraphOf) (f : ForestOf) (parts : List
   instr_at n = get_or g.instrs n instr.Ebreak
 
   -- the edges of a node lead to the targets of its instruction
-  pub successors : (n : ℕ) → n < length g.addrs → map (λ m. get_or g.addrs m 0) (succs_of g.edges n) ≡ targets (get_or g.addrs n 0) (get_or g.instrs n instr.Ebreak)
-  successors n lt = successors_are code entry g n graph lt ∙ ap (leads (address n)) (graph_looks code entry g graph n instr.Ebreak lt)
+  pub successors : (n : ℕ) → n < length g.addrs → map (λ m. get_or g.addrs m 0) (succs_of g.edges n) ≡ targets (get_or g.addrs n 0) (length_of (get_or g.numbers n 0)) (get_or g.instrs n instr.Ebreak)
+  successors n lt =
+      successors_are code entry g n graph lt ∙ ap (leads (address n) (length_in code (address n))) (graph_looks code entry g graph n instr.Ebreak lt)
+      ∙ (λ j. targets (address n) (length_of (unwrap_or (graph_numbers code entry g n graph lt j) 0)) (get_or g.instrs n instr.Ebreak))
 
   pub edge-at : (n : ℕ) (form : Form) → n < length g.addrs → has_edge (get_or g.instrs n instr.Ebreak) form ≡ true →
-      (edge_number form < length (succs_of g.edges n)) × (get_or g.addrs (get_or (succs_of g.edges n) (edge_number form) 0) 0 ≡ get_or (targets (get_or g.addrs n 0) (get_or g.instrs n instr.Ebreak)) (edge_number form) 0)
-  edge-at n form lt has = mapped-at (λ m. get_or g.addrs m 0) (succs_of g.edges n) (targets (address n) (instr_at n)) (edge_number form) (successors n lt) (has-target (address n) (instr_at n) form has)
+      (edge_number form < length (succs_of g.edges n)) × (get_or g.addrs (get_or (succs_of g.edges n) (edge_number form) 0) 0 ≡ get_or (targets (get_or g.addrs n 0) (length_of (get_or g.numbers n 0)) (get_or g.instrs n instr.Ebreak)) (edge_number form) 0)
+  edge-at n form lt has = mapped-at (λ m. get_or g.addrs m 0) (succs_of g.edges n) (targets (address n) (length_of (get_or g.numbers n 0)) (instr_at n)) (edge_number form) (successors n lt) (has-target (address n) (length_of (get_or g.numbers n 0)) (instr_at n) form has)
 
   pub edge : (n m : ℕ) → n < length g.addrs → IsEdge (flow_of g f parts) n m → HasEdge g n m
   edge n m lt x = subst (Contains (succs_of g.edges n)) x.2 (node_at (succs_of g.edges n) (edge_number x.0) (edge-at n x.0 lt x.1).0)
@@ -203,4 +207,4 @@ module _ (code : Bytes) (entry : ℕ) (g : GraphOf) (f : ForestOf) (parts : List
       instructed n lt = omega (arith, lt, flow.as_long)
 
       no-edges : (n : ℕ) → n < length g.addrs → is_return (instr_at n) ≡ true → succs_of g.edges n ≡ []
-      no-edges n lt e = mapped-none (λ m. get_or g.addrs m 0) (succs_of g.edges n) (successors n lt ∙ no-target (address n) (instr_at n) e)
+      no-edges n lt e = mapped-none (λ m. get_or g.addrs m 0) (succs_of g.edges n) (successors n lt ∙ no-target (address n) (length_of (get_or g.numbers n 0)) (instr_at n) e)

@@ -12,7 +12,7 @@ use Rattle.loop_forest.specs.Forest.{ForestOf, IsForestOf, exits_of, head_of, nu
 use Rattle.loop_forest.specs.Walking.{IsPlacedIn, inner_of, first_of, loop_of}
 use Rattle.code_parts.specs.declared.part.Part.{Part}
 use Rattle.code_parts.specs.declared.part.Part.TheVariants.{Loop, Rest}
-use Rattle.code_parts.specs.Bodies.{Flow, Place, Action, Straight, Fork, Return, action, action_body, arms_over, body_at, current, end_at, end_of, first, fresh, index_of, last_at, or_else, own, part_body, rest_arms, rest_body, rest_from, rest_targets, start, with_pc}
+use Rattle.code_parts.specs.Bodies.{size, Flow, Place, Action, Straight, Fork, Return, action, action_body, arms_over, body_at, current, end_at, end_of, first, fresh, index_of, last_at, or_else, own, part_body, rest_arms, rest_body, rest_from, rest_targets, start, with_pc}
 use Rattle.code_parts.specs.Graph.{ArmsBelow, CallsBelow, IsPart, IsPlaced}
 use Rattle.code_parts.specs.Flows.{flow_of, place_in, same_part, same_region}
 use Rattle.code_parts.specs.Order.{AreParts, StandsBefore, weight}
@@ -216,7 +216,7 @@ module _ (code : Bytes) (entry : ℕ) (g : GraphOf) (f : ForestOf) (parts : List
     arrives b on n w node region near m leads v = by (eqb (place_of f m) 0) refl
       where
         step : HasEdge g n m
-        step = edge code entry g f parts graph forest n m node (leads-edge (the_flow.instr n) (the_flow.addr n) (the_flow.to n) w m leads)
+        step = edge code entry g f parts graph forest n m node (leads-edge (the_flow.instr n) (the_flow.addr n) (size the_flow n) (the_flow.to n) w m leads)
 
         inside : m < length g.addrs
         inside = (flow code entry g f parts graph forest).within n m step

@@ -14,8 +14,8 @@ use Rattle.std.specs.List.{Contains, range_with_len}
 use Rattle.rv_words.specs.Bytes.{Bytes}
 use Rattle.rv_decode.specs.declared.instruction.Instr.TheVariants as instr
 use Rattle.flow_graph.specs.Graph.{GraphOf, IsGraphOf}
-use Rattle.flow_graph.proofs.FlowLemmas.{is_flow}
-use Rattle.flow_graph.proofs.Standing.{graph_stands}
+use Rattle.flow_graph.proofs.ExactLemmas.{graph_numbers}
+use Rattle.rvc.proofs.NumberLemmas.{number_in-is}
 use Rattle.loop_forest.specs.Forest.{ForestOf, IsForestOf, exits_of, number_of}
 use Rattle.code_parts.specs.declared.part.Part.{Part}
 use Rattle.code_parts.specs.declared.part.Part.TheVariants.{Loop, Rest}
@@ -25,7 +25,7 @@ use Rattle.code_parts.specs.Flows.{flow_of, registers_of}
 use Rattle.code_parts.specs.Order.{AreParts}
 use Rattle.code_parts.proofs.Lists.{contains-cases, here, later, length-map, rising-short, slice-mapped, slice-there}
 use Rattle.code_parts.proofs.FlowGraph.{flow, walks}
-use Rattle.code_parts.proofs.FlowCode.{registers-rise}
+use Rattle.code_parts.proofs.FlowCode.{long-enough, registers-rise}
 use Rattle.code_parts.proofs.FlowOrder.{never-before, part-at, place-below}
 
 -- ---- lists of different numbers
@@ -143,7 +143,7 @@ module _ (code : Bytes) (entry : ℕ) (g : GraphOf) (f : ForestOf) (parts : List
       exit-few l true is = forest.few l (ltb-true l (length f.heads) is)
       exit-few l false is = omega arith
 
-      below : (n : ℕ) → n < length g.addrs → get_or g.addrs n 0 + 3 < 2 ^ 64
+      below : (n : ℕ) → n < length g.addrs → get_or g.addrs n 0 + 2 ≤ 2 ^ 64
       below n lt =
-          let same = (is_flow code entry g graph).as_long in
-          (graph_stands code entry g n (get_or g.instrs n instr.Ebreak) graph lt (slice_get-get_or g.instrs n instr.Ebreak (omega (arith, lt, same)))).below
+          let room = ((number_in-is code (get_or g.addrs n 0) (get_or g.numbers n 0)).0 (graph_numbers code entry g n graph lt)).1 in
+          omega (arith, room, long-enough (get_or g.numbers n 0))

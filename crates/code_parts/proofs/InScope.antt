@@ -70,7 +70,7 @@ module _ (f : Flow) (v : Place) (is : IsIn f v) (i : Instr)
   abbrev IsWordIn : WordTree → Type 0
   IsWordIn t = WordInScope t v.words v.mems
 
-  source-in : (r : ℕ) → Contains (sources i) r → WordInScope (word_in (names v) r) v.words v.mems
+  pub source-in : (r : ℕ) → Contains (sources i) r → WordInScope (word_in (names v) r) v.words v.mems
   source-in r c = go (eqb r 0) refl
     where
       go : (b : Bool) → eqb r 0 ≡ b → WordInScope (cond b (Const 0) (Var (v.reg r))) v.words v.mems
@@ -80,7 +80,7 @@ module _ (f : Flow) (v : Place) (is : IsIn f v) (i : Instr)
   mem-in : has_memory i ≡ true → v.memory < v.mems
   mem-in e = is.memory (memory e)
 
-first : (r : ℕ) (rs : List ℕ) → Contains (r ∷ rs) r
+pub first : (r : ℕ) (rs : List ℕ) → Contains (r ∷ rs) r
 first r rs = (0, omega arith, refl)
 
 second : (r q : ℕ) → Contains (r ∷ q ∷ []) q
@@ -105,8 +105,7 @@ needs-in f v is (instr.OpImm o rd rs1 imm) reads memory form = tt
 needs-in f v is (instr.Lui rd imm) reads memory form = tt
 needs-in f v is (instr.Auipc rd imm) reads memory form = tt
 needs-in f v is (instr.Jal rd offset) reads memory form = tt
-needs-in f v is (instr.Jalr rd rs1 imm) reads memory form =
-    let one = source-in f v is (instr.Jalr rd rs1 imm) reads memory rs1 (first rs1 []) in ((((one, tt), tt), tt), tt)
+needs-in f v is (instr.Jalr rd rs1 imm) reads memory form = tt
 needs-in f v is (instr.Branch c rs1 rs2 offset) reads memory Next =
     let i : Instr = instr.Branch c rs1 rs2 offset in
     ((source-in f v is i reads memory rs1 (first rs1 (rs2 ∷ [])), source-in f v is i reads memory rs2 (second rs1 rs2)), tt)
@@ -123,23 +122,23 @@ needs-in f v is (instr.Fence imm rs1 rd) reads memory form = tt
 needs-in f v is instr.Ecall reads memory form = tt
 needs-in f v is instr.Ebreak reads memory form = tt
 
-result-in : (f : Flow) (v : Place) → IsIn f v → (i : Instr) → Reads f i → Has f i → (a : ℕ) → WordInScope (result i a (names v)) v.words v.mems
-result-in f v is (instr.Op o rd rs1 rs2) reads memory a =
+result-in : (f : Flow) (v : Place) → IsIn f v → (i : Instr) → Reads f i → Has f i → (a k : ℕ) → WordInScope (result i a k (names v)) v.words v.mems
+result-in f v is (instr.Op o rd rs1 rs2) reads memory a k =
     let i : Instr = instr.Op o rd rs1 rs2 in
     (source-in f v is i reads memory rs1 (first rs1 (rs2 ∷ [])), source-in f v is i reads memory rs2 (second rs1 rs2))
-result-in f v is (instr.OpImm o rd rs1 imm) reads memory a = (source-in f v is (instr.OpImm o rd rs1 imm) reads memory rs1 (first rs1 []), tt)
-result-in f v is (instr.Lui rd imm) reads memory a = tt
-result-in f v is (instr.Auipc rd imm) reads memory a = tt
-result-in f v is (instr.Jal rd offset) reads memory a = tt
-result-in f v is (instr.Jalr rd rs1 imm) reads memory a = tt
-result-in f v is (instr.Branch c rs1 rs2 offset) reads memory a = tt
-result-in f v is (instr.Load w signed rd rs1 imm) reads memory a =
+result-in f v is (instr.OpImm o rd rs1 imm) reads memory a k = (source-in f v is (instr.OpImm o rd rs1 imm) reads memory rs1 (first rs1 []), tt)
+result-in f v is (instr.Lui rd imm) reads memory a k = tt
+result-in f v is (instr.Auipc rd imm) reads memory a k = tt
+result-in f v is (instr.Jal rd offset) reads memory a k = tt
+result-in f v is (instr.Jalr rd rs1 imm) reads memory a k = tt
+result-in f v is (instr.Branch c rs1 rs2 offset) reads memory a k = tt
+result-in f v is (instr.Load w signed rd rs1 imm) reads memory a k =
     let i : Instr = instr.Load w signed rd rs1 imm in
     loaded-in w signed (MemVar v.memory) (sum (names v) rs1 imm) v.words v.mems (mem-in f v is i reads memory refl) (source-in f v is i reads memory rs1 (first rs1 []), tt)
-result-in f v is (instr.Store w rs1 rs2 imm) reads memory a = tt
-result-in f v is (instr.Fence imm rs1 rd) reads memory a = tt
-result-in f v is instr.Ecall reads memory a = tt
-result-in f v is instr.Ebreak reads memory a = tt
+result-in f v is (instr.Store w rs1 rs2 imm) reads memory a k = tt
+result-in f v is (instr.Fence imm rs1 rd) reads memory a k = tt
+result-in f v is instr.Ecall reads memory a k = tt
+result-in f v is instr.Ebreak reads memory a k = tt
 
 stored-in : (f : Flow) (v : Place) → IsIn f v → (i : Instr) → Reads f i → Has f i → is_store i ≡ true → MemInScope (memory_after i (names v)) v.words v.mems
 stored-in f v is (instr.Op o rd rs1 rs2) reads memory e = absurd (cc)
@@ -157,13 +156,13 @@ stored-in f v is (instr.Fence imm rs1 rd) reads memory e = absurd (cc)
 stored-in f v is instr.Ecall reads memory e = absurd (cc)
 stored-in f v is instr.Ebreak reads memory e = absurd (cc)
 
-pub writes-in : (f : Flow) (v : Place) → IsIn f v → (i : Instr) → Reads f i → Has f i → (a : ℕ) → StepsInScope (writes i a v) v.words v.mems
-writes-in f v is i reads memory a = go (is_store i) refl (eqb (destination i) 0)
+pub writes-in : (f : Flow) (v : Place) → IsIn f v → (i : Instr) → Reads f i → Has f i → (a k : ℕ) → StepsInScope (writes i a k v) v.words v.mems
+writes-in f v is i reads memory a k = go (is_store i) refl (eqb (destination i) 0)
   where
-    go : (s : Bool) → is_store i ≡ s → (d : Bool) → StepsInScope (cond s (BindMem (memory_after i (names v)) ∷ []) (cond d [] (Bind (result i a (names v)) ∷ []))) v.words v.mems
+    go : (s : Bool) → is_store i ≡ s → (d : Bool) → StepsInScope (cond s (BindMem (memory_after i (names v)) ∷ []) (cond d [] (Bind (result i a k (names v)) ∷ []))) v.words v.mems
     go true e d = (stored-in f v is i reads memory e, tt)
     go false e true = tt
-    go false e false = (result-in f v is i reads memory a, tt)
+    go false e false = (result-in f v is i reads memory a k, tt)
 
 pub place-in : (f : Flow) (v : Place) → IsIn f v → (i : Instr) → IsIn f (place_after i v)
 place-in f v is i = go (is_store i) (eqb (destination i) 0)

@@ -10,7 +10,8 @@ use Rattle.rv_decode.specs.declared.instruction.Instr.{Instr}
 use Rattle.rv_decode.specs.declared.instruction.Instr.TheVariants.{Ebreak}
 use Rattle.rv_decode.specs.Registers.{destination, registers_where}
 use Rattle.instr_axioms.specs.Axiom.{is_own}
-use Rattle.rv_decode.proofs.EncodeLemmas.{decoded_named}
+use Rattle.rvc.proofs.ByteLemmas.{number-small}
+use Rattle.rvc.proofs.NumberLemmas.{instruction-named, number_in-is}
 use Rattle.triple_kernel.specs.declared.form.Form.{Form}
 use Rattle.flow_graph.specs.Graph.{GraphOf, succs_of}
 use Rattle.flow_graph.proofs.FlowLemmas.{is_flow}
@@ -22,10 +23,10 @@ use Rattle.code_parts.specs.declared.part.Part.{Part}
 use Rattle.code_parts.specs.declared.part.Part.TheVariants.{Loop, Rest}
 use Rattle.code_parts.specs.Regions.{IsOfRegion}
 use Rattle.code_parts.specs.Graph.{IsCode, IsGraph, IsPart, StandsAt, has_edge}
-use Rattle.code_parts.specs.Flows.{AreCodeOf, IsReached, IsWordAt, edge_number, flow_of, registers_of}
+use Rattle.code_parts.specs.Flows.{AreCodeOf, IsReached, edge_number, flow_of, registers_of}
 use Rattle.code_parts.specs.Kept.{FlowOf, IsKept, flow_in}
-use Rattle.code_parts.proofs.CodeOf.{have_code, stands_word}
-use Rattle.code_parts.proofs.FlowCode.{are-small, fetched, is-code, registers-rise, word-small}
+use Rattle.code_parts.proofs.CodeOf.{have_code}
+use Rattle.code_parts.proofs.FlowCode.{are-small, is-code, registers-rise}
 use Rattle.code_parts.proofs.FlowGraph.{edge-at, is-graph, walks}
 use Rattle.code_parts.proofs.Lists.{rising-short}
 
@@ -66,9 +67,8 @@ module _ (s : FlowOf) (reached : IsReached s.graph) (forest : IsForestOf s.graph
   writes_of n lt =
       let same = (is_flow reached.code reached.entry g reached.is).as_long in
       let at = graph_stands reached.code reached.entry g n (get_or g.instrs n Ebreak) reached.is lt (slice_get-get_or g.instrs n Ebreak (omega (arith, lt, same))) in
-      let four = fetched reached.code (get_or g.addrs n 0) at.word at.below at.there in
-      let small = word-small reached.code (get_or g.addrs n 0) at.word reached.bytes four in
-      (are-small (get_or g.instrs n Ebreak) (decoded_named at.word (Some (get_or g.instrs n Ebreak)) small (sym at.is))).0
+      let small = number-small reached.code (get_or g.addrs n 0) at.number reached.bytes ((number_in-is reached.code (get_or g.addrs n 0) at.number).0 at.there).0 in
+      (are-small (get_or g.instrs n Ebreak) (instruction-named at.number (get_or g.instrs n Ebreak) small at.is)).0
 
   -- an edge leads to a node
   edge_of : (n : ℕ) (form : Form) → n < length g.addrs → has_edge (get_or g.instrs n Ebreak) form ≡ true → get_or (succs_of g.edges n) (edge_number form) 0 < length g.addrs
@@ -103,8 +103,8 @@ module _ (g : GraphOf) (f : ForestOf) (parts : List Part) (regs : List ℕ) (mem
   pub code_stands : IsCode (flow_in s) s.code
   code_stands = is-code reached.code reached.entry s.graph s.forest s.parts s.code reached.is forest reached.bytes (have_code s.graph reached s.code whole_code)
 
-  pub word_stands : (n w : ℕ) → n < length s.graph.addrs → IsWordAt s.graph n w → StandsAt (flow_in s) s.code w n
-  word_stands n w lt at = stands_word (flow_in s) s.code n w code_stands lt at.0 at.1
+  pub word_stands : (n : ℕ) → n < length s.graph.addrs → StandsAt (flow_in s) s.code n
+  word_stands n lt = code_stands.each n lt
 
   pub writes_register : (n : ℕ) (i : Instr) → n < length s.graph.addrs → Some i ≡ slice_get s.graph.instrs n → destination i < 32
   writes_register n i lt at = subst (λ (z : Instr). destination z < 32) (get_or_from_slice_get s.graph.instrs n i Ebreak (sym at)) (writes_of s reached forest n lt)

@@ -18,12 +18,12 @@ use Rattle.rv_decode.specs.Registers.{sources}
 use Rattle.instr_axioms.specs.Terms.{has_memory, conditions}
 use Rattle.code_parts.specs.declared.part.Part.{Part}
 use Rattle.code_parts.specs.declared.part.Part.TheVariants.{Loop, Rest}
-use Rattle.code_parts.specs.Bodies.{Flow, Place, names, mem_count, current, fresh, start, with_pc, needs, writes, place_after, Action, Straight, Fork, Return, action_of, action, own, rest_targets, targets, returned, exits_of, rest_from, index_of, end_of, or_else, arms_over, last_at, rest_arms, end_at, action_body, body_at, rest_body, part_body}
+use Rattle.code_parts.specs.Bodies.{Flow, Place, size, names, mem_count, current, fresh, start, with_pc, needs, writes, place_after, Action, Straight, Fork, Return, action_of, action, own, rest_targets, targets, returned, exits_of, rest_from, index_of, end_of, or_else, arms_over, last_at, rest_arms, end_at, action_body, body_at, rest_body, part_body}
 use Rattle.code_parts.specs.Graph.{IsEdge, IsPart, IsPlaced, IsGraph, IsCode, StandsAt, HasPart, CallsBelow, ArmsBelow}
 use Rattle.code_parts.proofs.Counts.{all_words_after, all_mems_after, all-words, all-mems, need-words, need-mems}
 use Rattle.code_parts.proofs.Lists.{index-at, index-some, slice-map}
 use Rattle.code_parts.proofs.Edges.{Leads, leads-edge, Returns, returns-is, end-some}
-use Rattle.code_parts.proofs.InScope.{IsIn, fresh-in, current-scope, current-counts, needs-in, writes-in, place-in}
+use Rattle.code_parts.proofs.InScope.{IsIn, fresh-in, current-scope, current-counts, needs-in, source-in, first, writes-in, place-in}
 
 the_ret : (f : Flow) (q : Part) → own q ≡ None → f.returns ≡ true → slice_get (exits_of f q) 0 ≡ Some Ret
 the_ret f (Loop l) e t = absurd (cc)
@@ -50,24 +50,24 @@ ActionInScope f (Straight ss u to) v = StepsInScope ss v.words v.mems × (all_wo
 ActionInScope f (Fork c a b) v = CondInScope c v.words v.mems
 ActionInScope f (Return ss t) v = StepsInScope ss v.words v.mems × (all_words_after ss v.words ≡ v.words) × (all_mems_after ss v.mems ≡ v.mems) × WordInScope t v.words v.mems
 
-module _ (f : Flow) (ranges : List Range) (n w : ℕ) (at : StandsAt f ranges w n) (v : Place) (is : IsIn f v) where
-  straight : (i : Instr) → f.instr n ≡ i → (to : ℕ) → ActionInScope f (Straight (needs i v ++ writes i (f.addr n) v) (place_after i v) to) v
+module _ (f : Flow) (ranges : List Range) (n : ℕ) (at : StandsAt f ranges n) (v : Place) (is : IsIn f v) where
+  straight : (i : Instr) → f.instr n ≡ i → (to : ℕ) → ActionInScope f (Straight (needs i v ++ writes i (f.addr n) (size f n) v) (place_after i v) to) v
   straight i e to =
       let reads = subst (λ j. (r : ℕ) → Contains (sources j) r → (r ≡ 0 → ⊥) → Contains f.regs r) e at.reads in
       let memory = subst (λ j. has_memory j ≡ true → f.has_mem ≡ true) e at.memory in
       let cs : List CondTree = conditions i Next (names v) in (
-        steps-append (map Need cs) (writes i (f.addr n) v) v.words v.mems (needs-in f v is i reads memory Next)
-            (subst (λ q. StepsInScope (writes i (f.addr n) v) (all_words_after (map Need cs) v.words) q) (sym (need-mems cs v.mems))
-            (subst (λ x. StepsInScope (writes i (f.addr n) v) x v.mems) (sym (need-words cs v.words)) (writes-in f v is i reads memory (f.addr n)))),
-        all-words i (f.addr n) v,
-        all-mems i (f.addr n) v,
+        steps-append (map Need cs) (writes i (f.addr n) (size f n) v) v.words v.mems (needs-in f v is i reads memory Next)
+            (subst (λ q. StepsInScope (writes i (f.addr n) (size f n) v) (all_words_after (map Need cs) v.words) q) (sym (need-mems cs v.mems))
+            (subst (λ x. StepsInScope (writes i (f.addr n) (size f n) v) x v.mems) (sym (need-words cs v.words)) (writes-in f v is i reads memory (f.addr n) (size f n)))),
+        all-words i (f.addr n) (size f n) v,
+        all-mems i (f.addr n) (size f n) v,
         place-in f v is i,
       )
 
   action-in : ActionInScope f (action f n v) v
   action-in = go (f.instr n) refl
     where
-      go : (i : Instr) → f.instr n ≡ i → ActionInScope f (action_of i (f.addr n) (f.to n) v) v
+      go : (i : Instr) → f.instr n ≡ i → ActionInScope f (action_of i (f.addr n) (size f n) (f.to n) v) v
       go (instr.Op o rd rs1 rs2) e = straight (instr.Op o rd rs1 rs2) e (f.to n Next)
       go (instr.OpImm o rd rs1 imm) e = straight (instr.OpImm o rd rs1 imm) e (f.to n Next)
       go (instr.Lui rd imm) e = straight (instr.Lui rd imm) e (f.to n Next)
@@ -88,7 +88,7 @@ module _ (f : Flow) (ranges : List Range) (n w : ℕ) (at : StandsAt f ranges w 
           let reads = subst (λ j. (r : ℕ) → Contains (sources j) r → (r ≡ 0 → ⊥) → Contains f.regs r) e at.reads in
           let memory = subst (λ j. has_memory j ≡ true → f.has_mem ≡ true) e at.memory in
           let steps = needs-in f v is i reads memory Next in
-          (steps, refl, refl, (steps.0.0.0, tt))
+          (steps, refl, refl, ((source-in f v is i reads memory rs1 (first rs1 []), tt), tt))
 
 -- ---- the bodies of a part
 
@@ -196,10 +196,10 @@ module _ (f : Flow) (g : GroupTree) (p : Part) (d : ℕ) (regs : g.regs ≡ f.re
   body_formed : (room : ℕ) → FormedFrom room
   body_formed zero n node region near v is ok = absurd (omega arith)
   body_formed (suc room) n node region near v is ok =
-      go (λ n node region near v is ok. body_formed room n node region near v is ok) (action f n v) refl (action-in f g.code n (code.word n) (code.each n node) v is) ok
+      go (λ n node region near v is ok. body_formed room n node region near v is ok) (action f n v) refl (action-in f g.code n (code.each n node) v is) ok
     where
       edge : (y : Action) → action f n v ≡ y → (m : ℕ) → Leads y m → IsEdge f n m
-      edge y e m leads = leads-edge (f.instr n) (f.addr n) (f.to n) v m (subst (λ z. Leads z m) (sym e) leads)
+      edge y e m leads = leads-edge (f.instr n) (f.addr n) (size f n) (f.to n) v m (subst (λ z. Leads z m) (sym e) leads)
 
       go : FormedFrom room → (y : Action) → action f n v ≡ y → ActionInScope f y v → CallsBelow d (action_body f p y v (body_at room f p)) → Formed (action_body f p y v (body_at room f p)) v.words v.mems
       go on (Straight ss u to) e h ok =
@@ -209,7 +209,7 @@ module _ (f : Flow) (g : GroupTree) (p : Part) (d : ℕ) (regs : g.regs ≡ f.re
       go on (Fork c x y) e h ok =
           (h, edge_formed room on n node region near x (edge (Fork c x y) e x (inl refl)) v is ok.0, edge_formed room on n node region near y (edge (Fork c x y) e y (inr refl)) v is ok.1)
       go on (Return ss t) e h ok =
-          let q = graph.returned n node (returns-is (f.instr n) (f.addr n) (f.to n) v (subst Returns (sym e) tt)) in
+          let q = graph.returned n node (returns-is (f.instr n) (f.addr n) (size f n) (f.to n) v (subst Returns (sym e) tt)) in
           let exit : slice_get (tree.exits_at g d) 0 ≡ Some Ret = (λ i. slice_get (mine i) 0) ∙ the_ret f p (sym region ∙ q.0) q.1 in
           let vals : ValuesTree = with_pc t (current f v) in
           let c = counts v in

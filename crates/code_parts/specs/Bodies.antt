@@ -10,6 +10,7 @@ use Rattle.tailrec_lang.specs.Tree.{ValuesTree, StepTree, Bind, BindMem, Need, B
 use Rattle.triple_kernel.specs.declared.form.Form.{Form}
 use Rattle.triple_kernel.specs.declared.form.Form.TheVariants.{Next, Taken}
 use Rattle.rv_decode.specs.Registers.{destination}
+use Rattle.rvc.specs.Number.{length_of}
 use Rattle.instr_axioms.specs.Terms.{Names, word_in, conditions, result, memory_after, pc_after}
 use Rattle.instr_axioms.specs.Axiom.{memory_if}
 use Rattle.code_parts.specs.declared.part.Part.{Part}
@@ -17,8 +18,8 @@ use Rattle.code_parts.specs.declared.part.Part.TheVariants.{Loop, Rest}
 
 -- ---- what a graph and its loops tell
 
--- The nodes and the loops have numbers from 0 on. A node has an address, an instruction, and a node where it goes on in
--- each form. `loop_of` is the loop whose head a node is, and `around` the smallest loop that has it, where a head counts
+-- The nodes and the loops have numbers from 0 on. A node has an address, a parcel or word, its instruction, and a node where it
+-- goes on in each form. `loop_of` is the loop whose head a node is, and `around` the smallest loop that has it, where a head counts
 -- as a node of the region around its loop; `None` is the whole function. A loop has a head and exit targets, which rise.
 -- `returns` tells whether an instruction returns, and `number` which definition each part has. The group's registers
 -- rise, and it may have a memory.
@@ -26,6 +27,7 @@ pub record Flow : Type 0 where
   pub nodes : ℕ
   pub loops : ℕ
   pub addr : ℕ → ℕ
+  pub word : ℕ → ℕ
   pub instr : ℕ → Instr
   pub to : ℕ → Form → ℕ
   pub is_cut : ℕ → Bool
@@ -93,15 +95,15 @@ stored v = record { words = v.words; mems = suc v.mems; reg = v.reg; memory = v.
 abbrev pub place_after : Instr → Place → Place
 place_after i v = if is_store i then stored v else wrote (destination i) v
 
--- the conditions of its access or of its return
+-- the conditions of its access
 abbrev pub needs : Instr → Place → List StepTree
 needs i v = map Need (conditions i Next (names v))
 
 -- what it writes
-abbrev pub writes : Instr → ℕ → Place → List StepTree
-writes i a v =
+abbrev pub writes : Instr → ℕ → ℕ → Place → List StepTree
+writes i a k v =
     if is_store i then BindMem (memory_after i (names v)) ∷ []
-    else (if destination i == 0 then [] else Bind (result i a (names v)) ∷ [])
+    else (if destination i == 0 then [] else Bind (result i a k (names v)) ∷ [])
 
 -- What a definition has for an instruction: steps, and the node where it goes on; two nodes, the first where the condition
 -- holds; or steps, and the address to which it returns.
@@ -110,15 +112,19 @@ pub data Action : Type 0 where
   Fork : (c : CondTree) (taken next : ℕ) → Action
   Return : (steps : List StepTree) (pc : WordTree) → Action
 
--- the instruction at a, which goes on to these nodes. Among jumps through a register there is the return alone.
-abbrev pub action_of : Instr → ℕ → (Form → ℕ) → Place → Action
-action_of (instr.Branch c rs1 rs2 offset) a to v = Fork (Compare c (word_in (names v) rs1) (word_in (names v) rs2)) (to Taken) (to Next)
-action_of (instr.Jalr rd rs1 imm) a to v =
-    Return (needs (instr.Jalr rd rs1 imm) v) (pc_after (instr.Jalr rd rs1 imm) Next a (names v))
-action_of i a to v = Straight (needs i v ++ writes i a v) (place_after i v) (to Next)
+-- the instruction of k bytes at a, which goes on to these nodes. Among jumps through a register there is the return alone.
+abbrev pub action_of : Instr → ℕ → ℕ → (Form → ℕ) → Place → Action
+action_of (instr.Branch c rs1 rs2 offset) a k to v = Fork (Compare c (word_in (names v) rs1) (word_in (names v) rs2)) (to Taken) (to Next)
+action_of (instr.Jalr rd rs1 imm) a k to v =
+    Return (needs (instr.Jalr rd rs1 imm) v) (pc_after (instr.Jalr rd rs1 imm) Next a k (names v))
+action_of i a k to v = Straight (needs i v ++ writes i a k v) (place_after i v) (to Next)
+
+-- how many bytes the instruction of a node has
+abbrev pub size : Flow → ℕ → ℕ
+size f n = length_of (f.word n)
 
 abbrev pub action : Flow → ℕ → Place → Action
-action f n v = action_of (f.instr n) (f.addr n) (f.to n) v
+action f n v = action_of (f.instr n) (f.addr n) (size f n) (f.to n) v
 
 -- ---- parts
 

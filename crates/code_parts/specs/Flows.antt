@@ -5,7 +5,7 @@ use Rattle.rv_words.specs.Bytes.{Bytes, AreBytes}
 use Rattle.rv_words.specs.declared.range.Range.{Range}
 use Rattle.rv_words.specs.Ranges.{AreRanges, range_bytes}
 use Rattle.sep_assert.specs.Code.{IsWithin}
-use Rattle.rv_decode.specs.Decodes.{decoded}
+use Rattle.rvc.specs.Number.{length_of}
 use Rattle.rv_decode.specs.declared.instruction.Instr.{Instr}
 use Rattle.rv_decode.specs.declared.instruction.Instr.TheVariants.{Ebreak}
 use Rattle.rv_decode.specs.Registers.{registers_where}
@@ -56,6 +56,7 @@ flow_of g f parts = record {
   nodes = length g.addrs;
   loops = length f.heads;
   addr = λ n. slice_index g.addrs n;
+  word = λ n. slice_index g.numbers n;
   instr = λ n. slice_index_or g.instrs n Ebreak;
   to = λ n form. slice_index (succs_of g.edges n) (edge_number form);
   is_cut = λ n. place_of f n == 0;
@@ -77,9 +78,9 @@ group_over f name code defs = record { name = name; regs = f.regs; mems = mem_co
 abbrev pub group_of : Flow → List ℕ → List Range → List Part → GroupTree
 group_of f name ranges parts = record { name = name; regs = f.regs; mems = mem_count f; code = ranges; defs = map (part_def f) parts }
 
--- the four bytes of each node's instruction are in the ranges
+-- the bytes of each node's instruction are in the ranges
 abbrev pub HaveCode : GraphOf → Bytes → List Range → Type 0
-HaveCode g code ranges = (n k b : ℕ) → n < length g.addrs → k < 4 → code (slice_index g.addrs n + k) ≡ Some b → range_bytes ranges (slice_index g.addrs n + k) ≡ Some b
+HaveCode g code ranges = (n k b : ℕ) → n < length g.addrs → k < length_of (slice_index g.numbers n) → code (slice_index g.addrs n + k) ≡ Some b → range_bytes ranges (slice_index g.addrs n + k) ≡ Some b
 
 -- the graph of some code that is reached
 pub record IsReached (g : GraphOf) : Type 0 where
@@ -88,12 +89,12 @@ pub record IsReached (g : GraphOf) : Type 0 where
   pub bytes : AreBytes code
   pub is : IsGraphOf code entry g
 
--- the node's instruction is that word
-abbrev pub IsWordAt : GraphOf → ℕ → ℕ → Type 0
-IsWordAt g n w = (w < 2 ^ 32) × (decoded w ≡ Some (slice_index_or g.instrs n Ebreak))
+-- the bytes of a node's instruction
+abbrev pub node_code : GraphOf → ℕ → Bytes
+node_code g n = range_bytes (word_code (slice_index g.addrs n) (slice_index g.numbers n))
 
 -- exactly the bytes of the nodes' instructions, in order
 pub record AreCodeOf (g : GraphOf) (ranges : List Range) : Type 0 where
   pub order : AreRanges ranges
-  pub each : (n w : ℕ) → n < length g.addrs → IsWordAt g n w → IsWithin (range_bytes (word_code (slice_index g.addrs n) w)) (range_bytes ranges)
-  pub only : (a b : ℕ) → range_bytes ranges a ≡ Some b → (n : ℕ) × (w : ℕ) × (n < length g.addrs) × IsWordAt g n w × (range_bytes (word_code (slice_index g.addrs n) w) a ≡ Some b)
+  pub each : (n : ℕ) → n < length g.addrs → IsWithin (node_code g n) (range_bytes ranges)
+  pub only : (a b : ℕ) → range_bytes ranges a ≡ Some b → (n : ℕ) × (n < length g.addrs) × (node_code g n a ≡ Some b)

@@ -1,10 +1,10 @@
 -- What graphs and loops are like: laws that the bodies of parts rest on.
-use Rattle.std.specs.Prelude.{◌≡◌, ◌⊎◌, ℕ, ◌<◌, ◌≤◌, ◌^◌, Bool, true, false, Option, Some, None, List, map, length, slice_get, pos}
+use Rattle.std.specs.Prelude.{◌≡◌, ◌⊎◌, ℕ, ◌+◌, ◌<◌, ◌≤◌, ◌^◌, Bool, true, false, Option, Some, None, List, map, length, slice_get, pos}
 use Rattle.std.specs.List.{Contains}
 use Rattle.rv_decode.specs.declared.instruction.Instr.{Instr}
 use Rattle.rv_decode.specs.declared.instruction.Instr.TheVariants as instr
-use Rattle.rv_decode.specs.Decodes.{decoded}
-use Rattle.rv_machine.specs.Step.{is_aligned}
+use Rattle.rvc.specs.Number.{instruction_of, length_of}
+use Rattle.rv_machine.specs.Step.{is_even}
 use Rattle.word_terms.specs.Tree.{Const}
 use Rattle.rv_words.specs.declared.range.Range.{Range}
 use Rattle.rv_words.specs.Ranges.{range_bytes}
@@ -18,7 +18,7 @@ use Rattle.instr_axioms.specs.Terms.{Names, has_memory, pc_after, has_form}
 use Rattle.instr_axioms.specs.Axiom.{word_code}
 use Rattle.code_parts.specs.declared.part.Part.{Part}
 use Rattle.code_parts.specs.declared.part.Part.TheVariants.{Loop, Rest}
-use Rattle.code_parts.specs.Bodies.{Flow, mem_count, first, exits_of, part_body, part_def, rest_targets, index_of}
+use Rattle.code_parts.specs.Bodies.{Flow, size, mem_count, first, exits_of, part_body, part_def, rest_targets, index_of}
 
 -- whether there is an edge from the instruction in that form: from a branch in both, from a return in none
 abbrev pub has_edge : Instr → Form → Bool
@@ -58,25 +58,25 @@ pub record IsGraph (f : Flow) : Type 0 where
   pub loop_head : (l : ℕ) → l < f.loops → (f.head l < f.nodes) × (inner (f.head l) ≡ Some l)
   pub loop_exit : (l k x : ℕ) → l < f.loops → slice_get (f.exits l) k ≡ Some x → (x < f.nodes) × (f.is_cut x ≡ true) × IsPlaced f (f.around (f.head l)) x
 
--- The instruction of the node stands in the code, as that word, and goes on as the graph says. Among jumps through a register there
--- is the return alone.
-pub record StandsAt (f : Flow) (code : List Range) (word n : ℕ) : Type 0 where
+-- The instruction of the node stands in the code, as its parcel or word, and goes on as the graph says. Among jumps through a register
+-- there is the return alone.
+pub record StandsAt (f : Flow) (code : List Range) (n : ℕ) : Type 0 where
   pub address : f.addr n < 2 ^ 64
-  pub even : is_aligned (f.addr n) ≡ true
-  pub small : word < 2 ^ 32
-  pub is : decoded word ≡ Some (f.instr n)
-  pub bytes : IsWithin (range_bytes (word_code (f.addr n) word)) (range_bytes code)
+  pub even : is_even (f.addr n) ≡ true
+  pub room : f.addr n + size f n ≤ 2 ^ 64
+  pub small : f.word n < 2 ^ 32
+  pub is : instruction_of (f.word n) ≡ Some (f.instr n)
+  pub bytes : IsWithin (range_bytes (word_code (f.addr n) (f.word n))) (range_bytes code)
   pub reads : (r : ℕ) → Contains (sources (f.instr n)) r → (r ≡ 0 → ⊥) → Contains f.regs r
   pub writes : (destination (f.instr n) ≡ 0 → ⊥) → Contains f.regs (destination (f.instr n))
   pub memory : has_memory (f.instr n) ≡ true → f.has_mem ≡ true
-  pub form : (form : Form) → has_edge (f.instr n) form ≡ true → has_form (f.instr n) form (f.addr n) ≡ true
-  pub goes : (form : Form) (v : Names) → has_edge (f.instr n) form ≡ true → pc_after (f.instr n) form (f.addr n) v ≡ Const (f.addr (f.to n form))
+  pub form : (form : Form) → has_edge (f.instr n) form ≡ true → has_form (f.instr n) form ≡ true
+  pub goes : (form : Form) (v : Names) → has_edge (f.instr n) form ≡ true → pc_after (f.instr n) form (f.addr n) (size f n) v ≡ Const (f.addr (f.to n form))
   pub return_is : is_return (f.instr n) ≡ true → f.instr n ≡ instr.Jalr 0 1 (pos 0)
 
 -- each instruction of the graph stands in the code, and its registers rise
 pub record IsCode (f : Flow) (code : List Range) : Type 0 where
-  pub word : ℕ → ℕ
-  pub each : (n : ℕ) → n < f.nodes → StandsAt f code (word n) n
+  pub each : (n : ℕ) → n < f.nodes → StandsAt f code n
   pub registers : AreRegistersFrom 1 f.regs
 
 -- the group has the definition of a part under its number, as far as a call of it tells: where it is entered and its exits

@@ -30,14 +30,15 @@ fn steps_of(
     alloc: Global,
     i: Instr,
     addr: u64,
+    length: u8,
     place: &Place,
     steps: List<Step>,
 ) -> Result<List<Step>, NoMemory>
-    ensures { IfOk result (λ ss. map step_tree ss ≡ map step_tree steps ++ (spec.needs i (place_of place.now) ++ spec.writes i addr (place_of place.now))) }
+    ensures { IfOk result (λ ss. map step_tree ss ≡ map step_tree steps ++ (spec.needs i (place_of place.now) ++ spec.writes i addr length (place_of place.now))) }
 {
     let mut steps = steps;
     add_needs(alloc, i, place, &mut steps)?;
-    add_writes(alloc, i, addr, place, &mut steps)?;
+    add_writes(alloc, i, addr, length, place, &mut steps)?;
     Ok(steps)
 }
 
@@ -48,14 +49,15 @@ fn returning_body(
     flow: &Flow<'_>,
     i: Instr,
     addr: u64,
+    length: u8,
     place: &Place,
     steps: List<Step>,
 ) -> Result<Body, NoMemory>
-    ensures { IfOk result (λ b. body_tree b ≡ with_steps (map step_tree steps) (returned_body (flow_in flow.now) i addr (place_of place.now))) }
+    ensures { IfOk result (λ b. body_tree b ≡ with_steps (map step_tree steps) (returned_body (flow_in flow.now) i addr length (place_of place.now))) }
 {
     let mut steps = steps;
     add_needs(alloc, i, place, &mut steps)?;
-    let pc = pc_after(alloc, i, Form::Next, addr, &place.names)?;
+    let pc = pc_after(alloc, i, Form::Next, addr, length, &place.names)?;
     let values = current(alloc, flow, place)?;
     let values = with_pc(alloc, pc, values)?;
     Ok(Body {
@@ -91,7 +93,7 @@ fn body_from(
     }
     let i = flow.instr(n);
     if is_jump_through(i) {
-        return returning_body(alloc, flow, i, flow.addr(n), place, steps);
+        return returning_body(alloc, flow, i, flow.addr(n), flow.size(n), place, steps);
     }
     match i {
         Instr::Branch { cmp, rs1, rs2, .. } => {
@@ -120,7 +122,7 @@ fn body_from(
             Ok(Body { steps, end })
         }
         _ => {
-            let steps = steps_of(alloc, i, flow.addr(n), place, steps)?;
+            let steps = steps_of(alloc, i, flow.addr(n), flow.size(n), place, steps)?;
             let next = after(i, *place);
             body_to(
                 alloc,

@@ -1,39 +1,16 @@
 //! The code of a graph.
 
-ghost use Rattle.std.specs.Prelude.{◌≡◌, ◌+◌, ◌<◌, ◌^◌, ℕ, IfOk, Some, length};
+ghost use Rattle.std.specs.Prelude.{◌≡◌, ◌+◌, ◌<◌, IfOk, length};
 ghost use Rattle.std.specs.List.{AllByRecursion};
-ghost use Rattle.rv_decode.specs.Decodes.{decoded};
-ghost use Rattle.code_parts.specs.Flows.{AreCodeOf, IsReached, IsWordAt};
+ghost use Rattle.code_parts.specs.Flows.{AreCodeOf, IsReached};
 ghost use Rattle.code_parts.specs.inner.Words.{AreCodeTo};
 
 use flow_graph::Graph;
 use instr_axioms::word_code;
-use rv_decode::{Instr, encode};
 use rv_words::{List, NoMemory, Range};
 use sep_assert::code_join;
 use std::alloc::Global;
 use word_terms::Code;
-
-/// The word of an instruction that was decoded.
-fn word_of(i: Instr) -> u32
-    requires { (w : ℕ) × (w < 2 ^ 32) × (decoded w ≡ Some i) }
-    ensures { decoded result ≡ Some i }
-{
-    match encode(&i) {
-        Some(w) => w,
-        None => 0,
-    }
-}
-
-/// The word of a node's instruction.
-pub fn node_word(graph: &Graph, n: u32) -> u32
-    requires reached { IsReached graph.now }
-    requires node { n < length graph.now.addrs }
-    ensures { IsWordAt graph.now n result }
-{
-    graph.len();
-    word_of(graph.instr(n))
-}
 
 /// This code, and that of the next node's instruction.
 fn with_node(alloc: Global, graph: &Graph, n: u32, code: &Code) -> Result<Code, NoMemory>
@@ -42,7 +19,7 @@ fn with_node(alloc: Global, graph: &Graph, n: u32, code: &Code) -> Result<Code, 
     requires code { AreCodeTo graph.now n code.now.ranges }
     ensures { IfOk result (λ c. AreCodeTo graph.now (n + 1) c.ranges) }
 {
-    let more = word_code(alloc, graph.addr(n), node_word(graph, n))?;
+    let more = word_code(alloc, graph.addr(n), graph.number(n))?;
     let all = code_join(alloc, code, &more)?;
     Ok(all)
 }

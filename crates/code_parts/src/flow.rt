@@ -3,13 +3,14 @@
 ghost use Rattle.std.specs.Prelude.{◌≡◌, ◌<◌, ◌≤◌, ◌^◌, IfOk, IfSome, drop, length, slice_index, true};
 ghost use Rattle.std.specs.List.{All};
 ghost use Rattle.loop_forest.specs.Forest.{IsForestOf};
+ghost use Rattle.code_parts.specs.Bodies.{size};
 ghost use Rattle.code_parts.specs.Graph.{IsCode, IsGraph, IsPart, StandsAt, has_edge};
-ghost use Rattle.code_parts.specs.Flows.{AreCodeOf, IsReached, IsWordAt, place_in, same_part};
+ghost use Rattle.code_parts.specs.Flows.{AreCodeOf, IsReached, place_in, same_part};
 ghost use Rattle.code_parts.specs.Regions.{IsOfRegion, IsRegion};
 ghost use Rattle.code_parts.specs.Kept.{flow_in};
 ghost use Rattle.rv_decode.specs.Registers.{destination};
 
-use crate::code::{code_of, node_word};
+use crate::code::code_of;
 use crate::part::Part;
 use crate::uses::{registers, returns, uses_memory};
 use flow_graph::{Edges, Graph};
@@ -17,6 +18,7 @@ use instr_axioms::Form;
 use loop_forest::Forest;
 use rv_decode::Instr;
 use rv_words::{List, NoMemory};
+use rvc::length_of;
 use std::alloc::Global;
 use std::marker::Model;
 use word_terms::Code;
@@ -193,13 +195,22 @@ impl<'a> Flow<'a> {
         &self.code
     }
 
-    /// The word of a node's instruction.
+    /// The parcel or word of a node's instruction.
     pub fn word(&self, n: u32) -> u32
         requires { n < (flow_in self.now).nodes }
-        ensures is { IsWordAt self.now.graph n result }
-        ensures stands { StandsAt (flow_in self.now) self.now.code result n }
+        ensures is { result ≡ (flow_in self.now).word n }
+        ensures stands { StandsAt (flow_in self.now) self.now.code n }
     {
-        node_word(self.graph, n)
+        let _count = self.graph.len();
+        self.graph.number(n)
+    }
+
+    /// How many bytes a node's instruction has.
+    pub fn size(&self, n: u32) -> u8
+        requires { n < (flow_in self.now).nodes }
+        ensures { result ≡ size (flow_in self.now) n }
+    {
+        length_of(self.word(n))
     }
 
     /// Each instruction stands in the code.

@@ -12,7 +12,7 @@ use rv_words::{List, NoMemory};
 use std::alloc::Global;
 use tailrec_lang::Step;
 
-/// Adds the condition of an access or of a return.
+/// Adds the condition of an access.
 pub fn add_needs(
     alloc: Global,
     i: Instr,
@@ -27,21 +27,22 @@ pub fn add_needs(
     Ok(())
 }
 
-/// Adds what an instruction writes.
+/// Adds what an instruction of that many bytes writes.
 pub fn add_writes(
     alloc: Global,
     i: Instr,
     addr: u64,
+    length: u8,
     place: &Place,
     steps: &mut List<Step>,
 ) -> Result<(), NoMemory>
-    ensures { OnOk result (map step_tree steps.new ≡ map step_tree steps.old ++ spec.writes i addr (place_of place.now)) }
+    ensures { OnOk result (map step_tree steps.new ≡ map step_tree steps.old ++ spec.writes i addr length (place_of place.now)) }
 {
     if let Instr::Store { .. } = i {
         let m = memory_after(alloc, i, &place.names)?;
         steps.push(Step::BindMem(m))?;
     } else if destination(&i) != 0 {
-        let t = result(alloc, i, addr, &place.names)?;
+        let t = result(alloc, i, addr, length, &place.names)?;
         steps.push(Step::Bind(t))?;
     }
     Ok(())
