@@ -1,28 +1,28 @@
 -- Runs from a place of code to a later one, and the steps that they are made of.
-use Rattle.std.proofs.Common.{◌≡◌, ◌≢◌, ℕ, ◌+◌, ◌*◌, ◌%◌, ◌^◌, ◌==◌, ◌<◌, ◌≤◌, ℤ, Bool, true, false, cond, Some, None, refl, sym, subst, ◌∙◌, arith}
-use Rattle.std.specs.Option.{option_and_then}
-use Rattle.std.proofs.Math.Nat.{mod-eq_of_lt, add-mul-mod_self_left}
+use Rattle.std.proofs.Common.{◌≡◌, ◌≢◌, ℕ, ◌+◌, ◌*◌, ◌%◌, ◌^◌, ◌==◌, ◌<◌, ◌≤◌, ℤ, Bool, true, false, cond, Some, refl, sym, subst, ◌∙◌, arith}
+use Rattle.std.proofs.Math.Nat.{mod-eq_of_lt}
 use Rattle.std.proofs.lemmas.Bool.{eq-eqb}
 use Rattle.rv_decode.proofs.RowLemmas.{neq-eqb}
-use Rattle.rv_words.specs.Bytes.{Bytes, word_at}
+use Rattle.rv_words.specs.Bytes.{Bytes}
 use Rattle.rv_words.specs.Operation.{comparison_holds, operation_value, word_of as word_of_number}
 use Rattle.rv_words.specs.declared.comparison.Cmp.{Cmp}
 use Rattle.rv_words.specs.declared.operation.Op.{Op as Operation}
 use Rattle.rv_decode.specs.declared.instruction.Instr.{Instr}
 use Rattle.rv_decode.specs.declared.instruction.Instr.TheVariants.{Op, OpImm, Jal, Branch}
-use Rattle.rv_decode.specs.Decodes.{decoded}
+use Rattle.rv_decode.specs.Encodes.{word_of}
 use Rattle.rv_decode.specs.Ranges.{is_encodable}
-use Rattle.rv_decode.proofs.ForthLemmas.{forth}
 use Rattle.rv_machine.specs.State.{State, with_register}
-use Rattle.rv_machine.specs.Step.{instruction_at, is_aligned, next, plus, reads}
+use Rattle.rvc.specs.Number.{number_at}
+use Rattle.rvc.proofs.LongLemmas.{instruction_of-word, number_at-word, word-long}
+use Rattle.rv_machine.specs.Step.{instruction_at, is_even, length_at, next, plus, reads}
 use Rattle.rv_machine.specs.Update.{is_possible, mem_after, pc_after, updated}
-use Rattle.rv_machine.proofs.StepLemmas.{updated-step}
+use Rattle.rv_machine.proofs.StepLemmas.{instruction_at-is, length_at-is, updated-step}
 use Rattle.code_gen.specs.Structure.{IsWordAt}
 use Rattle.code_runs.proofs.Ways.{Way, stays, goes, join, is_plain}
 
 -- code stands from b on, up to q at most, in memory m
 pub record Ground (q b : ℕ) : Type 0 where
-  pub aligned : b % 4 ≡ 0
+  pub even : b % 2 ≡ 0
   pub below : q < 2 ^ 64
 
 -- the state stands at place k of it
@@ -65,14 +65,19 @@ around p = record { last = p.last; steps = p.steps; way = p.way; few = p.few; at
 
 -- ---- one step
 
-aligned-at : (q b k : ℕ) → Ground q b → is_aligned (b + 4 * k) ≡ true
-aligned-at q b k g = eq-eqb ((b + 4 * k) % 4) 0 (add-mul-mod_self_left b 4 k ∙ g.aligned)
+even-at : (q b k : ℕ) → Ground q b → is_even (b + 4 * k) ≡ true
+even-at q b k g = let e : (b + 4 * k) % 2 ≡ 0 = omega (arith, g.even) in eq-eqb ((b + 4 * k) % 2) 0 e
+
+number : (b k : ℕ) (m : Bytes) (i : Instr) (s : State) → At m b k s → IsWordAt m b k i → is_encodable i ≡ true → number_at s.mem s.pc ≡ Some (word_of i)
+number b k m i s at here fits = (λ j. number_at (at.mem j) (at.pc j)) ∙ number_at-word m (b + 4 * k) (word_of i) (word-long i fits) here
 
 pub stands : (q b k : ℕ) (m : Bytes) (i : Instr) (s : State) → Ground q b → At m b k s → IsWordAt m b k i → is_encodable i ≡ true → instruction_at s ≡ Some i
 stands q b k m i s g at here fits =
-    (λ j. cond (is_aligned (at.pc j)) (option_and_then decoded (word_at (at.mem j) (at.pc j))) None)
-    ∙ (λ j. cond (aligned-at q b k g j) (option_and_then decoded (here j)) None)
-    ∙ forth i fits
+    (instruction_at-is i s).1 (word_of i, (λ j. is_even (at.pc j)) ∙ even-at q b k g, number b k m i s at here fits, instruction_of-word i fits)
+
+-- .. of four bytes
+pub long : (b k : ℕ) (m : Bytes) (i : Instr) (s : State) → At m b k s → IsWordAt m b k i → is_encodable i ≡ true → length_at s ≡ 4
+long b k m i s at here fits = length_at-is s (word_of i) (number b k m i s at here fits) ∙ (λ j. cond (word-long i fits j) 4 2)
 
 -- what is known of an instruction at a place
 pub record Here (q b k : ℕ) (m : Bytes) (i : Instr) (s : State) : Type 0 where
@@ -86,6 +91,9 @@ pub record Here (q b k : ℕ) (m : Bytes) (i : Instr) (s : State) : Type 0 where
 pub found : {q b k : ℕ} {m : Bytes} {i : Instr} {s : State} → Here q b k m i s → instruction_at s ≡ Some i
 found {q} {b} {k} {m} {i} {s} h = stands q b k m i s h.ground h.at h.word h.fits
 
+pub four : {q b k : ℕ} {m : Bytes} {i : Instr} {s : State} → Here q b k m i s → length_at s ≡ 4
+four {q} {b} {k} {m} {i} {s} h = long b k m i s h.at h.word h.fits
+
 pub under : {q b k : ℕ} {m : Bytes} {i : Instr} {s : State} → Here q b k m i s → s.pc < q
 under {q} h = subst (λ (x : ℕ). x < q) (sym h.at.pc) h.below
 
@@ -96,7 +104,7 @@ one {q} {b} {k} {m} {s} d j i h plain may to still kept = record {
   steps = 1;
   way = goes s (updated i 4 s) (updated i 4 s) 0
       (record { below = under h; instr = i; there = found h; plain = plain })
-      (updated-step i s (found h) may) (stays (updated i 4 s));
+      (updated-step i s (found h) may ∙ (λ z. Some (updated i (four h z) s))) (stays (updated i 4 s));
   few = omega arith;
   at = record { pc = to; mem = still ∙ h.at.mem };
   kept = kept;
@@ -121,9 +129,6 @@ written d x reg h = (λ i. cond (h i) (reg d) (cond (eq-eqb d d refl i) x (reg d
 
 -- ---- the instructions of pieces
 
-pub lands : (q b j : ℕ) (x : ℕ) → Ground q b → x ≡ b + 4 * j → is_aligned x ≡ true
-lands q b j x g e = (λ i. is_aligned (e i)) ∙ aligned-at q b j g
-
 -- an operation that writes a register that needn't be kept
 abbrev pub operates : {q b k : ℕ} {m : Bytes} {s : State} (d : ℕ) (i : Instr) → Here q b k m i s → b + 4 * (k + 1) ≤ q → is_plain i ≡ true → is_possible i s ≡ true
     → pc_after i 4 s ≡ next 4 s → mem_after i s ≡ s.mem → Keeps d s (updated i 4 s) → Passes q b m d s (k + 1) 1
@@ -141,21 +146,19 @@ register {s = s} d rd a c o h room other =
 
 -- a jump, which writes no register
 abbrev pub jumps : {q b k : ℕ} {m : Bytes} {s : State} (d j : ℕ) (offset : ℤ) → Here q b k m (Jal 0 offset) s → plus s.pc offset ≡ b + 4 * j → Passes q b m d s j 1
-jumps {q} {b} {s = s} d j offset h to = one d j (Jal 0 offset) h refl (lands q b j (plus s.pc offset) h.ground to) to refl (λ r x l. refl)
+jumps {q} {b} {s = s} d j offset h to = one d j (Jal 0 offset) h refl refl to refl (λ r x l. refl)
 
 -- a branch that is taken, and one that isn't
 abbrev pub taken : {q b k : ℕ} {m : Bytes} {s : State} (d j : ℕ) (c : Cmp) (x y : ℕ) (offset : ℤ) → Here q b k m (Branch c x y offset) s
     → comparison_holds c (reads x s) (reads y s) ≡ true → plus s.pc offset ≡ b + 4 * j → Passes q b m d s j 1
 taken {q} {b} {s = s} d j c x y offset h t to =
-    one d j (Branch c x y offset) h refl
-    ((λ i. cond (t i) (is_aligned (plus s.pc offset)) true) ∙ lands q b j (plus s.pc offset) h.ground to)
+    one d j (Branch c x y offset) h refl refl
     ((λ i. cond (t i) (plus s.pc offset) (next 4 s)) ∙ to)
     refl (λ r u l. refl)
 
 abbrev pub passed : {q b k : ℕ} {m : Bytes} {s : State} (d : ℕ) (c : Cmp) (x y : ℕ) (offset : ℤ) → Here q b k m (Branch c x y offset) s
     → comparison_holds c (reads x s) (reads y s) ≡ false → b + 4 * (k + 1) ≤ q → Passes q b m d s (k + 1) 1
 passed {q} {b} {k} {m} {s} d c x y offset h f room =
-    operates d (Branch c x y offset) h room refl
-    (λ i. cond (f i) (is_aligned (plus s.pc offset)) true)
+    operates d (Branch c x y offset) h room refl refl
     (λ i. cond (f i) (plus s.pc offset) (next 4 s))
     refl (λ r u l. refl)

@@ -8,7 +8,7 @@ use Rattle.rv_words.specs.declared.comparison.Cmp.TheVariants.{Eq}
 use Rattle.rv_decode.specs.declared.instruction.Instr.{Instr}
 use Rattle.rv_decode.specs.declared.instruction.Instr.TheVariants.{Jalr, Branch}
 use Rattle.rv_machine.specs.State.{State}
-use Rattle.rv_machine.specs.Step.{is_aligned, jump_target, reads, step}
+use Rattle.rv_machine.specs.Step.{jump_target, reads, step}
 use Rattle.rv_machine.specs.Update.{updated}
 use Rattle.rv_machine.proofs.StepLemmas.{updated-step}
 use Rattle.code_gen.specs.Pieces.{Pieces, Done, Add, Mix, Choose, Repeat, drawn}
@@ -22,7 +22,7 @@ use Rattle.code_gen.proofs.StepLemmas.{drawn-steps}
 use Rattle.code_gen.proofs.TargetLemmas.{each-split}
 use Rattle.code_runs.specs.Runs.{IsAtReturn, PassesThrough, StartsProgram, Returns, behind}
 use Rattle.code_runs.proofs.Ways.{way-run, return-run, return-misses, return-untouched, return-last, return-first}
-use Rattle.code_runs.proofs.Passing.{Ground, At, Passes, Here, none, found, glue, under, within, immediate, register, jumps, taken, passed, written}
+use Rattle.code_runs.proofs.Passing.{Ground, At, Passes, Here, none, found, four, glue, under, within, immediate, register, jumps, taken, passed, written}
 use Rattle.code_runs.proofs.Turns.{Loop, turns, no_zero}
 
 moved : {q b d x : ℕ} {m : Bytes} {s : State} (j k : ℕ) → j ≡ k → Passes q b m d s j x → Passes q b m d s k x
@@ -124,12 +124,12 @@ passes q b d m (Repeat t body rest) k s g (l, hb, h) deep room (w, ws) at =
 
 -- ---- the laws
 
-pub through : (d a : ℕ) (p : Pieces) (s : State) → AreShaped d p → d ≤ 4 → a % 4 ≡ 0 → a + 4 * length (code d p) < 2 ^ 64
+pub through : (d a : ℕ) (p : Pieces) (s : State) → AreShaped d p → d ≤ 4 → a % 2 ≡ 0 → a + 4 * length (code d p) < 2 ^ 64
     → s.pc ≡ a → EachAt (IsWordAt s.mem a) 0 (code d p) → PassesThrough d p a s
-through d a p s h deep aligned room pc w =
+through d a p s h deep even room pc w =
     let q : ℕ = a + 4 * length (code d p) in
     let r : Passes q a s.mem d s (0 + length (code d p)) (most_steps p) =
-    passes q a d s.mem p 0 s (record { aligned = aligned; below = room }) h deep (omega arith) w (record { pc = omega (arith, pc); mem = refl }) in (
+    passes q a d s.mem p 0 s (record { even = even; below = room }) h deep (omega arith) w (record { pc = omega (arith, pc); mem = refl }) in (
       r.last,
       r.steps,
       record {
@@ -152,7 +152,7 @@ pub returns : (number size : ℕ) (s : State) → size ≤ 600 → StartsProgram
 returns number size s small begins =
     let p : Pieces = (drawn size 0 number).pieces in
     let n : ℕ = length (code 0 p) in
-    let ground : Ground behind start = record { aligned = refl; below = omega arith } in
+    let ground : Ground behind start = record { even = refl; below = omega arith } in
     let few : 3 * n ≤ 5 * size = drawn-count size 0 number in
     let words = each-split (IsWordAt s.mem start) 0 (code 0 p) (Jalr 0 1 (pos 0) ∷ []) begins.code in
     let r : Passes behind start s.mem 0 s (0 + n) (most_steps p) =
@@ -163,7 +163,7 @@ returns number size s small begins =
     let link : reads 1 r.last ≡ behind = r.kept 1 (λ e. omega (arith, e)) (omega arith) ∙ begins.returns in
     let to : jump_target (reads 1 r.last) (pos 0) ≡ start + 4 * 0x4000 = returning (reads 1 r.last) link in
     let there : IsAtReturn r.last = found here in
-    let out : step r.last ≡ Some (updated return 4 r.last) = updated-step return r.last there (λ i. is_aligned (to i)) in
+    let out : step r.last ≡ Some (updated return 4 r.last) = updated-step return r.last there refl ∙ (λ i. Some (updated return (four here i) r.last)) in
     let bound : most_steps p ≤ 512 * size = drawn-steps size 0 number (omega arith) in
     record {
       last = updated return 4 r.last;

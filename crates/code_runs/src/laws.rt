@@ -16,7 +16,7 @@ ghost use Rattle.code_runs.specs.Runs.{PassesThrough, Returns, StartsProgram};
 /// The machine comes from the first instruction of pieces to right behind their last one, in no more steps than they take
 /// at most. It changes no byte, and of the registers below the counters of these pieces none but x10.
 pub fn law_of_pieces()
-    ensures { (d a : ℕ) (p : Pieces) (s : State) → AreShaped d p → d ≤ 4 → a % 4 ≡ 0 → a + 4 * length (code d p) < 2 ^ 64
+    ensures { (d a : ℕ) (p : Pieces) (s : State) → AreShaped d p → d ≤ 4 → a % 2 ≡ 0 → a + 4 * length (code d p) < 2 ^ 64
         → s.pc ≡ a → EachAt (IsWordAt s.mem a) 0 (code d p) → PassesThrough d p a s }
 {}
 
