@@ -8,7 +8,7 @@ use Rattle.std.proofs.lemmas.List.Elements.{All-from_get_or}
 use Rattle.rv_words.specs.Bytes.{Bytes}
 use Rattle.rv_decode.specs.declared.instruction.Instr.{Instr}
 use Rattle.rv_decode.specs.declared.instruction.Instr.TheVariants.{Jalr}
-use Rattle.flow_graph.specs.Flow.{look, leads, next, Next}
+use Rattle.flow_graph.specs.Flow.{length_in, look, leads, Next}
 use Rattle.flow_graph.specs.Walks.{Reaches}
 use Rattle.flow_graph.specs.Reach.{IsFault, Large, Least, ReachesOver, reach_limit}
 use Rattle.flow_graph.specs.Graph.{GraphOf, IsFlow, IsGraphOf, number}
@@ -47,7 +47,7 @@ record Standing (bytes : Bytes) (p : Pieces) : Type 0 where
   last : IsWordAt bytes start (count 0 p) return
 
 ground : (p : Pieces) → count 0 p ≤ 1000 → Ground start (count 0 p + 1)
-ground p h = record { aligned = refl; room = omega (arith, h) }
+ground p h = record { even = refl; room = omega (arith, h) }
 
 leads-at : (bytes : Bytes) (p : Pieces) → Standing bytes p → (u : ℕ) → u < count 0 p → Leads bytes start u (λ v. Edge 0 p 0 u v)
 leads-at bytes p s u h =
@@ -74,17 +74,17 @@ goes bytes p s u a h c = elim (leb_tells (count 0 p) u) [
   | inl t ↦
       let e : count 0 p ≡ u = omega (arith, t.1, h) in
       let none : look bytes (at start u) ≡ Ok return = (λ j. look bytes (at start (sym e j))) ∙ returns-at bytes p s in
-      none-there a (subst (λ ts. Contains ts a) (λ j. leads (at start u) (none j)) c)
+      none-there a (subst (λ ts. Contains ts a) (λ j. leads (at start u) (length_in bytes (at start u)) (none j)) c)
   | inr t ↦
       let l = leads-at bytes p s u t.1 in
-      let r = l.leads a (subst (λ ts. Contains ts a) (λ j. leads (at start u) (l.fine j)) c) in
+      let r = l.leads a (subst (λ ts. Contains ts a) (λ j. leads (at start u) (l.long j) (l.fine j)) c) in
       record { place = r.0; is = r.1; edge = r.2 }
 ]
 
 goes-on : (bytes : Bytes) (p : Pieces) → Standing bytes p → (u : ℕ) → u < count 0 p → (v : ℕ) × (u < v) × Next bytes (at start u) (at start v)
 goes-on bytes p s u h =
     let l = leads-at bytes p s u h in
-    (l.on.0, l.on.1, subst (λ ts. Contains ts (at start l.on.0)) (sym (λ j. leads (at start u) (l.fine j))) l.on.2)
+    (l.on.0, l.on.1, subst (λ ts. Contains ts (at start l.on.0)) (sym (λ j. leads (at start u) (l.long j) (l.fine j))) l.on.2)
 
 -- what is reached is a place
 record IsPlace (p : Pieces) (a : ℕ) : Type 0 where

@@ -1,8 +1,9 @@
 -- Where the code of pieces leads, address by address: as their edges say.
-use Rattle.std.proofs.Common.{◌≡◌, ℕ, ◌+◌, ◌-◌, ◌*◌, ◌%◌, ◌^◌, ◌==◌, ◌<◌, ◌≤◌, inl, inr, ℤ, pos, negsuc, List, [], ◌∷◌, ◌++◌, length, true, cond, None, Ok, Err, refl, sym, subst, ◌∙◌, arith}
+use Rattle.std.proofs.Common.{◌≡◌, ℕ, ◌+◌, ◌*◌, ◌%◌, ◌^◌, ◌==◌, ◌<◌, ◌≤◌, inl, inr, ℤ, pos, negsuc, List, [], ◌∷◌, ◌++◌, length, true, cond, Some, Ok, Err, refl, sym, subst, ◌∙◌, arith}
 use Rattle.std.specs.List.{Contains}
-use Rattle.std.proofs.Math.Nat.{mod-eq_of_lt, add-mul-mod_self_left}
-use Rattle.std.proofs.lemmas.Bool.{eq-eqb, lt-ltb}
+use Rattle.std.specs.Option.{unwrap_or}
+use Rattle.std.proofs.Math.Nat.{mod-eq_of_lt}
+use Rattle.std.proofs.lemmas.Bool.{eq-eqb}
 use Rattle.std.proofs.lemmas.Bool.Decides.{leb_tells}
 use Rattle.std.proofs.lemmas.List.{length-append}
 use Rattle.rv_words.specs.Bytes.{Bytes}
@@ -13,8 +14,9 @@ use Rattle.rv_decode.specs.declared.instruction.Instr.TheVariants.{OpImm, Jal, B
 use Rattle.rv_words.specs.declared.operation.Op.TheVariants.{Add as Addition, And}
 use Rattle.rv_decode.specs.Encodes.{word_of}
 use Rattle.rv_decode.specs.Ranges.{is_encodable}
-use Rattle.rv_decode.proofs.ForthLemmas.{forth}
-use Rattle.flow_graph.specs.Flow.{admitted, following, look, look_fetched, look_decoded, target, targets, next}
+use Rattle.rvc.specs.Number.{length_of, number_in}
+use Rattle.rvc.proofs.LongLemmas.{instruction_of-word, number_in-word, word-long}
+use Rattle.flow_graph.specs.Flow.{admitted, following, length_in, look, look_fetched, look_decoded, target, targets, next}
 use Rattle.flow_graph.specs.declared.outside.Outside.TheVariants.{Misaligned}
 use Rattle.flow_graph.proofs.Ways.{Contains-cons}
 use Rattle.code_gen.specs.Pieces.{Pieces, Done, Add, Mix, Choose, Repeat}
@@ -27,32 +29,40 @@ use Rattle.code_flow.proofs.Edges.{Edge}
 
 -- code stands from b on, and the place behind it is an address
 pub record Ground (b n : ℕ) : Type 0 where
-  pub aligned : b % 4 ≡ 0
+  pub even : b % 2 ≡ 0
   pub room : b + 4 * n + 4 < 2 ^ 64
 
 -- the address of a place
 abbrev pub at : ℕ → ℕ → ℕ
 at b k = b + 4 * k
 
-pub aligned-at : (b n k : ℕ) → Ground b n → (at b k % 4 == 0) ≡ true
-aligned-at b n k g = eq-eqb (at b k % 4) 0 (add-mul-mod_self_left b 4 k ∙ g.aligned)
+pub even-at : (b n k : ℕ) → Ground b n → (at b k % 2 == 0) ≡ true
+even-at b n k g = let e : at b k % 2 ≡ 0 = omega (arith, g.even) in eq-eqb (at b k % 2) 0 e
 
 -- what is found at a place
+standing : (bytes : Bytes) (b n k : ℕ) (i : Instr) → Ground b n → k ≤ n → IsWordAt bytes b k i → is_encodable i ≡ true → number_in bytes (at b k) ≡ Some (word_of i)
+standing bytes b n k i g h here fits = number_in-word bytes (at b k) i (omega (arith, g.room, h)) here fits
+
 pub looked : (bytes : Bytes) (b n k : ℕ) (i : Instr) → Ground b n → k ≤ n → IsWordAt bytes b k i → is_encodable i ≡ true → look bytes (at b k) ≡ admitted (at b k) i
 unfolding look
 looked bytes b n k i g h here fits =
-    (λ j. cond (aligned-at b n k g j) (look_fetched (at b k) (cond (lt-ltb (at b k + 3) (2 ^ 64) (omega (arith, g.room, h)) j) (here j) None)) (Err (Misaligned (at b k) (at b k))))
-    ∙ (λ j. look_decoded (at b k) (word_of i) (forth i fits j))
+    (λ j. cond (even-at b n k g j) (look_fetched (at b k) (standing bytes b n k i g h here fits j)) (Err (Misaligned (at b k) (at b k))))
+    ∙ (λ j. look_decoded (at b k) (word_of i) (instruction_of-word i fits j))
+
+-- .. and how long it is
+pub long : (bytes : Bytes) (b n k : ℕ) (i : Instr) → Ground b n → k ≤ n → IsWordAt bytes b k i → is_encodable i ≡ true → length_in bytes (at b k) ≡ 4
+long bytes b n k i g h here fits = (λ j. length_of (unwrap_or (standing bytes b n k i g h here fits j) 0)) ∙ (λ j. cond (word-long i fits j) 4 2)
 
 -- an instruction that is admitted at a place, leads to these places alone, and leads on to one of them
 pub record Leads (bytes : Bytes) (b u : ℕ) (to : ℕ → Type 0) : Type 0 where
   pub instr : Instr
   pub fine : look bytes (at b u) ≡ Ok instr
-  pub leads : (a : ℕ) → Contains (targets (at b u) instr) a → (v : ℕ) × (a ≡ at b v) × to v
-  pub on : (v : ℕ) × (u < v) × Contains (targets (at b u) instr) (at b v)
+  pub long : length_in bytes (at b u) ≡ 4
+  pub leads : (a : ℕ) → Contains (targets (at b u) 4 instr) a → (v : ℕ) × (a ≡ at b v) × to v
+  pub on : (v : ℕ) × (u < v) × Contains (targets (at b u) 4 instr) (at b v)
 
 further : {bytes : Bytes} {b u : ℕ} {to more : ℕ → Type 0} → ((v : ℕ) → to v → more v) → Leads bytes b u to → Leads bytes b u more
-further f l = record { instr = l.instr; fine = l.fine; leads = λ a c. let r = l.leads a c in (r.0, r.1, f r.0 r.2); on = l.on }
+further f l = record { instr = l.instr; fine = l.fine; long = l.long; leads = λ a c. let r = l.leads a c in (r.0, r.1, f r.0 r.2); on = l.on }
 
 -- where an instruction stands, with its word
 pub record Here (bytes : Bytes) (b n u : ℕ) (i : Instr) : Type 0 where
@@ -64,7 +74,7 @@ pub record Here (bytes : Bytes) (b n u : ℕ) (i : Instr) : Type 0 where
 pub none-there : {A : Type 0} (a : ℕ) → Contains [] a → A
 none-there a (k, h, e) = absurd (omega (arith, h))
 
-follows : (b n u : ℕ) → Ground b n → u < n → following (at b u) ≡ at b (u + 1)
+follows : (b n u : ℕ) → Ground b n → u < n → following (at b u) 4 ≡ at b (u + 1)
 follows b n u g h =
     let small : at b u + 4 < 2 ^ 64 = omega (arith, g.room, h) in
     let there : at b u + 4 ≡ at b (u + 1) = omega arith in
@@ -72,11 +82,12 @@ follows b n u g h =
 
 -- an instruction that goes on to the next
 goes-on : {bytes : Bytes} {b n u : ℕ} (i : Instr) (to : ℕ → Type 0) → Here bytes b n u i → admitted (at b u) i ≡ Ok i
-    → targets (at b u) i ≡ following (at b u) ∷ [] → to (u + 1) → Leads bytes b u to
+    → targets (at b u) 4 i ≡ following (at b u) 4 ∷ [] → to (u + 1) → Leads bytes b u to
 goes-on {bytes} {b} {n} {u} i to h fine one next =
-    let there : targets (at b u) i ≡ at b (u + 1) ∷ [] = one ∙ (λ j. follows b n u h.ground h.place j ∷ []) in
+    let there : targets (at b u) 4 i ≡ at b (u + 1) ∷ [] = one ∙ (λ j. follows b n u h.ground h.place j ∷ []) in
     record {
       instr = i;
+      long = long bytes b n u i h.ground (omega (arith, h.place)) h.word h.fits;
       fine = looked bytes b n u i h.ground (omega (arith, h.place)) h.word h.fits ∙ fine;
       leads = λ a c. elim (Contains-cons (at b (u + 1)) [] a (subst (λ ts. Contains ts a) there c)) [
         | inl e ↦ (u + 1, sym e, next)
@@ -90,9 +101,8 @@ jumps : {bytes : Bytes} {b n u : ℕ} (z : ℤ) (t : ℕ) (to : ℕ → Type 0) 
 jumps {bytes} {b} {n} {u} z t to h there on next =
     record {
       instr = Jal 0 z;
-      fine = looked bytes b n u (Jal 0 z) h.ground (omega (arith, h.place)) h.word h.fits
-          ∙ (λ j. cond (there j % 4 == 0) (Ok (Jal 0 z)) (Err (Misaligned (at b u) (target (at b u) z))))
-          ∙ (λ j. cond (aligned-at b n t h.ground j) (Ok (Jal 0 z)) (Err (Misaligned (at b u) (target (at b u) z))));
+      long = long bytes b n u (Jal 0 z) h.ground (omega (arith, h.place)) h.word h.fits;
+      fine = looked bytes b n u (Jal 0 z) h.ground (omega (arith, h.place)) h.word h.fits;
       leads = λ a c. elim (Contains-cons (at b t) [] a (subst (λ ts. Contains ts a) (λ j. there j ∷ []) c)) [
         | inl e ↦ (t, sym e, next)
         | inr z ↦ none-there a z
@@ -104,12 +114,11 @@ jumps {bytes} {b} {n} {u} z t to h there on next =
 branches : {bytes : Bytes} {b n u : ℕ} (c : Cmp) (x y : ℕ) (z : ℤ) (t : ℕ) (to : ℕ → Type 0) → Here bytes b n u (Branch c x y z)
     → target (at b u) z ≡ at b t → to (u + 1) → to t → Leads bytes b u to
 branches {bytes} {b} {n} {u} c x y z t to h there next over =
-    let both : targets (at b u) (Branch c x y z) ≡ at b (u + 1) ∷ at b t ∷ [] = (λ j. follows b n u h.ground h.place j ∷ there j ∷ []) in
+    let both : targets (at b u) 4 (Branch c x y z) ≡ at b (u + 1) ∷ at b t ∷ [] = (λ j. follows b n u h.ground h.place j ∷ there j ∷ []) in
     record {
       instr = Branch c x y z;
-      fine = looked bytes b n u (Branch c x y z) h.ground (omega (arith, h.place)) h.word h.fits
-          ∙ (λ j. cond (there j % 4 == 0) (Ok (Branch c x y z)) (Err (Misaligned (at b u) (target (at b u) z))))
-          ∙ (λ j. cond (aligned-at b n t h.ground j) (Ok (Branch c x y z)) (Err (Misaligned (at b u) (target (at b u) z))));
+      long = long bytes b n u (Branch c x y z) h.ground (omega (arith, h.place)) h.word h.fits;
+      fine = looked bytes b n u (Branch c x y z) h.ground (omega (arith, h.place)) h.word h.fits;
       leads = λ a m. elim (Contains-cons (at b (u + 1)) (at b t ∷ []) a (subst (λ ts. Contains ts a) both m)) [
         | inl e ↦ (u + 1, sym e, next)
         | inr m1 ↦ elim (Contains-cons (at b t) [] a m1) [
