@@ -32,19 +32,19 @@ pub need-facts : (cs : List CondTree) (words mems : ℕ) (path : List FactTree) 
 need-facts [] words mems path = sym (append-nil path)
 need-facts (c ∷ cs) words mems path = need-facts cs words mems (path ++ So c ∷ []) ∙ append_assoc path (So c ∷ []) (map So cs)
 
-write-facts : (i : Instr) (a : ℕ) (v : Place) (path : List FactTree) → facts_after (writes i a v) v.words v.mems path ≡ path ++ new_facts i a v
-write-facts i a v path = go (is_store i) (eqb (destination i) 0)
+write-facts : (i : Instr) (a k : ℕ) (v : Place) (path : List FactTree) → facts_after (writes i a k v) v.words v.mems path ≡ path ++ new_facts i a k v
+write-facts i a k v path = go (is_store i) (eqb (destination i) 0)
   where
-    go : (s d : Bool) → facts_after (cond s (BindMem (memory_after i (names v)) ∷ []) (cond d [] (Bind (result i a (names v)) ∷ []))) v.words v.mems path
-        ≡ path ++ cond s (MemIs (MemVar v.mems) (memory_after i (names v)) ∷ []) (cond d [] (WordIs (Var v.words) (result i a (names v)) ∷ []))
+    go : (s d : Bool) → facts_after (cond s (BindMem (memory_after i (names v)) ∷ []) (cond d [] (Bind (result i a k (names v)) ∷ []))) v.words v.mems path
+        ≡ path ++ cond s (MemIs (MemVar v.mems) (memory_after i (names v)) ∷ []) (cond d [] (WordIs (Var v.words) (result i a k (names v)) ∷ []))
     go true d = refl
     go false true = sym (append-nil path)
     go false false = refl
 
 -- .. of the steps of an instruction
-pub all-facts : (i : Instr) (a : ℕ) (v : Place) (path : List FactTree) → facts_after (needs i v ++ writes i a v) v.words v.mems path ≡ (path ++ map So (conditions i Next (names v))) ++ new_facts i a v
-all-facts i a v path =
+pub all-facts : (i : Instr) (a k : ℕ) (v : Place) (path : List FactTree) → facts_after (needs i v ++ writes i a k v) v.words v.mems path ≡ (path ++ map So (conditions i Next (names v))) ++ new_facts i a k v
+all-facts i a k v path =
     let cs : List CondTree = conditions i Next (names v) in
-    facts-append (map Need cs) (writes i a v) v.words v.mems path
-    ∙ (λ j. facts_after (writes i a v) (need-words cs v.words j) (need-mems cs v.mems j) (need-facts cs v.words v.mems path j))
-    ∙ write-facts i a v (path ++ map So cs)
+    facts-append (map Need cs) (writes i a k v) v.words v.mems path
+    ∙ (λ j. facts_after (writes i a k v) (need-words cs v.words j) (need-mems cs v.mems j) (need-facts cs v.words v.mems path j))
+    ∙ write-facts i a k v (path ++ map So cs)

@@ -1,6 +1,6 @@
 -- The lines of an instruction and of a call have a text.
-use Rattle.std.proofs.Common.{◌≡◌, ℕ, zero, suc, ◌+◌, ◌^◌, ◌<◌, ◌≤◌, List, [], ◌∷◌, ◌++◌, map, length, Bool, true, false, cond, eqb, refl, sym, ap, ◌∙◌, subst, arith, mod-lt, length-append, Some, inl, inr, eqb-true, ◌%◌, ◌/◌}
-use Rattle.std.specs.Int.{byte_at, bytes_low_first, to_le_bytes, w32}
+use Rattle.std.proofs.Common.{◌≡◌, ℕ, zero, suc, ◌+◌, ◌^◌, ◌<◌, ◌≤◌, List, [], ◌∷◌, ◌++◌, map, length, Bool, true, false, cond, eqb, refl, sym, ap, ◌∙◌, subst, arith, mod-lt, length-append, Some, inl, inr, ◌/◌}
+use Rattle.std.specs.Int.{byte_at, bytes_low_first, to_le_bytes, w16, w32}
 use Rattle.std.specs.List.{AllByRecursion, position_or_len}
 use Rattle.rv_words.specs.declared.range.Range.{Range}
 use Rattle.rv_words.specs.Bytes.{Bytes, over}
@@ -9,7 +9,8 @@ use Rattle.rv_decode.specs.declared.instruction.Instr.{Instr}
 use Rattle.rv_decode.specs.declared.instruction.Instr.TheVariants as instr
 use Rattle.rv_decode.specs.Registers.{destination}
 use Rattle.rv_words.specs.Operation.{word_of}
-use Rattle.rv_machine.specs.Step.{is_aligned}
+use Rattle.rvc.specs.Number.{is_word, length_of}
+use Rattle.instr_axioms.proofs.AxiomLemmas.{word_code-ranges}
 use Rattle.word_terms.specs.Tree.{WordTree, MemTree, CondTree, Const, Var, MemVar}
 use Rattle.term_text.specs.Limits.{IsCond, IsMem, IsWord}
 use Rattle.sep_assert.specs.Code.{Agree, IsWithin}
@@ -91,27 +92,27 @@ module _ (v : Place) (n : ℕ) (low : IsLow v n) (few : n < 2 ^ 16) where
   memory-fine : IsMem (MemVar v.memory)
   memory-fine = let most = low.memory in mem_var-fine v.memory (omega (arith, most, few))
 
-  after-fine : (i : Instr) (a r : ℕ) → IsWord (word_after i a (names v) r)
-  after-fine i a r = go (eqb r (destination i))
+  after-fine : (i : Instr) (a k r : ℕ) → IsWord (word_after i a k (names v) r)
+  after-fine i a k r = go (eqb r (destination i))
     where
-      go : (b : Bool) → IsWord (cond b (result i a (names v)) (Var (v.reg r)))
-      go true = result-small v n low few i a
+      go : (b : Bool) → IsWord (cond b (result i a k (names v)) (Var (v.reg r)))
+      go true = result-small v n low few i a k
       go false = named-fine r
 
-  pub pc-fine : (i : Instr) (form : Form) (a : ℕ) → IsWord (pc_after i form a (names v))
-  pc-fine (instr.Op o rd rs1 rs2) form a = mod-lt (a + 4) (omega arith)
-  pc-fine (instr.OpImm o rd rs1 imm) form a = mod-lt (a + 4) (omega arith)
-  pc-fine (instr.Lui rd imm) form a = mod-lt (a + 4) (omega arith)
-  pc-fine (instr.Auipc rd imm) form a = mod-lt (a + 4) (omega arith)
-  pc-fine (instr.Jal rd offset) form a = mod-lt (a + word_of offset) (omega arith)
-  pc-fine (instr.Jalr rd rs1 imm) form a = (sum-small v n low few 61 rs1 imm, omega arith)
-  pc-fine (instr.Branch c rs1 rs2 offset) Next a = mod-lt (a + 4) (omega arith)
-  pc-fine (instr.Branch c rs1 rs2 offset) Taken a = mod-lt (a + word_of offset) (omega arith)
-  pc-fine (instr.Load w signed rd rs1 imm) form a = mod-lt (a + 4) (omega arith)
-  pc-fine (instr.Store w rs1 rs2 imm) form a = mod-lt (a + 4) (omega arith)
-  pc-fine (instr.Fence imm rs1 rd) form a = mod-lt (a + 4) (omega arith)
-  pc-fine instr.Ecall form a = mod-lt (a + 4) (omega arith)
-  pc-fine instr.Ebreak form a = mod-lt (a + 4) (omega arith)
+  pub pc-fine : (i : Instr) (form : Form) (a k : ℕ) → IsWord (pc_after i form a k (names v))
+  pc-fine (instr.Op o rd rs1 rs2) form a k = mod-lt (a + k) (omega arith)
+  pc-fine (instr.OpImm o rd rs1 imm) form a k = mod-lt (a + k) (omega arith)
+  pc-fine (instr.Lui rd imm) form a k = mod-lt (a + k) (omega arith)
+  pc-fine (instr.Auipc rd imm) form a k = mod-lt (a + k) (omega arith)
+  pc-fine (instr.Jal rd offset) form a k = mod-lt (a + word_of offset) (omega arith)
+  pc-fine (instr.Jalr rd rs1 imm) form a k = (sum-small v n low few 61 rs1 imm, omega arith)
+  pc-fine (instr.Branch c rs1 rs2 offset) Next a k = mod-lt (a + k) (omega arith)
+  pc-fine (instr.Branch c rs1 rs2 offset) Taken a k = mod-lt (a + word_of offset) (omega arith)
+  pc-fine (instr.Load w signed rd rs1 imm) form a k = mod-lt (a + k) (omega arith)
+  pc-fine (instr.Store w rs1 rs2 imm) form a k = mod-lt (a + k) (omega arith)
+  pc-fine (instr.Fence imm rs1 rd) form a k = mod-lt (a + k) (omega arith)
+  pc-fine instr.Ecall form a k = mod-lt (a + k) (omega arith)
+  pc-fine instr.Ebreak form a k = mod-lt (a + k) (omega arith)
 
   so-fine : (i : Instr) (form : Form) → AllByRecursion IsFact (map So (conditions i form (names v)))
   so-fine i form = go (conditions i form (names v)) (conditions-small v n low few i form)
@@ -120,16 +121,16 @@ module _ (v : Place) (n : ℕ) (low : IsLow v n) (few : n < 2 ^ 16) where
       go [] h = tt
       go (c ∷ cs) h = (h.0, go cs h.1)
 
-  news-fine : (i : Instr) (a : ℕ) → AllByRecursion IsFact (new_facts i a v)
-  news-fine i a = go (is_store i) (eqb (destination i) 0)
+  news-fine : (i : Instr) (a k : ℕ) → AllByRecursion IsFact (new_facts i a k v)
+  news-fine i a k = go (is_store i) (eqb (destination i) 0)
     where
-      go : (s d : Bool) → AllByRecursion IsFact (cond s (MemIs (MemVar v.mems) (memory_after i (names v)) ∷ []) (cond d [] (WordIs (Var v.words) (result i a (names v)) ∷ [])))
+      go : (s d : Bool) → AllByRecursion IsFact (cond s (MemIs (MemVar v.mems) (memory_after i (names v)) ∷ []) (cond d [] (WordIs (Var v.words) (result i a k (names v)) ∷ [])))
       go true d = let most = low.mems in ((mem_var-fine v.mems (omega (arith, most, few)), memory_after-small v n low few i), tt)
       go false true = tt
-      go false false = let most = low.words in ((var-fine v.words (omega (arith, most, few)), result-small v n low few i a), tt)
+      go false false = let most = low.words in ((var-fine v.words (omega (arith, most, few)), result-small v n low few i a k), tt)
 
-  pub facts-fine : (i : Instr) (form : Form) (a : ℕ) → AllByRecursion IsFact (map So (conditions i form (names v)) ++ new_facts i a v)
-  facts-fine i form a = all-join IsFact (map So (conditions i form (names v))) (new_facts i a v) (so-fine i form) (news-fine i a)
+  pub facts-fine : (i : Instr) (form : Form) (a k : ℕ) → AllByRecursion IsFact (map So (conditions i form (names v)) ++ new_facts i a k v)
+  facts-fine i form a k = all-join IsFact (map So (conditions i form (names v))) (new_facts i a k v) (so-fine i form) (news-fine i a k)
 
   pub standing-fine : (f : Flow) (pc : WordTree) → AreRegistersFrom 1 f.regs → IsWord pc → IsAssertion (standing_at f pc v)
   standing-fine f pc rise fine = assertion-fine pc (λ r. Var (v.reg r)) f.regs f.has_mem (MemVar v.memory) fine rise named-fine memory-fine
@@ -148,32 +149,30 @@ low-bytes i (suc k) w = (one i, low-bytes (suc i) k w)
     one (suc i) = mod-lt (w / 256 ^ suc i) (omega arith)
 
 pub code-bytes : (a w : ℕ) → HaveBytes (word_code a w)
-code-bytes a w = (low-bytes 0 4 w, tt)
-
-pub code-ranges : (a w : ℕ) → a < 2 ^ 64 → is_aligned a ≡ true → AreRanges (word_code a w)
-code-ranges a w low even =
-    let count : length (to_le_bytes w32 w) ≡ 4 = refl in
-    let four : a % 4 ≡ 0 = eqb-true (a % 4) 0 even in
-    (omega arith, omega (arith, count), omega (arith, count, low, four), tt)
+code-bytes a w = (by_length (is_word w), tt)
+  where
+    by_length : (t : Bool) → AllByRecursion (λ b. b < 256) (cond t (to_le_bytes w32 w) (to_le_bytes w16 w))
+    by_length true = low-bytes 0 4 w
+    by_length false = low-bytes 0 2 w
 
 -- ---- one instruction
 
-module _ (i : Instr) (form : Form) (a w : ℕ) (low_address : a < 2 ^ 64) (even : is_aligned a ≡ true) where
-  over-fine : (regs : List ℕ) (mem : Bool) (v : Place) (n : ℕ) → AreRegistersFrom 1 regs → IsLow v n → n < 2 ^ 16 → IsTriple (triple_over i form a (word_code a w) regs mem (names v))
+module _ (i : Instr) (form : Form) (a w : ℕ) (low_address : a < 2 ^ 64) (room : a + length_of w ≤ 2 ^ 64) where
+  over-fine : (regs : List ℕ) (mem : Bool) (v : Place) (n : ℕ) → AreRegistersFrom 1 regs → IsLow v n → n < 2 ^ 16 → IsTriple (triple_over i form a (length_of w) (word_code a w) regs mem (names v))
   over-fine regs mem v n rise low few = record {
     facts = so-fine v n low few i form;
     pre = assertion-fine (Const a) (λ r. Var (v.reg r)) regs mem (MemVar v.memory) low_address rise (named-fine v n low few) (memory-fine v n low few);
-    code = code-ranges a w low_address even;
+    code = word_code-ranges a w room;
     bytes = code-bytes a w;
-    post = assertion-fine (pc_after i form a (names v)) (word_after i a (names v)) regs mem (memory_after i (names v)) (pc-fine v n low few i form a) rise (after-fine v n low few i a) (memory_after-small v n low few i);
+    post = assertion-fine (pc_after i form a (length_of w) (names v)) (word_after i a (length_of w) (names v)) regs mem (memory_after i (names v)) (pc-fine v n low few i form a (length_of w)) rise (after-fine v n low few i a (length_of w)) (memory_after-small v n low few i);
   }
 
-  pub act-standing-fine : (v : Place) (n : ℕ) → IsLow v n → n < 2 ^ 16 → (k : ℕ) (facts : List FactTree) (code : List Range) → k < 2 ^ 64 → facts ≡ map So (conditions i form (names v)) ++ new_facts i a v → code ≡ word_code a w →
+  pub act-standing-fine : (v : Place) (n : ℕ) → IsLow v n → n < 2 ^ 16 → (k : ℕ) (facts : List FactTree) (code : List Range) → k < 2 ^ 64 → facts ≡ map So (conditions i form (names v)) ++ new_facts i a (length_of w) v → code ≡ word_code a w →
       IsFineStanding (record { number = k; facts = facts; code = code })
   act-standing-fine v n low few k facts code fits facts_are code_is = record {
     number = fits;
-    facts = subst (AllByRecursion IsFact) (sym facts_are) (facts-fine v n low few i form a);
-    code = subst AreRanges (sym code_is) (code-ranges a w low_address even);
+    facts = subst (AllByRecursion IsFact) (sym facts_are) (facts-fine v n low few i form a (length_of w));
+    code = subst AreRanges (sym code_is) (word_code-ranges a w room);
     bytes = subst HaveBytes (sym code_is) (code-bytes a w);
   }
 
@@ -194,15 +193,15 @@ module _ (i : Instr) (form : Form) (a w : ℕ) (low_address : a < 2 ^ 64) (even 
   }) (omega arith)
 
   module _ (f : Flow) (rise : AreRegistersFrom 1 f.regs) (v : Place) (n : ℕ) (low : IsLow v n) (few : n ≤ 2 ^ 15) where
-    named-triple-fine : IsTriple (named_triple i form a (word_code a w) f.regs f.has_mem v)
+    named-triple-fine : IsTriple (named_triple i form a (length_of w) (word_code a w) f.regs f.has_mem v)
     named-triple-fine =
         let next = place-low v n low (omega (arith, few)) i in
         record {
-          facts = facts-fine v n low (omega (arith, few)) i form a;
+          facts = facts-fine v n low (omega (arith, few)) i form a (length_of w);
           pre = standing-fine v n low (omega (arith, few)) f (Const a) rise low_address;
-          code = code-ranges a w low_address even;
+          code = word_code-ranges a w room;
           bytes = code-bytes a w;
-          post = standing-fine (place_after i v) (suc n) next (omega (arith, few)) f (pc_after i form a (names v)) rise (pc-fine v n low (omega (arith, few)) i form a);
+          post = standing-fine (place_after i v) (suc n) next (omega (arith, few)) f (pc_after i form a (length_of w) (names v)) rise (pc-fine v n low (omega (arith, few)) i form a (length_of w));
         }
 
     pub act-fine : IsFineAct f i form a w v

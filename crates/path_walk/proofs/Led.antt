@@ -22,7 +22,7 @@ use Rattle.loop_rule.specs.Leaves.{arm_leaves, at_exit, body_leaves, parameters,
 use Rattle.loop_rule.specs.Rule.{LeadsTo}
 use Rattle.code_parts.specs.declared.part.Part.{Part}
 use Rattle.code_parts.specs.declared.part.Part.TheVariants.{Loop, Rest}
-use Rattle.code_parts.specs.Bodies.{Flow, Place, body_at, current, end_at, end_of, exits_of, first, fresh, index_of, last_at, mem_count, names, needs, or_else, own, part_def, place_after, rest_arms, rest_from, rest_targets, returned, start, targets, with_pc, writes}
+use Rattle.code_parts.specs.Bodies.{size, Flow, Place, body_at, current, end_at, end_of, exits_of, first, fresh, index_of, last_at, mem_count, names, needs, or_else, own, part_def, place_after, rest_arms, rest_from, rest_targets, returned, start, targets, with_pc, writes}
 use Rattle.sep_assert.specs.Registers.{AreRegistersFrom}
 use Rattle.code_parts.specs.Graph.{IsPart, IsPlaced, has_edge, is_return}
 use Rattle.path_walk.specs.inner.Acts.{new_facts, results_at}
@@ -291,7 +291,7 @@ module _ (f : Flow) (p : Part) (ranges : List Range) where
   -- after the steps of an instruction that goes on to one node
   pub straight_leads : (n room : ℕ) (v u : Place) (i : Instr) (m : ℕ) (from : Option StandingTree) (t : StandingTree) (old mid new : LogTree) → n < f.nodes → i ≡ f.instr n → IsNoBranch i → is_return i ≡ false → (room ≡ 0 → ⊥) →
       u ≡ place_after i v → m ≡ f.to n Next →
-      Steps f (part_def f p).entry ranges old mid (Const (f.addr n)) v from (pc_after (f.instr n) Next (f.addr n) (names v)) (place_after (f.instr n) v) (map So (conditions (f.instr n) Next (names v)) ++ new_facts (f.instr n) (f.addr n) v) t →
+      Steps f (part_def f p).entry ranges old mid (Const (f.addr n)) v from (pc_after (f.instr n) Next (f.addr n) (size f n) (names v)) (place_after (f.instr n) v) (map So (conditions (f.instr n) Next (names v)) ++ new_facts (f.instr n) (f.addr n) (size f n) v) t →
       Leads f p ranges mid new (Const (f.addr m)) u (Some t) (body_on (room - 1) f p m u) → Leads f p ranges old new (Const (f.addr n)) v from (body_at room f p n v)
   straight_leads n room v u i m from t old mid new node is branch jump some place goes step rest =
       subst (λ (b : BodyTree). Leads f p ranges old new (Const (f.addr n)) v from b) (goes_straight f p n room v i [] ss is branch jump some refl) (record {
@@ -299,19 +299,19 @@ module _ (f : Flow) (p : Part) (ranges : List Range) where
             let stood = step.each s path ready here in
             let at = s.code.each n node in
             let edge : has_edge (f.instr n) Next ≡ true = (λ j. has_edge (sym is j) Next) ∙ straight_edge i branch jump in
-            let facts : path ++ (map So (conditions i Next (names v)) ++ new_facts i (f.addr n) v) ≡ facts_after ss v.words v.mems path =
-            sym (append_assoc path (map So (conditions i Next (names v))) (new_facts i (f.addr n) v)) ∙ sym (all-facts i (f.addr n) v path) in
-            let there = subst (λ (j : Instr). Here s mid (pc_after (f.instr n) Next (f.addr n) (names v)) (place_after j v) (path ++ (map So (conditions j Next (names v)) ++ new_facts j (f.addr n) v)) t) (sym is) stood.stands in
-            let stands = subst (λ (pc : WordTree). Here s mid pc (place_after i v) (path ++ (map So (conditions i Next (names v)) ++ new_facts i (f.addr n) v)) t) (at.goes Next (names v) edge) there in
+            let facts : path ++ (map So (conditions i Next (names v)) ++ new_facts i (f.addr n) (size f n) v) ≡ facts_after ss v.words v.mems path =
+            sym (append_assoc path (map So (conditions i Next (names v))) (new_facts i (f.addr n) (size f n) v)) ∙ sym (all-facts i (f.addr n) (size f n) v path) in
+            let there = subst (λ (j : Instr). Here s mid (pc_after (f.instr n) Next (f.addr n) (size f n) (names v)) (place_after j v) (path ++ (map So (conditions j Next (names v)) ++ new_facts j (f.addr n) (size f n) v)) t) (sym is) stood.stands in
+            let stands = subst (λ (pc : WordTree). Here s mid pc (place_after i v) (path ++ (map So (conditions i Next (names v)) ++ new_facts i (f.addr n) (size f n) v)) t) (at.goes Next (names v) edge) there in
             let known = subst (λ (fs : List FactTree). Here s mid (Const (f.addr (f.to n Next))) (place_after i v) fs t) facts stands in
             let led = there_on.each s (facts_after ss v.words v.mems path) stood.grown.ready known (closed_more (past f ranges s old) (past f ranges s mid) b stood.grown.keeps (closed_steps (past f ranges s old) ss b closed)) in
             let leaves : body_leaves (group_in f ranges s) (part_def f p) (with_steps ss b) v.words v.mems path ≡ body_leaves (group_in f ranges s) (part_def f p) b (place_after i v).words (place_after i v).mems (facts_after ss v.words v.mems path) =
-            leaves-steps (group_in f ranges s) (part_def f p) ss b v.words v.mems path ∙ (λ j. body_leaves (group_in f ranges s) (part_def f p) b (all-words i (f.addr n) v j) (all-mems i (f.addr n) v j) (facts_after ss v.words v.mems path)) in
+            leaves-steps (group_in f ranges s) (part_def f p) ss b v.words v.mems path ∙ (λ j. body_leaves (group_in f ranges s) (part_def f p) b (all-words i (f.addr n) (size f n) v j) (all-mems i (f.addr n) (size f n) v j) (facts_after ss v.words v.mems path)) in
             subst (λ ls. Led f p ranges s old new ls) (sym leaves) (led_after s old mid new (body_leaves (group_in f ranges s) (part_def f p) b (place_after i v).words (place_after i v).mems (facts_after ss v.words v.mems path)) stood.grown stood.cited led);
       })
     where
       ss : List StepTree
-      ss = needs i v ++ writes i (f.addr n) v
+      ss = needs i v ++ writes i (f.addr n) (size f n) v
 
       b : BodyTree
       b = body_on (room - 1) f p (f.to n Next) (place_after i v)
@@ -323,9 +323,9 @@ module _ (f : Flow) (p : Part) (ranges : List Range) where
   -- after a branch, in both of its forms
   pub branch_leads : (n room : ℕ) (v : Place) (i : Instr) (c : Cmp) (rs1 rs2 : ℕ) (offset : ℤ) (x y : ℕ) (from : Option StandingTree) (t1 t2 : StandingTree) (old a b d new : LogTree) → n < f.nodes → i ≡ f.instr n → i ≡ instr.Branch c rs1 rs2 offset → (room ≡ 0 → ⊥) →
       x ≡ f.to n Taken → y ≡ f.to n Next →
-      Steps f (part_def f p).entry ranges old a (Const (f.addr n)) v from (pc_after (f.instr n) Taken (f.addr n) (names v)) (place_after (f.instr n) v) (map So (conditions (f.instr n) Taken (names v)) ++ new_facts (f.instr n) (f.addr n) v) t1 →
+      Steps f (part_def f p).entry ranges old a (Const (f.addr n)) v from (pc_after (f.instr n) Taken (f.addr n) (size f n) (names v)) (place_after (f.instr n) v) (map So (conditions (f.instr n) Taken (names v)) ++ new_facts (f.instr n) (f.addr n) (size f n) v) t1 →
       Leads f p ranges a b (Const (f.addr x)) v (Some t1) (body_on (room - 1) f p x v) →
-      Steps f (part_def f p).entry ranges b d (Const (f.addr n)) v from (pc_after (f.instr n) Next (f.addr n) (names v)) (place_after (f.instr n) v) (map So (conditions (f.instr n) Next (names v)) ++ new_facts (f.instr n) (f.addr n) v) t2 →
+      Steps f (part_def f p).entry ranges b d (Const (f.addr n)) v from (pc_after (f.instr n) Next (f.addr n) (size f n) (names v)) (place_after (f.instr n) v) (map So (conditions (f.instr n) Next (names v)) ++ new_facts (f.instr n) (f.addr n) (size f n) v) t2 →
       Leads f p ranges d new (Const (f.addr y)) v (Some t2) (body_on (room - 1) f p y v) → Leads f p ranges old new (Const (f.addr n)) v from (body_at room f p n v)
   branch_leads n room v i c rs1 rs2 offset x y from t1 t2 old a b d new node is branch some left right one go_one two go_two =
       subst (λ (z : BodyTree). Leads f p ranges old new (Const (f.addr n)) v from z) (goes_two_ways f p n room v i c rs1 rs2 offset is branch some) (record {
@@ -334,12 +334,12 @@ module _ (f : Flow) (p : Part) (ranges : List Range) where
             let at = s.code.each n node in
             let edge = λ (form : Form). ap (λ (j : Instr). has_edge j form) same in
             let first = one.each s path ready here in
-            let there = subst (λ (j : Instr). Here s a (pc_after (f.instr n) Taken (f.addr n) (names v)) (place_after j v) (path ++ (map So (conditions j Taken (names v)) ++ new_facts j (f.addr n) v)) t1) same first.stands in
+            let there = subst (λ (j : Instr). Here s a (pc_after (f.instr n) Taken (f.addr n) (size f n) (names v)) (place_after j v) (path ++ (map So (conditions j Taken (names v)) ++ new_facts j (f.addr n) (size f n) v)) t1) same first.stands in
             let stands = subst (λ (pc : WordTree). Here s a pc v (path ++ So test ∷ []) t1) (at.goes Taken (names v) (edge Taken)) there in
             let led = on_one.each s (path ++ So test ∷ []) first.grown.ready stands (closed_more (past f ranges s old) (past f ranges s a) bx first.grown.keeps closed.0) in
             let half = led_after s old a b (body_leaves g (part_def f p) bx v.words v.mems (path ++ So test ∷ [])) first.grown first.cited led in
             let second = two.each s path half.grown.ready (from_on f ranges s (part_def f p).entry old b (Const (f.addr n)) v path from half.grown here) in
-            let there2 = subst (λ (j : Instr). Here s d (pc_after (f.instr n) Next (f.addr n) (names v)) (place_after j v) (path ++ (map So (conditions j Next (names v)) ++ new_facts j (f.addr n) v)) t2) same second.stands in
+            let there2 = subst (λ (j : Instr). Here s d (pc_after (f.instr n) Next (f.addr n) (size f n) (names v)) (place_after j v) (path ++ (map So (conditions j Next (names v)) ++ new_facts j (f.addr n) (size f n) v)) t2) same second.stands in
             let stands2 = subst (λ (pc : WordTree). Here s d pc v (path ++ So (Neg test) ∷ []) t2) (at.goes Next (names v) (edge Next)) there2 in
             let led2 = on_two.each s (path ++ So (Neg test) ∷ []) second.grown.ready stands2
             (closed_more (past f ranges s b) (past f ranges s d) by second.grown.keeps (closed_more (past f ranges s old) (past f ranges s b) by half.grown.keeps closed.1)) in
@@ -367,7 +367,7 @@ module _ (f : Flow) (p : Part) (ranges : List Range) where
 
   -- after a return
   pub return_leads : (n room : ℕ) (v : Place) (from : Option StandingTree) (t : StandingTree) (old mid : LogTree) → IsNear f p room n → is_return (f.instr n) ≡ true → (room ≡ 0 → ⊥) →
-      Steps f (part_def f p).entry ranges old mid (Const (f.addr n)) v from (pc_after (f.instr n) Next (f.addr n) (names v)) (place_after (f.instr n) v) (map So (conditions (f.instr n) Next (names v)) ++ new_facts (f.instr n) (f.addr n) v) t →
+      Steps f (part_def f p).entry ranges old mid (Const (f.addr n)) v from (pc_after (f.instr n) Next (f.addr n) (size f n) (names v)) (place_after (f.instr n) v) (map So (conditions (f.instr n) Next (names v)) ++ new_facts (f.instr n) (f.addr n) (size f n) v) t →
       Leads f p ranges old (citing t.number mid) (Const (f.addr n)) v from (body_at room f p n v)
   return_leads n room v from t old mid near jump some step =
       subst (λ (z : BodyTree). Leads f p ranges old (citing t.number mid) (Const (f.addr n)) v from z) (goes_back f p n room v (f.instr n) refl jump some) (record {
@@ -379,16 +379,16 @@ module _ (f : Flow) (p : Part) (ranges : List Range) where
             let out = near.graph.returned n near.node jump in
             let own_exit : slice_get (exits_of f p) 0 ≡ Some Ret = ret_exit p (sym near.region ∙ out.0) out.1 in
             let stood = step.each s path ready here in
-            let pc : WordTree = pc_after i Next (f.addr n) (names v) in
+            let pc : WordTree = pc_after i Next (f.addr n) (size f n) (names v) in
             let cs : List FactTree = map So (conditions i Next (names v)) in
-            let there = subst (λ (j : Instr). Here s mid (pc_after j Next (f.addr n) (names v)) (place_after j v) (path ++ (map So (conditions j Next (names v)) ++ new_facts j (f.addr n) v)) t) is stood.stands in
+            let there = subst (λ (j : Instr). Here s mid (pc_after j Next (f.addr n) (size f n) (names v)) (place_after j v) (path ++ (map So (conditions j Next (names v)) ++ new_facts j (f.addr n) (size f n) v)) t) is stood.stands in
             let none : cs ++ [] ≡ cs = append-nil cs in
             let facts : path ++ (cs ++ []) ≡ facts_after (needs i v) v.words v.mems path = (λ j. path ++ none j) ∙ sym (need-facts (conditions i Next (names v)) v.words v.mems path) in
             let known = subst (λ (fs : List FactTree). Here s mid pc v fs t) facts there in
             let led = led_after s old mid (citing t.number mid) (record { facts = facts_after (needs i v) v.words v.mems path; post = with_values g pc (current f v) } ∷ []) stood.grown stood.cited
             (cited_led s mid pc v (facts_after (needs i v) v.words v.mems path) t stood.grown.ready known) in
             let vals : ValuesTree = with_pc pc (current f v) in
-            let leaves : record { facts = facts_after (needs i v) v.words v.mems path; post = with_values g pc (current f v) } ∷ [] ≡ body_leaves g (part_def f p) (returned_body f i (f.addr n) v) v.words v.mems path =
+            let leaves : record { facts = facts_after (needs i v) v.words v.mems path; post = with_values g pc (current f v) } ∷ [] ≡ body_leaves g (part_def f p) (returned_body f i (f.addr n) (size f n) v) v.words v.mems path =
             (λ j. record { facts = facts_after (needs i v) v.words v.mems path; post = at_exit g (sym own_exit j) vals } ∷ []) ∙ sym (leaves-steps g (part_def f p) (needs i v) (Leave 0 vals) v.words v.mems path) in
-            subst (λ (j : Instr). Led f p ranges s old (citing t.number mid) (body_leaves g (part_def f p) (returned_body f j (f.addr n) v) v.words v.mems path)) (sym is) (subst (λ ls. Led f p ranges s old (citing t.number mid) ls) leaves led);
+            subst (λ (j : Instr). Led f p ranges s old (citing t.number mid) (body_leaves g (part_def f p) (returned_body f j (f.addr n) (size f n) v) v.words v.mems path)) (sym is) (subst (λ ls. Led f p ranges s old (citing t.number mid) ls) leaves led);
       })

@@ -1,13 +1,14 @@
 -- The triples of one instruction: its axiom, over the current variables, over all registers, and with new variables.
-use Rattle.std.proofs.Common.{◌≡◌, ℕ, zero, suc, ◌+◌, ◌≤◌, List, [], ◌∷◌, ◌++◌, map, length, drop, filter, Bool, true, false, cond, not, eqb, ◌||◌, refl, sym, ap, ◌∙◌, subst, arith, Some, None, inl, inr, Contains, eqb-true, eq-eqb, ne_eqb}
+use Rattle.std.proofs.Common.{◌≡◌, ℕ, zero, suc, ◌+◌, ◌^◌, ◌≤◌, List, [], ◌∷◌, ◌++◌, map, length, drop, filter, Bool, true, false, cond, not, eqb, leb, ◌&&◌, ◌||◌, refl, sym, ap, ◌∙◌, subst, arith, Some, None, inl, inr, Contains, eqb-true, eq-eqb, ne_eqb}
 use Rattle.std.specs.List.{AllZip, range_with_len, position_or_len}
 use Rattle.std.specs.Option.{option_and_then}
 use Rattle.std.specs.Prelude.{unwrap_or}
 use Rattle.std.proofs.lemmas.List.Elements.{Contains-append_left, Contains-append_right}
 use Rattle.rv_decode.specs.declared.instruction.Instr.{Instr}
 use Rattle.rv_decode.specs.declared.instruction.Instr.TheVariants as instr
-use Rattle.rv_decode.specs.Decodes.{decoded}
-use Rattle.rv_machine.specs.Step.{is_aligned}
+use Rattle.std.proofs.lemmas.Bool.Decides.{nat_tests}
+use Rattle.rvc.specs.Number.{instruction_of, length_of}
+use Rattle.rv_machine.specs.Step.{is_even}
 use Rattle.word_terms.specs.Tree.{WordTree, MemTree, Const, Var, Bin, Extend, Load, MemVar, Store}
 use Rattle.rv_words.specs.declared.range.Range.{Range}
 use Rattle.word_terms.specs.Substitution.{listed, put_in_mem}
@@ -53,10 +54,11 @@ own-test i r c = filter-test (is_own i) (range_with_len 1 31) r c
 
 -- ---- the axiom
 
-pub axiom-is : (i : Instr) (a w : ℕ) (form : Form) → is_aligned a ≡ true → decoded w ≡ Some i → has_form i form a ≡ true → axiom_of a w form ≡ Some (own_triple i form a w)
+pub axiom-is : (i : Instr) (a w : ℕ) (form : Form) → is_even a ≡ true → a + length_of w ≤ 2 ^ 64 → instruction_of w ≡ Some i → has_form i form ≡ true → axiom_of a w form ≡ Some (own_triple i form a w)
 unfolding axiom_of
-axiom-is i a w form even is has =
-    (λ j. cond (even j) (option_and_then (triple_if a w form) (is j)) None) ∙ (λ j. cond (has j) (Some (own_triple i form a w)) None)
+axiom-is i a w form even room is has =
+    let fits : leb (a + length_of w) (2 ^ 64) ≡ true = grind (arith, nat_tests) in
+    (λ j. cond (even j && fits j) (option_and_then (triple_if a w form) (is j)) None) ∙ (λ j. cond (has j) (Some (own_triple i form a w)) None)
 
 memory-same : (i : Instr) (n : Names) → is_store i ≡ false → memory_after i n ≡ n.memory
 memory-same (instr.Op o rd rs1 rs2) n e = refl
@@ -113,15 +115,15 @@ wider-mems : (h m : Bool) (x y : MemTree) → (h ≡ true → m ≡ true) → (h
 wider-mems true m x y e f = (λ i. y ∷ drop 1 (memory_if (e refl i) x)) ∙ (λ i. memory_if (sym (e refl) i) y)
 wider-mems false m x y e f = ap (memory_if m) (f refl)
 
-module _ (i : Instr) (form : Form) (a : ℕ) (code : List Range) (regs : List ℕ) (mem : Bool) (rise : AreRegistersFrom 1 regs)
+module _ (i : Instr) (form : Form) (a k : ℕ) (code : List Range) (regs : List ℕ) (mem : Bool) (rise : AreRegistersFrom 1 regs)
     (within : (r : ℕ) → Contains (own i) r → Contains regs r) (memory : has_memory i ≡ true → mem ≡ true) (n : Names) where
   own-wider : (w : ℕ → WordTree) → map (register_with w) (own i) ≡ those_listed (map (register_with w) (own i)) (map (register_with w) regs)
   own-wider w =
       sym (passing w w (λ r. is_listed (map (register_with w) (own i)) r) (is_in (own i)) regs (λ r c. any-map w (own i) r) (λ r c t. refl)
       ∙ ap (map (register_with w)) (smaller-is 1 (own i) regs (own-rise i) rise within))
 
-  apart : (r : ℕ) → Contains regs r → not (is_in (own i) r) ≡ true → n.word r ≡ word_after i a n r
-  apart r c t = λ j. cond (sym other j) (result i a n) (n.word r)
+  apart : (r : ℕ) → Contains regs r → not (is_in (own i) r) ≡ true → n.word r ≡ word_after i a k n r
+  apart r c t = λ j. cond (sym other j) (result i a k n) (n.word r)
     where
       not_in : (b : Bool) → not b ≡ true → b ≡ false
       not_in true e = absurd (cc)
@@ -135,16 +137,16 @@ module _ (i : Instr) (form : Form) (a : ℕ) (code : List Range) (regs : List �
           let no_in = not_in (is_in (own i) r) t in
           let clash : true ≡ false = sym yes_in ∙ no_in in cc)
 
-  pub is_framed : IsFramed (triple_over i form a code (own i) (has_memory i) n) (triple_over i form a code regs mem n)
+  pub is_framed : IsFramed (triple_over i form a k code (own i) (has_memory i) n) (triple_over i form a k code regs mem n)
   is_framed = record {
     facts = refl;
     code = refl;
     pre_pc = refl;
     post_pc = refl;
     pre_regs = own-wider n.word;
-    post_regs = own-wider (word_after i a n);
-    further_regs = passing n.word (word_after i a n) (λ r. not (is_listed (map (register_with n.word) (own i)) r)) (λ r. not (is_in (own i) r)) regs (λ r c. ap not (any-map n.word (own i) r)) apart
-        ∙ sym (passing (word_after i a n) (word_after i a n) (λ r. not (is_listed (map (register_with (word_after i a n)) (own i)) r)) (λ r. not (is_in (own i) r)) regs (λ r c. ap not (any-map (word_after i a n) (own i) r)) (λ r c t. refl));
+    post_regs = own-wider (word_after i a k n);
+    further_regs = passing n.word (word_after i a k n) (λ r. not (is_listed (map (register_with n.word) (own i)) r)) (λ r. not (is_in (own i) r)) regs (λ r c. ap not (any-map n.word (own i) r)) apart
+        ∙ sym (passing (word_after i a k n) (word_after i a k n) (λ r. not (is_listed (map (register_with (word_after i a k n)) (own i)) r)) (λ r. not (is_in (own i) r)) regs (λ r c. ap not (any-map (word_after i a k n) (own i) r)) (λ r c t. refl));
     pre_mems = wider-mems (has_memory i) mem n.memory n.memory memory (λ e. refl);
     post_mems = wider-mems (has_memory i) mem n.memory (memory_after i n) memory (λ e. sym (memory-same i n (store-has_memory i e)));
   }
@@ -168,8 +170,8 @@ module _ (i : Instr) (v : Place) (reads : (r : ℕ) → Contains (sources i) r �
       by_memory true e = refl
       by_memory false e = absurd (cc)
 
-  pub is_put : (form : Form) (a : ℕ) (code : List Range) → IsInst (put_for (own_words i v) (own_mems i v)) (triple_over i form a code (own i) (has_memory i) (variables_for (own i))) (triple_over i form a code (own i) (has_memory i) (names v))
-  is_put form a code = is_inst (put_for (own_words i v) (own_mems i v)) (variables_for (own i)) (names v) (own i) (has_memory i) becomes a i form code (record {
+  pub is_put : (form : Form) (a k : ℕ) (code : List Range) → IsInst (put_for (own_words i v) (own_mems i v)) (triple_over i form a k code (own i) (has_memory i) (variables_for (own i))) (triple_over i form a k code (own i) (has_memory i) (names v))
+  is_put form a k code = is_inst (put_for (own_words i v) (own_mems i v)) (variables_for (own i)) (names v) (own i) (has_memory i) becomes a k i form code (record {
     reads = λ r c ne. let range = reads r c ne in own-has i r range.0 range.1 (or_right (eqb (destination i) r) (is_read i r) (in-true (sources i) r c));
     memory = λ e. e;
   })
@@ -195,24 +197,24 @@ swap-memory : (facts : List FactTree) (b : Bool) (x y : MemTree) → SwapMem fac
 swap-memory facts true x y h = (h, tt)
 swap-memory facts false x y h = tt
 
-module _ (i : Instr) (a : ℕ) (v : Place) (facts : List FactTree) (known : (x : FactTree) → Contains (new_facts i a v) x → Contains facts x) where
-  new-word : (r : ℕ) → 1 ≤ r → SwapWord facts (word_after i a (names v) r) (Var ((place_after i v).reg r))
+module _ (i : Instr) (a k : ℕ) (v : Place) (facts : List FactTree) (known : (x : FactTree) → Contains (new_facts i a k v) x → Contains facts x) where
+  new-word : (r : ℕ) → 1 ≤ r → SwapWord facts (word_after i a k (names v) r) (Var ((place_after i v).reg r))
   new-word r low = go (is_store i) refl known
     where
-      goes : (b c : Bool) → eqb (destination i) 0 ≡ b → eqb r (destination i) ≡ c → ((x : FactTree) → Contains (cond b [] (WordIs (Var v.words) (result i a (names v)) ∷ [])) x → Contains facts x) →
-          SwapWord facts (cond c (result i a (names v)) (Var (v.reg r))) (Var ((cond b v (record { words = suc v.words; mems = v.mems; reg = λ q. cond (eqb q (destination i)) v.words (v.reg q); memory = v.memory })).reg r))
+      goes : (b c : Bool) → eqb (destination i) 0 ≡ b → eqb r (destination i) ≡ c → ((x : FactTree) → Contains (cond b [] (WordIs (Var v.words) (result i a k (names v)) ∷ [])) x → Contains facts x) →
+          SwapWord facts (cond c (result i a k (names v)) (Var (v.reg r))) (Var ((cond b v (record { words = suc v.words; mems = v.mems; reg = λ q. cond (eqb q (destination i)) v.words (v.reg q); memory = v.memory })).reg r))
       goes true true is at more = absurd (let z = eqb-true (destination i) 0 is in let y = eqb-true r (destination i) at in omega (arith, z, y, low))
       goes true false is at more = inl refl
-      goes false true is at more = stated-word facts (result i a (names v)) (Var (cond (eqb r (destination i)) v.words (v.reg r)))
-          (subst (λ k. WordsStated facts (result i a (names v)) (Var (cond k v.words (v.reg r)))) (sym at) (inr (inr (more (WordIs (Var v.words) (result i a (names v))) (0, omega arith, refl)))))
+      goes false true is at more = stated-word facts (result i a k (names v)) (Var (cond (eqb r (destination i)) v.words (v.reg r)))
+          (subst (λ t. WordsStated facts (result i a k (names v)) (Var (cond t v.words (v.reg r)))) (sym at) (inr (inr (more (WordIs (Var v.words) (result i a k (names v))) (0, omega arith, refl)))))
       goes false false is at more = subst (λ k. WordsStated facts (Var (v.reg r)) (Var (cond k v.words (v.reg r)))) (sym at) (inl refl)
 
-      none : eqb (destination i) 0 ≡ true → (c : Bool) → eqb r (destination i) ≡ c → SwapWord facts (cond c (result i a (names v)) (Var (v.reg r))) (Var (v.reg r))
+      none : eqb (destination i) 0 ≡ true → (c : Bool) → eqb r (destination i) ≡ c → SwapWord facts (cond c (result i a k (names v)) (Var (v.reg r))) (Var (v.reg r))
       none is true at = absurd (let z = eqb-true (destination i) 0 is in let y = eqb-true r (destination i) at in omega (arith, z, y, low))
       none is false at = inl refl
 
-      go : (s : Bool) → is_store i ≡ s → ((x : FactTree) → Contains (cond s (MemIs (MemVar v.mems) (memory_after i (names v)) ∷ []) (cond (eqb (destination i) 0) [] (WordIs (Var v.words) (result i a (names v)) ∷ []))) x → Contains facts x) →
-          SwapWord facts (word_after i a (names v) r) (Var ((cond s (stored v) (wrote (destination i) v)).reg r))
+      go : (s : Bool) → is_store i ≡ s → ((x : FactTree) → Contains (cond s (MemIs (MemVar v.mems) (memory_after i (names v)) ∷ []) (cond (eqb (destination i) 0) [] (WordIs (Var v.words) (result i a k (names v)) ∷ []))) x → Contains facts x) →
+          SwapWord facts (word_after i a k (names v) r) (Var ((cond s (stored v) (wrote (destination i) v)).reg r))
       go true is more = none (eq-eqb (destination i) 0 (store-writes_none i is)) (eqb r (destination i)) refl
       go false is more = goes (eqb (destination i) 0) (eqb r (destination i)) refl refl more
 
@@ -223,23 +225,23 @@ module _ (i : Instr) (a : ℕ) (v : Place) (facts : List FactTree) (known : (x :
       kept true = refl
       kept false = refl
 
-      go : (s : Bool) → is_store i ≡ s → ((x : FactTree) → Contains (cond s (MemIs (MemVar v.mems) (memory_after i (names v)) ∷ []) (cond (eqb (destination i) 0) [] (WordIs (Var v.words) (result i a (names v)) ∷ []))) x → Contains facts x) →
+      go : (s : Bool) → is_store i ≡ s → ((x : FactTree) → Contains (cond s (MemIs (MemVar v.mems) (memory_after i (names v)) ∷ []) (cond (eqb (destination i) 0) [] (WordIs (Var v.words) (result i a k (names v)) ∷ []))) x → Contains facts x) →
           SwapMem facts (memory_after i (names v)) (MemVar (cond s (stored v) (wrote (destination i) v)).memory)
       go true is more = stated-mem facts (memory_after i (names v)) (MemVar v.mems) (inr (inr (more (MemIs (MemVar v.mems) (memory_after i (names v))) (0, omega arith, refl))))
       go false is more = stated-mem facts (memory_after i (names v)) (MemVar (wrote (destination i) v).memory) (inl (memory-same i (names v) is ∙ ap MemVar (sym (kept (eqb (destination i) 0)))))
 
-pub is_weakened : (i : Instr) (form : Form) (a : ℕ) (code : List Range) (regs : List ℕ) (mem : Bool) (v : Place) → AreRegistersFrom 1 regs →
-    IsWeakened (triple_over i form a code regs mem (names v)) (named_triple i form a code regs mem v)
-is_weakened i form a code regs mem v rise =
-    let facts : List FactTree = map So (conditions i form (names v)) ++ new_facts i a v in
-    let known = λ (x : FactTree) (c : Contains (new_facts i a v) x). Contains-append_right (map So (conditions i form (names v))) (new_facts i a v) x c in
+pub is_weakened : (i : Instr) (form : Form) (a k : ℕ) (code : List Range) (regs : List ℕ) (mem : Bool) (v : Place) → AreRegistersFrom 1 regs →
+    IsWeakened (triple_over i form a k code regs mem (names v)) (named_triple i form a k code regs mem v)
+is_weakened i form a k code regs mem v rise =
+    let facts : List FactTree = map So (conditions i form (names v)) ++ new_facts i a k v in
+    let known = λ (x : FactTree) (c : Contains (new_facts i a k v) x). Contains-append_right (map So (conditions i form (names v))) (new_facts i a k v) x c in
     record {
       code = refl;
       pre = refl;
-      facts = record { each = λ x c. Contains-append_left (map So (conditions i form (names v))) (new_facts i a v) x c };
+      facts = record { each = λ x c. Contains-append_left (map So (conditions i form (names v))) (new_facts i a k v) x c };
       post = record {
-        pc = stated-word facts (pc_after i form a (names v)) (pc_after i form a (names v)) (inl refl);
-        regs = swap-registers facts (word_after i a (names v)) (names (place_after i v)).word regs (λ r c. let range = in_range 1 regs r rise c in new-word i a v facts known r range.0);
-        mems = swap-memory facts mem (memory_after i (names v)) (MemVar (place_after i v).memory) (new-memory i a v facts known);
+        pc = stated-word facts (pc_after i form a k (names v)) (pc_after i form a k (names v)) (inl refl);
+        regs = swap-registers facts (word_after i a k (names v)) (names (place_after i v)).word regs (λ r c. let range = in_range 1 regs r rise c in new-word i a k v facts known r range.0);
+        mems = swap-memory facts mem (memory_after i (names v)) (MemVar (place_after i v).memory) (new-memory i a k v facts known);
       };
     }

@@ -16,25 +16,25 @@ use Rattle.path_walk.specs.inner.Near.{IsEnd, IsNear, IsNext}
 
 -- ---- forms
 
-pub edge_form : (f : Flow) (ranges : List Range) (n : ℕ) (form : Form) → IsCode f ranges → n < f.nodes → has_edge (f.instr n) form ≡ true → has_form (f.instr n) form (f.addr n) ≡ true
+pub edge_form : (f : Flow) (ranges : List Range) (n : ℕ) (form : Form) → IsCode f ranges → n < f.nodes → has_edge (f.instr n) form ≡ true → has_form (f.instr n) form ≡ true
 edge_form f ranges n form code node edge = (code.each n node).form form edge
 
-return-has : (i : Instr) (a : ℕ) → is_return i ≡ true → has_form i Next a ≡ true
-return-has (instr.Jalr rd rs1 imm) a is = refl
-return-has (instr.Op o rd rs1 rs2) a is = absurd (cc)
-return-has (instr.OpImm o rd rs1 imm) a is = absurd (cc)
-return-has (instr.Lui rd imm) a is = absurd (cc)
-return-has (instr.Auipc rd imm) a is = absurd (cc)
-return-has (instr.Jal rd offset) a is = absurd (cc)
-return-has (instr.Branch c rs1 rs2 offset) a is = absurd (cc)
-return-has (instr.Load w signed rd rs1 imm) a is = absurd (cc)
-return-has (instr.Store w rs1 rs2 imm) a is = absurd (cc)
-return-has (instr.Fence imm rs1 rd) a is = absurd (cc)
-return-has instr.Ecall a is = absurd (cc)
-return-has instr.Ebreak a is = absurd (cc)
+return-has : (i : Instr) → is_return i ≡ true → has_form i Next ≡ true
+return-has (instr.Jalr rd rs1 imm) is = refl
+return-has (instr.Op o rd rs1 rs2) is = absurd (cc)
+return-has (instr.OpImm o rd rs1 imm) is = absurd (cc)
+return-has (instr.Lui rd imm) is = absurd (cc)
+return-has (instr.Auipc rd imm) is = absurd (cc)
+return-has (instr.Jal rd offset) is = absurd (cc)
+return-has (instr.Branch c rs1 rs2 offset) is = absurd (cc)
+return-has (instr.Load w signed rd rs1 imm) is = absurd (cc)
+return-has (instr.Store w rs1 rs2 imm) is = absurd (cc)
+return-has (instr.Fence imm rs1 rd) is = absurd (cc)
+return-has instr.Ecall is = absurd (cc)
+return-has instr.Ebreak is = absurd (cc)
 
-pub return_form : (f : Flow) (n : ℕ) → is_return (f.instr n) ≡ true → has_form (f.instr n) Next (f.addr n) ≡ true
-return_form f n is = return-has (f.instr n) (f.addr n) is
+pub return_form : (f : Flow) (n : ℕ) → is_return (f.instr n) ≡ true → has_form (f.instr n) Next ≡ true
+return_form f n is = return-has (f.instr n) is
 
 -- ---- variables
 

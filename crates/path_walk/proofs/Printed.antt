@@ -22,7 +22,7 @@ use Rattle.instr_axioms.specs.Terms.{word_in, sum, loaded, conditions, result, m
 use Rattle.instr_axioms.specs.Axiom.{memory_if}
 use Rattle.code_parts.specs.declared.part.Part.{Part}
 use Rattle.code_parts.specs.declared.part.Part.TheVariants.{Loop, Rest}
-use Rattle.code_parts.specs.Bodies.{Flow, Place, names, mem_count, current, fresh, start, with_pc, is_store, stored, place_after, needs, writes, Straight, action_of, first, rest_targets, targets, returned, rest_from, index_of, end_of, or_else, arms_over, last_at, rest_arms, end_at, action_body, body_at, rest_body, part_body, part_def}
+use Rattle.code_parts.specs.Bodies.{Flow, Place, size, names, mem_count, current, fresh, start, with_pc, is_store, stored, place_after, needs, writes, Straight, action_of, first, rest_targets, targets, returned, rest_from, index_of, end_of, or_else, arms_over, last_at, rest_arms, end_at, action_body, body_at, rest_body, part_body, part_def}
 use Rattle.code_parts.specs.Graph.{IsSmall}
 use Rattle.path_walk.proofs.Limits.{exits-few}
 use Rattle.code_parts.proofs.Places.{position-most}
@@ -58,19 +58,19 @@ module _ (v : Place) (n : ℕ) (low : IsLow v n) (few : n < 2 ^ 16) where
   loaded-small B8 true r imm = (memory-small, sum-small 61 r imm)
   loaded-small w false r imm = (memory-small, sum-small 61 r imm)
 
-  pub result-small : (i : Instr) (a : ℕ) → IsWord (result i a (names v))
-  result-small (instr.Op o rd rs1 rs2) a = (source-small 62 rs1, source-small 62 rs2)
-  result-small (instr.OpImm o rd rs1 imm) a = (source-small 62 rs1, word_of_small imm)
-  result-small (instr.Lui rd imm) a = word_of_small _
-  result-small (instr.Auipc rd imm) a = mod-lt (a + upper imm) (omega arith)
-  result-small (instr.Jal rd offset) a = mod-lt (a + 4) (omega arith)
-  result-small (instr.Jalr rd rs1 imm) a = mod-lt (a + 4) (omega arith)
-  result-small (instr.Branch c rs1 rs2 offset) a = omega arith
-  result-small (instr.Load w signed rd rs1 imm) a = loaded-small w signed rs1 imm
-  result-small (instr.Store w rs1 rs2 imm) a = omega arith
-  result-small (instr.Fence imm rs1 rd) a = omega arith
-  result-small instr.Ecall a = omega arith
-  result-small instr.Ebreak a = omega arith
+  pub result-small : (i : Instr) (a k : ℕ) → IsWord (result i a k (names v))
+  result-small (instr.Op o rd rs1 rs2) a k = (source-small 62 rs1, source-small 62 rs2)
+  result-small (instr.OpImm o rd rs1 imm) a k = (source-small 62 rs1, word_of_small imm)
+  result-small (instr.Lui rd imm) a k = word_of_small _
+  result-small (instr.Auipc rd imm) a k = mod-lt (a + upper imm) (omega arith)
+  result-small (instr.Jal rd offset) a k = mod-lt (a + k) (omega arith)
+  result-small (instr.Jalr rd rs1 imm) a k = mod-lt (a + k) (omega arith)
+  result-small (instr.Branch c rs1 rs2 offset) a k = omega arith
+  result-small (instr.Load w signed rd rs1 imm) a k = loaded-small w signed rs1 imm
+  result-small (instr.Store w rs1 rs2 imm) a k = omega arith
+  result-small (instr.Fence imm rs1 rd) a k = omega arith
+  result-small instr.Ecall a k = omega arith
+  result-small instr.Ebreak a k = omega arith
 
   pub memory_after-small : (i : Instr) → IsMem (memory_after i (names v))
   memory_after-small (instr.Op o rd rs1 rs2) = memory-small
@@ -92,7 +92,7 @@ module _ (v : Place) (n : ℕ) (low : IsLow v n) (few : n < 2 ^ 16) where
   conditions-small (instr.Lui rd imm) form = tt
   conditions-small (instr.Auipc rd imm) form = tt
   conditions-small (instr.Jal rd offset) form = tt
-  conditions-small (instr.Jalr rd rs1 imm) form = (((sum-small 60 rs1 imm, omega arith), omega arith), tt)
+  conditions-small (instr.Jalr rd rs1 imm) form = tt
   conditions-small (instr.Branch c rs1 rs2 offset) Next = ((source-small 61 rs1, source-small 61 rs2), tt)
   conditions-small (instr.Branch c rs1 rs2 offset) Taken = ((source-small 62 rs1, source-small 62 rs2), tt)
   conditions-small (instr.Load w signed rd rs1 imm) form = ((memory-small, sum-small 61 rs1 imm), tt)
@@ -108,13 +108,13 @@ module _ (v : Place) (n : ℕ) (low : IsLow v n) (few : n < 2 ^ 16) where
       go [] h = tt
       go (c ∷ cs) h = (h.0, go cs h.1)
 
-  writes-printed : (i : Instr) (a : ℕ) → AllByRecursion IsStep (writes i a v)
-  writes-printed i a = go (is_store i) (eqb (destination i) 0)
+  writes-printed : (i : Instr) (a k : ℕ) → AllByRecursion IsStep (writes i a k v)
+  writes-printed i a k = go (is_store i) (eqb (destination i) 0)
     where
-      go : (s d : Bool) → AllByRecursion IsStep (cond s (BindMem (memory_after i (names v)) ∷ []) (cond d [] (Bind (result i a (names v)) ∷ [])))
+      go : (s d : Bool) → AllByRecursion IsStep (cond s (BindMem (memory_after i (names v)) ∷ []) (cond d [] (Bind (result i a k (names v)) ∷ [])))
       go true d = (memory_after-small i, tt)
       go false true = tt
-      go false false = (result-small i a, tt)
+      go false false = (result-small i a k, tt)
 
   pub values-printed : (f : Flow) → IsValues (current f v)
   values-printed f = (go f.regs, one f.has_mem)
@@ -254,11 +254,11 @@ module _ (f : Flow) (small : IsSmall f) where
         cut_or on e k u x le low few = either (suc (suc e)) (f.is_cut k) (end_at f p k u) (body_at room f p k u) (at-printed e k u x low (omega (arith, few))) (on e k u x le low few)
 
         straight : ((e m : ℕ) (v : Place) (n : ℕ) → room ≤ e → IsLow v n → n + room ≤ 900 → IsBody (suc (suc e)) (body_at room f p m v)) → (i : Instr)
-            → IsBody (suc (suc (suc d))) (action_body f p (Straight (needs i v ++ writes i (f.addr m) v) (place_after i v) (f.to m Next)) v (body_at room f p))
-        straight on i = steps-printed (suc (suc d)) (needs i v ++ writes i (f.addr m) v) _ (steps-join (needs i v) (writes i (f.addr m) v) (needs-printed v n low few_now i Next) (writes-printed v n low few_now i (f.addr m)))
+            → IsBody (suc (suc (suc d))) (action_body f p (Straight (needs i v ++ writes i (f.addr m) (size f m) v) (place_after i v) (f.to m Next)) v (body_at room f p))
+        straight on i = steps-printed (suc (suc d)) (needs i v ++ writes i (f.addr m) (size f m) v) _ (steps-join (needs i v) (writes i (f.addr m) (size f m) v) (needs-printed v n low few_now i Next) (writes-printed v n low few_now i (f.addr m) (size f m)))
             (cut_or on (suc d) (f.to m Next) (place_after i v) (suc n) (omega (arith, le)) (place-low v n low few_now i) (omega (arith, few)))
 
-        go : ((e m : ℕ) (v : Place) (n : ℕ) → room ≤ e → IsLow v n → n + room ≤ 900 → IsBody (suc (suc e)) (body_at room f p m v)) → (i : Instr) → IsBody (suc (suc (suc d))) (action_body f p (action_of i (f.addr m) (f.to m) v) v (body_at room f p))
+        go : ((e m : ℕ) (v : Place) (n : ℕ) → room ≤ e → IsLow v n → n + room ≤ 900 → IsBody (suc (suc e)) (body_at room f p m v)) → (i : Instr) → IsBody (suc (suc (suc d))) (action_body f p (action_of i (f.addr m) (size f m) (f.to m) v) v (body_at room f p))
         go on (instr.Op o rd rs1 rs2) = straight on (instr.Op o rd rs1 rs2)
         go on (instr.OpImm o rd rs1 imm) = straight on (instr.OpImm o rd rs1 imm)
         go on (instr.Lui rd imm) = straight on (instr.Lui rd imm)
@@ -275,7 +275,7 @@ module _ (f : Flow) (small : IsSmall f) where
         go on (instr.Jalr rd rs1 imm) =
             let s = sum-small v n low few_now 61 rs1 imm in
             let vals = values-printed v n low few_now f in
-            steps-printed (suc (suc d)) (needs (instr.Jalr rd rs1 imm) v) (Leave 0 (with_pc (pc_after (instr.Jalr rd rs1 imm) Next (f.addr m) (names v)) (current f v))) (needs-printed v n low few_now (instr.Jalr rd rs1 imm) Next)
+            steps-printed (suc (suc d)) (needs (instr.Jalr rd rs1 imm) v) (Leave 0 (with_pc (pc_after (instr.Jalr rd rs1 imm) Next (f.addr m) (size f m) (names v)) (current f v))) (needs-printed v n low few_now (instr.Jalr rd rs1 imm) Next)
             (omega arith, (((s, omega arith), vals.0), vals.1))
 
   start-low : IsLow (start f) 31

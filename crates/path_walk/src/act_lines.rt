@@ -6,6 +6,7 @@ ghost use Rattle.rv_words.specs.Ranges.{range_bytes};
 ghost use Rattle.word_terms.specs.Tree.{Const};
 ghost use Rattle.sep_assert.specs.Code.{IsWithin};
 ghost use Rattle.triple_kernel.specs.Tree.{So, fact_tree, triple_tree};
+ghost use Rattle.rvc.specs.Number.{length_of as length_in_bytes};
 ghost use Rattle.instr_axioms.specs.Terms as terms;
 ghost use Rattle.instr_axioms.specs.Axiom as axioms;
 ghost use Rattle.proof_text.specs.Line.{Inst};
@@ -27,6 +28,7 @@ use instr_axioms::{
 use proof_text::Rule;
 use rv_decode::{Instr, destination};
 use rv_words::{List, NoMemory};
+use rvc::length_of;
 use std::alloc::Global;
 use triple_kernel::{Fact, Triple};
 use word_terms::{Mem, Sub, Word};
@@ -36,16 +38,17 @@ fn add_new_fact(
     alloc: Global,
     i: Instr,
     addr: u64,
+    length: u8,
     place: &Place,
     facts: &mut List<Fact>,
 ) -> Result<(), NoMemory>
-    ensures { OnOk result (map fact_tree facts.new ≡ map fact_tree facts.old ++ spec.new_facts i addr (place_of place.now)) }
+    ensures { OnOk result (map fact_tree facts.new ≡ map fact_tree facts.old ++ spec.new_facts i addr length (place_of place.now)) }
 {
     if let Instr::Store { .. } = i {
         let m = memory_after(alloc, i, &place.names)?;
         facts.push(Fact::MemIs(Mem::Var(place.mems), m))?;
     } else if destination(&i) != 0 {
-        let t = result(alloc, i, addr, &place.names)?;
+        let t = result(alloc, i, addr, length, &place.names)?;
         facts.push(Fact::WordIs(Word::Var(place.words), t))?;
     }
     Ok(())
@@ -57,12 +60,13 @@ fn facts_of(
     i: Instr,
     form: Form,
     addr: u64,
+    length: u8,
     place: &Place,
 ) -> Result<List<Fact>, NoMemory>
-    ensures { IfOk result (λ fs. map fact_tree fs ≡ map So (terms.conditions i form (bodies.names (place_of place.now))) ++ spec.new_facts i addr (place_of place.now)) }
+    ensures { IfOk result (λ fs. map fact_tree fs ≡ map So (terms.conditions i form (bodies.names (place_of place.now))) ++ spec.new_facts i addr length (place_of place.now)) }
 {
     let mut known = facts(alloc, i, form, &place.names)?;
-    add_new_fact(alloc, i, addr, place, &mut known)?;
+    add_new_fact(alloc, i, addr, length, place, &mut known)?;
     Ok(known)
 }
 
@@ -79,12 +83,12 @@ fn named_triple(
     requires words { place.now.words < 2 ^ 15 }
     requires mems { place.now.mems < 2 ^ 15 }
     requires named { destination i < 32 }
-    ensures { IfOk result (λ t. triple_tree t ≡ spec.named_triple i form addr (axioms.word_code addr word) (flow_in flow.now).regs (flow_in flow.now).has_mem (place_of place.now)) }
+    ensures { IfOk result (λ t. triple_tree t ≡ spec.named_triple i form addr (length_in_bytes word) (axioms.word_code addr word) (flow_in flow.now).regs (flow_in flow.now).has_mem (place_of place.now)) }
 {
-    let known = facts_of(alloc, i, form, addr, place)?;
+    let known = facts_of(alloc, i, form, addr, length_of(word), place)?;
     let pre = standing_at(alloc, flow, Word::Const(addr), place)?;
     let code = word_code(alloc, addr, word)?;
-    let pc = pc_after(alloc, i, form, addr, &place.names)?;
+    let pc = pc_after(alloc, i, form, addr, length_of(word), &place.names)?;
     let next = after(i, *place);
     let post = standing_at(alloc, flow, pc, &next)?;
     Ok(Triple {
@@ -124,10 +128,10 @@ fn put_current(
     log: &mut Log,
 ) -> Result<u64, NoMemory>
     requires rule { IsRule (Inst first (spec.own_words i (place_of place.now)) (spec.own_mems i (place_of place.now))) }
-    requires stated { IsTriple (axioms.triple_over i form addr (axioms.word_code addr word) (axioms.own i) (terms.has_memory i) (bodies.names (place_of place.now))) }
+    requires stated { IsTriple (axioms.triple_over i form addr (length_in_bytes word) (axioms.word_code addr word) (axioms.own i) (terms.has_memory i) (bodies.names (place_of place.now))) }
     ensures number { IfOk result (λ k. k ≡ log.old.next) }
     ensures log { OnOk result (log_tree log.new ≡ stating (Inst first (spec.own_words i (place_of place.now)) (spec.own_mems i (place_of place.now)))
-        (axioms.triple_over i form addr (axioms.word_code addr word) (axioms.own i) (terms.has_memory i) (bodies.names (place_of place.now))) (log_tree log.old)) }
+        (axioms.triple_over i form addr (length_in_bytes word) (axioms.word_code addr word) (axioms.own i) (terms.has_memory i) (bodies.names (place_of place.now))) (log_tree log.old)) }
 {
     let regs = own(alloc, i)?;
     let regs = regs.as_slice();
@@ -198,16 +202,16 @@ fn act(
     requires node { n < (flow_in flow.now).nodes }
     requires words { place.now.words < 2 ^ 15 }
     requires mems { place.now.mems < 2 ^ 15 }
-    ensures { IfOk result (λ t. (w : ℕ) × StandsAt (flow_in flow.now) flow.now.code w n
-        × (standing_tree t ≡ spec.act_standing ((flow_in flow.now).instr n) form ((flow_in flow.now).addr n) w (place_of place.now) (log_tree log.old))
-        × (log_tree log.new ≡ spec.acted (flow_in flow.now) ((flow_in flow.now).instr n) form ((flow_in flow.now).addr n) w (place_of place.now) (log_tree log.old))) }
+    ensures { IfOk result (λ t. StandsAt (flow_in flow.now) flow.now.code n
+        × (standing_tree t ≡ spec.act_standing ((flow_in flow.now).instr n) form ((flow_in flow.now).addr n) ((flow_in flow.now).word n) (place_of place.now) (log_tree log.old))
+        × (log_tree log.new ≡ spec.acted (flow_in flow.now) ((flow_in flow.now).instr n) form ((flow_in flow.now).addr n) ((flow_in flow.now).word n) (place_of place.now) (log_tree log.old))) }
 {
     let i = flow.instr(n);
     let addr = flow.addr(n);
     let word = flow.word(n);
     flow.law_of_code();
     let number = act_lines(alloc, flow, i, form, addr, word, place, log)?;
-    let known = facts_of(alloc, i, form, addr, place)?;
+    let known = facts_of(alloc, i, form, addr, length_of(word), place)?;
     let code = word_code(alloc, addr, word)?;
     Ok(Standing::new(number, known, code))
 }
@@ -224,19 +228,19 @@ pub fn step(
     log: &mut Log,
 ) -> Result<Standing, NoMemory>
     requires node { n < (flow_in flow.now).nodes }
-    requires form { terms.has_form ((flow_in flow.now).instr n) form ((flow_in flow.now).addr n) ≡ true }
+    requires form { terms.has_form ((flow_in flow.now).instr n) form ≡ true }
     requires words { place.now.words < 2 ^ 15 }
     requires mems { place.now.mems < 2 ^ 15 }
     requires code { IsOver flow.now.code (option_map standing_tree (option_copied from)) }
     ensures steps { IfOk result (λ t. Steps (flow_in flow.now) entry flow.now.code (log_tree log.old) (log_tree log.new) (Const ((flow_in flow.now).addr n)) (place_of place.now) (option_map standing_tree (option_copied from.entry))
-        (terms.pc_after ((flow_in flow.now).instr n) form ((flow_in flow.now).addr n) (bodies.names (place_of place.now)))
+        (terms.pc_after ((flow_in flow.now).instr n) form ((flow_in flow.now).addr n) (bodies.size (flow_in flow.now) n) (bodies.names (place_of place.now)))
         (bodies.place_after ((flow_in flow.now).instr n) (place_of place.now))
-        (map So (terms.conditions ((flow_in flow.now).instr n) form (bodies.names (place_of place.now))) ++ spec.new_facts ((flow_in flow.now).instr n) ((flow_in flow.now).addr n) (place_of place.now)) (standing_tree t)) }
+        (map So (terms.conditions ((flow_in flow.now).instr n) form (bodies.names (place_of place.now))) ++ spec.new_facts ((flow_in flow.now).instr n) ((flow_in flow.now).addr n) (bodies.size (flow_in flow.now) n) (place_of place.now)) (standing_tree t)) }
     ensures code { IfOk result (λ t. IsWithin (range_bytes t.code) (range_bytes flow.now.code)) }
 {
     let last = act(alloc, flow, n, form, place, log)?;
     let i = flow.instr(n);
-    let pc = pc_after(alloc, i, form, flow.addr(n), &place.names)?;
+    let pc = pc_after(alloc, i, form, flow.addr(n), flow.size(n), &place.names)?;
     let next = after(i, *place);
     let there = go_on(alloc, flow, entry, from, last, pc, &next, log)?;
     Ok(there)

@@ -7,6 +7,7 @@ use Rattle.rv_words.specs.declared.range.Range.{Range}
 use Rattle.rv_words.specs.Ranges.{range_bytes}
 use Rattle.rv_decode.specs.declared.instruction.Instr.{Instr}
 use Rattle.rv_decode.specs.Registers.{destination}
+use Rattle.rvc.specs.Number.{length_of}
 use Rattle.word_terms.specs.Tree.{WordTree, MemTree, Const, Var, MemVar}
 use Rattle.tailrec_lang.specs.declared.group.Exit.{Exit}
 use Rattle.tailrec_lang.specs.declared.group.Exit.TheVariants.{At, Ret}
@@ -37,18 +38,18 @@ abbrev pub own_mems : Instr → Place → List (ℕ × MemTree)
 own_mems i v = numbered 0 (memory_if (has_memory i) (MemVar v.memory))
 
 -- what the definition knows of the new variable
-abbrev pub new_facts : Instr → ℕ → Place → List FactTree
-new_facts i a v =
-    if is_store i then MemIs (MemVar v.mems) (memory_after i (names v)) ∷ [] else (if destination i == 0 then [] else WordIs (Var v.words) (result i a (names v)) ∷ [])
+abbrev pub new_facts : Instr → ℕ → ℕ → Place → List FactTree
+new_facts i a k v =
+    if is_store i then MemIs (MemVar v.mems) (memory_after i (names v)) ∷ [] else (if destination i == 0 then [] else WordIs (Var v.words) (result i a k (names v)) ∷ [])
 
 -- the instruction's triple, with new variables for what was written
-abbrev pub named_triple : Instr → Form → ℕ → List Range → List ℕ → Bool → Place → TripleTree
-named_triple i form a code regs mem v = record {
-  facts = map So (conditions i form (names v)) ++ new_facts i a v;
+abbrev pub named_triple : Instr → Form → ℕ → ℕ → List Range → List ℕ → Bool → Place → TripleTree
+named_triple i form a k code regs mem v = record {
+  facts = map So (conditions i form (names v)) ++ new_facts i a k v;
   pre = before a regs mem (names v);
   code = code;
   post = record {
-    pc = pc_after i form a (names v);
+    pc = pc_after i form a k (names v);
     regs = map (register_with (names (place_after i v)).word) regs;
     mems = memory_if mem (names (place_after i v)).memory;
   };
@@ -57,16 +58,16 @@ named_triple i form a code regs mem v = record {
 -- its axiom, over the current variables, over all registers, and with new variables
 abbrev pub acted : Flow → Instr → Form → ℕ → ℕ → Place → LogTree → LogTree
 acted f i form a w v l =
-    stating (Weaken (l.next + 1 + 1)) (named_triple i form a (word_code a w) f.regs f.has_mem v)
-    (stating (Frame (l.next + 1)) (triple_over i form a (word_code a w) f.regs f.has_mem (names v))
-    (stating (Inst l.next (own_words i v) (own_mems i v)) (triple_over i form a (word_code a w) (own i) (has_memory i) (names v))
+    stating (Weaken (l.next + 1 + 1)) (named_triple i form a (length_of w) (word_code a w) f.regs f.has_mem v)
+    (stating (Frame (l.next + 1)) (triple_over i form a (length_of w) (word_code a w) f.regs f.has_mem (names v))
+    (stating (Inst l.next (own_words i v) (own_mems i v)) (triple_over i form a (length_of w) (word_code a w) (own i) (has_memory i) (names v))
     (stating (Axiom a w form) (own_triple i form a w) l)))
 
 -- the theorem that these end with
 abbrev pub act_standing : Instr → Form → ℕ → ℕ → Place → LogTree → StandingTree
 act_standing i form a w v l = record {
   number = l.next + 1 + 1 + 1;
-  facts = map So (conditions i form (names v)) ++ new_facts i a v;
+  facts = map So (conditions i form (names v)) ++ new_facts i a (length_of w) v;
   code = word_code a w;
 }
 
@@ -74,9 +75,9 @@ act_standing i form a w v l = record {
 pub record IsFineAct (f : Flow) (i : Instr) (form : Form) (a w : ℕ) (v : Place) : Type 0 where
   pub rule : (k : ℕ) → IsNumber k → IsRule (Inst k (own_words i v) (own_mems i v))
   pub first : IsTriple (own_triple i form a w)
-  pub current_over : IsTriple (triple_over i form a (word_code a w) (own i) (has_memory i) (names v))
-  pub wide : IsTriple (triple_over i form a (word_code a w) f.regs f.has_mem (names v))
-  pub named : IsTriple (named_triple i form a (word_code a w) f.regs f.has_mem v)
+  pub current_over : IsTriple (triple_over i form a (length_of w) (word_code a w) (own i) (has_memory i) (names v))
+  pub wide : IsTriple (triple_over i form a (length_of w) (word_code a w) f.regs f.has_mem (names v))
+  pub named : IsTriple (named_triple i form a (length_of w) (word_code a w) f.regs f.has_mem v)
 
 -- ---- one exit of a call
 

@@ -1,8 +1,10 @@
-use Rattle.std.proofs.Common.{◌≡◌, ℕ, ◌^◌, ◌<◌, true, sym, ◌∙◌, subst, arith}
+use Rattle.std.proofs.Common.{ℕ, ◌+◌, ◌^◌, ◌<◌, ◌≤◌, ◌++◌, map, sym, ◌∙◌, subst, arith}
 use Rattle.rv_decode.specs.declared.instruction.Instr.{Instr}
-use Rattle.rv_machine.specs.Step.{is_aligned}
-use Rattle.code_parts.specs.Bodies.{Flow, Place}
-use Rattle.path_walk.specs.inner.Acts.{IsFineAct, act_standing, acted}
+use Rattle.rvc.specs.Number.{length_of}
+use Rattle.triple_kernel.specs.Tree.{So}
+use Rattle.instr_axioms.specs.Terms.{conditions}
+use Rattle.code_parts.specs.Bodies.{Flow, Place, names}
+use Rattle.path_walk.specs.inner.Acts.{IsFineAct, act_standing, acted, new_facts}
 use Rattle.code_parts.specs.Kept.{flow_in}
 use Rattle.path_walk.specs.inner.Logs.{LogTree, log_tree}
 use Rattle.code_parts.specs.Places.{place_of}
@@ -14,31 +16,33 @@ pub act_lines-requires-clause-fine : goal.act_lines-requires-clause-fine
 act_lines-requires-clause-fine c =
     let f : Flow = flow_in c.args.flow.now in
     let v : Place = place_of c.args.place.now in
-    let w : ℕ = c.word-word.result in
     let at = c.word-word.ensures.stands in
-    let fine : IsFineAct f (f.instr c.args.n) c.args.form (f.addr c.args.n) w v =
-    act-fine (f.instr c.args.n) c.args.form (f.addr c.args.n) w at.address at.even f c.law_of_code.ensures.registers v 32768
+    let fine : IsFineAct f (f.instr c.args.n) c.args.form (f.addr c.args.n) (f.word c.args.n) v =
+    act-fine (f.instr c.args.n) c.args.form (f.addr c.args.n) (f.word c.args.n) at.address at.room f c.law_of_code.ensures.registers v 32768
     (low_place c.args.place.now 32768 (omega (arith, c.requires.words)) (omega (arith, c.requires.mems))) (omega arith) in
-    subst (λ (i : Instr). IsFineAct f i c.args.form c.addr-addr.result w v) (sym c.instr-i.ensures.is) (subst (λ (a : ℕ). IsFineAct f (f.instr c.args.n) c.args.form a w v) (sym c.addr-addr.ensures) fine)
+    subst (λ (i : Instr). IsFineAct f i c.args.form c.addr-addr.result c.word-word.result v) (sym c.instr-i.ensures.is)
+    (subst (λ (a : ℕ). IsFineAct f (f.instr c.args.n) c.args.form a c.word-word.result v) (sym c.addr-addr.ensures)
+    (subst (λ (w : ℕ). IsFineAct f (f.instr c.args.n) c.args.form (f.addr c.args.n) w v) (sym c.word-word.ensures.is) fine))
 
 pub new-requires : goal.new-requires
 new-requires c =
     let v : Place = place_of c.args.place.now in
     let at = c.word-word.ensures.stands in
     act-standing-fine c.instr-i.result c.args.form c.addr-addr.result c.word-word.result (subst (λ (a : ℕ). a < 2 ^ 64) (sym c.addr-addr.ensures) at.address)
-    (subst (λ (a : ℕ). is_aligned a ≡ true) (sym c.addr-addr.ensures) at.even) v 32768 (low_place c.args.place.now 32768 (omega (arith, c.requires.words)) (omega (arith, c.requires.mems))) (omega arith)
-    c.in_ok-number.number _ _ c.in_ok-number.ensures.fits c.in_ok-known.ensures c.in_ok-code.ensures
+    (subst (λ (a : ℕ). a + length_of c.word-word.result ≤ 2 ^ 64) (sym c.addr-addr.ensures) (subst (λ (w : ℕ). (flow_in c.args.flow.now).addr c.args.n + length_of w ≤ 2 ^ 64) (sym c.word-word.ensures.is) at.room))
+    v 32768 (low_place c.args.place.now 32768 (omega (arith, c.requires.words)) (omega (arith, c.requires.mems))) (omega arith)
+    c.in_ok-number.number _ _ c.in_ok-number.ensures.fits
+    (c.in_ok-known.ensures ∙ (λ j. map So (conditions c.instr-i.result c.args.form (names v)) ++ new_facts c.instr-i.result c.addr-addr.result (c.length_of.ensures j) v)) c.in_ok-code.ensures
 
 pub returns : goal.returns
 returns c =
     let f : Flow = flow_in c.args.flow.now in
     let v : Place = place_of c.args.place.now in
     let l : LogTree = log_tree c.args.log.now in
-    let w : ℕ = c.word-word.result in (
-      w,
+    let known = c.in_ok-known.ensures ∙ (λ j. map So (conditions c.instr-i.result c.args.form (names v)) ++ new_facts c.instr-i.result c.addr-addr.result (c.length_of.ensures j) v) in (
       c.word-word.ensures.stands,
       c.new.ensures
-          ∙ (λ j. record { number = c.in_ok-number.ensures.number j; facts = c.in_ok-known.ensures j; code = c.in_ok-code.ensures j })
-          ∙ (λ j. act_standing (c.instr-i.ensures.is j) c.args.form (c.addr-addr.ensures j) w v l),
-      c.in_ok-number.ensures.log ∙ (λ j. acted f (c.instr-i.ensures.is j) c.args.form (c.addr-addr.ensures j) w v l),
+          ∙ (λ j. record { number = c.in_ok-number.ensures.number j; facts = known j; code = c.in_ok-code.ensures j })
+          ∙ (λ j. act_standing (c.instr-i.ensures.is j) c.args.form (c.addr-addr.ensures j) (c.word-word.ensures.is j) v l),
+      c.in_ok-number.ensures.log ∙ (λ j. acted f (c.instr-i.ensures.is j) c.args.form (c.addr-addr.ensures j) (c.word-word.ensures.is j) v l),
     )
