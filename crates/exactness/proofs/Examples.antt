@@ -13,6 +13,7 @@ use Rattle.rv_words.specs.declared.operation.Op.TheVariants.{Add}
 use Rattle.rv_words.specs.declared.comparison.Cmp.TheVariants.{Ne}
 use Rattle.rv_decode.specs.declared.instruction.Instr.{Instr}
 use Rattle.rv_decode.specs.declared.instruction.Instr.TheVariants as instr
+use Rattle.rvc.specs.Number.{bytes_of}
 use Rattle.rv_machine.specs.State.{State}
 use Rattle.rv_machine.specs.Step.{instruction_at, step}
 use Rattle.rv_machine.specs.Run.{run}
@@ -49,11 +50,15 @@ numbers (Rest r n) = if n == 3 then 1 else 2
 abbrev loop_at : ℕ → Option ℕ
 loop_at n = if n == 0 then Some 0 else None
 
+abbrev words : ℕ → ℕ
+words n = slice_index_or (0x00b5_0533 ∷ 0xfff5_8593 ∷ 0xfe05_9ce3 ∷ 0x0000_8067 ∷ []) n 0
+
 abbrev summing : Flow
 summing = record {
   nodes = 4;
   loops = 1;
   addr = λ n. slice_index_or (0x10000 ∷ 0x10004 ∷ 0x10008 ∷ 0x1000c ∷ []) n 0;
+  word = words;
   instr = instructions;
   to = goes_to;
   is_cut = λ n. slice_index_or (true ∷ false ∷ false ∷ true ∷ []) n false;
@@ -181,16 +186,13 @@ some_in a k xs ys at q b e = by (leb (a + k) q) refl e
         (λ i. cond (test i) (slice_get ys (sym place i)) None) ∙ at (q - (a + k)) b h
     by false t h = absurd (cc)
 
-words : ℕ → ℕ
-words n = slice_index_or (0x00b5_0533 ∷ 0xfff5_8593 ∷ 0xfe05_9ce3 ∷ 0x0000_8067 ∷ []) n 0
-
 pub or_none : (o : Option ℕ) → option_or o None ≡ o
 or_none None = refl
 or_none (Some b) = refl
 
 -- four bytes of the code, from its k-th on
-four_in : (k w : ℕ) → ((j b : ℕ) → slice_get (to_le_bytes w32 w) j ≡ Some b → slice_get bytes (k + j) ≡ Some b) → IsWithin (range_bytes (word_code (0x10000 + k) w)) (range_bytes group.code)
-four_in k w at q b e = or_none (bytes_from 0x10000 bytes q) ∙ some_in 0x10000 k (to_le_bytes w32 w) bytes at q b (sym (or_none (bytes_from (0x10000 + k) (to_le_bytes w32 w) q)) ∙ e)
+four_in : (k w : ℕ) → ((j b : ℕ) → slice_get (bytes_of w) j ≡ Some b → slice_get bytes (k + j) ≡ Some b) → IsWithin (range_bytes (word_code (0x10000 + k) w)) (range_bytes group.code)
+four_in k w at q b e = or_none (bytes_from 0x10000 bytes q) ∙ some_in 0x10000 k (bytes_of w) bytes at q b (sym (or_none (bytes_from (0x10000 + k) (bytes_of w) q)) ∙ e)
 
 first_four : (j b : ℕ) → slice_get (to_le_bytes w32 0x00b5_0533) j ≡ Some b → slice_get bytes (0 + j) ≡ Some b
 first_four zero b e = e
@@ -223,11 +225,12 @@ fourth_four (suc (suc (suc (suc j)))) b e = absurd (cc)
 abbrev regs : List ℕ
 regs = 1 ∷ 10 ∷ 11 ∷ []
 
-adds : StandsAt summing group.code (words 0) 0
-unfolding words decoded
+adds : StandsAt summing group.code 0
+unfolding decoded
 adds = record {
   address = omega arith;
   even = refl;
+  room = omega arith;
   small = omega arith;
   is = refl;
   bytes = four_in 0 0x00b5_0533 first_four;
@@ -244,19 +247,20 @@ adds = record {
     reads r (suc zero, l, e) ne = (2, omega arith, e)
     reads r (suc (suc k), l, e) ne = absurd (omega arith)
 
-    form : (g : Form) → has_edge (instructions 0) g ≡ true → has_form (instructions 0) g 0x10000 ≡ true
+    form : (g : Form) → has_edge (instructions 0) g ≡ true → has_form (instructions 0) g ≡ true
     form Next h = refl
     form Taken h = absurd (no_cut h)
 
-    goes : (g : Form) (v : Names) → has_edge (instructions 0) g ≡ true → pc_after (instructions 0) g 0x10000 v ≡ Const (summing.addr (goes_to 0 g))
+    goes : (g : Form) (v : Names) → has_edge (instructions 0) g ≡ true → pc_after (instructions 0) g 0x10000 4 v ≡ Const (summing.addr (goes_to 0 g))
     goes Next v h = refl
     goes Taken v h = absurd (no_cut h)
 
-counts : StandsAt summing group.code (words 1) 1
-unfolding words decoded
+counts : StandsAt summing group.code 1
+unfolding decoded
 counts = record {
   address = omega arith;
   even = refl;
+  room = omega arith;
   small = omega arith;
   is = refl;
   bytes = four_in 4 0xfff5_8593 second_four;
@@ -272,19 +276,20 @@ counts = record {
     reads r (zero, l, e) ne = (2, omega arith, e)
     reads r (suc k, l, e) ne = absurd (omega arith)
 
-    form : (g : Form) → has_edge (instructions 1) g ≡ true → has_form (instructions 1) g 0x10004 ≡ true
+    form : (g : Form) → has_edge (instructions 1) g ≡ true → has_form (instructions 1) g ≡ true
     form Next h = refl
     form Taken h = absurd (no_cut h)
 
-    goes : (g : Form) (v : Names) → has_edge (instructions 1) g ≡ true → pc_after (instructions 1) g 0x10004 v ≡ Const (summing.addr (goes_to 1 g))
+    goes : (g : Form) (v : Names) → has_edge (instructions 1) g ≡ true → pc_after (instructions 1) g 0x10004 4 v ≡ Const (summing.addr (goes_to 1 g))
     goes Next v h = refl
     goes Taken v h = absurd (no_cut h)
 
-branches : StandsAt summing group.code (words 2) 2
-unfolding words decoded
+branches : StandsAt summing group.code 2
+unfolding decoded
 branches = record {
   address = omega arith;
   even = refl;
+  room = omega arith;
   small = omega arith;
   is = refl;
   bytes = four_in 8 0xfe05_9ce3 third_four;
@@ -301,19 +306,20 @@ branches = record {
     reads r (suc zero, l, e) ne = absurd (ne (sym e))
     reads r (suc (suc k), l, e) ne = absurd (omega arith)
 
-    form : (g : Form) → has_edge (instructions 2) g ≡ true → has_form (instructions 2) g 0x10008 ≡ true
+    form : (g : Form) → has_edge (instructions 2) g ≡ true → has_form (instructions 2) g ≡ true
     form Next h = refl
     form Taken h = refl
 
-    goes : (g : Form) (v : Names) → has_edge (instructions 2) g ≡ true → pc_after (instructions 2) g 0x10008 v ≡ Const (summing.addr (goes_to 2 g))
+    goes : (g : Form) (v : Names) → has_edge (instructions 2) g ≡ true → pc_after (instructions 2) g 0x10008 4 v ≡ Const (summing.addr (goes_to 2 g))
     goes Next v h = refl
     goes Taken v h = refl
 
-comes_back : StandsAt summing group.code (words 3) 3
-unfolding words decoded
+comes_back : StandsAt summing group.code 3
+unfolding decoded
 comes_back = record {
   address = omega arith;
   even = refl;
+  room = omega arith;
   small = omega arith;
   is = refl;
   bytes = four_in 12 0x0000_8067 fourth_four;
@@ -329,16 +335,16 @@ comes_back = record {
     reads r (zero, l, e) ne = (0, omega arith, e)
     reads r (suc k, l, e) ne = absurd (omega arith)
 
-    form : (g : Form) → has_edge (instructions 3) g ≡ true → has_form (instructions 3) g 0x1000c ≡ true
+    form : (g : Form) → has_edge (instructions 3) g ≡ true → has_form (instructions 3) g ≡ true
     form g h = absurd (no_cut h)
 
-    goes : (g : Form) (v : Names) → has_edge (instructions 3) g ≡ true → pc_after (instructions 3) g 0x1000c v ≡ Const (summing.addr (goes_to 3 g))
+    goes : (g : Form) (v : Names) → has_edge (instructions 3) g ≡ true → pc_after (instructions 3) g 0x1000c 4 v ≡ Const (summing.addr (goes_to 3 g))
     goes g v h = absurd (no_cut h)
 
 is_code : IsCode summing group.code
-is_code = record { word = words; each = each; registers = (omega arith, omega arith, (omega arith, omega arith, (omega arith, omega arith, tt))) }
+is_code = record { each = each; registers = (omega arith, omega arith, (omega arith, omega arith, (omega arith, omega arith, tt))) }
   where
-    each : (n : ℕ) → n < 4 → StandsAt summing group.code (words n) n
+    each : (n : ℕ) → n < 4 → StandsAt summing group.code n
     each zero lt = adds
     each (suc zero) lt = counts
     each (suc (suc zero)) lt = branches

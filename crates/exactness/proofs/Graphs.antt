@@ -9,16 +9,16 @@ use Rattle.code_parts.specs.Bodies.{Place, Return, action_of}
 use Rattle.code_parts.specs.Graph.{is_return}
 
 -- a jump through a register alone returns
-pub return-row : (i : Instr) (a : ℕ) (to : Form → ℕ) (v : Place) (ss : List StepTree) (t : WordTree) → action_of i a to v ≡ Return ss t → is_return i ≡ true
-return-row (instr.Op o rd rs1 rs2) a to v ss t e = absurd (cc)
-return-row (instr.OpImm o rd rs1 imm) a to v ss t e = absurd (cc)
-return-row (instr.Lui rd imm) a to v ss t e = absurd (cc)
-return-row (instr.Auipc rd imm) a to v ss t e = absurd (cc)
-return-row (instr.Jal rd offset) a to v ss t e = absurd (cc)
-return-row (instr.Jalr rd rs1 imm) a to v ss t e = refl
-return-row (instr.Branch c rs1 rs2 offset) a to v ss t e = absurd (cc)
-return-row (instr.Load w signed rd rs1 imm) a to v ss t e = absurd (cc)
-return-row (instr.Store w rs1 rs2 imm) a to v ss t e = absurd (cc)
-return-row (instr.Fence imm rs1 rd) a to v ss t e = absurd (cc)
-return-row instr.Ecall a to v ss t e = absurd (cc)
-return-row instr.Ebreak a to v ss t e = absurd (cc)
+pub return-row : (i : Instr) (a k : ℕ) (to : Form → ℕ) (v : Place) (ss : List StepTree) (t : WordTree) → action_of i a k to v ≡ Return ss t → is_return i ≡ true
+return-row (instr.Op o rd rs1 rs2) a k to v ss t e = absurd (cc)
+return-row (instr.OpImm o rd rs1 imm) a k to v ss t e = absurd (cc)
+return-row (instr.Lui rd imm) a k to v ss t e = absurd (cc)
+return-row (instr.Auipc rd imm) a k to v ss t e = absurd (cc)
+return-row (instr.Jal rd offset) a k to v ss t e = absurd (cc)
+return-row (instr.Jalr rd rs1 imm) a k to v ss t e = refl
+return-row (instr.Branch c rs1 rs2 offset) a k to v ss t e = absurd (cc)
+return-row (instr.Load w signed rd rs1 imm) a k to v ss t e = absurd (cc)
+return-row (instr.Store w rs1 rs2 imm) a k to v ss t e = absurd (cc)
+return-row (instr.Fence imm rs1 rd) a k to v ss t e = absurd (cc)
+return-row instr.Ecall a k to v ss t e = absurd (cc)
+return-row instr.Ebreak a k to v ss t e = absurd (cc)

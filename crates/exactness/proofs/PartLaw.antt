@@ -8,7 +8,7 @@ use Rattle.tailrec_lang.specs.Tree.{ValuesTree, BodyTree, Call, Again, Leave, No
 use Rattle.tailrec_lang.specs.Eval.{Arguments, Meaning, Ending, Exited, and_then, body_ending, arm_ending, arguments_of, with_arguments, needs}
 use Rattle.code_parts.specs.declared.part.Part.{Part}
 use Rattle.code_parts.specs.declared.part.Part.TheVariants.{Loop, Rest}
-use Rattle.code_parts.specs.Bodies.{Flow, Place, Action, Straight, Fork, Return, action, mem_count, fresh, start, current, with_pc, own, first, rest_targets, targets, rest_from, index_of, end_of, or_else, arms_over, last_at, rest_arms, end_at, action_body, body_at, rest_body, part_body}
+use Rattle.code_parts.specs.Bodies.{Flow, size, Place, Action, Straight, Fork, Return, action, mem_count, fresh, start, current, with_pc, own, first, rest_targets, targets, rest_from, index_of, end_of, or_else, arms_over, last_at, rest_arms, end_at, action_body, body_at, rest_body, part_body}
 use Rattle.exactness.proofs.Returns.{Comes}
 use Rattle.exactness.proofs.Places.{Stands, stands-fresh, stands-start, returned-values}
 use Rattle.exactness.proofs.BodyLemmas.{after_steps, AllHold, needs_passed, ending-steps, arm-over, is-found, found-at, contains-at}
@@ -223,10 +223,10 @@ module _ (f : Flow) (graph : IsGraph f) (rise : AreRegistersFrom 1 f.regs)
       where
         by : (c : Bool) → f.is_cut n ≡ c → Gives p k t (body_ending call (f.number p) (cond c (end_at f p n v) (body_at b f p n v)) e o m)
         by true h =
-            let q = graph.placed from n node (leads-edge (f.instr from) (f.addr from) (f.to from) w n leads) h in
+            let q = graph.placed from n node (leads-edge (f.instr from) (f.addr from) (size f from) (f.to from) w n leads) h in
             cut-law k laws p there t n v e u j o m lt q.0 h (subst (λ r. IsPlaced f r n) region q.1) good place is comes enough
         by false h =
-            let q = graph.stays from n node (leads-edge (f.instr from) (f.addr from) (f.to from) w n leads) h in
+            let q = graph.stays from n node (leads-edge (f.instr from) (f.addr from) (size f from) (f.to from) w n leads) h in
             on n v e u j o m (omega (arith, q.2)) q.0 (q.1 ∙ region) (omega arith) good place is comes (omega arith)
 
     -- one instruction
@@ -254,7 +254,7 @@ module _ (f : Flow) (graph : IsGraph f) (rise : AreRegistersFrom 1 f.regs)
             (omega arith) good h now r.1 (omega arith)
     acts b k laws p there t on n v e s u j o m near node region le (inr r) enough is good (Return ss a) has step = absurd (r.0 step.3)
     acts b k laws p there t on n v e s u j o m near node region le (inl r) enough is good (Return ss a) has step =
-        let q = graph.returned n node (return-row (f.instr n) (f.addr n) (f.to n) v ss a has) in
+        let q = graph.returned n node (return-row (f.instr n) (f.addr n) (size f n) (f.to n) v ss a has) in
         let results : arguments_of (with_pc a (current f v)) (after_steps ss e) ≡ with_address (pc u) (args u) = (λ z. record { words = step.1 z ∷ (step.2 z).words; mems = (step.2 z).mems }) in
         inl (record {
           region = sym region ∙ q.0;

@@ -20,6 +20,7 @@ use Rattle.tailrec_lang.specs.Eval.{Arguments}
 use Rattle.triple_kernel.specs.declared.form.Form.{Form}
 use Rattle.triple_kernel.specs.declared.form.Form.TheVariants.{Next, Taken}
 use Rattle.rv_decode.specs.Registers.{sources, destination}
+use Rattle.rvc.specs.Number.{length_of}
 use Rattle.instr_axioms.specs.Terms.{has_memory, word_in, result, memory_after, has_form}
 use Rattle.instr_axioms.specs.Axiom.{memory_if}
 use Rattle.instr_axioms.specs.Effects.{Fits, IsTouchedIn, IsAfter}
@@ -93,9 +94,9 @@ other-memory instr.Ecall s h = refl
 other-memory instr.Ebreak s h = refl
 
 -- an instruction that can't be taken goes on
-pub only-next : (i : Instr) (a : ℕ) → has_form i Taken a ≡ false → (form : Form) → has_form i form a ≡ true → form ≡ Next
-only-next i a none Next h = refl
-only-next i a none Taken h = absurd (no_touch (sym none ∙ h))
+pub only-next : (i : Instr) → has_form i Taken ≡ false → (form : Form) → has_form i form ≡ true → form ≡ Next
+only-next i none Next h = refl
+only-next i none Taken h = absurd (no_touch (sym none ∙ h))
 
 -- ---- the arguments of a state
 
@@ -143,9 +144,9 @@ module _ (f : Flow) (region : ℕ → Bool) where
 
     -- ---- what is written
 
-    module _ (u : State) (after : IsAfter i a (names v) e s u) (at : s.pc ≡ a) where
+    module _ (u : State) (after : IsAfter i a (length_of w) (names v) e s u) (at : s.pc ≡ a) where
       pub regs_same : destination i ≡ 0 → u.reg ≡ s.reg
-      regs_same z = after.reg ∙ (λ j. with_register (z j) (word_value (result i a (names v)) e) s.reg)
+      regs_same z = after.reg ∙ (λ j. with_register (z j) (word_value (result i a (length_of w) (names v)) e) s.reg)
 
       pub mem_same : is_store i ≡ false → u.mem ≡ s.mem
       mem_same h = after.mem ∙ other-memory i s h
@@ -154,7 +155,7 @@ module _ (f : Flow) (region : ℕ → Bool) where
       wrote-none z h = let r = regs_same z in let m = mem_same h in subst (Stands f v e) (λ j. record { words = map (sym r j) f.regs; mems = one_if f.has_mem (cut region (sym m j)) }) is
 
       abbrev x : ℕ
-      x = word_value (result i a (names v)) e
+      x = word_value (result i a (length_of w) (names v)) e
 
       wrote-word : eqb (destination i) 0 ≡ false → is_store i ≡ false
           → Stands f (record { words = suc v.words; mems = v.mems; reg = λ r. cond (eqb r (destination i)) v.words (v.reg r); memory = v.memory }) (with_word e x) (held u)
@@ -186,13 +187,13 @@ module _ (f : Flow) (region : ℕ → Bool) where
           now t = λ j q. memory-cut region a (names v) e s i (fits at) (λ p k. mem-is v e s is t k p) q j
 
       -- what is written comes to stand for what the state then has
-      pub written : AllHold (writes i a v) e × Stands f (place_after i v) (after_steps (writes i a v) e) (held u)
+      pub written : AllHold (writes i a (length_of w) v) e × Stands f (place_after i v) (after_steps (writes i a (length_of w) v) e) (held u)
       written = by (is_store i) (eqb (destination i) 0) refl refl
         where
           by : (b z : Bool) → is_store i ≡ b → eqb (destination i) 0 ≡ z
-              → AllHold (cond b (BindMem (memory_after i (names v)) ∷ []) (cond z [] (Bind (result i a (names v)) ∷ []))) e
+              → AllHold (cond b (BindMem (memory_after i (names v)) ∷ []) (cond z [] (Bind (result i a (length_of w) (names v)) ∷ []))) e
               × Stands f (cond b (stored v) (cond z v (record { words = suc v.words; mems = v.mems; reg = λ r. cond (eqb r (destination i)) v.words (v.reg r); memory = v.memory })))
-              (after_steps (cond b (BindMem (memory_after i (names v)) ∷ []) (cond z [] (Bind (result i a (names v)) ∷ []))) e) (held u)
+              (after_steps (cond b (BindMem (memory_after i (names v)) ∷ []) (cond z [] (Bind (result i a (length_of w) (names v)) ∷ []))) e) (held u)
           by true z h d = ((refl, tt), wrote-memory h)
           by false true h d = (tt, wrote-none (eqb-true (destination i) 0 d) h)
           by false false h d = ((refl, tt), wrote-word d h)

@@ -9,6 +9,7 @@ use Rattle.rv_words.specs.declared.width.Width.TheVariants.{B4}
 use Rattle.rv_decode.specs.declared.instruction.Instr.{Instr}
 use Rattle.rv_decode.specs.declared.instruction.Instr.TheVariants as instr
 use Rattle.rv_decode.specs.Decodes.{decoded}
+use Rattle.rvc.specs.Number.{bytes_of}
 use Rattle.rv_machine.specs.State.{State}
 use Rattle.rv_machine.specs.Step.{instruction_at, step}
 use Rattle.rv_machine.specs.Run.{run}
@@ -39,11 +40,15 @@ instructions n = slice_index_or (instr.Store B4 11 10 (pos 0) ∷ instr.Jalr 0 1
 abbrev goes_to : ℕ → Form → ℕ
 goes_to n form = suc n
 
+abbrev words : ℕ → ℕ
+words n = slice_index_or (0x00a5_a023 ∷ 0x0000_8067 ∷ []) n 0
+
 abbrev storing : Flow
 storing = record {
   nodes = 2;
   loops = 0;
   addr = λ n. slice_index_or (0x10000 ∷ 0x10004 ∷ []) n 0;
+  word = words;
   instr = instructions;
   to = goes_to;
   is_cut = λ n. slice_index_or (true ∷ false ∷ []) n false;
@@ -106,11 +111,8 @@ is_graph = record {
     near zero lt = omega arith
     near (suc n) lt = omega arith
 
-words : ℕ → ℕ
-words n = slice_index_or (0x00a5_a023 ∷ 0x0000_8067 ∷ []) n 0
-
-four_in : (k w : ℕ) → ((j b : ℕ) → slice_get (to_le_bytes w32 w) j ≡ Some b → slice_get bytes (k + j) ≡ Some b) → IsWithin (range_bytes (word_code (0x10000 + k) w)) (range_bytes group.code)
-four_in k w at q b e = or_none (bytes_from 0x10000 bytes q) ∙ some_in 0x10000 k (to_le_bytes w32 w) bytes at q b (sym (or_none (bytes_from (0x10000 + k) (to_le_bytes w32 w) q)) ∙ e)
+four_in : (k w : ℕ) → ((j b : ℕ) → slice_get (bytes_of w) j ≡ Some b → slice_get bytes (k + j) ≡ Some b) → IsWithin (range_bytes (word_code (0x10000 + k) w)) (range_bytes group.code)
+four_in k w at q b e = or_none (bytes_from 0x10000 bytes q) ∙ some_in 0x10000 k (bytes_of w) bytes at q b (sym (or_none (bytes_from (0x10000 + k) (bytes_of w) q)) ∙ e)
 
 first_four : (j b : ℕ) → slice_get (to_le_bytes w32 0x00a5_a023) j ≡ Some b → slice_get bytes (0 + j) ≡ Some b
 first_four zero b e = e
@@ -129,11 +131,12 @@ second_four (suc (suc (suc (suc j)))) b e = absurd (cc)
 abbrev regs : List ℕ
 regs = 1 ∷ 10 ∷ 11 ∷ []
 
-stores : StandsAt storing group.code (words 0) 0
-unfolding words decoded
+stores : StandsAt storing group.code 0
+unfolding decoded
 stores = record {
   address = omega arith;
   even = refl;
+  room = omega arith;
   small = omega arith;
   is = refl;
   bytes = four_in 0 0x00a5_a023 first_four;
@@ -150,19 +153,20 @@ stores = record {
     reads r (suc zero, l, e) ne = (1, omega arith, e)
     reads r (suc (suc k), l, e) ne = absurd (omega arith)
 
-    form : (g : Form) → has_edge (instructions 0) g ≡ true → has_form (instructions 0) g 0x10000 ≡ true
+    form : (g : Form) → has_edge (instructions 0) g ≡ true → has_form (instructions 0) g ≡ true
     form Next h = refl
     form Taken h = absurd (no_cut h)
 
-    goes : (g : Form) (v : Names) → has_edge (instructions 0) g ≡ true → pc_after (instructions 0) g 0x10000 v ≡ Const (storing.addr (goes_to 0 g))
+    goes : (g : Form) (v : Names) → has_edge (instructions 0) g ≡ true → pc_after (instructions 0) g 0x10000 4 v ≡ Const (storing.addr (goes_to 0 g))
     goes Next v h = refl
     goes Taken v h = absurd (no_cut h)
 
-comes_back : StandsAt storing group.code (words 1) 1
-unfolding words decoded
+comes_back : StandsAt storing group.code 1
+unfolding decoded
 comes_back = record {
   address = omega arith;
   even = refl;
+  room = omega arith;
   small = omega arith;
   is = refl;
   bytes = four_in 4 0x0000_8067 second_four;
@@ -178,16 +182,16 @@ comes_back = record {
     reads r (zero, l, e) ne = (0, omega arith, e)
     reads r (suc k, l, e) ne = absurd (omega arith)
 
-    form : (g : Form) → has_edge (instructions 1) g ≡ true → has_form (instructions 1) g 0x10004 ≡ true
+    form : (g : Form) → has_edge (instructions 1) g ≡ true → has_form (instructions 1) g ≡ true
     form g h = absurd (no_cut h)
 
-    goes : (g : Form) (v : Names) → has_edge (instructions 1) g ≡ true → pc_after (instructions 1) g 0x10004 v ≡ Const (storing.addr (goes_to 1 g))
+    goes : (g : Form) (v : Names) → has_edge (instructions 1) g ≡ true → pc_after (instructions 1) g 0x10004 4 v ≡ Const (storing.addr (goes_to 1 g))
     goes g v h = absurd (no_cut h)
 
 is_code : IsCode storing group.code
-is_code = record { word = words; each = each; registers = (omega arith, omega arith, (omega arith, omega arith, (omega arith, omega arith, tt))) }
+is_code = record { each = each; registers = (omega arith, omega arith, (omega arith, omega arith, (omega arith, omega arith, tt))) }
   where
-    each : (n : ℕ) → n < 2 → StandsAt storing group.code (words n) n
+    each : (n : ℕ) → n < 2 → StandsAt storing group.code n
     each zero lt = stores
     each (suc zero) lt = comes_back
     each (suc (suc n)) lt = absurd (omega arith)
