@@ -2,8 +2,7 @@
 use Rattle.std.proofs.Common.{◌≡◌, ℕ, zero, suc, ◌+◌, ◌-◌, ◌<◌, ◌≤◌, Bool, true, false, cond, eqb, leb, ◌||◌, List, [], ◌∷◌, length, get_or, Ok, Option, None, Some, ◌⊎◌, inl, inr, refl, sym, ap, subst, ◌∙◌, arith, eqb-true, eq-eqb}
 use Rattle.std.specs.Prelude.{◌↔◌, slice_get}
 use Rattle.std.specs.List.{AllByRecursion, Contains, filter, list_any, range_with_len}
-use Rattle.std.specs.Option.{option_or}
-use Rattle.std.specs.Int.{w32, to_le_bytes}
+use Rattle.std.specs.Option.{option_or, unwrap_or}
 use Rattle.std.proofs.lemmas.Bool.Decides.{nat_tests}
 use Rattle.std.proofs.lemmas.List.Elements.{All-contains, filter_passes}
 use Rattle.std.proofs.lemmas.Option.{slice_get-get_or}
@@ -13,10 +12,13 @@ use Rattle.rv_words.specs.Ranges.{AreRangesFrom, range_bytes}
 use Rattle.rv_decode.specs.declared.instruction.Instr.{Instr}
 use Rattle.rv_decode.specs.declared.instruction.Instr.TheVariants as instr
 use Rattle.rv_decode.specs.Registers.{destination, registers_where, sources}
+use Rattle.rvc.specs.Number.{bytes_of, length_of}
+use Rattle.rvc.proofs.ByteLemmas.{bytes-long}
 use Rattle.instr_axioms.specs.Axiom.{is_own}
 use Rattle.instr_axioms.specs.Terms.{has_memory}
-use Rattle.flow_graph.specs.Flow.{admitted, is_return}
+use Rattle.flow_graph.specs.Flow.{admitted, is_return, length_in}
 use Rattle.flow_graph.specs.Graph.{GraphOf}
+use Rattle.flow_graph.proofs.ExactLemmas.{graph_numbers}
 use Rattle.flow_graph.proofs.FlowLemmas.{is_flow}
 use Rattle.flow_graph.proofs.Standing.{graph_stands, through_return}
 use Rattle.flow_graph.proofs.Ways.{node_at}
@@ -98,20 +100,24 @@ module _ (g : GraphOf) (reached : IsReached g) where
   long : length g.instrs ≡ length g.addrs
   long = (is_flow reached.code reached.entry g reached.is).as_long
 
+  -- how many bytes a node's instruction has
+  length_of_node : (n : ℕ) → n < length g.addrs → length_in reached.code (get_or g.addrs n 0) ≡ length_of (get_or g.numbers n 0)
+  length_of_node n lt = ap (λ o. length_of (unwrap_or o 0)) (graph_numbers reached.code reached.entry g n reached.is lt)
+
   pub bytes_are : (ranges : List Range) → AreCodeOf g ranges → (a b : ℕ) → (range_bytes ranges a ≡ Some b) ↔ (IsCodeOf reached.code reached.entry a × (reached.code a ≡ Some b))
   bytes_are ranges whole a b = (there, back)
     where
       there : range_bytes ranges a ≡ Some b → IsCodeOf reached.code reached.entry a × (reached.code a ≡ Some b)
       there h =
           let at = whole.only a b h in
-          let byte = code-byte (get_or g.addrs at.0 0) (to_le_bytes w32 at.1) a b at.4 in
-          let four : length (to_le_bytes w32 at.1) ≡ 4 = refl in
-          let low = slice-below (to_le_bytes w32 at.1) byte.0 b byte.2 in (
+          let w : ℕ = get_or g.numbers at.0 0 in
+          let byte = code-byte (get_or g.addrs at.0 0) (bytes_of w) a b at.2 in
+          let low = slice-below (bytes_of w) byte.0 b byte.2 in (
             record {
               from = get_or g.addrs at.0 0;
               place = byte.0;
-              reached = reached.is.reach.reached (get_or g.addrs at.0 0) (node_at g.addrs at.0 at.2);
-              within = omega (arith, low, four);
+              reached = reached.is.reach.reached (get_or g.addrs at.0 0) (node_at g.addrs at.0 at.1);
+              within = omega (arith, low, bytes-long w, length_of_node at.0 at.1);
               is = byte.1;
             },
             code_in g reached ranges whole a b h,
@@ -121,8 +127,9 @@ module _ (g : GraphOf) (reached : IsReached g) where
       back (c, e) =
           let at = reaches_node reached.code reached.entry g reached.is c.from c.reached in
           let same : get_or g.addrs at.0 0 + c.place ≡ a = ap (λ n. n + c.place) at.2 ∙ sym c.is in
+          let long : length_in reached.code c.from ≡ length_of (get_or g.numbers at.0 0) = ap (length_in reached.code) (sym at.2) ∙ length_of_node at.0 at.1 in
           subst (λ (x : ℕ). range_bytes ranges x ≡ Some b) same
-          (have_code g reached ranges whole at.0 c.place b at.1 c.within (subst (λ (x : ℕ). reached.code x ≡ Some b) (sym same) e))
+          (have_code g reached ranges whole at.0 c.place b at.1 (omega (arith, c.within, long)) (subst (λ (x : ℕ). reached.code x ≡ Some b) (sym same) e))
 
   pub registers_are : (r : ℕ) → Contains (registers_of g.instrs) r ↔ ((1 ≤ r) × (r ≤ 31) × IsUsed reached.code reached.entry r)
   registers_are r = (there, back)

@@ -16,7 +16,7 @@ use Rattle.proof_text.specs.Proofs.{IsProofIn}
 use Rattle.checker.specs.Accepts.{IsAccepted}
 use Rattle.checker.specs.Headline.{entry_at}
 use Rattle.exactness.specs.Exact.{Exact}
-use Rattle.flow_graph.specs.Flow.{Next, look, is_return}
+use Rattle.flow_graph.specs.Flow.{Next, length_in, look, is_return}
 use Rattle.flow_graph.specs.Walks.{Reaches}
 use Rattle.flow_graph.specs.Graph.{GraphOf, HasEdge, IsGraphOf, IsRising}
 use Rattle.flow_graph.specs.declared.outside.Outside.{Outside}
@@ -45,12 +45,12 @@ pub record IsInstructionOf (code : Bytes) (e : ℕ) (i : Instr) : Type 0 where
   pub reached : Reaches (Next code) e at
   pub is : look code at ≡ Ok i
 
--- one of the four bytes of a reached instruction
+-- one of the bytes of a reached instruction
 pub record IsCodeOf (code : Bytes) (e a : ℕ) : Type 0 where
   pub from : ℕ
   pub place : ℕ
   pub reached : Reaches (Next code) e from
-  pub within : place < 4
+  pub within : place < length_in code from
   pub is : a ≡ from + place
 
 -- an instruction reads or writes the register
