@@ -6,8 +6,8 @@ use std::alloc::Global;
 use std::test::Fail;
 use triple_kernel::Form;
 
-/// An address, a word, a form, and whether there is an axiom of them.
-static AXIOMS: [(u64, u32, Form, bool); 21] = [
+/// An address, a parcel or word, a form, and whether there is an axiom of them.
+static AXIOMS: [(u64, u32, Form, bool); 32] = [
     (0x10000, 0x00b5_0533, Form::Next, true),
     (0x10000, 0x00a5_b023, Form::Next, true),
     (0x10000, 0xffc4_2003, Form::Next, true),
@@ -24,11 +24,22 @@ static AXIOMS: [(u64, u32, Form, bool); 21] = [
     (0x10000, 0x0005_0263, Form::Taken, true),
     (0x10004, 0xffd0_80e7, Form::Next, true),
     (0xffff_ffff_ffff_fffe, 0x00a5_0533, Form::Next, false),
-    (0x10002, 0x00b5_0533, Form::Next, false),
+    (0x10002, 0x00b5_0533, Form::Next, true),
+    (0x10000, 0x0000_0363, Form::Taken, true),
+    (0x10000, 0x0060_006f, Form::Next, true),
+    (0x10000, 0x952e, Form::Next, true),
+    (0x10004, 0xfdf5, Form::Taken, true),
+    (0x10006, 0x8082, Form::Next, true),
+    (0xffff_ffff_ffff_fffe, 0x0001, Form::Next, true),
+    (0x10001, 0x00b5_0533, Form::Next, false),
+    (0x10001, 0x952e, Form::Next, false),
     (0x10000, 0x0000_0073, Form::Next, false),
-    (0x10000, 0x0000_0363, Form::Taken, false),
     (0x10000, 0x00b5_0533, Form::Taken, false),
-    (0x10000, 0x0060_006f, Form::Next, false),
+    (0x10000, 0x952e, Form::Taken, false),
+    (0x10000, 0x9002, Form::Next, false),
+    (0x10000, 0x0000, Form::Next, false),
+    (0x10000, 0x2000, Form::Next, false),
+    (0x10000, 0x0001_952e, Form::Next, false),
 ];
 
 /// Whether there is an axiom.

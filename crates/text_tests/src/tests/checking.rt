@@ -30,9 +30,9 @@ static TEXT: [&str; 18] = [
     "inst 0 (v0 v1) (v1 v2) facts pre (0x10000 (10 v1) (11 v2) ;) code (0x10000 3305b500) post (0x10004 (10 (add v1 v2)) (11 v2) ;)",
     "frame 1 facts pre (0x10000 (1 v0) (10 v1) (11 v2) ;) code (0x10000 3305b500) post (0x10004 (1 v0) (10 (add v1 v2)) (11 v2) ;)",
     "weaken 2 facts (is v3 (add v1 v2)) pre (0x10000 (1 v0) (10 v1) (11 v2) ;) code (0x10000 3305b500) post (0x10004 (1 v0) (10 v3) (11 v2) ;)",
-    "axiom 0x10004 0x8067 next facts (so (eq (and (add v0 0x0) 0x2) 0x0)) pre (0x10004 (1 v0) ;) code (0x10004 67800000) post ((and (add v0 0x0) 0xfffffffffffffffe) (1 v0) ;)",
-    "frame 4 facts (so (eq (and (add v0 0x0) 0x2) 0x0)) pre (0x10004 (1 v0) (10 v3) (11 v2) ;) code (0x10004 67800000) post ((and (add v0 0x0) 0xfffffffffffffffe) (1 v0) (10 v3) (11 v2) ;)",
-    "compose 3 5 facts (is v3 (add v1 v2)) (so (eq (and (add v0 0x0) 0x2) 0x0)) pre (0x10000 (1 v0) (10 v1) (11 v2) ;) code all post ((and (add v0 0x0) 0xfffffffffffffffe) (1 v0) (10 v3) (11 v2) ;)",
+    "axiom 0x10004 0x8067 next facts pre (0x10004 (1 v0) ;) code (0x10004 67800000) post ((and (add v0 0x0) 0xfffffffffffffffe) (1 v0) ;)",
+    "frame 4 facts pre (0x10004 (1 v0) (10 v3) (11 v2) ;) code (0x10004 67800000) post ((and (add v0 0x0) 0xfffffffffffffffe) (1 v0) (10 v3) (11 v2) ;)",
+    "compose 3 5 facts (is v3 (add v1 v2)) pre (0x10000 (1 v0) (10 v1) (11 v2) ;) code all post ((and (add v0 0x0) 0xfffffffffffffffe) (1 v0) (10 v3) (11 v2) ;)",
     "loop 0 6",
     "end",
 ];
@@ -44,7 +44,7 @@ struct Row {
     verdict: Verdict,
 }
 
-static ROWS: [Row; 14] = [
+static ROWS: [Row; 15] = [
     Row {
         line: 0,
         is: "",
@@ -77,6 +77,11 @@ static ROWS: [Row; 14] = [
         line: 13,
         is: "weaken 2 facts (is v3 (add v1 v2)) pre (0x10000 (1 v0) (10 v1) (11 v2) ;) code (0x10000 3305b500) post (0x10004 (1 v0) (10 v2) (11 v2) ;)",
         verdict: Verdict::BadLine(13),
+    },
+    Row {
+        line: 14,
+        is: "axiom 0x10004 0x8067 next facts (so (eq (and (add v0 0x0) 0x2) 0x0)) pre (0x10004 (1 v0) ;) code (0x10004 67800000) post ((and (add v0 0x0) 0xfffffffffffffffe) (1 v0) ;)",
+        verdict: Verdict::BadLine(14),
     },
     Row {
         line: 15,
