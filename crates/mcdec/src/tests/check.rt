@@ -25,9 +25,9 @@ axiom 0x10000 0xb50533 next facts pre (0x10000 (10 v0) (11 v1) ;) code (0x10000 
 inst 0 (v0 v1) (v1 v2) facts pre (0x10000 (10 v1) (11 v2) ;) code (0x10000 3305b500) post (0x10004 (10 (add v1 v2)) (11 v2) ;)
 frame 1 facts pre (0x10000 (1 v0) (10 v1) (11 v2) ;) code (0x10000 3305b500) post (0x10004 (1 v0) (10 (add v1 v2)) (11 v2) ;)
 weaken 2 facts (is v3 (add v1 v2)) pre (0x10000 (1 v0) (10 v1) (11 v2) ;) code (0x10000 3305b500) post (0x10004 (1 v0) (10 v3) (11 v2) ;)
-axiom 0x10004 0x8067 next facts (so (eq (and (add v0 0x0) 0x2) 0x0)) pre (0x10004 (1 v0) ;) code (0x10004 67800000) post ((and (add v0 0x0) 0xfffffffffffffffe) (1 v0) ;)
-frame 4 facts (so (eq (and (add v0 0x0) 0x2) 0x0)) pre (0x10004 (1 v0) (10 v3) (11 v2) ;) code (0x10004 67800000) post ((and (add v0 0x0) 0xfffffffffffffffe) (1 v0) (10 v3) (11 v2) ;)
-compose 3 5 facts (is v3 (add v1 v2)) (so (eq (and (add v0 0x0) 0x2) 0x0)) pre (0x10000 (1 v0) (10 v1) (11 v2) ;) code all post ((and (add v0 0x0) 0xfffffffffffffffe) (1 v0) (10 v3) (11 v2) ;)
+axiom 0x10004 0x8067 next facts pre (0x10004 (1 v0) ;) code (0x10004 67800000) post ((and (add v0 0x0) 0xfffffffffffffffe) (1 v0) ;)
+frame 4 facts pre (0x10004 (1 v0) (10 v3) (11 v2) ;) code (0x10004 67800000) post ((and (add v0 0x0) 0xfffffffffffffffe) (1 v0) (10 v3) (11 v2) ;)
+compose 3 5 facts (is v3 (add v1 v2)) pre (0x10000 (1 v0) (10 v1) (11 v2) ;) code all post ((and (add v0 0x0) 0xfffffffffffffffe) (1 v0) (10 v3) (11 v2) ;)
 loop 0 6
 end
 ";
@@ -75,10 +75,18 @@ forget 0
 ";
 
 /// What stands in the text, what is put in its place, and the status and the lines of `check` then.
-static CHECKED: [(&[(&str, &str)], u8, &str); 33] = [
+static CHECKED: [(&[(&str, &str)], u8, &str); 34] = [
     (&[], 0, "accepted 1 8\n"),
     (&[(NAMED_SUM, OTHER_SUM)], 1, "refused line 13\n"),
     (&[(CLOSING, LONGER)], 0, "accepted 1 11\n"),
+    (
+        &[(
+            "next facts pre (0x10004",
+            "next facts (so (eq (and (add v0 0x0) 0x2) 0x0)) pre (0x10004",
+        )],
+        1,
+        "refused line 14\n",
+    ),
     (&[(CLOSING, "loop 0\n")], 1, "refused line 17\n"),
     (
         &[("axiom 0x10004", "forget 3\naxiom 0x10004")],

@@ -10,6 +10,12 @@ use std::test::Fail;
 /// Adds x11 to x10 and counts x11 down to 0, and returns.
 const LOOP: [u32; 4] = [0x00b5_0533, 0xfff5_8593, 0xfe05_9ce3, 0x0000_8067];
 
+/// The same in instructions of two bytes.
+const SHORT_LOOP: [u32; 2] = [0x15fd_952e, 0x8082_fdf5];
+
+/// A branch into the middle of an instruction of four bytes, whose upper half is a return.
+const INTO_A_WORD: [u32; 3] = [0x0005_0363, 0x8082_0537, 0x0000_8067];
+
 /// A cycle of two instructions, each with an entry.
 const TWO_ENTRIES: [u32; 4] = [0x0005_0463, 0x0015_8593, 0xfe05_9ee3, 0x0000_8067];
 
@@ -37,28 +43,33 @@ const MANY_EXITS: [u32; 19] = [
 ];
 
 /// Code at 0x10000, and the line of `decompile e p 0x10000`, which is refused.
-static REFUSED: [(&[u32], &str); 8] = [
+static REFUSED: [(&[u32], &str); 13] = [
     (
         &TWO_ENTRIES,
         "refused 0x10000 two-entries 0x10004 0x10008\n",
     ),
     (&MANY_EXITS, "refused 0x10000 many-exits 0x10000\n"),
     (
-        &[0x8082_0001, 0x0000_8067],
-        "refused 0x10000 not-decoded 0x10000 0x80820001\n",
+        &[0x8082_2000],
+        "refused 0x10000 not-decoded 0x10000 0x2000\n",
     ),
+    (
+        &[0xffff_ffff],
+        "refused 0x10000 not-decoded 0x10000 0xffffffff\n",
+    ),
+    (&[0x0000_9502], "refused 0x10000 call 0x10000\n"),
+    (&[0x0000_8282], "refused 0x10000 jump-through 0x10000\n"),
+    (&[0x0000_9002], "refused 0x10000 environment 0x10000\n"),
+    (&[0x0003_0001], "refused 0x10000 outside-code 0x10002\n"),
     (&[0x0080_00ef], "refused 0x10000 call 0x10000\n"),
     (&[0x0002_8067], "refused 0x10000 jump-through 0x10000\n"),
     (&[0x0000_0073], "refused 0x10000 environment 0x10000\n"),
     (&[0x0015_0513], "refused 0x10000 outside-code 0x10004\n"),
-    (
-        &[0x0000_0363],
-        "refused 0x10000 misaligned 0x10000 0x10006\n",
-    ),
+    (&[0x0000_0363], "refused 0x10000 outside-code 0x10004\n"),
 ];
 
 /// Code at 0x10000, the line of `decompile e p 0x10000`, and the line of `check e p` after it.
-static DECOMPILED: [(&[u32], &str); 4] = [
+static DECOMPILED: [(&[u32], &str); 8] = [
     (&LOOP, "decompiled 0x10000 0x10000 4 3\n"),
     (
         &[0x00a5_b023, 0x0000_8067],
@@ -66,10 +77,17 @@ static DECOMPILED: [(&[u32], &str); 4] = [
     ),
     (&[0x0000_8067], "decompiled 0x10000 0x10000 1 1\n"),
     (&[0x0000_006f], "decompiled 0x10000 0x10000 1 2\n"),
+    (&SHORT_LOOP, "decompiled 0x10000 0x10000 4 3\n"),
+    (&[0x8082_0001], "decompiled 0x10000 0x10000 2 1\n"),
+    (
+        &[0x0000_0363, 0x8082_0001],
+        "decompiled 0x10000 0x10000 3 2\n",
+    ),
+    (&INTO_A_WORD, "decompiled 0x10000 0x10000 4 1\n"),
 ];
 
 /// Command lines over a file with symbols, and their statuses and lines.
-static NAMES: [(&str, u8, &str); 6] = [
+static NAMES: [(&str, u8, &str); 7] = [
     (
         "decompile e p f",
         1,
@@ -81,6 +99,11 @@ static NAMES: [(&str, u8, &str); 6] = [
         "decompile e p 0x20000",
         1,
         "refused 0x20000 outside-code 0x20000\n",
+    ),
+    (
+        "decompile e p 0x10001",
+        1,
+        "refused 0x10001 misaligned 0x10001 0x10001\n",
     ),
     ("decompile q p f", 4, "read fault\n"),
     ("decompile p q f", 3, "unreadable elf cut 0\n"),

@@ -16,6 +16,11 @@ const STORE: [u32; 2] = [0x00a5_b023, 0x0000_8067];
 /// `add x10, x10, x11`, `addi x11, x11, -1`, `bne x11, x0, -8` and `ret`.
 const SUM_UP: [u32; 4] = [0x00b5_0533, 0xfff5_8593, 0xfe05_9ce3, 0x0000_8067];
 
+/// The same in instructions of two bytes, and a jump to x10 that leaves its return address in x1.
+const SHORT_SUM_UP: [u32; 2] = [0x15fd_952e, 0x8082_fdf5];
+
+const SHORT_CALL: [u32; 1] = [0x0000_9502];
+
 /// A leaf function as a compiler writes it that doesn't optimise: a frame with locals, a loop with a break in it, and two
 /// branches that join again.
 const LEAF: [u32; 42] = [
@@ -64,7 +69,7 @@ const LEAF: [u32; 42] = [
 ];
 
 /// Code at 0x10000, and command lines over a file with it, with their statuses and lines.
-static RUNS: [(&[u32], &str, u8, &str); 27] = [
+static RUNS: [(&[u32], &str, u8, &str); 34] = [
     (
         &ADDI,
         "run e 0x10000 0x2000 10 x1=0x2000 x10=0xffffffffffffffff",
@@ -82,15 +87,15 @@ static RUNS: [(&[u32], &str, u8, &str); 27] = [
     (&ADDI, "run e 0x10000 0x2000 0 x1=0x2000", 7, "steps used\n"),
     (
         &ADDI,
-        "run e 0x10002 0x2000 9",
+        "run e 0x10001 0x2000 9",
         1,
-        "refused stuck 0 misaligned 0x10002\n",
+        "refused stuck 0 misaligned 0x10001\n",
     ),
     (
         &ADDI,
-        "run e 0x10000 0x2002 9 x1=0x2002",
-        1,
-        "refused stuck 1 misaligned 0x2002\n",
+        "run e 0x10000 0x2002 9 x1=0x2003",
+        0,
+        "met 2\npc 0x2002\nx1 0x2003\nx10 0x1\n",
     ),
     (
         &ADDI,
@@ -174,18 +179,63 @@ static RUNS: [(&[u32], &str, u8, &str); 27] = [
         "refused stuck 0 no-byte 0x0\n",
     ),
     (
+        &SHORT_SUM_UP,
+        "run e 0x10000 0x2000 10 x1=0x2000 x11=0x3",
+        0,
+        "met 10\npc 0x2000\nx1 0x2000\nx10 0x6\nx11 0x0\n",
+    ),
+    (
+        &SHORT_SUM_UP,
+        "run e 0x10000 0x2000 9 x1=0x2000 x11=0x3",
+        7,
+        "steps used\n",
+    ),
+    (
+        &SHORT_CALL,
+        "run e 0x10000 0x2000 1 x10=0x2000",
+        0,
+        "met 1\npc 0x2000\nx1 0x10002\nx10 0x2000\n",
+    ),
+    (
+        &SHORT_CALL,
+        "run e 0x10002 0x2000 1",
+        1,
+        "refused stuck 0 not-decoded 0x0\n",
+    ),
+    (
+        // c.ebreak
+        &[0x0000_9002],
+        "run e 0x10000 0x2000 1",
+        1,
+        "refused stuck 0 environment\n",
+    ),
+    (
+        // a number without a word, before one that has one
+        &[0x8082_2000],
+        "run e 0x10000 0x2000 1",
+        1,
+        "refused stuck 0 not-decoded 0x2000\n",
+    ),
+    (
+        // half a word behind c.nop
+        &[0x0003_0001],
+        "run e 0x10000 0x2000 9",
+        1,
+        "refused stuck 1 no-fetch\n",
+    ),
+    (
         // ret
         &[0x0000_8067],
         "run e 0x10000 0x2002 1 x1=0x2002",
-        1,
-        "refused stuck 0 misaligned 0x2002\n",
+        0,
+        "met 1\npc 0x2002\nx1 0x2002\n",
     ),
     (
         // beq x0, x0, 6
         &[0x0000_0363],
         "run e 0x10000 0x0 1",
-        1,
-        "refused stuck 0 misaligned 0x10006\n",
+        7,
+        "steps used\n",
     ),
     (
         // jal x0, 0
