@@ -95,12 +95,11 @@ class Part:
 
     def go_back(self, i):
         """The return."""
-        here, only, back, even = self.pc(i), code(i, i + 1), f"(and (add v0 0x0) {MASK})", "(eq (and (add v0 0x0) 0x2) 0x0)"
-        fact = f"(so {even})"
-        axiom = self.lines.state(f"axiom {here} {RETURN:#x} next", [fact], holds(here, {1: "v0"}), only, holds(back, {1: "v0"}))
-        frame = self.lines.state(f"frame {axiom}", [fact], holds(here, self.at), only, holds(back, self.at))
-        self.compose(frame, [fact], code(self.start, i + 1), holds(back, self.at))
-        self.body += [f"need {even}", f"leave 0 {back} {values(self.at)} ;"]
+        here, only, back = self.pc(i), code(i, i + 1), f"(and (add v0 0x0) {MASK})"
+        axiom = self.lines.state(f"axiom {here} {RETURN:#x} next", [], holds(here, {1: "v0"}), only, holds(back, {1: "v0"}))
+        frame = self.lines.state(f"frame {axiom}", [], holds(here, self.at), only, holds(back, self.at))
+        self.compose(frame, [], code(self.start, i + 1), holds(back, self.at))
+        self.body.append(f"leave 0 {back} {values(self.at)} ;")
 
     def call(self):
         """The part behind this one."""

@@ -1,7 +1,8 @@
-"""Functions of RV64IM code that are drawn from a number: loops in loops, branches that join again, and loads and stores in one region."""
+"""Functions of RV64IMC code that are drawn from a number: loops in loops, branches that join again, and loads and stores in one region."""
 import random
 
-from run import arithmetic, immediate, load, store
+from compressed import SHORT
+from run import arithmetic, branch, immediate, jump, load, store, upper
 
 BASE = 0x10000
 REACH = 64
@@ -24,20 +25,6 @@ IN_WORDS = 0x08
 EDGES = (0, 1, 2, 3, 7, 8, 31, 32, 63, 64, 0x7FFFFFFF, 0x80000000, 0xFFFFFFFF, 0x7FFFFFFFFFFFFFFF, 1 << 63, WORD - 1, WORD)
 
 
-def branch(funct3, rs1, rs2, offset):
-    high, low = (offset >> 12 & 1) << 31 | (offset >> 5 & 0x3F) << 25, (offset >> 1 & 0xF) << 8 | (offset >> 11 & 1) << 7
-    return high | rs2 << 20 | rs1 << 15 | funct3 << 12 | low | 0x63
-
-
-def jump(offset):
-    """A jump that writes no register."""
-    return (offset >> 20 & 1) << 31 | (offset >> 1 & 0x3FF) << 21 | (offset >> 11 & 1) << 20 | (offset >> 12 & 0xFF) << 12 | 0x6F
-
-
-def upper(opcode, rd, value):
-    return value << 12 | rd << 7 | opcode
-
-
 class Function:
     """The code of the function of a number.
 
@@ -53,6 +40,7 @@ class Function:
         self.size = 1 + int(self.random.random() ** 3 * 180)
         self.end = self.label()
         self.draw()
+        self.shorten()
         self.place()
 
     def draw_registers(self):
@@ -81,20 +69,37 @@ class Function:
             self.go(first)
         self.start = start
 
-    def place(self):
-        """The words, with the jumps' offsets, and the address of the entry."""
+    def shorten(self):
+        """Which parts have two bytes, of those that can: all, some or none."""
+        share = self.random.choice((0, 0.5, 1))
+        self.sizes = [0 if isinstance(part, int) else 4 for part in self.parts]
+        places = self.places()
+        # An offset that fits while all instructions have four bytes still fits when some have two.
+        for i, part in enumerate(self.parts):
+            if not isinstance(part, int) and self.random.random() < share and self.word(part, places, places[i]) in SHORT:
+                self.sizes[i] = 2
+
+    def places(self):
+        """Where each part stands, by its place in the list, and each label by its number as a string."""
         at, places = 0, {}
-        for part in self.parts:
-            if isinstance(part, int):
-                places[part] = at
-            else:
-                at += 4
-        self.words = []
-        for part in self.parts:
-            if not isinstance(part, int):
-                make, target = part
-                self.words.append(make(places[target] - 4 * len(self.words)) if target is not None else make)
-        self.entry = BASE + places[self.start]
+        for i, part in enumerate(self.parts):
+            places[str(part) if isinstance(part, int) else i] = at
+            at += self.sizes[i]
+        return places
+
+    def word(self, part, places, at):
+        make, target = part
+        return make(places[str(target)] - at) if target is not None else make
+
+    def place(self):
+        """The code, with the jumps' offsets, the number of instructions, and the address of the entry."""
+        places, self.code, self.count = self.places(), b"", 0
+        for i, part in enumerate(self.parts):
+            if self.sizes[i]:
+                word = self.word(part, places, places[i])
+                self.code += (SHORT[word] if self.sizes[i] == 2 else word).to_bytes(self.sizes[i], "little")
+                self.count += 1
+        self.entry = BASE + places[str(self.start)]
 
     def label(self):
         self.labels += 1
@@ -214,6 +219,9 @@ class Function:
 
     def compute(self):
         """An instruction that neither branches nor touches memory."""
+        if self.random.random() < 0.4:
+            self.compute_short()
+            return
         kind = self.random.randrange(9)
         in_words = IN_WORDS if kind % 2 else 0
         rd, rs1, rs2 = self.write(), self.read(), self.read()
@@ -230,6 +238,27 @@ class Function:
             self.put(FENCE)
         else:
             self.put(upper(self.random.choice((0x37, 0x17)), rd, self.random.randrange(1 << 20)), rd)
+
+    def compute_short(self):
+        """An instruction of a form for which two bytes can stand, if its registers fit."""
+        rd, other, small = self.write(), self.read(), self.random.randint(-32, 31) & 0xFFF
+        in_words, count = self.random.choice((0, IN_WORDS)), self.random.randrange(64)
+        word = self.random.choice(
+            (
+                immediate(0, rd, rd, small) | in_words,
+                immediate(0, rd, 0, small),
+                upper(0x37, rd, self.random.randint(-32, 31) & 0xFFFFF),
+                immediate(1, rd, rd, count),
+                immediate(5, rd, rd, count | self.random.choice((0, 0x400))),
+                immediate(7, rd, rd, small),
+                arithmetic(0, 0, rd, rd, other) | in_words,
+                arithmetic(32, 0, rd, rd, other) | in_words,
+                arithmetic(0, self.random.choice((4, 6, 7)), rd, rd, other),
+                arithmetic(0, 0, rd, 0, other),
+            )
+        )
+        sources = {0x13: [word >> 15 & 31], 0x33: [word >> 15 & 31, word >> 20 & 31]}.get(word & 0x77, [])
+        self.put(word, rd, *sources)
 
     def draw_word(self):
         """The value of a register: a small one, one at an edge, or any."""

@@ -2,8 +2,8 @@
 """exactness.py PROGRAM [COUNT [FIRST]]: draws functions of machine code, and compares what the commands of a built program say of each.
 
 First comes a loop whose lines are known. Then COUNT functions are drawn, 200 where it isn't given, from the numbers from FIRST on, 0 where it isn't
-given (`drawn.py`): code of all instructions of RV64IM but those that call the environment or jump through other registers, with loops in loops, joins,
-and loads and stores in one region. Of each it makes an ELF file and
+given (`drawn.py`): code of all instructions of RV64IMC but those that call the environment or jump through other registers, with loops in loops, joins,
+and loads and stores in one region; of those for which two bytes can stand, none, some or all have two. Of each it makes an ELF file and
 
 - decompiles it: the line must name the entry and as many instructions as there are, and the text exactly the registers that these name and a
   memory where one of them loads or stores;
@@ -13,8 +13,9 @@ and loads and stores in one region. Of each it makes an ELF file and
 - evaluates the function on the same: where the run took K steps, evaluation within 2K turns must be done, with the same program counter, registers of
   the group and bytes of the region;
 - evaluates once more within one turn less than it took (`turns used`), now of a text of the definitions alone;
-- does the same without a byte of the region that is loaded or stored, and with a return address that is no multiple of 4: the run must stop there,
-  and evaluation be refused at a side condition; and without any byte of the region, where the one that is missing may not matter.
+- does the same with a return address of which the two low bits are 1: the run must return to the address before it;
+- does the same without a byte of the region that is loaded or stored: the run must stop there, and evaluation be refused at a side condition; and
+  without any byte of the region, where the one that is missing may not matter.
 
 The exit status is 1 where something differs; each difference is told with the function's number, so `exactness.py PROGRAM 1 NUMBER` shows it again.
 """
@@ -36,7 +37,7 @@ STEPS = 10_000_000
 STARTS = 2
 SPACE = 1 << 64
 SIDE = re.compile(r"refused side \d+ \d+\n")
-STUCK = re.compile(r"refused stuck (\d+) (no-byte|misaligned) (0x[0-9a-f]+)\n")
+STUCK = re.compile(r"refused stuck (\d+) no-byte (0x[0-9a-f]+)\n")
 
 
 class Difference(Exception):
@@ -116,11 +117,12 @@ class Comparison:
 
     def go(self):
         """All of it."""
-        code = bytes_of(self.function.words)
+        code = self.function.code
         write_elf(self.elf, [(BASE, code, len(code), len(code))])
         self.decompile()
         for _ in range(STARTS):
-            self.compare(Start(self.function, BACK))
+            self.compare(Start(self.function, BACK), BACK)
+        self.compare(Start(self.function, BACK + 3), BACK + 2)
         self.refuse()
         for path in (self.elf, self.text, self.short):
             os.remove(path)
@@ -128,7 +130,7 @@ class Comparison:
 
     def decompile(self):
         name, function = f"{self.function.entry:#x}", self.function
-        form = f"decompiled {name} {name} {len(function.words)} (\\d+)\n"
+        form = f"decompiled {name} {name} {function.count} (\\d+)\n"
         self.definitions = int(self.program.expect(0, form, "decompile", self.elf, self.text, name)[1])
         with open(self.text) as file:
             lines = file.read().splitlines()
@@ -147,30 +149,30 @@ class Comparison:
     def eval(self, turns, words, text=None):
         return self.program.say("eval", text or self.short, f"{self.function.entry:#x}", str(turns), *words)
 
-    def compare(self, start):
-        """A run from a start, and the evaluation from there."""
+    def compare(self, start, back):
+        """A run from a start to that address, and the evaluation from there."""
         words = start.words()
-        status, lines = self.run(BACK, words)
+        status, lines = self.run(back, words)
         if status != 0:
             raise Difference(f"run {words}: status {status}, {lines[:200]!r}")
-        machine = self.model(start, lines)
-        steps, turns = self.agree(start, lines, words, start.bytes)
+        machine = self.model(start, back, lines)
+        steps, turns = self.agree(start, back, lines, words, start.bytes)
         self.runs, self.steps = self.runs + 1, self.steps + steps
-        self.last = start, sorted(machine.touched)
+        self.last = start, back, sorted(machine.touched)
         if self.eval(turns - 1, words) != (7, "turns used\n"):
             raise Difference(f"eval within {turns - 1} turns isn't one turn short")
 
-    def model(self, start, lines):
+    def model(self, start, back, lines):
         """The model's machine after the same run, of which the lines tell the same."""
-        code = dict(enumerate(bytes_of(self.function.words), BASE))
+        code = dict(enumerate(self.function.code, BASE))
         machine = Machine(self.function.entry, start.registers, {**code, **start.bytes})
-        steps = machine.run(BACK, STEPS)
+        steps = machine.run(back, STEPS)
         memory = {at: machine.memory[at] for at in start.bytes}
-        if parse(lines) != (steps, BACK, dict(enumerate(machine.registers[1:], 1)), memory):
+        if parse(lines) != (steps, back, dict(enumerate(machine.registers[1:], 1)), memory):
             raise Difference(f"run {start.words()}: {lines!r}, and by the model {steps} steps, registers {machine.registers}, bytes {memory}")
         return machine
 
-    def agree(self, start, lines, words, present):
+    def agree(self, start, back, lines, words, present):
         """Evaluation gives what a run met, and nothing else was changed."""
         steps, pc, registers, memory = parse(lines)
         status, told = self.eval(2 * steps, words, self.text if self.runs == 0 else self.short)
@@ -180,7 +182,7 @@ class Comparison:
         group = sorted(self.function.used)
         expected = {r: registers[r] for r in group}
         others = {r: start.registers[r] for r in start.registers if r not in group}
-        if (exit_pc, results, pc) != (pc, expected, BACK) or turns > 2 * steps:
+        if (exit_pc, results, pc) != (pc, expected, back) or turns > 2 * steps:
             raise Difference(f"run {words}: {lines!r}, eval: {told!r}")
         if any(registers[r] != value for r, value in others.items()) or memory.keys() != present.keys():
             raise Difference(f"run {words}: {lines!r}, of registers {group}")
@@ -190,27 +192,23 @@ class Comparison:
 
     def refuse(self):
         """Runs that stop before they return, and their evaluations."""
-        start, touched = self.last
+        start, back, touched = self.last
         draw = self.function.random
         missing = draw.sample(touched, min(1, len(touched))) + draw.sample(sorted(start.bytes), int(self.function.has_memory))
         for gone in missing:
             present = {at: byte for at, byte in start.bytes.items() if at != gone}
             words = start.words(present)
-            status, lines = self.run(BACK, words)
+            status, lines = self.run(back, words)
             if status == 0 and gone not in touched:
-                self.agree(start, lines, words, present)
+                self.agree(start, back, lines, words, present)
                 continue
-            self.is_stuck(status, lines, words, "no-byte", gone)
-        # (the function may read x1, and take another way)
-        start.registers[1] = BACK + 2
-        words = start.words()
-        self.is_stuck(*self.run(BACK + 2, words), words, "misaligned", BACK + 2)
+            self.is_stuck(status, lines, words, gone)
 
-    def is_stuck(self, status, lines, words, why, address):
+    def is_stuck(self, status, lines, words, address):
         """A run stopped for this, and evaluation is refused at a side condition, within two turns for each step and the one that couldn't be made."""
         match = STUCK.fullmatch(lines)
-        if status != 1 or match is None or (match[2], int(match[3], 16)) != (why, address):
-            raise Difference(f"run {words}: status {status}, {lines!r}, and not stuck by {why} {address:#x}")
+        if status != 1 or match is None or int(match[2], 16) != address:
+            raise Difference(f"run {words}: status {status}, {lines!r}, and not stuck by {address:#x}")
         status, lines = self.eval(2 * (int(match[1]) + 1), words)
         if status != 1 or SIDE.fullmatch(lines) is None:
             raise Difference(f"eval {words}: status {status}, {lines[:200]!r}, and not refused at a side condition")
@@ -251,16 +249,16 @@ def main():
         done = list(pool.map(lambda number: compare(program, folder, number), range(first, first + count)))
     failed = [(comparison, why) for comparison, why, _ in done if why]
     for comparison, why in failed:
-        print(f"function {comparison.number}, {len(comparison.function.words)} instructions, entered at {comparison.function.entry:#x}: {why}")
+        print(f"function {comparison.number}, {comparison.function.count} instructions, entered at {comparison.function.entry:#x}: {why}")
     all_of = [comparison for comparison, _, _ in done]
     took, slowest = max((took, comparison.number) for comparison, _, took in done)
     print(
-        f"{count} functions of {sum(len(c.function.words) for c in all_of)} instructions, {sum(c.definitions for c in all_of)} definitions "
+        f"{count} functions of {sum(c.function.count for c in all_of)} instructions, {sum(c.definitions for c in all_of)} definitions "
         f"and {sum(c.lines for c in all_of)} lines; {sum(c.runs for c in all_of)} runs of {sum(c.steps for c in all_of)} steps, "
         f"{sum(c.refused for c in all_of)} that stop, {len(failed)} functions with a difference"
     )
     print(
-        f"{time.perf_counter() - start:.1f} s; the slowest function, number {slowest} of {len(Function(slowest).words)} instructions, "
+        f"{time.perf_counter() - start:.1f} s; the slowest function, number {slowest} of {Function(slowest).count} instructions, "
         f"took {took:.2f} s, and the slowest command, {program.slowest[1]}, {program.slowest[0]:.2f} s"
     )
     return 1 if failed else 0

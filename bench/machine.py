@@ -1,4 +1,6 @@
-"""A model of the instructions of RV64IM that drawn functions have, written from the manual and apart from the program."""
+"""A model of the instructions of RV64IMC that drawn functions have, written from the manual and apart from the program."""
+
+from compressed import expand
 
 WORD = (1 << 64) - 1
 
@@ -66,11 +68,13 @@ class Machine:
         raise ValueError(f"{steps} steps are too few")
 
     def step(self):
-        w = self.word(self.pc, 4)
+        parcel = self.word(self.pc, 2)
+        size = 4 if parcel & 3 == 3 else 2
+        w = self.word(self.pc, 4) if size == 4 else expand(parcel)
         opcode, rd, funct3, rs1, rs2, funct7 = w & 0x7F, w >> 7 & 31, w >> 12 & 7, w >> 15 & 31, w >> 20 & 31, w >> 25
         a, b, immediate = self.registers[rs1], self.registers[rs2], signed(w >> 20, 12)
         upper = signed(w & 0xFFFFF000, 32)
-        after, result = self.pc + 4, None
+        after, result = self.pc + size, None
         if opcode in (0x33, 0x3B):
             bits = 64 if opcode == 0x33 else 32
             result = product_operation(funct3, a, b, bits) if funct7 == 1 else base_operation(funct3, funct7 == 32, a, b, bits)

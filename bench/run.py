@@ -36,6 +36,20 @@ def store(funct3, rs2, rs1, offset):
     return offset >> 5 << 25 | rs2 << 20 | rs1 << 15 | funct3 << 12 | (offset & 31) << 7 | 0x23
 
 
+def branch(funct3, rs1, rs2, offset):
+    high, low = (offset >> 12 & 1) << 31 | (offset >> 5 & 0x3F) << 25, (offset >> 1 & 0xF) << 8 | (offset >> 11 & 1) << 7
+    return high | rs2 << 20 | rs1 << 15 | funct3 << 12 | low | 0x63
+
+
+def jump(offset):
+    """A jump that writes no register."""
+    return (offset >> 20 & 1) << 31 | (offset >> 1 & 0x3FF) << 21 | (offset >> 11 & 1) << 20 | (offset >> 12 & 0xFF) << 12 | 0x6F
+
+
+def upper(opcode, rd, value):
+    return value << 12 | rd << 7 | opcode
+
+
 # Each loop has ten instructions; the last jumps to x5, which holds the address of the first.
 AGAIN = 5 << 15 | 0x67
 ARITHMETIC = [
