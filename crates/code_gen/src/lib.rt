@@ -11,6 +11,3 @@ pub use laws::{
     law_of_counters, law_of_draws, law_of_shapes, law_of_steps, law_of_targets, law_of_words,
 };
 pub use pieces::program;
-
-#[cfg(test)]
-mod tests;

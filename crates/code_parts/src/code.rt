@@ -38,35 +38,6 @@ pub fn code_of(alloc: Global, graph: &Graph) -> Result<Code, NoMemory>
     Ok(code)
 }
 
-/// The same code in memory of its own.
-pub fn copy_code(alloc: Global, code: &Code) -> Result<Code, NoMemory>
-    ensures { IfOk result (λ copy. copy.ranges ≡ code.now.ranges) }
-{
-    let ranges = copy_ranges(alloc, code.ranges.as_slice())?;
-    Ok(Code { ranges })
-}
-
-fn copy_ranges(alloc: Global, ranges: &[Range]) -> Result<List<Range>, NoMemory>
-    ensures { IfOk result (λ copies. copies ≡ ranges.now) }
-{
-    let mut copies = List::new(alloc);
-    for range in ranges {
-        let copy = copy_range(alloc, range)?;
-        copies.push(copy)?;
-    }
-    Ok(copies)
-}
-
-fn copy_range(alloc: Global, range: &Range) -> Result<Range, NoMemory>
-    ensures { IfOk result (λ copy. copy ≡ range.now) }
-{
-    let bytes = List::from_slice(alloc, range.bytes.as_slice())?;
-    Ok(Range {
-        at: range.at,
-        bytes,
-    })
-}
-
 /// The bytes of code are bytes.
 pub fn law_of_bytes(code: &Code)
     ensures { AllByRecursion (λ r. AllByRecursion (λ b. b < 256) r.bytes) code.now.ranges }

@@ -6,11 +6,11 @@ ghost use Rattle.code_parts.specs.Flows.{AreCodeOf};
 ghost use Rattle.code_parts.specs.Flows.{group_over};
 ghost use Rattle.code_parts.specs.Kept.{flow_in};
 
-use crate::code::copy_code;
 use crate::flow::Flow;
 use rv_words::{List, NoMemory, Text};
 use std::alloc::Global;
 use tailrec_lang::{Def, Group};
+use word_terms::copy_code;
 
 /// The group of that name with these definitions, over the registers, the memory and the code of a flow.
 pub fn group_with(

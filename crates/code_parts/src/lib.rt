@@ -16,7 +16,7 @@ mod steps;
 mod uses;
 
 pub use bodies::ROOM;
-pub use code::{copy_code, law_of_bytes};
+pub use code::law_of_bytes;
 pub use definition::{first_node, part_def};
 pub use ends::{ends_at, rest_targets, with_pc};
 pub use flow::Flow;

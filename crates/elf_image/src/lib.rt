@@ -16,6 +16,3 @@ pub use image::{Image, Piece};
 pub use laws::law_of_image;
 pub use reader::read;
 pub use symbol::NameFault;
-
-#[cfg(test)]
-mod tests;

@@ -13,6 +13,3 @@ pub use graph::{Graph, build};
 pub use laws::{law_of_edges, law_of_instructions, law_of_one_answer, law_of_reach};
 pub use links::Edges;
 pub use outside::{FlowFault, Outside};
-
-#[cfg(test)]
-mod tests;

@@ -16,6 +16,3 @@ mod second;
 
 pub use forest::{Forest, find_loops};
 pub use laws::{law_of_depths, law_of_one_forest, law_of_two_entries, law_of_walks};
-
-#[cfg(test)]
-mod tests;

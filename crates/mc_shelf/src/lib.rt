@@ -18,6 +18,3 @@ pub use out_sink::OutSink;
 pub use reading::{ReadEnd, read_file};
 pub use shelf::Shelf;
 pub use sink::{Failed, Sink, Stop};
-
-#[cfg(test)]
-mod tests;

@@ -19,6 +19,3 @@ pub use pen::Pen;
 pub use put::{dec_into, digit_pair, hex_into, put_atom, put_bytes, put_dec, put_hex};
 pub use scan::{Scan, is_atom, is_atom_byte};
 pub use token::{BadText, Token};
-
-#[cfg(test)]
-mod tests;

@@ -20,13 +20,13 @@ ghost use Rattle.code_parts.specs.Places.{place_of};
 use crate::joining::{go_on, standing_at};
 use crate::log::{Log, Standing};
 use crate::subs::{call_mems, call_words, place_at};
-use code_parts::{Flow, Part, Place, copy_code, current, first_node, fresh, law_of_bytes, with_pc};
+use code_parts::{Flow, Part, Place, current, first_node, fresh, law_of_bytes, with_pc};
 use proof_text::Rule;
 use rv_words::{List, NoMemory};
 use std::alloc::Global;
 use tailrec_lang::{Exit, Values};
 use triple_kernel::{Fact, Triple};
-use word_terms::{Mem, Sub, Word};
+use word_terms::{Mem, Sub, Word, copy_code};
 
 /// Where a definition goes on after an exit.
 fn pc_at(x: Exit, words: u32) -> Word

@@ -16,14 +16,14 @@ ghost use Rattle.path_walk.specs.inner.Logs.{log_tree, standing_tree};
 ghost use Rattle.code_parts.specs.Places.{place_of};
 
 use crate::log::{Log, Standing};
-use code_parts::{Flow, Place, copy_code, fresh, law_of_bytes};
+use code_parts::{Flow, Place, fresh, law_of_bytes};
 use instr_axioms::{memory_if, words_before};
 use proof_text::Rule;
 use rv_words::{List, NoMemory};
 use sep_assert::{Assertion, code_join};
 use std::alloc::Global;
 use triple_kernel::{Fact, Triple, copy_fact, copy_facts, is_among};
-use word_terms::{Code, Mem, Word};
+use word_terms::{Code, Mem, Word, copy_code};
 
 /// What holds at a place: that program counter, and the variables of the registers and the memory.
 pub fn standing_at(

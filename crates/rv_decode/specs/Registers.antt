@@ -35,10 +35,3 @@ is_written i r = destination i == r
 -- those of x1 to x31 of which the test is true, rising
 unfoldable pub registers_where : (ℕ → Bool) → List ℕ
 registers_where test = filter test (range_with_len 1 31)
-
--- the registers that it reads, and those that it writes: each once, rising, without x0
-abbrev pub read_by : Instr → List ℕ
-read_by i = registers_where (is_read i)
-
-abbrev pub written_by : Instr → List ℕ
-written_by i = registers_where (is_written i)

@@ -13,7 +13,4 @@ mod rows;
 pub use decoder::decode;
 pub use encoder::encode;
 pub use instruction::Instr;
-pub use registers::{destination, is_read, is_written, registers_read, registers_written};
-
-#[cfg(test)]
-mod tests;
+pub use registers::{destination, is_read, is_written};

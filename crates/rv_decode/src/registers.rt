@@ -1,11 +1,9 @@
 //! The registers of an instruction.
 
-ghost use Rattle.std.specs.Prelude.{◌≡◌, IfOk};
+ghost use Rattle.std.specs.Prelude.{◌≡◌};
 ghost use Rattle.rv_decode.specs.Registers as spec;
 
 use crate::instruction::Instr;
-use rv_words::{List, NoMemory};
-use std::alloc::Global;
 
 /// The register that an instruction writes, or x0.
 pub fn destination(i: &Instr) -> u8
@@ -43,32 +41,4 @@ pub fn is_written(i: &Instr, r: u8) -> bool
     ensures { result ≡ spec.is_written i.now r }
 {
     destination(i) == r
-}
-
-/// The registers that the instruction reads.
-#[tactic(auto, using(crate::proofs::RegisterLemmas::one_more, crate::proofs::RegisterLemmas::none_more))]
-pub fn registers_read(alloc: Global, i: &Instr) -> Result<List<u8>, NoMemory>
-    ensures { IfOk result (λ registers. registers ≡ spec.read_by i.now) }
-{
-    let mut registers = List::new(alloc);
-    for r in 1..32 {
-        if is_read(i, r) {
-            registers.push(r)?;
-        }
-    }
-    Ok(registers)
-}
-
-/// The registers that the instruction writes.
-#[tactic(auto, using(crate::proofs::RegisterLemmas::one_more, crate::proofs::RegisterLemmas::none_more))]
-pub fn registers_written(alloc: Global, i: &Instr) -> Result<List<u8>, NoMemory>
-    ensures { IfOk result (λ registers. registers ≡ spec.written_by i.now) }
-{
-    let mut registers = List::new(alloc);
-    for r in 1..32 {
-        if is_written(i, r) {
-            registers.push(r)?;
-        }
-    }
-    Ok(registers)
 }

@@ -14,6 +14,3 @@ pub use laws::{law_of_registers, law_of_runs, law_of_states, law_of_steps, law_o
 pub use running::RunEnd;
 pub use state::{State, Stuck};
 pub use touch::Touch;
-
-#[cfg(test)]
-mod tests;

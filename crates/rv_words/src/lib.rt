@@ -21,6 +21,3 @@ pub use memory::NoMemory;
 pub use operation::{Op, apply};
 pub use range::Range;
 pub use width::Width;
-
-#[cfg(test)]
-mod tests;

@@ -9,9 +9,9 @@ use Rattle.rv_words.proofs.MemoryLemmas.{inside-same, load-same}
 use Rattle.rv_decode.specs.declared.instruction.Instr.{Instr}
 use Rattle.rv_decode.specs.Decodes.{NamesRegisters, decoded}
 use Rattle.rv_decode.proofs.EncodeLemmas.{decoded_named}
-use Rattle.rvc.specs.Expands.{compressed, expanded}
+use Rattle.rvc.specs.Expands.{compressed}
 use Rattle.rvc.specs.Number.{is_word, length_of, number_at, number_in, instruction_of}
-use Rattle.rvc.proofs.RangeLemmas.{compressed_named, expanded_decodes}
+use Rattle.rvc.proofs.RangeLemmas.{compressed_named}
 
 -- ---- the number at an address
 
@@ -70,19 +70,18 @@ number-same m n a w low e same =
 
 -- ---- its instruction
 
--- the instruction of a compressed number is that of the word to which it expands
 pub instruction-compressed : (w : ℕ) → is_word w ≡ false → w < 2 ^ 16 → instruction_of w ≡ compressed w
 instruction-compressed w short low =
     let small : ltb w (2 ^ 16) ≡ true = grind (arith, nat_tests) in
-    (λ i. cond (short i) (decoded w) (cond (small i) (option_and_then decoded (expanded w)) None)) ∙ expanded_decodes w
+    λ i. cond (short i) (decoded w) (cond (small i) (compressed w) None)
 
 pub instruction-word : (w : ℕ) → is_word w ≡ true → instruction_of w ≡ decoded w
-instruction-word w long = λ i. cond (long i) (decoded w) (cond (ltb w (2 ^ 16)) (option_and_then decoded (expanded w)) None)
+instruction-word w long = λ i. cond (long i) (decoded w) (cond (ltb w (2 ^ 16)) (compressed w) None)
 
 pub instruction-none : (w : ℕ) → is_word w ≡ false → 2 ^ 16 ≤ w → instruction_of w ≡ None
 instruction-none w short high =
     let large : ltb w (2 ^ 16) ≡ false = grind (arith, nat_tests) in
-    λ i. cond (short i) (decoded w) (cond (large i) (option_and_then decoded (expanded w)) None)
+    λ i. cond (short i) (decoded w) (cond (large i) (compressed w) None)
 
 -- ---- the number, two bytes at a time
 

@@ -5,7 +5,7 @@ use Rattle.std.specs.Int.{w16, w32, to_le_bytes}
 use Rattle.rv_words.specs.Bytes.{Bytes, inside, load, word_at}
 use Rattle.rv_decode.specs.declared.instruction.Instr.{Instr}
 use Rattle.rv_decode.specs.Decodes.{decoded}
-use Rattle.rvc.specs.Expands.{expanded}
+use Rattle.rvc.specs.Expands.{compressed}
 
 -- the low two bits of a number tell that it is a word and not a parcel of two bytes
 abbrev pub is_word : ℕ → Bool
@@ -25,7 +25,7 @@ number_in m a = option_and_then (λ w. if nat_le (a + length_of w) (2 ^ 64) then
 
 -- the instruction that a parcel or a word is, if it is one
 abbrev pub instruction_of : ℕ → Option Instr
-instruction_of w = if is_word w then decoded w else (if nat_lt w (2 ^ 16) then option_and_then decoded (expanded w) else None)
+instruction_of w = if is_word w then decoded w else (if nat_lt w (2 ^ 16) then compressed w else None)
 
 -- the bytes of a parcel or a word, the low one first
 abbrev pub bytes_of : ℕ → List ℕ

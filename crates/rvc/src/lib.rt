@@ -6,8 +6,6 @@ mod laws;
 mod number;
 mod parcel;
 mod rows;
-#[cfg(test)]
-mod tests;
 
 pub use expansion::{decode_compressed, expand};
 pub use laws::law_of_expansion;

@@ -6,6 +6,3 @@ mod outcome;
 mod run;
 
 pub use outcome::{Outcome, self_test};
-
-#[cfg(test)]
-mod tests;

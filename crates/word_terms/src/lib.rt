@@ -9,7 +9,7 @@ mod scope;
 mod substitution;
 mod term;
 
-pub use code::Code;
+pub use code::{Code, copy_code};
 pub use copy::{copy_cond, copy_mem, copy_mems, copy_word, copy_words};
 pub use evaluation::{Env, byte_of, memory_of, truth, value};
 pub use laws::{

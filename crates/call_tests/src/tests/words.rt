@@ -1,11 +1,8 @@
-//! What no clause says: that the calls succeed while there is memory, that a type may reach itself through a
-//! list, and which pieces of memory become one.
+//! Operations, lists and byte maps: that the calls succeed while there is memory, and that a type may reach itself
+//! through a list.
 
-mod edges;
-
-use super::*;
-use crate::pieces::{put_bytes, put_zeros};
-use edges::{COMPARISONS, EXTENSIONS, OPERATIONS};
+use rv_words::*;
+use super::edges::{COMPARISONS, EXTENSIONS, OPERATIONS};
 use std::alloc::Global;
 use std::process::Abort;
 use std::test::Fail;
@@ -171,29 +168,5 @@ fn bytes_are_placed_stored_and_found(rt: HostRuntime) -> Result<(), Fail> {
     ] {
         assert_eq!(rt; map.has(a, width), all, "{width:?} at {a:#x}");
     }
-    Ok(())
-}
-
-#[test]
-fn pieces_grow_and_long_ones_stay_apart(rt: HostRuntime) -> Result<(), Fail> {
-    let mut pieces = Vec::new(rt.alloc());
-    put_bytes(&mut pieces, 20, b"cd")?;
-    put_bytes(&mut pieces, 10, b"ab")?;
-    put_bytes(&mut pieces, 30, b"ef")?;
-    assert_eq!(rt; pieces.len(), 3);
-    put_bytes(&mut pieces, 12, b"gh")?;
-    assert_eq!(rt; pieces.len(), 3);
-    put_zeros(&mut pieces, 15, 5)?;
-    assert_eq!(rt; pieces.len(), 3);
-    put_zeros(&mut pieces, 14, 1)?;
-    assert_eq!(rt; pieces.len(), 3);
-    put_zeros(&mut pieces, 9, 22)?;
-    assert_eq!(rt; pieces.len(), 1);
-    put_zeros(&mut pieces, 4, 1 << 20)?;
-    assert_eq!(rt; pieces.len(), 1);
-    put_zeros(&mut pieces, 2, 2)?;
-    assert_eq!(rt; pieces.len(), 2);
-    put_zeros(&mut pieces, 0, 2)?;
-    assert_eq!(rt; pieces.len(), 2);
     Ok(())
 }

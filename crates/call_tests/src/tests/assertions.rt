@@ -3,7 +3,7 @@
 ghost use Rattle.std.specs.Prelude.{◌<◌, ◌≤◌, ◌+◌, ◌^◌, IfOk, length};
 ghost use Rattle.rv_words.specs.Ranges.{AreRanges};
 
-use super::*;
+use sep_assert::*;
 use rv_words::{List, NoMemory, Range};
 use std::alloc::Global;
 use std::process::Abort;

@@ -1,6 +1,6 @@
 //! What no clause says: that the calls succeed while there is memory, and what the adapters do.
 
-use super::*;
+use mc_shelf::*;
 use rv_words::NoMemory;
 use std::alloc::Global;
 use std::fs;

@@ -1,6 +1,6 @@
 //! The words of the request's tables, and every parcel by sums over an independent program's words.
 
-use super::*;
+use rvc::*;
 use rv_decode::{Instr, decode};
 use std::process::Abort;
 

@@ -1,6 +1,6 @@
 //! What no clause says: the graphs and faults of worked programs, and that a graph is built while there is memory.
 
-use super::*;
+use flow_graph::*;
 use elf_image::{Image, read};
 use rv_decode::Instr;
 use std::alloc::{AllocError, Global};

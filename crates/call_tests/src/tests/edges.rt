@@ -6,7 +6,7 @@
 //! leaves a quotient open, by zero and of the least number by -1, they are those of the RISC-V Unprivileged ISA
 //! 20191213, table 7.1.
 
-use crate::{Cmp, Ext, Op};
+use rv_words::{Cmp, Ext, Op};
 
 const ONES: u64 = 0xffff_ffff_ffff_ffff;
 

@@ -2,7 +2,7 @@
 //! (`objdump -D -b binary -m riscv:rv64 -M no-aliases,numeric`), and words beside them that it doesn't know, or that it
 //! reads as instructions of other extensions.
 
-use super::*;
+use rv_decode::*;
 use rv_words::{Cmp, Op, Width};
 use std::alloc::Global;
 use std::process::Abort;
@@ -181,35 +181,6 @@ fn fences_with_any_fields(rt: HostRuntime) {
     ] {
         expect_row(&rt, word, "fence", operands);
     }
-}
-
-fn expect_registers(
-    rt: &impl Abort,
-    alloc: Global,
-    word: u32,
-    read: &[u8],
-    written: &[u8],
-) -> Result<(), Fail> {
-    let Some(i) = decode(word) else {
-        assert!(rt; false, "{word:#x}");
-        return Ok(());
-    };
-    let found = registers_read(alloc, &i)?;
-    assert_eq!(rt; found.as_slice(), read, "{word:#x}");
-    let found = registers_written(alloc, &i)?;
-    assert_eq!(rt; found.as_slice(), written, "{word:#x}");
-    Ok(())
-}
-
-/// `sub x5, x9, x2`, `add x0, x3, x3`, `sd x1, 8(x2)`, `jalr x1, 0(x0)`, `lui x31, 1` and a fence with fields.
-#[test]
-fn registers_rise_without_x0(rt: HostRuntime) -> Result<(), Fail> {
-    expect_registers(&rt, rt.alloc(), 0x4024_82b3, &[2, 9], &[5])?;
-    expect_registers(&rt, rt.alloc(), 0x0031_8033, &[3], &[])?;
-    expect_registers(&rt, rt.alloc(), 0x0011_3423, &[1, 2], &[])?;
-    expect_registers(&rt, rt.alloc(), 0x0000_00e7, &[], &[1])?;
-    expect_registers(&rt, rt.alloc(), 0x0000_1fb7, &[], &[31])?;
-    expect_registers(&rt, rt.alloc(), 0x0ff1_808f, &[], &[])
 }
 
 #[test]

@@ -1,6 +1,6 @@
 //! What no clause says: that calls succeed while there is memory. The texts are written by hand.
 
-use super::*;
+use mc_text::*;
 use rv_words::Bytes;
 use std::alloc::Global;
 use std::test::Fail;

@@ -2,7 +2,7 @@
 
 ghost use Rattle.std.specs.Prelude.{◌≡◌, ◌<◌, length};
 
-use super::*;
+use loop_forest::*;
 use elf_image::{Image, read};
 use flow_graph::{FlowFault, Graph, Outside, build};
 use rv_decode::{Instr, encode};

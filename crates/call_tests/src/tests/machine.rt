@@ -1,6 +1,6 @@
 //! What no clause says: that the calls succeed while there is memory, and runs whose outcome comes from outside.
 
-use super::*;
+use rv_machine::*;
 use rv_words::{NoMemory, Width};
 use std::alloc::Global;
 use std::process::Abort;

@@ -1,7 +1,7 @@
 //! What no clause says: the words of the faults, the bytes of real files, and that a file is read while there
 //! is memory.
 
-use super::*;
+use elf_image::*;
 use std::alloc::{AllocError, Global};
 use std::test::Fail;
 

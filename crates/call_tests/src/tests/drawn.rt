@@ -2,7 +2,7 @@
 
 ghost use Rattle.std.specs.Prelude.{◌≤◌, ◌^◌, length};
 
-use super::*;
+use code_gen::*;
 use rv_words::{List, NoMemory};
 use std::alloc::Global;
 use std::test::Fail;

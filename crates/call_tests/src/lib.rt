@@ -1,0 +1,5 @@
+//! Tests of the public calls of the crates below the program. They stand apart, since a crate with tests is proved twice.
+#![tactic(auto)]
+
+#[cfg(test)]
+mod tests;

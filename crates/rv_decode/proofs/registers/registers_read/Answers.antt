@@ -1,7 +1,0 @@
-use Rattle.std.proofs.Common.{arith}
-use Rattle.rv_decode.specs.Registers.{is_read}
-use Rattle.rv_decode.proofs.RegisterLemmas.{all_found}
-use Rattle.rv_decode.proofs.registers.registers_read.Goals as goal
-
-pub returns : goal.returns
-returns c = all_found (is_read c.args.i.now) c.loop-r.registers c.loop-r.r (omega (arith, c.loop-r-test.false, c.loop-r.auto.r-end)) c.loop-r.invariant

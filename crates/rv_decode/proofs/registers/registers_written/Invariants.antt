@@ -1,6 +1,0 @@
-use Rattle.rv_decode.specs.Registers.{is_written}
-use Rattle.rv_decode.proofs.RegisterLemmas.{HaveFound}
-use Rattle.rv_decode.proofs.registers.registers_written.Given as goal
-
-abbrev pub invariant-loop-r : goal.invariant-loop-r
-invariant-loop-r l = HaveFound (is_written l.i) l.registers l.r
