@@ -4,3 +4,4 @@ pub mod MemoryLemmas
 pub mod StepLemmas
 pub mod StateLemmas
 pub mod RegisterLemmas
+mod EvenLemmas

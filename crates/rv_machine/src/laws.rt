@@ -47,9 +47,10 @@ pub fn law_of_touches()
         → AreSameOn (fetches s) m s.mem → AreSameOn (touches s) m s.mem → IsStepWith s t m }
 {}
 
-/// Steps and runs of a machine's states lead to such states.
+/// Steps and runs of a machine's states lead to such states, and a step to an even address.
 pub fn law_of_states()
     ensures step { (s t : State) → IsState s → step s ≡ Some t → IsState t }
+    ensures even { (s t : State) → IsState s → step s ≡ Some t → is_even t.pc ≡ true }
     ensures run { (s t : State) (k : ℕ) → IsState s → run s k ≡ Some t → IsState t }
 {}
 
