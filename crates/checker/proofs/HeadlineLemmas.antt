@@ -21,7 +21,7 @@ use Rattle.sep_assert.proofs.Unions.{union-comm, union-assoc}
 use Rattle.triple_kernel.specs.Tree.{FactTree, Gives}
 use Rattle.triple_kernel.specs.Fact.{Leaves, Holds}
 use Rattle.triple_kernel.specs.Valid.{Reaches, state_part}
-use Rattle.sep_assert.specs.Registers.{AreRegistersFrom}
+use Rattle.tailrec_lang.specs.Registers.{AreRegistersFrom}
 use Rattle.loop_rule.specs.Leaves.{parameters, at_entry, at_exit}
 use Rattle.loop_rule.specs.Rule.{results, IsClosed}
 use Rattle.checker.specs.Headline.{Region, cut, is_within, held_in, Starts, Ends}

@@ -29,7 +29,7 @@ use Rattle.flow_graph.proofs.ExactLemmas.{graph_numbers}
 use Rattle.flow_graph.proofs.Standing.{graph_stands, through_return}
 use Rattle.loop_forest.specs.Forest.{ForestOf, IsForestOf}
 use Rattle.code_parts.specs.declared.part.Part.{Part}
-use Rattle.sep_assert.specs.Registers.{AreRegistersFrom}
+use Rattle.tailrec_lang.specs.Registers.{AreRegistersFrom}
 use Rattle.code_parts.specs.Graph.{IsCode, StandsAt, has_edge, is_return}
 use Rattle.code_parts.specs.Flows.{HaveCode, edge_number, flow_of, registers_of}
 use Rattle.code_parts.proofs.Lists.{in-true}

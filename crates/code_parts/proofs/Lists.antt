@@ -2,7 +2,7 @@
 use Rattle.std.proofs.Common.{◌≡◌, ℕ, zero, suc, ◌+◌, ◌<◌, ◌≤◌, List, [], ◌∷◌, ◌++◌, map, length, Bool, true, false, cond, eqb, refl, sym, ap, subst, arith, Some, eqb-true, eq-eqb, ne_eqb, Contains, ◌||◌, Option, None}
 use Rattle.std.specs.Prelude.{slice_get, option_map}
 use Rattle.std.specs.List.{list_any}
-use Rattle.sep_assert.specs.Registers.{AreRegistersFrom}
+use Rattle.tailrec_lang.specs.Registers.{AreRegistersFrom}
 use Rattle.code_parts.specs.Bodies.{index_of}
 
 -- ---- lists

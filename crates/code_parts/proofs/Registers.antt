@@ -2,7 +2,7 @@
 use Rattle.std.proofs.Common.{◌≡◌, ℕ, zero, suc, ◌+◌, ◌<◌, ◌≤◌, List, [], ◌∷◌, filter, Bool, true, false, cond, eqb, ◌||◌, refl, sym, ap, ◌∙◌, subst, arith, Contains, eqb-true}
 use Rattle.std.proofs.lemmas.Bool.{eqb-false}
 use Rattle.std.specs.List.{range_with_len}
-use Rattle.sep_assert.specs.Registers.{AreRegistersFrom}
+use Rattle.tailrec_lang.specs.Registers.{AreRegistersFrom}
 use Rattle.code_parts.proofs.Lists.{later}
 
 pub filter-rise : (p : ℕ → Bool) (a n : ℕ) → a + n ≤ 32 → AreRegistersFrom a (filter p (range_with_len a n))

@@ -12,7 +12,7 @@ use Rattle.code_parts.specs.Bodies.{Flow, size, Place, Action, Straight, Fork, R
 use Rattle.exactness.proofs.Returns.{Comes}
 use Rattle.exactness.proofs.Places.{Stands, stands-fresh, stands-start, returned-values}
 use Rattle.exactness.proofs.BodyLemmas.{after_steps, AllHold, needs_passed, ending-steps, arm-over, is-found, found-at, contains-at}
-use Rattle.sep_assert.specs.Registers.{AreRegistersFrom}
+use Rattle.tailrec_lang.specs.Registers.{AreRegistersFrom}
 use Rattle.code_parts.specs.Graph.{IsPart, IsPlaced, IsGraph}
 use Rattle.code_parts.proofs.Edges.{Leads, end-some, leads-edge}
 use Rattle.exactness.proofs.Graphs.{return-row}

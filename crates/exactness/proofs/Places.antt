@@ -5,7 +5,7 @@ use Rattle.std.specs.List.{position_or_len, range_with_len}
 use Rattle.word_terms.specs.Tree.{Var, MemVar}
 use Rattle.word_terms.specs.Environment.{Environment, no_variables}
 use Rattle.tailrec_lang.specs.Eval.{Arguments, arguments_of, with_arguments}
-use Rattle.sep_assert.specs.Registers.{AreRegistersFrom}
+use Rattle.tailrec_lang.specs.Registers.{AreRegistersFrom}
 use Rattle.instr_axioms.specs.Axiom.{memory_if}
 use Rattle.code_parts.specs.Bodies.{Flow, Place, mem_count, fresh, start, current, with_pc}
 use Rattle.loop_rule.specs.Leaves.{variables_after}

@@ -12,7 +12,7 @@ use Rattle.tailrec_lang.specs.Tree.{ValuesTree, DefTree, GroupTree}
 use Rattle.tailrec_lang.specs.WellFormed.{exit_words}
 use Rattle.triple_kernel.specs.Tree.{Gives, TripleTree}
 use Rattle.triple_kernel.specs.Rules.{IsInst, put_in_values, put_in_register, put_in_assertion}
-use Rattle.sep_assert.specs.Registers.{AreRegistersFrom}
+use Rattle.tailrec_lang.specs.Registers.{AreRegistersFrom}
 use Rattle.loop_rule.specs.Leaves.{variables_after, parameters, with_values, at_exit}
 use Rattle.loop_rule.specs.Rule.{results, exit_triple}
 use Rattle.checker.specs.Instance.{put_for}

@@ -16,7 +16,7 @@ use Rattle.proof_text.specs.Line.{Inst, UseExit}
 use Rattle.checker.specs.Instance.{Meets, put_for}
 use Rattle.code_parts.specs.declared.part.Part.{Part}
 use Rattle.code_parts.specs.Bodies.{Flow, Place, current, exits_of, first, mem_count, start, with_pc}
-use Rattle.sep_assert.specs.Registers.{AreRegistersFrom}
+use Rattle.tailrec_lang.specs.Registers.{AreRegistersFrom}
 use Rattle.code_parts.specs.Graph.{HasPart, IsPart}
 use Rattle.path_walk.specs.inner.Histories.{exit_place, pc_of}
 use Rattle.code_parts.specs.Flows.{group_over}

@@ -23,7 +23,7 @@ use Rattle.loop_rule.specs.Rule.{LeadsTo}
 use Rattle.code_parts.specs.declared.part.Part.{Part}
 use Rattle.code_parts.specs.declared.part.Part.TheVariants.{Loop, Rest}
 use Rattle.code_parts.specs.Bodies.{size, Flow, Place, body_at, current, end_at, end_of, exits_of, first, fresh, index_of, last_at, mem_count, names, needs, or_else, own, part_def, place_after, rest_arms, rest_from, rest_targets, returned, start, targets, with_pc, writes}
-use Rattle.sep_assert.specs.Registers.{AreRegistersFrom}
+use Rattle.tailrec_lang.specs.Registers.{AreRegistersFrom}
 use Rattle.code_parts.specs.Graph.{IsPart, IsPlaced, has_edge, is_return}
 use Rattle.path_walk.specs.inner.Acts.{new_facts, results_at}
 use Rattle.path_walk.specs.inner.Near.{IsEnd, IsNear}

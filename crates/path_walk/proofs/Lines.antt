@@ -15,7 +15,7 @@ use Rattle.word_terms.specs.Substitution.{listed, put_in_mem}
 use Rattle.triple_kernel.specs.Tree.{FactTree, WordIs, MemIs, So}
 use Rattle.triple_kernel.specs.Rules.{IsInst, IsWeakened}
 use Rattle.triple_kernel.specs.Swap.{WordsStated, MemsStated, SwapWord, SwapMem, SwapRegister}
-use Rattle.sep_assert.specs.Registers.{AreRegistersFrom}
+use Rattle.tailrec_lang.specs.Registers.{AreRegistersFrom}
 use Rattle.frame_compose.specs.Rules.{is_listed, listed as those_listed, IsFramed}
 use Rattle.checker.specs.Instance.{put_for}
 use Rattle.triple_kernel.specs.declared.form.Form.{Form}

@@ -5,7 +5,7 @@ use Rattle.std.specs.Prelude.{slice_get, unwrap_or}
 use Rattle.std.specs.List.{position_or_len, range_with_len}
 use Rattle.word_terms.specs.Tree.{WordTree, MemTree, Var, MemVar}
 use Rattle.word_terms.specs.Substitution.{Substitution, listed, put_in_word, put_in_mem}
-use Rattle.sep_assert.specs.Registers.{AreRegistersFrom}
+use Rattle.tailrec_lang.specs.Registers.{AreRegistersFrom}
 use Rattle.instr_axioms.specs.Axiom.{memory_if}
 use Rattle.loop_rule.specs.Leaves.{variables_after}
 use Rattle.code_parts.specs.Bodies.{Flow, mem_count, current, fresh}

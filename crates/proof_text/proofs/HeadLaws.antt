@@ -26,7 +26,7 @@ use Rattle.term_text.proofs.TermFacts.{range-flat}
 use Rattle.term_text.proofs.TermLaws.{range-law, range-shrinks}
 use Rattle.tailrec_lang.specs.declared.group.Exit.{Exit}
 use Rattle.tailrec_lang.specs.declared.group.Exit.TheVariants.{At, Ret}
-use Rattle.sep_assert.specs.Registers.{AreRegistersFrom}
+use Rattle.tailrec_lang.specs.Registers.{AreRegistersFrom}
 use Rattle.proof_text.specs.Limits.{IsExit, exit_limit, returns, IsName}
 use Rattle.proof_text.specs.Spelling.{number, address, exit_tokens}
 use Rattle.proof_text.specs.inner.Reading.{exit_of, has_atom, are_few_exits, def_row, are_atom_bytes, is_name, name_of, registers_rise, ranges_rise, regs_row, mems_row, code_row}

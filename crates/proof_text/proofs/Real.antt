@@ -16,7 +16,7 @@ use Rattle.tailrec_lang.specs.Tree.{ValuesTree, StepTree, Bind, BindMem, Need, B
 use Rattle.tailrec_lang.specs.Eval.{HasFewNeeds, step_needs, needs, arm_needs}
 use Rattle.tailrec_lang.specs.declared.group.Exit.{Exit}
 use Rattle.tailrec_lang.specs.declared.group.Exit.TheVariants.{At, Ret}
-use Rattle.sep_assert.specs.Registers.{AreRegistersFrom}
+use Rattle.tailrec_lang.specs.Registers.{AreRegistersFrom}
 use Rattle.proof_text.specs.Limits.{IsValues, IsStep, IsBody, AreArms, nesting_limit, IsExit, IsDef, IsGroup}
 use Rattle.proof_text.specs.Spelling.{line, number, address, exit_tokens, values_tokens, arm_count, step_tokens, body_tokens, arm_tokens, def_tokens, group_tokens, head_tokens}
 use Rattle.proof_text.proofs.HeadLaws.{HasBytes, not-empty}

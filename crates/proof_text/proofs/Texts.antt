@@ -13,7 +13,7 @@ use Rattle.rv_words.specs.declared.range.Range.{Range}
 use Rattle.term_text.specs.Spelling.{range_tokens}
 use Rattle.tailrec_lang.specs.Tree.{BodyTree, DefTree, GroupTree}
 use Rattle.tailrec_lang.specs.declared.group.Exit.{Exit}
-use Rattle.sep_assert.specs.Registers.{AreRegistersFrom}
+use Rattle.tailrec_lang.specs.Registers.{AreRegistersFrom}
 use Rattle.proof_text.specs.Limits.{nesting_limit, IsBody, IsDef, IsGroup, IsName}
 use Rattle.proof_text.specs.Spelling.{line, number, address, exit_tokens, body_tokens, def_tokens, head_tokens}
 use Rattle.proof_text.specs.inner.Reading.{Head, def_row, def_at, is_def, name_of, regs_row, mems_row, code_row, head_at, group_of, title_row, body_at}

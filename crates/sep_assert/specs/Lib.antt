@@ -1,5 +1,4 @@
 pub mod Tree
 pub mod Code
-pub mod Registers
 pub mod Part
 pub mod inner

@@ -12,7 +12,7 @@ use Rattle.tailrec_lang.specs.Tree.{ValuesTree, StepTree, Bind, BindMem, Need, B
 use Rattle.tailrec_lang.specs.declared.group.Exit.{Exit}
 use Rattle.tailrec_lang.specs.declared.group.Exit.TheVariants.{At, Ret}
 use Rattle.proof_text.specs.Version.{version_1}
-use Rattle.sep_assert.specs.Registers.{last_register}
+use Rattle.tailrec_lang.specs.Registers.{last_register}
 use Rattle.proof_text.specs.Limits.{exit_limit, nesting_limit, def_limit, name_limit, returns}
 
 -- a line that is one word
