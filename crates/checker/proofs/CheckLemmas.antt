@@ -28,7 +28,7 @@ use Rattle.proof_text.proofs.Fronts.{fronts, front-read, given-read}
 use Rattle.checker.specs.Verdicts.{AreRightSoFar, IsAcceptance, IsBadText, IsRightSoFar, IsTextOf, Says, line_count}
 use Rattle.checker.specs.inner.Checking.{GivesLine, GivesLines, GroupsJudged, IsBadAfter, IsCodeOf, IsShorter, LineJudged, LinesJudged, NextGroup, NextLine, ProofJudged, ProvedSo, TextJudged, first_not_proved, proof_of, verdict_for, verdict_of, with_group}
 use Rattle.checker.specs.Headline.{Headline}
-use Rattle.proof_text.specs.Limits.{AreGroups}
+use Rattle.group_text.specs.Limits.{AreGroups}
 use Rattle.proof_text.proofs.ProofTexts.{proofs-once}
 use Rattle.checker.proofs.SoundLemmas.{accepted-right}
 use Rattle.checker.proofs.OneVerdict.{verdict-once}

@@ -10,7 +10,7 @@ use Rattle.triple_kernel.specs.Valid.{Valid}
 use Rattle.triple_kernel.specs.Rules.{IsInst, IsStrengthened, IsWeakened, IsDischarged}
 use Rattle.triple_kernel.proofs.PutInLemmas.{valid_inst}
 use Rattle.triple_kernel.proofs.RuleLemmas.{valid_strengthened, valid_weakened, valid_discharged}
-use Rattle.proof_text.specs.Limits.{IsGroup, AreGroups}
+use Rattle.group_text.specs.Limits.{IsGroup, AreGroups}
 use Rattle.instr_axioms.proofs.AxiomLemmas.{axiom_valid}
 use Rattle.loop_rule.specs.Rule.{IsClosed}
 use Rattle.loop_rule.proofs.LoopLemmas.{closed-valid}

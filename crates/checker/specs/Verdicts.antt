@@ -8,7 +8,7 @@ use Rattle.tailrec_lang.specs.Tree.{GroupTree}
 use Rattle.tailrec_lang.specs.WellFormed.{IsWellFormed, IsFirstIllFormed}
 use Rattle.proof_text.specs.Line.{LineTree, ProofTree}
 use Rattle.proof_text.specs.Proofs.{AreProofsIn, bare, text_of_proofs_in, texts_of_proofs}
-use Rattle.proof_text.specs.Version.{version_1}
+use Rattle.group_text.specs.Version.{version_1}
 use Rattle.proof_text.specs.FirstProofs.{AreRead, passed, with_line}
 use Rattle.checker.specs.declared.verdict.Verdict.{Verdict}
 use Rattle.checker.specs.declared.verdict.Verdict.TheVariants as verdict

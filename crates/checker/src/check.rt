@@ -7,7 +7,7 @@ ghost use Rattle.rv_words.specs.Ranges.{range_bytes};
 ghost use Rattle.sep_assert.specs.Code.{IsWithin};
 ghost use Rattle.tailrec_lang.specs.Tree.{group_tree, listed_def};
 ghost use Rattle.proof_text.specs.Line.{ProofTree, line_tree};
-ghost use Rattle.proof_text.specs.Limits.{IsGroup};
+ghost use Rattle.group_text.specs.Limits.{IsGroup};
 ghost use Rattle.proof_text.specs.Proofs.{groups_of};
 ghost use Rattle.checker.specs.declared.verdict.Verdict.{Verdict as VerdictOf};
 ghost use Rattle.checker.specs.Bench.{group_of, history_of};

@@ -7,7 +7,7 @@ ghost use Rattle.tailrec_lang.specs.WellFormed.{IsWellFormed};
 ghost use Rattle.rv_words.specs.Ranges.{range_bytes};
 ghost use Rattle.sep_assert.specs.Code.{IsWithin};
 ghost use Rattle.tailrec_lang.specs.Registers.{AreRegistersFrom};
-ghost use Rattle.proof_text.specs.Limits.{AreGroups};
+ghost use Rattle.group_text.specs.Limits.{AreGroups};
 ghost use Rattle.loop_rule.specs.Rule.{IsClosed};
 ghost use Rattle.proof_text.specs.Line.{LineTree, ProofTree};
 ghost use Rattle.proof_text.specs.Proofs.{groups_of};

@@ -4,7 +4,7 @@ use Rattle.std.specs.List.{AllByRecursion, AllZip}
 use Rattle.checker.specs.Accepts.{IsAccepted}
 use Rattle.path_walk.specs.declared.item.Item.{Item}
 use Rattle.proof_text.specs.Proofs.{IsProofIn}
-use Rattle.proof_text.specs.Version.{version_1}
+use Rattle.group_text.specs.Version.{version_1}
 use Rattle.decompiler.specs.Listing.{IsItemFor, proof_of}
 
 pub all_accepted : (file : List ℕ) (names : List (List ℕ)) (items : List Item) → AllZip (IsItemFor file) names items → AllByRecursion (IsAccepted file) (map proof_of items)

@@ -6,7 +6,7 @@ use Rattle.rv_words.specs.Ranges.{range_bytes}
 use Rattle.sep_assert.specs.Code.{IsWithin}
 use Rattle.elf_image.specs.Image.{code_of_file}
 use Rattle.tailrec_lang.specs.Tree.{GroupTree}
-use Rattle.proof_text.specs.Limits.{IsGroup, IsName}
+use Rattle.group_text.specs.Limits.{IsGroup, IsName}
 use Rattle.proof_text.specs.Line.{LineTree, line_tree}
 use Rattle.checker.specs.Accepts.{IsAccepted}
 use Rattle.exactness.specs.Exact.{Exact}

@@ -8,7 +8,7 @@ use Rattle.mc_text.specs.declared.token.Before.TheVariants.{Start}
 use Rattle.proof_text.specs.Line.{LineTree, ProofTree}
 use Rattle.proof_text.specs.LineSpelling.{line_tokens}
 use Rattle.proof_text.specs.Proofs.{line_texts, proof_texts_of}
-use Rattle.proof_text.specs.Spelling.{group_tokens}
+use Rattle.group_text.specs.Spelling.{group_tokens}
 
 pub each_at : {A B : Type 0} (P : B → Type 0) (h : A → B) (xs : List A) (i : ℕ) (d : A) → AllByRecursion P (map h xs) → i < length xs → P (h (get_or xs i d))
 each_at P h [] i d all lt = absurd (omega arith)

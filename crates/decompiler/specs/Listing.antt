@@ -11,7 +11,7 @@ use Rattle.tailrec_lang.specs.declared.group.Exit.TheVariants.{At, Ret}
 use Rattle.tailrec_lang.specs.Tree.{DefTree, GroupTree, group_tree, listed_def}
 use Rattle.instr_axioms.specs.Terms.{has_memory}
 use Rattle.proof_text.specs.Line.{ProofTree, line_tree}
-use Rattle.proof_text.specs.Version.{version_1}
+use Rattle.group_text.specs.Version.{version_1}
 use Rattle.proof_text.specs.Proofs.{IsProofIn}
 use Rattle.checker.specs.Accepts.{IsAccepted}
 use Rattle.checker.specs.Headline.{entry_at}

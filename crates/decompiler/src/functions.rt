@@ -2,7 +2,7 @@
 
 ghost use Rattle.std.specs.Prelude.{◌≡◌, ℕ, List as Items, All, Ok as Fine, IfOk, IfErr};
 ghost use Rattle.elf_image.specs.Image.{code_in, image_of};
-ghost use Rattle.proof_text.specs.Limits.{IsName};
+ghost use Rattle.group_text.specs.Limits.{IsName};
 ghost use Rattle.decompiler.specs.Listing.{AreItemsFor, IsItemFor};
 ghost use Rattle.decompiler.specs.Refusals.{IsFaultOf};
 ghost use Rattle.decompiler.specs.Names.{StandsFor};

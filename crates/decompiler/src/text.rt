@@ -9,8 +9,8 @@ ghost use Rattle.checker.specs.Headline.{entry_at};
 ghost use Rattle.proof_text.specs.Line.{line_tree};
 ghost use Rattle.proof_text.specs.LineLimits.{IsLine};
 ghost use Rattle.proof_text.specs.Proofs.{AreProofs, IsProofIn, line_texts, proof_texts_of, text_of_proofs};
-ghost use Rattle.proof_text.specs.Spelling.{group_tokens};
-ghost use Rattle.proof_text.specs.Version.{version_1};
+ghost use Rattle.group_text.specs.Spelling.{group_tokens};
+ghost use Rattle.group_text.specs.Version.{version_1};
 ghost use Rattle.decompiler.specs.Listing.{proof_of, proofs_of};
 
 use crate::functions::Proof;

@@ -14,7 +14,7 @@ use Rattle.tailrec_lang.specs.Tree.{GroupTree, group_tree, def_tree, listed_def}
 use Rattle.tailrec_lang.specs.WellFormed.{IsWellFormed}
 use Rattle.tailrec_lang.specs.Eval.{Arguments, Outcome, Done, HasFewNeeds, eval}
 use Rattle.tailrec_lang.specs.Registers.{AreRegistersFrom}
-use Rattle.proof_text.specs.Limits.{IsGroup}
+use Rattle.group_text.specs.Limits.{IsGroup}
 use Rattle.proof_text.specs.Line.{ProofTree}
 use Rattle.proof_text.specs.Proofs.{AreProofs, groups_of}
 use Rattle.mcdec.specs.declared.answer.EvalAnswer.{EvalAnswer}

@@ -17,11 +17,11 @@ use Rattle.tailrec_lang.specs.declared.group.Exit.TheVariants.{At, Ret}
 use Rattle.proof_text.specs.Line.{RuleTree, Axiom, Inst, Frame, Compose, ExtendCode, Strengthen, Weaken, Discharge, UseExit, LineTree, States, Loop, Forget, ProofTree}
 use Rattle.proof_text.specs.LineLimits.{IsLine}
 use Rattle.proof_text.specs.LineSpelling.{rule_tokens, line_tokens}
-use Rattle.proof_text.specs.Limits.{AreGroups}
+use Rattle.group_text.specs.Limits.{AreGroups}
 use Rattle.proof_text.specs.Proofs.{proof_tokens, text_of_proofs, AreProofs, groups_of}
-use Rattle.proof_text.specs.Spelling.{line, number, address, exit_tokens, values_tokens, step_tokens, arm_count, body_tokens, arm_tokens, def_tokens, group_tokens, head_tokens, end_tokens, text_of}
+use Rattle.group_text.specs.Spelling.{line, number, address, exit_tokens, values_tokens, step_tokens, arm_count, body_tokens, arm_tokens, def_tokens, group_tokens, head_tokens, end_tokens, text_of}
 use Rattle.proof_text.proofs.LineTokens.{line-is-tokens}
-use Rattle.proof_text.proofs.Real.{group-tokens, title-tokens}
+use Rattle.group_text.proofs.Real.{group-tokens, title-tokens}
 use Rattle.proof_text.proofs.RuleLaws.{facts, rule_row, rule-flat}
 use Rattle.proof_text.proofs.TripleLaws.{triple_rest, triple-spelled, triple-flat}
 use Rattle.mcdec.specs.Listed.{is_of_proof, lines_of, without_proofs}

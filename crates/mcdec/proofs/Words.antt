@@ -14,7 +14,7 @@ use Rattle.mcdec.specs.declared.command.Decompile.{Decompile as ReadDecompile}
 use Rattle.mcdec.specs.declared.command.SelfTest.{SelfTest as ReadSelfTest}
 use Rattle.mc_text.specs.Number.{hex, number_of}
 use Rattle.mcdec.specs.Command.{AreNames, Eval, Run, Check, Decompile, SelfTest, Arg, IsCommand, IsNoCommand, Words, arg_word, texts}
-use Rattle.proof_text.specs.Limits.{IsName}
+use Rattle.group_text.specs.Limits.{IsName}
 use Rattle.mcdec.specs.inner.CommandReading.{HoldsArgs, NoArgs, AllArgs, Unless, NoEval, IsEval, NoRun, IsRun, NoCheck, IsCheck, NoDecompile, IsDecompile, NoSelfTest, IsSelfTest, operands_of}
 use Rattle.mcdec.specs.declared.command.Unread.{Unread}
 use Rattle.rv_words.specs.declared.range.Range.{Range}

@@ -3,8 +3,8 @@ use Rattle.std.specs.Prelude.{◌≡◌, ℕ, ◌<◌, ◌≤◌, List, length, 
 use Rattle.mc_shelf.specs.Shelf.{Contents}
 use Rattle.elf_image.specs.Fault.{fault_of}
 use Rattle.tailrec_lang.specs.Tree.{GroupTree}
-use Rattle.proof_text.specs.Spelling.{text_of}
-use Rattle.proof_text.specs.Limits.{AreGroups}
+use Rattle.group_text.specs.Spelling.{text_of}
+use Rattle.group_text.specs.Limits.{AreGroups}
 use Rattle.checker.specs.Headline.{Headline}
 use Rattle.checker.specs.Verdicts.{IsBadText, IsBadDef, IsBadLine, IsNotProved, IsAcceptedText}
 use Rattle.mcdec.specs.declared.answer.CheckAnswer.{CheckAnswer}

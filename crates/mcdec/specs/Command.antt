@@ -13,7 +13,7 @@ use Rattle.std.specs.declared.string.String.{String}
 use Rattle.std.specs.declared.alloc.Global.{Global}
 use Rattle.rv_words.specs.declared.range.Range.{Range}
 use Rattle.mc_text.specs.Number.{hex}
-use Rattle.proof_text.specs.Limits.{IsName}
+use Rattle.group_text.specs.Limits.{IsName}
 
 -- a register that is given a value
 pub record Given : Type 0 where

@@ -4,7 +4,7 @@ ghost use Rattle.std.specs.Prelude.{◌≡◌, ◌≢◌, ◌↔◌, ◌+◌, �
 ghost use Rattle.std.specs.Fmt.{decimal};
 ghost use Rattle.hex.specs.Hex.{encode_lower};
 ghost use Rattle.mc_text.specs.Number.{hex};
-ghost use Rattle.proof_text.specs.Limits.{IsName};
+ghost use Rattle.group_text.specs.Limits.{IsName};
 ghost use Rattle.mcdec.specs.Command.{AreNames, Arg, Given, IsGiven, IsMemory, IsNoCommand, arg_word, texts};
 ghost use Rattle.mcdec.specs.inner.CommandReading.{AllArgs, IsArg, IsCheck, IsDecompile, IsEval, IsRead, IsRun, IsSelfTest, Lacks, NoArgs, NoCheck, NoDecompile, NoEval, NoRun, NoSelfTest, Unless, arg_of, given_in, value_in};
 ghost use Rattle.mcdec.specs.declared.command.Unread.TheVariants.{NoMemory};

@@ -4,7 +4,7 @@ ghost use Rattle.std.specs.Prelude.{◌≡◌, ◌<◌, ◌≤◌, ℕ, All, IfO
 ghost use Rattle.elf_image.specs.Image.{image_of};
 ghost use Rattle.mc_shelf.specs.Fault.{Rose, WhereTold};
 ghost use Rattle.mc_shelf.specs.Shelf.{Contents};
-ghost use Rattle.proof_text.specs.Limits.{IsName};
+ghost use Rattle.group_text.specs.Limits.{IsName};
 ghost use Rattle.proof_text.specs.Proofs.{AreProofs};
 ghost use Rattle.decompiler.specs.Listing.{AreItemsFor, proofs_of};
 ghost use Rattle.decompiler.specs.Listing.{IsRefused};

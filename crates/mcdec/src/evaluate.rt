@@ -5,7 +5,7 @@ ghost use Rattle.mc_shelf.specs.Fault.{Rose};
 ghost use Rattle.tailrec_lang.specs.Tree.{GroupTree, group_tree};
 ghost use Rattle.tailrec_lang.specs.Eval.{HasFewNeeds};
 ghost use Rattle.tailrec_lang.specs.WellFormed.{IsWellFormed};
-ghost use Rattle.proof_text.specs.Limits.{IsGroup};
+ghost use Rattle.group_text.specs.Limits.{IsGroup};
 ghost use Rattle.mcdec.specs.Answer.{Gives, ReadsAreTold};
 ghost use Rattle.mcdec.specs.Command.{Arg, AreArgs, IsMemory};
 ghost use Rattle.mcdec.specs.inner.CommandReading.{HoldsArgs, IsReadEval, value_in};

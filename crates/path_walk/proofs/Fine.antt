@@ -23,7 +23,7 @@ use Rattle.frame_compose.specs.Rules.{AreMissing}
 use Rattle.instr_axioms.specs.Terms.{conditions, has_memory, memory_after, pc_after, result, word_after}
 use Rattle.instr_axioms.specs.Axiom.{memory_if, own, own_triple, register_with, triple_over, word_code}
 use Rattle.tailrec_lang.specs.Registers.{AreRegistersFrom}
-use Rattle.proof_text.specs.Limits.{IsExit, IsValues}
+use Rattle.group_text.specs.Limits.{IsExit, IsValues}
 use Rattle.proof_text.specs.LineLimits.{AreRisingFrom, IsAssertion, IsFact, IsTriple}
 use Rattle.code_parts.specs.Bodies.{Flow, Place, current, fresh, is_store, names, place_after, start}
 use Rattle.path_walk.specs.inner.Acts.{IsFineAct, IsFineExit, gives_over, named_triple, new_facts, numbered, results_at}

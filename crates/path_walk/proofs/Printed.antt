@@ -13,8 +13,8 @@ use Rattle.term_text.specs.Limits.{FitsWord, IsWord, IsMem, IsCond}
 use Rattle.tailrec_lang.specs.declared.group.Exit.{Exit}
 use Rattle.tailrec_lang.specs.declared.group.Exit.TheVariants.{At, Ret}
 use Rattle.tailrec_lang.specs.Tree.{StepTree, Bind, BindMem, Need, BodyTree, Call, Again, Leave, NoArm, Arm, with_steps}
-use Rattle.proof_text.specs.Spelling.{arm_count}
-use Rattle.proof_text.specs.Limits.{IsValues, IsStep, IsBody, AreArms, nesting_limit, IsExit, IsDef, returns}
+use Rattle.group_text.specs.Spelling.{arm_count}
+use Rattle.group_text.specs.Limits.{IsValues, IsStep, IsBody, AreArms, nesting_limit, IsExit, IsDef, returns}
 use Rattle.triple_kernel.specs.declared.form.Form.{Form}
 use Rattle.triple_kernel.specs.declared.form.Form.TheVariants.{Next, Taken}
 use Rattle.rv_decode.specs.Registers.{destination}

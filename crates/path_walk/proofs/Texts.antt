@@ -4,7 +4,7 @@ use Rattle.std.specs.List.{AllByRecursion}
 use Rattle.rv_words.specs.Bytes.{Bytes}
 use Rattle.rv_words.specs.declared.range.Range.{Range}
 use Rattle.rv_words.specs.Ranges.{AreRanges}
-use Rattle.proof_text.specs.Limits.{IsDef, IsGroup, IsName}
+use Rattle.group_text.specs.Limits.{IsDef, IsGroup, IsName}
 use Rattle.flow_graph.specs.Graph.{GraphOf, IsGraphOf}
 use Rattle.loop_forest.specs.Forest.{ForestOf, IsForestOf, number_of}
 use Rattle.code_parts.specs.declared.part.Part.{Part}

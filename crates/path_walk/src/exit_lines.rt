@@ -8,7 +8,7 @@ ghost use Rattle.tailrec_lang.specs.Tree.{values_tree};
 ghost use Rattle.triple_kernel.specs.Tree.{Gives, fact_tree, triple_tree};
 ghost use Rattle.proof_text.specs.Line.{Inst};
 ghost use Rattle.proof_text.specs.LineLimits.{IsRule, IsTriple};
-ghost use Rattle.proof_text.specs.Limits.{IsExit};
+ghost use Rattle.group_text.specs.Limits.{IsExit};
 ghost use Rattle.code_parts.specs.Bodies as bodies;
 ghost use Rattle.code_parts.specs.Graph.{IsPart};
 ghost use Rattle.path_walk.specs.inner.Acts as spec;

@@ -5,7 +5,7 @@ ghost use Rattle.std.specs.List.{AllByRecursion};
 ghost use Rattle.rv_words.specs.Bytes.{Bytes};
 ghost use Rattle.rv_words.specs.Ranges.{AreRanges};
 ghost use Rattle.rv_words.specs.declared.range.Range.{Range as TheRange};
-ghost use Rattle.proof_text.specs.Limits.{IsGroup, IsName};
+ghost use Rattle.group_text.specs.Limits.{IsGroup, IsName};
 ghost use Rattle.flow_graph.specs.Graph.{GraphOf, IsGraphOf};
 ghost use Rattle.loop_forest.specs.Forest.{ForestOf, IsForestOf, number_of};
 ghost use Rattle.code_parts.specs.declared.part.Part.{Part as ThePart};

@@ -13,24 +13,25 @@ use Rattle.mc_text.proofs.FaultLine.{AreLines}
 use Rattle.rv_words.specs.declared.range.Range.{Range}
 use Rattle.tailrec_lang.specs.Tree.{GroupTree}
 use Rattle.tailrec_lang.specs.Eval.{HasFewNeeds}
-use Rattle.proof_text.specs.Limits.{IsGroup}
+use Rattle.group_text.specs.Limits.{IsGroup}
 use Rattle.proof_text.specs.Line.{LineTree, ProofTree}
 use Rattle.proof_text.specs.LineLimits.{IsLine}
 use Rattle.proof_text.specs.LineSpelling.{line_tokens}
 use Rattle.proof_text.specs.Proofs.{bare, texts_of_proofs, text_of_proofs}
 use Rattle.proof_text.specs.FirstProofs.{Progress, ItemTree, Opens, Adds, items, with_line, ProofEnds, MayOpen, HasGiven}
 use Rattle.proof_text.specs.Answers.{NoItem}
-use Rattle.proof_text.specs.inner.Cut.{AreWholeLines, drop_lines}
-use Rattle.proof_text.specs.inner.Rest.{GoesOn}
-use Rattle.proof_text.specs.inner.Reading.{is_def, is_done, turn_at}
+use Rattle.group_text.specs.inner.Cut.{AreWholeLines, drop_lines}
+use Rattle.proof_text.specs.inner.Rest.{GoesOn, is_done}
+use Rattle.group_text.specs.inner.Reading.{is_def, turn_at}
 use Rattle.proof_text.specs.inner.LineReading.{begins_line, ends_proof, proofs_text_at, turn_of}
-use Rattle.proof_text.proofs.HeadLaws.{IsCode}
-use Rattle.proof_text.proofs.Parts.{group-whole}
+use Rattle.group_text.proofs.HeadLaws.{IsCode}
+use Rattle.group_text.proofs.Parts.{group-whole}
 use Rattle.proof_text.proofs.ProofParts.{whole-line}
-use Rattle.proof_text.proofs.Real.{group-tokens}
+use Rattle.group_text.proofs.Real.{group-tokens}
 use Rattle.proof_text.proofs.LineTokens.{line-is-tokens}
 use Rattle.proof_text.proofs.ProofTexts.{line-begins, some-line}
-use Rattle.proof_text.proofs.Cuts.{are-lines, whole-lines, ends-follow, follow-ends}
+use Rattle.group_text.proofs.Cuts.{are-lines, whole-lines}
+use Rattle.proof_text.proofs.Following.{ends-follow, follow-ends}
 use Rattle.proof_text.proofs.TextItems.{IsItem, AreItems, StartsOpen, last_code, items-fit, items-start, items-opened, items-added, items-fewer, last-is, last-fits}
 use Rattle.proof_text.proofs.Resumed.{OneLine, ends-no-line, ends-nothing, line-takes, line-ends, line-again}
 use Rattle.proof_text.proofs.Passed.{front_tokens, is_first, group_turn, turn_tokens, MayFollow, Turn, turn-takes, turn-again, turn-stops, turn-end, line-stops, turn-lines, turn-real, group-turned}

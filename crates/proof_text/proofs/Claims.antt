@@ -7,14 +7,13 @@ use Rattle.mc_text.specs.declared.token.Class.{Class}
 use Rattle.mc_text.specs.declared.token.Class.TheVariants.{Letter, LeftMark, RightMark, SemiMark, Newline, Space, Other}
 use Rattle.mc_text.specs.Scanning.{class_of, State, At, Within, lex, byte_step, prepend, eols}
 use Rattle.mc_text.specs.Reading.{Reader, goes_on}
-use Rattle.proof_text.specs.declared.stop.Halt.{Halt}
-use Rattle.proof_text.specs.declared.stop.Halt.TheVariants as halt
-use Rattle.proof_text.specs.inner.Cut.{drop_lines}
-use Rattle.proof_text.specs.inner.Rest.{GoesOn}
-use Rattle.proof_text.specs.inner.Reading.{is_done}
-use Rattle.proof_text.specs.inner.Rows.{OnLost, Spot, Spots, tokens, total, RowsGive}
-use Rattle.proof_text.specs.inner.TextRows.{TextSpot}
-use Rattle.proof_text.proofs.Joins.{AllOk, AllBad}
+use Rattle.group_text.specs.declared.stop.Halt.{Halt}
+use Rattle.group_text.specs.declared.stop.Halt.TheVariants as halt
+use Rattle.group_text.specs.inner.Cut.{drop_lines}
+use Rattle.proof_text.specs.inner.Rest.{GoesOn, is_done}
+use Rattle.group_text.specs.inner.Rows.{OnLost, Spot, Spots, tokens, total, RowsGive}
+use Rattle.group_text.specs.inner.TextRows.{TextSpot}
+use Rattle.group_text.proofs.Joins.{AllOk, AllBad}
 
 -- the one place of rows in memory
 abbrev pub Here : TextSpot → Spots

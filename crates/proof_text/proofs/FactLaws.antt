@@ -20,14 +20,14 @@ use Rattle.tailrec_lang.specs.Tree.{ValuesTree}
 use Rattle.triple_kernel.specs.Tree.{FactTree, WordIs, MemIs, So, Gives}
 use Rattle.proof_text.specs.declared.line_heads.FactHead.{FactHead}
 use Rattle.proof_text.specs.declared.line_heads.FactHead.TheVariants as fact_head
-use Rattle.proof_text.specs.Limits.{IsValues}
-use Rattle.proof_text.specs.Spelling.{number, values_tokens}
+use Rattle.group_text.specs.Limits.{IsValues}
+use Rattle.group_text.specs.Spelling.{number, values_tokens}
 use Rattle.proof_text.specs.LineSpelling.{fact_tokens}
-use Rattle.proof_text.specs.Limits.{index_limit}
+use Rattle.group_text.specs.Limits.{index_limit}
 use Rattle.proof_text.specs.LineLimits.{IsFact}
 use Rattle.proof_text.specs.inner.LineReading.{index_at, values_with, fact_name, fact_heads, fact_head_of, fact_parts, fact_at}
-use Rattle.proof_text.proofs.StepLaws.{shrinks, atom-flat, number-law}
-use Rattle.proof_text.proofs.HeadLaws.{flat-each}
+use Rattle.group_text.proofs.StepLaws.{shrinks, atom-flat, number-law}
+use Rattle.group_text.proofs.HeadLaws.{flat-each}
 use Rattle.proof_text.proofs.Keyed.{Image, reads-image, reads-forms, named-law, opened-law, opened-flat, right-law, semi-law, right-flat, semi-flat}
 
 -- ---- values, and a mark behind them

@@ -19,22 +19,22 @@ use Rattle.mc_text.proofs.Items.{item-once}
 use Rattle.mc_text.proofs.FaultLine.{front-lex, eols-append}
 use Rattle.rv_words.specs.declared.range.Range.{Range}
 use Rattle.tailrec_lang.specs.Tree.{DefTree, GroupTree}
-use Rattle.proof_text.specs.Limits.{IsDef, IsGroup}
+use Rattle.group_text.specs.Limits.{IsDef, IsGroup}
 use Rattle.proof_text.specs.Line.{LineTree, ProofTree}
 use Rattle.proof_text.specs.LineLimits.{IsLine}
-use Rattle.proof_text.specs.Spelling.{def_tokens, group_tokens, head_tokens, end_tokens}
+use Rattle.group_text.specs.Spelling.{def_tokens, group_tokens, head_tokens, end_tokens}
 use Rattle.proof_text.specs.LineSpelling.{line_tokens}
 use Rattle.proof_text.specs.Proofs.{AreProofs, bare, text_of_proofs, proof_tokens}
 use Rattle.proof_text.specs.FirstProofs.{Progress, ItemTree, Opens, Adds, items, passed, Follows, HasGiven, AreRead, BeginsWithItems}
-use Rattle.proof_text.specs.inner.Reading.{def_at, is_def, head_at, group_of}
+use Rattle.group_text.specs.inner.Reading.{def_at, is_def, head_at, group_of}
 use Rattle.proof_text.specs.inner.LineReading.{line_at, begins_line}
-use Rattle.proof_text.proofs.HeadLaws.{IsCode}
-use Rattle.proof_text.proofs.Texts.{HeadFits, head_of, head-fits, lines_of_head, group_row, group-split, def-cover, head-cover}
+use Rattle.group_text.proofs.HeadLaws.{IsCode}
+use Rattle.group_text.proofs.Texts.{HeadFits, head_of, head-fits, lines_of_head, group_row, group-split, def-cover, head-cover}
 use Rattle.proof_text.proofs.LineLaws.{line-law}
 use Rattle.proof_text.proofs.LineTokens.{proofs-tokens}
 use Rattle.proof_text.proofs.ProofTexts.{no-def, line-begins, some-line, proofs_tokens, proof-text-law}
-use Rattle.proof_text.proofs.Real.{spell-long}
-use Rattle.proof_text.proofs.Cuts.{follows-stands, def-atom}
+use Rattle.group_text.proofs.Real.{spell-long}
+use Rattle.proof_text.proofs.Following.{follows-stands, def-atom}
 use Rattle.proof_text.proofs.TextItems.{item_tokens, items_tokens, code_behind, last_code, AreItems, proofs-items, items-fit, items-fewer, starts-fewer, tokens-behind, items-whole, items-real}
 use Rattle.proof_text.proofs.Passed.{front_tokens, front-lines, front-real}
 use Rattle.proof_text.proofs.Given.{Given, passed_items, given-items, items-given}

@@ -14,16 +14,17 @@ use Rattle.mc_text.proofs.Printed.{spell-after_lines}
 use Rattle.tailrec_lang.specs.Tree.{GroupTree}
 use Rattle.tailrec_lang.specs.Eval.{HasFewNeeds}
 use Rattle.proof_text.specs.Line.{ProofTree}
-use Rattle.proof_text.specs.Spelling.{group_tokens, head_tokens}
+use Rattle.group_text.specs.Spelling.{group_tokens, head_tokens}
 use Rattle.proof_text.specs.Proofs.{AreProofs, texts_of_proofs, text_of_proofs}
 use Rattle.proof_text.specs.FirstProofs.{Progress, ItemTree, Opens, items, passed, Follows, HasGiven}
-use Rattle.proof_text.specs.inner.Cut.{drop_lines}
-use Rattle.proof_text.specs.inner.Reading.{is_def}
+use Rattle.group_text.specs.inner.Cut.{drop_lines}
+use Rattle.group_text.specs.inner.Reading.{is_def}
 use Rattle.proof_text.specs.inner.LineReading.{proofs_text_at}
 use Rattle.proof_text.proofs.LineTokens.{proofs-tokens}
 use Rattle.proof_text.proofs.ProofTexts.{proofs_tokens, proof-text-law}
-use Rattle.proof_text.proofs.Real.{few-needs, spell-long}
-use Rattle.proof_text.proofs.Cuts.{dropped, lines-behind, newlines-short, within, def-follows, follows-def}
+use Rattle.group_text.proofs.Real.{few-needs, spell-long}
+use Rattle.group_text.proofs.Cuts.{dropped, lines-behind, newlines-short, within}
+use Rattle.proof_text.proofs.Following.{def-follows, follows-def}
 use Rattle.proof_text.proofs.TextItems.{items_tokens, IsItem, AreItems, StartsOpen, proofs-items, items-fit, fit-items, items-start, items-opened, items-more, last-once, last-bare}
 use Rattle.proof_text.proofs.Passed.{front_tokens, is_first, Quiet, group_turn, turn_tokens, front-lines, front-real, turn-lines, turn-real, front-more}
 

@@ -4,12 +4,23 @@ use Rattle.mc_text.specs.Tokens.{Tok}
 use Rattle.mc_text.specs.Reading.{◌>>=◌, made, goes_on}
 use Rattle.rv_words.specs.declared.range.Range.{Range}
 use Rattle.proof_text.specs.Line.{LineTree}
-use Rattle.proof_text.specs.declared.stop.Halt.{Halt}
-use Rattle.proof_text.specs.declared.stop.Halt.TheVariants as halt
-use Rattle.proof_text.specs.inner.Rows.{Spot, Spots, tokens, RowsGive}
+use Rattle.group_text.specs.declared.stop.Halt.{Halt}
+use Rattle.group_text.specs.declared.stop.Halt.TheVariants as halt
+use Rattle.group_text.specs.inner.Rows.{Spot, Spots, tokens, RowsGive}
 use Rattle.proof_text.specs.inner.LineReading.{ends_proof, line_at, turn_of}
-use Rattle.proof_text.proofs.RowAt.{way-same}
-use Rattle.proof_text.proofs.Joins.{AllOk, Kept}
+use Rattle.proof_text.specs.LineLimits.{IsLine}
+use Rattle.proof_text.specs.LineSpelling.{line_tokens}
+use Rattle.proof_text.specs.inner.OwnCode.{IsOwnCode}
+use Rattle.proof_text.proofs.LineLaws.{line-law}
+use Rattle.proof_text.proofs.ProofParts.{whole-line}
+use Rattle.proof_text.proofs.ProofTexts.{some-line}
+use Rattle.group_text.specs.inner.RowReader.{ReadsRows}
+use Rattle.group_text.proofs.RowReaders.{row-lines}
+use Rattle.group_text.proofs.RowAt.{way-same}
+use Rattle.group_text.proofs.Joins.{AllOk, Kept}
+
+pub line-row : (own : List Range) → IsOwnCode own → ReadsRows (line_at own)
+line-row own fits = row-lines (line_at own) IsLine (line_tokens own) (line-law own fits) (λ l h. whole-line own l) (λ l h. some-line own l)
 
 abbrev Out : Type 0 → Type 0
 Out Y = Result (Y × List Tok) (List Tok)

@@ -14,14 +14,14 @@ use Rattle.mc_text.proofs.Shown.{Always}
 use Rattle.rv_words.specs.declared.range.Range.{Range}
 use Rattle.triple_kernel.specs.Tree.{TripleTree}
 use Rattle.proof_text.specs.Line.{RuleTree, Axiom, Inst, Frame, Compose, ExtendCode, Strengthen, Weaken, Discharge, UseExit, LineTree, States, Loop, Forget}
-use Rattle.proof_text.specs.Spelling.{number}
+use Rattle.group_text.specs.Spelling.{number}
 use Rattle.proof_text.specs.LineSpelling.{rule_tokens, triple_tokens, line_tokens}
-use Rattle.proof_text.specs.Limits.{index_limit}
+use Rattle.group_text.specs.Limits.{index_limit}
 use Rattle.proof_text.specs.LineLimits.{IsRule, IsTriple, IsLine}
-use Rattle.proof_text.specs.inner.Reading.{has_atom}
+use Rattle.group_text.specs.inner.Reading.{has_atom}
 use Rattle.proof_text.specs.inner.LineReading.{index_at, theorem_at, triple_at, rule_at, line_at}
-use Rattle.proof_text.proofs.StepLaws.{atom-flat, eol-law}
-use Rattle.proof_text.proofs.HeadLaws.{IsCode}
+use Rattle.group_text.proofs.StepLaws.{atom-flat, eol-law}
+use Rattle.group_text.proofs.HeadLaws.{IsCode}
 use Rattle.proof_text.proofs.ProofParts.{whole-line}
 use Rattle.proof_text.proofs.Keyed.{Image, reads-image, reads-keyed}
 use Rattle.proof_text.proofs.FactLaws.{index-law}

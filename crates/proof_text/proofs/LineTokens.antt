@@ -16,13 +16,13 @@ use Rattle.triple_kernel.specs.Tree.{FactTree, WordIs, MemIs, So, Gives, TripleT
 use Rattle.triple_kernel.specs.declared.form.Form.{Form}
 use Rattle.triple_kernel.specs.declared.form.Form.TheVariants.{Next, Taken}
 use Rattle.proof_text.specs.Line.{RuleTree, Axiom, Inst, Frame, Compose, ExtendCode, Strengthen, Weaken, Discharge, UseExit, LineTree, States, Loop, Forget, ProofTree}
-use Rattle.proof_text.specs.Spelling.{number, values_tokens, group_tokens, head_tokens, end_tokens}
+use Rattle.group_text.specs.Spelling.{number, values_tokens, group_tokens, head_tokens, end_tokens}
 use Rattle.proof_text.specs.LineSpelling.{fact_tokens, register_tokens, assertion_tokens, same_ranges, code_tokens, triple_tokens, form_tokens, word_sub_tokens, mem_sub_tokens, rule_tokens, line_tokens}
 use Rattle.proof_text.specs.LineLimits.{IsFact, IsAssertion, IsTriple, AreRisingFrom, IsRule, IsLine}
-use Rattle.proof_text.specs.Version.{version_1}
+use Rattle.group_text.specs.Version.{version_1}
 use Rattle.proof_text.specs.Proofs.{proof_tokens, IsProofIn, AreProofs}
-use Rattle.proof_text.proofs.HeadLaws.{IsCode}
-use Rattle.proof_text.proofs.Real.{eol-tokens, values-tokens, ranges-tokens, group-tokens, title-tokens}
+use Rattle.group_text.proofs.HeadLaws.{IsCode}
+use Rattle.group_text.proofs.Real.{eol-tokens, values-tokens, ranges-tokens, group-tokens, title-tokens}
 use Rattle.proof_text.proofs.TripleLaws.{IsRegister, registers-of, registers-small}
 
 abbrev close : List Tok

@@ -9,16 +9,16 @@ use Rattle.mc_text.proofs.Covers.{lines-append}
 use Rattle.mc_text.proofs.Shown.{tokens-append}
 use Rattle.rv_words.specs.declared.range.Range.{Range}
 use Rattle.tailrec_lang.specs.Tree.{GroupTree}
-use Rattle.proof_text.specs.Limits.{IsGroup}
+use Rattle.group_text.specs.Limits.{IsGroup}
 use Rattle.proof_text.specs.Line.{LineTree, ProofTree}
-use Rattle.proof_text.specs.Spelling.{group_tokens, head_tokens}
+use Rattle.group_text.specs.Spelling.{group_tokens, head_tokens}
 use Rattle.proof_text.specs.LineSpelling.{line_tokens}
 use Rattle.proof_text.specs.FirstProofs.{ItemTree, Opens, Adds, items}
-use Rattle.proof_text.specs.inner.Reading.{is_def, next_at, title_row, turn_at}
+use Rattle.group_text.specs.inner.Reading.{is_def, next_at, title_row, turn_at}
 use Rattle.proof_text.specs.inner.LineReading.{ends_proof, all_proofs, proofs_text_at, turn_of}
-use Rattle.proof_text.proofs.HeadLaws.{IsCode}
-use Rattle.proof_text.proofs.Texts.{title-cover}
-use Rattle.proof_text.proofs.Real.{title-tokens}
+use Rattle.group_text.proofs.HeadLaws.{IsCode}
+use Rattle.group_text.proofs.Texts.{title-cover}
+use Rattle.group_text.proofs.Real.{title-tokens}
 use Rattle.proof_text.proofs.ProofTexts.{Tail, no-def}
 use Rattle.proof_text.proofs.TextItems.{item_tokens, items_tokens, last_code, IsItem, AreItems, StartsOpen, tokens-more, last-fits, item-whole, items-whole, item-real, items-real}
 use Rattle.proof_text.proofs.Resumed.{made-bad, made-good, pair-good, with-bad, next-stops, next-end, next-takes, next-again, next-word, OneGroup, Proofs, opened, no_lines, added, rest_at, rest-none, rest-added, rest-refused, ends-no-line, all-one}

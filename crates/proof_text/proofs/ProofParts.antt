@@ -8,13 +8,13 @@ use Rattle.mc_text.proofs.Printed.{spell-after_lines}
 use Rattle.rv_words.specs.declared.range.Range.{Range}
 use Rattle.tailrec_lang.specs.Tree.{GroupTree}
 use Rattle.term_text.specs.Spelling.{joined}
-use Rattle.proof_text.specs.Version.{Version}
+use Rattle.group_text.specs.Version.{Version}
 use Rattle.proof_text.specs.Line.{RuleTree, Axiom, Inst, Frame, Compose, ExtendCode, Strengthen, Weaken, Discharge, UseExit, LineTree, States, Loop, Forget, ProofTree}
-use Rattle.proof_text.specs.Spelling.{number, address, group_tokens, title_tokens, head_tokens, end_tokens, text_in}
+use Rattle.group_text.specs.Spelling.{number, address, group_tokens, title_tokens, head_tokens, end_tokens, text_in}
 use Rattle.proof_text.specs.LineSpelling.{keyed_tokens, form_tokens, word_sub_tokens, mem_sub_tokens, rule_tokens, triple_tokens, line_tokens}
-use Rattle.proof_text.specs.Limits.{AreGroupsIn}
+use Rattle.group_text.specs.Limits.{AreGroupsIn}
 use Rattle.proof_text.specs.Proofs.{proof_tokens, text_of_proofs_in, AreProofsIn, bare, line_texts, proof_texts_of, text_of_proofs}
-use Rattle.proof_text.proofs.Parts.{ends-behind, line-whole, group-whole}
+use Rattle.group_text.proofs.Parts.{ends-behind, line-whole, group-whole}
 
 -- ---- without lines
 

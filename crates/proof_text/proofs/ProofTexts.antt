@@ -15,18 +15,18 @@ use Rattle.mc_text.proofs.Repeated.{covers-bounded}
 use Rattle.mc_text.proofs.Fuel.{IsNoLonger, no-longer, pair-alike, made-alike, keyed-alike, keyed-else, many-no-longer, covers-whole}
 use Rattle.rv_words.specs.declared.range.Range.{Range}
 use Rattle.tailrec_lang.specs.Tree.{DefTree, GroupTree}
-use Rattle.proof_text.specs.Limits.{def_limit, IsDef, AreGroups}
+use Rattle.group_text.specs.Limits.{def_limit, IsDef, AreGroups}
 use Rattle.proof_text.specs.Line.{Axiom, Inst, Frame, Compose, ExtendCode, Strengthen, Weaken, Discharge, UseExit, LineTree, States, Loop, Forget, ProofTree}
-use Rattle.proof_text.specs.Spelling.{def_tokens, head_tokens, end_tokens, text_of}
+use Rattle.group_text.specs.Spelling.{def_tokens, head_tokens, end_tokens, text_of}
 use Rattle.proof_text.specs.LineSpelling.{line_tokens}
 use Rattle.proof_text.specs.LineLimits.{IsLine}
-use Rattle.proof_text.specs.Version.{version_1}
+use Rattle.group_text.specs.Version.{version_1}
 use Rattle.proof_text.specs.Proofs.{proof_tokens, IsProofIn, AreProofs, bare, text_of_proofs}
-use Rattle.proof_text.specs.inner.Reading.{Head, def_at, is_def, head_at, group_of, more_defs, defs_at, title_row}
-use Rattle.proof_text.specs.inner.LineReading.{line_at, begins_line, lines_at, proof_of, proofs_at, all_proofs, proofs_text_at}
-use Rattle.proof_text.proofs.StepLaws.{shrinks, eol-law}
-use Rattle.proof_text.proofs.HeadLaws.{IsCode}
-use Rattle.proof_text.proofs.Texts.{def-cover, def-begins, def-shrinks, HeadFits, lines_of_head, head-cover, group_row, group-split, title-cover}
+use Rattle.group_text.specs.inner.Reading.{Head, def_at, is_def, head_at, group_of, title_row}
+use Rattle.proof_text.specs.inner.LineReading.{more_defs, defs_at, line_at, begins_line, lines_at, proof_of, proofs_at, all_proofs, proofs_text_at}
+use Rattle.group_text.proofs.StepLaws.{shrinks, eol-law}
+use Rattle.group_text.proofs.HeadLaws.{IsCode}
+use Rattle.group_text.proofs.Texts.{def-cover, def-begins, def-shrinks, HeadFits, lines_of_head, head-cover, group_row, group-split, title-cover}
 use Rattle.proof_text.proofs.LineLaws.{line-law, line-cover}
 use Rattle.proof_text.proofs.LineTokens.{proofs-tokens}
 use Rattle.proof_text.proofs.ProofParts.{bare-text, bare-fit}

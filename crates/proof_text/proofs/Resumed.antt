@@ -13,17 +13,17 @@ use Rattle.mc_text.proofs.Turns.{many-one, many-stop, many-none}
 use Rattle.mc_text.proofs.Fuel.{pair-alike}
 use Rattle.rv_words.specs.declared.range.Range.{Range}
 use Rattle.tailrec_lang.specs.Tree.{DefTree, GroupTree}
-use Rattle.proof_text.specs.Limits.{def_limit, IsDef, IsGroup}
+use Rattle.group_text.specs.Limits.{def_limit, IsDef, IsGroup}
 use Rattle.proof_text.specs.Line.{LineTree, ProofTree}
 use Rattle.proof_text.specs.LineLimits.{IsLine}
 use Rattle.proof_text.specs.LineSpelling.{line_tokens}
-use Rattle.proof_text.specs.Spelling.{def_tokens, group_tokens}
-use Rattle.proof_text.specs.inner.Reading.{Head, def_at, is_def, are_some, own_defs, head_at, group_of, group_at, next_at, more_defs, defs_at}
-use Rattle.proof_text.specs.inner.LineReading.{line_at, rule_at, rule_head_of, begins_line, ends_proof, lines_at, turn_of, proof_of, proofs_at, all_proofs}
-use Rattle.proof_text.proofs.HeadLaws.{true-le}
-use Rattle.proof_text.proofs.OwnDefs.{Defs, good, bad, guard, judge, sent, many-again, own-takes, own-again, def-refuses}
-use Rattle.proof_text.proofs.HeadLaws.{IsCode}
-use Rattle.proof_text.proofs.Texts.{HeadFits, head_of, head-fits, lines_of_head, head-cover, def-cover, def-begins, group_row, group-split}
+use Rattle.group_text.specs.Spelling.{def_tokens, group_tokens}
+use Rattle.group_text.specs.inner.Reading.{Head, def_at, is_def, are_some, own_defs, head_at, group_of, group_at, next_at}
+use Rattle.proof_text.specs.inner.LineReading.{more_defs, defs_at, line_at, rule_at, rule_head_of, begins_line, ends_proof, lines_at, turn_of, proof_of, proofs_at, all_proofs}
+use Rattle.group_text.proofs.HeadLaws.{true-le}
+use Rattle.group_text.proofs.OwnDefs.{Defs, good, bad, guard, judge, sent, many-again, own-takes, own-again, def-refuses}
+use Rattle.group_text.proofs.HeadLaws.{IsCode}
+use Rattle.group_text.proofs.Texts.{HeadFits, head_of, head-fits, lines_of_head, head-cover, def-cover, def-begins, group_row, group-split}
 use Rattle.proof_text.proofs.LineLaws.{line-law}
 use Rattle.proof_text.proofs.ProofTexts.{Tail, tail_at, behind_at, proof_reader, end_row, enough-proofs, line-shrinks, line-begins, lines-no-longer}
 

@@ -27,13 +27,13 @@ use Rattle.proof_text.specs.declared.line_heads.RuleHead.TheVariants as rule_hea
 use Rattle.proof_text.specs.declared.line_heads.SubHead.{SubHead}
 use Rattle.proof_text.specs.declared.line_heads.SubHead.TheVariants as sub_head
 use Rattle.proof_text.specs.Line.{RuleTree, Axiom, Inst, Frame, Compose, ExtendCode, Strengthen, Weaken, Discharge, UseExit}
-use Rattle.proof_text.specs.Spelling.{number, address}
+use Rattle.group_text.specs.Spelling.{number, address}
 use Rattle.proof_text.specs.LineSpelling.{form_tokens, word_sub_tokens, mem_sub_tokens, rule_tokens}
-use Rattle.proof_text.specs.Limits.{index_limit}
+use Rattle.group_text.specs.Limits.{index_limit}
 use Rattle.proof_text.specs.LineLimits.{AreRisingFrom, IsRule}
 use Rattle.proof_text.specs.inner.LineReading.{index_at, theorem_at, instruction_of, SubTree, ForWord, ForMem, sub_head_of, sub_parts, sub_at, mems_rise, subs_rise, words_of, mems_of, rule_name, rule_heads, rule_head_of, axiom_form_name, axiom_forms, axiom_form_of, facts_word, cited_at, inst_parts, rule_parts, rule_at}
-use Rattle.proof_text.proofs.StepLaws.{shrinks, atom-flat, name-law, address-law}
-use Rattle.proof_text.proofs.HeadLaws.{flat-each, hex-there, le-true, true-le}
+use Rattle.group_text.proofs.StepLaws.{shrinks, atom-flat, name-law, address-law}
+use Rattle.group_text.proofs.HeadLaws.{flat-each, hex-there, le-true, true-le}
 use Rattle.proof_text.proofs.Keyed.{Image, reads-image, reads-forms, named-law, opened-law, opened-flat, right-law, right-flat}
 use Rattle.proof_text.proofs.FactLaws.{index-law}
 

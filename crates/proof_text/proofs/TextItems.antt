@@ -9,16 +9,16 @@ use Rattle.mc_text.proofs.Shown.{tokens-append}
 use Rattle.rv_words.specs.declared.range.Range.{Range}
 use Rattle.tailrec_lang.specs.Tree.{GroupTree}
 use Rattle.proof_text.specs.Line.{LineTree, ProofTree}
-use Rattle.proof_text.specs.Spelling.{group_tokens}
+use Rattle.group_text.specs.Spelling.{group_tokens}
 use Rattle.proof_text.specs.LineSpelling.{line_tokens}
-use Rattle.proof_text.specs.Limits.{IsGroup}
+use Rattle.group_text.specs.Limits.{IsGroup}
 use Rattle.proof_text.specs.LineLimits.{IsLine}
 use Rattle.proof_text.specs.Proofs.{proof_tokens, AreProofs, bare}
 use Rattle.proof_text.specs.FirstProofs.{ItemTree, Opens, Adds, items, with_line}
-use Rattle.proof_text.proofs.HeadLaws.{IsCode}
-use Rattle.proof_text.proofs.Parts.{group-whole}
+use Rattle.group_text.proofs.HeadLaws.{IsCode}
+use Rattle.group_text.proofs.Parts.{group-whole}
 use Rattle.proof_text.proofs.ProofParts.{whole-line}
-use Rattle.proof_text.proofs.Real.{group-tokens}
+use Rattle.group_text.proofs.Real.{group-tokens}
 use Rattle.proof_text.proofs.LineTokens.{line-is-tokens}
 
 abbrev pub item_tokens : List Range → ItemTree → List Tok

@@ -21,13 +21,13 @@ use Rattle.term_text.proofs.TermFacts.{word-flat, mem-flat, range-flat, range-be
 use Rattle.term_text.proofs.TermLaws.{word-law, range-law, range-shrinks}
 use Rattle.sep_assert.specs.Tree.{AssertionTree}
 use Rattle.triple_kernel.specs.Tree.{FactTree, TripleTree}
-use Rattle.proof_text.specs.Spelling.{number}
+use Rattle.group_text.specs.Spelling.{number}
 use Rattle.proof_text.specs.LineSpelling.{fact_tokens, register_tokens, assertion_tokens, same_ranges, code_tokens, triple_tokens}
 use Rattle.proof_text.specs.LineLimits.{IsFact, IsAssertion, IsTriple}
-use Rattle.proof_text.specs.inner.Reading.{ranges_rise}
+use Rattle.group_text.specs.inner.Reading.{ranges_rise}
 use Rattle.proof_text.specs.inner.LineReading.{register_at, has_rising, assertion_at, is_other, ranges_to_post, code_at, fact_at, triple_at}
-use Rattle.proof_text.proofs.StepLaws.{shrinks, atom-flat, name-law, number-law}
-use Rattle.proof_text.proofs.HeadLaws.{flat-each, rising-true, true-rising, IsCode, code-true, true-code}
+use Rattle.group_text.proofs.StepLaws.{shrinks, atom-flat, name-law, number-law}
+use Rattle.group_text.proofs.HeadLaws.{flat-each, rising-true, true-rising, IsCode, code-true, true-code}
 use Rattle.proof_text.proofs.SameRanges.{same-ranges, ranges-same}
 use Rattle.proof_text.proofs.Keyed.{Image, reads-image, reads-keyed, left-law, right-law, left-flat, right-flat, semi-flat}
 use Rattle.proof_text.proofs.FactLaws.{behind-words, fact-law, fact-shrinks, fact-begins, fact-flat}

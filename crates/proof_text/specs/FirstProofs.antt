@@ -4,9 +4,9 @@ use Rattle.mc_text.specs.Tokens.{HasNoAtomByte, spell}
 use Rattle.mc_text.specs.Fault.{first_lines, newlines}
 use Rattle.mc_text.specs.declared.token.Before.TheVariants.{Start}
 use Rattle.tailrec_lang.specs.Tree.{GroupTree}
-use Rattle.proof_text.specs.Version.{Version, version_1}
+use Rattle.group_text.specs.Version.{Version, version_1}
 use Rattle.proof_text.specs.Line.{LineTree, ProofTree}
-use Rattle.proof_text.specs.Spelling.{title_tokens}
+use Rattle.group_text.specs.Spelling.{title_tokens}
 use Rattle.proof_text.specs.Proofs.{proof_tokens, AreProofs, AreProofsIn, bare}
 
 -- a reader's text, its rest from the beginning of a line on, and how many lines lie before that

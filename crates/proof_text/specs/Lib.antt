@@ -1,11 +1,7 @@
-pub mod Version
 pub mod Line
-pub mod Spelling
 pub mod LineSpelling
-pub mod Limits
 pub mod LineLimits
 pub mod Proofs
 pub mod FirstProofs
 pub mod Answers
-pub mod Parts
 pub mod inner

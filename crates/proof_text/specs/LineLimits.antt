@@ -8,7 +8,7 @@ use Rattle.sep_assert.specs.Tree.{AssertionTree}
 use Rattle.triple_kernel.specs.Tree.{FactTree, WordIs, MemIs, So, Gives, TripleTree}
 use Rattle.proof_text.specs.Line.{RuleTree, Axiom, Inst, Frame, Compose, ExtendCode, Strengthen, Weaken, Discharge, UseExit, LineTree, States, Loop, Forget}
 use Rattle.tailrec_lang.specs.Registers.{AreRegistersFrom}
-use Rattle.proof_text.specs.Limits.{index_limit, IsValues}
+use Rattle.group_text.specs.Limits.{index_limit, IsValues}
 
 abbrev pub IsFact : FactTree → Type 0
 IsFact (WordIs a b) = IsWord a × IsWord b

@@ -31,7 +31,7 @@ use Rattle.triple_kernel.specs.Tree.{FactTree, WordIs, MemIs, So, Gives, TripleT
 use Rattle.triple_kernel.specs.declared.form.Form.{Form}
 use Rattle.triple_kernel.specs.declared.form.Form.TheVariants.{Next, Taken}
 use Rattle.proof_text.specs.Line.{RuleTree, Axiom, Inst, Frame, Compose, ExtendCode, Strengthen, Weaken, Discharge, UseExit, LineTree, States, Loop, Forget}
-use Rattle.proof_text.specs.Spelling.{line, number, address, values_tokens}
+use Rattle.group_text.specs.Spelling.{line, number, address, values_tokens}
 
 -- a word, and the parts after it
 abbrev pub keyed_tokens : List ℕ → List (List Tok) → List Tok

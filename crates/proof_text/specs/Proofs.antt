@@ -9,11 +9,11 @@ use Rattle.mc_text.specs.Fault.{Grammar}
 use Rattle.mc_text.specs.declared.token.Before.TheVariants.{Start}
 use Rattle.rv_words.specs.declared.range.Range.{Range}
 use Rattle.tailrec_lang.specs.Tree.{GroupTree}
-use Rattle.proof_text.specs.Version.{Version, version_1}
+use Rattle.group_text.specs.Version.{Version, version_1}
 use Rattle.proof_text.specs.Line.{LineTree, ProofTree}
-use Rattle.proof_text.specs.Spelling.{group_tokens, title_tokens, end_tokens}
+use Rattle.group_text.specs.Spelling.{group_tokens, title_tokens, end_tokens}
 use Rattle.proof_text.specs.LineSpelling.{line_tokens}
-use Rattle.proof_text.specs.Limits.{IsGroupIn}
+use Rattle.group_text.specs.Limits.{IsGroupIn}
 use Rattle.proof_text.specs.LineLimits.{IsLine}
 
 abbrev pub proof_tokens : ProofTree → List Tok

@@ -1,12 +1,4 @@
-pub mod Heads
-pub mod Reading
 pub mod LineReading
 pub mod Subs
-pub mod Cut
 pub mod Rest
-pub mod Rows
-pub mod RowReader
-pub mod TextRows
-pub mod BodyRows
-pub mod GroupRows
 pub mod OwnCode

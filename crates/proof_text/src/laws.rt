@@ -6,19 +6,13 @@ ghost use Rattle.mc_text.specs.declared.token.Before.TheVariants.{Start};
 ghost use Rattle.mc_text.specs.Fault.{IsBadAt};
 ghost use Rattle.tailrec_lang.specs.Tree.{GroupTree};
 ghost use Rattle.proof_text.specs.FirstProofs.{AreRead, BeginsWithItems, items};
-ghost use Rattle.proof_text.specs.Limits.{AreGroups, AreGroupsIn, IsGroup, proof_texts};
+ghost use Rattle.group_text.specs.Limits.{AreGroups, AreGroupsIn, IsGroup};
 ghost use Rattle.proof_text.specs.Line.{LineTree, ProofTree};
 ghost use Rattle.proof_text.specs.LineLimits.{IsLine};
 ghost use Rattle.proof_text.specs.LineSpelling.{line_tokens};
 ghost use Rattle.proof_text.specs.Proofs.{AreProofs, AreProofsIn, bare, proof_texts_of, text_of_proofs, text_of_proofs_in, texts_of_proofs};
-ghost use Rattle.proof_text.specs.Spelling.{end_tokens, head_tokens, text_in, text_of};
-ghost use Rattle.proof_text.specs.Version.{Version};
-ghost use Rattle.proof_text.specs.Parts.{group_texts};
-
-/// The text of groups is what `put_head`, `put_group` of each and `put_end` append, one after the other.
-pub fn law_of_parts()
-    ensures { (gs : List GroupTree) → text_of gs ≡ spell Start head_tokens ++ (group_texts gs ++ spell Start end_tokens) }
-{}
+ghost use Rattle.group_text.specs.Spelling.{end_tokens, head_tokens, text_in, text_of};
+ghost use Rattle.group_text.specs.Version.{Version};
 
 /// The text of groups with the lines of their proofs is what `put_head`, for each group `put_group` and then `put_line`
 /// of each of its lines, and `put_end` append, one after the other.
@@ -57,9 +51,4 @@ pub fn law_of_first_proofs()
     ensures alike { (text : List ℕ) (ps qs : List ProofTree) → AreRead text ps → AreRead text qs → BeginsWithItems ps qs ⊎ BeginsWithItems qs ps }
     ensures fewer { (text : List ℕ) (ps qs : List ProofTree) → AreRead text ps → BeginsWithItems ps qs → AreRead text qs }
     ensures few { (text : List ℕ) (ps : List ProofTree) → AreRead text ps → length (items ps) ≤ length text }
-{}
-
-/// A text is no proof text from one line on.
-pub fn law_of_faults()
-    ensures { (text : List ℕ) (m n : ℕ) → IsBadAt proof_texts text m → IsBadAt proof_texts text n → m ≡ n }
 {}

@@ -8,8 +8,8 @@ ghost use Rattle.tailrec_lang.specs.Tree.{values_tree};
 ghost use Rattle.triple_kernel.specs.Tree.{fact_tree};
 ghost use Rattle.proof_text.specs.inner.LineReading.{fact_at, fact_head_of, fact_parts, values_with};
 
-use crate::body_rows::read_index;
 use crate::line_heads::{FactHead, fact_head_of};
+use group_text::read_index;
 use mc_text::cursor::{accept, is_open, left, peek, right, semi};
 use mc_text::{Scan, Stop, Token};
 use rv_words::List;

@@ -7,10 +7,10 @@ ghost use Rattle.proof_text.specs.Line.{rule_tree};
 ghost use Rattle.proof_text.specs.inner.LineReading.{axiom_form_of, cited_at, facts_word, inst_parts, instruction_of, rule_at, rule_head_of, rule_parts, theorem_at};
 ghost use Rattle.proof_text.specs.inner.Subs.{put_tree};
 
-use crate::body_rows::read_index;
 use crate::line::Rule;
 use crate::line_heads::{RuleHead, axiom_form_of, rule_head_of};
 use crate::line_subs::{Put, puts_rise, read_subs, sub_of};
+use group_text::read_index;
 use mc_text::cursor::{accept, address, keyword, peek};
 use mc_text::{Scan, Stop, Token, dec, hexnum};
 use std::alloc::Global;

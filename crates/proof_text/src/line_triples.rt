@@ -6,12 +6,12 @@ ghost use Rattle.mc_text.specs.inner.Reading.{checked, word};
 ghost use Rattle.mc_text.specs.Outcome.{Gives, last_line};
 ghost use Rattle.sep_assert.specs.Tree.{assertion_tree, register_tree};
 ghost use Rattle.triple_kernel.specs.Tree.{triple_tree};
-ghost use Rattle.proof_text.specs.inner.Reading.{registers_rise};
+ghost use Rattle.group_text.specs.inner.Reading.{registers_rise};
 ghost use Rattle.proof_text.specs.inner.LineReading.{assertion_at, code_at, has_rising, is_other, ranges_to_post, register_at, triple_at};
 
-use crate::heads::{ranges_rise, read_register};
 use crate::line_facts::read_facts;
 use crate::put_lines::is_own;
+use group_text::{ranges_rise, read_register};
 use mc_text::cursor::{is_open, keyword, left, peek, right, semi};
 use mc_text::{Scan, Stop, Token};
 use rv_words::{List, NoMemory, Range};

@@ -11,10 +11,10 @@ ghost use Rattle.triple_kernel.specs.Tree.{fact_tree, triple_tree};
 ghost use Rattle.proof_text.specs.Line.{line_tree, mem_put_in, rule_tree, word_put_in};
 ghost use Rattle.proof_text.specs.LineLimits.{IsLine};
 ghost use Rattle.proof_text.specs.LineSpelling.{assertion_tokens, code_tokens, fact_tokens, form_tokens, keyed_tokens, line_tokens, mem_sub_tokens, register_tokens, rule_tokens, same_ranges, triple_tokens, word_sub_tokens};
-ghost use Rattle.proof_text.specs.Spelling.{number, values_tokens};
+ghost use Rattle.group_text.specs.Spelling.{number, values_tokens};
 
 use crate::line::{Line, Rule};
-use crate::put::{put_mems, put_ranges, put_values};
+use group_text::{put_mems, put_ranges, put_values};
 use mc_text::Pen;
 use rv_words::{Bytes, NoMemory};
 use sep_assert::{Assertion, same_code};

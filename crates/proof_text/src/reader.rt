@@ -6,7 +6,7 @@ ghost use Rattle.mc_text.specs.Fault.{IsBadAt};
 ghost use Rattle.mc_text.specs.Scanning.{lex, At};
 ghost use Rattle.tailrec_lang.specs.Eval.{HasFewNeeds};
 ghost use Rattle.tailrec_lang.specs.Tree.{group_tree};
-ghost use Rattle.proof_text.specs.Limits.{IsGroup};
+ghost use Rattle.group_text.specs.Limits.{IsGroup};
 ghost use Rattle.proof_text.specs.Line.{ProofTree, line_tree};
 ghost use Rattle.proof_text.specs.LineLimits.{IsLine};
 ghost use Rattle.proof_text.specs.Proofs.{bare, text_of_proofs, texts_of_proofs};
@@ -14,13 +14,9 @@ ghost use Rattle.proof_text.specs.FirstProofs.{HasGiven, MayOpen, ProofEnds, wit
 ghost use Rattle.proof_text.specs.Answers.{IsEnd, NoItem, OnBad, OnEnd, OnGiven};
 ghost use Rattle.proof_text.specs.inner.Rest.{GoesOn};
 
-use crate::group::read_turn;
 use crate::line::Line;
-use crate::lines::whole_lines;
 use crate::proof_lines::read_turn as read_line_turn;
-use crate::rows::Rows;
-use crate::stop::Halt;
-use crate::text_rows::TextRows;
+use group_text::{Halt, Rows, TextRows, read_turn, whole_lines};
 use std::alloc::Global;
 use std::marker::Model;
 use tailrec_lang::Group;
@@ -45,7 +41,7 @@ pub struct Reader<'a> {
 impl<'a> Model for Reader<'a> {
     ghost use Rattle.std.specs.Prelude.{◌≡◌, ◌+◌, ◌≤◌, ◌^◌, ◌++◌, length};
     ghost use Rattle.mc_text.specs.Fault.{newlines};
-    ghost use Rattle.proof_text.specs.inner.Cut.{AreWholeLines};
+    ghost use Rattle.group_text.specs.inner.Cut.{AreWholeLines};
     ghost use Rattle.proof_text.specs.FirstProofs.{Progress};
 
     ghost Value = { Progress };

@@ -1,7 +1,7 @@
 //! Groups and lines are read, and printed as they stand.
 
 ghost use Rattle.tailrec_lang.specs.Tree.{group_tree};
-ghost use Rattle.proof_text.specs.Limits.{IsGroup};
+ghost use Rattle.group_text.specs.Limits.{IsGroup};
 
 use mc_text::put_atom;
 use proof_text::{Line, Reader, TextFault, put_end, put_group, put_head, put_line};

@@ -8,7 +8,7 @@ use Rattle.tailrec_lang.specs.declared.group.Group.{Group}
 use Rattle.tailrec_lang.specs.Tree.{GroupTree, group_tree}
 use Rattle.tailrec_lang.specs.WellFormed.{IsWellFormed, IsFirstIllFormed}
 use Rattle.proof_text.specs.Line.{LineTree, ProofTree}
-use Rattle.proof_text.specs.Limits.{IsGroup}
+use Rattle.group_text.specs.Limits.{IsGroup}
 use Rattle.mc_text.specs.Fault.{IsBadAt}
 use Rattle.proof_text.specs.FirstProofs.{AreRead, BeginsWithItems, HasGiven, MayOpen, Progress, ProofEnds, with_line}
 use Rattle.proof_text.specs.Proofs.{bare, text_of_proofs, texts_of_proofs}

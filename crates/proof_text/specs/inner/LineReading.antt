@@ -1,10 +1,10 @@
 -- Reading the lines of proofs from tokens, by computing: a line a rule of the grammar. A list of items is read with what
 -- stands behind it, so the words between the parts of a triple are read with the part before them.
-use Rattle.std.specs.Prelude.{ℕ, zero, suc, ◌+◌, ◌^◌, Bool, true, false, ◌&&◌, ◌||◌, not, nat_le, List, [], ◌∷◌, length, map, codes, Option, Some, None, option_map, Ok, if◌then◌else◌}
+use Rattle.std.specs.Prelude.{ℕ, zero, suc, ◌+◌, ◌-◌, ◌^◌, Bool, true, false, ◌&&◌, ◌||◌, not, nat_le, List, [], ◌∷◌, length, map, codes, Option, Some, None, option_map, Ok, if◌then◌else◌}
 use Rattle.std.specs.Str.{bytes_eq}
 use Rattle.mc_text.specs.Number.{hex_of, number_of}
 use Rattle.mc_text.specs.Tokens.{Tok, Atom}
-use Rattle.mc_text.specs.Reading.{Reader, pair, with, made, one, atom_of, below, star, goes_on, refused, is_left, is_right, is_open, address_at}
+use Rattle.mc_text.specs.Reading.{Reader, pair, with, made, one, atom_of, below, many, star, goes_on, refused, is_left, is_right, is_open, address_at}
 use Rattle.mc_text.specs.inner.Reading.{is_semi, eol, word, keyed, checked, number_at}
 use Rattle.rv_words.specs.declared.range.Range.{Range}
 use Rattle.word_terms.specs.Tree.{WordTree, MemTree}
@@ -23,7 +23,8 @@ use Rattle.proof_text.specs.declared.line_heads.SubHead.{SubHead}
 use Rattle.proof_text.specs.declared.line_heads.SubHead.TheVariants as sub_head
 use Rattle.proof_text.specs.Line.{RuleTree, Axiom, Inst, Frame, Compose, ExtendCode, Strengthen, Weaken, Discharge, UseExit, LineTree, States, Loop, Forget, ProofTree}
 use Rattle.proof_text.specs.LineSpelling.{same_ranges}
-use Rattle.proof_text.specs.inner.Reading.{has_atom, registers_rise, ranges_rise, Head, def_at, head_at, group_of, defs_at, title_row}
+use Rattle.group_text.specs.Limits.{def_limit}
+use Rattle.group_text.specs.inner.Reading.{has_atom, registers_rise, ranges_rise, Head, def_at, is_def, head_at, group_of, title_row}
 
 -- ---- numbers
 
@@ -231,6 +232,13 @@ begins_line _ = false
 -- the lines of a group, by its code
 abbrev pub lines_at : List Range → Reader (List LineTree)
 lines_at own = star begins_line (line_at own)
+
+-- how many definitions may follow the first
+abbrev pub more_defs : ℕ
+more_defs = def_limit - 1
+
+abbrev pub defs_at : Reader (List DefTree)
+defs_at = many more_defs is_def def_at
 
 abbrev pub proof_of : Head → List DefTree → List LineTree → ProofTree
 proof_of h defs lines = record { group = group_of h defs; lines = lines }

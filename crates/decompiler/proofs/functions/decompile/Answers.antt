@@ -6,7 +6,7 @@ use Rattle.decompiler.specs.Listing.{IsItemFor}
 use Rattle.decompiler.specs.Refusals.{IsFaultOf}
 use Rattle.decompiler.specs.inner.Functions.{IsNoItem}
 use Rattle.std.proofs.lemmas.List.Elements.{All-get_or}
-use Rattle.proof_text.specs.Limits.{IsName}
+use Rattle.group_text.specs.Limits.{IsName}
 use Rattle.decompiler.proofs.InOrder.{refused, zip_more}
 use Rattle.decompiler.proofs.functions.decompile.Goals as goal
 

@@ -1,6 +1,6 @@
 use Rattle.std.proofs.Common.{◌++◌, sym, subst, ◌∙◌, ap}
 use Rattle.proof_text.specs.Proofs.{IsProofIn}
-use Rattle.proof_text.specs.Version.{version_1}
+use Rattle.group_text.specs.Version.{version_1}
 use Rattle.path_walk.specs.declared.item.Item.{Item}
 use Rattle.decompiler.specs.Listing.{proof_of}
 use Rattle.decompiler.proofs.Texts.{each_at, item_text, next_item}

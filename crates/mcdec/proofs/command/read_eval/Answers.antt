@@ -1,6 +1,6 @@
 use Rattle.std.proofs.Common.{sym, ap, ◌∙◌, subst}
 use Rattle.mc_text.specs.Number.{number_of}
-use Rattle.proof_text.specs.Limits.{IsName}
+use Rattle.group_text.specs.Limits.{IsName}
 use Rattle.mcdec.proofs.ArgWords.{exit-with}
 use Rattle.mcdec.proofs.Words.{filled, no-turns, eval-without, eval-read}
 use Rattle.mcdec.proofs.command.read_eval.Goals as goal

@@ -1,5 +1,5 @@
 use Rattle.std.proofs.Common.{◌≡◌, ◌++◌, ◌∷◌, [], Contains, string_bytes, true≢false, sym, ap, subst, ◌∙◌}
-use Rattle.proof_text.specs.Limits.{IsName}
+use Rattle.group_text.specs.Limits.{IsName}
 use Rattle.mcdec.specs.Command.{AreNames}
 use Rattle.mcdec.proofs.NameWords.{name-more, name-twice, not-a-name}
 use Rattle.mcdec.proofs.command.read_names.Goals as goal

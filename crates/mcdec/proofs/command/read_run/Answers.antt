@@ -1,6 +1,6 @@
 use Rattle.std.proofs.Common.{sym, ap, ◌∙◌, subst, ◌≡◌, ◌^◌, ◌<◌, ℕ, List}
 use Rattle.mc_text.specs.Number.{hex, number_of}
-use Rattle.proof_text.specs.Limits.{IsName}
+use Rattle.group_text.specs.Limits.{IsName}
 use Rattle.mcdec.proofs.ArgWords.{exit-with}
 use Rattle.mcdec.proofs.Words.{filled, no-until, no-steps, no-arguments, run-read}
 use Rattle.mcdec.proofs.command.read_run.Goals as goal

@@ -1,7 +1,7 @@
 use Rattle.std.proofs.Common.{Ok, Option, ℕ, arith, sym, subst}
 use Rattle.proof_text.specs.Answers.{OnGiven}
 use Rattle.tailrec_lang.specs.declared.group.Group.{Group}
-use Rattle.proof_text.specs.Limits.{IsGroup}
+use Rattle.group_text.specs.Limits.{IsGroup}
 use Rattle.std.proofs.lemmas.List.{length-map}
 use Rattle.tailrec_lang.specs.Tree.{def_tree, group_tree}
 use Rattle.mcdec.specs.inner.Search.{IsBadText}

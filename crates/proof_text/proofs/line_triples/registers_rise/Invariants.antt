@@ -1,6 +1,6 @@
 use Rattle.std.proofs.Common.{◌≡◌, drop, map}
 use Rattle.sep_assert.specs.Tree.{register_tree}
-use Rattle.proof_text.specs.inner.Reading.{registers_rise}
+use Rattle.group_text.specs.inner.Reading.{registers_rise}
 use Rattle.proof_text.proofs.line_triples.registers_rise.Given as goal
 
 abbrev pub invariant-loop-register : goal.invariant-loop-register

@@ -4,7 +4,7 @@ use Rattle.mc_text.specs.inner.Reading.{with_prefix}
 use Rattle.mc_text.specs.Scanning.{tokens_at}
 use Rattle.mc_text.proofs.Star.{star-more, star-ends}
 use Rattle.mc_text.proofs.StarReads.{star-stopped}
-use Rattle.proof_text.specs.inner.Reading.{has_atom}
+use Rattle.group_text.specs.inner.Reading.{has_atom}
 use Rattle.proof_text.specs.inner.LineReading.{theorem_at}
 use Rattle.proof_text.proofs.RuleLaws.{theorem-shrinks}
 use Rattle.proof_text.proofs.proof_lines.read_theorems.Goals as goal

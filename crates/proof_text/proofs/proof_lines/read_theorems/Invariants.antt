@@ -3,7 +3,7 @@ use Rattle.mc_text.specs.Reading.{star}
 use Rattle.mc_text.specs.inner.Reading.{with_prefix}
 use Rattle.mc_text.specs.Scanning.{tokens_at}
 use Rattle.mc_text.specs.Outcome.{last_line}
-use Rattle.proof_text.specs.inner.Reading.{has_atom}
+use Rattle.group_text.specs.inner.Reading.{has_atom}
 use Rattle.proof_text.specs.inner.LineReading.{theorem_at}
 use Rattle.proof_text.proofs.proof_lines.read_theorems.Given as goal
 

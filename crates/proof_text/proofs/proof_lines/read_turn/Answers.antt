@@ -2,10 +2,9 @@ use Rattle.std.proofs.Common.{Option, option_map}
 use Rattle.proof_text.specs.declared.line.Line.{Line}
 use Rattle.proof_text.specs.Line.{LineTree, line_tree}
 use Rattle.proof_text.specs.inner.LineReading.{turn_of}
-use Rattle.proof_text.proofs.Joins.{lost-row}
-use Rattle.proof_text.proofs.BodyJoins.{passed-on}
-use Rattle.proof_text.proofs.LineJoins.{turn-ended, turn-read, turn-failed}
-use Rattle.proof_text.proofs.RowLawsOf.{line-row}
+use Rattle.group_text.proofs.Joins.{lost-row}
+use Rattle.group_text.proofs.BodyJoins.{passed-on}
+use Rattle.proof_text.proofs.LineJoins.{line-row, turn-ended, turn-read, turn-failed}
 use Rattle.proof_text.proofs.proof_lines.read_turn.Goals as goal
 
 abbrev found : Option Line → Option LineTree

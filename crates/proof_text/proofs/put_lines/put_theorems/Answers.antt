@@ -1,6 +1,6 @@
 use Rattle.mc_text.specs.Printing.{page}
 use Rattle.mc_text.proofs.Printed.{keeps_more, print_next_copied, print_over}
-use Rattle.proof_text.specs.Spelling.{number}
+use Rattle.group_text.specs.Spelling.{number}
 use Rattle.proof_text.proofs.put_lines.put_theorems.Goals as goal
 
 pub loop-k-preserved : goal.loop-k-preserved

@@ -1,6 +1,6 @@
 use Rattle.std.proofs.Common.{◌≡◌, drop, flat_map}
 use Rattle.mc_text.specs.Printing.{Keeps, page, print}
-use Rattle.proof_text.specs.Spelling.{number}
+use Rattle.group_text.specs.Spelling.{number}
 use Rattle.proof_text.proofs.put_lines.put_theorems.Given as goal
 
 abbrev pub invariant-loop-k : goal.invariant-loop-k

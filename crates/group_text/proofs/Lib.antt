@@ -1,0 +1,17 @@
+pub mod StepLaws
+pub mod BodyLaws
+pub mod HeadLaws
+pub mod Texts
+pub mod Real
+pub mod Printing
+pub mod Parts
+pub mod Loops
+pub mod OwnDefs
+pub mod Cuts
+pub mod RowAt
+pub mod RowLaws
+pub mod RowReaders
+pub mod RowLawsOf
+pub mod Joins
+pub mod BodyJoins
+pub mod GroupJoins

@@ -1,0 +1,11 @@
+use Rattle.std.proofs.Common.{◌≡◌, drop, flat_map}
+use Rattle.mc_text.specs.Printing.{Keeps, page, print}
+use Rattle.term_text.specs.Spelling.{mem_tokens}
+use Rattle.word_terms.specs.Tree.{mem_tree}
+use Rattle.group_text.proofs.put.put_mems.Given as goal
+
+abbrev pub invariant-loop-t : goal.invariant-loop-t
+invariant-loop-t l = record {
+  told : print (flat_map (λ t. mem_tokens (mem_tree t)) l.terms) (page l.fn.pen) ≡ print (flat_map (λ t. mem_tokens (mem_tree t)) (drop l.t-index l.terms)) (page l.pen);
+  kept : Keeps (page l.fn.pen) (page l.pen);
+}

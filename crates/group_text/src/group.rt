@@ -1,0 +1,142 @@
+//! Reading groups.
+
+ghost use Rattle.std.specs.Prelude.{◌<◌, ◌≤◌, OnOk, Some, map, option_map};
+ghost use Rattle.mc_text.specs.Reading.{made, pair};
+ghost use Rattle.tailrec_lang.specs.Tree.{def_tree, group_tree};
+ghost use Rattle.group_text.specs.inner.Heads.{head_of};
+ghost use Rattle.group_text.specs.inner.Rows.{RowsGive};
+ghost use Rattle.group_text.specs.inner.Reading.{def_at, group_of, next_at, own_defs, turn_at};
+ghost use Rattle.group_text.specs.inner.GroupRows.{more_head};
+
+use crate::bodies::read_body;
+use crate::heads::{FirstRow, Head};
+use crate::next_rows::{
+    CodeRow, DefRow, GroupRow, MemsRow, RegsRow, TitleRow, next_row, row_begins,
+};
+use crate::rows::Rows;
+use crate::stop::Halt;
+use rv_words::{List, Text};
+use std::alloc::Global;
+use tailrec_lang::{Def, Group};
+
+/// The deepest nesting of bodies.
+const DEEPEST_BODY: u32 = 64;
+
+/// The most definitions of a group.
+const MOST_DEFS: usize = 4096;
+
+/// A definition.
+fn read_def<E, R: Rows<E>>(alloc: Global, rows: &mut R, from: &mut E) -> Result<Def, Halt>
+    ensures gives { RowsGive def_tree result (R.May rows.old from.old) (R.May rows.new from.new) def_at }
+    ensures left { R.left rows.new ≤ R.left rows.old }
+    ensures fewer { OnOk result (R.left rows.new < R.left rows.old) }
+{
+    let (entry, exits) = next_row(alloc, rows, from, &DefRow)?;
+    let body = read_body(alloc, rows, from, DEEPEST_BODY)?;
+    Ok(Def { entry, exits, body })
+}
+
+/// The definitions of a group, as many as follow. There is at least one.
+fn read_defs<E, R: Rows<E>>(alloc: Global, rows: &mut R, from: &mut E) -> Result<List<Def>, Halt>
+    ensures gives { RowsGive (λ defs. map def_tree defs) result (R.May rows.old from.old) (R.May rows.new from.new) own_defs }
+    ensures left { R.left rows.new ≤ R.left rows.old }
+{
+    let mut defs = List::new(alloc);
+    'defs: while row_begins(alloc, rows, from, &DefRow)? {
+        if defs.len() == MOST_DEFS {
+            return Err(Halt::Bad);
+        }
+        match read_def(alloc, rows, from) {
+            Ok(def) => defs.push(def)?,
+            Err(halt) => return Err(halt),
+        }
+    }
+    if defs.is_empty() {
+        return Err(Halt::Bad);
+    }
+    Ok(defs)
+}
+
+/// What stands before the definitions, after the name.
+fn read_head<E, R: Rows<E>>(
+    alloc: Global,
+    rows: &mut R,
+    from: &mut E,
+    name: Text,
+) -> Result<Head, Halt>
+    ensures gives { RowsGive head_of result (R.May rows.old from.old) (R.May rows.new from.new) (more_head name) }
+    ensures left { R.left rows.new ≤ R.left rows.old }
+{
+    let regs = next_row(alloc, rows, from, &RegsRow)?;
+    let mems = next_row(alloc, rows, from, &MemsRow)?;
+    let code = next_row(alloc, rows, from, &CodeRow)?;
+    Ok(Head {
+        name,
+        regs,
+        mems,
+        code,
+    })
+}
+
+/// A group, after the row of its name.
+fn read_group<E, R: Rows<E>>(
+    alloc: Global,
+    rows: &mut R,
+    from: &mut E,
+    name: Text,
+) -> Result<Group, Halt>
+    ensures gives { RowsGive (λ g. Some (group_tree g)) result (R.May rows.old from.old) (R.May rows.new from.new) (made (λ x. Some (group_of x.0 x.1)) (pair (more_head name) own_defs)) }
+    ensures left { R.left rows.new ≤ R.left rows.old }
+{
+    let Head {
+        name,
+        regs,
+        mems,
+        code,
+    } = read_head(alloc, rows, from, name)?;
+    let defs = read_defs(alloc, rows, from)?;
+    Ok(Group {
+        name,
+        regs,
+        mems,
+        code,
+        defs,
+    })
+}
+
+/// The next group, or none at the row that ends the text.
+fn read_next<E, R: Rows<E>>(
+    alloc: Global,
+    rows: &mut R,
+    from: &mut E,
+) -> Result<Option<Group>, Halt>
+    ensures gives { RowsGive (λ found. option_map group_tree found) result (R.May rows.old from.old) (R.May rows.new from.new) next_at }
+    ensures left { R.left rows.new ≤ R.left rows.old }
+{
+    let first = next_row(alloc, rows, from, &GroupRow)?;
+    match first {
+        FirstRow::End => Ok(None),
+        FirstRow::Group(name) => {
+            let group = read_group(alloc, rows, from, name)?;
+            Ok(Some(group))
+        }
+    }
+}
+
+/// The next group, or none at the row that ends the text, after the title where the text begins here.
+pub fn read_turn<E, R: Rows<E>>(
+    alloc: Global,
+    rows: &mut R,
+    from: &mut E,
+    first: bool,
+) -> Result<Option<Group>, Halt>
+    ensures gives { RowsGive (λ found. option_map group_tree found) result (R.May rows.old from.old) (R.May rows.new from.new) (turn_at first) }
+    ensures left { R.left rows.new ≤ R.left rows.old }
+{
+    if first {
+        next_row(alloc, rows, from, &TitleRow)?;
+        read_next(alloc, rows, from)
+    } else {
+        read_next(alloc, rows, from)
+    }
+}

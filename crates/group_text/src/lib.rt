@@ -1,0 +1,25 @@
+//! Groups of definitions as text, each written in one way, and the rows of which such a text is made.
+#![tactic(auto)]
+
+mod bodies;
+mod body_rows;
+mod group;
+mod heads;
+mod laws;
+mod lines;
+mod next_rows;
+mod put;
+mod rows;
+mod stop;
+mod text_rows;
+
+pub use body_rows::read_index;
+pub use group::read_turn;
+pub use heads::{has_atom, ranges_rise, read_register};
+pub use laws::{law_of_faults, law_of_parts};
+pub use lines::whole_lines;
+pub use next_rows::{ReadRow, RowStart, next_row, row_begins};
+pub use put::{put_end, put_group, put_head, put_mems, put_ranges, put_values};
+pub use rows::Rows;
+pub use stop::{Halt, Lost};
+pub use text_rows::TextRows;

@@ -1,6 +1,0 @@
-use Rattle.mc_text.proofs.FaultOnce.{bad-once}
-use Rattle.proof_text.specs.Limits.{proof_texts}
-use Rattle.proof_text.proofs.laws.law_of_faults.Goals as goal
-
-pub returns : goal.returns
-returns c = bad-once proof_texts

@@ -1,5 +1,0 @@
-use Rattle.proof_text.proofs.Parts.{text-apart}
-use Rattle.proof_text.proofs.laws.law_of_parts.Goals as goal
-
-pub returns : goal.returns
-returns c = text-apart
