@@ -14,12 +14,12 @@ use crate::put_lines::is_own;
 use group_text::{ranges_rise, read_register};
 use mc_text::cursor::{is_open, keyword, left, peek, right, semi};
 use mc_text::{Scan, Stop, Token};
-use rv_words::{List, NoMemory, Range};
+use rv_words::{List, NoMemory};
 use sep_assert::Assertion;
 use std::alloc::Global;
 use term_text::{read_mems, read_ranges, read_word};
 use triple_kernel::Triple;
-use word_terms::{Code, DEEPEST, Word};
+use word_terms::{Code, DEEPEST, Word, copy_code};
 
 /// A register and its term.
 #[tactic(auto, unfolding(crate::specs::inner::LineReading::register_at))]
@@ -90,35 +90,6 @@ fn read_assertion<'a>(alloc: Global, scan: &mut Scan<'a>) -> Result<Assertion, S
 }
 
 // ---- code
-
-/// The same code in memory of its own.
-fn copy_code(alloc: Global, code: &Code) -> Result<Code, NoMemory>
-    ensures { IfOk result (λ copy. copy.ranges ≡ code.now.ranges) }
-{
-    let ranges = copy_ranges(alloc, code.ranges.as_slice())?;
-    Ok(Code { ranges })
-}
-
-fn copy_ranges(alloc: Global, ranges: &[Range]) -> Result<List<Range>, NoMemory>
-    ensures { IfOk result (λ copies. copies ≡ ranges.now) }
-{
-    let mut copies = List::new(alloc);
-    for range in ranges {
-        let copy = copy_range(alloc, range)?;
-        copies.push(copy)?;
-    }
-    Ok(copies)
-}
-
-fn copy_range(alloc: Global, range: &Range) -> Result<Range, NoMemory>
-    ensures { IfOk result (λ copy. copy ≡ range.now) }
-{
-    let bytes = List::from_slice(alloc, range.bytes.as_slice())?;
-    Ok(Range {
-        at: range.at,
-        bytes,
-    })
-}
 
 /// Whether these are rising ranges other than the group's own.
 fn is_other(own: &Code, code: &Code) -> bool

@@ -3,8 +3,8 @@
 ghost use Rattle.std.specs.Prelude.{◌<◌, ◌≤◌, ◌+◌, ◌^◌, IfOk, length};
 ghost use Rattle.rv_words.specs.Ranges.{AreRanges};
 
-use sep_assert::*;
 use rv_words::{List, NoMemory, Range};
+use sep_assert::*;
 use std::alloc::Global;
 use std::process::Abort;
 use std::test::Fail;

@@ -1,7 +1,7 @@
-//! The words of the request's tables, and every parcel by sums over an independent program's words.
+//! The words of worked parcels, and every parcel by sums over an independent program's words.
 
-use rvc::*;
 use rv_decode::{Instr, decode};
+use rvc::*;
 use std::process::Abort;
 
 #[test]

@@ -2,9 +2,9 @@
 
 ghost use Rattle.std.specs.Prelude.{◌≡◌, ◌<◌, length};
 
-use loop_forest::*;
 use elf_image::{Image, read};
 use flow_graph::{FlowFault, Graph, Outside, build};
+use loop_forest::*;
 use rv_decode::{Instr, encode};
 use rv_words::Cmp;
 use std::alloc::{AllocError, Global};

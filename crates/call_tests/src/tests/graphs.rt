@@ -1,7 +1,7 @@
 //! What no clause says: the graphs and faults of worked programs, and that a graph is built while there is memory.
 
-use flow_graph::*;
 use elf_image::{Image, read};
+use flow_graph::*;
 use rv_decode::Instr;
 use std::alloc::{AllocError, Global};
 use std::test::Fail;

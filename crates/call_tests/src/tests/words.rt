@@ -1,8 +1,8 @@
 //! Operations, lists and byte maps: that the calls succeed while there is memory, and that a type may reach itself
 //! through a list.
 
-use rv_words::*;
 use super::edges::{COMPARISONS, EXTENSIONS, OPERATIONS};
+use rv_words::*;
 use std::alloc::Global;
 use std::process::Abort;
 use std::test::Fail;
