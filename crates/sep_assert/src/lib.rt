@@ -11,4 +11,4 @@ pub use assertion::{Assertion, same_assertion, same_mems, same_register};
 pub use code::{code_agree, code_within, code_within_either, same_code};
 pub use joining::code_join;
 pub use laws::{law_of_code, law_of_groupings, law_of_keys, law_of_lists, law_of_unions};
-pub use word_terms::Code;
+pub use word_terms::{Code, Range};

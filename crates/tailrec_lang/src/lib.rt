@@ -18,4 +18,4 @@ pub use group::{Body, Def, End, Exit, Group, Step, Values};
 pub use laws::{law_of_more_turns, law_of_turns};
 pub use needs::has_few_needs;
 pub use scope::{BadDef, def_at, exits_of, results_at, well_formed};
-pub use word_terms::Code;
+pub use word_terms::{Code, Range};

@@ -16,6 +16,7 @@ pub use laws::{
     law_of_agreement, law_of_larger_scopes, law_of_new_variables, law_of_ranges, law_of_scopes,
     law_of_stores, law_of_substitution,
 };
+pub use rv_words::Range;
 pub use scope::{is_cond_in_scope, is_mem_in_scope, is_word_in_scope};
 pub use substitution::{DEEPEST, Sub, TermFault, subst_cond, subst_mem, subst_word};
 pub use term::{
