@@ -27,7 +27,7 @@ use Rattle.loop_forest.specs.Forest.{incoming}
 use Rattle.path_walk.specs.declared.item.Item.{Item}
 use Rattle.decompiler.specs.Names.{StandsFor}
 use Rattle.decompiler.specs.Faults.{IsFirst, IsInFragment}
-use Rattle.decompiler.specs.declared.functions.Proof.{Proof}
+use Rattle.path_walk.specs.declared.proof.Proof.{Proof}
 
 -- an item as a group with the lines of its proof
 abbrev pub proof_of : Item → ProofTree

@@ -1,7 +1,7 @@
 -- Why there is no proof for some names of a file.
 use Rattle.std.specs.Prelude.{ℕ, List}
-use Rattle.decompiler.specs.declared.functions.DecompileFault.{DecompileFault}
-use Rattle.decompiler.specs.declared.functions.DecompileFault.TheVariants.{Refused, NoMemory}
+use Rattle.path_walk.specs.declared.proof.DecompileFault.{DecompileFault}
+use Rattle.path_walk.specs.declared.proof.DecompileFault.TheVariants.{Refused, NoMemory}
 use Rattle.decompiler.specs.Listing.{IsRefused}
 
 abbrev pub IsFaultOf : List ℕ → List (List ℕ) → DecompileFault → Type 0

@@ -13,34 +13,9 @@ use crate::name::address_of;
 use elf_image::{Image, NameFault, law_of_image};
 use flow_graph::{FlowFault, Outside, build};
 use loop_forest::find_loops;
-use path_walk::{Item, item_of};
+use path_walk::{DecompileFault, Item, Proof, item_of};
 use rv_words::{List, NoMemory, Text};
 use std::alloc::Global;
-
-/// An item for each name.
-#[derive(Debug, Drop)]
-pub struct Proof {
-    pub items: List<Item>,
-}
-
-/// Why there is no proof.
-#[derive(Debug, Drop)]
-pub enum DecompileFault {
-    /// The name of that number, counted from 0, is outside the fragment.
-    Refused { name: u64, why: Outside },
-    /// There was no memory.
-    NoMemory,
-}
-
-impl From<NoMemory> for DecompileFault {
-    ghost use Rattle.decompiler.specs.declared.functions.DecompileFault.TheVariants.{NoMemory};
-
-    ghost from_gives = { λ _ e. e ≡ NoMemory };
-
-    fn from(_e: NoMemory) -> DecompileFault {
-        DecompileFault::NoMemory
-    }
-}
 
 /// An item for each of these names of a file, or the first of the names that is outside the fragment.
 pub fn decompile(alloc: Global, image: &Image, names: &List<Text>) -> Result<Proof, DecompileFault>

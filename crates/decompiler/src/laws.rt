@@ -5,7 +5,7 @@ ghost use Rattle.elf_image.specs.Fault.{IsReadable};
 ghost use Rattle.checker.specs.Accepts.{Accepts};
 ghost use Rattle.proof_text.specs.Proofs.{AreProofs};
 ghost use Rattle.decompiler.specs.Listing.{AreItemsFor, proofs_of};
-ghost use Rattle.decompiler.specs.declared.functions.Proof.{Proof as TheProof};
+ghost use Rattle.path_walk.specs.declared.proof.Proof.{Proof as TheProof};
 
 /// Items for names of a file that can be read are accepted for it, and have a text.
 pub fn law_of_items()

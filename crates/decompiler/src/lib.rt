@@ -7,8 +7,8 @@ mod laws;
 mod name;
 mod text;
 
-pub use functions::{DecompileFault, Proof, decompile};
+pub use functions::decompile;
 pub use laws::law_of_items;
 pub use name::address_of;
-pub use path_walk::Item;
+pub use path_walk::{DecompileFault, Item, Proof};
 pub use text::{entry_of, proof_bytes};

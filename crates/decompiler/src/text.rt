@@ -13,8 +13,7 @@ ghost use Rattle.group_text.specs.Spelling.{group_tokens};
 ghost use Rattle.group_text.specs.Version.{version_1};
 ghost use Rattle.decompiler.specs.Listing.{proof_of, proofs_of};
 
-use crate::functions::Proof;
-use path_walk::Item;
+use path_walk::{Item, Proof};
 use proof_text::{Line, law_of_proof_parts, put_end, put_group, put_head, put_line};
 use rv_words::{Bytes, List, NoMemory};
 use std::alloc::Global;

@@ -8,7 +8,7 @@ use Rattle.mc_shelf.specs.declared.sink.Stop.{Stop}
 use Rattle.tailrec_lang.specs.Tree.{group_tree}
 use Rattle.proof_text.specs.Proofs.{AreProofs, text_of_proofs}
 use Rattle.path_walk.specs.declared.item.Item.{Item}
-use Rattle.decompiler.specs.declared.functions.Proof.{Proof}
+use Rattle.path_walk.specs.declared.proof.Proof.{Proof}
 use Rattle.decompiler.specs.Listing.{AreItemsFor, proofs_of}
 use Rattle.mcdec.specs.declared.answer.Answer.{Answer}
 use Rattle.mcdec.specs.declared.answer.Answer.TheVariants as answer

@@ -8,7 +8,7 @@ use Rattle.tailrec_lang.specs.Tree.{group_tree, listed_def}
 use Rattle.proof_text.specs.Proofs.{text_of_proofs}
 use Rattle.checker.specs.Headline.{entry_at}
 use Rattle.path_walk.specs.declared.item.Item.{Item}
-use Rattle.decompiler.specs.declared.functions.Proof.{Proof}
+use Rattle.path_walk.specs.declared.proof.Proof.{Proof}
 use Rattle.decompiler.specs.Listing.{AreItemsFor, proofs_of}
 use Rattle.decompiler.specs.Listing.{IsRefused}
 use Rattle.mcdec.specs.declared.answer.DecompileAnswer.{DecompileAnswer}

@@ -9,9 +9,11 @@ mod item;
 mod joining;
 mod laws;
 mod log;
+mod proof;
 mod subs;
 mod walk;
 mod walks;
 
 pub use item::{Item, item_of};
 pub use laws::law_of_texts;
+pub use proof::{DecompileFault, Proof};

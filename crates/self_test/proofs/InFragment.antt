@@ -20,8 +20,8 @@ use Rattle.decompiler.specs.Names.{Spells, StandsFor}
 use Rattle.decompiler.specs.Faults.{IsFirst, Missing, Doubled, InCode, InCycle, InLoop}
 use Rattle.decompiler.specs.Listing.{IsRefused}
 use Rattle.decompiler.specs.Refusals.{IsFaultOf}
-use Rattle.decompiler.specs.declared.functions.DecompileFault.{DecompileFault}
-use Rattle.decompiler.specs.declared.functions.DecompileFault.TheVariants.{Refused}
+use Rattle.path_walk.specs.declared.proof.DecompileFault.{DecompileFault}
+use Rattle.path_walk.specs.declared.proof.DecompileFault.TheVariants.{Refused}
 use Rattle.self_test.specs.Start.{file_of, function_name}
 
 -- ---- the name

@@ -10,8 +10,8 @@ use Rattle.flow_graph.specs.declared.outside.FlowFault.TheVariants.{Outside, NoM
 use Rattle.flow_graph.specs.declared.outside.Outside.{Outside as Fault}
 use Rattle.flow_graph.specs.declared.outside.Outside.TheVariants.{NoSuch, Ambiguous}
 use Rattle.loop_forest.specs.Forest.{IsForestFault}
-use Rattle.decompiler.specs.declared.functions.DecompileFault.{DecompileFault}
-use Rattle.decompiler.specs.declared.functions.DecompileFault.TheVariants as refused
+use Rattle.path_walk.specs.declared.proof.DecompileFault.{DecompileFault}
+use Rattle.path_walk.specs.declared.proof.DecompileFault.TheVariants as refused
 use Rattle.decompiler.specs.Faults.{IsFirst}
 
 -- why there is no function at e: a fault of the code that is reached from there, or of its graph

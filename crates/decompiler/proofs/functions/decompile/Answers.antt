@@ -1,7 +1,7 @@
 use Rattle.std.proofs.Common.{◌≡◌, ℕ, ◌<◌, List, sym, subst, length, get_or, take, ◌∙◌, ap, ◌+◌}
 use Rattle.std.specs.List.{AllZip}
 use Rattle.path_walk.specs.declared.item.Item.{Item}
-use Rattle.decompiler.specs.declared.functions.DecompileFault.{DecompileFault}
+use Rattle.path_walk.specs.declared.proof.DecompileFault.{DecompileFault}
 use Rattle.decompiler.specs.Listing.{IsItemFor}
 use Rattle.decompiler.specs.Refusals.{IsFaultOf}
 use Rattle.decompiler.specs.inner.Functions.{IsNoItem}
