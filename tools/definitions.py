@@ -22,10 +22,10 @@ BEGIN, END = '<!-- definitions.py: begin -->\n', '<!-- definitions.py: end -->\n
 
 # The contracts that are counted: a title, the file, the function, and its clauses (none: all). Without a file: definitions by name.
 CONTRACTS = [
-    ('`EvalGives` and `RunGives`: answers of `eval` and `run`', None, ('mcdec.specs.EvalAnswer.EvalGives', 'mcdec.specs.RunAnswer.RunGives'), ()),
-    ('`run_words`, all clauses', 'mcdec/src/commands.rt', 'run_words', ()),
-    ('`run_words`, `headline`', 'mcdec/src/commands.rt', 'run_words', ('headline',)),
-    ('`run_words`, `written`', 'mcdec/src/commands.rt', 'run_words', ('written',)),
+    ('`EvalGives` and `RunGives`: answers of `eval` and `run`', None, ('mcdec_commands.specs.EvalAnswer.EvalGives', 'mcdec_commands.specs.RunAnswer.RunGives'), ()),
+    ('`run_words`, all clauses', 'mcdec_commands/src/commands.rt', 'run_words', ()),
+    ('`run_words`, `headline`', 'mcdec_commands/src/commands.rt', 'run_words', ('headline',)),
+    ('`run_words`, `written`', 'mcdec_commands/src/commands.rt', 'run_words', ('written',)),
     ('`check_bytes`, all clauses', 'checker/src/check.rt', 'check_bytes', ()),
     ('`Thm::triple`, a theorem is valid', 'triple_kernel/src/thm.rt', 'triple', ('valid',)),
     ('`FunThm::def`, a closed definition', 'loop_rule/src/closing.rt', 'def', ('closed',)),

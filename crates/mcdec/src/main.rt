@@ -1,24 +1,8 @@
-//! A decompiler from RISC-V machine code into logic: the commands.
+//! A decompiler from RISC-V machine code into logic: the program.
 #![tactic(auto)]
 
-mod answer;
-mod check;
-mod command;
-mod commands;
-mod decompile;
-mod evaluate;
-mod memory;
-mod output;
-mod print;
-mod run;
-mod selftest;
-#[cfg(test)]
-mod tests;
-
-use crate::answer::Answer;
-use crate::commands::run_words;
-use crate::print::deliver;
 use mc_shelf::{DirShelf, OutSink};
+use mcdec_commands::{Answer, deliver, run_words};
 use std::process::ExitCode;
 use std::{env, io};
 

@@ -1,8 +1,0 @@
-use Rattle.std.proofs.Common.{sym, subst}
-use Rattle.std.specs.Prelude.{All}
-use Rattle.mcdec.specs.inner.Decompiling.{HasDef}
-use Rattle.mcdec.proofs.Decompiling.{each-has-def}
-use Rattle.mcdec.proofs.decompile.write_proof.Goals as goal
-
-pub list_all-requires : goal.list_all-requires
-list_all-requires g c = subst (λ items. All HasDef items) (sym c.as_slice-2.ensures) (each-has-def c.args.proof.now.items c.requires)

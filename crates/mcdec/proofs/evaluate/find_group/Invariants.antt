@@ -1,9 +1,0 @@
-use Rattle.std.proofs.Common.{length}
-use Rattle.mcdec.specs.inner.Search.{Searched}
-use Rattle.mcdec.proofs.evaluate.find_group.Given as goal
-
-abbrev pub invariant-loop-found : goal.invariant-loop-found
-invariant-loop-found l = Searched l.text l.name l.reader l.count l.found
-
-abbrev pub decreases-loop-found : goal.decreases-loop-found
-decreases-loop-found l = length l.reader.rest

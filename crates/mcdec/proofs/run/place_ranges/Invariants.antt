@@ -1,5 +1,0 @@
-use Rattle.mcdec.proofs.SetUp.{HaveRanges}
-use Rattle.mcdec.proofs.run.place_ranges.Given as goal
-
-abbrev pub invariant-loop-range : goal.invariant-loop-range
-invariant-loop-range l = HaveRanges l.ranges l.fn.state l.state l.range-index

@@ -1,5 +1,0 @@
-use Rattle.mcdec.proofs.SetUp.{HaveSet}
-use Rattle.mcdec.proofs.run.set_registers.Given as goal
-
-abbrev pub invariant-loop-register : goal.invariant-loop-register
-invariant-loop-register l = HaveSet l.values.values l.fn.state l.state l.register

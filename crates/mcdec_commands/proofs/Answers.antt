@@ -1,0 +1,142 @@
+-- What is answered is what the words and the files give, and nothing else.
+use Rattle.std.proofs.Common.{◌≡◌, ◌≢◌, ℕ, Bool, true, false, cond, ◌+◌, ◌-◌, ◌<◌, ◌≤◌, List, [], ◌∷◌, length, map, replicate, Option, Some, None, Result, Ok, Err, refl, sym, ap, subst, ◌∙◌, arith}
+use Rattle.std.specs.Prelude.{IfOk, IfSome, IsSomeAnd, bytes_eq}
+use Rattle.std.specs.List.{AllByRecursion}
+use Rattle.std.specs.Ordering.{nat_cmp}
+use Rattle.std.specs.FinMap.{FinMap, get}
+use Rattle.std.proofs.lemmas.List.{length-map, length-replicate}
+use Rattle.rv_words.specs.Bytes.{Bytes}
+use Rattle.rv_words.specs.declared.memory.NoMemory.{NoMemory}
+use Rattle.mc_shelf.specs.Shelf.{Contents, TellsName}
+use Rattle.rv_words.specs.declared.range.Range.{Range}
+use Rattle.tailrec_lang.specs.declared.group.Group.{Group}
+use Rattle.tailrec_lang.specs.Tree.{GroupTree, group_tree, def_tree, listed_def}
+use Rattle.tailrec_lang.specs.WellFormed.{IsWellFormed}
+use Rattle.tailrec_lang.specs.Eval.{Arguments, Outcome, Done, HasFewNeeds, eval}
+use Rattle.tailrec_lang.specs.Registers.{AreRegistersFrom}
+use Rattle.group_text.specs.Limits.{IsGroup}
+use Rattle.proof_text.specs.Line.{ProofTree}
+use Rattle.proof_text.specs.Proofs.{AreProofs, groups_of}
+use Rattle.mcdec_commands.specs.declared.answer.EvalAnswer.{EvalAnswer}
+use Rattle.mcdec_commands.specs.declared.answer.EvalAnswer.TheVariants as answer
+use Rattle.mcdec_commands.specs.Command.{Eval, Run, Arg, Given, Words, value_of, givens, ranges}
+use Rattle.mcdec_commands.specs.inner.CommandReading.{Holds, HoldsArgs, value_in}
+use Rattle.mcdec_commands.specs.Memory.{no_bytes, placed}
+use Rattle.mcdec_commands.specs.EvalAnswer.{proof_limit, arguments_given, first_named, ranges_in, EvalGives}
+use Rattle.mcdec_commands.specs.inner.Search.{Finds, GroupGives}
+use Rattle.mcdec_commands.specs.Answer.{ReadsAreTold}
+use Rattle.mcdec_commands.specs.Held.{HoldsWith}
+
+-- ---- arguments
+
+value-same : (gs : List Given) (values : List (Option ℕ)) → Holds gs values → (n : ℕ) → n < 32 → value_in values n ≡ value_of gs n
+value-same gs values h n low = rw (h n low) refl
+
+values-same : (gs : List Given) (values : List (Option ℕ)) → Holds gs values → (least : ℕ) (rs : List ℕ) → AreRegistersFrom least rs → map (value_in values) rs ≡ map (value_of gs) rs
+values-same gs values h least [] are = refl
+values-same gs values h least (r ∷ rs) are = rw (value-same gs values h r (omega (arith, are.1))) (ap (λ (ws : List ℕ). value_of gs r ∷ ws) (values-same gs values h (r + 1) rs are.2))
+
+-- ---- groups
+
+-- the last definition's number
+pub last-def : (g : Group) → IsGroup (group_tree g) → (n : ℕ) → n ≡ length g.defs → (1 ≤ n) × (n ≤ 4096) × (n - 1 ≡ listed_def (group_tree g))
+last-def g is n len = let same = length-map g.defs def_tree in (omega (arith, len, same, is.some), omega (arith, len, same, is.few), omega (arith, len, same))
+
+pub last-there : (g : Group) → IsGroup (group_tree g) → (n : ℕ) → n ≡ length g.defs → n - 1 < length g.defs
+last-there g is n len = let same = length-map g.defs def_tree in omega (arith, len, same, is.some)
+
+pub words-there : (values : List (Option ℕ)) (rs ws : List ℕ) → ws ≡ map (value_in values) rs → length ws ≡ length rs
+words-there values rs ws e = ap length e ∙ length-map rs (value_in values)
+
+pub mems-there : (maps : List (FinMap nat_cmp ℕ)) (n : ℕ) (m : Bytes) → map get maps ≡ replicate n m → length maps ≡ n
+mems-there maps n m e = sym (length-map maps get) ∙ ap length e ∙ length-replicate {A = Bytes} n m
+
+module _ (g : GroupTree) (is : IsGroup g) (args : List Arg) (values : List (Option ℕ)) (memory : List Range) (h : HoldsArgs args values memory)
+    (x : Arguments) (words : x.words ≡ map (value_in values) g.regs) (mems : x.mems ≡ replicate g.mems (placed memory no_bytes)) where
+  arguments-same : x ≡ arguments_given args g
+  arguments-same =
+      let ms : x.mems ≡ replicate g.mems (placed (ranges args) no_bytes) = mems ∙ ap (λ (rs : List Range). replicate g.mems (placed rs no_bytes)) h.1 in
+      λ i. record { words = (words ∙ values-same (givens args) values h.0 1 g.regs is.registers) i; mems = ms i }
+
+  pub listed-outcome : (def : ℕ) → def ≡ listed_def g → (turns : ℕ) (o : Outcome) → o ≡ eval g def x turns → eval g (listed_def g) (arguments_given args g) turns ≡ o
+  listed-outcome def last turns o e = sym (e ∙ ap (λ (d : ℕ). eval g d x turns) last ∙ ap (λ (y : Arguments). eval g (listed_def g) y turns) arguments-same)
+
+  pub evaluated : (def : ℕ) → def ≡ listed_def g → (turns exit pc left : ℕ) (results : Arguments) → Done exit pc results left ≡ eval g def x turns
+      → (shown : List Range) → shown ≡ ranges_in results.mems memory
+      → GroupGives g turns args (answer.Done (record { count = turns - left; pc = pc; registers = g.regs; words = results.words; memory = shown }))
+  evaluated def last turns exit pc left results e shown is-shown =
+      let all : shown ≡ ranges_in results.mems (ranges args) = is-shown ∙ ap (ranges_in results.mems) h.1 in (
+        exit,
+        pc,
+        left,
+        results,
+        listed-outcome def last turns (Done exit pc results left) e,
+        λ i. record { count = turns - left; pc = pc; registers = g.regs; words = results.words; memory = all i },
+      )
+
+-- ---- texts
+
+module _ (text name : List ℕ) (turns : ℕ) (args : List Arg) (small : length text ≤ proof_limit) where
+  -- an answer that the group of the name gives
+  pub found-gives : (g : Group) → Finds text name (Ok g) → (result : Result EvalAnswer NoMemory) → IfOk result (λ a. GroupGives (group_tree g) turns args a) → IfOk result (λ a. EvalGives text name turns args a)
+  found-gives g f (Err e) h = tt
+  found-gives g f (Ok a) h = of-group a h
+    where
+      of-group : (a : EvalAnswer) → GroupGives (group_tree g) turns args a → EvalGives text name turns args a
+      of-group answer.OverLimit h = absurd h
+      of-group (answer.Unreadable line) h = absurd h
+      of-group (answer.IllFormed group def) h = absurd h
+      of-group answer.NoFunction h = absurd h
+      of-group (answer.SideFalse def ordinal) h = (small, group_tree g, f.0, h)
+      of-group answer.TurnsUsed h = (small, group_tree g, f.0, h)
+      of-group (answer.Done shown) (exit, pc, left, results, e, is) = (small, group_tree g, f.0, exit, pc, left, results, e, is)
+
+-- what holds of all groups of a list holds of the first of a name
+all-first : (F : GroupTree → Type 0) (name : List ℕ) (gs : List GroupTree) (g : GroupTree) → first_named name gs ≡ Some g → AllByRecursion F gs → F g
+all-first F name [] g e h = absurd cc
+all-first F name (x ∷ gs) g e h = here (bytes_eq x.name name) e (λ k. all-first F name gs g k h.1)
+  where
+    here : (b : Bool) → cond b (Some x) (first_named name gs) ≡ Some g → (first_named name gs ≡ Some g → F g) → F g
+    here true e behind = let same : x ≡ g = cc in subst F same h.0
+    here false e behind = behind e
+
+-- groups of proofs that have a text have one too
+groups-fit : (ps : List ProofTree) → AreProofs ps → AllByRecursion IsGroup (groups_of ps)
+groups-fit [] h = tt
+groups-fit (p ∷ ps) h = (h.0.group, groups-fit ps h.1)
+
+pub found-fits : (text name : List ℕ) (g : Group) → Finds text name (Ok g) → IsGroup (group_tree g) × IsWellFormed (group_tree g) × HasFewNeeds (group_tree g)
+found-fits text name g f =
+    let n = f.0 in (
+      all-first IsGroup name (groups_of n.proofs) (group_tree g) n.first (groups-fit n.proofs n.spelled.fit),
+      all-first IsWellFormed name (groups_of n.proofs) (group_tree g) n.first n.well_formed,
+      f.1,
+    )
+
+-- ---- files
+
+-- what is so of the file that a name holds is so of it as far as it is told
+pub held-with : (told : Option Contents) (name file : List ℕ) (P : List ℕ → Type 0) → IfSome told (λ files. files name ≡ Some file) → P file → HoldsWith told name P
+held-with None name file P h is = tt
+held-with (Some files) name file P h is = (file, h, is)
+
+-- a name of which it is told that it holds such a file
+pub held-such : (told : Option Contents) (name : List ℕ) (P : List ℕ → Type 0) → IfSome told (λ files. IsSomeAnd (files name) P) → HoldsWith told name P
+held-such None name P h = tt
+held-such (Some files) name P h = at (files name) refl h
+  where
+    at : (held : Option (List ℕ)) → files name ≡ held → IsSomeAnd held P → (file : List ℕ) × (files name ≡ Some file) × P file
+    at None e k = absurd k
+    at (Some file) e k = (file, e, k)
+
+-- a command that reads a file
+pub one-file : (name : List ℕ) → name ∷ [] ≢ []
+one-file name e = cc
+
+-- the file that `eval` reads
+pub proof-told : (told : Option Contents) (ws : List (List ℕ)) → ReadsAreTold told ws → (proof name : List ℕ) (turns : ℕ) (args : List Arg) → Words ws (Eval proof name turns args) → TellsName told proof
+proof-told told ws h proof name turns args w = h (Eval proof name turns args) w 0 [] (omega arith)
+
+-- the file that `run` reads
+pub elf-told : (told : Option Contents) (ws : List (List ℕ)) → ReadsAreTold told ws → (elf start : List ℕ) (until steps : ℕ) (args : List Arg) → Words ws (Run elf start until steps args) → TellsName told elf
+elf-told told ws h elf start until steps args w = h (Run elf start until steps args) w 0 [] (omega arith)

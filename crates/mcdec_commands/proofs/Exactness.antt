@@ -1,0 +1,719 @@
+-- The words and the files give one answer at most.
+use Rattle.std.proofs.Common.{◌≡◌, ℕ, zero, suc, codes, ◌-◌, ◌<◌, ◌≤◌, List, [], ◌∷◌, ◌++◌, length, map, slice_get, Option, Some, None, refl, sym, ap, subst, ◌∙◌, ◌⊎◌, inl, inr, Ok, Err, arith}
+use Rattle.std.specs.Prelude.{IfSome}
+use Rattle.std.specs.Fmt.{decimal}
+use Rattle.std.specs.List.{AllByRecursion, AllZip}
+use Rattle.mc_shelf.specs.Shelf.{Contents}
+use Rattle.mc_text.specs.Fault.{InGrammar, IsBadAt}
+use Rattle.mc_text.specs.Number.{hex}
+use Rattle.mc_text.proofs.OneSpelling.{decimal-once, hex-once}
+use Rattle.tailrec_lang.specs.Tree.{DefTree, GroupTree, listed_def}
+use Rattle.tailrec_lang.specs.WellFormed.{IsWellFormed, IsFirstIllFormed}
+use Rattle.tailrec_lang.specs.Eval.{Done, SideFalse, Turns, NoOutcome, Outcome, eval}
+use Rattle.proof_text.specs.Line.{ProofTree}
+use Rattle.proof_text.specs.Proofs.{bare, groups_of, texts_of_proofs}
+use Rattle.proof_text.specs.FirstProofs.{AreRead}
+use Rattle.mcdec_commands.specs.declared.answer.Answer.{Answer}
+use Rattle.mcdec_commands.specs.declared.answer.Answer.TheVariants as answer
+use Rattle.mcdec_commands.specs.declared.answer.EvalAnswer.{EvalAnswer}
+use Rattle.mcdec_commands.specs.declared.answer.EvalAnswer.TheVariants as ev
+use Rattle.mcdec_commands.specs.declared.answer.RunAnswer.{RunAnswer}
+use Rattle.mcdec_commands.specs.declared.answer.RunAnswer.TheVariants as ra
+use Rattle.checker.specs.declared.verdict.Verdict.{Verdict}
+use Rattle.checker.specs.declared.verdict.Verdict.TheVariants as verdict
+use Rattle.checker.specs.Verdicts.{Says}
+use Rattle.checker.proofs.OneVerdict.{verdict-once}
+use Rattle.checker.proofs.CheckLemmas.{accepted-headline}
+use Rattle.mcdec_commands.specs.declared.answer.CheckAnswer.{CheckAnswer}
+use Rattle.mcdec_commands.specs.declared.answer.CheckAnswer.TheVariants as ca
+use Rattle.mcdec_commands.specs.CheckAnswer.{CheckGives, AreRightFiles}
+use Rattle.mcdec_commands.specs.Listed.{without_proofs}
+use Rattle.flow_graph.specs.declared.outside.Outside.{Outside}
+use Rattle.path_walk.specs.declared.item.Item.{Item}
+use Rattle.decompiler.specs.Listing.{IsItemFor}
+use Rattle.decompiler.specs.Listing.{IsRefused}
+use Rattle.mcdec_commands.specs.declared.answer.DecompileAnswer.{DecompileAnswer}
+use Rattle.mcdec_commands.specs.declared.answer.DecompileAnswer.TheVariants as de
+use Rattle.mcdec_commands.specs.DecompileAnswer.{DecompileGives, IsToldOnce, all_listed}
+use Rattle.mcdec_commands.specs.declared.answer.SelfTestAnswer.{SelfTestAnswer}
+use Rattle.mcdec_commands.specs.Command.{Command, Eval, Run, Check, Decompile, SelfTest, Arg, Words, IsNoCommand, arg_word}
+use Rattle.elf_image.specs.declared.fault.ElfFault.{ElfFault}
+use Rattle.elf_image.specs.Fault.{IsReadable, fault_of}
+use Rattle.elf_image.specs.declared.symbol.NameFault.{NameFault}
+use Rattle.rv_machine.specs.State.{State}
+use Rattle.rv_machine.specs.Run.{EndsIn}
+use Rattle.rv_machine.specs.declared.running.RunEnd.{RunEnd}
+use Rattle.rv_machine.specs.declared.running.RunEnd.TheVariants as end
+use Rattle.rv_machine.proofs.RunLemmas.{ends-once}
+use Rattle.decompiler.specs.Names.{StandsFor}
+use Rattle.mcdec_commands.specs.RunAnswer.{elf_limit, IsLoaded, state_given, shown_after, RunGives}
+use Rattle.mcdec_commands.specs.EvalAnswer.{AreWellFormed, IsNamed, first_named, proof_limit, arguments_given, shown_of, EvalGives}
+use Rattle.mcdec_commands.specs.inner.Search.{GroupGives}
+use Rattle.mcdec_commands.specs.Answer.{Gives, IsDetermined}
+use Rattle.mcdec_commands.specs.Printed.{IsPrinted, IsDelivered, status}
+use Rattle.mcdec_commands.proofs.ArgWords.{args-unique}
+use Rattle.mcdec_commands.proofs.Words.{other-name}
+use Rattle.mc_text.proofs.FaultOnce.{bad-once}
+use Rattle.proof_text.proofs.Fronts.{fronts, text-front}
+use Rattle.proof_text.proofs.ProofTexts.{proofs-once}
+use Rattle.mcdec_commands.proofs.Groups.{groups-front, groups-more}
+use Rattle.mcdec_commands.proofs.Listed.{groups-fit, groups-left}
+use Rattle.mcdec_commands.proofs.OneListing.{all-listed-once, err_is, none-refused, ok_err, ok_is, refused-once, stands-once}
+use Rattle.std.proofs.lemmas.List.{length-map}
+
+-- ---- words
+
+pub words-unique : (ws : List (List ℕ)) (c d : Command) → Words ws c → Words ws d → c ≡ d
+words-unique ws (Eval proof name turns args) (Eval proof' name' turns' args') a b =
+    let e = sym a.1 ∙ b.1 in
+    let p : proof ≡ proof' = cc in
+    let n : name ≡ name' = cc in
+    let d : decimal turns ≡ decimal turns' = cc in
+    let m : map arg_word args ≡ map arg_word args' = cc in
+    let t = decimal-once turns turns' a.0.2 b.0.2 d in
+    let g : args ≡ args' = args-unique args args' a.0.3 b.0.3 m in
+    λ i. Eval (p i) (n i) (t i) (g i)
+words-unique ws (Run elf start until steps args) (Run elf' start' until' steps' args') a b =
+    let e = sym a.1 ∙ b.1 in
+    let f : elf ≡ elf' = cc in
+    let s : start ≡ start' = cc in
+    let x : hex until ≡ hex until' = cc in
+    let d : decimal steps ≡ decimal steps' = cc in
+    let m : map arg_word args ≡ map arg_word args' = cc in
+    let u = hex-once until until' a.0.2 b.0.2 x in
+    let k = decimal-once steps steps' a.0.3 b.0.3 d in
+    let g : args ≡ args' = args-unique args args' a.0.4 b.0.4 m in
+    λ i. Run (f i) (s i) (u i) (k i) (g i)
+words-unique ws (Eval proof name turns args) (Run elf start until steps args') a b =
+    let e = sym a.1 ∙ b.1 in
+    let n : codes "eval" ≡ codes "run" = cc in
+    absurd (other-name (codes "eval") (codes "run") refl n)
+words-unique ws (Check elf proof) (Check elf' proof') a b =
+    let e = sym a.1 ∙ b.1 in
+    let f : elf ≡ elf' = cc in
+    let p : proof ≡ proof' = cc in
+    λ i. Check (f i) (p i)
+words-unique ws (Check elf proof) (Eval proof' name turns args) a b =
+    let e = sym a.1 ∙ b.1 in
+    let n : codes "check" ≡ codes "eval" = cc in
+    absurd (other-name (codes "check") (codes "eval") refl n)
+words-unique ws (Check elf proof) (Run elf' start until steps args) a b =
+    let e = sym a.1 ∙ b.1 in
+    let n : codes "check" ≡ codes "run" = cc in
+    absurd (other-name (codes "check") (codes "run") refl n)
+words-unique ws (Eval proof name turns args) (Check elf proof') a b =
+    let e = sym a.1 ∙ b.1 in
+    let n : codes "eval" ≡ codes "check" = cc in
+    absurd (other-name (codes "eval") (codes "check") refl n)
+words-unique ws (Run elf start until steps args) (Check elf' proof) a b =
+    let e = sym a.1 ∙ b.1 in
+    let n : codes "run" ≡ codes "check" = cc in
+    absurd (other-name (codes "run") (codes "check") refl n)
+words-unique ws (Run elf start until steps args) (Eval proof name turns args') a b =
+    let e = sym a.1 ∙ b.1 in
+    let n : codes "run" ≡ codes "eval" = cc in
+    absurd (other-name (codes "run") (codes "eval") refl n)
+words-unique ws (Decompile elf out names) (Decompile elf' out' names') a b =
+    let e = sym a.1 ∙ b.1 in
+    let f : elf ≡ elf' = cc in
+    let o : out ≡ out' = cc in
+    let n : names ≡ names' = cc in
+    λ i. Decompile (f i) (o i) (n i)
+words-unique ws (Decompile elf out names) (Eval proof name turns args) a b =
+    let e = sym a.1 ∙ b.1 in
+    let n : codes "decompile" ≡ codes "eval" = cc in
+    absurd (other-name (codes "decompile") (codes "eval") refl n)
+words-unique ws (Decompile elf out names) (Run elf' start until steps args) a b =
+    let e = sym a.1 ∙ b.1 in
+    let n : codes "decompile" ≡ codes "run" = cc in
+    absurd (other-name (codes "decompile") (codes "run") refl n)
+words-unique ws (Decompile elf out names) (Check elf' proof) a b =
+    let e = sym a.1 ∙ b.1 in
+    let n : codes "decompile" ≡ codes "check" = cc in
+    absurd (other-name (codes "decompile") (codes "check") refl n)
+words-unique ws (Eval proof name turns args) (Decompile elf out names) a b =
+    let e = sym a.1 ∙ b.1 in
+    let n : codes "eval" ≡ codes "decompile" = cc in
+    absurd (other-name (codes "eval") (codes "decompile") refl n)
+words-unique ws (Run elf' start until steps args) (Decompile elf out names) a b =
+    let e = sym a.1 ∙ b.1 in
+    let n : codes "run" ≡ codes "decompile" = cc in
+    absurd (other-name (codes "run") (codes "decompile") refl n)
+words-unique ws (Check elf' proof) (Decompile elf out names) a b =
+    let e = sym a.1 ∙ b.1 in
+    let n : codes "check" ≡ codes "decompile" = cc in
+    absurd (other-name (codes "check") (codes "decompile") refl n)
+words-unique ws (SelfTest number size) (SelfTest number' size') a b =
+    let e = sym a.1 ∙ b.1 in
+    let x : decimal number ≡ decimal number' = cc in
+    let y : decimal size ≡ decimal size' = cc in
+    let n = decimal-once number number' a.0.0 b.0.0 x in
+    let s = decimal-once size size' (omega (arith, a.0.2)) (omega (arith, b.0.2)) y in
+    λ i. SelfTest (n i) (s i)
+words-unique ws (SelfTest number size) (Eval proof name turns args) a b =
+    let e = sym a.1 ∙ b.1 in
+    let n : codes "selftest" ≡ codes "eval" = cc in
+    absurd (other-name (codes "selftest") (codes "eval") refl n)
+words-unique ws (Eval proof name turns args) (SelfTest number size) a b =
+    let e = sym a.1 ∙ b.1 in
+    let n : codes "eval" ≡ codes "selftest" = cc in
+    absurd (other-name (codes "eval") (codes "selftest") refl n)
+words-unique ws (SelfTest number size) (Run elf start until steps args) a b =
+    let e = sym a.1 ∙ b.1 in
+    let n : codes "selftest" ≡ codes "run" = cc in
+    absurd (other-name (codes "selftest") (codes "run") refl n)
+words-unique ws (Run elf start until steps args) (SelfTest number size) a b =
+    let e = sym a.1 ∙ b.1 in
+    let n : codes "run" ≡ codes "selftest" = cc in
+    absurd (other-name (codes "run") (codes "selftest") refl n)
+words-unique ws (SelfTest number size) (Check elf proof) a b =
+    let e = sym a.1 ∙ b.1 in
+    let n : codes "selftest" ≡ codes "check" = cc in
+    absurd (other-name (codes "selftest") (codes "check") refl n)
+words-unique ws (Check elf proof) (SelfTest number size) a b =
+    let e = sym a.1 ∙ b.1 in
+    let n : codes "check" ≡ codes "selftest" = cc in
+    absurd (other-name (codes "check") (codes "selftest") refl n)
+words-unique ws (SelfTest number size) (Decompile elf out names) a b =
+    let e = sym a.1 ∙ b.1 in
+    let n : codes "selftest" ≡ codes "decompile" = cc in
+    absurd (other-name (codes "selftest") (codes "decompile") refl n)
+words-unique ws (Decompile elf out names) (SelfTest number size) a b =
+    let e = sym a.1 ∙ b.1 in
+    let n : codes "decompile" ≡ codes "selftest" = cc in
+    absurd (other-name (codes "decompile") (codes "selftest") refl n)
+
+-- ---- groups
+
+abbrev answer_for : GroupTree → ℕ → List Arg → Outcome → EvalAnswer
+answer_for g turns args (Done exit pc results left) = ev.Done (shown_of g args (turns - left) pc results)
+answer_for g turns args Turns = ev.TurnsUsed
+answer_for g turns args (SideFalse def ordinal) = ev.SideFalse def ordinal
+answer_for g turns args NoOutcome = ev.NoFunction
+
+group-case : (g : GroupTree) (turns : ℕ) (args : List Arg) (a : EvalAnswer) → GroupGives g turns args a → a ≡ answer_for g turns args (eval g (listed_def g) (arguments_given args g) turns)
+group-case g turns args ev.OverLimit h = absurd h
+group-case g turns args (ev.Unreadable line) h = absurd h
+group-case g turns args (ev.IllFormed group def) h = absurd h
+group-case g turns args ev.NoFunction h = absurd h
+group-case g turns args (ev.SideFalse def ordinal) h = rw h refl
+group-case g turns args ev.TurnsUsed h = rw h refl
+group-case g turns args (ev.Done shown) h = rw h.4 (ap ev.Done h.5)
+
+group-unique : (g : GroupTree) (turns : ℕ) (args : List Arg) (a b : EvalAnswer) → GroupGives g turns args a → GroupGives g turns args b → a ≡ b
+group-unique g turns args a b h k = group-case g turns args a h ∙ sym (group-case g turns args b k)
+
+-- ---- names
+
+-- what an answer says of the first group of a name, if there is one
+abbrev Named : ℕ → List Arg → Option GroupTree → EvalAnswer → Type 0
+Named turns args None a = a ≡ ev.NoFunction
+Named turns args (Some g) a = GroupGives g turns args a
+
+named-unique : (turns : ℕ) (args : List Arg) (found : Option GroupTree) (a b : EvalAnswer) → Named turns args found a → Named turns args found b → a ≡ b
+named-unique turns args None a b h k = h ∙ sym k
+named-unique turns args (Some g) a b h k = group-unique g turns args a b h k
+
+-- ---- texts
+
+-- what an answer says of a text: a bad line, a definition that isn't well-formed, or its groups
+abbrev BadText : List ℕ → EvalAnswer → Type 0
+BadText p a = (n : ℕ) × IsBadAt texts_of_proofs p n × ((ps : List ProofTree) → AreRead p ps → AreWellFormed (groups_of ps)) × (a ≡ ev.Unreadable n)
+
+abbrev BadDef : List ℕ → EvalAnswer → Type 0
+BadDef p a = (ps : List ProofTree) × (g : GroupTree) × (def : ℕ) × AreRead p (ps ++ bare g ∷ []) × AreWellFormed (groups_of ps) × IsFirstIllFormed g def × (a ≡ ev.IllFormed (length ps) def)
+
+abbrev GoodText : List ℕ → List ℕ → ℕ → List Arg → EvalAnswer → Type 0
+GoodText p name turns args a = (found : Option GroupTree) × IsNamed p name found × Named turns args found a
+
+abbrev TextCase : List ℕ → List ℕ → ℕ → List Arg → EvalAnswer → Type 0
+TextCase p name turns args a = BadText p a ⊎ (BadDef p a ⊎ GoodText p name turns args a)
+
+-- a group that isn't well-formed isn't among those that are
+last-of : (F : GroupTree → Type 0) (gs : List GroupTree) (g : GroupTree) → AllByRecursion F (gs ++ g ∷ []) → F g
+last-of F [] g h = h.0
+last-of F (x ∷ gs) g h = last-of F gs g h.1
+
+def-there : (ds : List DefTree) (n : ℕ) → n < length ds → (d : DefTree) × (slice_get ds n ≡ Some d)
+def-there [] n lt = absurd (omega arith)
+def-there (d ∷ ds) zero lt = (d, refl)
+def-there (d ∷ ds) (suc n) lt = def-there ds n (omega arith)
+
+ill : (g : GroupTree) (def : ℕ) → IsFirstIllFormed g def → IsWellFormed g → ⊥
+ill g def first well = let d = def-there g.defs def first.there in first.here d.0 d.1 (well def d.0 d.1)
+
+not-earlier : (g : GroupTree) (c d : ℕ) → IsFirstIllFormed g c → IsFirstIllFormed g d → c < d → ⊥
+not-earlier g c d h k lt = let x = def-there g.defs c h.there in h.here x.0 x.1 (k.before c x.0 lt x.1)
+
+first-def : (g : GroupTree) (c d : ℕ) → IsFirstIllFormed g c → IsFirstIllFormed g d → c ≡ d
+first-def g c d h k = omega (arith, not-earlier g c d h k, not-earlier g d c k h)
+
+-- a list of groups all of which are well-formed doesn't begin with one that ends otherwise
+not-front : (gs : List GroupTree) (g : GroupTree) (def : ℕ) (more hs : List GroupTree) → IsFirstIllFormed g def → hs ≡ (gs ++ g ∷ []) ++ more → AreWellFormed hs → ⊥
+not-front gs g def more hs first e well = ill g def first (last-of IsWellFormed gs g (front IsWellFormed (gs ++ g ∷ []) more (subst AreWellFormed e well)))
+  where
+    front : (F : GroupTree → Type 0) (xs ys : List GroupTree) → AllByRecursion F (xs ++ ys) → AllByRecursion F xs
+    front F [] ys h = tt
+    front F (x ∷ xs) ys h = (h.0, front F xs ys h.1)
+
+-- two lists one of which begins with the other, each with one that isn't well-formed behind others that are
+same-last : (gs hs more : List GroupTree) (g h : GroupTree) → hs ++ h ∷ [] ≡ (gs ++ g ∷ []) ++ more → (c : ℕ) → IsFirstIllFormed g c → AreWellFormed hs → (length gs ≡ length hs) × (g ≡ h)
+same-last [] [] [] g h e c first well = (refl, cc)
+same-last [] [] (m ∷ more) g h e c first well = absurd cc
+same-last [] (x ∷ hs) more g h e c first well = let same : x ≡ g = cc in absurd (ill g c first (subst IsWellFormed same well.0))
+same-last (y ∷ gs) [] more g h e c first well = absurd (too-long gs (cc))
+  where
+    too-long : (gs : List GroupTree) → [] ≡ (gs ++ g ∷ []) ++ more → ⊥
+    too-long [] e = cc
+    too-long (z ∷ gs) e = cc
+same-last (y ∷ gs) (x ∷ hs) more g h e c first well =
+    let rest : hs ++ h ∷ [] ≡ (gs ++ g ∷ []) ++ more = cc in
+    let r = same-last gs hs more g h rest c first well.1 in
+    (omega (arith, r.0), r.1)
+
+bad-texts : (p : List ℕ) (a b : EvalAnswer) → BadText p a → BadText p b → a ≡ b
+bad-texts p a b h k = h.3 ∙ ap (λ (n : ℕ). ev.Unreadable n) (bad-once texts_of_proofs p h.0 k.0 h.1 k.1) ∙ sym k.3
+
+-- the groups of proofs that begin alike
+begin-alike : (ps qs : List ProofTree) (g h : GroupTree) (more : List GroupTree) → groups_of (ps ++ bare g ∷ []) ≡ groups_of (qs ++ bare h ∷ []) ++ more → groups_of ps ++ g ∷ [] ≡ (groups_of qs ++ h ∷ []) ++ more
+begin-alike ps qs g h more e = sym (groups-more ps (bare g)) ∙ e ∙ ap (λ (gs : List GroupTree). gs ++ more) (groups-more qs (bare h))
+
+as-many : (ps : List ProofTree) → length (groups_of ps) ≡ length ps
+as-many ps = length-map ps (λ (p : ProofTree). p.group)
+
+bad-defs : (p : List ℕ) (a b : EvalAnswer) → BadDef p a → BadDef p b → a ≡ b
+bad-defs p a b (ps, g, c, read, well, first, is) (qs, h, d, read', well', first', is') =
+    elim (fronts p (ps ++ bare g ∷ []) (qs ++ bare h ∷ []) read read') [
+      | inl m ↦
+          let f = groups-front (ps ++ bare g ∷ []) (qs ++ bare h ∷ []) m in
+          let r = same-last (groups_of qs) (groups_of ps) f.0 h g (begin-alike ps qs g h f.0 f.1) d first' well in
+          same (sym r.0, sym r.1)
+      | inr m ↦
+          let f = groups-front (qs ++ bare h ∷ []) (ps ++ bare g ∷ []) m in
+          same (same-last (groups_of ps) (groups_of qs) f.0 g h (begin-alike qs ps h g f.0 f.1) c first well')
+    ]
+  where
+    same : (length (groups_of ps) ≡ length (groups_of qs)) × (g ≡ h) → a ≡ b
+    same r =
+        let count : length ps ≡ length qs = sym (as-many ps) ∙ r.0 ∙ as-many qs in
+        is ∙ (λ i. ev.IllFormed (count i) (first-def h c d (subst (λ (x : GroupTree). IsFirstIllFormed x c) r.1 first) first' i)) ∙ sym is'
+
+bad-or-def : (p : List ℕ) (a b : EvalAnswer) → BadText p a → BadDef p b → ⊥
+bad-or-def p a b h (ps, g, c, read, well, first, is) =
+    ill g c first (last-of IsWellFormed (groups_of ps) g (subst AreWellFormed (groups-more ps (bare g)) (h.2 (ps ++ bare g ∷ []) read)))
+
+def-or-good : (p name : List ℕ) (turns : ℕ) (args : List Arg) (a b : EvalAnswer) → BadDef p a → GoodText p name turns args b → ⊥
+def-or-good p name turns args a b (ps, g, c, read, well, first, is) k =
+    let n = k.1 in
+    let f = groups-front n.proofs (ps ++ bare g ∷ []) (text-front p n.proofs (ps ++ bare g ∷ []) n.spelled.fit n.spelled.spelled read) in
+    not-front (groups_of ps) g c f.0 (groups_of n.proofs) first (f.1 ∙ ap (λ (gs : List GroupTree). gs ++ f.0) (groups-more ps (bare g))) n.well_formed
+
+bad-or-good : (p name : List ℕ) (turns : ℕ) (args : List Arg) (a b : EvalAnswer) → BadText p a → GoodText p name turns args b → ⊥
+bad-or-good p name turns args a b h k = in-none p h.0 h.1 (k.1.proofs, k.1.spelled.fit, k.1.spelled.spelled)
+  where
+    in-none : (p : List ℕ) (n : ℕ) → IsBadAt texts_of_proofs p n → InGrammar texts_of_proofs p → ⊥
+    in-none p zero h g = absurd h
+    in-none p (suc n) h g = h.0 g
+
+text-unique : (p name : List ℕ) (turns : ℕ) (args : List Arg) (a b : EvalAnswer) → TextCase p name turns args a → TextCase p name turns args b → a ≡ b
+text-unique p name turns args a b (inl h) (inl k) = bad-texts p a b h k
+text-unique p name turns args a b (inl h) (inr (inl k)) = absurd (bad-or-def p a b h k)
+text-unique p name turns args a b (inl h) (inr (inr k)) = absurd (bad-or-good p name turns args a b h k)
+text-unique p name turns args a b (inr (inl h)) (inl k) = absurd (bad-or-def p b a k h)
+text-unique p name turns args a b (inr (inl h)) (inr (inl k)) = bad-defs p a b h k
+text-unique p name turns args a b (inr (inl h)) (inr (inr k)) = absurd (def-or-good p name turns args a b h k)
+text-unique p name turns args a b (inr (inr h)) (inl k) = absurd (bad-or-good p name turns args b a k h)
+text-unique p name turns args a b (inr (inr h)) (inr (inl k)) = absurd (def-or-good p name turns args b a k h)
+text-unique p name turns args a b (inr (inr h)) (inr (inr k)) =
+    let m = h.1 in
+    let n = k.1 in
+    let same = proofs-once m.proofs n.proofs m.spelled.fit n.spelled.fit (sym m.spelled.spelled ∙ n.spelled.spelled) in
+    let found : h.0 ≡ k.0 = sym m.first ∙ ap (λ (ps : List ProofTree). first_named name (groups_of ps)) same ∙ n.first in
+    named-unique turns args k.0 a b (subst (λ (o : Option GroupTree). Named turns args o a) found h.2) k.2
+
+-- ---- files
+
+abbrev FileCase : List ℕ → List ℕ → ℕ → List Arg → EvalAnswer → Type 0
+FileCase p name turns args a = ((proof_limit < length p) × (a ≡ ev.OverLimit)) ⊎ ((length p ≤ proof_limit) × TextCase p name turns args a)
+
+file-case : (p name : List ℕ) (turns : ℕ) (args : List Arg) (a : EvalAnswer) → EvalGives p name turns args a → FileCase p name turns args a
+file-case p name turns args ev.OverLimit h = inl (h, refl)
+file-case p name turns args (ev.Unreadable line) (small, bad, well) = inr (small, inl (line, bad, well, refl))
+file-case p name turns args (ev.IllFormed group def) (small, ps, g, read, well, same, first) =
+    inr (small, inr (inl (ps, g, def, read, well, first, ap (λ (n : ℕ). ev.IllFormed n def) same)))
+file-case p name turns args ev.NoFunction (small, named) = inr (small, inr (inr (None, named, refl)))
+file-case p name turns args (ev.SideFalse def ordinal) (small, g, named, e) = inr (small, inr (inr (Some g, named, e)))
+file-case p name turns args ev.TurnsUsed (small, g, named, e) = inr (small, inr (inr (Some g, named, e)))
+file-case p name turns args (ev.Done shown) (small, g, named, exit, pc, left, results, e, is) =
+    inr (small, inr (inr (Some g, named, (exit, pc, left, results, e, is))))
+
+over : (n limit : ℕ) → limit < n → n ≤ limit → ⊥
+over n limit a b = omega arith
+
+file-unique : (p name : List ℕ) (turns : ℕ) (args : List Arg) (a b : EvalAnswer) → FileCase p name turns args a → FileCase p name turns args b → a ≡ b
+file-unique p name turns args a b (inl h) (inl k) = h.1 ∙ sym k.1
+file-unique p name turns args a b (inl h) (inr k) = absurd (over (length p) proof_limit h.0 k.0)
+file-unique p name turns args a b (inr h) (inl k) = absurd (over (length p) proof_limit k.0 h.0)
+file-unique p name turns args a b (inr h) (inr k) = text-unique p name turns args a b h.1 k.1
+
+-- ---- runs
+
+abbrev answer_at : List Arg → State → RunEnd → RunAnswer
+answer_at args t (end.Met k) = ra.Met (shown_after args k t)
+answer_at args t (end.Stuck k why) = ra.Stuck k why
+answer_at args t end.Steps = ra.StepsUsed
+
+abbrev MachineCase : ℕ → ℕ → List Arg → State → RunAnswer → Type 0
+MachineCase until steps args s a = (t : State) × (e : RunEnd) × EndsIn until steps s t e × (a ≡ answer_at args t e)
+
+machine-unique : (until steps : ℕ) (args : List Arg) (s : State) (a b : RunAnswer) → MachineCase until steps args s a → MachineCase until steps args s b → a ≡ b
+machine-unique until steps args s a b h k =
+    let p = ends-once until steps s h.0 k.0 h.1 k.1 h.2 k.2 in h.3 ∙ (λ i. answer_at args (p.0 i) (p.1 i)) ∙ sym k.3
+
+abbrev StartCase : List ℕ → List ℕ → ℕ → ℕ → List Arg → RunAnswer → Type 0
+StartCase file start until steps args a =
+    ((f : NameFault) × StandsFor file start (Err f) × (a ≡ ra.StartRefused start f)) ⊎ ((n : ℕ) × StandsFor file start (Ok n) × MachineCase until steps args (state_given file args n) a)
+
+start-unique : (file start : List ℕ) (until steps : ℕ) (args : List Arg) (a b : RunAnswer) → StartCase file start until steps args a → StartCase file start until steps args b → a ≡ b
+start-unique file start until steps args a b (inl h) (inl k) = h.2 ∙ ap (ra.StartRefused start) (err_is h.0 k.0 (stands-once file start (Err h.0) (Err k.0) h.1 k.1)) ∙ sym k.2
+start-unique file start until steps args a b (inl h) (inr k) = absurd (ok_err k.0 h.0 (stands-once file start (Ok k.0) (Err h.0) k.1 h.1))
+start-unique file start until steps args a b (inr h) (inl k) = absurd (ok_err h.0 k.0 (stands-once file start (Ok h.0) (Err k.0) h.1 k.1))
+start-unique file start until steps args a b (inr h) (inr k) =
+    let n : h.0 ≡ k.0 = ok_is h.0 k.0 (stands-once file start (Ok h.0) (Ok k.0) h.1 k.1) in
+    machine-unique until steps args (state_given file args k.0) a b (subst (λ (x : ℕ). MachineCase until steps args (state_given file args x) a) n h.2) k.2
+
+abbrev ImageCase : List ℕ → List ℕ → ℕ → ℕ → List Arg → RunAnswer → Type 0
+ImageCase file start until steps args a = ((why : ElfFault) × (fault_of file ≡ Some why) × (a ≡ ra.Unreadable why)) ⊎ (IsReadable file × StartCase file start until steps args a)
+
+some_fault : (x y : ElfFault) → Some x ≡ Some y → x ≡ y
+some_fault x y e = cc
+
+none_fault : (x : ElfFault) → None ≡ Some x → ⊥
+none_fault x e = cc
+
+image-unique : (file start : List ℕ) (until steps : ℕ) (args : List Arg) (a b : RunAnswer) → ImageCase file start until steps args a → ImageCase file start until steps args b → a ≡ b
+image-unique file start until steps args a b (inl h) (inl k) = h.2 ∙ ap ra.Unreadable (some_fault h.0 k.0 (sym h.1 ∙ k.1)) ∙ sym k.2
+image-unique file start until steps args a b (inl h) (inr k) = absurd (none_fault h.0 (sym k.0 ∙ h.1))
+image-unique file start until steps args a b (inr h) (inl k) = absurd (none_fault k.0 (sym h.0 ∙ k.1))
+image-unique file start until steps args a b (inr h) (inr k) = start-unique file start until steps args a b h.1 k.1
+
+abbrev RunCase : List ℕ → List ℕ → ℕ → ℕ → List Arg → RunAnswer → Type 0
+RunCase file start until steps args a = ((elf_limit < length file) × (a ≡ ra.OverLimit)) ⊎ ((length file ≤ elf_limit) × ImageCase file start until steps args a)
+
+run-case : (file start : List ℕ) (until steps : ℕ) (args : List Arg) (a : RunAnswer) → RunGives file start until steps args a → RunCase file start until steps args a
+run-case file start until steps args ra.OverLimit h = inl (h, refl)
+run-case file start until steps args (ra.Unreadable why) h = inr (h.0, inl (why, h.1, refl))
+run-case file start until steps args (ra.StartRefused name why) (loaded, same, stands) = inr (loaded.0, inr (loaded.1, inl (why, stands, ap (λ (n : List ℕ). ra.StartRefused n why) same)))
+run-case file start until steps args (ra.Stuck k why) (loaded, t, r) = inr (loaded.0, inr (loaded.1, inr (r.at, r.stands, (t, end.Stuck k why, r.ends, refl))))
+run-case file start until steps args ra.StepsUsed (loaded, t, r) = inr (loaded.0, inr (loaded.1, inr (r.at, r.stands, (t, end.Steps, r.ends, refl))))
+run-case file start until steps args (ra.Met shown) (loaded, t, k, r, is) = inr (loaded.0, inr (loaded.1, inr (r.at, r.stands, (t, end.Met k, r.ends, ap ra.Met is))))
+
+run-unique : (file start : List ℕ) (until steps : ℕ) (args : List Arg) (a b : RunAnswer) → RunCase file start until steps args a → RunCase file start until steps args b → a ≡ b
+run-unique file start until steps args a b (inl h) (inl k) = h.1 ∙ sym k.1
+run-unique file start until steps args a b (inl h) (inr k) = absurd (over (length file) elf_limit h.0 k.0)
+run-unique file start until steps args a b (inr h) (inl k) = absurd (over (length file) elf_limit k.0 h.0)
+run-unique file start until steps args a b (inr h) (inr k) = image-unique file start until steps args a b h.1 k.1
+
+some_file : (x y : List ℕ) → Some x ≡ Some y → x ≡ y
+some_file x y e = cc
+
+-- ---- checks
+
+abbrev check_of : Verdict → CheckAnswer
+check_of (verdict.Accepted functions lines) = ca.Accepted functions lines
+check_of (verdict.BadElf why) = ca.UnreadableElf why
+check_of (verdict.BadText line) = ca.UnreadableText line
+check_of (verdict.BadDef group def) = ca.IllFormed group def
+check_of (verdict.BadLine line) = ca.WrongLine line
+check_of (verdict.NotProved group) = ca.NotProved group
+check_of verdict.NoMemory = ca.ProofOverLimit
+
+abbrev VerdictCase : List ℕ → List ℕ → CheckAnswer → Type 0
+VerdictCase file text a = (v : Verdict) × (v ≡ verdict.NoMemory → ⊥) × Says file text v × (a ≡ check_of v)
+
+abbrev JudgedCase : List ℕ → List ℕ → CheckAnswer → Type 0
+JudgedCase file text a = ((proof_limit < length text) × (a ≡ ca.ProofOverLimit)) ⊎ ((length text ≤ proof_limit) × VerdictCase file text a)
+
+judged-unique : (file text : List ℕ) (a b : CheckAnswer) → JudgedCase file text a → JudgedCase file text b → a ≡ b
+judged-unique file text a b (inl h) (inl k) = h.1 ∙ sym k.1
+judged-unique file text a b (inl h) (inr k) = absurd (over (length text) proof_limit h.0 k.0)
+judged-unique file text a b (inr h) (inl k) = absurd (over (length text) proof_limit k.0 h.0)
+judged-unique file text a b (inr (short, (v, some, says, is))) (inr (less, (w, other, said, this))) =
+    is ∙ ap check_of (verdict-once file text v w some other says said) ∙ sym this
+
+abbrev TextHeld : Contents → List ℕ → List ℕ → CheckAnswer → Type 0
+TextHeld files proof file a = (text : List ℕ) × (files proof ≡ Some text) × JudgedCase file text a
+
+abbrev LoadedCase : Contents → List ℕ → List ℕ → CheckAnswer → Type 0
+LoadedCase files proof file a = ((why : ElfFault) × (fault_of file ≡ Some why) × (a ≡ ca.UnreadableElf why)) ⊎ (IsReadable file × TextHeld files proof file a)
+
+loaded-unique : (files : Contents) (proof file : List ℕ) (a b : CheckAnswer) → LoadedCase files proof file a → LoadedCase files proof file b → a ≡ b
+loaded-unique files proof file a b (inl h) (inl k) = h.2 ∙ ap ca.UnreadableElf (some_fault h.0 k.0 (sym h.1 ∙ k.1)) ∙ sym k.2
+loaded-unique files proof file a b (inl h) (inr k) = absurd (none_fault h.0 (sym k.0 ∙ h.1))
+loaded-unique files proof file a b (inr h) (inl k) = absurd (none_fault k.0 (sym h.0 ∙ k.1))
+loaded-unique files proof file a b (inr (r, (text, held, h))) (inr (s, (other, holds, k))) =
+    let same : text ≡ other = some_file text other (sym held ∙ holds) in
+    judged-unique file other a b (subst (λ (t : List ℕ). JudgedCase file t a) same h) k
+
+abbrev CheckCase : Contents → List ℕ → List ℕ → CheckAnswer → Type 0
+CheckCase files proof file a = ((elf_limit < length file) × (a ≡ ca.ElfOverLimit)) ⊎ ((length file ≤ elf_limit) × LoadedCase files proof file a)
+
+judged-text : (files : Contents) (proof file : List ℕ) → IsLoaded file → (text : List ℕ) → files proof ≡ Some text → length text ≤ proof_limit → (v : Verdict) → (v ≡ verdict.NoMemory → ⊥) → Says file text v
+    → CheckCase files proof file (check_of v)
+judged-text files proof file loaded text held short v some says = inr (loaded.0, inr (loaded.1, (text, held, inr (short, (v, some, says, refl)))))
+
+check-case : (files : Contents) (proof file : List ℕ) (a : CheckAnswer) → CheckGives (Some files) proof file a → CheckCase files proof file a
+check-case files proof file ca.ElfOverLimit h = inl (h, refl)
+check-case files proof file (ca.UnreadableElf why) h = inr (h.0, inl (why, h.1, refl))
+check-case files proof file ca.ProofOverLimit (loaded, (text, held, long)) = inr (loaded.0, inr (loaded.1, (text, held, inl (long, refl))))
+check-case files proof file (ca.UnreadableText line) (loaded, (text, held, (short, bad))) = judged-text files proof file loaded text held short (verdict.BadText line) (λ e. cc) (loaded.1, bad)
+check-case files proof file (ca.IllFormed group def) (loaded, (text, held, (short, bad))) = judged-text files proof file loaded text held short (verdict.BadDef group def) (λ e. cc) (loaded.1, bad)
+check-case files proof file (ca.WrongLine line) (loaded, (text, held, (short, bad))) = judged-text files proof file loaded text held short (verdict.BadLine line) (λ e. cc) (loaded.1, bad)
+check-case files proof file (ca.NotProved group) (loaded, (text, held, (short, bad))) = judged-text files proof file loaded text held short (verdict.NotProved group) (λ e. cc) (loaded.1, bad)
+check-case files proof file (ca.Accepted functions lines) (loaded, (text, held, (short, good))) =
+    judged-text files proof file loaded text held short (verdict.Accepted functions lines) (λ e. cc) good
+
+check-unique : (files : Contents) (proof file : List ℕ) (a b : CheckAnswer) → CheckCase files proof file a → CheckCase files proof file b → a ≡ b
+check-unique files proof file a b (inl h) (inl k) = h.1 ∙ sym k.1
+check-unique files proof file a b (inl h) (inr k) = absurd (over (length file) elf_limit h.0 k.0)
+check-unique files proof file a b (inr h) (inl k) = absurd (over (length file) elf_limit k.0 h.0)
+check-unique files proof file a b (inr h) (inr k) = loaded-unique files proof file a b h.1 k.1
+
+-- ---- what is decompiled
+
+abbrev NamesCase : List ℕ → List (List ℕ) → DecompileAnswer → Type 0
+NamesCase file names a = ((number : ℕ) × (name : List ℕ) × (why : Outside) × (slice_get names number ≡ Some name) × IsRefused file names number why × (a ≡ de.Refused name why))
+    ⊎ ((items : List Item) × AllZip (IsItemFor file) names items × (a ≡ de.Decompiled (all_listed names items)))
+
+abbrev GoodFile : List ℕ → List (List ℕ) → DecompileAnswer → Type 0
+GoodFile file names a = ((why : ElfFault) × (fault_of file ≡ Some why) × (a ≡ de.Unreadable why)) ⊎ (IsReadable file × NamesCase file names a)
+
+abbrev DecompileCase : List ℕ → List (List ℕ) → DecompileAnswer → Type 0
+DecompileCase file names a = ((elf_limit < length file) × (a ≡ de.OverLimit)) ⊎ ((length file ≤ elf_limit) × GoodFile file names a)
+
+decompile-case : (file : List ℕ) (names : List (List ℕ)) (a : DecompileAnswer) → DecompileGives file names a → DecompileCase file names a
+decompile-case file names de.OverLimit h = inl (h, refl)
+decompile-case file names (de.Unreadable why) h = inr (h.0, inl (why, h.1, refl))
+decompile-case file names (de.Refused name why) (loaded, number, at, refused) = inr (loaded.0, inr (loaded.1, inl (number, name, why, at, refused, refl)))
+decompile-case file names (de.Decompiled listed) (loaded, proof, items, same) = inr (loaded.0, inr (loaded.1, inr (proof.items, items, ap de.Decompiled same)))
+
+-- the second of two answers is told once
+module _ (file : List ℕ) (names : List (List ℕ)) (a b : DecompileAnswer) (once : IsToldOnce b) where
+  names-unique : NamesCase file names a → NamesCase file names b → a ≡ b
+  names-unique (inl (n, name, why, at, h, is)) (inl (m, other, cause, there, k, this)) =
+      let same = refused-once file names n m why cause (subst IsToldOnce this once) h k in
+      let some : Some name ≡ Some other = sym at ∙ ap (λ i. slice_get names i) same.0 ∙ there in
+      let word : name ≡ other = cc in
+      is ∙ (λ i. de.Refused (word i) (same.1 i)) ∙ sym this
+  names-unique (inl (n, name, why, at, h, is)) (inr (items, k, this)) = absurd (none-refused file names items k n why h)
+  names-unique (inr (items, h, is)) (inl (m, other, cause, there, k, this)) = absurd (none-refused file names items h m cause k)
+  names-unique (inr (items, h, is)) (inr (others, k, this)) = is ∙ ap de.Decompiled (all-listed-once file names items others h k) ∙ sym this
+
+  good-unique : GoodFile file names a → GoodFile file names b → a ≡ b
+  good-unique (inl h) (inl k) = h.2 ∙ ap de.Unreadable (some_fault h.0 k.0 (sym h.1 ∙ k.1)) ∙ sym k.2
+  good-unique (inl h) (inr k) = absurd (none_fault h.0 (sym k.0 ∙ h.1))
+  good-unique (inr h) (inl k) = absurd (none_fault k.0 (sym h.0 ∙ k.1))
+  good-unique (inr h) (inr k) = names-unique h.1 k.1
+
+  decompile-unique : DecompileCase file names a → DecompileCase file names b → a ≡ b
+  decompile-unique (inl h) (inl k) = h.1 ∙ sym k.1
+  decompile-unique (inl h) (inr k) = absurd (over (length file) elf_limit h.0 k.0)
+  decompile-unique (inr h) (inl k) = absurd (over (length file) elf_limit k.0 h.0)
+  decompile-unique (inr h) (inr k) = good-unique h.1 k.1
+
+-- the answer of a command, where the names hold these files
+abbrev CommandGives : Contents → Command → Answer → Type 0
+CommandGives files (Eval proof name turns args) a = (x : EvalAnswer) × (a ≡ answer.Eval x) × ((p : List ℕ) × (files proof ≡ Some p) × EvalGives p name turns args x)
+CommandGives files (Run elf start until steps args) a = (x : RunAnswer) × (a ≡ answer.Run x) × ((p : List ℕ) × (files elf ≡ Some p) × RunGives p start until steps args x)
+CommandGives files (Check elf proof) a = (x : CheckAnswer) × (a ≡ answer.Check x) × ((p : List ℕ) × (files elf ≡ Some p) × CheckGives (Some files) proof p x)
+CommandGives files (Decompile elf out names) a = (x : DecompileAnswer) × (a ≡ answer.Decompile x) × ((p : List ℕ) × (files elf ≡ Some p) × DecompileCase p names x)
+CommandGives files (SelfTest number size) a = (x : SelfTestAnswer) × (a ≡ answer.SelfTest x)
+
+command-unique : (files : Contents) (c : Command) (a b : Answer) → IsDetermined b → CommandGives files c a → CommandGives files c b → a ≡ b
+command-unique files (Eval proof name turns args) a b d (x, ax, (p, held, h)) (y, by, (q, holds, k)) =
+    let same : p ≡ q = some_file p q (sym held ∙ holds) in
+    ax ∙ ap answer.Eval (file-unique q name turns args x y (file-case q name turns args x (subst (λ (r : List ℕ). EvalGives r name turns args x) same h)) (file-case q name turns args y k)) ∙ sym by
+command-unique files (Run elf start until steps gs) a b d (x, ax, (p, held, h)) (y, by, (q, holds, k)) =
+    let same : p ≡ q = some_file p q (sym held ∙ holds) in
+    ax ∙ ap answer.Run (run-unique q start until steps gs x y (run-case q start until steps gs x (subst (λ (r : List ℕ). RunGives r start until steps gs x) same h)) (run-case q start until steps gs y k)) ∙ sym by
+command-unique files (Check elf proof) a b d (x, ax, (p, held, h)) (y, by, (q, holds, k)) =
+    let same : p ≡ q = some_file p q (sym held ∙ holds) in
+    ax ∙ ap answer.Check (check-unique files proof q x y (check-case files proof q x (subst (λ (r : List ℕ). CheckGives (Some files) proof r x) same h)) (check-case files proof q y k)) ∙ sym by
+command-unique files (Decompile elf out names) a b d (x, ax, (p, held, h)) (y, by, (q, holds, k)) =
+    let same : p ≡ q = some_file p q (sym held ∙ holds) in
+    ax ∙ ap answer.Decompile (decompile-unique q names x y (subst IsDetermined by d) (subst (λ (r : List ℕ). DecompileCase r names x) same h) k) ∙ sym by
+command-unique files (SelfTest number size) a b d (x, ax) (y, by) = absurd (subst IsDetermined by d)
+
+-- ---- answers
+
+abbrev WordsCase : Contents → List (List ℕ) → Answer → Type 0
+WordsCase files ws a = (IsNoCommand ws × (a ≡ answer.NotACommand)) ⊎ ((c : Command) × Words ws c × CommandGives files c a)
+
+-- an answer that is no fault of the outside and no want of memory
+abbrev IsOfFiles : Answer → Type 0
+IsOfFiles answer.NotACommand = Unit {0}
+IsOfFiles answer.ReadFault = ⊥
+IsOfFiles answer.WriteFault = ⊥
+IsOfFiles answer.NoMemory = ⊥
+IsOfFiles (answer.Eval x) = Unit {0}
+IsOfFiles (answer.Run x) = Unit {0}
+IsOfFiles (answer.Check x) = Unit {0}
+IsOfFiles (answer.Decompile x) = Unit {0}
+IsOfFiles (answer.SelfTest x) = Unit {0}
+
+words-case : (files : Contents) (ws : List (List ℕ)) (rose wrote : Type 0) (a : Answer) → IsOfFiles a → Gives (Some files) ws rose wrote a → WordsCase files ws a
+words-case files ws rose wrote answer.NotACommand d h = inl (h, refl)
+words-case files ws rose wrote answer.ReadFault d h = absurd d
+words-case files ws rose wrote answer.WriteFault d h = absurd d
+words-case files ws rose wrote answer.NoMemory d h = absurd d
+words-case files ws rose wrote (answer.Eval x) d (proof, name, turns, args, w, h) = inr (Eval proof name turns args, w, (x, refl, h))
+words-case files ws rose wrote (answer.Run x) d (elf, start, until, steps, args, w, h) = inr (Run elf start until steps args, w, (x, refl, h))
+words-case files ws rose wrote (answer.Check x) d (elf, proof, w, h) = inr (Check elf proof, w, (x, refl, h))
+words-case files ws rose wrote (answer.Decompile x) d (elf, out, names, w, (file, held, h)) = inr (Decompile elf out names, w, (x, refl, (file, held, decompile-case file names x h)))
+words-case files ws rose wrote (answer.SelfTest x) d (number, size, w, h) = inr (SelfTest number size, w, (x, refl))
+
+determined : (a : Answer) → IsDetermined a → IsOfFiles a
+determined answer.NotACommand d = tt
+determined answer.ReadFault d = absurd d
+determined answer.WriteFault d = absurd d
+determined answer.NoMemory d = absurd d
+determined (answer.Eval x) d = tt
+determined (answer.Run x) d = tt
+determined (answer.Check x) d = tt
+determined (answer.Decompile x) d = tt
+determined (answer.SelfTest x) d = absurd d
+
+case-unique : (files : Contents) (ws : List (List ℕ)) (a b : Answer) → IsDetermined b → WordsCase files ws a → WordsCase files ws b → a ≡ b
+case-unique files ws a b d (inl h) (inl k) = h.1 ∙ sym k.1
+case-unique files ws a b d (inl h) (inr k) = absurd (h.0 k.0 k.1)
+case-unique files ws a b d (inr h) (inl k) = absurd (k.0 h.0 h.1)
+case-unique files ws a b d (inr h) (inr k) = command-unique files k.0 a b d (subst (λ (c : Command). CommandGives files c a) (words-unique ws h.0 k.0 h.1 k.1) h.2) k.2
+
+-- an answer that comes in one way is the only one that the words and the files give
+answer-unique : (files : Contents) (ws : List (List ℕ)) (rose wrote : Type 0) (a b : Answer) → IsOfFiles a → IsDetermined b → Gives (Some files) ws rose wrote a → Gives (Some files) ws rose wrote b → a ≡ b
+answer-unique files ws rose wrote a b u d h k = case-unique files ws a b d (words-case files ws rose wrote a u h) (words-case files ws rose wrote b (determined b d) k)
+
+-- ---- the top call
+
+abbrev pub ComesBut : Answer → ℕ → Option (List ℕ) → Option (List ℕ) → Type 0
+ComesBut a result old new = IsPrinted a result old new ⊎ (result ≡ 4) ⊎ (result ≡ 5) ⊎ (result ≡ 6)
+
+comes : (a b : Answer) (result : ℕ) (old new : Option (List ℕ)) → b ≡ a → IsDelivered b result old new → ComesBut a result old new
+comes a b result old new same (inl h) = inl (subst (λ (x : Answer). IsPrinted x result old new) same h)
+comes a b result old new same (inr (inl e, h)) = inr (inr (inl e))
+comes a b result old new same (inr (inr e, h)) = inr (inr (inr e))
+
+other-comes : (a b : Answer) (result : ℕ) (old new : Option (List ℕ)) → (result ≡ 4) ⊎ (result ≡ 5) ⊎ (result ≡ 6) → ComesBut a result old new
+other-comes a b result old new h = inr h
+
+delivered-exact : (files : Contents) (ws : List (List ℕ)) (rose wrote : Type 0) (b : Answer) (result : ℕ) (old new : Option (List ℕ)) → Gives (Some files) ws rose wrote b → IsDelivered b result old new
+    → (a : Answer) → IsDetermined a → Gives (Some files) ws rose wrote a → ComesBut a result old new
+delivered-exact files ws rose wrote answer.ReadFault result old new g (inl h) a d k = inr (inl h.0)
+delivered-exact files ws rose wrote answer.ReadFault result old new g (inr (inl e, h)) a d k = inr (inr (inl e))
+delivered-exact files ws rose wrote answer.ReadFault result old new g (inr (inr e, h)) a d k = inr (inr (inr e))
+delivered-exact files ws rose wrote answer.WriteFault result old new g (inl h) a d k = inr (inr (inl h.0))
+delivered-exact files ws rose wrote answer.WriteFault result old new g (inr (inl e, h)) a d k = inr (inr (inl e))
+delivered-exact files ws rose wrote answer.WriteFault result old new g (inr (inr e, h)) a d k = inr (inr (inr e))
+delivered-exact files ws rose wrote answer.NoMemory result old new g (inl h) a d k = inr (inr (inr h.0))
+delivered-exact files ws rose wrote answer.NoMemory result old new g (inr (inl e, h)) a d k = inr (inr (inl e))
+delivered-exact files ws rose wrote answer.NoMemory result old new g (inr (inr e, h)) a d k = inr (inr (inr e))
+delivered-exact files ws rose wrote answer.NotACommand result old new g h a d k = comes a answer.NotACommand result old new (answer-unique files ws rose wrote answer.NotACommand a tt d g k) h
+delivered-exact files ws rose wrote (answer.Eval x) result old new g h a d k = comes a (answer.Eval x) result old new (answer-unique files ws rose wrote (answer.Eval x) a tt d g k) h
+delivered-exact files ws rose wrote (answer.Run x) result old new g h a d k = comes a (answer.Run x) result old new (answer-unique files ws rose wrote (answer.Run x) a tt d g k) h
+delivered-exact files ws rose wrote (answer.Check x) result old new g h a d k = comes a (answer.Check x) result old new (answer-unique files ws rose wrote (answer.Check x) a tt d g k) h
+delivered-exact files ws rose wrote (answer.Decompile x) result old new g h a d k = comes a (answer.Decompile x) result old new (answer-unique files ws rose wrote (answer.Decompile x) a tt d g k) h
+delivered-exact files ws rose wrote (answer.SelfTest x) result old new g h a d k = comes a (answer.SelfTest x) result old new (answer-unique files ws rose wrote (answer.SelfTest x) a tt d g k) h
+
+pub exact-given : (told : Option Contents) (ws : List (List ℕ)) (rose wrote : Type 0) (b : Answer) (result : ℕ) (old new : Option (List ℕ))
+    → Gives told ws rose wrote b → IsDelivered b result old new
+    → IfSome told (λ files. (a : Answer) → IsDetermined a → Gives (Some files) ws rose wrote a → ComesBut a result old new)
+exact-given None ws rose wrote b result old new g h = tt
+exact-given (Some files) ws rose wrote b result old new g h = delivered-exact files ws rose wrote b result old new g h
+
+-- ---- what status 0 of `check` says
+
+given-status : (b : Answer) (result : ℕ) (old new : Option (List ℕ)) → IsDelivered b result old new → result ≡ 0 → status b ≡ 0
+given-status b result old new (inl h) none = sym h.0 ∙ none
+given-status b result old new (inr (inl five, h)) none = absurd (omega (arith, five, none))
+given-status b result old new (inr (inr six, h)) none = absurd (omega (arith, six, none))
+
+same-words : (elf proof elf' proof' : List ℕ) → Check elf proof ≡ Check elf' proof' → (elf ≡ elf') × (proof ≡ proof')
+same-words elf proof elf' proof' e = (cc, cc)
+
+no-eval-check : (p n : List ℕ) (t : ℕ) (args : List Arg) (elf proof : List ℕ) → Eval p n t args ≡ Check elf proof → ⊥
+no-eval-check p n t args elf proof e = cc
+
+no-run-check : (e s : List ℕ) (u k : ℕ) (args : List Arg) (elf proof : List ℕ) → Run e s u k args ≡ Check elf proof → ⊥
+no-run-check e s u k args elf proof same = cc
+
+no-decompile-check : (e o : List ℕ) (ns : List (List ℕ)) (elf proof : List ℕ) → Decompile e o ns ≡ Check elf proof → ⊥
+no-decompile-check e o ns elf proof same = cc
+
+no-test-check : (n s : ℕ) (elf proof : List ℕ) → SelfTest n s ≡ Check elf proof → ⊥
+no-test-check n s elf proof same = cc
+
+-- the words of `check` are those of no other command
+check-alone : (ws : List (List ℕ)) (c : Command) (elf proof : List ℕ) → Words ws c → ws ≡ codes "check" ∷ elf ∷ proof ∷ [] → c ≡ Check elf proof
+check-alone ws (Eval proof' name turns args) elf proof v w =
+    let e = sym v.1 ∙ w in
+    let n : codes "eval" ≡ codes "check" = cc in
+    absurd (other-name (codes "eval") (codes "check") refl n)
+check-alone ws (Run elf' start until steps args) elf proof v w =
+    let e = sym v.1 ∙ w in
+    let n : codes "run" ≡ codes "check" = cc in
+    absurd (other-name (codes "run") (codes "check") refl n)
+check-alone ws (Check elf' proof') elf proof v w =
+    let e = sym v.1 ∙ w in
+    let f : elf' ≡ elf = cc in
+    let p : proof' ≡ proof = cc in
+    λ i. Check (f i) (p i)
+check-alone ws (Decompile elf' out names) elf proof v w =
+    let e = sym v.1 ∙ w in
+    let n : codes "decompile" ≡ codes "check" = cc in
+    absurd (other-name (codes "decompile") (codes "check") refl n)
+check-alone ws (SelfTest number size) elf proof v w =
+    let e = sym v.1 ∙ w in
+    let n : codes "selftest" ≡ codes "check" = cc in
+    absurd (other-name (codes "selftest") (codes "check") refl n)
+
+accepted-files : (files : Contents) (elf proof file : List ℕ) (functions lines : ℕ) → files elf ≡ Some file → CheckGives (Some files) proof file (ca.Accepted functions lines) → AreRightFiles files elf proof
+accepted-files files elf proof file functions lines holds (loaded, (text, held, (short, good))) = record {
+  file = file;
+  text = text;
+  holds_file = holds;
+  holds_text = held;
+  groups = groups_of good.proofs;
+  fit = groups-fit good.proofs good.spelled.fit;
+  listed = ap without_proofs good.spelled.spelled ∙ groups-left good.proofs good.spelled.fit;
+  right = accepted-headline file text (verdict.Accepted functions lines) good tt good.proofs good.spelled;
+}
+
+status-zero : (files : Contents) (elf proof file : List ℕ) (a : CheckAnswer) → files elf ≡ Some file → CheckGives (Some files) proof file a → status (answer.Check a) ≡ 0 → AreRightFiles files elf proof
+status-zero files elf proof file ca.ElfOverLimit holds h e = absurd (omega (arith, e))
+status-zero files elf proof file (ca.UnreadableElf why) holds h e = absurd (omega (arith, e))
+status-zero files elf proof file ca.ProofOverLimit holds h e = absurd (omega (arith, e))
+status-zero files elf proof file (ca.UnreadableText line) holds h e = absurd (omega (arith, e))
+status-zero files elf proof file (ca.IllFormed group def) holds h e = absurd (omega (arith, e))
+status-zero files elf proof file (ca.WrongLine line) holds h e = absurd (omega (arith, e))
+status-zero files elf proof file (ca.NotProved group) holds h e = absurd (omega (arith, e))
+status-zero files elf proof file (ca.Accepted functions lines) holds h e = accepted-files files elf proof file functions lines holds h
+
+answered : (files : Contents) (ws : List (List ℕ)) (rose wrote : Type 0) (b : Answer) (elf proof : List ℕ) → Gives (Some files) ws rose wrote b → ws ≡ codes "check" ∷ elf ∷ proof ∷ [] → status b ≡ 0 → AreRightFiles files elf proof
+answered files ws rose wrote answer.NotACommand elf proof g w e = absurd (omega (arith, e))
+answered files ws rose wrote answer.ReadFault elf proof g w e = absurd (omega (arith, e))
+answered files ws rose wrote answer.WriteFault elf proof g w e = absurd (omega (arith, e))
+answered files ws rose wrote answer.NoMemory elf proof g w e = absurd (omega (arith, e))
+answered files ws rose wrote (answer.Eval x) elf proof (p, n, t, args, v, h) w e = absurd (no-eval-check p n t args elf proof (check-alone ws (Eval p n t args) elf proof v w))
+answered files ws rose wrote (answer.Run x) elf proof (f, s, u, k, args, v, h) w e = absurd (no-run-check f s u k args elf proof (check-alone ws (Run f s u k args) elf proof v w))
+answered files ws rose wrote (answer.Check x) elf proof (elf', proof', v, (file, holds, h)) w e =
+    let same = same-words elf' proof' elf proof (check-alone ws (Check elf' proof') elf proof v w) in
+    status-zero files elf proof file x (ap files (sym same.0) ∙ holds) (subst (λ (p : List ℕ). CheckGives (Some files) p file x) same.1 h) e
+answered files ws rose wrote (answer.Decompile x) elf proof (elf', out, names, v, h) w e =
+    absurd (no-decompile-check elf' out names elf proof (check-alone ws (Decompile elf' out names) elf proof v w))
+answered files ws rose wrote (answer.SelfTest x) elf proof (n, s, v, h) w e = absurd (no-test-check n s elf proof (check-alone ws (SelfTest n s) elf proof v w))
+
+pub headline-given : (told : Option Contents) (ws : List (List ℕ)) (rose wrote : Type 0) (b : Answer) (result : ℕ) (old new : Option (List ℕ))
+    → Gives told ws rose wrote b → IsDelivered b result old new
+    → IfSome told (λ files. (elf proof : List ℕ) → ws ≡ codes "check" ∷ elf ∷ proof ∷ [] → result ≡ 0 → AreRightFiles files elf proof)
+headline-given None ws rose wrote b result old new g d = tt
+headline-given (Some files) ws rose wrote b result old new g d = λ elf proof w none. answered files ws rose wrote b elf proof g w (given-status b result old new d none)

@@ -1,0 +1,289 @@
+-- Without the lines of proofs the text of proofs is that of their groups.
+use Rattle.std.proofs.Common.{◌≡◌, ℕ, suc, Bool, true, false, cond, eqb, not, List, [], ◌∷◌, ◌++◌, codes, filter, refl, sym, ap, subst, ◌∙◌, arith, append_assoc, flat_map}
+use Rattle.std.specs.List.{AllByRecursion, onto_first}
+use Rattle.mc_text.specs.Fault.{newlines}
+use Rattle.mc_text.specs.Tokens.{Tok, Semi, Atom, Eol, newline, gap, token_bytes, before_next, spell}
+use Rattle.mc_text.specs.declared.token.Before.{Before}
+use Rattle.mc_text.specs.declared.token.Before.TheVariants.{Start, Open, Later}
+use Rattle.mc_text.proofs.Lines.{AreTokens}
+use Rattle.mc_text.proofs.ReaderLaws.{IsFlat, flat-append}
+use Rattle.mc_text.proofs.FaultLine.{newlines-spell, eols-flat, tokens-front}
+use Rattle.rv_words.specs.declared.range.Range.{Range}
+use Rattle.term_text.specs.Spelling.{joined, word_tokens, mem_tokens, cond_tokens, range_tokens}
+use Rattle.term_text.proofs.TermFacts.{word-flat, mem-flat, cond-flat, range-flat}
+use Rattle.tailrec_lang.specs.Tree.{ValuesTree, StepTree, Bind, BindMem, Need, BodyTree, Do, Branch, Call, Again, Leave, ArmTrees, NoArm, Arm, DefTree, GroupTree}
+use Rattle.tailrec_lang.specs.declared.group.Exit.{Exit}
+use Rattle.tailrec_lang.specs.declared.group.Exit.TheVariants.{At, Ret}
+use Rattle.proof_text.specs.Line.{RuleTree, Axiom, Inst, Frame, Compose, ExtendCode, Strengthen, Weaken, Discharge, UseExit, LineTree, States, Loop, Forget, ProofTree}
+use Rattle.proof_text.specs.LineLimits.{IsLine}
+use Rattle.proof_text.specs.LineSpelling.{rule_tokens, line_tokens}
+use Rattle.group_text.specs.Limits.{AreGroups}
+use Rattle.proof_text.specs.Proofs.{proof_tokens, text_of_proofs, AreProofs, groups_of}
+use Rattle.group_text.specs.Spelling.{line, number, address, exit_tokens, values_tokens, step_tokens, arm_count, body_tokens, arm_tokens, def_tokens, group_tokens, head_tokens, end_tokens, text_of}
+use Rattle.proof_text.proofs.LineTokens.{line-is-tokens}
+use Rattle.group_text.proofs.Real.{group-tokens, title-tokens}
+use Rattle.proof_text.proofs.RuleLaws.{facts, rule_row, rule-flat}
+use Rattle.proof_text.proofs.TripleLaws.{triple_rest, triple-spelled, triple-flat}
+use Rattle.mcdec_commands.specs.Listed.{is_of_proof, lines_of, without_proofs}
+
+-- ---- the first line of a text
+
+without-newline : (b : ℕ) (w : List ℕ) → newlines (b ∷ w) ≡ 0 → (eqb b 10 ≡ false) × (newlines w ≡ 0)
+without-newline b w h = by (eqb b 10) refl h
+  where
+    by : (f : Bool) → eqb b 10 ≡ f → cond f (suc (newlines w)) (newlines w) ≡ 0 → (eqb b 10 ≡ false) × (newlines w ≡ 0)
+    by true e k = absurd (omega (arith, k))
+    by false e k = (e, k)
+
+first-line : (w rest : List ℕ) → newlines w ≡ 0 → lines_of (w ++ (newline ∷ rest)) ≡ w ∷ lines_of rest
+first-line [] rest h = refl
+first-line (b ∷ w) rest h =
+    let k = without-newline b w h in
+    rw (k.0) (ap (onto_first b) (first-line w rest k.1))
+
+-- ---- tokens of one line
+
+no-gap : (m : Before) → gap m Eol ≡ []
+no-gap Start = refl
+no-gap Open = refl
+no-gap Later = refl
+
+row-text : (m : Before) (row us : List Tok) → spell m (row ++ (Eol ∷ us)) ≡ spell m row ++ (newline ∷ spell Start us)
+row-text m [] us = ap (λ (v : List ℕ). (v ++ (newline ∷ [])) ++ spell Start us) (no-gap m)
+row-text m (t ∷ row) us =
+    ap (λ (v : List ℕ). (gap m t ++ token_bytes t) ++ v) (row-text (before_next t) row us)
+    ∙ sym (append_assoc (gap m t ++ token_bytes t) (spell (before_next t) row) (newline ∷ spell Start us))
+
+row-lines : (row us : List Tok) → IsFlat row → AreTokens (row ++ Eol ∷ [])
+    → lines_of (spell Start ((row ++ Eol ∷ []) ++ us)) ≡ spell Start row ∷ lines_of (spell Start us)
+row-lines row us flat real =
+    ap (λ (ts : List Tok). lines_of (spell Start ts)) (append_assoc row (Eol ∷ []) us)
+    ∙ ap lines_of (row-text Start row us)
+    ∙ first-line (spell Start row) (spell Start us) (newlines-spell Start row (tokens-front row (Eol ∷ []) real) ∙ eols-flat row flat)
+
+-- ---- lines that stay, and lines that go
+
+-- the lines of the one without those of proofs are the lines of the other
+abbrev AreSame : List Tok → List Tok → Type 0
+AreSame us vs = without_proofs (spell Start us) ≡ lines_of (spell Start vs)
+
+record Stays (ts : List Tok) : Type 0 where
+  same : (us vs : List Tok) → AreSame us vs → AreSame (ts ++ us) (ts ++ vs)
+
+record Goes (ts : List Tok) : Type 0 where
+  same : (us vs : List Tok) → AreSame us vs → AreSame (ts ++ us) vs
+
+abbrev kept : List (List ℕ) → List (List ℕ)
+kept ls = filter (λ l. not (is_of_proof l)) ls
+
+one-kept : (l : List ℕ) (ls : List (List ℕ)) (f : Bool) → is_of_proof l ≡ f → kept (l ∷ ls) ≡ cond (not f) (l ∷ kept ls) (kept ls)
+one-kept l ls f e = ap (λ (b : Bool). cond (not b) (l ∷ kept ls) (kept ls)) e
+
+row-stays : (row : List Tok) → IsFlat row → is_of_proof (spell Start row) ≡ false → AreTokens (row ++ Eol ∷ []) → Stays (row ++ Eol ∷ [])
+row-stays row flat named real = record {
+  same = λ us vs h.
+      ap kept (row-lines row us flat real)
+      ∙ one-kept (spell Start row) (lines_of (spell Start us)) false named
+      ∙ ap (λ (ls : List (List ℕ)). spell Start row ∷ ls) h
+      ∙ sym (row-lines row vs flat real);
+}
+
+row-goes : (row : List Tok) → IsFlat row → is_of_proof (spell Start row) ≡ true → AreTokens (row ++ Eol ∷ []) → Goes (row ++ Eol ∷ [])
+row-goes row flat named real = record {
+  same = λ us vs h. ap kept (row-lines row us flat real) ∙ one-kept (spell Start row) (lines_of (spell Start us)) true named ∙ h;
+}
+
+tokens-back : (a b : List Tok) → AreTokens (a ++ b) → AreTokens b
+tokens-back [] b h = h
+tokens-back (t ∷ a) b h = tokens-back a b h.1
+
+both-stay : (a b : List Tok) → (AreTokens a → Stays a) → (AreTokens b → Stays b) → AreTokens (a ++ b) → Stays (a ++ b)
+both-stay a b h k real = record {
+  same = λ us vs s.
+      ap (λ (ts : List Tok). without_proofs (spell Start ts)) (append_assoc a b us)
+      ∙ (h (tokens-front a b real)).same (b ++ us) (b ++ vs) ((k (tokens-back a b real)).same us vs s)
+      ∙ ap (λ (ts : List Tok). lines_of (spell Start ts)) (sym (append_assoc a b vs));
+}
+
+none-stays : AreTokens [] → Stays []
+none-stays h = record { same = λ us vs s. s }
+
+-- ---- no line ends within a line
+
+atom-flat : (a : List ℕ) (ts : List Tok) → IsFlat ts → IsFlat (Atom a ∷ ts)
+atom-flat a ts h = ((λ e. absurd cc), h)
+
+each-flat : {X : Type 0} (f : X → List Tok) → ((x : X) → IsFlat (f x)) → (xs : List X) → IsFlat (flat_map f xs)
+each-flat f one [] = tt
+each-flat f one (x ∷ xs) = flat-append (f x) (flat_map f xs) (one x) (each-flat f one xs)
+
+number-flat : (n : ℕ) → IsFlat (number n)
+number-flat n = atom-flat _ [] tt
+
+exit-flat : (x : Exit) → IsFlat (exit_tokens x)
+exit-flat (At a) = atom-flat _ [] tt
+exit-flat Ret = atom-flat _ [] tt
+
+values-flat : (v : ValuesTree) → IsFlat (values_tokens v)
+values-flat v =
+    flat-append (flat_map word_tokens v.words) (Semi ∷ flat_map mem_tokens v.mems) (each-flat word_tokens word-flat v.words)
+    ((λ e. absurd cc), each-flat mem_tokens mem-flat v.mems)
+
+-- ---- a line of a word and parts
+
+-- the tokens before its end
+abbrev row_of : List ℕ → List (List Tok) → List Tok
+row_of word parts = Atom word ∷ joined parts []
+
+row-of-flat : (word : List ℕ) (parts : List (List Tok)) → AllByRecursion IsFlat parts → IsFlat (row_of word parts)
+row-of-flat word parts h = atom-flat word (joined parts []) (by parts h)
+  where
+    by : (ps : List (List Tok)) → AllByRecursion IsFlat ps → IsFlat (joined ps [])
+    by [] k = tt
+    by (p ∷ ps) k = flat-append p (joined ps []) k.0 (by ps k.1)
+
+line-row : (word : List ℕ) (parts : List (List Tok)) → row_of word parts ++ Eol ∷ [] ≡ line word parts
+line-row word parts = ap (λ (ts : List Tok). Atom word ∷ ts) (by parts)
+  where
+    by : (ps : List (List Tok)) → joined ps [] ++ Eol ∷ [] ≡ joined ps (Eol ∷ [])
+    by [] = refl
+    by (p ∷ ps) = append_assoc p (joined ps []) (Eol ∷ []) ∙ ap (λ (ts : List Tok). p ++ ts) (by ps)
+
+line-stays : (word : List ℕ) (parts : List (List Tok)) → AllByRecursion IsFlat parts → is_of_proof (spell Start (row_of word parts)) ≡ false
+    → AreTokens (line word parts) → Stays (line word parts)
+line-stays word parts flat named real =
+    let e = line-row word parts in
+    subst Stays e (row-stays (row_of word parts) (row-of-flat word parts flat) named (subst AreTokens (sym e) real))
+
+line-goes : (word : List ℕ) (parts : List (List Tok)) → AllByRecursion IsFlat parts → is_of_proof (spell Start (row_of word parts)) ≡ true
+    → AreTokens (line word parts) → Goes (line word parts)
+line-goes word parts flat named real =
+    let e = line-row word parts in
+    subst Goes e (row-goes (row_of word parts) (row-of-flat word parts flat) named (subst AreTokens (sym e) real))
+
+-- ---- groups
+
+step-stays : (s : StepTree) → AreTokens (step_tokens s) → Stays (step_tokens s)
+step-stays (Bind t) = line-stays (codes "let") (word_tokens t ∷ []) (word-flat t, tt) refl
+step-stays (BindMem m) = line-stays (codes "letm") (mem_tokens m ∷ []) (mem-flat m, tt) refl
+step-stays (Need c) = line-stays (codes "need") (cond_tokens c ∷ []) (cond-flat c, tt) refl
+
+else-stays : AreTokens (line (codes "else") []) → Stays (line (codes "else") [])
+else-stays = line-stays (codes "else") [] tt refl
+
+arm-stays : AreTokens (line (codes "arm") []) → Stays (line (codes "arm") [])
+arm-stays = line-stays (codes "arm") [] tt refl
+
+mutual
+  body-stays : (b : BodyTree) → AreTokens (body_tokens b) → Stays (body_tokens b)
+  body-stays (Do s rest) = both-stay (step_tokens s) (body_tokens rest) (step-stays s) (body-stays rest)
+  body-stays (Branch c a b) =
+      let other = line (codes "else") [] ++ body_tokens b in
+      let choice : List (List Tok) = cond_tokens c ∷ [] in
+      both-stay (line (codes "if") choice) (body_tokens a ++ other) (line-stays (codes "if") choice (cond-flat c, tt) refl)
+      (both-stay (body_tokens a) other (body-stays a) (both-stay (line (codes "else") []) (body_tokens b) else-stays (body-stays b)))
+  body-stays (Call def v arms) =
+      let parts : List (List Tok) = number def ∷ number (arm_count arms) ∷ values_tokens v ∷ [] in
+      let flat : AllByRecursion IsFlat parts = (number-flat def, (number-flat (arm_count arms), (values-flat v, tt))) in
+      both-stay (line (codes "call") parts) (arm_tokens arms) (line-stays (codes "call") parts flat refl) (arms-stay arms)
+  body-stays (Again v) = line-stays (codes "again") (values_tokens v ∷ []) (values-flat v, tt) refl
+  body-stays (Leave exit v) = line-stays (codes "leave") (number exit ∷ values_tokens v ∷ []) (number-flat exit, (values-flat v, tt)) refl
+
+  arms-stay : (bs : ArmTrees) → AreTokens (arm_tokens bs) → Stays (arm_tokens bs)
+  arms-stay NoArm = none-stays
+  arms-stay (Arm b bs) =
+      both-stay (line (codes "arm") []) (body_tokens b ++ arm_tokens bs) arm-stays
+      (both-stay (body_tokens b) (arm_tokens bs) (body-stays b) (arms-stay bs))
+
+def-stays : (d : DefTree) → AreTokens (def_tokens d) → Stays (def_tokens d)
+def-stays d =
+    let parts : List (List Tok) = address d.entry ∷ flat_map exit_tokens d.exits ∷ [] in
+    let flat : AllByRecursion IsFlat parts = (atom-flat _ [] tt, (each-flat exit_tokens exit-flat d.exits, tt)) in
+    both-stay (line (codes "def") parts) (body_tokens d.body) (line-stays (codes "def") parts flat refl) (body-stays d.body)
+
+defs-stay : (ds : List DefTree) → AreTokens (flat_map def_tokens ds) → Stays (flat_map def_tokens ds)
+defs-stay [] = none-stays
+defs-stay (d ∷ ds) = both-stay (def_tokens d) (flat_map def_tokens ds) (def-stays d) (defs-stay ds)
+
+group-stays : (g : GroupTree) → AreTokens (group_tokens g) → Stays (group_tokens g)
+group-stays g =
+    let name : List (List Tok) = (Atom g.name ∷ []) ∷ [] in
+    let regs : List (List Tok) = flat_map number g.regs ∷ [] in
+    let mems : List (List Tok) = number g.mems ∷ [] in
+    let code : List (List Tok) = flat_map range_tokens g.code ∷ [] in
+    let defs = flat_map def_tokens g.defs in
+    let behind_mems = line (codes "code") code ++ defs in
+    let behind_regs = line (codes "mems") mems ++ behind_mems in
+    let behind_name = line (codes "regs") regs ++ behind_regs in
+    both-stay (line (codes "group") name) behind_name (line-stays (codes "group") name (atom-flat g.name [] tt, tt) refl)
+    (both-stay (line (codes "regs") regs) behind_regs (line-stays (codes "regs") regs (each-flat number number-flat g.regs, tt) refl)
+    (both-stay (line (codes "mems") mems) behind_mems (line-stays (codes "mems") mems (number-flat g.mems, tt) refl)
+    (both-stay (line (codes "code") code) defs (line-stays (codes "code") code (each-flat range_tokens range-flat g.code, tt) refl)
+    (defs-stay g.defs))))
+
+-- ---- lines of proofs
+
+rule-named : (rule : RuleTree) (rest : List Tok) → is_of_proof (spell Start (rule_row rule ++ rest)) ≡ true
+rule-named (Axiom a word form) rest = refl
+rule-named (Inst p words mems) rest = refl
+rule-named (Frame p) rest = refl
+rule-named (Compose p q) rest = refl
+rule-named (ExtendCode p) rest = refl
+rule-named (Strengthen p) rest = refl
+rule-named (Weaken p) rest = refl
+rule-named (Discharge p) rest = refl
+rule-named (UseExit def exit) rest = refl
+
+proof-line-goes : (own : List Range) (l : LineTree) → IsLine l → Goes (line_tokens own l)
+proof-line-goes own (States rule t) h =
+    let rest = triple_rest own t in
+    let e : (rule_row rule ++ rest) ++ Eol ∷ [] ≡ line_tokens own (States rule t) =
+    append_assoc (rule_row rule) rest (Eol ∷ [])
+    ∙ append_assoc (rule_tokens rule) facts (rest ++ Eol ∷ [])
+    ∙ ap (λ (ts : List Tok). rule_tokens rule ++ (ts ++ Eol ∷ [])) (sym (triple-spelled own t)) in
+    let flat = flat-append (rule_row rule) rest (rule-flat rule h.0) (triple-flat own t h.1) in
+    let real = subst AreTokens (sym e) (line-is-tokens own (States rule t) h) in
+    subst Goes e (row-goes (rule_row rule ++ rest) flat (rule-named rule rest) real)
+proof-line-goes own (Loop def cited) h =
+    let parts : List (List Tok) = number def ∷ flat_map number cited ∷ [] in
+    line-goes (codes "loop") parts (number-flat def, (each-flat number number-flat cited, tt)) refl (line-is-tokens own (Loop def cited) h)
+proof-line-goes own (Forget k) h = line-goes (codes "forget") (number k ∷ []) (number-flat k, tt) refl (line-is-tokens own (Forget k) h)
+
+proof-lines-go : (own : List Range) (ls : List LineTree) → AllByRecursion IsLine ls
+    → (us vs : List Tok) → AreSame us vs → AreSame (flat_map (line_tokens own) ls ++ us) vs
+proof-lines-go own [] h us vs s = s
+proof-lines-go own (l ∷ ls) h us vs s =
+    let rest = flat_map (line_tokens own) ls in
+    ap (λ (ts : List Tok). without_proofs (spell Start ts)) (append_assoc (line_tokens own l) rest us)
+    ∙ (proof-line-goes own l h.0).same (rest ++ us) vs (proof-lines-go own ls h.1 us vs s)
+
+-- ---- the text
+
+-- behind the first line
+abbrev proofs_rest : List ProofTree → List Tok
+proofs_rest ps = flat_map proof_tokens ps ++ end_tokens
+
+abbrev groups_rest : List ProofTree → List Tok
+groups_rest ps = flat_map group_tokens (groups_of ps) ++ end_tokens
+
+proofs-same : (ps : List ProofTree) → AreProofs ps → AreSame (proofs_rest ps) (groups_rest ps)
+proofs-same [] h = refl
+proofs-same (p ∷ ps) h =
+    let lines = flat_map (line_tokens p.group.code) p.lines in
+    let item_apart = append_assoc (proof_tokens p) (flat_map proof_tokens ps) end_tokens in
+    let lines_apart = append_assoc (group_tokens p.group) lines (proofs_rest ps) in
+    let group_apart = append_assoc (group_tokens p.group) (flat_map group_tokens (groups_of ps)) end_tokens in
+    let behind = proof-lines-go p.group.code p.lines h.0.lines (proofs_rest ps) (groups_rest ps) (proofs-same ps h.1) in
+    ap (λ (ts : List Tok). without_proofs (spell Start ts)) (item_apart ∙ lines_apart)
+    ∙ (group-stays p.group (group-tokens p.group h.0.group)).same (lines ++ proofs_rest ps) (groups_rest ps) behind
+    ∙ ap (λ (ts : List Tok). lines_of (spell Start ts)) (sym group_apart)
+
+head-stays : Stays head_tokens
+head-stays = line-stays (codes "mcproof") ((Atom (codes "1") ∷ []) ∷ []) (atom-flat (codes "1") [] tt, tt) refl title-tokens
+
+pub groups-left : (ps : List ProofTree) → AreProofs ps → without_proofs (text_of_proofs ps) ≡ lines_of (text_of (groups_of ps))
+groups-left ps h = head-stays.same (proofs_rest ps) (groups_rest ps) (proofs-same ps h)
+
+pub groups-fit : (ps : List ProofTree) → AreProofs ps → AreGroups (groups_of ps)
+groups-fit [] h = tt
+groups-fit (p ∷ ps) h = (h.0.group, groups-fit ps h.1)

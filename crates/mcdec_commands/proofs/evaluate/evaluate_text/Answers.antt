@@ -1,0 +1,8 @@
+use Rattle.mcdec_commands.proofs.Answers.{found-fits}
+use Rattle.mcdec_commands.proofs.evaluate.evaluate_text.Goals as goal
+
+pub evaluate_group-requires-clause-group : goal.evaluate_group-requires-clause-group
+evaluate_group-requires-clause-group c = (found-fits c.args.text.now c.args.e.now.name.now c.in-Ok.g c.in-Ok.ensures).0
+
+pub evaluate_group-requires-clause-well_formed : goal.evaluate_group-requires-clause-well_formed
+evaluate_group-requires-clause-well_formed c = (found-fits c.args.text.now c.args.e.now.name.now c.in-Ok.g c.in-Ok.ensures).1

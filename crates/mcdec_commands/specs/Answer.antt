@@ -1,0 +1,60 @@
+-- What is answered to a list of words, where the names hold these files.
+use Rattle.std.specs.Prelude.{◌≡◌, ◌≢◌, ℕ, List, [], All, Option, Some, None}
+use Rattle.mc_shelf.specs.Shelf.{Contents, TellsName}
+use Rattle.mcdec_commands.specs.declared.answer.Answer.{Answer}
+use Rattle.mcdec_commands.specs.declared.answer.Answer.TheVariants as answer
+use Rattle.mcdec_commands.specs.Command.{Command, Eval, Run, Check, Decompile, SelfTest, Arg, Words, IsNoCommand, inputs_of, output_of}
+use Rattle.mcdec_commands.specs.Held.{HoldsWith}
+use Rattle.mcdec_commands.specs.EvalAnswer.{EvalGives}
+use Rattle.mcdec_commands.specs.CheckAnswer.{CheckGives}
+use Rattle.mcdec_commands.specs.DecompileAnswer.{DecompileGives, IsToldOnce}
+use Rattle.mcdec_commands.specs.SelfTestAnswer.{SelfTestGives}
+use Rattle.mcdec_commands.specs.RunAnswer.{RunGives}
+
+-- the command reads a file
+abbrev pub HasInputs : Command → Type 0
+HasInputs c = inputs_of c ≢ []
+
+-- the command writes a file
+abbrev pub HasOutput : Command → Type 0
+HasOutput c = output_of c ≢ None
+
+-- An answer that is given to a list of words. `rose` says that the count of read faults rose, and `wrote` that of write faults. Where it
+-- isn't told what the names hold, only the command is claimed.
+abbrev pub Gives : Option Contents → List (List ℕ) → (rose wrote : Type 0) → Answer → Type 0
+Gives told ws rose wrote answer.NotACommand = IsNoCommand ws
+Gives told ws rose wrote answer.ReadFault = (c : Command) × Words ws c × HasInputs c × rose
+Gives told ws rose wrote answer.WriteFault = (c : Command) × Words ws c × HasOutput c × wrote
+Gives told ws rose wrote answer.NoMemory = Unit {0}
+Gives told ws rose wrote (answer.Eval a) =
+    (proof name : List ℕ) × (turns : ℕ) × (args : List Arg) × Words ws (Eval proof name turns args)
+    × HoldsWith told proof (λ file. EvalGives file name turns args a)
+Gives told ws rose wrote (answer.Run a) =
+    (elf start : List ℕ) × (until steps : ℕ) × (args : List Arg) × Words ws (Run elf start until steps args)
+    × HoldsWith told elf (λ file. RunGives file start until steps args a)
+Gives told ws rose wrote (answer.Check a) = (elf proof : List ℕ) × Words ws (Check elf proof) × HoldsWith told elf (λ file. CheckGives told proof file a)
+Gives told ws rose wrote (answer.Decompile a) =
+    (elf out : List ℕ) × (names : List (List ℕ)) × Words ws (Decompile elf out names) × HoldsWith told elf (λ file. DecompileGives file names a)
+Gives told ws rose wrote (answer.SelfTest a) = (number size : ℕ) × Words ws (SelfTest number size) × SelfTestGives number size a
+
+-- ---- the contract of the top call
+
+-- An answer that is given by the words and the files alone. How many turns an evaluation takes depends on how the function is made.
+abbrev pub IsDetermined : Answer → Type 0
+IsDetermined answer.NotACommand = Unit {0}
+IsDetermined answer.ReadFault = ⊥
+IsDetermined answer.WriteFault = ⊥
+IsDetermined answer.NoMemory = ⊥
+IsDetermined (answer.Eval a) = Unit {0}
+IsDetermined (answer.Run a) = Unit {0}
+IsDetermined (answer.Check a) = Unit {0}
+IsDetermined (answer.Decompile a) = IsToldOnce a
+IsDetermined (answer.SelfTest a) = ⊥
+
+-- each file that the words' command reads is there
+abbrev pub ReadsAreTold : Option Contents → List (List ℕ) → Type 0
+ReadsAreTold told ws = (c : Command) → Words ws c → All (TellsName told) (inputs_of c)
+
+-- every name that the words' command doesn't write holds what it held
+abbrev pub KeepsNames : List (List ℕ) → Contents → Contents → Type 0
+KeepsNames ws old new = (name : List ℕ) → ((c : Command) → Words ws c → output_of c ≢ Some name) → new name ≡ old name

@@ -1,0 +1,42 @@
+-- When each answer to `check` comes.
+use Rattle.std.specs.Prelude.{◌≡◌, ℕ, ◌<◌, ◌≤◌, List, length, Option, Some}
+use Rattle.mc_shelf.specs.Shelf.{Contents}
+use Rattle.elf_image.specs.Fault.{fault_of}
+use Rattle.tailrec_lang.specs.Tree.{GroupTree}
+use Rattle.group_text.specs.Spelling.{text_of}
+use Rattle.group_text.specs.Limits.{AreGroups}
+use Rattle.checker.specs.Headline.{Headline}
+use Rattle.checker.specs.Verdicts.{IsBadText, IsBadDef, IsBadLine, IsNotProved, IsAcceptedText}
+use Rattle.mcdec_commands.specs.declared.answer.CheckAnswer.{CheckAnswer}
+use Rattle.mcdec_commands.specs.declared.answer.CheckAnswer.TheVariants as answer
+use Rattle.mcdec_commands.specs.Held.{HoldsWith}
+use Rattle.mcdec_commands.specs.Listed.{lines_of, without_proofs}
+use Rattle.mcdec_commands.specs.EvalAnswer.{proof_limit}
+use Rattle.mcdec_commands.specs.RunAnswer.{elf_limit, IsLoaded}
+
+-- the name holds a proof file within the limit with P
+abbrev pub HoldsText : Option Contents → List ℕ → (List ℕ → Type 0) → Type 0
+HoldsText told proof P = HoldsWith told proof (λ text. (length text ≤ proof_limit) × P text)
+
+-- What `check` comes to, where the ELF file has these bytes. The proof file is asked for where that can be read.
+abbrev pub CheckGives : Option Contents → (proof file : List ℕ) → CheckAnswer → Type 0
+CheckGives told proof file answer.ElfOverLimit = elf_limit < length file
+CheckGives told proof file (answer.UnreadableElf why) = (length file ≤ elf_limit) × (fault_of file ≡ Some why)
+CheckGives told proof file answer.ProofOverLimit = IsLoaded file × HoldsWith told proof (λ text. proof_limit < length text)
+CheckGives told proof file (answer.UnreadableText line) = IsLoaded file × HoldsText told proof (λ text. IsBadText text line)
+CheckGives told proof file (answer.IllFormed group def) = IsLoaded file × HoldsText told proof (λ text. IsBadDef text group def)
+CheckGives told proof file (answer.WrongLine line) = IsLoaded file × HoldsText told proof (λ text. IsBadLine text line)
+CheckGives told proof file (answer.NotProved group) = IsLoaded file × HoldsText told proof (λ text. IsNotProved file text group)
+CheckGives told proof file (answer.Accepted functions lines) = IsLoaded file × HoldsText told proof (λ text. IsAcceptedText file text functions lines)
+
+-- The one name holds an ELF file, the other a text. Without the lines of proofs this is the text of these groups, whose
+-- functions are right of the file.
+pub record AreRightFiles (files : Contents) (elf proof : List ℕ) : Type 0 where
+  pub file : List ℕ
+  pub text : List ℕ
+  pub holds_file : files elf ≡ Some file
+  pub holds_text : files proof ≡ Some text
+  pub groups : List GroupTree
+  pub fit : AreGroups groups
+  pub listed : without_proofs text ≡ lines_of (text_of groups)
+  pub right : Headline file groups

@@ -1,0 +1,70 @@
+-- When each answer to `eval` comes.
+use Rattle.std.specs.Prelude.{◌≡◌, ℕ, ◌-◌, ◌<◌, ◌≤◌, List, [], ◌∷◌, ◌++◌, Option, Some, None, bytes_eq, find, length, map, replicate}
+use Rattle.std.specs.List.{AllByRecursion}
+use Rattle.rv_words.specs.Bytes.{Bytes}
+use Rattle.mc_text.specs.Fault.{IsBadAt}
+use Rattle.rv_words.specs.declared.range.Range.{Range}
+use Rattle.tailrec_lang.specs.Tree.{GroupTree, listed_def}
+use Rattle.tailrec_lang.specs.WellFormed.{IsWellFormed, IsFirstIllFormed}
+use Rattle.tailrec_lang.specs.Eval.{Arguments, Done, SideFalse, Turns, eval}
+use Rattle.proof_text.specs.Line.{ProofTree}
+use Rattle.proof_text.specs.Proofs.{bare, groups_of, texts_of_proofs}
+use Rattle.proof_text.specs.FirstProofs.{AreRead}
+use Rattle.checker.specs.Verdicts.{IsTextOf}
+use Rattle.mcdec_commands.specs.declared.answer.EvalAnswer.{EvalAnswer}
+use Rattle.mcdec_commands.specs.declared.answer.EvalAnswer.TheVariants as answer
+use Rattle.mcdec_commands.specs.declared.answer.Shown.{Shown}
+use Rattle.mcdec_commands.specs.Command.{Arg, value_of, givens, ranges}
+use Rattle.mcdec_commands.specs.Memory.{no_bytes, placed, held_at}
+
+-- the most bytes of a proof file that are read
+abbrev pub proof_limit : ℕ
+proof_limit = 268435456
+
+-- the value of each register of the group, 0 where it is given none, and, where the group has a memory, the words' bytes
+-- in an empty one
+abbrev pub arguments_given : List Arg → GroupTree → Arguments
+arguments_given args g = record { words = map (value_of (givens args)) g.regs; mems = replicate g.mems (placed (ranges args) no_bytes) }
+
+-- the words' ranges with the bytes that a group's memory has there, if it has one
+abbrev pub ranges_in : List Bytes → List Range → List Range
+ranges_in [] rs = []
+ranges_in (m ∷ ms) rs = map (held_at m) rs
+
+-- what is shown of an evaluation that is done
+abbrev pub shown_of : GroupTree → List Arg → (used pc : ℕ) → Arguments → Shown
+shown_of g args used pc results =
+    record { count = used; pc = pc; registers = g.regs; words = results.words; memory = ranges_in results.mems (ranges args) }
+
+-- the first group of the name, if there is one
+abbrev pub first_named : List ℕ → List GroupTree → Option GroupTree
+first_named name gs = find (λ g. bytes_eq g.name name) gs
+
+-- each group is well-formed
+abbrev pub AreWellFormed : List GroupTree → Type 0
+AreWellFormed gs = AllByRecursion IsWellFormed gs
+
+-- the text is that of groups with the lines of their proofs, all groups are well-formed, and this is the first of the name, if any
+pub record IsNamed (text name : List ℕ) (found : Option GroupTree) : Type 0 where
+  pub proofs : List ProofTree
+  pub spelled : IsTextOf text proofs
+  pub well_formed : AreWellFormed (groups_of proofs)
+  pub first : first_named name (groups_of proofs) ≡ found
+
+-- What `eval` of a name comes to, where the proof file has these bytes. Lines of proofs are read, and not judged. A group is judged
+-- when its definitions are read: one that isn't well-formed is told before a bad line behind them, and after one among them.
+abbrev pub EvalGives : (file name : List ℕ) (turns : ℕ) (args : List Arg) → EvalAnswer → Type 0
+EvalGives file name turns args answer.OverLimit = proof_limit < length file
+EvalGives file name turns args (answer.Unreadable line) =
+    (length file ≤ proof_limit) × IsBadAt texts_of_proofs file line × ((ps : List ProofTree) → AreRead file ps → AreWellFormed (groups_of ps))
+EvalGives file name turns args (answer.IllFormed group def) =
+    (length file ≤ proof_limit) × (ps : List ProofTree) × (g : GroupTree) × AreRead file (ps ++ bare g ∷ []) × AreWellFormed (groups_of ps)
+    × (group ≡ length ps) × IsFirstIllFormed g def
+EvalGives file name turns args answer.NoFunction = (length file ≤ proof_limit) × IsNamed file name None
+EvalGives file name turns args (answer.SideFalse def ordinal) =
+    (length file ≤ proof_limit) × (g : GroupTree) × IsNamed file name (Some g) × (eval g (listed_def g) (arguments_given args g) turns ≡ SideFalse def ordinal)
+EvalGives file name turns args answer.TurnsUsed =
+    (length file ≤ proof_limit) × (g : GroupTree) × IsNamed file name (Some g) × (eval g (listed_def g) (arguments_given args g) turns ≡ Turns)
+EvalGives file name turns args (answer.Done shown) =
+    (length file ≤ proof_limit) × (g : GroupTree) × IsNamed file name (Some g) × (exit pc left : ℕ) × (results : Arguments)
+    × (eval g (listed_def g) (arguments_given args g) turns ≡ Done exit pc results left) × (shown ≡ shown_of g args (turns - left) pc results)

@@ -1,0 +1,31 @@
+-- What the command `check` comes to, part by part.
+use Rattle.std.specs.Prelude.{ℕ, List, Option}
+use Rattle.mc_shelf.specs.Shelf.{Contents}
+use Rattle.checker.specs.declared.verdict.Verdict.{Verdict}
+use Rattle.checker.specs.declared.verdict.Verdict.TheVariants as verdict
+use Rattle.mcdec_commands.specs.declared.answer.Answer.{Answer}
+use Rattle.mcdec_commands.specs.declared.answer.Answer.TheVariants as answer
+use Rattle.mcdec_commands.specs.declared.answer.CheckAnswer.TheVariants as check
+use Rattle.mcdec_commands.specs.CheckAnswer.{CheckGives}
+
+-- the answer that a verdict is
+abbrev pub answer_to : Verdict → Answer
+answer_to (verdict.Accepted functions lines) = answer.Check (check.Accepted functions lines)
+answer_to (verdict.BadElf why) = answer.Check (check.UnreadableElf why)
+answer_to (verdict.BadText line) = answer.Check (check.UnreadableText line)
+answer_to (verdict.BadDef group def) = answer.Check (check.IllFormed group def)
+answer_to (verdict.BadLine line) = answer.Check (check.WrongLine line)
+answer_to (verdict.NotProved group) = answer.Check (check.NotProved group)
+answer_to verdict.NoMemory = answer.NoMemory
+
+-- what is answered of a proof file that a name holds, where the ELF file has these bytes
+abbrev pub ImageGives : Option Contents → (proof file : List ℕ) → (rose : Type 0) → Answer → Type 0
+ImageGives told proof file rose answer.NotACommand = ⊥
+ImageGives told proof file rose answer.ReadFault = rose
+ImageGives told proof file rose answer.WriteFault = ⊥
+ImageGives told proof file rose answer.NoMemory = Unit {0}
+ImageGives told proof file rose (answer.Eval a) = ⊥
+ImageGives told proof file rose (answer.Run a) = ⊥
+ImageGives told proof file rose (answer.Check a) = CheckGives told proof file a
+ImageGives told proof file rose (answer.Decompile a) = ⊥
+ImageGives told proof file rose (answer.SelfTest a) = ⊥

@@ -1,0 +1,99 @@
+-- What is found in the text of a proof file, group by group, and what evaluation of a group's function comes to.
+use Rattle.std.specs.Prelude.{◌≡◌, ℕ, List, [], ◌∷◌, ◌++◌, ◌-◌, ◌<◌, ◌≤◌, length, Option, Some, None, Result, Ok, Err}
+use Rattle.mc_text.specs.Fault.{IsBadAt}
+use Rattle.tailrec_lang.specs.declared.group.Group.{Group}
+use Rattle.tailrec_lang.specs.Tree.{GroupTree, group_tree, listed_def}
+use Rattle.tailrec_lang.specs.WellFormed.{IsWellFormed, IsFirstIllFormed}
+use Rattle.tailrec_lang.specs.Eval.{Arguments, Done, SideFalse, Turns, HasFewNeeds, eval}
+use Rattle.proof_text.specs.Line.{ProofTree, line_tree}
+use Rattle.proof_text.specs.Proofs.{bare, groups_of, text_of_proofs, texts_of_proofs}
+use Rattle.proof_text.specs.FirstProofs.{Progress, HasGiven, MayOpen, ProofEnds, AreRead, with_line}
+use Rattle.proof_text.specs.Answers.{NoItem}
+use Rattle.proof_text.specs.declared.line.Line.{Line}
+use Rattle.mcdec_commands.specs.declared.evaluate.Refusal.{Refusal}
+use Rattle.mcdec_commands.specs.declared.evaluate.Refusal.TheVariants as refusal
+use Rattle.mcdec_commands.specs.declared.answer.EvalAnswer.{EvalAnswer}
+use Rattle.mcdec_commands.specs.declared.answer.EvalAnswer.TheVariants as answer
+use Rattle.mcdec_commands.specs.Command.{Arg}
+use Rattle.mcdec_commands.specs.EvalAnswer.{AreWellFormed, IsNamed, arguments_given, first_named, shown_of}
+
+-- these proofs were given, and the lines of the last one have ended
+pub record HasPassed (ps : List ProofTree) (r : Progress) : Type 0 where
+  pub given : HasGiven ps r
+  pub over : MayOpen ps r.rest
+
+-- a text is bad at a line, and the groups that are read of it are well-formed
+abbrev pub IsBadText : List ℕ → ℕ → Type 0
+IsBadText text line = IsBadAt texts_of_proofs text line × ((ps : List ProofTree) → AreRead text ps → AreWellFormed (groups_of ps))
+
+-- the next line of a group's proof, or why there is none
+abbrev pub LineIs : GroupTree → Progress → Progress → Result (Option Line) Refusal → Type 0
+LineIs g old new (Ok None) = (new ≡ old) × ProofEnds old.rest
+LineIs g old new (Ok (Some l)) = (new.text ≡ old.text) × (length new.rest < length old.rest)
+    × ((ps : List ProofTree) (p : ProofTree) → HasGiven (ps ++ p ∷ []) old → p.group ≡ g → HasGiven (ps ++ with_line p (line_tree l) ∷ []) new)
+LineIs g old new (Err (refusal.Text line)) = (ps : List ProofTree) (p : ProofTree) → HasGiven (ps ++ p ∷ []) old → p.group ≡ g
+    → IsBadAt texts_of_proofs old.text line × NoItem (ps ++ p ∷ []) old
+LineIs g old new (Err (refusal.IllFormed m def)) = ⊥
+LineIs g old new (Err refusal.NoFunction) = ⊥
+LineIs g old new (Err refusal.NoMemory) = Unit {0}
+
+-- the lines of a group's proof were passed over, or why not
+abbrev pub LinesArePassed : GroupTree → Progress → Progress → Result (Unit {0}) Refusal → Type 0
+LinesArePassed g old new (Ok done) = (new.text ≡ old.text) × (length new.rest ≤ length old.rest)
+    × ((ps : List ProofTree) (p : ProofTree) → HasGiven (ps ++ p ∷ []) old → p.group ≡ g → (q : ProofTree) × (q.group ≡ g) × HasPassed (ps ++ q ∷ []) new)
+LinesArePassed g old new (Err (refusal.Text line)) = (ps : List ProofTree) (p : ProofTree) → HasGiven (ps ++ p ∷ []) old → p.group ≡ g
+    → AreWellFormed (groups_of (ps ++ p ∷ [])) → IsBadText old.text line
+LinesArePassed g old new (Err (refusal.IllFormed m def)) = ⊥
+LinesArePassed g old new (Err refusal.NoFunction) = ⊥
+LinesArePassed g old new (Err refusal.NoMemory) = Unit {0}
+
+-- so far the lines of a group's proof were passed over
+pub record Passing (g : GroupTree) (start now : Progress) : Type 0 where
+  pub text : now.text ≡ start.text
+  pub no_longer : length now.rest ≤ length start.rest
+  pub given : (ps : List ProofTree) (p : ProofTree) → HasGiven (ps ++ p ∷ []) start → p.group ≡ g → (q : ProofTree) × (q.group ≡ g) × HasGiven (ps ++ q ∷ []) now
+
+-- the next group, or why there is none
+abbrev pub NextIs : ℕ → Progress → Progress → Result (Option Group) Refusal → Type 0
+NextIs n old new (Ok None) = (ps : List ProofTree) → HasPassed ps old → old.text ≡ text_of_proofs ps
+NextIs n old new (Ok (Some g)) = (new.text ≡ old.text) × (length new.rest < length old.rest) × IsWellFormed (group_tree g) × HasFewNeeds (group_tree g)
+    × ((ps : List ProofTree) → HasPassed ps old → (q : ProofTree) × (q.group ≡ group_tree g) × HasPassed (ps ++ q ∷ []) new)
+NextIs n old new (Err (refusal.Text line)) = (ps : List ProofTree) → HasPassed ps old → AreWellFormed (groups_of ps) → IsBadText old.text line
+NextIs n old new (Err (refusal.IllFormed m def)) = (m ≡ n) × (g : GroupTree) × IsFirstIllFormed g def
+    × ((ps : List ProofTree) → HasPassed ps old → AreRead old.text (ps ++ bare g ∷ []))
+NextIs n old new (Err refusal.NoFunction) = ⊥
+NextIs n old new (Err refusal.NoMemory) = Unit {0}
+
+-- what a text has for a name
+abbrev pub Finds : List ℕ → List ℕ → Result Group Refusal → Type 0
+Finds text name (Ok g) = IsNamed text name (Some (group_tree g)) × HasFewNeeds (group_tree g)
+Finds text name (Err (refusal.Text line)) = IsBadText text line
+Finds text name (Err (refusal.IllFormed n def)) = (ps : List ProofTree) × (g : GroupTree) × AreRead text (ps ++ bare g ∷ [])
+    × AreWellFormed (groups_of ps) × (n ≡ length ps) × IsFirstIllFormed g def
+Finds text name (Err refusal.NoFunction) = IsNamed text name None
+Finds text name (Err refusal.NoMemory) = Unit {0}
+
+-- what was found of a name among these groups
+abbrev pub FoundSo : List ℕ → List GroupTree → Option Group → Type 0
+FoundSo name gs None = first_named name gs ≡ None
+FoundSo name gs (Some g) = (first_named name gs ≡ Some (group_tree g)) × HasFewNeeds (group_tree g)
+
+-- proofs that a reader has given of a text, whose groups are well-formed and as many as were counted, and what was found among them
+pub record Searched (text name : List ℕ) (r : Progress) (count : ℕ) (found : Option Group) : Type 0 where
+  pub proofs : List ProofTree
+  pub passed : HasPassed proofs r
+  pub same : r.text ≡ text
+  pub well_formed : AreWellFormed (groups_of proofs)
+  pub counted : count ≡ length proofs
+  pub so : FoundSo name (groups_of proofs) found
+
+-- what `eval` of a group's function within turns comes to
+abbrev pub GroupGives : GroupTree → ℕ → List Arg → EvalAnswer → Type 0
+GroupGives g turns args answer.OverLimit = ⊥
+GroupGives g turns args (answer.Unreadable line) = ⊥
+GroupGives g turns args (answer.IllFormed group def) = ⊥
+GroupGives g turns args answer.NoFunction = ⊥
+GroupGives g turns args (answer.SideFalse def ordinal) = eval g (listed_def g) (arguments_given args g) turns ≡ SideFalse def ordinal
+GroupGives g turns args answer.TurnsUsed = eval g (listed_def g) (arguments_given args g) turns ≡ Turns
+GroupGives g turns args (answer.Done shown) = (exit pc left : ℕ) × (results : Arguments)
+    × (eval g (listed_def g) (arguments_given args g) turns ≡ Done exit pc results left) × (shown ≡ shown_of g args (turns - left) pc results)

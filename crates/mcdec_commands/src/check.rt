@@ -1,0 +1,77 @@
+//! The command `check`.
+
+ghost use Rattle.std.specs.Prelude.{◌≡◌, ℕ, ◌≤◌, List};
+ghost use Rattle.elf_image.specs.Image.{image_of};
+ghost use Rattle.mc_shelf.specs.Fault.{Rose};
+ghost use Rattle.mcdec_commands.specs.Answer.{Gives, ReadsAreTold};
+ghost use Rattle.mcdec_commands.specs.inner.CommandReading.{IsReadCheck};
+ghost use Rattle.mcdec_commands.specs.inner.Checking.{ImageGives, answer_to};
+ghost use Rattle.mcdec_commands.specs.RunAnswer.{IsLoaded};
+
+use crate::answer::{Answer, CheckAnswer};
+use crate::command::Check;
+use crate::evaluate::PROOF_LIMIT;
+use crate::run::ELF_LIMIT;
+use checker::{Verdict, check_text};
+use elf_image::{ElfFault, Image, read};
+use mc_shelf::{ReadEnd, Shelf, read_file};
+use std::alloc::Global;
+
+/// The answer to `check`.
+pub fn check_files<S: Shelf>(alloc: Global, c: &Check<'_>, shelf: &mut S) -> Answer
+    ensures gives { (ws : List (List ℕ)) → IsReadCheck ws c.now
+        → Gives (S.contents shelf.old) ws (Rose (S.read_faults shelf.old) (S.read_faults shelf.new)) (Rose (S.write_faults shelf.old) (S.write_faults shelf.new)) result }
+
+    ensures kept { S.contents shelf.new ≡ S.contents shelf.old }
+    ensures counted { (S.read_faults shelf.old ≤ S.read_faults shelf.new) × (S.write_faults shelf.old ≤ S.write_faults shelf.new) }
+    ensures sure { (ws : List (List ℕ)) → IsReadCheck ws c.now → S.IsSure shelf.old → ReadsAreTold (S.contents shelf.old) ws
+        → (S.read_faults shelf.new ≡ S.read_faults shelf.old) × (S.write_faults shelf.new ≡ S.write_faults shelf.old) }
+{
+    let file = match read_file(alloc, shelf, c.elf, ELF_LIMIT) {
+        Ok(file) => file,
+        Err(ReadEnd::Fault) => return Answer::ReadFault,
+        Err(ReadEnd::TooLong) => return Answer::Check(CheckAnswer::ElfOverLimit),
+        Err(ReadEnd::NoMemory) => return Answer::NoMemory,
+    };
+    match read(alloc, file.as_slice()) {
+        Ok(image) => check_image(alloc, &image, c, shelf),
+        Err(ElfFault::NoMemory) => Answer::NoMemory,
+        Err(why) => Answer::Check(CheckAnswer::UnreadableElf(why)),
+    }
+}
+
+/// The answer to `check` where the ELF file put this into memory.
+fn check_image<S: Shelf>(alloc: Global, image: &Image, c: &Check<'_>, shelf: &mut S) -> Answer
+    ensures gives { (file : List ℕ) → IsLoaded file → image.now ≡ image_of file
+        → ImageGives (S.contents shelf.old) c.now.proof.now file (Rose (S.read_faults shelf.old) (S.read_faults shelf.new)) result }
+
+    ensures kept { S.contents shelf.new ≡ S.contents shelf.old }
+    ensures counted { (S.read_faults shelf.old ≤ S.read_faults shelf.new) × (S.write_faults shelf.old ≤ S.write_faults shelf.new) }
+    ensures sure { (ws : List (List ℕ)) → IsReadCheck ws c.now → S.IsSure shelf.old → ReadsAreTold (S.contents shelf.old) ws
+        → (S.read_faults shelf.new ≡ S.read_faults shelf.old) × (S.write_faults shelf.new ≡ S.write_faults shelf.old) }
+{
+    let text = match read_file(alloc, shelf, c.proof, PROOF_LIMIT) {
+        Ok(text) => text,
+        Err(ReadEnd::Fault) => return Answer::ReadFault,
+        Err(ReadEnd::TooLong) => return Answer::Check(CheckAnswer::ProofOverLimit),
+        Err(ReadEnd::NoMemory) => return Answer::NoMemory,
+    };
+    answer_to(check_text(alloc, image, text.as_slice()))
+}
+
+/// The answer that a verdict is.
+fn answer_to(verdict: Verdict) -> Answer
+    ensures { result ≡ answer_to verdict }
+{
+    match verdict {
+        Verdict::Accepted { functions, lines } => {
+            Answer::Check(CheckAnswer::Accepted(functions, lines))
+        }
+        Verdict::BadElf(why) => Answer::Check(CheckAnswer::UnreadableElf(why)),
+        Verdict::BadText(line) => Answer::Check(CheckAnswer::UnreadableText(line)),
+        Verdict::BadDef(group, def) => Answer::Check(CheckAnswer::IllFormed(group, def)),
+        Verdict::BadLine(line) => Answer::Check(CheckAnswer::WrongLine(line)),
+        Verdict::NotProved(group) => Answer::Check(CheckAnswer::NotProved(group)),
+        Verdict::NoMemory => Answer::NoMemory,
+    }
+}

@@ -1,0 +1,89 @@
+//! The program's commands, over a shelf of files and a sink.
+
+ghost use Rattle.std.specs.Prelude.{◌≡◌, ℕ, ◌≤◌, ◌⊎◌, List, [], ◌∷◌, Some, IfSome, codes};
+ghost use Rattle.mc_shelf.specs.Fault.{Rose, WhereTold};
+ghost use Rattle.mcdec_commands.specs.Answer.{Gives, IsDetermined, KeepsNames, ReadsAreTold};
+ghost use Rattle.mcdec_commands.specs.CheckAnswer.{AreRightFiles};
+ghost use Rattle.mcdec_commands.specs.Command.{Decompile, Words, texts};
+ghost use Rattle.mcdec_commands.specs.DecompileAnswer.{LeavesOut};
+ghost use Rattle.mcdec_commands.specs.Printed.{IsDelivered, IsPrinted, status};
+ghost use Rattle.mcdec_commands.specs.inner.Decompiling.{LeavesBy};
+ghost use Rattle.mcdec_commands.specs.declared.answer.Answer.{Answer as AnswerOf};
+
+use crate::answer::Answer;
+use crate::check::check_files;
+use crate::command::{Command, Unread, read_words};
+use crate::decompile::decompile_files;
+use crate::evaluate::evaluate;
+use crate::print::deliver;
+use crate::run::run_file;
+use crate::selftest::test_drawn;
+use mc_shelf::{Shelf, Sink};
+use std::alloc::Global;
+
+/// Runs the command that the words are, prints the answer's lines and gives its status.
+pub fn run_words<S: Shelf, O: Sink>(
+    alloc: Global,
+    words: &[String],
+    shelf: &mut S,
+    out: &mut O,
+) -> u8
+    // The sink gains the lines of an answer that is given to the words, and the status is the answer's.
+    ensures lines { (a : AnswerOf)
+        × Gives (S.contents shelf.old) (texts words.now) (Rose (S.read_faults shelf.old) (S.read_faults shelf.new)) (Rose (S.write_faults shelf.old) (S.write_faults shelf.new)) a
+        × IsDelivered a result (O.written out.old) (O.written out.new) }
+
+    // An answer that the words and the files give comes, but for faults of the outside and want of memory.
+    ensures exact { IfSome (S.contents shelf.old) (λ files. (a : AnswerOf) → IsDetermined a
+        → Gives (Some files) (texts words.now) (Rose (S.read_faults shelf.old) (S.read_faults shelf.new)) (Rose (S.write_faults shelf.old) (S.write_faults shelf.new)) a
+        → IsPrinted a result (O.written out.old) (O.written out.new) ⊎ (result ≡ 4) ⊎ (result ≡ 5) ⊎ (result ≡ 6)) }
+
+    // Where `check` ends with status 0, the functions of the proof file are right of the ELF file.
+    ensures headline { IfSome (S.contents shelf.old) (λ files. (elf proof : List ℕ) → texts words.now ≡ codes "check" ∷ elf ∷ proof ∷ []
+        → result ≡ 0 → AreRightFiles files elf proof) }
+
+    // What `decompile` leaves in its output file: with status 0 all of the text of such proofs, with 5 and 6 a front of it or what was there,
+    // with any other status what was there.
+    ensures written { WhereTold (S.contents shelf.old) (S.contents shelf.new) (λ old new. (elf out : List ℕ) (names : List (List ℕ))
+        → Words (texts words.now) (Decompile elf out names) → LeavesOut old elf names result (old out) (new out)) }
+
+    ensures read_fault { result ≡ 4 → Rose (S.read_faults shelf.old) (S.read_faults shelf.new) }
+    ensures write_fault { result ≡ 5 → Rose (S.write_faults shelf.old) (S.write_faults shelf.new) ⊎ Rose (O.faults out.old) (O.faults out.new) }
+
+    ensures kept { WhereTold (S.contents shelf.old) (S.contents shelf.new) (KeepsNames (texts words.now)) }
+    ensures counted { (S.read_faults shelf.old ≤ S.read_faults shelf.new) × (S.write_faults shelf.old ≤ S.write_faults shelf.new)
+        × (O.faults out.old ≤ O.faults out.new) }
+
+    ensures sure { S.IsSure shelf.old → ReadsAreTold (S.contents shelf.old) (texts words.now)
+        → (S.read_faults shelf.new ≡ S.read_faults shelf.old) × (S.write_faults shelf.new ≡ S.write_faults shelf.old) }
+{
+    let answer = answer_words(alloc, words, shelf);
+    deliver(out, &answer)
+}
+
+/// The answer to the words. All is done but the printing.
+fn answer_words<S: Shelf>(alloc: Global, words: &[String], shelf: &mut S) -> Answer
+    ensures gives { Gives (S.contents shelf.old) (texts words.now) (Rose (S.read_faults shelf.old) (S.read_faults shelf.new)) (Rose (S.write_faults shelf.old) (S.write_faults shelf.new)) result }
+
+    ensures written { WhereTold (S.contents shelf.old) (S.contents shelf.new) (λ old new. (elf out : List ℕ) (names : List (List ℕ))
+        → Words (texts words.now) (Decompile elf out names) → LeavesBy old elf names result (old out) (new out)) }
+    ensures write_fault { status result ≡ 5 → Rose (S.write_faults shelf.old) (S.write_faults shelf.new) }
+
+    ensures kept { WhereTold (S.contents shelf.old) (S.contents shelf.new) (KeepsNames (texts words.now)) }
+    ensures counted { (S.read_faults shelf.old ≤ S.read_faults shelf.new) × (S.write_faults shelf.old ≤ S.write_faults shelf.new) }
+    ensures sure { S.IsSure shelf.old → ReadsAreTold (S.contents shelf.old) (texts words.now)
+        → (S.read_faults shelf.new ≡ S.read_faults shelf.old) × (S.write_faults shelf.new ≡ S.write_faults shelf.old) }
+{
+    let command = match read_words(alloc, words) {
+        Ok(command) => command,
+        Err(Unread::NotThere) => return Answer::NotACommand,
+        Err(Unread::NoMemory) => return Answer::NoMemory,
+    };
+    match command {
+        Command::Eval(e) => evaluate(alloc, &e, shelf),
+        Command::Run(r) => run_file(alloc, &r, shelf),
+        Command::Check(c) => check_files(alloc, &c, shelf),
+        Command::Decompile(d) => decompile_files(alloc, &d, shelf),
+        Command::SelfTest(test) => test_drawn(alloc, test),
+    }
+}

@@ -1,0 +1,189 @@
+//! The command `eval`.
+
+ghost use Rattle.std.specs.Prelude.{◌≡◌, ℕ, ◌≤◌, List, [], ◌∷◌, ◌++◌, All, length, map, IfOk};
+ghost use Rattle.mc_shelf.specs.Fault.{Rose};
+ghost use Rattle.tailrec_lang.specs.Tree.{GroupTree, group_tree};
+ghost use Rattle.tailrec_lang.specs.Eval.{HasFewNeeds};
+ghost use Rattle.tailrec_lang.specs.WellFormed.{IsWellFormed};
+ghost use Rattle.group_text.specs.Limits.{IsGroup};
+ghost use Rattle.mcdec_commands.specs.Answer.{Gives, ReadsAreTold};
+ghost use Rattle.mcdec_commands.specs.Command.{Arg, AreArgs, IsMemory};
+ghost use Rattle.mcdec_commands.specs.inner.CommandReading.{HoldsArgs, IsReadEval, value_in};
+ghost use Rattle.mcdec_commands.specs.EvalAnswer.{EvalGives, proof_limit};
+ghost use Rattle.mcdec_commands.specs.inner.Search.{Finds, FoundSo, GroupGives, LineIs, LinesArePassed, NextIs};
+
+use crate::answer::{Answer, EvalAnswer, Shown};
+use crate::command::{Eval, Registers};
+use crate::memory::{memories, ranges_in};
+use mc_shelf::{ReadEnd, Shelf, read_file};
+use proof_text::{Line, Reader, TextFault};
+use rv_words::{List, NoMemory};
+use std::alloc::Global;
+use tailrec_lang::{Args, BadDef, Group, Outcome, eval, well_formed};
+
+/// The most bytes of a proof file that are read.
+pub const PROOF_LIMIT: u64 = 268_435_456;
+
+/// Why a text has no function to evaluate.
+#[derive(Clone, Copy, Debug, PartialEq, Eq)]
+pub enum Refusal {
+    /// It isn't a proof file, from this line on.
+    Text(u64),
+    /// In the group of that number, this definition isn't well-formed.
+    IllFormed(u64, u32),
+    /// No group has the name.
+    NoFunction,
+    /// There was no memory.
+    NoMemory,
+}
+
+/// The answer to `eval`.
+pub fn evaluate<S: Shelf>(alloc: Global, e: &Eval<'_>, shelf: &mut S) -> Answer
+    requires { All IsMemory e.now.memory }
+    ensures gives { (ws : List (List ℕ)) → IsReadEval ws e.now
+        → Gives (S.contents shelf.old) ws (Rose (S.read_faults shelf.old) (S.read_faults shelf.new)) (Rose (S.write_faults shelf.old) (S.write_faults shelf.new)) result }
+
+    ensures kept { S.contents shelf.new ≡ S.contents shelf.old }
+    ensures counted { (S.read_faults shelf.old ≤ S.read_faults shelf.new) × (S.write_faults shelf.old ≤ S.write_faults shelf.new) }
+    ensures sure { (ws : List (List ℕ)) → IsReadEval ws e.now → S.IsSure shelf.old → ReadsAreTold (S.contents shelf.old) ws
+        → (S.read_faults shelf.new ≡ S.read_faults shelf.old) × (S.write_faults shelf.new ≡ S.write_faults shelf.old) }
+{
+    let text = match read_file(alloc, shelf, e.proof, PROOF_LIMIT) {
+        Ok(text) => text,
+        Err(ReadEnd::Fault) => return Answer::ReadFault,
+        Err(ReadEnd::TooLong) => return Answer::Eval(EvalAnswer::OverLimit),
+        Err(ReadEnd::NoMemory) => return Answer::NoMemory,
+    };
+    match evaluate_text(alloc, text.as_slice(), e) {
+        Ok(answer) => Answer::Eval(answer),
+        Err(NoMemory) => Answer::NoMemory,
+    }
+}
+
+/// The answer to `eval` where its proof file has this text.
+fn evaluate_text(alloc: Global, text: &[u8], e: &Eval<'_>) -> Result<EvalAnswer, NoMemory>
+    requires memory { All IsMemory e.now.memory }
+    requires within { length text.now ≤ proof_limit }
+    ensures { (args : List Arg) → AreArgs args → HoldsArgs args e.now.given.values e.now.memory
+        → IfOk result (λ a. EvalGives text.now e.now.name.now e.now.turns args a) }
+{
+    match find_group(alloc, text, e.name) {
+        Ok(g) => evaluate_group(alloc, g, e),
+        Err(Refusal::Text(line)) => Ok(EvalAnswer::Unreadable(line)),
+        Err(Refusal::IllFormed(group, def)) => Ok(EvalAnswer::IllFormed(group, def)),
+        Err(Refusal::NoFunction) => Ok(EvalAnswer::NoFunction),
+        Err(Refusal::NoMemory) => Err(NoMemory),
+    }
+}
+
+/// The first group of that name. Each group of the text is read and judged, and the lines of its proof are read.
+fn find_group(alloc: Global, text: &[u8], name: &[u8]) -> Result<Group, Refusal>
+    ensures { Finds text.now name.now result }
+{
+    let mut reader = Reader::new(text);
+    let mut found = None;
+    let mut count = 0;
+    while let Some(g) = next_group(alloc, &mut reader, count)? {
+        found = first_named(found, g, name);
+        count += 1;
+    }
+    match found {
+        Some(g) => Ok(g),
+        None => Err(Refusal::NoFunction),
+    }
+}
+
+/// What is found of a name, with one more group.
+fn first_named(found: Option<Group>, next: Group, name: &[u8]) -> Option<Group>
+    requires { HasFewNeeds (group_tree next) }
+    ensures { (gs : List GroupTree) → FoundSo name.now gs found → FoundSo name.now (gs ++ group_tree next ∷ []) result }
+{
+    match found {
+        Some(first) => Some(first),
+        None => {
+            if next.name.as_slice() == name {
+                Some(next)
+            } else {
+                None
+            }
+        }
+    }
+}
+
+/// The next group, if it is well-formed, with the lines of its proof passed over. Its number is told of one that isn't.
+fn next_group(alloc: Global, reader: &mut Reader<'_>, number: u64) -> Result<Option<Group>, Refusal>
+    ensures { NextIs number reader.old reader.new result }
+{
+    match reader.group(alloc) {
+        Ok(None) => Ok(None),
+        Ok(Some(g)) => match well_formed(&g) {
+            Ok(()) => {
+                pass_lines(alloc, reader, &g)?;
+                Ok(Some(g))
+            }
+            Err(BadDef { def }) => Err(Refusal::IllFormed(number, def)),
+        },
+        Err(TextFault::Bad(line)) => Err(Refusal::Text(line)),
+        Err(TextFault::NoMemory) => Err(Refusal::NoMemory),
+    }
+}
+
+/// Reads the lines of a group's proof, up to where they end.
+fn pass_lines(alloc: Global, reader: &mut Reader<'_>, g: &Group) -> Result<(), Refusal>
+    requires { IsGroup (group_tree g.now) }
+    ensures { LinesArePassed (group_tree g.now) reader.old reader.new result }
+{
+    while let Some(_) = next_line(alloc, reader, g)? {}
+    Ok(())
+}
+
+/// The next line of a group's proof, or none where they end.
+fn next_line(alloc: Global, reader: &mut Reader<'_>, g: &Group) -> Result<Option<Line>, Refusal>
+    requires { IsGroup (group_tree g.now) }
+    ensures { LineIs (group_tree g.now) reader.old reader.new result }
+{
+    match reader.line(alloc, g) {
+        Ok(line) => Ok(line),
+        Err(TextFault::Bad(number)) => Err(Refusal::Text(number)),
+        Err(TextFault::NoMemory) => Err(Refusal::NoMemory),
+    }
+}
+
+/// The answer to `eval` of the listed function of this group.
+fn evaluate_group(alloc: Global, g: Group, e: &Eval<'_>) -> Result<EvalAnswer, NoMemory>
+    requires group { IsGroup (group_tree g) }
+    requires well_formed { IsWellFormed (group_tree g) }
+    requires needs { HasFewNeeds (group_tree g) }
+    requires memory { All IsMemory e.now.memory }
+    ensures { (args : List Arg) → HoldsArgs args e.now.given.values e.now.memory
+        → IfOk result (λ a. GroupGives (group_tree g) e.now.turns args a) }
+{
+    let words = arguments(alloc, g.regs.as_slice(), &e.given)?;
+    let mems = memories(alloc, g.mems, e.memory.as_slice())?;
+    let def = (g.defs.len() - 1) as u32;
+    match eval(alloc, &g, def, &Args { words, mems }, e.turns)? {
+        Outcome::Done { pc, args, left, .. } => {
+            let memory = ranges_in(alloc, args.mems.as_slice(), e.memory.as_slice())?;
+            Ok(EvalAnswer::Done(Shown {
+                count: e.turns - left,
+                pc,
+                registers: g.regs,
+                words: args.words,
+                memory,
+            }))
+        }
+        Outcome::SideFalse { def, ordinal } => Ok(EvalAnswer::SideFalse(def, ordinal)),
+        Outcome::Turns => Ok(EvalAnswer::TurnsUsed),
+    }
+}
+
+/// The values of the registers.
+fn arguments(alloc: Global, registers: &[u8], given: &Registers) -> Result<List<u64>, NoMemory>
+    ensures { IfOk result (λ words. words ≡ map (value_in given.now.values) registers.now) }
+{
+    let mut words = List::new(alloc);
+    for register in registers {
+        words.push(given.value(*register))?;
+    }
+    Ok(words)
+}

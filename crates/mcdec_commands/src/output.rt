@@ -1,0 +1,60 @@
+//! A text written into a file of a shelf, one line a call.
+
+ghost use Rattle.std.specs.Prelude.{◌≡◌, ◌<◌, ◌≤◌, ◌++◌, IsErrOf, length};
+ghost use Rattle.mc_shelf.specs.Fault.{Rose, WhereTold};
+ghost use Rattle.mc_shelf.specs.Shelf.{TellsName};
+ghost use Rattle.mcdec_commands.specs.inner.Writing.{AddsText, IsTold, Writes};
+
+use mc_shelf::{Shelf, Stop};
+
+/// Makes the name hold the text and nothing else.
+pub fn write_text<S: Shelf>(shelf: &mut S, name: &str, text: &[u8]) -> Result<(), Stop>
+    ensures written { WhereTold (S.contents shelf.old) (S.contents shelf.new) (Writes result name.now text.now) }
+
+    ensures reads { S.read_faults shelf.new ≡ S.read_faults shelf.old }
+    ensures counted { S.write_faults shelf.old ≤ S.write_faults shelf.new }
+    ensures cause { IsErrOf result Stop.Failed → Rose (S.write_faults shelf.old) (S.write_faults shelf.new) }
+    ensures sure { S.IsSure shelf.old → IsTold (S.contents shelf.old) → S.write_faults shelf.new ≡ S.write_faults shelf.old }
+{
+    shelf.create(name)?;
+    append_lines(shelf, name, text)
+}
+
+/// Adds the text to what the name holds, which is there.
+fn append_lines<S: Shelf>(shelf: &mut S, name: &str, text: &[u8]) -> Result<(), Stop>
+    ensures added { WhereTold (S.contents shelf.old) (S.contents shelf.new) (AddsText result name.now text.now) }
+
+    ensures reads { S.read_faults shelf.new ≡ S.read_faults shelf.old }
+    ensures counted { S.write_faults shelf.old ≤ S.write_faults shelf.new }
+    ensures cause { IsErrOf result Stop.Failed → Rose (S.write_faults shelf.old) (S.write_faults shelf.new) }
+    ensures sure { S.IsSure shelf.old → TellsName (S.contents shelf.old) name.now → S.write_faults shelf.new ≡ S.write_faults shelf.old }
+{
+    let mut rest = text;
+    while !rest.is_empty() {
+        let (line, behind) = first_line(rest);
+        shelf.append(name, line)?;
+        rest = behind;
+    }
+    Ok(())
+}
+
+/// The text up to its first newline, with it, and what stands behind that.
+fn first_line(text: &[u8]) -> (&[u8], &[u8])
+    ensures parts { text.now ≡ result.0.now ++ result.1.now }
+    ensures some { 0 < length text.now → 0 < length result.0.now }
+{
+    text.split_at(end_of_line(text))
+}
+
+/// How many bytes the first line has, with its newline, if there is one.
+fn end_of_line(text: &[u8]) -> usize
+    ensures within { result ≤ length text.now }
+    ensures some { 0 < length text.now → 0 < result }
+{
+    for i in 0..text.len() {
+        if text[i] == b'\n' {
+            return i + 1;
+        }
+    }
+    text.len()
+}

@@ -1,0 +1,166 @@
+//! The command `run`.
+
+ghost use Rattle.std.specs.Prelude.{◌≡◌, ℕ, ◌≤◌, List, All, IfOk, OnOk, length};
+ghost use Rattle.elf_image.specs.Image.{IsPlaced, bytes_in, image_of, padded};
+ghost use Rattle.mc_shelf.specs.Fault.{Rose};
+ghost use Rattle.rv_words.specs.Bytes.{bytes_from};
+ghost use Rattle.rv_machine.specs.State.{state_of, with_bytes};
+ghost use Rattle.mcdec_commands.specs.Answer.{Gives, ReadsAreTold};
+ghost use Rattle.mcdec_commands.specs.Command.{AreArgs, AreGiven, Arg, Given, IsMemory, value_of};
+ghost use Rattle.mcdec_commands.specs.inner.CommandReading.{Holds, HoldsArgs, IsReadRun};
+ghost use Rattle.mcdec_commands.specs.Memory.{placed};
+ghost use Rattle.mcdec_commands.specs.RunAnswer.{RunGives, state_given, elf_limit};
+ghost use Rattle.mcdec_commands.specs.inner.Running.{MachineGives, shown_with};
+
+use crate::answer::{Answer, RunAnswer, Shown};
+use crate::command::{Registers, Run};
+use crate::memory::ranges_now;
+use decompiler::address_of;
+use elf_image::{ElfFault, Image, Piece, law_of_image, read};
+use mc_shelf::{ReadEnd, Shelf, read_file};
+use rv_machine::{RunEnd, State};
+use rv_words::{Bytes, List, NoMemory, Range, Text};
+use std::alloc::Global;
+
+/// The most bytes of an ELF file that are read.
+pub const ELF_LIMIT: u64 = 67_108_864;
+
+/// The answer to `run`.
+pub fn run_file<S: Shelf>(alloc: Global, r: &Run<'_>, shelf: &mut S) -> Answer
+    requires { All IsMemory r.now.memory }
+    ensures gives { (ws : List (List ℕ)) → IsReadRun ws r.now
+        → Gives (S.contents shelf.old) ws (Rose (S.read_faults shelf.old) (S.read_faults shelf.new)) (Rose (S.write_faults shelf.old) (S.write_faults shelf.new)) result }
+
+    ensures kept { S.contents shelf.new ≡ S.contents shelf.old }
+    ensures counted { (S.read_faults shelf.old ≤ S.read_faults shelf.new) × (S.write_faults shelf.old ≤ S.write_faults shelf.new) }
+    ensures sure { (ws : List (List ℕ)) → IsReadRun ws r.now → S.IsSure shelf.old → ReadsAreTold (S.contents shelf.old) ws
+        → (S.read_faults shelf.new ≡ S.read_faults shelf.old) × (S.write_faults shelf.new ≡ S.write_faults shelf.old) }
+{
+    let file = match read_file(alloc, shelf, r.elf, ELF_LIMIT) {
+        Ok(file) => file,
+        Err(ReadEnd::Fault) => return Answer::ReadFault,
+        Err(ReadEnd::TooLong) => return Answer::Run(RunAnswer::OverLimit),
+        Err(ReadEnd::NoMemory) => return Answer::NoMemory,
+    };
+    match run_bytes(alloc, file, r) {
+        Ok(answer) => Answer::Run(answer),
+        Err(NoMemory) => Answer::NoMemory,
+    }
+}
+
+/// The answer to `run` where its ELF file has these bytes. They are let go before the run's memory is made.
+fn run_bytes(alloc: Global, file: Bytes, r: &Run<'_>) -> Result<RunAnswer, NoMemory>
+    requires memory { All IsMemory r.now.memory }
+    requires within { length file ≤ elf_limit }
+    ensures { (args : List Arg) → AreArgs args → HoldsArgs args r.now.given.values r.now.memory
+        → IfOk result (λ a. RunGives file r.now.start.now r.now.until r.now.steps args a) }
+{
+    let image = match read(alloc, file.as_slice()) {
+        Ok(image) => image,
+        Err(ElfFault::NoMemory) => return Err(NoMemory),
+        Err(why) => return Ok(RunAnswer::Unreadable(why)),
+    };
+    drop(file);
+    match address_of(&image, r.start) {
+        Ok(start) => run_image(alloc, image, start, r),
+        Err(why) => {
+            let start = Text::from_slice(alloc, r.start)?;
+            Ok(RunAnswer::StartRefused(start, why))
+        }
+    }
+}
+
+/// The answer to `run` from an address of this image. It is let go before the run.
+fn run_image(alloc: Global, image: Image, start: u64, r: &Run<'_>) -> Result<RunAnswer, NoMemory>
+    requires { All IsMemory r.now.memory }
+    ensures { (args : List Arg) → AreArgs args → HoldsArgs args r.now.given.values r.now.memory → (file : List ℕ) → image ≡ image_of file
+        → IfOk result (λ a. MachineGives r.now.until r.now.steps args (state_given file args start) a) }
+{
+    law_of_image(&image);
+    let mut state = State::new(alloc, start);
+    place_pieces(&mut state, image.pieces())?;
+    drop(image);
+    place_ranges(&mut state, r.memory.as_slice())?;
+    set_registers(&mut state, &r.given);
+    match state.run(r.until, r.steps) {
+        RunEnd::Met(steps) => {
+            let memory = ranges_now(alloc, state.memory(), r.memory.as_slice())?;
+            let shown = shown(alloc, steps, &state, &r.given, memory)?;
+            Ok(RunAnswer::Met(shown))
+        }
+        RunEnd::Stuck(steps, why) => Ok(RunAnswer::Stuck(steps, why)),
+        RunEnd::Steps => Ok(RunAnswer::StepsUsed),
+    }
+}
+
+/// Puts the pieces into memory, the last first.
+fn place_pieces(state: &mut State, pieces: &[Piece]) -> Result<(), NoMemory>
+    requires { All IsPlaced pieces.now }
+    ensures { OnOk result (state_of state.new ≡ with_bytes (bytes_in pieces.now) (state_of state.old)) }
+{
+    let mut i = pieces.len();
+    while i > 0 {
+        i -= 1;
+        place_piece(state, &pieces[i])?;
+    }
+    Ok(())
+}
+
+/// Puts a piece into memory: zeros, and the file's bytes over them.
+fn place_piece(state: &mut State, piece: &Piece) -> Result<(), NoMemory>
+    requires { IsPlaced piece.now }
+    ensures { OnOk result (state_of state.new ≡ with_bytes (bytes_from piece.now.at (padded piece.now)) (state_of state.old)) }
+{
+    state.place_zeros(piece.at, piece.size)?;
+    state.place(piece.at, piece.from.as_slice())
+}
+
+/// Puts the ranges' bytes into memory, one range after the other.
+fn place_ranges(state: &mut State, ranges: &[Range]) -> Result<(), NoMemory>
+    requires { All IsMemory ranges.now }
+    ensures { OnOk result (state_of state.new ≡ record (state_of state.old) { mem = placed ranges.now (state_of state.old).mem }) }
+{
+    for range in ranges {
+        state.place(range.at, range.bytes.as_slice())?;
+    }
+    Ok(())
+}
+
+/// Gives the registers their values.
+fn set_registers(state: &mut State, values: &Registers)
+    ensures { (given : List Given) → AreGiven given → Holds given values.now.values → (state_of state.old).reg ≡ (λ r. 0)
+        → state_of state.new ≡ record (state_of state.old) { reg = value_of given } }
+{
+    for register in 1..32 {
+        state.set_reg(register, values.value(register));
+    }
+}
+
+/// What is shown of a state after that many steps: the registers that were given a value or don't hold 0.
+fn shown(
+    alloc: Global,
+    count: u64,
+    state: &State,
+    values: &Registers,
+    memory: List<Range>,
+) -> Result<Shown, NoMemory>
+    ensures { (given : List Given) → Holds given values.now.values
+        → IfOk result (λ s. s ≡ shown_with given count (state_of state.now) memory) }
+{
+    let mut registers = List::new(alloc);
+    let mut words = List::new(alloc);
+    for register in 1..32 {
+        let word = state.reg(register);
+        if values.given(register).is_some() || word != 0 {
+            registers.push(register)?;
+            words.push(word)?;
+        }
+    }
+    Ok(Shown {
+        count,
+        pc: state.pc(),
+        registers,
+        words,
+        memory,
+    })
+}
