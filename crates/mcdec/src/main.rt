@@ -2,7 +2,8 @@
 #![tactic(auto)]
 
 use mc_shelf::{DirShelf, OutSink};
-use mcdec_commands::{Answer, deliver, run_words};
+use mcdec_answers::{Answer, deliver};
+use mcdec_commands::run_words;
 use std::process::ExitCode;
 use std::{env, io};
 

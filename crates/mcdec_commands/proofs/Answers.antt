@@ -17,10 +17,10 @@ use Rattle.tailrec_lang.specs.Registers.{AreRegistersFrom}
 use Rattle.group_text.specs.Limits.{IsGroup}
 use Rattle.proof_text.specs.Line.{ProofTree}
 use Rattle.proof_text.specs.Proofs.{AreProofs, groups_of}
-use Rattle.mcdec_commands.specs.declared.answer.EvalAnswer.{EvalAnswer}
-use Rattle.mcdec_commands.specs.declared.answer.EvalAnswer.TheVariants as answer
-use Rattle.mcdec_commands.specs.Command.{Eval, Run, Arg, Given, Words, value_of, givens, ranges}
-use Rattle.mcdec_commands.specs.inner.CommandReading.{Holds, HoldsArgs, value_in}
+use Rattle.mcdec_answers.specs.declared.answer.EvalAnswer.{EvalAnswer}
+use Rattle.mcdec_answers.specs.declared.answer.EvalAnswer.TheVariants as answer
+use Rattle.mcdec_words.specs.Command.{Eval, Run, Arg, Given, Words, value_of, givens, ranges}
+use Rattle.mcdec_words.specs.CommandReading.{Holds, HoldsArgs, value_in}
 use Rattle.mcdec_commands.specs.Memory.{no_bytes, placed}
 use Rattle.mcdec_commands.specs.EvalAnswer.{proof_limit, arguments_given, first_named, ranges_in, EvalGives}
 use Rattle.mcdec_commands.specs.inner.Search.{Finds, GroupGives}

@@ -5,9 +5,9 @@ use Rattle.mc_shelf.specs.Shelf.{Contents, TellsName}
 use Rattle.checker.specs.declared.verdict.Verdict.{Verdict}
 use Rattle.checker.specs.declared.verdict.Verdict.TheVariants as verdict
 use Rattle.checker.specs.Verdicts.{Says, IsBadText, IsBadDef, IsBadLine, IsNotProved, IsAcceptedText}
-use Rattle.mcdec_commands.specs.declared.answer.Answer.{Answer}
-use Rattle.mcdec_commands.specs.declared.answer.Answer.TheVariants as answer
-use Rattle.mcdec_commands.specs.Command.{Check, Words}
+use Rattle.mcdec_answers.specs.declared.answer.Answer.{Answer}
+use Rattle.mcdec_answers.specs.declared.answer.Answer.TheVariants as answer
+use Rattle.mcdec_words.specs.Command.{Check, Words}
 use Rattle.mcdec_commands.specs.EvalAnswer.{proof_limit}
 use Rattle.mcdec_commands.specs.RunAnswer.{IsLoaded}
 use Rattle.mcdec_commands.specs.CheckAnswer.{CheckGives}

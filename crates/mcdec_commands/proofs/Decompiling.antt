@@ -10,22 +10,22 @@ use Rattle.proof_text.specs.Proofs.{AreProofs, text_of_proofs}
 use Rattle.path_walk.specs.declared.item.Item.{Item}
 use Rattle.path_walk.specs.declared.proof.Proof.{Proof}
 use Rattle.decompiler.specs.Listing.{AreItemsFor, proofs_of}
-use Rattle.mcdec_commands.specs.declared.answer.Answer.{Answer}
-use Rattle.mcdec_commands.specs.declared.answer.Answer.TheVariants as answer
-use Rattle.mcdec_commands.specs.declared.answer.DecompileAnswer.TheVariants as de
-use Rattle.mcdec_commands.specs.declared.answer.EvalAnswer.TheVariants as ev
-use Rattle.mcdec_commands.specs.declared.answer.RunAnswer.TheVariants as ra
-use Rattle.mcdec_commands.specs.declared.answer.CheckAnswer.TheVariants as ca
-use Rattle.mcdec_commands.specs.Command.{Command, Decompile, Words, output_of}
+use Rattle.mcdec_answers.specs.declared.answer.Answer.{Answer}
+use Rattle.mcdec_answers.specs.declared.answer.Answer.TheVariants as answer
+use Rattle.mcdec_answers.specs.declared.answer.DecompileAnswer.TheVariants as de
+use Rattle.mcdec_answers.specs.declared.answer.EvalAnswer.TheVariants as ev
+use Rattle.mcdec_answers.specs.declared.answer.RunAnswer.TheVariants as ra
+use Rattle.mcdec_answers.specs.declared.answer.CheckAnswer.TheVariants as ca
+use Rattle.mcdec_words.specs.Command.{Command, Decompile, Words, output_of}
 use Rattle.mcdec_commands.specs.RunAnswer.{IsLoaded}
 use Rattle.mcdec_commands.specs.DecompileAnswer.{DecompileGives, HoldsAll, HoldsFront, IsTextFor, LeavesOut, all_listed, listed_of}
 use Rattle.mcdec_commands.specs.Answer.{Gives, KeepsNames, ReadsAreTold}
-use Rattle.mcdec_commands.specs.Printed.{IsDelivered, status}
+use Rattle.mcdec_answers.specs.Printed.{IsDelivered, status}
 use Rattle.mcdec_commands.specs.inner.Decompiling.{FileGives, LeavesBy, WritesOut}
 use Rattle.mcdec_commands.specs.inner.Writing.{IsTold, Writes}
 use Rattle.mcdec_commands.proofs.Answers.{held-with}
-use Rattle.mcdec_commands.proofs.Exactness.{words-unique}
-use Rattle.mcdec_commands.proofs.Prints.{told_same, where_told}
+use Rattle.mcdec_words.proofs.OneCommand.{words-unique}
+use Rattle.mcdec_answers.proofs.Prints.{told_same, where_told}
 
 -- ---- the file that it reads
 

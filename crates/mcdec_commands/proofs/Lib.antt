@@ -1,10 +1,4 @@
-pub mod NameWords
-pub mod Prints
 pub mod Writing
-pub mod Givens
-pub mod Registers
-pub mod ArgWords
-pub mod Words
 pub mod SetUp
 pub mod Asked
 pub mod Answers

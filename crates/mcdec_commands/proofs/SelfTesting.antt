@@ -1,14 +1,14 @@
 -- What is answered to the command `selftest`.
 use Rattle.std.proofs.Common.{◌≡◌, ℕ, List, Option, refl, ap, subst, ◌⊎◌, inl, inr}
 use Rattle.mc_shelf.specs.Shelf.{Contents}
-use Rattle.mcdec_commands.specs.declared.answer.Answer.{Answer}
-use Rattle.mcdec_commands.specs.declared.answer.Answer.TheVariants as answer
-use Rattle.mcdec_commands.specs.declared.answer.SelfTestAnswer.{SelfTestAnswer}
-use Rattle.mcdec_commands.specs.Command.{Arg, Check, Decompile, Eval, Run, SelfTest, Words, inputs_of, output_of}
+use Rattle.mcdec_answers.specs.declared.answer.Answer.{Answer}
+use Rattle.mcdec_answers.specs.declared.answer.Answer.TheVariants as answer
+use Rattle.mcdec_answers.specs.declared.answer.SelfTestAnswer.{SelfTestAnswer}
+use Rattle.mcdec_words.specs.Command.{Arg, Check, Decompile, Eval, Run, SelfTest, Words, inputs_of, output_of}
 use Rattle.mcdec_commands.specs.SelfTestAnswer.{SelfTestGives}
 use Rattle.mcdec_commands.specs.Answer.{Gives}
 use Rattle.mcdec_commands.specs.inner.SelfTesting.{TestGives}
-use Rattle.mcdec_commands.proofs.Exactness.{words-unique}
+use Rattle.mcdec_words.proofs.OneCommand.{words-unique}
 
 -- what is answered to the number and the size is what the command comes to
 pub test-gives : (told : Option Contents) (ws : List (List ℕ)) (number size : ℕ) (rose wrote : Type 0) → Words ws (SelfTest number size) → (a : Answer) → TestGives number size a → Gives told ws rose wrote a

@@ -7,9 +7,9 @@ use Rattle.mc_shelf.specs.Fault.{WhereTold}
 use Rattle.mc_shelf.specs.Shelf.{AddsToName, Appends, Contents, Creates, Empties, KeepsOthers, TellsName}
 use Rattle.mc_shelf.specs.declared.sink.Stop.{Stop}
 use Rattle.mc_shelf.specs.declared.sink.Stop.TheVariants.{Failed, NoMemory}
-use Rattle.mcdec_commands.specs.inner.Printing.{Gains}
+use Rattle.mcdec_answers.specs.inner.Printing.{Gains}
 use Rattle.mcdec_commands.specs.inner.Writing.{AddsText, IsTold, IsWritten, Writes}
-use Rattle.mcdec_commands.proofs.Prints.{gains-added, gains-then, stops_in_first, told_same, told_then, where_told}
+use Rattle.mcdec_answers.proofs.Prints.{gains-added, gains-then, stops_in_first, told_same, told_then, where_told}
 
 kept-then : (name : List ℕ) (x y z : Contents) → KeepsOthers name x y → KeepsOthers name y z → KeepsOthers name x z
 kept-then name x y z h k other apart = k other apart ∙ h other apart

@@ -7,8 +7,8 @@ use Rattle.group_text.specs.Spelling.{text_of}
 use Rattle.group_text.specs.Limits.{AreGroups}
 use Rattle.checker.specs.Headline.{Headline}
 use Rattle.checker.specs.Verdicts.{IsBadText, IsBadDef, IsBadLine, IsNotProved, IsAcceptedText}
-use Rattle.mcdec_commands.specs.declared.answer.CheckAnswer.{CheckAnswer}
-use Rattle.mcdec_commands.specs.declared.answer.CheckAnswer.TheVariants as answer
+use Rattle.mcdec_answers.specs.declared.answer.CheckAnswer.{CheckAnswer}
+use Rattle.mcdec_answers.specs.declared.answer.CheckAnswer.TheVariants as answer
 use Rattle.mcdec_commands.specs.Held.{HoldsWith}
 use Rattle.mcdec_commands.specs.Listed.{lines_of, without_proofs}
 use Rattle.mcdec_commands.specs.EvalAnswer.{proof_limit}

@@ -11,9 +11,9 @@ use Rattle.path_walk.specs.declared.item.Item.{Item}
 use Rattle.path_walk.specs.declared.proof.Proof.{Proof}
 use Rattle.decompiler.specs.Listing.{AreItemsFor, proofs_of}
 use Rattle.decompiler.specs.Listing.{IsRefused}
-use Rattle.mcdec_commands.specs.declared.answer.DecompileAnswer.{DecompileAnswer}
-use Rattle.mcdec_commands.specs.declared.answer.DecompileAnswer.TheVariants as answer
-use Rattle.mcdec_commands.specs.declared.answer.Listed.{Listed}
+use Rattle.mcdec_answers.specs.declared.answer.DecompileAnswer.{DecompileAnswer}
+use Rattle.mcdec_answers.specs.declared.answer.DecompileAnswer.TheVariants as answer
+use Rattle.mcdec_answers.specs.declared.answer.Listed.{Listed}
 use Rattle.mcdec_commands.specs.RunAnswer.{elf_limit, IsLoaded}
 
 -- what is told of a name: where its function is entered, how many instructions are reached from there, and how many definitions it has

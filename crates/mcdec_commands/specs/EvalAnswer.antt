@@ -11,10 +11,10 @@ use Rattle.proof_text.specs.Line.{ProofTree}
 use Rattle.proof_text.specs.Proofs.{bare, groups_of, texts_of_proofs}
 use Rattle.proof_text.specs.FirstProofs.{AreRead}
 use Rattle.checker.specs.Verdicts.{IsTextOf}
-use Rattle.mcdec_commands.specs.declared.answer.EvalAnswer.{EvalAnswer}
-use Rattle.mcdec_commands.specs.declared.answer.EvalAnswer.TheVariants as answer
-use Rattle.mcdec_commands.specs.declared.answer.Shown.{Shown}
-use Rattle.mcdec_commands.specs.Command.{Arg, value_of, givens, ranges}
+use Rattle.mcdec_answers.specs.declared.answer.EvalAnswer.{EvalAnswer}
+use Rattle.mcdec_answers.specs.declared.answer.EvalAnswer.TheVariants as answer
+use Rattle.mcdec_answers.specs.declared.answer.Shown.{Shown}
+use Rattle.mcdec_words.specs.Command.{Arg, value_of, givens, ranges}
 use Rattle.mcdec_commands.specs.Memory.{no_bytes, placed, held_at}
 
 -- the most bytes of a proof file that are read

@@ -1,4 +1,3 @@
-pub mod Command
 pub mod Memory
 pub mod EvalAnswer
 pub mod RunAnswer
@@ -8,5 +7,4 @@ pub mod CheckAnswer
 pub mod DecompileAnswer
 pub mod SelfTestAnswer
 pub mod Answer
-pub mod Printed
 pub mod inner

@@ -8,10 +8,10 @@ use Rattle.rv_machine.specs.State.{State}
 use Rattle.rv_machine.specs.Run.{EndsIn}
 use Rattle.rv_machine.specs.declared.running.RunEnd.{RunEnd}
 use Rattle.rv_machine.specs.declared.running.RunEnd.TheVariants as end
-use Rattle.mcdec_commands.specs.declared.answer.RunAnswer.{RunAnswer}
-use Rattle.mcdec_commands.specs.declared.answer.RunAnswer.TheVariants as answer
-use Rattle.mcdec_commands.specs.declared.answer.Shown.{Shown}
-use Rattle.mcdec_commands.specs.Command.{Arg, Given, given_to, value_of, givens, ranges}
+use Rattle.mcdec_answers.specs.declared.answer.RunAnswer.{RunAnswer}
+use Rattle.mcdec_answers.specs.declared.answer.RunAnswer.TheVariants as answer
+use Rattle.mcdec_answers.specs.declared.answer.Shown.{Shown}
+use Rattle.mcdec_words.specs.Command.{Arg, Given, given_to, value_of, givens, ranges}
 use Rattle.mcdec_commands.specs.Memory.{placed, held_at}
 
 -- the most bytes of an ELF file that are read

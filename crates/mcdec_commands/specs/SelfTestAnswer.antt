@@ -1,7 +1,7 @@
 -- When an answer to `selftest` comes.
 use Rattle.std.specs.Prelude.{◌≡◌, ℕ}
 use Rattle.self_test.specs.Results.{IsOutcome}
-use Rattle.mcdec_commands.specs.declared.answer.SelfTestAnswer.{SelfTestAnswer}
+use Rattle.mcdec_answers.specs.declared.answer.SelfTestAnswer.{SelfTestAnswer}
 
 -- What `selftest` comes to: the program that is drawn from the number, of that size, is decompiled, run and evaluated with this outcome.
 abbrev pub SelfTestGives : (number size : ℕ) → SelfTestAnswer → Type 0

@@ -1,8 +1,6 @@
 pub mod Running
 pub mod Checking
 pub mod Search
-pub mod Printing
-pub mod CommandReading
 pub mod Writing
 pub mod Decompiling
 pub mod SelfTesting

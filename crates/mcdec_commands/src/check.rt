@@ -4,17 +4,17 @@ ghost use Rattle.std.specs.Prelude.{◌≡◌, ℕ, ◌≤◌, List};
 ghost use Rattle.elf_image.specs.Image.{image_of};
 ghost use Rattle.mc_shelf.specs.Fault.{Rose};
 ghost use Rattle.mcdec_commands.specs.Answer.{Gives, ReadsAreTold};
-ghost use Rattle.mcdec_commands.specs.inner.CommandReading.{IsReadCheck};
+ghost use Rattle.mcdec_words.specs.CommandReading.{IsReadCheck};
 ghost use Rattle.mcdec_commands.specs.inner.Checking.{ImageGives, answer_to};
 ghost use Rattle.mcdec_commands.specs.RunAnswer.{IsLoaded};
 
-use crate::answer::{Answer, CheckAnswer};
-use crate::command::Check;
 use crate::evaluate::PROOF_LIMIT;
 use crate::run::ELF_LIMIT;
 use checker::{Verdict, check_text};
 use elf_image::{ElfFault, Image, read};
 use mc_shelf::{ReadEnd, Shelf, read_file};
+use mcdec_answers::{Answer, CheckAnswer};
+use mcdec_words::Check;
 use std::alloc::Global;
 
 /// The answer to `check`.

@@ -4,21 +4,20 @@ ghost use Rattle.std.specs.Prelude.{◌≡◌, ℕ, ◌≤◌, ◌⊎◌, List, 
 ghost use Rattle.mc_shelf.specs.Fault.{Rose, WhereTold};
 ghost use Rattle.mcdec_commands.specs.Answer.{Gives, IsDetermined, KeepsNames, ReadsAreTold};
 ghost use Rattle.mcdec_commands.specs.CheckAnswer.{AreRightFiles};
-ghost use Rattle.mcdec_commands.specs.Command.{Decompile, Words, texts};
+ghost use Rattle.mcdec_words.specs.Command.{Decompile, Words, texts};
 ghost use Rattle.mcdec_commands.specs.DecompileAnswer.{LeavesOut};
-ghost use Rattle.mcdec_commands.specs.Printed.{IsDelivered, IsPrinted, status};
+ghost use Rattle.mcdec_answers.specs.Printed.{IsDelivered, IsPrinted, status};
 ghost use Rattle.mcdec_commands.specs.inner.Decompiling.{LeavesBy};
-ghost use Rattle.mcdec_commands.specs.declared.answer.Answer.{Answer as AnswerOf};
+ghost use Rattle.mcdec_answers.specs.declared.answer.Answer.{Answer as AnswerOf};
 
-use crate::answer::Answer;
 use crate::check::check_files;
-use crate::command::{Command, Unread, read_words};
 use crate::decompile::decompile_files;
 use crate::evaluate::evaluate;
-use crate::print::deliver;
 use crate::run::run_file;
 use crate::selftest::test_drawn;
 use mc_shelf::{Shelf, Sink};
+use mcdec_answers::{Answer, deliver};
+use mcdec_words::{Command, Unread, read_words};
 use std::alloc::Global;
 
 /// Runs the command that the words are, prints the answer's lines and gives its status.

@@ -10,20 +10,20 @@ ghost use Rattle.decompiler.specs.Listing.{AreItemsFor, proofs_of};
 ghost use Rattle.decompiler.specs.Listing.{IsRefused};
 ghost use Rattle.mcdec_commands.specs.Answer.{Gives, ReadsAreTold};
 ghost use Rattle.mcdec_commands.specs.DecompileAnswer.{all_listed, listed_of};
-ghost use Rattle.mcdec_commands.specs.Printed.{status};
+ghost use Rattle.mcdec_answers.specs.Printed.{status};
 ghost use Rattle.mcdec_commands.specs.RunAnswer.{IsLoaded};
-ghost use Rattle.mcdec_commands.specs.inner.CommandReading.{IsReadDecompile};
+ghost use Rattle.mcdec_words.specs.CommandReading.{IsReadDecompile};
 ghost use Rattle.mcdec_commands.specs.inner.Decompiling.{FileGives, HasDef, LeavesBy, WritesOut};
 ghost use Rattle.mcdec_commands.specs.inner.Writing.{IsTold};
 
-use crate::answer::{Answer, DecompileAnswer, Listed};
-use crate::command::Decompile;
 use crate::output::write_text;
 use crate::run::ELF_LIMIT;
 use decompiler::{DecompileFault, Item, Proof, decompile, entry_of, law_of_items, proof_bytes};
 use elf_image::{ElfFault, Image, read};
 use flow_graph::Outside;
 use mc_shelf::{ReadEnd, Shelf, Stop, read_file};
+use mcdec_answers::{Answer, DecompileAnswer, Listed};
+use mcdec_words::Decompile;
 use rv_words::{List, NoMemory, Text};
 use std::alloc::Global;
 

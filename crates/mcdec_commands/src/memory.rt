@@ -2,7 +2,7 @@
 
 ghost use Rattle.std.specs.Prelude.{◌≡◌, ◌+◌, ◌≤◌, ◌^◌, All, IfOk, length, map, replicate};
 ghost use Rattle.std.specs.FinMap.{get};
-ghost use Rattle.mcdec_commands.specs.Command.{IsMemory};
+ghost use Rattle.mcdec_words.specs.Command.{IsMemory};
 ghost use Rattle.mcdec_commands.specs.EvalAnswer.{ranges_in as ranges_of_first};
 ghost use Rattle.mcdec_commands.specs.Memory.{held_at, no_bytes, placed};
 

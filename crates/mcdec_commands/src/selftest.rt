@@ -1,11 +1,11 @@
 //! The command `selftest`.
 
 ghost use Rattle.std.specs.Prelude.{◌≡◌, ◌≤◌};
-ghost use Rattle.mcdec_commands.specs.Printed.{status};
+ghost use Rattle.mcdec_answers.specs.Printed.{status};
 ghost use Rattle.mcdec_commands.specs.inner.SelfTesting.{TestGives};
 
-use crate::answer::{Answer, SelfTestAnswer};
-use crate::command::SelfTest;
+use mcdec_answers::{Answer, SelfTestAnswer};
+use mcdec_words::SelfTest;
 use rv_words::NoMemory;
 use self_test::self_test;
 use std::alloc::Global;

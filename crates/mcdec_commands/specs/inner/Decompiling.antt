@@ -3,10 +3,10 @@ use Rattle.std.specs.Prelude.{◌≡◌, ℕ, ◌≤◌, List, length, Option}
 use Rattle.mc_shelf.specs.Shelf.{Contents, KeepsOthers}
 use Rattle.tailrec_lang.specs.Tree.{group_tree}
 use Rattle.path_walk.specs.declared.item.Item.{Item}
-use Rattle.mcdec_commands.specs.declared.answer.Answer.{Answer}
-use Rattle.mcdec_commands.specs.declared.answer.Answer.TheVariants as answer
-use Rattle.mcdec_commands.specs.declared.answer.DecompileAnswer.{DecompileAnswer}
-use Rattle.mcdec_commands.specs.declared.answer.DecompileAnswer.TheVariants as decompile
+use Rattle.mcdec_answers.specs.declared.answer.Answer.{Answer}
+use Rattle.mcdec_answers.specs.declared.answer.Answer.TheVariants as answer
+use Rattle.mcdec_answers.specs.declared.answer.DecompileAnswer.{DecompileAnswer}
+use Rattle.mcdec_answers.specs.declared.answer.DecompileAnswer.TheVariants as decompile
 use Rattle.mcdec_commands.specs.DecompileAnswer.{DecompileGives, HoldsAll, HoldsFront}
 
 -- the item's group has a definition

@@ -4,10 +4,10 @@ use Rattle.rv_words.specs.declared.range.Range.{Range}
 use Rattle.rv_machine.specs.State.{State}
 use Rattle.rv_machine.specs.Run.{EndsIn}
 use Rattle.rv_machine.specs.declared.running.RunEnd.TheVariants as end
-use Rattle.mcdec_commands.specs.declared.answer.RunAnswer.{RunAnswer}
-use Rattle.mcdec_commands.specs.declared.answer.RunAnswer.TheVariants as answer
-use Rattle.mcdec_commands.specs.declared.answer.Shown.{Shown}
-use Rattle.mcdec_commands.specs.Command.{Arg, Given}
+use Rattle.mcdec_answers.specs.declared.answer.RunAnswer.{RunAnswer}
+use Rattle.mcdec_answers.specs.declared.answer.RunAnswer.TheVariants as answer
+use Rattle.mcdec_answers.specs.declared.answer.Shown.{Shown}
+use Rattle.mcdec_words.specs.Command.{Arg, Given}
 use Rattle.mcdec_commands.specs.RunAnswer.{shown_registers, shown_after}
 
 -- what a run from a state to an address within steps comes to

@@ -12,9 +12,9 @@ use Rattle.proof_text.specs.Answers.{NoItem}
 use Rattle.proof_text.specs.declared.line.Line.{Line}
 use Rattle.mcdec_commands.specs.declared.evaluate.Refusal.{Refusal}
 use Rattle.mcdec_commands.specs.declared.evaluate.Refusal.TheVariants as refusal
-use Rattle.mcdec_commands.specs.declared.answer.EvalAnswer.{EvalAnswer}
-use Rattle.mcdec_commands.specs.declared.answer.EvalAnswer.TheVariants as answer
-use Rattle.mcdec_commands.specs.Command.{Arg}
+use Rattle.mcdec_answers.specs.declared.answer.EvalAnswer.{EvalAnswer}
+use Rattle.mcdec_answers.specs.declared.answer.EvalAnswer.TheVariants as answer
+use Rattle.mcdec_words.specs.Command.{Arg}
 use Rattle.mcdec_commands.specs.EvalAnswer.{AreWellFormed, IsNamed, arguments_given, first_named, shown_of}
 
 -- these proofs were given, and the lines of the last one have ended

@@ -1,7 +1,7 @@
 -- What the command `selftest` comes to, as an answer.
 use Rattle.std.specs.Prelude.{ℕ}
-use Rattle.mcdec_commands.specs.declared.answer.Answer.{Answer}
-use Rattle.mcdec_commands.specs.declared.answer.Answer.TheVariants as answer
+use Rattle.mcdec_answers.specs.declared.answer.Answer.{Answer}
+use Rattle.mcdec_answers.specs.declared.answer.Answer.TheVariants as answer
 use Rattle.mcdec_commands.specs.SelfTestAnswer.{SelfTestGives}
 
 -- what is answered to this number and size

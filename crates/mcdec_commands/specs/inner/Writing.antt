@@ -2,7 +2,7 @@
 use Rattle.std.specs.Prelude.{◌≡◌, ℕ, List, take, Option, Some, None, Result, Ok, Err, ◌⊎◌}
 use Rattle.mc_shelf.specs.Shelf.{Contents, KeepsOthers}
 use Rattle.mc_shelf.specs.declared.sink.Stop.{Stop}
-use Rattle.mcdec_commands.specs.inner.Printing.{Gains}
+use Rattle.mcdec_answers.specs.inner.Printing.{Gains}
 
 -- it is told what the names hold
 abbrev pub IsTold : Option Contents → Type 0

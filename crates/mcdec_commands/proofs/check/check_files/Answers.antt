@@ -2,13 +2,13 @@ use Rattle.std.proofs.Common.{rules, ◌∙◌, sym, ap, subst}
 use Rattle.mc_shelf.specs.Fault.{Rose}
 use Rattle.elf_image.specs.Fault.{IsReadable}
 use Rattle.elf_image.specs.Image.{image_of}
-use Rattle.mcdec_commands.specs.Command.{Check}
+use Rattle.mcdec_words.specs.Command.{Check}
 use Rattle.mcdec_commands.specs.Answer.{ReadsAreTold}
 use Rattle.mcdec_commands.specs.RunAnswer.{IsLoaded}
 use Rattle.mcdec_commands.specs.inner.Checking.{ImageGives}
-use Rattle.mcdec_commands.proofs.Prints.{rose-later}
+use Rattle.mcdec_answers.proofs.Prints.{rose-later}
 use Rattle.elf_image.specs.declared.fault.ElfFault.{ElfFault}
-use Rattle.mcdec_commands.specs.declared.answer.CheckAnswer.TheVariants as check
+use Rattle.mcdec_answers.specs.declared.answer.CheckAnswer.TheVariants as check
 use Rattle.mcdec_commands.specs.CheckAnswer.{CheckGives}
 use Rattle.mcdec_commands.specs.Held.{HoldsWith}
 use Rattle.mcdec_commands.proofs.Answers.{held-with}

@@ -1,12 +1,12 @@
 use Rattle.std.proofs.Common.{List, ℕ, refl, rules, subst}
-use Rattle.mcdec_commands.specs.Command.{IsNoCommand, Words, texts}
-use Rattle.mcdec_commands.specs.declared.answer.Answer.TheVariants as answer
+use Rattle.mcdec_words.specs.Command.{IsNoCommand, Words, texts}
+use Rattle.mcdec_answers.specs.declared.answer.Answer.TheVariants as answer
 use Rattle.mcdec_commands.specs.inner.Decompiling.{LeavesBy}
-use Rattle.mcdec_commands.proofs.Prints.{told_same}
-use Rattle.mcdec_commands.specs.inner.CommandReading.{IsRead}
-use Rattle.mcdec_commands.specs.declared.command.Command.{Command as Read}
-use Rattle.mcdec_commands.specs.Command.{Check, Decompile, Eval, Run, SelfTest}
-use Rattle.mcdec_commands.proofs.ArgWords.{eval-ranges, run-ranges}
+use Rattle.mcdec_answers.proofs.Prints.{told_same}
+use Rattle.mcdec_words.specs.CommandReading.{IsRead}
+use Rattle.mcdec_words.specs.declared.command.Command.{Command as Read}
+use Rattle.mcdec_words.specs.Command.{Check, Decompile, Eval, Run, SelfTest}
+use Rattle.mcdec_words.proofs.ArgWords.{eval-ranges, run-ranges}
 use Rattle.mcdec_commands.proofs.Decompiling.{decompiled, no-write-fault, none-decompiled, others-kept}
 use Rattle.mcdec_commands.proofs.SelfTesting.{test-gives}
 use Rattle.mcdec_commands.proofs.commands.answer_words.Goals as goal

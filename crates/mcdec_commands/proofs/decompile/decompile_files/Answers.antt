@@ -3,15 +3,15 @@ use Rattle.mc_shelf.specs.Fault.{Rose}
 use Rattle.elf_image.specs.Fault.{IsReadable}
 use Rattle.elf_image.specs.Image.{image_of}
 use Rattle.elf_image.specs.declared.fault.ElfFault.{ElfFault}
-use Rattle.mcdec_commands.specs.Command.{Decompile}
-use Rattle.mcdec_commands.specs.declared.answer.DecompileAnswer.TheVariants as de
+use Rattle.mcdec_words.specs.Command.{Decompile}
+use Rattle.mcdec_answers.specs.declared.answer.DecompileAnswer.TheVariants as de
 use Rattle.mcdec_commands.specs.DecompileAnswer.{DecompileGives}
 use Rattle.mcdec_commands.specs.Held.{HoldsWith}
 use Rattle.mcdec_commands.specs.RunAnswer.{IsLoaded}
 use Rattle.mcdec_commands.specs.inner.Writing.{IsTold}
 use Rattle.mcdec_commands.proofs.Answers.{held-with, one-file}
 use Rattle.mcdec_commands.proofs.Decompiling.{decompile-told, file-gives, is-told, nothing-written}
-use Rattle.mcdec_commands.proofs.Prints.{rose-later}
+use Rattle.mcdec_answers.proofs.Prints.{rose-later}
 use Rattle.mcdec_commands.proofs.decompile.decompile_files.Goals as goal
 
 pub returns-in-Err-Fault-clause-gives : goal.returns-in-Err-Fault-clause-gives

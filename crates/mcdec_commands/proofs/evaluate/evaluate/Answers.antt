@@ -1,5 +1,5 @@
 use Rattle.std.proofs.Common.{rules, length, ◌<◌, subst}
-use Rattle.mcdec_commands.specs.Command.{Eval}
+use Rattle.mcdec_words.specs.Command.{Eval}
 use Rattle.mcdec_commands.specs.EvalAnswer.{proof_limit, EvalGives}
 use Rattle.mcdec_commands.proofs.Answers.{held-with, held-such, proof-told, one-file}
 use Rattle.mcdec_commands.proofs.evaluate.evaluate.Goals as goal

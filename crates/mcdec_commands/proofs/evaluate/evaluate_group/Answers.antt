@@ -2,7 +2,7 @@ use Rattle.std.proofs.Common.{sym, ap, map, ◌∙◌}
 use Rattle.std.specs.FinMap.{get}
 use Rattle.tailrec_lang.specs.Tree.{group_tree}
 use Rattle.tailrec_lang.specs.Eval.{outcome_of}
-use Rattle.mcdec_commands.specs.inner.CommandReading.{value_in}
+use Rattle.mcdec_words.specs.CommandReading.{value_in}
 use Rattle.mcdec_commands.specs.EvalAnswer.{ranges_in}
 use Rattle.mcdec_commands.specs.Memory.{no_bytes, placed}
 use Rattle.std.proofs.Common.{replicate}

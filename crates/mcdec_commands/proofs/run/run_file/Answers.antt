@@ -1,5 +1,5 @@
 use Rattle.std.proofs.Common.{rules, length, ◌<◌}
-use Rattle.mcdec_commands.specs.Command.{Run}
+use Rattle.mcdec_words.specs.Command.{Run}
 use Rattle.mcdec_commands.specs.RunAnswer.{elf_limit, RunGives}
 use Rattle.mcdec_commands.proofs.Answers.{held-with, held-such, elf-told, one-file}
 use Rattle.mcdec_commands.proofs.run.run_file.Goals as goal

@@ -1,0 +1,4 @@
+use Rattle.mcdec_answers.proofs.print.put_decompile.Goals as goal
+
+pub returns-in-OverLimit : goal.returns-in-OverLimit
+returns-in-OverLimit g c = rw c.in-OverLimit.is c.put_text.ensures

@@ -1,0 +1,682 @@
+//! Printing an answer into a sink, piece by piece. It takes no memory.
+
+ghost use Rattle.std.specs.Prelude.{◌≡◌, ◌⊎◌, ◌≤◌, flat_map, max, min, codes, ◌++◌};
+ghost use Rattle.mcdec_answers.specs.Printed.{check_printed, count_lines, decompile_printed, eval_printed, fault_words, lines, listed_line, memory_line, name_words, outside_words, register_line, register_lines, run_printed, self_test_line, shown_lines, status, stuck_words, IsDelivered};
+ghost use Rattle.std.specs.Fmt.{decimal};
+ghost use Rattle.hex.specs.Hex.{encode_lower};
+ghost use Rattle.loop_forest.specs.Cycles.{last_of};
+ghost use Rattle.mc_shelf.specs.Fault.{Rose};
+ghost use Rattle.mc_text.specs.Number.{hex};
+ghost use Rattle.mcdec_answers.specs.inner.Printing.{Prints, piece_text, pieces_text};
+
+use crate::answer::{
+    Answer, CheckAnswer, DecompileAnswer, EvalAnswer, Listed, RunAnswer, SelfTestAnswer, Shown,
+};
+use elf_image::{ElfFault, NameFault};
+use flow_graph::Outside;
+use itoa::Buffer;
+use mc_shelf::{Sink, Stop};
+use mc_text::{digit_pair, hex_into};
+use rv_machine::Stuck;
+use rv_words::{List as Items, Range};
+
+/// A piece of a line.
+#[derive(Clone, Copy, Debug)]
+pub enum Piece<'a> {
+    /// These bytes.
+    Text(&'a [u8]),
+    /// A number in decimal digits.
+    Decimal(u64),
+    /// A number in decimal digits that may pass 64 bits.
+    Wide(u128),
+    /// A number in hexadecimal digits, behind `0x`.
+    Hex(u64),
+    /// Bytes, in two hexadecimal digits each.
+    Bytes(&'a [u8]),
+}
+
+fn put_piece<O: Sink>(out: &mut O, piece: &Piece<'_>) -> Result<(), Stop>
+    ensures { Prints result (piece_text piece.now) (O.written out.old) (O.written out.new) (O.faults out.old) (O.faults out.new) }
+{
+    match piece {
+        Piece::Text(bytes) => out.put(bytes),
+        Piece::Decimal(n) => {
+            let mut buffer = Buffer::new();
+            out.put(buffer.format(*n).as_bytes())
+        }
+        Piece::Wide(n) => {
+            let mut buffer = Buffer::new();
+            out.put(buffer.format(*n).as_bytes())
+        }
+        Piece::Hex(n) => {
+            let mut buffer = [0; 18];
+            let end = hex_into(*n, &mut buffer);
+            out.put(&buffer[..end])
+        }
+        Piece::Bytes(bytes) => put_bytes(out, bytes),
+    }
+}
+
+fn put_bytes<O: Sink>(out: &mut O, bytes: &[u8]) -> Result<(), Stop>
+    ensures { Prints result (encode_lower bytes.now) (O.written out.old) (O.written out.new) (O.faults out.old) (O.faults out.new) }
+{
+    for byte in bytes {
+        put_text(out, &digit_pair(*byte))?;
+    }
+    Ok(())
+}
+
+fn put_all<O: Sink>(out: &mut O, pieces: &[Piece<'_>]) -> Result<(), Stop>
+    ensures { Prints result (pieces_text pieces.now) (O.written out.old) (O.written out.new) (O.faults out.old) (O.faults out.new) }
+{
+    for piece in pieces {
+        put_piece(out, piece)?;
+    }
+    Ok(())
+}
+
+/// Prints an answer, and gives the status that the program ends with.
+pub fn deliver<O: Sink>(out: &mut O, answer: &Answer) -> u8
+    ensures delivered { IsDelivered answer.now result (O.written out.old) (O.written out.new) }
+    ensures counted { O.faults out.old ≤ O.faults out.new }
+    ensures cause { result ≡ 5 → Rose (O.faults out.old) (O.faults out.new) ⊎ (status answer.now ≡ 5) }
+{
+    match put_answer(out, answer) {
+        Ok(()) => status(answer),
+        Err(Stop::Failed) => 5,
+        Err(Stop::NoMemory) => 6,
+    }
+}
+
+/// The status of an answer all of whose lines were printed.
+fn status(answer: &Answer) -> u8
+    ensures { result ≡ status answer.now }
+{
+    match answer {
+        Answer::NotACommand => 2,
+        Answer::ReadFault => 4,
+        Answer::WriteFault => 5,
+        Answer::NoMemory => 6,
+        Answer::Eval(a) => eval_status(a),
+        Answer::Run(a) => run_status(a),
+        Answer::Check(a) => check_status(a),
+        Answer::Decompile(a) => decompile_status(a),
+        Answer::SelfTest(_) => 0,
+    }
+}
+
+fn eval_status(answer: &EvalAnswer) -> u8
+    ensures { result ≡ (eval_printed answer.now).0 }
+{
+    match answer {
+        EvalAnswer::OverLimit => 7,
+        EvalAnswer::Unreadable(_) => 3,
+        EvalAnswer::IllFormed(..) => 1,
+        EvalAnswer::NoFunction => 1,
+        EvalAnswer::SideFalse(..) => 1,
+        EvalAnswer::TurnsUsed => 7,
+        EvalAnswer::Done(_) => 0,
+    }
+}
+
+fn run_status(answer: &RunAnswer) -> u8
+    ensures { result ≡ (run_printed answer.now).0 }
+{
+    match answer {
+        RunAnswer::OverLimit => 7,
+        RunAnswer::Unreadable(_) => 3,
+        RunAnswer::StartRefused(..) => 1,
+        RunAnswer::Stuck(..) => 1,
+        RunAnswer::StepsUsed => 7,
+        RunAnswer::Met(_) => 0,
+    }
+}
+
+fn check_status(answer: &CheckAnswer) -> u8
+    ensures { result ≡ (check_printed answer.now).0 }
+{
+    match answer {
+        CheckAnswer::ElfOverLimit => 7,
+        CheckAnswer::UnreadableElf(_) => 3,
+        CheckAnswer::ProofOverLimit => 7,
+        CheckAnswer::UnreadableText(_) => 3,
+        CheckAnswer::IllFormed(..) => 1,
+        CheckAnswer::WrongLine(_) => 1,
+        CheckAnswer::NotProved(_) => 1,
+        CheckAnswer::Accepted(..) => 0,
+    }
+}
+
+fn decompile_status(answer: &DecompileAnswer) -> u8
+    ensures { result ≡ (decompile_printed answer.now).0 }
+{
+    match answer {
+        DecompileAnswer::OverLimit => 7,
+        DecompileAnswer::Unreadable(_) => 3,
+        DecompileAnswer::Refused(..) => 1,
+        DecompileAnswer::Decompiled(_) => 0,
+    }
+}
+
+fn put_answer<O: Sink>(out: &mut O, answer: &Answer) -> Result<(), Stop>
+    ensures { Prints result (lines answer.now) (O.written out.old) (O.written out.new) (O.faults out.old) (O.faults out.new) }
+{
+    match answer {
+        Answer::NotACommand => put_text(out, b"not a command\n"),
+        Answer::ReadFault => put_text(out, b"read fault\n"),
+        Answer::WriteFault => put_text(out, b"write fault\n"),
+        Answer::NoMemory => put_text(out, b"no memory\n"),
+        Answer::Eval(a) => put_eval(out, a),
+        Answer::Run(a) => put_run(out, a),
+        Answer::Check(a) => put_check(out, a),
+        Answer::Decompile(a) => put_decompile(out, a),
+        Answer::SelfTest(a) => put_self_test(out, a),
+    }
+}
+
+fn put_eval<O: Sink>(out: &mut O, answer: &EvalAnswer) -> Result<(), Stop>
+    ensures { Prints result (eval_printed answer.now).1 (O.written out.old) (O.written out.new) (O.faults out.old) (O.faults out.new) }
+{
+    match answer {
+        EvalAnswer::OverLimit => put_text(out, b"over limit proof\n"),
+        EvalAnswer::Unreadable(line) => put_unreadable_text(out, *line),
+        EvalAnswer::IllFormed(group, def) => put_ill_formed(out, *group, *def),
+        EvalAnswer::NoFunction => put_text(out, b"refused no function\n"),
+        EvalAnswer::SideFalse(def, ordinal) => put_side_false(out, *def, *ordinal),
+        EvalAnswer::TurnsUsed => put_text(out, b"turns used\n"),
+        EvalAnswer::Done(shown) => put_shown(out, b"done ", shown),
+    }
+}
+
+fn put_run<O: Sink>(out: &mut O, answer: &RunAnswer) -> Result<(), Stop>
+    ensures { Prints result (run_printed answer.now).1 (O.written out.old) (O.written out.new) (O.faults out.old) (O.faults out.new) }
+{
+    match answer {
+        RunAnswer::OverLimit => put_text(out, b"over limit elf\n"),
+        RunAnswer::Unreadable(why) => put_unreadable_elf(out, why),
+        RunAnswer::StartRefused(start, why) => put_start_refused(out, start.as_slice(), *why),
+        RunAnswer::Stuck(steps, why) => put_stuck(out, *steps, why),
+        RunAnswer::StepsUsed => put_text(out, b"steps used\n"),
+        RunAnswer::Met(shown) => put_shown(out, b"met ", shown),
+    }
+}
+
+fn put_check<O: Sink>(out: &mut O, answer: &CheckAnswer) -> Result<(), Stop>
+    ensures { Prints result (check_printed answer.now).1 (O.written out.old) (O.written out.new) (O.faults out.old) (O.faults out.new) }
+{
+    match answer {
+        CheckAnswer::ElfOverLimit => put_text(out, b"over limit elf\n"),
+        CheckAnswer::UnreadableElf(why) => put_unreadable_elf(out, why),
+        CheckAnswer::ProofOverLimit => put_text(out, b"over limit proof\n"),
+        CheckAnswer::UnreadableText(line) => put_unreadable_text(out, *line),
+        CheckAnswer::IllFormed(group, def) => put_ill_formed(out, *group, *def),
+        CheckAnswer::WrongLine(line) => put_wrong_line(out, *line),
+        CheckAnswer::NotProved(group) => put_not_proved(out, *group),
+        CheckAnswer::Accepted(functions, lines) => put_accepted(out, *functions, *lines),
+    }
+}
+
+fn put_decompile<O: Sink>(out: &mut O, answer: &DecompileAnswer) -> Result<(), Stop>
+    ensures { Prints result (decompile_printed answer.now).1 (O.written out.old) (O.written out.new) (O.faults out.old) (O.faults out.new) }
+{
+    match answer {
+        DecompileAnswer::OverLimit => put_text(out, b"over limit elf\n"),
+        DecompileAnswer::Unreadable(why) => put_unreadable_elf(out, why),
+        DecompileAnswer::Refused(name, why) => put_refused(out, name.as_slice(), why),
+        DecompileAnswer::Decompiled(listed) => put_all_listed(out, listed.as_slice()),
+    }
+}
+
+/// The line of a name that is outside the fragment.
+fn put_refused<O: Sink>(out: &mut O, name: &[u8], why: &Outside) -> Result<(), Stop>
+    ensures { Prints result (codes "refused " ++ name.now ++ codes " " ++ outside_words why.now ++ codes "\n") (O.written out.old) (O.written out.new) (O.faults out.old) (O.faults out.new) }
+{
+    put_refused_name(out, name)?;
+    put_outside(out, why)?;
+    put_text(out, b"\n")
+}
+
+fn put_refused_name<O: Sink>(out: &mut O, name: &[u8]) -> Result<(), Stop>
+    ensures { Prints result (codes "refused " ++ name.now ++ codes " ") (O.written out.old) (O.written out.new) (O.faults out.old) (O.faults out.new) }
+{
+    put_all(
+        out,
+        &[
+            Piece::Text(b"refused "),
+            Piece::Text(name),
+            Piece::Text(b" "),
+        ],
+    )
+}
+
+fn put_outside<O: Sink>(out: &mut O, why: &Outside) -> Result<(), Stop>
+    ensures { Prints result (outside_words why.now) (O.written out.old) (O.written out.new) (O.faults out.old) (O.faults out.new) }
+{
+    match why {
+        Outside::NoSuch => put_text(out, b"no-such"),
+        Outside::Ambiguous(low, high) => put_two(out, b"ambiguous ", *low, *high),
+        Outside::TooLarge => put_text(out, b"too-large"),
+        Outside::OutsideCode(a) => put_address(out, b"outside-code ", *a),
+        Outside::NotDecoded(a, w) => put_two(out, b"not-decoded ", *a, u64::from(*w)),
+        Outside::Environment(a) => put_address(out, b"environment ", *a),
+        Outside::Call(a) => put_address(out, b"call ", *a),
+        Outside::JumpThrough(a) => put_address(out, b"jump-through ", *a),
+        Outside::Misaligned(a, target) => put_two(out, b"misaligned ", *a, *target),
+        Outside::TwoEntries { first, second, .. } => put_entries(
+            out,
+            last_of(first),
+            last_of(second),
+        ),
+        Outside::ManyExits(a) => put_address(out, b"many-exits ", *a),
+    }
+}
+
+fn put_address<O: Sink>(out: &mut O, word: &[u8], a: u64) -> Result<(), Stop>
+    ensures { Prints result (word.now ++ hex a) (O.written out.old) (O.written out.new) (O.faults out.old) (O.faults out.new) }
+{
+    put_all(out, &[Piece::Text(word), Piece::Hex(a)])
+}
+
+fn put_two<O: Sink>(out: &mut O, word: &[u8], a: u64, b: u64) -> Result<(), Stop>
+    ensures { Prints result (word.now ++ hex a ++ codes " " ++ hex b) (O.written out.old) (O.written out.new) (O.faults out.old) (O.faults out.new) }
+{
+    put_all(
+        out,
+        &[
+            Piece::Text(word),
+            Piece::Hex(a),
+            Piece::Text(b" "),
+            Piece::Hex(b),
+        ],
+    )
+}
+
+/// Two nodes, the lesser first.
+fn put_entries<O: Sink>(out: &mut O, a: u64, b: u64) -> Result<(), Stop>
+    ensures { Prints result (codes "two-entries " ++ hex (min a b) ++ codes " " ++ hex (max a b)) (O.written out.old) (O.written out.new) (O.faults out.old) (O.faults out.new) }
+{
+    put_two(out, b"two-entries ", a.min(b), a.max(b))
+}
+
+/// The last node of a walk.
+fn last_of(walk: &Items<u64>) -> u64
+    ensures { result ≡ last_of walk.now }
+{
+    match walk.as_slice().last() {
+        Some(node) => *node,
+        None => 0,
+    }
+}
+
+/// A line for each name.
+fn put_all_listed<O: Sink>(out: &mut O, all: &[Listed]) -> Result<(), Stop>
+    ensures { Prints result (flat_map listed_line all.now) (O.written out.old) (O.written out.new) (O.faults out.old) (O.faults out.new) }
+{
+    for listed in all {
+        put_listed(out, listed)?;
+    }
+    Ok(())
+}
+
+fn put_listed<O: Sink>(out: &mut O, listed: &Listed) -> Result<(), Stop>
+    ensures { Prints result (listed_line listed.now) (O.written out.old) (O.written out.new) (O.faults out.old) (O.faults out.new) }
+{
+    put_all(
+        out,
+        &[
+            Piece::Text(b"decompiled "),
+            Piece::Text(listed.name.as_slice()),
+            Piece::Text(b" "),
+            Piece::Hex(listed.entry),
+            Piece::Text(b" "),
+            Piece::Decimal(u64::from(listed.reached)),
+            Piece::Text(b" "),
+            Piece::Decimal(listed.defs),
+            Piece::Text(b"\n"),
+        ],
+    )
+}
+
+fn put_self_test<O: Sink>(out: &mut O, answer: &SelfTestAnswer) -> Result<(), Stop>
+    ensures { Prints result (self_test_line answer.now) (O.written out.old) (O.written out.new) (O.faults out.old) (O.faults out.new) }
+{
+    put_all(
+        out,
+        &[
+            Piece::Text(b"selftest "),
+            Piece::Decimal(answer.number),
+            Piece::Text(b" "),
+            Piece::Decimal(u64::from(answer.size)),
+            Piece::Text(b" instructions "),
+            Piece::Decimal(u64::from(answer.outcome.instructions)),
+            Piece::Text(b" defs "),
+            Piece::Decimal(answer.outcome.defs),
+            Piece::Text(b" steps "),
+            Piece::Decimal(answer.outcome.steps),
+            Piece::Text(b" turns "),
+            Piece::Decimal(answer.outcome.turns),
+            Piece::Text(b" x10 "),
+            Piece::Hex(answer.outcome.value),
+            Piece::Text(b"\n"),
+        ],
+    )
+}
+
+fn put_wrong_line<O: Sink>(out: &mut O, line: u64) -> Result<(), Stop>
+    ensures { Prints result (codes "refused line " ++ decimal line ++ codes "\n") (O.written out.old) (O.written out.new) (O.faults out.old) (O.faults out.new) }
+{
+    put_all(
+        out,
+        &[
+            Piece::Text(b"refused line "),
+            Piece::Decimal(line),
+            Piece::Text(b"\n"),
+        ],
+    )
+}
+
+fn put_not_proved<O: Sink>(out: &mut O, group: u64) -> Result<(), Stop>
+    ensures { Prints result (codes "refused group " ++ decimal group ++ codes "\n") (O.written out.old) (O.written out.new) (O.faults out.old) (O.faults out.new) }
+{
+    put_all(
+        out,
+        &[
+            Piece::Text(b"refused group "),
+            Piece::Decimal(group),
+            Piece::Text(b"\n"),
+        ],
+    )
+}
+
+fn put_accepted<O: Sink>(out: &mut O, functions: u64, lines: u64) -> Result<(), Stop>
+    ensures { Prints result (codes "accepted " ++ decimal functions ++ codes " " ++ decimal lines ++ codes "\n") (O.written out.old) (O.written out.new) (O.faults out.old) (O.faults out.new) }
+{
+    put_all(
+        out,
+        &[
+            Piece::Text(b"accepted "),
+            Piece::Decimal(functions),
+            Piece::Text(b" "),
+            Piece::Decimal(lines),
+            Piece::Text(b"\n"),
+        ],
+    )
+}
+
+fn put_text<O: Sink>(out: &mut O, text: &[u8]) -> Result<(), Stop>
+    ensures { Prints result text.now (O.written out.old) (O.written out.new) (O.faults out.old) (O.faults out.new) }
+{
+    out.put(text)
+}
+
+fn put_ill_formed<O: Sink>(out: &mut O, group: u64, def: u32) -> Result<(), Stop>
+    ensures { Prints result (codes "refused def " ++ decimal group ++ codes " " ++ decimal def ++ codes "\n") (O.written out.old) (O.written out.new) (O.faults out.old) (O.faults out.new) }
+{
+    put_all(
+        out,
+        &[
+            Piece::Text(b"refused def "),
+            Piece::Decimal(group),
+            Piece::Text(b" "),
+            Piece::Decimal(u64::from(def)),
+            Piece::Text(b"\n"),
+        ],
+    )
+}
+
+fn put_side_false<O: Sink>(out: &mut O, def: u32, ordinal: u64) -> Result<(), Stop>
+    ensures { Prints result (codes "refused side " ++ decimal def ++ codes " " ++ decimal ordinal ++ codes "\n") (O.written out.old) (O.written out.new) (O.faults out.old) (O.faults out.new) }
+{
+    put_all(
+        out,
+        &[
+            Piece::Text(b"refused side "),
+            Piece::Decimal(u64::from(def)),
+            Piece::Text(b" "),
+            Piece::Decimal(ordinal),
+            Piece::Text(b"\n"),
+        ],
+    )
+}
+
+/// The line of a START that stands for no address.
+fn put_start_refused<O: Sink>(out: &mut O, start: &[u8], why: NameFault) -> Result<(), Stop>
+    ensures { Prints result (codes "refused " ++ start.now ++ codes " " ++ name_words why ++ codes "\n") (O.written out.old) (O.written out.new) (O.faults out.old) (O.faults out.new) }
+{
+    match why {
+        NameFault::NoSuch => put_all(
+            out,
+            &[
+                Piece::Text(b"refused "),
+                Piece::Text(start),
+                Piece::Text(b" no-such\n"),
+            ],
+        ),
+        NameFault::Ambiguous(low, high) => put_all(
+            out,
+            &[
+                Piece::Text(b"refused "),
+                Piece::Text(start),
+                Piece::Text(b" ambiguous "),
+                Piece::Hex(low),
+                Piece::Text(b" "),
+                Piece::Hex(high),
+                Piece::Text(b"\n"),
+            ],
+        ),
+    }
+}
+
+fn put_unreadable_text<O: Sink>(out: &mut O, line: u64) -> Result<(), Stop>
+    ensures { Prints result (codes "unreadable text " ++ decimal line ++ codes "\n") (O.written out.old) (O.written out.new) (O.faults out.old) (O.faults out.new) }
+{
+    put_all(
+        out,
+        &[
+            Piece::Text(b"unreadable text "),
+            Piece::Decimal(line),
+            Piece::Text(b"\n"),
+        ],
+    )
+}
+
+/// The line of a run that stopped where there was no step.
+fn put_stuck<O: Sink>(out: &mut O, steps: u64, why: &Stuck) -> Result<(), Stop>
+    ensures { Prints result (codes "refused stuck " ++ decimal steps ++ codes " " ++ stuck_words why.now ++ codes "\n") (O.written out.old) (O.written out.new) (O.faults out.old) (O.faults out.new) }
+{
+    let steps = Piece::Decimal(steps);
+    match why {
+        Stuck::Misaligned(a) => put_all(
+            out,
+            &[
+                Piece::Text(b"refused stuck "),
+                steps,
+                Piece::Text(b" misaligned "),
+                Piece::Hex(*a),
+                Piece::Text(b"\n"),
+            ],
+        ),
+        Stuck::NoFetch => put_all(
+            out,
+            &[
+                Piece::Text(b"refused stuck "),
+                steps,
+                Piece::Text(b" no-fetch\n"),
+            ],
+        ),
+        Stuck::NotDecoded(w) => put_all(
+            out,
+            &[
+                Piece::Text(b"refused stuck "),
+                steps,
+                Piece::Text(b" not-decoded "),
+                Piece::Hex(u64::from(*w)),
+                Piece::Text(b"\n"),
+            ],
+        ),
+        Stuck::Environment => put_all(
+            out,
+            &[
+                Piece::Text(b"refused stuck "),
+                steps,
+                Piece::Text(b" environment\n"),
+            ],
+        ),
+        Stuck::NoByte(a) => put_all(
+            out,
+            &[
+                Piece::Text(b"refused stuck "),
+                steps,
+                Piece::Text(b" no-byte "),
+                Piece::Hex(*a),
+                Piece::Text(b"\n"),
+            ],
+        ),
+    }
+}
+
+/// The line of an ELF file that isn't read.
+fn put_unreadable_elf<O: Sink>(out: &mut O, why: &ElfFault) -> Result<(), Stop>
+    ensures { Prints result (codes "unreadable elf " ++ fault_words why.now ++ codes "\n") (O.written out.old) (O.written out.new) (O.faults out.old) (O.faults out.new) }
+{
+    put_text(out, b"unreadable elf ")?;
+    put_fault(out, why)?;
+    put_text(out, b"\n")
+}
+
+fn put_fault<O: Sink>(out: &mut O, why: &ElfFault) -> Result<(), Stop>
+    ensures { Prints result (fault_words why.now) (O.written out.old) (O.written out.new) (O.faults out.old) (O.faults out.new) }
+{
+    match why {
+        ElfFault::NotElf => put_text(out, b"not-elf"),
+        ElfFault::Class => put_text(out, b"class"),
+        ElfFault::Order => put_text(out, b"order"),
+        ElfFault::Kind(n) => put_number(out, b"kind ", *n),
+        ElfFault::Machine(n) => put_number(out, b"machine ", *n),
+        ElfFault::Cut(place) => put_number(out, b"cut ", *place),
+        ElfFault::Overlap(i, j) => put_overlap(out, *i, *j),
+        ElfFault::Wraps(i) => put_number(out, b"wraps ", *i),
+        ElfFault::TooMany(n) => put_number(out, b"too-many ", *n),
+        ElfFault::Symbols => put_text(out, b"symbols"),
+        ElfFault::Entry(n) => put_number(out, b"entry ", *n),
+        ElfFault::Sizes(i) => put_number(out, b"sizes ", *i),
+        ElfFault::TooBig(n) => put_all(out, &[Piece::Text(b"too-big "), Piece::Wide(*n)]),
+        ElfFault::NoMemory => put_text(out, b"no memory"),
+    }
+}
+
+fn put_number<O: Sink>(out: &mut O, word: &[u8], n: u64) -> Result<(), Stop>
+    ensures { Prints result (word.now ++ decimal n) (O.written out.old) (O.written out.new) (O.faults out.old) (O.faults out.new) }
+{
+    put_all(out, &[Piece::Text(word), Piece::Decimal(n)])
+}
+
+fn put_overlap<O: Sink>(out: &mut O, i: u64, j: u64) -> Result<(), Stop>
+    ensures { Prints result (codes "overlap " ++ decimal i ++ codes " " ++ decimal j) (O.written out.old) (O.written out.new) (O.faults out.old) (O.faults out.new) }
+{
+    put_all(
+        out,
+        &[
+            Piece::Text(b"overlap "),
+            Piece::Decimal(i),
+            Piece::Text(b" "),
+            Piece::Decimal(j),
+        ],
+    )
+}
+
+/// The lines of the end of a run or an evaluation.
+fn put_shown<O: Sink>(out: &mut O, word: &[u8], shown: &Shown) -> Result<(), Stop>
+    ensures { Prints result (shown_lines word.now shown.now) (O.written out.old) (O.written out.new) (O.faults out.old) (O.faults out.new) }
+{
+    put_end(
+        out,
+        word,
+        shown.count,
+        shown.pc,
+        shown.registers.as_slice(),
+        shown.words.as_slice(),
+        shown.memory.as_slice(),
+    )
+}
+
+fn put_end<O: Sink>(
+    out: &mut O,
+    word: &[u8],
+    count: u64,
+    pc: u64,
+    registers: &[u8],
+    words: &[u64],
+    memory: &[Range],
+) -> Result<(), Stop>
+    ensures { Prints result (count_lines word.now count pc ++ register_lines registers.now words.now ++ flat_map memory_line memory.now) (O.written out.old) (O.written out.new) (O.faults out.old) (O.faults out.new) }
+{
+    put_count(out, word, count, pc)?;
+    put_registers(out, registers, words)?;
+    put_memory(out, memory)
+}
+
+/// The lines of ranges of memory.
+fn put_memory<O: Sink>(out: &mut O, memory: &[Range]) -> Result<(), Stop>
+    ensures { Prints result (flat_map memory_line memory.now) (O.written out.old) (O.written out.new) (O.faults out.old) (O.faults out.new) }
+{
+    for range in memory {
+        put_range(out, range)?;
+    }
+    Ok(())
+}
+
+fn put_range<O: Sink>(out: &mut O, range: &Range) -> Result<(), Stop>
+    ensures { Prints result (memory_line range.now) (O.written out.old) (O.written out.new) (O.faults out.old) (O.faults out.new) }
+{
+    put_all(
+        out,
+        &[
+            Piece::Text(b"mem "),
+            Piece::Hex(range.at),
+            Piece::Text(b" "),
+            Piece::Bytes(range.bytes.as_slice()),
+            Piece::Text(b"\n"),
+        ],
+    )
+}
+
+/// How many steps or turns there were, and the program counter after them.
+fn put_count<O: Sink>(out: &mut O, word: &[u8], count: u64, pc: u64) -> Result<(), Stop>
+    ensures { Prints result (count_lines word.now count pc) (O.written out.old) (O.written out.new) (O.faults out.old) (O.faults out.new) }
+{
+    put_all(
+        out,
+        &[
+            Piece::Text(word),
+            Piece::Decimal(count),
+            Piece::Text(b"\npc "),
+            Piece::Hex(pc),
+            Piece::Text(b"\n"),
+        ],
+    )
+}
+
+fn put_register<O: Sink>(out: &mut O, register: u8, word: u64) -> Result<(), Stop>
+    ensures { Prints result (register_line register word) (O.written out.old) (O.written out.new) (O.faults out.old) (O.faults out.new) }
+{
+    put_all(
+        out,
+        &[
+            Piece::Text(b"x"),
+            Piece::Decimal(u64::from(register)),
+            Piece::Text(b" "),
+            Piece::Hex(word),
+            Piece::Text(b"\n"),
+        ],
+    )
+}
+
+fn put_registers<O: Sink>(out: &mut O, registers: &[u8], words: &[u64]) -> Result<(), Stop>
+    ensures { Prints result (register_lines registers.now words.now) (O.written out.old) (O.written out.new) (O.faults out.old) (O.faults out.new) }
+{
+    for (register, word) in registers.iter().zip(words) {
+        put_register(out, *register, *word)?;
+    }
+    Ok(())
+}

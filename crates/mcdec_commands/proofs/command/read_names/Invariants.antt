@@ -1,7 +1,0 @@
-use Rattle.std.proofs.Common.{◌≡◌, take}
-use Rattle.mcdec_commands.specs.Command.{AreNames, texts}
-use Rattle.mcdec_commands.proofs.command.read_names.Given as goal
-
--- the words so far, which are names
-abbrev pub invariant-loop-word : goal.invariant-loop-word
-invariant-loop-word l = (l.names ≡ take l.word-index (texts l.words)) × AreNames l.names

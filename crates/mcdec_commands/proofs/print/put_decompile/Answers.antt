@@ -1,4 +1,0 @@
-use Rattle.mcdec_commands.proofs.print.put_decompile.Goals as goal
-
-pub returns-in-OverLimit : goal.returns-in-OverLimit
-returns-in-OverLimit g c = rw c.in-OverLimit.is c.put_text.ensures

@@ -1,0 +1,6 @@
+pub mod NameWords
+pub mod Givens
+pub mod Values
+pub mod ArgWords
+pub mod Words
+pub mod OneCommand

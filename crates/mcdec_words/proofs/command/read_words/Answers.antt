@@ -1,0 +1,39 @@
+use Rattle.std.proofs.Common.{sym, ◌∙◌}
+use Rattle.mcdec_words.proofs.ArgWords.{exit-with}
+use Rattle.mcdec_words.proofs.Words.{no-eval, eval-is, no-run, run-is, check-is, no-decompile, decompile-is, test-is}
+use Rattle.mcdec_words.proofs.command.read_words.Goals as goal
+
+pub returns-in_err-read_eval : goal.returns-in_err-read_eval
+returns-in_err-read_eval c =
+    exit-with _ c.in_err-read_eval.field-0.0 _ _ c.from_residual.ensures.1
+    (no-eval c.args.words.now c.first-item.result c.in-len1-up.len_at_least c.first-item.is c.as_str.result.now c.as_str.ensures.value (sym c.eq.ensures ∙ c.if-eq.true) c.in_err-read_eval.field-0.0 c.in_err-read_eval.ensures)
+
+pub returns-then-eq : goal.returns-then-eq
+returns-then-eq c =
+    eval-is c.args.words.now c.first-item.result c.in-len1-up.len_at_least c.first-item.is c.as_str.result.now c.as_str.ensures.value (sym c.eq.ensures ∙ c.if-eq.true) c.in_ok-read_eval.field-0 c.in_ok-read_eval.ensures
+
+pub returns-in_err-read_run : goal.returns-in_err-read_run
+returns-in_err-read_run c =
+    exit-with _ c.in_err-read_run.field-0.0 _ _ c.from_residual-in_err-read_run.ensures.1
+    (no-run c.args.words.now c.first-item.result c.in-len1-up.len_at_least c.first-item.is c.as_str-2.result.now c.as_str-2.ensures.value (sym c.eq-2.ensures ∙ c.if-eq-2.true) c.in_err-read_run.field-0.0 c.in_err-read_run.ensures)
+
+pub returns-then-eq-2 : goal.returns-then-eq-2
+returns-then-eq-2 c =
+    run-is c.args.words.now c.first-item.result c.in-len1-up.len_at_least c.first-item.is c.as_str-2.result.now c.as_str-2.ensures.value (sym c.eq-2.ensures ∙ c.if-eq-2.true) c.in_ok-read_run.field-0 c.in_ok-read_run.ensures
+
+pub returns-then-eq-3 : goal.returns-then-eq-3
+returns-then-eq-3 c =
+    check-is c.args.words.now c.first-item.result c.in-len1-up.len_at_least c.first-item.is c.as_str-3.result.now c.as_str-3.ensures.value (sym c.eq-3.ensures ∙ c.if-eq-3.true) c.in_ok-read_check.field-0 c.in_ok-read_check.ensures
+
+pub returns-in_err-read_decompile : goal.returns-in_err-read_decompile
+returns-in_err-read_decompile c =
+    exit-with _ c.in_err-read_decompile.field-0.0 _ _ c.from_residual-in_err-read_decompile.ensures.1
+    (no-decompile c.args.words.now c.first-item.result c.in-len1-up.len_at_least c.first-item.is c.as_str-4.result.now c.as_str-4.ensures.value (sym c.eq-4.ensures ∙ c.if-eq-4.true) c.in_err-read_decompile.field-0.0 c.in_err-read_decompile.ensures)
+
+pub returns-then-eq-4 : goal.returns-then-eq-4
+returns-then-eq-4 c =
+    decompile-is c.args.words.now c.first-item.result c.in-len1-up.len_at_least c.first-item.is c.as_str-4.result.now c.as_str-4.ensures.value (sym c.eq-4.ensures ∙ c.if-eq-4.true) c.in_ok-read_decompile.field-0 c.in_ok-read_decompile.ensures
+
+pub returns-then-eq-5 : goal.returns-then-eq-5
+returns-then-eq-5 c =
+    test-is c.args.words.now c.first-item.result c.in-len1-up.len_at_least c.first-item.is c.as_str-5.result.now c.as_str-5.ensures.value (sym c.eq-5.ensures ∙ c.if-eq-5.true) c.in_ok-read_self_test.field-0 c.in_ok-read_self_test.ensures

@@ -1,0 +1,379 @@
+//! The words of the command line.
+
+ghost use Rattle.std.specs.Prelude.{◌≡◌, ◌≢◌, ◌↔◌, ◌+◌, ◌<◌, ◌≤◌, ◌++◌, ◌∷◌, ℕ, Contains, List, IsTrue, MatchOption, MatchResult, codes};
+ghost use Rattle.std.specs.Fmt.{decimal};
+ghost use Rattle.hex.specs.Hex.{encode_lower};
+ghost use Rattle.mc_text.specs.Number.{hex};
+ghost use Rattle.group_text.specs.Limits.{IsName};
+ghost use Rattle.mcdec_words.specs.Command.{AreNames, Arg, Given, IsGiven, IsMemory, IsNoCommand, arg_word, texts};
+ghost use Rattle.mcdec_words.specs.CommandReading.{AllArgs, IsArg, IsCheck, IsDecompile, IsEval, IsRead, IsRun, IsSelfTest, Lacks, NoArgs, NoCheck, NoDecompile, NoEval, NoRun, NoSelfTest, Unless, arg_of, given_in, value_in};
+ghost use Rattle.mcdec_words.specs.declared.command.Unread.TheVariants.{NoMemory};
+ghost use Rattle.rv_words.specs.declared.range.Range.{Range as RangeOf};
+
+use mc_text::{dec, hex_bytes, hexnum, is_atom};
+use rv_words::{List, NoMemory, Range, Text};
+use std::alloc::{AllocError, AllocFailed, Global};
+
+/// Why the words are no command.
+#[derive(Clone, Copy, Debug, PartialEq, Eq)]
+pub enum Unread {
+    /// They are none.
+    NotThere,
+    /// There was no memory.
+    NoMemory,
+}
+
+impl From<NoMemory> for Unread {
+    ghost from_gives = { λ _ e. e ≡ NoMemory };
+
+    fn from(_e: NoMemory) -> Unread {
+        Unread::NoMemory
+    }
+}
+
+/// A command.
+#[derive(Drop)]
+pub enum Command<'a> {
+    Eval(Eval<'a>),
+    Run(Run<'a>),
+    Check(Check<'a>),
+    Decompile(Decompile<'a>),
+    SelfTest(SelfTest),
+}
+
+/// `eval PROOF NAME TURNS ARG*`
+#[derive(Drop)]
+pub struct Eval<'a> {
+    pub proof: &'a str,
+    pub name: &'a [u8],
+    pub turns: u64,
+    pub given: Registers,
+    pub memory: List<Range>,
+}
+
+/// `run ELF START UNTIL STEPS ARG*`
+#[derive(Drop)]
+pub struct Run<'a> {
+    pub elf: &'a str,
+    pub start: &'a [u8],
+    pub until: u64,
+    pub steps: u64,
+    pub given: Registers,
+    pub memory: List<Range>,
+}
+
+/// `check ELF PROOF`
+#[derive(Clone, Copy, Debug)]
+pub struct Check<'a> {
+    pub elf: &'a str,
+    pub proof: &'a str,
+}
+
+/// `decompile ELF OUT NAME+`
+#[derive(Drop)]
+pub struct Decompile<'a> {
+    pub elf: &'a str,
+    pub out: &'a str,
+    pub names: List<Text>,
+}
+
+/// `selftest NUMBER SIZE`
+#[derive(Clone, Copy, Debug)]
+pub struct SelfTest {
+    pub number: u64,
+    pub size: u32,
+}
+
+/// A word behind the others.
+#[derive(Drop)]
+pub enum Argument {
+    /// The number of a register, and its value.
+    Value(u8, u64),
+    /// Bytes of memory.
+    Memory(Range),
+}
+
+/// The values that the words give to registers, by their numbers.
+#[derive(Drop)]
+pub struct Registers {
+    pub values: [Option<u64>; 32],
+}
+
+impl Registers {
+    /// The value that the register is given.
+    pub fn given(&self, register: u8) -> Option<u64>
+        ensures { result ≡ given_in self.now.values register }
+    {
+        match self.values.get(register as usize) {
+            Some(value) => *value,
+            None => None,
+        }
+    }
+
+    /// The value of the register; 0 where it is given none.
+    pub fn value(&self, register: u8) -> u64
+        ensures { result ≡ value_in self.now.values register }
+    {
+        match self.values.get(register as usize) {
+            Some(Some(value)) => *value,
+            _ => 0,
+        }
+    }
+}
+
+/// The command that the words are.
+pub fn read_words(alloc: Global, words: &[String]) -> Result<Command<'_>, Unread>
+    ensures { MatchResult result (λ c. IsRead (texts words.now) c) (λ e. Unless (IsNoCommand (texts words.now)) e) }
+{
+    let [first, rest @ ..] = words else {
+        return Err(Unread::NotThere);
+    };
+    if first.as_str() == "eval" {
+        return Ok(Command::Eval(read_eval(alloc, rest)?));
+    }
+    if first.as_str() == "run" {
+        return Ok(Command::Run(read_run(alloc, rest)?));
+    }
+    if first.as_str() == "check" {
+        return Ok(Command::Check(read_check(rest)?));
+    }
+    if first.as_str() == "decompile" {
+        return Ok(Command::Decompile(read_decompile(alloc, rest)?));
+    }
+    if first.as_str() == "selftest" {
+        return Ok(Command::SelfTest(read_self_test(rest)?));
+    }
+    Err(Unread::NotThere)
+}
+
+/// The words behind `eval`.
+fn read_eval(alloc: Global, words: &[String]) -> Result<Eval<'_>, Unread>
+    ensures { MatchResult result (λ e. IsEval (texts words.now) e) (λ e. Unless (NoEval (texts words.now)) e) }
+{
+    let [proof, name, turns, arguments @ ..] = words else {
+        return Err(Unread::NotThere);
+    };
+    if proof.is_empty() || !is_name(name.as_bytes()) {
+        return Err(Unread::NotThere);
+    }
+    let turns = match dec(turns.as_bytes()) {
+        Some(turns) => turns,
+        None => return Err(Unread::NotThere),
+    };
+    let (given, memory) = read_arguments(alloc, arguments)?;
+    Ok(Eval {
+        proof: proof.as_str(),
+        name: name.as_bytes(),
+        turns,
+        given,
+        memory,
+    })
+}
+
+/// The words behind `run`.
+fn read_run(alloc: Global, words: &[String]) -> Result<Run<'_>, Unread>
+    ensures { MatchResult result (λ r. IsRun (texts words.now) r) (λ e. Unless (NoRun (texts words.now)) e) }
+{
+    let [elf, start, until, steps, arguments @ ..] = words else {
+        return Err(Unread::NotThere);
+    };
+    if elf.is_empty() || !is_name(start.as_bytes()) {
+        return Err(Unread::NotThere);
+    }
+    let until = match hexnum(until.as_bytes()) {
+        Some(until) => until,
+        None => return Err(Unread::NotThere),
+    };
+    let steps = match dec(steps.as_bytes()) {
+        Some(steps) => steps,
+        None => return Err(Unread::NotThere),
+    };
+    let (given, memory) = read_arguments(alloc, arguments)?;
+    Ok(Run {
+        elf: elf.as_str(),
+        start: start.as_bytes(),
+        until,
+        steps,
+        given,
+        memory,
+    })
+}
+
+/// The words behind `check`.
+fn read_check(words: &[String]) -> Result<Check<'_>, Unread>
+    ensures { MatchResult result (λ c. IsCheck (texts words.now) c) (λ e. Unless (NoCheck (texts words.now)) e) }
+{
+    let [elf, proof] = words else {
+        return Err(Unread::NotThere);
+    };
+    if elf.is_empty() || proof.is_empty() {
+        return Err(Unread::NotThere);
+    }
+    Ok(Check {
+        elf: elf.as_str(),
+        proof: proof.as_str(),
+    })
+}
+
+/// The words behind `decompile`.
+fn read_decompile(alloc: Global, words: &[String]) -> Result<Decompile<'_>, Unread>
+    ensures { MatchResult result (λ d. IsDecompile (texts words.now) d) (λ e. Unless (NoDecompile (texts words.now)) e) }
+{
+    let [elf, out, names @ ..] = words else {
+        return Err(Unread::NotThere);
+    };
+    if elf.is_empty() || out.is_empty() || elf.as_str() == out.as_str() || names.is_empty() {
+        return Err(Unread::NotThere);
+    }
+    let names = read_names(alloc, names)?;
+    Ok(Decompile {
+        elf: elf.as_str(),
+        out: out.as_str(),
+        names,
+    })
+}
+
+/// The words behind `selftest`.
+fn read_self_test(words: &[String]) -> Result<SelfTest, Unread>
+    ensures { MatchResult result (λ t. IsSelfTest (texts words.now) t) (λ e. Unless (NoSelfTest (texts words.now)) e) }
+{
+    let [number, size] = words else {
+        return Err(Unread::NotThere);
+    };
+    let Some(number) = dec(number.as_bytes()) else {
+        return Err(Unread::NotThere);
+    };
+    let Some(size) = read_size(size.as_bytes()) else {
+        return Err(Unread::NotThere);
+    };
+    Ok(SelfTest { number, size })
+}
+
+/// The size of a program.
+fn read_size(word: &[u8]) -> Option<u32>
+    ensures { MatchOption result ((n : ℕ) → 1 ≤ n → n ≤ 600 → word.now ≢ decimal n) (λ n. (1 ≤ n) × (n ≤ 600) × (word.now ≡ decimal n)) }
+{
+    let size = dec(word)?;
+    if 1 <= size && size <= 600 {
+        Some(size as u32)
+    } else {
+        None
+    }
+}
+
+/// Names, none of which stands twice.
+fn read_names(alloc: Global, words: &[String]) -> Result<List<Text>, Unread>
+    ensures { MatchResult result (λ names. (names ≡ texts words.now) × AreNames names) (λ e. Unless (AreNames (texts words.now) → ⊥) e) }
+{
+    let mut names = List::new(alloc);
+    for word in words {
+        let name = word.as_bytes();
+        if !is_name(name) || has_name(names.as_slice(), name) {
+            return Err(Unread::NotThere);
+        }
+        names.push(Text::from_slice(alloc, name)?)?;
+    }
+    Ok(names)
+}
+
+/// Whether one of the names is this one.
+fn has_name(names: &[Text], name: &[u8]) -> bool
+    ensures { IsTrue result ↔ Contains names.now name.now }
+{
+    for other in names {
+        if other.as_slice() == name {
+            return true;
+        }
+    }
+    false
+}
+
+/// Whether the bytes are a name.
+fn is_name(bytes: &[u8]) -> bool
+    ensures { IsTrue result ↔ IsName bytes.now }
+{
+    bytes.len() <= 4096 && is_atom(bytes)
+}
+
+/// The values of registers, and bytes of memory.
+fn read_arguments(alloc: Global, words: &[String]) -> Result<(Registers, List<Range>), Unread>
+    ensures { MatchResult result (λ x. AllArgs (texts words.now) x.0.values x.1) (λ e. Unless (NoArgs (texts words.now)) e) }
+{
+    let mut values = [None; 32];
+    let mut memory = List::new(alloc);
+    for word in words {
+        match read_argument(alloc, word.as_str())? {
+            Argument::Value(register, value) => {
+                if values[register as usize].is_some() {
+                    return Err(Unread::NotThere);
+                }
+                values[register as usize] = Some(value);
+            }
+            Argument::Memory(range) => memory.push(range)?,
+        }
+    }
+    Ok((Registers { values }, memory))
+}
+
+/// A word behind the others.
+fn read_argument(alloc: Global, word: &str) -> Result<Argument, Unread>
+    ensures { MatchResult result (λ a. IsArg (arg_of a) × (word.now ≡ arg_word (arg_of a))) (λ e. Unless ((a : Arg) → IsArg a → word.now ≢ arg_word a) e) }
+{
+    let Some((name, value)) = at_first(word, '=') else {
+        return Err(Unread::NotThere);
+    };
+    if name == "mem" {
+        return Ok(Argument::Memory(read_memory(alloc, value)?));
+    }
+    match read_register(name.as_bytes(), value.as_bytes()) {
+        Some((register, value)) => Ok(Argument::Value(register, value)),
+        None => Err(Unread::NotThere),
+    }
+}
+
+/// A register's number and its value.
+fn read_register(name: &[u8], value: &[u8]) -> Option<(u8, u64)>
+    ensures { MatchOption result ((g : Given) → IsGiven g → name.now ≡ codes "x" ++ decimal g.register → value.now ≢ hex g.value)
+        (λ x. IsGiven (record { register = x.0; value = x.1 }) × (name.now ≡ codes "x" ++ decimal x.0) × (value.now ≡ hex x.1)) }
+{
+    let [b'x', number @ ..] = name else {
+        return None;
+    };
+    let register = dec(number)?;
+    let value = hexnum(value)?;
+    if 1 <= register && register <= 31 {
+        Some((register as u8, value))
+    } else {
+        None
+    }
+}
+
+/// Bytes of memory.
+fn read_memory(alloc: Global, value: &str) -> Result<Range, Unread>
+    ensures { MatchResult result (λ r. IsMemory r × (value.now ≡ hex r.at ++ codes ":" ++ encode_lower r.bytes))
+        (λ e. Unless ((r : RangeOf) → IsMemory r → value.now ≢ hex r.at ++ codes ":" ++ encode_lower r.bytes) e) }
+{
+    let Some((address, digits)) = at_first(value, ':') else {
+        return Err(Unread::NotThere);
+    };
+    let Some(at) = hexnum(address.as_bytes()) else {
+        return Err(Unread::NotThere);
+    };
+    let Some(bytes) = hex_bytes(alloc, digits.as_bytes())? else {
+        return Err(Unread::NotThere);
+    };
+    if u128::from(at) + bytes.len() as u128 <= 1 << 64 {
+        Ok(Range { at, bytes })
+    } else {
+        Err(Unread::NotThere)
+    }
+}
+
+/// What stands before the first such character, and what stands behind it.
+fn at_first(text: &str, mark: char) -> Option<(&str, &str)>
+    requires { mark < 128 }
+    ensures { MatchOption result ((front back : List ℕ) → text.now ≢ front ++ mark ∷ back)
+        (λ x. (text.now ≡ x.0.now ++ mark ∷ x.1.now) × Lacks mark x.0.now) }
+{
+    text.split_once(mark)
+}
