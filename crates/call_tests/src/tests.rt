@@ -12,6 +12,7 @@ mod elf_files;
 mod evaluating;
 mod forests;
 mod graphs;
+mod interned;
 mod loops;
 mod machine;
 mod reading;

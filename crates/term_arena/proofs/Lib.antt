@@ -1,0 +1,5 @@
+pub mod Places
+pub mod ChainLemmas
+pub mod TreeNodes
+pub mod TreeLemmas
+pub mod PutLemmas
