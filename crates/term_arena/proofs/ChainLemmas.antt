@@ -1,5 +1,5 @@
 -- Chains when an entry is written or added.
-use Rattle.std.proofs.Common.{◌≡◌, ◌≢◌, ◌⊎◌, ℕ, zero, suc, ◌+◌, ◌<◌, ◌≤◌, List, [], ◌∷◌, ◌++◌, Option, Some, None, length, get_or, set, map, replicate, refl, ap, sym, ◌∙◌, inl, inr, subst, arith, rules, length-append, length-set, get_or-set_other, get_or-set_same}
+use Rattle.std.proofs.Common.{◌≡◌, ◌≢◌, ℕ, zero, suc, ◌+◌, ◌<◌, ◌≤◌, List, [], ◌∷◌, ◌++◌, Some, length, get_or, set, replicate, refl, ap, sym, ◌∙◌, inl, inr, subst, arith, length-append, length-set, get_or-set_other, get_or-set_same}
 use Rattle.std.specs.Prelude.{slice_get, slice_index}
 use Rattle.std.specs.List.{Contains}
 use Rattle.std.proofs.lemmas.Bool.{cases_lt, cases_eq}
@@ -7,7 +7,7 @@ use Rattle.std.proofs.lemmas.Option.{slice_get_within}
 use Rattle.term_arena.specs.declared.node.Node.{Node}
 use Rattle.term_arena.specs.declared.chains.Entry.{Entry}
 use Rattle.term_arena.specs.inner.Chains.{Skips, IsLinked, IsChained, slot_among, nodes_of}
-use Rattle.term_arena.proofs.Places.{at-before, at-append, at-push, at-set_other, at-set_same, at-map, at_contains, map-at}
+use Rattle.term_arena.proofs.Places.{at-before, at-push, at-set_other, at-set_same, at-map, at_contains}
 
 -- chains see nothing of the entries from the limit on
 pub skips_in : (slots : ℕ) (es fs : List Entry) (slot link limit : ℕ) → ((j : ℕ) → j < limit → slice_get fs j ≡ slice_get es j) → Skips slots es slot link limit → Skips slots fs slot link limit

@@ -1,5 +1,5 @@
 -- What the numbers of an arena stand for. A node's children have numbers below its own, so each tree is made of earlier ones.
-use Rattle.std.specs.Prelude.{◌≡◌, ℕ, ◌+◌, ◌<◌, List, [], ◌∷◌, ◌++◌, Option, Some, None, fold, length, slice_get, take}
+use Rattle.std.specs.Prelude.{◌≡◌, ℕ, ◌+◌, ◌<◌, List, [], ◌∷◌, ◌++◌, Option, Some, fold, length, slice_get, take}
 use Rattle.word_terms.specs.Tree.{WordTree, MemTree, CondTree, Const, Var, Bin, Extend, Load, MemVar, Store, Compare, Neg, Inside}
 use Rattle.rv_words.specs.declared.comparison.Cmp.TheVariants.{Eq}
 use Rattle.term_arena.specs.declared.node.Node.{Node}

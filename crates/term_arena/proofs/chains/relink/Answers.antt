@@ -1,9 +1,9 @@
-use Rattle.std.proofs.Common.{◌≡◌, ◌<◌, ℕ, List, length, set, ap, ◌∙◌, sym, refl, arith, length-set}
+use Rattle.std.proofs.Common.{◌<◌, ℕ, List, length, ap, ◌∙◌, sym, refl, arith, length-set}
 use Rattle.std.specs.Prelude.{slice_get, slice_index}
 use Rattle.term_arena.specs.declared.chains.Entry.{Entry}
 use Rattle.term_arena.specs.inner.Chains.{slot_among, nodes_of}
 use Rattle.term_arena.proofs.Places.{map-set_same}
-use Rattle.term_arena.proofs.ChainLemmas.{linked_set, linked_none}
+use Rattle.term_arena.proofs.ChainLemmas.{linked_set}
 use Rattle.term_arena.proofs.chains.relink.Goals as goal
 
 pub loop-k-preserved : goal.loop-k-preserved

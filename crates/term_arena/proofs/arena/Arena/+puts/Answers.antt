@@ -1,7 +1,7 @@
-use Rattle.std.proofs.Common.{◌≡◌, Some, ap, ◌∙◌, sym}
+use Rattle.std.proofs.Common.{Some, ap, ◌∙◌, sym}
 use Rattle.std.proofs.lemmas.Result.{IfOk-weaker}
 use Rattle.word_terms.specs.Tree.{Store, mem_tree, word_tree}
-use Rattle.term_arena.specs.Arena.{OfMem, OfWord, as_mem, as_word, tree_of}
+use Rattle.term_arena.specs.Arena.{OfMem, as_mem, as_word}
 use Rattle.term_arena.proofs.PutLemmas.{tree_stays}
 use Rattle.term_arena.proofs.TreeLemmas.{mem_there, word_there}
 use Rattle.term_arena.proofs.arena.Arena.+puts.Goals as goal
