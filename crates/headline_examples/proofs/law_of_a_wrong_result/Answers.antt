@@ -1,0 +1,5 @@
+use Rattle.headline_examples.proofs.SumLemmas.{wrong-refuted}
+use Rattle.headline_examples.proofs.law_of_a_wrong_result.Goals as goal
+
+pub returns : goal.returns
+returns c = wrong-refuted
