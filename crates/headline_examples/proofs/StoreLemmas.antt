@@ -19,7 +19,7 @@ use Rattle.headline_examples.specs.Store.{at_place, keeps, memory_with, place, q
 use Rattle.headline_examples.proofs.Ends.{only-end}
 
 same-code : code_of_file store_file ≡ range_bytes stores.code
-unfolding number_at, elf_of
+unfolding number_at elf_of
 same-code = refl
 
 none-there : (b : ℕ) → None ≡ Some b → (A : Type 0) → A

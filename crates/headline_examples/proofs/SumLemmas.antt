@@ -18,7 +18,7 @@ use Rattle.headline_examples.specs.Sum.{adding, narrow, sum, sum_file, sum_regis
 use Rattle.headline_examples.proofs.Ends.{only-end}
 
 same-code : code_of_file sum_file ≡ range_bytes sum.code
-unfolding number_at, elf_of
+unfolding number_at elf_of
 same-code = refl
 
 no-pairs : AllPairs AreApart []
@@ -75,13 +75,17 @@ others-by r false e never = λ i. if e i then 5 else sum_registers r
 
 pub sum-ends : (t : State) × Reaches sum_start t × Ends sum [] sum_start 0x2000 (sum_results 5) t
 unfolding returned
-sum-ends = (returned, record { steps = 2; ran = two-steps }, record {
-  pc = refl;
-  results = refl;
-  registers = λ r small never. others-by r (r == 10) refl never;
-  bytes = λ a e. refl;
-  present = λ a. refl;
-})
+sum-ends = (
+  returned,
+  record { steps = 2; ran = two-steps },
+  record {
+    pc = refl;
+    results = refl;
+    registers = λ r small never. others-by r (r == 10) refl never;
+    bytes = λ a e. refl;
+    present = λ a. refl;
+  },
+)
 
 -- ---- functions that are wrong
 

@@ -1,6 +1,6 @@
 -- What names hold after a file was set or grew.
 use Rattle.std.proofs.Common.{◌≡◌, ◌≢◌, ℕ, List, [], ◌∷◌, ◌++◌, length, true, false, cond, Option, Some, None, IsSome, Ok, Err, refl, sym, ◌∙◌, ap}
-use Rattle.std.specs.Option.{option_map}
+use Rattle.std.specs.Option.{option_map, unwrap_or}
 use Rattle.std.specs.Str.{bytes_eq}
 use Rattle.std.proofs.Math.Seq.{take-length}
 use Rattle.std.proofs.lemmas.Bool.{false_from_ne_true}
@@ -9,6 +9,7 @@ use Rattle.mc_shelf.specs.declared.sink.Stop.TheVariants.{Failed}
 use Rattle.mc_shelf.specs.Files.{Files, held, with_file, with_more}
 use Rattle.mc_shelf.specs.Plan.{kept_of}
 use Rattle.mc_shelf.specs.Shelf.{Creates, Appends, AddsToName}
+use Rattle.mc_shelf.specs.SureShelf.{sure_contents, surely_held}
 
 bytes_eq_self : (x : List ℕ) → bytes_eq x x ≡ true
 bytes_eq_self x = (bytes_eq-Decides x x).1 refl
@@ -74,4 +75,31 @@ pub appends_kept : (fs : Files) (name piece : List ℕ) (kept : Option ℕ) → 
 appends_kept fs name piece kept = record {
   named = rw (held-with_more fs name (kept_of kept piece)) (adds-kept (held fs name) kept piece);
   others = held-with_more_other fs name (kept_of kept piece);
+}
+
+-- ---- where no name is missing
+
+pub surely-with_file : (fs : Files) (name bytes : List ℕ) → surely_held (with_file fs name bytes) name ≡ bytes
+surely-with_file fs name bytes = ap (λ o. unwrap_or o []) (held-with_file fs name bytes)
+
+pub surely-with_file_other : (fs : Files) (name bytes other : List ℕ) → other ≢ name → sure_contents (with_file fs name bytes) other ≡ sure_contents fs other
+surely-with_file_other fs name bytes other apart = ap (λ o. Some (unwrap_or o [])) (held-with_file_other fs name bytes other apart)
+
+pub surely_creates : (fs : Files) (name : List ℕ) → Creates (Ok tt) name (sure_contents fs) (sure_contents (with_file fs name []))
+surely_creates fs name = record { named = ap Some (surely-with_file fs name []); others = surely-with_file_other fs name [] }
+
+pub surely_begins : (fs : Files) (name piece : List ℕ) → held fs name ≡ None → Appends (Ok tt) name piece (sure_contents fs) (sure_contents (with_file fs name piece))
+surely_begins fs name piece none = record {
+  named = surely-with_file fs name piece ∙ ap (λ o. unwrap_or o [] ++ piece) (sym none);
+  others = surely-with_file_other fs name piece;
+}
+
+more-there : (o : Option (List ℕ)) (piece : List ℕ) → IsSome o → unwrap_or (option_map (λ old. old ++ piece) o) [] ≡ unwrap_or o [] ++ piece
+more-there None piece is = cc
+more-there (Some old) piece is = refl
+
+pub surely_appends : (fs : Files) (name piece : List ℕ) → IsSome (held fs name) → Appends (Ok tt) name piece (sure_contents fs) (sure_contents (with_more fs name piece))
+surely_appends fs name piece is = record {
+  named = ap (λ o. unwrap_or o []) (held-with_more fs name piece) ∙ more-there (held fs name) piece is;
+  others = λ other apart. ap (λ o. Some (unwrap_or o [])) (held-with_more_other fs name piece other apart);
 }

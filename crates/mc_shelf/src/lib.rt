@@ -10,6 +10,8 @@ mod plan;
 mod reading;
 mod shelf;
 mod sink;
+mod sure_shelf;
+mod sure_sink;
 
 pub use dir_shelf::DirShelf;
 pub use mem_shelf::MemShelf;
@@ -18,3 +20,5 @@ pub use out_sink::OutSink;
 pub use reading::{ReadEnd, read_file};
 pub use shelf::Shelf;
 pub use sink::{Failed, Sink, Stop};
+pub use sure_shelf::SureShelf;
+pub use sure_sink::SureSink;

@@ -78,7 +78,7 @@ impl MemShelf {
 }
 
 /// Copies as many bytes from that place on as are there and fit.
-fn copy_part(file: &[u8], at: u64, into: &mut [u8]) -> usize
+pub(crate) fn copy_part(file: &[u8], at: u64, into: &mut [u8]) -> usize
     ensures { ReadsAll file.now at result into.old into.new }
 {
     if at >= file.len() as u64 {
