@@ -180,6 +180,33 @@ fn calls_in_memory_are_answered_or_fail(rt: HostRuntime) -> Result<(), Fail> {
     Ok(())
 }
 
+/// Calls on a name that was never given, where none is missing.
+static SURE_CALLS: [Call; 6] = [
+    Call::Read(0, Some(b"")),
+    Call::Append(b"ab", true),
+    Call::Append(b"cde", true),
+    Call::Read(1, Some(b"bcde")),
+    Call::Create(true),
+    Call::Append(b"x", true),
+];
+
+/// Whether a sure shelf gives that, and another name holds what it was given.
+fn sure_shelf_gives(alloc: Global) -> Result<bool, NoMemory> {
+    let mut shelf = SureShelf::new(alloc);
+    shelf.set("q", b"other")?;
+    let is_so = all_give(&mut shelf, "p", &SURE_CALLS);
+    Ok(is_so && shelf.held("p") == b"x" && shelf.held("q") == b"other" && shelf.held("r") == b"")
+}
+
+#[test]
+fn sure_calls_never_fail(rt: HostRuntime) -> Result<(), Fail> {
+    let is_so = sure_shelf_gives(rt.alloc())?;
+    assert!(rt; is_so);
+    let mut sink = SureSink::new(rt.alloc());
+    assert!(rt; sink.put(b"ab").is_ok() && sink.put(b"c").is_ok() && sink.written() == b"abc");
+    Ok(())
+}
+
 /// Whether reading the file to its end gives these bytes.
 fn file_is<S: Shelf>(alloc: Global, shelf: &mut S, name: &str, bytes: &[u8]) -> bool {
     match read_file(alloc, shelf, name, 6) {

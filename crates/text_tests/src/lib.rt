@@ -1,0 +1,5 @@
+//! Tests of what the crates up to the checker do with texts. They stand apart, since a crate with tests is proved twice.
+#![tactic(auto)]
+
+#[cfg(test)]
+mod tests;

@@ -1,0 +1,9 @@
+//! What no clause says: what becomes of texts while there is memory. They are written by hand.
+
+mod axioms;
+mod checking;
+mod evaluating;
+mod loops;
+mod reading;
+mod rules;
+mod terms;
