@@ -10,7 +10,6 @@ use Rattle.rv_decode.specs.Decodes.{decoded}
 use Rattle.rv_machine.specs.State.{State}
 use Rattle.rv_machine.specs.Step.{step}
 use Rattle.rv_machine.specs.Run.{run}
-use Rattle.word_terms.specs.Tree.{MemTree}
 use Rattle.tailrec_lang.specs.Tree.{BodyTree, listed_def}
 use Rattle.tailrec_lang.specs.Eval.{Arguments, Done, eval}
 use Rattle.code_gen.specs.ElfFile.{elf_of}
@@ -48,9 +47,9 @@ there a false e within = nowhere (sym (λ i. or_none (e i)) ∙ within)
     nowhere : false ≡ true → is_some (memory_with 7 a) ≡ true
     nowhere h = absurd (cc)
 
--- whatever it does first and leaves
-starts : (first : BodyTree → BodyTree) (after : List MemTree) → Starts store_file (storing 1 first after) store_start (at_place ∷ [])
-starts first after = record {
+-- whatever its body is
+starts : (body : BodyTree) → Starts store_file (storing 1 body) store_start (at_place ∷ [])
+starts body = record {
   entry = refl;
   code = λ a b at. held a b at;
   count = refl;
@@ -60,10 +59,10 @@ starts first after = record {
 }
 
 pub store-starts : Starts store_file stores store_start (at_place ∷ [])
-store-starts = starts _ _
+store-starts = starts _
 
 pub keeps-starts : Starts store_file keeps store_start (at_place ∷ [])
-keeps-starts = starts _ _
+keeps-starts = starts _
 
 -- ---- the run
 
@@ -126,7 +125,7 @@ no-bytes a = None
 
 pub keeps-refuted : IsRight store_file keeps → ⊥
 keeps-refuted right =
-    let end = right store_start (at_place ∷ []) (starts _ _) 1 0 0x2000 0 kept_results keeps-done in
+    let end = right store_start (at_place ∷ []) (starts _) 1 0 0x2000 0 kept_results keeps-done in
     two-at-end end.1.steps end.0 end.1.ran end.2.pc (ap (λ (x : Arguments). slice_index_or x.mems 0 no-bytes place) end.2.results)
 
 quiet-starts : Starts store_file quiet store_start []

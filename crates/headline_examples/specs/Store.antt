@@ -15,25 +15,29 @@ use Rattle.headline_examples.specs.Sum.{returned_to}
 abbrev pub store_file : List ℕ
 store_file = elf_of (0x00a5_8023 ∷ 0x0000_8067 ∷ [])
 
--- a function over this code: how many memories it has, what it does first, and the memories that it leaves
-abbrev pub storing : ℕ → (BodyTree → BodyTree) → List MemTree → GroupTree
-storing mems first after = record {
+-- a function over this code: how many memories it has, and its body
+abbrev pub storing : ℕ → BodyTree → GroupTree
+storing mems body = record {
   name = codes "f";
   regs = 1 ∷ 10 ∷ 11 ∷ [];
   mems = mems;
   code = record { at = 0x10000; bytes = 0x23 ∷ 0x80 ∷ 0xa5 ∷ 0x00 ∷ 0x67 ∷ 0x80 ∷ 0x00 ∷ 0x00 ∷ [] } ∷ [];
-  defs = record { entry = 0x10000; exits = Ret ∷ []; body = first (Leave 0 (record { words = returned_to ∷ Var 0 ∷ Var 1 ∷ Var 2 ∷ []; mems = after })) } ∷ [];
+  defs = record { entry = 0x10000; exits = Ret ∷ []; body = body } ∷ [];
 }
+
+-- a return with the registers as they are, and these memories
+abbrev pub returning : List MemTree → BodyTree
+returning mems = Leave 0 (record { words = returned_to ∷ Var 0 ∷ Var 1 ∷ Var 2 ∷ []; mems = mems })
 
 -- what the code does; that the memory stays as it is; without a memory
 abbrev pub stores : GroupTree
-stores = storing 1 (Do (BindMem (Store B1 (MemVar 0) (Bin Add (Var 2) (Const 0)) (Var 1)))) (MemVar 1 ∷ [])
+stores = storing 1 (Do (BindMem (Store B1 (MemVar 0) (Bin Add (Var 2) (Const 0)) (Var 1))) (returning (MemVar 1 ∷ [])))
 
 abbrev pub keeps : GroupTree
-keeps = storing 1 (λ rest. rest) (MemVar 0 ∷ [])
+keeps = storing 1 (returning (MemVar 0 ∷ []))
 
 abbrev pub quiet : GroupTree
-quiet = storing 0 (λ rest. rest) []
+quiet = storing 0 (returning [])
 
 -- the byte at which x11 points
 abbrev pub place : ℕ
