@@ -195,7 +195,9 @@ fn sure_shelf_gives(alloc: Global) -> Result<bool, NoMemory> {
     let mut shelf = SureShelf::new(alloc);
     shelf.set("q", b"other")?;
     let is_so = all_give(&mut shelf, "p", &SURE_CALLS);
-    Ok(is_so && shelf.held("p") == b"x" && shelf.held("q") == b"other" && shelf.held("r") == b"")
+    let p = shelf.held("p") == b"x".as_slice();
+    let q = shelf.held("q") == b"other".as_slice();
+    Ok(is_so && p && q && shelf.held("r").is_empty())
 }
 
 #[test]
@@ -203,7 +205,9 @@ fn sure_calls_never_fail(rt: HostRuntime) -> Result<(), Fail> {
     let is_so = sure_shelf_gives(rt.alloc())?;
     assert!(rt; is_so);
     let mut sink = SureSink::new(rt.alloc());
-    assert!(rt; sink.put(b"ab").is_ok() && sink.put(b"c").is_ok() && sink.written() == b"abc");
+    assert!(rt;
+        sink.put(b"ab").is_ok() && sink.put(b"c").is_ok() && sink.written() == b"abc".as_slice()
+    );
     Ok(())
 }
 
