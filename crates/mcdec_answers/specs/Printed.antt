@@ -10,6 +10,8 @@ use Rattle.rv_machine.specs.declared.state.Stuck.{Stuck}
 use Rattle.rv_machine.specs.declared.state.Stuck.TheVariants as stuck
 use Rattle.elf_image.specs.declared.symbol.NameFault.{NameFault}
 use Rattle.elf_image.specs.declared.symbol.NameFault.TheVariants as name
+use Rattle.checker.specs.declared.verdict.Verdict.{Verdict}
+use Rattle.checker.specs.declared.verdict.Verdict.TheVariants as verdict
 use Rattle.mcdec_answers.specs.declared.answer.Answer.{Answer}
 use Rattle.mcdec_answers.specs.declared.answer.Answer.TheVariants as answer
 use Rattle.mcdec_answers.specs.declared.answer.EvalAnswer.{EvalAnswer}
@@ -123,16 +125,21 @@ run_printed (run.Stuck steps why) = (1, codes "refused stuck " ++ decimal steps 
 run_printed run.StepsUsed = (7, codes "steps used\n")
 run_printed (run.Met shown) = (0, shown_lines (codes "met ") shown)
 
+-- the status and the lines of a verdict
+abbrev pub verdict_printed : Verdict → ℕ × List ℕ
+verdict_printed (verdict.Accepted functions lines) = (0, codes "accepted " ++ decimal functions ++ codes " " ++ decimal lines ++ codes "\n")
+verdict_printed (verdict.BadElf why) = (3, codes "unreadable elf " ++ fault_words why ++ codes "\n")
+verdict_printed (verdict.BadText line) = (3, codes "unreadable text " ++ decimal line ++ codes "\n")
+verdict_printed (verdict.BadDef group def) = (1, codes "refused def " ++ decimal group ++ codes " " ++ decimal def ++ codes "\n")
+verdict_printed (verdict.BadLine line) = (1, codes "refused line " ++ decimal line ++ codes "\n")
+verdict_printed (verdict.NotProved group) = (1, codes "refused group " ++ decimal group ++ codes "\n")
+verdict_printed verdict.NoMemory = (6, codes "no memory\n")
+
 -- the status and the lines of what `check` comes to
 abbrev pub check_printed : CheckAnswer → ℕ × List ℕ
 check_printed check.ElfOverLimit = (7, codes "over limit elf\n")
-check_printed (check.UnreadableElf why) = (3, codes "unreadable elf " ++ fault_words why ++ codes "\n")
 check_printed check.ProofOverLimit = (7, codes "over limit proof\n")
-check_printed (check.UnreadableText line) = (3, codes "unreadable text " ++ decimal line ++ codes "\n")
-check_printed (check.IllFormed group def) = (1, codes "refused def " ++ decimal group ++ codes " " ++ decimal def ++ codes "\n")
-check_printed (check.WrongLine line) = (1, codes "refused line " ++ decimal line ++ codes "\n")
-check_printed (check.NotProved group) = (1, codes "refused group " ++ decimal group ++ codes "\n")
-check_printed (check.Accepted functions lines) = (0, codes "accepted " ++ decimal functions ++ codes " " ++ decimal lines ++ codes "\n")
+check_printed (check.Judged v) = verdict_printed v
 
 -- the status and the lines of what `decompile` comes to
 abbrev pub decompile_printed : DecompileAnswer → ℕ × List ℕ

@@ -1,5 +1,6 @@
 //! What is answered to a list of words.
 
+use checker::Verdict;
 use elf_image::{ElfFault, NameFault};
 use flow_graph::Outside;
 use rv_machine::Stuck;
@@ -72,20 +73,10 @@ pub enum RunAnswer {
 pub enum CheckAnswer {
     /// The ELF file has more bytes than are read.
     ElfOverLimit,
-    /// It has this fault.
-    UnreadableElf(ElfFault),
     /// The proof file has more bytes than are read.
     ProofOverLimit,
-    /// It isn't a proof file, from this line on.
-    UnreadableText(u64),
-    /// In the group of that number, this definition isn't well-formed.
-    IllFormed(u64, u32),
-    /// The line of that number isn't right after those before it.
-    WrongLine(u64),
-    /// The function of the group of that number isn't closed, or its code isn't the file's.
-    NotProved(u64),
-    /// All is right: so many functions, with so many lines of proofs.
-    Accepted(u64, u64),
+    /// The verdict on the two. It is never want of memory.
+    Judged(Verdict),
 }
 
 /// What the command `decompile` comes to.

@@ -1,7 +1,7 @@
 //! Printing an answer into a sink, piece by piece. It takes no memory.
 
 ghost use Rattle.std.specs.Prelude.{◌≡◌, ◌⊎◌, ◌≤◌, flat_map, max, min, codes, ◌++◌};
-ghost use Rattle.mcdec_answers.specs.Printed.{check_printed, count_lines, decompile_printed, eval_printed, fault_words, lines, listed_line, memory_line, name_words, outside_words, register_line, register_lines, run_printed, self_test_line, shown_lines, status, stuck_words, IsDelivered};
+ghost use Rattle.mcdec_answers.specs.Printed.{check_printed, count_lines, decompile_printed, eval_printed, fault_words, lines, listed_line, memory_line, name_words, outside_words, register_line, register_lines, run_printed, self_test_line, shown_lines, status, stuck_words, verdict_printed, IsDelivered};
 ghost use Rattle.std.specs.Fmt.{decimal};
 ghost use Rattle.hex.specs.Hex.{encode_lower};
 ghost use Rattle.loop_forest.specs.Cycles.{last_of};
@@ -12,6 +12,7 @@ ghost use Rattle.mcdec_answers.specs.inner.Printing.{Prints, piece_text, pieces_
 use crate::answer::{
     Answer, CheckAnswer, DecompileAnswer, EvalAnswer, Listed, RunAnswer, SelfTestAnswer, Shown,
 };
+use checker::Verdict;
 use elf_image::{ElfFault, NameFault};
 use flow_graph::Outside;
 use itoa::Buffer;
@@ -137,13 +138,22 @@ fn check_status(answer: &CheckAnswer) -> u8
 {
     match answer {
         CheckAnswer::ElfOverLimit => 7,
-        CheckAnswer::UnreadableElf(_) => 3,
         CheckAnswer::ProofOverLimit => 7,
-        CheckAnswer::UnreadableText(_) => 3,
-        CheckAnswer::IllFormed(..) => 1,
-        CheckAnswer::WrongLine(_) => 1,
-        CheckAnswer::NotProved(_) => 1,
-        CheckAnswer::Accepted(..) => 0,
+        CheckAnswer::Judged(verdict) => verdict_status(verdict),
+    }
+}
+
+fn verdict_status(verdict: &Verdict) -> u8
+    ensures { result ≡ (verdict_printed verdict.now).0 }
+{
+    match verdict {
+        Verdict::Accepted { .. } => 0,
+        Verdict::BadElf(_) => 3,
+        Verdict::BadText(_) => 3,
+        Verdict::BadDef(..) => 1,
+        Verdict::BadLine(_) => 1,
+        Verdict::NotProved(_) => 1,
+        Verdict::NoMemory => 6,
     }
 }
 
@@ -206,13 +216,22 @@ fn put_check<O: Sink>(out: &mut O, answer: &CheckAnswer) -> Result<(), Stop>
 {
     match answer {
         CheckAnswer::ElfOverLimit => put_text(out, b"over limit elf\n"),
-        CheckAnswer::UnreadableElf(why) => put_unreadable_elf(out, why),
         CheckAnswer::ProofOverLimit => put_text(out, b"over limit proof\n"),
-        CheckAnswer::UnreadableText(line) => put_unreadable_text(out, *line),
-        CheckAnswer::IllFormed(group, def) => put_ill_formed(out, *group, *def),
-        CheckAnswer::WrongLine(line) => put_wrong_line(out, *line),
-        CheckAnswer::NotProved(group) => put_not_proved(out, *group),
-        CheckAnswer::Accepted(functions, lines) => put_accepted(out, *functions, *lines),
+        CheckAnswer::Judged(verdict) => put_verdict(out, verdict),
+    }
+}
+
+fn put_verdict<O: Sink>(out: &mut O, verdict: &Verdict) -> Result<(), Stop>
+    ensures { Prints result (verdict_printed verdict.now).1 (O.written out.old) (O.written out.new) (O.faults out.old) (O.faults out.new) }
+{
+    match verdict {
+        Verdict::Accepted { functions, lines } => put_accepted(out, *functions, *lines),
+        Verdict::BadElf(why) => put_unreadable_elf(out, why),
+        Verdict::BadText(line) => put_unreadable_text(out, *line),
+        Verdict::BadDef(group, def) => put_ill_formed(out, *group, *def),
+        Verdict::BadLine(line) => put_wrong_line(out, *line),
+        Verdict::NotProved(group) => put_not_proved(out, *group),
+        Verdict::NoMemory => put_text(out, b"no memory\n"),
     }
 }
 

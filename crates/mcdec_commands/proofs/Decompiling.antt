@@ -10,6 +10,7 @@ use Rattle.proof_text.specs.Proofs.{AreProofs, text_of_proofs}
 use Rattle.path_walk.specs.declared.item.Item.{Item}
 use Rattle.path_walk.specs.declared.proof.Proof.{Proof}
 use Rattle.decompiler.specs.Listing.{AreItemsFor, proofs_of}
+use Rattle.checker.specs.declared.verdict.Verdict.TheVariants as ve
 use Rattle.mcdec_answers.specs.declared.answer.Answer.{Answer}
 use Rattle.mcdec_answers.specs.declared.answer.Answer.TheVariants as answer
 use Rattle.mcdec_answers.specs.declared.answer.DecompileAnswer.TheVariants as de
@@ -18,7 +19,8 @@ use Rattle.mcdec_answers.specs.declared.answer.RunAnswer.TheVariants as ra
 use Rattle.mcdec_answers.specs.declared.answer.CheckAnswer.TheVariants as ca
 use Rattle.mcdec_words.specs.Command.{Command, Decompile, Words, output_of}
 use Rattle.mcdec_commands.specs.RunAnswer.{IsLoaded}
-use Rattle.mcdec_commands.specs.DecompileAnswer.{DecompileGives, HoldsAll, HoldsFront, IsTextFor, LeavesOut, all_listed, listed_of}
+use Rattle.mcdec_commands.specs.DecompileAnswer.{DecompileGives, IsTextFor, all_listed, listed_of}
+use Rattle.mcdec_commands.specs.Output.{HoldsAll, HoldsFront, IsOutput, LeavesOut}
 use Rattle.mcdec_commands.specs.Answer.{Gives, KeepsNames, ReadsAreTold}
 use Rattle.mcdec_answers.specs.Printed.{IsDelivered, status}
 use Rattle.mcdec_commands.specs.inner.Decompiling.{FileGives, LeavesBy, WritesOut}
@@ -55,19 +57,19 @@ file-gives told ws elf out names file rose wrote w held (answer.Decompile a) sin
 -- ---- nothing is written
 
 -- an answer after which the output file holds what it held
-abbrev pub LeavesAlone : (elf : List ℕ) (names : List (List ℕ)) → Answer → Type 0
-LeavesAlone elf names a = (files : Contents) (before : Option (List ℕ)) → LeavesBy files elf names a before before
+abbrev pub LeavesAlone : Answer → Type 0
+LeavesAlone a = (IsText : List ℕ → Type 0) (before : Option (List ℕ)) → LeavesBy IsText a before before
 
-pub nothing-written : (elf out : List ℕ) (names : List (List ℕ)) (a : Answer) (o n : Option Contents) → n ≡ o → LeavesAlone elf names a → WhereTold o n (WritesOut elf out names a)
+pub nothing-written : (elf out : List ℕ) (names : List (List ℕ)) (a : Answer) (o n : Option Contents) → n ≡ o → LeavesAlone a → WhereTold o n (WritesOut elf out names a)
 nothing-written elf out names a o n same h =
     subst (λ (m : Option Contents). WhereTold o m (WritesOut elf out names a)) (sym same)
-    (told_same o (WritesOut elf out names a) (λ x. record { output = h x (x out); others = λ other apart. refl }))
+    (told_same o (WritesOut elf out names a) (λ x. record { output = h (IsTextFor x elf names) (x out); others = λ other apart. refl }))
 
-pub alone-fault : (elf : List ℕ) (names : List (List ℕ)) → LeavesAlone elf names answer.ReadFault
-alone-fault elf names files before = refl
+pub alone-fault : LeavesAlone answer.ReadFault
+alone-fault IsText before = refl
 
-pub alone-memory : (elf : List ℕ) (names : List (List ℕ)) → LeavesAlone elf names answer.NoMemory
-alone-memory elf names files before = inl refl
+pub alone-memory : LeavesAlone answer.NoMemory
+alone-memory IsText before = inl refl
 
 -- ---- the text is written
 
@@ -77,26 +79,26 @@ module _ (files : Contents) (elf : List ℕ) (names : List (List ℕ)) (file : L
 
 -- what the names hold after the text was written, or where that failed
 pub text-written : (elf out : List ℕ) (names : List (List ℕ)) (file : List ℕ) → IsLoaded file → (p : Proof) → AreItemsFor file names p → (text : List ℕ) → text ≡ text_of_proofs (proofs_of p)
-    → (r : Result Unit Stop) (a : Answer) → ((files : Contents) (before now : Option (List ℕ)) → HoldsAll files elf names now → LeavesBy files elf names a before now)
+    → (r : Result Unit Stop) (a : Answer) → ((IsText : List ℕ → Type 0) (before now : Option (List ℕ)) → HoldsAll IsText now → LeavesBy IsText a before now)
     → (o n : Option Contents) → IfSome o (λ files. files elf ≡ Some file) → r ≡ Ok tt → WhereTold o n (Writes r out text) → WhereTold o n (WritesOut elf out names a)
 text-written elf out names file loaded p items text is r a leaves None None held ok h = tt
 text-written elf out names file loaded p items text is r a leaves None (Some y) held ok h = h
 text-written elf out names file loaded p items text is r a leaves (Some x) None held ok h = h
 text-written elf out names file loaded p items text is r a leaves (Some x) (Some y) held ok h =
     let done = subst (λ (s : Result Unit Stop). Writes s out text x y) ok h in
-    record { output = leaves x (x out) (y out) (text, text-for x elf names file loaded p items text is held, done.named); others = done.others }
+    record { output = leaves (IsTextFor x elf names) (x out) (y out) (text, text-for x elf names file loaded p items text is held, done.named); others = done.others }
 
 pub text-stopped : (elf out : List ℕ) (names : List (List ℕ)) (file : List ℕ) → IsLoaded file → (p : Proof) → AreItemsFor file names p → (text : List ℕ) → text ≡ text_of_proofs (proofs_of p)
-    → (r : Result Unit Stop) (e : Stop) (a : Answer) → ((files : Contents) (before now : Option (List ℕ)) → HoldsFront files elf names before now → LeavesBy files elf names a before now)
+    → (r : Result Unit Stop) (e : Stop) (a : Answer) → ((IsText : List ℕ → Type 0) (before now : Option (List ℕ)) → HoldsFront IsText before now → LeavesBy IsText a before now)
     → (o n : Option Contents) → IfSome o (λ files. files elf ≡ Some file) → r ≡ Err e → WhereTold o n (Writes r out text) → WhereTold o n (WritesOut elf out names a)
 text-stopped elf out names file loaded p items text is r e a leaves None None held err h = tt
 text-stopped elf out names file loaded p items text is r e a leaves None (Some y) held err h = h
 text-stopped elf out names file loaded p items text is r e a leaves (Some x) None held err h = h
 text-stopped elf out names file loaded p items text is r e a leaves (Some x) (Some y) held err h =
     let done = subst (λ (s : Result Unit Stop). Writes s out text x y) err h in
-    record { output = leaves x (x out) (y out) (front done.named); others = done.others }
+    record { output = leaves (IsTextFor x elf names) (x out) (y out) (front done.named); others = done.others }
   where
-    front : (y out ≡ x out) ⊎ ((kept : ℕ) × (y out ≡ Some (take kept text))) → HoldsFront x elf names (x out) (y out)
+    front : (y out ≡ x out) ⊎ ((kept : ℕ) × (y out ≡ Some (take kept text))) → HoldsFront (IsTextFor x elf names) (x out) (y out)
     front (inl same) = inl same
     front (inr more) = inr (text, text-for x elf names file loaded p items text is held, more.0, more.1)
 
@@ -125,24 +127,24 @@ listed-whole (suc k) (x ∷ names) (y ∷ items) e = ap (λ ls. listed_of x y �
 -- ---- how the top call ends
 
 -- what the output file holds, by the status that the answer ends with
-module _ (files : Contents) (elf : List ℕ) (names : List (List ℕ)) (before now : Option (List ℕ)) where
+module _ (IsText : List ℕ → Type 0) (before now : Option (List ℕ)) where
   -- with any status after a front
-  front-leaves : (status : ℕ) → (status ≡ 5) ⊎ (status ≡ 6) → HoldsFront files elf names before now → LeavesOut files elf names status before now
+  front-leaves : (status : ℕ) → (status ≡ 5) ⊎ (status ≡ 6) → HoldsFront IsText before now → LeavesOut IsText status before now
   front-leaves status (inl five) h = record { whole = λ e. absurd (omega (arith, five, e)); front = λ e. h; same = λ z a b. absurd (a five) }
   front-leaves status (inr six) h = record { whole = λ e. absurd (omega (arith, six, e)); front = λ e. h; same = λ z a b. absurd (b six) }
 
-  same-leaves : (status : ℕ) → (status ≡ 0 → ⊥) → now ≡ before → LeavesOut files elf names status before now
+  same-leaves : (status : ℕ) → (status ≡ 0 → ⊥) → now ≡ before → LeavesOut IsText status before now
   same-leaves status some h = record { whole = λ e. absurd (some e); front = λ e. inl h; same = λ z a b. h }
 
-  whole-leaves : (status : ℕ) → status ≡ 0 → HoldsAll files elf names now → LeavesOut files elf names status before now
+  whole-leaves : (status : ℕ) → status ≡ 0 → HoldsAll IsText now → LeavesOut IsText status before now
   whole-leaves status none h = record { whole = λ e. h; front = λ e. absurd (omega (arith, none, e)); same = λ z a b. absurd (z none) }
 
   -- all of a text is a front of it
-  whole-front : HoldsAll files elf names now → HoldsFront files elf names before now
+  whole-front : HoldsAll IsText now → HoldsFront IsText before now
   whole-front h = inr (h.0, h.1, length h.0, h.2 ∙ ap Some (sym (take_all (length h.0) h.0 (omega arith))))
 
   -- an answer that was not printed to its end
-  cut-short : (a : Answer) → LeavesBy files elf names a before now → HoldsFront files elf names before now
+  cut-short : (a : Answer) → LeavesBy IsText a before now → HoldsFront IsText before now
   cut-short answer.NotACommand h = absurd h
   cut-short answer.ReadFault h = inl h
   cut-short answer.WriteFault h = h
@@ -156,7 +158,7 @@ module _ (files : Contents) (elf : List ℕ) (names : List (List ℕ)) (before n
   cut-short (answer.Decompile (de.Refused name why)) h = inl h
   cut-short (answer.Decompile (de.Decompiled listed)) h = whole-front h
 
-  whole-answer : (a : Answer) (result : ℕ) → result ≡ status a → LeavesBy files elf names a before now → LeavesOut files elf names result before now
+  whole-answer : (a : Answer) (result : ℕ) → result ≡ status a → LeavesBy IsText a before now → LeavesOut IsText result before now
   whole-answer answer.NotACommand result e h = absurd h
   whole-answer answer.ReadFault result e h = same-leaves result (λ z. omega (arith, e, z)) h
   whole-answer answer.WriteFault result e h = front-leaves result (inl e) h
@@ -170,32 +172,31 @@ module _ (files : Contents) (elf : List ℕ) (names : List (List ℕ)) (before n
   whole-answer (answer.Decompile (de.Refused name why)) result e h = same-leaves result (λ z. omega (arith, e, z)) h
   whole-answer (answer.Decompile (de.Decompiled listed)) result e h = whole-leaves result e h
 
-  pub delivered-leaves : (a : Answer) (result : ℕ) (old new : Option (List ℕ)) → IsDelivered a result old new → LeavesBy files elf names a before now → LeavesOut files elf names result before now
+  pub delivered-leaves : (a : Answer) (result : ℕ) (old new : Option (List ℕ)) → IsDelivered a result old new → LeavesBy IsText a before now → LeavesOut IsText result before now
   delivered-leaves a result old new (inl d) h = whole-answer a result d.0 h
   delivered-leaves a result old new (inr d) h = front-leaves result d.0 (cut-short a h)
 
 -- the clause of the top call
 pub written-given : (ws : List (List ℕ)) (a : Answer) (result : ℕ) (old new : Option (List ℕ)) → IsDelivered a result old new → (o n : Option Contents)
-    → WhereTold o n (λ x y. (elf out : List ℕ) (names : List (List ℕ)) → Words ws (Decompile elf out names) → LeavesBy x elf names a (x out) (y out))
-    → WhereTold o n (λ x y. (elf out : List ℕ) (names : List (List ℕ)) → Words ws (Decompile elf out names) → LeavesOut x elf names result (x out) (y out))
+    → WhereTold o n (λ x y. (c : Command) (out : List ℕ) → Words ws c → output_of c ≡ Some out → LeavesBy (IsOutput x c) a (x out) (y out))
+    → WhereTold o n (λ x y. (c : Command) (out : List ℕ) → Words ws c → output_of c ≡ Some out → LeavesOut (IsOutput x c) result (x out) (y out))
 written-given ws a result old new d o n h =
-    where_told o n (λ x y. (elf out : List ℕ) (names : List (List ℕ)) → Words ws (Decompile elf out names) → LeavesBy x elf names a (x out) (y out))
-    (λ x y. (elf out : List ℕ) (names : List (List ℕ)) → Words ws (Decompile elf out names) → LeavesOut x elf names result (x out) (y out))
-    (λ x y all elf out names w. delivered-leaves x elf names (x out) (y out) a result old new d (all elf out names w)) h
+    where_told o n (λ x y. (c : Command) (out : List ℕ) → Words ws c → output_of c ≡ Some out → LeavesBy (IsOutput x c) a (x out) (y out))
+    (λ x y. (c : Command) (out : List ℕ) → Words ws c → output_of c ≡ Some out → LeavesOut (IsOutput x c) result (x out) (y out))
+    (λ x y all c out w e. delivered-leaves (IsOutput x c) (x out) (y out) a result old new d (all c out w e)) h
 
 -- ---- the words of another command
 
--- the command that the words are writes no file: nothing is claimed of `decompile`
-pub other-words : (ws : List (List ℕ)) (c : Command) → Words ws c → output_of c ≡ None → (elf out : List ℕ) (names : List (List ℕ)) → Words ws (Decompile elf out names) → ⊥
-other-words ws c w none elf out names v =
-    let same : output_of c ≡ output_of (Decompile elf out names) = ap output_of (words-unique ws c (Decompile elf out names) w v) in
-    has-output out (sym same ∙ none)
+no-output : (out : List ℕ) → None ≡ Some out → ⊥
+no-output out e = cc
 
-pub none-decompiled : (ws : List (List ℕ)) (c : Command) → Words ws c → output_of c ≡ None → (a : Answer) (o n : Option Contents) → n ≡ o
-    → WhereTold o n (λ x y. (elf out : List ℕ) (names : List (List ℕ)) → Words ws (Decompile elf out names) → LeavesBy x elf names a (x out) (y out))
-none-decompiled ws c w none a o n same =
-    subst (λ (m : Option Contents). WhereTold o m (λ x y. (elf out : List ℕ) (names : List (List ℕ)) → Words ws (Decompile elf out names) → LeavesBy x elf names a (x out) (y out))) (sym same)
-    (told_same o (λ x y. (elf out : List ℕ) (names : List (List ℕ)) → Words ws (Decompile elf out names) → LeavesBy x elf names a (x out) (y out)) (λ x elf out names v. absurd (other-words ws c w none elf out names v)))
+-- the command that the words are writes no file: nothing is claimed of one
+pub none-written : (ws : List (List ℕ)) (c : Command) → Words ws c → output_of c ≡ None → (a : Answer) (o n : Option Contents) → n ≡ o
+    → WhereTold o n (λ x y. (d : Command) (out : List ℕ) → Words ws d → output_of d ≡ Some out → LeavesBy (IsOutput x d) a (x out) (y out))
+none-written ws c w none a o n same =
+    subst (λ (m : Option Contents). WhereTold o m (λ x y. (d : Command) (out : List ℕ) → Words ws d → output_of d ≡ Some out → LeavesBy (IsOutput x d) a (x out) (y out))) (sym same)
+    (told_same o (λ x y. (d : Command) (out : List ℕ) → Words ws d → output_of d ≡ Some out → LeavesBy (IsOutput x d) a (x out) (y out))
+    (λ x d out v e. absurd (no-output out (sym none ∙ ap output_of (words-unique ws c d w v) ∙ e))))
 
 -- and no answer is that a write failed
 pub no-write-fault : (told : Option Contents) (ws : List (List ℕ)) (rose wrote : Type 0) (c : Command) → Words ws c → output_of c ≡ None → (a : Answer) → Gives told ws rose wrote a → status a ≡ 5 → ⊥
@@ -217,13 +218,14 @@ no-write-fault told ws rose wrote c w none (answer.Run (ra.Stuck n why)) h e = o
 no-write-fault told ws rose wrote c w none (answer.Run ra.StepsUsed) h e = omega (arith, e)
 no-write-fault told ws rose wrote c w none (answer.Run (ra.Met s)) h e = omega (arith, e)
 no-write-fault told ws rose wrote c w none (answer.Check ca.ElfOverLimit) h e = omega (arith, e)
-no-write-fault told ws rose wrote c w none (answer.Check (ca.UnreadableElf why)) h e = omega (arith, e)
 no-write-fault told ws rose wrote c w none (answer.Check ca.ProofOverLimit) h e = omega (arith, e)
-no-write-fault told ws rose wrote c w none (answer.Check (ca.UnreadableText n)) h e = omega (arith, e)
-no-write-fault told ws rose wrote c w none (answer.Check (ca.IllFormed n d)) h e = omega (arith, e)
-no-write-fault told ws rose wrote c w none (answer.Check (ca.WrongLine n)) h e = omega (arith, e)
-no-write-fault told ws rose wrote c w none (answer.Check (ca.NotProved n)) h e = omega (arith, e)
-no-write-fault told ws rose wrote c w none (answer.Check (ca.Accepted n m)) h e = omega (arith, e)
+no-write-fault told ws rose wrote c w none (answer.Check (ca.Judged (ve.Accepted n m))) h e = omega (arith, e)
+no-write-fault told ws rose wrote c w none (answer.Check (ca.Judged (ve.BadElf why))) h e = omega (arith, e)
+no-write-fault told ws rose wrote c w none (answer.Check (ca.Judged (ve.BadText n))) h e = omega (arith, e)
+no-write-fault told ws rose wrote c w none (answer.Check (ca.Judged (ve.BadDef n d))) h e = omega (arith, e)
+no-write-fault told ws rose wrote c w none (answer.Check (ca.Judged (ve.BadLine n))) h e = omega (arith, e)
+no-write-fault told ws rose wrote c w none (answer.Check (ca.Judged (ve.NotProved n))) h e = omega (arith, e)
+no-write-fault told ws rose wrote c w none (answer.Check (ca.Judged ve.NoMemory)) h e = omega (arith, e)
 no-write-fault told ws rose wrote c w none (answer.Decompile de.OverLimit) h e = omega (arith, e)
 no-write-fault told ws rose wrote c w none (answer.Decompile (de.Unreadable why)) h e = omega (arith, e)
 no-write-fault told ws rose wrote c w none (answer.Decompile (de.Refused n why)) h e = omega (arith, e)
@@ -231,18 +233,18 @@ no-write-fault told ws rose wrote c w none (answer.Decompile (de.Decompiled l)) 
 no-write-fault told ws rose wrote c w none (answer.SelfTest a) h e = omega (arith, e)
 
 -- the words are those of `decompile`
-same-parts : (elf out elf' out' : List ℕ) (names names' : List (List ℕ)) → Decompile elf out names ≡ Decompile elf' out' names' → (elf ≡ elf') × (out ≡ out') × (names ≡ names')
-same-parts elf out elf' out' names names' e = (cc, cc, cc)
+same-output : (out out' : List ℕ) → Some out ≡ Some out' → out ≡ out'
+same-output out out' e = cc
 
 pub decompiled : (ws : List (List ℕ)) (elf out : List ℕ) (names : List (List ℕ)) → Words ws (Decompile elf out names) → (a : Answer) (o n : Option Contents) → WhereTold o n (WritesOut elf out names a)
-    → WhereTold o n (λ x y. (elf' out' : List ℕ) (names' : List (List ℕ)) → Words ws (Decompile elf' out' names') → LeavesBy x elf' names' a (x out') (y out'))
+    → WhereTold o n (λ x y. (c : Command) (out' : List ℕ) → Words ws c → output_of c ≡ Some out' → LeavesBy (IsOutput x c) a (x out') (y out'))
 decompiled ws elf out names w a o n h =
-    where_told o n (WritesOut elf out names a) (λ x y. (elf' out' : List ℕ) (names' : List (List ℕ)) → Words ws (Decompile elf' out' names') → LeavesBy x elf' names' a (x out') (y out'))
-    (λ x y out_is elf' out' names' v.
-    (let same = same-parts elf out elf' out' names names' (words-unique ws (Decompile elf out names) (Decompile elf' out' names') w v) in
-    subst (λ ns. LeavesBy x elf' ns a (x out') (y out')) same.2
-    (subst (λ p. LeavesBy x elf' names a (x p) (y p)) same.1
-    (subst (λ e. LeavesBy x e names a (x out) (y out)) same.0 out_is.output)))) h
+    where_told o n (WritesOut elf out names a) (λ x y. (c : Command) (out' : List ℕ) → Words ws c → output_of c ≡ Some out' → LeavesBy (IsOutput x c) a (x out') (y out'))
+    (λ x y out_is c out' v e.
+    (let same : Decompile elf out names ≡ c = words-unique ws (Decompile elf out names) c w v in
+    let is = same-output out out' (ap output_of same ∙ e) in
+    subst (λ d. LeavesBy (IsOutput x d) a (x out') (y out')) same
+    (subst (λ p. LeavesBy (IsTextFor x elf names) a (x p) (y p)) is out_is.output))) h
 
 pub others-kept : (ws : List (List ℕ)) (elf out : List ℕ) (names : List (List ℕ)) → Words ws (Decompile elf out names) → (a : Answer) (o n : Option Contents) → WhereTold o n (WritesOut elf out names a) → WhereTold o n (KeepsNames ws)
 others-kept ws elf out names w a o n h =

@@ -294,17 +294,8 @@ some_file x y e = cc
 
 -- ---- checks
 
-abbrev check_of : Verdict → CheckAnswer
-check_of (verdict.Accepted functions lines) = ca.Accepted functions lines
-check_of (verdict.BadElf why) = ca.UnreadableElf why
-check_of (verdict.BadText line) = ca.UnreadableText line
-check_of (verdict.BadDef group def) = ca.IllFormed group def
-check_of (verdict.BadLine line) = ca.WrongLine line
-check_of (verdict.NotProved group) = ca.NotProved group
-check_of verdict.NoMemory = ca.ProofOverLimit
-
 abbrev VerdictCase : List ℕ → List ℕ → CheckAnswer → Type 0
-VerdictCase file text a = (v : Verdict) × (v ≡ verdict.NoMemory → ⊥) × Says file text v × (a ≡ check_of v)
+VerdictCase file text a = (v : Verdict) × (v ≡ verdict.NoMemory → ⊥) × Says file text v × (a ≡ ca.Judged v)
 
 abbrev JudgedCase : List ℕ → List ℕ → CheckAnswer → Type 0
 JudgedCase file text a = ((proof_limit < length text) × (a ≡ ca.ProofOverLimit)) ⊎ ((length text ≤ proof_limit) × VerdictCase file text a)
@@ -314,16 +305,16 @@ judged-unique file text a b (inl h) (inl k) = h.1 ∙ sym k.1
 judged-unique file text a b (inl h) (inr k) = absurd (over (length text) proof_limit h.0 k.0)
 judged-unique file text a b (inr h) (inl k) = absurd (over (length text) proof_limit k.0 h.0)
 judged-unique file text a b (inr (short, (v, some, says, is))) (inr (less, (w, other, said, this))) =
-    is ∙ ap check_of (verdict-once file text v w some other says said) ∙ sym this
+    is ∙ ap ca.Judged (verdict-once file text v w some other says said) ∙ sym this
 
 abbrev TextHeld : Contents → List ℕ → List ℕ → CheckAnswer → Type 0
 TextHeld files proof file a = (text : List ℕ) × (files proof ≡ Some text) × JudgedCase file text a
 
 abbrev LoadedCase : Contents → List ℕ → List ℕ → CheckAnswer → Type 0
-LoadedCase files proof file a = ((why : ElfFault) × (fault_of file ≡ Some why) × (a ≡ ca.UnreadableElf why)) ⊎ (IsReadable file × TextHeld files proof file a)
+LoadedCase files proof file a = ((why : ElfFault) × (fault_of file ≡ Some why) × (a ≡ ca.Judged (verdict.BadElf why))) ⊎ (IsReadable file × TextHeld files proof file a)
 
 loaded-unique : (files : Contents) (proof file : List ℕ) (a b : CheckAnswer) → LoadedCase files proof file a → LoadedCase files proof file b → a ≡ b
-loaded-unique files proof file a b (inl h) (inl k) = h.2 ∙ ap ca.UnreadableElf (some_fault h.0 k.0 (sym h.1 ∙ k.1)) ∙ sym k.2
+loaded-unique files proof file a b (inl h) (inl k) = h.2 ∙ ap (λ (why : ElfFault). ca.Judged (verdict.BadElf why)) (some_fault h.0 k.0 (sym h.1 ∙ k.1)) ∙ sym k.2
 loaded-unique files proof file a b (inl h) (inr k) = absurd (none_fault h.0 (sym k.0 ∙ h.1))
 loaded-unique files proof file a b (inr h) (inl k) = absurd (none_fault k.0 (sym h.0 ∙ k.1))
 loaded-unique files proof file a b (inr (r, (text, held, h))) (inr (s, (other, holds, k))) =
@@ -334,19 +325,19 @@ abbrev CheckCase : Contents → List ℕ → List ℕ → CheckAnswer → Type 0
 CheckCase files proof file a = ((elf_limit < length file) × (a ≡ ca.ElfOverLimit)) ⊎ ((length file ≤ elf_limit) × LoadedCase files proof file a)
 
 judged-text : (files : Contents) (proof file : List ℕ) → IsLoaded file → (text : List ℕ) → files proof ≡ Some text → length text ≤ proof_limit → (v : Verdict) → (v ≡ verdict.NoMemory → ⊥) → Says file text v
-    → CheckCase files proof file (check_of v)
+    → CheckCase files proof file (ca.Judged v)
 judged-text files proof file loaded text held short v some says = inr (loaded.0, inr (loaded.1, (text, held, inr (short, (v, some, says, refl)))))
 
 check-case : (files : Contents) (proof file : List ℕ) (a : CheckAnswer) → CheckGives (Some files) proof file a → CheckCase files proof file a
 check-case files proof file ca.ElfOverLimit h = inl (h, refl)
-check-case files proof file (ca.UnreadableElf why) h = inr (h.0, inl (why, h.1, refl))
 check-case files proof file ca.ProofOverLimit (loaded, (text, held, long)) = inr (loaded.0, inr (loaded.1, (text, held, inl (long, refl))))
-check-case files proof file (ca.UnreadableText line) (loaded, (text, held, (short, bad))) = judged-text files proof file loaded text held short (verdict.BadText line) (λ e. cc) (loaded.1, bad)
-check-case files proof file (ca.IllFormed group def) (loaded, (text, held, (short, bad))) = judged-text files proof file loaded text held short (verdict.BadDef group def) (λ e. cc) (loaded.1, bad)
-check-case files proof file (ca.WrongLine line) (loaded, (text, held, (short, bad))) = judged-text files proof file loaded text held short (verdict.BadLine line) (λ e. cc) (loaded.1, bad)
-check-case files proof file (ca.NotProved group) (loaded, (text, held, (short, bad))) = judged-text files proof file loaded text held short (verdict.NotProved group) (λ e. cc) (loaded.1, bad)
-check-case files proof file (ca.Accepted functions lines) (loaded, (text, held, (short, good))) =
-    judged-text files proof file loaded text held short (verdict.Accepted functions lines) (λ e. cc) good
+check-case files proof file (ca.Judged (verdict.BadElf why)) h = inr (h.0, inl (why, h.1, refl))
+check-case files proof file (ca.Judged verdict.NoMemory) h = absurd h
+check-case files proof file (ca.Judged (verdict.Accepted functions lines)) (loaded, (text, held, (short, says))) = judged-text files proof file loaded text held short (verdict.Accepted functions lines) (λ e. cc) says
+check-case files proof file (ca.Judged (verdict.BadText line)) (loaded, (text, held, (short, says))) = judged-text files proof file loaded text held short (verdict.BadText line) (λ e. cc) says
+check-case files proof file (ca.Judged (verdict.BadDef group def)) (loaded, (text, held, (short, says))) = judged-text files proof file loaded text held short (verdict.BadDef group def) (λ e. cc) says
+check-case files proof file (ca.Judged (verdict.BadLine line)) (loaded, (text, held, (short, says))) = judged-text files proof file loaded text held short (verdict.BadLine line) (λ e. cc) says
+check-case files proof file (ca.Judged (verdict.NotProved group)) (loaded, (text, held, (short, says))) = judged-text files proof file loaded text held short (verdict.NotProved group) (λ e. cc) says
 
 check-unique : (files : Contents) (proof file : List ℕ) (a b : CheckAnswer) → CheckCase files proof file a → CheckCase files proof file b → a ≡ b
 check-unique files proof file a b (inl h) (inl k) = h.1 ∙ sym k.1
@@ -551,7 +542,7 @@ check-alone ws (SelfTest number size) elf proof v w =
     let n : codes "selftest" ≡ codes "check" = cc in
     absurd (other-name (codes "selftest") (codes "check") refl n)
 
-accepted-files : (files : Contents) (elf proof file : List ℕ) (functions lines : ℕ) → files elf ≡ Some file → CheckGives (Some files) proof file (ca.Accepted functions lines) → AreRightFiles files elf proof
+accepted-files : (files : Contents) (elf proof file : List ℕ) (functions lines : ℕ) → files elf ≡ Some file → CheckGives (Some files) proof file (ca.Judged (verdict.Accepted functions lines)) → AreRightFiles files elf proof
 accepted-files files elf proof file functions lines holds (loaded, (text, held, (short, good))) = record {
   file = file;
   text = text;
@@ -565,13 +556,14 @@ accepted-files files elf proof file functions lines holds (loaded, (text, held, 
 
 status-zero : (files : Contents) (elf proof file : List ℕ) (a : CheckAnswer) → files elf ≡ Some file → CheckGives (Some files) proof file a → status (answer.Check a) ≡ 0 → AreRightFiles files elf proof
 status-zero files elf proof file ca.ElfOverLimit holds h e = absurd (omega (arith, e))
-status-zero files elf proof file (ca.UnreadableElf why) holds h e = absurd (omega (arith, e))
 status-zero files elf proof file ca.ProofOverLimit holds h e = absurd (omega (arith, e))
-status-zero files elf proof file (ca.UnreadableText line) holds h e = absurd (omega (arith, e))
-status-zero files elf proof file (ca.IllFormed group def) holds h e = absurd (omega (arith, e))
-status-zero files elf proof file (ca.WrongLine line) holds h e = absurd (omega (arith, e))
-status-zero files elf proof file (ca.NotProved group) holds h e = absurd (omega (arith, e))
-status-zero files elf proof file (ca.Accepted functions lines) holds h e = accepted-files files elf proof file functions lines holds h
+status-zero files elf proof file (ca.Judged (verdict.BadElf why)) holds h e = absurd (omega (arith, e))
+status-zero files elf proof file (ca.Judged (verdict.BadText line)) holds h e = absurd (omega (arith, e))
+status-zero files elf proof file (ca.Judged (verdict.BadDef group def)) holds h e = absurd (omega (arith, e))
+status-zero files elf proof file (ca.Judged (verdict.BadLine line)) holds h e = absurd (omega (arith, e))
+status-zero files elf proof file (ca.Judged (verdict.NotProved group)) holds h e = absurd (omega (arith, e))
+status-zero files elf proof file (ca.Judged verdict.NoMemory) holds h e = absurd (omega (arith, e))
+status-zero files elf proof file (ca.Judged (verdict.Accepted functions lines)) holds h e = accepted-files files elf proof file functions lines holds h
 
 answered : (files : Contents) (ws : List (List ℕ)) (rose wrote : Type 0) (b : Answer) (elf proof : List ℕ) → Gives (Some files) ws rose wrote b → ws ≡ codes "check" ∷ elf ∷ proof ∷ [] → status b ≡ 0 → AreRightFiles files elf proof
 answered files ws rose wrote answer.NotACommand elf proof g w e = absurd (omega (arith, e))

@@ -6,7 +6,9 @@ use Rattle.tailrec_lang.specs.Tree.{GroupTree}
 use Rattle.group_text.specs.Spelling.{text_of}
 use Rattle.group_text.specs.Limits.{AreGroups}
 use Rattle.checker.specs.Headline.{Headline}
-use Rattle.checker.specs.Verdicts.{IsBadText, IsBadDef, IsBadLine, IsNotProved, IsAcceptedText}
+use Rattle.checker.specs.declared.verdict.Verdict.{Verdict}
+use Rattle.checker.specs.declared.verdict.Verdict.TheVariants as verdict
+use Rattle.checker.specs.Verdicts.{Says}
 use Rattle.mcdec_answers.specs.declared.answer.CheckAnswer.{CheckAnswer}
 use Rattle.mcdec_answers.specs.declared.answer.CheckAnswer.TheVariants as answer
 use Rattle.mcdec_commands.specs.Held.{HoldsWith}
@@ -18,16 +20,17 @@ use Rattle.mcdec_commands.specs.RunAnswer.{elf_limit, IsLoaded}
 abbrev pub HoldsText : Option Contents → List ℕ → (List ℕ → Type 0) → Type 0
 HoldsText told proof P = HoldsWith told proof (λ text. (length text ≤ proof_limit) × P text)
 
+-- what `check` comes to by a verdict
+abbrev pub VerdictGives : Option Contents → (proof file : List ℕ) → Verdict → Type 0
+VerdictGives told proof file (verdict.BadElf why) = (length file ≤ elf_limit) × (fault_of file ≡ Some why)
+VerdictGives told proof file verdict.NoMemory = ⊥
+VerdictGives told proof file v = IsLoaded file × HoldsText told proof (λ text. Says file text v)
+
 -- What `check` comes to, where the ELF file has these bytes. The proof file is asked for where that can be read.
 abbrev pub CheckGives : Option Contents → (proof file : List ℕ) → CheckAnswer → Type 0
 CheckGives told proof file answer.ElfOverLimit = elf_limit < length file
-CheckGives told proof file (answer.UnreadableElf why) = (length file ≤ elf_limit) × (fault_of file ≡ Some why)
 CheckGives told proof file answer.ProofOverLimit = IsLoaded file × HoldsWith told proof (λ text. proof_limit < length text)
-CheckGives told proof file (answer.UnreadableText line) = IsLoaded file × HoldsText told proof (λ text. IsBadText text line)
-CheckGives told proof file (answer.IllFormed group def) = IsLoaded file × HoldsText told proof (λ text. IsBadDef text group def)
-CheckGives told proof file (answer.WrongLine line) = IsLoaded file × HoldsText told proof (λ text. IsBadLine text line)
-CheckGives told proof file (answer.NotProved group) = IsLoaded file × HoldsText told proof (λ text. IsNotProved file text group)
-CheckGives told proof file (answer.Accepted functions lines) = IsLoaded file × HoldsText told proof (λ text. IsAcceptedText file text functions lines)
+CheckGives told proof file (answer.Judged v) = VerdictGives told proof file v
 
 -- The one name holds an ELF file, the other a text. Without the lines of proofs this is the text of these groups, whose
 -- functions are right of the file.

@@ -1,5 +1,5 @@
--- When each answer to `decompile` comes, and what its output file holds then.
-use Rattle.std.specs.Prelude.{◌≡◌, ◌≢◌, ℕ, ◌<◌, ◌≤◌, List, [], ◌∷◌, length, slice_get, take, Option, Some, unwrap_or, ◌⊎◌}
+-- When each answer to `decompile` comes, and what text it writes.
+use Rattle.std.specs.Prelude.{◌≡◌, ℕ, ◌<◌, ◌≤◌, List, [], ◌∷◌, length, slice_get, Some, unwrap_or}
 use Rattle.mc_shelf.specs.Shelf.{Contents}
 use Rattle.elf_image.specs.Fault.{fault_of}
 use Rattle.flow_graph.specs.declared.outside.Outside.{Outside}
@@ -49,7 +49,7 @@ IsToldOnce (answer.Unreadable why) = Unit {0}
 IsToldOnce (answer.Refused name why) = IsShownOnce why
 IsToldOnce (answer.Decompiled listed) = Unit {0}
 
--- ---- the output file
+-- ---- the text that it writes
 
 -- The text of proofs with an item for each name, where the name ELF holds a file: each item is accepted for the file, lists what it should,
 -- and is exact.
@@ -60,18 +60,3 @@ pub record IsTextFor (files : Contents) (elf : List ℕ) (names : List (List ℕ
   pub proof : Proof
   pub items : AreItemsFor file names proof
   pub spelled : text ≡ text_of_proofs (proofs_of proof)
-
--- it holds all of such a text
-abbrev pub HoldsAll : (files : Contents) (elf : List ℕ) (names : List (List ℕ)) → Option (List ℕ) → Type 0
-HoldsAll files elf names now = (text : List ℕ) × IsTextFor files elf names text × (now ≡ Some text)
-
--- it holds what it held, or a front of such a text
-abbrev pub HoldsFront : (files : Contents) (elf : List ℕ) (names : List (List ℕ)) (before now : Option (List ℕ)) → Type 0
-HoldsFront files elf names before now = (now ≡ before) ⊎ ((text : List ℕ) × IsTextFor files elf names text × (kept : ℕ) × (now ≡ Some (take kept text)))
-
--- What OUT holds after a `decompile` that ended with this status: all of the text after 0, a front of it or what it held after 5 and 6, and
--- what it held after any other.
-pub record LeavesOut (files : Contents) (elf : List ℕ) (names : List (List ℕ)) (status : ℕ) (before now : Option (List ℕ)) : Type 0 where
-  pub whole : status ≡ 0 → HoldsAll files elf names now
-  pub front : (status ≡ 5) ⊎ (status ≡ 6) → HoldsFront files elf names before now
-  pub same : status ≢ 0 → status ≢ 5 → status ≢ 6 → now ≡ before

@@ -5,6 +5,7 @@ pub mod Held
 pub mod Listed
 pub mod CheckAnswer
 pub mod DecompileAnswer
+pub mod Output
 pub mod SelfTestAnswer
 pub mod Answer
 pub mod inner

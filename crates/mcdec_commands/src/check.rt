@@ -36,7 +36,7 @@ pub fn check_files<S: Shelf>(alloc: Global, c: &Check<'_>, shelf: &mut S) -> Ans
     match read(alloc, file.as_slice()) {
         Ok(image) => check_image(alloc, &image, c, shelf),
         Err(ElfFault::NoMemory) => Answer::NoMemory,
-        Err(why) => Answer::Check(CheckAnswer::UnreadableElf(why)),
+        Err(why) => Answer::Check(CheckAnswer::Judged(Verdict::BadElf(why))),
     }
 }
 
@@ -64,14 +64,7 @@ fn answer_to(verdict: Verdict) -> Answer
     ensures { result ≡ answer_to verdict }
 {
     match verdict {
-        Verdict::Accepted { functions, lines } => {
-            Answer::Check(CheckAnswer::Accepted(functions, lines))
-        }
-        Verdict::BadElf(why) => Answer::Check(CheckAnswer::UnreadableElf(why)),
-        Verdict::BadText(line) => Answer::Check(CheckAnswer::UnreadableText(line)),
-        Verdict::BadDef(group, def) => Answer::Check(CheckAnswer::IllFormed(group, def)),
-        Verdict::BadLine(line) => Answer::Check(CheckAnswer::WrongLine(line)),
-        Verdict::NotProved(group) => Answer::Check(CheckAnswer::NotProved(group)),
         Verdict::NoMemory => Answer::NoMemory,
+        judged => Answer::Check(CheckAnswer::Judged(judged)),
     }
 }

@@ -4,8 +4,8 @@ ghost use Rattle.std.specs.Prelude.{◌≡◌, ℕ, ◌≤◌, ◌⊎◌, List, 
 ghost use Rattle.mc_shelf.specs.Fault.{Rose, WhereTold};
 ghost use Rattle.mcdec_commands.specs.Answer.{Gives, IsDetermined, KeepsNames, ReadsAreTold};
 ghost use Rattle.mcdec_commands.specs.CheckAnswer.{AreRightFiles};
-ghost use Rattle.mcdec_words.specs.Command.{Decompile, Words, texts};
-ghost use Rattle.mcdec_commands.specs.DecompileAnswer.{LeavesOut};
+ghost use Rattle.mcdec_words.specs.Command.{Command as CommandOf, Words, output_of, texts};
+ghost use Rattle.mcdec_commands.specs.Output.{IsOutput, LeavesOut};
 ghost use Rattle.mcdec_answers.specs.Printed.{IsDelivered, IsPrinted, status};
 ghost use Rattle.mcdec_commands.specs.inner.Decompiling.{LeavesBy};
 ghost use Rattle.mcdec_answers.specs.declared.answer.Answer.{Answer as AnswerOf};
@@ -41,10 +41,10 @@ pub fn run_words<S: Shelf, O: Sink>(
     ensures headline { IfSome (S.contents shelf.old) (λ files. (elf proof : List ℕ) → texts words.now ≡ codes "check" ∷ elf ∷ proof ∷ []
         → result ≡ 0 → AreRightFiles files elf proof) }
 
-    // What `decompile` leaves in its output file: with status 0 all of the text of such proofs, with 5 and 6 a front of it or what was there,
+    // What a command leaves in its output file: with status 0 all of a text that it may write, with 5 and 6 a front of one or what was there,
     // with any other status what was there.
-    ensures written { WhereTold (S.contents shelf.old) (S.contents shelf.new) (λ old new. (elf out : List ℕ) (names : List (List ℕ))
-        → Words (texts words.now) (Decompile elf out names) → LeavesOut old elf names result (old out) (new out)) }
+    ensures written { WhereTold (S.contents shelf.old) (S.contents shelf.new) (λ old new. (c : CommandOf) (out : List ℕ)
+        → Words (texts words.now) c → output_of c ≡ Some out → LeavesOut (IsOutput old c) result (old out) (new out)) }
 
     ensures read_fault { result ≡ 4 → Rose (S.read_faults shelf.old) (S.read_faults shelf.new) }
     ensures write_fault { result ≡ 5 → Rose (S.write_faults shelf.old) (S.write_faults shelf.new) ⊎ Rose (O.faults out.old) (O.faults out.new) }
@@ -64,8 +64,8 @@ pub fn run_words<S: Shelf, O: Sink>(
 fn answer_words<S: Shelf>(alloc: Global, words: &[String], shelf: &mut S) -> Answer
     ensures gives { Gives (S.contents shelf.old) (texts words.now) (Rose (S.read_faults shelf.old) (S.read_faults shelf.new)) (Rose (S.write_faults shelf.old) (S.write_faults shelf.new)) result }
 
-    ensures written { WhereTold (S.contents shelf.old) (S.contents shelf.new) (λ old new. (elf out : List ℕ) (names : List (List ℕ))
-        → Words (texts words.now) (Decompile elf out names) → LeavesBy old elf names result (old out) (new out)) }
+    ensures written { WhereTold (S.contents shelf.old) (S.contents shelf.new) (λ old new. (c : CommandOf) (out : List ℕ)
+        → Words (texts words.now) c → output_of c ≡ Some out → LeavesBy (IsOutput old c) result (old out) (new out)) }
     ensures write_fault { status result ≡ 5 → Rose (S.write_faults shelf.old) (S.write_faults shelf.new) }
 
     ensures kept { WhereTold (S.contents shelf.old) (S.contents shelf.new) (KeepsNames (texts words.now)) }

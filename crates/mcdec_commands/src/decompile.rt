@@ -84,7 +84,7 @@ fn decompile_image<S: Shelf>(
 fn refuse(alloc: Global, names: &[Text], number: u64, why: Outside) -> Answer
     requires { number < length names.now }
     ensures gives { (file : Items ℕ) → IsLoaded file → IsRefused file names.now number why → FileGives file names.now result }
-    ensures none { (files : Contents) (elf : Items ℕ) (before : Option (Items ℕ)) → LeavesBy files elf names.now result before before }
+    ensures none { (IsText : Items ℕ → Type 0) (before : Option (Items ℕ)) → LeavesBy IsText result before before }
     ensures no_fault { status result ≡ 5 → ⊥ }
 {
     match Text::from_slice(alloc, names[number as usize].as_slice()) {

@@ -10,13 +10,8 @@ use Rattle.mcdec_commands.specs.CheckAnswer.{CheckGives}
 
 -- the answer that a verdict is
 abbrev pub answer_to : Verdict → Answer
-answer_to (verdict.Accepted functions lines) = answer.Check (check.Accepted functions lines)
-answer_to (verdict.BadElf why) = answer.Check (check.UnreadableElf why)
-answer_to (verdict.BadText line) = answer.Check (check.UnreadableText line)
-answer_to (verdict.BadDef group def) = answer.Check (check.IllFormed group def)
-answer_to (verdict.BadLine line) = answer.Check (check.WrongLine line)
-answer_to (verdict.NotProved group) = answer.Check (check.NotProved group)
 answer_to verdict.NoMemory = answer.NoMemory
+answer_to v = answer.Check (check.Judged v)
 
 -- what is answered of a proof file that a name holds, where the ELF file has these bytes
 abbrev pub ImageGives : Option Contents → (proof file : List ℕ) → (rose : Type 0) → Answer → Type 0

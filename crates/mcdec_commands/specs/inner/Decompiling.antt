@@ -7,7 +7,8 @@ use Rattle.mcdec_answers.specs.declared.answer.Answer.{Answer}
 use Rattle.mcdec_answers.specs.declared.answer.Answer.TheVariants as answer
 use Rattle.mcdec_answers.specs.declared.answer.DecompileAnswer.{DecompileAnswer}
 use Rattle.mcdec_answers.specs.declared.answer.DecompileAnswer.TheVariants as decompile
-use Rattle.mcdec_commands.specs.DecompileAnswer.{DecompileGives, HoldsAll, HoldsFront}
+use Rattle.mcdec_commands.specs.DecompileAnswer.{DecompileGives, IsTextFor}
+use Rattle.mcdec_commands.specs.Output.{HoldsAll, HoldsFront}
 
 -- the item's group has a definition
 abbrev pub HasDef : Item → Type 0
@@ -25,25 +26,25 @@ FileGives file names (answer.Check a) = ⊥
 FileGives file names (answer.Decompile a) = DecompileGives file names a
 FileGives file names (answer.SelfTest a) = ⊥
 
--- what the output file holds after an answer
-abbrev pub LeavesAs : Contents → (elf : List ℕ) (names : List (List ℕ)) → DecompileAnswer → (before now : Option (List ℕ)) → Type 0
-LeavesAs files elf names decompile.OverLimit before now = now ≡ before
-LeavesAs files elf names (decompile.Unreadable why) before now = now ≡ before
-LeavesAs files elf names (decompile.Refused name why) before now = now ≡ before
-LeavesAs files elf names (decompile.Decompiled listed) before now = HoldsAll files elf names now
+-- what the output file holds after an answer, where these are the texts that may be written
+abbrev pub LeavesAs : (IsText : List ℕ → Type 0) → DecompileAnswer → (before now : Option (List ℕ)) → Type 0
+LeavesAs IsText decompile.OverLimit before now = now ≡ before
+LeavesAs IsText (decompile.Unreadable why) before now = now ≡ before
+LeavesAs IsText (decompile.Refused name why) before now = now ≡ before
+LeavesAs IsText (decompile.Decompiled listed) before now = HoldsAll IsText now
 
-abbrev pub LeavesBy : Contents → (elf : List ℕ) (names : List (List ℕ)) → Answer → (before now : Option (List ℕ)) → Type 0
-LeavesBy files elf names answer.NotACommand before now = ⊥
-LeavesBy files elf names answer.ReadFault before now = now ≡ before
-LeavesBy files elf names answer.WriteFault before now = HoldsFront files elf names before now
-LeavesBy files elf names answer.NoMemory before now = HoldsFront files elf names before now
-LeavesBy files elf names (answer.Eval a) before now = ⊥
-LeavesBy files elf names (answer.Run a) before now = ⊥
-LeavesBy files elf names (answer.Check a) before now = ⊥
-LeavesBy files elf names (answer.Decompile a) before now = LeavesAs files elf names a before now
-LeavesBy files elf names (answer.SelfTest a) before now = ⊥
+abbrev pub LeavesBy : (IsText : List ℕ → Type 0) → Answer → (before now : Option (List ℕ)) → Type 0
+LeavesBy IsText answer.NotACommand before now = ⊥
+LeavesBy IsText answer.ReadFault before now = now ≡ before
+LeavesBy IsText answer.WriteFault before now = HoldsFront IsText before now
+LeavesBy IsText answer.NoMemory before now = HoldsFront IsText before now
+LeavesBy IsText (answer.Eval a) before now = ⊥
+LeavesBy IsText (answer.Run a) before now = ⊥
+LeavesBy IsText (answer.Check a) before now = ⊥
+LeavesBy IsText (answer.Decompile a) before now = LeavesAs IsText a before now
+LeavesBy IsText (answer.SelfTest a) before now = ⊥
 
 -- what the names hold after an answer: the output file as it says, each other one what it held
 pub record WritesOut (elf out : List ℕ) (names : List (List ℕ)) (a : Answer) (old new : Contents) : Type 0 where
-  pub output : LeavesBy old elf names a (old out) (new out)
+  pub output : LeavesBy (IsTextFor old elf names) a (old out) (new out)
   pub others : KeepsOthers out old new

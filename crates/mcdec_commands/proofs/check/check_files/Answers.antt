@@ -8,6 +8,7 @@ use Rattle.mcdec_commands.specs.RunAnswer.{IsLoaded}
 use Rattle.mcdec_commands.specs.inner.Checking.{ImageGives}
 use Rattle.mcdec_answers.proofs.Prints.{rose-later}
 use Rattle.elf_image.specs.declared.fault.ElfFault.{ElfFault}
+use Rattle.checker.specs.declared.verdict.Verdict.TheVariants as verdict
 use Rattle.mcdec_answers.specs.declared.answer.CheckAnswer.TheVariants as check
 use Rattle.mcdec_commands.specs.CheckAnswer.{CheckGives}
 use Rattle.mcdec_commands.specs.Held.{HoldsWith}
@@ -53,8 +54,8 @@ returns-clause-gives g c ws is = (
   c.args.c.now.elf.now,
   c.args.c.now.proof.now,
   is,
-  subst (λ (why : ElfFault). HoldsWith (g.S.Shelf.contents c.args.shelf.now) c.args.c.now.elf.now (λ f. CheckGives (g.S.Shelf.contents c.args.shelf.now) c.args.c.now.proof.now f (check.UnreadableElf why))) (sym c.in-Err.why-is)
-      (held-with (g.S.Shelf.contents c.args.shelf.now) c.args.c.now.elf.now c.in-Ok.file (λ f. CheckGives (g.S.Shelf.contents c.args.shelf.now) c.args.c.now.proof.now f (check.UnreadableElf c.in-Err.why)) c.in-Ok.ensures.whole (search rules)),
+  subst (λ (why : ElfFault). HoldsWith (g.S.Shelf.contents c.args.shelf.now) c.args.c.now.elf.now (λ f. CheckGives (g.S.Shelf.contents c.args.shelf.now) c.args.c.now.proof.now f (check.Judged (verdict.BadElf why)))) (sym c.in-Err.why-is)
+      (held-with (g.S.Shelf.contents c.args.shelf.now) c.args.c.now.elf.now c.in-Ok.file (λ f. CheckGives (g.S.Shelf.contents c.args.shelf.now) c.args.c.now.proof.now f (check.Judged (verdict.BadElf c.in-Err.why))) c.in-Ok.ensures.whole (search rules)),
 )
 
 pub returns-clause-sure : goal.returns-clause-sure

@@ -1,13 +1,14 @@
-use Rattle.std.proofs.Common.{List, ℕ, refl, rules, subst}
-use Rattle.mcdec_words.specs.Command.{IsNoCommand, Words, texts}
+use Rattle.std.proofs.Common.{◌≡◌, List, Some, ℕ, refl, rules, subst}
+use Rattle.mcdec_words.specs.Command.{Command, IsNoCommand, Words, output_of, texts}
 use Rattle.mcdec_answers.specs.declared.answer.Answer.TheVariants as answer
+use Rattle.mcdec_commands.specs.Output.{IsOutput}
 use Rattle.mcdec_commands.specs.inner.Decompiling.{LeavesBy}
 use Rattle.mcdec_answers.proofs.Prints.{told_same}
 use Rattle.mcdec_words.specs.CommandReading.{IsRead}
 use Rattle.mcdec_words.specs.declared.command.Command.{Command as Read}
 use Rattle.mcdec_words.specs.Command.{Check, Decompile, Eval, Run, SelfTest}
 use Rattle.mcdec_words.proofs.ArgWords.{eval-ranges, run-ranges}
-use Rattle.mcdec_commands.proofs.Decompiling.{decompiled, no-write-fault, none-decompiled, others-kept}
+use Rattle.mcdec_commands.proofs.Decompiling.{decompiled, no-write-fault, none-written, others-kept}
 use Rattle.mcdec_commands.proofs.SelfTesting.{test-gives}
 use Rattle.mcdec_commands.proofs.commands.answer_words.Goals as goal
 
@@ -42,18 +43,18 @@ pub returns-in-Eval-clause-written : goal.returns-in-Eval-clause-written
 returns-in-Eval-clause-written g c =
     let is = subst (λ (command : Read). IsRead (texts c.args.words.now) command) c.in-Eval.is c.in-Ok.ensures in
     let e = c.in-Eval.e in
-    none-decompiled (texts c.args.words.now) (Eval e.proof.now e.name.now e.turns is.0) is.1 refl _ _ _ c.evaluate.ensures.kept
+    none-written (texts c.args.words.now) (Eval e.proof.now e.name.now e.turns is.0) is.1 refl _ _ _ c.evaluate.ensures.kept
 
 pub returns-in-Run-clause-written : goal.returns-in-Run-clause-written
 returns-in-Run-clause-written g c =
     let is = subst (λ (command : Read). IsRead (texts c.args.words.now) command) c.in-Run.is c.in-Ok.ensures in
     let r = c.in-Run.r in
-    none-decompiled (texts c.args.words.now) (Run r.elf.now r.start.now r.until r.steps is.0) is.1 refl _ _ _ c.run_file.ensures.kept
+    none-written (texts c.args.words.now) (Run r.elf.now r.start.now r.until r.steps is.0) is.1 refl _ _ _ c.run_file.ensures.kept
 
 pub returns-in-Check-clause-written : goal.returns-in-Check-clause-written
 returns-in-Check-clause-written g c =
     let is = subst (λ (command : Read). IsRead (texts c.args.words.now) command) c.in-Check.is c.in-Ok.ensures in
-    none-decompiled (texts c.args.words.now) (Check c.in-Check.c.elf.now c.in-Check.c.proof.now) is refl _ _ _ c.check_files.ensures.kept
+    none-written (texts c.args.words.now) (Check c.in-Check.c.elf.now c.in-Check.c.proof.now) is refl _ _ _ c.check_files.ensures.kept
 
 pub returns-in-Decompile-clause-written : goal.returns-in-Decompile-clause-written
 returns-in-Decompile-clause-written g c =
@@ -75,7 +76,7 @@ returns-in-SelfTest-clause-gives g c =
 pub returns-in-SelfTest-clause-written : goal.returns-in-SelfTest-clause-written
 returns-in-SelfTest-clause-written g c =
     let is = subst (λ (command : Read). IsRead (texts c.args.words.now) command) c.in-SelfTest.is c.in-Ok.ensures in
-    none-decompiled (texts c.args.words.now) (SelfTest c.in-SelfTest.test.number c.in-SelfTest.test.size) is refl _ _ _ refl
+    none-written (texts c.args.words.now) (SelfTest c.in-SelfTest.test.number c.in-SelfTest.test.size) is refl _ _ _ refl
 
 pub test_drawn-requires : goal.test_drawn-requires
 test_drawn-requires g c = (subst (λ (command : Read). IsRead (texts c.args.words.now) command) c.in-SelfTest.is c.in-Ok.ensures).0.2
@@ -84,8 +85,8 @@ pub returns-in-Err-NotThere-clause-written : goal.returns-in-Err-NotThere-clause
 returns-in-Err-NotThere-clause-written g c =
     let none : IsNoCommand (texts c.args.words.now) = search rules in
     told_same (g.S.Shelf.contents c.args.shelf.now)
-    (λ x y. (elf out : List ℕ) (names : List (List ℕ)) → Words (texts c.args.words.now) (Decompile elf out names) → LeavesBy x elf names answer.NotACommand (x out) (y out))
-    (λ x elf out names w. absurd (none (Decompile elf out names) w))
+    (λ x y. (d : Command) (out : List ℕ) → Words (texts c.args.words.now) d → output_of d ≡ Some out → LeavesBy (IsOutput x d) answer.NotACommand (x out) (y out))
+    (λ x d out w e. absurd (none d w))
 
 pub returns-in-Eval-clause-write_fault : goal.returns-in-Eval-clause-write_fault
 returns-in-Eval-clause-write_fault g c five =

@@ -1,0 +1,25 @@
+-- What the file that a command writes holds after it.
+use Rattle.std.specs.Prelude.{◌≡◌, ◌≢◌, ℕ, List, take, Option, Some, ◌⊎◌}
+use Rattle.mc_shelf.specs.Shelf.{Contents}
+use Rattle.mcdec_words.specs.Command.{Command, Decompile}
+use Rattle.mcdec_commands.specs.DecompileAnswer.{IsTextFor}
+
+-- the texts that a command may write, where the names hold these files
+abbrev pub IsOutput : Contents → Command → List ℕ → Type 0
+IsOutput files (Decompile elf out names) = IsTextFor files elf names
+IsOutput files other = λ text. ⊥
+
+-- it holds all of such a text
+abbrev pub HoldsAll : (IsText : List ℕ → Type 0) → Option (List ℕ) → Type 0
+HoldsAll IsText now = (text : List ℕ) × IsText text × (now ≡ Some text)
+
+-- it holds what it held, or a front of such a text
+abbrev pub HoldsFront : (IsText : List ℕ → Type 0) (before now : Option (List ℕ)) → Type 0
+HoldsFront IsText before now = (now ≡ before) ⊎ ((text : List ℕ) × IsText text × (kept : ℕ) × (now ≡ Some (take kept text)))
+
+-- What the file holds after a command that ended with this status: all of a text after 0, a front of one or what it held after 5 and 6, and
+-- what it held after any other.
+pub record LeavesOut (IsText : List ℕ → Type 0) (status : ℕ) (before now : Option (List ℕ)) : Type 0 where
+  pub whole : status ≡ 0 → HoldsAll IsText now
+  pub front : (status ≡ 5) ⊎ (status ≡ 6) → HoldsFront IsText before now
+  pub same : status ≢ 0 → status ≢ 5 → status ≢ 6 → now ≡ before
