@@ -3,7 +3,5 @@
 mod axioms;
 mod checking;
 mod evaluating;
-mod loops;
 mod reading;
-mod rules;
 mod terms;

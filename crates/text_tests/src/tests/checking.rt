@@ -7,7 +7,7 @@ use std::alloc::Global;
 use std::test::Fail;
 
 /// An ELF file with `add x10,x10,x11` and `jalr x0,0(x1)` at 0x10000.
-pub(super) static ELF: [u8; 128] = [
+static ELF: [u8; 128] = [
     0x7f, 0x45, 0x4c, 0x46, 2, 1, 1, 0, 0, 0, 0, 0, 0, 0, 0, 0, 2, 0, 0xf3, 0, 1, 0, 0, 0, 0, 0, 1,
     0, 0, 0, 0, 0, 0x40, 0, 0, 0, 0, 0, 0, 0, 0, 0, 0, 0, 0, 0, 0, 0, 0, 0, 0, 0, 0x40, 0, 0x38, 0,
     1, 0, 0, 0, 0, 0, 0, 0, 1, 0, 0, 0, 5, 0, 0, 0, 0x78, 0, 0, 0, 0, 0, 0, 0, 0, 0, 1, 0, 0, 0, 0,
@@ -134,7 +134,7 @@ static FILES: [(usize, u8, Verdict); 4] = [
 ];
 
 /// The text with that line in the place of one.
-pub(super) fn text(alloc: Global, number: usize, is: &[u8]) -> Result<Bytes, NoMemory> {
+fn text(alloc: Global, number: usize, is: &[u8]) -> Result<Bytes, NoMemory> {
     let mut text = List::new(alloc);
     for i in 0..18 {
         let line = if i + 1 == number {
