@@ -2,9 +2,7 @@
 
 use crate::command::{Failures, run, words_of};
 use crate::files::{Files, elf_of};
-use crate::page::{
-    Stars, add_head, add_lines, add_picked, add_text, count_proof_lines, front_of,
-};
+use crate::page::{Stars, add_head, add_lines, add_picked, add_text, count_proof_lines, front_of};
 use anyhow::{Result, bail};
 use std::alloc::Global;
 

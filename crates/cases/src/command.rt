@@ -35,7 +35,9 @@ pub fn run(alloc: Global, words: &[String], files: &Files, failures: &Failures) 
     let mut shelf = MemShelf::new(alloc);
     for word in words {
         if let Some(bytes) = files.held(word.as_str()) {
-            shelf.set(word.as_str(), bytes.as_slice()).map_err(|_| anyhow!("no memory"))?;
+            shelf
+                .set(word.as_str(), bytes.as_slice())
+                .map_err(|_| anyhow!("no memory"))?;
         }
     }
     for &(call, kept) in &failures.shelf {
@@ -46,5 +48,9 @@ pub fn run(alloc: Global, words: &[String], files: &Files, failures: &Failures) 
         sink.fail(call, kept).map_err(|_| anyhow!("no memory"))?;
     }
     let status = run_words(alloc, words, &mut shelf, &mut sink);
-    Ok(Left { status, shelf, sink })
+    Ok(Left {
+        status,
+        shelf,
+        sink,
+    })
 }

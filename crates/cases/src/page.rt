@@ -70,8 +70,16 @@ fn add_words(page: &mut Vec<u8>, line: &[u8], stars: &Stars) -> Result<()> {
     let mut count = words.split(|byte| *byte == b' ').count();
     for word in words.split(|byte| *byte == b' ') {
         count = count.saturating_sub(1);
-        let is_told = count == 0 && stars.last.as_ref().is_some_and(|last| last.as_bytes() == word);
-        page.extend_from_slice(if is_hidden || is_told { b"*".as_slice() } else { word })?;
+        let is_told = count == 0
+            && stars
+                .last
+                .as_ref()
+                .is_some_and(|last| last.as_bytes() == word);
+        page.extend_from_slice(if is_hidden || is_told {
+            b"*".as_slice()
+        } else {
+            word
+        })?;
         if count > 0 {
             page.push(b' ')?;
         }

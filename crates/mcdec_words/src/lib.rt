@@ -3,6 +3,4 @@
 
 mod command;
 
-pub use command::{
-    Check, Command, Decompile, Eval, Registers, Run, SelfTest, Unread, read_words,
-};
+pub use command::{Check, Command, Decompile, Eval, Registers, Run, SelfTest, Unread, read_words};
