@@ -57,19 +57,19 @@ file-gives told ws elf out names file rose wrote w held (answer.Decompile a) sin
 -- ---- nothing is written
 
 -- an answer after which the output file holds what it held
-abbrev pub LeavesAlone : Answer → Type 0
-LeavesAlone a = (IsText : List ℕ → Type 0) (before : Option (List ℕ)) → LeavesBy IsText a before before
+abbrev pub LeavesAlone : (elf : List ℕ) (names : List (List ℕ)) → Answer → Type 0
+LeavesAlone elf names a = (files : Contents) (before : Option (List ℕ)) → LeavesBy (IsTextFor files elf names) a before before
 
-pub nothing-written : (elf out : List ℕ) (names : List (List ℕ)) (a : Answer) (o n : Option Contents) → n ≡ o → LeavesAlone a → WhereTold o n (WritesOut elf out names a)
+pub nothing-written : (elf out : List ℕ) (names : List (List ℕ)) (a : Answer) (o n : Option Contents) → n ≡ o → LeavesAlone elf names a → WhereTold o n (WritesOut elf out names a)
 nothing-written elf out names a o n same h =
     subst (λ (m : Option Contents). WhereTold o m (WritesOut elf out names a)) (sym same)
-    (told_same o (WritesOut elf out names a) (λ x. record { output = h (IsTextFor x elf names) (x out); others = λ other apart. refl }))
+    (told_same o (WritesOut elf out names a) (λ x. record { output = h x (x out); others = λ other apart. refl }))
 
-pub alone-fault : LeavesAlone answer.ReadFault
-alone-fault IsText before = refl
+pub alone-fault : (elf : List ℕ) (names : List (List ℕ)) → LeavesAlone elf names answer.ReadFault
+alone-fault elf names files before = refl
 
-pub alone-memory : LeavesAlone answer.NoMemory
-alone-memory IsText before = inl refl
+pub alone-memory : (elf : List ℕ) (names : List (List ℕ)) → LeavesAlone elf names answer.NoMemory
+alone-memory elf names files before = inl refl
 
 -- ---- the text is written
 
@@ -79,24 +79,24 @@ module _ (files : Contents) (elf : List ℕ) (names : List (List ℕ)) (file : L
 
 -- what the names hold after the text was written, or where that failed
 pub text-written : (elf out : List ℕ) (names : List (List ℕ)) (file : List ℕ) → IsLoaded file → (p : Proof) → AreItemsFor file names p → (text : List ℕ) → text ≡ text_of_proofs (proofs_of p)
-    → (r : Result Unit Stop) (a : Answer) → ((IsText : List ℕ → Type 0) (before now : Option (List ℕ)) → HoldsAll IsText now → LeavesBy IsText a before now)
+    → (r : Result Unit Stop) (a : Answer) → ((files : Contents) (before now : Option (List ℕ)) → HoldsAll (IsTextFor files elf names) now → LeavesBy (IsTextFor files elf names) a before now)
     → (o n : Option Contents) → IfSome o (λ files. files elf ≡ Some file) → r ≡ Ok tt → WhereTold o n (Writes r out text) → WhereTold o n (WritesOut elf out names a)
 text-written elf out names file loaded p items text is r a leaves None None held ok h = tt
 text-written elf out names file loaded p items text is r a leaves None (Some y) held ok h = h
 text-written elf out names file loaded p items text is r a leaves (Some x) None held ok h = h
 text-written elf out names file loaded p items text is r a leaves (Some x) (Some y) held ok h =
     let done = subst (λ (s : Result Unit Stop). Writes s out text x y) ok h in
-    record { output = leaves (IsTextFor x elf names) (x out) (y out) (text, text-for x elf names file loaded p items text is held, done.named); others = done.others }
+    record { output = leaves x (x out) (y out) (text, text-for x elf names file loaded p items text is held, done.named); others = done.others }
 
 pub text-stopped : (elf out : List ℕ) (names : List (List ℕ)) (file : List ℕ) → IsLoaded file → (p : Proof) → AreItemsFor file names p → (text : List ℕ) → text ≡ text_of_proofs (proofs_of p)
-    → (r : Result Unit Stop) (e : Stop) (a : Answer) → ((IsText : List ℕ → Type 0) (before now : Option (List ℕ)) → HoldsFront IsText before now → LeavesBy IsText a before now)
+    → (r : Result Unit Stop) (e : Stop) (a : Answer) → ((files : Contents) (before now : Option (List ℕ)) → HoldsFront (IsTextFor files elf names) before now → LeavesBy (IsTextFor files elf names) a before now)
     → (o n : Option Contents) → IfSome o (λ files. files elf ≡ Some file) → r ≡ Err e → WhereTold o n (Writes r out text) → WhereTold o n (WritesOut elf out names a)
 text-stopped elf out names file loaded p items text is r e a leaves None None held err h = tt
 text-stopped elf out names file loaded p items text is r e a leaves None (Some y) held err h = h
 text-stopped elf out names file loaded p items text is r e a leaves (Some x) None held err h = h
 text-stopped elf out names file loaded p items text is r e a leaves (Some x) (Some y) held err h =
     let done = subst (λ (s : Result Unit Stop). Writes s out text x y) err h in
-    record { output = leaves (IsTextFor x elf names) (x out) (y out) (front done.named); others = done.others }
+    record { output = leaves x (x out) (y out) (front done.named); others = done.others }
   where
     front : (y out ≡ x out) ⊎ ((kept : ℕ) × (y out ≡ Some (take kept text))) → HoldsFront (IsTextFor x elf names) (x out) (y out)
     front (inl same) = inl same

@@ -9,7 +9,7 @@ ghost use Rattle.proof_text.specs.Proofs.{AreProofs};
 ghost use Rattle.decompiler.specs.Listing.{AreItemsFor, proofs_of};
 ghost use Rattle.decompiler.specs.Listing.{IsRefused};
 ghost use Rattle.mcdec_commands.specs.Answer.{Gives, ReadsAreTold};
-ghost use Rattle.mcdec_commands.specs.DecompileAnswer.{all_listed, listed_of};
+ghost use Rattle.mcdec_commands.specs.DecompileAnswer.{IsTextFor, all_listed, listed_of};
 ghost use Rattle.mcdec_answers.specs.Printed.{status};
 ghost use Rattle.mcdec_commands.specs.RunAnswer.{IsLoaded};
 ghost use Rattle.mcdec_words.specs.CommandReading.{IsReadDecompile};
@@ -84,7 +84,7 @@ fn decompile_image<S: Shelf>(
 fn refuse(alloc: Global, names: &[Text], number: u64, why: Outside) -> Answer
     requires { number < length names.now }
     ensures gives { (file : Items ℕ) → IsLoaded file → IsRefused file names.now number why → FileGives file names.now result }
-    ensures none { (IsText : Items ℕ → Type 0) (before : Option (Items ℕ)) → LeavesBy IsText result before before }
+    ensures none { (files : Contents) (elf : Items ℕ) (before : Option (Items ℕ)) → LeavesBy (IsTextFor files elf names.now) result before before }
     ensures no_fault { status result ≡ 5 → ⊥ }
 {
     match Text::from_slice(alloc, names[number as usize].as_slice()) {
