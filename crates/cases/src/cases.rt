@@ -116,8 +116,9 @@ impl Cases {
         let Some(open) = self.open.take() else {
             return Ok(());
         };
+        let times = open.times;
         let name = open.name.as_str();
-        match open.times {
+        match times {
             Some(times) => self.add_times(name, open.lines.as_str(), times)?,
             None => self.files.add(name, open.lines.as_bytes())?,
         }

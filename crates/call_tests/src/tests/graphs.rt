@@ -192,6 +192,11 @@ fn graphs_are_built(rt: HostRuntime) -> Result<(), Fail> {
     Ok(())
 }
 
+/// Whether an instruction of that length stands at a node, as that parcel or word.
+fn stands(g: &Graph, n: u32, number: u32, length: u8) -> bool {
+    n < g.len() && g.number(n) == number && g.length(n) == length
+}
+
 #[test]
 fn numbers_and_lengths(rt: HostRuntime) -> Result<(), Fail> {
     let Some(Ok(g)) = built(rt.alloc(), &[0x00050363, 0x80820513, RETURN]) else {
@@ -204,8 +209,7 @@ fn numbers_and_lengths(rt: HostRuntime) -> Result<(), Fail> {
         (2, 0x8082, 2),
         (3, RETURN, 4),
     ] {
-        assert_eq!(rt; g.number(n), number);
-        assert_eq!(rt; g.length(n), length);
+        assert!(rt; stands(&g, n, number, length), "node {n}");
     }
     Ok(())
 }
@@ -227,13 +231,23 @@ fn numbers(why: &Outside) -> (u32, u64, u64) {
     }
 }
 
-/// The numbers of the fault, if there is one.
-fn refusal(alloc: Global, words: &[u32], entry: u64) -> Option<(u32, u64, u64)> {
-    let image = image(alloc, &[(0x10000, words.len() as u64)], words)?;
+/// The numbers of the fault of what is reached in a file with these pieces of code, if there is one.
+fn fault_in(
+    alloc: Global,
+    pieces: &[(u64, u64)],
+    words: &[u32],
+    entry: u64,
+) -> Option<(u32, u64, u64)> {
+    let image = image(alloc, pieces, words)?;
     match build(alloc, &image, entry) {
         Err(FlowFault::Outside(why)) => Some(numbers(&why)),
         _ => None,
     }
+}
+
+/// .. in one with these words at 0x10000.
+fn refusal(alloc: Global, words: &[u32], entry: u64) -> Option<(u32, u64, u64)> {
+    fault_in(alloc, &[(0x10000, words.len() as u64)], words, entry)
 }
 
 /// Programs at 0x10000, an entry, and the fault with its numbers.
@@ -346,18 +360,8 @@ fn code_goes_on_at_zero(rt: HostRuntime) -> Result<(), Fail> {
 #[test]
 fn no_word_goes_on_at_zero(rt: HostRuntime) -> Result<(), Fail> {
     let last = 0xffff_ffff_ffff_fffc;
-    let Some(image) = image(
-        rt.alloc(),
-        &[(last, 1), (0, 1)],
-        &[0x0513_0001, 0x0000_0015],
-    ) else {
-        assert!(rt; false, "no image");
-        return Ok(());
-    };
-    let fault = match build(rt.alloc(), &image, last) {
-        Err(FlowFault::Outside(why)) => Some(numbers(&why)),
-        _ => None,
-    };
+    let words = [0x0513_0001, 0x0000_0015];
+    let fault = fault_in(rt.alloc(), &[(last, 1), (0, 1)], &words, last);
     assert!(rt; fault == Some((4, 0xffff_ffff_ffff_fffe, 0)));
     Ok(())
 }
