@@ -1,4 +1,4 @@
-//! Tests of the public calls of the crates below the kernel, and of graphs and loops. They stand apart, since a crate with tests is proved twice.
+//! Tests of the public calls of the crates below the kernel. They stand apart, since a crate with tests is proved twice.
 #![tactic(auto)]
 
 #[cfg(test)]

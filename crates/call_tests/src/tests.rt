@@ -6,8 +6,6 @@ mod decoding;
 mod drawn;
 mod edges;
 mod elf_files;
-mod forests;
-mod graphs;
 mod interned;
 mod machine;
 mod shelves;

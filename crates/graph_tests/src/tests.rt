@@ -1,0 +1,4 @@
+//! What no clause says: the graphs and the loops of worked programs.
+
+mod forests;
+mod graphs;
