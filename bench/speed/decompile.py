@@ -19,8 +19,10 @@ import os
 import sys
 import tempfile
 
-from drawn import branch, jump
-from run import BASE, MIB, RETURN, arithmetic, measure, words, write_elf
+sys.path.insert(0, os.path.join(os.path.dirname(os.path.abspath(__file__)), "..", "library"))
+from elf_files import BASE, write_elf
+from instructions import RETURN, arithmetic, branch, jump, words
+from measuring import MIB, measure
 
 NAME = f"{BASE:#x}"
 EXITS = 8

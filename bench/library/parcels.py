@@ -1,5 +1,5 @@
 """The instructions of two bytes, as the words for which they stand, written from the manual's tables 16.5 to 16.7 and apart from the program."""
-from run import arithmetic, branch, immediate, jump, load, store, upper
+from instructions import arithmetic, branch, immediate, jump, load, store, upper
 
 IN_WORDS = 0x08
 EBREAK = 0x00100073

@@ -27,10 +27,11 @@ import tempfile
 import time
 from concurrent.futures import ThreadPoolExecutor
 
-from drawn import BASE, REACH, Function
+sys.path.insert(0, os.path.join(os.path.dirname(os.path.abspath(__file__)), "..", "library"))
+from drawn import REACH, Function
+from elf_files import BASE, write_elf
+from instructions import words as bytes_of
 from machine import Machine
-from run import words as bytes_of
-from run import write_elf
 
 BACK = 0x20000
 STEPS = 10_000_000

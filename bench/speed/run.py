@@ -5,50 +5,17 @@ It makes ELF files in a folder that it removes again, runs the program on each, 
 largest resident set of the child, as the system counts it.
 """
 import os
-import struct
 import sys
 import tempfile
-import time
 
-BASE = 0x10000
+sys.path.insert(0, os.path.join(os.path.dirname(os.path.abspath(__file__)), "..", "library"))
+from elf_files import BASE, write_elf
+from instructions import RETURN, arithmetic, immediate, load, store, words
+from measuring import MIB, measure
+
 DATA = 0x100000
-MIB = 1 << 20
 LOOP_STEPS = 10_000_000
 SYMBOLS = 100_000
-RETURN = 0x8067
-
-
-def arithmetic(funct7, funct3, rd, rs1, rs2):
-    """An instruction on two registers."""
-    return funct7 << 25 | rs2 << 20 | rs1 << 15 | funct3 << 12 | rd << 7 | 0x33
-
-
-def immediate(funct3, rd, rs1, value):
-    """An instruction on a register and an immediate."""
-    return value << 20 | rs1 << 15 | funct3 << 12 | rd << 7 | 0x13
-
-
-def load(funct3, rd, rs1, offset):
-    return offset << 20 | rs1 << 15 | funct3 << 12 | rd << 7 | 0x03
-
-
-def store(funct3, rs2, rs1, offset):
-    return offset >> 5 << 25 | rs2 << 20 | rs1 << 15 | funct3 << 12 | (offset & 31) << 7 | 0x23
-
-
-def branch(funct3, rs1, rs2, offset):
-    high, low = (offset >> 12 & 1) << 31 | (offset >> 5 & 0x3F) << 25, (offset >> 1 & 0xF) << 8 | (offset >> 11 & 1) << 7
-    return high | rs2 << 20 | rs1 << 15 | funct3 << 12 | low | 0x63
-
-
-def jump(offset):
-    """A jump that writes no register."""
-    return (offset >> 20 & 1) << 31 | (offset >> 1 & 0x3FF) << 21 | (offset >> 11 & 1) << 20 | (offset >> 12 & 0xFF) << 12 | 0x6F
-
-
-def upper(opcode, rd, value):
-    return value << 12 | rd << 7 | opcode
-
 
 # Each loop has ten instructions; the last jumps to x5, which holds the address of the first.
 AGAIN = 5 << 15 | 0x67
@@ -82,56 +49,6 @@ ACCESSES = [
 # ld and sd in turn, each in a segment of its own
 SCATTERED = [(load if i % 2 == 0 else store)(3, 10, 20 + i, 8) for i in range(8)] + [immediate(0, 14, 14, 1), AGAIN]
 BASES = [DATA * (i + 1) for i in range(8)]
-
-
-def words(code):
-    return b"".join(struct.pack("<I", word) for word in code)
-
-
-def write_elf(path, segments, symbols=()):
-    """Writes an ELF file: segments of address, front of the bytes, size in the file and in memory; symbols of name and value."""
-    place = 64 + 56 * len(segments)
-    headers, parts = b"", []
-    for at, front, file_size, memory_size in segments:
-        headers += struct.pack("<IIQQQQQQ", 1, 7, place, at, at, file_size, memory_size, 4)
-        parts.append((place, front))
-        place += file_size
-    shoff = 0
-    if symbols:
-        table, strings = bytearray(24), bytearray(1)
-        for name, value in symbols:
-            table += struct.pack("<IBBHQQ", len(strings), 2, 0, 1, value, 0)
-            strings += name.encode() + b"\0"
-        sections = bytes(64)
-        sections += struct.pack("<IIQQQQIIQQ", 0, 2, 0, 0, place, len(table), 2, 0, 8, 24)
-        sections += struct.pack("<IIQQQQIIQQ", 0, 3, 0, 0, place + len(table), len(strings), 0, 0, 1, 0)
-        parts.append((place, table + strings + sections))
-        shoff = place + len(table) + len(strings)
-        place = shoff + len(sections)
-    header = b"\x7fELF\x02\x01\x01" + bytes(9)
-    header += struct.pack("<HHIQQQIHHHHHH", 2, 243, 1, BASE, 64, shoff, 0, 64, 56, len(segments), 64, 3 if symbols else 0, 0)
-    with open(path, "wb") as file:
-        file.write(header + headers)
-        for offset, part in parts:
-            file.seek(offset)
-            file.write(part)
-        file.truncate(place)
-
-
-def measure(program, arguments):
-    """Runs the program, and gives its output, the seconds that it took and its peak in bytes."""
-    read, write = os.pipe()
-    start = time.monotonic()
-    child = os.fork()
-    if child == 0:
-        os.dup2(write, 1)
-        os.close(read)
-        os.execv(program, [program, *arguments])
-    os.close(write)
-    with os.fdopen(read, "rb") as output:
-        lines = output.read()
-    _, _, usage = os.wait4(child, 0)
-    return lines, time.monotonic() - start, usage.ru_maxrss * 1024
 
 
 def loop(code, data=()):

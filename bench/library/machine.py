@@ -1,6 +1,6 @@
 """A model of the instructions of RV64IMC that drawn functions have, written from the manual and apart from the program."""
 
-from compressed import expand
+from parcels import expand
 
 WORD = (1 << 64) - 1
 
@@ -50,9 +50,13 @@ def product_operation(funct3, a, b, bits):
 
 
 class Machine:
-    """Registers, bytes at addresses and a program counter; `touched` are the addresses that were loaded or stored."""
+    """Registers, bytes at addresses and a program counter; `touched` are the addresses that were loaded or stored.
 
-    def __init__(self, pc, registers, memory):
+    `expand` gives the instruction of four bytes for which two stand.
+    """
+
+    def __init__(self, pc, registers, memory, expand=expand):
+        self.expand = expand
         self.pc, self.registers, self.memory = pc, [0] + [registers[r] for r in range(1, 32)], dict(memory)
         self.touched = set()
 
@@ -70,7 +74,7 @@ class Machine:
     def step(self):
         parcel = self.word(self.pc, 2)
         size = 4 if parcel & 3 == 3 else 2
-        w = self.word(self.pc, 4) if size == 4 else expand(parcel)
+        w = self.word(self.pc, 4) if size == 4 else self.expand(parcel)
         opcode, rd, funct3, rs1, rs2, funct7 = w & 0x7F, w >> 7 & 31, w >> 12 & 7, w >> 15 & 31, w >> 20 & 31, w >> 25
         a, b, immediate = self.registers[rs1], self.registers[rs2], signed(w >> 20, 12)
         upper = signed(w & 0xFFFFF000, 32)

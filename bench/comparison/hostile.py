@@ -17,9 +17,10 @@ import tempfile
 import time
 from concurrent.futures import ThreadPoolExecutor
 
-from run import MIB, measure
+sys.path.insert(0, os.path.join(os.path.dirname(os.path.abspath(__file__)), "..", "library"))
+from measuring import MIB, measure
 
-DATA = os.path.join(os.path.dirname(os.path.abspath(__file__)), "..", "crates", "mcdec", "data")
+DATA = os.path.join(os.path.dirname(os.path.abspath(__file__)), "..", "..", "crates", "mcdec", "data")
 BRACKETS = 10_000_000
 HEAD = "mcproof 1\ngroup f\nregs 10\nmems 1\ncode (0x10000 13000000)\ndef 0x10000 0x10004\n"
 BODY = HEAD + "leave 0 v0 ; m0\n"

@@ -8,7 +8,8 @@ import os
 import sys
 import tempfile
 
-from run import MIB, measure
+sys.path.insert(0, os.path.join(os.path.dirname(os.path.abspath(__file__)), "..", "library"))
+from measuring import MIB, measure
 
 TURNS = 1_000_000
 HEAD = "mcproof 1\n"

@@ -1,13 +1,12 @@
 """Functions of RV64IMC code that are drawn from a number: loops in loops, branches that join again, and loads and stores in one region."""
 import random
 
-from compressed import SHORT
-from run import arithmetic, branch, immediate, jump, load, store, upper
+from elf_files import BASE
+from instructions import RETURN, arithmetic, branch, immediate, jump, load, store, upper
+from parcels import SHORT
 
-BASE = 0x10000
 REACH = 64
 WORD = (1 << 64) - 1
-RETURN = 0x8067
 FENCE = 0x0000000F
 BRANCHES = (0, 1, 4, 5, 6, 7)
 LOADS = ((0, 1), (1, 2), (2, 4), (3, 8), (4, 1), (5, 2), (6, 4))

@@ -11,7 +11,10 @@ import struct
 import sys
 import tempfile
 
-from run import BASE, MIB, RETURN, arithmetic, measure, write_elf
+sys.path.insert(0, os.path.join(os.path.dirname(os.path.abspath(__file__)), "..", "library"))
+from elf_files import BASE, write_elf
+from instructions import RETURN, arithmetic
+from measuring import MIB, measure
 
 PART = 32
 INSTRUCTIONS = 1024
