@@ -1,0 +1,117 @@
+#!/usr/bin/env python3
+"""functions.py PROGRAM ELF [OUT]: what `decompile` of a built program says of each function of an ELF file, and a summary.
+
+The functions are those of the file's symbol table. Each is decompiled alone, as many at a time as there are processors; its line says how many
+instructions and definitions it has, or why it is refused. With OUT, all that aren't refused are decompiled together into that file, which is
+then checked. (Their text is held in memory: nine bytes for each byte of it. Large files make hundreds of megabytes of text.) The exit status is 0 where the
+file was read, however many functions are refused.
+"""
+import collections
+import os
+import re
+import struct
+import subprocess
+import sys
+import tempfile
+from concurrent.futures import ThreadPoolExecutor
+
+REASONS = {
+    "call": "calls a function (a jump that keeps where it came from)",
+    "jump-through": "jumps through a register other than by a return: a jump table, or a call at its end",
+    "too-large": "has more than 1,024 instructions",
+    "two-entries": "has a loop that is entered at two places",
+    "many-exits": "has a loop that is left to more than 8 places",
+    "not-decoded": "has an instruction outside RV64IMC: floating point, atomics, CSRs, vectors",
+    "environment": "calls the environment: ecall or ebreak",
+    "outside-code": "goes on where no code is",
+    "misaligned": "begins at an odd address",
+    "no memory": "needs more memory than there is",
+}
+
+
+def symbols(data):
+    """The functions of the symbol table: for each address the first name, and for each name its addresses. Takes a file that `decompile` reads."""
+    names, values = {}, collections.defaultdict(set)
+    (start,), (count,) = struct.unpack_from("<Q", data, 40), struct.unpack_from("<H", data, 60)
+    sections = [struct.unpack_from("<IIQQQQIIQQ", data, start + 64 * i) for i in range(count)]
+    table = next((section for section in sections if section[1] == 2), None)
+    if table is None:
+        return names, values
+    offset, size, link = table[4:7]
+    strings, length = sections[link][4:6]
+    for place in range(offset, offset + size - size % 24, 24):
+        name, info, _, section, value, _ = struct.unpack_from("<IBBHQQ", data, place)
+        if info & 15 == 2 and section:
+            text = data[strings + name : data.index(b"\0", strings + name, strings + length)].decode("latin-1")
+            names.setdefault(value, text)
+            values[text].add(value)
+    return names, values
+
+
+def word_of(address, name, values):
+    """The word for a function: its name, where that is one of the command's words and stands for this address alone, or its address."""
+    is_name = re.fullmatch(r"[!-'*-:<-~]{1,4096}", name) and not name.startswith("0x")
+    return name if is_name and values[name] == {address} else f"{address:#x}"
+
+
+def say(*words):
+    done = subprocess.run(words, capture_output=True, text=True, encoding="latin-1")
+    return done.returncode, done.stdout.strip()
+
+
+def told(line, word):
+    """What the line says of the function, and in one word why it is refused."""
+    if line.startswith("decompiled "):
+        _, _, _, instructions, definitions = line.split()
+        return f"{instructions} instructions, {definitions} definitions", None
+    why = line.removeprefix(f"refused {word} ")
+    return why, why if why in REASONS else why.split()[0]
+
+
+def main():
+    if len(sys.argv) not in (3, 4):
+        sys.exit(__doc__)
+    program, elf = os.path.abspath(sys.argv[1]), sys.argv[2]
+    out = sys.argv[3] if len(sys.argv) == 4 else None
+    if out is not None and os.path.exists(out) and os.path.samefile(out, elf):
+        sys.exit(f"{out} is the ELF file itself: nothing was done")
+    with tempfile.TemporaryDirectory() as folder:
+        # No instruction stands at an odd address, so the answer is that, or why the file isn't read.
+        status, line = say(program, "decompile", elf, os.path.join(folder, "none"), "0x1")
+        if status != 1:
+            sys.exit(f"{elf}: {line}")
+        with open(elf, "rb") as file:
+            names, values = symbols(file.read())
+        if not names:
+            sys.exit(f"{elf}: no function in its symbol table. `decompile` takes addresses too")
+        jobs = [(address, word_of(address, name, values)) for address, name in sorted(names.items())]
+        inside, why = [], collections.Counter()
+        progress = sys.stderr.isatty()
+        with ThreadPoolExecutor(os.cpu_count()) as pool:
+            answers = pool.map(lambda job: say(program, "decompile", elf, os.path.join(folder, f"{job[0]:x}"), job[1])[1], jobs)
+            for k, ((address, word), line) in enumerate(zip(jobs, answers), 1):
+                text, reason = told(line, word)
+                if reason is None:
+                    inside.append(word)
+                    os.remove(os.path.join(folder, f"{address:x}"))
+                else:
+                    why[reason] += 1
+                if progress:
+                    print(f"\r{'':60}\r", end="", file=sys.stderr)
+                print(f"{address:#x}  {names[address]:28}  {text}", flush=True)
+                if progress:
+                    print(f"{k} of {len(jobs)}, {len(inside)} inside", end="", file=sys.stderr, flush=True)
+    if progress:
+        print(f"\r{'':60}\r", end="", file=sys.stderr)
+    print(f"\n{len(jobs)} functions, {len(inside)} decompiled, {len(jobs) - len(inside)} refused")
+    for reason, count in why.most_common():
+        print(f"{count:7}  {reason}: {REASONS.get(reason, 'see docs/COMMANDS.md')}")
+    if out is not None and inside:
+        status, lines = say(program, "decompile", elf, out, *inside)
+        if status:
+            sys.exit(f"{out}: {lines}")
+        print(f"{out}: {say(program, 'check', elf, out)[1]}")
+
+
+if __name__ == "__main__":
+    main()
