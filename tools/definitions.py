@@ -2,15 +2,21 @@
 """What a reader has to believe of a contract: the definitions that it cites, and those that these stand on.
 
     tools/definitions.py            prints the table of the contracts below
-    tools/definitions.py --write    writes it into docs/DEFINITIONS.md
-    tools/definitions.py --check    fails where the table there is another one, where a row of the document names a definition that isn't in
-                                    its file, and where one that a contract in EXPLAINED stands on has no row
+    tools/definitions.py --write    writes docs/DEFINITIONS.md anew: the table, and the rows of definitions between its marks. A row holds the comment
+                                    above its definitions. It also shortens tools/shared_names.txt, where that has names that are no longer shared
+    tools/definitions.py --check    fails where the document would be written otherwise, where a definition that a contract in EXPLAINED stands on has no row,
+                                    and where a public definition gets a name that another crate's has: tools/shared_names.txt has
+                                    those that do today, with the number of crates, and may only get shorter
     tools/definitions.py --names    names the definitions of each file, needed and not
+
+A mark of the document is a line `<!-- rows: CRATE FILE, FILE; CRATE FILE -->`, or `<!-- files: .. -->` for files that get one row each, or
+`<!-- rows: the others -->` for all files that no mark names. What stands behind it up to `<!-- end of rows -->` is written.
 
 Lines are those of definitions in specs/, without imports, comments and blank lines. A name that a lambda binds and that is spelled
 like a definition counts as that definition, so a figure may be a little high. What the toolchain's libraries define isn't counted.
 """
 import collections
+import itertools
 import os
 import re
 import sys
@@ -18,7 +24,9 @@ import sys
 TOP = os.path.dirname(os.path.dirname(os.path.abspath(__file__)))
 CRATES = os.path.join(TOP, 'crates')
 DOCUMENT = os.path.join(TOP, 'docs', 'DEFINITIONS.md')
+SHARED = os.path.join(TOP, 'tools', 'shared_names.txt')
 BEGIN, END = '<!-- definitions.py: begin -->\n', '<!-- definitions.py: end -->\n'
+MARK = re.compile(r'(<!-- (rows|files): (.*?) -->\n).*?(<!-- end of rows -->\n)', re.S)
 
 # The contracts that are counted: a title, the file, the function, and its clauses (none: all). Without a file: definitions by name.
 CONTRACTS = [
@@ -34,6 +42,8 @@ CONTRACTS = [
 
 # Those that the document explains whole: each definition that they stand on has a row.
 EXPLAINED = [CONTRACTS[0], CONTRACTS[2]]
+# That whose definitions stand bold in the rows.
+HEADLINE = CONTRACTS[2]
 
 NAME = re.compile(r"[A-Za-z_][A-Za-z_0-9'\-]*(?:\.[A-Za-z_][A-Za-z_0-9'\-]*)*")
 OPERATOR = re.compile(r'(?<=[\s(])([^\s\w(){},.;:"]+)(?=[\s)])')
@@ -59,17 +69,25 @@ def names_in(text):
 
 
 class Module:
-    """A file of definitions: the lines of each, and of which data type each constructor is."""
+    """A file of definitions: the lines of each, the comment above it, of which data type each constructor is, and the first sentence of the file."""
 
     def __init__(self, path):
         with open(path, encoding='utf8') as file:
             text = file.read()
         self.imports, self.aliases = imports_of(text)
-        self.definitions, self.constructors = collections.OrderedDict(), {}
-        current, kind, mutual = None, None, False
-        for line in text.split('\n'):
+        self.definitions, self.constructors, self.comments, self.public = collections.OrderedDict(), {}, {}, set()
+        head = list(itertools.takewhile(lambda line: line.startswith('--'), text.split('\n')))
+        self.head = ' '.join(line[2:].strip() for line in itertools.takewhile(lambda line: line.strip('- '), head)).split(':\n')[0]
+        current, kind, mutual, above = None, None, False, []
+        for line in text.split('\n')[len(head):]:
             words = line.strip()
-            if not words or words.startswith('--') or re.match(r'(pub )?(use|mod)\b', words) or words.startswith('infix'):
+            if words.startswith('--'):
+                above = [] if words.startswith('-- ----') else above + [words[2:].strip()]
+                continue
+            if not words or re.match(r'(pub )?(use|mod)\b', words):
+                above = []
+                continue
+            if words.startswith('infix'):
                 continue
             if re.match(r'(abbrev |unfoldable )?mutual$', words):
                 current, mutual = None, True
@@ -79,8 +97,13 @@ class Module:
             if indent == 0 or (mutual and indent == 2):
                 head = HEAD.match(words)
                 if head and (head[1] or re.match(r'(abbrev|unfoldable|pub|[^\s]+ :)', words)) and not re.match(r'[^:]* = ', words):
+                    of_one = mutual and current is not None and not above
+                    comment = self.comments[current] if of_one else ' '.join(above)
                     current, kind = head[2], head[1]
-                    self.definitions[current] = []
+                    self.definitions[current], self.comments[current] = [], comment
+                    if re.match(r'((abbrev|unfoldable) )?pub ', words):
+                        self.public.add(current)
+                    above = []
             if current is not None:
                 self.definitions[current].append(line)
                 constructor = re.match(r'\s+([^\s:]+)\s*:', line)
@@ -181,38 +204,115 @@ def table(definitions):
     return '\n'.join(rows) + '\n'
 
 
-def rows_of(definitions, document):
-    """The rows of the document that explain definitions: the line's number, the file of definitions, and the names, of which `a` to `b` are all."""
-    for number, line in enumerate(document.split('\n'), 1):
-        cells = [cell.strip() for cell in line.strip('|').split('|')]
-        if not line.startswith('| `') or len(cells) < 3:
-            continue
-        modules = []
-        for place in cells[1].split(';'):
-            crate, _, files = place.strip().partition(', ')
-            modules += [f'{crate}.specs.{file}' for file in re.split(r',\s*|\s+and\s+', files)]
-        names = re.findall(r'`([^`]+)`', cells[0])
-        for first, last in re.findall(r'`([^`]+)` to `([^`]+)`', cells[0]):
-            for module in modules:
-                here = list(definitions.modules[module].definitions) if module in definitions.modules else []
-                if first in here and last in here:
-                    names += here[here.index(first):here.index(last) + 1]
-        yield number, modules, names
+def files_of(definitions, mark, others):
+    """The files that a mark names: of each the name of its module."""
+    if mark == 'the others':
+        return others
+    files = []
+    for part in mark.split(';'):
+        crate, _, names = part.strip().partition(' ')
+        files += [f'{crate}.specs.{name.strip()}' for name in names.split(',')]
+    unknown = [file for file in files if file not in definitions.modules]
+    if unknown:
+        sys.exit(f"docs/DEFINITIONS.md: no file of definitions is called {', '.join(unknown)}")
+    return files
+
+
+def title(module):
+    crate, _, name = module.partition('.specs.')
+    return f'{crate}, {name}'
+
+
+def cell(text):
+    return text.replace('|', '\\|')
+
+
+def rows_of(definitions, module, bold):
+    """The rows of a file: definitions with one comment stand in one row, and those without one in the last."""
+    here = definitions.modules[module]
+    shown = {name: f'**`{name.strip("◌")}`**' if (module, name) in bold else f'`{name.strip("◌")}`' for name in here.definitions}
+    by_comment = collections.OrderedDict()
+    for name in here.definitions:
+        by_comment.setdefault(here.comments[name], []).append(shown[name])
+    without = by_comment.pop('', [])
+    yield f'**{title(module)}.** {here.head}\n'
+    yield '| | |\n|---|---|'
+    for comment, names in by_comment.items():
+        yield f"| {', '.join(names)} | {cell(comment)} |"
+    if without:
+        yield f"| {', '.join(without)} | {'what the names say' if by_comment else cell(here.head)} |"
+    yield ''
+
+
+def written(definitions, document):
+    """The document with its table and its rows written anew."""
+    before, _, rest = document.partition(BEGIN)
+    _, _, after = rest.partition(END)
+    document = before + BEGIN + table(definitions) + END + after
+    named = [file for _, _, mark, _ in MARK.findall(document) if mark != 'the others' for file in files_of(definitions, mark, [])]
+    twice = [file for file, count in collections.Counter(named).items() if count > 1]
+    if twice:
+        sys.exit(f"docs/DEFINITIONS.md: two marks name {', '.join(twice)}")
+    others = [module for module in definitions.modules if is_public(module) and module not in named]
+    bold = definitions.needed(*HEADLINE[1:])
+
+    def rows(match):
+        files = files_of(definitions, match[3], others)
+        if match[2] == 'rows':
+            lines = [line for file in files for line in rows_of(definitions, file, bold)]
+        else:
+            lines = ['| File | |\n|---|---|', *(f'| {title(file)} | {cell(definitions.modules[file].head)} |' for file in files), '']
+        return match[1] + '\n' + '\n'.join(lines) + match[4]
+
+    return MARK.sub(rows, document)
+
+
+def is_public(module):
+    """Whether the file holds definitions that contracts of public calls may cite."""
+    return re.search(r'\.(inner|declared|formers)\b', module) is None and bool(module)
+
+
+def shared_names(definitions):
+    """The public names that several crates define, and how many do."""
+    crates = collections.defaultdict(set)
+    for module, here in definitions.modules.items():
+        if is_public(module):
+            for name in here.public:
+                crates[name].add(module.partition('.')[0])
+    return {name: len(where) for name, where in crates.items() if len(where) > 1}
+
+
+def allowed_names():
+    with open(SHARED, encoding='utf8') as file:
+        return {name: int(count) for name, count in (line.split() for line in file if line.strip() and not line.startswith('#'))}
+
+
+def write_shared(definitions):
+    """Shortens the list of names that several crates may define."""
+    shared, allowed = shared_names(definitions), allowed_names()
+    with open(SHARED, 'w', encoding='utf8') as file:
+        file.write("# The public names of definitions that several crates have, and how many do. It may only get shorter: tools/definitions.py --write.\n")
+        for name, count in sorted(allowed.items()):
+            if name in shared:
+                file.write(f'{name} {min(count, shared[name])}\n')
 
 
 def faults(definitions, document):
-    """What is wrong with the rows: names that aren't where a row says, and definitions that ought to be explained and aren't."""
-    explained = set()
-    for number, modules, names in rows_of(definitions, document):
-        for name in names:
-            at = {(module, known) for module in modules if module in definitions.modules
-                  for known in definitions.modules[module].definitions if known.strip('◌') == name}
-            explained |= at
-            if not at:
-                yield f"docs/DEFINITIONS.md:{number}: {name} isn't in {' or '.join(modules)}"
-    for title, *contract in EXPLAINED:
-        for module, name in sorted(definitions.needed(*contract) - explained):
-            yield f'docs/DEFINITIONS.md has no row for {name} of {module}: {title}'
+    """Definitions that ought to be explained and aren't, and names that too many crates have."""
+    explained = {file for _, kind, mark, _ in MARK.findall(document) if kind == 'rows' and mark != 'the others' for file in files_of(definitions, mark, [])}
+    explained |= {module for module in definitions.modules if is_public(module)} if '<!-- rows: the others -->' in document else set()
+    for contract, *where in EXPLAINED:
+        for module, name in sorted(definitions.needed(*where)):
+            if module not in explained:
+                yield f'docs/DEFINITIONS.md has no row for {name} of {module}: {contract}'
+    shared, allowed = shared_names(definitions), allowed_names()
+    for name, count in sorted(shared.items()):
+        if count > allowed.get(name, 1):
+            where = sorted({module.partition('.')[0] for module, here in definitions.modules.items() if is_public(module) and name in here.public})
+            yield f"the public name {name} stands in {count} crates, {', '.join(where)}: give the new one a name of its own"
+    for name, count in sorted(allowed.items()):
+        if shared.get(name, 1) < count:
+            yield f'tools/shared_names.txt has {name} {count}, which is too many today: tools/definitions.py --write'
 
 
 def main():
@@ -233,15 +333,14 @@ def main():
         return
     with open(DOCUMENT, encoding='utf8') as file:
         document = file.read()
-    before, _, rest = document.partition(BEGIN)
-    _, _, after = rest.partition(END)
-    current = before + BEGIN + text + END + after
     if sys.argv[1:] == ['--write']:
+        current = written(definitions, document)
         with open(DOCUMENT, 'w', encoding='utf8') as file:
             file.write(current)
+        write_shared(definitions)
     elif sys.argv[1:] == ['--check']:
-        if document != current:
-            sys.exit('the table of docs/DEFINITIONS.md is another one: tools/definitions.py --write')
+        if document != written(definitions, document):
+            sys.exit('docs/DEFINITIONS.md is to be written anew: tools/definitions.py --write')
         wrong = list(faults(definitions, document))
         if wrong:
             sys.exit('\n'.join(wrong))
