@@ -8,6 +8,7 @@
                                     and where a public definition gets a name that another crate's has: tools/shared_names.txt has
                                     those that do today, with the number of crates, and may only get shorter
     tools/definitions.py --names    names the definitions of each file, needed and not
+    tools/definitions.py --lemmas   lists the lemmas (proofs/) that crates above their own cite, by file, and which crates do
 
 A mark of the document is a line `<!-- rows: CRATE FILE, FILE; CRATE FILE -->`, or `<!-- files: .. -->` for files that get one row each, or
 `<!-- rows: the others -->` for all files that no mark names. What stands behind it up to `<!-- end of rows -->` is written.
@@ -315,7 +316,30 @@ def faults(definitions, document):
             yield f'tools/shared_names.txt has {name} {count}, which is too many today: tools/definitions.py --write'
 
 
+def cited_lemmas():
+    """The lemmas that other crates cite: for each crate and file of proofs/ their names, and the crates."""
+    cited = collections.defaultdict(lambda: (set(), set()))
+    for crate in sorted(os.listdir(CRATES)):
+        for folder, folders, files in os.walk(os.path.join(CRATES, crate)):
+            folders[:] = [name for name in folders if name != 'out']
+            for file in files:
+                if file.endswith(('.antt', '.rt')):
+                    with open(os.path.join(folder, file), encoding='utf8') as text:
+                        for module, names in IMPORT.findall(text.read()):
+                            lower, _, name = module.partition('.proofs.')
+                            if name and lower != crate and os.path.isdir(os.path.join(CRATES, lower)):
+                                cited[lower, name][0].update(item.strip().partition(' as ')[0] for item in names.split(',') if item.strip())
+                                cited[lower, name][1].add(crate)
+    return cited
+
+
 def main():
+    if sys.argv[1:] == ['--lemmas']:
+        cited = cited_lemmas()
+        for (crate, file), (names, crates) in sorted(cited.items()):
+            print(f"{crate}, {file}: {' '.join(sorted(names))}; cited by {' '.join(sorted(crates))}")
+        print(f'{sum(len(names) for names, _ in cited.values())} lemmas of {len(cited)} files')
+        return
     definitions = Definitions()
     if sys.argv[1:] == ['--names']:
         for title, *contract in CONTRACTS:

@@ -1,8 +1,9 @@
 #!/usr/bin/env python3
-"""test_tools.py [PROGRAM]: tries tools/show.py and tools/functions.py on the examples. It takes some two seconds of a processor.
+"""test_tools.py [PROGRAM]: tries tools/show.py and tools/functions.py on the examples, and the documents. It takes some two seconds of a processor.
 
 Without PROGRAM, what needs no program: each example's text is shown as the file beside it says, as a picture too, and one function of it alone; a text
-that is no proof file is refused; the symbols of the ELF files are found. With a built program also what it says of the examples: each is
+that is no proof file is refused; the symbols of the ELF files are found; links of the documents, and paths that they name, lead somewhere; each crate of
+crates.txt stands in README.md, in its layer, and in the tables of ARCHITECTURE.md and PROMISES.md. With a built program also what it says of the examples: each is
 decompiled to the text that stands there, and functions.py tells which functions are refused.
 """
 import os
@@ -12,7 +13,8 @@ import sys
 import tempfile
 
 TOOLS = os.path.dirname(os.path.abspath(__file__))
-EXAMPLES = os.path.join(TOOLS, "..", "examples")
+TOP = os.path.dirname(TOOLS)
+EXAMPLES = os.path.join(TOP, "examples")
 sys.path.insert(0, TOOLS)
 from functions import symbols, word_of
 
@@ -89,12 +91,65 @@ def try_program(program, folder):
     expect("functions.py on no ELF file", status == 1 and "unreadable elf not-elf" in told)
 
 
+def layers():
+    """The layers of crates.txt with their crates, and which crates each crate uses."""
+    found, uses = {}, {}
+    with open(os.path.join(TOP, "crates.txt"), encoding="utf8") as file:
+        for line in file:
+            title = re.match(r"# (\S+): ", line)
+            crate, colon, libraries = line.partition(":")
+            if title:
+                found[title[1]] = []
+            elif colon and not line.startswith("#"):
+                list(found.values())[-1].append(crate)
+                uses[crate] = libraries.split()
+    return found, uses
+
+
+def document(name):
+    with open(os.path.join(TOP, name), encoding="utf8") as file:
+        return file.read()
+
+
+def try_crates():
+    found, uses = layers()
+    crates = [crate for names in found.values() for crate in names]
+    expect("crates.txt has the folders of crates/", sorted(crates) == sorted(os.listdir(os.path.join(TOP, "crates"))))
+    for crate in crates:
+        own = next(names for names in found.values() if crate in names)
+        known = crates[: crates.index(own[-1]) + 1]
+        expect(f"crates.txt: {crate} stands on its own layer and those above it", all(used in known or used not in crates for used in uses[crate]))
+    readme, architecture, promises = document("README.md"), document("docs/ARCHITECTURE.md"), document("docs/PROMISES.md")
+    for layer, names in found.items():
+        expect(f"README.md's layer {layer} has {', '.join(names)}", f"| {layer} | {', '.join(names)} |" in readme)
+    told = re.findall(r"^\| `(\w+)` \| ", architecture.partition("**The kernel.**")[0], re.M)
+    expect("the table of ARCHITECTURE.md has the crates in the order of crates.txt", told == crates)
+    told = re.findall(r"^\| (\w+) \| ", promises.partition("## Crate by crate")[2].partition("\n## ")[0], re.M)
+    expect("the table of PROMISES.md has the crates in the order of crates.txt", [name for name in told if name != "Crate"] == crates)
+
+
+def try_documents():
+    for folder in ("", "docs", "examples", "bench"):
+        for name in sorted(os.listdir(os.path.join(TOP, folder))):
+            if not name.endswith(".md"):
+                continue
+            text = document(os.path.join(folder, name))
+            paths = [os.path.join(folder, link) for link in re.findall(r"\]\(([^)#]+?)(?:#[^)]*)?\)", text)]
+            paths += re.findall(r"`((?:crates|docs|tools|bench|examples)/[\w./]+)[` ]", text)
+            for path in paths:
+                is_built = re.match(r"crates/\w+/out/", path) or re.search(r"[A-Z]{4}", os.path.basename(path).partition(".")[0]) and not path.endswith(".md")
+                expect(f"{os.path.join(folder, name)} names {path}", is_built or os.path.exists(os.path.join(TOP, path)))
+    expect("README.md has at most 9 KB", len(document("README.md").encode()) <= 9216)
+
+
 def main():
     if len(sys.argv) > 2:
         sys.exit(__doc__)
     with tempfile.TemporaryDirectory() as folder:
         try_show(folder)
         try_symbols()
+        try_crates()
+        try_documents()
         if len(sys.argv) == 2:
             try_program(os.path.abspath(sys.argv[1]), folder)
     if faults:
