@@ -117,4 +117,8 @@ class Machine:
         self.pc = after & WORD
 
     def touch(self, at, size):
-        self.touched.update((at + i) & WORD for i in range(size))
+        """Notes these addresses; a `KeyError` tells the first that has no byte."""
+        addresses = [(at + i) & WORD for i in range(size)]
+        for address in addresses:
+            self.memory[address]
+        self.touched.update(addresses)
