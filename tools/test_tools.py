@@ -139,6 +139,8 @@ def try_documents():
             for path in paths:
                 is_built = re.match(r"crates/\w+/out/", path) or re.search(r"[A-Z]{4}", os.path.basename(path).partition(".")[0]) and not path.endswith(".md")
                 expect(f"{os.path.join(folder, name)} names {path}", is_built or os.path.exists(os.path.join(TOP, path)))
+    total = re.search(r"^\| \*\*all\*\* \| [^|]* \| [^|]* \| (\d+) lines", document("docs/DEFINITIONS.md"), re.M)
+    expect("README.md has the number of lines on which the headline stands", f"stands on {int(total[1]):,} lines" in document("README.md"))
     expect("README.md has at most 9 KB", len(document("README.md").encode()) <= 9216)
 
 
