@@ -78,7 +78,7 @@ class Module:
         self.imports, self.aliases = imports_of(text)
         self.definitions, self.constructors, self.comments, self.public = collections.OrderedDict(), {}, {}, set()
         head = list(itertools.takewhile(lambda line: line.startswith('--'), text.split('\n')))
-        self.head = ' '.join(line[2:].strip() for line in itertools.takewhile(lambda line: line.strip('- '), head)).split(':\n')[0]
+        self.head = ' '.join(line[2:].strip() for line in itertools.takewhile(lambda line: line.strip('- '), head))
         current, kind, mutual, above = None, None, False, []
         for line in text.split('\n')[len(head):]:
             words = line.strip()
@@ -117,8 +117,9 @@ def modules_of(crates):
     modules, passed_on = {}, {}
     for crate in sorted(os.listdir(crates)):
         top = os.path.join(crates, crate, 'specs')
-        for folder, _, files in os.walk(top):
-            for file in files:
+        for folder, folders, files in os.walk(top):
+            folders.sort()
+            for file in sorted(files):
                 path = os.path.join(folder, file)
                 name = os.path.relpath(path, top)[:-len('.antt')].replace(os.sep, '.')
                 if file == 'Lib.antt':
@@ -270,7 +271,7 @@ def written(definitions, document):
 
 def is_public(module):
     """Whether the file holds definitions that contracts of public calls may cite."""
-    return re.search(r'\.(inner|declared|formers)\b', module) is None and bool(module)
+    return re.search(r'\.(inner|declared|formers)\b', module) is None
 
 
 def shared_names(definitions):
