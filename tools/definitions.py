@@ -307,6 +307,9 @@ def faults(definitions, document):
         for module, name in sorted(definitions.needed(*where)):
             if module not in explained:
                 yield f'docs/DEFINITIONS.md has no row for {name} of {module}: {contract}'
+    by_hand = MARK.sub('', document[document.find(END):])
+    for line in re.findall(r'^\| .*', by_hand, re.M):
+        yield f'docs/DEFINITIONS.md: a row stands outside the marks: {line[:60]}'
     shared, allowed = shared_names(definitions), allowed_names()
     for name, count in sorted(shared.items()):
         if count > allowed.get(name, 1):
