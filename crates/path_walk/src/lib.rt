@@ -1,4 +1,18 @@
 //! The proof lines that close the definitions of a function's parts.
+//!
+//! `item_of(alloc, name, &graph, &forest)?` makes of reached code and its loops an `Item`: the group of the function, a
+//! definition for each part, and the lines of a proof that `checker` accepts.
+//!
+//! `walk_all` goes through the parts in order, each after those that it calls, and `walk` through one part: it follows
+//! the branches of its code from its first node to the next cuts, which is symbolic execution along each path. At each
+//! instruction it states the axiom, puts in the current variables, frames it, and joins it to the theorem of the way
+//! there; a call of a part is a step by the fact that this part leaves by an exit. A path's last theorem is cited as a
+//! leaf, and a line `loop` closes the definition by its leaves. A `Log` numbers the theorems, a `Standing` is one of them
+//! with its facts and code.
+//!
+//! That each line is right after those before it is in the contract of `item_of` (`IsItemOf`). The law that matters
+//! beside it is `law_of_texts`: the group can be written and read again. A `Proof` has an item for each name, or a
+//! `DecompileFault` says why there is none.
 #![tactic(auto)]
 
 mod act_lines;

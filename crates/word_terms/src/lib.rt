@@ -1,4 +1,16 @@
 //! Terms over 64-bit words and memories, their values, and the code of a function.
+//!
+//! A `Word` is a term for a word, a `Mem` one for a memory, a `Cond` a condition: trees over numbered variables, in which
+//! loads and stores are operations like any other (the theory of arrays, of bytes that are present or absent). An `Env`
+//! says what the variables stand for. `value(&t, &env)` evaluates a term, `truth(&c, &env)` a condition, `memory_of` a
+//! whole memory; `is_word_in_scope` tells whether an `Env` of that size has all variables of a term.
+//!
+//! A `Sub` is a simultaneous substitution, and `subst_word(alloc, &t, &sub)?` carries it out. Terms have no binders, so
+//! nothing can be captured; they are at most `DEEPEST` deep, so recursion on them is bounded.
+//!
+//! The law that matters is `law_of_substitution`, the substitution lemma: the value of a term after a substitution is the
+//! term's value where the listed variables stand for the values of their terms. `law_of_agreement` says that a value
+//! depends on the variables that occur alone. `Code` is the bytes of a function, as ranges that rise.
 #![tactic(auto)]
 
 mod code;
