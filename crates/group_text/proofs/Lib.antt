@@ -15,3 +15,4 @@ pub mod RowLawsOf
 pub mod Joins
 pub mod BodyJoins
 pub mod GroupJoins
+pub mod Claims

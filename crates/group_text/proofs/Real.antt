@@ -64,7 +64,7 @@ exit-tokens : (x : Exit) → IsExit x → AreTokens (exit_tokens x)
 exit-tokens (At a) h = (hex-atom a, tt)
 exit-tokens Ret h = (word-atom (codes "ret") refl, tt)
 
-def-tokens : (d : DefTree) → IsDef d → AreTokens (def_tokens d)
+pub def-tokens : (d : DefTree) → IsDef d → AreTokens (def_tokens d)
 def-tokens d h = (
   word-atom (codes "def") refl,
   tokens-append (address d.entry ++ (flat_map exit_tokens d.exits ++ Eol ∷ [])) (body_tokens d.body)

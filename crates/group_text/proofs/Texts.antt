@@ -67,13 +67,13 @@ pub record HeadFits (h : Head) : Type 0 where
 abbrev pub lines_of_head : Head → List Tok
 lines_of_head h = (Atom h.name ∷ Eol ∷ []) ++ (line (codes "regs") (flat_map number h.regs ∷ []) ++ (line (codes "mems") (number h.mems ∷ []) ++ line (codes "code") (flat_map range_tokens h.code ∷ [])))
 
-abbrev Regs : Type 0
+abbrev pub Regs : Type 0
 Regs = Unit {0} × (List ℕ × Unit {0})
 
-abbrev Mems : Type 0
+abbrev pub Mems : Type 0
 Mems = Unit {0} × (ℕ × Unit {0})
 
-abbrev CodeRow : Type 0
+abbrev pub CodeRow : Type 0
 CodeRow = Unit {0} × (List Range × Unit {0})
 
 abbrev HeadParts : Type 0
@@ -82,13 +82,13 @@ HeadParts = (List ℕ × Unit {0}) × (Regs × (Mems × CodeRow))
 abbrev NameFits : List ℕ × Unit {0} → Type 0
 NameFits p = IsName p.0 × Always p.1
 
-abbrev RegsFit : Regs → Type 0
+abbrev pub RegsFit : Regs → Type 0
 RegsFit p = Always p.0 × (AreRegistersFrom 1 p.1.0 × Always p.1.1)
 
-abbrev MemsFit : Mems → Type 0
+abbrev pub MemsFit : Mems → Type 0
 MemsFit p = Always p.0 × ((p.1.0 < 2) × Always p.1.1)
 
-abbrev CodeFits : CodeRow → Type 0
+abbrev pub CodeFits : CodeRow → Type 0
 CodeFits p = Always p.0 × (IsCode p.1.0 × Always p.1.1)
 
 abbrev HeadPartsFit : HeadParts → Type 0
@@ -97,26 +97,26 @@ HeadPartsFit p = NameFits p.0 × (RegsFit p.1.0 × (MemsFit p.1.1.0 × CodeFits 
 abbrev name_tokens : List ℕ × Unit {0} → List Tok
 name_tokens p = (Atom p.0 ∷ []) ++ Eol ∷ []
 
-abbrev regs_tokens : Regs → List Tok
+abbrev pub regs_tokens : Regs → List Tok
 regs_tokens p = line (codes "regs") (flat_map number p.1.0 ∷ [])
 
-abbrev mems_tokens : Mems → List Tok
+abbrev pub mems_tokens : Mems → List Tok
 mems_tokens p = line (codes "mems") (number p.1.0 ∷ [])
 
-abbrev code_tokens : CodeRow → List Tok
+abbrev pub code_tokens : CodeRow → List Tok
 code_tokens p = line (codes "code") (flat_map range_tokens p.1.0 ∷ [])
 
 name-cover : Covers (pair (one (atom_of name_of)) eol) NameFits name_tokens
 name-cover = row-covers (pair (one (atom_of name_of)) eol) NameFits name_tokens (row-law (one (atom_of name_of)) IsName (λ a. Atom a ∷ []) group-name-law (λ a h. atom-flat a)) (λ p h. refl)
     (codes "f", tt) ((word-atom (codes "f") refl, omega arith), tt)
 
-regs-cover : Covers regs_row RegsFit regs_tokens
+pub regs-cover : Covers regs_row RegsFit regs_tokens
 regs-cover = row-covers regs_row RegsFit regs_tokens regs-law (λ p h. ends-eol (Atom (codes "regs")) (flat_map number p.1.0)) (tt, ([], tt)) (tt, (tt, tt))
 
-mems-cover : Covers mems_row MemsFit mems_tokens
+pub mems-cover : Covers mems_row MemsFit mems_tokens
 mems-cover = row-covers mems_row MemsFit mems_tokens mems-law (λ p h. refl) (tt, (0, tt)) (tt, (omega arith, tt))
 
-code-cover : Covers code_row CodeFits code_tokens
+pub code-cover : Covers code_row CodeFits code_tokens
 code-cover = row-covers code_row CodeFits code_tokens code-law (λ p h. ends-eol (Atom (codes "code")) (flat_map range_tokens p.1.0)) (tt, ([], tt)) (tt, ((tt, tt), tt))
 
 head-parts : Covers (pair (pair (one (atom_of name_of)) eol) (pair regs_row (pair mems_row code_row))) HeadPartsFit (λ p. name_tokens p.0 ++ (regs_tokens p.1.0 ++ (mems_tokens p.1.1.0 ++ code_tokens p.1.1.1)))

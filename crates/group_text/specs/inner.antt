@@ -6,3 +6,4 @@ pub mod RowReader
 pub mod TextRows
 pub mod BodyRows
 pub mod GroupRows
+pub mod Rest

@@ -37,7 +37,7 @@ fn read_def<E, R: Rows<E>>(alloc: Global, rows: &mut R, from: &mut E) -> Result<
 }
 
 /// The definitions of a group, as many as follow. There is at least one.
-fn read_defs<E, R: Rows<E>>(alloc: Global, rows: &mut R, from: &mut E) -> Result<List<Def>, Halt>
+pub fn read_defs<E, R: Rows<E>>(alloc: Global, rows: &mut R, from: &mut E) -> Result<List<Def>, Halt>
     ensures gives { RowsGive (λ defs. map def_tree defs) result (R.May rows.old from.old) (R.May rows.new from.new) own_defs }
     ensures left { R.left rows.new ≤ R.left rows.old }
 {
@@ -58,7 +58,7 @@ fn read_defs<E, R: Rows<E>>(alloc: Global, rows: &mut R, from: &mut E) -> Result
 }
 
 /// What stands before the definitions, after the name.
-fn read_head<E, R: Rows<E>>(
+pub fn read_head<E, R: Rows<E>>(
     alloc: Global,
     rows: &mut R,
     from: &mut E,

@@ -153,7 +153,7 @@ fn are_atom_bytes(atom: &[u8]) -> bool
 
 /// The name of a group.
 #[tactic(auto, unfolding(mc_text::specs::Reading::one, crate::specs::inner::Reading::name_of))]
-fn read_name<'a>(alloc: Global, scan: &mut Scan<'a>) -> Result<Text, Stop>
+pub fn read_name<'a>(alloc: Global, scan: &mut Scan<'a>) -> Result<Text, Stop>
     ensures gives { Gives (λ name. name) result scan.old scan.new (one (atom_of name_of)) }
     ensures last { last_line scan.new ≡ last_line scan.old }
 {

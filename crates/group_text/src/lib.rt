@@ -14,12 +14,15 @@ mod stop;
 mod text_rows;
 
 pub use body_rows::read_index;
-pub use group::read_turn;
-pub use heads::{has_atom, ranges_rise, read_register};
+pub use group::{read_defs, read_head, read_turn};
+pub use heads::{Head, has_atom, ranges_rise, read_name, read_register};
 pub use laws::{law_of_faults, law_of_parts};
-pub use lines::whole_lines;
-pub use next_rows::{ReadRow, RowStart, next_row, row_begins};
-pub use put::{put_end, put_group, put_head, put_mems, put_ranges, put_values};
+pub use lines::{is_end, whole_lines};
+pub use next_rows::{MarkRow, ReadRow, RowStart, next_row, row_begins};
+pub use put::{
+    put_bare_line, put_defs, put_end, put_group, put_group_lines, put_head, put_mems, put_ranges,
+    put_values,
+};
 pub use rows::Rows;
-pub use stop::{Halt, Lost};
+pub use stop::{Halt, Lost, TextFault};
 pub use text_rows::TextRows;

@@ -61,7 +61,7 @@ pub fn put_end(out: &mut Bytes) -> Result<(), NoMemory>
     Ok(())
 }
 
-fn put_group_lines(pen: &mut Pen<'_>, g: &Group) -> Result<(), NoMemory>
+pub fn put_group_lines(pen: &mut Pen<'_>, g: &Group) -> Result<(), NoMemory>
     ensures ok { OnOk result (page pen.new ≡ print (group_tokens (group_tree g.now)) (page pen.old)) }
     ensures kept { Keeps (page pen.old) (page pen.new) }
 {
@@ -136,7 +136,7 @@ pub fn put_ranges(pen: &mut Pen<'_>, ranges: &[Range]) -> Result<(), NoMemory>
 }
 
 /// Prints the definitions' first lines and bodies.
-fn put_defs(pen: &mut Pen<'_>, defs: &[Def]) -> Result<(), NoMemory>
+pub fn put_defs(pen: &mut Pen<'_>, defs: &[Def]) -> Result<(), NoMemory>
     ensures ok { OnOk result (page pen.new ≡ print (flat_map def_tokens (map def_tree defs.now)) (page pen.old)) }
     ensures kept { Keeps (page pen.old) (page pen.new) }
 {
@@ -313,7 +313,7 @@ pub fn put_mems(pen: &mut Pen<'_>, terms: &[Mem]) -> Result<(), NoMemory>
 }
 
 /// Prints a line of one word.
-fn put_bare_line(pen: &mut Pen<'_>, word: &[u8]) -> Result<(), NoMemory>
+pub fn put_bare_line(pen: &mut Pen<'_>, word: &[u8]) -> Result<(), NoMemory>
     ensures ok { OnOk result (page pen.new ≡ print (line word.now []) (page pen.old)) }
     ensures kept { Keeps (page pen.old) (page pen.new) }
 {

@@ -16,6 +16,14 @@ pub enum Lost {
     NoMemory,
 }
 
+/// Why a text, or what is next in it, can't be read.
+#[derive(Clone, Copy, Debug, PartialEq, Eq)]
+pub enum TextFault {
+    /// The number of the first line that is missing or with which no text goes on.
+    Bad(u64),
+    NoMemory,
+}
+
 /// Why reading stopped.
 #[derive(Clone, Copy, Debug, PartialEq, Eq)]
 pub enum Halt {

@@ -14,8 +14,8 @@ use Rattle.proof_text.specs.Line.{LineTree, ProofTree, line_tree}
 use Rattle.proof_text.specs.Proofs.{bare, groups_of, texts_of_proofs}
 use Rattle.proof_text.specs.FirstProofs.{Progress, ItemTree, Opens, Adds, items, passed, with_line, HasGiven, ProofEnds, MayOpen, AreRead, BeginsWithItems}
 use Rattle.proof_text.specs.Answers.{NoItem, OnBad}
-use Rattle.proof_text.specs.declared.reader.TextFault.{TextFault}
-use Rattle.proof_text.specs.declared.reader.TextFault.TheVariants.{Bad, NoMemory}
+use Rattle.group_text.specs.declared.stop.TextFault.{TextFault}
+use Rattle.group_text.specs.declared.stop.TextFault.TheVariants.{Bad, NoMemory}
 use Rattle.proof_text.proofs.TextItems.{items-opened, items-added}
 use Rattle.proof_text.proofs.Fronts.{fronts, front-read, few-read, given-read}
 use Rattle.mcdec_commands.specs.declared.evaluate.Refusal.{Refusal}

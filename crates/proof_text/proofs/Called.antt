@@ -21,7 +21,7 @@ use Rattle.proof_text.specs.Proofs.{bare, texts_of_proofs, text_of_proofs}
 use Rattle.proof_text.specs.FirstProofs.{Progress, ItemTree, Opens, Adds, items, with_line, ProofEnds, MayOpen, HasGiven}
 use Rattle.proof_text.specs.Answers.{NoItem}
 use Rattle.group_text.specs.inner.Cut.{AreWholeLines, drop_lines}
-use Rattle.proof_text.specs.inner.Rest.{GoesOn, is_done}
+use Rattle.group_text.specs.inner.Rest.{GoesOn, is_done}
 use Rattle.group_text.specs.inner.Reading.{is_def, turn_at}
 use Rattle.proof_text.specs.inner.LineReading.{begins_line, ends_proof, proofs_text_at, turn_of}
 use Rattle.group_text.proofs.HeadLaws.{IsCode}

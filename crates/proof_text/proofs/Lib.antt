@@ -14,5 +14,4 @@ pub mod Following
 pub mod Given
 pub mod Fronts
 pub mod Called
-pub mod Claims
 pub mod LineJoins

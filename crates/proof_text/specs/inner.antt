@@ -1,4 +1,3 @@
 pub mod LineReading
 pub mod Subs
-pub mod Rest
 pub mod OwnCode

@@ -1,9 +1,7 @@
 //! Reading a text, one group or line a call.
 
-ghost use Rattle.std.specs.Prelude.{◌≡◌, ◌<◌, ◌↔◌, ◌∷◌, ◌++◌, [], List as Items, OnErr, false, length, true};
-ghost use Rattle.mc_text.specs.declared.token.Before.TheVariants.{Start};
+ghost use Rattle.std.specs.Prelude.{◌≡◌, ◌<◌, ◌↔◌, ◌∷◌, ◌++◌, [], List as Items, OnErr, length};
 ghost use Rattle.mc_text.specs.Fault.{IsBadAt};
-ghost use Rattle.mc_text.specs.Scanning.{lex, At};
 ghost use Rattle.tailrec_lang.specs.Eval.{HasFewNeeds};
 ghost use Rattle.tailrec_lang.specs.Tree.{group_tree};
 ghost use Rattle.group_text.specs.Limits.{IsGroup};
@@ -12,22 +10,13 @@ ghost use Rattle.proof_text.specs.LineLimits.{IsLine};
 ghost use Rattle.proof_text.specs.Proofs.{bare, text_of_proofs, texts_of_proofs};
 ghost use Rattle.proof_text.specs.FirstProofs.{HasGiven, MayOpen, ProofEnds, with_line};
 ghost use Rattle.proof_text.specs.Answers.{IsEnd, NoItem, OnBad, OnEnd, OnGiven};
-ghost use Rattle.proof_text.specs.inner.Rest.{GoesOn};
 
 use crate::line::Line;
 use crate::proof_lines::read_turn as read_line_turn;
-use group_text::{Halt, Rows, TextRows, read_turn, whole_lines};
+use group_text::{Halt, Rows, TextFault, TextRows, is_end, read_turn, whole_lines};
 use std::alloc::Global;
 use std::marker::Model;
 use tailrec_lang::Group;
-
-/// Why there is no further group or line.
-#[derive(Clone, Copy, Debug, PartialEq, Eq)]
-pub enum TextFault {
-    /// The number of the first line that is missing or with which no text goes on.
-    Bad(u64),
-    NoMemory,
-}
 
 /// Goes over the groups of a text and the lines of their proofs.
 #[derive(Debug, Drop)]
@@ -136,12 +125,4 @@ impl<'a> Reader<'a> {
     {
         self.place
     }
-}
-
-/// Whether the text ends here, with no bytes after its last line.
-fn is_end(rest: &[u8], tail: &[u8]) -> bool
-    ensures end { result ≡ true → (rest.now ≡ []) × (tail.now ≡ []) }
-    ensures more { result ≡ false → GoesOn (lex rest.now (At Start)) tail.now }
-{
-    rest.is_empty() && tail.is_empty()
 }

@@ -8,9 +8,9 @@ use Rattle.proof_text.specs.Line.{ProofTree}
 use Rattle.proof_text.specs.Proofs.{text_of_proofs, texts_of_proofs}
 use Rattle.proof_text.specs.FirstProofs.{HasGiven, MayOpen}
 use Rattle.proof_text.specs.Answers.{OnEnd, OnBad, NoItem}
-use Rattle.proof_text.specs.inner.Rest.{GoesOn}
+use Rattle.group_text.specs.inner.Rest.{GoesOn}
 use Rattle.group_text.specs.inner.Reading.{turn_at}
-use Rattle.proof_text.proofs.Claims.{told-ok, told-bad, found-was, bad-was, nothing-left}
+use Rattle.group_text.proofs.Claims.{told-ok, told-bad, found-was, bad-was, nothing-left}
 use Rattle.proof_text.proofs.Called.{line-small, group-bad, group-none, called-end, called-more, end-none, group-fits, group-needs, group-place, group-lines, group-given, group-less}
 use Rattle.proof_text.proofs.reader.Reader.group.Goals as goal
 use Rattle.proof_text.proofs.reader.Reader.group.Goals.{then-is_end, else-is_end}

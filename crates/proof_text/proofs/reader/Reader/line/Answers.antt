@@ -8,7 +8,7 @@ use Rattle.proof_text.specs.declared.line.Line.{Line}
 use Rattle.proof_text.specs.Line.{line_tree}
 use Rattle.group_text.specs.inner.Rows.{tokens}
 use Rattle.proof_text.specs.inner.LineReading.{ends_proof, turn_of}
-use Rattle.proof_text.proofs.Claims.{told-ok, told-bad, told-lost, found-was, bad-was, lost-was, fault-not-bad, memory-not-bad}
+use Rattle.group_text.proofs.Claims.{told-ok, told-bad, told-lost, found-was, bad-was, lost-was, fault-not-bad, memory-not-bad}
 use Rattle.proof_text.proofs.Called.{line-small, line-bad, line-none, line-fits, line-place, line-lines, line-given, line-less, lines-ended, not-ended, not-stopped, not-lost}
 use Rattle.proof_text.proofs.reader.Reader.line.Goals as goal
 

@@ -10,7 +10,7 @@ use Rattle.mc_text.specs.Reading.{Reader, goes_on}
 use Rattle.group_text.specs.declared.stop.Halt.{Halt}
 use Rattle.group_text.specs.declared.stop.Halt.TheVariants as halt
 use Rattle.group_text.specs.inner.Cut.{drop_lines}
-use Rattle.proof_text.specs.inner.Rest.{GoesOn, is_done}
+use Rattle.group_text.specs.inner.Rest.{GoesOn, is_done}
 use Rattle.group_text.specs.inner.Rows.{OnLost, Spot, Spots, tokens, total, RowsGive}
 use Rattle.group_text.specs.inner.TextRows.{TextSpot}
 use Rattle.group_text.proofs.Joins.{AllOk, AllBad}
