@@ -6,8 +6,8 @@ use Rattle.flow_graph.specs.Graph.{GraphOf, HasEdge, IsFlow}
 use Rattle.flow_graph.specs.Walks.{Way, Stop, Leave}
 use Rattle.flow_graph.proofs.Ways.{node_at}
 use Rattle.loop_forest.specs.Loops.{IsBackEdge, InLoop, AtHead, Inside, IsExit, IsSettled}
-use Rattle.loop_forest.specs.Regions.{HasManyExits, exit_limit}
-use Rattle.loop_forest.proofs.Falling.{back_iff}
+use Rattle.loop_forest.specs.Regions.{HasManyExits, loop_exit_limit}
+use Rattle.loop_forest.proofs.BackEdgeLemmas.{back_iff}
 use Rattle.code_gen.specs.Pieces.{Pieces}
 use Rattle.code_gen.proofs.SizeLemmas.{count}
 use Rattle.code_flow.proofs.Edges.{Edge, Back, back-within, edge-forth, enters-at-head, stays-inside, leaves-at-end, one-back}
@@ -159,7 +159,7 @@ few-exits p g place l h m =
     let u : ℕ = m.head.source in
     let b = m.head.back in
     let o : Loop p g place u h = record { laid = l; back = b; is = back-of p g place l u h b; source = l.flow.source u h b.edge; head = l.flow.within u h b.edge } in
-    let many : exit_limit < length m.over.some = m.over.over in
+    let many : loop_exit_limit < length m.over.some = m.over.over in
     let first = one-exit p g place u h (slice_index m.over.some 0) o (m.over.exits (slice_index m.over.some 0) (node_at m.over.some 0 (omega (arith, many)))) in
     let second = one-exit p g place u h (slice_index m.over.some 1) o (m.over.exits (slice_index m.over.some 1) (node_at m.over.some 1 (omega (arith, many)))) in
     m.over.different 0 1 (omega arith) (omega (arith, many))

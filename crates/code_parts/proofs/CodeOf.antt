@@ -9,7 +9,7 @@ use Rattle.rvc.specs.Number.{bytes_of}
 use Rattle.rvc.proofs.ByteLemmas.{number-bytes}
 use Rattle.flow_graph.specs.Graph.{GraphOf}
 use Rattle.code_parts.specs.Flows.{AreCodeOf, HaveCode, IsReached}
-use Rattle.code_parts.proofs.Coded.{number-there}
+use Rattle.code_parts.proofs.GraphCode.{number-there}
 
 byte_here : (a k b : ℕ) (bs : List ℕ) → slice_get bs k ≡ Some b → option_or (bytes_from a bs (a + k)) None ≡ Some b
 byte_here a k b bs e =

@@ -3,7 +3,7 @@ use Rattle.std.proofs.Common.{◌≡◌, ℕ, suc, List, [], ◌∷◌, ◌++◌
 use Rattle.word_terms.specs.Tree.{CondTree}
 use Rattle.tailrec_lang.specs.Tree.{StepTree, Bind, BindMem, Need}
 use Rattle.tailrec_lang.specs.WellFormed.{words_after, mems_after}
-use Rattle.code_parts.specs.Bodies.{Place, names, is_store, stored, place_after, needs, writes}
+use Rattle.code_parts.specs.Bodies.{VariableMap, names, is_store, stored, place_after, needs, writes}
 use Rattle.rv_decode.specs.declared.instruction.Instr.{Instr}
 use Rattle.rv_decode.specs.declared.instruction.Instr.TheVariants as instr
 use Rattle.triple_kernel.specs.declared.form.Form.TheVariants.{Next}
@@ -34,7 +34,7 @@ pub need-mems : (cs : List CondTree) (mems : ℕ) → all_mems_after (map Need c
 need-mems [] mems = refl
 need-mems (c ∷ cs) mems = need-mems cs mems
 
-write-words : (i : Instr) (a k : ℕ) (v : Place) → all_words_after (writes i a k v) v.words ≡ (place_after i v).words
+write-words : (i : Instr) (a k : ℕ) (v : VariableMap) → all_words_after (writes i a k v) v.words ≡ (place_after i v).words
 write-words i a k v = go (is_store i) (eqb (destination i) 0)
   where
     go : (s d : Bool) → all_words_after (cond s (BindMem (memory_after i (names v)) ∷ []) (cond d [] (Bind (result i a k (names v)) ∷ []))) v.words
@@ -43,7 +43,7 @@ write-words i a k v = go (is_store i) (eqb (destination i) 0)
     go false true = refl
     go false false = omega arith
 
-write-mems : (i : Instr) (a k : ℕ) (v : Place) → all_mems_after (writes i a k v) v.mems ≡ (place_after i v).mems
+write-mems : (i : Instr) (a k : ℕ) (v : VariableMap) → all_mems_after (writes i a k v) v.mems ≡ (place_after i v).mems
 write-mems i a k v = go (is_store i) (eqb (destination i) 0)
   where
     go : (s d : Bool) → all_mems_after (cond s (BindMem (memory_after i (names v)) ∷ []) (cond d [] (Bind (result i a k (names v)) ∷ []))) v.mems
@@ -52,12 +52,12 @@ write-mems i a k v = go (is_store i) (eqb (destination i) 0)
     go false true = refl
     go false false = refl
 
-pub all-words : (i : Instr) (a k : ℕ) (v : Place) → all_words_after (needs i v ++ writes i a k v) v.words ≡ (place_after i v).words
+pub all-words : (i : Instr) (a k : ℕ) (v : VariableMap) → all_words_after (needs i v ++ writes i a k v) v.words ≡ (place_after i v).words
 all-words i a k v =
     let cs : List CondTree = conditions i Next (names v) in
     words-append (map Need cs) (writes i a k v) v.words ∙ (λ j. all_words_after (writes i a k v) (need-words cs v.words j)) ∙ write-words i a k v
 
-pub all-mems : (i : Instr) (a k : ℕ) (v : Place) → all_mems_after (needs i v ++ writes i a k v) v.mems ≡ (place_after i v).mems
+pub all-mems : (i : Instr) (a k : ℕ) (v : VariableMap) → all_mems_after (needs i v ++ writes i a k v) v.mems ≡ (place_after i v).mems
 all-mems i a k v =
     let cs : List CondTree = conditions i Next (names v) in
     mems-append (map Need cs) (writes i a k v) v.mems ∙ (λ j. all_mems_after (writes i a k v) (need-mems cs v.mems j)) ∙ write-mems i a k v

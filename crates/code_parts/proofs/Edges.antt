@@ -8,7 +8,7 @@ use Rattle.triple_kernel.specs.declared.form.Form.{Form}
 use Rattle.triple_kernel.specs.declared.form.Form.TheVariants.{Next, Taken}
 use Rattle.code_parts.specs.declared.part.Part.{Part}
 use Rattle.code_parts.specs.declared.part.Part.TheVariants.{Loop, Rest}
-use Rattle.code_parts.specs.Bodies.{Flow, Place, Action, Straight, Fork, Return, action_of, own, rest_targets, index_of, end_of}
+use Rattle.code_parts.specs.Bodies.{Flow, VariableMap, Action, Straight, Fork, Return, action_of, own, rest_targets, index_of, end_of}
 use Rattle.code_parts.specs.Graph.{has_edge, is_return}
 
 -- ---- edges of actions
@@ -18,7 +18,7 @@ Leads (Straight ss u to) m = to ≡ m
 Leads (Fork c a b) m = (a ≡ m) ⊎ (b ≡ m)
 Leads (Return ss t) m = ⊥
 
-pub leads-edge : (i : Instr) (a k : ℕ) (to : Form → ℕ) (v : Place) (m : ℕ) → Leads (action_of i a k to v) m → (form : Form) × (has_edge i form ≡ true) × (to form ≡ m)
+pub leads-edge : (i : Instr) (a k : ℕ) (to : Form → ℕ) (v : VariableMap) (m : ℕ) → Leads (action_of i a k to v) m → (form : Form) × (has_edge i form ≡ true) × (to form ≡ m)
 leads-edge (instr.Op o rd rs1 rs2) a k to v m h = (Next, refl, h)
 leads-edge (instr.OpImm o rd rs1 imm) a k to v m h = (Next, refl, h)
 leads-edge (instr.Lui rd imm) a k to v m h = (Next, refl, h)
@@ -38,7 +38,7 @@ Returns (Straight ss u to) = ⊥
 Returns (Fork c a b) = ⊥
 Returns (Return ss t) = Unit {0}
 
-pub returns-is : (i : Instr) (a k : ℕ) (to : Form → ℕ) (v : Place) → Returns (action_of i a k to v) → is_return i ≡ true
+pub returns-is : (i : Instr) (a k : ℕ) (to : Form → ℕ) (v : VariableMap) → Returns (action_of i a k to v) → is_return i ≡ true
 returns-is (instr.Op o rd rs1 rs2) a k to v h = absurd h
 returns-is (instr.OpImm o rd rs1 imm) a k to v h = absurd h
 returns-is (instr.Lui rd imm) a k to v h = absurd h

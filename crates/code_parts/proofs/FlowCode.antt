@@ -26,7 +26,7 @@ use Rattle.flow_graph.specs.Flow.{StandsIn, admitted, is_zero, targets}
 use Rattle.flow_graph.specs.Graph.{GraphOf, IsGraphOf}
 use Rattle.flow_graph.proofs.FlowLemmas.{is_flow}
 use Rattle.flow_graph.proofs.ExactLemmas.{graph_numbers}
-use Rattle.flow_graph.proofs.Standing.{graph_stands, through_return}
+use Rattle.flow_graph.proofs.InstructionLemmas.{graph_stands, through_return}
 use Rattle.loop_forest.specs.Forest.{ForestOf, IsForestOf}
 use Rattle.code_parts.specs.declared.part.Part.{Part}
 use Rattle.tailrec_lang.specs.Registers.{AreRegistersFrom}

@@ -12,7 +12,7 @@ use Rattle.loop_forest.specs.Forest.{ForestOf, IsForestOf, exits_of, head_of, nu
 use Rattle.loop_forest.specs.Walking.{IsPlacedIn, inner_of, first_of, loop_of}
 use Rattle.code_parts.specs.declared.part.Part.{Part}
 use Rattle.code_parts.specs.declared.part.Part.TheVariants.{Loop, Rest}
-use Rattle.code_parts.specs.Bodies.{size, Flow, Place, Action, Straight, Fork, Return, action, action_body, arms_over, body_at, current, end_at, end_of, first, fresh, index_of, last_at, or_else, own, part_body, rest_arms, rest_body, rest_from, rest_targets, start, with_pc}
+use Rattle.code_parts.specs.Bodies.{size, Flow, VariableMap, Action, Straight, Fork, Return, action, action_body, arms_over, body_at, current, end_at, end_of, first, fresh, index_of, last_at, or_else, own, part_body, rest_arms, rest_body, rest_from, rest_targets, start, with_pc}
 use Rattle.code_parts.specs.Graph.{ArmsBelow, CallsBelow, IsPart, IsPlaced}
 use Rattle.code_parts.specs.Flows.{flow_of, place_in, same_part, same_region}
 use Rattle.code_parts.specs.Order.{AreParts, StandsBefore, weight}
@@ -168,7 +168,7 @@ module _ (d : ℕ) where
       by false None g = g refl
       by false (Some k) g = tt
 
-  rest-arms-below : (f : Flow) (p : Part) (r : Option ℕ) (v : Place) → ArmsBelow d (rest_arms f p r v)
+  rest-arms-below : (f : Flow) (p : Part) (r : Option ℕ) (v : VariableMap) → ArmsBelow d (rest_arms f p r v)
   rest-arms-below f p None v = by f.returns
     where
       by : (t : Bool) → ArmsBelow d (cond t (Arm (Leave 0 (with_pc (Var v.words) (current f (fresh f (suc v.words) v.mems)))) NoArm) NoArm)
@@ -176,7 +176,7 @@ module _ (d : ℕ) where
       by false = tt
   rest-arms-below f p (Some l) v = arms-below (rest_targets f (Some l)) (λ x. last_at f p x (fresh f v.words v.mems)) (λ k x e. end-below f p x (current f (fresh f v.words v.mems)) (Leave 0 (current f (fresh f v.words v.mems))) (λ none. tt))
 
-  cut-below : (f : Flow) (p : Part) (n : ℕ) (v : Place) → IsPlaced f (own p) n → (f.around n ≡ own p → f.number (rest_from f n) < d) → CallsBelow d (end_at f p n v)
+  cut-below : (f : Flow) (p : Part) (n : ℕ) (v : VariableMap) → IsPlaced f (own p) n → (f.around n ≡ own p → f.number (rest_from f n) < d) → CallsBelow d (end_at f p n v)
   cut-below f p n v placed less =
       end-below f p n (current f v) (Call (f.number (rest_from f n)) (current f v) (rest_arms f p (f.around n) v)) (λ none. (less (inside placed none), rest-arms-below f p (f.around n) v))
     where
@@ -206,12 +206,12 @@ module _ (code : Bytes) (entry : ℕ) (g : GraphOf) (f : ForestOf) (parts : List
 
   module _ (p : Part) (there : IsPart (flow_of g f parts) p) where
     abbrev FromNode : ℕ → Type 0
-    FromNode b = (n : ℕ) (v : Place) → n < length g.addrs → inner_of f n ≡ own p → left n ≤ left (first_node p) → CallsBelow (place_in parts p) (body_at b the_flow p n v)
+    FromNode b = (n : ℕ) (v : VariableMap) → n < length g.addrs → inner_of f n ≡ own p → left n ≤ left (first_node p) → CallsBelow (place_in parts p) (body_at b the_flow p n v)
 
     within : (n : ℕ) → n < length g.addrs → inner_of f n ≡ own p → (l : ℕ) → own p ≡ Some l → l < length f.heads
     within n node region l e = inner-numbered code entry g f parts graph forest n l node (region ∙ e)
 
-    arrives : (b : ℕ) → FromNode b → (n : ℕ) (w : Place) → n < length g.addrs → inner_of f n ≡ own p → left n ≤ left (first_node p) → (m : ℕ) → Leads (action the_flow n w) m → (v : Place)
+    arrives : (b : ℕ) → FromNode b → (n : ℕ) (w : VariableMap) → n < length g.addrs → inner_of f n ≡ own p → left n ≤ left (first_node p) → (m : ℕ) → Leads (action the_flow n w) m → (v : VariableMap)
         → CallsBelow (place_in parts p) (cond (eqb (place_of f m) 0) (end_at the_flow p m v) (body_at b the_flow p m v))
     arrives b on n w node region near m leads v = by (eqb (place_of f m) 0) refl
       where
@@ -233,7 +233,7 @@ module _ (code : Bytes) (entry : ℕ) (g : GraphOf) (f : ForestOf) (parts : List
             let less = (walks code entry g f parts graph forest).falls n m step apart in
             on m v inside ((walks code entry g f parts graph forest).stays n m step apart ∙ region) (omega (arith, less, near))
 
-    acts : (b : ℕ) → FromNode b → (n : ℕ) (v : Place) → n < length g.addrs → inner_of f n ≡ own p → left n ≤ left (first_node p) → (y : Action) → action the_flow n v ≡ y
+    acts : (b : ℕ) → FromNode b → (n : ℕ) (v : VariableMap) → n < length g.addrs → inner_of f n ≡ own p → left n ≤ left (first_node p) → (y : Action) → action the_flow n v ≡ y
         → CallsBelow (place_in parts p) (action_body the_flow p y v (body_at b the_flow p))
     acts b on n v node region near (Straight ss w to) is =
         steps-below (place_in parts p) ss (cond (eqb (place_of f to) 0) (end_at the_flow p to w) (body_at b the_flow p to w)) (arrives b on n v node region near to (subst (λ y. Leads y to) (sym is) refl) w)

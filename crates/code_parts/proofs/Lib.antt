@@ -1,7 +1,7 @@
 pub mod AnyOf
-pub mod Built
+pub mod BuiltBodies
 pub mod CodeOf
-pub mod Coded
+pub mod GraphCode
 pub mod Counts
 pub mod Edges
 pub mod Examples
@@ -13,10 +13,10 @@ pub mod FlowOne
 pub mod FlowOrder
 pub mod FlowSize
 pub mod Groups
-pub mod InScope
+pub mod VariableScope
 pub mod Lists
-pub mod Places
-pub mod Ranking
+pub mod VariableMaps
+pub mod PartOrder
 pub mod Registers
 pub mod Settings
 pub mod WellFormed

@@ -15,7 +15,7 @@ use Rattle.rvc.proofs.NumberLemmas.{instruction-named, number_in-is}
 use Rattle.triple_kernel.specs.declared.form.Form.{Form}
 use Rattle.flow_graph.specs.Graph.{GraphOf, succs_of}
 use Rattle.flow_graph.proofs.FlowLemmas.{is_flow}
-use Rattle.flow_graph.proofs.Standing.{graph_stands}
+use Rattle.flow_graph.proofs.InstructionLemmas.{graph_stands}
 use Rattle.flow_graph.proofs.Ways.{node_at}
 use Rattle.loop_forest.specs.Forest.{ForestOf, IsForestOf, exits_of, head_of}
 use Rattle.loop_forest.specs.Walking.{index_in}

@@ -18,12 +18,12 @@ use Rattle.rv_decode.specs.Registers.{sources}
 use Rattle.instr_axioms.specs.Terms.{has_memory, conditions}
 use Rattle.code_parts.specs.declared.part.Part.{Part}
 use Rattle.code_parts.specs.declared.part.Part.TheVariants.{Loop, Rest}
-use Rattle.code_parts.specs.Bodies.{Flow, Place, size, names, mem_count, current, fresh, start, with_pc, needs, writes, place_after, Action, Straight, Fork, Return, action_of, action, own, rest_targets, targets, returned, exits_of, rest_from, index_of, end_of, or_else, arms_over, last_at, rest_arms, end_at, action_body, body_at, rest_body, part_body}
+use Rattle.code_parts.specs.Bodies.{Flow, VariableMap, size, names, mem_count, current, fresh, start, with_pc, needs, writes, place_after, Action, Straight, Fork, Return, action_of, action, own, rest_targets, targets, returned, exits_of, rest_from, index_of, end_of, or_else, arms_over, last_at, rest_arms, end_at, action_body, body_at, rest_body, part_body}
 use Rattle.code_parts.specs.Graph.{IsEdge, IsPart, IsPlaced, IsGraph, IsCode, StandsAt, HasPart, CallsBelow, ArmsBelow}
 use Rattle.code_parts.proofs.Counts.{all_words_after, all_mems_after, all-words, all-mems, need-words, need-mems}
 use Rattle.code_parts.proofs.Lists.{index-at, index-some, slice-map}
 use Rattle.code_parts.proofs.Edges.{Leads, leads-edge, Returns, returns-is, end-some}
-use Rattle.code_parts.proofs.InScope.{IsIn, fresh-in, current-scope, current-counts, needs-in, source-in, first, writes-in, place-in}
+use Rattle.code_parts.proofs.VariableScope.{IsIn, fresh-in, current-scope, current-counts, needs-in, source-in, first, writes-in, place-in}
 
 the_ret : (f : Flow) (q : Part) → own q ≡ None → f.returns ≡ true → slice_get (exits_of f q) 0 ≡ Some Ret
 the_ret f (Loop l) e t = absurd (cc)
@@ -45,12 +45,12 @@ steps-formed g d [] b words mems h k = k
 steps-formed g d (s ∷ ss) b words mems h k = (h.0, steps-formed g d ss b (words_after s words) (mems_after s mems) h.1 k)
 
 -- what an action needs to be well-formed
-abbrev ActionInScope : Flow → Action → Place → Type 0
+abbrev ActionInScope : Flow → Action → VariableMap → Type 0
 ActionInScope f (Straight ss u to) v = StepsInScope ss v.words v.mems × (all_words_after ss v.words ≡ u.words) × (all_mems_after ss v.mems ≡ u.mems) × IsIn f u
 ActionInScope f (Fork c a b) v = CondInScope c v.words v.mems
 ActionInScope f (Return ss t) v = StepsInScope ss v.words v.mems × (all_words_after ss v.words ≡ v.words) × (all_mems_after ss v.mems ≡ v.mems) × WordInScope t v.words v.mems
 
-module _ (f : Flow) (ranges : List Range) (n : ℕ) (at : StandsAt f ranges n) (v : Place) (is : IsIn f v) where
+module _ (f : Flow) (ranges : List Range) (n : ℕ) (at : StandsAt f ranges n) (v : VariableMap) (is : IsIn f v) where
   straight : (i : Instr) → f.instr n ≡ i → (to : ℕ) → ActionInScope f (Straight (needs i v ++ writes i (f.addr n) (size f n) v) (place_after i v) to) v
   straight i e to =
       let reads = subst (λ j. (r : ℕ) → Contains (sources j) r → (r ≡ 0 → ⊥) → Contains f.regs r) e at.reads in
@@ -97,23 +97,23 @@ module _ (f : Flow) (g : GroupTree) (p : Part) (d : ℕ) (regs : g.regs ≡ f.re
   abbrev Formed : BodyTree → ℕ → ℕ → Type 0
   Formed = BodyIsWellFormed g d
 
-  counts : (v : Place) → HasCounts (current f v) (length g.regs) g.mems
+  counts : (v : VariableMap) → HasCounts (current f v) (length g.regs) g.mems
   counts v = let c = current-counts f v in (c.0 ∙ (λ i. length (sym regs i)), c.1 ∙ sym mems)
 
   same-counts : (b : BodyTree) (words more : ℕ) (q : ℕ) → Formed b (words + length f.regs) (q + mem_count f) → Formed b (words + exit_words g (At more)) (q + g.mems)
   same-counts b words more q h =
       subst (λ m. Formed b (words + length g.regs) (q + m)) (sym mems) (subst (λ rs. Formed b (words + length rs) (q + mem_count f)) (sym regs) h)
 
-  leave-formed : (n k : ℕ) (v : Place) → IsIn f v → slice_get (targets f p) k ≡ Some n → Formed (Leave k (current f v)) v.words v.mems
+  leave-formed : (n k : ℕ) (v : VariableMap) → IsIn f v → slice_get (targets f p) k ≡ Some n → Formed (Leave k (current f v)) v.words v.mems
   leave-formed n k v is at =
       let exit : slice_get (tree.exits_at g d) k ≡ Some (At (f.addr n)) = (λ i. slice_get (mine i) k) ∙ slice-map (λ n. At (f.addr n)) (returned f p) (targets f p) k n at in
       (subst (λ o. FitsExit g o (current f v)) (sym exit) (counts v), current-scope f v v.words v.mems is (omega arith) (omega arith))
 
-  some_leave : (n : ℕ) (v : Place) (b : BodyTree) → IsIn f v → (o : Option ℕ) → index_of (targets f p) n ≡ o → option_map (λ k. Leave k (current f v)) o ≡ Some b → Formed b v.words v.mems
+  some_leave : (n : ℕ) (v : VariableMap) (b : BodyTree) → IsIn f v → (o : Option ℕ) → index_of (targets f p) n ≡ o → option_map (λ k. Leave k (current f v)) o ≡ Some b → Formed b v.words v.mems
   some_leave n v b is None e h = absurd (cc)
   some_leave n v b is (Some k) e h = let same : Leave k (current f v) ≡ b = cc in subst (λ c. Formed c v.words v.mems) same (leave-formed n k v is (index-at (targets f p) n k e))
 
-  end_formed : (q : Part) → p ≡ q → (n : ℕ) (v : Place) (b : BodyTree) → IsIn f v → end_of f q n (current f v) ≡ Some b → Formed b v.words v.mems
+  end_formed : (q : Part) → p ≡ q → (n : ℕ) (v : VariableMap) (b : BodyTree) → IsIn f v → end_of f q n (current f v) ≡ Some b → Formed b v.words v.mems
   end_formed (Rest r c) e n v b is h = some_leave n v b is (index_of (rest_targets f r) n) (λ i. index_of (targets f (e i)) n) h
   end_formed (Loop l) e n v b is h = go (eqb n (f.head l)) h
     where
@@ -121,7 +121,7 @@ module _ (f : Flow) (g : GroupTree) (p : Part) (d : ℕ) (regs : g.regs ≡ f.re
       go true h = let same : Again (current f v) ≡ b = cc in subst (λ c. Formed c v.words v.mems) same (counts v, current-scope f v v.words v.mems is (omega arith) (omega arith))
       go false h = some_leave n v b is (index_of (f.exits l) n) (λ i. index_of (targets f (e i)) n) h
 
-  last_formed : (n k : ℕ) (v : Place) → IsIn f v → slice_get (rest_targets f (own p)) k ≡ Some n → Formed (last_at f p n v) v.words v.mems
+  last_formed : (n k : ℕ) (v : VariableMap) → IsIn f v → slice_get (rest_targets f (own p)) k ≡ Some n → Formed (last_at f p n v) v.words v.mems
   last_formed n k v is at = go (end_of f p n (current f v)) refl
     where
       go : (o : Option BodyTree) → end_of f p n (current f v) ≡ o → Formed (or_else o (Leave 0 (current f v))) v.words v.mems
@@ -136,7 +136,7 @@ module _ (f : Flow) (g : GroupTree) (p : Part) (d : ℕ) (regs : g.regs ≡ f.re
   callee-exits : (q : Part) → (there : IsPart f q) → tree.exits_at g (f.number q) ≡ exits_of f q
   callee-exits q there = exits_there g (f.number q) (has q there).def (has q there).is ∙ (has q there).exits
 
-  call_formed : (n : ℕ) → n < f.nodes → f.is_cut n ≡ true → (r : Option ℕ) → own p ≡ r → f.around n ≡ r → (v : Place) → IsIn f v → ArmsBelow d (rest_arms f p r v) →
+  call_formed : (n : ℕ) → n < f.nodes → f.is_cut n ≡ true → (r : Option ℕ) → own p ≡ r → f.around n ≡ r → (v : VariableMap) → IsIn f v → ArmsBelow d (rest_arms f p r v) →
       ArmsAreWellFormed g d (tree.exits_at g (f.number (rest_from f n))) (rest_arms f p r v) v.words v.mems
   call_formed n node cut (Some l) same there v is ok =
       let their : tree.exits_at g (f.number (rest_from f n)) ≡ map (λ n. At (f.addr n)) (rest_targets f (Some l)) ++ [] = callee-exits (rest_from f n) (node, cut, refl) ∙ (λ i. exits_of f (Rest (there i) n)) in
@@ -168,7 +168,7 @@ module _ (f : Flow) (g : GroupTree) (p : Part) (d : ℕ) (regs : g.regs ≡ f.re
             tt,
           )
 
-  at_formed : (n : ℕ) → n < f.nodes → f.is_cut n ≡ true → IsPlaced f (own p) n → (v : Place) → IsIn f v → CallsBelow d (end_at f p n v) → Formed (end_at f p n v) v.words v.mems
+  at_formed : (n : ℕ) → n < f.nodes → f.is_cut n ≡ true → IsPlaced f (own p) n → (v : VariableMap) → IsIn f v → CallsBelow d (end_at f p n v) → Formed (end_at f p n v) v.words v.mems
   at_formed n node cut placed v is ok = go (end_of f p n (current f v)) refl ok
     where
       rest : BodyTree
@@ -183,9 +183,9 @@ module _ (f : Flow) (g : GroupTree) (p : Part) (d : ℕ) (regs : g.regs ≡ f.re
       go (Some b) some ok = end_formed p refl n v b is some
 
   abbrev FormedFrom : ℕ → Type 0
-  FormedFrom room = (n : ℕ) → n < f.nodes → graph.inner n ≡ own p → graph.rank n < room → (v : Place) → IsIn f v → CallsBelow d (body_at room f p n v) → Formed (body_at room f p n v) v.words v.mems
+  FormedFrom room = (n : ℕ) → n < f.nodes → graph.inner n ≡ own p → graph.rank n < room → (v : VariableMap) → IsIn f v → CallsBelow d (body_at room f p n v) → Formed (body_at room f p n v) v.words v.mems
 
-  edge_formed : (room : ℕ) → FormedFrom room → (n : ℕ) → n < f.nodes → graph.inner n ≡ own p → graph.rank n < suc room → (m : ℕ) → IsEdge f n m → (v : Place) → IsIn f v →
+  edge_formed : (room : ℕ) → FormedFrom room → (n : ℕ) → n < f.nodes → graph.inner n ≡ own p → graph.rank n < suc room → (m : ℕ) → IsEdge f n m → (v : VariableMap) → IsIn f v →
       CallsBelow d (cond (f.is_cut m) (end_at f p m v) (body_at room f p m v)) → Formed (cond (f.is_cut m) (end_at f p m v) (body_at room f p m v)) v.words v.mems
   edge_formed room on n node region near m edge v is ok = go (f.is_cut m) refl ok
     where

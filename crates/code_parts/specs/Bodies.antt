@@ -43,14 +43,14 @@ pub record Flow : Type 0 where
 -- ---- variables
 
 -- how many variables are in scope, and which of them the registers and the memory are
-pub record Place : Type 0 where
+pub record VariableMap : Type 0 where
   pub words : ℕ
   pub mems : ℕ
   pub reg : ℕ → ℕ
   pub memory : ℕ
 
 -- these variables as names
-abbrev pub names : Place → Names
+abbrev pub names : VariableMap → Names
 names v = record { word = λ r. Var (v.reg r); memory = MemVar v.memory }
 
 -- how many memories the group has
@@ -58,7 +58,7 @@ abbrev pub mem_count : Flow → ℕ
 mem_count f = if f.has_mem then 1 else 0
 
 -- the next variables after the first `words` and the first `mems`, one for each register in order, and one for the memory
-abbrev pub fresh : Flow → ℕ → ℕ → Place
+abbrev pub fresh : Flow → ℕ → ℕ → VariableMap
 fresh f words mems = record {
   words = words + length f.regs;
   mems = mems + mem_count f;
@@ -67,11 +67,11 @@ fresh f words mems = record {
 }
 
 -- a definition begins with its parameters
-abbrev pub start : Flow → Place
+abbrev pub start : Flow → VariableMap
 start f = fresh f 0 0
 
 -- the group's registers and its memory, as values
-abbrev pub current : Flow → Place → ValuesTree
+abbrev pub current : Flow → VariableMap → ValuesTree
 current f v = record { words = map (λ r. Var (v.reg r)) f.regs; mems = memory_if f.has_mem (MemVar v.memory) }
 
 -- .. with a program counter in front
@@ -85,22 +85,22 @@ is_store (instr.Store w rs1 rs2 imm) = true
 is_store i = false
 
 -- after the register was written it is the next variable; x0 is never written
-abbrev pub wrote : ℕ → Place → Place
+abbrev pub wrote : ℕ → VariableMap → VariableMap
 wrote d v = if d == 0 then v else record { words = suc v.words; mems = v.mems; reg = λ r. if r == d then v.words else v.reg r; memory = v.memory }
 
 -- after a store the memory is the next memory variable
-abbrev pub stored : Place → Place
+abbrev pub stored : VariableMap → VariableMap
 stored v = record { words = v.words; mems = suc v.mems; reg = v.reg; memory = v.mems }
 
-abbrev pub place_after : Instr → Place → Place
+abbrev pub place_after : Instr → VariableMap → VariableMap
 place_after i v = if is_store i then stored v else wrote (destination i) v
 
 -- the conditions of its access
-abbrev pub needs : Instr → Place → List StepTree
+abbrev pub needs : Instr → VariableMap → List StepTree
 needs i v = map Need (conditions i Next (names v))
 
 -- what it writes
-abbrev pub writes : Instr → ℕ → ℕ → Place → List StepTree
+abbrev pub writes : Instr → ℕ → ℕ → VariableMap → List StepTree
 writes i a k v =
     if is_store i then BindMem (memory_after i (names v)) ∷ []
     else (if destination i == 0 then [] else Bind (result i a k (names v)) ∷ [])
@@ -108,12 +108,12 @@ writes i a k v =
 -- What a definition has for an instruction: steps, and the node where it goes on; two nodes, the first where the condition
 -- holds; or steps, and the address to which it returns.
 pub data Action : Type 0 where
-  Straight : (steps : List StepTree) (after : Place) (to : ℕ) → Action
+  Straight : (steps : List StepTree) (after : VariableMap) (to : ℕ) → Action
   Fork : (c : CondTree) (taken next : ℕ) → Action
   Return : (steps : List StepTree) (pc : WordTree) → Action
 
 -- the instruction of k bytes at a, which goes on to these nodes. Among jumps through a register there is the return alone.
-abbrev pub action_of : Instr → ℕ → ℕ → (Form → ℕ) → Place → Action
+abbrev pub action_of : Instr → ℕ → ℕ → (Form → ℕ) → VariableMap → Action
 action_of (instr.Branch c rs1 rs2 offset) a k to v = Fork (Compare c (word_in (names v) rs1) (word_in (names v) rs2)) (to Taken) (to Next)
 action_of (instr.Jalr rd rs1 imm) a k to v =
     Return (needs (instr.Jalr rd rs1 imm) v) (pc_after (instr.Jalr rd rs1 imm) Next a k (names v))
@@ -123,7 +123,7 @@ action_of i a k to v = Straight (needs i v ++ writes i a k v) (place_after i v) 
 abbrev pub size : Flow → ℕ → ℕ
 size f n = length_of (f.word n)
 
-abbrev pub action : Flow → ℕ → Place → Action
+abbrev pub action : Flow → ℕ → VariableMap → Action
 action f n v = action_of (f.instr n) (f.addr n) (size f n) (f.to n) v
 
 -- ---- parts
@@ -183,27 +183,27 @@ arms_over [] go = NoArm
 arms_over (x ∷ xs) go = Arm (go x) (arms_over xs go)
 
 -- the part ends at the node by itself
-abbrev pub last_at : Flow → Part → ℕ → Place → BodyTree
+abbrev pub last_at : Flow → Part → ℕ → VariableMap → BodyTree
 last_at f p n v = or_else (end_of f p n (current f v)) (Leave 0 (current f v))
 
 -- The arms of a call of the rest of a region. The part ends at each of its exits by itself, since it is of the same region.
-abbrev pub rest_arms : Flow → Part → Option ℕ → Place → ArmTrees
+abbrev pub rest_arms : Flow → Part → Option ℕ → VariableMap → ArmTrees
 rest_arms f p None v = if f.returns then Arm (Leave 0 (with_pc (Var v.words) (current f (fresh f (suc v.words) v.mems)))) NoArm else NoArm
 rest_arms f p (Some l) v = arms_over (rest_targets f (Some l)) (λ x. last_at f p x (fresh f v.words v.mems))
 
 -- at a cut: the part ends by itself, or it calls the rest from there on
-abbrev pub end_at : Flow → Part → ℕ → Place → BodyTree
+abbrev pub end_at : Flow → Part → ℕ → VariableMap → BodyTree
 end_at f p n v = or_else (end_of f p n (current f v)) (Call (f.number (rest_from f n)) (current f v) (rest_arms f p (f.around n) v))
 
 -- the body for an instruction, where `go` is the body from each node that is no cut
-abbrev pub action_body : Flow → Part → Action → Place → (ℕ → Place → BodyTree) → BodyTree
+abbrev pub action_body : Flow → Part → Action → VariableMap → (ℕ → VariableMap → BodyTree) → BodyTree
 action_body f p (Straight ss u to) v go = with_steps ss (if f.is_cut to then end_at f p to u else go to u)
 action_body f p (Fork c a b) v go = Branch c (if f.is_cut a then end_at f p a v else go a v) (if f.is_cut b then end_at f p b v else go b v)
 action_body f p (Return ss t) v go = with_steps ss (Leave 0 (with_pc t (current f v)))
 
 -- the body from a node on, which follows the branches to the next cuts. Fewer instructions than the first number stand
 -- between, so the first line of this is never met.
-abbrev pub body_at : ℕ → Flow → Part → ℕ → Place → BodyTree
+abbrev pub body_at : ℕ → Flow → Part → ℕ → VariableMap → BodyTree
 body_at zero f p n v = Leave 0 (current f v)
 body_at (suc room) f p n v = action_body f p (action f n v) v (body_at room f p)
 

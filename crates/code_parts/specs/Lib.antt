@@ -5,5 +5,5 @@ pub mod Order
 pub mod Regions
 pub mod Kept
 pub mod Low
-pub mod Places
+pub mod VariableMaps
 pub mod inner

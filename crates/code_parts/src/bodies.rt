@@ -8,14 +8,14 @@ ghost use Rattle.code_parts.specs.Graph.{IsPart};
 ghost use Rattle.code_parts.specs.Regions.{IsOfRegion};
 ghost use Rattle.code_parts.specs.inner.Ends.{body_on, returned_body};
 ghost use Rattle.code_parts.specs.Kept.{flow_in};
-ghost use Rattle.code_parts.specs.Places.{place_of};
+ghost use Rattle.code_parts.specs.VariableMaps.{place_of};
 
 use crate::ends::{end_at, with_pc};
 use crate::flow::Flow;
 use crate::part::Part;
-use crate::place::{Place, after, current, fresh};
 use crate::steps::{add_needs, add_writes};
 use crate::uses::is_jump_through;
+use crate::variables::{VariableMap, after, current, fresh};
 use instr_axioms::{Form, comparison, pc_after};
 use rv_decode::Instr;
 use rv_words::{List, NoMemory};
@@ -23,7 +23,7 @@ use std::alloc::Global;
 use tailrec_lang::{Body, End, Step};
 
 /// How many instructions there are at most from one cut to the next.
-pub const ROOM: u32 = 32;
+pub const CUT_DISTANCE_LIMIT: u32 = 32;
 
 /// These steps, and those of an instruction that goes on to one node.
 fn steps_of(
@@ -31,7 +31,7 @@ fn steps_of(
     i: Instr,
     addr: u64,
     length: u8,
-    place: &Place,
+    place: &VariableMap,
     steps: List<Step>,
 ) -> Result<List<Step>, NoMemory>
     ensures { IfOk result (λ ss. map step_tree ss ≡ map step_tree steps ++ (spec.needs i (place_of place.now) ++ spec.writes i addr length (place_of place.now))) }
@@ -50,7 +50,7 @@ fn returning_body(
     i: Instr,
     addr: u64,
     length: u8,
-    place: &Place,
+    place: &VariableMap,
     steps: List<Step>,
 ) -> Result<Body, NoMemory>
     ensures { IfOk result (λ b. body_tree b ≡ with_steps (map step_tree steps) (returned_body (flow_in flow.now) i addr length (place_of place.now))) }
@@ -74,7 +74,7 @@ fn body_from(
     flow: &Flow<'_>,
     p: Part,
     n: u32,
-    place: &Place,
+    place: &VariableMap,
     room: u32,
     steps: List<Step>,
 ) -> Result<Body, NoMemory>
@@ -145,7 +145,7 @@ fn body_to(
     flow: &Flow<'_>,
     p: Part,
     n: u32,
-    place: &Place,
+    place: &VariableMap,
     room: u32,
     steps: List<Step>,
 ) -> Result<Body, NoMemory>
@@ -169,7 +169,7 @@ fn end_arms(
     flow: &Flow<'_>,
     p: Part,
     targets: &[u32],
-    place: &Place,
+    place: &VariableMap,
 ) -> Result<List<Body>, NoMemory>
     requires own { IsOfRegion (flow_in flow.now) p }
     requires nodes { All (λ x. x < (flow_in flow.now).nodes) targets.now }
@@ -213,7 +213,15 @@ fn node_body(alloc: Global, flow: &Flow<'_>, p: Part, n: u32) -> Result<Body, No
     ensures { IfOk result (λ b. body_tree b ≡ spec.body_at 32 (flow_in flow.now) p n (spec.start (flow_in flow.now))) }
 {
     let start = fresh(flow, 0, 0);
-    body_from(alloc, flow, p, n, &start, ROOM, List::new(alloc))
+    body_from(
+        alloc,
+        flow,
+        p,
+        n,
+        &start,
+        CUT_DISTANCE_LIMIT,
+        List::new(alloc),
+    )
 }
 
 /// The body of a rest from its node on.

@@ -10,11 +10,11 @@ ghost use Rattle.code_parts.specs.Regions as ends;
 ghost use Rattle.code_parts.specs.Regions.{IsOfRegion, IsRegion};
 ghost use Rattle.code_parts.specs.inner.Ends.{returning};
 ghost use Rattle.code_parts.specs.Kept.{flow_in};
-ghost use Rattle.code_parts.specs.Places.{place_of};
+ghost use Rattle.code_parts.specs.VariableMaps.{place_of};
 
 use crate::flow::Flow;
 use crate::part::Part;
-use crate::place::{Place, current, fresh};
+use crate::variables::{VariableMap, current, fresh};
 use rv_words::{List, NoMemory};
 use std::alloc::Global;
 use tailrec_lang::{Body, End, Values};
@@ -97,7 +97,7 @@ fn leave(
     alloc: Global,
     flow: &Flow<'_>,
     exit: Option<u32>,
-    place: &Place,
+    place: &VariableMap,
 ) -> Result<Option<End>, NoMemory>
     ensures { IfOk result (λ end. option_map end_tree end ≡ option_map (λ k. Leave k (spec.current (flow_in flow.now) (place_of place.now))) exit) }
 {
@@ -117,7 +117,7 @@ fn end_of(
     flow: &Flow<'_>,
     p: Part,
     n: u32,
-    place: &Place,
+    place: &VariableMap,
 ) -> Result<Option<End>, NoMemory>
     requires { IsOfRegion (flow_in flow.now) p }
     ensures { IfOk result (λ end. option_map end_tree end ≡ spec.end_of (flow_in flow.now) p n (spec.current (flow_in flow.now) (place_of place.now))) }
@@ -136,7 +136,13 @@ fn end_of(
 
 /// The end of a part at a node where it ends by itself.
 #[tactic(auto, using(tailrec_lang::proofs::Views::view_body, tailrec_lang::proofs::Views::view_leave))]
-fn last_at(alloc: Global, flow: &Flow<'_>, p: Part, n: u32, place: &Place) -> Result<Body, NoMemory>
+fn last_at(
+    alloc: Global,
+    flow: &Flow<'_>,
+    p: Part,
+    n: u32,
+    place: &VariableMap,
+) -> Result<Body, NoMemory>
     requires { IsOfRegion (flow_in flow.now) p }
     ensures { IfOk result (λ b. body_tree b ≡ spec.last_at (flow_in flow.now) p n (place_of place.now)) }
 {
@@ -156,7 +162,7 @@ fn last_arms(
     flow: &Flow<'_>,
     p: Part,
     targets: &[u32],
-    place: &Place,
+    place: &VariableMap,
 ) -> Result<List<Body>, NoMemory>
     requires { IsOfRegion (flow_in flow.now) p }
     ensures { IfOk result (λ arms. map body_tree arms ≡ map (λ x. spec.last_at (flow_in flow.now) p x (place_of place.now)) targets.now) }
@@ -184,7 +190,7 @@ pub fn with_pc(alloc: Global, pc: Word, values: Values) -> Result<Values, NoMemo
 
 /// The arm that returns to the address that a called rest returns to.
 #[tactic(auto, using(tailrec_lang::proofs::Views::view_body, tailrec_lang::proofs::Views::view_leave))]
-fn returning_arm(alloc: Global, flow: &Flow<'_>, place: &Place) -> Result<Body, NoMemory>
+fn returning_arm(alloc: Global, flow: &Flow<'_>, place: &VariableMap) -> Result<Body, NoMemory>
     requires words { place.now.words < 2 ^ 15 }
     requires mems { place.now.mems < 2 ^ 15 }
     ensures { IfOk result (λ b. body_tree b ≡ returning (flow_in flow.now) (place_of place.now)) }
@@ -204,7 +210,7 @@ fn rest_arms(
     flow: &Flow<'_>,
     p: Part,
     region: Option<u32>,
-    place: &Place,
+    place: &VariableMap,
 ) -> Result<List<Body>, NoMemory>
     requires own { IsOfRegion (flow_in flow.now) p }
     requires region { IsRegion (flow_in flow.now) region }
@@ -224,7 +230,7 @@ fn loop_rest_arms(
     flow: &Flow<'_>,
     p: Part,
     l: u32,
-    place: &Place,
+    place: &VariableMap,
 ) -> Result<List<Body>, NoMemory>
     requires own { IsOfRegion (flow_in flow.now) p }
     requires loops { l < (flow_in flow.now).loops }
@@ -239,7 +245,11 @@ fn loop_rest_arms(
 }
 
 /// The arms of a call of the rest of the whole function.
-fn returning_arms(alloc: Global, flow: &Flow<'_>, place: &Place) -> Result<List<Body>, NoMemory>
+fn returning_arms(
+    alloc: Global,
+    flow: &Flow<'_>,
+    place: &VariableMap,
+) -> Result<List<Body>, NoMemory>
     requires words { place.now.words < 2 ^ 15 }
     requires mems { place.now.mems < 2 ^ 15 }
     ensures { IfOk result (λ arms. arms_of (map body_tree arms) ≡ (if (flow_in flow.now).returns then Arm (returning (flow_in flow.now) (place_of place.now)) NoArm else NoArm)) }
@@ -259,7 +269,7 @@ pub fn end_at(
     flow: &Flow<'_>,
     p: Part,
     n: u32,
-    place: &Place,
+    place: &VariableMap,
 ) -> Result<End, NoMemory>
     requires own { IsOfRegion (flow_in flow.now) p }
     requires node { n < (flow_in flow.now).nodes }

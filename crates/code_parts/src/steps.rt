@@ -3,9 +3,9 @@
 ghost use Rattle.std.specs.Prelude.{◌≡◌, ◌++◌, OnOk, map};
 ghost use Rattle.tailrec_lang.specs.Tree.{step_tree};
 ghost use Rattle.code_parts.specs.Bodies as spec;
-ghost use Rattle.code_parts.specs.Places.{place_of};
+ghost use Rattle.code_parts.specs.VariableMaps.{place_of};
 
-use crate::place::Place;
+use crate::variables::VariableMap;
 use instr_axioms::{Form, condition, memory_after, result};
 use rv_decode::{Instr, destination};
 use rv_words::{List, NoMemory};
@@ -16,7 +16,7 @@ use tailrec_lang::Step;
 pub fn add_needs(
     alloc: Global,
     i: Instr,
-    place: &Place,
+    place: &VariableMap,
     steps: &mut List<Step>,
 ) -> Result<(), NoMemory>
     ensures { OnOk result (map step_tree steps.new ≡ map step_tree steps.old ++ spec.needs i (place_of place.now)) }
@@ -33,7 +33,7 @@ pub fn add_writes(
     i: Instr,
     addr: u64,
     length: u8,
-    place: &Place,
+    place: &VariableMap,
     steps: &mut List<Step>,
 ) -> Result<(), NoMemory>
     ensures { OnOk result (map step_tree steps.new ≡ map step_tree steps.old ++ spec.writes i addr length (place_of place.now)) }

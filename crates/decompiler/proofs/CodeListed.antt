@@ -20,13 +20,13 @@ use Rattle.flow_graph.specs.Flow.{admitted, is_return, length_in}
 use Rattle.flow_graph.specs.Graph.{GraphOf}
 use Rattle.flow_graph.proofs.ExactLemmas.{graph_numbers}
 use Rattle.flow_graph.proofs.FlowLemmas.{is_flow}
-use Rattle.flow_graph.proofs.Standing.{graph_stands, through_return}
+use Rattle.flow_graph.proofs.InstructionLemmas.{graph_stands, through_return}
 use Rattle.flow_graph.proofs.Ways.{node_at}
 use Rattle.code_parts.specs.Flows.{AreCodeOf, IsReached, registers_of}
 use Rattle.code_parts.specs.Graph.{is_return as is_jump_through}
 use Rattle.code_parts.proofs.AnyOf.{slice-below}
 use Rattle.code_parts.proofs.CodeOf.{have_code}
-use Rattle.code_parts.proofs.Coded.{code_in}
+use Rattle.code_parts.proofs.GraphCode.{code_in}
 use Rattle.code_parts.proofs.FlowCode.{code-byte, registered, registers-rise}
 use Rattle.code_parts.proofs.FlowGraph.{any-at}
 use Rattle.code_parts.proofs.Lists.{in_range, in-contains, in-true}

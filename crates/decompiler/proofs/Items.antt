@@ -10,7 +10,7 @@ use Rattle.group_text.specs.Limits.{IsGroup, IsName}
 use Rattle.proof_text.specs.Line.{LineTree, line_tree}
 use Rattle.checker.specs.Accepts.{IsAccepted}
 use Rattle.exactness.specs.Exact.{Exact}
-use Rattle.exactness.proofs.Made.{flow-exact}
+use Rattle.exactness.proofs.GroupOfParts.{flow-exact}
 use Rattle.flow_graph.specs.Graph.{GraphOf, IsGraphOf}
 use Rattle.loop_forest.specs.Forest.{ForestOf, IsForestOf, number_of}
 use Rattle.code_parts.specs.declared.part.Part.{Part}
@@ -23,7 +23,7 @@ use Rattle.code_parts.specs.Graph.{IsMade}
 use Rattle.path_walk.specs.Item.{IsItemOf}
 use Rattle.code_parts.specs.Order.{AreParts}
 use Rattle.code_parts.proofs.CodeOf.{have_code}
-use Rattle.code_parts.proofs.Coded.{code_in}
+use Rattle.code_parts.proofs.GraphCode.{code_in}
 use Rattle.code_parts.proofs.FlowEntry.{last-is, lists-entry}
 use Rattle.code_parts.proofs.FlowGraph.{is-graph}
 use Rattle.code_parts.proofs.FlowMade.{is-made}

@@ -32,10 +32,10 @@ loads_skipped file i hs h is k e =
     e ∙ sym (append-nil (loads_to file i)) ∙ (λ j. loads_to file i ++ cond (sym other j) (header_at file i ∷ []) [])
     ∙ sym (filter_of_map_range_with_len_more (λ h. h.kind == 1) (header_at file) 0 i i (omega arith))
 
--- the place in front of the first piece that doesn't begin below p
-pub before-place : (p : Piece) (ps : List Piece) → take (prefix_len (λ q. nat_lt q.at p.at) ps) ps ++ p ∷ drop (prefix_len (λ q. nat_lt q.at p.at) ps) ps ≡ before p ps
-before-place p [] = refl
-before-place p (q ∷ qs) = step (nat_lt q.at p.at) p q qs (prefix_len (λ q. nat_lt q.at p.at) qs) (before-place p qs)
+-- the offset in front of the first piece that doesn't begin below p
+pub before-offset : (p : Piece) (ps : List Piece) → take (prefix_len (λ q. nat_lt q.at p.at) ps) ps ++ p ∷ drop (prefix_len (λ q. nat_lt q.at p.at) ps) ps ≡ before p ps
+before-offset p [] = refl
+before-offset p (q ∷ qs) = step (nat_lt q.at p.at) p q qs (prefix_len (λ q. nat_lt q.at p.at) qs) (before-offset p qs)
   where
     step : (t : Bool) (p q : Piece) (qs : List Piece) (n : ℕ) → take n qs ++ p ∷ drop n qs ≡ before p qs
         → take (cond t (1 + n) 0) (q ∷ qs) ++ p ∷ drop (cond t (1 + n) 0) (q ∷ qs) ≡ cond t (q ∷ before p qs) (p ∷ q ∷ qs)

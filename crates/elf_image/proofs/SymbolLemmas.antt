@@ -66,20 +66,20 @@ function_skipped file table i es e is k h =
 
 -- ---- the ends of strings
 
--- a zero byte at place e - 1 ends the strings from below e, and no other does
+-- a zero byte at offset e - 1 ends the strings from below e, and no other does
 pub last_zero : (strings : List ℕ) (e : ℕ) → 0 < e → e ≤ length strings → get_or strings (e - 1) 0 ≡ 0
-    → ((place : ℕ) → e ≤ place → is_ended strings place ≡ false) → (place : ℕ) → is_ended strings place ≡ nat_lt place e
-last_zero strings e pos within ends endless place =
+    → ((offset : ℕ) → e ≤ offset → is_ended strings offset ≡ false) → (offset : ℕ) → is_ended strings offset ≡ nat_lt offset e
+last_zero strings e pos within ends endless offset =
     ⊎_elim
     (λ lt.
-    let k : ℕ = e - 1 - place in
-    let at : place + k ≡ e - 1 = omega arith in
-    let here : get_or (drop place strings) k 0 ≡ 0 = get_or-drop place strings k 0 ∙ (λ j. get_or strings (at j) 0) ∙ ends in
-    list_any_at (λ b. b == 0) (drop place strings) k 0 (omega (arith, length-drop place strings)) (eq-eqb _ 0 here) ∙ sym (lt-ltb place e lt))
-    (λ le. endless place le ∙ sym (le-ltb place e le))
-    (cases_lt place e)
+    let k : ℕ = e - 1 - offset in
+    let at : offset + k ≡ e - 1 = omega arith in
+    let here : get_or (drop offset strings) k 0 ≡ 0 = get_or-drop offset strings k 0 ∙ (λ j. get_or strings (at j) 0) ∙ ends in
+    list_any_at (λ b. b == 0) (drop offset strings) k 0 (omega (arith, length-drop offset strings)) (eq-eqb _ 0 here) ∙ sym (lt-ltb offset e lt))
+    (λ le. endless offset le ∙ sym (le-ltb offset e le))
+    (cases_lt offset e)
 
-pub ended_name : (strings : List ℕ) (end : ℕ) → ((place : ℕ) → is_ended strings place ≡ nat_lt place end)
+pub ended_name : (strings : List ℕ) (end : ℕ) → ((offset : ℕ) → is_ended strings offset ≡ nat_lt offset end)
     → (x e : SymbolEntry) → x ≡ e → x.name < end → not (is_ended strings e.name) ≡ false
 ended_name strings end ends x e is l = (λ j. not (is_ended strings (sym is j).name)) ∙ (λ j. not (ends x.name j)) ∙ (λ j. not (lt-ltb x.name end l j))
 
@@ -122,14 +122,14 @@ named (x ∷ xs) (m ∷ ms) = (λ j. bytes_eq (take_while-cons (λ b. not (b == 
         (λ j. same j && bytes_eq (take_while (λ b. not (b == 0)) xs) ms) ∙ h
         ∙ (λ j. (sym f j && starts_with nat_eq xs ms) && (not (sym w j || list_any (λ b. b == 0) ms) && (unwrap_or (slice_get xs (length ms)) 0 == 0)))
 
-module _ (strings name string : List ℕ) (place : ℕ) (at : string ≡ drop place strings) where
-  named_at : bytes_eq (string_at strings place) name ≡ (starts_with nat_eq string name && (not (list_any (λ b. b == 0) name) && (unwrap_or (slice_get string (length name)) 0 == 0)))
+module _ (strings name string : List ℕ) (offset : ℕ) (at : string ≡ drop offset strings) where
+  named_at : bytes_eq (string_at strings offset) name ≡ (starts_with nat_eq string name && (not (list_any (λ b. b == 0) name) && (unwrap_or (slice_get string (length name)) 0 == 0)))
   named_at = (λ j. bytes_eq (take_while (λ b. not (b == 0)) (sym at j)) name) ∙ named string name
 
-  pub other_start : starts_with nat_eq string name ≡ false → false ≡ bytes_eq (string_at strings place) name
+  pub other_start : starts_with nat_eq string name ≡ false → false ≡ bytes_eq (string_at strings offset) name
   other_start e = sym (named_at ∙ (λ j. e j && (not (list_any (λ b. b == 0) name) && (unwrap_or (slice_get string (length name)) 0 == 0))))
 
-  pub zero_in_name : list_any (λ b. b == 0) name ≡ true → false ≡ bytes_eq (string_at strings place) name
+  pub zero_in_name : list_any (λ b. b == 0) name ≡ true → false ≡ bytes_eq (string_at strings offset) name
   zero_in_name e =
       sym (named_at ∙ (λ j. starts_with nat_eq string name && (not (e j) && (unwrap_or (slice_get string (length name)) 0 == 0))) ∙ never (starts_with nat_eq string name))
     where
@@ -138,7 +138,7 @@ module _ (strings name string : List ℕ) (place : ℕ) (at : string ≡ drop pl
       never false = refl
 
   pub same_string : starts_with nat_eq string name ≡ true → list_any (λ b. b == 0) name ≡ false
-      → (unwrap_or (slice_get string (length name)) 0 == 0) ≡ bytes_eq (string_at strings place) name
+      → (unwrap_or (slice_get string (length name)) 0 == 0) ≡ bytes_eq (string_at strings offset) name
   same_string e f = sym (named_at ∙ (λ j. e j && (not (f j) && (unwrap_or (slice_get string (length name)) 0 == 0))))
 
 -- ---- the value of a name

@@ -25,16 +25,16 @@ first_none f i n l e = first_more f i n l ∙ (λ j. option_or (e j) (first (map
 pub first_some : (f : ℕ → Option ElfFault) (i n : ℕ) (x : ElfFault) → i < n → f i ≡ Some x → first (map f (range_with_len i (n - i))) ≡ Some x
 first_some f i n x l e = first_more f i n l ∙ (λ j. option_or (e j) (first (map f (range_with_len (i + 1) (n - (i + 1))))))
 
-module _ (file : List ℕ) (place size p : ℕ) (is : p ≡ min place (2 ^ 64 - 1)) (some : 0 < size) (long : size ≤ length file) (fits : length file < 2 ^ 64) where
-  pub cut_some : length file - size < p → cut_at file place size ≡ Some (Cut p)
+module _ (file : List ℕ) (offset size p : ℕ) (is : p ≡ min offset (2 ^ 64 - 1)) (some : 0 < size) (long : size ≤ length file) (fits : length file < 2 ^ 64) where
+  pub cut_some : length file - size < p → cut_at file offset size ≡ Some (Cut p)
   cut_some l =
-      let past : length file < place + size = omega arith in
-      cond-true (nat_lt (length file) (place + size)) _ _ (lt-ltb (length file) (place + size) past) ∙ (λ j. Some (Cut (sym is j)))
+      let past : length file < offset + size = omega arith in
+      cond-true (nat_lt (length file) (offset + size)) _ _ (lt-ltb (length file) (offset + size) past) ∙ (λ j. Some (Cut (sym is j)))
 
-  pub cut_none : p ≤ length file - size → cut_at file place size ≡ None
+  pub cut_none : p ≤ length file - size → cut_at file offset size ≡ None
   cut_none l =
-      let inside : place + size ≤ length file = omega arith in
-      cond-false (nat_lt (length file) (place + size)) _ _ (le-ltb (length file) (place + size) inside)
+      let inside : offset + size ≤ length file = omega arith in
+      cond-false (nat_lt (length file) (offset + size)) _ _ (le-ltb (length file) (offset + size) inside)
 
 -- where none of them has a fault, each has none
 pub none_at : {X : Type 0} (f : X → Option ElfFault) (xs : List X) (i : ℕ) (d : X) → first (map f xs) ≡ None → i < length xs → f (get_or xs i d) ≡ None
@@ -43,12 +43,12 @@ none_at f (x ∷ xs) zero d e l = (both (f x) (first (map f xs)) e).0
 none_at f (x ∷ xs) (suc i) d e l = none_at f xs i d (both (f x) (first (map f xs)) e).1 (omega arith)
 
 -- what isn't cut lies in the file
-pub uncut : (file : List ℕ) (place size : ℕ) → cut_at file place size ≡ None → place + size ≤ length file
-uncut file place size e =
+pub uncut : (file : List ℕ) (offset size : ℕ) → cut_at file offset size ≡ None → offset + size ≤ length file
+uncut file offset size e =
     ⊎_elim
-    (λ past. absurd (none-some (Cut (min place (2 ^ 64 - 1))) (sym e ∙ cond-true (nat_lt (length file) (place + size)) _ _ (lt-ltb (length file) (place + size) past))))
+    (λ past. absurd (none-some (Cut (min offset (2 ^ 64 - 1))) (sym e ∙ cond-true (nat_lt (length file) (offset + size)) _ _ (lt-ltb (length file) (offset + size) past))))
     (λ le. le)
-    (cases_lt (length file) (place + size))
+    (cases_lt (length file) (offset + size))
 
 none_of : (f : ℕ → Option ElfFault) (n i : ℕ) → first (map f (range_with_len 0 n)) ≡ None → i < n → f i ≡ None
 none_of f n i e l =

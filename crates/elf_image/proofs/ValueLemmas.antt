@@ -10,7 +10,7 @@ use Rattle.std.proofs.lemmas.Bool.{cases_lt}
 use Rattle.elf_image.specs.declared.symbol.NameFault.TheVariants.{NoSuch, Ambiguous}
 use Rattle.elf_image.specs.Symbol.{one_of}
 
--- the values, with one more at its place
+-- the values, with one more at its offset
 abbrev with : List ℕ → ℕ → List ℕ
 with vs v = insert_key nat_cmp vs v
 

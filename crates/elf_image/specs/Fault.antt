@@ -25,11 +25,11 @@ abbrev pub first : List (Option ElfFault) → Option ElfFault
 first [] = None
 first (fault ∷ faults) = option_or fault (first faults)
 
--- what takes `size` bytes from a place on doesn't lie in the file; a place past 2 ^ 64 - 1 is told as 2 ^ 64 - 1
+-- what takes `size` bytes from an offset on doesn't lie in the file; an offset past 2 ^ 64 - 1 is told as 2 ^ 64 - 1
 abbrev pub cut_at : List ℕ → ℕ → ℕ → Option ElfFault
-cut_at file place size = when (nat_lt (length file) (place + size)) (Cut (min place (2 ^ 64 - 1)))
+cut_at file offset size = when (nat_lt (length file) (offset + size)) (Cut (min offset (2 ^ 64 - 1)))
 
--- the sizes, the place in the file and the addresses of a PT_LOAD
+-- the sizes, the offset in the file and the addresses of a PT_LOAD
 abbrev pub load_fault : List ℕ → ProgramHeader → Option ElfFault
 load_fault file h = first (
     when (nat_lt h.memory_size h.file_size) (Sizes h.index)

@@ -54,9 +54,9 @@ symbol_size = 24
 
 -- ---- the header and the program headers
 
--- the number of `size` bytes at a place
+-- the number of `size` bytes at an offset
 unfoldable pub number_at : ℕ → ℕ → List ℕ → ℕ
-number_at place size file = little_number size (drop place file)
+number_at offset size file = little_number size (drop offset file)
 
 -- e_type
 abbrev pub file_type : List ℕ → ℕ
@@ -85,15 +85,15 @@ header_place file i = table_place file + program_header_size * i
 -- program header i: p_type, p_flags, p_offset, p_vaddr, p_filesz and p_memsz
 abbrev pub header_at : List ℕ → ℕ → ProgramHeader
 header_at file i =
-    let place = header_place file i in
+    let offset = header_place file i in
     record {
       index = i;
-      kind = number_at place 4 file;
-      flags = number_at (place + 4) 4 file;
-      offset = number_at (place + 8) 8 file;
-      address = number_at (place + 16) 8 file;
-      file_size = number_at (place + 32) 8 file;
-      memory_size = number_at (place + 40) 8 file;
+      kind = number_at offset 4 file;
+      flags = number_at (offset + 4) 4 file;
+      offset = number_at (offset + 8) 8 file;
+      address = number_at (offset + 16) 8 file;
+      file_size = number_at (offset + 32) 8 file;
+      memory_size = number_at (offset + 40) 8 file;
     }
 
 -- the program headers of type PT_LOAD, in table order
@@ -121,13 +121,13 @@ section_place file i = section_table file + section_header_size * i
 -- section header i: sh_type, sh_offset, sh_size, sh_link and sh_entsize
 abbrev pub section_at : List ℕ → ℕ → SectionHeader
 section_at file i =
-    let place = section_place file i in
+    let offset = section_place file i in
     record {
-      kind = number_at (place + 4) 4 file;
-      offset = number_at (place + 24) 8 file;
-      size = number_at (place + 32) 8 file;
-      link = number_at (place + 40) 4 file;
-      entry_size = number_at (place + 56) 8 file;
+      kind = number_at (offset + 4) 4 file;
+      offset = number_at (offset + 24) 8 file;
+      size = number_at (offset + 32) 8 file;
+      link = number_at (offset + 40) 4 file;
+      entry_size = number_at (offset + 56) 8 file;
     }
 
 -- the first section of type SHT_SYMTAB, if there is one

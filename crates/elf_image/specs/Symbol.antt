@@ -14,12 +14,12 @@ use Rattle.elf_image.specs.Header.{number_at, section_at, section_bytes, symbol_
 -- entry i of a symbol table: st_name, st_info, st_shndx and st_value
 abbrev pub entry_at : List ℕ → SectionHeader → ℕ → SymbolEntry
 entry_at file table i =
-    let place = table.offset + symbol_size * i in
+    let offset = table.offset + symbol_size * i in
     record {
-      name = number_at place 4 file;
-      info = slice_index file (place + 4);
-      section = number_at (place + 6) 2 file;
-      value = number_at (place + 8) 8 file;
+      name = number_at offset 4 file;
+      info = slice_index file (offset + 4);
+      section = number_at (offset + 6) 2 file;
+      value = number_at (offset + 8) 8 file;
     }
 
 -- STT_FUNC: a function
@@ -38,13 +38,13 @@ functions file table = filter is_function (map (entry_at file table) (range_with
 abbrev pub strings_of : List ℕ → SectionHeader → List ℕ
 strings_of file table = section_bytes file (section_at file table.link)
 
--- the string at a place of a string table: the bytes before the first zero byte
+-- the string at an offset of a string table: the bytes before the first zero byte
 abbrev pub string_at : List ℕ → ℕ → List ℕ
-string_at strings place = take_while (λ b. not (b == 0)) (drop place strings)
+string_at strings offset = take_while (λ b. not (b == 0)) (drop offset strings)
 
--- the string at a place begins in the string table and has an end there: a zero byte
+-- the string at an offset begins in the string table and has an end there: a zero byte
 abbrev pub is_ended : List ℕ → ℕ → Bool
-is_ended strings place = list_any (λ b. b == 0) (drop place strings)
+is_ended strings offset = list_any (λ b. b == 0) (drop offset strings)
 
 -- the name and the value of a symbol
 pub record Symbol : Type 0 where

@@ -10,10 +10,10 @@ use crate::fault::ElfFault;
 use crate::header::{ProgramHeader, double_at, half_at};
 
 /// How many PT_LOADs a file that is read has at most.
-const MOST_LOADS: usize = 64;
+const LOAD_LIMIT: usize = 64;
 
 /// How many bytes of memory the PT_LOADs of a file that is read take at most.
-const MOST_MEMORY: u128 = 1_073_741_824;
+const MEMORY_LIMIT: u128 = 1_073_741_824;
 
 /// The first fault that the header shows.
 pub fn header_fault(file: &[u8]) -> Option<ElfFault>
@@ -54,9 +54,9 @@ pub fn first_cut(file: &[u8], table: u64, size: u64, count: u64) -> Option<ElfFa
 {
     let last = file.len() as u64 - size;
     for i in 0..count {
-        let place = table.saturating_add(size.saturating_mul(i));
-        if place > last {
-            return Some(ElfFault::Cut(place));
+        let offset = table.saturating_add(size.saturating_mul(i));
+        if offset > last {
+            return Some(ElfFault::Cut(offset));
         }
     }
     None
@@ -158,14 +158,14 @@ fn first_shared(loads: &[ProgramHeader]) -> Option<ElfFault>
 pub fn loads_fault(file: &[u8], loads: &[ProgramHeader]) -> Option<ElfFault>
     ensures { result ≡ first (loads_faults file.now loads.now) }
 {
-    if loads.len() > MOST_LOADS {
+    if loads.len() > LOAD_LIMIT {
         return Some(ElfFault::TooMany(loads.len() as u64));
     }
     if let Some(fault) = fault_of_loads(file, loads) {
         return Some(fault);
     }
     let total = total(loads);
-    if total > MOST_MEMORY {
+    if total > MEMORY_LIMIT {
         return Some(ElfFault::TooBig(total));
     }
     first_shared(loads)

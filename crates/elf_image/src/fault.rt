@@ -25,7 +25,7 @@ pub enum ElfFault {
     /// Its machine, which isn't RISC-V.
     #[error("machine {0}")]
     Machine(u64),
-    /// The place from which on bytes are missing.
+    /// The offset from which on bytes are missing.
     #[error("cut {0}")]
     Cut(u64),
     /// The indices of two PT_LOADs that share an address.

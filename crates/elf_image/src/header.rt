@@ -5,7 +5,7 @@ ghost use Rattle.elf_image.specs.Header.{header_at, header_place, number_at};
 
 use byteorder::{ByteOrder, LittleEndian};
 
-/// What is read of a program header, and its place in the table.
+/// What is read of a program header, and its offset in the table.
 #[derive(Clone, Copy, Debug)]
 pub struct ProgramHeader {
     pub index: u64,
@@ -17,31 +17,31 @@ pub struct ProgramHeader {
     pub memory_size: u64,
 }
 
-/// The number of two bytes at a place.
+/// The number of two bytes at an offset.
 #[tactic(auto, unfolding(crate::specs::Header::number_at))]
-pub fn half_at(file: &[u8], place: usize) -> u16
-    requires { place + 2 ≤ length file.now }
-    ensures { result ≡ number_at place 2 file.now }
+pub fn half_at(file: &[u8], offset: usize) -> u16
+    requires { offset + 2 ≤ length file.now }
+    ensures { result ≡ number_at offset 2 file.now }
 {
-    LittleEndian::read_u16(&file[place..])
+    LittleEndian::read_u16(&file[offset..])
 }
 
-/// The number of four bytes at a place.
+/// The number of four bytes at an offset.
 #[tactic(auto, unfolding(crate::specs::Header::number_at))]
-pub fn word_at(file: &[u8], place: usize) -> u32
-    requires { place + 4 ≤ length file.now }
-    ensures { result ≡ number_at place 4 file.now }
+pub fn word_at(file: &[u8], offset: usize) -> u32
+    requires { offset + 4 ≤ length file.now }
+    ensures { result ≡ number_at offset 4 file.now }
 {
-    LittleEndian::read_u32(&file[place..])
+    LittleEndian::read_u32(&file[offset..])
 }
 
-/// The number of eight bytes at a place.
+/// The number of eight bytes at an offset.
 #[tactic(auto, unfolding(crate::specs::Header::number_at))]
-pub fn double_at(file: &[u8], place: usize) -> u64
-    requires { place + 8 ≤ length file.now }
-    ensures { result ≡ number_at place 8 file.now }
+pub fn double_at(file: &[u8], offset: usize) -> u64
+    requires { offset + 8 ≤ length file.now }
+    ensures { result ≡ number_at offset 8 file.now }
 {
-    LittleEndian::read_u64(&file[place..])
+    LittleEndian::read_u64(&file[offset..])
 }
 
 /// Program header `index`.
@@ -50,14 +50,14 @@ pub fn read_header(file: &[u8], index: u64) -> ProgramHeader
     requires whole { header_place file.now index + 56 ≤ length file.now }
     ensures { result ≡ header_at file.now index }
 {
-    let place = (double_at(file, 32) + 56 * index) as usize;
+    let offset = (double_at(file, 32) + 56 * index) as usize;
     ProgramHeader {
         index,
-        kind: word_at(file, place),
-        flags: word_at(file, place + 4),
-        offset: double_at(file, place + 8),
-        address: double_at(file, place + 16),
-        file_size: double_at(file, place + 32),
-        memory_size: double_at(file, place + 40),
+        kind: word_at(file, offset),
+        flags: word_at(file, offset + 4),
+        offset: double_at(file, offset + 8),
+        address: double_at(file, offset + 16),
+        file_size: double_at(file, offset + 32),
+        memory_size: double_at(file, offset + 40),
     }
 }

@@ -48,7 +48,7 @@ impl Piece {
     }
 }
 
-/// The byte in a place.
+/// The byte in an offset.
 fn byte_from(bytes: &[u8], k: u64) -> Option<u8>
     ensures { result ≡ slice_get bytes.now k }
 {

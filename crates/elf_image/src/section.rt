@@ -19,7 +19,7 @@ pub struct SectionHeader {
     pub entry_size: u64,
 }
 
-/// What is read of an entry of a symbol table. `name` is a place in the string table.
+/// What is read of an entry of a symbol table. `name` is an offset in the string table.
 #[derive(Clone, Copy, Debug)]
 pub struct SymbolEntry {
     pub name: u32,
@@ -56,13 +56,13 @@ pub fn read_section(file: &[u8], index: u64) -> SectionHeader
     requires whole { section_place file.now index + 64 ≤ length file.now }
     ensures { result ≡ section_at file.now index }
 {
-    let place = (double_at(file, 40) + 64 * index) as usize;
+    let offset = (double_at(file, 40) + 64 * index) as usize;
     SectionHeader {
-        kind: word_at(file, place + 4),
-        offset: double_at(file, place + 24),
-        size: double_at(file, place + 32),
-        link: word_at(file, place + 40),
-        entry_size: double_at(file, place + 56),
+        kind: word_at(file, offset + 4),
+        offset: double_at(file, offset + 24),
+        size: double_at(file, offset + 32),
+        link: word_at(file, offset + 40),
+        entry_size: double_at(file, offset + 56),
     }
 }
 
@@ -88,11 +88,11 @@ pub fn read_entry(file: &[u8], table: &SectionHeader, index: u64) -> SymbolEntry
     requires whole { index < table.now.size / 24 }
     ensures { result ≡ entry_at file.now table.now index }
 {
-    let place = (table.offset + 24 * index) as usize;
+    let offset = (table.offset + 24 * index) as usize;
     SymbolEntry {
-        name: word_at(file, place),
-        info: file[place + 4],
-        section: half_at(file, place + 6),
-        value: double_at(file, place + 8),
+        name: word_at(file, offset),
+        info: file[offset + 4],
+        section: half_at(file, offset + 6),
+        value: double_at(file, offset + 8),
     }
 }

@@ -89,9 +89,9 @@ fn has_endless_name(file: &[u8], table: &SectionHeader, strings: &[u8]) -> bool
     false
 }
 
-/// The place after the last zero byte: a string has an end where it begins below that place.
+/// The offset after the last zero byte: a string has an end where it begins below that offset.
 fn end_of_strings(strings: &[u8]) -> usize
-    ensures { (place : ℕ) → is_ended strings.now place ≡ nat_lt place result }
+    ensures { (offset : ℕ) → is_ended strings.now offset ≡ nat_lt offset result }
 {
     let mut end = strings.len();
     while end > 0 && strings[end - 1] != 0 {

@@ -92,28 +92,28 @@ fn after_fault(fault: NameFault, value: u64) -> Result<u64, NameFault>
     }
 }
 
-/// Whether the bytes from a place on, up to the first zero byte, are these.
-fn is_named(strings: &[u8], place: u32, name: &[u8]) -> bool
-    ensures { result ≡ bytes_eq (string_at strings.now place) name.now }
+/// Whether the bytes from an offset on, up to the first zero byte, are these.
+fn is_named(strings: &[u8], offset: u32, name: &[u8]) -> bool
+    ensures { result ≡ bytes_eq (string_at strings.now offset) name.now }
 {
-    let string = from_place(strings, place);
+    let string = from_offset(strings, offset);
     if !string.starts_with(name) || name.contains(&0) {
         return false;
     }
     ends_at(string, name.len())
 }
 
-/// What stands in a string table from a place on.
-fn from_place(strings: &[u8], place: u32) -> &[u8]
-    ensures { result.now ≡ drop place strings.now }
+/// What stands in a string table from an offset on.
+fn from_offset(strings: &[u8], offset: u32) -> &[u8]
+    ensures { result.now ≡ drop offset strings.now }
 {
-    let start = (place as usize).min(strings.len());
+    let start = (offset as usize).min(strings.len());
     &strings[start..]
 }
 
-/// Whether a string ends before a place: by a zero byte there, or as nothing stands there.
-fn ends_at(string: &[u8], place: usize) -> bool
-    ensures { result ≡ (unwrap_or (slice_get string.now place) 0 == 0) }
+/// Whether a string ends before an offset: by a zero byte there, or as nothing stands there.
+fn ends_at(string: &[u8], offset: usize) -> bool
+    ensures { result ≡ (unwrap_or (slice_get string.now offset) 0 == 0) }
 {
-    string.get(place).copied().unwrap_or(0) == 0
+    string.get(offset).copied().unwrap_or(0) == 0
 }

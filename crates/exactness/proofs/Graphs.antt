@@ -5,11 +5,11 @@ use Rattle.rv_decode.specs.declared.instruction.Instr.TheVariants as instr
 use Rattle.word_terms.specs.Tree.{WordTree}
 use Rattle.tailrec_lang.specs.Tree.{StepTree}
 use Rattle.triple_kernel.specs.declared.form.Form.{Form}
-use Rattle.code_parts.specs.Bodies.{Place, Return, action_of}
+use Rattle.code_parts.specs.Bodies.{VariableMap, Return, action_of}
 use Rattle.code_parts.specs.Graph.{is_return}
 
 -- a jump through a register alone returns
-pub return-row : (i : Instr) (a k : ℕ) (to : Form → ℕ) (v : Place) (ss : List StepTree) (t : WordTree) → action_of i a k to v ≡ Return ss t → is_return i ≡ true
+pub return-row : (i : Instr) (a k : ℕ) (to : Form → ℕ) (v : VariableMap) (ss : List StepTree) (t : WordTree) → action_of i a k to v ≡ Return ss t → is_return i ≡ true
 return-row (instr.Op o rd rs1 rs2) a k to v ss t e = absurd (cc)
 return-row (instr.OpImm o rd rs1 imm) a k to v ss t e = absurd (cc)
 return-row (instr.Lui rd imm) a k to v ss t e = absurd (cc)

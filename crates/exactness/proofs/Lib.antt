@@ -1,11 +1,11 @@
 pub mod Returns
-pub mod Places
+pub mod StateVariables
 pub mod Graphs
 pub mod BodyLemmas
 pub mod PartLaw
 pub mod Simulation
 pub mod Whole
 pub mod Runs
-pub mod Made
+pub mod GroupOfParts
 pub mod Examples
 pub mod StoreExample

@@ -8,9 +8,9 @@ use Rattle.tailrec_lang.specs.Tree.{ValuesTree, BodyTree, Call, Again, Leave, No
 use Rattle.tailrec_lang.specs.Eval.{Arguments, Meaning, Ending, Exited, and_then, body_ending, arm_ending, arguments_of, with_arguments, needs}
 use Rattle.code_parts.specs.declared.part.Part.{Part}
 use Rattle.code_parts.specs.declared.part.Part.TheVariants.{Loop, Rest}
-use Rattle.code_parts.specs.Bodies.{Flow, size, Place, Action, Straight, Fork, Return, action, mem_count, fresh, start, current, with_pc, own, first, rest_targets, targets, rest_from, index_of, end_of, or_else, arms_over, last_at, rest_arms, end_at, action_body, body_at, rest_body, part_body}
+use Rattle.code_parts.specs.Bodies.{Flow, size, VariableMap, Action, Straight, Fork, Return, action, mem_count, fresh, start, current, with_pc, own, first, rest_targets, targets, rest_from, index_of, end_of, or_else, arms_over, last_at, rest_arms, end_at, action_body, body_at, rest_body, part_body}
 use Rattle.exactness.proofs.Returns.{Comes}
-use Rattle.exactness.proofs.Places.{Stands, stands-fresh, stands-start, returned-values}
+use Rattle.exactness.proofs.StateVariables.{Stands, stands-fresh, stands-start, returned-values}
 use Rattle.exactness.proofs.BodyLemmas.{after_steps, AllHold, needs_passed, ending-steps, arm-over, is-found, found-at, contains-at}
 use Rattle.tailrec_lang.specs.Registers.{AreRegistersFrom}
 use Rattle.code_parts.specs.Graph.{IsPart, IsPlaced, IsGraph}
@@ -32,7 +32,7 @@ slack f (Rest r n) = slack_at (f.loop_of n)
 
 module _ (f : Flow) (State : Type 0) (pc : State → ℕ) (args : State → Arguments) (Returns : State → Type 0) (Good : State → Type 0) (Steps : State → State → Type 0) where
   -- the step from s to u is what a definition has for the instruction
-  abbrev pub IsDone : Action → Place → Environment → State → State → Type 0
+  abbrev pub IsDone : Action → VariableMap → Environment → State → State → Type 0
   IsDone (Straight ss w to) v e s u = AllHold ss e × Stands f w (after_steps ss e) (args u) × (pc u ≡ f.addr to) × (Returns s → ⊥)
   IsDone (Fork c a b) v e s u = (args u ≡ args s) × (pc u ≡ f.addr (cond (cond_holds c e) a b)) × (Returns s → ⊥)
   IsDone (Return ss t) v e s u = AllHold ss e × (word_value t (after_steps ss e) ≡ pc u) × (arguments_of (current f v) (after_steps ss e) ≡ args u) × Returns s
@@ -66,7 +66,7 @@ module _ (f : Flow) (State : Type 0) (pc : State → ℕ) (args : State → Argu
 module _ (f : Flow) (graph : IsGraph f) (rise : AreRegistersFrom 1 f.regs)
     (State : Type 0) (pc : State → ℕ) (args : State → Arguments) (Returns : State → Type 0) (Good : State → Type 0) (Steps : State → State → Type 0)
     (long : (s : State) → (length (args s).words ≡ length f.regs) × (length (args s).mems ≡ mem_count f))
-    (done : (n : ℕ) (v : Place) (e : Environment) (s u : State) → n < f.nodes → Good s → pc s ≡ f.addr n → Stands f v e (args s) → Steps s u
+    (done : (n : ℕ) (v : VariableMap) (e : Environment) (s u : State) → n < f.nodes → Good s → pc s ≡ f.addr n → Stands f v e (args s) → Steps s u
     → Good u × IsDone f State pc args Returns Good Steps (action f n v) v e s u)
     (call : Meaning)
     (enter : (p : Part) (x : Arguments) (m : ℕ) → IsPart f p → call (f.number p) x (suc m) ≡ body_ending call (f.number p) (part_body f p) (with_arguments no_variables x) 0 m)
@@ -146,7 +146,7 @@ module _ (f : Flow) (graph : IsGraph f) (rise : AreRegistersFrom 1 f.regs)
         by again out false w g = out b g
 
     -- at an exit of the own region, after a call
-    last-law : (k : ℕ) → LawsBelow k → (p : Part) → IsPart f p → (t : State) (n : ℕ) (v : Place) (e : Environment) (u : State) (j o m i : ℕ) → j < k → Good u → pc u ≡ f.addr n
+    last-law : (k : ℕ) → LawsBelow k → (p : Part) → IsPart f p → (t : State) (n : ℕ) (v : VariableMap) (e : Environment) (u : State) (j o m i : ℕ) → j < k → Good u → pc u ≡ f.addr n
         → Stands f v e (args u) → Runs j u t → 2 * j ≤ m → slice_get (rest_targets f (own p)) i ≡ Some n → Gives p k t (body_ending call (f.number p) (last_at f p n v) e o m)
     last-law k laws p there t n v e u j o m i lt good place is comes enough at =
         by (λ b h. end-law k laws p there t n (current f v) e u j o m lt good place is.same comes enough b h) (end_of f p n (current f v)) refl
@@ -157,7 +157,7 @@ module _ (f : Flow) (graph : IsGraph f) (rise : AreRegistersFrom 1 f.regs)
         by ends (Some b) some = ends b some
 
     -- after the call of the rest from a node on, of the own region
-    called : (k : ℕ) → LawsBelow k → (p : Part) → IsPart f p → (t : State) (n : ℕ) (v : Place) (e : Environment) (j o : ℕ) → j < k → v.words ≡ e.words → v.mems ≡ e.mems
+    called : (k : ℕ) → LawsBelow k → (p : Part) → IsPart f p → (t : State) (n : ℕ) (v : VariableMap) (e : Environment) (j o : ℕ) → j < k → v.words ≡ e.words → v.mems ≡ e.mems
         → (r : Option ℕ) → own p ≡ r → (c : Ending) → Gives (Rest r n) j t c
         → Gives p k t (and_then c (λ i x m. arm_ending call (f.number p) (rest_arms f p r v) i (with_arguments e x) o m))
     called k laws p there t n v e j o lt ew em None q c (inl r) =
@@ -187,7 +187,7 @@ module _ (f : Flow) (graph : IsGraph f) (rise : AreRegistersFrom 1 f.regs)
         (subst (λ r. slice_get (rest_targets f r) l.exit ≡ Some l.node) (sym q) l.there))
 
     -- at a cut
-    cut-law : (k : ℕ) → LawsBelow k → (p : Part) → IsPart f p → (t : State) (n : ℕ) (v : Place) (e : Environment) (u : State) (j o m : ℕ) → j < k → n < f.nodes → f.is_cut n ≡ true
+    cut-law : (k : ℕ) → LawsBelow k → (p : Part) → IsPart f p → (t : State) (n : ℕ) (v : VariableMap) (e : Environment) (u : State) (j o m : ℕ) → j < k → n < f.nodes → f.is_cut n ≡ true
         → IsPlaced f (own p) n → Good u → pc u ≡ f.addr n → Stands f v e (args u) → Runs j u t → 2 * j ≤ m → Gives p k t (body_ending call (f.number p) (end_at f p n v) e o m)
     cut-law k laws p there t n v e u j o m lt node cut placed good place is comes enough =
         by (λ b h. end-law k laws p there t n (current f v) e u j o m lt good place is.same comes enough b h)
@@ -212,12 +212,12 @@ module _ (f : Flow) (graph : IsGraph f) (rise : AreRegistersFrom 1 f.regs)
     -- the body from a node on, where fewer than b instructions stand before the next cut
     abbrev FromNode : ℕ → ℕ → Part → State → Type 0
     FromNode b k p t =
-        (n : ℕ) (v : Place) (e : Environment) (s : State) (j o m : ℕ) → graph.rank n < b → n < f.nodes → graph.inner n ≡ own p → j ≤ k → Good s → pc s ≡ f.addr n → Stands f v e (args s) → Runs j s t
+        (n : ℕ) (v : VariableMap) (e : Environment) (s : State) (j o m : ℕ) → graph.rank n < b → n < f.nodes → graph.inner n ≡ own p → j ≤ k → Good s → pc s ≡ f.addr n → Stands f v e (args s) → Runs j s t
         → 2 * j ≤ m + 2 → Gives p k t (body_ending call (f.number p) (body_at b f p n v) e o m)
 
     -- after an edge
-    arrives : (b k : ℕ) → LawsBelow k → (p : Part) → IsPart f p → (t : State) → FromNode b k p t → (from : ℕ) (w : Place) → from < f.nodes → graph.inner from ≡ own p → graph.rank from < suc b
-        → (n : ℕ) → Leads (action f from w) n → (v : Place) (e : Environment) (u : State) (j o m : ℕ) → j < k → Good u → pc u ≡ f.addr n → Stands f v e (args u) → Runs j u t → 2 * j ≤ m
+    arrives : (b k : ℕ) → LawsBelow k → (p : Part) → IsPart f p → (t : State) → FromNode b k p t → (from : ℕ) (w : VariableMap) → from < f.nodes → graph.inner from ≡ own p → graph.rank from < suc b
+        → (n : ℕ) → Leads (action f from w) n → (v : VariableMap) (e : Environment) (u : State) (j o m : ℕ) → j < k → Good u → pc u ≡ f.addr n → Stands f v e (args u) → Runs j u t → 2 * j ≤ m
         → Gives p k t (body_ending call (f.number p) (cond (f.is_cut n) (end_at f p n v) (body_at b f p n v)) e o m)
     arrives b k laws p there t on from w node region near n leads v e u j o m lt good place is comes enough = by (f.is_cut n) refl
       where
@@ -230,7 +230,7 @@ module _ (f : Flow) (graph : IsGraph f) (rise : AreRegistersFrom 1 f.regs)
             on n v e u j o m (omega (arith, q.2)) q.0 (q.1 ∙ region) (omega arith) good place is comes (omega arith)
 
     -- one instruction
-    acts : (b k : ℕ) → LawsBelow k → (p : Part) → IsPart f p → (t : State) → FromNode b k p t → (n : ℕ) (v : Place) (e : Environment) (s u : State) (j o m : ℕ) → graph.rank n < suc b → n < f.nodes
+    acts : (b k : ℕ) → LawsBelow k → (p : Part) → IsPart f p → (t : State) → FromNode b k p t → (n : ℕ) (v : VariableMap) (e : Environment) (s u : State) (j o m : ℕ) → graph.rank n < suc b → n < f.nodes
         → graph.inner n ≡ own p → suc j ≤ k → (Returns s × (j ≡ 0) × (u ≡ t)) ⊎ ((Returns s → ⊥) × Runs j u t) → 2 * suc j ≤ m + 2 → Stands f v e (args s) → Good u
         → (y : Action) → action f n v ≡ y → IsDone f State pc args Returns Good Steps y v e s u → Gives p k t (body_ending call (f.number p) (action_body f p y v (body_at b f p)) e o m)
     acts b k laws p there t on n v e s u j o m near node region le (inl r) enough is good (Straight ss w to) has step = absurd (step.3 r.0)
@@ -295,7 +295,7 @@ module _ (f : Flow) (graph : IsGraph f) (rise : AreRegistersFrom 1 f.regs)
     looped k laws r n l there is_loop at t e ew em c (inr q) =
         let lens = long q.state in
         let exit = graph.loop_exit l q.exit q.node is_loop q.there in
-        let v : Place = fresh f (start f).words (start f).mems in
+        let v : VariableMap = fresh f (start f).words (start f).mems in
         let d = with_arguments e (args q.state) in
         let placed : IsPlaced f r q.node = subst (λ z. IsPlaced f z q.node) (ap f.around at ∙ there.2) exit.2 in
         let arm = arm-over call (f.number (Rest r n)) (λ x. end_at f (Rest r n) x v) (f.exits l) q.exit q.node d 0 q.left q.there in

@@ -16,14 +16,14 @@ use Rattle.tailrec_lang.proofs.Turns.{ending-enter}
 use Rattle.tailrec_lang.proofs.Definitions.{exits_there}
 use Rattle.code_parts.specs.declared.part.Part.{Part}
 use Rattle.code_parts.specs.declared.part.Part.TheVariants.{Loop, Rest}
-use Rattle.code_parts.specs.Bodies.{Flow, Place, Action, Straight, Fork, Return, action, own, first, targets, part_def}
+use Rattle.code_parts.specs.Bodies.{Flow, VariableMap, Action, Straight, Fork, Return, action, own, first, targets, part_def}
 use Rattle.code_parts.specs.Bodies as bodies
 use Rattle.code_parts.specs.Graph.{IsPart, IsGraph, IsCode}
 use Rattle.checker.specs.Headline.{Region, is_within, held_in, Ends}
 use Rattle.exactness.specs.Exact.{IsAtReturn, FirstReturns, Gives, Exact}
 use Rattle.exactness.specs.Parts.{HasParts, HoldsCode, LeavesAs, Meets, turns_at, turns_for, LawOfPart}
 use Rattle.exactness.proofs.Returns.{Steps, Comes, comes, IsKept, kept-here}
-use Rattle.exactness.proofs.Places.{Stands}
+use Rattle.exactness.proofs.StateVariables.{Stands}
 use Rattle.exactness.proofs.PartLaw.{with_address, IsDone, Leaves, slack, slack_at, part-law}
 use Rattle.exactness.proofs.Simulation.{held}
 use Rattle.exactness.proofs.Whole.{step-done, held-long, held-is}
@@ -94,13 +94,13 @@ module _ (f : Flow) (g : GroupTree) (entry : ℕ) (graph : IsGraph f) (has : IsC
   abbrev pc_there : Counted → ℕ
   pc_there x = x.0.pc
 
-  lift : (y : Action) (v : Place) (e : Environment) (x u : Counted) → IsDone f State (λ s. s.pc) args IsAtReturn Good (Steps regions) y v e x.0 u.0
+  lift : (y : Action) (v : VariableMap) (e : Environment) (x u : Counted) → IsDone f State (λ s. s.pc) args IsAtReturn Good (Steps regions) y v e x.0 u.0
       → IsDone f Counted pc_there args_there ReturnsThere GoodThere (CountedSteps regions) y v e x u
   lift (Straight ss w to) v e x u h = h
   lift (Fork c a b) v e x u h = h
   lift (Return ss t) v e x u h = h
 
-  done-there : (n : ℕ) (v : Place) (e : Environment) (x u : Counted) → n < f.nodes → GoodThere x → pc_there x ≡ f.addr n → Stands f v e (args_there x) → CountedSteps regions x u
+  done-there : (n : ℕ) (v : VariableMap) (e : Environment) (x u : Counted) → n < f.nodes → GoodThere x → pc_there x ≡ f.addr n → Stands f v e (args_there x) → CountedSteps regions x u
       → GoodThere u × IsDone f Counted pc_there args_there ReturnsThere GoodThere (CountedSteps regions) (action f n v) v e x u
   done-there n v e x u node good at is steps =
       let one = step-done f g.code has regions s0 holds.code holds.beside_code n v e x.0 u.0 node good.0 at is steps.0 in

@@ -27,9 +27,9 @@ use Rattle.instr_axioms.specs.Effects.{Fits, IsTouchedIn, IsAfter}
 use Rattle.instr_axioms.proofs.Effects.{cut, cut-within, memory-cut}
 use Rattle.instr_axioms.proofs.Valid.{StandsIn}
 use Rattle.code_parts.proofs.Counts.{store-writes_none}
-use Rattle.code_parts.specs.Bodies.{Flow, Place, names, is_store, stored, place_after, writes}
+use Rattle.code_parts.specs.Bodies.{Flow, VariableMap, names, is_store, stored, place_after, writes}
 use Rattle.word_terms.proofs.Variables.{new_word, new_mem}
-use Rattle.exactness.proofs.Places.{Stands}
+use Rattle.exactness.proofs.StateVariables.{Stands}
 use Rattle.exactness.proofs.BodyLemmas.{AllHold, after_steps}
 
 -- ---- lists over the same registers, place by place
@@ -105,13 +105,13 @@ module _ (f : Flow) (region : ℕ → Bool) where
   abbrev pub held : State → Arguments
   held s = record { words = map s.reg f.regs; mems = one_if f.has_mem (cut region s.mem) }
 
-  pub reg-is : (v : Place) (e : Environment) (s : State) → Stands f v e (held s) → (r : ℕ) → Contains f.regs r → e.word (v.reg r) ≡ s.reg r
+  pub reg-is : (v : VariableMap) (e : Environment) (s : State) → Stands f v e (held s) → (r : ℕ) → Contains f.regs r → e.word (v.reg r) ≡ s.reg r
   reg-is v e s is r c = words-at v.reg e s.reg f.regs (λ i. (is.same i).words) r c
 
-  pub mem-is : (v : Place) (e : Environment) (s : State) → Stands f v e (held s) → f.has_mem ≡ true → e.mem v.memory ≡ cut region s.mem
+  pub mem-is : (v : VariableMap) (e : Environment) (s : State) → Stands f v e (held s) → f.has_mem ≡ true → e.mem v.memory ≡ cut region s.mem
   mem-is v e s is h = mem-at f.has_mem v.memory e (cut region s.mem) (λ i. (is.same i).mems) h
 
-  stands-all : (v : Place) (e : Environment) (s : State) → v.words ≡ e.words → v.mems ≡ e.mems → ((r : ℕ) → Contains f.regs r → (e.word (v.reg r) ≡ s.reg r) × (v.reg r < v.words))
+  stands-all : (v : VariableMap) (e : Environment) (s : State) → v.words ≡ e.words → v.mems ≡ e.mems → ((r : ℕ) → Contains f.regs r → (e.word (v.reg r) ≡ s.reg r) × (v.reg r < v.words))
       → (f.has_mem ≡ true → (e.mem v.memory ≡ cut region s.mem) × (v.memory < v.mems)) → Stands f v e (held s)
   stands-all v e s words mems regs mem =
       let all_words = words-all v.reg e s.reg f.regs (λ r c. (regs r c).0) in
@@ -124,7 +124,7 @@ module _ (f : Flow) (region : ℕ → Bool) where
         memory_in = λ h. (mem h).1;
       }
 
-  module _ (i : Instr) (a w : ℕ) (code : List Range) (there : StandsIn i a w code f.regs f.has_mem) (v : Place) (e : Environment) (s : State) (is : Stands f v e (held s)) where
+  module _ (i : Instr) (a w : ℕ) (code : List Range) (there : StandsIn i a w code f.regs f.has_mem) (v : VariableMap) (e : Environment) (s : State) (is : Stands f v e (held s)) where
     source-is : (r : ℕ) → Contains (sources i) r → reads r s ≡ word_value (word_in (names v) r) e
     source-is r c = by (eqb r 0) refl
       where

@@ -25,12 +25,12 @@ use Rattle.instr_axioms.specs.Effects.{AreTrue, IsAfter}
 use Rattle.instr_axioms.proofs.Effects.{act-terms, cut}
 use Rattle.instr_axioms.proofs.Memories.{has-number}
 use Rattle.instr_axioms.proofs.Valid.{StandsIn}
-use Rattle.code_parts.specs.Bodies.{mem_count, Flow, Place, Action, Straight, names, place_after, needs, writes, action_of, action}
+use Rattle.code_parts.specs.Bodies.{mem_count, Flow, VariableMap, Action, Straight, names, place_after, needs, writes, action_of, action}
 use Rattle.checker.specs.Headline.{Region, is_within, held_in}
 use Rattle.checker.specs.Headline as headline
 use Rattle.exactness.specs.Exact.{IsAtReturn}
 use Rattle.exactness.proofs.Returns.{Steps, IsKept, kept-step}
-use Rattle.exactness.proofs.Places.{Stands}
+use Rattle.exactness.proofs.StateVariables.{Stands}
 use Rattle.exactness.proofs.BodyLemmas.{needs-hold, needs-after}
 use Rattle.code_parts.proofs.Lists.{length-map}
 use Rattle.code_parts.specs.Graph.{has_edge, is_return, StandsAt, IsCode}
@@ -70,10 +70,10 @@ fetched i a w code regs mem s h within at =
     ((instruction_at-is i s).1 (w, ap is_even at ∙ h.even, here, h.is), length_at-is s w here)
 
 module _ (f : Flow) (regions : List Region) (Good : State → Type 0) where
-  abbrev IsActed : Action → Place → Environment → State → State → Type 0
+  abbrev IsActed : Action → VariableMap → Environment → State → State → Type 0
   IsActed = IsDone f State (λ s. s.pc) (held f (is_within regions)) IsAtReturn Good (Steps regions)
 
-  module _ (a w : ℕ) (code : List Range) (v : Place) (e : Environment) (s u : State) (at : s.pc ≡ a) (is : Stands f v e (held f (is_within regions) s)) where
+  module _ (a w : ℕ) (code : List Range) (v : VariableMap) (e : Environment) (s u : State) (at : s.pc ≡ a) (is : Stands f v e (held f (is_within regions) s)) where
     -- an instruction that goes on to one node
     straight : (i : Instr) → StandsIn i a w code f.regs f.has_mem → has_form i Taken ≡ false → instruction_at s ≡ Some i → (i ≡ instr.Jalr 0 1 (pos 0) → ⊥)
         → IsAfter i a (length_of w) (names v) e s u → (to : ℕ) → word_value (pc_after i Next a (length_of w) (names v)) e ≡ f.addr to → IsActed (Straight (needs i v ++ writes i a (length_of w) v) (place_after i v) to) v e s u
@@ -135,7 +135,7 @@ module _ (f : Flow) (code : List Range) (has : IsCode f code) (regions : List Re
   code-kept s good a b e = good.bytes a (beside a b e) ∙ holds a b e
 
   -- a step that stays within the regions keeps all else, and is what a definition has for the instruction
-  pub step-done : (n : ℕ) (v : Place) (e : Environment) (s u : State) → n < f.nodes → Good s → s.pc ≡ f.addr n → Stands f v e (held f (is_within regions) s) → Steps regions s u
+  pub step-done : (n : ℕ) (v : VariableMap) (e : Environment) (s u : State) → n < f.nodes → Good s → s.pc ≡ f.addr n → Stands f v e (held f (is_within regions) s) → Steps regions s u
       → Good u × IsDone f State (λ s. s.pc) (held f (is_within regions)) IsAtReturn Good (Steps regions) (action f n v) v e s u
   step-done n v e s u node good at is steps =
       let i = f.instr n in

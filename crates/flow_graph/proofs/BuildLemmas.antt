@@ -18,7 +18,7 @@ use Rattle.flow_graph.specs.Reach.{IsReach, IsLeastFault, Least, reach_limit}
 use Rattle.flow_graph.specs.Graph.{IsGraphOf, IsRising, IsRefused, edge_to, edges_from, number}
 use Rattle.flow_graph.specs.inner.Building.{AreOf, IsFirst, HasFault}
 use Rattle.flow_graph.proofs.Ways.{place_of, node_at, way-join}
-use Rattle.flow_graph.proofs.Reaching.{reach_few}
+use Rattle.flow_graph.proofs.ReachSearch.{reach_few}
 use Rattle.flow_graph.proofs.NumberLemmas.{different_from_rising}
 
 -- what is at a place of two lists that are the same after two maps

@@ -12,7 +12,7 @@ use Rattle.flow_graph.specs.Walks.{Stop, Leave, Reaches}
 use Rattle.flow_graph.specs.Reach.{IsFault, Large, Least, reach_limit}
 use Rattle.flow_graph.specs.Graph.{GraphOf, IsGraphOf, preds_of, succs_of}
 use Rattle.flow_graph.proofs.Ways.{Contains-cons, place_of, way-join}
-use Rattle.flow_graph.proofs.Reaching.{reach_few}
+use Rattle.flow_graph.proofs.ReachSearch.{reach_few}
 use Rattle.flow_graph.proofs.BuildLemmas.{at_same, both_same, ok_err}
 
 -- the reached addresses are closed, and in each set that has the entry and is closed

@@ -1,6 +1,6 @@
 pub mod Ways
 pub mod VisitedLemmas
-pub mod Reaching
+pub mod ReachSearch
 pub mod LinkedLemmas
 pub mod NumberLemmas
 pub mod BuildLemmas
@@ -8,5 +8,5 @@ pub mod FlowLemmas
 pub mod WorkedGraphs
 pub mod ExactLemmas
 pub mod GraphLaws
-pub mod Standing
-pub mod Fetching
+pub mod InstructionLemmas
+pub mod FetchLemmas

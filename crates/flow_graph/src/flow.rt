@@ -83,7 +83,7 @@ fn admitted(a: u64, instruction: Instr) -> Result<Instr, Outside>
 }
 
 /// The parcel or word of the code bytes from an address on, none of them past the last address.
-#[tactic(auto, using(crate::proofs::Fetching::no_parcel, crate::proofs::Fetching::parcel_alone, crate::proofs::Fetching::whole_word))]
+#[tactic(auto, using(crate::proofs::FetchLemmas::no_parcel, crate::proofs::FetchLemmas::parcel_alone, crate::proofs::FetchLemmas::whole_word))]
 pub fn number_at(image: &Image, a: u64) -> Option<u32>
     ensures { result ≡ number_in (code_in image.now.pieces) a }
 {

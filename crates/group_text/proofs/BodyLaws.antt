@@ -18,7 +18,7 @@ use Rattle.term_text.specs.Reading.{cond_at}
 use Rattle.term_text.proofs.TermFacts.{cond-flat}
 use Rattle.term_text.proofs.TermLaws.{cond-law}
 use Rattle.tailrec_lang.specs.Tree.{ValuesTree, StepTree, BodyTree, Do, Branch, Call, Again, Leave, ArmTrees, NoArm, Arm, with_steps, arms_of}
-use Rattle.group_text.specs.Limits.{IsValues, IsStep, exit_limit, IsBody, AreArms}
+use Rattle.group_text.specs.Limits.{IsValues, IsStep, def_exit_limit, IsBody, AreArms}
 use Rattle.group_text.specs.Spelling.{number, values_tokens, arm_count, body_tokens, arm_tokens, step_tokens}
 use Rattle.group_text.specs.inner.Reading.{values_at, step_at, is_step, mark_row, where_room, arm_bound, branch_at, arm_at, call_row, call_at, leave_at, end_at, body_at}
 use Rattle.group_text.proofs.StepLaws.{ends-eol, some-eol, atom-flat, number-law, mark-law, row-cover, values_row, values-law, values-cover, zero-cond, step-cover, step-begins, step-shrinks}
@@ -299,13 +299,13 @@ steps-tokens (s ∷ ss) b = ap (λ (v : List Tok). step_tokens s ++ v) (steps-to
 room-left : (d : ℕ) → eqb (suc d) 0 ≡ false
 room-left d = grind (arith, nat_tests)
 
-bound-is : (d : ℕ) → arm_bound (suc d) ≡ exit_limit + 1
-bound-is d = ap (λ (b : Bool). cond b 1 (exit_limit + 1)) (room-left d)
+bound-is : (d : ℕ) → arm_bound (suc d) ≡ def_exit_limit + 1
+bound-is d = ap (λ (b : Bool). cond b 1 (def_exit_limit + 1)) (room-left d)
 
 if-is : (d : ℕ) (body : Reader BodyTree) → if_at (suc d) body ≡ keyed (codes "if") (branch_at body) refused
 if-is d body = ap (λ (b : Bool). λ (ts : List Tok). cond b (Err ts) (keyed (codes "if") (branch_at body) refused ts)) (room-left d)
 
-few-arms : (d : ℕ) (n : ℕ) → n < arm_bound d → n ≤ exit_limit
+few-arms : (d : ℕ) (n : ℕ) → n < arm_bound d → n ≤ def_exit_limit
 few-arms zero n lt = omega (arith, lt)
 few-arms (suc d) n lt = omega (arith, lt, bound-is d)
 
@@ -343,7 +343,7 @@ steps-within : (d : ℕ) (ss : List StepTree) (b : BodyTree) → AllByRecursion 
 steps-within d [] b h k = end-within d b k
 steps-within d (s ∷ ss) b h k = (h.0, steps-within d ss b h.1 k)
 
-bound-arms : (d : ℕ) (bs : ArmTrees) → arm_count bs ≤ exit_limit → AreArms d bs → arm_count bs < arm_bound d
+bound-arms : (d : ℕ) (bs : ArmTrees) → arm_count bs ≤ def_exit_limit → AreArms d bs → arm_count bs < arm_bound d
 bound-arms zero bs few h = omega (arith, no-arms bs h)
 bound-arms (suc d) bs few h = omega (arith, few, bound-is d)
 

@@ -7,16 +7,16 @@ use Rattle.mc_text.specs.declared.token.Class.{Class}
 use Rattle.mc_text.specs.declared.token.Class.TheVariants.{Letter, LeftMark, RightMark, SemiMark, Newline, Space, Other}
 use Rattle.mc_text.specs.Scanning.{class_of, State, At, Within, lex, byte_step, prepend, eols}
 use Rattle.mc_text.specs.Reading.{Reader, goes_on}
-use Rattle.group_text.specs.declared.stop.Halt.{Halt}
-use Rattle.group_text.specs.declared.stop.Halt.TheVariants as halt
+use Rattle.group_text.specs.declared.read_error.ReadError.{ReadError}
+use Rattle.group_text.specs.declared.read_error.ReadError.TheVariants as halt
 use Rattle.group_text.specs.inner.Cut.{drop_lines}
 use Rattle.group_text.specs.inner.Rest.{GoesOn, is_done}
-use Rattle.group_text.specs.inner.Rows.{OnLost, Spot, Spots, tokens, total, RowsGive}
-use Rattle.group_text.specs.inner.TextRows.{TextSpot}
+use Rattle.group_text.specs.inner.Rows.{OnRowError, RowPosition, RowPositions, tokens, total, RowsGive}
+use Rattle.group_text.specs.inner.TextRows.{TextRowPosition}
 use Rattle.group_text.proofs.Joins.{AllOk, AllBad}
 
 -- the one place of rows in memory
-abbrev pub Here : TextSpot → Spots
+abbrev pub Here : TextRowPosition → RowPositions
 Here s = λ p. p ≡ record { rest = s.rest; taken = s.taken }
 
 -- something was read from the first row of these lines on, so many rows
@@ -31,15 +31,15 @@ pub record Stopped {Y : Type 0} (r : Reader Y) (lines : List ℕ) (passed : ℕ)
   pub is : r (lex lines (At Start)) ≡ Err bad
   pub count : passed + 1 + eols bad ≡ 1 + eols (lex lines (At Start))
 
-module _ (lines : List ℕ) (old new : TextSpot) (begin : old ≡ record { rest = lines; held = []; taken = 0 }) where
-  abbrev pub here : Spot
+module _ (lines : List ℕ) (old new : TextRowPosition) (begin : old ≡ record { rest = lines; held = []; taken = 0 }) where
+  abbrev pub here : RowPosition
   here = record { rest = new.rest; taken = new.taken }
 
-  abbrev there : Spot
+  abbrev there : RowPosition
   there = record { rest = lines; taken = 0 }
 
-  from : (p : Spot) → Here old p → p ≡ there
-  from p e = e ∙ ap (λ (s : TextSpot). record { rest = s.rest; taken = s.taken }) begin
+  from : (p : RowPosition) → Here old p → p ≡ there
+  from p e = e ∙ ap (λ (s : TextRowPosition). record { rest = s.rest; taken = s.taken }) begin
 
   module _ {Y : Type 0} (r : Reader Y) (passed : ℕ) (count : passed ≡ new.taken) where
     pub told-ok : (y : Y) (rest : List ℕ) → rest ≡ new.rest → AllOk r y (Here old) (Here new) → Read r y lines rest passed
@@ -47,12 +47,12 @@ module _ (lines : List ℕ) (old new : TextSpot) (begin : old ≡ record { rest 
         let k = h here refl in
         let same : k.spot ≡ there = from k.spot k.may in
         let all : total there ≡ total here = sym (ap total same) ∙ k.total in
-        let taken : new.taken ≡ 0 + k.way.rows = k.way.taken ∙ ap (λ (p : Spot). p.taken + k.way.rows) same in
+        let taken : new.taken ≡ 0 + k.way.rows = k.way.taken ∙ ap (λ (p : RowPosition). p.taken + k.way.rows) same in
         let rows : k.way.rows ≡ passed = omega (arith, taken, count) in
         let left : eols (lex rest (At Start)) ≡ eols (tokens here) = ap (λ (v : List ℕ). eols (lex v (At Start))) is in
         record {
-          is = sym (ap (λ (p : Spot). r (tokens p)) same) ∙ k.is ∙ ap (λ (v : List ℕ). Ok (y, lex v (At Start))) (sym is);
-          rest = is ∙ k.way.rest ∙ ap (λ (p : Spot). drop_lines k.way.rows p.rest) same ∙ ap (λ (n : ℕ). drop_lines n lines) rows;
+          is = sym (ap (λ (p : RowPosition). r (tokens p)) same) ∙ k.is ∙ ap (λ (v : List ℕ). Ok (y, lex v (At Start))) (sym is);
+          rest = is ∙ k.way.rest ∙ ap (λ (p : RowPosition). drop_lines k.way.rows p.rest) same ∙ ap (λ (n : ℕ). drop_lines n lines) rows;
           count = omega (arith, all, count, left);
         }
 
@@ -61,31 +61,31 @@ module _ (lines : List ℕ) (old new : TextSpot) (begin : old ≡ record { rest 
         let k = h here refl in
         let same : k.spot ≡ there = from k.spot k.may in
         let all : total there ≡ total here = sym (ap total same) ∙ k.total in
-        record { bad = k.bad; is = sym (ap (λ (p : Spot). r (tokens p)) same) ∙ k.is; count = omega (arith, all, k.row, count) }
+        record { bad = k.bad; is = sym (ap (λ (p : RowPosition). r (tokens p)) same) ∙ k.is; count = omega (arith, all, k.row, count) }
 
   -- where a row was lost the place is the same
-  pub told-lost : (P : Spot → Type 0) → ((p : Spot) → Here new p → Here old p × P p) → P there
+  pub told-lost : (P : RowPosition → Type 0) → ((p : RowPosition) → Here new p → Here old p × P p) → P there
   told-lost P h = let k = h here refl in subst P (from here k.0) k.1
 
 -- what was found
-pub found-was : {X Y : Type 0} (view : X → Y) (r : Reader (Option Y)) (old new : Spots) (o p : Option X) → o ≡ p → AllOk r (option_map view o) old new → AllOk r (option_map view p) old new
+pub found-was : {X Y : Type 0} (view : X → Y) (r : Reader (Option Y)) (old new : RowPositions) (o p : Option X) → o ≡ p → AllOk r (option_map view o) old new → AllOk r (option_map view p) old new
 found-was {X} view r old new o p e h = subst (λ (o : Option X). AllOk r (option_map view o) old new) e h
 
-pub bad-was : {X Y : Type 0} (view : X → Y) (r : Reader Y) (old new : Spots) (h : Halt) → h ≡ halt.Bad → RowsGive view (Err h) old new r → AllBad r old new
-bad-was {X} view r old new h e g = subst (λ (h : Halt). RowsGive view (err h) old new r) e g
+pub bad-was : {X Y : Type 0} (view : X → Y) (r : Reader Y) (old new : RowPositions) (h : ReadError) → h ≡ halt.Bad → RowsGive view (Err h) old new r → AllBad r old new
+bad-was {X} view r old new h e g = subst (λ (h : ReadError). RowsGive view (err h) old new r) e g
   where
-    err : Halt → Result X Halt
+    err : ReadError → Result X ReadError
     err h = Err h
 
-pub lost-was : (X : Type 0) (h : Halt) (P : Type 0) → (h ≡ halt.Bad → ⊥) → OnLost {X = X} (Err h) P → P
+pub lost-was : (X : Type 0) (h : ReadError) (P : Type 0) → (h ≡ halt.Bad → ⊥) → OnRowError {X = X} (Err h) P → P
 lost-was X halt.Bad P not-bad g = absurd (not-bad refl)
 lost-was X halt.Fault P not-bad g = g
 lost-was X halt.NoMemory P not-bad g = g
 
-pub fault-not-bad : (h : Halt) → h ≡ halt.Fault → h ≡ halt.Bad → ⊥
+pub fault-not-bad : (h : ReadError) → h ≡ halt.Fault → h ≡ halt.Bad → ⊥
 fault-not-bad h e f = cc
 
-pub memory-not-bad : (h : Halt) → h ≡ halt.NoMemory → h ≡ halt.Bad → ⊥
+pub memory-not-bad : (h : ReadError) → h ≡ halt.NoMemory → h ≡ halt.Bad → ⊥
 memory-not-bad h e f = cc
 
 -- ---- behind the last row

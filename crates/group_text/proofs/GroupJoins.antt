@@ -8,9 +8,9 @@ use Rattle.rv_words.specs.declared.range.Range.{Range}
 use Rattle.tailrec_lang.specs.declared.group.Exit.{Exit}
 use Rattle.tailrec_lang.specs.Tree.{BodyTree, DefTree, GroupTree}
 use Rattle.group_text.specs.Limits.{def_limit, nesting_limit}
-use Rattle.group_text.specs.declared.stop.Halt.{Halt}
-use Rattle.group_text.specs.declared.stop.Halt.TheVariants as halt
-use Rattle.group_text.specs.inner.Rows.{Spot, Spots, tokens, RowsGive}
+use Rattle.group_text.specs.declared.read_error.ReadError.{ReadError}
+use Rattle.group_text.specs.declared.read_error.ReadError.TheVariants as halt
+use Rattle.group_text.specs.inner.Rows.{RowPosition, RowPositions, tokens, RowsGive}
 use Rattle.group_text.specs.inner.Reading.{Head, name_of, regs_row, mems_row, code_row, head_at, group_of, group_at, own_defs, next_at, body_at, def_at, def_start, is_def, title_row, turn_at}
 use Rattle.group_text.specs.inner.GroupRows.{FirstTree, End, Named, end_of, name_row, first_row, more_head, behind_first}
 use Rattle.group_text.proofs.OwnDefs.{Defs, judge, guard}
@@ -131,17 +131,17 @@ next-rows =
 
 -- ---- what is read row by row
 
-module _ {X Y : Type 0} (r : Reader Y) (a : Reader X) (next : X → Reader Y) (same : (ts : List Tok) → r ts ≡ by-rows a next ts) (old mid : Spots) where
-  pub rows-first : {A W : Type 0} (v : A → X) (w : W → Y) (e : Halt) → RowsGive v (Err e) old mid a → RowsGive w (Err e) old mid r
+module _ {X Y : Type 0} (r : Reader Y) (a : Reader X) (next : X → Reader Y) (same : (ts : List Tok) → r ts ≡ by-rows a next ts) (old mid : RowPositions) where
+  pub rows-first : {A W : Type 0} (v : A → X) (w : W → Y) (e : ReadError) → RowsGive v (Err e) old mid a → RowsGive w (Err e) old mid r
   rows-first v w e g = give-alike w (Err e) old mid r (by-rows a next) same (err-first v w (λ (x : X × Y). x.1) e old mid a next g)
 
-  pub rows-second : {B W : Type 0} (v : B → Y) (w : W → Y) (e : Halt) (new : Spots) (row : X) → AllOk a row old mid → RowsGive v (Err e) mid new (next row) → RowsGive w (Err e) old new r
+  pub rows-second : {B W : Type 0} (v : B → Y) (w : W → Y) (e : ReadError) (new : RowPositions) (row : X) → AllOk a row old mid → RowsGive v (Err e) mid new (next row) → RowsGive w (Err e) old new r
   rows-second v w e new row h g = give-alike w (Err e) old new r (by-rows a next) same (err-second v w (λ (x : X × Y). x.1) e old mid new a next row h g)
 
-  pub rows-ok : (new : Spots) (row : X) (z : Y) → AllOk a row old mid → AllOk (next row) z mid new → AllOk r z old new
+  pub rows-ok : (new : RowPositions) (row : X) (z : Y) → AllOk a row old mid → AllOk (next row) z mid new → AllOk r z old new
   rows-ok new row z h g = give-alike (λ (z : Y). z) (Ok z) old new r (by-rows a next) same (both-ok (λ (x : X × Y). x.1) old mid new a next row z h g)
 
-pub item-was : {X Y : Type 0} (view : X → Y) (r : Reader Y) (old mid : Spots) (x y : X) → x ≡ y → AllOk r (view x) old mid → AllOk r (view y) old mid
+pub item-was : {X Y : Type 0} (view : X → Y) (r : Reader Y) (old mid : RowPositions) (x y : X) → x ≡ y → AllOk r (view x) old mid → AllOk r (view y) old mid
 item-was {X} view r old mid x y e h = subst (λ (z : X). AllOk r (view z) old mid) e h
 
 -- ---- definitions
@@ -161,21 +161,21 @@ def-is ts = refl
 abbrev Now : Type 0
 Now = List Tok → Out (List DefTree)
 
-module _ (old mid : Spots) (now : Now) (told : AllSo (many def_limit is_def def_at) old mid now) where
+module _ (old mid : RowPositions) (now : Now) (told : AllSo (many def_limit is_def def_at) old mid now) where
   -- where no further one is read
-  pub defs-bad : (new : Spots) → Kept mid new → ((q : Spot) → new q → (ts : List Tok) → now (tokens q) ≡ many def_limit is_def def_at ts → own_defs ts ≡ Err (tokens q)) → AllBad own_defs old new
+  pub defs-bad : (new : RowPositions) → Kept mid new → ((q : RowPosition) → new q → (ts : List Tok) → now (tokens q) ≡ many def_limit is_def def_at ts → own_defs ts ≡ Err (tokens q)) → AllBad own_defs old new
   defs-bad new kept ends q may =
       let k = told q (kept q may) in
       record { spot = k.spot; may = k.may; bad = tokens q; is = ends q may (tokens k.spot) k.is; row = refl; total = k.total }
 
-  pub defs-ok : (new : Spots) (ds : List DefTree) → Kept mid new → ((q : Spot) → new q → (ts : List Tok) → now (tokens q) ≡ many def_limit is_def def_at ts → own_defs ts ≡ Ok (ds, tokens q)) → AllOk own_defs ds old new
+  pub defs-ok : (new : RowPositions) (ds : List DefTree) → Kept mid new → ((q : RowPosition) → new q → (ts : List Tok) → now (tokens q) ≡ many def_limit is_def def_at ts → own_defs ts ≡ Ok (ds, tokens q)) → AllOk own_defs ds old new
   defs-ok new ds kept ends q may =
       let k = told q (kept q may) in
       record { spot = k.spot; may = k.may; is = ends q may (tokens k.spot) k.is; way = k.way; total = k.total }
 
   -- where one could not be read
-  pub defs-stopped : {X Z : Type 0} (view : X → DefTree) (views : Z → List DefTree) (e : Halt) (held new : Spots) → Kept mid held
-      → ((q : Spot) → held q → (bad ts : List Tok) → def_at (tokens q) ≡ Err bad → now (tokens q) ≡ many def_limit is_def def_at ts → own_defs ts ≡ Err bad)
+  pub defs-stopped : {X Z : Type 0} (view : X → DefTree) (views : Z → List DefTree) (e : ReadError) (held new : RowPositions) → Kept mid held
+      → ((q : RowPosition) → held q → (bad ts : List Tok) → def_at (tokens q) ≡ Err bad → now (tokens q) ≡ many def_limit is_def def_at ts → own_defs ts ≡ Err bad)
       → RowsGive view (Err e) held new def_at → RowsGive views (Err e) old new own_defs
   defs-stopped view views halt.Bad held new kept fails g = λ q may.
       let h = g q may in
@@ -189,17 +189,17 @@ def-failed n m front ts bad old left g h told =
     ap (λ (q : Defs). judge (guard q)) (many-fails is_def def_at m front ts bad (many def_limit is_def def_at old) g h
     (ap (λ (k : ℕ). with_prefix front (many k is_def def_at ts)) (sym left) ∙ told))
 
-module _ (old mid : Spots) where
+module _ (old mid : RowPositions) where
   abbrev bodies : DefStart → Reader BodyTree
   bodies _ = body_at nesting_limit
 
-  pub def-first : {A W : Type 0} (v : A → DefStart) (w : W → DefTree) (e : Halt) → RowsGive v (Err e) old mid def_start → RowsGive w (Err e) old mid def_at
+  pub def-first : {A W : Type 0} (v : A → DefStart) (w : W → DefTree) (e : ReadError) → RowsGive v (Err e) old mid def_start → RowsGive w (Err e) old mid def_at
   def-first v w e g = give-alike w (Err e) old mid def_at (made def-of (pair def_start (body_at nesting_limit))) def-is (err-first v w def-of e old mid def_start bodies g)
 
-  pub def-second : {B W : Type 0} (v : B → BodyTree) (w : W → DefTree) (e : Halt) (new : Spots) (x : DefStart) → AllOk def_start x old mid → RowsGive v (Err e) mid new (body_at nesting_limit) → RowsGive w (Err e) old new def_at
+  pub def-second : {B W : Type 0} (v : B → BodyTree) (w : W → DefTree) (e : ReadError) (new : RowPositions) (x : DefStart) → AllOk def_start x old mid → RowsGive v (Err e) mid new (body_at nesting_limit) → RowsGive w (Err e) old new def_at
   def-second v w e new x h g = give-alike w (Err e) old new def_at (made def-of (pair def_start (body_at nesting_limit))) def-is (err-second v w def-of e old mid new def_start bodies x h g)
 
-  pub def-ok : (new : Spots) (x : DefStart) (y : BodyTree) → AllOk def_start x old mid → AllOk (body_at nesting_limit) y mid new → AllOk def_at (def-of (x, y)) old new
+  pub def-ok : (new : RowPositions) (x : DefStart) (y : BodyTree) → AllOk def_start x old mid → AllOk (body_at nesting_limit) y mid new → AllOk def_at (def-of (x, y)) old new
   def-ok new x y h g = give-alike (λ (d : DefTree). d) (Ok (def-of (x, y))) old new def_at (made def-of (pair def_start (body_at nesting_limit))) def-is (both-ok def-of old mid new def_start bodies x y h g)
 
 -- ---- heads
@@ -213,41 +213,41 @@ Mems = Unit {0} × (ℕ × Unit {0})
 abbrev pub Ranges : Type 0
 Ranges = Unit {0} × (List Range × Unit {0})
 
-module _ (name : List ℕ) (old mid : Spots) where
+module _ (name : List ℕ) (old mid : RowPositions) where
   abbrev more-of : Regs × (Mems × Ranges) → Head
   more-of x = record { name = name; regs = x.0.1.0; mems = x.1.0.1.0; code = x.1.1.1.0 }
 
   abbrev more : Regs → Reader (Mems × Ranges)
   more _ = pair mems_row code_row
 
-  pub head-first : {A W : Type 0} (v : A → Regs) (w : W → Head) (e : Halt) → RowsGive v (Err e) old mid regs_row → RowsGive w (Err e) old mid (more_head name)
+  pub head-first : {A W : Type 0} (v : A → Regs) (w : W → Head) (e : ReadError) → RowsGive v (Err e) old mid regs_row → RowsGive w (Err e) old mid (more_head name)
   head-first v w e g = err-first v w more-of e old mid regs_row more g
 
-  pub head-second : {B W : Type 0} (v : B → Mems) (w : W → Head) (e : Halt) (new : Spots) (x : Regs) → AllOk regs_row x old mid → RowsGive v (Err e) mid new mems_row → RowsGive w (Err e) old new (more_head name)
+  pub head-second : {B W : Type 0} (v : B → Mems) (w : W → Head) (e : ReadError) (new : RowPositions) (x : Regs) → AllOk regs_row x old mid → RowsGive v (Err e) mid new mems_row → RowsGive w (Err e) old new (more_head name)
   head-second v w e new x h g = err-second (λ (p : Mems × Ranges). p) w more-of e old mid new regs_row more x h (pair-first v (λ (p : Mems × Ranges). p) e mid new mems_row code_row g)
 
-  pub head-third : {B W : Type 0} (v : B → Ranges) (w : W → Head) (e : Halt) (next new : Spots) (x : Regs) (y : Mems) → AllOk regs_row x old mid → AllOk mems_row y mid next → RowsGive v (Err e) next new code_row → RowsGive w (Err e) old new (more_head name)
+  pub head-third : {B W : Type 0} (v : B → Ranges) (w : W → Head) (e : ReadError) (next new : RowPositions) (x : Regs) (y : Mems) → AllOk regs_row x old mid → AllOk mems_row y mid next → RowsGive v (Err e) next new code_row → RowsGive w (Err e) old new (more_head name)
   head-third v w e next new x y h k g = err-second (λ (p : Mems × Ranges). p) w more-of e old mid new regs_row more x h (pair-second v (λ (p : Mems × Ranges). p) e mid next new mems_row code_row y k g)
 
-  pub head-ok : (next new : Spots) (x : Regs) (y : Mems) (z : Ranges) → AllOk regs_row x old mid → AllOk mems_row y mid next → AllOk code_row z next new → AllOk (more_head name) (more-of (x, (y, z))) old new
+  pub head-ok : (next new : RowPositions) (x : Regs) (y : Mems) (z : Ranges) → AllOk regs_row x old mid → AllOk mems_row y mid next → AllOk code_row z next new → AllOk (more_head name) (more-of (x, (y, z))) old new
   head-ok next new x y z h k g = both-ok more-of old mid new regs_row more x (y, z) h (ok-with mems_row (λ _. code_row) mid next y z new k g)
 
 -- ---- groups
 
-module _ (name : List ℕ) (old mid : Spots) where
+module _ (name : List ℕ) (old mid : RowPositions) where
   abbrev some-group : Head × List DefTree → Option GroupTree
   some-group x = Some (group_of x.0 x.1)
 
   abbrev own : Head → Reader (List DefTree)
   own _ = own_defs
 
-  pub group-first : {A W : Type 0} (v : A → Head) (w : W → Option GroupTree) (e : Halt) → RowsGive v (Err e) old mid (more_head name) → RowsGive w (Err e) old mid (behind_first (Named name))
+  pub group-first : {A W : Type 0} (v : A → Head) (w : W → Option GroupTree) (e : ReadError) → RowsGive v (Err e) old mid (more_head name) → RowsGive w (Err e) old mid (behind_first (Named name))
   group-first v w e g = err-first v w some-group e old mid (more_head name) own g
 
-  pub group-second : {B W : Type 0} (v : B → List DefTree) (w : W → Option GroupTree) (e : Halt) (new : Spots) (x : Head) → AllOk (more_head name) x old mid → RowsGive v (Err e) mid new own_defs → RowsGive w (Err e) old new (behind_first (Named name))
+  pub group-second : {B W : Type 0} (v : B → List DefTree) (w : W → Option GroupTree) (e : ReadError) (new : RowPositions) (x : Head) → AllOk (more_head name) x old mid → RowsGive v (Err e) mid new own_defs → RowsGive w (Err e) old new (behind_first (Named name))
   group-second v w e new x h g = err-second v w some-group e old mid new (more_head name) own x h g
 
-  pub group-ok : (new : Spots) (x : Head) (ds : List DefTree) → AllOk (more_head name) x old mid → AllOk own_defs ds mid new → AllOk (behind_first (Named name)) (Some (group_of x ds)) old new
+  pub group-ok : (new : RowPositions) (x : Head) (ds : List DefTree) → AllOk (more_head name) x old mid → AllOk own_defs ds mid new → AllOk (behind_first (Named name)) (Some (group_of x ds)) old new
   group-ok new x ds h g = both-ok some-group old mid new (more_head name) own x ds h g
 
 -- ---- a call for a group
@@ -255,23 +255,23 @@ module _ (name : List ℕ) (old mid : Spots) where
 abbrev pub Title : Type 0
 Title = Unit {0} × (Unit {0} × Unit {0})
 
-module _ (old mid : Spots) where
+module _ (old mid : RowPositions) where
   abbrev titled : Title × Option GroupTree → Option GroupTree
   titled x = x.1
 
   abbrev nexts : Title → Reader (Option GroupTree)
   nexts _ = next_at
 
-  pub turn-first : {A W : Type 0} (v : A → Title) (w : W → Option GroupTree) (e : Halt) → RowsGive v (Err e) old mid title_row → RowsGive w (Err e) old mid (turn_at true)
+  pub turn-first : {A W : Type 0} (v : A → Title) (w : W → Option GroupTree) (e : ReadError) → RowsGive v (Err e) old mid title_row → RowsGive w (Err e) old mid (turn_at true)
   turn-first v w e g = err-first v w titled e old mid title_row nexts g
 
-  pub turn-second : {X : Type 0} (w : X → Option GroupTree) (q : Result X Halt) (new : Spots) (x : Title) → AllOk title_row x old mid → RowsGive w q mid new next_at → RowsGive w q old new (turn_at true)
+  pub turn-second : {X : Type 0} (w : X → Option GroupTree) (q : Result X ReadError) (new : RowPositions) (x : Title) → AllOk title_row x old mid → RowsGive w q mid new next_at → RowsGive w q old new (turn_at true)
   turn-second w (Ok y) new x h g = both-ok titled old mid new title_row nexts x (w y) h g
   turn-second w (Err e) new x h g = err-second w w titled e old mid new title_row nexts x h g
 
 -- by whether the text begins here
-pub begun : {X : Type 0} (w : X → Option GroupTree) (q : Result X Halt) (old new : Spots) (b : Bool) → b ≡ true → RowsGive w q old new (turn_at true) → RowsGive w q old new (turn_at b)
+pub begun : {X : Type 0} (w : X → Option GroupTree) (q : Result X ReadError) (old new : RowPositions) (b : Bool) → b ≡ true → RowsGive w q old new (turn_at true) → RowsGive w q old new (turn_at b)
 begun w q old new b e g = subst (λ (b : Bool). RowsGive w q old new (turn_at b)) (sym e) g
 
-pub behind-begin : {X : Type 0} (w : X → Option GroupTree) (q : Result X Halt) (old new : Spots) (b : Bool) → b ≡ false → RowsGive w q old new next_at → RowsGive w q old new (turn_at b)
+pub behind-begin : {X : Type 0} (w : X → Option GroupTree) (q : Result X ReadError) (old new : RowPositions) (b : Bool) → b ≡ false → RowsGive w q old new next_at → RowsGive w q old new (turn_at b)
 behind-begin w q old new b e g = subst (λ (b : Bool). RowsGive w q old new (turn_at b)) (sym e) g

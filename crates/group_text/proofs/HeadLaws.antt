@@ -27,7 +27,7 @@ use Rattle.term_text.proofs.TermLaws.{range-law, range-shrinks}
 use Rattle.tailrec_lang.specs.declared.group.Exit.{Exit}
 use Rattle.tailrec_lang.specs.declared.group.Exit.TheVariants.{At, Ret}
 use Rattle.tailrec_lang.specs.Registers.{AreRegistersFrom}
-use Rattle.group_text.specs.Limits.{IsExit, exit_limit, returns, IsName}
+use Rattle.group_text.specs.Limits.{IsExit, def_exit_limit, returns, IsName}
 use Rattle.group_text.specs.Spelling.{number, address, exit_tokens}
 use Rattle.group_text.specs.inner.Reading.{exit_of, has_atom, are_few_exits, def_row, are_atom_bytes, is_name, name_of, registers_rise, ranges_rise, regs_row, mems_row, code_row}
 use Rattle.group_text.proofs.StepLaws.{shrinks, atom-flat, name-law, number-law, address-law, eol-law}
@@ -125,14 +125,14 @@ pub exit-shrinks : Shrinks (one (atom_of exit_of))
 exit-shrinks = shrinks (one (atom_of exit_of)) IsExit exit_tokens exit-law.takes (λ x h. some-exit x)
 
 abbrev pub AreExits : List Exit → Type 0
-AreExits xs = AllByRecursion IsExit xs × ((length xs ≤ exit_limit) × (returns xs ≤ 1))
+AreExits xs = AllByRecursion IsExit xs × ((length xs ≤ def_exit_limit) × (returns xs ≤ 1))
 
 pub def-row-law : Reads def_row (λ p. IsNumber p.0 × (AreExits p.1.0 × Always p.1.1)) (λ p. address p.0 ++ (flat_map exit_tokens p.1.0 ++ Eol ∷ []))
 unfolding def_row
 def-row-law = Reads-pair address_at IsNumber address address-law (λ n h. atom-flat (hex n)) _ _ _
     (row-of has_atom (one (atom_of exit_of)) IsExit exit_tokens are_few_exits AreExits exit-law exit-shrinks exit-flat exit-begins refl
-    (λ xs h e. let k = both-true (nat_le (length xs) exit_limit) (nat_le (returns xs) 1) e in (h, (le-true (length xs) exit_limit k.0, le-true (returns xs) 1 k.1)))
-    (λ xs h. (h.0, true-both (nat_le (length xs) exit_limit) (nat_le (returns xs) 1) (true-le (length xs) exit_limit h.1.0) (true-le (returns xs) 1 h.1.1))))
+    (λ xs h e. let k = both-true (nat_le (length xs) def_exit_limit) (nat_le (returns xs) 1) e in (h, (le-true (length xs) def_exit_limit k.0, le-true (returns xs) 1 k.1)))
+    (λ xs h. (h.0, true-both (nat_le (length xs) def_exit_limit) (nat_le (returns xs) 1) (true-le (length xs) def_exit_limit h.1.0) (true-le (returns xs) 1 h.1.1))))
 
 -- ---- names
 

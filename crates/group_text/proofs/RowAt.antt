@@ -8,7 +8,7 @@ use Rattle.mc_text.specs.Fault.{first_lines, newlines}
 use Rattle.mc_text.proofs.FaultLine.{AreLines}
 use Rattle.mc_text.proofs.Tail.{count-cons}
 use Rattle.group_text.specs.inner.Cut.{AreWholeLines, drop_lines}
-use Rattle.group_text.specs.inner.Rows.{IsRow, Holds, Spot, Passed, Way}
+use Rattle.group_text.specs.inner.Rows.{IsRow, Holds, RowPosition, Passed, Way}
 use Rattle.group_text.specs.inner.TextRows.{IsHeld, FirstRow}
 use Rattle.group_text.proofs.Cuts.{same-some, are-lines, whole-lines, lines-behind, drop-true, drop-false, drop-none, lines-after-lines}
 
@@ -96,10 +96,10 @@ held-first (b ∷ row) bytes (inl h) some = absurd cc
 held-first (b ∷ row) bytes (inr h) some = h
 
 pub text-holds : (row bytes : List ℕ) (taken : ℕ) (none : Bool) → FirstRow row bytes → none ≡ eqb (length row) 0 → Holds (not none) row (λ p. p ≡ record { rest = bytes; taken = taken })
-text-holds [] bytes taken true h e = λ p k. ap (λ (x : Spot). x.rest) k ∙ h
+text-holds [] bytes taken true h e = λ p k. ap (λ (x : RowPosition). x.rest) k ∙ h
 text-holds [] bytes taken false h e = absurd cc
 text-holds (b ∷ row) bytes taken true h e = absurd (let k : suc (length row) ≡ 0 = eqb-true (suc (length row)) 0 (sym e) in omega arith)
-text-holds (b ∷ row) bytes taken false h e = (h.is, λ p k. subst (BeginsWith (b ∷ row)) (sym (ap (λ (x : Spot). x.rest) k)) h.first)
+text-holds (b ∷ row) bytes taken false h e = (h.is, λ p k. subst (BeginsWith (b ∷ row)) (sym (ap (λ (x : RowPosition). x.rest) k)) h.first)
 
 pub record Behind (held rest back : List ℕ) : Type 0 where
   pub lines : AreWholeLines back
@@ -117,10 +117,10 @@ behind-held (b ∷ held) rest back r (inr h) w e =
 
 -- ---- ways from one place to another
 
-pub way-same : (p : Spot) → Way p p
+pub way-same : (p : RowPosition) → Way p p
 way-same p = record { rows = 0; taken = omega arith; rest = sym (drop-none p.rest) }
 
-pub way-more : (p q r : Spot) → Way p q → Way q r → Way p r
+pub way-more : (p q r : RowPosition) → Way p q → Way q r → Way p r
 way-more p q r a b = record {
   rows = a.rows + b.rows;
   taken = omega (arith, a.taken, b.taken);
@@ -134,5 +134,5 @@ behind-row (b ∷ row) more r = elim (row-cases b row r) [
   | inr k ↦ drop-false 0 b (row ++ more) k.0 ∙ behind-row row more k.1
 ]
 
-pub way-row : (row : List ℕ) (p q : Spot) → IsRow row → Passed row p q → Way p q
+pub way-row : (row : List ℕ) (p q : RowPosition) → IsRow row → Passed row p q → Way p q
 way-row row p q r h = record { rows = 1; taken = h.taken; rest = sym (behind-row row q.rest r) ∙ ap (drop_lines 1) (sym h.rest) }

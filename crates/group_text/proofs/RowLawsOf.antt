@@ -9,7 +9,7 @@ use Rattle.term_text.specs.Reading.{word_at, mem_at, cond_at}
 use Rattle.term_text.specs.Spelling.{word_tokens, mem_tokens, cond_tokens, range_tokens}
 use Rattle.term_text.proofs.TermFacts.{word-flat, mem-flat, cond-flat}
 use Rattle.term_text.proofs.TermLaws.{word-law, mem-law, cond-law}
-use Rattle.group_text.specs.Limits.{IsValues, exit_limit, IsName}
+use Rattle.group_text.specs.Limits.{IsValues, def_exit_limit, IsName}
 use Rattle.group_text.specs.Spelling.{number, values_tokens, address, exit_tokens}
 use Rattle.group_text.specs.inner.Reading.{mark_row, values_at, step_at, arm_bound, call_row, name_of, regs_row, mems_row, code_row, def_start, title_row}
 use Rattle.group_text.proofs.StepLaws.{row-law, mark-law, number-law, values-law, values_row, atom-flat, eol-law, name-law}
@@ -64,7 +64,7 @@ end-row room le =
 pub small-bound : (room : ℕ) → arm_bound room ≤ 2 ^ 64
 small-bound room = by (eqb room 0)
   where
-    by : (b : Bool) → cond b 1 (exit_limit + 1) ≤ 2 ^ 64
+    by : (b : Bool) → cond b 1 (def_exit_limit + 1) ≤ 2 ^ 64
     by true = omega arith
     by false = omega arith
 

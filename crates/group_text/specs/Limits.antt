@@ -25,8 +25,8 @@ abbrev pub index_limit : ℕ
 index_limit = 2 ^ 32
 
 -- the most arms of a call, and the most exits of a definition
-abbrev pub exit_limit : ℕ
-exit_limit = 16
+abbrev pub def_exit_limit : ℕ
+def_exit_limit = 16
 
 -- by the nesting that is left: the bodies of a branch and of a call have one less
 abbrev mutual
@@ -34,7 +34,7 @@ abbrev mutual
   IsBody zero b = ⊥
   IsBody (suc n) (Do step rest) = IsStep step × IsBody (suc n) rest
   IsBody (suc n) (Branch c a b) = IsCond c × IsBody n a × IsBody n b
-  IsBody (suc n) (Call def v arms) = (def < index_limit) × (arm_count arms ≤ exit_limit) × IsValues v × AreArms n arms
+  IsBody (suc n) (Call def v arms) = (def < index_limit) × (arm_count arms ≤ def_exit_limit) × IsValues v × AreArms n arms
   IsBody (suc n) (Again v) = IsValues v
   IsBody (suc n) (Leave exit v) = (exit < index_limit) × IsValues v
 
@@ -59,7 +59,7 @@ returns (Ret ∷ xs) = returns xs + 1
 pub record IsDef (d : DefTree) : Type 0 where
   pub entry : d.entry < 2 ^ 64
   pub exits : AllByRecursion IsExit d.exits
-  pub few : length d.exits ≤ exit_limit
+  pub few : length d.exits ≤ def_exit_limit
   pub one_return : returns d.exits ≤ 1
   pub body : IsBody nesting_limit d.body
 

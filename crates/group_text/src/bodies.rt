@@ -10,14 +10,18 @@ ghost use Rattle.group_text.specs.inner.Reading.{arm_at, body_at, end_at, is_ste
 
 use crate::body_rows::EndRow;
 use crate::next_rows::{LastRow, MarkRow, StepRow, next_row, row_begins};
+use crate::read_error::ReadError;
 use crate::rows::Rows;
-use crate::stop::Halt;
 use rv_words::List;
 use std::alloc::Global;
 use tailrec_lang::{Body, End, Step};
 
 /// The steps up to a row that isn't one.
-fn read_steps<E, R: Rows<E>>(alloc: Global, rows: &mut R, from: &mut E) -> Result<List<Step>, Halt>
+fn read_steps<E, R: Rows<E>>(
+    alloc: Global,
+    rows: &mut R,
+    from: &mut E,
+) -> Result<List<Step>, ReadError>
     ensures gives { RowsGive (λ steps. map step_tree steps) result (R.May rows.old from.old) (R.May rows.new from.new) (star is_step step_at) }
     ensures left { R.left rows.new ≤ R.left rows.old }
 {
@@ -38,7 +42,7 @@ fn read_arm<E, R: Rows<E>>(
     rows: &mut R,
     from: &mut E,
     room: u32,
-) -> Result<Body, Halt>
+) -> Result<Body, ReadError>
     ensures gives { RowsGive body_tree result (R.May rows.old from.old) (R.May rows.new from.new) (arm_at (body_at room)) }
     ensures left { R.left rows.new ≤ R.left rows.old }
 {
@@ -55,7 +59,7 @@ fn read_arms<E, R: Rows<E>>(
     from: &mut E,
     room: u32,
     count: u64,
-) -> Result<List<Body>, Halt>
+) -> Result<List<Body>, ReadError>
     ensures gives { RowsGive (λ arms. map body_tree arms) result (R.May rows.old from.old) (R.May rows.new from.new) (times count (arm_at (body_at room))) }
     ensures left { R.left rows.new ≤ R.left rows.old }
 {
@@ -78,7 +82,7 @@ fn read_branch<E, R: Rows<E>>(
     rows: &mut R,
     from: &mut E,
     room: u32,
-) -> Result<(Body, Body), Halt>
+) -> Result<(Body, Body), ReadError>
     ensures gives { RowsGive (λ b. (body_tree b.0, ((tt, tt), body_tree b.1))) result (R.May rows.old from.old) (R.May rows.new from.new) (pair (body_at room) (pair (mark_row (codes "else")) (body_at room))) }
     ensures left { R.left rows.new ≤ R.left rows.old }
 {
@@ -95,7 +99,7 @@ fn read_end<E, R: Rows<E>>(
     rows: &mut R,
     from: &mut E,
     room: u32,
-) -> Result<End, Halt>
+) -> Result<End, ReadError>
     ensures gives { RowsGive end_tree result (R.May rows.old from.old) (R.May rows.new from.new) (end_at room (body_at room)) }
     ensures left { R.left rows.new ≤ R.left rows.old }
 {
@@ -120,12 +124,12 @@ pub fn read_body<E, R: Rows<E>>(
     rows: &mut R,
     from: &mut E,
     room: u32,
-) -> Result<Body, Halt>
+) -> Result<Body, ReadError>
     ensures gives { RowsGive body_tree result (R.May rows.old from.old) (R.May rows.new from.new) (body_at room) }
     ensures left { R.left rows.new ≤ R.left rows.old }
 {
     if room == 0 {
-        return Err(Halt::Bad);
+        return Err(ReadError::Bad);
     }
     let steps = read_steps(alloc, rows, from)?;
     let end = read_end(alloc, rows, from, room - 1)?;

@@ -13,14 +13,14 @@ ghost use Rattle.group_text.specs.inner.Reading.{arm_bound, is_step, mark_row, s
 ghost use Rattle.group_text.specs.inner.BodyRows.{call_of, end_row, end_row_tree, leave_by};
 
 use mc_text::cursor::{eol, keyword, number, peek, semi};
-use mc_text::{Scan, Stop, Token};
+use mc_text::{Scan, Token, TokenError};
 use std::alloc::Global;
 use tailrec_lang::{Step, Values};
 use term_text::{read_cond, read_mem, read_mems, read_word, read_words};
-use word_terms::{Cond, DEEPEST, Mem, Word};
+use word_terms::{Cond, DEPTH_LIMIT, Mem, Word};
 
 /// A line that is one word.
-pub fn read_mark<'a>(scan: &mut Scan<'a>, name: &[u8]) -> Result<(), Stop>
+pub fn read_mark<'a>(scan: &mut Scan<'a>, name: &[u8]) -> Result<(), TokenError>
     ensures gives { Gives (λ _. (tt, tt)) result scan.old scan.new (mark_row name.now) }
     ensures last { last_line scan.new ≡ last_line scan.old }
 {
@@ -31,7 +31,7 @@ pub fn read_mark<'a>(scan: &mut Scan<'a>, name: &[u8]) -> Result<(), Stop>
 
 /// Words and memories, with the end of their line.
 #[tactic(auto, unfolding(crate::specs::inner::Reading::values_at))]
-pub fn read_values<'a>(alloc: Global, scan: &mut Scan<'a>) -> Result<Values, Stop>
+pub fn read_values<'a>(alloc: Global, scan: &mut Scan<'a>) -> Result<Values, TokenError>
     ensures gives { Gives values_tree result scan.old scan.new values_at }
     ensures last { last_line scan.new ≡ last_line scan.old }
 {
@@ -43,38 +43,38 @@ pub fn read_values<'a>(alloc: Global, scan: &mut Scan<'a>) -> Result<Values, Sto
 }
 
 /// A word and the end of its line.
-fn word_row<'a>(alloc: Global, scan: &mut Scan<'a>) -> Result<Word, Stop>
+fn word_row<'a>(alloc: Global, scan: &mut Scan<'a>) -> Result<Word, TokenError>
     ensures gives { Gives (λ t. (word_tree t, tt)) result scan.old scan.new (pair (word_at depth_limit) eol) }
     ensures last { last_line scan.new ≡ last_line scan.old }
 {
-    let word = read_word(alloc, scan, DEEPEST)?;
+    let word = read_word(alloc, scan, DEPTH_LIMIT)?;
     eol(scan)?;
     Ok(word)
 }
 
 /// A memory and the end of its line.
-fn mem_row<'a>(alloc: Global, scan: &mut Scan<'a>) -> Result<Mem, Stop>
+fn mem_row<'a>(alloc: Global, scan: &mut Scan<'a>) -> Result<Mem, TokenError>
     ensures gives { Gives (λ m. (mem_tree m, tt)) result scan.old scan.new (pair (mem_at depth_limit) eol) }
     ensures last { last_line scan.new ≡ last_line scan.old }
 {
-    let mem = read_mem(alloc, scan, DEEPEST)?;
+    let mem = read_mem(alloc, scan, DEPTH_LIMIT)?;
     eol(scan)?;
     Ok(mem)
 }
 
 /// A condition and the end of its line.
-pub fn cond_row<'a>(alloc: Global, scan: &mut Scan<'a>) -> Result<Cond, Stop>
+pub fn cond_row<'a>(alloc: Global, scan: &mut Scan<'a>) -> Result<Cond, TokenError>
     ensures gives { Gives (λ c. (cond_tree c, tt)) result scan.old scan.new (pair (cond_at depth_limit) eol) }
     ensures last { last_line scan.new ≡ last_line scan.old }
 {
-    let cond = read_cond(alloc, scan, DEEPEST)?;
+    let cond = read_cond(alloc, scan, DEPTH_LIMIT)?;
     eol(scan)?;
     Ok(cond)
 }
 
 /// A step's line.
 #[tactic(auto, unfolding(crate::specs::inner::Reading::step_at))]
-pub fn read_step<'a>(alloc: Global, scan: &mut Scan<'a>) -> Result<Step, Stop>
+pub fn read_step<'a>(alloc: Global, scan: &mut Scan<'a>) -> Result<Step, TokenError>
     ensures gives { Gives step_tree result scan.old scan.new step_at }
     ensures last { last_line scan.new ≡ last_line scan.old }
 {
@@ -90,10 +90,10 @@ pub fn read_step<'a>(alloc: Global, scan: &mut Scan<'a>) -> Result<Step, Stop>
                 *scan = ahead;
                 Ok(Step::Need(cond_row(alloc, scan)?))
             } else {
-                Err(Stop::Bad)
+                Err(TokenError::Bad)
             }
         }
-        _ => Err(Stop::Bad),
+        _ => Err(TokenError::Bad),
     }
 }
 
@@ -112,7 +112,7 @@ pub fn begins_step(scan: &Scan<'_>) -> bool
 // ---- the last row of a body
 
 /// The number of a definition or an exit.
-pub fn read_index<'a>(scan: &mut Scan<'a>) -> Result<u32, Stop>
+pub fn read_index<'a>(scan: &mut Scan<'a>) -> Result<u32, TokenError>
     ensures gives { Gives (λ n. n) result scan.old scan.new (number_at (2 ^ 32)) }
     ensures last { last_line scan.new ≡ last_line scan.old }
 {
@@ -128,7 +128,7 @@ fn arm_bound(room: u32) -> u64
 }
 
 /// How many arms a call has.
-fn read_arm_count<'a>(scan: &mut Scan<'a>, room: u32) -> Result<u64, Stop>
+fn read_arm_count<'a>(scan: &mut Scan<'a>, room: u32) -> Result<u64, TokenError>
     ensures gives { Gives (λ n. n) result scan.old scan.new (number_at (arm_bound room)) }
     ensures last { last_line scan.new ≡ last_line scan.old }
 {
@@ -146,7 +146,7 @@ pub enum EndRow {
 }
 
 /// What stands after the word of a call.
-fn call_row<'a>(alloc: Global, scan: &mut Scan<'a>, room: u32) -> Result<EndRow, Stop>
+fn call_row<'a>(alloc: Global, scan: &mut Scan<'a>, room: u32) -> Result<EndRow, TokenError>
     ensures gives { Gives end_row_tree result scan.old scan.new (call_of (arm_bound room)) }
     ensures last { last_line scan.new ≡ last_line scan.old }
 {
@@ -157,7 +157,7 @@ fn call_row<'a>(alloc: Global, scan: &mut Scan<'a>, room: u32) -> Result<EndRow,
 }
 
 /// What stands after the word of an exit.
-fn leave_row<'a>(alloc: Global, scan: &mut Scan<'a>) -> Result<EndRow, Stop>
+fn leave_row<'a>(alloc: Global, scan: &mut Scan<'a>) -> Result<EndRow, TokenError>
     ensures gives { Gives end_row_tree result scan.old scan.new leave_by }
     ensures last { last_line scan.new ≡ last_line scan.old }
 {
@@ -168,7 +168,7 @@ fn leave_row<'a>(alloc: Global, scan: &mut Scan<'a>) -> Result<EndRow, Stop>
 
 /// How a body ends. Bodies stand inside only where there is room.
 #[tactic(auto, unfolding(crate::specs::inner::BodyRows::end_row))]
-pub fn read_end_row<'a>(alloc: Global, scan: &mut Scan<'a>, room: u32) -> Result<EndRow, Stop>
+pub fn read_end_row<'a>(alloc: Global, scan: &mut Scan<'a>, room: u32) -> Result<EndRow, TokenError>
     ensures gives { Gives end_row_tree result scan.old scan.new (end_row room) }
     ensures last { last_line scan.new ≡ last_line scan.old }
 {
@@ -187,9 +187,9 @@ pub fn read_end_row<'a>(alloc: Global, scan: &mut Scan<'a>, room: u32) -> Result
                 *scan = ahead;
                 Ok(EndRow::If(cond_row(alloc, scan)?))
             } else {
-                Err(Stop::Bad)
+                Err(TokenError::Bad)
             }
         }
-        _ => Err(Stop::Bad),
+        _ => Err(TokenError::Bad),
     }
 }

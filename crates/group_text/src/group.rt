@@ -13,38 +13,42 @@ use crate::heads::{FirstRow, Head};
 use crate::next_rows::{
     CodeRow, DefRow, GroupRow, MemsRow, RegsRow, TitleRow, next_row, row_begins,
 };
+use crate::read_error::ReadError;
 use crate::rows::Rows;
-use crate::stop::Halt;
 use rv_words::{List, Text};
 use std::alloc::Global;
 use tailrec_lang::{Def, Group};
 
 /// The deepest nesting of bodies.
-const DEEPEST_BODY: u32 = 64;
+const BODY_DEPTH_LIMIT: u32 = 64;
 
 /// The most definitions of a group.
-const MOST_DEFS: usize = 4096;
+const DEF_LIMIT: usize = 4096;
 
 /// A definition.
-fn read_def<E, R: Rows<E>>(alloc: Global, rows: &mut R, from: &mut E) -> Result<Def, Halt>
+fn read_def<E, R: Rows<E>>(alloc: Global, rows: &mut R, from: &mut E) -> Result<Def, ReadError>
     ensures gives { RowsGive def_tree result (R.May rows.old from.old) (R.May rows.new from.new) def_at }
     ensures left { R.left rows.new ≤ R.left rows.old }
     ensures fewer { OnOk result (R.left rows.new < R.left rows.old) }
 {
     let (entry, exits) = next_row(alloc, rows, from, &DefRow)?;
-    let body = read_body(alloc, rows, from, DEEPEST_BODY)?;
+    let body = read_body(alloc, rows, from, BODY_DEPTH_LIMIT)?;
     Ok(Def { entry, exits, body })
 }
 
 /// The definitions of a group, as many as follow. There is at least one.
-pub fn read_defs<E, R: Rows<E>>(alloc: Global, rows: &mut R, from: &mut E) -> Result<List<Def>, Halt>
+pub fn read_defs<E, R: Rows<E>>(
+    alloc: Global,
+    rows: &mut R,
+    from: &mut E,
+) -> Result<List<Def>, ReadError>
     ensures gives { RowsGive (λ defs. map def_tree defs) result (R.May rows.old from.old) (R.May rows.new from.new) own_defs }
     ensures left { R.left rows.new ≤ R.left rows.old }
 {
     let mut defs = List::new(alloc);
     'defs: while row_begins(alloc, rows, from, &DefRow)? {
-        if defs.len() == MOST_DEFS {
-            return Err(Halt::Bad);
+        if defs.len() == DEF_LIMIT {
+            return Err(ReadError::Bad);
         }
         match read_def(alloc, rows, from) {
             Ok(def) => defs.push(def)?,
@@ -52,7 +56,7 @@ pub fn read_defs<E, R: Rows<E>>(alloc: Global, rows: &mut R, from: &mut E) -> Re
         }
     }
     if defs.is_empty() {
-        return Err(Halt::Bad);
+        return Err(ReadError::Bad);
     }
     Ok(defs)
 }
@@ -63,7 +67,7 @@ pub fn read_head<E, R: Rows<E>>(
     rows: &mut R,
     from: &mut E,
     name: Text,
-) -> Result<Head, Halt>
+) -> Result<Head, ReadError>
     ensures gives { RowsGive head_of result (R.May rows.old from.old) (R.May rows.new from.new) (more_head name) }
     ensures left { R.left rows.new ≤ R.left rows.old }
 {
@@ -84,7 +88,7 @@ fn read_group<E, R: Rows<E>>(
     rows: &mut R,
     from: &mut E,
     name: Text,
-) -> Result<Group, Halt>
+) -> Result<Group, ReadError>
     ensures gives { RowsGive (λ g. Some (group_tree g)) result (R.May rows.old from.old) (R.May rows.new from.new) (made (λ x. Some (group_of x.0 x.1)) (pair (more_head name) own_defs)) }
     ensures left { R.left rows.new ≤ R.left rows.old }
 {
@@ -109,7 +113,7 @@ fn read_next<E, R: Rows<E>>(
     alloc: Global,
     rows: &mut R,
     from: &mut E,
-) -> Result<Option<Group>, Halt>
+) -> Result<Option<Group>, ReadError>
     ensures gives { RowsGive (λ found. option_map group_tree found) result (R.May rows.old from.old) (R.May rows.new from.new) next_at }
     ensures left { R.left rows.new ≤ R.left rows.old }
 {
@@ -129,7 +133,7 @@ pub fn read_turn<E, R: Rows<E>>(
     rows: &mut R,
     from: &mut E,
     first: bool,
-) -> Result<Option<Group>, Halt>
+) -> Result<Option<Group>, ReadError>
     ensures gives { RowsGive (λ found. option_map group_tree found) result (R.May rows.old from.old) (R.May rows.new from.new) (turn_at first) }
     ensures left { R.left rows.new ≤ R.left rows.old }
 {

@@ -11,7 +11,7 @@ ghost use Rattle.group_text.specs.inner.Reading.{are_atom_bytes, are_few_exits, 
 
 use crate::body_rows::read_mark;
 use mc_text::cursor::{address, eol, keyword, number, peek};
-use mc_text::{Scan, Stop, Token, hexnum, is_atom_byte};
+use mc_text::{Scan, Token, TokenError, hexnum, is_atom_byte};
 use rv_words::{List, Range, Text};
 use std::alloc::Global;
 use tailrec_lang::Exit;
@@ -43,7 +43,7 @@ fn exit_of(atom: &[u8]) -> Option<Exit>
 }
 
 #[tactic(auto, unfolding(mc_text::specs::Reading::one))]
-fn read_exit<'a>(scan: &mut Scan<'a>) -> Result<Exit, Stop>
+fn read_exit<'a>(scan: &mut Scan<'a>) -> Result<Exit, TokenError>
     ensures gives { Gives (λ exit. exit) result scan.old scan.new (one (atom_of exit_of)) }
     ensures last { last_line scan.new ≡ last_line scan.old }
 {
@@ -53,14 +53,14 @@ fn read_exit<'a>(scan: &mut Scan<'a>) -> Result<Exit, Stop>
                 *scan = ahead;
                 Ok(exit)
             }
-            None => Err(Stop::Bad),
+            None => Err(TokenError::Bad),
         },
-        _ => Err(Stop::Bad),
+        _ => Err(TokenError::Bad),
     }
 }
 
 /// The exits up to the end of the line.
-fn read_exits<'a>(alloc: Global, scan: &mut Scan<'a>) -> Result<List<Exit>, Stop>
+fn read_exits<'a>(alloc: Global, scan: &mut Scan<'a>) -> Result<List<Exit>, TokenError>
     ensures gives { Gives (λ exits. exits) result scan.old scan.new (star has_atom (one (atom_of exit_of))) }
     ensures last { last_line scan.new ≡ last_line scan.old }
 {
@@ -98,21 +98,24 @@ fn returns(exits: &[Exit]) -> usize
 
 /// The entry and the exits, with the end of their line.
 #[tactic(auto, unfolding(crate::specs::inner::Reading::def_row))]
-fn read_def_row<'a>(alloc: Global, scan: &mut Scan<'a>) -> Result<(u64, List<Exit>), Stop>
+fn read_def_row<'a>(alloc: Global, scan: &mut Scan<'a>) -> Result<(u64, List<Exit>), TokenError>
     ensures gives { Gives (λ row. (row.0, (row.1, tt))) result scan.old scan.new def_row }
     ensures last { last_line scan.new ≡ last_line scan.old }
 {
     let entry = address(scan)?;
     let exits = read_exits(alloc, scan)?;
     if !are_few_exits(exits.as_slice()) {
-        return Err(Stop::Bad);
+        return Err(TokenError::Bad);
     }
     eol(scan)?;
     Ok((entry, exits))
 }
 
 /// The row of a definition.
-pub fn read_def_start<'a>(alloc: Global, scan: &mut Scan<'a>) -> Result<(u64, List<Exit>), Stop>
+pub fn read_def_start<'a>(
+    alloc: Global,
+    scan: &mut Scan<'a>,
+) -> Result<(u64, List<Exit>), TokenError>
     ensures gives { Gives (λ row. (tt, (row.0, (row.1, tt)))) result scan.old scan.new def_start }
     ensures last { last_line scan.new ≡ last_line scan.old }
 {
@@ -153,7 +156,7 @@ fn are_atom_bytes(atom: &[u8]) -> bool
 
 /// The name of a group.
 #[tactic(auto, unfolding(mc_text::specs::Reading::one, crate::specs::inner::Reading::name_of))]
-pub fn read_name<'a>(alloc: Global, scan: &mut Scan<'a>) -> Result<Text, Stop>
+pub fn read_name<'a>(alloc: Global, scan: &mut Scan<'a>) -> Result<Text, TokenError>
     ensures gives { Gives (λ name. name) result scan.old scan.new (one (atom_of name_of)) }
     ensures last { last_line scan.new ≡ last_line scan.old }
 {
@@ -163,12 +166,12 @@ pub fn read_name<'a>(alloc: Global, scan: &mut Scan<'a>) -> Result<Text, Stop>
             *scan = ahead;
             Ok(name)
         }
-        _ => Err(Stop::Bad),
+        _ => Err(TokenError::Bad),
     }
 }
 
 /// The number of a register.
-pub fn read_register<'a>(scan: &mut Scan<'a>) -> Result<u8, Stop>
+pub fn read_register<'a>(scan: &mut Scan<'a>) -> Result<u8, TokenError>
     ensures gives { Gives (λ n. n) result scan.old scan.new (number_at 32) }
     ensures last { last_line scan.new ≡ last_line scan.old }
 {
@@ -177,7 +180,7 @@ pub fn read_register<'a>(scan: &mut Scan<'a>) -> Result<u8, Stop>
 }
 
 /// The registers up to the end of the line.
-fn read_registers<'a>(alloc: Global, scan: &mut Scan<'a>) -> Result<List<u8>, Stop>
+fn read_registers<'a>(alloc: Global, scan: &mut Scan<'a>) -> Result<List<u8>, TokenError>
     ensures gives { Gives (λ registers. registers) result scan.old scan.new (star has_atom (number_at 32)) }
     ensures last { last_line scan.new ≡ last_line scan.old }
 {
@@ -223,14 +226,14 @@ pub fn ranges_rise(ranges: &[Range]) -> bool
 
 /// The line of registers.
 #[tactic(auto, unfolding(crate::specs::inner::Reading::regs_row))]
-pub fn read_regs_row<'a>(alloc: Global, scan: &mut Scan<'a>) -> Result<List<u8>, Stop>
+pub fn read_regs_row<'a>(alloc: Global, scan: &mut Scan<'a>) -> Result<List<u8>, TokenError>
     ensures gives { Gives (λ regs. (tt, (regs, tt))) result scan.old scan.new regs_row }
     ensures last { last_line scan.new ≡ last_line scan.old }
 {
     keyword(scan, b"regs")?;
     let registers = read_registers(alloc, scan)?;
     if !registers_rise(registers.as_slice()) {
-        return Err(Stop::Bad);
+        return Err(TokenError::Bad);
     }
     eol(scan)?;
     Ok(registers)
@@ -238,7 +241,7 @@ pub fn read_regs_row<'a>(alloc: Global, scan: &mut Scan<'a>) -> Result<List<u8>,
 
 /// The line of the number of memories.
 #[tactic(auto, unfolding(crate::specs::inner::Reading::mems_row))]
-pub fn read_mems_row<'a>(scan: &mut Scan<'a>) -> Result<u8, Stop>
+pub fn read_mems_row<'a>(scan: &mut Scan<'a>) -> Result<u8, TokenError>
     ensures gives { Gives (λ mems. (tt, (mems, tt))) result scan.old scan.new mems_row }
     ensures last { last_line scan.new ≡ last_line scan.old }
 {
@@ -250,14 +253,14 @@ pub fn read_mems_row<'a>(scan: &mut Scan<'a>) -> Result<u8, Stop>
 
 /// The line of the code.
 #[tactic(auto, unfolding(crate::specs::inner::Reading::code_row))]
-pub fn read_code_row<'a>(alloc: Global, scan: &mut Scan<'a>) -> Result<Code, Stop>
+pub fn read_code_row<'a>(alloc: Global, scan: &mut Scan<'a>) -> Result<Code, TokenError>
     ensures gives { Gives (λ code. (tt, (code.ranges, tt))) result scan.old scan.new code_row }
     ensures last { last_line scan.new ≡ last_line scan.old }
 {
     keyword(scan, b"code")?;
     let ranges = read_ranges(alloc, scan)?;
     if !ranges_rise(ranges.as_slice()) {
-        return Err(Stop::Bad);
+        return Err(TokenError::Bad);
     }
     eol(scan)?;
     Ok(Code { ranges })
@@ -282,7 +285,7 @@ pub enum FirstRow {
 }
 
 /// What stands after the word of a group.
-fn name_row<'a>(alloc: Global, scan: &mut Scan<'a>) -> Result<FirstRow, Stop>
+fn name_row<'a>(alloc: Global, scan: &mut Scan<'a>) -> Result<FirstRow, TokenError>
     ensures gives { Gives first_row_tree result scan.old scan.new name_row }
     ensures last { last_line scan.new ≡ last_line scan.old }
 {
@@ -292,7 +295,7 @@ fn name_row<'a>(alloc: Global, scan: &mut Scan<'a>) -> Result<FirstRow, Stop>
 }
 
 /// What stands after the word of the text's end.
-fn end_of<'a>(scan: &mut Scan<'a>) -> Result<FirstRow, Stop>
+fn end_of<'a>(scan: &mut Scan<'a>) -> Result<FirstRow, TokenError>
     ensures gives { Gives first_row_tree result scan.old scan.new end_of }
     ensures last { last_line scan.new ≡ last_line scan.old }
 {
@@ -302,7 +305,7 @@ fn end_of<'a>(scan: &mut Scan<'a>) -> Result<FirstRow, Stop>
 
 /// The row of a group's name, or the one that ends the text.
 #[tactic(auto, unfolding(crate::specs::inner::GroupRows::first_row))]
-pub fn read_first_row<'a>(alloc: Global, scan: &mut Scan<'a>) -> Result<FirstRow, Stop>
+pub fn read_first_row<'a>(alloc: Global, scan: &mut Scan<'a>) -> Result<FirstRow, TokenError>
     ensures gives { Gives first_row_tree result scan.old scan.new first_row }
     ensures last { last_line scan.new ≡ last_line scan.old }
 {
@@ -315,15 +318,15 @@ pub fn read_first_row<'a>(alloc: Global, scan: &mut Scan<'a>) -> Result<FirstRow
                 *scan = ahead;
                 name_row(alloc, scan)
             } else {
-                Err(Stop::Bad)
+                Err(TokenError::Bad)
             }
         }
-        _ => Err(Stop::Bad),
+        _ => Err(TokenError::Bad),
     }
 }
 
 /// The row before the first group.
-pub fn read_title<'a>(scan: &mut Scan<'a>) -> Result<(), Stop>
+pub fn read_title<'a>(scan: &mut Scan<'a>) -> Result<(), TokenError>
     ensures gives { Gives (λ _. (tt, (tt, tt))) result scan.old scan.new title_row }
     ensures last { last_line scan.new ≡ last_line scan.old }
 {

@@ -9,8 +9,8 @@ mod laws;
 mod lines;
 mod next_rows;
 mod put;
+mod read_error;
 mod rows;
-mod stop;
 mod text_rows;
 
 pub use body_rows::read_index;
@@ -23,6 +23,6 @@ pub use put::{
     put_bare_line, put_defs, put_end, put_group, put_group_lines, put_head, put_mems, put_ranges,
     put_values,
 };
+pub use read_error::{ReadError, RowError, TextFault};
 pub use rows::Rows;
-pub use stop::{Halt, Lost, TextFault};
 pub use text_rows::TextRows;

@@ -7,7 +7,7 @@ ghost use Rattle.mc_text.specs.Scanning.{tokens_at};
 ghost use Rattle.mc_text.specs.Tokens.{Tok};
 ghost use Rattle.tailrec_lang.specs.Tree.{step_tree};
 ghost use Rattle.group_text.specs.inner.RowReader.{ReadAs, ReadsRows, read_as};
-ghost use Rattle.group_text.specs.inner.Rows.{Spot, RowsGive, tokens};
+ghost use Rattle.group_text.specs.inner.Rows.{RowPosition, RowsGive, tokens};
 ghost use Rattle.group_text.specs.inner.Reading.{code_row, def_start, is_def, is_step, mark_row, mems_row, regs_row, step_at, title_row};
 ghost use Rattle.group_text.specs.inner.BodyRows.{end_row, end_row_tree};
 ghost use Rattle.group_text.specs.inner.GroupRows.{first_row, first_row_tree};
@@ -17,9 +17,9 @@ use crate::heads::{
     FirstRow, begins_def, read_code_row, read_def_start, read_first_row, read_mems_row,
     read_regs_row, read_title,
 };
+use crate::read_error::{ReadError, RowError};
 use crate::rows::Rows;
-use crate::stop::{Halt, Lost};
-use mc_text::{Scan, Stop};
+use mc_text::{Scan, TokenError};
 use rv_words::List;
 use std::alloc::Global;
 use tailrec_lang::{Exit, Step};
@@ -29,7 +29,7 @@ use word_terms::Code;
 pub trait ReadRow<X> {
     ghost reads: { Self → ReadAs X };
 
-    fn read<'a>(&self, alloc: Global, scan: &mut Scan<'a>) -> Result<X, Stop>
+    fn read<'a>(&self, alloc: Global, scan: &mut Scan<'a>) -> Result<X, TokenError>
         ensures { Gives (reads self.now).view result scan.old scan.new (reads self.now).reader };
 }
 
@@ -39,14 +39,14 @@ pub fn next_row<E, R: Rows<E>, X, W: ReadRow<X>>(
     rows: &mut R,
     from: &mut E,
     what: &W,
-) -> Result<X, Halt>
+) -> Result<X, ReadError>
     ensures gives { ReadsRows (W.reads what.now).reader → RowsGive (W.reads what.now).view result (R.May rows.old from.old) (R.May rows.new from.new) (W.reads what.now).reader }
     ensures left { R.left rows.new ≤ R.left rows.old }
     ensures fewer { OnOk result (R.left rows.new < R.left rows.old) }
-    ensures kept { OnErr result ((p : Spot) → R.May rows.new from.new p → R.May rows.old from.old p) }
+    ensures kept { OnErr result ((p : RowPosition) → R.May rows.new from.new p → R.May rows.old from.old p) }
 {
     if !rows.hold(alloc, from)? {
-        return Err(Halt::Bad);
+        return Err(ReadError::Bad);
     }
     let item = what.read(alloc, &mut Scan::new(rows.row()))?;
     rows.pass(from);
@@ -67,10 +67,10 @@ pub fn row_begins<E, R: Rows<E>, W: RowStart>(
     rows: &mut R,
     from: &mut E,
     what: &W,
-) -> Result<bool, Lost>
-    ensures kept { (p : Spot) → R.May rows.new from.new p → R.May rows.old from.old p }
+) -> Result<bool, RowError>
+    ensures kept { (p : RowPosition) → R.May rows.new from.new p → R.May rows.old from.old p }
     ensures left { R.left rows.new ≤ R.left rows.old }
-    ensures goes_on { IfOk result (λ b. (p : Spot) → R.May rows.new from.new p → b ≡ goes_on W.goes (tokens p)) }
+    ensures goes_on { IfOk result (λ b. (p : RowPosition) → R.May rows.new from.new p → b ≡ goes_on W.goes (tokens p)) }
     ensures sure { R.Sure rows.old from.old → OnErr result ⊥ }
 {
     if !rows.hold(alloc, from)? {
@@ -86,7 +86,7 @@ pub struct StepRow;
 impl ReadRow<Step> for StepRow {
     ghost reads = { λ _. read_as step_tree step_at };
 
-    fn read<'a>(&self, alloc: Global, scan: &mut Scan<'a>) -> Result<Step, Stop> {
+    fn read<'a>(&self, alloc: Global, scan: &mut Scan<'a>) -> Result<Step, TokenError> {
         read_step(alloc, scan)
     }
 }
@@ -106,7 +106,7 @@ pub struct LastRow(pub u32);
 impl ReadRow<EndRow> for LastRow {
     ghost reads = { λ row. read_as end_row_tree (end_row row.0) };
 
-    fn read<'a>(&self, alloc: Global, scan: &mut Scan<'a>) -> Result<EndRow, Stop> {
+    fn read<'a>(&self, alloc: Global, scan: &mut Scan<'a>) -> Result<EndRow, TokenError> {
         read_end_row(alloc, scan, self.0)
     }
 }
@@ -118,7 +118,7 @@ pub struct MarkRow<'n>(pub &'n [u8]);
 impl<'n> ReadRow<()> for MarkRow<'n> {
     ghost reads = { λ row. read_as (λ _. (tt, tt)) (mark_row row.0.now) };
 
-    fn read<'a>(&self, _alloc: Global, scan: &mut Scan<'a>) -> Result<(), Stop> {
+    fn read<'a>(&self, _alloc: Global, scan: &mut Scan<'a>) -> Result<(), TokenError> {
         read_mark(scan, self.0)
     }
 }
@@ -130,7 +130,7 @@ pub struct TitleRow;
 impl ReadRow<()> for TitleRow {
     ghost reads = { λ _. read_as (λ _. (tt, (tt, tt))) title_row };
 
-    fn read<'a>(&self, _alloc: Global, scan: &mut Scan<'a>) -> Result<(), Stop> {
+    fn read<'a>(&self, _alloc: Global, scan: &mut Scan<'a>) -> Result<(), TokenError> {
         read_title(scan)
     }
 }
@@ -142,7 +142,7 @@ pub struct GroupRow;
 impl ReadRow<FirstRow> for GroupRow {
     ghost reads = { λ _. read_as first_row_tree first_row };
 
-    fn read<'a>(&self, alloc: Global, scan: &mut Scan<'a>) -> Result<FirstRow, Stop> {
+    fn read<'a>(&self, alloc: Global, scan: &mut Scan<'a>) -> Result<FirstRow, TokenError> {
         read_first_row(alloc, scan)
     }
 }
@@ -154,7 +154,7 @@ pub struct RegsRow;
 impl ReadRow<List<u8>> for RegsRow {
     ghost reads = { λ _. read_as (λ regs. (tt, (regs, tt))) regs_row };
 
-    fn read<'a>(&self, alloc: Global, scan: &mut Scan<'a>) -> Result<List<u8>, Stop> {
+    fn read<'a>(&self, alloc: Global, scan: &mut Scan<'a>) -> Result<List<u8>, TokenError> {
         read_regs_row(alloc, scan)
     }
 }
@@ -166,7 +166,7 @@ pub struct MemsRow;
 impl ReadRow<u8> for MemsRow {
     ghost reads = { λ _. read_as (λ mems. (tt, (mems, tt))) mems_row };
 
-    fn read<'a>(&self, _alloc: Global, scan: &mut Scan<'a>) -> Result<u8, Stop> {
+    fn read<'a>(&self, _alloc: Global, scan: &mut Scan<'a>) -> Result<u8, TokenError> {
         read_mems_row(scan)
     }
 }
@@ -178,7 +178,7 @@ pub struct CodeRow;
 impl ReadRow<Code> for CodeRow {
     ghost reads = { λ _. read_as (λ code. (tt, (code.ranges, tt))) code_row };
 
-    fn read<'a>(&self, alloc: Global, scan: &mut Scan<'a>) -> Result<Code, Stop> {
+    fn read<'a>(&self, alloc: Global, scan: &mut Scan<'a>) -> Result<Code, TokenError> {
         read_code_row(alloc, scan)
     }
 }
@@ -190,7 +190,11 @@ pub struct DefRow;
 impl ReadRow<(u64, List<Exit>)> for DefRow {
     ghost reads = { λ _. read_as (λ row. (tt, (row.0, (row.1, tt)))) def_start };
 
-    fn read<'a>(&self, alloc: Global, scan: &mut Scan<'a>) -> Result<(u64, List<Exit>), Stop> {
+    fn read<'a>(
+        &self,
+        alloc: Global,
+        scan: &mut Scan<'a>,
+    ) -> Result<(u64, List<Exit>), TokenError> {
         read_def_start(alloc, scan)
     }
 }

@@ -1,15 +1,15 @@
 //! Rows of a text, one after the other.
 
 ghost use Rattle.std.specs.Prelude.{◌≡◌, ℕ, ◌<◌, ◌≤◌, List, IfOk, OnErr};
-ghost use Rattle.group_text.specs.inner.Rows.{Spot, IsRow, Passed, Holds};
+ghost use Rattle.group_text.specs.inner.Rows.{RowPosition, IsRow, Passed, Holds};
 
-use crate::stop::Lost;
+use crate::read_error::RowError;
 use std::alloc::Global;
 
 /// The rows of a text, one after the other. What is lent at each call is where they come from.
 pub trait Rows<E> {
     /// The places at which they may stand.
-    ghost May: { Self → E → Spot → Type 0 };
+    ghost May: { Self → E → RowPosition → Type 0 };
 
     /// The row that is held, or nothing.
     ghost held: { Self → List ℕ };
@@ -21,8 +21,8 @@ pub trait Rows<E> {
     ghost left: { Self → ℕ };
 
     /// Holds the next row, if there is one. It isn't passed.
-    fn hold(&mut self, alloc: Global, from: &mut E) -> Result<bool, Lost>
-        ensures kept { (p : Spot) → May self.new from.new p → May self.old from.old p }
+    fn hold(&mut self, alloc: Global, from: &mut E) -> Result<bool, RowError>
+        ensures kept { (p : RowPosition) → May self.new from.new p → May self.old from.old p }
         ensures left { left self.new ≤ left self.old }
         ensures sure { Sure self.old from.old → OnErr result ⊥ }
         ensures holds { IfOk result (λ b. Holds b (held self.new) (May self.new from.new)) };
@@ -35,9 +35,9 @@ pub trait Rows<E> {
     fn pass(&mut self, from: &E)
         requires { IsRow (held self.old) }
         ensures fewer { left self.new < left self.old }
-        ensures passed { (q : Spot) → May self.new from.now q → (p : Spot) × May self.old from.now p × Passed (held self.old) p q };
+        ensures passed { (q : RowPosition) → May self.new from.now q → (p : RowPosition) × May self.old from.now p × Passed (held self.old) p q };
 
     /// How many rows were passed.
     fn taken(&self, from: &E) -> u64
-        ensures { (p : Spot) → May self.now from.now p → result ≡ p.taken };
+        ensures { (p : RowPosition) → May self.now from.now p → result ≡ p.taken };
 }

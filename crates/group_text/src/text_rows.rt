@@ -4,8 +4,8 @@ ghost use Rattle.std.specs.Prelude.{◌≡◌, ◌≤◌, ◌^◌, [], length};
 ghost use Rattle.group_text.specs.inner.Cut.{AreWholeLines};
 ghost use Rattle.group_text.specs.inner.TextRows.{FirstRow, IsHeld};
 
+use crate::read_error::RowError;
 use crate::rows::Rows;
-use crate::stop::Lost;
 use memchr::memchr;
 use std::alloc::Global;
 use std::marker::Model;
@@ -45,9 +45,9 @@ pub struct TextRows<'a> {
 impl<'a> Model for TextRows<'a> {
     ghost use Rattle.std.specs.Prelude.{◌+◌, ◌≤◌, ◌^◌, length};
     ghost use Rattle.group_text.specs.inner.Cut.{AreWholeLines};
-    ghost use Rattle.group_text.specs.inner.TextRows.{TextSpot, IsHeld};
+    ghost use Rattle.group_text.specs.inner.TextRows.{TextRowPosition, IsHeld};
 
-    ghost Value = { TextSpot };
+    ghost Value = { TextRowPosition };
 
     ghost view = { λ s. record { rest = s.rest.now; held = s.held.now; taken = s.taken } };
 
@@ -87,7 +87,7 @@ impl<'a> Rows<()> for TextRows<'a> {
 
     ghost left = { λ s. length s.rest };
 
-    fn hold(&mut self, _alloc: Global, _from: &mut ()) -> Result<bool, Lost> {
+    fn hold(&mut self, _alloc: Global, _from: &mut ()) -> Result<bool, RowError> {
         self.held = held_or_first(self.held, self.rest);
         Ok(!self.held.is_empty())
     }

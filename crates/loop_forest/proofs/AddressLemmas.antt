@@ -14,7 +14,7 @@ use Rattle.flow_graph.proofs.NumberLemmas.{different_from_rising, number_at, num
 use Rattle.flow_graph.proofs.FlowLemmas.{edge_is, is_flow}
 use Rattle.flow_graph.proofs.BuildLemmas.{closed_from_reach}
 use Rattle.loop_forest.specs.Addresses.{GoesTo, entry_at}
-use Rattle.loop_forest.proofs.Lifted.{Numbers, lifted}
+use Rattle.loop_forest.proofs.AddressOrders.{Numbers, lifted}
 use Rattle.loop_forest.proofs.OneEntry.{none_with_two_entries}
 
 module _ (A B : ℕ → ℕ → Type 0) (addr : ℕ → ℕ) (n : ℕ)

@@ -11,20 +11,20 @@ use Rattle.flow_graph.proofs.Ways.{place_of, node_at}
 use Rattle.flow_graph.proofs.ExactLemmas.{pred_succ, succ_pred}
 use Rattle.loop_forest.specs.Cuts.{IsBase, Entry, Head, Exit, Joined}
 use Rattle.loop_forest.specs.inner.Standing.{AreBases, ArePlaces, HasBases, IsBaseOf, IsEnd, IsMarked}
-use Rattle.loop_forest.specs.inner.Order.{mark_of, number_of}
-use Rattle.loop_forest.specs.declared.order.Mark.{Mark}
+use Rattle.loop_forest.specs.inner.DepthFirst.{mark_of, number_of}
+use Rattle.loop_forest.specs.declared.depth_first.Mark.{Mark}
 use Rattle.loop_forest.specs.Loops.{IsSettled}
 use Rattle.std.proofs.Math.ListN.{get_or-eq_default}
 use Rattle.std.proofs.lemmas.Bool.Decides.{leb_tells}
 use Rattle.loop_forest.specs.inner.Found.{AreLoops, IsLooped, heads}
-use Rattle.loop_forest.specs.declared.heads.Looped.{Looped}
+use Rattle.loop_forest.specs.declared.heads.LoopWithExits.{LoopWithExits}
 use Rattle.loop_forest.proofs.LoopNodes.{exit_is, exit_of}
 use Rattle.loop_forest.proofs.FoundLemmas.{no_loop}
 
-pub bases_start : (g : GraphOf) (loops : List Looped) → AreBases g loops [] 0
+pub bases_start : (g : GraphOf) (loops : List LoopWithExits) → AreBases g loops [] 0
 bases_start g loops = record { as_long = refl; each = λ k l. absurd (omega arith) }
 
-pub bases_more : (g : GraphOf) (loops : List Looped) (table : List Bool) (n : ℕ) (b : Bool) → AreBases g loops table n → IsTrue b ↔ IsBaseOf g loops n → AreBases g loops (table ++ b ∷ []) (n + 1)
+pub bases_more : (g : GraphOf) (loops : List LoopWithExits) (table : List Bool) (n : ℕ) (b : Bool) → AreBases g loops table n → IsTrue b ↔ IsBaseOf g loops n → AreBases g loops (table ++ b ∷ []) (n + 1)
 bases_more g loops table n b a is = record {
   as_long = length-append table (b ∷ []) ∙ ap (λ k. k + 1) a.as_long;
   each = λ k l. elim (cases_eq k n) [
@@ -42,17 +42,17 @@ bases_more g loops table n b a is = record {
 abbrev pub incoming : GraphOf → ℕ → ℕ
 incoming g n = length (preds_of g.edges n)
 
-end_of : (g : GraphOf) (loops : List Looped) (h n : ℕ) → AreLoops g loops (length g.addrs) → Contains (heads loops) h → ((l : Looped) → IsLooped g l → l.body.head ≡ h → (n ≡ l.body.head) ⊎ Contains l.exits n) → IsEnd loops n
+end_of : (g : GraphOf) (loops : List LoopWithExits) (h n : ℕ) → AreLoops g loops (length g.addrs) → Contains (heads loops) h → ((l : LoopWithExits) → IsLooped g l → l.body.head ≡ h → (n ≡ l.body.head) ⊎ Contains l.exits n) → IsEnd loops n
 end_of g loops h n a c f =
     let p = place_of (heads loops) h c in
-    let i : p.0 < length loops = omega (arith, p.1, length-map loops (λ (x : Looped). x.body.head)) in
-    record { place = p.0; within = i; ends = λ l. f (get_or loops p.0 l) (a.each p.0 l i) (sym (get_or-map (λ (x : Looped). x.body.head) loops p.0 l 0 i) ∙ p.2) }
+    let i : p.0 < length loops = omega (arith, p.1, length-map loops (λ (x : LoopWithExits). x.body.head)) in
+    record { place = p.0; within = i; ends = λ l. f (get_or loops p.0 l) (a.each p.0 l i) (sym (get_or-map (λ (x : LoopWithExits). x.body.head) loops p.0 l 0 i) ∙ p.2) }
 
 pub head_below : (g : GraphOf) (h : ℕ) → IsFlow g → IsHead (HasEdge g) g.entry h → h < length g.addrs
 head_below g h f k = f.within k.source h k.back.edge
 
 -- the bases of the code are those of the definition
-pub base_is : (g : GraphOf) (loops : List Looped) (n : ℕ) → AreLoops g loops (length g.addrs) → IsBaseOf g loops n → IsBase (HasEdge g) g.entry (incoming g) n
+pub base_is : (g : GraphOf) (loops : List LoopWithExits) (n : ℕ) → AreLoops g loops (length g.addrs) → IsBaseOf g loops n → IsBase (HasEdge g) g.entry (incoming g) n
 base_is g loops n a (inl e) = subst (λ (z : ℕ). IsBase (HasEdge g) g.entry (incoming g) z) (sym e) Entry
 base_is g loops n a (inr (inr j)) = Joined j
 base_is g loops n a (inr (inl o)) =
@@ -62,7 +62,7 @@ base_is g loops n a (inr (inl o)) =
       | inr c ↦ Exit is.body.is_head (exit_is g g.entry _ _ n is.body (is.exits.exit n c))
     ]
 
-pub base_of : (g : GraphOf) (loops : List Looped) (n : ℕ) → IsFlow g → AreLoops g loops (length g.addrs) → IsBase (HasEdge g) g.entry (incoming g) n → IsBaseOf g loops n
+pub base_of : (g : GraphOf) (loops : List LoopWithExits) (n : ℕ) → IsFlow g → AreLoops g loops (length g.addrs) → IsBase (HasEdge g) g.entry (incoming g) n → IsBaseOf g loops n
 base_of g loops _ f a Entry = inl refl
 base_of g loops n f a (Joined j) = inr (inr j)
 base_of g loops n f a (Head k) = inr (inl (end_of g loops n n a (a.all n (head_below g n f k) k) (λ l is q. inl (sym q))))
@@ -99,7 +99,7 @@ places_more g base places n p a s = record {
 }
 
 -- what the table needs for places
-pub has_bases : (g : GraphOf) (loops : List Looped) (marks : List Mark) (table : List Bool) → IsFlow g → AreLoops g loops (length g.addrs) → AreBases g loops table (length g.addrs)
+pub has_bases : (g : GraphOf) (loops : List LoopWithExits) (marks : List Mark) (table : List Bool) → IsFlow g → AreLoops g loops (length g.addrs) → AreBases g loops table (length g.addrs)
     → IsSettled (HasEdge g) g.entry (λ x. number_of (mark_of marks x)) → ((x : ℕ) → number_of (mark_of marks x) ≤ length g.addrs) → HasBases g marks table
 has_bases g loops marks table f a t s n = record {
   settled = s;
@@ -127,7 +127,7 @@ marked_below table n m = elim (leb_tells (length table) n) [
 ]
 
 -- the places are those of the definition; a cut is where the place is 0
-pub places_are : (g : GraphOf) (loops : List Looped) (table : List Bool) (n k : ℕ) → IsFlow g → AreLoops g loops (length g.addrs) → AreBases g loops table (length g.addrs)
+pub places_are : (g : GraphOf) (loops : List LoopWithExits) (table : List Bool) (n k : ℕ) → IsFlow g → AreLoops g loops (length g.addrs) → AreBases g loops table (length g.addrs)
     → StandsAt (HasEdge g) (IsMarked table) n k → StandsAt (HasEdge g) (IsBase (HasEdge g) g.entry (incoming g)) n k
 places_are g loops table n k f a t s = stands_same
     (λ m d. base_is g loops m a ((t.each m (let l = marked_below table m d in omega (arith, l, t.as_long))).0 d))

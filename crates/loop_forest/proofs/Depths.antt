@@ -10,7 +10,7 @@ use Rattle.flow_graph.specs.Walks.{Reaches}
 use Rattle.loop_forest.specs.Loops.{IsHead, InLoop, AtHead}
 use Rattle.loop_forest.specs.Regions.{IsAround}
 use Rattle.loop_forest.specs.Forest.{ForestOf, IsForestOf, count_below, depth_of, has_inside, head_of, inside_of, loops_around, region_of}
-use Rattle.loop_forest.proofs.Nested.{inner_loop, loop_is_met, met_before_differ}
+use Rattle.loop_forest.proofs.LoopNesting.{inner_loop, loop_is_met, met_before_differ}
 use Rattle.flow_graph.proofs.Ways.{node_at}
 use Rattle.loop_forest.proofs.WalkLaws.{walkable}
 

@@ -6,17 +6,17 @@ use Rattle.flow_graph.specs.Graph.{GraphOf, HasEdge, IsFlow, IsRising}
 use Rattle.flow_graph.proofs.Ways.{Contains-cons, place_of}
 use Rattle.loop_forest.specs.Loops.{IsExit, IsHead, IsSettled}
 use Rattle.loop_forest.specs.Forest.{IsForestOf, IsMany}
-use Rattle.loop_forest.specs.Regions.{HasManyExits, exit_limit}
+use Rattle.loop_forest.specs.Regions.{HasManyExits, loop_exit_limit}
 use Rattle.loop_forest.specs.inner.Found.{AreLoops, heads}
 use Rattle.loop_forest.specs.inner.Kept.{AreRegions, IsKept, forest_of}
 use Rattle.loop_forest.specs.inner.LoopOf.{IsIn}
 use Rattle.loop_forest.specs.inner.Standing.{AreBases, ArePlaces}
-use Rattle.loop_forest.specs.inner.Order.{IsNumbered, mark_of, number_of}
-use Rattle.loop_forest.specs.declared.heads.Looped.{Looped}
-use Rattle.loop_forest.specs.declared.order.Mark.{Mark}
+use Rattle.loop_forest.specs.inner.DepthFirst.{IsNumbered, mark_of, number_of}
+use Rattle.loop_forest.specs.declared.heads.LoopWithExits.{LoopWithExits}
+use Rattle.loop_forest.specs.declared.depth_first.Mark.{Mark}
 use Rattle.loop_forest.proofs.AddressLemmas.{graph_settled}
 use Rattle.loop_forest.proofs.BaseLemmas.{head_below, places_are}
-use Rattle.loop_forest.proofs.Closest.{closest_around, closest_within, head_at, head_is, heads_long, in_loop, looped_at, loops_few}
+use Rattle.loop_forest.proofs.SmallestLoop.{closest_around, closest_within, head_at, head_is, heads_long, in_loop, looped_at, loops_few}
 use Rattle.loop_forest.proofs.FoundLemmas.{no_loop}
 use Rattle.loop_forest.proofs.LoopNodes.{exit_is, exit_of}
 
@@ -38,14 +38,14 @@ front_or_in x xs y = (
   (λ d. elim d [ inl q ↦ (0, omega arith, sym q) | inr c ↦ (suc c.0, omega (arith, c.1), c.2) ]),
 )
 
-pub inside_at : (loops : List Looped) (l : ℕ) (d : Looped) → l < length loops
-    → get_or (map (λ (x : Looped). x.body.head ∷ x.body.nodes) loops) l [] ≡ (get_or loops l d).body.head ∷ (get_or loops l d).body.nodes
-inside_at loops l d i = get_or-map (λ (x : Looped). x.body.head ∷ x.body.nodes) loops l d [] i
+pub inside_at : (loops : List LoopWithExits) (l : ℕ) (d : LoopWithExits) → l < length loops
+    → get_or (map (λ (x : LoopWithExits). x.body.head ∷ x.body.nodes) loops) l [] ≡ (get_or loops l d).body.head ∷ (get_or loops l d).body.nodes
+inside_at loops l d i = get_or-map (λ (x : LoopWithExits). x.body.head ∷ x.body.nodes) loops l d [] i
 
-pub exits_at : (loops : List Looped) (l : ℕ) (d : Looped) → l < length loops → get_or (map (λ (x : Looped). x.exits) loops) l [] ≡ (get_or loops l d).exits
-exits_at loops l d i = get_or-map (λ (x : Looped). x.exits) loops l d [] i
+pub exits_at : (loops : List LoopWithExits) (l : ℕ) (d : LoopWithExits) → l < length loops → get_or (map (λ (x : LoopWithExits). x.exits) loops) l [] ≡ (get_or loops l d).exits
+exits_at loops l d i = get_or-map (λ (x : LoopWithExits). x.exits) loops l d [] i
 
-pub kept : (g : GraphOf) (loops : List Looped) (regions : List (Option ℕ)) (marks : List Mark) (table : List Bool) (places : List ℕ) → IsFlow g → IsNumbered g g.entry marks
+pub kept : (g : GraphOf) (loops : List LoopWithExits) (regions : List (Option ℕ)) (marks : List Mark) (table : List Bool) (places : List ℕ) → IsFlow g → IsNumbered g g.entry marks
     → AreLoops g loops (length g.addrs) → AreRegions g (heads loops) regions (length g.addrs) → ArePlaces g table places (length g.addrs) → IsKept loops regions marks places
 kept g loops regions marks table places f m a r p = record {
   few = let few = loops_few g loops a in let limit : length g.addrs ≤ 1024 = f.few in omega (arith, few, limit);
@@ -54,7 +54,7 @@ kept g loops regions marks table places f m a r p = record {
   marks_as_long = m.as_long ∙ sym p.as_long;
 }
 
-pub forest_is : (g : GraphOf) (loops : List Looped) (regions : List (Option ℕ)) (marks : List Mark) (table : List Bool) (places : List ℕ) → IsFlow g → IsNumbered g g.entry marks
+pub forest_is : (g : GraphOf) (loops : List LoopWithExits) (regions : List (Option ℕ)) (marks : List Mark) (table : List Bool) (places : List ℕ) → IsFlow g → IsNumbered g g.entry marks
     → AreLoops g loops (length g.addrs) → AreRegions g (heads loops) regions (length g.addrs) → AreBases g loops table (length g.addrs) → ArePlaces g table places (length g.addrs)
     → IsForestOf g (forest_of loops regions marks places)
 forest_is g loops regions marks table places f m a r t p = record {
@@ -82,7 +82,7 @@ forest_is g loops regions marks table places f m a r t p = record {
       subst IsRising (sym (exits_at loops l no_loop below)) (looped_at g loops l no_loop a below).exits.rising;
   few = λ l i.
       let below : l < length loops = omega (arith, i, heads_long loops) in
-      subst (λ (xs : List ℕ). length xs ≤ exit_limit) (sym (exits_at loops l no_loop below)) (looped_at g loops l no_loop a below).few;
+      subst (λ (xs : List ℕ). length xs ≤ loop_exit_limit) (sym (exits_at loops l no_loop below)) (looped_at g loops l no_loop a below).few;
   regions = λ n l. closest_around g loops n (get_or regions n None) f a (r.each n l);
   within = λ n l i e. closest_within g (heads loops) n l (get_or regions n None) (r.each n i) e;
   places = λ n l. places_are g loops table n (get_or places n 0) f a t (p.each n l);

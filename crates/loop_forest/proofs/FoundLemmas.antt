@@ -15,10 +15,10 @@ use Rattle.flow_graph.specs.Graph.{GraphOf, HasEdge, IsRising}
 use Rattle.loop_forest.specs.Loops.{IsHead}
 use Rattle.flow_graph.proofs.Ways.{place_of, node_at}
 use Rattle.flow_graph.proofs.NumberLemmas.{different_from_rising}
-use Rattle.loop_forest.specs.Regions.{ExitsOver, HasManyExits, exit_limit}
+use Rattle.loop_forest.specs.Regions.{ExitsOver, HasManyExits, loop_exit_limit}
 use Rattle.loop_forest.specs.inner.LoopOf.{AreExits, IsLoopOf}
 use Rattle.loop_forest.specs.inner.Found.{AreLoops, IsLooped, heads}
-use Rattle.loop_forest.specs.declared.heads.Looped.{Looped}
+use Rattle.loop_forest.specs.declared.heads.LoopWithExits.{LoopWithExits}
 use Rattle.loop_forest.proofs.LoopNodes.{exit_is, exit_of}
 
 pub rising_push : (xs : List ℕ) (y : ℕ) → IsRising xs → ((x : ℕ) → Contains xs x → x < y) → IsRising (xs ++ y ∷ [])
@@ -41,7 +41,7 @@ rising_push xs y r b = record {
 pub loops_start : (g : GraphOf) → AreLoops g [] 0
 loops_start g = record { each = λ i d l. absurd (omega arith); rising = record { below = λ j k l h. absurd (omega arith) }; below = λ h c. absurd (omega (arith, c.1)); all = λ h l k. absurd (omega arith) }
 
-pub loops_skip : (g : GraphOf) (loops : List Looped) (h : ℕ) → AreLoops g loops h → (IsHead (HasEdge g) g.entry h → ⊥) → AreLoops g loops (h + 1)
+pub loops_skip : (g : GraphOf) (loops : List LoopWithExits) (h : ℕ) → AreLoops g loops h → (IsHead (HasEdge g) g.entry h → ⊥) → AreLoops g loops (h + 1)
 loops_skip g loops h a n = record {
   each = a.each;
   rising = a.rising;
@@ -49,9 +49,9 @@ loops_skip g loops h a n = record {
   all = λ k l q. elim (cases_eq k h) [ inl e ↦ absurd (n (subst (λ (z : ℕ). IsHead (HasEdge g) g.entry z) e q)) | inr m ↦ a.all k (omega arith) q ];
 }
 
-pub loops_more : (g : GraphOf) (loops : List Looped) (h : ℕ) (l : Looped) → AreLoops g loops h → IsLooped g l → l.body.head ≡ h → AreLoops g (loops ++ l ∷ []) (h + 1)
+pub loops_more : (g : GraphOf) (loops : List LoopWithExits) (h : ℕ) (l : LoopWithExits) → AreLoops g loops h → IsLooped g l → l.body.head ≡ h → AreLoops g (loops ++ l ∷ []) (h + 1)
 loops_more g loops h l a is at =
-    let hs : heads (loops ++ l ∷ []) ≡ heads loops ++ l.body.head ∷ [] = map-append (λ (x : Looped). x.body.head) loops (l ∷ []) in
+    let hs : heads (loops ++ l ∷ []) ≡ heads loops ++ l.body.head ∷ [] = map-append (λ (x : LoopWithExits). x.body.head) loops (l ∷ []) in
     record {
       each = All-push (IsLooped g) loops l a.each is;
       rising = subst IsRising (sym hs) (rising_push (heads loops) l.body.head a.rising (λ x c. let lt = a.below x c in omega (arith, lt, at)));
@@ -73,31 +73,31 @@ different_distinct xs d = IsDistinct-from_apart nat_eq xs (λ i j e l h.
     ])
 
 -- a loop that was kept has few exits
-few_exits : (g : GraphOf) (l : Looped) → IsLooped g l → ExitsOver (HasEdge g) g.entry l.body.head exit_limit → ⊥
+few_exits : (g : GraphOf) (l : LoopWithExits) → IsLooped g l → ExitsOver (HasEdge g) g.entry l.body.head loop_exit_limit → ⊥
 few_exits g l is o =
     let le : length o.some ≤ length l.exits = length-le_from_is_member nat_eq_equiv o.some l.exits (different_distinct o.some o.different)
     (λ q h. list_any-from_Contains nat_eq_equiv q l.exits (is.exits.all q (exit_of g g.entry l.body.head l.body.nodes q is.body (o.exits q (Contains-from_any exact_unsigned_eq q o.some h))))) in
-    let over : exit_limit < length o.some = o.over in
+    let over : loop_exit_limit < length o.some = o.over in
     let few = is.few in
     omega arith
 
-pub no_loop : Looped
+pub no_loop : LoopWithExits
 no_loop = record { body = record { head = 0; nodes = [] }; exits = [] }
 
 -- the first loop with more has too many
-pub many_exits : (g : GraphOf) (loops : List Looped) (h : ℕ) (nodes exits : List ℕ) → AreLoops g loops h → IsLoopOf g g.entry h h nodes → AreExits g h nodes exits → exit_limit < length exits → HasManyExits (HasEdge g) g.entry h
+pub many_exits : (g : GraphOf) (loops : List LoopWithExits) (h : ℕ) (nodes exits : List ℕ) → AreLoops g loops h → IsLoopOf g g.entry h h nodes → AreExits g h nodes exits → loop_exit_limit < length exits → HasManyExits (HasEdge g) g.entry h
 many_exits g loops h nodes exits a l e over = record {
   head = l.is_head;
   over = record { some = exits; over = over; exits = λ x c. exit_is g g.entry h nodes x l (e.exit x c); different = different_from_rising exits e.rising };
   least = λ k lt q o.
       let p = place_of (heads loops) k (a.all k lt q) in
-      let i : p.0 < length loops = omega (arith, p.1, length-map loops (λ (x : Looped). x.body.head)) in
-      let at : (get_or loops p.0 no_loop).body.head ≡ k = sym (get_or-map (λ (x : Looped). x.body.head) loops p.0 no_loop 0 i) ∙ p.2 in
-      few_exits g (get_or loops p.0 no_loop) (a.each p.0 no_loop i) (subst (λ (z : ℕ). ExitsOver (HasEdge g) g.entry z exit_limit) (sym at) o);
+      let i : p.0 < length loops = omega (arith, p.1, length-map loops (λ (x : LoopWithExits). x.body.head)) in
+      let at : (get_or loops p.0 no_loop).body.head ≡ k = sym (get_or-map (λ (x : LoopWithExits). x.body.head) loops p.0 no_loop 0 i) ∙ p.2 in
+      few_exits g (get_or loops p.0 no_loop) (a.each p.0 no_loop i) (subst (λ (z : ℕ). ExitsOver (HasEdge g) g.entry z loop_exit_limit) (sym at) o);
 }
 
 -- what was found of one loop
-pub looped : (g : GraphOf) (h head : ℕ) (nodes exits : List ℕ) → IsLoopOf g g.entry h head nodes → AreExits g head nodes exits → length exits ≤ exit_limit → IsLooped g (record { body = record { head = head; nodes = nodes }; exits = exits })
+pub looped : (g : GraphOf) (h head : ℕ) (nodes exits : List ℕ) → IsLoopOf g g.entry h head nodes → AreExits g head nodes exits → length exits ≤ loop_exit_limit → IsLooped g (record { body = record { head = head; nodes = nodes }; exits = exits })
 looped g h head nodes exits l e few = record {
   body = record {
     head_is = refl;
@@ -110,7 +110,7 @@ looped g h head nodes exits l e few = record {
   few = few;
 }
 
-pub many_of : (g : GraphOf) (loops : List Looped) (h head : ℕ) (nodes exits : List ℕ) → AreLoops g loops h → IsLoopOf g g.entry h head nodes → AreExits g head nodes exits → exit_limit < length exits → HasManyExits (HasEdge g) g.entry h
+pub many_of : (g : GraphOf) (loops : List LoopWithExits) (h head : ℕ) (nodes exits : List ℕ) → AreLoops g loops h → IsLoopOf g g.entry h head nodes → AreExits g head nodes exits → loop_exit_limit < length exits → HasManyExits (HasEdge g) g.entry h
 many_of g loops h head nodes exits a l e over =
     many_exits g loops h nodes exits a (record { head_is = refl; is_head = l.is_head; inside = l.inside; only = l.only; within = l.within })
     (subst (λ (z : ℕ). AreExits g z nodes exits) l.head_is e) over

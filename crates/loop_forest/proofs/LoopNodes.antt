@@ -7,9 +7,9 @@ use Rattle.flow_graph.specs.Walks.{Way}
 use Rattle.loop_forest.specs.Loops.{IsMetBefore}
 use Rattle.loop_forest.specs.Loops.{IsBackEdge, InLoop, AtHead, Inside, IsExit}
 use Rattle.loop_forest.specs.inner.LoopOf.{AreBackTo, AreExits, IsIn, IsLoopOf, LeadsOut, NotesExits}
-use Rattle.loop_forest.proofs.Passing.{IsPassed, passed_end, passed_first, passed_more, passed_start}
+use Rattle.loop_forest.proofs.IteratorLoops.{IsPassed, passed_end, passed_first, passed_more, passed_start}
 use Rattle.flow_graph.specs.inner.Reached.{GrowsBy}
-use Rattle.flow_graph.proofs.Reaching.{kept_by}
+use Rattle.flow_graph.proofs.ReachSearch.{kept_by}
 use Rattle.flow_graph.proofs.ExactLemmas.{succ_pred}
 use Rattle.std.proofs.lemmas.Bool.{cases_eq}
 use Rattle.loop_forest.specs.inner.Search.{FindsSources}

@@ -10,7 +10,7 @@ use Rattle.loop_forest.specs.Cuts.{StandsAt, AtBase, After}
 use Rattle.loop_forest.specs.Regions.{IsAround}
 use Rattle.loop_forest.specs.inner.Inner.{IsInner}
 use Rattle.loop_forest.specs.Cuts.{Head, IsCut}
-use Rattle.loop_forest.proofs.Nested.{cycle_head}
+use Rattle.loop_forest.proofs.LoopNesting.{cycle_head}
 use Rattle.loop_forest.proofs.Regions.{down_to_no_head, left_in_loop}
 use Rattle.loop_forest.proofs.RegionLaws.{head_reached, nested, one, source_in}
 use Rattle.loop_forest.proofs.CutLemmas.{stands_once}

@@ -6,7 +6,7 @@ use Rattle.loop_forest.specs.Loops.{IsBackEdge, IsHead, InLoop, AtHead, Inside, 
 use Rattle.flow_graph.proofs.Ways.{apart_or_from, way-weaken}
 use Rattle.loop_forest.specs.Regions.{IsAround}
 use Rattle.loop_forest.specs.inner.Inner.{IsInner, IsPlaced}
-use Rattle.loop_forest.proofs.Nested.{inner_loop, loop_is_met, met_before_differ, nested_or_apart}
+use Rattle.loop_forest.proofs.LoopNesting.{inner_loop, loop_is_met, met_before_differ, nested_or_apart}
 use Rattle.loop_forest.proofs.Regions.{entered_at_head}
 
 -- edges whose sources are reached

@@ -5,10 +5,10 @@ use Rattle.flow_graph.specs.Walks.{Way, Stop, Leave, AnyNode, Reaches}
 use Rattle.loop_forest.specs.Loops.{IsSettled}
 use Rattle.loop_forest.specs.Loops.{IsHead, InLoop, AtHead, Inside, IsExit}
 use Rattle.flow_graph.proofs.Ways.{apart_or_from, way-weaken}
-use Rattle.loop_forest.proofs.Nested.{loop_is_met}
-use Rattle.loop_forest.proofs.Falling.{Falls, falling_walk, way_falls, way-edges}
+use Rattle.loop_forest.proofs.LoopNesting.{loop_is_met}
+use Rattle.loop_forest.proofs.BackEdgeLemmas.{Falls, falling_walk, way_falls, way-edges}
 
--- a loop is entered at its head alone
+-- a loop is second_entry_from at its head alone
 pub entered_at_head : (E : ℕ → ℕ → Type 0) (e h x y : ℕ) → E x y → InLoop E e h y → y ≢ h → InLoop E e h x
 entered_at_head E e h x _ d AtHead n = absurd (n refl)
 entered_at_head E e h x y d (Inside b r) n =

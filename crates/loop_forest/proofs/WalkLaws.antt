@@ -18,7 +18,7 @@ use Rattle.loop_forest.specs.Walking.{IsPlacedIn, IsWalkable, first_of, index_in
 use Rattle.loop_forest.specs.inner.Inner.{IsInner, IsPlaced}
 use Rattle.loop_forest.proofs.BaseLemmas.{head_below, single}
 use Rattle.loop_forest.proofs.CutLemmas.{stands_once}
-use Rattle.loop_forest.proofs.Nested.{loop_is_met}
+use Rattle.loop_forest.proofs.LoopNesting.{loop_is_met}
 use Rattle.loop_forest.proofs.OrderLaws.{after_loop, cycle_cut, stands_below, within_region}
 use Rattle.loop_forest.proofs.RegionLaws.{around_one, exit_placed, inner_head, inner_one, placed, returned_outside, stays}
 use Rattle.loop_forest.proofs.Regions.{down_to_no_head}

@@ -3,12 +3,12 @@ use Rattle.std.specs.Prelude.{◌≡◌, ◌↔◌, ℕ, zero, suc, ◌<◌, ◌
 use Rattle.std.specs.List.{Contains, list_any}
 use Rattle.flow_graph.specs.Graph.{GraphOf, HasEdge, IsRising, preds_of}
 use Rattle.flow_graph.specs.declared.outside.Outside.{Outside as Fault}
-use Rattle.flow_graph.specs.declared.outside.Outside.TheVariants.{TwoEntries as Entries, ManyExits}
+use Rattle.flow_graph.specs.declared.outside.Outside.TheVariants.{TwoEntries as Irreducible, ManyExits}
 use Rattle.flow_graph.specs.declared.outside.FlowFault.{FlowFault}
 use Rattle.flow_graph.specs.declared.outside.FlowFault.TheVariants.{Outside, NoMemory}
 use Rattle.loop_forest.specs.Cycles.{ShowsTwoEntries, TwoEntries}
 use Rattle.loop_forest.specs.Loops.{IsHead, InLoop, IsExit, IsSettled}
-use Rattle.loop_forest.specs.Regions.{IsAround, HasManyExits, exit_limit}
+use Rattle.loop_forest.specs.Regions.{IsAround, HasManyExits, loop_exit_limit}
 use Rattle.loop_forest.specs.Cuts.{StandsAt, IsBase}
 use Rattle.loop_forest.specs.Addresses.{GoesTo, entry_at}
 
@@ -69,7 +69,7 @@ pub record IsForestOf (g : GraphOf) (f : ForestOf) : Type 0 where
   pub insides : (l n : ℕ) → l < length f.heads → Contains (inside_of f l) n ↔ InLoop (HasEdge g) g.entry (head_of f l) n
   pub exits : (l v : ℕ) → l < length f.heads → Contains (exits_of f l) v ↔ IsExit (HasEdge g) g.entry (head_of f l) v
   pub exits_rise : (l : ℕ) → l < length f.heads → IsRising (exits_of f l)
-  pub few : (l : ℕ) → l < length f.heads → length (exits_of f l) ≤ exit_limit
+  pub few : (l : ℕ) → l < length f.heads → length (exits_of f l) ≤ loop_exit_limit
   pub regions : (n : ℕ) → n < length g.addrs → IsAround (HasEdge g) g.entry n (option_map (head_of f) (region_of f n))
   pub within : (n l : ℕ) → n < length g.addrs → region_of f n ≡ Some l → l < length f.heads
   pub places : (n : ℕ) → n < length g.addrs → StandsAt (HasEdge g) (IsBase (HasEdge g) g.entry (incoming g)) n (place_of f n)
@@ -86,7 +86,7 @@ pub record IsMany (g : GraphOf) (a : ℕ) : Type 0 where
 
 -- a fault of the graph: a cycle with two entries and a walk to each, or a loop with too many exits
 abbrev pub IsForestFault : GraphOf → Fault → Type 0
-IsForestFault g (Entries cycle first second) = ShowsTwoEntries (GoesTo g) (entry_at g) cycle first second
+IsForestFault g (Irreducible cycle first second) = ShowsTwoEntries (GoesTo g) (entry_at g) cycle first second
 IsForestFault g (ManyExits a) = IsMany g a
 IsForestFault g _ = ⊥
 

@@ -17,11 +17,11 @@ pub record ExitsOver (E : ℕ → ℕ → Type 0) (e h n : ℕ) : Type 0 where
   pub different : (j k : ℕ) → j < k → k < length some → slice_index some j ≢ slice_index some k
 
 -- how many exits a loop may have
-abbrev pub exit_limit : ℕ
-exit_limit = 8
+abbrev pub loop_exit_limit : ℕ
+loop_exit_limit = 8
 
 -- h is the least head whose loop has too many exits
 pub record HasManyExits (E : ℕ → ℕ → Type 0) (e h : ℕ) : Type 0 where
   pub head : IsHead E e h
-  pub over : ExitsOver E e h exit_limit
-  pub least : (k : ℕ) → k < h → IsHead E e k → ExitsOver E e k exit_limit → ⊥
+  pub over : ExitsOver E e h loop_exit_limit
+  pub least : (k : ℕ) → k < h → IsHead E e k → ExitsOver E e k loop_exit_limit → ⊥

@@ -1,6 +1,6 @@
 pub mod Search
-pub mod Second
-pub mod Order
+pub mod SecondEntry
+pub mod DepthFirst
 pub mod LoopOf
 pub mod Found
 pub mod Standing

@@ -4,7 +4,7 @@ ghost use Rattle.flow_graph.specs.Graph.{HasEdge};
 ghost use Rattle.loop_forest.specs.Cuts.{StandsAt};
 ghost use Rattle.loop_forest.specs.inner.Standing.{IsMarked, HasBases};
 
-use crate::order::Mark;
+use crate::depth_first::Mark;
 use flow_graph::Graph;
 
 /// How many instructions there are from the last cut to n, modulo 32; 0 at a cut.

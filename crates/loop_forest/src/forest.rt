@@ -2,14 +2,14 @@
 ghost use Rattle.std.specs.Prelude.{◌≡◌, ◌<◌, ◌≤◌, ◌↔◌, ℕ, IfOk, IfErr, IsTrue, Some, length};
 ghost use Rattle.std.specs.List.{Contains};
 ghost use Rattle.loop_forest.specs.Forest.{IsForestOf, IsNoForest, depth_of, exits_of, has_inside, head_of, inside_of, loops_around, number_of, place_of, region_of};
-ghost use Rattle.loop_forest.specs.inner.Order.{IsNumbered};
+ghost use Rattle.loop_forest.specs.inner.DepthFirst.{IsNumbered};
 
-use crate::around::region_table;
-use crate::bases::{base_table, places};
+use crate::cut_tables::{base_table, places};
+use crate::depth_first::{DepthFirst, Mark, post_order};
 use crate::entries::entries_fault;
-use crate::heads::{Found, Looped, find_all};
+use crate::heads::{Found, LoopWithExits, find_all};
 use crate::loops::number_at;
-use crate::order::{Mark, Order, leaving_order};
+use crate::regions::region_table;
 use flow_graph::{FlowFault, Graph, Outside};
 use rv_words::NoMemory;
 use std::alloc::Global;
@@ -18,7 +18,7 @@ use std::marker::Model;
 /// The loops of a graph, numbered from 0 by rising head, and its cuts.
 #[derive(Drop)]
 pub struct Forest {
-    loops: Vec<Looped>,
+    loops: Vec<LoopWithExits>,
     regions: Vec<Option<u32>>,
     marks: Vec<Mark>,
     places: Vec<u32>,
@@ -143,7 +143,7 @@ fn forest_from(alloc: Global, g: &Graph, marks: Vec<Mark>) -> Result<Forest, Flo
 {
     let _count = g.len();
     match find_all(alloc, g, &marks)? {
-        Found::Many(h) => Err(FlowFault::Outside(Outside::ManyExits(g.addr(h)))),
+        Found::TooManyExits(h) => Err(FlowFault::Outside(Outside::ManyExits(g.addr(h)))),
         Found::Loops(loops) => {
             let regions = region_table(alloc, g, &loops)?;
             let base = base_table(alloc, g, &loops)?;
@@ -164,11 +164,11 @@ pub fn find_loops(alloc: Global, g: &Graph) -> Result<Forest, FlowFault>
     ensures err { IfErr result (IsNoForest g.now) }
 {
     let _count = g.len();
-    match leaving_order(alloc, g, g.entry())? {
-        Order::Entries(cycle, first, second) => {
+    match post_order(alloc, g, g.entry())? {
+        DepthFirst::Irreducible(cycle, first, second) => {
             let fault = entries_fault(alloc, g, &cycle, &first, &second)?;
             Err(FlowFault::Outside(fault))
         }
-        Order::Settled(marks) => forest_from(alloc, g, marks),
+        DepthFirst::PostOrder(marks) => forest_from(alloc, g, marks),
     }
 }

@@ -2,21 +2,21 @@
 ghost use Rattle.std.specs.Prelude.{◌<◌, IfOk};
 ghost use Rattle.flow_graph.specs.Graph.{HasEdge};
 ghost use Rattle.loop_forest.specs.Loops.{IsSettled};
-ghost use Rattle.loop_forest.specs.inner.Order.{mark_of, number_of};
+ghost use Rattle.loop_forest.specs.inner.DepthFirst.{mark_of, number_of};
 ghost use Rattle.loop_forest.specs.inner.Found.{IsFound};
 
+use crate::depth_first::Mark;
 use crate::loops::{Loop, exits_of, loop_of};
-use crate::order::Mark;
 use flow_graph::Graph;
 use rv_words::{List, NoMemory};
 use std::alloc::Global;
 
 /// How many exits a loop may have.
-const EXIT_LIMIT: usize = 8;
+const LOOP_EXIT_LIMIT: usize = 8;
 
 /// A loop with its exits.
 #[derive(Drop)]
-pub struct Looped {
+pub struct LoopWithExits {
     pub body: Loop,
     pub exits: List<u32>,
 }
@@ -25,9 +25,9 @@ pub struct Looped {
 #[derive(Drop)]
 pub enum Found {
     /// All loops, by rising head.
-    Loops(Vec<Looped>),
+    Loops(Vec<LoopWithExits>),
     /// The least head whose loop has too many exits.
-    Many(u32),
+    TooManyExits(u32),
 }
 
 /// All loops, or the least head whose loop has too many exits.
@@ -41,10 +41,10 @@ pub fn find_all(alloc: Global, g: &Graph, marks: &[Mark]) -> Result<Found, NoMem
     'heads: while h < count {
         if let Some(body) = loop_of(alloc, g, marks, h)? {
             let exits = exits_of(alloc, g, &body)?;
-            if exits.len() > EXIT_LIMIT {
-                return Ok(Found::Many(h));
+            if exits.len() > LOOP_EXIT_LIMIT {
+                return Ok(Found::TooManyExits(h));
             }
-            loops.push(Looped { body, exits })?;
+            loops.push(LoopWithExits { body, exits })?;
         }
         h += 1;
     }

@@ -5,11 +5,11 @@ ghost use Rattle.flow_graph.specs.Graph.{HasEdge};
 ghost use Rattle.loop_forest.specs.Loops.{IsSettled};
 ghost use Rattle.loop_forest.specs.Loops.{IsHead};
 ghost use Rattle.loop_forest.specs.inner.LoopOf.{AreBackTo, AreExits, IsIn, IsLoopOf, NotesExits};
-ghost use Rattle.loop_forest.specs.inner.Order.{mark_of, number_of};
+ghost use Rattle.loop_forest.specs.inner.DepthFirst.{mark_of, number_of};
 
+use crate::backward_search::reaching_without;
+use crate::depth_first::Mark;
 use crate::node_set::NodeSet;
-use crate::order::Mark;
-use crate::search::sources;
 use flow_graph::Graph;
 use rv_words::{List, NoMemory};
 use std::alloc::Global;
@@ -19,7 +19,7 @@ pub fn number_at(marks: &[Mark], u: u32) -> usize
     ensures { result ≡ number_of (mark_of marks.now u) }
 {
     match marks.get(u as usize) {
-        Some(Mark::Left(n)) => *n,
+        Some(Mark::Done(n)) => *n,
         _ => 0,
     }
 }
@@ -58,7 +58,7 @@ pub fn loop_of(alloc: Global, g: &Graph, marks: &[Mark], h: u32) -> Result<Optio
     if backs.is_empty() {
         return Ok(None);
     }
-    let search = sources(alloc, g, &backs, h)?;
+    let search = reaching_without(alloc, g, &backs, h)?;
     Ok(Some(Loop {
         head: h,
         nodes: search.nodes,

@@ -2,7 +2,7 @@
 use Rattle.std.proofs.Common.{◌≡◌, ℕ, zero, suc, ◌+◌, ◌-◌, ◌<◌, ◌≤◌, Bool, true, false, cond, eqb, List, [], ◌∷◌, ◌++◌, length, get_or, take, drop, Option, Some, None, refl, sym, ap, subst, ◌∙◌, arith, append_assoc}
 use Rattle.std.proofs.lemmas.List.{append-nil, take_all}
 use Rattle.std.specs.Prelude.{IfSome}
-use Rattle.mc_text.specs.Tokens.{Tok, Left, Right, Semi, Atom, Eol, Done, Stuck, is_atom_byte, gap, token_bytes, before_next, token_text, spell, IsAtom, IsToken, tok, eol, HasNoAtomByte, MayStand, Stands, Place, Passes}
+use Rattle.mc_text.specs.Tokens.{Tok, Left, Right, Semi, Atom, Eol, Done, Stuck, is_atom_byte, gap, token_bytes, before_next, token_text, spell, IsAtom, IsToken, tok, eol, HasNoAtomByte, MayStand, Stands, Position, Passes}
 use Rattle.mc_text.specs.declared.token.Token.{Token}
 use Rattle.mc_text.specs.declared.token.Token.TheVariants as token
 use Rattle.mc_text.specs.declared.token.Before.{Before}
@@ -366,22 +366,22 @@ found-stands m spaced bytes (b ∷ bs) t rest us later settled less is split q w
       may = may-stand m (tok t) rest g.fits whole;
     }
 
-pub found-passes : (m : Before) (spaced : Bool) (bytes behind : List ℕ) (t : Token) (rest : List ℕ) (us : List Tok) (line count : ℕ) (next : Before) (p : Place) → record { before = m; rest = bytes; line = line } ≡ p
+pub found-passes : (m : Before) (spaced : Bool) (bytes behind : List ℕ) (t : Token) (rest : List ℕ) (us : List Tok) (line count : ℕ) (next : Before) (p : Position) → record { before = m; rest = bytes; line = line } ≡ p
     → (spaced ≡ true → m ≡ Later) → IsSettled behind (state_of m spaced) → length rest < length behind
     → bytes ≡ space_text spaced ++ behind → behind ≡ token_bytes (tok t) ++ rest → (lex behind (state_of m spaced) ≡ tok t ∷ us) × (tok t ≡ Done → ⊥) → IsWhole (tok t) rest
     → next ≡ before_next (tok t) → count ≡ eol (tok t) → Passes (tok t) p (record { before = next; rest = rest; line = line + count })
 found-passes m spaced bytes behind t rest us line count next p e later settled less is split q whole n c =
-    subst (λ (q : Place). Passes (tok t) q (record { before = next; rest = rest; line = line + count })) e (record {
+    subst (λ (q : Position). Passes (tok t) q (record { before = next; rest = rest; line = line + count })) e (record {
       stands = found-stands m spaced bytes behind t rest us later settled less is split q whole;
       before = n;
       line = ap (λ (k : ℕ). line + k) c;
     })
 
-pub none-at : (m : Before) (bytes : List ℕ) (line : ℕ) (p : Place) → record { before = m; rest = bytes; line = line } ≡ p → lex bytes (At m) ≡ Stuck ∷ [] → (t : Tok) (rest : List ℕ) → Stands p.before p.rest t rest → ⊥
-none-at m bytes line p e s = subst (λ (q : Place). (t : Tok) (rest : List ℕ) → Stands q.before q.rest t rest → ⊥) e (none-stands m bytes s)
+pub none-at : (m : Before) (bytes : List ℕ) (line : ℕ) (p : Position) → record { before = m; rest = bytes; line = line } ≡ p → lex bytes (At m) ≡ Stuck ∷ [] → (t : Tok) (rest : List ℕ) → Stands p.before p.rest t rest → ⊥
+none-at m bytes line p e s = subst (λ (q : Position). (t : Tok) (rest : List ℕ) → Stands q.before q.rest t rest → ⊥) e (none-stands m bytes s)
 
-pub done-at : (m : Before) (bytes : List ℕ) (line : ℕ) (p : Place) → record { before = m; rest = bytes; line = line } ≡ p → m ≡ Start → length bytes < 1 → tokens_at p ≡ Done ∷ []
-done-at m bytes line p e s h = subst (λ (q : Place). tokens_at q ≡ Done ∷ []) e (nothing-left bytes (At m) h ∙ ap (λ (k : Before). at_end (At k)) s)
+pub done-at : (m : Before) (bytes : List ℕ) (line : ℕ) (p : Position) → record { before = m; rest = bytes; line = line } ≡ p → m ≡ Start → length bytes < 1 → tokens_at p ≡ Done ∷ []
+done-at m bytes line p e s h = subst (λ (q : Position). tokens_at q ≡ Done ∷ []) e (nothing-left bytes (At m) h ∙ ap (λ (k : Before). at_end (At k)) s)
 
 -- a mark at the front
 module _ {S : Type 0} (now : S → List ℕ) (t : Token) (x : S) where

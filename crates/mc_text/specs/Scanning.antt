@@ -6,7 +6,7 @@ use Rattle.mc_text.specs.declared.token.Before.{Before}
 use Rattle.mc_text.specs.declared.token.Before.TheVariants.{Start, Open, Later}
 use Rattle.mc_text.specs.declared.token.Class.{Class}
 use Rattle.mc_text.specs.declared.token.Class.TheVariants.{Letter, LeftMark, RightMark, SemiMark, Newline, Space, Other}
-use Rattle.mc_text.specs.Tokens.{Tok, newline, Left, Right, Semi, Atom, Eol, Done, Stuck, tok, eol, is_atom_byte, Place}
+use Rattle.mc_text.specs.Tokens.{Tok, newline, Left, Right, Semi, Atom, Eol, Done, Stuck, tok, eol, is_atom_byte, Position}
 
 abbrev pub class_of : ℕ → Class
 class_of b =
@@ -74,7 +74,7 @@ unfoldable pub lex : List ℕ → State → List Tok
 lex [] s = at_end s
 lex (b ∷ bs) s = byte_step (class_of b) b s (lex bs)
 
-abbrev pub tokens_at : Place → List Tok
+abbrev pub tokens_at : Position → List Tok
 tokens_at p = lex p.rest (At p.before)
 
 -- how many lines end in these tokens
@@ -83,9 +83,9 @@ eols [] = 0
 eols (t ∷ ts) = eol t + eols ts
 
 -- a token and the tokens after it are what stood there; the end of the text stays where it is
-abbrev pub ScansOne : Tok → Place → Place → Type 0
+abbrev pub ScansOne : Tok → Position → Position → Type 0
 ScansOne t old new = ((t ≡ Done) × (tokens_at old ≡ Done ∷ []) × (new ≡ old)) ⊎ ((t ≡ Done → ⊥) × (tokens_at old ≡ t ∷ tokens_at new))
 
-abbrev pub Scanned : Result Token BadText → Place → Place → Type 0
+abbrev pub Scanned : Result Token BadText → Position → Position → Type 0
 Scanned (Ok t) old new = ScansOne (tok t) old new
 Scanned (Err e) old new = tokens_at old ≡ Stuck ∷ []

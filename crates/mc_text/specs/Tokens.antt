@@ -96,7 +96,7 @@ pub record Stands (m : Before) (bytes : List ℕ) (t : Tok) (rest : List ℕ) : 
   pub may : MayStand m t rest
 
 -- a place of a text
-pub record Place : Type 0 where
+pub record Position : Type 0 where
   pub before : Before
   pub rest : List ℕ
   pub line : ℕ
@@ -107,7 +107,7 @@ eol Eol = 1
 eol _ = 0
 
 -- a token stands at the one place, and the other is the place after it
-pub record Passes (t : Tok) (old new : Place) : Type 0 where
+pub record Passes (t : Tok) (old new : Position) : Type 0 where
   pub stands : Stands old.before old.rest t new.rest
   pub before : new.before ≡ before_next t
   pub line : new.line ≡ old.line + eol t

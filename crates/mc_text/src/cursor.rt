@@ -8,7 +8,7 @@ ghost use Rattle.mc_text.specs.Reading.{one, is_left, is_right, below, goes_on, 
 ghost use Rattle.mc_text.specs.inner.Reading.{is_semi, is_eol, is_atom, is_word, number_at};
 ghost use Rattle.mc_text.specs.Outcome.{Gives, last_line};
 ghost use Rattle.mc_text.specs.inner.Outcome.{IsAhead, Accepts};
-ghost use Rattle.mc_text.specs.declared.cursor.Stop.TheVariants.{NoMemory};
+ghost use Rattle.mc_text.specs.declared.cursor.TokenError.TheVariants.{NoMemory};
 
 use crate::bytes::hex_bytes;
 use crate::number::{dec, hexnum};
@@ -19,33 +19,33 @@ use std::alloc::{AllocError, AllocFailed, Global};
 
 /// Why reading stopped.
 #[derive(Clone, Copy, Debug, PartialEq, Eq)]
-pub enum Stop {
+pub enum TokenError {
     /// The next token fits nothing.
     Bad,
     NoMemory,
 }
 
-impl From<OutOfMemory> for Stop {
+impl From<OutOfMemory> for TokenError {
     ghost from_gives = { λ _ e. e ≡ NoMemory };
 
-    fn from(_e: OutOfMemory) -> Stop {
-        Stop::NoMemory
+    fn from(_e: OutOfMemory) -> TokenError {
+        TokenError::NoMemory
     }
 }
 
-impl From<AllocError> for Stop {
+impl From<AllocError> for TokenError {
     ghost from_gives = { λ _ e. e ≡ NoMemory };
 
-    fn from(_e: AllocError) -> Stop {
-        Stop::NoMemory
+    fn from(_e: AllocError) -> TokenError {
+        TokenError::NoMemory
     }
 }
 
-impl<T: Drop> From<AllocFailed<T>> for Stop {
+impl<T: Drop> From<AllocFailed<T>> for TokenError {
     ghost from_gives = { λ _ e. e ≡ NoMemory };
 
-    fn from(_e: AllocFailed<T>) -> Stop {
-        Stop::NoMemory
+    fn from(_e: AllocFailed<T>) -> TokenError {
+        TokenError::NoMemory
     }
 }
 
@@ -65,7 +65,11 @@ pub fn peek<'a>(scan: &Scan<'a>) -> Option<(Token<'a>, Scan<'a>)>
 }
 
 /// Stands after the token where it gave something. Else it is bad.
-pub fn accept<'a, T>(scan: &mut Scan<'a>, ahead: Scan<'a>, found: Option<T>) -> Result<T, Stop>
+pub fn accept<'a, T>(
+    scan: &mut Scan<'a>,
+    ahead: Scan<'a>,
+    found: Option<T>,
+) -> Result<T, TokenError>
     ensures { Accepts found result scan.old ahead.entry scan.new }
 {
     match found {
@@ -73,93 +77,93 @@ pub fn accept<'a, T>(scan: &mut Scan<'a>, ahead: Scan<'a>, found: Option<T>) -> 
             *scan = ahead;
             Ok(item)
         }
-        None => Err(Stop::Bad),
+        None => Err(TokenError::Bad),
     }
 }
 
 /// Passes over a left parenthesis.
-pub fn left<'a>(scan: &mut Scan<'a>) -> Result<(), Stop>
+pub fn left<'a>(scan: &mut Scan<'a>) -> Result<(), TokenError>
     ensures gives { Gives (λ _. tt) result scan.old scan.new (one is_left) }
     ensures last { last_line scan.new ≡ last_line scan.old }
 {
     if scan.pass_left() {
         Ok(())
     } else {
-        Err(Stop::Bad)
+        Err(TokenError::Bad)
     }
 }
 
 /// Passes over a right parenthesis.
-pub fn right<'a>(scan: &mut Scan<'a>) -> Result<(), Stop>
+pub fn right<'a>(scan: &mut Scan<'a>) -> Result<(), TokenError>
     ensures gives { Gives (λ _. tt) result scan.old scan.new (one is_right) }
     ensures last { last_line scan.new ≡ last_line scan.old }
 {
     if scan.pass_right() {
         Ok(())
     } else {
-        Err(Stop::Bad)
+        Err(TokenError::Bad)
     }
 }
 
 /// Passes over a semicolon.
 #[tactic(auto, unfolding(crate::specs::Reading::one))]
-pub fn semi<'a>(scan: &mut Scan<'a>) -> Result<(), Stop>
+pub fn semi<'a>(scan: &mut Scan<'a>) -> Result<(), TokenError>
     ensures gives { Gives (λ _. tt) result scan.old scan.new (one is_semi) }
     ensures last { last_line scan.new ≡ last_line scan.old }
 {
     match peek(scan) {
         Some((Token::Semi, ahead)) => accept(scan, ahead, Some(())),
-        _ => Err(Stop::Bad),
+        _ => Err(TokenError::Bad),
     }
 }
 
 /// Passes over the end of a line.
 #[tactic(auto, unfolding(crate::specs::Reading::one))]
-pub fn eol<'a>(scan: &mut Scan<'a>) -> Result<(), Stop>
+pub fn eol<'a>(scan: &mut Scan<'a>) -> Result<(), TokenError>
     ensures gives { Gives (λ _. tt) result scan.old scan.new (one is_eol) }
     ensures last { last_line scan.new ≡ last_line scan.old }
     ensures start { OnOk result (scan.new.before ≡ Start) }
 {
     match peek(scan) {
         Some((Token::Eol, ahead)) => accept(scan, ahead, Some(())),
-        _ => Err(Stop::Bad),
+        _ => Err(TokenError::Bad),
     }
 }
 
 /// An atom, whatever it spells.
 #[tactic(auto, unfolding(crate::specs::Reading::one))]
-pub fn atom<'a>(scan: &mut Scan<'a>) -> Result<&'a [u8], Stop>
+pub fn atom<'a>(scan: &mut Scan<'a>) -> Result<&'a [u8], TokenError>
     ensures gives { Gives (λ a. a.now) result scan.old scan.new (one is_atom) }
     ensures last { last_line scan.new ≡ last_line scan.old }
 {
     match peek(scan) {
         Some((Token::Atom(atom), ahead)) => accept(scan, ahead, Some(atom)),
-        _ => Err(Stop::Bad),
+        _ => Err(TokenError::Bad),
     }
 }
 
 /// Passes over this word.
 #[tactic(auto, unfolding(crate::specs::Reading::one))]
-pub fn keyword<'a>(scan: &mut Scan<'a>, text: &[u8]) -> Result<(), Stop>
+pub fn keyword<'a>(scan: &mut Scan<'a>, text: &[u8]) -> Result<(), TokenError>
     ensures gives { Gives (λ _. tt) result scan.old scan.new (one (is_word text.now)) }
     ensures last { last_line scan.new ≡ last_line scan.old }
 {
     match peek(scan) {
         Some((Token::Atom(atom), ahead)) if atom == text => accept(scan, ahead, Some(())),
-        _ => Err(Stop::Bad),
+        _ => Err(TokenError::Bad),
     }
 }
 
 /// A decimal number below the limit.
 #[tactic(auto, unfolding(crate::specs::Reading::one))]
-pub fn number<'a>(scan: &mut Scan<'a>, limit: u64) -> Result<u64, Stop>
+pub fn number<'a>(scan: &mut Scan<'a>, limit: u64) -> Result<u64, TokenError>
     ensures gives { Gives (λ n. n) result scan.old scan.new (number_at limit) }
     ensures small { IfOk result (λ n. n < limit) }
     ensures last { last_line scan.new ≡ last_line scan.old }
 {
     match peek(scan) {
         Some((Token::Atom(atom), ahead)) => accept(scan, ahead, below(limit, dec(atom))),
-        _ => Err(Stop::Bad),
+        _ => Err(TokenError::Bad),
     }
 }
 
@@ -176,25 +180,25 @@ fn below(limit: u64, number: Option<u64>) -> Option<u64>
 
 /// An address, in hexadecimal digits.
 #[tactic(auto, unfolding(crate::specs::Reading::one))]
-pub fn address<'a>(scan: &mut Scan<'a>) -> Result<u64, Stop>
+pub fn address<'a>(scan: &mut Scan<'a>) -> Result<u64, TokenError>
     ensures gives { Gives (λ n. n) result scan.old scan.new address_at }
     ensures last { last_line scan.new ≡ last_line scan.old }
 {
     match peek(scan) {
         Some((Token::Atom(atom), ahead)) => accept(scan, ahead, hexnum(atom)),
-        _ => Err(Stop::Bad),
+        _ => Err(TokenError::Bad),
     }
 }
 
 /// One byte or more, in two hexadecimal digits each.
 #[tactic(auto, unfolding(crate::specs::Reading::one))]
-pub fn bytes<'a>(alloc: Global, scan: &mut Scan<'a>) -> Result<Bytes, Stop>
+pub fn bytes<'a>(alloc: Global, scan: &mut Scan<'a>) -> Result<Bytes, TokenError>
     ensures gives { Gives (λ bytes. bytes) result scan.old scan.new bytes_at }
     ensures last { last_line scan.new ≡ last_line scan.old }
 {
     match peek(scan) {
         Some((Token::Atom(atom), ahead)) => accept(scan, ahead, hex_bytes(alloc, atom)?),
-        _ => Err(Stop::Bad),
+        _ => Err(TokenError::Bad),
     }
 }
 

@@ -12,7 +12,7 @@ mod scan;
 mod token;
 
 pub use bytes::hex_bytes;
-pub use cursor::Stop;
+pub use cursor::TokenError;
 pub use laws::{law_of_one_spelling, law_of_tokens};
 pub use number::{dec, hexnum};
 pub use pen::Pen;

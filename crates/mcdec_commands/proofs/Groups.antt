@@ -14,12 +14,12 @@ use Rattle.proof_text.specs.Line.{LineTree, ProofTree, line_tree}
 use Rattle.proof_text.specs.Proofs.{bare, groups_of, texts_of_proofs}
 use Rattle.proof_text.specs.FirstProofs.{Progress, ItemTree, Opens, Adds, items, passed, with_line, HasGiven, ProofEnds, MayOpen, AreRead, BeginsWithItems}
 use Rattle.proof_text.specs.Answers.{NoItem, OnBad}
-use Rattle.group_text.specs.declared.stop.TextFault.{TextFault}
-use Rattle.group_text.specs.declared.stop.TextFault.TheVariants.{Bad, NoMemory}
+use Rattle.group_text.specs.declared.read_error.TextFault.{TextFault}
+use Rattle.group_text.specs.declared.read_error.TextFault.TheVariants.{Bad, NoMemory}
 use Rattle.proof_text.proofs.TextItems.{items-opened, items-added}
 use Rattle.proof_text.proofs.Fronts.{fronts, front-read, few-read, given-read}
-use Rattle.mcdec_commands.specs.declared.evaluate.Refusal.{Refusal}
-use Rattle.mcdec_commands.specs.declared.evaluate.Refusal.TheVariants as refusal
+use Rattle.mcdec_commands.specs.declared.answer_eval.Refusal.{Refusal}
+use Rattle.mcdec_commands.specs.declared.answer_eval.Refusal.TheVariants as refusal
 use Rattle.mcdec_commands.specs.EvalAnswer.{AreWellFormed, first_named}
 use Rattle.mcdec_commands.specs.inner.Search.{HasPassed, IsBadText, LineIs, LinesArePassed, Passing, NextIs, Finds, FoundSo, Searched}
 

@@ -8,7 +8,7 @@ ghost use Rattle.mcdec_words.specs.CommandReading.{IsReadCheck};
 ghost use Rattle.mcdec_commands.specs.inner.Checking.{ImageGives, answer_to};
 ghost use Rattle.mcdec_commands.specs.RunAnswer.{IsLoaded};
 
-use crate::evaluate::PROOF_LIMIT;
+use crate::answer_eval::PROOF_LIMIT;
 use crate::run::ELF_LIMIT;
 use checker::{Verdict, check_text};
 use elf_image::{ElfFault, Image, read};
@@ -18,7 +18,7 @@ use mcdec_words::Check;
 use std::alloc::Global;
 
 /// The answer to `check`.
-pub fn check_files<S: Shelf>(alloc: Global, c: &Check<'_>, shelf: &mut S) -> Answer
+pub fn answer_check<S: Shelf>(alloc: Global, c: &Check<'_>, shelf: &mut S) -> Answer
     ensures gives { (ws : List (List ℕ)) → IsReadCheck ws c.now
         → Gives (S.contents shelf.old) ws (Rose (S.read_faults shelf.old) (S.read_faults shelf.new)) (Rose (S.write_faults shelf.old) (S.write_faults shelf.new)) result }
 

@@ -10,11 +10,11 @@ ghost use Rattle.mcdec_answers.specs.Printed.{IsDelivered, IsPrinted, status};
 ghost use Rattle.mcdec_commands.specs.inner.Decompiling.{LeavesBy};
 ghost use Rattle.mcdec_answers.specs.declared.answer.Answer.{Answer as AnswerOf};
 
-use crate::check::check_files;
-use crate::decompile::decompile_files;
-use crate::evaluate::evaluate;
-use crate::run::run_file;
-use crate::selftest::test_drawn;
+use crate::answer_eval::answer_eval;
+use crate::check::answer_check;
+use crate::decompile::answer_decompile;
+use crate::run::answer_run;
+use crate::selftest::answer_selftest;
 use mc_shelf::{Shelf, Sink};
 use mcdec_answers::{Answer, deliver};
 use mcdec_words::{Command, Unread, read_words};
@@ -75,14 +75,14 @@ fn answer_words<S: Shelf>(alloc: Global, words: &[String], shelf: &mut S) -> Ans
 {
     let command = match read_words(alloc, words) {
         Ok(command) => command,
-        Err(Unread::NotThere) => return Answer::NotACommand,
+        Err(Unread::NotACommand) => return Answer::NotACommand,
         Err(Unread::NoMemory) => return Answer::NoMemory,
     };
     match command {
-        Command::Eval(e) => evaluate(alloc, &e, shelf),
-        Command::Run(r) => run_file(alloc, &r, shelf),
-        Command::Check(c) => check_files(alloc, &c, shelf),
-        Command::Decompile(d) => decompile_files(alloc, &d, shelf),
-        Command::SelfTest(test) => test_drawn(alloc, test),
+        Command::Eval(e) => answer_eval(alloc, &e, shelf),
+        Command::Run(r) => answer_run(alloc, &r, shelf),
+        Command::Check(c) => answer_check(alloc, &c, shelf),
+        Command::Decompile(d) => answer_decompile(alloc, &d, shelf),
+        Command::SelfTest(test) => answer_selftest(alloc, test),
     }
 }

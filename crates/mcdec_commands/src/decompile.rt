@@ -28,7 +28,7 @@ use rv_words::{List, NoMemory, Text};
 use std::alloc::Global;
 
 /// The answer to `decompile`.
-pub fn decompile_files<S: Shelf>(alloc: Global, d: &Decompile<'_>, shelf: &mut S) -> Answer
+pub fn answer_decompile<S: Shelf>(alloc: Global, d: &Decompile<'_>, shelf: &mut S) -> Answer
     requires { All IsName d.now.names }
     ensures gives { (ws : Items (Items ℕ)) → IsReadDecompile ws d.now
         → Gives (S.contents shelf.old) ws (Rose (S.read_faults shelf.old) (S.read_faults shelf.new)) (Rose (S.write_faults shelf.old) (S.write_faults shelf.new)) result }

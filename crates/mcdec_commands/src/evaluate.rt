@@ -24,7 +24,7 @@ use tailrec_lang::{Args, BadDef, Group, Outcome, eval, well_formed};
 /// The most bytes of a proof file that are read.
 pub const PROOF_LIMIT: u64 = 268_435_456;
 
-/// Why a text has no function to evaluate.
+/// Why a text has no function to answer_eval.
 #[derive(Clone, Copy, Debug, PartialEq, Eq)]
 pub enum Refusal {
     /// It isn't a proof file, from this line on.
@@ -38,7 +38,7 @@ pub enum Refusal {
 }
 
 /// The answer to `eval`.
-pub fn evaluate<S: Shelf>(alloc: Global, e: &Eval<'_>, shelf: &mut S) -> Answer
+pub fn answer_eval<S: Shelf>(alloc: Global, e: &Eval<'_>, shelf: &mut S) -> Answer
     requires { All IsMemory e.now.memory }
     ensures gives { (ws : List (List ℕ)) → IsReadEval ws e.now
         → Gives (S.contents shelf.old) ws (Rose (S.read_faults shelf.old) (S.read_faults shelf.new)) (Rose (S.write_faults shelf.old) (S.write_faults shelf.new)) result }

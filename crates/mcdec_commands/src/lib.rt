@@ -2,8 +2,8 @@
 //!
 //! `run_words(alloc, &words, &mut shelf, &mut out)` does what the words of a command line say, prints the lines of the
 //! answer into the sink, and gives its exit status. `eval`, `run`, `check`, `decompile` and `selftest` have a file each,
-//! with one call that reads what the command needs and makes an `Answer`: `evaluate`, `run_file`, `check_files`,
-//! `decompile_files`, `test_drawn`. Only `decompile` writes, and only after all that can be refused was tried.
+//! with one call that reads what the command needs and makes an `Answer`: `answer_eval`, `answer_run`, `answer_check`,
+//! `answer_decompile`, `answer_selftest`. Only `decompile` writes, and only after all that can be refused was tried.
 //!
 //! A `Shelf` is files by name and a `Sink` the output, both traits of mc_shelf, so that proofs and tests run the same code
 //! as the program does, over files in memory.
@@ -13,10 +13,10 @@
 //! `check` makes the functions right of the ELF file; `written` and `kept`, what names hold afterwards.
 #![tactic(auto)]
 
+mod answer_eval;
 mod check;
 mod commands;
 mod decompile;
-mod evaluate;
 mod memory;
 mod output;
 mod run;

@@ -26,7 +26,7 @@ use std::alloc::Global;
 pub const ELF_LIMIT: u64 = 67_108_864;
 
 /// The answer to `run`.
-pub fn run_file<S: Shelf>(alloc: Global, r: &Run<'_>, shelf: &mut S) -> Answer
+pub fn answer_run<S: Shelf>(alloc: Global, r: &Run<'_>, shelf: &mut S) -> Answer
     requires { All IsMemory r.now.memory }
     ensures gives { (ws : List (List ℕ)) → IsReadRun ws r.now
         → Gives (S.contents shelf.old) ws (Rose (S.read_faults shelf.old) (S.read_faults shelf.new)) (Rose (S.write_faults shelf.old) (S.write_faults shelf.new)) result }

@@ -11,7 +11,7 @@ use self_test::self_test;
 use std::alloc::Global;
 
 /// The answer to `selftest`.
-pub fn test_drawn(alloc: Global, test: SelfTest) -> Answer
+pub fn answer_selftest(alloc: Global, test: SelfTest) -> Answer
     requires { test.size ≤ 600 }
     ensures gives { TestGives test.number test.size result }
     ensures no_fault { status result ≡ 5 → ⊥ }

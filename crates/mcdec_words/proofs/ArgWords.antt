@@ -122,7 +122,7 @@ args-unique (x ∷ xs) (y ∷ ys) a b e =
     λ i. first i ∷ rest i
 
 pub unless-also : {A B : Type 0} → (A → B) → (e : Unread) → Unless A e → Unless B e
-unless-also f unread.NotThere a = f a
+unless-also f unread.NotACommand a = f a
 unless-also f unread.NoMemory a = tt
 
 -- the exit of a `?`

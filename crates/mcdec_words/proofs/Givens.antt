@@ -185,7 +185,7 @@ module _ (word name value : List ℕ) (parted : (word ≡ name ++ 61 ∷ value) 
   no-argument named none (Memory r) is e = none r is (memory-are r e).1
 
   pub no-memory : name ≡ codes "mem" → (e : Unread) → Unless (NoMemoryValue value) e → Unless ((a : Arg) → IsArg a → word ≢ arg_word a) e
-  no-memory named unread.NotThere none = no-argument named none
+  no-memory named unread.NotACommand none = no-argument named none
   no-memory named unread.NoMemory none = tt
 
   pub no-given : (name ≡ codes "mem" → ⊥) → NoGiven name value → (a : Arg) → IsArg a → word ≢ arg_word a

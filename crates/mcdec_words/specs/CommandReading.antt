@@ -51,7 +51,7 @@ IsArg (Memory r) = IsMemory r
 
 -- what was read of words, or why nothing was
 abbrev pub Unless : Type 0 → Unread → Type 0
-Unless none unread.NotThere = none
+Unless none unread.NotACommand = none
 Unless none unread.NoMemory = Unit {0}
 
 abbrev pub NoArgs : List (List ℕ) → Type 0

@@ -18,7 +18,7 @@ use std::alloc::{AllocError, AllocFailed, Global};
 #[derive(Clone, Copy, Debug, PartialEq, Eq)]
 pub enum Unread {
     /// They are none.
-    NotThere,
+    NotACommand,
     /// There was no memory.
     NoMemory,
 }
@@ -126,7 +126,7 @@ pub fn read_words(alloc: Global, words: &[String]) -> Result<Command<'_>, Unread
     ensures { MatchResult result (λ c. IsRead (texts words.now) c) (λ e. Unless (IsNoCommand (texts words.now)) e) }
 {
     let [first, rest @ ..] = words else {
-        return Err(Unread::NotThere);
+        return Err(Unread::NotACommand);
     };
     if first.as_str() == "eval" {
         return Ok(Command::Eval(read_eval(alloc, rest)?));
@@ -143,7 +143,7 @@ pub fn read_words(alloc: Global, words: &[String]) -> Result<Command<'_>, Unread
     if first.as_str() == "selftest" {
         return Ok(Command::SelfTest(read_self_test(rest)?));
     }
-    Err(Unread::NotThere)
+    Err(Unread::NotACommand)
 }
 
 /// The words behind `eval`.
@@ -151,14 +151,14 @@ fn read_eval(alloc: Global, words: &[String]) -> Result<Eval<'_>, Unread>
     ensures { MatchResult result (λ e. IsEval (texts words.now) e) (λ e. Unless (NoEval (texts words.now)) e) }
 {
     let [proof, name, turns, arguments @ ..] = words else {
-        return Err(Unread::NotThere);
+        return Err(Unread::NotACommand);
     };
     if proof.is_empty() || !is_name(name.as_bytes()) {
-        return Err(Unread::NotThere);
+        return Err(Unread::NotACommand);
     }
     let turns = match dec(turns.as_bytes()) {
         Some(turns) => turns,
-        None => return Err(Unread::NotThere),
+        None => return Err(Unread::NotACommand),
     };
     let (given, memory) = read_arguments(alloc, arguments)?;
     Ok(Eval {
@@ -175,18 +175,18 @@ fn read_run(alloc: Global, words: &[String]) -> Result<Run<'_>, Unread>
     ensures { MatchResult result (λ r. IsRun (texts words.now) r) (λ e. Unless (NoRun (texts words.now)) e) }
 {
     let [elf, start, until, steps, arguments @ ..] = words else {
-        return Err(Unread::NotThere);
+        return Err(Unread::NotACommand);
     };
     if elf.is_empty() || !is_name(start.as_bytes()) {
-        return Err(Unread::NotThere);
+        return Err(Unread::NotACommand);
     }
     let until = match hexnum(until.as_bytes()) {
         Some(until) => until,
-        None => return Err(Unread::NotThere),
+        None => return Err(Unread::NotACommand),
     };
     let steps = match dec(steps.as_bytes()) {
         Some(steps) => steps,
-        None => return Err(Unread::NotThere),
+        None => return Err(Unread::NotACommand),
     };
     let (given, memory) = read_arguments(alloc, arguments)?;
     Ok(Run {
@@ -204,10 +204,10 @@ fn read_check(words: &[String]) -> Result<Check<'_>, Unread>
     ensures { MatchResult result (λ c. IsCheck (texts words.now) c) (λ e. Unless (NoCheck (texts words.now)) e) }
 {
     let [elf, proof] = words else {
-        return Err(Unread::NotThere);
+        return Err(Unread::NotACommand);
     };
     if elf.is_empty() || proof.is_empty() {
-        return Err(Unread::NotThere);
+        return Err(Unread::NotACommand);
     }
     Ok(Check {
         elf: elf.as_str(),
@@ -220,10 +220,10 @@ fn read_decompile(alloc: Global, words: &[String]) -> Result<Decompile<'_>, Unre
     ensures { MatchResult result (λ d. IsDecompile (texts words.now) d) (λ e. Unless (NoDecompile (texts words.now)) e) }
 {
     let [elf, out, names @ ..] = words else {
-        return Err(Unread::NotThere);
+        return Err(Unread::NotACommand);
     };
     if elf.is_empty() || out.is_empty() || elf.as_str() == out.as_str() || names.is_empty() {
-        return Err(Unread::NotThere);
+        return Err(Unread::NotACommand);
     }
     let names = read_names(alloc, names)?;
     Ok(Decompile {
@@ -238,13 +238,13 @@ fn read_self_test(words: &[String]) -> Result<SelfTest, Unread>
     ensures { MatchResult result (λ t. IsSelfTest (texts words.now) t) (λ e. Unless (NoSelfTest (texts words.now)) e) }
 {
     let [number, size] = words else {
-        return Err(Unread::NotThere);
+        return Err(Unread::NotACommand);
     };
     let Some(number) = dec(number.as_bytes()) else {
-        return Err(Unread::NotThere);
+        return Err(Unread::NotACommand);
     };
     let Some(size) = read_size(size.as_bytes()) else {
-        return Err(Unread::NotThere);
+        return Err(Unread::NotACommand);
     };
     Ok(SelfTest { number, size })
 }
@@ -269,7 +269,7 @@ fn read_names(alloc: Global, words: &[String]) -> Result<List<Text>, Unread>
     for word in words {
         let name = word.as_bytes();
         if !is_name(name) || has_name(names.as_slice(), name) {
-            return Err(Unread::NotThere);
+            return Err(Unread::NotACommand);
         }
         names.push(Text::from_slice(alloc, name)?)?;
     }
@@ -305,7 +305,7 @@ fn read_arguments(alloc: Global, words: &[String]) -> Result<(Registers, List<Ra
         match read_argument(alloc, word.as_str())? {
             Argument::Value(register, value) => {
                 if values[register as usize].is_some() {
-                    return Err(Unread::NotThere);
+                    return Err(Unread::NotACommand);
                 }
                 values[register as usize] = Some(value);
             }
@@ -320,14 +320,14 @@ fn read_argument(alloc: Global, word: &str) -> Result<Argument, Unread>
     ensures { MatchResult result (λ a. IsArg (arg_of a) × (word.now ≡ arg_word (arg_of a))) (λ e. Unless ((a : Arg) → IsArg a → word.now ≢ arg_word a) e) }
 {
     let Some((name, value)) = at_first(word, '=') else {
-        return Err(Unread::NotThere);
+        return Err(Unread::NotACommand);
     };
     if name == "mem" {
         return Ok(Argument::Memory(read_memory(alloc, value)?));
     }
     match read_register(name.as_bytes(), value.as_bytes()) {
         Some((register, value)) => Ok(Argument::Value(register, value)),
-        None => Err(Unread::NotThere),
+        None => Err(Unread::NotACommand),
     }
 }
 
@@ -354,18 +354,18 @@ fn read_memory(alloc: Global, value: &str) -> Result<Range, Unread>
         (λ e. Unless ((r : RangeOf) → IsMemory r → value.now ≢ hex r.at ++ codes ":" ++ encode_lower r.bytes) e) }
 {
     let Some((address, digits)) = at_first(value, ':') else {
-        return Err(Unread::NotThere);
+        return Err(Unread::NotACommand);
     };
     let Some(at) = hexnum(address.as_bytes()) else {
-        return Err(Unread::NotThere);
+        return Err(Unread::NotACommand);
     };
     let Some(bytes) = hex_bytes(alloc, digits.as_bytes())? else {
-        return Err(Unread::NotThere);
+        return Err(Unread::NotACommand);
     };
     if u128::from(at) + bytes.len() as u128 <= 1 << 64 {
         Ok(Range { at, bytes })
     } else {
-        Err(Unread::NotThere)
+        Err(Unread::NotACommand)
     }
 }
 

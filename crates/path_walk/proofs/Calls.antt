@@ -17,7 +17,7 @@ use Rattle.loop_rule.specs.Leaves.{variables_after, parameters, with_values, at_
 use Rattle.loop_rule.specs.Rule.{results, exit_triple}
 use Rattle.checker.specs.Instance.{put_for}
 use Rattle.instr_axioms.specs.Axiom.{memory_if}
-use Rattle.code_parts.specs.Bodies.{Flow, Place, mem_count, current}
+use Rattle.code_parts.specs.Bodies.{Flow, VariableMap, mem_count, current}
 use Rattle.path_walk.specs.inner.Histories.{exit_place, pc_of}
 use Rattle.code_parts.specs.Flows.{group_over}
 use Rattle.path_walk.specs.inner.Acts.{numbered}
@@ -76,7 +76,7 @@ module _ (f : Flow) (name : List ℕ) (ranges : List Range) (defs : List DefTree
   abbrev g : GroupTree
   g = group_over f name ranges defs
 
-  module _ (v : Place) (x : Exit) where
+  module _ (v : VariableMap) (x : Exit) where
     abbrev count : ℕ
     count = exit_words (group_over f name ranges defs) x
 

@@ -5,7 +5,7 @@ use Rattle.tailrec_lang.specs.Tree.{StepTree, BodyTree, DefTree, GroupTree, with
 use Rattle.tailrec_lang.specs.WellFormed.{words_after, mems_after}
 use Rattle.triple_kernel.specs.Tree.{FactTree, So, WordIs, MemIs}
 use Rattle.loop_rule.specs.Leaves.{step_fact, body_leaves}
-use Rattle.code_parts.specs.Bodies.{Place, names, is_store, needs, writes}
+use Rattle.code_parts.specs.Bodies.{VariableMap, names, is_store, needs, writes}
 use Rattle.rv_decode.specs.declared.instruction.Instr.{Instr}
 use Rattle.triple_kernel.specs.declared.form.Form.TheVariants.{Next}
 use Rattle.rv_decode.specs.Registers.{destination}
@@ -32,7 +32,7 @@ pub need-facts : (cs : List CondTree) (words mems : ℕ) (path : List FactTree) 
 need-facts [] words mems path = sym (append-nil path)
 need-facts (c ∷ cs) words mems path = need-facts cs words mems (path ++ So c ∷ []) ∙ append_assoc path (So c ∷ []) (map So cs)
 
-write-facts : (i : Instr) (a k : ℕ) (v : Place) (path : List FactTree) → facts_after (writes i a k v) v.words v.mems path ≡ path ++ new_facts i a k v
+write-facts : (i : Instr) (a k : ℕ) (v : VariableMap) (path : List FactTree) → facts_after (writes i a k v) v.words v.mems path ≡ path ++ new_facts i a k v
 write-facts i a k v path = go (is_store i) (eqb (destination i) 0)
   where
     go : (s d : Bool) → facts_after (cond s (BindMem (memory_after i (names v)) ∷ []) (cond d [] (Bind (result i a k (names v)) ∷ []))) v.words v.mems path
@@ -42,7 +42,7 @@ write-facts i a k v path = go (is_store i) (eqb (destination i) 0)
     go false false = refl
 
 -- .. of the steps of an instruction
-pub all-facts : (i : Instr) (a k : ℕ) (v : Place) (path : List FactTree) → facts_after (needs i v ++ writes i a k v) v.words v.mems path ≡ (path ++ map So (conditions i Next (names v))) ++ new_facts i a k v
+pub all-facts : (i : Instr) (a k : ℕ) (v : VariableMap) (path : List FactTree) → facts_after (needs i v ++ writes i a k v) v.words v.mems path ≡ (path ++ map So (conditions i Next (names v))) ++ new_facts i a k v
 all-facts i a k v path =
     let cs : List CondTree = conditions i Next (names v) in
     facts-append (map Need cs) (writes i a k v) v.words v.mems path

@@ -23,7 +23,7 @@ use Rattle.rv_decode.specs.Registers.{is_read, registers_where, sources, destina
 use Rattle.instr_axioms.specs.Terms.{Names, has_memory, conditions, result, word_after, memory_after, pc_after, has_form}
 use Rattle.instr_axioms.specs.Axiom.{register_with, memory_if, triple_over, is_own, own, variables_for, own_triple, triple_if, axiom_of}
 use Rattle.instr_axioms.proofs.Instances.{Becomes, is_inst}
-use Rattle.code_parts.specs.Bodies.{Place, names, is_store, wrote, stored, place_after}
+use Rattle.code_parts.specs.Bodies.{VariableMap, names, is_store, wrote, stored, place_after}
 use Rattle.path_walk.specs.inner.Acts.{named_triple, new_facts, own_mems, own_words}
 use Rattle.code_parts.proofs.Lists.{here, later, in_range, is_in, in-true}
 use Rattle.path_walk.proofs.Lists.{smaller-is, listed-place}
@@ -157,7 +157,7 @@ put-memory : (b : Bool) (x : MemTree) → b ≡ true → put_in_mem (put_for [] 
 put-memory true x e = refl
 put-memory false x e = absurd (cc)
 
-module _ (i : Instr) (v : Place) (reads : (r : ℕ) → Contains (sources i) r → (r ≡ 0 → ⊥) → (1 ≤ r) × (r ≤ 31)) where
+module _ (i : Instr) (v : VariableMap) (reads : (r : ℕ) → Contains (sources i) r → (r ≡ 0 → ⊥) → (1 ≤ r) × (r ≤ 31)) where
   becomes : Becomes (put_for (own_words i v) (own_mems i v)) (variables_for (own i)) (names v) (own i) (has_memory i)
   becomes = record {
     word = λ r c.
@@ -197,7 +197,7 @@ swap-memory : (facts : List FactTree) (b : Bool) (x y : MemTree) → SwapMem fac
 swap-memory facts true x y h = (h, tt)
 swap-memory facts false x y h = tt
 
-module _ (i : Instr) (a k : ℕ) (v : Place) (facts : List FactTree) (known : (x : FactTree) → Contains (new_facts i a k v) x → Contains facts x) where
+module _ (i : Instr) (a k : ℕ) (v : VariableMap) (facts : List FactTree) (known : (x : FactTree) → Contains (new_facts i a k v) x → Contains facts x) where
   new-word : (r : ℕ) → 1 ≤ r → SwapWord facts (word_after i a k (names v) r) (Var ((place_after i v).reg r))
   new-word r low = go (is_store i) refl known
     where
@@ -230,7 +230,7 @@ module _ (i : Instr) (a k : ℕ) (v : Place) (facts : List FactTree) (known : (x
       go true is more = stated-mem facts (memory_after i (names v)) (MemVar v.mems) (inr (inr (more (MemIs (MemVar v.mems) (memory_after i (names v))) (0, omega arith, refl))))
       go false is more = stated-mem facts (memory_after i (names v)) (MemVar (wrote (destination i) v).memory) (inl (memory-same i (names v) is ∙ ap MemVar (sym (kept (eqb (destination i) 0)))))
 
-pub is_weakened : (i : Instr) (form : Form) (a k : ℕ) (code : List Range) (regs : List ℕ) (mem : Bool) (v : Place) → AreRegistersFrom 1 regs →
+pub is_weakened : (i : Instr) (form : Form) (a k : ℕ) (code : List Range) (regs : List ℕ) (mem : Bool) (v : VariableMap) → AreRegistersFrom 1 regs →
     IsWeakened (triple_over i form a k code regs mem (names v)) (named_triple i form a k code regs mem v)
 is_weakened i form a k code regs mem v rise =
     let facts : List FactTree = map So (conditions i form (names v)) ++ new_facts i a k v in

@@ -15,7 +15,7 @@ use Rattle.code_parts.proofs.FlowCode.{registers-rise}
 use Rattle.code_parts.proofs.FlowEntry.{last-is}
 use Rattle.code_parts.proofs.FlowSize.{is-small, parts-fit}
 use Rattle.code_parts.proofs.Lists.{length-map}
-use Rattle.path_walk.proofs.Printed.{part-printed}
+use Rattle.path_walk.proofs.PartLimits.{part-printed}
 
 module _ (code : Bytes) (entry : ℕ) (g : GraphOf) (f : ForestOf) (parts : List Part) (graph : IsGraphOf code entry g) (forest : IsForestOf g f)
     (order : AreParts (flow_of g f parts) (number_of f) parts) where

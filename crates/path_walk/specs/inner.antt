@@ -1,6 +1,6 @@
 pub mod Near
 pub mod Histories
-pub mod Logs
+pub mod Writers
 pub mod Walks
 pub mod Acts
 pub mod Lines

@@ -10,13 +10,13 @@ ghost use Rattle.code_parts.specs.Graph.{IsPart};
 ghost use Rattle.path_walk.specs.inner.Near.{IsNear, IsNext};
 ghost use Rattle.code_parts.specs.inner.Ends.{body_on};
 ghost use Rattle.code_parts.specs.Kept.{flow_in};
-ghost use Rattle.path_walk.specs.inner.Logs.{IsOver, Leads, log_tree, standing_tree};
-ghost use Rattle.code_parts.specs.Places.{place_of};
+ghost use Rattle.path_walk.specs.inner.Writers.{IsOver, Leads, writer_tree, cited_tree};
+ghost use Rattle.code_parts.specs.VariableMaps.{place_of};
 
-use crate::act_lines::step;
 use crate::cut_lines::{end_lines, entry_of, head_lines};
-use crate::log::{Log, Standing};
-use code_parts::{Flow, Part, Place, ROOM, after, fresh, is_jump_through};
+use crate::instruction_lines::step;
+use crate::proof_writer::{CitedTheorem, ProofWriter};
+use code_parts::{CUT_DISTANCE_LIMIT, Flow, Part, VariableMap, after, fresh, is_jump_through};
 use instr_axioms::Form;
 use rv_decode::Instr;
 use rv_words::NoMemory;
@@ -29,18 +29,18 @@ fn lines_from(
     flow: &Flow<'_>,
     p: Part,
     n: u32,
-    place: &Place,
+    place: &VariableMap,
     room: u32,
-    from: Option<&Standing>,
-    log: &mut Log,
+    from: Option<&CitedTheorem>,
+    log: &mut ProofWriter,
 ) -> Result<(), NoMemory>
     requires part { IsPart (flow_in flow.now) p }
     requires near { IsNear (flow_in flow.now) p room n }
     requires words { place.now.words + room < 2 ^ 14 }
     requires mems { place.now.mems + room < 2 ^ 14 }
-    requires code { IsOver flow.now.code (option_map standing_tree (option_copied from)) }
-    ensures { OnOk result (Leads (flow_in flow.now) p flow.now.code (log_tree log.old) (log_tree log.new)
-        (Const ((flow_in flow.now).addr n)) (place_of place.now) (option_map standing_tree (option_copied from.entry)) (spec.body_at room (flow_in flow.now) p n (place_of place.now))) }
+    requires code { IsOver flow.now.code (option_map cited_tree (option_copied from)) }
+    ensures { OnOk result (Leads (flow_in flow.now) p flow.now.code (writer_tree log.old) (writer_tree log.new)
+        (Const ((flow_in flow.now).addr n)) (place_of place.now) (option_map cited_tree (option_copied from.entry)) (spec.body_at room (flow_in flow.now) p n (place_of place.now))) }
 {
     if room == 0 {
         return Err(NoMemory);
@@ -77,18 +77,18 @@ fn lines_to(
     flow: &Flow<'_>,
     p: Part,
     n: u32,
-    place: &Place,
+    place: &VariableMap,
     room: u32,
-    at: &Standing,
-    log: &mut Log,
+    at: &CitedTheorem,
+    log: &mut ProofWriter,
 ) -> Result<(), NoMemory>
     requires part { IsPart (flow_in flow.now) p }
     requires next { IsNext (flow_in flow.now) p room n }
     requires words { place.now.words + room < 2 ^ 14 }
     requires mems { place.now.mems + room < 2 ^ 14 }
     requires code { IsWithin (range_bytes at.now.code) (range_bytes flow.now.code) }
-    ensures { OnOk result (Leads (flow_in flow.now) p flow.now.code (log_tree log.old) (log_tree log.new)
-        (Const ((flow_in flow.now).addr n)) (place_of place.now) (Some (standing_tree at.now)) (body_on room (flow_in flow.now) p n (place_of place.now))) }
+    ensures { OnOk result (Leads (flow_in flow.now) p flow.now.code (writer_tree log.old) (writer_tree log.new)
+        (Const ((flow_in flow.now).addr n)) (place_of place.now) (Some (cited_tree at.now)) (body_on room (flow_in flow.now) p n (place_of place.now))) }
 {
     if flow.is_cut(n) {
         return end_lines(alloc, flow, p, n, place, at, log);
@@ -102,21 +102,26 @@ fn node_lines(
     flow: &Flow<'_>,
     p: Part,
     n: u32,
-    log: &mut Log,
+    log: &mut ProofWriter,
 ) -> Result<(), NoMemory>
     requires part { IsPart (flow_in flow.now) p }
     requires near { IsNear (flow_in flow.now) p 32 n }
-    ensures { OnOk result (Leads (flow_in flow.now) p flow.now.code (log_tree log.old) (log_tree log.new)
+    ensures { OnOk result (Leads (flow_in flow.now) p flow.now.code (writer_tree log.old) (writer_tree log.new)
         (Const ((flow_in flow.now).addr n)) (spec.start (flow_in flow.now)) None (spec.body_at 32 (flow_in flow.now) p n (spec.start (flow_in flow.now)))) }
 {
     let start = fresh(flow, 0, 0);
-    lines_from(alloc, flow, p, n, &start, ROOM, None, log)
+    lines_from(alloc, flow, p, n, &start, CUT_DISTANCE_LIMIT, None, log)
 }
 
 /// The lines of a part's body.
-pub fn part_lines(alloc: Global, flow: &Flow<'_>, p: Part, log: &mut Log) -> Result<(), NoMemory>
+pub fn part_lines(
+    alloc: Global,
+    flow: &Flow<'_>,
+    p: Part,
+    log: &mut ProofWriter,
+) -> Result<(), NoMemory>
     requires { IsPart (flow_in flow.now) p }
-    ensures { OnOk result (Leads (flow_in flow.now) p flow.now.code (log_tree log.old) (log_tree log.new)
+    ensures { OnOk result (Leads (flow_in flow.now) p flow.now.code (writer_tree log.old) (writer_tree log.new)
         (Const ((flow_in flow.now).addr (spec.first (flow_in flow.now) p))) (spec.start (flow_in flow.now)) None (spec.part_body (flow_in flow.now) p)) }
 {
     flow.law_of_graphs();

@@ -12,12 +12,12 @@ ghost use Rattle.code_parts.specs.Graph.{IsPart};
 ghost use Rattle.path_walk.specs.inner.Near.{IsEnd};
 ghost use Rattle.code_parts.specs.Kept.{flow_in};
 ghost use Rattle.path_walk.specs.inner.Lines.{ArmsLead};
-ghost use Rattle.path_walk.specs.inner.Logs.{Leads, log_tree, standing_tree};
-ghost use Rattle.code_parts.specs.Places.{place_of};
+ghost use Rattle.path_walk.specs.inner.Writers.{Leads, writer_tree, cited_tree};
+ghost use Rattle.code_parts.specs.VariableMaps.{place_of};
 
 use crate::exit_lines::exit_step;
-use crate::log::{Log, Standing};
-use code_parts::{Flow, Part, Place, ends_at, first_node, fresh, rest_targets};
+use crate::proof_writer::{CitedTheorem, ProofWriter};
+use code_parts::{Flow, Part, VariableMap, ends_at, first_node, fresh, rest_targets};
 use rv_words::NoMemory;
 use std::alloc::Global;
 use tailrec_lang::Exit;
@@ -37,9 +37,9 @@ fn last_lines(
     p: Part,
     q: Part,
     targets: &[u32],
-    place: &Place,
-    at: &Standing,
-    log: &mut Log,
+    place: &VariableMap,
+    at: &CitedTheorem,
+    log: &mut ProofWriter,
 ) -> Result<(), NoMemory>
     requires part { IsPart (flow_in flow.now) p }
     requires called { IsPart (flow_in flow.now) q }
@@ -50,8 +50,8 @@ fn last_lines(
     requires words { place.now.words < 2 ^ 15 }
     requires mems { place.now.mems < 2 ^ 15 }
     requires code { IsWithin (range_bytes at.now.code) (range_bytes flow.now.code) }
-    ensures { OnOk result (ArmsLead (flow_in flow.now) p flow.now.code ((flow_in flow.now).number q) (log_tree log.old) (log_tree log.new)
-        (Const ((flow_in flow.now).addr (spec.first (flow_in flow.now) q))) (place_of place.now) (Some (standing_tree at.now))
+    ensures { OnOk result (ArmsLead (flow_in flow.now) p flow.now.code ((flow_in flow.now).number q) (writer_tree log.old) (writer_tree log.new)
+        (Const ((flow_in flow.now).addr (spec.first (flow_in flow.now) q))) (place_of place.now) (Some (cited_tree at.now))
         (map (λ x. At ((flow_in flow.now).addr x)) targets.now ++ []) 0
         (spec.arms_over targets.now (λ x. spec.last_at (flow_in flow.now) p x (spec.fresh (flow_in flow.now) place.now.words place.now.mems)))) }
 {
@@ -72,9 +72,9 @@ fn back_lines(
     flow: &Flow<'_>,
     p: Part,
     n: u32,
-    place: &Place,
-    at: &Standing,
-    log: &mut Log,
+    place: &VariableMap,
+    at: &CitedTheorem,
+    log: &mut ProofWriter,
 ) -> Result<(), NoMemory>
     requires part { IsPart (flow_in flow.now) p }
     requires end { IsEnd (flow_in flow.now) p n }
@@ -83,8 +83,8 @@ fn back_lines(
     requires words { place.now.words < 2 ^ 15 }
     requires mems { place.now.mems < 2 ^ 15 }
     requires code { IsWithin (range_bytes at.now.code) (range_bytes flow.now.code) }
-    ensures { OnOk result (ArmsLead (flow_in flow.now) p flow.now.code ((flow_in flow.now).number (Rest None n)) (log_tree log.old) (log_tree log.new)
-        (Const ((flow_in flow.now).addr n)) (place_of place.now) (Some (standing_tree at.now))
+    ensures { OnOk result (ArmsLead (flow_in flow.now) p flow.now.code ((flow_in flow.now).number (Rest None n)) (writer_tree log.old) (writer_tree log.new)
+        (Const ((flow_in flow.now).addr n)) (place_of place.now) (Some (cited_tree at.now))
         (spec.exits_of (flow_in flow.now) (Rest None n)) 0 (spec.rest_arms (flow_in flow.now) p None (place_of place.now))) }
 {
     if !flow.returns() {
@@ -106,9 +106,9 @@ fn loop_rest_lines(
     p: Part,
     l: u32,
     n: u32,
-    place: &Place,
-    at: &Standing,
-    log: &mut Log,
+    place: &VariableMap,
+    at: &CitedTheorem,
+    log: &mut ProofWriter,
 ) -> Result<(), NoMemory>
     requires part { IsPart (flow_in flow.now) p }
     requires end { IsEnd (flow_in flow.now) p n }
@@ -118,8 +118,8 @@ fn loop_rest_lines(
     requires words { place.now.words < 2 ^ 15 }
     requires mems { place.now.mems < 2 ^ 15 }
     requires code { IsWithin (range_bytes at.now.code) (range_bytes flow.now.code) }
-    ensures { OnOk result (ArmsLead (flow_in flow.now) p flow.now.code ((flow_in flow.now).number (Rest (Some l) n)) (log_tree log.old) (log_tree log.new)
-        (Const ((flow_in flow.now).addr n)) (place_of place.now) (Some (standing_tree at.now))
+    ensures { OnOk result (ArmsLead (flow_in flow.now) p flow.now.code ((flow_in flow.now).number (Rest (Some l) n)) (writer_tree log.old) (writer_tree log.new)
+        (Const ((flow_in flow.now).addr n)) (place_of place.now) (Some (cited_tree at.now))
         (spec.exits_of (flow_in flow.now) (Rest (Some l) n)) 0 (spec.rest_arms (flow_in flow.now) p (Some l) (place_of place.now))) }
 {
     let q = Part::Rest {
@@ -136,9 +136,9 @@ fn rest_lines(
     flow: &Flow<'_>,
     p: Part,
     n: u32,
-    place: &Place,
-    at: &Standing,
-    log: &mut Log,
+    place: &VariableMap,
+    at: &CitedTheorem,
+    log: &mut ProofWriter,
 ) -> Result<(), NoMemory>
     requires part { IsPart (flow_in flow.now) p }
     requires end { IsEnd (flow_in flow.now) p n }
@@ -146,8 +146,8 @@ fn rest_lines(
     requires words { place.now.words < 2 ^ 15 }
     requires mems { place.now.mems < 2 ^ 15 }
     requires code { IsWithin (range_bytes at.now.code) (range_bytes flow.now.code) }
-    ensures { OnOk result (ArmsLead (flow_in flow.now) p flow.now.code ((flow_in flow.now).number (spec.rest_from (flow_in flow.now) n)) (log_tree log.old) (log_tree log.new)
-        (Const ((flow_in flow.now).addr n)) (place_of place.now) (Some (standing_tree at.now))
+    ensures { OnOk result (ArmsLead (flow_in flow.now) p flow.now.code ((flow_in flow.now).number (spec.rest_from (flow_in flow.now) n)) (writer_tree log.old) (writer_tree log.new)
+        (Const ((flow_in flow.now).addr n)) (place_of place.now) (Some (cited_tree at.now))
         (spec.exits_of (flow_in flow.now) (spec.rest_from (flow_in flow.now) n)) 0 (spec.rest_arms (flow_in flow.now) p ((flow_in flow.now).around n) (place_of place.now))) }
 {
     match flow.around(n) {
@@ -162,17 +162,17 @@ pub fn end_lines(
     flow: &Flow<'_>,
     p: Part,
     n: u32,
-    place: &Place,
-    at: &Standing,
-    log: &mut Log,
+    place: &VariableMap,
+    at: &CitedTheorem,
+    log: &mut ProofWriter,
 ) -> Result<(), NoMemory>
     requires part { IsPart (flow_in flow.now) p }
     requires end { IsEnd (flow_in flow.now) p n }
     requires words { place.now.words < 2 ^ 15 }
     requires mems { place.now.mems < 2 ^ 15 }
     requires code { IsWithin (range_bytes at.now.code) (range_bytes flow.now.code) }
-    ensures { OnOk result (Leads (flow_in flow.now) p flow.now.code (log_tree log.old) (log_tree log.new)
-        (Const ((flow_in flow.now).addr n)) (place_of place.now) (Some (standing_tree at.now)) (spec.end_at (flow_in flow.now) p n (place_of place.now))) }
+    ensures { OnOk result (Leads (flow_in flow.now) p flow.now.code (writer_tree log.old) (writer_tree log.new)
+        (Const ((flow_in flow.now).addr n)) (place_of place.now) (Some (cited_tree at.now)) (spec.end_at (flow_in flow.now) p n (place_of place.now))) }
 {
     flow.law_of_regions(p);
     if ends_at(flow, p, n) {
@@ -187,12 +187,12 @@ pub fn head_lines(
     flow: &Flow<'_>,
     p: Part,
     l: u32,
-    log: &mut Log,
+    log: &mut ProofWriter,
 ) -> Result<(), NoMemory>
     requires part { IsPart (flow_in flow.now) p }
     requires loops { l < (flow_in flow.now).loops }
     requires around { (flow_in flow.now).around ((flow_in flow.now).head l) ≡ spec.own p }
-    ensures { OnOk result (ArmsLead (flow_in flow.now) p flow.now.code ((flow_in flow.now).number (Loop l)) (log_tree log.old) (log_tree log.new)
+    ensures { OnOk result (ArmsLead (flow_in flow.now) p flow.now.code ((flow_in flow.now).number (Loop l)) (writer_tree log.old) (writer_tree log.new)
         (Const ((flow_in flow.now).addr ((flow_in flow.now).head l))) (spec.start (flow_in flow.now)) None
         (map (λ x. At ((flow_in flow.now).addr x)) ((flow_in flow.now).exits l) ++ []) 0
         (spec.arms_over ((flow_in flow.now).exits l) (λ x. spec.end_at (flow_in flow.now) p x (spec.fresh (flow_in flow.now) (spec.start (flow_in flow.now)).words (spec.start (flow_in flow.now)).mems)))) }

@@ -14,13 +14,13 @@ ghost use Rattle.code_parts.specs.Graph.{IsPart};
 ghost use Rattle.path_walk.specs.inner.Acts as spec;
 ghost use Rattle.path_walk.specs.inner.Histories.{exit_place, pc_of};
 ghost use Rattle.code_parts.specs.Kept.{flow_in};
-ghost use Rattle.path_walk.specs.inner.Logs.{IsOver, StepsBy, log_tree, standing_tree, stating};
-ghost use Rattle.code_parts.specs.Places.{place_of};
+ghost use Rattle.path_walk.specs.inner.Writers.{IsOver, StepsBy, writer_tree, cited_tree, stating};
+ghost use Rattle.code_parts.specs.VariableMaps.{place_of};
 
-use crate::joining::{go_on, standing_at};
-use crate::log::{Log, Standing};
+use crate::compose::{go_on, standing_at};
+use crate::proof_writer::{CitedTheorem, ProofWriter};
 use crate::subs::{call_mems, call_words, place_at};
-use code_parts::{Flow, Part, Place, current, first_node, fresh, law_of_bytes, with_pc};
+use code_parts::{Flow, Part, VariableMap, current, first_node, fresh, law_of_bytes, with_pc};
 use proof_text::Rule;
 use rv_words::{List, NoMemory};
 use std::alloc::Global;
@@ -39,7 +39,7 @@ fn pc_at(x: Exit, words: u32) -> Word
 }
 
 /// What the definition is left with by an exit: the next variables.
-fn results(alloc: Global, flow: &Flow<'_>, x: Exit, place: &Place) -> Result<Values, NoMemory>
+fn results(alloc: Global, flow: &Flow<'_>, x: Exit, place: &VariableMap) -> Result<Values, NoMemory>
     requires words { place.now.words < 2 ^ 15 + 64 }
     requires mems { place.now.mems < 2 ^ 15 + 64 }
     ensures { IfOk result (λ v. values_tree v ≡ spec.results_at (flow_in flow.now) x place.now.words place.now.mems) }
@@ -59,7 +59,7 @@ fn gives(
     def: u32,
     exit: u32,
     x: Exit,
-    place: &Place,
+    place: &VariableMap,
 ) -> Result<List<Fact>, NoMemory>
     requires words { place.now.words < 2 ^ 15 + 64 }
     requires mems { place.now.mems < 2 ^ 15 + 64 }
@@ -85,7 +85,7 @@ fn gives_over(
     def: u32,
     exit: u32,
     x: Exit,
-    place: &Place,
+    place: &VariableMap,
 ) -> Result<Triple, NoMemory>
     requires words { place.now.words < 2 ^ 15 + 64 }
     requires mems { place.now.mems < 2 ^ 15 + 64 }
@@ -110,9 +110,9 @@ fn put_current(
     flow: &Flow<'_>,
     first: u64,
     x: Exit,
-    place: &Place,
+    place: &VariableMap,
     triple: Triple,
-    log: &mut Log,
+    log: &mut ProofWriter,
 ) -> Result<u64, NoMemory>
     requires words { place.now.words < 2 ^ 15 + 64 }
     requires mems { place.now.mems < 2 ^ 15 + 64 }
@@ -120,7 +120,7 @@ fn put_current(
     requires stated { IsTriple (triple_tree triple) }
     ensures number { IfOk result (λ k. k ≡ log.old.next) }
     ensures fits { IfOk result (λ k. k < 2 ^ 64) }
-    ensures log { OnOk result (log_tree log.new ≡ stating (Inst first (spec.call_words (flow_in flow.now) x (place_of place.now)) (spec.call_mems (flow_in flow.now) x (place_of place.now))) (triple_tree triple) (log_tree log.old)) }
+    ensures log { OnOk result (writer_tree log.new ≡ stating (Inst first (spec.call_words (flow_in flow.now) x (place_of place.now)) (spec.call_mems (flow_in flow.now) x (place_of place.now))) (triple_tree triple) (writer_tree log.old)) }
 {
     let words = call_words(alloc, flow, x, place)?;
     let mems = call_mems(alloc, flow, x, place)?;
@@ -137,15 +137,15 @@ fn exit_lines(
     def: u32,
     exit: u32,
     x: Exit,
-    place: &Place,
-    log: &mut Log,
+    place: &VariableMap,
+    log: &mut ProofWriter,
 ) -> Result<u64, NoMemory>
     requires words { place.now.words < 2 ^ 15 }
     requires mems { place.now.mems < 2 ^ 15 }
     requires fine { spec.IsFineExit (flow_in flow.now) flow.now.code entry def exit x (place_of place.now) }
     ensures number { IfOk result (λ k. k ≡ log.old.next + 1) }
     ensures fits { IfOk result (λ k. k < 2 ^ 64) }
-    ensures log { OnOk result (log_tree log.new ≡ spec.exited (flow_in flow.now) flow.now.code entry def exit x (place_of place.now) (log_tree log.old)) }
+    ensures log { OnOk result (writer_tree log.new ≡ spec.exited (flow_in flow.now) flow.now.code entry def exit x (place_of place.now) (writer_tree log.old)) }
 {
     let start = fresh(flow, 0, 0);
     let used = gives_over(alloc, flow, entry, def, exit, x, &start)?;
@@ -173,13 +173,13 @@ fn leave_by(
     def: u32,
     exit: u32,
     x: Exit,
-    place: &Place,
-    log: &mut Log,
-) -> Result<Standing, NoMemory>
+    place: &VariableMap,
+    log: &mut ProofWriter,
+) -> Result<CitedTheorem, NoMemory>
     requires words { place.now.words < 2 ^ 15 }
     requires mems { place.now.mems < 2 ^ 15 }
-    ensures is { IfOk result (λ t. standing_tree t ≡ spec.exit_standing (flow_in flow.now) flow.now.code def exit x (place_of place.now) (log_tree log.old)) }
-    ensures log { OnOk result (log_tree log.new ≡ spec.exited (flow_in flow.now) flow.now.code entry def exit x (place_of place.now) (log_tree log.old)) }
+    ensures is { IfOk result (λ t. cited_tree t ≡ spec.exit_standing (flow_in flow.now) flow.now.code def exit x (place_of place.now) (writer_tree log.old)) }
+    ensures log { OnOk result (writer_tree log.new ≡ spec.exited (flow_in flow.now) flow.now.code entry def exit x (place_of place.now) (writer_tree log.old)) }
 {
     flow.law_of_code();
     law_of_exits(x);
@@ -187,7 +187,7 @@ fn leave_by(
     let number = exit_lines(alloc, flow, entry, def, exit, x, place, log)?;
     let known = gives(alloc, flow, def, exit, x, place)?;
     let code = copy_code(alloc, flow.code())?;
-    Ok(Standing::new(number, known, code))
+    Ok(CitedTheorem::new(number, known, code))
 }
 
 /// The lines from a call of a part on to where the definition goes on after an exit, and the theorem that leads there.
@@ -198,18 +198,18 @@ pub fn exit_step(
     q: Part,
     exit: u32,
     x: Exit,
-    place: &Place,
-    from: Option<&Standing>,
-    log: &mut Log,
-) -> Result<Standing, NoMemory>
+    place: &VariableMap,
+    from: Option<&CitedTheorem>,
+    log: &mut ProofWriter,
+) -> Result<CitedTheorem, NoMemory>
     requires part { IsPart (flow_in flow.now) q }
     requires exit { slice_get (bodies.exits_of (flow_in flow.now) q) exit ≡ Some x }
     requires words { place.now.words < 2 ^ 15 }
     requires mems { place.now.mems < 2 ^ 15 }
-    requires code { IsOver flow.now.code (option_map standing_tree (option_copied from)) }
-    ensures steps { IfOk result (λ t. StepsBy (flow_in flow.now) entry flow.now.code ((flow_in flow.now).number q) (log_tree log.old) (log_tree log.new) (Const ((flow_in flow.now).addr (bodies.first (flow_in flow.now) q))) (place_of place.now)
-        (option_map standing_tree (option_copied from.entry)) (pc_of x place.now.words) (exit_place (flow_in flow.now) x place.now.words place.now.mems)
-        (Gives ((flow_in flow.now).number q) exit (bodies.current (flow_in flow.now) (place_of place.now)) (spec.results_at (flow_in flow.now) x place.now.words place.now.mems) ∷ []) (standing_tree t)) }
+    requires code { IsOver flow.now.code (option_map cited_tree (option_copied from)) }
+    ensures steps { IfOk result (λ t. StepsBy (flow_in flow.now) entry flow.now.code ((flow_in flow.now).number q) (writer_tree log.old) (writer_tree log.new) (Const ((flow_in flow.now).addr (bodies.first (flow_in flow.now) q))) (place_of place.now)
+        (option_map cited_tree (option_copied from.entry)) (pc_of x place.now.words) (exit_place (flow_in flow.now) x place.now.words place.now.mems)
+        (Gives ((flow_in flow.now).number q) exit (bodies.current (flow_in flow.now) (place_of place.now)) (spec.results_at (flow_in flow.now) x place.now.words place.now.mems) ∷ []) (cited_tree t)) }
     ensures code { IfOk result (λ t. IsWithin (range_bytes t.code) (range_bytes flow.now.code)) }
 {
     law_of_exits(x);

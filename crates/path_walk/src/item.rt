@@ -7,7 +7,7 @@ ghost use Rattle.path_walk.specs.Item.{IsItemOf};
 ghost use Rattle.code_parts.specs.Order.{AreParts};
 ghost use Rattle.code_parts.specs.Kept.{flow_in};
 
-use crate::walks::walk_all;
+use crate::all_parts::walk_all;
 use code_parts::{Flow, Part, group_with, parts_of};
 use flow_graph::Graph;
 use loop_forest::Forest;

@@ -7,26 +7,26 @@
 //! the branches of its code from its first node to the next cuts, which is symbolic execution along each path. At each
 //! instruction it states the axiom, puts in the current variables, frames it, and joins it to the theorem of the way
 //! there; a call of a part is a step by the fact that this part leaves by an exit. A path's last theorem is cited as a
-//! leaf, and a line `loop` closes the definition by its leaves. A `Log` numbers the theorems, a `Standing` is one of them
-//! with its facts and code.
+//! leaf, and a line `loop` closes the definition by its leaves. A `ProofWriter` numbers the
+//! theorems, a `CitedTheorem` is one of them with its facts and code.
 //!
 //! That each line is right after those before it is in the contract of `item_of` (`IsItemOf`). The law that matters
 //! beside it is `law_of_texts`: the group can be written and read again. A `Proof` has an item for each name, or a
 //! `DecompileFault` says why there is none.
 #![tactic(auto)]
 
-mod act_lines;
+mod all_parts;
 mod body_lines;
+mod compose;
 mod cut_lines;
 mod exit_lines;
+mod instruction_lines;
 mod item;
-mod joining;
 mod laws;
-mod log;
 mod proof;
+mod proof_writer;
 mod subs;
 mod walk;
-mod walks;
 
 pub use item::{Item, item_of};
 pub use laws::law_of_texts;

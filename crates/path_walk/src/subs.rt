@@ -6,9 +6,9 @@ ghost use Rattle.code_parts.specs.Bodies.{names};
 ghost use Rattle.path_walk.specs.inner.Acts as spec;
 ghost use Rattle.path_walk.specs.inner.Histories.{exit_place};
 ghost use Rattle.code_parts.specs.Kept.{flow_in};
-ghost use Rattle.code_parts.specs.Places.{place_of};
+ghost use Rattle.code_parts.specs.VariableMaps.{place_of};
 
-use code_parts::{Flow, Place, fresh};
+use code_parts::{Flow, VariableMap, fresh};
 use instr_axioms::has_memory;
 use rv_decode::Instr;
 use rv_words::{List, NoMemory};
@@ -17,7 +17,11 @@ use tailrec_lang::Exit;
 use word_terms::{Mem, Word};
 
 /// Adds the variables of these registers, each for the next variable.
-fn add_registers(regs: &[u8], place: &Place, words: &mut List<(u32, Word)>) -> Result<(), NoMemory>
+fn add_registers(
+    regs: &[u8],
+    place: &VariableMap,
+    words: &mut List<(u32, Word)>,
+) -> Result<(), NoMemory>
     requires { length words.old + length regs.now < 2 ^ 32 }
     ensures { OnOk result (map word_put_in words.new ≡ map word_put_in words.old ++ spec.numbered (length words.old) (map (names (place_of place.now)).word regs.now)) }
 {
@@ -29,7 +33,11 @@ fn add_registers(regs: &[u8], place: &Place, words: &mut List<(u32, Word)>) -> R
 }
 
 /// The variables of these registers, each for the next variable.
-pub fn own_words(alloc: Global, regs: &[u8], place: &Place) -> Result<List<(u32, Word)>, NoMemory>
+pub fn own_words(
+    alloc: Global,
+    regs: &[u8],
+    place: &VariableMap,
+) -> Result<List<(u32, Word)>, NoMemory>
     requires { length regs.now ≤ 31 }
     ensures { IfOk result (λ ws. map word_put_in ws ≡ spec.numbered 0 (map (names (place_of place.now)).word regs.now)) }
 {
@@ -39,7 +47,7 @@ pub fn own_words(alloc: Global, regs: &[u8], place: &Place) -> Result<List<(u32,
 }
 
 /// The variable of an instruction's memory, if it has one.
-pub fn own_mems(alloc: Global, i: Instr, place: &Place) -> Result<List<(u32, Mem)>, NoMemory>
+pub fn own_mems(alloc: Global, i: Instr, place: &VariableMap) -> Result<List<(u32, Mem)>, NoMemory>
     ensures { IfOk result (λ ms. map mem_put_in ms ≡ spec.own_mems i (place_of place.now)) }
 {
     let mut mems = List::new(alloc);
@@ -50,7 +58,7 @@ pub fn own_mems(alloc: Global, i: Instr, place: &Place) -> Result<List<(u32, Mem
 }
 
 /// The next variables for the registers and the memory after an exit.
-pub fn place_at(flow: &Flow<'_>, x: Exit, place: &Place) -> Place
+pub fn place_at(flow: &Flow<'_>, x: Exit, place: &VariableMap) -> VariableMap
     requires words { place.now.words < 2 ^ 15 + 64 }
     requires mems { place.now.mems < 2 ^ 15 + 64 }
     ensures is { place_of result ≡ exit_place (flow_in flow.now) x place.now.words place.now.mems }
@@ -67,7 +75,7 @@ pub fn place_at(flow: &Flow<'_>, x: Exit, place: &Place) -> Place
 fn add_results(
     flow: &Flow<'_>,
     x: Exit,
-    place: &Place,
+    place: &VariableMap,
     words: &mut List<(u32, Word)>,
 ) -> Result<(), NoMemory>
     requires few { length words.old ≤ 31 }
@@ -88,7 +96,7 @@ pub fn call_words(
     alloc: Global,
     flow: &Flow<'_>,
     x: Exit,
-    place: &Place,
+    place: &VariableMap,
 ) -> Result<List<(u32, Word)>, NoMemory>
     requires words { place.now.words < 2 ^ 15 + 64 }
     requires mems { place.now.mems < 2 ^ 15 + 64 }
@@ -104,7 +112,7 @@ pub fn call_mems(
     alloc: Global,
     flow: &Flow<'_>,
     x: Exit,
-    place: &Place,
+    place: &VariableMap,
 ) -> Result<List<(u32, Mem)>, NoMemory>
     ensures { IfOk result (λ ms. map mem_put_in ms ≡ spec.call_mems (flow_in flow.now) x (place_of place.now)) }
 {

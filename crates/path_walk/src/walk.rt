@@ -11,7 +11,7 @@ ghost use Rattle.code_parts.specs.Kept.{flow_in};
 ghost use Rattle.path_walk.specs.inner.Lines.{stated};
 
 use crate::body_lines::part_lines;
-use crate::log::Log;
+use crate::proof_writer::ProofWriter;
 use code_parts::{Flow, Part, part_def};
 use proof_text::Line;
 use rv_words::{List, NoMemory};
@@ -60,7 +60,7 @@ fn closing_lines(
     requires { IsPart (flow_in flow.now) part }
     ensures { IfOk result (λ more. (old : Items LineTree) → first ≡ (after_lines old).next → IsWalked (flow_in flow.now) flow.now.code part old (old ++ map line_tree more)) }
 {
-    let mut log = Log::new(alloc, first);
+    let mut log = ProofWriter::new(alloc, first);
     part_lines(alloc, flow, part, &mut log)?;
     let (mut lines, cited) = log.into_parts();
     lines.push(Line::Loop {

@@ -4,9 +4,9 @@ use Rattle.mc_text.specs.Tokens.{Tok}
 use Rattle.mc_text.specs.Reading.{◌>>=◌, made, goes_on}
 use Rattle.rv_words.specs.declared.range.Range.{Range}
 use Rattle.proof_text.specs.Line.{LineTree}
-use Rattle.group_text.specs.declared.stop.Halt.{Halt}
-use Rattle.group_text.specs.declared.stop.Halt.TheVariants as halt
-use Rattle.group_text.specs.inner.Rows.{Spot, Spots, tokens, RowsGive}
+use Rattle.group_text.specs.declared.read_error.ReadError.{ReadError}
+use Rattle.group_text.specs.declared.read_error.ReadError.TheVariants as halt
+use Rattle.group_text.specs.inner.Rows.{RowPosition, RowPositions, tokens, RowsGive}
 use Rattle.proof_text.specs.inner.LineReading.{ends_proof, line_at, turn_of}
 use Rattle.proof_text.specs.LineLimits.{IsLine}
 use Rattle.proof_text.specs.LineSpelling.{line_tokens}
@@ -26,17 +26,17 @@ abbrev Out : Type 0 → Type 0
 Out Y = Result (Y × List Tok) (List Tok)
 
 -- whether the proof ends at each of these places
-abbrev pub Ends : Bool → Spots → Type 0
-Ends b may = (p : Spot) → may p → b ≡ goes_on ends_proof (tokens p)
+abbrev pub Ends : Bool → RowPositions → Type 0
+Ends b may = (p : RowPosition) → may p → b ≡ goes_on ends_proof (tokens p)
 
-module _ (own : List Range) (old mid : Spots) (kept : Kept old mid) where
+module _ (own : List Range) (old mid : RowPositions) (kept : Kept old mid) where
   abbrev by-word : List Tok → Bool → Out (Option LineTree)
   by-word ts b = cond b (Ok (None, ts)) (made Some (line_at own) ts)
 
   pub turn-ended : (b : Bool) → b ≡ true → Ends b mid → AllOk (turn_of own) None old mid
   turn-ended b e ends q may = record { spot = q; may = kept q may; is = ap (by-word (tokens q)) (sym (ends q may) ∙ e); way = way-same q; total = refl }
 
-  module _ (b : Bool) (e : b ≡ false) (ends : Ends b mid) (new : Spots) where
+  module _ (b : Bool) (e : b ≡ false) (ends : Ends b mid) (new : RowPositions) where
     abbrev then-some : Out LineTree → Out (Option LineTree)
     then-some q = ◌>>=◌ {A = LineTree × List Tok} {B = Option LineTree × List Tok} q (λ p. Ok (Some p.0, p.1))
 
@@ -45,7 +45,7 @@ module _ (own : List Range) (old mid : Spots) (kept : Kept old mid) where
         let k = h q may in
         record { spot = k.spot; may = kept k.spot k.may; is = ap (by-word (tokens k.spot)) (sym (ends k.spot k.may) ∙ e) ∙ ap then-some k.is; way = k.way; total = k.total }
 
-    pub turn-failed : {X Z : Type 0} (view : X → LineTree) (views : Z → Option LineTree) (f : Halt) → RowsGive view (Err f) mid new (line_at own) → RowsGive views (Err f) old new (turn_of own)
+    pub turn-failed : {X Z : Type 0} (view : X → LineTree) (views : Z → Option LineTree) (f : ReadError) → RowsGive view (Err f) mid new (line_at own) → RowsGive views (Err f) old new (turn_of own)
     turn-failed view views halt.Bad h = λ q may.
         let k = h q may in
         record { spot = k.spot; may = kept k.spot k.may; bad = k.bad; is = ap (by-word (tokens k.spot)) (sym (ends k.spot k.may) ∙ e) ∙ ap then-some k.is; row = k.row; total = k.total }

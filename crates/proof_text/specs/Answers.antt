@@ -2,8 +2,8 @@
 use Rattle.std.specs.Prelude.{◌≡◌, ℕ, List, [], ◌∷◌, ◌++◌, Option, Some, None, Result, Ok, Err}
 use Rattle.proof_text.specs.Line.{ProofTree}
 use Rattle.proof_text.specs.FirstProofs.{Progress, ItemTree, items, HasGiven}
-use Rattle.group_text.specs.declared.stop.TextFault.{TextFault}
-use Rattle.group_text.specs.declared.stop.TextFault.TheVariants.{Bad, NoMemory}
+use Rattle.group_text.specs.declared.read_error.TextFault.{TextFault}
+use Rattle.group_text.specs.declared.read_error.TextFault.TheVariants.{Bad, NoMemory}
 
 -- where an item is given
 abbrev pub OnGiven : {X : Type 0} → Result (Option X) TextFault → (X → Type 0) → Type 0

@@ -11,16 +11,16 @@ ghost use Rattle.proof_text.specs.inner.LineReading.{fact_at, fact_head_of, fact
 use crate::line_heads::{FactHead, fact_head_of};
 use group_text::read_index;
 use mc_text::cursor::{accept, is_open, left, peek, right, semi};
-use mc_text::{Scan, Stop, Token};
+use mc_text::{Scan, Token, TokenError};
 use rv_words::List;
 use std::alloc::Global;
 use tailrec_lang::Values;
 use term_text::{read_cond, read_mem, read_mems, read_word, read_words};
 use triple_kernel::Fact;
-use word_terms::DEEPEST;
+use word_terms::DEPTH_LIMIT;
 
 /// Words and memories, with the semicolon behind them.
-fn read_arguments<'a>(alloc: Global, scan: &mut Scan<'a>) -> Result<Values, Stop>
+fn read_arguments<'a>(alloc: Global, scan: &mut Scan<'a>) -> Result<Values, TokenError>
     ensures gives { Gives values_tree result scan.old scan.new (values_with (one is_semi)) }
     ensures last { last_line scan.new ≡ last_line scan.old }
 {
@@ -32,7 +32,7 @@ fn read_arguments<'a>(alloc: Global, scan: &mut Scan<'a>) -> Result<Values, Stop
 }
 
 /// Words and memories, with the parenthesis behind them.
-fn read_results<'a>(alloc: Global, scan: &mut Scan<'a>) -> Result<Values, Stop>
+fn read_results<'a>(alloc: Global, scan: &mut Scan<'a>) -> Result<Values, TokenError>
     ensures gives { Gives values_tree result scan.old scan.new (values_with (one is_right)) }
     ensures last { last_line scan.new ≡ last_line scan.old }
 {
@@ -45,36 +45,36 @@ fn read_results<'a>(alloc: Global, scan: &mut Scan<'a>) -> Result<Values, Stop>
 
 /// The name of a form of a fact.
 #[tactic(auto, unfolding(mc_text::specs::Reading::one))]
-fn fact_name<'a>(scan: &mut Scan<'a>) -> Result<FactHead, Stop>
+fn fact_name<'a>(scan: &mut Scan<'a>) -> Result<FactHead, TokenError>
     ensures gives { Gives (λ h. h) result scan.old scan.new (one (atom_of fact_head_of)) }
     ensures last { last_line scan.new ≡ last_line scan.old }
 {
     match peek(scan) {
         Some((Token::Atom(name), ahead)) => accept(scan, ahead, fact_head_of(name)),
-        _ => Err(Stop::Bad),
+        _ => Err(TokenError::Bad),
     }
 }
 
 /// What stands after the name of a form.
-fn read_parts<'a>(alloc: Global, scan: &mut Scan<'a>, head: FactHead) -> Result<Fact, Stop>
+fn read_parts<'a>(alloc: Global, scan: &mut Scan<'a>, head: FactHead) -> Result<Fact, TokenError>
     ensures gives { Gives fact_tree result scan.old scan.new (fact_parts head) }
     ensures last { last_line scan.new ≡ last_line scan.old }
 {
     match head {
         FactHead::WordIs => {
-            let a = read_word(alloc, scan, DEEPEST)?;
-            let b = read_word(alloc, scan, DEEPEST)?;
+            let a = read_word(alloc, scan, DEPTH_LIMIT)?;
+            let b = read_word(alloc, scan, DEPTH_LIMIT)?;
             right(scan)?;
             Ok(Fact::WordIs(a, b))
         }
         FactHead::MemIs => {
-            let a = read_mem(alloc, scan, DEEPEST)?;
-            let b = read_mem(alloc, scan, DEEPEST)?;
+            let a = read_mem(alloc, scan, DEPTH_LIMIT)?;
+            let b = read_mem(alloc, scan, DEPTH_LIMIT)?;
             right(scan)?;
             Ok(Fact::MemIs(a, b))
         }
         FactHead::So => {
-            let c = read_cond(alloc, scan, DEEPEST)?;
+            let c = read_cond(alloc, scan, DEPTH_LIMIT)?;
             right(scan)?;
             Ok(Fact::So(c))
         }
@@ -94,7 +94,7 @@ fn read_parts<'a>(alloc: Global, scan: &mut Scan<'a>, head: FactHead) -> Result<
 }
 
 #[tactic(auto, unfolding(crate::specs::inner::LineReading::fact_at))]
-fn read_fact<'a>(alloc: Global, scan: &mut Scan<'a>) -> Result<Fact, Stop>
+fn read_fact<'a>(alloc: Global, scan: &mut Scan<'a>) -> Result<Fact, TokenError>
     ensures gives { Gives fact_tree result scan.old scan.new fact_at }
     ensures last { last_line scan.new ≡ last_line scan.old }
 {
@@ -104,7 +104,7 @@ fn read_fact<'a>(alloc: Global, scan: &mut Scan<'a>) -> Result<Fact, Stop>
 }
 
 /// The facts up to a token other than a left parenthesis.
-pub fn read_facts<'a>(alloc: Global, scan: &mut Scan<'a>) -> Result<List<Fact>, Stop>
+pub fn read_facts<'a>(alloc: Global, scan: &mut Scan<'a>) -> Result<List<Fact>, TokenError>
     ensures gives { Gives (λ facts. map fact_tree facts) result scan.old scan.new (star is_open fact_at) }
     ensures last { last_line scan.new ≡ last_line scan.old }
 {

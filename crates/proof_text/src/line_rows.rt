@@ -7,7 +7,7 @@ ghost use Rattle.proof_text.specs.inner.LineReading.{ends_proof, line_at};
 use crate::line::Line;
 use crate::proof_lines::{ends_proof, read_line};
 use group_text::{ReadRow, RowStart};
-use mc_text::{Scan, Stop};
+use mc_text::{Scan, TokenError};
 use std::alloc::Global;
 use word_terms::Code;
 
@@ -18,7 +18,7 @@ pub struct LineRow<'c>(pub &'c Code);
 impl<'c> ReadRow<Line> for LineRow<'c> {
     ghost reads = { λ row. read_as line_tree (line_at row.0.now.ranges) };
 
-    fn read<'a>(&self, alloc: Global, scan: &mut Scan<'a>) -> Result<Line, Stop> {
+    fn read<'a>(&self, alloc: Global, scan: &mut Scan<'a>) -> Result<Line, TokenError> {
         read_line(alloc, scan, self.0)
     }
 }

@@ -12,19 +12,19 @@ use crate::line_heads::{RuleHead, axiom_form_of, rule_head_of};
 use crate::line_subs::{Put, puts_rise, read_subs, sub_of};
 use group_text::read_index;
 use mc_text::cursor::{accept, address, keyword, peek};
-use mc_text::{Scan, Stop, Token, dec, hexnum};
+use mc_text::{Scan, Token, TokenError, dec, hexnum};
 use std::alloc::Global;
 use triple_kernel::Form;
 
 /// The number of a theorem.
 #[tactic(auto, unfolding(mc_text::specs::Reading::one))]
-pub fn read_theorem<'a>(scan: &mut Scan<'a>) -> Result<u64, Stop>
+pub fn read_theorem<'a>(scan: &mut Scan<'a>) -> Result<u64, TokenError>
     ensures gives { Gives (λ n. n) result scan.old scan.new theorem_at }
     ensures last { last_line scan.new ≡ last_line scan.old }
 {
     match peek(scan) {
         Some((Token::Atom(atom), ahead)) => accept(scan, ahead, dec(atom)),
-        _ => Err(Stop::Bad),
+        _ => Err(TokenError::Bad),
     }
 }
 
@@ -39,30 +39,30 @@ fn instruction_of(atom: &[u8]) -> Option<u32>
 }
 
 #[tactic(auto, unfolding(mc_text::specs::Reading::one))]
-fn read_instruction<'a>(scan: &mut Scan<'a>) -> Result<u32, Stop>
+fn read_instruction<'a>(scan: &mut Scan<'a>) -> Result<u32, TokenError>
     ensures gives { Gives (λ n. n) result scan.old scan.new (one (atom_of instruction_of)) }
     ensures last { last_line scan.new ≡ last_line scan.old }
 {
     match peek(scan) {
         Some((Token::Atom(atom), ahead)) => accept(scan, ahead, instruction_of(atom)),
-        _ => Err(Stop::Bad),
+        _ => Err(TokenError::Bad),
     }
 }
 
 /// How an instruction goes on.
 #[tactic(auto, unfolding(mc_text::specs::Reading::one))]
-fn read_form<'a>(scan: &mut Scan<'a>) -> Result<Form, Stop>
+fn read_form<'a>(scan: &mut Scan<'a>) -> Result<Form, TokenError>
     ensures gives { Gives (λ form. form) result scan.old scan.new (one (atom_of axiom_form_of)) }
     ensures last { last_line scan.new ≡ last_line scan.old }
 {
     match peek(scan) {
         Some((Token::Atom(name), ahead)) => accept(scan, ahead, axiom_form_of(name)),
-        _ => Err(Stop::Bad),
+        _ => Err(TokenError::Bad),
     }
 }
 
 /// The first word of a triple.
-fn read_facts_word<'a>(scan: &mut Scan<'a>) -> Result<(), Stop>
+fn read_facts_word<'a>(scan: &mut Scan<'a>) -> Result<(), TokenError>
     ensures gives { Gives (λ _. tt) result scan.old scan.new facts_word }
     ensures last { last_line scan.new ≡ last_line scan.old }
 {
@@ -70,7 +70,7 @@ fn read_facts_word<'a>(scan: &mut Scan<'a>) -> Result<(), Stop>
 }
 
 /// The number of a theorem, and the first word of a triple.
-fn read_cited<'a>(scan: &mut Scan<'a>) -> Result<u64, Stop>
+fn read_cited<'a>(scan: &mut Scan<'a>) -> Result<u64, TokenError>
     ensures gives { Gives (λ n. (n, tt)) result scan.old scan.new cited_at }
     ensures last { last_line scan.new ≡ last_line scan.old }
 {
@@ -82,7 +82,7 @@ fn read_cited<'a>(scan: &mut Scan<'a>) -> Result<u64, Stop>
 // ---- rules
 
 /// A theorem and terms for variables, and the first word of a triple.
-fn read_inst<'a>(alloc: Global, scan: &mut Scan<'a>) -> Result<(u64, Vec<Put>), Stop>
+fn read_inst<'a>(alloc: Global, scan: &mut Scan<'a>) -> Result<(u64, Vec<Put>), TokenError>
     ensures gives { Gives (λ inst. (inst.0, (map put_tree inst.1.items, tt))) result scan.old scan.new inst_parts }
     ensures last { last_line scan.new ≡ last_line scan.old }
 {
@@ -90,25 +90,25 @@ fn read_inst<'a>(alloc: Global, scan: &mut Scan<'a>) -> Result<(u64, Vec<Put>), 
     let puts = read_subs(alloc, scan)?;
     read_facts_word(scan)?;
     if !puts_rise(puts.as_slice()) {
-        return Err(Stop::Bad);
+        return Err(TokenError::Bad);
     }
     Ok((p, puts))
 }
 
 /// The name of a rule.
 #[tactic(auto, unfolding(mc_text::specs::Reading::one))]
-fn rule_name<'a>(scan: &mut Scan<'a>) -> Result<RuleHead, Stop>
+fn rule_name<'a>(scan: &mut Scan<'a>) -> Result<RuleHead, TokenError>
     ensures gives { Gives (λ h. h) result scan.old scan.new (one (atom_of rule_head_of)) }
     ensures last { last_line scan.new ≡ last_line scan.old }
 {
     match peek(scan) {
         Some((Token::Atom(name), ahead)) => accept(scan, ahead, rule_head_of(name)),
-        _ => Err(Stop::Bad),
+        _ => Err(TokenError::Bad),
     }
 }
 
 /// What stands after the name of a rule, with the first word of the triple.
-fn read_parts<'a>(alloc: Global, scan: &mut Scan<'a>, head: RuleHead) -> Result<Rule, Stop>
+fn read_parts<'a>(alloc: Global, scan: &mut Scan<'a>, head: RuleHead) -> Result<Rule, TokenError>
     ensures gives { Gives rule_tree result scan.old scan.new (rule_parts head) }
     ensures last { last_line scan.new ≡ last_line scan.old }
 {
@@ -144,7 +144,7 @@ fn read_parts<'a>(alloc: Global, scan: &mut Scan<'a>, head: RuleHead) -> Result<
 
 /// A rule, with the first word of the triple.
 #[tactic(auto, unfolding(crate::specs::inner::LineReading::rule_at))]
-pub fn read_rule<'a>(alloc: Global, scan: &mut Scan<'a>) -> Result<Rule, Stop>
+pub fn read_rule<'a>(alloc: Global, scan: &mut Scan<'a>) -> Result<Rule, TokenError>
     ensures gives { Gives rule_tree result scan.old scan.new rule_at }
     ensures last { last_line scan.new ≡ last_line scan.old }
 {

@@ -9,11 +9,11 @@ ghost use Rattle.proof_text.specs.inner.Subs.{put_tree};
 
 use crate::line_heads::{SubHead, sub_head_of};
 use mc_text::cursor::{accept, is_open, left, peek, right};
-use mc_text::{Scan, Stop, Token};
+use mc_text::{Scan, Token, TokenError};
 use rv_words::{List, NoMemory};
 use std::alloc::Global;
 use term_text::{read_mem, read_word};
-use word_terms::{DEEPEST, Mem, Sub, Word};
+use word_terms::{DEPTH_LIMIT, Mem, Sub, Word};
 
 /// A term that is put in for a variable.
 #[derive(Debug, Drop)]
@@ -24,29 +24,29 @@ pub enum Put {
 
 /// The variable, after its parenthesis.
 #[tactic(auto, unfolding(mc_text::specs::Reading::one))]
-fn sub_name<'a>(scan: &mut Scan<'a>) -> Result<SubHead, Stop>
+fn sub_name<'a>(scan: &mut Scan<'a>) -> Result<SubHead, TokenError>
     ensures gives { Gives (λ h. h) result scan.old scan.new (one (atom_of sub_head_of)) }
     ensures last { last_line scan.new ≡ last_line scan.old }
 {
     match peek(scan) {
         Some((Token::Atom(name), ahead)) => accept(scan, ahead, sub_head_of(name)),
-        _ => Err(Stop::Bad),
+        _ => Err(TokenError::Bad),
     }
 }
 
 /// The term for a variable, with the parenthesis behind it.
-fn read_sub_parts<'a>(alloc: Global, scan: &mut Scan<'a>, head: SubHead) -> Result<Put, Stop>
+fn read_sub_parts<'a>(alloc: Global, scan: &mut Scan<'a>, head: SubHead) -> Result<Put, TokenError>
     ensures gives { Gives put_tree result scan.old scan.new (sub_parts head) }
     ensures last { last_line scan.new ≡ last_line scan.old }
 {
     match head {
         SubHead::Word(i) => {
-            let word = read_word(alloc, scan, DEEPEST)?;
+            let word = read_word(alloc, scan, DEPTH_LIMIT)?;
             right(scan)?;
             Ok(Put::Word(i, word))
         }
         SubHead::Mem(i) => {
-            let mem = read_mem(alloc, scan, DEEPEST)?;
+            let mem = read_mem(alloc, scan, DEPTH_LIMIT)?;
             right(scan)?;
             Ok(Put::Mem(i, mem))
         }
@@ -54,7 +54,7 @@ fn read_sub_parts<'a>(alloc: Global, scan: &mut Scan<'a>, head: SubHead) -> Resu
 }
 
 #[tactic(auto, unfolding(crate::specs::inner::LineReading::sub_at))]
-fn read_sub<'a>(alloc: Global, scan: &mut Scan<'a>) -> Result<Put, Stop>
+fn read_sub<'a>(alloc: Global, scan: &mut Scan<'a>) -> Result<Put, TokenError>
     ensures gives { Gives put_tree result scan.old scan.new sub_at }
     ensures last { last_line scan.new ≡ last_line scan.old }
 {
@@ -64,7 +64,7 @@ fn read_sub<'a>(alloc: Global, scan: &mut Scan<'a>) -> Result<Put, Stop>
 }
 
 /// The terms for variables up to a token other than a left parenthesis.
-pub fn read_subs<'a>(alloc: Global, scan: &mut Scan<'a>) -> Result<Vec<Put>, Stop>
+pub fn read_subs<'a>(alloc: Global, scan: &mut Scan<'a>) -> Result<Vec<Put>, TokenError>
     ensures gives { Gives (λ puts. map put_tree puts.items) result scan.old scan.new (star is_open sub_at) }
     ensures last { last_line scan.new ≡ last_line scan.old }
 {

@@ -13,29 +13,32 @@ use crate::line_facts::read_facts;
 use crate::put_lines::is_own;
 use group_text::{ranges_rise, read_register};
 use mc_text::cursor::{is_open, keyword, left, peek, right, semi};
-use mc_text::{Scan, Stop, Token};
+use mc_text::{Scan, Token, TokenError};
 use rv_words::{List, NoMemory};
 use sep_assert::Assertion;
 use std::alloc::Global;
 use term_text::{read_mems, read_ranges, read_word};
 use triple_kernel::Triple;
-use word_terms::{Code, DEEPEST, Word, copy_code};
+use word_terms::{Code, DEPTH_LIMIT, Word, copy_code};
 
 /// A register and its term.
 #[tactic(auto, unfolding(crate::specs::inner::LineReading::register_at))]
-fn read_register_term<'a>(alloc: Global, scan: &mut Scan<'a>) -> Result<(u8, Word), Stop>
+fn read_register_term<'a>(alloc: Global, scan: &mut Scan<'a>) -> Result<(u8, Word), TokenError>
     ensures gives { Gives register_tree result scan.old scan.new register_at }
     ensures last { last_line scan.new ≡ last_line scan.old }
 {
     left(scan)?;
     let register = read_register(scan)?;
-    let word = read_word(alloc, scan, DEEPEST)?;
+    let word = read_word(alloc, scan, DEPTH_LIMIT)?;
     right(scan)?;
     Ok((register, word))
 }
 
 /// The registers up to a token other than a left parenthesis.
-fn read_register_terms<'a>(alloc: Global, scan: &mut Scan<'a>) -> Result<List<(u8, Word)>, Stop>
+fn read_register_terms<'a>(
+    alloc: Global,
+    scan: &mut Scan<'a>,
+) -> Result<List<(u8, Word)>, TokenError>
     ensures gives { Gives (λ regs. map register_tree regs) result scan.old scan.new (star is_open register_at) }
     ensures last { last_line scan.new ≡ last_line scan.old }
 {
@@ -72,19 +75,19 @@ fn registers_rise(registers: &[(u8, Word)]) -> bool
 
 /// An assertion.
 #[tactic(auto, unfolding(crate::specs::inner::LineReading::assertion_at))]
-fn read_assertion<'a>(alloc: Global, scan: &mut Scan<'a>) -> Result<Assertion, Stop>
+fn read_assertion<'a>(alloc: Global, scan: &mut Scan<'a>) -> Result<Assertion, TokenError>
     ensures gives { Gives assertion_tree result scan.old scan.new assertion_at }
     ensures last { last_line scan.new ≡ last_line scan.old }
 {
     left(scan)?;
-    let pc = read_word(alloc, scan, DEEPEST)?;
+    let pc = read_word(alloc, scan, DEPTH_LIMIT)?;
     let regs = read_register_terms(alloc, scan)?;
     semi(scan)?;
     let mems = read_mems(alloc, scan)?;
     right(scan)?;
     let assertion = Assertion { pc, regs, mems };
     if !has_rising(&assertion) {
-        return Err(Stop::Bad);
+        return Err(TokenError::Bad);
     }
     Ok(assertion)
 }
@@ -99,7 +102,7 @@ fn is_other(own: &Code, code: &Code) -> bool
 }
 
 /// Ranges, with the word behind them.
-fn read_ranges_to_post<'a>(alloc: Global, scan: &mut Scan<'a>) -> Result<Code, Stop>
+fn read_ranges_to_post<'a>(alloc: Global, scan: &mut Scan<'a>) -> Result<Code, TokenError>
     ensures gives { Gives (λ code. code.ranges) result scan.old scan.new ranges_to_post }
     ensures last { last_line scan.new ≡ last_line scan.old }
 {
@@ -109,19 +112,19 @@ fn read_ranges_to_post<'a>(alloc: Global, scan: &mut Scan<'a>) -> Result<Code, S
 }
 
 /// Code other than the group's own, with the word behind it.
-fn read_other<'a>(alloc: Global, scan: &mut Scan<'a>, own: &Code) -> Result<Code, Stop>
+fn read_other<'a>(alloc: Global, scan: &mut Scan<'a>, own: &Code) -> Result<Code, TokenError>
     ensures gives { Gives (λ code. code.ranges) result scan.old scan.new (checked (is_other own.now.ranges) ranges_to_post) }
     ensures last { last_line scan.new ≡ last_line scan.old }
 {
     let code = read_ranges_to_post(alloc, scan)?;
     if !is_other(own, &code) {
-        return Err(Stop::Bad);
+        return Err(TokenError::Bad);
     }
     Ok(code)
 }
 
 /// The group's own code, with the word behind it, after the word that stands for it.
-fn read_own<'a>(alloc: Global, scan: &mut Scan<'a>, own: &Code) -> Result<Code, Stop>
+fn read_own<'a>(alloc: Global, scan: &mut Scan<'a>, own: &Code) -> Result<Code, TokenError>
     ensures gives { Gives (λ code. code.ranges) result scan.old scan.new (made (λ _. own.now.ranges) (word (codes "post"))) }
     ensures last { last_line scan.new ≡ last_line scan.old }
 {
@@ -132,7 +135,7 @@ fn read_own<'a>(alloc: Global, scan: &mut Scan<'a>, own: &Code) -> Result<Code, 
 
 /// Code, by the group's own, with the word behind it.
 #[tactic(auto, unfolding(crate::specs::inner::LineReading::code_at))]
-fn read_code<'a>(alloc: Global, scan: &mut Scan<'a>, own: &Code) -> Result<Code, Stop>
+fn read_code<'a>(alloc: Global, scan: &mut Scan<'a>, own: &Code) -> Result<Code, TokenError>
     ensures gives { Gives (λ code. code.ranges) result scan.old scan.new (code_at own.now.ranges) }
     ensures last { last_line scan.new ≡ last_line scan.old }
 {
@@ -151,7 +154,7 @@ fn read_code<'a>(alloc: Global, scan: &mut Scan<'a>, own: &Code) -> Result<Code,
 
 /// A triple, after its first word, by the group's own code.
 #[tactic(auto, unfolding(crate::specs::inner::LineReading::triple_at))]
-pub fn read_triple<'a>(alloc: Global, scan: &mut Scan<'a>, own: &Code) -> Result<Triple, Stop>
+pub fn read_triple<'a>(alloc: Global, scan: &mut Scan<'a>, own: &Code) -> Result<Triple, TokenError>
     ensures gives { Gives triple_tree result scan.old scan.new (triple_at own.now.ranges) }
     ensures last { last_line scan.new ≡ last_line scan.old }
 {

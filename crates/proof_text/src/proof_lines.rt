@@ -5,7 +5,7 @@ ghost use Rattle.mc_text.specs.Reading.{goes_on, star};
 ghost use Rattle.mc_text.specs.Scanning.{tokens_at};
 ghost use Rattle.mc_text.specs.Outcome.{Gives, last_line};
 ghost use Rattle.proof_text.specs.Line.{line_tree};
-ghost use Rattle.group_text.specs.inner.Rows.{OnLost, RowsGive, Spot, tokens};
+ghost use Rattle.group_text.specs.inner.Rows.{OnRowError, RowsGive, RowPosition, tokens};
 ghost use Rattle.proof_text.specs.inner.OwnCode.{IsOwnCode};
 ghost use Rattle.group_text.specs.inner.Reading.{has_atom};
 ghost use Rattle.proof_text.specs.inner.LineReading.{ends_proof, forget_row, line_at, loop_row, stated_row, theorem_at, turn_of};
@@ -14,15 +14,15 @@ use crate::line::Line;
 use crate::line_rows::{LineRow, ProofEnd};
 use crate::line_rules::{read_rule, read_theorem};
 use crate::line_triples::read_triple;
-use group_text::{Halt, Rows, has_atom, next_row, read_index, row_begins};
+use group_text::{ReadError, Rows, has_atom, next_row, read_index, row_begins};
 use mc_text::cursor::{eol, peek};
-use mc_text::{Scan, Stop, Token};
+use mc_text::{Scan, Token, TokenError};
 use rv_words::List;
 use std::alloc::Global;
 use word_terms::Code;
 
 /// The numbers of theorems up to the end of the line.
-fn read_theorems<'a>(alloc: Global, scan: &mut Scan<'a>) -> Result<List<u64>, Stop>
+fn read_theorems<'a>(alloc: Global, scan: &mut Scan<'a>) -> Result<List<u64>, TokenError>
     ensures gives { Gives (λ theorems. theorems) result scan.old scan.new (star has_atom theorem_at) }
     ensures last { last_line scan.new ≡ last_line scan.old }
 {
@@ -37,7 +37,7 @@ fn read_theorems<'a>(alloc: Global, scan: &mut Scan<'a>) -> Result<List<u64>, St
 }
 
 /// What stands after the word of a line that closes a definition.
-fn read_loop<'a>(alloc: Global, scan: &mut Scan<'a>) -> Result<Line, Stop>
+fn read_loop<'a>(alloc: Global, scan: &mut Scan<'a>) -> Result<Line, TokenError>
     ensures gives { Gives line_tree result scan.old scan.new loop_row }
     ensures last { last_line scan.new ≡ last_line scan.old }
 {
@@ -48,7 +48,7 @@ fn read_loop<'a>(alloc: Global, scan: &mut Scan<'a>) -> Result<Line, Stop>
 }
 
 /// What stands after the word of a line that forgets a theorem.
-fn read_forget<'a>(scan: &mut Scan<'a>) -> Result<Line, Stop>
+fn read_forget<'a>(scan: &mut Scan<'a>) -> Result<Line, TokenError>
     ensures gives { Gives line_tree result scan.old scan.new forget_row }
     ensures last { last_line scan.new ≡ last_line scan.old }
 {
@@ -58,7 +58,7 @@ fn read_forget<'a>(scan: &mut Scan<'a>) -> Result<Line, Stop>
 }
 
 /// A line that states a triple, by the group's own code.
-fn read_stated<'a>(alloc: Global, scan: &mut Scan<'a>, own: &Code) -> Result<Line, Stop>
+fn read_stated<'a>(alloc: Global, scan: &mut Scan<'a>, own: &Code) -> Result<Line, TokenError>
     ensures gives { Gives line_tree result scan.old scan.new (stated_row own.now.ranges) }
     ensures last { last_line scan.new ≡ last_line scan.old }
 {
@@ -70,7 +70,7 @@ fn read_stated<'a>(alloc: Global, scan: &mut Scan<'a>, own: &Code) -> Result<Lin
 
 /// A line, by the group's own code.
 #[tactic(auto, unfolding(crate::specs::inner::LineReading::line_at))]
-pub fn read_line<'a>(alloc: Global, scan: &mut Scan<'a>, own: &Code) -> Result<Line, Stop>
+pub fn read_line<'a>(alloc: Global, scan: &mut Scan<'a>, own: &Code) -> Result<Line, TokenError>
     ensures gives { Gives line_tree result scan.old scan.new (line_at own.now.ranges) }
     ensures last { last_line scan.new ≡ last_line scan.old }
 {
@@ -106,9 +106,9 @@ pub fn read_turn<E, R: Rows<E>>(
     rows: &mut R,
     from: &mut E,
     own: &Code,
-) -> Result<Option<Line>, Halt>
+) -> Result<Option<Line>, ReadError>
     ensures gives { IsOwnCode own.now.ranges → RowsGive (λ found. option_map line_tree found) result (R.May rows.old from.old) (R.May rows.new from.new) (turn_of own.now.ranges) }
-    ensures lost { R.Sure rows.old from.old → OnLost result ((p : Spot) → R.May rows.new from.new p → R.May rows.old from.old p × (goes_on ends_proof (tokens p) ≡ false)) }
+    ensures lost { R.Sure rows.old from.old → OnRowError result ((p : RowPosition) → R.May rows.new from.new p → R.May rows.old from.old p × (goes_on ends_proof (tokens p) ≡ false)) }
     ensures left { R.left rows.new ≤ R.left rows.old }
 {
     if row_begins(alloc, rows, from, &ProofEnd)? {

@@ -13,7 +13,7 @@ ghost use Rattle.proof_text.specs.Answers.{IsEnd, NoItem, OnBad, OnEnd, OnGiven}
 
 use crate::line::Line;
 use crate::proof_lines::read_turn as read_line_turn;
-use group_text::{Halt, Rows, TextFault, TextRows, is_end, read_turn, whole_lines};
+use group_text::{ReadError, Rows, TextFault, TextRows, is_end, read_turn, whole_lines};
 use std::alloc::Global;
 use std::marker::Model;
 use tailrec_lang::Group;
@@ -84,9 +84,9 @@ impl<'a> Reader<'a> {
                     Err(TextFault::Bad(self.place + rows.taken(&()) + 1))
                 }
             }
-            Err(Halt::Bad) => Err(TextFault::Bad(self.place + rows.taken(&()) + 1)),
-            Err(Halt::Fault) => Err(TextFault::NoMemory),
-            Err(Halt::NoMemory) => Err(TextFault::NoMemory),
+            Err(ReadError::Bad) => Err(TextFault::Bad(self.place + rows.taken(&()) + 1)),
+            Err(ReadError::Fault) => Err(TextFault::NoMemory),
+            Err(ReadError::NoMemory) => Err(TextFault::NoMemory),
         }
     }
 
@@ -113,9 +113,9 @@ impl<'a> Reader<'a> {
                 Ok(Some(line))
             }
             Ok(None) => Ok(None),
-            Err(Halt::Bad) => Err(TextFault::Bad(self.place + ahead.taken(&()) + 1)),
-            Err(Halt::Fault) => Err(TextFault::NoMemory),
-            Err(Halt::NoMemory) => Err(TextFault::NoMemory),
+            Err(ReadError::Bad) => Err(TextFault::Bad(self.place + ahead.taken(&()) + 1)),
+            Err(ReadError::Fault) => Err(TextFault::NoMemory),
+            Err(ReadError::NoMemory) => Err(TextFault::NoMemory),
         }
     }
 

@@ -1,8 +1,8 @@
 //! Reading memory. Addresses go on from 0 after the last one.
 
-ghost use Rattle.std.specs.Prelude.{◌≡◌, ◌<◌, ◌^◌, IfSome, Some, None, if◌then◌else◌};
+ghost use Rattle.std.specs.Prelude.{◌≡◌, ◌≤◌, Some, None, if◌then◌else◌};
 ghost use Rattle.std.specs.FinMap.{get};
-ghost use Rattle.rv_words.specs.Bytes.{inside, load};
+ghost use Rattle.rv_words.specs.Bytes.{bytes_of, inside, load};
 ghost use Rattle.rvc.specs.Number.{number_at};
 ghost use Rattle.rv_machine.specs.Step as spec;
 
@@ -10,26 +10,29 @@ use rv_words::{ByteMap, Ext, Width, extend};
 use rvc::is_word;
 
 /// The parcel or the word that stands at `a`, if its bytes are present.
-#[tactic(auto, using(rvc::proofs::NumberLemmas::long_number, rvc::proofs::NumberLemmas::short_number))]
+#[tactic(auto, using(rvc::proofs::NumberLemmas::long_number, rvc::proofs::NumberLemmas::first_number, rvc::proofs::NumberLemmas::half_number, rvc::proofs::NumberLemmas::short_number, rvc::proofs::NumberLemmas::no_number))]
 pub fn fetch(memory: &ByteMap, a: u64) -> Option<u32>
     ensures { result ≡ number_at (get memory.now) a }
 {
-    let parcel = pair(memory, a)?;
-    if !is_word(parcel) {
-        return Some(parcel);
+    memory.law_of_values();
+    if memory.has(a, Width::B4) {
+        let word = number(memory, a, Width::B4);
+        return Some(if is_word(word) { word } else { word % 65536 });
     }
-    let high = pair(memory, a.wrapping_add(1).wrapping_add(1))?;
-    Some(parcel + 65536 * high)
+    if !memory.has(a, Width::B2) {
+        return None;
+    }
+    let parcel = number(memory, a, Width::B2);
+    if is_word(parcel) { None } else { Some(parcel) }
 }
 
-/// The number that the two bytes from `a` on make, the low one first, if they are present.
-fn pair(memory: &ByteMap, a: u64) -> Option<u32>
-    ensures value { result ≡ if inside 2 (get memory.now) a then Some (load 2 (get memory.now) a) else None }
-    ensures small { IfSome result (λ w. w < 2 ^ 16) }
+/// The number that at most four bytes from `a` on make.
+fn number(memory: &ByteMap, a: u64, width: Width) -> u32
+    requires { bytes_of width ≤ 4 }
+    ensures { result ≡ load (bytes_of width) (get memory.now) a }
 {
-    let low = memory.byte(a)?;
-    let high = memory.byte(a.wrapping_add(1))?;
-    Some(u32::from(low) + 256 * (u32::from(high) + 256 * 0))
+    memory.law_of_values();
+    memory.load(a, width) as u32
 }
 
 /// The word that a load from `a` gives.

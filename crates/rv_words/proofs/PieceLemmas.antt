@@ -8,10 +8,10 @@ use Rattle.std.specs.FinMap.{empty, get, find, from_entries, get-from_entries, s
 use Rattle.std.proofs.lemmas.Bool.{le-leb, lt-leb, eq-eqb, ne_eqb, cases_lt, cases_order, eqb-true, cond-true, cond-false}
 use Rattle.std.proofs.lemmas.List.{take-append-drop, length-take-le, drop_all, length-drop, length-append, length-take, length-replicate, length-set, drop-drop, take_more_set, drop-set-lt, append_assoc, append-nil, get_or-drop, get_or-take, get_or-replicate, get_or-set_same, get_or_at}
 use Rattle.std.proofs.lemmas.Bool.Decides.{nat_tests}
-use Rattle.std.proofs.Math.Nat.{pow-le-pow_right, pow-succ'}
+use Rattle.std.proofs.Math.Nat.{mod-eq_of_lt, pow-le-pow_right, pow-succ'}
 use Rattle.std.proofs.lemmas.Option.{slice_get_past, slice_get-get_or}
 use Rattle.rv_words.specs.declared.pieces.Piece.{Piece}
-use Rattle.rv_words.specs.Bytes.{Bytes, after, inside, store, bytes_from, over, put_byte}
+use Rattle.rv_words.specs.Bytes.{AreAt, Bytes, after, away, inside, store, bytes_from, over, put_byte}
 use Rattle.rv_words.specs.inner.Pieces.{end, above, ArePiecesFrom, ArePieces, bytes_in, entries_from, entries_in, map_of, Holds}
 
 -- ---- options
@@ -206,6 +206,12 @@ found ps begun a p h pos l b n is =
     found_from 0 ps (begun - 1) a p h (omega arith) (omega (arith, b p pos)) (λ d l. let m = subst (λ x. x < length ps → a + 0 < (get_or ps x d).at) e (n d) in omega (arith, m l))
     ∙ (λ i. bytes_from (sym is i).at (sym is i).bytes.items a)
 
+-- the next piece begins at or above the end of one
+next_begins : (least : ℕ) (ps : List Piece) (k : ℕ) (c d : Piece) → ArePiecesFrom least ps → suc k < length ps → end (get_or ps k c) ≤ (get_or ps (suc k) d).at
+next_begins least [] k c d h l = absurd (omega arith)
+next_begins least (p ∷ ps) zero c d h l = least_at (end p) ps 0 d h.3 (omega arith)
+next_begins least (p ∷ ps) (suc k) c d h l = next_begins (end p) ps k c d h.3 (omega arith)
+
 -- ---- a piece with other bytes at the same addresses
 
 pub put_rises : (least : ℕ) (ps : List Piece) (k : ℕ) (d p : Piece) → ArePiecesFrom least ps → k < length ps → p.at ≡ (get_or ps k d).at
@@ -376,6 +382,28 @@ end_at : (least : ℕ) (ps : List Piece) (k : ℕ) (d : Piece) → ArePiecesFrom
 end_at least [] k d h l = absurd (omega arith)
 end_at least (p ∷ ps) zero d h l = h.2
 end_at least (p ∷ ps) (suc k) d h l = end_at (end p) ps k d h.3 (omega arith)
+
+-- the bytes at addresses that one piece has
+pub part_at : (ps : List Piece) (k a n : ℕ) (p : Piece) (bytes : List ℕ) → ArePieces ps → k < length ps → p ≡ get_or ps k p → p.at ≤ a → a + n ≤ end p
+    → bytes ≡ take n (drop (a - p.at) p.bytes.items) → (length bytes ≡ n) × AreAt bytes (bytes_in ps) a
+part_at ps k a n p bytes h l is low high are =
+    let rest = drop (a - p.at) p.bytes.items in
+    let behind = length-drop (a - p.at) p.bytes.items in
+    let taken = length-take n rest in
+    let long : length bytes ≡ n = ap length are ∙ omega (arith, taken, behind) in (
+      long,
+      λ j m.
+          let q = a + j in
+          let same : end p ≡ end (get_or ps k p) = λ i. end (is i) in
+          let at : p.at ≡ (get_or ps k p).at = λ i. (is i).at in
+          let small = end_at 0 ps k p h l in
+          let here : away a j ≡ q = mod-eq_of_lt (omega (arith, long, m, small, same, high)) in
+          let there : bytes_in ps q ≡ bytes_from (get_or ps k p).at (get_or ps k p).bytes.items q =
+          found_from 0 ps k q p h l (omega (arith, at, low)) (λ d r. let next = next_begins 0 ps k p d h r in omega (arith, next, same, high, m, long)) in
+          let back : q - a ≡ j = omega arith in
+          ap (bytes_in ps) here ∙ there ∙ (λ i. bytes_from (sym is i).at (sym is i).bytes.items q) ∙ sym (tail_bytes a q p low (omega arith))
+          ∙ sym (bytes_take a n rest q (omega (arith, behind, high)) (omega (arith, m, long))) ∙ (λ i. bytes_from a (sym are i) q) ∙ bytes_within a bytes q (omega arith) ∙ (λ i. slice_get bytes (back i)),
+    )
 
 pub touched_split : (ps : List Piece) (first last : ℕ) → first ≤ last → take first ps ++ (take (last - first) (drop first ps) ++ drop last ps) ≡ ps
 touched_split ps first last l =

@@ -1,8 +1,8 @@
 //! Pieces of memory: they rise and don't overlap. Two may touch: a piece grows at its end in place, and where new
 //! bytes stand right in front of one, it is copied behind them only if it is short.
 
-ghost use Rattle.std.specs.Prelude.{◌≡◌, ◌+◌, ◌-◌, ◌<◌, ◌≤◌, slice_index_or, slice_get, length, take, drop, replicate, ◌++◌, ◌∷◌, vec_len, IfOk, OnOk, OnErr, IsTrue, ◌↔◌, ◌^◌};
-ghost use Rattle.rv_words.specs.Bytes.{bytes_from, inside, load, over, put_byte, store};
+ghost use Rattle.std.specs.Prelude.{◌≡◌, ◌+◌, ◌-◌, ◌<◌, ◌≤◌, slice_index_or, slice_get, length, take, drop, replicate, ◌++◌, ◌∷◌, vec_len, IfOk, IfSome, OnOk, OnErr, IsTrue, ◌↔◌, ◌^◌};
+ghost use Rattle.rv_words.specs.Bytes.{AreAt, bytes_from, inside, load, number_of, over, put_byte, store};
 ghost use Rattle.rv_words.specs.inner.Pieces.{ArePieces, ArePiecesFrom, Holds, above, bytes_in, end};
 
 use crate::memory::NoMemory;
@@ -56,6 +56,16 @@ impl Piece {
         ensures { IsTrue result → self.now.at ≡ a + n }
     {
         self.bytes.len() < SHORT && a <= self.at && self.at - a == n
+    }
+
+    /// The bytes of `n` addresses from `a` on, which the piece has all.
+    fn part(&self, a: u64, n: u64) -> &[u8]
+        requires at { self.now.at ≤ a }
+        requires within { a + n ≤ end self.now }
+        ensures { result.now ≡ take n (drop (a - self.now.at) self.now.bytes.items) }
+    {
+        let first = (a - self.at) as usize;
+        &self.bytes[first..first + n as usize]
     }
 
     /// The piece's bytes before an address.
@@ -366,19 +376,49 @@ pub fn put_zeros(pieces: &mut Vec<Piece>, a: u64, n: u64) -> Result<(), NoMemory
     Ok(())
 }
 
-/// Whether all of `n` addresses from `a` on are present.
-pub fn has_bytes(pieces: &[Piece], a: u64, n: u8) -> bool
+/// The bytes of the `n` addresses from `a` on, where one piece has them all.
+fn bytes_together(pieces: &[Piece], a: u64, n: u8) -> Option<&[u8]>
+    requires { ArePieces pieces.now }
+    ensures at { IfSome result (λ bytes. AreAt bytes.now (bytes_in pieces.now) a) }
+    ensures many { IfSome result (λ bytes. length bytes.now ≡ n) }
+{
+    let begun = count_begun(pieces, a, 0);
+    if begun == 0 {
+        return None;
+    }
+    let piece = &pieces[begun - 1];
+    let count = u64::from(n);
+    if !piece.holds(a, count) {
+        return None;
+    }
+    Some(piece.part(a, count))
+}
+
+/// The number that bytes make, the low one first.
+fn number(bytes: &[u8]) -> u64
+    requires few { length bytes.now ≤ 8 }
+    ensures number { result ≡ number_of bytes.now }
+    ensures small { result < 256 ^ length bytes.now }
+{
+    match bytes.split_first() {
+        None => 0,
+        Some((low, rest)) => u64::from(*low) + 256 * number(rest),
+    }
+}
+
+/// Whether each of `n` addresses from `a` on is present, one after the other.
+fn has_each(pieces: &[Piece], a: u64, n: u8) -> bool
     requires { ArePieces pieces.now }
     ensures { result ≡ inside n (bytes_in pieces.now) a }
 {
     if n == 0 {
         return true;
     }
-    byte_at(pieces, a).is_some() && has_bytes(pieces, a.wrapping_add(1), n - 1)
+    byte_at(pieces, a).is_some() && has_each(pieces, a.wrapping_add(1), n - 1)
 }
 
-/// The number of `n` bytes from `a` on, where an absent one counts as 0.
-pub fn load_bytes(pieces: &[Piece], a: u64, n: u8) -> u64
+/// The number of `n` bytes from `a` on, one after the other.
+fn load_each(pieces: &[Piece], a: u64, n: u8) -> u64
     requires pieces { ArePieces pieces.now }
     requires few { n ≤ 8 }
     ensures loaded { result ≡ load n (bytes_in pieces.now) a }
@@ -388,8 +428,31 @@ pub fn load_bytes(pieces: &[Piece], a: u64, n: u8) -> u64
         return 0;
     }
     let low = byte_at(pieces, a).unwrap_or(0);
-    let high = load_bytes(pieces, a.wrapping_add(1), n - 1);
+    let high = load_each(pieces, a.wrapping_add(1), n - 1);
     u64::from(low) + 256 * high
+}
+
+/// Whether all of `n` addresses from `a` on are present.
+pub fn has_bytes(pieces: &[Piece], a: u64, n: u8) -> bool
+    requires { ArePieces pieces.now }
+    ensures { result ≡ inside n (bytes_in pieces.now) a }
+{
+    match bytes_together(pieces, a, n) {
+        Some(_bytes) => true,
+        None => has_each(pieces, a, n),
+    }
+}
+
+/// The number of `n` bytes from `a` on, where an absent one counts as 0.
+pub fn load_bytes(pieces: &[Piece], a: u64, n: u8) -> u64
+    requires pieces { ArePieces pieces.now }
+    requires few { n ≤ 8 }
+    ensures { result ≡ load n (bytes_in pieces.now) a }
+{
+    match bytes_together(pieces, a, n) {
+        Some(bytes) => number(bytes),
+        None => load_each(pieces, a, n),
+    }
 }
 
 /// Writes a byte at an address that may be absent.

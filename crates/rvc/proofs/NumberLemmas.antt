@@ -4,8 +4,8 @@ use Rattle.std.proofs.lemmas.Bool.{leb-true}
 use Rattle.std.proofs.lemmas.Bool.Decides.{nat_tests}
 use Rattle.std.specs.Prelude.{IfSome}
 use Rattle.std.specs.Option.{option_and_then, unwrap_or}
-use Rattle.rv_words.specs.Bytes.{AreSame, Bytes, after, inside, load, word_at}
-use Rattle.rv_words.proofs.MemoryLemmas.{inside-same, load-same}
+use Rattle.rv_words.specs.Bytes.{AreBytes, AreSame, Bytes, after, inside, load, word_at}
+use Rattle.rv_words.proofs.MemoryLemmas.{inside-same, load-same, load_small}
 use Rattle.rv_decode.specs.declared.instruction.Instr.{Instr}
 use Rattle.rv_decode.specs.Decodes.{NamesRegisters, decoded}
 use Rattle.rv_decode.proofs.EncodeLemmas.{decoded_named}
@@ -83,31 +83,36 @@ instruction-none w short high =
     let large : ltb w (2 ^ 16) ≡ false = grind (arith, nat_tests) in
     λ i. cond (short i) (decoded w) (cond (large i) (compressed w) None)
 
--- ---- the number, two bytes at a time
-
-quads : (b c d e : Bool) → b ≡ true → c ≡ true → (b && (c && (d && (e && true)))) ≡ (d && (e && true))
-quads b c d e p q = λ i. p i && (q i && (d && (e && true)))
-
-split : (b c : Bool) → (b && (c && true)) ≡ true → (b ≡ true) × (c ≡ true)
-split true true h = (refl, refl)
-split true false h = absurd (cc)
-split false c h = absurd (cc)
+-- ---- the number, where four bytes are present, where only two are, and where not even they are
 
 halves : (b c d e : ℕ) → b + 256 * (c + 256 * (d + 256 * (e + 256 * 0))) ≡ b + 256 * (c + 256 * 0) + 65536 * (d + 256 * (e + 256 * 0))
 halves b c d e = omega arith
 
--- a parcel that tells of a word
-pub long_number : (m : Bytes) (a : ℕ) → inside 2 m a ≡ true → is_word (load 2 m a) ≡ true
-    → number_at m a ≡ cond (inside 2 m (after (after a))) (Some (load 2 m a + 65536 * load 2 m (after (after a)))) None
-long_number m a two long =
-    let first = split (is_some (m a)) (is_some (m (after a))) two in
-    let four = quads (is_some (m a)) (is_some (m (after a))) (is_some (m (after (after a)))) (is_some (m (after (after (after a))))) first.0 first.1 in
+low_half : (m : Bytes) (a : ℕ) → AreBytes m → load 2 m a ≡ load 4 m a % 65536
+low_half m a bytes =
     let sum = halves (unwrap_or (m a) 0) (unwrap_or (m (after a)) 0) (unwrap_or (m (after (after a))) 0) (unwrap_or (m (after (after (after a)))) 0) in
-    λ i. cond (two i) (cond (long i) (cond (four i) (Some (sum i)) None) (Some (load 2 m a))) None
+    let small = load_small 2 m a bytes in
+    omega (arith, sum, small)
 
--- a parcel that doesn't
+-- a parcel of two bytes
 pub short_number : (m : Bytes) (a : ℕ) → inside 2 m a ≡ true → is_word (load 2 m a) ≡ false → number_at m a ≡ Some (load 2 m a)
 short_number m a two short = λ i. cond (two i) (cond (short i) (word_at m a) (Some (load 2 m a))) None
+
+-- a parcel of two bytes, with two more behind it
+pub first_number : (m : Bytes) (a : ℕ) → AreBytes m → inside 4 m a ≡ true → is_word (load 4 m a) ≡ false → number_at m a ≡ Some (load 4 m a % 65536)
+first_number m a bytes four short = short_number m a (inside-two m a four) (parcel-word m a ∙ short) ∙ ap Some (low_half m a bytes)
+
+-- a word
+pub long_number : (m : Bytes) (a : ℕ) → inside 4 m a ≡ true → is_word (load 4 m a) ≡ true → number_at m a ≡ Some (load 4 m a)
+long_number m a four long = (number_at-is m a (load 4 m a)).1 (by_length (λ n. (inside n m a ≡ true) × (load n m a ≡ load 4 m a)) (is_word (load 4 m a)) true long (four, refl))
+
+-- a word, of which only the first half is present
+pub half_number : (m : Bytes) (a : ℕ) → inside 4 m a ≡ false → is_word (load 2 m a) ≡ true → number_at m a ≡ None
+half_number m a four long = either (inside 2 m a) _ (λ i. cond (long i) (cond (four i) (Some (load 4 m a)) None) (Some (load 2 m a)))
+  where
+    either : (t : Bool) (o : Option ℕ) → o ≡ None → cond t o None ≡ None
+    either true o e = e
+    either false o e = refl
 
 pub no_number : (m : Bytes) (a : ℕ) → inside 2 m a ≡ false → number_at m a ≡ None
 no_number m a two = λ i. cond (two i) (cond (is_word (load 2 m a)) (word_at m a) (Some (load 2 m a))) None

@@ -18,7 +18,7 @@ const START: u64 = 0x10000;
 const BEHIND: u64 = 0x20000;
 
 /// More steps than any program makes.
-const MOST_STEPS: u64 = 1_048_575;
+const STEP_LIMIT: u64 = 1_048_575;
 
 /// How the run of a program ended.
 #[derive(Clone, Copy, Debug)]
@@ -35,7 +35,7 @@ pub fn run_program(alloc: Global, image: &Image, number: u64, size: u32) -> Resu
     ensures { IfOk result (λ ran. Runs number size ran.steps ran.value) }
 {
     let mut state = begin_program(alloc, image, number, size)?;
-    match state.run(BEHIND, MOST_STEPS) {
+    match state.run(BEHIND, STEP_LIMIT) {
         RunEnd::Met(steps) => Ok(Ran {
             steps,
             value: state.reg(10),

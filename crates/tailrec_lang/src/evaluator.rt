@@ -11,7 +11,7 @@ ghost use Rattle.tailrec_lang.specs.inner.Walk.{FrameFits, IsLeft, ResultsFit, W
 use crate::args::Args;
 use crate::group::{Body, Exit, Group};
 use crate::scope::exits_of;
-use crate::walk::{Stop, Walk, go_through, needs_in_arms};
+use crate::walk::{Ending, Walk, go_through, needs_in_arms};
 use rv_words::{List, NoMemory};
 use std::alloc::Global;
 
@@ -48,7 +48,7 @@ pub struct Frame<'a> {
 
 /// A place in a body of that definition where control is given on.
 #[derive(Drop)]
-struct Place<'a> {
+struct Position<'a> {
     def: u32,
     walk: Walk<'a>,
 }
@@ -84,11 +84,11 @@ pub fn eval(
             stop,
         } = place.walk;
         match stop {
-            Stop::Again(args) => {
+            Ending::Again(args) => {
                 current = place.def;
                 variables = args;
             }
-            Stop::Call(callee, args, arms) => {
+            Ending::Call(callee, args, arms) => {
                 waiting.push(Frame {
                     def: place.def,
                     callee,
@@ -99,8 +99,8 @@ pub fn eval(
                 current = callee;
                 variables = args;
             }
-            Stop::Left(exit, results) => return done(alloc, g, def, exit, results, left),
-            Stop::False => {
+            Ending::Left(exit, results) => return done(alloc, g, def, exit, results, left),
+            Ending::False => {
                 let def = place.def;
                 return Ok(Outcome::SideFalse { def, ordinal });
             }
@@ -123,7 +123,7 @@ fn return_through<'a>(
     waiting: &mut List<Frame<'a>>,
     def: u32,
     walk: Walk<'a>,
-) -> Result<Place<'a>, NoMemory>
+) -> Result<Position<'a>, NoMemory>
     requires { (g : GroupTree) × (first : ℕ) × Waits g first waiting.old def × WalkFits g def walk × (def < length g.defs) }
     ensures ending { IfOk result (λ place. (call : Meaning) (left : ℕ)
         → unwound call waiting.old (walk_ending call def walk.entry left) ≡ unwound call waiting.new (walk_ending call place.def place.walk left)) }
@@ -140,14 +140,14 @@ fn return_through<'a>(
             stop,
         } = walk;
         match stop {
-            Stop::Left(exit, results) => match waiting.pop() {
+            Ending::Left(exit, results) => match waiting.pop() {
                 Some(frame) => {
                     def = frame.def;
                     walk = resume(alloc, frame, exit, results)?;
                 }
                 None => {
-                    let stop = Stop::Left(exit, results);
-                    return Ok(Place {
+                    let stop = Ending::Left(exit, results);
+                    return Ok(Position {
                         def,
                         walk: Walk {
                             variables,
@@ -157,7 +157,7 @@ fn return_through<'a>(
                     });
                 }
             },
-            stop => return Ok(Place {
+            stop => return Ok(Position {
                 def,
                 walk: Walk {
                     variables,

@@ -10,19 +10,19 @@ ghost use Rattle.term_text.specs.Reading.{begins_word, begins_mem, word_at, mem_
 use crate::ahead::{begins_mem, begins_word};
 use crate::read::{read_mem, read_range, read_word};
 use mc_text::cursor::is_open;
-use mc_text::{Scan, Stop};
+use mc_text::{Scan, TokenError};
 use rv_words::{List, Range};
 use std::alloc::Global;
-use word_terms::{DEEPEST, Mem, Word};
+use word_terms::{DEPTH_LIMIT, Mem, Word};
 
 /// The words up to a token that none begins with.
-pub fn read_words<'a>(alloc: Global, scan: &mut Scan<'a>) -> Result<List<Word>, Stop>
+pub fn read_words<'a>(alloc: Global, scan: &mut Scan<'a>) -> Result<List<Word>, TokenError>
     ensures gives { Gives (λ words. map word_tree words) result scan.old scan.new (star begins_word (word_at depth_limit)) }
     ensures last { last_line scan.new ≡ last_line scan.old }
 {
     let mut words = List::new(alloc);
     'words: while begins_word(scan) {
-        match read_word(alloc, scan, DEEPEST) {
+        match read_word(alloc, scan, DEPTH_LIMIT) {
             Ok(word) => words.push(word)?,
             Err(stop) => return Err(stop),
         }
@@ -31,13 +31,13 @@ pub fn read_words<'a>(alloc: Global, scan: &mut Scan<'a>) -> Result<List<Word>, 
 }
 
 /// The memories up to a token that none begins with.
-pub fn read_mems<'a>(alloc: Global, scan: &mut Scan<'a>) -> Result<List<Mem>, Stop>
+pub fn read_mems<'a>(alloc: Global, scan: &mut Scan<'a>) -> Result<List<Mem>, TokenError>
     ensures gives { Gives (λ mems. map mem_tree mems) result scan.old scan.new (star begins_mem (mem_at depth_limit)) }
     ensures last { last_line scan.new ≡ last_line scan.old }
 {
     let mut mems = List::new(alloc);
     'mems: while begins_mem(scan) {
-        match read_mem(alloc, scan, DEEPEST) {
+        match read_mem(alloc, scan, DEPTH_LIMIT) {
             Ok(mem) => mems.push(mem)?,
             Err(stop) => return Err(stop),
         }
@@ -46,7 +46,7 @@ pub fn read_mems<'a>(alloc: Global, scan: &mut Scan<'a>) -> Result<List<Mem>, St
 }
 
 /// The ranges up to a token other than a left parenthesis. They need not rise.
-pub fn read_ranges<'a>(alloc: Global, scan: &mut Scan<'a>) -> Result<List<Range>, Stop>
+pub fn read_ranges<'a>(alloc: Global, scan: &mut Scan<'a>) -> Result<List<Range>, TokenError>
     ensures gives { Gives (λ ranges. ranges) result scan.old scan.new (star is_open range_at) }
     ensures last { last_line scan.new ≡ last_line scan.old }
 {

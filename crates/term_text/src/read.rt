@@ -11,7 +11,7 @@ ghost use Rattle.term_text.specs.Reading.{variable_of, word_leaf_of, mem_leaf_of
 
 use crate::head::{CondHead, WordHead, cond_head_of, store_of, word_head_of};
 use mc_text::cursor::{accept, address, bytes, left, peek, right};
-use mc_text::{Scan, Stop, Token, dec, hexnum};
+use mc_text::{Scan, Token, TokenError, dec, hexnum};
 use rv_words::{Range, Width};
 use std::alloc::Global;
 use word_terms::{Cond, Mem, Word};
@@ -63,49 +63,49 @@ fn mem_leaf_of(atom: &[u8]) -> Option<Mem>
 
 /// The name of a form of a word.
 #[tactic(auto, unfolding(mc_text::specs::Reading::one))]
-fn word_name<'a>(scan: &mut Scan<'a>) -> Result<WordHead, Stop>
+fn word_name<'a>(scan: &mut Scan<'a>) -> Result<WordHead, TokenError>
     ensures gives { Gives (λ h. h) result scan.old scan.new (one (atom_of word_head_of)) }
     ensures last { last_line scan.new ≡ last_line scan.old }
 {
     match peek(scan) {
         Some((Token::Atom(name), ahead)) => accept(scan, ahead, word_head_of(name)),
-        _ => Err(Stop::Bad),
+        _ => Err(TokenError::Bad),
     }
 }
 
 /// The name of a store, for its width.
 #[tactic(auto, unfolding(mc_text::specs::Reading::one))]
-fn store_name<'a>(scan: &mut Scan<'a>) -> Result<Width, Stop>
+fn store_name<'a>(scan: &mut Scan<'a>) -> Result<Width, TokenError>
     ensures gives { Gives (λ h. h) result scan.old scan.new (one (atom_of store_of)) }
     ensures last { last_line scan.new ≡ last_line scan.old }
 {
     match peek(scan) {
         Some((Token::Atom(name), ahead)) => accept(scan, ahead, store_of(name)),
-        _ => Err(Stop::Bad),
+        _ => Err(TokenError::Bad),
     }
 }
 
 /// The name of a form of a condition.
 #[tactic(auto, unfolding(mc_text::specs::Reading::one))]
-fn cond_name<'a>(scan: &mut Scan<'a>) -> Result<CondHead, Stop>
+fn cond_name<'a>(scan: &mut Scan<'a>) -> Result<CondHead, TokenError>
     ensures gives { Gives (λ h. h) result scan.old scan.new (one (atom_of cond_head_of)) }
     ensures last { last_line scan.new ≡ last_line scan.old }
 {
     match peek(scan) {
         Some((Token::Atom(name), ahead)) => accept(scan, ahead, cond_head_of(name)),
-        _ => Err(Stop::Bad),
+        _ => Err(TokenError::Bad),
     }
 }
 
 /// A word of at most that depth, as its reading function gives it.
 #[cycle(terms)]
 #[tactic(auto, unfolding(crate::specs::Reading::word_at, mc_text::specs::Reading::one))]
-fn word_within<'a>(alloc: Global, scan: &mut Scan<'a>, room: u32) -> Result<Word, Stop>
+fn word_within<'a>(alloc: Global, scan: &mut Scan<'a>, room: u32) -> Result<Word, TokenError>
     ensures gives { Gives word_tree result scan.old scan.new (word_at room) }
     ensures last { last_line scan.new ≡ last_line scan.old }
 {
     if room == 0 {
-        return Err(Stop::Bad);
+        return Err(TokenError::Bad);
     }
     match peek(scan) {
         Some((Token::Left, ahead)) => {
@@ -114,7 +114,7 @@ fn word_within<'a>(alloc: Global, scan: &mut Scan<'a>, room: u32) -> Result<Word
             word_parts(alloc, scan, room - 1, head)
         }
         Some((Token::Atom(atom), ahead)) => accept(scan, ahead, word_leaf_of(atom)),
-        _ => Err(Stop::Bad),
+        _ => Err(TokenError::Bad),
     }
 }
 
@@ -125,7 +125,7 @@ fn word_parts<'a>(
     scan: &mut Scan<'a>,
     room: u32,
     head: WordHead,
-) -> Result<Word, Stop>
+) -> Result<Word, TokenError>
     ensures gives { Gives word_tree result scan.old scan.new (word_parts (word_at room) (mem_at room) head) }
     ensures last { last_line scan.new ≡ last_line scan.old }
 {
@@ -153,12 +153,12 @@ fn word_parts<'a>(
 /// A memory of at most that depth, as its reading function gives it.
 #[cycle(terms)]
 #[tactic(auto, unfolding(crate::specs::Reading::mem_at, mc_text::specs::Reading::one))]
-fn mem_within<'a>(alloc: Global, scan: &mut Scan<'a>, room: u32) -> Result<Mem, Stop>
+fn mem_within<'a>(alloc: Global, scan: &mut Scan<'a>, room: u32) -> Result<Mem, TokenError>
     ensures gives { Gives mem_tree result scan.old scan.new (mem_at room) }
     ensures last { last_line scan.new ≡ last_line scan.old }
 {
     if room == 0 {
-        return Err(Stop::Bad);
+        return Err(TokenError::Bad);
     }
     match peek(scan) {
         Some((Token::Left, ahead)) => {
@@ -167,13 +167,18 @@ fn mem_within<'a>(alloc: Global, scan: &mut Scan<'a>, room: u32) -> Result<Mem, 
             mem_parts(alloc, scan, room - 1, width)
         }
         Some((Token::Atom(atom), ahead)) => accept(scan, ahead, mem_leaf_of(atom)),
-        _ => Err(Stop::Bad),
+        _ => Err(TokenError::Bad),
     }
 }
 
 /// What stands after the name of a store.
 #[cycle(terms)]
-fn mem_parts<'a>(alloc: Global, scan: &mut Scan<'a>, room: u32, width: Width) -> Result<Mem, Stop>
+fn mem_parts<'a>(
+    alloc: Global,
+    scan: &mut Scan<'a>,
+    room: u32,
+    width: Width,
+) -> Result<Mem, TokenError>
     ensures gives { Gives mem_tree result scan.old scan.new (mem_parts (word_at room) (mem_at room) width) }
     ensures last { last_line scan.new ≡ last_line scan.old }
 {
@@ -191,7 +196,7 @@ fn mem_parts<'a>(alloc: Global, scan: &mut Scan<'a>, room: u32, width: Width) ->
 
 /// A range of bytes, as its reading function gives it.
 #[tactic(auto, unfolding(crate::specs::Reading::range_at))]
-fn range_within<'a>(alloc: Global, scan: &mut Scan<'a>) -> Result<Range, Stop>
+fn range_within<'a>(alloc: Global, scan: &mut Scan<'a>) -> Result<Range, TokenError>
     ensures gives { Gives (λ r. r) result scan.old scan.new range_at }
     ensures last { last_line scan.new ≡ last_line scan.old }
 {
@@ -205,12 +210,12 @@ fn range_within<'a>(alloc: Global, scan: &mut Scan<'a>) -> Result<Range, Stop>
 /// A condition of at most that depth, as its reading function gives it.
 #[cycle(conds)]
 #[tactic(auto, unfolding(crate::specs::Reading::cond_at))]
-fn cond_within<'a>(alloc: Global, scan: &mut Scan<'a>, room: u32) -> Result<Cond, Stop>
+fn cond_within<'a>(alloc: Global, scan: &mut Scan<'a>, room: u32) -> Result<Cond, TokenError>
     ensures gives { Gives cond_tree result scan.old scan.new (cond_at room) }
     ensures last { last_line scan.new ≡ last_line scan.old }
 {
     if room == 0 {
-        return Err(Stop::Bad);
+        return Err(TokenError::Bad);
     }
     left(scan)?;
     let head = cond_name(scan)?;
@@ -224,7 +229,7 @@ fn cond_parts<'a>(
     scan: &mut Scan<'a>,
     room: u32,
     head: CondHead,
-) -> Result<Cond, Stop>
+) -> Result<Cond, TokenError>
     ensures gives { Gives cond_tree result scan.old scan.new (cond_parts (word_at room) (mem_at room) (cond_at room) head) }
     ensures last { last_line scan.new ≡ last_line scan.old }
 {
@@ -250,7 +255,7 @@ fn cond_parts<'a>(
 }
 
 /// A word of at most that depth.
-pub fn read_word<'a>(alloc: Global, scan: &mut Scan<'a>, room: u32) -> Result<Word, Stop>
+pub fn read_word<'a>(alloc: Global, scan: &mut Scan<'a>, room: u32) -> Result<Word, TokenError>
     ensures spelled { ReadsItem word_tree (FitsWord room) word_tokens result scan.old scan.new }
     ensures gives { Gives word_tree result scan.old scan.new (word_at room) }
     ensures last { last_line scan.new ≡ last_line scan.old }
@@ -259,7 +264,7 @@ pub fn read_word<'a>(alloc: Global, scan: &mut Scan<'a>, room: u32) -> Result<Wo
 }
 
 /// A memory of at most that depth.
-pub fn read_mem<'a>(alloc: Global, scan: &mut Scan<'a>, room: u32) -> Result<Mem, Stop>
+pub fn read_mem<'a>(alloc: Global, scan: &mut Scan<'a>, room: u32) -> Result<Mem, TokenError>
     ensures spelled { ReadsItem mem_tree (FitsMem room) mem_tokens result scan.old scan.new }
     ensures gives { Gives mem_tree result scan.old scan.new (mem_at room) }
     ensures last { last_line scan.new ≡ last_line scan.old }
@@ -268,7 +273,7 @@ pub fn read_mem<'a>(alloc: Global, scan: &mut Scan<'a>, room: u32) -> Result<Mem
 }
 
 /// A condition of at most that depth.
-pub fn read_cond<'a>(alloc: Global, scan: &mut Scan<'a>, room: u32) -> Result<Cond, Stop>
+pub fn read_cond<'a>(alloc: Global, scan: &mut Scan<'a>, room: u32) -> Result<Cond, TokenError>
     ensures spelled { ReadsItem cond_tree (FitsCond room) cond_tokens result scan.old scan.new }
     ensures gives { Gives cond_tree result scan.old scan.new (cond_at room) }
     ensures last { last_line scan.new ≡ last_line scan.old }
@@ -277,7 +282,7 @@ pub fn read_cond<'a>(alloc: Global, scan: &mut Scan<'a>, room: u32) -> Result<Co
 }
 
 /// A range of bytes.
-pub fn read_range<'a>(alloc: Global, scan: &mut Scan<'a>) -> Result<Range, Stop>
+pub fn read_range<'a>(alloc: Global, scan: &mut Scan<'a>) -> Result<Range, TokenError>
     ensures spelled { ReadsItem (λ r. r) IsRange range_tokens result scan.old scan.new }
     ensures gives { Gives (λ r. r) result scan.old scan.new range_at }
     ensures last { last_line scan.new ≡ last_line scan.old }

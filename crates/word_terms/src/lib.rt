@@ -6,7 +6,7 @@
 //! whole memory; `is_word_in_scope` tells whether an `Env` of that size has all variables of a term.
 //!
 //! A `Sub` is a simultaneous substitution, and `subst_word(alloc, &t, &sub)?` carries it out. Terms have no binders, so
-//! nothing can be captured; they are at most `DEEPEST` deep, so recursion on them is bounded.
+//! nothing can be captured; they are at most `DEPTH_LIMIT` deep, so recursion on them is bounded.
 //!
 //! The law that matters is `law_of_substitution`, the substitution lemma: the value of a term after a substitution is the
 //! term's value where the listed variables stand for the values of their terms. `law_of_agreement` says that a value
@@ -30,7 +30,7 @@ pub use laws::{
 };
 pub use rv_words::Range;
 pub use scope::{is_cond_in_scope, is_mem_in_scope, is_word_in_scope};
-pub use substitution::{DEEPEST, Sub, TermFault, subst_cond, subst_mem, subst_word};
+pub use substitution::{DEPTH_LIMIT, Sub, TermFault, subst_cond, subst_mem, subst_word};
 pub use term::{
     Cond, Mem, Word, depth_cond, depth_mem, depth_word, same_cond, same_mem, same_word,
 };

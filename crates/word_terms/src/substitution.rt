@@ -12,7 +12,7 @@ use rv_words::{List, NoMemory};
 use std::alloc::{AllocFailed, Global};
 
 /// How deep a term may be.
-pub const DEEPEST: u32 = 64;
+pub const DEPTH_LIMIT: u32 = 64;
 
 /// Terms for variables, each of which is listed at most once. A variable that isn't listed stays.
 #[derive(Debug, Drop)]
@@ -52,7 +52,7 @@ pub fn subst_word(alloc: Global, t: &Word, s: &Sub) -> Result<Word, TermFault>
     ensures depth { IfOk result (λ w. depth_of_word (word_tree w) ≤ 64) }
     ensures too_deep { IsErrOf result TermFault.TooDeep → 64 < depth_of_word (put_in_word (substitution_of s.now) (word_tree t.now)) }
 {
-    word_within(alloc, t, s, DEEPEST)
+    word_within(alloc, t, s, DEPTH_LIMIT)
 }
 
 /// The term for a memory with all listed variables replaced at once.
@@ -61,7 +61,7 @@ pub fn subst_mem(alloc: Global, t: &Mem, s: &Sub) -> Result<Mem, TermFault>
     ensures depth { IfOk result (λ w. depth_of_mem (mem_tree w) ≤ 64) }
     ensures too_deep { IsErrOf result TermFault.TooDeep → 64 < depth_of_mem (put_in_mem (substitution_of s.now) (mem_tree t.now)) }
 {
-    mem_within(alloc, t, s, DEEPEST)
+    mem_within(alloc, t, s, DEPTH_LIMIT)
 }
 
 /// The condition with all listed variables replaced at once.
@@ -70,7 +70,7 @@ pub fn subst_cond(alloc: Global, t: &Cond, s: &Sub) -> Result<Cond, TermFault>
     ensures depth { IfOk result (λ w. depth_of_cond (cond_tree w) ≤ 64) }
     ensures too_deep { IsErrOf result TermFault.TooDeep → 64 < depth_of_cond (put_in_cond (substitution_of s.now) (cond_tree t.now)) }
 {
-    cond_within(alloc, t, s, DEEPEST)
+    cond_within(alloc, t, s, DEPTH_LIMIT)
 }
 
 /// The term with its variables replaced, if it isn't deeper than `room`.

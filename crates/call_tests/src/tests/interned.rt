@@ -6,7 +6,7 @@ use std::alloc::Global;
 use std::test::Fail;
 use term_arena::Arena;
 use term_text::{read_cond, read_mem, read_word};
-use word_terms::DEEPEST;
+use word_terms::DEPTH_LIMIT;
 
 /// Words, of which some are the same. Their terms are made of 10 different ones, with `m0` and `(st1 m0 v0 v1)`.
 static WORDS: [&[u8]; 9] = [
@@ -23,7 +23,7 @@ static WORDS: [&[u8]; 9] = [
 
 /// The number of the word of a text.
 fn number_of(alloc: Global, arena: &mut Arena, text: &[u8]) -> Result<u64, Fail> {
-    let word = read_word(alloc, &mut Scan::new(text), DEEPEST)
+    let word = read_word(alloc, &mut Scan::new(text), DEPTH_LIMIT)
         .ok()
         .ok_or("word")?;
     let number = arena.intern_word(&word)?;
@@ -60,11 +60,11 @@ fn numbers_of_words(rt: HostRuntime) -> Result<(), Fail> {
 fn numbers_of_memories_and_conditions(rt: HostRuntime) -> Result<(), Fail> {
     let alloc = rt.alloc();
     let mut arena = Arena::new(alloc);
-    let mem = read_mem(alloc, &mut Scan::new(b"(st1 m0 v0 v1)\n"), DEEPEST)
+    let mem = read_mem(alloc, &mut Scan::new(b"(st1 m0 v0 v1)\n"), DEPTH_LIMIT)
         .ok()
         .ok_or("memory")?;
     let text = b"(not (in8 (st1 m0 v0 v1) v0))\n";
-    let cond = read_cond(alloc, &mut Scan::new(text), DEEPEST)
+    let cond = read_cond(alloc, &mut Scan::new(text), DEPTH_LIMIT)
         .ok()
         .ok_or("condition")?;
     let first = arena.intern_mem(&mem)?;

@@ -13,7 +13,7 @@ use Rattle.tailrec_lang.specs.declared.group.Exit.{Exit}
 use Rattle.tailrec_lang.specs.declared.group.Exit.TheVariants.{At, Ret}
 use Rattle.group_text.specs.Version.{version_1}
 use Rattle.tailrec_lang.specs.Registers.{last_register}
-use Rattle.group_text.specs.Limits.{exit_limit, nesting_limit, def_limit, name_limit, returns}
+use Rattle.group_text.specs.Limits.{def_exit_limit, nesting_limit, def_limit, name_limit, returns}
 
 -- a line that is one word
 abbrev pub mark_row : List ℕ → Reader (Unit {0} × Unit {0})
@@ -42,7 +42,7 @@ where_room room r ts = if room == 0 then Err ts else r ts
 
 -- a call's number of arms is below this
 abbrev pub arm_bound : ℕ → ℕ
-arm_bound room = if room == 0 then 1 else exit_limit + 1
+arm_bound room = if room == 0 then 1 else def_exit_limit + 1
 
 unfoldable pub branch_at : Reader BodyTree → Reader BodyTree
 branch_at body = made (λ x. Branch x.0.0 x.1.0 x.1.1.1) (pair (pair (cond_at depth_limit) eol) (pair body (pair (mark_row (codes "else")) body)))
@@ -81,7 +81,7 @@ has_atom (Atom a) = true
 has_atom _ = false
 
 abbrev pub are_few_exits : List Exit → Bool
-are_few_exits xs = nat_le (length xs) exit_limit && nat_le (returns xs) 1
+are_few_exits xs = nat_le (length xs) def_exit_limit && nat_le (returns xs) 1
 
 -- the entry and the exits, with the end of their line
 unfoldable pub def_row : Reader (ℕ × (List Exit × Unit {0}))

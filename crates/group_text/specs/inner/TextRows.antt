@@ -3,7 +3,7 @@ use Rattle.std.specs.Prelude.{◌≡◌, ℕ, ◌⊎◌, List, [], ◌∷◌}
 use Rattle.mc_text.specs.Printing.{BeginsWith}
 use Rattle.group_text.specs.inner.Rows.{IsRow}
 
-pub record TextSpot : Type 0 where
+pub record TextRowPosition : Type 0 where
   pub rest : List ℕ
   pub held : List ℕ
   pub taken : ℕ

@@ -5,12 +5,12 @@ use Rattle.flow_graph.specs.Graph.{GraphOf, HasEdge}
 use Rattle.loop_forest.specs.Loops.{InLoop}
 use Rattle.loop_forest.specs.Forest.{ForestOf}
 use Rattle.loop_forest.specs.inner.Found.{heads}
-use Rattle.loop_forest.specs.inner.Order.{number_of}
-use Rattle.loop_forest.specs.declared.heads.Looped.{Looped}
-use Rattle.loop_forest.specs.declared.order.Mark.{Mark}
+use Rattle.loop_forest.specs.inner.DepthFirst.{number_of}
+use Rattle.loop_forest.specs.declared.heads.LoopWithExits.{LoopWithExits}
+use Rattle.loop_forest.specs.declared.depth_first.Mark.{Mark}
 
 -- the forest of these loops, and for each node a region, a mark and a place
-abbrev pub forest_of : List Looped → List (Option ℕ) → List Mark → List ℕ → ForestOf
+abbrev pub forest_of : List LoopWithExits → List (Option ℕ) → List Mark → List ℕ → ForestOf
 forest_of loops regions marks places = record {
   heads = heads loops;
   insides = map (λ l. l.body.head ∷ l.body.nodes) loops;
@@ -20,7 +20,7 @@ forest_of loops regions marks places = record {
   places = places;
 }
 
-pub record IsKept (loops : List Looped) (regions : List (Option ℕ)) (marks : List Mark) (places : List ℕ) : Type 0 where
+pub record IsKept (loops : List LoopWithExits) (regions : List (Option ℕ)) (marks : List Mark) (places : List ℕ) : Type 0 where
   pub few : length loops ≤ 1024
   pub heads_below : (h : ℕ) → Contains (heads loops) h → h < length places
   pub regions_as_long : length regions ≡ length places

@@ -4,10 +4,10 @@ use Rattle.flow_graph.specs.Graph.{GraphOf, HasEdge, preds_of}
 use Rattle.loop_forest.specs.Loops.{IsSettled}
 use Rattle.loop_forest.specs.Loops.{IsHead}
 use Rattle.loop_forest.specs.Cuts.{StandsAt}
-use Rattle.loop_forest.specs.inner.Order.{mark_of, number_of}
+use Rattle.loop_forest.specs.inner.DepthFirst.{mark_of, number_of}
 use Rattle.std.specs.List.{Contains}
-use Rattle.loop_forest.specs.declared.order.Mark.{Mark}
-use Rattle.loop_forest.specs.declared.heads.Looped.{Looped}
+use Rattle.loop_forest.specs.declared.depth_first.Mark.{Mark}
+use Rattle.loop_forest.specs.declared.heads.LoopWithExits.{LoopWithExits}
 
 -- the entry, the heads and the nodes with two incoming edges are among the bases of the table
 abbrev pub IsMarked : List Bool → ℕ → Type 0
@@ -21,21 +21,21 @@ pub record HasBases (g : GraphOf) (marks : List Mark) (base : List Bool) : Type 
   pub as_long : length base ≡ length g.addrs
 
 -- the head or an exit of a loop
-abbrev pub IsEndOf : Looped → ℕ → Type 0
+abbrev pub IsEndOf : LoopWithExits → ℕ → Type 0
 IsEndOf l n = (n ≡ l.body.head) ⊎ Contains l.exits n
 
 -- the head or an exit of one of the loops
-pub record IsEnd (loops : List Looped) (n : ℕ) : Type 0 where
+pub record IsEnd (loops : List LoopWithExits) (n : ℕ) : Type 0 where
   pub place : ℕ
   pub within : place < length loops
-  pub ends : (l : Looped) → IsEndOf (slice_index_or loops place l) n
+  pub ends : (l : LoopWithExits) → IsEndOf (slice_index_or loops place l) n
 
 -- the entry, the head or an exit of one of the loops, or a node with two incoming edges
-abbrev pub IsBaseOf : GraphOf → List Looped → ℕ → Type 0
+abbrev pub IsBaseOf : GraphOf → List LoopWithExits → ℕ → Type 0
 IsBaseOf g loops n = (n ≡ g.entry) ⊎ (IsEnd loops n ⊎ (2 ≤ length (preds_of g.edges n)))
 
 -- the table of the first n nodes
-pub record AreBases (g : GraphOf) (loops : List Looped) (table : List Bool) (n : ℕ) : Type 0 where
+pub record AreBases (g : GraphOf) (loops : List LoopWithExits) (table : List Bool) (n : ℕ) : Type 0 where
   pub as_long : length table ≡ n
   pub each : (k : ℕ) → k < n → IsMarked table k ↔ IsBaseOf g loops k
 

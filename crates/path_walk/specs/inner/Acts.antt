@@ -19,9 +19,9 @@ use Rattle.instr_axioms.specs.Terms.{conditions, has_memory, memory_after, pc_af
 use Rattle.instr_axioms.specs.Axiom.{before, memory_if, own, own_triple, register_with, triple_over, word_code}
 use Rattle.proof_text.specs.Line.{Axiom, Compose, Frame, Inst, UseExit, Weaken}
 use Rattle.proof_text.specs.LineLimits.{IsRule, IsTriple}
-use Rattle.code_parts.specs.Bodies.{Flow, Place, current, fresh, is_store, names, place_after, start, with_pc}
+use Rattle.code_parts.specs.Bodies.{Flow, VariableMap, current, fresh, is_store, names, place_after, start, with_pc}
 use Rattle.path_walk.specs.inner.Histories.{exit_place, pc_of}
-use Rattle.path_walk.specs.inner.Logs.{LogTree, StandingTree, standing_at, stating}
+use Rattle.path_walk.specs.inner.Writers.{LogTree, StandingTree, standing_at, stating}
 
 -- the terms for the variables from i on
 abbrev pub numbered : {A : Type 0} → ℕ → List A → List (ℕ × A)
@@ -31,19 +31,19 @@ numbered i (t ∷ ts) = (i, t) ∷ numbered (suc i) ts
 -- ---- one instruction
 
 -- the current variables of an instruction's own registers and of its memory, for those of its axiom
-abbrev pub own_words : Instr → Place → List (ℕ × WordTree)
+abbrev pub own_words : Instr → VariableMap → List (ℕ × WordTree)
 own_words i v = numbered 0 (map (names v).word (own i))
 
-abbrev pub own_mems : Instr → Place → List (ℕ × MemTree)
+abbrev pub own_mems : Instr → VariableMap → List (ℕ × MemTree)
 own_mems i v = numbered 0 (memory_if (has_memory i) (MemVar v.memory))
 
 -- what the definition knows of the new variable
-abbrev pub new_facts : Instr → ℕ → ℕ → Place → List FactTree
+abbrev pub new_facts : Instr → ℕ → ℕ → VariableMap → List FactTree
 new_facts i a k v =
     if is_store i then MemIs (MemVar v.mems) (memory_after i (names v)) ∷ [] else (if destination i == 0 then [] else WordIs (Var v.words) (result i a k (names v)) ∷ [])
 
 -- the instruction's triple, with new variables for what was written
-abbrev pub named_triple : Instr → Form → ℕ → ℕ → List Range → List ℕ → Bool → Place → TripleTree
+abbrev pub named_triple : Instr → Form → ℕ → ℕ → List Range → List ℕ → Bool → VariableMap → TripleTree
 named_triple i form a k code regs mem v = record {
   facts = map So (conditions i form (names v)) ++ new_facts i a k v;
   pre = before a regs mem (names v);
@@ -56,7 +56,7 @@ named_triple i form a k code regs mem v = record {
 }
 
 -- its axiom, over the current variables, over all registers, and with new variables
-abbrev pub acted : Flow → Instr → Form → ℕ → ℕ → Place → LogTree → LogTree
+abbrev pub acted : Flow → Instr → Form → ℕ → ℕ → VariableMap → LogTree → LogTree
 acted f i form a w v l =
     stating (Weaken (l.next + 1 + 1)) (named_triple i form a (length_of w) (word_code a w) f.regs f.has_mem v)
     (stating (Frame (l.next + 1)) (triple_over i form a (length_of w) (word_code a w) f.regs f.has_mem (names v))
@@ -64,7 +64,7 @@ acted f i form a w v l =
     (stating (Axiom a w form) (own_triple i form a w) l)))
 
 -- the theorem that these end with
-abbrev pub act_standing : Instr → Form → ℕ → ℕ → Place → LogTree → StandingTree
+abbrev pub act_standing : Instr → Form → ℕ → ℕ → VariableMap → LogTree → StandingTree
 act_standing i form a w v l = record {
   number = l.next + 1 + 1 + 1;
   facts = map So (conditions i form (names v)) ++ new_facts i a (length_of w) v;
@@ -72,7 +72,7 @@ act_standing i form a w v l = record {
 }
 
 -- these lines have a text
-pub record IsFineAct (f : Flow) (i : Instr) (form : Form) (a w : ℕ) (v : Place) : Type 0 where
+pub record IsFineInstruction (f : Flow) (i : Instr) (form : Form) (a w : ℕ) (v : VariableMap) : Type 0 where
   pub rule : (k : ℕ) → IsNumber k → IsRule (Inst k (own_words i v) (own_mems i v))
   pub first : IsTriple (own_triple i form a w)
   pub current_over : IsTriple (triple_over i form a (length_of w) (word_code a w) (own i) (has_memory i) (names v))
@@ -87,7 +87,7 @@ results_at f (At a) words mems = current f (fresh f words mems)
 results_at f Ret words mems = with_pc (Var words) (current f (fresh f (suc words) mems))
 
 -- the triple of exit k of definition d, over these variables
-abbrev pub gives_over : Flow → List Range → ℕ → ℕ → ℕ → Exit → Place → TripleTree
+abbrev pub gives_over : Flow → List Range → ℕ → ℕ → ℕ → Exit → VariableMap → TripleTree
 gives_over f ranges entry d k x v = record {
   facts = Gives d k (current f v) (results_at f x v.words v.mems) ∷ [];
   pre = standing_at f (Const entry) v;
@@ -96,22 +96,22 @@ gives_over f ranges entry d k x v = record {
 }
 
 -- the current variables for the parameters, and the next ones for the results
-abbrev pub call_words : Flow → Exit → Place → List (ℕ × WordTree)
+abbrev pub call_words : Flow → Exit → VariableMap → List (ℕ × WordTree)
 call_words f x v = numbered 0 ((current f v).words ++ (results_at f x v.words v.mems).words)
 
-abbrev pub call_mems : Flow → Exit → Place → List (ℕ × MemTree)
+abbrev pub call_mems : Flow → Exit → VariableMap → List (ℕ × MemTree)
 call_mems f x v = numbered 0 ((current f v).mems ++ (results_at f x v.words v.mems).mems)
 
-abbrev pub exited : Flow → List Range → ℕ → ℕ → ℕ → Exit → Place → LogTree → LogTree
+abbrev pub exited : Flow → List Range → ℕ → ℕ → ℕ → Exit → VariableMap → LogTree → LogTree
 exited f ranges entry d k x v l =
     stating (Inst l.next (call_words f x v) (call_mems f x v)) (gives_over f ranges entry d k x v) (stating (UseExit d k) (gives_over f ranges entry d k x (start f)) l)
 
 -- the theorem that these end with
-abbrev pub exit_standing : Flow → List Range → ℕ → ℕ → Exit → Place → LogTree → StandingTree
+abbrev pub exit_standing : Flow → List Range → ℕ → ℕ → Exit → VariableMap → LogTree → StandingTree
 exit_standing f ranges d k x v l = record { number = l.next + 1; facts = Gives d k (current f v) (results_at f x v.words v.mems) ∷ []; code = ranges }
 
 -- these lines have a text
-pub record IsFineExit (f : Flow) (ranges : List Range) (entry d k : ℕ) (x : Exit) (v : Place) : Type 0 where
+pub record IsFineExit (f : Flow) (ranges : List Range) (entry d k : ℕ) (x : Exit) (v : VariableMap) : Type 0 where
   pub rule : (j : ℕ) → IsNumber j → IsRule (Inst j (call_words f x v) (call_mems f x v))
   pub first : IsTriple (gives_over f ranges entry d k x (start f))
   pub current_over : IsTriple (gives_over f ranges entry d k x v)
@@ -123,7 +123,7 @@ abbrev pub IsAdded : (known : List FactTree) (x : FactTree) (old new : List Fact
 IsAdded known x old new = (Contains known x × (new ≡ old)) ⊎ ((Contains known x → ⊥) × (new ≡ old ++ x ∷ []))
 
 -- a theorem after another, which leads from the definition's entry
-pub record Joined (f : Flow) (entry : ℕ) (st there : StandingTree) (to : WordTree) (u : Place) (old new : LogTree) (t : StandingTree) : Type 0 where
+pub record Joined (f : Flow) (entry : ℕ) (st there : StandingTree) (to : WordTree) (u : VariableMap) (old new : LogTree) (t : StandingTree) : Type 0 where
   pub more : List FactTree
   pub are : AreMissing st.facts there.facts more
   pub facts : t.facts ≡ st.facts ++ more
@@ -132,6 +132,6 @@ pub record Joined (f : Flow) (entry : ℕ) (st there : StandingTree) (to : WordT
   pub log : new ≡ stating (Compose st.number there.number) (record { facts = t.facts; pre = standing_at f (Const entry) (start f); code = t.code; post = standing_at f to u }) old
 
 -- at the front of the definition it stands by itself
-abbrev pub GoesOn : (f : Flow) (entry : ℕ) → Option StandingTree → StandingTree → WordTree → Place → LogTree → LogTree → StandingTree → Type 0
+abbrev pub GoesOn : (f : Flow) (entry : ℕ) → Option StandingTree → StandingTree → WordTree → VariableMap → LogTree → LogTree → StandingTree → Type 0
 GoesOn f entry None there to u old new t = (new ≡ old) × (t ≡ there)
 GoesOn f entry (Some st) there to u old new t = Joined f entry st there to u old new t

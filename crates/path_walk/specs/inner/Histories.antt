@@ -5,14 +5,14 @@ use Rattle.tailrec_lang.specs.declared.group.Exit.{Exit}
 use Rattle.tailrec_lang.specs.declared.group.Exit.TheVariants.{At, Ret}
 use Rattle.triple_kernel.specs.Tree.{TripleTree}
 use Rattle.checker.specs.Instance.{History}
-use Rattle.code_parts.specs.Bodies.{Flow, Place, fresh}
+use Rattle.code_parts.specs.Bodies.{Flow, VariableMap, fresh}
 
 -- where a walk goes on after an exit
 abbrev pub pc_of : Exit → ℕ → WordTree
 pc_of (At a) words = Const a
 pc_of Ret words = Var words
 
-abbrev pub exit_place : Flow → Exit → ℕ → ℕ → Place
+abbrev pub exit_place : Flow → Exit → ℕ → ℕ → VariableMap
 exit_place f (At a) words mems = fresh f words mems
 exit_place f Ret words mems = fresh f (suc words) mems
 

@@ -8,9 +8,9 @@ use Rattle.triple_kernel.specs.Tree.{FactTree}
 use Rattle.loop_rule.specs.Leaves.{arm_leaves}
 use Rattle.proof_text.specs.Line.{LineTree, Forget, Loop, States}
 use Rattle.code_parts.specs.declared.part.Part.{Part}
-use Rattle.code_parts.specs.Bodies.{Flow, Place, current, part_def}
+use Rattle.code_parts.specs.Bodies.{Flow, VariableMap, current, part_def}
 use Rattle.path_walk.specs.Closed.{ArmsClosed}
-use Rattle.path_walk.specs.inner.Logs.{FromAs, IsReady, Led, LogTree, Setting, StandingTree, group_in, past}
+use Rattle.path_walk.specs.inner.Writers.{FromAs, IsReady, Led, LogTree, Setting, StandingTree, group_in, past}
 
 -- how many lines state a triple
 abbrev pub stated : List LineTree → ℕ
@@ -20,7 +20,7 @@ stated (Loop d cited ∷ lines) = stated lines
 stated (Forget k ∷ lines) = stated lines
 
 -- lines were added, after which a theorem is cited for each leaf of the arms of a call of definition d, the first of which is for exit k
-pub record ArmsLead (f : Flow) (p : Part) (ranges : List Range) (d : ℕ) (old new : LogTree) (pc : WordTree) (v : Place) (from : Option StandingTree) (exits : List Exit) (k : ℕ) (arms : ArmTrees) : Type 0 where
+pub record ArmsLead (f : Flow) (p : Part) (ranges : List Range) (d : ℕ) (old new : LogTree) (pc : WordTree) (v : VariableMap) (from : Option StandingTree) (exits : List Exit) (k : ℕ) (arms : ArmTrees) : Type 0 where
   pub each : (s : Setting f ranges) (path : List FactTree) → IsReady f ranges s old → (past f ranges s old).closed d ≡ true → FromAs f (part_def f p).entry ranges (past f ranges s old) pc v path from
       → ArmsClosed (past f ranges s old) arms
       → Led f p ranges s old new (arm_leaves (group_in f ranges s) (part_def f p) d exits k (current f v) arms v.words v.mems path)

@@ -1,7 +1,7 @@
 //! Terms are read and printed as they stand, have their values, and are put into one another.
 
 use mc_text::cursor::{address, atom, bytes, eol, keyword, left, number, right, semi};
-use mc_text::{Pen, Scan, Stop, put_atom};
+use mc_text::{Pen, Scan, TokenError, put_atom};
 use rv_words::{ByteMap, Bytes, List, NoMemory};
 use std::alloc::Global;
 use std::test::Fail;
@@ -10,7 +10,7 @@ use term_text::{
     read_ranges, read_word, read_words,
 };
 use word_terms::{
-    Cond, DEEPEST, Env, Mem, Sub, TermFault, byte_of, is_cond_in_scope, is_mem_in_scope,
+    Cond, DEPTH_LIMIT, Env, Mem, Sub, TermFault, byte_of, is_cond_in_scope, is_mem_in_scope,
     is_word_in_scope, subst_cond, truth, value,
 };
 
@@ -77,7 +77,7 @@ fn has_value(alloc: Global, text: &[u8], number: u64) -> Result<bool, Fail> {
         mems: &mems,
     };
     let mut scan = Scan::new(text);
-    let word = read_word(alloc, &mut scan, DEEPEST).ok().ok_or("word")?;
+    let word = read_word(alloc, &mut scan, DEPTH_LIMIT).ok().ok_or("word")?;
     Ok(
         scan.rest() == b"\n".as_slice()
             && is_word_in_scope(&word, 2, 1)
@@ -116,8 +116,8 @@ static NO_WORDS: [(&[u8], &[u8]); 16] = [
 /// Whether reading a word stops with that left.
 fn stops_before(alloc: Global, text: &[u8], rest: &[u8]) -> bool {
     let mut scan = Scan::new(text);
-    match read_word(alloc, &mut scan, DEEPEST) {
-        Err(Stop::Bad) => scan.rest() == rest,
+    match read_word(alloc, &mut scan, DEPTH_LIMIT) {
+        Err(TokenError::Bad) => scan.rest() == rest,
         _ => false,
     }
 }
@@ -146,7 +146,7 @@ fn nested(alloc: Global, count: u32) -> Result<Bytes, NoMemory> {
 fn nested_is_read(alloc: Global, count: u32) -> Result<(bool, usize), NoMemory> {
     let text = nested(alloc, count)?;
     let mut scan = Scan::new(text.as_slice());
-    let read = read_word(alloc, &mut scan, DEEPEST).is_ok();
+    let read = read_word(alloc, &mut scan, DEPTH_LIMIT).is_ok();
     Ok((read, scan.rest().len()))
 }
 
@@ -183,7 +183,7 @@ fn has_truth(alloc: Global, text: &[u8], holds: bool) -> Result<bool, Fail> {
         mems: &mems,
     };
     let mut scan = Scan::new(text);
-    let cond = read_cond(alloc, &mut scan, DEEPEST)
+    let cond = read_cond(alloc, &mut scan, DEPTH_LIMIT)
         .ok()
         .ok_or("condition")?;
     Ok(
@@ -217,7 +217,9 @@ fn has_byte(alloc: Global, text: &[u8], byte: u8) -> Result<bool, Fail> {
         mems: &mems,
     };
     let mut scan = Scan::new(text);
-    let mem = read_mem(alloc, &mut scan, DEEPEST).ok().ok_or("memory")?;
+    let mem = read_mem(alloc, &mut scan, DEPTH_LIMIT)
+        .ok()
+        .ok_or("memory")?;
     Ok(
         scan.rest() == b"\n".as_slice()
             && is_mem_in_scope(&mem, 1, 1)
@@ -270,7 +272,7 @@ fn word_is_printed_again(alloc: Global, text: &[u8]) -> Result<bool, NoMemory> {
     let mut scan = Scan::new(text);
     let mut out = Bytes::new(alloc);
     let mut pen = Pen::new(&mut out);
-    match read_word(alloc, &mut scan, DEEPEST) {
+    match read_word(alloc, &mut scan, DEPTH_LIMIT) {
         Ok(word) => put_word(&mut pen, &word)?,
         Err(_) => return Ok(false),
     }
@@ -288,7 +290,7 @@ fn cond_is_printed(alloc: Global, cond: &Cond, text: &[u8]) -> Result<bool, NoMe
 
 fn cond_is_printed_again(alloc: Global, text: &[u8]) -> Result<bool, NoMemory> {
     let mut scan = Scan::new(text);
-    match read_cond(alloc, &mut scan, DEEPEST) {
+    match read_cond(alloc, &mut scan, DEPTH_LIMIT) {
         Ok(cond) => cond_is_printed(alloc, &cond, text),
         Err(_) => Ok(false),
     }
@@ -298,7 +300,7 @@ fn mem_is_printed_again(alloc: Global, text: &[u8]) -> Result<bool, NoMemory> {
     let mut scan = Scan::new(text);
     let mut out = Bytes::new(alloc);
     let mut pen = Pen::new(&mut out);
-    match read_mem(alloc, &mut scan, DEEPEST) {
+    match read_mem(alloc, &mut scan, DEPTH_LIMIT) {
         Ok(mem) => put_mem(&mut pen, &mem)?,
         Err(_) => return Ok(false),
     }
@@ -340,7 +342,7 @@ fn terms_of(alloc: Global, text: &[u8]) -> Result<Sub, NoMemory> {
     let mut scan = Scan::new(text);
     let mut words = List::new(alloc);
     for i in 0..2 {
-        match read_word(alloc, &mut scan, DEEPEST) {
+        match read_word(alloc, &mut scan, DEPTH_LIMIT) {
             Ok(word) => words.push((i, word))?,
             Err(_) => {}
         }
@@ -370,7 +372,7 @@ fn text_becomes(
 ) -> Result<bool, NoMemory> {
     let terms = terms_of(alloc, terms)?;
     let mut scan = Scan::new(text);
-    match read_cond(alloc, &mut scan, DEEPEST) {
+    match read_cond(alloc, &mut scan, DEPTH_LIMIT) {
         Ok(cond) => becomes(alloc, &cond, &terms, made),
         Err(_) => Ok(false),
     }

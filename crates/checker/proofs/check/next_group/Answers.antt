@@ -1,7 +1,7 @@
 use Rattle.std.proofs.Common.{List, Err, subst}
 use Rattle.mc_text.specs.Fault.{IsBadAt}
 use Rattle.tailrec_lang.specs.declared.group.Group.{Group}
-use Rattle.group_text.specs.declared.stop.TextFault.{TextFault}
+use Rattle.group_text.specs.declared.read_error.TextFault.{TextFault}
 use Rattle.proof_text.specs.FirstProofs.{HasGiven, MayOpen}
 use Rattle.proof_text.specs.Line.{ProofTree}
 use Rattle.proof_text.specs.Proofs.{texts_of_proofs}

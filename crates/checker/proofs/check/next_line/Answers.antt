@@ -1,6 +1,6 @@
 use Rattle.std.proofs.Common.{◌≡◌, ℕ, List, [], ◌∷◌, ◌++◌, Option, Ok, Err, subst, sym, ap, ◌∙◌}
 use Rattle.mc_text.specs.Fault.{IsBadAt}
-use Rattle.group_text.specs.declared.stop.TextFault.{TextFault}
+use Rattle.group_text.specs.declared.read_error.TextFault.{TextFault}
 use Rattle.proof_text.specs.FirstProofs.{HasGiven}
 use Rattle.proof_text.specs.Proofs.{texts_of_proofs}
 use Rattle.tailrec_lang.specs.declared.group.Group.{Group}

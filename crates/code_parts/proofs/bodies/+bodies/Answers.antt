@@ -1,17 +1,17 @@
 use Rattle.std.proofs.Common.{◌≡◌, ◌-◌, IfOk, List, ◌++◌, map, refl, ap, sym, ◌∙◌, subst}
 use Rattle.rv_decode.specs.declared.instruction.Instr.{Instr}
 use Rattle.tailrec_lang.specs.Tree.{BodyTree, StepTree, body_tree, step_tree, with_steps}
-use Rattle.code_parts.specs.Bodies.{Flow, Place, needs, writes}
+use Rattle.code_parts.specs.Bodies.{Flow, VariableMap, needs, writes}
 use Rattle.code_parts.specs.inner.Ends.{body_on, returned_body}
 use Rattle.code_parts.specs.Kept.{flow_in}
-use Rattle.code_parts.specs.Places.{place_of}
-use Rattle.code_parts.proofs.Built.{goes_back, goes_straight, goes_two_ways, two_ways}
+use Rattle.code_parts.specs.VariableMaps.{place_of}
+use Rattle.code_parts.proofs.BuiltBodies.{goes_back, goes_straight, goes_two_ways, two_ways}
 use Rattle.code_parts.proofs.bodies.+bodies.Goals as goal
 
 pub body_from-returns-in_ok-new-in-Branch-2 : goal.body_from-returns-in_ok-new-in-Branch-2
 body_from-returns-in_ok-new-in-Branch-2 m c =
     let f : Flow = flow_in c.args.flow.now in
-    let v : Place = place_of c.args.place.now in
+    let v : VariableMap = place_of c.args.place.now in
     let ss : List StepTree = map step_tree c.args.steps in
     let first = ap body_tree c.in_ok-new-in-Branch.ensures.ok ∙ c.in_ok-a-in-Branch.ensures
     ∙ (λ i. with_steps (map step_tree (c.new-none.ensures i)) (body_on (c.args.room - 1) f c.args.p (c.to.ensures.is i) v)) in
@@ -23,7 +23,7 @@ body_from-returns-in_ok-new-in-Branch-2 m c =
 pub body_from-returns-then-is_jump_through : goal.body_from-returns-then-is_jump_through
 body_from-returns-then-is_jump_through m c =
     let f : Flow = flow_in c.args.flow.now in
-    let v : Place = place_of c.args.place.now in
+    let v : VariableMap = place_of c.args.place.now in
     subst (λ (z : BodyTree). IfOk c.returning_body.result (λ b. body_tree b ≡ with_steps (map step_tree c.args.steps) z))
     ((λ i. returned_body f c.instr-i.result (c.addr.ensures i) (c.size.ensures i) v) ∙ goes_back f c.args.p c.args.n c.args.room v c.instr-i.result c.instr-i.ensures.is (sym c.is_jump_through.ensures ∙ c.if-is_jump_through.true) c.if-room-eq0.false)
     c.returning_body.ensures
@@ -31,7 +31,7 @@ body_from-returns-then-is_jump_through m c =
 pub body_from-returns-in_ok-steps-in_default : goal.body_from-returns-in_ok-steps-in_default
 body_from-returns-in_ok-steps-in_default m c =
     let f : Flow = flow_in c.args.flow.now in
-    let v : Place = place_of c.args.place.now in
+    let v : VariableMap = place_of c.args.place.now in
     let i : Instr = c.instr-i.result in
     let made = c.in_ok-steps-in_default.ensures ∙ (λ j. map step_tree c.args.steps ++ (needs i v ++ writes i (c.addr-in_default.ensures j) (c.size-in_default.ensures j) v)) in
     subst (λ (z : BodyTree). IfOk c.body_to-in_default.result (λ b. body_tree b ≡ z))

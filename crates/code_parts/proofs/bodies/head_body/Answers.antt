@@ -3,8 +3,8 @@ use Rattle.tailrec_lang.specs.Tree.{Call, arms_of}
 use Rattle.code_parts.specs.declared.part.Part.TheVariants.{Loop}
 use Rattle.code_parts.specs.Bodies.{Flow, current, end_at, fresh, start}
 use Rattle.code_parts.specs.Kept.{flow_in}
-use Rattle.code_parts.specs.Places.{place_of}
-use Rattle.code_parts.proofs.Built.{arms_are, called_alone}
+use Rattle.code_parts.specs.VariableMaps.{place_of}
+use Rattle.code_parts.proofs.BuiltBodies.{arms_are, called_alone}
 use Rattle.code_parts.proofs.bodies.head_body.Goals as goal
 
 pub returns : goal.returns

@@ -1,8 +1,8 @@
 use Rattle.std.proofs.Common.{refl, ◌∙◌, map}
 use Rattle.tailrec_lang.specs.Tree.{step_tree}
 use Rattle.code_parts.specs.Bodies.{needs, with_pc}
-use Rattle.code_parts.specs.Places.{place_of}
-use Rattle.code_parts.proofs.Built.{left_after}
+use Rattle.code_parts.specs.VariableMaps.{place_of}
+use Rattle.code_parts.proofs.BuiltBodies.{left_after}
 use Rattle.code_parts.proofs.bodies.returning_body.Goals as goal
 
 pub returns : goal.returns

@@ -1,6 +1,6 @@
 use Rattle.std.proofs.Common.{◌≡◌, length, arith}
 use Rattle.std.proofs.lemmas.Bool.Decides.{nat_tests}
-use Rattle.code_parts.proofs.Coded.{code_all}
+use Rattle.code_parts.proofs.GraphCode.{code_all}
 use Rattle.code_parts.proofs.code.code_of.Goals as goal
 
 pub returns : goal.returns

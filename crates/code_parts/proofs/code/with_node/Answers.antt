@@ -5,7 +5,7 @@ use Rattle.rv_words.specs.declared.range.Range.{Range}
 use Rattle.rv_words.specs.Ranges.{AreRanges, range_bytes}
 use Rattle.sep_assert.specs.Code.{Agree}
 use Rattle.instr_axioms.specs.Axiom.{word_code}
-use Rattle.code_parts.proofs.Coded.{code_more, node_ranges, nodes_agree}
+use Rattle.code_parts.proofs.GraphCode.{code_more, node_ranges, nodes_agree}
 use Rattle.code_parts.proofs.code.with_node.Goals as goal
 
 pub code_join-requires-clause-second : goal.code_join-requires-clause-second

@@ -1,5 +1,5 @@
 use Rattle.std.proofs.Common.{arith, ap, ◌∙◌, Some, eq-eqb}
-use Rattle.code_parts.proofs.Built.{index_found, index_missing}
+use Rattle.code_parts.proofs.BuiltBodies.{index_found, index_missing}
 use Rattle.code_parts.proofs.ends.index_of.Goals as goal
 
 pub returns-then-n-x-clause-is : goal.returns-then-n-x-clause-is

@@ -1,5 +1,5 @@
 use Rattle.std.proofs.Common.{◌≡◌}
-use Rattle.code_parts.proofs.Built.{IsMissing}
+use Rattle.code_parts.proofs.BuiltBodies.{IsMissing}
 use Rattle.code_parts.proofs.ends.index_of.Given as goal
 
 abbrev pub invariant-loop-x : goal.invariant-loop-x

@@ -2,7 +2,7 @@ use Rattle.std.proofs.Common.{◌≡◌, map, take}
 use Rattle.tailrec_lang.specs.Tree.{body_tree}
 use Rattle.code_parts.specs.Bodies.{last_at}
 use Rattle.code_parts.specs.Kept.{flow_in}
-use Rattle.code_parts.specs.Places.{place_of}
+use Rattle.code_parts.specs.VariableMaps.{place_of}
 use Rattle.code_parts.proofs.ends.last_arms.Given as goal
 
 abbrev pub invariant-loop-x : goal.invariant-loop-x

@@ -2,7 +2,7 @@ use Rattle.std.proofs.Common.{◌≡◌, ℕ, map, Some, ap, ◌∙◌}
 use Rattle.tailrec_lang.specs.Tree.{arms_of}
 use Rattle.code_parts.specs.Bodies.{fresh, last_at, rest_targets}
 use Rattle.code_parts.specs.Kept.{flow_in}
-use Rattle.code_parts.proofs.Built.{arms_are}
+use Rattle.code_parts.proofs.BuiltBodies.{arms_are}
 use Rattle.code_parts.proofs.ends.loop_rest_arms.Goals as goal
 
 pub returns : goal.returns

@@ -2,7 +2,7 @@ use Rattle.std.proofs.Common.{◌≡◌, ℕ, suc, ◌+◌, refl, ap, ◌∙◌,
 use Rattle.word_terms.specs.Tree.{Var}
 use Rattle.code_parts.specs.Bodies.{current, fresh, with_pc}
 use Rattle.code_parts.specs.Kept.{flow_in}
-use Rattle.code_parts.proofs.Built.{left_alone}
+use Rattle.code_parts.proofs.BuiltBodies.{left_alone}
 use Rattle.code_parts.proofs.ends.returning_arm.Goals as goal
 
 pub returns : goal.returns

@@ -4,7 +4,7 @@ use Rattle.std.proofs.lemmas.List.Elements.{All-push}
 use Rattle.loop_forest.specs.Forest.{place_of}
 use Rattle.code_parts.specs.Flows.{flow_of}
 use Rattle.code_parts.specs.inner.Ranks.{IsRanked, rests_to}
-use Rattle.code_parts.proofs.Ranking.{next_rest, no_rest, pushed}
+use Rattle.code_parts.proofs.PartOrder.{next_rest, no_rest, pushed}
 use Rattle.code_parts.proofs.order.add_rests.Goals as goal
 use Rattle.code_parts.proofs.order.add_rests.Goals.{then-is_cut+in_ok-push, else-is_cut}
 

@@ -1,6 +1,6 @@
 use Rattle.std.proofs.Common.{List, map, ap, ◌∙◌}
 use Rattle.code_parts.specs.declared.order.Ranked.{Ranked}
-use Rattle.code_parts.proofs.Ranking.{are-parts, listed_all}
+use Rattle.code_parts.proofs.PartOrder.{are-parts, listed_all}
 use Rattle.code_parts.proofs.order.parts_of.Goals as goal
 
 pub returns : goal.returns

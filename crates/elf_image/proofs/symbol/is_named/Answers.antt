@@ -7,13 +7,13 @@ pub returns-then-not-starts_with : goal.returns-then-not-starts_with
 returns-then-not-starts_with c =
     elim c.then-not-starts_with.branch [
       | then-not-starts_with-via-then-not-starts_with w ↦
-          other_start c.args.strings.now c.args.name.now _ c.args.place c.from_place-string.ensures (sym c.starts_with.ensures.value ∙ w.if-not-starts_with.true)
+          other_start c.args.strings.now c.args.name.now _ c.args.offset c.from_offset-string.ensures (sym c.starts_with.ensures.value ∙ w.if-not-starts_with.true)
       | then-not-starts_with-via-else-not-starts_with+then-contains w ↦
-          zero_in_name c.args.strings.now c.args.name.now _ c.args.place c.from_place-string.ensures (sym w.contains.ensures.value ∙ w.if-contains.true)
+          zero_in_name c.args.strings.now c.args.name.now _ c.args.offset c.from_offset-string.ensures (sym w.contains.ensures.value ∙ w.if-contains.true)
     ]
 
 pub returns : goal.returns
 returns c =
     c.ends_at.ensures
-    ∙ same_string c.args.strings.now c.args.name.now _ c.args.place c.from_place-string.ensures
+    ∙ same_string c.args.strings.now c.args.name.now _ c.args.offset c.from_offset-string.ensures
     (sym c.starts_with.ensures.value ∙ c.if-not-starts_with.false) (sym c.contains.ensures.value ∙ c.if-contains.false)

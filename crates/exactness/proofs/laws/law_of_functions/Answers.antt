@@ -1,4 +1,4 @@
-use Rattle.exactness.proofs.Made.{flow-exact}
+use Rattle.exactness.proofs.GroupOfParts.{flow-exact}
 use Rattle.exactness.proofs.laws.law_of_functions.Goals as goal
 
 pub returns : goal.returns

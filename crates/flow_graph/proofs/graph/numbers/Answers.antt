@@ -1,7 +1,7 @@
 use Rattle.std.proofs.Common.{ap, ◌∙◌, arith}
 use Rattle.std.specs.Option.{unwrap_or}
 use Rattle.elf_image.specs.Image.{code_in}
-use Rattle.flow_graph.proofs.Standing.{number_more}
+use Rattle.flow_graph.proofs.InstructionLemmas.{number_more}
 use Rattle.flow_graph.proofs.graph.numbers.Goals as goal
 
 pub nodes-preserved : goal.nodes-preserved

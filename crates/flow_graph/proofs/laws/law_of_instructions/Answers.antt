@@ -1,5 +1,5 @@
 use Rattle.flow_graph.proofs.ExactLemmas.{graph_numbers}
-use Rattle.flow_graph.proofs.Standing.{graph_stands, through_return}
+use Rattle.flow_graph.proofs.InstructionLemmas.{graph_stands, through_return}
 use Rattle.flow_graph.proofs.laws.law_of_instructions.Goals as goal
 
 pub returns : goal.returns

@@ -3,7 +3,7 @@ use Rattle.std.specs.List.{Contains}
 use Rattle.elf_image.specs.Image.{code_in}
 use Rattle.flow_graph.specs.Flow.{next, Next}
 use Rattle.flow_graph.specs.inner.Reached.{GrowsBy, targets_of}
-use Rattle.flow_graph.proofs.Reaching.{reaching_start, reaching_next, reaching_end}
+use Rattle.flow_graph.proofs.ReachSearch.{reaching_start, reaching_next, reaching_end}
 use Rattle.flow_graph.proofs.reach.reached.Goals as goal
 
 pub seen-init : goal.seen-init

@@ -26,9 +26,9 @@ defs-init g c = record {
 pub returns-in_err-row_begins-clause-gives : goal.returns-in_err-row_begins-clause-gives
 returns-in_err-row_begins-clause-gives g c = lost-row (λ (defs : Items Def). map def_tree defs) own_defs c.in_err-row_begins.field-0.0 c.from_residual.result _ _ c.from_residual.ensures.1
 
-pub returns-then-len-eq-MOST_DEFS-clause-gives : goal.returns-then-len-eq-MOST_DEFS-clause-gives
-returns-then-len-eq-MOST_DEFS-clause-gives g c = defs-bad _ _ (λ ts. with_prefix (map def_tree c.defs.defs) (many (def_limit - length c.defs.defs) is_def def_at ts)) c.defs.invariant.told _ c.in_ok-row_begins.ensures.kept
-    (λ q may ts e. own-full (def_limit - length c.defs.defs) (map def_tree c.defs.defs) (tokens q) ts e (full (length c.defs.defs) (sym c.len.ensures ∙ c.if-len-eq-MOST_DEFS.true)) (sym (c.in_ok-row_begins.ensures.goes_on q may) ∙ c.if-branch.true))
+pub returns-then-len-eq-DEF_LIMIT-clause-gives : goal.returns-then-len-eq-DEF_LIMIT-clause-gives
+returns-then-len-eq-DEF_LIMIT-clause-gives g c = defs-bad _ _ (λ ts. with_prefix (map def_tree c.defs.defs) (many (def_limit - length c.defs.defs) is_def def_at ts)) c.defs.invariant.told _ c.in_ok-row_begins.ensures.kept
+    (λ q may ts e. own-full (def_limit - length c.defs.defs) (map def_tree c.defs.defs) (tokens q) ts e (full (length c.defs.defs) (sym c.len.ensures ∙ c.if-len-eq-DEF_LIMIT.true)) (sym (c.in_ok-row_begins.ensures.goes_on q may) ∙ c.if-branch.true))
 
 pub defs-preserved : goal.defs-preserved
 defs-preserved g c =
@@ -37,15 +37,15 @@ defs-preserved g c =
       told = so-more def_tree def_at (many def_limit is_def def_at) c.in-Ok.def _ _ _ _ (λ ts. with_prefix (map def_tree c.defs.defs) (many (def_limit - length c.defs.defs) is_def def_at ts))
           (λ ts. with_prefix (map def_tree c.push.new.self) (many (def_limit - length c.push.new.self) is_def def_at ts)) c.defs.invariant.told c.in_ok-row_begins.ensures.kept
           (λ p may rest total e h. many-pushed def_tree is_def def_at (def_limit - length c.defs.defs) (def_limit - length c.push.new.self) c.defs.defs c.in-Ok.def c.push.new.self (tokens p) rest total
-          (one-fewer (length c.defs.defs) c.defs.invariant.few (λ e. c.if-len-eq-MOST_DEFS.false (c.len.ensures ∙ e)) ∙ ap (λ n. suc (def_limit - n)) (sym longer)) c.in_ok-push-in-Ok.ensures.ok (sym (c.in_ok-row_begins.ensures.goes_on p may) ∙ c.if-branch.true) e h)
+          (one-fewer (length c.defs.defs) c.defs.invariant.few (λ e. c.if-len-eq-DEF_LIMIT.false (c.len.ensures ∙ e)) ∙ ap (λ n. suc (def_limit - n)) (sym longer)) c.in_ok-push-in-Ok.ensures.ok (sym (c.in_ok-row_begins.ensures.goes_on p may) ∙ c.if-branch.true) e h)
           c.in-Ok.ensures.gives;
-      few = omega (arith, longer, fewer (length c.defs.defs) c.defs.invariant.few (λ e. c.if-len-eq-MOST_DEFS.false (c.len.ensures ∙ e)));
+      few = omega (arith, longer, fewer (length c.defs.defs) c.defs.invariant.few (λ e. c.if-len-eq-DEF_LIMIT.false (c.len.ensures ∙ e)));
       left = omega (arith, c.in-Ok.ensures.left, c.in_ok-row_begins.ensures.left, c.defs.invariant.left);
     }
 
 pub returns-in-Err-clause-gives : goal.returns-in-Err-clause-gives
 returns-in-Err-clause-gives g c = defs-stopped _ _ (λ ts. with_prefix (map def_tree c.defs.defs) (many (def_limit - length c.defs.defs) is_def def_at ts)) c.defs.invariant.told def_tree (λ (defs : Items Def). map def_tree defs) c.in-Err.halt _ _ c.in_ok-row_begins.ensures.kept
-    (λ q may bad ts e h. def-failed (def_limit - length c.defs.defs) _ (map def_tree c.defs.defs) (tokens q) bad ts (one-fewer (length c.defs.defs) c.defs.invariant.few (λ e. c.if-len-eq-MOST_DEFS.false (c.len.ensures ∙ e)))
+    (λ q may bad ts e h. def-failed (def_limit - length c.defs.defs) _ (map def_tree c.defs.defs) (tokens q) bad ts (one-fewer (length c.defs.defs) c.defs.invariant.few (λ e. c.if-len-eq-DEF_LIMIT.false (c.len.ensures ∙ e)))
     (sym (c.in_ok-row_begins.ensures.goes_on q may) ∙ c.if-branch.true) e h)
     c.in-Err.ensures.gives
 

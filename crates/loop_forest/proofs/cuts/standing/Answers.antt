@@ -3,8 +3,8 @@ use Rattle.flow_graph.specs.Graph.{HasEdge}
 use Rattle.loop_forest.specs.Cuts.{StandsAt, AtBase, After}
 use Rattle.flow_graph.proofs.ExactLemmas.{pred_succ}
 use Rattle.loop_forest.specs.inner.Standing.{IsMarked}
-use Rattle.loop_forest.proofs.Passing.{passed_first, passed_start}
-use Rattle.loop_forest.proofs.StandingLemmas.{some_pred, pred_number, one_more, no_more}
+use Rattle.loop_forest.proofs.IteratorLoops.{passed_first, passed_start}
+use Rattle.loop_forest.proofs.BackToBase.{some_pred, pred_number, one_more, no_more}
 use Rattle.loop_forest.proofs.cuts.standing.Goals as goal
 
 pub back-smaller : goal.back-smaller

@@ -2,7 +2,7 @@ use Rattle.std.proofs.Common.{ℕ, ◌+◌, ◌-◌, ◌%◌, ◌<◌, length}
 use Rattle.flow_graph.specs.Graph.{HasEdge}
 use Rattle.loop_forest.specs.Cuts.{StandsAt}
 use Rattle.loop_forest.specs.inner.Standing.{IsMarked}
-use Rattle.loop_forest.specs.inner.Order.{mark_of, number_of}
+use Rattle.loop_forest.specs.inner.DepthFirst.{mark_of, number_of}
 use Rattle.loop_forest.proofs.cuts.standing.Given as goal
 
 abbrev pub invariant-back : goal.invariant-back

@@ -1,9 +1,9 @@
 use Rattle.std.proofs.Common.{arith}
 use Rattle.flow_graph.specs.Graph.{HasEdge}
 use Rattle.flow_graph.proofs.ExactLemmas.{pred_succ}
-use Rattle.loop_forest.specs.inner.Order.{mark_of, number_of}
-use Rattle.loop_forest.proofs.Falling.{back_iff}
-use Rattle.loop_forest.proofs.Passing.{passed_first}
+use Rattle.loop_forest.specs.inner.DepthFirst.{mark_of, number_of}
+use Rattle.loop_forest.proofs.BackEdgeLemmas.{back_iff}
+use Rattle.loop_forest.proofs.IteratorLoops.{passed_first}
 use Rattle.loop_forest.proofs.LoopNodes.{back_more, back_skip, back_end}
 use Rattle.loop_forest.proofs.loops.back_sources.Goals as goal
 

@@ -1,5 +1,5 @@
 use Rattle.std.proofs.Common.{sym, ◌∙◌, true≢false}
-use Rattle.flow_graph.proofs.Reaching.{grows_one}
+use Rattle.flow_graph.proofs.ReachSearch.{grows_one}
 use Rattle.loop_forest.proofs.LoopNodes.{exits_more, exits_skip, exits_end}
 use Rattle.loop_forest.proofs.loops.note_exits.Goals as goal
 

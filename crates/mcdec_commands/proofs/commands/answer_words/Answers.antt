@@ -12,77 +12,77 @@ use Rattle.mcdec_commands.proofs.Decompiling.{decompiled, no-write-fault, none-w
 use Rattle.mcdec_commands.proofs.SelfTesting.{test-gives}
 use Rattle.mcdec_commands.proofs.commands.answer_words.Goals as goal
 
-pub run_file-requires : goal.run_file-requires
-run_file-requires g c =
+pub answer_run-requires : goal.answer_run-requires
+answer_run-requires g c =
     run-ranges (texts c.args.words.now) c.in-Run.r (subst (λ (command : Read). IsRead (texts c.args.words.now) command) c.in-Run.is c.in-Ok.ensures)
 
-pub evaluate-requires : goal.evaluate-requires
-evaluate-requires g c =
+pub answer_eval-requires : goal.answer_eval-requires
+answer_eval-requires g c =
     eval-ranges (texts c.args.words.now) c.in-Eval.e (subst (λ (command : Read). IsRead (texts c.args.words.now) command) c.in-Eval.is c.in-Ok.ensures)
 
 pub returns-in-Eval-clause-gives : goal.returns-in-Eval-clause-gives
 returns-in-Eval-clause-gives g c =
-    c.evaluate.ensures.gives (texts c.args.words.now) (subst (λ (command : Read). IsRead (texts c.args.words.now) command) c.in-Eval.is c.in-Ok.ensures)
+    c.answer_eval.ensures.gives (texts c.args.words.now) (subst (λ (command : Read). IsRead (texts c.args.words.now) command) c.in-Eval.is c.in-Ok.ensures)
 
 pub returns-in-Run-clause-gives : goal.returns-in-Run-clause-gives
 returns-in-Run-clause-gives g c =
-    c.run_file.ensures.gives (texts c.args.words.now) (subst (λ (command : Read). IsRead (texts c.args.words.now) command) c.in-Run.is c.in-Ok.ensures)
+    c.answer_run.ensures.gives (texts c.args.words.now) (subst (λ (command : Read). IsRead (texts c.args.words.now) command) c.in-Run.is c.in-Ok.ensures)
 
 pub returns-in-Check-clause-gives : goal.returns-in-Check-clause-gives
 returns-in-Check-clause-gives g c =
-    c.check_files.ensures.gives (texts c.args.words.now) (subst (λ (command : Read). IsRead (texts c.args.words.now) command) c.in-Check.is c.in-Ok.ensures)
+    c.answer_check.ensures.gives (texts c.args.words.now) (subst (λ (command : Read). IsRead (texts c.args.words.now) command) c.in-Check.is c.in-Ok.ensures)
 
 pub returns-in-Decompile-clause-gives : goal.returns-in-Decompile-clause-gives
 returns-in-Decompile-clause-gives g c =
-    c.decompile_files.ensures.gives (texts c.args.words.now) (subst (λ (command : Read). IsRead (texts c.args.words.now) command) c.in-Decompile.is c.in-Ok.ensures)
+    c.answer_decompile.ensures.gives (texts c.args.words.now) (subst (λ (command : Read). IsRead (texts c.args.words.now) command) c.in-Decompile.is c.in-Ok.ensures)
 
-pub decompile_files-requires : goal.decompile_files-requires
-decompile_files-requires g c = (subst (λ (command : Read). IsRead (texts c.args.words.now) command) c.in-Decompile.is c.in-Ok.ensures).0.4.0
+pub answer_decompile-requires : goal.answer_decompile-requires
+answer_decompile-requires g c = (subst (λ (command : Read). IsRead (texts c.args.words.now) command) c.in-Decompile.is c.in-Ok.ensures).0.4.0
 
 pub returns-in-Eval-clause-written : goal.returns-in-Eval-clause-written
 returns-in-Eval-clause-written g c =
     let is = subst (λ (command : Read). IsRead (texts c.args.words.now) command) c.in-Eval.is c.in-Ok.ensures in
     let e = c.in-Eval.e in
-    none-written (texts c.args.words.now) (Eval e.proof.now e.name.now e.turns is.0) is.1 refl _ _ _ c.evaluate.ensures.kept
+    none-written (texts c.args.words.now) (Eval e.proof.now e.name.now e.turns is.0) is.1 refl _ _ _ c.answer_eval.ensures.kept
 
 pub returns-in-Run-clause-written : goal.returns-in-Run-clause-written
 returns-in-Run-clause-written g c =
     let is = subst (λ (command : Read). IsRead (texts c.args.words.now) command) c.in-Run.is c.in-Ok.ensures in
     let r = c.in-Run.r in
-    none-written (texts c.args.words.now) (Run r.elf.now r.start.now r.until r.steps is.0) is.1 refl _ _ _ c.run_file.ensures.kept
+    none-written (texts c.args.words.now) (Run r.elf.now r.start.now r.until r.steps is.0) is.1 refl _ _ _ c.answer_run.ensures.kept
 
 pub returns-in-Check-clause-written : goal.returns-in-Check-clause-written
 returns-in-Check-clause-written g c =
     let is = subst (λ (command : Read). IsRead (texts c.args.words.now) command) c.in-Check.is c.in-Ok.ensures in
-    none-written (texts c.args.words.now) (Check c.in-Check.c.elf.now c.in-Check.c.proof.now) is refl _ _ _ c.check_files.ensures.kept
+    none-written (texts c.args.words.now) (Check c.in-Check.c.elf.now c.in-Check.c.proof.now) is refl _ _ _ c.answer_check.ensures.kept
 
 pub returns-in-Decompile-clause-written : goal.returns-in-Decompile-clause-written
 returns-in-Decompile-clause-written g c =
     let is = subst (λ (command : Read). IsRead (texts c.args.words.now) command) c.in-Decompile.is c.in-Ok.ensures in
     let d = c.in-Decompile.d in
-    decompiled (texts c.args.words.now) d.elf.now d.out.now d.names is _ _ _ c.decompile_files.ensures.written
+    decompiled (texts c.args.words.now) d.elf.now d.out.now d.names is _ _ _ c.answer_decompile.ensures.written
 
 pub returns-in-Decompile-clause-kept : goal.returns-in-Decompile-clause-kept
 returns-in-Decompile-clause-kept g c =
     let is = subst (λ (command : Read). IsRead (texts c.args.words.now) command) c.in-Decompile.is c.in-Ok.ensures in
     let d = c.in-Decompile.d in
-    others-kept (texts c.args.words.now) d.elf.now d.out.now d.names is _ _ _ c.decompile_files.ensures.written
+    others-kept (texts c.args.words.now) d.elf.now d.out.now d.names is _ _ _ c.answer_decompile.ensures.written
 
 pub returns-in-SelfTest-clause-gives : goal.returns-in-SelfTest-clause-gives
 returns-in-SelfTest-clause-gives g c =
     let is = subst (λ (command : Read). IsRead (texts c.args.words.now) command) c.in-SelfTest.is c.in-Ok.ensures in
-    test-gives _ (texts c.args.words.now) c.in-SelfTest.test.number c.in-SelfTest.test.size _ _ is _ c.test_drawn.ensures.gives
+    test-gives _ (texts c.args.words.now) c.in-SelfTest.test.number c.in-SelfTest.test.size _ _ is _ c.answer_selftest.ensures.gives
 
 pub returns-in-SelfTest-clause-written : goal.returns-in-SelfTest-clause-written
 returns-in-SelfTest-clause-written g c =
     let is = subst (λ (command : Read). IsRead (texts c.args.words.now) command) c.in-SelfTest.is c.in-Ok.ensures in
     none-written (texts c.args.words.now) (SelfTest c.in-SelfTest.test.number c.in-SelfTest.test.size) is refl _ _ _ refl
 
-pub test_drawn-requires : goal.test_drawn-requires
-test_drawn-requires g c = (subst (λ (command : Read). IsRead (texts c.args.words.now) command) c.in-SelfTest.is c.in-Ok.ensures).0.2
+pub answer_selftest-requires : goal.answer_selftest-requires
+answer_selftest-requires g c = (subst (λ (command : Read). IsRead (texts c.args.words.now) command) c.in-SelfTest.is c.in-Ok.ensures).0.2
 
-pub returns-in-Err-NotThere-clause-written : goal.returns-in-Err-NotThere-clause-written
-returns-in-Err-NotThere-clause-written g c =
+pub returns-in-Err-NotACommand-clause-written : goal.returns-in-Err-NotACommand-clause-written
+returns-in-Err-NotACommand-clause-written g c =
     let none : IsNoCommand (texts c.args.words.now) = search rules in
     told_same (g.S.Shelf.contents c.args.shelf.now)
     (λ x y. (d : Command) (out : List ℕ) → Words (texts c.args.words.now) d → output_of d ≡ Some out → LeavesBy (IsOutput x d) answer.NotACommand (x out) (y out))
@@ -92,10 +92,10 @@ pub returns-in-Eval-clause-write_fault : goal.returns-in-Eval-clause-write_fault
 returns-in-Eval-clause-write_fault g c five =
     let is = subst (λ (command : Read). IsRead (texts c.args.words.now) command) c.in-Eval.is c.in-Ok.ensures in
     let e = c.in-Eval.e in
-    absurd (no-write-fault _ (texts c.args.words.now) _ _ (Eval e.proof.now e.name.now e.turns is.0) is.1 refl _ (c.evaluate.ensures.gives (texts c.args.words.now) is) five)
+    absurd (no-write-fault _ (texts c.args.words.now) _ _ (Eval e.proof.now e.name.now e.turns is.0) is.1 refl _ (c.answer_eval.ensures.gives (texts c.args.words.now) is) five)
 
 pub returns-in-Run-clause-write_fault : goal.returns-in-Run-clause-write_fault
 returns-in-Run-clause-write_fault g c five =
     let is = subst (λ (command : Read). IsRead (texts c.args.words.now) command) c.in-Run.is c.in-Ok.ensures in
     let r = c.in-Run.r in
-    absurd (no-write-fault _ (texts c.args.words.now) _ _ (Run r.elf.now r.start.now r.until r.steps is.0) is.1 refl _ (c.run_file.ensures.gives (texts c.args.words.now) is) five)
+    absurd (no-write-fault _ (texts c.args.words.now) _ _ (Run r.elf.now r.start.now r.until r.steps is.0) is.1 refl _ (c.answer_run.ensures.gives (texts c.args.words.now) is) five)

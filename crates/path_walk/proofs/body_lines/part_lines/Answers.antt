@@ -7,9 +7,9 @@ use Rattle.code_parts.specs.Bodies.{Flow, first, part_body, start}
 use Rattle.code_parts.specs.Graph.{IsPart}
 use Rattle.path_walk.specs.inner.Near.{IsNear}
 use Rattle.code_parts.specs.Kept.{flow_in}
-use Rattle.path_walk.specs.inner.Logs.{Leads, log_tree}
-use Rattle.path_walk.proofs.Closing.{head_part}
-use Rattle.path_walk.proofs.Near.{head_there, loop_near, rest_near}
+use Rattle.path_walk.specs.inner.Writers.{Leads, writer_tree}
+use Rattle.path_walk.proofs.ClosingLines.{head_part}
+use Rattle.path_walk.proofs.PartWalks.{head_there, loop_near, rest_near}
 use Rattle.path_walk.proofs.body_lines.part_lines.Goals as goal
 
 pub node_lines-requires-clause-near : goal.node_lines-requires-clause-near
@@ -30,5 +30,5 @@ returns-in-Some c =
     let n : ℕ = c.in-Rest.node in
     let some : f.loop_of n ≡ Some c.in-Some.l = sym c.loop_of.ensures.is ∙ c.in-Some.is in
     let at = head_there f (Rest r n) r n c.in-Some.l c.law_of_graphs.ensures (subst (IsPart f) c.in-Rest.is c.requires) refl some in
-    on_ok_weaker c.head_lines.result (λ lead. subst (λ (q : Part). Leads f q c.args.flow.now.code (log_tree c.args.log.now) (log_tree c.head_lines.new.log) (Const (f.addr (first f q))) (start f) None (part_body f q)) (sym c.in-Rest.is)
-    (head_part f (Rest r n) c.args.flow.now.code (log_tree c.args.log.now) (log_tree c.head_lines.new.log) r n c.in-Some.l at.0 at.1 refl some lead)) c.head_lines.ensures
+    on_ok_weaker c.head_lines.result (λ lead. subst (λ (q : Part). Leads f q c.args.flow.now.code (writer_tree c.args.log.now) (writer_tree c.head_lines.new.log) (Const (f.addr (first f q))) (start f) None (part_body f q)) (sym c.in-Rest.is)
+    (head_part f (Rest r n) c.args.flow.now.code (writer_tree c.args.log.now) (writer_tree c.head_lines.new.log) r n c.in-Some.l at.0 at.1 refl some lead)) c.head_lines.ensures

@@ -1,7 +1,7 @@
 use Rattle.std.proofs.Common.{ap, ◌∙◌}
 use Rattle.code_parts.specs.Kept.{flow_in}
-use Rattle.code_parts.specs.Places.{place_of}
-use Rattle.path_walk.proofs.Exited.{exit_made}
+use Rattle.code_parts.specs.VariableMaps.{place_of}
+use Rattle.path_walk.proofs.CallLemmas.{exit_made}
 use Rattle.path_walk.proofs.exit_lines.exit_step.Goals as goal
 
 pub returns-clause-steps : goal.returns-clause-steps

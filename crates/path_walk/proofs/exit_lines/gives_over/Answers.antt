@@ -1,6 +1,6 @@
 use Rattle.std.proofs.Common.{◌∙◌}
 use Rattle.code_parts.specs.Kept.{flow_in}
-use Rattle.path_walk.specs.inner.Logs.{standing_at}
+use Rattle.path_walk.specs.inner.Writers.{standing_at}
 use Rattle.path_walk.proofs.exit_lines.gives_over.Goals as goal
 
 pub returns : goal.returns

@@ -3,9 +3,9 @@ use Rattle.std.specs.List.{AllByRecursion}
 use Rattle.rv_words.specs.declared.range.Range.{Range}
 use Rattle.rv_words.specs.Ranges.{AreRanges}
 use Rattle.code_parts.specs.Kept.{flow_in}
-use Rattle.code_parts.specs.Places.{place_of}
-use Rattle.path_walk.proofs.Fine.{exit-fine, exit-standing-fine}
-use Rattle.path_walk.proofs.Places.{low_place}
+use Rattle.code_parts.specs.VariableMaps.{place_of}
+use Rattle.path_walk.proofs.LineTexts.{exit-fine, exit-standing-fine}
+use Rattle.path_walk.proofs.LowVariables.{low_place}
 use Rattle.path_walk.proofs.exit_lines.leave_by.Goals as goal
 
 pub exit_lines-requires-clause-fine : goal.exit_lines-requires-clause-fine

@@ -3,7 +3,7 @@ use Rattle.tailrec_lang.specs.Tree.{def_tree}
 use Rattle.proof_text.specs.Line.{line_tree}
 use Rattle.code_parts.specs.declared.part.Part.{Part}
 use Rattle.path_walk.specs.inner.Walks.{AreWalked}
-use Rattle.path_walk.proofs.Walked.{item_from}
+use Rattle.path_walk.proofs.PartsInOrder.{item_from}
 use Rattle.path_walk.proofs.item.item_in.Goals as goal
 
 pub returns : goal.returns

@@ -1,6 +1,6 @@
 use Rattle.std.proofs.Common.{◌^◌, ◌<◌, List, length, sym, subst}
 use Rattle.code_parts.specs.declared.part.Part.{Part}
-use Rattle.path_walk.proofs.Walked.{parts_small}
+use Rattle.path_walk.proofs.PartsInOrder.{parts_small}
 use Rattle.path_walk.proofs.item.item_of.Goals as goal
 
 pub new-requires-clause-few : goal.new-requires-clause-few

@@ -3,8 +3,8 @@ use Rattle.std.proofs.lemmas.List.{map-append}
 use Rattle.word_terms.specs.Tree.{Var}
 use Rattle.proof_text.specs.Line.{word_put_in}
 use Rattle.code_parts.specs.Bodies.{names}
-use Rattle.code_parts.specs.Places.{place_of}
-use Rattle.path_walk.proofs.Numbered.{added_more}
+use Rattle.code_parts.specs.VariableMaps.{place_of}
+use Rattle.path_walk.proofs.VariableTerms.{added_more}
 use Rattle.path_walk.proofs.subs.add_registers.Goals as goal
 
 pub loop-r-preserved : goal.loop-r-preserved

@@ -2,7 +2,7 @@ use Rattle.std.proofs.Common.{◌≡◌, ◌+◌, ◌++◌, length, map, take}
 use Rattle.proof_text.specs.Line.{word_put_in}
 use Rattle.code_parts.specs.Bodies.{names}
 use Rattle.path_walk.specs.inner.Acts.{numbered}
-use Rattle.code_parts.specs.Places.{place_of}
+use Rattle.code_parts.specs.VariableMaps.{place_of}
 use Rattle.path_walk.proofs.subs.add_registers.Given as goal
 
 abbrev pub invariant-loop-r : goal.invariant-loop-r

@@ -1,5 +1,5 @@
 use Rattle.std.proofs.Common.{◌≡◌, ◌+◌, arith}
-use Rattle.path_walk.proofs.Closing.{one_stated}
+use Rattle.path_walk.proofs.ClosingLines.{one_stated}
 use Rattle.path_walk.proofs.walk.next_after.Goals as goal
 
 pub loop-line-preserved : goal.loop-line-preserved

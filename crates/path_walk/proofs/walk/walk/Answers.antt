@@ -2,7 +2,7 @@ use Rattle.std.proofs.Common.{List, ap, ◌+◌, ◌∙◌, map}
 use Rattle.proof_text.specs.Line.{line_tree}
 use Rattle.proof_text.specs.declared.line.Line.{Line}
 use Rattle.path_walk.specs.inner.Lines.{stated}
-use Rattle.path_walk.proofs.Closing.{next_is}
+use Rattle.path_walk.proofs.ClosingLines.{next_is}
 use Rattle.path_walk.proofs.walk.walk.Goals as goal
 
 pub returns-clause-next : goal.returns-clause-next

@@ -1,6 +1,6 @@
 use Rattle.std.proofs.Common.{◌≡◌, length, sym, ◌∙◌, ap, arith}
 use Rattle.loop_forest.specs.Forest.{ForestOf}
-use Rattle.loop_forest.proofs.Closest.{heads_long}
+use Rattle.loop_forest.proofs.SmallestLoop.{heads_long}
 use Rattle.loop_forest.proofs.ForestLemmas.{front_or_in, inside_at}
 use Rattle.loop_forest.proofs.forest.Forest.inside.Goals as goal
 

@@ -1,6 +1,6 @@
 use Rattle.std.proofs.Common.{◌≡◌, ℕ, List, subst, sym, ◌∙◌, true≢false, length}
 use Rattle.std.specs.List.{Contains}
-use Rattle.loop_forest.proofs.Placing.{placed_push, placed_same}
+use Rattle.loop_forest.proofs.NodeTables.{placed_push, placed_same}
 use Rattle.loop_forest.proofs.node_set.NodeSet.add.Goals as goal
 
 pub invariant_of-self : goal.invariant_of-self

@@ -1,4 +1,4 @@
-use Rattle.loop_forest.proofs.Placing.{places_differ, places_few}
+use Rattle.loop_forest.proofs.NodeTables.{places_differ, places_few}
 use Rattle.loop_forest.proofs.node_set.NodeSet.len.Goals as goal
 
 pub returns-clause-different : goal.returns-clause-different

@@ -1,4 +1,4 @@
-use Rattle.loop_forest.proofs.Placing.{place_found, place_at, place_none}
+use Rattle.loop_forest.proofs.NodeTables.{place_found, place_at, place_none}
 use Rattle.loop_forest.proofs.node_set.NodeSet.place.Goals as goal
 
 pub returns-clause-found : goal.returns-clause-found

@@ -1,5 +1,5 @@
 use Rattle.std.proofs.Common.{◌≡◌, ℕ, subst, sym, ◌∙◌, true≢false, arith}
-use Rattle.loop_forest.proofs.Placing.{RisesTo, rises_more, rises_skip}
+use Rattle.loop_forest.proofs.NodeTables.{RisesTo, rises_more, rises_skip}
 use Rattle.loop_forest.proofs.node_set.NodeSet.rising.Goals as goal
 use Rattle.loop_forest.proofs.node_set.NodeSet.rising.Goals.{then-has+in_ok-push, else-has}
 

@@ -1,4 +1,4 @@
-use Rattle.loop_forest.proofs.Placing.{RisesTo}
+use Rattle.loop_forest.proofs.NodeTables.{RisesTo}
 use Rattle.loop_forest.proofs.node_set.NodeSet.rising.Given as goal
 
 abbrev pub invariant-loop-n : goal.invariant-loop-n

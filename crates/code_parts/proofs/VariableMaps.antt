@@ -1,0 +1,84 @@
+-- Places as the code has them.
+use Rattle.std.proofs.Common.{◌≡◌, ◌≢◌, ℕ, suc, ◌+◌, ◌<◌, ◌≤◌, Bool, true, false, cond, eqb, List, length, get_or, refl, sym, ap, ◌∙◌, arith, inl, inr, ne_eqb, eq-eqb, get_or-set_other, get_or-set_same, ℤ, [], ◌∷◌, not}
+use Rattle.std.proofs.Math.ListN.{set}
+use Rattle.std.proofs.lemmas.Bool.{cases_eq}
+use Rattle.std.specs.List.{position_or_len}
+use Rattle.rv_words.specs.declared.width.Width.{Width}
+use Rattle.rv_decode.specs.declared.instruction.Instr.{Instr}
+use Rattle.rv_decode.specs.declared.instruction.Instr.TheVariants as instr
+use Rattle.rv_decode.specs.Registers.{destination}
+use Rattle.instr_axioms.specs.Variables.{variable_of}
+use Rattle.code_parts.specs.Bodies.{VariableMap, is_store, place_after, stored, wrote}
+use Rattle.code_parts.specs.Low.{AreLow}
+
+abbrev pub IsNoStore : Instr → Type 0
+IsNoStore i = (w : Width) (rs1 rs2 : ℕ) (imm : ℤ) → i ≡ instr.Store w rs1 rs2 imm → ⊥
+
+no-store : (i : Instr) → IsNoStore i → is_store i ≡ false
+no-store (instr.Op o rd rs1 rs2) h = refl
+no-store (instr.OpImm o rd rs1 imm) h = refl
+no-store (instr.Lui rd imm) h = refl
+no-store (instr.Auipc rd imm) h = refl
+no-store (instr.Jal rd offset) h = refl
+no-store (instr.Jalr rd rs1 imm) h = refl
+no-store (instr.Branch c rs1 rs2 offset) h = refl
+no-store (instr.Load w signed rd rs1 imm) h = refl
+no-store (instr.Store w rs1 rs2 imm) h = absurd (h w rs1 rs2 imm refl)
+no-store (instr.Fence imm rs1 rd) h = refl
+no-store instr.Ecall h = refl
+no-store instr.Ebreak h = refl
+
+written : (words : List ℕ) (d w r : ℕ) → d ≢ 0 → d < length words → variable_of (set words d w) r ≡ cond (eqb r d) w (variable_of words r)
+written words d w r some lt = elim (cases_eq r d) [
+  | inl same ↦ ap (λ q. variable_of (set words d w) q) same ∙ get_or-set_same words d w (get_or (set words d w) 0 0) lt ∙ (λ i. cond (sym (eq-eqb r d same) i) w (variable_of words r))
+  | inr other ↦
+      get_or-set_other words d r w (get_or (set words d w) 0 0) other ∙ ap (λ x. get_or words r x) (get_or-set_other words d 0 w 0 (λ e. some (sym e)))
+      ∙ (λ i. cond (sym (ne_eqb r d other) i) w (variable_of words r))
+]
+
+-- what was written has the next variable
+pub place_written : (v : VariableMap) (words : List ℕ) (d : ℕ) → v.reg ≡ variable_of words → d ≢ 0 → d < length words
+    → record { words = v.words + 1; mems = v.mems; reg = variable_of (set words d v.words); memory = v.memory } ≡ wrote d v
+place_written v words d is some lt =
+    let next : v.words + 1 ≡ suc v.words = omega arith in
+    (λ j. record { words = next j; mems = v.mems; reg = λ r. written words d v.words r some lt j; memory = v.memory })
+    ∙ (λ j. record { words = suc v.words; mems = v.mems; reg = λ r. cond (eqb r d) v.words (sym is j r); memory = v.memory })
+    ∙ (λ j. cond (sym (ne_eqb d 0 some) j) v (record { words = suc v.words; mems = v.mems; reg = λ r. cond (eqb r d) v.words (v.reg r); memory = v.memory }))
+
+-- an instruction that is no store writes its destination
+pub place_after-is : (i : Instr) (v : VariableMap) (d : ℕ) → IsNoStore i → d ≡ destination i → wrote d v ≡ place_after i v
+place_after-is i v d store is = ap (λ (e : ℕ). wrote e v) is ∙ (λ j. cond (sym (no-store i store) j) (stored v) (wrote (destination i) v))
+
+-- ---- low numbers
+
+pub position-most : (rs : List ℕ) (r : ℕ) → position_or_len (λ q. eqb q r) rs ≤ length rs
+position-most [] r = omega arith
+position-most (x ∷ rs) r = go (eqb x r) (position-most rs r)
+  where
+    go : (b : Bool) → position_or_len (λ q. eqb q r) rs ≤ length rs → cond (not b) (1 + position_or_len (λ q. eqb q r) rs) 0 ≤ suc (length rs)
+    go true h = omega arith
+    go false h = omega (arith, h)
+
+-- the next variables are low
+pub fresh_low : (vars regs : List ℕ) (memory words mems w m : ℕ) → ((r : ℕ) → variable_of vars r ≡ words + position_or_len (λ q. eqb q r) regs) → memory ≡ mems → w ≡ words + length regs → mems ≤ m →
+    AreLow w m vars memory
+fresh_low vars regs memory words mems w m each same all le = record {
+  word = λ r. (let at = each r in let most = position-most regs r in omega (arith, at, most, all));
+  memory_low = omega (arith, same, le);
+}
+
+-- one more is
+pub written_low : (vars : List ℕ) (memory d w m : ℕ) → d ≢ 0 → d < length vars → AreLow w m vars memory → AreLow (w + 1) m (set vars d w) memory
+written_low vars memory d w m some lt low = record {
+  word = λ r. (let at = written vars d w r some lt in let most = go (eqb r d) (variable_of vars r) (low.word r) in omega (arith, at, most));
+  memory_low = low.memory_low;
+}
+  where
+    go : (b : Bool) (x : ℕ) → x ≤ w → cond b w x ≤ w + 1
+    go true x le = omega arith
+    go false x le = omega (arith, le)
+
+pub stored_low : (vars : List ℕ) (memory w m : ℕ) → AreLow w m vars memory → AreLow w (m + 1) vars m
+stored_low vars memory w m low = record { word = low.word; memory_low = omega arith }
+
+-- ---- bodies

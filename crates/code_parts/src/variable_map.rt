@@ -1,0 +1,14 @@
+//! The variables at a place of a body.
+
+ghost use Rattle.code_parts.specs.Low.{AreLow};
+
+use instr_axioms::Variables;
+
+/// How many variables are in scope, and which of them stand for the registers and the memory.
+#[derive(Clone, Copy, Debug)]
+pub struct VariableMap {
+    pub words: u32,
+    pub mems: u32,
+    pub names: Variables,
+    ghost low: { AreLow words mems names.words names.memory },
+}

@@ -1,6 +1,0 @@
-use Rattle.std.proofs.Common.{◌≤◌}
-use Rattle.loop_forest.specs.inner.Standing.{IsEnd}
-use Rattle.loop_forest.proofs.bases.is_end.Given as goal
-
-abbrev pub invariant-loop-l : goal.invariant-loop-l
-invariant-loop-l l = (o : IsEnd l.loops l.n) → l.l-index ≤ o.place

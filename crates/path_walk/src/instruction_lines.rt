@@ -1,0 +1,247 @@
+//! The lines of one instruction.
+
+ghost use Rattle.std.specs.Prelude.{◌≡◌, ℕ, ◌++◌, ◌+◌, ◌<◌, ◌^◌, IfOk, OnOk, map, option_copied, option_map, true};
+ghost use Rattle.rv_decode.specs.Registers.{destination};
+ghost use Rattle.rv_words.specs.Ranges.{range_bytes};
+ghost use Rattle.word_terms.specs.Tree.{Const};
+ghost use Rattle.sep_assert.specs.Code.{IsWithin};
+ghost use Rattle.triple_kernel.specs.Tree.{So, fact_tree, triple_tree};
+ghost use Rattle.rvc.specs.Number.{length_of as length_in_bytes};
+ghost use Rattle.instr_axioms.specs.Terms as terms;
+ghost use Rattle.instr_axioms.specs.Axiom as axioms;
+ghost use Rattle.proof_text.specs.Line.{Inst};
+ghost use Rattle.proof_text.specs.LineLimits.{IsRule, IsTriple};
+ghost use Rattle.code_parts.specs.Bodies as bodies;
+ghost use Rattle.code_parts.specs.Graph.{StandsAt};
+ghost use Rattle.path_walk.specs.inner.Acts as spec;
+ghost use Rattle.code_parts.specs.Kept.{flow_in};
+ghost use Rattle.path_walk.specs.inner.Writers.{IsOver, Steps, writer_tree, cited_tree, stating};
+ghost use Rattle.code_parts.specs.VariableMaps.{place_of};
+
+use crate::compose::{go_on, standing_at};
+use crate::proof_writer::{CitedTheorem, ProofWriter};
+use crate::subs::{own_mems, own_words};
+use code_parts::{Flow, VariableMap, after};
+use instr_axioms::{
+    Form, Variables, facts, has_memory, memory_after, own, pc_after, result, triple_over, word_code,
+};
+use proof_text::Rule;
+use rv_decode::{Instr, destination};
+use rv_words::{List, NoMemory};
+use rvc::length_of;
+use std::alloc::Global;
+use triple_kernel::{Fact, Triple};
+use word_terms::{Mem, Sub, Word};
+
+/// Adds what the definition knows of the variable of what an instruction writes.
+fn add_new_fact(
+    alloc: Global,
+    i: Instr,
+    addr: u64,
+    length: u8,
+    place: &VariableMap,
+    facts: &mut List<Fact>,
+) -> Result<(), NoMemory>
+    ensures { OnOk result (map fact_tree facts.new ≡ map fact_tree facts.old ++ spec.new_facts i addr length (place_of place.now)) }
+{
+    if let Instr::Store { .. } = i {
+        let m = memory_after(alloc, i, &place.names)?;
+        facts.push(Fact::MemIs(Mem::Var(place.mems), m))?;
+    } else if destination(&i) != 0 {
+        let t = result(alloc, i, addr, length, &place.names)?;
+        facts.push(Fact::WordIs(Word::Var(place.words), t))?;
+    }
+    Ok(())
+}
+
+/// The facts of an instruction in that form, and of what it writes.
+fn facts_of(
+    alloc: Global,
+    i: Instr,
+    form: Form,
+    addr: u64,
+    length: u8,
+    place: &VariableMap,
+) -> Result<List<Fact>, NoMemory>
+    ensures { IfOk result (λ fs. map fact_tree fs ≡ map So (terms.conditions i form (bodies.names (place_of place.now))) ++ spec.new_facts i addr length (place_of place.now)) }
+{
+    let mut known = facts(alloc, i, form, &place.names)?;
+    add_new_fact(alloc, i, addr, length, place, &mut known)?;
+    Ok(known)
+}
+
+/// The triple of an instruction over all registers, with new variables for what it writes.
+fn named_triple(
+    alloc: Global,
+    flow: &Flow<'_>,
+    i: Instr,
+    form: Form,
+    addr: u64,
+    word: u32,
+    place: &VariableMap,
+) -> Result<Triple, NoMemory>
+    requires words { place.now.words < 2 ^ 15 }
+    requires mems { place.now.mems < 2 ^ 15 }
+    requires named { destination i < 32 }
+    ensures { IfOk result (λ t. triple_tree t ≡ spec.named_triple i form addr (length_in_bytes word) (axioms.word_code addr word) (flow_in flow.now).regs (flow_in flow.now).has_mem (place_of place.now)) }
+{
+    let known = facts_of(alloc, i, form, addr, length_of(word), place)?;
+    let pre = standing_at(alloc, flow, Word::Const(addr), place)?;
+    let code = word_code(alloc, addr, word)?;
+    let pc = pc_after(alloc, i, form, addr, length_of(word), &place.names)?;
+    let next = after(i, *place);
+    let post = standing_at(alloc, flow, pc, &next)?;
+    Ok(Triple {
+        facts: known,
+        pre,
+        code,
+        post,
+    })
+}
+
+/// The triple of an instruction's axiom.
+fn first_triple(
+    alloc: Global,
+    i: Instr,
+    form: Form,
+    addr: u64,
+    word: u32,
+) -> Result<Triple, NoMemory>
+    ensures { IfOk result (λ t. triple_tree t ≡ axioms.own_triple i form addr word) }
+{
+    let regs = own(alloc, i)?;
+    let regs = regs.as_slice();
+    let names = Variables::numbered(regs, 0, 0);
+    let triple = triple_over(alloc, i, form, addr, word, regs, has_memory(i), &names)?;
+    Ok(triple)
+}
+
+/// States the axiom of an instruction over the current variables, where it was stated over its own.
+fn put_current(
+    alloc: Global,
+    i: Instr,
+    form: Form,
+    addr: u64,
+    word: u32,
+    place: &VariableMap,
+    first: u64,
+    log: &mut ProofWriter,
+) -> Result<u64, NoMemory>
+    requires rule { IsRule (Inst first (spec.own_words i (place_of place.now)) (spec.own_mems i (place_of place.now))) }
+    requires stated { IsTriple (axioms.triple_over i form addr (length_in_bytes word) (axioms.word_code addr word) (axioms.own i) (terms.has_memory i) (bodies.names (place_of place.now))) }
+    ensures number { IfOk result (λ k. k ≡ log.old.next) }
+    ensures log { OnOk result (writer_tree log.new ≡ stating (Inst first (spec.own_words i (place_of place.now)) (spec.own_mems i (place_of place.now)))
+        (axioms.triple_over i form addr (length_in_bytes word) (axioms.word_code addr word) (axioms.own i) (terms.has_memory i) (bodies.names (place_of place.now))) (writer_tree log.old)) }
+{
+    let regs = own(alloc, i)?;
+    let regs = regs.as_slice();
+    let triple = triple_over(
+        alloc,
+        i,
+        form,
+        addr,
+        word,
+        regs,
+        has_memory(i),
+        &place.names,
+    )?;
+    let words = own_words(alloc, regs, place)?;
+    let mems = own_mems(alloc, i, place)?;
+    let number = log.state(Rule::Inst(first, Sub { words, mems }), triple)?;
+    Ok(number)
+}
+
+/// The lines of an instruction in that form: its axiom, over the current variables, over all registers, and with new
+/// variables for what it writes.
+fn instruction_lines(
+    alloc: Global,
+    flow: &Flow<'_>,
+    i: Instr,
+    form: Form,
+    addr: u64,
+    word: u32,
+    place: &VariableMap,
+    log: &mut ProofWriter,
+) -> Result<u64, NoMemory>
+    requires words { place.now.words < 2 ^ 15 }
+    requires mems { place.now.mems < 2 ^ 15 }
+    requires named { destination i < 32 }
+    requires fine { spec.IsFineInstruction (flow_in flow.now) i form addr word (place_of place.now) }
+    ensures number { IfOk result (λ k. k ≡ log.old.next + 1 + 1 + 1) }
+    ensures fits { IfOk result (λ k. k < 2 ^ 64) }
+    ensures log { OnOk result (writer_tree log.new ≡ spec.acted (flow_in flow.now) i form addr word (place_of place.now) (writer_tree log.old)) }
+{
+    let own = first_triple(alloc, i, form, addr, word)?;
+    let first = log.state(Rule::Axiom(addr, word, form), own)?;
+    let current = put_current(alloc, i, form, addr, word, place, first, log)?;
+    let wide = triple_over(
+        alloc,
+        i,
+        form,
+        addr,
+        word,
+        flow.regs(),
+        flow.has_mem(),
+        &place.names,
+    )?;
+    let framed = log.state(Rule::Frame(current), wide)?;
+    let named = named_triple(alloc, flow, i, form, addr, word, place)?;
+    let number = log.state(Rule::Weaken(framed), named)?;
+    Ok(number)
+}
+
+/// The lines of a node's instruction in that form, and the theorem that they end with.
+fn act(
+    alloc: Global,
+    flow: &Flow<'_>,
+    n: u32,
+    form: Form,
+    place: &VariableMap,
+    log: &mut ProofWriter,
+) -> Result<CitedTheorem, NoMemory>
+    requires node { n < (flow_in flow.now).nodes }
+    requires words { place.now.words < 2 ^ 15 }
+    requires mems { place.now.mems < 2 ^ 15 }
+    ensures { IfOk result (λ t. StandsAt (flow_in flow.now) flow.now.code n
+        × (cited_tree t ≡ spec.act_standing ((flow_in flow.now).instr n) form ((flow_in flow.now).addr n) ((flow_in flow.now).word n) (place_of place.now) (writer_tree log.old))
+        × (writer_tree log.new ≡ spec.acted (flow_in flow.now) ((flow_in flow.now).instr n) form ((flow_in flow.now).addr n) ((flow_in flow.now).word n) (place_of place.now) (writer_tree log.old))) }
+{
+    let i = flow.instr(n);
+    let addr = flow.addr(n);
+    let word = flow.word(n);
+    flow.law_of_code();
+    let number = instruction_lines(alloc, flow, i, form, addr, word, place, log)?;
+    let known = facts_of(alloc, i, form, addr, length_of(word), place)?;
+    let code = word_code(alloc, addr, word)?;
+    Ok(CitedTheorem::new(number, known, code))
+}
+
+/// The lines from a node on to where its instruction leads in that form, and the theorem that leads there.
+pub fn step(
+    alloc: Global,
+    flow: &Flow<'_>,
+    entry: u64,
+    n: u32,
+    form: Form,
+    place: &VariableMap,
+    from: Option<&CitedTheorem>,
+    log: &mut ProofWriter,
+) -> Result<CitedTheorem, NoMemory>
+    requires node { n < (flow_in flow.now).nodes }
+    requires form { terms.has_form ((flow_in flow.now).instr n) form ≡ true }
+    requires words { place.now.words < 2 ^ 15 }
+    requires mems { place.now.mems < 2 ^ 15 }
+    requires code { IsOver flow.now.code (option_map cited_tree (option_copied from)) }
+    ensures steps { IfOk result (λ t. Steps (flow_in flow.now) entry flow.now.code (writer_tree log.old) (writer_tree log.new) (Const ((flow_in flow.now).addr n)) (place_of place.now) (option_map cited_tree (option_copied from.entry))
+        (terms.pc_after ((flow_in flow.now).instr n) form ((flow_in flow.now).addr n) (bodies.size (flow_in flow.now) n) (bodies.names (place_of place.now)))
+        (bodies.place_after ((flow_in flow.now).instr n) (place_of place.now))
+        (map So (terms.conditions ((flow_in flow.now).instr n) form (bodies.names (place_of place.now))) ++ spec.new_facts ((flow_in flow.now).instr n) ((flow_in flow.now).addr n) (bodies.size (flow_in flow.now) n) (place_of place.now)) (cited_tree t)) }
+    ensures code { IfOk result (λ t. IsWithin (range_bytes t.code) (range_bytes flow.now.code)) }
+{
+    let last = act(alloc, flow, n, form, place, log)?;
+    let i = flow.instr(n);
+    let pc = pc_after(alloc, i, form, flow.addr(n), flow.size(n), &place.names)?;
+    let next = after(i, *place);
+    let there = go_on(alloc, flow, entry, from, last, pc, &next, log)?;
+    Ok(there)
+}

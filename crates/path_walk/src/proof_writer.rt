@@ -1,0 +1,151 @@
+//! The lines of a part as they are written.
+
+ghost use Rattle.std.specs.Prelude.{◌≡◌, ◌<◌, ◌^◌, [], IfOk, OnOk, map};
+ghost use Rattle.triple_kernel.specs.Tree.{fact_tree, triple_tree};
+ghost use Rattle.proof_text.specs.Line.{line_tree, rule_tree};
+ghost use Rattle.proof_text.specs.LineLimits.{IsRule, IsTriple};
+ghost use Rattle.path_walk.specs.inner.Writers.{IsFineWriter, IsFineCited, citing, writer_tree, cited_tree, stating};
+
+use proof_text::{Line, Rule};
+use rv_words::{List, NoMemory};
+use std::alloc::Global;
+use std::marker::Model;
+use triple_kernel::{Fact, Triple};
+use word_terms::Code;
+
+/// A theorem by its number, with its facts and its code.
+#[derive(Drop)]
+pub struct CitedTheorem {
+    number: u64,
+    facts: List<Fact>,
+    code: Code,
+}
+
+impl Model for CitedTheorem {
+    ghost use Rattle.std.specs.Coded.{codes};
+    ghost use Rattle.word_terms.specs.contracts.term.Word as word;
+    ghost use Rattle.word_terms.specs.contracts.term.Mem as mem;
+    ghost use Rattle.word_terms.specs.contracts.term.Cond as cond;
+    ghost use Rattle.path_walk.specs.inner.Writers.{IsFineCited, CitedOf, cited_tree};
+
+    ghost Value = { CitedOf };
+
+    ghost coded = { Prim.hlevel (codes, word.the_row.coded, mem.the_row.coded, cond.the_row.coded) };
+
+    ghost view = { λ s. record { number = s.number; facts = s.facts; code = s.code.ranges } };
+
+    ghost invariant = { λ s. IsFineCited (cited_tree (record { number = s.number; facts = s.facts; code = s.code.ranges })) };
+}
+
+impl CitedTheorem {
+    /// The theorem of that number, which has these facts and this code.
+    pub fn new(number: u64, facts: List<Fact>, code: Code) -> CitedTheorem
+        requires { IsFineCited (cited_tree (record { number = number; facts = facts; code = code.ranges })) }
+        ensures { cited_tree result ≡ record { number = number; facts = map fact_tree facts; code = code.ranges } }
+    {
+        CitedTheorem {
+            number,
+            facts,
+            code,
+        }
+    }
+
+    /// Its number.
+    pub fn number(&self) -> u64
+        ensures { result ≡ self.now.number }
+    {
+        self.number
+    }
+
+    /// Its facts.
+    pub fn facts(&self) -> &[Fact]
+        ensures { result.now ≡ self.now.facts }
+    {
+        self.facts.as_slice()
+    }
+
+    /// Its code.
+    pub fn code(&self) -> &Code
+        ensures { result.now.ranges ≡ self.now.code }
+    {
+        &self.code
+    }
+
+    /// It has a text.
+    pub fn law_of_texts(&self)
+        ensures { IsFineCited (cited_tree self.now) }
+    {
+        let _number = self.number;
+    }
+}
+
+/// Lines, the number of the next theorem, and the theorems that are cited for leaves.
+#[derive(Drop)]
+pub struct ProofWriter {
+    lines: List<Line>,
+    next: u64,
+    cited: List<u64>,
+}
+
+impl Model for ProofWriter {
+    ghost use Rattle.std.specs.Coded.{codes};
+    ghost use Rattle.word_terms.specs.contracts.term.Word as word;
+    ghost use Rattle.word_terms.specs.contracts.term.Mem as mem;
+    ghost use Rattle.word_terms.specs.contracts.term.Cond as cond;
+    ghost use Rattle.path_walk.specs.inner.Writers.{IsFineWriter, WriterOf, writer_tree};
+
+    ghost Value = { WriterOf };
+
+    ghost coded = { Prim.hlevel (codes, word.the_row.coded, mem.the_row.coded, cond.the_row.coded) };
+
+    ghost view = { λ l. record { lines = l.lines; next = l.next; cited = l.cited } };
+
+    ghost invariant = { λ l. IsFineWriter (writer_tree (record { lines = l.lines; next = l.next; cited = l.cited })) };
+}
+
+impl ProofWriter {
+    /// No line yet.
+    pub fn new(alloc: Global, first: u64) -> ProofWriter
+        ensures { writer_tree result ≡ record { lines = []; next = first; cited = [] } }
+    {
+        ProofWriter {
+            lines: List::new(alloc),
+            next: first,
+            cited: List::new(alloc),
+        }
+    }
+
+    /// States a triple by a rule, and tells the theorem's number.
+    pub fn state(&mut self, rule: Rule, stated: Triple) -> Result<u64, NoMemory>
+        requires rule { IsRule (rule_tree rule) }
+        requires stated { IsTriple (triple_tree stated) }
+        ensures number { IfOk result (λ k. k ≡ self.old.next) }
+        ensures fits { IfOk result (λ k. k < 2 ^ 64) }
+        ensures log { OnOk result (writer_tree self.new ≡ stating (rule_tree rule) (triple_tree stated) (writer_tree self.old)) }
+    {
+        let number = self.next;
+        let Some(next) = number.checked_add(1) else {
+            return Err(NoMemory);
+        };
+        self.lines.push(Line::States { rule, stated })?;
+        self.next = next;
+        Ok(number)
+    }
+
+    /// Cites a theorem for the next leaf.
+    pub fn cite(&mut self, theorem: &CitedTheorem) -> Result<(), NoMemory>
+        ensures { OnOk result (writer_tree self.new ≡ citing theorem.now.number (writer_tree self.old)) }
+    {
+        self.cited.push(theorem.number())?;
+        Ok(())
+    }
+
+    /// The lines, and the theorems that are cited.
+    pub fn into_parts(self) -> (List<Line>, List<u64>)
+        ensures lines { map line_tree result.0 ≡ (writer_tree self).lines }
+        ensures cited { result.1 ≡ (writer_tree self).cited }
+        ensures fine { IsFineWriter (writer_tree self) }
+    {
+        (self.lines, self.cited)
+    }
+}
