@@ -9,7 +9,7 @@ use crate::depth_first::{DepthFirst, Mark, post_order};
 use crate::entries::entries_fault;
 use crate::heads::{Found, LoopWithExits, find_all};
 use crate::loops::number_at;
-use crate::regions::region_table;
+use crate::region_table::region_table;
 use flow_graph::{FlowFault, Graph, Outside};
 use rv_words::NoMemory;
 use std::alloc::Global;

@@ -24,7 +24,7 @@ mod heads;
 mod laws;
 mod loops;
 mod node_set;
-mod regions;
+mod region_table;
 mod second_entry;
 
 pub use forest::{Forest, find_loops};

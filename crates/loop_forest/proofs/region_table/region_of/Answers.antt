@@ -1,7 +1,7 @@
 use Rattle.std.proofs.Common.{sym, ◌∙◌, true≢false}
 use Rattle.loop_forest.proofs.SmallestLoop.{closest_more, closest_skip}
-use Rattle.loop_forest.proofs.regions.region_of.Goals as goal
-use Rattle.loop_forest.proofs.regions.region_of.Goals.{then-is_closer, else-is_closer}
+use Rattle.loop_forest.proofs.region_table.region_of.Goals as goal
+use Rattle.loop_forest.proofs.region_table.region_of.Goals.{then-is_closer, else-is_closer}
 
 pub loop-l-preserved : goal.loop-l-preserved
 loop-l-preserved c =
