@@ -1,5 +1,5 @@
 #!/usr/bin/env python3
-"""hostile.py PROGRAM [STEP]: gives a built program files that are made to do harm, and looks at how it ends.
+"""each_byte.py PROGRAM [STEP]: gives a built program files that are made to do harm, and looks at how it ends.
 
 - Ten million opening brackets in a line, of a definition or of its proof: `eval` and `check` must refuse the text at that line.
 - Each front of a small proof file: both must refuse it at the first line that isn't whole.

@@ -1,0 +1,141 @@
+#!/usr/bin/env python3
+"""failing.py PROGRAM [PROCESSES]: has each call fail by which a built program asks the system for memory or a file, and looks at how it ends.
+
+For each command there is a case, and one that is refused. Of each kind of call (memory; opening to read, opening to write; seeking; reading; writing;
+closing) the first fails, then the second, and so on up to the last that the command makes: that call alone, then that call and all of its kind after it.
+Reads and writes are also made short, by one of them carrying a single byte. A run must end
+
+- as it does where nothing fails; that alone where a call was short, or where closing failed;
+- or with status 6 where memory was refused, 4 where a file couldn't be read, 5 where one couldn't be written, and with the line of that status or a
+  front of the due lines. OUT then holds what it held or a front of the text, and the whole text where a due line is printed. With 4 it holds what it held.
+
+Nothing may stand on the standard error, and no other file may come or change. For each case, kind and way a line tells how many calls there were and how
+the runs ended. It needs `cc`, the GNU C library, and a program that takes its memory from there, as a proved one does; one that `rt try` makes doesn't.
+So many runs are made at a time as PROCESSES says, else as there are processors. It takes a minute. The exit status is 1 where a run ends otherwise.
+"""
+import collections
+import os
+import shutil
+import subprocess
+import sys
+import tempfile
+from concurrent.futures import ThreadPoolExecutor
+
+HERE = os.path.dirname(os.path.abspath(__file__))
+EXAMPLES = os.path.join(HERE, "..", "..", "examples")
+FILES = [os.path.join(EXAMPLES, *path) for path in (("gcd", "gcd.elf"), ("gcd", "gcd.proof"), ("refused", "lcm.elf"), ("sum", "sum.elf"), ("sum", "sum.proof"))]
+NUMBERS = "mem=0x8000:01000000000000000200000000000000"
+START = ["x1=0x2000", "x10=0x8000", "x11=0x2", NUMBERS]
+CASES = (
+    ["eval", "sum.proof", "sum", "100", *START],
+    ["run", "sum.elf", "sum", "0x2000", "100", *START],
+    ["check", "gcd.elf", "gcd.proof"],
+    ["decompile", "gcd.elf", "OUT", "gcd"],
+    ["selftest", "7", "12"],
+    ["decompile", "lcm.elf", "OUT", "lcm"],
+)
+OLD = b"what was there before"
+# The status where a call of the kind fails, and its line.
+READ_FAULT, WRITE_FAULT = (4, b"read fault\n"), (5, b"write fault\n")
+KINDS = {
+    "memory": (6, b"no memory\n"),
+    "open-to-read": READ_FAULT,
+    "seek": READ_FAULT,
+    "read": READ_FAULT,
+    "open-to-write": WRITE_FAULT,
+    "write": WRITE_FAULT,
+    "close": None,
+}
+LAST = 1 << 62
+End = collections.namedtuple("End", "status lines held errors counts")
+
+
+class Case:
+    """The words of a command, and how it ends where nothing fails."""
+
+    def __init__(self, program, library, folder, words):
+        self.program, self.library, self.folder, self.words = program, library, folder, words
+        self.whole = self.run("none", "once", 0, 0)
+
+    def run(self, kind, way, first, last):
+        """The end of the command where the calls of that kind fail from one to another. It gets an OUT of its own."""
+        out = f"out-{kind}-{way}-{first}"
+        path = os.path.join(self.folder, out)
+        with open(path, "wb") as file:
+            file.write(OLD)
+        read, write = os.pipe()
+        setting = {"LD_PRELOAD": self.library, "FAILING": kind, "FROM": str(first), "TO": str(last), "MODE": way, "COUNTS": str(write)}
+        words = [self.program, *(out if word == "OUT" else word for word in self.words)]
+        try:
+            done = subprocess.run(words, cwd=self.folder, env={**os.environ, **setting}, pass_fds=(write,), capture_output=True)
+        finally:
+            os.close(write)
+        with os.fdopen(read, "rb") as told:
+            counts = {kind: int(count) for kind, count in (line.split() for line in told.read().decode().splitlines())}
+        with open(path, "rb") as file:
+            held = file.read()
+        os.remove(path)
+        return End(done.returncode, done.stdout, held, done.stderr, counts)
+
+    def is_as_without(self, end):
+        return end[:4] == self.whole[:4]
+
+    def is_right(self, kind, way, end):
+        """Whether the command may end so where calls of that kind failed in that way."""
+        if self.is_as_without(end):
+            return True
+        if way == "short" or KINDS[kind] is None or end.errors:
+            return False
+        status, line = KINDS[kind]
+        is_front = self.whole.lines.startswith(end.lines)
+        may_be_held = end.held == OLD or status != 4 and "OUT" in self.words and self.whole.held != OLD and self.whole.held.startswith(end.held)
+        is_whole = end.held == self.whole.held or not (is_front and end.lines)
+        return end.status == status and (end.lines == line or is_front) and may_be_held and is_whole
+
+
+def try_case(case, pool):
+    """Has each call fail, prints how the runs end, and gives what went wrong."""
+    wrong = []
+    name = " ".join(case.words[:3])
+    for kind in KINDS:
+        places = range(1, case.whole.counts[kind] + 1)
+        for way in ("once", "on", *(["short"] if kind in ("read", "write") else [])) if places else ():
+            ends = list(pool.map(lambda n: case.run(kind, way, n, LAST if way == "on" else n), places))
+            told = collections.Counter("as without" if case.is_as_without(end) else f"status {end.status}" for end in ends)
+            print(f"{name:28} {kind:13} {way:5} {len(places):5} calls  " + ", ".join(f"{told[end]} {end}" for end in sorted(told)), flush=True)
+            wrong += [f"{name}: {kind} {n} {way}: {end[:4]!r:.400}" for n, end in zip(places, ends) if not case.is_right(kind, way, end)]
+    return wrong
+
+
+def main():
+    if len(sys.argv) not in (2, 3):
+        sys.exit(__doc__)
+    program = os.path.abspath(sys.argv[1])
+    wrong = []
+    with tempfile.TemporaryDirectory() as folder, ThreadPoolExecutor(int((sys.argv + [os.cpu_count()])[2])) as pool:
+        library, files = os.path.join(folder, "failing.so"), os.path.join(folder, "files")
+        subprocess.run(["cc", "-O2", "-shared", "-fPIC", "-o", library, os.path.join(HERE, "failing.c")], check=True)
+        os.mkdir(files)
+        before = {}
+        for path in FILES:
+            shutil.copy(path, files)
+            with open(path, "rb") as file:
+                before[os.path.basename(path)] = file.read()
+        for words in CASES:
+            case = Case(program, library, files, words)
+            if not case.whole.counts.get("memory"):
+                sys.exit("the program asks the C library for no memory: it can't be told that there is none")
+            wrong += try_case(case, pool)
+        after = {}
+        for name in os.listdir(files):
+            with open(os.path.join(files, name), "rb") as file:
+                after[name] = file.read()
+        wrong += ["a file came, went or changed"] * (after != before)
+    print(f"{len(wrong)} runs ended otherwise")
+    for why in wrong:
+        print(why)
+    return 1 if wrong else 0
+
+
+if __name__ == "__main__":
+    sys.exit(main())
