@@ -1,0 +1,388 @@
+#!/usr/bin/env python3
+"""families.py PROGRAM [FAMILY..]: how the cost of a command grows with files and words that are made to cost much.
+
+A family is a way to make them of any size. Each is made at three sizes, each twice the one before, and the program is run on them. A line tells the bytes
+(of the text, of the ELF file, of the words; of what is decompiled, those of OUT), the seconds of a processor and the MiB that were taken, then by which power
+of the bytes time and memory grow from the second size to the third, and what that comes to at the limit of the bytes, with the power to a half. Powers of
+times below a tenth of a second and of peaks below 32 MiB aren't told. A program gets a minute of a processor and 4 GiB, and is run twice: the faster run
+counts. All families take a minute or two; with their names, only those are tried.
+"""
+import collections
+import math
+import os
+import random
+import sys
+import tempfile
+from concurrent.futures import ProcessPoolExecutor
+
+sys.path.insert(0, os.path.join(os.path.dirname(os.path.abspath(__file__)), "..", "library"))
+from elf_files import BASE, write_elf
+from instructions import RETURN, arithmetic, branch, immediate, jump, words
+from measuring import MIB, measure_work
+
+SECONDS, MEMORY = 60, 4 << 30
+# A peak of which most may be that of the process which starts the program.
+SMALL = 16 * MIB
+TIMES = ("years", 365 * 86400), ("days", 86400), ("h", 3600), ("min", 60)
+SPACES = ("TiB", MIB), ("GiB", 1024)
+FENCE, NOTHING = 0x0000000F, immediate(0, 10, 10, 1)
+# The most bytes of a proof file and of an ELF file, and of words on Linux.
+LIMITS = {"PROOF": 256 * MIB, "ELF": 64 * MIB, "WORDS": 2 * MIB}
+Family = collections.namedtuple("Family", "sizes counted make")
+# The bytes of code at the base, or the segments of the ELF file; the text; the words of the command; how many functions `f` the symbol table has.
+Made = collections.namedtuple("Made", "code text command symbols", defaults=(0,))
+FAMILIES = {}
+ENTRY, BEHIND = f"{BASE:#x}", f"{BASE + 4:#x}"
+CHECK, DECOMPILE = ["check", "ELF", "PROOF"], ["decompile", "ELF", "OUT", ENTRY]
+
+
+def family(first, counted="PROOF"):
+    """A family with its least size, and what its bytes are: those of PROOF, of ELF, of the WORDS, of OUT, or a NUMBER that grows as the cost may.
+    What makes it gives what `Made` has."""
+
+    def add(make):
+        FAMILIES[make.__name__.replace("_", "-")] = Family((first, 2 * first, 4 * first), counted, make)
+        return make
+
+    return add
+
+
+def text(*lines, code=words([FENCE]).hex(), registers="", memories=0):
+    """A text of one function at the entry."""
+    return "\n".join(["mcproof 1", "group f", f"regs {registers}".rstrip(), f"mems {memories}", f"code ({ENTRY} {code})", *lines, "end", ""])
+
+
+def states(rule, facts="", covered="all", memories=("", ""), behind=BEHIND):
+    """A line that states a triple from the entry on, without registers."""
+    before, after = (f"{pc} ; {memory}".strip() for pc, memory in zip((ENTRY, behind), memories))
+    return " ".join(f"{rule} facts {facts} pre ({before}) code {covered} post ({after})".split())
+
+
+def each(count, form, between=" "):
+    return between.join(form.format(i) for i in range(count))
+
+
+def tree(count, leaf):
+    """A body that branches into so many leaves."""
+    return [leaf] if count == 1 else ["if (eq 0x0 0x0)", *tree(count // 2, leaf), "else", *tree(count - count // 2, leaf)]
+
+
+LEAVES = [f"def {ENTRY} {BEHIND}", "leave 0 ;"]
+AGAIN = f"def {ENTRY}"
+TURN = words([jump(0)])
+STEP = states(f"axiom {ENTRY} {FENCE:#x} next")
+LOOP = states(f"axiom {ENTRY} {jump(0):#x} next", behind=ENTRY)
+
+
+# ---- `check`: leaves of bodies, and theorems cited for them
+
+
+@family(500)
+def leaves(n):
+    """n leaves behind n steps, each with a theorem."""
+    return TURN, text(AGAIN, *["let 0x0"] * n, *tree(n, "again ;"), LOOP, "loop 0" + " 0" * n, code=TURN.hex()), CHECK
+
+
+@family(500)
+def leaves_refused(n):
+    """The same, and no theorem is cited."""
+    return TURN, text(AGAIN, *["let 0x0"] * n, *tree(n, "again ;"), LOOP, "loop 0", code=TURN.hex()), CHECK
+
+
+@family(200)
+def facts_of_leaves(n):
+    """n leaves behind n steps, each with a theorem of n facts."""
+    steps, facts = each(n, "let {0:#x}", "\n"), each(n, "(is v{0} {0:#x})")
+    lines = [AGAIN, steps, *tree(n, "again ;"), LOOP, states("weaken 0", facts, behind=ENTRY), "loop 0" + " 1" * n]
+    return TURN, text(*lines, code=TURN.hex()), CHECK
+
+
+@family(4000)
+def code_of_leaves(n):
+    """n leaves, each with a theorem of code of 4n bytes."""
+    covered = f"({ENTRY} {TURN.hex()})"
+    lines = [AGAIN, *tree(n, "again ;"), states(f"axiom {ENTRY} {jump(0):#x} next", covered=covered, behind=ENTRY)]
+    return TURN * n, text(*lines, states("extend 0", behind=ENTRY), "loop 0" + " 1" * n, code=(TURN * n).hex()), CHECK
+
+
+# ---- `check`: facts
+
+
+@family(4000)
+def weakened_facts(n):
+    """A line of n facts, behind another of the same."""
+    facts = each(n, "(is v{0} 0x0)")
+    return words([FENCE]), text(*LEAVES, STEP, states("weaken 0", facts), states("weaken 1", facts)), CHECK
+
+
+@family(4000)
+def composed_facts(n):
+    """Two theorems of n facts each, one after the other."""
+    two = words([FENCE, FENCE])
+    covered = [f"({at} {words([FENCE]).hex()})" for at in (ENTRY, BEHIND)]
+    facts, more, end = each(n, "(is v{0} 0x0)"), each(n, "(is v{0} 0x1)"), f"{BASE + 8:#x}"
+
+    def second(rule, facts):
+        return states(rule, facts, covered[1], behind=end).replace(f"pre ({ENTRY}", f"pre ({BEHIND}")
+
+    lines = [f"def {ENTRY} {end}", "leave 0 ;", states(f"axiom {ENTRY} {FENCE:#x} next", covered=covered[0]), second(f"axiom {BEHIND} {FENCE:#x} next", "")]
+    lines += [states("weaken 0", facts, covered[0]), second("weaken 1", more), states("compose 2 3", f"{facts} {more}", behind=end)]
+    return two, text(*lines, code=two.hex()), CHECK
+
+
+@family(100)
+def discharged_facts(n):
+    """n facts, each of which follows from another by n equations."""
+    facts = " ".join(f"(so (eq (add v{i} 0x1) v{n + i}))" for i in range(n))
+    others = " ".join(f"(so (eq (add 0x0 0x1) v{n + i}))" for i in range(n))
+    equations = each(n, "(is v{0} 0x0)")
+    return words([FENCE]), text(*LEAVES, STEP, states("weaken 0", facts), states("discharge 1", f"{equations} {others}")), CHECK
+
+
+@family(4000)
+def swapped_terms(n):
+    """n terms that are swapped by n equations."""
+    old, new = each(n, "(st1 m0 v{0} v0)"), each(n, "(st1 m0 0x0 0x0)")
+    lines = [states("frame 0", memories=(old, old)), states("weaken 1", each(n, "(is v{0} 0x0)"), memories=(old, new))]
+    return words([FENCE]), text(*LEAVES, STEP, *lines), CHECK
+
+
+@family(8000)
+def instances(n):
+    """n terms for variables, in n facts."""
+    facts, pairs = " ".join([f"(is v{n - 1} 0x0)"] * n), each(n, "(v{0} v{0})")
+    return words([FENCE]), text(*LEAVES, STEP, states("weaken 0", facts), states(f"inst 1 {pairs}", facts)), CHECK
+
+
+# ---- `check`: code, theorems, groups
+
+
+@family(3000)
+def code_of_theorems(n):
+    """n theorems of a group's code of 4n bytes, all kept."""
+    first = states(f"axiom {ENTRY} {FENCE:#x} next", covered=f"({ENTRY} {words([FENCE]).hex()})")
+    return words([FENCE]), text(*LEAVES, first, *[states("extend 0")] * n, code=words([FENCE] * n).hex()), CHECK
+
+
+@family(2000)
+def code_of_lines(n):
+    """n compositions over a group's code of 4n bytes, each forgotten."""
+    first = states(f"axiom {ENTRY} {jump(0):#x} next", covered=f"({ENTRY} {TURN.hex()})", behind=ENTRY)
+    composed = [f"{states('compose 1 1', behind=ENTRY)}\nforget {i + 2}" for i in range(n)]
+    return TURN, text(AGAIN, "again ;", first, states("extend 0", behind=ENTRY), *composed, code=(TURN * n).hex()), CHECK
+
+
+@family(100_000)
+def theorems(n):
+    """n axioms, all kept."""
+    return words([FENCE]), text(*LEAVES, *[STEP] * n, "loop 0 0"), CHECK
+
+
+@family(40_000)
+def groups(n):
+    """n functions of one instruction."""
+    one = text(*LEAVES, STEP, "loop 0 0").partition("\n")[2].rpartition("end\n")[0]
+    return words([FENCE]), f"mcproof 1\n{one * n}end\n", CHECK
+
+
+@family(400_000)
+def steps(n):
+    """A body of n steps."""
+    return words([FENCE]), text(LEAVES[0], *["let 0x0"] * n, "leave 0 ;", STEP, "loop 0 0"), CHECK
+
+
+@family(8000)
+def deep_terms(n):
+    """n terms of the greatest depth."""
+    term = "(add " * 63 + "v0" + " v0)" * 63
+    return words([FENCE]), text(LEAVES[0], *[f"let {term}"] * n, "leave 0 v0 ;", registers="10"), CHECK
+
+
+@family(200_000)
+def ranges(n):
+    """n ranges of code."""
+    many = " ".join(f"({BASE + 8 * i:#x} 0f000000)" for i in range(n))
+    first = states(f"axiom {ENTRY} {FENCE:#x} next", covered=f"({ENTRY} 0f000000)")
+    return words([FENCE]), text(*LEAVES, first, states("extend 0")).replace(f"code ({ENTRY} 0f000000)\ndef", f"code {many}\ndef"), CHECK
+
+
+# ---- `eval`
+
+
+@family(50_000)
+def skipped_arm(n):
+    """A thousand turns past an arm of n side conditions."""
+    body = ["if (eq 0x0 0x1)", *["need (eq 0x0 0x0)"] * n, "again ;", "else", "again ;"]
+    return TURN, text(AGAIN, *body, code=TURN.hex()), ["eval", "PROOF", "f", "1000"]
+
+
+@family(25_000)
+def memories(n):
+    """n names for a memory of 4 KiB."""
+    lines = [LEAVES[0], *["letm m0"] * n, "leave 0 ; m0"]
+    return words([FENCE]), text(*lines, memories=1), ["eval", "PROOF", "f", "1", "mem=0x0:" + "00" * 4096]
+
+
+@family(1_000_000, "NUMBER")
+def calls(n):
+    """n turns in definitions each of which calls the one before it twice."""
+    call = "call {0} 1 ;\narm\n"
+    twice = [f"def {ENTRY} {BEHIND}\n{2 * call.format(i)}leave 0 ;" for i in range(40)]
+    return words([FENCE]), text(*LEAVES, *twice), ["eval", "PROOF", "f", str(n)]
+
+
+# ---- ELF files and words
+
+
+@family(400_000, "ELF")
+def symbols(n):
+    """n functions of one name."""
+    return words([RETURN]), "", ["decompile", "ELF", "OUT", "f"], n
+
+
+@family(1_000_000, "NUMBER")
+def segments(n):
+    """64 segments of n bytes of memory, none of the file."""
+    return [(BASE + n * i, b"", 0, n) for i in range(64)], "", ["run", "ELF", "0x0", "0x0", "0"]
+
+
+@family(1_000_000, "ELF")
+def segments_of_file(n):
+    """16 segments of n bytes of the file, from the last to the first."""
+    return [(BASE + n * i, bytes(n), n, n) for i in reversed(range(16))], "", ["run", "ELF", "0x0", "0x0", "0"]
+
+
+@family(10_000, "WORDS")
+def bytes_in_words(n):
+    """n words of one byte each, at falling addresses."""
+    return TURN, "", ["run", "ELF", ENTRY, ENTRY, "0", *(f"mem={16 * (n - i):#x}:00" for i in range(n))]
+
+
+@family(10_000, "WORDS")
+def names(n):
+    """n names, the first of which no function has."""
+    return TURN, "", ["decompile", "ELF", "OUT", *(f"n{i}" for i in range(n))]
+
+
+# ---- `decompile`: shapes of code, at most 1,001 instructions
+
+
+def shape(make):
+    """A family of code that is decompiled, by what gives its words but the return."""
+
+    def decompiled(n):
+        return words([*make(n), RETURN]), "", DECOMPILE
+
+    decompiled.__name__, decompiled.__doc__ = make.__name__, make.__doc__
+    return family(250, "OUT")(decompiled)
+
+
+@shape
+def straight(n):
+    """Additions on all registers."""
+    draw = random.Random(n)
+    return [arithmetic(0, 0, draw.randrange(32), draw.randrange(32), draw.randrange(32)) for _ in range(n)]
+
+
+@shape
+def branches(n):
+    """Each instruction branches to the return."""
+    return [branch(0, 10, 0, 4 * (n - i)) for i in range(n)]
+
+
+@shape
+def diamonds(n):
+    """Each second instruction is jumped over, or isn't."""
+    return [branch(0, 10, 0, 8), NOTHING] * (n // 2)
+
+
+@shape
+def nested_loops(n):
+    """Loops in each other."""
+    return [NOTHING] * (n // 2) + [branch(0, 10, 0, -4 * (2 * i + 1)) for i in range(n // 2)]
+
+
+@shape
+def loops_in_a_row(n):
+    """Loops behind each other."""
+    return [NOTHING, branch(1, 10, 0, -4)] * (n // 2)
+
+
+@shape
+def back_edges(n):
+    """One loop that many branches close."""
+    return [it for i in range(n // 2) for it in (NOTHING, branch(0, 10, 0, -4 * (2 * i + 1)))]
+
+
+@shape
+def drawn_branches(n):
+    """Branches forward, to drawn places."""
+    draw = random.Random(n)
+    return [branch(0, 10, 0, 4 * draw.randrange(1, n - i + 1)) if draw.random() < 0.7 else NOTHING for i in range(n)]
+
+
+# ---- measuring
+
+
+def write(folder, made):
+    """Writes the files of what was made, and gives their paths."""
+    paths = {name: os.path.join(folder, name) for name in ("ELF", "PROOF", "OUT")}
+    segments = made.code if isinstance(made.code, list) else [(BASE, made.code, len(made.code), len(made.code))]
+    write_elf(paths["ELF"], segments, [("f", BASE)] * made.symbols)
+    with open(paths["PROOF"], "w") as file:
+        file.write(made.text)
+    return paths
+
+
+def run(measurer, program, folder, counted, made, number):
+    """Runs the command twice on what was made. Gives the bytes, the seconds of the faster run, the peak, and the first line."""
+    paths = write(folder, made)
+    arguments = [paths.get(word, word) for word in made.command]
+    limits = SECONDS, MEMORY, os.path.join(folder, "told")
+    status, line, seconds, peak = min((measurer.submit(measure_work, program, arguments, *limits).result() for _ in range(2)), key=lambda told: told[2])
+    size = {"NUMBER": number, "WORDS": sum(len(word) + 1 for word in arguments)}.get(counted) or os.path.getsize(paths[counted])
+    return size, seconds, peak, line if status >= 0 else "killed"
+
+
+def power(sizes, costs):
+    """By which power of the size a cost grows from the second size to the third."""
+    return max(math.log(costs[2] / costs[1]) / math.log(sizes[2] / sizes[1]), 0)
+
+
+def at(limit, sizes, costs):
+    """A cost at a limit of the size, by the power that it was found to grow by, to a half."""
+    return costs[2] * (limit / sizes[2]) ** max(round(2 * power(sizes, costs)) / 2, 1)
+
+
+def told_in(cost, units, least):
+    """A cost in the greatest of the units of which it has two, or in the least one."""
+    unit, length = next(((unit, length) for unit, length in units if cost >= 2 * length), (least, 1))
+    return f"{cost / length:,.0f} {unit}"
+
+
+def main():
+    if len(sys.argv) < 2 or any(name not in FAMILIES for name in sys.argv[2:]):
+        sys.exit(f"{__doc__}\nThe families: {', '.join(FAMILIES)}")
+    program = os.path.abspath(sys.argv[1])
+    print(f"{'family':18} {'bytes':>32}   {'seconds':>20}   {'MiB':>17}   powers     at the limit; what it says")
+    # A process is born with the peak of its parent: the one that starts programs is small, since it begins before a text is made.
+    with tempfile.TemporaryDirectory() as folder, ProcessPoolExecutor(1) as measurer:
+        measurer.submit(os.getpid).result()
+        for name in sys.argv[2:] or FAMILIES:
+            sizes, counted, make = FAMILIES[name]
+            rows = [run(measurer, program, folder, counted, Made(*make(n)), n) for n in sizes]
+            tell(name, LIMITS.get(counted), *zip(*rows))
+
+
+def tell(name, limit, sizes, seconds, peaks, lines):
+    """Prints a family's line. What is too little to be measured has no power."""
+    powers = [power(sizes, costs) if costs[2] >= least else None for costs, least in ((seconds, 0.1), (peaks, 2 * SMALL))]
+    told = " ".join("   -" if it is None else f"{it:4.1f}" for it in powers)
+    ends = [told_in(at(limit, sizes, seconds), TIMES, "s")] if limit and powers[0] is not None else []
+    ends += [told_in(at(limit, sizes, peaks) / MIB, SPACES, "MiB")] if limit and powers[1] is not None else []
+    columns = [" ".join(form.format(it) for it in row) for form, row in (("{:10,}", sizes), ("{:6.2f}", seconds), ("{:5.0f}", [it / MIB for it in peaks]))]
+    print(f"{name:18} {'   '.join(columns)}   {told}   {', '.join(ends)}; {lines[2][:40]}", flush=True)
+
+
+if __name__ == "__main__":
+    main()
