@@ -11,7 +11,7 @@ ghost use Rattle.tailrec_lang.specs.inner.Walk.{FrameFits, IsLeft, ResultsFit, W
 use crate::args::Args;
 use crate::group::{Body, Exit, Group};
 use crate::scope::exits_of;
-use crate::walk::{Ending, Walk, go_through, needs_in_arms};
+use crate::walk::{Transfer, Walk, go_through, needs_in_arms};
 use rv_words::{List, NoMemory};
 use std::alloc::Global;
 
@@ -84,11 +84,11 @@ pub fn eval(
             stop,
         } = place.walk;
         match stop {
-            Ending::Again(args) => {
+            Transfer::Again(args) => {
                 current = place.def;
                 variables = args;
             }
-            Ending::Call(callee, args, arms) => {
+            Transfer::Call(callee, args, arms) => {
                 waiting.push(Frame {
                     def: place.def,
                     callee,
@@ -99,8 +99,8 @@ pub fn eval(
                 current = callee;
                 variables = args;
             }
-            Ending::Left(exit, results) => return done(alloc, g, def, exit, results, left),
-            Ending::False => {
+            Transfer::Left(exit, results) => return done(alloc, g, def, exit, results, left),
+            Transfer::False => {
                 let def = place.def;
                 return Ok(Outcome::SideFalse { def, ordinal });
             }
@@ -140,13 +140,13 @@ fn return_through<'a>(
             stop,
         } = walk;
         match stop {
-            Ending::Left(exit, results) => match waiting.pop() {
+            Transfer::Left(exit, results) => match waiting.pop() {
                 Some(frame) => {
                     def = frame.def;
                     walk = resume(alloc, frame, exit, results)?;
                 }
                 None => {
-                    let stop = Ending::Left(exit, results);
+                    let stop = Transfer::Left(exit, results);
                     return Ok(Position {
                         def,
                         walk: Walk {

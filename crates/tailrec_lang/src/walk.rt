@@ -15,7 +15,7 @@ use word_terms::{memory_of, truth, value};
 
 /// Where a body gives control on.
 #[derive(Drop)]
-pub enum Ending<'a> {
+pub enum Transfer<'a> {
     /// It leaves by an exit, with these results.
     Left(u32, Args),
     /// It enters its definition again.
@@ -31,7 +31,7 @@ pub enum Ending<'a> {
 pub struct Walk<'a> {
     pub variables: Args,
     pub ordinal: u64,
-    pub stop: Ending<'a>,
+    pub stop: Transfer<'a>,
 }
 
 /// Goes through a body from these variables on, where `ordinal` Needs of its definition stand before it.
@@ -52,7 +52,7 @@ pub fn go_through(
     let mut ordinal = ordinal;
     let steps = body.steps.as_slice();
     if !take_steps(alloc, steps, &mut variables, &mut ordinal)? {
-        let stop = Ending::False;
+        let stop = Transfer::False;
         return Ok(Walk {
             variables,
             ordinal,
@@ -69,7 +69,7 @@ pub fn go_through(
         }
         End::Call(def, values, arms) => {
             let args = values_of(alloc, values, &variables)?;
-            let stop = Ending::Call(*def, args, arms.as_slice());
+            let stop = Transfer::Call(*def, args, arms.as_slice());
             Ok(Walk {
                 variables,
                 ordinal,
@@ -78,7 +78,7 @@ pub fn go_through(
         }
         End::Again(values) => {
             let args = values_of(alloc, values, &variables)?;
-            let stop = Ending::Again(args);
+            let stop = Transfer::Again(args);
             Ok(Walk {
                 variables,
                 ordinal,
@@ -87,7 +87,7 @@ pub fn go_through(
         }
         End::Leave(exit, values) => {
             let results = values_of(alloc, values, &variables)?;
-            let stop = Ending::Left(*exit, results);
+            let stop = Transfer::Left(*exit, results);
             Ok(Walk {
                 variables,
                 ordinal,

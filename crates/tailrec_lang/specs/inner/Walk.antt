@@ -2,8 +2,8 @@
 use Rattle.std.specs.Prelude.{◌≡◌, ◌+◌, ◌^◌, ◌<◌, ℕ, Option, Some, None, List, [], ◌∷◌, length, slice_get}
 use Rattle.tailrec_lang.specs.declared.group.Exit.{Exit}
 use Rattle.tailrec_lang.specs.declared.args.Args.{Args}
-use Rattle.tailrec_lang.specs.declared.walk.Ending.{Ending}
-use Rattle.tailrec_lang.specs.declared.walk.Ending.TheVariants as stop
+use Rattle.tailrec_lang.specs.declared.walk.Transfer.{Transfer}
+use Rattle.tailrec_lang.specs.declared.walk.Transfer.TheVariants as stop
 use Rattle.tailrec_lang.specs.declared.walk.Walk.{Walk}
 use Rattle.tailrec_lang.specs.declared.evaluator.Frame.{Frame}
 use Rattle.tailrec_lang.specs.Tree.{StepTree, GroupTree, exits_at}
@@ -17,7 +17,7 @@ steps_need [] = 0
 steps_need (s ∷ ss) = step_needs s + steps_need ss
 
 -- how a body of definition d ends from where it gives control on
-abbrev pub stop_ending : Meaning → ℕ → Ending → Walk → ℕ → Ending
+abbrev pub stop_ending : Meaning → ℕ → Transfer → Walk → ℕ → Ending
 stop_ending call d (stop.Left exit x) w left = Exited exit (arguments x) left
 stop_ending call d (stop.Again x) w left = call d (arguments x) left
 stop_ending call d (stop.Call def x arms) w left =
@@ -43,7 +43,7 @@ ResultsFit g None x = ⊥
 ResultsFit g (Some exit) x = (length x.words ≡ exit_words g exit) × (length x.mems ≡ g.mems)
 
 -- what is given on fits the group
-abbrev pub StopFits : GroupTree → ℕ → Ending → Walk → Type 0
+abbrev pub StopFits : GroupTree → ℕ → Transfer → Walk → Type 0
 StopFits g d (stop.Left exit x) w = ResultsFit g (slice_get (exits_at g d) exit) x
 StopFits g d (stop.Again x) w = ArgsFit g x
 StopFits g d (stop.Call def x arms) w =
@@ -55,7 +55,7 @@ abbrev pub WalkFits : GroupTree → ℕ → Walk → Type 0
 WalkFits g d w = StopFits g d w.stop w
 
 -- the body leaves its definition
-abbrev pub IsLeaving : Ending → Type 0
+abbrev pub IsLeaving : Transfer → Type 0
 IsLeaving (stop.Left exit x) = Unit {0}
 IsLeaving (stop.Again x) = ⊥
 IsLeaving (stop.Call def x arms) = ⊥
