@@ -18,8 +18,8 @@ use Rattle.group_text.specs.declared.read_error.TextFault.{TextFault}
 use Rattle.group_text.specs.declared.read_error.TextFault.TheVariants.{Bad, NoMemory}
 use Rattle.proof_text.proofs.TextItems.{items-opened, items-added}
 use Rattle.proof_text.proofs.Fronts.{fronts, front-read, few-read, given-read}
-use Rattle.mcdec_commands.specs.declared.answer_eval.Refusal.{Refusal}
-use Rattle.mcdec_commands.specs.declared.answer_eval.Refusal.TheVariants as refusal
+use Rattle.mcdec_commands.specs.declared.eval.Refusal.{Refusal}
+use Rattle.mcdec_commands.specs.declared.eval.Refusal.TheVariants as refusal
 use Rattle.mcdec_commands.specs.EvalAnswer.{AreWellFormed, first_named}
 use Rattle.mcdec_commands.specs.inner.Search.{HasPassed, IsBadText, LineIs, LinesArePassed, Passing, NextIs, Finds, FoundSo, Searched}
 

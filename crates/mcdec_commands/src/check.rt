@@ -8,7 +8,7 @@ ghost use Rattle.mcdec_words.specs.CommandReading.{IsReadCheck};
 ghost use Rattle.mcdec_commands.specs.inner.Checking.{ImageGives, answer_to};
 ghost use Rattle.mcdec_commands.specs.RunAnswer.{IsLoaded};
 
-use crate::answer_eval::PROOF_LIMIT;
+use crate::eval::PROOF_LIMIT;
 use crate::run::ELF_LIMIT;
 use checker::{Verdict, check_text};
 use elf_image::{ElfFault, Image, read};

@@ -10,9 +10,9 @@ ghost use Rattle.mcdec_answers.specs.Printed.{IsDelivered, IsPrinted, status};
 ghost use Rattle.mcdec_commands.specs.inner.Decompiling.{LeavesBy};
 ghost use Rattle.mcdec_answers.specs.declared.answer.Answer.{Answer as AnswerOf};
 
-use crate::answer_eval::answer_eval;
 use crate::check::answer_check;
 use crate::decompile::answer_decompile;
+use crate::eval::answer_eval;
 use crate::run::answer_run;
 use crate::selftest::answer_selftest;
 use mc_shelf::{Shelf, Sink};

@@ -13,10 +13,10 @@
 //! `check` makes the functions right of the ELF file; `written` and `kept`, what names hold afterwards.
 #![tactic(auto)]
 
-mod answer_eval;
 mod check;
 mod commands;
 mod decompile;
+mod eval;
 mod memory;
 mod output;
 mod run;

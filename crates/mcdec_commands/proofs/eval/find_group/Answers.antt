@@ -2,7 +2,7 @@ use Rattle.std.proofs.Common.{arith, subst, Option, Ok}
 use Rattle.tailrec_lang.specs.declared.group.Group.{Group}
 use Rattle.mcdec_commands.specs.inner.Search.{NextIs}
 use Rattle.mcdec_commands.proofs.Groups.{stopped, count-fits, more, found-exit}
-use Rattle.mcdec_commands.proofs.answer_eval.find_group.Goals as goal
+use Rattle.mcdec_commands.proofs.eval.find_group.Goals as goal
 
 pub returns-in_err-g : goal.returns-in_err-g
 returns-in_err-g c =

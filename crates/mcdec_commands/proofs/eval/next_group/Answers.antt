@@ -6,7 +6,7 @@ use Rattle.std.proofs.lemmas.List.{length-map}
 use Rattle.tailrec_lang.specs.Tree.{def_tree, group_tree}
 use Rattle.mcdec_commands.specs.inner.Search.{IsBadText}
 use Rattle.mcdec_commands.proofs.Groups.{group-refused}
-use Rattle.mcdec_commands.proofs.answer_eval.next_group.Goals as goal
+use Rattle.mcdec_commands.proofs.eval.next_group.Goals as goal
 
 pub well_formed-requires : goal.well_formed-requires
 well_formed-requires c =

@@ -1,5 +1,5 @@
 use Rattle.mcdec_commands.proofs.Answers.{found-fits}
-use Rattle.mcdec_commands.proofs.answer_eval.evaluate_text.Goals as goal
+use Rattle.mcdec_commands.proofs.eval.evaluate_text.Goals as goal
 
 pub evaluate_group-requires-clause-group : goal.evaluate_group-requires-clause-group
 evaluate_group-requires-clause-group c = (found-fits c.args.text.now c.args.e.now.name.now c.in-Ok.g c.in-Ok.ensures).0

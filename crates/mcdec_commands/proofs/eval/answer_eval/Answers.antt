@@ -2,7 +2,7 @@ use Rattle.std.proofs.Common.{rules, length, ◌<◌, subst}
 use Rattle.mcdec_words.specs.Command.{Eval}
 use Rattle.mcdec_commands.specs.EvalAnswer.{proof_limit, EvalGives}
 use Rattle.mcdec_commands.proofs.Answers.{held-with, held-such, proof-told, one-file}
-use Rattle.mcdec_commands.proofs.answer_eval.answer_eval.Goals as goal
+use Rattle.mcdec_commands.proofs.eval.answer_eval.Goals as goal
 
 pub returns-in-Err-Fault-clause-gives : goal.returns-in-Err-Fault-clause-gives
 returns-in-Err-Fault-clause-gives g c ws is = (Eval c.args.e.now.proof.now c.args.e.now.name.now c.args.e.now.turns is.0, is.1, one-file c.args.e.now.proof.now, c.read_file.ensures.cause (search rules))

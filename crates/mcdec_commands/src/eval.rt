@@ -24,7 +24,7 @@ use tailrec_lang::{Args, BadDef, Group, Outcome, eval, well_formed};
 /// The most bytes of a proof file that are read.
 pub const PROOF_LIMIT: u64 = 268_435_456;
 
-/// Why a text has no function to answer_eval.
+/// Why a text has no function to evaluate.
 #[derive(Clone, Copy, Debug, PartialEq, Eq)]
 pub enum Refusal {
     /// It isn't a proof file, from this line on.

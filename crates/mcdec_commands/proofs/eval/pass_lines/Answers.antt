@@ -1,6 +1,6 @@
 use Rattle.tailrec_lang.specs.Tree.{group_tree}
 use Rattle.mcdec_commands.proofs.Groups.{lines-end, lines-stop, no-line, passed-exit}
-use Rattle.mcdec_commands.proofs.answer_eval.pass_lines.Goals as goal
+use Rattle.mcdec_commands.proofs.eval.pass_lines.Goals as goal
 
 pub returns-in_err-next_line : goal.returns-in_err-next_line
 returns-in_err-next_line c =

@@ -1,6 +1,6 @@
 use Rattle.std.proofs.Common.{length}
 use Rattle.mcdec_commands.specs.inner.Search.{Searched}
-use Rattle.mcdec_commands.proofs.answer_eval.find_group.Given as goal
+use Rattle.mcdec_commands.proofs.eval.find_group.Given as goal
 
 abbrev pub invariant-loop-found : goal.invariant-loop-found
 invariant-loop-found l = Searched l.text l.name l.reader l.count l.found

@@ -7,7 +7,7 @@ use Rattle.mcdec_commands.specs.EvalAnswer.{ranges_in}
 use Rattle.mcdec_commands.specs.Memory.{no_bytes, placed}
 use Rattle.std.proofs.Common.{replicate}
 use Rattle.mcdec_commands.proofs.Answers.{last-def, listed-outcome, evaluated}
-use Rattle.mcdec_commands.proofs.answer_eval.evaluate_group.Goals as goal
+use Rattle.mcdec_commands.proofs.eval.evaluate_group.Goals as goal
 
 pub returns-in_ok-memory-in-Done : goal.returns-in_ok-memory-in-Done
 returns-in_ok-memory-in-Done c args h =
