@@ -1,0 +1,4 @@
+pub mod Bodies
+pub mod SameBodies
+pub mod Ranges
+pub mod Ranged

@@ -1,0 +1,5 @@
+use Rattle.std.proofs.Common.{ℕ}
+use Rattle.smt_operations.proofs.accesses.+address.Given as goal
+
+abbrev pub decreases-address : goal.decreases-address
+decreases-address l = l.k

@@ -1,0 +1,5 @@
+use Rattle.std.proofs.Common.{ℕ}
+use Rattle.smt_operations.proofs.accesses.+loaded_bytes.Given as goal
+
+abbrev pub decreases-loaded_bytes : goal.decreases-loaded_bytes
+decreases-loaded_bytes l = l.n

@@ -1,0 +1,5 @@
+use Rattle.std.proofs.Common.{ℕ}
+use Rattle.smt_operations.proofs.accesses.+shifted.Given as goal
+
+abbrev pub decreases-shifted : goal.decreases-shifted
+decreases-shifted l = l.k

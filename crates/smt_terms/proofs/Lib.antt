@@ -1,0 +1,4 @@
+pub mod Unused
+pub mod Numerals
+pub mod Occurrences
+pub mod Printing

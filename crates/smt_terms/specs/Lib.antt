@@ -1,0 +1,6 @@
+pub mod Expression
+pub mod Operators
+pub mod Meaning
+pub mod Sorts
+pub mod Views
+pub mod Text

@@ -1,0 +1,9 @@
+pub mod WordLaws
+pub mod LawLemmas
+pub mod Fronts
+pub mod Given
+pub mod Places
+pub mod Weights
+pub mod OneTerm
+pub mod SimpleLemmas
+pub mod Noted

@@ -1,0 +1,5 @@
+pub mod Laws
+pub mod Places
+pub mod Values
+pub mod Simple
+pub mod inner
