@@ -1,0 +1,10 @@
+pub mod Bodies
+pub mod Evaluation
+pub mod Steps
+pub mod OneResult
+pub mod Parts
+pub mod Puts
+pub mod StepLemmas
+pub mod PartSteps
+pub mod SimpleBodies
+pub mod Ends

@@ -1,0 +1,4 @@
+pub mod Rewriting
+pub mod Evaluation
+pub mod Certs
+pub mod inner

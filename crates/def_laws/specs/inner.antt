@@ -1,0 +1,5 @@
+pub mod Alike
+pub mod Parts
+pub mod Puts
+pub mod Stops
+pub mod Simplified

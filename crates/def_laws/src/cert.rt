@@ -1,0 +1,13 @@
+//! Certificates of rewriting.
+
+use rv_words::List;
+use tailrec_lang::{Def, Group};
+use term_laws::Rw;
+
+/// Steps of rewriting, with the group from which they start and the definitions that they give.
+#[derive(Debug, Drop)]
+pub struct Cert {
+    pub old: Group,
+    pub steps: List<Rw>,
+    pub result: List<Def>,
+}

@@ -1,0 +1,16 @@
+//! Certified rewriting of functions by laws of words and conditions.
+#![tactic(auto)]
+
+mod cert;
+mod find;
+mod judge;
+mod laws;
+mod put;
+mod rewrite;
+mod simplification;
+
+pub use cert::Cert;
+pub use judge::{CertFault, judge_cert};
+pub use laws::{law_of_one_result, law_of_rewriting};
+pub use simplification::simplify;
+pub use term_laws::Rw;
