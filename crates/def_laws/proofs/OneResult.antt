@@ -15,8 +15,8 @@ one_step r ds es fs a b =
     let there : term_at a.def.body r.term ≡ Some b.old = (λ j. term_at (sym def j).body r.term) ∙ b.there in
     let old : b.old ≡ a.old = (let p = a.there in cc) in
     let new : a.new ≡ b.new =
-        one_rewritten a.law (function_number r.law a.law a.numbered) r.place a.old a.new b.new a.rewrites
-        (subst (λ l. Rewrites l r.place a.old b.new) law (subst (λ o. Rewrites b.law r.place o b.new) old b.rewrites)) in
+    one_rewritten a.law (function_number r.law a.law a.numbered) r.place a.old a.new b.new a.rewrites
+    (subst (λ l. Rewrites l r.place a.old b.new) law (subst (λ o. Rewrites b.law r.place o b.new) old b.rewrites)) in
     a.stated ∙ (λ j. slice_set ds r.def (with_def_term (sym def j) r.term (new j))) ∙ sym b.stated
 
 pub one_result : (rs : List Rw) (ds es fs : List DefTree) → AreRewritingSteps rs ds es → AreRewritingSteps rs ds fs → es ≡ fs

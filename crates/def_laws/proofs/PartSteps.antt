@@ -515,7 +515,7 @@ pub arms_more : {X : Type 0} (f : X → BodyTree) (xs made : List X) (i : ℕ) (
 arms_more {X = X} f xs made i x y l m n h is a b =
     let rest = map f (drop (suc i) xs) in
     let before : ArePassed arm_parts (arm_term_count (arms_of (map f made))) l m (arms_of (map f xs)) (arms_of (map f made ++ f x ∷ rest)) =
-        subst (λ v. ArePassed arm_parts (arm_term_count (arms_of (map f made))) l m (arms_of (map f xs)) (arms_of (map f made ++ v))) (next-item f xs i x h is) a in
+    subst (λ v. ArePassed arm_parts (arm_term_count (arms_of (map f made))) l m (arms_of (map f xs)) (arms_of (map f made ++ v))) (next-item f xs i x h is) a in
     let size = count_kept m.term m n (f x) (f y) b.made in
     let all : arm_term_count (arms_of (map f (made ++ y ∷ []))) ≡ arm_term_count (arms_of (map f made)) + count (f y) = ap (λ bs. arm_term_count (arms_of bs)) (mapped-more made) ∙ arms-more-count (map f made) (f y) in
     record {

@@ -83,8 +83,8 @@ value_put_word v w k x h a b =
     let n = length-map v.words word_tree in
     (λ j. record { words = a j; mems = b j })
     ∙ sym (below k (length (map word_tree v.words))
-        (words_put v x)
-        (mems_put v x) (omega (arith, h, n)))
+    (words_put v x)
+    (mems_put v x) (omega (arith, h, n)))
 
 pub value_put_mem : (v w : Values) (k i : ℕ) (x : Term) → k ≡ length v.words + i → map word_tree w.words ≡ map word_tree v.words → map mem_tree w.mems ≡ with_mem_term (map mem_tree v.mems) i x
     → values_tree w ≡ with_value (values_tree v) k x
@@ -92,8 +92,8 @@ value_put_mem v w k i x h a b =
     let n = length-map v.words word_tree in
     (λ j. record { words = a j; mems = b j })
     ∙ sym (beyond k (length (map word_tree v.words)) i
-        (words_put v x)
-        (mems_put v x) (omega (arith, h, n)))
+    (words_put v x)
+    (mems_put v x) (omega (arith, h, n)))
 
 -- ---- steps and what stands after them
 

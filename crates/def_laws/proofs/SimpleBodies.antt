@@ -149,12 +149,12 @@ defs_more f xs made i x y l m n h is size d1 d2 t p1 p2 s a b =
     let before : AreRewritingSteps l.steps (map f xs) (map f made ++ f x ∷ rest) = subst (λ v. AreRewritingSteps l.steps (map f xs) (map f made ++ v)) (next-item f xs i x h is) a in
     let number : m.def ≡ length (map f made) = d2 ∙ d1 ∙ sym size ∙ sym (length-map made f) in
     let are : ArePartSteps body_parts m.def 0 [] b.made.made (f x).body (f y).body =
-        subst (λ o. ArePartSteps body_parts m.def o [] b.made.made (f x).body (f y).body) t
-        (subst (λ p. ArePartSteps body_parts m.def m.term p b.made.made (f x).body (f y).body) (p2 ∙ p1) b.made.are) in
+    subst (λ o. ArePartSteps body_parts m.def o [] b.made.made (f x).body (f y).body) t
+    (subst (λ p. ArePartSteps body_parts m.def m.term p b.made.made (f x).body (f y).body) (p2 ∙ p1) b.made.are) in
     let now : AreRewritingSteps b.made.made (map f made ++ f x ∷ rest) (map f made ++ record { entry = (f x).entry; exits = (f x).exits; body = (f y).body } ∷ rest) =
-        all-steps (map f made) rest (f x) m.def b.made.made (f x).body (f y).body number are in
+    all-steps (map f made) rest (f x) m.def b.made.made (f x).body (f y).body number are in
     let same : map f made ++ record { entry = (f x).entry; exits = (f x).exits; body = (f y).body } ∷ rest ≡ map f made ++ f y ∷ rest =
-        (λ j. map f made ++ record { entry = sym b.entry j; exits = sym b.exits j; body = (f y).body } ∷ rest) in
+    (λ j. map f made ++ record { entry = sym b.entry j; exits = sym b.exits j; body = (f y).body } ∷ rest) in
     subst (λ rs. AreRewritingSteps rs (map f xs) (map f (made ++ y ∷ []) ++ map f (drop (i + 1) xs))) (sym (b.made.steps ∙ ap (λ ss. ss ++ b.made.made) s))
     (subst (AreRewritingSteps (l.steps ++ b.made.made) (map f xs)) (same ∙ one_over f made xs y i)
     (steps-then l.steps b.made.made (map f xs) _ _ before now))

@@ -7,8 +7,8 @@ ghost use Rattle.tailrec_lang.specs.inner.Tree.{arm_trees, end_tree};
 ghost use Rattle.def_laws.specs.Rewriting.{with_arm_term, with_cond, with_mem_term, with_step_term, with_term, with_value, with_word_term};
 ghost use Rattle.def_laws.specs.inner.Puts.{new_term, steps_with};
 
-use group_terms::{copy_arms, copy_body, copy_end, copy_step, copy_steps};
 use crate::find::{arm_of, past_body, past_terms, past_values};
+use group_terms::{copy_arms, copy_body, copy_end, copy_step, copy_steps};
 use rv_words::{List, NoMemory};
 use std::alloc::Global;
 use tailrec_lang::{Body, End, Step, Values, copy_values};

@@ -10,13 +10,13 @@ ghost use Rattle.def_laws.specs.inner.Puts.{new_term};
 ghost use Rattle.term_laws.specs.inner.Shapes.{law_of};
 ghost use Rattle.def_laws.specs.inner.Stops.{StopsAt};
 
-use group_terms::copy_defs;
 use crate::find::{TermRef, find_term};
-use term_laws::{Rw, Shape, rewrite_cond, rewrite_mem, rewrite_word, shape_of};
 use crate::put::{NewTerm, put_body, replace};
+use group_terms::copy_defs;
 use rv_words::{List, NoMemory};
 use std::alloc::Global;
 use tailrec_lang::Def;
+use term_laws::{Rw, Shape, rewrite_cond, rewrite_mem, rewrite_word, shape_of};
 
 /// Why steps don't rewrite definitions.
 #[derive(Clone, Copy, Debug)]

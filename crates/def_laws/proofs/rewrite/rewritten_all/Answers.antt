@@ -18,5 +18,5 @@ loop-i-preserved c =
     stepped c.args.steps.now c.loop-i.i c.index-steps-i.result (map def_tree c.args.defs.now) (map def_tree c.loop-i.now) (map def_tree c.replace.new.list)
     c.loop-i-test.true c.index-steps-i.is c.loop-i.invariant
     (accepted c.in_ok-d.field-0 c.index-steps-i.result (get_or c.args.steps.now c.loop-i.i c.index-steps-i-in-Some.result) c.as_slice.result.now c.loop-i.now c.replace.new.list c.in-Some.d c.as_slice.ensures c.in-Some.is
-      (sym c.index-steps-i-in-Some.is ∙ same_item c.args.steps.now c.loop-i.i c.index-steps-i.result c.index-steps-i-in-Some.result c.loop-i-test.true c.index-steps-i.is c.index-steps-i-in-Some.is)
-      c.replace.ensures c.in_ok-d.ensures.some)
+    (sym c.index-steps-i-in-Some.is ∙ same_item c.args.steps.now c.loop-i.i c.index-steps-i.result c.index-steps-i-in-Some.result c.loop-i-test.true c.index-steps-i.is c.index-steps-i-in-Some.is)
+    c.replace.ensures c.in_ok-d.ensures.some)
