@@ -4,7 +4,7 @@
 Without PROGRAM, what needs no program: each example's text is shown as the file beside it says, as a picture too, and one function of it alone; a text
 that is no proof file is refused; the symbols of the ELF files are found; links of the documents, and paths that they name, lead somewhere; each crate of
 crates.txt stands in README.md, in its layer, and in the tables of ARCHITECTURE.md and PROMISES.md. With a built program also what it says of the examples: each is
-decompiled to the text that stands there, and functions.py tells which functions are refused.
+decompiled to the text that stands there, the lines are those of examples/README.md, and functions.py tells which functions are refused.
 """
 import os
 import re
@@ -80,6 +80,7 @@ def try_program(program, folder):
         expect(f"functions.py {name}", status == 0 and "1 decompiled, 0 refused" in lines and f"{out}: accepted 1 " in lines)
         with open(out, "rb") as file:
             expect(f"the text of {name}", file.read() == read(name, f"{name}.proof"))
+    try_answers(program, folder)
     elf = os.path.join(EXAMPLES, "refused", "lcm.elf")
     expect("functions.py lcm", say("functions.py", program, elf) == (0, LCM, ""))
     link = os.path.join(folder, "link")
@@ -89,6 +90,20 @@ def try_program(program, folder):
     expect("functions.py into the ELF file", status == 1 and "nothing was done" in told and read("refused", "lcm.elf") == before)
     status, _, told = say("functions.py", program, os.path.join(EXAMPLES, "gcd", "gcd.c"))
     expect("functions.py on no ELF file", status == 1 and "unreadable elf not-elf" in told)
+
+
+def try_answers(program, folder):
+    """What the page of the examples says that `decompile` and `check` say."""
+    told = re.findall(r"^\| `(\w+)` \| `(.*?)` \|(?: `(.*?)`)? \|$", document("examples/README.md"), re.M)
+    expect("the page of the examples has a row for each", {row[0] for row in told} == {*SHOWN, "refused"})
+    for example, decompiled, accepted in told:
+        name = decompiled.split()[1]
+        elf, proof = os.path.join(EXAMPLES, example, f"{name}.elf"), os.path.join(EXAMPLES, example, f"{name}.proof")
+        out = os.path.join(folder, "answers")
+        commands = [(["decompile", elf, out, name], decompiled)] + ([(["check", elf, proof], accepted)] if accepted else [])
+        for words, line in commands:
+            done = subprocess.run([program, *words], capture_output=True, text=True)
+            expect(f"{words[0]} {name}", done.stdout == line + "\n")
 
 
 def layers():

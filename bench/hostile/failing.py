@@ -94,8 +94,8 @@ class Case:
 
 
 def try_case(case, pool):
-    """Has each call fail, prints how the runs end, and gives what went wrong."""
-    wrong = []
+    """Has each call fail, and prints how the runs end. Gives how many there were and what went wrong."""
+    runs, wrong = 0, []
     name = " ".join(case.words[:3])
     for kind in KINDS:
         places = range(1, case.whole.counts[kind] + 1)
@@ -103,15 +103,16 @@ def try_case(case, pool):
             ends = list(pool.map(lambda n: case.run(kind, way, n, LAST if way == "on" else n), places))
             told = collections.Counter("as without" if case.is_as_without(end) else f"status {end.status}" for end in ends)
             print(f"{name:28} {kind:13} {way:5} {len(places):5} calls  " + ", ".join(f"{told[end]} {end}" for end in sorted(told)), flush=True)
+            runs += len(ends)
             wrong += [f"{name}: {kind} {n} {way}: {end[:4]!r:.400}" for n, end in zip(places, ends) if not case.is_right(kind, way, end)]
-    return wrong
+    return runs, wrong
 
 
 def main():
     if len(sys.argv) not in (2, 3):
         sys.exit(__doc__)
     program = os.path.abspath(sys.argv[1])
-    wrong = []
+    runs, wrong = 0, []
     with tempfile.TemporaryDirectory() as folder, ThreadPoolExecutor(int((sys.argv + [os.cpu_count()])[2])) as pool:
         library, files = os.path.join(folder, "failing.so"), os.path.join(folder, "files")
         subprocess.run(["cc", "-O2", "-shared", "-fPIC", "-o", library, os.path.join(HERE, "failing.c")], check=True)
@@ -125,13 +126,14 @@ def main():
             case = Case(program, library, files, words)
             if not case.whole.counts.get("memory"):
                 sys.exit("the program asks the C library for no memory: it can't be told that there is none")
-            wrong += try_case(case, pool)
+            count, found = try_case(case, pool)
+            runs, wrong = runs + count, wrong + found
         after = {}
         for name in os.listdir(files):
             with open(os.path.join(files, name), "rb") as file:
                 after[name] = file.read()
         wrong += ["a file came, went or changed"] * (after != before)
-    print(f"{len(wrong)} runs ended otherwise")
+    print(f"{runs:,} runs, {len(wrong)} otherwise")
     for why in wrong:
         print(why)
     return 1 if wrong else 0
