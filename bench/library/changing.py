@@ -108,16 +108,51 @@ def change_line(draw, text):
     return b"\n".join(lines)
 
 
-def add_need(draw, text):
-    """A side condition more in a body, of terms of the text."""
-    lines = text.split(b"\n")
-    bodies = [i for i, line in enumerate(lines) if re.match(rb"let |letm |need |if |call |again|leave ", line)]
-    if not bodies:
-        return text
-    words = [it[0] for it in re.finditer(rb"v\d+|0x[0-9a-f]+", text)]
+def condition(draw, text):
+    """A comparison of two words of the text, or of one with itself."""
+    words = re.findall(rb"v\d+|0x[0-9a-f]+", text)
     first, second = draw.choice(words), draw.choice(words)
-    need = b"need (%b %b %b)" % (draw.choice((b"eq", b"ne", b"lt", b"geu")), first, draw.choice((first, second)))
-    lines.insert(draw.choice(bodies), need)
+    return b"(%b %b %b)" % (draw.choice((b"eq", b"ne", b"lt", b"geu")), first, draw.choice((first, second)))
+
+
+def places(lines, *words):
+    """Where the lines stand that begin with one of these words."""
+    return [place for place, line in enumerate(lines) if line.split(b" ", 1)[0] in words]
+
+
+def add_need(draw, text):
+    """A side condition more in a body."""
+    lines = text.split(b"\n")
+    bodies = places(lines, b"let", b"letm", b"need", b"if", b"call", b"again", b"leave")
+    if bodies:
+        lines.insert(draw.choice(bodies), b"need " + condition(draw, text))
+    return b"\n".join(lines)
+
+
+def add_value(draw, text):
+    """A value more right before a body's end, where no number of a variable changes by it."""
+    lines = text.split(b"\n")
+    ends = places(lines, b"again", b"leave")
+    words = [term[0] for term in TERMS.finditer(text) if re.match(rb"\((?:%b) " % WORDS[0], term[0])]
+    if ends:
+        lines.insert(draw.choice(ends), b"let " + draw.choice(words or [b"0x0"]))
+    return b"\n".join(lines)
+
+
+def fork_end(draw, text):
+    """The end of a body stands twice, in both arms of a branch, and its theorem is cited twice."""
+    lines = text.split(b"\n")
+    ends = places(lines, b"again", b"leave")
+    if not ends:
+        return text
+    end = draw.choice(ends)
+    before = places(lines[:end], b"def")
+    own = len(places(lines[before[-1] : end], b"again", b"leave")) if before else 0
+    for place in places(lines, b"loop"):
+        words = lines[place].split(b" ")
+        if words[1:2] == [b"%d" % (len(before) - 1)] and own + 2 < len(words):
+            lines[place] = b" ".join(words[: own + 3] + words[own + 2 :])
+    lines[end : end + 1] = [b"if " + condition(draw, text), lines[end], b"else", lines[end]]
     return b"\n".join(lines)
 
 
@@ -141,7 +176,9 @@ TEXT_CHANGES = (
     (swap_atoms, 3),
     (change_term, 4),
     (change_line, 4),
-    (add_need, 3),
+    (add_need, 2),
+    (add_value, 2),
+    (fork_end, 3),
     (add_line_at_end, 2),
     (add_group, 1),
 )
