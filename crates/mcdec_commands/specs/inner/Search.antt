@@ -10,8 +10,8 @@ use Rattle.proof_text.specs.Proofs.{bare, groups_of, text_of_proofs, texts_of_pr
 use Rattle.proof_text.specs.FirstProofs.{Progress, HasGiven, MayOpen, ProofEnds, AreRead, with_line}
 use Rattle.proof_text.specs.Answers.{NoItem}
 use Rattle.proof_text.specs.declared.line.Line.{Line}
-use Rattle.mcdec_commands.specs.declared.evaluate.Refusal.{Refusal}
-use Rattle.mcdec_commands.specs.declared.evaluate.Refusal.TheVariants as refusal
+use Rattle.mcdec_commands.specs.declared.eval.Refusal.{Refusal}
+use Rattle.mcdec_commands.specs.declared.eval.Refusal.TheVariants as refusal
 use Rattle.mcdec_answers.specs.declared.answer.EvalAnswer.{EvalAnswer}
 use Rattle.mcdec_answers.specs.declared.answer.EvalAnswer.TheVariants as answer
 use Rattle.mcdec_words.specs.Command.{Arg}
