@@ -1,0 +1,6 @@
+pub mod PlaceLaws
+pub mod CertLaws
+pub mod RowLaws
+pub mod Whole
+pub mod TermFits
+pub mod CertFits

@@ -1,0 +1,4 @@
+pub mod Spelling
+pub mod Limits
+pub mod Answers
+pub mod inner

@@ -1,0 +1,17 @@
+pub mod Names
+pub mod Terms
+pub mod Joins
+pub mod SortedJoins
+pub mod Bodies
+pub mod Scripts
+pub mod Outcomes
+pub mod SortedTerms
+pub mod SortedBodies
+pub mod Membership
+pub mod SortedScripts
+pub mod Lists
+pub mod BodyTrees
+pub mod Reached
+pub mod Fits
+pub mod Funs
+pub mod Exports

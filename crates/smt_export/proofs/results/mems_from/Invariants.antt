@@ -1,0 +1,6 @@
+use Rattle.std.proofs.Common.{◌≡◌}
+use Rattle.smt_export.specs.Told.{mems_from}
+use Rattle.smt_export.proofs.results.mems_from.Given as goal
+
+abbrev pub invariant-loop-i : goal.invariant-loop-i
+invariant-loop-i l = l.list ≡ mems_from 0 l.i

@@ -1,0 +1,15 @@
+pub mod Vectors
+pub mod Arrays
+pub mod Views
+pub mod Numerals
+pub mod Names
+pub mod Rules
+pub mod Applying
+pub mod Heads
+pub mod Finding
+pub mod Scopes
+pub mod Telling
+pub mod TermLists
+pub mod Taking
+pub mod Splitting
+pub mod Applications

@@ -1,0 +1,57 @@
+//! Arrays, and SMT-LIB's operators on them (theory ArraysEx).
+
+ghost use Rattle.std.specs.Prelude.{◌≡◌, ℕ, ◌%◌, ◌^◌, ◌==◌, ◌||◌, true, if◌then◌else◌, IfOk};
+ghost use Rattle.smt_values.specs.Elements.{element};
+
+use crate::vector::Vector;
+use rv_words::{ByteMap, NoMemory};
+use std::alloc::Global;
+use std::rc::Rc;
+
+/// An array from words to bits or bytes: the width of its elements, and the bytes of whose low bits they are.
+#[derive(Drop)]
+pub struct Array {
+    pub width: u32,
+    pub bytes: Rc<ByteMap>,
+    ghost wide: { (width == 1 || width == 8) ≡ true },
+}
+
+impl Array {
+    /// The same array, which shares the bytes.
+    pub fn share(&self) -> Result<Array, NoMemory>
+        ensures width { IfOk result (λ a. a.width ≡ self.now.width) }
+        ensures bytes { IfOk result (λ a. a.bytes.value ≡ self.now.bytes.value) }
+    {
+        let bytes = self.bytes.clone()?;
+        Ok(Array {
+            width: self.width,
+            bytes,
+        })
+    }
+
+    /// `select`
+    pub fn select(&self, i: Vector) -> Vector
+        requires { i.width ≡ 64 }
+        ensures width { result.width ≡ self.now.width }
+        ensures number { result.number ≡ element self.now.width self.now.bytes.value i.number }
+    {
+        let byte = self.bytes.byte(i.number as u64).unwrap_or(0);
+        Vector::new(self.width, u128::from(byte))
+    }
+
+    /// `store`
+    pub fn store(&self, alloc: Global, i: Vector, x: Vector) -> Result<Array, NoMemory>
+        requires index { i.width ≡ 64 }
+        requires element { x.width ≡ self.now.width }
+        ensures width { IfOk result (λ a. a.width ≡ self.now.width) }
+        ensures bytes { IfOk result (λ a. (k : ℕ) → element a.width a.bytes.value k ≡ (if k == i.number then x.number else element self.now.width self.now.bytes.value k)) }
+    {
+        let mut bytes = self.bytes.copy(alloc)?;
+        bytes.place(i.number as u64, &[x.number as u8])?;
+        let bytes = Rc::new(alloc, bytes)?;
+        Ok(Array {
+            width: self.width,
+            bytes,
+        })
+    }
+}

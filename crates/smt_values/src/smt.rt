@@ -1,0 +1,12 @@
+//! Values as they are given and told.
+
+use rv_words::ByteMap;
+
+/// A value: a truth; a bit-vector, as its width and its number; or an array of bits or of bytes, whose elements that the
+/// map lacks are 0. In an array of bits an element is a byte's low bit.
+#[derive(Debug, Drop)]
+pub enum Smt {
+    Bool(bool),
+    Bits(u32, u128),
+    Bytes(ByteMap),
+}
