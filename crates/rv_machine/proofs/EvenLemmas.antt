@@ -1,23 +1,20 @@
 -- A step leads to an even address: instructions have two bytes or four, and the offsets of jumps are even.
-use Rattle.std.proofs.Common.{◌≡◌, ℕ, ◌+◌, ◌*◌, ◌/◌, ◌%◌, ◌^◌, ◌<◌, Bool, true, false, cond, ◌&&◌, eqb-true, eq-eqb, ℤ, pos, negsuc, Option, Some, None, refl, sym, ap, subst, ◌∙◌, arith}
-use Rattle.std.specs.Prelude.{IfSome, IsTrue, nat_abs, bit_and}
-use Rattle.std.specs.Option.{unwrap_or}
+use Rattle.std.proofs.Common.{◌≡◌, ℕ, ◌*◌, ◌/◌, ◌%◌, ◌^◌, ◌<◌, Bool, true, false, cond, ◌&&◌, eqb-true, eq-eqb, ℤ, pos, negsuc, Some, refl, sym, ap, subst, ◌∙◌, arith}
+use Rattle.std.specs.Prelude.{IfSome, IsTrue, nat_abs}
 use Rattle.std.proofs.lemmas.Nat.Bits.{and_high_mask}
 use Rattle.rv_words.specs.Bytes.{load}
 use Rattle.rv_words.specs.Operation.{comparison_holds, word_of}
 use Rattle.rv_words.proofs.MemoryLemmas.{load_small}
 use Rattle.rv_decode.specs.declared.instruction.Instr.{Instr}
 use Rattle.rv_decode.specs.declared.instruction.Instr.TheVariants.{Op, OpImm, Lui, Auipc, Jal, Jalr, Branch, Load, Store, Fence, Ecall, Ebreak}
-use Rattle.rv_decode.specs.Decodes.{decoded}
 use Rattle.rv_decode.specs.Ranges.{has_bits, is_encodable, is_offset, is_register}
 use Rattle.rv_decode.proofs.EncodeLemmas.{decoded_ranges}
-use Rattle.rvc.specs.Expands.{compressed}
 use Rattle.rvc.specs.Number.{instruction_of, is_word, length_of, number_at}
 use Rattle.rvc.proofs.RangeLemmas.{compressed_ranges}
 use Rattle.rvc.proofs.NumberLemmas.{instruction-compressed, instruction-small, instruction-word, number_at-is}
 use Rattle.rv_machine.specs.State.{IsState, State}
 use Rattle.rv_machine.specs.Step.{is_even, jump_target, length_at, next, plus, reads, step}
-use Rattle.rv_machine.specs.Update.{pc_after, updated}
+use Rattle.rv_machine.specs.Update.{pc_after}
 use Rattle.rv_machine.proofs.StepLemmas.{instruction_at-is, length_at-is, step-updated}
 
 -- ---- sums

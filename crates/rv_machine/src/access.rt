@@ -15,36 +15,33 @@ pub fn fetch(memory: &ByteMap, a: u64) -> Option<u32>
     ensures { result ≡ number_at (get memory.now) a }
 {
     memory.law_of_values();
-    if memory.has(a, Width::B4) {
-        let word = number(memory, a, Width::B4);
+    if let Some(word) = number(memory, a, Width::B4) {
         return Some(if is_word(word) { word } else { word % 65536 });
     }
-    if !memory.has(a, Width::B2) {
-        return None;
-    }
-    let parcel = number(memory, a, Width::B2);
+    let parcel = number(memory, a, Width::B2)?;
     if is_word(parcel) { None } else { Some(parcel) }
 }
 
-/// The number that at most four bytes from `a` on make.
-fn number(memory: &ByteMap, a: u64, width: Width) -> u32
+/// The number that at most four bytes from `a` on make, if they are present.
+fn number(memory: &ByteMap, a: u64, width: Width) -> Option<u32>
     requires { bytes_of width ≤ 4 }
-    ensures { result ≡ load (bytes_of width) (get memory.now) a }
+    ensures { result ≡ if spec.has width (get memory.now) a then Some (load (bytes_of width) (get memory.now) a) else None }
 {
     memory.law_of_values();
-    memory.load(a, width) as u32
+    let number = memory.read(a, width)?;
+    Some(number as u32)
 }
 
-/// The word that a load from `a` gives.
-pub fn load(memory: &ByteMap, a: u64, width: Width, signed: bool) -> u64
-    ensures { result ≡ spec.loaded width signed (get memory.now) a }
+/// The word that a load from `a` gives, if its bytes are present.
+pub fn load(memory: &ByteMap, a: u64, width: Width, signed: bool) -> Option<u64>
+    ensures { result ≡ if spec.has width (get memory.now) a then Some (spec.loaded width signed (get memory.now) a) else None }
 {
-    let number = memory.load(a, width);
-    if signed {
+    let number = memory.read(a, width)?;
+    Some(if signed {
         sign_extended(number, width)
     } else {
         number
-    }
+    })
 }
 
 /// The number of a width's bytes with its sign extended.

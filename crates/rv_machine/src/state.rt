@@ -280,8 +280,9 @@ impl State {
         ensures reason { IfErr result (λ why. NoByte (absent_from (bytes_of width) (state_of self.old).mem a) ≡ why) }
         ensures err { OnErr result (self.new ≡ self.old) }
     {
-        self.find_bytes(width, a)?;
-        let word = load(&self.memory, a, width, signed);
+        let Some(word) = load(&self.memory, a, width, signed) else {
+            return self.find_bytes(width, a);
+        };
         self.finish(rd, word, length);
         Ok(())
     }

@@ -1,4 +1,5 @@
 pub mod PieceLemmas
+pub mod LimitLemmas
 pub mod MemoryLemmas
 pub mod WordLemmas
 mod WorkedValues

@@ -1,17 +1,17 @@
 -- The bytes that rising pieces stand for.
-use Rattle.std.proofs.Common.{◌≡◌, ℕ, zero, suc, ◌+◌, ◌-◌, ◌*◌, ◌/◌, ◌%◌, ◌^◌, ◌<◌, ◌≤◌, Option, Some, None, Bool, true, false, ◌&&◌, cond, List, [], ◌∷◌, ◌++◌, length, map, get_or, set, take, drop, replicate, min, add-zero, refl, sym, ap, subst, ◌∙◌, ⊎_elim, arith, eqb, leb}
+use Rattle.std.proofs.Common.{◌≡◌, ℕ, zero, suc, ◌+◌, ◌-◌, ◌*◌, ◌/◌, ◌%◌, ◌^◌, ◌<◌, ◌≤◌, Option, Some, None, Bool, true, false, ◌&&◌, cond, List, [], ◌∷◌, ◌++◌, length, map, get_or, set, take, drop, replicate, min, Fits, w8, add-zero, refl, sym, ap, subst, ◌∙◌, ⊎_elim, arith, eqb, leb}
 use Rattle.std.specs.Option.{option_or, option_map, is_some}
 use Rattle.std.specs.List.{slice_get}
 use Rattle.std.specs.Ordering.{nat_cmp, eq_by_cmp}
 use Rattle.std.specs.Cmp.{nat_cmp_total}
 use Rattle.std.specs.FinMap.{empty, get, find, from_entries, get-from_entries, same_map, nat_cmp-IsAntisymmetric}
 use Rattle.std.proofs.lemmas.Bool.{le-leb, lt-leb, eq-eqb, ne_eqb, cases_lt, cases_order, eqb-true, cond-true, cond-false}
-use Rattle.std.proofs.lemmas.List.{take-append-drop, length-take-le, drop_all, length-drop, length-append, length-take, length-replicate, length-set, drop-drop, take_more_set, drop-set-lt, append_assoc, append-nil, get_or-drop, get_or-take, get_or-replicate, get_or-set_same, get_or_at}
+use Rattle.std.proofs.lemmas.List.{take-append-drop, length-take-le, drop_all, drop_more, length-drop, length-append, length-take, length-replicate, length-set, drop-drop, take_more_set, drop-set-lt, append_assoc, append-nil, get_or-drop, get_or-take, get_or-replicate, get_or-set_same, get_or_at}
 use Rattle.std.proofs.lemmas.Bool.Decides.{nat_tests}
 use Rattle.std.proofs.Math.Nat.{mod-eq_of_lt, pow-le-pow_right, pow-succ'}
 use Rattle.std.proofs.lemmas.Option.{slice_get_past, slice_get-get_or}
 use Rattle.rv_words.specs.declared.pieces.Piece.{Piece}
-use Rattle.rv_words.specs.Bytes.{AreAt, Bytes, after, away, inside, store, bytes_from, over, put_byte}
+use Rattle.rv_words.specs.Bytes.{AreAt, Bytes, after, away, inside, number_of, store, bytes_from, over, put_byte}
 use Rattle.rv_words.specs.inner.Pieces.{end, above, ArePiecesFrom, ArePieces, bytes_in, entries_from, entries_in, map_of, Holds}
 
 -- ---- options
@@ -721,3 +721,34 @@ load_fits n high low pos few h l =
     let e : 256 ^ n ≡ 256 * 256 ^ (n - 1) = (let s : n ≡ suc (n - 1) = omega arith in (λ i. 256 ^ s i) ∙ pow-succ' 256 (n - 1)) in
     let most : 256 ^ n ≤ 2 ^ 64 = pow-le-pow_right {n = 256} (omega arith) few in
     (omega arith, omega arith)
+
+-- the number that the bytes from the i-th on make
+pub record IsNumberFrom (bs : List ℕ) (i n : ℕ) : Type 0 where
+  pub is : n ≡ number_of (drop i bs)
+  pub small : n < 256 ^ (length bs - i)
+  pub within : i ≤ length bs
+
+pub number-none : (bs : List ℕ) → IsNumberFrom bs (length bs) 0
+number-none bs = record {
+  is = sym (ap number_of (drop_all (length bs) bs (omega arith)));
+  small = (let z : length bs - length bs ≡ 0 = omega arith in subst (λ k. 0 < 256 ^ k) (sym z) (omega arith));
+  within = omega arith;
+}
+
+-- .. with the byte in front of them
+pub number-more : (bs : List ℕ) (i n b : ℕ) → length bs ≤ 8 → 0 < i → IsNumberFrom bs i n → b ≡ get_or bs (i - 1) 0 → Fits w8 b
+    → (256 * n + 256 ≤ 2 ^ 64) × IsNumberFrom bs (i - 1) (256 * n + b)
+number-more bs i n b few pos h e low =
+    let within = h.within in
+    let one : length bs - (i - 1) - 1 ≡ length bs - i = omega arith in
+    let fits = load_fits (length bs - (i - 1)) n b (omega arith) (omega arith) (subst (λ k. n < 256 ^ k) (sym one) h.small) (omega (arith, low)) in
+    let next : i - 1 + 1 ≡ i = omega arith in
+    let split : drop (i - 1) bs ≡ b ∷ drop i bs = drop_more bs (i - 1) 0 (omega arith) ∙ (λ j. sym e j ∷ drop (next j) bs) in
+    let turned : 256 * n + b ≡ b + 256 * n = omega arith in (
+      fits.0,
+      record {
+        is = turned ∙ (λ j. b + 256 * h.is j) ∙ sym (ap number_of split);
+        small = subst (λ k. k < 256 ^ (length bs - (i - 1))) (sym turned) fits.1;
+        within = omega arith;
+      },
+    )

@@ -1,12 +1,14 @@
 //! Memory: a finite map from addresses to bytes.
 
-ghost use Rattle.std.specs.Prelude.{◌≡◌, ◌+◌, ◌^◌, ◌≤◌, length, replicate, IfOk, OnOk, OnErr};
+ghost use Rattle.std.specs.Prelude.{◌≡◌, ◌+◌, ◌^◌, ◌≤◌, Some, None, if◌then◌else◌, length, replicate, ◌↔◌, IfOk, IsTrue, OnOk, OnErr};
 ghost use Rattle.std.specs.FinMap.{empty, get};
+ghost use Rattle.rv_words.specs.Limits.{AreBytesBelow};
 ghost use Rattle.rv_words.specs.Bytes.{IsMemory, bytes_from, bytes_of, inside, load, over, store};
 
 use crate::memory::NoMemory;
 use crate::pieces::{
-    Piece, byte_at, copy_all, has_bytes, load_bytes, put_bytes, put_zeros, store_bytes,
+    Piece, are_below, byte_at, copy_all, has_bytes, load_bytes, put_bytes, put_zeros, read_bytes,
+    store_bytes,
 };
 use crate::width::Width;
 use std::alloc::Global;
@@ -60,6 +62,13 @@ impl ByteMap {
         byte_at(&self.pieces, a)
     }
 
+    /// Whether each byte that is present is below a limit.
+    pub fn is_below(&self, limit: u8) -> bool
+        ensures { IsTrue result ↔ AreBytesBelow limit (get self.now) }
+    {
+        are_below(&self.pieces, limit)
+    }
+
     /// Whether all addresses of the width from `a` on are present. They go on from 0 after the last one.
     pub fn has(&self, a: u64, w: Width) -> bool
         ensures { result ≡ inside (bytes_of w) (get self.now) a }
@@ -72,6 +81,13 @@ impl ByteMap {
         ensures { result ≡ load (bytes_of w) (get self.now) a }
     {
         load_bytes(&self.pieces, a, w.bytes())
+    }
+
+    /// The number of the width's bytes from `a` on, the low one first, if all of these addresses are present.
+    pub fn read(&self, a: u64, w: Width) -> Option<u64>
+        ensures { result ≡ if inside (bytes_of w) (get self.now) a then Some (load (bytes_of w) (get self.now) a) else None }
+    {
+        read_bytes(&self.pieces, a, w.bytes())
     }
 
     /// Writes the low bytes of `v` at those addresses of the width from `a` on that are present. It takes no

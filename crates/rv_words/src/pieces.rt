@@ -1,8 +1,9 @@
 //! Pieces of memory: they rise and don't overlap. Two may touch: a piece grows at its end in place, and where new
 //! bytes stand right in front of one, it is copied behind them only if it is short.
 
-ghost use Rattle.std.specs.Prelude.{◌≡◌, ◌+◌, ◌-◌, ◌<◌, ◌≤◌, slice_index_or, slice_get, length, take, drop, replicate, ◌++◌, ◌∷◌, vec_len, IfOk, IfSome, OnOk, OnErr, IsTrue, ◌↔◌, ◌^◌};
+ghost use Rattle.std.specs.Prelude.{◌≡◌, ℕ, Some, None, ◌+◌, ◌-◌, ◌<◌, ◌≤◌, if◌then◌else◌, slice_index_or, slice_get, length, take, drop, replicate, ◌++◌, ◌∷◌, vec_len, IfOk, IfSome, OnOk, OnErr, IsTrue, ◌↔◌, ◌^◌};
 ghost use Rattle.rv_words.specs.Bytes.{AreAt, bytes_from, inside, load, number_of, over, put_byte, store};
+ghost use Rattle.rv_words.specs.Limits.{AreBytesBelow};
 ghost use Rattle.rv_words.specs.inner.Pieces.{ArePieces, ArePiecesFrom, Holds, above, bytes_in, end};
 
 use crate::memory::NoMemory;
@@ -132,6 +133,33 @@ pub fn byte_at(pieces: &[Piece], a: u64) -> Option<u8>
         return None;
     }
     pieces[begun - 1].byte(a)
+}
+
+/// Whether each of these bytes is below a limit.
+#[tactic(auto, using(crate::proofs::LimitLemmas::below_to_more, crate::proofs::LimitLemmas::below_all, crate::proofs::LimitLemmas::not_below))]
+fn bytes_below(bytes: &[u8], limit: u8) -> bool
+    ensures { IsTrue result ↔ ((k b : ℕ) → slice_get bytes.now k ≡ Some b → b < limit) }
+{
+    for &byte in bytes {
+        if byte >= limit {
+            return false;
+        }
+    }
+    true
+}
+
+/// Whether each byte in the pieces is below a limit.
+#[tactic(auto, using(crate::proofs::LimitLemmas::below_first, crate::proofs::LimitLemmas::below_more, crate::proofs::LimitLemmas::below_done, crate::proofs::LimitLemmas::below_not))]
+pub fn are_below(pieces: &[Piece], limit: u8) -> bool
+    requires { ArePieces pieces.now }
+    ensures { IsTrue result ↔ AreBytesBelow limit (bytes_in pieces.now) }
+{
+    for piece in pieces {
+        if !bytes_below(&piece.bytes, limit) {
+            return false;
+        }
+    }
+    true
 }
 
 /// Removes the pieces from `from` on that stand before `to`.
@@ -396,14 +424,16 @@ fn bytes_together(pieces: &[Piece], a: u64, n: u8) -> Option<&[u8]>
 
 /// The number that bytes make, the low one first.
 fn number(bytes: &[u8]) -> u64
-    requires few { length bytes.now ≤ 8 }
-    ensures number { result ≡ number_of bytes.now }
-    ensures small { result < 256 ^ length bytes.now }
+    requires { length bytes.now ≤ 8 }
+    ensures { result ≡ number_of bytes.now }
 {
-    match bytes.split_first() {
-        None => 0,
-        Some((low, rest)) => u64::from(*low) + 256 * number(rest),
+    let mut number = 0;
+    let mut left = bytes.len();
+    while left > 0 {
+        left -= 1;
+        number = 256 * number + u64::from(bytes[left]);
     }
+    number
 }
 
 /// Whether each of `n` addresses from `a` on is present, one after the other.
@@ -452,6 +482,22 @@ pub fn load_bytes(pieces: &[Piece], a: u64, n: u8) -> u64
     match bytes_together(pieces, a, n) {
         Some(bytes) => number(bytes),
         None => load_each(pieces, a, n),
+    }
+}
+
+/// The number of `n` bytes from `a` on, if all of these addresses are present.
+pub fn read_bytes(pieces: &[Piece], a: u64, n: u8) -> Option<u64>
+    requires pieces { ArePieces pieces.now }
+    requires few { n ≤ 8 }
+    ensures { result ≡ if inside n (bytes_in pieces.now) a then Some (load n (bytes_in pieces.now) a) else None }
+{
+    if let Some(bytes) = bytes_together(pieces, a, n) {
+        return Some(number(bytes));
+    }
+    if has_each(pieces, a, n) {
+        Some(load_each(pieces, a, n))
+    } else {
+        None
     }
 }
 

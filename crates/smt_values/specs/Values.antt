@@ -1,5 +1,7 @@
 -- The value of an application of a script's function.
 use Rattle.std.specs.Prelude.{◌≡◌, ℕ, ◌<◌, ◌^◌, List, [], ◌∷◌, Option, Some, None}
+use Rattle.std.specs.FinMap.{get}
+use Rattle.rv_words.specs.Limits.{AreBytesBelow}
 use Rattle.smt_terms.specs.declared.sort.Sort.{Sort}
 use Rattle.smt_terms.specs.declared.sort.Sort.TheVariants as sort
 use Rattle.smt_terms.specs.Operators.{Value, Truth, Bits, Array, unsorted}
@@ -12,14 +14,14 @@ use Rattle.smt_values.specs.Elements.{element}
 abbrev pub IsOfSort : Sort → Smt → Type 0
 IsOfSort sort.Bool (smt.Bool b) = Unit {0}
 IsOfSort (sort.Bits w) (smt.Bits v n) = (v ≡ w) × (n < 2 ^ w)
-IsOfSort (sort.Array w) (smt.Bytes m) = Unit {0}
+IsOfSort (sort.Array w) (smt.Bytes m) = AreBytesBelow (2 ^ w) (get m)
 IsOfSort _ _ = ⊥
 
 -- what it stands for at that sort
 abbrev pub smt_value_at : Sort → Smt → Value
 smt_value_at sort.Bool (smt.Bool b) = Truth b
 smt_value_at (sort.Bits w) (smt.Bits v n) = Bits v n
-smt_value_at (sort.Array w) (smt.Bytes m) = Array w (element w m)
+smt_value_at (sort.Array w) (smt.Bytes m) = Array w (element m)
 smt_value_at _ _ = unsorted
 
 -- as many inputs as parameters, each of its parameter's sort

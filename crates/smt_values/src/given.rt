@@ -1,6 +1,8 @@
 //! Values that are given and told, as what terms stand for.
 
-ghost use Rattle.std.specs.Prelude.{◌≡◌, true, IfOk};
+ghost use Rattle.std.specs.Prelude.{◌≡◌, ◌^◌, ◌↔◌, true, IfOk, IsTrue};
+ghost use Rattle.std.specs.FinMap.{get};
+ghost use Rattle.rv_words.specs.Limits.{AreBytesBelow};
 ghost use Rattle.std.specs.List.{AllByRecursion};
 ghost use Rattle.smt_terms.specs.Operators.{is_width};
 ghost use Rattle.smt_terms.specs.Sorts.{is_sort};
@@ -12,7 +14,7 @@ use crate::array::Array;
 use crate::datum::Datum;
 use crate::smt::Smt;
 use crate::vector::Vector;
-use rv_words::{List, NoMemory, Text};
+use rv_words::{ByteMap, List, NoMemory, Text};
 use smt_terms::Sort;
 use std::alloc::Global;
 use std::rc::Rc;
@@ -81,12 +83,16 @@ fn vector_of(width: u32, input: &Smt) -> Option<Datum>
     }
 }
 
+#[tactic(auto, using(crate::proofs::Arrays::copied_below))]
 fn array_of(alloc: Global, width: u32, input: &Smt) -> Result<Option<Datum>, NoMemory>
     requires { is_sort (Sort.Array width) ≡ true }
     ensures { IfOk result (λ d. Takes (Sort.Array width) input.now d) }
 {
     match input {
         Smt::Bytes(map) => {
+            if !has_width(map, width) {
+                return Ok(None);
+            }
             let copy = map.copy(alloc)?;
             let bytes = Rc::new(alloc, copy)?;
             Ok(Some(Datum::Array(Array { width, bytes })))
@@ -95,7 +101,20 @@ fn array_of(alloc: Global, width: u32, input: &Smt) -> Result<Option<Datum>, NoM
     }
 }
 
+/// Whether each byte of the map is an element of that width, of 1 or 8 bits.
+fn has_width(map: &ByteMap, width: u32) -> bool
+    requires { is_sort (Sort.Array width) ≡ true }
+    ensures { IsTrue result ↔ AreBytesBelow (2 ^ width) (get map.now) }
+{
+    map.law_of_values();
+    if width == 8 {
+        return true;
+    }
+    map.is_below(2)
+}
+
 /// What a term stands for, as a value.
+#[tactic(auto, using(crate::proofs::Arrays::same_below))]
 pub fn told(alloc: Global, datum: &Datum) -> Result<Smt, NoMemory>
     ensures sort { IfOk result (λ x. IsOfSort (sort_of_datum datum.now) x) }
     ensures value { IfOk result (λ x. smt_value_at (sort_of_datum datum.now) x ≡ meaning datum.now) }

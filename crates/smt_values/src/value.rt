@@ -1,6 +1,6 @@
 //! The values of applications.
 
-ghost use Rattle.std.specs.Prelude.{◌≡◌, IfOk, map};
+ghost use Rattle.std.specs.Prelude.{IfOk, map};
 ghost use Rattle.smt_terms.specs.Views.{fun_tree};
 ghost use Rattle.smt_values.specs.Values.{TellsValue};
 

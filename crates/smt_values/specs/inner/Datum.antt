@@ -18,7 +18,7 @@ sorted d = Some (sort_of_datum d)
 abbrev pub meaning : Datum → Value
 meaning (datum.Truth b) = Truth b
 meaning (datum.Bits v) = Bits v.width v.number
-meaning (datum.Array a) = Array a.width (element a.width a.bytes.value)
+meaning (datum.Array a) = Array a.width (element a.bytes.value)
 
 -- where there is a sort, it is the datum's, and the datum means the value
 abbrev pub StandsFor : Option Sort → Value → Datum → Type 0
