@@ -11,15 +11,23 @@ use std::io::{Read, Seek, SeekFrom, Write};
 use std::marker::Model;
 use std::rt::Files;
 
-/// The system's files, by their paths.
+/// The system's files, by their paths. The file that the last `create` opened stays open, and takes what is appended to its name.
 #[derive(Drop)]
-pub struct DirShelf<R> {
+pub struct DirShelf<R: Files> {
     runtime: R,
+    open: Option<OpenFile<R>>,
     read_faults: u64,
     write_faults: u64,
 }
 
-impl<R> Model for DirShelf<R> {
+/// A file that is open for writing, and its name.
+#[derive(Drop)]
+struct OpenFile<R: Files> {
+    name: String,
+    file: R::File,
+}
+
+impl<R: Files> Model for DirShelf<R> {
     ghost use Rattle.mc_shelf.specs.Fault.{FaultCounts};
 
     ghost Value = { FaultCounts };
@@ -27,12 +35,13 @@ impl<R> Model for DirShelf<R> {
     ghost view = { λ s. record { read_faults = s.read_faults; write_faults = s.write_faults } };
 }
 
-impl<R: Files> DirShelf<R> {
+impl<R: Files + AllocGlobal> DirShelf<R> {
     pub fn new(runtime: R) -> DirShelf<R>
         ensures { result ≡ record { read_faults = 0; write_faults = 0 } }
     {
         DirShelf {
             runtime,
+            open: None,
             read_faults: 0,
             write_faults: 0,
         }
@@ -46,7 +55,27 @@ impl<R: Files> DirShelf<R> {
         file.read(into)
     }
 
-    fn append_to(&self, name: &str, bytes: &[u8]) -> io::Result<()> {
+    /// Empties the file, and keeps it open. Where there is no memory for the name, no file is kept.
+    fn create_file(&mut self, name: &str) -> io::Result<()>
+        ensures { self.new ≡ self.old }
+    {
+        let file = File::create(&self.runtime, name)?;
+        self.open = match String::from_str(self.runtime.alloc(), name) {
+            Ok(name) => Some(OpenFile { name, file }),
+            Err(_) => None,
+        };
+        Ok(())
+    }
+
+    /// Writes to the open file, where it is of that name.
+    fn append_to(&mut self, name: &str, bytes: &[u8]) -> io::Result<()>
+        ensures { self.new ≡ self.old }
+    {
+        if let Some(open) = &mut self.open
+            && open.name.as_str() == name
+        {
+            return open.file.write_all(bytes);
+        }
         let mut file = OpenOptions::new().append(true).open(&self.runtime, name)?;
         file.write_all(bytes)
     }
@@ -67,7 +96,7 @@ impl<R: Files> DirShelf<R> {
     }
 }
 
-impl<R: Files> Shelf for DirShelf<R> {
+impl<R: Files + AllocGlobal> Shelf for DirShelf<R> {
     ghost contents = { λ _. None };
 
     ghost read_faults = { λ s. s.read_faults };
@@ -103,7 +132,7 @@ impl<R: Files> Shelf for DirShelf<R> {
         ensures reads { self.new.read_faults ≡ self.old.read_faults }
         ensures cause { IsErrOf result Stop.Failed → Rose self.old.write_faults self.new.write_faults }
     {
-        let outcome = File::create(&self.runtime, name).map(|_| ());
+        let outcome = self.create_file(name);
         self.written(outcome)
     }
 
