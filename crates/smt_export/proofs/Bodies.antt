@@ -18,9 +18,8 @@ use Rattle.tailrec_lang.specs.declared.group.Exit.TheVariants.{At, Ret}
 use Rattle.tailrec_lang.specs.Tree.{ValuesTree, Bind, BindMem, Need, BodyTree, Do, Branch, Call, Again, Leave, ArmTrees, NoArm, Arm, GroupTree, exits_at}
 use Rattle.tailrec_lang.specs.WellFormed.{BodyIsWellFormed, ArmsAreWellFormed, HasCounts, ValuesInScope, exit_words}
 use Rattle.tailrec_lang.specs.Eval.{Arguments, Ending, Exited, NeedFalse, NoTurns, Nothing, Meaning, and_then, arguments_of, body_ending, arm_ending, with_arguments, needs}
-use Rattle.smt_terms.specs.Expression.{Expr, Atom, Node, exprs, apply, bound, ite}
+use Rattle.smt_terms.specs.Expression.{Expr, exprs, apply, bound, is_atom, ite}
 use Rattle.smt_terms.proofs.Unused.{bound-value}
-use Rattle.std.proofs.lemmas.Slice.Eq.{bytes_eq-Decides}
 use Rattle.smt_terms.specs.Operators.{Value, Bits, Truth, choose, same, unsorted}
 use Rattle.smt_terms.specs.Meaning.{Functions, Variables, bind, value, values, applied, atom_value, literal_of}
 use Rattle.smt_operations.specs.Memory.{IsMemoryOf}
@@ -28,12 +27,12 @@ use Rattle.smt_export.specs.declared.told.Told.{Told}
 use Rattle.smt_export.specs.declared.told.Told.TheVariants.{Ok, ExitNumber, Pc, WordAt, MemAt, DomAt}
 use Rattle.smt_export.specs.Told.{word_name, mem_name, dom_name, fun_name, words_from}
 use Rattle.smt_export.specs.Terms.{word_expr, mem_expr, dom_expr, cond_expr}
-use Rattle.smt_export.specs.Bodies.{with_condition, conjunction, is_true, exit_number, mem_args, args, applied_to, called, word_or, mem_or, dom_or, left_by, call_results, let_words, let_mems, body_expr, arms_expr}
+use Rattle.smt_export.specs.Bodies.{with_condition, conjunction, exit_number, mem_args, args, applied_to, called, word_or, mem_or, dom_or, left_by, call_results, let_words, let_mems, body_expr, arms_expr}
 use Rattle.smt_export.specs.Telling.{AreMems, AreArrays, AreArgumentValues, IsToldOf}
 use Rattle.smt_export.specs.inner.Following.{room, arm_room, EachCall, EachArmCall, IsPc, TellsExit, TellsEnding, IsExported}
 use Rattle.smt_operations.specs.Knowing.{Knows}
 use Rattle.smt_export.specs.inner.Telling.{Tells}
-use Rattle.smt_export.proofs.Joins.{falsity-is, branch-value}
+use Rattle.smt_export.proofs.Joins.{atom-is, falsity-is, branch-value}
 use Rattle.smt_export.proofs.Terms.{word_expr-is, mem_expr-is, cond_expr-is, known, word-is}
 use Rattle.smt_export.proofs.Names.{tells-word, tells-mem, tells-word_beyond, tells-mem_beyond, tells-bytes_beyond}
 use Rattle.group_terms.specs.Range.{ValuesInRange, BodyInRange, ArmsInRange}
@@ -47,11 +46,8 @@ both_value true Ok c x = c
 both_value false Ok c x = choose (c ∷ x ∷ Truth false ∷ [])
 both_value known _ c x = x
 
-true-is : (fs : Functions) (s : Variables) → fs (codes "true") ≡ None → s (codes "true") ≡ None → (x : Expr) → is_true x ≡ true → value fs s x ≡ Truth true
-true-is fs s f v (Atom a) is =
-    let same : a ≡ codes "true" = (bytes_eq-Decides a (codes "true")).0 is in
-    (λ j. value fs s (Atom (same j))) ∙ (λ j. atom_value (v j) (f j) (codes "true"))
-true-is fs s f v (Node es) is = absurd (cc)
+true-is : (fs : Functions) (s : Variables) → fs (codes "true") ≡ None → s (codes "true") ≡ None → (x : Expr) → is_atom (codes "true") x ≡ true → value fs s x ≡ Truth true
+true-is fs s f v x is = (λ j. value fs s (atom-is (codes "true") x is j)) ∙ (λ j. atom_value (v j) (f j) (codes "true"))
 
 -- all but one is told of the rest alone
 abbrev IsOther : Told → Type 0
@@ -76,13 +72,13 @@ module _ (fs : Functions) (s : Variables) (f : fs (codes "true") ≡ None) (v : 
   both-where true c x = refl
   both-where false c x = λ j. choose (value fs s c ∷ value fs s x ∷ falsity-is fs f s v j ∷ [])
 
-  both-is : (c : Expr) (x : Told → Expr) (t : Told) → value fs s (with_condition t c (x t)) ≡ both_value (is_true (x Ok)) t (value fs s c) (value fs s (x t))
-  both-is c x Ok = both-where (is_true (x Ok)) c (x Ok)
-  both-is c x ExitNumber = known_other (is_true (x Ok)) ExitNumber tt (value fs s c) (value fs s (x ExitNumber))
-  both-is c x Pc = known_other (is_true (x Ok)) Pc tt (value fs s c) (value fs s (x Pc))
-  both-is c x (WordAt i) = known_other (is_true (x Ok)) (WordAt i) tt (value fs s c) (value fs s (x (WordAt i)))
-  both-is c x (MemAt i) = known_other (is_true (x Ok)) (MemAt i) tt (value fs s c) (value fs s (x (MemAt i)))
-  both-is c x (DomAt i) = known_other (is_true (x Ok)) (DomAt i) tt (value fs s c) (value fs s (x (DomAt i)))
+  both-is : (c : Expr) (x : Told → Expr) (t : Told) → value fs s (with_condition t c (x t)) ≡ both_value (is_atom (codes "true") (x Ok)) t (value fs s c) (value fs s (x t))
+  both-is c x Ok = both-where (is_atom (codes "true") (x Ok)) c (x Ok)
+  both-is c x ExitNumber = known_other (is_atom (codes "true") (x Ok)) ExitNumber tt (value fs s c) (value fs s (x ExitNumber))
+  both-is c x Pc = known_other (is_atom (codes "true") (x Ok)) Pc tt (value fs s c) (value fs s (x Pc))
+  both-is c x (WordAt i) = known_other (is_atom (codes "true") (x Ok)) (WordAt i) tt (value fs s c) (value fs s (x (WordAt i)))
+  both-is c x (MemAt i) = known_other (is_atom (codes "true") (x Ok)) (MemAt i) tt (value fs s c) (value fs s (x (MemAt i)))
+  both-is c x (DomAt i) = known_other (is_atom (codes "true") (x Ok)) (DomAt i) tt (value fs s c) (value fs s (x (DomAt i)))
 
 module _ (g : GroupTree) (exits : List Exit) where
   -- the same values
@@ -415,8 +411,8 @@ module _ (g : GroupTree) (fs : Functions) (k : Knows fs) (call : Meaning) (D : �
     body_tells (Do (Need c) b) e s o left r t wf range calls w m =
         told_same g (exits_at g D) (body_ending call D (Do (Need c) b) e o left) _ _
         (λ u. sym (both-is fs s k.truth t.truth (cond_expr c) (body_expr g D b e.words e.mems) u))
-        (subst (λ v. Goal (body_ending call D (Do (Need c) b) e o left) (λ u. both_value (is_true (body_expr g D b e.words e.mems Ok)) u v (value fs s (body_expr g D b e.words e.mems u)))) (sym (cond_expr-is fs k e r s t c wf.0 range.0))
-        (needed g (exits_at g D) (is_true (body_expr g D b e.words e.mems Ok)) (cond_holds c e) (body_ending call D b e (o + 1) left) (λ u. value fs s (body_expr g D b e.words e.mems u)) D o
+        (subst (λ v. Goal (body_ending call D (Do (Need c) b) e o left) (λ u. both_value (is_atom (codes "true") (body_expr g D b e.words e.mems Ok)) u v (value fs s (body_expr g D b e.words e.mems u)))) (sym (cond_expr-is fs k e r s t c wf.0 range.0))
+        (needed g (exits_at g D) (is_atom (codes "true") (body_expr g D b e.words e.mems Ok)) (cond_holds c e) (body_ending call D b e (o + 1) left) (λ u. value fs s (body_expr g D b e.words e.mems u)) D o
         (true-is fs s k.truth t.truth (body_expr g D b e.words e.mems Ok))
         (body_tells b e s (o + 1) left r t wf.1 range.1 calls (omega arith) (omega arith))))
     body_tells (Branch c a b) e s o left r t wf range calls w m =
@@ -428,7 +424,7 @@ module _ (g : GroupTree) (fs : Functions) (k : Knows fs) (call : Meaning) (D : �
         let tells = called_tells def v e r wf.1 wf.2 range.0 calls.0 left in
         told_same g (exits_at g D) (body_ending call D (Call def v arms) e o left) _ _
         (λ u. sym (both-is fs s k.truth t.truth (called def v Ok) (arms_expr g D (called def v) (exits_at g def) arms 0 e.words e.mems) u))
-        (followed g (exits_at g D) (is_true (arms_expr g D (called def v) (exits_at g def) arms 0 e.words e.mems Ok)) (call def (arguments_of v e) left) (exits_at g def) (λ n x more. arm_ending call D arms n (with_arguments e x) o more)
+        (followed g (exits_at g D) (is_atom (codes "true") (arms_expr g D (called def v) (exits_at g def) arms 0 e.words e.mems Ok)) (call def (arguments_of v e) left) (exits_at g def) (λ n x more. arm_ending call D arms n (with_arguments e x) o more)
         (λ u. value fs s (called def v u)) (λ u. value fs s (arms_expr g D (called def v) (exits_at g def) arms 0 e.words e.mems u))
         (true-is fs s k.truth t.truth (arms_expr g D (called def v) (exits_at g def) arms 0 e.words e.mems Ok)) (tells s t)
         (λ n x more is. arms_tell (exits_at g def) arms 0 n n (called def v) e s o more x r t (omega arith)

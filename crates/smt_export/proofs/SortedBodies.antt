@@ -11,7 +11,7 @@ use Rattle.tailrec_lang.specs.Tree.{ValuesTree, Bind, BindMem, Need, BodyTree, D
 use Rattle.tailrec_lang.specs.WellFormed.{BodyIsWellFormed, ArmsAreWellFormed, HasCounts, ValuesInScope, exit_words}
 use Rattle.smt_terms.specs.declared.sort.Sort.{Sort}
 use Rattle.smt_terms.specs.declared.sort.Sort.TheVariants as sort
-use Rattle.smt_terms.specs.Expression.{Expr, exprs, apply, bound}
+use Rattle.smt_terms.specs.Expression.{Expr, exprs, apply, bound, is_atom}
 use Rattle.smt_terms.specs.Operators.{Rule, equal_rule}
 use Rattle.smt_terms.specs.Meaning.{bind}
 use Rattle.smt_terms.specs.Sorts.{Rules, Sorts, atom_sort, sort_of, sorts_of}
@@ -21,7 +21,7 @@ use Rattle.smt_export.specs.declared.told.Told.{Told}
 use Rattle.smt_export.specs.declared.told.Told.TheVariants.{Ok, ExitNumber, Pc, WordAt, MemAt, DomAt}
 use Rattle.smt_export.specs.Told.{word_name, mem_name, dom_name, fun_name, words_from, mem_params, told_sort}
 use Rattle.smt_export.specs.Terms.{word_expr, mem_expr, dom_expr, cond_expr, falsity}
-use Rattle.smt_export.specs.Bodies.{default, with_condition, conjunction, is_true, exit_number, mem_args, args, applied_to, called, word_or, mem_or, dom_or, left_by, call_results, let_words, let_mems, body_expr, arms_expr}
+use Rattle.smt_export.specs.Bodies.{default, with_condition, conjunction, exit_number, mem_args, args, applied_to, called, word_or, mem_or, dom_or, left_by, call_results, let_words, let_mems, body_expr, arms_expr}
 use Rattle.smt_export.specs.inner.Following.{room, arm_room, EachCall, EachArmCall}
 use Rattle.smt_operations.specs.Knowing.{word_sort, bytes_sort, domain_sort, KnowsRules}
 use Rattle.smt_export.specs.inner.Sorting.{InSort, AreRules}
@@ -38,7 +38,7 @@ module _ (fs : Rules) (s : Sorts) where
 
   both-sort : (t : Told) (c x : Expr) → fs (codes "true") ≡ None → s (codes "true") ≡ None → sort_of fs s c ≡ Some sort.Bool → sort_of fs s x ≡ Some (told_sort t)
       → sort_of fs s (with_condition t c x) ≡ Some (told_sort t)
-  both-sort Ok c x f v p q = both_where-sort (is_true x) c x f v p q
+  both-sort Ok c x f v p q = both_where-sort (is_atom (codes "true") x) c x f v p q
   both-sort ExitNumber c x f v p q = q
   both-sort Pc c x f v p q = q
   both-sort (WordAt i) c x f v p q = q

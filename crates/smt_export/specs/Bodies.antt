@@ -2,12 +2,11 @@
 -- parameters: whether it is done, by which exit, the program counter, the words, and the memories as arrays.
 use Rattle.std.specs.Prelude.{ℕ, zero, suc, ◌+◌, Bool, true, false, List, [], ◌∷◌, ◌++◌, map, codes, length, slice_get, Option, Some, None}
 use Rattle.std.specs.Fmt.{decimal}
-use Rattle.std.specs.Str.{bytes_eq}
 use Rattle.word_terms.specs.Tree.{WordTree, MemTree}
 use Rattle.tailrec_lang.specs.declared.group.Exit.{Exit}
 use Rattle.tailrec_lang.specs.declared.group.Exit.TheVariants.{At, Ret}
 use Rattle.tailrec_lang.specs.Tree.{ValuesTree, Bind, BindMem, Need, BodyTree, Do, Branch, Call, Again, Leave, ArmTrees, Arm, GroupTree, exits_at}
-use Rattle.smt_terms.specs.Expression.{Expr, Atom, Node, apply, bound, literal, word, ite}
+use Rattle.smt_terms.specs.Expression.{Expr, Atom, apply, bound, is_atom, literal, word, ite}
 use Rattle.smt_export.specs.declared.told.Told.{Told}
 use Rattle.smt_export.specs.declared.told.Told.TheVariants.{Ok, ExitNumber, Pc, WordAt, MemAt, DomAt}
 use Rattle.smt_export.specs.Told.{fun_name, word_name, mem_name, dom_name, words_from}
@@ -26,17 +25,13 @@ default (DomAt i) = Atom (dom_name 0)
 abbrev pub exit_number : ℕ → Expr
 exit_number k = literal (codes "32") (decimal k)
 
-abbrev pub is_true : Expr → Bool
-is_true (Atom a) = bytes_eq a (codes "true")
-is_true (Node es) = false
-
 abbrev pub conjunction : Bool → Expr → Expr → Expr
 conjunction true c rest = c
 conjunction false c rest = ite c rest falsity
 
 -- c, too, where it is told whether all is done
 abbrev pub with_condition : Told → Expr → Expr → Expr
-with_condition Ok c rest = conjunction (is_true rest) c rest
+with_condition Ok c rest = conjunction (is_atom (codes "true") rest) c rest
 with_condition _ c rest = rest
 
 -- ---- values

@@ -1,15 +1,15 @@
 //! Branches both of whose sides apply one function of a definition. Such a branch is one application, to arguments that its
 //! condition chooses.
 
-ghost use Rattle.std.specs.Prelude.{◌≡◌, ◌∷◌, [], IfOk, None, Some, codes, length, map, option_map};
-ghost use Rattle.smt_terms.specs.Expression.{Atom, Node, Then, bound, exprs, is_atom, ite};
+ghost use Rattle.std.specs.Prelude.{◌≡◌, IfOk, None, Some, map, option_map};
+ghost use Rattle.smt_terms.specs.Expression.{Atom, Node, Then, bound, exprs, ite};
 ghost use Rattle.smt_terms.specs.Views.{expr};
 ghost use Rattle.smt_export.specs.Joins.{application, application_expr, both_guards, bound_each, branch_expr, branch_of, chosen, chosen_each, chosen_guard, first_applied, guarded, in_ite, in_let, is_falsity, is_fun_name, is_not_true, joined_applications, plain, plain_items, plain_of, same_atom, same_count, under_binding, under_bindings, under_choice, under_ite, under_let, under_list, under_pair, under_parts, with_binding, with_guard};
 ghost use Rattle.smt_export.specs.inner.Applications.{application_of};
 
 use crate::left::falsity;
 use rv_words::{List, NoMemory, Text};
-use smt_terms::{Tree, atom, bound, ite};
+use smt_terms::{Tree, atom, bound, is_atom, ite};
 use std::alloc::Global;
 
 /// A function of a definition applied; where there is a guard, the term is false where that is.
@@ -543,16 +543,6 @@ fn same_atom(x: &Tree, y: &Tree) -> bool
 {
     match x {
         Tree::Atom(name) => is_atom(name.as_slice(), y),
-        Tree::Node(_) => false,
-    }
-}
-
-/// Whether a tree is the atom of that name.
-fn is_atom(name: &[u8], tree: &Tree) -> bool
-    ensures { result ≡ is_atom name.now (expr tree.now) }
-{
-    match tree {
-        Tree::Atom(text) => text.as_slice() == name,
         Tree::Node(_) => false,
     }
 }

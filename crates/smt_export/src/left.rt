@@ -1,20 +1,19 @@
 //! What is told where a definition is left.
 
-ghost use Rattle.std.specs.Prelude.{◌≡◌, IfOk, map};
-ghost use Rattle.std.specs.Option.{option_copied};
+ghost use Rattle.std.specs.Prelude.{◌≡◌, IfOk, codes, map};
 ghost use Rattle.word_terms.specs.Tree.{mem_tree, word_tree};
 ghost use Rattle.tailrec_lang.specs.Tree.{values_tree};
-ghost use Rattle.smt_terms.specs.Expression.{Atom};
+ghost use Rattle.smt_terms.specs.Expression.{is_atom};
 ghost use Rattle.smt_terms.specs.Views.{expr};
 ghost use Rattle.smt_export.specs.declared.told.Told.TheVariants.{ExitNumber, Pc, WordAt};
 ghost use Rattle.smt_export.specs.Terms.{falsity};
-ghost use Rattle.smt_export.specs.Bodies.{with_condition, conjunction, default, dom_or, is_true, left_by, mem_or, exit_number, word_or};
+ghost use Rattle.smt_export.specs.Bodies.{with_condition, conjunction, default, dom_or, left_by, mem_or, exit_number, word_or};
 
 use crate::results::next;
 use crate::term_trees::{dom_term, mem_term, word_term};
 use crate::told::Told;
 use rv_words::{List, NoMemory};
-use smt_terms::{Tree, atom, ite, numbered, one, two, word};
+use smt_terms::{Tree, atom, is_atom, ite, numbered, one, two, word};
 use std::alloc::Global;
 use tailrec_lang::{Exit, Values};
 use word_terms::{Mem, Word};
@@ -140,15 +139,6 @@ pub fn falsity(alloc: Global) -> Result<Tree, NoMemory>
     one(alloc, b"not", truth)
 }
 
-fn is_true(tree: &Tree) -> bool
-    ensures { result ≡ is_true (expr tree.now) }
-{
-    match tree {
-        Tree::Atom(text) => text.as_slice() == b"true".as_slice(),
-        Tree::Node(_) => false,
-    }
-}
-
 /// A condition, too, where it is told whether all is done.
 pub fn with_condition(alloc: Global, told: Told, c: Tree, rest: Tree) -> Result<Tree, NoMemory>
     ensures { IfOk result (λ t. expr t ≡ with_condition told (expr c) (expr rest)) }
@@ -164,9 +154,9 @@ pub fn with_condition(alloc: Global, told: Told, c: Tree, rest: Tree) -> Result<
 }
 
 fn conjunction(alloc: Global, c: Tree, rest: Tree) -> Result<Tree, NoMemory>
-    ensures { IfOk result (λ t. expr t ≡ conjunction (is_true (expr rest)) (expr c) (expr rest)) }
+    ensures { IfOk result (λ t. expr t ≡ conjunction (is_atom (codes "true") (expr rest)) (expr c) (expr rest)) }
 {
-    if is_true(&rest) {
+    if is_atom(b"true", &rest) {
         return Ok(c);
     }
     let otherwise = falsity(alloc)?;

@@ -1,6 +1,6 @@
 //! The results of a call as variables.
 
-ghost use Rattle.std.specs.Prelude.{◌≡◌, ◌+◌, ◌++◌, IfOk, Some, length};
+ghost use Rattle.std.specs.Prelude.{◌≡◌, ◌+◌, IfOk, Some, length};
 ghost use Rattle.tailrec_lang.specs.Tree.{group_tree, values_tree};
 ghost use Rattle.smt_terms.specs.Views.{expr};
 ghost use Rattle.smt_terms.specs.Expression.{bound};

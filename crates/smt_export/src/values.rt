@@ -1,6 +1,6 @@
 //! Values as the arguments of applications.
 
-ghost use Rattle.std.specs.Prelude.{◌≡◌, ◌+◌, IfOk, map};
+ghost use Rattle.std.specs.Prelude.{◌≡◌, IfOk, map};
 ghost use Rattle.word_terms.specs.Tree.{mem_tree, word_tree};
 ghost use Rattle.tailrec_lang.specs.Tree.{values_tree};
 ghost use Rattle.smt_terms.specs.Views.{expr};

@@ -1,7 +1,7 @@
 -- The expressions of extensions, loads and stores have their values.
-use Rattle.std.proofs.Common.{◌≡◌, ℕ, zero, suc, ◌+◌, ◌-◌, ◌*◌, ◌/◌, ◌%◌, ◌^◌, ◌<◌, ◌≤◌, Bool, true, false, not, cond, eqb, List, [], ◌∷◌, codes, Option, Some, None, option_map, unwrap_or, refl, sym, ap, subst, ◌∙◌, arith, nat_eq}
+use Rattle.std.proofs.Common.{◌≡◌, ℕ, zero, suc, ◌+◌, ◌-◌, ◌*◌, ◌/◌, ◌%◌, ◌^◌, ◌<◌, Bool, true, false, cond, eqb, [], ◌∷◌, codes, Option, Some, None, option_map, unwrap_or, refl, sym, ap, ◌∙◌, arith}
 use Rattle.std.specs.Prelude.{is_some, ◌&&◌, ◌==◌}
-use Rattle.rv_words.specs.Operation.{extension_value, signed_of, word_of, extended}
+use Rattle.rv_words.specs.Operation.{extension_value, signed_of, word_of}
 use Rattle.rv_words.specs.Bytes.{Bytes, bytes_of, after, load, store, inside, put_byte}
 use Rattle.rv_words.specs.declared.extension.Ext.{Ext}
 use Rattle.rv_words.specs.declared.extension.Ext.TheVariants.{Sx1, Sx2, Sx4}
@@ -9,10 +9,10 @@ use Rattle.rv_words.specs.declared.width.Width.{Width}
 use Rattle.rv_words.specs.declared.width.Width.TheVariants.{B1, B2, B4, B8}
 use Rattle.word_terms.proofs.Stores.{present-store}
 use Rattle.smt_terms.specs.Expression.{Expr, Atom, literal}
-use Rattle.smt_terms.specs.Operators.{Value, Bits, Truth, Array, is_negative, extended_by, choose, same, select_at, store_at, of_bits, of_two, of_truths, concatenated}
+use Rattle.smt_terms.specs.Operators.{Value, Bits, Truth, Array, extended_by, choose, same, select_at, store_at, of_bits, of_two, of_truths, concatenated}
 use Rattle.smt_terms.specs.Meaning.{Functions, Variables, bind, value, atom_value, no_names}
-use Rattle.smt_operations.specs.Accesses.{extension_expr, m, d, v, next_address, is_present, byte_at, loaded_bytes, load_expr, after_store, store_expr, all_present, inside_expr}
-use Rattle.smt_operations.specs.Helpers.{a, extract, two}
+use Rattle.smt_operations.specs.Accesses.{extension_expr, m, d, v, next_address, loaded_bytes, load_expr, after_store, store_expr, all_present, inside_expr}
+use Rattle.smt_operations.specs.Helpers.{a, two}
 use Rattle.smt_operations.specs.Memory.{IsMemoryOf}
 use Rattle.smt_operations.proofs.Signs.{by_sign}
 

@@ -1,5 +1,5 @@
 -- The functions of operations and accesses have their values.
-use Rattle.std.proofs.Common.{◌≡◌, ℕ, ◌<◌, ◌^◌, List, [], ◌∷◌, ◌++◌, codes, Option, Some, None, refl, sym, ap, subst, ◌∙◌}
+use Rattle.std.proofs.Common.{◌≡◌, ℕ, ◌<◌, ◌^◌, [], ◌∷◌, refl}
 use Rattle.rv_words.specs.Operation.{operation_value, extension_value}
 use Rattle.rv_words.specs.Bytes.{Bytes, bytes_of, load, store, inside}
 use Rattle.rv_words.specs.declared.operation.Op.{Op}

@@ -1,5 +1,5 @@
 -- Lists that grow by one.
-use Rattle.std.proofs.Common.{◌≡◌, ℕ, ◌+◌, ◌<◌, List, [], ◌∷◌, ◌++◌, length, get_or, map, take, refl, sym, ap, ◌∙◌}
+use Rattle.std.proofs.Common.{◌≡◌, ℕ, ◌+◌, ◌<◌, List, [], ◌∷◌, ◌++◌, length, get_or, map, take, sym, ap, ◌∙◌}
 use Rattle.std.proofs.lemmas.List.{map-append, take_more}
 
 pub pushed : {A B C : Type 0} (f : A → C) (g : B → C) (outs : List A) (xs : List B) (i : ℕ) (x : B) (y : A) → i < length xs → x ≡ get_or xs i x → f y ≡ g x

@@ -1,14 +1,14 @@
 -- The operations' expressions have the operations' values.
-use Rattle.std.proofs.Common.{◌≡◌, ℕ, zero, suc, ◌+◌, ◌-◌, ◌*◌, ◌/◌, ◌%◌, ◌^◌, ◌<◌, ◌≤◌, Bool, true, false, not, cond, eqb, ℤ, pos, negsuc, List, [], ◌∷◌, codes, refl, sym, ap, subst, ◌∙◌, arith, nat_lt, nat_le, bit_and}
-use Rattle.std.specs.Prelude.{int_lt, int_div, int_rem, ◌*ℤ◌}
+use Rattle.std.proofs.Common.{◌≡◌, ℕ, zero, suc, ◌+◌, ◌-◌, ◌*◌, ◌/◌, ◌%◌, ◌^◌, ◌<◌, ◌≤◌, Bool, true, false, cond, eqb, pos, negsuc, [], ◌∷◌, codes, refl, ap, ◌∙◌, arith, nat_lt, bit_and}
+use Rattle.std.specs.Prelude.{◌*ℤ◌}
 use lib.IntN.{neg_ℤ}
-use Rattle.std.proofs.lemmas.Nat.{and_mask, shr_le, pow_pos, mul-lt, mul-le}
+use Rattle.std.proofs.lemmas.Nat.{and_mask, shr_le, mul-lt, mul-le}
 use Rattle.std.proofs.Math.Nat.{mul-sub, mul_comm, div-le_self, mod-le}
-use Rattle.rv_words.specs.Operation.{operation_value, extension_value, signed_of, signed, signed_low, word_of, floor_of, low, extended, amount, half_amount, quotient, remainder, flag}
+use Rattle.rv_words.specs.Operation.{operation_value, signed_of, signed, signed_low, word_of, floor_of, low, extended, amount, half_amount, quotient, remainder, flag}
 use Rattle.rv_words.specs.declared.operation.Op.{Op}
 use Rattle.rv_words.specs.declared.operation.Op.TheVariants.{Add, Sub, Sll, Slt, Sltu, Xor, Srl, Sra, Or, And, Mul, Mulh, Mulhsu, Mulhu, Div, Divu, Rem, Remu, Addw, Subw, Sllw, Srlw, Sraw, Mulw, Divw, Divuw, Remw, Remuw}
 use Rattle.rv_words.proofs.WordLemmas.{signed_below, signed_above}
-use Rattle.smt_terms.specs.Operators.{Value, Bits, Truth, is_negative, shifted_right, less_signed, extended_by, of_bits}
+use Rattle.smt_terms.specs.Operators.{Value, Bits, is_negative, shifted_right, less_signed, extended_by, of_bits}
 use Rattle.smt_terms.specs.Meaning.{Variables, bind, Functions, value, no_names}
 use Rattle.smt_operations.specs.Helpers.{operation_expr}
 use Rattle.smt_operations.proofs.Signs.{by_sign, less}

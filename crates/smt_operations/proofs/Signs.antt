@@ -1,7 +1,7 @@
 -- Numbers in two's complement: by the highest bit.
-use Rattle.std.proofs.Common.{◌≡◌, ℕ, zero, suc, ◌+◌, ◌-◌, ◌*◌, ◌/◌, ◌%◌, ◌^◌, ◌<◌, ◌≤◌, Bool, true, false, not, cond, ℤ, pos, negsuc, refl, sym, ap, subst, ◌∙◌, arith, nat_lt, nat_le, ⊎_elim}
-use Rattle.std.specs.Prelude.{int_lt, int_le, ◌&&◌, ◌||◌}
-use Rattle.std.proofs.lemmas.Bool.{lt-ltb, le-ltb, cases_lt}
+use Rattle.std.proofs.Common.{◌≡◌, ℕ, suc, ◌-◌, ◌^◌, ◌<◌, ◌≤◌, Bool, true, false, not, cond, ℤ, pos, negsuc, refl, sym, subst, arith, nat_lt, ⊎_elim}
+use Rattle.std.specs.Prelude.{int_lt, ◌&&◌, ◌||◌}
+use Rattle.std.proofs.lemmas.Bool.{cases_lt}
 use Rattle.rv_words.specs.Operation.{signed_of}
 use Rattle.rv_words.proofs.WordLemmas.{signed_below, signed_above}
 use Rattle.smt_terms.specs.Operators.{is_negative, less_signed}

@@ -1,8 +1,8 @@
 -- Accesses byte by byte.
-use Rattle.std.proofs.Common.{◌≡◌, ℕ, zero, suc, ◌+◌, ◌-◌, ◌<◌, List, [], ◌∷◌, codes, refl, sym, ap, ◌∙◌, arith}
-use Rattle.smt_terms.specs.Expression.{Expr, Atom, apply, literal}
-use Rattle.smt_operations.specs.Helpers.{a, two, extract}
-use Rattle.smt_operations.specs.Accesses.{next_address, is_present, byte_at, loaded_bytes, all_present, after_store, m, v}
+use Rattle.std.proofs.Common.{◌≡◌, ℕ, zero, suc, ◌+◌, ◌-◌, ◌<◌, [], ◌∷◌, codes, refl, arith}
+use Rattle.smt_terms.specs.Expression.{Atom, apply, literal}
+use Rattle.smt_operations.specs.Helpers.{two, extract}
+use Rattle.smt_operations.specs.Accesses.{next_address, is_present, byte_at, loaded_bytes, all_present, after_store}
 use Rattle.smt_operations.specs.inner.Sizes.{address, shifted}
 
 pub address_none : (k : ℕ) → k ≡ 0 → Atom (codes "a") ≡ address k

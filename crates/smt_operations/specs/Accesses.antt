@@ -1,11 +1,11 @@
 -- The functions that stand for extensions of words, and for loads and stores. A memory is two arrays: its bytes, and a bit
 -- at each address that is 1 where a byte is present.
-use Rattle.std.specs.Prelude.{ℕ, zero, suc, List, [], ◌∷◌, codes}
+use Rattle.std.specs.Prelude.{ℕ, zero, suc, [], ◌∷◌, codes}
 use Rattle.rv_words.specs.declared.extension.Ext.{Ext}
 use Rattle.rv_words.specs.declared.extension.Ext.TheVariants.{Sx1, Sx2, Sx4}
 use Rattle.rv_words.specs.declared.width.Width.{Width}
 use Rattle.rv_words.specs.declared.width.Width.TheVariants.{B1, B2, B4, B8}
-use Rattle.smt_terms.specs.Expression.{Expr, Atom, Node, apply, literal, ite}
+use Rattle.smt_terms.specs.Expression.{Expr, Atom, apply, literal, ite}
 use Rattle.smt_operations.specs.Helpers.{a, two, extract, sign_extend, zero_extend}
 
 abbrev pub extension_expr : Ext → Expr

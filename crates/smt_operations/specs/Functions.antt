@@ -7,7 +7,6 @@ use Rattle.rv_words.specs.declared.extension.Ext.{Ext}
 use Rattle.rv_words.specs.declared.extension.Ext.TheVariants.{Sx1, Sx2, Sx4}
 use Rattle.rv_words.specs.declared.width.Width.{Width}
 use Rattle.rv_words.specs.declared.width.Width.TheVariants.{B1, B2, B4, B8}
-use Rattle.smt_terms.specs.declared.sort.Sort.{Sort}
 use Rattle.smt_terms.specs.declared.sort.Sort.TheVariants as sort
 use Rattle.smt_terms.specs.Meaning.{FunTree}
 use Rattle.smt_operations.specs.Helpers.{operation_expr}

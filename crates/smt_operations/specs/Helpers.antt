@@ -2,7 +2,7 @@
 use Rattle.std.specs.Prelude.{ℕ, Bool, true, false, List, [], ◌∷◌, codes}
 use Rattle.rv_words.specs.declared.operation.Op.{Op}
 use Rattle.rv_words.specs.declared.operation.Op.TheVariants.{Add, Sub, Sll, Slt, Sltu, Xor, Srl, Sra, Or, And, Mul, Mulh, Mulhsu, Mulhu, Div, Divu, Rem, Remu, Addw, Subw, Sllw, Srlw, Sraw, Mulw, Divw, Divuw, Remw, Remuw}
-use Rattle.smt_terms.specs.Expression.{Expr, Atom, Node, apply, indexed, literal, ite}
+use Rattle.smt_terms.specs.Expression.{Expr, Atom, apply, indexed, literal, ite}
 
 abbrev pub a : Expr
 a = Atom (codes "a")

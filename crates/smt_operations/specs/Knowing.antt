@@ -1,5 +1,5 @@
 -- When functions stand for operations and accesses.
-use Rattle.std.specs.Prelude.{◌≡◌, ℕ, ◌<◌, ◌^◌, List, [], ◌∷◌, codes, Option, Some, None}
+use Rattle.std.specs.Prelude.{◌≡◌, ℕ, ◌<◌, ◌^◌, [], ◌∷◌, codes, Option, Some, None}
 use Rattle.rv_words.specs.Operation.{operation_value, extension_value}
 use Rattle.rv_words.specs.Bytes.{Bytes, bytes_of, load, store, inside}
 use Rattle.rv_words.specs.declared.operation.Op.{Op}

@@ -1,6 +1,6 @@
 //! The functions that stand for operations, extensions and accesses.
 
-ghost use Rattle.std.specs.Prelude.{◌≡◌, ◌∷◌, ◌++◌, [], IfOk, OnErr, OnOk, map};
+ghost use Rattle.std.specs.Prelude.{◌≡◌, ◌∷◌, ◌++◌, [], IfOk, OnOk, map};
 ghost use Rattle.smt_terms.specs.Views.{fun_tree};
 ghost use Rattle.smt_operations.specs.Functions.{ext_fun, helpers, inside_fun, load_fun, op_fun, store_fun};
 ghost use Rattle.smt_operations.specs.inner.Listed.{helper_fun};

@@ -1,7 +1,7 @@
 -- Terms and functions as tokens, printed one after the other.
 use Rattle.std.proofs.Common.{◌≡◌, ℕ, List, [], ◌∷◌, ◌++◌, map, flat_map, codes, rules, refl, sym, ap, ◌∙◌}
 use Rattle.std.specs.Fmt.{decimal}
-use Rattle.mc_text.specs.Tokens.{Tok, Left, Right, Atom as Name, Eol}
+use Rattle.mc_text.specs.Tokens.{Left, Right, Atom as Name, Eol}
 use Rattle.mc_text.specs.Printing.{Page, put, print}
 use Rattle.mc_text.proofs.Printed.{print_append}
 use Rattle.smt_terms.specs.declared.sort.Sort.{Sort}

@@ -1,10 +1,9 @@
 -- The value and the sort of a term depend on the names alone that occur in it.
-use Rattle.std.proofs.Common.{◌≡◌, ℕ, Bool, true, false, cond, List, [], ◌∷◌, Option, Some, None, refl, sym, ap, subst, ◌∙◌}
+use Rattle.std.proofs.Common.{◌≡◌, ℕ, Bool, true, false, cond, List, ◌∷◌, Option, Some, None, refl, sym, ◌∙◌}
 use Rattle.std.specs.Prelude.{◌||◌}
 use Rattle.std.specs.Str.{bytes_eq}
 use Rattle.smt_terms.specs.declared.sort.Sort.{Sort}
-use Rattle.smt_terms.specs.Expression.{Expr, Atom, Node, Exprs, End, Then, let_in, occurs, occurs_in, is_atom, bound_where, bound}
-use Rattle.smt_terms.specs.Operators.{Value}
+use Rattle.smt_terms.specs.Expression.{Expr, Atom, Node, Exprs, End, Then, occurs, occurs_in, is_atom, bound_where, bound}
 use Rattle.smt_terms.specs.Meaning.{Named, Variables, Functions, bind, term_head, atom_value, literal_value, by_head, value, binding_value, values}
 use Rattle.smt_terms.specs.Sorts.{Sorts, Rules, atom_sort, literal_sort, sort_by_head, sort_of, binding_sort, bound_sort, sorts_of}
 

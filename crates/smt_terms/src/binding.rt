@@ -1,11 +1,10 @@
 //! Bindings of names that occur.
 
 ghost use Rattle.std.specs.Prelude.{◌≡◌, IfOk, map};
-ghost use Rattle.std.specs.Str.{bytes_eq};
-ghost use Rattle.smt_terms.specs.Expression.{End, Node, Then, bound, exprs, is_atom, let_in, occurs, occurs_in};
+ghost use Rattle.smt_terms.specs.Expression.{End, Node, Then, bound, exprs, let_in, occurs, occurs_in};
 ghost use Rattle.smt_terms.specs.Views.{expr};
 
-use crate::tree::{Tree, atom, two};
+use crate::tree::{Tree, atom, is_atom, two};
 use rv_words::{List, NoMemory};
 use std::alloc::Global;
 
@@ -32,16 +31,6 @@ fn occurs_in(name: &[u8], items: &[Tree]) -> bool
         }
     }
     false
-}
-
-/// Whether a tree is the atom of that name.
-fn is_atom(name: &[u8], tree: &Tree) -> bool
-    ensures { result ≡ is_atom name.now (expr tree.now) }
-{
-    match tree {
-        Tree::Atom(text) => text.as_slice() == name,
-        Tree::Node(_) => false,
-    }
 }
 
 /// A body in which the name stands for a term.

@@ -11,4 +11,4 @@ pub use binding::{bound, occurs};
 pub use print::script_bytes;
 pub use script::{Fun, Script};
 pub use sort::Sort;
-pub use tree::{Tree, atom, ite, numbered, one, three, two, word};
+pub use tree::{Tree, atom, is_atom, ite, numbered, one, three, two, word};

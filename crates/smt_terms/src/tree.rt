@@ -1,8 +1,8 @@
 //! S-expressions.
 
-ghost use Rattle.std.specs.Prelude.{◌≡◌, ◌++◌, ◌∷◌, List, [], IfOk, map, codes};
+ghost use Rattle.std.specs.Prelude.{◌≡◌, ◌++◌, ◌∷◌, List, [], IfOk};
 ghost use Rattle.std.specs.Fmt.{decimal};
-ghost use Rattle.smt_terms.specs.Expression.{Atom, apply, ite, word};
+ghost use Rattle.smt_terms.specs.Expression.{Atom, apply, is_atom, ite, word};
 ghost use Rattle.smt_terms.specs.Views.{expr};
 
 use mc_text::{put_atom, put_dec};
@@ -23,6 +23,16 @@ pub fn atom(alloc: Global, name: &[u8]) -> Result<Tree, NoMemory>
     let mut text = Bytes::new(alloc);
     put_atom(&mut text, name)?;
     Ok(Tree::Atom(text))
+}
+
+/// Whether a tree is the atom of that name.
+pub fn is_atom(name: &[u8], tree: &Tree) -> bool
+    ensures { result ≡ is_atom name.now (expr tree.now) }
+{
+    match tree {
+        Tree::Atom(text) => text.as_slice() == name,
+        Tree::Node(_) => false,
+    }
 }
 
 /// The atom of letters and a number.

@@ -1,4 +1,3 @@
-use Rattle.std.proofs.Common.{ℕ}
 use Rattle.smt_operations.proofs.accesses.+address.Given as goal
 
 abbrev pub decreases-address : goal.decreases-address

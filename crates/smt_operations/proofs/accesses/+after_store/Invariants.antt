@@ -1,4 +1,3 @@
-use Rattle.std.proofs.Common.{ℕ}
 use Rattle.smt_operations.proofs.accesses.+after_store.Given as goal
 
 abbrev pub decreases-after_store : goal.decreases-after_store

@@ -1,4 +1,3 @@
-use Rattle.std.proofs.Common.{ℕ}
 use Rattle.smt_operations.proofs.accesses.+all_present.Given as goal
 
 abbrev pub decreases-all_present : goal.decreases-all_present

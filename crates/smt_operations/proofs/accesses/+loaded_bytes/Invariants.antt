@@ -1,4 +1,3 @@
-use Rattle.std.proofs.Common.{ℕ}
 use Rattle.smt_operations.proofs.accesses.+loaded_bytes.Given as goal
 
 abbrev pub decreases-loaded_bytes : goal.decreases-loaded_bytes

@@ -1,4 +1,3 @@
-use Rattle.std.proofs.Common.{ℕ}
 use Rattle.smt_operations.proofs.accesses.+shifted.Given as goal
 
 abbrev pub decreases-shifted : goal.decreases-shifted
