@@ -1,5 +1,5 @@
 -- The words of a command, from the first to the last.
-use Rattle.std.proofs.Common.{true, true≢false, ◌<◌, ◌^◌, ◌≡◌, ◌≢◌, ℕ, ◌-◌, ◌≤◌, List, [], ◌∷◌, length, take, drop, map, get_or, codes, Option, Some, None, string_bytes, string_len, suc, eqb, false, refl, sym, ap, subst, ◌∙◌, arith}
+use Rattle.std.proofs.Common.{true, ◌<◌, ◌^◌, ◌≡◌, ◌≢◌, ℕ, ◌-◌, ◌≤◌, List, [], ◌∷◌, length, take, drop, map, get_or, codes, Option, Some, None, string_bytes, string_len, suc, eqb, false, refl, sym, ap, subst, ◌∙◌, arith}
 use Rattle.std.specs.Fmt.{decimal}
 use Rattle.std.specs.Str.{bytes_eq}
 use Rattle.std.specs.declared.string.String.{String}
@@ -12,13 +12,17 @@ use Rattle.mcdec_words.specs.declared.command.Run.{Run as ReadRun}
 use Rattle.mcdec_words.specs.declared.command.Check.{Check as ReadCheck}
 use Rattle.mcdec_words.specs.declared.command.Decompile.{Decompile as ReadDecompile}
 use Rattle.mcdec_words.specs.declared.command.SelfTest.{SelfTest as ReadSelfTest}
+use Rattle.mcdec_words.specs.declared.command.Simplify.{Simplify as ReadSimplify}
+use Rattle.mcdec_words.specs.declared.command.Laws.{Laws as ReadLaws}
+use Rattle.mcdec_words.specs.declared.command.Smt.{Smt as ReadSmt}
 use Rattle.mc_text.specs.Number.{hex, number_of}
-use Rattle.mcdec_words.specs.Command.{AreNames, Eval, Run, Check, Decompile, SelfTest, Arg, IsCommand, IsNoCommand, Words, arg_word, texts}
+use Rattle.mcdec_words.specs.Command.{AreNames, Command, Eval, Run, Check, Decompile, SelfTest, Simplify, Laws, Smt, Arg, IsCommand, IsNoCommand, Words, arg_word, texts}
 use Rattle.group_text.specs.Limits.{IsName}
-use Rattle.mcdec_words.specs.CommandReading.{HoldsArgs, NoArgs, AllArgs, Unless, NoEval, IsEval, NoRun, IsRun, NoCheck, IsCheck, NoDecompile, IsDecompile, NoSelfTest, IsSelfTest, operands_of}
+use Rattle.mcdec_words.specs.CommandReading.{HoldsArgs, NoArgs, AllArgs, Unless, NoEval, IsEval, NoRun, IsRun, NoCheck, IsCheck, NoDecompile, IsDecompile, NoSelfTest, IsSelfTest, NoSimplify, IsSimplify, IsLaws, NoSmt, IsSmt, operands_of}
 use Rattle.mcdec_words.specs.declared.command.Unread.{Unread}
 use Rattle.rv_words.specs.declared.range.Range.{Range}
 use Rattle.mcdec_words.proofs.ArgWords.{unless-also}
+use Rattle.mcdec_words.proofs.CommandNames.{is-check, is-decompile, is-eval, is-run, is-simplify, is-smt, is-test, name_of, named-words}
 use Rattle.mc_text.proofs.Numbers.{number_of-takes, number_of-again}
 use Rattle.mc_text.proofs.OneSpelling.{decimal-once}
 
@@ -265,153 +269,183 @@ other-size word n spelled none k low high e =
     let same : n ≡ k = decimal-once n k spelled.0 (omega (arith, high)) (sym spelled.1 ∙ e) in
     none (omega (arith, same, low)) (omega (arith, same, high))
 
--- ---- all of the words
+-- ---- the words behind `simplify`
 
-pub other-name : (a b : List ℕ) → bytes_eq a b ≡ false → a ≡ b → ⊥
-other-name a b other e = true≢false (sym ((bytes_eq-Decides a b).1 e) ∙ other)
+three-words : (words : List Word) (a b c : Word) → length words ≡ 3 → a ≡ get_or words 0 a → b ≡ get_or words 1 b → c ≡ get_or words 2 c → texts words ≡ string_bytes a ∷ string_bytes b ∷ string_bytes c ∷ []
+three-words [] a b c three ha hb hc = absurd (omega (arith, three))
+three-words (w ∷ []) a b c three ha hb hc = absurd (omega (arith, three))
+three-words (w ∷ v ∷ []) a b c three ha hb hc = absurd (omega (arith, three))
+three-words (w ∷ v ∷ u ∷ []) a b c three ha hb hc = λ i. string_bytes (sym ha i) ∷ string_bytes (sym hb i) ∷ string_bytes (sym hc i) ∷ []
+three-words (w ∷ v ∷ u ∷ t ∷ ws) a b c three ha hb hc = absurd (omega (arith, three))
+
+module _ (words : List Word) (proof name out : Word) (three : length words ≡ 3) (first : proof ≡ get_or words 0 proof) (second : name ≡ get_or words 1 name) (third : out ≡ get_or words 2 out) where
+  split-simplify : texts words ≡ string_bytes proof ∷ string_bytes name ∷ string_bytes out ∷ []
+  split-simplify = three-words words proof name out three first second third
+
+  pub no-output : string_bytes out ≡ [] → NoSimplify (texts words)
+  no-output none p n o is same =
+      let whole = sym split-simplify ∙ same in
+      let word : string_bytes out ≡ o = cc in
+      is.2 (sym word ∙ none)
+
+  pub same-file : string_bytes proof ≡ string_bytes out → NoSimplify (texts words)
+  same-file one p n o is same =
+      let whole = sym split-simplify ∙ same in
+      let word : string_bytes proof ≡ p = cc in
+      let other : string_bytes out ≡ o = cc in
+      is.3 (sym word ∙ one ∙ other)
+
+  pub simplify-read : (p n o : List ℕ) → p ≡ string_bytes proof → n ≡ string_bytes name → o ≡ string_bytes out → string_bytes proof ≢ [] → IsName (string_bytes name) → string_bytes out ≢ []
+      → (string_bytes proof ≡ string_bytes out → ⊥) → IsCommand (Simplify p n o) × (texts words ≡ operands_of (Simplify p n o))
+  simplify-read p n o ep en eo some is more apart = (
+    ((λ e. some (sym ep ∙ e)), subst IsName (sym en) is, (λ e. more (sym eo ∙ e)), (λ same. apart (sym ep ∙ same ∙ eo))),
+    split-simplify ∙ (λ i. sym ep i ∷ sym en i ∷ sym eo i ∷ []),
+  )
+
+-- ---- the words behind `smt`
+
+just-four : (words : List Word) (a b c d : Word) → length words ≡ 4 → a ≡ get_or words 0 a → b ≡ get_or words 1 b → c ≡ get_or words 2 c → d ≡ get_or words 3 d
+    → texts words ≡ string_bytes a ∷ string_bytes b ∷ string_bytes c ∷ string_bytes d ∷ []
+just-four [] a b c d four ha hb hc hd = absurd (omega (arith, four))
+just-four (w ∷ []) a b c d four ha hb hc hd = absurd (omega (arith, four))
+just-four (w ∷ v ∷ []) a b c d four ha hb hc hd = absurd (omega (arith, four))
+just-four (w ∷ v ∷ u ∷ []) a b c d four ha hb hc hd = absurd (omega (arith, four))
+just-four (w ∷ v ∷ u ∷ t ∷ []) a b c d four ha hb hc hd = λ i. string_bytes (sym ha i) ∷ string_bytes (sym hb i) ∷ string_bytes (sym hc i) ∷ string_bytes (sym hd i) ∷ []
+just-four (w ∷ v ∷ u ∷ t ∷ s ∷ ws) a b c d four ha hb hc hd = absurd (omega (arith, four))
+
+module _ (words : List Word) (proof name def out : Word) (four : length words ≡ 4)
+    (first : proof ≡ get_or words 0 proof) (second : name ≡ get_or words 1 name) (third : def ≡ get_or words 2 def) (fourth : out ≡ get_or words 3 out) where
+  split-smt : texts words ≡ string_bytes proof ∷ string_bytes name ∷ string_bytes def ∷ string_bytes out ∷ []
+  split-smt = just-four words proof name def out four first second third fourth
+
+  pub smt-no-proof : string_bytes proof ≡ [] → NoSmt (texts words)
+  smt-no-proof none p n d o is same =
+      let whole = sym split-smt ∙ same in
+      let word : string_bytes proof ≡ p = cc in
+      is.0 (sym word ∙ none)
+
+  pub smt-no-name : (IsName (string_bytes name) → ⊥) → NoSmt (texts words)
+  smt-no-name none p n d o is same =
+      let whole = sym split-smt ∙ same in
+      let word : string_bytes name ≡ n = cc in
+      none (subst IsName (sym word) is.1)
+
+  pub smt-no-output : string_bytes out ≡ [] → NoSmt (texts words)
+  smt-no-output none p n d o is same =
+      let whole = sym split-smt ∙ same in
+      let word : string_bytes out ≡ o = cc in
+      is.3 (sym word ∙ none)
+
+  pub smt-same-file : string_bytes proof ≡ string_bytes out → NoSmt (texts words)
+  smt-same-file one p n d o is same =
+      let whole = sym split-smt ∙ same in
+      let word : string_bytes proof ≡ p = cc in
+      let other : string_bytes out ≡ o = cc in
+      is.4 (sym word ∙ one ∙ other)
+
+  pub smt-read : (p n : List ℕ) (d : ℕ) (o : List ℕ) → p ≡ string_bytes proof → n ≡ string_bytes name → (d < 2 ^ 64) × (string_bytes def ≡ decimal d) → o ≡ string_bytes out → string_bytes proof ≢ []
+      → IsName (string_bytes name) → string_bytes out ≢ [] → (string_bytes proof ≡ string_bytes out → ⊥) → IsCommand (Smt p n d o) × (texts words ≡ operands_of (Smt p n d o))
+  smt-read p n d o ep en number eo some is more apart = (
+    ((λ e. some (sym ep ∙ e)), subst IsName (sym en) is, number.0, (λ e. more (sym eo ∙ e)), (λ same. apart (sym ep ∙ same ∙ eo))),
+    split-smt ∙ (λ i. sym ep i ∷ sym en i ∷ number.1 i ∷ sym eo i ∷ []),
+  )
+
+-- ---- all of the words
 
 module _ (words : List Word) (first : Word) (low : 1 ≤ length words) (here : first ≡ get_or words 0 first) (text : List ℕ) (value : text ≡ string_bytes first) where
   named : (name : List ℕ) → bytes_eq text name ≡ true → texts words ≡ name ∷ behind_first 1 words
   named name is = first-word words first low here ∙ ap (λ (w : List ℕ). w ∷ behind_first 1 words) (sym value ∙ (bytes_eq-Decides text name).0 is)
 
+  -- a command that the words are, where the first word is told
+  with-name : (name : List ℕ) → bytes_eq text name ≡ true → (c : Command) → Words (texts words) c → (name_of c ≡ name) × (behind_first 1 words ≡ operands_of c)
+  with-name name is c w = named-words (texts words) (behind_first 1 words) name c (named name is) w
+
+  behind-name : (name : List ℕ) → bytes_eq text name ≡ true → (ws : List (List ℕ)) → behind_first 1 words ≡ ws → texts words ≡ name ∷ ws
+  behind-name name is ws e = named name is ∙ ap (λ vs. name ∷ vs) e
+
   not-eval : bytes_eq text (codes "eval") ≡ true → NoEval (behind_first 1 words) → IsNoCommand (texts words)
-  not-eval is none (Eval p n t args) c =
-      let whole = sym (named (codes "eval") is) ∙ c.1 in
-      let same : behind_first 1 words ≡ operands_of (Eval p n t args) = cc in
-      none p n t args c.0 same
-  not-eval is none (Run e s u k args) c =
-      let whole = sym (named (codes "eval") is) ∙ c.1 in
-      let same : codes "eval" ≡ codes "run" = cc in
-      absurd (other-name (codes "eval") (codes "run") refl same)
-  not-eval is none (Decompile e o ns) c =
-      let whole = sym (named (codes "eval") is) ∙ c.1 in
-      let same : codes "eval" ≡ codes "decompile" = cc in
-      absurd (other-name (codes "eval") (codes "decompile") refl same)
-  not-eval is none (SelfTest n k) c =
-      let whole = sym (named (codes "eval") is) ∙ c.1 in
-      let same : codes "eval" ≡ codes "selftest" = cc in
-      absurd (other-name (codes "eval") (codes "selftest") refl same)
-  not-eval is none (Check e p) c =
-      let whole = sym (named (codes "eval") is) ∙ c.1 in
-      let same : codes "eval" ≡ codes "check" = cc in
-      absurd (other-name (codes "eval") (codes "check") refl same)
+  not-eval is none c w =
+      let s = with-name (codes "eval") is c w in
+      let v = is-eval c s.0 in
+      none v.0 v.1 v.2 v.3 (subst IsCommand v.4 w.0) (s.1 ∙ ap operands_of v.4)
 
   pub no-eval : bytes_eq text (codes "eval") ≡ true → (e : Unread) → Unless (NoEval (behind_first 1 words)) e → Unless (IsNoCommand (texts words)) e
   no-eval is e none = unless-also (not-eval is) e none
 
-  pub eval-is : bytes_eq text (codes "eval") ≡ true → (e : ReadEval) → IsEval (behind_first 1 words) e
-      → (args : List Arg) × Words (texts words) (Eval e.proof.now e.name.now e.turns args) × HoldsArgs args e.given.values e.memory
-  eval-is is e all = (all.0, (all.1, named (codes "eval") is ∙ ap (λ (ws : List (List ℕ)). codes "eval" ∷ ws) all.2), all.3)
+  pub eval-is : bytes_eq text (codes "eval") ≡ true → (e : ReadEval) → IsEval (behind_first 1 words) e → (args : List Arg) × Words (texts words) (Eval e.proof.now e.name.now e.turns args) × HoldsArgs args e.given.values e.memory
+  eval-is is e all = (all.0, (all.1, behind-name (codes "eval") is _ all.2), all.3)
 
-  no-command : bytes_eq text (codes "run") ≡ true → NoRun (behind_first 1 words) → IsNoCommand (texts words)
-  no-command is none (Run e s u k args) c =
-      let whole = sym (named (codes "run") is) ∙ c.1 in
-      let same : behind_first 1 words ≡ operands_of (Run e s u k args) = cc in
-      none e s u k args c.0 same
-  no-command is none (Eval p n t args) c =
-      let whole = sym (named (codes "run") is) ∙ c.1 in
-      let same : codes "run" ≡ codes "eval" = cc in
-      absurd (other-name (codes "run") (codes "eval") refl same)
-  no-command is none (Decompile e o ns) c =
-      let whole = sym (named (codes "run") is) ∙ c.1 in
-      let same : codes "run" ≡ codes "decompile" = cc in
-      absurd (other-name (codes "run") (codes "decompile") refl same)
-  no-command is none (SelfTest n k) c =
-      let whole = sym (named (codes "run") is) ∙ c.1 in
-      let same : codes "run" ≡ codes "selftest" = cc in
-      absurd (other-name (codes "run") (codes "selftest") refl same)
-  no-command is none (Check e p) c =
-      let whole = sym (named (codes "run") is) ∙ c.1 in
-      let same : codes "run" ≡ codes "check" = cc in
-      absurd (other-name (codes "run") (codes "check") refl same)
+  not-run : bytes_eq text (codes "run") ≡ true → NoRun (behind_first 1 words) → IsNoCommand (texts words)
+  not-run is none c w =
+      let s = with-name (codes "run") is c w in
+      let v = is-run c s.0 in
+      none v.0 v.1 v.2 v.3 v.4 (subst IsCommand v.5 w.0) (s.1 ∙ ap operands_of v.5)
 
   pub no-run : bytes_eq text (codes "run") ≡ true → (e : Unread) → Unless (NoRun (behind_first 1 words)) e → Unless (IsNoCommand (texts words)) e
-  no-run is e none = unless-also (no-command is) e none
+  no-run is e none = unless-also (not-run is) e none
 
-  pub run-is : bytes_eq text (codes "run") ≡ true → (r : ReadRun) → IsRun (behind_first 1 words) r
-      → (args : List Arg) × Words (texts words) (Run r.elf.now r.start.now r.until r.steps args) × HoldsArgs args r.given.values r.memory
-  run-is is r all = (all.0, (all.1, named (codes "run") is ∙ ap (λ (ws : List (List ℕ)). codes "run" ∷ ws) all.2), all.3)
+  pub run-is : bytes_eq text (codes "run") ≡ true → (r : ReadRun) → IsRun (behind_first 1 words) r → (args : List Arg) × Words (texts words) (Run r.elf.now r.start.now r.until r.steps args) × HoldsArgs args r.given.values r.memory
+  run-is is r all = (all.0, (all.1, behind-name (codes "run") is _ all.2), all.3)
 
   not-check : bytes_eq text (codes "check") ≡ true → NoCheck (behind_first 1 words) → IsNoCommand (texts words)
-  not-check is none (Check e p) c =
-      let whole = sym (named (codes "check") is) ∙ c.1 in
-      let same : behind_first 1 words ≡ operands_of (Check e p) = cc in
-      none e p c.0 same
-  not-check is none (Decompile e o ns) c =
-      let whole = sym (named (codes "check") is) ∙ c.1 in
-      let same : codes "check" ≡ codes "decompile" = cc in
-      absurd (other-name (codes "check") (codes "decompile") refl same)
-  not-check is none (Eval p n t args) c =
-      let whole = sym (named (codes "check") is) ∙ c.1 in
-      let same : codes "check" ≡ codes "eval" = cc in
-      absurd (other-name (codes "check") (codes "eval") refl same)
-  not-check is none (SelfTest n k) c =
-      let whole = sym (named (codes "check") is) ∙ c.1 in
-      let same : codes "check" ≡ codes "selftest" = cc in
-      absurd (other-name (codes "check") (codes "selftest") refl same)
-  not-check is none (Run e s u k args) c =
-      let whole = sym (named (codes "check") is) ∙ c.1 in
-      let same : codes "check" ≡ codes "run" = cc in
-      absurd (other-name (codes "check") (codes "run") refl same)
+  not-check is none c w =
+      let s = with-name (codes "check") is c w in
+      let v = is-check c s.0 in
+      none v.0 v.1 (subst IsCommand v.2 w.0) (s.1 ∙ ap operands_of v.2)
 
   pub no-check : bytes_eq text (codes "check") ≡ true → (e : Unread) → Unless (NoCheck (behind_first 1 words)) e → Unless (IsNoCommand (texts words)) e
   no-check is e none = unless-also (not-check is) e none
 
   pub check-is : bytes_eq text (codes "check") ≡ true → (c : ReadCheck) → IsCheck (behind_first 1 words) c → Words (texts words) (Check c.elf.now c.proof.now)
-  check-is is c all = (all.0, named (codes "check") is ∙ ap (λ (ws : List (List ℕ)). codes "check" ∷ ws) all.1)
+  check-is is c all = (all.0, behind-name (codes "check") is _ all.1)
 
   not-decompile : bytes_eq text (codes "decompile") ≡ true → NoDecompile (behind_first 1 words) → IsNoCommand (texts words)
-  not-decompile is none (Decompile e o ns) c =
-      let whole = sym (named (codes "decompile") is) ∙ c.1 in
-      let same : behind_first 1 words ≡ operands_of (Decompile e o ns) = cc in
-      none e o ns c.0 same
-  not-decompile is none (Eval p n t args) c =
-      let whole = sym (named (codes "decompile") is) ∙ c.1 in
-      let same : codes "decompile" ≡ codes "eval" = cc in
-      absurd (other-name (codes "decompile") (codes "eval") refl same)
-  not-decompile is none (Run e s u k args) c =
-      let whole = sym (named (codes "decompile") is) ∙ c.1 in
-      let same : codes "decompile" ≡ codes "run" = cc in
-      absurd (other-name (codes "decompile") (codes "run") refl same)
-  not-decompile is none (SelfTest n k) c =
-      let whole = sym (named (codes "decompile") is) ∙ c.1 in
-      let same : codes "decompile" ≡ codes "selftest" = cc in
-      absurd (other-name (codes "decompile") (codes "selftest") refl same)
-  not-decompile is none (Check e p) c =
-      let whole = sym (named (codes "decompile") is) ∙ c.1 in
-      let same : codes "decompile" ≡ codes "check" = cc in
-      absurd (other-name (codes "decompile") (codes "check") refl same)
+  not-decompile is none c w =
+      let s = with-name (codes "decompile") is c w in
+      let v = is-decompile c s.0 in
+      none v.0 v.1 v.2 (subst IsCommand v.3 w.0) (s.1 ∙ ap operands_of v.3)
 
   pub no-decompile : bytes_eq text (codes "decompile") ≡ true → (e : Unread) → Unless (NoDecompile (behind_first 1 words)) e → Unless (IsNoCommand (texts words)) e
   no-decompile is e none = unless-also (not-decompile is) e none
 
   pub decompile-is : bytes_eq text (codes "decompile") ≡ true → (d : ReadDecompile) → IsDecompile (behind_first 1 words) d → Words (texts words) (Decompile d.elf.now d.out.now d.names)
-  decompile-is is d all = (all.0, named (codes "decompile") is ∙ ap (λ (ws : List (List ℕ)). codes "decompile" ∷ ws) all.1)
+  decompile-is is d all = (all.0, behind-name (codes "decompile") is _ all.1)
 
   not-test : bytes_eq text (codes "selftest") ≡ true → NoSelfTest (behind_first 1 words) → IsNoCommand (texts words)
-  not-test is none (SelfTest n k) c =
-      let whole = sym (named (codes "selftest") is) ∙ c.1 in
-      let same : behind_first 1 words ≡ operands_of (SelfTest n k) = cc in
-      none n k c.0 same
-  not-test is none (Eval p n t args) c =
-      let whole = sym (named (codes "selftest") is) ∙ c.1 in
-      let same : codes "selftest" ≡ codes "eval" = cc in
-      absurd (other-name (codes "selftest") (codes "eval") refl same)
-  not-test is none (Run e s u k args) c =
-      let whole = sym (named (codes "selftest") is) ∙ c.1 in
-      let same : codes "selftest" ≡ codes "run" = cc in
-      absurd (other-name (codes "selftest") (codes "run") refl same)
-  not-test is none (Check e p) c =
-      let whole = sym (named (codes "selftest") is) ∙ c.1 in
-      let same : codes "selftest" ≡ codes "check" = cc in
-      absurd (other-name (codes "selftest") (codes "check") refl same)
-  not-test is none (Decompile e o ns) c =
-      let whole = sym (named (codes "selftest") is) ∙ c.1 in
-      let same : codes "selftest" ≡ codes "decompile" = cc in
-      absurd (other-name (codes "selftest") (codes "decompile") refl same)
+  not-test is none c w =
+      let s = with-name (codes "selftest") is c w in
+      let v = is-test c s.0 in
+      none v.0 v.1 (subst IsCommand v.2 w.0) (s.1 ∙ ap operands_of v.2)
 
   pub no-test : bytes_eq text (codes "selftest") ≡ true → (e : Unread) → Unless (NoSelfTest (behind_first 1 words)) e → Unless (IsNoCommand (texts words)) e
   no-test is e none = unless-also (not-test is) e none
 
   pub test-is : bytes_eq text (codes "selftest") ≡ true → (t : ReadSelfTest) → IsSelfTest (behind_first 1 words) t → Words (texts words) (SelfTest t.number t.size)
-  test-is is t all = (all.0, named (codes "selftest") is ∙ ap (λ (ws : List (List ℕ)). codes "selftest" ∷ ws) all.1)
+  test-is is t all = (all.0, behind-name (codes "selftest") is _ all.1)
+
+  not-simplify : bytes_eq text (codes "simplify") ≡ true → NoSimplify (behind_first 1 words) → IsNoCommand (texts words)
+  not-simplify is none c w =
+      let s = with-name (codes "simplify") is c w in
+      let v = is-simplify c s.0 in
+      none v.0 v.1 v.2 (subst IsCommand v.3 w.0) (s.1 ∙ ap operands_of v.3)
+
+  pub no-simplify : bytes_eq text (codes "simplify") ≡ true → (e : Unread) → Unless (NoSimplify (behind_first 1 words)) e → Unless (IsNoCommand (texts words)) e
+  no-simplify is e none = unless-also (not-simplify is) e none
+
+  pub simplify-is : bytes_eq text (codes "simplify") ≡ true → (s : ReadSimplify) → IsSimplify (behind_first 1 words) s → Words (texts words) (Simplify s.proof.now s.name.now s.out.now)
+  simplify-is is s all = (all.0, behind-name (codes "simplify") is _ all.1)
+
+  pub laws-is : bytes_eq text (codes "laws") ≡ true → (l : ReadLaws) → IsLaws (behind_first 1 words) l → Words (texts words) (Laws l.proof.now l.cert.now)
+  laws-is is l all = (all.0, behind-name (codes "laws") is _ all.1)
+
+  not-smt : bytes_eq text (codes "smt") ≡ true → NoSmt (behind_first 1 words) → IsNoCommand (texts words)
+  not-smt is none c w =
+      let s = with-name (codes "smt") is c w in
+      let v = is-smt c s.0 in
+      none v.0 v.1 v.2 v.3 (subst IsCommand v.4 w.0) (s.1 ∙ ap operands_of v.4)
+
+  pub no-smt : bytes_eq text (codes "smt") ≡ true → (e : Unread) → Unless (NoSmt (behind_first 1 words)) e → Unless (IsNoCommand (texts words)) e
+  no-smt is e none = unless-also (not-smt is) e none
+
+  pub smt-is : bytes_eq text (codes "smt") ≡ true → (s : ReadSmt) → IsSmt (behind_first 1 words) s → Words (texts words) (Smt s.proof.now s.name.now s.def s.out.now)
+  smt-is is s all = (all.0, behind-name (codes "smt") is _ all.1)

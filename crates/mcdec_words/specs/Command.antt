@@ -5,6 +5,9 @@
 --   check ELF PROOF
 --   decompile ELF OUT NAME+
 --   selftest NUMBER SIZE
+--   simplify PROOF NAME OUT
+--   laws PROOF CERT
+--   smt PROOF NAME DEF OUT
 use Rattle.std.specs.Prelude.{◌≡◌, ◌≢◌, ℕ, ◌<◌, ◌≤◌, ◌^◌, ◌+◌, ◌==◌, if◌then◌else◌, List, [], ◌∷◌, ◌++◌, length, map, codes, Option, Some, None, unwrap_or, string_bytes}
 use Rattle.std.specs.List.{All, AllByRecursion, AllPairs}
 use Rattle.std.specs.Fmt.{decimal}
@@ -31,6 +34,9 @@ pub data Command : Type 0 where
   Check : (elf proof : List ℕ) → Command
   Decompile : (elf out : List ℕ) (names : List (List ℕ)) → Command
   SelfTest : (number size : ℕ) → Command
+  Simplify : (proof name out : List ℕ) → Command
+  Laws : (proof cert : List ℕ) → Command
+  Smt : (proof name : List ℕ) (def : ℕ) (out : List ℕ) → Command
 
 -- xN=V
 abbrev pub given_word : Given → List ℕ
@@ -51,6 +57,9 @@ words_of (Run elf start until steps args) = codes "run" ∷ elf ∷ start ∷ he
 words_of (Check elf proof) = codes "check" ∷ elf ∷ proof ∷ []
 words_of (Decompile elf out names) = codes "decompile" ∷ elf ∷ out ∷ names
 words_of (SelfTest number size) = codes "selftest" ∷ decimal number ∷ decimal size ∷ []
+words_of (Simplify proof name out) = codes "simplify" ∷ proof ∷ name ∷ out ∷ []
+words_of (Laws proof cert) = codes "laws" ∷ proof ∷ cert ∷ []
+words_of (Smt proof name def out) = codes "smt" ∷ proof ∷ name ∷ decimal def ∷ out ∷ []
 
 abbrev pub IsGiven : Given → Type 0
 IsGiven g = (1 ≤ g.register) × (g.register ≤ 31) × (g.value < 2 ^ 64)
@@ -95,6 +104,9 @@ IsCommand (Run elf start until steps args) = (elf ≢ []) × IsName start × (un
 IsCommand (Check elf proof) = (elf ≢ []) × (proof ≢ [])
 IsCommand (Decompile elf out names) = (elf ≢ []) × (out ≢ []) × (elf ≢ out) × (names ≢ []) × AreNames names
 IsCommand (SelfTest number size) = (number < 2 ^ 64) × (1 ≤ size) × (size ≤ 600)
+IsCommand (Simplify proof name out) = (proof ≢ []) × IsName name × (out ≢ []) × (proof ≢ out)
+IsCommand (Laws proof cert) = (proof ≢ []) × (cert ≢ [])
+IsCommand (Smt proof name def out) = (proof ≢ []) × IsName name × (def < 2 ^ 64) × (out ≢ []) × (proof ≢ out)
 
 -- the texts of the words
 abbrev pub texts : List (String Global) → List (List ℕ)
@@ -118,8 +130,13 @@ inputs_of (Run elf start until steps args) = elf ∷ []
 inputs_of (Check elf proof) = elf ∷ proof ∷ []
 inputs_of (Decompile elf out names) = elf ∷ []
 inputs_of (SelfTest number size) = []
+inputs_of (Simplify proof name out) = proof ∷ []
+inputs_of (Laws proof cert) = proof ∷ cert ∷ []
+inputs_of (Smt proof name def out) = proof ∷ []
 
 -- the file that a command writes
 abbrev pub output_of : Command → Option (List ℕ)
 output_of (Decompile elf out names) = Some out
+output_of (Simplify proof name out) = Some out
+output_of (Smt proof name def out) = Some out
 output_of other = None

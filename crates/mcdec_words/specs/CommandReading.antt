@@ -8,12 +8,15 @@ use Rattle.mcdec_words.specs.declared.command.Run.{Run as ReadRun}
 use Rattle.mcdec_words.specs.declared.command.Check.{Check as ReadCheck}
 use Rattle.mcdec_words.specs.declared.command.Decompile.{Decompile as ReadDecompile}
 use Rattle.mcdec_words.specs.declared.command.SelfTest.{SelfTest as ReadSelfTest}
+use Rattle.mcdec_words.specs.declared.command.Simplify.{Simplify as ReadSimplify}
+use Rattle.mcdec_words.specs.declared.command.Laws.{Laws as ReadLaws}
+use Rattle.mcdec_words.specs.declared.command.Smt.{Smt as ReadSmt}
 use Rattle.mcdec_words.specs.declared.command.Argument.{Argument as ReadArg}
 use Rattle.mcdec_words.specs.declared.command.Argument.TheVariants as read_arg
 use Rattle.mcdec_words.specs.declared.command.Unread.{Unread}
 use Rattle.mcdec_words.specs.declared.command.Unread.TheVariants as unread
 use Rattle.rv_words.specs.declared.range.Range.{Range}
-use Rattle.mcdec_words.specs.Command.{Eval, Run, Check, Decompile, SelfTest, Arg, Value, Memory, Given, IsGiven, IsMemory, IsCommand, AreArgs, Command, Words, given_to, arg_word, words_of, givens, ranges}
+use Rattle.mcdec_words.specs.Command.{Eval, Run, Check, Decompile, SelfTest, Simplify, Laws, Smt, Arg, Value, Memory, Given, IsGiven, IsMemory, IsCommand, AreArgs, Command, Words, given_to, arg_word, words_of, givens, ranges}
 
 -- each register's value, or none
 abbrev pub Holds : List Given → List (Option ℕ) → Type 0
@@ -100,6 +103,24 @@ NoSelfTest ws = (number size : ℕ) → IsCommand (SelfTest number size) → ws 
 abbrev pub IsSelfTest : List (List ℕ) → ReadSelfTest → Type 0
 IsSelfTest ws t = IsCommand (SelfTest t.number t.size) × (ws ≡ operands_of (SelfTest t.number t.size))
 
+abbrev pub NoSimplify : List (List ℕ) → Type 0
+NoSimplify ws = (proof name out : List ℕ) → IsCommand (Simplify proof name out) → ws ≢ operands_of (Simplify proof name out)
+
+abbrev pub IsSimplify : List (List ℕ) → ReadSimplify → Type 0
+IsSimplify ws s = IsCommand (Simplify s.proof.now s.name.now s.out.now) × (ws ≡ operands_of (Simplify s.proof.now s.name.now s.out.now))
+
+abbrev pub NoLaws : List (List ℕ) → Type 0
+NoLaws ws = (proof cert : List ℕ) → IsCommand (Laws proof cert) → ws ≢ operands_of (Laws proof cert)
+
+abbrev pub IsLaws : List (List ℕ) → ReadLaws → Type 0
+IsLaws ws l = IsCommand (Laws l.proof.now l.cert.now) × (ws ≡ operands_of (Laws l.proof.now l.cert.now))
+
+abbrev pub NoSmt : List (List ℕ) → Type 0
+NoSmt ws = (proof name : List ℕ) (def : ℕ) (out : List ℕ) → IsCommand (Smt proof name def out) → ws ≢ operands_of (Smt proof name def out)
+
+abbrev pub IsSmt : List (List ℕ) → ReadSmt → Type 0
+IsSmt ws s = IsCommand (Smt s.proof.now s.name.now s.def s.out.now) × (ws ≡ operands_of (Smt s.proof.now s.name.now s.def s.out.now))
+
 -- the command, seen by what was read
 abbrev pub IsReadEval : List (List ℕ) → ReadEval → Type 0
 IsReadEval ws e = (args : List Arg) × Words ws (Eval e.proof.now e.name.now e.turns args) × HoldsArgs args e.given.values e.memory
@@ -116,9 +137,21 @@ IsReadDecompile ws d = Words ws (Decompile d.elf.now d.out.now d.names)
 abbrev pub IsReadSelfTest : List (List ℕ) → ReadSelfTest → Type 0
 IsReadSelfTest ws t = Words ws (SelfTest t.number t.size)
 
+abbrev pub IsReadSimplify : List (List ℕ) → ReadSimplify → Type 0
+IsReadSimplify ws s = Words ws (Simplify s.proof.now s.name.now s.out.now)
+
+abbrev pub IsReadLaws : List (List ℕ) → ReadLaws → Type 0
+IsReadLaws ws l = Words ws (Laws l.proof.now l.cert.now)
+
+abbrev pub IsReadSmt : List (List ℕ) → ReadSmt → Type 0
+IsReadSmt ws s = Words ws (Smt s.proof.now s.name.now s.def s.out.now)
+
 abbrev pub IsRead : List (List ℕ) → Read → Type 0
 IsRead ws (read.Eval e) = IsReadEval ws e
 IsRead ws (read.Run r) = IsReadRun ws r
 IsRead ws (read.Check c) = IsReadCheck ws c
 IsRead ws (read.Decompile d) = IsReadDecompile ws d
 IsRead ws (read.SelfTest t) = IsReadSelfTest ws t
+IsRead ws (read.Simplify s) = IsReadSimplify ws s
+IsRead ws (read.Laws l) = IsReadLaws ws l
+IsRead ws (read.Smt s) = IsReadSmt ws s

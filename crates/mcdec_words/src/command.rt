@@ -6,7 +6,7 @@ ghost use Rattle.hex.specs.Hex.{encode_lower};
 ghost use Rattle.mc_text.specs.Number.{hex};
 ghost use Rattle.group_text.specs.Limits.{IsName};
 ghost use Rattle.mcdec_words.specs.Command.{AreNames, Arg, Given, IsGiven, IsMemory, IsNoCommand, arg_word, texts};
-ghost use Rattle.mcdec_words.specs.CommandReading.{AllArgs, IsArg, IsCheck, IsDecompile, IsEval, IsRead, IsRun, IsSelfTest, Lacks, NoArgs, NoCheck, NoDecompile, NoEval, NoRun, NoSelfTest, Unless, arg_of, given_in, value_in};
+ghost use Rattle.mcdec_words.specs.CommandReading.{AllArgs, IsArg, IsCheck, IsDecompile, IsEval, IsLaws, IsRead, IsRun, IsSelfTest, IsSimplify, IsSmt, Lacks, NoArgs, NoCheck, NoDecompile, NoEval, NoLaws, NoRun, NoSelfTest, NoSimplify, NoSmt, Unless, arg_of, given_in, value_in};
 ghost use Rattle.mcdec_words.specs.declared.command.Unread.TheVariants.{NoMemory};
 ghost use Rattle.rv_words.specs.declared.range.Range.{Range as RangeOf};
 
@@ -39,6 +39,9 @@ pub enum Command<'a> {
     Check(Check<'a>),
     Decompile(Decompile<'a>),
     SelfTest(SelfTest),
+    Simplify(Simplify<'a>),
+    Laws(Laws<'a>),
+    Smt(Smt<'a>),
 }
 
 /// `eval PROOF NAME TURNS ARG*`
@@ -82,6 +85,30 @@ pub struct Decompile<'a> {
 pub struct SelfTest {
     pub number: u64,
     pub size: u32,
+}
+
+/// `simplify PROOF NAME OUT`
+#[derive(Clone, Copy, Debug)]
+pub struct Simplify<'a> {
+    pub proof: &'a str,
+    pub name: &'a [u8],
+    pub out: &'a str,
+}
+
+/// `laws PROOF CERT`
+#[derive(Clone, Copy, Debug)]
+pub struct Laws<'a> {
+    pub proof: &'a str,
+    pub cert: &'a str,
+}
+
+/// `smt PROOF NAME DEF OUT`
+#[derive(Clone, Copy, Debug)]
+pub struct Smt<'a> {
+    pub proof: &'a str,
+    pub name: &'a [u8],
+    pub def: u64,
+    pub out: &'a str,
 }
 
 /// A word behind the others.
@@ -142,6 +169,15 @@ pub fn read_words(alloc: Global, words: &[String]) -> Result<Command<'_>, Unread
     }
     if first.as_str() == "selftest" {
         return Ok(Command::SelfTest(read_self_test(rest)?));
+    }
+    if first.as_str() == "simplify" {
+        return Ok(Command::Simplify(read_simplify(rest)?));
+    }
+    if first.as_str() == "laws" {
+        return Ok(Command::Laws(read_laws(rest)?));
+    }
+    if first.as_str() == "smt" {
+        return Ok(Command::Smt(read_smt(rest)?));
     }
     Err(Unread::NotACommand)
 }
@@ -247,6 +283,66 @@ fn read_self_test(words: &[String]) -> Result<SelfTest, Unread>
         return Err(Unread::NotACommand);
     };
     Ok(SelfTest { number, size })
+}
+
+/// The words behind `simplify`.
+fn read_simplify(words: &[String]) -> Result<Simplify<'_>, Unread>
+    ensures { MatchResult result (λ s. IsSimplify (texts words.now) s) (λ e. Unless (NoSimplify (texts words.now)) e) }
+{
+    let [proof, name, out] = words else {
+        return Err(Unread::NotACommand);
+    };
+    if proof.is_empty() || !is_name(name.as_bytes()) {
+        return Err(Unread::NotACommand);
+    }
+    if out.is_empty() || proof.as_str() == out.as_str() {
+        return Err(Unread::NotACommand);
+    }
+    Ok(Simplify {
+        proof: proof.as_str(),
+        name: name.as_bytes(),
+        out: out.as_str(),
+    })
+}
+
+/// The words behind `laws`.
+fn read_laws(words: &[String]) -> Result<Laws<'_>, Unread>
+    ensures { MatchResult result (λ l. IsLaws (texts words.now) l) (λ e. Unless (NoLaws (texts words.now)) e) }
+{
+    let [proof, cert] = words else {
+        return Err(Unread::NotACommand);
+    };
+    if proof.is_empty() || cert.is_empty() {
+        return Err(Unread::NotACommand);
+    }
+    Ok(Laws {
+        proof: proof.as_str(),
+        cert: cert.as_str(),
+    })
+}
+
+/// The words behind `smt`.
+fn read_smt(words: &[String]) -> Result<Smt<'_>, Unread>
+    ensures { MatchResult result (λ s. IsSmt (texts words.now) s) (λ e. Unless (NoSmt (texts words.now)) e) }
+{
+    let [proof, name, def, out] = words else {
+        return Err(Unread::NotACommand);
+    };
+    if proof.is_empty() || !is_name(name.as_bytes()) {
+        return Err(Unread::NotACommand);
+    }
+    let Some(def) = dec(def.as_bytes()) else {
+        return Err(Unread::NotACommand);
+    };
+    if out.is_empty() || proof.as_str() == out.as_str() {
+        return Err(Unread::NotACommand);
+    }
+    Ok(Smt {
+        proof: proof.as_str(),
+        name: name.as_bytes(),
+        def,
+        out: out.as_str(),
+    })
 }
 
 /// The size of a program.

@@ -3,4 +3,7 @@
 
 mod command;
 
-pub use command::{Check, Command, Decompile, Eval, Registers, Run, SelfTest, Unread, read_words};
+pub use command::{
+    Check, Command, Decompile, Eval, Laws, Registers, Run, SelfTest, Simplify, Smt, Unread,
+    read_words,
+};

@@ -1,7 +1,8 @@
 use Rattle.std.proofs.Common.{sym, ◌∙◌}
 use Rattle.std.proofs.lemmas.Slice.Eq.{bytes_eq-Decides}
 use Rattle.mcdec_words.proofs.ArgWords.{exit-with}
-use Rattle.mcdec_words.proofs.Words.{bad-names, decompile-read, emptied, filled, no-elf, no-names, no-out, none-further, one-file, other-name, some-further}
+use Rattle.mcdec_words.proofs.CommandNames.{other-name}
+use Rattle.mcdec_words.proofs.Words.{bad-names, decompile-read, emptied, filled, no-elf, no-names, no-out, none-further, one-file, some-further}
 use Rattle.mcdec_words.proofs.command.read_decompile.Goals as goal
 use Rattle.mcdec_words.proofs.command.read_decompile.Goals.{
   then-is_empty-via-then-is_empty,

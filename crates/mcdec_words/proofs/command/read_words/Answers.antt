@@ -1,6 +1,6 @@
 use Rattle.std.proofs.Common.{sym, ◌∙◌}
 use Rattle.mcdec_words.proofs.ArgWords.{exit-with}
-use Rattle.mcdec_words.proofs.Words.{no-eval, eval-is, no-run, run-is, check-is, no-decompile, decompile-is, test-is}
+use Rattle.mcdec_words.proofs.Words.{no-eval, eval-is, no-run, run-is, check-is, no-decompile, decompile-is, laws-is, no-simplify, no-smt, simplify-is, smt-is, test-is}
 use Rattle.mcdec_words.proofs.command.read_words.Goals as goal
 
 pub returns-in_err-read_eval : goal.returns-in_err-read_eval
@@ -37,3 +37,25 @@ returns-then-eq-4 c =
 pub returns-then-eq-5 : goal.returns-then-eq-5
 returns-then-eq-5 c =
     test-is c.args.words.now c.first-item.result c.in-len1-up.len_at_least c.first-item.is c.as_str-5.result.now c.as_str-5.ensures.value (sym c.eq-5.ensures ∙ c.if-eq-5.true) c.in_ok-read_self_test.field-0 c.in_ok-read_self_test.ensures
+
+pub returns-in_err-read_simplify : goal.returns-in_err-read_simplify
+returns-in_err-read_simplify c =
+    exit-with _ c.in_err-read_simplify.field-0.0 _ _ c.from_residual-in_err-read_simplify.ensures.1
+    (no-simplify c.args.words.now c.first-item.result c.in-len1-up.len_at_least c.first-item.is c.as_str-6.result.now c.as_str-6.ensures.value (sym c.eq-6.ensures ∙ c.if-eq-6.true) c.in_err-read_simplify.field-0.0 c.in_err-read_simplify.ensures)
+
+pub returns-then-eq-6 : goal.returns-then-eq-6
+returns-then-eq-6 c =
+    simplify-is c.args.words.now c.first-item.result c.in-len1-up.len_at_least c.first-item.is c.as_str-6.result.now c.as_str-6.ensures.value (sym c.eq-6.ensures ∙ c.if-eq-6.true) c.in_ok-read_simplify.field-0 c.in_ok-read_simplify.ensures
+
+pub returns-then-eq-7 : goal.returns-then-eq-7
+returns-then-eq-7 c =
+    laws-is c.args.words.now c.first-item.result c.in-len1-up.len_at_least c.first-item.is c.as_str-7.result.now c.as_str-7.ensures.value (sym c.eq-7.ensures ∙ c.if-eq-7.true) c.in_ok-read_laws.field-0 c.in_ok-read_laws.ensures
+
+pub returns-in_err-read_smt : goal.returns-in_err-read_smt
+returns-in_err-read_smt c =
+    exit-with _ c.in_err-read_smt.field-0.0 _ _ c.from_residual-in_err-read_smt.ensures.1
+    (no-smt c.args.words.now c.first-item.result c.in-len1-up.len_at_least c.first-item.is c.as_str-8.result.now c.as_str-8.ensures.value (sym c.eq-8.ensures ∙ c.if-eq-8.true) c.in_err-read_smt.field-0.0 c.in_err-read_smt.ensures)
+
+pub returns-then-eq-8 : goal.returns-then-eq-8
+returns-then-eq-8 c =
+    smt-is c.args.words.now c.first-item.result c.in-len1-up.len_at_least c.first-item.is c.as_str-8.result.now c.as_str-8.ensures.value (sym c.eq-8.ensures ∙ c.if-eq-8.true) c.in_ok-read_smt.field-0 c.in_ok-read_smt.ensures
