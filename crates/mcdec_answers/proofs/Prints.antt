@@ -1,7 +1,7 @@
 -- What is printed in pieces is printed as a whole.
 use Rattle.std.proofs.Common.{◌≡◌, ℕ, zero, suc, ◌+◌, ◌<◌, ◌≤◌, min, List, [], ◌∷◌, ◌++◌, length, take, drop, get_or, codes, Option, Some, None, Result, Ok, Err, refl, sym, ap, subst, ◌∙◌, append_assoc, arith, inl, inr}
 use Rattle.std.specs.Prelude.{IsErrOf, flat_map}
-use Rattle.std.specs.Result.{IsErrAnd}
+use Rattle.std.specs.Result.{IsErrAnd, result_and}
 use Rattle.std.proofs.lemmas.List.{append-nil, take-append-le, take_min, take_more, take-append-drop}
 use Rattle.std.proofs.Math.Seq.{take-append-add}
 use Rattle.mc_shelf.specs.Fault.{Rose, WhereTold}
@@ -11,7 +11,7 @@ use Rattle.mc_shelf.specs.declared.sink.Stop.TheVariants.{Failed, NoMemory}
 use Rattle.hex.specs.Hex.{encode_with, encode_lower}
 use Rattle.mcdec_answers.specs.Printed.{register_line, register_lines}
 use Rattle.mcdec_answers.specs.declared.print.Piece.{Piece}
-use Rattle.mcdec_answers.specs.inner.Printing.{Gains, Prints, piece_text, pieces_text}
+use Rattle.mcdec_answers.specs.inner.Printing.{Gains, Prints, PrintsAnswer, piece_text, pieces_text}
 
 -- ---- meanings that are told
 
@@ -82,6 +82,11 @@ prints-stopped e a b o n f g p = record { gained = where_told o n (Gains (Err e)
 pub prints-exit : (r : Result Unit Stop) (e : Stop) (text : List ℕ) (o n : Option (List ℕ)) (f g : ℕ) → IsErrAnd r (λ y. y ≡ e) → Prints (Err e) text o n f g → Prints r text o n f g
 prints-exit (Ok u) e text o n f g is p = absurd is
 prints-exit (Err y) e text o n f g is p = rw is p
+
+-- a status that is given where all is printed
+pub prints_answer : (r : Result Unit Stop) (status : ℕ) (result : Result ℕ Stop) (text : List ℕ) (o n : Option (List ℕ)) (f g : ℕ) → result ≡ result_and r (Ok status) → Prints r text o n f g → PrintsAnswer result (status, text) o n f g
+prints_answer (Ok u) status result text o n f g e p = rw e (record { status = refl; lines = p })
+prints_answer (Err y) status result text o n f g e p = rw e (record { status = tt; lines = p })
 
 -- ---- pieces
 

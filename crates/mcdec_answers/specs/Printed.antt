@@ -27,6 +27,12 @@ use Rattle.mcdec_answers.specs.declared.answer.DecompileAnswer.{DecompileAnswer}
 use Rattle.mcdec_answers.specs.declared.answer.DecompileAnswer.TheVariants as decompile
 use Rattle.mcdec_answers.specs.declared.answer.Listed.{Listed}
 use Rattle.mcdec_answers.specs.declared.answer.SelfTestAnswer.{SelfTestAnswer}
+use Rattle.mcdec_answers.specs.declared.answer.SimplifyAnswer.{SimplifyAnswer}
+use Rattle.mcdec_answers.specs.declared.answer.SimplifyAnswer.TheVariants as simplify
+use Rattle.mcdec_answers.specs.declared.answer.LawsAnswer.{LawsAnswer}
+use Rattle.mcdec_answers.specs.declared.answer.LawsAnswer.TheVariants as laws
+use Rattle.mcdec_answers.specs.declared.answer.SmtAnswer.{SmtAnswer}
+use Rattle.mcdec_answers.specs.declared.answer.SmtAnswer.TheVariants as smt
 use Rattle.mcdec_answers.specs.declared.answer.Shown.{Shown}
 use Rattle.mc_text.specs.Number.{hex}
 
@@ -148,6 +154,37 @@ decompile_printed (decompile.Unreadable why) = (3, codes "unreadable elf " ++ fa
 decompile_printed (decompile.Refused name why) = (1, codes "refused " ++ name ++ codes " " ++ outside_words why ++ codes "\n")
 decompile_printed (decompile.Decompiled listed) = (0, flat_map listed_line listed)
 
+-- the status and the lines of what `simplify` comes to
+abbrev pub simplify_printed : SimplifyAnswer → ℕ × List ℕ
+simplify_printed simplify.OverLimit = (7, codes "over limit proof\n")
+simplify_printed (simplify.Unreadable line) = (3, codes "unreadable text " ++ decimal line ++ codes "\n")
+simplify_printed (simplify.IllFormed group def) = (1, codes "refused def " ++ decimal group ++ codes " " ++ decimal def ++ codes "\n")
+simplify_printed simplify.NoFunction = (1, codes "refused no function\n")
+simplify_printed (simplify.Simplified steps) = (0, codes "simplified " ++ decimal steps ++ codes "\n")
+
+-- the status and the lines of what `laws` comes to
+abbrev pub laws_printed : LawsAnswer → ℕ × List ℕ
+laws_printed laws.ProofOverLimit = (7, codes "over limit proof\n")
+laws_printed laws.CertOverLimit = (7, codes "over limit laws\n")
+laws_printed (laws.Unreadable line) = (3, codes "unreadable text " ++ decimal line ++ codes "\n")
+laws_printed (laws.IllFormed group def) = (1, codes "refused def " ++ decimal group ++ codes " " ++ decimal def ++ codes "\n")
+laws_printed (laws.UnreadableCert line) = (3, codes "unreadable laws " ++ decimal line ++ codes "\n")
+laws_printed laws.NoFunction = (1, codes "refused no function\n")
+laws_printed laws.OtherGroup = (1, codes "refused group\n")
+laws_printed (laws.BadStep line) = (1, codes "refused step " ++ decimal line ++ codes "\n")
+laws_printed laws.OtherResult = (1, codes "refused result\n")
+laws_printed (laws.Accepted steps) = (0, codes "accepted " ++ decimal steps ++ codes "\n")
+
+-- the status and the lines of what `smt` comes to
+abbrev pub smt_printed : SmtAnswer → ℕ × List ℕ
+smt_printed smt.OverLimit = (7, codes "over limit proof\n")
+smt_printed (smt.Unreadable line) = (3, codes "unreadable text " ++ decimal line ++ codes "\n")
+smt_printed (smt.IllFormed group def) = (1, codes "refused def " ++ decimal group ++ codes " " ++ decimal def ++ codes "\n")
+smt_printed smt.NoFunction = (1, codes "refused no function\n")
+smt_printed smt.NoDef = (1, codes "refused no def\n")
+smt_printed (smt.Loop def) = (1, codes "refused loop " ++ decimal def ++ codes "\n")
+smt_printed (smt.Exported def) = (0, codes "exported " ++ decimal def ++ codes "\n")
+
 -- the status and the lines of each answer
 abbrev pub printed : Answer → ℕ × List ℕ
 printed answer.NotACommand = (2, codes "not a command\n")
@@ -159,6 +196,9 @@ printed (answer.Run a) = run_printed a
 printed (answer.Check a) = check_printed a
 printed (answer.Decompile a) = decompile_printed a
 printed (answer.SelfTest a) = (0, self_test_line a)
+printed (answer.Simplify a) = simplify_printed a
+printed (answer.Laws a) = laws_printed a
+printed (answer.Smt a) = smt_printed a
 
 abbrev pub status : Answer → ℕ
 status a = (printed a).0

@@ -28,6 +28,12 @@ pub enum Answer {
     Decompile(DecompileAnswer),
     /// What the command `selftest` comes to.
     SelfTest(SelfTestAnswer),
+    /// What the command `simplify` comes to.
+    Simplify(SimplifyAnswer),
+    /// What the command `laws` comes to.
+    Laws(LawsAnswer),
+    /// What the command `smt` comes to.
+    Smt(SmtAnswer),
 }
 
 /// What the command `eval` comes to.
@@ -108,6 +114,65 @@ pub struct SelfTestAnswer {
     pub number: u64,
     pub size: u32,
     pub outcome: Outcome,
+}
+
+/// What the command `simplify` comes to.
+#[derive(Clone, Copy, Debug)]
+pub enum SimplifyAnswer {
+    /// The proof file has more bytes than are read.
+    OverLimit,
+    /// It isn't a proof file, from this line on.
+    Unreadable(u64),
+    /// In the group of that number, this definition isn't well-formed.
+    IllFormed(u64, u32),
+    /// No group has the name.
+    NoFunction,
+    /// A certificate was written, with that many steps.
+    Simplified(u64),
+}
+
+/// What the command `laws` comes to.
+#[derive(Clone, Copy, Debug)]
+pub enum LawsAnswer {
+    /// The proof file has more bytes than are read.
+    ProofOverLimit,
+    /// The certificate's file has more bytes than are read.
+    CertOverLimit,
+    /// The one file isn't a proof file, from this line on.
+    Unreadable(u64),
+    /// In its group of that number, this definition isn't well-formed.
+    IllFormed(u64, u32),
+    /// The other file isn't a certificate, from this line on.
+    UnreadableCert(u64),
+    /// No group has the name of the certificate's.
+    NoFunction,
+    /// The group of that name isn't the certificate's.
+    OtherGroup,
+    /// The step on this line doesn't rewrite what the steps before it give.
+    BadStep(u64),
+    /// The steps give other definitions than the stated ones.
+    OtherResult,
+    /// The certificate is accepted; it has that many steps.
+    Accepted(u64),
+}
+
+/// What the command `smt` comes to.
+#[derive(Clone, Copy, Debug)]
+pub enum SmtAnswer {
+    /// The proof file has more bytes than are read.
+    OverLimit,
+    /// It isn't a proof file, from this line on.
+    Unreadable(u64),
+    /// In the group of that number, this definition isn't well-formed.
+    IllFormed(u64, u32),
+    /// No group has the name.
+    NoFunction,
+    /// The group of that name has no definition of that number.
+    NoDef,
+    /// The definition reaches this one, which enters itself again.
+    Loop(u32),
+    /// A script was written for this definition.
+    Exported(u32),
 }
 
 /// What is shown of the end of an evaluation or a run.

@@ -5,6 +5,7 @@ mod answer;
 mod print;
 
 pub use answer::{
-    Answer, CheckAnswer, DecompileAnswer, EvalAnswer, Listed, RunAnswer, SelfTestAnswer, Shown,
+    Answer, CheckAnswer, DecompileAnswer, EvalAnswer, LawsAnswer, Listed, RunAnswer,
+    SelfTestAnswer, Shown, SimplifyAnswer, SmtAnswer,
 };
 pub use print::deliver;

@@ -1,16 +1,17 @@
 //! Printing an answer into a sink, piece by piece. It takes no memory.
 
 ghost use Rattle.std.specs.Prelude.{◌≡◌, ◌⊎◌, ◌≤◌, flat_map, max, min, codes, ◌++◌};
-ghost use Rattle.mcdec_answers.specs.Printed.{check_printed, count_lines, decompile_printed, eval_printed, fault_words, lines, listed_line, memory_line, name_words, outside_words, register_line, register_lines, run_printed, self_test_line, shown_lines, status, stuck_words, verdict_printed, IsDelivered};
+ghost use Rattle.mcdec_answers.specs.Printed.{check_printed, count_lines, decompile_printed, eval_printed, fault_words, laws_printed, listed_line, memory_line, name_words, outside_words, printed, register_line, register_lines, run_printed, self_test_line, shown_lines, simplify_printed, smt_printed, status, stuck_words, verdict_printed, IsDelivered};
 ghost use Rattle.std.specs.Fmt.{decimal};
 ghost use Rattle.hex.specs.Hex.{encode_lower};
 ghost use Rattle.loop_forest.specs.Cycles.{last_of};
 ghost use Rattle.mc_shelf.specs.Fault.{Rose};
 ghost use Rattle.mc_text.specs.Number.{hex};
-ghost use Rattle.mcdec_answers.specs.inner.Printing.{Prints, piece_text, pieces_text};
+ghost use Rattle.mcdec_answers.specs.inner.Printing.{Prints, PrintsAnswer, piece_text, pieces_text};
 
 use crate::answer::{
-    Answer, CheckAnswer, DecompileAnswer, EvalAnswer, Listed, RunAnswer, SelfTestAnswer, Shown,
+    Answer, CheckAnswer, DecompileAnswer, EvalAnswer, LawsAnswer, Listed, RunAnswer,
+    SelfTestAnswer, Shown, SimplifyAnswer, SmtAnswer,
 };
 use checker::Verdict;
 use elf_image::{ElfFault, NameFault};
@@ -83,167 +84,153 @@ pub fn deliver<O: Sink>(out: &mut O, answer: &Answer) -> u8
     ensures cause { result ≡ 5 → Rose (O.faults out.old) (O.faults out.new) ⊎ (status answer.now ≡ 5) }
 {
     match put_answer(out, answer) {
-        Ok(()) => status(answer),
+        Ok(status) => status,
         Err(Stop::Failed) => 5,
         Err(Stop::NoMemory) => 6,
     }
 }
 
-/// The status of an answer all of whose lines were printed.
-fn status(answer: &Answer) -> u8
-    ensures { result ≡ status answer.now }
+/// Prints the lines of an answer, and gives its status.
+fn put_answer<O: Sink>(out: &mut O, answer: &Answer) -> Result<u8, Stop>
+    ensures { PrintsAnswer result (printed answer.now) (O.written out.old) (O.written out.new) (O.faults out.old) (O.faults out.new) }
 {
     match answer {
-        Answer::NotACommand => 2,
-        Answer::ReadFault => 4,
-        Answer::WriteFault => 5,
-        Answer::NoMemory => 6,
-        Answer::Eval(a) => eval_status(a),
-        Answer::Run(a) => run_status(a),
-        Answer::Check(a) => check_status(a),
-        Answer::Decompile(a) => decompile_status(a),
-        Answer::SelfTest(_) => 0,
-    }
-}
-
-fn eval_status(answer: &EvalAnswer) -> u8
-    ensures { result ≡ (eval_printed answer.now).0 }
-{
-    match answer {
-        EvalAnswer::OverLimit => 7,
-        EvalAnswer::Unreadable(_) => 3,
-        EvalAnswer::IllFormed(..) => 1,
-        EvalAnswer::NoFunction => 1,
-        EvalAnswer::SideFalse(..) => 1,
-        EvalAnswer::TurnsUsed => 7,
-        EvalAnswer::Done(_) => 0,
-    }
-}
-
-fn run_status(answer: &RunAnswer) -> u8
-    ensures { result ≡ (run_printed answer.now).0 }
-{
-    match answer {
-        RunAnswer::OverLimit => 7,
-        RunAnswer::Unreadable(_) => 3,
-        RunAnswer::StartRefused(..) => 1,
-        RunAnswer::Stuck(..) => 1,
-        RunAnswer::StepsUsed => 7,
-        RunAnswer::Met(_) => 0,
-    }
-}
-
-fn check_status(answer: &CheckAnswer) -> u8
-    ensures { result ≡ (check_printed answer.now).0 }
-{
-    match answer {
-        CheckAnswer::ElfOverLimit => 7,
-        CheckAnswer::ProofOverLimit => 7,
-        CheckAnswer::Judged(verdict) => verdict_status(verdict),
-    }
-}
-
-fn verdict_status(verdict: &Verdict) -> u8
-    ensures { result ≡ (verdict_printed verdict.now).0 }
-{
-    match verdict {
-        Verdict::Accepted { .. } => 0,
-        Verdict::BadElf(_) => 3,
-        Verdict::BadText(_) => 3,
-        Verdict::BadDef(..) => 1,
-        Verdict::BadLine(_) => 1,
-        Verdict::NotProved(_) => 1,
-        Verdict::NoMemory => 6,
-    }
-}
-
-fn decompile_status(answer: &DecompileAnswer) -> u8
-    ensures { result ≡ (decompile_printed answer.now).0 }
-{
-    match answer {
-        DecompileAnswer::OverLimit => 7,
-        DecompileAnswer::Unreadable(_) => 3,
-        DecompileAnswer::Refused(..) => 1,
-        DecompileAnswer::Decompiled(_) => 0,
-    }
-}
-
-fn put_answer<O: Sink>(out: &mut O, answer: &Answer) -> Result<(), Stop>
-    ensures { Prints result (lines answer.now) (O.written out.old) (O.written out.new) (O.faults out.old) (O.faults out.new) }
-{
-    match answer {
-        Answer::NotACommand => put_text(out, b"not a command\n"),
-        Answer::ReadFault => put_text(out, b"read fault\n"),
-        Answer::WriteFault => put_text(out, b"write fault\n"),
-        Answer::NoMemory => put_text(out, b"no memory\n"),
+        Answer::NotACommand => put_text(out, b"not a command\n").and(Ok(2)),
+        Answer::ReadFault => put_text(out, b"read fault\n").and(Ok(4)),
+        Answer::WriteFault => put_text(out, b"write fault\n").and(Ok(5)),
+        Answer::NoMemory => put_text(out, b"no memory\n").and(Ok(6)),
         Answer::Eval(a) => put_eval(out, a),
         Answer::Run(a) => put_run(out, a),
         Answer::Check(a) => put_check(out, a),
         Answer::Decompile(a) => put_decompile(out, a),
-        Answer::SelfTest(a) => put_self_test(out, a),
+        Answer::SelfTest(a) => put_self_test(out, a).and(Ok(0)),
+        Answer::Simplify(a) => put_simplify(out, a),
+        Answer::Laws(a) => put_laws(out, a),
+        Answer::Smt(a) => put_smt(out, a),
     }
 }
 
-fn put_eval<O: Sink>(out: &mut O, answer: &EvalAnswer) -> Result<(), Stop>
-    ensures { Prints result (eval_printed answer.now).1 (O.written out.old) (O.written out.new) (O.faults out.old) (O.faults out.new) }
+fn put_eval<O: Sink>(out: &mut O, answer: &EvalAnswer) -> Result<u8, Stop>
+    ensures { PrintsAnswer result (eval_printed answer.now) (O.written out.old) (O.written out.new) (O.faults out.old) (O.faults out.new) }
 {
     match answer {
-        EvalAnswer::OverLimit => put_text(out, b"over limit proof\n"),
-        EvalAnswer::Unreadable(line) => put_unreadable_text(out, *line),
-        EvalAnswer::IllFormed(group, def) => put_ill_formed(out, *group, *def),
-        EvalAnswer::NoFunction => put_text(out, b"refused no function\n"),
-        EvalAnswer::SideFalse(def, ordinal) => put_side_false(out, *def, *ordinal),
-        EvalAnswer::TurnsUsed => put_text(out, b"turns used\n"),
-        EvalAnswer::Done(shown) => put_shown(out, b"done ", shown),
+        EvalAnswer::OverLimit => put_text(out, b"over limit proof\n").and(Ok(7)),
+        EvalAnswer::Unreadable(line) => put_unreadable_text(out, *line).and(Ok(3)),
+        EvalAnswer::IllFormed(group, def) => put_ill_formed(out, *group, *def).and(Ok(1)),
+        EvalAnswer::NoFunction => put_text(out, b"refused no function\n").and(Ok(1)),
+        EvalAnswer::SideFalse(def, ordinal) => put_side_false(out, *def, *ordinal).and(Ok(1)),
+        EvalAnswer::TurnsUsed => put_text(out, b"turns used\n").and(Ok(7)),
+        EvalAnswer::Done(shown) => put_shown(out, b"done ", shown).and(Ok(0)),
     }
 }
 
-fn put_run<O: Sink>(out: &mut O, answer: &RunAnswer) -> Result<(), Stop>
-    ensures { Prints result (run_printed answer.now).1 (O.written out.old) (O.written out.new) (O.faults out.old) (O.faults out.new) }
+fn put_run<O: Sink>(out: &mut O, answer: &RunAnswer) -> Result<u8, Stop>
+    ensures { PrintsAnswer result (run_printed answer.now) (O.written out.old) (O.written out.new) (O.faults out.old) (O.faults out.new) }
 {
     match answer {
-        RunAnswer::OverLimit => put_text(out, b"over limit elf\n"),
-        RunAnswer::Unreadable(why) => put_unreadable_elf(out, why),
-        RunAnswer::StartRefused(start, why) => put_start_refused(out, start.as_slice(), *why),
-        RunAnswer::Stuck(steps, why) => put_stuck(out, *steps, why),
-        RunAnswer::StepsUsed => put_text(out, b"steps used\n"),
-        RunAnswer::Met(shown) => put_shown(out, b"met ", shown),
+        RunAnswer::OverLimit => put_text(out, b"over limit elf\n").and(Ok(7)),
+        RunAnswer::Unreadable(why) => put_unreadable_elf(out, why).and(Ok(3)),
+        RunAnswer::StartRefused(start, why) => put_start_refused(out, start.as_slice(), *why).and(
+            Ok(1),
+        ),
+        RunAnswer::Stuck(steps, why) => put_stuck(out, *steps, why).and(Ok(1)),
+        RunAnswer::StepsUsed => put_text(out, b"steps used\n").and(Ok(7)),
+        RunAnswer::Met(shown) => put_shown(out, b"met ", shown).and(Ok(0)),
     }
 }
 
-fn put_check<O: Sink>(out: &mut O, answer: &CheckAnswer) -> Result<(), Stop>
-    ensures { Prints result (check_printed answer.now).1 (O.written out.old) (O.written out.new) (O.faults out.old) (O.faults out.new) }
+fn put_check<O: Sink>(out: &mut O, answer: &CheckAnswer) -> Result<u8, Stop>
+    ensures { PrintsAnswer result (check_printed answer.now) (O.written out.old) (O.written out.new) (O.faults out.old) (O.faults out.new) }
 {
     match answer {
-        CheckAnswer::ElfOverLimit => put_text(out, b"over limit elf\n"),
-        CheckAnswer::ProofOverLimit => put_text(out, b"over limit proof\n"),
+        CheckAnswer::ElfOverLimit => put_text(out, b"over limit elf\n").and(Ok(7)),
+        CheckAnswer::ProofOverLimit => put_text(out, b"over limit proof\n").and(Ok(7)),
         CheckAnswer::Judged(verdict) => put_verdict(out, verdict),
     }
 }
 
-fn put_verdict<O: Sink>(out: &mut O, verdict: &Verdict) -> Result<(), Stop>
-    ensures { Prints result (verdict_printed verdict.now).1 (O.written out.old) (O.written out.new) (O.faults out.old) (O.faults out.new) }
+fn put_verdict<O: Sink>(out: &mut O, verdict: &Verdict) -> Result<u8, Stop>
+    ensures { PrintsAnswer result (verdict_printed verdict.now) (O.written out.old) (O.written out.new) (O.faults out.old) (O.faults out.new) }
 {
     match verdict {
-        Verdict::Accepted { functions, lines } => put_accepted(out, *functions, *lines),
-        Verdict::BadElf(why) => put_unreadable_elf(out, why),
-        Verdict::BadText(line) => put_unreadable_text(out, *line),
-        Verdict::BadDef(group, def) => put_ill_formed(out, *group, *def),
-        Verdict::BadLine(line) => put_wrong_line(out, *line),
-        Verdict::NotProved(group) => put_not_proved(out, *group),
-        Verdict::NoMemory => put_text(out, b"no memory\n"),
+        Verdict::Accepted { functions, lines } => put_accepted(out, *functions, *lines).and(Ok(0)),
+        Verdict::BadElf(why) => put_unreadable_elf(out, why).and(Ok(3)),
+        Verdict::BadText(line) => put_unreadable_text(out, *line).and(Ok(3)),
+        Verdict::BadDef(group, def) => put_ill_formed(out, *group, *def).and(Ok(1)),
+        Verdict::BadLine(line) => put_wrong_line(out, *line).and(Ok(1)),
+        Verdict::NotProved(group) => put_not_proved(out, *group).and(Ok(1)),
+        Verdict::NoMemory => put_text(out, b"no memory\n").and(Ok(6)),
     }
 }
 
-fn put_decompile<O: Sink>(out: &mut O, answer: &DecompileAnswer) -> Result<(), Stop>
-    ensures { Prints result (decompile_printed answer.now).1 (O.written out.old) (O.written out.new) (O.faults out.old) (O.faults out.new) }
+fn put_decompile<O: Sink>(out: &mut O, answer: &DecompileAnswer) -> Result<u8, Stop>
+    ensures { PrintsAnswer result (decompile_printed answer.now) (O.written out.old) (O.written out.new) (O.faults out.old) (O.faults out.new) }
 {
     match answer {
-        DecompileAnswer::OverLimit => put_text(out, b"over limit elf\n"),
-        DecompileAnswer::Unreadable(why) => put_unreadable_elf(out, why),
-        DecompileAnswer::Refused(name, why) => put_refused(out, name.as_slice(), why),
-        DecompileAnswer::Decompiled(listed) => put_all_listed(out, listed.as_slice()),
+        DecompileAnswer::OverLimit => put_text(out, b"over limit elf\n").and(Ok(7)),
+        DecompileAnswer::Unreadable(why) => put_unreadable_elf(out, why).and(Ok(3)),
+        DecompileAnswer::Refused(name, why) => put_refused(out, name.as_slice(), why).and(Ok(1)),
+        DecompileAnswer::Decompiled(listed) => put_all_listed(out, listed.as_slice()).and(Ok(0)),
     }
+}
+
+fn put_simplify<O: Sink>(out: &mut O, answer: &SimplifyAnswer) -> Result<u8, Stop>
+    ensures { PrintsAnswer result (simplify_printed answer.now) (O.written out.old) (O.written out.new) (O.faults out.old) (O.faults out.new) }
+{
+    match answer {
+        SimplifyAnswer::OverLimit => put_text(out, b"over limit proof\n").and(Ok(7)),
+        SimplifyAnswer::Unreadable(line) => put_unreadable_text(out, *line).and(Ok(3)),
+        SimplifyAnswer::IllFormed(group, def) => put_ill_formed(out, *group, *def).and(Ok(1)),
+        SimplifyAnswer::NoFunction => put_text(out, b"refused no function\n").and(Ok(1)),
+        SimplifyAnswer::Simplified(steps) => put_numbered(out, b"simplified ", *steps).and(Ok(0)),
+    }
+}
+
+fn put_laws<O: Sink>(out: &mut O, answer: &LawsAnswer) -> Result<u8, Stop>
+    ensures { PrintsAnswer result (laws_printed answer.now) (O.written out.old) (O.written out.new) (O.faults out.old) (O.faults out.new) }
+{
+    match answer {
+        LawsAnswer::ProofOverLimit => put_text(out, b"over limit proof\n").and(Ok(7)),
+        LawsAnswer::CertOverLimit => put_text(out, b"over limit laws\n").and(Ok(7)),
+        LawsAnswer::Unreadable(line) => put_unreadable_text(out, *line).and(Ok(3)),
+        LawsAnswer::IllFormed(group, def) => put_ill_formed(out, *group, *def).and(Ok(1)),
+        LawsAnswer::UnreadableCert(line) => put_numbered(out, b"unreadable laws ", *line).and(Ok(
+            3,
+        )),
+        LawsAnswer::NoFunction => put_text(out, b"refused no function\n").and(Ok(1)),
+        LawsAnswer::OtherGroup => put_text(out, b"refused group\n").and(Ok(1)),
+        LawsAnswer::BadStep(line) => put_numbered(out, b"refused step ", *line).and(Ok(1)),
+        LawsAnswer::OtherResult => put_text(out, b"refused result\n").and(Ok(1)),
+        LawsAnswer::Accepted(steps) => put_numbered(out, b"accepted ", *steps).and(Ok(0)),
+    }
+}
+
+fn put_smt<O: Sink>(out: &mut O, answer: &SmtAnswer) -> Result<u8, Stop>
+    ensures { PrintsAnswer result (smt_printed answer.now) (O.written out.old) (O.written out.new) (O.faults out.old) (O.faults out.new) }
+{
+    match answer {
+        SmtAnswer::OverLimit => put_text(out, b"over limit proof\n").and(Ok(7)),
+        SmtAnswer::Unreadable(line) => put_unreadable_text(out, *line).and(Ok(3)),
+        SmtAnswer::IllFormed(group, def) => put_ill_formed(out, *group, *def).and(Ok(1)),
+        SmtAnswer::NoFunction => put_text(out, b"refused no function\n").and(Ok(1)),
+        SmtAnswer::NoDef => put_text(out, b"refused no def\n").and(Ok(1)),
+        SmtAnswer::Loop(def) => put_numbered(out, b"refused loop ", u64::from(*def)).and(Ok(1)),
+        SmtAnswer::Exported(def) => put_numbered(out, b"exported ", u64::from(*def)).and(Ok(0)),
+    }
+}
+
+/// A line that ends in a number.
+fn put_numbered<O: Sink>(out: &mut O, words: &[u8], number: u64) -> Result<(), Stop>
+    ensures { Prints result (words.now ++ decimal number ++ codes "\n") (O.written out.old) (O.written out.new) (O.faults out.old) (O.faults out.new) }
+{
+    put_all(
+        out,
+        &[
+            Piece::Text(words),
+            Piece::Decimal(number),
+            Piece::Text(b"\n"),
+        ],
+    )
 }
 
 /// The line of a name that is outside the fragment.

@@ -1,5 +1,6 @@
 -- What a sink has gained while a text was printed piece by piece.
 use Rattle.std.specs.Prelude.{◌≡◌, ℕ, ◌≤◌, List, [], ◌∷◌, ◌++◌, take, Option, Result, Ok, Err, IsErrOf}
+use Rattle.std.specs.Result.{IfOk, result_and}
 use Rattle.std.specs.Fmt.{decimal}
 use Rattle.hex.specs.Hex.{encode_lower}
 use Rattle.mc_shelf.specs.Fault.{Rose, WhereTold}
@@ -30,3 +31,8 @@ pub record Prints (result : Result Unit Stop) (text : List ℕ) (old new : Optio
   pub gained : WhereTold old new (Gains result text)
   pub counted : faults_old ≤ faults_new
   pub cause : IsErrOf result Failed → Rose faults_old faults_new
+
+-- The same of a call that prints the lines of an answer. Where all of them are printed it gives the answer's status.
+pub record PrintsAnswer (result : Result ℕ Stop) (printed : ℕ × List ℕ) (old new : Option (List ℕ)) (faults_old faults_new : ℕ) : Type 0 where
+  pub status : IfOk result (λ given. given ≡ printed.0)
+  pub lines : Prints (result_and result (Ok tt)) printed.1 old new faults_old faults_new

@@ -1,10 +1,11 @@
+use Rattle.mcdec_answers.proofs.Prints.{prints_answer}
 use Rattle.mcdec_answers.proofs.print.put_eval.Goals as goal
 
 pub returns-in-OverLimit : goal.returns-in-OverLimit
-returns-in-OverLimit g c = rw c.in-OverLimit.is c.put_text.ensures
+returns-in-OverLimit g c = rw c.in-OverLimit.is (prints_answer _ _ _ _ _ _ _ _ c.and.ensures c.put_text.ensures)
 
 pub returns-in-NoFunction : goal.returns-in-NoFunction
-returns-in-NoFunction g c = rw c.in-NoFunction.is c.put_text-in-NoFunction.ensures
+returns-in-NoFunction g c = rw c.in-NoFunction.is (prints_answer _ _ _ _ _ _ _ _ c.and-in-NoFunction.ensures c.put_text-in-NoFunction.ensures)
 
 pub returns-in-TurnsUsed : goal.returns-in-TurnsUsed
-returns-in-TurnsUsed g c = rw c.in-TurnsUsed.is c.put_text-in-TurnsUsed.ensures
+returns-in-TurnsUsed g c = rw c.in-TurnsUsed.is (prints_answer _ _ _ _ _ _ _ _ c.and-in-TurnsUsed.ensures c.put_text-in-TurnsUsed.ensures)
