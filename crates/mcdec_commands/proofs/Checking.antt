@@ -46,6 +46,9 @@ image-gives told ws elf proof file rose wrote later w held since answer.WriteFau
 image-gives told ws elf proof file rose wrote later w held since answer.NoMemory h = tt
 image-gives told ws elf proof file rose wrote later w held since (answer.Decompile a) h = absurd h
 image-gives told ws elf proof file rose wrote later w held since (answer.SelfTest a) h = absurd h
+image-gives told ws elf proof file rose wrote later w held since (answer.Simplify a) h = absurd h
+image-gives told ws elf proof file rose wrote later w held since (answer.Laws a) h = absurd h
+image-gives told ws elf proof file rose wrote later w held since (answer.Smt a) h = absurd h
 image-gives told ws elf proof file rose wrote later w held since (answer.Eval a) h = absurd h
 image-gives told ws elf proof file rose wrote later w held since (answer.Run a) h = absurd h
 image-gives told ws elf proof file rose wrote later w held since (answer.Check a) h = (elf, proof, w, held-with told elf file (λ f. CheckGives told proof f a) held h)

@@ -1,9 +1,9 @@
 -- The words and the files give one answer at most.
-use Rattle.std.proofs.Common.{◌≡◌, ℕ, zero, suc, codes, ◌-◌, ◌<◌, ◌≤◌, List, [], ◌∷◌, ◌++◌, length, map, slice_get, Option, Some, None, refl, sym, ap, subst, ◌∙◌, ◌⊎◌, inl, inr, Ok, Err, arith}
+use Rattle.std.proofs.Common.{◌≡◌, ℕ, zero, suc, codes, ◌-◌, ◌<◌, ◌≤◌, List, [], ◌∷◌, ◌++◌, length, map, slice_get, Option, Some, None, refl, sym, ap, subst, ◌∙◌, ◌⊎◌, ⊎_elim, inl, inr, Ok, Err, arith}
 use Rattle.std.specs.Prelude.{IfSome}
 use Rattle.std.specs.List.{AllByRecursion, AllZip}
 use Rattle.mc_shelf.specs.Shelf.{Contents}
-use Rattle.mc_text.specs.Fault.{InGrammar, IsBadAt}
+use Rattle.mc_text.specs.Fault.{Grammar, InGrammar, IsBadAt}
 use Rattle.tailrec_lang.specs.Tree.{DefTree, GroupTree, listed_def}
 use Rattle.tailrec_lang.specs.WellFormed.{IsWellFormed, IsFirstIllFormed}
 use Rattle.tailrec_lang.specs.Eval.{Done, SideFalse, Turns, NoOutcome, Outcome, eval}
@@ -33,7 +33,26 @@ use Rattle.mcdec_answers.specs.declared.answer.DecompileAnswer.{DecompileAnswer}
 use Rattle.mcdec_answers.specs.declared.answer.DecompileAnswer.TheVariants as de
 use Rattle.mcdec_commands.specs.DecompileAnswer.{DecompileGives, IsToldOnce, all_listed}
 use Rattle.mcdec_answers.specs.declared.answer.SelfTestAnswer.{SelfTestAnswer}
-use Rattle.mcdec_words.specs.Command.{Command, Eval, Run, Check, Decompile, SelfTest, Arg, Words, IsNoCommand}
+use Rattle.mcdec_answers.specs.declared.answer.SimplifyAnswer.{SimplifyAnswer}
+use Rattle.mcdec_answers.specs.declared.answer.SimplifyAnswer.TheVariants as si
+use Rattle.mcdec_answers.specs.declared.answer.LawsAnswer.{LawsAnswer}
+use Rattle.mcdec_answers.specs.declared.answer.LawsAnswer.TheVariants as la
+use Rattle.mcdec_answers.specs.declared.answer.SmtAnswer.{SmtAnswer}
+use Rattle.mcdec_answers.specs.declared.answer.SmtAnswer.TheVariants as sm
+use Rattle.smt_export.specs.Reach.{IsLeastLoop}
+use Rattle.mcdec_commands.specs.SmtAnswer.{IsLoopFree, SmtGives}
+use Rattle.checker.specs.Verdicts.{IsTextOf}
+use Rattle.def_laws.specs.Rewriting.{AreRewritingSteps}
+use Rattle.def_laws.specs.Certs.{IsFirstBad}
+use Rattle.def_laws.proofs.OneResult.{no_result, one_first_bad, one_result}
+use Rattle.fun_laws.specs.Limits.{cert_texts}
+use Rattle.fun_laws.specs.Spelling.{CertTree}
+use Rattle.mcdec_commands.proofs.Judging.{cert-once}
+use Rattle.mcdec_commands.specs.Held.{HoldsWith}
+use Rattle.mcdec_commands.specs.SimplifyAnswer.{IsRefusal, SimplifyGives}
+use Rattle.mcdec_commands.specs.LawsAnswer.{IsCertText, LawsGives, TextsGive, cert_limit, step_line}
+use Rattle.mcdec_words.specs.CommandReading.{operands_of}
+use Rattle.mcdec_words.specs.Command.{Command, Eval, Run, Check, Decompile, SelfTest, Simplify, Laws, Smt, Arg, Words, IsNoCommand}
 use Rattle.elf_image.specs.declared.fault.ElfFault.{ElfFault}
 use Rattle.elf_image.specs.Fault.{IsReadable, fault_of}
 use Rattle.elf_image.specs.declared.symbol.NameFault.{NameFault}
@@ -44,12 +63,12 @@ use Rattle.rv_machine.specs.declared.running.RunEnd.TheVariants as end
 use Rattle.rv_machine.proofs.RunLemmas.{ends-once}
 use Rattle.decompiler.specs.Names.{StandsFor}
 use Rattle.mcdec_commands.specs.RunAnswer.{elf_limit, IsLoaded, state_given, shown_after, RunGives}
-use Rattle.mcdec_commands.specs.EvalAnswer.{AreWellFormed, IsNamed, first_named, proof_limit, arguments_given, shown_of, EvalGives}
+use Rattle.mcdec_commands.specs.EvalAnswer.{AreWellFormed, HasBadDef, HasBadLine, IsNamed, first_named, proof_limit, arguments_given, shown_of, EvalGives}
 use Rattle.mcdec_commands.specs.inner.Search.{GroupGives}
 use Rattle.mcdec_commands.specs.Answer.{Gives, IsDetermined}
 use Rattle.mcdec_answers.specs.Printed.{IsPrinted, IsDelivered, status}
 use Rattle.mcdec_words.proofs.OneCommand.{words-unique}
-use Rattle.mcdec_words.proofs.Words.{other-name}
+use Rattle.mcdec_words.proofs.CommandNames.{name_of, named-words, other-name}
 use Rattle.mc_text.proofs.FaultOnce.{bad-once}
 use Rattle.proof_text.proofs.Fronts.{fronts, text-front}
 use Rattle.proof_text.proofs.ProofTexts.{proofs-once}
@@ -57,6 +76,7 @@ use Rattle.mcdec_commands.proofs.Groups.{groups-front, groups-more}
 use Rattle.mcdec_commands.proofs.Listed.{groups-fit, groups-left}
 use Rattle.mcdec_commands.proofs.OneListing.{all-listed-once, err_is, none-refused, ok_err, ok_is, refused-once, stands-once}
 use Rattle.std.proofs.lemmas.List.{length-map}
+use Rattle.std.proofs.lemmas.Bool.{cases_order}
 
 -- ---- groups
 
@@ -90,19 +110,6 @@ named-unique turns args None a b h k = h ∙ sym k
 named-unique turns args (Some g) a b h k = group-unique g turns args a b h k
 
 -- ---- texts
-
--- what an answer says of a text: a bad line, a definition that isn't well-formed, or its groups
-abbrev BadText : List ℕ → EvalAnswer → Type 0
-BadText p a = (n : ℕ) × IsBadAt texts_of_proofs p n × ((ps : List ProofTree) → AreRead p ps → AreWellFormed (groups_of ps)) × (a ≡ ev.Unreadable n)
-
-abbrev BadDef : List ℕ → EvalAnswer → Type 0
-BadDef p a = (ps : List ProofTree) × (g : GroupTree) × (def : ℕ) × AreRead p (ps ++ bare g ∷ []) × AreWellFormed (groups_of ps) × IsFirstIllFormed g def × (a ≡ ev.IllFormed (length ps) def)
-
-abbrev GoodText : List ℕ → List ℕ → ℕ → List Arg → EvalAnswer → Type 0
-GoodText p name turns args a = (found : Option GroupTree) × IsNamed p name found × Named turns args found a
-
-abbrev TextCase : List ℕ → List ℕ → ℕ → List Arg → EvalAnswer → Type 0
-TextCase p name turns args a = BadText p a ⊎ (BadDef p a ⊎ GoodText p name turns args a)
 
 -- a group that isn't well-formed isn't among those that are
 last-of : (F : GroupTree → Type 0) (gs : List GroupTree) (g : GroupTree) → AllByRecursion F (gs ++ g ∷ []) → F g
@@ -146,9 +153,6 @@ same-last (y ∷ gs) (x ∷ hs) more g h e c first well =
     let r = same-last gs hs more g h rest c first well.1 in
     (omega (arith, r.0), r.1)
 
-bad-texts : (p : List ℕ) (a b : EvalAnswer) → BadText p a → BadText p b → a ≡ b
-bad-texts p a b h k = h.3 ∙ ap (λ (n : ℕ). ev.Unreadable n) (bad-once texts_of_proofs p h.0 k.0 h.1 k.1) ∙ sym k.3
-
 -- the groups of proofs that begin alike
 begin-alike : (ps qs : List ProofTree) (g h : GroupTree) (more : List GroupTree) → groups_of (ps ++ bare g ∷ []) ≡ groups_of (qs ++ bare h ∷ []) ++ more → groups_of ps ++ g ∷ [] ≡ (groups_of qs ++ h ∷ []) ++ more
 begin-alike ps qs g h more e = sym (groups-more ps (bare g)) ∙ e ∙ ap (λ (gs : List GroupTree). gs ++ more) (groups-more qs (bare h))
@@ -156,71 +160,104 @@ begin-alike ps qs g h more e = sym (groups-more ps (bare g)) ∙ e ∙ ap (λ (g
 as-many : (ps : List ProofTree) → length (groups_of ps) ≡ length ps
 as-many ps = length-map ps (λ (p : ProofTree). p.group)
 
-bad-defs : (p : List ℕ) (a b : EvalAnswer) → BadDef p a → BadDef p b → a ≡ b
-bad-defs p a b (ps, g, c, read, well, first, is) (qs, h, d, read', well', first', is') =
-    elim (fronts p (ps ++ bare g ∷ []) (qs ++ bare h ∷ []) read read') [
-      | inl m ↦
-          let f = groups-front (ps ++ bare g ∷ []) (qs ++ bare h ∷ []) m in
-          let r = same-last (groups_of qs) (groups_of ps) f.0 h g (begin-alike ps qs g h f.0 f.1) d first' well in
-          same (sym r.0, sym r.1)
-      | inr m ↦
-          let f = groups-front (qs ++ bare h ∷ []) (ps ++ bare g ∷ []) m in
-          same (same-last (groups_of ps) (groups_of qs) f.0 g h (begin-alike qs ps h g f.0 f.1) c first well')
-    ]
-  where
-    same : (length (groups_of ps) ≡ length (groups_of qs)) × (g ≡ h) → a ≡ b
-    same r =
-        let count : length ps ≡ length qs = sym (as-many ps) ∙ r.0 ∙ as-many qs in
-        is ∙ (λ i. ev.IllFormed (count i) (first-def h c d (subst (λ (x : GroupTree). IsFirstIllFormed x c) r.1 first) first' i)) ∙ sym is'
+-- a text of a grammar isn't bad at a line
+not-bad : {X : Type 0} (g : Grammar X) (p : List ℕ) (n : ℕ) → IsBadAt g p n → InGrammar g p → ⊥
+not-bad g p zero h k = absurd h
+not-bad g p (suc n) h k = h.0 k
 
-bad-or-def : (p : List ℕ) (a b : EvalAnswer) → BadText p a → BadDef p b → ⊥
-bad-or-def p a b h (ps, g, c, read, well, first, is) =
-    ill g c first (last-of IsWellFormed (groups_of ps) g (subst AreWellFormed (groups-more ps (bare g)) (h.2 (ps ++ bare g ∷ []) read)))
+-- what is so of the first group of a name, if there is one
+named-case : (p name : List ℕ) (found : Option GroupTree) (F : Option GroupTree → Type 0) → IsNamed p name found → F found
+    → (ps : List ProofTree) × IsTextOf p ps × AreWellFormed (groups_of ps) × F (first_named name (groups_of ps))
+named-case p name found F n h = (n.proofs, n.spelled, n.well_formed, subst F (sym n.first) h)
 
-def-or-good : (p name : List ℕ) (turns : ℕ) (args : List Arg) (a b : EvalAnswer) → BadDef p a → GoodText p name turns args b → ⊥
-def-or-good p name turns args a b (ps, g, c, read, well, first, is) k =
-    let n = k.1 in
-    let f = groups-front n.proofs (ps ++ bare g ∷ []) (text-front p n.proofs (ps ++ bare g ∷ []) n.spelled.fit n.spelled.spelled read) in
-    not-front (groups_of ps) g c f.0 (groups_of n.proofs) first (f.1 ∙ ap (λ (gs : List GroupTree). gs ++ f.0) (groups-more ps (bare g))) n.well_formed
+-- Answers of any kind to a text: a bad line, a definition that isn't well-formed, or what is said of its groups.
+abbrev BadText : {A : Type 0} → (ℕ → A) → List ℕ → A → Type 0
+BadText unreadable p a = (n : ℕ) × HasBadLine p n × (a ≡ unreadable n)
 
-bad-or-good : (p name : List ℕ) (turns : ℕ) (args : List Arg) (a b : EvalAnswer) → BadText p a → GoodText p name turns args b → ⊥
-bad-or-good p name turns args a b h k = in-none p h.0 h.1 (k.1.proofs, k.1.spelled.fit, k.1.spelled.spelled)
-  where
-    in-none : (p : List ℕ) (n : ℕ) → IsBadAt texts_of_proofs p n → InGrammar texts_of_proofs p → ⊥
-    in-none p zero h g = absurd h
-    in-none p (suc n) h g = h.0 g
+abbrev BadDef : {A : Type 0} → (ℕ → ℕ → A) → List ℕ → A → Type 0
+BadDef ill_formed p a = (n def : ℕ) × HasBadDef p n def × (a ≡ ill_formed n def)
 
-text-unique : (p name : List ℕ) (turns : ℕ) (args : List Arg) (a b : EvalAnswer) → TextCase p name turns args a → TextCase p name turns args b → a ≡ b
-text-unique p name turns args a b (inl h) (inl k) = bad-texts p a b h k
-text-unique p name turns args a b (inl h) (inr (inl k)) = absurd (bad-or-def p a b h k)
-text-unique p name turns args a b (inl h) (inr (inr k)) = absurd (bad-or-good p name turns args a b h k)
-text-unique p name turns args a b (inr (inl h)) (inl k) = absurd (bad-or-def p b a k h)
-text-unique p name turns args a b (inr (inl h)) (inr (inl k)) = bad-defs p a b h k
-text-unique p name turns args a b (inr (inl h)) (inr (inr k)) = absurd (def-or-good p name turns args a b h k)
-text-unique p name turns args a b (inr (inr h)) (inl k) = absurd (bad-or-good p name turns args b a k h)
-text-unique p name turns args a b (inr (inr h)) (inr (inl k)) = absurd (def-or-good p name turns args b a k h)
-text-unique p name turns args a b (inr (inr h)) (inr (inr k)) =
-    let m = h.1 in
-    let n = k.1 in
-    let same = proofs-once m.proofs n.proofs m.spelled.fit n.spelled.fit (sym m.spelled.spelled ∙ n.spelled.spelled) in
-    let found : h.0 ≡ k.0 = sym m.first ∙ ap (λ (ps : List ProofTree). first_named name (groups_of ps)) same ∙ n.first in
-    named-unique turns args k.0 a b (subst (λ (o : Option GroupTree). Named turns args o a) found h.2) k.2
+abbrev GoodText : {A : Type 0} → (List GroupTree → A → Type 0) → List ℕ → A → Type 0
+GoodText Says p a = (ps : List ProofTree) × IsTextOf p ps × AreWellFormed (groups_of ps) × Says (groups_of ps) a
+
+abbrev TextCase : {A : Type 0} → (ℕ → A) → (ℕ → ℕ → A) → (List GroupTree → A → Type 0) → List ℕ → A → Type 0
+TextCase unreadable ill_formed Says p a = BadText unreadable p a ⊎ (BadDef ill_formed p a ⊎ GoodText Says p a)
+
+-- of two that say something of the same groups, the second of which comes once, the first is the same
+module _ {A : Type 0} (unreadable : ℕ → A) (ill_formed : ℕ → ℕ → A) (Says : List GroupTree → A → Type 0) (Once : A → Type 0)
+    (says-once : (gs : List GroupTree) (a b : A) → Once b → Says gs a → Says gs b → a ≡ b) where
+  bad-texts : (p : List ℕ) (a b : A) → BadText unreadable p a → BadText unreadable p b → a ≡ b
+  bad-texts p a b (n, h, is) (m, k, this) = is ∙ ap unreadable (bad-once texts_of_proofs p n m h.0 k.0) ∙ sym this
+
+  bad-defs : (p : List ℕ) (a b : A) → BadDef ill_formed p a → BadDef ill_formed p b → a ≡ b
+  bad-defs p a b (n, c, (ps, g, read, well, count, first), is) (m, d, (qs, h, read', well', count', first'), is') =
+      elim (fronts p (ps ++ bare g ∷ []) (qs ++ bare h ∷ []) read read') [
+        | inl m ↦
+            let f = groups-front (ps ++ bare g ∷ []) (qs ++ bare h ∷ []) m in
+            let r = same-last (groups_of qs) (groups_of ps) f.0 h g (begin-alike ps qs g h f.0 f.1) d first' well in
+            same (sym r.0, sym r.1)
+        | inr m ↦
+            let f = groups-front (qs ++ bare h ∷ []) (ps ++ bare g ∷ []) m in
+            same (same-last (groups_of ps) (groups_of qs) f.0 g h (begin-alike qs ps h g f.0 f.1) c first well')
+      ]
+    where
+      same : (length (groups_of ps) ≡ length (groups_of qs)) × (g ≡ h) → a ≡ b
+      same r =
+          let number : n ≡ m = count ∙ sym (as-many ps) ∙ r.0 ∙ as-many qs ∙ sym count' in
+          is ∙ (λ i. ill_formed (number i) (first-def h c d (subst (λ (x : GroupTree). IsFirstIllFormed x c) r.1 first) first' i)) ∙ sym is'
+
+  bad-or-def : (p : List ℕ) (a b : A) → BadText unreadable p a → BadDef ill_formed p b → ⊥
+  bad-or-def p a b (m, h, this) (n, c, (ps, g, read, well, count, first), is) =
+      ill g c first (last-of IsWellFormed (groups_of ps) g (subst AreWellFormed (groups-more ps (bare g)) (h.1 (ps ++ bare g ∷ []) read)))
+
+  def-or-good : (p : List ℕ) (a b : A) → BadDef ill_formed p a → GoodText Says p b → ⊥
+  def-or-good p a b (n, c, (ps, g, read, well, count, first), is) (qs, text, fine, said) =
+      let f = groups-front qs (ps ++ bare g ∷ []) (text-front p qs (ps ++ bare g ∷ []) text.fit text.spelled read) in
+      not-front (groups_of ps) g c f.0 (groups_of qs) first (f.1 ∙ ap (λ (gs : List GroupTree). gs ++ f.0) (groups-more ps (bare g))) fine
+
+  bad-or-good : (p : List ℕ) (a b : A) → BadText unreadable p a → GoodText Says p b → ⊥
+  bad-or-good p a b (n, h, is) (qs, text, fine, said) = not-bad texts_of_proofs p n h.0 (qs, text.fit, text.spelled)
+
+  text-once : (p : List ℕ) (a b : A) → Once b → TextCase unreadable ill_formed Says p a → TextCase unreadable ill_formed Says p b → a ≡ b
+  text-once p a b once (inl h) (inl k) = bad-texts p a b h k
+  text-once p a b once (inl h) (inr (inl k)) = absurd (bad-or-def p a b h k)
+  text-once p a b once (inl h) (inr (inr k)) = absurd (bad-or-good p a b h k)
+  text-once p a b once (inr (inl h)) (inl k) = absurd (bad-or-def p b a k h)
+  text-once p a b once (inr (inl h)) (inr (inl k)) = bad-defs p a b h k
+  text-once p a b once (inr (inl h)) (inr (inr k)) = absurd (def-or-good p a b h k)
+  text-once p a b once (inr (inr h)) (inl k) = absurd (bad-or-good p b a k h)
+  text-once p a b once (inr (inr h)) (inr (inl k)) = absurd (def-or-good p b a k h)
+  text-once p a b once (inr (inr (ps, text, fine, said))) (inr (inr (qs, other, well, says))) =
+      let same : ps ≡ qs = proofs-once ps qs text.fit other.fit (sym text.spelled ∙ other.spelled) in
+      says-once (groups_of qs) a b once (subst (λ (xs : List ProofTree). Says (groups_of xs) a) same said) says
 
 -- ---- files
 
+-- what an answer to `eval` says of groups
+abbrev EvalSays : List ℕ → ℕ → List Arg → List GroupTree → EvalAnswer → Type 0
+EvalSays name turns args gs a = Named turns args (first_named name gs) a
+
+eval-once : (name : List ℕ) (turns : ℕ) (args : List Arg) (gs : List GroupTree) (a b : EvalAnswer) → Unit {0} → EvalSays name turns args gs a → EvalSays name turns args gs b → a ≡ b
+eval-once name turns args gs a b once h k = named-unique turns args (first_named name gs) a b h k
+
+abbrev EvalCase : List ℕ → List ℕ → ℕ → List Arg → EvalAnswer → Type 0
+EvalCase p name turns args a = TextCase ev.Unreadable ev.IllFormed (EvalSays name turns args) p a
+
 abbrev FileCase : List ℕ → List ℕ → ℕ → List Arg → EvalAnswer → Type 0
-FileCase p name turns args a = ((proof_limit < length p) × (a ≡ ev.OverLimit)) ⊎ ((length p ≤ proof_limit) × TextCase p name turns args a)
+FileCase p name turns args a = ((proof_limit < length p) × (a ≡ ev.OverLimit)) ⊎ ((length p ≤ proof_limit) × EvalCase p name turns args a)
+
+good-eval : (p name : List ℕ) (turns : ℕ) (args : List Arg) (found : Option GroupTree) (a : EvalAnswer) → IsNamed p name found → Named turns args found a → EvalCase p name turns args a
+good-eval p name turns args found a named h = inr (inr (named-case p name found (λ o. Named turns args o a) named h))
 
 file-case : (p name : List ℕ) (turns : ℕ) (args : List Arg) (a : EvalAnswer) → EvalGives p name turns args a → FileCase p name turns args a
 file-case p name turns args ev.OverLimit h = inl (h, refl)
-file-case p name turns args (ev.Unreadable line) (small, bad, well) = inr (small, inl (line, bad, well, refl))
-file-case p name turns args (ev.IllFormed group def) (small, ps, g, read, well, same, first) =
-    inr (small, inr (inl (ps, g, def, read, well, first, ap (λ (n : ℕ). ev.IllFormed n def) same)))
-file-case p name turns args ev.NoFunction (small, named) = inr (small, inr (inr (None, named, refl)))
-file-case p name turns args (ev.SideFalse def ordinal) (small, g, named, e) = inr (small, inr (inr (Some g, named, e)))
-file-case p name turns args ev.TurnsUsed (small, g, named, e) = inr (small, inr (inr (Some g, named, e)))
+file-case p name turns args (ev.Unreadable line) (small, bad) = inr (small, inl (line, bad, refl))
+file-case p name turns args (ev.IllFormed group def) (small, bad) = inr (small, inr (inl (group, def, bad, refl)))
+file-case p name turns args ev.NoFunction (small, named) = inr (small, good-eval p name turns args None ev.NoFunction named refl)
+file-case p name turns args (ev.SideFalse def ordinal) (small, g, named, e) = inr (small, good-eval p name turns args (Some g) (ev.SideFalse def ordinal) named e)
+file-case p name turns args ev.TurnsUsed (small, g, named, e) = inr (small, good-eval p name turns args (Some g) ev.TurnsUsed named e)
 file-case p name turns args (ev.Done shown) (small, g, named, exit, pc, left, results, e, is) =
-    inr (small, inr (inr (Some g, named, (exit, pc, left, results, e, is))))
+    inr (small, good-eval p name turns args (Some g) (ev.Done shown) named (exit, pc, left, results, e, is))
 
 over : (n limit : ℕ) → limit < n → n ≤ limit → ⊥
 over n limit a b = omega arith
@@ -229,7 +266,8 @@ file-unique : (p name : List ℕ) (turns : ℕ) (args : List Arg) (a b : EvalAns
 file-unique p name turns args a b (inl h) (inl k) = h.1 ∙ sym k.1
 file-unique p name turns args a b (inl h) (inr k) = absurd (over (length p) proof_limit h.0 k.0)
 file-unique p name turns args a b (inr h) (inl k) = absurd (over (length p) proof_limit k.0 h.0)
-file-unique p name turns args a b (inr h) (inr k) = text-unique p name turns args a b h.1 k.1
+file-unique p name turns args a b (inr h) (inr k) =
+    text-once ev.Unreadable ev.IllFormed (EvalSays name turns args) (λ b. Unit {0}) (eval-once name turns args) p a b tt h.1 k.1
 
 -- ---- runs
 
@@ -387,6 +425,214 @@ module _ (file : List ℕ) (names : List (List ℕ)) (a b : DecompileAnswer) (on
   decompile-unique (inr h) (inl k) = absurd (over (length file) elf_limit k.0 h.0)
   decompile-unique (inr h) (inr k) = good-unique h.1 k.1
 
+-- ---- what is simplified
+
+-- what an answer says of the first group of a name, if there is one
+abbrev SimplifiedFirst : Option GroupTree → SimplifyAnswer → Type 0
+SimplifiedFirst None a = a ≡ si.NoFunction
+SimplifiedFirst (Some g) a = (steps : ℕ) × (a ≡ si.Simplified steps)
+
+abbrev SimplifySays : List ℕ → List GroupTree → SimplifyAnswer → Type 0
+SimplifySays name gs a = SimplifiedFirst (first_named name gs) a
+
+simplify-once : (name : List ℕ) (gs : List GroupTree) (a b : SimplifyAnswer) → IsRefusal b → SimplifySays name gs a → SimplifySays name gs b → a ≡ b
+simplify-once name gs a b once h k = of-first (first_named name gs) h k
+  where
+    of-first : (found : Option GroupTree) → SimplifiedFirst found a → SimplifiedFirst found b → a ≡ b
+    of-first None h k = h ∙ sym k
+    of-first (Some g) h k = absurd (subst IsRefusal k.1 once)
+
+abbrev SimplifyCase : List ℕ → List ℕ → SimplifyAnswer → Type 0
+SimplifyCase p name a =
+    ((proof_limit < length p) × (a ≡ si.OverLimit)) ⊎ ((length p ≤ proof_limit) × TextCase si.Unreadable si.IllFormed (SimplifySays name) p a)
+
+simplify-case : (p name : List ℕ) (a : SimplifyAnswer) → SimplifyGives p name a → SimplifyCase p name a
+simplify-case p name si.OverLimit h = inl (h, refl)
+simplify-case p name (si.Unreadable line) (small, bad) = inr (small, inl (line, bad, refl))
+simplify-case p name (si.IllFormed group def) (small, bad) = inr (small, inr (inl (group, def, bad, refl)))
+simplify-case p name si.NoFunction (small, named) = inr (small, inr (inr (named-case p name None (λ o. SimplifiedFirst o si.NoFunction) named refl)))
+simplify-case p name (si.Simplified steps) (small, g, c, named, simplifies, count) =
+    inr (small, inr (inr (named-case p name (Some g) (λ o. SimplifiedFirst o (si.Simplified steps)) named (steps, refl))))
+
+simplify-unique : (p name : List ℕ) (a b : SimplifyAnswer) → IsRefusal b → SimplifyCase p name a → SimplifyCase p name b → a ≡ b
+simplify-unique p name a b once (inl h) (inl k) = h.1 ∙ sym k.1
+simplify-unique p name a b once (inl h) (inr k) = absurd (over (length p) proof_limit h.0 k.0)
+simplify-unique p name a b once (inr h) (inl k) = absurd (over (length p) proof_limit k.0 h.0)
+simplify-unique p name a b once (inr h) (inr k) = text-once si.Unreadable si.IllFormed (SimplifySays name) IsRefusal (simplify-once name) p a b once h.1 k.1
+
+-- ---- what is judged
+
+-- what an answer says of a certificate that is of its group: of the steps, and of what they give
+abbrev ResultSays : CertTree → List DefTree → LawsAnswer → Type 0
+ResultSays c es a = ((es ≡ c.result → ⊥) × (a ≡ la.OtherResult)) ⊎ ((es ≡ c.result) × (a ≡ la.Accepted (length c.steps)))
+
+abbrev StepsSay : CertTree → LawsAnswer → Type 0
+StepsSay c a = ((i : ℕ) × IsFirstBad c.steps c.old.defs i × (a ≡ la.BadStep (step_line c.old i)))
+    ⊎ ((es : List DefTree) × AreRewritingSteps c.steps c.old.defs es × ResultSays c es a)
+
+-- what it says of the first group of the certificate's name, if there is one
+abbrev CertSays : Option GroupTree → CertTree → LawsAnswer → Type 0
+CertSays None c a = a ≡ la.NoFunction
+CertSays (Some g) c a = ((c.old ≡ g → ⊥) × (a ≡ la.OtherGroup)) ⊎ ((c.old ≡ g) × StepsSay c a)
+
+-- what it says of the certificate's text
+abbrev LawsSays : List ℕ → List GroupTree → LawsAnswer → Type 0
+LawsSays text gs a = ((n : ℕ) × IsBadAt cert_texts text n × (a ≡ la.UnreadableCert n))
+    ⊎ ((c : CertTree) × IsCertText text c × CertSays (first_named c.old.name gs) c a)
+
+result-once : (c : CertTree) (es fs : List DefTree) (a b : LawsAnswer) → es ≡ fs → ResultSays c es a → ResultSays c fs b → a ≡ b
+result-once c es fs a b same (inl h) (inl k) = h.1 ∙ sym k.1
+result-once c es fs a b same (inl h) (inr k) = absurd (h.0 (same ∙ k.0))
+result-once c es fs a b same (inr h) (inl k) = absurd (k.0 (sym same ∙ h.0))
+result-once c es fs a b same (inr h) (inr k) = h.1 ∙ sym k.1
+
+steps-once : (c : CertTree) (a b : LawsAnswer) → StepsSay c a → StepsSay c b → a ≡ b
+steps-once c a b (inl (i, h, is)) (inl (j, k, this)) = is ∙ ap (λ n. la.BadStep (step_line c.old n)) (one_first_bad c.steps c.old.defs i j h k) ∙ sym this
+steps-once c a b (inl (i, h, is)) (inr (es, k, more)) = absurd (no_result c.steps c.old.defs es i h k)
+steps-once c a b (inr (es, h, more)) (inl (j, k, this)) = absurd (no_result c.steps c.old.defs es j k h)
+steps-once c a b (inr (es, h, more)) (inr (fs, k, others)) = result-once c es fs a b (one_result c.steps c.old.defs es fs h k) more others
+
+cert-says-once : (found : Option GroupTree) (c : CertTree) (a b : LawsAnswer) → CertSays found c a → CertSays found c b → a ≡ b
+cert-says-once None c a b h k = h ∙ sym k
+cert-says-once (Some g) c a b (inl h) (inl k) = h.1 ∙ sym k.1
+cert-says-once (Some g) c a b (inl h) (inr k) = absurd (h.0 k.0)
+cert-says-once (Some g) c a b (inr h) (inl k) = absurd (k.0 h.0)
+cert-says-once (Some g) c a b (inr h) (inr k) = steps-once c a b h.1 k.1
+
+cert-there : (text : List ℕ) (c : CertTree) → IsCertText text c → InGrammar cert_texts text
+cert-there text c h = (c, h.0, h.1)
+
+laws-once : (text : List ℕ) (gs : List GroupTree) (a b : LawsAnswer) → Unit {0} → LawsSays text gs a → LawsSays text gs b → a ≡ b
+laws-once text gs a b once (inl (n, h, is)) (inl (m, k, this)) = is ∙ ap la.UnreadableCert (bad-once cert_texts text n m h k) ∙ sym this
+laws-once text gs a b once (inl (n, h, is)) (inr (c, k, more)) = absurd (not-bad cert_texts text n h (cert-there text c k))
+laws-once text gs a b once (inr (c, h, more)) (inl (m, k, this)) = absurd (not-bad cert_texts text m k (cert-there text c h))
+laws-once text gs a b once (inr (c, h, more)) (inr (d, k, others)) =
+    let same : c ≡ d = cert-once c d h.0 k.0 (sym h.1 ∙ k.1) in
+    cert-says-once (first_named d.old.name gs) d a b (subst (λ (x : CertTree). CertSays (first_named x.old.name gs) x a) same more) others
+
+abbrev TextsCase : List ℕ → List ℕ → LawsAnswer → Type 0
+TextsCase file text a = TextCase la.Unreadable la.IllFormed (LawsSays text) file a
+
+-- what is said of a certificate, by the first group of its name
+cert-case : (file text : List ℕ) (c : CertTree) (found : Option GroupTree) (a : LawsAnswer) → IsCertText text c → IsNamed file c.old.name found → CertSays found c a → TextsCase file text a
+cert-case file text c found a is named h =
+    let n = named-case file c.old.name found (λ o. CertSays o c a) named h in
+    inr (inr (n.0, n.1, n.2, inr (c, is, n.3)))
+
+texts-case : (file text : List ℕ) (a : LawsAnswer) → TextsGive file text a → TextsCase file text a
+texts-case file text la.ProofOverLimit h = absurd h
+texts-case file text la.CertOverLimit h = absurd h
+texts-case file text (la.Unreadable line) h = inl (line, h, refl)
+texts-case file text (la.IllFormed group def) h = inr (inl (group, def, h, refl))
+texts-case file text (la.UnreadableCert line) ((ps, is, well), bad) = inr (inr (ps, is, well, inl (line, bad, refl)))
+texts-case file text la.NoFunction (c, is, named) = cert-case file text c None la.NoFunction is named refl
+texts-case file text la.OtherGroup (c, g, is, named, other) = cert-case file text c (Some g) la.OtherGroup is named (inl (other, refl))
+texts-case file text (la.BadStep line) (c, i, is, named, bad, at) =
+    cert-case file text c (Some c.old) (la.BadStep line) is named (inr (refl, inl (i, bad, ap la.BadStep at)))
+texts-case file text la.OtherResult (c, es, is, named, are, other) =
+    cert-case file text c (Some c.old) la.OtherResult is named (inr (refl, inr (es, are, inl (other, refl))))
+texts-case file text (la.Accepted steps) (c, is, named, are, same, count) =
+    cert-case file text c (Some c.old) (la.Accepted steps) is named (inr (refl, inr (c.result, are, inr (refl, ap la.Accepted count))))
+
+-- the certificate's text is over the limit, or the two texts are looked at
+abbrev LimitCase : List ℕ → List ℕ → LawsAnswer → Type 0
+LimitCase file text a = ((cert_limit < length text) × (a ≡ la.CertOverLimit)) ⊎ ((length text ≤ cert_limit) × TextsCase file text a)
+
+abbrev CertCase : Contents → List ℕ → List ℕ → LawsAnswer → Type 0
+CertCase files cert file a = (text : List ℕ) × (files cert ≡ Some text) × LimitCase file text a
+
+abbrev LawsCase : Contents → List ℕ → List ℕ → LawsAnswer → Type 0
+LawsCase files cert file a = ((proof_limit < length file) × (a ≡ la.ProofOverLimit)) ⊎ ((length file ≤ proof_limit) × CertCase files cert file a)
+
+held-case : (files : Contents) (cert file : List ℕ) (a : LawsAnswer) → length file ≤ proof_limit → HoldsWith (Some files) cert (λ text. (length text ≤ cert_limit) × TextsGive file text a)
+    → LawsCase files cert file a
+held-case files cert file a small (text, held, (within, h)) = inr (small, (text, held, inr (within, texts-case file text a h)))
+
+laws-case : (files : Contents) (cert file : List ℕ) (a : LawsAnswer) → LawsGives (Some files) cert file a → LawsCase files cert file a
+laws-case files cert file la.ProofOverLimit h = inl (h, refl)
+laws-case files cert file la.CertOverLimit (small, (text, held, long)) = inr (small, (text, held, inl (long, refl)))
+laws-case files cert file (la.Unreadable line) h = held-case files cert file (la.Unreadable line) h.0 h.1
+laws-case files cert file (la.IllFormed group def) h = held-case files cert file (la.IllFormed group def) h.0 h.1
+laws-case files cert file (la.UnreadableCert line) h = held-case files cert file (la.UnreadableCert line) h.0 h.1
+laws-case files cert file la.NoFunction h = held-case files cert file la.NoFunction h.0 h.1
+laws-case files cert file la.OtherGroup h = held-case files cert file la.OtherGroup h.0 h.1
+laws-case files cert file (la.BadStep line) h = held-case files cert file (la.BadStep line) h.0 h.1
+laws-case files cert file la.OtherResult h = held-case files cert file la.OtherResult h.0 h.1
+laws-case files cert file (la.Accepted steps) h = held-case files cert file (la.Accepted steps) h.0 h.1
+
+cert-unique : (files : Contents) (cert file : List ℕ) (a b : LawsAnswer) → CertCase files cert file a → CertCase files cert file b → a ≡ b
+cert-unique files cert file a b (text, held, h) (other, holds, k) =
+    let same : text ≡ other = some_file text other (sym held ∙ holds) in
+    of-text other (subst (λ (t : List ℕ). LimitCase file t a) same h) k
+  where
+    of-text : (t : List ℕ) → LimitCase file t a → LimitCase file t b → a ≡ b
+    of-text t (inl h) (inl k) = h.1 ∙ sym k.1
+    of-text t (inl h) (inr k) = absurd (over (length t) cert_limit h.0 k.0)
+    of-text t (inr h) (inl k) = absurd (over (length t) cert_limit k.0 h.0)
+    of-text t (inr h) (inr k) = text-once la.Unreadable la.IllFormed (LawsSays t) (λ b. Unit {0}) (laws-once t) file a b tt h.1 k.1
+
+laws-unique : (files : Contents) (cert file : List ℕ) (a b : LawsAnswer) → LawsCase files cert file a → LawsCase files cert file b → a ≡ b
+laws-unique files cert file a b (inl h) (inl k) = h.1 ∙ sym k.1
+laws-unique files cert file a b (inl h) (inr k) = absurd (over (length file) proof_limit h.0 k.0)
+laws-unique files cert file a b (inr h) (inl k) = absurd (over (length file) proof_limit k.0 h.0)
+laws-unique files cert file a b (inr h) (inr k) = cert-unique files cert file a b h.1 k.1
+
+-- ---- what is exported
+
+-- what an answer says of a definition that is there
+abbrev LoopSays : GroupTree → ℕ → SmtAnswer → Type 0
+LoopSays g def a = ((least : ℕ) × IsLeastLoop g def least × (a ≡ sm.Loop least)) ⊎ (IsLoopFree g def × (a ≡ sm.Exported def))
+
+-- what it says of the first group of a name, if there is one
+abbrev DefSays : Option GroupTree → ℕ → SmtAnswer → Type 0
+DefSays None def a = a ≡ sm.NoFunction
+DefSays (Some g) def a = ((length g.defs ≤ def) × (a ≡ sm.NoDef)) ⊎ ((def < length g.defs) × LoopSays g def a)
+
+loop-once : (g : GroupTree) (def l m : ℕ) → IsLeastLoop g def l → IsLeastLoop g def m → l ≡ m
+loop-once g def l m h k = ⊎_elim (λ e. e) (⊎_elim (λ lt. absurd (k.least l lt h.reached h.enters)) (λ gt. absurd (h.least m gt k.reached k.enters))) (cases_order l m)
+
+loop-says-once : (g : GroupTree) (def : ℕ) (a b : SmtAnswer) → LoopSays g def a → LoopSays g def b → a ≡ b
+loop-says-once g def a b (inl (l, h, is)) (inl (m, k, this)) = is ∙ ap sm.Loop (loop-once g def l m h k) ∙ sym this
+loop-says-once g def a b (inl (l, h, is)) (inr k) = absurd (k.0 l h.reached h.enters)
+loop-says-once g def a b (inr h) (inl (m, k, this)) = absurd (h.0 m k.reached k.enters)
+loop-says-once g def a b (inr h) (inr k) = h.1 ∙ sym k.1
+
+def-says-once : (found : Option GroupTree) (def : ℕ) (a b : SmtAnswer) → DefSays found def a → DefSays found def b → a ≡ b
+def-says-once None def a b h k = h ∙ sym k
+def-says-once (Some g) def a b (inl h) (inl k) = h.1 ∙ sym k.1
+def-says-once (Some g) def a b (inl h) (inr k) = absurd (over (length g.defs) def k.0 h.0)
+def-says-once (Some g) def a b (inr h) (inl k) = absurd (over (length g.defs) def h.0 k.0)
+def-says-once (Some g) def a b (inr h) (inr k) = loop-says-once g def a b h.1 k.1
+
+abbrev SmtSays : List ℕ → ℕ → List GroupTree → SmtAnswer → Type 0
+SmtSays name def gs a = DefSays (first_named name gs) def a
+
+smt-once : (name : List ℕ) (def : ℕ) (gs : List GroupTree) (a b : SmtAnswer) → Unit {0} → SmtSays name def gs a → SmtSays name def gs b → a ≡ b
+smt-once name def gs a b once h k = def-says-once (first_named name gs) def a b h k
+
+abbrev SmtCase : List ℕ → List ℕ → ℕ → SmtAnswer → Type 0
+SmtCase p name def a =
+    ((proof_limit < length p) × (a ≡ sm.OverLimit)) ⊎ ((length p ≤ proof_limit) × TextCase sm.Unreadable sm.IllFormed (SmtSays name def) p a)
+
+good-def : (p name : List ℕ) (def : ℕ) (found : Option GroupTree) (a : SmtAnswer) → IsNamed p name found → DefSays found def a → TextCase sm.Unreadable sm.IllFormed (SmtSays name def) p a
+good-def p name def found a named h = inr (inr (named-case p name found (λ o. DefSays o def a) named h))
+
+smt-case : (p name : List ℕ) (def : ℕ) (a : SmtAnswer) → SmtGives p name def a → SmtCase p name def a
+smt-case p name def sm.OverLimit h = inl (h, refl)
+smt-case p name def (sm.Unreadable line) (small, bad) = inr (small, inl (line, bad, refl))
+smt-case p name def (sm.IllFormed group d) (small, bad) = inr (small, inr (inl (group, d, bad, refl)))
+smt-case p name def sm.NoFunction (small, named) = inr (small, good-def p name def None sm.NoFunction named refl)
+smt-case p name def sm.NoDef (small, g, named, high) = inr (small, good-def p name def (Some g) sm.NoDef named (inl (high, refl)))
+smt-case p name def (sm.Loop least) (small, g, named, low, is) = inr (small, good-def p name def (Some g) (sm.Loop least) named (inr (low, inl (least, is, refl))))
+smt-case p name def (sm.Exported d) (small, g, named, low, free, same) =
+    inr (small, good-def p name def (Some g) (sm.Exported d) named (inr (low, inr (free, ap sm.Exported same))))
+
+smt-unique : (p name : List ℕ) (def : ℕ) (a b : SmtAnswer) → SmtCase p name def a → SmtCase p name def b → a ≡ b
+smt-unique p name def a b (inl h) (inl k) = h.1 ∙ sym k.1
+smt-unique p name def a b (inl h) (inr k) = absurd (over (length p) proof_limit h.0 k.0)
+smt-unique p name def a b (inr h) (inl k) = absurd (over (length p) proof_limit k.0 h.0)
+smt-unique p name def a b (inr h) (inr k) = text-once sm.Unreadable sm.IllFormed (SmtSays name def) (λ b. Unit {0}) (smt-once name def) p a b tt h.1 k.1
+
 -- the answer of a command, where the names hold these files
 abbrev CommandGives : Contents → Command → Answer → Type 0
 CommandGives files (Eval proof name turns args) a = (x : EvalAnswer) × (a ≡ answer.Eval x) × ((p : List ℕ) × (files proof ≡ Some p) × EvalGives p name turns args x)
@@ -394,6 +640,9 @@ CommandGives files (Run elf start until steps args) a = (x : RunAnswer) × (a �
 CommandGives files (Check elf proof) a = (x : CheckAnswer) × (a ≡ answer.Check x) × ((p : List ℕ) × (files elf ≡ Some p) × CheckGives (Some files) proof p x)
 CommandGives files (Decompile elf out names) a = (x : DecompileAnswer) × (a ≡ answer.Decompile x) × ((p : List ℕ) × (files elf ≡ Some p) × DecompileCase p names x)
 CommandGives files (SelfTest number size) a = (x : SelfTestAnswer) × (a ≡ answer.SelfTest x)
+CommandGives files (Simplify proof name out) a = (x : SimplifyAnswer) × (a ≡ answer.Simplify x) × ((p : List ℕ) × (files proof ≡ Some p) × SimplifyCase p name x)
+CommandGives files (Laws proof cert) a = (x : LawsAnswer) × (a ≡ answer.Laws x) × ((p : List ℕ) × (files proof ≡ Some p) × LawsCase files cert p x)
+CommandGives files (Smt proof name def out) a = (x : SmtAnswer) × (a ≡ answer.Smt x) × ((p : List ℕ) × (files proof ≡ Some p) × SmtCase p name def x)
 
 command-unique : (files : Contents) (c : Command) (a b : Answer) → IsDetermined b → CommandGives files c a → CommandGives files c b → a ≡ b
 command-unique files (Eval proof name turns args) a b d (x, ax, (p, held, h)) (y, by, (q, holds, k)) =
@@ -409,6 +658,15 @@ command-unique files (Decompile elf out names) a b d (x, ax, (p, held, h)) (y, b
     let same : p ≡ q = some_file p q (sym held ∙ holds) in
     ax ∙ ap answer.Decompile (decompile-unique q names x y (subst IsDetermined by d) (subst (λ (r : List ℕ). DecompileCase r names x) same h) k) ∙ sym by
 command-unique files (SelfTest number size) a b d (x, ax) (y, by) = absurd (subst IsDetermined by d)
+command-unique files (Simplify proof name out) a b d (x, ax, (p, held, h)) (y, by, (q, holds, k)) =
+    let same : p ≡ q = some_file p q (sym held ∙ holds) in
+    ax ∙ ap answer.Simplify (simplify-unique q name x y (subst IsDetermined by d) (subst (λ (r : List ℕ). SimplifyCase r name x) same h) k) ∙ sym by
+command-unique files (Laws proof cert) a b d (x, ax, (p, held, h)) (y, by, (q, holds, k)) =
+    let same : p ≡ q = some_file p q (sym held ∙ holds) in
+    ax ∙ ap answer.Laws (laws-unique files cert q x y (subst (λ (r : List ℕ). LawsCase files cert r x) same h) k) ∙ sym by
+command-unique files (Smt proof name def out) a b d (x, ax, (p, held, h)) (y, by, (q, holds, k)) =
+    let same : p ≡ q = some_file p q (sym held ∙ holds) in
+    ax ∙ ap answer.Smt (smt-unique q name def x y (subst (λ (r : List ℕ). SmtCase r name def x) same h) k) ∙ sym by
 
 -- ---- answers
 
@@ -426,6 +684,9 @@ IsOfFiles (answer.Run x) = Unit {0}
 IsOfFiles (answer.Check x) = Unit {0}
 IsOfFiles (answer.Decompile x) = Unit {0}
 IsOfFiles (answer.SelfTest x) = Unit {0}
+IsOfFiles (answer.Simplify x) = Unit {0}
+IsOfFiles (answer.Laws x) = Unit {0}
+IsOfFiles (answer.Smt x) = Unit {0}
 
 words-case : (files : Contents) (ws : List (List ℕ)) (rose wrote : Type 0) (a : Answer) → IsOfFiles a → Gives (Some files) ws rose wrote a → WordsCase files ws a
 words-case files ws rose wrote answer.NotACommand d h = inl (h, refl)
@@ -437,6 +698,9 @@ words-case files ws rose wrote (answer.Run x) d (elf, start, until, steps, args,
 words-case files ws rose wrote (answer.Check x) d (elf, proof, w, h) = inr (Check elf proof, w, (x, refl, h))
 words-case files ws rose wrote (answer.Decompile x) d (elf, out, names, w, (file, held, h)) = inr (Decompile elf out names, w, (x, refl, (file, held, decompile-case file names x h)))
 words-case files ws rose wrote (answer.SelfTest x) d (number, size, w, h) = inr (SelfTest number size, w, (x, refl))
+words-case files ws rose wrote (answer.Simplify x) d (proof, name, out, w, (file, held, h)) = inr (Simplify proof name out, w, (x, refl, (file, held, simplify-case file name x h)))
+words-case files ws rose wrote (answer.Laws x) d (proof, cert, w, (file, held, h)) = inr (Laws proof cert, w, (x, refl, (file, held, laws-case files cert file x h)))
+words-case files ws rose wrote (answer.Smt x) d (proof, name, def, out, w, (file, held, h)) = inr (Smt proof name def out, w, (x, refl, (file, held, smt-case file name def x h)))
 
 determined : (a : Answer) → IsDetermined a → IsOfFiles a
 determined answer.NotACommand d = tt
@@ -448,6 +712,9 @@ determined (answer.Run x) d = tt
 determined (answer.Check x) d = tt
 determined (answer.Decompile x) d = tt
 determined (answer.SelfTest x) d = absurd d
+determined (answer.Simplify x) d = tt
+determined (answer.Laws x) d = tt
+determined (answer.Smt x) d = tt
 
 case-unique : (files : Contents) (ws : List (List ℕ)) (a b : Answer) → IsDetermined b → WordsCase files ws a → WordsCase files ws b → a ≡ b
 case-unique files ws a b d (inl h) (inl k) = h.1 ∙ sym k.1
@@ -489,6 +756,9 @@ delivered-exact files ws rose wrote (answer.Run x) result old new g h a d k = co
 delivered-exact files ws rose wrote (answer.Check x) result old new g h a d k = comes a (answer.Check x) result old new (answer-unique files ws rose wrote (answer.Check x) a tt d g k) h
 delivered-exact files ws rose wrote (answer.Decompile x) result old new g h a d k = comes a (answer.Decompile x) result old new (answer-unique files ws rose wrote (answer.Decompile x) a tt d g k) h
 delivered-exact files ws rose wrote (answer.SelfTest x) result old new g h a d k = comes a (answer.SelfTest x) result old new (answer-unique files ws rose wrote (answer.SelfTest x) a tt d g k) h
+delivered-exact files ws rose wrote (answer.Simplify x) result old new g h a d k = comes a (answer.Simplify x) result old new (answer-unique files ws rose wrote (answer.Simplify x) a tt d g k) h
+delivered-exact files ws rose wrote (answer.Laws x) result old new g h a d k = comes a (answer.Laws x) result old new (answer-unique files ws rose wrote (answer.Laws x) a tt d g k) h
+delivered-exact files ws rose wrote (answer.Smt x) result old new g h a d k = comes a (answer.Smt x) result old new (answer-unique files ws rose wrote (answer.Smt x) a tt d g k) h
 
 pub exact-given : (told : Option Contents) (ws : List (List ℕ)) (rose wrote : Type 0) (b : Answer) (result : ℕ) (old new : Option (List ℕ))
     → Gives told ws rose wrote b → IsDelivered b result old new
@@ -503,44 +773,12 @@ given-status b result old new (inl h) none = sym h.0 ∙ none
 given-status b result old new (inr (inl five, h)) none = absurd (omega (arith, five, none))
 given-status b result old new (inr (inr six, h)) none = absurd (omega (arith, six, none))
 
-same-words : (elf proof elf' proof' : List ℕ) → Check elf proof ≡ Check elf' proof' → (elf ≡ elf') × (proof ≡ proof')
+-- a command whose words are those of `check`
+check-words : (ws : List (List ℕ)) (c : Command) (elf proof : List ℕ) → Words ws c → ws ≡ codes "check" ∷ elf ∷ proof ∷ [] → (name_of c ≡ codes "check") × (elf ∷ proof ∷ [] ≡ operands_of c)
+check-words ws c elf proof v w = named-words ws (elf ∷ proof ∷ []) (codes "check") c w v
+
+same-words : (elf proof elf' proof' : List ℕ) → elf ∷ proof ∷ [] ≡ elf' ∷ proof' ∷ [] → (elf' ≡ elf) × (proof' ≡ proof)
 same-words elf proof elf' proof' e = (cc, cc)
-
-no-eval-check : (p n : List ℕ) (t : ℕ) (args : List Arg) (elf proof : List ℕ) → Eval p n t args ≡ Check elf proof → ⊥
-no-eval-check p n t args elf proof e = cc
-
-no-run-check : (e s : List ℕ) (u k : ℕ) (args : List Arg) (elf proof : List ℕ) → Run e s u k args ≡ Check elf proof → ⊥
-no-run-check e s u k args elf proof same = cc
-
-no-decompile-check : (e o : List ℕ) (ns : List (List ℕ)) (elf proof : List ℕ) → Decompile e o ns ≡ Check elf proof → ⊥
-no-decompile-check e o ns elf proof same = cc
-
-no-test-check : (n s : ℕ) (elf proof : List ℕ) → SelfTest n s ≡ Check elf proof → ⊥
-no-test-check n s elf proof same = cc
-
--- the words of `check` are those of no other command
-check-alone : (ws : List (List ℕ)) (c : Command) (elf proof : List ℕ) → Words ws c → ws ≡ codes "check" ∷ elf ∷ proof ∷ [] → c ≡ Check elf proof
-check-alone ws (Eval proof' name turns args) elf proof v w =
-    let e = sym v.1 ∙ w in
-    let n : codes "eval" ≡ codes "check" = cc in
-    absurd (other-name (codes "eval") (codes "check") refl n)
-check-alone ws (Run elf' start until steps args) elf proof v w =
-    let e = sym v.1 ∙ w in
-    let n : codes "run" ≡ codes "check" = cc in
-    absurd (other-name (codes "run") (codes "check") refl n)
-check-alone ws (Check elf' proof') elf proof v w =
-    let e = sym v.1 ∙ w in
-    let f : elf' ≡ elf = cc in
-    let p : proof' ≡ proof = cc in
-    λ i. Check (f i) (p i)
-check-alone ws (Decompile elf' out names) elf proof v w =
-    let e = sym v.1 ∙ w in
-    let n : codes "decompile" ≡ codes "check" = cc in
-    absurd (other-name (codes "decompile") (codes "check") refl n)
-check-alone ws (SelfTest number size) elf proof v w =
-    let e = sym v.1 ∙ w in
-    let n : codes "selftest" ≡ codes "check" = cc in
-    absurd (other-name (codes "selftest") (codes "check") refl n)
 
 accepted-files : (files : Contents) (elf proof file : List ℕ) (functions lines : ℕ) → files elf ≡ Some file → CheckGives (Some files) proof file (ca.Judged (verdict.Accepted functions lines)) → AreRightFiles files elf proof
 accepted-files files elf proof file functions lines holds (loaded, (text, held, (short, good))) = record {
@@ -570,14 +808,16 @@ answered files ws rose wrote answer.NotACommand elf proof g w e = absurd (omega 
 answered files ws rose wrote answer.ReadFault elf proof g w e = absurd (omega (arith, e))
 answered files ws rose wrote answer.WriteFault elf proof g w e = absurd (omega (arith, e))
 answered files ws rose wrote answer.NoMemory elf proof g w e = absurd (omega (arith, e))
-answered files ws rose wrote (answer.Eval x) elf proof (p, n, t, args, v, h) w e = absurd (no-eval-check p n t args elf proof (check-alone ws (Eval p n t args) elf proof v w))
-answered files ws rose wrote (answer.Run x) elf proof (f, s, u, k, args, v, h) w e = absurd (no-run-check f s u k args elf proof (check-alone ws (Run f s u k args) elf proof v w))
+answered files ws rose wrote (answer.Eval x) elf proof (p, n, t, args, v, h) w e = absurd (other-name (codes "eval") (codes "check") refl (check-words ws (Eval p n t args) elf proof v w).0)
+answered files ws rose wrote (answer.Run x) elf proof (f, s, u, k, args, v, h) w e = absurd (other-name (codes "run") (codes "check") refl (check-words ws (Run f s u k args) elf proof v w).0)
 answered files ws rose wrote (answer.Check x) elf proof (elf', proof', v, (file, holds, h)) w e =
-    let same = same-words elf' proof' elf proof (check-alone ws (Check elf' proof') elf proof v w) in
+    let same = same-words elf proof elf' proof' (check-words ws (Check elf' proof') elf proof v w).1 in
     status-zero files elf proof file x (ap files (sym same.0) ∙ holds) (subst (λ (p : List ℕ). CheckGives (Some files) p file x) same.1 h) e
-answered files ws rose wrote (answer.Decompile x) elf proof (elf', out, names, v, h) w e =
-    absurd (no-decompile-check elf' out names elf proof (check-alone ws (Decompile elf' out names) elf proof v w))
-answered files ws rose wrote (answer.SelfTest x) elf proof (n, s, v, h) w e = absurd (no-test-check n s elf proof (check-alone ws (SelfTest n s) elf proof v w))
+answered files ws rose wrote (answer.Decompile x) elf proof (f, o, names, v, h) w e = absurd (other-name (codes "decompile") (codes "check") refl (check-words ws (Decompile f o names) elf proof v w).0)
+answered files ws rose wrote (answer.SelfTest x) elf proof (n, s, v, h) w e = absurd (other-name (codes "selftest") (codes "check") refl (check-words ws (SelfTest n s) elf proof v w).0)
+answered files ws rose wrote (answer.Simplify x) elf proof (p, n, o, v, h) w e = absurd (other-name (codes "simplify") (codes "check") refl (check-words ws (Simplify p n o) elf proof v w).0)
+answered files ws rose wrote (answer.Laws x) elf proof (p, c, v, h) w e = absurd (other-name (codes "laws") (codes "check") refl (check-words ws (Laws p c) elf proof v w).0)
+answered files ws rose wrote (answer.Smt x) elf proof (p, n, d, o, v, h) w e = absurd (other-name (codes "smt") (codes "check") refl (check-words ws (Smt p n d o) elf proof v w).0)
 
 pub headline-given : (told : Option Contents) (ws : List (List ℕ)) (rose wrote : Type 0) (b : Answer) (result : ℕ) (old new : Option (List ℕ))
     → Gives told ws rose wrote b → IsDelivered b result old new

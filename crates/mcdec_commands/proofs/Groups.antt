@@ -20,8 +20,8 @@ use Rattle.proof_text.proofs.TextItems.{items-opened, items-added}
 use Rattle.proof_text.proofs.Fronts.{fronts, front-read, few-read, given-read}
 use Rattle.mcdec_commands.specs.declared.eval.Refusal.{Refusal}
 use Rattle.mcdec_commands.specs.declared.eval.Refusal.TheVariants as refusal
-use Rattle.mcdec_commands.specs.EvalAnswer.{AreWellFormed, first_named}
-use Rattle.mcdec_commands.specs.inner.Search.{HasPassed, IsBadText, LineIs, LinesArePassed, Passing, NextIs, Finds, FoundSo, Searched}
+use Rattle.mcdec_commands.specs.EvalAnswer.{AreWellFormed, HasBadLine, first_named}
+use Rattle.mcdec_commands.specs.inner.Search.{HasPassed, LineIs, LinesArePassed, Passing, NextIs, Finds, FoundSo, Searched}
 
 all-behind : (F : GroupTree → Type 0) (gs : List GroupTree) (g : GroupTree) → AllByRecursion F gs → F g → AllByRecursion F (gs ++ g ∷ [])
 all-behind F [] g h k = (k, tt)
@@ -132,7 +132,7 @@ all-well qs r h none well hs read = elim (fronts r.text qs hs (given-read qs r h
         let new : Progress = record { text = r.text; rest = a.0; place = newlines (passed k.0) } in
         absurd (none i k.0 new refl k.1 (record { fit = a.1.fit; text = a.1.text; place = refl; ended = a.1.ended }))
 
-bad-text : (qs : List ProofTree) (r : Progress) (line : ℕ) → HasGiven qs r → IsBadAt texts_of_proofs r.text line → NoItem qs r → AreWellFormed (groups_of qs) → IsBadText r.text line
+bad-text : (qs : List ProofTree) (r : Progress) (line : ℕ) → HasGiven qs r → IsBadAt texts_of_proofs r.text line → NoItem qs r → AreWellFormed (groups_of qs) → HasBadLine r.text line
 bad-text qs r line h bad none well = (bad, all-well qs r h none well)
 
 -- ---- the lines of a proof
@@ -165,7 +165,7 @@ module _ (g : GroupTree) (start now : Progress) (s : Passing g start now) where
   lines-stop new last (refusal.Text line) k = λ ps p h e well.
       let q = s.given ps p h e in
       let stop = k ps q.0 q.2 q.1 in
-      subst (λ (t : List ℕ). IsBadText t line) s.text
+      subst (λ (t : List ℕ). HasBadLine t line) s.text
       (bad-text (ps ++ q.0 ∷ []) now line q.2 stop.0 stop.1 (subst AreWellFormed (same-groups ps p q.0 (e ∙ sym q.1)) well))
   lines-stop new last (refusal.IllFormed m def) k = absurd k
   lines-stop new last refusal.NoFunction k = absurd k
@@ -175,14 +175,14 @@ module _ (g : GroupTree) (start now : Progress) (s : Passing g start now) where
 
 module _ (old : Progress) (ps : List ProofTree) (h : HasPassed ps old) where
   -- no group is read
-  pub group-bad : (line : ℕ) → IsBadAt texts_of_proofs old.text line → NoItem ps old → AreWellFormed (groups_of ps) → IsBadText old.text line
+  pub group-bad : (line : ℕ) → IsBadAt texts_of_proofs old.text line → NoItem ps old → AreWellFormed (groups_of ps) → HasBadLine old.text line
   group-bad line bad none well = bad-text ps old line h.given bad none well
 
   pub group-refused : (f : TextFault) (line : ℕ) → f ≡ Bad line → OnBad {X = Group} (Err f) (λ n. (qs : List ProofTree) → HasGiven qs old → MayOpen qs old.rest → IsBadAt texts_of_proofs old.text n)
-      → OnBad {X = Group} (Err f) (λ n. (qs : List ProofTree) → HasGiven qs old → MayOpen qs old.rest → NoItem qs old) → AreWellFormed (groups_of ps) → IsBadText old.text line
+      → OnBad {X = Group} (Err f) (λ n. (qs : List ProofTree) → HasGiven qs old → MayOpen qs old.rest → NoItem qs old) → AreWellFormed (groups_of ps) → HasBadLine old.text line
   group-refused (Bad n) line e bad none well =
       let same : n ≡ line = cc in
-      subst (λ (k : ℕ). IsBadText old.text k) same (group-bad n (bad ps h.given h.over) (none ps h.given h.over) well)
+      subst (λ (k : ℕ). HasBadLine old.text k) same (group-bad n (bad ps h.given h.over) (none ps h.given h.over) well)
   group-refused NoMemory line e bad none well = absurd cc
 
   -- a group is read, and the lines behind it
@@ -193,9 +193,9 @@ module _ (old : Progress) (ps : List ProofTree) (h : HasPassed ps old) where
     pub lines-passed : (new : Progress) → LinesArePassed g mid new (Ok tt) → (q : ProofTree) × (q.group ≡ g) × HasPassed (ps ++ q ∷ []) new
     lines-passed new k = k.2 ps (bare g) given refl
 
-    pub lines-bad : (new : Progress) (line : ℕ) → IsWellFormed g → LinesArePassed g mid new (Err (refusal.Text line)) → AreWellFormed (groups_of ps) → IsBadText old.text line
+    pub lines-bad : (new : Progress) (line : ℕ) → IsWellFormed g → LinesArePassed g mid new (Err (refusal.Text line)) → AreWellFormed (groups_of ps) → HasBadLine old.text line
     lines-bad new line is k well =
-        subst (λ (t : List ℕ). IsBadText t line) same
+        subst (λ (t : List ℕ). HasBadLine t line) same
         (k ps (bare g) given refl (subst AreWellFormed (sym (groups-more ps (bare g))) (all-behind IsWellFormed (groups_of ps) g well is)))
 
 -- ---- the search
@@ -203,7 +203,7 @@ module _ (old : Progress) (ps : List ProofTree) (h : HasPassed ps old) where
 module _ (text name : List ℕ) (r : Progress) (count : ℕ) (found : Option Group) (s : Searched text name r count found) where
   -- the search stopped
   pub stopped : (new : Progress) (e : Refusal) → NextIs count r new (Err e) → Finds text name (Err e)
-  stopped new (refusal.Text line) h = subst (λ (t : List ℕ). IsBadText t line) s.same (h s.proofs s.passed s.well_formed)
+  stopped new (refusal.Text line) h = subst (λ (t : List ℕ). HasBadLine t line) s.same (h s.proofs s.passed s.well_formed)
   stopped new (refusal.IllFormed m def) h =
       (s.proofs, h.1, subst (λ (t : List ℕ). AreRead t (s.proofs ++ bare h.1 ∷ [])) s.same (h.3 s.proofs s.passed), s.well_formed, h.0 ∙ s.counted, h.2)
   stopped new refusal.NoFunction h = absurd h

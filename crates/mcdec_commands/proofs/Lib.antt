@@ -7,6 +7,10 @@ pub mod Groups
 pub mod OneListing
 pub mod Listed
 pub mod Exactness
+pub mod Leaving
 pub mod Decompiling
+pub mod Judging
+pub mod Simplifying
+pub mod Exporting
 pub mod SelfTesting
 pub mod Examples

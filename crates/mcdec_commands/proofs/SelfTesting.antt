@@ -4,7 +4,7 @@ use Rattle.mc_shelf.specs.Shelf.{Contents}
 use Rattle.mcdec_answers.specs.declared.answer.Answer.{Answer}
 use Rattle.mcdec_answers.specs.declared.answer.Answer.TheVariants as answer
 use Rattle.mcdec_answers.specs.declared.answer.SelfTestAnswer.{SelfTestAnswer}
-use Rattle.mcdec_words.specs.Command.{Arg, Check, Decompile, Eval, Run, SelfTest, Words, inputs_of, output_of}
+use Rattle.mcdec_words.specs.Command.{Arg, Check, Decompile, Eval, Laws, Run, SelfTest, Simplify, Smt, Words, inputs_of, output_of}
 use Rattle.mcdec_commands.specs.SelfTestAnswer.{SelfTestGives}
 use Rattle.mcdec_commands.specs.Answer.{Gives}
 use Rattle.mcdec_commands.specs.inner.SelfTesting.{TestGives}
@@ -20,6 +20,9 @@ test-gives told ws number size rose wrote w (answer.Eval a) h = absurd h
 test-gives told ws number size rose wrote w (answer.Run a) h = absurd h
 test-gives told ws number size rose wrote w (answer.Check a) h = absurd h
 test-gives told ws number size rose wrote w (answer.Decompile a) h = absurd h
+test-gives told ws number size rose wrote w (answer.Simplify a) h = absurd h
+test-gives told ws number size rose wrote w (answer.Laws a) h = absurd h
+test-gives told ws number size rose wrote w (answer.Smt a) h = absurd h
 test-gives told ws number size rose wrote w (answer.SelfTest a) h = (number, size, w, h)
 
 -- ---- no other answer
@@ -36,6 +39,15 @@ no-check f p n k e = cc
 no-decompile : (f o : List ℕ) (names : List (List ℕ)) (n k : ℕ) → Decompile f o names ≡ SelfTest n k → ⊥
 no-decompile f o names n k e = cc
 
+no-simplify : (p m o : List ℕ) (n k : ℕ) → Simplify p m o ≡ SelfTest n k → ⊥
+no-simplify p m o n k e = cc
+
+no-laws : (p c : List ℕ) (n k : ℕ) → Laws p c ≡ SelfTest n k → ⊥
+no-laws p c n k e = cc
+
+no-smt : (p m : List ℕ) (d : ℕ) (o : List ℕ) (n k : ℕ) → Smt p m d o ≡ SelfTest n k → ⊥
+no-smt p m d o n k e = cc
+
 same-numbers : (m j n k : ℕ) → SelfTest m j ≡ SelfTest n k → (m ≡ n) × (j ≡ k)
 same-numbers m j n k e = (cc, cc)
 
@@ -50,6 +62,9 @@ answers told ws rose wrote n k w (answer.Eval a) (p, m, t, args, v, h) = absurd 
 answers told ws rose wrote n k w (answer.Run a) (f, s, u, j, args, v, h) = absurd (no-run f s u j args n k (words-unique ws (Run f s u j args) (SelfTest n k) v w))
 answers told ws rose wrote n k w (answer.Check a) (f, p, v, h) = absurd (no-check f p n k (words-unique ws (Check f p) (SelfTest n k) v w))
 answers told ws rose wrote n k w (answer.Decompile a) (f, o, names, v, h) = absurd (no-decompile f o names n k (words-unique ws (Decompile f o names) (SelfTest n k) v w))
+answers told ws rose wrote n k w (answer.Simplify a) (p, m, o, v, h) = absurd (no-simplify p m o n k (words-unique ws (Simplify p m o) (SelfTest n k) v w))
+answers told ws rose wrote n k w (answer.Laws a) (p, c, v, h) = absurd (no-laws p c n k (words-unique ws (Laws p c) (SelfTest n k) v w))
+answers told ws rose wrote n k w (answer.Smt a) (p, m, d, o, v, h) = absurd (no-smt p m d o n k (words-unique ws (Smt p m d o) (SelfTest n k) v w))
 answers told ws rose wrote n k w (answer.SelfTest a) (m, j, v, h) =
     let same = same-numbers m j n k (words-unique ws (SelfTest m j) (SelfTest n k) v w) in
     inl (a, refl, subst (λ (y : ℕ). SelfTestGives n y a) same.1 (subst (λ (x : ℕ). SelfTestGives x j a) same.0 h))

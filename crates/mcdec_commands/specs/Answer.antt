@@ -3,13 +3,16 @@ use Rattle.std.specs.Prelude.{◌≡◌, ◌≢◌, ℕ, List, [], All, Option, 
 use Rattle.mc_shelf.specs.Shelf.{Contents, TellsName}
 use Rattle.mcdec_answers.specs.declared.answer.Answer.{Answer}
 use Rattle.mcdec_answers.specs.declared.answer.Answer.TheVariants as answer
-use Rattle.mcdec_words.specs.Command.{Command, Eval, Run, Check, Decompile, SelfTest, Arg, Words, IsNoCommand, inputs_of, output_of}
+use Rattle.mcdec_words.specs.Command.{Command, Eval, Run, Check, Decompile, SelfTest, Simplify, Laws, Smt, Arg, Words, IsNoCommand, inputs_of, output_of}
 use Rattle.mcdec_commands.specs.Held.{HoldsWith}
 use Rattle.mcdec_commands.specs.EvalAnswer.{EvalGives}
 use Rattle.mcdec_commands.specs.CheckAnswer.{CheckGives}
 use Rattle.mcdec_commands.specs.DecompileAnswer.{DecompileGives, IsToldOnce}
 use Rattle.mcdec_commands.specs.SelfTestAnswer.{SelfTestGives}
 use Rattle.mcdec_commands.specs.RunAnswer.{RunGives}
+use Rattle.mcdec_commands.specs.SimplifyAnswer.{IsRefusal, SimplifyGives}
+use Rattle.mcdec_commands.specs.LawsAnswer.{LawsGives}
+use Rattle.mcdec_commands.specs.SmtAnswer.{SmtGives}
 
 -- the command reads a file
 abbrev pub HasInputs : Command → Type 0
@@ -36,6 +39,11 @@ Gives told ws rose wrote (answer.Check a) = (elf proof : List ℕ) × Words ws (
 Gives told ws rose wrote (answer.Decompile a) =
     (elf out : List ℕ) × (names : List (List ℕ)) × Words ws (Decompile elf out names) × HoldsWith told elf (λ file. DecompileGives file names a)
 Gives told ws rose wrote (answer.SelfTest a) = (number size : ℕ) × Words ws (SelfTest number size) × SelfTestGives number size a
+Gives told ws rose wrote (answer.Simplify a) =
+    (proof name out : List ℕ) × Words ws (Simplify proof name out) × HoldsWith told proof (λ file. SimplifyGives file name a)
+Gives told ws rose wrote (answer.Laws a) = (proof cert : List ℕ) × Words ws (Laws proof cert) × HoldsWith told proof (λ file. LawsGives told cert file a)
+Gives told ws rose wrote (answer.Smt a) =
+    (proof name : List ℕ) × (def : ℕ) × (out : List ℕ) × Words ws (Smt proof name def out) × HoldsWith told proof (λ file. SmtGives file name def a)
 
 -- ---- the contract of the top call
 
@@ -50,6 +58,9 @@ IsDetermined (answer.Run a) = Unit {0}
 IsDetermined (answer.Check a) = Unit {0}
 IsDetermined (answer.Decompile a) = IsToldOnce a
 IsDetermined (answer.SelfTest a) = ⊥
+IsDetermined (answer.Simplify a) = IsRefusal a
+IsDetermined (answer.Laws a) = Unit {0}
+IsDetermined (answer.Smt a) = Unit {0}
 
 -- each file that the words' command reads is there
 abbrev pub ReadsAreTold : Option Contents → List (List ℕ) → Type 0

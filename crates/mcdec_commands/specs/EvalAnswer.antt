@@ -51,15 +51,21 @@ pub record IsNamed (text name : List ℕ) (found : Option GroupTree) : Type 0 wh
   pub well_formed : AreWellFormed (groups_of proofs)
   pub first : first_named name (groups_of proofs) ≡ found
 
+-- the text isn't one of groups with the lines of proofs, from this line on, and the groups before it are well-formed
+abbrev pub HasBadLine : (text : List ℕ) (line : ℕ) → Type 0
+HasBadLine text line = IsBadAt texts_of_proofs text line × ((ps : List ProofTree) → AreRead text ps → AreWellFormed (groups_of ps))
+
+-- this definition of the group of that number is the text's first that isn't well-formed
+abbrev pub HasBadDef : (text : List ℕ) (group def : ℕ) → Type 0
+HasBadDef text group def =
+    (ps : List ProofTree) × (g : GroupTree) × AreRead text (ps ++ bare g ∷ []) × AreWellFormed (groups_of ps) × (group ≡ length ps) × IsFirstIllFormed g def
+
 -- What `eval` of a name comes to, where the proof file has these bytes. Lines of proofs are read, and not judged. A group is judged
 -- when its definitions are read: one that isn't well-formed is told before a bad line behind them, and after one among them.
 abbrev pub EvalGives : (file name : List ℕ) (turns : ℕ) (args : List Arg) → EvalAnswer → Type 0
 EvalGives file name turns args answer.OverLimit = proof_limit < length file
-EvalGives file name turns args (answer.Unreadable line) =
-    (length file ≤ proof_limit) × IsBadAt texts_of_proofs file line × ((ps : List ProofTree) → AreRead file ps → AreWellFormed (groups_of ps))
-EvalGives file name turns args (answer.IllFormed group def) =
-    (length file ≤ proof_limit) × (ps : List ProofTree) × (g : GroupTree) × AreRead file (ps ++ bare g ∷ []) × AreWellFormed (groups_of ps)
-    × (group ≡ length ps) × IsFirstIllFormed g def
+EvalGives file name turns args (answer.Unreadable line) = (length file ≤ proof_limit) × HasBadLine file line
+EvalGives file name turns args (answer.IllFormed group def) = (length file ≤ proof_limit) × HasBadDef file group def
 EvalGives file name turns args answer.NoFunction = (length file ≤ proof_limit) × IsNamed file name None
 EvalGives file name turns args (answer.SideFalse def ordinal) =
     (length file ≤ proof_limit) × (g : GroupTree) × IsNamed file name (Some g) × (eval g (listed_def g) (arguments_given args g) turns ≡ SideFalse def ordinal)

@@ -5,7 +5,10 @@ pub mod Held
 pub mod Listed
 pub mod CheckAnswer
 pub mod DecompileAnswer
-pub mod Output
 pub mod SelfTestAnswer
+pub mod SimplifyAnswer
+pub mod LawsAnswer
+pub mod SmtAnswer
+pub mod Output
 pub mod Answer
 pub mod inner

@@ -4,3 +4,6 @@ pub mod Search
 pub mod Writing
 pub mod Decompiling
 pub mod SelfTesting
+pub mod Simplifying
+pub mod Exporting
+pub mod Judging

@@ -7,14 +7,16 @@ ghost use Rattle.mcdec_commands.specs.CheckAnswer.{AreRightFiles};
 ghost use Rattle.mcdec_words.specs.Command.{Command as CommandOf, Words, output_of, texts};
 ghost use Rattle.mcdec_commands.specs.Output.{IsOutput, LeavesOut};
 ghost use Rattle.mcdec_answers.specs.Printed.{IsDelivered, IsPrinted, status};
-ghost use Rattle.mcdec_commands.specs.inner.Decompiling.{LeavesBy};
 ghost use Rattle.mcdec_answers.specs.declared.answer.Answer.{Answer as AnswerOf};
 
 use crate::check::answer_check;
 use crate::decompile::answer_decompile;
 use crate::eval::answer_eval;
+use crate::laws::answer_laws;
 use crate::run::answer_run;
 use crate::selftest::answer_selftest;
+use crate::simplify::answer_simplify;
+use crate::smt::answer_smt;
 use mc_shelf::{Shelf, Sink};
 use mcdec_answers::{Answer, deliver};
 use mcdec_words::{Command, Unread, read_words};
@@ -65,7 +67,7 @@ fn answer_words<S: Shelf>(alloc: Global, words: &[String], shelf: &mut S) -> Ans
     ensures gives { Gives (S.contents shelf.old) (texts words.now) (Rose (S.read_faults shelf.old) (S.read_faults shelf.new)) (Rose (S.write_faults shelf.old) (S.write_faults shelf.new)) result }
 
     ensures written { WhereTold (S.contents shelf.old) (S.contents shelf.new) (λ old new. (c : CommandOf) (out : List ℕ)
-        → Words (texts words.now) c → output_of c ≡ Some out → LeavesBy (IsOutput old c) result (old out) (new out)) }
+        → Words (texts words.now) c → output_of c ≡ Some out → LeavesOut (IsOutput old c) (status result) (old out) (new out)) }
     ensures write_fault { status result ≡ 5 → Rose (S.write_faults shelf.old) (S.write_faults shelf.new) }
 
     ensures kept { WhereTold (S.contents shelf.old) (S.contents shelf.new) (KeepsNames (texts words.now)) }
@@ -84,5 +86,8 @@ fn answer_words<S: Shelf>(alloc: Global, words: &[String], shelf: &mut S) -> Ans
         Command::Check(c) => answer_check(alloc, &c, shelf),
         Command::Decompile(d) => answer_decompile(alloc, &d, shelf),
         Command::SelfTest(test) => answer_selftest(alloc, test),
+        Command::Simplify(s) => answer_simplify(alloc, &s, shelf),
+        Command::Laws(l) => answer_laws(alloc, &l, shelf),
+        Command::Smt(s) => answer_smt(alloc, &s, shelf),
     }
 }

@@ -1,9 +1,8 @@
 //! The command `decompile`.
 
-ghost use Rattle.std.specs.Prelude.{◌≡◌, ◌<◌, ◌≤◌, ℕ, All, IfOk, IfSome, List as Items, Option, Some, length};
+ghost use Rattle.std.specs.Prelude.{◌≡◌, ◌<◌, ◌≤◌, ℕ, All, IfOk, IfSome, List as Items, Some, length};
 ghost use Rattle.elf_image.specs.Image.{image_of};
 ghost use Rattle.mc_shelf.specs.Fault.{Rose, WhereTold};
-ghost use Rattle.mc_shelf.specs.Shelf.{Contents};
 ghost use Rattle.group_text.specs.Limits.{IsName};
 ghost use Rattle.proof_text.specs.Proofs.{AreProofs};
 ghost use Rattle.decompiler.specs.Listing.{AreItemsFor, proofs_of};
@@ -13,15 +12,15 @@ ghost use Rattle.mcdec_commands.specs.DecompileAnswer.{IsTextFor, all_listed, li
 ghost use Rattle.mcdec_answers.specs.Printed.{status};
 ghost use Rattle.mcdec_commands.specs.RunAnswer.{IsLoaded};
 ghost use Rattle.mcdec_words.specs.CommandReading.{IsReadDecompile};
-ghost use Rattle.mcdec_commands.specs.inner.Decompiling.{FileGives, HasDef, LeavesBy, WritesOut};
-ghost use Rattle.mcdec_commands.specs.inner.Writing.{IsTold};
+ghost use Rattle.mcdec_commands.specs.inner.Decompiling.{FileGives, HasDef};
+ghost use Rattle.mcdec_commands.specs.inner.Writing.{IsTold, WritesOut};
 
-use crate::output::write_text;
+use crate::output::write_answer;
 use crate::run::ELF_LIMIT;
 use decompiler::{DecompileFault, Item, Proof, decompile, entry_of, law_of_items, proof_bytes};
 use elf_image::{ElfFault, Image, read};
 use flow_graph::Outside;
-use mc_shelf::{ReadEnd, Shelf, Stop, read_file};
+use mc_shelf::{ReadEnd, Shelf, read_file};
 use mcdec_answers::{Answer, DecompileAnswer, Listed};
 use mcdec_words::Decompile;
 use rv_words::{List, NoMemory, Text};
@@ -33,7 +32,7 @@ pub fn answer_decompile<S: Shelf>(alloc: Global, d: &Decompile<'_>, shelf: &mut 
     ensures gives { (ws : Items (Items ℕ)) → IsReadDecompile ws d.now
         → Gives (S.contents shelf.old) ws (Rose (S.read_faults shelf.old) (S.read_faults shelf.new)) (Rose (S.write_faults shelf.old) (S.write_faults shelf.new)) result }
 
-    ensures written { WhereTold (S.contents shelf.old) (S.contents shelf.new) (WritesOut d.now.elf.now d.now.out.now d.now.names result) }
+    ensures written { WhereTold (S.contents shelf.old) (S.contents shelf.new) (WritesOut (λ files. IsTextFor files d.now.elf.now d.now.names) d.now.out.now result) }
     ensures counted { (S.read_faults shelf.old ≤ S.read_faults shelf.new) × (S.write_faults shelf.old ≤ S.write_faults shelf.new) }
     ensures cause { status result ≡ 5 → Rose (S.write_faults shelf.old) (S.write_faults shelf.new) }
     ensures sure { (ws : Items (Items ℕ)) → IsReadDecompile ws d.now → S.IsSure shelf.old → ReadsAreTold (S.contents shelf.old) ws
@@ -64,7 +63,7 @@ fn decompile_image<S: Shelf>(
     ensures gives { (file : Items ℕ) → IsLoaded file → image.now ≡ image_of file → FileGives file d.now.names result }
 
     ensures written { (file : Items ℕ) → IsLoaded file → image.now ≡ image_of file → IfSome (S.contents shelf.old) (λ files. files d.now.elf.now ≡ Some file)
-        → WhereTold (S.contents shelf.old) (S.contents shelf.new) (WritesOut d.now.elf.now d.now.out.now d.now.names result) }
+        → WhereTold (S.contents shelf.old) (S.contents shelf.new) (WritesOut (λ files. IsTextFor files d.now.elf.now d.now.names) d.now.out.now result) }
     ensures reads { S.read_faults shelf.new ≡ S.read_faults shelf.old }
     ensures counted { S.write_faults shelf.old ≤ S.write_faults shelf.new }
     ensures cause { status result ≡ 5 → Rose (S.write_faults shelf.old) (S.write_faults shelf.new) }
@@ -84,7 +83,7 @@ fn decompile_image<S: Shelf>(
 fn refuse(alloc: Global, names: &[Text], number: u64, why: Outside) -> Answer
     requires { number < length names.now }
     ensures gives { (file : Items ℕ) → IsLoaded file → IsRefused file names.now number why → FileGives file names.now result }
-    ensures none { (files : Contents) (elf : Items ℕ) (before : Option (Items ℕ)) → LeavesBy (IsTextFor files elf names.now) result before before }
+    ensures refused { status result ≡ 0 → ⊥ }
     ensures no_fault { status result ≡ 5 → ⊥ }
 {
     match Text::from_slice(alloc, names[number as usize].as_slice()) {
@@ -99,7 +98,7 @@ fn write_proof<S: Shelf>(alloc: Global, proof: &Proof, d: &Decompile<'_>, shelf:
     ensures gives { (file : Items ℕ) → IsLoaded file → AreItemsFor file d.now.names proof.now → FileGives file d.now.names result }
 
     ensures written { (file : Items ℕ) → IsLoaded file → AreItemsFor file d.now.names proof.now → IfSome (S.contents shelf.old) (λ files. files d.now.elf.now ≡ Some file)
-        → WhereTold (S.contents shelf.old) (S.contents shelf.new) (WritesOut d.now.elf.now d.now.out.now d.now.names result) }
+        → WhereTold (S.contents shelf.old) (S.contents shelf.new) (WritesOut (λ files. IsTextFor files d.now.elf.now d.now.names) d.now.out.now result) }
     ensures reads { S.read_faults shelf.new ≡ S.read_faults shelf.old }
     ensures counted { S.write_faults shelf.old ≤ S.write_faults shelf.new }
     ensures cause { status result ≡ 5 → Rose (S.write_faults shelf.old) (S.write_faults shelf.new) }
@@ -111,11 +110,8 @@ fn write_proof<S: Shelf>(alloc: Global, proof: &Proof, d: &Decompile<'_>, shelf:
     let Ok(text) = proof_bytes(alloc, proof) else {
         return Answer::NoMemory;
     };
-    match write_text(shelf, d.out, text.as_slice()) {
-        Ok(()) => Answer::Decompile(DecompileAnswer::Decompiled(listed)),
-        Err(Stop::Failed) => Answer::WriteFault,
-        Err(Stop::NoMemory) => Answer::NoMemory,
-    }
+    let told = Answer::Decompile(DecompileAnswer::Decompiled(listed));
+    write_answer(shelf, d.out, text.as_slice(), told)
 }
 
 /// What is told of each name with its item.

@@ -77,7 +77,7 @@ fn evaluate_text(alloc: Global, text: &[u8], e: &Eval<'_>) -> Result<EvalAnswer,
 }
 
 /// The first group of that name. Each group of the text is read and judged, and the lines of its proof are read.
-fn find_group(alloc: Global, text: &[u8], name: &[u8]) -> Result<Group, Refusal>
+pub fn find_group(alloc: Global, text: &[u8], name: &[u8]) -> Result<Group, Refusal>
     ensures { Finds text.now name.now result }
 {
     let mut reader = Reader::new(text);

@@ -1,9 +1,9 @@
 //! The commands of a decompiler from RISC-V machine code into logic, over a shelf of files and a sink.
 //!
 //! `run_words(alloc, &words, &mut shelf, &mut out)` does what the words of a command line say, prints the lines of the
-//! answer into the sink, and gives its exit status. `eval`, `run`, `check`, `decompile` and `selftest` have a file each,
-//! with one call that reads what the command needs and makes an `Answer`: `answer_eval`, `answer_run`, `answer_check`,
-//! `answer_decompile`, `answer_selftest`. Only `decompile` writes, and only after all that can be refused was tried.
+//! answer into the sink, and gives its exit status. Each command has a file, with one call that reads what the command
+//! needs and makes an `Answer`: `answer_eval`, `answer_run` and so on. `decompile`, `simplify` and `smt` write a file, only
+//! after all that can be refused was tried, by `output::write_answer`.
 //!
 //! A `Shelf` is files by name and a `Sink` the output, both traits of mc_shelf, so that proofs and tests run the same code
 //! as the program does, over files in memory.
@@ -17,9 +17,12 @@ mod check;
 mod commands;
 mod decompile;
 mod eval;
+mod laws;
 mod memory;
 mod output;
 mod run;
 mod selftest;
+mod simplify;
+mod smt;
 
 pub use commands::run_words;

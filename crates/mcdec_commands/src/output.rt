@@ -1,14 +1,34 @@
-//! A text written into a file of a shelf, one line a call.
+//! The text that a command writes into its output file, one line a call.
 
 ghost use Rattle.std.specs.Prelude.{◌≡◌, ◌<◌, ◌≤◌, ◌++◌, IsErrOf, length};
 ghost use Rattle.mc_shelf.specs.Fault.{Rose, WhereTold};
 ghost use Rattle.mc_shelf.specs.Shelf.{TellsName};
-ghost use Rattle.mcdec_commands.specs.inner.Writing.{AddsText, IsTold, Writes};
+ghost use Rattle.mcdec_answers.specs.Printed.{status};
+ghost use Rattle.mcdec_commands.specs.inner.Writing.{AddsText, IsTold, ToldOrFault, Writes, WritesOut};
 
 use mc_shelf::{Shelf, Stop};
+use mcdec_answers::Answer;
+
+/// Makes the name hold the text and nothing else. The answer is the one that tells of that, or why it failed.
+pub fn write_answer<S: Shelf>(shelf: &mut S, name: &str, text: &[u8], told: Answer) -> Answer
+    requires { status told ≡ 0 }
+    ensures answer { ToldOrFault told result }
+
+    ensures written { WhereTold (S.contents shelf.old) (S.contents shelf.new) (WritesOut (λ files t. t ≡ text.now) name.now result) }
+    ensures reads { S.read_faults shelf.new ≡ S.read_faults shelf.old }
+    ensures counted { S.write_faults shelf.old ≤ S.write_faults shelf.new }
+    ensures cause { status result ≡ 5 → Rose (S.write_faults shelf.old) (S.write_faults shelf.new) }
+    ensures sure { S.IsSure shelf.old → IsTold (S.contents shelf.old) → S.write_faults shelf.new ≡ S.write_faults shelf.old }
+{
+    match write_text(shelf, name, text) {
+        Ok(()) => told,
+        Err(Stop::Failed) => Answer::WriteFault,
+        Err(Stop::NoMemory) => Answer::NoMemory,
+    }
+}
 
 /// Makes the name hold the text and nothing else.
-pub fn write_text<S: Shelf>(shelf: &mut S, name: &str, text: &[u8]) -> Result<(), Stop>
+fn write_text<S: Shelf>(shelf: &mut S, name: &str, text: &[u8]) -> Result<(), Stop>
     ensures written { WhereTold (S.contents shelf.old) (S.contents shelf.new) (Writes result name.now text.now) }
 
     ensures reads { S.read_faults shelf.new ≡ S.read_faults shelf.old }

@@ -24,3 +24,6 @@ ImageGives told proof file rose (answer.Run a) = ⊥
 ImageGives told proof file rose (answer.Check a) = CheckGives told proof file a
 ImageGives told proof file rose (answer.Decompile a) = ⊥
 ImageGives told proof file rose (answer.SelfTest a) = ⊥
+ImageGives told proof file rose (answer.Simplify a) = ⊥
+ImageGives told proof file rose (answer.Laws a) = ⊥
+ImageGives told proof file rose (answer.Smt a) = ⊥

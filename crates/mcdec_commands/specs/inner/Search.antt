@@ -15,16 +15,12 @@ use Rattle.mcdec_commands.specs.declared.eval.Refusal.TheVariants as refusal
 use Rattle.mcdec_answers.specs.declared.answer.EvalAnswer.{EvalAnswer}
 use Rattle.mcdec_answers.specs.declared.answer.EvalAnswer.TheVariants as answer
 use Rattle.mcdec_words.specs.Command.{Arg}
-use Rattle.mcdec_commands.specs.EvalAnswer.{AreWellFormed, IsNamed, arguments_given, first_named, shown_of}
+use Rattle.mcdec_commands.specs.EvalAnswer.{AreWellFormed, HasBadDef, HasBadLine, IsNamed, arguments_given, first_named, shown_of}
 
 -- these proofs were given, and the lines of the last one have ended
 pub record HasPassed (ps : List ProofTree) (r : Progress) : Type 0 where
   pub given : HasGiven ps r
   pub over : MayOpen ps r.rest
-
--- a text is bad at a line, and the groups that are read of it are well-formed
-abbrev pub IsBadText : List ℕ → ℕ → Type 0
-IsBadText text line = IsBadAt texts_of_proofs text line × ((ps : List ProofTree) → AreRead text ps → AreWellFormed (groups_of ps))
 
 -- the next line of a group's proof, or why there is none
 abbrev pub LineIs : GroupTree → Progress → Progress → Result (Option Line) Refusal → Type 0
@@ -42,7 +38,7 @@ abbrev pub LinesArePassed : GroupTree → Progress → Progress → Result (Unit
 LinesArePassed g old new (Ok done) = (new.text ≡ old.text) × (length new.rest ≤ length old.rest)
     × ((ps : List ProofTree) (p : ProofTree) → HasGiven (ps ++ p ∷ []) old → p.group ≡ g → (q : ProofTree) × (q.group ≡ g) × HasPassed (ps ++ q ∷ []) new)
 LinesArePassed g old new (Err (refusal.Text line)) = (ps : List ProofTree) (p : ProofTree) → HasGiven (ps ++ p ∷ []) old → p.group ≡ g
-    → AreWellFormed (groups_of (ps ++ p ∷ [])) → IsBadText old.text line
+    → AreWellFormed (groups_of (ps ++ p ∷ [])) → HasBadLine old.text line
 LinesArePassed g old new (Err (refusal.IllFormed m def)) = ⊥
 LinesArePassed g old new (Err refusal.NoFunction) = ⊥
 LinesArePassed g old new (Err refusal.NoMemory) = Unit {0}
@@ -58,7 +54,7 @@ abbrev pub NextIs : ℕ → Progress → Progress → Result (Option Group) Refu
 NextIs n old new (Ok None) = (ps : List ProofTree) → HasPassed ps old → old.text ≡ text_of_proofs ps
 NextIs n old new (Ok (Some g)) = (new.text ≡ old.text) × (length new.rest < length old.rest) × IsWellFormed (group_tree g) × HasFewNeeds (group_tree g)
     × ((ps : List ProofTree) → HasPassed ps old → (q : ProofTree) × (q.group ≡ group_tree g) × HasPassed (ps ++ q ∷ []) new)
-NextIs n old new (Err (refusal.Text line)) = (ps : List ProofTree) → HasPassed ps old → AreWellFormed (groups_of ps) → IsBadText old.text line
+NextIs n old new (Err (refusal.Text line)) = (ps : List ProofTree) → HasPassed ps old → AreWellFormed (groups_of ps) → HasBadLine old.text line
 NextIs n old new (Err (refusal.IllFormed m def)) = (m ≡ n) × (g : GroupTree) × IsFirstIllFormed g def
     × ((ps : List ProofTree) → HasPassed ps old → AreRead old.text (ps ++ bare g ∷ []))
 NextIs n old new (Err refusal.NoFunction) = ⊥
@@ -67,9 +63,8 @@ NextIs n old new (Err refusal.NoMemory) = Unit {0}
 -- what a text has for a name
 abbrev pub Finds : List ℕ → List ℕ → Result Group Refusal → Type 0
 Finds text name (Ok g) = IsNamed text name (Some (group_tree g)) × HasFewNeeds (group_tree g)
-Finds text name (Err (refusal.Text line)) = IsBadText text line
-Finds text name (Err (refusal.IllFormed n def)) = (ps : List ProofTree) × (g : GroupTree) × AreRead text (ps ++ bare g ∷ [])
-    × AreWellFormed (groups_of ps) × (n ≡ length ps) × IsFirstIllFormed g def
+Finds text name (Err (refusal.Text line)) = HasBadLine text line
+Finds text name (Err (refusal.IllFormed n def)) = HasBadDef text n def
 Finds text name (Err refusal.NoFunction) = IsNamed text name None
 Finds text name (Err refusal.NoMemory) = Unit {0}
 

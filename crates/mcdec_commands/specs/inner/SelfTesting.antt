@@ -15,3 +15,6 @@ TestGives number size (answer.Run a) = ⊥
 TestGives number size (answer.Check a) = ⊥
 TestGives number size (answer.Decompile a) = ⊥
 TestGives number size (answer.SelfTest a) = SelfTestGives number size a
+TestGives number size (answer.Simplify a) = ⊥
+TestGives number size (answer.Laws a) = ⊥
+TestGives number size (answer.Smt a) = ⊥

@@ -2,7 +2,11 @@
 use Rattle.std.specs.Prelude.{◌≡◌, ℕ, List, take, Option, Some, None, Result, Ok, Err, ◌⊎◌}
 use Rattle.mc_shelf.specs.Shelf.{Contents, KeepsOthers}
 use Rattle.mc_shelf.specs.declared.sink.Stop.{Stop}
+use Rattle.mcdec_answers.specs.declared.answer.Answer.{Answer}
+use Rattle.mcdec_answers.specs.declared.answer.Answer.TheVariants as answer
+use Rattle.mcdec_answers.specs.Printed.{status}
 use Rattle.mcdec_answers.specs.inner.Printing.{Gains}
+use Rattle.mcdec_commands.specs.Output.{LeavesOut}
 
 -- it is told what the names hold
 abbrev pub IsTold : Option Contents → Type 0
@@ -23,3 +27,13 @@ IsWritten (Err e) text old new = (new ≡ old) ⊎ ((kept : ℕ) × (new ≡ Som
 pub record Writes (result : Result Unit Stop) (name text : List ℕ) (old new : Contents) : Type 0 where
   pub named : IsWritten result text (old name) (new name)
   pub others : KeepsOthers name old new
+
+-- What the names hold after an answer to a command that may write these texts: the output file as the answer's status says, each other name
+-- what it held.
+pub record WritesOut (IsText : Contents → List ℕ → Type 0) (out : List ℕ) (a : Answer) (old new : Contents) : Type 0 where
+  pub output : LeavesOut (IsText old) (status a) (old out) (new out)
+  pub others : KeepsOthers out old new
+
+-- an answer that tells of a text that was written, or why it wasn't
+abbrev pub ToldOrFault : Answer → Answer → Type 0
+ToldOrFault told a = (a ≡ told) ⊎ ((a ≡ answer.WriteFault) ⊎ (a ≡ answer.NoMemory))

@@ -1,14 +1,13 @@
 use Rattle.std.proofs.Common.{◌≡◌, List, Some, ℕ, refl, rules, subst}
-use Rattle.mcdec_words.specs.Command.{Command, IsNoCommand, Words, output_of, texts}
+use Rattle.mcdec_words.specs.Command.{IsNoCommand, texts}
 use Rattle.mcdec_answers.specs.declared.answer.Answer.TheVariants as answer
-use Rattle.mcdec_commands.specs.Output.{IsOutput}
-use Rattle.mcdec_commands.specs.inner.Decompiling.{LeavesBy}
 use Rattle.mcdec_answers.proofs.Prints.{told_same}
 use Rattle.mcdec_words.specs.CommandReading.{IsRead}
 use Rattle.mcdec_words.specs.declared.command.Command.{Command as Read}
-use Rattle.mcdec_words.specs.Command.{Check, Decompile, Eval, Run, SelfTest}
+use Rattle.mcdec_words.specs.Command.{Check, Decompile, Eval, Laws, Run, SelfTest, Simplify, Smt}
 use Rattle.mcdec_words.proofs.ArgWords.{eval-ranges, run-ranges}
-use Rattle.mcdec_commands.proofs.Decompiling.{decompiled, no-write-fault, none-written, others-kept}
+use Rattle.mcdec_commands.proofs.Decompiling.{no-write-fault}
+use Rattle.mcdec_commands.proofs.Leaving.{LeavesAll, none-written, others-kept, written-by}
 use Rattle.mcdec_commands.proofs.SelfTesting.{test-gives}
 use Rattle.mcdec_commands.proofs.commands.answer_words.Goals as goal
 
@@ -60,13 +59,13 @@ pub returns-in-Decompile-clause-written : goal.returns-in-Decompile-clause-writt
 returns-in-Decompile-clause-written g c =
     let is = subst (λ (command : Read). IsRead (texts c.args.words.now) command) c.in-Decompile.is c.in-Ok.ensures in
     let d = c.in-Decompile.d in
-    decompiled (texts c.args.words.now) d.elf.now d.out.now d.names is _ _ _ c.answer_decompile.ensures.written
+    written-by (texts c.args.words.now) (Decompile d.elf.now d.out.now d.names) d.out.now is refl _ _ _ c.answer_decompile.ensures.written
 
 pub returns-in-Decompile-clause-kept : goal.returns-in-Decompile-clause-kept
 returns-in-Decompile-clause-kept g c =
     let is = subst (λ (command : Read). IsRead (texts c.args.words.now) command) c.in-Decompile.is c.in-Ok.ensures in
     let d = c.in-Decompile.d in
-    others-kept (texts c.args.words.now) d.elf.now d.out.now d.names is _ _ _ c.answer_decompile.ensures.written
+    others-kept (texts c.args.words.now) (Decompile d.elf.now d.out.now d.names) d.out.now is refl _ _ _ c.answer_decompile.ensures.written
 
 pub returns-in-SelfTest-clause-gives : goal.returns-in-SelfTest-clause-gives
 returns-in-SelfTest-clause-gives g c =
@@ -84,9 +83,7 @@ answer_selftest-requires g c = (subst (λ (command : Read). IsRead (texts c.args
 pub returns-in-Err-NotACommand-clause-written : goal.returns-in-Err-NotACommand-clause-written
 returns-in-Err-NotACommand-clause-written g c =
     let none : IsNoCommand (texts c.args.words.now) = search rules in
-    told_same (g.S.Shelf.contents c.args.shelf.now)
-    (λ x y. (d : Command) (out : List ℕ) → Words (texts c.args.words.now) d → output_of d ≡ Some out → LeavesBy (IsOutput x d) answer.NotACommand (x out) (y out))
-    (λ x d out w e. absurd (none d w))
+    told_same (g.S.Shelf.contents c.args.shelf.now) (LeavesAll (texts c.args.words.now) 2) (λ x d out w e. absurd (none d w))
 
 pub returns-in-Eval-clause-write_fault : goal.returns-in-Eval-clause-write_fault
 returns-in-Eval-clause-write_fault g c five =
@@ -99,3 +96,44 @@ returns-in-Run-clause-write_fault g c five =
     let is = subst (λ (command : Read). IsRead (texts c.args.words.now) command) c.in-Run.is c.in-Ok.ensures in
     let r = c.in-Run.r in
     absurd (no-write-fault _ (texts c.args.words.now) _ _ (Run r.elf.now r.start.now r.until r.steps is.0) is.1 refl _ (c.answer_run.ensures.gives (texts c.args.words.now) is) five)
+
+pub returns-in-Simplify-clause-gives : goal.returns-in-Simplify-clause-gives
+returns-in-Simplify-clause-gives g c =
+    c.answer_simplify.ensures.gives (texts c.args.words.now) (subst (λ (command : Read). IsRead (texts c.args.words.now) command) c.in-Simplify.is c.in-Ok.ensures)
+
+pub returns-in-Simplify-clause-written : goal.returns-in-Simplify-clause-written
+returns-in-Simplify-clause-written g c =
+    let is = subst (λ (command : Read). IsRead (texts c.args.words.now) command) c.in-Simplify.is c.in-Ok.ensures in
+    let s = c.in-Simplify.s in
+    written-by (texts c.args.words.now) (Simplify s.proof.now s.name.now s.out.now) s.out.now is refl _ _ _ c.answer_simplify.ensures.written
+
+pub returns-in-Simplify-clause-kept : goal.returns-in-Simplify-clause-kept
+returns-in-Simplify-clause-kept g c =
+    let is = subst (λ (command : Read). IsRead (texts c.args.words.now) command) c.in-Simplify.is c.in-Ok.ensures in
+    let s = c.in-Simplify.s in
+    others-kept (texts c.args.words.now) (Simplify s.proof.now s.name.now s.out.now) s.out.now is refl _ _ _ c.answer_simplify.ensures.written
+
+pub returns-in-Laws-clause-gives : goal.returns-in-Laws-clause-gives
+returns-in-Laws-clause-gives g c =
+    c.answer_laws.ensures.gives (texts c.args.words.now) (subst (λ (command : Read). IsRead (texts c.args.words.now) command) c.in-Laws.is c.in-Ok.ensures)
+
+pub returns-in-Laws-clause-written : goal.returns-in-Laws-clause-written
+returns-in-Laws-clause-written g c =
+    let is = subst (λ (command : Read). IsRead (texts c.args.words.now) command) c.in-Laws.is c.in-Ok.ensures in
+    none-written (texts c.args.words.now) (Laws c.in-Laws.l.proof.now c.in-Laws.l.cert.now) is refl _ _ _ c.answer_laws.ensures.kept
+
+pub returns-in-Smt-clause-gives : goal.returns-in-Smt-clause-gives
+returns-in-Smt-clause-gives g c =
+    c.answer_smt.ensures.gives (texts c.args.words.now) (subst (λ (command : Read). IsRead (texts c.args.words.now) command) c.in-Smt.is c.in-Ok.ensures)
+
+pub returns-in-Smt-clause-written : goal.returns-in-Smt-clause-written
+returns-in-Smt-clause-written g c =
+    let is = subst (λ (command : Read). IsRead (texts c.args.words.now) command) c.in-Smt.is c.in-Ok.ensures in
+    let s = c.in-Smt.s in
+    written-by (texts c.args.words.now) (Smt s.proof.now s.name.now s.def s.out.now) s.out.now is refl _ _ _ c.answer_smt.ensures.written
+
+pub returns-in-Smt-clause-kept : goal.returns-in-Smt-clause-kept
+returns-in-Smt-clause-kept g c =
+    let is = subst (λ (command : Read). IsRead (texts c.args.words.now) command) c.in-Smt.is c.in-Ok.ensures in
+    let s = c.in-Smt.s in
+    others-kept (texts c.args.words.now) (Smt s.proof.now s.name.now s.def s.out.now) s.out.now is refl _ _ _ c.answer_smt.ensures.written

@@ -1,6 +1,6 @@
 use Rattle.mcdec_commands.proofs.Exactness.{exact-given, headline-given}
 use Rattle.mcdec_words.specs.Command.{texts}
-use Rattle.mcdec_commands.proofs.Decompiling.{written-given}
+use Rattle.mcdec_commands.proofs.Leaving.{written-given}
 use Rattle.mcdec_commands.proofs.commands.run_words.Goals as goal
 
 pub returns-clause-exact : goal.returns-clause-exact

@@ -1,16 +1,17 @@
-use Rattle.std.proofs.Common.{rules, ◌∙◌, sym, ap, refl, subst, arith}
+use Rattle.std.proofs.Common.{rules, ◌∙◌, sym, ap, subst, arith}
 use Rattle.mc_shelf.specs.Fault.{Rose}
 use Rattle.elf_image.specs.Fault.{IsReadable}
 use Rattle.elf_image.specs.Image.{image_of}
 use Rattle.elf_image.specs.declared.fault.ElfFault.{ElfFault}
 use Rattle.mcdec_words.specs.Command.{Decompile}
 use Rattle.mcdec_answers.specs.declared.answer.DecompileAnswer.TheVariants as de
-use Rattle.mcdec_commands.specs.DecompileAnswer.{DecompileGives}
+use Rattle.mcdec_commands.specs.DecompileAnswer.{DecompileGives, IsTextFor}
 use Rattle.mcdec_commands.specs.Held.{HoldsWith}
 use Rattle.mcdec_commands.specs.RunAnswer.{IsLoaded}
 use Rattle.mcdec_commands.specs.inner.Writing.{IsTold}
 use Rattle.mcdec_commands.proofs.Answers.{held-with, one-file}
-use Rattle.mcdec_commands.proofs.Decompiling.{decompile-told, file-gives, is-told, nothing-written}
+use Rattle.mcdec_commands.proofs.Decompiling.{decompile-told, file-gives}
+use Rattle.mcdec_commands.proofs.Leaving.{is-told, nothing-written}
 use Rattle.mcdec_answers.proofs.Prints.{rose-later}
 use Rattle.mcdec_commands.proofs.decompile.answer_decompile.Goals as goal
 
@@ -65,7 +66,7 @@ returns g c =
         subst (λ (why : ElfFault). HoldsWith told d.elf.now (λ f. DecompileGives f d.names (de.Unreadable why))) (sym c.in-Err.why-is)
             (held-with told d.elf.now c.in-Ok.file (λ f. DecompileGives f d.names (de.Unreadable c.in-Err.why)) c.in-Ok.ensures.whole (search rules)),
       );
-      written = nothing-written d.elf.now d.out.now d.names _ _ _ c.read_file.ensures.kept (λ files before. refl);
+      written = nothing-written (λ files. IsTextFor files d.elf.now d.names) d.out.now _ _ _ c.read_file.ensures.kept (λ e. omega (arith, e));
       counted = c.read_file.ensures.counted;
       cause = λ five. absurd (omega (arith, five));
       sure = λ ws is sure all. c.read_file.ensures.sure_counts sure (decompile-told told ws all d.elf.now d.out.now d.names is);

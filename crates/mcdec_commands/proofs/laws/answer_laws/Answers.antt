@@ -1,0 +1,38 @@
+use Rattle.std.proofs.Common.{rules, ◌∙◌, sym, subst}
+use Rattle.mc_shelf.specs.Fault.{Rose}
+use Rattle.mcdec_words.specs.Command.{Laws}
+use Rattle.mcdec_commands.specs.Answer.{ReadsAreTold}
+use Rattle.mcdec_commands.specs.inner.Judging.{CertGives}
+use Rattle.mcdec_answers.proofs.Prints.{rose-later}
+use Rattle.mcdec_commands.proofs.Checking.{two-files}
+use Rattle.mcdec_commands.proofs.Judging.{cert-gives, laws-proof-told}
+use Rattle.mcdec_commands.proofs.laws.answer_laws.Goals as goal
+
+pub returns-in-Err-Fault-clause-gives : goal.returns-in-Err-Fault-clause-gives
+returns-in-Err-Fault-clause-gives g c ws is = let l = c.args.l.now in (Laws l.proof.now l.cert.now, is, two-files l.proof.now l.cert.now, c.read_file.ensures.cause (search rules))
+
+pub returns-in-Err-Fault-clause-sure : goal.returns-in-Err-Fault-clause-sure
+returns-in-Err-Fault-clause-sure g c ws is sure told = c.read_file.ensures.sure_counts sure (laws-proof-told (g.S.Shelf.contents c.args.shelf.now) ws told c.args.l.now.proof.now c.args.l.now.cert.now is)
+
+pub returns-in-Err-TooLong-clause-sure : goal.returns-in-Err-TooLong-clause-sure
+returns-in-Err-TooLong-clause-sure g c ws is sure told = c.read_file.ensures.sure_counts sure (laws-proof-told (g.S.Shelf.contents c.args.shelf.now) ws told c.args.l.now.proof.now c.args.l.now.cert.now is)
+
+pub returns-in-Err-NoMemory-clause-sure : goal.returns-in-Err-NoMemory-clause-sure
+returns-in-Err-NoMemory-clause-sure g c ws is sure told = c.read_file.ensures.sure_counts sure (laws-proof-told (g.S.Shelf.contents c.args.shelf.now) ws told c.args.l.now.proof.now c.args.l.now.cert.now is)
+
+pub returns-clause-gives : goal.returns-clause-gives
+returns-clause-gives g c ws is =
+    let l = c.args.l.now in
+    let later = Rose (g.S.Shelf.read_faults c.read_file.new.shelf) (g.S.Shelf.read_faults c.judge_file.new.shelf) in
+    let gives = subst (λ f. CertGives (g.S.Shelf.contents c.read_file.new.shelf) l.cert.now f later c.judge_file.result) c.as_slice.ensures c.judge_file.ensures.gives in
+    cert-gives (g.S.Shelf.contents c.args.shelf.now) ws l.proof.now l.cert.now c.in-Ok.file
+    (Rose (g.S.Shelf.read_faults c.args.shelf.now) (g.S.Shelf.read_faults c.judge_file.new.shelf))
+    (Rose (g.S.Shelf.write_faults c.args.shelf.now) (g.S.Shelf.write_faults c.judge_file.new.shelf))
+    later is c.in-Ok.ensures.whole (rose-later _ _ _ c.read_file.ensures.counted.0) c.judge_file.result
+    (subst (λ told. CertGives told l.cert.now c.in-Ok.file later c.judge_file.result) c.read_file.ensures.kept gives)
+
+pub returns-clause-sure : goal.returns-clause-sure
+returns-clause-sure g c ws is sure told =
+    let first = c.read_file.ensures.sure_counts sure (laws-proof-told (g.S.Shelf.contents c.args.shelf.now) ws told c.args.l.now.proof.now c.args.l.now.cert.now is) in
+    let later = c.judge_file.ensures.sure ws is (c.read_file.ensures.stays_sure sure) (subst (λ held. ReadsAreTold held ws) (sym c.read_file.ensures.kept) told) in
+    (later.0 ∙ first.0, later.1 ∙ first.1)

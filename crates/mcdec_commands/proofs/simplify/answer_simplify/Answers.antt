@@ -1,0 +1,62 @@
+use Rattle.std.proofs.Common.{rules, ◌∙◌, sym, subst, Ok, Err}
+use Rattle.mc_shelf.specs.Fault.{Rose}
+use Rattle.mcdec_words.specs.Command.{Simplify}
+use Rattle.mcdec_commands.specs.inner.Search.{Finds}
+use Rattle.mcdec_commands.specs.inner.Writing.{IsTold}
+use Rattle.mcdec_commands.proofs.Answers.{found-fits, one-file}
+use Rattle.mcdec_commands.specs.SimplifyAnswer.{IsCertFor}
+use Rattle.mcdec_commands.proofs.Leaving.{is-told, nothing-written}
+use Rattle.mcdec_commands.proofs.Simplifying.{simplify-told, text-gives}
+use Rattle.mcdec_answers.proofs.Prints.{rose-later}
+use Rattle.mcdec_commands.proofs.simplify.answer_simplify.Goals as goal
+
+pub simplify_group-requires : goal.simplify_group-requires
+simplify_group-requires g c = (found-fits c.as_slice.result.now c.args.s.now.name.now c.in-Ok-find_group.g c.in-Ok-find_group.ensures).0
+
+pub returns-in-Err-Fault-clause-gives : goal.returns-in-Err-Fault-clause-gives
+returns-in-Err-Fault-clause-gives g c ws is =
+    let s = c.args.s.now in (Simplify s.proof.now s.name.now s.out.now, is, one-file s.proof.now, c.read_file.ensures.cause (search rules))
+
+pub returns-in-Err-Fault-clause-sure : goal.returns-in-Err-Fault-clause-sure
+returns-in-Err-Fault-clause-sure g c ws is sure told =
+    let s = c.args.s.now in c.read_file.ensures.sure_counts sure (simplify-told (g.S.Shelf.contents c.args.shelf.now) ws told s.proof.now s.name.now s.out.now is)
+
+pub returns-in-Err-TooLong-clause-sure : goal.returns-in-Err-TooLong-clause-sure
+returns-in-Err-TooLong-clause-sure g c ws is sure told =
+    let s = c.args.s.now in c.read_file.ensures.sure_counts sure (simplify-told (g.S.Shelf.contents c.args.shelf.now) ws told s.proof.now s.name.now s.out.now is)
+
+pub returns-in-Err-NoMemory-clause-sure : goal.returns-in-Err-NoMemory-clause-sure
+returns-in-Err-NoMemory-clause-sure g c ws is sure told =
+    let s = c.args.s.now in c.read_file.ensures.sure_counts sure (simplify-told (g.S.Shelf.contents c.args.shelf.now) ws told s.proof.now s.name.now s.out.now is)
+
+pub returns-in-Ok-find_group-clause-gives : goal.returns-in-Ok-find_group-clause-gives
+returns-in-Ok-find_group-clause-gives g c ws is =
+    let s = c.args.s.now in
+    let found = subst (λ t. Finds t s.name.now (Ok c.in-Ok-find_group.g)) c.as_slice.ensures c.in-Ok-find_group.ensures in
+    text-gives (g.S.Shelf.contents c.args.shelf.now) ws s.proof.now s.name.now s.out.now c.in-Ok.text (Rose (g.S.Shelf.read_faults c.args.shelf.now) (g.S.Shelf.read_faults c.simplify_group.new.shelf))
+    (Rose (g.S.Shelf.write_faults c.args.shelf.now) (g.S.Shelf.write_faults c.simplify_group.new.shelf)) is c.in-Ok.ensures.whole c.simplify_group.result
+    (λ five. rose-later _ _ _ c.read_file.ensures.counted.1 (c.simplify_group.ensures.cause five)) (c.simplify_group.ensures.gives c.in-Ok.text s.name.now c.in-Ok.ensures.within found.0)
+
+pub returns-in-Ok-find_group-clause-sure : goal.returns-in-Ok-find_group-clause-sure
+returns-in-Ok-find_group-clause-sure g c ws is sure told =
+    let s = c.args.s.now in
+    let known = simplify-told (g.S.Shelf.contents c.args.shelf.now) ws told s.proof.now s.name.now s.out.now is in
+    let first = c.read_file.ensures.sure_counts sure known in
+    let still : IsTold (g.S.Shelf.contents c.read_file.new.shelf) = subst IsTold (sym c.read_file.ensures.kept) (is-told _ _ known) in
+    let later = c.simplify_group.ensures.sure (c.read_file.ensures.stays_sure sure) still in
+    (c.simplify_group.ensures.reads ∙ first.0, later ∙ first.1)
+
+pub returns : goal.returns
+returns g c =
+    let s = c.args.s.now in
+    let told = g.S.Shelf.contents c.args.shelf.now in
+    let found = subst (λ t. Finds t s.name.now (Err c.in-Err.why)) c.as_slice.ensures c.in-Err.ensures in
+    record {
+      gives = λ ws is.
+          text-gives told ws s.proof.now s.name.now s.out.now c.in-Ok.text _ _ is c.in-Ok.ensures.whole c.refuse.result (λ five. absurd (c.refuse.ensures.no_fault five))
+          (c.refuse.ensures.gives c.in-Ok.text s.name.now c.in-Ok.ensures.within found);
+      written = nothing-written (λ files. IsCertFor files s.proof.now s.name.now) s.out.now c.refuse.result _ _ c.read_file.ensures.kept c.refuse.ensures.refused;
+      counted = c.read_file.ensures.counted;
+      cause = λ five. absurd (c.refuse.ensures.no_fault five);
+      sure = λ ws is sure all. c.read_file.ensures.sure_counts sure (simplify-told told ws all s.proof.now s.name.now s.out.now is);
+    }

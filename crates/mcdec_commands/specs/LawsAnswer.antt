@@ -1,0 +1,59 @@
+-- When each answer to `laws` comes.
+use Rattle.std.specs.Prelude.{◌≡◌, ℕ, ◌+◌, ◌<◌, ◌≤◌, List, length, Option, Some, None}
+use Rattle.mc_shelf.specs.Shelf.{Contents}
+use Rattle.mc_text.specs.Fault.{IsBadAt, newlines}
+use Rattle.mc_text.specs.Tokens.{spell}
+use Rattle.mc_text.specs.declared.token.Before.TheVariants.{Start}
+use Rattle.tailrec_lang.specs.Tree.{DefTree, GroupTree}
+use Rattle.group_text.specs.Spelling.{group_tokens}
+use Rattle.proof_text.specs.Line.{ProofTree}
+use Rattle.proof_text.specs.Proofs.{groups_of}
+use Rattle.checker.specs.Verdicts.{IsTextOf}
+use Rattle.def_laws.specs.Rewriting.{AreRewritingSteps}
+use Rattle.def_laws.specs.Certs.{IsFirstBad}
+use Rattle.def_laws.specs.Evaluation.{EvaluateAlike}
+use Rattle.fun_laws.specs.Limits.{IsCert, cert_texts}
+use Rattle.fun_laws.specs.Spelling.{CertTree, cert_text}
+use Rattle.mcdec_answers.specs.declared.answer.LawsAnswer.{LawsAnswer}
+use Rattle.mcdec_answers.specs.declared.answer.LawsAnswer.TheVariants as answer
+use Rattle.mcdec_commands.specs.Held.{HoldsWith}
+use Rattle.mcdec_commands.specs.EvalAnswer.{AreWellFormed, HasBadDef, HasBadLine, IsNamed, proof_limit}
+
+-- the most bytes of a certificate's file that are read
+abbrev pub cert_limit : ℕ
+cert_limit = 268435456
+
+-- the text is that of well-formed groups with the lines of their proofs
+abbrev pub HasGroups : List ℕ → Type 0
+HasGroups text = (ps : List ProofTree) × IsTextOf text ps × AreWellFormed (groups_of ps)
+
+abbrev pub IsCertText : List ℕ → CertTree → Type 0
+IsCertText text c = IsCert c × (text ≡ cert_text c)
+
+-- The line of a step in the text of a certificate of this group: behind the line of the title and those of the group.
+abbrev pub step_line : GroupTree → ℕ → ℕ
+step_line old i = newlines (spell Start (group_tokens old)) + i + 2
+
+-- What `laws` comes to, where the proof file and the certificate's have these texts. The faults of the first are told before those
+-- of the second.
+abbrev pub TextsGive : (file text : List ℕ) → LawsAnswer → Type 0
+TextsGive file text answer.ProofOverLimit = ⊥
+TextsGive file text answer.CertOverLimit = ⊥
+TextsGive file text (answer.Unreadable line) = HasBadLine file line
+TextsGive file text (answer.IllFormed group def) = HasBadDef file group def
+TextsGive file text (answer.UnreadableCert line) = HasGroups file × IsBadAt cert_texts text line
+TextsGive file text answer.NoFunction = (c : CertTree) × IsCertText text c × IsNamed file c.old.name None
+TextsGive file text answer.OtherGroup = (c : CertTree) × (g : GroupTree) × IsCertText text c × IsNamed file c.old.name (Some g) × (c.old ≡ g → ⊥)
+TextsGive file text (answer.BadStep line) =
+    (c : CertTree) × (i : ℕ) × IsCertText text c × IsNamed file c.old.name (Some c.old) × IsFirstBad c.steps c.old.defs i × (line ≡ step_line c.old i)
+TextsGive file text answer.OtherResult =
+    (c : CertTree) × (es : List DefTree) × IsCertText text c × IsNamed file c.old.name (Some c.old) × AreRewritingSteps c.steps c.old.defs es × (es ≡ c.result → ⊥)
+TextsGive file text (answer.Accepted steps) =
+    (c : CertTree) × IsCertText text c × IsNamed file c.old.name (Some c.old) × AreRewritingSteps c.steps c.old.defs c.result × EvaluateAlike c.old c.result
+    × (steps ≡ length c.steps)
+
+-- What `laws` comes to, where the proof file has these bytes. The certificate's is asked for where they are within the limit.
+abbrev pub LawsGives : Option Contents → (cert file : List ℕ) → LawsAnswer → Type 0
+LawsGives told cert file answer.ProofOverLimit = proof_limit < length file
+LawsGives told cert file answer.CertOverLimit = (length file ≤ proof_limit) × HoldsWith told cert (λ text. cert_limit < length text)
+LawsGives told cert file a = (length file ≤ proof_limit) × HoldsWith told cert (λ text. (length text ≤ cert_limit) × TextsGive file text a)
