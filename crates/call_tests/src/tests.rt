@@ -8,6 +8,7 @@ mod edges;
 mod elf_files;
 mod interned;
 mod machine;
+mod rewriting;
 mod shelves;
 mod tokens;
 mod words;

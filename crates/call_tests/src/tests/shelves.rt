@@ -219,6 +219,9 @@ fn file_is<S: Shelf>(alloc: Global, shelf: &mut S, name: &str, bytes: &[u8]) -> 
     }
 }
 
+/// Calls on a file that was removed while it was open.
+static REMOVED: [Call; 2] = [Call::Append(b"abc", true), Call::Read(0, None)];
+
 #[test]
 fn the_system_has_files(rt: HostRuntime) -> Result<(), Fail> {
     let name = "mc_shelf_test_file";
@@ -227,10 +230,28 @@ fn the_system_has_files(rt: HostRuntime) -> Result<(), Fail> {
     assert!(rt; gives(&mut shelf, name, Call::Append(b"abcdef", true)));
     assert!(rt; file_is(rt.alloc(), &mut shelf, name, b"abcdef"));
     fs::remove_file(&rt, name)?;
+    assert!(rt; all_give(&mut shelf, name, &REMOVED));
     for name in [name, ".", ""] {
+        let mut shelf = DirShelf::new(&rt);
         assert!(rt; all_give(&mut shelf, name, &NO_FILE));
     }
     assert!(rt; gives(&mut shelf, ".", Call::Create(false)));
+    Ok(())
+}
+
+#[test]
+fn each_name_takes_what_is_its_own(rt: HostRuntime) -> Result<(), Fail> {
+    let (first, second) = ("mc_shelf_test_first", "mc_shelf_test_second");
+    let mut shelf = DirShelf::new(&rt);
+    assert!(rt; gives(&mut shelf, first, Call::Create(true)));
+    assert!(rt; gives(&mut shelf, first, Call::Append(b"abc", true)));
+    assert!(rt; gives(&mut shelf, second, Call::Create(true)));
+    assert!(rt; gives(&mut shelf, first, Call::Append(b"def", true)));
+    assert!(rt; gives(&mut shelf, second, Call::Append(b"xy", true)));
+    assert!(rt; file_is(rt.alloc(), &mut shelf, first, b"abcdef"));
+    assert!(rt; file_is(rt.alloc(), &mut shelf, second, b"xy"));
+    fs::remove_file(&rt, first)?;
+    fs::remove_file(&rt, second)?;
     Ok(())
 }
 
