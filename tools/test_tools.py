@@ -18,7 +18,7 @@ EXAMPLES = os.path.join(TOP, "examples")
 sys.path.insert(0, TOOLS)
 from functions import symbols, word_of
 
-SHOWN = ("gcd", "sum", "strlen")
+SHOWN = ("gcd", "sum", "strlen", "average")
 LCM = """0x11120  gcd                           7 instructions, 5 definitions
 0x11130  lcm                           call 0x11140
 
