@@ -1,5 +1,5 @@
 -- The flow of a program.
-use Rattle.std.proofs.Common.{◌≡◌, ◌≢◌, ℕ, ◌+◌, ◌-◌, ◌/◌, ◌<◌, ◌≤◌, inl, inr, pos, List, [], ◌∷◌, length, map, get_or, Ok, refl, sym, ap, subst, ◌∙◌, arith}
+use Rattle.std.proofs.Common.{◌≡◌, ◌≢◌, ℕ, ◌+◌, ◌-◌, ◌/◌, ◌<◌, ◌≤◌, inl, inr, pos, List, [], ◌∷◌, length, map, get_or, Ok, refl, sym, ap, subst, ◌∙◌, arith, false}
 use Rattle.std.specs.List.{Contains}
 use Rattle.std.specs.Prelude.{All}
 use Rattle.std.proofs.lemmas.Bool.Decides.{leb_tells}
@@ -53,13 +53,13 @@ leads-at : (bytes : Bytes) (p : Pieces) → Standing bytes p → (u : ℕ) → u
 leads-at bytes p s u h =
     all-lead bytes start (count 0 p + 1) 0 p 0 (ground p s.few) s.shaped (omega arith) s.words u (omega arith) (omega (arith, h))
 
-returns-at : (bytes : Bytes) (p : Pieces) → Standing bytes p → look bytes (at start (count 0 p)) ≡ Ok return
+returns-at : (bytes : Bytes) (p : Pieces) → Standing bytes p → look false bytes (at start (count 0 p)) ≡ Ok return
 returns-at bytes p s = looked bytes start (count 0 p + 1) (count 0 p) return (ground p s.few) (omega arith) s.last refl
 
 -- no place is refused
-found : (bytes : Bytes) (p : Pieces) → Standing bytes p → (u : ℕ) → u ≤ count 0 p → (i : Instr) × (look bytes (at start u) ≡ Ok i)
+found : (bytes : Bytes) (p : Pieces) → Standing bytes p → (u : ℕ) → u ≤ count 0 p → (i : Instr) × (look false bytes (at start u) ≡ Ok i)
 found bytes p s u h = elim (leb_tells (count 0 p) u) [
-  | inl t ↦ let e : count 0 p ≡ u = omega (arith, t.1, h) in (return, (λ j. look bytes (at start (sym e j))) ∙ returns-at bytes p s)
+  | inl t ↦ let e : count 0 p ≡ u = omega (arith, t.1, h) in (return, (λ j. look false bytes (at start (sym e j))) ∙ returns-at bytes p s)
   | inr t ↦ let l = leads-at bytes p s u t.1 in (l.instr, l.fine)
 ]
 
@@ -69,11 +69,11 @@ record Goes (p : Pieces) (u a : ℕ) : Type 0 where
   is : a ≡ at start place
   edge : Edge 0 p 0 u place
 
-goes : (bytes : Bytes) (p : Pieces) → Standing bytes p → (u a : ℕ) → u ≤ count 0 p → Next bytes (at start u) a → Goes p u a
+goes : (bytes : Bytes) (p : Pieces) → Standing bytes p → (u a : ℕ) → u ≤ count 0 p → Next false bytes (at start u) a → Goes p u a
 goes bytes p s u a h c = elim (leb_tells (count 0 p) u) [
   | inl t ↦
       let e : count 0 p ≡ u = omega (arith, t.1, h) in
-      let none : look bytes (at start u) ≡ Ok return = (λ j. look bytes (at start (sym e j))) ∙ returns-at bytes p s in
+      let none : look false bytes (at start u) ≡ Ok return = (λ j. look false bytes (at start (sym e j))) ∙ returns-at bytes p s in
       none-there a (subst (λ ts. Contains ts a) (λ j. leads (at start u) (length_in bytes (at start u)) (none j)) c)
   | inr t ↦
       let l = leads-at bytes p s u t.1 in
@@ -81,7 +81,7 @@ goes bytes p s u a h c = elim (leb_tells (count 0 p) u) [
       record { place = r.0; is = r.1; edge = r.2 }
 ]
 
-goes-on : (bytes : Bytes) (p : Pieces) → Standing bytes p → (u : ℕ) → u < count 0 p → (v : ℕ) × (u < v) × Next bytes (at start u) (at start v)
+goes-on : (bytes : Bytes) (p : Pieces) → Standing bytes p → (u : ℕ) → u < count 0 p → (v : ℕ) × (u < v) × Next false bytes (at start u) (at start v)
 goes-on bytes p s u h =
     let l = leads-at bytes p s u h in
     (l.on.0, l.on.1, subst (λ ts. Contains ts (at start l.on.0)) (sym (λ j. leads (at start u) (l.long j) (l.fine j))) l.on.2)
@@ -92,11 +92,11 @@ record IsPlace (p : Pieces) (a : ℕ) : Type 0 where
   is : a ≡ at start place
   most : place ≤ count 0 p
 
-reached : (bytes : Bytes) (p : Pieces) → Standing bytes p → (a : ℕ) → Reaches (Next bytes) start a → IsPlace p a
+reached : (bytes : Bytes) (p : Pieces) → Standing bytes p → (a : ℕ) → Reaches (Next false bytes) start a → IsPlace p a
 reached bytes p s a w =
-    reached_least bytes (IsPlace p)
+    reached_least false bytes (IsPlace p)
     (λ x y h c.
-    let r = goes bytes p s h.place y h.most (subst (λ z. Next bytes z y) h.is c) in
+    let r = goes bytes p s h.place y h.most (subst (λ z. Next false bytes z y) h.is c) in
     record { place = r.place; is = r.is; most = let l = edge-within 0 p 0 h.place r.place r.edge in omega (arith, l.last) })
     w (record { place = 0; is = refl; most = omega arith })
 
@@ -109,7 +109,7 @@ place-is k = omega arith
 
 -- ---- no fault
 
-never-large : (bytes : Bytes) (p : Pieces) → Standing bytes p → ReachesOver (Next bytes) start reach_limit → ⊥
+never-large : (bytes : Bytes) (p : Pieces) → Standing bytes p → ReachesOver (Next false bytes) start reach_limit → ⊥
 never-large bytes p s o =
     let xs : List ℕ = o.some in
     let ks : List ℕ = map place_of_address xs in
@@ -130,18 +130,18 @@ never-large bytes p s o =
     let over : reach_limit < length xs = o.over in
     omega (arith, few, long, over, s.few)
 
-not-refused : (bytes : Bytes) (p : Pieces) → Standing bytes p → (why : Outside) → IsFault bytes start why → ⊥
+not-refused : (bytes : Bytes) (p : Pieces) → Standing bytes p → (why : Outside) → IsFault false bytes start why → ⊥
 not-refused bytes p s _ (Large o) = never-large bytes p s o
 not-refused bytes p s _ (Least {a = a} {why = why} none l) =
     let h = reached bytes p s a l.reached in
     let f = found bytes p s h.place h.most in
-    ok_err f.0 why (sym f.1 ∙ (λ j. look bytes (sym h.is j)) ∙ l.fault)
+    ok_err f.0 why (sym f.1 ∙ (λ j. look false bytes (sym h.is j)) ∙ l.fault)
 
 -- ---- the graph
 
-laid : (bytes : Bytes) (p : Pieces) → Standing bytes p → (g : GraphOf) → IsGraphOf bytes start g → Laid p g (λ u. place_of_address (get_or g.addrs u 0))
+laid : (bytes : Bytes) (p : Pieces) → Standing bytes p → (g : GraphOf) → IsGraphOf false bytes start g → Laid p g (λ u. place_of_address (get_or g.addrs u 0))
 laid bytes p s g r =
-    let flow : IsFlow g = is_flow bytes start g r in
+    let flow : IsFlow g = is_flow false bytes start g r in
     let there : (u : ℕ) → u < length g.addrs → IsPlace p (get_or g.addrs u 0) =
     (λ u h. reached bytes p s (get_or g.addrs u 0) (r.reach.reached (get_or g.addrs u 0) (node_at g.addrs u h))) in
     let is : (u : ℕ) (h : u < length g.addrs) → place_of_address (get_or g.addrs u 0) ≡ (there u h).place =
@@ -156,10 +156,10 @@ laid bytes p s g r =
           sym (number_at g.addrs (different_from_rising g.addrs flow.rising) u (get_or g.addrs u 0) hu refl)
           ∙ number_at g.addrs (different_from_rising g.addrs flow.rising) v (get_or g.addrs u 0) hv (sym one);
       edge = λ u v d.
-          let x = edge_is bytes start g r u v d in
+          let x = edge_is false bytes start g r u v d in
           let hu : u < length g.addrs = x.0 in
-          let go = goes bytes p s (there u hu).place x.1 (there u hu).most (subst (λ z. Next bytes z x.1) (there u hu).is x.2) in
-          let within = number_within g.addrs x.1 (closed_from_reach bytes start g.addrs r.reach (get_or g.addrs u 0) x.1 (node_at g.addrs u hu) x.2) in
+          let go = goes bytes p s (there u hu).place x.1 (there u hu).most (subst (λ z. Next false bytes z x.1) (there u hu).is x.2) in
+          let within = number_within g.addrs x.1 (closed_from_reach false bytes start g.addrs r.reach (get_or g.addrs u 0) x.1 (node_at g.addrs u hu) x.2) in
           let address : get_or g.addrs v 0 ≡ at start go.place = (λ j. get_or g.addrs (sym x.3 j) 0) ∙ within.1 ∙ go.is in
           let to : place_of_address (get_or g.addrs v 0) ≡ go.place = ap place_of_address address ∙ place-is go.place in
           subst (λ k. Edge 0 p 0 (place_of_address (get_or g.addrs u 0)) k) (sym to)
@@ -167,11 +167,11 @@ laid bytes p s g r =
       on = λ u hu low.
           let e = is u hu in
           let x = goes-on bytes p s (there u hu).place (omega (arith, e, low)) in
-          let next : Next bytes (get_or g.addrs u 0) (at start x.0) = subst (λ z. Next bytes z (at start x.0)) (sym (there u hu).is) x.2 in
-          let within = number_within g.addrs (at start x.0) (closed_from_reach bytes start g.addrs r.reach (get_or g.addrs u 0) (at start x.0) (node_at g.addrs u hu) next) in
+          let next : Next false bytes (get_or g.addrs u 0) (at start x.0) = subst (λ z. Next false bytes z (at start x.0)) (sym (there u hu).is) x.2 in
+          let within = number_within g.addrs (at start x.0) (closed_from_reach false bytes start g.addrs r.reach (get_or g.addrs u 0) (at start x.0) (node_at g.addrs u hu) next) in
           let to : place_of_address (get_or g.addrs (number g.addrs (at start x.0)) 0) ≡ x.0 = ap place_of_address within.1 ∙ place-is x.0 in
-          (number g.addrs (at start x.0), edge_of bytes start g r u (at start x.0) hu next, omega (arith, e, to, x.1));
-      entry = ap place_of_address (entry_is bytes start g r);
+          (number g.addrs (at start x.0), edge_of false bytes start g r u (at start x.0) hu next, omega (arith, e, to, x.1));
+      entry = ap place_of_address (entry_is false bytes start g r);
     }
 
 -- a program stands in its words
@@ -188,7 +188,7 @@ standing number size bytes small words =
     }
 
 pub no-fault : (number size : ℕ) (bytes : Bytes) (why : Outside) → size ≤ 600
-    → EachAt (IsWordAt bytes start) 0 (instructions number size) → IsFault bytes start why → ⊥
+    → EachAt (IsWordAt bytes start) 0 (instructions number size) → IsFault false bytes start why → ⊥
 no-fault number size bytes why small words fault =
     not-refused bytes (drawn size 0 number).pieces (standing number size bytes small words) why fault
 
@@ -207,15 +207,15 @@ no-outside p g place l (JumpThrough a) f = f
 no-outside p g place l (Misaligned a t) f = f
 
 pub no-forest-fault : (number size : ℕ) (bytes : Bytes) (g : GraphOf) (why : Outside) → size ≤ 600
-    → EachAt (IsWordAt bytes start) 0 (instructions number size) → IsGraphOf bytes start g → IsForestFault g why → ⊥
+    → EachAt (IsWordAt bytes start) 0 (instructions number size) → IsGraphOf false bytes start g → IsForestFault g why → ⊥
 no-forest-fault number size bytes g why small words graph fault =
     no-outside (drawn size 0 number).pieces g (λ u. place_of_address (get_or g.addrs u 0))
     (laid bytes (drawn size 0 number).pieces (standing number size bytes small words) g graph) why fault
 
 pub no-two-entries : (number size : ℕ) (bytes : Bytes) (g : GraphOf) → size ≤ 600
-    → EachAt (IsWordAt bytes start) 0 (instructions number size) → IsGraphOf bytes start g → TwoEntries (Next bytes) start → ⊥
+    → EachAt (IsWordAt bytes start) 0 (instructions number size) → IsGraphOf false bytes start g → TwoEntries (Next false bytes) start → ⊥
 no-two-entries number size bytes g small words graph entries =
     let p : Pieces = (drawn size 0 number).pieces in
     let place : ℕ → ℕ = λ u. place_of_address (get_or g.addrs u 0) in
     let l : Laid p g place = laid bytes p (standing number size bytes small words) g graph in
-    code_settled bytes start g (λ u. count 0 p - place u) graph (settled p g place l) entries
+    code_settled false bytes start g (λ u. count 0 p - place u) graph (settled p g place l) entries

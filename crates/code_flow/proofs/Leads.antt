@@ -1,5 +1,5 @@
 -- Where the code of pieces leads, address by address: as their edges say.
-use Rattle.std.proofs.Common.{◌≡◌, ℕ, ◌+◌, ◌*◌, ◌%◌, ◌^◌, ◌==◌, ◌<◌, ◌≤◌, inl, inr, ℤ, pos, negsuc, List, [], ◌∷◌, ◌++◌, length, true, cond, Some, Ok, Err, refl, sym, subst, ◌∙◌, arith}
+use Rattle.std.proofs.Common.{◌≡◌, ℕ, ◌+◌, ◌*◌, ◌%◌, ◌^◌, ◌==◌, ◌<◌, ◌≤◌, inl, inr, ℤ, pos, negsuc, List, [], ◌∷◌, ◌++◌, length, true, cond, Some, Ok, Err, refl, sym, subst, ◌∙◌, arith, false}
 use Rattle.std.specs.List.{Contains}
 use Rattle.std.specs.Option.{unwrap_or}
 use Rattle.std.proofs.Math.Nat.{mod-eq_of_lt}
@@ -43,11 +43,11 @@ even-at b n k g = let e : at b k % 2 ≡ 0 = omega (arith, g.even) in eq-eqb (at
 standing : (bytes : Bytes) (b n k : ℕ) (i : Instr) → Ground b n → k ≤ n → IsWordAt bytes b k i → is_encodable i ≡ true → number_in bytes (at b k) ≡ Some (word_of i)
 standing bytes b n k i g h here fits = number_in-word bytes (at b k) i (omega (arith, g.room, h)) here fits
 
-pub looked : (bytes : Bytes) (b n k : ℕ) (i : Instr) → Ground b n → k ≤ n → IsWordAt bytes b k i → is_encodable i ≡ true → look bytes (at b k) ≡ admitted (at b k) i
+pub looked : (bytes : Bytes) (b n k : ℕ) (i : Instr) → Ground b n → k ≤ n → IsWordAt bytes b k i → is_encodable i ≡ true → look false bytes (at b k) ≡ admitted false (at b k) i
 unfolding look
 looked bytes b n k i g h here fits =
-    (λ j. cond (even-at b n k g j) (look_fetched (at b k) (standing bytes b n k i g h here fits j)) (Err (Misaligned (at b k) (at b k))))
-    ∙ (λ j. look_decoded (at b k) (word_of i) (instruction_of-word i fits j))
+    (λ j. cond (even-at b n k g j) (look_fetched false (at b k) (standing bytes b n k i g h here fits j)) (Err (Misaligned (at b k) (at b k))))
+    ∙ (λ j. look_decoded false (at b k) (word_of i) (instruction_of-word i fits j))
 
 -- .. and how long it is
 pub long : (bytes : Bytes) (b n k : ℕ) (i : Instr) → Ground b n → k ≤ n → IsWordAt bytes b k i → is_encodable i ≡ true → length_in bytes (at b k) ≡ 4
@@ -56,7 +56,7 @@ long bytes b n k i g h here fits = (λ j. length_of (unwrap_or (standing bytes b
 -- an instruction that is admitted at a place, leads to these places alone, and leads on to one of them
 pub record Leads (bytes : Bytes) (b u : ℕ) (to : ℕ → Type 0) : Type 0 where
   pub instr : Instr
-  pub fine : look bytes (at b u) ≡ Ok instr
+  pub fine : look false bytes (at b u) ≡ Ok instr
   pub long : length_in bytes (at b u) ≡ 4
   pub leads : (a : ℕ) → Contains (targets (at b u) 4 instr) a → (v : ℕ) × (a ≡ at b v) × to v
   pub on : (v : ℕ) × (u < v) × Contains (targets (at b u) 4 instr) (at b v)
@@ -81,7 +81,7 @@ follows b n u g h =
     mod-eq_of_lt small ∙ there
 
 -- an instruction that goes on to the next
-goes-on : {bytes : Bytes} {b n u : ℕ} (i : Instr) (to : ℕ → Type 0) → Here bytes b n u i → admitted (at b u) i ≡ Ok i
+goes-on : {bytes : Bytes} {b n u : ℕ} (i : Instr) (to : ℕ → Type 0) → Here bytes b n u i → admitted false (at b u) i ≡ Ok i
     → targets (at b u) 4 i ≡ following (at b u) 4 ∷ [] → to (u + 1) → Leads bytes b u to
 goes-on {bytes} {b} {n} {u} i to h fine one next =
     let there : targets (at b u) 4 i ≡ at b (u + 1) ∷ [] = one ∙ (λ j. follows b n u h.ground h.place j ∷ []) in

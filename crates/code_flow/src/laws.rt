@@ -1,7 +1,7 @@
 //! The law of the flow of a program. This function does nothing: its contract is the law. It speaks of the definitions
 //! alone.
 
-ghost use Rattle.std.specs.Prelude.{ℕ, ◌≤◌};
+ghost use Rattle.std.specs.Prelude.{ℕ, ◌≤◌, false};
 ghost use Rattle.rv_words.specs.Bytes.{Bytes};
 ghost use Rattle.flow_graph.specs.Flow.{Next};
 ghost use Rattle.flow_graph.specs.Reach.{IsFault};
@@ -17,9 +17,9 @@ ghost use Rattle.code_gen.specs.ElfFile.{start};
 /// is reached is refused, no cycle has two entries, told by the code or by its graph, and no loop has many exits.
 pub fn law_of_program_flow()
     ensures no_fault { (number size : ℕ) (bytes : Bytes) (why : Outside) → size ≤ 600
-        → EachAt (IsWordAt bytes start) 0 (instructions number size) → IsFault bytes start why → ⊥ }
+        → EachAt (IsWordAt bytes start) 0 (instructions number size) → IsFault false bytes start why → ⊥ }
     ensures no_forest_fault { (number size : ℕ) (bytes : Bytes) (g : GraphOf) (why : Outside) → size ≤ 600
-        → EachAt (IsWordAt bytes start) 0 (instructions number size) → IsGraphOf bytes start g → IsForestFault g why → ⊥ }
+        → EachAt (IsWordAt bytes start) 0 (instructions number size) → IsGraphOf false bytes start g → IsForestFault g why → ⊥ }
     ensures no_two_entries { (number size : ℕ) (bytes : Bytes) (g : GraphOf) → size ≤ 600
-        → EachAt (IsWordAt bytes start) 0 (instructions number size) → IsGraphOf bytes start g → TwoEntries (Next bytes) start → ⊥ }
+        → EachAt (IsWordAt bytes start) 0 (instructions number size) → IsGraphOf false bytes start g → TwoEntries (Next false bytes) start → ⊥ }
 {}

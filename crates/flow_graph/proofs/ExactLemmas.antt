@@ -16,41 +16,41 @@ use Rattle.flow_graph.proofs.ReachSearch.{reach_few}
 use Rattle.flow_graph.proofs.BuildLemmas.{at_same, both_same, ok_err}
 
 -- the reached addresses are closed, and in each set that has the entry and is closed
-pub reached_closed : (code : Bytes) (e a b : ℕ) → Reaches (Next code) e a → Next code a b → Reaches (Next code) e b
-reached_closed code e a b w d = way-join w (Leave tt d Stop)
+pub reached_closed : (linked : Bool) (code : Bytes) (e a b : ℕ) → Reaches (Next linked code) e a → Next linked code a b → Reaches (Next linked code) e b
+reached_closed linked code e a b w d = way-join w (Leave tt d Stop)
 
-pub reached_least : (code : Bytes) (S : ℕ → Type 0) → ((a b : ℕ) → S a → Next code a b → S b) → {e a : ℕ} → Reaches (Next code) e a → S e → S a
-reached_least code S closed Stop s = s
-reached_least code S closed (Leave {a = a} {c = c} p d w) s = reached_least code S closed w (closed a c s d)
+pub reached_least : (linked : Bool) (code : Bytes) (S : ℕ → Type 0) → ((a b : ℕ) → S a → Next linked code a b → S b) → {e a : ℕ} → Reaches (Next linked code) e a → S e → S a
+reached_least linked code S closed Stop s = s
+reached_least linked code S closed (Leave {a = a} {c = c} p d w) s = reached_least linked code S closed w (closed a c s d)
 
 -- no address of a graph has a fault
-pub graph_looks : (code : Bytes) (e : ℕ) (g : GraphOf) → IsGraphOf code e g → (n : ℕ) (i : Instr) → n < length g.addrs → look code (get_or g.addrs n 0) ≡ Ok (get_or g.instrs n i)
-graph_looks code e g r n i l = at_same code g.instrs g.addrs n i r.instrs l
+pub graph_looks : (linked : Bool) (code : Bytes) (e : ℕ) (g : GraphOf) → IsGraphOf linked code e g → (n : ℕ) (i : Instr) → n < length g.addrs → look linked code (get_or g.addrs n 0) ≡ Ok (get_or g.instrs n i)
+graph_looks linked code e g r n i l = at_same linked code g.instrs g.addrs n i r.instrs l
 
-pub graph_numbers : (code : Bytes) (e : ℕ) (g : GraphOf) (n : ℕ) → IsGraphOf code e g → n < length g.addrs → number_in code (get_or g.addrs n 0) ≡ Some (get_or g.numbers n 0)
-graph_numbers code e g n r l = both_same (λ w. Some w) (number_in code) g.numbers g.addrs n 0 r.numbers l
+pub graph_numbers : (linked : Bool) (code : Bytes) (e : ℕ) (g : GraphOf) (n : ℕ) → IsGraphOf linked code e g → n < length g.addrs → number_in code (get_or g.addrs n 0) ≡ Some (get_or g.numbers n 0)
+graph_numbers linked code e g n r l = both_same (λ w. Some w) (number_in code) g.numbers g.addrs n 0 r.numbers l
 
 -- where there is a graph there is no fault
-pub graph_or_fault : (code : Bytes) (e : ℕ) (g : GraphOf) (why : Fault) → IsGraphOf code e g → IsFault code e why → ⊥
-graph_or_fault code e g _ r (Large o) = reach_few (Next code) e reach_limit g.addrs r.reach r.few o
-graph_or_fault code e g why r (Least {a = a} n f) =
+pub graph_or_fault : (linked : Bool) (code : Bytes) (e : ℕ) (g : GraphOf) (why : Fault) → IsGraphOf linked code e g → IsFault linked code e why → ⊥
+graph_or_fault linked code e g _ r (Large o) = reach_few (Next linked code) e reach_limit g.addrs r.reach r.few o
+graph_or_fault linked code e g why r (Least {a = a} n f) =
     let p = place_of g.addrs a (r.reach.all a f.reached) in
     let i : Instr = Rattle.rv_decode.specs.declared.instruction.Instr.TheVariants.Ecall in
-    ok_err (get_or g.instrs p.0 i) why (sym (graph_looks code e g r p.0 i p.1) ∙ ap (look code) p.2 ∙ f.fault)
+    ok_err (get_or g.instrs p.0 i) why (sym (graph_looks linked code e g r p.0 i p.1) ∙ ap (look linked code) p.2 ∙ f.fault)
 
 err_same : {A B : Type 0} (a b : B) (x : Result A B) → x ≡ Err a → x ≡ Err b → a ≡ b
 err_same a b x e f = cc
 
 -- one fault at most
-pub one_fault : (code : Bytes) (e : ℕ) (x y : Fault) → IsFault code e x → IsFault code e y → x ≡ y
-one_fault code e _ _ (Large o) (Large p) = refl
-one_fault code e _ y (Large o) (Least n f) = absurd (n o)
-one_fault code e x _ (Least n f) (Large p) = absurd (n p)
-one_fault code e x y (Least {a = a} n f) (Least {a = b} m g) = elim (leb_tells b a) [
+pub one_fault : (linked : Bool) (code : Bytes) (e : ℕ) (x y : Fault) → IsFault linked code e x → IsFault linked code e y → x ≡ y
+one_fault linked code e _ _ (Large o) (Large p) = refl
+one_fault linked code e _ y (Large o) (Least n f) = absurd (n o)
+one_fault linked code e x _ (Least n f) (Large p) = absurd (n p)
+one_fault linked code e x y (Least {a = a} n f) (Least {a = b} m g) = elim (leb_tells b a) [
   | inr t ↦ absurd (g.least a f.reached t.1 x f.fault)
   | inl t ↦ elim (leb_tells a b) [
     | inr u ↦ absurd (f.least b g.reached u.1 y g.fault)
-    | inl u ↦ (let same : a ≡ b = omega (arith, t.1, u.1) in err_same x y (look code a) f.fault (ap (look code) same ∙ g.fault))
+    | inl u ↦ (let same : a ≡ b = omega (arith, t.1, u.1) in err_same x y (look linked code a) f.fault (ap (look linked code) same ∙ g.fault))
   ]
 ]
 

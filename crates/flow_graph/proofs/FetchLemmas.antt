@@ -1,8 +1,8 @@
 -- The parcel or word at an address, from its bytes.
-use Rattle.std.proofs.Common.{◌≡◌, ℕ, ◌+◌, ◌%◌, ◌^◌, ◌<◌, ◌≤◌, Bool, true, false, cond, leb, ltb, Option, Some, None, refl, sym, ap, ◌∙◌, arith}
+use Rattle.std.proofs.Common.{◌≡◌, ℕ, ◌+◌, ◌^◌, ◌<◌, ◌≤◌, Bool, true, false, cond, leb, ltb, Option, Some, None, refl, sym, ◌∙◌, arith}
 use Rattle.std.proofs.lemmas.Bool.Decides.{nat_tests}
 use Rattle.std.specs.Option.{option_and_then}
-use Rattle.rv_words.specs.Bytes.{Bytes, after, inside, load, word_at}
+use Rattle.rv_words.specs.Bytes.{Bytes, after, inside, load}
 use Rattle.elf_image.specs.Image.{word_in}
 use Rattle.rvc.specs.Number.{is_word, length_of, number_at, number_in}
 use Rattle.rvc.proofs.NumberLemmas.{no_number, parcel-word, short_number}

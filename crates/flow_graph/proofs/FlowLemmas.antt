@@ -73,42 +73,42 @@ contains_unmap f xs y c =
     (get_or xs p.0 0, node_at xs p.0 l, sym (get_or-map f xs p.0 0 0 l) ∙ p.2)
 
 -- an edge is a successor
-pub edge_is : (code : Bytes) (e : ℕ) (g : GraphOf) → IsGraphOf code e g → (u v : ℕ) → HasEdge g u v → (u < length g.addrs) × (b : ℕ) × Next code (get_or g.addrs u 0) b × (number g.addrs b ≡ v)
-edge_is code e g r u v d = elim (leb_tells (length g.addrs) u) [
+pub edge_is : (linked : Bool) (code : Bytes) (e : ℕ) (g : GraphOf) → IsGraphOf linked code e g → (u v : ℕ) → HasEdge g u v → (u < length g.addrs) × (b : ℕ) × Next linked code (get_or g.addrs u 0) b × (number g.addrs b ≡ v)
+edge_is linked code e g r u v d = elim (leb_tells (length g.addrs) u) [
   | inl t ↦
-      let none = subst (λ (xs : List ℕ). Contains xs v) (ap (λ es. succs_of es u) r.edges ∙ row_above (next code) g.addrs 0 u g.addrs (omega (arith, t.1))) d in
+      let none = subst (λ (xs : List ℕ). Contains xs v) (ap (λ es. succs_of es u) r.edges ∙ row_above (next linked code) g.addrs 0 u g.addrs (omega (arith, t.1))) d in
       absurd (omega (arith, none.1))
   | inr t ↦
-      let c = contains_unmap (number g.addrs) (next code (get_or g.addrs u 0)) v (subst (λ (xs : List ℕ). Contains xs v) (ap (λ es. succs_of es u) r.edges ∙ row_is (next code) g.addrs u t.1) d) in
+      let c = contains_unmap (number g.addrs) (next linked code (get_or g.addrs u 0)) v (subst (λ (xs : List ℕ). Contains xs v) (ap (λ es. succs_of es u) r.edges ∙ row_is (next linked code) g.addrs u t.1) d) in
       (t.1, c.0, c.1, c.2)
 ]
 
 -- a successor is an edge
-pub edge_of : (code : Bytes) (e : ℕ) (g : GraphOf) → IsGraphOf code e g → (u b : ℕ) → u < length g.addrs → Next code (get_or g.addrs u 0) b → HasEdge g u (number g.addrs b)
-edge_of code e g r u b l d =
-    subst (λ (xs : List ℕ). Contains xs (number g.addrs b)) (sym (ap (λ es. succs_of es u) r.edges ∙ row_is (next code) g.addrs u l)) (contains_map (number g.addrs) (next code (get_or g.addrs u 0)) b d)
+pub edge_of : (linked : Bool) (code : Bytes) (e : ℕ) (g : GraphOf) → IsGraphOf linked code e g → (u b : ℕ) → u < length g.addrs → Next linked code (get_or g.addrs u 0) b → HasEdge g u (number g.addrs b)
+edge_of linked code e g r u b l d =
+    subst (λ (xs : List ℕ). Contains xs (number g.addrs b)) (sym (ap (λ es. succs_of es u) r.edges ∙ row_is (next linked code) g.addrs u l)) (contains_map (number g.addrs) (next linked code (get_or g.addrs u 0)) b d)
 
 -- a walk along successors is one along edges
-walk_of : (code : Bytes) (e : ℕ) (g : GraphOf) → IsGraphOf code e g → {a b : ℕ} → Way (Next code) AnyNode a b → Contains g.addrs a → Way (HasEdge g) AnyNode (number g.addrs a) (number g.addrs b)
-walk_of code e g r Stop c = Stop
-walk_of code e g r (Leave {a = a} {c = m} p d w) c =
+walk_of : (linked : Bool) (code : Bytes) (e : ℕ) (g : GraphOf) → IsGraphOf linked code e g → {a b : ℕ} → Way (Next linked code) AnyNode a b → Contains g.addrs a → Way (HasEdge g) AnyNode (number g.addrs a) (number g.addrs b)
+walk_of linked code e g r Stop c = Stop
+walk_of linked code e g r (Leave {a = a} {c = m} p d w) c =
     let at = number_within g.addrs a c in
-    Leave tt (edge_of code e g r (number g.addrs a) m at.0 (subst (λ (z : ℕ). Next code z m) (sym at.1) d)) (walk_of code e g r w (closed_from_reach code e g.addrs r.reach a m c d))
+    Leave tt (edge_of linked code e g r (number g.addrs a) m at.0 (subst (λ (z : ℕ). Next linked code z m) (sym at.1) d)) (walk_of linked code e g r w (closed_from_reach linked code e g.addrs r.reach a m c d))
 
-pub is_flow : (code : Bytes) (e : ℕ) (g : GraphOf) → IsGraphOf code e g → IsFlow g
-is_flow code e g r = record {
+pub is_flow : (linked : Bool) (code : Bytes) (e : ℕ) (g : GraphOf) → IsGraphOf linked code e g → IsFlow g
+is_flow linked code e g r = record {
   entry = let at = (number_within g.addrs e (r.reach.all e Stop)).0 in subst (λ (z : ℕ). z < length g.addrs) (sym r.entry) at;
   few = r.few;
   rising = r.rising;
-  as_long = sym (length-map g.instrs (λ i. Ok i)) ∙ ap length r.instrs ∙ length-map g.addrs (look code);
+  as_long = sym (length-map g.instrs (λ i. Ok i)) ∙ ap length r.instrs ∙ length-map g.addrs (look linked code);
   as_many = sym (length-map g.numbers (λ w. Some w)) ∙ ap length r.numbers ∙ length-map g.addrs (number_in code);
-  source = λ u v d. (edge_is code e g r u v d).0;
+  source = λ u v d. (edge_is linked code e g r u v d).0;
   within = λ u v d.
-      let c = edge_is code e g r u v d in
-      let there = closed_from_reach code e g.addrs r.reach (get_or g.addrs u 0) c.1 (node_at g.addrs u c.0) c.2 in
+      let c = edge_is linked code e g r u v d in
+      let there = closed_from_reach linked code e g.addrs r.reach (get_or g.addrs u 0) c.1 (node_at g.addrs u c.0) c.2 in
       subst (λ (z : ℕ). z < length g.addrs) c.3 (number_within g.addrs c.1 there).0;
   reached = λ n l.
-      let w = walk_of code e g r (r.reach.reached (get_or g.addrs n 0) (node_at g.addrs n l)) (r.reach.all e Stop) in
+      let w = walk_of linked code e g r (r.reach.reached (get_or g.addrs n 0) (node_at g.addrs n l)) (r.reach.all e Stop) in
       subst (λ (z : ℕ). Way (HasEdge g) AnyNode z n) (sym r.entry)
       (subst (λ (z : ℕ). Way (HasEdge g) AnyNode (number g.addrs e) z) (number_at g.addrs (different_from_rising g.addrs r.rising) n (get_or g.addrs n 0) l refl) w);
 }

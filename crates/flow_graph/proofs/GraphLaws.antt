@@ -16,9 +16,9 @@ use Rattle.flow_graph.proofs.FlowLemmas.{row_is}
 
 -- ---- the least closed set
 
-pub least_test : (code : Bytes) (has : ℕ → Bool) → ((x y : ℕ) → IsTrue (has x) → Next code x y → IsTrue (has y)) → {e a : ℕ} → Reaches (Next code) e a → IsTrue (has e) → IsTrue (has a)
-least_test code has closed Stop t = t
-least_test code has closed (Leave {a = a} {c = c} p d w) t = least_test code has closed w (closed a c t d)
+pub least_test : (linked : Bool) (code : Bytes) (has : ℕ → Bool) → ((x y : ℕ) → IsTrue (has x) → Next linked code x y → IsTrue (has y)) → {e a : ℕ} → Reaches (Next linked code) e a → IsTrue (has e) → IsTrue (has a)
+least_test linked code has closed Stop t = t
+least_test linked code has closed (Leave {a = a} {c = c} p d w) t = least_test linked code has closed w (closed a c t d)
 
 -- ---- one graph
 
@@ -76,14 +76,14 @@ some_same (w ∷ ws) (v ∷ vs) e =
     let tail : ws ≡ vs = some_same ws vs rest in
     λ k. head k ∷ tail k
 
-pub one_graph : (code : Bytes) (e : ℕ) (g h : GraphOf) → IsGraphOf code e g → IsGraphOf code e h → g ≡ h
-one_graph code e g h r s =
+pub one_graph : (linked : Bool) (code : Bytes) (e : ℕ) (g h : GraphOf) → IsGraphOf linked code e g → IsGraphOf linked code e h → g ≡ h
+one_graph linked code e g h r s =
     let addrs : g.addrs ≡ h.addrs = rising_same g.addrs h.addrs r.rising s.rising
     (λ z c. s.reach.all z (r.reach.reached z c)) (λ z c. r.reach.all z (s.reach.reached z c)) in
     let entry : g.entry ≡ h.entry = r.entry ∙ ap (λ ns. number ns e) addrs ∙ sym s.entry in
-    let instrs : g.instrs ≡ h.instrs = fine_same g.instrs h.instrs (r.instrs ∙ ap (map (look code)) addrs ∙ sym s.instrs) in
+    let instrs : g.instrs ≡ h.instrs = fine_same g.instrs h.instrs (r.instrs ∙ ap (map (look linked code)) addrs ∙ sym s.instrs) in
     let numbers : g.numbers ≡ h.numbers = some_same g.numbers h.numbers (r.numbers ∙ ap (map (number_in code)) addrs ∙ sym s.numbers) in
-    let edges : g.edges ≡ h.edges = r.edges ∙ ap (λ ns. edges_from (next code) ns 0 ns) addrs ∙ sym s.edges in
+    let edges : g.edges ≡ h.edges = r.edges ∙ ap (λ ns. edges_from (next linked code) ns 0 ns) addrs ∙ sym s.edges in
     λ i. record { entry = entry i; addrs = addrs i; numbers = numbers i; instrs = instrs i; edges = edges i }
 
 -- ---- edges
@@ -95,11 +95,11 @@ map_back all (b ∷ bs) sub =
     let rest = map_back all bs (λ z c. sub z (later b bs z c)) in
     λ i. at i ∷ rest i
 
-pub successors_are : (code : Bytes) (e : ℕ) (g : GraphOf) (n : ℕ) → IsGraphOf code e g → n < length g.addrs → map (λ m. get_or g.addrs m 0) (succs_of g.edges n) ≡ next code (get_or g.addrs n 0)
-successors_are code e g n r l =
+pub successors_are : (linked : Bool) (code : Bytes) (e : ℕ) (g : GraphOf) (n : ℕ) → IsGraphOf linked code e g → n < length g.addrs → map (λ m. get_or g.addrs m 0) (succs_of g.edges n) ≡ next linked code (get_or g.addrs n 0)
+successors_are linked code e g n r l =
     ap (λ es. map (λ m. get_or g.addrs m 0) (succs_of es n)) r.edges
-    ∙ ap (map (λ m. get_or g.addrs m 0)) (row_is (next code) g.addrs n l)
-    ∙ map_back g.addrs (next code (get_or g.addrs n 0)) (λ b c. closed_from_reach code e g.addrs r.reach (get_or g.addrs n 0) b (node_at g.addrs n l) c)
+    ∙ ap (map (λ m. get_or g.addrs m 0)) (row_is (next linked code) g.addrs n l)
+    ∙ map_back g.addrs (next linked code (get_or g.addrs n 0)) (λ b c. closed_from_reach linked code e g.addrs r.reach (get_or g.addrs n 0) b (node_at g.addrs n l) c)
 
 count_more : (t : Bool) (p : ℕ → Bool) (x : ℕ) (xs : List ℕ) → count_by p (cond t (x ∷ xs) xs) ≡ cond t (cond (p x) 1 0 + count_by p xs) (count_by p xs)
 count_more true p x xs = sum_by-cons (λ z. cond (p z) 1 0) x xs

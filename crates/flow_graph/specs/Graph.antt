@@ -1,5 +1,5 @@
 -- What a graph holds, and which graph is that of the code reached from an entry.
-use Rattle.std.specs.Prelude.{◌≡◌, ℕ, ◌+◌, ◌<◌, ◌≤◌, ◌==◌, List, [], ◌∷◌, ◌++◌, length, slice_index, if◌then◌else◌, Ok, Some, map}
+use Rattle.std.specs.Prelude.{◌≡◌, ℕ, ◌+◌, ◌<◌, ◌≤◌, ◌==◌, Bool, List, [], ◌∷◌, ◌++◌, length, slice_index, if◌then◌else◌, Ok, Some, map}
 use Rattle.std.specs.List.{Contains}
 use Rattle.rv_words.specs.Bytes.{Bytes}
 use Rattle.rv_decode.specs.declared.instruction.Instr.{Instr}
@@ -49,20 +49,20 @@ abbrev pub edges_from : (ℕ → List ℕ) → List ℕ → ℕ → List ℕ →
 edges_from leads all n [] = []
 edges_from leads all n (a ∷ rest) = map (edge_to all n) (leads a) ++ edges_from leads all (n + 1) rest
 
--- the graph of the code that is reached from e: it has no fault, the nodes are its addresses, rising, and the edges its successors
-pub record IsGraphOf (code : Bytes) (e : ℕ) (g : GraphOf) : Type 0 where
-  pub reach : IsReach (Next code) e g.addrs
+-- the graph of the code that is reached from e, of one function or of linked ones: it has no fault, the nodes are its addresses, rising, and the edges its successors
+pub record IsGraphOf (linked : Bool) (code : Bytes) (e : ℕ) (g : GraphOf) : Type 0 where
+  pub reach : IsReach (Next linked code) e g.addrs
   pub rising : IsRising g.addrs
   pub few : length g.addrs ≤ reach_limit
   pub numbers : map (λ w. Some w) g.numbers ≡ map (number_in code) g.addrs
-  pub instrs : map (λ i. Ok i) g.instrs ≡ map (look code) g.addrs
-  pub edges : g.edges ≡ edges_from (next code) g.addrs 0 g.addrs
+  pub instrs : map (λ i. Ok i) g.instrs ≡ map (look linked code) g.addrs
+  pub edges : g.edges ≡ edges_from (next linked code) g.addrs 0 g.addrs
   pub entry : g.entry ≡ number g.addrs e
 
 -- why there is no graph: a fault of the code, or no memory
-abbrev pub IsRefused : Bytes → ℕ → FlowFault → Type 0
-IsRefused code e (Outside why) = IsFault code e why
-IsRefused code e NoMemory = Unit {0}
+abbrev pub IsRefused : Bool → Bytes → ℕ → FlowFault → Type 0
+IsRefused linked code e (Outside why) = IsFault linked code e why
+IsRefused linked code e NoMemory = Unit {0}
 
 -- what holds of each graph: its nodes are reached from its entry, at rising addresses, and its edges are between nodes
 pub record IsFlow (g : GraphOf) : Type 0 where

@@ -1,5 +1,5 @@
 -- The addresses that are reached.
-use Rattle.std.specs.Prelude.{◌≡◌, ℕ, ◌<◌, ◌≢◌, List, length, slice_index, Err}
+use Rattle.std.specs.Prelude.{◌≡◌, ℕ, ◌<◌, ◌≢◌, Bool, List, length, slice_index, Err}
 use Rattle.std.specs.List.{Contains}
 use Rattle.rv_words.specs.Bytes.{Bytes}
 use Rattle.flow_graph.specs.Flow.{look, Next}
@@ -25,12 +25,12 @@ pub record ReachesOver (E : ℕ → ℕ → Type 0) (e n : ℕ) : Type 0 where
   pub different : (j k : ℕ) → j < k → k < length some → slice_index some j ≢ slice_index some k
 
 -- the least reached address that has a fault, with that fault
-pub record IsLeastFault (code : Bytes) (e a : ℕ) (why : Outside) : Type 0 where
-  pub reached : Reaches (Next code) e a
-  pub fault : look code a ≡ Err why
-  pub least : (b : ℕ) → Reaches (Next code) e b → b < a → (other : Outside) → look code b ≡ Err other → ⊥
+pub record IsLeastFault (linked : Bool) (code : Bytes) (e a : ℕ) (why : Outside) : Type 0 where
+  pub reached : Reaches (Next linked code) e a
+  pub fault : look linked code a ≡ Err why
+  pub least : (b : ℕ) → Reaches (Next linked code) e b → b < a → (other : Outside) → look linked code b ≡ Err other → ⊥
 
 -- the first fault of the code that is reached from e: that there is too much of it, else that of the least address
-pub data IsFault (code : Bytes) (e : ℕ) : Outside → Type 0 where
-  Large : ReachesOver (Next code) e reach_limit → IsFault code e TooLarge
-  Least : {a : ℕ} {why : Outside} → (ReachesOver (Next code) e reach_limit → ⊥) → IsLeastFault code e a why → IsFault code e why
+pub data IsFault (linked : Bool) (code : Bytes) (e : ℕ) : Outside → Type 0 where
+  Large : ReachesOver (Next linked code) e reach_limit → IsFault linked code e TooLarge
+  Least : {a : ℕ} {why : Outside} → (ReachesOver (Next linked code) e reach_limit → ⊥) → IsLeastFault linked code e a why → IsFault linked code e why

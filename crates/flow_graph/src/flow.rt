@@ -1,4 +1,5 @@
-//! The instruction at an address, and where it leads.
+//! The instruction at an address, and where it leads: in a function alone, where a call is a fault, or in one of several linked functions, which call each other
+//! by x1 and come back.
 
 ghost use Rattle.std.specs.Prelude.{◌≡◌, ◌+◌, ◌<◌, ◌^◌, Some, None, if◌then◌else◌};
 ghost use Rattle.rv_words.specs.Bytes.{inside, load};
@@ -49,22 +50,38 @@ pub fn targets_at(a: u64, length: u8, instruction: Instr) -> Targets
     ensures { targets_of result ≡ spec.targets a length instruction }
 {
     match instruction {
-        Instr::Jal { offset, .. } => Targets::One(target(a, offset)),
+        Instr::Jal { rd, offset } => {
+            if rd == 0 {
+                Targets::One(target(a, offset))
+            } else {
+                Targets::One(following(a, length))
+            }
+        }
         Instr::Jalr { .. } => Targets::Nowhere,
         Instr::Branch { offset, .. } => Targets::Two(following(a, length), target(a, offset)),
         _ => Targets::One(following(a, length)),
     }
 }
 
-/// The instruction, if it may stand in a function at that address.
-fn admitted(a: u64, instruction: Instr) -> Result<Instr, Outside>
-    ensures { result ≡ spec.admitted a instruction }
+/// The function that an instruction at that address calls.
+pub fn called_by(a: u64, instruction: Instr) -> Option<u64>
+    ensures { result ≡ spec.called_by a instruction }
+{
+    match instruction {
+        Instr::Jal { rd: 1, offset } => Some(target(a, offset)),
+        _ => None,
+    }
+}
+
+/// The instruction, if it may stand at that address in a function, one that is linked or one alone.
+fn admitted(linked: bool, a: u64, instruction: Instr) -> Result<Instr, Outside>
+    ensures { result ≡ spec.admitted linked a instruction }
 {
     match instruction {
         Instr::Ecall => Err(Outside::Environment(a)),
         Instr::Ebreak => Err(Outside::Environment(a)),
         Instr::Jal { rd, .. } => {
-            if rd != 0 {
+            if !(rd == 0 || linked && rd == 1) {
                 return Err(Outside::Call(a));
             }
             Ok(instruction)
@@ -117,10 +134,10 @@ pub fn length_at(image: &Image, a: u64) -> u8
     }
 }
 
-/// The instruction at an address, or the address's fault.
+/// The instruction at an address, or the address's fault. A call by x1 is one where functions are linked, else a fault.
 #[tactic(auto, unfolding(crate::specs::Flow::look))]
-pub fn look(image: &Image, a: u64) -> Result<Instr, Outside>
-    ensures { result ≡ spec.look (code_in image.now.pieces) a }
+pub fn look(linked: bool, image: &Image, a: u64) -> Result<Instr, Outside>
+    ensures { result ≡ spec.look linked (code_in image.now.pieces) a }
 {
     if a % 2 != 0 {
         return Err(Outside::Misaligned(a, a));
@@ -129,7 +146,7 @@ pub fn look(image: &Image, a: u64) -> Result<Instr, Outside>
         None => Err(Outside::OutsideCode(a)),
         Some(w) => match instruction_of(w) {
             None => Err(Outside::NotDecoded(a, w)),
-            Some(instruction) => admitted(a, instruction),
+            Some(instruction) => admitted(linked, a, instruction),
         },
     }
 }

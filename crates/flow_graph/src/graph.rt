@@ -1,5 +1,5 @@
 //! The graph of the code that is reached from an entry.
-ghost use Rattle.std.specs.Prelude.{◌≡◌, ℕ, ◌+◌, ◌<◌, ◌≤◌, ◌^◌, ◌++◌, IfOk, IfErr, IfSome, IfNone, List, OnOk, Some, Ok as Fine, length, map, slice_index};
+ghost use Rattle.std.specs.Prelude.{◌≡◌, ℕ, ◌+◌, ◌<◌, ◌≤◌, ◌^◌, ◌++◌, Bool, false, true, IfOk, IfErr, IfSome, IfNone, List, OnOk, Some, Ok as Fine, length, map, slice_index};
 ghost use Rattle.std.specs.List.{Contains};
 ghost use Rattle.elf_image.specs.Image.{code_in};
 ghost use Rattle.flow_graph.specs.Flow as spec;
@@ -122,14 +122,19 @@ impl Graph {
 }
 
 /// The instructions at these addresses, or the fault of the first of them that has one.
-fn instructions(alloc: Global, image: &Image, nodes: &Visited) -> Result<Vec<Instr>, FlowFault>
-    ensures ok { IfOk result (λ is. map (λ i. Fine i) is.items ≡ map (spec.look (code_in image.now.pieces)) nodes.now) }
-    ensures err { IfErr result (HasFault (code_in image.now.pieces) nodes.now) }
+fn instructions(
+    alloc: Global,
+    linked: bool,
+    image: &Image,
+    nodes: &Visited,
+) -> Result<Vec<Instr>, FlowFault>
+    ensures ok { IfOk result (λ is. map (λ i. Fine i) is.items ≡ map (spec.look linked (code_in image.now.pieces)) nodes.now) }
+    ensures err { IfErr result (HasFault linked (code_in image.now.pieces) nodes.now) }
 {
     let mut instrs = Vec::new(alloc);
     let mut i = 0;
     'nodes: while i < nodes.len() {
-        match look(image, nodes.get(i)) {
+        match look(linked, image, nodes.get(i)) {
             Ok(instruction) => {
                 if instrs.push(instruction).is_err() {
                     return Err(FlowFault::NoMemory);
@@ -144,7 +149,7 @@ fn instructions(alloc: Global, image: &Image, nodes: &Visited) -> Result<Vec<Ins
 
 /// The parcels and words at these addresses.
 fn numbers(alloc: Global, image: &Image, nodes: &Visited) -> Result<Vec<u32>, NoMemory>
-    requires { (is : List TheInstr) × (map (λ i. Fine i) is ≡ map (spec.look (code_in image.now.pieces)) nodes.now) }
+    requires { (linked : Bool) × (is : List TheInstr) × (map (λ i. Fine i) is ≡ map (spec.look linked (code_in image.now.pieces)) nodes.now) }
     ensures { IfOk result (λ ws. map (λ w. Some w) ws.items ≡ map (number_in (code_in image.now.pieces)) nodes.now) }
 {
     let mut numbers = Vec::new(alloc);
@@ -183,15 +188,15 @@ fn add_edges(links: &mut Links, nodes: &Visited, n: u32, targets: Targets) -> Re
 }
 
 /// The edges between the nodes with these addresses, numbers and instructions.
-fn linked(
+fn links_between(
     alloc: Global,
     nodes: &Visited,
     numbers: &[u32],
     instrs: &[Instr],
 ) -> Result<Links, NoMemory>
     requires few { length nodes.now ≤ 1024 }
-    requires of { (code : Bytes) × AreOf code nodes.now numbers.now instrs.now }
-    ensures { (code : Bytes) → AreOf code nodes.now numbers.now instrs.now → IfOk result (λ l. l ≡ (length nodes.now, edges_from (spec.next code) nodes.now 0 nodes.now)) }
+    requires of { (linked : Bool) × (code : Bytes) × AreOf linked code nodes.now numbers.now instrs.now }
+    ensures { (linked : Bool) (code : Bytes) → AreOf linked code nodes.now numbers.now instrs.now → IfOk result (λ l. l ≡ (length nodes.now, edges_from (spec.next linked code) nodes.now 0 nodes.now)) }
 {
     let mut u = nodes.len();
     let mut links = Links::new(alloc, u)?;
@@ -209,16 +214,32 @@ fn linked(
 
 /// The graph of the code that is reached from an entry, or the first fault of that code.
 pub fn build(alloc: Global, image: &Image, entry: u64) -> Result<Graph, FlowFault>
-    ensures ok { IfOk result (IsGraphOf (code_in image.now.pieces) entry) }
-    ensures err { IfErr result (IsRefused (code_in image.now.pieces) entry) }
+    ensures ok { IfOk result (IsGraphOf false (code_in image.now.pieces) entry) }
+    ensures err { IfErr result (IsRefused false (code_in image.now.pieces) entry) }
 {
-    let Some(mut nodes) = reached(alloc, image, entry)? else {
+    graph_from(alloc, false, image, entry)
+}
+
+/// The graph of one of several linked functions, which call each other by x1 and come back, or the first fault of its code.
+pub fn build_linked(alloc: Global, image: &Image, entry: u64) -> Result<Graph, FlowFault>
+    ensures ok { IfOk result (IsGraphOf true (code_in image.now.pieces) entry) }
+    ensures err { IfErr result (IsRefused true (code_in image.now.pieces) entry) }
+{
+    graph_from(alloc, true, image, entry)
+}
+
+/// The graph of the code that is reached from an entry, of one function or of linked ones, or the first fault of that code.
+fn graph_from(alloc: Global, linked: bool, image: &Image, entry: u64) -> Result<Graph, FlowFault>
+    ensures ok { IfOk result (IsGraphOf linked (code_in image.now.pieces) entry) }
+    ensures err { IfErr result (IsRefused linked (code_in image.now.pieces) entry) }
+{
+    let Some(mut nodes) = reached(alloc, linked, image, entry)? else {
         return Err(FlowFault::Outside(Outside::TooLarge));
     };
     nodes.sort()?;
-    let instrs = instructions(alloc, image, &nodes)?;
+    let instrs = instructions(alloc, linked, image, &nodes)?;
     let numbers = numbers(alloc, image, &nodes)?;
-    let links = linked(alloc, &nodes, &numbers, &instrs)?;
+    let links = links_between(alloc, &nodes, &numbers, &instrs)?;
     Ok(Graph {
         entry: nodes.number(entry),
         nodes,

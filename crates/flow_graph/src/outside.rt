@@ -19,7 +19,7 @@ pub enum Outside {
     NotDecoded(u64, u32),
     /// A call of the environment, ECALL or EBREAK.
     Environment(u64),
-    /// A jump that writes a register.
+    /// A jump that writes a register. Of linked functions a call by x1 is none.
     Call(u64),
     /// A jump through a register that is no return, which is `jalr x0, 0(x1)`.
     JumpThrough(u64),

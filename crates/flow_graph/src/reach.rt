@@ -16,10 +16,10 @@ use std::alloc::Global;
 pub const REACH_LIMIT: usize = 1024;
 
 /// Where the address leads.
-fn next(image: &Image, a: u64) -> Targets
-    ensures { targets_of result ≡ spec.next (code_in image.now.pieces) a }
+fn next(linked: bool, image: &Image, a: u64) -> Targets
+    ensures { targets_of result ≡ spec.next linked (code_in image.now.pieces) a }
 {
-    match look(image, a) {
+    match look(linked, image, a) {
         Ok(instruction) => targets_at(a, length_at(image, a), instruction),
         Err(_) => Targets::Nowhere,
     }
@@ -42,11 +42,17 @@ fn note_targets(seen: &mut Visited, targets: Targets) -> Result<(), NoMemory>
     Ok(())
 }
 
-/// The addresses that are reached from the entry, or `None` where there are more than 1,024.
-pub fn reached(alloc: Global, image: &Image, entry: u64) -> Result<Option<Visited>, NoMemory>
-    ensures reach { IfOk result (λ o. IfSome o (IsReach (Next (code_in image.now.pieces)) entry)) }
+/// The addresses that are reached from the entry, or `None` where there are more than 1,024. Those with a fault are among them.
+/// Where functions are linked, a call comes back.
+pub fn reached(
+    alloc: Global,
+    linked: bool,
+    image: &Image,
+    entry: u64,
+) -> Result<Option<Visited>, NoMemory>
+    ensures reach { IfOk result (λ o. IfSome o (IsReach (Next linked (code_in image.now.pieces)) entry)) }
     ensures few { IfOk result (λ o. IfSome o (λ v. length v ≤ REACH_LIMIT)) }
-    ensures large { IfOk result (λ o. IfNone o (ReachesOver (Next (code_in image.now.pieces)) entry REACH_LIMIT)) }
+    ensures large { IfOk result (λ o. IfNone o (ReachesOver (Next linked (code_in image.now.pieces)) entry REACH_LIMIT)) }
 {
     let mut seen = Visited::new(alloc);
     note_targets(&mut seen, Targets::One(entry))?;
@@ -55,7 +61,7 @@ pub fn reached(alloc: Global, image: &Image, entry: u64) -> Result<Option<Visite
         if seen.len() > REACH_LIMIT {
             return Ok(None);
         }
-        let targets = next(image, seen.get(i));
+        let targets = next(linked, image, seen.get(i));
         note_targets(&mut seen, targets)?;
         i += 1;
     }

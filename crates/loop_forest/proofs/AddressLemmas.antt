@@ -1,5 +1,5 @@
 -- Two entries at nodes are two entries at addresses.
-use Rattle.std.proofs.Common.{◌≡◌, ℕ, ◌+◌, ◌-◌, ◌<◌, List, length, get_or, map, inl, inr, refl, sym, ◌∙◌, ap, subst, arith}
+use Rattle.std.proofs.Common.{◌≡◌, ℕ, ◌+◌, ◌-◌, ◌<◌, List, length, get_or, map, inl, inr, refl, sym, ◌∙◌, ap, subst, arith, Bool}
 use Rattle.std.specs.List.{Contains}
 use Rattle.std.proofs.lemmas.List.{get_or-map, length-map}
 use Rattle.std.proofs.lemmas.Bool.Decides.{leb_tells}
@@ -115,42 +115,42 @@ pub graph_settled : (g : GraphOf) (left : ℕ → ℕ) → IsFlow g → IsSettle
 graph_settled g left f s = none_with_two_entries (entry_at g) (λ a. left (number g.addrs a)) (lifted (HasEdge g) (GoesTo g) g.entry (λ u. get_or g.addrs u 0) (number g.addrs) left (graph_numbers g f) s)
 
 -- the same for the successors in the code
-code_numbers : (code : Bytes) (e : ℕ) (g : GraphOf) → IsGraphOf code e g → Numbers (HasEdge g) (Next code) g.entry (λ u. get_or g.addrs u 0) (number g.addrs)
-code_numbers code e g r = record {
+code_numbers : (linked : Bool) (code : Bytes) (e : ℕ) (g : GraphOf) → IsGraphOf linked code e g → Numbers (HasEdge g) (Next linked code) g.entry (λ u. get_or g.addrs u 0) (number g.addrs)
+code_numbers linked code e g r = record {
   back = λ u b w d.
-      let f = is_flow code e g r in
+      let f = is_flow linked code e g r in
       let l = reached_node g f u w in (
         number g.addrs b,
-        Rattle.flow_graph.proofs.FlowLemmas.edge_of code e g r u b l d,
-        (number_within g.addrs b (closed_from_reach code e g.addrs r.reach (get_or g.addrs u 0) b (node_at g.addrs u l) d)).1,
+        Rattle.flow_graph.proofs.FlowLemmas.edge_of linked code e g r u b l d,
+        (number_within g.addrs b (closed_from_reach linked code e g.addrs r.reach (get_or g.addrs u 0) b (node_at g.addrs u l) d)).1,
       );
-  same = λ u w. number_at g.addrs (different_from_rising g.addrs r.rising) u (get_or g.addrs u 0) (reached_node g (is_flow code e g r) u w) refl;
+  same = λ u w. number_at g.addrs (different_from_rising g.addrs r.rising) u (get_or g.addrs u 0) (reached_node g (is_flow linked code e g r) u w) refl;
 }
 
-pub entry_is : (code : Bytes) (e : ℕ) (g : GraphOf) → IsGraphOf code e g → entry_at g ≡ e
-entry_is code e g r = ap (λ n. get_or g.addrs n 0) r.entry ∙ (number_within g.addrs e (r.reach.all e Stop)).1
+pub entry_is : (linked : Bool) (code : Bytes) (e : ℕ) (g : GraphOf) → IsGraphOf linked code e g → entry_at g ≡ e
+entry_is linked code e g r = ap (λ n. get_or g.addrs n 0) r.entry ∙ (number_within g.addrs e (r.reach.all e Stop)).1
 
-pub code_settled : (code : Bytes) (e : ℕ) (g : GraphOf) (left : ℕ → ℕ) → IsGraphOf code e g → IsSettled (HasEdge g) g.entry left → TwoEntries (Next code) e → ⊥
-code_settled code e g left r s t =
-    none_with_two_entries (entry_at g) (λ a. left (number g.addrs a)) (lifted (HasEdge g) (Next code) g.entry (λ u. get_or g.addrs u 0) (number g.addrs) left (code_numbers code e g r) s)
-    (subst (λ (z : ℕ). TwoEntries (Next code) z) (sym (entry_is code e g r)) t)
+pub code_settled : (linked : Bool) (code : Bytes) (e : ℕ) (g : GraphOf) (left : ℕ → ℕ) → IsGraphOf linked code e g → IsSettled (HasEdge g) g.entry left → TwoEntries (Next linked code) e → ⊥
+code_settled linked code e g left r s t =
+    none_with_two_entries (entry_at g) (λ a. left (number g.addrs a)) (lifted (HasEdge g) (Next linked code) g.entry (λ u. get_or g.addrs u 0) (number g.addrs) left (code_numbers linked code e g r) s)
+    (subst (λ (z : ℕ). TwoEntries (Next linked code) z) (sym (entry_is linked code e g r)) t)
 
 -- what the graph shows, the code does
-goes_next : (code : Bytes) (e : ℕ) (g : GraphOf) → IsGraphOf code e g → (a b : ℕ) → GoesTo g a b → Next code a b
-goes_next code e g r a b d =
-    let s = edge_is code e g r d.from d.to d.edge in
-    let there = closed_from_reach code e g.addrs r.reach (get_or g.addrs d.from 0) s.1 (node_at g.addrs d.from s.0) s.2 in
+goes_next : (linked : Bool) (code : Bytes) (e : ℕ) (g : GraphOf) → IsGraphOf linked code e g → (a b : ℕ) → GoesTo g a b → Next linked code a b
+goes_next linked code e g r a b d =
+    let s = edge_is linked code e g r d.from d.to d.edge in
+    let there = closed_from_reach linked code e g.addrs r.reach (get_or g.addrs d.from 0) s.1 (node_at g.addrs d.from s.0) s.2 in
     let q : s.1 ≡ b = sym (number_within g.addrs s.1 there).1 ∙ ap (λ n. get_or g.addrs n 0) s.3 ∙ d.at_to in
-    subst (λ (z : ℕ). Next code z b) d.at_from (subst (λ (z : ℕ). Next code (get_or g.addrs d.from 0) z) q s.2)
+    subst (λ (z : ℕ). Next linked code z b) d.at_from (subst (λ (z : ℕ). Next linked code (get_or g.addrs d.from 0) z) q s.2)
 
 enters_more : (A B : ℕ → ℕ → Type 0) → ((a b : ℕ) → A a b → B a b) → (c w : List ℕ) (a : ℕ) → Enters A c a w → Enters B c a w
 enters_more A B f c w a e = record { some = e.some; starts = e.starts; linked = λ k h. f _ _ (e.linked k h); apart = e.apart; ends = e.ends }
 
-pub shows_code : (code : Bytes) (e : ℕ) (g : GraphOf) (c f s : List ℕ) → IsGraphOf code e g → ShowsTwoEntries (GoesTo g) (entry_at g) c f s → ShowsTwoEntries (Next code) e c f s
-shows_code code e g c f s r t = subst (λ (z : ℕ). ShowsTwoEntries (Next code) z c f s) (entry_is code e g r) (record {
-  cycle_is = record { some = t.cycle_is.some; linked = λ k h. goes_next code e g r _ _ (t.cycle_is.linked k h); closed = goes_next code e g r _ _ t.cycle_is.closed; different = t.cycle_is.different };
-  enters_first = enters_more (GoesTo g) (Next code) (goes_next code e g r) c f (entry_at g) t.enters_first;
-  enters_second = enters_more (GoesTo g) (Next code) (goes_next code e g r) c s (entry_at g) t.enters_second;
+pub shows_code : (linked : Bool) (code : Bytes) (e : ℕ) (g : GraphOf) (c f s : List ℕ) → IsGraphOf linked code e g → ShowsTwoEntries (GoesTo g) (entry_at g) c f s → ShowsTwoEntries (Next linked code) e c f s
+shows_code linked code e g c f s r t = subst (λ (z : ℕ). ShowsTwoEntries (Next linked code) z c f s) (entry_is linked code e g r) (record {
+  cycle_is = record { some = t.cycle_is.some; linked = λ k h. goes_next linked code e g r _ _ (t.cycle_is.linked k h); closed = goes_next linked code e g r _ _ t.cycle_is.closed; different = t.cycle_is.different };
+  enters_first = enters_more (GoesTo g) (Next linked code) (goes_next linked code e g r) c f (entry_at g) t.enters_first;
+  enters_second = enters_more (GoesTo g) (Next linked code) (goes_next linked code e g r) c s (entry_at g) t.enters_second;
   differ = t.differ;
 })
 

@@ -1,6 +1,6 @@
 //! Laws of forests. These functions do nothing: their contracts are the laws. Each speaks of the definitions alone.
 
-ghost use Rattle.std.specs.Prelude.{◌≡◌, ◌+◌, ◌<◌, ℕ, List, Some, length};
+ghost use Rattle.std.specs.Prelude.{◌≡◌, ◌+◌, ◌<◌, ℕ, List, Some, length, Bool};
 ghost use Rattle.rv_words.specs.Bytes.{Bytes};
 ghost use Rattle.flow_graph.specs.Flow.{Next};
 ghost use Rattle.flow_graph.specs.Graph.{GraphOf, IsFlow, IsGraphOf};
@@ -29,8 +29,8 @@ pub fn law_of_depths()
 
 /// Two entries between the addresses of a graph are two entries of its code, and the other way.
 pub fn law_of_two_entries()
-    ensures shown { (code : Bytes) (e : ℕ) (g : GraphOf) (cycle first second : List ℕ) → IsGraphOf code e g
-        → ShowsTwoEntries (GoesTo g) (entry_at g) cycle first second → ShowsTwoEntries (Next code) e cycle first second }
-    ensures none { (code : Bytes) (e : ℕ) (g : GraphOf) (f : ForestOf) → IsGraphOf code e g → IsForestOf g f → TwoEntries (Next code) e → ⊥ }
-    ensures none_where_many { (code : Bytes) (e : ℕ) (g : GraphOf) (a : ℕ) → IsGraphOf code e g → IsMany g a → TwoEntries (Next code) e → ⊥ }
+    ensures shown { (linked : Bool) (code : Bytes) (e : ℕ) (g : GraphOf) (cycle first second : List ℕ) → IsGraphOf linked code e g
+        → ShowsTwoEntries (GoesTo g) (entry_at g) cycle first second → ShowsTwoEntries (Next linked code) e cycle first second }
+    ensures none { (linked : Bool) (code : Bytes) (e : ℕ) (g : GraphOf) (f : ForestOf) → IsGraphOf linked code e g → IsForestOf g f → TwoEntries (Next linked code) e → ⊥ }
+    ensures none_where_many { (linked : Bool) (code : Bytes) (e : ℕ) (g : GraphOf) (a : ℕ) → IsGraphOf linked code e g → IsMany g a → TwoEntries (Next linked code) e → ⊥ }
 {}

@@ -1,5 +1,5 @@
 -- What the parts of a graph are while it is built.
-use Rattle.std.specs.Prelude.{◌≡◌, ℕ, ◌<◌, List, length, map, take, slice_index, Some, Ok, Err}
+use Rattle.std.specs.Prelude.{◌≡◌, ℕ, ◌<◌, Bool, List, length, map, take, slice_index, Some, Ok, Err}
 use Rattle.std.specs.List.{Contains}
 use Rattle.rv_words.specs.Bytes.{Bytes}
 use Rattle.rv_decode.specs.declared.instruction.Instr.{Instr}
@@ -10,19 +10,19 @@ use Rattle.rvc.specs.Number.{number_in}
 use Rattle.flow_graph.specs.Flow.{look, Next}
 
 -- the numbers and instructions at these addresses, none of which has a fault and which lead to each other alone
-pub record AreOf (code : Bytes) (nodes numbers : List ℕ) (instrs : List Instr) : Type 0 where
+pub record AreOf (linked : Bool) (code : Bytes) (nodes numbers : List ℕ) (instrs : List Instr) : Type 0 where
   pub numbers_are : map (λ w. Some w) numbers ≡ map (number_in code) nodes
-  pub same : map (λ i. Ok i) instrs ≡ map (look code) nodes
-  pub closed : (a b : ℕ) → Contains nodes a → Next code a b → Contains nodes b
+  pub same : map (λ i. Ok i) instrs ≡ map (look linked code) nodes
+  pub closed : (a b : ℕ) → Contains nodes a → Next linked code a b → Contains nodes b
 
 -- the first of these addresses that has a fault has this one
-pub record IsFirst (code : Bytes) (nodes : List ℕ) (why : Fault) : Type 0 where
+pub record IsFirst (linked : Bool) (code : Bytes) (nodes : List ℕ) (why : Fault) : Type 0 where
   pub place : ℕ
   pub within : place < length nodes
-  pub fault : look code (slice_index nodes place) ≡ Err why
+  pub fault : look linked code (slice_index nodes place) ≡ Err why
   pub before : List Instr
-  pub fine : map (λ i. Ok i) before ≡ map (look code) (take place nodes)
+  pub fine : map (λ i. Ok i) before ≡ map (look linked code) (take place nodes)
 
-abbrev pub HasFault : Bytes → List ℕ → FlowFault → Type 0
-HasFault code nodes (Outside why) = IsFirst code nodes why
-HasFault code nodes NoMemory = Unit {0}
+abbrev pub HasFault : Bool → Bytes → List ℕ → FlowFault → Type 0
+HasFault linked code nodes (Outside why) = IsFirst linked code nodes why
+HasFault linked code nodes NoMemory = Unit {0}

@@ -192,6 +192,86 @@ fn graphs_are_built(rt: HostRuntime) -> Result<(), Fail> {
     Ok(())
 }
 
+/// Programs at 0x10000 of linked functions: the address of the first call, and the nodes of the graph.
+static LINKED: [(&[u32], u64, &[Row]); 2] = [
+    (
+        &[CALL, RETURN],
+        0x10000,
+        &[(0x10000, &[1], &[]), (0x10004, &[], &[0])],
+    ),
+    // a call in a loop: beq x10, x0, 12; jal x1, 8; jal x0, -8
+    (
+        &[0x00050663, CALL, 0xff9ff06f, RETURN],
+        0x10004,
+        &[
+            (0x10000, &[1, 3], &[2]),
+            (0x10004, &[2], &[0]),
+            (0x10008, &[0], &[1]),
+            (0x1000c, &[], &[0]),
+        ],
+    ),
+];
+
+/// .. as linked functions.
+fn built_linked(alloc: Global, words: &[u32]) -> Option<Result<Graph, FlowFault>> {
+    let image = image(alloc, &[(0x10000, words.len() as u64)], words)?;
+    Some(build_linked(alloc, &image, 0x10000))
+}
+
+#[test]
+fn calls_come_back_in_linked_functions(rt: HostRuntime) -> Result<(), Fail> {
+    for &(words, call, rows) in &LINKED {
+        let fault = refusal(rt.alloc(), words, 0x10000);
+        assert!(rt;
+            fault == Some((7, call, 0)),
+            "the call at {call:#x} of a function alone"
+        );
+        let graph = built_linked(rt.alloc(), words);
+        let right = matches!(&graph, Some(Ok(g)) if are_as(g, rows) && g.entry() == 0);
+        assert!(rt; right, "the linked program of {} words", words.len());
+    }
+    Ok(())
+}
+
+/// Programs at 0x10000, alone or of linked functions, and the addresses that are reached.
+static REACHED: [(bool, &[u32], &[u64]); 4] = [
+    // beq x10, x0, 8, a call of the environment, a return
+    (
+        false,
+        &[0x00050463, ENVIRONMENT, RETURN],
+        &[0x10000, 0x10004, 0x10008],
+    ),
+    // code that goes on behind its end
+    (false, &[ADD], &[0x10000, 0x10004]),
+    (false, &[CALL, RETURN], &[0x10000]),
+    (true, &[CALL, RETURN], &[0x10000, 0x10004]),
+];
+
+/// Whether exactly these addresses are reached.
+fn are_reached(alloc: Global, linked: bool, words: &[u32], addresses: &[u64]) -> Option<bool> {
+    let image = image(alloc, &[(0x10000, words.len() as u64)], words)?;
+    let found = reached(alloc, linked, &image, 0x10000).ok()??;
+    for &a in addresses {
+        if found.place(a).is_none() {
+            return Some(false);
+        }
+    }
+    Some(found.len() == addresses.len())
+}
+
+#[test]
+fn faulty_addresses_are_reached(rt: HostRuntime) -> Result<(), Fail> {
+    for &(linked, words, addresses) in &REACHED {
+        let right = are_reached(rt.alloc(), linked, words, addresses);
+        assert!(rt;
+            right == Some(true),
+            "what is reached of {} words",
+            words.len()
+        );
+    }
+    Ok(())
+}
+
 /// Whether an instruction of that length stands at a node, as that parcel or word.
 fn stands(g: &Graph, n: u32, number: u32, length: u8) -> bool {
     n < g.len() && g.number(n) == number && g.length(n) == length

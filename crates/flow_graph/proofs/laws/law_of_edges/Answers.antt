@@ -7,6 +7,6 @@ pub returns : goal.returns
 returns c = record {
   successors = successors_are;
   both_lists = λ g. both_lists g.edges;
-  instructions = λ code e g r. sym r.instrs;
+  instructions = λ linked code e g r. sym r.instrs;
   flow = is_flow;
 }

@@ -6,6 +6,6 @@ use Rattle.loop_forest.proofs.laws.law_of_two_entries.Goals as goal
 pub returns : goal.returns
 returns c = record {
   shown = shows_code;
-  none = λ code e g f r is t. code_settled code e g (number_of f) r is.settled t;
-  none_where_many = λ code e g a r m t. m.one_entry (two_entries_back code e g r t);
+  none = λ linked code e g f r is t. code_settled linked code e g (number_of f) r is.settled t;
+  none_where_many = λ linked code e g a r m t. m.one_entry (two_entries_back linked code e g r t);
 }
