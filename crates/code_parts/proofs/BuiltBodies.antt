@@ -18,7 +18,7 @@ use Rattle.triple_kernel.specs.declared.form.Form.TheVariants.{Next, Taken}
 use Rattle.instr_axioms.specs.Terms.{word_in}
 use Rattle.code_parts.specs.declared.part.Part.{Part}
 use Rattle.code_parts.specs.declared.part.Part.TheVariants.{Loop, Rest}
-use Rattle.code_parts.specs.Bodies.{Flow, VariableMap, size, Straight, action_body, action_of, arms_over, body_at, index_of, names, needs, part_body, place_after, rest_body, start, writes}
+use Rattle.code_parts.specs.Bodies.{Flow, VariableMap, size, Straight, action_body, action_calling, action_of, arms_over, body_at, index_of, names, needs, part_body, place_after, rest_body, start, writes}
 use Rattle.code_parts.specs.Graph.{has_edge, is_return}
 use Rattle.code_parts.specs.inner.Ends.{body_on, returned_body}
 
@@ -83,19 +83,19 @@ part_head f p r n l is some = (λ i. rest_body 32 f p n (sym some i)) ∙ (λ i.
 abbrev pub IsNoBranch : Instr → Type 0
 IsNoBranch i = (c : Cmp) (rs1 rs2 : ℕ) (offset : ℤ) → i ≡ instr.Branch c rs1 rs2 offset → ⊥
 
-straight : (i : Instr) → IsNoBranch i → is_return i ≡ false → (a k : ℕ) (to : Form → ℕ) (v : VariableMap) → action_of i a k to v ≡ Straight (needs i v ++ writes i a k v) (place_after i v) (to Next)
-straight (instr.Op o rd rs1 rs2) b j a k to v = refl
-straight (instr.OpImm o rd rs1 imm) b j a k to v = refl
-straight (instr.Lui rd imm) b j a k to v = refl
-straight (instr.Auipc rd imm) b j a k to v = refl
-straight (instr.Jal rd offset) b j a k to v = refl
-straight (instr.Jalr rd rs1 imm) b j a k to v = absurd (cc)
-straight (instr.Branch c rs1 rs2 offset) b j a k to v = absurd (b c rs1 rs2 offset refl)
-straight (instr.Load w signed rd rs1 imm) b j a k to v = refl
-straight (instr.Store w rs1 rs2 imm) b j a k to v = refl
-straight (instr.Fence imm rs1 rd) b j a k to v = refl
-straight instr.Ecall b j a k to v = refl
-straight instr.Ebreak b j a k to v = refl
+straight : (i : Instr) → IsNoBranch i → is_return i ≡ false → (a k q : ℕ) (to : Form → ℕ) (v : VariableMap) → action_of i a k q to v ≡ Straight (needs i q v ++ writes i a k q v) (place_after i q v) (to Next)
+straight (instr.Op o rd rs1 rs2) b j a k q to v = refl
+straight (instr.OpImm o rd rs1 imm) b j a k q to v = refl
+straight (instr.Lui rd imm) b j a k q to v = refl
+straight (instr.Auipc rd imm) b j a k q to v = refl
+straight (instr.Jal rd offset) b j a k q to v = refl
+straight (instr.Jalr rd rs1 imm) b j a k q to v = absurd (cc)
+straight (instr.Branch c rs1 rs2 offset) b j a k q to v = absurd (b c rs1 rs2 offset refl)
+straight (instr.Load w signed rd rs1 imm) b j a k q to v = refl
+straight (instr.Store w rs1 rs2 imm) b j a k q to v = refl
+straight (instr.Fence imm rs1 rd) b j a k q to v = refl
+straight instr.Ecall b j a k q to v = refl
+straight instr.Ebreak b j a k q to v = refl
 
 pub straight_edge : (i : Instr) → IsNoBranch i → is_return i ≡ false → has_edge i Next ≡ true
 straight_edge (instr.Op o rd rs1 rs2) b j = refl
@@ -111,9 +111,12 @@ straight_edge (instr.Fence imm rs1 rd) b j = refl
 straight_edge instr.Ecall b j = refl
 straight_edge instr.Ebreak b j = refl
 
-at-room : (room : ℕ) (f : Flow) (p : Part) (n : ℕ) (v : VariableMap) → (room ≡ 0 → ⊥) → action_body f p (action_of (f.instr n) (f.addr n) (size f n) (f.to n) v) v (body_at (room - 1) f p) ≡ body_at room f p n v
-at-room zero f p n v some = absurd (some refl)
-at-room (suc room) f p n v some = let less : suc room - 1 ≡ room = omega arith in λ i. action_body f p (action_of (f.instr n) (f.addr n) (size f n) (f.to n) v) v (body_at (less i) f p)
+at-room : (room : ℕ) (f : Flow) (p : Part) (n : ℕ) (v : VariableMap) → f.callee n ≡ None → (room ≡ 0 → ⊥) → action_body f p (action_of (f.instr n) (f.addr n) (size f n) (f.uses n) (f.to n) v) v (body_at (room - 1) f p) ≡ body_at room f p n v
+at-room zero f p n v none some = absurd (some refl)
+at-room (suc room) f p n v none some =
+    let less : suc room - 1 ≡ room = omega arith in
+    (λ i. action_body f p (action_of (f.instr n) (f.addr n) (size f n) (f.uses n) (f.to n) v) v (body_at (less i) f p))
+    ∙ (λ i. action_body f p (action_calling (sym none i) (f.instr n) (f.addr n) (size f n) (f.uses n) (f.to n) v) v (body_at room f p))
 
 -- a body that goes on with one of two
 pub two_ways : (b : Body) (c : Cond) (x y : Box Body Global) (ss : List StepTree) (d : CondTree) (p q : BodyTree) → map step_tree b.steps ≡ ss → b.end ≡ end.Branch c x y → cond_tree c ≡ d →
@@ -122,35 +125,35 @@ two_ways b c x y ss d p q steps is test first second =
     view_body b ∙ (λ i. with_steps (steps i) (end_tree (is i))) ∙ (λ i. with_steps ss (view_branch c x y i)) ∙ (λ i. with_steps ss (Branch (test i) (first i) (second i)))
 
 -- .. that goes on to one node, after these steps and its own
-pub goes_straight : (f : Flow) (p : Part) (n room : ℕ) (v : VariableMap) (i : Instr) (steps all : List StepTree) → i ≡ f.instr n → IsNoBranch i → is_return i ≡ false → (room ≡ 0 → ⊥)
-    → all ≡ steps ++ (needs i v ++ writes i (f.addr n) (size f n) v) → with_steps all (body_on (room - 1) f p (f.to n Next) (place_after i v)) ≡ with_steps steps (body_at room f p n v)
-goes_straight f p n room v i steps all is b j some made =
-    (λ k. with_steps (made k) (body_on (room - 1) f p (f.to n Next) (place_after i v)))
-    ∙ steps-append steps (needs i v ++ writes i (f.addr n) (size f n) v) (body_on (room - 1) f p (f.to n Next) (place_after i v))
-    ∙ ap (with_steps steps) ((λ k. action_body f p (sym (straight i b j (f.addr n) (size f n) (f.to n) v) k) v (body_at (room - 1) f p))
-    ∙ (λ k. action_body f p (action_of (is k) (f.addr n) (size f n) (f.to n) v) v (body_at (room - 1) f p)) ∙ at-room room f p n v some)
+pub goes_straight : (f : Flow) (p : Part) (n room : ℕ) (v : VariableMap) (i : Instr) (steps all : List StepTree) → f.callee n ≡ None → i ≡ f.instr n → IsNoBranch i → is_return i ≡ false → (room ≡ 0 → ⊥)
+    → all ≡ steps ++ (needs i (f.uses n) v ++ writes i (f.addr n) (size f n) (f.uses n) v) → with_steps all (body_on (room - 1) f p (f.to n Next) (place_after i (f.uses n) v)) ≡ with_steps steps (body_at room f p n v)
+goes_straight f p n room v i steps all none is b j some made =
+    (λ k. with_steps (made k) (body_on (room - 1) f p (f.to n Next) (place_after i (f.uses n) v)))
+    ∙ steps-append steps (needs i (f.uses n) v ++ writes i (f.addr n) (size f n) (f.uses n) v) (body_on (room - 1) f p (f.to n Next) (place_after i (f.uses n) v))
+    ∙ ap (with_steps steps) ((λ k. action_body f p (sym (straight i b j (f.addr n) (size f n) (f.uses n) (f.to n) v) k) v (body_at (room - 1) f p))
+    ∙ (λ k. action_body f p (action_of (is k) (f.addr n) (size f n) (f.uses n) (f.to n) v) v (body_at (room - 1) f p)) ∙ at-room room f p n v none some)
 
-pub goes_two_ways : (f : Flow) (p : Part) (n room : ℕ) (v : VariableMap) (i : Instr) (c : Cmp) (rs1 rs2 : ℕ) (offset : ℤ) → i ≡ f.instr n → i ≡ instr.Branch c rs1 rs2 offset → (room ≡ 0 → ⊥)
-    → Branch (Compare c (word_in (names v) rs1) (word_in (names v) rs2)) (body_on (room - 1) f p (f.to n Taken) v) (body_on (room - 1) f p (f.to n Next) v) ≡ body_at room f p n v
-goes_two_ways f p n room v i c rs1 rs2 offset is branch some =
-    (λ k. action_body f p (action_of (sym branch k) (f.addr n) (size f n) (f.to n) v) v (body_at (room - 1) f p))
-    ∙ (λ k. action_body f p (action_of (is k) (f.addr n) (size f n) (f.to n) v) v (body_at (room - 1) f p)) ∙ at-room room f p n v some
+pub goes_two_ways : (f : Flow) (p : Part) (n room : ℕ) (v : VariableMap) (i : Instr) (c : Cmp) (rs1 rs2 : ℕ) (offset : ℤ) → f.callee n ≡ None → i ≡ f.instr n → i ≡ instr.Branch c rs1 rs2 offset → (room ≡ 0 → ⊥)
+    → Branch (Compare c (word_in (names v (f.uses n)) rs1) (word_in (names v (f.uses n)) rs2)) (body_on (room - 1) f p (f.to n Taken) v) (body_on (room - 1) f p (f.to n Next) v) ≡ body_at room f p n v
+goes_two_ways f p n room v i c rs1 rs2 offset none is branch some =
+    (λ k. action_body f p (action_of (sym branch k) (f.addr n) (size f n) (f.uses n) (f.to n) v) v (body_at (room - 1) f p))
+    ∙ (λ k. action_body f p (action_of (is k) (f.addr n) (size f n) (f.uses n) (f.to n) v) v (body_at (room - 1) f p)) ∙ at-room room f p n v none some
 
-return-body : (f : Flow) (p : Part) (i : Instr) (a k : ℕ) (to : Form → ℕ) (v : VariableMap) (go : ℕ → VariableMap → BodyTree) → is_return i ≡ true → returned_body f i a k v ≡ action_body f p (action_of i a k to v) v go
-return-body f p (instr.Jalr rd rs1 imm) a k to v go is = refl
-return-body f p (instr.Op o rd rs1 rs2) a k to v go is = absurd (cc)
-return-body f p (instr.OpImm o rd rs1 imm) a k to v go is = absurd (cc)
-return-body f p (instr.Lui rd imm) a k to v go is = absurd (cc)
-return-body f p (instr.Auipc rd imm) a k to v go is = absurd (cc)
-return-body f p (instr.Jal rd offset) a k to v go is = absurd (cc)
-return-body f p (instr.Branch c rs1 rs2 offset) a k to v go is = absurd (cc)
-return-body f p (instr.Load w signed rd rs1 imm) a k to v go is = absurd (cc)
-return-body f p (instr.Store w rs1 rs2 imm) a k to v go is = absurd (cc)
-return-body f p (instr.Fence imm rs1 rd) a k to v go is = absurd (cc)
-return-body f p instr.Ecall a k to v go is = absurd (cc)
-return-body f p instr.Ebreak a k to v go is = absurd (cc)
+return-body : (f : Flow) (p : Part) (i : Instr) (a k q : ℕ) (to : Form → ℕ) (v : VariableMap) (go : ℕ → VariableMap → BodyTree) → is_return i ≡ true → returned_body f i a k q v ≡ action_body f p (action_of i a k q to v) v go
+return-body f p (instr.Jalr rd rs1 imm) a k q to v go is = refl
+return-body f p (instr.Op o rd rs1 rs2) a k q to v go is = absurd (cc)
+return-body f p (instr.OpImm o rd rs1 imm) a k q to v go is = absurd (cc)
+return-body f p (instr.Lui rd imm) a k q to v go is = absurd (cc)
+return-body f p (instr.Auipc rd imm) a k q to v go is = absurd (cc)
+return-body f p (instr.Jal rd offset) a k q to v go is = absurd (cc)
+return-body f p (instr.Branch c rs1 rs2 offset) a k q to v go is = absurd (cc)
+return-body f p (instr.Load w signed rd rs1 imm) a k q to v go is = absurd (cc)
+return-body f p (instr.Store w rs1 rs2 imm) a k q to v go is = absurd (cc)
+return-body f p (instr.Fence imm rs1 rd) a k q to v go is = absurd (cc)
+return-body f p instr.Ecall a k q to v go is = absurd (cc)
+return-body f p instr.Ebreak a k q to v go is = absurd (cc)
 
-pub goes_back : (f : Flow) (p : Part) (n room : ℕ) (v : VariableMap) (i : Instr) → i ≡ f.instr n → is_return i ≡ true → (room ≡ 0 → ⊥) → returned_body f i (f.addr n) (size f n) v ≡ body_at room f p n v
-goes_back f p n room v i is jump some =
-    return-body f p i (f.addr n) (size f n) (f.to n) v (body_at (room - 1) f p) jump
-    ∙ (λ k. action_body f p (action_of (is k) (f.addr n) (size f n) (f.to n) v) v (body_at (room - 1) f p)) ∙ at-room room f p n v some
+pub goes_back : (f : Flow) (p : Part) (n room : ℕ) (v : VariableMap) (i : Instr) → f.callee n ≡ None → i ≡ f.instr n → is_return i ≡ true → (room ≡ 0 → ⊥) → returned_body f i (f.addr n) (size f n) (f.uses n) v ≡ body_at room f p n v
+goes_back f p n room v i none is jump some =
+    return-body f p i (f.addr n) (size f n) (f.uses n) (f.to n) v (body_at (room - 1) f p) jump
+    ∙ (λ k. action_body f p (action_of (is k) (f.addr n) (size f n) (f.uses n) (f.to n) v) v (body_at (room - 1) f p)) ∙ at-room room f p n v none some

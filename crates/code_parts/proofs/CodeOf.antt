@@ -1,5 +1,5 @@
 -- The code of a graph has the bytes of each instruction.
-use Rattle.std.proofs.Common.{◌≡◌, ℕ, ◌+◌, ◌-◌, List, get_or, leb, true, cond, sym, ap, ◌∙◌, arith, Some, None}
+use Rattle.std.proofs.Common.{◌≡◌, ℕ, ◌+◌, ◌-◌, List, get_or, leb, Bool, true, cond, sym, ap, ◌∙◌, arith, Some, None}
 use Rattle.std.proofs.lemmas.Bool.Decides.{nat_tests}
 use Rattle.std.specs.Prelude.{slice_get}
 use Rattle.std.specs.Option.{option_or}
@@ -17,9 +17,9 @@ byte_here a k b bs e =
     let place : a + k - a ≡ k = omega arith in
     (λ i. option_or (cond (low i) (slice_get bs (place i)) None) None) ∙ ap (λ o. option_or o None) e
 
-pub have_code : (g : GraphOf) (reached : IsReached g) (ranges : List Range) → AreCodeOf g ranges → HaveCode g reached.code ranges
-have_code g reached ranges whole n k b lt low e =
+pub have_code : (linked : Bool) (g : GraphOf) (reached : IsReached linked g) (ranges : List Range) → AreCodeOf g ranges → HaveCode g reached.code ranges
+have_code linked g reached ranges whole n k b lt low e =
     let w : ℕ = get_or g.numbers n 0 in
-    let there = number-there g reached n lt in
+    let there = number-there linked g reached n lt in
     whole.each n lt (get_or g.addrs n 0 + k) b
     (byte_here (get_or g.addrs n 0) k b (bytes_of w) (sym (number-bytes reached.code (get_or g.addrs n 0) w reached.bytes there.1 there.0 k low) ∙ e))

@@ -34,33 +34,33 @@ pub need-mems : (cs : List CondTree) (mems : ℕ) → all_mems_after (map Need c
 need-mems [] mems = refl
 need-mems (c ∷ cs) mems = need-mems cs mems
 
-write-words : (i : Instr) (a k : ℕ) (v : VariableMap) → all_words_after (writes i a k v) v.words ≡ (place_after i v).words
-write-words i a k v = go (is_store i) (eqb (destination i) 0)
+write-words : (i : Instr) (a k m : ℕ) (v : VariableMap) → all_words_after (writes i a k m v) v.words ≡ (place_after i m v).words
+write-words i a k m v = go (is_store i) (eqb (destination i) 0)
   where
-    go : (s d : Bool) → all_words_after (cond s (BindMem (memory_after i (names v)) ∷ []) (cond d [] (Bind (result i a k (names v)) ∷ []))) v.words
-        ≡ (cond s (stored v) (cond d v (record { words = suc v.words; mems = v.mems; reg = λ q. cond (eqb q (destination i)) v.words (v.reg q); memory = v.memory }))).words
+    go : (s d : Bool) → all_words_after (cond s (BindMem (memory_after i (names v m)) ∷ []) (cond d [] (Bind (result i a k (names v m)) ∷ []))) v.words
+        ≡ (cond s (stored m v) (cond d v (record { words = suc v.words; mems = v.mems; reg = λ q. cond (eqb q (destination i)) v.words (v.reg q); memory = v.memory }))).words
     go true d = refl
     go false true = refl
     go false false = omega arith
 
-write-mems : (i : Instr) (a k : ℕ) (v : VariableMap) → all_mems_after (writes i a k v) v.mems ≡ (place_after i v).mems
-write-mems i a k v = go (is_store i) (eqb (destination i) 0)
+write-mems : (i : Instr) (a k m : ℕ) (v : VariableMap) → all_mems_after (writes i a k m v) v.mems ≡ (place_after i m v).mems
+write-mems i a k m v = go (is_store i) (eqb (destination i) 0)
   where
-    go : (s d : Bool) → all_mems_after (cond s (BindMem (memory_after i (names v)) ∷ []) (cond d [] (Bind (result i a k (names v)) ∷ []))) v.mems
-        ≡ (cond s (stored v) (cond d v (record { words = suc v.words; mems = v.mems; reg = λ q. cond (eqb q (destination i)) v.words (v.reg q); memory = v.memory }))).mems
+    go : (s d : Bool) → all_mems_after (cond s (BindMem (memory_after i (names v m)) ∷ []) (cond d [] (Bind (result i a k (names v m)) ∷ []))) v.mems
+        ≡ (cond s (stored m v) (cond d v (record { words = suc v.words; mems = v.mems; reg = λ q. cond (eqb q (destination i)) v.words (v.reg q); memory = v.memory }))).mems
     go true d = omega arith
     go false true = refl
     go false false = refl
 
-pub all-words : (i : Instr) (a k : ℕ) (v : VariableMap) → all_words_after (needs i v ++ writes i a k v) v.words ≡ (place_after i v).words
-all-words i a k v =
-    let cs : List CondTree = conditions i Next (names v) in
-    words-append (map Need cs) (writes i a k v) v.words ∙ (λ j. all_words_after (writes i a k v) (need-words cs v.words j)) ∙ write-words i a k v
+pub all-words : (i : Instr) (a k m : ℕ) (v : VariableMap) → all_words_after (needs i m v ++ writes i a k m v) v.words ≡ (place_after i m v).words
+all-words i a k m v =
+    let cs : List CondTree = conditions i Next (names v m) in
+    words-append (map Need cs) (writes i a k m v) v.words ∙ (λ j. all_words_after (writes i a k m v) (need-words cs v.words j)) ∙ write-words i a k m v
 
-pub all-mems : (i : Instr) (a k : ℕ) (v : VariableMap) → all_mems_after (needs i v ++ writes i a k v) v.mems ≡ (place_after i v).mems
-all-mems i a k v =
-    let cs : List CondTree = conditions i Next (names v) in
-    mems-append (map Need cs) (writes i a k v) v.mems ∙ (λ j. all_mems_after (writes i a k v) (need-mems cs v.mems j)) ∙ write-mems i a k v
+pub all-mems : (i : Instr) (a k m : ℕ) (v : VariableMap) → all_mems_after (needs i m v ++ writes i a k m v) v.mems ≡ (place_after i m v).mems
+all-mems i a k m v =
+    let cs : List CondTree = conditions i Next (names v m) in
+    mems-append (map Need cs) (writes i a k m v) v.mems ∙ (λ j. all_mems_after (writes i a k m v) (need-mems cs v.mems j)) ∙ write-mems i a k m v
 
 -- a store writes no register
 pub store-writes_none : (i : Instr) → is_store i ≡ true → destination i ≡ 0

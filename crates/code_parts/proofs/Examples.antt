@@ -2,7 +2,7 @@
 use Rattle.std.proofs.Common.{◌≡◌, ℕ, zero, suc, [], ◌∷◌, List, map, refl, sym, ap, subst, arith, ◌<◌, inl, inr, true, false, Option, Some, None, ◌-◌}
 use Rattle.std.specs.Prelude.{◌==◌, if◌then◌else◌, slice_index_or, slice_get, pos, neg_ℤ}
 use Rattle.rv_words.specs.declared.operation.Op.TheVariants.{Add, And}
-use Rattle.rv_words.specs.declared.comparison.Cmp.TheVariants.{Eq, Ne}
+use Rattle.rv_words.specs.declared.comparison.Cmp.TheVariants.{Ne}
 use Rattle.rv_words.specs.declared.width.Width.TheVariants.{B8}
 use Rattle.rv_decode.specs.declared.instruction.Instr.{Instr}
 use Rattle.rv_decode.specs.declared.instruction.Instr.TheVariants as instr
@@ -59,7 +59,9 @@ summing = record {
   returns = true;
   number = numbers;
   regs = 1 ∷ 10 ∷ 11 ∷ [];
-  has_mem = false;
+  mems = 0;
+  uses = λ n. 0;
+  callee = λ n. None;
 }
 
 abbrev variables : List ℕ → ValuesTree
@@ -100,6 +102,7 @@ summing-graph = record {
   cut_inner = cut_inner;
   head_is = head_is;
   loop_head = λ l lt. (omega arith, ap Some (let z : 0 ≡ l = omega (arith, lt) in z));
+  calls = λ n c lt e. absurd (cc);
   loop_exit = λ l k x lt at. loop_exit k x at;
 }
   where
@@ -181,7 +184,9 @@ storing = record {
   returns = true;
   number = λ p. 0;
   regs = 1 ∷ 10 ∷ 11 ∷ [];
-  has_mem = true;
+  mems = 1;
+  uses = λ n. 0;
+  callee = λ n. None;
 }
 
 storing-whole : part_def storing (Rest None 0) ≡ record {
@@ -223,7 +228,8 @@ module _ (code : List Range) (bytes : (n : ℕ) → n < 4 → IsWithin (range_by
     writes = λ ne. (1, omega arith, refl);
     memory = λ e. absurd (cc);
     form = forms;
-    goes = goes;
+    goes = λ form v none e. goes form v e;
+    calls = λ c e. absurd (let clash : None ≡ Some c = e in cc);
     return_is = λ e. absurd (cc);
   }
     where
@@ -245,7 +251,8 @@ module _ (code : List Range) (bytes : (n : ℕ) → n < 4 → IsWithin (range_by
     writes = λ ne. (2, omega arith, refl);
     memory = λ e. absurd (cc);
     form = forms;
-    goes = goes;
+    goes = λ form v none e. goes form v e;
+    calls = λ c e. absurd (let clash : None ≡ Some c = e in cc);
     return_is = λ e. absurd (cc);
   }
     where
@@ -267,7 +274,8 @@ module _ (code : List Range) (bytes : (n : ℕ) → n < 4 → IsWithin (range_by
     writes = λ ne. absurd (ne refl);
     memory = λ e. absurd (cc);
     form = forms;
-    goes = goes;
+    goes = λ form v none e. goes form v e;
+    calls = λ c e. absurd (let clash : None ≡ Some c = e in cc);
     return_is = λ e. absurd (cc);
   }
     where
@@ -289,7 +297,8 @@ module _ (code : List Range) (bytes : (n : ℕ) → n < 4 → IsWithin (range_by
     writes = λ ne. absurd (ne refl);
     memory = λ e. absurd (cc);
     form = forms;
-    goes = goes;
+    goes = λ form v none e. goes form v e;
+    calls = λ c e. absurd (let clash : None ≡ Some c = e in cc);
     return_is = λ e. refl;
   }
     where
@@ -314,6 +323,7 @@ module _ (code : List Range) (bytes : (n : ℕ) → n < 4 → IsWithin (range_by
     listed = listed;
     part = part;
     below = below;
+    callees = λ n c lt e. absurd (cc);
   }
     where
       listed : (q : Part) → IsPart summing q → slice_get summing_parts (numbers q) ≡ Some q

@@ -1,5 +1,5 @@
 -- The instructions of a graph stand in code that has their bytes.
-use Rattle.std.proofs.Common.{◌≡◌, ℕ, zero, suc, ◌+◌, ◌-◌, ◌^◌, ◌<◌, ◌≤◌, List, [], ◌∷◌, length, get_or, Bool, true, false, cond, eqb, leb, ◌&&◌, refl, sym, ap, subst, ◌∙◌, arith, Option, None, Some, Result, Ok, Err, ℤ, pos, negsuc, eq-eqb}
+use Rattle.std.proofs.Common.{◌≡◌, ℕ, zero, suc, ◌+◌, ◌-◌, ◌^◌, ◌<◌, ◌≤◌, List, [], ◌∷◌, length, get_or, Bool, true, false, cond, eqb, leb, ◌&&◌, ◌||◌, refl, sym, ap, subst, ◌∙◌, arith, Option, None, Some, option_map, Result, Ok, Err, ℤ, pos, negsuc, eq-eqb}
 use Rattle.std.proofs.lemmas.Bool.{eqb-true, leb-true}
 use Rattle.std.proofs.lemmas.Option.{slice_get-get_or, slice_get_within}
 use Rattle.std.specs.Prelude.{slice_get}
@@ -19,73 +19,89 @@ use Rattle.word_terms.specs.Tree.{Const}
 use Rattle.sep_assert.specs.Code.{IsWithin}
 use Rattle.triple_kernel.specs.declared.form.Form.{Form}
 use Rattle.triple_kernel.specs.declared.form.Form.TheVariants.{Next, Taken}
-use Rattle.instr_axioms.specs.Terms.{Names, has_form, has_memory, pc_after}
+use Rattle.instr_axioms.specs.Terms.{Names, has_form, pc_after}
 use Rattle.instr_axioms.specs.Axiom.{is_own, word_code}
 use Rattle.flow_graph.specs.declared.outside.Outside.{Outside}
-use Rattle.flow_graph.specs.Flow.{StandsIn, admitted, is_zero, targets}
+use Rattle.flow_graph.specs.declared.outside.Outside.TheVariants.{Call}
+use Rattle.flow_graph.specs.Flow.{StandsIn, admitted, called_by, following, is_zero, target, targets}
 use Rattle.flow_graph.specs.Graph.{GraphOf, IsGraphOf}
 use Rattle.flow_graph.proofs.FlowLemmas.{is_flow}
 use Rattle.flow_graph.proofs.ExactLemmas.{graph_numbers}
 use Rattle.flow_graph.proofs.InstructionLemmas.{graph_stands, through_return}
 use Rattle.loop_forest.specs.Forest.{ForestOf, IsForestOf}
-use Rattle.code_parts.specs.declared.part.Part.{Part}
 use Rattle.tailrec_lang.specs.Registers.{AreRegistersFrom}
-use Rattle.code_parts.specs.Graph.{IsCode, StandsAt, has_edge, is_return}
-use Rattle.code_parts.specs.Flows.{HaveCode, edge_number, flow_of, registers_of}
+use Rattle.code_parts.specs.Bodies.{Callee}
+use Rattle.code_parts.specs.Graph.{IsCallTo, IsCode, StandsAt, has_edge, is_return}
+use Rattle.code_parts.specs.Flows.{HaveCode, IsSetFor, Setting, edge_number, flow_of, registers_of}
 use Rattle.code_parts.proofs.Lists.{in-true}
 use Rattle.code_parts.proofs.Registers.{filter-has, filter-rise, or_left, or_right}
 use Rattle.code_parts.proofs.FlowGraph.{any-at, edge-at}
 
 -- ---- instructions that may stand in a function
 
-form-is : (a : ℕ) (i : Instr) (form : Form) → admitted a i ≡ Ok i → has_edge i form ≡ true → has_form i form ≡ true
-form-is a (instr.Branch c rs1 rs2 offset) Next fine e = refl
-form-is a (instr.Branch c rs1 rs2 offset) Taken fine e = refl
-form-is a (instr.Jal rd offset) Next fine e = refl
-form-is a (instr.Jal rd offset) Taken fine e = absurd (cc)
-form-is a (instr.Jalr rd rs1 imm) form fine e = absurd (cc)
-form-is a (instr.Op o rd rs1 rs2) Next fine e = refl
-form-is a (instr.Op o rd rs1 rs2) Taken fine e = absurd (cc)
-form-is a (instr.OpImm o rd rs1 imm) Next fine e = refl
-form-is a (instr.OpImm o rd rs1 imm) Taken fine e = absurd (cc)
-form-is a (instr.Lui rd imm) Next fine e = refl
-form-is a (instr.Lui rd imm) Taken fine e = absurd (cc)
-form-is a (instr.Auipc rd imm) Next fine e = refl
-form-is a (instr.Auipc rd imm) Taken fine e = absurd (cc)
-form-is a (instr.Load w signed rd rs1 imm) Next fine e = refl
-form-is a (instr.Load w signed rd rs1 imm) Taken fine e = absurd (cc)
-form-is a (instr.Store w rs1 rs2 imm) Next fine e = refl
-form-is a (instr.Store w rs1 rs2 imm) Taken fine e = absurd (cc)
-form-is a (instr.Fence imm rs1 rd) Next fine e = refl
-form-is a (instr.Fence imm rs1 rd) Taken fine e = absurd (cc)
-form-is a instr.Ecall form fine e = absurd (cc)
-form-is a instr.Ebreak form fine e = absurd (cc)
+if_so : (t : Bool) (x : Result Instr Outside) (why : Outside) (i : Instr) → cond t x (Err why) ≡ Ok i → t ≡ true
+if_so true x why i e = refl
+if_so false x why i e = absurd (cc)
+
+form-is : (linked : Bool) (a : ℕ) (i : Instr) (form : Form) → admitted linked a i ≡ Ok i → has_edge i form ≡ true → has_form i form ≡ true
+form-is linked a (instr.Branch c rs1 rs2 offset) Next fine e = refl
+form-is linked a (instr.Branch c rs1 rs2 offset) Taken fine e = refl
+form-is linked a (instr.Jal rd offset) Next fine e = refl
+form-is linked a (instr.Jal rd offset) Taken fine e = absurd (cc)
+form-is linked a (instr.Jalr rd rs1 imm) form fine e = absurd (cc)
+form-is linked a (instr.Op o rd rs1 rs2) Next fine e = refl
+form-is linked a (instr.Op o rd rs1 rs2) Taken fine e = absurd (cc)
+form-is linked a (instr.OpImm o rd rs1 imm) Next fine e = refl
+form-is linked a (instr.OpImm o rd rs1 imm) Taken fine e = absurd (cc)
+form-is linked a (instr.Lui rd imm) Next fine e = refl
+form-is linked a (instr.Lui rd imm) Taken fine e = absurd (cc)
+form-is linked a (instr.Auipc rd imm) Next fine e = refl
+form-is linked a (instr.Auipc rd imm) Taken fine e = absurd (cc)
+form-is linked a (instr.Load w signed rd rs1 imm) Next fine e = refl
+form-is linked a (instr.Load w signed rd rs1 imm) Taken fine e = absurd (cc)
+form-is linked a (instr.Store w rs1 rs2 imm) Next fine e = refl
+form-is linked a (instr.Store w rs1 rs2 imm) Taken fine e = absurd (cc)
+form-is linked a (instr.Fence imm rs1 rd) Next fine e = refl
+form-is linked a (instr.Fence imm rs1 rd) Taken fine e = absurd (cc)
+form-is linked a instr.Ecall form fine e = absurd (cc)
+form-is linked a instr.Ebreak form fine e = absurd (cc)
 
 -- in each form it goes to that target
-target-is : (a k : ℕ) (i : Instr) (form : Form) (v : Names) → has_edge i form ≡ true → pc_after i form a k v ≡ Const (get_or (targets a k i) (edge_number form) 0)
-target-is a k (instr.Branch c rs1 rs2 offset) Next v e = refl
-target-is a k (instr.Branch c rs1 rs2 offset) Taken v e = refl
-target-is a k (instr.Jalr rd rs1 imm) form v e = absurd (cc)
-target-is a k (instr.Jal rd offset) Next v e = refl
-target-is a k (instr.Jal rd offset) Taken v e = absurd (cc)
-target-is a k (instr.Op o rd rs1 rs2) Next v e = refl
-target-is a k (instr.Op o rd rs1 rs2) Taken v e = absurd (cc)
-target-is a k (instr.OpImm o rd rs1 imm) Next v e = refl
-target-is a k (instr.OpImm o rd rs1 imm) Taken v e = absurd (cc)
-target-is a k (instr.Lui rd imm) Next v e = refl
-target-is a k (instr.Lui rd imm) Taken v e = absurd (cc)
-target-is a k (instr.Auipc rd imm) Next v e = refl
-target-is a k (instr.Auipc rd imm) Taken v e = absurd (cc)
-target-is a k (instr.Load w signed rd rs1 imm) Next v e = refl
-target-is a k (instr.Load w signed rd rs1 imm) Taken v e = absurd (cc)
-target-is a k (instr.Store w rs1 rs2 imm) Next v e = refl
-target-is a k (instr.Store w rs1 rs2 imm) Taken v e = absurd (cc)
-target-is a k (instr.Fence imm rs1 rd) Next v e = refl
-target-is a k (instr.Fence imm rs1 rd) Taken v e = absurd (cc)
-target-is a k instr.Ecall Next v e = refl
-target-is a k instr.Ecall Taken v e = absurd (cc)
-target-is a k instr.Ebreak Next v e = refl
-target-is a k instr.Ebreak Taken v e = absurd (cc)
+target-is : (linked : Bool) (a k : ℕ) (i : Instr) (form : Form) (v : Names) → admitted linked a i ≡ Ok i → called_by a i ≡ None → has_edge i form ≡ true → pc_after i form a k v ≡ Const (get_or (targets a k i) (edge_number form) 0)
+target-is linked a k (instr.Branch c rs1 rs2 offset) Next v fine none e = refl
+target-is linked a k (instr.Branch c rs1 rs2 offset) Taken v fine none e = refl
+target-is linked a k (instr.Jalr rd rs1 imm) form v fine none e = absurd (cc)
+target-is linked a k (instr.Jal rd offset) Next v fine none e =
+    by (eqb rd 0) (eqb rd 1) refl refl (if_so (eqb rd 0 || (linked && eqb rd 1)) (Ok (instr.Jal rd offset)) (Call a) (instr.Jal rd offset) fine) none
+  where
+    by : (x y : Bool) → eqb rd 0 ≡ x → eqb rd 1 ≡ y → (x || (linked && y)) ≡ true → cond y (Some (target a offset)) None ≡ None →
+        Const (target a offset) ≡ Const (get_or (cond (eqb rd 0) (target a offset) (following a k) ∷ []) 0 0)
+    by true y t u h q = λ j. Const (get_or (cond (sym t j) (target a offset) (following a k) ∷ []) 0 0)
+    by false true t u h q = absurd (cc)
+    by false false t u h q = absurd (neither linked h)
+      where
+        neither : (l : Bool) → (l && false) ≡ true → ⊥
+        neither true h = cc
+        neither false h = cc
+target-is linked a k (instr.Jal rd offset) Taken v fine none e = absurd (cc)
+target-is linked a k (instr.Op o rd rs1 rs2) Next v fine none e = refl
+target-is linked a k (instr.Op o rd rs1 rs2) Taken v fine none e = absurd (cc)
+target-is linked a k (instr.OpImm o rd rs1 imm) Next v fine none e = refl
+target-is linked a k (instr.OpImm o rd rs1 imm) Taken v fine none e = absurd (cc)
+target-is linked a k (instr.Lui rd imm) Next v fine none e = refl
+target-is linked a k (instr.Lui rd imm) Taken v fine none e = absurd (cc)
+target-is linked a k (instr.Auipc rd imm) Next v fine none e = refl
+target-is linked a k (instr.Auipc rd imm) Taken v fine none e = absurd (cc)
+target-is linked a k (instr.Load w signed rd rs1 imm) Next v fine none e = refl
+target-is linked a k (instr.Load w signed rd rs1 imm) Taken v fine none e = absurd (cc)
+target-is linked a k (instr.Store w rs1 rs2 imm) Next v fine none e = refl
+target-is linked a k (instr.Store w rs1 rs2 imm) Taken v fine none e = absurd (cc)
+target-is linked a k (instr.Fence imm rs1 rd) Next v fine none e = refl
+target-is linked a k (instr.Fence imm rs1 rd) Taken v fine none e = absurd (cc)
+target-is linked a k instr.Ecall Next v fine none e = refl
+target-is linked a k instr.Ecall Taken v fine none e = absurd (cc)
+target-is linked a k instr.Ebreak Next v fine none e = refl
+target-is linked a k instr.Ebreak Taken v fine none e = absurd (cc)
 
 all_three : (x y z : Bool) → (x && y && z) ≡ true → (x ≡ true) × (y ≡ true) × (z ≡ true)
 all_three true true true e = (refl, refl, refl)
@@ -97,24 +113,24 @@ zero-is : (z : ℤ) → is_zero z ≡ true → z ≡ pos 0
 zero-is (pos n) e = ap pos (eqb-true n 0 e)
 zero-is (negsuc n) e = absurd (cc)
 
-return-is : (a : ℕ) (i : Instr) → admitted a i ≡ Ok i → is_return i ≡ true → i ≡ instr.Jalr 0 1 (pos 0)
-return-is a (instr.Jalr rd rs1 imm) fine e =
-    let t = all_three (eqb rd 0) (eqb rs1 1) (is_zero imm) (through_return a rd rs1 imm fine) in
+return-is : (linked : Bool) (a : ℕ) (i : Instr) → admitted linked a i ≡ Ok i → is_return i ≡ true → i ≡ instr.Jalr 0 1 (pos 0)
+return-is linked a (instr.Jalr rd rs1 imm) fine e =
+    let t = all_three (eqb rd 0) (eqb rs1 1) (is_zero imm) (through_return linked a rd rs1 imm fine) in
     let x = eqb-true rd 0 t.0 in
     let y = eqb-true rs1 1 t.1 in
     let z = zero-is imm t.2 in
     λ j. instr.Jalr (x j) (y j) (z j)
-return-is a (instr.Branch c rs1 rs2 offset) fine e = absurd (cc)
-return-is a (instr.Jal rd offset) fine e = absurd (cc)
-return-is a (instr.Op o rd rs1 rs2) fine e = absurd (cc)
-return-is a (instr.OpImm o rd rs1 imm) fine e = absurd (cc)
-return-is a (instr.Lui rd imm) fine e = absurd (cc)
-return-is a (instr.Auipc rd imm) fine e = absurd (cc)
-return-is a (instr.Load w signed rd rs1 imm) fine e = absurd (cc)
-return-is a (instr.Store w rs1 rs2 imm) fine e = absurd (cc)
-return-is a (instr.Fence imm rs1 rd) fine e = absurd (cc)
-return-is a instr.Ecall fine e = absurd (cc)
-return-is a instr.Ebreak fine e = absurd (cc)
+return-is linked a (instr.Branch c rs1 rs2 offset) fine e = absurd (cc)
+return-is linked a (instr.Jal rd offset) fine e = absurd (cc)
+return-is linked a (instr.Op o rd rs1 rs2) fine e = absurd (cc)
+return-is linked a (instr.OpImm o rd rs1 imm) fine e = absurd (cc)
+return-is linked a (instr.Lui rd imm) fine e = absurd (cc)
+return-is linked a (instr.Auipc rd imm) fine e = absurd (cc)
+return-is linked a (instr.Load w signed rd rs1 imm) fine e = absurd (cc)
+return-is linked a (instr.Store w rs1 rs2 imm) fine e = absurd (cc)
+return-is linked a (instr.Fence imm rs1 rd) fine e = absurd (cc)
+return-is linked a instr.Ecall fine e = absurd (cc)
+return-is linked a instr.Ebreak fine e = absurd (cc)
 
 -- ---- registers
 
@@ -191,8 +207,8 @@ long-enough w = by_test (is_word w)
 
 -- ---- nodes
 
-module _ (code : Bytes) (entry : ℕ) (g : GraphOf) (f : ForestOf) (parts : List Part) (ranges : List Range)
-    (graph : IsGraphOf code entry g) (forest : IsForestOf g f) (bytes : AreBytes code) (have : HaveCode g code ranges) where
+module _ (linked : Bool) (code : Bytes) (entry : ℕ) (g : GraphOf) (f : ForestOf) (s : Setting) (ranges : List Range)
+    (graph : IsGraphOf linked code entry g) (forest : IsForestOf g f) (bytes : AreBytes code) (have : HaveCode g code ranges) (fits : IsSetFor g s) where
   abbrev address : ℕ → ℕ
   address n = get_or g.addrs n 0
 
@@ -200,20 +216,53 @@ module _ (code : Bytes) (entry : ℕ) (g : GraphOf) (f : ForestOf) (parts : List
   instr_at n = get_or g.instrs n instr.Ebreak
 
   instructed : (n : ℕ) → n < length g.addrs → n < length g.instrs
-  instructed n lt = let same = (is_flow code entry g graph).as_long in omega (arith, lt, same)
+  instructed n lt = let same = (is_flow linked code entry g graph).as_long in omega (arith, lt, same)
 
-  stands : (n : ℕ) → n < length g.addrs → StandsIn code (address n) (instr_at n)
-  stands n lt = graph_stands code entry g n (instr_at n) graph lt (slice_get-get_or g.instrs n instr.Ebreak (instructed n lt))
+  pub stands : (n : ℕ) → n < length g.addrs → StandsIn linked code (address n) (instr_at n)
+  stands n lt = graph_stands linked code entry g n (instr_at n) graph lt (slice_get-get_or g.instrs n instr.Ebreak (instructed n lt))
 
   -- the number that stands at a node
   number-there : (n : ℕ) → n < length g.addrs → (number_at code (address n) ≡ Some (get_or g.numbers n 0)) × (address n + length_of (get_or g.numbers n 0) ≤ 2 ^ 64)
-  number-there n lt = (number_in-is code (address n) (get_or g.numbers n 0)).0 (graph_numbers code entry g n graph lt)
+  number-there n lt = (number_in-is code (address n) (get_or g.numbers n 0)).0 (graph_numbers linked code entry g n graph lt)
 
   number-is : (n : ℕ) → n < length g.addrs → instruction_of (get_or g.numbers n 0) ≡ Some (instr_at n)
-  number-is n lt = let at = stands n lt in let same : at.number ≡ get_or g.numbers n 0 = same-some at.number (get_or g.numbers n 0) (sym at.there ∙ graph_numbers code entry g n graph lt) in ap instruction_of (sym same) ∙ at.is
+  number-is n lt = let at = stands n lt in let same : at.number ≡ get_or g.numbers n 0 = same-some at.number (get_or g.numbers n 0) (sym at.there ∙ graph_numbers linked code entry g n graph lt) in ap instruction_of (sym same) ∙ at.is
+
+  no_map : (h : ℕ → Callee) (o : Option ℕ) → option_map h o ≡ None → o ≡ None
+  no_map h None e = refl
+  no_map h (Some t) e = absurd (cc)
+
+  -- a call goes to the function at its target, and comes back
+  calling : (n : ℕ) → n < length g.addrs → (i : Instr) → instr_at n ≡ i → (c : Callee) → option_map s.functions (called_by (address n) i) ≡ Some c → IsCallTo (flow_of g f s) c n
+  calling n lt (instr.Jal rd offset) is c e = by (eqb rd 1) refl e
+    where
+      by : (y : Bool) → eqb rd 1 ≡ y → option_map s.functions (cond y (Some (target (address n) offset)) None) ≡ Some c → IsCallTo (flow_of g f s) c n
+      by false u e = absurd (cc)
+      by true u e =
+          let one : rd ≡ 1 = eqb-true rd 1 u in
+          let same : s.functions (target (address n) offset) ≡ c = cc in
+          let jal : instr_at n ≡ instr.Jal 1 offset = is ∙ (λ j. instr.Jal (one j) offset) in
+          let at = edge-at linked code entry g f s graph forest n Next lt (λ j. has_edge (jal j) Next) in
+          record {
+            offset = offset;
+            instr = jal;
+            entry = ap (λ (z : Callee). z.entry) (sym same) ∙ fits.functions (target (address n) offset);
+            back = at.1 ∙ (λ j. get_or (targets (address n) (length_of (get_or g.numbers n 0)) (jal j)) 0 0);
+          }
+  calling n lt (instr.Op o rd rs1 rs2) is c e = absurd (cc)
+  calling n lt (instr.OpImm o rd rs1 imm) is c e = absurd (cc)
+  calling n lt (instr.Lui rd imm) is c e = absurd (cc)
+  calling n lt (instr.Auipc rd imm) is c e = absurd (cc)
+  calling n lt (instr.Jalr rd rs1 imm) is c e = absurd (cc)
+  calling n lt (instr.Branch k rs1 rs2 offset) is c e = absurd (cc)
+  calling n lt (instr.Load w signed rd rs1 imm) is c e = absurd (cc)
+  calling n lt (instr.Store w rs1 rs2 imm) is c e = absurd (cc)
+  calling n lt (instr.Fence imm rs1 rd) is c e = absurd (cc)
+  calling n lt instr.Ecall is c e = absurd (cc)
+  calling n lt instr.Ebreak is c e = absurd (cc)
 
   -- the instruction of a node, as what stands there
-  node-stands : (n : ℕ) → n < length g.addrs → StandsAt (flow_of g f parts) ranges n
+  node-stands : (n : ℕ) → n < length g.addrs → StandsAt (flow_of g f s) ranges n
   node-stands n lt =
       let at = stands n lt in
       let there = number-there n lt in
@@ -228,18 +277,21 @@ module _ (code : Bytes) (entry : ℕ) (g : GraphOf) (f : ForestOf) (parts : List
         small = small;
         is = is;
         bytes = within-code code (address n) (get_or g.numbers n 0) ranges bytes room there.0 (λ k b low e. have n k b lt low e);
-        reads = λ r c some. registered g.instrs n r instr.Ebreak (instructed n lt) (or_right (eqb (destination (instr_at n)) r) (is_read (instr_at n) r) (in-true (sources (instr_at n)) r c)) some
-            (small-at (sources (instr_at n)) r names.1 c);
-        writes = λ some. registered g.instrs n (destination (instr_at n)) instr.Ebreak (instructed n lt)
-            (or_left (eqb (destination (instr_at n)) (destination (instr_at n))) (is_read (instr_at n) (destination (instr_at n))) (eq-eqb (destination (instr_at n)) (destination (instr_at n)) refl)) some names.0;
-        memory = λ e. any-at has_memory g.instrs n instr.Ebreak (instructed n lt) e;
-        form = λ form e. form-is (address n) (instr_at n) form at.fine e;
-        goes = λ form v e. target-is (address n) (length_of (get_or g.numbers n 0)) (instr_at n) form v e ∙ ap Const (sym (edge-at code entry g f parts graph forest n form lt e).1);
-        return_is = λ e. return-is (address n) (instr_at n) at.fine e;
+        reads = λ r c some. fits.regs r (registered g.instrs n r instr.Ebreak (instructed n lt) (or_right (eqb (destination (instr_at n)) r) (is_read (instr_at n) r) (in-true (sources (instr_at n)) r c)) some
+            (small-at (sources (instr_at n)) r names.1 c));
+        writes = λ some. fits.regs (destination (instr_at n)) (registered g.instrs n (destination (instr_at n)) instr.Ebreak (instructed n lt)
+            (or_left (eqb (destination (instr_at n)) (destination (instr_at n))) (is_read (instr_at n) (destination (instr_at n))) (eq-eqb (destination (instr_at n)) (destination (instr_at n)) refl)) some names.0);
+        memory = λ e. fits.uses n lt e;
+        form = λ form e. form-is linked (address n) (instr_at n) form at.fine e;
+        goes = λ form v none e.
+            target-is linked (address n) (length_of (get_or g.numbers n 0)) (instr_at n) form v at.fine (no_map s.functions (called_by (address n) (instr_at n)) none) e
+            ∙ ap Const (sym (edge-at linked code entry g f s graph forest n form lt e).1);
+        calls = λ c e. calling n lt (instr_at n) refl c e;
+        return_is = λ e. return-is linked (address n) (instr_at n) at.fine e;
       }
 
-  pub is-code : IsCode (flow_of g f parts) ranges
+  pub is-code : IsCode (flow_of g f s) ranges
   is-code = record {
     each = node-stands;
-    registers = registers-rise g.instrs;
+    registers = fits.rise;
   }

@@ -1,5 +1,5 @@
 -- The part of a graph that is the rest of the whole function from the entry on stands last.
-use Rattle.std.proofs.Common.{◌≡◌, ◌≢◌, ℕ, zero, suc, ◌+◌, ◌-◌, ◌*◌, ◌<◌, ◌≤◌, List, [], ◌∷◌, map, length, get_or, refl, ap, subst, ◌∙◌, arith, None, Some, option_map, ◌⊎◌, inl, inr, eq-eqb}
+use Rattle.std.proofs.Common.{◌≡◌, ◌≢◌, ℕ, zero, suc, ◌+◌, ◌-◌, ◌*◌, ◌<◌, ◌≤◌, List, [], ◌∷◌, map, length, get_or, refl, ap, subst, ◌∙◌, arith, None, Some, option_map, ◌⊎◌, inl, inr, eq-eqb, Bool}
 use Rattle.std.proofs.lemmas.Bool.{cases_eq}
 use Rattle.std.specs.Prelude.{slice_get}
 use Rattle.rv_words.specs.Bytes.{Bytes}
@@ -15,7 +15,7 @@ use Rattle.code_parts.specs.declared.part.Part.{Part}
 use Rattle.code_parts.specs.declared.part.Part.TheVariants.{Loop, Rest}
 use Rattle.code_parts.specs.Bodies.{Flow, part_def}
 use Rattle.code_parts.specs.Graph.{IsPart}
-use Rattle.code_parts.specs.Flows.{flow_of, group_of, place_in}
+use Rattle.code_parts.specs.Flows.{Setting, flow_of, group_of, place_in}
 use Rattle.code_parts.specs.Order.{AreParts, StandsBefore}
 use Rattle.code_parts.proofs.Lists.{length-map, slice-mapped}
 use Rattle.code_parts.proofs.FlowGraph.{flow, region-within, walks}
@@ -66,17 +66,17 @@ place-within [] k x e = absurd (cc)
 place-within (y ∷ xs) zero x e = omega arith
 place-within (y ∷ xs) (suc k) x e = let lt = place-within xs k x e in omega (arith, lt)
 
-module _ (code : Bytes) (entry : ℕ) (g : GraphOf) (f : ForestOf) (parts : List Part) (graph : IsGraphOf code entry g) (forest : IsForestOf g f)
-    (order : AreParts (flow_of g f parts) (number_of f) parts) where
+module _ (linked : Bool) (code : Bytes) (entry : ℕ) (g : GraphOf) (f : ForestOf) (s : Setting) (graph : IsGraphOf linked code entry g) (forest : IsForestOf g f)
+    (order : AreParts (flow_of g f s) (number_of f) s.parts) where
   abbrev the_flow : Flow
-  the_flow = flow_of g f parts
+  the_flow = flow_of g f s
 
   abbrev whole : Part
   whole = Rest None g.entry
 
   -- the whole function is a part
-  pub whole-is : IsPart (flow_of g f parts) (Rest None g.entry)
-  whole-is = let w = (walks code entry g f parts graph forest).entry in ((flow code entry g f parts graph forest).entry, eq-eqb (place_of f g.entry) 0 w.0, w.1)
+  pub whole-is : IsPart (flow_of g f s) (Rest None g.entry)
+  whole-is = let w = (walks linked code entry g f s graph forest).entry in ((flow linked code entry g f s graph forest).entry, eq-eqb (place_of f g.entry) 0 w.0, w.1)
 
   -- no part stands behind it
   none-after : (q : Part) → IsPart the_flow q → StandsBefore the_flow (number_of f) order.depth whole q → ⊥
@@ -84,34 +84,34 @@ module _ (code : Bytes) (entry : ℕ) (g : GraphOf) (f : ForestOf) (parts : List
   none-after (Loop l) there (inr h) = let none = order.outside in let deep = order.deeper l there in let same = h.0 in omega (arith, none, deep, same)
   none-after (Rest (Some l) n) there (inr h) =
       let none = order.outside in
-      let deep = order.deeper l (region-within code entry g f parts graph forest n there.0 l there.2) in
+      let deep = order.deeper l (region-within linked code entry g f s graph forest n there.0 l there.2) in
       let same = h.0 in
       omega (arith, none, deep, same)
   none-after (Rest None n) there (inr h) =
       let more = h.1 in
-      by more (entry-last (HasEdge g) g.entry (number_of f) forest.settled n ((flow code entry g f parts graph forest).reached n there.0))
+      by more (entry-last (HasEdge g) g.entry (number_of f) forest.settled n ((flow linked code entry g f s graph forest).reached n there.0))
     where
       by : 2 * number_of f g.entry + 1 < 2 * number_of f n + 1 → (n ≡ g.entry) ⊎ (number_of f n < number_of f g.entry) → ⊥
       by more (inl same) = let equal = ap (number_of f) same in omega (arith, more, equal)
       by more (inr less) = omega (arith, more, less)
 
-  whole-at : slice_get parts (place_in parts (Rest None g.entry)) ≡ Some (Rest None g.entry)
-  whole-at = there-at the_flow (number_of f) parts order whole whole-is
+  whole-at : slice_get s.parts (place_in s.parts (Rest None g.entry)) ≡ Some (Rest None g.entry)
+  whole-at = there-at the_flow (number_of f) s.parts order whole whole-is
 
-  pub last-is : length parts ≡ place_in parts (Rest None g.entry) + 1
-  last-is = last-place parts (place_in parts whole) (place-within parts (place_in parts whole) whole whole-at) none
+  pub last-is : length s.parts ≡ place_in s.parts (Rest None g.entry) + 1
+  last-is = last-place s.parts (place_in s.parts whole) (place-within s.parts (place_in s.parts whole) whole whole-at) none
     where
-      none : (j : ℕ) (q : Part) → slice_get parts j ≡ Some q → j ≤ place_in parts whole
-      none j q at = by (le_or j (place_in parts whole))
+      none : (j : ℕ) (q : Part) → slice_get s.parts j ≡ Some q → j ≤ place_in s.parts whole
+      none j q at = by (le_or j (place_in s.parts whole))
         where
-          by : (j ≤ place_in parts whole) ⊎ (place_in parts whole < j) → j ≤ place_in parts whole
+          by : (j ≤ place_in s.parts whole) ⊎ (place_in s.parts whole < j) → j ≤ place_in s.parts whole
           by (inl le) = le
-          by (inr lt) = absurd (none-after q (part-at the_flow (number_of f) parts order j q at).0 (order.ordered (place_in parts whole) j whole q lt whole-at at))
+          by (inr lt) = absurd (none-after q (part-at the_flow (number_of f) s.parts order j q at).0 (order.ordered (place_in s.parts whole) j whole q lt whole-at at))
 
-  -- the group lists the function that is entered there
-  pub lists-entry : (name : List ℕ) (ranges : List Range) → option_map (λ (d : DefTree). d.entry) (slice_get (group_of (flow_of g f parts) name ranges parts).defs (listed_def (group_of (flow_of g f parts) name ranges parts))) ≡ Some entry
+  -- the group of these parts lists the function that is entered there
+  pub lists-entry : (name : List ℕ) (ranges : List Range) → option_map (λ (d : DefTree). d.entry) (slice_get (group_of (flow_of g f s) name ranges s.parts).defs (listed_def (group_of (flow_of g f s) name ranges s.parts))) ≡ Some entry
   lists-entry name ranges =
-      let count : length (map (part_def the_flow) parts) - 1 ≡ place_in parts whole = (let last = last-is in let same = length-map (part_def the_flow) parts in omega (arith, last, same)) in
-      ap (λ k. option_map (λ (d : DefTree). d.entry) (slice_get (map (part_def the_flow) parts) k)) count
-      ∙ ap (option_map (λ (d : DefTree). d.entry)) (slice-mapped (part_def the_flow) parts (place_in parts whole) whole whole-at)
+      let count : length (map (part_def the_flow) s.parts) - 1 ≡ place_in s.parts whole = (let last = last-is in let same = length-map (part_def the_flow) s.parts in omega (arith, last, same)) in
+      ap (λ k. option_map (λ (d : DefTree). d.entry) (slice_get (map (part_def the_flow) s.parts) k)) count
+      ∙ ap (option_map (λ (d : DefTree). d.entry)) (slice-mapped (part_def the_flow) s.parts (place_in s.parts whole) whole whole-at)
       ∙ ap Some (ap (λ n. get_or g.addrs n 0) graph.entry ∙ (number_within g.addrs entry (graph.reach.all entry Stop)).1)

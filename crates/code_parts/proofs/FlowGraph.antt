@@ -10,7 +10,7 @@ use Rattle.rv_decode.specs.declared.instruction.Instr.TheVariants as instr
 use Rattle.triple_kernel.specs.declared.form.Form.{Form}
 use Rattle.triple_kernel.specs.declared.form.Form.TheVariants.{Next, Taken}
 use Rattle.rvc.specs.Number.{length_of}
-use Rattle.flow_graph.specs.Flow.{leads, length_in, targets}
+use Rattle.flow_graph.specs.Flow.{called_by, leads, length_in, targets}
 use Rattle.flow_graph.specs.Graph.{GraphOf, HasEdge, IsFlow, IsGraphOf, succs_of}
 use Rattle.flow_graph.proofs.ExactLemmas.{graph_looks, graph_numbers}
 use Rattle.flow_graph.proofs.FlowLemmas.{is_flow}
@@ -19,10 +19,9 @@ use Rattle.flow_graph.proofs.Ways.{node_at}
 use Rattle.loop_forest.specs.Forest.{ForestOf, IsForestOf, exits_of, head_of, place_of, region_of}
 use Rattle.loop_forest.specs.Walking.{IsPlacedIn, IsWalkable, first_of, inner_of, loop_of}
 use Rattle.loop_forest.proofs.WalkLaws.{walkable}
-use Rattle.code_parts.specs.declared.part.Part.{Part}
-use Rattle.code_parts.specs.Bodies.{Flow, index_of, rest_targets}
+use Rattle.code_parts.specs.Bodies.{Flow, Callee, index_of, rest_targets}
 use Rattle.code_parts.specs.Graph.{IsEdge, IsGraph, IsPlaced, has_edge, is_return}
-use Rattle.code_parts.specs.Flows.{edge_number, flow_of}
+use Rattle.code_parts.specs.Flows.{Setting, edge_number, flow_of}
 use Rattle.code_parts.proofs.Lists.{contains-cases}
 
 -- ---- lists
@@ -109,15 +108,15 @@ no-target a k instr.Ebreak e = absurd (cc)
 not_zero : (n : ℕ) → eqb n 0 ≡ false → n ≢ 0
 not_zero n e = eqb-false n 0 e
 
-module _ (code : Bytes) (entry : ℕ) (g : GraphOf) (f : ForestOf) (parts : List Part) (graph : IsGraphOf code entry g) (forest : IsForestOf g f) where
+module _ (linked : Bool) (code : Bytes) (entry : ℕ) (g : GraphOf) (f : ForestOf) (s : Setting) (graph : IsGraphOf linked code entry g) (forest : IsForestOf g f) where
   abbrev the_flow : Flow
-  the_flow = flow_of g f parts
+  the_flow = flow_of g f s
 
   abbrev Numbered : ℕ → Type 0
   Numbered l = l < length f.heads
 
   pub flow : IsFlow g
-  flow = is_flow code entry g graph
+  flow = is_flow linked code entry g graph
 
   pub walks : IsWalkable g f
   walks = walkable g f flow forest
@@ -131,14 +130,14 @@ module _ (code : Bytes) (entry : ℕ) (g : GraphOf) (f : ForestOf) (parts : List
   -- the edges of a node lead to the targets of its instruction
   pub successors : (n : ℕ) → n < length g.addrs → map (λ m. get_or g.addrs m 0) (succs_of g.edges n) ≡ targets (get_or g.addrs n 0) (length_of (get_or g.numbers n 0)) (get_or g.instrs n instr.Ebreak)
   successors n lt =
-      successors_are code entry g n graph lt ∙ ap (leads (address n) (length_in code (address n))) (graph_looks code entry g graph n instr.Ebreak lt)
-      ∙ (λ j. targets (address n) (length_of (unwrap_or (graph_numbers code entry g n graph lt j) 0)) (get_or g.instrs n instr.Ebreak))
+      successors_are linked code entry g n graph lt ∙ ap (leads (address n) (length_in code (address n))) (graph_looks linked code entry g graph n instr.Ebreak lt)
+      ∙ (λ j. targets (address n) (length_of (unwrap_or (graph_numbers linked code entry g n graph lt j) 0)) (get_or g.instrs n instr.Ebreak))
 
   pub edge-at : (n : ℕ) (form : Form) → n < length g.addrs → has_edge (get_or g.instrs n instr.Ebreak) form ≡ true →
       (edge_number form < length (succs_of g.edges n)) × (get_or g.addrs (get_or (succs_of g.edges n) (edge_number form) 0) 0 ≡ get_or (targets (get_or g.addrs n 0) (length_of (get_or g.numbers n 0)) (get_or g.instrs n instr.Ebreak)) (edge_number form) 0)
   edge-at n form lt has = mapped-at (λ m. get_or g.addrs m 0) (succs_of g.edges n) (targets (address n) (length_of (get_or g.numbers n 0)) (instr_at n)) (edge_number form) (successors n lt) (has-target (address n) (length_of (get_or g.numbers n 0)) (instr_at n) form has)
 
-  pub edge : (n m : ℕ) → n < length g.addrs → IsEdge (flow_of g f parts) n m → HasEdge g n m
+  pub edge : (n m : ℕ) → n < length g.addrs → IsEdge (flow_of g f s) n m → HasEdge g n m
   edge n m lt x = subst (Contains (succs_of g.edges n)) x.2 (node_at (succs_of g.edges n) (edge_number x.0) (edge-at n x.0 lt x.1).0)
 
   -- ---- regions
@@ -157,7 +156,7 @@ module _ (code : Bytes) (entry : ℕ) (g : GraphOf) (f : ForestOf) (parts : List
   exits-are l lt = λ i. cond (lt-ltb l (length f.heads) lt i) (exits_of f l) []
 
   -- a place in a region is one of its targets, or a node of it
-  pub placed-in : (r : Option ℕ) (m : ℕ) → ((l : ℕ) → r ≡ Some l → l < length f.heads) → IsPlacedIn f r m → IsPlaced (flow_of g f parts) r m
+  pub placed-in : (r : Option ℕ) (m : ℕ) → ((l : ℕ) → r ≡ Some l → l < length f.heads) → IsPlacedIn f r m → IsPlaced (flow_of g f s) r m
   placed-in None m within p = inr p
   placed-in (Some l) m within (inl at) = inl (index-found (rest_targets the_flow (Some l)) m (0, omega arith, sym at))
   placed-in (Some l) m within (inr (inl c)) =
@@ -176,7 +175,7 @@ module _ (code : Bytes) (entry : ℕ) (g : GraphOf) (f : ForestOf) (parts : List
       from (y ∷ xs) zero x e = let same : y ≡ x = cc in (0, omega arith, same)
       from (y ∷ xs) (suc k) x e = let r = from xs k x e in (suc r.0, omega (arith, r.1), r.2)
 
-  pub is-graph : IsGraph (flow_of g f parts)
+  pub is-graph : IsGraph (flow_of g f s)
   is-graph = record {
     inner = inner_of f;
     rank = λ n. 31 - place_of f n;
@@ -191,6 +190,7 @@ module _ (code : Bytes) (entry : ℕ) (g : GraphOf) (f : ForestOf) (parts : List
     near = λ n lt. omega arith;
     returned = λ n lt e. (walks.returned n lt (no-edges n lt e), any-at is_return g.instrs n instr.Ebreak (instructed n lt) e);
     cut_inner = λ n lt cut none. (λ i. first_of (none i) (region_of f n));
+    calls = λ n c lt e. jumps (address n) (instr_at n) c e;
     head_is = λ n l lt e. walks.own n l e;
     loop_head = λ l lt. let h = walks.head l lt in (h.0, h.2);
     loop_exit = λ l k x lt at.
@@ -205,6 +205,20 @@ module _ (code : Bytes) (entry : ℕ) (g : GraphOf) (f : ForestOf) (parts : List
 
       instructed : (n : ℕ) → n < length g.addrs → n < length g.instrs
       instructed n lt = omega (arith, lt, flow.as_long)
+
+      jumps : (a : ℕ) (i : Instr) (c : Callee) → option_map s.functions (called_by a i) ≡ Some c → has_edge i Next ≡ true
+      jumps a (instr.Jal rd offset) c e = refl
+      jumps a (instr.Op o rd rs1 rs2) c e = refl
+      jumps a (instr.OpImm o rd rs1 imm) c e = refl
+      jumps a (instr.Lui rd imm) c e = refl
+      jumps a (instr.Auipc rd imm) c e = refl
+      jumps a (instr.Jalr rd rs1 imm) c e = absurd (cc)
+      jumps a (instr.Branch k rs1 rs2 offset) c e = refl
+      jumps a (instr.Load w signed rd rs1 imm) c e = refl
+      jumps a (instr.Store w rs1 rs2 imm) c e = refl
+      jumps a (instr.Fence imm rs1 rd) c e = refl
+      jumps a instr.Ecall c e = refl
+      jumps a instr.Ebreak c e = refl
 
       no-edges : (n : ℕ) → n < length g.addrs → is_return (instr_at n) ≡ true → succs_of g.edges n ≡ []
       no-edges n lt e = mapped-none (λ m. get_or g.addrs m 0) (succs_of g.edges n) (successors n lt ∙ no-target (address n) (length_of (get_or g.numbers n 0)) (instr_at n) e)

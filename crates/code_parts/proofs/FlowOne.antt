@@ -1,5 +1,5 @@
 -- A graph's parts have one order.
-use Rattle.std.proofs.Common.{◌≡◌, ℕ, zero, suc, ◌+◌, ◌<◌, ◌≤◌, List, [], ◌∷◌, length, refl, sym, ap, subst, ◌∙◌, arith, Option, None, Some, inl, inr}
+use Rattle.std.proofs.Common.{◌≡◌, ℕ, zero, suc, ◌+◌, ◌<◌, ◌≤◌, List, [], ◌∷◌, length, refl, sym, ap, subst, ◌∙◌, arith, Option, None, Some, inl, inr, Bool}
 use Rattle.std.proofs.lemmas.Option.{slice_get-get_or}
 use Rattle.std.specs.Prelude.{slice_get}
 use Rattle.std.specs.List.{Contains}
@@ -10,7 +10,7 @@ use Rattle.code_parts.specs.declared.part.Part.{Part}
 use Rattle.code_parts.specs.declared.part.Part.TheVariants.{Loop, Rest}
 use Rattle.code_parts.specs.Bodies.{own}
 use Rattle.code_parts.specs.Graph.{IsPart}
-use Rattle.code_parts.specs.Flows.{flow_of}
+use Rattle.code_parts.specs.Flows.{Setting, flow_of}
 use Rattle.code_parts.specs.Order.{AreParts, StandsBefore, weight}
 use Rattle.code_parts.proofs.Lists.{contains-cases, here, later}
 use Rattle.code_parts.proofs.FlowGraph.{region-within, walks}
@@ -44,8 +44,8 @@ module _ (Before : Part → Part → Type 0) (never : (p : Part) → Before p p 
 
 -- ---- depths are determined
 
-module _ (code : Bytes) (entry : ℕ) (g : GraphOf) (f : ForestOf) (parts others : List Part) (graph : IsGraphOf code entry g) (forest : IsForestOf g f)
-    (one : AreParts (flow_of g f parts) (number_of f) parts) (two : AreParts (flow_of g f others) (number_of f) others) where
+module _ (linked : Bool) (code : Bytes) (entry : ℕ) (g : GraphOf) (f : ForestOf) (s t : Setting) (graph : IsGraphOf linked code entry g) (forest : IsForestOf g f)
+    (one : AreParts (flow_of g f s) (number_of f) s.parts) (two : AreParts (flow_of g f t) (number_of f) t.parts) where
   abbrev IsNumbered : Option ℕ → Type 0
   IsNumbered r = (l : ℕ) → r ≡ Some l → l < length f.heads
 
@@ -55,34 +55,34 @@ module _ (code : Bytes) (entry : ℕ) (g : GraphOf) (f : ForestOf) (parts others
   depth-same (suc n) (Some l) known le =
       let lt = known l refl in
       let up = one.deeper l lt in
-      let head = (walks code entry g f parts graph forest).head l lt in
-      let inner = depth-same n (region_of f (head_of f l)) (λ j e. region-within code entry g f parts graph forest (head_of f l) head.0 j e) (omega (arith, up, le)) in
+      let head = (walks linked code entry g f s graph forest).head l lt in
+      let inner = depth-same n (region_of f (head_of f l)) (λ j e. region-within linked code entry g f s graph forest (head_of f l) head.0 j e) (omega (arith, up, le)) in
       up ∙ ap (λ d. d + 1) inner ∙ sym (two.deeper l lt)
 
   same-some : (l j : ℕ) → Some l ≡ Some j → l ≡ j
   same-some l j e = cc
 
-  own-numbered : (p : Part) → IsPart (flow_of g f others) p → IsNumbered (own p)
+  own-numbered : (p : Part) → IsPart (flow_of g f t) p → IsNumbered (own p)
   own-numbered (Loop l) there j e = subst (λ x. x < length f.heads) (same-some l j e) there
-  own-numbered (Rest r n) there j e = region-within code entry g f parts graph forest n there.0 j (there.2 ∙ e)
+  own-numbered (Rest r n) there j e = region-within linked code entry g f s graph forest n there.0 j (there.2 ∙ e)
 
-  own-depth : (p : Part) → IsPart (flow_of g f others) p → one.depth (own p) ≡ two.depth (own p)
+  own-depth : (p : Part) → IsPart (flow_of g f t) p → one.depth (own p) ≡ two.depth (own p)
   own-depth p there = depth-same (one.depth (own p)) (own p) (own-numbered p there) (omega arith)
 
   -- which parts there are, and what they weigh, doesn't depend on their places
-  part-here : (p : Part) → IsPart (flow_of g f others) p → IsPart (flow_of g f parts) p
+  part-here : (p : Part) → IsPart (flow_of g f t) p → IsPart (flow_of g f s) p
   part-here (Loop l) h = h
   part-here (Rest r n) h = h
 
-  part-there : (p : Part) → IsPart (flow_of g f parts) p → IsPart (flow_of g f others) p
+  part-there : (p : Part) → IsPart (flow_of g f s) p → IsPart (flow_of g f t) p
   part-there (Loop l) h = h
   part-there (Rest r n) h = h
 
-  weight-same : (p : Part) → weight (flow_of g f others) (number_of f) p ≡ weight (flow_of g f parts) (number_of f) p
+  weight-same : (p : Part) → weight (flow_of g f t) (number_of f) p ≡ weight (flow_of g f s) (number_of f) p
   weight-same (Loop l) = refl
   weight-same (Rest r n) = refl
 
-  before-here : (p q : Part) → IsPart (flow_of g f others) p → IsPart (flow_of g f others) q → StandsBefore (flow_of g f others) (number_of f) two.depth p q → StandsBefore (flow_of g f parts) (number_of f) one.depth p q
+  before-here : (p q : Part) → IsPart (flow_of g f t) p → IsPart (flow_of g f t) q → StandsBefore (flow_of g f t) (number_of f) two.depth p q → StandsBefore (flow_of g f s) (number_of f) one.depth p q
   before-here p q here there (inl lt) = let x = own-depth p here in let y = own-depth q there in inl (omega (arith, lt, x, y))
   before-here p q here there (inr h) =
       let x = own-depth p here in
@@ -92,9 +92,9 @@ module _ (code : Bytes) (entry : ℕ) (g : GraphOf) (f : ForestOf) (parts others
       let less = h.1 in
       inr (x ∙ h.0 ∙ sym y, omega (arith, less, u, v))
 
-  pub one-order : parts ≡ others
-  one-order = same-list (StandsBefore (flow_of g f parts) (number_of f) one.depth) (never-before (flow_of g f parts) (number_of f) one.depth) (one-way (flow_of g f parts) (number_of f) one.depth) parts others
+  pub one-order : s.parts ≡ t.parts
+  one-order = same-list (StandsBefore (flow_of g f s) (number_of f) one.depth) (never-before (flow_of g f s) (number_of f) one.depth) (one-way (flow_of g f s) (number_of f) one.depth) s.parts t.parts
       one.ordered
-      (λ j k p q lt a b. before-here p q (part-at (flow_of g f others) (number_of f) others two j p a).0 (part-at (flow_of g f others) (number_of f) others two k q b).0 (two.ordered j k p q lt a b))
+      (λ j k p q lt a b. before-here p q (part-at (flow_of g f t) (number_of f) t.parts two j p a).0 (part-at (flow_of g f t) (number_of f) t.parts two k q b).0 (two.ordered j k p q lt a b))
       (λ p c. (two.all p).1 (part-there p ((one.all p).0 c)))
       (λ p c. (one.all p).1 (part-here p ((two.all p).0 c)))

@@ -12,13 +12,13 @@ use Rattle.loop_forest.specs.Forest.{ForestOf, IsForestOf, exits_of, head_of, nu
 use Rattle.loop_forest.specs.Walking.{IsPlacedIn, inner_of, first_of, loop_of}
 use Rattle.code_parts.specs.declared.part.Part.{Part}
 use Rattle.code_parts.specs.declared.part.Part.TheVariants.{Loop, Rest}
-use Rattle.code_parts.specs.Bodies.{size, Flow, VariableMap, Action, Straight, Fork, Return, action, action_body, arms_over, body_at, current, end_at, end_of, first, fresh, index_of, last_at, or_else, own, part_body, rest_arms, rest_body, rest_from, rest_targets, start, with_pc}
+use Rattle.code_parts.specs.Bodies.{size, Flow, VariableMap, Action, Straight, Fork, Return, Enter, Callee, return_arm, action, action_body, arms_over, body_at, current, end_at, end_of, first, fresh, index_of, last_at, or_else, own, part_body, rest_arms, rest_body, rest_from, rest_targets, start, with_pc}
 use Rattle.code_parts.specs.Graph.{ArmsBelow, CallsBelow, IsPart, IsPlaced}
-use Rattle.code_parts.specs.Flows.{flow_of, place_in, same_part, same_region}
+use Rattle.code_parts.specs.Flows.{Setting, flow_of, place_in, same_part, same_region}
 use Rattle.code_parts.specs.Order.{AreParts, StandsBefore, weight}
 use Rattle.code_parts.proofs.Lists.{contains-cases}
-use Rattle.code_parts.proofs.Edges.{Leads, end-some, leads-edge}
-use Rattle.code_parts.proofs.FlowGraph.{edge, exit-there, exits-are, flow, inner-numbered, placed-in, region-within, walks}
+use Rattle.code_parts.proofs.Edges.{Leads, calls-row, end-some, leads-calling}
+use Rattle.code_parts.proofs.FlowGraph.{is-graph, edge, exit-there, exits-are, flow, inner-numbered, placed-in, region-within, walks}
 
 -- ---- places of parts
 
@@ -184,10 +184,11 @@ module _ (d : ℕ) where
       inside (inl q) none = absurd (end-some f p n q.0 (current f v) q.1 none)
       inside (inr q) none = q
 
-module _ (code : Bytes) (entry : ℕ) (g : GraphOf) (f : ForestOf) (parts : List Part) (graph : IsGraphOf code entry g) (forest : IsForestOf g f)
-    (order : AreParts (flow_of g f parts) (number_of f) parts) where
+module _ (linked : Bool) (code : Bytes) (entry : ℕ) (g : GraphOf) (f : ForestOf) (s : Setting) (graph : IsGraphOf linked code entry g) (forest : IsForestOf g f)
+    (order : AreParts (flow_of g f s) (number_of f) s.parts)
+    (before : (n : ℕ) (c : Callee) → n < length g.addrs → (flow_of g f s).callee n ≡ Some c → c.def < s.base) where
   abbrev the_flow : Flow
-  the_flow = flow_of g f parts
+  the_flow = flow_of g f s
 
   abbrev left : ℕ → ℕ
   left = number_of f
@@ -200,70 +201,82 @@ module _ (code : Bytes) (entry : ℕ) (g : GraphOf) (f : ForestOf) (parts : List
   lighter (Rest r m) n lt = omega (arith, lt)
 
   -- the rest from a node of the own region, which was left before the part's first
-  earlier : (p : Part) → IsPart the_flow p → (m : ℕ) → m < length g.addrs → eqb (place_of f m) 0 ≡ true → region_of f m ≡ own p → left m < left (first_node p) → place_in parts (rest_from the_flow m) < place_in parts p
+  earlier : (p : Part) → IsPart the_flow p → (m : ℕ) → m < length g.addrs → eqb (place_of f m) 0 ≡ true → region_of f m ≡ own p → left m < left (first_node p) → the_flow.number (rest_from the_flow m) < the_flow.number p
   earlier p there m inside cut same less =
-      rises the_flow left parts order (rest_from the_flow m) p (inside, cut, refl) there (inr (ap order.depth same, lighter p m less))
+      let up = rises the_flow left s.parts order (rest_from the_flow m) p (inside, cut, refl) there (inr (ap order.depth same, lighter p m less)) in omega (arith, up)
 
-  module _ (p : Part) (there : IsPart (flow_of g f parts) p) where
+  module _ (p : Part) (there : IsPart (flow_of g f s) p) where
     abbrev FromNode : ℕ → Type 0
-    FromNode b = (n : ℕ) (v : VariableMap) → n < length g.addrs → inner_of f n ≡ own p → left n ≤ left (first_node p) → CallsBelow (place_in parts p) (body_at b the_flow p n v)
+    FromNode b = (n : ℕ) (v : VariableMap) → n < length g.addrs → inner_of f n ≡ own p → left n ≤ left (first_node p) → CallsBelow (the_flow.number p) (body_at b the_flow p n v)
 
     within : (n : ℕ) → n < length g.addrs → inner_of f n ≡ own p → (l : ℕ) → own p ≡ Some l → l < length f.heads
-    within n node region l e = inner-numbered code entry g f parts graph forest n l node (region ∙ e)
+    within n node region l e = inner-numbered linked code entry g f s graph forest n l node (region ∙ e)
 
     arrives : (b : ℕ) → FromNode b → (n : ℕ) (w : VariableMap) → n < length g.addrs → inner_of f n ≡ own p → left n ≤ left (first_node p) → (m : ℕ) → Leads (action the_flow n w) m → (v : VariableMap)
-        → CallsBelow (place_in parts p) (cond (eqb (place_of f m) 0) (end_at the_flow p m v) (body_at b the_flow p m v))
+        → CallsBelow (the_flow.number p) (cond (eqb (place_of f m) 0) (end_at the_flow p m v) (body_at b the_flow p m v))
     arrives b on n w node region near m leads v = by (eqb (place_of f m) 0) refl
       where
         step : HasEdge g n m
-        step = edge code entry g f parts graph forest n m node (leads-edge (the_flow.instr n) (the_flow.addr n) (size the_flow n) (the_flow.to n) w m leads)
+        step = edge linked code entry g f s graph forest n m node (leads-calling (the_flow.callee n) (the_flow.instr n) (the_flow.addr n) (size the_flow n) (the_flow.uses n) (the_flow.to n) w m (λ c e. (is-graph linked code entry g f s graph forest).calls n c node e) leads)
 
         inside : m < length g.addrs
-        inside = (flow code entry g f parts graph forest).within n m step
+        inside = (flow linked code entry g f s graph forest).within n m step
 
         placed : IsPlaced the_flow (own p) m
-        placed = placed-in code entry g f parts graph forest (own p) m (within n node region) (subst (λ r. IsPlacedIn f r m) region ((walks code entry g f parts graph forest).placed n m step))
+        placed = placed-in linked code entry g f s graph forest (own p) m (within n node region) (subst (λ r. IsPlacedIn f r m) region ((walks linked code entry g f s graph forest).placed n m step))
 
-        by : (c : Bool) → eqb (place_of f m) 0 ≡ c → CallsBelow (place_in parts p) (cond c (end_at the_flow p m v) (body_at b the_flow p m v))
-        by true cut = cut-below (place_in parts p) the_flow p m v placed (λ at.
-            let less = (walks code entry g f parts graph forest).falls_on n m step (at ∙ sym region) in
+        by : (c : Bool) → eqb (place_of f m) 0 ≡ c → CallsBelow (the_flow.number p) (cond c (end_at the_flow p m v) (body_at b the_flow p m v))
+        by true cut = cut-below (the_flow.number p) the_flow p m v placed (λ at.
+            let less = (walks linked code entry g f s graph forest).falls_on n m step (at ∙ sym region) in
             earlier p there m inside cut at (omega (arith, less, near)))
         by false cut =
             let apart : place_of f m ≢ 0 = eqb-false (place_of f m) 0 cut in
-            let less = (walks code entry g f parts graph forest).falls n m step apart in
-            on m v inside ((walks code entry g f parts graph forest).stays n m step apart ∙ region) (omega (arith, less, near))
+            let less = (walks linked code entry g f s graph forest).falls n m step apart in
+            on m v inside ((walks linked code entry g f s graph forest).stays n m step apart ∙ region) (omega (arith, less, near))
 
     acts : (b : ℕ) → FromNode b → (n : ℕ) (v : VariableMap) → n < length g.addrs → inner_of f n ≡ own p → left n ≤ left (first_node p) → (y : Action) → action the_flow n v ≡ y
-        → CallsBelow (place_in parts p) (action_body the_flow p y v (body_at b the_flow p))
+        → CallsBelow (the_flow.number p) (action_body the_flow p y v (body_at b the_flow p))
     acts b on n v node region near (Straight ss w to) is =
-        steps-below (place_in parts p) ss (cond (eqb (place_of f to) 0) (end_at the_flow p to w) (body_at b the_flow p to w)) (arrives b on n v node region near to (subst (λ y. Leads y to) (sym is) refl) w)
+        steps-below (the_flow.number p) ss (cond (eqb (place_of f to) 0) (end_at the_flow p to w) (body_at b the_flow p to w)) (arrives b on n v node region near to (subst (λ y. Leads y to) (sym is) refl) w)
     acts b on n v node region near (Fork c x y) is =
         (arrives b on n v node region near x (subst (λ z. Leads z x) (sym is) (inl refl)) v, arrives b on n v node region near y (subst (λ z. Leads z y) (sym is) (inr refl)) v)
-    acts b on n v node region near (Return ss t) is = steps-below (place_in parts p) ss (Leave 0 (with_pc t (current the_flow v))) tt
+    acts b on n v node region near (Return ss t) is = steps-below (the_flow.number p) ss (Leave 0 (with_pc t (current the_flow v))) tt
+    acts b on n v node region near (Enter ss w c back to) is =
+        steps-below (the_flow.number p) ss (Call c.def (current the_flow w) (return_arm the_flow c.returns back w (λ q. cond (eqb (place_of f to) 0) (end_at the_flow p to q) (body_at b the_flow p to q)))) (low, by c.returns)
+      where
+        callee : the_flow.callee n ≡ Some c
+        callee = calls-row (the_flow.callee n) (the_flow.instr n) (the_flow.addr n) (size the_flow n) (the_flow.uses n) (the_flow.to n) v ss w c back to is
+
+        low : c.def < the_flow.number p
+        low = let h = before n c node callee in omega (arith, h)
+
+        by : (r : Bool) → ArmsBelow (the_flow.number p) (return_arm the_flow r back w (λ q. cond (eqb (place_of f to) 0) (end_at the_flow p to q) (body_at b the_flow p to q)))
+        by false = tt
+        by true = (arrives b on n v node region near to (subst (λ y. Leads y to) (sym is) refl) (fresh the_flow (suc w.words) w.mems), tt)
 
     body-below : (b : ℕ) → FromNode b
     body-below zero n v node region near = tt
     body-below (suc b) n v node region near = acts b (body-below b) n v node region near (action the_flow n v) refl
 
-  rest-below : (r : Option ℕ) (n : ℕ) (there : IsPart the_flow (Rest r n)) (o : Option ℕ) → loop_of f n ≡ o → CallsBelow (place_in parts (Rest r n)) (rest_body 32 the_flow (Rest r n) n o)
+  rest-below : (r : Option ℕ) (n : ℕ) (there : IsPart the_flow (Rest r n)) (o : Option ℕ) → loop_of f n ≡ o → CallsBelow (the_flow.number (Rest r n)) (rest_body 32 the_flow (Rest r n) n o)
   rest-below r n there None none = body-below (Rest r n) there 32 n (start the_flow) there.0 ((λ i. first_of (none i) (region_of f n)) ∙ there.2) (omega arith)
   rest-below r n there (Some l) some =
-      let h = (walks code entry g f parts graph forest).own n l some in
+      let h = (walks linked code entry g f s graph forest).own n l some in
       let same : left (head_of f l) ≡ left n = ap left h.1 in
       let region : region_of f (head_of f l) ≡ r = ap (region_of f) h.1 ∙ there.2 in
       let deep = order.deeper l h.0 ∙ ap (λ x. order.depth x + 1) region in (
-        rises the_flow left parts order (Loop l) (Rest r n) h.0 there (inl (omega (arith, deep))),
-        arms-below (place_in parts (Rest r n)) (the_flow.exits l) (λ x. end_at the_flow (Rest r n) x (fresh the_flow (start the_flow).words (start the_flow).mems)) (λ k x at.
-            let c = exit-there code entry g f parts graph forest (the_flow.exits l) (exits_of f l) k x (exits-are code entry g f parts graph forest l h.0) at in
-            let e = (walks code entry g f parts graph forest).exit l x h.0 c in
-            cut-below (place_in parts (Rest r n)) the_flow (Rest r n) x (fresh the_flow (start the_flow).words (start the_flow).mems)
-            (placed-in code entry g f parts graph forest r x (λ j z. region-within code entry g f parts graph forest n there.0 j (there.2 ∙ z)) (subst (λ q. IsPlacedIn f q x) region e.2))
+        (let up = rises the_flow left s.parts order (Loop l) (Rest r n) h.0 there (inl (omega (arith, deep))) in omega (arith, up)),
+        arms-below (the_flow.number (Rest r n)) (the_flow.exits l) (λ x. end_at the_flow (Rest r n) x (fresh the_flow (start the_flow).words (start the_flow).mems)) (λ k x at.
+            let c = exit-there linked code entry g f s graph forest (the_flow.exits l) (exits_of f l) k x (exits-are linked code entry g f s graph forest l h.0) at in
+            let e = (walks linked code entry g f s graph forest).exit l x h.0 c in
+            cut-below (the_flow.number (Rest r n)) the_flow (Rest r n) x (fresh the_flow (start the_flow).words (start the_flow).mems)
+            (placed-in linked code entry g f s graph forest r x (λ j z. region-within linked code entry g f s graph forest n there.0 j (there.2 ∙ z)) (subst (λ q. IsPlacedIn f q x) region e.2))
             (λ around_x.
-            let less = (walks code entry g f parts graph forest).falls_behind l x h.0 c (around_x ∙ sym region) in
+            let less = (walks linked code entry g f s graph forest).falls_behind l x h.0 c (around_x ∙ sym region) in
             earlier (Rest r n) there x e.0 (eq-eqb (place_of f x) 0 e.1) around_x (omega (arith, less, same)))),
       )
 
   -- each part calls parts before it
-  pub calls-below : (p : Part) → IsPart (flow_of g f parts) p → CallsBelow (place_in parts p) (part_body (flow_of g f parts) p)
-  calls-below (Loop l) there = let h = (walks code entry g f parts graph forest).head l there in body-below (Loop l) there 32 (head_of f l) (start the_flow) h.0 h.2 (omega arith)
+  pub calls-below : (p : Part) → IsPart (flow_of g f s) p → CallsBelow ((flow_of g f s).number p) (part_body (flow_of g f s) p)
+  calls-below (Loop l) there = let h = (walks linked code entry g f s graph forest).head l there in body-below (Loop l) there 32 (head_of f l) (start the_flow) h.0 h.2 (omega arith)
   calls-below (Rest r n) there = rest-below r n there (loop_of f n) refl

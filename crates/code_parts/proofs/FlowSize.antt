@@ -1,6 +1,6 @@
 -- A graph has few parts, and small numbers.
-use Rattle.std.proofs.Common.{◌≡◌, ℕ, zero, suc, ◌+◌, ◌^◌, ◌<◌, ◌≤◌, List, [], ◌∷◌, map, length, get_or, Bool, true, false, cond, eqb, ltb, nat_eq, refl, sym, ap, subst, ◌∙◌, arith, Some, inl, inr}
-use Rattle.std.proofs.lemmas.Bool.{ltb-true}
+use Rattle.std.proofs.Common.{◌≡◌, ℕ, zero, suc, ◌+◌, ◌^◌, ◌<◌, ◌≤◌, List, [], ◌∷◌, map, length, get_or, Bool, true, false, cond, eqb, leb, ltb, nat_eq, refl, sym, ap, subst, ◌∙◌, arith, Option, None, Some, option_map, inl, inr}
+use Rattle.std.proofs.lemmas.Bool.{leb-false, leb-true, ltb-true}
 use Rattle.std.proofs.lemmas.Bool.Decides.{eqb_tells}
 use Rattle.std.proofs.lemmas.Cmp.{nat_eq_equiv}
 use Rattle.std.proofs.lemmas.Grind.{get_or_default_zero}
@@ -8,24 +8,28 @@ use Rattle.std.proofs.lemmas.List.FromFn.{get_or-range_with_len, length-range_wi
 use Rattle.std.proofs.lemmas.Map.Keys.{IsDistinct-from_apart}
 use Rattle.std.proofs.lemmas.Map.Made.{length-le_from_is_member}
 use Rattle.std.proofs.lemmas.Map.Views.{Contains-from_any, exact_unsigned_eq, list_any-from_Contains}
-use Rattle.std.proofs.lemmas.Option.{get_or_from_slice_get, slice_get-get_or}
+use Rattle.std.proofs.lemmas.Option.{get_or_from_slice_get}
 use Rattle.std.specs.Prelude.{slice_get}
-use Rattle.std.specs.List.{Contains, range_with_len}
+use Rattle.std.specs.List.{Contains, list_any, range_with_len}
+use Rattle.flow_graph.specs.Flow.{called_by}
 use Rattle.rv_words.specs.Bytes.{Bytes}
+use Rattle.rv_decode.specs.declared.instruction.Instr.{Instr}
 use Rattle.rv_decode.specs.declared.instruction.Instr.TheVariants as instr
+use Rattle.instr_axioms.specs.Terms.{has_memory}
 use Rattle.flow_graph.specs.Graph.{GraphOf, IsGraphOf}
 use Rattle.flow_graph.proofs.ExactLemmas.{graph_numbers}
 use Rattle.rvc.proofs.NumberLemmas.{number_in-is}
 use Rattle.loop_forest.specs.Forest.{ForestOf, IsForestOf, exits_of, number_of}
 use Rattle.code_parts.specs.declared.part.Part.{Part}
 use Rattle.code_parts.specs.declared.part.Part.TheVariants.{Loop, Rest}
-use Rattle.code_parts.specs.Bodies.{Flow}
+use Rattle.code_parts.specs.Bodies.{Callee, Flow}
 use Rattle.code_parts.specs.Graph.{IsPart, IsSmall}
-use Rattle.code_parts.specs.Flows.{flow_of, registers_of}
+use Rattle.code_parts.specs.Flows.{IsSetFor, Setting, alone, flow_of, unlinked}
 use Rattle.code_parts.specs.Order.{AreParts}
 use Rattle.code_parts.proofs.Lists.{contains-cases, here, later, length-map, rising-short, slice-mapped, slice-there}
 use Rattle.code_parts.proofs.FlowGraph.{flow, walks}
-use Rattle.code_parts.proofs.FlowCode.{long-enough, registers-rise}
+use Rattle.code_parts.proofs.FlowCode.{long-enough}
+use Rattle.code_parts.proofs.FlowMade.{set-alone}
 use Rattle.code_parts.proofs.FlowOrder.{never-before, part-at, place-below}
 
 -- ---- lists of different numbers
@@ -104,8 +108,8 @@ all-below [] b some each n = some
 all-below (x ∷ xs) b some each zero = each 0 (omega arith)
 all-below (x ∷ xs) b some each (suc n) = all-below xs b some (λ k lt. each (suc k) (omega (arith, lt))) n
 
-module _ (code : Bytes) (entry : ℕ) (g : GraphOf) (f : ForestOf) (parts : List Part) (graph : IsGraphOf code entry g) (forest : IsForestOf g f)
-    (order : AreParts (flow_of g f parts) (number_of f) parts) where
+module _ (linked : Bool) (code : Bytes) (entry : ℕ) (g : GraphOf) (f : ForestOf) (s : Setting) (graph : IsGraphOf linked code entry g) (forest : IsForestOf g f)
+    (order : AreParts (flow_of g f s) (number_of f) s.parts) where
   -- heads are nodes, and differ
   heads-few : length f.heads ≤ length g.addrs
   heads-few = below-few f.heads (length g.addrs) apart (λ h c. low h c)
@@ -122,28 +126,58 @@ module _ (code : Bytes) (entry : ℕ) (g : GraphOf) (f : ForestOf) (parts : List
       low : (h : ℕ) → Contains f.heads h → h < length g.addrs
       low h c =
           let is : get_or f.heads c.0 0 ≡ h = sym (get_or_default_zero f.heads c.0 h c.1) ∙ c.2 in
-          subst (λ n. n < length g.addrs) is ((walks code entry g f parts graph forest).head c.0 c.1).0
+          subst (λ n. n < length g.addrs) is ((walks linked code entry g f s graph forest).head c.0 c.1).0
 
-  pub parts-fit : length parts ≤ 4096
+  pub parts-fit : length s.parts ≤ 4096
   parts-fit =
-      let few = parts-few (flow_of g f parts) (number_of f) parts order in
+      let few = parts-few (flow_of g f s) (number_of f) s.parts order in
       let heads = heads-few in
-      let nodes = (flow code entry g f parts graph forest).few in
+      let nodes = (flow linked code entry g f s graph forest).few in
       omega (arith, few, heads, nodes)
 
-  pub is-small : IsSmall (flow_of g f parts)
-  is-small = record {
-    regs = (let short = rising-short 1 (registers_of g.instrs) (omega arith) (registers-rise g.instrs) in omega (arith, short));
+  -- where a function has at most two memories, and definitions with low numbers before its own and for what it calls
+  pub is-small : IsSetFor g s → s.mems ≤ 2 → s.base + 4096 < 2 ^ 32 → ((n : ℕ) (c : Callee) → (flow_of g f s).callee n ≡ Some c → c.def < 2 ^ 32) → IsSmall (flow_of g f s)
+  is-small fits two base called = record {
+    regs = (let short = rising-short 1 s.regs (omega arith) fits.rise in omega (arith, short));
     exits = λ l. exit-few l (ltb l (length f.heads)) refl;
     addr = all-below g.addrs (2 ^ 64) (omega arith) (λ n lt. let low = below n lt in omega (arith, low));
-    number = λ q. let low = place-below parts q in let few = parts-fit in omega (arith, low, few);
+    number = λ q. let low = place-below s.parts q in let few = parts-fit in omega (arith, low, few, base);
+    mems = two;
+    uses = λ n e. uses-of n e (leb (length g.addrs) n) refl;
+    callee = called;
   }
     where
+      -- behind the last node there is no access
+      past : (xs : List Instr) (n : ℕ) → length xs ≤ n → get_or xs n instr.Ebreak ≡ instr.Ebreak
+      past [] n le = refl
+      past (x ∷ xs) zero le = absurd (omega arith)
+      past (x ∷ xs) (suc n) le = past xs n (omega (arith, le))
+
+      uses-of : (n : ℕ) → has_memory (get_or g.instrs n instr.Ebreak) ≡ true → (t : Bool) → leb (length g.addrs) n ≡ t → s.uses (get_or g.addrs n 0) < s.mems
+      uses-of n e true is =
+          let long = (flow linked code entry g f s graph forest).as_long in
+          let le = leb-true (length g.addrs) n is in
+          let none : has_memory instr.Ebreak ≡ true = (λ j. has_memory (sym (past g.instrs n (omega (arith, le, long))) j)) ∙ e in absurd (cc)
+      uses-of n e false is = let lt = leb-false (length g.addrs) n is in fits.uses n (omega (arith, lt)) e
+
       exit-few : (l : ℕ) (t : Bool) → ltb l (length f.heads) ≡ t → length (cond t (exits_of f l) []) ≤ 8
       exit-few l true is = forest.few l (ltb-true l (length f.heads) is)
       exit-few l false is = omega arith
 
       below : (n : ℕ) → n < length g.addrs → get_or g.addrs n 0 + 2 ≤ 2 ^ 64
       below n lt =
-          let room = ((number_in-is code (get_or g.addrs n 0) (get_or g.numbers n 0)).0 (graph_numbers code entry g n graph lt)).1 in
+          let room = ((number_in-is code (get_or g.addrs n 0) (get_or g.numbers n 0)).0 (graph_numbers linked code entry g n graph lt)).1 in
           omega (arith, room, long-enough (get_or g.numbers n 0))
+
+-- .. of a function alone
+pub small-alone : (code : Bytes) (entry : ℕ) (g : GraphOf) (f : ForestOf) (parts : List Part) → IsGraphOf false code entry g → IsForestOf g f → AreParts (flow_of g f (alone g parts)) (number_of f) parts → IsSmall (flow_of g f (alone g parts))
+small-alone code entry g f parts graph forest order =
+    is-small false code entry g f (alone g parts) graph forest order (set-alone g parts) (two (list_any has_memory g.instrs)) (omega arith) (λ n c e. called (called_by (get_or g.addrs n 0) (get_or g.instrs n instr.Ebreak)) c e)
+  where
+    two : (b : Bool) → cond b 1 0 ≤ 2
+    two true = omega arith
+    two false = omega arith
+
+    called : (o : Option ℕ) (c : Callee) → option_map unlinked o ≡ Some c → c.def < 2 ^ 32
+    called None c e = absurd (cc)
+    called (Some t) c e = let same : unlinked t ≡ c = cc in subst (λ (z : Callee). z.def < 2 ^ 32) same (omega arith)

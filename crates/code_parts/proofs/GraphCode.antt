@@ -1,5 +1,5 @@
 -- The code of a graph's instructions, one node after the other.
-use Rattle.std.proofs.Common.{◌≡◌, ℕ, ◌+◌, ◌^◌, ◌<◌, ◌≤◌, List, [], length, get_or, sym, ap, refl, subst, ◌∙◌, arith, Option, None, Some, ◌⊎◌, inl, inr}
+use Rattle.std.proofs.Common.{◌≡◌, ℕ, ◌+◌, ◌^◌, ◌<◌, ◌≤◌, List, [], length, get_or, sym, ap, refl, subst, ◌∙◌, arith, Option, None, Some, ◌⊎◌, inl, inr, Bool}
 use Rattle.std.proofs.lemmas.Bool.{cases_eq}
 use Rattle.std.proofs.lemmas.Option.{slice_get_within}
 use Rattle.std.specs.Option.{option_or}
@@ -33,10 +33,10 @@ over-cases : (x y : Option ℕ) (b : ℕ) → option_or x y ≡ Some b → (x �
 over-cases None y b e = inr e
 over-cases (Some c) y b e = inl e
 
-module _ (g : GraphOf) (reached : IsReached g) where
+module _ (linked : Bool) (g : GraphOf) (reached : IsReached linked g) where
   -- the number that stands at a node
   pub number-there : (n : ℕ) → n < length g.addrs → (number_at reached.code (get_or g.addrs n 0) ≡ Some (get_or g.numbers n 0)) × (get_or g.addrs n 0 + length_of (get_or g.numbers n 0) ≤ 2 ^ 64)
-  number-there n lt = (number_in-is reached.code (get_or g.addrs n 0) (get_or g.numbers n 0)).0 (graph_numbers reached.code reached.entry g n reached.is lt)
+  number-there n lt = (number_in-is reached.code (get_or g.addrs n 0) (get_or g.numbers n 0)).0 (graph_numbers linked reached.code reached.entry g n reached.is lt)
 
   -- the code has its bytes
   in-code : (n : ℕ) → n < length g.addrs → IsWithin (node_code g n) reached.code

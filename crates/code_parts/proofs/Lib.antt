@@ -15,6 +15,7 @@ pub mod FlowSize
 pub mod Groups
 pub mod VariableScope
 pub mod Lists
+pub mod Members
 pub mod VariableMaps
 pub mod PartOrder
 pub mod Registers

@@ -16,7 +16,7 @@ use Rattle.code_parts.specs.declared.part.Part.{Part}
 use Rattle.code_parts.specs.declared.part.Part.TheVariants.{Loop, Rest}
 use Rattle.code_parts.specs.declared.order.Ranked.{Ranked}
 use Rattle.code_parts.specs.Bodies.{Flow, own}
-use Rattle.code_parts.specs.Flows.{flow_of}
+use Rattle.code_parts.specs.Flows.{alone, flow_of}
 use Rattle.code_parts.specs.Graph.{IsPart}
 use Rattle.code_parts.specs.Order.{AreParts, StandsBefore, weight}
 use Rattle.code_parts.specs.inner.Ranks.{AreSorted, IsRanked, loops_to, rests_to}
@@ -198,9 +198,9 @@ chain rs s j (suc k) d lt same =
     omega (arith, first, second, heavy)
 
 pub listed_all : (g : GraphOf) (f : ForestOf) (none loops all : List Ranked) → none ≡ [] → map (λ (r : Ranked). r.part) loops ≡ map (λ (r : Ranked). r.part) none ++ loops_to (length f.heads) →
-    map (λ (r : Ranked). r.part) all ≡ map (λ (r : Ranked). r.part) loops ++ rests_to (flow_of g f []) (length g.addrs) → map (λ (r : Ranked). r.part) all ≡ loops_to (length f.heads) ++ rests_to (flow_of g f []) (length g.addrs)
+    map (λ (r : Ranked). r.part) all ≡ map (λ (r : Ranked). r.part) loops ++ rests_to (flow_of g f (alone g [])) (length g.addrs) → map (λ (r : Ranked). r.part) all ≡ loops_to (length f.heads) ++ rests_to (flow_of g f (alone g [])) (length g.addrs)
 listed_all g f none loops all empty first second =
-    second ∙ (λ i. first i ++ rests_to (flow_of g f []) (length g.addrs)) ∙ (λ i. (map (λ (r : Ranked). r.part) (empty i) ++ loops_to (length f.heads)) ++ rests_to (flow_of g f []) (length g.addrs))
+    second ∙ (λ i. first i ++ rests_to (flow_of g f (alone g [])) (length g.addrs)) ∙ (λ i. (map (λ (r : Ranked). r.part) (empty i) ++ loops_to (length f.heads)) ++ rests_to (flow_of g f (alone g [])) (length g.addrs))
 
 -- one more of them
 pub pushed : (rs new : List Ranked) (r : Ranked) (before xs ys : List Part) → new ≡ rs ++ r ∷ [] → map (λ (r : Ranked). r.part) rs ≡ before ++ xs → ys ≡ xs ++ r.part ∷ [] → map (λ (r : Ranked). r.part) new ≡ before ++ ys
@@ -222,10 +222,10 @@ next_loop l p e = loops-more l ∙ (λ i. loops_to l ++ sym e i ∷ [])
 
 module _ (g : GraphOf) (f : ForestOf) (flow : IsFlow g) (forest : IsForestOf g f) where
   abbrev fl : Flow
-  fl = flow_of g f []
+  fl = flow_of g f (alone g [])
 
   -- parts of one weight are one
-  one-weight : (p q : Part) → IsPart (flow_of g f []) p → IsPart (flow_of g f []) q → weight (flow_of g f []) (number_of f) p ≡ weight (flow_of g f []) (number_of f) q → p ≡ q
+  one-weight : (p q : Part) → IsPart (flow_of g f (alone g [])) p → IsPart (flow_of g f (alone g [])) q → weight (flow_of g f (alone g [])) (number_of f) p ≡ weight (flow_of g f (alone g [])) (number_of f) q → p ≡ q
   one-weight (Loop l) (Loop k) here there e =
       ap Loop (one-loop g f flow forest l k here there (forest.different (head_of f l) (head_of f k) (head-node g f flow forest l here) (head-node g f flow forest k there) (omega (arith, e))))
   one-weight (Loop l) (Rest r n) here there e = absurd (omega (arith, e))
@@ -235,8 +235,8 @@ module _ (g : GraphOf) (f : ForestOf) (flow : IsFlow g) (forest : IsForestOf g f
       let region : r ≡ q = sym here.2 ∙ ap fl.around same ∙ there.2 in
       λ i. Rest (region i) (same i)
 
-  pub are-parts : (before rs : List Ranked) (ps : List Part) → map (λ (r : Ranked). r.part) before ≡ loops_to (length f.heads) ++ rests_to (flow_of g f []) (length g.addrs) → All (IsRanked (flow_of g f []) f) before →
-      IsPermutation before rs → AreSorted rs → ps ≡ map (λ (r : Ranked). r.part) rs → AreParts (flow_of g f ps) (number_of f) ps
+  pub are-parts : (before rs : List Ranked) (ps : List Part) → map (λ (r : Ranked). r.part) before ≡ loops_to (length f.heads) ++ rests_to (flow_of g f (alone g [])) (length g.addrs) → All (IsRanked (flow_of g f (alone g [])) f) before →
+      IsPermutation before rs → AreSorted rs → ps ≡ map (λ (r : Ranked). r.part) rs → AreParts (flow_of g f (alone g ps)) (number_of f) ps
   are-parts before rs ps listed ranked moved sorted is = record {
     depth = depth_of f;
     outside = refl;
@@ -250,14 +250,14 @@ module _ (g : GraphOf) (f : ForestOf) (flow : IsFlow g) (forest : IsForestOf g f
     ordered = λ j k p q lt a b. before-is j k p q lt a b;
   }
     where
-      good : All (IsRanked (flow_of g f []) f) rs
-      good = All-permutation (IsRanked (flow_of g f []) f) before rs moved ranked
+      good : All (IsRanked (flow_of g f (alone g [])) f) rs
+      good = All-permutation (IsRanked (flow_of g f (alone g [])) f) before rs moved ranked
 
-      there : (p : Part) → IsPart (flow_of g f []) p → IsPart (flow_of g f ps) p
+      there : (p : Part) → IsPart (flow_of g f (alone g [])) p → IsPart (flow_of g f (alone g ps)) p
       there (Loop l) h = h
       there (Rest r n) h = h
 
-      here_ : (p : Part) → IsPart (flow_of g f ps) p → IsPart (flow_of g f []) p
+      here_ : (p : Part) → IsPart (flow_of g f (alone g ps)) p → IsPart (flow_of g f (alone g [])) p
       here_ (Loop l) h = h
       here_ (Rest r n) h = h
 
@@ -273,16 +273,16 @@ module _ (g : GraphOf) (f : ForestOf) (flow : IsFlow g) (forest : IsForestOf g f
       part-is : (k : ℕ) (p : Part) → slice_get ps k ≡ Some p → (k < length rs) × ((get_or rs k (dummy p)).part ≡ p)
       part-is k p e = let lt = slice-below ps k p e in (omega (arith, lt, count), sym (at k (dummy p) (omega (arith, lt, count))) ∙ get_or_from_slice_get ps k p p e)
 
-      sound : (p : Part) → Contains ps p → IsPart (flow_of g f []) p
+      sound : (p : Part) → Contains ps p → IsPart (flow_of g f (alone g [])) p
       sound p (k, lt, e) =
           let low : k < length rs = omega (arith, lt, count) in
-          subst (IsPart (flow_of g f [])) (sym (at k (dummy p) low) ∙ e) (good k (dummy p) low).part
+          subst (IsPart (flow_of g f (alone g []))) (sym (at k (dummy p) low) ∙ e) (good k (dummy p) low).part
 
       different : OnePlace ps
       different = subst OnePlace (sym is) (one-permuted (map (λ (r : Ranked). r.part) before) (map (λ (r : Ranked). r.part) rs) (IsPermutation-map (λ (r : Ranked). r.part) before rs moved)
           (subst OnePlace (sym listed) (all-one fl (length f.heads) (length g.addrs))))
 
-      before-is : (j k : ℕ) (p q : Part) → j < k → slice_get ps j ≡ Some p → slice_get ps k ≡ Some q → StandsBefore (flow_of g f ps) (number_of f) (depth_of f) p q
+      before-is : (j k : ℕ) (p q : Part) → j < k → slice_get ps j ≡ Some p → slice_get ps k ≡ Some q → StandsBefore (flow_of g f (alone g ps)) (number_of f) (depth_of f) p q
       before-is j k p q lt a b =
           let low = slice-below ps j p a in
           let high = slice-below ps k q b in
@@ -296,8 +296,8 @@ module _ (g : GraphOf) (f : ForestOf) (flow : IsFlow g) (forest : IsForestOf g f
           let up = sorted.heights j k d (omega (arith, lt)) (omega (arith, high, count)) in
           let x_depth : x.height + depth_of f (own p) ≡ length f.heads = ap (λ (z : Part). x.height + depth_of f (own z)) (sym x_at) ∙ x_is.height in
           let y_depth : y.height + depth_of f (own q) ≡ length f.heads = ap (λ (z : Part). y.height + depth_of f (own z)) (sym y_at) ∙ y_is.height in
-          let x_weight : x.weight ≡ weight (flow_of g f []) (number_of f) p = x_is.weight_is ∙ ap (weight (flow_of g f []) (number_of f)) x_at in
-          let y_weight : y.weight ≡ weight (flow_of g f []) (number_of f) q = y_is.weight_is ∙ ap (weight (flow_of g f []) (number_of f)) y_at in
+          let x_weight : x.weight ≡ weight (flow_of g f (alone g [])) (number_of f) p = x_is.weight_is ∙ ap (weight (flow_of g f (alone g [])) (number_of f)) x_at in
+          let y_weight : y.weight ≡ weight (flow_of g f (alone g [])) (number_of f) q = y_is.weight_is ∙ ap (weight (flow_of g f (alone g [])) (number_of f)) y_at in
           elim (cases_eq x.height y.height) [
             | inr other ↦ inl (omega (arith, up, other, x_depth, y_depth))
             | inl same ↦
@@ -305,7 +305,7 @@ module _ (g : GraphOf) (f : ForestOf) (flow : IsFlow g) (forest : IsForestOf g f
                 let heavy = chain rs sorted j (k - j) d (omega (arith, sum, high, count)) (same ∙ ap (λ n. (get_or rs n d).height) (sym sum)) in
                 let le : x.weight ≤ y.weight = (let e = ap (λ n. (get_or rs n d).weight) sum in omega (arith, heavy, e)) in
                 let apart : x.weight ≢ y.weight = λ (e : x.weight ≡ y.weight). clash j k p q lt low high a b
-                (one-weight p q (subst (IsPart (flow_of g f [])) x_at x_is.part) (subst (IsPart (flow_of g f [])) y_at y_is.part) (sym x_weight ∙ e ∙ y_weight)) in
+                (one-weight p q (subst (IsPart (flow_of g f (alone g []))) x_at x_is.part) (subst (IsPart (flow_of g f (alone g []))) y_at y_is.part) (sym x_weight ∙ e ∙ y_weight)) in
                 inr (omega (arith, same, x_depth, y_depth), lighter p q (omega (arith, le, apart, x_weight, y_weight)))
           ]
         where
@@ -314,7 +314,7 @@ module _ (g : GraphOf) (f : ForestOf) (flow : IsFlow g) (forest : IsForestOf g f
               let same = different j k p low high (get_or_from_slice_get ps j p p a ∙ e ∙ sym (get_or_from_slice_get ps k q p b)) in
               omega (arith, lt, same)
 
-          lighter : (p q : Part) → weight (flow_of g f []) (number_of f) p < weight (flow_of g f []) (number_of f) q → weight (flow_of g f ps) (number_of f) p < weight (flow_of g f ps) (number_of f) q
+          lighter : (p q : Part) → weight (flow_of g f (alone g [])) (number_of f) p < weight (flow_of g f (alone g [])) (number_of f) q → weight (flow_of g f (alone g ps)) (number_of f) p < weight (flow_of g f (alone g ps)) (number_of f) q
           lighter (Loop l) (Loop m) h = h
           lighter (Loop l) (Rest r n) h = h
           lighter (Rest r n) (Loop m) h = h

@@ -23,11 +23,12 @@ use Rattle.code_parts.specs.declared.part.Part.{Part}
 use Rattle.code_parts.specs.declared.part.Part.TheVariants.{Loop, Rest}
 use Rattle.code_parts.specs.Regions.{IsOfRegion}
 use Rattle.code_parts.specs.Graph.{IsCode, IsGraph, IsPart, StandsAt, has_edge}
-use Rattle.code_parts.specs.Flows.{AreCodeOf, IsReached, edge_number, flow_of, registers_of}
+use Rattle.code_parts.specs.Flows.{AreCodeOf, IsReached, alone, edge_number, flow_of, registers_of}
 use Rattle.code_parts.specs.Kept.{FlowOf, IsKept, flow_in}
 use Rattle.code_parts.proofs.CodeOf.{have_code}
 use Rattle.code_parts.proofs.FlowCode.{are-small, is-code, registers-rise}
 use Rattle.code_parts.proofs.FlowGraph.{edge-at, is-graph, walks}
+use Rattle.code_parts.proofs.FlowMade.{none-called, set-alone}
 use Rattle.code_parts.proofs.Lists.{rising-short}
 
 -- ---- registers
@@ -52,7 +53,7 @@ second_is (x ∷ xs) = refl
 
 -- ---- the flow of a graph that is reached
 
-module _ (s : FlowOf) (reached : IsReached s.graph) (forest : IsForestOf s.graph s.forest) where
+module _ (s : FlowOf) (reached : IsReached false s.graph) (forest : IsForestOf s.graph s.forest) where
   abbrev g : GraphOf
   g = s.graph
 
@@ -60,33 +61,33 @@ module _ (s : FlowOf) (reached : IsReached s.graph) (forest : IsForestOf s.graph
   f = s.forest
 
   graph_of : IsGraph (flow_in s)
-  graph_of = is-graph reached.code reached.entry g f s.parts reached.is forest
+  graph_of = is-graph false reached.code reached.entry g f (alone g s.parts) reached.is forest
 
   -- an instruction of the graph names registers
   writes_of : (n : ℕ) → n < length g.addrs → destination (get_or g.instrs n Ebreak) < 32
   writes_of n lt =
-      let same = (is_flow reached.code reached.entry g reached.is).as_long in
-      let at = graph_stands reached.code reached.entry g n (get_or g.instrs n Ebreak) reached.is lt (slice_get-get_or g.instrs n Ebreak (omega (arith, lt, same))) in
+      let same = (is_flow false reached.code reached.entry g reached.is).as_long in
+      let at = graph_stands false reached.code reached.entry g n (get_or g.instrs n Ebreak) reached.is lt (slice_get-get_or g.instrs n Ebreak (omega (arith, lt, same))) in
       let small = number-small reached.code (get_or g.addrs n 0) at.number reached.bytes ((number_in-is reached.code (get_or g.addrs n 0) at.number).0 at.there).0 in
       (are-small (get_or g.instrs n Ebreak) (instruction-named at.number (get_or g.instrs n Ebreak) small at.is)).0
 
   -- an edge leads to a node
   edge_of : (n : ℕ) (form : Form) → n < length g.addrs → has_edge (get_or g.instrs n Ebreak) form ≡ true → get_or (succs_of g.edges n) (edge_number form) 0 < length g.addrs
   edge_of n form lt has =
-      let at = edge-at reached.code reached.entry g f s.parts reached.is forest n form lt has in
-      (is_flow reached.code reached.entry g reached.is).within n (get_or (succs_of g.edges n) (edge_number form) 0) (node_at (succs_of g.edges n) (edge_number form) at.0)
+      let at = edge-at false reached.code reached.entry g f (alone g s.parts) reached.is forest n form lt has in
+      (is_flow false reached.code reached.entry g reached.is).within n (get_or (succs_of g.edges n) (edge_number form) 0) (node_at (succs_of g.edges n) (edge_number form) at.0)
 
   head_node : (l : ℕ) → l < length f.heads → head_of f l < length g.addrs
-  head_node l lt = ((walks reached.code reached.entry g f s.parts reached.is forest).head l lt).0
+  head_node l lt = ((walks false reached.code reached.entry g f (alone g s.parts) reached.is forest).head l lt).0
 
   exit_nodes : (l : ℕ) → l < length f.heads → All (λ x. x < length g.addrs) (exits_of f l)
-  exit_nodes l lt k d at = ((walks reached.code reached.entry g f s.parts reached.is forest).exit l (get_or (exits_of f l) k d) lt (k, at, default (exits_of f l) k d (get_or (exits_of f l) k d) at)).0
+  exit_nodes l lt k d at = ((walks false reached.code reached.entry g f (alone g s.parts) reached.is forest).exit l (get_or (exits_of f l) k d) lt (k, at, default (exits_of f l) k d (get_or (exits_of f l) k d) at)).0
 
 -- .. told by what a flow keeps
 module _ (g : GraphOf) (f : ForestOf) (parts : List Part) (regs : List ℕ) (mem ret : Bool) (code : List Range) (kept : IsKept g f parts regs mem ret code)
     (s : FlowOf) (is : record { graph = g; forest = f; parts = parts; code = code } ≡ s) where
-  reached : IsReached s.graph
-  reached = subst (λ (z : FlowOf). IsReached z.graph) is kept.reached
+  reached : IsReached false s.graph
+  reached = subst (λ (z : FlowOf). IsReached false z.graph) is kept.reached
 
   forest : IsForestOf s.graph s.forest
   forest = subst (λ (z : FlowOf). IsForestOf z.graph z.forest) is kept.forest
@@ -101,7 +102,11 @@ module _ (g : GraphOf) (f : ForestOf) (parts : List Part) (regs : List ℕ) (mem
   whole_code = subst (λ (z : FlowOf). AreCodeOf z.graph z.code) is kept.code_is
 
   pub code_stands : IsCode (flow_in s) s.code
-  code_stands = is-code reached.code reached.entry s.graph s.forest s.parts s.code reached.is forest reached.bytes (have_code s.graph reached s.code whole_code)
+  code_stands = is-code false reached.code reached.entry s.graph s.forest (alone s.graph s.parts) s.code reached.is forest reached.bytes (have_code false s.graph reached s.code whole_code) (set-alone s.graph s.parts)
+
+  -- it calls no function
+  pub calls_none : (n : ℕ) → n < length s.graph.addrs → (flow_in s).callee n ≡ None
+  calls_none n lt = none-called reached.code reached.entry s.graph s.forest s.parts reached.is n lt
 
   pub word_stands : (n : ℕ) → n < length s.graph.addrs → StandsAt (flow_in s) s.code n
   word_stands n lt = code_stands.each n lt
@@ -130,8 +135,8 @@ module _ (g : GraphOf) (f : ForestOf) (parts : List Part) (regs : List ℕ) (mem
   registers_named = subst (All (λ r. (0 < r) × (r < 32))) (sym regs_of) (named_registers s.graph.instrs)
 
 -- the flow of these
-pub same_flow : (s : FlowOf) (g : GraphOf) (f : ForestOf) (parts : List Part) → s.graph ≡ g → s.forest ≡ f → s.parts ≡ parts → flow_in s ≡ flow_of g f parts
-same_flow s g f parts a b c = λ i. flow_of (a i) (b i) (c i)
+pub same_flow : (s : FlowOf) (g : GraphOf) (f : ForestOf) (parts : List Part) → s.graph ≡ g → s.forest ≡ f → s.parts ≡ parts → flow_in s ≡ flow_of g f (alone g parts)
+same_flow s g f parts a b c = λ i. flow_of (a i) (b i) (alone (a i) (c i))
 
 -- ---- lists
 

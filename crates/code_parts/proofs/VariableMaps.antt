@@ -1,14 +1,16 @@
 -- Places as the code has them.
-use Rattle.std.proofs.Common.{◌≡◌, ◌≢◌, ℕ, suc, ◌+◌, ◌<◌, ◌≤◌, Bool, true, false, cond, eqb, List, length, get_or, refl, sym, ap, ◌∙◌, arith, inl, inr, ne_eqb, eq-eqb, get_or-set_other, get_or-set_same, ℤ, [], ◌∷◌, not}
+use Rattle.std.proofs.Common.{◌≡◌, ◌≢◌, ℕ, zero, suc, map, ◌+◌, ◌<◌, ◌≤◌, Bool, true, false, cond, eqb, List, length, get_or, refl, sym, ap, ◌∙◌, arith, inl, inr, ne_eqb, eq-eqb, get_or-set_other, get_or-set_same, ℤ, [], ◌∷◌, not}
 use Rattle.std.proofs.Math.ListN.{set}
 use Rattle.std.proofs.lemmas.Bool.{cases_eq}
-use Rattle.std.specs.List.{position_or_len}
+use Rattle.std.specs.List.{position_or_len, range_with_len}
+use Rattle.word_terms.specs.Tree.{MemVar}
+use Rattle.instr_axioms.specs.Axiom.{memory_if}
 use Rattle.rv_words.specs.declared.width.Width.{Width}
 use Rattle.rv_decode.specs.declared.instruction.Instr.{Instr}
 use Rattle.rv_decode.specs.declared.instruction.Instr.TheVariants as instr
 use Rattle.rv_decode.specs.Registers.{destination}
 use Rattle.instr_axioms.specs.Variables.{variable_of}
-use Rattle.code_parts.specs.Bodies.{VariableMap, is_store, place_after, stored, wrote}
+use Rattle.code_parts.specs.Bodies.{Flow, VariableMap, fresh, is_store, place_after, stored, wrote}
 use Rattle.code_parts.specs.Low.{AreLow}
 
 abbrev pub IsNoStore : Instr → Type 0
@@ -46,8 +48,39 @@ place_written v words d is some lt =
     ∙ (λ j. cond (sym (ne_eqb d 0 some) j) v (record { words = suc v.words; mems = v.mems; reg = λ r. cond (eqb r d) v.words (v.reg r); memory = v.memory }))
 
 -- an instruction that is no store writes its destination
-pub place_after-is : (i : Instr) (v : VariableMap) (d : ℕ) → IsNoStore i → d ≡ destination i → wrote d v ≡ place_after i v
-place_after-is i v d store is = ap (λ (e : ℕ). wrote e v) is ∙ (λ j. cond (sym (no-store i store) j) (stored v) (wrote (destination i) v))
+pub place_after-is : (i : Instr) (v : VariableMap) (d : ℕ) → IsNoStore i → d ≡ destination i → wrote d v ≡ place_after i 0 v
+place_after-is i v d store is = ap (λ (e : ℕ). wrote e v) is ∙ (λ j. cond (sym (no-store i store) j) (stored 0 v) (wrote (destination i) v))
+
+-- the next variables of memories, by themselves and as they are numbered
+pub numbered_memory : (m q : ℕ) → cond (eqb q 0) m (m + q) ≡ m + q
+numbered_memory m zero = omega arith
+numbered_memory m (suc q) = let other : eqb (suc q) 0 ≡ false = ne_eqb (suc q) 0 (λ e. absurd (omega (arith, e))) in λ i. cond (other i) m (m + suc q)
+
+-- the next variables are those that the code numbers
+pub fresh_is : (f : Flow) (vars regs : List ℕ) (memory words mems w m : ℕ) → ((r : ℕ) → variable_of vars r ≡ words + position_or_len (λ q. eqb q r) regs) → memory ≡ mems → regs ≡ f.regs → w ≡ words + length regs → m ≡ mems + f.mems
+    → record { words = w; mems = m; reg = variable_of vars; memory = λ q. cond (eqb q 0) memory (mems + q) } ≡ fresh f words mems
+fresh_is f vars regs memory words mems w m each same are all many = λ i. record {
+  words = (all ∙ ap (λ (rs : List ℕ). words + length rs) are) i;
+  mems = many i;
+  reg = λ r. (each r ∙ ap (λ (rs : List ℕ). words + position_or_len (λ q. eqb q r) rs) are) i;
+  memory = λ q. (ap (λ x. cond (eqb q 0) x (mems + q)) same ∙ numbered_memory mems q) i;
+}
+
+-- after a store the first memory is the next variable, and the others stay
+pub stored_is : (words mems memory others : ℕ) (reg : ℕ → ℕ)
+    → record { words = words; mems = mems + 1; reg = reg; memory = λ q. cond (eqb q 0) mems (others + q) } ≡ stored 0 (record { words = words; mems = mems; reg = reg; memory = λ q. cond (eqb q 0) memory (others + q) })
+stored_is words mems memory others reg =
+    let next : mems + 1 ≡ suc mems = omega arith in
+    λ i. record { words = words; mems = next i; reg = reg; memory = λ q. same (eqb q 0) (others + q) i }
+  where
+    same : (b : Bool) (x : ℕ) → cond b mems x ≡ cond b mems (cond b memory x)
+    same true x = refl
+    same false x = refl
+
+-- the memory, if there is one, as a value
+pub memories_are : (f : Flow) (v : VariableMap) (has : Bool) → f.mems ≡ cond has 1 0 → memory_if has (MemVar (v.memory 0)) ≡ map (λ q. MemVar (v.memory q)) (range_with_len 0 f.mems)
+memories_are f v true many = λ i. map (λ q. MemVar (v.memory q)) (range_with_len 0 (sym many i))
+memories_are f v false many = λ i. map (λ q. MemVar (v.memory q)) (range_with_len 0 (sym many i))
 
 -- ---- low numbers
 

@@ -1,6 +1,7 @@
 pub mod Bodies
 pub mod Graph
 pub mod Flows
+pub mod Members
 pub mod Order
 pub mod Regions
 pub mod Kept

@@ -34,7 +34,7 @@ fn steps_of(
     place: &VariableMap,
     steps: List<Step>,
 ) -> Result<List<Step>, NoMemory>
-    ensures { IfOk result (λ ss. map step_tree ss ≡ map step_tree steps ++ (spec.needs i (place_of place.now) ++ spec.writes i addr length (place_of place.now))) }
+    ensures { IfOk result (λ ss. map step_tree ss ≡ map step_tree steps ++ (spec.needs i 0 (place_of place.now) ++ spec.writes i addr length 0 (place_of place.now))) }
 {
     let mut steps = steps;
     add_needs(alloc, i, place, &mut steps)?;
@@ -53,7 +53,7 @@ fn returning_body(
     place: &VariableMap,
     steps: List<Step>,
 ) -> Result<Body, NoMemory>
-    ensures { IfOk result (λ b. body_tree b ≡ with_steps (map step_tree steps) (returned_body (flow_in flow.now) i addr length (place_of place.now))) }
+    ensures { IfOk result (λ b. body_tree b ≡ with_steps (map step_tree steps) (returned_body (flow_in flow.now) i addr length 0 (place_of place.now))) }
 {
     let mut steps = steps;
     add_needs(alloc, i, place, &mut steps)?;
@@ -91,6 +91,7 @@ fn body_from(
             end: End::Leave(0, values),
         });
     }
+    flow.law_of_calls(n);
     let i = flow.instr(n);
     if is_jump_through(i) {
         return returning_body(alloc, flow, i, flow.addr(n), flow.size(n), place, steps);

@@ -1,6 +1,6 @@
 //! What a graph and its forest tell of a function, in the form from which definitions of parts are made.
 
-ghost use Rattle.std.specs.Prelude.{◌≡◌, ◌<◌, ◌≤◌, ◌^◌, IfOk, IfSome, drop, length, slice_index, true};
+ghost use Rattle.std.specs.Prelude.{◌≡◌, ◌<◌, ◌≤◌, ◌^◌, IfOk, IfSome, None, drop, false, if◌then◌else◌, length, slice_index, true};
 ghost use Rattle.std.specs.List.{All};
 ghost use Rattle.loop_forest.specs.Forest.{IsForestOf};
 ghost use Rattle.code_parts.specs.Bodies.{size};
@@ -53,7 +53,7 @@ impl<'a> Flow<'a> {
         forest: &'a Forest,
         parts: &'a [Part],
     ) -> Result<Flow<'a>, NoMemory>
-        requires reached { IsReached graph.now }
+        requires reached { IsReached false graph.now }
         requires forest { IsForestOf graph.now forest.now }
         requires few { length parts.now < 2 ^ 32 }
         ensures graph { IfOk result (λ s. s.graph ≡ graph.now) }
@@ -182,7 +182,7 @@ impl<'a> Flow<'a> {
 
     /// Whether there is a memory.
     pub fn has_mem(&self) -> bool
-        ensures { result ≡ (flow_in self.now).has_mem }
+        ensures { (flow_in self.now).mems ≡ if result then 1 else 0 }
     {
         self.has_mem
     }
@@ -216,6 +216,14 @@ impl<'a> Flow<'a> {
     /// Each instruction stands in the code.
     pub fn law_of_code(&self)
         ensures { IsCode (flow_in self.now) self.now.code }
+    {
+        let _parts = self.parts;
+    }
+
+    /// A function alone calls no other.
+    pub fn law_of_calls(&self, n: u32)
+        requires { n < (flow_in self.now).nodes }
+        ensures { (flow_in self.now).callee n ≡ None }
     {
         let _parts = self.parts;
     }

@@ -21,7 +21,7 @@ pub use definition::{first_node, part_def};
 pub use ends::{ends_at, rest_targets, with_pc};
 pub use flow::Flow;
 pub use group::group_with;
-pub use laws::{law_of_definitions, law_of_entries, law_of_flows, law_of_orders};
+pub use laws::{law_of_definitions, law_of_entries, law_of_flows, law_of_orders, law_of_settings};
 pub use order::parts_of;
 pub use part::Part;
 pub use uses::is_jump_through;

@@ -19,7 +19,7 @@ pub fn add_needs(
     place: &VariableMap,
     steps: &mut List<Step>,
 ) -> Result<(), NoMemory>
-    ensures { OnOk result (map step_tree steps.new ≡ map step_tree steps.old ++ spec.needs i (place_of place.now)) }
+    ensures { OnOk result (map step_tree steps.new ≡ map step_tree steps.old ++ spec.needs i 0 (place_of place.now)) }
 {
     if let Some(c) = condition(alloc, i, Form::Next, &place.names)? {
         steps.push(Step::Need(c))?;
@@ -36,7 +36,7 @@ pub fn add_writes(
     place: &VariableMap,
     steps: &mut List<Step>,
 ) -> Result<(), NoMemory>
-    ensures { OnOk result (map step_tree steps.new ≡ map step_tree steps.old ++ spec.writes i addr length (place_of place.now)) }
+    ensures { OnOk result (map step_tree steps.new ≡ map step_tree steps.old ++ spec.writes i addr length 0 (place_of place.now)) }
 {
     if let Instr::Store { .. } = i {
         let m = memory_after(alloc, i, &place.names)?;

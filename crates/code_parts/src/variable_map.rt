@@ -10,5 +10,7 @@ pub struct VariableMap {
     pub words: u32,
     pub mems: u32,
     pub names: Variables,
+    /// Where the variables of memories behind the first one are numbered from.
+    pub others: u32,
     ghost low: { AreLow words mems names.words names.memory },
 }

@@ -18,7 +18,8 @@ use word_terms::{Mem, Word};
 
 /// How many memories there are.
 pub fn mem_count(flow: &Flow<'_>) -> u32
-    ensures { result ≡ spec.mem_count (flow_in flow.now) }
+    ensures is { result ≡ (flow_in flow.now).mems }
+    ensures few { result ≤ 1 }
 {
     if flow.has_mem() { 1 } else { 0 }
 }
@@ -36,13 +37,14 @@ pub fn fresh(flow: &Flow<'_>, words: u32, mems: u32) -> VariableMap
         words: words + regs.len() as u32,
         mems: mems + mem_count(flow),
         names: Variables::numbered(regs, words, mems),
+        others: mems,
     }
 }
 
 /// The place after a store: the memory is the next memory variable.
 fn stored(place: VariableMap) -> VariableMap
     requires { place.mems < 2 ^ 16 }
-    ensures { place_of result ≡ spec.stored (place_of place) }
+    ensures { place_of result ≡ spec.stored 0 (place_of place) }
 {
     let mut names = place.names;
     names.memory = place.mems;
@@ -50,6 +52,7 @@ fn stored(place: VariableMap) -> VariableMap
         words: place.words,
         mems: place.mems + 1,
         names,
+        others: place.others,
     }
 }
 
@@ -68,6 +71,7 @@ fn wrote(d: u8, place: VariableMap) -> VariableMap
         words: place.words + 1,
         mems: place.mems,
         names,
+        others: place.others,
     }
 }
 
@@ -76,7 +80,7 @@ pub fn after(i: Instr, place: VariableMap) -> VariableMap
     requires words { place.words < 2 ^ 16 }
     requires mems { place.mems < 2 ^ 16 }
     requires named { destination i < 32 }
-    ensures { place_of result ≡ spec.place_after i (place_of place) }
+    ensures { place_of result ≡ spec.place_after i 0 (place_of place) }
 {
     if let Instr::Store { .. } = i {
         return stored(place);
@@ -85,6 +89,7 @@ pub fn after(i: Instr, place: VariableMap) -> VariableMap
 }
 
 /// The registers and the memory as values.
+#[tactic(auto, using(crate::proofs::VariableMaps::memories_are))]
 pub fn current(alloc: Global, flow: &Flow<'_>, place: &VariableMap) -> Result<Values, NoMemory>
     ensures { IfOk result (λ v. values_tree v ≡ spec.current (flow_in flow.now) (place_of place.now)) }
 {

@@ -17,5 +17,5 @@ abbrev pub body_on : ℕ → Flow → Part → ℕ → VariableMap → BodyTree
 body_on room f p n v = if f.is_cut n then end_at f p n v else body_at room f p n v
 
 -- the body for a return
-abbrev pub returned_body : Flow → Instr → ℕ → ℕ → VariableMap → BodyTree
-returned_body f i a k v = with_steps (needs i v) (Leave 0 (with_pc (pc_after i Next a k (names v)) (current f v)))
+abbrev pub returned_body : Flow → Instr → ℕ → ℕ → ℕ → VariableMap → BodyTree
+returned_body f i a k q v = with_steps (needs i q v) (Leave 0 (with_pc (pc_after i Next a k (names v q)) (current f v)))

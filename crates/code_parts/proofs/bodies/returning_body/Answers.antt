@@ -7,5 +7,5 @@ use Rattle.code_parts.proofs.bodies.returning_body.Goals as goal
 
 pub returns : goal.returns
 returns c =
-    left_after _ 0 c.in_ok-values-2.values _ (map step_tree c.args.steps) (needs c.args.i (place_of c.args.place.now)) c.in_ok-add_needs.ensures refl
+    left_after _ 0 c.in_ok-values-2.values _ (map step_tree c.args.steps) (needs c.args.i 0 (place_of c.args.place.now)) c.in_ok-add_needs.ensures refl
     (c.in_ok-values-2.ensures ∙ (λ i. with_pc (c.in_ok-pc.ensures i) (c.in_ok-values.ensures i)))

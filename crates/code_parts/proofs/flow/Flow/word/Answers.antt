@@ -1,6 +1,3 @@
-use Rattle.std.proofs.Common.{get_or, sym, ap, ◌∙◌}
-use Rattle.std.proofs.lemmas.Option.{get_or_from_slice_get}
-use Rattle.code_parts.specs.Kept.{FlowOf}
 use Rattle.code_parts.proofs.Settings.{word_stands}
 use Rattle.code_parts.proofs.flow.Flow.word.Goals as goal
 
