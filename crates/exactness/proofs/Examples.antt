@@ -33,7 +33,7 @@ use Rattle.code_parts.specs.declared.part.Part.TheVariants.{Loop, Rest}
 use Rattle.code_parts.specs.Bodies.{Flow, part_def}
 use Rattle.code_parts.specs.Graph.{has_edge, IsEdge, IsPart, IsPlaced, IsGraph, StandsAt, IsCode}
 use Rattle.exactness.specs.Exact.{IsAtReturn, FirstReturns, Exact}
-use Rattle.exactness.specs.Parts.{HasParts, LeavesAs, Meets}
+use Rattle.exactness.specs.Parts.{HasParts, IsAlone, LeavesAs, Meets}
 use Rattle.exactness.proofs.Runs.{law-of-part, nothing-lost}
 
 abbrev instructions : ℕ → Instr
@@ -69,7 +69,9 @@ summing = record {
   returns = true;
   number = numbers;
   regs = 1 ∷ 10 ∷ 11 ∷ [];
-  has_mem = false;
+  mems = 0;
+  uses = λ n. 0;
+  callee = λ n. None;
 }
 
 abbrev bytes : List ℕ
@@ -143,6 +145,7 @@ is_graph = record {
   cut_inner = cut_inner;
   head_is = head_is;
   loop_head = loop_head;
+  calls = λ n c lt e. absurd (cc);
   loop_exit = loop_exit;
 }
   where
@@ -238,7 +241,8 @@ adds = record {
   writes = λ ne. (1, omega arith, refl);
   memory = λ h. absurd (no_cut h);
   form = form;
-  goes = goes;
+  goes = λ form v none e. goes form v e;
+  calls = λ c e. absurd (let clash : None ≡ Some c = e in cc);
   return_is = λ h. absurd (no_cut h);
 }
   where
@@ -268,7 +272,8 @@ counts = record {
   writes = λ ne. (2, omega arith, refl);
   memory = λ h. absurd (no_cut h);
   form = form;
-  goes = goes;
+  goes = λ form v none e. goes form v e;
+  calls = λ c e. absurd (let clash : None ≡ Some c = e in cc);
   return_is = λ h. absurd (no_cut h);
 }
   where
@@ -297,7 +302,8 @@ branches = record {
   writes = λ ne. absurd (ne refl);
   memory = λ h. absurd (no_cut h);
   form = form;
-  goes = goes;
+  goes = λ form v none e. goes form v e;
+  calls = λ c e. absurd (let clash : None ≡ Some c = e in cc);
   return_is = λ h. absurd (no_cut h);
 }
   where
@@ -327,7 +333,8 @@ comes_back = record {
   writes = λ ne. absurd (ne refl);
   memory = λ h. absurd (no_cut h);
   form = form;
-  goes = goes;
+  goes = λ form v none e. goes form v e;
+  calls = λ c e. absurd (let clash : None ≡ Some c = e in cc);
   return_is = λ h. refl;
 }
   where
@@ -365,9 +372,12 @@ has_parts = record { regs = refl; mems = refl; defs = defs; whole = (omega arith
     defs (Rest r (suc (suc (suc zero)))) (lt, cut, at) = ap (λ q. Some (part_def summing (Rest q 3))) at
     defs (Rest r (suc (suc (suc (suc n))))) (lt, cut, at) = absurd (omega arith)
 
+by_itself : IsAlone summing
+by_itself = record { mems = omega arith; uses = λ n lt. refl; calls = λ n lt. refl }
+
 -- nothing is lost of it
 pub exact-summing : (file : List ℕ) → IsWithin (range_bytes group.code) (code_of_file file) → Exact file group
-exact-summing file in_file = nothing-lost file group summing 0 is_graph is_code has_parts in_file
+exact-summing file in_file = nothing-lost file group summing 0 is_graph is_code by_itself has_parts in_file
 
 -- ---- what it gives
 
@@ -442,5 +452,5 @@ first-returns = record {
 
 -- and so evaluation of the whole function gives what it returns with, as it does of each state in which the code is held
 gives : LeavesAs group 2 [] begins 8 Ret 0 (after 4) ⊎ Meets group 2 [] begins 8 4
-gives = law-of-part summing group 0 is_graph is_code has_parts (Rest None 0) (omega arith, refl, refl) [] begins (after 4) 4
+gives = law-of-part summing group 0 is_graph is_code by_itself has_parts (Rest None 0) (omega arith, refl, refl) [] begins (after 4) 4
     (record { count = refl; code = λ a b e. e; beside_code = λ a b e. refl }) refl first-returns 8 (omega arith)

@@ -1,12 +1,14 @@
 -- A group that is made of a graph's parts in order has a definition for each part.
-use Rattle.std.proofs.Common.{◌≡◌, ℕ, ◌+◌, None, List, length, ap, ◌∙◌}
+use Rattle.std.proofs.Common.{◌≡◌, ℕ, ◌+◌, ◌≤◌, Bool, true, false, cond, None, List, length, refl, sym, ap, ◌∙◌, arith, zero-add}
 use Rattle.std.specs.Prelude.{slice_get}
+use Rattle.std.specs.List.{list_any}
 use Rattle.std.proofs.lemmas.List.{length-map}
-use Rattle.rv_words.specs.Bytes.{AreBytes}
+use Rattle.rv_words.specs.Bytes.{AreBytes, Bytes}
 use Rattle.rv_words.specs.declared.range.Range.{Range}
 use Rattle.rv_words.specs.Ranges.{range_bytes}
 use Rattle.elf_image.specs.Image.{code_of_file}
 use Rattle.sep_assert.specs.Code.{IsWithin}
+use Rattle.instr_axioms.specs.Terms.{has_memory}
 use Rattle.flow_graph.specs.Graph.{GraphOf, IsGraphOf}
 use Rattle.loop_forest.specs.Forest.{ForestOf, IsForestOf, number_of}
 use Rattle.tailrec_lang.specs.Tree.{DefTree, GroupTree}
@@ -14,14 +16,14 @@ use Rattle.code_parts.specs.declared.part.Part.{Part}
 use Rattle.code_parts.specs.declared.part.Part.TheVariants.{Rest}
 use Rattle.code_parts.specs.Bodies.{Flow, part_def}
 use Rattle.code_parts.specs.Graph.{IsPart, IsMade}
-use Rattle.code_parts.specs.Flows.{HaveCode, flow_of, group_of}
+use Rattle.code_parts.specs.Flows.{HaveCode, alone, flow_of, group_of, place_in}
 use Rattle.code_parts.specs.Order.{AreParts}
 use Rattle.code_parts.proofs.FlowEntry.{last-is, whole-is}
 use Rattle.code_parts.proofs.FlowGraph.{is-graph}
-use Rattle.code_parts.proofs.FlowMade.{is-made}
+use Rattle.code_parts.proofs.FlowMade.{is-made, none-called}
 use Rattle.code_parts.proofs.Lists.{slice-mapped}
 use Rattle.exactness.specs.Exact.{Exact}
-use Rattle.exactness.specs.Parts.{HasParts}
+use Rattle.exactness.specs.Parts.{HasParts, IsAlone}
 use Rattle.exactness.proofs.Runs.{nothing-lost}
 
 -- the group of a graph whose last part is the rest of the whole function from the entry on
@@ -34,11 +36,22 @@ has-parts f g parts entry made whole last = record {
   last = ap (λ (ds : List DefTree). length ds) made.defs ∙ length-map parts (part_def f) ∙ last;
 }
 
+at-most-one : (b : Bool) → cond b 1 0 ≤ 1
+at-most-one true = omega arith
+at-most-one false = omega arith
+
+pub is-alone : (code : Bytes) (entry : ℕ) (g : GraphOf) (f : ForestOf) (parts : List Part) → IsGraphOf false code entry g → IsAlone (flow_of g f (alone g parts))
+is-alone code entry g f parts graph = record {
+  mems = at-most-one (list_any has_memory g.instrs);
+  uses = λ n lt. refl;
+  calls = λ n lt. none-called code entry g f parts graph n lt;
+}
+
 -- what is made of a function of a file loses nothing
-pub flow-exact : (file : List ℕ) (entry : ℕ) (g : GraphOf) (f : ForestOf) (parts : List Part) (name : List ℕ) (ranges : List Range) → IsGraphOf (code_of_file file) entry g → IsForestOf g f → AreBytes (code_of_file file) →
-    HaveCode g (code_of_file file) ranges → AreParts (flow_of g f parts) (number_of f) parts → IsWithin (range_bytes ranges) (code_of_file file) → Exact file (group_of (flow_of g f parts) name ranges parts)
+pub flow-exact : (file : List ℕ) (entry : ℕ) (g : GraphOf) (f : ForestOf) (parts : List Part) (name : List ℕ) (ranges : List Range) → IsGraphOf false (code_of_file file) entry g → IsForestOf g f → AreBytes (code_of_file file) →
+    HaveCode g (code_of_file file) ranges → AreParts (flow_of g f (alone g parts)) (number_of f) parts → IsWithin (range_bytes ranges) (code_of_file file) → Exact file (group_of (flow_of g f (alone g parts)) name ranges parts)
 flow-exact file entry g f parts name ranges graph forest bytes have order within =
     let code = code_of_file file in
     let made = is-made code entry g f parts name ranges graph forest bytes have order in
-    nothing-lost file (group_of (flow_of g f parts) name ranges parts) (flow_of g f parts) g.entry (is-graph code entry g f parts graph forest) made.code
-    (has-parts (flow_of g f parts) (group_of (flow_of g f parts) name ranges parts) parts g.entry made (whole-is code entry g f parts graph forest order) (last-is code entry g f parts graph forest order)) within
+    nothing-lost file (group_of (flow_of g f (alone g parts)) name ranges parts) (flow_of g f (alone g parts)) g.entry (is-graph false code entry g f (alone g parts) graph forest) made.code (is-alone code entry g f parts graph)
+    (has-parts (flow_of g f (alone g parts)) (group_of (flow_of g f (alone g parts)) name ranges parts) parts g.entry made (whole-is false code entry g f (alone g parts) graph forest order) (last-is false code entry g f (alone g parts) graph forest order ∙ ap (λ k. k + 1) (sym (zero-add (place_in parts (Rest None g.entry)))))) within

@@ -5,6 +5,9 @@ pub mod BodyLemmas
 pub mod PartLaw
 pub mod Simulation
 pub mod Whole
+pub mod GroupOfFunctions
+pub mod Family
+pub mod Members
 pub mod Runs
 pub mod GroupOfParts
 pub mod Examples

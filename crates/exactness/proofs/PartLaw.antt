@@ -1,21 +1,22 @@
 -- The law of a part: a run from the part's first node that first returns is an evaluation of the part's definition.
-use Rattle.std.proofs.Common.{◌≡◌, ℕ, zero, suc, ◌+◌, ◌*◌, ◌<◌, ◌≤◌, Bool, true, false, cond, eqb, eqb-true, ◌⊎◌, inl, inr, Option, Some, None, option_map, [], ◌∷◌, length, refl, sym, ap, subst, ◌∙◌, arith}
+use Rattle.std.proofs.Common.{◌≡◌, ℕ, zero, suc, ◌+◌, ◌-◌, ◌*◌, ◌<◌, ◌≤◌, Bool, true, false, cond, eqb, eqb-true, eq-eqb, ◌⊎◌, inl, inr, Option, Some, None, option_map, [], ◌∷◌, length, refl, sym, ap, subst, ◌∙◌, arith}
 use Rattle.std.specs.Prelude.{slice_get}
 use Rattle.word_terms.specs.Tree.{Var}
 use Rattle.word_terms.specs.Environment.{Environment, no_variables}
 use Rattle.word_terms.specs.Value.{word_value, cond_holds}
 use Rattle.tailrec_lang.specs.Tree.{ValuesTree, BodyTree, Call, Again, Leave, NoArm, Arm}
-use Rattle.tailrec_lang.specs.Eval.{Arguments, Meaning, Ending, Exited, and_then, body_ending, arm_ending, arguments_of, with_arguments, needs}
+use Rattle.tailrec_lang.specs.Eval.{Arguments, Meaning, Ending, Exited, NeedFalse, and_then, body_ending, arm_ending, arguments_of, with_arguments, needs}
 use Rattle.code_parts.specs.declared.part.Part.{Part}
 use Rattle.code_parts.specs.declared.part.Part.TheVariants.{Loop, Rest}
-use Rattle.code_parts.specs.Bodies.{Flow, size, VariableMap, Action, Straight, Fork, Return, action, mem_count, fresh, start, current, with_pc, own, first, rest_targets, targets, rest_from, index_of, end_of, or_else, arms_over, last_at, rest_arms, end_at, action_body, body_at, rest_body, part_body}
-use Rattle.exactness.proofs.Returns.{Comes}
-use Rattle.exactness.proofs.StateVariables.{Stands, stands-fresh, stands-start, returned-values}
+use Rattle.code_parts.specs.Bodies.{Flow, size, Callee, VariableMap, Action, Straight, Fork, Return, Enter, return_arm, action, fresh, start, current, with_pc, own, first, rest_targets, targets, rest_from, index_of, end_of, or_else, arms_over, last_at, rest_arms, end_at, action_body, body_at, rest_body, part_body}
+use Rattle.exactness.proofs.Returns.{Comes, split}
+use Rattle.exactness.proofs.StateVariables.{Stands, stands-fresh, stands-start, stands-returned, returned-values}
 use Rattle.exactness.proofs.BodyLemmas.{after_steps, AllHold, needs_passed, ending-steps, arm-over, is-found, found-at, contains-at}
 use Rattle.tailrec_lang.specs.Registers.{AreRegistersFrom}
 use Rattle.code_parts.specs.Graph.{IsPart, IsPlaced, IsGraph}
-use Rattle.code_parts.proofs.Edges.{Leads, end-some, leads-edge}
-use Rattle.exactness.proofs.Graphs.{return-row}
+use Rattle.code_parts.proofs.Edges.{Leads, end-some, leads-calling}
+use Rattle.code_parts.proofs.Edges.{calls-row}
+use Rattle.exactness.proofs.Graphs.{return-calling}
 
 -- results with the returned address in front
 abbrev pub with_address : ℕ → Arguments → Arguments
@@ -30,12 +31,14 @@ abbrev pub slack : Flow → Part → ℕ
 slack f (Loop l) = 1
 slack f (Rest r n) = slack_at (f.loop_of n)
 
-module _ (f : Flow) (State : Type 0) (pc : State → ℕ) (args : State → Arguments) (Returns : State → Type 0) (Good : State → Type 0) (Steps : State → State → Type 0) where
+module _ (f : Flow) (State : Type 0) (pc : State → ℕ) (args : State → Arguments) (back : State → ℕ) (Returns Calls : State → Type 0) (Good : State → Type 0) (Steps : State → State → Type 0) where
   -- the step from s to u is what a definition has for the instruction
   abbrev pub IsDone : Action → VariableMap → Environment → State → State → Type 0
-  IsDone (Straight ss w to) v e s u = AllHold ss e × Stands f w (after_steps ss e) (args u) × (pc u ≡ f.addr to) × (Returns s → ⊥)
-  IsDone (Fork c a b) v e s u = (args u ≡ args s) × (pc u ≡ f.addr (cond (cond_holds c e) a b)) × (Returns s → ⊥)
-  IsDone (Return ss t) v e s u = AllHold ss e × (word_value t (after_steps ss e) ≡ pc u) × (arguments_of (current f v) (after_steps ss e) ≡ args u) × Returns s
+  IsDone (Straight ss w to) v e s u = AllHold ss e × Stands f w (after_steps ss e) (args u) × (pc u ≡ f.addr to) × (Returns s → ⊥) × (Calls s → ⊥)
+  IsDone (Fork c a b) v e s u = (args u ≡ args s) × (pc u ≡ f.addr (cond (cond_holds c e) a b)) × (Returns s → ⊥) × (Calls s → ⊥)
+  IsDone (Return ss t) v e s u = AllHold ss e × (word_value t (after_steps ss e) ≡ pc u) × (arguments_of (current f v) (after_steps ss e) ≡ args u) × Returns s × (Calls s → ⊥)
+  IsDone (Enter ss w c to_back to) v e s u =
+      AllHold ss e × Stands f w (after_steps ss e) (args u) × (pc u ≡ c.entry) × (back s ≡ to_back) × (to_back ≡ f.addr to) × Calls s × (Returns s → ⊥)
 
   -- the evaluation of a part leaves by the return, in t
   pub record LeavesIn (p : Part) (t : State) (o : Ending) : Type 0 where
@@ -55,34 +58,49 @@ module _ (f : Flow) (State : Type 0) (pc : State → ℕ) (args : State → Argu
     pub state : State
     pub place : pc state ≡ f.addr node
     pub good : Good state
-    pub comes : Comes State Returns Steps steps state t
+    pub comes : Comes State pc back Returns Calls Steps t [] steps state
     pub left : ℕ
     pub enough : 2 * steps ≤ left
     pub ends : o ≡ Exited exit (args state) left
+
+  -- the evaluation of a function that is called leaves by the return, in t
+  pub record ReturnsIn (c : Callee) (t : State) (o : Ending) : Type 0 where
+    pub returns : c.returns ≡ true
+    pub good : Good t
+    pub left : ℕ
+    pub ends : o ≡ Exited 0 (with_address (pc t) (args t)) left
 
   abbrev pub Leaves : Part → ℕ → State → Ending → Type 0
   Leaves p k t o = LeavesIn p t o ⊎ LeavesAt p k t o
 
 module _ (f : Flow) (graph : IsGraph f) (rise : AreRegistersFrom 1 f.regs)
-    (State : Type 0) (pc : State → ℕ) (args : State → Arguments) (Returns : State → Type 0) (Good : State → Type 0) (Steps : State → State → Type 0)
-    (long : (s : State) → (length (args s).words ≡ length f.regs) × (length (args s).mems ≡ mem_count f))
+    (State : Type 0) (pc : State → ℕ) (args : State → Arguments) (back : State → ℕ) (Returns Calls : State → Type 0) (Good : State → Type 0) (Steps : State → State → Type 0)
+    (long : (s : State) → (length (args s).words ≡ length f.regs) × (length (args s).mems ≡ f.mems))
     (done : (n : ℕ) (v : VariableMap) (e : Environment) (s u : State) → n < f.nodes → Good s → pc s ≡ f.addr n → Stands f v e (args s) → Steps s u
-    → Good u × IsDone f State pc args Returns Good Steps (action f n v) v e s u)
+    → Good u × IsDone f State pc args back Returns Calls Good Steps (action f n v) v e s u)
     (call : Meaning)
+    (more : (d : ℕ) (x : Arguments) (m r i : ℕ) (y : Arguments) (left : ℕ) → call d x m ≡ Exited i y left → call d x (m + r) ≡ Exited i y (left + r))
     (enter : (p : Part) (x : Arguments) (m : ℕ) → IsPart f p → call (f.number p) x (suc m) ≡ body_ending call (f.number p) (part_body f p) (with_arguments no_variables x) 0 m)
   where
     abbrev Runs : ℕ → State → State → Type 0
-    Runs = Comes State Returns Steps
+    Runs k s t = Comes State pc back Returns Calls Steps t [] k s
 
     abbrev Gives : Part → ℕ → State → Ending → Type 0
-    Gives = Leaves f State pc args Returns Good Steps
+    Gives = Leaves f State pc args back Returns Calls Good Steps
 
     -- what is owed of a part and a number of steps, for each number of turns that is large enough
     abbrev pub Law : ℕ → Part → Type 0
     Law k p = (s t : State) (m : ℕ) → Good s → pc s ≡ f.addr (first f p) → Runs k s t → 2 * k ≤ m + slack f p → Gives p k t (call (f.number p) (args s) m)
 
-    abbrev LawsBelow : ℕ → Type 0
-    LawsBelow k = (j : ℕ) → j < k → (p : Part) → IsPart f p → Law j p
+    -- .. and of a function that is called
+    abbrev pub CallLaw : ℕ → Callee → Type 0
+    CallLaw k c = (s t : State) (m : ℕ) → Good s → pc s ≡ c.entry → Runs k s t → 2 * k ≤ m → ReturnsIn f State pc args back Returns Calls Good Steps c t (call c.def (args s) m)
+
+    abbrev pub LawsAt : ℕ → Type 0
+    LawsAt k = ((p : Part) → IsPart f p → Law k p) × ((n : ℕ) (c : Callee) → n < f.nodes → f.callee n ≡ Some c → CallLaw k c)
+
+    abbrev pub LawsBelow : ℕ → Type 0
+    LawsBelow k = (j : ℕ) → j < k → LawsAt j
 
     along : (p : Part) (k : ℕ) (t : State) (o o' : Ending) → o' ≡ o → Gives p k t o → Gives p k t o'
     along p k t o o' e h = subst (Gives p k t) (sym e) h
@@ -134,7 +152,7 @@ module _ (f : Flow) (graph : IsGraph f) (rise : AreRegistersFrom 1 f.regs)
     end-law k laws (Loop l) there t n x e u j o m lt good place same comes enough b h =
         by (λ at. longer (Loop l) j k t _ (omega arith)
         (along (Loop l) j t (call (f.number (Loop l)) (args u) m) (call (f.number (Loop l)) (arguments_of x e) m) (λ z. call (f.number (Loop l)) (same z) m)
-        (laws j lt (Loop l) there u t m good (place ∙ ap f.addr at) comes (omega (arith, enough)))))
+        ((laws j lt).0 (Loop l) there u t m good (place ∙ ap f.addr at) comes (omega (arith, enough)))))
         (λ c g. leaves k (Loop l) t n x e u j o m lt good place same comes enough (index_of (f.exits l) n) refl c g)
         (eqb n (f.head l)) refl h
       where
@@ -193,7 +211,7 @@ module _ (f : Flow) (graph : IsGraph f) (rise : AreRegistersFrom 1 f.regs)
         by (λ b h. end-law k laws p there t n (current f v) e u j o m lt good place is.same comes enough b h)
         (λ r. called k laws p there t n v e j o lt is.words is.mems (f.around n) (sym r) (call (f.number (rest_from f n)) (arguments_of (current f v) e) m)
         (along (rest_from f n) j t (call (f.number (rest_from f n)) (args u) m) _ (λ z. call (f.number (rest_from f n)) (is.same z) m)
-        (laws j lt (rest_from f n) (node, cut, refl) u t m good place comes (omega (arith, enough)))))
+        ((laws j lt).0 (rest_from f n) (node, cut, refl) u t m good place comes (omega (arith, enough)))))
         (end_of f p n (current f v)) refl
       where
         inside : IsPlaced f (own p) n → end_of f p n (current f v) ≡ None → f.around n ≡ own p
@@ -223,22 +241,24 @@ module _ (f : Flow) (graph : IsGraph f) (rise : AreRegistersFrom 1 f.regs)
       where
         by : (c : Bool) → f.is_cut n ≡ c → Gives p k t (body_ending call (f.number p) (cond c (end_at f p n v) (body_at b f p n v)) e o m)
         by true h =
-            let q = graph.placed from n node (leads-edge (f.instr from) (f.addr from) (size f from) (f.to from) w n leads) h in
+            let q = graph.placed from n node (leads-calling (f.callee from) (f.instr from) (f.addr from) (size f from) (f.uses from) (f.to from) w n (λ c e. graph.calls from c node e) leads) h in
             cut-law k laws p there t n v e u j o m lt q.0 h (subst (λ r. IsPlaced f r n) region q.1) good place is comes enough
         by false h =
-            let q = graph.stays from n node (leads-edge (f.instr from) (f.addr from) (size f from) (f.to from) w n leads) h in
+            let q = graph.stays from n node (leads-calling (f.callee from) (f.instr from) (f.addr from) (size f from) (f.uses from) (f.to from) w n (λ c e. graph.calls from c node e) leads) h in
             on n v e u j o m (omega (arith, q.2)) q.0 (q.1 ∙ region) (omega arith) good place is comes (omega arith)
 
     -- one instruction
     acts : (b k : ℕ) → LawsBelow k → (p : Part) → IsPart f p → (t : State) → FromNode b k p t → (n : ℕ) (v : VariableMap) (e : Environment) (s u : State) (j o m : ℕ) → graph.rank n < suc b → n < f.nodes
-        → graph.inner n ≡ own p → suc j ≤ k → (Returns s × (j ≡ 0) × (u ≡ t)) ⊎ ((Returns s → ⊥) × Runs j u t) → 2 * suc j ≤ m + 2 → Stands f v e (args s) → Good u
-        → (y : Action) → action f n v ≡ y → IsDone f State pc args Returns Good Steps y v e s u → Gives p k t (body_ending call (f.number p) (action_body f p y v (body_at b f p)) e o m)
+        → graph.inner n ≡ own p → suc j ≤ k → (Returns s × ((j ≡ 0) × (u ≡ t))) ⊎ ((Calls s × Comes State pc back Returns Calls Steps t (back s ∷ []) j u) ⊎ ((Returns s → ⊥) × (Calls s → ⊥) × Runs j u t)) → 2 * suc j ≤ m + 2 → Stands f v e (args s) → Good u
+        → (y : Action) → action f n v ≡ y → IsDone f State pc args back Returns Calls Good Steps y v e s u → Gives p k t (body_ending call (f.number p) (action_body f p y v (body_at b f p)) e o m)
     acts b k laws p there t on n v e s u j o m near node region le (inl r) enough is good (Straight ss w to) has step = absurd (step.3 r.0)
-    acts b k laws p there t on n v e s u j o m near node region le (inr r) enough is good (Straight ss w to) has step =
+    acts b k laws p there t on n v e s u j o m near node region le (inr (inl r)) enough is good (Straight ss w to) has step = absurd (step.4 r.0)
+    acts b k laws p there t on n v e s u j o m near node region le (inr (inr r)) enough is good (Straight ss w to) has step =
         along p k t _ _ (ending-steps call (f.number p) (cond (f.is_cut to) (end_at f p to w) (body_at b f p to w)) ss e o m step.0)
-        (arrives b k laws p there t on n v node region near to (subst (λ y. Leads y to) (sym has) refl) w (after_steps ss e) u j (needs_passed ss o) m (omega arith) good step.2 step.1 r.1 (omega arith))
+        (arrives b k laws p there t on n v node region near to (subst (λ y. Leads y to) (sym has) refl) w (after_steps ss e) u j (needs_passed ss o) m (omega arith) good step.2 step.1 r.2 (omega arith))
     acts b k laws p there t on n v e s u j o m near node region le (inl r) enough is good (Fork c x y) has step = absurd (step.2 r.0)
-    acts b k laws p there t on n v e s u j o m near node region le (inr r) enough is good (Fork c x y) has step = by (cond_holds c e) step.1
+    acts b k laws p there t on n v e s u j o m near node region le (inr (inl r)) enough is good (Fork c x y) has step = absurd (step.3 r.0)
+    acts b k laws p there t on n v e s u j o m near node region le (inr (inr r)) enough is good (Fork c x y) has step = by (cond_holds c e) step.1
       where
         now : Stands f v e (args u)
         now = subst (λ z. Stands f v e z) (sym step.0) is
@@ -248,23 +268,50 @@ module _ (f : Flow) (graph : IsGraph f) (rise : AreRegistersFrom 1 f.regs)
 
         by : (z : Bool) → pc u ≡ f.addr (cond z x y) → Gives p k t (cond z (body_ending call (f.number p) (cond (f.is_cut x) (end_at f p x v) (body_at b f p x v)) e o m)
             (body_ending call (f.number p) (cond (f.is_cut y) (end_at f p y v) (body_at b f p y v)) e (o + needs (cond (f.is_cut x) (end_at f p x v) (body_at b f p x v))) m))
-        by true h = arrives b k laws p there t on n v node region near x (subst (λ z. Leads z x) (sym has) (inl refl)) v e u j o m (omega arith) good h now r.1 (omega arith)
+        by true h = arrives b k laws p there t on n v node region near x (subst (λ z. Leads z x) (sym has) (inl refl)) v e u j o m (omega arith) good h now r.2 (omega arith)
         by false h =
             arrives b k laws p there t on n v node region near y (subst (λ z. Leads z y) (sym has) (inr refl)) v e u j (o + needs (cond (f.is_cut x) (end_at f p x v) (body_at b f p x v))) m
-            (omega arith) good h now r.1 (omega arith)
-    acts b k laws p there t on n v e s u j o m near node region le (inr r) enough is good (Return ss a) has step = absurd (r.0 step.3)
+            (omega arith) good h now r.2 (omega arith)
+    acts b k laws p there t on n v e s u j o m near node region le (inr (inr r)) enough is good (Return ss a) has step = absurd (r.0 step.3)
+    acts b k laws p there t on n v e s u j o m near node region le (inr (inl r)) enough is good (Return ss a) has step = absurd (step.4 r.0)
     acts b k laws p there t on n v e s u j o m near node region le (inl r) enough is good (Return ss a) has step =
-        let q = graph.returned n node (return-row (f.instr n) (f.addr n) (size f n) (f.to n) v ss a has) in
+        let q = graph.returned n node (return-calling (f.callee n) (f.instr n) (f.addr n) (size f n) (f.uses n) (f.to n) v ss a has) in
         let results : arguments_of (with_pc a (current f v)) (after_steps ss e) ≡ with_address (pc u) (args u) = (λ z. record { words = step.1 z ∷ (step.2 z).words; mems = (step.2 z).mems }) in
         inl (record {
           region = sym region ∙ q.0;
           returns = q.1;
-          good = subst Good r.2 good;
+          good = subst Good r.1.1 good;
           left = m;
           ends =
               ending-steps call (f.number p) (Leave 0 (with_pc a (current f v))) ss e o m step.0
-              ∙ (λ z. Exited 0 (results z) m) ∙ (λ z. Exited 0 (with_address (pc (r.2 z)) (args (r.2 z))) m);
+              ∙ (λ z. Exited 0 (results z) m) ∙ (λ z. Exited 0 (with_address (pc (r.1.1 z)) (args (r.1.1 z))) m);
         })
+    acts b k laws p there t on n v e s u j o m near node region le (inl r) enough is good (Enter ss w c at to) has step = absurd (step.6 r.0)
+    acts b k laws p there t on n v e s u j o m near node region le (inr (inr r)) enough is good (Enter ss w c at to) has step = absurd (r.1 step.5)
+    acts b k laws p there t on n v e s u j o m near node region le (inr (inl r)) enough is good (Enter ss w c at to) has step =
+        let parted = split State pc back Returns Calls Steps t (back s) [] j [] u r.1 in
+        let x = parted.state in
+        let i = parted.inner in
+        let l = parted.outer in
+        let enough_in : 2 * i + (m - 2 * i) ≡ m = omega (arith, parted.sum) in
+        let callee = (laws i (omega (arith, parted.sum))).1 n c node (calls-row (f.callee n) (f.instr n) (f.addr n) (size f n) (f.uses n) (f.to n) v ss w c at to has) u x (2 * i) good step.2 parted.within (omega arith) in
+        let left = callee.left + (m - 2 * i) in
+        let d = after_steps ss e in
+        let y = with_address (pc x) (args x) in
+        let ends : call c.def (arguments_of (current f w) d) m ≡ Exited 0 y left =
+        (λ z. call c.def (step.1.same z) (sym enough_in z)) ∙ more c.def (args u) (2 * i) (m - 2 * i) 0 y callee.left callee.ends in
+        let lens = long x in
+        let stands = stands-returned f rise d w.words w.mems (pc x) (args x) step.1.words step.1.mems lens.0 lens.1 in
+        let q : VariableMap = fresh f (suc w.words) w.mems in
+        let back_there : pc x ≡ at = parted.place ∙ step.3 in
+        let rest = cond (f.is_cut to) (end_at f p to q) (body_at b f p to q) in
+        let ok : eqb (word_value (Var w.words) (with_arguments d y)) at ≡ true = eq-eqb _ at (stands.1 ∙ back_there) in
+        along p k t (body_ending call (f.number p) rest (with_arguments d y) (needs_passed ss o + 1) left) _
+        (ending-steps call (f.number p) (Call c.def (current f w) (return_arm f c.returns at w (λ q. cond (f.is_cut to) (end_at f p to q) (body_at b f p to q)))) ss e o m step.0
+        ∙ (λ z. and_then (ends z) (λ i x m. arm_ending call (f.number p) (return_arm f c.returns at w (λ q. cond (f.is_cut to) (end_at f p to q) (body_at b f p to q))) i (with_arguments d x) (needs_passed ss o) m))
+        ∙ (λ z. arm_ending call (f.number p) (return_arm f (callee.returns z) at w (λ q. cond (f.is_cut to) (end_at f p to q) (body_at b f p to q))) 0 (with_arguments d y) (needs_passed ss o) left)
+        ∙ (λ z. cond (ok z) (body_ending call (f.number p) rest (with_arguments d y) (needs_passed ss o + 1) left) (NeedFalse (f.number p) (needs_passed ss o))))
+        (arrives b k laws p there t on n v node region near to (subst (λ y. Leads y to) (sym has) refl) q (with_arguments d y) x l (needs_passed ss o + 1) left (omega (arith, parted.sum)) callee.good (back_there ∙ step.4) stands.0 parted.behind (omega (arith, parted.sum)))
 
     body-law : (b k : ℕ) → LawsBelow k → (p : Part) → IsPart f p → (t : State) → FromNode b k p t
     body-law zero k laws p there t n v e s j o m near node region le good place is comes enough = absurd (omega arith)
@@ -328,19 +375,15 @@ module _ (f : Flow) (graph : IsGraph f) (rise : AreRegistersFrom 1 f.regs)
     one-law k laws (Loop l) there = loop-law k laws l there
     one-law k laws (Rest r n) there = λ s t m good place comes enough. rest-law k laws r n there s t m good place comes (f.loop_of n) refl enough
 
-    laws-below : (k : ℕ) → LawsBelow k
-    laws-below zero j lt p there = absurd (omega arith)
-    laws-below (suc k) j lt p there = one-law j (λ i below q there'. laws-below k i (omega arith) q there') p there
+    -- the laws of all parts for one number of steps, from those of calls, and from all laws for fewer steps
+    pub part-law : (k : ℕ) → LawsBelow k → (p : Part) → IsPart f p → Law k p
+    part-law k laws p there = one-law k laws p there
 
-    -- the law of a part
-    pub part-law : (k : ℕ) (p : Part) → IsPart f p → Law k p
-    part-law k p there = one-law k (laws-below k) p there
-
-    -- the whole function: a run that first returns after k steps is an evaluation within 2 k turns
-    pub whole-law : (n k : ℕ) (s t : State) → IsPart f (Rest None n) → Good s → pc s ≡ f.addr n → Runs k s t
-        → LeavesIn f State pc args Returns Good Steps (Rest None n) t (call (f.number (Rest None n)) (args s) (2 * k))
-    whole-law n k s t there good place comes = by (part-law k (Rest None n) there s t (2 * k) good place comes (omega arith))
+    -- the rest of a whole function has no other exit than the return
+    pub whole-law : (n k : ℕ) (s t : State) (m : ℕ) → LawsBelow k → IsPart f (Rest None n) → Good s → pc s ≡ f.addr n → Runs k s t → 2 * k ≤ m
+        → LeavesIn f State pc args back Returns Calls Good Steps (Rest None n) t (call (f.number (Rest None n)) (args s) m)
+    whole-law n k s t m laws there good place comes enough = by (part-law k laws (Rest None n) there s t m good place comes (omega arith))
       where
-        by : Gives (Rest None n) k t (call (f.number (Rest None n)) (args s) (2 * k)) → LeavesIn f State pc args Returns Good Steps (Rest None n) t (call (f.number (Rest None n)) (args s) (2 * k))
+        by : Gives (Rest None n) k t (call (f.number (Rest None n)) (args s) m) → LeavesIn f State pc args back Returns Calls Good Steps (Rest None n) t (call (f.number (Rest None n)) (args s) m)
         by (inl r) = r
         by (inr l) = let h : slice_get [] l.exit ≡ Some l.node = l.there in absurd (cc)

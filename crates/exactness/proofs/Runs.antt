@@ -1,6 +1,6 @@
 -- The law of a part, told by the machine's run and by evaluation, and that nothing is lost of the whole function.
-use Rattle.std.proofs.Common.{◌≡◌, ℕ, zero, suc, ◌+◌, ◌*◌, ◌<◌, ◌≤◌, true, cond, ◌⊎◌, inl, inr, Option, Some, None, List, [], ◌∷◌, ◌++◌, map, refl, sym, ap, subst, ◌∙◌, arith, Bool, false, Contains}
-use Rattle.std.specs.Prelude.{slice_get, option_map}
+use Rattle.std.proofs.Common.{◌≡◌, ℕ, zero, suc, ◌+◌, ◌*◌, ◌<◌, ◌≤◌, true, cond, ◌⊎◌, inl, inr, Option, Some, None, List, [], ◌∷◌, ◌++◌, map, refl, sym, ap, subst, ◌∙◌, arith, Bool, false, ◌||◌, length, Contains}
+use Rattle.std.specs.Prelude.{slice_get, option_map, AllPairs, IsSomeAnd}
 use Rattle.rv_machine.specs.State.{State}
 use Rattle.rv_machine.specs.Run.{run}
 use Rattle.rv_machine.proofs.RunLemmas.{run-none, run-more}
@@ -12,46 +12,95 @@ use Rattle.tailrec_lang.specs.declared.group.Exit.{Exit}
 use Rattle.tailrec_lang.specs.declared.group.Exit.TheVariants.{At, Ret}
 use Rattle.tailrec_lang.specs.Tree.{DefTree, GroupTree, exits_at, listed_def}
 use Rattle.tailrec_lang.specs.Eval.{Arguments, Exited, Done, done_by, with_pc, ending, eval}
-use Rattle.tailrec_lang.proofs.Turns.{ending-enter}
+use Rattle.tailrec_lang.proofs.Turns.{ending-enter, ending-exited}
 use Rattle.tailrec_lang.proofs.Definitions.{exits_there}
 use Rattle.code_parts.specs.declared.part.Part.{Part}
 use Rattle.code_parts.specs.declared.part.Part.TheVariants.{Loop, Rest}
-use Rattle.code_parts.specs.Bodies.{Flow, VariableMap, Action, Straight, Fork, Return, action, own, first, targets, part_def}
+use Rattle.code_parts.specs.Bodies.{Flow, Callee, VariableMap, Action, Straight, Fork, Return, Enter, action, own, first, targets, part_def}
 use Rattle.code_parts.specs.Bodies as bodies
 use Rattle.code_parts.specs.Graph.{IsPart, IsGraph, IsCode}
-use Rattle.checker.specs.Headline.{Region, is_within, held_in, Ends}
+use Rattle.checker.specs.Headline.{AreApart, Region, is_within, held_in, Ends}
 use Rattle.exactness.specs.Exact.{IsAtReturn, FirstReturns, Gives, Exact}
-use Rattle.exactness.specs.Parts.{HasParts, HoldsCode, LeavesAs, Meets, turns_at, turns_for, LawOfPart}
-use Rattle.exactness.proofs.Returns.{Steps, Comes, comes, IsKept, kept-here}
+use Rattle.exactness.specs.LinkExact.{FirstReturnsIn, after_instruction}
+use Rattle.exactness.specs.Parts.{HasParts, HoldsCode, IsAlone, LeavesAs, Meets, turns_at, turns_for, LawOfPart}
+use Rattle.exactness.proofs.Returns.{Steps, Comes, comes-plain, IsKept, kept-here}
 use Rattle.exactness.proofs.StateVariables.{Stands}
-use Rattle.exactness.proofs.PartLaw.{with_address, IsDone, Leaves, slack, slack_at, part-law}
+use Rattle.exactness.proofs.PartLaw.{with_address, IsDone, Law, LawsBelow, Leaves, slack, slack_at, part-law}
 use Rattle.exactness.proofs.Simulation.{held}
 use Rattle.exactness.proofs.Whole.{step-done, held-long, held-is}
+
+-- the one memory, which each instruction uses
+abbrev InFirst : ℕ → ℕ → Type 0
+InFirst a q = q ≡ 0
 
 -- a state with the number of steps that were made before it
 abbrev Counted : Type 0
 Counted = State × ℕ
 
 abbrev CountedSteps : List Region → Counted → Counted → Type 0
-CountedSteps regions x y = Steps regions x.0 y.0 × (y.1 ≡ x.1 + 1)
+CountedSteps regions x y = Steps InFirst regions x.0 y.0 × (y.1 ≡ x.1 + 1)
+
+abbrev pc_there : Counted → ℕ
+pc_there x = x.0.pc
+
+abbrev behind_there : Counted → ℕ
+behind_there x = after_instruction x.0
 
 abbrev ReturnsThere : Counted → Type 0
 ReturnsThere x = IsAtReturn x.0
 
-counted : (regions : List Region) (k i : ℕ) (s t : State) → Comes State IsAtReturn (Steps regions) k s t → Comes Counted ReturnsThere (CountedSteps regions) k (s, i) (t, i + k)
+abbrev NoCall : State → Type 0
+NoCall s = ⊥
+
+abbrev NoCallThere : Counted → Type 0
+NoCallThere x = ⊥
+
+abbrev Coming : List Region → State → ℕ → State → Type 0
+Coming regions t k s = Comes State (λ s. s.pc) after_instruction IsAtReturn NoCall (Steps InFirst regions) t [] k s
+
+abbrev ComingThere : List Region → Counted → ℕ → Counted → Type 0
+ComingThere regions t k s = Comes Counted pc_there behind_there ReturnsThere NoCallThere (CountedSteps regions) t [] k s
+
+counted : (regions : List Region) (k i : ℕ) (s t : State) → Coming regions t k s → ComingThere regions (t, i + k) k (s, i)
 counted regions zero i s t h = absurd h
 counted regions (suc k) i s t (u, steps, inl r) =
-    let more : i + 1 ≡ i + suc k = omega (arith, r.1) in
-    ((u, i + 1), (steps, refl), inl (r.0, r.1, (λ j. (r.2 j, more j))))
-counted regions (suc k) i s t (u, steps, inr r) =
+    let more : i + 1 ≡ i + suc k = omega (arith, r.1.0) in
+    ((u, i + 1), (steps, refl), inl (r.0, (r.1.0, (λ j. (r.1.1 j, more j)))))
+counted regions (suc k) i s t (u, steps, inr (inl c)) = absurd c.0
+counted regions (suc k) i s t (u, steps, inr (inr r)) =
     let more : i + 1 + k ≡ i + suc k = omega arith in
-    ((u, i + 1), (steps, refl), inr (r.0, subst (λ n. Comes Counted ReturnsThere (CountedSteps regions) k (u, i + 1) (t, n)) more (counted regions k (i + 1) u t r.1)))
+    ((u, i + 1), (steps, refl), inr (inr (r.0, r.1, subst (λ n. ComingThere regions (t, n) k (u, i + 1)) more (counted regions k (i + 1) u t r.2))))
 
 -- the number of steps tells how many there are
-count-is : (regions : List Region) (k : ℕ) (x y : Counted) → Comes Counted ReturnsThere (CountedSteps regions) k x y → (y.1 ≡ x.1 + k) × (0 < k)
+count-is : (regions : List Region) (k : ℕ) (x y : Counted) → ComingThere regions y k x → (y.1 ≡ x.1 + k) × (0 < k)
 count-is regions zero x y h = absurd h
-count-is regions (suc k) x y (u, steps, inl r) = let e : u.1 ≡ y.1 = ap (λ (z : Counted). z.1) r.2 in (omega (arith, steps.1, r.1), omega arith)
-count-is regions (suc k) x y (u, steps, inr r) = let rest = count-is regions k u y r.1 in (omega (arith, rest.0, steps.1), omega arith)
+count-is regions (suc k) x y (u, steps, inl r) = let e : u.1 ≡ y.1 = ap (λ (z : Counted). z.1) r.1.1 in (omega (arith, steps.1, r.1.0, e), omega arith)
+count-is regions (suc k) x y (u, steps, inr (inl c)) = absurd c.0
+count-is regions (suc k) x y (u, steps, inr (inr r)) = let rest = count-is regions k u y r.2 in (omega (arith, rest.0, steps.1), omega arith)
+
+-- of at most one region each is apart from the others, and what lies in the regions lies in the first
+few-apart : (regions : List Region) → length regions ≤ 1 → AllPairs AreApart regions
+few-apart regions le = λ i j d lt low. absurd (omega (arith, le, lt, low))
+
+one-false : (b : Bool) → (b || false) ≡ true → b ≡ true
+one-false true e = refl
+one-false false e = absurd (cc)
+
+in-first : (regions : List Region) (q a : ℕ) → length regions ≤ 1 → q ≡ 0 → is_within regions a ≡ true → IsSomeAnd (slice_get regions q) (λ region. region a ≡ true)
+in-first [] q a le at e = absurd (cc)
+in-first (r ∷ []) zero a le at e = one-false (r a) e
+in-first (r ∷ []) (suc q) a le at e = absurd (omega (arith, at))
+in-first (r ∷ p ∷ rs) q a le at e = absurd (omega arith)
+
+-- a run that stays within the regions stays in the first, where there is no more than that
+pub first-returns : (regions : List Region) (s : State) (k : ℕ) (t : State) → length regions ≤ 1 → FirstReturns regions s k t → FirstReturnsIn InFirst regions s k t
+first-returns regions s k t few h = record {
+  some = h.some;
+  ran = h.ran;
+  within = λ j u lt ran q a at touched. in-first regions q a few at (h.within j u lt ran a touched);
+  last = h.last;
+  first = h.first;
+}
 
 exit-at : (f : Flow) (ns : List ℕ) (more : List Exit) (k n : ℕ) → slice_get ns k ≡ Some n → slice_get (map (λ m. At (f.addr m)) ns ++ more) k ≡ Some (At (f.addr n))
 exit-at f [] more k n h = absurd (cc)
@@ -77,7 +126,7 @@ enough-turns f (Rest r n) k turns le = by (f.loop_of n) le
     by None h = omega arith
     by (Some l) h = omega arith
 
-module _ (f : Flow) (g : GroupTree) (entry : ℕ) (graph : IsGraph f) (has : IsCode f g.code) (parts : HasParts f entry g)
+module _ (f : Flow) (g : GroupTree) (entry : ℕ) (graph : IsGraph f) (has : IsCode f g.code) (alone : IsAlone f) (parts : HasParts f entry g)
     (regions : List Region) (s0 : State) (holds : HoldsCode g regions s0) where
   abbrev Good : State → Type 0
   Good = IsKept f.regs regions s0
@@ -85,29 +134,38 @@ module _ (f : Flow) (g : GroupTree) (entry : ℕ) (graph : IsGraph f) (has : IsC
   abbrev GoodThere : Counted → Type 0
   GoodThere x = Good x.0 × (run s0 x.1 ≡ Some x.0)
 
+  count : length regions ≡ f.mems
+  count = holds.count ∙ parts.mems
+
+  few : length regions ≤ 1
+  few = let low = alone.mems in omega (arith, count, low)
+
   abbrev args : State → Arguments
-  args = held f (is_within regions)
+  args = held f regions count
 
   abbrev args_there : Counted → Arguments
   args_there x = args x.0
 
-  abbrev pc_there : Counted → ℕ
-  pc_there x = x.0.pc
+  abbrev DoneThere : Action → VariableMap → Environment → Counted → Counted → Type 0
+  DoneThere = IsDone f Counted pc_there args_there behind_there ReturnsThere NoCallThere GoodThere (CountedSteps regions)
 
-  lift : (y : Action) (v : VariableMap) (e : Environment) (x u : Counted) → IsDone f State (λ s. s.pc) args IsAtReturn Good (Steps regions) y v e x.0 u.0
-      → IsDone f Counted pc_there args_there ReturnsThere GoodThere (CountedSteps regions) y v e x u
+  lift : (y : Action) (v : VariableMap) (e : Environment) (x u : Counted) → IsDone f State (λ s. s.pc) args after_instruction IsAtReturn NoCall Good (Steps InFirst regions) y v e x.0 u.0 → DoneThere y v e x u
   lift (Straight ss w to) v e x u h = h
   lift (Fork c a b) v e x u h = h
   lift (Return ss t) v e x u h = h
+  lift (Enter ss w c to_back to) v e x u h = h
+
+  none : (n : ℕ) (c : Callee) → n < f.nodes → f.callee n ≡ Some c → ⊥
+  none n c lt is = let clash = sym (alone.calls n lt) ∙ is in cc
 
   done-there : (n : ℕ) (v : VariableMap) (e : Environment) (x u : Counted) → n < f.nodes → GoodThere x → pc_there x ≡ f.addr n → Stands f v e (args_there x) → CountedSteps regions x u
-      → GoodThere u × IsDone f Counted pc_there args_there ReturnsThere GoodThere (CountedSteps regions) (action f n v) v e x u
+      → GoodThere u × DoneThere (action f n v) v e x u
   done-there n v e x u node good at is steps =
-      let one = step-done f g.code has regions s0 holds.code holds.beside_code n v e x.0 u.0 node good.0 at is steps.0 in
+      let one = step-done f g.code has regions count (few-apart regions few) InFirst (λ n lt. alone.uses n lt) NoCall (λ n s lt is at c. c) (λ n c s lt is at. absurd (none n c lt is)) s0 holds.code holds.beside_code n v e x.0 u.0 node good.0 at is steps.0 in
       ((one.0, ap (run s0) steps.1 ∙ run-more s0 x.0 u.0 x.1 good.1 steps.0.0), lift (action f n v) v e x u one.1)
 
   same : (u : State) → held_in u g regions ≡ args u
-  same u = held-is f g regions u parts.regs (holds.count ∙ parts.mems)
+  same u = held-is f g regions count u parts.regs
 
   ends : (u : State) → Good u → Ends g regions s0 u.pc (held_in u g regions) u
   ends u good = record {
@@ -118,11 +176,31 @@ module _ (f : Flow) (g : GroupTree) (entry : ℕ) (graph : IsGraph f) (has : IsC
     present = good.present;
   }
 
+  abbrev Below : ℕ → Type 0
+  Below = LawsBelow f graph has.registers Counted pc_there args_there behind_there ReturnsThere NoCallThere GoodThere (CountedSteps regions) (λ x. held-long f regions count x.0) done-there
+      (ending g) (ending-exited g) (λ q x m is. ending-enter g (f.number q) x m (part_def f q) (parts.defs q is))
+
+  one-law : (k : ℕ) → Below k → (p : Part) → IsPart f p
+      → Law f graph has.registers Counted pc_there args_there behind_there ReturnsThere NoCallThere GoodThere (CountedSteps regions) (λ x. held-long f regions count x.0) done-there
+      (ending g) (ending-exited g) (λ q x m is. ending-enter g (f.number q) x m (part_def f q) (parts.defs q is)) k p
+  one-law k below p there =
+      part-law f graph has.registers Counted pc_there args_there behind_there ReturnsThere NoCallThere GoodThere (CountedSteps regions) (λ x. held-long f regions count x.0) done-there
+      (ending g) (ending-exited g) (λ q x m is. ending-enter g (f.number q) x m (part_def f q) (parts.defs q is)) k below p there
+
+  below-all : (k : ℕ) → Below k
+  below-all zero j lt = absurd (omega arith)
+  below-all (suc k) j lt = (one-law j (λ i l. below-all k i (omega (arith, lt, l))), λ n c node is. absurd (none n c node is))
+
+  laws : (k : ℕ) (p : Part) → IsPart f p
+      → Law f graph has.registers Counted pc_there args_there behind_there ReturnsThere NoCallThere GoodThere (CountedSteps regions) (λ x. held-long f regions count x.0) done-there
+      (ending g) (ending-exited g) (λ q x m is. ending-enter g (f.number q) x m (part_def f q) (parts.defs q is)) k p
+  laws k p there = one-law k (below-all k) p there
+
   module _ (p : Part) (there : IsPart f p) where
     def : exits_at g (f.number p) ≡ bodies.exits_of f p
     def = exits_there g (f.number p) (part_def f p) (parts.defs p there)
 
-    told : (t : State) (k turns : ℕ) → Leaves f Counted pc_there args_there ReturnsThere GoodThere (CountedSteps regions) p k (t, 0 + k) (ending g (f.number p) (args s0) turns)
+    told : (t : State) (k turns : ℕ) → Leaves f Counted pc_there args_there behind_there ReturnsThere NoCallThere GoodThere (CountedSteps regions) p k (t, 0 + k) (ending g (f.number p) (args s0) turns)
         → LeavesAs g (f.number p) regions s0 turns Ret 0 t ⊎ Meets g (f.number p) regions s0 turns k
     told t k turns (inl r) =
         let exits : slice_get (exits_at g (f.number p)) 0 ≡ Some Ret = ap (λ xs. slice_get xs 0) def ∙ ret-at f p r.region r.returns in
@@ -162,13 +240,12 @@ module _ (f : Flow) (g : GroupTree) (entry : ℕ) (graph : IsGraph f) (has : IsC
     pub part-of-run : (t : State) (k : ℕ) → s0.pc ≡ f.addr (first f p) → FirstReturns regions s0 k t → (turns : ℕ) → turns_for f p k ≤ turns
         → LeavesAs g (f.number p) regions s0 turns Ret 0 t ⊎ Meets g (f.number p) regions s0 turns k
     part-of-run t k at returns turns le =
-        told t k turns (part-law f graph has.registers Counted pc_there args_there ReturnsThere GoodThere (CountedSteps regions) (λ x. held-long f (is_within regions) x.0) done-there
-        (ending g) (λ q x m is. ending-enter g (f.number q) x m (part_def f q) (parts.defs q is))
-        k p there (s0, 0) (t, 0 + k) turns (kept-here f.regs regions s0, run-none s0) at (counted regions k 0 s0 t (comes regions k s0 t returns)) (enough-turns f p k turns le))
+        told t k turns (laws k p there (s0, 0) (t, 0 + k) turns (kept-here f.regs regions s0, run-none s0) at
+        (counted regions k 0 s0 t (comes-plain InFirst regions t k s0 (first-returns regions s0 k t few returns))) (enough-turns f p k turns le))
 
 -- the law of each part
-pub law-of-part : (f : Flow) (g : GroupTree) (entry : ℕ) → IsGraph f → IsCode f g.code → HasParts f entry g → (p : Part) → IsPart f p → LawOfPart f g p
-law-of-part f g entry graph has parts p there regions s t k holds at returns turns le = part-of-run f g entry graph has parts regions s holds p there t k at returns turns le
+pub law-of-part : (f : Flow) (g : GroupTree) (entry : ℕ) → IsGraph f → IsCode f g.code → IsAlone f → HasParts f entry g → (p : Part) → IsPart f p → LawOfPart f g p
+law-of-part f g entry graph has alone parts p there regions s t k holds at returns turns le = part-of-run f g entry graph has alone parts regions s holds p there t k at returns turns le
 
 -- ---- the whole function
 
@@ -186,10 +263,10 @@ whole-turns None k = omega arith
 whole-turns (Some l) k = omega arith
 
 -- A group of a definition for each part of a graph, whose code is the file's, loses nothing.
-pub nothing-lost : (file : List ℕ) (g : GroupTree) (f : Flow) (entry : ℕ) → IsGraph f → IsCode f g.code → HasParts f entry g
+pub nothing-lost : (file : List ℕ) (g : GroupTree) (f : Flow) (entry : ℕ) → IsGraph f → IsCode f g.code → IsAlone f → HasParts f entry g
     → IsWithin (range_bytes g.code) (code_of_file file) → Exact file g
-nothing-lost file g f entry graph has parts in_file s regions starts k t returns =
-    by (law-of-part f g entry graph has parts last parts.whole regions s t k holds at returns (2 * k) (whole-turns (f.loop_of entry) k))
+nothing-lost file g f entry graph has alone parts in_file s regions starts k t returns =
+    by (law-of-part f g entry graph has alone parts last parts.whole regions s t k holds at returns (2 * k) (whole-turns (f.loop_of entry) k))
   where
     last : Part
     last = Rest None entry

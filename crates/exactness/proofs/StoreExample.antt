@@ -30,7 +30,7 @@ use Rattle.code_parts.specs.Bodies.{Flow, part_def}
 use Rattle.code_parts.specs.Graph.{has_edge, IsEdge, IsPart, IsPlaced, IsGraph, StandsAt, IsCode}
 use Rattle.checker.specs.Headline.{Region, is_within}
 use Rattle.exactness.specs.Exact.{IsAtReturn, FirstReturns, Exact}
-use Rattle.exactness.specs.Parts.{HasParts}
+use Rattle.exactness.specs.Parts.{HasParts, IsAlone}
 use Rattle.exactness.proofs.Examples.{some_in, or_none, no_cut}
 use Rattle.exactness.proofs.Runs.{nothing-lost}
 
@@ -59,7 +59,9 @@ storing = record {
   returns = true;
   number = λ p. 0;
   regs = 1 ∷ 10 ∷ 11 ∷ [];
-  has_mem = true;
+  mems = 1;
+  uses = λ n. 0;
+  callee = λ n. None;
 }
 
 abbrev bytes : List ℕ
@@ -92,6 +94,7 @@ is_graph = record {
   cut_inner = λ n lt c h. refl;
   head_is = λ n l lt h. absurd (cc);
   loop_head = λ l lt. absurd (omega (arith, lt));
+  calls = λ n c lt e. absurd (cc);
   loop_exit = λ l k x lt h. absurd (omega (arith, lt));
 }
   where
@@ -142,9 +145,10 @@ stores = record {
   bytes = four_in 0 0x00a5_a023 first_four;
   reads = reads;
   writes = λ ne. absurd (ne refl);
-  memory = λ h. refl;
+  memory = λ h. omega arith;
   form = form;
-  goes = goes;
+  goes = λ form v none e. goes form v e;
+  calls = λ c e. absurd (let clash : None ≡ Some c = e in cc);
   return_is = λ h. absurd (no_cut h);
 }
   where
@@ -172,9 +176,10 @@ comes_back = record {
   bytes = four_in 4 0x0000_8067 second_four;
   reads = reads;
   writes = λ ne. absurd (ne refl);
-  memory = λ h. refl;
+  memory = λ h. omega arith;
   form = form;
-  goes = goes;
+  goes = λ form v none e. goes form v e;
+  calls = λ c e. absurd (let clash : None ≡ Some c = e in cc);
   return_is = λ h. refl;
 }
   where
@@ -205,8 +210,11 @@ has_parts = record { regs = refl; mems = refl; defs = defs; whole = (omega arith
     defs (Rest r (suc zero)) (lt, cut, at) = absurd (no_cut cut)
     defs (Rest r (suc (suc n))) (lt, cut, at) = absurd (omega arith)
 
+by_itself : IsAlone storing
+by_itself = record { mems = omega arith; uses = λ n lt. refl; calls = λ n lt. refl }
+
 pub exact-storing : (file : List ℕ) → IsWithin (range_bytes group.code) (code_of_file file) → Exact file group
-exact-storing file in_file = nothing-lost file group storing 0 is_graph is_code has_parts in_file
+exact-storing file in_file = nothing-lost file group storing 0 is_graph is_code by_itself has_parts in_file
 
 -- ---- a run of it, with four bytes at 0x30000 as its region
 

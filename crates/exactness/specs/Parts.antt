@@ -10,7 +10,7 @@ use Rattle.tailrec_lang.specs.Tree.{GroupTree, exits_at}
 use Rattle.tailrec_lang.specs.Eval.{Done, eval}
 use Rattle.code_parts.specs.declared.part.Part.{Part}
 use Rattle.code_parts.specs.declared.part.Part.TheVariants.{Loop, Rest}
-use Rattle.code_parts.specs.Bodies.{Flow, mem_count, first, part_def}
+use Rattle.code_parts.specs.Bodies.{Flow, first, part_def}
 use Rattle.code_parts.specs.Graph.{IsPart}
 use Rattle.checker.specs.Headline.{Region, is_within, held_in, Ends}
 use Rattle.exactness.specs.Exact.{FirstReturns}
@@ -18,10 +18,16 @@ use Rattle.exactness.specs.Exact.{FirstReturns}
 -- the group has a definition for each part, the last one for the rest of the whole function from its entry on
 pub record HasParts (f : Flow) (entry : ℕ) (g : GroupTree) : Type 0 where
   pub regs : g.regs ≡ f.regs
-  pub mems : g.mems ≡ mem_count f
+  pub mems : g.mems ≡ f.mems
   pub defs : (p : Part) → IsPart f p → slice_get g.defs (f.number p) ≡ Some (part_def f p)
   pub whole : IsPart f (Rest None entry)
   pub last : length g.defs ≡ f.number (Rest None entry) + 1
+
+-- it calls no function, and has at most one memory
+pub record IsAlone (f : Flow) : Type 0 where
+  pub mems : f.mems ≤ 1
+  pub uses : (n : ℕ) → n < f.nodes → f.uses n ≡ 0
+  pub calls : (n : ℕ) → n < f.nodes → f.callee n ≡ None
 
 -- ---- the law of a part
 

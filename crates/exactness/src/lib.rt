@@ -3,4 +3,4 @@
 
 mod laws;
 
-pub use laws::{law_of_functions, law_of_parts, law_of_returns};
+pub use laws::{law_of_functions, law_of_links, law_of_parts, law_of_returns};
