@@ -76,13 +76,13 @@ test_of instrs r c =
     All-contains (λ q. test q ≡ true) (filter test (range_with_len 1 31)) r (filter_passes test (range_with_len 1 31)) c
 
 -- the return is the one jump through a register without a fault
-same_return : (a : ℕ) (i : Instr) → admitted a i ≡ Ok i → is_jump_through i ≡ is_return i
+same_return : (a : ℕ) (i : Instr) → admitted false a i ≡ Ok i → is_jump_through i ≡ is_return i
 same_return a (instr.Op o rd rs1 rs2) e = refl
 same_return a (instr.OpImm o rd rs1 imm) e = refl
 same_return a (instr.Lui rd imm) e = refl
 same_return a (instr.Auipc rd imm) e = refl
 same_return a (instr.Jal rd offset) e = refl
-same_return a (instr.Jalr rd rs1 imm) e = sym (through_return a rd rs1 imm e)
+same_return a (instr.Jalr rd rs1 imm) e = sym (through_return false a rd rs1 imm e)
 same_return a (instr.Branch c rs1 rs2 offset) e = refl
 same_return a (instr.Load w signed rd rs1 imm) e = refl
 same_return a (instr.Store w rs1 rs2 imm) e = refl
@@ -96,13 +96,13 @@ memories b = cond b 1 0
 
 -- ---- the code
 
-module _ (g : GraphOf) (reached : IsReached g) where
+module _ (g : GraphOf) (reached : IsReached false g) where
   long : length g.instrs ≡ length g.addrs
-  long = (is_flow reached.code reached.entry g reached.is).as_long
+  long = (is_flow false reached.code reached.entry g reached.is).as_long
 
   -- how many bytes a node's instruction has
   length_of_node : (n : ℕ) → n < length g.addrs → length_in reached.code (get_or g.addrs n 0) ≡ length_of (get_or g.numbers n 0)
-  length_of_node n lt = ap (λ o. length_of (unwrap_or o 0)) (graph_numbers reached.code reached.entry g n reached.is lt)
+  length_of_node n lt = ap (λ o. length_of (unwrap_or o 0)) (graph_numbers false reached.code reached.entry g n reached.is lt)
 
   pub bytes_are : (ranges : List Range) → AreCodeOf g ranges → (a b : ℕ) → (range_bytes ranges a ≡ Some b) ↔ (IsCodeOf reached.code reached.entry a × (reached.code a ≡ Some b))
   bytes_are ranges whole a b = (there, back)
@@ -120,7 +120,7 @@ module _ (g : GraphOf) (reached : IsReached g) where
               within = omega (arith, low, bytes-long w, length_of_node at.0 at.1);
               is = byte.1;
             },
-            code_in g reached ranges whole a b h,
+            code_in false g reached ranges whole a b h,
           )
 
       back : IsCodeOf reached.code reached.entry a × (reached.code a ≡ Some b) → range_bytes ranges a ≡ Some b
@@ -129,7 +129,7 @@ module _ (g : GraphOf) (reached : IsReached g) where
           let same : get_or g.addrs at.0 0 + c.place ≡ a = ap (λ n. n + c.place) at.2 ∙ sym c.is in
           let long : length_in reached.code c.from ≡ length_of (get_or g.numbers at.0 0) = ap (length_in reached.code) (sym at.2) ∙ length_of_node at.0 at.1 in
           subst (λ (x : ℕ). range_bytes ranges x ≡ Some b) same
-          (have_code g reached ranges whole at.0 c.place b at.1 (omega (arith, c.within, long)) (subst (λ (x : ℕ). reached.code x ≡ Some b) (sym same) e))
+          (have_code false g reached ranges whole at.0 c.place b at.1 (omega (arith, c.within, long)) (subst (λ (x : ℕ). reached.code x ≡ Some b) (sym same) e))
 
   pub registers_are : (r : ℕ) → Contains (registers_of g.instrs) r ↔ ((1 ≤ r) × (r ≤ 31) × IsUsed reached.code reached.entry r)
   registers_are r = (there, back)
@@ -169,7 +169,7 @@ module _ (g : GraphOf) (reached : IsReached g) where
 
   pub returns_are : list_any is_jump_through g.instrs ≡ list_any is_return g.instrs
   returns_are = any_same is_jump_through is_return g.instrs (λ k d lt.
-      let at = graph_stands reached.code reached.entry g k (get_or g.instrs k d) reached.is (omega (arith, lt, long)) (slice_get-get_or g.instrs k d lt) in
+      let at = graph_stands false reached.code reached.entry g k (get_or g.instrs k d) reached.is (omega (arith, lt, long)) (slice_get-get_or g.instrs k d lt) in
       same_return (get_or g.addrs k 0) (get_or g.instrs k d) at.fine)
 
 -- ---- the bytes of ranges

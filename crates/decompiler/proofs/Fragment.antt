@@ -1,5 +1,5 @@
 -- A name has a function or a fault.
-use Rattle.std.proofs.Common.{◌≡◌, ℕ, List, Result, Ok, Err, ◌⊎◌, inl, inr, refl, sym, ap, subst, ◌∙◌}
+use Rattle.std.proofs.Common.{◌≡◌, ℕ, List, Result, Ok, Err, ◌⊎◌, inl, inr, refl, sym, ap, subst, ◌∙◌, false}
 use Rattle.elf_image.specs.Image.{code_of_file}
 use Rattle.elf_image.specs.declared.symbol.NameFault.{NameFault}
 use Rattle.elf_image.specs.declared.symbol.NameFault.TheVariants as name_fault
@@ -36,9 +36,9 @@ found : (e a : ℕ) (v w : Result ℕ NameFault) → v ≡ Ok e → w ≡ Ok a �
 found e a v w p q r = cc
 
 -- what is no function is a fault of the name
-pub first_at : (file name : List ℕ) (e : ℕ) (why : Outside) → StandsFor file name (Ok e) → IsFault (code_of_file file) e why ⊎ ((g : GraphOf) × IsGraphOf (code_of_file file) e g × IsForestFault g why) → IsFirst file name why
+pub first_at : (file name : List ℕ) (e : ℕ) (why : Outside) → StandsFor file name (Ok e) → IsFault false (code_of_file file) e why ⊎ ((g : GraphOf) × IsGraphOf false (code_of_file file) e g × IsForestFault g why) → IsFirst file name why
 first_at file name e why s (inl f) = InCode s f
-first_at file name e (TwoEntries cycle first second) s (inr f) = InCycle f.0 s f.1 (shows_code (code_of_file file) e f.0 cycle first second f.1 f.2)
+first_at file name e (TwoEntries cycle first second) s (inr f) = InCycle f.0 s f.1 (shows_code false (code_of_file file) e f.0 cycle first second f.1 f.2)
 first_at file name e (ManyExits a) s (inr f) = InLoop f.0 s f.1 f.2
 first_at file name e NoSuch s (inr f) = absurd f.2
 first_at file name e (Ambiguous a b) s (inr f) = absurd f.2
@@ -55,19 +55,19 @@ first_of_name file name name_fault.NoSuch s = Missing s
 first_of_name file name (name_fault.Ambiguous a b) s = Doubled s
 
 -- a function has none
-pub in_fragment : (file name : List ℕ) (e : ℕ) (g : GraphOf) (f : ForestOf) → StandsFor file name (Ok e) → IsGraphOf (code_of_file file) e g → IsForestOf g f → IsInFragment file name
+pub in_fragment : (file name : List ℕ) (e : ℕ) (g : GraphOf) (f : ForestOf) → StandsFor file name (Ok e) → IsGraphOf false (code_of_file file) e g → IsForestOf g f → IsInFragment file name
 in_fragment file name e g f s graph forest why (Missing t) = found-or e name_fault.NoSuch (Ok e) (Err name_fault.NoSuch) refl refl (stands_once file name (Ok e) (Err name_fault.NoSuch) s t)
 in_fragment file name e g f s graph forest why (Doubled {a = a} {b = b} t) = found-or e (name_fault.Ambiguous a b) (Ok e) (Err (name_fault.Ambiguous a b)) refl refl (stands_once file name (Ok e) (Err (name_fault.Ambiguous a b)) s t)
 in_fragment file name e g f s graph forest why (InCode {e = d} t fault) =
     let same : d ≡ e = found d e (Ok d) (Ok e) refl refl (stands_once file name (Ok d) (Ok e) t s) in
-    graph_or_fault (code_of_file file) e g why graph (subst (λ (x : ℕ). IsFault (code_of_file file) x why) same fault)
+    graph_or_fault false (code_of_file file) e g why graph (subst (λ (x : ℕ). IsFault false (code_of_file file) x why) same fault)
 in_fragment file name e g f s graph forest why (InCycle {e = d} {cycle = c} {first = x} {second = y} h t other shows) =
     let same : d ≡ e = found d e (Ok d) (Ok e) refl refl (stands_once file name (Ok d) (Ok e) t s) in
-    code_settled (code_of_file file) e g (number_of f) graph forest.settled
-    (subst (λ (z : ℕ). HasTwo (Next (code_of_file file)) z) same (record { cycle = c; first = x; second = y; shows = shows }))
+    code_settled false (code_of_file file) e g (number_of f) graph forest.settled
+    (subst (λ (z : ℕ). HasTwo (Next false (code_of_file file)) z) same (record { cycle = c; first = x; second = y; shows = shows }))
 in_fragment file name e g f s graph forest why (InLoop {e = d} {a = a} h t other many) =
     let same : d ≡ e = found d e (Ok d) (Ok e) refl refl (stands_once file name (Ok d) (Ok e) t s) in
-    let one : h ≡ g = one_graph (code_of_file file) e h g (subst (λ (z : ℕ). IsGraphOf (code_of_file file) z h) same other) graph in
+    let one : h ≡ g = one_graph false (code_of_file file) e h g (subst (λ (z : ℕ). IsGraphOf false (code_of_file file) z h) same other) graph in
     no_many g f a forest (subst (λ (z : GraphOf). IsMany z a) one many)
 
 pub none_at : (file name : List ℕ) (e : ℕ) (why : FlowFault) → StandsFor file name (Ok e) → IsNoFunction (code_of_file file) e why → IsNoItem file name why
@@ -75,10 +75,10 @@ none_at file name e (fault.Outside why) s h = first_at file name e why s h
 none_at file name e fault.NoMemory s h = tt
 
 -- what isn't built is no function
-pub no_graph : (code : Bytes) (e : ℕ) (why : FlowFault) → IsRefused code e why → IsNoFunction code e why
+pub no_graph : (code : Bytes) (e : ℕ) (why : FlowFault) → IsRefused false code e why → IsNoFunction code e why
 no_graph code e (fault.Outside why) h = inl h
 no_graph code e fault.NoMemory h = tt
 
-pub no_forest : (code : Bytes) (e : ℕ) (g : GraphOf) (why : FlowFault) → IsGraphOf code e g → IsNoForest g why → IsNoFunction code e why
+pub no_forest : (code : Bytes) (e : ℕ) (g : GraphOf) (why : FlowFault) → IsGraphOf false code e g → IsNoForest g why → IsNoFunction code e why
 no_forest code e g (fault.Outside why) graph h = inr (g, graph, h)
 no_forest code e g fault.NoMemory graph h = tt

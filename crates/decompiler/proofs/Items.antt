@@ -1,5 +1,5 @@
 -- The item of a name: what the group and the lines of a function are for its file.
-use Rattle.std.proofs.Common.{◌≡◌, ℕ, ◌-◌, List, map, length, Ok, refl, sym, subst, arith}
+use Rattle.std.proofs.Common.{◌≡◌, ℕ, ◌-◌, List, map, length, Ok, refl, sym, subst, arith, false}
 use Rattle.rv_words.specs.Bytes.{AreBytes}
 use Rattle.rv_words.specs.declared.range.Range.{Range}
 use Rattle.rv_words.specs.Ranges.{range_bytes}
@@ -16,7 +16,7 @@ use Rattle.loop_forest.specs.Forest.{ForestOf, IsForestOf, number_of}
 use Rattle.code_parts.specs.declared.part.Part.{Part}
 use Rattle.path_walk.specs.declared.item.Item.{Item}
 use Rattle.code_parts.specs.Bodies.{part_def}
-use Rattle.code_parts.specs.Flows.{AreCodeOf, HaveCode, flow_of, group_of}
+use Rattle.code_parts.specs.Flows.{AreCodeOf, HaveCode, alone, flow_of, group_of}
 use Rattle.code_parts.specs.Flows as flows
 use Rattle.path_walk.specs.Closed.{AreClosedBy}
 use Rattle.code_parts.specs.Graph.{IsMade}
@@ -36,53 +36,53 @@ use Rattle.decompiler.proofs.CodeListed.{bytes_are, memory_is, ranges_small, reg
 use Rattle.decompiler.proofs.Fragment.{in_fragment}
 use Rattle.decompiler.proofs.PartsListed.{defs_are}
 
-module _ (file name : List ℕ) (e : ℕ) (g : GraphOf) (f : ForestOf) (bytes : AreBytes (code_of_file file)) (graph : IsGraphOf (code_of_file file) e g) (forest : IsForestOf g f)
-    (parts : List Part) (order : AreParts (flow_of g f parts) (number_of f) parts) (ranges : List Range) (whole : AreCodeOf g ranges)
+module _ (file name : List ℕ) (e : ℕ) (g : GraphOf) (f : ForestOf) (bytes : AreBytes (code_of_file file)) (graph : IsGraphOf false (code_of_file file) e g) (forest : IsForestOf g f)
+    (parts : List Part) (order : AreParts (flow_of g f (alone g parts)) (number_of f) parts) (ranges : List Range) (whole : AreCodeOf g ranges)
   where
     abbrev the_group : GroupTree
-    the_group = group_of (flow_of g f parts) name ranges parts
+    the_group = group_of (flow_of g f (alone g parts)) name ranges parts
 
-    reached : flows.IsReached g
+    reached : flows.IsReached false g
     reached = record { code = code_of_file file; entry = e; bytes = bytes; is = graph }
 
     have : HaveCode g (code_of_file file) ranges
-    have = have_code g (record { code = code_of_file file; entry = e; bytes = bytes; is = graph }) ranges whole
+    have = have_code false g (record { code = code_of_file file; entry = e; bytes = bytes; is = graph }) ranges whole
 
     within : IsWithin (range_bytes ranges) (code_of_file file)
-    within = code_in g (record { code = code_of_file file; entry = e; bytes = bytes; is = graph }) ranges whole
+    within = code_in false g (record { code = code_of_file file; entry = e; bytes = bytes; is = graph }) ranges whole
 
-    made : IsMade (flow_of g f parts) (group_of (flow_of g f parts) name ranges parts) parts
+    made : IsMade (flow_of g f (alone g parts)) (group_of (flow_of g f (alone g parts)) name ranges parts) parts
     made = is-made (code_of_file file) e g f parts name ranges graph forest bytes have order
 
-    pub lists_it : Lists (code_of_file file) e g name (group_of (flow_of g f parts) name ranges parts)
+    pub lists_it : Lists (code_of_file file) e g name (group_of (flow_of g f (alone g parts)) name ranges parts)
     lists_it = record {
       named = refl;
-      entry = lists-entry (code_of_file file) e g f parts graph forest order name ranges;
+      entry = lists-entry false (code_of_file file) e g f (alone g parts) graph forest order name ranges;
       bytes = bytes_are g (record { code = code_of_file file; entry = e; bytes = bytes; is = graph }) ranges whole;
       registers = registers_are g (record { code = code_of_file file; entry = e; bytes = bytes; is = graph });
       memory = memory_is g (record { code = code_of_file file; entry = e; bytes = bytes; is = graph });
       defs = defs_are g (record { code = code_of_file file; entry = e; bytes = bytes; is = graph }) f forest parts order;
     }
 
-    pub accepted_it : (lines : List LineTree) → AreClosedBy (group_of (flow_of g f parts) name ranges parts) lines → IsAccepted file (record { group = group_of (flow_of g f parts) name ranges parts; lines = lines })
+    pub accepted_it : (lines : List LineTree) → AreClosedBy (group_of (flow_of g f (alone g parts)) name ranges parts) lines → IsAccepted file (record { group = group_of (flow_of g f (alone g parts)) name ranges parts; lines = lines })
     accepted_it lines closed =
-        let last = last-is (code_of_file file) e g f parts graph forest order in
-        let count : length (map (part_def (flow_of g f parts)) parts) ≡ length parts = length-map (part_def (flow_of g f parts)) parts in
+        let last = last-is false (code_of_file file) e g f (alone g parts) graph forest order in
+        let count : length (map (part_def (flow_of g f (alone g parts))) parts) ≡ length parts = length-map (part_def (flow_of g f (alone g parts))) parts in
         record {
-          well_formed = group-formed (flow_of g f parts) (group_of (flow_of g f parts) name ranges parts) parts (is-graph (code_of_file file) e g f parts graph forest) made;
+          well_formed = group-formed (flow_of g f (alone g parts)) (group_of (flow_of g f (alone g parts)) name ranges parts) parts (is-graph false (code_of_file file) e g f (alone g parts) graph forest) made;
           lines = closed.right;
-          proved = record { closed = closed.closed (length (map (part_def (flow_of g f parts)) parts) - 1) (omega (arith, last, count)); code = within };
+          proved = record { closed = closed.closed (length (map (part_def (flow_of g f (alone g parts))) parts) - 1) (omega (arith, last, count)); code = within };
         }
 
-    pub exact_it : Exact file (group_of (flow_of g f parts) name ranges parts)
+    pub exact_it : Exact file (group_of (flow_of g f (alone g parts)) name ranges parts)
     exact_it = flow-exact file e g f parts name ranges graph forest bytes have order within
 
-    pub printed_it : IsName name → IsGroup (group_of (flow_of g f parts) name ranges parts)
+    pub printed_it : IsName name → IsGroup (group_of (flow_of g f (alone g parts)) name ranges parts)
     printed_it named =
         is-group (code_of_file file) e g f parts graph forest order name ranges named whole.order
         (ranges_small 0 ranges whole.order (λ a b le at. bytes a b (within a b at)))
 
-pub item_is : (file name : List ℕ) (e : ℕ) (g : GraphOf) (f : ForestOf) (item : Item) → StandsFor file name (Ok e) → IsName name → AreBytes (code_of_file file) → IsGraphOf (code_of_file file) e g → IsForestOf g f →
+pub item_is : (file name : List ℕ) (e : ℕ) (g : GraphOf) (f : ForestOf) (item : Item) → StandsFor file name (Ok e) → IsName name → AreBytes (code_of_file file) → IsGraphOf false (code_of_file file) e g → IsForestOf g f →
     IsItemOf g f name item → IsItemFor file name item
 item_is file name e g f item stands named bytes graph forest is = record {
   entry = e;

@@ -1,5 +1,5 @@
 -- Why a name of a file is outside the fragment.
-use Rattle.std.specs.Prelude.{ℕ, List, Ok, Err}
+use Rattle.std.specs.Prelude.{ℕ, List, Ok, Err, false}
 use Rattle.elf_image.specs.Image.{code_of_file}
 use Rattle.elf_image.specs.declared.symbol.NameFault.TheVariants as name_fault
 use Rattle.flow_graph.specs.declared.outside.Outside.{Outside}
@@ -16,10 +16,10 @@ use Rattle.decompiler.specs.Names.{StandsFor}
 pub data IsFirst (file name : List ℕ) : Outside → Type 0 where
   Missing : StandsFor file name (Err name_fault.NoSuch) → IsFirst file name NoSuch
   Doubled : {a b : ℕ} → StandsFor file name (Err (name_fault.Ambiguous a b)) → IsFirst file name (Ambiguous a b)
-  InCode : {e : ℕ} {why : Outside} → StandsFor file name (Ok e) → IsFault (code_of_file file) e why → IsFirst file name why
-  InCycle : {e : ℕ} {cycle first second : List ℕ} (g : GraphOf) → StandsFor file name (Ok e) → IsGraphOf (code_of_file file) e g
-      → ShowsTwoEntries (Next (code_of_file file)) e cycle first second → IsFirst file name (TwoEntries cycle first second)
-  InLoop : {e a : ℕ} (g : GraphOf) → StandsFor file name (Ok e) → IsGraphOf (code_of_file file) e g → IsMany g a → IsFirst file name (ManyExits a)
+  InCode : {e : ℕ} {why : Outside} → StandsFor file name (Ok e) → IsFault false (code_of_file file) e why → IsFirst file name why
+  InCycle : {e : ℕ} {cycle first second : List ℕ} (g : GraphOf) → StandsFor file name (Ok e) → IsGraphOf false (code_of_file file) e g
+      → ShowsTwoEntries (Next false (code_of_file file)) e cycle first second → IsFirst file name (TwoEntries cycle first second)
+  InLoop : {e a : ℕ} (g : GraphOf) → StandsFor file name (Ok e) → IsGraphOf false (code_of_file file) e g → IsMany g a → IsFirst file name (ManyExits a)
 
 -- the name has no fault
 abbrev pub IsInFragment : List ℕ → List ℕ → Type 0

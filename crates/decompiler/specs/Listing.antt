@@ -1,5 +1,5 @@
 -- What the decompiler makes of a name of a file.
-use Rattle.std.specs.Prelude.{◌≡◌, ◌↔◌, ◌⊎◌, ℕ, ◌+◌, ◌<◌, ◌≤◌, if◌then◌else◌, Option, Some, None, Ok, List, [], ◌∷◌, map, length, slice_index, slice_get, true}
+use Rattle.std.specs.Prelude.{◌≡◌, ◌↔◌, ◌⊎◌, ℕ, ◌+◌, ◌<◌, ◌≤◌, if◌then◌else◌, Option, Some, None, Ok, List, [], ◌∷◌, map, length, slice_index, slice_get, true, false}
 use Rattle.std.specs.List.{Contains, AllZip, list_any}
 use Rattle.rv_words.specs.Bytes.{Bytes}
 use Rattle.rv_words.specs.Ranges.{range_bytes}
@@ -42,14 +42,14 @@ proofs_of p = map proof_of p.items
 -- the instruction stands at a reached address
 pub record IsInstructionOf (code : Bytes) (e : ℕ) (i : Instr) : Type 0 where
   pub at : ℕ
-  pub reached : Reaches (Next code) e at
-  pub is : look code at ≡ Ok i
+  pub reached : Reaches (Next false code) e at
+  pub is : look false code at ≡ Ok i
 
 -- one of the bytes of a reached instruction
 pub record IsCodeOf (code : Bytes) (e a : ℕ) : Type 0 where
   pub from : ℕ
   pub place : ℕ
-  pub reached : Reaches (Next code) e from
+  pub reached : Reaches (Next false code) e from
   pub within : place < length_in code from
   pub is : a ≡ from + place
 
@@ -130,7 +130,7 @@ pub record IsItemFor (file name : List ℕ) (item : Item) : Type 0 where
   pub stands : StandsFor file name (Ok entry)
   pub inside : IsInFragment file name
   pub graph : GraphOf
-  pub reach : IsGraphOf (code_of_file file) entry graph
+  pub reach : IsGraphOf false (code_of_file file) entry graph
   pub reached : item.reached ≡ length graph.addrs
   pub lists : Lists (code_of_file file) entry graph name (group_tree item.group)
   pub accepted : IsAccepted file (proof_of item)

@@ -135,7 +135,7 @@ defs-long g ds es h k =
 listed-once : (file name : List ℕ) (i j : Item) → IsItemFor file name i → IsItemFor file name j → listed_of name i ≡ listed_of name j
 listed-once file name i j h k =
     let e : h.entry ≡ k.entry = same-value file name h.entry k.entry h.stands k.stands in
-    let g : h.graph ≡ k.graph = one_graph (code_of_file file) k.entry h.graph k.graph (subst (λ a. IsGraphOf (code_of_file file) a h.graph) e h.reach) k.reach in
+    let g : h.graph ≡ k.graph = one_graph false (code_of_file file) k.entry h.graph k.graph (subst (λ a. IsGraphOf false (code_of_file file) a h.graph) e h.reach) k.reach in
     let entry : entry_at (group_tree i.group) (listed_def (group_tree i.group)) ≡ entry_at (group_tree j.group) (listed_def (group_tree j.group)) = h.lists.entry ∙ ap Some e ∙ sym k.lists.entry in
     let reached : i.reached ≡ j.reached = h.reached ∙ ap (λ (x : GraphOf). length x.addrs) g ∙ sym k.reached in
     let defs : length (group_tree i.group).defs ≡ length (group_tree j.group).defs =
@@ -160,13 +160,13 @@ of_name name_fault.NoSuch = outside.NoSuch
 of_name (name_fault.Ambiguous a b) = outside.Ambiguous a b
 
 abbrev ManyCase : Bytes → ℕ → Outside → Type 0
-ManyCase code e why = (g : GraphOf) × IsGraphOf code e g × (a : ℕ) × IsMany g a × (why ≡ outside.ManyExits a)
+ManyCase code e why = (g : GraphOf) × IsGraphOf false code e g × (a : ℕ) × IsMany g a × (why ≡ outside.ManyExits a)
 
 abbrev CycleCase : Bytes → ℕ → Outside → Type 0
-CycleCase code e why = (g : GraphOf) × IsGraphOf code e g × TwoEntries (Next code) e × (IsShownOnce why → ⊥)
+CycleCase code e why = (g : GraphOf) × IsGraphOf false code e g × TwoEntries (Next false code) e × (IsShownOnce why → ⊥)
 
 abbrev CodeCase : Bytes → ℕ → Outside → Type 0
-CodeCase code e why = IsFault code e why ⊎ (ManyCase code e why ⊎ CycleCase code e why)
+CodeCase code e why = IsFault false code e why ⊎ (ManyCase code e why ⊎ CycleCase code e why)
 
 -- a fault of the name itself, or of the code at its address
 abbrev FirstCase : List ℕ → List ℕ → Outside → Type 0
@@ -182,14 +182,14 @@ first-case file name _ (InLoop {e = e} {a = a} g h is many) = inr (e, h, inr (in
 
 code-once : (code : Bytes) (e : ℕ) (why other : Outside) → IsShownOnce other → CodeCase code e why → CodeCase code e other → why ≡ other
 code-once code e why other u h (inr (inr k)) = absurd (k.3 u)
-code-once code e why other u (inl h) (inl k) = one_fault code e why other h k
-code-once code e why other u (inl h) (inr (inl k)) = absurd (graph_or_fault code e k.0 why k.1 h)
-code-once code e why other u (inr (inl h)) (inl k) = absurd (graph_or_fault code e h.0 other h.1 k)
-code-once code e why other u (inr (inr h)) (inl k) = absurd (graph_or_fault code e h.0 other h.1 k)
+code-once code e why other u (inl h) (inl k) = one_fault false code e why other h k
+code-once code e why other u (inl h) (inr (inl k)) = absurd (graph_or_fault false code e k.0 why k.1 h)
+code-once code e why other u (inr (inl h)) (inl k) = absurd (graph_or_fault false code e h.0 other h.1 k)
+code-once code e why other u (inr (inr h)) (inl k) = absurd (graph_or_fault false code e h.0 other h.1 k)
 code-once code e why other u (inr (inl h)) (inr (inl k)) =
-    let gs : h.0 ≡ k.0 = one_graph code e h.0 k.0 h.1 k.1 in
+    let gs : h.0 ≡ k.0 = one_graph false code e h.0 k.0 h.1 k.1 in
     h.4 ∙ ap outside.ManyExits (one_head k.0 h.2 k.2 (subst (λ (x : GraphOf). IsMany x h.2) gs h.3) k.3) ∙ sym k.4
-code-once code e why other u (inr (inr h)) (inr (inl k)) = absurd (k.3.one_entry (two_entries_back code e k.0 k.1 h.2))
+code-once code e why other u (inr (inr h)) (inr (inl k)) = absurd (k.3.one_entry (two_entries_back false code e k.0 k.1 h.2))
 
 cases-once : (file name : List ℕ) (why other : Outside) → IsShownOnce other → FirstCase file name why → FirstCase file name other → why ≡ other
 cases-once file name why other u (inl h) (inl k) = h.2 ∙ ap of_name (err_is h.0 k.0 (stands-once file name (Err h.0) (Err k.0) h.1 k.1)) ∙ sym k.2

@@ -15,13 +15,13 @@ use Rattle.loop_rule.specs.Rule.{exit_triple, results}
 use Rattle.proof_text.specs.Line.{Inst, UseExit}
 use Rattle.checker.specs.Instance.{Meets, put_for}
 use Rattle.code_parts.specs.declared.part.Part.{Part}
-use Rattle.code_parts.specs.Bodies.{Flow, VariableMap, current, exits_of, first, mem_count, start, with_pc}
+use Rattle.code_parts.specs.Bodies.{Flow, VariableMap, current, exits_of, first, start, with_pc}
 use Rattle.tailrec_lang.specs.Registers.{AreRegistersFrom}
 use Rattle.code_parts.specs.Graph.{HasPart, IsPart}
 use Rattle.path_walk.specs.inner.Histories.{exit_place, pc_of}
 use Rattle.code_parts.specs.Flows.{group_over}
 use Rattle.path_walk.specs.inner.Acts.{GoesOn, call_mems, call_words, exit_standing, exited, gives_over, numbered, results_at}
-use Rattle.path_walk.specs.inner.Writers.{FromAs, Grown, IsReady, LogTree, Setting, StandingTree, StepsBy, Stood, group_in, past, standing_at, stating}
+use Rattle.path_walk.specs.inner.Writers.{FromAs, Grown, IsReady, WriterTree, Setting, CitedTree, StepsBy, Stood, group_in, past, standing_at, stating}
 use Rattle.path_walk.proofs.Calls as calls
 use Rattle.path_walk.proofs.Calls.{exit-fresh}
 use Rattle.path_walk.proofs.WriterLemmas.{from_on, grown_join, grown_state, held_now, ready_state}
@@ -34,13 +34,13 @@ pub standing_is : (f : Flow) (name : List ℕ) (ranges : List Range) (defs : Lis
 standing_is f name ranges defs pc v = let regs = zip-map (λ r. Var (v.reg r)) f.regs in λ i. record { pc = pc; regs = regs i; mems = (current f v).mems }
 
 -- the next variables for an exit's results
-pub results_are : (f : Flow) (g : GroupTree) (x : Exit) (words mems : ℕ) → g.regs ≡ f.regs → AreRegistersFrom 1 f.regs → variables_after words mems (exit_words g x) (mem_count f) ≡ results_at f x words mems
-results_are f g (At a) words mems regs rise = (λ i. variables_after words mems (length (regs i)) (mem_count f)) ∙ current-fresh f words mems rise
+pub results_are : (f : Flow) (g : GroupTree) (x : Exit) (words mems : ℕ) → g.regs ≡ f.regs → AreRegistersFrom 1 f.regs → variables_after words mems (exit_words g x) f.mems ≡ results_at f x words mems
+results_are f g (At a) words mems regs rise = (λ i. variables_after words mems (length (regs i)) f.mems) ∙ current-fresh f words mems rise
 results_are f g Ret words mems regs rise =
     let next : words + 1 ≡ suc words = omega arith in
     let count : length g.regs + 1 ≡ suc (length f.regs) = (let e = ap length regs in omega (arith, e)) in
-    (λ i. variables_after words mems (count i) (mem_count f))
-    ∙ (λ i. with_pc (Var words) (variables_after (next i) mems (length f.regs) (mem_count f))) ∙ ap (with_pc (Var words)) (current-fresh f (suc words) mems rise)
+    (λ i. variables_after words mems (count i) f.mems)
+    ∙ (λ i. with_pc (Var words) (variables_after (next i) mems (length f.regs) f.mems)) ∙ ap (with_pc (Var words)) (current-fresh f (suc words) mems rise)
 
 module _ (f : Flow) (ranges : List Range) (s : Setting f ranges) where
   abbrev g : GroupTree
@@ -55,19 +55,19 @@ module _ (f : Flow) (ranges : List Range) (s : Setting f ranges) where
     first-is =
         let params : parameters g ≡ current f (start f) = current-fresh f 0 0 rise in
         let words : length f.regs ≡ (start f).words = omega arith in
-        let mems : mem_count f ≡ (start f).mems = omega arith in
+        let mems : f.mems ≡ (start f).mems = omega arith in
         let res : results g x ≡ results_at f x (start f).words (start f).mems =
-        (λ i. variables_after (words i) (mems i) (exit_words g x) (mem_count f)) ∙ results_are f g x (start f).words (start f).mems refl rise in
+        (λ i. variables_after (words i) (mems i) (exit_words g x) f.mems) ∙ results_are f g x (start f).words (start f).mems refl rise in
         let pre : with_values g (Const callee.entry) (parameters g) ≡ standing_at f (Const callee.entry) (start f) = ap (with_values g (Const callee.entry)) params ∙ standing_is f s.name ranges s.defs (Const callee.entry) (start f) in
         let post : at_exit g (Some x) (results g x) ≡ standing_at f (pc_of x (start f).words) (exit_place f x (start f).words (start f).mems) =
-        (λ i. at_exit g (Some x) (variables_after (words i) (mems i) (exit_words g x) (mem_count f))) ∙ exit-fresh f s.name ranges s.defs x (start f).words (start f).mems rise
+        (λ i. at_exit g (Some x) (variables_after (words i) (mems i) (exit_words g x) f.mems)) ∙ exit-fresh f s.name ranges s.defs x (start f).words (start f).mems rise
         ∙ standing_is f s.name ranges s.defs (pc_of x (start f).words) (exit_place f x (start f).words (start f).mems) in
         λ i. record { facts = Gives d k (params i) (res i) ∷ []; pre = pre i; code = ranges; post = post i }
 
     -- .. and over the current variables the one after it
     used-is : (v : VariableMap) → calls.used f s.name ranges s.defs callee rise v x d callee k ≡ gives_over f ranges callee.entry d k x v
     used-is v =
-        let res : variables_after v.words v.mems (exit_words g x) (mem_count f) ≡ results_at f x v.words v.mems = results_are f g x v.words v.mems refl rise in
+        let res : variables_after v.words v.mems (exit_words g x) f.mems ≡ results_at f x v.words v.mems = results_are f g x v.words v.mems refl rise in
         let pre = standing_is f s.name ranges s.defs (Const callee.entry) v in
         let post = exit-fresh f s.name ranges s.defs x v.words v.mems rise ∙ standing_is f s.name ranges s.defs (pc_of x v.words) (exit_place f x v.words v.mems) in
         λ i. record { facts = Gives d k (current f v) (res i) ∷ []; pre = pre i; code = ranges; post = post i }
@@ -80,17 +80,17 @@ module _ (f : Flow) (ranges : List Range) (s : Setting f ranges) where
         (subst (λ (r : ValuesTree). IsInst (put_for (numbered 0 ((current f v).words ++ r.words)) (numbered 0 ((current f v).mems ++ r.mems))) (exit_triple g d callee k x)
         (calls.used f s.name ranges s.defs callee rise v x d callee k)) res (calls.used-inst f s.name ranges s.defs callee rise v x d callee k)))
 
-    module _ (is : slice_get s.defs d ≡ Some callee) (at : slice_get callee.exits k ≡ Some x) (v : VariableMap) (l : LogTree) (ready : IsReady f ranges s l) (closed : (past f ranges s l).closed d ≡ true) where
+    module _ (is : slice_get s.defs d ≡ Some callee) (at : slice_get callee.exits k ≡ Some x) (v : VariableMap) (l : WriterTree) (ready : IsReady f ranges s l) (closed : (past f ranges s l).closed d ≡ true) where
       abbrev t0 : TripleTree
       t0 = gives_over f ranges callee.entry d k x (start f)
 
       abbrev t1 : TripleTree
       t1 = gives_over f ranges callee.entry d k x v
 
-      abbrev l1 : LogTree
+      abbrev l1 : WriterTree
       l1 = stating (UseExit d k) t0 l
 
-      abbrev l2 : LogTree
+      abbrev l2 : WriterTree
       l2 = stating (Inst l.next (call_words f x v) (call_mems f x v)) t1 l1
 
       m0 : Meets (group_in f ranges s) (past f ranges s l) (UseExit d k) t0
@@ -105,7 +105,7 @@ module _ (f : Flow) (ranges : List Range) (s : Setting f ranges) where
       grown-exited : Grown f ranges s l l2
       grown-exited = grown_join f ranges s l l1 l2 (grown_state f ranges s (UseExit d k) t0 l ready m0) (grown_state f ranges s (Inst l.next (call_words f x v) (call_mems f x v)) t1 l1 r1 m1)
 
-      exit_stood : (entry : ℕ) (new : LogTree) (path : List FactTree) (from : Option StandingTree) (t : StandingTree) → FromAs f entry ranges (past f ranges s l) (Const callee.entry) v path from →
+      exit_stood : (entry : ℕ) (new : WriterTree) (path : List FactTree) (from : Option CitedTree) (t : CitedTree) → FromAs f entry ranges (past f ranges s l) (Const callee.entry) v path from →
           GoesOn f entry from (exit_standing f ranges d k x v l) (pc_of x v.words) (exit_place f x v.words v.mems) (exited f ranges callee.entry d k x v l) new t →
           Stood f entry ranges s l new (pc_of x v.words) (exit_place f x v.words v.mems) (path ++ Gives d k (current f v) (results_at f x v.words v.mems) ∷ []) t
       exit_stood entry new path from t here on =
@@ -116,21 +116,21 @@ module _ (f : Flow) (ranges : List Range) (s : Setting f ranges) where
           record { grown = grown_join f ranges s l l2 new grown-exited end.grown; cited = end.cited; stands = end.stands }
 
 -- they are steps to there, where the part has that exit
-pub exit_steps : (f : Flow) (ranges : List Range) (q : Part) (k : ℕ) (x : Exit) (entry : ℕ) (v : VariableMap) (old new : LogTree) (from : Option StandingTree) (t : StandingTree) →
+pub exit_steps : (f : Flow) (ranges : List Range) (q : Part) (k : ℕ) (x : Exit) (entry : ℕ) (v : VariableMap) (old new : WriterTree) (from : Option CitedTree) (t : CitedTree) →
     IsPart f q → slice_get (exits_of f q) k ≡ Some x →
     GoesOn f entry from (exit_standing f ranges (f.number q) k x v old) (pc_of x v.words) (exit_place f x v.words v.mems) (exited f ranges (f.addr (first f q)) (f.number q) k x v old) new t →
     StepsBy f entry ranges (f.number q) old new (Const (f.addr (first f q))) v from (pc_of x v.words) (exit_place f x v.words v.mems)
     (Gives (f.number q) k (current f v) (results_at f x v.words v.mems) ∷ []) t
 exit_steps f ranges q k x entry v old new from t part at on = record {
-  each = λ s path ready closed here.
-      let has : HasPart f (group_over f s.name ranges s.defs) q = s.has q part in
+  each = λ s path ready closed low here.
+      let has : HasPart f (group_over f s.name ranges s.defs) q = s.has q part low in
       exit_stood f ranges s (f.number q) k has.def x has.is (ap (λ (xs : List Exit). slice_get xs k) has.exits ∙ at) v old ready closed entry new path from t
       (subst (λ (a : ℕ). FromAs f entry ranges (past f ranges s old) (Const a) v path from) (sym has.entry) here)
       (subst (λ (a : ℕ). GoesOn f entry from (exit_standing f ranges (f.number q) k x v old) (pc_of x v.words) (exit_place f x v.words v.mems) (exited f ranges a (f.number q) k x v old) new t) (sym has.entry) on);
 }
 
 -- .. as they were made
-pub exit_made : (f : Flow) (ranges : List Range) (q : Part) (k : ℕ) (x : Exit) (entry : ℕ) (v : VariableMap) (old mid new : LogTree) (from : Option StandingTree) (last t : StandingTree) (pc : WordTree) (u : VariableMap) (d a : ℕ) →
+pub exit_made : (f : Flow) (ranges : List Range) (q : Part) (k : ℕ) (x : Exit) (entry : ℕ) (v : VariableMap) (old mid new : WriterTree) (from : Option CitedTree) (last t : CitedTree) (pc : WordTree) (u : VariableMap) (d a : ℕ) →
     IsPart f q → slice_get (exits_of f q) k ≡ Some x → d ≡ f.number q → a ≡ f.addr (first f q) → last ≡ exit_standing f ranges d k x v old → mid ≡ exited f ranges a d k x v old →
     pc ≡ pc_of x v.words → u ≡ exit_place f x v.words v.mems → GoesOn f entry from last pc u mid new t →
     StepsBy f entry ranges (f.number q) old new (Const (f.addr (first f q))) v from (pc_of x v.words) (exit_place f x v.words v.mems) (Gives (f.number q) k (current f v) (results_at f x v.words v.mems) ∷ []) t
@@ -138,6 +138,6 @@ exit_made f ranges q k x entry v old mid new from last t pc u d a part at d_is a
     let last_at : last ≡ exit_standing f ranges (f.number q) k x v old = last_is ∙ (λ i. exit_standing f ranges (d_is i) k x v old) in
     let mid_at : mid ≡ exited f ranges (f.addr (first f q)) (f.number q) k x v old = mid_is ∙ (λ i. exited f ranges (a_is i) (d_is i) k x v old) in
     exit_steps f ranges q k x entry v old new from t part at
-    (subst (λ (y : StandingTree). GoesOn f entry from y (pc_of x v.words) (exit_place f x v.words v.mems) (exited f ranges (f.addr (first f q)) (f.number q) k x v old) new t) last_at
+    (subst (λ (y : CitedTree). GoesOn f entry from y (pc_of x v.words) (exit_place f x v.words v.mems) (exited f ranges (f.addr (first f q)) (f.number q) k x v old) new t) last_at
     (subst (λ (y : WordTree). GoesOn f entry from last y (exit_place f x v.words v.mems) (exited f ranges (f.addr (first f q)) (f.number q) k x v old) new t) pc_is
-    (subst (λ (y : VariableMap). GoesOn f entry from last pc y (exited f ranges (f.addr (first f q)) (f.number q) k x v old) new t) u_is (subst (λ (y : LogTree). GoesOn f entry from last pc u y new t) mid_at on))))
+    (subst (λ (y : VariableMap). GoesOn f entry from last pc y (exited f ranges (f.addr (first f q)) (f.number q) k x v old) new t) u_is (subst (λ (y : WriterTree). GoesOn f entry from last pc u y new t) mid_at on))))

@@ -23,6 +23,10 @@ pub closed_steps : (h : History) (ss : List StepTree) (b : BodyTree) → AreClos
 closed_steps h [] b c = c
 closed_steps h (s ∷ ss) b c = closed_steps h ss b c
 
+pub below_steps : (d : ℕ) (ss : List StepTree) (b : BodyTree) → CallsBelow d (with_steps ss b) → CallsBelow d b
+below_steps d [] b c = c
+below_steps d (s ∷ ss) b c = below_steps d ss b c
+
 mutual
   pub below_closed : (h : History) (d : ℕ) (b : BodyTree) → ((k : ℕ) → k < d → h.closed k ≡ true) → CallsBelow d b → AreClosed h b
   below_closed h d (Do s rest) all c = below_closed h d rest all c

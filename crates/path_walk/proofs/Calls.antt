@@ -1,5 +1,5 @@
 -- The triple of a call's exit over the current variables, and what its variables become.
-use Rattle.std.proofs.Common.{◌≡◌, ℕ, suc, ◌+◌, List, [], ◌∷◌, ◌++◌, map, length, drop, zip, true, false, cond, refl, sym, ap, ◌∙◌, arith, Some}
+use Rattle.std.proofs.Common.{◌≡◌, ℕ, suc, ◌+◌, List, [], ◌∷◌, ◌++◌, map, length, drop, zip, refl, sym, ap, ◌∙◌, arith, Some}
 use Rattle.std.specs.Prelude.{slice_index_or}
 use Rattle.std.specs.List.{range_with_len}
 use Rattle.std.proofs.lemmas.List.FromFn.{length-range_with_len}
@@ -16,8 +16,7 @@ use Rattle.tailrec_lang.specs.Registers.{AreRegistersFrom}
 use Rattle.loop_rule.specs.Leaves.{variables_after, parameters, with_values, at_exit}
 use Rattle.loop_rule.specs.Rule.{results, exit_triple}
 use Rattle.checker.specs.Instance.{put_for}
-use Rattle.instr_axioms.specs.Axiom.{memory_if}
-use Rattle.code_parts.specs.Bodies.{Flow, VariableMap, mem_count, current}
+use Rattle.code_parts.specs.Bodies.{Flow, VariableMap, current}
 use Rattle.path_walk.specs.inner.Histories.{exit_place, pc_of}
 use Rattle.code_parts.specs.Flows.{group_over}
 use Rattle.path_walk.specs.inner.Acts.{numbered}
@@ -50,9 +49,6 @@ put-exit s g Ret v =
     put-with s g (slice_index_or v.words 0 (Const 0)) (record { words = drop 1 v.words; mems = v.mems })
     ∙ (λ i. with_values g (pc i) (record { words = words i; mems = map (put_in_mem s) v.mems }))
 
-length-memory : (f : Flow) (m : MemTree) → length (memory_if f.has_mem m) ≡ mem_count f
-length-memory f m = elim f.has_mem as (λ b. length (memory_if b m) ≡ (cond b 1 0)) [ true ↦ refl | false ↦ refl ]
-
 length-variables : (from n : ℕ) → length (map Var (range_with_len from n)) ≡ n
 length-variables from n = length-map Var (range_with_len from n) ∙ length-range_with_len from n
 
@@ -62,14 +58,14 @@ length-mem_variables from n = length-map MemVar (range_with_len from n) ∙ leng
 -- ---- results
 
 pub exit-fresh : (f : Flow) (name : List ℕ) (ranges : List Range) (defs : List DefTree) (x : Exit) (words mems : ℕ) → AreRegistersFrom 1 f.regs →
-    at_exit (group_over f name ranges defs) (Some x) (variables_after words mems (exit_words (group_over f name ranges defs) x) (mem_count f))
+    at_exit (group_over f name ranges defs) (Some x) (variables_after words mems (exit_words (group_over f name ranges defs) x) f.mems)
     ≡ with_values (group_over f name ranges defs) (pc_of x words) (current f (exit_place f x words mems))
 exit-fresh f name ranges defs (At a) words mems rise = ap (with_values (group_over f name ranges defs) (Const a)) (current-fresh f words mems rise)
 exit-fresh f name ranges defs Ret words mems rise =
     let count : length f.regs + 1 ≡ suc (length f.regs) = omega arith in
     let next : words + 1 ≡ suc words = omega arith in
-    (λ i. at_exit (group_over f name ranges defs) (Some Ret) (variables_after words mems (count i) (mem_count f)))
-    ∙ (λ i. with_values (group_over f name ranges defs) (Var words) (variables_after (next i) mems (length f.regs) (mem_count f)))
+    (λ i. at_exit (group_over f name ranges defs) (Some Ret) (variables_after words mems (count i) f.mems))
+    ∙ (λ i. with_values (group_over f name ranges defs) (Var words) (variables_after (next i) mems (length f.regs) f.mems))
     ∙ ap (with_values (group_over f name ranges defs) (Var words)) (current-fresh f (suc words) mems rise)
 
 module _ (f : Flow) (name : List ℕ) (ranges : List Range) (defs : List DefTree) (def : DefTree) (rise : AreRegistersFrom 1 f.regs) where
@@ -82,7 +78,7 @@ module _ (f : Flow) (name : List ℕ) (ranges : List Range) (defs : List DefTree
 
     -- the next variables, for the results
     abbrev news : ValuesTree
-    news = variables_after v.words v.mems (exit_words (group_over f name ranges defs) x) (mem_count f)
+    news = variables_after v.words v.mems (exit_words (group_over f name ranges defs) x) f.mems
 
     -- the parameters become the current variables, the results the next ones
     abbrev pub call_words : List (ℕ × WordTree)
@@ -97,8 +93,8 @@ module _ (f : Flow) (name : List ℕ) (ranges : List Range) (defs : List DefTree
     many : length (current f v).words ≡ length f.regs
     many = length-map (λ r. Var (v.reg r)) f.regs
 
-    many_mems : length (current f v).mems ≡ mem_count f
-    many_mems = length-memory f (MemVar v.memory)
+    many_mems : length (current f v).mems ≡ f.mems
+    many_mems = length-map (λ q. MemVar (v.memory q)) (range_with_len 0 f.mems) ∙ length-range_with_len 0 f.mems
 
     put-parameters : put_in_values sub (parameters g) ≡ current f v
     put-parameters =
@@ -106,13 +102,13 @@ module _ (f : Flow) (name : List ℕ) (ranges : List Range) (defs : List DefTree
         let ms = (λ i. map (put_in_mem sub) (map MemVar (range_with_len 0 (sym many_mems i)))) ∙ put-mems sub 0 (current f v).mems (λ k t e. listed-left 0 k (current f v).mems news.mems t e) in
         λ i. record { words = ws i; mems = ms i }
 
-    put-results : put_in_values sub (variables_after (length f.regs) (mem_count f) count (mem_count f)) ≡ news
+    put-results : put_in_values sub (variables_after (length f.regs) f.mems count f.mems) ≡ news
     put-results =
         let ws = (λ i. map (put_in_word sub) (map Var (range_with_len (length f.regs) (sym (length-variables v.words count) i)))) ∙ put-words sub (length f.regs) news.words (λ k t e.
         let sum : length f.regs + k ≡ 0 + (length (current f v).words + k) = omega (arith, many) in
         (λ i. sub.word (sum i)) ∙ listed-right 0 k (current f v).words news.words t e) in
-        let ms = (λ i. map (put_in_mem sub) (map MemVar (range_with_len (mem_count f) (sym (length-mem_variables v.mems (mem_count f)) i)))) ∙ put-mems sub (mem_count f) news.mems (λ k t e.
-        let sum : mem_count f + k ≡ 0 + (length (current f v).mems + k) = omega (arith, many_mems) in
+        let ms = (λ i. map (put_in_mem sub) (map MemVar (range_with_len f.mems (sym (length-mem_variables v.mems f.mems) i)))) ∙ put-mems sub f.mems news.mems (λ k t e.
+        let sum : f.mems + k ≡ 0 + (length (current f v).mems + k) = omega (arith, many_mems) in
         (λ i. sub.mem (sum i)) ∙ listed-right 0 k (current f v).mems news.mems t e) in
         λ i. record { words = ws i; mems = ms i }
 

@@ -1,7 +1,7 @@
 -- The arms of a call one after the other, and the lines that close a part's definition.
-use Rattle.std.proofs.Common.{◌≡◌, ℕ, zero, suc, ◌+◌, ◌<◌, ◌^◌, List, [], ◌∷◌, ◌++◌, map, length, get_or, take, take-suc, drop, fold, Bool, true, false, cond, eqb, refl, sym, ap, ◌∙◌, subst, arith, Option, Some, None, add-one, eq-eqb}
+use Rattle.std.proofs.Common.{◌≡◌, ℕ, zero, suc, ◌+◌, ◌-◌, ◌<◌, ◌≤◌, ◌^◌, List, [], ◌∷◌, ◌++◌, map, length, get_or, take, take-suc, drop, fold, Bool, true, false, cond, eqb, refl, sym, ap, ◌∙◌, subst, arith, Option, Some, None, add-one, eq-eqb}
 use Rattle.std.specs.Prelude.{slice_get}
-use Rattle.std.specs.List.{AllByRecursion, AllZip}
+use Rattle.std.specs.List.{AllZip}
 use Rattle.rv_words.specs.declared.range.Range.{Range}
 use Rattle.word_terms.specs.Tree.{WordTree, Const}
 use Rattle.tailrec_lang.specs.declared.group.Exit.{Exit}
@@ -17,15 +17,17 @@ use Rattle.loop_rule.specs.Rule.{IsClosedBy, IsLedTo, LeadsTo}
 use Rattle.checker.specs.Instance.{AreInstances, History, after_line, after_lines, no_lines, with_closed}
 use Rattle.code_parts.specs.declared.part.Part.{Part}
 use Rattle.code_parts.specs.declared.part.Part.TheVariants as part
-use Rattle.code_parts.specs.Bodies.{Flow, VariableMap, arms_over, body_at, current, end_at, first, fresh, mem_count, part_body, part_def, start}
+use Rattle.code_parts.specs.Bodies.{Flow, VariableMap, arms_over, body_at, current, end_at, first, fresh, part_body, part_def, start}
 use Rattle.path_walk.specs.Closed.{AreClosed}
-use Rattle.code_parts.specs.Graph.{HasPart, IsCode, IsFor}
+use Rattle.code_parts.specs.Graph.{CallsBelow, HasPart, IsCode, IsFor}
 use Rattle.path_walk.specs.Item.{AreClosing, IsWalked}
 use Rattle.path_walk.specs.inner.Acts.{results_at}
 use Rattle.code_parts.specs.Flows.{group_over}
-use Rattle.path_walk.specs.inner.Lines.{ArmsLead, stated}
-use Rattle.path_walk.specs.inner.Writers.{IsFineWriter, Leads, LogTree, Setting, StandingTree, StepsBy, group_in, past}
+use Rattle.path_walk.specs.inner.Lines.{ArmsLead, forgets, stated}
+use Rattle.path_walk.specs.inner.Writers.{IsFineWriter, Leads, WriterTree, Setting, CitedTree, StepsBy, group_in, past}
 use Rattle.code_parts.proofs.BuiltBodies.{part_head, part_loop, part_node}
+use Rattle.path_walk.proofs.ForgottenLines.{all_stated, closing-forgets, forgets-fine, next-after}
+use Rattle.path_walk.proofs.LineTexts.{all-join}
 use Rattle.path_walk.proofs.LeafCitations.{arms_more, arms_none, call_leads}
 use Rattle.path_walk.proofs.RightLines.{fold-join, joined, lines-counted, none-counted}
 
@@ -36,15 +38,15 @@ drop-at [] k x e = absurd (cc)
 drop-at (y ∷ xs) zero x e = let same : y ≡ x = cc in ap (λ (z : ℕ). z ∷ xs) same
 drop-at (y ∷ xs) (suc k) x e = drop-at xs k x e
 
-module _ (f : Flow) (p : Part) (ranges : List Range) (d : ℕ) (pc : WordTree) (v : VariableMap) (from : Option StandingTree) (more : List Exit) (go : ℕ → BodyTree) (xs : List ℕ) where
+module _ (f : Flow) (p : Part) (ranges : List Range) (d : ℕ) (pc : WordTree) (v : VariableMap) (from : Option CitedTree) (more : List Exit) (go : ℕ → BodyTree) (xs : List ℕ) where
   -- the lines are whole where those for the arms from place k on are added
-  pub record ArmsLeft (old now : LogTree) (k : ℕ) : Type 0 where
-    pub each : (new : LogTree) → ArmsLead f p ranges d now new pc v from (map (λ x. At (f.addr x)) (drop k xs) ++ more) k (arms_over (drop k xs) go) → ArmsLead f p ranges d old new pc v from (map (λ x. At (f.addr x)) xs ++ more) 0 (arms_over xs go)
+  pub record ArmsLeft (old now : WriterTree) (k : ℕ) : Type 0 where
+    pub each : (new : WriterTree) → ArmsLead f p ranges d now new pc v from (map (λ x. At (f.addr x)) (drop k xs) ++ more) k (arms_over (drop k xs) go) → ArmsLead f p ranges d old new pc v from (map (λ x. At (f.addr x)) xs ++ more) 0 (arms_over xs go)
 
-  pub left_all : (old : LogTree) → ArmsLeft old old 0
+  pub left_all : (old : WriterTree) → ArmsLeft old old 0
   left_all old = record { each = λ new lead. lead }
 
-  pub left_next : (old now mid after : LogTree) (entry j a k x : ℕ) (t : StandingTree) → entry ≡ (part_def f p).entry → j ≡ k → a ≡ f.addr x → slice_get xs k ≡ Some x → ArmsLeft old now k →
+  pub left_next : (old now mid after : WriterTree) (entry j a k x : ℕ) (t : CitedTree) → entry ≡ (part_def f p).entry → j ≡ k → a ≡ f.addr x → slice_get xs k ≡ Some x → ArmsLeft old now k →
       StepsBy f entry ranges d now mid pc v from (Const a) (fresh f v.words v.mems) (Gives d j (current f v) (results_at f (At a) v.words v.mems) ∷ []) t →
       Leads f p ranges mid after (Const (f.addr x)) (fresh f v.words v.mems) (Some t) (go x) → ArmsLeft old after (k + 1)
   left_next old now mid after entry j a k x t front count there at left step one = record {
@@ -64,13 +66,13 @@ module _ (f : Flow) (p : Part) (ranges : List Range) (d : ℕ) (pc : WordTree) (
   none-left (y ∷ ys) zero e = absurd (omega (arith, e))
   none-left (y ∷ ys) (suc k) e = none-left ys k (omega (arith, e))
 
-  pub left_none : (old now : LogTree) (k : ℕ) → k ≡ length xs → more ≡ [] → ArmsLeft old now k → ArmsLead f p ranges d old now pc v from (map (λ x. At (f.addr x)) xs ++ more) 0 (arms_over xs go)
+  pub left_none : (old now : WriterTree) (k : ℕ) → k ≡ length xs → more ≡ [] → ArmsLeft old now k → ArmsLead f p ranges d old now pc v from (map (λ x. At (f.addr x)) xs ++ more) 0 (arms_over xs go)
   left_none old now k all none left =
       left.each now (subst (λ (ys : List ℕ). ArmsLead f p ranges d now now pc v from (map (λ x. At (f.addr x)) ys ++ more) k (arms_over ys go)) (sym (none-left xs k all)) (arms_none f p ranges d k now pc v from more))
 
 -- ---- bodies of parts
 
-module _ (f : Flow) (p : Part) (ranges : List Range) (old new : LogTree) where
+module _ (f : Flow) (p : Part) (ranges : List Range) (old new : WriterTree) where
   pub loop_part : (l : ℕ) → p ≡ part.Loop l → Leads f p ranges old new (Const (f.addr (f.head l))) (start f) None (body_at 32 f p (f.head l) (start f)) → Leads f p ranges old new (Const (f.addr (first f p))) (start f) None (part_body f p)
   loop_part l is lead =
       subst (λ (n : ℕ). Leads f p ranges old new (Const (f.addr n)) (start f) None (part_body f p)) (λ i. first f (sym is i))
@@ -92,20 +94,9 @@ module _ (f : Flow) (p : Part) (ranges : List Range) (old new : LogTree) where
 
 -- ---- a part
 
--- how many theorems there are after lines
-pub next-after : (h : History) (lines : List LineTree) → (fold after_line h lines).next ≡ h.next + stated lines
-next-after h [] = omega arith
-next-after h (States rule t ∷ lines) = let rest = next-after (after_line h (States rule t)) lines in omega (arith, rest)
-next-after h (Loop d cited ∷ lines) = next-after (after_line h (Loop d cited)) lines
-next-after h (Forget k ∷ lines) = next-after (after_line h (Forget k)) lines
-
-all_and : {A : Type 0} (P : A → Type 0) (xs : List A) (y : A) → AllByRecursion P xs → P y → AllByRecursion P (xs ++ y ∷ [])
-all_and P [] y all last = (last, tt)
-all_and P (x ∷ xs) y all last = (all.0, all_and P xs y all.1 last)
-
-module _ (f : Flow) (p : Part) (ranges : List Range) (old : List LineTree) (count : ℕ) (new : LogTree) (next : count ≡ (after_lines old).next)
+module _ (f : Flow) (p : Part) (ranges : List Range) (old : List LineTree) (count : ℕ) (new : WriterTree) (next : count ≡ (after_lines old).next)
     (lead : Leads f p ranges (record { lines = []; next = count; cited = [] }) new (Const (f.addr (first f p))) (start f) None (part_body f p)) where
-  abbrev empty : LogTree
+  abbrev empty : WriterTree
   empty = record { lines = []; next = count; cited = [] }
 
   cited_all : (g : GroupTree) (h : History) (leaves : List LeafTree) (js : List ℕ) → AllZip (λ leaf j. (t : TripleTree) × (h.theorem j ≡ Some t) × LeadsTo g (part_def f p) leaf t) leaves js →
@@ -115,18 +106,18 @@ module _ (f : Flow) (p : Part) (ranges : List Range) (old : List LineTree) (coun
   cited_all g h (l ∷ ls) [] a = absurd a
   cited_all g h (l ∷ ls) (j ∷ js) a = (subst (IsLedTo g (part_def f p) l) (sym a.0.1) a.0.2, cited_all g h ls js a.1)
 
-  by_setting : (s : Setting f ranges) → s.before ≡ old → slice_get s.defs (f.number p) ≡ Some (part_def f p) → AreClosed (after_lines old) (part_body f p) →
+  by_setting : (s : Setting f ranges) → s.before ≡ old → slice_get s.defs (f.number p) ≡ Some (part_def f p) → AreClosed (after_lines old) (part_body f p) → CallsBelow s.bound (part_body f p) →
       AreClosing (group_in f ranges s) (after_lines old) (f.number p) (new.lines ++ Loop (f.number p) new.cited ∷ [])
-  by_setting s before mine closed =
+  by_setting s before mine closed below =
       let g : GroupTree = group_in f ranges s in
       let def : DefTree = part_def f p in
       let h : History = after_lines s.before in
       let same : h ≡ after_lines old = ap after_lines before in
       let ready = subst (λ (ls : List LineTree). AreClosed (after_lines ls) (part_body f p)) (sym before) closed in
-      let led = lead.each s [] (record { next = next ∙ ap (λ ls. (after_lines ls).next) (sym before); counted = lines-counted no_lines s.before none-counted }) (refl, refl, refl) ready in
+      let led = lead.each s [] (record { next = next ∙ ap (λ ls. (after_lines ls).next) (sym before); counted = lines-counted no_lines s.before none-counted }) (refl, refl, refl) ready below in
       let k : History = past f ranges s new in
       let words : (start f).words ≡ length f.regs = omega arith in
-      let mems : (start f).mems ≡ mem_count f = omega arith in
+      let mems : (start f).mems ≡ f.mems = omega arith in
       let each = subst (λ (ls : List LeafTree). AllZip (λ leaf j. (t : TripleTree) × (k.theorem j ≡ Some t) × LeadsTo g def leaf t) ls led.numbers)
       (λ i. body_leaves g def (part_body f p) (words i) (mems i) []) led.each in
       let all = subst (λ (js : List ℕ). AllZip (IsLedTo g def) (leaves_of g def) (map k.theorem js)) (sym led.cited) (cited_all g k (leaves_of g def) led.numbers each) in
@@ -147,33 +138,40 @@ module _ (f : Flow) (p : Part) (ranges : List Range) (old : List LineTree) (coun
           go true = refl
           go false = e
 
-  by_group : (g : GroupTree) → IsFor f g → g.code ≡ ranges → slice_get g.defs (f.number p) ≡ Some (part_def f p) → AreClosed (after_lines old) (part_body f p) →
+  by_group : (g : GroupTree) (d : ℕ) → IsFor f d g → g.code ≡ ranges → slice_get g.defs (f.number p) ≡ Some (part_def f p) → CallsBelow d (part_body f p) → AreClosed (after_lines old) (part_body f p) →
       AreClosing g (after_lines old) (f.number p) (new.lines ++ Loop (f.number p) new.cited ∷ [])
-  by_group g for code mine closed =
-      let s : Setting f ranges = record { name = g.name; defs = g.defs; before = old; code = subst (IsCode f) code for.code; has = λ q there. moved q (for.has q there) } in
+  by_group g d for code mine below closed =
+      let s : Setting f ranges = record { name = g.name; defs = g.defs; before = old; bound = d; code = subst (IsCode f) code for.code; has = λ q there low. moved q (for.has q there low) } in
       let same : group_over f g.name ranges g.defs ≡ g = (λ i. record { name = g.name; regs = sym for.regs i; mems = sym for.mems i; code = sym code i; defs = g.defs }) in
-      subst (λ (x : GroupTree). AreClosing x (after_lines old) (f.number p) (new.lines ++ Loop (f.number p) new.cited ∷ [])) same (by_setting s refl mine closed)
+      subst (λ (x : GroupTree). AreClosing x (after_lines old) (f.number p) (new.lines ++ Loop (f.number p) new.cited ∷ [])) same (by_setting s refl mine closed below)
     where
       moved : (q : Part) → HasPart f g q → HasPart f (group_over f g.name ranges g.defs) q
       moved q x = record { def = x.def; is = x.is; entry = x.entry; exits = x.exits }
 
-  -- the lines of a part, and the one that closes its definition
-  pub walked : (lines : List LineTree) → lines ≡ old ++ (new.lines ++ Loop (f.number p) new.cited ∷ []) → IsFineWriter new → f.number p < 2 ^ 32 → IsWalked f ranges p old lines
-  walked lines are fine low = record {
-    added = new.lines ++ Loop (f.number p) new.cited ∷ [];
+  -- the lines of a part, the one that closes its definition, and those that forget its theorems
+  pub walked : (lines : List LineTree) → lines ≡ old ++ ((new.lines ++ Loop (f.number p) new.cited ∷ []) ++ forgets count (stated new.lines)) → IsFineWriter new → count + stated new.lines ≤ 2 ^ 64 → f.number p < 2 ^ 32 →
+      IsWalked f ranges p old lines
+  walked lines are fine most low = record {
+    added = (new.lines ++ Loop (f.number p) new.cited ∷ []) ++ forgets count (stated new.lines);
     lines = are;
-    fine = all_and IsLine new.lines (Loop (f.number p) new.cited) fine.lines (low, fine.cited);
-    closing = λ g for code mine closed. by_group g for code mine closed;
+    fine = all-join IsLine (new.lines ++ Loop (f.number p) new.cited ∷ []) (forgets count (stated new.lines)) (all-join IsLine new.lines (Loop (f.number p) new.cited ∷ []) fine.lines ((low, fine.cited), tt)) (forgets-fine count (stated new.lines) most);
+    closing = λ g d for code mine below closed.
+        subst (λ (a : ℕ). AreClosing g (after_lines old) (f.number p) ((new.lines ++ Loop (f.number p) new.cited ∷ []) ++ forgets a (stated new.lines))) (sym next)
+        (closing-forgets g (after_lines old) (f.number p) new.lines new.cited fine.stating (by_group g d for code mine below closed));
   }
 
 -- what is added to the lines before
-pub closing : (f : Flow) (p : Part) (ranges : List Range) (count : ℕ) (none new : LogTree) (d : ℕ) (cited : List ℕ) (more : List LineTree) → none ≡ record { lines = []; next = count; cited = [] } →
-    Leads f p ranges none new (Const (f.addr (first f p))) (start f) None (part_body f p) → more ≡ new.lines ++ Loop d cited ∷ [] → d ≡ f.number p → cited ≡ new.cited → IsFineWriter new → d < 2 ^ 32 →
+pub closing : (f : Flow) (p : Part) (ranges : List Range) (count last : ℕ) (none new : WriterTree) (d : ℕ) (cited : List ℕ) (more : List LineTree) → none ≡ record { lines = []; next = count; cited = [] } →
+    Leads f p ranges none new (Const (f.addr (first f p))) (start f) None (part_body f p) → more ≡ (new.lines ++ Loop d cited ∷ []) ++ forgets count (last - count) → last ≡ count + stated new.lines → last < 2 ^ 64 → d ≡ f.number p → cited ≡ new.cited → IsFineWriter new → d < 2 ^ 32 →
     (old : List LineTree) → count ≡ (after_lines old).next → IsWalked f ranges p old (old ++ more)
-closing f p ranges count none new d cited more blank lead are number same fine low old next =
-    let from = subst (λ (l : LogTree). Leads f p ranges l new (Const (f.addr (first f p))) (start f) None (part_body f p)) blank lead in
-    let whole : old ++ more ≡ old ++ (new.lines ++ Loop (f.number p) new.cited ∷ []) = ap (λ (ls : List LineTree). old ++ ls) (are ∙ (λ i. new.lines ++ Loop (number i) (same i) ∷ [])) in
-    walked f p ranges old count new next from (old ++ more) whole fine (subst (λ (k : ℕ). k < 2 ^ 32) number low)
+closing f p ranges count last none new d cited more blank lead are all most number same fine low old next =
+    let from = subst (λ (l : WriterTree). Leads f p ranges l new (Const (f.addr (first f p))) (start f) None (part_body f p)) blank lead in
+    let whole : old ++ more ≡ old ++ ((new.lines ++ Loop (f.number p) new.cited ∷ []) ++ forgets count (stated new.lines)) =
+    ap (λ (ls : List LineTree). old ++ ls) (are ∙ (λ i. (new.lines ++ Loop (number i) (same i) ∷ []) ++ forgets count (all_stated count last (stated new.lines) all i))) in
+    walked f p ranges old count new next from (old ++ more) whole fine (fits all most) (subst (λ (k : ℕ). k < 2 ^ 32) number low)
+  where
+    fits : last ≡ count + stated new.lines → last < 2 ^ 64 → count + stated new.lines ≤ 2 ^ 64
+    fits all most = omega (arith, all, most)
 
 map-push : {A B : Type 0} (h : A → B) (xs : List A) (y : A) → map h (xs ++ y ∷ []) ≡ map h xs ++ h y ∷ []
 map-push h [] y = refl

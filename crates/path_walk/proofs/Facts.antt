@@ -32,19 +32,19 @@ pub need-facts : (cs : List CondTree) (words mems : ℕ) (path : List FactTree) 
 need-facts [] words mems path = sym (append-nil path)
 need-facts (c ∷ cs) words mems path = need-facts cs words mems (path ++ So c ∷ []) ∙ append_assoc path (So c ∷ []) (map So cs)
 
-write-facts : (i : Instr) (a k : ℕ) (v : VariableMap) (path : List FactTree) → facts_after (writes i a k v) v.words v.mems path ≡ path ++ new_facts i a k v
-write-facts i a k v path = go (is_store i) (eqb (destination i) 0)
+write-facts : (i : Instr) (a k q : ℕ) (v : VariableMap) (path : List FactTree) → facts_after (writes i a k q v) v.words v.mems path ≡ path ++ new_facts i a k q v
+write-facts i a k q v path = go (is_store i) (eqb (destination i) 0)
   where
-    go : (s d : Bool) → facts_after (cond s (BindMem (memory_after i (names v)) ∷ []) (cond d [] (Bind (result i a k (names v)) ∷ []))) v.words v.mems path
-        ≡ path ++ cond s (MemIs (MemVar v.mems) (memory_after i (names v)) ∷ []) (cond d [] (WordIs (Var v.words) (result i a k (names v)) ∷ []))
+    go : (s d : Bool) → facts_after (cond s (BindMem (memory_after i (names v q)) ∷ []) (cond d [] (Bind (result i a k (names v q)) ∷ []))) v.words v.mems path
+        ≡ path ++ cond s (MemIs (MemVar v.mems) (memory_after i (names v q)) ∷ []) (cond d [] (WordIs (Var v.words) (result i a k (names v q)) ∷ []))
     go true d = refl
     go false true = sym (append-nil path)
     go false false = refl
 
 -- .. of the steps of an instruction
-pub all-facts : (i : Instr) (a k : ℕ) (v : VariableMap) (path : List FactTree) → facts_after (needs i v ++ writes i a k v) v.words v.mems path ≡ (path ++ map So (conditions i Next (names v))) ++ new_facts i a k v
-all-facts i a k v path =
-    let cs : List CondTree = conditions i Next (names v) in
-    facts-append (map Need cs) (writes i a k v) v.words v.mems path
-    ∙ (λ j. facts_after (writes i a k v) (need-words cs v.words j) (need-mems cs v.mems j) (need-facts cs v.words v.mems path j))
-    ∙ write-facts i a k v (path ++ map So cs)
+pub all-facts : (i : Instr) (a k q : ℕ) (v : VariableMap) (path : List FactTree) → facts_after (needs i q v ++ writes i a k q v) v.words v.mems path ≡ (path ++ map So (conditions i Next (names v q))) ++ new_facts i a k q v
+all-facts i a k q v path =
+    let cs : List CondTree = conditions i Next (names v q) in
+    facts-append (map Need cs) (writes i a k q v) v.words v.mems path
+    ∙ (λ j. facts_after (writes i a k q v) (need-words cs v.words j) (need-mems cs v.mems j) (need-facts cs v.words v.mems path j))
+    ∙ write-facts i a k q v (path ++ map So cs)

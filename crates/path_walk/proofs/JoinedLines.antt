@@ -14,7 +14,7 @@ use Rattle.proof_text.specs.Line.{Compose}
 use Rattle.checker.specs.Instance.{Meets}
 use Rattle.code_parts.specs.Bodies.{Flow, VariableMap, start}
 use Rattle.path_walk.specs.inner.Acts.{GoesOn}
-use Rattle.path_walk.specs.inner.Writers.{FromAs, IsReady, LogTree, Setting, StandingTree, Stood, group_in, past, standing_at, stating}
+use Rattle.path_walk.specs.inner.Writers.{FromAs, IsReady, WriterTree, Setting, CitedTree, Stood, group_in, past, standing_at, stating}
 use Rattle.path_walk.proofs.WriterLemmas.{grown_none, grown_state, held_now}
 use Rattle.path_walk.proofs.Joins.{drop-all, or-within, some-same, some_and}
 use Rattle.code_parts.proofs.Lists.{later}
@@ -30,12 +30,12 @@ among-missing known fs more h = record { each = λ x c. go fs more h x c }
     go (y ∷ fs) (z ∷ more) (inr h) x (suc k, lt, at) = later y fs x (go fs more h.1.1 x (k, omega (arith, lt), at))
 
 module _ (f : Flow) (ranges : List Range) (s : Setting f ranges) (entry : ℕ) where
-  pub goes_on : (old new : LogTree) (pc : WordTree) (v : VariableMap) (path ways : List FactTree) (from : Option StandingTree) (there t : StandingTree) (to : WordTree) (u : VariableMap) →
+  pub goes_on : (old new : WriterTree) (pc : WordTree) (v : VariableMap) (path ways : List FactTree) (from : Option CitedTree) (there t : CitedTree) (to : WordTree) (u : VariableMap) →
       IsReady f ranges s old → FromAs f entry ranges (past f ranges s old) pc v path from →
       (past f ranges s old).theorem there.number ≡ Some (record { facts = there.facts; pre = standing_at f pc v; code = there.code; post = standing_at f to u }) →
       IsWithin (range_bytes there.code) (range_bytes ranges) → AreAmong there.facts ways → AreAmong path ways → GoesOn f entry from there to u old new t → Stood f entry ranges s old new to u ways t
   goes_on old new pc v path ways None there t to u ready from held within among longer on =
-      subst (λ (l : LogTree). Stood f entry ranges s old l to u ways t) (sym on.0) (subst (λ (x : StandingTree). Stood f entry ranges s old old to u ways x) (sym on.1) (record {
+      subst (λ (l : WriterTree). Stood f entry ranges s old l to u ways t) (sym on.0) (subst (λ (x : CitedTree). Stood f entry ranges s old old to u ways x) (sym on.1) (record {
         grown = grown_none f ranges s old ready;
         cited = refl;
         stands = record {
@@ -62,7 +62,7 @@ module _ (f : Flow) (ranges : List Range) (s : Setting f ranges) (entry : ℕ) w
       let meets : Meets (group_in f ranges s) (past f ranges s old) (Compose st.number there.number) whole =
       some_and ((past f ranges s old).theorem st.number) first (λ x. IsSomeAnd ((past f ranges s old).theorem there.number) (λ q. IsComposed x q whole)) from.held
       (some_and ((past f ranges s old).theorem there.number) second (λ q. IsComposed first q whole) held composed) in
-      subst (λ (l : LogTree). Stood f entry ranges s old l to u ways t) (sym on.log) (record {
+      subst (λ (l : WriterTree). Stood f entry ranges s old l to u ways t) (sym on.log) (record {
         grown = grown_state f ranges s (Compose st.number there.number) whole old ready meets;
         cited = refl;
         stands = record {

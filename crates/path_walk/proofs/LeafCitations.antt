@@ -22,7 +22,7 @@ use Rattle.loop_rule.specs.Leaves.{arm_leaves, at_exit, body_leaves, parameters,
 use Rattle.loop_rule.specs.Rule.{LeadsTo}
 use Rattle.code_parts.specs.declared.part.Part.{Part}
 use Rattle.code_parts.specs.declared.part.Part.TheVariants.{Loop, Rest}
-use Rattle.code_parts.specs.Bodies.{size, Flow, VariableMap, body_at, current, end_at, end_of, exits_of, first, fresh, index_of, last_at, mem_count, names, needs, or_else, own, part_def, place_after, rest_arms, rest_from, rest_targets, returned, start, targets, with_pc, writes}
+use Rattle.code_parts.specs.Bodies.{size, Flow, VariableMap, body_at, current, end_at, end_of, exits_of, first, fresh, index_of, last_at, names, needs, or_else, own, part_def, place_after, rest_arms, rest_from, rest_targets, returned, start, targets, with_pc, writes}
 use Rattle.tailrec_lang.specs.Registers.{AreRegistersFrom}
 use Rattle.code_parts.specs.Graph.{IsPart, IsPlaced, has_edge, is_return}
 use Rattle.path_walk.specs.inner.Acts.{new_facts, results_at}
@@ -30,12 +30,12 @@ use Rattle.path_walk.specs.inner.Near.{IsEnd, IsNear}
 use Rattle.code_parts.specs.inner.Ends.{body_on, returned_body, returning}
 use Rattle.code_parts.specs.Regions.{ends_at}
 use Rattle.path_walk.specs.inner.Lines.{ArmsLead}
-use Rattle.path_walk.specs.inner.Writers.{FromAs, Grown, IsReady, Leads, Led, LogTree, Setting, StandingTree, StandsAs, Steps, StepsBy, citing, group_in, past, standing_at}
+use Rattle.path_walk.specs.inner.Writers.{FromAs, Grown, IsReady, Leads, Led, WriterTree, Setting, CitedTree, StandsAs, Steps, StepsBy, citing, group_in, past, standing_at}
 use Rattle.path_walk.proofs.Facts.{all-facts, need-facts, facts_after, leaves-steps}
 use Rattle.code_parts.proofs.Counts.{all-mems, all-words}
 use Rattle.code_parts.proofs.BuiltBodies.{IsNoBranch, goes_back, goes_straight, goes_two_ways, straight_edge}
 use Rattle.path_walk.proofs.CallLemmas.{results_are, standing_is}
-use Rattle.path_walk.proofs.CalledDefs.{arms_closed_more, closed_more, closed_steps}
+use Rattle.path_walk.proofs.CalledDefs.{arms_closed_more, below_steps, closed_more, closed_steps}
 use Rattle.code_parts.proofs.Lists.{index-at, index-some, slice-map}
 use Rattle.path_walk.proofs.WriterLemmas.{from_on, grown_join, grown_none}
 use Rattle.path_walk.proofs.Lists.{current-fresh}
@@ -45,20 +45,20 @@ module _ (f : Flow) (p : Part) (ranges : List Range) where
   abbrev def : DefTree
   def = part_def f p
 
-  abbrev Here : Setting f ranges → LogTree → WordTree → VariableMap → List FactTree → StandingTree → Type 0
+  abbrev Here : Setting f ranges → WriterTree → WordTree → VariableMap → List FactTree → CitedTree → Type 0
   Here s l = StandsAs f (part_def f p).entry ranges (past f ranges s l)
 
-  abbrev Start : Setting f ranges → LogTree → WordTree → VariableMap → List FactTree → Option StandingTree → Type 0
+  abbrev Start : Setting f ranges → WriterTree → WordTree → VariableMap → List FactTree → Option CitedTree → Type 0
   Start s l = FromAs f (part_def f p).entry ranges (past f ranges s l)
 
   -- ---- lines after lines
 
   module _ (s : Setting f ranges) where
-    pub led_none : (a : LogTree) → IsReady f ranges s a → Led f p ranges s a a []
+    pub led_none : (a : WriterTree) → IsReady f ranges s a → Led f p ranges s a a []
     led_none a ready = record { grown = grown_none f ranges s a ready; numbers = []; cited = sym (append-nil a.cited); each = tt }
 
     -- first lines without a leaf
-    pub led_after : (a b c : LogTree) (leaves : List LeafTree) → Grown f ranges s a b → b.cited ≡ a.cited → Led f p ranges s b c leaves → Led f p ranges s a c leaves
+    pub led_after : (a b c : WriterTree) (leaves : List LeafTree) → Grown f ranges s a b → b.cited ≡ a.cited → Led f p ranges s b c leaves → Led f p ranges s a c leaves
     led_after a b c leaves m same r = record {
       grown = grown_join f ranges s a b c m r.grown;
       numbers = r.numbers;
@@ -66,22 +66,22 @@ module _ (f : Flow) (p : Part) (ranges : List Range) where
       each = r.each;
     }
 
-    abbrev Is : LogTree → LeafTree → ℕ → Type 0
+    abbrev Is : WriterTree → LeafTree → ℕ → Type 0
     Is l leaf j = (t : TripleTree) × ((past f ranges s l).theorem j ≡ Some t) × LeadsTo (group_in f ranges s) (part_def f p) leaf t
 
-    still : (b c : LogTree) (leaves : List LeafTree) (js : List ℕ) → Grown f ranges s b c → AllZip (Is b) leaves js → AllZip (Is c) leaves js
+    still : (b c : WriterTree) (leaves : List LeafTree) (js : List ℕ) → Grown f ranges s b c → AllZip (Is b) leaves js → AllZip (Is c) leaves js
     still b c [] [] m z = tt
     still b c [] (j ∷ js) m z = absurd z
     still b c (l ∷ ls) [] m z = absurd z
     still b c (l ∷ ls) (j ∷ js) m z = ((z.0.0, m.keeps.theorem j z.0.0 z.0.1, z.0.2), still b c ls js m z.1)
 
-    both : (c : LogTree) (ls ms : List LeafTree) (js ks : List ℕ) → AllZip (Is c) ls js → AllZip (Is c) ms ks → AllZip (Is c) (ls ++ ms) (js ++ ks)
+    both : (c : WriterTree) (ls ms : List LeafTree) (js ks : List ℕ) → AllZip (Is c) ls js → AllZip (Is c) ms ks → AllZip (Is c) (ls ++ ms) (js ++ ks)
     both c [] ms [] ks x y = y
     both c [] ms (j ∷ js) ks x y = absurd x
     both c (l ∷ ls) ms [] ks x y = absurd x
     both c (l ∷ ls) ms (j ∷ js) ks x y = (x.0, both c ls ms js ks x.1 y)
 
-    pub led_join : (a b c : LogTree) (ls ms : List LeafTree) → Led f p ranges s a b ls → Led f p ranges s b c ms → Led f p ranges s a c (ls ++ ms)
+    pub led_join : (a b c : WriterTree) (ls ms : List LeafTree) → Led f p ranges s a b ls → Led f p ranges s b c ms → Led f p ranges s a c (ls ++ ms)
     led_join a b c ls ms m n = record {
       grown = grown_join f ranges s a b c m.grown n.grown;
       numbers = m.numbers ++ n.numbers;
@@ -90,7 +90,7 @@ module _ (f : Flow) (p : Part) (ranges : List Range) where
     }
 
     -- the theorem of this place is cited for a leaf that asks for the current variables
-    cited_led : (old : LogTree) (pc : WordTree) (v : VariableMap) (path : List FactTree) (t : StandingTree) → IsReady f ranges s old → Here s old pc v path t →
+    cited_led : (old : WriterTree) (pc : WordTree) (v : VariableMap) (path : List FactTree) (t : CitedTree) → IsReady f ranges s old → Here s old pc v path t →
         Led f p ranges s old (citing t.number old) (record { facts = path; post = with_values (group_in f ranges s) pc (current f v) } ∷ [])
     cited_led old pc v path t ready here =
         let rise : AreRegistersFrom 1 f.regs = s.code.registers in
@@ -114,19 +114,19 @@ module _ (f : Flow) (p : Part) (ranges : List Range) where
   -- ---- leaves
 
   -- a body that is a leaf for the current variables
-  leaf_leads : (old : LogTree) (pc : WordTree) (v : VariableMap) (t : StandingTree) (body : BodyTree) →
+  leaf_leads : (old : WriterTree) (pc : WordTree) (v : VariableMap) (t : CitedTree) (body : BodyTree) →
       ((s : Setting f ranges) (path : List FactTree) → body_leaves (group_in f ranges s) (part_def f p) body v.words v.mems path ≡ record { facts = path; post = with_values (group_in f ranges s) pc (current f v) } ∷ []) →
       Leads f p ranges old (citing t.number old) pc v (Some t) body
   leaf_leads old pc v t body same = record {
-    each = λ s path ready here closed. subst (λ ls. Led f p ranges s old (citing t.number old) ls) (sym (same s path)) (cited_led s old pc v path t ready here);
+    each = λ s path ready here closed below. subst (λ ls. Led f p ranges s old (citing t.number old) ls) (sym (same s path)) (cited_led s old pc v path t ready here);
   }
 
-  leave_leads : (n k : ℕ) (v : VariableMap) (t : StandingTree) (old : LogTree) → slice_get (targets f p) k ≡ Some n → Leads f p ranges old (citing t.number old) (Const (f.addr n)) v (Some t) (Leave k (current f v))
+  leave_leads : (n k : ℕ) (v : VariableMap) (t : CitedTree) (old : WriterTree) → slice_get (targets f p) k ≡ Some n → Leads f p ranges old (citing t.number old) (Const (f.addr n)) v (Some t) (Leave k (current f v))
   leave_leads n k v t old at =
       let exit : slice_get (exits_of f p) k ≡ Some (At (f.addr n)) = slice-map (λ n. At (f.addr n)) (returned f p) (targets f p) k n at in
       leaf_leads old (Const (f.addr n)) v t (Leave k (current f v)) (λ s path i. record { facts = path; post = at_exit (group_in f ranges s) (exit i) (current f v) } ∷ [])
 
-  some_leads : (n : ℕ) (v : VariableMap) (t : StandingTree) (old : LogTree) (b : BodyTree) → (o : Option ℕ) → index_of (targets f p) n ≡ o →
+  some_leads : (n : ℕ) (v : VariableMap) (t : CitedTree) (old : WriterTree) (b : BodyTree) → (o : Option ℕ) → index_of (targets f p) n ≡ o →
       option_map (λ k. Leave k (current f v)) o ≡ Some b → Leads f p ranges old (citing t.number old) (Const (f.addr n)) v (Some t) b
   some_leads n v t old b None is e = absurd (cc)
   some_leads n v t old b (Some k) is e =
@@ -134,7 +134,7 @@ module _ (f : Flow) (p : Part) (ranges : List Range) where
       subst (λ c. Leads f p ranges old (citing t.number old) (Const (f.addr n)) v (Some t) c) same (leave_leads n k v t old (index-at (targets f p) n k is))
 
   -- where the part ends by itself
-  own_leads : (q : Part) → p ≡ q → (n : ℕ) (v : VariableMap) (t : StandingTree) (old : LogTree) (b : BodyTree) → end_of f q n (current f v) ≡ Some b →
+  own_leads : (q : Part) → p ≡ q → (n : ℕ) (v : VariableMap) (t : CitedTree) (old : WriterTree) (b : BodyTree) → end_of f q n (current f v) ≡ Some b →
       Leads f p ranges old (citing t.number old) (Const (f.addr n)) v (Some t) b
   own_leads (Rest r c) e n v t old b is = some_leads n v t old b (index_of (rest_targets f r) n) (λ i. index_of (targets f (e i)) n) is
   own_leads (Loop l) e n v t old b is = go (eqb n (f.head l)) refl is
@@ -148,7 +148,7 @@ module _ (f : Flow) (p : Part) (ranges : List Range) where
           (leaf_leads old (Const (f.addr n)) v t (Again (current f v)) (λ s path i. record { facts = path; post = with_values (group_in f ranges s) (Const (sym at_head i)) (current f v) } ∷ []))
       go false z is = some_leads n v t old b (index_of (f.exits l) n) (λ i. index_of (targets f (e i)) n) is
 
-  pub last_leads : (n k : ℕ) (v : VariableMap) (t : StandingTree) (old : LogTree) → slice_get (rest_targets f (own p)) k ≡ Some n →
+  pub last_leads : (n k : ℕ) (v : VariableMap) (t : CitedTree) (old : WriterTree) → slice_get (rest_targets f (own p)) k ≡ Some n →
       Leads f p ranges old (citing t.number old) (Const (f.addr n)) v (Some t) (last_at f p n v)
   last_leads n k v t old at = go (end_of f p n (current f v)) refl
     where
@@ -158,28 +158,28 @@ module _ (f : Flow) (p : Part) (ranges : List Range) where
 
   -- ---- arms
 
-  pub arms_none : (d k : ℕ) (l : LogTree) (pc : WordTree) (v : VariableMap) (from : Option StandingTree) (exits : List Exit) → ArmsLead f p ranges d l l pc v from exits k NoArm
-  arms_none d k l pc v from exits = record { each = λ s path ready closed here arms. led_none s l ready }
+  pub arms_none : (d k : ℕ) (l : WriterTree) (pc : WordTree) (v : VariableMap) (from : Option CitedTree) (exits : List Exit) → ArmsLead f p ranges d l l pc v from exits k NoArm
+  arms_none d k l pc v from exits = record { each = λ s path ready closed low here arms below. led_none s l ready }
 
   -- an arm, and those after it
-  pub arms_more : (d k : ℕ) (old mid after new : LogTree) (pc : WordTree) (v : VariableMap) (from : Option StandingTree) (x : ℕ) (t : StandingTree) (b : BodyTree) (exits : List Exit) (arms : ArmTrees) →
+  pub arms_more : (d k : ℕ) (old mid after new : WriterTree) (pc : WordTree) (v : VariableMap) (from : Option CitedTree) (x : ℕ) (t : CitedTree) (b : BodyTree) (exits : List Exit) (arms : ArmTrees) →
       StepsBy f (part_def f p).entry ranges d old mid pc v from (Const (f.addr x)) (fresh f v.words v.mems) (Gives d k (current f v) (results_at f (At (f.addr x)) v.words v.mems) ∷ []) t →
       Leads f p ranges mid after (Const (f.addr x)) (fresh f v.words v.mems) (Some t) b → ArmsLead f p ranges d after new pc v from exits (suc k) arms →
       ArmsLead f p ranges d old new pc v from (At (f.addr x) ∷ exits) k (Arm b arms)
   arms_more d k old mid after new pc v from x t b exits arms step one rest = record {
-    each = λ s path ready closed here ok.
+    each = λ s path ready closed low here ok below.
         let g : GroupTree = group_in f ranges s in
-        let res : results_at f (At (f.addr x)) v.words v.mems ≡ variables_after v.words v.mems (length f.regs) (mem_count f) = sym (current-fresh f v.words v.mems s.code.registers) in
-        let stood = step.each s path ready closed here in
+        let res : results_at f (At (f.addr x)) v.words v.mems ≡ variables_after v.words v.mems (length f.regs) f.mems = sym (current-fresh f v.words v.mems s.code.registers) in
+        let stood = step.each s path ready closed low here in
         let ways : List FactTree = path ++ Gives d k (current f v) (results_at f (At (f.addr x)) v.words v.mems) ∷ [] in
-        let first = one.each s ways stood.grown.ready stood.stands (closed_more (past f ranges s old) (past f ranges s mid) b stood.grown.keeps ok.0) in
-        let named = subst (λ (r : ValuesTree). Led f p ranges s mid after (body_leaves g (part_def f p) b (v.words + length f.regs) (v.mems + mem_count f) (path ++ Gives d k (current f v) r ∷ []))) res first in
+        let first = one.each s ways stood.grown.ready stood.stands (closed_more (past f ranges s old) (past f ranges s mid) b stood.grown.keeps ok.0) below.0 in
+        let named = subst (λ (r : ValuesTree). Led f p ranges s mid after (body_leaves g (part_def f p) b (v.words + length f.regs) (v.mems + f.mems) (path ++ Gives d k (current f v) r ∷ []))) res first in
         let grown = grown_join f ranges s old mid after stood.grown named.grown in
-        let more = rest.each s path grown.ready (grown.keeps.closed d closed) (from_on f ranges s (part_def f p).entry old after pc v path from grown here) (arms_closed_more (past f ranges s old) (past f ranges s after) arms grown.keeps ok.1) in
+        let more = rest.each s path grown.ready (grown.keeps.closed d closed) low (from_on f ranges s (part_def f p).entry old after pc v path from grown here) (arms_closed_more (past f ranges s old) (past f ranges s after) arms grown.keeps ok.1) below.1 in
         led_join s old after new
-        (body_leaves g (part_def f p) b (v.words + length f.regs) (v.mems + mem_count f) (path ++ Gives d k (current f v) (variables_after v.words v.mems (length f.regs) (mem_count f)) ∷ []))
+        (body_leaves g (part_def f p) b (v.words + length f.regs) (v.mems + f.mems) (path ++ Gives d k (current f v) (variables_after v.words v.mems (length f.regs) f.mems) ∷ []))
         (arm_leaves g (part_def f p) d exits (suc k) (current f v) arms v.words v.mems path)
-        (led_after s old mid after (body_leaves g (part_def f p) b (v.words + length f.regs) (v.mems + mem_count f) (path ++ Gives d k (current f v) (variables_after v.words v.mems (length f.regs) (mem_count f)) ∷ [])) stood.grown stood.cited named) more;
+        (led_after s old mid after (body_leaves g (part_def f p) b (v.words + length f.regs) (v.mems + f.mems) (path ++ Gives d k (current f v) (variables_after v.words v.mems (length f.regs) f.mems) ∷ [])) stood.grown stood.cited named) more;
   }
 
   ret_exit : (q : Part) → own q ≡ None → f.returns ≡ true → slice_get (exits_of f q) 0 ≡ Some Ret
@@ -188,49 +188,49 @@ module _ (f : Flow) (p : Part) (ranges : List Range) where
   ret_exit (Rest (Some l) c) e t = absurd (cc)
 
   -- the arm that returns to the address that a called rest returns to
-  pub arm_back : (d : ℕ) (old mid : LogTree) (pc : WordTree) (v : VariableMap) (from : Option StandingTree) (t : StandingTree) → own p ≡ None → f.returns ≡ true →
+  pub arm_back : (d : ℕ) (old mid : WriterTree) (pc : WordTree) (v : VariableMap) (from : Option CitedTree) (t : CitedTree) → own p ≡ None → f.returns ≡ true →
       StepsBy f (part_def f p).entry ranges d old mid pc v from (Var v.words) (fresh f (suc v.words) v.mems) (Gives d 0 (current f v) (results_at f Ret v.words v.mems) ∷ []) t →
       ArmsLead f p ranges d old (citing t.number mid) pc v from (Ret ∷ []) 0 (Arm (returning f v) NoArm)
   arm_back d old mid pc v from t region returns step = record {
-    each = λ s path ready closed here ok.
-        let stood = step.each s path ready closed here in
+    each = λ s path ready closed low here ok below.
+        let stood = step.each s path ready closed low here in
         let g : GroupTree = group_in f ranges s in
         let own_exit : slice_get (exits_of f p) 0 ≡ Some Ret = ret_exit p region returns in
         let vals : ValuesTree = with_pc (Var v.words) (current f (fresh f (suc v.words) v.mems)) in
         let facts = λ (r : ValuesTree). path ++ Gives d 0 (current f v) r ∷ [] in
-        let res : results_at f Ret v.words v.mems ≡ variables_after v.words v.mems (exit_words g Ret) (mem_count f) = sym (results_are f g Ret v.words v.mems refl s.code.registers) in
+        let res : results_at f Ret v.words v.mems ≡ variables_after v.words v.mems (exit_words g Ret) f.mems = sym (results_are f g Ret v.words v.mems refl s.code.registers) in
         let one = led_after s old mid (citing t.number mid) (record { facts = facts (results_at f Ret v.words v.mems); post = with_values g (Var v.words) (current f (fresh f (suc v.words) v.mems)) } ∷ []) stood.grown stood.cited
         (cited_led s mid (Var v.words) (fresh f (suc v.words) v.mems) (facts (results_at f Ret v.words v.mems)) t stood.grown.ready stood.stands) in
         let same : record { facts = facts (results_at f Ret v.words v.mems); post = with_values g (Var v.words) (current f (fresh f (suc v.words) v.mems)) } ∷ []
-        ≡ record { facts = facts (variables_after v.words v.mems (exit_words g Ret) (mem_count f)); post = at_exit g (slice_get (exits_of f p) 0) vals } ∷ [] =
+        ≡ record { facts = facts (variables_after v.words v.mems (exit_words g Ret) f.mems); post = at_exit g (slice_get (exits_of f p) 0) vals } ∷ [] =
         (λ i. record { facts = facts (res i); post = at_exit g (sym own_exit i) vals } ∷ []) in
         subst (λ ls. Led f p ranges s old (citing t.number mid) ls) same one;
   }
 
   -- the arms of a call of the rest of the whole function
-  pub back_leads : (n d entry : ℕ) (old mid new : LogTree) (pc : WordTree) (v : VariableMap) (from : Option StandingTree) (t : StandingTree) → entry ≡ (part_def f p).entry → own p ≡ None → f.returns ≡ true →
+  pub back_leads : (n d entry : ℕ) (old mid new : WriterTree) (pc : WordTree) (v : VariableMap) (from : Option CitedTree) (t : CitedTree) → entry ≡ (part_def f p).entry → own p ≡ None → f.returns ≡ true →
       StepsBy f entry ranges d old mid pc v from (Var v.words) (fresh f (suc v.words) v.mems) (Gives d 0 (current f v) (results_at f Ret v.words v.mems) ∷ []) t → new ≡ citing t.number mid →
       ArmsLead f p ranges d old new pc v from (exits_of f (Rest None n)) 0 (rest_arms f p None v)
   back_leads n d entry old mid new pc v from t front region returns step is =
       let known = subst (λ (k : ℕ). StepsBy f k ranges d old mid pc v from (Var v.words) (fresh f (suc v.words) v.mems) (Gives d 0 (current f v) (results_at f Ret v.words v.mems) ∷ []) t) front step in
       subst (λ (b : Bool). ArmsLead f p ranges d old new pc v from (cond b (Ret ∷ []) []) 0 (cond b (Arm (returning f v) NoArm) NoArm)) (sym returns)
-      (subst (λ (l : LogTree). ArmsLead f p ranges d old l pc v from (Ret ∷ []) 0 (Arm (returning f v) NoArm)) (sym is) (arm_back d old mid pc v from t region returns known))
+      (subst (λ (l : WriterTree). ArmsLead f p ranges d old l pc v from (Ret ∷ []) 0 (Arm (returning f v) NoArm)) (sym is) (arm_back d old mid pc v from t region returns known))
 
-  pub back_none : (n d : ℕ) (l : LogTree) (pc : WordTree) (v : VariableMap) (from : Option StandingTree) → f.returns ≡ false → ArmsLead f p ranges d l l pc v from (exits_of f (Rest None n)) 0 (rest_arms f p None v)
+  pub back_none : (n d : ℕ) (l : WriterTree) (pc : WordTree) (v : VariableMap) (from : Option CitedTree) → f.returns ≡ false → ArmsLead f p ranges d l l pc v from (exits_of f (Rest None n)) 0 (rest_arms f p None v)
   back_none n d l pc v from none =
       subst (λ (b : Bool). ArmsLead f p ranges d l l pc v from (cond b (Ret ∷ []) []) 0 (cond b (Arm (returning f v) NoArm) NoArm)) (sym none) (arms_none d 0 l pc v from [])
 
   -- ---- calls
 
   -- a call of a part's definition, by the arms for its exits
-  pub call_leads : (q : Part) → IsPart f q → (old new : LogTree) (pc : WordTree) (v : VariableMap) (from : Option StandingTree) (arms : ArmTrees) →
+  pub call_leads : (q : Part) → IsPart f q → (old new : WriterTree) (pc : WordTree) (v : VariableMap) (from : Option CitedTree) (arms : ArmTrees) →
       ArmsLead f p ranges (f.number q) old new pc v from (exits_of f q) 0 arms → Leads f p ranges old new pc v from (Call (f.number q) (current f v) arms)
   call_leads q there old new pc v from arms lead = record {
-    each = λ s path ready here closed.
-        let part = s.has q there in
+    each = λ s path ready here closed below.
+        let part = s.has q there below.0 in
         let their : tree.exits_at (group_in f ranges s) (f.number q) ≡ exits_of f q = exits_there (group_in f ranges s) (f.number q) part.def part.is ∙ part.exits in
         subst (λ (xs : List Exit). Led f p ranges s old new (arm_leaves (group_in f ranges s) (part_def f p) (f.number q) xs 0 (current f v) arms v.words v.mems path)) (sym their)
-        (lead.each s path ready closed.0 here closed.1);
+        (lead.each s path ready closed.0 below.0 here closed.1 below.1);
   }
 
   end-there : (q : Part) (n : ℕ) (x : ValuesTree) → ends_at f q n ≡ true → (b : BodyTree) × (end_of f q n x ≡ Some b)
@@ -260,7 +260,7 @@ module _ (f : Flow) (p : Part) (ranges : List Range) where
       go false (Some k) is = absurd (cc)
 
   -- at a cut: the part ends by itself
-  pub end_own : (n : ℕ) (v : VariableMap) (t : StandingTree) (old : LogTree) → ends_at f p n ≡ true → Leads f p ranges old (citing t.number old) (Const (f.addr n)) v (Some t) (end_at f p n v)
+  pub end_own : (n : ℕ) (v : VariableMap) (t : CitedTree) (old : WriterTree) → ends_at f p n ≡ true → Leads f p ranges old (citing t.number old) (Const (f.addr n)) v (Some t) (end_at f p n v)
   end_own n v t old is =
       let there = end-there p n (current f v) is in
       let rest : BodyTree = Call (f.number (rest_from f n)) (current f v) (rest_arms f p (f.around n) v) in
@@ -274,7 +274,7 @@ module _ (f : Flow) (p : Part) (ranges : List Range) where
       go (inl q) = absurd (end-some f p n q.0 (current f (start f)) q.1 (end-missing p n (current f (start f)) is))
       go (inr q) = q
 
-  pub end_called : (n : ℕ) (v : VariableMap) (t : StandingTree) (old new : LogTree) → IsEnd f p n → ends_at f p n ≡ false →
+  pub end_called : (n : ℕ) (v : VariableMap) (t : CitedTree) (old new : WriterTree) → IsEnd f p n → ends_at f p n ≡ false →
       ArmsLead f p ranges (f.number (rest_from f n)) old new (Const (f.addr n)) v (Some t) (exits_of f (rest_from f n)) 0 (rest_arms f p (f.around n) v) →
       Leads f p ranges old new (Const (f.addr n)) v (Some t) (end_at f p n v)
   end_called n v t old new end is lead =
@@ -284,65 +284,65 @@ module _ (f : Flow) (p : Part) (ranges : List Range) where
 
   -- ---- instructions
 
-  pub steps_front : (entry : ℕ) (old new : LogTree) (pc : WordTree) (v : VariableMap) (from : Option StandingTree) (to : WordTree) (u : VariableMap) (more : List FactTree) (t : StandingTree) → entry ≡ (part_def f p).entry →
+  pub steps_front : (entry : ℕ) (old new : WriterTree) (pc : WordTree) (v : VariableMap) (from : Option CitedTree) (to : WordTree) (u : VariableMap) (more : List FactTree) (t : CitedTree) → entry ≡ (part_def f p).entry →
       Steps f entry ranges old new pc v from to u more t → Steps f (part_def f p).entry ranges old new pc v from to u more t
   steps_front entry old new pc v from to u more t front steps = subst (λ (e : ℕ). Steps f e ranges old new pc v from to u more t) front steps
 
   -- after the steps of an instruction that goes on to one node
-  pub straight_leads : (n room : ℕ) (v u : VariableMap) (i : Instr) (m : ℕ) (from : Option StandingTree) (t : StandingTree) (old mid new : LogTree) → n < f.nodes → i ≡ f.instr n → IsNoBranch i → is_return i ≡ false → (room ≡ 0 → ⊥) →
-      u ≡ place_after i v → m ≡ f.to n Next →
-      Steps f (part_def f p).entry ranges old mid (Const (f.addr n)) v from (pc_after (f.instr n) Next (f.addr n) (size f n) (names v)) (place_after (f.instr n) v) (map So (conditions (f.instr n) Next (names v)) ++ new_facts (f.instr n) (f.addr n) (size f n) v) t →
+  pub straight_leads : (n room : ℕ) (v u : VariableMap) (i : Instr) (m : ℕ) (from : Option CitedTree) (t : CitedTree) (old mid new : WriterTree) → n < f.nodes → f.callee n ≡ None → i ≡ f.instr n → IsNoBranch i → is_return i ≡ false → (room ≡ 0 → ⊥) →
+      u ≡ place_after i (f.uses n) v → m ≡ f.to n Next →
+      Steps f (part_def f p).entry ranges old mid (Const (f.addr n)) v from (pc_after (f.instr n) Next (f.addr n) (size f n) (names v (f.uses n))) (place_after (f.instr n) (f.uses n) v) (map So (conditions (f.instr n) Next (names v (f.uses n))) ++ new_facts (f.instr n) (f.addr n) (size f n) (f.uses n) v) t →
       Leads f p ranges mid new (Const (f.addr m)) u (Some t) (body_on (room - 1) f p m u) → Leads f p ranges old new (Const (f.addr n)) v from (body_at room f p n v)
-  straight_leads n room v u i m from t old mid new node is branch jump some place goes step rest =
-      subst (λ (b : BodyTree). Leads f p ranges old new (Const (f.addr n)) v from b) (goes_straight f p n room v i [] ss is branch jump some refl) (record {
-        each = λ s path ready here closed.
+  straight_leads n room v u i m from t old mid new node none is branch jump some place goes step rest =
+      subst (λ (b : BodyTree). Leads f p ranges old new (Const (f.addr n)) v from b) (goes_straight f p n room v i [] ss none is branch jump some refl) (record {
+        each = λ s path ready here closed below.
             let stood = step.each s path ready here in
             let at = s.code.each n node in
             let edge : has_edge (f.instr n) Next ≡ true = (λ j. has_edge (sym is j) Next) ∙ straight_edge i branch jump in
-            let facts : path ++ (map So (conditions i Next (names v)) ++ new_facts i (f.addr n) (size f n) v) ≡ facts_after ss v.words v.mems path =
-            sym (append_assoc path (map So (conditions i Next (names v))) (new_facts i (f.addr n) (size f n) v)) ∙ sym (all-facts i (f.addr n) (size f n) v path) in
-            let there = subst (λ (j : Instr). Here s mid (pc_after (f.instr n) Next (f.addr n) (size f n) (names v)) (place_after j v) (path ++ (map So (conditions j Next (names v)) ++ new_facts j (f.addr n) (size f n) v)) t) (sym is) stood.stands in
-            let stands = subst (λ (pc : WordTree). Here s mid pc (place_after i v) (path ++ (map So (conditions i Next (names v)) ++ new_facts i (f.addr n) (size f n) v)) t) (at.goes Next (names v) edge) there in
-            let known = subst (λ (fs : List FactTree). Here s mid (Const (f.addr (f.to n Next))) (place_after i v) fs t) facts stands in
-            let led = there_on.each s (facts_after ss v.words v.mems path) stood.grown.ready known (closed_more (past f ranges s old) (past f ranges s mid) b stood.grown.keeps (closed_steps (past f ranges s old) ss b closed)) in
-            let leaves : body_leaves (group_in f ranges s) (part_def f p) (with_steps ss b) v.words v.mems path ≡ body_leaves (group_in f ranges s) (part_def f p) b (place_after i v).words (place_after i v).mems (facts_after ss v.words v.mems path) =
-            leaves-steps (group_in f ranges s) (part_def f p) ss b v.words v.mems path ∙ (λ j. body_leaves (group_in f ranges s) (part_def f p) b (all-words i (f.addr n) (size f n) v j) (all-mems i (f.addr n) (size f n) v j) (facts_after ss v.words v.mems path)) in
-            subst (λ ls. Led f p ranges s old new ls) (sym leaves) (led_after s old mid new (body_leaves (group_in f ranges s) (part_def f p) b (place_after i v).words (place_after i v).mems (facts_after ss v.words v.mems path)) stood.grown stood.cited led);
+            let facts : path ++ (map So (conditions i Next (names v (f.uses n))) ++ new_facts i (f.addr n) (size f n) (f.uses n) v) ≡ facts_after ss v.words v.mems path =
+            sym (append_assoc path (map So (conditions i Next (names v (f.uses n)))) (new_facts i (f.addr n) (size f n) (f.uses n) v)) ∙ sym (all-facts i (f.addr n) (size f n) (f.uses n) v path) in
+            let there = subst (λ (j : Instr). Here s mid (pc_after (f.instr n) Next (f.addr n) (size f n) (names v (f.uses n))) (place_after j (f.uses n) v) (path ++ (map So (conditions j Next (names v (f.uses n))) ++ new_facts j (f.addr n) (size f n) (f.uses n) v)) t) (sym is) stood.stands in
+            let stands = subst (λ (pc : WordTree). Here s mid pc (place_after i (f.uses n) v) (path ++ (map So (conditions i Next (names v (f.uses n))) ++ new_facts i (f.addr n) (size f n) (f.uses n) v)) t) (at.goes Next (names v (f.uses n)) none edge) there in
+            let known = subst (λ (fs : List FactTree). Here s mid (Const (f.addr (f.to n Next))) (place_after i (f.uses n) v) fs t) facts stands in
+            let led = there_on.each s (facts_after ss v.words v.mems path) stood.grown.ready known (closed_more (past f ranges s old) (past f ranges s mid) b stood.grown.keeps (closed_steps (past f ranges s old) ss b closed)) (below_steps s.bound ss b below) in
+            let leaves : body_leaves (group_in f ranges s) (part_def f p) (with_steps ss b) v.words v.mems path ≡ body_leaves (group_in f ranges s) (part_def f p) b (place_after i (f.uses n) v).words (place_after i (f.uses n) v).mems (facts_after ss v.words v.mems path) =
+            leaves-steps (group_in f ranges s) (part_def f p) ss b v.words v.mems path ∙ (λ j. body_leaves (group_in f ranges s) (part_def f p) b (all-words i (f.addr n) (size f n) (f.uses n) v j) (all-mems i (f.addr n) (size f n) (f.uses n) v j) (facts_after ss v.words v.mems path)) in
+            subst (λ ls. Led f p ranges s old new ls) (sym leaves) (led_after s old mid new (body_leaves (group_in f ranges s) (part_def f p) b (place_after i (f.uses n) v).words (place_after i (f.uses n) v).mems (facts_after ss v.words v.mems path)) stood.grown stood.cited led);
       })
     where
       ss : List StepTree
-      ss = needs i v ++ writes i (f.addr n) (size f n) v
+      ss = needs i (f.uses n) v ++ writes i (f.addr n) (size f n) (f.uses n) v
 
       b : BodyTree
-      b = body_on (room - 1) f p (f.to n Next) (place_after i v)
+      b = body_on (room - 1) f p (f.to n Next) (place_after i (f.uses n) v)
 
-      there_on : Leads f p ranges mid new (Const (f.addr (f.to n Next))) (place_after i v) (Some t) b
+      there_on : Leads f p ranges mid new (Const (f.addr (f.to n Next))) (place_after i (f.uses n) v) (Some t) b
       there_on = subst (λ (w : VariableMap). Leads f p ranges mid new (Const (f.addr (f.to n Next))) w (Some t) (body_on (room - 1) f p (f.to n Next) w)) place
           (subst (λ (k : ℕ). Leads f p ranges mid new (Const (f.addr k)) u (Some t) (body_on (room - 1) f p k u)) goes rest)
 
   -- after a branch, in both of its forms
-  pub branch_leads : (n room : ℕ) (v : VariableMap) (i : Instr) (c : Cmp) (rs1 rs2 : ℕ) (offset : ℤ) (x y : ℕ) (from : Option StandingTree) (t1 t2 : StandingTree) (old a b d new : LogTree) → n < f.nodes → i ≡ f.instr n → i ≡ instr.Branch c rs1 rs2 offset → (room ≡ 0 → ⊥) →
+  pub branch_leads : (n room : ℕ) (v : VariableMap) (i : Instr) (c : Cmp) (rs1 rs2 : ℕ) (offset : ℤ) (x y : ℕ) (from : Option CitedTree) (t1 t2 : CitedTree) (old a b d new : WriterTree) → n < f.nodes → f.callee n ≡ None → i ≡ f.instr n → i ≡ instr.Branch c rs1 rs2 offset → (room ≡ 0 → ⊥) →
       x ≡ f.to n Taken → y ≡ f.to n Next →
-      Steps f (part_def f p).entry ranges old a (Const (f.addr n)) v from (pc_after (f.instr n) Taken (f.addr n) (size f n) (names v)) (place_after (f.instr n) v) (map So (conditions (f.instr n) Taken (names v)) ++ new_facts (f.instr n) (f.addr n) (size f n) v) t1 →
+      Steps f (part_def f p).entry ranges old a (Const (f.addr n)) v from (pc_after (f.instr n) Taken (f.addr n) (size f n) (names v (f.uses n))) (place_after (f.instr n) (f.uses n) v) (map So (conditions (f.instr n) Taken (names v (f.uses n))) ++ new_facts (f.instr n) (f.addr n) (size f n) (f.uses n) v) t1 →
       Leads f p ranges a b (Const (f.addr x)) v (Some t1) (body_on (room - 1) f p x v) →
-      Steps f (part_def f p).entry ranges b d (Const (f.addr n)) v from (pc_after (f.instr n) Next (f.addr n) (size f n) (names v)) (place_after (f.instr n) v) (map So (conditions (f.instr n) Next (names v)) ++ new_facts (f.instr n) (f.addr n) (size f n) v) t2 →
+      Steps f (part_def f p).entry ranges b d (Const (f.addr n)) v from (pc_after (f.instr n) Next (f.addr n) (size f n) (names v (f.uses n))) (place_after (f.instr n) (f.uses n) v) (map So (conditions (f.instr n) Next (names v (f.uses n))) ++ new_facts (f.instr n) (f.addr n) (size f n) (f.uses n) v) t2 →
       Leads f p ranges d new (Const (f.addr y)) v (Some t2) (body_on (room - 1) f p y v) → Leads f p ranges old new (Const (f.addr n)) v from (body_at room f p n v)
-  branch_leads n room v i c rs1 rs2 offset x y from t1 t2 old a b d new node is branch some left right one go_one two go_two =
-      subst (λ (z : BodyTree). Leads f p ranges old new (Const (f.addr n)) v from z) (goes_two_ways f p n room v i c rs1 rs2 offset is branch some) (record {
-        each = λ s path ready here closed.
+  branch_leads n room v i c rs1 rs2 offset x y from t1 t2 old a b d new node none is branch some left right one go_one two go_two =
+      subst (λ (z : BodyTree). Leads f p ranges old new (Const (f.addr n)) v from z) (goes_two_ways f p n room v i c rs1 rs2 offset none is branch some) (record {
+        each = λ s path ready here closed below.
             let g : GroupTree = group_in f ranges s in
             let at = s.code.each n node in
             let edge = λ (form : Form). ap (λ (j : Instr). has_edge j form) same in
             let first = one.each s path ready here in
-            let there = subst (λ (j : Instr). Here s a (pc_after (f.instr n) Taken (f.addr n) (size f n) (names v)) (place_after j v) (path ++ (map So (conditions j Taken (names v)) ++ new_facts j (f.addr n) (size f n) v)) t1) same first.stands in
-            let stands = subst (λ (pc : WordTree). Here s a pc v (path ++ So test ∷ []) t1) (at.goes Taken (names v) (edge Taken)) there in
-            let led = on_one.each s (path ++ So test ∷ []) first.grown.ready stands (closed_more (past f ranges s old) (past f ranges s a) bx first.grown.keeps closed.0) in
+            let there = subst (λ (j : Instr). Here s a (pc_after (f.instr n) Taken (f.addr n) (size f n) (names v (f.uses n))) (place_after j (f.uses n) v) (path ++ (map So (conditions j Taken (names v (f.uses n))) ++ new_facts j (f.addr n) (size f n) (f.uses n) v)) t1) same first.stands in
+            let stands = subst (λ (pc : WordTree). Here s a pc v (path ++ So test ∷ []) t1) (at.goes Taken (names v (f.uses n)) none (edge Taken)) there in
+            let led = on_one.each s (path ++ So test ∷ []) first.grown.ready stands (closed_more (past f ranges s old) (past f ranges s a) bx first.grown.keeps closed.0) below.0 in
             let half = led_after s old a b (body_leaves g (part_def f p) bx v.words v.mems (path ++ So test ∷ [])) first.grown first.cited led in
             let second = two.each s path half.grown.ready (from_on f ranges s (part_def f p).entry old b (Const (f.addr n)) v path from half.grown here) in
-            let there2 = subst (λ (j : Instr). Here s d (pc_after (f.instr n) Next (f.addr n) (size f n) (names v)) (place_after j v) (path ++ (map So (conditions j Next (names v)) ++ new_facts j (f.addr n) (size f n) v)) t2) same second.stands in
-            let stands2 = subst (λ (pc : WordTree). Here s d pc v (path ++ So (Neg test) ∷ []) t2) (at.goes Next (names v) (edge Next)) there2 in
+            let there2 = subst (λ (j : Instr). Here s d (pc_after (f.instr n) Next (f.addr n) (size f n) (names v (f.uses n))) (place_after j (f.uses n) v) (path ++ (map So (conditions j Next (names v (f.uses n))) ++ new_facts j (f.addr n) (size f n) (f.uses n) v)) t2) same second.stands in
+            let stands2 = subst (λ (pc : WordTree). Here s d pc v (path ++ So (Neg test) ∷ []) t2) (at.goes Next (names v (f.uses n)) none (edge Next)) there2 in
             let led2 = on_two.each s (path ++ So (Neg test) ∷ []) second.grown.ready stands2
-            (closed_more (past f ranges s b) (past f ranges s d) by second.grown.keeps (closed_more (past f ranges s old) (past f ranges s b) by half.grown.keeps closed.1)) in
+            (closed_more (past f ranges s b) (past f ranges s d) by second.grown.keeps (closed_more (past f ranges s old) (past f ranges s b) by half.grown.keeps closed.1)) below.1 in
             let half2 = led_after s b d new (body_leaves g (part_def f p) by v.words v.mems (path ++ So (Neg test) ∷ [])) second.grown second.cited led2 in
             led_join s old b new (body_leaves g (part_def f p) bx v.words v.mems (path ++ So test ∷ [])) (body_leaves g (part_def f p) by v.words v.mems (path ++ So (Neg test) ∷ [])) half half2;
       })
@@ -351,7 +351,7 @@ module _ (f : Flow) (p : Part) (ranges : List Range) where
       same = sym is ∙ branch
 
       test : CondTree
-      test = Compare c (word_in (names v) rs1) (word_in (names v) rs2)
+      test = Compare c (word_in (names v (f.uses n)) rs1) (word_in (names v (f.uses n)) rs2)
 
       bx : BodyTree
       bx = body_on (room - 1) f p (f.to n Taken) v
@@ -366,12 +366,12 @@ module _ (f : Flow) (p : Part) (ranges : List Range) where
       on_two = subst (λ (k : ℕ). Leads f p ranges d new (Const (f.addr k)) v (Some t2) (body_on (room - 1) f p k v)) right go_two
 
   -- after a return
-  pub return_leads : (n room : ℕ) (v : VariableMap) (from : Option StandingTree) (t : StandingTree) (old mid : LogTree) → IsNear f p room n → is_return (f.instr n) ≡ true → (room ≡ 0 → ⊥) →
-      Steps f (part_def f p).entry ranges old mid (Const (f.addr n)) v from (pc_after (f.instr n) Next (f.addr n) (size f n) (names v)) (place_after (f.instr n) v) (map So (conditions (f.instr n) Next (names v)) ++ new_facts (f.instr n) (f.addr n) (size f n) v) t →
+  pub return_leads : (n room : ℕ) (v : VariableMap) (from : Option CitedTree) (t : CitedTree) (old mid : WriterTree) → IsNear f p room n → f.callee n ≡ None → is_return (f.instr n) ≡ true → (room ≡ 0 → ⊥) →
+      Steps f (part_def f p).entry ranges old mid (Const (f.addr n)) v from (pc_after (f.instr n) Next (f.addr n) (size f n) (names v (f.uses n))) (place_after (f.instr n) (f.uses n) v) (map So (conditions (f.instr n) Next (names v (f.uses n))) ++ new_facts (f.instr n) (f.addr n) (size f n) (f.uses n) v) t →
       Leads f p ranges old (citing t.number mid) (Const (f.addr n)) v from (body_at room f p n v)
-  return_leads n room v from t old mid near jump some step =
-      subst (λ (z : BodyTree). Leads f p ranges old (citing t.number mid) (Const (f.addr n)) v from z) (goes_back f p n room v (f.instr n) refl jump some) (record {
-        each = λ s path ready here closed.
+  return_leads n room v from t old mid near uncalled jump some step =
+      subst (λ (z : BodyTree). Leads f p ranges old (citing t.number mid) (Const (f.addr n)) v from z) (goes_back f p n room v (f.instr n) uncalled refl jump some) (record {
+        each = λ s path ready here closed below.
             let g : GroupTree = group_in f ranges s in
             let at = s.code.each n near.node in
             let is : f.instr n ≡ instr.Jalr 0 1 (pos 0) = at.return_is jump in
@@ -379,16 +379,16 @@ module _ (f : Flow) (p : Part) (ranges : List Range) where
             let out = near.graph.returned n near.node jump in
             let own_exit : slice_get (exits_of f p) 0 ≡ Some Ret = ret_exit p (sym near.region ∙ out.0) out.1 in
             let stood = step.each s path ready here in
-            let pc : WordTree = pc_after i Next (f.addr n) (size f n) (names v) in
-            let cs : List FactTree = map So (conditions i Next (names v)) in
-            let there = subst (λ (j : Instr). Here s mid (pc_after j Next (f.addr n) (size f n) (names v)) (place_after j v) (path ++ (map So (conditions j Next (names v)) ++ new_facts j (f.addr n) (size f n) v)) t) is stood.stands in
+            let pc : WordTree = pc_after i Next (f.addr n) (size f n) (names v (f.uses n)) in
+            let cs : List FactTree = map So (conditions i Next (names v (f.uses n))) in
+            let there = subst (λ (j : Instr). Here s mid (pc_after j Next (f.addr n) (size f n) (names v (f.uses n))) (place_after j (f.uses n) v) (path ++ (map So (conditions j Next (names v (f.uses n))) ++ new_facts j (f.addr n) (size f n) (f.uses n) v)) t) is stood.stands in
             let none : cs ++ [] ≡ cs = append-nil cs in
-            let facts : path ++ (cs ++ []) ≡ facts_after (needs i v) v.words v.mems path = (λ j. path ++ none j) ∙ sym (need-facts (conditions i Next (names v)) v.words v.mems path) in
+            let facts : path ++ (cs ++ []) ≡ facts_after (needs i (f.uses n) v) v.words v.mems path = (λ j. path ++ none j) ∙ sym (need-facts (conditions i Next (names v (f.uses n))) v.words v.mems path) in
             let known = subst (λ (fs : List FactTree). Here s mid pc v fs t) facts there in
-            let led = led_after s old mid (citing t.number mid) (record { facts = facts_after (needs i v) v.words v.mems path; post = with_values g pc (current f v) } ∷ []) stood.grown stood.cited
-            (cited_led s mid pc v (facts_after (needs i v) v.words v.mems path) t stood.grown.ready known) in
+            let led = led_after s old mid (citing t.number mid) (record { facts = facts_after (needs i (f.uses n) v) v.words v.mems path; post = with_values g pc (current f v) } ∷ []) stood.grown stood.cited
+            (cited_led s mid pc v (facts_after (needs i (f.uses n) v) v.words v.mems path) t stood.grown.ready known) in
             let vals : ValuesTree = with_pc pc (current f v) in
-            let leaves : record { facts = facts_after (needs i v) v.words v.mems path; post = with_values g pc (current f v) } ∷ [] ≡ body_leaves g (part_def f p) (returned_body f i (f.addr n) (size f n) v) v.words v.mems path =
-            (λ j. record { facts = facts_after (needs i v) v.words v.mems path; post = at_exit g (sym own_exit j) vals } ∷ []) ∙ sym (leaves-steps g (part_def f p) (needs i v) (Leave 0 vals) v.words v.mems path) in
-            subst (λ (j : Instr). Led f p ranges s old (citing t.number mid) (body_leaves g (part_def f p) (returned_body f j (f.addr n) (size f n) v) v.words v.mems path)) (sym is) (subst (λ ls. Led f p ranges s old (citing t.number mid) ls) leaves led);
+            let leaves : record { facts = facts_after (needs i (f.uses n) v) v.words v.mems path; post = with_values g pc (current f v) } ∷ [] ≡ body_leaves g (part_def f p) (returned_body f i (f.addr n) (size f n) (f.uses n) v) v.words v.mems path =
+            (λ j. record { facts = facts_after (needs i (f.uses n) v) v.words v.mems path; post = at_exit g (sym own_exit j) vals } ∷ []) ∙ sym (leaves-steps g (part_def f p) (needs i (f.uses n) v) (Leave 0 vals) v.words v.mems path) in
+            subst (λ (j : Instr). Led f p ranges s old (citing t.number mid) (body_leaves g (part_def f p) (returned_body f j (f.addr n) (size f n) (f.uses n) v) v.words v.mems path)) (sym is) (subst (λ ls. Led f p ranges s old (citing t.number mid) ls) leaves led);
       })

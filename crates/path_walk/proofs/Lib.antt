@@ -2,6 +2,7 @@ pub mod InstructionLemmas
 pub mod Calls
 pub mod CalledDefs
 pub mod ClosingLines
+pub mod ForgottenLines
 pub mod CallLemmas
 pub mod Facts
 pub mod LineTexts

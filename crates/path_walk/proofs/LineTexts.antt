@@ -1,7 +1,8 @@
 -- The lines of an instruction and of a call have a text.
-use Rattle.std.proofs.Common.{◌≡◌, ℕ, zero, suc, ◌+◌, ◌^◌, ◌<◌, ◌≤◌, List, [], ◌∷◌, ◌++◌, map, length, Bool, true, false, cond, eqb, refl, sym, ap, ◌∙◌, subst, arith, mod-lt, length-append, Some, inl, inr, ◌/◌}
+use Rattle.std.proofs.Common.{◌≡◌, ℕ, zero, suc, ◌+◌, ◌^◌, ◌<◌, ◌≤◌, List, [], ◌∷◌, ◌++◌, map, length, Bool, true, false, cond, eqb, refl, sym, ap, ◌∙◌, subst, arith, mod-lt, eqb-true, length-append, Some, inl, inr, ◌/◌}
 use Rattle.std.specs.Int.{byte_at, bytes_low_first, to_le_bytes, w16, w32}
-use Rattle.std.specs.List.{AllByRecursion, position_or_len}
+use Rattle.std.proofs.lemmas.List.FromFn.{length-range_with_len}
+use Rattle.std.specs.List.{AllByRecursion, position_or_len, range_with_len}
 use Rattle.rv_words.specs.declared.range.Range.{Range}
 use Rattle.rv_words.specs.Bytes.{Bytes, over}
 use Rattle.rv_words.specs.Ranges.{AreRanges}
@@ -26,13 +27,13 @@ use Rattle.tailrec_lang.specs.Registers.{AreRegistersFrom}
 use Rattle.group_text.specs.Limits.{IsExit, IsValues}
 use Rattle.proof_text.specs.LineLimits.{AreRisingFrom, IsAssertion, IsFact, IsTriple}
 use Rattle.code_parts.specs.Bodies.{Flow, VariableMap, current, fresh, is_store, names, place_after, start}
-use Rattle.path_walk.specs.inner.Acts.{IsFineInstruction, IsFineExit, gives_over, named_triple, new_facts, numbered, results_at}
+use Rattle.path_walk.specs.inner.Acts.{IsFineInstruction, IsFineExit, all_mems, gives_over, mem_after, named_triple, new_facts, numbered, results_at, triple_on}
 use Rattle.path_walk.specs.inner.Histories.{exit_place, pc_of}
-use Rattle.path_walk.specs.inner.Writers.{IsFineCited, StandingTree, standing_at}
+use Rattle.path_walk.specs.inner.Writers.{IsFineCited, CitedTree, standing_at}
 use Rattle.path_walk.proofs.Joins.{or-within, some-same}
-use Rattle.path_walk.proofs.Lines.{own-rise}
+use Rattle.path_walk.proofs.Lines.{memory-same, own-rise}
 use Rattle.code_parts.proofs.Lists.{length-map, rising-short}
-use Rattle.path_walk.proofs.PartLimits.{IsLow, conditions-small, memory_after-small, mems-most, place-low, result-small, sum-small, values-printed}
+use Rattle.path_walk.proofs.PartLimits.{IsLow, conditions-small, memory_after-small, place-low, result-small, sum-small, values-printed}
 use Rattle.code_parts.proofs.VariableMaps.{position-most}
 
 -- ---- lists
@@ -60,23 +61,19 @@ numbers-are : (w : ℕ → WordTree) (rs : List ℕ) → map (λ (r : ℕ × Wor
 numbers-are w [] = refl
 numbers-are w (r ∷ rs) = ap (λ (xs : List ℕ). r ∷ xs) (numbers-are w rs)
 
-mems-fine : (b : Bool) (m : MemTree) → IsMem m → AllByRecursion IsMem (memory_if b m)
-mems-fine true m h = (h, tt)
-mems-fine false m h = tt
-
-mems-few : (b : Bool) (m : MemTree) → length (memory_if b m) ≤ 1
-mems-few true m = omega arith
-mems-few false m = omega arith
+mems-fine : (x : ℕ → MemTree) (w k : ℕ) → ((p : ℕ) → p < w + k → IsMem (x p)) → AllByRecursion IsMem (map x (range_with_len w k))
+mems-fine x w zero each = tt
+mems-fine x w (suc k) each = (each w (omega arith), mems-fine x (w + 1) k (λ p lt. each p (omega (arith, lt))))
 
 -- ---- assertions
 
-assertion-fine : (pc : WordTree) (w : ℕ → WordTree) (rs : List ℕ) (b : Bool) (m : MemTree) → IsWord pc → AreRegistersFrom 1 rs → ((r : ℕ) → IsWord (w r)) → IsMem m →
-    IsAssertion (record { pc = pc; regs = map (register_with w) rs; mems = memory_if b m })
-assertion-fine pc w rs b m pc_fine rise words mem = record {
+assertion-fine : (pc : WordTree) (w : ℕ → WordTree) (rs : List ℕ) (ms : List MemTree) → IsWord pc → AreRegistersFrom 1 rs → ((r : ℕ) → IsWord (w r)) → AllByRecursion IsMem ms →
+    IsAssertion (record { pc = pc; regs = map (register_with w) rs; mems = ms })
+assertion-fine pc w rs ms pc_fine rise words mems = record {
   pc = pc_fine;
   registers = subst (AreRegistersFrom 1) (sym (numbers-are w rs)) rise;
   words = map-fine (λ (r : ℕ × WordTree). IsWord r.1) (register_with w) rs words;
-  mems = mems-fine b m mem;
+  mems = mems;
 }
 
 pub var-fine : (k : ℕ) → k < 2 ^ 16 → IsWord (Var k)
@@ -85,55 +82,72 @@ var-fine k low = omega (arith, low)
 mem_var-fine : (k : ℕ) → k < 2 ^ 16 → IsMem (MemVar k)
 mem_var-fine k low = omega (arith, low)
 
-module _ (v : VariableMap) (n : ℕ) (low : IsLow v n) (few : n < 2 ^ 16) where
+module _ (mem_count : ℕ) (v : VariableMap) (n : ℕ) (low : IsLow mem_count v n) (few : n < 2 ^ 16) where
   named-fine : (r : ℕ) → IsWord (Var (v.reg r))
   named-fine r = let most = low.word r in var-fine (v.reg r) (omega (arith, most, few))
 
-  memory-fine : IsMem (MemVar v.memory)
-  memory-fine = let most = low.memory in mem_var-fine v.memory (omega (arith, most, few))
+  memory-fine : (q : ℕ) → q < mem_count → IsMem (MemVar (v.memory q))
+  memory-fine q lt = let most = low.memory q lt in mem_var-fine (v.memory q) (omega (arith, most, few))
 
-  after-fine : (i : Instr) (a k r : ℕ) → IsWord (word_after i a k (names v) r)
-  after-fine i a k r = go (eqb r (destination i))
-    where
-      go : (b : Bool) → IsWord (cond b (result i a k (names v)) (Var (v.reg r)))
-      go true = result-small v n low few i a k
-      go false = named-fine r
+  pub pc-fine : (q : ℕ) (i : Instr) (form : Form) (a k : ℕ) → IsWord (pc_after i form a k (names v q))
+  pc-fine q (instr.Op o rd rs1 rs2) form a k = mod-lt (a + k) (omega arith)
+  pc-fine q (instr.OpImm o rd rs1 imm) form a k = mod-lt (a + k) (omega arith)
+  pc-fine q (instr.Lui rd imm) form a k = mod-lt (a + k) (omega arith)
+  pc-fine q (instr.Auipc rd imm) form a k = mod-lt (a + k) (omega arith)
+  pc-fine q (instr.Jal rd offset) form a k = mod-lt (a + word_of offset) (omega arith)
+  pc-fine q (instr.Jalr rd rs1 imm) form a k = (sum-small mem_count v n low few q 61 rs1 imm, omega arith)
+  pc-fine q (instr.Branch c rs1 rs2 offset) Next a k = mod-lt (a + k) (omega arith)
+  pc-fine q (instr.Branch c rs1 rs2 offset) Taken a k = mod-lt (a + word_of offset) (omega arith)
+  pc-fine q (instr.Load w signed rd rs1 imm) form a k = mod-lt (a + k) (omega arith)
+  pc-fine q (instr.Store w rs1 rs2 imm) form a k = mod-lt (a + k) (omega arith)
+  pc-fine q (instr.Fence imm rs1 rd) form a k = mod-lt (a + k) (omega arith)
+  pc-fine q instr.Ecall form a k = mod-lt (a + k) (omega arith)
+  pc-fine q instr.Ebreak form a k = mod-lt (a + k) (omega arith)
 
-  pub pc-fine : (i : Instr) (form : Form) (a k : ℕ) → IsWord (pc_after i form a k (names v))
-  pc-fine (instr.Op o rd rs1 rs2) form a k = mod-lt (a + k) (omega arith)
-  pc-fine (instr.OpImm o rd rs1 imm) form a k = mod-lt (a + k) (omega arith)
-  pc-fine (instr.Lui rd imm) form a k = mod-lt (a + k) (omega arith)
-  pc-fine (instr.Auipc rd imm) form a k = mod-lt (a + k) (omega arith)
-  pc-fine (instr.Jal rd offset) form a k = mod-lt (a + word_of offset) (omega arith)
-  pc-fine (instr.Jalr rd rs1 imm) form a k = (sum-small v n low few 61 rs1 imm, omega arith)
-  pc-fine (instr.Branch c rs1 rs2 offset) Next a k = mod-lt (a + k) (omega arith)
-  pc-fine (instr.Branch c rs1 rs2 offset) Taken a k = mod-lt (a + word_of offset) (omega arith)
-  pc-fine (instr.Load w signed rd rs1 imm) form a k = mod-lt (a + k) (omega arith)
-  pc-fine (instr.Store w rs1 rs2 imm) form a k = mod-lt (a + k) (omega arith)
-  pc-fine (instr.Fence imm rs1 rd) form a k = mod-lt (a + k) (omega arith)
-  pc-fine instr.Ecall form a k = mod-lt (a + k) (omega arith)
-  pc-fine instr.Ebreak form a k = mod-lt (a + k) (omega arith)
+  -- its memory, if it has one, is one of these
+  module _ (q : ℕ) (i : Instr) (has : has_memory i ≡ true → q < mem_count) where
+    after-fine : (a k r : ℕ) → IsWord (word_after i a k (names v q) r)
+    after-fine a k r = go (eqb r (destination i))
+      where
+        go : (b : Bool) → IsWord (cond b (result i a k (names v q)) (Var (v.reg r)))
+        go true = result-small mem_count v n low few q i a k has
+        go false = named-fine r
 
-  so-fine : (i : Instr) (form : Form) → AllByRecursion IsFact (map So (conditions i form (names v)))
-  so-fine i form = go (conditions i form (names v)) (conditions-small v n low few i form)
-    where
-      go : (cs : List CondTree) → AllByRecursion IsCond cs → AllByRecursion IsFact (map So cs)
-      go [] h = tt
-      go (c ∷ cs) h = (h.0, go cs h.1)
+    memory_after-fine : q < mem_count → IsMem (memory_after i (names v q))
+    memory_after-fine lt = go (is_store i) refl
+      where
+        go : (b : Bool) → is_store i ≡ b → IsMem (memory_after i (names v q))
+        go true is = memory_after-small mem_count v n low few q i is has
+        go false is = subst IsMem (sym (memory-same i (names v q) is)) (memory-fine q lt)
 
-  news-fine : (i : Instr) (a k : ℕ) → AllByRecursion IsFact (new_facts i a k v)
-  news-fine i a k = go (is_store i) (eqb (destination i) 0)
-    where
-      go : (s d : Bool) → AllByRecursion IsFact (cond s (MemIs (MemVar v.mems) (memory_after i (names v)) ∷ []) (cond d [] (WordIs (Var v.words) (result i a k (names v)) ∷ [])))
-      go true d = let most = low.mems in ((mem_var-fine v.mems (omega (arith, most, few)), memory_after-small v n low few i), tt)
-      go false true = tt
-      go false false = let most = low.words in ((var-fine v.words (omega (arith, most, few)), result-small v n low few i a k), tt)
+    mem_after-fine : (p : ℕ) → p < mem_count → IsMem (mem_after i q v p)
+    mem_after-fine p lt = go (eqb p q) refl
+      where
+        go : (b : Bool) → eqb p q ≡ b → IsMem (cond b (memory_after i (names v q)) (MemVar (v.memory p)))
+        go true is = memory_after-fine (subst (λ (k : ℕ). k < mem_count) (eqb-true p q is) lt)
+        go false is = memory-fine p lt
 
-  pub facts-fine : (i : Instr) (form : Form) (a k : ℕ) → AllByRecursion IsFact (map So (conditions i form (names v)) ++ new_facts i a k v)
-  facts-fine i form a k = all-join IsFact (map So (conditions i form (names v))) (new_facts i a k v) (so-fine i form) (news-fine i a k)
+    so-fine : (form : Form) → AllByRecursion IsFact (map So (conditions i form (names v q)))
+    so-fine form = go (conditions i form (names v q)) (conditions-small mem_count v n low few q i form has)
+      where
+        go : (cs : List CondTree) → AllByRecursion IsCond cs → AllByRecursion IsFact (map So cs)
+        go [] h = tt
+        go (c ∷ cs) h = (h.0, go cs h.1)
 
-  pub standing-fine : (f : Flow) (pc : WordTree) → AreRegistersFrom 1 f.regs → IsWord pc → IsAssertion (standing_at f pc v)
-  standing-fine f pc rise fine = assertion-fine pc (λ r. Var (v.reg r)) f.regs f.has_mem (MemVar v.memory) fine rise named-fine memory-fine
+    news-fine : (a k : ℕ) → AllByRecursion IsFact (new_facts i a k q v)
+    news-fine a k = go (is_store i) refl (eqb (destination i) 0)
+      where
+        go : (s : Bool) → is_store i ≡ s → (d : Bool) → AllByRecursion IsFact (cond s (MemIs (MemVar v.mems) (memory_after i (names v q)) ∷ []) (cond d [] (WordIs (Var v.words) (result i a k (names v q)) ∷ [])))
+        go true is d = let most = low.mems in ((mem_var-fine v.mems (omega (arith, most, few)), memory_after-small mem_count v n low few q i is has), tt)
+        go false is true = tt
+        go false is false = let most = low.words in ((var-fine v.words (omega (arith, most, few)), result-small mem_count v n low few q i a k has), tt)
+
+    pub facts-fine : (form : Form) (a k : ℕ) → AllByRecursion IsFact (map So (conditions i form (names v q)) ++ new_facts i a k q v)
+    facts-fine form a k = all-join IsFact (map So (conditions i form (names v q))) (new_facts i a k q v) (so-fine form) (news-fine a k)
+
+  pub standing-fine : (f : Flow) (pc : WordTree) → f.mems ≡ mem_count → AreRegistersFrom 1 f.regs → IsWord pc → IsAssertion (standing_at f pc v)
+  standing-fine f pc count rise fine = assertion-fine pc (λ r. Var (v.reg r)) f.regs (map (λ q. MemVar (v.memory q)) (range_with_len 0 f.mems)) fine rise named-fine
+      (mems-fine (λ q. MemVar (v.memory q)) 0 f.mems (λ p lt. memory-fine p (omega (arith, count, lt))))
 
 -- ---- code
 
@@ -158,58 +172,79 @@ code-bytes a w = (by_length (is_word w), tt)
 -- ---- one instruction
 
 module _ (i : Instr) (form : Form) (a w : ℕ) (low_address : a < 2 ^ 64) (room : a + length_of w ≤ 2 ^ 64) where
-  over-fine : (regs : List ℕ) (mem : Bool) (v : VariableMap) (n : ℕ) → AreRegistersFrom 1 regs → IsLow v n → n < 2 ^ 16 → IsTriple (triple_over i form a (length_of w) (word_code a w) regs mem (names v))
-  over-fine regs mem v n rise low few = record {
-    facts = so-fine v n low few i form;
-    pre = assertion-fine (Const a) (λ r. Var (v.reg r)) regs mem (MemVar v.memory) low_address rise (named-fine v n low few) (memory-fine v n low few);
-    code = word_code-ranges a w room;
-    bytes = code-bytes a w;
-    post = assertion-fine (pc_after i form a (length_of w) (names v)) (word_after i a (length_of w) (names v)) regs mem (memory_after i (names v)) (pc-fine v n low few i form a (length_of w)) rise (after-fine v n low few i a (length_of w)) (memory_after-small v n low few i);
-  }
-
-  pub act-standing-fine : (v : VariableMap) (n : ℕ) → IsLow v n → n < 2 ^ 16 → (k : ℕ) (facts : List FactTree) (code : List Range) → k < 2 ^ 64 → facts ≡ map So (conditions i form (names v)) ++ new_facts i a (length_of w) v → code ≡ word_code a w →
-      IsFineCited (record { number = k; facts = facts; code = code })
-  act-standing-fine v n low few k facts code fits facts_are code_is = record {
-    number = fits;
-    facts = subst (AllByRecursion IsFact) (sym facts_are) (facts-fine v n low few i form a (length_of w));
-    code = subst AreRanges (sym code_is) (word_code-ranges a w room);
-    bytes = subst HaveBytes (sym code_is) (code-bytes a w);
-  }
-
-  -- the variables of an axiom
-  first_place : VariableMap
-  first_place = record { words = 0; mems = 0; reg = λ r. position_or_len (λ q. eqb q r) (own i); memory = 0 }
-
   own-few : length (own i) ≤ 31
   own-few = let short = rising-short 1 (own i) (omega arith) (own-rise i) in omega (arith, short)
 
+  module _ (mem_count : ℕ) (v : VariableMap) (n : ℕ) (low : IsLow mem_count v n) (few : n < 2 ^ 16) (q : ℕ) (has : has_memory i ≡ true → q < mem_count) where
+    one-fine : (b : Bool) (x : MemTree) → (b ≡ true → IsMem x) → AllByRecursion IsMem (memory_if b x)
+    one-fine true x h = (h refl, tt)
+    one-fine false x h = tt
+
+    -- over its own registers
+    over-fine : IsTriple (triple_over i form a (length_of w) (word_code a w) (own i) (has_memory i) (names v q))
+    over-fine = record {
+      facts = so-fine mem_count v n low few q i has form;
+      pre = assertion-fine (Const a) (λ r. Var (v.reg r)) (own i) (memory_if (has_memory i) (MemVar (v.memory q))) low_address (own-rise i) (named-fine mem_count v n low few)
+          (one-fine (has_memory i) (MemVar (v.memory q)) (λ e. memory-fine mem_count v n low few q (has e)));
+      code = word_code-ranges a w room;
+      bytes = code-bytes a w;
+      post = assertion-fine (pc_after i form a (length_of w) (names v q)) (word_after i a (length_of w) (names v q)) (own i) (memory_if (has_memory i) (memory_after i (names v q)))
+          (pc-fine mem_count v n low few q i form a (length_of w)) (own-rise i) (after-fine mem_count v n low few q i has a (length_of w))
+          (one-fine (has_memory i) (memory_after i (names v q)) (λ e. memory_after-fine mem_count v n low few q i has (has e)));
+    }
+
+    pub act-standing-fine : (k : ℕ) (facts : List FactTree) (code : List Range) → k < 2 ^ 64 → facts ≡ map So (conditions i form (names v q)) ++ new_facts i a (length_of w) q v → code ≡ word_code a w →
+        IsFineCited (record { number = k; facts = facts; code = code })
+    act-standing-fine k facts code fits facts_are code_is = record {
+      number = fits;
+      facts = subst (AllByRecursion IsFact) (sym facts_are) (facts-fine mem_count v n low few q i has form a (length_of w));
+      code = subst AreRanges (sym code_is) (word_code-ranges a w room);
+      bytes = subst HaveBytes (sym code_is) (code-bytes a w);
+    }
+
+  -- the variables of an axiom
+  first_place : VariableMap
+  first_place = record { words = 0; mems = 0; reg = λ r. position_or_len (λ q. eqb q r) (own i); memory = λ q. 0 }
+
   first-fine : IsTriple (own_triple i form a w)
   unfolding first_place
-  first-fine = over-fine (own i) (has_memory i) first_place 31 (own-rise i) (record {
+  first-fine = over-fine 1 first_place 31 (record {
     word = λ r. (let most = position-most (own i) r in let short = own-few in omega (arith, most, short));
-    memory = omega arith;
+    memory = λ q lt. omega arith;
     words = omega arith;
     mems = omega arith;
-  }) (omega arith)
+  }) (omega arith) 0 (λ e. omega arith)
 
-  module _ (f : Flow) (rise : AreRegistersFrom 1 f.regs) (v : VariableMap) (n : ℕ) (low : IsLow v n) (few : n ≤ 2 ^ 15) where
-    named-triple-fine : IsTriple (named_triple i form a (length_of w) (word_code a w) f.regs f.has_mem v)
+  module _ (f : Flow) (rise : AreRegistersFrom 1 f.regs) (v : VariableMap) (n : ℕ) (low : IsLow f.mems v n) (few : n ≤ 2 ^ 15) (q : ℕ) (has : has_memory i ≡ true → q < f.mems) where
+    -- over all registers and memories
+    wide-fine : IsTriple (triple_on i form a (length_of w) (word_code a w) f.regs (all_mems f.mems) q v)
+    wide-fine = record {
+      facts = so-fine f.mems v n low (omega (arith, few)) q i has form;
+      pre = standing-fine f.mems v n low (omega (arith, few)) f (Const a) refl rise low_address;
+      code = word_code-ranges a w room;
+      bytes = code-bytes a w;
+      post = assertion-fine (pc_after i form a (length_of w) (names v q)) (word_after i a (length_of w) (names v q)) f.regs (map (mem_after i q v) (range_with_len 0 f.mems))
+          (pc-fine f.mems v n low (omega (arith, few)) q i form a (length_of w)) rise (after-fine f.mems v n low (omega (arith, few)) q i has a (length_of w))
+          (mems-fine (mem_after i q v) 0 f.mems (λ p lt. mem_after-fine f.mems v n low (omega (arith, few)) q i has p (omega (arith, lt))));
+    }
+
+    named-triple-fine : IsTriple (named_triple i form a (length_of w) (word_code a w) f.regs (all_mems f.mems) q v)
     named-triple-fine =
-        let next = place-low v n low (omega (arith, few)) i in
+        let next = place-low f.mems v n low (omega (arith, few)) i q in
         record {
-          facts = facts-fine v n low (omega (arith, few)) i form a (length_of w);
-          pre = standing-fine v n low (omega (arith, few)) f (Const a) rise low_address;
+          facts = facts-fine f.mems v n low (omega (arith, few)) q i has form a (length_of w);
+          pre = standing-fine f.mems v n low (omega (arith, few)) f (Const a) refl rise low_address;
           code = word_code-ranges a w room;
           bytes = code-bytes a w;
-          post = standing-fine (place_after i v) (suc n) next (omega (arith, few)) f (pc_after i form a (length_of w) (names v)) rise (pc-fine v n low (omega (arith, few)) i form a (length_of w));
+          post = standing-fine f.mems (place_after i q v) (suc n) next (omega (arith, few)) f (pc_after i form a (length_of w) (names v q)) refl rise (pc-fine f.mems v n low (omega (arith, few)) q i form a (length_of w));
         }
 
-    pub act-fine : IsFineInstruction f i form a w v
+    pub act-fine : IsFineInstruction f i form a w q v
     act-fine = record {
-      rule = λ k fits. (fits, words, mems);
+      rule = λ k fits. (fits, words, mems (has_memory i) has);
       first = first-fine;
-      current_over = over-fine (own i) (has_memory i) v n (own-rise i) low (omega (arith, few));
-      wide = over-fine f.regs f.has_mem v n rise low (omega (arith, few));
+      current_over = over-fine f.mems v n low (omega (arith, few)) q has;
+      wide = wide-fine;
       named = named-triple-fine;
     }
       where
@@ -217,41 +252,39 @@ module _ (i : Instr) (form : Form) (a w : ℕ) (low_address : a < 2 ^ 64) (room 
         words =
             let long = length-map (λ r. Var (v.reg r)) (own i) in
             let short = own-few in
-            rising-fine IsWord 0 0 (map (λ r. Var (v.reg r)) (own i)) (omega arith) (omega (arith, long, short)) (map-fine IsWord (λ r. Var (v.reg r)) (own i) (named-fine v n low (omega (arith, few))))
+            rising-fine IsWord 0 0 (map (λ r. Var (v.reg r)) (own i)) (omega arith) (omega (arith, long, short)) (map-fine IsWord (λ r. Var (v.reg r)) (own i) (named-fine f.mems v n low (omega (arith, few))))
 
-        mems : AreRisingFrom IsMem 0 (numbered 0 (memory_if (has_memory i) (MemVar v.memory)))
-        mems =
-            let one = mems-few (has_memory i) (MemVar v.memory) in
-            rising-fine IsMem 0 0 (memory_if (has_memory i) (MemVar v.memory)) (omega arith) (omega (arith, one)) (mems-fine (has_memory i) (MemVar v.memory) (memory-fine v n low (omega (arith, few))))
+        mems : (b : Bool) → (b ≡ true → q < f.mems) → AreRisingFrom IsMem 0 (numbered 0 (map (λ p. MemVar (v.memory p)) (cond b (q ∷ []) [])))
+        mems true h = rising-fine IsMem 0 0 (MemVar (v.memory q) ∷ []) (omega arith) (omega arith) (memory-fine f.mems v n low (omega (arith, few)) q (h refl), tt)
+        mems false h = tt
 
 -- ---- one exit of a call
 
-module _ (f : Flow) (rise : AreRegistersFrom 1 f.regs) where
+module _ (f : Flow) (rise : AreRegistersFrom 1 f.regs) (few_mems : f.mems ≤ 2) where
   regs-few : length f.regs ≤ 31
   regs-few = let short = rising-short 1 f.regs (omega arith) rise in omega (arith, short)
 
-  pub next-low : (words mems n : ℕ) → words ≤ n → mems ≤ n → IsLow (fresh f words mems) (n + 31)
+  pub next-low : (words mems n : ℕ) → words ≤ n → mems ≤ n → IsLow f.mems (fresh f words mems) (n + 31)
   next-low words mems n h k =
       let regs = regs-few in
-      let one = mems-most f in
       record {
         word = λ r. (let low = position-most f.regs r in omega (arith, low, regs, h));
-        memory = omega (arith, k);
+        memory = λ q lt. omega (arith, lt, few_mems, k);
         words = omega (arith, regs, h);
-        mems = omega (arith, one, k);
+        mems = omega (arith, few_mems, k);
       }
 
-  pub front-low : IsLow (start f) 31
-  front-low = subst (IsLow (start f)) (let e : 0 + 31 ≡ 31 = omega arith in e) (next-low 0 0 0 (omega arith) (omega arith))
+  pub front-low : IsLow f.mems (start f) 31
+  front-low = subst (IsLow f.mems (start f)) (let e : 0 + 31 ≡ 31 = omega arith in e) (next-low 0 0 0 (omega arith) (omega arith))
 
-  pub exit-low : (x : Exit) (words mems n : ℕ) → words ≤ n → mems ≤ n → IsLow (exit_place f x words mems) (n + 1 + 31)
+  pub exit-low : (x : Exit) (words mems n : ℕ) → words ≤ n → mems ≤ n → IsLow f.mems (exit_place f x words mems) (n + 1 + 31)
   exit-low (At a) words mems n h k = next-low words mems (n + 1) (omega (arith, h)) (omega (arith, k))
   exit-low Ret words mems n h k = next-low (suc words) mems (n + 1) (omega (arith, h)) (omega (arith, k))
 
   results-fine : (x : Exit) (words mems n : ℕ) → words ≤ n → mems ≤ n → n ≤ 2 ^ 15 → IsValues (results_at f x words mems)
-  results-fine (At a) words mems n h k few = values-printed (fresh f words mems) (n + 31) (next-low words mems n h k) (omega (arith, few)) f
+  results-fine (At a) words mems n h k few = values-printed f.mems (fresh f words mems) (n + 31) (next-low words mems n h k) (omega (arith, few)) f refl
   results-fine Ret words mems n h k few =
-      let vals = values-printed (fresh f (suc words) mems) (n + 1 + 31) (next-low (suc words) mems (n + 1) (omega (arith, h)) (omega (arith, k))) (omega (arith, few)) f in
+      let vals = values-printed f.mems (fresh f (suc words) mems) (n + 1 + 31) (next-low (suc words) mems (n + 1) (omega (arith, h)) (omega (arith, k))) (omega (arith, few)) f refl in
       ((var-fine words (omega (arith, h, few)), vals.0), vals.1)
 
   pub exit-pc-fine : (x : Exit) (words : ℕ) → IsExit x → words < 2 ^ 16 → IsWord (pc_of x words)
@@ -262,26 +295,29 @@ module _ (f : Flow) (rise : AreRegistersFrom 1 f.regs) where
   words-few (At a) words mems = let long = length-map (λ r. Var ((fresh f words mems).reg r)) f.regs in let few = regs-few in omega (arith, long, few)
   words-few Ret words mems = let long = length-map (λ r. Var ((fresh f (suc words) mems).reg r)) f.regs in let few = regs-few in omega (arith, long, few)
 
-  memories-few : (x : Exit) (words mems : ℕ) → length (results_at f x words mems).mems ≤ 1
-  memories-few (At a) words mems = mems-few f.has_mem (MemVar mems)
-  memories-few Ret words mems = mems-few f.has_mem (MemVar mems)
+  current-few : (v : VariableMap) → length (current f v).mems ≤ 2
+  current-few v = let long = length-map (λ q. MemVar (v.memory q)) (range_with_len 0 f.mems) in let count = length-range_with_len 0 f.mems in omega (arith, long, count, few_mems)
+
+  memories-few : (x : Exit) (words mems : ℕ) → length (results_at f x words mems).mems ≤ 2
+  memories-few (At a) words mems = current-few (fresh f words mems)
+  memories-few Ret words mems = current-few (fresh f (suc words) mems)
 
   module _ (ranges : List Range) (order : AreRanges ranges) (bytes : HaveBytes ranges) (entry d k : ℕ) (x : Exit) (low_entry : entry < 2 ^ 64) (low_def : d < 2 ^ 32) (low_exit : k < 2 ^ 32) (fine_exit : IsExit x) where
-    pub fact-fine : (v : VariableMap) (n : ℕ) → IsLow v n → n ≤ 2 ^ 15 → AllByRecursion IsFact (Gives d k (current f v) (results_at f x v.words v.mems) ∷ [])
-    fact-fine v n low few = ((low_def, low_exit, values-printed v n low (omega (arith, few)) f, results-fine x v.words v.mems n low.words low.mems few), tt)
+    pub fact-fine : (v : VariableMap) (n : ℕ) → IsLow f.mems v n → n ≤ 2 ^ 15 → AllByRecursion IsFact (Gives d k (current f v) (results_at f x v.words v.mems) ∷ [])
+    fact-fine v n low few = ((low_def, low_exit, values-printed f.mems v n low (omega (arith, few)) f refl, results-fine x v.words v.mems n low.words low.mems few), tt)
 
-    gives-fine : (v : VariableMap) (n : ℕ) → IsLow v n → n ≤ 2 ^ 15 → IsTriple (gives_over f ranges entry d k x v)
+    gives-fine : (v : VariableMap) (n : ℕ) → IsLow f.mems v n → n ≤ 2 ^ 15 → IsTriple (gives_over f ranges entry d k x v)
     gives-fine v n low few =
         let most = low.words in
         record {
           facts = fact-fine v n low few;
-          pre = standing-fine v n low (omega (arith, few)) f (Const entry) rise low_entry;
+          pre = standing-fine f.mems v n low (omega (arith, few)) f (Const entry) refl rise low_entry;
           code = order;
           bytes = bytes;
-          post = standing-fine (exit_place f x v.words v.mems) (n + 1 + 31) (exit-low x v.words v.mems n low.words low.mems) (omega (arith, few)) f (pc_of x v.words) rise (exit-pc-fine x v.words fine_exit (omega (arith, most, few)));
+          post = standing-fine f.mems (exit_place f x v.words v.mems) (n + 1 + 31) (exit-low x v.words v.mems n low.words low.mems) (omega (arith, few)) f (pc_of x v.words) refl rise (exit-pc-fine x v.words fine_exit (omega (arith, most, few)));
         }
 
-    pub exit-standing-fine : (v : VariableMap) (n : ℕ) → IsLow v n → n ≤ 2 ^ 15 → (j : ℕ) (facts : List FactTree) (code : List Range) → j < 2 ^ 64 → facts ≡ Gives d k (current f v) (results_at f x v.words v.mems) ∷ [] → code ≡ ranges →
+    pub exit-standing-fine : (v : VariableMap) (n : ℕ) → IsLow f.mems v n → n ≤ 2 ^ 15 → (j : ℕ) (facts : List FactTree) (code : List Range) → j < 2 ^ 64 → facts ≡ Gives d k (current f v) (results_at f x v.words v.mems) ∷ [] → code ≡ ranges →
         IsFineCited (record { number = j; facts = facts; code = code })
     exit-standing-fine v n low few j facts code fits facts_are code_is = record {
       number = fits;
@@ -290,7 +326,7 @@ module _ (f : Flow) (rise : AreRegistersFrom 1 f.regs) where
       bytes = subst HaveBytes (sym code_is) bytes;
     }
 
-    pub exit-fine : (v : VariableMap) (n : ℕ) → IsLow v n → n ≤ 2 ^ 15 → IsFineExit f ranges entry d k x v
+    pub exit-fine : (v : VariableMap) (n : ℕ) → IsLow f.mems v n → n ≤ 2 ^ 15 → IsFineExit f ranges entry d k x v
     exit-fine v n low few = record {
       rule = λ j fits. (fits, words, mems);
       first = gives-fine (start f) 31 front-low (omega arith);
@@ -298,7 +334,7 @@ module _ (f : Flow) (rise : AreRegistersFrom 1 f.regs) where
     }
       where
         now : IsValues (current f v)
-        now = values-printed v n low (omega (arith, few)) f
+        now = values-printed f.mems v n low (omega (arith, few)) f refl
 
         then : IsValues (results_at f x v.words v.mems)
         then = results-fine x v.words v.mems n low.words low.mems few
@@ -315,25 +351,25 @@ module _ (f : Flow) (rise : AreRegistersFrom 1 f.regs) where
         mems : AreRisingFrom IsMem 0 (numbered 0 ((current f v).mems ++ (results_at f x v.words v.mems).mems))
         mems =
             let sum = length-append (current f v).mems (results_at f x v.words v.mems).mems in
-            let one = mems-few f.has_mem (MemVar v.memory) in
+            let one = current-few v in
             let more = memories-few x v.words v.mems in
             rising-fine IsMem 0 0 ((current f v).mems ++ (results_at f x v.words v.mems).mems) (omega arith) (omega (arith, sum, one, more))
             (all-join IsMem (current f v).mems (results_at f x v.words v.mems).mems now.1 then.1)
 
 -- ---- one theorem after another
 
-module _ (f : Flow) (rise : AreRegistersFrom 1 f.regs) (entry : ℕ) (low_entry : entry < 2 ^ 64) (st there : StandingTree) (first : IsFineCited st) (second : IsFineCited there) (more : List FactTree)
+module _ (f : Flow) (rise : AreRegistersFrom 1 f.regs) (few_mems : f.mems ≤ 2) (entry : ℕ) (low_entry : entry < 2 ^ 64) (st there : CitedTree) (first : IsFineCited st) (second : IsFineCited there) (more : List FactTree)
     (are : AreMissing st.facts there.facts more) (ranges : List Range) (order : AreRanges ranges) (bytes : HaveBytes ranges) where
   both-fine : AllByRecursion IsFact (st.facts ++ more)
   both-fine = all-join IsFact st.facts more first.facts (missing-fine IsFact st.facts there.facts more are second.facts)
 
-  pub whole-fine : (to : WordTree) (u : VariableMap) (n : ℕ) → IsWord to → IsLow u n → n < 2 ^ 16 → IsTriple (record { facts = st.facts ++ more; pre = standing_at f (Const entry) (start f); code = ranges; post = standing_at f to u })
+  pub whole-fine : (to : WordTree) (u : VariableMap) (n : ℕ) → IsWord to → IsLow f.mems u n → n < 2 ^ 16 → IsTriple (record { facts = st.facts ++ more; pre = standing_at f (Const entry) (start f); code = ranges; post = standing_at f to u })
   whole-fine to u n fine low few = record {
     facts = both-fine;
-    pre = standing-fine (start f) 31 (front-low f rise) (omega arith) f (Const entry) rise low_entry;
+    pre = standing-fine f.mems (start f) 31 (front-low f rise few_mems) (omega arith) f (Const entry) refl rise low_entry;
     code = order;
     bytes = bytes;
-    post = standing-fine u n low few f to rise fine;
+    post = standing-fine f.mems u n low few f to refl rise fine;
   }
 
   pub joined-fine : (k : ℕ) → k < 2 ^ 64 → IsFineCited (record { number = k; facts = st.facts ++ more; code = ranges })

@@ -1,5 +1,5 @@
 -- The triples of one instruction: its axiom, over the current variables, over all registers, and with new variables.
-use Rattle.std.proofs.Common.{◌≡◌, ℕ, zero, suc, ◌+◌, ◌^◌, ◌≤◌, List, [], ◌∷◌, ◌++◌, map, length, drop, filter, Bool, true, false, cond, not, eqb, leb, ◌&&◌, ◌||◌, refl, sym, ap, ◌∙◌, subst, arith, Some, None, inl, inr, Contains, eqb-true, eq-eqb, ne_eqb}
+use Rattle.std.proofs.Common.{◌≡◌, ℕ, zero, suc, ◌+◌, ◌^◌, ◌≤◌, leb, List, [], ◌∷◌, ◌++◌, map, length, drop, filter, Bool, true, false, cond, not, eqb, ◌||◌, ◌<◌, ◌⊎◌, ◌&&◌, refl, sym, ap, ◌∙◌, subst, arith, Some, None, inl, inr, Contains, eqb-true, eq-eqb, ne_eqb}
 use Rattle.std.specs.List.{AllZip, range_with_len, position_or_len}
 use Rattle.std.specs.Option.{option_and_then}
 use Rattle.std.specs.Prelude.{unwrap_or}
@@ -21,10 +21,10 @@ use Rattle.checker.specs.Instance.{put_for}
 use Rattle.triple_kernel.specs.declared.form.Form.{Form}
 use Rattle.rv_decode.specs.Registers.{is_read, registers_where, sources, destination}
 use Rattle.instr_axioms.specs.Terms.{Names, has_memory, conditions, result, word_after, memory_after, pc_after, has_form}
-use Rattle.instr_axioms.specs.Axiom.{register_with, memory_if, triple_over, is_own, own, variables_for, own_triple, triple_if, axiom_of}
+use Rattle.instr_axioms.specs.Axiom.{register_with, memory_if, triple_over, is_own, own, variables_for, own_triple, triple_if, axiom_of, word_code}
 use Rattle.instr_axioms.proofs.Instances.{Becomes, is_inst}
 use Rattle.code_parts.specs.Bodies.{VariableMap, names, is_store, wrote, stored, place_after}
-use Rattle.path_walk.specs.inner.Acts.{named_triple, new_facts, own_mems, own_words}
+use Rattle.path_walk.specs.inner.Acts.{all_mems, mem_after, named_triple, new_facts, own_mem, own_mems, own_words, triple_on}
 use Rattle.code_parts.proofs.Lists.{here, later, in_range, is_in, in-true}
 use Rattle.path_walk.proofs.Lists.{smaller-is, listed-place}
 use Rattle.path_walk.specs.inner.Acts.{numbered}
@@ -60,7 +60,7 @@ axiom-is i a w form even room is has =
     let fits : leb (a + length_of w) (2 ^ 64) ≡ true = grind (arith, nat_tests) in
     (λ j. cond (even j && fits j) (option_and_then (triple_if a w form) (is j)) None) ∙ (λ j. cond (has j) (Some (own_triple i form a w)) None)
 
-memory-same : (i : Instr) (n : Names) → is_store i ≡ false → memory_after i n ≡ n.memory
+pub memory-same : (i : Instr) (n : Names) → is_store i ≡ false → memory_after i n ≡ n.memory
 memory-same (instr.Op o rd rs1 rs2) n e = refl
 memory-same (instr.OpImm o rd rs1 imm) n e = refl
 memory-same (instr.Lui rd imm) n e = refl
@@ -110,13 +110,88 @@ passing w u p q (r ∷ rs) tests terms = go (q r) refl (passing w u p q rs (λ x
         let p_is = tests r (here r rs) ∙ is in
         (λ j. cond (p_is j) ((r, w r) ∷ rest j) (rest j)) ∙ (λ j. map (register_with u) (cond (sym is j) (r ∷ filter q rs) (filter q rs)))
 
--- the memory after an instruction, and those that are further before it
-wider-mems : (h m : Bool) (x y : MemTree) → (h ≡ true → m ≡ true) → (h ≡ false → x ≡ y) → memory_if h y ++ drop (length (memory_if h x)) (memory_if m x) ≡ memory_if m y
-wider-mems true m x y e f = (λ i. y ∷ drop 1 (memory_if (e refl i) x)) ∙ (λ i. memory_if (sym (e refl) i) y)
-wider-mems false m x y e f = ap (memory_if m) (f refl)
+-- ---- memories
 
-module _ (i : Instr) (form : Form) (a k : ℕ) (code : List Range) (regs : List ℕ) (mem : Bool) (rise : AreRegistersFrom 1 regs)
-    (within : (r : ℕ) → Contains (own i) r → Contains regs r) (memory : has_memory i ≡ true → mem ≡ true) (n : Names) where
+-- another memory stays as it is
+apart-mem : (i : Instr) (q : ℕ) (v : VariableMap) (p : ℕ) → (b : Bool) → eqb p q ≡ b → (b ≡ false) ⊎ (is_store i ≡ false) → MemVar (v.memory p) ≡ mem_after i q v p
+apart-mem i q v p true is (inl e) = absurd (cc)
+apart-mem i q v p true is (inr none) =
+    ap (λ x. MemVar (v.memory x)) (eqb-true p q is) ∙ sym (memory-same i (names v q) none) ∙ (λ j. cond (sym is j) (memory_after i (names v q)) (MemVar (v.memory p)))
+apart-mem i q v p false is why = λ j. cond (sym is j) (memory_after i (names v q)) (MemVar (v.memory p))
+
+others-same : (i : Instr) (q : ℕ) (v : VariableMap) (ps : List ℕ) → map (λ p. MemVar (v.memory p)) (filter (λ p. not (eqb p q)) ps) ≡ map (mem_after i q v) (filter (λ p. not (eqb p q)) ps)
+others-same i q v [] = refl
+others-same i q v (p ∷ ps) = go (eqb p q) refl (others-same i q v ps)
+  where
+    go : (b : Bool) → eqb p q ≡ b → map (λ p. MemVar (v.memory p)) (filter (λ p. not (eqb p q)) ps) ≡ map (mem_after i q v) (filter (λ p. not (eqb p q)) ps) →
+        map (λ p. MemVar (v.memory p)) (cond (not b) (p ∷ filter (λ p. not (eqb p q)) ps) (filter (λ p. not (eqb p q)) ps)) ≡ map (mem_after i q v) (cond (not b) (p ∷ filter (λ p. not (eqb p q)) ps) (filter (λ p. not (eqb p q)) ps))
+    go true is rest = rest
+    go false is rest = let first = apart-mem i q v p false is (inl refl) in λ j. first j ∷ rest j
+
+all-same : (i : Instr) (q : ℕ) (v : VariableMap) (ps : List ℕ) → is_store i ≡ false → map (λ p. MemVar (v.memory p)) ps ≡ map (mem_after i q v) ps
+all-same i q v [] none = refl
+all-same i q v (p ∷ ps) none = let first = apart-mem i q v p (eqb p q) refl (inr none) in let rest = all-same i q v ps none in λ j. first j ∷ rest j
+
+-- the memory after an instruction, and those that are further before it
+wider-mems : (h : Bool) (q : ℕ) (others all : List ℕ) (x y : ℕ → MemTree) → (h ≡ true → map x others ≡ map y others) → (h ≡ false → map x all ≡ map y all) →
+    map y (cond h (q ∷ []) []) ++ drop (length (map x (cond h (q ∷ []) []))) (map x (cond h (q ∷ others) all)) ≡ map y (cond h (q ∷ others) all)
+wider-mems true q others all x y one none = λ i. y q ∷ one refl i
+wider-mems false q others all x y one none = none refl
+
+range-apart : (w n : ℕ) → 1 ≤ w → filter (λ p. not (eqb p 0)) (range_with_len w n) ≡ range_with_len w n
+range-apart w zero le = refl
+range-apart w (suc n) le =
+    let rest = range-apart (w + 1) n (omega arith) in
+    let other : eqb w 0 ≡ false = ne_eqb w 0 (λ e. absurd (omega (arith, e, le))) in
+    (λ i. cond (not (other i)) (w ∷ filter (λ p. not (eqb p 0)) (range_with_len (w + 1) n)) (filter (λ p. not (eqb p 0)) (range_with_len (w + 1) n))) ∙ (λ i. w ∷ rest i)
+
+-- an instruction's own memory in front of the others
+abbrev mem_first : Instr → ℕ → ℕ → List ℕ
+mem_first i q mems = cond (has_memory i) (q ∷ filter (λ p. not (eqb p q)) (all_mems mems)) (all_mems mems)
+
+-- .. is the memories in order, where it is the first
+in-order : (i : Instr) (q mems : ℕ) → (has_memory i ≡ true → q < mems) → q ≡ 0 → mem_first i q mems ≡ all_mems mems
+in-order i q mems low none = go (has_memory i) q mems low none
+  where
+    go : (h : Bool) (q mems : ℕ) → (h ≡ true → q < mems) → q ≡ 0 → cond h (q ∷ filter (λ p. not (eqb p q)) (range_with_len 0 mems)) (range_with_len 0 mems) ≡ range_with_len 0 mems
+    go false q mems low none = refl
+    go true zero zero low none = absurd (let lt = low refl in omega (arith, lt))
+    go true zero (suc n) low none = let rest = range-apart 1 n (omega arith) in λ i. 0 ∷ rest i
+    go true (suc q) mems low none = absurd (omega (arith, none))
+
+-- over its own registers, its memory is the one that it has
+memory-if : (b : Bool) (q : ℕ) (x : ℕ → MemTree) (m : MemTree) → m ≡ x q → memory_if b m ≡ map x (cond b (q ∷ []) [])
+memory-if true q x m e = λ i. e i ∷ []
+memory-if false q x m e = refl
+
+own-on : (i : Instr) (form : Form) (a k : ℕ) (code : List Range) (q : ℕ) (v : VariableMap) → triple_over i form a k code (own i) (has_memory i) (names v q) ≡ triple_on i form a k code (own i) (own_mem i q) q v
+own-on i form a k code q v =
+    let before_mems = memory-if (has_memory i) q (λ p. MemVar (v.memory p)) (MemVar (v.memory q)) refl in
+    let same : memory_after i (names v q) ≡ mem_after i q v q = λ j. cond (sym (eq-eqb q q refl) j) (memory_after i (names v q)) (MemVar (v.memory q)) in
+    let after_mems = memory-if (has_memory i) q (mem_after i q v) (memory_after i (names v q)) same in
+    λ j. record {
+      facts = map So (conditions i form (names v q));
+      pre = record { pc = Const a; regs = map (register_with (names v q).word) (own i); mems = before_mems j };
+      code = code;
+      post = record { pc = pc_after i form a k (names v q); regs = map (register_with (word_after i a k (names v q))) (own i); mems = after_mems j };
+    }
+
+-- over all registers and one memory or none
+pub wide-on : (i : Instr) (form : Form) (a k : ℕ) (code : List Range) (regs : List ℕ) (has : Bool) (mems : ℕ) (v : VariableMap) → mems ≡ cond has 1 0 →
+    triple_over i form a k code regs has (names v 0) ≡ triple_on i form a k code regs (all_mems mems) 0 v
+wide-on i form a k code regs has mems v many = by has ∙ (λ j. triple_on i form a k code regs (all_mems (sym many j)) 0 v)
+  where
+    by : (b : Bool) → triple_over i form a k code regs b (names v 0) ≡ triple_on i form a k code regs (all_mems (cond b 1 0)) 0 v
+    by true = refl
+    by false = refl
+
+-- ---- frame
+
+module _ (i : Instr) (form : Form) (a k : ℕ) (code : List Range) (regs : List ℕ) (mems q : ℕ) (rise : AreRegistersFrom 1 regs)
+    (within : (r : ℕ) → Contains (own i) r → Contains regs r) (v : VariableMap) where
+  abbrev n : Names
+  n = names v q
+
   own-wider : (w : ℕ → WordTree) → map (register_with w) (own i) ≡ those_listed (map (register_with w) (own i)) (map (register_with w) regs)
   own-wider w =
       sym (passing w w (λ r. is_listed (map (register_with w) (own i)) r) (is_in (own i)) regs (λ r c. any-map w (own i) r) (λ r c t. refl)
@@ -137,8 +212,8 @@ module _ (i : Instr) (form : Form) (a k : ℕ) (code : List Range) (regs : List 
           let no_in = not_in (is_in (own i) r) t in
           let clash : true ≡ false = sym yes_in ∙ no_in in cc)
 
-  pub is_framed : IsFramed (triple_over i form a k code (own i) (has_memory i) n) (triple_over i form a k code regs mem n)
-  is_framed = record {
+  first_framed : IsFramed (triple_on i form a k code (own i) (own_mem i q) q v) (triple_on i form a k code regs (mem_first i q mems) q v)
+  first_framed = record {
     facts = refl;
     code = refl;
     pre_pc = refl;
@@ -147,31 +222,33 @@ module _ (i : Instr) (form : Form) (a k : ℕ) (code : List Range) (regs : List 
     post_regs = own-wider (word_after i a k n);
     further_regs = passing n.word (word_after i a k n) (λ r. not (is_listed (map (register_with n.word) (own i)) r)) (λ r. not (is_in (own i) r)) regs (λ r c. ap not (any-map n.word (own i) r)) apart
         ∙ sym (passing (word_after i a k n) (word_after i a k n) (λ r. not (is_listed (map (register_with (word_after i a k n)) (own i)) r)) (λ r. not (is_in (own i) r)) regs (λ r c. ap not (any-map (word_after i a k n) (own i) r)) (λ r c t. refl));
-    pre_mems = wider-mems (has_memory i) mem n.memory n.memory memory (λ e. refl);
-    post_mems = wider-mems (has_memory i) mem n.memory (memory_after i n) memory (λ e. sym (memory-same i n (store-has_memory i e)));
+    pre_mems = wider-mems (has_memory i) q (filter (λ p. not (eqb p q)) (all_mems mems)) (all_mems mems) (λ p. MemVar (v.memory p)) (λ p. MemVar (v.memory p)) (λ e. refl) (λ e. refl);
+    post_mems = wider-mems (has_memory i) q (filter (λ p. not (eqb p q)) (all_mems mems)) (all_mems mems) (λ p. MemVar (v.memory p)) (mem_after i q v)
+        (λ e. others-same i q v (all_mems mems)) (λ e. all-same i q v (all_mems mems) (store-has_memory i e));
   }
+
+  pub is_framed : (has_memory i ≡ true → q < mems) → q ≡ 0 → IsFramed (triple_over i form a k code (own i) (has_memory i) (names v q)) (triple_on i form a k code regs (all_mems mems) q v)
+  is_framed low first =
+      subst (λ t. IsFramed t (triple_on i form a k code regs (all_mems mems) q v)) (sym (own-on i form a k code q v))
+      (subst (λ ms. IsFramed (triple_on i form a k code (own i) (own_mem i q) q v) (triple_on i form a k code regs ms q v)) (in-order i q mems low first) first_framed)
 
 -- ---- inst
 
-put-memory : (b : Bool) (x : MemTree) → b ≡ true → put_in_mem (put_for [] (numbered 0 (memory_if b x))) (MemVar 0) ≡ x
-put-memory true x e = refl
-put-memory false x e = absurd (cc)
-
-module _ (i : Instr) (v : VariableMap) (reads : (r : ℕ) → Contains (sources i) r → (r ≡ 0 → ⊥) → (1 ≤ r) × (r ≤ 31)) where
-  becomes : Becomes (put_for (own_words i v) (own_mems i v)) (variables_for (own i)) (names v) (own i) (has_memory i)
+module _ (i : Instr) (q : ℕ) (v : VariableMap) (reads : (r : ℕ) → Contains (sources i) r → (r ≡ 0 → ⊥) → (1 ≤ r) × (r ≤ 31)) where
+  becomes : Becomes (put_for (own_words i v) (own_mems i q v)) (variables_for (own i)) (names v q) (own i) (has_memory i)
   becomes = record {
     word = λ r c.
         let place : position_or_len (λ q. eqb q r) (own i) ≡ 0 + position_or_len (λ q. eqb q r) (own i) = omega arith in
-        ap (λ o. unwrap_or o (Var (position_or_len (λ q. eqb q r) (own i)))) ((λ j. listed (own_words i v) (place j)) ∙ listed-place (names v).word 0 (own i) r c);
+        ap (λ o. unwrap_or o (Var (position_or_len (λ q. eqb q r) (own i)))) ((λ j. listed (own_words i v) (place j)) ∙ listed-place (names v q).word 0 (own i) r c);
     memory = λ e. by_memory (has_memory i) e;
   }
     where
-      by_memory : (b : Bool) → b ≡ true → put_in_mem (put_for (own_words i v) (numbered 0 (memory_if b (MemVar v.memory)))) (MemVar 0) ≡ MemVar v.memory
+      by_memory : (b : Bool) → b ≡ true → put_in_mem (put_for (own_words i v) (numbered 0 (map (λ p. MemVar (v.memory p)) (cond b (q ∷ []) [])))) (MemVar 0) ≡ MemVar (v.memory q)
       by_memory true e = refl
       by_memory false e = absurd (cc)
 
-  pub is_put : (form : Form) (a k : ℕ) (code : List Range) → IsInst (put_for (own_words i v) (own_mems i v)) (triple_over i form a k code (own i) (has_memory i) (variables_for (own i))) (triple_over i form a k code (own i) (has_memory i) (names v))
-  is_put form a k code = is_inst (put_for (own_words i v) (own_mems i v)) (variables_for (own i)) (names v) (own i) (has_memory i) becomes a k i form code (record {
+  pub is_put : (form : Form) (a w : ℕ) → IsInst (put_for (own_words i v) (own_mems i q v)) (own_triple i form a w) (triple_over i form a (length_of w) (word_code a w) (own i) (has_memory i) (names v q))
+  is_put form a w = is_inst (put_for (own_words i v) (own_mems i q v)) (variables_for (own i)) (names v q) (own i) (has_memory i) becomes a (length_of w) i form (word_code a w) (record {
     reads = λ r c ne. let range = reads r c ne in own-has i r range.0 range.1 (or_right (eqb (destination i) r) (is_read i r) (in-true (sources i) r c));
     memory = λ e. e;
   })
@@ -193,55 +270,60 @@ swap-registers : (facts : List FactTree) (w u : ℕ → WordTree) (rs : List ℕ
 swap-registers facts w u [] h = tt
 swap-registers facts w u (r ∷ rs) h = ((refl, h r (here r rs)), swap-registers facts w u rs (λ x c. h x (later r rs x c)))
 
-swap-memory : (facts : List FactTree) (b : Bool) (x y : MemTree) → SwapMem facts x y → AllZip (SwapMem facts) (memory_if b x) (memory_if b y)
-swap-memory facts true x y h = (h, tt)
-swap-memory facts false x y h = tt
+swap-memories : (facts : List FactTree) (x y : ℕ → MemTree) (ps : List ℕ) → ((p : ℕ) → SwapMem facts (x p) (y p)) → AllZip (SwapMem facts) (map x ps) (map y ps)
+swap-memories facts x y [] h = tt
+swap-memories facts x y (p ∷ ps) h = (h p, swap-memories facts x y ps h)
 
-module _ (i : Instr) (a k : ℕ) (v : VariableMap) (facts : List FactTree) (known : (x : FactTree) → Contains (new_facts i a k v) x → Contains facts x) where
-  new-word : (r : ℕ) → 1 ≤ r → SwapWord facts (word_after i a k (names v) r) (Var ((place_after i v).reg r))
+module _ (i : Instr) (a k m : ℕ) (v : VariableMap) (facts : List FactTree) (known : (x : FactTree) → Contains (new_facts i a k m v) x → Contains facts x) where
+  new-word : (r : ℕ) → 1 ≤ r → SwapWord facts (word_after i a k (names v m) r) (Var ((place_after i m v).reg r))
   new-word r low = go (is_store i) refl known
     where
-      goes : (b c : Bool) → eqb (destination i) 0 ≡ b → eqb r (destination i) ≡ c → ((x : FactTree) → Contains (cond b [] (WordIs (Var v.words) (result i a k (names v)) ∷ [])) x → Contains facts x) →
-          SwapWord facts (cond c (result i a k (names v)) (Var (v.reg r))) (Var ((cond b v (record { words = suc v.words; mems = v.mems; reg = λ q. cond (eqb q (destination i)) v.words (v.reg q); memory = v.memory })).reg r))
+      goes : (b c : Bool) → eqb (destination i) 0 ≡ b → eqb r (destination i) ≡ c → ((x : FactTree) → Contains (cond b [] (WordIs (Var v.words) (result i a k (names v m)) ∷ [])) x → Contains facts x) →
+          SwapWord facts (cond c (result i a k (names v m)) (Var (v.reg r))) (Var ((cond b v (record { words = suc v.words; mems = v.mems; reg = λ q. cond (eqb q (destination i)) v.words (v.reg q); memory = v.memory })).reg r))
       goes true true is at more = absurd (let z = eqb-true (destination i) 0 is in let y = eqb-true r (destination i) at in omega (arith, z, y, low))
       goes true false is at more = inl refl
-      goes false true is at more = stated-word facts (result i a k (names v)) (Var (cond (eqb r (destination i)) v.words (v.reg r)))
-          (subst (λ t. WordsStated facts (result i a k (names v)) (Var (cond t v.words (v.reg r)))) (sym at) (inr (inr (more (WordIs (Var v.words) (result i a k (names v))) (0, omega arith, refl)))))
-      goes false false is at more = subst (λ k. WordsStated facts (Var (v.reg r)) (Var (cond k v.words (v.reg r)))) (sym at) (inl refl)
+      goes false true is at more = stated-word facts (result i a k (names v m)) (Var (cond (eqb r (destination i)) v.words (v.reg r)))
+          (subst (λ z. WordsStated facts (result i a k (names v m)) (Var (cond z v.words (v.reg r)))) (sym at) (inr (inr (more (WordIs (Var v.words) (result i a k (names v m))) (0, omega arith, refl)))))
+      goes false false is at more = subst (λ z. WordsStated facts (Var (v.reg r)) (Var (cond z v.words (v.reg r)))) (sym at) (inl refl)
 
-      none : eqb (destination i) 0 ≡ true → (c : Bool) → eqb r (destination i) ≡ c → SwapWord facts (cond c (result i a k (names v)) (Var (v.reg r))) (Var (v.reg r))
+      none : eqb (destination i) 0 ≡ true → (c : Bool) → eqb r (destination i) ≡ c → SwapWord facts (cond c (result i a k (names v m)) (Var (v.reg r))) (Var (v.reg r))
       none is true at = absurd (let z = eqb-true (destination i) 0 is in let y = eqb-true r (destination i) at in omega (arith, z, y, low))
       none is false at = inl refl
 
-      go : (s : Bool) → is_store i ≡ s → ((x : FactTree) → Contains (cond s (MemIs (MemVar v.mems) (memory_after i (names v)) ∷ []) (cond (eqb (destination i) 0) [] (WordIs (Var v.words) (result i a k (names v)) ∷ []))) x → Contains facts x) →
-          SwapWord facts (word_after i a k (names v) r) (Var ((cond s (stored v) (wrote (destination i) v)).reg r))
+      go : (s : Bool) → is_store i ≡ s → ((x : FactTree) → Contains (cond s (MemIs (MemVar v.mems) (memory_after i (names v m)) ∷ []) (cond (eqb (destination i) 0) [] (WordIs (Var v.words) (result i a k (names v m)) ∷ []))) x → Contains facts x) →
+          SwapWord facts (word_after i a k (names v m) r) (Var ((cond s (stored m v) (wrote (destination i) v)).reg r))
       go true is more = none (eq-eqb (destination i) 0 (store-writes_none i is)) (eqb r (destination i)) refl
       go false is more = goes (eqb (destination i) 0) (eqb r (destination i)) refl refl more
 
-  new-memory : SwapMem facts (memory_after i (names v)) (MemVar (place_after i v).memory)
-  new-memory = go (is_store i) refl known
+  new-memory : (p : ℕ) → SwapMem facts (mem_after i m v p) (MemVar ((place_after i m v).memory p))
+  new-memory p = go (is_store i) refl known
     where
-      kept : (b : Bool) → (cond b v (record { words = suc v.words; mems = v.mems; reg = λ q. cond (eqb q (destination i)) v.words (v.reg q); memory = v.memory })).memory ≡ v.memory
+      kept : (b : Bool) → (cond b v (record { words = suc v.words; mems = v.mems; reg = λ q. cond (eqb q (destination i)) v.words (v.reg q); memory = v.memory })).memory p ≡ v.memory p
       kept true = refl
       kept false = refl
 
-      go : (s : Bool) → is_store i ≡ s → ((x : FactTree) → Contains (cond s (MemIs (MemVar v.mems) (memory_after i (names v)) ∷ []) (cond (eqb (destination i) 0) [] (WordIs (Var v.words) (result i a k (names v)) ∷ []))) x → Contains facts x) →
-          SwapMem facts (memory_after i (names v)) (MemVar (cond s (stored v) (wrote (destination i) v)).memory)
-      go true is more = stated-mem facts (memory_after i (names v)) (MemVar v.mems) (inr (inr (more (MemIs (MemVar v.mems) (memory_after i (names v))) (0, omega arith, refl))))
-      go false is more = stated-mem facts (memory_after i (names v)) (MemVar (wrote (destination i) v).memory) (inl (memory-same i (names v) is ∙ ap MemVar (sym (kept (eqb (destination i) 0)))))
+      store : (c : Bool) → ((x : FactTree) → Contains (MemIs (MemVar v.mems) (memory_after i (names v m)) ∷ []) x → Contains facts x) →
+          SwapMem facts (cond c (memory_after i (names v m)) (MemVar (v.memory p))) (MemVar (cond c v.mems (v.memory p)))
+      store true more = stated-mem facts (memory_after i (names v m)) (MemVar v.mems) (inr (inr (more (MemIs (MemVar v.mems) (memory_after i (names v m))) (0, omega arith, refl))))
+      store false more = inl refl
 
-pub is_weakened : (i : Instr) (form : Form) (a k : ℕ) (code : List Range) (regs : List ℕ) (mem : Bool) (v : VariableMap) → AreRegistersFrom 1 regs →
-    IsWeakened (triple_over i form a k code regs mem (names v)) (named_triple i form a k code regs mem v)
-is_weakened i form a k code regs mem v rise =
-    let facts : List FactTree = map So (conditions i form (names v)) ++ new_facts i a k v in
-    let known = λ (x : FactTree) (c : Contains (new_facts i a k v) x). Contains-append_right (map So (conditions i form (names v))) (new_facts i a k v) x c in
+      go : (s : Bool) → is_store i ≡ s → ((x : FactTree) → Contains (cond s (MemIs (MemVar v.mems) (memory_after i (names v m)) ∷ []) (cond (eqb (destination i) 0) [] (WordIs (Var v.words) (result i a k (names v m)) ∷ []))) x → Contains facts x) →
+          SwapMem facts (mem_after i m v p) (MemVar ((cond s (stored m v) (wrote (destination i) v)).memory p))
+      go true is more = store (eqb p m) more
+      go false is more = stated-mem facts (mem_after i m v p) (MemVar ((wrote (destination i) v).memory p)) (inl (sym (apart-mem i m v p (eqb p m) refl (inr is)) ∙ ap MemVar (sym (kept (eqb (destination i) 0)))))
+
+pub is_weakened : (i : Instr) (form : Form) (a k : ℕ) (code : List Range) (regs ms : List ℕ) (m : ℕ) (v : VariableMap) → AreRegistersFrom 1 regs →
+    IsWeakened (triple_on i form a k code regs ms m v) (named_triple i form a k code regs ms m v)
+is_weakened i form a k code regs ms m v rise =
+    let facts : List FactTree = map So (conditions i form (names v m)) ++ new_facts i a k m v in
+    let known = λ (x : FactTree) (c : Contains (new_facts i a k m v) x). Contains-append_right (map So (conditions i form (names v m))) (new_facts i a k m v) x c in
     record {
       code = refl;
       pre = refl;
-      facts = record { each = λ x c. Contains-append_left (map So (conditions i form (names v))) (new_facts i a k v) x c };
+      facts = record { each = λ x c. Contains-append_left (map So (conditions i form (names v m))) (new_facts i a k m v) x c };
       post = record {
-        pc = stated-word facts (pc_after i form a k (names v)) (pc_after i form a k (names v)) (inl refl);
-        regs = swap-registers facts (word_after i a k (names v)) (names (place_after i v)).word regs (λ r c. let range = in_range 1 regs r rise c in new-word i a k v facts known r range.0);
-        mems = swap-memory facts mem (memory_after i (names v)) (MemVar (place_after i v).memory) (new-memory i a k v facts known);
+        pc = stated-word facts (pc_after i form a k (names v m)) (pc_after i form a k (names v m)) (inl refl);
+        regs = swap-registers facts (word_after i a k (names v m)) (λ r. Var ((place_after i m v).reg r)) regs (λ r c. let range = in_range 1 regs r rise c in new-word i a k m v facts known r range.0);
+        mems = swap-memories facts (mem_after i m v) (λ p. MemVar ((place_after i m v).memory p)) ms (new-memory i a k m v facts known);
       };
     }

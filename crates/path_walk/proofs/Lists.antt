@@ -6,9 +6,8 @@ use Rattle.std.specs.List.{position_or_len, range_with_len}
 use Rattle.word_terms.specs.Tree.{WordTree, MemTree, Var, MemVar}
 use Rattle.word_terms.specs.Substitution.{Substitution, listed, put_in_word, put_in_mem}
 use Rattle.tailrec_lang.specs.Registers.{AreRegistersFrom}
-use Rattle.instr_axioms.specs.Axiom.{memory_if}
 use Rattle.loop_rule.specs.Leaves.{variables_after}
-use Rattle.code_parts.specs.Bodies.{Flow, mem_count, current, fresh}
+use Rattle.code_parts.specs.Bodies.{Flow, current, fresh}
 use Rattle.path_walk.specs.inner.Acts.{numbered}
 use Rattle.code_parts.proofs.Lists.{contains-cases, here, in-false, in_range, is_in, later}
 
@@ -35,14 +34,15 @@ words-are least words (r ∷ rs) rise =
     let all = rest ∙ moved in
     λ i. Var (first i) ∷ all i
 
-mems-are : (b : Bool) (mems : ℕ) → map MemVar (range_with_len mems (cond b 1 0)) ≡ memory_if b (MemVar mems)
-mems-are true mems = refl
-mems-are false mems = refl
+mems-are : (from w n : ℕ) → map MemVar (range_with_len (from + w) n) ≡ map (λ q. MemVar (from + q)) (range_with_len w n)
+mems-are from w zero = refl
+mems-are from w (suc n) = let rest = mems-are from (w + 1) n in let sum : from + w + 1 ≡ from + (w + 1) = omega arith in λ i. MemVar (from + w) ∷ ((λ i. map MemVar (range_with_len (sum i) n)) ∙ rest) i
 
-pub current-fresh : (f : Flow) (words mems : ℕ) → AreRegistersFrom 1 f.regs → variables_after words mems (length f.regs) (mem_count f) ≡ current f (fresh f words mems)
+pub current-fresh : (f : Flow) (words mems : ℕ) → AreRegistersFrom 1 f.regs → variables_after words mems (length f.regs) f.mems ≡ current f (fresh f words mems)
 current-fresh f words mems rise =
     let ws = words-are 1 words f.regs rise in
-    let ms = mems-are f.has_mem mems in
+    let none : mems ≡ mems + 0 = omega arith in
+    let ms = (λ i. map MemVar (range_with_len (none i) f.mems)) ∙ mems-are mems 0 f.mems in
     λ i. record { words = ws i; mems = ms i }
 
 -- ---- terms listed for variables

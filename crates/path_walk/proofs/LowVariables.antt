@@ -1,5 +1,5 @@
 -- Places name low variables.
-use Rattle.std.proofs.Common.{ℕ, suc, ◌≤◌, Bool, true, false, cond, eqb, arith}
+use Rattle.std.proofs.Common.{ℕ, zero, suc, ◌≤◌, Bool, true, false, cond, eqb, arith}
 use Rattle.rv_decode.specs.declared.instruction.Instr.{Instr}
 use Rattle.rv_decode.specs.Registers.{destination}
 use Rattle.code_parts.specs.declared.variable_map.VariableMap.{VariableMap as TheMap}
@@ -7,20 +7,32 @@ use Rattle.code_parts.specs.Bodies.{VariableMap, is_store, place_after, stored}
 use Rattle.code_parts.specs.VariableMaps.{place_of}
 use Rattle.path_walk.proofs.PartLimits.{IsLow}
 
-pub low_place : (p : TheMap) (n : ℕ) → p.words ≤ n → p.mems ≤ n → IsLow (place_of p) n
-low_place p n words mems = record {
+-- one memory at most
+pub one-few : (b : Bool) → cond b 1 0 ≤ 1
+one-few true = omega arith
+one-few false = omega arith
+
+pub few-memories : (b : Bool) → cond b 1 0 ≤ 2
+few-memories b = let one = one-few b in omega (arith, one)
+
+pub low_place : (p : TheMap) (n mem_count : ℕ) → mem_count ≤ 1 → p.words ≤ n → p.mems ≤ n → IsLow mem_count (place_of p) n
+low_place p n mem_count one words mems = record {
   word = λ r. (let most = p.low.word r in omega (arith, most, words));
-  memory = (let most = p.low.memory_low in omega (arith, most, mems));
+  memory = λ q lt. by q (omega (arith, lt, one));
   words = words;
   mems = mems;
 }
+  where
+    by : (q : ℕ) → q ≤ 0 → (place_of p).memory q ≤ n
+    by zero le = let most = p.low.memory_low in omega (arith, most, mems)
+    by (suc q) le = absurd (omega (arith, le))
 
 -- an instruction names one variable more at most
-pub after_few : (i : Instr) (v : VariableMap) → ((place_after i v).words ≤ suc v.words) × ((place_after i v).mems ≤ suc v.mems)
-after_few i v = go (is_store i) (eqb (destination i) 0)
+pub after_few : (i : Instr) (q : ℕ) (v : VariableMap) → ((place_after i q v).words ≤ suc v.words) × ((place_after i q v).mems ≤ suc v.mems)
+after_few i q v = go (is_store i) (eqb (destination i) 0)
   where
-    go : (s d : Bool) → ((cond s (stored v) (cond d v (record { words = suc v.words; mems = v.mems; reg = λ r. cond (eqb r (destination i)) v.words (v.reg r); memory = v.memory }))).words ≤ suc v.words)
-        × ((cond s (stored v) (cond d v (record { words = suc v.words; mems = v.mems; reg = λ r. cond (eqb r (destination i)) v.words (v.reg r); memory = v.memory }))).mems ≤ suc v.mems)
+    go : (s d : Bool) → ((cond s (stored q v) (cond d v (record { words = suc v.words; mems = v.mems; reg = λ r. cond (eqb r (destination i)) v.words (v.reg r); memory = v.memory }))).words ≤ suc v.words)
+        × ((cond s (stored q v) (cond d v (record { words = suc v.words; mems = v.mems; reg = λ r. cond (eqb r (destination i)) v.words (v.reg r); memory = v.memory }))).mems ≤ suc v.mems)
     go true d = (omega arith, omega arith)
     go false true = (omega arith, omega arith)
     go false false = (omega arith, omega arith)

@@ -8,7 +8,7 @@ use Rattle.proof_text.specs.declared.line.Rule.{Rule}
 use Rattle.proof_text.specs.declared.line.Line.TheVariants as line
 use Rattle.proof_text.specs.Line.{States, line_tree, rule_tree}
 use Rattle.proof_text.specs.LineLimits.{IsLine, IsRule, IsTriple}
-use Rattle.path_walk.specs.inner.Writers.{IsFineWriter, writer_tree, stating}
+use Rattle.path_walk.specs.inner.Writers.{IsFineWriter, IsStating, writer_tree, stating}
 use Rattle.path_walk.proofs.LineTexts.{all-join}
 
 -- it is stated
@@ -23,6 +23,7 @@ pub more_fine : (lines more : List Line) (rule : Rule) (stated : Triple) (next :
     IsRule (rule_tree rule) → IsTriple (triple_tree stated) → IsFineWriter (writer_tree (record { lines = lines; next = next; cited = cited })) → IsFineWriter (writer_tree (record { lines = more; next = next + 1; cited = cited }))
 more_fine lines more rule stated next cited is low fine_rule fine_triple fine = subst IsFineWriter (sym (more_stated lines more rule stated next cited is)) (record {
   lines = all-join IsLine (map line_tree lines) (States (rule_tree rule) (triple_tree stated) ∷ []) fine.lines ((fine_rule, fine_triple), tt);
+  stating = all-join IsStating (map line_tree lines) (States (rule_tree rule) (triple_tree stated) ∷ []) fine.stating (tt, tt);
   next = low;
   cited = fine.cited;
 })

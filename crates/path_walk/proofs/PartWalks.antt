@@ -38,25 +38,25 @@ return_form f n is = return-has (f.instr n) is
 
 -- ---- variables
 
-after-words : (i : Instr) (v : VariableMap) → (place_after i v).words ≤ v.words + 1
-after-words i v = go (is_store i) (eqb (destination i) 0)
+after-words : (i : Instr) (m : ℕ) (v : VariableMap) → (place_after i m v).words ≤ v.words + 1
+after-words i m v = go (is_store i) (eqb (destination i) 0)
   where
-    go : (s d : Bool) → (cond s (stored v) (cond d v (record { words = suc v.words; mems = v.mems; reg = λ q. cond (eqb q (destination i)) v.words (v.reg q); memory = v.memory }))).words ≤ v.words + 1
+    go : (s d : Bool) → (cond s (stored m v) (cond d v (record { words = suc v.words; mems = v.mems; reg = λ q. cond (eqb q (destination i)) v.words (v.reg q); memory = v.memory }))).words ≤ v.words + 1
     go true d = omega arith
     go false true = omega arith
     go false false = omega arith
 
-after-mems : (i : Instr) (v : VariableMap) → (place_after i v).mems ≤ v.mems + 1
-after-mems i v = go (is_store i) (eqb (destination i) 0)
+after-mems : (i : Instr) (m : ℕ) (v : VariableMap) → (place_after i m v).mems ≤ v.mems + 1
+after-mems i m v = go (is_store i) (eqb (destination i) 0)
   where
-    go : (s d : Bool) → (cond s (stored v) (cond d v (record { words = suc v.words; mems = v.mems; reg = λ q. cond (eqb q (destination i)) v.words (v.reg q); memory = v.memory }))).mems ≤ v.mems + 1
+    go : (s d : Bool) → (cond s (stored m v) (cond d v (record { words = suc v.words; mems = v.mems; reg = λ q. cond (eqb q (destination i)) v.words (v.reg q); memory = v.memory }))).mems ≤ v.mems + 1
     go true d = omega arith
     go false true = omega arith
     go false false = omega arith
 
 -- an instruction has one variable at most
-pub few_more : (i : Instr) (v u : VariableMap) → u ≡ place_after i v → (u.words ≤ v.words + 1) × (u.mems ≤ v.mems + 1)
-few_more i v u is = (subst (λ (w : VariableMap). w.words ≤ v.words + 1) (sym is) (after-words i v), subst (λ (w : VariableMap). w.mems ≤ v.mems + 1) (sym is) (after-mems i v))
+pub few_more : (i : Instr) (m : ℕ) (v u : VariableMap) → u ≡ place_after i m v → (u.words ≤ v.words + 1) × (u.mems ≤ v.mems + 1)
+few_more i m v u is = (subst (λ (w : VariableMap). w.words ≤ v.words + 1) (sym is) (after-words i m v), subst (λ (w : VariableMap). w.mems ≤ v.mems + 1) (sym is) (after-mems i m v))
 
 -- ---- nodes
 

@@ -1,5 +1,5 @@
 -- The parts of a graph are walked through one after the other, and then are all closed.
-use Rattle.std.proofs.Common.{◌≡◌, ℕ, zero, suc, ◌+◌, ◌^◌, ◌<◌, List, [], ◌∷◌, ◌++◌, map, length, get_or, take, true, fold, refl, sym, ap, subst, ◌∙◌, arith, Some}
+use Rattle.std.proofs.Common.{◌≡◌, ℕ, zero, suc, ◌+◌, ◌^◌, ◌<◌, List, [], ◌∷◌, ◌++◌, map, length, get_or, take, true, fold, refl, sym, ap, subst, ◌∙◌, arith, Some, false}
 use Rattle.std.proofs.lemmas.Option.{slice_get-get_or}
 use Rattle.std.specs.Prelude.{slice_get}
 use Rattle.std.specs.List.{AllByRecursion}
@@ -15,7 +15,7 @@ use Rattle.path_walk.specs.declared.item.Item.{Item}
 use Rattle.code_parts.specs.Bodies.{part_body, part_def}
 use Rattle.path_walk.specs.Closed.{AreClosedBy}
 use Rattle.code_parts.specs.Graph.{IsCode, IsGraph}
-use Rattle.code_parts.specs.Flows.{AreCodeOf, IsReached, flow_of, group_of, group_over}
+use Rattle.code_parts.specs.Flows.{AreCodeOf, IsReached, alone, flow_of, group_of, group_over}
 use Rattle.path_walk.specs.Item.{IsItemOf, IsWalked}
 use Rattle.code_parts.specs.Order.{AreParts}
 use Rattle.code_parts.specs.Kept.{FlowOf, flow_in}
@@ -57,7 +57,7 @@ module _ (s : FlowOf) where
         let there = made.part n p at in
         let mine : slice_get g.defs ((flow_in s).number p) ≡ Some (part_def (flow_in s) p) =
         (λ i. slice_get (made.defs i) ((flow_in s).number p)) ∙ slice-mapped (part_def (flow_in s)) s.parts ((flow_in s).number p) p (made.listed p there.0) in
-        let closing = one.closing g (for (flow_in s) g s.parts graph made) code mine (below_closed (after_lines old) n (part_body (flow_in s) p) before.closed (made.below n p at)) in
+        let closing = one.closing g n (for (flow_in s) g s.parts graph made n) code mine (made.below n p at) (below_closed (after_lines old) n (part_body (flow_in s) p) before.closed (made.below n p at)) in
         let whole : after_lines (old ++ one.added) ≡ fold after_line (after_lines old) one.added = fold-join no_lines old one.added in
         let all : CloseFirst g (n + 1) (old ++ one.added) = record {
           right = joined g no_lines old one.added before.right closing.right;
@@ -80,11 +80,11 @@ walked_next s parts n x defs more d old new are graph lt so_far pushed def one =
     subst (λ (ds : List DefTree). AreWalked s (n + 1) ds new) (sym (ap (map def_tree) pushed ∙ map_join def_tree defs d))
     (walked_more s n (get_or parts n x) (map def_tree defs) (def_tree d) old new graph at so_far def one)
 
-pub parts_small : (g : GraphOf) (f : ForestOf) (parts : List Part) → IsReached g → IsForestOf g f → AreParts (flow_of g f parts) (number_of f) parts → length parts < 2 ^ 32
-parts_small g f parts reached forest order = let fit = parts-fit reached.code reached.entry g f parts reached.is forest order in omega (arith, fit)
+pub parts_small : (g : GraphOf) (f : ForestOf) (parts : List Part) → IsReached false g → IsForestOf g f → AreParts (flow_of g f (alone g parts)) (number_of f) parts → length parts < 2 ^ 32
+parts_small g f parts reached forest order = let fit = parts-fit false reached.code reached.entry g f (alone g parts) reached.is forest order in omega (arith, fit)
 
 -- all parts, as an item
-pub item_from : (s : FlowOf) (name : List ℕ) (item : Item) → IsReached s.graph → IsForestOf s.graph s.forest → AreParts (flow_in s) (number_of s.forest) s.parts → AreCodeOf s.graph item.group.code.ranges → IsCode (flow_in s) s.code →
+pub item_from : (s : FlowOf) (name : List ℕ) (item : Item) → IsReached false s.graph → IsForestOf s.graph s.forest → AreParts (flow_in s) (number_of s.forest) s.parts → AreCodeOf s.graph item.group.code.ranges → IsCode (flow_in s) s.code →
     (defs : List DefTree) → AreWalked s (length s.parts) defs (map line_tree item.lines) → group_tree item.group ≡ group_over (flow_in s) name s.code defs → item.reached ≡ length s.graph.addrs →
     IsItemOf s.graph s.forest name item
 item_from s name item reached forest order whole code defs walked group count = record {

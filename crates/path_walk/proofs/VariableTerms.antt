@@ -1,10 +1,10 @@
 -- Terms listed for variables, one after the other.
 use Rattle.std.proofs.Common.{◌≡◌, ℕ, zero, suc, ◌+◌, ◌<◌, ◌≤◌, List, [], ◌∷◌, ◌++◌, map, length, take, get_or, Bool, true, false, cond, refl, sym, ap, ◌∙◌, arith, append_assoc}
 use Rattle.std.proofs.lemmas.List.{take_more}
+use Rattle.std.specs.List.{range_with_len}
 use Rattle.word_terms.specs.Tree.{WordTree, MemTree, MemVar}
 use Rattle.tailrec_lang.specs.declared.group.Exit.{Exit}
 use Rattle.tailrec_lang.specs.declared.group.Exit.TheVariants.{At, Ret}
-use Rattle.instr_axioms.specs.Axiom.{memory_if}
 use Rattle.code_parts.specs.Bodies.{Flow, VariableMap, current}
 use Rattle.path_walk.specs.inner.Acts.{call_mems, numbered, results_at}
 
@@ -45,16 +45,19 @@ added_more olds ws h regs k i n d lt count so_far =
     ∙ ap (numbered k) (sym (map-join h (take i regs) (get_or regs i d ∷ []))) ∙ ap (λ (xs : List ℕ). numbered k (map h xs)) (sym (take_more regs i d lt)) in
     ap (λ (xs : List (ℕ × WordTree)). xs ++ (n, h (get_or regs i d)) ∷ []) so_far ∙ append_assoc olds (numbered k (map h (take i regs))) ((n, h (get_or regs i d)) ∷ []) ∙ ap (λ (xs : List (ℕ × WordTree)). olds ++ xs) one
 
--- an exit leaves the next memory
-pub memory-left : (f : Flow) (x : Exit) (words mems : ℕ) → (results_at f x words mems).mems ≡ memory_if f.has_mem (MemVar mems)
-memory-left f (At a) words mems = refl
-memory-left f Ret words mems = refl
+-- an exit leaves the next memories
+pub memories-left : (f : Flow) (x : Exit) (words mems : ℕ) → (results_at f x words mems).mems ≡ map (λ q. MemVar (mems + q)) (range_with_len 0 f.mems)
+memories-left f (At a) words mems = refl
+memories-left f Ret words mems = refl
 
-two-mems : (b : Bool) (m n : MemTree) → numbered 0 (memory_if b m ++ memory_if b n) ≡ cond b ((0, m) ∷ (1, n) ∷ []) []
-two-mems true m n = refl
-two-mems false m n = refl
+two-mems : (b : Bool) (x y : ℕ → MemTree) → numbered 0 (map x (range_with_len 0 (cond b 1 0)) ++ map y (range_with_len 0 (cond b 1 0))) ≡ cond b ((0, x 0) ∷ (1, y 0) ∷ []) []
+two-mems true x y = refl
+two-mems false x y = refl
 
-pub call_mems-are : (f : Flow) (x : Exit) (v : VariableMap) (b : Bool) → b ≡ f.has_mem → cond b ((0, MemVar v.memory) ∷ (1, MemVar v.mems) ∷ []) [] ≡ call_mems f x v
+pub call_mems-are : (f : Flow) (x : Exit) (v : VariableMap) (b : Bool) → f.mems ≡ cond b 1 0 → cond b ((0, MemVar (v.memory 0)) ∷ (1, MemVar v.mems) ∷ []) [] ≡ call_mems f x v
 call_mems-are f x v b is =
-    ap (λ (c : Bool). cond c ((0, MemVar v.memory) ∷ (1, MemVar v.mems) ∷ []) []) is ∙ sym (two-mems f.has_mem (MemVar v.memory) (MemVar v.mems))
-    ∙ ap (λ (ms : List MemTree). numbered 0 ((current f v).mems ++ ms)) (sym (memory-left f x v.words v.mems))
+    let none : v.mems ≡ v.mems + 0 = omega arith in
+    (λ j. cond b ((0, MemVar (v.memory 0)) ∷ (1, MemVar (none j)) ∷ []) [])
+    ∙ sym (two-mems b (λ q. MemVar (v.memory q)) (λ q. MemVar (v.mems + q)))
+    ∙ (λ j. numbered 0 (map (λ q. MemVar (v.memory q)) (range_with_len 0 (sym is j)) ++ map (λ q. MemVar (v.mems + q)) (range_with_len 0 (sym is j))))
+    ∙ ap (λ (ms : List MemTree). numbered 0 ((current f v).mems ++ ms)) (sym (memories-left f x v.words v.mems))

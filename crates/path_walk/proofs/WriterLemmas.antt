@@ -7,11 +7,11 @@ use Rattle.proof_text.specs.Line.{RuleTree, States}
 use Rattle.checker.specs.Instance.{AreInstances, History, Meets, after_line, after_lines, with_theorem}
 use Rattle.code_parts.specs.Bodies.{Flow, VariableMap}
 use Rattle.path_walk.specs.inner.Histories.{IsCounted, Keeps}
-use Rattle.path_walk.specs.inner.Writers.{FromAs, Grown, IsReady, LogTree, Setting, StandingTree, StandsAs, group_in, past, stating}
+use Rattle.path_walk.specs.inner.Writers.{FromAs, Grown, IsReady, WriterTree, Setting, CitedTree, StandsAs, group_in, past, stating}
 use Rattle.path_walk.proofs.RightLines.{Made, fold-join, held_last, joined, made_one}
 
 module _ (f : Flow) (ranges : List Range) (s : Setting f ranges) where
-  pub grown_made : (a b : LogTree) → Grown f ranges s a b → Made (group_in f ranges s) (past f ranges s a) (past f ranges s b)
+  pub grown_made : (a b : WriterTree) → Grown f ranges s a b → Made (group_in f ranges s) (past f ranges s a) (past f ranges s b)
   grown_made a b m = record {
     lines = m.added;
     right = m.right;
@@ -20,10 +20,10 @@ module _ (f : Flow) (ranges : List Range) (s : Setting f ranges) where
     counted = m.ready.counted;
   }
 
-  pub grown_none : (a : LogTree) → IsReady f ranges s a → Grown f ranges s a a
+  pub grown_none : (a : WriterTree) → IsReady f ranges s a → Grown f ranges s a a
   grown_none a ready = record { added = []; lines = sym (append-nil a.lines); right = tt; keeps = record { theorem = λ j t e. e; closed = λ d e. e }; ready = ready }
 
-  pub grown_join : (a b c : LogTree) → Grown f ranges s a b → Grown f ranges s b c → Grown f ranges s a c
+  pub grown_join : (a b c : WriterTree) → Grown f ranges s a b → Grown f ranges s b c → Grown f ranges s a c
   unfolding grown_made
   grown_join a b c m n = record {
     added = m.added ++ n.added;
@@ -33,16 +33,16 @@ module _ (f : Flow) (ranges : List Range) (s : Setting f ranges) where
     ready = n.ready;
   }
 
-  pub past_state : (rule : RuleTree) (t : TripleTree) (a : LogTree) → past f ranges s (stating rule t a) ≡ with_theorem t (past f ranges s a)
+  pub past_state : (rule : RuleTree) (t : TripleTree) (a : WriterTree) → past f ranges s (stating rule t a) ≡ with_theorem t (past f ranges s a)
   past_state rule t a = fold-join (after_lines s.before) a.lines (States rule t ∷ [])
 
-  pub ready_state : (rule : RuleTree) (t : TripleTree) (a : LogTree) → IsReady f ranges s a → Meets (group_in f ranges s) (past f ranges s a) rule t → IsReady f ranges s (stating rule t a)
+  pub ready_state : (rule : RuleTree) (t : TripleTree) (a : WriterTree) → IsReady f ranges s a → Meets (group_in f ranges s) (past f ranges s a) rule t → IsReady f ranges s (stating rule t a)
   ready_state rule t a ready meets = record {
     next = ap (λ n. n + 1) ready.next ∙ ap (λ (h : History). h.next) (sym (past_state rule t a));
     counted = subst IsCounted (sym (past_state rule t a)) (made_one (group_in f ranges s) (past f ranges s a) rule t ready.counted meets).counted;
   }
 
-  pub grown_state : (rule : RuleTree) (t : TripleTree) (a : LogTree) → IsReady f ranges s a → Meets (group_in f ranges s) (past f ranges s a) rule t → Grown f ranges s a (stating rule t a)
+  pub grown_state : (rule : RuleTree) (t : TripleTree) (a : WriterTree) → IsReady f ranges s a → Meets (group_in f ranges s) (past f ranges s a) rule t → Grown f ranges s a (stating rule t a)
   grown_state rule t a ready meets = record {
     added = States rule t ∷ [];
     lines = refl;
@@ -52,15 +52,15 @@ module _ (f : Flow) (ranges : List Range) (s : Setting f ranges) where
   }
 
   -- the theorem that was stated last
-  pub held_now : (rule : RuleTree) (t : TripleTree) (a : LogTree) → IsReady f ranges s a → (past f ranges s (stating rule t a)).theorem a.next ≡ Some t
+  pub held_now : (rule : RuleTree) (t : TripleTree) (a : WriterTree) → IsReady f ranges s a → (past f ranges s (stating rule t a)).theorem a.next ≡ Some t
   held_now rule t a ready = ap (λ (h : History). h.theorem a.next) (past_state rule t a) ∙ ap (λ k. (with_theorem t (past f ranges s a)).theorem k) ready.next ∙ held_last t (past f ranges s a)
 
   -- what stands goes on to do so
-  pub stands_on : (entry : ℕ) (a b : LogTree) (pc : WordTree) (v : VariableMap) (path : List FactTree) (t : StandingTree) → Grown f ranges s a b → StandsAs f entry ranges (past f ranges s a) pc v path t →
+  pub stands_on : (entry : ℕ) (a b : WriterTree) (pc : WordTree) (v : VariableMap) (path : List FactTree) (t : CitedTree) → Grown f ranges s a b → StandsAs f entry ranges (past f ranges s a) pc v path t →
       StandsAs f entry ranges (past f ranges s b) pc v path t
   stands_on entry a b pc v path t m x = record { held = m.keeps.theorem t.number _ x.held; facts = x.facts; code = x.code }
 
-  pub from_on : (entry : ℕ) (a b : LogTree) (pc : WordTree) (v : VariableMap) (path : List FactTree) (from : Option StandingTree) → Grown f ranges s a b →
+  pub from_on : (entry : ℕ) (a b : WriterTree) (pc : WordTree) (v : VariableMap) (path : List FactTree) (from : Option CitedTree) → Grown f ranges s a b →
       FromAs f entry ranges (past f ranges s a) pc v path from → FromAs f entry ranges (past f ranges s b) pc v path from
   from_on entry a b pc v path None m here = here
   from_on entry a b pc v path (Some t) m here = stands_on entry a b pc v path t m here

@@ -12,8 +12,8 @@ use Rattle.code_parts.specs.declared.part.Part.{Part}
 use Rattle.path_walk.specs.declared.item.Item.{Item}
 use Rattle.code_parts.specs.Bodies.{Flow, part_body, part_def}
 use Rattle.path_walk.specs.Closed.{AreClosed, AreClosedBy}
-use Rattle.code_parts.specs.Graph.{IsFor}
-use Rattle.code_parts.specs.Flows.{AreCodeOf, flow_of, group_of}
+use Rattle.code_parts.specs.Graph.{CallsBelow, IsFor}
+use Rattle.code_parts.specs.Flows.{AreCodeOf, alone, flow_of, group_of}
 use Rattle.code_parts.specs.Order.{AreParts}
 
 -- lines after those that left h behind them, each of which is right, close definition d and open none again
@@ -23,20 +23,26 @@ pub record AreClosing (g : GroupTree) (h : History) (d : ℕ) (lines : List Line
   pub keeps : (c : ℕ) → h.closed c ≡ true → (fold after_line h lines).closed c ≡ true
 
 -- Lines were added that have a text and close the definition of a part, in each group of the graph with this code that has that
--- definition, after any lines that closed what it calls.
+-- definition and the parts up to some number below which it calls, after any lines that closed what it calls.
 pub record IsWalked (f : Flow) (ranges : List Range) (p : Part) (old new : List LineTree) : Type 0 where
   pub added : List LineTree
   pub lines : new ≡ old ++ added
   pub fine : AllByRecursion IsLine added
-  pub closing : (g : GroupTree) → IsFor f g → g.code ≡ ranges → slice_get g.defs (f.number p) ≡ Some (part_def f p)
-      → AreClosed (after_lines old) (part_body f p) → AreClosing g (after_lines old) (f.number p) added
+  pub closing : (g : GroupTree) (d : ℕ) → IsFor f d g → g.code ≡ ranges → slice_get g.defs (f.number p) ≡ Some (part_def f p)
+      → CallsBelow d (part_body f p) → AreClosed (after_lines old) (part_body f p) → AreClosing g (after_lines old) (f.number p) added
+
+-- .. over the graph's code, where the number of a part is its place among the earlier ones, or their number
+pub record IsWalkedAfter (g : GraphOf) (f : ForestOf) (earlier : List Part) (p : Part) (old new : List LineTree) : Type 0 where
+  pub ranges : List Range
+  pub code : AreCodeOf g ranges
+  pub walked : IsWalked (flow_of g f (alone g earlier)) ranges p old new
 
 -- The group of a graph's parts in their order, with its code, and lines that close each of its definitions.
 pub record IsItemOf (g : GraphOf) (f : ForestOf) (name : List ℕ) (item : Item) : Type 0 where
   pub parts : List Part
-  pub ordered : AreParts (flow_of g f parts) (number_of f) parts
+  pub ordered : AreParts (flow_of g f (alone g parts)) (number_of f) parts
   pub code : AreCodeOf g item.group.code.ranges
-  pub group : group_tree item.group ≡ group_of (flow_of g f parts) name item.group.code.ranges parts
+  pub group : group_tree item.group ≡ group_of (flow_of g f (alone g parts)) name item.group.code.ranges parts
   pub lines : AreClosedBy (group_tree item.group) (map line_tree item.lines)
   pub fine : AllByRecursion IsLine (map line_tree item.lines)
   pub reached : item.reached ≡ length g.addrs

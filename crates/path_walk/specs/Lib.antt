@@ -1,3 +1,4 @@
 pub mod Closed
+pub mod Forgotten
 pub mod Item
 pub mod inner

@@ -4,11 +4,13 @@ ghost use Rattle.std.specs.Prelude.{◌≡◌, IfOk, length, map};
 ghost use Rattle.std.specs.List.{All};
 ghost use Rattle.tailrec_lang.specs.Tree.{def_tree};
 ghost use Rattle.proof_text.specs.Line.{line_tree};
+ghost use Rattle.checker.specs.Instance.{after_lines};
 ghost use Rattle.code_parts.specs.Graph.{IsPart};
 ghost use Rattle.code_parts.specs.Kept.{flow_in};
+ghost use Rattle.path_walk.specs.Forgotten.{KeepsNone};
 ghost use Rattle.path_walk.specs.inner.Walks.{AreWalked};
 
-use crate::walk::walk;
+use crate::one_part::walk_in;
 use code_parts::{Flow, Part};
 use proof_text::Line;
 use rv_words::{List, NoMemory};
@@ -26,14 +28,15 @@ pub struct Walks {
 pub fn walk_all(alloc: Global, flow: &Flow<'_>, parts: &[Part]) -> Result<Walks, NoMemory>
     requires parts { parts.now ≡ flow.now.parts }
     requires each { All (IsPart (flow_in flow.now)) parts.now }
-    ensures { IfOk result (λ w. AreWalked flow.now (length parts.now) (map def_tree w.defs) (map line_tree w.lines)) }
+    ensures lines { IfOk result (λ w. AreWalked flow.now (length parts.now) (map def_tree w.defs) (map line_tree w.lines)) }
+    ensures kept { IfOk result (λ w. KeepsNone (after_lines (map line_tree w.lines))) }
 {
     flow.law_of_graphs();
     let mut defs = List::new(alloc);
     let mut lines = List::new(alloc);
     let mut next = 0;
     for part in parts {
-        let walked = walk(alloc, flow, *part, next, &mut lines)?;
+        let walked = walk_in(alloc, flow, *part, next, &mut lines)?;
         defs.push(walked.def)?;
         next = walked.next;
     }

@@ -46,6 +46,7 @@ fn lines_from(
         return Err(NoMemory);
     }
     flow.law_of_code();
+    flow.law_of_calls(n);
     let entry = entry_of(flow, p);
     let i = flow.instr(n);
     if is_jump_through(i) {

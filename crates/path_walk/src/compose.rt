@@ -26,6 +26,7 @@ use triple_kernel::{Fact, Triple, copy_fact, copy_facts, is_among};
 use word_terms::{Code, Mem, Word, copy_code};
 
 /// What holds at a place: that program counter, and the variables of the registers and the memory.
+#[tactic(auto, using(code_parts::proofs::VariableMaps::memories_are))]
 pub fn standing_at(
     alloc: Global,
     flow: &Flow<'_>,

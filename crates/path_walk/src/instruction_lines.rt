@@ -42,7 +42,7 @@ fn add_new_fact(
     place: &VariableMap,
     facts: &mut List<Fact>,
 ) -> Result<(), NoMemory>
-    ensures { OnOk result (map fact_tree facts.new ≡ map fact_tree facts.old ++ spec.new_facts i addr length (place_of place.now)) }
+    ensures { OnOk result (map fact_tree facts.new ≡ map fact_tree facts.old ++ spec.new_facts i addr length 0 (place_of place.now)) }
 {
     if let Instr::Store { .. } = i {
         let m = memory_after(alloc, i, &place.names)?;
@@ -63,7 +63,7 @@ fn facts_of(
     length: u8,
     place: &VariableMap,
 ) -> Result<List<Fact>, NoMemory>
-    ensures { IfOk result (λ fs. map fact_tree fs ≡ map So (terms.conditions i form (bodies.names (place_of place.now))) ++ spec.new_facts i addr length (place_of place.now)) }
+    ensures { IfOk result (λ fs. map fact_tree fs ≡ map So (terms.conditions i form (bodies.names (place_of place.now) 0)) ++ spec.new_facts i addr length 0 (place_of place.now)) }
 {
     let mut known = facts(alloc, i, form, &place.names)?;
     add_new_fact(alloc, i, addr, length, place, &mut known)?;
@@ -83,7 +83,7 @@ fn named_triple(
     requires words { place.now.words < 2 ^ 15 }
     requires mems { place.now.mems < 2 ^ 15 }
     requires named { destination i < 32 }
-    ensures { IfOk result (λ t. triple_tree t ≡ spec.named_triple i form addr (length_in_bytes word) (axioms.word_code addr word) (flow_in flow.now).regs (flow_in flow.now).has_mem (place_of place.now)) }
+    ensures { IfOk result (λ t. triple_tree t ≡ spec.named_triple i form addr (length_in_bytes word) (axioms.word_code addr word) (flow_in flow.now).regs (spec.all_mems (flow_in flow.now).mems) 0 (place_of place.now)) }
 {
     let known = facts_of(alloc, i, form, addr, length_of(word), place)?;
     let pre = standing_at(alloc, flow, Word::Const(addr), place)?;
@@ -127,11 +127,11 @@ fn put_current(
     first: u64,
     log: &mut ProofWriter,
 ) -> Result<u64, NoMemory>
-    requires rule { IsRule (Inst first (spec.own_words i (place_of place.now)) (spec.own_mems i (place_of place.now))) }
-    requires stated { IsTriple (axioms.triple_over i form addr (length_in_bytes word) (axioms.word_code addr word) (axioms.own i) (terms.has_memory i) (bodies.names (place_of place.now))) }
+    requires rule { IsRule (Inst first (spec.own_words i (place_of place.now)) (spec.own_mems i 0 (place_of place.now))) }
+    requires stated { IsTriple (axioms.triple_over i form addr (length_in_bytes word) (axioms.word_code addr word) (axioms.own i) (terms.has_memory i) (bodies.names (place_of place.now) 0)) }
     ensures number { IfOk result (λ k. k ≡ log.old.next) }
-    ensures log { OnOk result (writer_tree log.new ≡ stating (Inst first (spec.own_words i (place_of place.now)) (spec.own_mems i (place_of place.now)))
-        (axioms.triple_over i form addr (length_in_bytes word) (axioms.word_code addr word) (axioms.own i) (terms.has_memory i) (bodies.names (place_of place.now))) (writer_tree log.old)) }
+    ensures log { OnOk result (writer_tree log.new ≡ stating (Inst first (spec.own_words i (place_of place.now)) (spec.own_mems i 0 (place_of place.now)))
+        (axioms.triple_over i form addr (length_in_bytes word) (axioms.word_code addr word) (axioms.own i) (terms.has_memory i) (bodies.names (place_of place.now) 0)) (writer_tree log.old)) }
 {
     let regs = own(alloc, i)?;
     let regs = regs.as_slice();
@@ -151,6 +151,31 @@ fn put_current(
     Ok(number)
 }
 
+/// The triple of an instruction over all registers, and over the memory, if there is one.
+fn wide_triple(
+    alloc: Global,
+    flow: &Flow<'_>,
+    i: Instr,
+    form: Form,
+    addr: u64,
+    word: u32,
+    place: &VariableMap,
+) -> Result<Triple, NoMemory>
+    ensures { IfOk result (λ t. triple_tree t ≡ spec.triple_on i form addr (length_in_bytes word) (axioms.word_code addr word) (flow_in flow.now).regs (spec.all_mems (flow_in flow.now).mems) 0 (place_of place.now)) }
+{
+    let triple = triple_over(
+        alloc,
+        i,
+        form,
+        addr,
+        word,
+        flow.regs(),
+        flow.has_mem(),
+        &place.names,
+    )?;
+    Ok(triple)
+}
+
 /// The lines of an instruction in that form: its axiom, over the current variables, over all registers, and with new
 /// variables for what it writes.
 fn instruction_lines(
@@ -166,24 +191,15 @@ fn instruction_lines(
     requires words { place.now.words < 2 ^ 15 }
     requires mems { place.now.mems < 2 ^ 15 }
     requires named { destination i < 32 }
-    requires fine { spec.IsFineInstruction (flow_in flow.now) i form addr word (place_of place.now) }
+    requires fine { spec.IsFineInstruction (flow_in flow.now) i form addr word 0 (place_of place.now) }
     ensures number { IfOk result (λ k. k ≡ log.old.next + 1 + 1 + 1) }
     ensures fits { IfOk result (λ k. k < 2 ^ 64) }
-    ensures log { OnOk result (writer_tree log.new ≡ spec.acted (flow_in flow.now) i form addr word (place_of place.now) (writer_tree log.old)) }
+    ensures log { OnOk result (writer_tree log.new ≡ spec.acted (flow_in flow.now) i form addr word 0 (place_of place.now) (writer_tree log.old)) }
 {
     let own = first_triple(alloc, i, form, addr, word)?;
     let first = log.state(Rule::Axiom(addr, word, form), own)?;
     let current = put_current(alloc, i, form, addr, word, place, first, log)?;
-    let wide = triple_over(
-        alloc,
-        i,
-        form,
-        addr,
-        word,
-        flow.regs(),
-        flow.has_mem(),
-        &place.names,
-    )?;
+    let wide = wide_triple(alloc, flow, i, form, addr, word, place)?;
     let framed = log.state(Rule::Frame(current), wide)?;
     let named = named_triple(alloc, flow, i, form, addr, word, place)?;
     let number = log.state(Rule::Weaken(framed), named)?;
@@ -203,8 +219,8 @@ fn act(
     requires words { place.now.words < 2 ^ 15 }
     requires mems { place.now.mems < 2 ^ 15 }
     ensures { IfOk result (λ t. StandsAt (flow_in flow.now) flow.now.code n
-        × (cited_tree t ≡ spec.act_standing ((flow_in flow.now).instr n) form ((flow_in flow.now).addr n) ((flow_in flow.now).word n) (place_of place.now) (writer_tree log.old))
-        × (writer_tree log.new ≡ spec.acted (flow_in flow.now) ((flow_in flow.now).instr n) form ((flow_in flow.now).addr n) ((flow_in flow.now).word n) (place_of place.now) (writer_tree log.old))) }
+        × (cited_tree t ≡ spec.act_standing ((flow_in flow.now).instr n) form ((flow_in flow.now).addr n) ((flow_in flow.now).word n) 0 (place_of place.now) (writer_tree log.old))
+        × (writer_tree log.new ≡ spec.acted (flow_in flow.now) ((flow_in flow.now).instr n) form ((flow_in flow.now).addr n) ((flow_in flow.now).word n) 0 (place_of place.now) (writer_tree log.old))) }
 {
     let i = flow.instr(n);
     let addr = flow.addr(n);
@@ -233,9 +249,9 @@ pub fn step(
     requires mems { place.now.mems < 2 ^ 15 }
     requires code { IsOver flow.now.code (option_map cited_tree (option_copied from)) }
     ensures steps { IfOk result (λ t. Steps (flow_in flow.now) entry flow.now.code (writer_tree log.old) (writer_tree log.new) (Const ((flow_in flow.now).addr n)) (place_of place.now) (option_map cited_tree (option_copied from.entry))
-        (terms.pc_after ((flow_in flow.now).instr n) form ((flow_in flow.now).addr n) (bodies.size (flow_in flow.now) n) (bodies.names (place_of place.now)))
-        (bodies.place_after ((flow_in flow.now).instr n) (place_of place.now))
-        (map So (terms.conditions ((flow_in flow.now).instr n) form (bodies.names (place_of place.now))) ++ spec.new_facts ((flow_in flow.now).instr n) ((flow_in flow.now).addr n) (bodies.size (flow_in flow.now) n) (place_of place.now)) (cited_tree t)) }
+        (terms.pc_after ((flow_in flow.now).instr n) form ((flow_in flow.now).addr n) (bodies.size (flow_in flow.now) n) (bodies.names (place_of place.now) 0))
+        (bodies.place_after ((flow_in flow.now).instr n) 0 (place_of place.now))
+        (map So (terms.conditions ((flow_in flow.now).instr n) form (bodies.names (place_of place.now) 0)) ++ spec.new_facts ((flow_in flow.now).instr n) ((flow_in flow.now).addr n) (bodies.size (flow_in flow.now) n) 0 (place_of place.now)) (cited_tree t)) }
     ensures code { IfOk result (λ t. IsWithin (range_bytes t.code) (range_bytes flow.now.code)) }
 {
     let last = act(alloc, flow, n, form, place, log)?;

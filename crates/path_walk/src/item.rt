@@ -1,8 +1,11 @@
 //! A function's group with the lines of its proof.
 
-ghost use Rattle.std.specs.Prelude.{◌≡◌, IfOk, length};
+ghost use Rattle.std.specs.Prelude.{◌≡◌, IfOk, length, map, false};
+ghost use Rattle.proof_text.specs.Line.{line_tree};
+ghost use Rattle.checker.specs.Instance.{after_lines};
 ghost use Rattle.loop_forest.specs.Forest.{IsForestOf, number_of};
 ghost use Rattle.code_parts.specs.Flows.{IsReached};
+ghost use Rattle.path_walk.specs.Forgotten.{KeepsNone};
 ghost use Rattle.path_walk.specs.Item.{IsItemOf};
 ghost use Rattle.code_parts.specs.Order.{AreParts};
 ghost use Rattle.code_parts.specs.Kept.{flow_in};
@@ -26,9 +29,10 @@ pub struct Item {
 
 /// The group of that name for a graph and its forest, with lines that close each of its definitions.
 pub fn item_of(alloc: Global, name: Text, graph: &Graph, forest: &Forest) -> Result<Item, NoMemory>
-    requires reached { IsReached graph.now }
+    requires reached { IsReached false graph.now }
     requires forest { IsForestOf graph.now forest.now }
-    ensures { IfOk result (λ item. IsItemOf graph.now forest.now name item) }
+    ensures item { IfOk result (λ item. IsItemOf graph.now forest.now name item) }
+    ensures kept { IfOk result (λ item. KeepsNone (after_lines (map line_tree item.lines))) }
 {
     let parts = parts_of(alloc, graph, forest)?;
     let flow = Flow::new(alloc, graph, forest, parts.as_slice())?;
@@ -43,12 +47,13 @@ fn item_in(
     parts: &[Part],
     reached: u32,
 ) -> Result<Item, NoMemory>
-    requires reached { IsReached flow.now.graph }
+    requires reached { IsReached false flow.now.graph }
     requires forest { IsForestOf flow.now.graph flow.now.forest }
     requires parts { parts.now ≡ flow.now.parts }
     requires ordered { AreParts (flow_in flow.now) (number_of flow.now.forest) flow.now.parts }
     requires count { reached ≡ length flow.now.graph.addrs }
-    ensures { IfOk result (λ item. IsItemOf flow.now.graph flow.now.forest name item) }
+    ensures item { IfOk result (λ item. IsItemOf flow.now.graph flow.now.forest name item) }
+    ensures kept { IfOk result (λ item. KeepsNone (after_lines (map line_tree item.lines))) }
 {
     flow.law_of_code();
     let walks = walk_all(alloc, flow, parts)?;

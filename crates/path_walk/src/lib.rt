@@ -1,17 +1,20 @@
 //! The proof lines that close the definitions of a function's parts.
 //!
-//! `item_of(alloc, name, &graph, &forest)?` makes of reached code and its loops an `Item`: the group of the function, a
-//! definition for each part, and the lines of a proof that `checker` accepts.
+//! `item_of(alloc, name, &graph, &forest)?` makes of the reached code of a function alone and its loops an `Item`: the
+//! group of the function, a definition for each part, and the lines of a proof that `checker` accepts.
+//! `walk(alloc, &graph, &forest, &earlier, part, first, &mut lines)?` gives the definition of one part, and adds the lines
+//! that close it behind those of the earlier parts, whose places are the numbers of their definitions.
 //!
-//! `walk_all` goes through the parts in order, each after those that it calls, and `walk` through one part: it follows
+//! `walk_all` goes through the parts in order, each after those that it calls, and `walk_in` through one part: it follows
 //! the branches of its code from its first node to the next cuts, which is symbolic execution along each path. At each
 //! instruction it states the axiom, puts in the current variables, frames it, and joins it to the theorem of the way
 //! there; a call of a part is a step by the fact that this part leaves by an exit. A path's last theorem is cited as a
-//! leaf, and a line `loop` closes the definition by its leaves. A `ProofWriter` numbers the
-//! theorems, a `CitedTheorem` is one of them with its facts and code.
+//! leaf, and a line `loop` closes the definition by its leaves. Behind it each theorem of the part is forgotten, in
+//! order: later parts need only that the definition is closed. A `ProofWriter` numbers the theorems, a `CitedTheorem`
+//! is one of them with its facts and code.
 //!
-//! That each line is right after those before it is in the contract of `item_of` (`IsItemOf`). The law that matters
-//! beside it is `law_of_texts`: the group can be written and read again. A `Proof` has an item for each name, or a
+//! That each line is right after those before it is in the contract of `item_of` (`IsItemOf`), and that no theorem is
+//! kept after them (`KeepsNone`); `walk` says it of each part's lines (`IsWalkedAfter`). The law that matters beside it is `law_of_texts`: the group can be written and read again. A `Proof` has an item for each name, or a
 //! `DecompileFault` says why there is none.
 #![tactic(auto)]
 
@@ -23,11 +26,13 @@ mod exit_lines;
 mod instruction_lines;
 mod item;
 mod laws;
+mod one_part;
 mod proof;
 mod proof_writer;
 mod subs;
-mod walk;
 
+pub use code_parts::Part;
 pub use item::{Item, item_of};
 pub use laws::law_of_texts;
+pub use one_part::{Walked, walk};
 pub use proof::{DecompileFault, Proof};

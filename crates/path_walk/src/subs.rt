@@ -23,7 +23,7 @@ fn add_registers(
     words: &mut List<(u32, Word)>,
 ) -> Result<(), NoMemory>
     requires { length words.old + length regs.now < 2 ^ 32 }
-    ensures { OnOk result (map word_put_in words.new ≡ map word_put_in words.old ++ spec.numbered (length words.old) (map (names (place_of place.now)).word regs.now)) }
+    ensures { OnOk result (map word_put_in words.new ≡ map word_put_in words.old ++ spec.numbered (length words.old) (map (names (place_of place.now) 0).word regs.now)) }
 {
     for r in regs {
         let i = words.len() as u32;
@@ -39,7 +39,7 @@ pub fn own_words(
     place: &VariableMap,
 ) -> Result<List<(u32, Word)>, NoMemory>
     requires { length regs.now ≤ 31 }
-    ensures { IfOk result (λ ws. map word_put_in ws ≡ spec.numbered 0 (map (names (place_of place.now)).word regs.now)) }
+    ensures { IfOk result (λ ws. map word_put_in ws ≡ spec.numbered 0 (map (names (place_of place.now) 0).word regs.now)) }
 {
     let mut words = List::new(alloc);
     add_registers(regs, place, &mut words)?;
@@ -48,7 +48,7 @@ pub fn own_words(
 
 /// The variable of an instruction's memory, if it has one.
 pub fn own_mems(alloc: Global, i: Instr, place: &VariableMap) -> Result<List<(u32, Mem)>, NoMemory>
-    ensures { IfOk result (λ ms. map mem_put_in ms ≡ spec.own_mems i (place_of place.now)) }
+    ensures { IfOk result (λ ms. map mem_put_in ms ≡ spec.own_mems i 0 (place_of place.now)) }
 {
     let mut mems = List::new(alloc);
     if has_memory(i) {

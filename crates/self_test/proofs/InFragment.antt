@@ -1,5 +1,5 @@
 -- A program's function has an address, and is in the fragment.
-use Rattle.std.proofs.Common.{◌≡◌, ℕ, zero, suc, ◌≤◌, inl, inr, List, [], ◌∷◌, Some, Result, Ok, Err, refl, sym, subst, ◌∙◌, arith}
+use Rattle.std.proofs.Common.{◌≡◌, ℕ, zero, suc, ◌≤◌, inl, inr, List, [], ◌∷◌, Some, Result, Ok, Err, refl, sym, subst, ◌∙◌, arith, false}
 use Rattle.std.specs.Fmt.{digits}
 use Rattle.std.specs.Prelude.{slice_get}
 use Rattle.mc_text.specs.Number.{hex}
@@ -56,16 +56,16 @@ in-fragment number size _ small (Doubled {a = a} {b = b} s) = has-address (file_
 in-fragment number size _ small (InCode {e = e} {why = why} s f) =
     let file : List ℕ = file_of number size in
     no-fault number size (code_of_file file) why small (program-code number size small)
-    (subst (λ a. IsFault (code_of_file file) a why) (stands-at file e s) f)
+    (subst (λ a. IsFault false (code_of_file file) a why) (stands-at file e s) f)
 in-fragment number size _ small (InCycle {e = e} {cycle = cycle} {first = first} {second = second} g s r t) =
     let file : List ℕ = file_of number size in
     let at : e ≡ start = stands-at file e s in
-    no-two-entries number size (code_of_file file) g small (program-code number size small) (subst (λ a. IsGraphOf (code_of_file file) a g) at r)
-    (record { cycle = cycle; first = first; second = second; shows = subst (λ a. ShowsTwoEntries (Next (code_of_file file)) a cycle first second) at t })
+    no-two-entries number size (code_of_file file) g small (program-code number size small) (subst (λ a. IsGraphOf false (code_of_file file) a g) at r)
+    (record { cycle = cycle; first = first; second = second; shows = subst (λ a. ShowsTwoEntries (Next false (code_of_file file)) a cycle first second) at t })
 in-fragment number size _ small (InLoop {e = e} {a = a} g s r m) =
     let file : List ℕ = file_of number size in
     no-forest-fault number size (code_of_file file) g (ManyExits a) small (program-code number size small)
-    (subst (λ b. IsGraphOf (code_of_file file) b g) (stands-at file e s) r) m
+    (subst (λ b. IsGraphOf false (code_of_file file) b g) (stands-at file e s) r) m
 
 -- ---- refusals
 

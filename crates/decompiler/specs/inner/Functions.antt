@@ -1,5 +1,5 @@
 -- What the decompiler finds at an address, and for a name.
-use Rattle.std.specs.Prelude.{ℕ, ◌⊎◌, List}
+use Rattle.std.specs.Prelude.{ℕ, ◌⊎◌, List, false}
 use Rattle.rv_words.specs.Bytes.{Bytes}
 use Rattle.elf_image.specs.declared.symbol.NameFault.{NameFault}
 use Rattle.elf_image.specs.declared.symbol.NameFault.TheVariants as name_fault
@@ -16,7 +16,7 @@ use Rattle.decompiler.specs.Faults.{IsFirst}
 
 -- why there is no function at e: a fault of the code that is reached from there, or of its graph
 abbrev pub IsNoFunction : Bytes → ℕ → FlowFault → Type 0
-IsNoFunction code e (Outside why) = IsFault code e why ⊎ ((g : GraphOf) × IsGraphOf code e g × IsForestFault g why)
+IsNoFunction code e (Outside why) = IsFault false code e why ⊎ ((g : GraphOf) × IsGraphOf false code e g × IsForestFault g why)
 IsNoFunction code e NoMemory = Unit {0}
 
 -- why there is no item of a name

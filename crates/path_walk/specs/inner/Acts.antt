@@ -1,7 +1,6 @@
 -- The lines of one instruction, and of one exit of a call.
-use Rattle.std.specs.Prelude.{◌≡◌, ◌⊎◌, ℕ, suc, ◌+◌, ◌==◌, Bool, if◌then◌else◌, List, [], ◌∷◌, ◌++◌, map, Option, None, Some}
-use Rattle.std.specs.List.{Contains}
-use Rattle.mc_text.specs.Number.{IsWord as IsNumber}
+use Rattle.std.specs.Prelude.{◌≡◌, ◌⊎◌, ℕ, suc, ◌+◌, ◌==◌, if◌then◌else◌, List, [], ◌∷◌, ◌++◌, map, Option, None, Some}
+use Rattle.std.specs.List.{Contains, range_with_len}
 use Rattle.rv_words.specs.Bytes.{over}
 use Rattle.rv_words.specs.declared.range.Range.{Range}
 use Rattle.rv_words.specs.Ranges.{range_bytes}
@@ -15,13 +14,14 @@ use Rattle.tailrec_lang.specs.Tree.{ValuesTree}
 use Rattle.triple_kernel.specs.declared.form.Form.{Form}
 use Rattle.triple_kernel.specs.Tree.{FactTree, Gives, MemIs, So, TripleTree, WordIs}
 use Rattle.frame_compose.specs.Rules.{AreMissing}
-use Rattle.instr_axioms.specs.Terms.{conditions, has_memory, memory_after, pc_after, result}
-use Rattle.instr_axioms.specs.Axiom.{before, memory_if, own, own_triple, register_with, triple_over, word_code}
+use Rattle.instr_axioms.specs.Terms.{conditions, has_memory, memory_after, pc_after, result, word_after}
+use Rattle.instr_axioms.specs.Axiom.{own, own_triple, register_with, triple_over, word_code}
+use Rattle.mc_text.specs.Number.{IsWord as IsNumber}
 use Rattle.proof_text.specs.Line.{Axiom, Compose, Frame, Inst, UseExit, Weaken}
 use Rattle.proof_text.specs.LineLimits.{IsRule, IsTriple}
 use Rattle.code_parts.specs.Bodies.{Flow, VariableMap, current, fresh, is_store, names, place_after, start, with_pc}
 use Rattle.path_walk.specs.inner.Histories.{exit_place, pc_of}
-use Rattle.path_walk.specs.inner.Writers.{LogTree, StandingTree, standing_at, stating}
+use Rattle.path_walk.specs.inner.Writers.{WriterTree, CitedTree, standing_at, stating}
 
 -- the terms for the variables from i on
 abbrev pub numbered : {A : Type 0} → ℕ → List A → List (ℕ × A)
@@ -30,54 +30,74 @@ numbered i (t ∷ ts) = (i, t) ∷ numbered (suc i) ts
 
 -- ---- one instruction
 
+-- the memories in order, and the one that the instruction loads from or stores to, if it does
+abbrev pub all_mems : ℕ → List ℕ
+all_mems mems = range_with_len 0 mems
+
+abbrev pub own_mem : Instr → ℕ → List ℕ
+own_mem i q = if has_memory i then q ∷ [] else []
+
+-- the memories after an instruction that may store to memory q
+abbrev pub mem_after : Instr → ℕ → VariableMap → ℕ → MemTree
+mem_after i q v p = if p == q then memory_after i (names v q) else MemVar (v.memory p)
+
 -- the current variables of an instruction's own registers and of its memory, for those of its axiom
 abbrev pub own_words : Instr → VariableMap → List (ℕ × WordTree)
-own_words i v = numbered 0 (map (names v).word (own i))
+own_words i v = numbered 0 (map (λ r. Var (v.reg r)) (own i))
 
-abbrev pub own_mems : Instr → VariableMap → List (ℕ × MemTree)
-own_mems i v = numbered 0 (memory_if (has_memory i) (MemVar v.memory))
+abbrev pub own_mems : Instr → ℕ → VariableMap → List (ℕ × MemTree)
+own_mems i q v = numbered 0 (map (λ p. MemVar (v.memory p)) (own_mem i q))
 
 -- what the definition knows of the new variable
-abbrev pub new_facts : Instr → ℕ → ℕ → VariableMap → List FactTree
-new_facts i a k v =
-    if is_store i then MemIs (MemVar v.mems) (memory_after i (names v)) ∷ [] else (if destination i == 0 then [] else WordIs (Var v.words) (result i a k (names v)) ∷ [])
+abbrev pub new_facts : Instr → ℕ → ℕ → ℕ → VariableMap → List FactTree
+new_facts i a k q v =
+    if is_store i then MemIs (MemVar v.mems) (memory_after i (names v q)) ∷ [] else (if destination i == 0 then [] else WordIs (Var v.words) (result i a k (names v q)) ∷ [])
 
--- the instruction's triple, with new variables for what was written
-abbrev pub named_triple : Instr → Form → ℕ → ℕ → List Range → List ℕ → Bool → VariableMap → TripleTree
-named_triple i form a k code regs mem v = record {
-  facts = map So (conditions i form (names v)) ++ new_facts i a k v;
-  pre = before a regs mem (names v);
+-- the instruction's triple over the current variables, with these registers and these memories
+abbrev pub triple_on : Instr → Form → ℕ → ℕ → List Range → List ℕ → List ℕ → ℕ → VariableMap → TripleTree
+triple_on i form a k code regs ms q v = record {
+  facts = map So (conditions i form (names v q));
+  pre = record { pc = Const a; regs = map (register_with (names v q).word) regs; mems = map (λ p. MemVar (v.memory p)) ms };
+  code = code;
+  post = record { pc = pc_after i form a k (names v q); regs = map (register_with (word_after i a k (names v q))) regs; mems = map (mem_after i q v) ms };
+}
+
+-- .. with new variables for what was written
+abbrev pub named_triple : Instr → Form → ℕ → ℕ → List Range → List ℕ → List ℕ → ℕ → VariableMap → TripleTree
+named_triple i form a k code regs ms q v = record {
+  facts = map So (conditions i form (names v q)) ++ new_facts i a k q v;
+  pre = record { pc = Const a; regs = map (register_with (names v q).word) regs; mems = map (λ p. MemVar (v.memory p)) ms };
   code = code;
   post = record {
-    pc = pc_after i form a k (names v);
-    regs = map (register_with (names (place_after i v)).word) regs;
-    mems = memory_if mem (names (place_after i v)).memory;
+    pc = pc_after i form a k (names v q);
+    regs = map (λ r. (r, Var ((place_after i q v).reg r))) regs;
+    mems = map (λ p. MemVar ((place_after i q v).memory p)) ms;
   };
 }
 
--- its axiom, over the current variables, over all registers, and with new variables
-abbrev pub acted : Flow → Instr → Form → ℕ → ℕ → VariableMap → LogTree → LogTree
-acted f i form a w v l =
-    stating (Weaken (l.next + 1 + 1)) (named_triple i form a (length_of w) (word_code a w) f.regs f.has_mem v)
-    (stating (Frame (l.next + 1)) (triple_over i form a (length_of w) (word_code a w) f.regs f.has_mem (names v))
-    (stating (Inst l.next (own_words i v) (own_mems i v)) (triple_over i form a (length_of w) (word_code a w) (own i) (has_memory i) (names v))
+-- its axiom, over the current variables, over all registers and memories, and with new variables
+abbrev pub acted : Flow → Instr → Form → ℕ → ℕ → ℕ → VariableMap → WriterTree → WriterTree
+acted f i form a w q v l =
+    stating (Weaken (l.next + 1 + 1)) (named_triple i form a (length_of w) (word_code a w) f.regs (all_mems f.mems) q v)
+    (stating (Frame (l.next + 1)) (triple_on i form a (length_of w) (word_code a w) f.regs (all_mems f.mems) q v)
+    (stating (Inst l.next (own_words i v) (own_mems i q v)) (triple_over i form a (length_of w) (word_code a w) (own i) (has_memory i) (names v q))
     (stating (Axiom a w form) (own_triple i form a w) l)))
 
 -- the theorem that these end with
-abbrev pub act_standing : Instr → Form → ℕ → ℕ → VariableMap → LogTree → StandingTree
-act_standing i form a w v l = record {
+abbrev pub act_standing : Instr → Form → ℕ → ℕ → ℕ → VariableMap → WriterTree → CitedTree
+act_standing i form a w q v l = record {
   number = l.next + 1 + 1 + 1;
-  facts = map So (conditions i form (names v)) ++ new_facts i a (length_of w) v;
+  facts = map So (conditions i form (names v q)) ++ new_facts i a (length_of w) q v;
   code = word_code a w;
 }
 
 -- these lines have a text
-pub record IsFineInstruction (f : Flow) (i : Instr) (form : Form) (a w : ℕ) (v : VariableMap) : Type 0 where
-  pub rule : (k : ℕ) → IsNumber k → IsRule (Inst k (own_words i v) (own_mems i v))
+pub record IsFineInstruction (f : Flow) (i : Instr) (form : Form) (a w q : ℕ) (v : VariableMap) : Type 0 where
+  pub rule : (k : ℕ) → IsNumber k → IsRule (Inst k (own_words i v) (own_mems i q v))
   pub first : IsTriple (own_triple i form a w)
-  pub current_over : IsTriple (triple_over i form a (length_of w) (word_code a w) (own i) (has_memory i) (names v))
-  pub wide : IsTriple (triple_over i form a (length_of w) (word_code a w) f.regs f.has_mem (names v))
-  pub named : IsTriple (named_triple i form a (length_of w) (word_code a w) f.regs f.has_mem v)
+  pub current_over : IsTriple (triple_over i form a (length_of w) (word_code a w) (own i) (has_memory i) (names v q))
+  pub wide : IsTriple (triple_on i form a (length_of w) (word_code a w) f.regs (all_mems f.mems) q v)
+  pub named : IsTriple (named_triple i form a (length_of w) (word_code a w) f.regs (all_mems f.mems) q v)
 
 -- ---- one exit of a call
 
@@ -102,12 +122,12 @@ call_words f x v = numbered 0 ((current f v).words ++ (results_at f x v.words v.
 abbrev pub call_mems : Flow → Exit → VariableMap → List (ℕ × MemTree)
 call_mems f x v = numbered 0 ((current f v).mems ++ (results_at f x v.words v.mems).mems)
 
-abbrev pub exited : Flow → List Range → ℕ → ℕ → ℕ → Exit → VariableMap → LogTree → LogTree
+abbrev pub exited : Flow → List Range → ℕ → ℕ → ℕ → Exit → VariableMap → WriterTree → WriterTree
 exited f ranges entry d k x v l =
     stating (Inst l.next (call_words f x v) (call_mems f x v)) (gives_over f ranges entry d k x v) (stating (UseExit d k) (gives_over f ranges entry d k x (start f)) l)
 
 -- the theorem that these end with
-abbrev pub exit_standing : Flow → List Range → ℕ → ℕ → Exit → VariableMap → LogTree → StandingTree
+abbrev pub exit_standing : Flow → List Range → ℕ → ℕ → Exit → VariableMap → WriterTree → CitedTree
 exit_standing f ranges d k x v l = record { number = l.next + 1; facts = Gives d k (current f v) (results_at f x v.words v.mems) ∷ []; code = ranges }
 
 -- these lines have a text
@@ -123,7 +143,7 @@ abbrev pub IsAdded : (known : List FactTree) (x : FactTree) (old new : List Fact
 IsAdded known x old new = (Contains known x × (new ≡ old)) ⊎ ((Contains known x → ⊥) × (new ≡ old ++ x ∷ []))
 
 -- a theorem after another, which leads from the definition's entry
-pub record Joined (f : Flow) (entry : ℕ) (st there : StandingTree) (to : WordTree) (u : VariableMap) (old new : LogTree) (t : StandingTree) : Type 0 where
+pub record Joined (f : Flow) (entry : ℕ) (st there : CitedTree) (to : WordTree) (u : VariableMap) (old new : WriterTree) (t : CitedTree) : Type 0 where
   pub more : List FactTree
   pub are : AreMissing st.facts there.facts more
   pub facts : t.facts ≡ st.facts ++ more
@@ -132,6 +152,6 @@ pub record Joined (f : Flow) (entry : ℕ) (st there : StandingTree) (to : WordT
   pub log : new ≡ stating (Compose st.number there.number) (record { facts = t.facts; pre = standing_at f (Const entry) (start f); code = t.code; post = standing_at f to u }) old
 
 -- at the front of the definition it stands by itself
-abbrev pub GoesOn : (f : Flow) (entry : ℕ) → Option StandingTree → StandingTree → WordTree → VariableMap → LogTree → LogTree → StandingTree → Type 0
+abbrev pub GoesOn : (f : Flow) (entry : ℕ) → Option CitedTree → CitedTree → WordTree → VariableMap → WriterTree → WriterTree → CitedTree → Type 0
 GoesOn f entry None there to u old new t = (new ≡ old) × (t ≡ there)
 GoesOn f entry (Some st) there to u old new t = Joined f entry st there to u old new t

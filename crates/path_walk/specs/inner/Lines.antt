@@ -1,5 +1,6 @@
 -- What is counted of lines, and what the lines of a call's arms lead to.
-use Rattle.std.specs.Prelude.{◌≡◌, ℕ, suc, true, List, [], ◌∷◌, Option}
+use Rattle.std.specs.Prelude.{◌≡◌, ℕ, suc, ◌<◌, true, List, [], ◌∷◌, map, Option}
+use Rattle.std.specs.List.{range_with_len}
 use Rattle.rv_words.specs.declared.range.Range.{Range}
 use Rattle.word_terms.specs.Tree.{WordTree}
 use Rattle.tailrec_lang.specs.declared.group.Exit.{Exit}
@@ -10,7 +11,8 @@ use Rattle.proof_text.specs.Line.{LineTree, Forget, Loop, States}
 use Rattle.code_parts.specs.declared.part.Part.{Part}
 use Rattle.code_parts.specs.Bodies.{Flow, VariableMap, current, part_def}
 use Rattle.path_walk.specs.Closed.{ArmsClosed}
-use Rattle.path_walk.specs.inner.Writers.{FromAs, IsReady, Led, LogTree, Setting, StandingTree, group_in, past}
+use Rattle.code_parts.specs.Graph.{ArmsBelow}
+use Rattle.path_walk.specs.inner.Writers.{FromAs, IsReady, Led, WriterTree, Setting, CitedTree, group_in, past}
 
 -- how many lines state a triple
 abbrev pub stated : List LineTree → ℕ
@@ -19,8 +21,12 @@ stated (States rule t ∷ lines) = suc (stated lines)
 stated (Loop d cited ∷ lines) = stated lines
 stated (Forget k ∷ lines) = stated lines
 
+-- lines that forget so many theorems, from that number on
+abbrev pub forgets : (first count : ℕ) → List LineTree
+forgets first count = map Forget (range_with_len first count)
+
 -- lines were added, after which a theorem is cited for each leaf of the arms of a call of definition d, the first of which is for exit k
-pub record ArmsLead (f : Flow) (p : Part) (ranges : List Range) (d : ℕ) (old new : LogTree) (pc : WordTree) (v : VariableMap) (from : Option StandingTree) (exits : List Exit) (k : ℕ) (arms : ArmTrees) : Type 0 where
-  pub each : (s : Setting f ranges) (path : List FactTree) → IsReady f ranges s old → (past f ranges s old).closed d ≡ true → FromAs f (part_def f p).entry ranges (past f ranges s old) pc v path from
-      → ArmsClosed (past f ranges s old) arms
+pub record ArmsLead (f : Flow) (p : Part) (ranges : List Range) (d : ℕ) (old new : WriterTree) (pc : WordTree) (v : VariableMap) (from : Option CitedTree) (exits : List Exit) (k : ℕ) (arms : ArmTrees) : Type 0 where
+  pub each : (s : Setting f ranges) (path : List FactTree) → IsReady f ranges s old → (past f ranges s old).closed d ≡ true → d < s.bound → FromAs f (part_def f p).entry ranges (past f ranges s old) pc v path from
+      → ArmsClosed (past f ranges s old) arms → ArmsBelow s.bound arms
       → Led f p ranges s old new (arm_leaves (group_in f ranges s) (part_def f p) d exits k (current f v) arms v.words v.mems path)

@@ -1,39 +1,38 @@
 -- The lines of a part as they are written, and what they have shown.
 use Rattle.std.specs.Prelude.{◌≡◌, ℕ, ◌+◌, ◌<◌, ◌^◌, List, [], ◌∷◌, ◌++◌, map, fold, true, Option, None, Some}
-use Rattle.std.specs.List.{AllByRecursion, AllZip}
+use Rattle.std.specs.List.{AllByRecursion, AllZip, range_with_len}
 use Rattle.mc_text.specs.Number.{IsWord as IsNumber}
 use Rattle.rv_words.specs.declared.range.Range.{Range}
 use Rattle.rv_words.specs.Ranges.{AreRanges, range_bytes}
-use Rattle.word_terms.specs.Tree.{WordTree, Const}
+use Rattle.word_terms.specs.Tree.{WordTree, Const, Var, MemVar}
 use Rattle.sep_assert.specs.Tree.{AssertionTree}
 use Rattle.sep_assert.specs.Code.{IsWithin}
 use Rattle.tailrec_lang.specs.Tree.{BodyTree, DefTree, GroupTree}
 use Rattle.triple_kernel.specs.declared.triple.Fact.{Fact}
 use Rattle.triple_kernel.specs.Tree.{FactTree, TripleTree, fact_tree}
 use Rattle.triple_kernel.specs.Rules.{AreAmong}
-use Rattle.instr_axioms.specs.Axiom.{memory_if, register_with}
 use Rattle.loop_rule.specs.Tree.{LeafTree}
 use Rattle.loop_rule.specs.Leaves.{body_leaves}
 use Rattle.loop_rule.specs.Rule.{LeadsTo}
 use Rattle.proof_text.specs.declared.line.Line.{Line}
-use Rattle.proof_text.specs.Line.{LineTree, RuleTree, States, line_tree}
+use Rattle.proof_text.specs.Line.{LineTree, RuleTree, States, Loop, Forget, line_tree}
 use Rattle.proof_text.specs.LineLimits.{IsFact, IsLine}
 use Rattle.checker.specs.Instance.{AreInstances, History, after_line, after_lines}
 use Rattle.code_parts.specs.declared.part.Part.{Part}
-use Rattle.code_parts.specs.Bodies.{Flow, VariableMap, names, part_def, start}
+use Rattle.code_parts.specs.Bodies.{Flow, VariableMap, part_def, start}
 use Rattle.path_walk.specs.Closed.{AreClosed}
-use Rattle.code_parts.specs.Graph.{HasPart, IsCode, IsPart}
+use Rattle.code_parts.specs.Graph.{CallsBelow, HasPart, IsCode, IsPart}
 use Rattle.path_walk.specs.inner.Histories.{IsCounted, Keeps}
 use Rattle.code_parts.specs.Flows.{group_over}
 
 -- a theorem by its number, with its facts and its code
-pub record StandingTree : Type 0 where
+pub record CitedTree : Type 0 where
   pub number : ℕ
   pub facts : List FactTree
   pub code : List Range
 
 -- lines, the number of the next theorem, and the theorems that are cited for leaves
-pub record LogTree : Type 0 where
+pub record WriterTree : Type 0 where
   pub lines : List LineTree
   pub next : ℕ
   pub cited : List ℕ
@@ -49,58 +48,66 @@ pub record WriterOf : Type 0 where
   pub next : ℕ
   pub cited : List ℕ
 
-abbrev pub cited_tree : CitedOf → StandingTree
+abbrev pub cited_tree : CitedOf → CitedTree
 cited_tree s = record { number = s.number; facts = map fact_tree s.facts; code = s.code }
 
-abbrev pub writer_tree : WriterOf → LogTree
+abbrev pub writer_tree : WriterOf → WriterTree
 writer_tree l = record { lines = map line_tree l.lines; next = l.next; cited = l.cited }
 
--- these have a text
-pub record IsFineCited (t : StandingTree) : Type 0 where
+-- the line states a triple
+abbrev pub IsStating : LineTree → Type 0
+IsStating (States rule t) = Unit {0}
+IsStating (Loop d cited) = ⊥
+IsStating (Forget k) = ⊥
+
+-- these have a text, and the lines state triples
+pub record IsFineCited (t : CitedTree) : Type 0 where
   pub number : t.number < 2 ^ 64
   pub facts : AllByRecursion IsFact t.facts
   pub code : AreRanges t.code
   pub bytes : AllByRecursion (λ r. AllByRecursion (λ b. b < 256) r.bytes) t.code
 
-pub record IsFineWriter (l : LogTree) : Type 0 where
+pub record IsFineWriter (l : WriterTree) : Type 0 where
   pub lines : AllByRecursion IsLine l.lines
+  pub stating : AllByRecursion IsStating l.lines
   pub next : l.next < 2 ^ 64
   pub cited : AllByRecursion IsNumber l.cited
 
 -- one more line that states a triple, and one more theorem that is cited
-abbrev pub stating : RuleTree → TripleTree → LogTree → LogTree
+abbrev pub stating : RuleTree → TripleTree → WriterTree → WriterTree
 stating rule t l = record { lines = l.lines ++ States rule t ∷ []; next = l.next + 1; cited = l.cited }
 
-abbrev pub citing : ℕ → LogTree → LogTree
+abbrev pub citing : ℕ → WriterTree → WriterTree
 citing k l = record { lines = l.lines; next = l.next; cited = l.cited ++ k ∷ [] }
 
--- what holds at a place: that program counter, and the variables of the registers and the memory
+-- what holds at a place: that program counter, and the variables of the registers and of the memories
 abbrev pub standing_at : Flow → WordTree → VariableMap → AssertionTree
-standing_at f pc v = record { pc = pc; regs = map (register_with (names v).word) f.regs; mems = memory_if f.has_mem (names v).memory }
+standing_at f pc v = record { pc = pc; regs = map (λ r. (r, Var (v.reg r))) f.regs; mems = map (λ q. MemVar (v.memory q)) (range_with_len 0 f.mems) }
 
 -- ---- the group and the lines before
 
--- a group for the graph, with this code, and the lines of the definitions before
+-- a group for the graph, with this code, and the lines of the definitions before. It has each part whose number is below the bound.
 pub record Setting (f : Flow) (ranges : List Range) : Type 0 where
   pub name : List ℕ
   pub defs : List DefTree
   pub before : List LineTree
+  pub bound : ℕ
   pub code : IsCode f ranges
-  pub has : (q : Part) → IsPart f q → HasPart f (group_over f name ranges defs) q
+  pub has : (q : Part) → IsPart f q → f.number q < bound → HasPart f (group_over f name ranges defs) q
 
 abbrev pub group_in : (f : Flow) (ranges : List Range) → Setting f ranges → GroupTree
 group_in f ranges s = group_over f s.name ranges s.defs
 
 -- what the lines so far leave behind them
-abbrev pub past : (f : Flow) (ranges : List Range) → Setting f ranges → LogTree → History
+abbrev pub past : (f : Flow) (ranges : List Range) → Setting f ranges → WriterTree → History
 past f ranges s l = fold after_line (after_lines s.before) l.lines
 
-pub record IsReady (f : Flow) (ranges : List Range) (s : Setting f ranges) (l : LogTree) : Type 0 where
+pub record IsReady (f : Flow) (ranges : List Range) (s : Setting f ranges) (l : WriterTree) : Type 0 where
   pub next : l.next ≡ (past f ranges s l).next
   pub counted : IsCounted (past f ranges s l)
 
 -- lines were added, each of them right, that forget nothing
-pub record Grown (f : Flow) (ranges : List Range) (s : Setting f ranges) (old new : LogTree) : Type 0 where
+pub record Grown (f : Flow) (ranges : List Range) (s : Setting f ranges) (old new : WriterTree) : Type 0 where
   pub added : List LineTree
   pub lines : new.lines ≡ old.lines ++ added
   pub right : AreInstances (group_in f ranges s) (past f ranges s old) added
@@ -110,48 +117,48 @@ pub record Grown (f : Flow) (ranges : List Range) (s : Setting f ranges) (old ne
 -- ---- places
 
 -- the theorem leads from the definition's entry to this place, and its facts are of the way there
-pub record StandsAs (f : Flow) (entry : ℕ) (ranges : List Range) (h : History) (pc : WordTree) (v : VariableMap) (path : List FactTree) (t : StandingTree) : Type 0 where
+pub record StandsAs (f : Flow) (entry : ℕ) (ranges : List Range) (h : History) (pc : WordTree) (v : VariableMap) (path : List FactTree) (t : CitedTree) : Type 0 where
   pub held : h.theorem t.number ≡ Some (record { facts = t.facts; pre = standing_at f (Const entry) (start f); code = t.code; post = standing_at f pc v })
   pub facts : AreAmong t.facts path
   pub code : IsWithin (range_bytes t.code) (range_bytes ranges)
 
 -- such a theorem, or none at the front of the definition
-abbrev pub FromAs : (f : Flow) (entry : ℕ) (ranges : List Range) → History → WordTree → VariableMap → List FactTree → Option StandingTree → Type 0
+abbrev pub FromAs : (f : Flow) (entry : ℕ) (ranges : List Range) → History → WordTree → VariableMap → List FactTree → Option CitedTree → Type 0
 FromAs f entry ranges h pc v path None = (pc ≡ Const entry) × (v ≡ start f) × (path ≡ [])
 FromAs f entry ranges h pc v path (Some t) = StandsAs f entry ranges h pc v path t
 
 -- its code, if there is one, is within that code
-abbrev pub IsOver : List Range → Option StandingTree → Type 0
+abbrev pub IsOver : List Range → Option CitedTree → Type 0
 IsOver ranges None = Unit {0}
 IsOver ranges (Some t) = IsWithin (range_bytes t.code) (range_bytes ranges)
 
 -- lines that were added lead to this place
-pub record Stood (f : Flow) (entry : ℕ) (ranges : List Range) (s : Setting f ranges) (old new : LogTree) (pc : WordTree) (v : VariableMap) (path : List FactTree) (t : StandingTree) : Type 0 where
+pub record Stood (f : Flow) (entry : ℕ) (ranges : List Range) (s : Setting f ranges) (old new : WriterTree) (pc : WordTree) (v : VariableMap) (path : List FactTree) (t : CitedTree) : Type 0 where
   pub grown : Grown f ranges s old new
   pub cited : new.cited ≡ old.cited
   pub stands : StandsAs f entry ranges (past f ranges s new) pc v path t
 
 -- they lead from one place to another, where the way has these facts more
-pub record Steps (f : Flow) (entry : ℕ) (ranges : List Range) (old new : LogTree) (pc : WordTree) (v : VariableMap) (from : Option StandingTree) (to : WordTree) (u : VariableMap) (more : List FactTree) (t : StandingTree) : Type 0 where
+pub record Steps (f : Flow) (entry : ℕ) (ranges : List Range) (old new : WriterTree) (pc : WordTree) (v : VariableMap) (from : Option CitedTree) (to : WordTree) (u : VariableMap) (more : List FactTree) (t : CitedTree) : Type 0 where
   pub each : (s : Setting f ranges) (path : List FactTree) → IsReady f ranges s old → FromAs f entry ranges (past f ranges s old) pc v path from
       → Stood f entry ranges s old new to u (path ++ more) t
 
--- .. by a call of definition d, where that is closed
-pub record StepsBy (f : Flow) (entry : ℕ) (ranges : List Range) (d : ℕ) (old new : LogTree) (pc : WordTree) (v : VariableMap) (from : Option StandingTree) (to : WordTree) (u : VariableMap) (more : List FactTree) (t : StandingTree) : Type 0 where
-  pub each : (s : Setting f ranges) (path : List FactTree) → IsReady f ranges s old → (past f ranges s old).closed d ≡ true → FromAs f entry ranges (past f ranges s old) pc v path from
+-- .. by a call of definition d, where that is closed and below the bound
+pub record StepsBy (f : Flow) (entry : ℕ) (ranges : List Range) (d : ℕ) (old new : WriterTree) (pc : WordTree) (v : VariableMap) (from : Option CitedTree) (to : WordTree) (u : VariableMap) (more : List FactTree) (t : CitedTree) : Type 0 where
+  pub each : (s : Setting f ranges) (path : List FactTree) → IsReady f ranges s old → (past f ranges s old).closed d ≡ true → d < s.bound → FromAs f entry ranges (past f ranges s old) pc v path from
       → Stood f entry ranges s old new to u (path ++ more) t
 
 -- ---- leaves
 
 -- lines were added, after which a theorem is cited for each of these leaves
-pub record Led (f : Flow) (p : Part) (ranges : List Range) (s : Setting f ranges) (old new : LogTree) (leaves : List LeafTree) : Type 0 where
+pub record Led (f : Flow) (p : Part) (ranges : List Range) (s : Setting f ranges) (old new : WriterTree) (leaves : List LeafTree) : Type 0 where
   pub grown : Grown f ranges s old new
   pub numbers : List ℕ
   pub cited : new.cited ≡ old.cited ++ numbers
   pub each : AllZip (λ leaf j. (t : TripleTree) × ((past f ranges s new).theorem j ≡ Some t) × LeadsTo (group_in f ranges s) (part_def f p) leaf t) leaves numbers
 
 -- .. for those of a body at a place
-pub record Leads (f : Flow) (p : Part) (ranges : List Range) (old new : LogTree) (pc : WordTree) (v : VariableMap) (from : Option StandingTree) (body : BodyTree) : Type 0 where
+pub record Leads (f : Flow) (p : Part) (ranges : List Range) (old new : WriterTree) (pc : WordTree) (v : VariableMap) (from : Option CitedTree) (body : BodyTree) : Type 0 where
   pub each : (s : Setting f ranges) (path : List FactTree) → IsReady f ranges s old → FromAs f (part_def f p).entry ranges (past f ranges s old) pc v path from
-      → AreClosed (past f ranges s old) body
+      → AreClosed (past f ranges s old) body → CallsBelow s.bound body
       → Led f p ranges s old new (body_leaves (group_in f ranges s) (part_def f p) body v.words v.mems path)

@@ -9,7 +9,7 @@ use Rattle.code_parts.specs.Bodies.{Flow, VariableMap, arms_over, current, end_a
 use Rattle.path_walk.specs.inner.Acts.{results_at}
 use Rattle.code_parts.specs.Kept.{flow_in}
 use Rattle.path_walk.specs.inner.Lines.{ArmsLead}
-use Rattle.path_walk.specs.inner.Writers.{Leads, StandingTree, StepsBy, writer_tree, cited_tree}
+use Rattle.path_walk.specs.inner.Writers.{Leads, CitedTree, StepsBy, writer_tree, cited_tree}
 use Rattle.code_parts.specs.VariableMaps.{place_of}
 use Rattle.path_walk.proofs.ClosingLines.{left_next, left_none}
 use Rattle.path_walk.proofs.PartWalks.{exit_end}
@@ -31,7 +31,7 @@ loop-x-preserved c =
     let k : ℕ = c.loop-x.x-index in
     let x : ℕ = get_or targets k 0 in
     let at : slice_get targets k ≡ Some x = slice_get-get_or targets k 0 (omega arith) in
-    let t : StandingTree = cited_tree c.in_ok-t.t in
+    let t : CitedTree = cited_tree c.in_ok-t.t in
     let first : place_of c.fresh-start.result ≡ start f = c.fresh-start.ensures.is in
     let next : place_of c.fresh-next.result ≡ fresh f (start f).words (start f).mems = c.fresh-next.ensures.is ∙ (λ i. fresh f (first i).words (first i).mems) in
     let steps = subst (λ (v : VariableMap). StepsBy f c.entry_of-entry.result c.args.flow.now.code d (writer_tree c.loop-x.log) (writer_tree c.exit_step.new.log) (Const (f.addr (f.head c.args.l))) v None (Const c.addr.result)

@@ -6,8 +6,8 @@ use Rattle.path_walk.specs.inner.Walks.{AreWalked}
 use Rattle.path_walk.proofs.PartsInOrder.{item_from}
 use Rattle.path_walk.proofs.item.item_in.Goals as goal
 
-pub returns : goal.returns
-returns c =
+pub returns-clause-item : goal.returns-clause-item
+returns-clause-item c =
     item_from c.args.flow.now c.args.name (record { group = c.in_ok-group.group; lines = c.in_ok-walks.walks.lines; reached = c.args.reached }) c.requires.reached c.requires.forest c.requires.ordered c.in_ok-group.ensures.code
     c.law_of_code.ensures (map def_tree c.in_ok-walks.walks.defs)
-    (subst (λ (ps : List Part). AreWalked c.args.flow.now (length ps) (map def_tree c.in_ok-walks.walks.defs) (map line_tree c.in_ok-walks.walks.lines)) c.requires.parts c.in_ok-walks.ensures) c.in_ok-group.ensures.group c.requires.count
+    (subst (λ (ps : List Part). AreWalked c.args.flow.now (length ps) (map def_tree c.in_ok-walks.walks.defs) (map line_tree c.in_ok-walks.walks.lines)) c.requires.parts c.in_ok-walks.ensures.lines) c.in_ok-group.ensures.group c.requires.count
