@@ -6,3 +6,5 @@ pub mod SureShelf
 pub mod Plan
 pub mod Shelf
 pub mod Sink
+pub mod Lines
+pub mod inner

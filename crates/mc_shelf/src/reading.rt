@@ -3,10 +3,11 @@
 ghost use Rattle.std.specs.Prelude.{◌≡◌, ◌<◌, ◌≤◌, length, vec_len, IfSome, IsSomeAnd, IfOk, IsErrOf};
 ghost use Rattle.mc_shelf.specs.Fault.{Rose};
 ghost use Rattle.mc_shelf.specs.Shelf.{TellsName};
-ghost use Rattle.mc_shelf.specs.declared.reading.ReadEnd.TheVariants.{Fault, NoMemory as NoRoom};
+ghost use Rattle.mc_shelf.specs.declared.reading.ReadEnd.TheVariants.{NoMemory as NoRoom};
+ghost use Rattle.mc_shelf.specs.inner.Ends.{read_end};
 
+use crate::measuring::{MeasureEnd, read_piece};
 use crate::shelf::Shelf;
-use crate::sink::Failed;
 use rv_words::{Bytes, List};
 use std::alloc::{AllocError, Global};
 
@@ -24,11 +25,14 @@ pub enum ReadEnd {
     NoMemory,
 }
 
-impl From<Failed> for ReadEnd {
-    ghost from_gives = { λ _ e. e ≡ Fault };
+impl From<MeasureEnd> for ReadEnd {
+    ghost from_gives = { λ end e. e ≡ read_end end };
 
-    fn from(_e: Failed) -> ReadEnd {
-        ReadEnd::Fault
+    fn from(end: MeasureEnd) -> ReadEnd {
+        match end {
+            MeasureEnd::Fault => ReadEnd::Fault,
+            MeasureEnd::TooLong => ReadEnd::TooLong,
+        }
     }
 }
 
@@ -76,12 +80,9 @@ pub fn read_file<S: Shelf>(
     let mut bytes = Vec::new(alloc);
     let mut at = 0;
     loop {
-        let count = shelf.read(name, at, &mut buffer)?;
+        let count = read_piece(shelf, name, at, limit, &mut buffer)?;
         if count == 0 {
             return Ok(List::from_vec(bytes));
-        }
-        if count as u64 > limit - at {
-            return Err(ReadEnd::TooLong);
         }
         bytes.extend_from_slice(&buffer[..count])?;
         at += count as u64;

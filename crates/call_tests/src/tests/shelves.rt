@@ -56,6 +56,194 @@ fn whole_files_are_read(rt: HostRuntime) -> Result<(), Fail> {
     Ok(())
 }
 
+/// Whether measuring a file of these bytes ends so, where a call fails.
+fn measures_so(
+    alloc: Global,
+    whole: &[u8],
+    (name, limit, failing): (&str, u64, u64),
+    end: Result<u64, MeasureEnd>,
+) -> Result<bool, NoMemory> {
+    let mut shelf = MemShelf::new(alloc);
+    shelf.set("e", whole)?;
+    shelf.fail(failing, 0)?;
+    Ok(measure(&mut shelf, name, limit) == end)
+}
+
+/// A name, a limit and a call that fails, and how measuring 200,000 bytes ends: 48 whole pieces, a part of one, and nothing.
+static MEASURES: [((&str, u64, u64), Result<u64, MeasureEnd>); 8] = [
+    (("e", 200_000, 50), Ok(200_000)),
+    (("e", u64::MAX, 50), Ok(200_000)),
+    (("e", 199_999, 49), Err(MeasureEnd::TooLong)),
+    (("e", 4_095, 1), Err(MeasureEnd::TooLong)),
+    (("e", 200_000, 0), Err(MeasureEnd::Fault)),
+    (("e", 200_000, 48), Err(MeasureEnd::Fault)),
+    (("e", 200_000, 49), Err(MeasureEnd::Fault)),
+    (("f", 200_000, 50), Err(MeasureEnd::Fault)),
+];
+
+#[test]
+fn files_are_measured(rt: HostRuntime) -> Result<(), Fail> {
+    let whole = pattern(rt.alloc())?;
+    for &(read, end) in &MEASURES {
+        let ended = measures_so(rt.alloc(), &whole, read, end)?;
+        assert!(rt; ended);
+    }
+    Ok(())
+}
+
+/// Whether the next call gives these bytes, or nothing.
+fn gives_line<S: Shelf>(
+    alloc: Global,
+    lines: &mut Lines<'_>,
+    shelf: &mut S,
+    wanted: Option<&[u8]>,
+) -> bool {
+    match lines.next(alloc, shelf) {
+        Ok(Some(line)) => wanted == Some(line.as_slice()),
+        Ok(None) => wanted.is_none(),
+        Err(_) => false,
+    }
+}
+
+/// Whether the lines of these bytes, up to the size, are these, and then there is none.
+fn lines_are(alloc: Global, bytes: &[u8], size: u64, wanted: &[&[u8]]) -> Result<bool, NoMemory> {
+    let mut shelf = SureShelf::new(alloc);
+    shelf.set("e", bytes)?;
+    let mut lines = Lines::new("e", size);
+    for &line in wanted {
+        if !gives_line(alloc, &mut lines, &mut shelf, Some(line)) {
+            return Ok(false);
+        }
+    }
+    Ok(gives_line(alloc, &mut lines, &mut shelf, None))
+}
+
+/// Bytes, how many of them are given, and the lines of these.
+static LINES: [(&[u8], u64, &[&[u8]]); 9] = [
+    (b"", 9, &[]),
+    (b"ab\n", 0, &[]),
+    (b"ab\ncd\n", 6, &[b"ab\n", b"cd\n"]),
+    (b"ab\ncd\n", u64::MAX, &[b"ab\n", b"cd\n"]),
+    (b"ab\n\n\ncd", 9, &[b"ab\n", b"\n", b"\n", b"cd"]),
+    (b"ab\ncd\n", 5, &[b"ab\n", b"cd"]),
+    (b"ab\ncd\n", 3, &[b"ab\n"]),
+    (b"ab\r\ncd", 4, &[b"ab\r\n"]),
+    (b"\n", 1, &[b"\n"]),
+];
+
+#[test]
+fn lines_of_small_files_are_given(rt: HostRuntime) -> Result<(), Fail> {
+    for &(bytes, size, wanted) in &LINES {
+        let is_so = lines_are(rt.alloc(), bytes, size, wanted)?;
+        assert!(rt; is_so);
+    }
+    Ok(())
+}
+
+/// A line of 10,001 bytes, and 5,000 bytes without a newline.
+fn two_lines(alloc: Global) -> Result<Vec<u8>, NoMemory> {
+    let mut bytes = Vec::new(alloc);
+    for i in 0..15_001usize {
+        bytes.push(if i == 10_000 { b'\n' } else { b'x' })?;
+    }
+    Ok(bytes)
+}
+
+/// Whether the next call gives nothing, or this refusal.
+fn gives_end(
+    alloc: Global,
+    lines: &mut Lines<'_>,
+    shelf: &mut MemShelf,
+    end: Option<LineFault>,
+) -> bool {
+    match lines.next(alloc, shelf) {
+        Ok(Some(_)) => false,
+        Ok(None) => end.is_none(),
+        Err(fault) => end == Some(fault),
+    }
+}
+
+/// Whether the lines of a file have these lengths up to their end or a refusal, which stays, where a call fails.
+fn lengths_are(
+    alloc: Global,
+    whole: &[u8],
+    (name, size, failing): (&str, u64, u64),
+    lengths: &[usize],
+    end: Option<LineFault>,
+) -> Result<bool, NoMemory> {
+    let mut shelf = MemShelf::new(alloc);
+    shelf.set("e", whole)?;
+    shelf.fail(failing, 0)?;
+    let mut lines = Lines::new(name, size);
+    for &length in lengths {
+        match lines.next(alloc, &mut shelf) {
+            Ok(Some(line)) if line.len() == length => {}
+            _ => return Ok(false),
+        }
+    }
+    let first = gives_end(alloc, &mut lines, &mut shelf, end);
+    shelf.set(name, whole)?;
+    Ok(first && gives_end(alloc, &mut lines, &mut shelf, end))
+}
+
+/// A name, a size and a call that fails; how long the lines are that are given of the two; and what comes behind them.
+static LENGTHS: [((&str, u64, u64), &[usize], Option<LineFault>); 8] = [
+    (("e", 15_001, 4), &[10_001, 5_000], None),
+    (("e", u64::MAX, 5), &[10_001, 5_000], None),
+    (("e", 10_000, 3), &[10_000], None),
+    (("e", 10_002, 3), &[10_001, 1], None),
+    (("e", u64::MAX, 4), &[10_001], Some(LineFault::Fault)),
+    (("e", u64::MAX, 3), &[10_001], Some(LineFault::Fault)),
+    (("e", u64::MAX, 1), &[], Some(LineFault::Fault)),
+    (("f", u64::MAX, 9), &[], Some(LineFault::Fault)),
+];
+
+#[test]
+fn long_lines_are_given_or_refused(rt: HostRuntime) -> Result<(), Fail> {
+    let whole = two_lines(rt.alloc())?;
+    for &(read, lengths, end) in &LENGTHS {
+        let is_so = lengths_are(rt.alloc(), &whole, read, lengths, end)?;
+        assert!(rt; is_so);
+    }
+    Ok(())
+}
+
+/// How many lines of the pattern are given, and how many bytes these have, where the file holds other bytes from the second
+/// call on. No number where a line isn't what stands next.
+fn lines_given(
+    alloc: Global,
+    whole: &[u8],
+    later: &[u8],
+) -> Result<Option<(usize, usize)>, NoMemory> {
+    let mut shelf = MemShelf::new(alloc);
+    shelf.set("e", whole)?;
+    let mut lines = Lines::new("e", u64::MAX);
+    let (mut count, mut at) = (0usize, 0usize);
+    for _ in 0..1_000 {
+        let Ok(Some(line)) = lines.next(alloc, &mut shelf) else {
+            return Ok(Some((count, at)));
+        };
+        if at > whole.len() || !whole[at..].starts_with(line.as_slice()) {
+            return Ok(None);
+        }
+        at = at.saturating_add(line.len());
+        count = count.saturating_add(1);
+        shelf.set("e", later)?;
+    }
+    Ok(None)
+}
+
+/// The pattern has 797 newlines, 17 of them in its first 4,096 bytes. A file that shrinks ends where the shelf gives nothing.
+#[test]
+fn lines_follow_each_other(rt: HostRuntime) -> Result<(), Fail> {
+    let whole = pattern(rt.alloc())?;
+    let all = lines_given(rt.alloc(), &whole, &whole)?;
+    assert!(rt; all == Some((798, 200_000)));
+    let front = lines_given(rt.alloc(), &whole, b"abc")?;
+    assert!(rt; front == Some((18, 4_096)));
+    Ok(())
+}
+
 /// A call on a shelf, and what it gives: whether it succeeds, or up to four bytes that are read.
 #[derive(Clone, Copy)]
 enum Call {
@@ -229,6 +417,10 @@ fn the_system_has_files(rt: HostRuntime) -> Result<(), Fail> {
     assert!(rt; all_give(&mut shelf, name, &CALLS));
     assert!(rt; gives(&mut shelf, name, Call::Append(b"abcdef", true)));
     assert!(rt; file_is(rt.alloc(), &mut shelf, name, b"abcdef"));
+    assert!(rt; measure(&mut shelf, name, 6) == Ok(6));
+    let mut lines = Lines::new(name, 6);
+    assert!(rt; gives_line(rt.alloc(), &mut lines, &mut shelf, Some(b"abcdef")));
+    assert!(rt; gives_line(rt.alloc(), &mut lines, &mut shelf, None));
     fs::remove_file(&rt, name)?;
     assert!(rt; all_give(&mut shelf, name, &REMOVED));
     for name in [name, ".", ""] {

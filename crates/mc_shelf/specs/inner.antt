@@ -1,0 +1,3 @@
+pub mod OnlyReads
+pub mod Ahead
+pub mod Ends
