@@ -3,5 +3,6 @@
 mod axioms;
 mod checking;
 mod evaluating;
+mod further_rules;
 mod reading;
 mod terms;
