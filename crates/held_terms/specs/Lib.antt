@@ -1,0 +1,4 @@
+pub mod Held
+pub mod Subterms
+pub mod Image
+pub mod inner

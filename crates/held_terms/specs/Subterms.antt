@@ -1,0 +1,52 @@
+-- Lists that have each subterm of terms: by their length the steps of a rule are bounded.
+use Rattle.std.specs.Prelude.{ℕ, All, List, Option, Some, None}
+use Rattle.std.specs.List.{Contains}
+use Rattle.word_terms.specs.Tree.{WordTree, MemTree, CondTree, Const, Var, Bin, Extend, Load, MemVar, Store, Compare, Neg, Inside}
+use Rattle.term_arena.specs.declared.node.Node.{Node}
+use Rattle.term_arena.specs.Arena.{Tree, OfWord, OfMem, OfCond, tree_of}
+use Rattle.held_terms.specs.declared.held.HeldSide.{HeldSide}
+
+-- ---- of one term
+
+abbrev mutual
+  -- the list has the term and each of its subterms
+  pub HasWord : List Tree → WordTree → Type 0
+  HasWord ts (Const n) = Contains ts (OfWord (Const n))
+  HasWord ts (Var i) = Contains ts (OfWord (Var i))
+  HasWord ts (Bin op a b) = Contains ts (OfWord (Bin op a b)) × HasWord ts a × HasWord ts b
+  HasWord ts (Extend ext a) = Contains ts (OfWord (Extend ext a)) × HasWord ts a
+  HasWord ts (Load width m a) = Contains ts (OfWord (Load width m a)) × HasMem ts m × HasWord ts a
+
+  pub HasMem : List Tree → MemTree → Type 0
+  HasMem ts (MemVar i) = Contains ts (OfMem (MemVar i))
+  HasMem ts (Store width m a v) = Contains ts (OfMem (Store width m a v)) × HasMem ts m × HasWord ts a × HasWord ts v
+
+abbrev pub HasCond : List Tree → CondTree → Type 0
+HasCond ts (Compare cmp a b) = Contains ts (OfCond (Compare cmp a b)) × HasWord ts a × HasWord ts b
+HasCond ts (Neg c) = Contains ts (OfCond (Neg c)) × HasCond ts c
+HasCond ts (Inside width m a) = Contains ts (OfCond (Inside width m a)) × HasMem ts m × HasWord ts a
+
+-- .. of the term of a number, if there is one
+abbrev pub HasTree : List Tree → Option Tree → Type 0
+HasTree ts (Some (OfWord t)) = HasWord ts t
+HasTree ts (Some (OfMem m)) = HasMem ts m
+HasTree ts (Some (OfCond c)) = HasCond ts c
+HasTree ts None = Unit {0}
+
+-- ---- of the terms of an assertion
+
+-- the list has each subterm of what the registers hold, of the memories, of the assertion
+abbrev pub HasRegisters : List Node → List (ℕ × ℕ) → List Tree → Type 0
+HasRegisters ns rs ts = All (λ r. HasTree ts (tree_of ns r.1)) rs
+
+abbrev pub HasMems : List Node → List ℕ → List Tree → Type 0
+HasMems ns ks ts = All (λ k. HasTree ts (tree_of ns k)) ks
+
+pub record HasSide (ns : List Node) (s : HeldSide) (ts : List Tree) : Type 0 where
+  pub pc : HasTree ts (tree_of ns s.pc)
+  pub regs : HasRegisters ns s.regs ts
+  pub mems : HasMems ns s.mems ts
+
+-- .. of two assertions
+abbrev pub HasSides : List Node → HeldSide → HeldSide → List Tree → Type 0
+HasSides ns a b ts = HasSide ns a ts × HasSide ns b ts

@@ -1,0 +1,158 @@
+//! Terms put in for variables: the number of the image of a term.
+
+ghost use Rattle.std.specs.Prelude.{◌≡◌, ◌<◌, IfOk, IfSome, Some as Just, length, slice_get, unwrap_or};
+ghost use Rattle.std.specs.List.{Contains};
+ghost use Rattle.word_terms.specs.Substitution.{listed};
+ghost use Rattle.term_arena.specs.Arena.{Extends};
+ghost use Rattle.held_terms.specs.Image.{IsImage, IsReady, put_for_numbers};
+ghost use Rattle.held_terms.specs.inner.ImageNode.{ImageNode};
+
+use rv_words::{List, NoMemory};
+use std::sync::ledger::Ledger;
+use term_arena::{Arena, Node, Steps, law_of_arenas};
+
+/// The number of the image of a term. Images that are known are kept in a list.
+#[tactic(auto, using(crate::proofs::ImageLemmas::image_stays, crate::proofs::ImageLemmas::get_stays, crate::proofs::ImageLemmas::longer))]
+pub fn image<L: Ledger>(
+    arena: &mut Arena,
+    words: &[(u32, u64)],
+    mems: &[(u32, u64)],
+    known: &mut List<(u64, u64)>,
+    x: u64,
+    steps: &mut Steps<L>,
+) -> Result<u64, NoMemory>
+    requires there { x < length arena.old }
+    requires ready { IsReady arena.old words.now mems.now known.old }
+    ensures image { IfOk result (λ y. IsImage arena.new (put_for_numbers arena.new words.now mems.now) x y) }
+    ensures ready { IsReady arena.new words.now mems.now known.new }
+    ensures grows { Extends arena.old arena.new }
+{
+    if let Some(y) = image_in(known.as_slice(), x) {
+        return Ok(y);
+    }
+    let n = arena.node(x, steps);
+    match n {
+        Node::Const(_) => Ok(x),
+        Node::WordVar(i) => Ok(number_for(words, i, x)),
+        Node::MemVar(i) => Ok(number_for(mems, i, x)),
+        Node::Bin(op, a, b) => {
+            let a = image(arena, words, mems, known, a, steps)?;
+            let b = image(arena, words, mems, known, b, steps)?;
+            made(arena, words, mems, known, x, n, Node::Bin(op, a, b), steps)
+        }
+        Node::Extend(ext, a) => {
+            let a = image(arena, words, mems, known, a, steps)?;
+            made(arena, words, mems, known, x, n, Node::Extend(ext, a), steps)
+        }
+        Node::Load(width, m, a) => {
+            let m = image(arena, words, mems, known, m, steps)?;
+            let a = image(arena, words, mems, known, a, steps)?;
+            made(
+                arena,
+                words,
+                mems,
+                known,
+                x,
+                n,
+                Node::Load(width, m, a),
+                steps,
+            )
+        }
+        Node::Store(width, m, a, v) => {
+            let m = image(arena, words, mems, known, m, steps)?;
+            let a = image(arena, words, mems, known, a, steps)?;
+            let v = image(arena, words, mems, known, v, steps)?;
+            made(
+                arena,
+                words,
+                mems,
+                known,
+                x,
+                n,
+                Node::Store(width, m, a, v),
+                steps,
+            )
+        }
+        Node::Compare(cmp, a, b) => {
+            let a = image(arena, words, mems, known, a, steps)?;
+            let b = image(arena, words, mems, known, b, steps)?;
+            made(
+                arena,
+                words,
+                mems,
+                known,
+                x,
+                n,
+                Node::Compare(cmp, a, b),
+                steps,
+            )
+        }
+        Node::Neg(c) => {
+            let c = image(arena, words, mems, known, c, steps)?;
+            made(arena, words, mems, known, x, n, Node::Neg(c), steps)
+        }
+        Node::Inside(width, m, a) => {
+            let m = image(arena, words, mems, known, m, steps)?;
+            let a = image(arena, words, mems, known, a, steps)?;
+            made(
+                arena,
+                words,
+                mems,
+                known,
+                x,
+                n,
+                Node::Inside(width, m, a),
+                steps,
+            )
+        }
+    }
+}
+
+/// Adds the image of a node, whose children were made, and keeps that it is known.
+fn made<L: Ledger>(
+    arena: &mut Arena,
+    words: &[(u32, u64)],
+    mems: &[(u32, u64)],
+    known: &mut List<(u64, u64)>,
+    x: u64,
+    n: Node,
+    m: Node,
+    steps: &mut Steps<L>,
+) -> Result<u64, NoMemory>
+    requires at { slice_get arena.old x ≡ Just n }
+    requires node { ImageNode arena.old (put_for_numbers arena.old words.now mems.now) n m }
+    requires ready { IsReady arena.old words.now mems.now known.old }
+    ensures image { IfOk result (λ y. IsImage arena.new (put_for_numbers arena.new words.now mems.now) x y) }
+    ensures ready { IsReady arena.new words.now mems.now known.new }
+    ensures grows { Extends arena.old arena.new }
+{
+    law_of_arenas();
+    arena.law_of_nodes();
+    let y = arena.add(m, steps)?;
+    known.push((x, y))?;
+    Ok(y)
+}
+
+/// The image of a number, if it is known.
+fn image_in(known: &[(u64, u64)], x: u64) -> Option<u64>
+    ensures { IfSome result (λ y. Contains known.now (x, y)) }
+{
+    for pair in known {
+        if pair.0 == x {
+            return Some(pair.1);
+        }
+    }
+    None
+}
+
+/// The number that is listed for a variable, or that of the variable.
+fn number_for(list: &[(u32, u64)], i: u32, x: u64) -> u64
+    ensures { result ≡ unwrap_or (listed list.now i) x }
+{
+    for entry in list {
+        if entry.0 == i {
+            return entry.1;
+        }
+    }
+    x
+}

@@ -1,0 +1,155 @@
+//! The rules: whether a stated triple is an instance of one on its premises.
+
+ghost use Rattle.std.specs.Prelude.{◌≡◌, ◌↔◌, ◌+◌, ◌*◌, ◌≤◌, IfOk, IsTrue, List as Items, length, map};
+ghost use Rattle.frame_compose.specs.Rules.{IsComposed, IsExtended, IsFramed};
+ghost use Rattle.triple_kernel.specs.Rules.{AreAmong, IsStrengthened, IsWeakened};
+ghost use Rattle.held_terms.specs.Held.{IsHeldAt, fact_of, side_of, triple_of};
+ghost use Rattle.held_terms.specs.Subterms.{HasSides};
+ghost use Rattle.term_arena.specs.Arena.{Tree};
+
+use crate::further::{are_listed, same_further, same_further_mems};
+use crate::held::Held;
+use crate::missing::are_facts_of_both;
+use crate::same::{are_among, same_facts, same_side, same_word};
+use crate::sides::are_swapped;
+use crate::union::is_union;
+use rv_words::NoMemory;
+use sep_assert::{code_within, same_code};
+use std::alloc::Global;
+use std::sync::ledger::Ledger;
+use term_arena::{Arena, Steps};
+
+/// Further registers and memories, which stay as they are.
+pub fn is_frame(arena: &Arena, p: &Held, stated: &Held) -> bool
+    requires p { IsHeldAt arena.now p.now }
+    requires stated { IsHeldAt arena.now stated.now }
+    ensures { IsTrue result ↔ IsFramed (triple_of arena.now p.now) (triple_of arena.now stated.now) }
+{
+    same_facts(arena, p.facts.as_slice(), stated.facts.as_slice())
+        && same_code(&p.code, &stated.code)
+        && same_word(arena, p.pre.pc, stated.pre.pc)
+        && same_word(arena, p.post.pc, stated.post.pc)
+        && are_listed(arena, p.pre.regs.as_slice(), stated.pre.regs.as_slice())
+        && are_listed(arena, p.post.regs.as_slice(), stated.post.regs.as_slice())
+        && same_further(
+            arena,
+            p.pre.regs.as_slice(),
+            stated.pre.regs.as_slice(),
+            p.post.regs.as_slice(),
+            stated.post.regs.as_slice(),
+        )
+        && same_further_mems(
+            arena,
+            p.pre.mems.as_slice(),
+            stated.pre.mems.as_slice(),
+            p.post.mems.as_slice(),
+            stated.post.mems.as_slice(),
+        )
+}
+
+/// More code.
+pub fn is_extension(arena: &Arena, p: &Held, stated: &Held) -> bool
+    requires p { IsHeldAt arena.now p.now }
+    requires stated { IsHeldAt arena.now stated.now }
+    ensures { IsTrue result ↔ IsExtended (triple_of arena.now p.now) (triple_of arena.now stated.now) }
+{
+    same_facts(arena, p.facts.as_slice(), stated.facts.as_slice())
+        && same_side(arena, &p.pre, &stated.pre)
+        && same_side(arena, &p.post, &stated.post)
+        && code_within(&p.code, &stated.code)
+}
+
+/// One theorem after another, which begins where it ends.
+pub fn is_composition(arena: &Arena, p: &Held, q: &Held, stated: &Held) -> bool
+    requires p { IsHeldAt arena.now p.now }
+    requires q { IsHeldAt arena.now q.now }
+    requires stated { IsHeldAt arena.now stated.now }
+    ensures { IsTrue result ↔ IsComposed (triple_of arena.now p.now) (triple_of arena.now q.now) (triple_of arena.now stated.now) }
+{
+    same_side(arena, &p.post, &q.pre)
+        && is_union(&p.code, &q.code, &stated.code)
+        && same_side(arena, &p.pre, &stated.pre)
+        && same_side(arena, &q.post, &stated.post)
+        && are_facts_of_both(
+            arena,
+            p.facts.as_slice(),
+            q.facts.as_slice(),
+            stated.facts.as_slice(),
+        )
+}
+
+/// More facts, and another precondition that they make the same.
+pub fn is_strengthened<L: Ledger>(
+    alloc: Global,
+    arena: &Arena,
+    p: &Held,
+    stated: &Held,
+    steps: &mut Steps<L>,
+) -> Result<bool, NoMemory>
+    requires p { IsHeldAt arena.now p.now }
+    requires stated { IsHeldAt arena.now stated.now }
+    ensures answer { IfOk result (λ r. IsTrue r ↔ IsStrengthened (triple_of arena.now p.now) (triple_of arena.now stated.now)) }
+    ensures steps { (ts : Items Tree) → HasSides arena.now p.now.pre stated.now.pre ts → steps.new ≤ steps.old + 2 * (length ts * length ts) }
+{
+    if !keeps_after(arena, p, stated) {
+        return Ok(false);
+    }
+    let same = are_swapped(
+        alloc,
+        arena,
+        stated.facts.as_slice(),
+        &p.pre,
+        &stated.pre,
+        steps,
+    )?;
+    Ok(same)
+}
+
+/// More facts, and another postcondition that they make the same.
+pub fn is_weakened<L: Ledger>(
+    alloc: Global,
+    arena: &Arena,
+    p: &Held,
+    stated: &Held,
+    steps: &mut Steps<L>,
+) -> Result<bool, NoMemory>
+    requires p { IsHeldAt arena.now p.now }
+    requires stated { IsHeldAt arena.now stated.now }
+    ensures answer { IfOk result (λ r. IsTrue r ↔ IsWeakened (triple_of arena.now p.now) (triple_of arena.now stated.now)) }
+    ensures steps { (ts : Items Tree) → HasSides arena.now p.now.post stated.now.post ts → steps.new ≤ steps.old + 2 * (length ts * length ts) }
+{
+    if !keeps_before(arena, p, stated) {
+        return Ok(false);
+    }
+    let same = are_swapped(
+        alloc,
+        arena,
+        stated.facts.as_slice(),
+        &p.post,
+        &stated.post,
+        steps,
+    )?;
+    Ok(same)
+}
+
+/// The same code and postcondition, and at least the same facts.
+fn keeps_after(arena: &Arena, p: &Held, stated: &Held) -> bool
+    requires p { IsHeldAt arena.now p.now }
+    requires stated { IsHeldAt arena.now stated.now }
+    ensures { IsTrue result ↔ ((p.now.code.ranges ≡ stated.now.code.ranges) × (side_of arena.now p.now.post ≡ side_of arena.now stated.now.post) × AreAmong (map (fact_of arena.now) p.now.facts) (map (fact_of arena.now) stated.now.facts)) }
+{
+    same_code(&p.code, &stated.code)
+        && same_side(arena, &p.post, &stated.post)
+        && are_among(arena, p.facts.as_slice(), stated.facts.as_slice())
+}
+
+/// The same code and precondition, and at least the same facts.
+fn keeps_before(arena: &Arena, p: &Held, stated: &Held) -> bool
+    requires p { IsHeldAt arena.now p.now }
+    requires stated { IsHeldAt arena.now stated.now }
+    ensures { IsTrue result ↔ ((p.now.code.ranges ≡ stated.now.code.ranges) × (side_of arena.now p.now.pre ≡ side_of arena.now stated.now.pre) × AreAmong (map (fact_of arena.now) p.now.facts) (map (fact_of arena.now) stated.now.facts)) }
+{
+    same_code(&p.code, &stated.code)
+        && same_side(arena, &p.pre, &stated.pre)
+        && are_among(arena, p.facts.as_slice(), stated.facts.as_slice())
+}
