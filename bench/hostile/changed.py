@@ -1,12 +1,15 @@
 #!/usr/bin/env python3
-"""changed.py PROGRAM [COUNT [PROCESSES [FIRST]]]: gives a built program COUNT changed proofs and COUNT changed ELF files, and looks at how it ends.
+"""changed.py PROGRAM [COUNT [PROCESSES [FIRST]]]: gives a built program COUNT changed proofs, ELF files and certificates each, and looks at how it ends.
 
 Each case is drawn from its number: one of some small files after one change to three, by bytes or by what the file is made of (`changing.py`).
 
 - A changed proof goes to `check`. Where it is accepted, each function in it is still what the code does: from drawn registers and bytes, `run` must come
   to where evaluation ends, with the same registers and bytes, and with all other registers as they were. Evaluation that doesn't end says nothing.
+  It goes to `simplify` and `smt` as well; what `simplify` writes, `laws` must accept.
 - A changed ELF file goes to `decompile`, to `check` with the old proof, or to `run`. What is decompiled must be accepted and is compared in the same
   manner, and so is what is accepted; what isn't leaves no OUT.
+- A changed certificate goes to `laws`. Where it is accepted, and for each that `simplify` writes, evaluation with the new definitions must answer as with
+  the old ones, from drawn registers and bytes.
 
 Each answer must be one of those that docs/COMMANDS.md lists for the command, with its exit status, and tell a line of the text where it tells one.
 COUNT is 50,000, as many processes run as there are processors, and numbers begin at FIRST, 0. A case is told with its number where something is
@@ -62,6 +65,10 @@ def groups(text):
     return found.values()
 
 
+def first_group(text):
+    return next(iter(groups(text)))
+
+
 def segments(file):
     """Address and bytes of each segment of a file that the program reads."""
     (at,), (count,) = struct.unpack_from("<Q", file, 32), struct.unpack_from("<H", file, 56)
@@ -100,7 +107,7 @@ class Tester:
     def __init__(self, program, folder):
         self.folder = tempfile.mkdtemp(dir=folder)
         self.speaker = Speaker(program, self.path("told"))
-        self.files = []
+        self.files, self.certificates = [], []
         for elf, proof, name in FILES:
             with open(os.path.join(TOP, elf), "rb") as file:
                 code = file.read()
@@ -109,6 +116,10 @@ class Tester:
             found = re.search(rb"^code \(\S+ (\w+)\)", text, re.M)
             start = code.index(bytes.fromhex(found[1].decode()))
             self.files.append((code, text, name, (start, start + len(found[1]) // 2)))
+            group = first_group(text)
+            self.speaker.say("simplify", os.path.join(TOP, proof), group.name, self.path("certificate"))
+            with open(self.path("certificate"), "rb") as file:
+                self.certificates.append((text, file.read()))
         self.told = collections.Counter()
 
     def path(self, name):
@@ -124,7 +135,7 @@ class Tester:
         status, lines = self.speaker.say(*words)
         if not is_stated(words[0], status, lines) or status in (2, 4, 5):
             raise Wrong(f"{' '.join(map(str, words))[:300]}: status {status}, {lines[:200]!r}")
-        form = b" ".join(lines.split()[:2]) if status in (1, 3) and words[0] == "check" else lines.split()[0]
+        form = b" ".join(lines.split()[:2]) if status in (1, 3) and words[0] in ("check", "laws") else lines.split()[0]
         self.told[f"{words[0]}: {status} {form.decode()}"] += 1
         return status, lines
 
@@ -164,6 +175,37 @@ class Tester:
         elf, proof = self.write("e", code), self.write("p", changed)
         if self.check(elf, proof, changed):
             self.compare(draw, elf, proof, code, changed)
+        group = first_group(text)
+        self.writes("smt", proof, group.name, str(draw.randrange(3)))
+        certificate = self.writes("simplify", proof, group.name)
+        if certificate is not None:
+            self.judge(draw, proof, self.write("c", certificate), certificate, True)
+
+    def try_certificate(self, number):
+        draw = random.Random(b"%d" % number)
+        text, certificate = draw.choice(self.certificates)
+        changed = changed_text(draw, certificate)
+        self.judge(draw, self.write("p", text), self.write("c", changed), changed, False)
+
+    def judge(self, draw, proof, path, certificate, is_due):
+        """Has a certificate judged; it is accepted where that is due. With the definitions that it then gives, evaluation answers as with those of the proof."""
+        status, lines = self.say("laws", proof, path)
+        told = re.match(rb"(?:unreadable laws|refused step) (\d+)", lines)
+        if told and int(told[1]) > certificate.count(b"\n") + 1:
+            raise Wrong(f"laws: {lines!r} of {certificate.count(bytes([10]))} lines")
+        if status != 0:
+            if is_due:
+                raise Wrong(f"what is simplified isn't accepted: {lines!r}")
+            return
+        group = first_group(certificate)
+        head, definitions = certificate[: certificate.index(b"\ndef ")], certificate[certificate.index(b"\nresult\n") + len(b"\nresult") :]
+        new = self.write("n", head.replace(b"mclaws", b"mcproof", 1) + definitions)
+        for _ in range(STARTS):
+            words = group.name, str(TURNS), *Start(draw, group).words
+            answers = [self.say("eval", path, *words) for path in (proof, new)]
+            if answers[0] != answers[1]:
+                raise Wrong(f"eval {words}: {answers[0]!r}, with the new definitions {answers[1]!r}")
+            self.told["compared with the new definitions"] += 1
 
     def try_elf(self, number):
         draw = random.Random(2 * number + 1)
@@ -180,26 +222,32 @@ class Tester:
             self.decompile(draw, elf, changed, name)
 
     def decompile(self, draw, elf, code, name):
+        text = self.writes("decompile", elf, name)
+        if text is not None:
+            proof = self.write("p", text)
+            if not self.check(elf, proof, text):
+                raise Wrong("what is decompiled isn't accepted")
+            self.compare(draw, elf, proof, code, text)
+
+    def writes(self, command, file, *words):
+        """What a command writes into OUT, if it does. OUT stands first behind the file for `decompile`, else last."""
         out = self.path("out")
-        status, _ = self.say("decompile", elf, out, name)
+        status, _ = self.say(command, file, *((out, *words) if command == "decompile" else (*words, out)))
         if os.path.exists(out) != (status == 0):
-            raise Wrong(f"decompile: status {status}, and OUT is {'there' if os.path.exists(out) else 'missing'}")
-        if status == 0:
-            with open(out, "rb") as file:
-                text = file.read()
-            try:
-                if not self.check(elf, out, text):
-                    raise Wrong("what is decompiled isn't accepted")
-                self.compare(draw, elf, out, code, text)
-            finally:
-                os.remove(out)
+            raise Wrong(f"{command}: status {status}, and OUT is {'there' if os.path.exists(out) else 'missing'}")
+        if status != 0:
+            return None
+        with open(out, "rb") as file:
+            text = file.read()
+        os.remove(out)
+        return text
 
     def try_case(self, case):
-        """Tries a proof or an ELF file, and tells what is wrong and what was answered."""
+        """Tries a proof, an ELF file or a certificate, and tells what is wrong and what was answered."""
         kind, number = case
         self.told = collections.Counter()
         try:
-            self.try_text(number) if kind == "proof" else self.try_elf(number)
+            {"proof": self.try_text, "ELF file": self.try_elf, "certificate": self.try_certificate}[kind](number)
         except Wrong as why:
             return f"{kind} {number}: {why}", self.told
         return None, self.told
@@ -240,7 +288,7 @@ def main():
         sys.exit(__doc__)
     program = os.path.abspath(sys.argv[1])
     count, processes, first = (int(word) for word in sys.argv[2:] + [50_000, os.cpu_count(), 0][len(sys.argv) - 2 :])
-    cases = [(kind, first + i) for i in range(count) for kind in ("proof", "ELF file")]
+    cases = [(kind, first + i) for i in range(count) for kind in ("proof", "ELF file", "certificate")]
     wrong, told, start = [], collections.Counter(), time.monotonic()
     with tempfile.TemporaryDirectory() as folder, multiprocessing.Pool(processes, begin, (program, folder)) as pool:
         for done, (why, answers) in enumerate(pool.imap_unordered(try_case, cases, 20), 1):
@@ -253,7 +301,7 @@ def main():
         print()
     for answer in sorted(told):
         print(f"{told[answer]:9,}  {answer}")
-    print(f"{count:,} proofs, {count:,} ELF files, {len(wrong)} otherwise, {time.monotonic() - start:.0f} s")
+    print(f"{count:,} proofs, {count:,} ELF files, {count:,} certificates, {len(wrong)} otherwise, {time.monotonic() - start:.0f} s")
     for why in wrong:
         print(why)
     return 1 if wrong else 0

@@ -23,7 +23,7 @@ from concurrent.futures import ThreadPoolExecutor
 
 HERE = os.path.dirname(os.path.abspath(__file__))
 EXAMPLES = os.path.join(HERE, "..", "..", "examples")
-FILES = [os.path.join(EXAMPLES, *path) for path in (("gcd", "gcd.elf"), ("gcd", "gcd.proof"), ("refused", "lcm.elf"), ("sum", "sum.elf"), ("sum", "sum.proof"))]
+FILES = [os.path.join(EXAMPLES, *path.split("/")) for path in ("average/average.proof", "gcd/gcd.elf", "gcd/gcd.proof", "refused/lcm.elf", "sum/sum.elf", "sum/sum.proof")]
 NUMBERS = "mem=0x8000:01000000000000000200000000000000"
 START = ["x1=0x2000", "x10=0x8000", "x11=0x2", NUMBERS]
 CASES = (
@@ -33,6 +33,9 @@ CASES = (
     ["decompile", "gcd.elf", "OUT", "gcd"],
     ["selftest", "7", "12"],
     ["decompile", "lcm.elf", "OUT", "lcm"],
+    ["simplify", "gcd.proof", "gcd", "OUT"],
+    ["laws", "gcd.proof", "gcd.cert"],
+    ["smt", "average.proof", "average", "0", "OUT"],
 )
 OLD = b"what was there before"
 # The status where a call of the kind fails, and its line.
@@ -93,6 +96,15 @@ class Case:
         return end.status == status and (end.lines == line or is_front) and may_be_held and is_whole
 
 
+def contents(folder):
+    """The bytes of each file in a folder."""
+    found = {}
+    for name in os.listdir(folder):
+        with open(os.path.join(folder, name), "rb") as file:
+            found[name] = file.read()
+    return found
+
+
 def try_case(case, pool):
     """Has each call fail, and prints how the runs end. Gives how many there were and what went wrong."""
     runs, wrong = 0, []
@@ -117,22 +129,17 @@ def main():
         library, files = os.path.join(folder, "failing.so"), os.path.join(folder, "files")
         subprocess.run(["cc", "-O2", "-shared", "-fPIC", "-o", library, os.path.join(HERE, "failing.c")], check=True)
         os.mkdir(files)
-        before = {}
         for path in FILES:
             shutil.copy(path, files)
-            with open(path, "rb") as file:
-                before[os.path.basename(path)] = file.read()
+        subprocess.run([program, "simplify", "gcd.proof", "gcd", "gcd.cert"], cwd=files, check=True, stdout=subprocess.DEVNULL)
+        before = contents(files)
         for words in CASES:
             case = Case(program, library, files, words)
             if not case.whole.counts.get("memory"):
                 sys.exit("the program asks the C library for no memory: it can't be told that there is none")
             count, found = try_case(case, pool)
             runs, wrong = runs + count, wrong + found
-        after = {}
-        for name in os.listdir(files):
-            with open(os.path.join(files, name), "rb") as file:
-                after[name] = file.read()
-        wrong += ["a file came, went or changed"] * (after != before)
+        wrong += ["a file came, went or changed"] * (contents(files) != before)
     print(f"{runs:,} runs, {len(wrong)} otherwise")
     for why in wrong:
         print(why)

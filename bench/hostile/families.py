@@ -77,13 +77,13 @@ LOOP = states(f"axiom {ENTRY} {jump(0):#x} next", behind=ENTRY)
 # ---- `check`: leaves of bodies, and theorems cited for them
 
 
-@family(500)
+@family(20_000)
 def leaves(n):
     """n leaves behind n steps, each with a theorem."""
     return TURN, text(AGAIN, *["let 0x0"] * n, *tree(n, "again ;"), LOOP, "loop 0" + " 0" * n, code=TURN.hex()), CHECK
 
 
-@family(500)
+@family(20_000)
 def leaves_refused(n):
     """The same, and no theorem is cited."""
     return TURN, text(AGAIN, *["let 0x0"] * n, *tree(n, "again ;"), LOOP, "loop 0", code=TURN.hex()), CHECK

@@ -23,11 +23,24 @@ ANSWERS = {
     },
     "decompile": {0: ["decompiled NAME A N N"], 1: [f"refused NAME {why}" for why in OUTSIDE], 3: UNREADABLE_ELF, 7: ["over limit elf"]},
     "eval": {0: ["done N"], 1: ["refused side N N", "refused no function", "refused def N N"], 3: ["unreadable text N"], 7: ["over limit proof", "turns used"]},
+    "laws": {
+        0: ["accepted N"],
+        1: ["refused no function", "refused group", "refused step N", "refused result", "refused def N N"],
+        3: ["unreadable text N", "unreadable laws N"],
+        7: ["over limit proof", "over limit laws"],
+    },
     "run": {
         0: ["met N"],
         1: ["refused NAME no-such", "refused NAME ambiguous A A", *(f"refused stuck N {why}" for why in STUCK)],
         3: UNREADABLE_ELF,
         7: ["over limit elf", "steps used"],
+    },
+    "simplify": {0: ["simplified N"], 1: ["refused no function", "refused def N N"], 3: ["unreadable text N"], 7: ["over limit proof"]},
+    "smt": {
+        0: ["exported N"],
+        1: ["refused no function", "refused no def", "refused loop N", "refused def N N"],
+        3: ["unreadable text N"],
+        7: ["over limit proof"],
     },
 }
 # Any command may answer these.
