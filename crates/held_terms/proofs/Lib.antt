@@ -1,5 +1,8 @@
+pub mod CondLemmas
+pub mod ExitLemmas
 pub mod FewLemmas
 pub mod ImageLemmas
+pub mod InstanceLemmas
 pub mod Indices
 pub mod Registers
 pub mod SideLemmas

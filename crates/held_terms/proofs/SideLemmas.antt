@@ -1,13 +1,11 @@
 -- Tables over whole assertions.
-use Rattle.std.proofs.Common.{◌≡◌, ℕ, ◌+◌, ◌*◌, ◌<◌, ◌≤◌, List, [], ◌∷◌, ◌++◌, length, get_or, subst, inl, inr}
+use Rattle.std.proofs.Common.{◌≡◌, ℕ, ◌<◌, List, [], length, get_or, subst, inl, inr}
 use Rattle.std.specs.List.{Contains}
 use Rattle.std.proofs.lemmas.List.Elements.{Contains-append_cases}
 use Rattle.term_arena.specs.declared.node.Node.{Node}
-use Rattle.term_arena.specs.Arena.{Tree, tree_of, IsArena}
+use Rattle.term_arena.specs.Arena.{Tree}
 use Rattle.term_arena.proofs.Places.{at_contains}
 use Rattle.triple_kernel.specs.Tree.{FactTree}
-use Rattle.held_terms.specs.declared.held.HeldSide.{HeldSide}
-use Rattle.held_terms.specs.Subterms.{HasTree, HasSides}
 use Rattle.held_terms.specs.inner.Table.{HasBoth, Entry, IsKnown, AreDecided, Went}
 use Rattle.held_terms.specs.inner.SideTables.{HasBothRegisters, HasBothMems, AreRight}
 use Rattle.held_terms.proofs.TableLemmas.{went_under, went_both}

@@ -1,17 +1,15 @@
 -- Two terms may be swapped where they are stated or where their children may be.
-use Rattle.std.proofs.Common.{◌≡◌, ◌⊎◌, ℕ, ◌<◌, List, Some, ap, sym, ◌∙◌, subst, inl, inr}
+use Rattle.std.proofs.Common.{◌≡◌, ◌⊎◌, ℕ, List, Some, ap, sym, subst, inl, inr}
 use Rattle.std.specs.Prelude.{◌↔◌}
 use Rattle.word_terms.specs.Tree.{WordTree, MemTree}
 use Rattle.term_arena.specs.declared.node.Node.{Node}
 use Rattle.term_arena.specs.declared.node.Node.TheVariants as node
-use Rattle.term_arena.specs.Arena.{Tree, OfWord, OfMem, as_word, as_mem, tree_of, trees_of, tree_over, word_of, mem_of, IsWordAt, IsMemAt, AreChildren, AreBelow}
+use Rattle.term_arena.specs.Arena.{as_word, as_mem, tree_of, trees_of, tree_over, word_of, mem_of, AreChildren, AreBelow}
 use Rattle.triple_kernel.specs.Tree.{FactTree}
 use Rattle.triple_kernel.specs.Swap.{SwapWord, SwapMem, WordsStated, MemsStated}
 use Rattle.held_terms.specs.declared.swaps.WordPairs.{WordPairs}
-use Rattle.held_terms.specs.declared.swaps.WordPairs.TheVariants as words
 use Rattle.held_terms.specs.declared.swaps.MemPairs.{MemPairs}
-use Rattle.held_terms.specs.declared.swaps.MemPairs.TheVariants as mems
-use Rattle.held_terms.specs.inner.Pairs.{Where, WordPairsAre, MemPairsAre, WordPairsFit, MemPairsFit, WordPairsSwap, MemPairsSwap}
+use Rattle.held_terms.specs.inner.Pairs.{WordPairsAre, MemPairsAre, WordPairsFit, MemPairsFit, WordPairsSwap, MemPairsSwap}
 
 -- what a node's word is
 abbrev word_at : List Node → Node → WordTree

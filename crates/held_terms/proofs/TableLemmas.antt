@@ -1,10 +1,10 @@
 -- Tables of pairs with answers: what is known, how many steps it took, how many pairs there are.
-use Rattle.std.proofs.Common.{◌≡◌, ◌⊎◌, ℕ, zero, suc, ◌+◌, ◌*◌, ◌<◌, ◌≤◌, Bool, true, false, List, [], ◌∷◌, ◌++◌, Option, Some, None, length, map, set, refl, ap, sym, ◌∙◌, subst, inl, inr, arith, length-append, length-set}
+use Rattle.std.proofs.Common.{◌≡◌, ◌⊎◌, ℕ, ◌+◌, ◌*◌, ◌<◌, ◌≤◌, Bool, List, [], ◌∷◌, ◌++◌, Option, Some, length, map, set, refl, ap, sym, ◌∙◌, subst, inl, inr, arith, length-append, length-set}
 use Rattle.std.specs.Prelude.{◌↔◌, IsTrue, slice_get}
 use Rattle.std.specs.List.{Contains}
 use Rattle.std.proofs.lemmas.List.{append-nil, length_push, length-map}
-use Rattle.std.proofs.lemmas.List.Elements.{Contains-push_cases, Contains-append_left, Contains-append_cases}
-use Rattle.word_terms.specs.Tree.{WordTree, MemTree, CondTree, Const, Var, Bin, Extend, Load, MemVar, Store, Compare, Neg, Inside}
+use Rattle.std.proofs.lemmas.List.Elements.{Contains-push_cases, Contains-append_cases}
+use Rattle.word_terms.specs.Tree.{Const, Var, Bin, Extend, Load, MemVar, Store, Compare, Neg, Inside}
 use Rattle.term_arena.specs.declared.node.Node.{Node}
 use Rattle.term_arena.specs.declared.node.Node.TheVariants as node
 use Rattle.term_arena.specs.Arena.{Tree, OfWord, OfMem, OfCond, tree_of, trees_of, tree_over, word_of, mem_of, IsWordAt, IsMemAt, AreChildren, IsArena}
@@ -13,10 +13,8 @@ use Rattle.term_arena.proofs.TreeLemmas.{one_number}
 use Rattle.triple_kernel.specs.Tree.{FactTree}
 use Rattle.triple_kernel.specs.Swap.{SwapWord, SwapMem}
 use Rattle.held_terms.specs.declared.swaps.WordPairs.{WordPairs}
-use Rattle.held_terms.specs.declared.swaps.WordPairs.TheVariants as words
 use Rattle.held_terms.specs.declared.swaps.MemPairs.{MemPairs}
-use Rattle.held_terms.specs.declared.swaps.MemPairs.TheVariants as mems
-use Rattle.held_terms.specs.Subterms.{HasWord, HasMem, HasCond, HasTree}
+use Rattle.held_terms.specs.Subterms.{HasWord, HasMem, HasTree}
 use Rattle.held_terms.specs.inner.Table.{HasBoth, Entry, key_of, keys_of, SwapTrees, IsDecided, IsKnown, AreDecided, IsTable, IsIn, AreIn, Went}
 use Rattle.held_terms.specs.inner.Pairs.{WordPairsAre, MemPairsAre, IsUnder, WordPairsUnder, MemPairsUnder}
 use Rattle.held_terms.proofs.FewLemmas.{few, pairs, count_of_pairs, in_pairs}

@@ -1,5 +1,5 @@
 -- What triples over the numbers of an arena stand for.
-use Rattle.std.specs.Prelude.{◌≡◌, ℕ, All, List, map}
+use Rattle.std.specs.Prelude.{ℕ, All, List, map}
 use Rattle.term_arena.specs.declared.node.Node.{Node}
 use Rattle.term_arena.specs.Arena.{word_of, mem_of, cond_of, IsWordAt, IsMemAt, IsCondAt}
 use Rattle.word_terms.specs.Tree.{WordTree}

@@ -2,15 +2,18 @@
 
 ghost use Rattle.std.specs.Prelude.{◌≡◌, ◌↔◌, ◌+◌, ◌*◌, ◌≤◌, IfOk, IsTrue, List as Items, length, map};
 ghost use Rattle.frame_compose.specs.Rules.{IsComposed, IsExtended, IsFramed};
-ghost use Rattle.triple_kernel.specs.Rules.{AreAmong, IsStrengthened, IsWeakened};
+ghost use Rattle.triple_kernel.specs.Rules.{AreAmong, IsDischarged, IsInst, IsStrengthened, IsWeakened};
 ghost use Rattle.held_terms.specs.Held.{IsHeldAt, fact_of, side_of, triple_of};
+ghost use Rattle.held_terms.specs.Image.{IsSubAt, put_for_numbers};
 ghost use Rattle.held_terms.specs.Subterms.{HasSides};
-ghost use Rattle.term_arena.specs.Arena.{Tree};
+ghost use Rattle.term_arena.specs.Arena.{Extends, Tree};
 
+use crate::following::are_among_or_follow;
 use crate::further::{are_listed, same_further, same_further_mems};
 use crate::held::Held;
+use crate::instances::instance;
 use crate::missing::are_facts_of_both;
-use crate::same::{are_among, same_facts, same_side, same_word};
+use crate::same::{are_among, same_facts, same_side, same_triple, same_word};
 use crate::sides::are_swapped;
 use crate::union::is_union;
 use rv_words::NoMemory;
@@ -78,6 +81,26 @@ pub fn is_composition(arena: &Arena, p: &Held, q: &Held, stated: &Held) -> bool
         )
 }
 
+/// Terms for the variables of a theorem, all put in at once. Its code stays.
+pub fn is_instance<L: Ledger>(
+    alloc: Global,
+    arena: &mut Arena,
+    p: &Held,
+    words: &[(u32, u64)],
+    mems: &[(u32, u64)],
+    stated: &Held,
+    steps: &mut Steps<L>,
+) -> Result<bool, NoMemory>
+    requires p { IsHeldAt arena.old p.now }
+    requires sub { IsSubAt arena.old words.now mems.now }
+    requires stated { IsHeldAt arena.old stated.now }
+    ensures answer { IfOk result (λ r. IsTrue r ↔ IsInst (put_for_numbers arena.old words.now mems.now) (triple_of arena.old p.now) (triple_of arena.old stated.now)) }
+    ensures grows { Extends arena.old arena.new }
+{
+    let put_in = instance(alloc, arena, p, words, mems, steps)?;
+    Ok(same_triple(arena, &put_in, stated))
+}
+
 /// More facts, and another precondition that they make the same.
 pub fn is_strengthened<L: Ledger>(
     alloc: Global,
@@ -130,6 +153,42 @@ pub fn is_weakened<L: Ledger>(
         steps,
     )?;
     Ok(same)
+}
+
+/// Other facts, from which those of the theorem follow.
+pub fn is_discharged<L: Ledger>(
+    alloc: Global,
+    arena: &Arena,
+    p: &Held,
+    stated: &Held,
+    steps: &mut Steps<L>,
+) -> Result<bool, NoMemory>
+    requires p { IsHeldAt arena.now p.now }
+    requires stated { IsHeldAt arena.now stated.now }
+    ensures { IfOk result (λ r. IsTrue r ↔ IsDischarged (triple_of arena.now p.now) (triple_of arena.now stated.now)) }
+{
+    if !keeps_all_but_facts(arena, p, stated) {
+        return Ok(false);
+    }
+    let follow = are_among_or_follow(
+        alloc,
+        arena,
+        p.facts.as_slice(),
+        stated.facts.as_slice(),
+        steps,
+    )?;
+    Ok(follow)
+}
+
+/// The same precondition, code and postcondition.
+fn keeps_all_but_facts(arena: &Arena, p: &Held, stated: &Held) -> bool
+    requires p { IsHeldAt arena.now p.now }
+    requires stated { IsHeldAt arena.now stated.now }
+    ensures { IsTrue result ↔ ((side_of arena.now p.now.pre ≡ side_of arena.now stated.now.pre) × (p.now.code.ranges ≡ stated.now.code.ranges) × (side_of arena.now p.now.post ≡ side_of arena.now stated.now.post)) }
+{
+    same_side(arena, &p.pre, &stated.pre)
+        && same_code(&p.code, &stated.code)
+        && same_side(arena, &p.post, &stated.post)
 }
 
 /// The same code and postcondition, and at least the same facts.

@@ -4,9 +4,10 @@ ghost use Rattle.std.specs.Prelude.{◌≡◌, ◌↔◌, IsTrue, map};
 ghost use Rattle.std.specs.List.{Contains};
 ghost use Rattle.term_arena.specs.Arena.{IsCondAt, IsMemAt, IsWordAt, cond_of, mem_of, word_of};
 ghost use Rattle.triple_kernel.specs.Rules.{AreAmong};
-ghost use Rattle.held_terms.specs.Held.{AreFactsAt, AreMemsAt, AreRegistersAt, AreWordsAt, IsFactAt, IsSideAt, AreValuesAt, fact_of, register_of, side_of, values_over};
+ghost use Rattle.held_terms.specs.Held.{AreFactsAt, AreMemsAt, AreRegistersAt, AreValuesAt, AreWordsAt, IsFactAt, IsHeldAt, IsSideAt, fact_of, register_of, side_of, triple_of, values_over};
 
-use crate::held::{HeldFact, HeldSide, HeldValues};
+use crate::held::{Held, HeldFact, HeldSide, HeldValues};
+use sep_assert::same_code;
 use term_arena::{Arena, law_of_arenas};
 
 /// Whether two numbers stand for the same term.
@@ -210,4 +211,16 @@ pub fn is_among(arena: &Arena, fact: &HeldFact, others: &[HeldFact]) -> bool
         }
     }
     false
+}
+
+/// Whether two triples are the same.
+pub fn same_triple(arena: &Arena, a: &Held, b: &Held) -> bool
+    requires a { IsHeldAt arena.now a.now }
+    requires b { IsHeldAt arena.now b.now }
+    ensures { IsTrue result ↔ (triple_of arena.now a.now ≡ triple_of arena.now b.now) }
+{
+    same_facts(arena, a.facts.as_slice(), b.facts.as_slice())
+        && same_side(arena, &a.pre, &b.pre)
+        && same_code(&a.code, &b.code)
+        && same_side(arena, &a.post, &b.post)
 }

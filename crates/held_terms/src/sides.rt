@@ -60,7 +60,7 @@ pub(crate) fn swap_side<L: Ledger>(
 
 /// Whether two words may be swapped, where all answers that are kept are right.
 #[tactic(auto, using(crate::proofs::SideLemmas::right_known))]
-fn swap_words<L: Ledger>(
+pub(crate) fn swap_words<L: Ledger>(
     arena: &Arena,
     facts: &[HeldFact],
     known: &mut List<(u64, u64, bool)>,
@@ -82,7 +82,7 @@ fn swap_words<L: Ledger>(
 
 /// Whether two memories may be swapped, where all answers that are kept are right.
 #[tactic(auto, using(crate::proofs::SideLemmas::right_known))]
-fn swap_memories<L: Ledger>(
+pub(crate) fn swap_memories<L: Ledger>(
     arena: &Arena,
     facts: &[HeldFact],
     known: &mut List<(u64, u64, bool)>,

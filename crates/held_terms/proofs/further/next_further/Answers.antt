@@ -3,7 +3,6 @@ use Rattle.std.proofs.lemmas.List.{drop_more}
 use Rattle.std.proofs.lemmas.Option.{slice_get_within, get_or_from_slice_get}
 use Rattle.frame_compose.specs.Rules.{is_listed}
 use Rattle.frame_compose.proofs.Walks.{stops}
-use Rattle.held_terms.proofs.Indices.{read_at}
 use Rattle.held_terms.proofs.further.next_further.Goals as goal
 
 pub returns-then-not-is_listed-clause-first : goal.returns-then-not-is_listed-clause-first

@@ -1,6 +1,4 @@
-use Rattle.std.proofs.Common.{◌≡◌, ℕ, List, refl, ap, ◌∙◌, sym, subst}
-use Rattle.std.specs.List.{Contains}
-use Rattle.held_terms.specs.Image.{IsImage, put_for_numbers}
+use Rattle.std.proofs.Common.{refl}
 use Rattle.held_terms.proofs.ImageLemmas.{constant_image, get_stays, image_stays, ready_word, ready_mem}
 use Rattle.held_terms.proofs.images.+image.Goals as goal
 

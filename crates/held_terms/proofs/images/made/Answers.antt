@@ -1,4 +1,4 @@
-use Rattle.std.proofs.Common.{◌≡◌, ℕ, List, ◌∷◌, ◌++◌, [], ap, ◌∙◌, sym, subst}
+use Rattle.std.proofs.Common.{ℕ, List, sym, subst}
 use Rattle.held_terms.specs.Image.{IsReady, put_for_numbers}
 use Rattle.held_terms.proofs.ImageLemmas.{image_added, image_children, ready_more, ready_stays}
 use Rattle.held_terms.proofs.images.made.Goals as goal

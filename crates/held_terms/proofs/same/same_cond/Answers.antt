@@ -1,4 +1,4 @@
-use Rattle.std.proofs.Common.{◌≡◌, ap}
+use Rattle.std.proofs.Common.{ap}
 use Rattle.std.proofs.lemmas.Bool.{eqb-true, eq-eqb}
 use Rattle.term_arena.specs.Arena.{OfCond, cond_of}
 use Rattle.held_terms.proofs.same.same_cond.Goals as goal

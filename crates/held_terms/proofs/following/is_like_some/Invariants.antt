@@ -1,0 +1,16 @@
+use Rattle.std.proofs.Common.{map, take}
+use Rattle.std.specs.List.{Contains}
+use Rattle.word_terms.specs.Tree.{CondTree}
+use Rattle.term_arena.specs.Arena.{cond_of}
+use Rattle.triple_kernel.specs.Tree.{So}
+use Rattle.triple_kernel.specs.Rules.{Alike}
+use Rattle.held_terms.specs.Held.{fact_of}
+use Rattle.held_terms.specs.inner.SideTables.{AreRight}
+use Rattle.held_terms.proofs.following.is_like_some.Given as goal
+
+-- no condition of those so far is like it
+abbrev pub invariant-loop-fact : goal.invariant-loop-fact
+invariant-loop-fact g l = record {
+  none : (d : CondTree) → Contains (map (fact_of l.arena) (take l.fact-index l.facts)) (So d) → Alike (map (fact_of l.arena) l.facts) (cond_of l.arena l.c) d → ⊥;
+  right : AreRight l.arena (map (fact_of l.arena) l.facts) l.known;
+}

@@ -1,0 +1,22 @@
+use Rattle.std.proofs.Common.{◌<◌, length, take, arith}
+use Rattle.held_terms.specs.Image.{IsImage, put_for_numbers}
+use Rattle.held_terms.proofs.Indices.{read_at}
+use Rattle.held_terms.proofs.InstanceLemmas.{extends_next, images_stay, zip_next}
+use Rattle.held_terms.proofs.instances.images.Goals as goal
+
+pub loop-i-preserved : goal.loop-i-preserved
+loop-i-preserved g c =
+    let words = c.args.words.now in
+    let mems = c.args.mems.now in
+    let xs = c.args.xs.now in
+    let i = c.loop-i.i in
+    let low : i < length xs = omega arith in
+    let before = c.loop-i.arena in
+    let now = c.image.new.arena in
+    record {
+      ready = c.image.ensures.ready;
+      grows = extends_next c.args.arena.now before now c.loop-i.invariant.grows c.image.ensures.grows;
+      images = zip_next (IsImage now (put_for_numbers now words mems)) xs c.loop-i.ys _ i _ c.in_ok-y.y low (read_at xs i 0 _ low) c.in_ok-push.ensures.ok
+          (images_stay before now words mems c.loop-i.known c.loop-i.invariant.ready c.image.ensures.grows (take i xs) c.loop-i.ys c.loop-i.invariant.images)
+          c.in_ok-y.ensures.image;
+    }

@@ -1,0 +1,12 @@
+use Rattle.std.proofs.Common.{take}
+use Rattle.term_arena.specs.Arena.{Extends}
+use Rattle.held_terms.specs.Image.{IsReady, put_for_numbers}
+use Rattle.held_terms.specs.inner.Instances.{AreImagesOf}
+use Rattle.held_terms.proofs.instances.images.Given as goal
+
+abbrev pub invariant-loop-i : goal.invariant-loop-i
+invariant-loop-i g l = record {
+  ready : IsReady l.arena l.words l.mems l.known;
+  grows : Extends l.fn.arena l.arena;
+  images : AreImagesOf l.arena (put_for_numbers l.arena l.words l.mems) (take l.i l.xs) l.ys;
+}

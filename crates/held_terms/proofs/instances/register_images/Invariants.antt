@@ -1,0 +1,13 @@
+use Rattle.std.proofs.Common.{take}
+use Rattle.std.specs.List.{AllZip}
+use Rattle.term_arena.specs.Arena.{Extends}
+use Rattle.held_terms.specs.Image.{IsReady, put_for_numbers}
+use Rattle.held_terms.specs.inner.Instances.{IsRegisterImage}
+use Rattle.held_terms.proofs.instances.register_images.Given as goal
+
+abbrev pub invariant-loop-i : goal.invariant-loop-i
+invariant-loop-i g l = record {
+  ready : IsReady l.arena l.words l.mems l.known;
+  grows : Extends l.fn.arena l.arena;
+  images : AllZip (IsRegisterImage l.arena (put_for_numbers l.arena l.words l.mems)) (take l.i l.registers) l.images;
+}

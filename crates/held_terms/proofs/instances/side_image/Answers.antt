@@ -1,0 +1,37 @@
+use Rattle.std.proofs.Common.{ℕ, List, sym, subst}
+use Rattle.std.specs.List.{AllZip}
+use Rattle.term_arena.proofs.TreeLemmas.{number_within}
+use Rattle.held_terms.specs.Held.{AreRegistersAt}
+use Rattle.held_terms.specs.Image.{put_for_numbers}
+use Rattle.held_terms.specs.inner.Instances.{AreWithin, AreImagesOf, IsRegisterImage}
+use Rattle.held_terms.proofs.ImageLemmas.{image_stays}
+use Rattle.held_terms.proofs.InstanceLemmas.{mems_within, registers_still, mems_still, registers_stay, extends_next}
+use Rattle.held_terms.proofs.instances.side_image.Goals as goal
+
+pub image-requires-clause-there : goal.image-requires-clause-there
+image-requires-clause-there g c = number_within c.args.arena.now _ _ c.requires.side.pc
+
+pub register_images-requires-clause-registers : goal.register_images-requires-clause-registers
+register_images-requires-clause-registers g c =
+    subst (λ (rs : List (ℕ × ℕ)). AreRegistersAt c.image.new.arena rs) (sym c.as_slice.ensures)
+    (registers_still c.args.arena.now c.image.new.arena c.image.ensures.grows c.args.side.now.regs c.requires.side.regs)
+
+pub images-requires-clause-within : goal.images-requires-clause-within
+images-requires-clause-within g c =
+    let now = c.register_images.new.arena in
+    let grown = extends_next c.args.arena.now c.image.new.arena now c.image.ensures.grows c.register_images.ensures.grows in
+    subst (λ (ks : List ℕ). AreWithin now ks) (sym c.as_slice-2.ensures) (mems_within now c.args.side.now.mems (mems_still c.args.arena.now now grown c.args.side.now.mems c.requires.side.mems))
+
+pub returns-clause-image : goal.returns-clause-image
+returns-clause-image g c =
+    let words = c.args.words.now in
+    let mems = c.args.mems.now in
+    let one = c.image.new.arena in
+    let two = c.register_images.new.arena in
+    let three = c.images.new.arena in
+    record {
+      pc = image_stays one three words mems c.image.new.known _ _ c.image.ensures.ready (extends_next one two three c.register_images.ensures.grows c.images.ensures.grows) c.in_ok-pc.ensures.image;
+      regs = registers_stay two three words mems c.register_images.new.known c.register_images.ensures.ready c.images.ensures.grows c.args.side.now.regs c.in_ok-regs.regs
+          (subst (λ (rs : List (ℕ × ℕ)). AllZip (IsRegisterImage two (put_for_numbers two words mems)) rs c.in_ok-regs.regs) c.as_slice.ensures c.in_ok-regs.ensures.images);
+      mems = subst (λ (ks : List ℕ). AreImagesOf three (put_for_numbers three words mems) ks c.in_ok-memories.memories) c.as_slice-2.ensures c.in_ok-memories.ensures.images;
+    }

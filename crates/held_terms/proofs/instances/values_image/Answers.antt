@@ -1,0 +1,27 @@
+use Rattle.std.proofs.Common.{ℕ, List, sym, subst}
+use Rattle.held_terms.specs.Image.{put_for_numbers}
+use Rattle.held_terms.specs.inner.Instances.{AreWithin, AreImagesOf}
+use Rattle.held_terms.proofs.InstanceLemmas.{words_within, mems_within, mems_still, images_stay}
+use Rattle.held_terms.proofs.instances.values_image.Goals as goal
+
+pub images-requires-clause-within : goal.images-requires-clause-within
+images-requires-clause-within g c =
+    subst (λ (ks : List ℕ). AreWithin c.args.arena.now ks) (sym c.as_slice.ensures) (words_within c.args.arena.now c.args.values.now.words c.requires.values.words)
+
+pub images-requires-2-clause-within : goal.images-requires-2-clause-within
+images-requires-2-clause-within g c =
+    let now = c.images.new.arena in
+    let mems = c.args.values.now.mems in
+    subst (λ (ks : List ℕ). AreWithin now ks) (sym c.as_slice-2.ensures) (mems_within now mems (mems_still c.args.arena.now now c.images.ensures.grows mems c.requires.values.mems))
+
+pub returns-clause-image : goal.returns-clause-image
+returns-clause-image g c =
+    let words = c.args.words.now in
+    let mems = c.args.mems.now in
+    let one = c.images.new.arena in
+    let two = c.images-2.new.arena in
+    record {
+      words = images_stay one two words mems c.images.new.known c.images.ensures.ready c.images-2.ensures.grows c.args.values.now.words c.in_ok-first.first
+          (subst (λ (ks : List ℕ). AreImagesOf one (put_for_numbers one words mems) ks c.in_ok-first.first) c.as_slice.ensures c.in_ok-first.ensures.images);
+      mems = subst (λ (ks : List ℕ). AreImagesOf two (put_for_numbers two words mems) ks c.in_ok-second.second) c.as_slice-2.ensures c.in_ok-second.ensures.images;
+    }

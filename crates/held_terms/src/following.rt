@@ -1,0 +1,172 @@
+//! Facts that follow from others, over numbers.
+
+ghost use Rattle.std.specs.Prelude.{◌≡◌, ◌↔◌, ◌⊎◌, IfOk, IsTrue, OnOk, map};
+ghost use Rattle.std.specs.List.{Contains};
+ghost use Rattle.word_terms.specs.Tree.{CondTree};
+ghost use Rattle.term_arena.specs.Arena.{IsCondAt, cond_of};
+ghost use Rattle.triple_kernel.specs.Tree.{So};
+ghost use Rattle.triple_kernel.specs.Rules.{Alike, AreAmongOrFollow, Follows, IsAlwaysTrue};
+ghost use Rattle.held_terms.specs.Held.{AreFactsAt, IsFactAt, fact_of};
+ghost use Rattle.held_terms.specs.inner.SideTables.{AreRight};
+ghost use Rattle.held_terms.specs.inner.Following.{AreConstants};
+
+use crate::conditions::{are_alike, is_always_true};
+use crate::held::HeldFact;
+use crate::same::is_among;
+use crate::sides::{swap_memories, swap_words};
+use rv_words::{List, NoMemory};
+use std::alloc::Global;
+use std::sync::ledger::Ledger;
+use term_arena::{Arena, Steps};
+
+/// Whether each of the facts is among the others or follows from them.
+pub fn are_among_or_follow<L: Ledger>(
+    alloc: Global,
+    arena: &Arena,
+    facts: &[HeldFact],
+    others: &[HeldFact],
+    steps: &mut Steps<L>,
+) -> Result<bool, NoMemory>
+    requires facts { AreFactsAt arena.now facts.now }
+    requires others { AreFactsAt arena.now others.now }
+    ensures { IfOk result (λ r. IsTrue r ↔ AreAmongOrFollow (map (fact_of arena.now) facts.now) (map (fact_of arena.now) others.now)) }
+{
+    let mut known = List::new(alloc);
+    let mut values = List::new(alloc);
+    for fact in facts {
+        let holds = is_among_or_follows(arena, others, &mut known, &mut values, fact, steps)?;
+        if !holds {
+            return Ok(false);
+        }
+    }
+    Ok(true)
+}
+
+/// Whether the fact is among the others or follows from them.
+fn is_among_or_follows<L: Ledger>(
+    arena: &Arena,
+    others: &[HeldFact],
+    known: &mut List<(u64, u64, bool)>,
+    values: &mut List<(u64, Option<u64>)>,
+    fact: &HeldFact,
+    steps: &mut Steps<L>,
+) -> Result<bool, NoMemory>
+    requires others { AreFactsAt arena.now others.now }
+    requires right { AreRight arena.now (map (fact_of arena.now) others.now) known.old }
+    requires values { AreConstants arena.now values.old }
+    requires fact { IsFactAt arena.now fact.now }
+    ensures answer { IfOk result (λ r. IsTrue r ↔ (Contains (map (fact_of arena.now) others.now) (fact_of arena.now fact.now) ⊎ Follows (map (fact_of arena.now) others.now) (fact_of arena.now fact.now))) }
+    ensures right { OnOk result (AreRight arena.now (map (fact_of arena.now) others.now) known.new) }
+    ensures values { AreConstants arena.now values.new }
+{
+    if is_among(arena, fact, others) {
+        return Ok(true);
+    }
+    let holds = follows(arena, others, known, values, fact, steps)?;
+    Ok(holds)
+}
+
+/// Whether the fact follows from the others.
+fn follows<L: Ledger>(
+    arena: &Arena,
+    others: &[HeldFact],
+    known: &mut List<(u64, u64, bool)>,
+    values: &mut List<(u64, Option<u64>)>,
+    fact: &HeldFact,
+    steps: &mut Steps<L>,
+) -> Result<bool, NoMemory>
+    requires others { AreFactsAt arena.now others.now }
+    requires right { AreRight arena.now (map (fact_of arena.now) others.now) known.old }
+    requires values { AreConstants arena.now values.old }
+    requires fact { IsFactAt arena.now fact.now }
+    ensures answer { IfOk result (λ r. IsTrue r ↔ Follows (map (fact_of arena.now) others.now) (fact_of arena.now fact.now)) }
+    ensures right { OnOk result (AreRight arena.now (map (fact_of arena.now) others.now) known.new) }
+    ensures values { AreConstants arena.now values.new }
+{
+    match fact {
+        HeldFact::WordIs(a, b) => {
+            let same = swap_words(arena, others, known, *a, *b, steps)?;
+            Ok(same)
+        }
+        HeldFact::MemIs(a, b) => {
+            let same = swap_memories(arena, others, known, *a, *b, steps)?;
+            Ok(same)
+        }
+        HeldFact::So(c) => {
+            let holds = condition_follows(arena, others, known, values, *c, steps)?;
+            Ok(holds)
+        }
+        HeldFact::Gives { .. } => Ok(false),
+    }
+}
+
+fn condition_follows<L: Ledger>(
+    arena: &Arena,
+    others: &[HeldFact],
+    known: &mut List<(u64, u64, bool)>,
+    values: &mut List<(u64, Option<u64>)>,
+    c: u64,
+    steps: &mut Steps<L>,
+) -> Result<bool, NoMemory>
+    requires others { AreFactsAt arena.now others.now }
+    requires right { AreRight arena.now (map (fact_of arena.now) others.now) known.old }
+    requires values { AreConstants arena.now values.old }
+    requires there { IsCondAt arena.now c }
+    ensures answer { IfOk result (λ r. IsTrue r ↔ (IsAlwaysTrue (cond_of arena.now c) ⊎ ((d : CondTree) × Contains (map (fact_of arena.now) others.now) (So d) × Alike (map (fact_of arena.now) others.now) (cond_of arena.now c) d))) }
+    ensures right { OnOk result (AreRight arena.now (map (fact_of arena.now) others.now) known.new) }
+    ensures values { AreConstants arena.now values.new }
+{
+    let always = is_always_true(arena, values, c, steps)?;
+    if always {
+        return Ok(true);
+    }
+    let like = is_like_some(arena, others, known, c, steps)?;
+    Ok(like)
+}
+
+/// Whether one of the facts says that a condition of the same kind is true.
+fn is_like_some<L: Ledger>(
+    arena: &Arena,
+    facts: &[HeldFact],
+    known: &mut List<(u64, u64, bool)>,
+    c: u64,
+    steps: &mut Steps<L>,
+) -> Result<bool, NoMemory>
+    requires facts { AreFactsAt arena.now facts.now }
+    requires right { AreRight arena.now (map (fact_of arena.now) facts.now) known.old }
+    requires there { IsCondAt arena.now c }
+    ensures answer { IfOk result (λ r. IsTrue r ↔ ((d : CondTree) × Contains (map (fact_of arena.now) facts.now) (So d) × Alike (map (fact_of arena.now) facts.now) (cond_of arena.now c) d)) }
+    ensures right { OnOk result (AreRight arena.now (map (fact_of arena.now) facts.now) known.new) }
+{
+    for fact in facts {
+        let like = is_like(arena, facts, known, c, fact, steps)?;
+        if like {
+            return Ok(true);
+        }
+    }
+    Ok(false)
+}
+
+fn is_like<L: Ledger>(
+    arena: &Arena,
+    facts: &[HeldFact],
+    known: &mut List<(u64, u64, bool)>,
+    c: u64,
+    fact: &HeldFact,
+    steps: &mut Steps<L>,
+) -> Result<bool, NoMemory>
+    requires facts { AreFactsAt arena.now facts.now }
+    requires right { AreRight arena.now (map (fact_of arena.now) facts.now) known.old }
+    requires there { IsCondAt arena.now c }
+    requires fact { IsFactAt arena.now fact.now }
+    ensures answer { IfOk result (λ r. IsTrue r ↔ ((d : CondTree) × (fact_of arena.now fact.now ≡ So d) × Alike (map (fact_of arena.now) facts.now) (cond_of arena.now c) d)) }
+    ensures right { OnOk result (AreRight arena.now (map (fact_of arena.now) facts.now) known.new) }
+{
+    match fact {
+        HeldFact::So(d) => {
+            let alike = are_alike(arena, facts, known, c, *d, steps)?;
+            Ok(alike)
+        }
+        _ => Ok(false),
+    }
+}

@@ -1,0 +1,253 @@
+//! Terms put in for the variables of a whole triple.
+#![tactic(auto, using(crate::proofs::ImageLemmas::image_stays, crate::proofs::ImageLemmas::longer, crate::proofs::InstanceLemmas::extends_next))]
+
+ghost use Rattle.std.specs.Prelude.{IfOk};
+ghost use Rattle.std.specs.List.{AllZip};
+ghost use Rattle.term_arena.specs.Arena.{Extends};
+ghost use Rattle.triple_kernel.specs.Rules.{IsInst};
+ghost use Rattle.held_terms.specs.Held.{AreFactsAt, AreRegistersAt, AreValuesAt, IsFactAt, IsHeldAt, IsSideAt, triple_of};
+ghost use Rattle.held_terms.specs.Image.{IsReady, IsSubAt, put_for_numbers};
+ghost use Rattle.held_terms.specs.inner.Instances.{AreImagesOf, AreWithin, IsFactImage, IsRegisterImage, IsSideImage, IsValuesImage};
+
+use crate::held::{Held, HeldFact, HeldSide, HeldValues};
+use crate::images::image;
+use rv_words::{List, NoMemory};
+use std::alloc::Global;
+use std::sync::ledger::Ledger;
+use term_arena::{Arena, Steps};
+use word_terms::copy_code;
+
+/// The triple with all listed variables replaced at once, but for its code.
+pub fn instance<L: Ledger>(
+    alloc: Global,
+    arena: &mut Arena,
+    p: &Held,
+    words: &[(u32, u64)],
+    mems: &[(u32, u64)],
+    steps: &mut Steps<L>,
+) -> Result<Held, NoMemory>
+    requires p { IsHeldAt arena.old p.now }
+    requires sub { IsSubAt arena.old words.now mems.now }
+    ensures there { IfOk result (λ q. IsHeldAt arena.new q) }
+    ensures instance { IfOk result (λ q. IsInst (put_for_numbers arena.old words.now mems.now) (triple_of arena.old p.now) (triple_of arena.new q)) }
+    ensures grows { Extends arena.old arena.new }
+{
+    let mut known = List::new(alloc);
+    let facts = fact_images(
+        alloc,
+        arena,
+        words,
+        mems,
+        &mut known,
+        p.facts.as_slice(),
+        steps,
+    )?;
+    let pre = side_image(alloc, arena, words, mems, &mut known, &p.pre, steps)?;
+    let post = side_image(alloc, arena, words, mems, &mut known, &p.post, steps)?;
+    let code = copy_code(alloc, &p.code)?;
+    Ok(Held {
+        facts,
+        pre,
+        code,
+        post,
+    })
+}
+
+/// The images of numbers, in order.
+fn images<L: Ledger>(
+    alloc: Global,
+    arena: &mut Arena,
+    words: &[(u32, u64)],
+    mems: &[(u32, u64)],
+    known: &mut List<(u64, u64)>,
+    xs: &[u64],
+    steps: &mut Steps<L>,
+) -> Result<List<u64>, NoMemory>
+    requires within { AreWithin arena.old xs.now }
+    requires ready { IsReady arena.old words.now mems.now known.old }
+    ensures images { IfOk result (λ ys. AreImagesOf arena.new (put_for_numbers arena.new words.now mems.now) xs.now ys) }
+    ensures ready { IsReady arena.new words.now mems.now known.new }
+    ensures grows { Extends arena.old arena.new }
+{
+    let mut ys = List::new(alloc);
+    for i in 0..xs.len() {
+        let y = image(arena, words, mems, known, xs[i], steps)?;
+        ys.push(y)?;
+    }
+    Ok(ys)
+}
+
+/// The registers with the images of their terms.
+fn register_images<L: Ledger>(
+    alloc: Global,
+    arena: &mut Arena,
+    words: &[(u32, u64)],
+    mems: &[(u32, u64)],
+    known: &mut List<(u64, u64)>,
+    registers: &[(u8, u64)],
+    steps: &mut Steps<L>,
+) -> Result<List<(u8, u64)>, NoMemory>
+    requires registers { AreRegistersAt arena.old registers.now }
+    requires ready { IsReady arena.old words.now mems.now known.old }
+    ensures images { IfOk result (λ qs. AllZip (IsRegisterImage arena.new (put_for_numbers arena.new words.now mems.now)) registers.now qs) }
+    ensures ready { IsReady arena.new words.now mems.now known.new }
+    ensures grows { Extends arena.old arena.new }
+{
+    let mut images = List::new(alloc);
+    for i in 0..registers.len() {
+        let y = image(arena, words, mems, known, registers[i].1, steps)?;
+        images.push((registers[i].0, y))?;
+    }
+    Ok(images)
+}
+
+fn values_image<L: Ledger>(
+    alloc: Global,
+    arena: &mut Arena,
+    words: &[(u32, u64)],
+    mems: &[(u32, u64)],
+    known: &mut List<(u64, u64)>,
+    values: &HeldValues,
+    steps: &mut Steps<L>,
+) -> Result<HeldValues, NoMemory>
+    requires values { AreValuesAt arena.old values.now }
+    requires ready { IsReady arena.old words.now mems.now known.old }
+    ensures image { IfOk result (λ w. IsValuesImage arena.new (put_for_numbers arena.new words.now mems.now) values.now w) }
+    ensures ready { IsReady arena.new words.now mems.now known.new }
+    ensures grows { Extends arena.old arena.new }
+{
+    let first = images(
+        alloc,
+        arena,
+        words,
+        mems,
+        known,
+        values.words.as_slice(),
+        steps,
+    )?;
+    let second = images(
+        alloc,
+        arena,
+        words,
+        mems,
+        known,
+        values.mems.as_slice(),
+        steps,
+    )?;
+    Ok(HeldValues {
+        words: first,
+        mems: second,
+    })
+}
+
+fn fact_image<L: Ledger>(
+    alloc: Global,
+    arena: &mut Arena,
+    words: &[(u32, u64)],
+    mems: &[(u32, u64)],
+    known: &mut List<(u64, u64)>,
+    fact: &HeldFact,
+    steps: &mut Steps<L>,
+) -> Result<HeldFact, NoMemory>
+    requires fact { IsFactAt arena.old fact.now }
+    requires ready { IsReady arena.old words.now mems.now known.old }
+    ensures image { IfOk result (λ f. IsFactImage arena.new (put_for_numbers arena.new words.now mems.now) fact.now f) }
+    ensures ready { IsReady arena.new words.now mems.now known.new }
+    ensures grows { Extends arena.old arena.new }
+{
+    match fact {
+        HeldFact::WordIs(a, b) => {
+            let x = image(arena, words, mems, known, *a, steps)?;
+            let y = image(arena, words, mems, known, *b, steps)?;
+            Ok(HeldFact::WordIs(x, y))
+        }
+        HeldFact::MemIs(a, b) => {
+            let x = image(arena, words, mems, known, *a, steps)?;
+            let y = image(arena, words, mems, known, *b, steps)?;
+            Ok(HeldFact::MemIs(x, y))
+        }
+        HeldFact::So(c) => {
+            let x = image(arena, words, mems, known, *c, steps)?;
+            Ok(HeldFact::So(x))
+        }
+        HeldFact::Gives {
+            def,
+            exit,
+            args,
+            results,
+        } => {
+            let x = values_image(alloc, arena, words, mems, known, args, steps)?;
+            let y = values_image(alloc, arena, words, mems, known, results, steps)?;
+            Ok(HeldFact::Gives {
+                def: *def,
+                exit: *exit,
+                args: x,
+                results: y,
+            })
+        }
+    }
+}
+
+fn fact_images<L: Ledger>(
+    alloc: Global,
+    arena: &mut Arena,
+    words: &[(u32, u64)],
+    mems: &[(u32, u64)],
+    known: &mut List<(u64, u64)>,
+    facts: &[HeldFact],
+    steps: &mut Steps<L>,
+) -> Result<List<HeldFact>, NoMemory>
+    requires facts { AreFactsAt arena.old facts.now }
+    requires ready { IsReady arena.old words.now mems.now known.old }
+    ensures images { IfOk result (λ gs. AllZip (IsFactImage arena.new (put_for_numbers arena.new words.now mems.now)) facts.now gs) }
+    ensures ready { IsReady arena.new words.now mems.now known.new }
+    ensures grows { Extends arena.old arena.new }
+{
+    let mut images = List::new(alloc);
+    for fact in facts {
+        let image = fact_image(alloc, arena, words, mems, known, fact, steps)?;
+        images.push(image)?;
+    }
+    Ok(images)
+}
+
+fn side_image<L: Ledger>(
+    alloc: Global,
+    arena: &mut Arena,
+    words: &[(u32, u64)],
+    mems: &[(u32, u64)],
+    known: &mut List<(u64, u64)>,
+    side: &HeldSide,
+    steps: &mut Steps<L>,
+) -> Result<HeldSide, NoMemory>
+    requires side { IsSideAt arena.old side.now }
+    requires ready { IsReady arena.old words.now mems.now known.old }
+    ensures image { IfOk result (λ b. IsSideImage arena.new (put_for_numbers arena.new words.now mems.now) side.now b) }
+    ensures ready { IsReady arena.new words.now mems.now known.new }
+    ensures grows { Extends arena.old arena.new }
+{
+    let pc = image(arena, words, mems, known, side.pc, steps)?;
+    let regs = register_images(
+        alloc,
+        arena,
+        words,
+        mems,
+        known,
+        side.regs.as_slice(),
+        steps,
+    )?;
+    let memories = images(
+        alloc,
+        arena,
+        words,
+        mems,
+        known,
+        side.mems.as_slice(),
+        steps,
+    )?;
+    Ok(HeldSide {
+        pc,
+        regs,
+        mems: memories,
+    })
+}
