@@ -6,7 +6,7 @@ ghost use Rattle.term_arena.specs.Arena.{IsWordAt, mem_of};
 ghost use Rattle.held_terms.specs.Held.{AreMemsAt, AreRegistersAt, register_of};
 
 use crate::same::{same_mems, same_register};
-use crate::slices::{prefix, rest_after};
+use frame_compose::{prefix, rest_after};
 use term_arena::Arena;
 
 /// Whether those of all registers that are listed are the list.

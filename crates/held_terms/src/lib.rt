@@ -1,4 +1,13 @@
 //! The rules over triples whose terms are numbers of an arena.
+//!
+//! A [`Held`] is a triple whose words, memories and conditions are numbers of one [`term_arena::Arena`]; equal terms
+//! have equal numbers, so that two are compared without walking through them. Each call says whether a stated triple
+//! follows from others by one rule, exactly where the rule's row holds of the trees that the numbers stand for, and
+//! reads nodes of the arena alone: `is_frame(&arena, &p, &stated)`, `is_composition(&arena, &p, &q, &stated)`, and
+//! [`instance`], which makes the triple in place of comparing it.
+//!
+//! Two terms may be swapped where facts say that they are equal: the pairs that were decided stand in a table
+//! (`table`), so that each pair of subterms is decided once, and shared subterms don't cost their paths.
 #![tactic(auto)]
 
 mod conditions;
@@ -12,10 +21,8 @@ mod missing;
 mod rules;
 mod same;
 mod sides;
-mod slices;
 mod swaps;
 mod table;
-mod union;
 
 pub use exits::is_exit;
 pub use held::{Held, HeldFact, HeldSide, HeldValues};

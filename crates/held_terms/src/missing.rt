@@ -6,7 +6,7 @@ ghost use Rattle.held_terms.specs.Held.{AreFactsAt, IsFactAt, fact_of};
 
 use crate::held::HeldFact;
 use crate::same::{is_among, same_fact, same_facts};
-use crate::slices::{prefix, rest_after};
+use frame_compose::{prefix, rest_after};
 use term_arena::Arena;
 
 /// Whether all facts are the first ones and then those of the second that aren't among them, in order.

@@ -15,7 +15,7 @@ use crate::instances::instance;
 use crate::missing::are_facts_of_both;
 use crate::same::{are_among, same_facts, same_side, same_triple, same_word};
 use crate::sides::are_swapped;
-use crate::union::is_union;
+use frame_compose::is_union;
 use rv_words::NoMemory;
 use sep_assert::{code_within, same_code};
 use std::alloc::Global;

@@ -25,8 +25,9 @@ pub fn same_assertion(a: &Assertion, b: &Assertion) -> bool
         && same_mems(a.mems.as_slice(), b.mems.as_slice())
 }
 
+/// Whether two lists of registers are the same, with the same terms.
 #[tactic(auto, using(crate::proofs::SameLists::map_differs))]
-fn same_registers(a: &[(u8, Word)], b: &[(u8, Word)]) -> bool
+pub fn same_registers(a: &[(u8, Word)], b: &[(u8, Word)]) -> bool
     ensures { IsTrue result ↔ (map register_tree a.now ≡ map register_tree b.now) }
 {
     if a.len() != b.len() {

@@ -2,13 +2,12 @@
 
 ghost use Rattle.std.specs.Prelude.{◌≡◌, ◌↔◌, IsTrue, IsOk, IfOk, map};
 ghost use Rattle.word_terms.specs.Tree.{mem_tree};
-ghost use Rattle.sep_assert.specs.Tree.{register_tree};
 ghost use Rattle.triple_kernel.specs.Tree.{triple_tree};
 ghost use Rattle.stack_split.specs.Rules.{AreExchanged, IsExchanged};
 
-use sep_assert::{same_code, same_register};
+use sep_assert::{same_code, same_registers};
 use triple_kernel::{NoInstance, Thm, Triple, same_facts};
-use word_terms::{Mem, Word, same_mem, same_word};
+use word_terms::{Mem, same_mem, same_word};
 
 /// The two memories exchanged, in both assertions.
 pub fn exchange<'g>(p: &Thm<'g>, stated: Triple) -> Result<Thm<'g>, NoInstance>
@@ -40,20 +39,4 @@ fn are_exchanged(a: &[Mem], b: &[Mem]) -> bool
     ensures { IsTrue result ↔ AreExchanged (map mem_tree a.now) (map mem_tree b.now) }
 {
     a.len() == 2 && b.len() == 2 && same_mem(&a[0], &b[1]) && same_mem(&a[1], &b[0])
-}
-
-/// Whether two lists of registers are the same trees.
-#[tactic(auto, using(sep_assert::proofs::SameLists::map_differs))]
-fn same_registers(a: &[(u8, Word)], b: &[(u8, Word)]) -> bool
-    ensures { IsTrue result ↔ (map register_tree a.now ≡ map register_tree b.now) }
-{
-    if a.len() != b.len() {
-        return false;
-    }
-    for i in 0..a.len() {
-        if !same_register(&a[i], &b[i]) {
-            return false;
-        }
-    }
-    true
 }
