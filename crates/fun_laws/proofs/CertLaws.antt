@@ -23,6 +23,9 @@ use Rattle.tailrec_lang.specs.Registers.{AreRegistersFrom}
 use Rattle.group_text.specs.Limits.{IsDef, IsGroup, IsName, def_limit}
 use Rattle.group_text.specs.Spelling.{line, number, group_tokens, def_tokens, end_tokens}
 use Rattle.group_text.specs.inner.Reading.{Head, def_at, is_def, are_some, own_defs, mark_row, regs_row, mems_row, code_row, name_of, group_of}
+use Rattle.group_text.specs.declared.version.Version.TheVariants.{One}
+use Rattle.group_text.specs.Version.{version_1}
+use Rattle.group_text.proofs.HeadLaws.{HasMems}
 use Rattle.group_text.specs.inner.GroupRows.{more_head}
 use Rattle.group_text.proofs.StepLaws.{shrinks, atom-flat, name-law, number-law, eol-law, mark-law, row-law, ends-eol}
 use Rattle.group_text.proofs.HeadLaws.{IsCode, group-name-law, true-le}
@@ -223,24 +226,24 @@ abbrev make_head : List ℕ → HeadRows → Head
 make_head name x = record { name = name; regs = x.0.1.0; mems = x.1.0.1.0; code = x.1.1.1.0 }
 
 abbrev RowsFit : Head → Type 0
-RowsFit h = AreRegistersFrom 1 h.regs × ((h.mems ≤ 1) × IsCode h.code)
+RowsFit h = AreRegistersFrom 1 h.regs × (HasMems version_1 h.mems × IsCode h.code)
 
 abbrev head_tokens : Head → List Tok
 head_tokens h = line (codes "regs") (flat_map number h.regs ∷ []) ++ (line (codes "mems") (number h.mems ∷ []) ++ line (codes "code") (flat_map range_tokens h.code ∷ []))
 
-head-from : (name : List ℕ) (h : Head) → (h.name ≡ name) × RowsFit h → (p : HeadRows) × (make_head name p ≡ h) × (RegsFit p.0 × (MemsFit p.1.0 × CodeFits p.1.1))
+head-from : (name : List ℕ) (h : Head) → (h.name ≡ name) × RowsFit h → (p : HeadRows) × (make_head name p ≡ h) × (RegsFit p.0 × (MemsFit version_1 p.1.0 × CodeFits p.1.1))
 head-from name h f = (
   ((tt, (h.regs, tt)), ((tt, (h.mems, tt)), (tt, (h.code, tt)))),
   (λ i. record { name = sym f.0 i; regs = h.regs; mems = h.mems; code = h.code }),
-  ((tt, (f.1.0, tt)), ((tt, (omega (arith, f.1.1.0), tt)), (tt, (f.1.1.1, tt)))),
+  ((tt, (f.1.0, tt)), ((tt, (f.1.1.0, tt)), (tt, (f.1.1.1, tt)))),
 )
 
-head-cover : (name : List ℕ) → Covers (more_head name) (λ h. (h.name ≡ name) × RowsFit h) head_tokens
+head-cover : (name : List ℕ) → Covers (more_head version_1 name) (λ h. (h.name ≡ name) × RowsFit h) head_tokens
 head-cover name =
-    covers-made (make_head name) (pair regs_row (pair mems_row code_row)) _ _
-    (covers-with regs_row RegsFit regs_tokens regs-cover (λ _. pair mems_row code_row) (λ _ p. MemsFit p.0 × CodeFits p.1) (λ _ p. mems_tokens p.0 ++ code_tokens p.1) (λ _ _.
-    covers-with mems_row MemsFit mems_tokens mems-cover (λ _. code_row) (λ _. CodeFits) (λ _. code_tokens) (λ _ _. code-cover)))
-    (λ h. (h.name ≡ name) × RowsFit h) head_tokens (λ p f. (refl, (f.0.1.0, (omega (arith, f.1.0.1.0), f.1.1.1.0)))) (λ p. refl) (head-from name)
+    covers-made (make_head name) (pair regs_row (pair (mems_row version_1) code_row)) _ _
+    (covers-with regs_row RegsFit regs_tokens regs-cover (λ _. pair (mems_row version_1) code_row) (λ _ p. MemsFit version_1 p.0 × CodeFits p.1) (λ _ p. mems_tokens p.0 ++ code_tokens p.1) (λ _ _.
+    covers-with (mems_row version_1) (MemsFit version_1) mems_tokens (mems-cover One) (λ _. code_row) (λ _. CodeFits) (λ _. code_tokens) (λ _ _. code-cover)))
+    (λ h. (h.name ≡ name) × RowsFit h) head_tokens (λ p f. (refl, (f.0.1.0, (f.1.0.1.0, f.1.1.1.0)))) (λ p. refl) (head-from name)
 
 abbrev Parts : Type 0
 Parts = Head × (List DefTree × Rest)
@@ -251,12 +254,12 @@ PartsFit name x = ((x.0.name ≡ name) × RowsFit x.0) × (AreDefs x.1.0 × Rest
 abbrev parts_tokens : Parts → List Tok
 parts_tokens x = head_tokens x.0 ++ (flat_map def_tokens x.1.0 ++ rest_tokens x.1.1)
 
-parts-cover : (name : List ℕ) → Covers (pair (more_head name) behind_head) (PartsFit name) parts_tokens
-parts-cover name = covers-with (more_head name) (λ h. (h.name ≡ name) × RowsFit h) head_tokens (head-cover name) (λ _. behind_head) (λ _ p. AreDefs p.0 × RestFits p.1) (λ _ p. flat_map def_tokens p.0 ++ rest_tokens p.1) (λ _ _. behind-cover)
+parts-cover : (name : List ℕ) → Covers (pair (more_head version_1 name) behind_head) (PartsFit name) parts_tokens
+parts-cover name = covers-with (more_head version_1 name) (λ h. (h.name ≡ name) × RowsFit h) head_tokens (head-cover name) (λ _. behind_head) (λ _ p. AreDefs p.0 × RestFits p.1) (λ _ p. flat_map def_tokens p.0 ++ rest_tokens p.1) (λ _ _. behind-cover)
 
 -- what stands behind the row of the name
 abbrev IsNamed : List ℕ → CertTree → Type 0
-IsNamed name c = ((c.old.name ≡ name) × (AreRegistersFrom 1 c.old.regs × ((c.old.mems ≤ 1) × IsCode c.old.code))) × (AreDefs c.old.defs × (AllByRecursion IsCertStep c.steps × AreDefs c.result))
+IsNamed name c = ((c.old.name ≡ name) × (AreRegistersFrom 1 c.old.regs × (HasMems version_1 c.old.mems × IsCode c.old.code))) × (AreDefs c.old.defs × (AllByRecursion IsCertStep c.steps × AreDefs c.result))
 
 abbrev named_tokens : CertTree → List Tok
 named_tokens c = head_tokens (record { name = c.old.name; regs = c.old.regs; mems = c.old.mems; code = c.old.code }) ++ (flat_map def_tokens c.old.defs ++ rest_tokens (c.steps, c.result))
@@ -265,7 +268,7 @@ named-from : (name : List ℕ) (c : CertTree) → IsNamed name c → (x : Parts)
 named-from name c h = ((record { name = c.old.name; regs = c.old.regs; mems = c.old.mems; code = c.old.code }, (c.old.defs, (c.steps, c.result))), refl, h)
 
 named-cover : (n : NameRow) → Covers (behind_name n) (IsNamed n.1.0) named_tokens
-named-cover n = covers-made cert_of (pair (more_head n.1.0) behind_head) (PartsFit n.1.0) parts_tokens (parts-cover n.1.0) (IsNamed n.1.0) named_tokens (λ x h. h) (λ x. refl) (named-from n.1.0)
+named-cover n = covers-made cert_of (pair (more_head version_1 n.1.0) behind_head) (PartsFit n.1.0) parts_tokens (parts-cover n.1.0) (IsNamed n.1.0) named_tokens (λ x h. h) (λ x. refl) (named-from n.1.0)
 
 -- what stands behind the title
 abbrev old_tokens : CertTree → List Tok
@@ -356,4 +359,4 @@ cert-is-tokens c h =
     let result : AreTokens (result_tokens ++ (flat_map def_tokens c.result ++ end_tokens)) = (word-atom (codes "result") refl, (tt, end)) in
     let steps : AreTokens (flat_map cert_step_tokens c.steps ++ (result_tokens ++ (flat_map def_tokens c.result ++ end_tokens))) =
     tokens-append (flat_map cert_step_tokens c.steps) (result_tokens ++ (flat_map def_tokens c.result ++ end_tokens)) (tokens-each cert_step_tokens IsCertStep step-tokens c.steps h.steps) result in
-    (word-atom (codes "mclaws") refl, (word-atom (codes "1") refl, (tt, tokens-append (group_tokens c.old) (flat_map cert_step_tokens c.steps ++ (result_tokens ++ (flat_map def_tokens c.result ++ end_tokens))) (group-tokens c.old h.old) steps)))
+    (word-atom (codes "mclaws") refl, (word-atom (codes "1") refl, (tt, tokens-append (group_tokens c.old) (flat_map cert_step_tokens c.steps ++ (result_tokens ++ (flat_map def_tokens c.result ++ end_tokens))) (group-tokens One c.old h.old) steps)))

@@ -10,7 +10,9 @@ ghost use Rattle.fun_laws.specs.inner.Views.{behind_view, defs_view, name_view, 
 
 use crate::step_rows::{NameRow, StepRow, TitleRow};
 use def_laws::Cert;
-use group_text::{Head, MarkRow, ReadError, Rows, next_row, read_defs, read_head, row_begins};
+use group_text::{
+    Head, MarkRow, ReadError, Rows, Version, next_row, read_defs, read_head, row_begins,
+};
 use rv_words::{List, Text};
 use std::alloc::Global;
 use tailrec_lang::{Def, Group};
@@ -100,7 +102,7 @@ fn read_behind_name<E, R: Rows<E>>(
         regs,
         mems,
         code,
-    } = read_head(alloc, rows, from, name)?;
+    } = read_head(alloc, rows, from, Version::One, name)?;
     let (defs, (steps, result)) = read_behind_head(alloc, rows, from)?;
     let old = Group {
         name,

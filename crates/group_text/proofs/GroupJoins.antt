@@ -11,6 +11,7 @@ use Rattle.group_text.specs.Limits.{def_limit, nesting_limit}
 use Rattle.group_text.specs.declared.read_error.ReadError.{ReadError}
 use Rattle.group_text.specs.declared.read_error.ReadError.TheVariants as halt
 use Rattle.group_text.specs.inner.Rows.{RowPosition, RowPositions, tokens, RowsGive}
+use Rattle.group_text.specs.Version.{Version}
 use Rattle.group_text.specs.inner.Reading.{Head, name_of, regs_row, mems_row, code_row, head_at, group_of, group_at, own_defs, next_at, body_at, def_at, def_start, is_def, title_row, turn_at}
 use Rattle.group_text.specs.inner.GroupRows.{FirstTree, End, Named, end_of, name_row, first_row, more_head, behind_first}
 use Rattle.group_text.proofs.OwnDefs.{Defs, judge, guard}
@@ -31,8 +32,8 @@ NameRow = List ℕ × Unit {0}
 abbrev head_from : NameRow → HeadRows → Head
 head_from n x = record { name = n.0; regs = x.0.1.0; mems = x.1.0.1.0; code = x.1.1.1.0 }
 
-abbrev three_rows : Reader HeadRows
-three_rows = pair regs_row (pair mems_row code_row)
+abbrev three_rows : Version → Reader HeadRows
+three_rows ver = pair regs_row (pair (mems_row ver) code_row)
 
 -- the definitions behind a head, as they stand in a group
 abbrev with-defs : Head → Out (List DefTree) → Out (Option GroupTree)
@@ -82,52 +83,52 @@ same-three n (Ok p) = same-defs (Named n.0) (head_from n p.0) (own_defs p.1)
 same-three n (Err bad) = refl
 
 -- the row of the name, as it stands in a group
-abbrev with-name : Out NameRow → Out (Option GroupTree)
-with-name q =
+abbrev with-name : Version → Out NameRow → Out (Option GroupTree)
+with-name ver q =
     ◌>>=◌ {A = GroupTree × List Tok} {B = Option GroupTree × List Tok}
     (◌>>=◌ {A = (Head × List DefTree) × List Tok} {B = GroupTree × List Tok}
     (◌>>=◌ {A = Head × List Tok} {B = (Head × List DefTree) × List Tok}
-    (◌>>=◌ {A = (NameRow × HeadRows) × List Tok} {B = Head × List Tok} (◌>>=◌ {A = NameRow × List Tok} {B = (NameRow × HeadRows) × List Tok} q (λ p. ◌>>=◌ {A = HeadRows × List Tok} {B = (NameRow × HeadRows) × List Tok} (three_rows p.1) (λ y. Ok ((p.0, y.0), y.1))))
+    (◌>>=◌ {A = (NameRow × HeadRows) × List Tok} {B = Head × List Tok} (◌>>=◌ {A = NameRow × List Tok} {B = (NameRow × HeadRows) × List Tok} q (λ p. ◌>>=◌ {A = HeadRows × List Tok} {B = (NameRow × HeadRows) × List Tok} (three_rows ver p.1) (λ y. Ok ((p.0, y.0), y.1))))
     (λ p. Ok (record { name = p.0.0.0; regs = p.0.1.0.1.0; mems = p.0.1.1.0.1.0; code = p.0.1.1.1.1.0 }, p.1)))
     (λ p. ◌>>=◌ {A = List DefTree × List Tok} {B = (Head × List DefTree) × List Tok} (own_defs p.1) (λ y. Ok ((p.0, y.0), y.1))))
     (λ p. Ok (group_of p.0.0 p.0.1, p.1)))
     (λ p. Ok (Some p.0, p.1))
 
-abbrev behind-name : Out NameRow → Out (Option GroupTree)
-behind-name q =
+abbrev behind-name : Version → Out NameRow → Out (Option GroupTree)
+behind-name ver q =
     ◌>>=◌ {A = (FirstTree × Option GroupTree) × List Tok} {B = Option GroupTree × List Tok}
     (◌>>=◌ {A = FirstTree × List Tok} {B = (FirstTree × Option GroupTree) × List Tok} (◌>>=◌ {A = NameRow × List Tok} {B = FirstTree × List Tok} q (λ p. Ok (Named p.0.0, p.1)))
-    (λ p. ◌>>=◌ {A = Option GroupTree × List Tok} {B = (FirstTree × Option GroupTree) × List Tok} (behind_first p.0 p.1) (λ q. Ok ((p.0, q.0), q.1))))
+    (λ p. ◌>>=◌ {A = Option GroupTree × List Tok} {B = (FirstTree × Option GroupTree) × List Tok} (behind_first ver p.0 p.1) (λ q. Ok ((p.0, q.0), q.1))))
     (λ p. Ok (p.0.1, p.1))
 
-same-name : (q : Out NameRow) → with-name q ≡ behind-name q
-same-name (Ok p) = same-three p.0 (three_rows p.1)
-same-name (Err bad) = refl
+same-name : (ver : Version) (q : Out NameRow) → with-name ver q ≡ behind-name ver q
+same-name ver (Ok p) = same-three p.0 (three_rows ver p.1)
+same-name ver (Err bad) = refl
 
-group-rows : (ts : List Tok) → made Some group_at ts ≡ by-rows name_row behind_first ts
+group-rows : (ver : Version) (ts : List Tok) → made Some (group_at ver) ts ≡ by-rows name_row (behind_first ver) ts
 unfolding group_at head_at
-group-rows ts = same-name (pair (one (atom_of name_of)) eol ts)
+group-rows ver ts = same-name ver (pair (one (atom_of name_of)) eol ts)
 
 abbrev ending : Out (Unit {0}) → Out (Option GroupTree)
 ending q = ◌>>=◌ {A = Unit {0} × List Tok} {B = Option GroupTree × List Tok} q (λ p. Ok (None, p.1))
 
-abbrev behind-ending : Out (Unit {0}) → Out (Option GroupTree)
-behind-ending q =
+abbrev behind-ending : Version → Out (Unit {0}) → Out (Option GroupTree)
+behind-ending ver q =
     ◌>>=◌ {A = (FirstTree × Option GroupTree) × List Tok} {B = Option GroupTree × List Tok}
     (◌>>=◌ {A = FirstTree × List Tok} {B = (FirstTree × Option GroupTree) × List Tok} (◌>>=◌ {A = Unit {0} × List Tok} {B = FirstTree × List Tok} q (λ p. Ok (End, p.1)))
-    (λ p. ◌>>=◌ {A = Option GroupTree × List Tok} {B = (FirstTree × Option GroupTree) × List Tok} (behind_first p.0 p.1) (λ q. Ok ((p.0, q.0), q.1))))
+    (λ p. ◌>>=◌ {A = Option GroupTree × List Tok} {B = (FirstTree × Option GroupTree) × List Tok} (behind_first ver p.0 p.1) (λ q. Ok ((p.0, q.0), q.1))))
     (λ p. Ok (p.0.1, p.1))
 
-same-ending : (q : Out (Unit {0})) → ending q ≡ behind-ending q
-same-ending (Ok p) = refl
-same-ending (Err bad) = refl
+same-ending : (ver : Version) (q : Out (Unit {0})) → ending q ≡ behind-ending ver q
+same-ending ver (Ok p) = refl
+same-ending ver (Err bad) = refl
 
 -- a group, or the end of the text, is read row by row
-pub next-rows : (ts : List Tok) → next_at ts ≡ by-rows first_row behind_first ts
+pub next-rows : (ver : Version) (ts : List Tok) → next_at ver ts ≡ by-rows first_row (behind_first ver) ts
 unfolding next_at first_row
-next-rows =
-    keyed-rows (codes "end") (made (λ _. None) eol) (keyed (codes "group") (made Some group_at) refused) end_of (keyed (codes "group") name_row refused) behind_first (λ ts. same-ending (eol ts))
-    (keyed-rows (codes "group") (made Some group_at) refused name_row refused behind_first group-rows (λ ts. refl))
+next-rows ver =
+    keyed-rows (codes "end") (made (λ _. None) eol) (keyed (codes "group") (made Some (group_at ver)) refused) end_of (keyed (codes "group") name_row refused) (behind_first ver) (λ ts. same-ending ver (eol ts))
+    (keyed-rows (codes "group") (made Some (group_at ver)) refused name_row refused (behind_first ver) (group-rows ver) (λ ts. refl))
 
 -- ---- what is read row by row
 
@@ -213,65 +214,65 @@ Mems = Unit {0} × (ℕ × Unit {0})
 abbrev pub Ranges : Type 0
 Ranges = Unit {0} × (List Range × Unit {0})
 
-module _ (name : List ℕ) (old mid : RowPositions) where
+module _ (ver : Version) (name : List ℕ) (old mid : RowPositions) where
   abbrev more-of : Regs × (Mems × Ranges) → Head
   more-of x = record { name = name; regs = x.0.1.0; mems = x.1.0.1.0; code = x.1.1.1.0 }
 
   abbrev more : Regs → Reader (Mems × Ranges)
-  more _ = pair mems_row code_row
+  more _ = pair (mems_row ver) code_row
 
-  pub head-first : {A W : Type 0} (v : A → Regs) (w : W → Head) (e : ReadError) → RowsGive v (Err e) old mid regs_row → RowsGive w (Err e) old mid (more_head name)
+  pub head-first : {A W : Type 0} (v : A → Regs) (w : W → Head) (e : ReadError) → RowsGive v (Err e) old mid regs_row → RowsGive w (Err e) old mid (more_head ver name)
   head-first v w e g = err-first v w more-of e old mid regs_row more g
 
-  pub head-second : {B W : Type 0} (v : B → Mems) (w : W → Head) (e : ReadError) (new : RowPositions) (x : Regs) → AllOk regs_row x old mid → RowsGive v (Err e) mid new mems_row → RowsGive w (Err e) old new (more_head name)
-  head-second v w e new x h g = err-second (λ (p : Mems × Ranges). p) w more-of e old mid new regs_row more x h (pair-first v (λ (p : Mems × Ranges). p) e mid new mems_row code_row g)
+  pub head-second : {B W : Type 0} (v : B → Mems) (w : W → Head) (e : ReadError) (new : RowPositions) (x : Regs) → AllOk regs_row x old mid → RowsGive v (Err e) mid new (mems_row ver) → RowsGive w (Err e) old new (more_head ver name)
+  head-second v w e new x h g = err-second (λ (p : Mems × Ranges). p) w more-of e old mid new regs_row more x h (pair-first v (λ (p : Mems × Ranges). p) e mid new (mems_row ver) code_row g)
 
-  pub head-third : {B W : Type 0} (v : B → Ranges) (w : W → Head) (e : ReadError) (next new : RowPositions) (x : Regs) (y : Mems) → AllOk regs_row x old mid → AllOk mems_row y mid next → RowsGive v (Err e) next new code_row → RowsGive w (Err e) old new (more_head name)
-  head-third v w e next new x y h k g = err-second (λ (p : Mems × Ranges). p) w more-of e old mid new regs_row more x h (pair-second v (λ (p : Mems × Ranges). p) e mid next new mems_row code_row y k g)
+  pub head-third : {B W : Type 0} (v : B → Ranges) (w : W → Head) (e : ReadError) (next new : RowPositions) (x : Regs) (y : Mems) → AllOk regs_row x old mid → AllOk (mems_row ver) y mid next → RowsGive v (Err e) next new code_row → RowsGive w (Err e) old new (more_head ver name)
+  head-third v w e next new x y h k g = err-second (λ (p : Mems × Ranges). p) w more-of e old mid new regs_row more x h (pair-second v (λ (p : Mems × Ranges). p) e mid next new (mems_row ver) code_row y k g)
 
-  pub head-ok : (next new : RowPositions) (x : Regs) (y : Mems) (z : Ranges) → AllOk regs_row x old mid → AllOk mems_row y mid next → AllOk code_row z next new → AllOk (more_head name) (more-of (x, (y, z))) old new
-  head-ok next new x y z h k g = both-ok more-of old mid new regs_row more x (y, z) h (ok-with mems_row (λ _. code_row) mid next y z new k g)
+  pub head-ok : (next new : RowPositions) (x : Regs) (y : Mems) (z : Ranges) → AllOk regs_row x old mid → AllOk (mems_row ver) y mid next → AllOk code_row z next new → AllOk (more_head ver name) (more-of (x, (y, z))) old new
+  head-ok next new x y z h k g = both-ok more-of old mid new regs_row more x (y, z) h (ok-with (mems_row ver) (λ _. code_row) mid next y z new k g)
 
 -- ---- groups
 
-module _ (name : List ℕ) (old mid : RowPositions) where
+module _ (ver : Version) (name : List ℕ) (old mid : RowPositions) where
   abbrev some-group : Head × List DefTree → Option GroupTree
   some-group x = Some (group_of x.0 x.1)
 
   abbrev own : Head → Reader (List DefTree)
   own _ = own_defs
 
-  pub group-first : {A W : Type 0} (v : A → Head) (w : W → Option GroupTree) (e : ReadError) → RowsGive v (Err e) old mid (more_head name) → RowsGive w (Err e) old mid (behind_first (Named name))
-  group-first v w e g = err-first v w some-group e old mid (more_head name) own g
+  pub group-first : {A W : Type 0} (v : A → Head) (w : W → Option GroupTree) (e : ReadError) → RowsGive v (Err e) old mid (more_head ver name) → RowsGive w (Err e) old mid (behind_first ver (Named name))
+  group-first v w e g = err-first v w some-group e old mid (more_head ver name) own g
 
-  pub group-second : {B W : Type 0} (v : B → List DefTree) (w : W → Option GroupTree) (e : ReadError) (new : RowPositions) (x : Head) → AllOk (more_head name) x old mid → RowsGive v (Err e) mid new own_defs → RowsGive w (Err e) old new (behind_first (Named name))
-  group-second v w e new x h g = err-second v w some-group e old mid new (more_head name) own x h g
+  pub group-second : {B W : Type 0} (v : B → List DefTree) (w : W → Option GroupTree) (e : ReadError) (new : RowPositions) (x : Head) → AllOk (more_head ver name) x old mid → RowsGive v (Err e) mid new own_defs → RowsGive w (Err e) old new (behind_first ver (Named name))
+  group-second v w e new x h g = err-second v w some-group e old mid new (more_head ver name) own x h g
 
-  pub group-ok : (new : RowPositions) (x : Head) (ds : List DefTree) → AllOk (more_head name) x old mid → AllOk own_defs ds mid new → AllOk (behind_first (Named name)) (Some (group_of x ds)) old new
-  group-ok new x ds h g = both-ok some-group old mid new (more_head name) own x ds h g
+  pub group-ok : (new : RowPositions) (x : Head) (ds : List DefTree) → AllOk (more_head ver name) x old mid → AllOk own_defs ds mid new → AllOk (behind_first ver (Named name)) (Some (group_of x ds)) old new
+  group-ok new x ds h g = both-ok some-group old mid new (more_head ver name) own x ds h g
 
 -- ---- a call for a group
 
 abbrev pub Title : Type 0
 Title = Unit {0} × (Unit {0} × Unit {0})
 
-module _ (old mid : RowPositions) where
+module _ (ver : Version) (old mid : RowPositions) where
   abbrev titled : Title × Option GroupTree → Option GroupTree
   titled x = x.1
 
   abbrev nexts : Title → Reader (Option GroupTree)
-  nexts _ = next_at
+  nexts _ = next_at ver
 
-  pub turn-first : {A W : Type 0} (v : A → Title) (w : W → Option GroupTree) (e : ReadError) → RowsGive v (Err e) old mid title_row → RowsGive w (Err e) old mid (turn_at true)
-  turn-first v w e g = err-first v w titled e old mid title_row nexts g
+  pub turn-first : {A W : Type 0} (v : A → Title) (w : W → Option GroupTree) (e : ReadError) → RowsGive v (Err e) old mid (title_row ver) → RowsGive w (Err e) old mid (turn_at ver true)
+  turn-first v w e g = err-first v w titled e old mid (title_row ver) nexts g
 
-  pub turn-second : {X : Type 0} (w : X → Option GroupTree) (q : Result X ReadError) (new : RowPositions) (x : Title) → AllOk title_row x old mid → RowsGive w q mid new next_at → RowsGive w q old new (turn_at true)
-  turn-second w (Ok y) new x h g = both-ok titled old mid new title_row nexts x (w y) h g
-  turn-second w (Err e) new x h g = err-second w w titled e old mid new title_row nexts x h g
+  pub turn-second : {X : Type 0} (w : X → Option GroupTree) (q : Result X ReadError) (new : RowPositions) (x : Title) → AllOk (title_row ver) x old mid → RowsGive w q mid new (next_at ver) → RowsGive w q old new (turn_at ver true)
+  turn-second w (Ok y) new x h g = both-ok titled old mid new (title_row ver) nexts x (w y) h g
+  turn-second w (Err e) new x h g = err-second w w titled e old mid new (title_row ver) nexts x h g
 
 -- by whether the text begins here
-pub begun : {X : Type 0} (w : X → Option GroupTree) (q : Result X ReadError) (old new : RowPositions) (b : Bool) → b ≡ true → RowsGive w q old new (turn_at true) → RowsGive w q old new (turn_at b)
-begun w q old new b e g = subst (λ (b : Bool). RowsGive w q old new (turn_at b)) (sym e) g
+pub begun : {X : Type 0} (ver : Version) (w : X → Option GroupTree) (q : Result X ReadError) (old new : RowPositions) (b : Bool) → b ≡ true → RowsGive w q old new (turn_at ver true) → RowsGive w q old new (turn_at ver b)
+begun ver w q old new b e g = subst (λ (b : Bool). RowsGive w q old new (turn_at ver b)) (sym e) g
 
-pub behind-begin : {X : Type 0} (w : X → Option GroupTree) (q : Result X ReadError) (old new : RowPositions) (b : Bool) → b ≡ false → RowsGive w q old new next_at → RowsGive w q old new (turn_at b)
-behind-begin w q old new b e g = subst (λ (b : Bool). RowsGive w q old new (turn_at b)) (sym e) g
+pub behind-begin : {X : Type 0} (ver : Version) (w : X → Option GroupTree) (q : Result X ReadError) (old new : RowPositions) (b : Bool) → b ≡ false → RowsGive w q old new (next_at ver) → RowsGive w q old new (turn_at ver b)
+behind-begin ver w q old new b e g = subst (λ (b : Bool). RowsGive w q old new (turn_at ver b)) (sym e) g

@@ -28,8 +28,9 @@ use Rattle.tailrec_lang.specs.declared.group.Exit.{Exit}
 use Rattle.tailrec_lang.specs.declared.group.Exit.TheVariants.{At, Ret}
 use Rattle.tailrec_lang.specs.Registers.{AreRegistersFrom}
 use Rattle.group_text.specs.Limits.{IsExit, def_exit_limit, returns, IsName}
+use Rattle.group_text.specs.Version.{Version}
 use Rattle.group_text.specs.Spelling.{number, address, exit_tokens}
-use Rattle.group_text.specs.inner.Reading.{exit_of, has_atom, are_few_exits, def_row, are_atom_bytes, is_name, name_of, registers_rise, ranges_rise, regs_row, mems_row, code_row}
+use Rattle.group_text.specs.inner.Reading.{exit_of, has_atom, are_few_exits, def_row, are_atom_bytes, is_name, name_of, registers_rise, ranges_rise, regs_row, mems_limit, has_mems, mems_row, code_row}
 use Rattle.group_text.proofs.StepLaws.{shrinks, atom-flat, name-law, number-law, address-law, eol-law}
 
 -- a list of items that all lie in a line
@@ -202,10 +203,18 @@ regs-law = Reads-pair (word (codes "regs")) Always (λ _. Atom (codes "regs") �
     (row-of has_atom (number_at 32) (λ n. n < 32) number (registers_rise 1) (AreRegistersFrom 1) (number-law 32 (omega arith)) (small-number-shrinks 32 (omega arith)) (λ n h. atom-flat (decimal n)) (λ n h us. refl) refl
     (λ rs h e. rising-true 1 rs e) (true-rising 1))
 
-pub mems-law : Reads mems_row (λ p. Always p.0 × ((p.1.0 < 2) × Always p.1.1)) (λ p. Atom (codes "mems") ∷ (number p.1.0 ++ Eol ∷ []))
+-- a group of that version may have so many memories
+abbrev pub HasMems : Version → ℕ → Type 0
+HasMems ver n = (ver.least_mems ≤ n) × (n ≤ ver.most_mems)
+
+pub mems-law : (ver : Version) → ver.most_mems < mems_limit → Reads (mems_row ver) (λ p. Always p.0 × (HasMems ver p.1.0 × Always p.1.1)) (λ p. Atom (codes "mems") ∷ (number p.1.0 ++ Eol ∷ []))
 unfolding mems_row
-mems-law = Reads-pair (word (codes "mems")) Always (λ _. Atom (codes "mems") ∷ []) (name-law (codes "mems")) (λ x h. atom-flat (codes "mems")) _ _ _
-    (Reads-pair (number_at 2) (λ n. n < 2) number (number-law 2 (omega arith)) (λ n h. atom-flat (decimal n)) eol Always (λ _. Eol ∷ []) eol-law)
+mems-law ver small = Reads-pair (word (codes "mems")) Always (λ _. Atom (codes "mems") ∷ []) (name-law (codes "mems")) (λ x h. atom-flat (codes "mems")) _ _ _
+    (reads-as (pair (checked (has_mems ver) (number_at mems_limit)) eol) (λ p. ((p.0 < mems_limit) × (has_mems ver p.0 ≡ true)) × Unit {0}) (λ p. HasMems ver p.0 × Always p.1) (λ p. number p.0 ++ Eol ∷ [])
+    (reads-closed (has_mems ver) (number_at mems_limit) (λ n. n < mems_limit) number
+    (Reads-pair (number_at mems_limit) (λ n. n < mems_limit) number (number-law mems_limit (omega arith)) (λ n h. atom-flat (decimal n)) eol Always (λ _. Eol ∷ []) eol-law) (λ n h. atom-flat (decimal n)))
+    (λ p h. let k = both-true (nat_le ver.least_mems p.0) (nat_le p.0 ver.most_mems) h.0.1 in ((le-true ver.least_mems p.0 k.0, le-true p.0 ver.most_mems k.1), tt))
+    (λ p h. ((omega (arith, h.0.1, small), true-both (nat_le ver.least_mems p.0) (nat_le p.0 ver.most_mems) (true-le ver.least_mems p.0 h.0.0) (true-le p.0 ver.most_mems h.0.1)), tt)))
 
 abbrev pub HasBytes : Range → Type 0
 HasBytes r = AllByRecursion (λ b. b < 256) r.bytes

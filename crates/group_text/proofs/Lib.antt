@@ -1,5 +1,6 @@
 pub mod StepLaws
 pub mod BodyLaws
+pub mod Versions
 pub mod HeadLaws
 pub mod Texts
 pub mod Real

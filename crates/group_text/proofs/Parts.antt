@@ -7,7 +7,8 @@ use Rattle.mc_text.proofs.Covers.{lines-append}
 use Rattle.mc_text.proofs.Printed.{spell-after_lines}
 use Rattle.term_text.specs.Spelling.{joined, word_tokens, mem_tokens, cond_tokens, range_tokens}
 use Rattle.tailrec_lang.specs.Tree.{StepTree, Bind, BindMem, Need, BodyTree, Do, Branch, Call, Again, Leave, ArmTrees, NoArm, Arm, DefTree, GroupTree}
-use Rattle.group_text.specs.Spelling.{line, number, address, exit_tokens, values_tokens, step_tokens, arm_count, body_tokens, arm_tokens, def_tokens, group_tokens, head_tokens, end_tokens, text_of}
+use Rattle.group_text.specs.Version.{Version}
+use Rattle.group_text.specs.Spelling.{line, number, address, exit_tokens, values_tokens, step_tokens, arm_count, body_tokens, arm_tokens, def_tokens, group_tokens, title_tokens, end_tokens, text_in}
 use Rattle.group_text.specs.Parts.{group_texts}
 
 -- ends however it begins
@@ -72,7 +73,7 @@ groups-apart (g ∷ gs) =
     ∙ ap (λ (v : List ℕ). spell Start (group_tokens g) ++ v) (groups-apart gs)
     ∙ sym (append_assoc (spell Start (group_tokens g)) (group_texts gs) (spell Start end_tokens))
 
-pub text-apart : (gs : List GroupTree) → text_of gs ≡ spell Start head_tokens ++ (group_texts gs ++ spell Start end_tokens)
-text-apart gs =
-    spell-after_lines head_tokens (flat_map group_tokens gs ++ end_tokens) refl
-    ∙ ap (λ (v : List ℕ). spell Start head_tokens ++ v) (groups-apart gs)
+pub text-apart : (v : Version) (gs : List GroupTree) → text_in v gs ≡ spell Start (title_tokens v) ++ (group_texts gs ++ spell Start end_tokens)
+text-apart v gs =
+    spell-after_lines (title_tokens v) (flat_map group_tokens gs ++ end_tokens) refl
+    ∙ ap (λ (w : List ℕ). spell Start (title_tokens v) ++ w) (groups-apart gs)

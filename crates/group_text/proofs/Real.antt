@@ -17,8 +17,11 @@ use Rattle.tailrec_lang.specs.Eval.{HasFewNeeds, step_needs, needs, arm_needs}
 use Rattle.tailrec_lang.specs.declared.group.Exit.{Exit}
 use Rattle.tailrec_lang.specs.declared.group.Exit.TheVariants.{At, Ret}
 use Rattle.tailrec_lang.specs.Registers.{AreRegistersFrom}
-use Rattle.group_text.specs.Limits.{IsValues, IsStep, IsBody, AreArms, nesting_limit, IsExit, IsDef, IsGroup}
-use Rattle.group_text.specs.Spelling.{line, number, address, exit_tokens, values_tokens, arm_count, step_tokens, body_tokens, arm_tokens, def_tokens, group_tokens, head_tokens}
+use Rattle.group_text.specs.declared.version.Version.{Version as Known}
+use Rattle.group_text.specs.Version.{version_of}
+use Rattle.group_text.proofs.Versions.{most-small, title-atom}
+use Rattle.group_text.specs.Limits.{IsValues, IsStep, IsBody, AreArms, nesting_limit, IsExit, IsDef, IsGroupIn}
+use Rattle.group_text.specs.Spelling.{line, number, address, exit_tokens, values_tokens, arm_count, step_tokens, body_tokens, arm_tokens, def_tokens, group_tokens, title_tokens}
 use Rattle.group_text.proofs.HeadLaws.{HasBytes, not-empty}
 
 pub eol-tokens : (v : List Tok) → AreTokens v → AreTokens (v ++ Eol ∷ [])
@@ -82,8 +85,8 @@ ranges-tokens least (r ∷ rs) h k = tokens-append (range_tokens r) (flat_map ra
 line-tokens : (name : List ℕ) (v : List Tok) → IsAtom name → AreTokens v → AreTokens (line name (v ∷ []))
 line-tokens name v h k = (h, eol-tokens v k)
 
-pub group-tokens : (g : GroupTree) → IsGroup g → AreTokens (group_tokens g)
-group-tokens g h =
+pub group-tokens : (v : Known) (g : GroupTree) → IsGroupIn (version_of v) g → AreTokens (group_tokens g)
+group-tokens v g h =
     let regs : List Tok = line (codes "regs") (flat_map number g.regs ∷ []) in
     let mems : List Tok = line (codes "mems") (number g.mems ∷ []) in
     let code : List Tok = line (codes "code") (flat_map range_tokens g.code ∷ []) in
@@ -94,15 +97,15 @@ group-tokens g h =
         (
           tt,
           tokens-append regs (mems ++ (code ++ defs)) (line-tokens (codes "regs") (flat_map number g.regs) (word-atom (codes "regs") refl) (registers-tokens 1 g.regs h.registers))
-              (tokens-append mems (code ++ defs) (line-tokens (codes "mems") (number g.mems) (word-atom (codes "mems") refl) (number-tokens g.mems (omega (arith, h.memories))))
+              (tokens-append mems (code ++ defs) (line-tokens (codes "mems") (number g.mems) (word-atom (codes "mems") refl) (number-tokens g.mems (omega (arith, h.memories.1, most-small v))))
               (tokens-append code defs (line-tokens (codes "code") (flat_map range_tokens g.code) (word-atom (codes "code") refl) (ranges-tokens 0 g.code h.code h.bytes))
               (tokens-each def_tokens IsDef def-tokens g.defs h.defs))),
         ),
       ),
     )
 
-pub title-tokens : AreTokens head_tokens
-title-tokens = (word-atom (codes "mcproof") refl, (word-atom (codes "1") refl, (tt, tt)))
+pub title-tokens : (v : Known) → AreTokens (title_tokens (version_of v))
+title-tokens v = (word-atom (codes "mcproof") refl, (title-atom v, (tt, tt)))
 
 -- ---- how many Needs
 

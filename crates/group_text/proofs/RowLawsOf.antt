@@ -10,6 +10,9 @@ use Rattle.term_text.specs.Spelling.{word_tokens, mem_tokens, cond_tokens, range
 use Rattle.term_text.proofs.TermFacts.{word-flat, mem-flat, cond-flat}
 use Rattle.term_text.proofs.TermLaws.{word-law, mem-law, cond-law}
 use Rattle.group_text.specs.Limits.{IsValues, def_exit_limit, IsName}
+use Rattle.group_text.specs.declared.version.Version.{Version as Known}
+use Rattle.group_text.specs.Version.{Version, version_of}
+use Rattle.group_text.proofs.Versions.{most-small}
 use Rattle.group_text.specs.Spelling.{number, values_tokens, address, exit_tokens}
 use Rattle.group_text.specs.inner.Reading.{mark_row, values_at, step_at, arm_bound, call_row, name_of, regs_row, mems_row, code_row, def_start, title_row}
 use Rattle.group_text.proofs.StepLaws.{row-law, mark-law, number-law, values-law, values_row, atom-flat, eol-law, name-law}
@@ -84,13 +87,13 @@ first-row =
 pub regs-row : ReadsRows regs_row
 regs-row = row-reads regs_row _ _ regs-law (λ p h. (Atom (codes "regs") ∷ flat_map number p.1.0, refl))
 
-pub mems-row : ReadsRows mems_row
-mems-row = row-reads mems_row _ _ mems-law (λ p h. (Atom (codes "mems") ∷ number p.1.0, refl))
+pub mems-row : (v : Known) → ReadsRows (mems_row (version_of v))
+mems-row v = row-reads (mems_row (version_of v)) _ _ (mems-law (version_of v) (most-small v)) (λ p h. (Atom (codes "mems") ∷ number p.1.0, refl))
 
 pub code-row : ReadsRows code_row
 code-row = row-reads code_row _ _ code-law (λ p h. (Atom (codes "code") ∷ flat_map range_tokens p.1.0, refl))
 
-pub title-row : ReadsRows title_row
-title-row = row-reads title_row _ _
-    (Reads-pair (word (codes "mcproof")) Always (λ _. Atom (codes "mcproof") ∷ []) (name-law (codes "mcproof")) (λ x h. atom-flat (codes "mcproof")) _ _ _ (mark-law (codes "1")))
-    (λ p h. (Atom (codes "mcproof") ∷ Atom (codes "1") ∷ [], refl))
+pub title-row : (ver : Version) → ReadsRows (title_row ver)
+title-row ver = row-reads (title_row ver) _ _
+    (Reads-pair (word (codes "mcproof")) Always (λ _. Atom (codes "mcproof") ∷ []) (name-law (codes "mcproof")) (λ x h. atom-flat (codes "mcproof")) _ _ _ (mark-law ver.title))
+    (λ p h. (Atom (codes "mcproof") ∷ Atom ver.title ∷ [], refl))

@@ -14,11 +14,14 @@ use Rattle.term_text.specs.Spelling.{range_tokens}
 use Rattle.tailrec_lang.specs.Tree.{BodyTree, DefTree, GroupTree}
 use Rattle.tailrec_lang.specs.declared.group.Exit.{Exit}
 use Rattle.tailrec_lang.specs.Registers.{AreRegistersFrom}
-use Rattle.group_text.specs.Limits.{nesting_limit, IsBody, IsDef, IsGroup, IsName}
-use Rattle.group_text.specs.Spelling.{line, number, address, exit_tokens, body_tokens, def_tokens, head_tokens}
+use Rattle.group_text.specs.declared.version.Version.{Version as Known}
+use Rattle.group_text.specs.Version.{Version, version_of}
+use Rattle.group_text.proofs.Versions.{most-small, least-most}
+use Rattle.group_text.specs.Limits.{nesting_limit, IsBody, IsDef, IsGroupIn, IsName}
+use Rattle.group_text.specs.Spelling.{line, number, address, exit_tokens, body_tokens, def_tokens, title_tokens}
 use Rattle.group_text.specs.inner.Reading.{Head, def_row, def_at, is_def, name_of, regs_row, mems_row, code_row, head_at, group_of, title_row, body_at}
 use Rattle.group_text.proofs.StepLaws.{ends-eol, shrinks, atom-flat, name-law, eol-law, row-law}
-use Rattle.group_text.proofs.HeadLaws.{AreExits, def-row-law, group-name-law, regs-law, mems-law, IsCode, code-law}
+use Rattle.group_text.proofs.HeadLaws.{AreExits, def-row-law, group-name-law, regs-law, HasMems, mems-law, IsCode, code-law}
 use Rattle.group_text.proofs.BodyLaws.{body-law}
 
 -- ---- definitions
@@ -57,10 +60,10 @@ def-shrinks = shrinks def_at IsDef def_tokens def-cover.takes (λ d h. omega ari
 
 -- ---- the head of a group
 
-pub record HeadFits (h : Head) : Type 0 where
+pub record HeadFits (ver : Version) (h : Head) : Type 0 where
   pub name : IsName h.name
   pub registers : AreRegistersFrom 1 h.regs
-  pub memories : h.mems ≤ 1
+  pub memories : HasMems ver h.mems
   pub code : IsCode h.code
 
 -- the lines of a head, behind the first word
@@ -85,14 +88,14 @@ NameFits p = IsName p.0 × Always p.1
 abbrev pub RegsFit : Regs → Type 0
 RegsFit p = Always p.0 × (AreRegistersFrom 1 p.1.0 × Always p.1.1)
 
-abbrev pub MemsFit : Mems → Type 0
-MemsFit p = Always p.0 × ((p.1.0 < 2) × Always p.1.1)
+abbrev pub MemsFit : Version → Mems → Type 0
+MemsFit ver p = Always p.0 × (HasMems ver p.1.0 × Always p.1.1)
 
 abbrev pub CodeFits : CodeRow → Type 0
 CodeFits p = Always p.0 × (IsCode p.1.0 × Always p.1.1)
 
-abbrev HeadPartsFit : HeadParts → Type 0
-HeadPartsFit p = NameFits p.0 × (RegsFit p.1.0 × (MemsFit p.1.1.0 × CodeFits p.1.1.1))
+abbrev HeadPartsFit : Version → HeadParts → Type 0
+HeadPartsFit ver p = NameFits p.0 × (RegsFit p.1.0 × (MemsFit ver p.1.1.0 × CodeFits p.1.1.1))
 
 abbrev name_tokens : List ℕ × Unit {0} → List Tok
 name_tokens p = (Atom p.0 ∷ []) ++ Eol ∷ []
@@ -113,37 +116,37 @@ name-cover = row-covers (pair (one (atom_of name_of)) eol) NameFits name_tokens 
 pub regs-cover : Covers regs_row RegsFit regs_tokens
 regs-cover = row-covers regs_row RegsFit regs_tokens regs-law (λ p h. ends-eol (Atom (codes "regs")) (flat_map number p.1.0)) (tt, ([], tt)) (tt, (tt, tt))
 
-pub mems-cover : Covers mems_row MemsFit mems_tokens
-mems-cover = row-covers mems_row MemsFit mems_tokens mems-law (λ p h. refl) (tt, (0, tt)) (tt, (omega arith, tt))
+pub mems-cover : (v : Known) → Covers (mems_row (version_of v)) (MemsFit (version_of v)) mems_tokens
+mems-cover v = row-covers (mems_row (version_of v)) (MemsFit (version_of v)) mems_tokens (mems-law (version_of v) (most-small v)) (λ p h. refl) (tt, ((version_of v).most_mems, tt)) (tt, ((least-most v, omega arith), tt))
 
 pub code-cover : Covers code_row CodeFits code_tokens
 code-cover = row-covers code_row CodeFits code_tokens code-law (λ p h. ends-eol (Atom (codes "code")) (flat_map range_tokens p.1.0)) (tt, ([], tt)) (tt, ((tt, tt), tt))
 
-head-parts : Covers (pair (pair (one (atom_of name_of)) eol) (pair regs_row (pair mems_row code_row))) HeadPartsFit (λ p. name_tokens p.0 ++ (regs_tokens p.1.0 ++ (mems_tokens p.1.1.0 ++ code_tokens p.1.1.1)))
-head-parts =
-    covers-with (pair (one (atom_of name_of)) eol) NameFits name_tokens name-cover (λ _. pair regs_row (pair mems_row code_row)) (λ _ p. RegsFit p.0 × (MemsFit p.1.0 × CodeFits p.1.1)) (λ _ p. regs_tokens p.0 ++ (mems_tokens p.1.0 ++ code_tokens p.1.1)) (λ _ _.
-    covers-with regs_row RegsFit regs_tokens regs-cover (λ _. pair mems_row code_row) (λ _ p. MemsFit p.0 × CodeFits p.1) (λ _ p. mems_tokens p.0 ++ code_tokens p.1) (λ _ _.
-    covers-with mems_row MemsFit mems_tokens mems-cover (λ _. code_row) (λ _. CodeFits) (λ _. code_tokens) (λ _ _. code-cover)))
+head-parts : (v : Known) → Covers (pair (pair (one (atom_of name_of)) eol) (pair regs_row (pair (mems_row (version_of v)) code_row))) (HeadPartsFit (version_of v)) (λ p. name_tokens p.0 ++ (regs_tokens p.1.0 ++ (mems_tokens p.1.1.0 ++ code_tokens p.1.1.1)))
+head-parts v =
+    covers-with (pair (one (atom_of name_of)) eol) NameFits name_tokens name-cover (λ _. pair regs_row (pair (mems_row (version_of v)) code_row)) (λ _ p. RegsFit p.0 × (MemsFit (version_of v) p.1.0 × CodeFits p.1.1)) (λ _ p. regs_tokens p.0 ++ (mems_tokens p.1.0 ++ code_tokens p.1.1)) (λ _ _.
+    covers-with regs_row RegsFit regs_tokens regs-cover (λ _. pair (mems_row (version_of v)) code_row) (λ _ p. MemsFit (version_of v) p.0 × CodeFits p.1) (λ _ p. mems_tokens p.0 ++ code_tokens p.1) (λ _ _.
+    covers-with (mems_row (version_of v)) (MemsFit (version_of v)) mems_tokens (mems-cover v) (λ _. code_row) (λ _. CodeFits) (λ _. code_tokens) (λ _ _. code-cover)))
 
 abbrev make_head : HeadParts → Head
 make_head x = record { name = x.0.0; regs = x.1.0.1.0; mems = x.1.1.0.1.0; code = x.1.1.1.1.0 }
 
-head-into : (p : HeadParts) → HeadPartsFit p → HeadFits (make_head p)
-head-into p h = record { name = h.0.0; registers = h.1.0.1.0; memories = omega (arith, h.1.1.0.1.0); code = h.1.1.1.1.0 }
+head-into : (ver : Version) (p : HeadParts) → HeadPartsFit ver p → HeadFits ver (make_head p)
+head-into ver p h = record { name = h.0.0; registers = h.1.0.1.0; memories = h.1.1.0.1.0; code = h.1.1.1.1.0 }
 
-head-from : (h : Head) → HeadFits h → (p : HeadParts) × (make_head p ≡ h) × HeadPartsFit p
-head-from h f = (((h.name, tt), ((tt, (h.regs, tt)), ((tt, (h.mems, tt)), (tt, (h.code, tt))))), refl, ((f.name, tt), ((tt, (f.registers, tt)), ((tt, (omega (arith, f.memories), tt)), (tt, (f.code, tt))))))
+head-from : (ver : Version) (h : Head) → HeadFits ver h → (p : HeadParts) × (make_head p ≡ h) × HeadPartsFit ver p
+head-from ver h f = (((h.name, tt), ((tt, (h.regs, tt)), ((tt, (h.mems, tt)), (tt, (h.code, tt))))), refl, ((f.name, tt), ((tt, (f.registers, tt)), ((tt, (f.memories, tt)), (tt, (f.code, tt))))))
 
-pub head-cover : Covers head_at HeadFits lines_of_head
+pub head-cover : (v : Known) → Covers (head_at (version_of v)) (HeadFits (version_of v)) lines_of_head
 unfolding head_at
-head-cover = covers-made make_head (pair (pair (one (atom_of name_of)) eol) (pair regs_row (pair mems_row code_row))) _ _ head-parts HeadFits lines_of_head head-into (λ p. refl) head-from
+head-cover v = covers-made make_head (pair (pair (one (atom_of name_of)) eol) (pair regs_row (pair (mems_row (version_of v)) code_row))) _ _ (head-parts v) (HeadFits (version_of v)) lines_of_head (head-into (version_of v)) (λ p. refl) (head-from (version_of v))
 
 -- the head of a group
 abbrev pub head_of : GroupTree → Head
 head_of g = record { name = g.name; regs = g.regs; mems = g.mems; code = g.code }
 
-pub head-fits : (g : GroupTree) → IsGroup g → HeadFits (head_of g)
-head-fits g h = record { name = h.name; registers = h.registers; memories = h.memories; code = (h.code, h.bytes) }
+pub head-fits : (ver : Version) (g : GroupTree) → IsGroupIn ver g → HeadFits ver (head_of g)
+head-fits ver g h = record { name = h.name; registers = h.registers; memories = h.memories; code = (h.code, h.bytes) }
 
 -- ---- groups
 
@@ -165,8 +168,8 @@ group-split h ds =
 
 -- ---- the title
 
-pub title-cover : Covers title_row (λ p. Unit {0} × (Unit {0} × Unit {0})) (λ _. head_tokens)
-title-cover = row-covers title_row _ _
-    (Reads-pair (word (codes "mcproof")) Always (λ _. Atom (codes "mcproof") ∷ []) (name-law (codes "mcproof")) (λ x h. atom-flat (codes "mcproof")) (pair (word (codes "1")) eol) _ _
-    (Reads-pair (word (codes "1")) Always (λ _. Atom (codes "1") ∷ []) (name-law (codes "1")) (λ x h. atom-flat (codes "1")) eol Always (λ _. Eol ∷ []) eol-law))
+pub title-cover : (ver : Version) → Covers (title_row ver) (λ p. Unit {0} × (Unit {0} × Unit {0})) (λ _. title_tokens ver)
+title-cover ver = row-covers (title_row ver) _ _
+    (Reads-pair (word (codes "mcproof")) Always (λ _. Atom (codes "mcproof") ∷ []) (name-law (codes "mcproof")) (λ x h. atom-flat (codes "mcproof")) (pair (word ver.title) eol) _ _
+    (Reads-pair (word ver.title) Always (λ _. Atom ver.title ∷ []) (name-law ver.title) (λ x h. atom-flat ver.title) eol Always (λ _. Eol ∷ []) eol-law))
     (λ p h. refl) (tt, (tt, tt)) (tt, (tt, tt))

@@ -78,7 +78,7 @@ def_limit = 4096
 pub record IsGroupIn (v : Version) (g : GroupTree) : Type 0 where
   pub name : IsName g.name
   pub registers : AreRegistersFrom 1 g.regs
-  pub memories : g.mems ≤ v.most_mems
+  pub memories : (v.least_mems ≤ g.mems) × (g.mems ≤ v.most_mems)
   pub code : AreRanges g.code
   pub bytes : AllByRecursion (λ r. AllByRecursion (λ b. b < 256) r.bytes) g.code
   pub defs : AllByRecursion IsDef g.defs

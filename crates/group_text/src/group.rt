@@ -7,6 +7,7 @@ ghost use Rattle.group_text.specs.inner.Heads.{head_of};
 ghost use Rattle.group_text.specs.inner.Rows.{RowsGive};
 ghost use Rattle.group_text.specs.inner.Reading.{def_at, group_of, next_at, own_defs, turn_at};
 ghost use Rattle.group_text.specs.inner.GroupRows.{more_head};
+ghost use Rattle.group_text.specs.Version.{version_of};
 
 use crate::bodies::read_body;
 use crate::heads::{FirstRow, Head};
@@ -15,6 +16,7 @@ use crate::next_rows::{
 };
 use crate::read_error::ReadError;
 use crate::rows::Rows;
+use crate::version::Version;
 use rv_words::{List, Text};
 use std::alloc::Global;
 use tailrec_lang::{Def, Group};
@@ -66,13 +68,14 @@ pub fn read_head<E, R: Rows<E>>(
     alloc: Global,
     rows: &mut R,
     from: &mut E,
+    version: Version,
     name: Text,
 ) -> Result<Head, ReadError>
-    ensures gives { RowsGive head_of result (R.May rows.old from.old) (R.May rows.new from.new) (more_head name) }
+    ensures gives { RowsGive head_of result (R.May rows.old from.old) (R.May rows.new from.new) (more_head (version_of version) name) }
     ensures left { R.left rows.new ≤ R.left rows.old }
 {
     let regs = next_row(alloc, rows, from, &RegsRow)?;
-    let mems = next_row(alloc, rows, from, &MemsRow)?;
+    let mems = next_row(alloc, rows, from, &MemsRow(version))?;
     let code = next_row(alloc, rows, from, &CodeRow)?;
     Ok(Head {
         name,
@@ -87,9 +90,10 @@ fn read_group<E, R: Rows<E>>(
     alloc: Global,
     rows: &mut R,
     from: &mut E,
+    version: Version,
     name: Text,
 ) -> Result<Group, ReadError>
-    ensures gives { RowsGive (λ g. Some (group_tree g)) result (R.May rows.old from.old) (R.May rows.new from.new) (made (λ x. Some (group_of x.0 x.1)) (pair (more_head name) own_defs)) }
+    ensures gives { RowsGive (λ g. Some (group_tree g)) result (R.May rows.old from.old) (R.May rows.new from.new) (made (λ x. Some (group_of x.0 x.1)) (pair (more_head (version_of version) name) own_defs)) }
     ensures left { R.left rows.new ≤ R.left rows.old }
 {
     let Head {
@@ -97,7 +101,7 @@ fn read_group<E, R: Rows<E>>(
         regs,
         mems,
         code,
-    } = read_head(alloc, rows, from, name)?;
+    } = read_head(alloc, rows, from, version, name)?;
     let defs = read_defs(alloc, rows, from)?;
     Ok(Group {
         name,
@@ -113,34 +117,36 @@ fn read_next<E, R: Rows<E>>(
     alloc: Global,
     rows: &mut R,
     from: &mut E,
+    version: Version,
 ) -> Result<Option<Group>, ReadError>
-    ensures gives { RowsGive (λ found. option_map group_tree found) result (R.May rows.old from.old) (R.May rows.new from.new) next_at }
+    ensures gives { RowsGive (λ found. option_map group_tree found) result (R.May rows.old from.old) (R.May rows.new from.new) (next_at (version_of version)) }
     ensures left { R.left rows.new ≤ R.left rows.old }
 {
     let first = next_row(alloc, rows, from, &GroupRow)?;
     match first {
         FirstRow::End => Ok(None),
         FirstRow::Group(name) => {
-            let group = read_group(alloc, rows, from, name)?;
+            let group = read_group(alloc, rows, from, version, name)?;
             Ok(Some(group))
         }
     }
 }
 
-/// The next group, or none at the row that ends the text, after the title where the text begins here.
+/// The next group, or none at the row that ends the text, after the title of that version where the text begins here.
 pub fn read_turn<E, R: Rows<E>>(
     alloc: Global,
     rows: &mut R,
     from: &mut E,
+    version: Version,
     first: bool,
 ) -> Result<Option<Group>, ReadError>
-    ensures gives { RowsGive (λ found. option_map group_tree found) result (R.May rows.old from.old) (R.May rows.new from.new) (turn_at first) }
+    ensures gives { RowsGive (λ found. option_map group_tree found) result (R.May rows.old from.old) (R.May rows.new from.new) (turn_at (version_of version) first) }
     ensures left { R.left rows.new ≤ R.left rows.old }
 {
     if first {
-        next_row(alloc, rows, from, &TitleRow)?;
-        read_next(alloc, rows, from)
+        next_row(alloc, rows, from, &TitleRow(version))?;
+        read_next(alloc, rows, from, version)
     } else {
-        read_next(alloc, rows, from)
+        read_next(alloc, rows, from, version)
     }
 }

@@ -6,10 +6,12 @@ ghost use Rattle.mc_text.specs.inner.Reading.{number_at};
 ghost use Rattle.mc_text.specs.Scanning.{tokens_at};
 ghost use Rattle.mc_text.specs.Outcome.{Gives, last_line};
 ghost use Rattle.group_text.specs.Limits.{returns};
+ghost use Rattle.group_text.specs.Version.{version_of};
 ghost use Rattle.group_text.specs.inner.GroupRows.{end_of, first_row, first_row_tree, name_row};
 ghost use Rattle.group_text.specs.inner.Reading.{are_atom_bytes, are_few_exits, code_row, def_row, def_start, exit_of, has_atom, is_def, is_name, mems_row, name_of, ranges_rise, registers_rise, regs_row, title_row};
 
 use crate::body_rows::read_mark;
+use crate::version::Version;
 use mc_text::cursor::{address, eol, keyword, number, peek};
 use mc_text::{Scan, Token, TokenError, hexnum, is_atom_byte};
 use rv_words::{List, Range, Text};
@@ -241,12 +243,15 @@ pub fn read_regs_row<'a>(alloc: Global, scan: &mut Scan<'a>) -> Result<List<u8>,
 
 /// The line of the number of memories.
 #[tactic(auto, unfolding(crate::specs::inner::Reading::mems_row))]
-pub fn read_mems_row<'a>(scan: &mut Scan<'a>) -> Result<u8, TokenError>
-    ensures gives { Gives (λ mems. (tt, (mems, tt))) result scan.old scan.new mems_row }
+pub fn read_mems_row<'a>(scan: &mut Scan<'a>, version: Version) -> Result<u8, TokenError>
+    ensures gives { Gives (λ mems. (tt, (mems, tt))) result scan.old scan.new (mems_row (version_of version)) }
     ensures last { last_line scan.new ≡ last_line scan.old }
 {
     keyword(scan, b"mems")?;
-    let mems = number(scan, 2)?;
+    let mems = number(scan, 3)?;
+    if !version.has_mems(mems) {
+        return Err(TokenError::Bad);
+    }
     eol(scan)?;
     Ok(mems as u8)
 }
@@ -326,11 +331,11 @@ pub fn read_first_row<'a>(alloc: Global, scan: &mut Scan<'a>) -> Result<FirstRow
 }
 
 /// The row before the first group.
-pub fn read_title<'a>(scan: &mut Scan<'a>) -> Result<(), TokenError>
-    ensures gives { Gives (λ _. (tt, (tt, tt))) result scan.old scan.new title_row }
+pub fn read_title<'a>(scan: &mut Scan<'a>, version: Version) -> Result<(), TokenError>
+    ensures gives { Gives (λ _. (tt, (tt, tt))) result scan.old scan.new (title_row (version_of version)) }
     ensures last { last_line scan.new ≡ last_line scan.old }
 {
     keyword(scan, b"mcproof")?;
-    read_mark(scan, b"1")?;
+    read_mark(scan, version.title())?;
     Ok(())
 }

@@ -9,6 +9,7 @@ ghost use Rattle.tailrec_lang.specs.Tree.{step_tree};
 ghost use Rattle.group_text.specs.inner.RowReader.{ReadAs, ReadsRows, read_as};
 ghost use Rattle.group_text.specs.inner.Rows.{RowPosition, RowsGive, tokens};
 ghost use Rattle.group_text.specs.inner.Reading.{code_row, def_start, is_def, is_step, mark_row, mems_row, regs_row, step_at, title_row};
+ghost use Rattle.group_text.specs.Version.{version_of};
 ghost use Rattle.group_text.specs.inner.BodyRows.{end_row, end_row_tree};
 ghost use Rattle.group_text.specs.inner.GroupRows.{first_row, first_row_tree};
 
@@ -19,6 +20,7 @@ use crate::heads::{
 };
 use crate::read_error::{ReadError, RowError};
 use crate::rows::Rows;
+use crate::version::Version;
 use mc_text::{Scan, TokenError};
 use rv_words::List;
 use std::alloc::Global;
@@ -123,15 +125,15 @@ impl<'n> ReadRow<()> for MarkRow<'n> {
     }
 }
 
-/// The title.
+/// The title of that version.
 #[derive(Drop)]
-pub struct TitleRow;
+pub struct TitleRow(pub Version);
 
 impl ReadRow<()> for TitleRow {
-    ghost reads = { λ _. read_as (λ _. (tt, (tt, tt))) title_row };
+    ghost reads = { λ row. read_as (λ _. (tt, (tt, tt))) (title_row (version_of row.0)) };
 
     fn read<'a>(&self, _alloc: Global, scan: &mut Scan<'a>) -> Result<(), TokenError> {
-        read_title(scan)
+        read_title(scan, self.0)
     }
 }
 
@@ -161,13 +163,13 @@ impl ReadRow<List<u8>> for RegsRow {
 
 /// The row of the number of memories.
 #[derive(Drop)]
-pub struct MemsRow;
+pub struct MemsRow(pub Version);
 
 impl ReadRow<u8> for MemsRow {
-    ghost reads = { λ _. read_as (λ mems. (tt, (mems, tt))) mems_row };
+    ghost reads = { λ row. read_as (λ mems. (tt, (mems, tt))) (mems_row (version_of row.0)) };
 
     fn read<'a>(&self, _alloc: Global, scan: &mut Scan<'a>) -> Result<u8, TokenError> {
-        read_mems_row(scan)
+        read_mems_row(scan, self.0)
     }
 }
 

@@ -9,9 +9,11 @@ ghost use Rattle.term_text.specs.Spelling.{cond_tokens, mem_tokens, range_tokens
 ghost use Rattle.word_terms.specs.Tree.{cond_tree, mem_tree, word_tree};
 ghost use Rattle.tailrec_lang.specs.Tree.{body_tree, def_tree, group_tree, step_tree, values_tree};
 ghost use Rattle.tailrec_lang.specs.inner.Tree.{arm_trees, end_tree};
-ghost use Rattle.group_text.specs.Spelling.{arm_tokens, body_tokens, def_tokens, end_tokens, exit_tokens, group_tokens, head_tokens, line, number, step_tokens, values_tokens};
+ghost use Rattle.group_text.specs.Spelling.{arm_tokens, body_tokens, def_tokens, end_tokens, exit_tokens, group_tokens, head_tokens, line, number, step_tokens, title_tokens, values_tokens};
 ghost use Rattle.group_text.specs.Limits.{IsGroup};
+ghost use Rattle.group_text.specs.Version.{version_of};
 
+use crate::version::Version;
 use mc_text::Pen;
 use rv_words::{Bytes, NoMemory, Range};
 use tailrec_lang::{Body, Def, End, Exit, Group, Step, Values};
@@ -25,16 +27,27 @@ pub fn put_head(out: &mut Bytes) -> Result<(), NoMemory>
     ensures prefix { BeginsWith out.old out.new }
 {
     let mut pen = Pen::new(out);
-    put_head_line(&mut pen)?;
+    put_title_line(&mut pen, Version::One)?;
     Ok(())
 }
 
-fn put_head_line(pen: &mut Pen<'_>) -> Result<(), NoMemory>
-    ensures ok { OnOk result (page pen.new ≡ print head_tokens (page pen.old)) }
+/// Prints what stands before the groups of a text of that version.
+#[tactic(auto, using(mc_text::proofs::Printed::printed_bytes, mc_text::proofs::Printed::prints))]
+pub fn put_title(out: &mut Bytes, version: Version) -> Result<(), NoMemory>
+    ensures ok { OnOk result (out.new ≡ out.old ++ spell Start (title_tokens (version_of version))) }
+    ensures prefix { BeginsWith out.old out.new }
+{
+    let mut pen = Pen::new(out);
+    put_title_line(&mut pen, version)?;
+    Ok(())
+}
+
+fn put_title_line(pen: &mut Pen<'_>, version: Version) -> Result<(), NoMemory>
+    ensures ok { OnOk result (page pen.new ≡ print (title_tokens (version_of version)) (page pen.old)) }
     ensures kept { Keeps (page pen.old) (page pen.new) }
 {
     pen.atom(b"mcproof")?;
-    pen.atom(b"1")?;
+    pen.atom(version.title())?;
     pen.eol()
 }
 

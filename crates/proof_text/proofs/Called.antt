@@ -13,11 +13,11 @@ use Rattle.mc_text.proofs.FaultLine.{AreLines}
 use Rattle.rv_words.specs.declared.range.Range.{Range}
 use Rattle.tailrec_lang.specs.Tree.{GroupTree}
 use Rattle.tailrec_lang.specs.Eval.{HasFewNeeds}
-use Rattle.group_text.specs.Limits.{IsGroup}
+use Rattle.group_text.specs.Limits.{IsGroupIn}
 use Rattle.proof_text.specs.Line.{LineTree, ProofTree}
-use Rattle.proof_text.specs.LineLimits.{IsLine}
-use Rattle.proof_text.specs.LineSpelling.{line_tokens}
-use Rattle.proof_text.specs.Proofs.{bare, texts_of_proofs, text_of_proofs}
+use Rattle.proof_text.specs.LineLimits.{IsLineIn}
+use Rattle.proof_text.specs.LineSpelling.{line_tokens_in}
+use Rattle.proof_text.specs.Proofs.{bare, texts_of_proofs_in, text_of_proofs_in}
 use Rattle.proof_text.specs.FirstProofs.{Progress, ItemTree, Opens, Adds, items, with_line, ProofEnds, MayOpen, HasGiven}
 use Rattle.proof_text.specs.Answers.{NoItem}
 use Rattle.group_text.specs.inner.Cut.{AreWholeLines, drop_lines}
@@ -36,6 +36,8 @@ use Rattle.proof_text.proofs.TextItems.{IsItem, AreItems, StartsOpen, last_code,
 use Rattle.proof_text.proofs.Resumed.{OneLine, ends-no-line, ends-nothing, line-takes, line-ends, line-again}
 use Rattle.proof_text.proofs.Passed.{front_tokens, is_first, group_turn, turn_tokens, MayFollow, Turn, turn-takes, turn-again, turn-stops, turn-end, line-stops, turn-lines, turn-real, group-turned}
 use Rattle.proof_text.proofs.Given.{Given, given-items, items-given, first-is, shorter, still-lines, short, less, few, quiet, bad-call, bad-more, bad-tail-more, whole-call, given-more, would-read}
+use Rattle.group_text.specs.declared.version.Version.{Version as Known}
+use Rattle.group_text.specs.Version.{version_of}
 
 -- ---- no more lines than bytes
 
@@ -91,312 +93,314 @@ some-items : (ps : List ProofTree) (p : ProofTree) → items (ps ++ p ∷ []) �
 some-items [] p e = cc
 some-items (q ∷ ps) p e = cc
 
-last-item : (is js : List ItemTree) (i : ItemTree) → js ≡ is ++ i ∷ [] → AreItems js → IsItem i
-last-item is js i e h = (items-fewer is (i ∷ []) (subst AreItems e h)).1.0
+module _ (known : Known) where
+  last-item : (is js : List ItemTree) (i : ItemTree) → js ≡ is ++ i ∷ [] → AreItems known js → IsItem known i
+  last-item is js i e h = (items-fewer known is (i ∷ []) (subst (AreItems known) e h)).1.0
 
-module _ (text lines tail : List ℕ) (place : ℕ) (now : Progress) (is : record { text = text; rest = lines ++ tail; place = place } ≡ now) (whole : AreWholeLines lines) (none : newlines tail ≡ 0)
-    (us : List Tok) (passed : ℕ) (counted : passed + 1 + eols us ≡ 1 + eols (lex lines (At Start))) where
-  abbrev r : Progress
-  r = record { text = text; rest = lines ++ tail; place = place }
+  module _ (text lines tail : List ℕ) (place : ℕ) (now : Progress) (is : record { version = known; text = text; rest = lines ++ tail; place = place } ≡ now) (whole : AreWholeLines lines) (none : newlines tail ≡ 0)
+      (us : List Tok) (passed : ℕ) (counted : passed + 1 + eols us ≡ 1 + eols (lex lines (At Start))) where
+    abbrev r : Progress
+    r = record { version = known; text = text; rest = lines ++ tail; place = place }
 
-  abbrev ts : List Tok
-  ts = lex lines (At Start)
+    abbrev ts : List Tok
+    ts = lex lines (At Start)
 
-  abbrev line : ℕ
-  line = passed + 1
+    abbrev line : ℕ
+    line = passed + 1
 
-  passed-is : line - 1 ≡ passed
-  passed-is = omega arith
+    passed-is : line - 1 ≡ passed
+    passed-is = omega arith
 
-  at-passed : drop_lines (line - 1) lines ≡ drop_lines passed lines
-  at-passed = ap (λ (n : ℕ). drop_lines n lines) passed-is
+    at-passed : drop_lines (line - 1) lines ≡ drop_lines passed lines
+    at-passed = ap (λ (n : ℕ). drop_lines n lines) passed-is
 
-  line-at : place + line ≡ place + passed + 1
-  line-at = omega arith
+    line-at : place + line ≡ place + passed + 1
+    line-at = omega arith
 
-  told-bad : IsBadAt texts_of_proofs text (place + line) → IsBadAt texts_of_proofs now.text (place + passed + 1)
-  told-bad b = subst (λ (n : ℕ). IsBadAt texts_of_proofs now.text n) line-at (subst (λ (p : Progress). IsBadAt texts_of_proofs p.text (place + line)) is b)
+    told-bad : IsBadAt (texts_of_proofs_in (version_of known)) text (place + line) → IsBadAt (texts_of_proofs_in (version_of now.version)) now.text (place + passed + 1)
+    told-bad b = subst (λ (n : ℕ). IsBadAt (texts_of_proofs_in (version_of now.version)) now.text n) line-at (subst (λ (p : Progress). IsBadAt (texts_of_proofs_in (version_of p.version)) p.text (place + line)) is b)
 
-  pub line-small : place + length lines ≤ 2 ^ 63 → place + line < 2 ^ 64
-  line-small le = omega (arith, le, counted, eols-short lines (At Start))
+    pub line-small : place + length lines ≤ 2 ^ 63 → place + line < 2 ^ 64
+    line-small le = omega (arith, le, counted, eols-short lines (At Start))
 
-  here : (ps : List ProofTree) → HasGiven ps now → Given (items ps) r
-  here ps h = given-items ps r (subst (HasGiven ps) (sym is) h)
+    here : (ps : List ProofTree) → HasGiven ps now → Given known (items ps) r
+    here ps h = given-items known ps r refl (subst (HasGiven ps) (sym is) h)
 
-  bytes-whole : AreLines lines
-  bytes-whole = are-lines lines whole
+    bytes-whole : AreLines lines
+    bytes-whole = are-lines lines whole
 
-  -- ---- the next item
+    -- ---- the next item
 
-  -- where it would have been read
-  abbrev Would : ItemTree → List ItemTree → Type 0
-  Would i front = (vs : List Tok) × (ts ≡ turn_tokens front i ++ vs) × ((g : GroupTree) → i ≡ Opens g → goes_on is_def vs ≡ false)
+    -- where it would have been read
+    abbrev Would : ItemTree → List ItemTree → Type 0
+    Would i front = (vs : List Tok) × (ts ≡ turn_tokens known front i ++ vs) × ((g : GroupTree) → i ≡ Opens g → goes_on is_def vs ≡ false)
 
-  would : (ps : List ProofTree) → HasGiven ps now → (i : ItemTree) (qs : List ProofTree) (new : Progress) → new.text ≡ now.text → items qs ≡ items ps ++ i ∷ [] → HasGiven qs new → IsItem i × Would i (items ps)
-  would ps h i qs new same e k =
-      let fits = last-item (items ps) (items qs) i e (items-fit qs k.fit) in
-      let more : Given (items ps ++ i ∷ []) new = subst (λ (js : List ItemTree). Given js new) e (given-items qs new k) in
-      (fits, would-read (items ps) r (here ps h) lines tail refl bytes-whole none i fits new (same ∙ ap (λ (p : Progress). p.text) (sym is)) more)
+    would : (ps : List ProofTree) → HasGiven ps now → (i : ItemTree) (qs : List ProofTree) (new : Progress) → new.text ≡ now.text → new.version ≡ now.version → items qs ≡ items ps ++ i ∷ [] → HasGiven qs new → IsItem known i × Would i (items ps)
+    would ps h i qs new same kind e k =
+        let all : Given known (items qs) new = given-items known qs new (kind ∙ ap (λ (p : Progress). p.version) (sym is)) k in
+        let fits = last-item (items ps) (items qs) i e all.fit in
+        let more : Given known (items ps ++ i ∷ []) new = subst (λ (js : List ItemTree). Given known js new) e all in
+        (fits, would-read known (items ps) r (here ps h) lines tail refl bytes-whole none i fits new (same ∙ ap (λ (p : Progress). p.text) (sym is)) more)
 
-  -- none comes where no group and no line can be read
-  module _ (ps : List ProofTree) (h : HasGiven ps now) (no_group : (g : GroupTree) (vs : List Tok) → turn_at (eqb place 0) ts ≡ Ok (Some g, vs) → ⊥)
-      (no_line : (l : LineTree) (vs : List Tok) → (items ps ≡ [] → ⊥) → IsLine l → ts ≡ line_tokens (last_code [] (items ps)) l ++ vs → ⊥) where
-    not-group : (g : GroupTree) → IsGroup g → Would (Opens g) (items ps) → ⊥
-    not-group g f w =
-        let first = first-is (items ps) r (here ps h) in
-        no_group g w.0 (ap (λ (b : Bool). turn_at b ts) first ∙ ap (turn_at (is_first (items ps))) (w.1 ∙ ap (λ (v : List Tok). v ++ w.0) (group-turned (items ps) g)) ∙ turn-again (is_first (items ps)) g w.0 f (w.2 g refl))
+    -- none comes where no group and no line can be read
+    module _ (ps : List ProofTree) (h : HasGiven ps now) (no_group : (g : GroupTree) (vs : List Tok) → turn_at (version_of known) (eqb place 0) ts ≡ Ok (Some g, vs) → ⊥)
+        (no_line : (l : LineTree) (vs : List Tok) → (items ps ≡ [] → ⊥) → IsLineIn (version_of known) l → ts ≡ line_tokens_in (version_of known) (last_code [] (items ps)) l ++ vs → ⊥) where
+      not-group : (g : GroupTree) → IsGroupIn (version_of known) g → Would (Opens g) (items ps) → ⊥
+      not-group g f w =
+          let first = first-is known (items ps) r (here ps h) in
+          no_group g w.0 (ap (λ (b : Bool). turn_at (version_of known) b ts) first ∙ ap (turn_at (version_of known) (is_first (items ps))) (w.1 ∙ ap (λ (v : List Tok). v ++ w.0) (group-turned known (items ps) g)) ∙ turn-again known (is_first (items ps)) g w.0 f (w.2 g refl))
 
-    not-line : (l : LineTree) (front : List ItemTree) → items ps ≡ front → StartsOpen (front ++ Adds l ∷ []) → IsLine l → Would (Adds l) front → ⊥
-    not-line l [] e s f w = s
-    not-line l (i ∷ js) e s f w = no_line l w.0 (λ n. clash (sym e ∙ n)) f (w.1 ∙ ap (λ (front : List ItemTree). line_tokens (last_code [] front) l ++ w.0) (sym e))
-      where
-        clash : i ∷ js ≡ [] → ⊥
-        clash k = cc
-
-    pub none-comes : NoItem ps now
-    none-comes (Opens g) qs new same e k = let w = would ps h (Opens g) qs new same e k in not-group g w.0 w.1
-    none-comes (Adds l) qs new same e k =
-        let w = would ps h (Adds l) qs new same e k in
-        not-line l (items ps) refl (subst StartsOpen e (items-start qs)) w.0 w.1
-
-  -- ---- where an item was read
-
-  module _ (piece : List Tok) (ends : IsLines piece) (real : AreTokens piece) (lexed : ts ≡ piece ++ us) where
-    item-short : length piece ≤ length lines
-    item-short = short lines piece us lexed ends real
-
-    module _ (next : List ℕ) (next-is : next ≡ drop_lines passed lines) where
-      next-at : next ≡ drop_lines (line - 1) lines
-      next-at = next-is ∙ sym at-passed
-
-      item-place : place + length lines ≤ 2 ^ 63 → place + passed + length next ≤ 2 ^ 63
-      item-place le =
-          let less = shorter lines piece us lexed ends real line counted in
-          let len : length next ≡ length (drop_lines (line - 1) lines) = ap length next-at in
-          omega (arith, le, less, len, passed-is)
-
-      item-lines : AreWholeLines next
-      item-lines = whole-lines next (subst AreLines (sym next-at) (still-lines lines piece us lexed ends real line counted bytes-whole))
-
-      item-less : 1 ≤ length piece → length (next ++ tail) < length now.rest
-      item-less some =
-          let fewer = less lines piece us lexed ends real line counted some in
-          let len : length next ≡ length (drop_lines (line - 1) lines) = ap length next-at in
-          let old : length (lines ++ tail) ≡ length now.rest = ap (λ (p : Progress). length p.rest) is in
-          omega (arith, fewer, len, sym old, length-append next tail, length-append lines tail)
-
-  module _ (next : List ℕ) (next-is : next ≡ drop_lines passed lines) where
-    abbrev new : Progress
-    new = record { text = text; rest = next ++ tail; place = place + passed }
-
-    item-given : (ps : List ProofTree) → HasGiven ps now → (i : ItemTree) → IsItem i → ts ≡ turn_tokens (items ps) i ++ us → ((g : GroupTree) → i ≡ Opens g → goes_on is_def us ≡ false) → (items ps ≡ [] → StartsOpen (i ∷ [])) → Given (items ps ++ i ∷ []) new
-    item-given ps h i f e stop first =
-        subst (λ (x : List ℕ × ℕ). Given (items ps ++ i ∷ []) (record { text = text; rest = x.0 ++ tail; place = place + x.1 })) (λ k. ((at-passed ∙ sym next-is) k, passed-is k))
-        (given-more (items ps) r (here ps h) lines tail refl bytes-whole none i f us line e stop (starts-more (items ps) i (items-start ps) first) counted)
-
-  -- a group
-  module _ (g : GroupTree) (read : turn_at (eqb place 0) ts ≡ Ok (Some g, us)) where
-    took : Turn (eqb place 0) ts g us
-    took = turn-takes (eqb place 0) ts g us read
-
-    abbrev group_piece : List Tok
-    group_piece = group_turn (eqb place 0) g
-
-    turn-ends : (first : Bool) → IsLines (group_turn first g)
-    turn-ends true = turn-lines [] (Opens g)
-    turn-ends false = group-whole g
-
-    turn-tokens : (first : Bool) → IsGroup g → AreTokens (group_turn first g)
-    turn-tokens true f = turn-real [] (Opens g) f
-    turn-tokens false f = group-tokens g f
-
-    ends : IsLines group_piece
-    ends = turn-ends (eqb place 0)
-
-    real : AreTokens group_piece
-    real = turn-tokens (eqb place 0) took.fits
-
-    pub group-fits : IsGroup g
-    group-fits = took.fits
-
-    pub group-needs : place + length lines ≤ 2 ^ 63 → HasFewNeeds g
-    group-needs le = few (eqb place 0) g (length lines) (item-short group_piece ends real took.is) (omega (arith, le))
-
-    module _ (next : List ℕ) (next-is : next ≡ drop_lines passed lines) where
-      pub group-place : place + length lines ≤ 2 ^ 63 → place + passed + length next ≤ 2 ^ 63
-      group-place = item-place group_piece ends real took.is next next-is
-
-      pub group-lines : AreWholeLines next
-      group-lines = item-lines group_piece ends real took.is next next-is
-
-      some-tokens : (first : Bool) → 1 ≤ length (group_turn first g)
-      some-tokens true = omega arith
-      some-tokens false = omega arith
-
-      pub group-less : length (next ++ tail) < length now.rest
-      group-less = item-less group_piece ends real took.is next next-is (some-tokens (eqb place 0))
-
-      pub group-given : (ps : List ProofTree) → HasGiven ps now → HasGiven (ps ++ bare g ∷ []) (record { text = text; rest = next ++ tail; place = place + passed })
-      group-given ps h =
-          let first = first-is (items ps) r (here ps h) in
-          let t = turn-takes (is_first (items ps)) ts g us (ap (λ (b : Bool). turn_at b ts) (sym first) ∙ read) in
-          items-given (ps ++ bare g ∷ []) (new next next-is)
-          (subst (λ (js : List ItemTree). Given js (new next next-is)) (sym (items-opened ps g))
-          (item-given next next-is ps h (Opens g) t.fits (t.is ∙ ap (λ (v : List Tok). v ++ us) (sym (group-turned (items ps) g))) (λ k e. t.ended) (λ e. tt)))
-
-  -- a line of the group that was given last
-  module _ (g : GroupTree) (fits : IsGroup g) (l : LineTree) (read : turn_of g.code ts ≡ Ok (Some l, us)) where
-    one : OneLine g.code ts l us
-    one = line-takes g.code (fits.code, fits.bytes) ts l us read
-
-    abbrev line_piece : List Tok
-    line_piece = line_tokens g.code l
-
-    line-real : AreTokens line_piece
-    line-real = line-is-tokens g.code l one.fits
-
-    line-whole : IsLines line_piece
-    line-whole = whole-line g.code l
-
-    pub line-fits : IsLine l
-    line-fits = one.fits
-
-    module _ (next : List ℕ) (next-is : next ≡ drop_lines passed lines) where
-      pub line-place : place + length lines ≤ 2 ^ 63 → place + passed + length next ≤ 2 ^ 63
-      line-place = item-place line_piece line-whole line-real one.is next next-is
-
-      pub line-lines : AreWholeLines next
-      line-lines = item-lines line_piece line-whole line-real one.is next next-is
-
-      pub line-less : length (next ++ tail) < length now.rest
-      line-less = item-less line_piece line-whole line-real one.is next next-is (omega (arith, some-line g.code l))
-
-      not-opened : (k : GroupTree) → Adds l ≡ Opens k → ⊥
-      not-opened k e = cc
-
-      at-turn : (js : List ItemTree) → (js ≡ [] → ⊥) → last_code [] js ≡ g.code → line_tokens g.code l ≡ turn_tokens js (Adds l)
-      at-turn [] some own = absurd (some refl)
-      at-turn (i ∷ js) some own = ap (λ (c : List Range). line_tokens c l) (sym own)
-
-      pub line-given : (ps : List ProofTree) (p : ProofTree) → HasGiven (ps ++ p ∷ []) now → p.group ≡ g → HasGiven (ps ++ with_line p l ∷ []) (record { text = text; rest = next ++ tail; place = place + passed })
-      line-given ps p h same =
-          let qs : List ProofTree = ps ++ p ∷ [] in
-          let own : last_code [] (items qs) ≡ g.code = last-is [] ps p ∙ ap (λ (x : GroupTree). x.code) same in
-          items-given (ps ++ with_line p l ∷ []) (new next next-is)
-          (subst (λ (js : List ItemTree). Given js (new next next-is)) (sym (items-added ps p l))
-          (item-given next next-is qs h (Adds l) one.fits (one.is ∙ ap (λ (v : List Tok). v ++ us) (at-turn (items qs) (some-items ps p) own)) (λ k e. absurd (not-opened k e)) (λ e. absurd (some-items ps p e))))
-
-  -- ---- a call for a group
-
-  abbrev never : Out (Option GroupTree) → Out (Option GroupTree) → Type 0
-  never a b = a ≡ b → ⊥
-
-  may-follow : (ps : List ProofTree) → MayOpen ps now.rest → MayFollow (items ps) ts
-  may-follow [] m = tt
-  may-follow (p ∷ ps) m = follow-ends lines tail none (subst (λ (q : Progress). ProofEnds q.rest) (sym is) m)
-
-  -- no line is read where a group may follow
-  no-line-read : (ps : List ProofTree) → MayFollow (items ps) ts → (l : LineTree) (vs : List Tok) → (items ps ≡ [] → ⊥) → IsLine l → ts ≡ line_tokens (last_code [] (items ps)) l ++ vs → ⊥
-  no-line-read [] m l vs some f e = some refl
-  no-line-read (p ∷ ps) m l vs some f e = true≢false (sym (ap (goes_on begins_line) e ∙ line-begins (last_code [] (items (p ∷ ps))) l vs) ∙ ends-no-line ts m)
-
-  module _ (stopped : turn_at (eqb place 0) ts ≡ Err us) where
-    pub group-bad : (ps : List ProofTree) → HasGiven ps now → MayOpen ps now.rest → IsBadAt texts_of_proofs now.text (place + passed + 1)
-    group-bad ps h m =
-        let g = here ps h in
-        let q = quiet (items ps) r g lines tail refl bytes-whole none in
-        told-bad
-        (bad-call (items ps) r g lines tail refl bytes-whole none line us
-        (turn-stops (items ps) ts us g.start g.fit q (may-follow ps m) (ap (λ (b : Bool). turn_at b ts) (sym (first-is (items ps) r g)) ∙ stopped)) counted)
-
-    pub group-none : (ps : List ProofTree) → HasGiven ps now → MayOpen ps now.rest → NoItem ps now
-    group-none ps h m = none-comes ps h (λ g vs e. ok-not-err {Y = Option GroupTree} (Some g) vs us (sym e ∙ stopped)) (no-line-read ps (may-follow ps m))
-
-  -- where the end was read
-  module _ (ended-at : turn_at (eqb place 0) ts ≡ Ok (None, us)) where
-    all-read : (ps : List ProofTree) (h : HasGiven ps now) → proofs_text_at (front_tokens (items ps) ++ ts) ≡ Ok (ps, us)
-    all-read ps h =
-        let g = here ps h in
-        turn-end ps ts us g.fit (quiet (items ps) r g lines tail refl bytes-whole none) (ap (λ (b : Bool). turn_at b ts) (sym (first-is (items ps) r g)) ∙ ended-at)
-
-    pub called-end : (us ≡ Done ∷ []) × (tail ≡ []) → (ps : List ProofTree) → HasGiven ps now → now.text ≡ text_of_proofs ps
-    called-end q ps h =
-        subst (λ (p : Progress). p.text ≡ text_of_proofs ps) is
-        (whole-call (items ps) r (here ps h) lines tail refl bytes-whole none ps (all-read ps h ∙ ap (λ (v : List Tok). Ok (ps, v)) q.0) q.1)
-
-    not-done : (ws vs : List Tok) → goes_on is_done ws ≡ false → ws ≡ Done ∷ vs → ⊥
-    not-done ws vs g e = true≢false (sym (ap (goes_on is_done) e) ∙ g)
-
-    more-bad : GoesOn us tail → (ps : List ProofTree) → HasGiven ps now → IsBadAt texts_of_proofs text (place + line)
-    more-bad (inl g) ps h = bad-more (items ps) r (here ps h) lines tail refl bytes-whole none ps us (all-read ps h) line (λ vs e. not-done us vs g e) counted
-    more-bad (inr g) ps h =
-        bad-tail-more (items ps) r (here ps h) lines tail refl bytes-whole none ps (all-read ps h ∙ ap (λ (v : List Tok). Ok (ps, v)) g.0) line g.1
-        (ap (λ (v : List Tok). line + eols v) (sym g.0) ∙ counted)
-
-    pub called-more : GoesOn us tail → (ps : List ProofTree) → HasGiven ps now → MayOpen ps now.rest → IsBadAt texts_of_proofs now.text (place + passed + 1)
-    called-more q ps h m = told-bad (more-bad q ps h)
-
-    not-some : (g : GroupTree) → Some g ≡ None → ⊥
-    not-some g k = cc
-
-    pub end-none : (ps : List ProofTree) → HasGiven ps now → MayOpen ps now.rest → NoItem ps now
-    end-none ps h m = none-comes ps h (λ g vs e. not-some g (ok-value {Y = Option GroupTree} (Some g) None vs us (sym e ∙ ended-at))) (no-line-read ps (may-follow ps m))
-
-  -- ---- a call for a line
-
-  module _ (g : GroupTree) (ps : List ProofTree) (p : ProofTree) (h : HasGiven (ps ++ p ∷ []) now) (same : p.group ≡ g) where
-    abbrev qs : List ProofTree
-    qs = ps ++ p ∷ []
-
-    own-is : last_code [] (items qs) ≡ g.code
-    own-is = last-is [] ps p ∙ ap (λ (x : GroupTree). x.code) same
-
-    own-fits : IsCode g.code
-    own-fits = subst IsCode own-is (last-fits [] (items qs) (tt, tt) (items-fit qs h.fit))
-
-    module _ (line-stopped : turn_of g.code ts ≡ Err us) where
-      stops : (js : List ItemTree) → items qs ≡ js → Given js r → proofs_text_at (front_tokens js ++ ts) ≡ Err us
-      stops [] e k = absurd (some-items ps p e)
-      stops (i ∷ js) e k =
-          line-stops i js ts us k.start k.fit (quiet (i ∷ js) r k lines tail refl bytes-whole none)
-          (ap (λ (c : List Range). turn_of c ts) (ap (last_code []) (sym e) ∙ own-is) ∙ line-stopped)
-
-      pub line-bad : IsBadAt texts_of_proofs now.text (place + passed + 1)
-      line-bad =
-          let k = here qs h in
-          told-bad
-          (bad-call (items qs) r k lines tail refl bytes-whole none line us (stops (items qs) refl k) counted)
-
-      -- no group comes
-      no-group-read : (k : GroupTree) (vs : List Tok) → turn_at (eqb place 0) ts ≡ Ok (Some k, vs) → ⊥
-      no-group-read k vs e =
-          let t = turn-takes false ts k vs (ap (λ (b : Bool). turn_at b ts) (sym (first-is (items qs) r (here qs h) ∙ not-first (items qs) refl)) ∙ e) in
-          ok-not-err {Y = Option LineTree} None ts us (sym (ends-nothing g.code ts (ap (goes_on ends_proof) t.is)) ∙ line-stopped)
+      not-line : (l : LineTree) (front : List ItemTree) → items ps ≡ front → StartsOpen (front ++ Adds l ∷ []) → IsLineIn (version_of known) l → Would (Adds l) front → ⊥
+      not-line l [] e s f w = s
+      not-line l (i ∷ js) e s f w = no_line l w.0 (λ n. clash (sym e ∙ n)) f (w.1 ∙ ap (λ (front : List ItemTree). line_tokens_in (version_of known) (last_code [] front) l ++ w.0) (sym e))
         where
-          not-first : (js : List ItemTree) → items qs ≡ js → is_first js ≡ false
-          not-first [] e = absurd (some-items ps p e)
-          not-first (i ∷ js) e = refl
+          clash : i ∷ js ≡ [] → ⊥
+          clash k = cc
 
-      pub line-none : NoItem qs now
-      line-none = none-comes qs h no-group-read
-          (λ l vs some f e. ok-not-err {Y = Option LineTree} (Some l) vs us (sym (ap (turn_of g.code) (e ∙ ap (λ (c : List Range). line_tokens c l ++ vs) own-is) ∙ line-again g.code own-fits l vs f) ∙ line-stopped))
+      pub none-comes : NoItem ps now
+      none-comes (Opens g) qs new same kind e k = let w = would ps h (Opens g) qs new same kind e k in not-group g w.0 w.1
+      none-comes (Adds l) qs new same kind e k =
+          let w = would ps h (Adds l) qs new same kind e k in
+          not-line l (items ps) refl (subst StartsOpen e (items-start qs)) w.0 w.1
 
-  -- where the lines have ended
-  pub lines-ended : (own : List Range) → IsCode own → turn_of own ts ≡ Ok (None, us) → ProofEnds now.rest
-  lines-ended own fits e = subst (λ (p : Progress). ProofEnds p.rest) is (ends-follow lines tail bytes-whole none (line-ends own fits ts us e))
+    -- ---- where an item was read
 
-  pub ended-here : ProofEnds now.rest → goes_on ends_proof ts ≡ true
-  ended-here e = follow-ends lines tail none (subst (λ (p : Progress). ProofEnds p.rest) (sym is) e)
+    module _ (piece : List Tok) (ends : IsLines piece) (real : AreTokens piece) (lexed : ts ≡ piece ++ us) where
+      item-short : length piece ≤ length lines
+      item-short = short lines piece us lexed ends real
 
-  -- where a line was read, or reading stopped, or a row was lost, they haven't
-  pub not-ended : (own : List Range) (l : LineTree) (vs : List Tok) → turn_of own ts ≡ Ok (Some l, vs) → ProofEnds now.rest → ⊥
-  not-ended own l vs e p = not-none l (ok-value {Y = Option LineTree} (Some l) None vs ts (sym e ∙ ends-nothing own ts (ended-here p)))
-    where
-      not-none : (l : LineTree) → Some l ≡ None → ⊥
-      not-none l k = cc
+      module _ (next : List ℕ) (next-is : next ≡ drop_lines passed lines) where
+        next-at : next ≡ drop_lines (line - 1) lines
+        next-at = next-is ∙ sym at-passed
 
-  pub not-stopped : (own : List Range) (bad : List Tok) → turn_of own ts ≡ Err bad → ProofEnds now.rest → ⊥
-  not-stopped own bad e p = ok-not-err {Y = Option LineTree} None ts bad (sym (ends-nothing own ts (ended-here p)) ∙ e)
+        item-place : place + length lines ≤ 2 ^ 63 → place + passed + length next ≤ 2 ^ 63
+        item-place le =
+            let less = shorter lines piece us lexed ends real line counted in
+            let len : length next ≡ length (drop_lines (line - 1) lines) = ap length next-at in
+            omega (arith, le, less, len, passed-is)
 
-  pub not-lost : goes_on ends_proof ts ≡ false → ProofEnds now.rest → ⊥
-  not-lost e p = true≢false (sym (ended-here p) ∙ e)
+        item-lines : AreWholeLines next
+        item-lines = whole-lines next (subst AreLines (sym next-at) (still-lines lines piece us lexed ends real line counted bytes-whole))
+
+        item-less : 1 ≤ length piece → length (next ++ tail) < length now.rest
+        item-less some =
+            let fewer = less lines piece us lexed ends real line counted some in
+            let len : length next ≡ length (drop_lines (line - 1) lines) = ap length next-at in
+            let old : length (lines ++ tail) ≡ length now.rest = ap (λ (p : Progress). length p.rest) is in
+            omega (arith, fewer, len, sym old, length-append next tail, length-append lines tail)
+
+    module _ (next : List ℕ) (next-is : next ≡ drop_lines passed lines) where
+      abbrev new : Progress
+      new = record { version = known; text = text; rest = next ++ tail; place = place + passed }
+
+      item-given : (ps : List ProofTree) → HasGiven ps now → (i : ItemTree) → IsItem known i → ts ≡ turn_tokens known (items ps) i ++ us → ((g : GroupTree) → i ≡ Opens g → goes_on is_def us ≡ false) → (items ps ≡ [] → StartsOpen (i ∷ [])) → Given known (items ps ++ i ∷ []) new
+      item-given ps h i f e stop first =
+          subst (λ (x : List ℕ × ℕ). Given known (items ps ++ i ∷ []) (record { version = known; text = text; rest = x.0 ++ tail; place = place + x.1 })) (λ k. ((at-passed ∙ sym next-is) k, passed-is k))
+          (given-more known (items ps) r (here ps h) lines tail refl bytes-whole none i f us line e stop (starts-more (items ps) i (items-start ps) first) counted)
+
+    -- a group
+    module _ (g : GroupTree) (read : turn_at (version_of known) (eqb place 0) ts ≡ Ok (Some g, us)) where
+      took : Turn known (eqb place 0) ts g us
+      took = turn-takes known (eqb place 0) ts g us read
+
+      abbrev group_piece : List Tok
+      group_piece = group_turn known (eqb place 0) g
+
+      turn-ends : (first : Bool) → IsLines (group_turn known first g)
+      turn-ends true = turn-lines known [] (Opens g)
+      turn-ends false = group-whole g
+
+      turn-tokens : (first : Bool) → IsGroupIn (version_of known) g → AreTokens (group_turn known first g)
+      turn-tokens true f = turn-real known [] (Opens g) f
+      turn-tokens false f = group-tokens known g f
+
+      ends : IsLines group_piece
+      ends = turn-ends (eqb place 0)
+
+      real : AreTokens group_piece
+      real = turn-tokens (eqb place 0) took.fits
+
+      pub group-fits : IsGroupIn (version_of known) g
+      group-fits = took.fits
+
+      pub group-needs : place + length lines ≤ 2 ^ 63 → HasFewNeeds g
+      group-needs le = few known (eqb place 0) g (length lines) (item-short group_piece ends real took.is) (omega (arith, le))
+
+      module _ (next : List ℕ) (next-is : next ≡ drop_lines passed lines) where
+        pub group-place : place + length lines ≤ 2 ^ 63 → place + passed + length next ≤ 2 ^ 63
+        group-place = item-place group_piece ends real took.is next next-is
+
+        pub group-lines : AreWholeLines next
+        group-lines = item-lines group_piece ends real took.is next next-is
+
+        some-tokens : (first : Bool) → 1 ≤ length (group_turn known first g)
+        some-tokens true = omega arith
+        some-tokens false = omega arith
+
+        pub group-less : length (next ++ tail) < length now.rest
+        group-less = item-less group_piece ends real took.is next next-is (some-tokens (eqb place 0))
+
+        pub group-given : (ps : List ProofTree) → HasGiven ps now → HasGiven (ps ++ bare g ∷ []) (record { version = known; text = text; rest = next ++ tail; place = place + passed })
+        group-given ps h =
+            let first = first-is known (items ps) r (here ps h) in
+            let t = turn-takes known (is_first (items ps)) ts g us (ap (λ (b : Bool). turn_at (version_of known) b ts) (sym first) ∙ read) in
+            items-given known (ps ++ bare g ∷ []) (new next next-is) refl
+            (subst (λ (js : List ItemTree). Given known js (new next next-is)) (sym (items-opened ps g))
+            (item-given next next-is ps h (Opens g) t.fits (t.is ∙ ap (λ (v : List Tok). v ++ us) (sym (group-turned known (items ps) g))) (λ k e. t.ended) (λ e. tt)))
+
+    -- a line of the group that was given last
+    module _ (g : GroupTree) (fits : IsGroupIn (version_of now.version) g) (l : LineTree) (read : turn_of (version_of known) g.code ts ≡ Ok (Some l, us)) where
+      one : OneLine known g.code ts l us
+      one = line-takes known g.code (fits.code, fits.bytes) ts l us read
+
+      abbrev line_piece : List Tok
+      line_piece = line_tokens_in (version_of known) g.code l
+
+      line-real : AreTokens line_piece
+      line-real = line-is-tokens known g.code l one.fits
+
+      line-whole : IsLines line_piece
+      line-whole = whole-line (version_of known) g.code l
+
+      pub line-fits : IsLineIn (version_of known) l
+      line-fits = one.fits
+
+      module _ (next : List ℕ) (next-is : next ≡ drop_lines passed lines) where
+        pub line-place : place + length lines ≤ 2 ^ 63 → place + passed + length next ≤ 2 ^ 63
+        line-place = item-place line_piece line-whole line-real one.is next next-is
+
+        pub line-lines : AreWholeLines next
+        line-lines = item-lines line_piece line-whole line-real one.is next next-is
+
+        pub line-less : length (next ++ tail) < length now.rest
+        line-less = item-less line_piece line-whole line-real one.is next next-is (omega (arith, some-line known g.code l))
+
+        not-opened : (k : GroupTree) → Adds l ≡ Opens k → ⊥
+        not-opened k e = cc
+
+        at-turn : (js : List ItemTree) → (js ≡ [] → ⊥) → last_code [] js ≡ g.code → line_tokens_in (version_of known) g.code l ≡ turn_tokens known js (Adds l)
+        at-turn [] some own = absurd (some refl)
+        at-turn (i ∷ js) some own = ap (λ (c : List Range). line_tokens_in (version_of known) c l) (sym own)
+
+        pub line-given : (ps : List ProofTree) (p : ProofTree) → HasGiven (ps ++ p ∷ []) now → p.group ≡ g → HasGiven (ps ++ with_line p l ∷ []) (record { version = known; text = text; rest = next ++ tail; place = place + passed })
+        line-given ps p h same =
+            let qs : List ProofTree = ps ++ p ∷ [] in
+            let own : last_code [] (items qs) ≡ g.code = last-is [] ps p ∙ ap (λ (x : GroupTree). x.code) same in
+            items-given known (ps ++ with_line p l ∷ []) (new next next-is) refl
+            (subst (λ (js : List ItemTree). Given known js (new next next-is)) (sym (items-added ps p l))
+            (item-given next next-is qs h (Adds l) one.fits (one.is ∙ ap (λ (v : List Tok). v ++ us) (at-turn (items qs) (some-items ps p) own)) (λ k e. absurd (not-opened k e)) (λ e. absurd (some-items ps p e))))
+
+    -- ---- a call for a group
+
+    abbrev never : Out (Option GroupTree) → Out (Option GroupTree) → Type 0
+    never a b = a ≡ b → ⊥
+
+    may-follow : (ps : List ProofTree) → MayOpen ps now.rest → MayFollow (items ps) ts
+    may-follow [] m = tt
+    may-follow (p ∷ ps) m = follow-ends lines tail none (subst (λ (q : Progress). ProofEnds q.rest) (sym is) m)
+
+    -- no line is read where a group may follow
+    no-line-read : (ps : List ProofTree) → MayFollow (items ps) ts → (l : LineTree) (vs : List Tok) → (items ps ≡ [] → ⊥) → IsLineIn (version_of known) l → ts ≡ line_tokens_in (version_of known) (last_code [] (items ps)) l ++ vs → ⊥
+    no-line-read [] m l vs some f e = some refl
+    no-line-read (p ∷ ps) m l vs some f e = true≢false (sym (ap (goes_on begins_line) e ∙ line-begins known (last_code [] (items (p ∷ ps))) l vs) ∙ ends-no-line ts m)
+
+    module _ (stopped : turn_at (version_of known) (eqb place 0) ts ≡ Err us) where
+      pub group-bad : (ps : List ProofTree) → HasGiven ps now → MayOpen ps now.rest → IsBadAt (texts_of_proofs_in (version_of now.version)) now.text (place + passed + 1)
+      group-bad ps h m =
+          let g = here ps h in
+          let q = quiet known (items ps) r g lines tail refl bytes-whole none in
+          told-bad
+          (bad-call known (items ps) r g lines tail refl bytes-whole none line us
+          (turn-stops known (items ps) ts us g.start g.fit q (may-follow ps m) (ap (λ (b : Bool). turn_at (version_of known) b ts) (sym (first-is known (items ps) r g)) ∙ stopped)) counted)
+
+      pub group-none : (ps : List ProofTree) → HasGiven ps now → MayOpen ps now.rest → NoItem ps now
+      group-none ps h m = none-comes ps h (λ g vs e. ok-not-err {Y = Option GroupTree} (Some g) vs us (sym e ∙ stopped)) (no-line-read ps (may-follow ps m))
+
+    -- where the end was read
+    module _ (ended-at : turn_at (version_of known) (eqb place 0) ts ≡ Ok (None, us)) where
+      all-read : (ps : List ProofTree) (h : HasGiven ps now) → proofs_text_at (version_of known) (front_tokens known (items ps) ++ ts) ≡ Ok (ps, us)
+      all-read ps h =
+          let g = here ps h in
+          turn-end known ps ts us g.fit (quiet known (items ps) r g lines tail refl bytes-whole none) (ap (λ (b : Bool). turn_at (version_of known) b ts) (sym (first-is known (items ps) r g)) ∙ ended-at)
+
+      pub called-end : (us ≡ Done ∷ []) × (tail ≡ []) → (ps : List ProofTree) → HasGiven ps now → now.text ≡ text_of_proofs_in (version_of now.version) ps
+      called-end q ps h =
+          subst (λ (p : Progress). p.text ≡ text_of_proofs_in (version_of p.version) ps) is
+          (whole-call known (items ps) r (here ps h) lines tail refl bytes-whole none ps (all-read ps h ∙ ap (λ (v : List Tok). Ok (ps, v)) q.0) q.1)
+
+      not-done : (ws vs : List Tok) → goes_on is_done ws ≡ false → ws ≡ Done ∷ vs → ⊥
+      not-done ws vs g e = true≢false (sym (ap (goes_on is_done) e) ∙ g)
+
+      more-bad : GoesOn us tail → (ps : List ProofTree) → HasGiven ps now → IsBadAt (texts_of_proofs_in (version_of known)) text (place + line)
+      more-bad (inl g) ps h = bad-more known (items ps) r (here ps h) lines tail refl bytes-whole none ps us (all-read ps h) line (λ vs e. not-done us vs g e) counted
+      more-bad (inr g) ps h =
+          bad-tail-more known (items ps) r (here ps h) lines tail refl bytes-whole none ps (all-read ps h ∙ ap (λ (v : List Tok). Ok (ps, v)) g.0) line g.1
+          (ap (λ (v : List Tok). line + eols v) (sym g.0) ∙ counted)
+
+      pub called-more : GoesOn us tail → (ps : List ProofTree) → HasGiven ps now → MayOpen ps now.rest → IsBadAt (texts_of_proofs_in (version_of now.version)) now.text (place + passed + 1)
+      called-more q ps h m = told-bad (more-bad q ps h)
+
+      not-some : (g : GroupTree) → Some g ≡ None → ⊥
+      not-some g k = cc
+
+      pub end-none : (ps : List ProofTree) → HasGiven ps now → MayOpen ps now.rest → NoItem ps now
+      end-none ps h m = none-comes ps h (λ g vs e. not-some g (ok-value {Y = Option GroupTree} (Some g) None vs us (sym e ∙ ended-at))) (no-line-read ps (may-follow ps m))
+
+    -- ---- a call for a line
+
+    module _ (g : GroupTree) (ps : List ProofTree) (p : ProofTree) (h : HasGiven (ps ++ p ∷ []) now) (same : p.group ≡ g) where
+      abbrev qs : List ProofTree
+      qs = ps ++ p ∷ []
+
+      own-is : last_code [] (items qs) ≡ g.code
+      own-is = last-is [] ps p ∙ ap (λ (x : GroupTree). x.code) same
+
+      own-fits : IsCode g.code
+      own-fits = subst IsCode own-is (last-fits known [] (items qs) (tt, tt) (here qs h).fit)
+
+      module _ (line-stopped : turn_of (version_of known) g.code ts ≡ Err us) where
+        stops : (js : List ItemTree) → items qs ≡ js → Given known js r → proofs_text_at (version_of known) (front_tokens known js ++ ts) ≡ Err us
+        stops [] e k = absurd (some-items ps p e)
+        stops (i ∷ js) e k =
+            line-stops known i js ts us k.start k.fit (quiet known (i ∷ js) r k lines tail refl bytes-whole none)
+            (ap (λ (c : List Range). turn_of (version_of known) c ts) (ap (last_code []) (sym e) ∙ own-is) ∙ line-stopped)
+
+        pub line-bad : IsBadAt (texts_of_proofs_in (version_of now.version)) now.text (place + passed + 1)
+        line-bad =
+            let k = here qs h in
+            told-bad
+            (bad-call known (items qs) r k lines tail refl bytes-whole none line us (stops (items qs) refl k) counted)
+
+        -- no group comes
+        no-group-read : (k : GroupTree) (vs : List Tok) → turn_at (version_of known) (eqb place 0) ts ≡ Ok (Some k, vs) → ⊥
+        no-group-read k vs e =
+            let t = turn-takes known false ts k vs (ap (λ (b : Bool). turn_at (version_of known) b ts) (sym (first-is known (items qs) r (here qs h) ∙ not-first (items qs) refl)) ∙ e) in
+            ok-not-err {Y = Option LineTree} None ts us (sym (ends-nothing known g.code ts (ap (goes_on ends_proof) t.is)) ∙ line-stopped)
+          where
+            not-first : (js : List ItemTree) → items qs ≡ js → is_first js ≡ false
+            not-first [] e = absurd (some-items ps p e)
+            not-first (i ∷ js) e = refl
+
+        pub line-none : NoItem qs now
+        line-none = none-comes qs h no-group-read
+            (λ l vs some f e. ok-not-err {Y = Option LineTree} (Some l) vs us (sym (ap (turn_of (version_of known) g.code) (e ∙ ap (λ (c : List Range). line_tokens_in (version_of known) c l ++ vs) own-is) ∙ line-again known g.code own-fits l vs f) ∙ line-stopped))
+
+    -- where the lines have ended
+    pub lines-ended : (own : List Range) → IsCode own → turn_of (version_of known) own ts ≡ Ok (None, us) → ProofEnds now.rest
+    lines-ended own fits e = subst (λ (p : Progress). ProofEnds p.rest) is (ends-follow lines tail bytes-whole none (line-ends known own fits ts us e))
+
+    pub ended-here : ProofEnds now.rest → goes_on ends_proof ts ≡ true
+    ended-here e = follow-ends lines tail none (subst (λ (p : Progress). ProofEnds p.rest) (sym is) e)
+
+    -- where a line was read, or reading stopped, or a row was lost, they haven't
+    pub not-ended : (own : List Range) (l : LineTree) (vs : List Tok) → turn_of (version_of known) own ts ≡ Ok (Some l, vs) → ProofEnds now.rest → ⊥
+    not-ended own l vs e p = not-none l (ok-value {Y = Option LineTree} (Some l) None vs ts (sym e ∙ ends-nothing known own ts (ended-here p)))
+      where
+        not-none : (l : LineTree) → Some l ≡ None → ⊥
+        not-none l k = cc
+
+    pub not-stopped : (own : List Range) (bad : List Tok) → turn_of (version_of known) own ts ≡ Err bad → ProofEnds now.rest → ⊥
+    not-stopped own bad e p = ok-not-err {Y = Option LineTree} None ts bad (sym (ends-nothing known own ts (ended-here p)) ∙ e)
+
+    pub not-lost : goes_on ends_proof ts ≡ false → ProofEnds now.rest → ⊥
+    not-lost e p = true≢false (sym (ended-here p) ∙ e)

@@ -19,13 +19,13 @@ use Rattle.mc_text.proofs.Items.{item-once}
 use Rattle.mc_text.proofs.FaultLine.{front-lex, eols-append}
 use Rattle.rv_words.specs.declared.range.Range.{Range}
 use Rattle.tailrec_lang.specs.Tree.{DefTree, GroupTree}
-use Rattle.group_text.specs.Limits.{IsDef, IsGroup}
+use Rattle.group_text.specs.Limits.{IsDef, IsGroupIn}
 use Rattle.proof_text.specs.Line.{LineTree, ProofTree}
-use Rattle.proof_text.specs.LineLimits.{IsLine}
-use Rattle.group_text.specs.Spelling.{def_tokens, group_tokens, head_tokens, end_tokens}
-use Rattle.proof_text.specs.LineSpelling.{line_tokens}
-use Rattle.proof_text.specs.Proofs.{AreProofs, bare, text_of_proofs, proof_tokens}
-use Rattle.proof_text.specs.FirstProofs.{Progress, ItemTree, Opens, Adds, items, passed, Follows, HasGiven, AreRead, BeginsWithItems}
+use Rattle.proof_text.specs.LineLimits.{IsLineIn}
+use Rattle.group_text.specs.Spelling.{def_tokens, group_tokens, title_tokens, end_tokens}
+use Rattle.proof_text.specs.LineSpelling.{line_tokens_in}
+use Rattle.proof_text.specs.Proofs.{AreProofsIn, bare, text_of_proofs_in, proof_tokens_in}
+use Rattle.proof_text.specs.FirstProofs.{Progress, ItemTree, Opens, Adds, items, passed_in, Follows, HasGiven, AreReadIn, BeginsWithItems}
 use Rattle.group_text.specs.inner.Reading.{def_at, is_def, head_at, group_of}
 use Rattle.proof_text.specs.inner.LineReading.{line_at, begins_line}
 use Rattle.group_text.proofs.HeadLaws.{IsCode}
@@ -38,6 +38,8 @@ use Rattle.proof_text.proofs.Following.{follows-stands, def-atom}
 use Rattle.proof_text.proofs.TextItems.{item_tokens, items_tokens, code_behind, last_code, AreItems, proofs-items, items-fit, items-fewer, starts-fewer, tokens-behind, items-whole, items-real}
 use Rattle.proof_text.proofs.Passed.{front_tokens, front-lines, front-real}
 use Rattle.proof_text.proofs.Given.{Given, passed_items, given-items, items-given}
+use Rattle.group_text.specs.declared.version.Version.{Version as Known}
+use Rattle.group_text.specs.Version.{version_of}
 
 -- ---- where definitions end
 
@@ -93,68 +95,69 @@ defs-once (d ∷ ds) (c ∷ es) us vs h k s r e =
 behind-word : (us vs : List Tok) → Atom (codes "group") ∷ us ≡ Atom (codes "group") ∷ vs → us ≡ vs
 behind-word us vs e = cc
 
-group-once : (g h : GroupTree) (us vs : List Tok) → IsGroup g → IsGroup h → IsStop us → IsStop vs → group_tokens g ++ us ≡ group_tokens h ++ vs → (g ≡ h) × (us ≡ vs)
-group-once g h us vs fg fh s r e =
-    let lines : (x : GroupTree) (ws : List Tok) → group_row x ++ ws ≡ lines_of_head (head_of x) ++ (flat_map def_tokens x.defs ++ ws) =
-    λ x ws. ap (λ (v : List Tok). v ++ ws) (group-split (head_of x) x.defs) ∙ append_assoc (lines_of_head (head_of x)) (flat_map def_tokens x.defs) ws in
-    let rows : group_row g ++ us ≡ group_row h ++ vs = behind-word (group_row g ++ us) (group_row h ++ vs) e in
-    let head = read-once head_at HeadFits lines_of_head head-cover (head_of g) (head_of h) (flat_map def_tokens g.defs ++ us) (flat_map def_tokens h.defs ++ vs) (head-fits g fg) (head-fits h fh) (sym (lines g us) ∙ rows ∙ lines h vs) in
-    let defs = defs-once g.defs h.defs us vs fg.defs fh.defs s r head.1 in
-    ((λ i. group_of (head.0 i) (defs.0 i)), defs.1)
+module _ (known : Known) where
+  group-once : (g h : GroupTree) (us vs : List Tok) → IsGroupIn (version_of known) g → IsGroupIn (version_of known) h → IsStop us → IsStop vs → group_tokens g ++ us ≡ group_tokens h ++ vs → (g ≡ h) × (us ≡ vs)
+  group-once g h us vs fg fh s r e =
+      let lines : (x : GroupTree) (ws : List Tok) → group_row x ++ ws ≡ lines_of_head (head_of x) ++ (flat_map def_tokens x.defs ++ ws) =
+      λ x ws. ap (λ (v : List Tok). v ++ ws) (group-split (head_of x) x.defs) ∙ append_assoc (lines_of_head (head_of x)) (flat_map def_tokens x.defs) ws in
+      let rows : group_row g ++ us ≡ group_row h ++ vs = behind-word (group_row g ++ us) (group_row h ++ vs) e in
+      let head = read-once (head_at (version_of known)) (HeadFits (version_of known)) lines_of_head (head-cover known) (head_of g) (head_of h) (flat_map def_tokens g.defs ++ us) (flat_map def_tokens h.defs ++ vs) (head-fits (version_of known) g fg) (head-fits (version_of known) h fh) (sym (lines g us) ∙ rows ∙ lines h vs) in
+      let defs = defs-once g.defs h.defs us vs fg.defs fh.defs s r head.1 in
+      ((λ i. group_of (head.0 i) (defs.0 i)), defs.1)
 
--- ---- items
+  -- ---- items
 
--- what stands behind a group that was opened
-abbrev Ends : List ItemTree → List Tok → Type 0
-Ends is us = (before : List ItemTree) (g : GroupTree) → is ≡ before ++ Opens g ∷ [] → IsStop us
+  -- what stands behind a group that was opened
+  abbrev Ends : List ItemTree → List Tok → Type 0
+  Ends is us = (before : List ItemTree) (g : GroupTree) → is ≡ before ++ Opens g ∷ [] → IsStop us
 
-ends-rest : (i : ItemTree) (is : List ItemTree) (us : List Tok) → Ends (i ∷ is) us → Ends is us
-ends-rest i is us h before g e = h (i ∷ before) g (ap (λ (js : List ItemTree). i ∷ js) e)
+  ends-rest : (i : ItemTree) (is : List ItemTree) (us : List Tok) → Ends (i ∷ is) us → Ends is us
+  ends-rest i is us h before g e = h (i ∷ before) g (ap (λ (js : List ItemTree). i ∷ js) e)
 
-behind-stops : (own : List Range) (g : GroupTree) (is : List ItemTree) (us : List Tok) → Ends (Opens g ∷ is) us → IsStop (items_tokens own is ++ us)
-behind-stops own g [] us h = h [] g refl
-behind-stops own g (Opens k ∷ is) us h = inl refl
-behind-stops own g (Adds l ∷ is) us h = inl (ap (goes_on is_def) (append_assoc (line_tokens own l) (items_tokens own is) us) ∙ no-def own l (items_tokens own is ++ us))
+  behind-stops : (own : List Range) (g : GroupTree) (is : List ItemTree) (us : List Tok) → Ends (Opens g ∷ is) us → IsStop (items_tokens known own is ++ us)
+  behind-stops own g [] us h = h [] g refl
+  behind-stops own g (Opens k ∷ is) us h = inl refl
+  behind-stops own g (Adds l ∷ is) us h = inl (ap (goes_on is_def) (append_assoc (line_tokens_in (version_of known) own l) (items_tokens known own is) us) ∙ no-def known own l (items_tokens known own is ++ us))
 
--- one of the lists goes on where the other ends
-abbrev GoesOn : List Range → List ItemTree → List ItemTree → List Tok → List Tok → Type 0
-GoesOn own is js us vs = (more : List ItemTree) × (js ≡ is ++ more) × (us ≡ items_tokens (last_code own is) more ++ vs)
+  -- one of the lists goes on where the other ends
+  abbrev GoesOn : List Range → List ItemTree → List ItemTree → List Tok → List Tok → Type 0
+  GoesOn own is js us vs = (more : List ItemTree) × (js ≡ is ++ more) × (us ≡ items_tokens known (last_code own is) more ++ vs)
 
-parted : (own : List Range) (i : ItemTree) (is : List ItemTree) (us : List Tok) → items_tokens own (i ∷ is) ++ us ≡ item_tokens own i ++ (items_tokens (code_behind own i) is ++ us)
-parted own i is us = append_assoc (item_tokens own i) (items_tokens (code_behind own i) is) us
+  parted : (own : List Range) (i : ItemTree) (is : List ItemTree) (us : List Tok) → items_tokens known own (i ∷ is) ++ us ≡ item_tokens known own i ++ (items_tokens known (code_behind own i) is ++ us)
+  parted own i is us = append_assoc (item_tokens known own i) (items_tokens known (code_behind own i) is) us
 
--- a group is no line
-apart : (own : List Range) (g : GroupTree) (l : LineTree) (us vs : List Tok) → group_tokens g ++ us ≡ line_tokens own l ++ vs → ⊥
-apart own g l us vs e = true≢false (sym (line-begins own l vs) ∙ ap (goes_on begins_line) (sym e))
+  -- a group is no line
+  apart : (own : List Range) (g : GroupTree) (l : LineTree) (us vs : List Tok) → group_tokens g ++ us ≡ line_tokens_in (version_of known) own l ++ vs → ⊥
+  apart own g l us vs e = true≢false (sym (line-begins known own l vs) ∙ ap (goes_on begins_line) (sym e))
 
-items-once : (own : List Range) (is js : List ItemTree) (us vs : List Tok) → IsCode own → AreItems is → AreItems js → Ends is us → Ends js vs → items_tokens own is ++ us ≡ items_tokens own js ++ vs
-    → GoesOn own is js us vs ⊎ GoesOn own js is vs us
-items-once own [] js us vs c h k s r e = inl (js, refl, e)
-items-once own (i ∷ is) [] us vs c h k s r e = inr (i ∷ is, refl, sym e)
-items-once own (Opens g ∷ is) (Opens f ∷ js) us vs c h k s r e =
-    let parts : group_tokens g ++ (items_tokens g.code is ++ us) ≡ group_tokens f ++ (items_tokens f.code js ++ vs) = sym (parted own (Opens g) is us) ∙ e ∙ parted own (Opens f) js vs in
-    let first = group-once g f (items_tokens g.code is ++ us) (items_tokens f.code js ++ vs) h.0 k.0 (behind-stops g.code g is us s) (behind-stops f.code f js vs r) parts in
-    let more : items_tokens g.code is ++ us ≡ items_tokens g.code js ++ vs = first.1 ∙ ap (λ (x : GroupTree). items_tokens x.code js ++ vs) (sym first.0) in
-    elim (items-once g.code is js us vs (h.0.code, h.0.bytes) h.1 k.1 (ends-rest (Opens g) is us s) (ends-rest (Opens f) js vs r) more) [
-      | inl m ↦ inl (m.0, (λ n. Opens (sym first.0 n) ∷ m.1 n), m.2)
-      | inr m ↦ inr (m.0, (λ n. Opens (first.0 n) ∷ m.1 n), m.2 ∙ ap (λ (x : GroupTree). items_tokens (last_code x.code js) m.0 ++ us) first.0)
-    ]
-items-once own (Opens g ∷ is) (Adds l ∷ js) us vs c h k s r e =
-    absurd (apart own g l (items_tokens g.code is ++ us) (items_tokens own js ++ vs) (sym (parted own (Opens g) is us) ∙ e ∙ parted own (Adds l) js vs))
-items-once own (Adds l ∷ is) (Opens f ∷ js) us vs c h k s r e =
-    absurd (apart own f l (items_tokens f.code js ++ vs) (items_tokens own is ++ us) (sym (parted own (Opens f) js vs) ∙ sym e ∙ parted own (Adds l) is us))
-items-once own (Adds l ∷ is) (Adds m ∷ js) us vs c h k s r e =
-    let parts : line_tokens own l ++ (items_tokens own is ++ us) ≡ line_tokens own m ++ (items_tokens own js ++ vs) = sym (parted own (Adds l) is us) ∙ e ∙ parted own (Adds m) js vs in
-    let first = item-once (line_at own) IsLine (line_tokens own) (line-law own c) l m (items_tokens own is ++ us) (items_tokens own js ++ vs) h.0 k.0 parts in
-    elim (items-once own is js us vs c h.1 k.1 (ends-rest (Adds l) is us s) (ends-rest (Adds m) js vs r) first.1) [
-      | inl x ↦ inl (x.0, (λ n. Adds (sym first.0 n) ∷ x.1 n), x.2)
-      | inr x ↦ inr (x.0, (λ n. Adds (first.0 n) ∷ x.1 n), x.2)
-    ]
+  items-once : (own : List Range) (is js : List ItemTree) (us vs : List Tok) → IsCode own → AreItems known is → AreItems known js → Ends is us → Ends js vs → items_tokens known own is ++ us ≡ items_tokens known own js ++ vs
+      → GoesOn own is js us vs ⊎ GoesOn own js is vs us
+  items-once own [] js us vs c h k s r e = inl (js, refl, e)
+  items-once own (i ∷ is) [] us vs c h k s r e = inr (i ∷ is, refl, sym e)
+  items-once own (Opens g ∷ is) (Opens f ∷ js) us vs c h k s r e =
+      let parts : group_tokens g ++ (items_tokens known g.code is ++ us) ≡ group_tokens f ++ (items_tokens known f.code js ++ vs) = sym (parted own (Opens g) is us) ∙ e ∙ parted own (Opens f) js vs in
+      let first = group-once g f (items_tokens known g.code is ++ us) (items_tokens known f.code js ++ vs) h.0 k.0 (behind-stops g.code g is us s) (behind-stops f.code f js vs r) parts in
+      let more : items_tokens known g.code is ++ us ≡ items_tokens known g.code js ++ vs = first.1 ∙ ap (λ (x : GroupTree). items_tokens known x.code js ++ vs) (sym first.0) in
+      elim (items-once g.code is js us vs (h.0.code, h.0.bytes) h.1 k.1 (ends-rest (Opens g) is us s) (ends-rest (Opens f) js vs r) more) [
+        | inl m ↦ inl (m.0, (λ n. Opens (sym first.0 n) ∷ m.1 n), m.2)
+        | inr m ↦ inr (m.0, (λ n. Opens (first.0 n) ∷ m.1 n), m.2 ∙ ap (λ (x : GroupTree). items_tokens known (last_code x.code js) m.0 ++ us) first.0)
+      ]
+  items-once own (Opens g ∷ is) (Adds l ∷ js) us vs c h k s r e =
+      absurd (apart own g l (items_tokens known g.code is ++ us) (items_tokens known own js ++ vs) (sym (parted own (Opens g) is us) ∙ e ∙ parted own (Adds l) js vs))
+  items-once own (Adds l ∷ is) (Opens f ∷ js) us vs c h k s r e =
+      absurd (apart own f l (items_tokens known f.code js ++ vs) (items_tokens known own is ++ us) (sym (parted own (Opens f) js vs) ∙ sym e ∙ parted own (Adds l) is us))
+  items-once own (Adds l ∷ is) (Adds m ∷ js) us vs c h k s r e =
+      let parts : line_tokens_in (version_of known) own l ++ (items_tokens known own is ++ us) ≡ line_tokens_in (version_of known) own m ++ (items_tokens known own js ++ vs) = sym (parted own (Adds l) is us) ∙ e ∙ parted own (Adds m) js vs in
+      let first = item-once (line_at (version_of known) own) (IsLineIn (version_of known)) (line_tokens_in (version_of known) own) (line-law known own c) l m (items_tokens known own is ++ us) (items_tokens known own js ++ vs) h.0 k.0 parts in
+      elim (items-once own is js us vs c h.1 k.1 (ends-rest (Adds l) is us s) (ends-rest (Adds m) js vs r) first.1) [
+        | inl x ↦ inl (x.0, (λ n. Adds (sym first.0 n) ∷ x.1 n), x.2)
+        | inr x ↦ inr (x.0, (λ n. Adds (first.0 n) ∷ x.1 n), x.2)
+      ]
 
--- ---- from bytes to tokens
+  -- ---- from bytes to tokens
 
-behind-title : (us vs : List Tok) → head_tokens ++ us ≡ head_tokens ++ vs → us ≡ vs
-behind-title us vs e = cc
+  behind-title : (us vs : List Tok) → title_tokens (version_of known) ++ us ≡ title_tokens (version_of known) ++ vs → us ≡ vs
+  behind-title us vs e = cc
 
 -- where no whole line begins with def
 pub ended-stops : (rest : List ℕ) → (Follows (codes "def") rest → ⊥) → IsStop (lex rest (At Start))
@@ -183,138 +186,139 @@ ended-stops rest h = by-first (lex rest (At Start)) refl
     by-first (Done ∷ us) e = inl refl
     by-first (Stuck ∷ us) e = inl refl
 
--- what was read of a text, as a call of a reader has it
-as-given : (p : List ℕ) (ps : List ProofTree) (h : AreRead p ps) → HasGiven ps (record { text = p; rest = h.0; place = newlines (passed ps) })
-as-given p ps h = record { fit = h.1.fit; text = h.1.text; place = refl; ended = h.1.ended }
+module _ (known : Known) where
+  -- what was read of a text, as a call of a reader has it
+  as-given : (p : List ℕ) (ps : List ProofTree) (h : AreReadIn (version_of known) p ps) → HasGiven ps (record { version = known; text = p; rest = h.0; place = newlines (passed_in (version_of known) ps) })
+  as-given p ps h = record { fit = h.1.fit; text = h.1.text; place = refl; ended = h.1.ended }
 
-pub given-read : (ps : List ProofTree) (r : Progress) → HasGiven ps r → AreRead r.text ps
-given-read ps r h = (r.rest, record { fit = h.fit; text = h.text; ended = h.ended })
+  pub given-read : (ps : List ProofTree) (r : Progress) → HasGiven ps r → AreReadIn (version_of r.version) r.text ps
+  given-read ps r h = (r.rest, record { fit = h.fit; text = h.text; ended = h.ended })
 
-lexed : (is : List ItemTree) (r : Progress) → Given is r → lex r.text (At Start) ≡ front_tokens is ++ lex r.rest (At Start)
-lexed is r h = ap (λ (v : List ℕ). lex v (At Start)) h.text ∙ front-lex (front_tokens is) r.rest (front-lines is) (front-real is h.fit)
+  lexed : (is : List ItemTree) (r : Progress) → Given known is r → lex r.text (At Start) ≡ front_tokens known is ++ lex r.rest (At Start)
+  lexed is r h = ap (λ (v : List ℕ). lex v (At Start)) h.text ∙ front-lex (front_tokens known is) r.rest (front-lines known is) (front-real known is h.fit)
 
-stops : (is : List ItemTree) (r : Progress) → Given is r → Ends is (lex r.rest (At Start))
-stops is r h before g e = ended-stops r.rest (h.ended before g e)
+  stops : (is : List ItemTree) (r : Progress) → Given known is r → Ends known is (lex r.rest (At Start))
+  stops is r h before g e = ended-stops r.rest (h.ended before g e)
 
-abbrev Begins : List ItemTree → List ItemTree → Type 0
-Begins is js = (more : List ItemTree) × (is ≡ js ++ more)
+  abbrev Begins : List ItemTree → List ItemTree → Type 0
+  Begins is js = (more : List ItemTree) × (is ≡ js ++ more)
 
-no-code : IsCode []
-no-code = (tt, tt)
+  no-code : IsCode []
+  no-code = (tt, tt)
 
-items-fronts : (is js : List ItemTree) (r q : Progress) → Given is r → Given js q → r.text ≡ q.text → Begins is js ⊎ Begins js is
-items-fronts [] js r q h k e = inr (js, refl)
-items-fronts (i ∷ is) [] r q h k e = inl (i ∷ is, refl)
-items-fronts (i ∷ is) (j ∷ js) r q h k e =
-    let us = lex r.rest (At Start) in
-    let vs = lex q.rest (At Start) in
-    let tokens : front_tokens (i ∷ is) ++ us ≡ front_tokens (j ∷ js) ++ vs = sym (lexed (i ∷ is) r h) ∙ ap (λ (v : List ℕ). lex v (At Start)) e ∙ lexed (j ∷ js) q k in
-    let parts : head_tokens ++ (items_tokens [] (i ∷ is) ++ us) ≡ head_tokens ++ (items_tokens [] (j ∷ js) ++ vs) =
-    sym (append_assoc head_tokens (items_tokens [] (i ∷ is)) us) ∙ tokens ∙ append_assoc head_tokens (items_tokens [] (j ∷ js)) vs in
-    elim (items-once [] (i ∷ is) (j ∷ js) us vs no-code h.fit k.fit (stops (i ∷ is) r h) (stops (j ∷ js) q k) (behind-title _ _ parts)) [
-      | inl m ↦ inr (m.0, m.1)
-      | inr m ↦ inl (m.0, m.1)
-    ]
+  items-fronts : (is js : List ItemTree) (r q : Progress) → Given known is r → Given known js q → r.text ≡ q.text → Begins is js ⊎ Begins js is
+  items-fronts [] js r q h k e = inr (js, refl)
+  items-fronts (i ∷ is) [] r q h k e = inl (i ∷ is, refl)
+  items-fronts (i ∷ is) (j ∷ js) r q h k e =
+      let us = lex r.rest (At Start) in
+      let vs = lex q.rest (At Start) in
+      let tokens : front_tokens known (i ∷ is) ++ us ≡ front_tokens known (j ∷ js) ++ vs = sym (lexed (i ∷ is) r h) ∙ ap (λ (v : List ℕ). lex v (At Start)) e ∙ lexed (j ∷ js) q k in
+      let parts : (title_tokens (version_of known)) ++ (items_tokens known [] (i ∷ is) ++ us) ≡ title_tokens (version_of known) ++ (items_tokens known [] (j ∷ js) ++ vs) =
+      sym (append_assoc (title_tokens (version_of known)) (items_tokens known [] (i ∷ is)) us) ∙ tokens ∙ append_assoc (title_tokens (version_of known)) (items_tokens known [] (j ∷ js)) vs in
+      elim (items-once known [] (i ∷ is) (j ∷ js) us vs no-code h.fit k.fit (stops (i ∷ is) r h) (stops (j ∷ js) q k) (behind-title known _ _ parts)) [
+        | inl m ↦ inr (m.0, m.1)
+        | inr m ↦ inl (m.0, m.1)
+      ]
 
--- of two lists of proofs that are read of one text, one begins with the other
-pub fronts : (p : List ℕ) (ps qs : List ProofTree) → AreRead p ps → AreRead p qs → BeginsWithItems ps qs ⊎ BeginsWithItems qs ps
-fronts p ps qs a b = items-fronts (items ps) (items qs) _ _ (given-items ps _ (as-given p ps a)) (given-items qs _ (as-given p qs b)) refl
+  -- of two lists of proofs that are read of one text, one begins with the other
+  pub fronts : (p : List ℕ) (ps qs : List ProofTree) → AreReadIn (version_of known) p ps → AreReadIn (version_of known) p qs → BeginsWithItems ps qs ⊎ BeginsWithItems qs ps
+  fronts p ps qs a b = items-fronts (items ps) (items qs) _ _ (given-items known ps _ refl (as-given p ps a)) (given-items known qs _ refl (as-given p qs b)) refl
 
-end-item : (own : List Range) (more : List ItemTree) (vs : List Tok) → end_tokens ++ (Done ∷ []) ≡ items_tokens own more ++ vs → (is js : List ItemTree) → js ≡ is ++ more → is ≡ js
-end-item own [] vs e is js same = sym (same ∙ append-nil is)
-end-item own (Opens g ∷ more) vs e is js same = absurd (clash cc)
-  where
-    clash : codes "end" ≡ codes "group" → ⊥
-    clash e = true≢false (ap (bytes_eq (codes "end")) e)
-end-item own (Adds l ∷ more) vs e is js same =
-    absurd (true≢false (sym (line-begins own l (items_tokens own more ++ vs)) ∙ ap (goes_on begins_line) (sym (e ∙ parted own (Adds l) more vs))))
+  end-item : (own : List Range) (more : List ItemTree) (vs : List Tok) → end_tokens ++ (Done ∷ []) ≡ items_tokens known own more ++ vs → (is js : List ItemTree) → js ≡ is ++ more → is ≡ js
+  end-item own [] vs e is js same = sym (same ∙ append-nil is)
+  end-item own (Opens g ∷ more) vs e is js same = absurd (clash cc)
+    where
+      clash : codes "end" ≡ codes "group" → ⊥
+      clash e = true≢false (ap (bytes_eq (codes "end")) e)
+  end-item own (Adds l ∷ more) vs e is js same =
+      absurd (true≢false (sym (line-begins known own l (items_tokens known own more ++ vs)) ∙ ap (goes_on begins_line) (sym (e ∙ parted known own (Adds l) more vs))))
 
--- what is read of the text of proofs is a front of them
-items-front : (ps : List ProofTree) (js : List ItemTree) (r : Progress) → AreProofs ps → r.text ≡ text_of_proofs ps → Given js r → Begins (items ps) js
-items-front ps [] r are is h = (items ps, refl)
-items-front ps (j ∷ js) r are is h =
-    let own = items_tokens [] (items ps) in
-    let us = end_tokens ++ (Done ∷ []) in
-    let vs = lex r.rest (At Start) in
-    let whole : lex (text_of_proofs ps) (At Start) ≡ proofs_tokens ps ++ Done ∷ [] = lines-read (proofs_tokens ps) (proofs-tokens ps are) (proof-text-law.ends ps are) in
-    let split : proofs_tokens ps ++ Done ∷ [] ≡ head_tokens ++ (own ++ us) =
-    append_assoc head_tokens (flat_map proof_tokens ps ++ end_tokens) (Done ∷ [])
-    ∙ ap (λ (v : List Tok). head_tokens ++ v) (append_assoc (flat_map proof_tokens ps) end_tokens (Done ∷ []) ∙ ap (λ (v : List Tok). v ++ us) (proofs-items [] ps)) in
-    let tokens : head_tokens ++ (own ++ us) ≡ head_tokens ++ (items_tokens [] (j ∷ js) ++ vs) =
-    sym (whole ∙ split) ∙ sym (ap (λ (v : List ℕ). lex v (At Start)) is) ∙ lexed (j ∷ js) r h ∙ append_assoc head_tokens (items_tokens [] (j ∷ js)) vs in
-    pick (items-once [] (items ps) (j ∷ js) us vs no-code (items-fit ps are) h.fit (λ before g e. inl refl) (stops (j ∷ js) r h) (behind-title _ _ tokens))
-  where
-    pick : GoesOn [] (items ps) (j ∷ js) (end_tokens ++ (Done ∷ [])) (lex r.rest (At Start)) ⊎ GoesOn [] (j ∷ js) (items ps) (lex r.rest (At Start)) (end_tokens ++ (Done ∷ [])) → Begins (items ps) (j ∷ js)
-    pick (inl m) = ([], end-item (last_code [] (items ps)) m.0 (lex r.rest (At Start)) m.2 (items ps) (j ∷ js) m.1 ∙ sym (append-nil (j ∷ js)))
-    pick (inr m) = (m.0, m.1)
+  -- what is read of the text of proofs is a front of them
+  items-front : (ps : List ProofTree) (js : List ItemTree) (r : Progress) → AreProofsIn (version_of known) ps → r.text ≡ text_of_proofs_in (version_of known) ps → Given known js r → Begins (items ps) js
+  items-front ps [] r are is h = (items ps, refl)
+  items-front ps (j ∷ js) r are is h =
+      let own = items_tokens known [] (items ps) in
+      let us = end_tokens ++ (Done ∷ []) in
+      let vs = lex r.rest (At Start) in
+      let whole : lex (text_of_proofs_in (version_of known) ps) (At Start) ≡ proofs_tokens known ps ++ Done ∷ [] = lines-read (proofs_tokens known ps) (proofs-tokens known ps are) ((proof-text-law known).ends ps are) in
+      let split : proofs_tokens known ps ++ Done ∷ [] ≡ title_tokens (version_of known) ++ (own ++ us) =
+      append_assoc (title_tokens (version_of known)) (flat_map (proof_tokens_in (version_of known)) ps ++ end_tokens) (Done ∷ [])
+      ∙ ap (λ (v : List Tok). title_tokens (version_of known) ++ v) (append_assoc (flat_map (proof_tokens_in (version_of known)) ps) end_tokens (Done ∷ []) ∙ ap (λ (v : List Tok). v ++ us) (proofs-items known [] ps)) in
+      let tokens : (title_tokens (version_of known)) ++ (own ++ us) ≡ title_tokens (version_of known) ++ (items_tokens known [] (j ∷ js) ++ vs) =
+      sym (whole ∙ split) ∙ sym (ap (λ (v : List ℕ). lex v (At Start)) is) ∙ lexed (j ∷ js) r h ∙ append_assoc (title_tokens (version_of known)) (items_tokens known [] (j ∷ js)) vs in
+      pick (items-once known [] (items ps) (j ∷ js) us vs no-code (items-fit known ps are) h.fit (λ before g e. inl refl) (stops (j ∷ js) r h) (behind-title known _ _ tokens))
+    where
+      pick : GoesOn known [] (items ps) (j ∷ js) (end_tokens ++ (Done ∷ [])) (lex r.rest (At Start)) ⊎ GoesOn known [] (j ∷ js) (items ps) (lex r.rest (At Start)) (end_tokens ++ (Done ∷ [])) → Begins (items ps) (j ∷ js)
+      pick (inl m) = ([], end-item (last_code [] (items ps)) m.0 (lex r.rest (At Start)) m.2 (items ps) (j ∷ js) m.1 ∙ sym (append-nil (j ∷ js)))
+      pick (inr m) = (m.0, m.1)
 
-pub text-front : (p : List ℕ) (ps qs : List ProofTree) → AreProofs ps → p ≡ text_of_proofs ps → AreRead p qs → BeginsWithItems ps qs
-text-front p ps qs are is read = items-front ps (items qs) _ are is (given-items qs _ (as-given p qs read))
+  pub text-front : (p : List ℕ) (ps qs : List ProofTree) → AreProofsIn (version_of known) ps → p ≡ text_of_proofs_in (version_of known) ps → AreReadIn (version_of known) p qs → BeginsWithItems ps qs
+  text-front p ps qs are is read = items-front ps (items qs) _ are is (given-items known qs _ refl (as-given p qs read))
 
--- ---- fewer items
+  -- ---- fewer items
 
-no-def-first : (own : List Range) (i : ItemTree) (is : List ItemTree) (rest : List ℕ) → AreItems (i ∷ is) → Follows (codes "def") (spell Start (items_tokens own (i ∷ is)) ++ rest) → ⊥
-no-def-first own i is rest h d =
-    let ts = items_tokens own (i ∷ is) in
-    let read : Atom (codes "def") ∷ _ ≡ ts ++ lex rest (At Start) = sym (stands-lex Start (spell Start ts ++ rest) (Atom (codes "def")) d.1 (λ n. cc) (follows-stands (codes "def") (spell Start ts ++ rest) def-atom d)) ∙ front-lex ts rest (items-whole own (i ∷ is)) (items-real own (i ∷ is) h) in
-    true≢false (ap (goes_on is_def) read ∙ ap (goes_on is_def) (parted own i is (lex rest (At Start))) ∙ first-word i (items_tokens (code_behind own i) is ++ lex rest (At Start)))
-  where
-    first-word : (i : ItemTree) (us : List Tok) → goes_on is_def (item_tokens own i ++ us) ≡ false
-    first-word (Opens g) us = refl
-    first-word (Adds l) us = no-def own l us
+  no-def-first : (own : List Range) (i : ItemTree) (is : List ItemTree) (rest : List ℕ) → AreItems known (i ∷ is) → Follows (codes "def") (spell Start (items_tokens known own (i ∷ is)) ++ rest) → ⊥
+  no-def-first own i is rest h d =
+      let ts = items_tokens known own (i ∷ is) in
+      let read : Atom (codes "def") ∷ _ ≡ ts ++ lex rest (At Start) = sym (stands-lex Start (spell Start ts ++ rest) (Atom (codes "def")) d.1 (λ n. cc) (follows-stands (codes "def") (spell Start ts ++ rest) def-atom d)) ∙ front-lex ts rest (items-whole known own (i ∷ is)) (items-real known own (i ∷ is) h) in
+      true≢false (ap (goes_on is_def) read ∙ ap (goes_on is_def) (parted known own i is (lex rest (At Start))) ∙ first-word i (items_tokens known (code_behind own i) is ++ lex rest (At Start)))
+    where
+      first-word : (i : ItemTree) (us : List Tok) → goes_on is_def (item_tokens known own i ++ us) ≡ false
+      first-word (Opens g) us = refl
+      first-word (Adds l) us = no-def known own l us
 
--- the bytes of further items
-abbrev further : List ItemTree → List ItemTree → List ℕ
-further is js = spell Start (items_tokens (last_code [] is) js)
+  -- the bytes of further items
+  abbrev further : List ItemTree → List ItemTree → List ℕ
+  further is js = spell Start (items_tokens known (last_code [] is) js)
 
-fewer-given : (i : ItemTree) (is js : List ItemTree) (r : Progress) → Given ((i ∷ is) ++ js) r → Given (i ∷ is) (record { text = r.text; rest = further (i ∷ is) js ++ r.rest; place = newlines (passed_items (i ∷ is)) })
-fewer-given i is js r h =
-    let fits = items-fewer (i ∷ is) js h.fit in
-    let front = front_tokens (i ∷ is) in
-    let more = items_tokens (last_code [] (i ∷ is)) js in
-    let tokens : front_tokens ((i ∷ is) ++ js) ≡ front ++ more = ap (λ (v : List Tok). head_tokens ++ v) (tokens-behind [] (i ∷ is) js) ∙ sym (append_assoc head_tokens (items_tokens [] (i ∷ is)) more) in
-    let parts : passed_items ((i ∷ is) ++ js) ≡ passed_items (i ∷ is) ++ further (i ∷ is) js = ap (spell Start) tokens ∙ spell-after_lines front more (front-lines (i ∷ is)) in
-    record {
-      fit = fits.0;
-      start = starts-fewer (i ∷ is) js h.start;
-      text = h.text ∙ ap (λ (v : List ℕ). v ++ r.rest) parts ∙ append_assoc (passed_items (i ∷ is)) (further (i ∷ is) js) r.rest;
-      place = refl;
-      ended = λ before g e. by js fits.1 h.ended before g e;
-    }
-  where
-    by : (js : List ItemTree) → AreItems js → ((before : List ItemTree) (g : GroupTree) → (i ∷ is) ++ js ≡ before ++ Opens g ∷ [] → Follows (codes "def") r.rest → ⊥)
-        → (before : List ItemTree) (g : GroupTree) → i ∷ is ≡ before ++ Opens g ∷ [] → Follows (codes "def") (further (i ∷ is) js ++ r.rest) → ⊥
-    by [] f ended before g e d = ended before g (append-nil (i ∷ is) ∙ e) d
-    by (j ∷ js) f ended before g e d = no-def-first (last_code [] (i ∷ is)) j js r.rest f d
+  fewer-given : (i : ItemTree) (is js : List ItemTree) (r : Progress) → Given known ((i ∷ is) ++ js) r → Given known (i ∷ is) (record { version = r.version; text = r.text; rest = further (i ∷ is) js ++ r.rest; place = newlines (passed_items known (i ∷ is)) })
+  fewer-given i is js r h =
+      let fits = items-fewer known (i ∷ is) js h.fit in
+      let front = front_tokens known (i ∷ is) in
+      let more = items_tokens known (last_code [] (i ∷ is)) js in
+      let tokens : front_tokens known ((i ∷ is) ++ js) ≡ front ++ more = ap (λ (v : List Tok). title_tokens (version_of known) ++ v) (tokens-behind known [] (i ∷ is) js) ∙ sym (append_assoc (title_tokens (version_of known)) (items_tokens known [] (i ∷ is)) more) in
+      let parts : passed_items known ((i ∷ is) ++ js) ≡ passed_items known (i ∷ is) ++ further (i ∷ is) js = ap (spell Start) tokens ∙ spell-after_lines front more (front-lines known (i ∷ is)) in
+      record {
+        fit = fits.0;
+        start = starts-fewer (i ∷ is) js h.start;
+        text = h.text ∙ ap (λ (v : List ℕ). v ++ r.rest) parts ∙ append_assoc (passed_items known (i ∷ is)) (further (i ∷ is) js) r.rest;
+        place = refl;
+        ended = λ before g e. by js fits.1 h.ended before g e;
+      }
+    where
+      by : (js : List ItemTree) → AreItems known js → ((before : List ItemTree) (g : GroupTree) → (i ∷ is) ++ js ≡ before ++ Opens g ∷ [] → Follows (codes "def") r.rest → ⊥)
+          → (before : List ItemTree) (g : GroupTree) → i ∷ is ≡ before ++ Opens g ∷ [] → Follows (codes "def") (further (i ∷ is) js ++ r.rest) → ⊥
+      by [] f ended before g e d = ended before g (append-nil (i ∷ is) ∙ e) d
+      by (j ∷ js) f ended before g e d = no-def-first (last_code [] (i ∷ is)) j js r.rest f d
 
-nothing-given : (text : List ℕ) → HasGiven [] (record { text = text; rest = text; place = 0 })
-nothing-given text = record { fit = tt; text = refl; place = refl; ended = λ before g e d. no-proof before g e }
-  where
-    no-proof : (before : List ProofTree) (g : GroupTree) → [] ≡ before ++ bare g ∷ [] → ⊥
-    no-proof [] g e = cc
-    no-proof (p ∷ before) g e = cc
+  nothing-given : (text : List ℕ) → HasGiven [] (record { version = known; text = text; rest = text; place = 0 })
+  nothing-given text = record { fit = tt; text = refl; place = refl; ended = λ before g e d. no-proof before g e }
+    where
+      no-proof : (before : List ProofTree) (g : GroupTree) → [] ≡ before ++ bare g ∷ [] → ⊥
+      no-proof [] g e = cc
+      no-proof (p ∷ before) g e = cc
 
-pub front-read : (p : List ℕ) (ps qs : List ProofTree) → AreRead p ps → BeginsWithItems ps qs → AreRead p qs
-front-read p ps [] h b = given-read [] _ (nothing-given p)
-front-read p ps (q ∷ qs) h b =
-    let all = subst (λ (js : List ItemTree). Given js (record { text = p; rest = h.0; place = newlines (passed ps) })) b.1 (given-items ps _ (as-given p ps h)) in
-    given-read (q ∷ qs) _ (items-given (q ∷ qs) _ (fewer-given (Opens q.group) _ b.0 _ all))
+  pub front-read : (p : List ℕ) (ps qs : List ProofTree) → AreReadIn (version_of known) p ps → BeginsWithItems ps qs → AreReadIn (version_of known) p qs
+  front-read p ps [] h b = given-read [] _ (nothing-given p)
+  front-read p ps (q ∷ qs) h b =
+      let all = subst (λ (js : List ItemTree). Given known js (record { version = known; text = p; rest = h.0; place = newlines (passed_in (version_of known) ps) })) b.1 (given-items known ps _ refl (as-given p ps h)) in
+      given-read (q ∷ qs) _ (items-given known (q ∷ qs) _ refl (fewer-given (Opens q.group) _ b.0 _ all))
 
--- each item takes a byte
-item-some : (own : List Range) (i : ItemTree) → 1 ≤ length (item_tokens own i)
-item-some own (Opens g) = omega arith
-item-some own (Adds l) = omega (arith, some-line own l)
+  -- each item takes a byte
+  item-some : (own : List Range) (i : ItemTree) → 1 ≤ length (item_tokens known own i)
+  item-some own (Opens g) = omega arith
+  item-some own (Adds l) = omega (arith, some-line known own l)
 
-each-long : (own : List Range) (is : List ItemTree) → length is ≤ length (items_tokens own is)
-each-long own [] = omega arith
-each-long own (i ∷ is) = omega (arith, item-some own i, length-append (item_tokens own i) (items_tokens (code_behind own i) is), each-long (code_behind own i) is)
+  each-long : (own : List Range) (is : List ItemTree) → length is ≤ length (items_tokens known own is)
+  each-long own [] = omega arith
+  each-long own (i ∷ is) = omega (arith, item-some own i, length-append (item_tokens known own i) (items_tokens known (code_behind own i) is), each-long (code_behind own i) is)
 
-few-items : (is : List ItemTree) (r : Progress) → Given is r → length is ≤ length r.text
-few-items [] r h = omega arith
-few-items (i ∷ is) r h =
-    let ts : List Tok = front_tokens (i ∷ is) in
-    let all : length r.text ≡ length (spell Start ts) + length r.rest = ap length h.text ∙ length-append (spell Start ts) r.rest in
-    omega (arith, each-long [] (i ∷ is), length-append head_tokens (items_tokens [] (i ∷ is)), spell-long Start ts (front-real (i ∷ is) h.fit), all)
+  few-items : (is : List ItemTree) (r : Progress) → Given known is r → length is ≤ length r.text
+  few-items [] r h = omega arith
+  few-items (i ∷ is) r h =
+      let ts : List Tok = front_tokens known (i ∷ is) in
+      let all : length r.text ≡ length (spell Start ts) + length r.rest = ap length h.text ∙ length-append (spell Start ts) r.rest in
+      omega (arith, each-long [] (i ∷ is), length-append (title_tokens (version_of known)) (items_tokens known [] (i ∷ is)), spell-long Start ts (front-real known (i ∷ is) h.fit), all)
 
-pub few-read : (text : List ℕ) (ps : List ProofTree) → AreRead text ps → length (items ps) ≤ length text
-few-read text ps h = few-items (items ps) _ (given-items ps _ (as-given text ps h))
+  pub few-read : (text : List ℕ) (ps : List ProofTree) → AreReadIn (version_of known) text ps → length (items ps) ≤ length text
+  few-read text ps h = few-items (items ps) _ (given-items known ps _ refl (as-given text ps h))

@@ -1,8 +1,8 @@
 -- What is written of proofs are tokens of a text.
-use Rattle.std.proofs.Common.{ℕ, ◌+◌, ◌^◌, ◌<◌, Bool, true, false, cond, List, [], ◌∷◌, ◌++◌, codes, refl, arith, flat_map}
+use Rattle.std.proofs.Common.{◌≡◌, Option, Some, None, is_some, true≢false, sym, subst, ℕ, ◌+◌, ◌^◌, ◌<◌, Bool, true, false, cond, List, [], ◌∷◌, ◌++◌, codes, refl, arith, flat_map}
 use Rattle.std.specs.Fmt.{decimal}
 use Rattle.mc_text.specs.Number.{IsWord as IsNumber}
-use Rattle.mc_text.specs.Tokens.{Tok, Right, Semi, Atom, Eol}
+use Rattle.mc_text.specs.Tokens.{Tok, Right, Semi, Atom, Eol, IsAtom}
 use Rattle.mc_text.proofs.Atoms.{letter-atom, word-atom}
 use Rattle.mc_text.proofs.Lines.{AreTokens}
 use Rattle.mc_text.proofs.Shown.{decimal-atom, hex-atom, tokens-append, tokens-each}
@@ -15,15 +15,18 @@ use Rattle.sep_assert.specs.Tree.{AssertionTree}
 use Rattle.triple_kernel.specs.Tree.{FactTree, WordIs, MemIs, So, Gives, TripleTree}
 use Rattle.triple_kernel.specs.declared.form.Form.{Form}
 use Rattle.triple_kernel.specs.declared.form.Form.TheVariants.{Next, Taken}
-use Rattle.proof_text.specs.Line.{RuleTree, Axiom, Inst, Frame, Compose, ExtendCode, Strengthen, Weaken, Discharge, UseExit, LineTree, States, Loop, Forget, ProofTree}
-use Rattle.group_text.specs.Spelling.{number, values_tokens, group_tokens, head_tokens, end_tokens}
-use Rattle.proof_text.specs.LineSpelling.{fact_tokens, register_tokens, assertion_tokens, same_ranges, code_tokens, triple_tokens, form_tokens, word_sub_tokens, mem_sub_tokens, rule_tokens, line_tokens}
-use Rattle.proof_text.specs.LineLimits.{IsFact, IsAssertion, IsTriple, AreRisingFrom, IsRule, IsLine}
-use Rattle.group_text.specs.Version.{version_1}
-use Rattle.proof_text.specs.Proofs.{proof_tokens, IsProofIn, AreProofs}
+use Rattle.proof_text.specs.Line.{RuleTree, Axiom, Inst, Frame, Compose, ExtendCode, Strengthen, Weaken, Discharge, UseExit, LineTree, States, Loop, Forget, Further, ProofTree}
+use Rattle.group_text.specs.Spelling.{number, values_tokens, group_tokens, title_tokens, end_tokens}
+use Rattle.proof_text.specs.LineSpelling.{fact_tokens, register_tokens, assertion_tokens, same_ranges, code_tokens, triple_tokens, form_tokens, word_sub_tokens, mem_sub_tokens, rule_tokens, line_tokens_in}
+use Rattle.proof_text.specs.LineLimits.{IsFact, IsAssertion, IsTriple, AreRisingFrom, IsRule, IsLineIn}
+use Rattle.proof_text.specs.Proofs.{proof_tokens_in, IsProofIn, AreProofsIn}
 use Rattle.group_text.proofs.HeadLaws.{IsCode}
 use Rattle.group_text.proofs.Real.{eol-tokens, values-tokens, ranges-tokens, group-tokens, title-tokens}
+use Rattle.std.specs.Prelude.{unwrap_or}
+use Rattle.proof_text.proofs.FurtherWords.{word-is-atom}
 use Rattle.proof_text.proofs.TripleLaws.{IsRegister, registers-of, registers-small}
+use Rattle.group_text.specs.declared.version.Version.{Version as Known}
+use Rattle.group_text.specs.Version.{version_of}
 
 abbrev close : List Tok
 close = Right ∷ []
@@ -129,18 +132,25 @@ rule-tokens (Weaken p) h = (word-atom (codes "weaken") refl, (decimal-atom p h, 
 rule-tokens (Discharge p) h = (word-atom (codes "discharge") refl, (decimal-atom p h, tt))
 rule-tokens (UseExit def exit) h = (word-atom (codes "use") refl, (decimal-atom def (small def h.0), (decimal-atom exit (small exit h.1), tt)))
 
--- ---- lines and texts
+module _ (known : Known) where
+  -- ---- lines and texts
 
-pub line-is-tokens : (own : List Range) (l : LineTree) → IsLine l → AreTokens (line_tokens own l)
-line-is-tokens own (States rule t) h = tokens-append (rule_tokens rule) (triple_tokens own t ++ Eol ∷ []) (rule-tokens rule h.0) (eol-tokens (triple_tokens own t) (triple-tokens own t h.1))
-line-is-tokens own (Loop def cited) h =
-    (word-atom (codes "loop") refl, (decimal-atom def (small def h.0), eol-tokens (flat_map number cited) (tokens-each number IsNumber (λ n k. (decimal-atom n k, tt)) cited h.1)))
-line-is-tokens own (Forget k) h = (word-atom (codes "forget") refl, (decimal-atom k h, (tt, tt)))
+  pub line-is-tokens : (own : List Range) (l : LineTree) → IsLineIn (version_of known) l → AreTokens (line_tokens_in (version_of known) own l)
+  line-is-tokens own (States rule t) h = tokens-append (rule_tokens rule) (triple_tokens own t ++ Eol ∷ []) (rule-tokens rule h.0) (eol-tokens (triple_tokens own t) (triple-tokens own t h.1))
+  line-is-tokens own (Loop def cited) h =
+      (word-atom (codes "loop") refl, (decimal-atom def (small def h.0), eol-tokens (flat_map number cited) (tokens-each number IsNumber (λ n k. (decimal-atom n k, tt)) cited h.1)))
+  line-is-tokens own (Forget k) h = (word-atom (codes "forget") refl, (decimal-atom k h, (tt, tt)))
+  line-is-tokens own (Further p t) h =
+      (there (version_of known).further refl h.0, (decimal-atom p h.1, eol-tokens (triple_tokens own t) (triple-tokens own t h.2)))
+    where
+      there : (o : Option (List ℕ)) → (version_of known).further ≡ o → is_some o ≡ true → IsAtom (unwrap_or (version_of known).further [])
+      there None e some = absurd (true≢false (sym some))
+      there (Some w) e some = subst (λ (o : Option (List ℕ)). IsAtom (unwrap_or o [])) (sym e) (word-is-atom known w e)
 
-proof-is-tokens : (p : ProofTree) → IsProofIn version_1 p → AreTokens (proof_tokens p)
-proof-is-tokens p h = tokens-append (group_tokens p.group) (flat_map (line_tokens p.group.code) p.lines) (group-tokens p.group h.group) (tokens-each (line_tokens p.group.code) IsLine (line-is-tokens p.group.code) p.lines h.lines)
+  proof-is-tokens : (p : ProofTree) → IsProofIn (version_of known) p → AreTokens (proof_tokens_in (version_of known) p)
+  proof-is-tokens p h = tokens-append (group_tokens p.group) (flat_map (line_tokens_in (version_of known) p.group.code) p.lines) (group-tokens known p.group h.group) (tokens-each (line_tokens_in (version_of known) p.group.code) (IsLineIn (version_of known)) (line-is-tokens p.group.code) p.lines h.lines)
 
-pub proofs-tokens : (ps : List ProofTree) → AreProofs ps → AreTokens (head_tokens ++ (flat_map proof_tokens ps ++ end_tokens))
-proofs-tokens ps h =
-    tokens-append head_tokens (flat_map proof_tokens ps ++ end_tokens) title-tokens
-    (tokens-append (flat_map proof_tokens ps) end_tokens (tokens-each proof_tokens (IsProofIn version_1) proof-is-tokens ps h) (word-atom (codes "end") refl, (tt, tt)))
+  pub proofs-tokens : (ps : List ProofTree) → AreProofsIn (version_of known) ps → AreTokens (title_tokens (version_of known) ++ (flat_map (proof_tokens_in (version_of known)) ps ++ end_tokens))
+  proofs-tokens ps h =
+      tokens-append (title_tokens (version_of known)) (flat_map (proof_tokens_in (version_of known)) ps ++ end_tokens) (title-tokens known)
+      (tokens-append (flat_map (proof_tokens_in (version_of known)) ps) end_tokens (tokens-each (proof_tokens_in (version_of known)) (IsProofIn (version_of known)) proof-is-tokens ps h) (word-atom (codes "end") refl, (tt, tt)))

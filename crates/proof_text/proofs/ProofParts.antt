@@ -1,5 +1,5 @@
 -- Proofs without lines are written as their groups alone, and a text of proofs is what is printed of it, one behind the other.
-use Rattle.std.proofs.Common.{◌≡◌, ℕ, List, [], ◌∷◌, ◌++◌, map, codes, refl, sym, ap, ◌∙◌, append_assoc, flat_map}
+use Rattle.std.proofs.Common.{◌≡◌, ℕ, List, [], ◌∷◌, ◌++◌, map, codes, unwrap_or, refl, sym, ap, ◌∙◌, append_assoc, flat_map}
 use Rattle.std.proofs.lemmas.List.{append-nil}
 use Rattle.mc_text.specs.Tokens.{Tok, Eol, spell}
 use Rattle.mc_text.specs.declared.token.Before.TheVariants.{Start}
@@ -9,23 +9,23 @@ use Rattle.rv_words.specs.declared.range.Range.{Range}
 use Rattle.tailrec_lang.specs.Tree.{GroupTree}
 use Rattle.term_text.specs.Spelling.{joined}
 use Rattle.group_text.specs.Version.{Version}
-use Rattle.proof_text.specs.Line.{RuleTree, Axiom, Inst, Frame, Compose, ExtendCode, Strengthen, Weaken, Discharge, UseExit, LineTree, States, Loop, Forget, ProofTree}
-use Rattle.group_text.specs.Spelling.{number, address, group_tokens, title_tokens, head_tokens, end_tokens, text_in}
-use Rattle.proof_text.specs.LineSpelling.{keyed_tokens, form_tokens, word_sub_tokens, mem_sub_tokens, rule_tokens, triple_tokens, line_tokens}
+use Rattle.proof_text.specs.Line.{RuleTree, Axiom, Inst, Frame, Compose, ExtendCode, Strengthen, Weaken, Discharge, UseExit, LineTree, States, Loop, Forget, Further, ProofTree}
+use Rattle.group_text.specs.Spelling.{number, address, group_tokens, title_tokens, end_tokens, text_in}
+use Rattle.proof_text.specs.LineSpelling.{keyed_tokens, form_tokens, word_sub_tokens, mem_sub_tokens, rule_tokens, triple_tokens, line_tokens_in}
 use Rattle.group_text.specs.Limits.{AreGroupsIn}
-use Rattle.proof_text.specs.Proofs.{proof_tokens, text_of_proofs_in, AreProofsIn, bare, line_texts, proof_texts_of, text_of_proofs}
+use Rattle.proof_text.specs.Proofs.{proof_tokens_in, text_of_proofs_in, AreProofsIn, bare, line_texts_in, proof_texts_in}
 use Rattle.group_text.proofs.Parts.{ends-behind, line-whole, group-whole}
 
 -- ---- without lines
 
-bare-tokens : (gs : List GroupTree) → flat_map proof_tokens (map bare gs) ≡ flat_map group_tokens gs
-bare-tokens [] = refl
-bare-tokens (g ∷ gs) =
-    ap (λ (ts : List Tok). ts ++ flat_map proof_tokens (map bare gs)) (append-nil (group_tokens g))
-    ∙ ap (λ (ts : List Tok). group_tokens g ++ ts) (bare-tokens gs)
+bare-tokens : (v : Version) (gs : List GroupTree) → flat_map (proof_tokens_in v) (map bare gs) ≡ flat_map group_tokens gs
+bare-tokens v [] = refl
+bare-tokens v (g ∷ gs) =
+    ap (λ (ts : List Tok). ts ++ flat_map (proof_tokens_in v) (map bare gs)) (append-nil (group_tokens g))
+    ∙ ap (λ (ts : List Tok). group_tokens g ++ ts) (bare-tokens v gs)
 
 pub bare-text : (v : Version) (gs : List GroupTree) → text_of_proofs_in v (map bare gs) ≡ text_in v gs
-bare-text v gs = ap (λ (ts : List Tok). spell Start (title_tokens v ++ (ts ++ end_tokens))) (bare-tokens gs)
+bare-text v gs = ap (λ (ts : List Tok). spell Start (title_tokens v ++ (ts ++ end_tokens))) (bare-tokens v gs)
 
 pub bare-fit : (v : Version) (gs : List GroupTree) → AreGroupsIn v gs → AreProofsIn v (map bare gs)
 bare-fit v [] h = tt
@@ -51,37 +51,38 @@ rule-whole (Weaken p) = keyed-whole (codes "weaken") (number p ∷ [])
 rule-whole (Discharge p) = keyed-whole (codes "discharge") (number p ∷ [])
 rule-whole (UseExit def exit) = keyed-whole (codes "use") (number def ∷ number exit ∷ [])
 
-pub whole-line : (own : List Range) (l : LineTree) → IsLines (line_tokens own l)
-whole-line own (States rule t) = rule-whole rule (triple_tokens own t ++ Eol ∷ []) (λ u. ends-behind u (triple_tokens own t) (Eol ∷ []) (λ _. refl))
-whole-line own (Loop def cited) = line-whole (codes "loop") (number def ∷ flat_map number cited ∷ [])
-whole-line own (Forget k) = line-whole (codes "forget") (number k ∷ [])
+pub whole-line : (v : Version) (own : List Range) (l : LineTree) → IsLines (line_tokens_in v own l)
+whole-line v own (States rule t) = rule-whole rule (triple_tokens own t ++ Eol ∷ []) (λ u. ends-behind u (triple_tokens own t) (Eol ∷ []) (λ _. refl))
+whole-line v own (Loop def cited) = line-whole (codes "loop") (number def ∷ flat_map number cited ∷ [])
+whole-line v own (Forget k) = line-whole (codes "forget") (number k ∷ [])
+whole-line v own (Further p t) = keyed-whole (unwrap_or v.further []) (number p ∷ []) (triple_tokens own t ++ Eol ∷ []) (λ u. ends-behind u (triple_tokens own t) (Eol ∷ []) (λ _. refl))
 
-lines-apart : (own : List Range) (ls : List LineTree) (rest : List Tok) → spell Start (flat_map (line_tokens own) ls ++ rest) ≡ line_texts own ls ++ spell Start rest
-lines-apart own [] rest = refl
-lines-apart own (l ∷ ls) rest =
-    ap (spell Start) (append_assoc (line_tokens own l) (flat_map (line_tokens own) ls) rest)
-    ∙ spell-after_lines (line_tokens own l) (flat_map (line_tokens own) ls ++ rest) (whole-line own l)
-    ∙ ap (λ (v : List ℕ). spell Start (line_tokens own l) ++ v) (lines-apart own ls rest)
-    ∙ sym (append_assoc (spell Start (line_tokens own l)) (line_texts own ls) (spell Start rest))
+lines-apart : (v : Version) (own : List Range) (ls : List LineTree) (rest : List Tok) → spell Start (flat_map (line_tokens_in v own) ls ++ rest) ≡ line_texts_in v own ls ++ spell Start rest
+lines-apart v own [] rest = refl
+lines-apart v own (l ∷ ls) rest =
+    ap (spell Start) (append_assoc (line_tokens_in v own l) (flat_map (line_tokens_in v own) ls) rest)
+    ∙ spell-after_lines (line_tokens_in v own l) (flat_map (line_tokens_in v own) ls ++ rest) (whole-line v own l)
+    ∙ ap (λ (w : List ℕ). spell Start (line_tokens_in v own l) ++ w) (lines-apart v own ls rest)
+    ∙ sym (append_assoc (spell Start (line_tokens_in v own l)) (line_texts_in v own ls) (spell Start rest))
 
-proof-apart : (p : ProofTree) (rest : List Tok) → spell Start (proof_tokens p ++ rest) ≡ (spell Start (group_tokens p.group) ++ line_texts p.group.code p.lines) ++ spell Start rest
-proof-apart p rest =
-    let lines = flat_map (line_tokens p.group.code) p.lines in
+proof-apart : (v : Version) (p : ProofTree) (rest : List Tok) → spell Start (proof_tokens_in v p ++ rest) ≡ (spell Start (group_tokens p.group) ++ line_texts_in v p.group.code p.lines) ++ spell Start rest
+proof-apart v p rest =
+    let lines = flat_map (line_tokens_in v p.group.code) p.lines in
     ap (spell Start) (append_assoc (group_tokens p.group) lines rest)
     ∙ spell-after_lines (group_tokens p.group) (lines ++ rest) (group-whole p.group)
-    ∙ ap (λ (v : List ℕ). spell Start (group_tokens p.group) ++ v) (lines-apart p.group.code p.lines rest)
-    ∙ sym (append_assoc (spell Start (group_tokens p.group)) (line_texts p.group.code p.lines) (spell Start rest))
+    ∙ ap (λ (w : List ℕ). spell Start (group_tokens p.group) ++ w) (lines-apart v p.group.code p.lines rest)
+    ∙ sym (append_assoc (spell Start (group_tokens p.group)) (line_texts_in v p.group.code p.lines) (spell Start rest))
 
-proofs-apart : (ps : List ProofTree) → spell Start (flat_map proof_tokens ps ++ end_tokens) ≡ proof_texts_of ps ++ spell Start end_tokens
-proofs-apart [] = refl
-proofs-apart (p ∷ ps) =
-    let own = spell Start (group_tokens p.group) ++ line_texts p.group.code p.lines in
-    ap (spell Start) (append_assoc (proof_tokens p) (flat_map proof_tokens ps) end_tokens)
-    ∙ proof-apart p (flat_map proof_tokens ps ++ end_tokens)
-    ∙ ap (λ (v : List ℕ). own ++ v) (proofs-apart ps)
-    ∙ sym (append_assoc own (proof_texts_of ps) (spell Start end_tokens))
+proofs-apart : (v : Version) (ps : List ProofTree) → spell Start (flat_map (proof_tokens_in v) ps ++ end_tokens) ≡ proof_texts_in v ps ++ spell Start end_tokens
+proofs-apart v [] = refl
+proofs-apart v (p ∷ ps) =
+    let own = spell Start (group_tokens p.group) ++ line_texts_in v p.group.code p.lines in
+    ap (spell Start) (append_assoc (proof_tokens_in v p) (flat_map (proof_tokens_in v) ps) end_tokens)
+    ∙ proof-apart v p (flat_map (proof_tokens_in v) ps ++ end_tokens)
+    ∙ ap (λ (w : List ℕ). own ++ w) (proofs-apart v ps)
+    ∙ sym (append_assoc own (proof_texts_in v ps) (spell Start end_tokens))
 
-pub proof-text-apart : (ps : List ProofTree) → text_of_proofs ps ≡ spell Start head_tokens ++ (proof_texts_of ps ++ spell Start end_tokens)
-proof-text-apart ps =
-    spell-after_lines head_tokens (flat_map proof_tokens ps ++ end_tokens) refl
-    ∙ ap (λ (v : List ℕ). spell Start head_tokens ++ v) (proofs-apart ps)
+pub proof-text-apart : (v : Version) (ps : List ProofTree) → text_of_proofs_in v ps ≡ spell Start (title_tokens v) ++ (proof_texts_in v ps ++ spell Start end_tokens)
+proof-text-apart v ps =
+    spell-after_lines (title_tokens v) (flat_map (proof_tokens_in v) ps ++ end_tokens) refl
+    ∙ ap (λ (w : List ℕ). spell Start (title_tokens v) ++ w) (proofs-apart v ps)

@@ -249,13 +249,13 @@ facts = Atom (codes "facts") ∷ []
 facts-law : Reads facts_word Always (λ _. facts)
 facts-law = name-law (codes "facts")
 
-abbrev CitedParts : Type 0
+abbrev pub CitedParts : Type 0
 CitedParts = ℕ × Unit {0}
 
-abbrev Cited : CitedParts → Type 0
+abbrev pub Cited : CitedParts → Type 0
 Cited x = IsNumber x.0 × Always x.1
 
-cited-law : Reads cited_at Cited (λ x. number x.0 ++ facts)
+pub cited-law : Reads cited_at Cited (λ x. number x.0 ++ facts)
 cited-law = Reads-pair theorem_at IsNumber number theorem-law (λ n h. atom-flat (decimal n)) facts_word Always (λ _. facts) facts-law
 
 abbrev AxiomParts : Type 0

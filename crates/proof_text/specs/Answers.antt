@@ -31,4 +31,4 @@ IsEnd (Err e) = ⊥
 
 -- no item comes after those that were given
 abbrev pub NoItem : List ProofTree → Progress → Type 0
-NoItem ps r = (i : ItemTree) (qs : List ProofTree) (new : Progress) → new.text ≡ r.text → items qs ≡ items ps ++ i ∷ [] → HasGiven qs new → ⊥
+NoItem ps r = (i : ItemTree) (qs : List ProofTree) (new : Progress) → new.text ≡ r.text → new.version ≡ r.version → items qs ≡ items ps ++ i ∷ [] → HasGiven qs new → ⊥

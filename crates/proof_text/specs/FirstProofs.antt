@@ -4,13 +4,15 @@ use Rattle.mc_text.specs.Tokens.{HasNoAtomByte, spell}
 use Rattle.mc_text.specs.Fault.{first_lines, newlines}
 use Rattle.mc_text.specs.declared.token.Before.TheVariants.{Start}
 use Rattle.tailrec_lang.specs.Tree.{GroupTree}
-use Rattle.group_text.specs.Version.{Version, version_1}
+use Rattle.group_text.specs.declared.version.Version.{Version as Known}
+use Rattle.group_text.specs.Version.{Version, version_1, version_of}
 use Rattle.proof_text.specs.Line.{LineTree, ProofTree}
 use Rattle.group_text.specs.Spelling.{title_tokens}
-use Rattle.proof_text.specs.Proofs.{proof_tokens, AreProofs, AreProofsIn, bare}
+use Rattle.proof_text.specs.Proofs.{proof_tokens_in, AreProofsIn, bare}
 
--- a reader's text, its rest from the beginning of a line on, and how many lines lie before that
+-- a reader's version and text, its rest from the beginning of a line on, and how many lines lie before that
 pub record Progress : Type 0 where
+  pub version : Known
   pub text : List ℕ
   pub rest : List ℕ
   pub place : ℕ
@@ -31,7 +33,7 @@ with_line p l = record { group = p.group; lines = p.lines ++ l ∷ [] }
 -- the lines up to the end of the last item
 abbrev pub passed_in : Version → List ProofTree → List ℕ
 passed_in v [] = []
-passed_in v (p ∷ ps) = spell Start (title_tokens v ++ flat_map proof_tokens (p ∷ ps))
+passed_in v (p ∷ ps) = spell Start (title_tokens v ++ flat_map (proof_tokens_in v) (p ∷ ps))
 
 abbrev pub passed : List ProofTree → List ℕ
 passed ps = passed_in version_1 ps
@@ -46,9 +48,9 @@ Ended ps rest = (before : List ProofTree) (g : GroupTree) → ps ≡ before ++ b
 
 -- the items of these proofs were given, and are all that stands before the rest
 pub record HasGiven (ps : List ProofTree) (r : Progress) : Type 0 where
-  pub fit : AreProofs ps
-  pub text : r.text ≡ passed ps ++ r.rest
-  pub place : r.place ≡ newlines (passed ps)
+  pub fit : AreProofsIn (version_of r.version) ps
+  pub text : r.text ≡ passed_in (version_of r.version) ps ++ r.rest
+  pub place : r.place ≡ newlines (passed_in (version_of r.version) ps)
   pub ended : Ended ps r.rest
 
 -- the lines of a proof have ended: the next group follows, or the line that ends the text
@@ -66,9 +68,12 @@ pub record AreBefore (v : Version) (bytes : List ℕ) (ps : List ProofTree) (res
   pub text : bytes ≡ passed_in v ps ++ rest
   pub ended : Ended ps rest
 
--- the first items of a text
+-- the first items of a text of that version
+abbrev pub AreReadIn : Version → List ℕ → List ProofTree → Type 0
+AreReadIn v bytes ps = (rest : List ℕ) × AreBefore v bytes ps rest
+
 abbrev pub AreRead : List ℕ → List ProofTree → Type 0
-AreRead bytes ps = (rest : List ℕ) × AreBefore version_1 bytes ps rest
+AreRead bytes ps = AreReadIn version_1 bytes ps
 
 -- the items of the one list begin with those of the other
 abbrev pub BeginsWithItems : List ProofTree → List ProofTree → Type 0

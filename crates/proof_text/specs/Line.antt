@@ -23,11 +23,13 @@ pub data RuleTree : Type 0 where
   Discharge : (p : ℕ) → RuleTree
   UseExit : (def exit : ℕ) → RuleTree
 
--- a line states a triple, closes a definition by a theorem for each leaf of its body, or forgets a theorem
+-- a line states a triple, closes a definition by a theorem for each leaf of its body, forgets a theorem, or states a triple from
+-- one theorem by the further rule of the text's version
 pub data LineTree : Type 0 where
   States : (rule : RuleTree) (stated : TripleTree) → LineTree
   Loop : (def : ℕ) (cited : List ℕ) → LineTree
   Forget : (k : ℕ) → LineTree
+  Further : (p : ℕ) (stated : TripleTree) → LineTree
 
 -- a group with its proof
 pub record ProofTree : Type 0 where
@@ -58,3 +60,4 @@ abbrev pub line_tree : Line → LineTree
 line_tree (line.States by stated) = States (rule_tree by) (triple_tree stated)
 line_tree (line.Loop def cited) = Loop def cited
 line_tree (line.Forget k) = Forget k
+line_tree (line.Further cited stated) = Further cited (triple_tree stated)

@@ -1,12 +1,13 @@
 -- Which lines of a proof have a text.
-use Rattle.std.specs.Prelude.{ℕ, ◌+◌, ◌≤◌, ◌<◌, ◌^◌, map, List, [], ◌∷◌}
+use Rattle.std.specs.Prelude.{◌≡◌, ℕ, ◌+◌, ◌≤◌, ◌<◌, ◌^◌, true, map, List, [], ◌∷◌, is_some}
 use Rattle.std.specs.List.{AllByRecursion}
 use Rattle.mc_text.specs.Number.{IsWord as IsNumber}
 use Rattle.rv_words.specs.Ranges.{AreRanges}
 use Rattle.term_text.specs.Limits.{IsWord, IsMem, IsCond}
 use Rattle.sep_assert.specs.Tree.{AssertionTree}
 use Rattle.triple_kernel.specs.Tree.{FactTree, WordIs, MemIs, So, Gives, TripleTree}
-use Rattle.proof_text.specs.Line.{RuleTree, Axiom, Inst, Frame, Compose, ExtendCode, Strengthen, Weaken, Discharge, UseExit, LineTree, States, Loop, Forget}
+use Rattle.proof_text.specs.Line.{RuleTree, Axiom, Inst, Frame, Compose, ExtendCode, Strengthen, Weaken, Discharge, UseExit, LineTree, States, Loop, Forget, Further}
+use Rattle.group_text.specs.Version.{Version, version_1}
 use Rattle.tailrec_lang.specs.Registers.{AreRegistersFrom}
 use Rattle.group_text.specs.Limits.{index_limit, IsValues}
 
@@ -46,7 +47,14 @@ IsRule (Weaken p) = IsNumber p
 IsRule (Discharge p) = IsNumber p
 IsRule (UseExit def exit) = (def < index_limit) × (exit < index_limit)
 
+-- in texts of that version
+abbrev pub IsLineIn : Version → LineTree → Type 0
+IsLineIn v (States rule t) = IsRule rule × IsTriple t
+IsLineIn v (Loop def cited) = (def < index_limit) × AllByRecursion IsNumber cited
+IsLineIn v (Forget k) = IsNumber k
+IsLineIn v (Further p t) = (is_some v.further ≡ true) × IsNumber p × IsTriple t
+
+-- ---- the version without a further rule
+
 abbrev pub IsLine : LineTree → Type 0
-IsLine (States rule t) = IsRule rule × IsTriple t
-IsLine (Loop def cited) = (def < index_limit) × AllByRecursion IsNumber cited
-IsLine (Forget k) = IsNumber k
+IsLine l = IsLineIn version_1 l

@@ -3,11 +3,14 @@
 --   LINE   = RULE TRIPLE eol
 --          | loop D K* eol                       the definition, a theorem for each leaf
 --          | forget K eol
+--          | FURTHER K TRIPLE eol                in versions with a further rule
 --   RULE   = axiom N N FORM                      the address, the instruction
 --          | inst K SUB*
 --          | frame K | extend K | compose K K
 --          | strengthen K | weaken K | discharge K
 --          | use D D                             the definition, the exit
+--   FURTHER = steer                            in version 3
+--           | exchange                          in version 4
 --   FORM   = next | taken
 --   SUB    = ( vD W ) | ( mD M )
 --   TRIPLE = facts F* pre A code CODE post A
@@ -19,7 +22,7 @@
 --
 -- K is a decimal, the number of a theorem; D, N, REG, VALUES and eol are those of groups, W, M, C and RANGE those of terms.
 use lib.Pointwise.{pointwise}
-use Rattle.std.specs.Prelude.{ℕ, Bool, ◌&&◌, ◌==◌, if◌then◌else◌, List, [], ◌∷◌, ◌++◌, codes, flat_map}
+use Rattle.std.specs.Prelude.{ℕ, Bool, ◌&&◌, ◌==◌, if◌then◌else◌, List, [], ◌∷◌, ◌++◌, codes, flat_map, unwrap_or}
 use Rattle.std.specs.Str.{bytes_eq}
 use Rattle.std.specs.Fmt.{decimal}
 use Rattle.mc_text.specs.Tokens.{Tok, Left, Right, Semi, Atom, Eol}
@@ -30,7 +33,8 @@ use Rattle.sep_assert.specs.Tree.{AssertionTree}
 use Rattle.triple_kernel.specs.Tree.{FactTree, WordIs, MemIs, So, Gives, TripleTree}
 use Rattle.triple_kernel.specs.declared.form.Form.{Form}
 use Rattle.triple_kernel.specs.declared.form.Form.TheVariants.{Next, Taken}
-use Rattle.proof_text.specs.Line.{RuleTree, Axiom, Inst, Frame, Compose, ExtendCode, Strengthen, Weaken, Discharge, UseExit, LineTree, States, Loop, Forget}
+use Rattle.proof_text.specs.Line.{RuleTree, Axiom, Inst, Frame, Compose, ExtendCode, Strengthen, Weaken, Discharge, UseExit, LineTree, States, Loop, Forget, Further}
+use Rattle.group_text.specs.Version.{Version, version_1}
 use Rattle.group_text.specs.Spelling.{line, number, address, values_tokens}
 
 -- a word, and the parts after it
@@ -86,8 +90,14 @@ rule_tokens (Weaken p) = keyed_tokens (codes "weaken") (number p ∷ [])
 rule_tokens (Discharge p) = keyed_tokens (codes "discharge") (number p ∷ [])
 rule_tokens (UseExit def exit) = keyed_tokens (codes "use") (number def ∷ number exit ∷ [])
 
--- a line, beside the group's own code
+-- a line in texts of that version, beside the group's own code
+abbrev pub line_tokens_in : Version → List Range → LineTree → List Tok
+line_tokens_in v own (States rule t) = rule_tokens rule ++ (triple_tokens own t ++ Eol ∷ [])
+line_tokens_in v own (Loop def cited) = line (codes "loop") (number def ∷ flat_map number cited ∷ [])
+line_tokens_in v own (Forget k) = line (codes "forget") (number k ∷ [])
+line_tokens_in v own (Further p t) = keyed_tokens (unwrap_or v.further []) (number p ∷ []) ++ (triple_tokens own t ++ Eol ∷ [])
+
+-- ---- the version without a further rule
+
 abbrev pub line_tokens : List Range → LineTree → List Tok
-line_tokens own (States rule t) = rule_tokens rule ++ (triple_tokens own t ++ Eol ∷ [])
-line_tokens own (Loop def cited) = line (codes "loop") (number def ∷ flat_map number cited ∷ [])
-line_tokens own (Forget k) = line (codes "forget") (number k ∷ [])
+line_tokens own l = line_tokens_in version_1 own l

@@ -12,20 +12,20 @@ use Rattle.tailrec_lang.specs.Tree.{GroupTree}
 use Rattle.group_text.specs.Version.{Version, version_1}
 use Rattle.proof_text.specs.Line.{LineTree, ProofTree}
 use Rattle.group_text.specs.Spelling.{group_tokens, title_tokens, end_tokens}
-use Rattle.proof_text.specs.LineSpelling.{line_tokens}
+use Rattle.proof_text.specs.LineSpelling.{line_tokens_in}
 use Rattle.group_text.specs.Limits.{IsGroupIn}
-use Rattle.proof_text.specs.LineLimits.{IsLine}
+use Rattle.proof_text.specs.LineLimits.{IsLineIn}
 
-abbrev pub proof_tokens : ProofTree → List Tok
-proof_tokens p = group_tokens p.group ++ flat_map (line_tokens p.group.code) p.lines
+abbrev pub proof_tokens_in : Version → ProofTree → List Tok
+proof_tokens_in v p = group_tokens p.group ++ flat_map (line_tokens_in v p.group.code) p.lines
 
 -- the text of a list of proofs in that version
 abbrev pub text_of_proofs_in : Version → List ProofTree → List ℕ
-text_of_proofs_in v ps = spell Start (title_tokens v ++ (flat_map proof_tokens ps ++ end_tokens))
+text_of_proofs_in v ps = spell Start (title_tokens v ++ (flat_map (proof_tokens_in v) ps ++ end_tokens))
 
 pub record IsProofIn (v : Version) (p : ProofTree) : Type 0 where
   pub group : IsGroupIn v p.group
-  pub lines : AllByRecursion IsLine p.lines
+  pub lines : AllByRecursion (IsLineIn v) p.lines
 
 abbrev pub AreProofsIn : Version → List ProofTree → Type 0
 AreProofsIn v ps = AllByRecursion (IsProofIn v) ps
@@ -44,16 +44,25 @@ bare g = record { group = g; lines = [] }
 -- ---- the parts of a text, which are printed one by one
 
 -- the lines' texts, one after the other, beside the group's own code
-abbrev pub line_texts : List Range → List LineTree → List ℕ
-line_texts own [] = []
-line_texts own (l ∷ ls) = spell Start (line_tokens own l) ++ line_texts own ls
+abbrev pub line_texts_in : Version → List Range → List LineTree → List ℕ
+line_texts_in v own [] = []
+line_texts_in v own (l ∷ ls) = spell Start (line_tokens_in v own l) ++ line_texts_in v own ls
 
 -- each group's text, and those of its lines after it
-abbrev pub proof_texts_of : List ProofTree → List ℕ
-proof_texts_of [] = []
-proof_texts_of (p ∷ ps) = (spell Start (group_tokens p.group) ++ line_texts p.group.code p.lines) ++ proof_texts_of ps
+abbrev pub proof_texts_in : Version → List ProofTree → List ℕ
+proof_texts_in v [] = []
+proof_texts_in v (p ∷ ps) = (spell Start (group_tokens p.group) ++ line_texts_in v p.group.code p.lines) ++ proof_texts_in v ps
 
 -- ---- the version that is written
+
+abbrev pub proof_tokens : ProofTree → List Tok
+proof_tokens p = proof_tokens_in version_1 p
+
+abbrev pub line_texts : List Range → List LineTree → List ℕ
+line_texts own ls = line_texts_in version_1 own ls
+
+abbrev pub proof_texts_of : List ProofTree → List ℕ
+proof_texts_of ps = proof_texts_in version_1 ps
 
 abbrev pub text_of_proofs : List ProofTree → List ℕ
 text_of_proofs ps = text_of_proofs_in version_1 ps

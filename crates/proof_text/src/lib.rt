@@ -13,11 +13,13 @@ mod proof_lines;
 mod put_lines;
 mod reader;
 
-pub use group_text::{TextFault, law_of_faults, law_of_parts, put_end, put_group, put_head};
+pub use group_text::{
+    TextFault, Version, law_of_faults, law_of_parts, put_end, put_group, put_head, put_title,
+};
 pub use laws::{
     law_of_first_proofs, law_of_groups_alone, law_of_one_line, law_of_one_spelling,
-    law_of_proof_parts, law_of_proof_texts,
+    law_of_proof_parts, law_of_proof_texts, law_of_versions,
 };
 pub use line::{Line, Rule};
-pub use put_lines::put_line;
+pub use put_lines::{put_line, put_newer_line};
 pub use reader::Reader;

@@ -29,4 +29,6 @@ pub enum Line {
     Loop { def: u32, cited: List<u64> },
     /// Forgets a theorem.
     Forget(u64),
+    /// States a triple from a theorem by the further rule of the text's version: the next theorem.
+    Further { cited: u64, stated: Triple },
 }

@@ -70,7 +70,7 @@ fn read_facts_word<'a>(scan: &mut Scan<'a>) -> Result<(), TokenError>
 }
 
 /// The number of a theorem, and the first word of a triple.
-fn read_cited<'a>(scan: &mut Scan<'a>) -> Result<u64, TokenError>
+pub fn read_cited<'a>(scan: &mut Scan<'a>) -> Result<u64, TokenError>
     ensures gives { Gives (λ n. (n, tt)) result scan.old scan.new cited_at }
     ensures last { last_line scan.new ≡ last_line scan.old }
 {

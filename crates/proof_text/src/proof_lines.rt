@@ -7,14 +7,15 @@ ghost use Rattle.mc_text.specs.Outcome.{Gives, last_line};
 ghost use Rattle.proof_text.specs.Line.{line_tree};
 ghost use Rattle.group_text.specs.inner.Rows.{OnRowError, RowsGive, RowPosition, tokens};
 ghost use Rattle.proof_text.specs.inner.OwnCode.{IsOwnCode};
+ghost use Rattle.group_text.specs.Version.{version_of};
 ghost use Rattle.group_text.specs.inner.Reading.{has_atom};
-ghost use Rattle.proof_text.specs.inner.LineReading.{ends_proof, forget_row, line_at, loop_row, stated_row, theorem_at, turn_of};
+ghost use Rattle.proof_text.specs.inner.LineReading.{ends_proof, forget_row, further_row, line_at, loop_row, stated_row, theorem_at, turn_of};
 
 use crate::line::Line;
 use crate::line_rows::{LineRow, ProofEnd};
-use crate::line_rules::{read_rule, read_theorem};
+use crate::line_rules::{read_cited, read_rule, read_theorem};
 use crate::line_triples::read_triple;
-use group_text::{ReadError, Rows, has_atom, next_row, read_index, row_begins};
+use group_text::{ReadError, Rows, Version, has_atom, next_row, read_index, row_begins};
 use mc_text::cursor::{eol, peek};
 use mc_text::{Scan, Token, TokenError};
 use rv_words::List;
@@ -68,10 +69,26 @@ fn read_stated<'a>(alloc: Global, scan: &mut Scan<'a>, own: &Code) -> Result<Lin
     Ok(Line::States { rule, stated })
 }
 
-/// A line, by the group's own code.
+/// What stands after the word of a line by the further rule, by the group's own code.
+fn read_further<'a>(alloc: Global, scan: &mut Scan<'a>, own: &Code) -> Result<Line, TokenError>
+    ensures gives { Gives line_tree result scan.old scan.new (further_row own.now.ranges) }
+    ensures last { last_line scan.new ≡ last_line scan.old }
+{
+    let cited = read_cited(scan)?;
+    let stated = read_triple(alloc, scan, own)?;
+    eol(scan)?;
+    Ok(Line::Further { cited, stated })
+}
+
+/// A line of a text of that version, by the group's own code.
 #[tactic(auto, unfolding(crate::specs::inner::LineReading::line_at))]
-pub fn read_line<'a>(alloc: Global, scan: &mut Scan<'a>, own: &Code) -> Result<Line, TokenError>
-    ensures gives { Gives line_tree result scan.old scan.new (line_at own.now.ranges) }
+pub fn read_line<'a>(
+    alloc: Global,
+    scan: &mut Scan<'a>,
+    version: Version,
+    own: &Code,
+) -> Result<Line, TokenError>
+    ensures gives { Gives line_tree result scan.old scan.new (line_at (version_of version) own.now.ranges) }
     ensures last { last_line scan.new ≡ last_line scan.old }
 {
     match peek(scan) {
@@ -82,6 +99,9 @@ pub fn read_line<'a>(alloc: Global, scan: &mut Scan<'a>, own: &Code) -> Result<L
             } else if name == b"forget".as_slice() {
                 *scan = ahead;
                 read_forget(scan)
+            } else if version.is_further(name) {
+                *scan = ahead;
+                read_further(alloc, scan, own)
             } else {
                 read_stated(alloc, scan, own)
             }
@@ -100,20 +120,21 @@ pub fn ends_proof(scan: &Scan<'_>) -> bool
     }
 }
 
-/// The next line, by the group's own code, or none where the group's proof ends.
+/// The next line of a text of that version, by the group's own code, or none where the group's proof ends.
 pub fn read_turn<E, R: Rows<E>>(
     alloc: Global,
     rows: &mut R,
     from: &mut E,
+    version: Version,
     own: &Code,
 ) -> Result<Option<Line>, ReadError>
-    ensures gives { IsOwnCode own.now.ranges → RowsGive (λ found. option_map line_tree found) result (R.May rows.old from.old) (R.May rows.new from.new) (turn_of own.now.ranges) }
+    ensures gives { IsOwnCode own.now.ranges → RowsGive (λ found. option_map line_tree found) result (R.May rows.old from.old) (R.May rows.new from.new) (turn_of (version_of version) own.now.ranges) }
     ensures lost { R.Sure rows.old from.old → OnRowError result ((p : RowPosition) → R.May rows.new from.new p → R.May rows.old from.old p × (goes_on ends_proof (tokens p) ≡ false)) }
     ensures left { R.left rows.new ≤ R.left rows.old }
 {
     if row_begins(alloc, rows, from, &ProofEnd)? {
         return Ok(None);
     }
-    let line = next_row(alloc, rows, from, &LineRow(own))?;
+    let line = next_row(alloc, rows, from, &LineRow(own, version))?;
     Ok(Some(line))
 }

@@ -9,12 +9,13 @@ ghost use Rattle.sep_assert.specs.Tree.{assertion_tree, register_tree};
 ghost use Rattle.tailrec_lang.specs.Tree.{group_tree, values_tree};
 ghost use Rattle.triple_kernel.specs.Tree.{fact_tree, triple_tree};
 ghost use Rattle.proof_text.specs.Line.{line_tree, mem_put_in, rule_tree, word_put_in};
-ghost use Rattle.proof_text.specs.LineLimits.{IsLine};
-ghost use Rattle.proof_text.specs.LineSpelling.{assertion_tokens, code_tokens, fact_tokens, form_tokens, keyed_tokens, line_tokens, mem_sub_tokens, register_tokens, rule_tokens, same_ranges, triple_tokens, word_sub_tokens};
+ghost use Rattle.proof_text.specs.LineLimits.{IsLine, IsLineIn};
+ghost use Rattle.proof_text.specs.LineSpelling.{assertion_tokens, code_tokens, fact_tokens, form_tokens, keyed_tokens, line_tokens, line_tokens_in, mem_sub_tokens, register_tokens, rule_tokens, same_ranges, triple_tokens, word_sub_tokens};
 ghost use Rattle.group_text.specs.Spelling.{number, values_tokens};
+ghost use Rattle.group_text.specs.Version.{version_of};
 
 use crate::line::{Line, Rule};
-use group_text::{put_mems, put_ranges, put_values};
+use group_text::{Version, put_mems, put_ranges, put_values};
 use mc_text::Pen;
 use rv_words::{Bytes, NoMemory};
 use sep_assert::{Assertion, same_code};
@@ -31,13 +32,35 @@ pub fn put_line(out: &mut Bytes, g: &Group, line: &Line) -> Result<(), NoMemory>
     ensures prefix { BeginsWith out.old out.new }
 {
     let mut pen = Pen::new(out);
-    put_line_tokens(&mut pen, &g.code, line)?;
+    put_line_tokens(&mut pen, Version::One, &g.code, line)?;
     Ok(())
 }
 
-/// Prints a line, beside the group's own code.
-fn put_line_tokens(pen: &mut Pen<'_>, own: &Code, line: &Line) -> Result<(), NoMemory>
-    ensures ok { OnOk result (page pen.new ≡ print (line_tokens own.now.ranges (line_tree line.now)) (page pen.old)) }
+/// Prints a line of the group's proof at the beginning of a line of a text of that version.
+#[tactic(auto, using(mc_text::proofs::Printed::printed_bytes, mc_text::proofs::Printed::prints))]
+pub fn put_newer_line(
+    out: &mut Bytes,
+    version: Version,
+    g: &Group,
+    line: &Line,
+) -> Result<(), NoMemory>
+    requires { IsLineIn (version_of version) (line_tree line.now) }
+    ensures ok { OnOk result (out.new ≡ out.old ++ spell Start (line_tokens_in (version_of version) (group_tree g.now).code (line_tree line.now))) }
+    ensures prefix { BeginsWith out.old out.new }
+{
+    let mut pen = Pen::new(out);
+    put_line_tokens(&mut pen, version, &g.code, line)?;
+    Ok(())
+}
+
+/// Prints a line of a text of that version, beside the group's own code.
+fn put_line_tokens(
+    pen: &mut Pen<'_>,
+    version: Version,
+    own: &Code,
+    line: &Line,
+) -> Result<(), NoMemory>
+    ensures ok { OnOk result (page pen.new ≡ print (line_tokens_in (version_of version) own.now.ranges (line_tree line.now)) (page pen.old)) }
     ensures kept { Keeps (page pen.old) (page pen.new) }
 {
     match line {
@@ -55,6 +78,11 @@ fn put_line_tokens(pen: &mut Pen<'_>, own: &Code, line: &Line) -> Result<(), NoM
         Line::Forget(k) => {
             pen.atom(b"forget")?;
             pen.dec(*k)?;
+            pen.eol()
+        }
+        Line::Further { cited, stated } => {
+            put_cited(pen, version.further_word(), *cited)?;
+            put_triple(pen, own, stated)?;
             pen.eol()
         }
     }

@@ -1,19 +1,21 @@
 //! Reading a text, one group or line a call.
 
-ghost use Rattle.std.specs.Prelude.{◌≡◌, ◌<◌, ◌↔◌, ◌∷◌, ◌++◌, [], List as Items, OnErr, length};
+ghost use Rattle.std.specs.Prelude.{◌≡◌, ◌<◌, ◌↔◌, ◌⊎◌, ◌∷◌, ◌++◌, [], List as Items, OnErr, length};
 ghost use Rattle.mc_text.specs.Fault.{IsBadAt};
 ghost use Rattle.tailrec_lang.specs.Eval.{HasFewNeeds};
 ghost use Rattle.tailrec_lang.specs.Tree.{group_tree};
-ghost use Rattle.group_text.specs.Limits.{IsGroup};
+ghost use Rattle.group_text.specs.Limits.{IsGroupIn};
+ghost use Rattle.group_text.specs.Version.{version_of};
+ghost use Rattle.group_text.specs.declared.version.Version.TheVariants.{Four, One, Three};
 ghost use Rattle.proof_text.specs.Line.{ProofTree, line_tree};
-ghost use Rattle.proof_text.specs.LineLimits.{IsLine};
-ghost use Rattle.proof_text.specs.Proofs.{bare, text_of_proofs, texts_of_proofs};
+ghost use Rattle.proof_text.specs.LineLimits.{IsLineIn};
+ghost use Rattle.proof_text.specs.Proofs.{bare, text_of_proofs_in, texts_of_proofs_in};
 ghost use Rattle.proof_text.specs.FirstProofs.{HasGiven, MayOpen, ProofEnds, with_line};
 ghost use Rattle.proof_text.specs.Answers.{IsEnd, NoItem, OnBad, OnEnd, OnGiven};
 
 use crate::line::Line;
 use crate::proof_lines::read_turn as read_line_turn;
-use group_text::{ReadError, Rows, TextFault, TextRows, is_end, read_turn, whole_lines};
+use group_text::{ReadError, Rows, TextFault, TextRows, Version, is_end, read_turn, whole_lines};
 use std::alloc::Global;
 use std::marker::Model;
 use tailrec_lang::Group;
@@ -21,6 +23,7 @@ use tailrec_lang::Group;
 /// Goes over the groups of a text and the lines of their proofs.
 #[derive(Debug, Drop)]
 pub struct Reader<'a> {
+    version: Version,
     text: &'a [u8],
     lines: &'a [u8],
     tail: &'a [u8],
@@ -35,19 +38,45 @@ impl<'a> Model for Reader<'a> {
 
     ghost Value = { Progress };
 
-    ghost view = { λ s. record { text = s.text.now; rest = s.lines.now ++ s.tail.now; place = s.place } };
+    ghost view = { λ s. record { version = s.version; text = s.text.now; rest = s.lines.now ++ s.tail.now; place = s.place } };
 
     ghost invariant = { λ s. AreWholeLines s.lines.now × (newlines s.tail.now ≡ 0) × (s.place + length s.lines.now ≤ 2 ^ 63) };
 }
 
 impl<'a> Reader<'a> {
-    /// Stands before the first line.
+    /// Stands before the first line of a text of version 1.
     pub fn new(text: &'a [u8]) -> Reader<'a>
         ensures text { result.text ≡ text.now }
+        ensures version { result.version ≡ One }
+        ensures given { HasGiven [] result }
+    {
+        Reader::at_start(text, Version::One)
+    }
+
+    /// Stands before the first line of a text of version 3 or 4.
+    pub fn newer(text: &'a [u8], version: u8) -> Reader<'a>
+        requires { (version ≡ 3) ⊎ (version ≡ 4) }
+        ensures text { result.text ≡ text.now }
+        ensures three { version ≡ 3 → result.version ≡ Three }
+        ensures four { version ≡ 4 → result.version ≡ Four }
+        ensures given { HasGiven [] result }
+    {
+        if version == 3 {
+            Reader::at_start(text, Version::Three)
+        } else {
+            Reader::at_start(text, Version::Four)
+        }
+    }
+
+    /// Stands before the first line of a text of that version.
+    fn at_start(text: &'a [u8], version: Version) -> Reader<'a>
+        ensures text { result.text ≡ text.now }
+        ensures version { result.version ≡ version }
         ensures given { HasGiven [] result }
     {
         let (lines, tail) = whole_lines(text);
         Reader {
+            version,
             text,
             lines,
             tail,
@@ -59,18 +88,19 @@ impl<'a> Reader<'a> {
     /// none. A fault and the end are answered again and again.
     pub fn group(&mut self, alloc: Global) -> Result<Option<Group>, TextFault>
         ensures text { self.new.text ≡ self.old.text }
+        ensures version { self.new.version ≡ self.old.version }
         ensures given { OnGiven result (λ g. (ps : Items ProofTree) → HasGiven ps self.old → HasGiven (ps ++ bare (group_tree g) ∷ []) self.new) }
-        ensures fits { OnGiven result (λ g. IsGroup (group_tree g)) }
+        ensures fits { OnGiven result (λ g. IsGroupIn (version_of self.new.version) (group_tree g)) }
         ensures needs { OnGiven result (λ g. HasFewNeeds (group_tree g)) }
         ensures shorter { OnGiven result (λ _. length self.new.rest < length self.old.rest) }
-        ensures end { OnEnd result ((ps : Items ProofTree) → HasGiven ps self.old → self.old.text ≡ text_of_proofs ps) }
-        ensures bad { OnBad result (λ n. (ps : Items ProofTree) → HasGiven ps self.old → MayOpen ps self.old.rest → IsBadAt texts_of_proofs self.old.text n) }
+        ensures end { OnEnd result ((ps : Items ProofTree) → HasGiven ps self.old → self.old.text ≡ text_of_proofs_in (version_of self.old.version) ps) }
+        ensures bad { OnBad result (λ n. (ps : Items ProofTree) → HasGiven ps self.old → MayOpen ps self.old.rest → IsBadAt (texts_of_proofs_in (version_of self.old.version)) self.old.text n) }
         ensures no_item { OnBad result (λ n. (ps : Items ProofTree) → HasGiven ps self.old → MayOpen ps self.old.rest → NoItem ps self.old) }
         ensures end_same { OnEnd result (self.new ≡ self.old) }
         ensures fault_same { OnErr result (self.new ≡ self.old) }
     {
         let mut rows = TextRows::new(self.lines);
-        match read_turn(alloc, &mut rows, &mut (), self.place == 0) {
+        match read_turn(alloc, &mut rows, &mut (), self.version, self.place == 0) {
             Ok(Some(group)) => {
                 let passed = rows.taken(&());
                 self.lines = rows.rest();
@@ -93,19 +123,20 @@ impl<'a> Reader<'a> {
     /// The next line of the proof of the group that was given last, or none where its lines end. Both that and a fault are
     /// answered again and again.
     pub fn line(&mut self, alloc: Global, group: &Group) -> Result<Option<Line>, TextFault>
-        requires { IsGroup (group_tree group.now) }
+        requires { IsGroupIn (version_of self.old.version) (group_tree group.now) }
         ensures text { self.new.text ≡ self.old.text }
+        ensures version { self.new.version ≡ self.old.version }
         ensures given { OnGiven result (λ l. (ps : Items ProofTree) (p : ProofTree) → HasGiven (ps ++ p ∷ []) self.old → p.group ≡ group_tree group.now → HasGiven (ps ++ with_line p (line_tree l) ∷ []) self.new) }
-        ensures fits { OnGiven result (λ l. IsLine (line_tree l)) }
+        ensures fits { OnGiven result (λ l. IsLineIn (version_of self.new.version) (line_tree l)) }
         ensures shorter { OnGiven result (λ _. length self.new.rest < length self.old.rest) }
         ensures end { IsEnd result ↔ ProofEnds self.old.rest }
-        ensures bad { OnBad result (λ n. (ps : Items ProofTree) (p : ProofTree) → HasGiven (ps ++ p ∷ []) self.old → p.group ≡ group_tree group.now → IsBadAt texts_of_proofs self.old.text n) }
+        ensures bad { OnBad result (λ n. (ps : Items ProofTree) (p : ProofTree) → HasGiven (ps ++ p ∷ []) self.old → p.group ≡ group_tree group.now → IsBadAt (texts_of_proofs_in (version_of self.old.version)) self.old.text n) }
         ensures no_item { OnBad result (λ n. (ps : Items ProofTree) (p : ProofTree) → HasGiven (ps ++ p ∷ []) self.old → p.group ≡ group_tree group.now → NoItem (ps ++ p ∷ []) self.old) }
         ensures end_same { OnEnd result (self.new ≡ self.old) }
         ensures fault_same { OnErr result (self.new ≡ self.old) }
     {
         let mut ahead = TextRows::new(self.lines);
-        match read_line_turn(alloc, &mut ahead, &mut (), &group.code) {
+        match read_line_turn(alloc, &mut ahead, &mut (), self.version, &group.code) {
             Ok(Some(line)) => {
                 let passed = ahead.taken(&());
                 self.lines = ahead.rest();

@@ -11,7 +11,7 @@ use Rattle.term_text.specs.Reading.{word_at, mem_at, cond_at, range_at, begins_w
 use Rattle.tailrec_lang.specs.Tree.{ValuesTree, StepTree, Bind, BindMem, Need, BodyTree, Branch, Call, Again, Leave, DefTree, GroupTree, with_steps, arms_of}
 use Rattle.tailrec_lang.specs.declared.group.Exit.{Exit}
 use Rattle.tailrec_lang.specs.declared.group.Exit.TheVariants.{At, Ret}
-use Rattle.group_text.specs.Version.{version_1}
+use Rattle.group_text.specs.Version.{Version}
 use Rattle.tailrec_lang.specs.Registers.{last_register}
 use Rattle.group_text.specs.Limits.{def_exit_limit, nesting_limit, def_limit, name_limit, returns}
 
@@ -130,17 +130,24 @@ pub record Head : Type 0 where
 unfoldable pub regs_row : Reader (Unit {0} × (List ℕ × Unit {0}))
 regs_row = pair (word (codes "regs")) (pair (checked (registers_rise 1) (star has_atom (number_at 32))) eol)
 
-unfoldable pub mems_row : Reader (Unit {0} × (ℕ × Unit {0}))
-mems_row = pair (word (codes "mems")) (pair (number_at (version_1.most_mems + 1)) eol)
+-- a group has fewer memories in each version
+abbrev pub mems_limit : ℕ
+mems_limit = 3
+
+abbrev pub has_mems : Version → ℕ → Bool
+has_mems v mems = nat_le v.least_mems mems && nat_le mems v.most_mems
+
+unfoldable pub mems_row : Version → Reader (Unit {0} × (ℕ × Unit {0}))
+mems_row v = pair (word (codes "mems")) (pair (checked (has_mems v) (number_at mems_limit)) eol)
 
 unfoldable pub code_row : Reader (Unit {0} × (List Range × Unit {0}))
 code_row = pair (word (codes "code")) (pair (checked (ranges_rise 0) (star is_open range_at)) eol)
 
 -- the head, after its first word
-unfoldable pub head_at : Reader Head
-head_at =
+unfoldable pub head_at : Version → Reader Head
+head_at v =
     made (λ x. record { name = x.0.0; regs = x.1.0.1.0; mems = x.1.1.0.1.0; code = x.1.1.1.1.0 })
-    (pair (pair (one (atom_of name_of)) eol) (pair regs_row (pair mems_row code_row)))
+    (pair (pair (one (atom_of name_of)) eol) (pair regs_row (pair (mems_row v) code_row)))
 
 -- ---- groups and texts
 
@@ -155,17 +162,17 @@ abbrev pub own_defs : Reader (List DefTree)
 own_defs = checked are_some (unless is_def (many def_limit is_def def_at))
 
 -- one group, after its first word
-unfoldable pub group_at : Reader GroupTree
-group_at = made (λ x. group_of x.0 x.1) (pair head_at own_defs)
+unfoldable pub group_at : Version → Reader GroupTree
+group_at v = made (λ x. group_of x.0 x.1) (pair (head_at v) own_defs)
 
 -- the next group, or the end of the text
-unfoldable pub next_at : Reader (Option GroupTree)
-next_at = keyed (codes "end") (made (λ _. None) eol) (keyed (codes "group") (made Some group_at) refused)
+unfoldable pub next_at : Version → Reader (Option GroupTree)
+next_at v = keyed (codes "end") (made (λ _. None) eol) (keyed (codes "group") (made Some (group_at v)) refused)
 
-abbrev pub title_row : Reader (Unit {0} × (Unit {0} × Unit {0}))
-title_row = pair (word (codes "mcproof")) (pair (word version_1.title) eol)
+abbrev pub title_row : Version → Reader (Unit {0} × (Unit {0} × Unit {0}))
+title_row v = pair (word (codes "mcproof")) (pair (word v.title) eol)
 
 -- what one call reads: before the first group the title too
-abbrev pub turn_at : Bool → Reader (Option GroupTree)
-turn_at true = made (λ x. x.1) (pair title_row next_at)
-turn_at false = next_at
+abbrev pub turn_at : Version → Bool → Reader (Option GroupTree)
+turn_at v true = made (λ x. x.1) (pair (title_row v) (next_at v))
+turn_at v false = next_at v

@@ -21,7 +21,8 @@ use Rattle.proof_text.specs.declared.line_heads.RuleHead.{RuleHead}
 use Rattle.proof_text.specs.declared.line_heads.RuleHead.TheVariants as rule_head
 use Rattle.proof_text.specs.declared.line_heads.SubHead.{SubHead}
 use Rattle.proof_text.specs.declared.line_heads.SubHead.TheVariants as sub_head
-use Rattle.proof_text.specs.Line.{RuleTree, Axiom, Inst, Frame, Compose, ExtendCode, Strengthen, Weaken, Discharge, UseExit, LineTree, States, Loop, Forget, ProofTree}
+use Rattle.proof_text.specs.Line.{RuleTree, Axiom, Inst, Frame, Compose, ExtendCode, Strengthen, Weaken, Discharge, UseExit, LineTree, States, Loop, Forget, Further, ProofTree}
+use Rattle.group_text.specs.Version.{Version, is_further}
 use Rattle.proof_text.specs.LineSpelling.{same_ranges}
 use Rattle.group_text.specs.Limits.{def_limit}
 use Rattle.group_text.specs.inner.Reading.{has_atom, registers_rise, ranges_rise, Head, def_at, is_def, head_at, group_of, title_row}
@@ -206,12 +207,22 @@ loop_row = made (λ x. Loop x.0 x.1.0) (pair index_at (pair (star has_atom theor
 abbrev pub forget_row : Reader LineTree
 forget_row = made (λ x. Forget x.0) (pair theorem_at eol)
 
+-- a triple by the further rule, after its word
+abbrev pub further_row : List Range → Reader LineTree
+further_row own = made (λ x. Further x.0.0 x.1.0) (pair cited_at (pair (triple_at own) eol))
+
 abbrev pub stated_row : List Range → Reader LineTree
 stated_row own = made (λ x. States x.0 x.1.0) (pair rule_at (pair (triple_at own) eol))
 
--- a line, by the group's own code
-unfoldable pub line_at : List Range → Reader LineTree
-line_at own = keyed (codes "loop") loop_row (keyed (codes "forget") forget_row (stated_row own))
+-- what a word that passes the test leads to, and else
+abbrev pub keyed_where : {X : Type 0} → (List ℕ → Bool) → Reader X → Reader X → Reader X
+keyed_where test r other [] = other []
+keyed_where test r other (Atom a ∷ ts) = if test a then r ts else other (Atom a ∷ ts)
+keyed_where test r other (t ∷ ts) = other (t ∷ ts)
+
+-- a line of texts of that version, by the group's own code
+unfoldable pub line_at : Version → List Range → Reader LineTree
+line_at v own = keyed (codes "loop") loop_row (keyed (codes "forget") forget_row (keyed_where (is_further v) (further_row own) (stated_row own)))
 
 -- whether a token is the first of the next group, or of the line that ends the text
 abbrev pub ends_proof : Tok → Bool
@@ -219,8 +230,8 @@ ends_proof (Atom a) = bytes_eq a (codes "group") || bytes_eq a (codes "end")
 ends_proof _ = false
 
 -- what one call reads: the next line, or none where the proof ends
-abbrev pub turn_of : List Range → Reader (Option LineTree)
-turn_of own ts = if goes_on ends_proof ts then Ok (None, ts) else made Some (line_at own) ts
+abbrev pub turn_of : Version → List Range → Reader (Option LineTree)
+turn_of v own ts = if goes_on ends_proof ts then Ok (None, ts) else made Some (line_at v own) ts
 
 -- ---- whole texts
 
@@ -230,8 +241,8 @@ begins_line (Atom a) = not (bytes_eq a (codes "group")) && not (bytes_eq a (code
 begins_line _ = false
 
 -- the lines of a group, by its code
-abbrev pub lines_at : List Range → Reader (List LineTree)
-lines_at own = star begins_line (line_at own)
+abbrev pub lines_at : Version → List Range → Reader (List LineTree)
+lines_at v own = star begins_line (line_at v own)
 
 -- how many definitions may follow the first
 abbrev pub more_defs : ℕ
@@ -244,14 +255,14 @@ abbrev pub proof_of : Head → List DefTree → List LineTree → ProofTree
 proof_of h defs lines = record { group = group_of h defs; lines = lines }
 
 -- at most so many groups with their lines, and the end of the text
-unfoldable pub proofs_at : ℕ → Reader (List ProofTree)
-proofs_at zero ts = keyed (codes "end") (made (λ _. []) eol) refused ts
-proofs_at (suc n) ts =
+unfoldable pub proofs_at : Version → ℕ → Reader (List ProofTree)
+proofs_at v zero ts = keyed (codes "end") (made (λ _. []) eol) refused ts
+proofs_at v (suc n) ts =
     keyed (codes "end") (made (λ _. []) eol)
-    (keyed (codes "group") (made (λ x. proof_of x.0 (x.1.0 ∷ x.1.1.0) x.1.1.1.0 ∷ x.1.1.1.1) (with head_at (λ h. pair def_at (pair defs_at (pair (lines_at h.code) (proofs_at n)))))) refused) ts
+    (keyed (codes "group") (made (λ x. proof_of x.0 (x.1.0 ∷ x.1.1.0) x.1.1.1.0 ∷ x.1.1.1.1) (with (head_at v) (λ h. pair def_at (pair defs_at (pair (lines_at v h.code) (proofs_at v n)))))) refused) ts
 
-abbrev pub all_proofs : Reader (List ProofTree)
-all_proofs ts = proofs_at (length ts) ts
+abbrev pub all_proofs : Version → Reader (List ProofTree)
+all_proofs v ts = proofs_at v (length ts) ts
 
-abbrev pub proofs_text_at : Reader (List ProofTree)
-proofs_text_at = made (λ x. x.1) (pair title_row all_proofs)
+abbrev pub proofs_text_at : Version → Reader (List ProofTree)
+proofs_text_at v = made (λ x. x.1) (pair (title_row v) (all_proofs v))

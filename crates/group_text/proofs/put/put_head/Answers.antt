@@ -5,6 +5,6 @@ use Rattle.group_text.proofs.put.put_head.Goals as goal
 
 pub returns-clause-ok : goal.returns-clause-ok
 returns-clause-ok c =
-    let bytes : c.put_head_line.new.pen.out.now ≡ _ = printed_bytes head_tokens _ _ _ _ c.new-pen.ensures c.in_ok-put_head_line.ensures.ok in
-    let place : c.put_head_line.new.pen.out.ghost_name ≡ _ = c.put_head_line.ensures.kept.place ∙ ap (λ p. p.place) c.new-pen.ensures in
+    let bytes : c.put_title_line.new.pen.out.now ≡ _ = printed_bytes head_tokens _ _ _ _ c.new-pen.ensures c.in_ok-put_title_line.ensures.ok in
+    let place : c.put_title_line.new.pen.out.ghost_name ≡ _ = c.put_title_line.ensures.kept.place ∙ ap (λ p. p.place) c.new-pen.ensures in
     search (rules, bytes, place)
