@@ -1,5 +1,5 @@
 -- What one more line and one more group make of what was judged.
-use Rattle.std.proofs.Common.{◌≡◌, ℕ, zero, suc, ◌+◌, ◌-◌, ◌≤◌, Bool, true, false, List, [], ◌∷◌, ◌++◌, length, take, Option, map, Some, None, Result, Ok, Err, slice_get, refl, sym, ap, subst, ◌∙◌, ◌⊎◌, ⊎_elim, inl, inr, append_assoc, arith}
+use Rattle.std.proofs.Common.{◌≡◌, ℕ, zero, suc, ◌+◌, ◌≤◌, Bool, true, false, List, [], ◌∷◌, ◌++◌, length, take, Option, map, Some, None, Result, Ok, Err, slice_get, refl, sym, ap, subst, ◌∙◌, ◌⊎◌, ⊎_elim, inl, inr, append_assoc, arith}
 use Rattle.std.specs.List.{AllByRecursion}
 use Rattle.std.specs.Prelude.{◌↔◌, IsTrue, IfErr}
 use Rattle.std.specs.Result.{IsErrAnd}
@@ -13,24 +13,26 @@ use Rattle.rv_words.specs.Ranges.{range_bytes}
 use Rattle.sep_assert.specs.Code.{IsWithin}
 use Rattle.tailrec_lang.specs.Tree.{GroupTree, group_tree, listed_def}
 use Rattle.proof_text.specs.Line.{LineTree, ProofTree}
-use Rattle.proof_text.specs.Proofs.{AreProofs, bare, groups_of, texts_of_proofs}
+use Rattle.proof_text.specs.Proofs.{AreProofsIn, bare, groups_of, text_of_proofs_in, texts_of_proofs_in}
 use Rattle.checker.specs.declared.check.Judged.{Judged}
 use Rattle.checker.specs.declared.check.Tally.{Tally}
 use Rattle.checker.specs.declared.verdict.Verdict.{Verdict}
 use Rattle.checker.specs.declared.verdict.Verdict.TheVariants as verdict
-use Rattle.checker.specs.Instance.{AreInstances, History, Instance, after_line, after_lines, no_lines}
-use Rattle.checker.specs.Accepts.{IsProved, IsAccepted, Accepts}
+use Rattle.checker.specs.Instance.{AreInstancesBy, FurtherRule, History, InstanceBy, KeepsValid, after_line, after_lines, no_lines}
+use Rattle.checker.specs.Accepts.{IsProved, IsAcceptedBy, AcceptsBy}
 use Rattle.checker.specs.Bench.{Kept, group_of, history_of}
-use Rattle.proof_text.specs.FirstProofs.{Adds, AreRead, BeginsWithItems, HasGiven, ItemTree, MayOpen, Opens, Progress, ProofEnds, items, passed, with_line}
+use Rattle.proof_text.specs.FirstProofs.{Adds, AreReadIn, BeginsWithItems, HasGiven, ItemTree, MayOpen, Opens, Progress, ProofEnds, items, passed_in, with_line}
 use Rattle.proof_text.specs.Answers.{NoItem}
 use Rattle.proof_text.proofs.TextItems.{items-opened, items-added}
 use Rattle.proof_text.proofs.Fronts.{fronts, front-read, given-read}
-use Rattle.checker.specs.Verdicts.{AreRightSoFar, IsAcceptance, IsBadText, IsRightSoFar, IsTextOf, Says, line_count}
-use Rattle.checker.specs.inner.Checking.{GivesLine, GivesLines, GroupsJudged, IsBadAfter, IsCodeOf, IsShorter, LineJudged, LinesJudged, NextGroup, NextLine, ProofJudged, ProvedSo, TextJudged, first_not_proved, proof_of, verdict_for, verdict_of, with_group}
+use Rattle.checker.specs.Verdicts.{AreRightSoFar, IsAcceptance, IsBadText, IsRightSoFar, IsTextOfIn, SaysBy, line_count}
+use Rattle.checker.specs.inner.Checking.{GivesLine, GivesLines, GroupsJudged, IsBadAfter, IsCodeOf, IsSameText, IsShorter, LineJudged, LinesJudged, NextGroup, NextLine, ProofJudged, ProvedSo, TextJudged, first_not_proved, proof_of, verdict_for, verdict_of, with_group}
 use Rattle.checker.specs.Headline.{Headline}
-use Rattle.group_text.specs.Limits.{AreGroups}
+use Rattle.group_text.specs.Limits.{AreGroupsIn, IsGroupIn}
+use Rattle.group_text.specs.declared.version.Version.{Version as Known}
+use Rattle.group_text.specs.Version.{Version, version_of}
 use Rattle.proof_text.proofs.ProofTexts.{proofs-once}
-use Rattle.checker.proofs.SoundLemmas.{accepted-right}
+use Rattle.checker.proofs.SoundLemmas.{accepted-right-by}
 use Rattle.checker.proofs.OneVerdict.{verdict-once}
 use Rattle.checker.proofs.FirstLemmas.{after-more, all-more, begins-first, first-right, line-more}
 
@@ -57,20 +59,24 @@ next-item [] qs (Adds l) more e = absurd (no-line-first qs l more e)
 next-item (p ∷ ps) qs (Adds l) more e = (and_line p ps l, line-behind p ps l)
 
 -- what is read is among what was given
-pub all-given : (ps : List ProofTree) (r : Progress) → HasGiven ps r → NoItem ps r → (qs : List ProofTree) → AreRead r.text qs → BeginsWithItems ps qs
-all-given ps r h none qs read = ⊎_elim (λ (m : BeginsWithItems ps qs). m) (λ (m : BeginsWithItems qs ps). behind m.0 m.1) (fronts r.text ps qs (given-read ps r h) read)
+pub all-given : (ps : List ProofTree) (r : Progress) → HasGiven ps r → NoItem ps r → (qs : List ProofTree) → AreReadIn (version_of r.version) r.text qs → BeginsWithItems ps qs
+all-given ps r h none qs read = ⊎_elim (λ (m : BeginsWithItems ps qs). m) (λ (m : BeginsWithItems qs ps). behind m.0 m.1) (fronts r.version r.text ps qs (given-read r.version ps r h) read)
   where
     behind : (more : List ItemTree) → items qs ≡ items ps ++ more → BeginsWithItems ps qs
     behind [] e = ([], sym (append-nil (items ps)) ∙ sym e ∙ sym (append-nil (items qs)))
     behind (i ∷ more) e =
         let k = next-item ps qs i more e in
         let begins : items qs ≡ items k.0 ++ more = e ∙ sym (append_assoc (items ps) (i ∷ []) more) ∙ ap (λ (is : List ItemTree). is ++ more) (sym k.1) in
-        let a = front-read r.text qs k.0 read (more, begins) in
-        let new : Progress = record { text = r.text; rest = a.0; place = newlines (passed k.0) } in
-        absurd (none i k.0 new refl k.1 (record { fit = a.1.fit; text = a.1.text; place = refl; ended = a.1.ended }))
+        let a = front-read r.version r.text qs k.0 read (more, begins) in
+        let new : Progress = record { version = r.version; text = r.text; rest = a.0; place = newlines (passed_in (version_of r.version) k.0) } in
+        absurd (none i k.0 new refl refl k.1 (record { fit = a.1.fit; text = a.1.text; place = refl; ended = a.1.ended }))
 
-pub bad-after : (ps : List ProofTree) (r : Progress) (n : ℕ) → HasGiven ps r → IsBadAt texts_of_proofs r.text n → NoItem ps r → IsBadAfter r.text n ps
+pub bad-after : (ps : List ProofTree) (r : Progress) (n : ℕ) → HasGiven ps r → IsBadAt (texts_of_proofs_in (version_of r.version)) r.text n → NoItem ps r → IsBadAfter (version_of r.version) r.text n ps
 bad-after ps r n h bad none = record { bad = bad; no_more = all-given ps r h none }
+
+-- the same of the same text in the same version
+bad-moved : (k m : Known) (t u : List ℕ) (n : ℕ) (ps : List ProofTree) → k ≡ m → t ≡ u → IsBadAfter (version_of k) t n ps → IsBadAfter (version_of m) u n ps
+bad-moved k m t u n ps e f h = subst (λ (x : Known). IsBadAfter (version_of x) u n ps) e (subst (λ (x : List ℕ). IsBadAfter (version_of k) x n ps) f h)
 
 -- a group may follow where the lines of the last have ended
 may-open : (ps : List ProofTree) (p : ProofTree) (rest : List ℕ) → ProofEnds rest → MayOpen (ps ++ p ∷ []) rest
@@ -80,64 +86,66 @@ may-open (x ∷ ps) p rest h = h
 -- ---- a line
 
 -- a line that was given and judged
-pub next-given : (old new : Progress) (b c : Kept) (l : LineTree) (result : Result Bool Verdict) → new.text ≡ old.text → IsShorter new old → GivesLine (group_of b) old new l → LineJudged b c l new.place result → NextLine old new b c result
-next-given old new b c l (Ok true) same shorter given h = (l, same, shorter, given, h.0, h.1, h.2)
-next-given old new b c l (Ok false) same shorter given h = absurd h
-next-given old new b c l (Err (verdict.BadLine n)) same shorter given h = (l, new, same, given, h.0, h.1)
-next-given old new b c l (Err verdict.NoMemory) same shorter given h = tt
-next-given old new b c l (Err (verdict.Accepted functions lines)) same shorter given h = absurd h
-next-given old new b c l (Err (verdict.BadElf why)) same shorter given h = absurd h
-next-given old new b c l (Err (verdict.BadText n)) same shorter given h = absurd h
-next-given old new b c l (Err (verdict.BadDef g d)) same shorter given h = absurd h
-next-given old new b c l (Err (verdict.NotProved g)) same shorter given h = absurd h
+pub next-given : (F : FurtherRule) (old new : Progress) (b c : Kept) (l : LineTree) (result : Result Bool Verdict) → IsSameText new old → IsShorter new old → GivesLine (group_of b) old new l → LineJudged F b c l new.place result → NextLine F old new b c result
+next-given F old new b c l (Ok true) same shorter given h = (l, same, shorter, given, h.0, h.1, h.2)
+next-given F old new b c l (Ok false) same shorter given h = absurd h
+next-given F old new b c l (Err (verdict.BadLine n)) same shorter given h = (l, new, same, given, h.0, h.1)
+next-given F old new b c l (Err verdict.NoMemory) same shorter given h = tt
+next-given F old new b c l (Err (verdict.Accepted functions lines)) same shorter given h = absurd h
+next-given F old new b c l (Err (verdict.BadElf why)) same shorter given h = absurd h
+next-given F old new b c l (Err (verdict.BadText n)) same shorter given h = absurd h
+next-given F old new b c l (Err (verdict.BadDef g d)) same shorter given h = absurd h
+next-given F old new b c l (Err (verdict.NotProved g)) same shorter given h = absurd h
 
 -- ---- lines
 
-module _ (g : GroupTree) where
+module _ (F : FurtherRule) (g : GroupTree) where
   -- before the first line
-  pub no-lines-judged : (r : Progress) (b : Kept) → group_of b ≡ g → history_of b ≡ no_lines → LinesJudged g r r b 0
-  no-lines-judged r b group none = record {
+  pub no-lines-judged : (r : Progress) (b : Kept) → group_of b ≡ g → IsGroupIn (version_of r.version) g → history_of b ≡ no_lines → LinesJudged F g r r b 0
+  no-lines-judged r b group fits none = record {
     lines = [];
-    given = record { text = refl; given = λ ps h. h; right = tt };
+    given = record { text = (refl, refl); given = λ ps h. h; right = tt };
     group = group;
+    fits = subst (IsGroupIn (version_of r.version)) (sym group) fits;
     after = none;
     counted = refl;
     few = omega arith;
   }
 
   -- the same for the group of the bench, and the history of the lines
-  module _ (old r : Progress) (b : Kept) (count : ℕ) (j : LinesJudged g old r b count) where
-    pub line-judged : (new : Progress) (c : Kept) → NextLine r new b c (Ok true) → LinesJudged g old new c (count + 1)
+  module _ (old r : Progress) (b : Kept) (count : ℕ) (j : LinesJudged F g old r b count) where
+    pub line-judged : (new : Progress) (c : Kept) → NextLine F r new b c (Ok true) → LinesJudged F g old new c (count + 1)
     line-judged new c h = record {
       lines = j.lines ++ h.0 ∷ [];
       given = record {
-        text = h.1 ∙ j.given.text;
+        text = (h.1.0 ∙ j.given.text.0, h.1.1 ∙ j.given.text.1);
         given = λ ps k. h.3 ps (proof_of g j.lines) (j.given.given ps k) (sym j.group);
-        right = line-more g no_lines j.lines h.0 j.given.right
-            (subst (λ (x : GroupTree). Instance x (after_lines j.lines) h.0) j.group (subst (λ (y : History). Instance (group_of b) y h.0) j.after h.4));
+        right = line-more F g no_lines j.lines h.0 j.given.right
+            (subst (λ (x : GroupTree). InstanceBy F x (after_lines j.lines) h.0) j.group (subst (λ (y : History). InstanceBy F (group_of b) y h.0) j.after h.4));
       };
       group = ap group_tree h.5 ∙ j.group;
+      fits = subst (IsGroupIn (version_of new.version)) (sym (ap group_tree h.5)) (subst (λ (k : Known). IsGroupIn (version_of k) (group_of b)) (sym h.1.1) j.fits);
       after = h.6 ∙ ap (λ (y : History). after_line y h.0) j.after ∙ sym (after-more no_lines j.lines h.0);
       counted = omega (arith, j.counted, length-append j.lines (h.0 ∷ []));
       few = omega (arith, j.few, h.2);
     }
 
     -- the lines stop at one that is wrong
-    pub lines-stopped : (code : List Range) (new : Progress) (c : Kept) (v : Verdict) → NextLine r new b c (Err v) → ProofJudged g code old new (Err v)
+    pub lines-stopped : (code : List Range) (new : Progress) (c : Kept) (v : Verdict) → NextLine F r new b c (Err v) → ProofJudged F g code old new (Err v)
     lines-stopped code new c (verdict.BadLine n) h = (
       j.lines,
       h.0,
       h.1,
-      h.2 ∙ j.given.text,
+      (h.2.0 ∙ j.given.text.0, h.2.1 ∙ j.given.text.1),
       h.4,
       λ ps k. h.3 ps (proof_of g j.lines) (j.given.given ps k) (sym j.group),
       j.given.right,
-      λ right. h.5 (subst (λ (x : GroupTree). Instance x (history_of b) h.0) (sym j.group) (subst (λ (y : History). Instance g y h.0) (sym j.after) right)),
+      λ right. h.5 (subst (λ (x : GroupTree). InstanceBy F x (history_of b) h.0) (sym j.group) (subst (λ (y : History). InstanceBy F g y h.0) (sym j.after) right)),
     )
     lines-stopped code new c (verdict.BadText n) h = (
       j.lines,
       j.given.right,
-      λ ps k. subst (λ (t : List ℕ). IsBadAfter t n (ps ++ proof_of g j.lines ∷ [])) j.given.text (h ps (proof_of g j.lines) (j.given.given ps k) (sym j.group)),
+      λ ps k. bad-moved r.version old.version r.text old.text n (ps ++ proof_of g j.lines ∷ []) j.given.text.1 j.given.text.0 (h ps (proof_of g j.lines) (j.given.given ps k) (sym j.group)),
     )
     lines-stopped code new c verdict.NoMemory h = tt
     lines-stopped code new c (verdict.Accepted functions lines) h = absurd h
@@ -146,12 +154,12 @@ module _ (g : GroupTree) where
     lines-stopped code new c (verdict.NotProved g') h = absurd h
 
     -- there are no more lines
-    pub lines-ended : (code : List Range) (new : Progress) (c : Kept) (proved : Bool) → NextLine r new b c (Ok false)
+    pub lines-ended : (code : List Range) (new : Progress) (c : Kept) (proved : Bool) → NextLine F r new b c (Ok false)
         → (IsTrue proved ↔ (((history_of c).closed (listed_def (group_of c)) ≡ true) × IsWithin (range_bytes (group_of c).code) (range_bytes code)))
-        → ProofJudged g code old new (Ok (record { lines = count; proved = proved }))
+        → ProofJudged F g code old new (Ok (record { lines = count; proved = proved }))
     lines-ended code new c proved h all = (
       j.lines,
-      subst (λ (x : Progress). GivesLines g old x j.lines) (sym h.0) j.given,
+      subst (λ (x : Progress). GivesLines F g old x j.lines) (sym h.0) j.given,
       h.2,
       j.counted,
       subst (λ (x : Progress). count + length x.rest ≤ length old.rest) (sym h.0) j.few,
@@ -171,8 +179,8 @@ module _ (g : GroupTree) where
 -- ---- groups
 
 -- what was given is read
-read-of : (ps : List ProofTree) (r : Progress) (text : List ℕ) → HasGiven ps r → r.text ≡ text → AreRead text ps
-read-of ps r text h same = subst (λ (t : List ℕ). AreRead t ps) same (given-read ps r h)
+read-of : (known : Known) (ps : List ProofTree) (r : Progress) (text : List ℕ) → HasGiven ps r → r.version ≡ known → r.text ≡ text → AreReadIn (version_of known) text ps
+read-of known ps r text h kind same = subst (λ (t : List ℕ). AreReadIn (version_of known) t ps) same (subst (λ (k : Known). AreReadIn (version_of k) r.text ps) kind (given-read r.version ps r h))
 
 get-front : (ps : List ProofTree) (p q : ProofTree) (k : ℕ) → slice_get ps k ≡ Some q → slice_get (ps ++ p ∷ []) k ≡ Some q
 get-front [] p q k e = absurd cc
@@ -217,35 +225,35 @@ lines-more ps p = sum_by-append (λ (q : ProofTree). length q.lines) ps (p ∷ [
     one : line_count ps + line_count (p ∷ []) ≡ line_count ps + length p.lines
     one = omega arith
 
-module _ (code : List Range) (text : List ℕ) (r : Progress) (t : Tally) (s : GroupsJudged code text r t) where
+module _ (F : FurtherRule) (known : Known) (code : List Range) (text : List ℕ) (r : Progress) (t : Tally) (s : GroupsJudged F known code text r t) where
   -- the text is read
-  pub text-ended : (new : Progress) → NextGroup t.groups r new (Ok None) → (file : List ℕ) → IsCodeOf code file → TextJudged file text t
+  pub text-ended : (new : Progress) → NextGroup t.groups r new (Ok None) → (file : List ℕ) → IsCodeOf code file → TextJudged F (version_of known) file text t
   text-ended new h file is = record {
     proofs = s.proofs;
-    spelled = record { fit = s.given.fit; spelled = sym s.same ∙ h s.proofs s.given };
+    spelled = record { fit = subst (λ (k : Known). AreProofsIn (version_of k) s.proofs) s.version s.given.fit; spelled = sym s.same ∙ h s.proofs s.given ∙ ap (λ (k : Known). text_of_proofs_in (version_of k) s.proofs) s.version };
     right = s.right;
     groups = s.groups;
     lines = s.lines;
     so = s.so file is;
   }
 
-  bad-text : (n : ℕ) (ps : List ProofTree) → AreRightSoFar ps → IsBadAfter text n ps → IsBadText text n
-  bad-text n ps right h = record { bad = h.bad; right = λ qs read. first-right qs ps (begins-first qs ps (h.no_more qs read)) right }
+  bad-text : (n : ℕ) (ps : List ProofTree) → AreRightSoFar F ps → IsBadAfter (version_of known) text n ps → IsBadText F (version_of known) text n
+  bad-text n ps right h = record { bad = h.bad; right = λ qs read. first-right F qs ps (begins-first qs ps (h.no_more qs read)) right }
 
   -- the next group is wrong
-  pub group-stopped : (new : Progress) (v : Verdict) → NextGroup t.groups r new (Err v) → (file : List ℕ) → IsReadable file → Says file text v
+  pub group-stopped : (new : Progress) (v : Verdict) → NextGroup t.groups r new (Err v) → (file : List ℕ) → IsReadable file → SaysBy F (version_of known) file text v
   group-stopped new (verdict.BadDef m d) h file readable = (
     readable,
     record {
       before = s.proofs;
       group = h.1;
-      read = read-of (s.proofs ++ bare h.1 ∷ []) h.3 text (h.5 s.proofs s.given) (h.4 ∙ s.same);
+      read = read-of known (s.proofs ++ bare h.1 ∷ []) h.3 text (h.5 s.proofs s.given) (h.4.1 ∙ s.version) (h.4.0 ∙ s.same);
       right = s.right;
       number = h.0 ∙ s.groups;
       first = h.2;
     },
   )
-  group-stopped new (verdict.BadText n) h file readable = (readable, bad-text n s.proofs s.right (subst (λ (x : List ℕ). IsBadAfter x n s.proofs) s.same (h s.proofs s.given s.may_open)))
+  group-stopped new (verdict.BadText n) h file readable = (readable, bad-text n s.proofs s.right (bad-moved r.version known r.text text n s.proofs s.version s.same (h s.proofs s.given s.may_open)))
   group-stopped new verdict.NoMemory h file readable = tt
   group-stopped new (verdict.Accepted functions lines) h file readable = absurd h
   group-stopped new (verdict.BadElf why) h file readable = absurd h
@@ -253,25 +261,25 @@ module _ (code : List Range) (text : List ℕ) (r : Progress) (t : Tally) (s : G
   group-stopped new (verdict.NotProved g) h file readable = absurd h
 
   module _ (middle : Progress) (g : Group) (h : NextGroup t.groups r middle (Ok (Some g))) where
-    so-far : (lines : List LineTree) → AreInstances (group_tree g) no_lines lines → AreRightSoFar (s.proofs ++ proof_of (group_tree g) lines ∷ [])
-    so-far lines right = all-more IsRightSoFar s.proofs (proof_of (group_tree g) lines) s.right (record { well_formed = h.3; lines = right })
+    so-far : (lines : List LineTree) → AreInstancesBy F (group_tree g) no_lines lines → AreRightSoFar F (s.proofs ++ proof_of (group_tree g) lines ∷ [])
+    so-far lines right = all-more (IsRightSoFar F) s.proofs (proof_of (group_tree g) lines) s.right (record { well_formed = h.3; lines = right })
 
     -- a line of it is wrong
-    pub proof-stopped : (new : Progress) (v : Verdict) → ProofJudged (group_tree g) code middle new (Err v) → (file : List ℕ) → IsReadable file → Says file text v
+    pub proof-stopped : (new : Progress) (v : Verdict) → ProofJudged F (group_tree g) code middle new (Err v) → (file : List ℕ) → IsReadable file → SaysBy F (version_of known) file text v
     proof-stopped new (verdict.BadLine n) (lines, l, at, same, place, given, right, wrong) file readable = (
       readable,
       record {
         before = s.proofs;
         last = proof_of (group_tree g) lines;
         line = l;
-        read = read-of (s.proofs ++ with_line (proof_of (group_tree g) lines) l ∷ []) at text (given s.proofs (h.4 s.proofs s.given)) (same ∙ h.0 ∙ s.same);
+        read = read-of known (s.proofs ++ with_line (proof_of (group_tree g) lines) l ∷ []) at text (given s.proofs (h.4 s.proofs s.given)) (same.1 ∙ h.0.1 ∙ s.version) (same.0 ∙ h.0.0 ∙ s.same);
         right = so-far lines right;
-        number = place ∙ (given s.proofs (h.4 s.proofs s.given)).place;
+        number = place ∙ (given s.proofs (h.4 s.proofs s.given)).place ∙ ap (λ (k : Known). newlines (passed_in (version_of k) (s.proofs ++ with_line (proof_of (group_tree g) lines) l ∷ []))) (same.1 ∙ h.0.1 ∙ s.version);
         wrong = wrong;
       },
     )
     proof-stopped new (verdict.BadText n) (lines, right, bad) file readable =
-        (readable, bad-text n (s.proofs ++ proof_of (group_tree g) lines ∷ []) (so-far lines right) (subst (λ (x : List ℕ). IsBadAfter x n (s.proofs ++ proof_of (group_tree g) lines ∷ [])) (h.0 ∙ s.same) (bad s.proofs (h.4 s.proofs s.given))))
+        (readable, bad-text n (s.proofs ++ proof_of (group_tree g) lines ∷ []) (so-far lines right) (bad-moved middle.version known middle.text text n (s.proofs ++ proof_of (group_tree g) lines ∷ []) (h.0.1 ∙ s.version) (h.0.0 ∙ s.same) (bad s.proofs (h.4 s.proofs s.given))))
     proof-stopped new verdict.NoMemory k file readable = tt
     proof-stopped new (verdict.Accepted functions lines) k file readable = absurd k
     proof-stopped new (verdict.BadElf why) k file readable = absurd k
@@ -279,12 +287,13 @@ module _ (code : List Range) (text : List ℕ) (r : Progress) (t : Tally) (s : G
     proof-stopped new (verdict.NotProved m) k file readable = absurd k
 
     -- it is judged
-    pub group-judged : (new : Progress) (j : Judged) → ProofJudged (group_tree g) code middle new (Ok j) → GroupsJudged code text new (with_group t j)
+    pub group-judged : (new : Progress) (j : Judged) → ProofJudged F (group_tree g) code middle new (Ok j) → GroupsJudged F known code text new (with_group t j)
     group-judged new j (lines, given, ends, count, few, proved) = record {
       proofs = s.proofs ++ proof_of (group_tree g) lines ∷ [];
       few = omega (arith, s.few, h.1, few);
       given = given.given s.proofs (h.4 s.proofs s.given);
-      same = given.text ∙ h.0 ∙ s.same;
+      same = given.text.0 ∙ h.0.0 ∙ s.same;
+      version = given.text.1 ∙ h.0.1 ∙ s.version;
       may_open = may-open s.proofs (proof_of (group_tree g) lines) new.rest ends;
       right = so-far lines given.right;
       groups = omega (arith, s.groups, length-append s.proofs (proof_of (group_tree g) lines ∷ []));
@@ -294,39 +303,41 @@ module _ (code : List Range) (text : List ℕ) (r : Progress) (t : Tally) (s : G
 
 -- ---- the verdict
 
-accepted : (file : List ℕ) (ps : List ProofTree) → AreRightSoFar ps → AllByRecursion (IsProved file) ps → AllByRecursion (IsAccepted file) ps
-accepted file [] right proved = tt
-accepted file (p ∷ ps) right proved = (record { well_formed = right.0.well_formed; lines = right.0.lines; proved = proved.0 }, accepted file ps right.1 proved.1)
+module _ (F : FurtherRule) where
+  accepted : (file : List ℕ) (ps : List ProofTree) → AreRightSoFar F ps → AllByRecursion (IsProved file) ps → AllByRecursion (IsAcceptedBy F file) ps
+  accepted file [] right proved = tt
+  accepted file (p ∷ ps) right proved = (record { well_formed = right.0.well_formed; lines = right.0.lines; proved = proved.0 }, accepted file ps right.1 proved.1)
 
--- the verdict on a text in which nothing is wrong
-pub text-verdict : (file text : List ℕ) → IsReadable file → (t : Tally) → TextJudged file text t → Says file text (verdict_of t)
-text-verdict file text readable t j = at t.not_proved j.so
-  where
-    at : (o : Option ℕ) → ProvedSo file j.proofs o → Says file text (verdict_for o t.groups t.lines)
-    at None so = record {
-      proofs = j.proofs;
-      spelled = j.spelled;
-      accepted = record { readable = readable; each = accepted file j.proofs j.right so };
-      groups = j.groups;
-      count = j.lines;
-    }
-    at (Some k) so = (readable, record { proofs = j.proofs; spelled = j.spelled; right = j.right; first = so })
+  -- the verdict on a text in which nothing is wrong
+  pub text-verdict : (v : Version) (file text : List ℕ) → IsReadable file → (t : Tally) → TextJudged F v file text t → SaysBy F v file text (verdict_of t)
+  text-verdict v file text readable t j = at t.not_proved j.so
+    where
+      at : (o : Option ℕ) → ProvedSo file j.proofs o → SaysBy F v file text (verdict_for o t.groups t.lines)
+      at None so = record {
+        proofs = j.proofs;
+        spelled = j.spelled;
+        accepted = record { readable = readable; each = accepted file j.proofs j.right so };
+        groups = j.groups;
+        count = j.lines;
+      }
+      at (Some k) so = (readable, record { proofs = j.proofs; spelled = j.spelled; right = j.right; first = so })
+
+limits : (v : Version) (ps : List ProofTree) → AreProofsIn v ps → AreGroupsIn v (groups_of ps)
+limits v [] fit = tt
+limits v (p ∷ ps) fit = (fit.0.group, limits v ps fit.1)
 
 -- a verdict of acceptance says that the functions are right
-limits : (ps : List ProofTree) → AreProofs ps → AreGroups (groups_of ps)
-limits [] fit = tt
-limits (p ∷ ps) fit = (fit.0.group, limits ps fit.1)
-
-pub accepted-headline : (file text : List ℕ) (v : Verdict) → Says file text v → IsAcceptance v → (ps : List ProofTree) → IsTextOf text ps → Headline file (groups_of ps)
-accepted-headline file text (verdict.Accepted functions lines) h is ps t =
-    let same : h.proofs ≡ ps = proofs-once h.proofs ps h.spelled.fit t.fit (sym h.spelled.spelled ∙ t.spelled) in
-    accepted-right file ps (limits ps t.fit) (subst (Accepts file) same h.accepted)
-accepted-headline file text (verdict.BadElf why) h is ps t = absurd is
-accepted-headline file text (verdict.BadText n) h is ps t = absurd is
-accepted-headline file text (verdict.BadDef g d) h is ps t = absurd is
-accepted-headline file text (verdict.BadLine n) h is ps t = absurd is
-accepted-headline file text (verdict.NotProved g) h is ps t = absurd is
-accepted-headline file text verdict.NoMemory h is ps t = absurd is
+pub accepted-headline : (F : FurtherRule) → ((g : GroupTree) → KeepsValid F g) → (known : Known) → (version_of known).most_mems ≤ 1 → (file text : List ℕ) (v : Verdict) → SaysBy F (version_of known) file text v
+    → IsAcceptance v → (ps : List ProofTree) → IsTextOfIn (version_of known) text ps → Headline file (groups_of ps)
+accepted-headline F keeps known few file text (verdict.Accepted functions lines) h is ps t =
+    let same : h.proofs ≡ ps = proofs-once known h.proofs ps h.spelled.fit t.fit (sym h.spelled.spelled ∙ t.spelled) in
+    accepted-right-by (version_of known) few F keeps file ps (limits (version_of known) ps t.fit) (subst (AcceptsBy F file) same h.accepted)
+accepted-headline F keeps known few file text (verdict.BadElf why) h is ps t = absurd is
+accepted-headline F keeps known few file text (verdict.BadText n) h is ps t = absurd is
+accepted-headline F keeps known few file text (verdict.BadDef g d) h is ps t = absurd is
+accepted-headline F keeps known few file text (verdict.BadLine n) h is ps t = absurd is
+accepted-headline F keeps known few file text (verdict.NotProved g) h is ps t = absurd is
+accepted-headline F keeps known few file text verdict.NoMemory h is ps t = absurd is
 
 -- a verdict is want of memory, or it isn't
 or-memory : (v : Verdict) → (v ≡ verdict.NoMemory) ⊎ (v ≡ verdict.NoMemory → ⊥)
@@ -338,37 +349,51 @@ or-memory (verdict.BadLine n) = inr (λ e. cc)
 or-memory (verdict.NotProved g) = inr (λ e. cc)
 or-memory verdict.NoMemory = inl refl
 
-pub verdict-comes : (file text : List ℕ) (w : Verdict) → Says file text w → (v : Verdict) → Says file text v → (w ≡ v) ⊎ (v ≡ verdict.NoMemory) ⊎ (w ≡ verdict.NoMemory)
-verdict-comes file text w said v h =
+pub verdict-comes : (F : FurtherRule) (known : Known) (file text : List ℕ) (w : Verdict) → SaysBy F (version_of known) file text w → (v : Verdict) → SaysBy F (version_of known) file text v
+    → (w ≡ v) ⊎ (v ≡ verdict.NoMemory) ⊎ (w ≡ verdict.NoMemory)
+verdict-comes F known file text w said v h =
     ⊎_elim
     (λ (e : v ≡ verdict.NoMemory). inr (inl e))
     (λ (f : v ≡ verdict.NoMemory → ⊥). ⊎_elim
     (λ (e : w ≡ verdict.NoMemory). inr (inr e))
-    (λ (k : w ≡ verdict.NoMemory → ⊥). inl (verdict-once file text w v k f said h))
+    (λ (k : w ≡ verdict.NoMemory → ⊥). inl (verdict-once F known file text w v k f said h))
     (or-memory w))
     (or-memory v)
 
 -- ---- the exits of a `?`
 
-pub proof-exit : (g : GroupTree) (code : List Range) (old new : Progress) (result : Result Judged Verdict) (e : Verdict) → IsErrAnd result (λ y. y ≡ e) → ProofJudged g code old new (Err e) → ProofJudged g code old new result
-proof-exit g code old new (Ok j) e is h = absurd is
-proof-exit g code old new (Err v) e is h = subst (λ (x : Verdict). ProofJudged g code old new (Err x)) (sym is) h
+pub proof-exit : (F : FurtherRule) (g : GroupTree) (code : List Range) (old new : Progress) (result : Result Judged Verdict) (e : Verdict) → IsErrAnd result (λ y. y ≡ e) → ProofJudged F g code old new (Err e) → ProofJudged F g code old new result
+proof-exit F g code old new (Ok j) e is h = absurd is
+proof-exit F g code old new (Err v) e is h = subst (λ (x : Verdict). ProofJudged F g code old new (Err x)) (sym is) h
 
-pub text-exit : (text : List ℕ) (result : Result Tally Verdict) (e : Verdict) → IsErrAnd result (λ y. y ≡ e) → ((file : List ℕ) → IsReadable file → Says file text e)
-    → IfErr result (λ v. (file : List ℕ) → IsReadable file → Says file text v)
-text-exit text (Ok t) e is h = absurd is
-text-exit text (Err v) e is h = subst (λ (x : Verdict). (file : List ℕ) → IsReadable file → Says file text x) (sym is) h
+pub text-exit : (F : FurtherRule) (v : Version) (text : List ℕ) (result : Result Tally Verdict) (e : Verdict) → IsErrAnd result (λ y. y ≡ e) → ((file : List ℕ) → IsReadable file → SaysBy F v file text e)
+    → IfErr result (λ w. (file : List ℕ) → IsReadable file → SaysBy F v file text w)
+text-exit F v text (Ok t) e is h = absurd is
+text-exit F v text (Err w) e is h = subst (λ (x : Verdict). (file : List ℕ) → IsReadable file → SaysBy F v file text x) (sym is) h
 
 -- before the first group
-pub no-groups-judged : (code : List Range) (text : List ℕ) (r : Progress) → r.text ≡ text → HasGiven [] r → GroupsJudged code text r (record { groups = 0; lines = 0; not_proved = None })
-no-groups-judged code text r same h = record {
+pub no-groups-judged : (F : FurtherRule) (code : List Range) (r : Progress) → HasGiven [] r → GroupsJudged F r.version code r.text r (record { groups = 0; lines = 0; not_proved = None })
+no-groups-judged F code r h = record {
   proofs = [];
-  few = let e = ap length (sym h.text ∙ same) in omega (arith, e);
+  few = let e = ap length (sym h.text) in omega (arith, e);
   given = h;
-  same = same;
+  same = refl;
+  version = refl;
   may_open = tt;
   right = tt;
   groups = refl;
   lines = refl;
   so = λ file is. tt;
 }
+
+-- ---- the text of a reader whose version and text are known
+
+pub said : (F : FurtherRule) (k m : Known) (file t u : List ℕ) (v : Verdict) → k ≡ m → t ≡ u → SaysBy F (version_of k) file t v → SaysBy F (version_of m) file u v
+said F k m file t u v e f h = subst (λ (x : Known). SaysBy F (version_of x) file u v) e (subst (λ (x : List ℕ). SaysBy F (version_of k) file x v) f h)
+
+pub headline-said : (k m : Known) (file t u : List ℕ) (v : Verdict) → k ≡ m → t ≡ u → (version_of m).most_mems ≤ 1
+    → ((version_of k).most_mems ≤ 1 → IsAcceptance v → (ps : List ProofTree) → IsTextOfIn (version_of k) t ps → Headline file (groups_of ps))
+    → IsAcceptance v → (ps : List ProofTree) → IsTextOfIn (version_of m) u ps → Headline file (groups_of ps)
+headline-said k m file t u v e f few h is ps text =
+    h (subst (λ (x : Known). (version_of x).most_mems ≤ 1) (sym e) few) is ps
+    (subst (λ (x : Known). IsTextOfIn (version_of x) t ps) (sym e) (subst (λ (x : List ℕ). IsTextOfIn (version_of m) x ps) (sym f) text))

@@ -1,5 +1,5 @@
 -- What is right of proofs is right of the first of them, and what is wrong stands last.
-use Rattle.std.proofs.Common.{◌≡◌, ℕ, zero, suc, ◌+◌, ◌<◌, List, [], ◌∷◌, ◌++◌, length, map, slice_get, Some, refl, sym, subst, ◌∙◌, ◌⊎◌, ⊎_elim, inl, inr, append_assoc, arith}
+use Rattle.std.proofs.Common.{◌≡◌, ℕ, zero, suc, ◌<◌, List, [], ◌∷◌, ◌++◌, length, map, slice_get, Some, refl, sym, subst, ◌∙◌, ◌⊎◌, ⊎_elim, inl, inr, append_assoc, arith}
 use Rattle.std.specs.Prelude.{fold}
 use Rattle.std.specs.List.{AllByRecursion}
 use Rattle.std.proofs.lemmas.List.{append-nil}
@@ -7,7 +7,7 @@ use Rattle.tailrec_lang.specs.Tree.{DefTree, GroupTree}
 use Rattle.tailrec_lang.specs.WellFormed.{IsWellFormed, IsFirstIllFormed}
 use Rattle.proof_text.specs.Line.{LineTree, ProofTree}
 use Rattle.proof_text.specs.Proofs.{bare}
-use Rattle.checker.specs.Instance.{History, AreInstances, Instance, after_line, after_lines, no_lines}
+use Rattle.checker.specs.Instance.{FurtherRule, History, AreInstancesBy, InstanceBy, after_line, after_lines, no_lines}
 use Rattle.proof_text.specs.FirstProofs.{Adds, BeginsWithItems, ItemTree, Opens, items, with_line}
 use Rattle.checker.specs.Verdicts.{AreRightSoFar, IsRightSoFar}
 
@@ -20,18 +20,18 @@ AreFirst (p ∷ r ∷ ps) (q ∷ qs) = (p ≡ q) × AreFirst (r ∷ ps) qs
 
 -- ---- lines
 
-first-lines-right : (g : GroupTree) (h : History) (ls ms : List LineTree) → AreInstances g h (ls ++ ms) → AreInstances g h ls
-first-lines-right g h [] ms all = tt
-first-lines-right g h (l ∷ ls) ms all = (all.0, first-lines-right g (after_line h l) ls ms all.1)
+first-lines-right : (F : FurtherRule) → (g : GroupTree) (h : History) (ls ms : List LineTree) → AreInstancesBy F g h (ls ++ ms) → AreInstancesBy F g h ls
+first-lines-right F g h [] ms all = tt
+first-lines-right F g h (l ∷ ls) ms all = (all.0, first-lines-right F g (after_line h l) ls ms all.1)
 
-last-line-right : (g : GroupTree) (h : History) (ls : List LineTree) (l : LineTree) → AreInstances g h (ls ++ l ∷ []) → Instance g (fold after_line h ls) l
-last-line-right g h [] l all = all.0
-last-line-right g h (k ∷ ls) l all = last-line-right g (after_line h k) ls l all.1
+last-line-right : (F : FurtherRule) → (g : GroupTree) (h : History) (ls : List LineTree) (l : LineTree) → AreInstancesBy F g h (ls ++ l ∷ []) → InstanceBy F g (fold after_line h ls) l
+last-line-right F g h [] l all = all.0
+last-line-right F g h (k ∷ ls) l all = last-line-right F g (after_line h k) ls l all.1
 
 -- a line more
-pub line-more : (g : GroupTree) (h : History) (ls : List LineTree) (l : LineTree) → AreInstances g h ls → Instance g (fold after_line h ls) l → AreInstances g h (ls ++ l ∷ [])
-line-more g h [] l all here = (here, tt)
-line-more g h (k ∷ ls) l all here = (all.0, line-more g (after_line h k) ls l all.1 here)
+pub line-more : (F : FurtherRule) → (g : GroupTree) (h : History) (ls : List LineTree) (l : LineTree) → AreInstancesBy F g h ls → InstanceBy F g (fold after_line h ls) l → AreInstancesBy F g h (ls ++ l ∷ [])
+line-more F g h [] l all here = (here, tt)
+line-more F g h (k ∷ ls) l all here = (all.0, line-more F g (after_line h k) ls l all.1 here)
 
 -- what they leave behind them
 pub after-more : (h : History) (ls : List LineTree) (l : LineTree) → fold after_line h (ls ++ l ∷ []) ≡ after_line (fold after_line h ls) l
@@ -41,21 +41,21 @@ after-more h (k ∷ ls) l = after-more (after_line h k) ls l
 -- ---- proofs
 
 -- the first of proofs in which nothing is wrong
-pub first-right : (ps qs : List ProofTree) → AreFirst ps qs → AreRightSoFar qs → AreRightSoFar ps
-first-right [] qs first right = tt
-first-right (p ∷ ps) [] first right = absurd (none ps first)
+pub first-right : (F : FurtherRule) → (ps qs : List ProofTree) → AreFirst ps qs → AreRightSoFar F qs → AreRightSoFar F ps
+first-right F [] qs first right = tt
+first-right F (p ∷ ps) [] first right = absurd (none ps first)
   where
     none : (ps : List ProofTree) → AreFirst (p ∷ ps) [] → ⊥
     none [] e = e
     none (r ∷ ps) e = e
-first-right (p ∷ []) (q ∷ qs) first right = (
+first-right F (p ∷ []) (q ∷ qs) first right = (
   record {
     well_formed = subst IsWellFormed (sym first.0) right.0.well_formed;
-    lines = first-lines-right p.group no_lines p.lines first.1 (subst (AreInstances p.group no_lines) (sym first.2) (subst (λ (g : GroupTree). AreInstances g no_lines q.lines) (sym first.0) right.0.lines));
+    lines = first-lines-right F p.group no_lines p.lines first.1 (subst (AreInstancesBy F p.group no_lines) (sym first.2) (subst (λ (g : GroupTree). AreInstancesBy F g no_lines q.lines) (sym first.0) right.0.lines));
   },
   tt,
 )
-first-right (p ∷ r ∷ ps) (q ∷ qs) first right = (subst IsRightSoFar (sym first.0) right.0, first-right (r ∷ ps) qs first.1 right.1)
+first-right F (p ∷ r ∷ ps) (q ∷ qs) first right = (subst (IsRightSoFar F) (sym first.0) right.0, first-right F (r ∷ ps) qs first.1 right.1)
 
 pub all-more : {A : Type 0} (F : A → Type 0) (xs : List A) (x : A) → AllByRecursion F xs → F x → AllByRecursion F (xs ++ x ∷ [])
 all-more F [] x all here = (here, tt)
@@ -80,11 +80,11 @@ pub first-def : (g : GroupTree) (c d : ℕ) → IsFirstIllFormed g c → IsFirst
 first-def g c d h k = omega (arith, not-earlier g c d h k, not-earlier g d c k h)
 
 -- where a definition or a line is wrong, not all is right
-pub def-wrong : (b : List ProofTree) (g : GroupTree) (d : ℕ) → IsFirstIllFormed g d → AreRightSoFar (b ++ bare g ∷ []) → ⊥
-def-wrong b g d first right = ill-formed g d first ((all-last IsRightSoFar b (bare g) right).well_formed)
+pub def-wrong : (F : FurtherRule) → (b : List ProofTree) (g : GroupTree) (d : ℕ) → IsFirstIllFormed g d → AreRightSoFar F (b ++ bare g ∷ []) → ⊥
+def-wrong F b g d first right = ill-formed g d first ((all-last (IsRightSoFar F) b (bare g) right).well_formed)
 
-pub line-wrong : (b : List ProofTree) (p : ProofTree) (l : LineTree) → (Instance p.group (after_lines p.lines) l → ⊥) → AreRightSoFar (b ++ with_line p l ∷ []) → ⊥
-line-wrong b p l wrong right = wrong (last-line-right p.group no_lines p.lines l ((all-last IsRightSoFar b (with_line p l) right).lines))
+pub line-wrong : (F : FurtherRule) → (b : List ProofTree) (p : ProofTree) (l : LineTree) → (InstanceBy F p.group (after_lines p.lines) l → ⊥) → AreRightSoFar F (b ++ with_line p l ∷ []) → ⊥
+line-wrong F b p l wrong right = wrong (last-line-right F p.group no_lines p.lines l ((all-last (IsRightSoFar F) b (with_line p l) right).lines))
 
 -- ---- items
 

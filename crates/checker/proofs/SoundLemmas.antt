@@ -1,5 +1,5 @@
 -- Lines that are right one after the other leave valid triples behind them.
-use Rattle.std.proofs.Common.{◌≡◌, ℕ, zero, suc, Bool, true, false, cond, Option, Some, None, List, [], ◌∷◌, map, refl, sym, subst, arith}
+use Rattle.std.proofs.Common.{◌≡◌, ◌≤◌, ℕ, zero, suc, Bool, true, false, cond, Option, Some, None, List, [], ◌∷◌, map, refl, sym, subst, arith}
 use Rattle.std.specs.Prelude.{fold, Contains, IsSomeAnd, ◌==◌}
 use Rattle.std.specs.List.{AllByRecursion}
 use Rattle.std.proofs.lemmas.Bool.{eqb-true}
@@ -10,16 +10,17 @@ use Rattle.triple_kernel.specs.Valid.{Valid}
 use Rattle.triple_kernel.specs.Rules.{IsInst, IsStrengthened, IsWeakened, IsDischarged}
 use Rattle.triple_kernel.proofs.PutInLemmas.{valid_inst}
 use Rattle.triple_kernel.proofs.RuleLemmas.{valid_strengthened, valid_weakened, valid_discharged}
-use Rattle.group_text.specs.Limits.{IsGroup, AreGroups}
+use Rattle.group_text.specs.Version.{Version, version_1}
+use Rattle.group_text.specs.Limits.{AreGroups, IsGroupIn, AreGroupsIn}
 use Rattle.instr_axioms.proofs.AxiomLemmas.{axiom_valid}
 use Rattle.loop_rule.specs.Rule.{IsClosed}
 use Rattle.loop_rule.proofs.LoopLemmas.{closed-valid}
-use Rattle.proof_text.specs.Line.{RuleTree, Axiom, Inst, Frame, Compose, ExtendCode, Strengthen, Weaken, Discharge, UseExit, LineTree, States, Loop, Forget, ProofTree}
-use Rattle.checker.specs.Instance.{History, no_lines, after_line, put_for, Meets, Instance, AreInstances}
+use Rattle.proof_text.specs.Line.{RuleTree, Axiom, Inst, Frame, Compose, ExtendCode, Strengthen, Weaken, Discharge, UseExit, LineTree, States, Loop, Forget, Further, ProofTree}
+use Rattle.checker.specs.Instance.{History, no_lines, after_line, put_for, Meets, FurtherRule, KeepsValid, InstanceBy, AreInstancesBy, no_rule}
 use Rattle.frame_compose.specs.Rules.{IsFramed, IsExtended, IsComposed}
 use Rattle.checker.specs.Sound.{Sound}
 use Rattle.proof_text.specs.Proofs.{groups_of}
-use Rattle.checker.specs.Accepts.{IsAccepted, Accepts}
+use Rattle.checker.specs.Accepts.{IsAcceptedBy, AcceptsBy, Accepts}
 use Rattle.checker.specs.Headline.{IsRight, Headline}
 use Rattle.frame_compose.proofs.FrameLemmas.{valid_frame}
 use Rattle.frame_compose.proofs.ExtendLemmas.{valid_extension}
@@ -70,23 +71,33 @@ module _ (g : GroupTree) (well_formed : IsWellFormed g) where
   still-closed true was c d e new old h = subst (IsClosed g) (sym (eqb-true c d e)) new
   still-closed false was c d e new old h = old h
 
-  pub line-sound : (h : History) → Sound g h → (l : LineTree) → Instance g h l → Sound g (after_line h l)
-  line-sound h sound (States rule stated) is = record {
-    theorems = λ k p there. stated-valid (k == h.next) (h.theorem k) stated p (meets-valid h sound rule stated is) (sound.theorems k p) there;
-    closed = sound.closed;
-  }
-  line-sound h sound (Loop def numbers) is = record {
-    theorems = sound.theorems;
-    closed = λ c there. still-closed (c == def) (h.closed c) c def refl (closed-valid g def (map h.theorem numbers) is (λ p c. let from_number = contains-map h.theorem numbers (Some p) c in sound.theorems from_number.0 p from_number.1)) (sound.closed c) there;
-  }
-  line-sound h sound (Forget j) is = record {
-    theorems = λ k p there. kept-valid (k == j) (h.theorem k) p (sound.theorems k p) there;
-    closed = sound.closed;
-  }
+  -- in a text with a further rule that keeps validity
+  module _ (F : FurtherRule) (keeps : KeepsValid F g) where
+    pub line-sound : (h : History) → Sound g h → (l : LineTree) → InstanceBy F g h l → Sound g (after_line h l)
+    line-sound h sound (States rule stated) is = record {
+      theorems = λ k p there. stated-valid (k == h.next) (h.theorem k) stated p (meets-valid h sound rule stated is) (sound.theorems k p) there;
+      closed = sound.closed;
+    }
+    line-sound h sound (Loop def numbers) is = record {
+      theorems = sound.theorems;
+      closed = λ c there. still-closed (c == def) (h.closed c) c def refl (closed-valid g def (map h.theorem numbers) is (λ p c. let from_number = contains-map h.theorem numbers (Some p) c in sound.theorems from_number.0 p from_number.1)) (sound.closed c) there;
+    }
+    line-sound h sound (Forget j) is = record {
+      theorems = λ k p there. kept-valid (k == j) (h.theorem k) p (sound.theorems k p) there;
+      closed = sound.closed;
+    }
+    line-sound h sound (Further p stated) is = record {
+      theorems = λ k t there. stated-valid (k == h.next) (h.theorem k) stated t (from h sound p (λ q. F q stated) stated (λ q v i. keeps q stated i v) is) (sound.theorems k t) there;
+      closed = sound.closed;
+    }
 
-  pub lines-sound : (h : History) → Sound g h → (ls : List LineTree) → AreInstances g h ls → Sound g (fold after_line h ls)
-  lines-sound h sound [] are = sound
-  lines-sound h sound (l ∷ ls) are = lines-sound (after_line h l) (line-sound h sound l are.0) ls are.1
+    pub lines-sound : (h : History) → Sound g h → (ls : List LineTree) → AreInstancesBy F g h ls → Sound g (fold after_line h ls)
+    lines-sound h sound [] are = sound
+    lines-sound h sound (l ∷ ls) are = lines-sound (after_line h l) (line-sound h sound l are.0) ls are.1
+
+-- no triple is stated by no rule
+pub no_rule-keeps : (g : GroupTree) → KeepsValid no_rule g
+no_rule-keeps g p t is valid = absurd is
 
 pub no_lines-sound : (g : GroupTree) → Sound g no_lines
 no_lines-sound g = record { theorems = λ k t e. absurd (cc); closed = λ d e. absurd (cc) }
@@ -98,18 +109,21 @@ proved-group f P [] y all c = absurd (omega (arith, c.1))
 proved-group f P (x ∷ xs) y all (zero, lt, e) = (x, all.0, e)
 proved-group f P (x ∷ xs) y all (suc k, lt, e) = proved-group f P xs y all.1 (k, omega arith, e)
 
-each-group : (gs : List GroupTree) (g : GroupTree) → AreGroups gs → Contains gs g → IsGroup g
-each-group [] g all c = absurd (omega (arith, c.1))
-each-group (x ∷ xs) g all (zero, lt, e) = subst IsGroup e all.0
-each-group (x ∷ xs) g all (suc k, lt, e) = each-group xs g all.1 (k, omega arith, e)
+each-group : (ver : Version) (gs : List GroupTree) (g : GroupTree) → AreGroupsIn ver gs → Contains gs g → IsGroupIn ver g
+each-group ver [] g all c = absurd (omega (arith, c.1))
+each-group ver (x ∷ xs) g all (zero, lt, e) = subst (IsGroupIn ver) e all.0
+each-group ver (x ∷ xs) g all (suc k, lt, e) = each-group ver xs g all.1 (k, omega arith, e)
 
--- What is accepted is right.
-pub accepted-right : (file : List ℕ) (ps : List ProofTree) → AreGroups (groups_of ps) → Accepts file ps → Headline file (groups_of ps)
-accepted-right file ps limits accepts g c =
-    let found = proved-group (λ (p : ProofTree). p.group) (IsAccepted file) ps g accepts.each c in
+-- What is accepted is right, in a version with one memory at most and a further rule that keeps validity.
+pub accepted-right-by : (ver : Version) → ver.most_mems ≤ 1 → (F : FurtherRule) → ((g : GroupTree) → KeepsValid F g) → (file : List ℕ) (ps : List ProofTree) → AreGroupsIn ver (groups_of ps) → AcceptsBy F file ps → Headline file (groups_of ps)
+accepted-right-by ver few F keeps file ps limits accepts g c =
+    let found = proved-group (λ (p : ProofTree). p.group) (IsAcceptedBy F file) ps g accepts.each c in
     let p = found.0 in
     let is = found.1 in
-    let limit = subst IsGroup (sym found.2) (each-group (groups_of ps) g limits c) in
-    let sound = lines-sound p.group is.well_formed no_lines (no_lines-sound p.group) p.lines is.lines in
+    let limit = subst (IsGroupIn ver) (sym found.2) (each-group ver (groups_of ps) g limits c) in
+    let sound = lines-sound p.group is.well_formed F (keeps p.group) no_lines (no_lines-sound p.group) p.lines is.lines in
     subst (IsRight file) found.2
-    (function-right file p.group is.well_formed limit.registers limit.memories is.proved.code (sound.closed (listed_def p.group) is.proved.closed))
+    (function-right file p.group is.well_formed limit.registers (omega (arith, few, limit.memories.1)) is.proved.code (sound.closed (listed_def p.group) is.proved.closed))
+
+pub accepted-right : (file : List ℕ) (ps : List ProofTree) → AreGroups (groups_of ps) → Accepts file ps → Headline file (groups_of ps)
+accepted-right = accepted-right-by version_1 (omega arith) no_rule no_rule-keeps

@@ -8,7 +8,7 @@ use Rattle.tailrec_lang.specs.WellFormed.{IsWellFormed}
 use Rattle.rv_words.specs.Ranges.{range_bytes}
 use Rattle.sep_assert.specs.Code.{IsWithin}
 use Rattle.proof_text.specs.Line.{ProofTree}
-use Rattle.checker.specs.Instance.{AreInstances, no_lines, after_lines}
+use Rattle.checker.specs.Instance.{FurtherRule, AreInstancesBy, no_rule, no_lines, after_lines}
 
 -- The group's last definition is closed after all lines, and its code is the file's.
 pub record IsProved (file : List ℕ) (p : ProofTree) : Type 0 where
@@ -16,12 +16,20 @@ pub record IsProved (file : List ℕ) (p : ProofTree) : Type 0 where
   pub code : IsWithin (range_bytes p.group.code) (code_of_file file)
 
 -- The group is well-formed, each line of its proof is right after those before it, and it is proved.
-pub record IsAccepted (file : List ℕ) (p : ProofTree) : Type 0 where
+pub record IsAcceptedBy (F : FurtherRule) (file : List ℕ) (p : ProofTree) : Type 0 where
   pub well_formed : IsWellFormed p.group
-  pub lines : AreInstances p.group no_lines p.lines
+  pub lines : AreInstancesBy F p.group no_lines p.lines
   pub proved : IsProved file p
 
 -- the file can be read, and each group of these proofs is accepted
-pub record Accepts (file : List ℕ) (ps : List ProofTree) : Type 0 where
+pub record AcceptsBy (F : FurtherRule) (file : List ℕ) (ps : List ProofTree) : Type 0 where
   pub readable : IsReadable file
-  pub each : AllByRecursion (IsAccepted file) ps
+  pub each : AllByRecursion (IsAcceptedBy F file) ps
+
+-- ---- where there is no further rule
+
+abbrev pub IsAccepted : List ℕ → ProofTree → Type 0
+IsAccepted file p = IsAcceptedBy no_rule file p
+
+abbrev pub Accepts : List ℕ → List ProofTree → Type 0
+Accepts file ps = AcceptsBy no_rule file ps

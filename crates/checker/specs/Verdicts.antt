@@ -7,49 +7,49 @@ use Rattle.elf_image.specs.Fault.{IsReadable, fault_of}
 use Rattle.tailrec_lang.specs.Tree.{GroupTree}
 use Rattle.tailrec_lang.specs.WellFormed.{IsWellFormed, IsFirstIllFormed}
 use Rattle.proof_text.specs.Line.{LineTree, ProofTree}
-use Rattle.proof_text.specs.Proofs.{AreProofsIn, bare, text_of_proofs_in, texts_of_proofs}
-use Rattle.group_text.specs.Version.{version_1}
-use Rattle.proof_text.specs.FirstProofs.{AreRead, passed, with_line}
+use Rattle.proof_text.specs.Proofs.{AreProofsIn, bare, text_of_proofs_in, texts_of_proofs_in}
+use Rattle.group_text.specs.Version.{Version, version_1}
+use Rattle.proof_text.specs.FirstProofs.{AreReadIn, passed_in, with_line}
 use Rattle.checker.specs.declared.verdict.Verdict.{Verdict}
 use Rattle.checker.specs.declared.verdict.Verdict.TheVariants as verdict
-use Rattle.checker.specs.Instance.{AreInstances, Instance, after_lines, no_lines}
-use Rattle.checker.specs.Accepts.{Accepts, IsProved}
+use Rattle.checker.specs.Instance.{FurtherRule, AreInstancesBy, InstanceBy, after_lines, no_lines, no_rule}
+use Rattle.checker.specs.Accepts.{AcceptsBy, IsProved}
 
--- the text is that of these proofs
-pub record IsTextOf (text : List ℕ) (ps : List ProofTree) : Type 0 where
-  pub fit : AreProofsIn version_1 ps
-  pub spelled : text ≡ text_of_proofs_in version_1 ps
+-- the text is that of these proofs, in that version
+pub record IsTextOfIn (v : Version) (text : List ℕ) (ps : List ProofTree) : Type 0 where
+  pub fit : AreProofsIn v ps
+  pub spelled : text ≡ text_of_proofs_in v ps
 
 -- The group is well-formed, and each line is right after those before it.
-pub record IsRightSoFar (p : ProofTree) : Type 0 where
+pub record IsRightSoFar (F : FurtherRule) (p : ProofTree) : Type 0 where
   pub well_formed : IsWellFormed p.group
-  pub lines : AreInstances p.group no_lines p.lines
+  pub lines : AreInstancesBy F p.group no_lines p.lines
 
-abbrev pub AreRightSoFar : List ProofTree → Type 0
-AreRightSoFar ps = AllByRecursion IsRightSoFar ps
+abbrev pub AreRightSoFar : FurtherRule → List ProofTree → Type 0
+AreRightSoFar F ps = AllByRecursion (IsRightSoFar F) ps
 
 -- how many lines proofs have
 abbrev pub line_count : List ProofTree → ℕ
 line_count ps = sum_by (λ (p : ProofTree). length p.lines) ps
 
 -- Definition d of a group is the first that isn't well-formed, after g groups, in all of which nothing is wrong.
-pub record IsBadDef (text : List ℕ) (g d : ℕ) : Type 0 where
+pub record IsBadDef (F : FurtherRule) (v : Version) (text : List ℕ) (g d : ℕ) : Type 0 where
   pub before : List ProofTree
   pub group : GroupTree
-  pub read : AreRead text (before ++ bare group ∷ [])
-  pub right : AreRightSoFar before
+  pub read : AreReadIn v text (before ++ bare group ∷ [])
+  pub right : AreRightSoFar F before
   pub number : g ≡ length before
   pub first : IsFirstIllFormed group d
 
 -- Line n of the text is a line that isn't right after those before it, in which nothing is wrong.
-pub record IsBadLine (text : List ℕ) (n : ℕ) : Type 0 where
+pub record IsBadLine (F : FurtherRule) (v : Version) (text : List ℕ) (n : ℕ) : Type 0 where
   pub before : List ProofTree
   pub last : ProofTree
   pub line : LineTree
-  pub read : AreRead text (before ++ with_line last line ∷ [])
-  pub right : AreRightSoFar (before ++ last ∷ [])
-  pub number : n ≡ newlines (passed (before ++ with_line last line ∷ []))
-  pub wrong : Instance last.group (after_lines last.lines) line → ⊥
+  pub read : AreReadIn v text (before ++ with_line last line ∷ [])
+  pub right : AreRightSoFar F (before ++ last ∷ [])
+  pub number : n ≡ newlines (passed_in v (before ++ with_line last line ∷ []))
+  pub wrong : InstanceBy F last.group (after_lines last.lines) line → ⊥
 
 -- Group g is the first of proofs that isn't proved.
 pub record IsFirstNotProved (file : List ℕ) (ps : List ProofTree) (g : ℕ) : Type 0 where
@@ -59,34 +59,34 @@ pub record IsFirstNotProved (file : List ℕ) (ps : List ProofTree) (g : ℕ) : 
   pub not_proved : IsProved file proof → ⊥
 
 -- Group g is the first that isn't proved, in a text in which nothing else is wrong.
-pub record IsNotProved (file text : List ℕ) (g : ℕ) : Type 0 where
+pub record IsNotProved (F : FurtherRule) (v : Version) (file text : List ℕ) (g : ℕ) : Type 0 where
   pub proofs : List ProofTree
-  pub spelled : IsTextOf text proofs
-  pub right : AreRightSoFar proofs
+  pub spelled : IsTextOfIn v text proofs
+  pub right : AreRightSoFar F proofs
   pub first : IsFirstNotProved file proofs g
 
 -- Line n is the first with which the text is none of groups and their lines, and before it nothing is wrong.
-pub record IsBadText (text : List ℕ) (n : ℕ) : Type 0 where
-  pub bad : IsBadAt texts_of_proofs text n
-  pub right : (ps : List ProofTree) → AreRead text ps → AreRightSoFar ps
+pub record IsBadText (F : FurtherRule) (v : Version) (text : List ℕ) (n : ℕ) : Type 0 where
+  pub bad : IsBadAt (texts_of_proofs_in v) text n
+  pub right : (ps : List ProofTree) → AreReadIn v text ps → AreRightSoFar F ps
 
 -- the text is that of so many groups with so many lines, which are accepted for the file
-pub record IsAcceptedText (file text : List ℕ) (functions lines : ℕ) : Type 0 where
+pub record IsAcceptedText (F : FurtherRule) (v : Version) (file text : List ℕ) (functions lines : ℕ) : Type 0 where
   pub proofs : List ProofTree
-  pub spelled : IsTextOf text proofs
-  pub accepted : Accepts file proofs
+  pub spelled : IsTextOfIn v text proofs
+  pub accepted : AcceptsBy F file proofs
   pub groups : functions ≡ length proofs
   pub count : lines ≡ line_count proofs
 
--- what a verdict says
-abbrev pub Says : (file text : List ℕ) → Verdict → Type 0
-Says file text (verdict.Accepted functions lines) = IsAcceptedText file text functions lines
-Says file text (verdict.BadElf why) = fault_of file ≡ Some why
-Says file text (verdict.BadText n) = IsReadable file × IsBadText text n
-Says file text (verdict.BadDef g d) = IsReadable file × IsBadDef text g d
-Says file text (verdict.BadLine n) = IsReadable file × IsBadLine text n
-Says file text (verdict.NotProved g) = IsReadable file × IsNotProved file text g
-Says file text verdict.NoMemory = Unit {0}
+-- what a verdict says of a text of that version, with that further rule
+abbrev pub SaysBy : FurtherRule → Version → (file text : List ℕ) → Verdict → Type 0
+SaysBy F v file text (verdict.Accepted functions lines) = IsAcceptedText F v file text functions lines
+SaysBy F v file text (verdict.BadElf why) = fault_of file ≡ Some why
+SaysBy F v file text (verdict.BadText n) = IsReadable file × IsBadText F v text n
+SaysBy F v file text (verdict.BadDef g d) = IsReadable file × IsBadDef F v text g d
+SaysBy F v file text (verdict.BadLine n) = IsReadable file × IsBadLine F v text n
+SaysBy F v file text (verdict.NotProved g) = IsReadable file × IsNotProved F v file text g
+SaysBy F v file text verdict.NoMemory = Unit {0}
 
 -- whether it is a verdict of acceptance
 abbrev pub IsAcceptance : Verdict → Type 0
@@ -97,3 +97,11 @@ IsAcceptance (verdict.BadDef g d) = ⊥
 IsAcceptance (verdict.BadLine n) = ⊥
 IsAcceptance (verdict.NotProved g) = ⊥
 IsAcceptance verdict.NoMemory = ⊥
+
+-- ---- version 1, which has no further rule
+
+abbrev pub IsTextOf : (text : List ℕ) (ps : List ProofTree) → Type 0
+IsTextOf text ps = IsTextOfIn version_1 text ps
+
+abbrev pub Says : (file text : List ℕ) → Verdict → Type 0
+Says file text v = SaysBy no_rule version_1 file text v

@@ -1,14 +1,17 @@
 //! The judge of the lines of a group's proof.
 
-ghost use Rattle.std.specs.Prelude.{◌≡◌, IfOk, IfSome, IsErrOf, OnErr, OnOk, None as Nothing, is_some, map, option_map, replicate, true};
+ghost use Rattle.std.specs.Prelude.{◌≡◌, IfOk, IfSome, IsErrOf, IsSomeAnd, OnErr, OnOk, None as Nothing, is_some, map, option_map, replicate, true};
 ghost use Rattle.std.specs.Option.{option_copied};
 ghost use Rattle.tailrec_lang.specs.Tree.{group_tree};
 ghost use Rattle.triple_kernel.specs.Tree.{triple_tree};
+ghost use Rattle.triple_kernel.specs.Valid.{Valid};
 ghost use Rattle.loop_rule.specs.Rule.{IsClosedBy};
 ghost use Rattle.proof_text.specs.Line.{line_tree, rule_tree};
-ghost use Rattle.checker.specs.Instance.{Instance, Meets, after_line, no_lines, with_closed, with_theorem, without};
+ghost use Rattle.checker.specs.Instance.{Instance, InstanceBy, Meets, after_line, no_lines, with_closed, with_theorem, without};
 ghost use Rattle.checker.specs.Bench.{group_of, history_of};
 
+use crate::copy::copy_triple;
+use crate::further_rule::{FurtherRule, NoRule};
 use loop_rule::{FunThm, close};
 use proof_text::{Line, Rule};
 use rv_words::{List, NoMemory};
@@ -67,10 +70,27 @@ impl<'g> Bench<'g> {
         ensures no_instance { IsErrOf result RuleFault.NoInstance → Instance (group_of self.old) (history_of self.old) (line_tree line) → ⊥ }
         ensures same { OnErr result (self.new ≡ self.old) }
     {
+        self.judge_by(alloc, &NoRule, line)
+    }
+
+    /// Judges the next line of a text with that further rule. A refusal changes nothing.
+    pub(crate) fn judge_by<R: FurtherRule>(
+        &mut self,
+        alloc: Global,
+        further: &R,
+        line: Line,
+    ) -> Result<(), RuleFault>
+        ensures group { self.new.0 ≡ self.old.0 }
+        ensures instance { OnOk result (InstanceBy R.states (group_of self.old) (history_of self.old) (line_tree line)) }
+        ensures after { OnOk result (history_of self.new ≡ after_line (history_of self.old) (line_tree line)) }
+        ensures no_instance { IsErrOf result RuleFault.NoInstance → InstanceBy R.states (group_of self.old) (history_of self.old) (line_tree line) → ⊥ }
+        ensures same { OnErr result (self.new ≡ self.old) }
+    {
         match line {
             Line::States { rule, stated } => self.state(alloc, &rule, stated),
             Line::Loop { def, cited } => self.close(alloc, def, cited.as_slice()),
             Line::Forget(k) => self.forget(k),
+            Line::Further { cited, stated } => self.state_further(further, cited, stated),
         }
     }
 
@@ -88,8 +108,31 @@ impl<'g> Bench<'g> {
         self.group
     }
 
+    /// A copy of the theorem of that number, if it exists and wasn't forgotten.
+    pub fn theorem(&self, alloc: Global, k: u64) -> Result<Option<Thm<'g>>, NoMemory>
+        ensures theorem { IfOk result (λ copy. option_map (λ t. triple_tree t.1) copy ≡ (history_of self.now).theorem k) }
+        ensures group { IfOk result (λ copy. IfSome copy (λ t. group_tree t.0 ≡ group_of self.now)) }
+    {
+        match self.held(k) {
+            Some(t) => Ok(Some(copy_theorem(alloc, t)?)),
+            None => Ok(None),
+        }
+    }
+
+    /// Adds a triple that is valid for the group as the next theorem. A refusal changes nothing.
+    pub fn admit(&mut self, alloc: Global, triple: &Triple) -> Result<(), NoMemory>
+        requires { Valid (group_of self.old) (triple_tree triple.now) }
+        ensures group { self.new.0 ≡ self.old.0 }
+        ensures after { OnOk result (history_of self.new ≡ with_theorem (triple_tree triple.now) (history_of self.old)) }
+        ensures same { OnErr result (self.new ≡ self.old) }
+    {
+        let copy = copy_triple(alloc, triple)?;
+        let group = self.group;
+        self.keep(Thm::from_valid(group, copy))
+    }
+
     /// The theorem of that number, if it exists and wasn't forgotten.
-    pub(crate) fn theorem(&self, k: u64) -> Option<&Thm<'g>>
+    pub(crate) fn held(&self, k: u64) -> Option<&Thm<'g>>
         ensures theorem { option_map (λ t. triple_tree t.1) (option_copied result) ≡ (history_of self.now).theorem k }
         ensures group { IfSome (option_copied result) (λ t. group_tree t.0 ≡ group_of self.now) }
     {
@@ -119,6 +162,26 @@ impl<'g> Bench<'g> {
         ensures same { OnErr result (self.new ≡ self.old) }
     {
         let t = self.derive(alloc, rule, stated)?;
+        self.keep(t)?;
+        Ok(())
+    }
+
+    /// States a triple by a further rule.
+    fn state_further<R: FurtherRule>(
+        &mut self,
+        further: &R,
+        cited: u64,
+        stated: Triple,
+    ) -> Result<(), RuleFault>
+        ensures group { self.new.0 ≡ self.old.0 }
+        ensures instance { OnOk result (IsSomeAnd ((history_of self.old).theorem cited) (λ p. R.states p (triple_tree stated))) }
+        ensures after { OnOk result (history_of self.new ≡ with_theorem (triple_tree stated) (history_of self.old)) }
+        ensures no_instance { IsErrOf result RuleFault.NoInstance → IsSomeAnd ((history_of self.old).theorem cited) (λ p. R.states p (triple_tree stated)) → ⊥ }
+        ensures same { OnErr result (self.new ≡ self.old) }
+    {
+        let Some(t) = self.by_further(further, cited, stated) else {
+            return Err(RuleFault::NoInstance);
+        };
         self.keep(t)?;
         Ok(())
     }
@@ -154,12 +217,21 @@ impl<'g> Bench<'g> {
         ensures no_instance { OnErr result (is_some ((history_of self.old).theorem k) ≡ true → ⊥) }
         ensures same { OnErr result (self.new ≡ self.old) }
     {
-        if self.theorem(k).is_none() {
+        if self.held(k).is_none() {
             return Err(RuleFault::NoInstance);
         }
         self.theorems.set(k as usize, None);
         Ok(())
     }
+}
+
+/// The same theorem in memory of its own.
+fn copy_theorem<'g>(alloc: Global, t: &Thm<'g>) -> Result<Thm<'g>, NoMemory>
+    ensures triple { IfOk result (λ copy. triple_tree copy.1 ≡ triple_tree t.now.1) }
+    ensures group { IfOk result (λ copy. group_tree copy.0 ≡ group_tree t.now.0) }
+{
+    let copy = copy_triple(alloc, t.triple())?;
+    Ok(t.concludes(copy))
 }
 
 /// So many definitions, none of them closed.

@@ -15,12 +15,15 @@
 
 mod bench;
 mod check;
+mod copy;
 mod file_code;
+mod further_rule;
 mod laws;
 mod rules;
 mod verdict;
 
 pub use bench::Bench;
-pub use check::{check_bytes, check_text};
+pub use check::{check_by, check_bytes, check_text};
+pub use further_rule::{FurtherRule, NoRule};
 pub use laws::{law_of_exits, law_of_lines, law_of_proofs};
 pub use verdict::Verdict;

@@ -11,6 +11,7 @@ ghost use Rattle.checker.specs.Instance.{Meets, put_for};
 ghost use Rattle.checker.specs.Bench.{group_of, history_of};
 
 use crate::bench::Bench;
+use crate::further_rule::FurtherRule;
 use frame_compose::{compose, extend_code, frame};
 use instr_axioms::axiom;
 use loop_rule::use_exit;
@@ -52,7 +53,7 @@ impl<'g> Bench<'g> {
         ensures triple { IfSome result (λ t. t.1 ≡ stated) }
         ensures exact { IsSome result ↔ IsSomeAnd ((history_of self.now).theorem p) (λ p. IsInst (put_for (map word_put_in terms.now.words) (map mem_put_in terms.now.mems)) p (triple_tree stated)) }
     {
-        inst(self.theorem(p)?, terms, stated).ok()
+        inst(self.held(p)?, terms, stated).ok()
     }
 
     fn by_frame(&self, p: u64, stated: Triple) -> Option<Thm<'g>>
@@ -60,7 +61,7 @@ impl<'g> Bench<'g> {
         ensures triple { IfSome result (λ t. t.1 ≡ stated) }
         ensures exact { IsSome result ↔ IsSomeAnd ((history_of self.now).theorem p) (λ p. IsFramed p (triple_tree stated)) }
     {
-        frame(self.theorem(p)?, stated).ok()
+        frame(self.held(p)?, stated).ok()
     }
 
     fn by_compose(&self, p: u64, q: u64, stated: Triple) -> Option<Thm<'g>>
@@ -68,7 +69,7 @@ impl<'g> Bench<'g> {
         ensures triple { IfSome result (λ t. t.1 ≡ stated) }
         ensures exact { IsSome result ↔ IsSomeAnd ((history_of self.now).theorem p) (λ p. IsSomeAnd ((history_of self.now).theorem q) (λ q. IsComposed p q (triple_tree stated))) }
     {
-        compose(self.theorem(p)?, self.theorem(q)?, stated).ok()
+        compose(self.held(p)?, self.held(q)?, stated).ok()
     }
 
     fn by_extend_code(&self, p: u64, stated: Triple) -> Option<Thm<'g>>
@@ -76,7 +77,7 @@ impl<'g> Bench<'g> {
         ensures triple { IfSome result (λ t. t.1 ≡ stated) }
         ensures exact { IsSome result ↔ IsSomeAnd ((history_of self.now).theorem p) (λ p. IsExtended p (triple_tree stated)) }
     {
-        extend_code(self.theorem(p)?, stated).ok()
+        extend_code(self.held(p)?, stated).ok()
     }
 
     fn by_strengthen(&self, p: u64, stated: Triple) -> Option<Thm<'g>>
@@ -84,7 +85,7 @@ impl<'g> Bench<'g> {
         ensures triple { IfSome result (λ t. t.1 ≡ stated) }
         ensures exact { IsSome result ↔ IsSomeAnd ((history_of self.now).theorem p) (λ p. IsStrengthened p (triple_tree stated)) }
     {
-        strengthen(self.theorem(p)?, stated).ok()
+        strengthen(self.held(p)?, stated).ok()
     }
 
     fn by_weaken(&self, p: u64, stated: Triple) -> Option<Thm<'g>>
@@ -92,7 +93,7 @@ impl<'g> Bench<'g> {
         ensures triple { IfSome result (λ t. t.1 ≡ stated) }
         ensures exact { IsSome result ↔ IsSomeAnd ((history_of self.now).theorem p) (λ p. IsWeakened p (triple_tree stated)) }
     {
-        weaken(self.theorem(p)?, stated).ok()
+        weaken(self.held(p)?, stated).ok()
     }
 
     fn by_discharge(&self, p: u64, stated: Triple) -> Option<Thm<'g>>
@@ -100,7 +101,21 @@ impl<'g> Bench<'g> {
         ensures triple { IfSome result (λ t. t.1 ≡ stated) }
         ensures exact { IsSome result ↔ IsSomeAnd ((history_of self.now).theorem p) (λ p. IsDischarged p (triple_tree stated)) }
     {
-        discharge(self.theorem(p)?, stated).ok()
+        discharge(self.held(p)?, stated).ok()
+    }
+
+    /// The stated triple as a theorem by a further rule.
+    pub(crate) fn by_further<R: FurtherRule>(
+        &self,
+        further: &R,
+        p: u64,
+        stated: Triple,
+    ) -> Option<Thm<'g>>
+        ensures group { IfSome result (λ t. group_tree t.0 ≡ group_of self.now) }
+        ensures triple { IfSome result (λ t. t.1 ≡ stated) }
+        ensures exact { IsSome result ↔ IsSomeAnd ((history_of self.now).theorem p) (λ p. R.states p (triple_tree stated)) }
+    {
+        further.state(self.held(p)?, stated).ok()
     }
 
     fn by_use_exit(
