@@ -19,7 +19,9 @@ use Rattle.mcdec_answers.specs.declared.answer.RunAnswer.TheVariants as ra
 use Rattle.checker.specs.declared.verdict.Verdict.{Verdict}
 use Rattle.checker.specs.declared.verdict.Verdict.TheVariants as verdict
 use Rattle.checker.specs.Verdicts.{Says}
+use Rattle.checker.specs.Instance.{no_rule}
 use Rattle.checker.proofs.OneVerdict.{verdict-once}
+use Rattle.checker.proofs.SoundLemmas.{no_rule-keeps}
 use Rattle.checker.proofs.CheckLemmas.{accepted-headline}
 use Rattle.mcdec_answers.specs.declared.answer.CheckAnswer.{CheckAnswer}
 use Rattle.mcdec_answers.specs.declared.answer.CheckAnswer.TheVariants as ca
@@ -70,6 +72,7 @@ use Rattle.mcdec_answers.specs.Printed.{IsPrinted, IsDelivered, status}
 use Rattle.mcdec_words.proofs.OneCommand.{words-unique}
 use Rattle.mcdec_words.proofs.CommandNames.{name_of, named-words, other-name}
 use Rattle.mc_text.proofs.FaultOnce.{bad-once}
+use Rattle.group_text.specs.declared.version.Version.TheVariants.{One}
 use Rattle.proof_text.proofs.Fronts.{fronts, text-front}
 use Rattle.proof_text.proofs.ProofTexts.{proofs-once}
 use Rattle.mcdec_commands.proofs.Groups.{groups-front, groups-more}
@@ -191,7 +194,7 @@ module _ {A : Type 0} (unreadable : ℕ → A) (ill_formed : ℕ → ℕ → A) 
 
   bad-defs : (p : List ℕ) (a b : A) → BadDef ill_formed p a → BadDef ill_formed p b → a ≡ b
   bad-defs p a b (n, c, (ps, g, read, well, count, first), is) (m, d, (qs, h, read', well', count', first'), is') =
-      elim (fronts p (ps ++ bare g ∷ []) (qs ++ bare h ∷ []) read read') [
+      elim (fronts One p (ps ++ bare g ∷ []) (qs ++ bare h ∷ []) read read') [
         | inl m ↦
             let f = groups-front (ps ++ bare g ∷ []) (qs ++ bare h ∷ []) m in
             let r = same-last (groups_of qs) (groups_of ps) f.0 h g (begin-alike ps qs g h f.0 f.1) d first' well in
@@ -212,7 +215,7 @@ module _ {A : Type 0} (unreadable : ℕ → A) (ill_formed : ℕ → ℕ → A) 
 
   def-or-good : (p : List ℕ) (a b : A) → BadDef ill_formed p a → GoodText Says p b → ⊥
   def-or-good p a b (n, c, (ps, g, read, well, count, first), is) (qs, text, fine, said) =
-      let f = groups-front qs (ps ++ bare g ∷ []) (text-front p qs (ps ++ bare g ∷ []) text.fit text.spelled read) in
+      let f = groups-front qs (ps ++ bare g ∷ []) (text-front One p qs (ps ++ bare g ∷ []) text.fit text.spelled read) in
       not-front (groups_of ps) g c f.0 (groups_of qs) first (f.1 ∙ ap (λ (gs : List GroupTree). gs ++ f.0) (groups-more ps (bare g))) fine
 
   bad-or-good : (p : List ℕ) (a b : A) → BadText unreadable p a → GoodText Says p b → ⊥
@@ -228,7 +231,7 @@ module _ {A : Type 0} (unreadable : ℕ → A) (ill_formed : ℕ → ℕ → A) 
   text-once p a b once (inr (inr h)) (inl k) = absurd (bad-or-good p b a k h)
   text-once p a b once (inr (inr h)) (inr (inl k)) = absurd (def-or-good p b a k h)
   text-once p a b once (inr (inr (ps, text, fine, said))) (inr (inr (qs, other, well, says))) =
-      let same : ps ≡ qs = proofs-once ps qs text.fit other.fit (sym text.spelled ∙ other.spelled) in
+      let same : ps ≡ qs = proofs-once One ps qs text.fit other.fit (sym text.spelled ∙ other.spelled) in
       says-once (groups_of qs) a b once (subst (λ (xs : List ProofTree). Says (groups_of xs) a) same said) says
 
 -- ---- files
@@ -343,7 +346,7 @@ judged-unique file text a b (inl h) (inl k) = h.1 ∙ sym k.1
 judged-unique file text a b (inl h) (inr k) = absurd (over (length text) proof_limit h.0 k.0)
 judged-unique file text a b (inr h) (inl k) = absurd (over (length text) proof_limit k.0 h.0)
 judged-unique file text a b (inr (short, (v, some, says, is))) (inr (less, (w, other, said, this))) =
-    is ∙ ap ca.Judged (verdict-once file text v w some other says said) ∙ sym this
+    is ∙ ap ca.Judged (verdict-once no_rule One file text v w some other says said) ∙ sym this
 
 abbrev TextHeld : Contents → List ℕ → List ℕ → CheckAnswer → Type 0
 TextHeld files proof file a = (text : List ℕ) × (files proof ≡ Some text) × JudgedCase file text a
@@ -789,7 +792,7 @@ accepted-files files elf proof file functions lines holds (loaded, (text, held, 
   groups = groups_of good.proofs;
   fit = groups-fit good.proofs good.spelled.fit;
   listed = ap without_proofs good.spelled.spelled ∙ groups-left good.proofs good.spelled.fit;
-  right = accepted-headline file text (verdict.Accepted functions lines) good tt good.proofs good.spelled;
+  right = accepted-headline no_rule no_rule-keeps One (omega arith) file text (verdict.Accepted functions lines) good tt good.proofs good.spelled;
 }
 
 status-zero : (files : Contents) (elf proof file : List ℕ) (a : CheckAnswer) → files elf ≡ Some file → CheckGives (Some files) proof file a → status (answer.Check a) ≡ 0 → AreRightFiles files elf proof

@@ -5,14 +5,16 @@ use Rattle.std.specs.Prelude.{bytes_eq}
 use Rattle.std.specs.Result.{IsErrAnd}
 use Rattle.std.proofs.lemmas.List.{append-nil, length-append}
 use Rattle.mc_text.specs.Fault.{IsBadAt, newlines}
+use Rattle.group_text.specs.declared.version.Version.{Version as Known}
+use Rattle.group_text.specs.Version.{Version, version_of}
 use Rattle.tailrec_lang.specs.declared.group.Group.{Group}
 use Rattle.tailrec_lang.specs.Tree.{GroupTree, group_tree}
 use Rattle.tailrec_lang.specs.WellFormed.{IsWellFormed}
 use Rattle.tailrec_lang.specs.Eval.{HasFewNeeds}
 use Rattle.proof_text.specs.declared.line.Line.{Line}
 use Rattle.proof_text.specs.Line.{LineTree, ProofTree, line_tree}
-use Rattle.proof_text.specs.Proofs.{bare, groups_of, texts_of_proofs}
-use Rattle.proof_text.specs.FirstProofs.{Progress, ItemTree, Opens, Adds, items, passed, with_line, HasGiven, ProofEnds, MayOpen, AreRead, BeginsWithItems}
+use Rattle.proof_text.specs.Proofs.{bare, groups_of, texts_of_proofs_in}
+use Rattle.proof_text.specs.FirstProofs.{Progress, ItemTree, Opens, Adds, items, passed_in, with_line, HasGiven, ProofEnds, MayOpen, AreReadIn, BeginsWithItems}
 use Rattle.proof_text.specs.Answers.{NoItem, OnBad}
 use Rattle.group_text.specs.declared.read_error.TextFault.{TextFault}
 use Rattle.group_text.specs.declared.read_error.TextFault.TheVariants.{Bad, NoMemory}
@@ -20,8 +22,9 @@ use Rattle.proof_text.proofs.TextItems.{items-opened, items-added}
 use Rattle.proof_text.proofs.Fronts.{fronts, front-read, few-read, given-read}
 use Rattle.mcdec_commands.specs.declared.eval.Refusal.{Refusal}
 use Rattle.mcdec_commands.specs.declared.eval.Refusal.TheVariants as refusal
-use Rattle.mcdec_commands.specs.EvalAnswer.{AreWellFormed, HasBadLine, first_named}
-use Rattle.mcdec_commands.specs.inner.Search.{HasPassed, LineIs, LinesArePassed, Passing, NextIs, Finds, FoundSo, Searched}
+use Rattle.checker.specs.inner.Checking.{IsSameText}
+use Rattle.mcdec_commands.specs.EvalAnswer.{AreWellFormed, first_named}
+use Rattle.mcdec_commands.specs.inner.Search.{HasBadLineIn, HasPassed, LineIs, LinesArePassed, Passing, NextIs, FindsIn, FoundSo, Searched}
 
 all-behind : (F : GroupTree → Type 0) (gs : List GroupTree) (g : GroupTree) → AllByRecursion F gs → F g → AllByRecursion F (gs ++ g ∷ [])
 all-behind F [] g h k = (k, tt)
@@ -117,8 +120,9 @@ next-item (p ∷ ps) hs (Adds l) more e = (and_line p ps l, line-behind p ps l)
 
 -- ---- what is read where no further item follows
 
-all-well : (qs : List ProofTree) (r : Progress) → HasGiven qs r → NoItem qs r → AreWellFormed (groups_of qs) → (hs : List ProofTree) → AreRead r.text hs → AreWellFormed (groups_of hs)
-all-well qs r h none well hs read = elim (fronts r.text qs hs (given-read qs r h) read) [ inl m ↦ front m | inr m ↦ behind m.0 m.1 ]
+all-well : (qs : List ProofTree) (r : Progress) → HasGiven qs r → NoItem qs r → AreWellFormed (groups_of qs)
+    → (hs : List ProofTree) → AreReadIn (version_of r.version) r.text hs → AreWellFormed (groups_of hs)
+all-well qs r h none well hs read = elim (fronts r.version r.text qs hs (given-read r.version qs r h) read) [ inl m ↦ front m | inr m ↦ behind m.0 m.1 ]
   where
     front : BeginsWithItems qs hs → AreWellFormed (groups_of hs)
     front m = let f = groups-front qs hs m in all-front IsWellFormed (groups_of hs) f.0 (subst AreWellFormed f.1 well)
@@ -128,12 +132,23 @@ all-well qs r h none well hs read = elim (fronts r.text qs hs (given-read qs r h
     behind (i ∷ more) e =
         let k = next-item qs hs i more e in
         let begins : items hs ≡ items k.0 ++ more = e ∙ sym (append_assoc (items qs) (i ∷ []) more) ∙ ap (λ (is : List ItemTree). is ++ more) (sym k.1) in
-        let a = front-read r.text hs k.0 read (more, begins) in
-        let new : Progress = record { text = r.text; rest = a.0; place = newlines (passed k.0) } in
-        absurd (none i k.0 new refl k.1 (record { fit = a.1.fit; text = a.1.text; place = refl; ended = a.1.ended }))
+        let a = front-read r.version r.text hs k.0 read (more, begins) in
+        let new : Progress = record { version = r.version; text = r.text; rest = a.0; place = newlines (passed_in (version_of r.version) k.0) } in
+        absurd (none i k.0 new refl refl k.1 (record { fit = a.1.fit; text = a.1.text; place = refl; ended = a.1.ended }))
 
-bad-text : (qs : List ProofTree) (r : Progress) (line : ℕ) → HasGiven qs r → IsBadAt texts_of_proofs r.text line → NoItem qs r → AreWellFormed (groups_of qs) → HasBadLine r.text line
+bad-text : (qs : List ProofTree) (r : Progress) (line : ℕ) → HasGiven qs r → IsBadAt (texts_of_proofs_in (version_of r.version)) r.text line → NoItem qs r
+    → AreWellFormed (groups_of qs) → HasBadLineIn (version_of r.version) r.text line
 bad-text qs r line h bad none well = (bad, all-well qs r h none well)
+
+-- ---- one text
+
+-- what is so of a reader's text, in its version, is so of it wherever the reader stands
+same-so : (P : Version → List ℕ → Type 0) (new old : Progress) → IsSameText new old → P (version_of new.version) new.text → P (version_of old.version) old.text
+same-so P new old s h = subst (λ (v : Known). P (version_of v) old.text) s.1 (subst (λ (t : List ℕ). P (version_of new.version) t) s.0 h)
+
+-- the same text as before that
+same-more : (new now old : Progress) → IsSameText new now → IsSameText now old → IsSameText new old
+same-more new now old s t = (s.0 ∙ t.0, s.1 ∙ t.1)
 
 -- ---- the lines of a proof
 
@@ -147,14 +162,14 @@ same-groups ps p q e = groups-more ps p ∙ ap (λ (g : GroupTree). groups_of ps
 module _ (g : GroupTree) (start now : Progress) (s : Passing g start now) where
   pub line-more : (new : Progress) (l : Line) → LineIs g now new (Ok (Some l)) → Passing g start new
   line-more new l k = record {
-    text = k.0 ∙ s.text;
+    text = same-more new now start k.0 s.text;
     no_longer = omega (arith, k.1, s.no_longer);
     given = λ ps p h e. let q = s.given ps p h e in (with_line q.0 (line_tree l), q.1, k.2 ps q.0 q.2 q.1);
   }
 
   pub lines-end : (new : Progress) → LineIs g now new (Ok None) → LinesArePassed g start new (Ok tt)
   lines-end new k = (
-    ap (λ (p : Progress). p.text) k.0 ∙ s.text,
+    same-more new now start (ap (λ (p : Progress). p.text) k.0, ap (λ (p : Progress). p.version) k.0) s.text,
     subst (λ (p : Progress). length p.rest ≤ length start.rest) (sym k.0) s.no_longer,
     λ ps p h e.
         let q = s.given ps p h e in
@@ -165,7 +180,7 @@ module _ (g : GroupTree) (start now : Progress) (s : Passing g start now) where
   lines-stop new last (refusal.Text line) k = λ ps p h e well.
       let q = s.given ps p h e in
       let stop = k ps q.0 q.2 q.1 in
-      subst (λ (t : List ℕ). HasBadLine t line) s.text
+      same-so (λ v t. HasBadLineIn v t line) now start s.text
       (bad-text (ps ++ q.0 ∷ []) now line q.2 stop.0 stop.1 (subst AreWellFormed (same-groups ps p q.0 (e ∙ sym q.1)) well))
   lines-stop new last (refusal.IllFormed m def) k = absurd k
   lines-stop new last refusal.NoFunction k = absurd k
@@ -175,72 +190,78 @@ module _ (g : GroupTree) (start now : Progress) (s : Passing g start now) where
 
 module _ (old : Progress) (ps : List ProofTree) (h : HasPassed ps old) where
   -- no group is read
-  pub group-bad : (line : ℕ) → IsBadAt texts_of_proofs old.text line → NoItem ps old → AreWellFormed (groups_of ps) → HasBadLine old.text line
+  pub group-bad : (line : ℕ) → IsBadAt (texts_of_proofs_in (version_of old.version)) old.text line → NoItem ps old → AreWellFormed (groups_of ps)
+      → HasBadLineIn (version_of old.version) old.text line
   group-bad line bad none well = bad-text ps old line h.given bad none well
 
-  pub group-refused : (f : TextFault) (line : ℕ) → f ≡ Bad line → OnBad {X = Group} (Err f) (λ n. (qs : List ProofTree) → HasGiven qs old → MayOpen qs old.rest → IsBadAt texts_of_proofs old.text n)
-      → OnBad {X = Group} (Err f) (λ n. (qs : List ProofTree) → HasGiven qs old → MayOpen qs old.rest → NoItem qs old) → AreWellFormed (groups_of ps) → HasBadLine old.text line
+  pub group-refused : (f : TextFault) (line : ℕ) → f ≡ Bad line
+      → OnBad {X = Group} (Err f) (λ n. (qs : List ProofTree) → HasGiven qs old → MayOpen qs old.rest → IsBadAt (texts_of_proofs_in (version_of old.version)) old.text n)
+      → OnBad {X = Group} (Err f) (λ n. (qs : List ProofTree) → HasGiven qs old → MayOpen qs old.rest → NoItem qs old) → AreWellFormed (groups_of ps)
+      → HasBadLineIn (version_of old.version) old.text line
   group-refused (Bad n) line e bad none well =
       let same : n ≡ line = cc in
-      subst (λ (k : ℕ). HasBadLine old.text k) same (group-bad n (bad ps h.given h.over) (none ps h.given h.over) well)
+      subst (λ (k : ℕ). HasBadLineIn (version_of old.version) old.text k) same (group-bad n (bad ps h.given h.over) (none ps h.given h.over) well)
   group-refused NoMemory line e bad none well = absurd cc
 
-  -- a group is read, and the lines behind it
-  module _ (g : GroupTree) (mid : Progress) (same : mid.text ≡ old.text) (given : HasGiven (ps ++ bare g ∷ []) mid) where
-    pub group-read : AreRead old.text (ps ++ bare g ∷ [])
-    group-read = subst (λ (t : List ℕ). AreRead t (ps ++ bare g ∷ [])) same (given-read (ps ++ bare g ∷ []) mid given)
-
-    pub lines-passed : (new : Progress) → LinesArePassed g mid new (Ok tt) → (q : ProofTree) × (q.group ≡ g) × HasPassed (ps ++ q ∷ []) new
-    lines-passed new k = k.2 ps (bare g) given refl
-
-    pub lines-bad : (new : Progress) (line : ℕ) → IsWellFormed g → LinesArePassed g mid new (Err (refusal.Text line)) → AreWellFormed (groups_of ps) → HasBadLine old.text line
+  -- a group is read, and a line behind it is none
+  module _ (g : GroupTree) (mid : Progress) (same : IsSameText mid old) (given : HasGiven (ps ++ bare g ∷ []) mid) where
+    pub lines-bad : (new : Progress) (line : ℕ) → IsWellFormed g → LinesArePassed g mid new (Err (refusal.Text line)) → AreWellFormed (groups_of ps)
+        → HasBadLineIn (version_of old.version) old.text line
     lines-bad new line is k well =
-        subst (λ (t : List ℕ). HasBadLine t line) same
+        same-so (λ v t. HasBadLineIn v t line) mid old same
         (k ps (bare g) given refl (subst AreWellFormed (sym (groups-more ps (bare g))) (all-behind IsWellFormed (groups_of ps) g well is)))
+
+-- where the lines of a group are refused, no group is given
+pub lines-refused : (n : ℕ) (old mid new last : Progress) (g : GroupTree) → IsSameText mid old → ((ps : List ProofTree) → HasGiven ps old → HasGiven (ps ++ bare g ∷ []) mid) → IsWellFormed g
+    → (e : Refusal) → LinesArePassed g mid new (Err e) → NextIs n old last (Err e)
+lines-refused n old mid new last g same given is (refusal.Text line) k = λ ps h well. lines-bad old ps h g mid same (given ps h.given) new line is k well
+lines-refused n old mid new last g same given is (refusal.IllFormed m def) k = absurd k
+lines-refused n old mid new last g same given is refusal.NoFunction k = absurd k
+lines-refused n old mid new last g same given is refusal.NoMemory k = tt
 
 -- ---- the search
 
-module _ (text name : List ℕ) (r : Progress) (count : ℕ) (found : Option Group) (s : Searched text name r count found) where
+module _ (start : Progress) (name : List ℕ) (r : Progress) (count : ℕ) (found : Option Group) (s : Searched start name r count found) where
   -- the search stopped
-  pub stopped : (new : Progress) (e : Refusal) → NextIs count r new (Err e) → Finds text name (Err e)
-  stopped new (refusal.Text line) h = subst (λ (t : List ℕ). HasBadLine t line) s.same (h s.proofs s.passed s.well_formed)
+  pub stopped : (new : Progress) (e : Refusal) → NextIs count r new (Err e) → FindsIn (version_of start.version) start.text name (Err e)
+  stopped new (refusal.Text line) h = same-so (λ v t. HasBadLineIn v t line) r start s.same (h s.proofs s.passed s.well_formed)
   stopped new (refusal.IllFormed m def) h =
-      (s.proofs, h.1, subst (λ (t : List ℕ). AreRead t (s.proofs ++ bare h.1 ∷ [])) s.same (h.3 s.proofs s.passed), s.well_formed, h.0 ∙ s.counted, h.2)
+      (s.proofs, h.1, same-so (λ v t. AreReadIn v t (s.proofs ++ bare h.1 ∷ [])) r start s.same (h.3 s.proofs s.passed), s.well_formed, h.0 ∙ s.counted, h.2)
   stopped new refusal.NoFunction h = absurd h
   stopped new refusal.NoMemory h = tt
 
   -- an item takes a byte
-  no-more-than : count ≤ length text
+  no-more-than : count ≤ length start.text
   no-more-than =
-      let n : length r.text ≡ length text = ap length s.same in
-      omega (arith, few-read r.text s.proofs (given-read s.proofs r s.passed.given), few-proofs s.proofs, s.counted, n)
+      let n : length r.text ≡ length start.text = ap length s.same.0 in
+      omega (arith, few-read r.version r.text s.proofs (given-read r.version s.proofs r s.passed.given), few-proofs s.proofs, s.counted, n)
     where
       few-proofs : (ps : List ProofTree) → length ps ≤ length (items ps)
       few-proofs [] = omega arith
       few-proofs (p ∷ ps) = omega (arith, few-proofs ps, length-append (map Adds p.lines) (items ps))
 
   -- so they can be counted
-  pub count-fits : length text < 2 ^ 63 → count + 1 < 2 ^ 64
+  pub count-fits : length start.text < 2 ^ 63 → count + 1 < 2 ^ 64
   count-fits low = omega (arith, no-more-than, low)
 
   -- the search goes on
-  pub more : (new : Progress) (g : Group) (now : Option Group) → NextIs count r new (Ok (Some g)) → ((gs : List GroupTree) → FoundSo name gs found → FoundSo name (gs ++ group_tree g ∷ []) now) → Searched text name new (count + 1) now
+  pub more : (new : Progress) (g : Group) (now : Option Group) → NextIs count r new (Ok (Some g)) → ((gs : List GroupTree) → FoundSo name gs found → FoundSo name (gs ++ group_tree g ∷ []) now) → Searched start name new (count + 1) now
   more new g now h keep =
       let q = h.4 s.proofs s.passed in
       let groups : groups_of (s.proofs ++ q.0 ∷ []) ≡ groups_of s.proofs ++ group_tree g ∷ [] = groups-more s.proofs q.0 ∙ ap (λ (x : GroupTree). groups_of s.proofs ++ x ∷ []) q.1 in
       record {
         proofs = s.proofs ++ q.0 ∷ [];
         passed = q.2;
-        same = h.0 ∙ s.same;
+        same = same-more new r start h.0 s.same;
         well_formed = subst AreWellFormed (sym groups) (all-behind IsWellFormed (groups_of s.proofs) (group_tree g) s.well_formed h.2);
         counted = omega (arith, s.counted, length-append s.proofs (q.0 ∷ []));
         so = subst (λ (gs : List GroupTree). FoundSo name gs now) (sym groups) (keep (groups_of s.proofs) s.so);
       }
 
 -- the exit of a `?`
-pub found-exit : (text name : List ℕ) (result : Result Group Refusal) (e : Refusal) → IsErrAnd result (λ y. y ≡ e) → Finds text name (Err e) → Finds text name result
-found-exit text name (Ok g) e is h = absurd is
-found-exit text name (Err y) e is h = subst (λ (x : Refusal). Finds text name (Err x)) (sym is) h
+pub found-exit : (v : Version) (text name : List ℕ) (result : Result Group Refusal) (e : Refusal) → IsErrAnd result (λ y. y ≡ e) → FindsIn v text name (Err e) → FindsIn v text name result
+found-exit v text name (Ok g) e is h = absurd is
+found-exit v text name (Err y) e is h = subst (λ (x : Refusal). FindsIn v text name (Err x)) (sym is) h
 
 pub passed-exit : (g : GroupTree) (old new : Progress) (result : Result (Unit {0}) Refusal) (e : Refusal) → IsErrAnd result (λ y. y ≡ e) → LinesArePassed g old new (Err e) → LinesArePassed g old new result
 passed-exit g old new (Ok done) e is h = absurd is

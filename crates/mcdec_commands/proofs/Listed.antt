@@ -1,5 +1,5 @@
 -- Without the lines of proofs the text of proofs is that of their groups.
-use Rattle.std.proofs.Common.{◌≡◌, ℕ, suc, Bool, true, false, cond, eqb, not, List, [], ◌∷◌, ◌++◌, codes, filter, refl, sym, ap, subst, ◌∙◌, arith, append_assoc, flat_map}
+use Rattle.std.proofs.Common.{true≢false, ◌≡◌, ℕ, suc, Bool, true, false, cond, eqb, not, List, [], ◌∷◌, ◌++◌, codes, filter, refl, sym, ap, subst, ◌∙◌, arith, append_assoc, flat_map}
 use Rattle.std.specs.List.{AllByRecursion, onto_first}
 use Rattle.mc_text.specs.Fault.{newlines}
 use Rattle.mc_text.specs.Tokens.{Tok, Semi, Atom, Eol, newline, gap, token_bytes, before_next, spell}
@@ -14,12 +14,13 @@ use Rattle.term_text.proofs.TermFacts.{word-flat, mem-flat, cond-flat, range-fla
 use Rattle.tailrec_lang.specs.Tree.{ValuesTree, StepTree, Bind, BindMem, Need, BodyTree, Do, Branch, Call, Again, Leave, ArmTrees, NoArm, Arm, DefTree, GroupTree}
 use Rattle.tailrec_lang.specs.declared.group.Exit.{Exit}
 use Rattle.tailrec_lang.specs.declared.group.Exit.TheVariants.{At, Ret}
-use Rattle.proof_text.specs.Line.{RuleTree, Axiom, Inst, Frame, Compose, ExtendCode, Strengthen, Weaken, Discharge, UseExit, LineTree, States, Loop, Forget, ProofTree}
+use Rattle.proof_text.specs.Line.{RuleTree, Axiom, Inst, Frame, Compose, ExtendCode, Strengthen, Weaken, Discharge, UseExit, LineTree, States, Loop, Forget, Further, ProofTree}
 use Rattle.proof_text.specs.LineLimits.{IsLine}
 use Rattle.proof_text.specs.LineSpelling.{rule_tokens, line_tokens}
 use Rattle.group_text.specs.Limits.{AreGroups}
 use Rattle.proof_text.specs.Proofs.{proof_tokens, text_of_proofs, AreProofs, groups_of}
 use Rattle.group_text.specs.Spelling.{line, number, address, exit_tokens, values_tokens, step_tokens, arm_count, body_tokens, arm_tokens, def_tokens, group_tokens, head_tokens, end_tokens, text_of}
+use Rattle.group_text.specs.declared.version.Version.TheVariants.{One}
 use Rattle.proof_text.proofs.LineTokens.{line-is-tokens}
 use Rattle.group_text.proofs.Real.{group-tokens, title-tokens}
 use Rattle.proof_text.proofs.RuleLaws.{facts, rule_row, rule-flat}
@@ -242,12 +243,13 @@ proof-line-goes own (States rule t) h =
     ∙ append_assoc (rule_tokens rule) facts (rest ++ Eol ∷ [])
     ∙ ap (λ (ts : List Tok). rule_tokens rule ++ (ts ++ Eol ∷ [])) (sym (triple-spelled own t)) in
     let flat = flat-append (rule_row rule) rest (rule-flat rule h.0) (triple-flat own t h.1) in
-    let real = subst AreTokens (sym e) (line-is-tokens own (States rule t) h) in
+    let real = subst AreTokens (sym e) (line-is-tokens One own (States rule t) h) in
     subst Goes e (row-goes (rule_row rule ++ rest) flat (rule-named rule rest) real)
 proof-line-goes own (Loop def cited) h =
     let parts : List (List Tok) = number def ∷ flat_map number cited ∷ [] in
-    line-goes (codes "loop") parts (number-flat def, (each-flat number number-flat cited, tt)) refl (line-is-tokens own (Loop def cited) h)
-proof-line-goes own (Forget k) h = line-goes (codes "forget") (number k ∷ []) (number-flat k, tt) refl (line-is-tokens own (Forget k) h)
+    line-goes (codes "loop") parts (number-flat def, (each-flat number number-flat cited, tt)) refl (line-is-tokens One own (Loop def cited) h)
+proof-line-goes own (Forget k) h = line-goes (codes "forget") (number k ∷ []) (number-flat k, tt) refl (line-is-tokens One own (Forget k) h)
+proof-line-goes own (Further p t) h = absurd (true≢false (sym h.0))
 
 proof-lines-go : (own : List Range) (ls : List LineTree) → AllByRecursion IsLine ls
     → (us vs : List Tok) → AreSame us vs → AreSame (flat_map (line_tokens own) ls ++ us) vs
@@ -275,11 +277,11 @@ proofs-same (p ∷ ps) h =
     let group_apart = append_assoc (group_tokens p.group) (flat_map group_tokens (groups_of ps)) end_tokens in
     let behind = proof-lines-go p.group.code p.lines h.0.lines (proofs_rest ps) (groups_rest ps) (proofs-same ps h.1) in
     ap (λ (ts : List Tok). without_proofs (spell Start ts)) (item_apart ∙ lines_apart)
-    ∙ (group-stays p.group (group-tokens p.group h.0.group)).same (lines ++ proofs_rest ps) (groups_rest ps) behind
+    ∙ (group-stays p.group (group-tokens One p.group h.0.group)).same (lines ++ proofs_rest ps) (groups_rest ps) behind
     ∙ ap (λ (ts : List Tok). lines_of (spell Start ts)) (sym group_apart)
 
 head-stays : Stays head_tokens
-head-stays = line-stays (codes "mcproof") ((Atom (codes "1") ∷ []) ∷ []) (atom-flat (codes "1") [] tt, tt) refl title-tokens
+head-stays = line-stays (codes "mcproof") ((Atom (codes "1") ∷ []) ∷ []) (atom-flat (codes "1") [] tt, tt) refl (title-tokens One)
 
 pub groups-left : (ps : List ProofTree) → AreProofs ps → without_proofs (text_of_proofs ps) ≡ lines_of (text_of (groups_of ps))
 groups-left ps h = head-stays.same (proofs_rest ps) (groups_rest ps) (proofs-same ps h)

@@ -1,16 +1,18 @@
 //! The command `eval`.
 
-ghost use Rattle.std.specs.Prelude.{◌≡◌, ℕ, ◌≤◌, List, [], ◌∷◌, ◌++◌, All, length, map, IfOk};
+ghost use Rattle.std.specs.Prelude.{◌≡◌, ℕ, ◌≤◌, ◌<◌, ◌^◌, List, [], ◌∷◌, ◌++◌, All, length, map, IfOk};
 ghost use Rattle.mc_shelf.specs.Fault.{Rose};
 ghost use Rattle.tailrec_lang.specs.Tree.{GroupTree, group_tree};
 ghost use Rattle.tailrec_lang.specs.Eval.{HasFewNeeds};
 ghost use Rattle.tailrec_lang.specs.WellFormed.{IsWellFormed};
-ghost use Rattle.group_text.specs.Limits.{IsGroup};
+ghost use Rattle.group_text.specs.Limits.{IsGroup, IsGroupIn};
+ghost use Rattle.group_text.specs.Version.{version_of};
+ghost use Rattle.proof_text.specs.FirstProofs.{HasGiven};
 ghost use Rattle.mcdec_commands.specs.Answer.{Gives, ReadsAreTold};
 ghost use Rattle.mcdec_words.specs.Command.{Arg, AreArgs, IsMemory};
 ghost use Rattle.mcdec_words.specs.CommandReading.{HoldsArgs, IsReadEval, value_in};
 ghost use Rattle.mcdec_commands.specs.EvalAnswer.{EvalGives, proof_limit};
-ghost use Rattle.mcdec_commands.specs.inner.Search.{Finds, FoundSo, GroupGives, LineIs, LinesArePassed, NextIs};
+ghost use Rattle.mcdec_commands.specs.inner.Search.{Finds, FindsIn, FoundSo, GroupGives, LineIs, LinesArePassed, NextIs};
 
 use crate::memory::{memories, ranges_in};
 use mc_shelf::{ReadEnd, Shelf, read_file};
@@ -81,9 +83,18 @@ pub fn find_group(alloc: Global, text: &[u8], name: &[u8]) -> Result<Group, Refu
     ensures { Finds text.now name.now result }
 {
     let mut reader = Reader::new(text);
+    find_in(alloc, &mut reader, name)
+}
+
+/// The first group of that name in a text of the reader's version, of which nothing was read.
+fn find_in(alloc: Global, reader: &mut Reader<'_>, name: &[u8]) -> Result<Group, Refusal>
+    requires start { HasGiven [] reader.old }
+    requires within { length reader.old.text < 2 ^ 63 }
+    ensures { FindsIn (version_of reader.old.version) reader.old.text name.now result }
+{
     let mut found = None;
     let mut count = 0;
-    while let Some(g) = next_group(alloc, &mut reader, count)? {
+    while let Some(g) = next_group(alloc, reader, count)? {
         found = first_named(found, g, name);
         count += 1;
     }
@@ -130,7 +141,7 @@ fn next_group(alloc: Global, reader: &mut Reader<'_>, number: u64) -> Result<Opt
 
 /// Reads the lines of a group's proof, up to where they end.
 fn pass_lines(alloc: Global, reader: &mut Reader<'_>, g: &Group) -> Result<(), Refusal>
-    requires { IsGroup (group_tree g.now) }
+    requires { IsGroupIn (version_of reader.old.version) (group_tree g.now) }
     ensures { LinesArePassed (group_tree g.now) reader.old reader.new result }
 {
     while let Some(_) = next_line(alloc, reader, g)? {}
@@ -139,7 +150,7 @@ fn pass_lines(alloc: Global, reader: &mut Reader<'_>, g: &Group) -> Result<(), R
 
 /// The next line of a group's proof, or none where they end.
 fn next_line(alloc: Global, reader: &mut Reader<'_>, g: &Group) -> Result<Option<Line>, Refusal>
-    requires { IsGroup (group_tree g.now) }
+    requires { IsGroupIn (version_of reader.old.version) (group_tree g.now) }
     ensures { LineIs (group_tree g.now) reader.old reader.new result }
 {
     match reader.line(alloc, g) {

@@ -9,7 +9,7 @@ use Rattle.tailrec_lang.specs.declared.group.Exit.TheVariants.{At}
 use Rattle.tailrec_lang.specs.Tree.{BodyTree, DefTree, GroupTree}
 use Rattle.triple_kernel.specs.Tree.{Gives, TripleTree}
 use Rattle.proof_text.specs.declared.line.Line.{Line}
-use Rattle.proof_text.specs.Line.{LineTree, States, Loop, Forget, line_tree}
+use Rattle.proof_text.specs.Line.{LineTree, States, Loop, Forget, Further, line_tree}
 use Rattle.proof_text.specs.LineLimits.{IsLine}
 use Rattle.loop_rule.specs.Tree.{LeafTree}
 use Rattle.loop_rule.specs.Leaves.{body_leaves, leaves_of}
@@ -199,6 +199,7 @@ stated-push [] l = omega arith
 stated-push (States rule t ∷ ls) l = let rest = stated-push ls l in omega (arith, rest)
 stated-push (Loop d cited ∷ ls) l = stated-push ls l
 stated-push (Forget k ∷ ls) l = stated-push ls l
+stated-push (Further p t ∷ ls) l = let rest = stated-push ls l in omega (arith, rest)
 
 -- one more line is counted
 pub one_stated : (xs : List Line) (i : ℕ) (x : Line) → i < length xs → x ≡ get_or xs i x → stated (map line_tree (take (i + 1) xs)) ≡ stated (map line_tree (take i xs)) + stated (line_tree x ∷ [])

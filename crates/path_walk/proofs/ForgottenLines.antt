@@ -9,7 +9,7 @@ use Rattle.tailrec_lang.specs.Tree.{GroupTree}
 use Rattle.triple_kernel.specs.Tree.{TripleTree}
 use Rattle.proof_text.specs.declared.line.Line.{Line}
 use Rattle.proof_text.specs.declared.line.Line.TheVariants as line
-use Rattle.proof_text.specs.Line.{LineTree, States, Loop, Forget, line_tree}
+use Rattle.proof_text.specs.Line.{LineTree, States, Loop, Forget, line_tree, Further}
 use Rattle.proof_text.specs.LineLimits.{IsLine}
 use Rattle.checker.specs.Instance.{AreInstances, History, after_line, after_lines, no_lines, with_closed, with_theorem, without}
 use Rattle.path_walk.specs.Forgotten.{KeepsNone}
@@ -66,6 +66,9 @@ older-none h [] j low e = e
 older-none h (States rule t ∷ ls) j low e =
     let other : eqb j h.next ≡ false = ne_eqb j h.next (λ d. absurd (omega (arith, d, low))) in
     older-none (with_theorem t h) ls j (omega (arith, low)) ((λ i. cond (other i) (Some t) (h.theorem j)) ∙ e)
+older-none h (Further p t ∷ ls) j low e =
+    let other : eqb j h.next ≡ false = ne_eqb j h.next (λ d. absurd (omega (arith, d, low))) in
+    older-none (with_theorem t h) ls j (omega (arith, low)) ((λ i. cond (other i) (Some t) (h.theorem j)) ∙ e)
 older-none h (Loop d cited ∷ ls) j low e = older-none (with_closed d h) ls j low e
 older-none h (Forget k ∷ ls) j low e = older-none (without k h) ls j low (none-without h k j e)
 
@@ -82,6 +85,7 @@ next-after h [] = omega arith
 next-after h (States rule t ∷ lines) = let rest = next-after (after_line h (States rule t)) lines in omega (arith, rest)
 next-after h (Loop d cited ∷ lines) = next-after (after_line h (Loop d cited)) lines
 next-after h (Forget k ∷ lines) = next-after (after_line h (Forget k)) lines
+next-after h (Further p t ∷ lines) = let rest = next-after (after_line h (Further p t)) lines in omega (arith, rest)
 
 -- none is kept of those that the lines stated
 kept-none : (h : History) (ls : List LineTree) → IsCounted h → KeepsNone h → KeepsNone (fold after_line (fold after_line h ls) (forgets h.next (stated ls)))
@@ -130,6 +134,11 @@ stays-there h (States rule t ∷ ls) j all e = stays-there (with_theorem t h) ls
     go : (b : Bool) → is_some (cond b (Some t) (h.theorem j)) ≡ true
     go true = refl
     go false = e
+stays-there h (Further p t ∷ ls) j all e = stays-there (with_theorem t h) ls j all.1 (go (eqb j h.next))
+  where
+    go : (b : Bool) → is_some (cond b (Some t) (h.theorem j)) ≡ true
+    go true = refl
+    go false = e
 stays-there h (Loop d cited ∷ ls) j all e = absurd all.0
 stays-there h (Forget k ∷ ls) j all e = absurd all.0
 
@@ -137,6 +146,11 @@ stays-there h (Forget k ∷ ls) j all e = absurd all.0
 stated-there : (h : History) (ls : List LineTree) (j : ℕ) → AllByRecursion IsStating ls → h.next ≤ j → j < h.next + stated ls → is_some ((fold after_line h ls).theorem j) ≡ true
 stated-there h [] j all low high = absurd (omega (arith, low, high))
 stated-there h (States rule t ∷ ls) j all low high = go (eqb j h.next) refl (λ low high. stated-there (with_theorem t h) ls j all.1 low high)
+  where
+    go : (b : Bool) → eqb j h.next ≡ b → (h.next + 1 ≤ j → j < h.next + 1 + stated ls → is_some ((fold after_line (with_theorem t h) ls).theorem j) ≡ true) → is_some ((fold after_line (with_theorem t h) ls).theorem j) ≡ true
+    go true is on = stays-there (with_theorem t h) ls j all.1 (λ i. is_some (cond (is i) (Some t) (h.theorem j)))
+    go false is on = let other = eqb-false j h.next is in on (omega (arith, low, other)) (omega (arith, high))
+stated-there h (Further p t ∷ ls) j all low high = go (eqb j h.next) refl (λ low high. stated-there (with_theorem t h) ls j all.1 low high)
   where
     go : (b : Bool) → eqb j h.next ≡ b → (h.next + 1 ≤ j → j < h.next + 1 + stated ls → is_some ((fold after_line (with_theorem t h) ls).theorem j) ≡ true) → is_some ((fold after_line (with_theorem t h) ls).theorem j) ≡ true
     go true is on = stays-there (with_theorem t h) ls j all.1 (λ i. is_some (cond (is i) (Some t) (h.theorem j)))

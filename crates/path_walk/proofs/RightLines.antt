@@ -2,7 +2,7 @@
 use Rattle.std.proofs.Common.{◌≡◌, ℕ, ◌+◌, ◌<◌, List, [], ◌∷◌, ◌++◌, Bool, true, false, cond, eqb, fold, refl, arith, Some, None, eqb-true}
 use Rattle.tailrec_lang.specs.Tree.{GroupTree}
 use Rattle.triple_kernel.specs.Tree.{TripleTree}
-use Rattle.proof_text.specs.Line.{RuleTree, LineTree, States, Loop, Forget}
+use Rattle.proof_text.specs.Line.{RuleTree, LineTree, States, Loop, Forget, Further}
 use Rattle.path_walk.specs.inner.Histories.{IsCounted, Keeps}
 use Rattle.checker.specs.Instance.{History, no_lines, without, with_closed, with_theorem, after_line, Meets, AreInstances}
 
@@ -57,6 +57,7 @@ held_last t h = λ i. cond (test-same h.next i) (Some t) (h.theorem h.next)
 pub lines-counted : (h : History) (ls : List LineTree) → IsCounted h → IsCounted (fold after_line h ls)
 lines-counted h [] c = c
 lines-counted h (States rule t ∷ ls) c = lines-counted (with_theorem t h) ls (λ j s e. below-next h j s t c e)
+lines-counted h (Further p t ∷ ls) c = lines-counted (with_theorem t h) ls (λ j s e. below-next h j s t c e)
 lines-counted h (Loop d cited ∷ ls) c = lines-counted (with_closed d h) ls c
 lines-counted h (Forget i ∷ ls) c = lines-counted (without i h) ls (λ j s e. kept j s e)
   where

@@ -25,7 +25,7 @@ module _ (code : Bytes) (entry : ℕ) (g : GraphOf) (f : ForestOf) (parts : List
   is-group name ranges named are bytes = record {
     name = named;
     registers = registers-rise g.instrs;
-    memories = one (list_any has_memory g.instrs);
+    memories = (omega arith, one (list_any has_memory g.instrs));
     code = are;
     bytes = bytes;
     defs = all parts;

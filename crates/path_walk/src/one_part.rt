@@ -36,6 +36,7 @@ fn count_of(line: &Line) -> u64
 {
     match line {
         Line::States { .. } => 1,
+        Line::Further { .. } => 1,
         Line::Loop { .. } => 0,
         Line::Forget(_) => 0,
     }

@@ -94,7 +94,7 @@ module _ (number size : ℕ) (small : size ≤ 600) (item : Item) (is : IsItemFo
         present = λ a h. never (is_within (empty_regions g) a) (nowhere g.mems a) h;
         beside_code = λ a b h. nowhere g.mems a;
         apart = λ i j d h l. absurd (
-            let few : g.mems ≤ 1 = is.text.group.memories in
+            let few : g.mems ≤ 1 = is.text.group.memories.1 in
             let long : length (empty_regions g) ≡ g.mems = length-replicate g.mems (λ q. false) in
             omega (arith, few, long, h, l));
       }

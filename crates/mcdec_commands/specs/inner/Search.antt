@@ -1,21 +1,41 @@
 -- What is found in the text of a proof file, group by group, and what evaluation of a group's function comes to.
 use Rattle.std.specs.Prelude.{◌≡◌, ℕ, List, [], ◌∷◌, ◌++◌, ◌-◌, ◌<◌, ◌≤◌, length, Option, Some, None, Result, Ok, Err}
 use Rattle.mc_text.specs.Fault.{IsBadAt}
+use Rattle.group_text.specs.Version.{Version, version_of}
 use Rattle.tailrec_lang.specs.declared.group.Group.{Group}
 use Rattle.tailrec_lang.specs.Tree.{GroupTree, group_tree, listed_def}
 use Rattle.tailrec_lang.specs.WellFormed.{IsWellFormed, IsFirstIllFormed}
 use Rattle.tailrec_lang.specs.Eval.{Arguments, Done, SideFalse, Turns, HasFewNeeds, eval}
 use Rattle.proof_text.specs.Line.{ProofTree, line_tree}
-use Rattle.proof_text.specs.Proofs.{bare, groups_of, text_of_proofs, texts_of_proofs}
-use Rattle.proof_text.specs.FirstProofs.{Progress, HasGiven, MayOpen, ProofEnds, AreRead, with_line}
+use Rattle.proof_text.specs.Proofs.{AreProofsIn, bare, groups_of, text_of_proofs_in, texts_of_proofs_in}
+use Rattle.proof_text.specs.FirstProofs.{Progress, HasGiven, MayOpen, ProofEnds, AreReadIn, with_line}
 use Rattle.proof_text.specs.Answers.{NoItem}
 use Rattle.proof_text.specs.declared.line.Line.{Line}
+use Rattle.checker.specs.inner.Checking.{IsSameText}
 use Rattle.mcdec_commands.specs.declared.eval.Refusal.{Refusal}
 use Rattle.mcdec_commands.specs.declared.eval.Refusal.TheVariants as refusal
 use Rattle.mcdec_answers.specs.declared.answer.EvalAnswer.{EvalAnswer}
 use Rattle.mcdec_answers.specs.declared.answer.EvalAnswer.TheVariants as answer
 use Rattle.mcdec_words.specs.Command.{Arg}
 use Rattle.mcdec_commands.specs.EvalAnswer.{AreWellFormed, HasBadDef, HasBadLine, IsNamed, arguments_given, first_named, shown_of}
+
+-- ---- what is said of texts of version 1 in EvalAnswer.antt, of texts of any version
+
+pub record IsNamedIn (v : Version) (text name : List ℕ) (found : Option GroupTree) : Type 0 where
+  pub proofs : List ProofTree
+  pub fit : AreProofsIn v proofs
+  pub spelled : text ≡ text_of_proofs_in v proofs
+  pub well_formed : AreWellFormed (groups_of proofs)
+  pub first : first_named name (groups_of proofs) ≡ found
+
+abbrev pub HasBadLineIn : (v : Version) (text : List ℕ) (line : ℕ) → Type 0
+HasBadLineIn v text line = IsBadAt (texts_of_proofs_in v) text line × ((ps : List ProofTree) → AreReadIn v text ps → AreWellFormed (groups_of ps))
+
+abbrev pub HasBadDefIn : (v : Version) (text : List ℕ) (group def : ℕ) → Type 0
+HasBadDefIn v text group def =
+    (ps : List ProofTree) × (g : GroupTree) × AreReadIn v text (ps ++ bare g ∷ []) × AreWellFormed (groups_of ps) × (group ≡ length ps) × IsFirstIllFormed g def
+
+-- ---- reading on
 
 -- these proofs were given, and the lines of the last one have ended
 pub record HasPassed (ps : List ProofTree) (r : Progress) : Type 0 where
@@ -25,42 +45,52 @@ pub record HasPassed (ps : List ProofTree) (r : Progress) : Type 0 where
 -- the next line of a group's proof, or why there is none
 abbrev pub LineIs : GroupTree → Progress → Progress → Result (Option Line) Refusal → Type 0
 LineIs g old new (Ok None) = (new ≡ old) × ProofEnds old.rest
-LineIs g old new (Ok (Some l)) = (new.text ≡ old.text) × (length new.rest < length old.rest)
+LineIs g old new (Ok (Some l)) = IsSameText new old × (length new.rest < length old.rest)
     × ((ps : List ProofTree) (p : ProofTree) → HasGiven (ps ++ p ∷ []) old → p.group ≡ g → HasGiven (ps ++ with_line p (line_tree l) ∷ []) new)
 LineIs g old new (Err (refusal.Text line)) = (ps : List ProofTree) (p : ProofTree) → HasGiven (ps ++ p ∷ []) old → p.group ≡ g
-    → IsBadAt texts_of_proofs old.text line × NoItem (ps ++ p ∷ []) old
+    → IsBadAt (texts_of_proofs_in (version_of old.version)) old.text line × NoItem (ps ++ p ∷ []) old
 LineIs g old new (Err (refusal.IllFormed m def)) = ⊥
 LineIs g old new (Err refusal.NoFunction) = ⊥
 LineIs g old new (Err refusal.NoMemory) = Unit {0}
 
 -- the lines of a group's proof were passed over, or why not
 abbrev pub LinesArePassed : GroupTree → Progress → Progress → Result (Unit {0}) Refusal → Type 0
-LinesArePassed g old new (Ok done) = (new.text ≡ old.text) × (length new.rest ≤ length old.rest)
+LinesArePassed g old new (Ok done) = IsSameText new old × (length new.rest ≤ length old.rest)
     × ((ps : List ProofTree) (p : ProofTree) → HasGiven (ps ++ p ∷ []) old → p.group ≡ g → (q : ProofTree) × (q.group ≡ g) × HasPassed (ps ++ q ∷ []) new)
 LinesArePassed g old new (Err (refusal.Text line)) = (ps : List ProofTree) (p : ProofTree) → HasGiven (ps ++ p ∷ []) old → p.group ≡ g
-    → AreWellFormed (groups_of (ps ++ p ∷ [])) → HasBadLine old.text line
+    → AreWellFormed (groups_of (ps ++ p ∷ [])) → HasBadLineIn (version_of old.version) old.text line
 LinesArePassed g old new (Err (refusal.IllFormed m def)) = ⊥
 LinesArePassed g old new (Err refusal.NoFunction) = ⊥
 LinesArePassed g old new (Err refusal.NoMemory) = Unit {0}
 
 -- so far the lines of a group's proof were passed over
 pub record Passing (g : GroupTree) (start now : Progress) : Type 0 where
-  pub text : now.text ≡ start.text
+  pub text : IsSameText now start
   pub no_longer : length now.rest ≤ length start.rest
   pub given : (ps : List ProofTree) (p : ProofTree) → HasGiven (ps ++ p ∷ []) start → p.group ≡ g → (q : ProofTree) × (q.group ≡ g) × HasGiven (ps ++ q ∷ []) now
 
 -- the next group, or why there is none
 abbrev pub NextIs : ℕ → Progress → Progress → Result (Option Group) Refusal → Type 0
-NextIs n old new (Ok None) = (ps : List ProofTree) → HasPassed ps old → old.text ≡ text_of_proofs ps
-NextIs n old new (Ok (Some g)) = (new.text ≡ old.text) × (length new.rest < length old.rest) × IsWellFormed (group_tree g) × HasFewNeeds (group_tree g)
+NextIs n old new (Ok None) = (ps : List ProofTree) → HasPassed ps old → old.text ≡ text_of_proofs_in (version_of old.version) ps
+NextIs n old new (Ok (Some g)) = IsSameText new old × (length new.rest < length old.rest) × IsWellFormed (group_tree g) × HasFewNeeds (group_tree g)
     × ((ps : List ProofTree) → HasPassed ps old → (q : ProofTree) × (q.group ≡ group_tree g) × HasPassed (ps ++ q ∷ []) new)
-NextIs n old new (Err (refusal.Text line)) = (ps : List ProofTree) → HasPassed ps old → AreWellFormed (groups_of ps) → HasBadLine old.text line
+NextIs n old new (Err (refusal.Text line)) = (ps : List ProofTree) → HasPassed ps old → AreWellFormed (groups_of ps) → HasBadLineIn (version_of old.version) old.text line
 NextIs n old new (Err (refusal.IllFormed m def)) = (m ≡ n) × (g : GroupTree) × IsFirstIllFormed g def
-    × ((ps : List ProofTree) → HasPassed ps old → AreRead old.text (ps ++ bare g ∷ []))
+    × ((ps : List ProofTree) → HasPassed ps old → AreReadIn (version_of old.version) old.text (ps ++ bare g ∷ []))
 NextIs n old new (Err refusal.NoFunction) = ⊥
 NextIs n old new (Err refusal.NoMemory) = Unit {0}
 
--- what a text has for a name
+-- ---- what was found
+
+-- what a text of that version has for a name
+abbrev pub FindsIn : Version → List ℕ → List ℕ → Result Group Refusal → Type 0
+FindsIn v text name (Ok g) = IsNamedIn v text name (Some (group_tree g)) × HasFewNeeds (group_tree g)
+FindsIn v text name (Err (refusal.Text line)) = HasBadLineIn v text line
+FindsIn v text name (Err (refusal.IllFormed n def)) = HasBadDefIn v text n def
+FindsIn v text name (Err refusal.NoFunction) = IsNamedIn v text name None
+FindsIn v text name (Err refusal.NoMemory) = Unit {0}
+
+-- what a text of version 1 has for a name
 abbrev pub Finds : List ℕ → List ℕ → Result Group Refusal → Type 0
 Finds text name (Ok g) = IsNamed text name (Some (group_tree g)) × HasFewNeeds (group_tree g)
 Finds text name (Err (refusal.Text line)) = HasBadLine text line
@@ -73,11 +103,11 @@ abbrev pub FoundSo : List ℕ → List GroupTree → Option Group → Type 0
 FoundSo name gs None = first_named name gs ≡ None
 FoundSo name gs (Some g) = (first_named name gs ≡ Some (group_tree g)) × HasFewNeeds (group_tree g)
 
--- proofs that a reader has given of a text, whose groups are well-formed and as many as were counted, and what was found among them
-pub record Searched (text name : List ℕ) (r : Progress) (count : ℕ) (found : Option Group) : Type 0 where
+-- proofs that a reader has given since its start, whose groups are well-formed and as many as were counted, and what was found among them
+pub record Searched (start : Progress) (name : List ℕ) (r : Progress) (count : ℕ) (found : Option Group) : Type 0 where
   pub proofs : List ProofTree
   pub passed : HasPassed proofs r
-  pub same : r.text ≡ text
+  pub same : IsSameText r start
   pub well_formed : AreWellFormed (groups_of proofs)
   pub counted : count ≡ length proofs
   pub so : FoundSo name (groups_of proofs) found

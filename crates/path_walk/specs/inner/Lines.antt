@@ -7,7 +7,7 @@ use Rattle.tailrec_lang.specs.declared.group.Exit.{Exit}
 use Rattle.tailrec_lang.specs.Tree.{ArmTrees}
 use Rattle.triple_kernel.specs.Tree.{FactTree}
 use Rattle.loop_rule.specs.Leaves.{arm_leaves}
-use Rattle.proof_text.specs.Line.{LineTree, Forget, Loop, States}
+use Rattle.proof_text.specs.Line.{LineTree, Forget, Loop, States, Further}
 use Rattle.code_parts.specs.declared.part.Part.{Part}
 use Rattle.code_parts.specs.Bodies.{Flow, VariableMap, current, part_def}
 use Rattle.path_walk.specs.Closed.{ArmsClosed}
@@ -20,6 +20,7 @@ stated [] = 0
 stated (States rule t ∷ lines) = suc (stated lines)
 stated (Loop d cited ∷ lines) = stated lines
 stated (Forget k ∷ lines) = stated lines
+stated (Further p t ∷ lines) = suc (stated lines)
 
 -- lines that forget so many theorems, from that number on
 abbrev pub forgets : (first count : ℕ) → List LineTree

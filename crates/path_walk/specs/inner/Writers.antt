@@ -15,7 +15,7 @@ use Rattle.loop_rule.specs.Tree.{LeafTree}
 use Rattle.loop_rule.specs.Leaves.{body_leaves}
 use Rattle.loop_rule.specs.Rule.{LeadsTo}
 use Rattle.proof_text.specs.declared.line.Line.{Line}
-use Rattle.proof_text.specs.Line.{LineTree, RuleTree, States, Loop, Forget, line_tree}
+use Rattle.proof_text.specs.Line.{LineTree, RuleTree, States, Loop, Forget, line_tree, Further}
 use Rattle.proof_text.specs.LineLimits.{IsFact, IsLine}
 use Rattle.checker.specs.Instance.{AreInstances, History, after_line, after_lines}
 use Rattle.code_parts.specs.declared.part.Part.{Part}
@@ -59,6 +59,7 @@ abbrev pub IsStating : LineTree → Type 0
 IsStating (States rule t) = Unit {0}
 IsStating (Loop d cited) = ⊥
 IsStating (Forget k) = ⊥
+IsStating (Further p t) = Unit {0}
 
 -- these have a text, and the lines state triples
 pub record IsFineCited (t : CitedTree) : Type 0 where

@@ -1,9 +1,9 @@
 use Rattle.std.proofs.Common.{length}
 use Rattle.mcdec_commands.specs.inner.Search.{Searched}
-use Rattle.mcdec_commands.proofs.eval.find_group.Given as goal
+use Rattle.mcdec_commands.proofs.eval.find_in.Given as goal
 
 abbrev pub invariant-loop-found : goal.invariant-loop-found
-invariant-loop-found l = Searched l.text l.name l.reader l.count l.found
+invariant-loop-found l = Searched l.fn.reader l.name l.reader l.count l.found
 
 abbrev pub decreases-loop-found : goal.decreases-loop-found
 decreases-loop-found l = length l.reader.rest

@@ -1,21 +1,23 @@
 use Rattle.std.proofs.Common.{arith, subst, Option, Ok}
 use Rattle.tailrec_lang.specs.declared.group.Group.{Group}
+use Rattle.group_text.specs.Version.{version_of}
 use Rattle.mcdec_commands.specs.inner.Search.{NextIs}
 use Rattle.mcdec_commands.proofs.Groups.{stopped, count-fits, more, found-exit}
-use Rattle.mcdec_commands.proofs.eval.find_group.Goals as goal
+use Rattle.mcdec_commands.proofs.eval.find_in.Goals as goal
 
 pub returns-in_err-g : goal.returns-in_err-g
 returns-in_err-g c =
     let e = c.in_err-g.field-0.0 in
-    found-exit c.args.text.now c.args.name.now c.from_residual.result e c.from_residual.ensures.1 (stopped c.args.text.now c.args.name.now c.loop-found.reader c.loop-found.count c.loop-found.found c.loop-found.invariant c.next_group.new.reader e c.in_err-g.ensures)
+    found-exit (version_of c.args.reader.now.version) c.args.reader.now.text c.args.name.now c.from_residual.result e c.from_residual.ensures.1
+    (stopped c.args.reader.now c.args.name.now c.loop-found.reader c.loop-found.count c.loop-found.found c.loop-found.invariant c.next_group.new.reader e c.in_err-g.ensures)
 
 pub overflow_add-count : goal.overflow_add-count
 overflow_add-count c =
-    omega (arith, count-fits c.args.text.now c.args.name.now c.loop-found.reader c.loop-found.count c.loop-found.found c.loop-found.invariant (omega (arith, c.type_inv.text)))
+    omega (arith, count-fits c.args.reader.now c.args.name.now c.loop-found.reader c.loop-found.count c.loop-found.found c.loop-found.invariant c.requires.within)
 
 pub loop-found-preserved : goal.loop-found-preserved
 loop-found-preserved c =
-    more c.args.text.now c.args.name.now c.loop-found.reader c.loop-found.count c.loop-found.found c.loop-found.invariant c.next_group.new.reader c.in-Some.g c.first_named-found.result
+    more c.args.reader.now c.args.name.now c.loop-found.reader c.loop-found.count c.loop-found.found c.loop-found.invariant c.next_group.new.reader c.in-Some.g c.first_named-found.result
     (subst (λ (o : Option Group). NextIs c.loop-found.count c.loop-found.reader c.next_group.new.reader (Ok o)) c.in-Some.is c.in_ok-g.ensures) c.first_named-found.ensures
 
 pub loop-found-smaller : goal.loop-found-smaller
