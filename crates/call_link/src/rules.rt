@@ -4,12 +4,11 @@ ghost use Rattle.std.specs.Prelude.{◌≡◌, ◌↔◌, IsTrue, IsOk, IfOk, ma
 ghost use Rattle.std.specs.List.{Contains};
 ghost use Rattle.rv_words.specs.declared.comparison.Cmp.TheVariants.{Eq};
 ghost use Rattle.word_terms.specs.Tree.{Compare, word_tree};
-ghost use Rattle.sep_assert.specs.Tree.{register_tree};
 ghost use Rattle.triple_kernel.specs.Tree.{So, fact_tree, triple_tree};
 ghost use Rattle.call_link.specs.Rules.{IsSteered};
 
 use rv_words::Cmp;
-use sep_assert::{same_assertion, same_code, same_mems, same_register};
+use sep_assert::{same_assertion, same_code, same_mems, same_registers};
 use triple_kernel::{Fact, NoInstance, Thm, Triple, are_among};
 use word_terms::{Cond, Word, same_word};
 
@@ -56,20 +55,4 @@ fn is_equality(fact: &Fact, a: &Word, b: &Word) -> bool
         Fact::So(Cond::Compare(Cmp::Eq, x, y)) => same_word(x, a) && same_word(y, b),
         _ => false,
     }
-}
-
-/// Whether two lists of registers are the same trees.
-#[tactic(auto, using(sep_assert::proofs::SameLists::map_differs))]
-fn same_registers(a: &[(u8, Word)], b: &[(u8, Word)]) -> bool
-    ensures { IsTrue result ↔ (map register_tree a.now ≡ map register_tree b.now) }
-{
-    if a.len() != b.len() {
-        return false;
-    }
-    for i in 0..a.len() {
-        if !same_register(&a[i], &b[i]) {
-            return false;
-        }
-    }
-    true
 }

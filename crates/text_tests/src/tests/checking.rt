@@ -1,5 +1,6 @@
 //! A file and a text have their verdict.
 
+use call_link::check_linked;
 use checker::{Verdict, check_bytes};
 use elf_image::ElfFault;
 use rv_words::{Bytes, List, NoMemory};
@@ -133,12 +134,40 @@ static FILES: [(usize, u8, Verdict); 4] = [
     (121, 6, Verdict::NotProved(0)),
 ];
 
-/// The text with that line in the place of one.
-fn text(alloc: Global, number: usize, is: &[u8]) -> Result<Bytes, NoMemory> {
+/// Lines that end the text of version 3, and its verdict.
+static LINKED: [(&str, Verdict); 4] = [
+    (
+        "end",
+        Verdict::Accepted {
+            functions: 1,
+            lines: 8,
+        },
+    ),
+    (
+        "steer 4 facts (so (eq (and (add v0 0x0) 0xfffffffffffffffe) 0x10008)) pre (0x10004 (1 v0) ;) code (0x10004 67800000) post (0x10008 (1 v0) ;)\nend",
+        Verdict::Accepted {
+            functions: 1,
+            lines: 9,
+        },
+    ),
+    (
+        "steer 4 facts pre (0x10004 (1 v0) ;) code (0x10004 67800000) post (0x10008 (1 v0) ;)\nend",
+        Verdict::BadLine(18),
+    ),
+    (
+        "steer 7 facts (so (eq (and (add v0 0x0) 0xfffffffffffffffe) 0x10008)) pre (0x10004 (1 v0) ;) code (0x10004 67800000) post (0x10008 (1 v0) ;)\nend",
+        Verdict::BadLine(18),
+    ),
+];
+
+/// The text under that first line, with that line in the place of one.
+fn text(alloc: Global, first: &[u8], number: usize, is: &[u8]) -> Result<Bytes, NoMemory> {
     let mut text = List::new(alloc);
     for i in 0..18 {
         let line = if i + 1 == number {
             is
+        } else if i == 0 {
+            first
         } else {
             TEXT[i].as_bytes()
         };
@@ -149,18 +178,24 @@ fn text(alloc: Global, number: usize, is: &[u8]) -> Result<Bytes, NoMemory> {
 }
 
 fn is_row(alloc: Global, row: &Row) -> Result<bool, NoMemory> {
-    let text = text(alloc, row.line, row.is.as_bytes())?;
+    let text = text(alloc, b"mcproof 1", row.line, row.is.as_bytes())?;
     Ok(check_bytes(alloc, &ELF, text.as_slice()) == row.verdict)
 }
 
 /// Whether the file with that byte has that verdict.
 fn is_file(alloc: Global, place: usize, byte: u8, verdict: Verdict) -> Result<bool, NoMemory> {
-    let text = text(alloc, 0, b"")?;
+    let text = text(alloc, b"mcproof 1", 0, b"")?;
     let mut elf = ELF;
     if place < 128 {
         elf[place] = byte;
     }
     Ok(check_bytes(alloc, &elf, text.as_slice()) == verdict)
+}
+
+/// Whether the text of version 3 that ends so has that verdict.
+fn is_linked(alloc: Global, end: &[u8], verdict: Verdict) -> Result<bool, NoMemory> {
+    let text = text(alloc, b"mcproof 3", 18, end)?;
+    Ok(check_linked(alloc, &ELF, text.as_slice()) == verdict)
 }
 
 #[test]
@@ -178,6 +213,16 @@ fn files_have_their_verdicts(rt: HostRuntime) -> Result<(), Fail> {
     let alloc = rt.alloc();
     for &(place, byte, verdict) in &FILES {
         let judged = is_file(alloc, place, byte, verdict)?;
+        assert!(rt; judged);
+    }
+    Ok(())
+}
+
+#[test]
+fn linked_texts_have_their_verdicts(rt: HostRuntime) -> Result<(), Fail> {
+    let alloc = rt.alloc();
+    for &(end, verdict) in &LINKED {
+        let judged = is_linked(alloc, end.as_bytes(), verdict)?;
         assert!(rt; judged);
     }
     Ok(())

@@ -1,8 +1,10 @@
 //! The rules that no text has yet take the stated triple that is an instance, and no other. Their triples stand in lines
 //! of another rule.
 
+ghost use Rattle.std.specs.Prelude.{◌≡◌};
 ghost use Rattle.tailrec_lang.specs.Tree.{group_tree};
-ghost use Rattle.group_text.specs.Limits.{IsGroup};
+ghost use Rattle.group_text.specs.Limits.{IsGroupIn};
+ghost use Rattle.group_text.specs.Version.{version_of};
 
 use call_link::steer;
 use frame_compose::frame;
@@ -124,7 +126,8 @@ static EXCHANGED: [(bool, &[u8], bool); 7] = [
 
 /// The triple of the next line.
 fn next_triple(alloc: Global, reader: &mut Reader<'_>, group: &Group) -> Option<Triple>
-    requires { IsGroup (group_tree group.now) }
+    requires { IsGroupIn (version_of reader.old.version) (group_tree group.now) }
+    ensures { reader.new.version ≡ reader.old.version }
 {
     match reader.line(alloc, group) {
         Ok(Some(Line::States { stated, .. })) => Some(stated),

@@ -1,7 +1,9 @@
 //! Groups and lines are read, and printed as they stand.
 
+ghost use Rattle.std.specs.Prelude.{◌≡◌};
 ghost use Rattle.tailrec_lang.specs.Tree.{group_tree};
-ghost use Rattle.group_text.specs.Limits.{IsGroup};
+ghost use Rattle.group_text.specs.Limits.{IsGroupIn};
+ghost use Rattle.group_text.specs.Version.{version_of};
 
 use mc_text::put_atom;
 use proof_text::{Line, Reader, TextFault, put_end, put_group, put_head, put_line};
@@ -380,7 +382,8 @@ fn lines_are_printed_as_they_stand(rt: HostRuntime) -> Result<(), Fail> {
 
 /// Whether so many lines of the group follow.
 fn lines_follow(alloc: Global, reader: &mut Reader<'_>, group: &Group, lines: u64) -> bool
-    requires { IsGroup (group_tree group.now) }
+    requires { IsGroupIn (version_of reader.old.version) (group_tree group.now) }
+    ensures { reader.new.version ≡ reader.old.version }
 {
     for _ in 0..lines {
         if !matches!(reader.line(alloc, group), Ok(Some(_))) {
@@ -398,7 +401,7 @@ fn line_answers(
     bad: Option<u64>,
     next: Option<u64>,
 ) -> bool
-    requires { IsGroup (group_tree group.now) }
+    requires { IsGroupIn (version_of reader.old.version) (group_tree group.now) }
 {
     match (reader.line(alloc, group), bad) {
         (Ok(None), None) => answers(alloc, reader, next),
