@@ -73,13 +73,16 @@ def main():
         sys.exit(__doc__)
     program, elf = os.path.abspath(sys.argv[1]), sys.argv[2]
     out = sys.argv[3] if len(sys.argv) == 4 else None
+    if not os.access(program, os.X_OK) or os.path.isdir(program):
+        sys.exit(f"{sys.argv[1]}: no program. README.md says how mcdec is built")
     if out is not None and os.path.exists(out) and os.path.samefile(out, elf):
         sys.exit(f"{out} is the ELF file itself: nothing was done")
     with tempfile.TemporaryDirectory() as folder:
         # No instruction stands at an odd address, so the answer is that, or why the file isn't read.
         status, line = say(program, "decompile", elf, os.path.join(folder, "none"), "0x1")
         if status != 1:
-            sys.exit(f"{elf}: {line}")
+            hint = ". It is an object file: link it" if line == "unreadable elf kind 1" else ""
+            sys.exit(f"{elf}: {line}{hint}")
         with open(elf, "rb") as file:
             names, values = symbols(file.read())
         if not names:

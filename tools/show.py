@@ -2,7 +2,7 @@
 """show.py PROOF [NAME] [--dot]: the functions of a proof file as a person reads them, or one of them.
 
 Registers have the names of the psABI, terms have operators, exits are told by their addresses, and the lines of proofs are left out. A variable
-that is a copy of another, or a number, is replaced by that; the others keep the names of the text (v4, m1). Registers have the values at the entry of
+that is a copy of another, or a number, or a sum of numbers, is replaced by that; the others keep the names of the text (v4, m1). Registers have the values at the entry of
 their definition, and with a prime those that a call left. What `again`, `continue as`, `leave to` and `return to` don't name stays as it is there.
 
     /u %u <u >=u >>u    unsigned        /s %s <s >=s >>s    signed        +w -w *w ..    on the low 32 bits, their sign extended
@@ -51,6 +51,16 @@ def number(word):
     return str(n) if n < SMALL else str(n - (1 << 64)) if n > (1 << 64) - SMALL else word
 
 
+def sum_of(form, parts):
+    """The sum, where both parts are numbers: code makes addresses and large numbers of two."""
+    if form not in ("add", "addw") or not all(re.fullmatch(r"-?\d+|0x[0-9a-f]+", part) for part in parts):
+        return None
+    n = sum(int(part, 0) for part in parts)
+    if form == "addw":
+        n = (n & 0xFFFFFFFF ^ 1 << 31) - (1 << 31)
+    return number(hex(n % (1 << 64)))
+
+
 def shown(term, names, inside=False):
     """A term with operators, in parentheses where it stands inside another."""
     if isinstance(term, str):
@@ -58,6 +68,9 @@ def shown(term, names, inside=False):
     form = term[0]
     parts = [shown(part, names, True) for part in term[1:]]
     access = ACCESS.match(form)
+    total = sum_of(form, parts)
+    if total is not None:
+        return total
     if form == "add" and "0" in parts:
         return shown(term[2 if parts[0] == "0" else 1], names, inside)
     if form == "not":
@@ -285,8 +298,11 @@ def main():
     words = [word for word in sys.argv[1:] if word != "--dot"]
     if not 1 <= len(words) <= 2 or words[0].startswith("--"):
         sys.exit(__doc__)
-    with open(words[0], encoding="latin-1") as file:
-        text = Text(file.read().split("\n"))
+    try:
+        with open(words[0], encoding="latin-1") as file:
+            text = Text(file.read().split("\n"))
+    except OSError as bad:
+        sys.exit(f"{words[0]}: {bad.strerror}")
     try:
         groups = [group for group in text.groups() if len(words) == 1 or group.name == words[1]]
     except (BadText, IndexError, ValueError, KeyError) as bad:
