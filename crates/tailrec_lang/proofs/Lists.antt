@@ -31,3 +31,14 @@ all-take-get f P xs i le all k y lt is =
 -- the image at i is that of the item at i
 pub image-at : {A B : Type 0} (f : A → B) (xs : List A) (i : ℕ) (x : A) (y : B) → i < length xs → x ≡ get_or xs i x → slice_get (map f xs) i ≡ Some y → f x ≡ y
 image-at f xs i x y lt is e = ap f is ∙ sym (get_or-map f xs i x y lt) ∙ get_or_from_slice_get (map f xs) i y y e
+
+-- the fact holds of the images of the first n items where it holds of all
+pub all-front : {A B : Type 0} (f : A → B) (P : B → Type 0) (xs : List A) (n : ℕ) → n ≤ length xs → All P (map f xs) → All P (map f (take n xs))
+all-front f P xs n le all = λ k d lt.
+    let count : length (map f (take n xs)) ≡ n = length-map (take n xs) f ∙ length-take-le n xs le in
+    let below : k < n = omega (arith, count, lt) in
+    subst P (sym (get_or-take n (map f xs) k d below) ∙ (λ j. get_or (take-map f n xs j) k d)) (all k d (rw (length-map xs f) (omega (arith, below, le))))
+
+-- the images of the items but the last and that of the last
+pub map-last : {A B : Type 0} (f : A → B) (xs : List A) (i : ℕ) (x : A) → i + 1 ≡ length xs → x ≡ get_or xs i x → map f (take i xs) ++ f x ∷ [] ≡ map f xs
+map-last f xs i x last is = sym (map-take_more f xs i x (omega (arith, last)) is) ∙ ap (map f) (take_all (i + 1) xs (omega (arith, last)))

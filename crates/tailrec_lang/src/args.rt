@@ -1,6 +1,6 @@
 //! What a definition is entered or left with.
 
-ghost use Rattle.std.specs.Prelude.{◌≡◌, ◌+◌, All, IfOk, OnOk, map, length};
+ghost use Rattle.std.specs.Prelude.{◌≡◌, ◌<◌, ◌+◌, All, IfOk, OnOk, Some, [], map, length, slice_get};
 ghost use Rattle.word_terms.specs.Environment.{environment_of};
 ghost use Rattle.word_terms.specs.Scope.{MemInScope, WordInScope};
 ghost use Rattle.word_terms.specs.Tree.{mem_tree, word_tree};
@@ -33,6 +33,17 @@ impl Args {
         Env {
             words: self.words.as_slice(),
             mems: self.mems.as_slice(),
+        }
+    }
+
+    /// No values.
+    pub(crate) fn none(alloc: Global) -> Args
+        ensures words { result.words ≡ [] }
+        ensures mems { result.mems ≡ [] }
+    {
+        Args {
+            words: List::new(alloc),
+            mems: List::new(alloc),
         }
     }
 
@@ -79,6 +90,58 @@ pub fn values_of(alloc: Global, values: &Values, variables: &Args) -> Result<Arg
     let words = words_of(alloc, values.words.as_slice(), &env)?;
     let mems = mems_of(alloc, values.mems.as_slice(), &env)?;
     Ok(Args { words, mems })
+}
+
+/// The values of terms, where nothing else is done with the variables behind them: the last memory takes the place of
+/// the variable that it stands on, and isn't copied.
+pub fn last_values(alloc: Global, values: &Values, variables: Args) -> Result<Args, NoMemory>
+    requires { ValuesInScope (values_tree values.now) (length variables.words) (length variables.mems) }
+    ensures { IfOk result (λ x. arguments x ≡ arguments_of (values_tree values.now) (variables_of variables)) }
+{
+    let env = variables.env();
+    let words = words_of(alloc, values.words.as_slice(), &env)?;
+    let terms = values.mems.as_slice();
+    if terms.is_empty() {
+        let mems = List::new(alloc);
+        return Ok(Args { words, mems });
+    }
+    let last = terms.len() - 1;
+    let others = &terms[..last];
+    let mut mems = mems_of(alloc, others, &env)?;
+    mems.push(last_memory(alloc, &terms[last], variables))?;
+    Ok(Args { words, mems })
+}
+
+/// The memory that a term stands for, in the place of the variable that it stands on.
+fn last_memory(alloc: Global, t: &Mem, variables: Args) -> ByteMap
+    requires { MemInScope (mem_tree t.now) (length variables.words) (length variables.mems) }
+    ensures { get result ≡ mem_value (mem_tree t.now) (variables_of variables) }
+{
+    match t {
+        Mem::Var(i) => item_at(alloc, variables.mems, *i),
+        Mem::Store(width, m, a, v) => {
+            let at = value(a, &variables.env());
+            let word = value(v, &variables.env());
+            let mut memory = last_memory(alloc, m, variables);
+            memory.store(at, *width, word);
+            memory
+        }
+    }
+}
+
+/// The memory of that number, of a list of which nothing else is left.
+fn item_at(alloc: Global, memories: List<ByteMap>, i: u32) -> ByteMap
+    requires { i < length memories }
+    ensures { slice_get memories i ≡ Some result }
+{
+    let mut memories = memories;
+    let place = i as usize;
+    while let Some(memory) = memories.pop() {
+        if memories.len() == place {
+            return memory;
+        }
+    }
+    ByteMap::new(alloc)
 }
 
 fn words_of(alloc: Global, terms: &[Word], env: &Env) -> Result<List<u64>, NoMemory>

@@ -7,7 +7,7 @@ ghost use Rattle.tailrec_lang.specs.WellFormed.{BodyIsWellFormed, StepInScope, m
 ghost use Rattle.tailrec_lang.specs.Eval.{Meaning, NeedFalse, after_step, arm_needs, body_ending, needs, step_holds, step_needs, variables_of};
 ghost use Rattle.tailrec_lang.specs.inner.Walk.{WalkFits, steps_need, walk_ending};
 
-use crate::args::{Args, values_of};
+use crate::args::{Args, last_values, values_of};
 use crate::group::{Body, End, Step};
 use rv_words::NoMemory;
 use std::alloc::Global;
@@ -26,7 +26,7 @@ pub enum Transfer<'a> {
     False,
 }
 
-/// Where a body gives control on, its variables there, and how many Needs of its definition stand before that place.
+/// Where a body gives control on, its variables there if a call waits with them, and how many Needs of its definition stand before that place.
 #[derive(Drop)]
 pub struct Walk<'a> {
     pub variables: Args,
@@ -77,19 +77,19 @@ pub fn go_through(
             })
         }
         End::Again(values) => {
-            let args = values_of(alloc, values, &variables)?;
+            let args = last_values(alloc, values, variables)?;
             let stop = Transfer::Again(args);
             Ok(Walk {
-                variables,
+                variables: Args::none(alloc),
                 ordinal,
                 stop,
             })
         }
         End::Leave(exit, values) => {
-            let results = values_of(alloc, values, &variables)?;
+            let results = last_values(alloc, values, variables)?;
             let stop = Transfer::Left(*exit, results);
             Ok(Walk {
-                variables,
+                variables: Args::none(alloc),
                 ordinal,
                 stop,
             })
