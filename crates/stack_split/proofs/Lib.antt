@@ -1,1 +1,7 @@
-pub mod ExchangeLemmas
+pub mod FactLemmas
+pub mod Lines
+pub mod Ways
+pub mod Loops
+pub mod AddressLemmas
+pub mod RegionLemmas
+pub mod CheckLemmas

@@ -1,11 +1,31 @@
-//! The law of the rule. This function does nothing: its contract is the law, which speaks of the definitions alone.
+//! The laws on several memories. These functions do nothing: their contracts are the laws, which speak of the definitions
+//! alone.
 
-ghost use Rattle.tailrec_lang.specs.Tree.{GroupTree};
-ghost use Rattle.triple_kernel.specs.Tree.{TripleTree};
-ghost use Rattle.triple_kernel.specs.Valid.{Valid};
-ghost use Rattle.stack_split.specs.Rules.{IsExchanged};
+ghost use Rattle.std.specs.Prelude.{ℕ, List};
+ghost use Rattle.elf_image.specs.Image.{code_of_file};
+ghost use Rattle.tailrec_lang.specs.Tree.{GroupTree, listed_def};
+ghost use Rattle.tailrec_lang.specs.WellFormed.{IsWellFormed};
+ghost use Rattle.tailrec_lang.specs.Registers.{AreRegistersFrom};
+ghost use Rattle.rv_words.specs.Ranges.{range_bytes};
+ghost use Rattle.sep_assert.specs.Code.{IsWithin};
+ghost use Rattle.loop_rule.specs.Rule.{IsClosed};
+ghost use Rattle.further_rules.specs.Rules.{IsExchanged};
+ghost use Rattle.proof_text.specs.Line.{LineTree};
+ghost use Rattle.checker.specs.Instance.{History, InstanceBy, after_line};
+ghost use Rattle.checker.specs.Headline.{IsRight};
+ghost use Rattle.stack_split.specs.Addresses.{AllHave, ExitsHave, KeepsAddresses};
 
-/// Two memories that are exchanged in both assertions keep a triple valid.
-pub fn law_of_exchanging()
-    ensures { (g : GroupTree) (p t : TripleTree) → IsExchanged p t → Valid g p → Valid g t }
+/// The second law: a line that is right keeps that theorems, and the exits of closed definitions, keep the addresses of
+/// memories.
+pub fn law_of_addresses()
+    ensures { (g : GroupTree) (h : History) → AllHave (KeepsAddresses g) g h
+        → (l : LineTree) → InstanceBy IsExchanged g h l → AllHave (KeepsAddresses g) g (after_line h l) }
+{}
+
+/// Where the triple of each exit of the last definition is valid and keeps the addresses of memories, evaluation tells where
+/// the machine goes, over as many regions as there are memories.
+pub fn law_of_regions()
+    ensures { (file : List ℕ) (g : GroupTree) → IsWellFormed g → AreRegistersFrom 1 g.regs
+        → IsWithin (range_bytes g.code) (code_of_file file) → IsClosed g (listed_def g) → ExitsHave (KeepsAddresses g) g (listed_def g)
+        → IsRight file g }
 {}

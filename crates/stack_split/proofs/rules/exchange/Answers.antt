@@ -1,5 +1,0 @@
-use Rattle.stack_split.proofs.ExchangeLemmas.{valid_exchanged}
-use Rattle.stack_split.proofs.rules.exchange.Goals as goal
-
-pub concludes-requires : goal.concludes-requires
-concludes-requires c = valid_exchanged _ _ _ (c.is_exchanged.ensures.0 c.if-is_exchanged.true) c.triple.ensures.valid
