@@ -7,7 +7,7 @@ use Rattle.rv_decode.specs.declared.instruction.Instr.TheVariants as instr
 use Rattle.tailrec_lang.specs.declared.group.Body.{Body}
 use Rattle.tailrec_lang.specs.declared.group.Values.{Values}
 use Rattle.tailrec_lang.specs.declared.group.End.TheVariants as end
-use Rattle.tailrec_lang.specs.Tree.{ValuesTree, StepTree, BodyTree, Do, Branch, Call, Leave, Arm, arms_of, body_tree, step_tree, values_tree, with_steps}
+use Rattle.tailrec_lang.specs.Tree.{ArmTrees, ValuesTree, StepTree, BodyTree, Do, Branch, Call, Leave, Arm, arms_of, body_tree, step_tree, values_tree, with_steps}
 use Rattle.tailrec_lang.specs.inner.Tree.{end_tree}
 use Rattle.tailrec_lang.proofs.Views.{view_body, view_branch, view_call, view_leave}
 use Rattle.std.specs.declared.alloc.Global.{Global}
@@ -16,11 +16,12 @@ use Rattle.word_terms.specs.Tree.{CondTree, Compare, cond_tree}
 use Rattle.triple_kernel.specs.declared.form.Form.{Form}
 use Rattle.triple_kernel.specs.declared.form.Form.TheVariants.{Next, Taken}
 use Rattle.instr_axioms.specs.Terms.{word_in}
+use Rattle.code_parts.specs.declared.callee.Callee.{Callee}
 use Rattle.code_parts.specs.declared.part.Part.{Part}
 use Rattle.code_parts.specs.declared.part.Part.TheVariants.{Loop, Rest}
 use Rattle.code_parts.specs.Bodies.{Flow, VariableMap, size, Straight, action_body, action_calling, action_of, arms_over, body_at, index_of, names, needs, part_body, place_after, rest_body, start, writes}
 use Rattle.code_parts.specs.Graph.{has_edge, is_return}
-use Rattle.code_parts.specs.inner.Ends.{body_on, returned_body}
+use Rattle.code_parts.specs.inner.Ends.{body_on, called_body, returned_body}
 
 -- ---- the first place of a number
 
@@ -157,3 +158,17 @@ pub goes_back : (f : Flow) (p : Part) (n room : ℕ) (v : VariableMap) (i : Inst
 goes_back f p n room v i none is jump some =
     return-body f p i (f.addr n) (size f n) (f.uses n) (f.to n) v (body_at (room - 1) f p) jump
     ∙ (λ k. action_body f p (action_of (is k) (f.addr n) (size f n) (f.uses n) (f.to n) v) v (body_at (room - 1) f p)) ∙ at-room room f p n v none some
+
+-- .. that calls a function
+pub goes_in : (f : Flow) (p : Part) (n room : ℕ) (v : VariableMap) (c : Callee) → f.callee n ≡ Some c → (room ≡ 0 → ⊥) → called_body (room - 1) f p n c v ≡ body_at room f p n v
+goes_in f p n zero v c calls some = absurd (some refl)
+goes_in f p n (suc room) v c calls some =
+    let less : suc room - 1 ≡ room = omega arith in
+    (λ i. called_body (less i) f p n c v) ∙ (λ i. action_body f p (action_calling (sym calls i) (f.instr n) (f.addr n) (size f n) (f.uses n) (f.to n) v) v (body_at room f p))
+
+-- a body that calls after some steps
+pub called_after : (b : Body) (d : ℕ) (v : Values) (arms : List Body) (x : ValuesTree) (ends : ArmTrees) (all ss ts : List StepTree) → map step_tree b.steps ≡ all → all ≡ ss ++ ts → b.end ≡ end.Call d v arms → values_tree v ≡ x
+    → arms_of (map body_tree arms) ≡ ends → body_tree b ≡ with_steps ss (with_steps ts (Call d x ends))
+called_after b d v arms x ends all ss ts steps made is values bodies =
+    view_body b ∙ (λ i. with_steps ((steps ∙ made) i) (end_tree (is i))) ∙ (λ i. with_steps (ss ++ ts) (view_call d v arms i)) ∙ (λ i. with_steps (ss ++ ts) (Call d (values i) (bodies i)))
+    ∙ steps-append ss ts (Call d x ends)

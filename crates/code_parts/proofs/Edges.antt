@@ -8,7 +8,8 @@ use Rattle.triple_kernel.specs.declared.form.Form.{Form}
 use Rattle.triple_kernel.specs.declared.form.Form.TheVariants.{Next, Taken}
 use Rattle.code_parts.specs.declared.part.Part.{Part}
 use Rattle.code_parts.specs.declared.part.Part.TheVariants.{Loop, Rest}
-use Rattle.code_parts.specs.Bodies.{Flow, VariableMap, Action, Straight, Fork, Return, Enter, Callee, action_of, action_calling, own, rest_targets, index_of, end_of}
+use Rattle.code_parts.specs.Bodies.{Flow, VariableMap, Action, Straight, Fork, Return, Enter, action_of, action_calling, own, rest_targets, index_of, end_of}
+use Rattle.code_parts.specs.declared.callee.Callee.{Callee}
 use Rattle.code_parts.specs.Graph.{has_edge, is_return}
 
 -- ---- edges of actions

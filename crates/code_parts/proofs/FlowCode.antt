@@ -30,7 +30,7 @@ use Rattle.flow_graph.proofs.ExactLemmas.{graph_numbers}
 use Rattle.flow_graph.proofs.InstructionLemmas.{graph_stands, through_return}
 use Rattle.loop_forest.specs.Forest.{ForestOf, IsForestOf}
 use Rattle.tailrec_lang.specs.Registers.{AreRegistersFrom}
-use Rattle.code_parts.specs.Bodies.{Callee}
+use Rattle.code_parts.specs.declared.callee.Callee.{Callee}
 use Rattle.code_parts.specs.Graph.{IsCallTo, IsCode, StandsAt, has_edge, is_return}
 use Rattle.code_parts.specs.Flows.{HaveCode, IsSetFor, Setting, edge_number, flow_of, registers_of}
 use Rattle.code_parts.proofs.Lists.{in-true}

@@ -19,7 +19,8 @@ use Rattle.flow_graph.proofs.Ways.{node_at}
 use Rattle.loop_forest.specs.Forest.{ForestOf, IsForestOf, exits_of, head_of, place_of, region_of}
 use Rattle.loop_forest.specs.Walking.{IsPlacedIn, IsWalkable, first_of, inner_of, loop_of}
 use Rattle.loop_forest.proofs.WalkLaws.{walkable}
-use Rattle.code_parts.specs.Bodies.{Flow, Callee, index_of, rest_targets}
+use Rattle.code_parts.specs.Bodies.{Flow, index_of, rest_targets}
+use Rattle.code_parts.specs.declared.callee.Callee.{Callee}
 use Rattle.code_parts.specs.Graph.{IsEdge, IsGraph, IsPlaced, has_edge, is_return}
 use Rattle.code_parts.specs.Flows.{Setting, edge_number, flow_of}
 use Rattle.code_parts.proofs.Lists.{contains-cases}

@@ -16,8 +16,9 @@ use Rattle.rv_words.specs.declared.range.Range.{Range}
 use Rattle.flow_graph.specs.Graph.{GraphOf, IsGraphOf}
 use Rattle.loop_forest.specs.Forest.{ForestOf, IsForestOf, number_of}
 use Rattle.code_parts.specs.declared.part.Part.{Part}
-use Rattle.code_parts.specs.Bodies.{Callee, part_body}
-use Rattle.code_parts.specs.Graph.{CallsBelow, IsCode, IsMade}
+use Rattle.code_parts.specs.Bodies.{part_body}
+use Rattle.code_parts.specs.declared.callee.Callee.{Callee}
+use Rattle.code_parts.specs.Graph.{CallsBelow, IsAlone, IsCode, IsMade}
 use Rattle.code_parts.specs.Flows.{HaveCode, IsSetFor, alone, flow_of, group_of, place_in, unlinked}
 use Rattle.code_parts.specs.Order.{AreParts}
 use Rattle.code_parts.proofs.FlowCode.{is-code, registers-rise}
@@ -49,6 +50,17 @@ none-called code entry g f parts graph n node =
     let long = (is_flow false code entry g graph).as_long in
     let stands = graph_stands false code entry g n (get_or g.instrs n instr.Ebreak) graph node (slice_get-get_or g.instrs n instr.Ebreak (omega (arith, node, long))) in
     ap (option_map unlinked) (uncalled-of (get_or g.addrs n 0) (get_or g.instrs n instr.Ebreak) stands.fine)
+
+at-most-one : (b : Bool) → cond b 1 0 ≤ 1
+at-most-one true = omega arith
+at-most-one false = omega arith
+
+pub is-alone : (code : Bytes) (entry : ℕ) (g : GraphOf) (f : ForestOf) (parts : List Part) → IsGraphOf false code entry g → IsAlone (flow_of g f (alone g parts))
+is-alone code entry g f parts graph = record {
+  mems = at-most-one (list_any has_memory g.instrs);
+  uses = λ n lt. refl;
+  calls = λ n lt. none-called code entry g f parts graph n lt;
+}
 
 uncalled : (code : Bytes) (entry : ℕ) (g : GraphOf) (f : ForestOf) (parts : List Part) → IsGraphOf false code entry g → (n : ℕ) (c : Callee) → n < length g.addrs → (flow_of g f (alone g parts)).callee n ≡ Some c → ⊥
 uncalled code entry g f parts graph n c node e = let none = sym (none-called code entry g f parts graph n node) ∙ e in cc

@@ -12,7 +12,8 @@ use Rattle.loop_forest.specs.Forest.{ForestOf, IsForestOf, exits_of, head_of, nu
 use Rattle.loop_forest.specs.Walking.{IsPlacedIn, inner_of, first_of, loop_of}
 use Rattle.code_parts.specs.declared.part.Part.{Part}
 use Rattle.code_parts.specs.declared.part.Part.TheVariants.{Loop, Rest}
-use Rattle.code_parts.specs.Bodies.{size, Flow, VariableMap, Action, Straight, Fork, Return, Enter, Callee, return_arm, action, action_body, arms_over, body_at, current, end_at, end_of, first, fresh, index_of, last_at, or_else, own, part_body, rest_arms, rest_body, rest_from, rest_targets, start, with_pc}
+use Rattle.code_parts.specs.Bodies.{size, Flow, VariableMap, Action, Straight, Fork, Return, Enter, return_arm, action, action_body, arms_over, body_at, current, end_at, end_of, first, fresh, index_of, last_at, or_else, own, part_body, rest_arms, rest_body, rest_from, rest_targets, start, with_pc}
+use Rattle.code_parts.specs.declared.callee.Callee.{Callee}
 use Rattle.code_parts.specs.Graph.{ArmsBelow, CallsBelow, IsPart, IsPlaced}
 use Rattle.code_parts.specs.Flows.{Setting, flow_of, place_in, same_part, same_region}
 use Rattle.code_parts.specs.Order.{AreParts, StandsBefore, weight}

@@ -1,5 +1,5 @@
 -- A graph has few parts, and small numbers.
-use Rattle.std.proofs.Common.{◌≡◌, ℕ, zero, suc, ◌+◌, ◌^◌, ◌<◌, ◌≤◌, List, [], ◌∷◌, map, length, get_or, Bool, true, false, cond, eqb, leb, ltb, nat_eq, refl, sym, ap, subst, ◌∙◌, arith, Option, None, Some, option_map, inl, inr}
+use Rattle.std.proofs.Common.{◌≡◌, ℕ, zero, suc, ◌+◌, ◌*◌, ◌^◌, ◌<◌, ◌≤◌, List, [], ◌∷◌, map, length, get_or, Bool, true, false, cond, eqb, leb, ltb, nat_eq, refl, sym, ap, subst, ◌∙◌, arith, Option, None, Some, option_map, inl, inr}
 use Rattle.std.proofs.lemmas.Bool.{leb-false, leb-true, ltb-true}
 use Rattle.std.proofs.lemmas.Bool.Decides.{eqb_tells}
 use Rattle.std.proofs.lemmas.Cmp.{nat_eq_equiv}
@@ -22,7 +22,8 @@ use Rattle.rvc.proofs.NumberLemmas.{number_in-is}
 use Rattle.loop_forest.specs.Forest.{ForestOf, IsForestOf, exits_of, number_of}
 use Rattle.code_parts.specs.declared.part.Part.{Part}
 use Rattle.code_parts.specs.declared.part.Part.TheVariants.{Loop, Rest}
-use Rattle.code_parts.specs.Bodies.{Callee, Flow}
+use Rattle.code_parts.specs.Bodies.{Flow}
+use Rattle.code_parts.specs.declared.callee.Callee.{Callee}
 use Rattle.code_parts.specs.Graph.{IsPart, IsSmall}
 use Rattle.code_parts.specs.Flows.{IsSetFor, Setting, alone, flow_of, unlinked}
 use Rattle.code_parts.specs.Order.{AreParts}
@@ -128,12 +129,18 @@ module _ (linked : Bool) (code : Bytes) (entry : ℕ) (g : GraphOf) (f : ForestO
           let is : get_or f.heads c.0 0 ≡ h = sym (get_or_default_zero f.heads c.0 h c.1) ∙ c.2 in
           subst (λ n. n < length g.addrs) is ((walks linked code entry g f s graph forest).head c.0 c.1).0
 
-  pub parts-fit : length s.parts ≤ 4096
-  parts-fit =
+  -- at most a loop and a rest for each node
+  pub parts-twice : length s.parts ≤ 2 * length g.addrs
+  parts-twice =
       let few = parts-few (flow_of g f s) (number_of f) s.parts order in
       let heads = heads-few in
+      omega (arith, few, heads)
+
+  pub parts-fit : length s.parts ≤ 4096
+  parts-fit =
+      let few = parts-twice in
       let nodes = (flow linked code entry g f s graph forest).few in
-      omega (arith, few, heads, nodes)
+      omega (arith, few, nodes)
 
   -- where a function has at most two memories, and definitions with low numbers before its own and for what it calls
   pub is-small : IsSetFor g s → s.mems ≤ 2 → s.base + 4096 < 2 ^ 32 → ((n : ℕ) (c : Callee) → (flow_of g f s).callee n ≡ Some c → c.def < 2 ^ 32) → IsSmall (flow_of g f s)

@@ -18,18 +18,18 @@ use Rattle.code_parts.specs.Flows.{AreCodeOf, IsReached, node_code}
 use Rattle.code_parts.specs.inner.Words.{AreCodeTo}
 use Rattle.code_parts.proofs.FlowCode.{code-byte}
 
-same-some : (x y : ℕ) → Some x ≡ Some y → x ≡ y
+pub same-some : (x y : ℕ) → Some x ≡ Some y → x ≡ y
 same-some x y e = cc
 
-over-left : (x y : Option ℕ) (b : ℕ) → x ≡ Some b → option_or x y ≡ Some b
+pub over-left : (x y : Option ℕ) (b : ℕ) → x ≡ Some b → option_or x y ≡ Some b
 over-left None y b e = absurd (cc)
 over-left (Some c) y b e = e
 
-over-right : (x y : Option ℕ) (b : ℕ) → ((c : ℕ) → x ≡ Some c → c ≡ b) → y ≡ Some b → option_or x y ≡ Some b
+pub over-right : (x y : Option ℕ) (b : ℕ) → ((c : ℕ) → x ≡ Some c → c ≡ b) → y ≡ Some b → option_or x y ≡ Some b
 over-right None y b agree e = e
 over-right (Some c) y b agree e = ap Some (agree c refl)
 
-over-cases : (x y : Option ℕ) (b : ℕ) → option_or x y ≡ Some b → (x ≡ Some b) ⊎ (y ≡ Some b)
+pub over-cases : (x y : Option ℕ) (b : ℕ) → option_or x y ≡ Some b → (x ≡ Some b) ⊎ (y ≡ Some b)
 over-cases None y b e = inr e
 over-cases (Some c) y b e = inl e
 
@@ -39,7 +39,7 @@ module _ (linked : Bool) (g : GraphOf) (reached : IsReached linked g) where
   number-there n lt = (number_in-is reached.code (get_or g.addrs n 0) (get_or g.numbers n 0)).0 (graph_numbers linked reached.code reached.entry g n reached.is lt)
 
   -- the code has its bytes
-  in-code : (n : ℕ) → n < length g.addrs → IsWithin (node_code g n) reached.code
+  pub in-code : (n : ℕ) → n < length g.addrs → IsWithin (node_code g n) reached.code
   in-code n lt q b e =
       let w : ℕ = get_or g.numbers n 0 in
       let there = number-there n lt in

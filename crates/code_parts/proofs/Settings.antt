@@ -1,18 +1,19 @@
 -- What a flow tells of a graph that is reached, and its forest.
-use Rattle.std.proofs.Common.{◌≡◌, ℕ, zero, suc, ◌+◌, ◌<◌, ◌≤◌, Bool, true, false, cond, eqb, List, [], ◌∷◌, length, get_or, drop, None, Some, option_map, refl, sym, ap, subst, ◌∙◌, arith}
+use Rattle.std.proofs.Common.{◌≡◌, ℕ, zero, suc, ◌+◌, ◌^◌, ◌<◌, ◌≤◌, Bool, true, false, cond, eqb, List, [], ◌∷◌, length, get_or, drop, None, Some, option_map, refl, sym, ap, subst, ◌∙◌, arith, eqb-true}
 use Rattle.std.proofs.lemmas.Option.{get_or_from_slice_get, slice_get-get_or}
 use Rattle.std.specs.Prelude.{slice_get}
-use Rattle.std.specs.List.{All, list_any, range_with_len}
-use Rattle.std.proofs.lemmas.List.Elements.{All-filter}
-use Rattle.std.proofs.lemmas.List.FromFn.{get_or-range_with_len, length-range_with_len}
+use Rattle.std.specs.List.{All, list_any}
+use Rattle.std.proofs.lemmas.List.Elements.{All-cons, All-nil}
 use Rattle.rv_words.specs.declared.range.Range.{Range}
 use Rattle.rv_decode.specs.declared.instruction.Instr.{Instr}
 use Rattle.rv_decode.specs.declared.instruction.Instr.TheVariants.{Ebreak}
-use Rattle.rv_decode.specs.Registers.{destination, registers_where}
-use Rattle.instr_axioms.specs.Axiom.{is_own}
+use Rattle.rv_decode.specs.Registers.{destination}
+use Rattle.tailrec_lang.specs.Registers.{AreRegistersFrom}
+use Rattle.instr_axioms.specs.Terms.{has_memory}
 use Rattle.rvc.proofs.ByteLemmas.{number-small}
 use Rattle.rvc.proofs.NumberLemmas.{instruction-named, number_in-is}
 use Rattle.triple_kernel.specs.declared.form.Form.{Form}
+use Rattle.triple_kernel.specs.declared.form.Form.TheVariants.{Next}
 use Rattle.flow_graph.specs.Graph.{GraphOf, succs_of}
 use Rattle.flow_graph.proofs.FlowLemmas.{is_flow}
 use Rattle.flow_graph.proofs.InstructionLemmas.{graph_stands}
@@ -22,24 +23,24 @@ use Rattle.loop_forest.specs.Walking.{index_in}
 use Rattle.code_parts.specs.declared.part.Part.{Part}
 use Rattle.code_parts.specs.declared.part.Part.TheVariants.{Loop, Rest}
 use Rattle.code_parts.specs.Regions.{IsOfRegion}
-use Rattle.code_parts.specs.Graph.{IsCode, IsGraph, IsPart, StandsAt, has_edge}
-use Rattle.code_parts.specs.Flows.{AreCodeOf, IsReached, alone, edge_number, flow_of, registers_of}
+use Rattle.code_parts.specs.Graph.{IsAlone, IsCode, IsGraph, IsPart, StandsAt, has_edge, is_return}
+use Rattle.code_parts.specs.Flows.{AreCodeOf, HaveInstructions, IsReached, IsSetFor, Setting, SettingOf, alone, edge_number, flow_of, function_at, registers_of, setting_of, unlinked}
+use Rattle.code_parts.specs.declared.callee.Callee.{Callee}
 use Rattle.code_parts.specs.Kept.{FlowOf, IsKept, flow_in}
-use Rattle.code_parts.proofs.CodeOf.{have_code}
-use Rattle.code_parts.proofs.FlowCode.{are-small, is-code, registers-rise}
+use Rattle.code_parts.proofs.CodeOf.{have_bytes, instructions-in}
+use Rattle.code_parts.proofs.FlowCode.{are-small, is-code}
 use Rattle.code_parts.proofs.FlowGraph.{edge-at, is-graph, walks}
-use Rattle.code_parts.proofs.FlowMade.{none-called, set-alone}
+use Rattle.code_parts.proofs.FlowMade.{is-alone, set-alone}
 use Rattle.code_parts.proofs.Lists.{rising-short}
 
 -- ---- registers
 
-named_registers : (instrs : List Instr) → All (λ r. (0 < r) × (r < 32)) (registers_of instrs)
-unfolding registers_where
-named_registers instrs = All-filter (λ r. list_any (λ i. is_own i r) instrs) (λ r. (0 < r) × (r < 32)) (range_with_len 1 31)
-    (λ k d lt. let long = length-range_with_len 1 31 in within k d (omega (arith, lt, long)))
-  where
-    within : (k d : ℕ) → k < 31 → (0 < get_or (range_with_len 1 31) k d) × (get_or (range_with_len 1 31) k d < 32)
-    within k d lt = let at = get_or-range_with_len 1 31 k d lt in (omega (arith, at), omega (arith, at, lt))
+named_registers : (least : ℕ) (rs : List ℕ) → 0 < least → AreRegistersFrom least rs → All (λ r. (0 < r) × (r < 32)) rs
+named_registers least [] some h = All-nil (λ r. (0 < r) × (r < 32))
+named_registers least (r ∷ rs) some h =
+    let low = h.0 in
+    let high = h.1 in
+    All-cons (λ q. (0 < q) × (q < 32)) r rs (omega (arith, some, low), omega (arith, high)) (named_registers (r + 1) rs (omega arith) h.2)
 
 -- the items of a list don't depend on what stands past its end
 default : (xs : List ℕ) (k d e : ℕ) → k < length xs → get_or xs k e ≡ get_or xs k d
@@ -53,7 +54,7 @@ second_is (x ∷ xs) = refl
 
 -- ---- the flow of a graph that is reached
 
-module _ (s : FlowOf) (reached : IsReached false s.graph) (forest : IsForestOf s.graph s.forest) where
+module _ (s : FlowOf) (linked : Bool) (reached : IsReached linked s.graph) (forest : IsForestOf s.graph s.forest) where
   abbrev g : GraphOf
   g = s.graph
 
@@ -61,82 +62,132 @@ module _ (s : FlowOf) (reached : IsReached false s.graph) (forest : IsForestOf s
   f = s.forest
 
   graph_of : IsGraph (flow_in s)
-  graph_of = is-graph false reached.code reached.entry g f (alone g s.parts) reached.is forest
+  graph_of = is-graph linked reached.code reached.entry g f (setting_of s.setting) reached.is forest
 
   -- an instruction of the graph names registers
   writes_of : (n : ℕ) → n < length g.addrs → destination (get_or g.instrs n Ebreak) < 32
   writes_of n lt =
-      let same = (is_flow false reached.code reached.entry g reached.is).as_long in
-      let at = graph_stands false reached.code reached.entry g n (get_or g.instrs n Ebreak) reached.is lt (slice_get-get_or g.instrs n Ebreak (omega (arith, lt, same))) in
+      let same = (is_flow linked reached.code reached.entry g reached.is).as_long in
+      let at = graph_stands linked reached.code reached.entry g n (get_or g.instrs n Ebreak) reached.is lt (slice_get-get_or g.instrs n Ebreak (omega (arith, lt, same))) in
       let small = number-small reached.code (get_or g.addrs n 0) at.number reached.bytes ((number_in-is reached.code (get_or g.addrs n 0) at.number).0 at.there).0 in
       (are-small (get_or g.instrs n Ebreak) (instruction-named at.number (get_or g.instrs n Ebreak) small at.is)).0
 
   -- an edge leads to a node
   edge_of : (n : ℕ) (form : Form) → n < length g.addrs → has_edge (get_or g.instrs n Ebreak) form ≡ true → get_or (succs_of g.edges n) (edge_number form) 0 < length g.addrs
   edge_of n form lt has =
-      let at = edge-at false reached.code reached.entry g f (alone g s.parts) reached.is forest n form lt has in
-      (is_flow false reached.code reached.entry g reached.is).within n (get_or (succs_of g.edges n) (edge_number form) 0) (node_at (succs_of g.edges n) (edge_number form) at.0)
+      let at = edge-at linked reached.code reached.entry g f (setting_of s.setting) reached.is forest n form lt has in
+      (is_flow linked reached.code reached.entry g reached.is).within n (get_or (succs_of g.edges n) (edge_number form) 0) (node_at (succs_of g.edges n) (edge_number form) at.0)
 
   head_node : (l : ℕ) → l < length f.heads → head_of f l < length g.addrs
-  head_node l lt = ((walks false reached.code reached.entry g f (alone g s.parts) reached.is forest).head l lt).0
+  head_node l lt = ((walks linked reached.code reached.entry g f (setting_of s.setting) reached.is forest).head l lt).0
 
   exit_nodes : (l : ℕ) → l < length f.heads → All (λ x. x < length g.addrs) (exits_of f l)
-  exit_nodes l lt k d at = ((walks false reached.code reached.entry g f (alone g s.parts) reached.is forest).exit l (get_or (exits_of f l) k d) lt (k, at, default (exits_of f l) k d (get_or (exits_of f l) k d) at)).0
+  exit_nodes l lt k d at = ((walks linked reached.code reached.entry g f (setting_of s.setting) reached.is forest).exit l (get_or (exits_of f l) k d) lt (k, at, default (exits_of f l) k d (get_or (exits_of f l) k d) at)).0
 
 -- .. told by what a flow keeps
-module _ (g : GraphOf) (f : ForestOf) (parts : List Part) (regs : List ℕ) (mem ret : Bool) (code : List Range) (kept : IsKept g f parts regs mem ret code)
-    (s : FlowOf) (is : record { graph = g; forest = f; parts = parts; code = code } ≡ s) where
-  reached : IsReached false s.graph
-  reached = subst (λ (z : FlowOf). IsReached false z.graph) is kept.reached
+module _ (g : GraphOf) (f : ForestOf) (t : SettingOf) (ret : Bool) (code : List Range) (kept : IsKept g f t ret code)
+    (s : FlowOf) (is : record { graph = g; forest = f; setting = t; code = code } ≡ s) where
+  abbrev linked : Bool
+  linked = kept.reached.0
+
+  reached : IsReached linked s.graph
+  reached = subst (λ (z : FlowOf). IsReached linked z.graph) is kept.reached.1
 
   forest : IsForestOf s.graph s.forest
   forest = subst (λ (z : FlowOf). IsForestOf z.graph z.forest) is kept.forest
 
-  regs_of : regs ≡ registers_of s.graph.instrs
-  regs_of = kept.regs_are ∙ ap (λ (z : FlowOf). registers_of z.graph.instrs) is
+  fits : IsSetFor s.graph (setting_of s.setting)
+  fits = subst (λ (z : FlowOf). IsSetFor z.graph (setting_of z.setting)) is kept.fits
 
   pub graph_is : IsGraph (flow_in s)
-  graph_is = graph_of s reached forest
+  graph_is = graph_of s linked reached forest
 
-  pub whole_code : AreCodeOf s.graph s.code
-  whole_code = subst (λ (z : FlowOf). AreCodeOf z.graph z.code) is kept.code_is
+  pub whole_code : HaveInstructions s.graph s.code
+  whole_code = subst (λ (z : FlowOf). HaveInstructions z.graph z.code) is kept.code_has
 
   pub code_stands : IsCode (flow_in s) s.code
-  code_stands = is-code false reached.code reached.entry s.graph s.forest (alone s.graph s.parts) s.code reached.is forest reached.bytes (have_code false s.graph reached s.code whole_code) (set-alone s.graph s.parts)
+  code_stands = is-code linked reached.code reached.entry s.graph s.forest (setting_of s.setting) s.code reached.is forest reached.bytes (have_bytes linked s.graph reached s.code whole_code) fits
 
-  -- it calls no function
-  pub calls_none : (n : ℕ) → n < length s.graph.addrs → (flow_in s).callee n ≡ None
-  calls_none n lt = none-called reached.code reached.entry s.graph s.forest s.parts reached.is n lt
+  -- a call goes on to the next instruction
+  pub call_edge : (n : ℕ) (c : Callee) → n < length s.graph.addrs → (flow_in s).callee n ≡ Some c → has_edge ((flow_in s).instr n) Next ≡ true
+  call_edge n c lt calls = graph_is.calls n c lt calls
 
   pub word_stands : (n : ℕ) → n < length s.graph.addrs → StandsAt (flow_in s) s.code n
   word_stands n lt = code_stands.each n lt
 
   pub writes_register : (n : ℕ) (i : Instr) → n < length s.graph.addrs → Some i ≡ slice_get s.graph.instrs n → destination i < 32
-  writes_register n i lt at = subst (λ (z : Instr). destination z < 32) (get_or_from_slice_get s.graph.instrs n i Ebreak (sym at)) (writes_of s reached forest n lt)
+  writes_register n i lt at = subst (λ (z : Instr). destination z < 32) (get_or_from_slice_get s.graph.instrs n i Ebreak (sym at)) (writes_of s linked reached forest n lt)
 
   pub edge_within : (n : ℕ) (form : Form) (m : ℕ) → n < length s.graph.addrs → m ≡ get_or (succs_of s.graph.edges n) (edge_number form) 0 → has_edge (get_or s.graph.instrs n Ebreak) form ≡ true → m < length s.graph.addrs
-  edge_within n form m lt at has = let low = edge_of s reached forest n form lt has in omega (arith, low, at)
+  edge_within n form m lt at has = let low = edge_of s linked reached forest n form lt has in omega (arith, low, at)
 
   pub head_within : (l h : ℕ) → l < length s.forest.heads → h ≡ head_of s.forest l → h < length s.graph.addrs
-  head_within l h lt at = let low = head_node s reached forest l lt in omega (arith, low, at)
+  head_within l h lt at = let low = head_node s linked reached forest l lt in omega (arith, low, at)
 
   pub exits_within : (l : ℕ) (xs : List ℕ) → l < length s.forest.heads → xs ≡ exits_of s.forest l → All (λ x. x < length s.graph.addrs) xs
-  exits_within l xs lt are = subst (All (λ x. x < length s.graph.addrs)) (sym are) (exit_nodes s reached forest l lt)
+  exits_within l xs lt are = subst (All (λ x. x < length s.graph.addrs)) (sym are) (exit_nodes s linked reached forest l lt)
 
   pub region_is : (p : Part) → IsPart (flow_in s) p → IsOfRegion (flow_in s) p
   region_is (Loop l) there = there
   region_is (Rest None n) there = tt
   region_is (Rest (Some l) n) there = forest.within n l there.0 there.2
 
-  pub registers_few : length regs ≤ 31
-  registers_few = let short = rising-short 1 (registers_of s.graph.instrs) (omega arith) (registers-rise s.graph.instrs) in let many = ap length regs_of in omega (arith, short, many)
+  pub registers_few : length t.regs ≤ 31
+  registers_few = let short = rising-short 1 t.regs (omega arith) kept.fits.rise in omega (arith, short)
 
-  pub registers_named : All (λ r. (0 < r) × (r < 32)) regs
-  registers_named = subst (All (λ r. (0 < r) × (r < 32))) (sym regs_of) (named_registers s.graph.instrs)
+  pub registers_named : All (λ r. (0 < r) × (r < 32)) t.regs
+  registers_named = named_registers 1 t.regs (omega arith) kept.fits.rise
 
 -- the flow of these
-pub same_flow : (s : FlowOf) (g : GraphOf) (f : ForestOf) (parts : List Part) → s.graph ≡ g → s.forest ≡ f → s.parts ≡ parts → flow_in s ≡ flow_of g f (alone g parts)
-same_flow s g f parts a b c = λ i. flow_of (a i) (b i) (alone (a i) (c i))
+pub same_flow : (s : FlowOf) (g : GraphOf) (f : ForestOf) (t : Setting) → s.graph ≡ g → s.forest ≡ f → setting_of s.setting ≡ t → flow_in s ≡ flow_of g f t
+same_flow s g f t a b c = λ i. flow_of (a i) (b i) (c i)
+
+-- the setting of a function alone, as the code has it
+pub alone_is : (g : GraphOf) (parts : List Part) (regs : List ℕ) (mem : Bool) (mems : ℕ) → regs ≡ registers_of g.instrs → mem ≡ list_any has_memory g.instrs → mems ≡ cond mem 1 0
+    → setting_of (record { base = 0; parts = parts; regs = regs; mems = mems; second = []; functions = [] }) ≡ alone g parts
+alone_is g parts regs mem mems registers memory count = λ i. record {
+  base = 0;
+  parts = parts;
+  regs = registers i;
+  mems = (count ∙ ap (λ (b : Bool). cond b 1 0) memory) i;
+  uses = λ a. 0;
+  functions = unlinked;
+}
+
+-- what is kept of a function alone
+pub kept_alone : (g : GraphOf) (f : ForestOf) (parts : List Part) (t : SettingOf) (ret : Bool) (code : List Range) → IsReached false g → IsForestOf g f → length parts < 2 ^ 32 → setting_of t ≡ alone g parts → ret ≡ list_any is_return g.instrs → AreCodeOf g code → IsKept g f t ret code
+kept_alone g f parts t ret code reached forest few is returns whole = record {
+  reached = (false, reached);
+  forest = forest;
+  few = (let none : t.base ≡ 0 = ap (λ (z : Setting). z.base) is in let many : length t.parts ≡ length parts = ap (λ (z : Setting). length z.parts) is in omega (arith, none, many, few));
+  few_mems = (let two = at-most (list_any has_memory g.instrs) in let same : t.mems ≡ cond (list_any has_memory g.instrs) 1 0 = ap (λ (z : Setting). z.mems) is in omega (arith, same, two));
+  fits = subst (IsSetFor g) (sym is) (set-alone g parts);
+  returns_is = returns;
+  code_has = instructions-in g code whole;
+}
+  where
+    at-most : (b : Bool) → cond b 1 0 ≤ 2
+    at-most true = omega arith
+    at-most false = omega arith
+
+-- .. and its flow is alone
+pub flow_alone : (g : GraphOf) (f : ForestOf) (parts : List Part) (s : FlowOf) → IsReached false g → s.graph ≡ g → s.forest ≡ f → setting_of s.setting ≡ alone g parts → IsAlone (flow_in s)
+flow_alone g f parts s reached a b c = subst IsAlone (sym (same_flow s g f (alone g parts) a b c)) (is-alone reached.code reached.entry g f parts reached.is)
+
+-- a function stands under its address
+pub entered-at : (cs : List Callee) (a : ℕ) → (function_at cs a).entry ≡ a
+entered-at [] a = refl
+entered-at (c ∷ cs) a = go (eqb c.entry a) refl (entered-at cs a)
+  where
+    go : (b : Bool) → eqb c.entry a ≡ b → (function_at cs a).entry ≡ a → (cond b c (function_at cs a)).entry ≡ a
+    go true is rest = eqb-true c.entry a is
+    go false is rest = rest
+
+-- a memory, where there is at most one
+pub one_memory : (m : ℕ) → m ≤ 1 → m ≡ cond (eqb m 1) 1 0
+one_memory zero le = refl
+one_memory (suc zero) le = refl
+one_memory (suc (suc m)) le = absurd (omega (arith, le))
 
 -- ---- lists
 

@@ -1,5 +1,5 @@
 -- Places as the code has them.
-use Rattle.std.proofs.Common.{◌≡◌, ◌≢◌, ℕ, zero, suc, map, ◌+◌, ◌<◌, ◌≤◌, Bool, true, false, cond, eqb, List, length, get_or, refl, sym, ap, ◌∙◌, arith, inl, inr, ne_eqb, eq-eqb, get_or-set_other, get_or-set_same, ℤ, [], ◌∷◌, not}
+use Rattle.std.proofs.Common.{◌≡◌, ◌≢◌, ℕ, zero, suc, map, ◌+◌, ◌<◌, ◌≤◌, Bool, true, false, cond, eqb, List, length, get_or, refl, sym, ap, ◌∙◌, arith, inl, inr, ne_eqb, eq-eqb, get_or-set_other, get_or-set_same, ℤ, [], ◌∷◌, ◌++◌, not}
 use Rattle.std.proofs.Math.ListN.{set}
 use Rattle.std.proofs.lemmas.Bool.{cases_eq}
 use Rattle.std.specs.List.{position_or_len, range_with_len}
@@ -48,34 +48,79 @@ place_written v words d is some lt =
     ∙ (λ j. cond (sym (ne_eqb d 0 some) j) v (record { words = suc v.words; mems = v.mems; reg = λ r. cond (eqb r d) v.words (v.reg r); memory = v.memory }))
 
 -- an instruction that is no store writes its destination
-pub place_after-is : (i : Instr) (v : VariableMap) (d : ℕ) → IsNoStore i → d ≡ destination i → wrote d v ≡ place_after i 0 v
-place_after-is i v d store is = ap (λ (e : ℕ). wrote e v) is ∙ (λ j. cond (sym (no-store i store) j) (stored 0 v) (wrote (destination i) v))
+pub place_after-is : (i : Instr) (q : ℕ) (v : VariableMap) (d : ℕ) → IsNoStore i → d ≡ destination i → wrote d v ≡ place_after i q v
+place_after-is i q v d store is = ap (λ (e : ℕ). wrote e v) is ∙ (λ j. cond (sym (no-store i store) j) (stored q v) (wrote (destination i) v))
 
 -- the next variables of memories, by themselves and as they are numbered
-pub numbered_memory : (m q : ℕ) → cond (eqb q 0) m (m + q) ≡ m + q
+pub numbered_memory : (m q : ℕ) → cond (eqb q 0) m (cond (eqb q 1) (m + 1) (m + q)) ≡ m + q
 numbered_memory m zero = omega arith
-numbered_memory m (suc q) = let other : eqb (suc q) 0 ≡ false = ne_eqb (suc q) 0 (λ e. absurd (omega (arith, e))) in λ i. cond (other i) m (m + suc q)
+numbered_memory m (suc zero) = refl
+numbered_memory m (suc (suc q)) =
+    let first : eqb (suc (suc q)) 0 ≡ false = ne_eqb (suc (suc q)) 0 (λ e. absurd (omega (arith, e))) in
+    let second : eqb (suc (suc q)) 1 ≡ false = ne_eqb (suc (suc q)) 1 (λ e. absurd (omega (arith, e))) in
+    λ i. cond (first i) m (cond (second i) (m + 1) (m + suc (suc q)))
 
 -- the next variables are those that the code numbers
 pub fresh_is : (f : Flow) (vars regs : List ℕ) (memory words mems w m : ℕ) → ((r : ℕ) → variable_of vars r ≡ words + position_or_len (λ q. eqb q r) regs) → memory ≡ mems → regs ≡ f.regs → w ≡ words + length regs → m ≡ mems + f.mems
-    → record { words = w; mems = m; reg = variable_of vars; memory = λ q. cond (eqb q 0) memory (mems + q) } ≡ fresh f words mems
+    → record { words = w; mems = m; reg = variable_of vars; memory = λ q. cond (eqb q 0) memory (cond (eqb q 1) (mems + 1) (mems + q)) } ≡ fresh f words mems
 fresh_is f vars regs memory words mems w m each same are all many = λ i. record {
   words = (all ∙ ap (λ (rs : List ℕ). words + length rs) are) i;
   mems = many i;
   reg = λ r. (each r ∙ ap (λ (rs : List ℕ). words + position_or_len (λ q. eqb q r) rs) are) i;
-  memory = λ q. (ap (λ x. cond (eqb q 0) x (mems + q)) same ∙ numbered_memory mems q) i;
+  memory = λ q. (ap (λ x. cond (eqb q 0) x (cond (eqb q 1) (mems + 1) (mems + q))) same ∙ numbered_memory mems q) i;
 }
 
--- after a store the first memory is the next variable, and the others stay
-pub stored_is : (words mems memory others : ℕ) (reg : ℕ → ℕ)
-    → record { words = words; mems = mems + 1; reg = reg; memory = λ q. cond (eqb q 0) mems (others + q) } ≡ stored 0 (record { words = words; mems = mems; reg = reg; memory = λ q. cond (eqb q 0) memory (others + q) })
-stored_is words mems memory others reg =
+-- after a store to one of the first two memories that is the next variable, and the others stay
+pub first_stored : (words mems memory second others : ℕ) (reg : ℕ → ℕ)
+    → record { words = words; mems = mems + 1; reg = reg; memory = λ q. cond (eqb q 0) mems (cond (eqb q 1) second (others + q)) }
+    ≡ stored 0 (record { words = words; mems = mems; reg = reg; memory = λ q. cond (eqb q 0) memory (cond (eqb q 1) second (others + q)) })
+first_stored words mems memory second others reg =
     let next : mems + 1 ≡ suc mems = omega arith in
-    λ i. record { words = words; mems = next i; reg = reg; memory = λ q. same (eqb q 0) (others + q) i }
+    λ i. record { words = words; mems = next i; reg = reg; memory = λ q. same (eqb q 0) (cond (eqb q 1) second (others + q)) i }
   where
     same : (b : Bool) (x : ℕ) → cond b mems x ≡ cond b mems (cond b memory x)
     same true x = refl
     same false x = refl
+
+pub second_stored : (words mems memory second others : ℕ) (reg : ℕ → ℕ)
+    → record { words = words; mems = mems + 1; reg = reg; memory = λ q. cond (eqb q 0) memory (cond (eqb q 1) mems (others + q)) }
+    ≡ stored 1 (record { words = words; mems = mems; reg = reg; memory = λ q. cond (eqb q 0) memory (cond (eqb q 1) second (others + q)) })
+second_stored words mems memory second others reg =
+    let next : mems + 1 ≡ suc mems = omega arith in
+    λ i. record { words = words; mems = next i; reg = reg; memory = λ q. same q i }
+  where
+    other : (b : Bool) (x : ℕ) → cond b mems x ≡ cond b mems (cond b second x)
+    other true x = refl
+    other false x = refl
+
+    same : (q : ℕ) → cond (eqb q 0) memory (cond (eqb q 1) mems (others + q)) ≡ cond (eqb q 1) mems (cond (eqb q 0) memory (cond (eqb q 1) second (others + q)))
+    same zero = refl
+    same (suc q) =
+        let not_first : eqb (suc q) 0 ≡ false = ne_eqb (suc q) 0 (λ e. absurd (omega (arith, e))) in
+        (λ i. cond (not_first i) memory (cond (eqb (suc q) 1) mems (others + suc q)))
+        ∙ other (eqb (suc q) 1) (others + suc q)
+        ∙ (λ i. cond (eqb (suc q) 1) mems (cond (sym not_first i) memory (cond (eqb (suc q) 1) second (others + suc q))))
+
+-- the variable of one of the first two memories
+pub second_is : (q first second others : ℕ) → q < 2 → (q ≡ 0 → ⊥) → second ≡ cond (eqb q 0) first (cond (eqb q 1) second (others + q))
+second_is zero first second others lt some = absurd (some refl)
+second_is (suc zero) first second others lt some = refl
+second_is (suc (suc q)) first second others lt some = absurd (omega (arith, lt))
+
+-- one memory more
+range-more : (w n : ℕ) → range_with_len w (suc n) ≡ range_with_len w n ++ (w + n) ∷ []
+range-more w zero = let same : w ≡ w + 0 = omega arith in λ i. same i ∷ []
+range-more w (suc n) = let same : w + 1 + n ≡ w + suc n = omega arith in ap (λ xs. w ∷ xs) (range-more (w + 1) n ∙ (λ i. range_with_len (w + 1) n ++ same i ∷ []))
+
+map-more : {A B : Type 0} (h : A → B) (xs : List A) (x : A) → map h (xs ++ x ∷ []) ≡ map h xs ++ h x ∷ []
+map-more h [] x = refl
+map-more h (y ∷ xs) x = ap (λ ys. h y ∷ ys) (map-more h xs x)
+
+pub one_memory_more : {B : Type 0} (h : ℕ → B) (n : ℕ) → map h (range_with_len 0 (n + 1)) ≡ map h (range_with_len 0 n) ++ h n ∷ []
+one_memory_more h n =
+    let next : n + 1 ≡ suc n = omega arith in
+    let none : 0 + n ≡ n = omega arith in
+    (λ i. map h (range_with_len 0 (next i))) ∙ ap (map h) (range-more 0 n) ∙ map-more h (range_with_len 0 n) (0 + n) ∙ (λ i. map h (range_with_len 0 n) ++ h (none i) ∷ [])
 
 -- the memory, if there is one, as a value
 pub memories_are : (f : Flow) (v : VariableMap) (has : Bool) → f.mems ≡ cond has 1 0 → memory_if has (MemVar (v.memory 0)) ≡ map (λ q. MemVar (v.memory q)) (range_with_len 0 f.mems)
@@ -114,4 +159,6 @@ written_low vars memory d w m some lt low = record {
 pub stored_low : (vars : List ℕ) (memory w m : ℕ) → AreLow w m vars memory → AreLow w (m + 1) vars m
 stored_low vars memory w m low = record { word = low.word; memory_low = omega arith }
 
--- ---- bodies
+-- one more memory variable, of another memory
+pub other_low : (vars : List ℕ) (memory w m : ℕ) → AreLow w m vars memory → AreLow w (m + 1) vars memory
+other_low vars memory w m low = record { word = low.word; memory_low = (let le = low.memory_low in omega (arith, le)) }

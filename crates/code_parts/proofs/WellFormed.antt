@@ -18,7 +18,8 @@ use Rattle.rv_decode.specs.Registers.{sources}
 use Rattle.instr_axioms.specs.Terms.{has_memory, conditions}
 use Rattle.code_parts.specs.declared.part.Part.{Part}
 use Rattle.code_parts.specs.declared.part.Part.TheVariants.{Loop, Rest}
-use Rattle.code_parts.specs.Bodies.{Flow, VariableMap, size, names, current, fresh, start, with_pc, needs, writes, place_after, Action, Straight, Fork, Return, Enter, Callee, return_arm, action_of, action_calling, action, own, rest_targets, targets, returned, exits_of, rest_from, index_of, end_of, or_else, arms_over, last_at, rest_arms, end_at, action_body, body_at, rest_body, part_body}
+use Rattle.code_parts.specs.Bodies.{Flow, VariableMap, size, names, current, fresh, start, with_pc, needs, writes, place_after, Action, Straight, Fork, Return, Enter, return_arm, action_of, action_calling, action, own, rest_targets, targets, returned, exits_of, rest_from, index_of, end_of, or_else, arms_over, last_at, rest_arms, end_at, action_body, body_at, rest_body, part_body}
+use Rattle.code_parts.specs.declared.callee.Callee.{Callee}
 use Rattle.code_parts.specs.Graph.{IsEdge, IsPart, IsPlaced, IsGraph, IsCode, StandsAt, HasPart, CallsBelow, ArmsBelow}
 use Rattle.code_parts.proofs.Counts.{all_words_after, all_mems_after, all-words, all-mems, need-words, need-mems}
 use Rattle.code_parts.proofs.Lists.{index-at, index-some, slice-map}

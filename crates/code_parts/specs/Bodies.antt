@@ -13,16 +13,11 @@ use Rattle.triple_kernel.specs.declared.form.Form.TheVariants.{Next, Taken}
 use Rattle.rv_decode.specs.Registers.{destination}
 use Rattle.rvc.specs.Number.{length_of}
 use Rattle.instr_axioms.specs.Terms.{Names, following, word_in, conditions, result, memory_after, pc_after}
+use Rattle.code_parts.specs.declared.callee.Callee.{Callee}
 use Rattle.code_parts.specs.declared.part.Part.{Part}
 use Rattle.code_parts.specs.declared.part.Part.TheVariants.{Loop, Rest}
 
 -- ---- what a graph and its loops tell
-
--- a function that is called: the address where it is entered, the number of its definition, and whether it returns
-pub record Callee : Type 0 where
-  pub entry : ℕ
-  pub def : ℕ
-  pub returns : Bool
 
 -- The nodes and the loops have numbers from 0 on. A node has an address, a parcel or word, its instruction, and a node where it
 -- goes on in each form. `loop_of` is the loop whose head a node is, and `around` the smallest loop that has it, where a head counts

@@ -21,7 +21,8 @@ use Rattle.loop_forest.specs.Forest.{ForestOf, exits_of, head_of, place_of, regi
 use Rattle.loop_forest.specs.Walking.{loop_of}
 use Rattle.code_parts.specs.declared.part.Part.{Part}
 use Rattle.code_parts.specs.declared.part.Part.TheVariants.{Loop, Rest}
-use Rattle.code_parts.specs.Bodies.{Flow, Callee, part_def}
+use Rattle.code_parts.specs.Bodies.{Flow, part_def}
+use Rattle.code_parts.specs.declared.callee.Callee.{Callee}
 use Rattle.code_parts.specs.Graph.{is_return}
 
 -- ---- numbers of parts
@@ -77,6 +78,30 @@ alone g parts = record {
   functions = unlinked;
 }
 
+-- the first of these functions that is entered at the address, or none
+abbrev pub function_at : List Callee → ℕ → Callee
+function_at [] a = unlinked a
+function_at (c ∷ cs) a = if c.entry == a then c else function_at cs a
+
+-- a setting as the code has it: the accesses at the addresses of `second` use the second memory, and any other the first
+pub record SettingOf : Type 0 where
+  pub base : ℕ
+  pub parts : List Part
+  pub regs : List ℕ
+  pub mems : ℕ
+  pub second : List ℕ
+  pub functions : List Callee
+
+abbrev pub setting_of : SettingOf → Setting
+setting_of s = record {
+  base = s.base;
+  parts = s.parts;
+  regs = s.regs;
+  mems = s.mems;
+  uses = λ a. if list_any (λ b. b == a) s.second then 1 else 0;
+  functions = λ a. function_at s.functions a;
+}
+
 -- The nodes and loops have the numbers that they have in the graph and in the forest, and a part that of its place in the list of parts.
 abbrev pub flow_of : GraphOf → ForestOf → Setting → Flow
 flow_of g f s = record {
@@ -129,6 +154,11 @@ pub record IsReached (linked : Bool) (g : GraphOf) : Type 0 where
 -- the bytes of a node's instruction
 abbrev pub node_code : GraphOf → ℕ → Bytes
 node_code g n = range_bytes (word_code (slice_index g.addrs n) (slice_index g.numbers n))
+
+-- ranges in order that have the bytes of the nodes' instructions
+pub record HaveInstructions (g : GraphOf) (ranges : List Range) : Type 0 where
+  pub order : AreRanges ranges
+  pub each : (n : ℕ) → n < length g.addrs → IsWithin (node_code g n) (range_bytes ranges)
 
 -- exactly the bytes of the nodes' instructions, in order
 pub record AreCodeOf (g : GraphOf) (ranges : List Range) : Type 0 where

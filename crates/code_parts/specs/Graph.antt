@@ -19,7 +19,8 @@ use Rattle.instr_axioms.specs.Terms.{Names, following, has_memory, pc_after, has
 use Rattle.instr_axioms.specs.Axiom.{word_code}
 use Rattle.code_parts.specs.declared.part.Part.{Part}
 use Rattle.code_parts.specs.declared.part.Part.TheVariants.{Loop, Rest}
-use Rattle.code_parts.specs.Bodies.{Flow, Callee, size, first, exits_of, part_body, part_def, rest_targets, index_of}
+use Rattle.code_parts.specs.Bodies.{Flow, size, first, exits_of, part_body, part_def, rest_targets, index_of}
+use Rattle.code_parts.specs.declared.callee.Callee.{Callee}
 
 -- whether there is an edge from the instruction in that form: from a branch in both, from a return in none
 abbrev pub has_edge : Instr → Form → Bool
@@ -135,6 +136,12 @@ pub record IsMade (f : Flow) (g : GroupTree) (parts : List Part) : Type 0 where
   pub part : (k : ℕ) (q : Part) → slice_get parts k ≡ Some q → IsPart f q × (f.number q ≡ k)
   pub below : (k : ℕ) (q : Part) → slice_get parts k ≡ Some q → CallsBelow k (part_body f q)
   pub callees : (n : ℕ) (c : Callee) → n < f.nodes → f.callee n ≡ Some c → HasCallee g.defs c
+
+-- it calls no function, and has at most one memory
+pub record IsAlone (f : Flow) : Type 0 where
+  pub mems : f.mems ≤ 1
+  pub uses : (n : ℕ) → n < f.nodes → f.uses n ≡ 0
+  pub calls : (n : ℕ) → n < f.nodes → f.callee n ≡ None
 
 -- the numbers of a graph are small enough for the grammar
 pub record IsSmall (f : Flow) : Type 0 where

@@ -10,7 +10,8 @@ use Rattle.loop_forest.specs.Forest.{ForestOf, IsForestOf, number_of}
 use Rattle.flow_graph.specs.Flow.{called_by}
 use Rattle.code_parts.specs.declared.part.Part.{Part}
 use Rattle.code_parts.specs.declared.part.Part.TheVariants.{Rest}
-use Rattle.code_parts.specs.Bodies.{Callee, Flow, part_def}
+use Rattle.code_parts.specs.Bodies.{Flow, part_def}
+use Rattle.code_parts.specs.declared.callee.Callee.{Callee}
 use Rattle.code_parts.specs.Flows.{HaveCode, IsSetFor, Setting, flow_of}
 use Rattle.code_parts.specs.Order.{AreParts}
 

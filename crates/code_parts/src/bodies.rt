@@ -1,15 +1,20 @@
 //! Bodies of parts.
 
-ghost use Rattle.std.specs.Prelude.{◌≡◌, ◌++◌, ◌+◌, ◌<◌, ◌^◌, ℕ, IfOk, Some, map};
+ghost use Rattle.std.specs.Prelude.{◌≡◌, ◌∷◌, ◌++◌, ◌+◌, ◌*◌, ◌<◌, ◌^◌, ℕ, suc, [], IfOk, None, Some, map, true};
 ghost use Rattle.std.specs.List.{All};
-ghost use Rattle.tailrec_lang.specs.Tree.{body_tree, step_tree, with_steps};
+ghost use Rattle.rv_words.specs.declared.comparison.Cmp.TheVariants.{Eq};
+ghost use Rattle.word_terms.specs.Tree.{Compare, Const, Var};
+ghost use Rattle.tailrec_lang.specs.Tree.{Do, Need, arms_of, body_tree, step_tree, with_steps};
+ghost use Rattle.triple_kernel.specs.declared.form.Form.TheVariants.{Next};
+ghost use Rattle.instr_axioms.specs.Terms.{following};
 ghost use Rattle.code_parts.specs.Bodies as spec;
-ghost use Rattle.code_parts.specs.Graph.{IsPart};
+ghost use Rattle.code_parts.specs.Graph.{IsPart, has_edge};
 ghost use Rattle.code_parts.specs.Regions.{IsOfRegion};
-ghost use Rattle.code_parts.specs.inner.Ends.{body_on, returned_body};
+ghost use Rattle.code_parts.specs.inner.Ends.{body_on, called_body, returned_body};
 ghost use Rattle.code_parts.specs.Kept.{flow_in};
 ghost use Rattle.code_parts.specs.VariableMaps.{place_of};
 
+use crate::callee::Callee;
 use crate::ends::{end_at, with_pc};
 use crate::flow::Flow;
 use crate::part::Part;
@@ -18,27 +23,30 @@ use crate::uses::is_jump_through;
 use crate::variables::{VariableMap, after, current, fresh};
 use instr_axioms::{Form, comparison, pc_after};
 use rv_decode::Instr;
-use rv_words::{List, NoMemory};
+use rv_words::{Cmp, List, NoMemory};
 use std::alloc::Global;
 use tailrec_lang::{Body, End, Step};
+use word_terms::{Cond, Word};
 
 /// How many instructions there are at most from one cut to the next.
 pub const CUT_DISTANCE_LIMIT: u32 = 32;
 
-/// These steps, and those of an instruction that goes on to one node.
+/// These steps, and those of an instruction that goes on to one node and accesses memory q if it does.
 fn steps_of(
     alloc: Global,
     i: Instr,
     addr: u64,
     length: u8,
+    q: u8,
     place: &VariableMap,
     steps: List<Step>,
 ) -> Result<List<Step>, NoMemory>
-    ensures { IfOk result (λ ss. map step_tree ss ≡ map step_tree steps ++ (spec.needs i 0 (place_of place.now) ++ spec.writes i addr length 0 (place_of place.now))) }
+    requires { q < 2 }
+    ensures { IfOk result (λ ss. map step_tree ss ≡ map step_tree steps ++ (spec.needs i q (place_of place.now) ++ spec.writes i addr length q (place_of place.now))) }
 {
     let mut steps = steps;
-    add_needs(alloc, i, place, &mut steps)?;
-    add_writes(alloc, i, addr, length, place, &mut steps)?;
+    add_needs(alloc, i, q, place, &mut steps)?;
+    add_writes(alloc, i, addr, length, q, place, &mut steps)?;
     Ok(steps)
 }
 
@@ -50,14 +58,17 @@ fn returning_body(
     i: Instr,
     addr: u64,
     length: u8,
+    q: u8,
     place: &VariableMap,
     steps: List<Step>,
 ) -> Result<Body, NoMemory>
-    ensures { IfOk result (λ b. body_tree b ≡ with_steps (map step_tree steps) (returned_body (flow_in flow.now) i addr length 0 (place_of place.now))) }
+    requires { q < 2 }
+    ensures { IfOk result (λ b. body_tree b ≡ with_steps (map step_tree steps) (returned_body (flow_in flow.now) i addr length q (place_of place.now))) }
 {
     let mut steps = steps;
-    add_needs(alloc, i, place, &mut steps)?;
-    let pc = pc_after(alloc, i, Form::Next, addr, length, &place.names)?;
+    add_needs(alloc, i, q, place, &mut steps)?;
+    let names = place.names_of(q);
+    let pc = pc_after(alloc, i, Form::Next, addr, length, &names)?;
     let values = current(alloc, flow, place)?;
     let values = with_pc(alloc, pc, values)?;
     Ok(Body {
@@ -67,7 +78,7 @@ fn returning_body(
 }
 
 /// The body from a node on, after some steps: it follows the branches to the next cuts.
-#[tactic(auto, using(tailrec_lang::proofs::Views::view_body, tailrec_lang::proofs::Views::view_leave, tailrec_lang::proofs::Views::view_branch))]
+#[tactic(auto, using(tailrec_lang::proofs::Views::view_body, tailrec_lang::proofs::Views::view_leave))]
 #[cycle(bodies)]
 fn body_from(
     alloc: Global,
@@ -80,8 +91,8 @@ fn body_from(
 ) -> Result<Body, NoMemory>
     requires own { IsOfRegion (flow_in flow.now) p }
     requires node { n < (flow_in flow.now).nodes }
-    requires words { place.now.words + room < 2 ^ 14 }
-    requires mems { place.now.mems + room < 2 ^ 14 }
+    requires words { place.now.words + 33 * room < 2 ^ 14 }
+    requires mems { place.now.mems + 3 * room < 2 ^ 14 }
     ensures { IfOk result (λ b. body_tree b ≡ with_steps (map step_tree steps) (spec.body_at room (flow_in flow.now) p n (place_of place.now))) }
 {
     if room == 0 {
@@ -91,10 +102,36 @@ fn body_from(
             end: End::Leave(0, values),
         });
     }
-    flow.law_of_calls(n);
+    match flow.callee(n) {
+        Some(callee) => calling_body(alloc, flow, p, n, callee, place, room - 1, steps),
+        None => acting_body(alloc, flow, p, n, place, room, steps),
+    }
+}
+
+/// The body from a node on that calls no function.
+#[tactic(auto, using(tailrec_lang::proofs::Views::view_body, tailrec_lang::proofs::Views::view_branch))]
+#[cycle(bodies)]
+fn acting_body(
+    alloc: Global,
+    flow: &Flow<'_>,
+    p: Part,
+    n: u32,
+    place: &VariableMap,
+    room: u32,
+    steps: List<Step>,
+) -> Result<Body, NoMemory>
+    requires own { IsOfRegion (flow_in flow.now) p }
+    requires node { n < (flow_in flow.now).nodes }
+    requires alone { (flow_in flow.now).callee n ≡ None }
+    requires some { 0 < room }
+    requires words { place.now.words + 33 * room < 2 ^ 14 }
+    requires mems { place.now.mems + 3 * room < 2 ^ 14 }
+    ensures { IfOk result (λ b. body_tree b ≡ with_steps (map step_tree steps) (spec.body_at room (flow_in flow.now) p n (place_of place.now))) }
+{
     let i = flow.instr(n);
+    let q = flow.uses(n);
     if is_jump_through(i) {
-        return returning_body(alloc, flow, i, flow.addr(n), flow.size(n), place, steps);
+        return returning_body(alloc, flow, i, flow.addr(n), flow.size(n), q, place, steps);
     }
     match i {
         Instr::Branch { cmp, rs1, rs2, .. } => {
@@ -123,8 +160,8 @@ fn body_from(
             Ok(Body { steps, end })
         }
         _ => {
-            let steps = steps_of(alloc, i, flow.addr(n), flow.size(n), place, steps)?;
-            let next = after(i, *place);
+            let steps = steps_of(alloc, i, flow.addr(n), flow.size(n), q, place, steps)?;
+            let next = after(i, q, *place);
             body_to(
                 alloc,
                 flow,
@@ -152,8 +189,8 @@ fn body_to(
 ) -> Result<Body, NoMemory>
     requires own { IsOfRegion (flow_in flow.now) p }
     requires node { n < (flow_in flow.now).nodes }
-    requires words { place.now.words + room < 2 ^ 14 }
-    requires mems { place.now.mems + room < 2 ^ 14 }
+    requires words { place.now.words + 33 * room < 2 ^ 14 }
+    requires mems { place.now.mems + 3 * room < 2 ^ 14 }
     ensures { IfOk result (λ b. body_tree b ≡ with_steps (map step_tree steps) (body_on room (flow_in flow.now) p n (place_of place.now))) }
 {
     if flow.is_cut(n) {
@@ -161,6 +198,108 @@ fn body_to(
         return Ok(Body { steps, end });
     }
     body_from(alloc, flow, p, n, place, room, steps)
+}
+
+/// These steps, and the body for a node that calls a function, where so many instructions may follow to the next cuts.
+#[tactic(auto, using(tailrec_lang::proofs::Views::view_body, tailrec_lang::proofs::Views::view_call))]
+#[cycle(bodies)]
+fn calling_body(
+    alloc: Global,
+    flow: &Flow<'_>,
+    p: Part,
+    n: u32,
+    callee: Callee,
+    place: &VariableMap,
+    room: u32,
+    steps: List<Step>,
+) -> Result<Body, NoMemory>
+    requires own { IsOfRegion (flow_in flow.now) p }
+    requires node { n < (flow_in flow.now).nodes }
+    requires edge { has_edge ((flow_in flow.now).instr n) Next ≡ true }
+    requires words { place.now.words + 33 * (room + 1) < 2 ^ 14 }
+    requires mems { place.now.mems + 3 * (room + 1) < 2 ^ 14 }
+    ensures { IfOk result (λ b. body_tree b ≡ with_steps (map step_tree steps) (called_body room (flow_in flow.now) p n callee (place_of place.now))) }
+{
+    let i = flow.instr(n);
+    let q = flow.uses(n);
+    let addr = flow.addr(n);
+    let length = flow.size(n);
+    let steps = steps_of(alloc, i, addr, length, q, place, steps)?;
+    let next = after(i, q, *place);
+    let values = current(alloc, flow, &next)?;
+    let back = behind(addr, length);
+    let to = flow.to(n, Form::Next);
+    let arms = return_arms(alloc, flow, p, callee.returns, back, to, &next, room)?;
+    Ok(Body {
+        steps,
+        end: End::Call(callee.def, values, arms),
+    })
+}
+
+/// The arms of a call that goes on at that node.
+#[cycle(bodies)]
+fn return_arms(
+    alloc: Global,
+    flow: &Flow<'_>,
+    p: Part,
+    returns: bool,
+    back: u64,
+    to: u32,
+    place: &VariableMap,
+    room: u32,
+) -> Result<List<Body>, NoMemory>
+    requires own { IsOfRegion (flow_in flow.now) p }
+    requires node { to < (flow_in flow.now).nodes }
+    requires words { place.now.words + 32 + 33 * room < 2 ^ 14 }
+    requires mems { place.now.mems + 2 + 3 * room < 2 ^ 14 }
+    ensures { IfOk result (λ arms. arms_of (map body_tree arms) ≡ spec.return_arm (flow_in flow.now) returns back (place_of place.now) (λ w. body_on room (flow_in flow.now) p to w)) }
+{
+    let mut arms = List::new(alloc);
+    if returns {
+        let arm = return_arm(alloc, flow, p, back, to, place, room)?;
+        arms.push(arm)?;
+    }
+    Ok(arms)
+}
+
+/// The body for a call's return: it needs to be back at that address, and goes on at that node.
+#[cycle(bodies)]
+fn return_arm(
+    alloc: Global,
+    flow: &Flow<'_>,
+    p: Part,
+    back: u64,
+    to: u32,
+    place: &VariableMap,
+    room: u32,
+) -> Result<Body, NoMemory>
+    requires own { IsOfRegion (flow_in flow.now) p }
+    requires node { to < (flow_in flow.now).nodes }
+    requires words { place.now.words + 32 + 33 * room < 2 ^ 14 }
+    requires mems { place.now.mems + 2 + 3 * room < 2 ^ 14 }
+    ensures { IfOk result (λ b. body_tree b ≡ Do (Need (Compare Eq (Var place.now.words) (Const back))) (body_on room (flow_in flow.now) p to (spec.fresh (flow_in flow.now) (suc place.now.words) place.now.mems))) }
+{
+    let steps = returned_to(alloc, back, place.words)?;
+    let next = fresh(flow, place.words + 1, place.mems);
+    body_to(alloc, flow, p, to, &next, room, steps)
+}
+
+/// The step that needs a returned address to be that one.
+fn returned_to(alloc: Global, back: u64, returned: u32) -> Result<List<Step>, NoMemory>
+    ensures { IfOk result (λ ss. map step_tree ss ≡ Need (Compare Eq (Var returned) (Const back)) ∷ []) }
+{
+    let at = Box::new(alloc, Word::Var(returned))?;
+    let back = Box::new(alloc, Word::Const(back))?;
+    let mut steps = List::new(alloc);
+    steps.push(Step::Need(Cond::Compare(Cmp::Eq, at, back)))?;
+    Ok(steps)
+}
+
+/// The address behind an instruction of that many bytes.
+fn behind(addr: u64, length: u8) -> u64
+    ensures { result ≡ following addr length }
+{
+    addr.wrapping_add(u64::from(length))
 }
 
 /// An arm for each of these nodes.

@@ -1,8 +1,9 @@
 //! The code of a graph.
 
-ghost use Rattle.std.specs.Prelude.{◌≡◌, ◌+◌, ◌<◌, IfOk, false, length};
+ghost use Rattle.std.specs.Prelude.{◌≡◌, ◌+◌, ◌<◌, IfOk, length};
 ghost use Rattle.std.specs.List.{AllByRecursion};
-ghost use Rattle.code_parts.specs.Flows.{AreCodeOf, IsReached};
+ghost use Rattle.code_parts.specs.Flows.{AreCodeOf};
+ghost use Rattle.code_parts.specs.Kept.{IsReachedBy};
 ghost use Rattle.code_parts.specs.inner.Words.{AreCodeTo};
 
 use flow_graph::Graph;
@@ -14,7 +15,7 @@ use word_terms::Code;
 
 /// This code, and that of the next node's instruction.
 fn with_node(alloc: Global, graph: &Graph, n: u32, code: &Code) -> Result<Code, NoMemory>
-    requires reached { IsReached false graph.now }
+    requires reached { IsReachedBy graph.now }
     requires node { n < length graph.now.addrs }
     requires code { AreCodeTo graph.now n code.now.ranges }
     ensures { IfOk result (λ c. AreCodeTo graph.now (n + 1) c.ranges) }
@@ -26,7 +27,7 @@ fn with_node(alloc: Global, graph: &Graph, n: u32, code: &Code) -> Result<Code, 
 
 /// The bytes of all instructions, as ranges in order.
 pub fn code_of(alloc: Global, graph: &Graph) -> Result<Code, NoMemory>
-    requires { IsReached false graph.now }
+    requires { IsReachedBy graph.now }
     ensures { IfOk result (λ c. AreCodeOf graph.now c.ranges) }
 {
     let mut code = Code {

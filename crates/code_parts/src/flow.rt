@@ -1,19 +1,22 @@
 //! What a graph and its forest tell of a function, in the form from which definitions of parts are made.
 
-ghost use Rattle.std.specs.Prelude.{◌≡◌, ◌<◌, ◌≤◌, ◌^◌, IfOk, IfSome, None, drop, false, if◌then◌else◌, length, slice_index, true};
-ghost use Rattle.std.specs.List.{All};
+ghost use Rattle.std.specs.Prelude.{◌≡◌, ◌+◌, ◌<◌, ◌≤◌, ◌==◌, ◌^◌, IfOk, IfSome, None, drop, false, if◌then◌else◌, length, slice_index, true};
+ghost use Rattle.std.specs.List.{All, list_any};
 ghost use Rattle.loop_forest.specs.Forest.{IsForestOf};
 ghost use Rattle.code_parts.specs.Bodies.{size};
-ghost use Rattle.code_parts.specs.Graph.{IsCode, IsGraph, IsPart, StandsAt, has_edge};
-ghost use Rattle.code_parts.specs.Flows.{AreCodeOf, IsReached, place_in, same_part};
+ghost use Rattle.code_parts.specs.Graph.{IsAlone, IsCode, IsGraph, IsPart, StandsAt, has_edge};
+ghost use Rattle.code_parts.specs.Flows.{AreCodeOf, HaveInstructions, IsReached, IsSetFor, alone, function_at as the_function, place_in, same_part, setting_of};
 ghost use Rattle.code_parts.specs.Regions.{IsOfRegion, IsRegion};
-ghost use Rattle.code_parts.specs.Kept.{flow_in};
+ghost use Rattle.code_parts.specs.Kept.{IsReachedBy, flow_in};
+ghost use Rattle.triple_kernel.specs.declared.form.Form.TheVariants.{Next};
 ghost use Rattle.rv_decode.specs.Registers.{destination};
 
+use crate::callee::Callee;
 use crate::code::code_of;
 use crate::part::Part;
+use crate::setting::Setting;
 use crate::uses::{registers, returns, uses_memory};
-use flow_graph::{Edges, Graph};
+use flow_graph::{Edges, Graph, called_by};
 use instr_axioms::Form;
 use loop_forest::Forest;
 use rv_decode::Instr;
@@ -21,16 +24,19 @@ use rv_words::{List, NoMemory};
 use rvc::length_of;
 use std::alloc::Global;
 use std::marker::Model;
-use word_terms::Code;
+use word_terms::{Code, copy_code};
 
-/// A graph and its forest, with the parts that have numbers, what the instructions use, and their code.
+/// A graph and its forest, with what a flow has beside them, and code that has the instructions.
 #[derive(Drop)]
 pub struct Flow<'a> {
     graph: &'a Graph,
     forest: &'a Forest,
+    base: u32,
     parts: &'a [Part],
     regs: List<u8>,
-    has_mem: bool,
+    mems: u8,
+    second: &'a [u64],
+    functions: &'a [Callee],
     returns: bool,
     code: Code,
 }
@@ -40,13 +46,13 @@ impl<'a> Model for Flow<'a> {
 
     ghost Value = { FlowOf };
 
-    ghost view = { λ s. record { graph = s.graph.now; forest = s.forest.now; parts = s.parts.now; code = s.code.ranges } };
+    ghost view = { λ s. record { graph = s.graph.now; forest = s.forest.now; setting = record { base = s.base; parts = s.parts.now; regs = s.regs; mems = s.mems; second = s.second.now; functions = s.functions.now }; code = s.code.ranges } };
 
-    ghost invariant = { λ s. IsKept s.graph.now s.forest.now s.parts.now s.regs s.has_mem s.returns s.code.ranges };
+    ghost invariant = { λ s. IsKept s.graph.now s.forest.now (record { base = s.base; parts = s.parts.now; regs = s.regs; mems = s.mems; second = s.second.now; functions = s.functions.now }) s.returns s.code.ranges };
 }
 
 impl<'a> Flow<'a> {
-    /// The flow of a graph and its forest, where these parts have their places as numbers.
+    /// The flow of a function alone, where these parts have their places as numbers.
     pub fn new(
         alloc: Global,
         graph: &'a Graph,
@@ -58,16 +64,57 @@ impl<'a> Flow<'a> {
         requires few { length parts.now < 2 ^ 32 }
         ensures graph { IfOk result (λ s. s.graph ≡ graph.now) }
         ensures forest { IfOk result (λ s. s.forest ≡ forest.now) }
-        ensures parts { IfOk result (λ s. s.parts ≡ parts.now) }
+        ensures parts { IfOk result (λ s. s.setting.parts ≡ parts.now) }
+        ensures setting { IfOk result (λ s. setting_of s.setting ≡ alone graph.now parts.now) }
+        ensures alone { IfOk result (λ s. IsAlone (flow_in s)) }
+        ensures code { IfOk result (λ s. AreCodeOf graph.now s.code) }
     {
         let regs = registers(alloc, graph)?;
         let code = code_of(alloc, graph)?;
         Ok(Flow {
             graph,
             forest,
+            base: 0,
             parts,
             regs,
-            has_mem: uses_memory(graph),
+            mems: one_if(uses_memory(graph)),
+            second: &[],
+            functions: &[],
+            returns: returns(graph),
+            code,
+        })
+    }
+
+    /// The flow of a function in a setting, and in this code.
+    pub fn of(
+        alloc: Global,
+        graph: &'a Graph,
+        forest: &'a Forest,
+        setting: &Setting<'a>,
+        code: &Code,
+    ) -> Result<Flow<'a>, NoMemory>
+        requires reached { IsReachedBy graph.now }
+        requires forest { IsForestOf graph.now forest.now }
+        requires fits { IsSetFor graph.now (setting_of setting.now) }
+        requires few { setting.now.base + length setting.now.parts < 2 ^ 32 }
+        requires mems { setting.now.mems ≤ 2 }
+        requires code { HaveInstructions graph.now code.now.ranges }
+        ensures graph { IfOk result (λ s. s.graph ≡ graph.now) }
+        ensures forest { IfOk result (λ s. s.forest ≡ forest.now) }
+        ensures setting { IfOk result (λ s. s.setting ≡ setting.now) }
+        ensures code { IfOk result (λ s. s.code ≡ code.now.ranges) }
+    {
+        let regs = List::from_slice(alloc, setting.regs)?;
+        let code = copy_code(alloc, code)?;
+        Ok(Flow {
+            graph,
+            forest,
+            base: setting.base,
+            parts: setting.parts,
+            regs,
+            mems: setting.mems,
+            second: setting.second,
+            functions: setting.functions,
             returns: returns(graph),
             code,
         })
@@ -168,7 +215,7 @@ impl<'a> Flow<'a> {
     pub fn number(&self, p: Part) -> u32
         ensures { result ≡ (flow_in self.now).number p }
     {
-        place_of(self.parts, p)
+        self.base + place_of(self.parts, p)
     }
 
     /// The registers that are used.
@@ -180,17 +227,47 @@ impl<'a> Flow<'a> {
         self.regs.as_slice()
     }
 
-    /// Whether there is a memory.
-    pub fn has_mem(&self) -> bool
-        ensures { (flow_in self.now).mems ≡ if result then 1 else 0 }
+    /// How many memories there are.
+    pub fn mems(&self) -> u8
+        ensures is { result ≡ (flow_in self.now).mems }
+        ensures few { result ≤ 2 }
     {
-        self.has_mem
+        self.mems
     }
 
-    /// The code of the instructions.
+    /// Whether there is a memory, where there is at most one.
+    pub fn has_mem(&self) -> bool
+        requires { IsAlone (flow_in self.now) }
+        ensures { (flow_in self.now).mems ≡ if result then 1 else 0 }
+    {
+        self.mems == 1
+    }
+
+    /// The memory that a node loads from or stores to, if it does.
+    pub fn uses(&self, n: u32) -> u8
+        requires { n < (flow_in self.now).nodes }
+        ensures is { result ≡ (flow_in self.now).uses n }
+        ensures low { result < 2 }
+    {
+        one_if(is_among(self.second, self.addr(n)))
+    }
+
+    /// The function that a node calls.
+    pub fn callee(&self, n: u32) -> Option<Callee>
+        requires { n < (flow_in self.now).nodes }
+        ensures is { result ≡ (flow_in self.now).callee n }
+        ensures edge { IfSome result (λ c. has_edge ((flow_in self.now).instr n) Next ≡ true) }
+    {
+        match called_by(self.addr(n), self.instr(n)) {
+            Some(t) => Some(function_at(self.functions, t)),
+            None => None,
+        }
+    }
+
+    /// The code, which has the instructions.
     pub fn code(&self) -> &Code
         ensures is { result.now.ranges ≡ self.now.code }
-        ensures whole { AreCodeOf self.now.graph result.now.ranges }
+        ensures whole { HaveInstructions self.now.graph result.now.ranges }
     {
         &self.code
     }
@@ -222,7 +299,8 @@ impl<'a> Flow<'a> {
 
     /// A function alone calls no other.
     pub fn law_of_calls(&self, n: u32)
-        requires { n < (flow_in self.now).nodes }
+        requires alone { IsAlone (flow_in self.now) }
+        requires node { n < (flow_in self.now).nodes }
         ensures { (flow_in self.now).callee n ≡ None }
     {
         let _parts = self.parts;
@@ -244,6 +322,13 @@ impl<'a> Flow<'a> {
     }
 }
 
+/// 1 where that holds, else 0.
+fn one_if(holds: bool) -> u8
+    ensures { result ≡ if holds then 1 else 0 }
+{
+    if holds { 1 } else { 0 }
+}
+
 /// The next of these nodes, or 0 where there is none.
 fn next_end(ends: &mut Edges<'_>) -> u32
     ensures first { result ≡ slice_index ends.old 0 }
@@ -255,7 +340,8 @@ fn next_end(ends: &mut Edges<'_>) -> u32
 /// The place of a part among these, or their number.
 fn place_of(parts: &[Part], p: Part) -> u32
     requires { length parts.now < 2 ^ 32 }
-    ensures { result ≡ place_in parts.now p }
+    ensures is { result ≡ place_in parts.now p }
+    ensures low { result ≤ length parts.now }
 {
     let mut place = 0;
     for q in parts {
@@ -265,6 +351,34 @@ fn place_of(parts: &[Part], p: Part) -> u32
         place += 1;
     }
     place
+}
+
+/// Whether an address is one of these.
+fn is_among(addresses: &[u64], a: u64) -> bool
+    ensures { result ≡ list_any (λ b. b == a) addresses.now }
+{
+    for b in addresses {
+        if *b == a {
+            return true;
+        }
+    }
+    false
+}
+
+/// The first of these functions that is entered at an address, or none.
+fn function_at(functions: &[Callee], a: u64) -> Callee
+    ensures { result ≡ the_function functions.now a }
+{
+    for f in functions {
+        if f.entry == a {
+            return *f;
+        }
+    }
+    Callee {
+        entry: a,
+        def: 0,
+        returns: false,
+    }
 }
 
 /// Whether two parts are the same.

@@ -21,7 +21,7 @@ fn stands_in(i: Instr, r: u8) -> bool
 
 /// Whether a register stands in one of the instructions.
 #[tactic(auto, using(crate::proofs::AnyOf::found_one))]
-fn is_used(g: &Graph, r: u8) -> bool
+pub fn is_used(g: &Graph, r: u8) -> bool
     ensures { result ≡ list_any (λ i. is_own i r) g.now.instrs }
 {
     for n in 0..g.len() {

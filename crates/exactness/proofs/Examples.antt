@@ -31,9 +31,9 @@ use Rattle.instr_axioms.specs.Axiom.{word_code}
 use Rattle.code_parts.specs.declared.part.Part.{Part}
 use Rattle.code_parts.specs.declared.part.Part.TheVariants.{Loop, Rest}
 use Rattle.code_parts.specs.Bodies.{Flow, part_def}
-use Rattle.code_parts.specs.Graph.{has_edge, IsEdge, IsPart, IsPlaced, IsGraph, StandsAt, IsCode}
+use Rattle.code_parts.specs.Graph.{IsAlone, has_edge, IsEdge, IsPart, IsPlaced, IsGraph, StandsAt, IsCode}
 use Rattle.exactness.specs.Exact.{IsAtReturn, FirstReturns, Exact}
-use Rattle.exactness.specs.Parts.{HasParts, IsAlone, LeavesAs, Meets}
+use Rattle.exactness.specs.Parts.{HasParts, LeavesAs, Meets}
 use Rattle.exactness.proofs.Runs.{law-of-part, nothing-lost}
 
 abbrev instructions : ℕ → Instr

@@ -17,7 +17,8 @@ use Rattle.tailrec_lang.proofs.Turns.{ending-enter, ending-exited}
 use Rattle.tailrec_lang.proofs.Definitions.{exits_there}
 use Rattle.code_parts.specs.declared.part.Part.{Part}
 use Rattle.code_parts.specs.declared.part.Part.TheVariants.{Rest}
-use Rattle.code_parts.specs.Bodies.{Flow, Callee, VariableMap, action, part_def}
+use Rattle.code_parts.specs.Bodies.{Flow, VariableMap, action, part_def}
+use Rattle.code_parts.specs.declared.callee.Callee.{Callee}
 use Rattle.code_parts.specs.Graph.{IsPart}
 use Rattle.checker.specs.Headline.{Region, AreApart, is_within, held_in, Starts}
 use Rattle.exactness.specs.Exact.{IsAtReturn, Gives}

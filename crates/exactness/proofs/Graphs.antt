@@ -5,7 +5,8 @@ use Rattle.rv_decode.specs.declared.instruction.Instr.TheVariants as instr
 use Rattle.word_terms.specs.Tree.{WordTree}
 use Rattle.tailrec_lang.specs.Tree.{StepTree}
 use Rattle.triple_kernel.specs.declared.form.Form.{Form}
-use Rattle.code_parts.specs.Bodies.{VariableMap, Return, Callee, action_of, action_calling}
+use Rattle.code_parts.specs.Bodies.{VariableMap, Return, action_of, action_calling}
+use Rattle.code_parts.specs.declared.callee.Callee.{Callee}
 use Rattle.code_parts.specs.Graph.{is_return}
 
 -- a jump through a register alone returns

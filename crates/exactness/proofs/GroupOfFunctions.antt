@@ -4,7 +4,8 @@ use Rattle.rv_decode.specs.declared.instruction.Instr.TheVariants.{Jal}
 use Rattle.tailrec_lang.specs.Tree.{GroupTree}
 use Rattle.code_parts.specs.declared.part.Part.{Part}
 use Rattle.code_parts.specs.declared.part.Part.TheVariants.{Rest}
-use Rattle.code_parts.specs.Bodies.{Flow, Callee, part_def}
+use Rattle.code_parts.specs.Bodies.{Flow, part_def}
+use Rattle.code_parts.specs.declared.callee.Callee.{Callee}
 use Rattle.code_parts.specs.Graph.{IsPart, IsGraph, IsCode}
 
 -- a function of a group: its flow, and the node of its entry

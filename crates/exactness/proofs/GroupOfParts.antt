@@ -1,14 +1,12 @@
 -- A group that is made of a graph's parts in order has a definition for each part.
-use Rattle.std.proofs.Common.{◌≡◌, ℕ, ◌+◌, ◌≤◌, Bool, true, false, cond, None, List, length, refl, sym, ap, ◌∙◌, arith, zero-add}
+use Rattle.std.proofs.Common.{◌≡◌, ℕ, ◌+◌, false, None, List, length, sym, ap, ◌∙◌, zero-add}
 use Rattle.std.specs.Prelude.{slice_get}
-use Rattle.std.specs.List.{list_any}
 use Rattle.std.proofs.lemmas.List.{length-map}
-use Rattle.rv_words.specs.Bytes.{AreBytes, Bytes}
+use Rattle.rv_words.specs.Bytes.{AreBytes}
 use Rattle.rv_words.specs.declared.range.Range.{Range}
 use Rattle.rv_words.specs.Ranges.{range_bytes}
 use Rattle.elf_image.specs.Image.{code_of_file}
 use Rattle.sep_assert.specs.Code.{IsWithin}
-use Rattle.instr_axioms.specs.Terms.{has_memory}
 use Rattle.flow_graph.specs.Graph.{GraphOf, IsGraphOf}
 use Rattle.loop_forest.specs.Forest.{ForestOf, IsForestOf, number_of}
 use Rattle.tailrec_lang.specs.Tree.{DefTree, GroupTree}
@@ -20,10 +18,10 @@ use Rattle.code_parts.specs.Flows.{HaveCode, alone, flow_of, group_of, place_in}
 use Rattle.code_parts.specs.Order.{AreParts}
 use Rattle.code_parts.proofs.FlowEntry.{last-is, whole-is}
 use Rattle.code_parts.proofs.FlowGraph.{is-graph}
-use Rattle.code_parts.proofs.FlowMade.{is-made, none-called}
+use Rattle.code_parts.proofs.FlowMade.{is-alone, is-made}
 use Rattle.code_parts.proofs.Lists.{slice-mapped}
 use Rattle.exactness.specs.Exact.{Exact}
-use Rattle.exactness.specs.Parts.{HasParts, IsAlone}
+use Rattle.exactness.specs.Parts.{HasParts}
 use Rattle.exactness.proofs.Runs.{nothing-lost}
 
 -- the group of a graph whose last part is the rest of the whole function from the entry on
@@ -34,17 +32,6 @@ has-parts f g parts entry made whole last = record {
   defs = λ p there. ap (λ ds. slice_get ds (f.number p)) made.defs ∙ slice-mapped (part_def f) parts (f.number p) p (made.listed p there);
   whole = whole;
   last = ap (λ (ds : List DefTree). length ds) made.defs ∙ length-map parts (part_def f) ∙ last;
-}
-
-at-most-one : (b : Bool) → cond b 1 0 ≤ 1
-at-most-one true = omega arith
-at-most-one false = omega arith
-
-pub is-alone : (code : Bytes) (entry : ℕ) (g : GraphOf) (f : ForestOf) (parts : List Part) → IsGraphOf false code entry g → IsAlone (flow_of g f (alone g parts))
-is-alone code entry g f parts graph = record {
-  mems = at-most-one (list_any has_memory g.instrs);
-  uses = λ n lt. refl;
-  calls = λ n lt. none-called code entry g f parts graph n lt;
 }
 
 -- what is made of a function of a file loses nothing

@@ -14,7 +14,8 @@ use Rattle.loop_forest.specs.Forest.{number_of}
 use Rattle.code_parts.specs.declared.part.Part.{Part}
 use Rattle.code_parts.specs.declared.part.Part.TheVariants.{Rest}
 use Rattle.flow_graph.specs.Flow.{called_by, target}
-use Rattle.code_parts.specs.Bodies.{Callee, part_def}
+use Rattle.code_parts.specs.Bodies.{part_def}
+use Rattle.code_parts.specs.declared.callee.Callee.{Callee}
 use Rattle.code_parts.specs.Flows.{place_in}
 use Rattle.code_parts.specs.Graph.{IsCode, IsGraph, IsPart}
 use Rattle.code_parts.specs.Members.{AreMembers, IsMember, Member, callee_at, flow_at}

@@ -8,7 +8,8 @@ use Rattle.tailrec_lang.specs.Tree.{ValuesTree, BodyTree, Call, Again, Leave, No
 use Rattle.tailrec_lang.specs.Eval.{Arguments, Meaning, Ending, Exited, NeedFalse, and_then, body_ending, arm_ending, arguments_of, with_arguments, needs}
 use Rattle.code_parts.specs.declared.part.Part.{Part}
 use Rattle.code_parts.specs.declared.part.Part.TheVariants.{Loop, Rest}
-use Rattle.code_parts.specs.Bodies.{Flow, size, Callee, VariableMap, Action, Straight, Fork, Return, Enter, return_arm, action, fresh, start, current, with_pc, own, first, rest_targets, targets, rest_from, index_of, end_of, or_else, arms_over, last_at, rest_arms, end_at, action_body, body_at, rest_body, part_body}
+use Rattle.code_parts.specs.Bodies.{Flow, size, VariableMap, Action, Straight, Fork, Return, Enter, return_arm, action, fresh, start, current, with_pc, own, first, rest_targets, targets, rest_from, index_of, end_of, or_else, arms_over, last_at, rest_arms, end_at, action_body, body_at, rest_body, part_body}
+use Rattle.code_parts.specs.declared.callee.Callee.{Callee}
 use Rattle.exactness.proofs.Returns.{Comes, split}
 use Rattle.exactness.proofs.StateVariables.{Stands, stands-fresh, stands-start, stands-returned, returned-values}
 use Rattle.exactness.proofs.BodyLemmas.{after_steps, AllHold, needs_passed, ending-steps, arm-over, is-found, found-at, contains-at}

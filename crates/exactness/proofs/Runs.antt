@@ -16,13 +16,14 @@ use Rattle.tailrec_lang.proofs.Turns.{ending-enter, ending-exited}
 use Rattle.tailrec_lang.proofs.Definitions.{exits_there}
 use Rattle.code_parts.specs.declared.part.Part.{Part}
 use Rattle.code_parts.specs.declared.part.Part.TheVariants.{Loop, Rest}
-use Rattle.code_parts.specs.Bodies.{Flow, Callee, VariableMap, Action, Straight, Fork, Return, Enter, action, own, first, targets, part_def}
+use Rattle.code_parts.specs.Bodies.{Flow, VariableMap, Action, Straight, Fork, Return, Enter, action, own, first, targets, part_def}
+use Rattle.code_parts.specs.declared.callee.Callee.{Callee}
 use Rattle.code_parts.specs.Bodies as bodies
-use Rattle.code_parts.specs.Graph.{IsPart, IsGraph, IsCode}
+use Rattle.code_parts.specs.Graph.{IsAlone, IsPart, IsGraph, IsCode}
 use Rattle.checker.specs.Headline.{AreApart, Region, is_within, held_in, Ends}
 use Rattle.exactness.specs.Exact.{IsAtReturn, FirstReturns, Gives, Exact}
 use Rattle.exactness.specs.LinkExact.{FirstReturnsIn, after_instruction}
-use Rattle.exactness.specs.Parts.{HasParts, HoldsCode, IsAlone, LeavesAs, Meets, turns_at, turns_for, LawOfPart}
+use Rattle.exactness.specs.Parts.{HasParts, HoldsCode, LeavesAs, Meets, turns_at, turns_for, LawOfPart}
 use Rattle.exactness.proofs.Returns.{Steps, Comes, comes-plain, IsKept, kept-here}
 use Rattle.exactness.proofs.StateVariables.{Stands}
 use Rattle.exactness.proofs.PartLaw.{with_address, IsDone, Law, LawsBelow, Leaves, slack, slack_at, part-law}

@@ -27,10 +27,10 @@ use Rattle.instr_axioms.specs.Axiom.{word_code}
 use Rattle.code_parts.specs.declared.part.Part.{Part}
 use Rattle.code_parts.specs.declared.part.Part.TheVariants.{Loop, Rest}
 use Rattle.code_parts.specs.Bodies.{Flow, part_def}
-use Rattle.code_parts.specs.Graph.{has_edge, IsEdge, IsPart, IsPlaced, IsGraph, StandsAt, IsCode}
+use Rattle.code_parts.specs.Graph.{IsAlone, has_edge, IsEdge, IsPart, IsPlaced, IsGraph, StandsAt, IsCode}
 use Rattle.checker.specs.Headline.{Region, is_within}
 use Rattle.exactness.specs.Exact.{IsAtReturn, FirstReturns, Exact}
-use Rattle.exactness.specs.Parts.{HasParts, IsAlone}
+use Rattle.exactness.specs.Parts.{HasParts}
 use Rattle.exactness.proofs.Examples.{some_in, or_none, no_cut}
 use Rattle.exactness.proofs.Runs.{nothing-lost}
 

@@ -25,7 +25,8 @@ use Rattle.instr_axioms.specs.Effects.{AreTrue, IsAfter}
 use Rattle.instr_axioms.proofs.Effects.{act-terms, cut}
 use Rattle.instr_axioms.proofs.Memories.{has-number}
 use Rattle.instr_axioms.proofs.Valid.{StandsIn}
-use Rattle.code_parts.specs.Bodies.{Flow, Callee, VariableMap, size, Action, Straight, names, place_after, needs, writes, action_of, action_calling, action}
+use Rattle.code_parts.specs.Bodies.{Flow, VariableMap, size, Action, Straight, names, place_after, needs, writes, action_of, action_calling, action}
+use Rattle.code_parts.specs.declared.callee.Callee.{Callee}
 use Rattle.checker.specs.Headline.{Region, AreApart, is_within, held_in}
 use Rattle.checker.specs.Headline as headline
 use Rattle.exactness.specs.Exact.{IsAtReturn}

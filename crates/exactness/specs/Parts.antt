@@ -23,12 +23,6 @@ pub record HasParts (f : Flow) (entry : ℕ) (g : GroupTree) : Type 0 where
   pub whole : IsPart f (Rest None entry)
   pub last : length g.defs ≡ f.number (Rest None entry) + 1
 
--- it calls no function, and has at most one memory
-pub record IsAlone (f : Flow) : Type 0 where
-  pub mems : f.mems ≤ 1
-  pub uses : (n : ℕ) → n < f.nodes → f.uses n ≡ 0
-  pub calls : (n : ℕ) → n < f.nodes → f.callee n ≡ None
-
 -- ---- the law of a part
 
 -- the state holds the group's code, and the regions are apart from it

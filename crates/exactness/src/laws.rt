@@ -12,14 +12,14 @@ ghost use Rattle.flow_graph.specs.Graph.{GraphOf, IsGraphOf};
 ghost use Rattle.loop_forest.specs.Forest.{ForestOf, IsForestOf, number_of};
 ghost use Rattle.code_parts.specs.declared.part.Part.{Part as ThePart};
 ghost use Rattle.code_parts.specs.Bodies.{Flow};
-ghost use Rattle.code_parts.specs.Graph.{IsCode, IsGraph, IsPart};
+ghost use Rattle.code_parts.specs.Graph.{IsAlone, IsCode, IsGraph, IsPart};
 ghost use Rattle.code_parts.specs.Flows.{HaveCode, alone, flow_of, group_of};
 ghost use Rattle.code_parts.specs.Members.{AreMembers, Member};
 ghost use Rattle.code_parts.specs.Order.{AreParts};
 ghost use Rattle.exactness.specs.Exact.{Exact};
 ghost use Rattle.exactness.specs.LinkExact.{ExactIn, LinkExact};
 ghost use Rattle.exactness.specs.Functions.{UsedBy};
-ghost use Rattle.exactness.specs.Parts.{HasParts, IsAlone, LawOfPart};
+ghost use Rattle.exactness.specs.Parts.{HasParts, LawOfPart};
 
 /// Of a function alone: a run from the entry of a part that returns is an evaluation of its definition, up to where the run leaves the part.
 pub fn law_of_parts()

@@ -6,7 +6,7 @@ use Rattle.code_parts.proofs.variables.fresh.Goals as goal
 pub returns-clause-is : goal.returns-clause-is
 returns-clause-is c =
     fresh_is (flow_in c.args.flow.now) _ c.regs-regs.result.now _ c.args.words c.args.mems _ _ c.numbered.ensures.words c.numbered.ensures.memory c.regs-regs.ensures.are refl
-    (ap (λ k. c.args.mems + k) c.mem_count.ensures.is)
+    (ap (λ k. c.args.mems + k) c.mems-count.ensures.is)
 
 pub invariant_of-result : goal.invariant_of-result
 invariant_of-result c = record {

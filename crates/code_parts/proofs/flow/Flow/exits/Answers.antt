@@ -5,4 +5,4 @@ use Rattle.code_parts.proofs.Settings.{exits_within}
 use Rattle.code_parts.proofs.flow.Flow.exits.Goals as goal
 
 pub returns-clause-nodes : goal.returns-clause-nodes
-returns-clause-nodes c = exits_within _ _ _ _ _ _ _ c.self.invariant _ c.self.view_is c.args.l c.exits.result.now c.requires (c.exits.ensures ∙ ap (λ (z : FlowOf). exits_of z.forest c.args.l) c.self.view_is)
+returns-clause-nodes c = exits_within _ _ _ _ _ c.self.invariant _ c.self.view_is c.args.l c.exits.result.now c.requires (c.exits.ensures ∙ ap (λ (z : FlowOf). exits_of z.forest c.args.l) c.self.view_is)

@@ -5,4 +5,4 @@ use Rattle.code_parts.proofs.Settings.{head_within}
 use Rattle.code_parts.proofs.flow.Flow.head.Goals as goal
 
 pub returns-clause-node : goal.returns-clause-node
-returns-clause-node c = head_within _ _ _ _ _ _ _ c.self.invariant _ c.self.view_is c.args.l c.head.result c.requires (c.head.ensures ∙ ap (λ (z : FlowOf). head_of z.forest c.args.l) c.self.view_is)
+returns-clause-node c = head_within _ _ _ _ _ c.self.invariant _ c.self.view_is c.args.l c.head.result c.requires (c.head.ensures ∙ ap (λ (z : FlowOf). head_of z.forest c.args.l) c.self.view_is)

@@ -4,7 +4,7 @@ use Rattle.code_parts.proofs.Settings.{registers_few, registers_named}
 use Rattle.code_parts.proofs.flow.Flow.regs.Goals as goal
 
 pub returns-clause-few : goal.returns-clause-few
-returns-clause-few c = subst (λ (rs : List ℕ). length rs ≤ 31) (sym c.as_slice.ensures) (registers_few _ _ _ _ _ _ _ c.self.invariant _ c.self.view_is)
+returns-clause-few c = subst (λ (rs : List ℕ). length rs ≤ 31) (sym c.as_slice.ensures) (registers_few _ _ _ _ _ c.self.invariant _ c.self.view_is)
 
 pub returns-clause-registers : goal.returns-clause-registers
-returns-clause-registers c = subst (All (λ r. (0 < r) × (r < 32))) (sym c.as_slice.ensures) (registers_named _ _ _ _ _ _ _ c.self.invariant _ c.self.view_is)
+returns-clause-registers c = subst (All (λ r. (0 < r) × (r < 32))) (sym c.as_slice.ensures) (registers_named _ _ _ _ _ c.self.invariant _ c.self.view_is)
