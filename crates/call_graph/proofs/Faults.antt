@@ -22,11 +22,11 @@ use Rattle.loop_forest.specs.Forest.{IsForestFault, IsMany, number_of}
 use Rattle.loop_forest.proofs.AddressLemmas.{code_settled, shows_code}
 use Rattle.loop_forest.proofs.OneForest.{no_many}
 use Rattle.call_graph.specs.Calls.{CallsBack, IsFunction}
-use Rattle.call_graph.specs.Causes.{IsCause, IsFaulty, IsLoopFault, IsRecursive, IsLinkFault, SizesOver, InCycle, InLoop, InCode, Recursion, InLoops}
+use Rattle.call_graph.specs.Causes.{IsCause, IsFaulty, IsLoopFault, IsRecursive, IsCallGraphFault, SizesOver, InCycle, InLoop, InCode, Recursion, InLoops}
 use Rattle.call_graph.specs.inner.Finding.{AreMade, AreRanks, HasFlow, IsFine, IsLowest, IsNoFunction, IsUnranked, fault_at, fault_of, refusal}
 use Rattle.call_graph.specs.declared.fault.LinkWhy.TheVariants.{Outside}
-use Rattle.call_graph.specs.declared.fault.LinkFault.{LinkFault}
-use Rattle.call_graph.specs.declared.fault.LinkFault.TheVariants.{Refused, NoMemory}
+use Rattle.call_graph.specs.declared.fault.CallGraphFault.{CallGraphFault}
+use Rattle.call_graph.specs.declared.fault.CallGraphFault.TheVariants.{Refused, NoMemory}
 use Rattle.call_graph.specs.declared.function.Function.{Function}
 use Rattle.call_graph.proofs.Counting.{got, sizes_up}
 use Rattle.call_graph.proofs.Searching.{large_one}
@@ -91,7 +91,7 @@ below_before entries k m up l c lt =
     ]
 
 -- the first function that calls itself is the least
-pub first_recursive : (code : Bytes) (e : ℕ) (entries ranks : List ℕ) (k : ℕ) (why : LinkFault) → IsFine code e entries → AreRanks code entries ranks k → k < length entries → IsUnranked code (get_or entries k 0) why → IsLinkFault code e why
+pub first_recursive : (code : Bytes) (e : ℕ) (entries ranks : List ℕ) (k : ℕ) (why : CallGraphFault) → IsFine code e entries → AreRanks code entries ranks k → k < length entries → IsUnranked code (get_or entries k 0) why → IsCallGraphFault code e why
 first_recursive code e entries ranks k NoMemory fine r l u = tt
 first_recursive code e entries ranks k (Refused why) fine r l u = elim u [
   | inl t ↦ absurd (fine.small (sizes_up code e (get_or entries k 0) reach_limit (λ g w. way-join is w) t.1))
@@ -117,7 +117,7 @@ none_recursive code e entries ranks fine r f h =
 
 -- the first function whose loops have a fault is the least
 pub first_irregular : (code : Bytes) (e : ℕ) (entries ranks : List ℕ) (fs : List Function) (k : ℕ) (why : FlowFault) → IsFine code e entries → AreRanks code entries ranks (length entries) → AreMade code entries ranks fs k → k < length entries
-    → IsNoFunction code (get_or entries k 0) why → IsLinkFault code e (refusal why)
+    → IsNoFunction code (get_or entries k 0) why → IsCallGraphFault code e (refusal why)
 first_irregular code e entries ranks fs k flow.NoMemory fine r m l n = tt
 first_irregular code e entries ranks fs k (flow.Outside why) fine r m l n = elim n [
   | inl f ↦ absurd (no_fault why f)

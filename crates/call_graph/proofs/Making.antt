@@ -8,7 +8,7 @@ use Rattle.rv_words.specs.Bytes.{Bytes}
 use Rattle.flow_graph.specs.Graph.{IsGraphOf}
 use Rattle.loop_forest.specs.Forest.{IsForestOf}
 use Rattle.call_graph.specs.inner.Finding.{AreMade, AreRanks, HasFlow, IsRanked}
-use Rattle.call_graph.specs.declared.fault.LinkFault.{LinkFault}
+use Rattle.call_graph.specs.declared.fault.CallGraphFault.{CallGraphFault}
 use Rattle.call_graph.specs.declared.function.Function.{Function}
 
 pub ranks_none : (code : Bytes) (entries : List ℕ) → AreRanks code entries [] 0
@@ -36,6 +36,6 @@ made_more code entries ranks fs i f m l long entry rank graph forest = record {
 }
 
 -- the exit of a `?`
-pub exit_by : {X : Type 0} (r : Result X LinkFault) (e : LinkFault) (Q : LinkFault → Type 0) → IsErrAnd r (λ y. y ≡ e) → Q e → IfErr r Q
+pub exit_by : {X : Type 0} (r : Result X CallGraphFault) (e : CallGraphFault) (Q : CallGraphFault → Type 0) → IsErrAnd r (λ y. y ≡ e) → Q e → IfErr r Q
 exit_by (Ok x) e Q is q = tt
 exit_by (Err y) e Q is q = subst Q (sym is) q

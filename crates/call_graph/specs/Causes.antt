@@ -13,8 +13,8 @@ use Rattle.loop_forest.specs.Forest.{IsMany}
 use Rattle.call_graph.specs.Calls.{CallsBack, IsFunction}
 use Rattle.call_graph.specs.declared.fault.LinkWhy.{LinkWhy}
 use Rattle.call_graph.specs.declared.fault.LinkWhy.TheVariants.{Outside, Recursive}
-use Rattle.call_graph.specs.declared.fault.LinkFault.{LinkFault}
-use Rattle.call_graph.specs.declared.fault.LinkFault.TheVariants.{Refused, NoMemory}
+use Rattle.call_graph.specs.declared.fault.CallGraphFault.{CallGraphFault}
+use Rattle.call_graph.specs.declared.fault.CallGraphFault.TheVariants.{Refused, NoMemory}
 
 -- the least number with P
 pub record IsLeast (P : ℕ → Type 0) (n : ℕ) : Type 0 where
@@ -74,6 +74,6 @@ HasOneForm (Outside (TwoEntries cycle first second)) = ⊥
 HasOneForm why = Unit {0}
 
 -- why the functions of e aren't given: they can't be linked, or there is no memory
-abbrev pub IsLinkFault : Bytes → ℕ → LinkFault → Type 0
-IsLinkFault code e (Refused why) = IsCause code e why
-IsLinkFault code e NoMemory = Unit {0}
+abbrev pub IsCallGraphFault : Bytes → ℕ → CallGraphFault → Type 0
+IsCallGraphFault code e (Refused why) = IsCause code e why
+IsCallGraphFault code e NoMemory = Unit {0}

@@ -16,19 +16,19 @@ pub enum LinkWhy {
 
 /// Why there are no linked functions.
 #[derive(Debug, Drop)]
-pub enum LinkFault {
+pub enum CallGraphFault {
     /// They can't be linked.
     Refused(LinkWhy),
     /// There was no memory.
     NoMemory,
 }
 
-impl From<OutOfMemory> for LinkFault {
-    ghost use Rattle.call_graph.specs.declared.fault.LinkFault.TheVariants.{NoMemory};
+impl From<OutOfMemory> for CallGraphFault {
+    ghost use Rattle.call_graph.specs.declared.fault.CallGraphFault.TheVariants.{NoMemory};
 
     ghost from_gives = { λ _ e. e ≡ NoMemory };
 
-    fn from(_e: OutOfMemory) -> LinkFault {
-        LinkFault::NoMemory
+    fn from(_e: OutOfMemory) -> CallGraphFault {
+        CallGraphFault::NoMemory
     }
 }

@@ -13,7 +13,7 @@ mod linked;
 mod ranks;
 mod search;
 
-pub use fault::{LinkFault, LinkWhy};
+pub use fault::{CallGraphFault, LinkWhy};
 pub use function::Function;
 pub use laws::{law_of_callees, law_of_calls, law_of_one_answer};
 pub use linked::linked_functions;

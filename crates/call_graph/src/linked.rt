@@ -3,13 +3,13 @@
 ghost use Rattle.std.specs.Prelude.{◌≡◌, ◌∷◌, ◌++◌, [], ℕ, IfOk, IfErr, OnOk, length};
 ghost use Rattle.std.specs.List.Sorted.{IsNonDecreasingBy, IsPermutation};
 ghost use Rattle.elf_image.specs.Image.{code_in};
-ghost use Rattle.call_graph.specs.Causes.{IsLinkFault};
+ghost use Rattle.call_graph.specs.Causes.{IsCallGraphFault};
 ghost use Rattle.call_graph.specs.Functions.{AreFunctions};
 ghost use Rattle.call_graph.specs.inner.Finding as finding;
 ghost use Rattle.call_graph.specs.inner.Finding.{AreMade, AreRanks, IsFine};
 
 use crate::addresses::fault_at;
-use crate::fault::{LinkFault, LinkWhy};
+use crate::fault::{CallGraphFault, LinkWhy};
 use crate::function::{Function, function_at};
 use crate::ranks::ranks;
 use crate::search::search;
@@ -19,16 +19,16 @@ use rv_words::{List, NoMemory};
 use std::alloc::Global;
 
 /// The entries of the functions that calls lead to, rising, or that there is too much code, or the fault of the least address that has one.
-fn entries(alloc: Global, image: &Image, entry: u64) -> Result<Visited, LinkFault>
+fn entries(alloc: Global, image: &Image, entry: u64) -> Result<Visited, CallGraphFault>
     ensures ok { IfOk result (IsFine (code_in image.now.pieces) entry) }
-    ensures err { IfErr result (IsLinkFault (code_in image.now.pieces) entry) }
+    ensures err { IfErr result (IsCallGraphFault (code_in image.now.pieces) entry) }
 {
     let Some(found) = search(alloc, image, entry)? else {
-        return Err(LinkFault::Refused(LinkWhy::Outside(Outside::TooLarge)));
+        return Err(CallGraphFault::Refused(LinkWhy::Outside(Outside::TooLarge)));
     };
     let mut functions = found.functions;
     match fault_at(image, found.fault) {
-        Some(why) => Err(LinkFault::Refused(LinkWhy::Outside(why))),
+        Some(why) => Err(CallGraphFault::Refused(LinkWhy::Outside(why))),
         None => {
             functions.sort()?;
             Ok(functions)
@@ -37,12 +37,12 @@ fn entries(alloc: Global, image: &Image, entry: u64) -> Result<Visited, LinkFaul
 }
 
 /// Why functions aren't given, where this is why one of them isn't.
-fn refusal(why: FlowFault) -> LinkFault
+fn refusal(why: FlowFault) -> CallGraphFault
     ensures { result ≡ finding.refusal why }
 {
     match why {
-        FlowFault::Outside(why) => LinkFault::Refused(LinkWhy::Outside(why)),
-        FlowFault::NoMemory => LinkFault::NoMemory,
+        FlowFault::Outside(why) => CallGraphFault::Refused(LinkWhy::Outside(why)),
+        FlowFault::NoMemory => CallGraphFault::NoMemory,
     }
 }
 
@@ -60,10 +60,10 @@ fn functions_at(
     image: &Image,
     entries: &Visited,
     ranks: &[usize],
-) -> Result<Vec<Function>, LinkFault>
+) -> Result<Vec<Function>, CallGraphFault>
     requires { length ranks.now ≡ length entries.now }
     ensures ok { IfOk result (λ fs. AreMade (code_in image.now.pieces) entries.now ranks.now fs.items (length entries.now)) }
-    ensures err { (e : ℕ) → IsFine (code_in image.now.pieces) e entries.now → AreRanks (code_in image.now.pieces) entries.now ranks.now (length entries.now) → IfErr result (IsLinkFault (code_in image.now.pieces) e) }
+    ensures err { (e : ℕ) → IsFine (code_in image.now.pieces) e entries.now → AreRanks (code_in image.now.pieces) entries.now ranks.now (length entries.now) → IfErr result (IsCallGraphFault (code_in image.now.pieces) e) }
 {
     let mut functions = Vec::new(alloc);
     let mut i = 0;
@@ -92,9 +92,9 @@ pub fn linked_functions(
     alloc: Global,
     image: &Image,
     entry: u64,
-) -> Result<List<Function>, LinkFault>
+) -> Result<List<Function>, CallGraphFault>
     ensures ok { IfOk result (AreFunctions (code_in image.now.pieces) entry) }
-    ensures err { IfErr result (IsLinkFault (code_in image.now.pieces) entry) }
+    ensures err { IfErr result (IsCallGraphFault (code_in image.now.pieces) entry) }
 {
     let entries = entries(alloc, image, entry)?;
     let ranks = ranks(alloc, image, &entries)?;

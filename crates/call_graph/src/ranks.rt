@@ -2,10 +2,10 @@
 
 ghost use Rattle.std.specs.Prelude.{ℕ, IfOk, IfErr, length};
 ghost use Rattle.elf_image.specs.Image.{code_in};
-ghost use Rattle.call_graph.specs.Causes.{IsLinkFault};
+ghost use Rattle.call_graph.specs.Causes.{IsCallGraphFault};
 ghost use Rattle.call_graph.specs.inner.Finding.{AreRanks, IsFine, IsRanked, IsUnranked};
 
-use crate::fault::{LinkFault, LinkWhy};
+use crate::fault::{CallGraphFault, LinkWhy};
 use crate::search::search;
 use elf_image::Image;
 use flow_graph::{Outside, Visited};
@@ -13,23 +13,23 @@ use rv_words::List;
 use std::alloc::Global;
 
 /// The rank of a function that doesn't call itself, or why it has none.
-fn rank(alloc: Global, image: &Image, entry: u64) -> Result<usize, LinkFault>
+fn rank(alloc: Global, image: &Image, entry: u64) -> Result<usize, CallGraphFault>
     ensures ok { IfOk result (IsRanked (code_in image.now.pieces) entry) }
     ensures err { IfErr result (IsUnranked (code_in image.now.pieces) entry) }
 {
     let Some(found) = search(alloc, image, entry)? else {
-        return Err(LinkFault::Refused(LinkWhy::Outside(Outside::TooLarge)));
+        return Err(CallGraphFault::Refused(LinkWhy::Outside(Outside::TooLarge)));
     };
     if found.called {
-        return Err(LinkFault::Refused(LinkWhy::Recursive(entry)));
+        return Err(CallGraphFault::Refused(LinkWhy::Recursive(entry)));
     }
     Ok(found.functions.len())
 }
 
 /// The ranks of functions, or the first of these that calls itself.
-pub fn ranks(alloc: Global, image: &Image, entries: &Visited) -> Result<List<usize>, LinkFault>
+pub fn ranks(alloc: Global, image: &Image, entries: &Visited) -> Result<List<usize>, CallGraphFault>
     ensures ok { IfOk result (λ rs. AreRanks (code_in image.now.pieces) entries.now rs (length entries.now)) }
-    ensures err { (e : ℕ) → IsFine (code_in image.now.pieces) e entries.now → IfErr result (IsLinkFault (code_in image.now.pieces) e) }
+    ensures err { (e : ℕ) → IsFine (code_in image.now.pieces) e entries.now → IfErr result (IsCallGraphFault (code_in image.now.pieces) e) }
 {
     let mut ranks = List::new(alloc);
     let mut i = 0;

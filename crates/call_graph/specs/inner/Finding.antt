@@ -15,8 +15,8 @@ use Rattle.call_graph.specs.Calls.{CallsTo, CallsBack, call_at}
 use Rattle.call_graph.specs.Causes.{IsFaulty, IsLeast, SizesOver}
 use Rattle.call_graph.specs.Functions.{IsRank, entries_of}
 use Rattle.call_graph.specs.declared.fault.LinkWhy.TheVariants.{Outside, Recursive}
-use Rattle.call_graph.specs.declared.fault.LinkFault.{LinkFault}
-use Rattle.call_graph.specs.declared.fault.LinkFault.TheVariants.{Refused, NoMemory}
+use Rattle.call_graph.specs.declared.fault.CallGraphFault.{CallGraphFault}
+use Rattle.call_graph.specs.declared.fault.CallGraphFault.TheVariants.{Refused, NoMemory}
 use Rattle.call_graph.specs.declared.function.Function.{Function}
 use Rattle.call_graph.specs.declared.search.Found.{Found}
 
@@ -95,7 +95,7 @@ pub record IsRanked (code : Bytes) (f n : ℕ) : Type 0 where
   pub once : CallsBack code f → ⊥
 
 -- why a function has no such rank
-abbrev pub IsUnranked : Bytes → ℕ → LinkFault → Type 0
+abbrev pub IsUnranked : Bytes → ℕ → CallGraphFault → Type 0
 IsUnranked code f (Refused why) = ((why ≡ Outside TooLarge) × SizesOver code f reach_limit) ⊎ ((why ≡ Recursive f) × CallsBack code f)
 IsUnranked code f NoMemory = Unit {0}
 
@@ -121,6 +121,6 @@ pub record AreMade (code : Bytes) (entries ranks : List ℕ) (fs : List Function
   pub ranked : map (λ f. f.rank) fs ≡ take n ranks
   pub each : All (HasFlow code) fs
 
-abbrev pub refusal : FlowFault → LinkFault
+abbrev pub refusal : FlowFault → CallGraphFault
 refusal (flow.Outside why) = Refused (Outside why)
 refusal flow.NoMemory = NoMemory

@@ -1,9 +1,9 @@
 use Rattle.std.proofs.Common.{◌≡◌, ℕ, ◌+◌, ◌<◌, ◌∙◌, true, List, length, subst, sym, arith}
 use Rattle.elf_image.specs.Image.{code_in}
 use Rattle.flow_graph.specs.Graph.{IsGraphOf}
-use Rattle.call_graph.specs.Causes.{IsLinkFault}
+use Rattle.call_graph.specs.Causes.{IsCallGraphFault}
 use Rattle.call_graph.specs.inner.Finding.{AreMade, IsNoFunction}
-use Rattle.call_graph.specs.declared.fault.LinkFault.{LinkFault}
+use Rattle.call_graph.specs.declared.fault.CallGraphFault.{CallGraphFault}
 use Rattle.call_graph.specs.declared.function.Function.{Function}
 use Rattle.call_graph.proofs.Faults.{first_irregular}
 use Rattle.call_graph.proofs.Making.{made_more, made_none}
@@ -19,7 +19,7 @@ pub returns-in-Err-clause-err : goal.returns-in-Err-clause-err
 returns-in-Err-clause-err c = λ e fine ranks.
     let code = code_in c.args.image.now.pieces in
     let below : c.functions.i < length c.args.entries.now = omega (arith, c.len.ensures.len, c.functions-test.true) in
-    subst (λ (x : LinkFault). IsLinkFault code e x) (sym c.refusal.ensures)
+    subst (λ (x : CallGraphFault). IsCallGraphFault code e x) (sym c.refusal.ensures)
     (first_irregular code e c.args.entries.now c.args.ranks.now c.functions.functions.items c.functions.i c.in-Err.why fine ranks c.functions.invariant.made below
     (subst (λ (f : ℕ). IsNoFunction code f c.in-Err.why) c.get.ensures c.in-Err.ensures.err))
 
