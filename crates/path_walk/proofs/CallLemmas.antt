@@ -27,7 +27,7 @@ use Rattle.path_walk.proofs.Calls.{exit-fresh}
 use Rattle.path_walk.proofs.WriterLemmas.{from_on, grown_join, grown_state, held_now, ready_state}
 use Rattle.path_walk.proofs.Joins.{some_and}
 use Rattle.path_walk.proofs.Lists.{current-fresh, zip-map}
-use Rattle.path_walk.proofs.JoinedLines.{goes_on}
+use Rattle.path_walk.proofs.JoinedLines.{goes-version, goes_on}
 
 -- the values of a place, as what holds there
 pub standing_is : (f : Flow) (name : List ℕ) (ranges : List Range) (defs : List DefTree) (pc : WordTree) (v : VariableMap) → with_values (group_over f name ranges defs) pc (current f v) ≡ standing_at f pc v
@@ -105,7 +105,7 @@ module _ (f : Flow) (ranges : List Range) (s : Setting f ranges) where
       grown-exited : Grown f ranges s l l2
       grown-exited = grown_join f ranges s l l1 l2 (grown_state f ranges s (UseExit d k) t0 l ready m0) (grown_state f ranges s (Inst l.next (call_words f x v) (call_mems f x v)) t1 l1 r1 m1)
 
-      exit_stood : (entry : ℕ) (new : WriterTree) (path : List FactTree) (from : Option CitedTree) (t : CitedTree) → FromAs f entry ranges (past f ranges s l) (Const callee.entry) v path from →
+      pub exit_stood : (entry : ℕ) (new : WriterTree) (path : List FactTree) (from : Option CitedTree) (t : CitedTree) → FromAs f entry ranges (past f ranges s l) (Const callee.entry) v path from →
           GoesOn f entry from (exit_standing f ranges d k x v l) (pc_of x v.words) (exit_place f x v.words v.mems) (exited f ranges callee.entry d k x v l) new t →
           Stood f entry ranges s l new (pc_of x v.words) (exit_place f x v.words v.mems) (path ++ Gives d k (current f v) (results_at f x v.words v.mems) ∷ []) t
       exit_stood entry new path from t here on =
@@ -122,6 +122,7 @@ pub exit_steps : (f : Flow) (ranges : List Range) (q : Part) (k : ℕ) (x : Exit
     StepsBy f entry ranges (f.number q) old new (Const (f.addr (first f q))) v from (pc_of x v.words) (exit_place f x v.words v.mems)
     (Gives (f.number q) k (current f v) (results_at f x v.words v.mems) ∷ []) t
 exit_steps f ranges q k x entry v old new from t part at on = record {
+  version = goes-version f entry from (exit_standing f ranges (f.number q) k x v old) t (pc_of x v.words) (exit_place f x v.words v.mems) (exited f ranges (f.addr (first f q)) (f.number q) k x v old) new on;
   each = λ s path ready closed low here.
       let has : HasPart f (group_over f s.name ranges s.defs) q = s.has q part low in
       exit_stood f ranges s (f.number q) k has.def x has.is (ap (λ (xs : List Exit). slice_get xs k) has.exits ∙ at) v old ready closed entry new path from t

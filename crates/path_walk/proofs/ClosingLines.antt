@@ -1,7 +1,7 @@
 -- The arms of a call one after the other, and the lines that close a part's definition.
 use Rattle.std.proofs.Common.{◌≡◌, ℕ, zero, suc, ◌+◌, ◌-◌, ◌<◌, ◌≤◌, ◌^◌, List, [], ◌∷◌, ◌++◌, map, length, get_or, take, take-suc, drop, fold, Bool, true, false, cond, eqb, refl, sym, ap, ◌∙◌, subst, arith, Option, Some, None, add-one, eq-eqb}
 use Rattle.std.specs.Prelude.{slice_get}
-use Rattle.std.specs.List.{AllZip}
+use Rattle.std.specs.List.{AllByRecursion, AllZip}
 use Rattle.rv_words.specs.declared.range.Range.{Range}
 use Rattle.word_terms.specs.Tree.{WordTree, Const}
 use Rattle.tailrec_lang.specs.declared.group.Exit.{Exit}
@@ -10,17 +10,20 @@ use Rattle.tailrec_lang.specs.Tree.{BodyTree, DefTree, GroupTree}
 use Rattle.triple_kernel.specs.Tree.{Gives, TripleTree}
 use Rattle.proof_text.specs.declared.line.Line.{Line}
 use Rattle.proof_text.specs.Line.{LineTree, States, Loop, Forget, Further, line_tree}
-use Rattle.proof_text.specs.LineLimits.{IsLine}
+use Rattle.group_text.specs.Version.{version_of}
+use Rattle.proof_text.specs.LineLimits.{IsLineIn}
 use Rattle.loop_rule.specs.Tree.{LeafTree}
 use Rattle.loop_rule.specs.Leaves.{body_leaves, leaves_of}
 use Rattle.loop_rule.specs.Rule.{IsClosedBy, IsLedTo, LeadsTo}
-use Rattle.checker.specs.Instance.{AreInstances, History, after_line, after_lines, no_lines, with_closed}
+use Rattle.checker.specs.Instance.{AreInstancesBy, History, after_line, after_lines, no_lines, with_closed}
 use Rattle.code_parts.specs.declared.part.Part.{Part}
 use Rattle.code_parts.specs.declared.part.Part.TheVariants as part
 use Rattle.code_parts.specs.Bodies.{Flow, VariableMap, arms_over, body_at, current, end_at, first, fresh, part_body, part_def, start}
 use Rattle.path_walk.specs.Closed.{AreClosed}
 use Rattle.code_parts.specs.Graph.{CallsBelow, HasPart, IsCode, IsFor}
-use Rattle.path_walk.specs.Item.{AreClosing, IsWalked}
+use Rattle.group_text.specs.declared.version.Version.{Version as Known}
+use Rattle.path_walk.specs.Further.{IsVersionFor, further_of}
+use Rattle.path_walk.specs.Item.{AreClosing, IsWalkedIn}
 use Rattle.path_walk.specs.inner.Acts.{results_at}
 use Rattle.code_parts.specs.Flows.{group_over}
 use Rattle.path_walk.specs.inner.Lines.{ArmsLead, forgets, stated}
@@ -94,10 +97,10 @@ module _ (f : Flow) (p : Part) (ranges : List Range) (old new : WriterTree) wher
 
 -- ---- a part
 
-module _ (f : Flow) (p : Part) (ranges : List Range) (old : List LineTree) (count : ℕ) (new : WriterTree) (next : count ≡ (after_lines old).next)
-    (lead : Leads f p ranges (record { lines = []; next = count; cited = [] }) new (Const (f.addr (first f p))) (start f) None (part_body f p)) where
+module _ (version : Known) (f : Flow) (fits : IsVersionFor f version) (p : Part) (ranges : List Range) (old : List LineTree) (count : ℕ) (new : WriterTree) (next : count ≡ (after_lines old).next)
+    (lead : Leads f p ranges (record { version = version; lines = []; next = count; cited = [] }) new (Const (f.addr (first f p))) (start f) None (part_body f p)) where
   abbrev empty : WriterTree
-  empty = record { lines = []; next = count; cited = [] }
+  empty = record { version = version; lines = []; next = count; cited = [] }
 
   cited_all : (g : GroupTree) (h : History) (leaves : List LeafTree) (js : List ℕ) → AllZip (λ leaf j. (t : TripleTree) × (h.theorem j ≡ Some t) × LeadsTo g (part_def f p) leaf t) leaves js →
       AllZip (IsLedTo g (part_def f p)) leaves (map h.theorem js)
@@ -107,7 +110,7 @@ module _ (f : Flow) (p : Part) (ranges : List Range) (old : List LineTree) (coun
   cited_all g h (l ∷ ls) (j ∷ js) a = (subst (IsLedTo g (part_def f p) l) (sym a.0.1) a.0.2, cited_all g h ls js a.1)
 
   by_setting : (s : Setting f ranges) → s.before ≡ old → slice_get s.defs (f.number p) ≡ Some (part_def f p) → AreClosed (after_lines old) (part_body f p) → CallsBelow s.bound (part_body f p) →
-      AreClosing (group_in f ranges s) (after_lines old) (f.number p) (new.lines ++ Loop (f.number p) new.cited ∷ [])
+      AreClosing (further_of s.version) (group_in f ranges s) (after_lines old) (f.number p) (new.lines ++ Loop (f.number p) new.cited ∷ [])
   by_setting s before mine closed below =
       let g : GroupTree = group_in f ranges s in
       let def : DefTree = part_def f p in
@@ -123,10 +126,10 @@ module _ (f : Flow) (p : Part) (ranges : List Range) (old : List LineTree) (coun
       let all = subst (λ (js : List ℕ). AllZip (IsLedTo g def) (leaves_of g def) (map k.theorem js)) (sym led.cited) (cited_all g k (leaves_of g def) led.numbers each) in
       let closed_by : IsClosedBy g (f.number p) (map k.theorem new.cited) = record { def = def; is = mine; each = all } in
       let last : List LineTree = Loop (f.number p) new.cited ∷ [] in
-      let right = subst (λ (ls : List LineTree). AreInstances g h ls) (sym led.grown.lines) led.grown.right in
+      let right = subst (λ (ls : List LineTree). AreInstancesBy (further_of s.version) g h ls) (sym led.grown.lines) led.grown.right in
       let whole : fold after_line h (new.lines ++ last) ≡ with_closed (f.number p) k = fold-join h new.lines last in
-      subst (λ (m : History). AreClosing g m (f.number p) (new.lines ++ last)) same (record {
-        right = joined g h new.lines last right (closed_by, tt);
+      subst (λ (m : History). AreClosing (further_of s.version) g m (f.number p) (new.lines ++ last)) same (record {
+        right = joined (further_of s.version) g h new.lines last right (closed_by, tt);
         closed = (λ i. (whole i).closed (f.number p)) ∙ (λ i. cond (eq-eqb (f.number p) (f.number p) refl i) true (k.closed (f.number p)));
         keeps = λ c e. (λ i. (whole i).closed c) ∙ stays k c (led.grown.keeps.closed c e);
       })
@@ -139,36 +142,48 @@ module _ (f : Flow) (p : Part) (ranges : List Range) (old : List LineTree) (coun
           go false = e
 
   by_group : (g : GroupTree) (d : ℕ) → IsFor f d g → g.code ≡ ranges → slice_get g.defs (f.number p) ≡ Some (part_def f p) → CallsBelow d (part_body f p) → AreClosed (after_lines old) (part_body f p) →
-      AreClosing g (after_lines old) (f.number p) (new.lines ++ Loop (f.number p) new.cited ∷ [])
+      AreClosing (further_of version) g (after_lines old) (f.number p) (new.lines ++ Loop (f.number p) new.cited ∷ [])
   by_group g d for code mine below closed =
-      let s : Setting f ranges = record { name = g.name; defs = g.defs; before = old; bound = d; code = subst (IsCode f) code for.code; has = λ q there low. moved q (for.has q there low) } in
+      let s : Setting f ranges = record {
+        version = version;
+        fits = fits;
+        name = g.name;
+        defs = g.defs;
+        before = old;
+        bound = d;
+        code = subst (IsCode f) code for.code;
+        has = λ q there low. moved q (for.has q there low);
+        callees = for.callees;
+      } in
       let same : group_over f g.name ranges g.defs ≡ g = (λ i. record { name = g.name; regs = sym for.regs i; mems = sym for.mems i; code = sym code i; defs = g.defs }) in
-      subst (λ (x : GroupTree). AreClosing x (after_lines old) (f.number p) (new.lines ++ Loop (f.number p) new.cited ∷ [])) same (by_setting s refl mine closed below)
+      subst (λ (x : GroupTree). AreClosing (further_of version) x (after_lines old) (f.number p) (new.lines ++ Loop (f.number p) new.cited ∷ [])) same (by_setting s refl mine closed below)
     where
       moved : (q : Part) → HasPart f g q → HasPart f (group_over f g.name ranges g.defs) q
       moved q x = record { def = x.def; is = x.is; entry = x.entry; exits = x.exits }
 
   -- the lines of a part, the one that closes its definition, and those that forget its theorems
   pub walked : (lines : List LineTree) → lines ≡ old ++ ((new.lines ++ Loop (f.number p) new.cited ∷ []) ++ forgets count (stated new.lines)) → IsFineWriter new → count + stated new.lines ≤ 2 ^ 64 → f.number p < 2 ^ 32 →
-      IsWalked f ranges p old lines
+      IsWalkedIn version f ranges p old lines
   walked lines are fine most low = record {
     added = (new.lines ++ Loop (f.number p) new.cited ∷ []) ++ forgets count (stated new.lines);
     lines = are;
-    fine = all-join IsLine (new.lines ++ Loop (f.number p) new.cited ∷ []) (forgets count (stated new.lines)) (all-join IsLine new.lines (Loop (f.number p) new.cited ∷ []) fine.lines ((low, fine.cited), tt)) (forgets-fine count (stated new.lines) most);
+    fine = all-join (IsLineIn (version_of version)) (new.lines ++ Loop (f.number p) new.cited ∷ []) (forgets count (stated new.lines))
+        (all-join (IsLineIn (version_of version)) new.lines (Loop (f.number p) new.cited ∷ []) (subst (λ (v : Known). AllByRecursion (IsLineIn (version_of v)) new.lines) lead.version fine.lines) ((low, fine.cited), tt))
+        (forgets-fine (version_of version) count (stated new.lines) most);
     closing = λ g d for code mine below closed.
-        subst (λ (a : ℕ). AreClosing g (after_lines old) (f.number p) ((new.lines ++ Loop (f.number p) new.cited ∷ []) ++ forgets a (stated new.lines))) (sym next)
-        (closing-forgets g (after_lines old) (f.number p) new.lines new.cited fine.stating (by_group g d for code mine below closed));
+        subst (λ (a : ℕ). AreClosing (further_of version) g (after_lines old) (f.number p) ((new.lines ++ Loop (f.number p) new.cited ∷ []) ++ forgets a (stated new.lines))) (sym next)
+        (closing-forgets (further_of version) g (after_lines old) (f.number p) new.lines new.cited fine.stating (by_group g d for code mine below closed));
   }
 
 -- what is added to the lines before
-pub closing : (f : Flow) (p : Part) (ranges : List Range) (count last : ℕ) (none new : WriterTree) (d : ℕ) (cited : List ℕ) (more : List LineTree) → none ≡ record { lines = []; next = count; cited = [] } →
+pub closing : (version : Known) (f : Flow) → IsVersionFor f version → (p : Part) (ranges : List Range) (count last : ℕ) (none new : WriterTree) (d : ℕ) (cited : List ℕ) (more : List LineTree) → none ≡ record { version = version; lines = []; next = count; cited = [] } →
     Leads f p ranges none new (Const (f.addr (first f p))) (start f) None (part_body f p) → more ≡ (new.lines ++ Loop d cited ∷ []) ++ forgets count (last - count) → last ≡ count + stated new.lines → last < 2 ^ 64 → d ≡ f.number p → cited ≡ new.cited → IsFineWriter new → d < 2 ^ 32 →
-    (old : List LineTree) → count ≡ (after_lines old).next → IsWalked f ranges p old (old ++ more)
-closing f p ranges count last none new d cited more blank lead are all most number same fine low old next =
+    (old : List LineTree) → count ≡ (after_lines old).next → IsWalkedIn version f ranges p old (old ++ more)
+closing version f allowed p ranges count last none new d cited more blank lead are all most number same fine low old next =
     let from = subst (λ (l : WriterTree). Leads f p ranges l new (Const (f.addr (first f p))) (start f) None (part_body f p)) blank lead in
     let whole : old ++ more ≡ old ++ ((new.lines ++ Loop (f.number p) new.cited ∷ []) ++ forgets count (stated new.lines)) =
     ap (λ (ls : List LineTree). old ++ ls) (are ∙ (λ i. (new.lines ++ Loop (number i) (same i) ∷ []) ++ forgets count (all_stated count last (stated new.lines) all i))) in
-    walked f p ranges old count new next from (old ++ more) whole fine (fits all most) (subst (λ (k : ℕ). k < 2 ^ 32) number low)
+    walked version f allowed p ranges old count new next from (old ++ more) whole fine (fits all most) (subst (λ (k : ℕ). k < 2 ^ 32) number low)
   where
     fits : last ≡ count + stated new.lines → last < 2 ^ 64 → count + stated new.lines ≤ 2 ^ 64
     fits all most = omega (arith, all, most)

@@ -10,8 +10,9 @@ use Rattle.triple_kernel.specs.Tree.{TripleTree}
 use Rattle.proof_text.specs.declared.line.Line.{Line}
 use Rattle.proof_text.specs.declared.line.Line.TheVariants as line
 use Rattle.proof_text.specs.Line.{LineTree, States, Loop, Forget, line_tree, Further}
-use Rattle.proof_text.specs.LineLimits.{IsLine}
-use Rattle.checker.specs.Instance.{AreInstances, History, after_line, after_lines, no_lines, with_closed, with_theorem, without}
+use Rattle.group_text.specs.Version.{Version}
+use Rattle.proof_text.specs.LineLimits.{IsLineIn}
+use Rattle.checker.specs.Instance.{AreInstancesBy, FurtherRule, History, after_line, after_lines, no_lines, with_closed, with_theorem, without}
 use Rattle.path_walk.specs.Forgotten.{KeepsNone}
 use Rattle.path_walk.specs.Item.{AreClosing}
 use Rattle.path_walk.specs.inner.Histories.{IsCounted}
@@ -31,9 +32,9 @@ one_forgotten lines more all first k is low so_far =
     ∙ ap (λ (ls : List LineTree). all ++ ls) (sym (map-range_with_len_more Forget first (k - first) k place)) ∙ (λ i. all ++ forgets first (count i))
 
 -- they have a text
-pub forgets-fine : (a n : ℕ) → a + n ≤ 2 ^ 64 → AllByRecursion IsLine (forgets a n)
-forgets-fine a zero most = tt
-forgets-fine a (suc n) most = (omega (arith, most), forgets-fine (a + 1) n (omega (arith, most)))
+pub forgets-fine : (v : Version) (a n : ℕ) → a + n ≤ 2 ^ 64 → AllByRecursion (IsLineIn v) (forgets a n)
+forgets-fine v a zero most = tt
+forgets-fine v a (suc n) most = (omega (arith, most), forgets-fine v (a + 1) n (omega (arith, most)))
 
 -- ---- what they leave behind them
 
@@ -118,9 +119,9 @@ forgotten ls d first next cited more are count old at none j =
 
 -- ---- each is right
 
-forgets-right : (g : GroupTree) (h : History) (a n : ℕ) → ((j : ℕ) → a ≤ j → j < a + n → is_some (h.theorem j) ≡ true) → AreInstances g h (forgets a n)
-forgets-right g h a zero there = tt
-forgets-right g h a (suc n) there = (there a (omega arith) (omega arith), forgets-right g (without a h) (a + 1) n rest)
+forgets-right : (F : FurtherRule) (g : GroupTree) (h : History) (a n : ℕ) → ((j : ℕ) → a ≤ j → j < a + n → is_some (h.theorem j) ≡ true) → AreInstancesBy F g h (forgets a n)
+forgets-right F g h a zero there = tt
+forgets-right F g h a (suc n) there = (there a (omega arith) (omega arith), forgets-right F g (without a h) (a + 1) n rest)
   where
     rest : (j : ℕ) → a + 1 ≤ j → j < a + 1 + n → is_some ((without a h).theorem j) ≡ true
     rest j low high =
@@ -159,16 +160,16 @@ stated-there h (Loop d cited ∷ ls) j all low high = absurd all.0
 stated-there h (Forget k ∷ ls) j all low high = absurd all.0
 
 -- they may stand behind the line that closes the definition
-pub closing-forgets : (g : GroupTree) (h : History) (d : ℕ) (ls : List LineTree) (cited : List ℕ) → AllByRecursion IsStating ls → AreClosing g h d (ls ++ Loop d cited ∷ []) →
-    AreClosing g h d ((ls ++ Loop d cited ∷ []) ++ forgets h.next (stated ls))
-closing-forgets g h d ls cited all c =
+pub closing-forgets : (F : FurtherRule) (g : GroupTree) (h : History) (d : ℕ) (ls : List LineTree) (cited : List ℕ) → AllByRecursion IsStating ls → AreClosing F g h d (ls ++ Loop d cited ∷ []) →
+    AreClosing F g h d ((ls ++ Loop d cited ∷ []) ++ forgets h.next (stated ls))
+closing-forgets F g h d ls cited all c =
     let last : List LineTree = Loop d cited ∷ [] in
     let fs : List LineTree = forgets h.next (stated ls) in
     let k : History = fold after_line h ls in
     let at : fold after_line h (ls ++ last) ≡ with_closed d k = fold-join h ls last in
     let whole : fold after_line h ((ls ++ last) ++ fs) ≡ fold after_line (fold after_line h (ls ++ last)) fs = fold-join h (ls ++ last) fs in
     record {
-      right = joined g h (ls ++ last) fs c.right (subst (λ (m : History). AreInstances g m fs) (sym at) (forgets-right g (with_closed d k) h.next (stated ls) (λ j low high. stated-there h ls j all low high)));
+      right = joined F g h (ls ++ last) fs c.right (subst (λ (m : History). AreInstancesBy F g m fs) (sym at) (forgets-right F g (with_closed d k) h.next (stated ls) (λ j low high. stated-there h ls j all low high)));
       closed = (λ i. (whole i).closed d) ∙ forgets-closed (fold after_line h (ls ++ last)) h.next (stated ls) d ∙ c.closed;
       keeps = λ e is. (λ i. (whole i).closed e) ∙ forgets-closed (fold after_line h (ls ++ last)) h.next (stated ls) e ∙ c.keeps e is;
     }

@@ -20,7 +20,7 @@ use Rattle.path_walk.proofs.WriterLemmas.{from_on, grown_join, grown_state, held
 use Rattle.path_walk.proofs.Joins.{some_and}
 use Rattle.path_walk.proofs.Lines.{axiom-is, is_framed, is_put, is_weakened, own-rise, own-test}
 use Rattle.code_parts.proofs.Lists.{in_range, in-contains}
-use Rattle.path_walk.proofs.JoinedLines.{goes_on}
+use Rattle.path_walk.proofs.JoinedLines.{goes-version, goes_on}
 
 module _ (f : Flow) (ranges : List Range) (s : Setting f ranges) (n : ℕ) (at : StandsAt f ranges n) (first : f.uses n ≡ 0) where
   reads : (r : ℕ) → Contains (sources (f.instr n)) r → (r ≡ 0 → ⊥) → (1 ≤ r) × (r ≤ 31)
@@ -106,7 +106,11 @@ pub act_steps : (f : Flow) (ranges : List Range) (n : ℕ) (entry : ℕ) (form :
     has_form (f.instr n) form ≡ true →
     GoesOn f entry from (act_standing (f.instr n) form (f.addr n) (f.word n) (f.uses n) v old) (pc_after (f.instr n) form (f.addr n) (size f n) (names v (f.uses n))) (place_after (f.instr n) (f.uses n) v) (acted f (f.instr n) form (f.addr n) (f.word n) (f.uses n) v old) new t →
     Steps f entry ranges old new (Const (f.addr n)) v from (pc_after (f.instr n) form (f.addr n) (size f n) (names v (f.uses n))) (place_after (f.instr n) (f.uses n) v) (map So (conditions (f.instr n) form (names v (f.uses n))) ++ new_facts (f.instr n) (f.addr n) (size f n) (f.uses n) v) t
-act_steps f ranges n entry form v old new from t at first has on = record { each = λ s path ready here. act_stood f ranges s n at first form has v old ready entry new path from t here on }
+act_steps f ranges n entry form v old new from t at first has on = record {
+  version = goes-version f entry from (act_standing (f.instr n) form (f.addr n) (f.word n) (f.uses n) v old) t (pc_after (f.instr n) form (f.addr n) (size f n) (names v (f.uses n))) (place_after (f.instr n) (f.uses n) v)
+      (acted f (f.instr n) form (f.addr n) (f.word n) (f.uses n) v old) new on;
+  each = λ s path ready here. act_stood f ranges s n at first form has v old ready entry new path from t here on;
+}
 
 -- .. as they were made
 pub steps_made : (f : Flow) (ranges : List Range) (n : ℕ) (entry : ℕ) (form : Form) (v : VariableMap) (old mid new : WriterTree) (from : Option CitedTree) (last t : CitedTree) (pc : WordTree) (u : VariableMap) → StandsAt f ranges n → f.uses n ≡ 0 →

@@ -29,6 +29,11 @@ among-missing known fs more h = record { each = λ x c. go fs more h x c }
     go (y ∷ fs) (z ∷ more) (inr h) x (zero, lt, at) = (0, omega arith, h.1.0 ∙ at)
     go (y ∷ fs) (z ∷ more) (inr h) x (suc k, lt, at) = later y fs x (go fs more h.1.1 x (k, omega (arith, lt), at))
 
+-- the text stays of its version
+pub goes-version : (f : Flow) (entry : ℕ) (from : Option CitedTree) (there t : CitedTree) (to : WordTree) (u : VariableMap) (old new : WriterTree) → GoesOn f entry from there to u old new t → new.version ≡ old.version
+goes-version f entry None there t to u old new on = ap (λ (l : WriterTree). l.version) on.0
+goes-version f entry (Some st) there t to u old new on = ap (λ (l : WriterTree). l.version) on.log
+
 module _ (f : Flow) (ranges : List Range) (s : Setting f ranges) (entry : ℕ) where
   pub goes_on : (old new : WriterTree) (pc : WordTree) (v : VariableMap) (path ways : List FactTree) (from : Option CitedTree) (there t : CitedTree) (to : WordTree) (u : VariableMap) →
       IsReady f ranges s old → FromAs f entry ranges (past f ranges s old) pc v path from →

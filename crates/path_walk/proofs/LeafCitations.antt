@@ -118,6 +118,7 @@ module _ (f : Flow) (p : Part) (ranges : List Range) where
       ((s : Setting f ranges) (path : List FactTree) → body_leaves (group_in f ranges s) (part_def f p) body v.words v.mems path ≡ record { facts = path; post = with_values (group_in f ranges s) pc (current f v) } ∷ []) →
       Leads f p ranges old (citing t.number old) pc v (Some t) body
   leaf_leads old pc v t body same = record {
+    version = refl;
     each = λ s path ready here closed below. subst (λ ls. Led f p ranges s old (citing t.number old) ls) (sym (same s path)) (cited_led s old pc v path t ready here);
   }
 
@@ -159,7 +160,7 @@ module _ (f : Flow) (p : Part) (ranges : List Range) where
   -- ---- arms
 
   pub arms_none : (d k : ℕ) (l : WriterTree) (pc : WordTree) (v : VariableMap) (from : Option CitedTree) (exits : List Exit) → ArmsLead f p ranges d l l pc v from exits k NoArm
-  arms_none d k l pc v from exits = record { each = λ s path ready closed low here arms below. led_none s l ready }
+  arms_none d k l pc v from exits = record { version = refl; each = λ s path ready closed low here arms below. led_none s l ready }
 
   -- an arm, and those after it
   pub arms_more : (d k : ℕ) (old mid after new : WriterTree) (pc : WordTree) (v : VariableMap) (from : Option CitedTree) (x : ℕ) (t : CitedTree) (b : BodyTree) (exits : List Exit) (arms : ArmTrees) →
@@ -167,6 +168,7 @@ module _ (f : Flow) (p : Part) (ranges : List Range) where
       Leads f p ranges mid after (Const (f.addr x)) (fresh f v.words v.mems) (Some t) b → ArmsLead f p ranges d after new pc v from exits (suc k) arms →
       ArmsLead f p ranges d old new pc v from (At (f.addr x) ∷ exits) k (Arm b arms)
   arms_more d k old mid after new pc v from x t b exits arms step one rest = record {
+    version = rest.version ∙ one.version ∙ step.version;
     each = λ s path ready closed low here ok below.
         let g : GroupTree = group_in f ranges s in
         let res : results_at f (At (f.addr x)) v.words v.mems ≡ variables_after v.words v.mems (length f.regs) f.mems = sym (current-fresh f v.words v.mems s.code.registers) in
@@ -192,6 +194,7 @@ module _ (f : Flow) (p : Part) (ranges : List Range) where
       StepsBy f (part_def f p).entry ranges d old mid pc v from (Var v.words) (fresh f (suc v.words) v.mems) (Gives d 0 (current f v) (results_at f Ret v.words v.mems) ∷ []) t →
       ArmsLead f p ranges d old (citing t.number mid) pc v from (Ret ∷ []) 0 (Arm (returning f v) NoArm)
   arm_back d old mid pc v from t region returns step = record {
+    version = step.version;
     each = λ s path ready closed low here ok below.
         let stood = step.each s path ready closed low here in
         let g : GroupTree = group_in f ranges s in
@@ -226,6 +229,7 @@ module _ (f : Flow) (p : Part) (ranges : List Range) where
   pub call_leads : (q : Part) → IsPart f q → (old new : WriterTree) (pc : WordTree) (v : VariableMap) (from : Option CitedTree) (arms : ArmTrees) →
       ArmsLead f p ranges (f.number q) old new pc v from (exits_of f q) 0 arms → Leads f p ranges old new pc v from (Call (f.number q) (current f v) arms)
   call_leads q there old new pc v from arms lead = record {
+    version = lead.version;
     each = λ s path ready here closed below.
         let part = s.has q there below.0 in
         let their : tree.exits_at (group_in f ranges s) (f.number q) ≡ exits_of f q = exits_there (group_in f ranges s) (f.number q) part.def part.is ∙ part.exits in
@@ -295,6 +299,7 @@ module _ (f : Flow) (p : Part) (ranges : List Range) where
       Leads f p ranges mid new (Const (f.addr m)) u (Some t) (body_on (room - 1) f p m u) → Leads f p ranges old new (Const (f.addr n)) v from (body_at room f p n v)
   straight_leads n room v u i m from t old mid new node none is branch jump some place goes step rest =
       subst (λ (b : BodyTree). Leads f p ranges old new (Const (f.addr n)) v from b) (goes_straight f p n room v i [] ss none is branch jump some refl) (record {
+        version = rest.version ∙ step.version;
         each = λ s path ready here closed below.
             let stood = step.each s path ready here in
             let at = s.code.each n node in
@@ -329,6 +334,7 @@ module _ (f : Flow) (p : Part) (ranges : List Range) where
       Leads f p ranges d new (Const (f.addr y)) v (Some t2) (body_on (room - 1) f p y v) → Leads f p ranges old new (Const (f.addr n)) v from (body_at room f p n v)
   branch_leads n room v i c rs1 rs2 offset x y from t1 t2 old a b d new node none is branch some left right one go_one two go_two =
       subst (λ (z : BodyTree). Leads f p ranges old new (Const (f.addr n)) v from z) (goes_two_ways f p n room v i c rs1 rs2 offset none is branch some) (record {
+        version = go_two.version ∙ two.version ∙ go_one.version ∙ one.version;
         each = λ s path ready here closed below.
             let g : GroupTree = group_in f ranges s in
             let at = s.code.each n node in
@@ -371,6 +377,7 @@ module _ (f : Flow) (p : Part) (ranges : List Range) where
       Leads f p ranges old (citing t.number mid) (Const (f.addr n)) v from (body_at room f p n v)
   return_leads n room v from t old mid near uncalled jump some step =
       subst (λ (z : BodyTree). Leads f p ranges old (citing t.number mid) (Const (f.addr n)) v from z) (goes_back f p n room v (f.instr n) uncalled refl jump some) (record {
+        version = step.version;
         each = λ s path ready here closed below.
             let g : GroupTree = group_in f ranges s in
             let at = s.code.each n near.node in

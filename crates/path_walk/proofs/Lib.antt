@@ -8,12 +8,14 @@ pub mod Facts
 pub mod LineTexts
 pub mod WriterLemmas
 pub mod Joins
+pub mod EnteredLines
 pub mod LeafCitations
 pub mod Limits
 pub mod Lines
 pub mod Lists
 pub mod OneMoreLine
 pub mod RightLines
+pub mod SteeredTexts
 pub mod MissingFacts
 pub mod PartWalks
 pub mod VariableTerms
@@ -22,3 +24,4 @@ pub mod PartLimits
 pub mod JoinedLines
 pub mod Texts
 pub mod PartsInOrder
+pub mod FunctionsInOrder

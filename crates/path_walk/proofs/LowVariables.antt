@@ -7,14 +7,6 @@ use Rattle.code_parts.specs.Bodies.{VariableMap, is_store, place_after, stored}
 use Rattle.code_parts.specs.VariableMaps.{place_of}
 use Rattle.path_walk.proofs.PartLimits.{IsLow}
 
--- one memory at most
-pub one-few : (b : Bool) → cond b 1 0 ≤ 1
-one-few true = omega arith
-one-few false = omega arith
-
-pub few-memories : (b : Bool) → cond b 1 0 ≤ 2
-few-memories b = let one = one-few b in omega (arith, one)
-
 pub low_place : (p : TheMap) (n mem_count : ℕ) → mem_count ≤ 1 → p.words ≤ n → p.mems ≤ n → IsLow mem_count (place_of p) n
 low_place p n mem_count one words mems = record {
   word = λ r. (let most = p.low.word r in omega (arith, most, words));

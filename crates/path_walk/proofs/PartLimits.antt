@@ -21,7 +21,8 @@ use Rattle.rv_decode.specs.Registers.{destination}
 use Rattle.instr_axioms.specs.Terms.{following, has_memory, word_in, sum, loaded, conditions, result, memory_after, pc_after}
 use Rattle.code_parts.specs.declared.part.Part.{Part}
 use Rattle.code_parts.specs.declared.part.Part.TheVariants.{Loop, Rest}
-use Rattle.code_parts.specs.Bodies.{Callee, Enter, Flow, VariableMap, size, action_calling, return_arm, names, current, fresh, start, with_pc, is_store, stored, place_after, needs, writes, Straight, action_of, first, rest_targets, targets, returned, rest_from, index_of, end_of, or_else, arms_over, last_at, rest_arms, end_at, action_body, body_at, rest_body, part_body, part_def}
+use Rattle.code_parts.specs.Bodies.{Enter, Flow, VariableMap, size, action_calling, return_arm, names, current, fresh, start, with_pc, is_store, stored, place_after, needs, writes, Straight, action_of, first, rest_targets, targets, returned, rest_from, index_of, end_of, or_else, arms_over, last_at, rest_arms, end_at, action_body, body_at, rest_body, part_body, part_def}
+use Rattle.code_parts.specs.declared.callee.Callee.{Callee}
 use Rattle.code_parts.specs.Graph.{IsSmall}
 use Rattle.path_walk.proofs.Limits.{exits-few}
 use Rattle.code_parts.proofs.VariableMaps.{position-most}

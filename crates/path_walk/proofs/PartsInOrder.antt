@@ -1,5 +1,5 @@
 -- The parts of a graph are walked through one after the other, and then are all closed.
-use Rattle.std.proofs.Common.{◌≡◌, ℕ, zero, suc, ◌+◌, ◌^◌, ◌<◌, List, [], ◌∷◌, ◌++◌, map, length, get_or, take, true, fold, refl, sym, ap, subst, ◌∙◌, arith, Some, false}
+use Rattle.std.proofs.Common.{◌≡◌, ℕ, zero, suc, ◌+◌, ◌^◌, ◌<◌, List, [], ◌∷◌, ◌++◌, map, length, get_or, take, true, fold, refl, sym, ap, subst, ◌∙◌, arith, Some, None, Option, false}
 use Rattle.std.proofs.lemmas.Option.{slice_get-get_or}
 use Rattle.std.specs.Prelude.{slice_get}
 use Rattle.std.specs.List.{AllByRecursion}
@@ -7,20 +7,27 @@ use Rattle.tailrec_lang.specs.declared.group.Def.{Def}
 use Rattle.tailrec_lang.specs.Tree.{DefTree, GroupTree, def_tree, group_tree}
 use Rattle.proof_text.specs.Line.{LineTree, line_tree}
 use Rattle.proof_text.specs.LineLimits.{IsLine}
+use Rattle.group_text.specs.declared.version.Version.{Version as Known}
+use Rattle.group_text.specs.declared.version.Version.TheVariants.{One}
 use Rattle.checker.specs.Instance.{History, after_line, after_lines, no_lines}
 use Rattle.flow_graph.specs.Graph.{GraphOf}
 use Rattle.loop_forest.specs.Forest.{ForestOf, IsForestOf, number_of}
 use Rattle.code_parts.specs.declared.part.Part.{Part}
 use Rattle.path_walk.specs.declared.item.Item.{Item}
-use Rattle.code_parts.specs.Bodies.{part_body, part_def}
+use Rattle.rv_words.specs.declared.range.Range.{Range}
+use Rattle.code_parts.specs.declared.callee.Callee.{Callee}
+use Rattle.code_parts.specs.Bodies.{Flow, part_body, part_def}
 use Rattle.path_walk.specs.Closed.{AreClosedBy}
-use Rattle.code_parts.specs.Graph.{IsCode, IsGraph}
-use Rattle.code_parts.specs.Flows.{AreCodeOf, IsReached, alone, flow_of, group_of, group_over}
-use Rattle.path_walk.specs.Item.{IsItemOf, IsWalked}
+use Rattle.code_parts.specs.Graph.{CallsBelow, IsAlone, IsCode, IsFor, IsGraph, IsMade}
+use Rattle.code_parts.specs.Flows.{AreCodeOf, IsReached, alone, flow_of, group_of, group_over, setting_of}
+use Rattle.path_walk.specs.Further.{IsVersionFor, further_of}
+use Rattle.path_walk.specs.Item.{IsItemOf, IsWalkedIn}
 use Rattle.code_parts.specs.Order.{AreParts}
 use Rattle.code_parts.specs.Kept.{FlowOf, flow_in}
+use Rattle.path_walk.specs.Memories.{UsesFirst}
 use Rattle.path_walk.specs.inner.Walks.{AreWalked, CloseFirst}
 use Rattle.code_parts.proofs.FlowMade.{made-over}
+use Rattle.code_parts.proofs.Settings.{same_flow}
 use Rattle.code_parts.proofs.FlowSize.{parts-fit}
 use Rattle.path_walk.proofs.CalledDefs.{below_closed, closed_to}
 use Rattle.code_parts.proofs.Groups.{for}
@@ -42,29 +49,44 @@ taken : {A : Type 0} (xs : List A) → take (length xs) xs ≡ xs
 taken [] = refl
 taken (x ∷ xs) = ap (λ zs. x ∷ zs) (taken xs)
 
+-- the lines of a part behind those that closed the definitions before it
+pub first_more : (version : Known) (f : Flow) (ranges : List Range) (p : Part) (g : GroupTree) (n : ℕ) (old new : List LineTree) → IsWalkedIn version f ranges p old new → f.number p ≡ n → IsFor f n g → g.code ≡ ranges →
+    slice_get g.defs (f.number p) ≡ Some (part_def f p) → CallsBelow n (part_body f p) → CloseFirst (further_of version) g n old → CloseFirst (further_of version) g (n + 1) new
+first_more version f ranges p g n old new one number group code mine below before =
+    let closing = one.closing g n group code mine below (below_closed (after_lines old) n (part_body f p) before.closed below) in
+    let whole : after_lines (old ++ one.added) ≡ fold after_line (after_lines old) one.added = fold-join no_lines old one.added in
+    let all : CloseFirst (further_of version) g (n + 1) (old ++ one.added) = record {
+      right = joined (further_of version) g no_lines old one.added before.right closing.right;
+      closed = λ c lt. ap (λ (h : History). h.closed c) whole ∙ closed_to c n (omega (arith, lt)) (fold after_line (after_lines old) one.added)
+          (subst (λ k. (fold after_line (after_lines old) one.added).closed k ≡ true) number closing.closed) (λ low. closing.keeps c (before.closed c low));
+    } in
+    subst (CloseFirst (further_of version) g (n + 1)) (sym one.lines) all
+
+-- a function alone calls no other, so version 1 will do, and has no second memory
+pub version-alone : (f : Flow) → IsAlone f → IsVersionFor f One
+version-alone f alone = record { calls = λ n c node calls. absurd (called (alone.calls n node) calls) }
+  where
+    called : {c : Callee} {o : Option Callee} → o ≡ None → o ≡ Some c → ⊥
+    called none some = cc
+
+pub first-alone : (f : Flow) → IsAlone f → UsesFirst f
+first-alone f alone = record { mems = alone.mems; uses = alone.uses }
+
 module _ (s : FlowOf) where
   pub none_walked : AreWalked s 0 [] []
   none_walked = record { are = refl; fine = tt; close = λ g made code. record { right = tt; closed = λ d lt. absurd (omega (arith, lt)) } }
 
   -- .. and the next part
-  pub walked_more : (n : ℕ) (p : Part) (defs : List DefTree) (d : DefTree) (old new : List LineTree) → IsGraph (flow_in s) → slice_get s.parts n ≡ Some p → AreWalked s n defs old →
-      d ≡ part_def (flow_in s) p → IsWalked (flow_in s) s.code p old new → AreWalked s (n + 1) (defs ++ d ∷ []) new
+  pub walked_more : (n : ℕ) (p : Part) (defs : List DefTree) (d : DefTree) (old new : List LineTree) → IsGraph (flow_in s) → slice_get s.setting.parts n ≡ Some p → AreWalked s n defs old →
+      d ≡ part_def (flow_in s) p → IsWalkedIn One (flow_in s) s.code p old new → AreWalked s (n + 1) (defs ++ d ∷ []) new
   walked_more n p defs d old new graph at so_far def one = record {
-    are = (λ i. so_far.are i ++ def i ∷ []) ∙ sym (one_more (part_def (flow_in s)) s.parts n p at);
+    are = (λ i. so_far.are i ++ def i ∷ []) ∙ sym (one_more (part_def (flow_in s)) s.setting.parts n p at);
     fine = subst (AllByRecursion IsLine) (sym one.lines) (all_join IsLine old one.added so_far.fine one.fine);
     close = λ g made code.
-        let before = so_far.close g made code in
         let there = made.part n p at in
         let mine : slice_get g.defs ((flow_in s).number p) ≡ Some (part_def (flow_in s) p) =
-        (λ i. slice_get (made.defs i) ((flow_in s).number p)) ∙ slice-mapped (part_def (flow_in s)) s.parts ((flow_in s).number p) p (made.listed p there.0) in
-        let closing = one.closing g n (for (flow_in s) g s.parts graph made n) code mine (made.below n p at) (below_closed (after_lines old) n (part_body (flow_in s) p) before.closed (made.below n p at)) in
-        let whole : after_lines (old ++ one.added) ≡ fold after_line (after_lines old) one.added = fold-join no_lines old one.added in
-        let all : CloseFirst g (n + 1) (old ++ one.added) = record {
-          right = joined g no_lines old one.added before.right closing.right;
-          closed = λ c lt. ap (λ (h : History). h.closed c) whole ∙ closed_to c n (omega (arith, lt)) (fold after_line (after_lines old) one.added)
-              (subst (λ k. (fold after_line (after_lines old) one.added).closed k ≡ true) there.1 closing.closed) (λ low. closing.keeps c (before.closed c low));
-        } in
-        subst (CloseFirst g (n + 1)) (sym one.lines) all;
+        (λ i. slice_get (made.defs i) ((flow_in s).number p)) ∙ slice-mapped (part_def (flow_in s)) s.setting.parts ((flow_in s).number p) p (made.listed p there.0) in
+        first_more One (flow_in s) s.code p g n old new one there.1 (for (flow_in s) g s.setting.parts graph made n) code mine (made.below n p at) (so_far.close g made code);
   }
 
 map_join : {A B : Type 0} (h : A → B) (xs : List A) (x : A) → map h (xs ++ x ∷ []) ≡ map h xs ++ h x ∷ []
@@ -72,11 +94,11 @@ map_join h [] x = refl
 map_join h (y ∷ xs) x = ap (λ zs. h y ∷ zs) (map_join h xs x)
 
 -- .. as the loop over them goes
-pub walked_next : (s : FlowOf) (parts : List Part) (n : ℕ) (x : Part) (defs more : List Def) (d : Def) (old new : List LineTree) → parts ≡ s.parts → IsGraph (flow_in s) → n < length parts →
-    AreWalked s n (map def_tree defs) old → more ≡ defs ++ d ∷ [] → def_tree d ≡ part_def (flow_in s) (get_or parts n x) → IsWalked (flow_in s) s.code (get_or parts n x) old new →
+pub walked_next : (s : FlowOf) (parts : List Part) (n : ℕ) (x : Part) (defs more : List Def) (d : Def) (old new : List LineTree) → parts ≡ s.setting.parts → IsGraph (flow_in s) → n < length parts →
+    AreWalked s n (map def_tree defs) old → more ≡ defs ++ d ∷ [] → def_tree d ≡ part_def (flow_in s) (get_or parts n x) → IsWalkedIn One (flow_in s) s.code (get_or parts n x) old new →
     AreWalked s (n + 1) (map def_tree more) new
 walked_next s parts n x defs more d old new are graph lt so_far pushed def one =
-    let at : slice_get s.parts n ≡ Some (get_or parts n x) = (λ i. slice_get (sym are i) n) ∙ slice_get-get_or parts n x lt in
+    let at : slice_get s.setting.parts n ≡ Some (get_or parts n x) = (λ i. slice_get (sym are i) n) ∙ slice_get-get_or parts n x lt in
     subst (λ (ds : List DefTree). AreWalked s (n + 1) ds new) (sym (ap (map def_tree) pushed ∙ map_join def_tree defs d))
     (walked_more s n (get_or parts n x) (map def_tree defs) (def_tree d) old new graph at so_far def one)
 
@@ -84,28 +106,35 @@ pub parts_small : (g : GraphOf) (f : ForestOf) (parts : List Part) → IsReached
 parts_small g f parts reached forest order = let fit = parts-fit false reached.code reached.entry g f (alone g parts) reached.is forest order in omega (arith, fit)
 
 -- all parts, as an item
-pub item_from : (s : FlowOf) (name : List ℕ) (item : Item) → IsReached false s.graph → IsForestOf s.graph s.forest → AreParts (flow_in s) (number_of s.forest) s.parts → AreCodeOf s.graph item.group.code.ranges → IsCode (flow_in s) s.code →
-    (defs : List DefTree) → AreWalked s (length s.parts) defs (map line_tree item.lines) → group_tree item.group ≡ group_over (flow_in s) name s.code defs → item.reached ≡ length s.graph.addrs →
+pub item_from : (s : FlowOf) (name : List ℕ) (item : Item) → IsReached false s.graph → IsForestOf s.graph s.forest → AreParts (flow_in s) (number_of s.forest) s.setting.parts → AreCodeOf s.graph item.group.code.ranges → IsCode (flow_in s) s.code → setting_of s.setting ≡ alone s.graph s.setting.parts →
+    (defs : List DefTree) → AreWalked s (length s.setting.parts) defs (map line_tree item.lines) → group_tree item.group ≡ group_over (flow_in s) name s.code defs → item.reached ≡ length s.graph.addrs →
     IsItemOf s.graph s.forest name item
-item_from s name item reached forest order whole code defs walked group count = record {
-  parts = s.parts;
-  ordered = order;
+item_from s name item reached forest order whole code setting defs walked group count = record {
+  parts = s.setting.parts;
+  ordered = order_alone;
   code = whole;
-  group = is ∙ ap (λ rs. group_of (flow_in s) name rs s.parts) (sym ranges);
+  group = is ∙ (λ i. group_of (same i) name (sym ranges i) s.setting.parts);
   lines = subst (λ (g : GroupTree). AreClosedBy g (map line_tree item.lines)) (sym is) closed;
   fine = walked.fine;
   reached = count;
 }
   where
-    is : group_tree item.group ≡ group_of (flow_in s) name s.code s.parts
-    is = group ∙ ap (group_over (flow_in s) name s.code) (walked.are ∙ ap (map (part_def (flow_in s))) (taken s.parts))
+    same : flow_in s ≡ flow_of s.graph s.forest (alone s.graph s.setting.parts)
+    same = same_flow s s.graph s.forest (alone s.graph s.setting.parts) refl refl setting
+
+    order_alone : AreParts (flow_of s.graph s.forest (alone s.graph s.setting.parts)) (number_of s.forest) s.setting.parts
+    order_alone = subst (λ (f : Flow). AreParts f (number_of s.forest) s.setting.parts) same order
+
+    is : group_tree item.group ≡ group_of (flow_in s) name s.code s.setting.parts
+    is = group ∙ ap (group_over (flow_in s) name s.code) (walked.are ∙ ap (map (part_def (flow_in s))) (taken s.setting.parts))
 
     ranges : item.group.code.ranges ≡ s.code
     ranges = ap (λ (g : GroupTree). g.code) is
 
-    closed : AreClosedBy (group_of (flow_in s) name s.code s.parts) (map line_tree item.lines)
+    closed : AreClosedBy (group_of (flow_in s) name s.code s.setting.parts) (map line_tree item.lines)
     closed =
-        let made = made-over reached.code reached.entry s.graph s.forest s.parts name s.code reached.is forest code order in
-        let all = walked.close (group_of (flow_in s) name s.code s.parts) made refl in
-        let count : length (map (part_def (flow_in s)) s.parts) ≡ length s.parts = length-map (part_def (flow_in s)) s.parts in
+        let made = subst (λ (f : Flow). IsMade f (group_of f name s.code s.setting.parts) s.setting.parts) (sym same)
+        (made-over reached.code reached.entry s.graph s.forest s.setting.parts name s.code reached.is forest (subst (λ (f : Flow). IsCode f s.code) same code) order_alone) in
+        let all = walked.close (group_of (flow_in s) name s.code s.setting.parts) made refl in
+        let count : length (map (part_def (flow_in s)) s.setting.parts) ≡ length s.setting.parts = length-map (part_def (flow_in s)) s.setting.parts in
         record { right = all.right; closed = λ d lt. all.closed d (omega (arith, lt, count)) }

@@ -2,21 +2,21 @@
 use Rattle.std.proofs.Common.{◌≡◌, ℕ, ◌+◌, ◌<◌, List, [], ◌∷◌, ◌++◌, Bool, true, false, cond, eqb, fold, refl, arith, Some, None, eqb-true}
 use Rattle.tailrec_lang.specs.Tree.{GroupTree}
 use Rattle.triple_kernel.specs.Tree.{TripleTree}
-use Rattle.proof_text.specs.Line.{RuleTree, LineTree, States, Loop, Forget, Further}
+use Rattle.proof_text.specs.Line.{LineTree, States, Loop, Forget, Further}
 use Rattle.path_walk.specs.inner.Histories.{IsCounted, Keeps}
-use Rattle.checker.specs.Instance.{History, no_lines, without, with_closed, with_theorem, after_line, Meets, AreInstances}
+use Rattle.checker.specs.Instance.{History, no_lines, without, with_closed, with_theorem, after_line, FurtherRule, InstanceBy, AreInstancesBy}
 
 -- lines that are right after those that left h behind them leave k behind them
-pub record Made (g : GroupTree) (h k : History) : Type 0 where
+pub record Made (F : FurtherRule) (g : GroupTree) (h k : History) : Type 0 where
   pub lines : List LineTree
-  pub right : AreInstances g h lines
+  pub right : AreInstancesBy F g h lines
   pub after : fold after_line h lines ≡ k
   pub keeps : Keeps h k
   pub counted : IsCounted k
 
-pub joined : (g : GroupTree) (h : History) (ls ms : List LineTree) → AreInstances g h ls → AreInstances g (fold after_line h ls) ms → AreInstances g h (ls ++ ms)
-joined g h [] ms r s = s
-joined g h (l ∷ ls) ms r s = (r.0, joined g (after_line h l) ls ms r.1 s)
+pub joined : (F : FurtherRule) (g : GroupTree) (h : History) (ls ms : List LineTree) → AreInstancesBy F g h ls → AreInstancesBy F g (fold after_line h ls) ms → AreInstancesBy F g h (ls ++ ms)
+joined F g h [] ms r s = s
+joined F g h (l ∷ ls) ms r s = (r.0, joined F g (after_line h l) ls ms r.1 s)
 
 pub fold-join : (h : History) (ls ms : List LineTree) → fold after_line h (ls ++ ms) ≡ fold after_line (fold after_line h ls) ms
 fold-join h [] ms = refl
@@ -37,11 +37,11 @@ below-next h j t s c e = go (eqb j h.next) refl e
     go false is e = let low = c j t e in omega (arith, low)
 
 -- one line that states a triple
-pub made_one : (g : GroupTree) (h : History) (rule : RuleTree) (t : TripleTree) → IsCounted h → Meets g h rule t → Made g h (with_theorem t h)
-made_one g h rule t c right = record {
-  lines = States rule t ∷ [];
+pub made_one : (F : FurtherRule) (g : GroupTree) (h : History) (line : LineTree) (t : TripleTree) → after_line h line ≡ with_theorem t h → IsCounted h → InstanceBy F g h line → Made F g h (with_theorem t h)
+made_one F g h line t after c right = record {
+  lines = line ∷ [];
   right = (right, tt);
-  after = refl;
+  after = after;
   keeps = record { theorem = λ j s e. old-there h j s t c e; closed = λ d e. e };
   counted = λ j s e. below-next h j s t c e;
 }

@@ -3,15 +3,16 @@ use Rattle.std.proofs.Common.{◌≡◌, ℕ, ◌+◌, List, [], ◌∷◌, ◌+
 use Rattle.rv_words.specs.declared.range.Range.{Range}
 use Rattle.word_terms.specs.Tree.{WordTree}
 use Rattle.triple_kernel.specs.Tree.{FactTree, TripleTree}
-use Rattle.proof_text.specs.Line.{RuleTree, States}
-use Rattle.checker.specs.Instance.{AreInstances, History, Meets, after_line, after_lines, with_theorem}
+use Rattle.proof_text.specs.Line.{LineTree, RuleTree, States}
+use Rattle.checker.specs.Instance.{AreInstancesBy, History, InstanceBy, Meets, after_line, after_lines, with_theorem}
 use Rattle.code_parts.specs.Bodies.{Flow, VariableMap}
 use Rattle.path_walk.specs.inner.Histories.{IsCounted, Keeps}
-use Rattle.path_walk.specs.inner.Writers.{FromAs, Grown, IsReady, WriterTree, Setting, CitedTree, StandsAs, group_in, past, stating}
+use Rattle.path_walk.specs.Further.{further_of}
+use Rattle.path_walk.specs.inner.Writers.{FromAs, Grown, IsReady, WriterTree, Setting, CitedTree, StandsAs, adding, group_in, past, stating}
 use Rattle.path_walk.proofs.RightLines.{Made, fold-join, held_last, joined, made_one}
 
 module _ (f : Flow) (ranges : List Range) (s : Setting f ranges) where
-  pub grown_made : (a b : WriterTree) → Grown f ranges s a b → Made (group_in f ranges s) (past f ranges s a) (past f ranges s b)
+  pub grown_made : (a b : WriterTree) → Grown f ranges s a b → Made (further_of s.version) (group_in f ranges s) (past f ranges s a) (past f ranges s b)
   grown_made a b m = record {
     lines = m.added;
     right = m.right;
@@ -28,32 +29,46 @@ module _ (f : Flow) (ranges : List Range) (s : Setting f ranges) where
   grown_join a b c m n = record {
     added = m.added ++ n.added;
     lines = n.lines ∙ ap (λ ls. ls ++ n.added) m.lines ∙ append_assoc a.lines m.added n.added;
-    right = joined (group_in f ranges s) (past f ranges s a) m.added n.added m.right (subst (λ h. AreInstances (group_in f ranges s) h n.added) (sym (grown_made a b m).after) n.right);
+    right = joined (further_of s.version) (group_in f ranges s) (past f ranges s a) m.added n.added m.right
+        (subst (λ h. AreInstancesBy (further_of s.version) (group_in f ranges s) h n.added) (sym (grown_made a b m).after) n.right);
     keeps = record { theorem = λ j t e. n.keeps.theorem j t (m.keeps.theorem j t e); closed = λ d e. n.keeps.closed d (m.keeps.closed d e) };
     ready = n.ready;
   }
 
-  pub past_state : (rule : RuleTree) (t : TripleTree) (a : WriterTree) → past f ranges s (stating rule t a) ≡ with_theorem t (past f ranges s a)
-  past_state rule t a = fold-join (after_lines s.before) a.lines (States rule t ∷ [])
+  -- ---- a line that states a triple
 
+  module _ (line : LineTree) (t : TripleTree) (after : (h : History) → after_line h line ≡ with_theorem t h) where
+    past_add : (a : WriterTree) → past f ranges s (adding line a) ≡ with_theorem t (past f ranges s a)
+    past_add a = fold-join (after_lines s.before) a.lines (line ∷ []) ∙ after (past f ranges s a)
+
+    pub ready_add : (a : WriterTree) → IsReady f ranges s a → InstanceBy (further_of s.version) (group_in f ranges s) (past f ranges s a) line → IsReady f ranges s (adding line a)
+    ready_add a ready right = record {
+      next = ap (λ n. n + 1) ready.next ∙ ap (λ (h : History). h.next) (sym (past_add a));
+      counted = subst IsCounted (sym (past_add a)) (made_one (further_of s.version) (group_in f ranges s) (past f ranges s a) line t (after (past f ranges s a)) ready.counted right).counted;
+    }
+
+    pub grown_add : (a : WriterTree) → IsReady f ranges s a → InstanceBy (further_of s.version) (group_in f ranges s) (past f ranges s a) line → Grown f ranges s a (adding line a)
+    grown_add a ready right = record {
+      added = line ∷ [];
+      lines = refl;
+      right = (right, tt);
+      keeps = subst (Keeps (past f ranges s a)) (sym (past_add a)) (made_one (further_of s.version) (group_in f ranges s) (past f ranges s a) line t (after (past f ranges s a)) ready.counted right).keeps;
+      ready = ready_add a ready right;
+    }
+
+    -- the theorem that was stated last
+    pub held_add : (a : WriterTree) → IsReady f ranges s a → (past f ranges s (adding line a)).theorem a.next ≡ Some t
+    held_add a ready = ap (λ (h : History). h.theorem a.next) (past_add a) ∙ ap (λ k. (with_theorem t (past f ranges s a)).theorem k) ready.next ∙ held_last t (past f ranges s a)
+
+  -- .. by a rule
   pub ready_state : (rule : RuleTree) (t : TripleTree) (a : WriterTree) → IsReady f ranges s a → Meets (group_in f ranges s) (past f ranges s a) rule t → IsReady f ranges s (stating rule t a)
-  ready_state rule t a ready meets = record {
-    next = ap (λ n. n + 1) ready.next ∙ ap (λ (h : History). h.next) (sym (past_state rule t a));
-    counted = subst IsCounted (sym (past_state rule t a)) (made_one (group_in f ranges s) (past f ranges s a) rule t ready.counted meets).counted;
-  }
+  ready_state rule t a ready meets = ready_add (States rule t) t (λ h. refl) a ready meets
 
   pub grown_state : (rule : RuleTree) (t : TripleTree) (a : WriterTree) → IsReady f ranges s a → Meets (group_in f ranges s) (past f ranges s a) rule t → Grown f ranges s a (stating rule t a)
-  grown_state rule t a ready meets = record {
-    added = States rule t ∷ [];
-    lines = refl;
-    right = (meets, tt);
-    keeps = subst (Keeps (past f ranges s a)) (sym (past_state rule t a)) (made_one (group_in f ranges s) (past f ranges s a) rule t ready.counted meets).keeps;
-    ready = ready_state rule t a ready meets;
-  }
+  grown_state rule t a ready meets = grown_add (States rule t) t (λ h. refl) a ready meets
 
-  -- the theorem that was stated last
   pub held_now : (rule : RuleTree) (t : TripleTree) (a : WriterTree) → IsReady f ranges s a → (past f ranges s (stating rule t a)).theorem a.next ≡ Some t
-  held_now rule t a ready = ap (λ (h : History). h.theorem a.next) (past_state rule t a) ∙ ap (λ k. (with_theorem t (past f ranges s a)).theorem k) ready.next ∙ held_last t (past f ranges s a)
+  held_now rule t a ready = held_add (States rule t) t (λ h. refl) a ready
 
   -- what stands goes on to do so
   pub stands_on : (entry : ℕ) (a b : WriterTree) (pc : WordTree) (v : VariableMap) (path : List FactTree) (t : CitedTree) → Grown f ranges s a b → StandsAs f entry ranges (past f ranges s a) pc v path t →

@@ -4,32 +4,40 @@ use Rattle.std.specs.List.{AllByRecursion}
 use Rattle.rv_words.specs.declared.range.Range.{Range}
 use Rattle.tailrec_lang.specs.Tree.{GroupTree, group_tree}
 use Rattle.proof_text.specs.Line.{LineTree, line_tree}
-use Rattle.proof_text.specs.LineLimits.{IsLine}
-use Rattle.checker.specs.Instance.{AreInstances, History, after_line, after_lines}
+use Rattle.group_text.specs.Version.{version_of}
+use Rattle.proof_text.specs.LineLimits.{IsLine, IsLineIn}
+use Rattle.group_text.specs.declared.version.Version.{Version as Known}
+use Rattle.group_text.specs.declared.version.Version.TheVariants.{One}
+use Rattle.checker.specs.Instance.{AreInstancesBy, FurtherRule, History, after_line, after_lines}
 use Rattle.flow_graph.specs.Graph.{GraphOf}
 use Rattle.loop_forest.specs.Forest.{ForestOf, number_of}
 use Rattle.code_parts.specs.declared.part.Part.{Part}
 use Rattle.path_walk.specs.declared.item.Item.{Item}
 use Rattle.code_parts.specs.Bodies.{Flow, part_body, part_def}
 use Rattle.path_walk.specs.Closed.{AreClosed, AreClosedBy}
+use Rattle.path_walk.specs.Further.{further_of}
 use Rattle.code_parts.specs.Graph.{CallsBelow, IsFor}
 use Rattle.code_parts.specs.Flows.{AreCodeOf, alone, flow_of, group_of}
 use Rattle.code_parts.specs.Order.{AreParts}
 
--- lines after those that left h behind them, each of which is right, close definition d and open none again
-pub record AreClosing (g : GroupTree) (h : History) (d : ℕ) (lines : List LineTree) : Type 0 where
-  pub right : AreInstances g h lines
+-- lines after those that left h behind them, each of which is right in a text with that further rule, close definition d and open none again
+pub record AreClosing (F : FurtherRule) (g : GroupTree) (h : History) (d : ℕ) (lines : List LineTree) : Type 0 where
+  pub right : AreInstancesBy F g h lines
   pub closed : (fold after_line h lines).closed d ≡ true
   pub keeps : (c : ℕ) → h.closed c ≡ true → (fold after_line h lines).closed c ≡ true
 
--- Lines were added that have a text and close the definition of a part, in each group of the graph with this code that has that
--- definition and the parts up to some number below which it calls, after any lines that closed what it calls.
-pub record IsWalked (f : Flow) (ranges : List Range) (p : Part) (old new : List LineTree) : Type 0 where
+-- Lines of a text of that version were added, which close the definition of a part, in each group of the graph with this code that has that
+-- definition and the parts and functions up to some number below which it calls, after any lines that closed what it calls.
+pub record IsWalkedIn (version : Known) (f : Flow) (ranges : List Range) (p : Part) (old new : List LineTree) : Type 0 where
   pub added : List LineTree
   pub lines : new ≡ old ++ added
-  pub fine : AllByRecursion IsLine added
+  pub fine : AllByRecursion (IsLineIn (version_of version)) added
   pub closing : (g : GroupTree) (d : ℕ) → IsFor f d g → g.code ≡ ranges → slice_get g.defs (f.number p) ≡ Some (part_def f p)
-      → CallsBelow d (part_body f p) → AreClosed (after_lines old) (part_body f p) → AreClosing g (after_lines old) (f.number p) added
+      → CallsBelow d (part_body f p) → AreClosed (after_lines old) (part_body f p) → AreClosing (further_of version) g (after_lines old) (f.number p) added
+
+-- .. in a text of version 1
+abbrev pub IsWalked : Flow → List Range → Part → List LineTree → List LineTree → Type 0
+IsWalked f ranges p old new = IsWalkedIn One f ranges p old new
 
 -- .. over the graph's code, where the number of a part is its place among the earlier ones, or their number
 pub record IsWalkedAfter (g : GraphOf) (f : ForestOf) (earlier : List Part) (p : Part) (old new : List LineTree) : Type 0 where

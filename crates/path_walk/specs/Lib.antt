@@ -1,4 +1,7 @@
 pub mod Closed
+pub mod Further
 pub mod Forgotten
 pub mod Item
+pub mod Linked
+pub mod Memories
 pub mod inner

@@ -4,3 +4,4 @@ pub mod Writers
 pub mod Walks
 pub mod Acts
 pub mod Lines
+pub mod LinkedWalks

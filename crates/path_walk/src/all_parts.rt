@@ -5,13 +5,14 @@ ghost use Rattle.std.specs.List.{All};
 ghost use Rattle.tailrec_lang.specs.Tree.{def_tree};
 ghost use Rattle.proof_text.specs.Line.{line_tree};
 ghost use Rattle.checker.specs.Instance.{after_lines};
-ghost use Rattle.code_parts.specs.Graph.{IsPart};
+ghost use Rattle.code_parts.specs.Graph.{IsAlone, IsPart};
 ghost use Rattle.code_parts.specs.Kept.{flow_in};
 ghost use Rattle.path_walk.specs.Forgotten.{KeepsNone};
 ghost use Rattle.path_walk.specs.inner.Walks.{AreWalked};
 
 use crate::one_part::walk_in;
 use code_parts::{Flow, Part};
+use group_text::Version;
 use proof_text::Line;
 use rv_words::{List, NoMemory};
 use std::alloc::Global;
@@ -26,7 +27,8 @@ pub struct Walks {
 
 /// Walks through all parts of a flow, in their order.
 pub fn walk_all(alloc: Global, flow: &Flow<'_>, parts: &[Part]) -> Result<Walks, NoMemory>
-    requires parts { parts.now ≡ flow.now.parts }
+    requires parts { parts.now ≡ flow.now.setting.parts }
+    requires alone { IsAlone (flow_in flow.now) }
     requires each { All (IsPart (flow_in flow.now)) parts.now }
     ensures lines { IfOk result (λ w. AreWalked flow.now (length parts.now) (map def_tree w.defs) (map line_tree w.lines)) }
     ensures kept { IfOk result (λ w. KeepsNone (after_lines (map line_tree w.lines))) }
@@ -36,7 +38,7 @@ pub fn walk_all(alloc: Global, flow: &Flow<'_>, parts: &[Part]) -> Result<Walks,
     let mut lines = List::new(alloc);
     let mut next = 0;
     for part in parts {
-        let walked = walk_in(alloc, flow, *part, next, &mut lines)?;
+        let walked = walk_in(alloc, flow, Version::One, *part, next, &mut lines)?;
         defs.push(walked.def)?;
         next = walked.next;
     }

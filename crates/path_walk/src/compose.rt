@@ -9,6 +9,7 @@ ghost use Rattle.sep_assert.specs.Tree.{assertion_tree};
 ghost use Rattle.triple_kernel.specs.Tree.{FactTree, fact_tree, triple_tree};
 ghost use Rattle.frame_compose.specs.Rules.{AreMissing};
 ghost use Rattle.code_parts.specs.Bodies.{start};
+ghost use Rattle.path_walk.specs.Memories.{UsesFirst};
 ghost use Rattle.path_walk.specs.inner.Acts.{GoesOn, IsAdded, Joined};
 ghost use Rattle.code_parts.specs.Kept.{flow_in};
 ghost use Rattle.path_walk.specs.inner.Writers as logs;
@@ -16,17 +17,16 @@ ghost use Rattle.path_walk.specs.inner.Writers.{writer_tree, cited_tree};
 ghost use Rattle.code_parts.specs.VariableMaps.{place_of};
 
 use crate::proof_writer::{CitedTheorem, ProofWriter};
-use code_parts::{Flow, VariableMap, fresh, law_of_bytes};
-use instr_axioms::{memory_if, words_before};
+use code_parts::{Flow, VariableMap, current_mems, fresh, law_of_bytes};
+use instr_axioms::words_before;
 use proof_text::Rule;
 use rv_words::{List, NoMemory};
 use sep_assert::{Assertion, code_join};
 use std::alloc::Global;
 use triple_kernel::{Fact, Triple, copy_fact, copy_facts, is_among};
-use word_terms::{Code, Mem, Word, copy_code};
+use word_terms::{Code, Word, copy_code};
 
 /// What holds at a place: that program counter, and the variables of the registers and the memory.
-#[tactic(auto, using(code_parts::proofs::VariableMaps::memories_are))]
 pub fn standing_at(
     alloc: Global,
     flow: &Flow<'_>,
@@ -36,7 +36,7 @@ pub fn standing_at(
     ensures { IfOk result (λ a. assertion_tree a ≡ logs.standing_at (flow_in flow.now) (word_tree pc) (place_of place.now)) }
 {
     let regs = words_before(alloc, flow.regs(), &place.names)?;
-    let mems = memory_if(alloc, flow.has_mem(), Mem::Var(place.names.memory))?;
+    let mems = current_mems(alloc, flow, place)?;
     Ok(Assertion { pc, regs, mems })
 }
 
@@ -79,7 +79,7 @@ fn all_facts(alloc: Global, known: &[Fact], facts: &[Fact]) -> Result<List<Fact>
 }
 
 /// The triple with these facts and this code from a definition's entry to a place.
-fn whole_triple(
+pub fn whole_triple(
     alloc: Global,
     flow: &Flow<'_>,
     entry: u64,
@@ -124,6 +124,7 @@ fn join(
     requires pc { IsWord (word_tree pc) }
     requires words { place.now.words < 2 ^ 16 }
     requires mems { place.now.mems < 2 ^ 16 }
+    requires memory { UsesFirst (flow_in flow.now) }
     ensures joined { IfOk result (λ t. Joined (flow_in flow.now) entry (cited_tree from.now) (cited_tree last) (word_tree pc) (place_of place.now) (writer_tree log.old) (writer_tree log.new) (cited_tree t)) }
     ensures code { IfOk result (λ t. IsWithin (range_bytes t.code) (range_bytes flow.now.code)) }
 {
@@ -154,6 +155,7 @@ pub fn go_on(
     requires pc { IsWord (word_tree pc) }
     requires words { place.now.words < 2 ^ 16 }
     requires mems { place.now.mems < 2 ^ 16 }
+    requires memory { UsesFirst (flow_in flow.now) }
     ensures on { IfOk result (λ t. GoesOn (flow_in flow.now) entry (option_map cited_tree (option_copied from.entry)) (cited_tree last) (word_tree pc) (place_of place.now) (writer_tree log.old) (writer_tree log.new) (cited_tree t)) }
     ensures code { IfOk result (λ t. IsWithin (range_bytes t.code) (range_bytes flow.now.code)) }
 {

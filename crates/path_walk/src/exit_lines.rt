@@ -11,6 +11,7 @@ ghost use Rattle.proof_text.specs.LineLimits.{IsRule, IsTriple};
 ghost use Rattle.group_text.specs.Limits.{IsExit};
 ghost use Rattle.code_parts.specs.Bodies as bodies;
 ghost use Rattle.code_parts.specs.Graph.{IsPart};
+ghost use Rattle.path_walk.specs.Memories.{UsesFirst};
 ghost use Rattle.path_walk.specs.inner.Acts as spec;
 ghost use Rattle.path_walk.specs.inner.Histories.{exit_place, pc_of};
 ghost use Rattle.code_parts.specs.Kept.{flow_in};
@@ -166,7 +167,7 @@ fn law_of_exits(x: Exit)
 }
 
 /// The lines of an exit, and the theorem that they end with.
-fn leave_by(
+pub fn leave_by(
     alloc: Global,
     flow: &Flow<'_>,
     entry: u64,
@@ -178,6 +179,7 @@ fn leave_by(
 ) -> Result<CitedTheorem, NoMemory>
     requires words { place.now.words < 2 ^ 15 }
     requires mems { place.now.mems < 2 ^ 15 }
+    requires memory { UsesFirst (flow_in flow.now) }
     ensures is { IfOk result (λ t. cited_tree t ≡ spec.exit_standing (flow_in flow.now) flow.now.code def exit x (place_of place.now) (writer_tree log.old)) }
     ensures log { OnOk result (writer_tree log.new ≡ spec.exited (flow_in flow.now) flow.now.code entry def exit x (place_of place.now) (writer_tree log.old)) }
 {
@@ -207,6 +209,7 @@ pub fn exit_step(
     requires words { place.now.words < 2 ^ 15 }
     requires mems { place.now.mems < 2 ^ 15 }
     requires code { IsOver flow.now.code (option_map cited_tree (option_copied from)) }
+    requires memory { UsesFirst (flow_in flow.now) }
     ensures steps { IfOk result (λ t. StepsBy (flow_in flow.now) entry flow.now.code ((flow_in flow.now).number q) (writer_tree log.old) (writer_tree log.new) (Const ((flow_in flow.now).addr (bodies.first (flow_in flow.now) q))) (place_of place.now)
         (option_map cited_tree (option_copied from.entry)) (pc_of x place.now.words) (exit_place (flow_in flow.now) x place.now.words place.now.mems)
         (Gives ((flow_in flow.now).number q) exit (bodies.current (flow_in flow.now) (place_of place.now)) (spec.results_at (flow_in flow.now) x place.now.words place.now.mems) ∷ []) (cited_tree t)) }

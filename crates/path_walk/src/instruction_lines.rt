@@ -1,6 +1,6 @@
 //! The lines of one instruction.
 
-ghost use Rattle.std.specs.Prelude.{◌≡◌, ℕ, ◌++◌, ◌+◌, ◌<◌, ◌^◌, IfOk, OnOk, map, option_copied, option_map, true};
+ghost use Rattle.std.specs.Prelude.{◌≡◌, ℕ, ◌++◌, ◌+◌, ◌<◌, ◌≤◌, ◌^◌, IfOk, OnOk, if◌then◌else◌, map, option_copied, option_map, true};
 ghost use Rattle.rv_decode.specs.Registers.{destination};
 ghost use Rattle.rv_words.specs.Ranges.{range_bytes};
 ghost use Rattle.word_terms.specs.Tree.{Const};
@@ -13,6 +13,7 @@ ghost use Rattle.proof_text.specs.Line.{Inst};
 ghost use Rattle.proof_text.specs.LineLimits.{IsRule, IsTriple};
 ghost use Rattle.code_parts.specs.Bodies as bodies;
 ghost use Rattle.code_parts.specs.Graph.{StandsAt};
+ghost use Rattle.path_walk.specs.Memories.{UsesFirst};
 ghost use Rattle.path_walk.specs.inner.Acts as spec;
 ghost use Rattle.code_parts.specs.Kept.{flow_in};
 ghost use Rattle.path_walk.specs.inner.Writers.{IsOver, Steps, writer_tree, cited_tree, stating};
@@ -89,7 +90,7 @@ fn named_triple(
     let pre = standing_at(alloc, flow, Word::Const(addr), place)?;
     let code = word_code(alloc, addr, word)?;
     let pc = pc_after(alloc, i, form, addr, length_of(word), &place.names)?;
-    let next = after(i, *place);
+    let next = after(i, 0, *place);
     let post = standing_at(alloc, flow, pc, &next)?;
     Ok(Triple {
         facts: known,
@@ -151,6 +152,17 @@ fn put_current(
     Ok(number)
 }
 
+/// Whether there is a memory, where there is one at most.
+fn has_mem(flow: &Flow<'_>) -> bool
+    requires { (flow_in flow.now).mems ≤ 1 }
+    ensures { (flow_in flow.now).mems ≡ if result then 1 else 0 }
+{
+    match flow.mems() {
+        0 => false,
+        _ => true,
+    }
+}
+
 /// The triple of an instruction over all registers, and over the memory, if there is one.
 fn wide_triple(
     alloc: Global,
@@ -161,6 +173,7 @@ fn wide_triple(
     word: u32,
     place: &VariableMap,
 ) -> Result<Triple, NoMemory>
+    requires { (flow_in flow.now).mems ≤ 1 }
     ensures { IfOk result (λ t. triple_tree t ≡ spec.triple_on i form addr (length_in_bytes word) (axioms.word_code addr word) (flow_in flow.now).regs (spec.all_mems (flow_in flow.now).mems) 0 (place_of place.now)) }
 {
     let triple = triple_over(
@@ -170,7 +183,7 @@ fn wide_triple(
         addr,
         word,
         flow.regs(),
-        flow.has_mem(),
+        has_mem(flow),
         &place.names,
     )?;
     Ok(triple)
@@ -191,6 +204,7 @@ fn instruction_lines(
     requires words { place.now.words < 2 ^ 15 }
     requires mems { place.now.mems < 2 ^ 15 }
     requires named { destination i < 32 }
+    requires one { (flow_in flow.now).mems ≤ 1 }
     requires fine { spec.IsFineInstruction (flow_in flow.now) i form addr word 0 (place_of place.now) }
     ensures number { IfOk result (λ k. k ≡ log.old.next + 1 + 1 + 1) }
     ensures fits { IfOk result (λ k. k < 2 ^ 64) }
@@ -215,12 +229,13 @@ fn act(
     place: &VariableMap,
     log: &mut ProofWriter,
 ) -> Result<CitedTheorem, NoMemory>
+    requires memory { UsesFirst (flow_in flow.now) }
     requires node { n < (flow_in flow.now).nodes }
     requires words { place.now.words < 2 ^ 15 }
     requires mems { place.now.mems < 2 ^ 15 }
     ensures { IfOk result (λ t. StandsAt (flow_in flow.now) flow.now.code n
-        × (cited_tree t ≡ spec.act_standing ((flow_in flow.now).instr n) form ((flow_in flow.now).addr n) ((flow_in flow.now).word n) 0 (place_of place.now) (writer_tree log.old))
-        × (writer_tree log.new ≡ spec.acted (flow_in flow.now) ((flow_in flow.now).instr n) form ((flow_in flow.now).addr n) ((flow_in flow.now).word n) 0 (place_of place.now) (writer_tree log.old))) }
+        × (cited_tree t ≡ spec.act_standing ((flow_in flow.now).instr n) form ((flow_in flow.now).addr n) ((flow_in flow.now).word n) ((flow_in flow.now).uses n) (place_of place.now) (writer_tree log.old))
+        × (writer_tree log.new ≡ spec.acted (flow_in flow.now) ((flow_in flow.now).instr n) form ((flow_in flow.now).addr n) ((flow_in flow.now).word n) ((flow_in flow.now).uses n) (place_of place.now) (writer_tree log.old))) }
 {
     let i = flow.instr(n);
     let addr = flow.addr(n);
@@ -243,21 +258,22 @@ pub fn step(
     from: Option<&CitedTheorem>,
     log: &mut ProofWriter,
 ) -> Result<CitedTheorem, NoMemory>
+    requires memory { UsesFirst (flow_in flow.now) }
     requires node { n < (flow_in flow.now).nodes }
     requires form { terms.has_form ((flow_in flow.now).instr n) form ≡ true }
     requires words { place.now.words < 2 ^ 15 }
     requires mems { place.now.mems < 2 ^ 15 }
     requires code { IsOver flow.now.code (option_map cited_tree (option_copied from)) }
     ensures steps { IfOk result (λ t. Steps (flow_in flow.now) entry flow.now.code (writer_tree log.old) (writer_tree log.new) (Const ((flow_in flow.now).addr n)) (place_of place.now) (option_map cited_tree (option_copied from.entry))
-        (terms.pc_after ((flow_in flow.now).instr n) form ((flow_in flow.now).addr n) (bodies.size (flow_in flow.now) n) (bodies.names (place_of place.now) 0))
-        (bodies.place_after ((flow_in flow.now).instr n) 0 (place_of place.now))
-        (map So (terms.conditions ((flow_in flow.now).instr n) form (bodies.names (place_of place.now) 0)) ++ spec.new_facts ((flow_in flow.now).instr n) ((flow_in flow.now).addr n) (bodies.size (flow_in flow.now) n) 0 (place_of place.now)) (cited_tree t)) }
+        (terms.pc_after ((flow_in flow.now).instr n) form ((flow_in flow.now).addr n) (bodies.size (flow_in flow.now) n) (bodies.names (place_of place.now) ((flow_in flow.now).uses n)))
+        (bodies.place_after ((flow_in flow.now).instr n) ((flow_in flow.now).uses n) (place_of place.now))
+        (map So (terms.conditions ((flow_in flow.now).instr n) form (bodies.names (place_of place.now) ((flow_in flow.now).uses n))) ++ spec.new_facts ((flow_in flow.now).instr n) ((flow_in flow.now).addr n) (bodies.size (flow_in flow.now) n) ((flow_in flow.now).uses n) (place_of place.now)) (cited_tree t)) }
     ensures code { IfOk result (λ t. IsWithin (range_bytes t.code) (range_bytes flow.now.code)) }
 {
     let last = act(alloc, flow, n, form, place, log)?;
     let i = flow.instr(n);
     let pc = pc_after(alloc, i, form, flow.addr(n), flow.size(n), &place.names)?;
-    let next = after(i, *place);
+    let next = after(i, 0, *place);
     let there = go_on(alloc, flow, entry, from, last, pc, &next, log)?;
     Ok(there)
 }

@@ -4,7 +4,8 @@ ghost use Rattle.std.specs.Prelude.{◌≡◌, IfOk, length, map, false};
 ghost use Rattle.proof_text.specs.Line.{line_tree};
 ghost use Rattle.checker.specs.Instance.{after_lines};
 ghost use Rattle.loop_forest.specs.Forest.{IsForestOf, number_of};
-ghost use Rattle.code_parts.specs.Flows.{IsReached};
+ghost use Rattle.code_parts.specs.Flows.{AreCodeOf, IsReached, alone, setting_of};
+ghost use Rattle.code_parts.specs.Graph.{IsAlone};
 ghost use Rattle.path_walk.specs.Forgotten.{KeepsNone};
 ghost use Rattle.path_walk.specs.Item.{IsItemOf};
 ghost use Rattle.code_parts.specs.Order.{AreParts};
@@ -49,8 +50,11 @@ fn item_in(
 ) -> Result<Item, NoMemory>
     requires reached { IsReached false flow.now.graph }
     requires forest { IsForestOf flow.now.graph flow.now.forest }
-    requires parts { parts.now ≡ flow.now.parts }
-    requires ordered { AreParts (flow_in flow.now) (number_of flow.now.forest) flow.now.parts }
+    requires alone { IsAlone (flow_in flow.now) }
+    requires setting { setting_of flow.now.setting ≡ alone flow.now.graph flow.now.setting.parts }
+    requires parts { parts.now ≡ flow.now.setting.parts }
+    requires ordered { AreParts (flow_in flow.now) (number_of flow.now.forest) flow.now.setting.parts }
+    requires code { AreCodeOf flow.now.graph flow.now.code }
     requires count { reached ≡ length flow.now.graph.addrs }
     ensures item { IfOk result (λ item. IsItemOf flow.now.graph flow.now.forest name item) }
     ensures kept { IfOk result (λ item. KeepsNone (after_lines (map line_tree item.lines))) }

@@ -13,6 +13,10 @@
 //! order: later parts need only that the definition is closed. A `ProofWriter` numbers the theorems, a `CitedTheorem`
 //! is one of them with its facts and code.
 //!
+//! `linked_item(alloc, name, &group)?` makes of linked functions (`linked_group`) an `Item` of version 3 in the same way: one function
+//! after the other, callees first, all over the code of the group. At a call of a function the way goes through that
+//! function's exit, and `steer` leads it on behind the call, where the fact that the return was to there is at hand.
+//!
 //! That each line is right after those before it is in the contract of `item_of` (`IsItemOf`), and that no theorem is
 //! kept after them (`KeepsNone`); `walk` says it of each part's lines (`IsWalkedAfter`). The law that matters beside it is `law_of_texts`: the group can be written and read again. A `Proof` has an item for each name, or a
 //! `DecompileFault` says why there is none.
@@ -22,10 +26,12 @@ mod all_parts;
 mod body_lines;
 mod compose;
 mod cut_lines;
+mod enter_lines;
 mod exit_lines;
 mod instruction_lines;
 mod item;
 mod laws;
+mod linked;
 mod one_part;
 mod proof;
 mod proof_writer;
@@ -34,5 +40,6 @@ mod subs;
 pub use code_parts::Part;
 pub use item::{Item, item_of};
 pub use laws::law_of_texts;
+pub use linked::linked_item;
 pub use one_part::{Walked, walk};
 pub use proof::{DecompileFault, Proof};

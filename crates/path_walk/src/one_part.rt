@@ -9,7 +9,9 @@ ghost use Rattle.code_parts.specs.Graph.{IsPart};
 ghost use Rattle.code_parts.specs.Flows.{IsReached, alone, flow_of};
 ghost use Rattle.loop_forest.specs.Forest.{IsForestOf};
 ghost use Rattle.path_walk.specs.Forgotten.{KeepsNone};
-ghost use Rattle.path_walk.specs.Item.{IsWalked, IsWalkedAfter};
+ghost use Rattle.path_walk.specs.Further.{IsVersionFor};
+ghost use Rattle.path_walk.specs.Memories.{UsesFirst};
+ghost use Rattle.path_walk.specs.Item.{IsWalkedIn, IsWalkedAfter};
 ghost use Rattle.code_parts.specs.Kept.{flow_in};
 ghost use Rattle.path_walk.specs.inner.Lines.{forgets, stated};
 
@@ -17,6 +19,7 @@ use crate::body_lines::part_lines;
 use crate::proof_writer::ProofWriter;
 use code_parts::{Flow, Part, part_def};
 use flow_graph::Graph;
+use group_text::Version;
 use loop_forest::Forest;
 use proof_text::Line;
 use rv_words::{List, NoMemory};
@@ -72,14 +75,17 @@ fn forget_lines(first: u64, next: u64, lines: &mut List<Line>) -> Result<(), NoM
 fn closing_lines(
     alloc: Global,
     flow: &Flow<'_>,
+    version: Version,
     part: Part,
     first: u64,
 ) -> Result<List<Line>, NoMemory>
-    requires { IsPart (flow_in flow.now) part }
-    ensures lines { IfOk result (λ more. (old : Items LineTree) → first ≡ (after_lines old).next → IsWalked (flow_in flow.now) flow.now.code part old (old ++ map line_tree more)) }
+    requires version { IsVersionFor (flow_in flow.now) version }
+    requires part { IsPart (flow_in flow.now) part }
+    requires memory { UsesFirst (flow_in flow.now) }
+    ensures lines { IfOk result (λ more. (old : Items LineTree) → first ≡ (after_lines old).next → IsWalkedIn version (flow_in flow.now) flow.now.code part old (old ++ map line_tree more)) }
     ensures kept { IfOk result (λ more. (old : Items LineTree) → first ≡ (after_lines old).next → KeepsNone (after_lines old) → KeepsNone (after_lines (old ++ map line_tree more))) }
 {
-    let mut log = ProofWriter::new(alloc, first);
+    let mut log = ProofWriter::new(alloc, version, first);
     part_lines(alloc, flow, part, &mut log)?;
     let (mut lines, cited) = log.into_parts();
     let next = next_after(first, lines.as_slice())?;
@@ -91,24 +97,27 @@ fn closing_lines(
     Ok(lines)
 }
 
-/// Walks through a part of a flow: adds lines that close its definition and forget the theorems that were stated for it, where `first` is the number of the next theorem.
+/// Walks through a part of a flow: adds lines of a text of that version, which close its definition and forget the theorems that were stated for it, where `first` is the number of the next theorem.
 pub fn walk_in(
     alloc: Global,
     flow: &Flow<'_>,
+    version: Version,
     part: Part,
     first: u64,
     lines: &mut List<Line>,
 ) -> Result<Walked, NoMemory>
+    requires version { IsVersionFor (flow_in flow.now) version }
     requires part { IsPart (flow_in flow.now) part }
+    requires memory { UsesFirst (flow_in flow.now) }
     requires first { first ≡ (after_lines (map line_tree lines.old)).next }
     ensures def { IfOk result (λ w. def_tree w.def ≡ spec.part_def (flow_in flow.now) part) }
     ensures next { IfOk result (λ w. w.next ≡ (after_lines (map line_tree lines.new)).next) }
-    ensures lines { OnOk result (IsWalked (flow_in flow.now) flow.now.code part (map line_tree lines.old) (map line_tree lines.new)) }
+    ensures lines { OnOk result (IsWalkedIn version (flow_in flow.now) flow.now.code part (map line_tree lines.old) (map line_tree lines.new)) }
     ensures kept { OnOk result (KeepsNone (after_lines (map line_tree lines.old)) → KeepsNone (after_lines (map line_tree lines.new))) }
     ensures same { OnErr result (lines.new ≡ lines.old) }
 {
     let def = part_def(alloc, flow, part)?;
-    let more = closing_lines(alloc, flow, part, first)?;
+    let more = closing_lines(alloc, flow, version, part, first)?;
     let next = next_after(first, more.as_slice())?;
     lines.append(more)?;
     Ok(Walked { def, next })
@@ -137,6 +146,5 @@ pub fn walk(
     ensures same { OnErr result (lines.new ≡ lines.old) }
 {
     let flow = Flow::new(alloc, graph, forest, earlier)?;
-    let _code = flow.code();
-    walk_in(alloc, &flow, part, first, lines)
+    walk_in(alloc, &flow, Version::One, part, first, lines)
 }

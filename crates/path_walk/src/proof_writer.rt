@@ -1,11 +1,13 @@
 //! The lines of a part as they are written.
 
-ghost use Rattle.std.specs.Prelude.{◌≡◌, ◌<◌, ◌^◌, [], IfOk, OnOk, map};
+ghost use Rattle.std.specs.Prelude.{◌≡◌, ◌<◌, ◌^◌, [], IfOk, OnOk, is_some, map, true};
 ghost use Rattle.triple_kernel.specs.Tree.{fact_tree, triple_tree};
+ghost use Rattle.group_text.specs.Version.{version_of};
 ghost use Rattle.proof_text.specs.Line.{line_tree, rule_tree};
 ghost use Rattle.proof_text.specs.LineLimits.{IsRule, IsTriple};
-ghost use Rattle.path_walk.specs.inner.Writers.{IsFineWriter, IsFineCited, citing, writer_tree, cited_tree, stating};
+ghost use Rattle.path_walk.specs.inner.Writers.{IsFineWriter, IsFineCited, citing, writer_tree, cited_tree, stating, stating_further};
 
+use group_text::Version;
 use proof_text::{Line, Rule};
 use rv_words::{List, NoMemory};
 use std::alloc::Global;
@@ -79,9 +81,10 @@ impl CitedTheorem {
     }
 }
 
-/// Lines, the number of the next theorem, and the theorems that are cited for leaves.
+/// The version of the text, lines, the number of the next theorem, and the theorems that are cited for leaves.
 #[derive(Drop)]
 pub struct ProofWriter {
+    version: Version,
     lines: List<Line>,
     next: u64,
     cited: List<u64>,
@@ -98,17 +101,18 @@ impl Model for ProofWriter {
 
     ghost coded = { Prim.hlevel (codes, word.the_row.coded, mem.the_row.coded, cond.the_row.coded) };
 
-    ghost view = { λ l. record { lines = l.lines; next = l.next; cited = l.cited } };
+    ghost view = { λ l. record { version = l.version; lines = l.lines; next = l.next; cited = l.cited } };
 
-    ghost invariant = { λ l. IsFineWriter (writer_tree (record { lines = l.lines; next = l.next; cited = l.cited })) };
+    ghost invariant = { λ l. IsFineWriter (writer_tree (record { version = l.version; lines = l.lines; next = l.next; cited = l.cited })) };
 }
 
 impl ProofWriter {
     /// No line yet.
-    pub fn new(alloc: Global, first: u64) -> ProofWriter
-        ensures { writer_tree result ≡ record { lines = []; next = first; cited = [] } }
+    pub fn new(alloc: Global, version: Version, first: u64) -> ProofWriter
+        ensures { writer_tree result ≡ record { version = version; lines = []; next = first; cited = [] } }
     {
         ProofWriter {
+            version,
             lines: List::new(alloc),
             next: first,
             cited: List::new(alloc),
@@ -128,6 +132,23 @@ impl ProofWriter {
             return Err(NoMemory);
         };
         self.lines.push(Line::States { rule, stated })?;
+        self.next = next;
+        Ok(number)
+    }
+
+    /// States a triple from that theorem by the further rule of the text, and tells the theorem's number.
+    pub fn state_further(&mut self, cited: u64, stated: Triple) -> Result<u64, NoMemory>
+        requires further { is_some (version_of self.old.version).further ≡ true }
+        requires stated { IsTriple (triple_tree stated) }
+        ensures number { IfOk result (λ k. k ≡ self.old.next) }
+        ensures fits { IfOk result (λ k. k < 2 ^ 64) }
+        ensures log { OnOk result (writer_tree self.new ≡ stating_further cited (triple_tree stated) (writer_tree self.old)) }
+    {
+        let number = self.next;
+        let Some(next) = number.checked_add(1) else {
+            return Err(NoMemory);
+        };
+        self.lines.push(Line::Further { cited, stated })?;
         self.next = next;
         Ok(number)
     }

@@ -63,7 +63,7 @@ pub fn place_at(flow: &Flow<'_>, x: Exit, place: &VariableMap) -> VariableMap
     requires mems { place.now.mems < 2 ^ 15 + 64 }
     ensures is { place_of result ≡ exit_place (flow_in flow.now) x place.now.words place.now.mems }
     ensures words { result.words ≤ place.now.words + 32 }
-    ensures mems { result.mems ≤ place.now.mems + 1 }
+    ensures mems { result.mems ≤ place.now.mems + 2 }
 {
     match x {
         Exit::At(_) => fresh(flow, place.words, place.mems),
@@ -107,19 +107,29 @@ pub fn call_words(
     Ok(words)
 }
 
-/// The current memory and the next one, if there is a memory.
+/// The current memories and the next ones.
 pub fn call_mems(
     alloc: Global,
     flow: &Flow<'_>,
     x: Exit,
     place: &VariableMap,
 ) -> Result<List<(u32, Mem)>, NoMemory>
+    requires { place.now.mems < 2 ^ 15 + 64 }
     ensures { IfOk result (λ ms. map mem_put_in ms ≡ spec.call_mems (flow_in flow.now) x (place_of place.now)) }
 {
     let mut mems = List::new(alloc);
-    if flow.has_mem() {
-        mems.push((0, Mem::Var(place.names.memory)))?;
-        mems.push((1, Mem::Var(place.mems)))?;
+    match flow.mems() {
+        0 => {}
+        1 => {
+            mems.push((0, Mem::Var(place.memory(0))))?;
+            mems.push((1, Mem::Var(place.mems)))?;
+        }
+        _ => {
+            mems.push((0, Mem::Var(place.memory(0))))?;
+            mems.push((1, Mem::Var(place.memory(1))))?;
+            mems.push((2, Mem::Var(place.mems)))?;
+            mems.push((3, Mem::Var(place.mems + 1)))?;
+        }
     }
     Ok(mems)
 }

@@ -7,7 +7,8 @@ use Rattle.rv_words.specs.Ranges.{range_bytes}
 use Rattle.rv_decode.specs.declared.instruction.Instr.{Instr}
 use Rattle.rv_decode.specs.Registers.{destination}
 use Rattle.rvc.specs.Number.{length_of}
-use Rattle.word_terms.specs.Tree.{WordTree, MemTree, Const, Var, MemVar}
+use Rattle.rv_words.specs.declared.comparison.Cmp.TheVariants.{Eq}
+use Rattle.word_terms.specs.Tree.{WordTree, MemTree, Compare, Const, Var, MemVar}
 use Rattle.tailrec_lang.specs.declared.group.Exit.{Exit}
 use Rattle.tailrec_lang.specs.declared.group.Exit.TheVariants.{At, Ret}
 use Rattle.tailrec_lang.specs.Tree.{ValuesTree}
@@ -21,7 +22,7 @@ use Rattle.proof_text.specs.Line.{Axiom, Compose, Frame, Inst, UseExit, Weaken}
 use Rattle.proof_text.specs.LineLimits.{IsRule, IsTriple}
 use Rattle.code_parts.specs.Bodies.{Flow, VariableMap, current, fresh, is_store, names, place_after, start, with_pc}
 use Rattle.path_walk.specs.inner.Histories.{exit_place, pc_of}
-use Rattle.path_walk.specs.inner.Writers.{WriterTree, CitedTree, standing_at, stating}
+use Rattle.path_walk.specs.inner.Writers.{WriterTree, CitedTree, standing_at, stating, stating_further}
 
 -- the terms for the variables from i on
 abbrev pub numbered : {A : Type 0} → ℕ → List A → List (ℕ × A)
@@ -136,6 +137,21 @@ pub record IsFineExit (f : Flow) (ranges : List Range) (entry d k : ℕ) (x : Ex
   pub first : IsTriple (gives_over f ranges entry d k x (start f))
   pub current_over : IsTriple (gives_over f ranges entry d k x v)
 
+-- ---- a return to the address behind a call
+
+-- the theorem of a way whose last program counter is a term, with that address for it, where a fact says that the two are equal
+abbrev pub steered : Flow → ℕ → WordTree → ℕ → VariableMap → CitedTree → WriterTree → WriterTree
+steered f entry pc back u t l = stating_further t.number (record {
+  facts = t.facts ++ So (Compare Eq pc (Const back)) ∷ [];
+  pre = standing_at f (Const entry) (start f);
+  code = t.code;
+  post = standing_at f (Const back) u;
+}) l
+
+-- the theorem that this ends with
+abbrev pub steered_standing : WordTree → ℕ → CitedTree → WriterTree → CitedTree
+steered_standing pc back t l = record { number = l.next; facts = t.facts ++ So (Compare Eq pc (Const back)) ∷ []; code = t.code }
+
 -- ---- joined to the way to here
 
 -- a fact was added, if it isn't known
@@ -155,3 +171,13 @@ pub record Joined (f : Flow) (entry : ℕ) (st there : CitedTree) (to : WordTree
 abbrev pub GoesOn : (f : Flow) (entry : ℕ) → Option CitedTree → CitedTree → WordTree → VariableMap → WriterTree → WriterTree → CitedTree → Type 0
 GoesOn f entry None there to u old new t = (new ≡ old) × (t ≡ there)
 GoesOn f entry (Some st) there to u old new t = Joined f entry st there to u old new t
+
+-- ---- a call of a function that returns
+
+-- the lines of its exit, joined to the way to here, and of the return to the address behind the call
+pub record Entered (f : Flow) (entry : ℕ) (ranges : List Range) (called d back : ℕ) (u : VariableMap) (from : Option CitedTree) (old new : WriterTree) (t : CitedTree) : Type 0 where
+  pub mid : WriterTree
+  pub last : CitedTree
+  pub on : GoesOn f entry from (exit_standing f ranges d 0 Ret u old) (Var u.words) (fresh f (suc u.words) u.mems) (exited f ranges called d 0 Ret u old) mid last
+  pub log : new ≡ steered f entry (Var u.words) back (fresh f (suc u.words) u.mems) last mid
+  pub theorem : t ≡ steered_standing (Var u.words) back last mid

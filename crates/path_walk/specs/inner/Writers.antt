@@ -2,6 +2,7 @@
 use Rattle.std.specs.Prelude.{◌≡◌, ℕ, ◌+◌, ◌<◌, ◌^◌, List, [], ◌∷◌, ◌++◌, map, fold, true, Option, None, Some}
 use Rattle.std.specs.List.{AllByRecursion, AllZip, range_with_len}
 use Rattle.mc_text.specs.Number.{IsWord as IsNumber}
+use Rattle.group_text.specs.declared.version.Version.{Version as Known}
 use Rattle.rv_words.specs.declared.range.Range.{Range}
 use Rattle.rv_words.specs.Ranges.{AreRanges, range_bytes}
 use Rattle.word_terms.specs.Tree.{WordTree, Const, Var, MemVar}
@@ -16,12 +17,15 @@ use Rattle.loop_rule.specs.Leaves.{body_leaves}
 use Rattle.loop_rule.specs.Rule.{LeadsTo}
 use Rattle.proof_text.specs.declared.line.Line.{Line}
 use Rattle.proof_text.specs.Line.{LineTree, RuleTree, States, Loop, Forget, line_tree, Further}
-use Rattle.proof_text.specs.LineLimits.{IsFact, IsLine}
-use Rattle.checker.specs.Instance.{AreInstances, History, after_line, after_lines}
+use Rattle.group_text.specs.Version.{version_of}
+use Rattle.proof_text.specs.LineLimits.{IsFact, IsLineIn}
+use Rattle.checker.specs.Instance.{AreInstancesBy, History, after_line, after_lines}
 use Rattle.code_parts.specs.declared.part.Part.{Part}
+use Rattle.code_parts.specs.declared.callee.Callee.{Callee}
 use Rattle.code_parts.specs.Bodies.{Flow, VariableMap, part_def, start}
 use Rattle.path_walk.specs.Closed.{AreClosed}
-use Rattle.code_parts.specs.Graph.{CallsBelow, HasPart, IsCode, IsPart}
+use Rattle.path_walk.specs.Further.{IsVersionFor, further_of}
+use Rattle.code_parts.specs.Graph.{CallsBelow, HasCallee, HasPart, IsCode, IsPart}
 use Rattle.path_walk.specs.inner.Histories.{IsCounted, Keeps}
 use Rattle.code_parts.specs.Flows.{group_over}
 
@@ -31,8 +35,9 @@ pub record CitedTree : Type 0 where
   pub facts : List FactTree
   pub code : List Range
 
--- lines, the number of the next theorem, and the theorems that are cited for leaves
+-- the version of the text, lines, the number of the next theorem, and the theorems that are cited for leaves
 pub record WriterTree : Type 0 where
+  pub version : Known
   pub lines : List LineTree
   pub next : ℕ
   pub cited : List ℕ
@@ -44,6 +49,7 @@ pub record CitedOf : Type 0 where
   pub code : List Range
 
 pub record WriterOf : Type 0 where
+  pub version : Known
   pub lines : List Line
   pub next : ℕ
   pub cited : List ℕ
@@ -52,7 +58,7 @@ abbrev pub cited_tree : CitedOf → CitedTree
 cited_tree s = record { number = s.number; facts = map fact_tree s.facts; code = s.code }
 
 abbrev pub writer_tree : WriterOf → WriterTree
-writer_tree l = record { lines = map line_tree l.lines; next = l.next; cited = l.cited }
+writer_tree l = record { version = l.version; lines = map line_tree l.lines; next = l.next; cited = l.cited }
 
 -- the line states a triple
 abbrev pub IsStating : LineTree → Type 0
@@ -69,17 +75,23 @@ pub record IsFineCited (t : CitedTree) : Type 0 where
   pub bytes : AllByRecursion (λ r. AllByRecursion (λ b. b < 256) r.bytes) t.code
 
 pub record IsFineWriter (l : WriterTree) : Type 0 where
-  pub lines : AllByRecursion IsLine l.lines
+  pub lines : AllByRecursion (IsLineIn (version_of l.version)) l.lines
   pub stating : AllByRecursion IsStating l.lines
   pub next : l.next < 2 ^ 64
   pub cited : AllByRecursion IsNumber l.cited
 
--- one more line that states a triple, and one more theorem that is cited
+-- one more line that states a triple, by a rule or by the further rule of the text, and one more theorem that is cited
+abbrev pub adding : LineTree → WriterTree → WriterTree
+adding line l = record { version = l.version; lines = l.lines ++ line ∷ []; next = l.next + 1; cited = l.cited }
+
 abbrev pub stating : RuleTree → TripleTree → WriterTree → WriterTree
-stating rule t l = record { lines = l.lines ++ States rule t ∷ []; next = l.next + 1; cited = l.cited }
+stating rule t l = adding (States rule t) l
+
+abbrev pub stating_further : ℕ → TripleTree → WriterTree → WriterTree
+stating_further p t l = adding (Further p t) l
 
 abbrev pub citing : ℕ → WriterTree → WriterTree
-citing k l = record { lines = l.lines; next = l.next; cited = l.cited ++ k ∷ [] }
+citing k l = record { version = l.version; lines = l.lines; next = l.next; cited = l.cited ++ k ∷ [] }
 
 -- what holds at a place: that program counter, and the variables of the registers and of the memories
 abbrev pub standing_at : Flow → WordTree → VariableMap → AssertionTree
@@ -87,14 +99,18 @@ standing_at f pc v = record { pc = pc; regs = map (λ r. (r, Var (v.reg r))) f.r
 
 -- ---- the group and the lines before
 
--- a group for the graph, with this code, and the lines of the definitions before. It has each part whose number is below the bound.
+-- a version of texts, a group for the graph, with this code, and the lines of the definitions before. It has each part and each function whose
+-- number is below the bound.
 pub record Setting (f : Flow) (ranges : List Range) : Type 0 where
+  pub version : Known
+  pub fits : IsVersionFor f version
   pub name : List ℕ
   pub defs : List DefTree
   pub before : List LineTree
   pub bound : ℕ
   pub code : IsCode f ranges
   pub has : (q : Part) → IsPart f q → f.number q < bound → HasPart f (group_over f name ranges defs) q
+  pub callees : (n : ℕ) (c : Callee) → n < f.nodes → f.callee n ≡ Some c → c.def < bound → HasCallee defs c
 
 abbrev pub group_in : (f : Flow) (ranges : List Range) → Setting f ranges → GroupTree
 group_in f ranges s = group_over f s.name ranges s.defs
@@ -111,7 +127,7 @@ pub record IsReady (f : Flow) (ranges : List Range) (s : Setting f ranges) (l : 
 pub record Grown (f : Flow) (ranges : List Range) (s : Setting f ranges) (old new : WriterTree) : Type 0 where
   pub added : List LineTree
   pub lines : new.lines ≡ old.lines ++ added
-  pub right : AreInstances (group_in f ranges s) (past f ranges s old) added
+  pub right : AreInstancesBy (further_of s.version) (group_in f ranges s) (past f ranges s old) added
   pub keeps : Keeps (past f ranges s old) (past f ranges s new)
   pub ready : IsReady f ranges s new
 
@@ -141,11 +157,13 @@ pub record Stood (f : Flow) (entry : ℕ) (ranges : List Range) (s : Setting f r
 
 -- they lead from one place to another, where the way has these facts more
 pub record Steps (f : Flow) (entry : ℕ) (ranges : List Range) (old new : WriterTree) (pc : WordTree) (v : VariableMap) (from : Option CitedTree) (to : WordTree) (u : VariableMap) (more : List FactTree) (t : CitedTree) : Type 0 where
+  pub version : new.version ≡ old.version
   pub each : (s : Setting f ranges) (path : List FactTree) → IsReady f ranges s old → FromAs f entry ranges (past f ranges s old) pc v path from
       → Stood f entry ranges s old new to u (path ++ more) t
 
 -- .. by a call of definition d, where that is closed and below the bound
 pub record StepsBy (f : Flow) (entry : ℕ) (ranges : List Range) (d : ℕ) (old new : WriterTree) (pc : WordTree) (v : VariableMap) (from : Option CitedTree) (to : WordTree) (u : VariableMap) (more : List FactTree) (t : CitedTree) : Type 0 where
+  pub version : new.version ≡ old.version
   pub each : (s : Setting f ranges) (path : List FactTree) → IsReady f ranges s old → (past f ranges s old).closed d ≡ true → d < s.bound → FromAs f entry ranges (past f ranges s old) pc v path from
       → Stood f entry ranges s old new to u (path ++ more) t
 
@@ -160,6 +178,7 @@ pub record Led (f : Flow) (p : Part) (ranges : List Range) (s : Setting f ranges
 
 -- .. for those of a body at a place
 pub record Leads (f : Flow) (p : Part) (ranges : List Range) (old new : WriterTree) (pc : WordTree) (v : VariableMap) (from : Option CitedTree) (body : BodyTree) : Type 0 where
+  pub version : new.version ≡ old.version
   pub each : (s : Setting f ranges) (path : List FactTree) → IsReady f ranges s old → FromAs f (part_def f p).entry ranges (past f ranges s old) pc v path from
       → AreClosed (past f ranges s old) body → CallsBelow s.bound body
       → Led f p ranges s old new (body_leaves (group_in f ranges s) (part_def f p) body v.words v.mems path)

@@ -1,4 +1,5 @@
-use Rattle.path_walk.proofs.PartsInOrder.{walked_next}
+use Rattle.code_parts.specs.Kept.{flow_in}
+use Rattle.path_walk.proofs.PartsInOrder.{first-alone, version-alone, walked_next}
 use Rattle.path_walk.proofs.all_parts.walk_all.Goals as goal
 
 pub loop-part-preserved : goal.loop-part-preserved
@@ -7,3 +8,9 @@ loop-part-preserved c = (
   c.in_ok-walked.ensures.next,
   c.in_ok-walked.ensures.kept c.loop-part.invariant.2,
 )
+
+pub walk_in-requires-clause-version : goal.walk_in-requires-clause-version
+walk_in-requires-clause-version c = version-alone (flow_in c.args.flow.now) c.requires.alone
+
+pub walk_in-requires-clause-memory : goal.walk_in-requires-clause-memory
+walk_in-requires-clause-memory c = first-alone (flow_in c.args.flow.now) c.requires.alone

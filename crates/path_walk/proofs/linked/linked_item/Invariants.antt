@@ -1,0 +1,10 @@
+use Rattle.std.proofs.Common.{◌≡◌, map}
+use Rattle.tailrec_lang.specs.Tree.{def_tree}
+use Rattle.proof_text.specs.Line.{line_tree}
+use Rattle.checker.specs.Instance.{after_lines}
+use Rattle.path_walk.specs.Forgotten.{KeepsNone}
+use Rattle.path_walk.specs.inner.LinkedWalks.{AreWalkedOf}
+use Rattle.path_walk.proofs.linked.linked_item.Given as goal
+
+abbrev pub invariant-loop-function : goal.invariant-loop-function
+invariant-loop-function l = AreWalkedOf l.group l.function-index (map def_tree l.defs) (map line_tree l.lines) × (l.next ≡ (after_lines (map line_tree l.lines)).next) × KeepsNone (after_lines (map line_tree l.lines))
