@@ -1,1 +1,3 @@
-pub mod SteerLemmas
+pub mod InFunctions
+pub mod Items
+pub mod LinkedAccepted

@@ -7,11 +7,10 @@ ghost use Rattle.proof_text.specs.Proofs.{groups_of};
 ghost use Rattle.checker.specs.declared.verdict.Verdict.{Verdict as VerdictOf};
 ghost use Rattle.checker.specs.Headline.{Headline};
 ghost use Rattle.checker.specs.Verdicts.{IsAcceptance, IsTextOfIn, SaysBy};
-ghost use Rattle.call_link.specs.Rules.{IsSteered};
+ghost use Rattle.further_rules.specs.Rules.{IsSteered};
 
-use crate::laws::law_of_steering;
-use crate::rules::steer;
 use checker::{FurtherRule, Verdict, check_by};
+use further_rules::{law_of_steering, steer};
 use proof_text::Reader;
 use std::alloc::Global;
 use triple_kernel::{NoInstance, Thm, Triple};

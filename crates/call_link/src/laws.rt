@@ -1,11 +1,17 @@
-//! The law of the rule. This function does nothing: its contract is the law, which speaks of the definitions alone.
+//! Laws of items of linked functions. This function does nothing: its contract is the law, which speaks of the definitions alone.
 
-ghost use Rattle.tailrec_lang.specs.Tree.{GroupTree};
-ghost use Rattle.triple_kernel.specs.Tree.{TripleTree};
-ghost use Rattle.triple_kernel.specs.Valid.{Valid};
-ghost use Rattle.call_link.specs.Rules.{IsSteered};
+ghost use Rattle.std.specs.Prelude.{ℕ, List};
+ghost use Rattle.elf_image.specs.Fault.{IsReadable};
+ghost use Rattle.group_text.specs.Version.{version_3};
+ghost use Rattle.proof_text.specs.Proofs.{AreProofsIn};
+ghost use Rattle.further_rules.specs.Rules.{IsSteered};
+ghost use Rattle.checker.specs.Accepts.{AcceptsBy};
+ghost use Rattle.decompiler.specs.Listing.{proofs_of};
+ghost use Rattle.call_link.specs.Listing.{AreLinkedItemsFor};
+ghost use Rattle.path_walk.specs.declared.proof.Proof.{Proof as TheProof};
 
-/// More facts, and a last program counter that is the same by one of them, keep a triple valid.
-pub fn law_of_steering()
-    ensures { (g : GroupTree) (p t : TripleTree) → IsSteered p t → Valid g p → Valid g t }
+/// Items for names of a file that can be read are accepted for it, and have a text.
+pub fn law_of_linked_items()
+    ensures accepted { (file : List ℕ) (names : List (List ℕ)) (p : TheProof) → IsReadable file → AreLinkedItemsFor file names p → AcceptsBy IsSteered file (proofs_of p) }
+    ensures text { (file : List ℕ) (names : List (List ℕ)) (p : TheProof) → AreLinkedItemsFor file names p → AreProofsIn version_3 (proofs_of p) }
 {}

@@ -1,16 +1,20 @@
-//! The rule for proofs of functions that call others: a known program counter, where the facts say that it is where a
-//! triple leads.
+//! Functions that call others: an item for each name of a file, of all functions that calls lead to from there, and the check of a proof text of
+//! version 3, in which a line may state a triple by `steer`.
 //!
-//! A function that was called returns to the address that it was given, and its theorem leads to that term. `steer` gives
-//! the theorem that leads to the instruction behind the call, where a fact says that the two are equal.
-//!
-//! It is the further rule of version 3 of proof texts (`Steer`), and `check_linked` judges a text of that version.
+//! `link(alloc, &image, &names)?` gives the items, or tells the first name whose functions can't be linked, and why. `linked_bytes` is the text
+//! of them, in version 3. `check_linked` judges a text of that version; `steer` is its further rule (`Steer`).
 #![tactic(auto)]
 
 mod check;
+mod fault;
+mod functions;
 mod laws;
-mod rules;
+mod text;
 
+pub use call_graph::LinkWhy;
 pub use check::{Steer, check_linked};
-pub use laws::law_of_steering;
-pub use rules::steer;
+pub use fault::LinkFault;
+pub use functions::link;
+pub use further_rules::steer;
+pub use laws::law_of_linked_items;
+pub use text::linked_bytes;

@@ -1,5 +1,5 @@
 -- What a graph and its forest hold, in terms of the code.
-use Rattle.std.proofs.Common.{◌≡◌, ℕ, ◌<◌, ◌≤◌, List, [], ◌∷◌, length, get_or, Result, Ok, Option, refl, ap, subst, arith, false}
+use Rattle.std.proofs.Common.{◌≡◌, ℕ, ◌<◌, ◌≤◌, List, [], ◌∷◌, length, get_or, Result, Ok, Option, refl, ap, subst, arith, Bool}
 use Rattle.std.specs.Prelude.{option_map}
 use Rattle.std.specs.List.{Contains}
 use Rattle.rv_words.specs.Bytes.{Bytes}
@@ -21,29 +21,29 @@ use Rattle.loop_forest.proofs.BaseLemmas.{single}
 use Rattle.loop_forest.proofs.CutLemmas.{stands_once}
 use Rattle.loop_forest.proofs.RegionLaws.{around_one}
 use Rattle.loop_forest.proofs.WalkLaws.{walkable}
-use Rattle.decompiler.specs.Listing.{IsInstructionOf}
+use Rattle.decompiler.specs.Listing.{IsInstructionIn}
 
 fine : (i j : Instr) (r s : Result Instr Outside) → r ≡ Ok i → s ≡ Ok j → r ≡ s → i ≡ j
 fine i j r s p q e = cc
 
-module _ (code : Bytes) (e : ℕ) (g : GraphOf) (graph : IsGraphOf false code e g) where
+module _ (linked : Bool) (code : Bytes) (e : ℕ) (g : GraphOf) (graph : IsGraphOf linked code e g) where
   flow : IsFlow g
-  flow = is_flow false code e g graph
+  flow = is_flow linked code e g graph
 
   -- the graph's instructions are those that are reached
-  pub reached_node : (n : ℕ) → n < length g.addrs → IsInstructionOf code e (get_or g.instrs n Ebreak)
+  pub reached_node : (n : ℕ) → n < length g.addrs → IsInstructionIn linked code (Reaches (Next linked code) e) (get_or g.instrs n Ebreak)
   reached_node n lt = record {
     at = get_or g.addrs n 0;
     reached = graph.reach.reached (get_or g.addrs n 0) (node_at g.addrs n lt);
-    is = graph_looks false code e g graph n Ebreak lt;
+    is = graph_looks linked code e g graph n Ebreak lt;
   }
 
-  pub node_of : (i : Instr) → IsInstructionOf code e i → (n : ℕ) × (n < length g.addrs) × (get_or g.instrs n Ebreak ≡ i)
+  pub node_of : (i : Instr) → IsInstructionIn linked code (Reaches (Next linked code) e) i → (n : ℕ) × (n < length g.addrs) × (get_or g.instrs n Ebreak ≡ i)
   node_of i r =
       let at = place_of g.addrs r.at (graph.reach.all r.at r.reached) in
-      (at.0, at.1, fine (get_or g.instrs at.0 Ebreak) i (look false code (get_or g.addrs at.0 0)) (look false code r.at) (graph_looks false code e g graph at.0 Ebreak at.1) r.is (ap (look false code) at.2))
+      (at.0, at.1, fine (get_or g.instrs at.0 Ebreak) i (look linked code (get_or g.addrs at.0 0)) (look linked code r.at) (graph_looks linked code e g graph at.0 Ebreak at.1) r.is (ap (look linked code) at.2))
 
-  pub reaches_node : (a : ℕ) → Reaches (Next false code) e a → (n : ℕ) × (n < length g.addrs) × (get_or g.addrs n 0 ≡ a)
+  pub reaches_node : (a : ℕ) → Reaches (Next linked code) e a → (n : ℕ) × (n < length g.addrs) × (get_or g.addrs n 0 ≡ a)
   reaches_node a r = place_of g.addrs a (graph.reach.all a r)
 
   module _ (f : ForestOf) (forest : IsForestOf g f) where

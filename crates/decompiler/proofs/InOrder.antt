@@ -7,7 +7,9 @@ use Rattle.std.specs.List.{AllZip}
 use Rattle.path_walk.specs.declared.item.Item.{Item}
 use Rattle.flow_graph.specs.declared.outside.FlowFault.{FlowFault}
 use Rattle.flow_graph.specs.declared.outside.FlowFault.TheVariants as fault
-use Rattle.decompiler.specs.Listing.{IsItemFor}
+use Rattle.flow_graph.specs.declared.outside.Outside.{Outside}
+use Rattle.decompiler.specs.Faults.{IsFirst}
+use Rattle.decompiler.specs.Listing.{IsFirstWith, IsItemFor}
 use Rattle.decompiler.specs.Refusals.{IsFaultOf}
 use Rattle.decompiler.specs.inner.Functions.{IsNoItem, refusal}
 
@@ -27,13 +29,18 @@ zip_there R (w ∷ xs) (suc i) [] k x h lt e = absurd h
 zip_there R (w ∷ xs) (suc i) (z ∷ ys) zero x h lt e = let same : w ≡ x = cc in (z, subst (λ v. R v z) same h.0)
 zip_there R (w ∷ xs) (suc i) (z ∷ ys) (suc k) x h lt e = zip_there R xs i ys k x h.1 (omega (arith, lt)) e
 
--- the first name without an item is refused
-pub refused : (file : List ℕ) (names : List (List ℕ)) (i : ℕ) (d : List ℕ) (items : List Item) (why : FlowFault) → i < length names → AllZip (IsItemFor file) (take i names) items → IsNoItem file (get_or names i d) why →
-    IsFaultOf file names (refusal i why)
-refused file names i d items (fault.Outside why) lt h none = record {
+-- the first name with a fault
+pub first_with : (Fault : Type 0) (HasFault : List ℕ → Fault → Type 0) (R : List ℕ → Item → Type 0) (names : List (List ℕ)) (i : ℕ) (d : List ℕ) (items : List Item) (why : Fault) → i < length names → AllZip R (take i names) items
+    → HasFault (get_or names i d) why → IsFirstWith Fault HasFault (λ name. (item : Item) × R name item) names i why
+first_with Fault HasFault R names i d items why lt h none = record {
   name = get_or names i d;
   at = slice_get-get_or names i d lt;
   first = none;
-  before = λ k other low e. zip_there (IsItemFor file) names i items k other h low e;
+  before = λ k other low e. zip_there R names i items k other h low e;
 }
+
+-- the first name without an item is refused
+pub refused : (file : List ℕ) (names : List (List ℕ)) (i : ℕ) (d : List ℕ) (items : List Item) (why : FlowFault) → i < length names → AllZip (IsItemFor file) (take i names) items → IsNoItem file (get_or names i d) why →
+    IsFaultOf file names (refusal i why)
+refused file names i d items (fault.Outside why) lt h none = first_with Outside (IsFirst file) (IsItemFor file) names i d items why lt h none
 refused file names i d items fault.NoMemory lt h none = tt

@@ -58,10 +58,10 @@ module _ (file name : List ℕ) (e : ℕ) (g : GraphOf) (f : ForestOf) (bytes : 
     lists_it = record {
       named = refl;
       entry = lists-entry false (code_of_file file) e g f (alone g parts) graph forest order name ranges;
-      bytes = bytes_are g (record { code = code_of_file file; entry = e; bytes = bytes; is = graph }) ranges whole;
-      registers = registers_are g (record { code = code_of_file file; entry = e; bytes = bytes; is = graph });
-      memory = memory_is g (record { code = code_of_file file; entry = e; bytes = bytes; is = graph });
-      defs = defs_are g (record { code = code_of_file file; entry = e; bytes = bytes; is = graph }) f forest parts order;
+      bytes = bytes_are false g (record { code = code_of_file file; entry = e; bytes = bytes; is = graph }) ranges whole;
+      registers = registers_are false g (record { code = code_of_file file; entry = e; bytes = bytes; is = graph });
+      memory = memory_is false g (record { code = code_of_file file; entry = e; bytes = bytes; is = graph });
+      defs = defs_are false g (record { code = code_of_file file; entry = e; bytes = bytes; is = graph }) f forest (alone g parts) order;
     }
 
     pub accepted_it : (lines : List LineTree) → AreClosedBy (group_of (flow_of g f (alone g parts)) name ranges parts) lines → IsAccepted file (record { group = group_of (flow_of g f (alone g parts)) name ranges parts; lines = lines })

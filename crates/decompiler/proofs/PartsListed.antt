@@ -1,5 +1,5 @@
 -- A group of a graph's parts has one definition for each part of the code.
-use Rattle.std.proofs.Common.{◌≡◌, ℕ, zero, suc, ◌<◌, Bool, cond, List, [], ◌∷◌, ◌++◌, map, length, Option, None, Some, option_map, refl, sym, ap, subst, ◌∙◌, arith, eqb-true, eq-eqb, false}
+use Rattle.std.proofs.Common.{◌≡◌, ℕ, zero, suc, ◌<◌, Bool, cond, List, [], ◌∷◌, ◌++◌, map, length, Option, None, Some, option_map, refl, sym, ap, subst, ◌∙◌, arith, eqb-true, eq-eqb}
 use Rattle.std.specs.Prelude.{slice_get}
 use Rattle.std.specs.List.{AllZip, Contains}
 use Rattle.rv_words.specs.Bytes.{Bytes}
@@ -12,7 +12,7 @@ use Rattle.loop_forest.specs.Forest.{ForestOf, IsForestOf, exits_of, head_of, nu
 use Rattle.code_parts.specs.declared.part.Part.{Part}
 use Rattle.code_parts.specs.declared.part.Part.TheVariants.{Loop, Rest}
 use Rattle.code_parts.specs.Bodies.{Flow, part_def}
-use Rattle.code_parts.specs.Flows.{alone, flow_of, place_in}
+use Rattle.code_parts.specs.Flows.{Setting, flow_of, place_in}
 use Rattle.code_parts.specs.Flows as flows
 use Rattle.code_parts.specs.Graph.{IsPart}
 use Rattle.code_parts.specs.Order.{AreParts}
@@ -54,9 +54,9 @@ same_cut q r n m e = cc
 never : {P : Type 0} (h n : ℕ) (r : Option ℕ) → LoopOf h ≡ RestFrom r n → P
 never h n r e = absurd (cc)
 
-module _ (g : GraphOf) (reached : flows.IsReached false g) (f : ForestOf) (forest : IsForestOf g f) (parts : List Part) (order : AreParts (flow_of g f (alone g parts)) (number_of f) parts) where
+module _ (linked : Bool) (g : GraphOf) (reached : flows.IsReached linked g) (f : ForestOf) (forest : IsForestOf g f) (s : Setting) (order : AreParts (flow_of g f s) (number_of f) s.parts) where
   abbrev the_flow : Flow
-  the_flow = flow_of g f (alone g parts)
+  the_flow = flow_of g f s
 
   abbrev code : Bytes
   code = reached.code
@@ -64,23 +64,23 @@ module _ (g : GraphOf) (reached : flows.IsReached false g) (f : ForestOf) (fores
   abbrev e : ℕ
   e = reached.entry
 
-  is_part : (p : Part) → IsPart (flow_of g f (alone g parts)) p → IsPartOf g (part_in f p)
+  is_part : (p : Part) → IsPart (flow_of g f s) p → IsPartOf g (part_in f p)
   is_part (Loop l) lt = (forest.heads (head_of f l)).0 (node_at f.heads l lt)
   is_part (Rest r n) h = (
-    cut_of code e g reached.is f forest n h.0 (eqb-true (cut_place f n) 0 h.1),
+    cut_of linked code e g reached.is f forest n h.0 (eqb-true (cut_place f n) 0 h.1),
     subst (λ (o : Option ℕ). IsAround (HasEdge g) g.entry n (option_map (head_of f) o)) h.2 (forest.regions n h.0),
   )
 
-  part_for : (q : CodePart) → IsPartOf g q → (p : Part) × IsPart (flow_of g f (alone g parts)) p × (part_in f p ≡ q)
+  part_for : (q : CodePart) → IsPartOf g q → (p : Part) × IsPart (flow_of g f s) p × (part_in f p ≡ q)
   part_for (LoopOf h) head = let at = place_of f.heads h ((forest.heads h).1 head) in (Loop at.0, at.1, ap LoopOf at.2)
   part_for (RestFrom region c) (cut, around) =
-      let lt = cut_node code e g reached.is f forest c cut in (
+      let lt = cut_node linked code e g reached.is f forest c cut in (
         Rest (region_of f c) c,
-        (lt, eq-eqb (cut_place f c) 0 (cut_at code e g reached.is f forest c cut), refl),
-        ap (λ (o : Option ℕ). RestFrom o c) (region_at code e g reached.is f forest c region lt around),
+        (lt, eq-eqb (cut_place f c) 0 (cut_at linked code e g reached.is f forest c cut), refl),
+        ap (λ (o : Option ℕ). RestFrom o c) (region_at linked code e g reached.is f forest c region lt around),
       )
 
-  one_part : (p q : Part) → IsPart (flow_of g f (alone g parts)) p → IsPart (flow_of g f (alone g parts)) q → part_in f p ≡ part_in f q → p ≡ q
+  one_part : (p q : Part) → IsPart (flow_of g f s) p → IsPart (flow_of g f s) q → part_in f p ≡ part_in f q → p ≡ q
   one_part (Loop l) (Loop m) h k same =
       let d = different_from_rising f.heads forest.rising in
       let one : l ≡ m = sym (number_at f.heads d l (head_of f l) h refl) ∙ number_at f.heads d m (head_of f l) k (sym (same_head f l m same)) in
@@ -95,35 +95,35 @@ module _ (g : GraphOf) (reached : flows.IsReached false g) (f : ForestOf) (fores
   targets_are : (l : ℕ) → l < length f.heads → AreTargets g (head_of f l) (exits_of f l)
   targets_are l lt = record { rising = forest.exits_rise l lt; each = λ n. forest.exits l n lt }
 
-  def_is : (p : Part) → IsPart (flow_of g f (alone g parts)) p → IsDefOf g (part_in f p) (part_def (flow_of g f (alone g parts)) p)
+  def_is : (p : Part) → IsPart (flow_of g f s) p → IsDefOf g (part_in f p) (part_def (flow_of g f s) p)
   def_is (Loop l) lt = record {
     entry = refl;
-    exits = (exits_of f l, targets_are l lt, append_none (exits_to g (the_flow.exits l)) ∙ ap (exits_to g) (exits-are false code e g f (alone g parts) reached.is forest l lt));
+    exits = (exits_of f l, targets_are l lt, append_none (exits_to g (the_flow.exits l)) ∙ ap (exits_to g) (exits-are linked code e g f s reached.is forest l lt));
   }
-  def_is (Rest None n) h = record { entry = refl; exits = ap (λ (b : Bool). cond b (Ret ∷ []) []) (returns_are g reached) }
+  def_is (Rest None n) h = record { entry = refl; exits = ap (λ (b : Bool). cond b (Ret ∷ []) []) (returns_are linked g reached) }
   def_is (Rest (Some l) n) h =
-      let lt = region-within false code e g f (alone g parts) reached.is forest n h.0 l h.2 in
+      let lt = region-within linked code e g f s reached.is forest n h.0 l h.2 in
       record {
         entry = refl;
-        exits = (exits_of f l, targets_are l lt, append_none (exits_to g (head_of f l ∷ the_flow.exits l)) ∙ ap (λ (xs : List ℕ). exits_to g (head_of f l ∷ xs)) (exits-are false code e g f (alone g parts) reached.is forest l lt));
+        exits = (exits_of f l, targets_are l lt, append_none (exits_to g (head_of f l ∷ the_flow.exits l)) ∙ ap (λ (xs : List ℕ). exits_to g (head_of f l ∷ xs)) (exits-are linked code e g f s reached.is forest l lt));
       }
 
-  each_def : (ps : List Part) → ((p : Part) → Contains ps p → IsPart (flow_of g f (alone g parts)) p) → AllZip (IsDefOf g) (map (part_in f) ps) (map (part_def (flow_of g f (alone g parts))) ps)
+  each_def : (ps : List Part) → ((p : Part) → Contains ps p → IsPart (flow_of g f s) p) → AllZip (IsDefOf g) (map (part_in f) ps) (map (part_def (flow_of g f s)) ps)
   each_def [] all = tt
   each_def (p ∷ ps) all = (def_is p (all p (here p ps)), each_def ps (λ q c. all q (later p ps q c)))
 
-  pub defs_are : HasDefs g (map (part_def (flow_of g f (alone g parts))) parts)
+  pub defs_are : HasDefs g (map (part_def (flow_of g f s)) s.parts)
   defs_are = record {
-    parts = map (part_in f) parts;
+    parts = map (part_in f) s.parts;
     all = λ q. (
-      λ c. let at = unmapped (part_in f) parts q c in subst (IsPartOf g) at.2 (is_part at.0 ((order.all at.0).0 at.1)),
-      λ is. let at = part_for q is in subst (Contains (map (part_in f) parts)) at.2 (mapped (part_in f) parts at.0 ((order.all at.0).1 at.1)),
+      λ c. let at = unmapped (part_in f) s.parts q c in subst (IsPartOf g) at.2 (is_part at.0 ((order.all at.0).0 at.1)),
+      λ is. let at = part_for q is in subst (Contains (map (part_in f) s.parts)) at.2 (mapped (part_in f) s.parts at.0 ((order.all at.0).1 at.1)),
     );
     once = λ j k q at_j at_k.
-        let x = slice_unmapped (part_in f) parts j q at_j in
-        let y = slice_unmapped (part_in f) parts k q at_k in
-        let in_x = part-at (flow_of g f (alone g parts)) (number_of f) parts order j x.0 x.1 in
-        let in_y = part-at (flow_of g f (alone g parts)) (number_of f) parts order k y.0 y.1 in
-        sym in_x.1 ∙ ap (place_in parts) (one_part x.0 y.0 in_x.0 in_y.0 (x.2 ∙ sym y.2)) ∙ in_y.1;
-    each = each_def parts (λ p c. (order.all p).0 c);
+        let x = slice_unmapped (part_in f) s.parts j q at_j in
+        let y = slice_unmapped (part_in f) s.parts k q at_k in
+        let in_x = part-at (flow_of g f s) (number_of f) s.parts order j x.0 x.1 in
+        let in_y = part-at (flow_of g f s) (number_of f) s.parts order k y.0 y.1 in
+        sym in_x.1 ∙ ap (place_in s.parts) (one_part x.0 y.0 in_x.0 in_y.0 (x.2 ∙ sym y.2)) ∙ in_y.1;
+    each = each_def s.parts (λ p c. (order.all p).0 c);
   }

@@ -1,5 +1,5 @@
 -- What the decompiler makes of a name of a file.
-use Rattle.std.specs.Prelude.{◌≡◌, ◌↔◌, ◌⊎◌, ℕ, ◌+◌, ◌<◌, ◌≤◌, if◌then◌else◌, Option, Some, None, Ok, List, [], ◌∷◌, map, length, slice_index, slice_get, true, false}
+use Rattle.std.specs.Prelude.{◌≡◌, ◌↔◌, ◌⊎◌, ℕ, ◌+◌, ◌<◌, ◌≤◌, Bool, if◌then◌else◌, Option, Some, None, Ok, List, [], ◌∷◌, map, length, slice_index, slice_get, true, false}
 use Rattle.std.specs.List.{Contains, AllZip, list_any}
 use Rattle.rv_words.specs.Bytes.{Bytes}
 use Rattle.rv_words.specs.Ranges.{range_bytes}
@@ -37,33 +37,47 @@ proof_of item = record { group = group_tree item.group; lines = map line_tree it
 abbrev pub proofs_of : Proof → List ProofTree
 proofs_of p = map proof_of p.items
 
--- ---- the code that is reached from e
+-- ---- the code at some addresses
 
--- the instruction stands at a reached address
-pub record IsInstructionOf (code : Bytes) (e : ℕ) (i : Instr) : Type 0 where
+-- the instruction stands at one of these addresses
+pub record IsInstructionIn (linked : Bool) (code : Bytes) (In : ℕ → Type 0) (i : Instr) : Type 0 where
   pub at : ℕ
-  pub reached : Reaches (Next false code) e at
-  pub is : look false code at ≡ Ok i
+  pub reached : In at
+  pub is : look linked code at ≡ Ok i
 
--- one of the bytes of a reached instruction
-pub record IsCodeOf (code : Bytes) (e a : ℕ) : Type 0 where
+-- one of the bytes of an instruction at one of these addresses
+pub record IsCodeIn (code : Bytes) (In : ℕ → Type 0) (a : ℕ) : Type 0 where
   pub from : ℕ
   pub place : ℕ
-  pub reached : Reaches (Next false code) e from
+  pub reached : In from
   pub within : place < length_in code from
   pub is : a ≡ from + place
 
 -- an instruction reads or writes the register
-pub record IsUsed (code : Bytes) (e r : ℕ) : Type 0 where
+pub record IsUsedIn (linked : Bool) (code : Bytes) (In : ℕ → Type 0) (r : ℕ) : Type 0 where
   pub instr : Instr
-  pub reached : IsInstructionOf code e instr
+  pub reached : IsInstructionIn linked code In instr
   pub stands : Contains (sources instr) r ⊎ (destination instr ≡ r)
 
 -- an instruction loads or stores
-pub record UsesMemory (code : Bytes) (e : ℕ) : Type 0 where
+pub record UsesMemoryIn (linked : Bool) (code : Bytes) (In : ℕ → Type 0) : Type 0 where
   pub instr : Instr
-  pub reached : IsInstructionOf code e instr
+  pub reached : IsInstructionIn linked code In instr
   pub uses : has_memory instr ≡ true
+
+-- ---- .. that are reached from e, in a function alone
+
+abbrev pub IsInstructionOf : Bytes → ℕ → Instr → Type 0
+IsInstructionOf code e i = IsInstructionIn false code (Reaches (Next false code) e) i
+
+abbrev pub IsCodeOf : Bytes → ℕ → ℕ → Type 0
+IsCodeOf code e a = IsCodeIn code (Reaches (Next false code) e) a
+
+abbrev pub IsUsed : Bytes → ℕ → ℕ → Type 0
+IsUsed code e r = IsUsedIn false code (Reaches (Next false code) e) r
+
+abbrev pub UsesMemory : Bytes → ℕ → Type 0
+UsesMemory code e = UsesMemoryIn false code (Reaches (Next false code) e)
 
 -- ---- its parts
 
@@ -141,9 +155,13 @@ pub record IsItemFor (file name : List ℕ) (item : Item) : Type 0 where
 abbrev pub AreItemsFor : List ℕ → List (List ℕ) → Proof → Type 0
 AreItemsFor file names p = AllZip (IsItemFor file) names p.items
 
--- the first of the names that is outside the fragment is the one of that number, for this reason; the names before it have items
-pub record IsRefused (file : List ℕ) (names : List (List ℕ)) (number : ℕ) (why : Outside) : Type 0 where
+-- the first of the names with a fault is the one of that number, and this is its fault; the names before it have items
+pub record IsFirstWith (Fault : Type 0) (HasFault : List ℕ → Fault → Type 0) (HasItem : List ℕ → Type 0) (names : List (List ℕ)) (number : ℕ) (why : Fault) : Type 0 where
   pub name : List ℕ
   pub at : slice_get names number ≡ Some name
-  pub first : IsFirst file name why
-  pub before : (k : ℕ) (other : List ℕ) → k < number → slice_get names k ≡ Some other → (item : Item) × IsItemFor file other item
+  pub first : HasFault name why
+  pub before : (k : ℕ) (other : List ℕ) → k < number → slice_get names k ≡ Some other → HasItem other
+
+-- .. the first that is outside the fragment
+abbrev pub IsRefused : List ℕ → List (List ℕ) → ℕ → Outside → Type 0
+IsRefused file names number why = IsFirstWith Outside (IsFirst file) (λ name. (item : Item) × IsItemFor file name item) names number why

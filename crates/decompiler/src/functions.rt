@@ -63,7 +63,7 @@ fn item_for(alloc: Global, image: &Image, name: &Text) -> Result<Item, FlowFault
 }
 
 /// The fault of a name that has no address.
-fn outside_of(why: NameFault) -> Outside
+pub fn outside_of(why: NameFault) -> Outside
     ensures { result ≡ outside_of why }
 {
     match why {

@@ -7,8 +7,9 @@ mod laws;
 mod name;
 mod text;
 
-pub use functions::decompile;
+pub use bytes::law_of_bytes;
+pub use functions::{decompile, outside_of};
 pub use laws::law_of_items;
 pub use name::address_of;
 pub use path_walk::{DecompileFault, Item, Proof};
-pub use text::{entry_of, proof_bytes};
+pub use text::{bytes_in, entry_of, proof_bytes};

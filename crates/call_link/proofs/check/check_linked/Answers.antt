@@ -1,6 +1,6 @@
 use Rattle.std.proofs.Common.{arith, refl, sym}
 use Rattle.group_text.specs.declared.version.Version.TheVariants.{Three}
-use Rattle.call_link.specs.Rules.{IsSteered}
+use Rattle.further_rules.specs.Rules.{IsSteered}
 use Rattle.checker.proofs.CheckLemmas.{headline-said, said}
 use Rattle.call_link.proofs.check.check_linked.Goals as goal
 

@@ -1,0 +1,148 @@
+-- What a group of linked functions lists.
+use Rattle.std.proofs.Common.{◌≡◌, ℕ, zero, suc, ◌+◌, ◌<◌, ◌≤◌, Bool, true, false, ◌||◌, cond, List, [], ◌∷◌, ◌++◌, map, length, get_or, refl, sym, ap, ◌∙◌, arith, subst, Some, ◌⊎◌}
+use Rattle.std.specs.Prelude.{◌↔◌}
+use Rattle.std.specs.List.{AllZip, Contains, flat_map, list_any}
+use Rattle.rv_words.specs.Bytes.{AreBytes, Bytes}
+use Rattle.rv_words.specs.Ranges.{range_bytes}
+use Rattle.rv_decode.specs.Registers.{registers_where}
+use Rattle.rv_decode.specs.declared.instruction.Instr.{Instr}
+use Rattle.tailrec_lang.specs.Tree.{DefTree}
+use Rattle.instr_axioms.specs.Axiom.{is_own}
+use Rattle.instr_axioms.specs.Terms.{has_memory}
+use Rattle.flow_graph.specs.Flow.{Next}
+use Rattle.flow_graph.specs.Walks.{Reaches}
+use Rattle.call_graph.specs.Calls.{IsFunction}
+use Rattle.call_graph.specs.Functions.{AreFunctions, entries_of}
+use Rattle.call_graph.specs.declared.function.Function.{Function}
+use Rattle.code_parts.specs.Bodies.{part_def}
+use Rattle.code_parts.specs.Flows.{HaveCode, setting_of}
+use Rattle.code_parts.specs.Members.{defs_of, flow_at}
+use Rattle.code_parts.proofs.CodeOf.{have_bytes}
+use Rattle.linked_group.specs.Groups.{AreSomeFunctions, IsLinkedGroup, functions_of, group_in, is_register_of, load_or_store, member_in, members_of, setting_in}
+use Rattle.linked_group.specs.declared.group.LinkedFunction.{LinkedFunction}
+use Rattle.linked_group.specs.declared.group.LinkedGroup.{LinkedGroup}
+use Rattle.linked_group.proofs.Joining.{reached-by}
+use Rattle.linked_group.proofs.Lists.{any-of, in-map, out-map}
+use Rattle.linked_group.proofs.Settings.{order-of, reached-of, linked-of, within-code}
+use Rattle.linked_group.proofs.Together.{entered-at-entry}
+use Rattle.decompiler.specs.Listing.{HasDefs, IsCodeIn, IsInstructionIn, IsUsedIn, UsesMemoryIn}
+use Rattle.decompiler.proofs.CodeListed.{access_back, access_there, byte_back, byte_there, memory_by, registers_by, used_back, used_there}
+use Rattle.decompiler.proofs.PartsListed.{defs_are}
+use Rattle.call_link.specs.Listing.{HaveDefs, IsLinkedCode, ListsLinked}
+
+any-in : {A : Type 0} (p : A → Bool) (xs : List A) → list_any p xs ≡ true → (x : A) × Contains xs x × (p x ≡ true)
+any-in p [] e = absurd (cc)
+any-in p (x ∷ xs) e = go (p x) refl e (λ h. any-in p xs h)
+  where
+    go : (b : Bool) → p x ≡ b → (b || list_any p xs) ≡ true → (list_any p xs ≡ true → (y : _) × Contains xs y × (p y ≡ true)) → (y : _) × Contains (x ∷ xs) y × (p y ≡ true)
+    go true is e on = (x, (0, omega arith, refl), is)
+    go false is e on = let r = on e in (r.0, (suc r.1.0, (let lt = r.1.1 in omega (arith, lt)), r.1.2), r.2)
+
+-- ---- among more addresses
+
+code-in : (code : Bytes) (In Out : ℕ → Type 0) → ((x : ℕ) → In x → Out x) → (a : ℕ) → IsCodeIn code In a → IsCodeIn code Out a
+code-in code In Out on a c = record { from = c.from; place = c.place; reached = on c.from c.reached; within = c.within; is = c.is }
+
+instruction-in : (code : Bytes) (In Out : ℕ → Type 0) → ((x : ℕ) → In x → Out x) → (i : Instr) → IsInstructionIn true code In i → IsInstructionIn true code Out i
+instruction-in code In Out on i c = record { at = c.at; reached = on c.at c.reached; is = c.is }
+
+module _ (code : Bytes) (e : ℕ) (bytes : AreBytes code) (s : LinkedGroup) (are : AreFunctions code e (functions_of s)) (is : IsLinkedGroup s) where
+  abbrev pub some_functions : AreSomeFunctions (functions_of s)
+  some_functions = record { code = code; entry = e; bytes = bytes; are = are }
+
+  abbrev Own : Function → ℕ → Type 0
+  Own f = Reaches (Next true code) f.entry
+
+  -- what one of the functions reaches
+  inside : (f : Function) → Contains (functions_of s) f → (x : ℕ) → Reaches (Next true code) f.entry x → IsLinkedCode code e x
+  inside f c x r = (f.entry, are.functions.reached f.entry (in-map (λ z. z.entry) (functions_of s) f c), r)
+
+  -- .. and which reaches it
+  pub record IsReachedIn (x : ℕ) : Type 0 where
+    pub function : Function
+    pub listed : Contains (functions_of s) function
+    pub reaches : Reaches (Next true code) function.entry x
+
+  outside : (x : ℕ) → IsLinkedCode code e x → IsReachedIn x
+  outside x (f, w, r) =
+      let own = out-map (λ z. z.entry) (functions_of s) f (are.functions.all f w) in
+      record { function = own.0; listed = own.1; reaches = subst (λ (z : ℕ). Reaches (Next true code) z x) (sym own.2) r }
+
+  have-code : (f : Function) → (c : Contains (functions_of s) f) → HaveCode f.graph code s.code.ranges
+  have-code f c = have_bytes true f.graph (reached-by (functions_of s) (some_functions) f c) s.code.ranges (record { order = is.code.order; each = λ n lt. is.code.each f n c lt })
+
+  pub bytes-listed : (a b : ℕ) → (range_bytes s.code.ranges a ≡ Some b) ↔ (IsCodeIn code (IsLinkedCode code e) a × (code a ≡ Some b))
+  bytes-listed a b = (
+    λ h.
+        let at = is.code.only a b h in
+        (code-in code (Reaches (Next true code) at.0.entry) (IsLinkedCode code e) (inside at.0 at.1) a (byte_there true at.0.graph (reached-by (functions_of s) (some_functions) at.0 at.1) a b at.2.0 at.2.1 at.2.2), within-code code e bytes s are is a b h),
+    λ h.
+        let c = h.0 in
+        let r = outside c.from c.reached in
+        byte_back true r.function.graph (reached-by (functions_of s) (some_functions) r.function r.listed) s.code.ranges (have-code r.function r.listed) a b
+        (record { from = c.from; place = c.place; reached = r.reaches; within = c.within; is = c.is }) h.1,
+  )
+
+  pub registers-listed : (r : ℕ) → Contains s.regs r ↔ ((1 ≤ r) × (r ≤ 31) × IsUsedIn true code (IsLinkedCode code e) r)
+  registers-listed r = subst (λ (rs : List ℕ). Contains rs r ↔ ((1 ≤ r) × (r ≤ 31) × IsUsedIn true code (IsLinkedCode code e) r)) (sym is.regs) (registers_by (is_register_of (functions_of s)) r (IsUsedIn true code (IsLinkedCode code e) r) there back)
+    where
+      there : is_register_of (functions_of s) r ≡ true → IsUsedIn true code (IsLinkedCode code e) r
+      there h =
+          let at = any-in (λ f. list_any (λ i. is_own i r) f.graph.instrs) (functions_of s) h in
+          let used = used_there true at.0.graph (reached-by (functions_of s) (some_functions) at.0 at.1) r at.2 in
+          record { instr = used.instr; reached = instruction-in code (Reaches (Next true code) at.0.entry) (IsLinkedCode code e) (inside at.0 at.1) used.instr used.reached; stands = used.stands }
+
+      back : IsUsedIn true code (IsLinkedCode code e) r → is_register_of (functions_of s) r ≡ true
+      back u =
+          let own = outside u.reached.at u.reached.reached in
+          any-of (λ f. list_any (λ i. is_own i r) f.graph.instrs) (functions_of s) own.function own.listed
+          (used_back true own.function.graph (reached-by (functions_of s) (some_functions) own.function own.listed) r
+          (record { instr = u.instr; reached = record { at = u.reached.at; reached = own.reaches; is = u.reached.is }; stands = u.stands }))
+
+  pub memory-listed : ((s.mems ≡ 1) × UsesMemoryIn true code (IsLinkedCode code e)) ⊎ ((s.mems ≡ 0) × (UsesMemoryIn true code (IsLinkedCode code e) → ⊥))
+  memory-listed =
+      subst (λ (m : ℕ). ((m ≡ 1) × UsesMemoryIn true code (IsLinkedCode code e)) ⊎ ((m ≡ 0) × (UsesMemoryIn true code (IsLinkedCode code e) → ⊥))) (sym is.mems)
+      (memory_by (load_or_store (functions_of s)) (UsesMemoryIn true code (IsLinkedCode code e)) there back)
+    where
+      there : load_or_store (functions_of s) ≡ true → UsesMemoryIn true code (IsLinkedCode code e)
+      there h =
+          let at = any-in (λ f. list_any has_memory f.graph.instrs) (functions_of s) h in
+          let used = access_there true at.0.graph (reached-by (functions_of s) (some_functions) at.0 at.1) at.2 in
+          record { instr = used.instr; reached = instruction-in code (Reaches (Next true code) at.0.entry) (IsLinkedCode code e) (inside at.0 at.1) used.instr used.reached; uses = used.uses }
+
+      back : UsesMemoryIn true code (IsLinkedCode code e) → load_or_store (functions_of s) ≡ true
+      back u =
+          let own = outside u.reached.at u.reached.reached in
+          any-of (λ f. list_any has_memory f.graph.instrs) (functions_of s) own.function own.listed
+          (access_back true own.function.graph (reached-by (functions_of s) (some_functions) own.function own.listed)
+          (record { instr = u.instr; reached = record { at = u.reached.at; reached = own.reaches; is = u.reached.is }; uses = u.uses }))
+
+  -- ---- definitions
+
+  abbrev row_of : LinkedFunction → List DefTree
+  row_of f = map (part_def (flow_at (member_in s f))) f.parts
+
+  rows-each : (fs : List LinkedFunction) → ((f : LinkedFunction) → Contains fs f → HasDefs f.function.now.graph (row_of f)) → AllZip (λ (f : Function) (row : List DefTree). HasDefs f.graph row) (map (λ f. f.function.now) fs) (map row_of fs)
+  rows-each [] each = tt
+  rows-each (f ∷ fs) each = (each f (0, omega arith, refl), rows-each fs (λ g c. each g (suc c.0, (let lt = c.1 in omega (arith, lt)), c.2)))
+
+  rows-all : (fs : List LinkedFunction) → defs_of (map (member_in s) fs) ≡ flat_map (λ (row : List DefTree). row) (map row_of fs)
+  rows-all [] = refl
+  rows-all (f ∷ fs) = ap (λ (ds : List DefTree). row_of f ++ ds) (rows-all fs)
+
+  pub defs-listed : HaveDefs (functions_of s) (defs_of (members_of s))
+  defs-listed = record {
+    rows = map row_of s.functions;
+    each = rows-each s.functions (λ f c. defs_are true f.function.now.graph (reached-of code e bytes s are is f c) f.function.now.forest (linked-of code e bytes s are is f c).forest (setting_of (setting_in s f)) (order-of code e bytes s are is f c));
+    all = rows-all s.functions;
+  }
+
+  pub lists-linked : (name : List ℕ) → ListsLinked code e (functions_of s) name (group_in s name)
+  lists-linked name = record {
+    named = refl;
+    entry = entered-at-entry code e bytes s are is name;
+    bytes = bytes-listed;
+    registers = registers-listed;
+    memory = memory-listed;
+    defs = defs-listed;
+  }

@@ -1,0 +1,135 @@
+-- The item of a name, of all functions that calls lead to from its address.
+use Rattle.std.proofs.Common.{◌≡◌, ℕ, zero, suc, ◌+◌, ◌-◌, ◌<◌, ◌≤◌, Bool, true, false, cond, List, [], ◌∷◌, ◌++◌, map, length, get_or, Result, Ok, Err, refl, sym, ap, ◌∙◌, arith, subst, Some}
+use Rattle.std.specs.List.{AllByRecursion, Contains}
+use Rattle.rv_words.specs.Bytes.{AreBytes}
+use Rattle.elf_image.specs.Image.{code_of_file}
+use Rattle.elf_image.specs.declared.symbol.NameFault.{NameFault}
+use Rattle.elf_image.specs.declared.symbol.NameFault.TheVariants as name_fault
+use Rattle.tailrec_lang.specs.Registers.{AreRegistersFrom}
+use Rattle.tailrec_lang.specs.Tree.{DefTree, GroupTree}
+use Rattle.group_text.specs.Limits.{IsDef, IsGroupIn, IsName}
+use Rattle.group_text.specs.Version.{version_3}
+use Rattle.proof_text.specs.Line.{LineTree, line_tree}
+use Rattle.further_rules.specs.Rules.{IsSteered}
+use Rattle.checker.specs.Accepts.{IsAcceptedBy}
+use Rattle.exactness.specs.LinkExact.{LinkExact}
+use Rattle.exactness.proofs.Members.{members-lost-nothing}
+use Rattle.call_graph.specs.Causes.{IsCallGraphFault, IsCause}
+use Rattle.call_graph.specs.Functions.{AreFunctions}
+use Rattle.call_graph.specs.declared.fault.CallGraphFault.{CallGraphFault}
+use Rattle.call_graph.specs.declared.fault.CallGraphFault.TheVariants as graph
+use Rattle.call_graph.specs.declared.fault.LinkWhy.{LinkWhy}
+use Rattle.call_graph.specs.declared.fault.LinkWhy.TheVariants.{Outside}
+use Rattle.call_graph.proofs.OneAnswer.{no_cause}
+use Rattle.code_parts.specs.Bodies.{Flow, part_def}
+use Rattle.code_parts.specs.declared.part.Part.{Part}
+use Rattle.code_parts.specs.Graph.{IsSmall}
+use Rattle.code_parts.specs.Members.{Member, defs_of, flow_at}
+use Rattle.linked_group.specs.Groups.{IsLinkedGroup, functions_of, group_in, load_or_store, member_in, members_of}
+use Rattle.linked_group.specs.declared.group.LinkedFunction.{LinkedFunction}
+use Rattle.linked_group.specs.declared.group.LinkedGroup.{LinkedGroup}
+use Rattle.linked_group.proofs.Lists.{out-map}
+use Rattle.linked_group.proofs.Settings.{small-of, within-code}
+use Rattle.linked_group.proofs.Together.{defs-few, defs-some, formed, members-are}
+use Rattle.path_walk.specs.declared.item.Item.{Item}
+use Rattle.path_walk.specs.Linked.{AreClosedIn, IsLinkedItem}
+use Rattle.path_walk.proofs.PartLimits.{part-printed}
+use Rattle.decompiler.specs.Names.{StandsFor}
+use Rattle.decompiler.specs.inner.Functions.{outside_of}
+use Rattle.decompiler.proofs.CodeListed.{ranges_small}
+use Rattle.decompiler.proofs.Fragment.{stands_once}
+use Rattle.call_link.specs.Faults.{CanBeLinked, IsLinkFirst, Missing, Doubled, InFunctions}
+use Rattle.call_link.specs.Listing.{IsLinkedItemFor, ListsLinked, InFirstMemory}
+use Rattle.call_link.specs.inner.Functions.{IsNoLinkedItem}
+use Rattle.call_link.proofs.InFunctions.{lists-linked}
+use Rattle.group_text.specs.declared.version.Version.TheVariants.{Three}
+
+-- ---- faults
+
+-- what has no linked functions has this fault
+pub none-linked : (file name : List ℕ) (e : ℕ) (why : CallGraphFault) → StandsFor file name (Ok e) → IsCallGraphFault (code_of_file file) e why → IsNoLinkedItem file name why
+none-linked file name e (graph.Refused why) stands h = InFunctions stands h
+none-linked file name e graph.NoMemory stands h = tt
+
+pub none-named : (file name : List ℕ) (why : NameFault) → StandsFor file name (Err why) → IsLinkFirst file name (Outside (outside_of why))
+none-named file name name_fault.NoSuch stands = Missing stands
+none-named file name (name_fault.Ambiguous a b) stands = Doubled stands
+
+other : (e : ℕ) (why : NameFault) (v w : Result ℕ NameFault) → v ≡ Ok e → w ≡ Err why → v ≡ w → ⊥
+other e why v w p q r = cc
+
+same : (e a : ℕ) (v w : Result ℕ NameFault) → v ≡ Ok e → w ≡ Ok a → v ≡ w → e ≡ a
+same e a v w p q r = cc
+
+-- a name whose functions are linked has no fault
+pub can-be-linked : (file name : List ℕ) (e : ℕ) (s : LinkedGroup) → StandsFor file name (Ok e) → AreFunctions (code_of_file file) e (functions_of s) → CanBeLinked file name
+can-be-linked file name e s stands are _ (Missing t) = other e name_fault.NoSuch (Ok e) (Err name_fault.NoSuch) refl refl (stands_once file name (Ok e) (Err name_fault.NoSuch) stands t)
+can-be-linked file name e s stands are _ (Doubled {a = a} {b = b} t) = other e (name_fault.Ambiguous a b) (Ok e) (Err (name_fault.Ambiguous a b)) refl refl (stands_once file name (Ok e) (Err (name_fault.Ambiguous a b)) stands t)
+can-be-linked file name e s stands are why (InFunctions {e = d} t cause) =
+    let one : d ≡ e = same d e (Ok d) (Ok e) refl refl (stands_once file name (Ok d) (Ok e) t stands) in
+    no_cause (code_of_file file) e (functions_of s) why are (subst (λ (x : ℕ). IsCause (code_of_file file) x why) one cause)
+
+-- ---- the item
+
+defs-printed : (s : LinkedGroup) (fs : List LinkedFunction) → ((f : LinkedFunction) → Contains fs f → IsSmall (flow_at (member_in s f))) → AllByRecursion IsDef (defs_of (map (member_in s) fs))
+defs-printed s [] small = tt
+defs-printed s (f ∷ fs) small = append (map (part_def (flow_at (member_in s f))) f.parts) (defs_of (map (member_in s) fs)) (own f.parts) (defs-printed s fs (λ g c. small g (suc c.0, (let lt = c.1 in omega (arith, lt)), c.2)))
+  where
+    own : (ps : List Part) → AllByRecursion IsDef (map (part_def (flow_at (member_in s f))) ps)
+    own [] = tt
+    own (p ∷ ps) = (part-printed (flow_at (member_in s f)) (small f (0, omega arith, refl)) p, own ps)
+
+    append : (xs ys : List DefTree) → AllByRecursion IsDef xs → AllByRecursion IsDef ys → AllByRecursion IsDef (xs ++ ys)
+    append [] ys a b = b
+    append (x ∷ xs) ys a b = (a.0, append xs ys a.1 b)
+
+module _ (file name : List ℕ) (e : ℕ) (bytes : AreBytes (code_of_file file)) (s : LinkedGroup) (are : AreFunctions (code_of_file file) e (functions_of s)) (is : IsLinkedGroup s) where
+  pub accepted-linked : (lines : List LineTree) → AreClosedIn Three (group_in s name) lines → IsAcceptedBy IsSteered file (record { group = group_in s name; lines = lines })
+  accepted-linked lines closed =
+      let some = defs-some (code_of_file file) e bytes s are is name in
+      record {
+        well_formed = formed (code_of_file file) e bytes s are is name;
+        lines = closed.right;
+        proved = record { closed = closed.closed (length (defs_of (members_of s)) - 1) (omega (arith, some)); code = within-code (code_of_file file) e bytes s are is };
+      }
+
+  pub exact-linked : LinkExact InFirstMemory file (group_in s name)
+  exact-linked =
+      let all = members-are (code_of_file file) e bytes s are is name in
+      members-lost-nothing true file bytes (members_of s) all.0 (group_in s name) all.2 InFirstMemory
+      (λ m n c lt. let r = out-map (member_in s) s.functions m c in subst (λ (z : Member). z.setting.uses (get_or z.graph.addrs n 0) ≡ 0) r.2 refl)
+      (within-code (code_of_file file) e bytes s are is)
+
+  pub printed-linked : IsName name → IsGroupIn version_3 (group_in s name)
+  printed-linked named =
+      let all = members-are (code_of_file file) e bytes s are is name in
+      record {
+        name = named;
+        registers = subst (λ (rs : List ℕ). AreRegistersFrom 1 rs) (all.2.regs all.0 all.2.listed) (all.2.each all.0 all.2.listed).fits.rise;
+        memories = (omega arith, one (load_or_store (functions_of s)) is.mems);
+        code = is.code.order;
+        bytes = ranges_small 0 s.code.ranges is.code.order (λ a b le at. bytes a b (within-code (code_of_file file) e bytes s are is a b at));
+        defs = defs-printed s s.functions (small-of (code_of_file file) e bytes s are is);
+        some = defs-some (code_of_file file) e bytes s are is name;
+        few = (let few = defs-few (code_of_file file) e bytes s are is name in omega (arith, few));
+      }
+    where
+      one : (t : Bool) → s.mems ≡ cond t 1 0 → s.mems ≤ 1
+      one true m = omega (arith, m)
+      one false m = omega (arith, m)
+
+pub linked-is : (file name : List ℕ) (e : ℕ) (s : LinkedGroup) (item : Item) → StandsFor file name (Ok e) → IsName name → AreBytes (code_of_file file) → AreFunctions (code_of_file file) e (functions_of s) → IsLinkedGroup s → IsLinkedItem s name item
+    → IsLinkedItemFor file name item
+linked-is file name e s item stands named bytes are group is = record {
+  entry = e;
+  stands = stands;
+  inside = can-be-linked file name e s stands are;
+  functions = functions_of s;
+  are = are;
+  reached = is.reached;
+  lists = subst (ListsLinked (code_of_file file) e (functions_of s) name) (sym is.group) (lists-linked (code_of_file file) e bytes s are group name);
+  accepted = subst (λ (t : GroupTree). IsAcceptedBy IsSteered file (record { group = t; lines = map line_tree item.lines })) (sym is.group)
+      (accepted-linked file name e bytes s are group (map line_tree item.lines) (subst (λ (t : GroupTree). AreClosedIn Three t (map line_tree item.lines)) is.group is.lines));
+  exact = subst (LinkExact InFirstMemory file) (sym is.group) (exact-linked file name e bytes s are group);
+  text = record { group = subst (IsGroupIn version_3) (sym is.group) (printed-linked file name e bytes s are group named); lines = is.fine };
+}

@@ -1,0 +1,9 @@
+-- Why there is no proof for some names of a file where functions are linked.
+use Rattle.std.specs.Prelude.{ℕ, List}
+use Rattle.call_link.specs.declared.fault.LinkFault.{LinkFault}
+use Rattle.call_link.specs.declared.fault.LinkFault.TheVariants.{Refused, NoMemory}
+use Rattle.call_link.specs.Listing.{IsLinkRefused}
+
+abbrev pub IsLinkFaultOf : List ℕ → List (List ℕ) → LinkFault → Type 0
+IsLinkFaultOf file names (Refused number why) = IsLinkRefused file names number why
+IsLinkFaultOf file names NoMemory = Unit {0}
