@@ -1,0 +1,33 @@
+//! The version that a text's first line names.
+
+ghost use Rattle.std.specs.Prelude.{◌≡◌, []};
+ghost use Rattle.proof_text.specs.FirstProofs.{HasGiven};
+ghost use Rattle.text_versions.specs.Versions.{evaluated_version, named_version};
+
+use proof_text::{Reader, Version};
+
+/// The version that the first line of a text names, and version 1 where it names none that is taken.
+pub fn named_version(text: &[u8]) -> Version
+    ensures { result ≡ named_version text.now }
+{
+    if text.starts_with(b"mcproof 3\n") {
+        Version::Three
+    } else if text.starts_with(b"mcproof 4\n") {
+        Version::Four
+    } else {
+        Version::One
+    }
+}
+
+/// Stands before the first line of a text, to read groups that are evaluated: in the version that it names, but for version
+/// 4, since evaluation has one memory at most.
+pub fn reader_of(text: &[u8]) -> Reader<'_>
+    ensures text { result.text ≡ text.now }
+    ensures version { result.version ≡ evaluated_version text.now }
+    ensures given { HasGiven [] result }
+{
+    match named_version(text) {
+        Version::Three => Reader::newer(text, 3),
+        Version::One | Version::Four => Reader::new(text),
+    }
+}
