@@ -127,9 +127,9 @@ pub test-text : (number size instructions defs steps turns value : List ℕ)
 test-text number size instructions defs steps turns value = simp append_assoc
 
 -- the line of a name that was decompiled
-pub listed-text : (name entry reached defs : List ℕ) → codes "decompiled " ++ (name ++ (codes " " ++ (entry ++ (codes " " ++ (reached ++ (codes " " ++ (defs ++ codes "\n")))))))
-    ≡ codes "decompiled " ++ name ++ codes " " ++ entry ++ codes " " ++ reached ++ codes " " ++ defs ++ codes "\n"
-listed-text name entry reached defs = simp append_assoc
+pub listed-text : (word name entry reached defs : List ℕ) → word ++ (name ++ (codes " " ++ (entry ++ (codes " " ++ (reached ++ (codes " " ++ (defs ++ codes "\n")))))))
+    ≡ word ++ name ++ codes " " ++ entry ++ codes " " ++ reached ++ codes " " ++ defs ++ codes "\n"
+listed-text word name entry reached defs = simp append_assoc
 
 -- ---- lines of registers
 

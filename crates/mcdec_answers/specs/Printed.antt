@@ -23,6 +23,10 @@ use Rattle.mcdec_answers.specs.declared.answer.CheckAnswer.TheVariants as check
 use Rattle.flow_graph.specs.declared.outside.Outside.{Outside}
 use Rattle.flow_graph.specs.declared.outside.Outside.TheVariants as outside
 use Rattle.loop_forest.specs.Cycles.{last_of}
+use Rattle.call_graph.specs.declared.fault.LinkWhy.{LinkWhy}
+use Rattle.call_graph.specs.declared.fault.LinkWhy.TheVariants as link
+use Rattle.mcdec_words.specs.declared.command.Form.{Form}
+use Rattle.mcdec_words.specs.declared.command.Form.TheVariants.{Alone, Linked}
 use Rattle.mcdec_answers.specs.declared.answer.DecompileAnswer.{DecompileAnswer}
 use Rattle.mcdec_answers.specs.declared.answer.DecompileAnswer.TheVariants as decompile
 use Rattle.mcdec_answers.specs.declared.answer.Listed.{Listed}
@@ -102,9 +106,18 @@ outside_words (outside.TwoEntries cycle first second) =
     codes "two-entries " ++ hex (min (last_of first) (last_of second)) ++ codes " " ++ hex (max (last_of first) (last_of second))
 outside_words (outside.ManyExits a) = codes "many-exits " ++ hex a
 
--- decompiled NAME A I D
-abbrev pub listed_line : Listed → List ℕ
-listed_line l = codes "decompiled " ++ l.name ++ codes " " ++ hex l.entry ++ codes " " ++ decimal l.reached ++ codes " " ++ decimal l.defs ++ codes "\n"
+-- .. or, with the functions that it calls, can't be linked
+abbrev pub link_words : LinkWhy → List ℕ
+link_words (link.Outside why) = outside_words why
+link_words (link.Recursive a) = codes "recursive " ++ hex a
+
+abbrev pub done_word : Form → List ℕ
+done_word Alone = codes "decompiled "
+done_word Linked = codes "linked "
+
+-- decompiled NAME A I D · linked NAME A I D
+abbrev pub listed_line : Form → Listed → List ℕ
+listed_line form l = done_word form ++ l.name ++ codes " " ++ hex l.entry ++ codes " " ++ decimal l.reached ++ codes " " ++ decimal l.defs ++ codes "\n"
 
 -- selftest NUMBER SIZE instructions I defs D steps K turns T x10 V
 abbrev pub self_test_line : SelfTestAnswer → List ℕ
@@ -147,12 +160,12 @@ check_printed check.ElfOverLimit = (7, codes "over limit elf\n")
 check_printed check.ProofOverLimit = (7, codes "over limit proof\n")
 check_printed (check.Judged v) = verdict_printed v
 
--- the status and the lines of what `decompile` comes to
+-- the status and the lines of what `decompile` and `link` come to
 abbrev pub decompile_printed : DecompileAnswer → ℕ × List ℕ
 decompile_printed decompile.OverLimit = (7, codes "over limit elf\n")
 decompile_printed (decompile.Unreadable why) = (3, codes "unreadable elf " ++ fault_words why ++ codes "\n")
-decompile_printed (decompile.Refused name why) = (1, codes "refused " ++ name ++ codes " " ++ outside_words why ++ codes "\n")
-decompile_printed (decompile.Decompiled listed) = (0, flat_map listed_line listed)
+decompile_printed (decompile.Refused name why) = (1, codes "refused " ++ name ++ codes " " ++ link_words why ++ codes "\n")
+decompile_printed (decompile.Decompiled form listed) = (0, flat_map (listed_line form) listed)
 
 -- the status and the lines of what `simplify` comes to
 abbrev pub simplify_printed : SimplifyAnswer → ℕ × List ℕ

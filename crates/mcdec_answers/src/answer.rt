@@ -1,8 +1,9 @@
 //! What is answered to a list of words.
 
+use call_graph::LinkWhy;
 use checker::Verdict;
 use elf_image::{ElfFault, NameFault};
-use flow_graph::Outside;
+use mcdec_words::Form;
 use rv_machine::Stuck;
 use rv_words::{List, Range, Text};
 use self_test::Outcome;
@@ -24,7 +25,7 @@ pub enum Answer {
     Run(RunAnswer),
     /// What the command `check` comes to.
     Check(CheckAnswer),
-    /// What the command `decompile` comes to.
+    /// What the commands `decompile` and `link` come to.
     Decompile(DecompileAnswer),
     /// What the command `selftest` comes to.
     SelfTest(SelfTestAnswer),
@@ -85,7 +86,7 @@ pub enum CheckAnswer {
     Judged(Verdict),
 }
 
-/// What the command `decompile` comes to.
+/// What the commands `decompile` and `link` come to.
 #[derive(Debug, Drop)]
 pub enum DecompileAnswer {
     /// The ELF file has more bytes than are read.
@@ -93,9 +94,9 @@ pub enum DecompileAnswer {
     /// It has this fault.
     Unreadable(ElfFault),
     /// This name is outside the fragment.
-    Refused(Text, Outside),
-    /// The text was written, with a function for each of these names.
-    Decompiled(List<Listed>),
+    Refused(Text, LinkWhy),
+    /// The text was written, with a function for each of these names, by itself or with those that it calls.
+    Decompiled(Form, List<Listed>),
 }
 
 /// What is told of a name: where its function is entered, how many instructions are reached from there, and how many

@@ -1,7 +1,7 @@
 //! Printing an answer into a sink, piece by piece. It takes no memory.
 
 ghost use Rattle.std.specs.Prelude.{◌≡◌, ◌⊎◌, ◌≤◌, flat_map, max, min, codes, ◌++◌};
-ghost use Rattle.mcdec_answers.specs.Printed.{check_printed, count_lines, decompile_printed, eval_printed, fault_words, laws_printed, listed_line, memory_line, name_words, outside_words, printed, register_line, register_lines, run_printed, self_test_line, shown_lines, simplify_printed, smt_printed, status, stuck_words, verdict_printed, IsDelivered};
+ghost use Rattle.mcdec_answers.specs.Printed.{check_printed, count_lines, decompile_printed, done_word, eval_printed, fault_words, laws_printed, link_words, listed_line, memory_line, name_words, outside_words, printed, register_line, register_lines, run_printed, self_test_line, shown_lines, simplify_printed, smt_printed, status, stuck_words, verdict_printed, IsDelivered};
 ghost use Rattle.std.specs.Fmt.{decimal};
 ghost use Rattle.hex.specs.Hex.{encode_lower};
 ghost use Rattle.loop_forest.specs.Cycles.{last_of};
@@ -13,12 +13,14 @@ use crate::answer::{
     Answer, CheckAnswer, DecompileAnswer, EvalAnswer, LawsAnswer, Listed, RunAnswer,
     SelfTestAnswer, Shown, SimplifyAnswer, SmtAnswer,
 };
+use call_graph::LinkWhy;
 use checker::Verdict;
 use elf_image::{ElfFault, NameFault};
 use flow_graph::Outside;
 use itoa::Buffer;
 use mc_shelf::{Sink, Stop};
 use mc_text::{digit_pair, hex_into};
+use mcdec_words::Form;
 use rv_machine::Stuck;
 use rv_words::{List as Items, Range};
 
@@ -170,7 +172,9 @@ fn put_decompile<O: Sink>(out: &mut O, answer: &DecompileAnswer) -> Result<u8, S
         DecompileAnswer::OverLimit => put_text(out, b"over limit elf\n").and(Ok(7)),
         DecompileAnswer::Unreadable(why) => put_unreadable_elf(out, why).and(Ok(3)),
         DecompileAnswer::Refused(name, why) => put_refused(out, name.as_slice(), why).and(Ok(1)),
-        DecompileAnswer::Decompiled(listed) => put_all_listed(out, listed.as_slice()).and(Ok(0)),
+        DecompileAnswer::Decompiled(form, listed) => {
+            put_all_listed(out, *form, listed.as_slice()).and(Ok(0))
+        }
     }
 }
 
@@ -233,12 +237,12 @@ fn put_numbered<O: Sink>(out: &mut O, words: &[u8], number: u64) -> Result<(), S
     )
 }
 
-/// The line of a name that is outside the fragment.
-fn put_refused<O: Sink>(out: &mut O, name: &[u8], why: &Outside) -> Result<(), Stop>
-    ensures { Prints result (codes "refused " ++ name.now ++ codes " " ++ outside_words why.now ++ codes "\n") (O.written out.old) (O.written out.new) (O.faults out.old) (O.faults out.new) }
+/// The line of a name that is outside the fragment, or can't be linked.
+fn put_refused<O: Sink>(out: &mut O, name: &[u8], why: &LinkWhy) -> Result<(), Stop>
+    ensures { Prints result (codes "refused " ++ name.now ++ codes " " ++ link_words why.now ++ codes "\n") (O.written out.old) (O.written out.new) (O.faults out.old) (O.faults out.new) }
 {
     put_refused_name(out, name)?;
-    put_outside(out, why)?;
+    put_why(out, why)?;
     put_text(out, b"\n")
 }
 
@@ -253,6 +257,15 @@ fn put_refused_name<O: Sink>(out: &mut O, name: &[u8]) -> Result<(), Stop>
             Piece::Text(b" "),
         ],
     )
+}
+
+fn put_why<O: Sink>(out: &mut O, why: &LinkWhy) -> Result<(), Stop>
+    ensures { Prints result (link_words why.now) (O.written out.old) (O.written out.new) (O.faults out.old) (O.faults out.new) }
+{
+    match why {
+        LinkWhy::Outside(why) => put_outside(out, why),
+        LinkWhy::Recursive(a) => put_address(out, b"recursive ", *a),
+    }
 }
 
 fn put_outside<O: Sink>(out: &mut O, why: &Outside) -> Result<(), Stop>
@@ -315,22 +328,22 @@ fn last_of(walk: &Items<u64>) -> u64
 }
 
 /// A line for each name.
-fn put_all_listed<O: Sink>(out: &mut O, all: &[Listed]) -> Result<(), Stop>
-    ensures { Prints result (flat_map listed_line all.now) (O.written out.old) (O.written out.new) (O.faults out.old) (O.faults out.new) }
+fn put_all_listed<O: Sink>(out: &mut O, form: Form, all: &[Listed]) -> Result<(), Stop>
+    ensures { Prints result (flat_map (listed_line form) all.now) (O.written out.old) (O.written out.new) (O.faults out.old) (O.faults out.new) }
 {
     for listed in all {
-        put_listed(out, listed)?;
+        put_listed(out, form, listed)?;
     }
     Ok(())
 }
 
-fn put_listed<O: Sink>(out: &mut O, listed: &Listed) -> Result<(), Stop>
-    ensures { Prints result (listed_line listed.now) (O.written out.old) (O.written out.new) (O.faults out.old) (O.faults out.new) }
+fn put_listed<O: Sink>(out: &mut O, form: Form, listed: &Listed) -> Result<(), Stop>
+    ensures { Prints result (listed_line form listed.now) (O.written out.old) (O.written out.new) (O.faults out.old) (O.faults out.new) }
 {
     put_all(
         out,
         &[
-            Piece::Text(b"decompiled "),
+            Piece::Text(done_word(form)),
             Piece::Text(listed.name.as_slice()),
             Piece::Text(b" "),
             Piece::Hex(listed.entry),
@@ -341,6 +354,16 @@ fn put_listed<O: Sink>(out: &mut O, listed: &Listed) -> Result<(), Stop>
             Piece::Text(b"\n"),
         ],
     )
+}
+
+/// What was done with a name.
+fn done_word(form: Form) -> &'static [u8]
+    ensures { result.now ≡ done_word form }
+{
+    match form {
+        Form::Alone => b"decompiled ",
+        Form::Linked => b"linked ",
+    }
 }
 
 fn put_self_test<O: Sink>(out: &mut O, answer: &SelfTestAnswer) -> Result<(), Stop>

@@ -16,7 +16,9 @@ use Rattle.tailrec_lang.specs.Eval.{Arguments, Outcome, Done, HasFewNeeds, eval}
 use Rattle.tailrec_lang.specs.Registers.{AreRegistersFrom}
 use Rattle.group_text.specs.Limits.{IsGroup}
 use Rattle.proof_text.specs.Line.{ProofTree}
-use Rattle.proof_text.specs.Proofs.{AreProofs, groups_of}
+use Rattle.proof_text.specs.Proofs.{AreProofsIn, groups_of}
+use Rattle.text_versions.specs.Versions.{version_for}
+use Rattle.text_versions.proofs.NamedVersions.{as-first}
 use Rattle.mcdec_answers.specs.declared.answer.EvalAnswer.{EvalAnswer}
 use Rattle.mcdec_answers.specs.declared.answer.EvalAnswer.TheVariants as answer
 use Rattle.mcdec_words.specs.Command.{Eval, Run, Arg, Given, Words, value_of, givens, ranges}
@@ -100,15 +102,15 @@ all-first F name (x ∷ gs) g e h = here (bytes_eq x.name name) e (λ k. all-fir
     here true e behind = let same : x ≡ g = cc in subst F same h.0
     here false e behind = behind e
 
--- groups of proofs that have a text have one too
-groups-fit : (ps : List ProofTree) → AreProofs ps → AllByRecursion IsGroup (groups_of ps)
-groups-fit [] h = tt
-groups-fit (p ∷ ps) h = (h.0.group, groups-fit ps h.1)
+-- groups of proofs that have a text in some version that is taken have one of version 1 too
+groups-fit : (text : List ℕ) (ps : List ProofTree) → AreProofsIn (version_for text) ps → AllByRecursion IsGroup (groups_of ps)
+groups-fit text [] h = tt
+groups-fit text (p ∷ ps) h = (as-first text p.group h.0.group, groups-fit text ps h.1)
 
 pub found-fits : (text name : List ℕ) (g : Group) → Finds text name (Ok g) → IsGroup (group_tree g) × IsWellFormed (group_tree g) × HasFewNeeds (group_tree g)
 found-fits text name g f =
     let n = f.0 in (
-      all-first IsGroup name (groups_of n.proofs) (group_tree g) n.first (groups-fit n.proofs n.spelled.fit),
+      all-first IsGroup name (groups_of n.proofs) (group_tree g) n.first (groups-fit text n.proofs n.spelled.fit),
       all-first IsWellFormed name (groups_of n.proofs) (group_tree g) n.first n.well_formed,
       f.1,
     )

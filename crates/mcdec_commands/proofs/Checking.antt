@@ -4,7 +4,7 @@ use Rattle.std.specs.Prelude.{IfSome}
 use Rattle.mc_shelf.specs.Shelf.{Contents, TellsName}
 use Rattle.checker.specs.declared.verdict.Verdict.{Verdict}
 use Rattle.checker.specs.declared.verdict.Verdict.TheVariants as verdict
-use Rattle.checker.specs.Verdicts.{Says}
+use Rattle.text_versions.specs.Versions.{SaysOf}
 use Rattle.mcdec_answers.specs.declared.answer.Answer.{Answer}
 use Rattle.mcdec_answers.specs.declared.answer.Answer.TheVariants as answer
 use Rattle.mcdec_words.specs.Command.{Check, Words}
@@ -27,13 +27,13 @@ pub text-told : (told : Option Contents) (ws : List (List ℕ)) → ReadsAreTold
 text-told told ws h elf proof w = h (Check elf proof) w 1 [] (omega arith)
 
 -- what a verdict on a text that is held gives
-pub judged-gives : (told : Option Contents) (proof file text : List ℕ) (rose : Type 0) → IsLoaded file → IfSome told (λ files. files proof ≡ Some text) → length text ≤ proof_limit → (v : Verdict) → Says file text v
+pub judged-gives : (told : Option Contents) (proof file text : List ℕ) (rose : Type 0) → IsLoaded file → IfSome told (λ files. files proof ≡ Some text) → length text ≤ proof_limit → (v : Verdict) → SaysOf file text v
     → ImageGives told proof file rose (answer_to v)
-judged-gives told proof file text rose loaded held short (verdict.Accepted functions lines) h = (loaded, held-with told proof text (λ t. (length t ≤ proof_limit) × Says file t (verdict.Accepted functions lines)) held (short, h))
-judged-gives told proof file text rose loaded held short (verdict.BadText line) h = (loaded, held-with told proof text (λ t. (length t ≤ proof_limit) × Says file t (verdict.BadText line)) held (short, h))
-judged-gives told proof file text rose loaded held short (verdict.BadDef group def) h = (loaded, held-with told proof text (λ t. (length t ≤ proof_limit) × Says file t (verdict.BadDef group def)) held (short, h))
-judged-gives told proof file text rose loaded held short (verdict.BadLine line) h = (loaded, held-with told proof text (λ t. (length t ≤ proof_limit) × Says file t (verdict.BadLine line)) held (short, h))
-judged-gives told proof file text rose loaded held short (verdict.NotProved group) h = (loaded, held-with told proof text (λ t. (length t ≤ proof_limit) × Says file t (verdict.NotProved group)) held (short, h))
+judged-gives told proof file text rose loaded held short (verdict.Accepted functions lines) h = (loaded, held-with told proof text (λ t. (length t ≤ proof_limit) × SaysOf file t (verdict.Accepted functions lines)) held (short, h))
+judged-gives told proof file text rose loaded held short (verdict.BadText line) h = (loaded, held-with told proof text (λ t. (length t ≤ proof_limit) × SaysOf file t (verdict.BadText line)) held (short, h))
+judged-gives told proof file text rose loaded held short (verdict.BadDef group def) h = (loaded, held-with told proof text (λ t. (length t ≤ proof_limit) × SaysOf file t (verdict.BadDef group def)) held (short, h))
+judged-gives told proof file text rose loaded held short (verdict.BadLine line) h = (loaded, held-with told proof text (λ t. (length t ≤ proof_limit) × SaysOf file t (verdict.BadLine line)) held (short, h))
+judged-gives told proof file text rose loaded held short (verdict.NotProved group) h = (loaded, held-with told proof text (λ t. (length t ≤ proof_limit) × SaysOf file t (verdict.NotProved group)) held (short, h))
 judged-gives told proof file text rose loaded held short (verdict.BadElf why) h = (loaded.0, h)
 judged-gives told proof file text rose loaded held short verdict.NoMemory h = tt
 

@@ -1,12 +1,17 @@
 -- What is answered to the command `decompile`, and what its output file holds then.
-use Rattle.std.proofs.Common.{◌≡◌, ◌≢◌, ℕ, zero, suc, ◌<◌, ◌≤◌, min, get_or, List, [], ◌∷◌, ◌++◌, length, take, Option, Some, None, Result, Ok, Err, refl, sym, ap, subst, ◌∙◌, inl, inr, ◌⊎◌, arith}
+use Rattle.std.proofs.Common.{◌≡◌, ℕ, zero, suc, ◌<◌, ◌≤◌, min, get_or, List, [], ◌∷◌, ◌++◌, length, take, Option, Some, None, refl, sym, ap, subst, ◌∙◌, inl, inr, arith}
 use Rattle.std.specs.Prelude.{IfSome}
 use Rattle.mc_shelf.specs.Shelf.{Contents, TellsName}
 use Rattle.tailrec_lang.specs.Tree.{group_tree}
-use Rattle.proof_text.specs.Proofs.{AreProofs, text_of_proofs}
+use Rattle.group_text.specs.Version.{Version}
+use Rattle.proof_text.specs.Proofs.{AreProofsIn, text_of_proofs_in}
 use Rattle.path_walk.specs.declared.item.Item.{Item}
 use Rattle.path_walk.specs.declared.proof.Proof.{Proof}
-use Rattle.decompiler.specs.Listing.{AreItemsFor, proofs_of}
+use Rattle.flow_graph.specs.declared.outside.Outside.{Outside}
+use Rattle.call_graph.specs.declared.fault.LinkWhy.TheVariants as link
+use Rattle.decompiler.specs.Listing.{IsRefused, proofs_of}
+use Rattle.mcdec_words.specs.declared.command.Form.{Form}
+use Rattle.mcdec_words.specs.declared.command.Form.TheVariants.{Alone}
 use Rattle.checker.specs.declared.verdict.Verdict.TheVariants as ve
 use Rattle.mcdec_answers.specs.declared.answer.Answer.{Answer}
 use Rattle.mcdec_answers.specs.declared.answer.Answer.TheVariants as answer
@@ -20,7 +25,7 @@ use Rattle.mcdec_answers.specs.declared.answer.SmtAnswer.TheVariants as sm
 use Rattle.mcdec_answers.specs.declared.answer.Listed.{Listed}
 use Rattle.mcdec_words.specs.Command.{Command, Decompile, Words, output_of}
 use Rattle.mcdec_commands.specs.RunAnswer.{IsLoaded}
-use Rattle.mcdec_commands.specs.DecompileAnswer.{DecompileGives, IsTextFor, all_listed, listed_of}
+use Rattle.mcdec_commands.specs.DecompileAnswer.{AreItemsIn, DecompileGives, IsRefusedIn, IsTextFor, all_listed, listed_of, version_in}
 use Rattle.mcdec_commands.specs.Answer.{Gives, ReadsAreTold}
 use Rattle.mcdec_answers.specs.Printed.{status}
 use Rattle.mcdec_commands.specs.inner.Decompiling.{FileGives}
@@ -31,45 +36,49 @@ use Rattle.mcdec_words.proofs.OneCommand.{words-unique}
 
 -- ---- the file that it reads
 
-pub decompile-told : (told : Option Contents) (ws : List (List ℕ)) → ReadsAreTold told ws → (elf out : List ℕ) (names : List (List ℕ)) → Words ws (Decompile elf out names) → TellsName told elf
-decompile-told told ws h elf out names w = h (Decompile elf out names) w 0 [] (omega arith)
+pub decompile-told : (told : Option Contents) (ws : List (List ℕ)) → ReadsAreTold told ws → (form : Form) (elf out : List ℕ) (names : List (List ℕ)) → Words ws (Decompile form elf out names) → TellsName told elf
+decompile-told told ws h form elf out names w = h (Decompile form elf out names) w 0 [] (omega arith)
 
 -- what is answered of the file's bytes is what the command comes to
-pub file-gives : (told : Option Contents) (ws : List (List ℕ)) (elf out : List ℕ) (names : List (List ℕ)) (file : List ℕ) (rose wrote : Type 0) → Words ws (Decompile elf out names) → IfSome told (λ files. files elf ≡ Some file)
-    → (a : Answer) → (status a ≡ 5 → wrote) → FileGives file names a → Gives told ws rose wrote a
-file-gives told ws elf out names file rose wrote w held answer.NotACommand since h = absurd h
-file-gives told ws elf out names file rose wrote w held answer.ReadFault since h = absurd h
-file-gives told ws elf out names file rose wrote w held answer.WriteFault since h = (Decompile elf out names, w, has-output out, since refl)
-file-gives told ws elf out names file rose wrote w held answer.NoMemory since h = tt
-file-gives told ws elf out names file rose wrote w held (answer.Eval a) since h = absurd h
-file-gives told ws elf out names file rose wrote w held (answer.Run a) since h = absurd h
-file-gives told ws elf out names file rose wrote w held (answer.Check a) since h = absurd h
-file-gives told ws elf out names file rose wrote w held (answer.SelfTest a) since h = absurd h
-file-gives told ws elf out names file rose wrote w held (answer.Simplify a) since h = absurd h
-file-gives told ws elf out names file rose wrote w held (answer.Laws a) since h = absurd h
-file-gives told ws elf out names file rose wrote w held (answer.Smt a) since h = absurd h
-file-gives told ws elf out names file rose wrote w held (answer.Decompile a) since h = (elf, out, names, w, held-with told elf file (λ f. DecompileGives f names a) held h)
+pub file-gives : (told : Option Contents) (ws : List (List ℕ)) (form : Form) (elf out : List ℕ) (names : List (List ℕ)) (file : List ℕ) (rose wrote : Type 0) → Words ws (Decompile form elf out names) → IfSome told (λ files. files elf ≡ Some file)
+    → (a : Answer) → (status a ≡ 5 → wrote) → FileGives form file names a → Gives told ws rose wrote a
+file-gives told ws form elf out names file rose wrote w held answer.NotACommand since h = absurd h
+file-gives told ws form elf out names file rose wrote w held answer.ReadFault since h = absurd h
+file-gives told ws form elf out names file rose wrote w held answer.WriteFault since h = (Decompile form elf out names, w, has-output out, since refl)
+file-gives told ws form elf out names file rose wrote w held answer.NoMemory since h = tt
+file-gives told ws form elf out names file rose wrote w held (answer.Eval a) since h = absurd h
+file-gives told ws form elf out names file rose wrote w held (answer.Run a) since h = absurd h
+file-gives told ws form elf out names file rose wrote w held (answer.Check a) since h = absurd h
+file-gives told ws form elf out names file rose wrote w held (answer.SelfTest a) since h = absurd h
+file-gives told ws form elf out names file rose wrote w held (answer.Simplify a) since h = absurd h
+file-gives told ws form elf out names file rose wrote w held (answer.Laws a) since h = absurd h
+file-gives told ws form elf out names file rose wrote w held (answer.Smt a) since h = absurd h
+file-gives told ws form elf out names file rose wrote w held (answer.Decompile a) since h = (form, elf, out, names, w, held-with told elf file (λ f. DecompileGives form f names a) held h)
 
 -- ---- the text that is written
 
 -- the text of a proof with items for the names
-pub text-for : (elf : List ℕ) (names : List (List ℕ)) (file : List ℕ) → IsLoaded file → (p : Proof) → AreItemsFor file names p → (text : List ℕ) → text ≡ text_of_proofs (proofs_of p)
-    → (files : Contents) → files elf ≡ Some file → IsTextFor files elf names text
-text-for elf names file loaded p items text is files holds = record { file = file; holds = holds; loaded = loaded; proof = p; items = items; spelled = is }
+pub text-for : (form : Form) (elf : List ℕ) (names : List (List ℕ)) (file : List ℕ) → IsLoaded file → (p : Proof) → AreItemsIn form file names p → (text : List ℕ) → text ≡ text_of_proofs_in (version_in form) (proofs_of p)
+    → (files : Contents) → files elf ≡ Some file → IsTextFor form files elf names text
+text-for form elf names file loaded p items text is files holds = record { file = file; holds = holds; loaded = loaded; proof = p; items = items; spelled = is }
+
+-- a name that is refused for a function by itself
+pub alone-refused : (file : List ℕ) (names : List (List ℕ)) (n : ℕ) (why : Outside) → IsRefused file names n why → IsRefusedIn Alone file names n (link.Outside why)
+alone-refused file names n why r = record { name = r.name; at = r.at; first = r.first; before = r.before }
 
 -- what is answered of it
-pub proof-told : (file : List ℕ) (names : List (List ℕ)) → IsLoaded file → (p : Proof) → AreItemsFor file names p → (listed : List Listed) → listed ≡ all_listed names p.items → (a : Answer)
-    → ToldOrFault (answer.Decompile (de.Decompiled listed)) a → FileGives file names a
-proof-told file names loaded p items listed is a (inl e) = subst (FileGives file names) (sym e) (loaded, p, items, is)
-proof-told file names loaded p items listed is a (inr (inl e)) = subst (FileGives file names) (sym e) tt
-proof-told file names loaded p items listed is a (inr (inr e)) = subst (FileGives file names) (sym e) tt
+pub proof-told : (form : Form) (file : List ℕ) (names : List (List ℕ)) → IsLoaded file → (p : Proof) → AreItemsIn form file names p → (listed : List Listed) → listed ≡ all_listed names p.items → (a : Answer)
+    → ToldOrFault (answer.Decompile (de.Decompiled form listed)) a → FileGives form file names a
+proof-told form file names loaded p items listed is a (inl e) = subst (FileGives form file names) (sym e) (refl, loaded, p, items, is)
+proof-told form file names loaded p items listed is a (inr (inl e)) = subst (FileGives form file names) (sym e) tt
+proof-told form file names loaded p items listed is a (inr (inr e)) = subst (FileGives form file names) (sym e) tt
 
 -- ---- groups of items have definitions
 
-pub each-has-def : (items : List Item) → AreProofs (proofs_of (record { items = items })) → (k : ℕ) (d : Item) → k < length items → 1 ≤ length (group_tree (get_or items k d).group).defs
-each-has-def [] h k d lt = absurd (omega arith)
-each-has-def (i ∷ items) h zero d lt = h.0.group.some
-each-has-def (i ∷ items) h (suc k) d lt = each-has-def items h.1 k d (omega (arith, lt))
+pub each-has-def : (version : Version) (items : List Item) → AreProofsIn version (proofs_of (record { items = items })) → (k : ℕ) (d : Item) → k < length items → 1 ≤ length (group_tree (get_or items k d).group).defs
+each-has-def version [] h k d lt = absurd (omega arith)
+each-has-def version (i ∷ items) h zero d lt = h.0.group.some
+each-has-def version (i ∷ items) h (suc k) d lt = each-has-def version items h.1 k d (omega (arith, lt))
 
 -- ---- what is told of names and their items
 
@@ -119,7 +128,7 @@ no-write-fault told ws rose wrote c w none (answer.Check (ca.Judged ve.NoMemory)
 no-write-fault told ws rose wrote c w none (answer.Decompile de.OverLimit) h e = omega (arith, e)
 no-write-fault told ws rose wrote c w none (answer.Decompile (de.Unreadable why)) h e = omega (arith, e)
 no-write-fault told ws rose wrote c w none (answer.Decompile (de.Refused n why)) h e = omega (arith, e)
-no-write-fault told ws rose wrote c w none (answer.Decompile (de.Decompiled l)) h e = omega (arith, e)
+no-write-fault told ws rose wrote c w none (answer.Decompile (de.Decompiled form l)) h e = omega (arith, e)
 no-write-fault told ws rose wrote c w none (answer.SelfTest a) h e = omega (arith, e)
 no-write-fault told ws rose wrote c w none (answer.Simplify si.OverLimit) h e = omega (arith, e)
 no-write-fault told ws rose wrote c w none (answer.Simplify (si.Unreadable n)) h e = omega (arith, e)

@@ -1,5 +1,5 @@
 -- The words and the files give one answer at most.
-use Rattle.std.proofs.Common.{◌≡◌, ℕ, zero, suc, codes, ◌-◌, ◌<◌, ◌≤◌, List, [], ◌∷◌, ◌++◌, length, map, slice_get, Option, Some, None, refl, sym, ap, subst, ◌∙◌, ◌⊎◌, ⊎_elim, inl, inr, Ok, Err, arith}
+use Rattle.std.proofs.Common.{◌≡◌, ℕ, zero, suc, codes, ◌-◌, ◌<◌, ◌≤◌, List, [], ◌∷◌, ◌++◌, length, slice_get, Option, Some, None, refl, sym, ap, subst, ◌∙◌, ◌⊎◌, ⊎_elim, inl, inr, Ok, Err, arith}
 use Rattle.std.specs.Prelude.{IfSome}
 use Rattle.std.specs.List.{AllByRecursion, AllZip}
 use Rattle.mc_shelf.specs.Shelf.{Contents}
@@ -8,8 +8,9 @@ use Rattle.tailrec_lang.specs.Tree.{DefTree, GroupTree, listed_def}
 use Rattle.tailrec_lang.specs.WellFormed.{IsWellFormed, IsFirstIllFormed}
 use Rattle.tailrec_lang.specs.Eval.{Done, SideFalse, Turns, NoOutcome, Outcome, eval}
 use Rattle.proof_text.specs.Line.{ProofTree}
-use Rattle.proof_text.specs.Proofs.{bare, groups_of, texts_of_proofs}
-use Rattle.proof_text.specs.FirstProofs.{AreRead}
+use Rattle.proof_text.specs.Proofs.{bare, groups_of, texts_of_proofs_in}
+use Rattle.text_versions.specs.Versions.{SaysOf, evaluated_version, further_rule_of, named_version, version_for}
+use Rattle.text_versions.proofs.NamedVersions.{accepted-named}
 use Rattle.mcdec_answers.specs.declared.answer.Answer.{Answer}
 use Rattle.mcdec_answers.specs.declared.answer.Answer.TheVariants as answer
 use Rattle.mcdec_answers.specs.declared.answer.EvalAnswer.{EvalAnswer}
@@ -18,22 +19,18 @@ use Rattle.mcdec_answers.specs.declared.answer.RunAnswer.{RunAnswer}
 use Rattle.mcdec_answers.specs.declared.answer.RunAnswer.TheVariants as ra
 use Rattle.checker.specs.declared.verdict.Verdict.{Verdict}
 use Rattle.checker.specs.declared.verdict.Verdict.TheVariants as verdict
-use Rattle.checker.specs.Verdicts.{Says}
-use Rattle.checker.specs.Instance.{no_rule}
 use Rattle.checker.proofs.OneVerdict.{verdict-once}
-use Rattle.checker.proofs.SoundLemmas.{no_rule-keeps}
-use Rattle.checker.proofs.CheckLemmas.{accepted-headline}
 use Rattle.mcdec_answers.specs.declared.answer.CheckAnswer.{CheckAnswer}
 use Rattle.mcdec_answers.specs.declared.answer.CheckAnswer.TheVariants as ca
 use Rattle.mcdec_commands.specs.CheckAnswer.{CheckGives, AreRightFiles}
 use Rattle.mcdec_commands.specs.Listed.{without_proofs}
-use Rattle.flow_graph.specs.declared.outside.Outside.{Outside}
 use Rattle.path_walk.specs.declared.item.Item.{Item}
-use Rattle.decompiler.specs.Listing.{IsItemFor}
-use Rattle.decompiler.specs.Listing.{IsRefused}
+use Rattle.mcdec_words.specs.declared.command.Form.{Form}
+use Rattle.mcdec_words.specs.declared.command.Form.TheVariants.{Alone, Linked}
+use Rattle.call_graph.specs.declared.fault.LinkWhy.{LinkWhy}
 use Rattle.mcdec_answers.specs.declared.answer.DecompileAnswer.{DecompileAnswer}
 use Rattle.mcdec_answers.specs.declared.answer.DecompileAnswer.TheVariants as de
-use Rattle.mcdec_commands.specs.DecompileAnswer.{DecompileGives, IsToldOnce, all_listed}
+use Rattle.mcdec_commands.specs.DecompileAnswer.{DecompileGives, IsItemIn, IsRefusedIn, IsToldOnce, all_listed}
 use Rattle.mcdec_answers.specs.declared.answer.SelfTestAnswer.{SelfTestAnswer}
 use Rattle.mcdec_answers.specs.declared.answer.SimplifyAnswer.{SimplifyAnswer}
 use Rattle.mcdec_answers.specs.declared.answer.SimplifyAnswer.TheVariants as si
@@ -43,7 +40,7 @@ use Rattle.mcdec_answers.specs.declared.answer.SmtAnswer.{SmtAnswer}
 use Rattle.mcdec_answers.specs.declared.answer.SmtAnswer.TheVariants as sm
 use Rattle.smt_export.specs.Reach.{IsLeastLoop}
 use Rattle.mcdec_commands.specs.SmtAnswer.{IsLoopFree, SmtGives}
-use Rattle.checker.specs.Verdicts.{IsTextOf}
+use Rattle.checker.specs.Verdicts.{IsTextOfIn}
 use Rattle.def_laws.specs.Rewriting.{AreRewritingSteps}
 use Rattle.def_laws.specs.Certs.{IsFirstBad}
 use Rattle.def_laws.proofs.OneResult.{no_result, one_first_bad, one_result}
@@ -72,12 +69,11 @@ use Rattle.mcdec_answers.specs.Printed.{IsPrinted, IsDelivered, status}
 use Rattle.mcdec_words.proofs.OneCommand.{words-unique}
 use Rattle.mcdec_words.proofs.CommandNames.{name_of, named-words, other-name}
 use Rattle.mc_text.proofs.FaultOnce.{bad-once}
-use Rattle.group_text.specs.declared.version.Version.TheVariants.{One}
 use Rattle.proof_text.proofs.Fronts.{fronts, text-front}
 use Rattle.proof_text.proofs.ProofTexts.{proofs-once}
 use Rattle.mcdec_commands.proofs.Groups.{groups-front, groups-more}
 use Rattle.mcdec_commands.proofs.Listed.{groups-fit, groups-left}
-use Rattle.mcdec_commands.proofs.OneListing.{all-listed-once, err_is, none-refused, ok_err, ok_is, refused-once, stands-once}
+use Rattle.mcdec_commands.proofs.OneListing.{all-told-once, err_is, none-refused, ok_err, ok_is, refused-once, stands-once}
 use Rattle.std.proofs.lemmas.List.{length-map}
 use Rattle.std.proofs.lemmas.Bool.{cases_order}
 
@@ -170,7 +166,7 @@ not-bad g p (suc n) h k = h.0 k
 
 -- what is so of the first group of a name, if there is one
 named-case : (p name : List ℕ) (found : Option GroupTree) (F : Option GroupTree → Type 0) → IsNamed p name found → F found
-    → (ps : List ProofTree) × IsTextOf p ps × AreWellFormed (groups_of ps) × F (first_named name (groups_of ps))
+    → (ps : List ProofTree) × IsTextOfIn (version_for p) p ps × AreWellFormed (groups_of ps) × F (first_named name (groups_of ps))
 named-case p name found F n h = (n.proofs, n.spelled, n.well_formed, subst F (sym n.first) h)
 
 -- Answers of any kind to a text: a bad line, a definition that isn't well-formed, or what is said of its groups.
@@ -181,7 +177,7 @@ abbrev BadDef : {A : Type 0} → (ℕ → ℕ → A) → List ℕ → A → Type
 BadDef ill_formed p a = (n def : ℕ) × HasBadDef p n def × (a ≡ ill_formed n def)
 
 abbrev GoodText : {A : Type 0} → (List GroupTree → A → Type 0) → List ℕ → A → Type 0
-GoodText Says p a = (ps : List ProofTree) × IsTextOf p ps × AreWellFormed (groups_of ps) × Says (groups_of ps) a
+GoodText Says p a = (ps : List ProofTree) × IsTextOfIn (version_for p) p ps × AreWellFormed (groups_of ps) × Says (groups_of ps) a
 
 abbrev TextCase : {A : Type 0} → (ℕ → A) → (ℕ → ℕ → A) → (List GroupTree → A → Type 0) → List ℕ → A → Type 0
 TextCase unreadable ill_formed Says p a = BadText unreadable p a ⊎ (BadDef ill_formed p a ⊎ GoodText Says p a)
@@ -190,11 +186,11 @@ TextCase unreadable ill_formed Says p a = BadText unreadable p a ⊎ (BadDef ill
 module _ {A : Type 0} (unreadable : ℕ → A) (ill_formed : ℕ → ℕ → A) (Says : List GroupTree → A → Type 0) (Once : A → Type 0)
     (says-once : (gs : List GroupTree) (a b : A) → Once b → Says gs a → Says gs b → a ≡ b) where
   bad-texts : (p : List ℕ) (a b : A) → BadText unreadable p a → BadText unreadable p b → a ≡ b
-  bad-texts p a b (n, h, is) (m, k, this) = is ∙ ap unreadable (bad-once texts_of_proofs p n m h.0 k.0) ∙ sym this
+  bad-texts p a b (n, h, is) (m, k, this) = is ∙ ap unreadable (bad-once (texts_of_proofs_in (version_for p)) p n m h.0 k.0) ∙ sym this
 
   bad-defs : (p : List ℕ) (a b : A) → BadDef ill_formed p a → BadDef ill_formed p b → a ≡ b
   bad-defs p a b (n, c, (ps, g, read, well, count, first), is) (m, d, (qs, h, read', well', count', first'), is') =
-      elim (fronts One p (ps ++ bare g ∷ []) (qs ++ bare h ∷ []) read read') [
+      elim (fronts (evaluated_version p) p (ps ++ bare g ∷ []) (qs ++ bare h ∷ []) read read') [
         | inl m ↦
             let f = groups-front (ps ++ bare g ∷ []) (qs ++ bare h ∷ []) m in
             let r = same-last (groups_of qs) (groups_of ps) f.0 h g (begin-alike ps qs g h f.0 f.1) d first' well in
@@ -215,11 +211,11 @@ module _ {A : Type 0} (unreadable : ℕ → A) (ill_formed : ℕ → ℕ → A) 
 
   def-or-good : (p : List ℕ) (a b : A) → BadDef ill_formed p a → GoodText Says p b → ⊥
   def-or-good p a b (n, c, (ps, g, read, well, count, first), is) (qs, text, fine, said) =
-      let f = groups-front qs (ps ++ bare g ∷ []) (text-front One p qs (ps ++ bare g ∷ []) text.fit text.spelled read) in
+      let f = groups-front qs (ps ++ bare g ∷ []) (text-front (evaluated_version p) p qs (ps ++ bare g ∷ []) text.fit text.spelled read) in
       not-front (groups_of ps) g c f.0 (groups_of qs) first (f.1 ∙ ap (λ (gs : List GroupTree). gs ++ f.0) (groups-more ps (bare g))) fine
 
   bad-or-good : (p : List ℕ) (a b : A) → BadText unreadable p a → GoodText Says p b → ⊥
-  bad-or-good p a b (n, h, is) (qs, text, fine, said) = not-bad texts_of_proofs p n h.0 (qs, text.fit, text.spelled)
+  bad-or-good p a b (n, h, is) (qs, text, fine, said) = not-bad (texts_of_proofs_in (version_for p)) p n h.0 (qs, text.fit, text.spelled)
 
   text-once : (p : List ℕ) (a b : A) → Once b → TextCase unreadable ill_formed Says p a → TextCase unreadable ill_formed Says p b → a ≡ b
   text-once p a b once (inl h) (inl k) = bad-texts p a b h k
@@ -231,7 +227,7 @@ module _ {A : Type 0} (unreadable : ℕ → A) (ill_formed : ℕ → ℕ → A) 
   text-once p a b once (inr (inr h)) (inl k) = absurd (bad-or-good p b a k h)
   text-once p a b once (inr (inr h)) (inr (inl k)) = absurd (def-or-good p b a k h)
   text-once p a b once (inr (inr (ps, text, fine, said))) (inr (inr (qs, other, well, says))) =
-      let same : ps ≡ qs = proofs-once One ps qs text.fit other.fit (sym text.spelled ∙ other.spelled) in
+      let same : ps ≡ qs = proofs-once (evaluated_version p) ps qs text.fit other.fit (sym text.spelled ∙ other.spelled) in
       says-once (groups_of qs) a b once (subst (λ (xs : List ProofTree). Says (groups_of xs) a) same said) says
 
 -- ---- files
@@ -336,7 +332,7 @@ some_file x y e = cc
 -- ---- checks
 
 abbrev VerdictCase : List ℕ → List ℕ → CheckAnswer → Type 0
-VerdictCase file text a = (v : Verdict) × (v ≡ verdict.NoMemory → ⊥) × Says file text v × (a ≡ ca.Judged v)
+VerdictCase file text a = (v : Verdict) × (v ≡ verdict.NoMemory → ⊥) × SaysOf file text v × (a ≡ ca.Judged v)
 
 abbrev JudgedCase : List ℕ → List ℕ → CheckAnswer → Type 0
 JudgedCase file text a = ((proof_limit < length text) × (a ≡ ca.ProofOverLimit)) ⊎ ((length text ≤ proof_limit) × VerdictCase file text a)
@@ -346,7 +342,7 @@ judged-unique file text a b (inl h) (inl k) = h.1 ∙ sym k.1
 judged-unique file text a b (inl h) (inr k) = absurd (over (length text) proof_limit h.0 k.0)
 judged-unique file text a b (inr h) (inl k) = absurd (over (length text) proof_limit k.0 h.0)
 judged-unique file text a b (inr (short, (v, some, says, is))) (inr (less, (w, other, said, this))) =
-    is ∙ ap ca.Judged (verdict-once no_rule One file text v w some other says said) ∙ sym this
+    is ∙ ap ca.Judged (verdict-once (further_rule_of (named_version text)) (named_version text) file text v w some other says said) ∙ sym this
 
 abbrev TextHeld : Contents → List ℕ → List ℕ → CheckAnswer → Type 0
 TextHeld files proof file a = (text : List ℕ) × (files proof ≡ Some text) × JudgedCase file text a
@@ -365,7 +361,7 @@ loaded-unique files proof file a b (inr (r, (text, held, h))) (inr (s, (other, h
 abbrev CheckCase : Contents → List ℕ → List ℕ → CheckAnswer → Type 0
 CheckCase files proof file a = ((elf_limit < length file) × (a ≡ ca.ElfOverLimit)) ⊎ ((length file ≤ elf_limit) × LoadedCase files proof file a)
 
-judged-text : (files : Contents) (proof file : List ℕ) → IsLoaded file → (text : List ℕ) → files proof ≡ Some text → length text ≤ proof_limit → (v : Verdict) → (v ≡ verdict.NoMemory → ⊥) → Says file text v
+judged-text : (files : Contents) (proof file : List ℕ) → IsLoaded file → (text : List ℕ) → files proof ≡ Some text → length text ≤ proof_limit → (v : Verdict) → (v ≡ verdict.NoMemory → ⊥) → SaysOf file text v
     → CheckCase files proof file (ca.Judged v)
 judged-text files proof file loaded text held short v some says = inr (loaded.0, inr (loaded.1, (text, held, inr (short, (v, some, says, refl)))))
 
@@ -388,41 +384,43 @@ check-unique files proof file a b (inr h) (inr k) = loaded-unique files proof fi
 
 -- ---- what is decompiled
 
-abbrev NamesCase : List ℕ → List (List ℕ) → DecompileAnswer → Type 0
-NamesCase file names a = ((number : ℕ) × (name : List ℕ) × (why : Outside) × (slice_get names number ≡ Some name) × IsRefused file names number why × (a ≡ de.Refused name why))
-    ⊎ ((items : List Item) × AllZip (IsItemFor file) names items × (a ≡ de.Decompiled (all_listed names items)))
+abbrev NamesCase : Form → List ℕ → List (List ℕ) → DecompileAnswer → Type 0
+NamesCase form file names a = ((number : ℕ) × (name : List ℕ) × (why : LinkWhy) × (slice_get names number ≡ Some name) × IsRefusedIn form file names number why × (a ≡ de.Refused name why))
+    ⊎ ((items : List Item) × AllZip (IsItemIn form file) names items × (a ≡ de.Decompiled form (all_listed names items)))
 
-abbrev GoodFile : List ℕ → List (List ℕ) → DecompileAnswer → Type 0
-GoodFile file names a = ((why : ElfFault) × (fault_of file ≡ Some why) × (a ≡ de.Unreadable why)) ⊎ (IsReadable file × NamesCase file names a)
+abbrev GoodFile : Form → List ℕ → List (List ℕ) → DecompileAnswer → Type 0
+GoodFile form file names a = ((why : ElfFault) × (fault_of file ≡ Some why) × (a ≡ de.Unreadable why)) ⊎ (IsReadable file × NamesCase form file names a)
 
-abbrev DecompileCase : List ℕ → List (List ℕ) → DecompileAnswer → Type 0
-DecompileCase file names a = ((elf_limit < length file) × (a ≡ de.OverLimit)) ⊎ ((length file ≤ elf_limit) × GoodFile file names a)
+abbrev DecompileCase : Form → List ℕ → List (List ℕ) → DecompileAnswer → Type 0
+DecompileCase form file names a = ((elf_limit < length file) × (a ≡ de.OverLimit)) ⊎ ((length file ≤ elf_limit) × GoodFile form file names a)
 
-decompile-case : (file : List ℕ) (names : List (List ℕ)) (a : DecompileAnswer) → DecompileGives file names a → DecompileCase file names a
-decompile-case file names de.OverLimit h = inl (h, refl)
-decompile-case file names (de.Unreadable why) h = inr (h.0, inl (why, h.1, refl))
-decompile-case file names (de.Refused name why) (loaded, number, at, refused) = inr (loaded.0, inr (loaded.1, inl (number, name, why, at, refused, refl)))
-decompile-case file names (de.Decompiled listed) (loaded, proof, items, same) = inr (loaded.0, inr (loaded.1, inr (proof.items, items, ap de.Decompiled same)))
+decompile-case : (form : Form) (file : List ℕ) (names : List (List ℕ)) (a : DecompileAnswer) → DecompileGives form file names a → DecompileCase form file names a
+decompile-case form file names de.OverLimit h = inl (h, refl)
+decompile-case form file names (de.Unreadable why) h = inr (h.0, inl (why, h.1, refl))
+decompile-case form file names (de.Refused name why) (loaded, number, at, refused) = inr (loaded.0, inr (loaded.1, inl (number, name, why, at, refused, refl)))
+decompile-case form file names (de.Decompiled told listed) (one, loaded, proof, items, same) =
+    inr (loaded.0, inr (loaded.1, inr (proof.items, items, (λ i. de.Decompiled (one i) (same i)))))
 
 -- the second of two answers is told once
-module _ (file : List ℕ) (names : List (List ℕ)) (a b : DecompileAnswer) (once : IsToldOnce b) where
-  names-unique : NamesCase file names a → NamesCase file names b → a ≡ b
+module _ (form : Form) (file : List ℕ) (names : List (List ℕ)) (a b : DecompileAnswer) (once : IsToldOnce b) where
+  names-unique : NamesCase form file names a → NamesCase form file names b → a ≡ b
   names-unique (inl (n, name, why, at, h, is)) (inl (m, other, cause, there, k, this)) =
-      let same = refused-once file names n m why cause (subst IsToldOnce this once) h k in
+      let same = refused-once form file names n m why cause (subst IsToldOnce this once) h k in
       let some : Some name ≡ Some other = sym at ∙ ap (λ i. slice_get names i) same.0 ∙ there in
       let word : name ≡ other = cc in
       is ∙ (λ i. de.Refused (word i) (same.1 i)) ∙ sym this
-  names-unique (inl (n, name, why, at, h, is)) (inr (items, k, this)) = absurd (none-refused file names items k n why h)
-  names-unique (inr (items, h, is)) (inl (m, other, cause, there, k, this)) = absurd (none-refused file names items h m cause k)
-  names-unique (inr (items, h, is)) (inr (others, k, this)) = is ∙ ap de.Decompiled (all-listed-once file names items others h k) ∙ sym this
+  names-unique (inl (n, name, why, at, h, is)) (inr (items, k, this)) = absurd (none-refused form file names items k n why h)
+  names-unique (inr (items, h, is)) (inl (m, other, cause, there, k, this)) = absurd (none-refused form file names items h m cause k)
+  names-unique (inr (items, h, is)) (inr (others, k, this)) =
+      is ∙ ap (de.Decompiled form) (all-told-once form file names items others h k) ∙ sym this
 
-  good-unique : GoodFile file names a → GoodFile file names b → a ≡ b
+  good-unique : GoodFile form file names a → GoodFile form file names b → a ≡ b
   good-unique (inl h) (inl k) = h.2 ∙ ap de.Unreadable (some_fault h.0 k.0 (sym h.1 ∙ k.1)) ∙ sym k.2
   good-unique (inl h) (inr k) = absurd (none_fault h.0 (sym k.0 ∙ h.1))
   good-unique (inr h) (inl k) = absurd (none_fault k.0 (sym h.0 ∙ k.1))
   good-unique (inr h) (inr k) = names-unique h.1 k.1
 
-  decompile-unique : DecompileCase file names a → DecompileCase file names b → a ≡ b
+  decompile-unique : DecompileCase form file names a → DecompileCase form file names b → a ≡ b
   decompile-unique (inl h) (inl k) = h.1 ∙ sym k.1
   decompile-unique (inl h) (inr k) = absurd (over (length file) elf_limit h.0 k.0)
   decompile-unique (inr h) (inl k) = absurd (over (length file) elf_limit k.0 h.0)
@@ -641,7 +639,7 @@ abbrev CommandGives : Contents → Command → Answer → Type 0
 CommandGives files (Eval proof name turns args) a = (x : EvalAnswer) × (a ≡ answer.Eval x) × ((p : List ℕ) × (files proof ≡ Some p) × EvalGives p name turns args x)
 CommandGives files (Run elf start until steps args) a = (x : RunAnswer) × (a ≡ answer.Run x) × ((p : List ℕ) × (files elf ≡ Some p) × RunGives p start until steps args x)
 CommandGives files (Check elf proof) a = (x : CheckAnswer) × (a ≡ answer.Check x) × ((p : List ℕ) × (files elf ≡ Some p) × CheckGives (Some files) proof p x)
-CommandGives files (Decompile elf out names) a = (x : DecompileAnswer) × (a ≡ answer.Decompile x) × ((p : List ℕ) × (files elf ≡ Some p) × DecompileCase p names x)
+CommandGives files (Decompile form elf out names) a = (x : DecompileAnswer) × (a ≡ answer.Decompile x) × ((p : List ℕ) × (files elf ≡ Some p) × DecompileCase form p names x)
 CommandGives files (SelfTest number size) a = (x : SelfTestAnswer) × (a ≡ answer.SelfTest x)
 CommandGives files (Simplify proof name out) a = (x : SimplifyAnswer) × (a ≡ answer.Simplify x) × ((p : List ℕ) × (files proof ≡ Some p) × SimplifyCase p name x)
 CommandGives files (Laws proof cert) a = (x : LawsAnswer) × (a ≡ answer.Laws x) × ((p : List ℕ) × (files proof ≡ Some p) × LawsCase files cert p x)
@@ -657,9 +655,9 @@ command-unique files (Run elf start until steps gs) a b d (x, ax, (p, held, h)) 
 command-unique files (Check elf proof) a b d (x, ax, (p, held, h)) (y, by, (q, holds, k)) =
     let same : p ≡ q = some_file p q (sym held ∙ holds) in
     ax ∙ ap answer.Check (check-unique files proof q x y (check-case files proof q x (subst (λ (r : List ℕ). CheckGives (Some files) proof r x) same h)) (check-case files proof q y k)) ∙ sym by
-command-unique files (Decompile elf out names) a b d (x, ax, (p, held, h)) (y, by, (q, holds, k)) =
+command-unique files (Decompile form elf out names) a b d (x, ax, (p, held, h)) (y, by, (q, holds, k)) =
     let same : p ≡ q = some_file p q (sym held ∙ holds) in
-    ax ∙ ap answer.Decompile (decompile-unique q names x y (subst IsDetermined by d) (subst (λ (r : List ℕ). DecompileCase r names x) same h) k) ∙ sym by
+    ax ∙ ap answer.Decompile (decompile-unique form q names x y (subst IsDetermined by d) (subst (λ (r : List ℕ). DecompileCase form r names x) same h) k) ∙ sym by
 command-unique files (SelfTest number size) a b d (x, ax) (y, by) = absurd (subst IsDetermined by d)
 command-unique files (Simplify proof name out) a b d (x, ax, (p, held, h)) (y, by, (q, holds, k)) =
     let same : p ≡ q = some_file p q (sym held ∙ holds) in
@@ -699,7 +697,7 @@ words-case files ws rose wrote answer.NoMemory d h = absurd d
 words-case files ws rose wrote (answer.Eval x) d (proof, name, turns, args, w, h) = inr (Eval proof name turns args, w, (x, refl, h))
 words-case files ws rose wrote (answer.Run x) d (elf, start, until, steps, args, w, h) = inr (Run elf start until steps args, w, (x, refl, h))
 words-case files ws rose wrote (answer.Check x) d (elf, proof, w, h) = inr (Check elf proof, w, (x, refl, h))
-words-case files ws rose wrote (answer.Decompile x) d (elf, out, names, w, (file, held, h)) = inr (Decompile elf out names, w, (x, refl, (file, held, decompile-case file names x h)))
+words-case files ws rose wrote (answer.Decompile x) d (form, elf, out, names, w, (file, held, h)) = inr (Decompile form elf out names, w, (x, refl, (file, held, decompile-case form file names x h)))
 words-case files ws rose wrote (answer.SelfTest x) d (number, size, w, h) = inr (SelfTest number size, w, (x, refl))
 words-case files ws rose wrote (answer.Simplify x) d (proof, name, out, w, (file, held, h)) = inr (Simplify proof name out, w, (x, refl, (file, held, simplify-case file name x h)))
 words-case files ws rose wrote (answer.Laws x) d (proof, cert, w, (file, held, h)) = inr (Laws proof cert, w, (x, refl, (file, held, laws-case files cert file x h)))
@@ -789,10 +787,11 @@ accepted-files files elf proof file functions lines holds (loaded, (text, held, 
   text = text;
   holds_file = holds;
   holds_text = held;
+  version = named_version text;
   groups = groups_of good.proofs;
-  fit = groups-fit good.proofs good.spelled.fit;
-  listed = ap without_proofs good.spelled.spelled ∙ groups-left good.proofs good.spelled.fit;
-  right = accepted-headline no_rule no_rule-keeps One (omega arith) file text (verdict.Accepted functions lines) good tt good.proofs good.spelled;
+  fit = groups-fit (named_version text) good.proofs good.spelled.fit;
+  listed = ap without_proofs good.spelled.spelled ∙ groups-left (named_version text) good.proofs good.spelled.fit;
+  right = accepted-named file text (verdict.Accepted functions lines) good tt good.proofs good.spelled;
 }
 
 status-zero : (files : Contents) (elf proof file : List ℕ) (a : CheckAnswer) → files elf ≡ Some file → CheckGives (Some files) proof file a → status (answer.Check a) ≡ 0 → AreRightFiles files elf proof
@@ -816,7 +815,8 @@ answered files ws rose wrote (answer.Run x) elf proof (f, s, u, k, args, v, h) w
 answered files ws rose wrote (answer.Check x) elf proof (elf', proof', v, (file, holds, h)) w e =
     let same = same-words elf proof elf' proof' (check-words ws (Check elf' proof') elf proof v w).1 in
     status-zero files elf proof file x (ap files (sym same.0) ∙ holds) (subst (λ (p : List ℕ). CheckGives (Some files) p file x) same.1 h) e
-answered files ws rose wrote (answer.Decompile x) elf proof (f, o, names, v, h) w e = absurd (other-name (codes "decompile") (codes "check") refl (check-words ws (Decompile f o names) elf proof v w).0)
+answered files ws rose wrote (answer.Decompile x) elf proof (Alone, f, o, names, v, h) w e = absurd (other-name (codes "decompile") (codes "check") refl (check-words ws (Decompile Alone f o names) elf proof v w).0)
+answered files ws rose wrote (answer.Decompile x) elf proof (Linked, f, o, names, v, h) w e = absurd (other-name (codes "link") (codes "check") refl (check-words ws (Decompile Linked f o names) elf proof v w).0)
 answered files ws rose wrote (answer.SelfTest x) elf proof (n, s, v, h) w e = absurd (other-name (codes "selftest") (codes "check") refl (check-words ws (SelfTest n s) elf proof v w).0)
 answered files ws rose wrote (answer.Simplify x) elf proof (p, n, o, v, h) w e = absurd (other-name (codes "simplify") (codes "check") refl (check-words ws (Simplify p n o) elf proof v w).0)
 answered files ws rose wrote (answer.Laws x) elf proof (p, c, v, h) w e = absurd (other-name (codes "laws") (codes "check") refl (check-words ws (Laws p c) elf proof v w).0)

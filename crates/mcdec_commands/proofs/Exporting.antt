@@ -1,5 +1,5 @@
 -- What is answered to the command `smt`, and what its output file holds then.
-use Rattle.std.proofs.Common.{◌≡◌, ℕ, ◌<◌, ◌≤◌, List, [], length, map, Option, Some, refl, sym, ap, subst, ◌∙◌, inl, inr, arith}
+use Rattle.std.proofs.Common.{◌≡◌, ℕ, ◌<◌, ◌≤◌, List, [], length, map, Option, Some, refl, sym, subst, inl, inr, arith}
 use Rattle.std.specs.Prelude.{IfSome}
 use Rattle.std.proofs.lemmas.List.{length-map}
 use Rattle.mc_shelf.specs.Shelf.{Contents, TellsName}
@@ -18,7 +18,7 @@ use Rattle.mcdec_answers.specs.declared.answer.SmtAnswer.TheVariants as smt
 use Rattle.mcdec_answers.specs.Printed.{status}
 use Rattle.mcdec_words.specs.Command.{Smt, Words}
 use Rattle.mcdec_commands.specs.EvalAnswer.{IsNamed, proof_limit}
-use Rattle.mcdec_commands.specs.SmtAnswer.{Exports, IsLoopFree, IsScriptFor, SmtGives}
+use Rattle.mcdec_commands.specs.SmtAnswer.{IsLoopFree, IsScriptFor, SmtGives}
 use Rattle.mcdec_commands.specs.Answer.{Gives, ReadsAreTold}
 use Rattle.mcdec_commands.specs.inner.Exporting.{DefGives}
 use Rattle.mcdec_commands.specs.inner.Writing.{ToldOrFault}

@@ -23,8 +23,8 @@ use Rattle.proof_text.proofs.Fronts.{fronts, front-read, few-read, given-read}
 use Rattle.mcdec_commands.specs.declared.eval.Refusal.{Refusal}
 use Rattle.mcdec_commands.specs.declared.eval.Refusal.TheVariants as refusal
 use Rattle.checker.specs.inner.Checking.{IsSameText}
-use Rattle.mcdec_commands.specs.EvalAnswer.{AreWellFormed, first_named}
-use Rattle.mcdec_commands.specs.inner.Search.{HasBadLineIn, HasPassed, LineIs, LinesArePassed, Passing, NextIs, FindsIn, FoundSo, Searched}
+use Rattle.mcdec_commands.specs.EvalAnswer.{AreWellFormed, HasBadLineIn, first_named}
+use Rattle.mcdec_commands.specs.inner.Search.{HasPassed, LineIs, LinesArePassed, Passing, NextIs, FindsIn, FoundSo, Searched}
 
 all-behind : (F : GroupTree → Type 0) (gs : List GroupTree) (g : GroupTree) → AllByRecursion F gs → F g → AllByRecursion F (gs ++ g ∷ [])
 all-behind F [] g h k = (k, tt)

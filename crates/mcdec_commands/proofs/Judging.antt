@@ -1,5 +1,5 @@
 -- What is answered to the command `laws`.
-use Rattle.std.proofs.Common.{◌≡◌, ◌≢◌, ℕ, cond, ◌+◌, ◌<◌, ◌≤◌, List, [], ◌∷◌, length, take, get_or, map, Option, Some, None, Ok, Err, refl, sym, ap, subst, ◌∙◌, arith}
+use Rattle.std.proofs.Common.{◌≡◌, ℕ, cond, ◌+◌, ◌<◌, ◌≤◌, List, [], ◌∷◌, length, take, get_or, map, Option, Some, Ok, Err, sym, ap, subst, ◌∙◌, arith}
 use Rattle.std.specs.Prelude.{IfSome}
 use Rattle.std.proofs.lemmas.Bool.{ne_eqb}
 use Rattle.std.proofs.lemmas.List.{take_all, take_more}
@@ -11,9 +11,8 @@ use Rattle.mc_text.specs.Fault.{IsBadAt, newlines}
 use Rattle.mc_text.proofs.ReaderLaws.{ok-value}
 use Rattle.mc_text.proofs.FaultLine.{newlines-append, text-read}
 use Rattle.tailrec_lang.specs.declared.group.Group.{Group}
-use Rattle.tailrec_lang.specs.Tree.{DefTree, GroupTree, def_tree, group_tree}
+use Rattle.tailrec_lang.specs.Tree.{GroupTree, def_tree, group_tree}
 use Rattle.def_laws.specs.declared.cert.Cert.{Cert}
-use Rattle.def_laws.specs.declared.judge.CertFault.{CertFault}
 use Rattle.def_laws.specs.declared.judge.CertFault.TheVariants as fault
 use Rattle.def_laws.specs.Certs.{IsCertFault, IsCertOf, IsFirstBad}
 use Rattle.def_laws.specs.Rewriting.{AreRewritingSteps}
@@ -27,11 +26,9 @@ use Rattle.mcdec_answers.specs.declared.answer.Answer.TheVariants as answer
 use Rattle.mcdec_answers.specs.declared.answer.LawsAnswer.{LawsAnswer}
 use Rattle.mcdec_answers.specs.declared.answer.LawsAnswer.TheVariants as laws
 use Rattle.mcdec_words.specs.Command.{Laws, Words}
-use Rattle.mcdec_commands.specs.declared.eval.Refusal.{Refusal}
 use Rattle.mcdec_commands.specs.declared.eval.Refusal.TheVariants as refusal
 use Rattle.mcdec_commands.specs.EvalAnswer.{IsNamed, proof_limit}
 use Rattle.mcdec_commands.specs.LawsAnswer.{IsCertText, LawsGives, TextsGive, cert_limit, step_line}
-use Rattle.mcdec_commands.specs.Held.{HoldsWith}
 use Rattle.mcdec_commands.specs.Answer.{Gives, ReadsAreTold}
 use Rattle.mcdec_commands.specs.inner.Judging.{CertGives}
 use Rattle.mcdec_commands.specs.inner.Search.{Finds}

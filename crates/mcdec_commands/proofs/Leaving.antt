@@ -1,5 +1,5 @@
 -- What the names hold after an answer to a command that writes a file.
-use Rattle.std.proofs.Common.{◌≡◌, ◌≢◌, ℕ, List, length, take, Option, Some, None, Result, Ok, Err, refl, sym, ap, subst, ◌∙◌, inl, inr, ◌⊎◌, ⊎_elim, arith}
+use Rattle.std.proofs.Common.{◌≡◌, ◌≢◌, ℕ, List, length, take, Option, Some, None, Ok, Err, refl, sym, ap, subst, ◌∙◌, inl, inr, ◌⊎◌, ⊎_elim, arith}
 use Rattle.std.specs.Prelude.{IfSome}
 use Rattle.std.proofs.lemmas.Bool.{cases_order}
 use Rattle.std.proofs.lemmas.List.{take_all}
@@ -7,12 +7,11 @@ use Rattle.mc_shelf.specs.Fault.{WhereTold}
 use Rattle.mc_shelf.specs.Shelf.{Contents, TellsName}
 use Rattle.mc_shelf.specs.declared.sink.Stop.{Stop}
 use Rattle.mcdec_answers.specs.declared.answer.Answer.{Answer}
-use Rattle.mcdec_answers.specs.declared.answer.Answer.TheVariants as answer
 use Rattle.mcdec_answers.specs.Printed.{IsDelivered, status}
 use Rattle.mcdec_words.specs.Command.{Command, Words, output_of}
 use Rattle.mcdec_commands.specs.Answer.{KeepsNames}
 use Rattle.mcdec_commands.specs.Output.{HoldsAll, HoldsFront, IsOutput, LeavesOut}
-use Rattle.mcdec_commands.specs.inner.Writing.{IsTold, ToldOrFault, Writes, WritesOut}
+use Rattle.mcdec_commands.specs.inner.Writing.{IsTold, Writes, WritesOut}
 use Rattle.mcdec_words.proofs.OneCommand.{words-unique}
 use Rattle.mcdec_answers.proofs.Prints.{told_same, where_told}
 

@@ -4,6 +4,7 @@ pub mod Asked
 pub mod Answers
 pub mod Checking
 pub mod Groups
+pub mod Weighing
 pub mod OneListing
 pub mod Listed
 pub mod Exactness

@@ -1,5 +1,7 @@
--- Without the lines of proofs the text of proofs is that of their groups.
+-- Without the lines of proofs the text of proofs is that of their groups, in each version.
 use Rattle.std.proofs.Common.{true≢false, ◌≡◌, ℕ, suc, Bool, true, false, cond, eqb, not, List, [], ◌∷◌, ◌++◌, codes, filter, refl, sym, ap, subst, ◌∙◌, arith, append_assoc, flat_map}
+use Rattle.std.specs.Prelude.{is_some, unwrap_or}
+use Rattle.std.specs.Fmt.{decimal}
 use Rattle.std.specs.List.{AllByRecursion, onto_first}
 use Rattle.mc_text.specs.Fault.{newlines}
 use Rattle.mc_text.specs.Tokens.{Tok, Semi, Atom, Eol, newline, gap, token_bytes, before_next, spell}
@@ -15,12 +17,14 @@ use Rattle.tailrec_lang.specs.Tree.{ValuesTree, StepTree, Bind, BindMem, Need, B
 use Rattle.tailrec_lang.specs.declared.group.Exit.{Exit}
 use Rattle.tailrec_lang.specs.declared.group.Exit.TheVariants.{At, Ret}
 use Rattle.proof_text.specs.Line.{RuleTree, Axiom, Inst, Frame, Compose, ExtendCode, Strengthen, Weaken, Discharge, UseExit, LineTree, States, Loop, Forget, Further, ProofTree}
-use Rattle.proof_text.specs.LineLimits.{IsLine}
-use Rattle.proof_text.specs.LineSpelling.{rule_tokens, line_tokens}
-use Rattle.group_text.specs.Limits.{AreGroups}
-use Rattle.proof_text.specs.Proofs.{proof_tokens, text_of_proofs, AreProofs, groups_of}
-use Rattle.group_text.specs.Spelling.{line, number, address, exit_tokens, values_tokens, step_tokens, arm_count, body_tokens, arm_tokens, def_tokens, group_tokens, head_tokens, end_tokens, text_of}
-use Rattle.group_text.specs.declared.version.Version.TheVariants.{One}
+use Rattle.proof_text.specs.LineLimits.{IsLineIn}
+use Rattle.proof_text.specs.LineSpelling.{rule_tokens, line_tokens_in}
+use Rattle.group_text.specs.Limits.{AreGroupsIn}
+use Rattle.proof_text.specs.Proofs.{proof_tokens_in, text_of_proofs_in, AreProofsIn, groups_of}
+use Rattle.group_text.specs.Spelling.{line, number, address, exit_tokens, values_tokens, step_tokens, arm_count, body_tokens, arm_tokens, def_tokens, group_tokens, title_tokens, end_tokens, text_in}
+use Rattle.group_text.specs.declared.version.Version.{Version as Known}
+use Rattle.group_text.specs.declared.version.Version.TheVariants.{One, Three, Four}
+use Rattle.group_text.specs.Version.{version_of}
 use Rattle.proof_text.proofs.LineTokens.{line-is-tokens}
 use Rattle.group_text.proofs.Real.{group-tokens, title-tokens}
 use Rattle.proof_text.proofs.RuleLaws.{facts, rule_row, rule-flat}
@@ -235,57 +239,74 @@ rule-named (Weaken p) rest = refl
 rule-named (Discharge p) rest = refl
 rule-named (UseExit def exit) rest = refl
 
-proof-line-goes : (own : List Range) (l : LineTree) → IsLine l → Goes (line_tokens own l)
-proof-line-goes own (States rule t) h =
-    let rest = triple_rest own t in
-    let e : (rule_row rule ++ rest) ++ Eol ∷ [] ≡ line_tokens own (States rule t) =
-    append_assoc (rule_row rule) rest (Eol ∷ [])
-    ∙ append_assoc (rule_tokens rule) facts (rest ++ Eol ∷ [])
-    ∙ ap (λ (ts : List Tok). rule_tokens rule ++ (ts ++ Eol ∷ [])) (sym (triple-spelled own t)) in
-    let flat = flat-append (rule_row rule) rest (rule-flat rule h.0) (triple-flat own t h.1) in
-    let real = subst AreTokens (sym e) (line-is-tokens One own (States rule t) h) in
-    subst Goes e (row-goes (rule_row rule ++ rest) flat (rule-named rule rest) real)
-proof-line-goes own (Loop def cited) h =
-    let parts : List (List Tok) = number def ∷ flat_map number cited ∷ [] in
-    line-goes (codes "loop") parts (number-flat def, (each-flat number number-flat cited, tt)) refl (line-is-tokens One own (Loop def cited) h)
-proof-line-goes own (Forget k) h = line-goes (codes "forget") (number k ∷ []) (number-flat k, tt) refl (line-is-tokens One own (Forget k) h)
-proof-line-goes own (Further p t) h = absurd (true≢false (sym h.0))
+further-named : (known : Known) → is_some (version_of known).further ≡ true → (p : ℕ) (rest : List Tok)
+    → is_of_proof (spell Start (Atom (unwrap_or (version_of known).further []) ∷ Atom (decimal p) ∷ rest)) ≡ true
+further-named One some p rest = absurd (true≢false (sym some))
+further-named Three some p rest = refl
+further-named Four some p rest = refl
 
-proof-lines-go : (own : List Range) (ls : List LineTree) → AllByRecursion IsLine ls
-    → (us vs : List Tok) → AreSame us vs → AreSame (flat_map (line_tokens own) ls ++ us) vs
-proof-lines-go own [] h us vs s = s
-proof-lines-go own (l ∷ ls) h us vs s =
-    let rest = flat_map (line_tokens own) ls in
-    ap (λ (ts : List Tok). without_proofs (spell Start ts)) (append_assoc (line_tokens own l) rest us)
-    ∙ (proof-line-goes own l h.0).same (rest ++ us) vs (proof-lines-go own ls h.1 us vs s)
+module _ (known : Known) where
+  abbrev tokens_of : List Range → LineTree → List Tok
+  tokens_of own l = line_tokens_in (version_of known) own l
 
--- ---- the text
+  proof-line-goes : (own : List Range) (l : LineTree) → IsLineIn (version_of known) l → Goes (tokens_of own l)
+  proof-line-goes own (States rule t) h =
+      let rest = triple_rest own t in
+      let e : (rule_row rule ++ rest) ++ Eol ∷ [] ≡ tokens_of own (States rule t) =
+      append_assoc (rule_row rule) rest (Eol ∷ [])
+      ∙ append_assoc (rule_tokens rule) facts (rest ++ Eol ∷ [])
+      ∙ ap (λ (ts : List Tok). rule_tokens rule ++ (ts ++ Eol ∷ [])) (sym (triple-spelled own t)) in
+      let flat = flat-append (rule_row rule) rest (rule-flat rule h.0) (triple-flat own t h.1) in
+      let real = subst AreTokens (sym e) (line-is-tokens known own (States rule t) h) in
+      subst Goes e (row-goes (rule_row rule ++ rest) flat (rule-named rule rest) real)
+  proof-line-goes own (Loop def cited) h =
+      let parts : List (List Tok) = number def ∷ flat_map number cited ∷ [] in
+      line-goes (codes "loop") parts (number-flat def, (each-flat number number-flat cited, tt)) refl (line-is-tokens known own (Loop def cited) h)
+  proof-line-goes own (Forget k) h = line-goes (codes "forget") (number k ∷ []) (number-flat k, tt) refl (line-is-tokens known own (Forget k) h)
+  proof-line-goes own (Further p t) h =
+      let word = unwrap_or (version_of known).further [] in
+      let behind : List Tok = Atom (codes "facts") ∷ triple_rest own t in
+      let row : List Tok = Atom word ∷ Atom (decimal p) ∷ behind in
+      let e : row ++ Eol ∷ [] ≡ tokens_of own (Further p t) = ap (λ (ts : List Tok). Atom word ∷ Atom (decimal p) ∷ (ts ++ Eol ∷ [])) (sym (triple-spelled own t)) in
+      let flat = atom-flat word (Atom (decimal p) ∷ behind) (atom-flat (decimal p) behind (atom-flat (codes "facts") (triple_rest own t) (triple-flat own t h.2))) in
+      let real = subst AreTokens (sym e) (line-is-tokens known own (Further p t) h) in
+      subst Goes e (row-goes row flat (further-named known h.0 p behind) real)
 
--- behind the first line
-abbrev proofs_rest : List ProofTree → List Tok
-proofs_rest ps = flat_map proof_tokens ps ++ end_tokens
+  proof-lines-go : (own : List Range) (ls : List LineTree) → AllByRecursion (IsLineIn (version_of known)) ls
+      → (us vs : List Tok) → AreSame us vs → AreSame (flat_map (tokens_of own) ls ++ us) vs
+  proof-lines-go own [] h us vs s = s
+  proof-lines-go own (l ∷ ls) h us vs s =
+      let rest = flat_map (tokens_of own) ls in
+      ap (λ (ts : List Tok). without_proofs (spell Start ts)) (append_assoc (tokens_of own l) rest us)
+      ∙ (proof-line-goes own l h.0).same (rest ++ us) vs (proof-lines-go own ls h.1 us vs s)
 
-abbrev groups_rest : List ProofTree → List Tok
-groups_rest ps = flat_map group_tokens (groups_of ps) ++ end_tokens
+  -- ---- the text
 
-proofs-same : (ps : List ProofTree) → AreProofs ps → AreSame (proofs_rest ps) (groups_rest ps)
-proofs-same [] h = refl
-proofs-same (p ∷ ps) h =
-    let lines = flat_map (line_tokens p.group.code) p.lines in
-    let item_apart = append_assoc (proof_tokens p) (flat_map proof_tokens ps) end_tokens in
-    let lines_apart = append_assoc (group_tokens p.group) lines (proofs_rest ps) in
-    let group_apart = append_assoc (group_tokens p.group) (flat_map group_tokens (groups_of ps)) end_tokens in
-    let behind = proof-lines-go p.group.code p.lines h.0.lines (proofs_rest ps) (groups_rest ps) (proofs-same ps h.1) in
-    ap (λ (ts : List Tok). without_proofs (spell Start ts)) (item_apart ∙ lines_apart)
-    ∙ (group-stays p.group (group-tokens One p.group h.0.group)).same (lines ++ proofs_rest ps) (groups_rest ps) behind
-    ∙ ap (λ (ts : List Tok). lines_of (spell Start ts)) (sym group_apart)
+  -- behind the first line
+  abbrev proofs_rest : List ProofTree → List Tok
+  proofs_rest ps = flat_map (proof_tokens_in (version_of known)) ps ++ end_tokens
 
-head-stays : Stays head_tokens
-head-stays = line-stays (codes "mcproof") ((Atom (codes "1") ∷ []) ∷ []) (atom-flat (codes "1") [] tt, tt) refl (title-tokens One)
+  abbrev groups_rest : List ProofTree → List Tok
+  groups_rest ps = flat_map group_tokens (groups_of ps) ++ end_tokens
 
-pub groups-left : (ps : List ProofTree) → AreProofs ps → without_proofs (text_of_proofs ps) ≡ lines_of (text_of (groups_of ps))
-groups-left ps h = head-stays.same (proofs_rest ps) (groups_rest ps) (proofs-same ps h)
+  proofs-same : (ps : List ProofTree) → AreProofsIn (version_of known) ps → AreSame (proofs_rest ps) (groups_rest ps)
+  proofs-same [] h = refl
+  proofs-same (p ∷ ps) h =
+      let lines = flat_map (tokens_of p.group.code) p.lines in
+      let item_apart = append_assoc (proof_tokens_in (version_of known) p) (flat_map (proof_tokens_in (version_of known)) ps) end_tokens in
+      let lines_apart = append_assoc (group_tokens p.group) lines (proofs_rest ps) in
+      let group_apart = append_assoc (group_tokens p.group) (flat_map group_tokens (groups_of ps)) end_tokens in
+      let behind = proof-lines-go p.group.code p.lines h.0.lines (proofs_rest ps) (groups_rest ps) (proofs-same ps h.1) in
+      ap (λ (ts : List Tok). without_proofs (spell Start ts)) (item_apart ∙ lines_apart)
+      ∙ (group-stays p.group (group-tokens known p.group h.0.group)).same (lines ++ proofs_rest ps) (groups_rest ps) behind
+      ∙ ap (λ (ts : List Tok). lines_of (spell Start ts)) (sym group_apart)
 
-pub groups-fit : (ps : List ProofTree) → AreProofs ps → AreGroups (groups_of ps)
-groups-fit [] h = tt
-groups-fit (p ∷ ps) h = (h.0.group, groups-fit ps h.1)
+  title-stays : Stays (title_tokens (version_of known))
+  title-stays = line-stays (codes "mcproof") ((Atom (version_of known).title ∷ []) ∷ []) (atom-flat (version_of known).title [] tt, tt) refl (title-tokens known)
+
+  pub groups-left : (ps : List ProofTree) → AreProofsIn (version_of known) ps → without_proofs (text_of_proofs_in (version_of known) ps) ≡ lines_of (text_in (version_of known) (groups_of ps))
+  groups-left ps h = title-stays.same (proofs_rest ps) (groups_rest ps) (proofs-same ps h)
+
+  pub groups-fit : (ps : List ProofTree) → AreProofsIn (version_of known) ps → AreGroupsIn (version_of known) (groups_of ps)
+  groups-fit [] h = tt
+  groups-fit (p ∷ ps) h = (h.0.group, groups-fit ps h.1)

@@ -1,7 +1,7 @@
--- A file and names have one answer of `decompile` at most, but for how two entries are shown.
-use Rattle.std.proofs.Common.{◌≡◌, ℕ, zero, suc, ◌+◌, ◌<◌, ◌≤◌, nat_eq, ne_eqb, List, [], ◌∷◌, length, get_or, Some, Result, Ok, Err, false, eqb, refl, sym, ap, subst, ◌∙◌, ◌⊎◌, inl, inr, arith}
+-- A file and names have one answer of `decompile` and of `link` at most, but for how two entries are shown.
+use Rattle.std.proofs.Common.{◌≡◌, ℕ, zero, suc, ◌+◌, ◌<◌, ◌≤◌, nat_eq, ne_eqb, List, [], ◌∷◌, length, length-append, get_or, Some, Result, Ok, Err, false, eqb, refl, sym, ap, subst, ◌∙◌, ◌⊎◌, inl, inr, arith}
 use Rattle.std.specs.Prelude.{slice_get, unwrap_or}
-use Rattle.std.specs.List.{AllZip, Contains, range_with_len}
+use Rattle.std.specs.List.{AllZip, Contains, flat_map, range_with_len}
 use Rattle.std.proofs.lemmas.Cmp.{nat_eq_equiv}
 use Rattle.std.proofs.lemmas.List.FromFn.{get_or-range_with_len, length-range_with_len}
 use Rattle.std.proofs.lemmas.Map.Keys.{IsDistinct-from_apart}
@@ -31,8 +31,19 @@ use Rattle.code_parts.proofs.Lists.{here, later}
 use Rattle.decompiler.specs.Names.{StandsFor}
 use Rattle.decompiler.specs.Faults.{IsFirst, Missing, Doubled, InCode, InCycle, InLoop}
 use Rattle.decompiler.specs.Listing.{HasDefs, IsDefOf, IsItemFor}
-use Rattle.decompiler.specs.Listing.{IsRefused}
-use Rattle.mcdec_commands.specs.DecompileAnswer.{IsShownOnce, all_listed, listed_of}
+use Rattle.call_graph.specs.Causes.{HasOneForm, IsCause}
+use Rattle.call_graph.specs.declared.fault.LinkWhy.{LinkWhy}
+use Rattle.call_graph.specs.declared.fault.LinkWhy.TheVariants as link
+use Rattle.call_graph.proofs.OneCause.{one_cause}
+use Rattle.call_link.specs.Faults.{IsLinkFirst}
+use Rattle.call_link.specs.Faults as link_first
+use Rattle.mcdec_words.specs.declared.command.Form.{Form}
+use Rattle.mcdec_words.specs.declared.command.Form.TheVariants.{Alone, Linked}
+use Rattle.call_graph.specs.Functions.{AreFunctions}
+use Rattle.call_graph.specs.declared.function.Function.{Function}
+use Rattle.call_link.specs.Listing.{HaveDefs}
+use Rattle.mcdec_commands.specs.DecompileAnswer.{IsFaultIn, IsItemIn, IsRefusedIn, all_listed, listed_of}
+use Rattle.mcdec_commands.proofs.Weighing.{AreWeighed, one-total, sizes-once, total}
 
 -- ---- what a name stands for
 
@@ -142,17 +153,6 @@ listed-once file name i j h k =
     defs-long k.graph (group_tree i.group).defs (group_tree j.group).defs (subst (λ (x : GraphOf). HasDefs x (group_tree i.group).defs) g h.lists.defs) k.lists.defs in
     λ t. record { name = name; entry = unwrap_or (entry t) 0; reached = reached t; defs = defs t }
 
-pub all-listed-once : (file : List ℕ) (names : List (List ℕ)) (is js : List Item) → AllZip (IsItemFor file) names is → AllZip (IsItemFor file) names js → all_listed names is ≡ all_listed names js
-all-listed-once file [] [] [] h k = refl
-all-listed-once file [] [] (j ∷ js) h k = absurd k
-all-listed-once file [] (i ∷ is) js h k = absurd h
-all-listed-once file (n ∷ names) [] js h k = absurd h
-all-listed-once file (n ∷ names) (i ∷ is) [] h k = absurd k
-all-listed-once file (n ∷ names) (i ∷ is) (j ∷ js) h k =
-    let first = listed-once file n i j h.0 k.0 in
-    let rest = all-listed-once file names is js h.1 k.1 in
-    λ t. first t ∷ rest t
-
 -- ---- faults
 
 abbrev of_name : NameFault → Outside
@@ -163,7 +163,7 @@ abbrev ManyCase : Bytes → ℕ → Outside → Type 0
 ManyCase code e why = (g : GraphOf) × IsGraphOf false code e g × (a : ℕ) × IsMany g a × (why ≡ outside.ManyExits a)
 
 abbrev CycleCase : Bytes → ℕ → Outside → Type 0
-CycleCase code e why = (g : GraphOf) × IsGraphOf false code e g × TwoEntries (Next false code) e × (IsShownOnce why → ⊥)
+CycleCase code e why = (g : GraphOf) × IsGraphOf false code e g × TwoEntries (Next false code) e × (HasOneForm (link.Outside why) → ⊥)
 
 abbrev CodeCase : Bytes → ℕ → Outside → Type 0
 CodeCase code e why = IsFault false code e why ⊎ (ManyCase code e why ⊎ CycleCase code e why)
@@ -180,7 +180,7 @@ first-case file name _ (InCycle {e = e} {cycle = c} {first = p} {second = q} g h
     inr (e, h, inr (inr (g, is, record { cycle = c; first = p; second = q; shows = shows }, λ u. u)))
 first-case file name _ (InLoop {e = e} {a = a} g h is many) = inr (e, h, inr (inl (g, is, a, many, refl)))
 
-code-once : (code : Bytes) (e : ℕ) (why other : Outside) → IsShownOnce other → CodeCase code e why → CodeCase code e other → why ≡ other
+code-once : (code : Bytes) (e : ℕ) (why other : Outside) → HasOneForm (link.Outside other) → CodeCase code e why → CodeCase code e other → why ≡ other
 code-once code e why other u h (inr (inr k)) = absurd (k.3 u)
 code-once code e why other u (inl h) (inl k) = one_fault false code e why other h k
 code-once code e why other u (inl h) (inr (inl k)) = absurd (graph_or_fault false code e k.0 why k.1 h)
@@ -191,7 +191,7 @@ code-once code e why other u (inr (inl h)) (inr (inl k)) =
     h.4 ∙ ap outside.ManyExits (one_head k.0 h.2 k.2 (subst (λ (x : GraphOf). IsMany x h.2) gs h.3) k.3) ∙ sym k.4
 code-once code e why other u (inr (inr h)) (inr (inl k)) = absurd (k.3.one_entry (two_entries_back false code e k.0 k.1 h.2))
 
-cases-once : (file name : List ℕ) (why other : Outside) → IsShownOnce other → FirstCase file name why → FirstCase file name other → why ≡ other
+cases-once : (file name : List ℕ) (why other : Outside) → HasOneForm (link.Outside other) → FirstCase file name why → FirstCase file name other → why ≡ other
 cases-once file name why other u (inl h) (inl k) = h.2 ∙ ap of_name (err_is h.0 k.0 (stands-once file name (Err h.0) (Err k.0) h.1 k.1)) ∙ sym k.2
 cases-once file name why other u (inl h) (inr k) = absurd (ok_err k.0 h.0 (stands-once file name (Ok k.0) (Err h.0) k.1 h.1))
 cases-once file name why other u (inr h) (inl k) = absurd (ok_err h.0 k.0 (stands-once file name (Ok h.0) (Err k.0) h.1 k.1))
@@ -200,29 +200,112 @@ cases-once file name why other u (inr h) (inr k) =
     code-once (code_of_file file) k.0 why other u (subst (λ a. CodeCase (code_of_file file) a why) e h.2) k.2
 
 -- a fault that is shown in one way is the only one
-first-once : (file name : List ℕ) (why other : Outside) → IsShownOnce other → IsFirst file name why → IsFirst file name other → why ≡ other
+first-once : (file name : List ℕ) (why other : Outside) → HasOneForm (link.Outside other) → IsFirst file name why → IsFirst file name other → why ≡ other
 first-once file name why other u h k = cases-once file name why other u (first-case file name why h) (first-case file name other k)
+
+-- ---- functions by themselves, or with those that they call
+
+abbrev LinkCase : List ℕ → List ℕ → LinkWhy → Type 0
+LinkCase file name why = ((f : NameFault) × StandsFor file name (Err f) × (why ≡ link.Outside (of_name f))) ⊎ ((e : ℕ) × StandsFor file name (Ok e) × IsCause (code_of_file file) e why)
+
+link-case : (file name : List ℕ) (why : LinkWhy) → IsLinkFirst file name why → LinkCase file name why
+link-case file name _ (link_first.Missing h) = inl (name_fault.NoSuch, h, refl)
+link-case file name _ (link_first.Doubled {a = a} {b = b} h) = inl (name_fault.Ambiguous a b, h, refl)
+link-case file name why (link_first.InFunctions {e = e} h cause) = inr (e, h, cause)
+
+links-once : (file name : List ℕ) (why other : LinkWhy) → HasOneForm other → LinkCase file name why → LinkCase file name other → why ≡ other
+links-once file name why other u (inl h) (inl k) = h.2 ∙ ap (λ f. link.Outside (of_name f)) (err_is h.0 k.0 (stands-once file name (Err h.0) (Err k.0) h.1 k.1)) ∙ sym k.2
+links-once file name why other u (inl h) (inr k) = absurd (ok_err k.0 h.0 (stands-once file name (Ok k.0) (Err h.0) k.1 h.1))
+links-once file name why other u (inr h) (inl k) = absurd (ok_err h.0 k.0 (stands-once file name (Ok h.0) (Err k.0) h.1 k.1))
+links-once file name why other u (inr h) (inr k) =
+    let e : h.0 ≡ k.0 = same-value file name h.0 k.0 h.1 k.1 in
+    one_cause (code_of_file file) k.0 why other u (subst (λ a. IsCause (code_of_file file) a why) e h.2) k.2
+
+fault-once : (form : Form) (file name : List ℕ) (why other : LinkWhy) → HasOneForm other → IsFaultIn form file name why → IsFaultIn form file name other → why ≡ other
+fault-once Alone file name (link.Outside why) (link.Outside other) u h k = ap link.Outside (first-once file name why other u h k)
+fault-once Alone file name (link.Outside why) (link.Recursive b) u h k = absurd k
+fault-once Alone file name (link.Recursive a) other u h k = absurd h
+fault-once Linked file name why other u h k = links-once file name why other u (link-case file name why h) (link-case file name other k)
+
+item-inside : (form : Form) (file name : List ℕ) (i : Item) → IsItemIn form file name i → (why : LinkWhy) → IsFaultIn form file name why → ⊥
+item-inside Alone file name i h (link.Outside why) f = h.inside why f
+item-inside Alone file name i h (link.Recursive a) f = absurd f
+item-inside Linked file name i h why f = h.inside why f
+
+-- definitions of functions, as many as each has behind its entry
+abbrev counted : List Function → List (List DefTree) → List (ℕ × ℕ)
+counted (f ∷ fs) (r ∷ rs) = (f.entry, length r) ∷ counted fs rs
+counted _ _ = []
+
+abbrev IsDefCount : GraphOf → ℕ → Type 0
+IsDefCount g n = (row : List DefTree) × HasDefs g row × (n ≡ length row)
+
+one-count : (g : GraphOf) (n m : ℕ) → IsDefCount g n → IsDefCount g m → n ≡ m
+one-count g n m a b = a.2 ∙ defs-long g a.0 b.0 a.1 b.1 ∙ sym b.2
+
+are-counted : (code : Bytes) (e : ℕ) (fs : List Function) (rows : List (List DefTree)) → AllZip (λ f row. HasDefs f.graph row) fs rows → AreWeighed code e IsDefCount one-count fs (counted fs rows)
+are-counted code e [] [] h = tt
+are-counted code e [] (r ∷ rows) h = absurd h
+are-counted code e (f ∷ fs) [] h = absurd h
+are-counted code e (f ∷ fs) (r ∷ rows) h = ((refl, (r, h.0, refl)), are-counted code e fs rows h.1)
+
+count-all : (fs : List Function) (rows : List (List DefTree)) → AllZip (λ f row. HasDefs f.graph row) fs rows → length (flat_map (λ (row : List DefTree). row) rows) ≡ total (counted fs rows)
+count-all [] [] h = refl
+count-all [] (r ∷ rows) h = absurd h
+count-all (f ∷ fs) [] h = absurd h
+count-all (f ∷ fs) (r ∷ rows) h = length-append r (flat_map (λ (row : List DefTree). row) rows) ∙ ap (λ n. length r + n) (count-all fs rows h.1)
+
+linked-defs-long : (code : Bytes) (e : ℕ) (fs gs : List Function) (ds es : List DefTree) → AreFunctions code e fs → AreFunctions code e gs → HaveDefs fs ds → HaveDefs gs es → length ds ≡ length es
+linked-defs-long code e fs gs ds es are too h k =
+    ap length h.all ∙ count-all fs h.rows h.each
+    ∙ one-total code e IsDefCount one-count fs gs (counted fs h.rows) (counted gs k.rows) are too (are-counted code e fs h.rows h.each) (are-counted code e gs k.rows k.each)
+    ∙ sym (count-all gs k.rows k.each) ∙ sym (ap length k.all)
+
+told-once : (form : Form) (file name : List ℕ) (i j : Item) → IsItemIn form file name i → IsItemIn form file name j → listed_of name i ≡ listed_of name j
+told-once Alone file name i j h k = listed-once file name i j h k
+told-once Linked file name i j h k =
+    let code = code_of_file file in
+    let e : h.entry ≡ k.entry = same-value file name h.entry k.entry h.stands k.stands in
+    let are : AreFunctions code k.entry h.functions = subst (λ a. AreFunctions code a h.functions) e h.are in
+    let entry : entry_at (group_tree i.group) (listed_def (group_tree i.group)) ≡ entry_at (group_tree j.group) (listed_def (group_tree j.group)) = h.lists.entry ∙ ap Some e ∙ sym k.lists.entry in
+    let reached : i.reached ≡ j.reached = h.reached ∙ sizes-once code k.entry h.functions k.functions are k.are ∙ sym k.reached in
+    let defs : length (group_tree i.group).defs ≡ length (group_tree j.group).defs =
+    linked-defs-long code k.entry h.functions k.functions (group_tree i.group).defs (group_tree j.group).defs are k.are h.lists.defs k.lists.defs in
+    λ t. record { name = name; entry = unwrap_or (entry t) 0; reached = reached t; defs = defs t }
+
+-- what is told of items is told once
+pub all-told-once : (form : Form) (file : List ℕ) (names : List (List ℕ)) (is js : List Item)
+    → AllZip (IsItemIn form file) names is → AllZip (IsItemIn form file) names js → all_listed names is ≡ all_listed names js
+all-told-once form file [] [] [] h k = refl
+all-told-once form file [] [] (j ∷ js) h k = absurd k
+all-told-once form file [] (i ∷ is) js h k = absurd h
+all-told-once form file (n ∷ names) [] js h k = absurd h
+all-told-once form file (n ∷ names) (i ∷ is) [] h k = absurd k
+all-told-once form file (n ∷ names) (i ∷ is) (j ∷ js) h k =
+    let first = told-once form file n i j h.0 k.0 in
+    let rest = all-told-once form file names is js h.1 k.1 in
+    λ t. first t ∷ rest t
 
 -- ---- refusals
 
 -- an item for the name of that number
-pub item-there : (file : List ℕ) (names : List (List ℕ)) (is : List Item) → AllZip (IsItemFor file) names is → (n : ℕ) (name : List ℕ) → slice_get names n ≡ Some name → (i : Item) × IsItemFor file name i
-item-there file [] is h n name at = absurd (cc)
-item-there file (x ∷ names) [] h n name at = absurd h
-item-there file (x ∷ names) (i ∷ is) h zero name at = let same : x ≡ name = cc in (i, subst (λ y. IsItemFor file y i) same h.0)
-item-there file (x ∷ names) (i ∷ is) h (suc n) name at = item-there file names is h.1 n name at
+pub item-there : (form : Form) (file : List ℕ) (names : List (List ℕ)) (is : List Item) → AllZip (IsItemIn form file) names is → (n : ℕ) (name : List ℕ) → slice_get names n ≡ Some name → (i : Item) × IsItemIn form file name i
+item-there form file [] is h n name at = absurd (cc)
+item-there form file (x ∷ names) [] h n name at = absurd h
+item-there form file (x ∷ names) (i ∷ is) h zero name at = let same : x ≡ name = cc in (i, subst (λ y. IsItemIn form file y i) same h.0)
+item-there form file (x ∷ names) (i ∷ is) h (suc n) name at = item-there form file names is h.1 n name at
 
-module _ (file : List ℕ) (names : List (List ℕ)) where
+module _ (form : Form) (file : List ℕ) (names : List (List ℕ)) where
   -- names that all have items aren't refused
-  pub none-refused : (is : List Item) → AllZip (IsItemFor file) names is → (n : ℕ) (why : Outside) → IsRefused file names n why → ⊥
-  none-refused is h n why r = let i = item-there file names is h n r.name r.at in i.1.inside why r.first
+  pub none-refused : (is : List Item) → AllZip (IsItemIn form file) names is → (n : ℕ) (why : LinkWhy) → IsRefusedIn form file names n why → ⊥
+  none-refused is h n why r = let i = item-there form file names is h n r.name r.at in item-inside form file r.name i.0 i.1 why r.first
 
-  not-before : (n m : ℕ) (why other : Outside) → IsRefused file names n why → IsRefused file names m other → n < m → ⊥
-  not-before n m why other r s lt = let i = s.before n r.name lt r.at in i.1.inside why r.first
+  not-before : (n m : ℕ) (why other : LinkWhy) → IsRefusedIn form file names n why → IsRefusedIn form file names m other → n < m → ⊥
+  not-before n m why other r s lt = let i = s.before n r.name lt r.at in item-inside form file r.name i.0 i.1 why r.first
 
-  pub refused-once : (n m : ℕ) (why other : Outside) → IsShownOnce other → (r : IsRefused file names n why) → (s : IsRefused file names m other) → (n ≡ m) × (why ≡ other)
+  pub refused-once : (n m : ℕ) (why other : LinkWhy) → HasOneForm other → (r : IsRefusedIn form file names n why) → (s : IsRefusedIn form file names m other) → (n ≡ m) × (why ≡ other)
   refused-once n m why other u r s =
       let number : n ≡ m = omega (arith, not-before n m why other r s, not-before m n other why s r) in
       let some : Some r.name ≡ Some s.name = sym r.at ∙ ap (λ k. slice_get names k) number ∙ s.at in
       let name : r.name ≡ s.name = cc in
-      (number, first-once file s.name why other u (subst (λ x. IsFirst file x why) name r.first) s.first)
+      (number, fault-once form file s.name why other u (subst (λ x. IsFaultIn form file x why) name r.first) s.first)

@@ -4,6 +4,7 @@ use Rattle.mc_shelf.specs.Shelf.{Contents}
 use Rattle.mcdec_answers.specs.declared.answer.Answer.{Answer}
 use Rattle.mcdec_answers.specs.declared.answer.Answer.TheVariants as answer
 use Rattle.mcdec_answers.specs.declared.answer.SelfTestAnswer.{SelfTestAnswer}
+use Rattle.mcdec_words.specs.declared.command.Form.{Form}
 use Rattle.mcdec_words.specs.Command.{Arg, Check, Decompile, Eval, Laws, Run, SelfTest, Simplify, Smt, Words, inputs_of, output_of}
 use Rattle.mcdec_commands.specs.SelfTestAnswer.{SelfTestGives}
 use Rattle.mcdec_commands.specs.Answer.{Gives}
@@ -36,8 +37,8 @@ no-run f s u j args n k e = cc
 no-check : (f p : List ℕ) (n k : ℕ) → Check f p ≡ SelfTest n k → ⊥
 no-check f p n k e = cc
 
-no-decompile : (f o : List ℕ) (names : List (List ℕ)) (n k : ℕ) → Decompile f o names ≡ SelfTest n k → ⊥
-no-decompile f o names n k e = cc
+no-decompile : (form : Form) (f o : List ℕ) (names : List (List ℕ)) (n k : ℕ) → Decompile form f o names ≡ SelfTest n k → ⊥
+no-decompile form f o names n k e = cc
 
 no-simplify : (p m o : List ℕ) (n k : ℕ) → Simplify p m o ≡ SelfTest n k → ⊥
 no-simplify p m o n k e = cc
@@ -61,7 +62,7 @@ answers told ws rose wrote n k w answer.NoMemory h = inr refl
 answers told ws rose wrote n k w (answer.Eval a) (p, m, t, args, v, h) = absurd (no-eval p m t args n k (words-unique ws (Eval p m t args) (SelfTest n k) v w))
 answers told ws rose wrote n k w (answer.Run a) (f, s, u, j, args, v, h) = absurd (no-run f s u j args n k (words-unique ws (Run f s u j args) (SelfTest n k) v w))
 answers told ws rose wrote n k w (answer.Check a) (f, p, v, h) = absurd (no-check f p n k (words-unique ws (Check f p) (SelfTest n k) v w))
-answers told ws rose wrote n k w (answer.Decompile a) (f, o, names, v, h) = absurd (no-decompile f o names n k (words-unique ws (Decompile f o names) (SelfTest n k) v w))
+answers told ws rose wrote n k w (answer.Decompile a) (form, f, o, names, v, h) = absurd (no-decompile form f o names n k (words-unique ws (Decompile form f o names) (SelfTest n k) v w))
 answers told ws rose wrote n k w (answer.Simplify a) (p, m, o, v, h) = absurd (no-simplify p m o n k (words-unique ws (Simplify p m o) (SelfTest n k) v w))
 answers told ws rose wrote n k w (answer.Laws a) (p, c, v, h) = absurd (no-laws p c n k (words-unique ws (Laws p c) (SelfTest n k) v w))
 answers told ws rose wrote n k w (answer.Smt a) (p, m, d, o, v, h) = absurd (no-smt p m d o n k (words-unique ws (Smt p m d o) (SelfTest n k) v w))

@@ -2,7 +2,7 @@
 use Rattle.std.proofs.Common.{◌≡◌, ℕ, ◌≤◌, List, [], length, map, Option, Some, refl, sym, subst, inl, inr, arith}
 use Rattle.std.specs.Prelude.{IfSome}
 use Rattle.mc_shelf.specs.Shelf.{Contents, TellsName}
-use Rattle.tailrec_lang.specs.Tree.{GroupTree, def_tree, group_tree}
+use Rattle.tailrec_lang.specs.Tree.{GroupTree, def_tree}
 use Rattle.def_laws.specs.declared.cert.Cert.{Cert}
 use Rattle.def_laws.specs.Certs.{IsCertOf}
 use Rattle.def_laws.specs.Evaluation.{EvaluateAlike}

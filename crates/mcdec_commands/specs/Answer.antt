@@ -4,6 +4,7 @@ use Rattle.mc_shelf.specs.Shelf.{Contents, TellsName}
 use Rattle.mcdec_answers.specs.declared.answer.Answer.{Answer}
 use Rattle.mcdec_answers.specs.declared.answer.Answer.TheVariants as answer
 use Rattle.mcdec_words.specs.Command.{Command, Eval, Run, Check, Decompile, SelfTest, Simplify, Laws, Smt, Arg, Words, IsNoCommand, inputs_of, output_of}
+use Rattle.mcdec_words.specs.declared.command.Form.{Form}
 use Rattle.mcdec_commands.specs.Held.{HoldsWith}
 use Rattle.mcdec_commands.specs.EvalAnswer.{EvalGives}
 use Rattle.mcdec_commands.specs.CheckAnswer.{CheckGives}
@@ -37,7 +38,7 @@ Gives told ws rose wrote (answer.Run a) =
     × HoldsWith told elf (λ file. RunGives file start until steps args a)
 Gives told ws rose wrote (answer.Check a) = (elf proof : List ℕ) × Words ws (Check elf proof) × HoldsWith told elf (λ file. CheckGives told proof file a)
 Gives told ws rose wrote (answer.Decompile a) =
-    (elf out : List ℕ) × (names : List (List ℕ)) × Words ws (Decompile elf out names) × HoldsWith told elf (λ file. DecompileGives file names a)
+    (form : Form) × (elf out : List ℕ) × (names : List (List ℕ)) × Words ws (Decompile form elf out names) × HoldsWith told elf (λ file. DecompileGives form file names a)
 Gives told ws rose wrote (answer.SelfTest a) = (number size : ℕ) × Words ws (SelfTest number size) × SelfTestGives number size a
 Gives told ws rose wrote (answer.Simplify a) =
     (proof name out : List ℕ) × Words ws (Simplify proof name out) × HoldsWith told proof (λ file. SimplifyGives file name a)

@@ -1,16 +1,23 @@
--- When each answer to `decompile` comes, and what text it writes.
+-- When each answer to `decompile` and `link` comes, and what text they write.
 use Rattle.std.specs.Prelude.{◌≡◌, ℕ, ◌<◌, ◌≤◌, List, [], ◌∷◌, length, slice_get, Some, unwrap_or}
+use Rattle.std.specs.List.{AllZip}
 use Rattle.mc_shelf.specs.Shelf.{Contents}
 use Rattle.elf_image.specs.Fault.{fault_of}
-use Rattle.flow_graph.specs.declared.outside.Outside.{Outside}
-use Rattle.flow_graph.specs.declared.outside.Outside.TheVariants.{TwoEntries}
+use Rattle.call_graph.specs.Causes.{HasOneForm}
 use Rattle.tailrec_lang.specs.Tree.{group_tree, listed_def}
-use Rattle.proof_text.specs.Proofs.{text_of_proofs}
+use Rattle.group_text.specs.Version.{Version, version_1, version_3}
+use Rattle.proof_text.specs.Proofs.{text_of_proofs_in}
+use Rattle.mcdec_words.specs.declared.command.Form.{Form}
+use Rattle.mcdec_words.specs.declared.command.Form.TheVariants.{Alone, Linked}
+use Rattle.call_graph.specs.declared.fault.LinkWhy.{LinkWhy}
+use Rattle.call_graph.specs.declared.fault.LinkWhy.TheVariants as link
 use Rattle.checker.specs.Headline.{entry_at}
 use Rattle.path_walk.specs.declared.item.Item.{Item}
 use Rattle.path_walk.specs.declared.proof.Proof.{Proof}
-use Rattle.decompiler.specs.Listing.{AreItemsFor, proofs_of}
-use Rattle.decompiler.specs.Listing.{IsRefused}
+use Rattle.decompiler.specs.Faults.{IsFirst}
+use Rattle.decompiler.specs.Listing.{IsFirstWith, IsItemFor, proofs_of}
+use Rattle.call_link.specs.Faults.{IsLinkFirst}
+use Rattle.call_link.specs.Listing.{IsLinkedItemFor}
 use Rattle.mcdec_answers.specs.declared.answer.DecompileAnswer.{DecompileAnswer}
 use Rattle.mcdec_answers.specs.declared.answer.DecompileAnswer.TheVariants as answer
 use Rattle.mcdec_answers.specs.declared.answer.Listed.{Listed}
@@ -31,32 +38,54 @@ all_listed [] items = []
 all_listed (name ∷ names) [] = []
 all_listed (name ∷ names) (item ∷ items) = listed_of name item ∷ all_listed names items
 
--- What `decompile` comes to, where the ELF file has these bytes.
-abbrev pub DecompileGives : (file : List ℕ) (names : List (List ℕ)) → DecompileAnswer → Type 0
-DecompileGives file names answer.OverLimit = elf_limit < length file
-DecompileGives file names (answer.Unreadable why) = (length file ≤ elf_limit) × (fault_of file ≡ Some why)
-DecompileGives file names (answer.Refused name why) = IsLoaded file × (number : ℕ) × (slice_get names number ≡ Some name) × IsRefused file names number why
-DecompileGives file names (answer.Decompiled listed) = IsLoaded file × (proof : Proof) × AreItemsFor file names proof × (listed ≡ all_listed names proof.items)
+-- ---- functions by themselves, or with those that they call
 
--- A fault that is shown in one way. Two entries may be shown by several cycles and walks.
-abbrev pub IsShownOnce : Outside → Type 0
-IsShownOnce (TwoEntries cycle first second) = ⊥
-IsShownOnce _ = Unit {0}
+-- the item of a name
+abbrev pub IsItemIn : Form → (file name : List ℕ) → Item → Type 0
+IsItemIn Alone file name item = IsItemFor file name item
+IsItemIn Linked file name item = IsLinkedItemFor file name item
 
+abbrev pub AreItemsIn : Form → (file : List ℕ) (names : List (List ℕ)) → Proof → Type 0
+AreItemsIn form file names p = AllZip (IsItemIn form file) names p.items
+
+-- the first fault of a name
+abbrev pub IsFaultIn : Form → (file name : List ℕ) → LinkWhy → Type 0
+IsFaultIn Alone file name (link.Outside why) = IsFirst file name why
+IsFaultIn Alone file name (link.Recursive a) = ⊥
+IsFaultIn Linked file name why = IsLinkFirst file name why
+
+-- the first of the names with a fault
+abbrev pub IsRefusedIn : Form → (file : List ℕ) (names : List (List ℕ)) → ℕ → LinkWhy → Type 0
+IsRefusedIn form file names number why = IsFirstWith LinkWhy (IsFaultIn form file) (λ name. (item : Item) × IsItemIn form file name item) names number why
+
+-- the version of the text that is written
+abbrev pub version_in : Form → Version
+version_in Alone = version_1
+version_in Linked = version_3
+
+-- What the command comes to, where the ELF file has these bytes.
+abbrev pub DecompileGives : Form → (file : List ℕ) (names : List (List ℕ)) → DecompileAnswer → Type 0
+DecompileGives form file names answer.OverLimit = elf_limit < length file
+DecompileGives form file names (answer.Unreadable why) = (length file ≤ elf_limit) × (fault_of file ≡ Some why)
+DecompileGives form file names (answer.Refused name why) = IsLoaded file × (number : ℕ) × (slice_get names number ≡ Some name) × IsRefusedIn form file names number why
+DecompileGives form file names (answer.Decompiled told listed) =
+    (told ≡ form) × IsLoaded file × (proof : Proof) × AreItemsIn form file names proof × (listed ≡ all_listed names proof.items)
+
+-- What is told in one way alone. Two entries may be shown by several cycles and walks.
 abbrev pub IsToldOnce : DecompileAnswer → Type 0
 IsToldOnce answer.OverLimit = Unit {0}
 IsToldOnce (answer.Unreadable why) = Unit {0}
-IsToldOnce (answer.Refused name why) = IsShownOnce why
-IsToldOnce (answer.Decompiled listed) = Unit {0}
+IsToldOnce (answer.Refused name why) = HasOneForm why
+IsToldOnce (answer.Decompiled form listed) = Unit {0}
 
 -- ---- the text that it writes
 
 -- The text of proofs with an item for each name, where the name ELF holds a file: each item is accepted for the file, lists what it should,
 -- and is exact.
-pub record IsTextFor (files : Contents) (elf : List ℕ) (names : List (List ℕ)) (text : List ℕ) : Type 0 where
+pub record IsTextFor (form : Form) (files : Contents) (elf : List ℕ) (names : List (List ℕ)) (text : List ℕ) : Type 0 where
   pub file : List ℕ
   pub holds : files elf ≡ Some file
   pub loaded : IsLoaded file
   pub proof : Proof
-  pub items : AreItemsFor file names proof
-  pub spelled : text ≡ text_of_proofs (proofs_of proof)
+  pub items : AreItemsIn form file names proof
+  pub spelled : text ≡ text_of_proofs_in (version_in form) (proofs_of proof)

@@ -8,9 +8,11 @@ use Rattle.tailrec_lang.specs.Tree.{GroupTree, listed_def}
 use Rattle.tailrec_lang.specs.WellFormed.{IsWellFormed, IsFirstIllFormed}
 use Rattle.tailrec_lang.specs.Eval.{Arguments, Done, SideFalse, Turns, eval}
 use Rattle.proof_text.specs.Line.{ProofTree}
-use Rattle.proof_text.specs.Proofs.{bare, groups_of, texts_of_proofs}
-use Rattle.proof_text.specs.FirstProofs.{AreRead}
-use Rattle.checker.specs.Verdicts.{IsTextOf}
+use Rattle.group_text.specs.Version.{Version}
+use Rattle.proof_text.specs.Proofs.{bare, groups_of, texts_of_proofs_in}
+use Rattle.proof_text.specs.FirstProofs.{AreReadIn}
+use Rattle.checker.specs.Verdicts.{IsTextOfIn}
+use Rattle.text_versions.specs.Versions.{version_for}
 use Rattle.mcdec_answers.specs.declared.answer.EvalAnswer.{EvalAnswer}
 use Rattle.mcdec_answers.specs.declared.answer.EvalAnswer.TheVariants as answer
 use Rattle.mcdec_answers.specs.declared.answer.Shown.{Shown}
@@ -44,21 +46,34 @@ first_named name gs = find (λ g. bytes_eq g.name name) gs
 abbrev pub AreWellFormed : List GroupTree → Type 0
 AreWellFormed gs = AllByRecursion IsWellFormed gs
 
+-- ---- what is found in a text of that version
+
 -- the text is that of groups with the lines of their proofs, all groups are well-formed, and this is the first of the name, if any
-pub record IsNamed (text name : List ℕ) (found : Option GroupTree) : Type 0 where
+pub record IsNamedIn (v : Version) (text name : List ℕ) (found : Option GroupTree) : Type 0 where
   pub proofs : List ProofTree
-  pub spelled : IsTextOf text proofs
+  pub spelled : IsTextOfIn v text proofs
   pub well_formed : AreWellFormed (groups_of proofs)
   pub first : first_named name (groups_of proofs) ≡ found
 
 -- the text isn't one of groups with the lines of proofs, from this line on, and the groups before it are well-formed
-abbrev pub HasBadLine : (text : List ℕ) (line : ℕ) → Type 0
-HasBadLine text line = IsBadAt texts_of_proofs text line × ((ps : List ProofTree) → AreRead text ps → AreWellFormed (groups_of ps))
+abbrev pub HasBadLineIn : (v : Version) (text : List ℕ) (line : ℕ) → Type 0
+HasBadLineIn v text line = IsBadAt (texts_of_proofs_in v) text line × ((ps : List ProofTree) → AreReadIn v text ps → AreWellFormed (groups_of ps))
 
 -- this definition of the group of that number is the text's first that isn't well-formed
+abbrev pub HasBadDefIn : (v : Version) (text : List ℕ) (group def : ℕ) → Type 0
+HasBadDefIn v text group def =
+    (ps : List ProofTree) × (g : GroupTree) × AreReadIn v text (ps ++ bare g ∷ []) × AreWellFormed (groups_of ps) × (group ≡ length ps) × IsFirstIllFormed g def
+
+-- ---- in the version that the text's first line names
+
+abbrev pub IsNamed : (text name : List ℕ) → Option GroupTree → Type 0
+IsNamed text name found = IsNamedIn (version_for text) text name found
+
+abbrev pub HasBadLine : (text : List ℕ) (line : ℕ) → Type 0
+HasBadLine text line = HasBadLineIn (version_for text) text line
+
 abbrev pub HasBadDef : (text : List ℕ) (group def : ℕ) → Type 0
-HasBadDef text group def =
-    (ps : List ProofTree) × (g : GroupTree) × AreRead text (ps ++ bare g ∷ []) × AreWellFormed (groups_of ps) × (group ≡ length ps) × IsFirstIllFormed g def
+HasBadDef text group def = HasBadDefIn (version_for text) text group def
 
 -- What `eval` of a name comes to, where the proof file has these bytes. Lines of proofs are read, and not judged. A group is judged
 -- when its definitions are read: one that isn't well-formed is told before a bad line behind them, and after one among them.

@@ -8,7 +8,8 @@ use Rattle.tailrec_lang.specs.Tree.{DefTree, GroupTree}
 use Rattle.group_text.specs.Spelling.{group_tokens}
 use Rattle.proof_text.specs.Line.{ProofTree}
 use Rattle.proof_text.specs.Proofs.{groups_of}
-use Rattle.checker.specs.Verdicts.{IsTextOf}
+use Rattle.checker.specs.Verdicts.{IsTextOfIn}
+use Rattle.text_versions.specs.Versions.{version_for}
 use Rattle.def_laws.specs.Rewriting.{AreRewritingSteps}
 use Rattle.def_laws.specs.Certs.{IsFirstBad}
 use Rattle.def_laws.specs.Evaluation.{EvaluateAlike}
@@ -25,7 +26,7 @@ cert_limit = 268435456
 
 -- the text is that of well-formed groups with the lines of their proofs
 abbrev pub HasGroups : List ℕ → Type 0
-HasGroups text = (ps : List ProofTree) × IsTextOf text ps × AreWellFormed (groups_of ps)
+HasGroups text = (ps : List ProofTree) × IsTextOfIn (version_for text) text ps × AreWellFormed (groups_of ps)
 
 abbrev pub IsCertText : List ℕ → CertTree → Type 0
 IsCertText text c = IsCert c × (text ≡ cert_text c)

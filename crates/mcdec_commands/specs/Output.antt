@@ -8,7 +8,7 @@ use Rattle.mcdec_commands.specs.SmtAnswer.{IsScriptFor}
 
 -- the texts that a command may write, where the names hold these files
 abbrev pub IsOutput : Contents → Command → List ℕ → Type 0
-IsOutput files (Decompile elf out names) = IsTextFor files elf names
+IsOutput files (Decompile form elf out names) = IsTextFor form files elf names
 IsOutput files (Simplify proof name out) = IsCertFor files proof name
 IsOutput files (Smt proof name def out) = IsScriptFor files proof name def
 IsOutput files other = λ text. ⊥

@@ -1,7 +1,6 @@
 //! The command `check`.
 
 ghost use Rattle.std.specs.Prelude.{◌≡◌, ℕ, ◌≤◌, List};
-ghost use Rattle.elf_image.specs.Image.{image_of};
 ghost use Rattle.mc_shelf.specs.Fault.{Rose};
 ghost use Rattle.mcdec_commands.specs.Answer.{Gives, ReadsAreTold};
 ghost use Rattle.mcdec_words.specs.CommandReading.{IsReadCheck};
@@ -10,12 +9,13 @@ ghost use Rattle.mcdec_commands.specs.RunAnswer.{IsLoaded};
 
 use crate::eval::PROOF_LIMIT;
 use crate::run::ELF_LIMIT;
-use checker::{Verdict, check_text};
-use elf_image::{ElfFault, Image, read};
+use checker::Verdict;
+use elf_image::{ElfFault, read};
 use mc_shelf::{ReadEnd, Shelf, read_file};
 use mcdec_answers::{Answer, CheckAnswer};
 use mcdec_words::Check;
 use std::alloc::Global;
+use text_versions::check_named;
 
 /// The answer to `check`.
 pub fn answer_check<S: Shelf>(alloc: Global, c: &Check<'_>, shelf: &mut S) -> Answer
@@ -34,16 +34,19 @@ pub fn answer_check<S: Shelf>(alloc: Global, c: &Check<'_>, shelf: &mut S) -> An
         Err(ReadEnd::NoMemory) => return Answer::NoMemory,
     };
     match read(alloc, file.as_slice()) {
-        Ok(image) => check_image(alloc, &image, c, shelf),
+        Ok(image) => {
+            drop(image);
+            check_file(alloc, file.as_slice(), c, shelf)
+        }
         Err(ElfFault::NoMemory) => Answer::NoMemory,
         Err(why) => Answer::Check(CheckAnswer::Judged(Verdict::BadElf(why))),
     }
 }
 
-/// The answer to `check` where the ELF file put this into memory.
-fn check_image<S: Shelf>(alloc: Global, image: &Image, c: &Check<'_>, shelf: &mut S) -> Answer
-    ensures gives { (file : List ℕ) → IsLoaded file → image.now ≡ image_of file
-        → ImageGives (S.contents shelf.old) c.now.proof.now file (Rose (S.read_faults shelf.old) (S.read_faults shelf.new)) result }
+/// The answer to `check` where the ELF file has these bytes, which can be read. They are read again with the text.
+fn check_file<S: Shelf>(alloc: Global, file: &[u8], c: &Check<'_>, shelf: &mut S) -> Answer
+    requires { IsLoaded file.now }
+    ensures gives { ImageGives (S.contents shelf.old) c.now.proof.now file.now (Rose (S.read_faults shelf.old) (S.read_faults shelf.new)) result }
 
     ensures kept { S.contents shelf.new ≡ S.contents shelf.old }
     ensures counted { (S.read_faults shelf.old ≤ S.read_faults shelf.new) × (S.write_faults shelf.old ≤ S.write_faults shelf.new) }
@@ -56,7 +59,7 @@ fn check_image<S: Shelf>(alloc: Global, image: &Image, c: &Check<'_>, shelf: &mu
         Err(ReadEnd::TooLong) => return Answer::Check(CheckAnswer::ProofOverLimit),
         Err(ReadEnd::NoMemory) => return Answer::NoMemory,
     };
-    answer_to(check_text(alloc, image, text.as_slice()))
+    answer_to(check_named(alloc, file, text.as_slice()))
 }
 
 /// The answer that a verdict is.

@@ -1,38 +1,37 @@
-//! The command `decompile`.
+//! The commands `decompile` and `link`.
 
-ghost use Rattle.std.specs.Prelude.{◌≡◌, ◌<◌, ◌≤◌, ℕ, All, IfOk, IfSome, List as Items, Some, length};
+ghost use Rattle.std.specs.Prelude.{◌≡◌, ◌<◌, ◌≤◌, ℕ, All, IfErr, IfOk, IfSome, List as Items, Some, length};
 ghost use Rattle.elf_image.specs.Image.{image_of};
 ghost use Rattle.mc_shelf.specs.Fault.{Rose, WhereTold};
 ghost use Rattle.group_text.specs.Limits.{IsName};
-ghost use Rattle.proof_text.specs.Proofs.{AreProofs};
-ghost use Rattle.decompiler.specs.Listing.{AreItemsFor, proofs_of};
-ghost use Rattle.decompiler.specs.Listing.{IsRefused};
+ghost use Rattle.proof_text.specs.Proofs.{AreProofsIn, text_of_proofs_in};
+ghost use Rattle.decompiler.specs.Listing.{proofs_of};
 ghost use Rattle.mcdec_commands.specs.Answer.{Gives, ReadsAreTold};
-ghost use Rattle.mcdec_commands.specs.DecompileAnswer.{IsTextFor, all_listed, listed_of};
+ghost use Rattle.mcdec_commands.specs.DecompileAnswer.{AreItemsIn, IsRefusedIn, IsTextFor, all_listed, listed_of, version_in};
 ghost use Rattle.mcdec_answers.specs.Printed.{status};
 ghost use Rattle.mcdec_commands.specs.RunAnswer.{IsLoaded};
 ghost use Rattle.mcdec_words.specs.CommandReading.{IsReadDecompile};
-ghost use Rattle.mcdec_commands.specs.inner.Decompiling.{FileGives, HasDef};
+ghost use Rattle.mcdec_commands.specs.inner.Decompiling.{FileGives, HasDef, IsNoProofIn};
 ghost use Rattle.mcdec_commands.specs.inner.Writing.{IsTold, WritesOut};
 
 use crate::output::write_answer;
 use crate::run::ELF_LIMIT;
+use call_link::{LinkFault, LinkWhy, law_of_linked_items, link, linked_bytes};
 use decompiler::{DecompileFault, Item, Proof, decompile, entry_of, law_of_items, proof_bytes};
 use elf_image::{ElfFault, Image, read};
-use flow_graph::Outside;
 use mc_shelf::{ReadEnd, Shelf, read_file};
 use mcdec_answers::{Answer, DecompileAnswer, Listed};
-use mcdec_words::Decompile;
-use rv_words::{List, NoMemory, Text};
+use mcdec_words::{Decompile, Form};
+use rv_words::{Bytes, List, NoMemory, Text};
 use std::alloc::Global;
 
-/// The answer to `decompile`.
+/// The answer to `decompile` or `link`.
 pub fn answer_decompile<S: Shelf>(alloc: Global, d: &Decompile<'_>, shelf: &mut S) -> Answer
     requires { All IsName d.now.names }
     ensures gives { (ws : Items (Items ℕ)) → IsReadDecompile ws d.now
         → Gives (S.contents shelf.old) ws (Rose (S.read_faults shelf.old) (S.read_faults shelf.new)) (Rose (S.write_faults shelf.old) (S.write_faults shelf.new)) result }
 
-    ensures written { WhereTold (S.contents shelf.old) (S.contents shelf.new) (WritesOut (λ files. IsTextFor files d.now.elf.now d.now.names) d.now.out.now result) }
+    ensures written { WhereTold (S.contents shelf.old) (S.contents shelf.new) (WritesOut (λ files. IsTextFor d.now.form files d.now.elf.now d.now.names) d.now.out.now result) }
     ensures counted { (S.read_faults shelf.old ≤ S.read_faults shelf.new) × (S.write_faults shelf.old ≤ S.write_faults shelf.new) }
     ensures cause { status result ≡ 5 → Rose (S.write_faults shelf.old) (S.write_faults shelf.new) }
     ensures sure { (ws : Items (Items ℕ)) → IsReadDecompile ws d.now → S.IsSure shelf.old → ReadsAreTold (S.contents shelf.old) ws
@@ -51,7 +50,7 @@ pub fn answer_decompile<S: Shelf>(alloc: Global, d: &Decompile<'_>, shelf: &mut 
     }
 }
 
-/// The answer to `decompile` where the ELF file put this into memory.
+/// The answer where the ELF file put this into memory.
 fn decompile_image<S: Shelf>(
     alloc: Global,
     image: &Image,
@@ -60,29 +59,50 @@ fn decompile_image<S: Shelf>(
 ) -> Answer
     requires names { All IsName d.now.names }
     requires image { (file : Items ℕ) × IsLoaded file × (image.now ≡ image_of file) }
-    ensures gives { (file : Items ℕ) → IsLoaded file → image.now ≡ image_of file → FileGives file d.now.names result }
+    ensures gives { (file : Items ℕ) → IsLoaded file → image.now ≡ image_of file → FileGives d.now.form file d.now.names result }
 
     ensures written { (file : Items ℕ) → IsLoaded file → image.now ≡ image_of file → IfSome (S.contents shelf.old) (λ files. files d.now.elf.now ≡ Some file)
-        → WhereTold (S.contents shelf.old) (S.contents shelf.new) (WritesOut (λ files. IsTextFor files d.now.elf.now d.now.names) d.now.out.now result) }
+        → WhereTold (S.contents shelf.old) (S.contents shelf.new) (WritesOut (λ files. IsTextFor d.now.form files d.now.elf.now d.now.names) d.now.out.now result) }
     ensures reads { S.read_faults shelf.new ≡ S.read_faults shelf.old }
     ensures counted { S.write_faults shelf.old ≤ S.write_faults shelf.new }
     ensures cause { status result ≡ 5 → Rose (S.write_faults shelf.old) (S.write_faults shelf.new) }
     ensures sure { S.IsSure shelf.old → IsTold (S.contents shelf.old) → S.write_faults shelf.new ≡ S.write_faults shelf.old }
 {
-    law_of_items();
-    match decompile(alloc, image, &d.names) {
+    match proof_of_names(alloc, image, d) {
         Ok(proof) => write_proof(alloc, &proof, d, shelf),
-        Err(DecompileFault::Refused { name, why }) => {
-            refuse(alloc, d.names.as_slice(), name, why)
+        Err(LinkFault::Refused { name, why }) => {
+            refuse(alloc, d.form, d.names.as_slice(), name, why)
         }
-        Err(DecompileFault::NoMemory) => Answer::NoMemory,
+        Err(LinkFault::NoMemory) => Answer::NoMemory,
     }
 }
 
-/// The answer where the name of that number is outside the fragment.
-fn refuse(alloc: Global, names: &[Text], number: u64, why: Outside) -> Answer
+/// The items of the names: of each function by itself, or with those that it calls.
+fn proof_of_names(alloc: Global, image: &Image, d: &Decompile<'_>) -> Result<Proof, LinkFault>
+    requires names { All IsName d.now.names }
+    ensures items { (file : Items ℕ) → image.now ≡ image_of file → IfOk result (AreItemsIn d.now.form file d.now.names) }
+    ensures refused { (file : Items ℕ) → image.now ≡ image_of file → IfErr result (IsNoProofIn d.now.form file d.now.names) }
+    ensures text { (file : Items ℕ) → image.now ≡ image_of file → IfOk result (λ proof. AreProofsIn (version_in d.now.form) (proofs_of proof)) }
+{
+    law_of_items();
+    law_of_linked_items();
+    match d.form {
+        Form::Alone => match decompile(alloc, image, &d.names) {
+            Ok(proof) => Ok(proof),
+            Err(DecompileFault::Refused { name, why }) => Err(LinkFault::Refused {
+                name,
+                why: LinkWhy::Outside(why),
+            }),
+            Err(DecompileFault::NoMemory) => Err(LinkFault::NoMemory),
+        },
+        Form::Linked => link(alloc, image, &d.names),
+    }
+}
+
+/// The answer where the name of that number has this fault.
+fn refuse(alloc: Global, form: Form, names: &[Text], number: u64, why: LinkWhy) -> Answer
     requires { number < length names.now }
-    ensures gives { (file : Items ℕ) → IsLoaded file → IsRefused file names.now number why → FileGives file names.now result }
+    ensures gives { (file : Items ℕ) → IsLoaded file → IsRefusedIn form file names.now number why → FileGives form file names.now result }
     ensures refused { status result ≡ 0 → ⊥ }
     ensures no_fault { status result ≡ 5 → ⊥ }
 {
@@ -94,11 +114,11 @@ fn refuse(alloc: Global, names: &[Text], number: u64, why: Outside) -> Answer
 
 /// Writes the text of a proof into the output file. All that takes memory is made before that.
 fn write_proof<S: Shelf>(alloc: Global, proof: &Proof, d: &Decompile<'_>, shelf: &mut S) -> Answer
-    requires { AreProofs (proofs_of proof.now) }
-    ensures gives { (file : Items ℕ) → IsLoaded file → AreItemsFor file d.now.names proof.now → FileGives file d.now.names result }
+    requires { AreProofsIn (version_in d.now.form) (proofs_of proof.now) }
+    ensures gives { (file : Items ℕ) → IsLoaded file → AreItemsIn d.now.form file d.now.names proof.now → FileGives d.now.form file d.now.names result }
 
-    ensures written { (file : Items ℕ) → IsLoaded file → AreItemsFor file d.now.names proof.now → IfSome (S.contents shelf.old) (λ files. files d.now.elf.now ≡ Some file)
-        → WhereTold (S.contents shelf.old) (S.contents shelf.new) (WritesOut (λ files. IsTextFor files d.now.elf.now d.now.names) d.now.out.now result) }
+    ensures written { (file : Items ℕ) → IsLoaded file → AreItemsIn d.now.form file d.now.names proof.now → IfSome (S.contents shelf.old) (λ files. files d.now.elf.now ≡ Some file)
+        → WhereTold (S.contents shelf.old) (S.contents shelf.new) (WritesOut (λ files. IsTextFor d.now.form files d.now.elf.now d.now.names) d.now.out.now result) }
     ensures reads { S.read_faults shelf.new ≡ S.read_faults shelf.old }
     ensures counted { S.write_faults shelf.old ≤ S.write_faults shelf.new }
     ensures cause { status result ≡ 5 → Rose (S.write_faults shelf.old) (S.write_faults shelf.new) }
@@ -107,11 +127,22 @@ fn write_proof<S: Shelf>(alloc: Global, proof: &Proof, d: &Decompile<'_>, shelf:
     let Ok(listed) = list_all(alloc, d.names.as_slice(), proof.items.as_slice()) else {
         return Answer::NoMemory;
     };
-    let Ok(text) = proof_bytes(alloc, proof) else {
+    let Ok(text) = text_of_proof(alloc, d.form, proof) else {
         return Answer::NoMemory;
     };
-    let told = Answer::Decompile(DecompileAnswer::Decompiled(listed));
+    let told = Answer::Decompile(DecompileAnswer::Decompiled(d.form, listed));
     write_answer(shelf, d.out, text.as_slice(), told)
+}
+
+/// The text of a proof, in the version that has functions by themselves, or those with the ones that they call.
+fn text_of_proof(alloc: Global, form: Form, proof: &Proof) -> Result<Bytes, NoMemory>
+    requires { AreProofsIn (version_in form) (proofs_of proof.now) }
+    ensures { IfOk result (λ text. text ≡ text_of_proofs_in (version_in form) (proofs_of proof.now)) }
+{
+    match form {
+        Form::Alone => proof_bytes(alloc, proof),
+        Form::Linked => linked_bytes(alloc, proof),
+    }
 }
 
 /// What is told of each name with its item.

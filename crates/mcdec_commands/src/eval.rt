@@ -22,6 +22,7 @@ use proof_text::{Line, Reader, TextFault};
 use rv_words::{List, NoMemory};
 use std::alloc::Global;
 use tailrec_lang::{Args, BadDef, Group, Outcome, eval, well_formed};
+use text_versions::reader_of;
 
 /// The most bytes of a proof file that are read.
 pub const PROOF_LIMIT: u64 = 268_435_456;
@@ -82,7 +83,7 @@ fn evaluate_text(alloc: Global, text: &[u8], e: &Eval<'_>) -> Result<EvalAnswer,
 pub fn find_group(alloc: Global, text: &[u8], name: &[u8]) -> Result<Group, Refusal>
     ensures { Finds text.now name.now result }
 {
-    let mut reader = Reader::new(text);
+    let mut reader = reader_of(text);
     find_in(alloc, &mut reader, name)
 }
 

@@ -4,6 +4,7 @@ use Rattle.std.specs.Fmt.{decimal}
 use Rattle.mc_text.specs.Number.{hex}
 use Rattle.mc_text.proofs.OneSpelling.{decimal-once, hex-once}
 use Rattle.mcdec_words.specs.Command.{Command, Eval, Run, Check, Decompile, SelfTest, Simplify, Laws, Smt, Arg, Words, arg_word}
+use Rattle.mcdec_words.specs.declared.command.Form.{Form}
 use Rattle.mcdec_words.proofs.ArgWords.{args-unique}
 use Rattle.mcdec_words.proofs.CommandNames.{is-check, is-decompile, is-eval, is-laws, is-run, is-simplify, is-smt, is-test, same-name, same-operands}
 
@@ -40,13 +41,14 @@ checks-once ws e p f q a b =
     let y : p ≡ q = cc in
     λ i. Check (x i) (y i)
 
-decompiles-once : (ws : List (List ℕ)) (e o f q : List ℕ) (ns ms : List (List ℕ)) → Words ws (Decompile e o ns) → Words ws (Decompile f q ms) → Decompile e o ns ≡ Decompile f q ms
-decompiles-once ws e o f q ns ms a b =
-    let same = same-operands ws (Decompile e o ns) (Decompile f q ms) a b in
+decompiles-once : (ws : List (List ℕ)) (form : Form) (e o f q : List ℕ) (ns ms : List (List ℕ))
+    → Words ws (Decompile form e o ns) → Words ws (Decompile form f q ms) → Decompile form e o ns ≡ Decompile form f q ms
+decompiles-once ws form e o f q ns ms a b =
+    let same = same-operands ws (Decompile form e o ns) (Decompile form f q ms) a b in
     let x : e ≡ f = cc in
     let y : o ≡ q = cc in
     let z : ns ≡ ms = cc in
-    λ i. Decompile (x i) (y i) (z i)
+    λ i. Decompile form (x i) (y i) (z i)
 
 tests-once : (ws : List (List ℕ)) (n k m j : ℕ) → Words ws (SelfTest n k) → Words ws (SelfTest m j) → SelfTest n k ≡ SelfTest m j
 tests-once ws n k m j a b =
@@ -94,9 +96,9 @@ words-unique ws (Run p n t k xs) d a b =
 words-unique ws (Check e p) d a b =
     let v = is-check d (same-name ws (Check e p) d a b) in
     checks-once ws e p v.0 v.1 a (subst (Words ws) v.2 b) ∙ sym v.2
-words-unique ws (Decompile e o ns) d a b =
-    let v = is-decompile d (same-name ws (Decompile e o ns) d a b) in
-    decompiles-once ws e o v.0 v.1 ns v.2 a (subst (Words ws) v.3 b) ∙ sym v.3
+words-unique ws (Decompile form e o ns) d a b =
+    let v = is-decompile form d (same-name ws (Decompile form e o ns) d a b) in
+    decompiles-once ws form e o v.0 v.1 ns v.2 a (subst (Words ws) v.3 b) ∙ sym v.3
 words-unique ws (SelfTest n k) d a b =
     let v = is-test d (same-name ws (SelfTest n k) d a b) in
     tests-once ws n k v.0 v.1 a (subst (Words ws) v.2 b) ∙ sym v.2

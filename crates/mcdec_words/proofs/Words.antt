@@ -16,7 +16,9 @@ use Rattle.mcdec_words.specs.declared.command.Simplify.{Simplify as ReadSimplify
 use Rattle.mcdec_words.specs.declared.command.Laws.{Laws as ReadLaws}
 use Rattle.mcdec_words.specs.declared.command.Smt.{Smt as ReadSmt}
 use Rattle.mc_text.specs.Number.{hex, number_of}
-use Rattle.mcdec_words.specs.Command.{AreNames, Command, Eval, Run, Check, Decompile, SelfTest, Simplify, Laws, Smt, Arg, IsCommand, IsNoCommand, Words, arg_word, texts}
+use Rattle.mcdec_words.specs.Command.{AreNames, Command, Eval, Run, Check, Decompile, SelfTest, Simplify, Laws, Smt, Arg, IsCommand, IsNoCommand, Words, arg_word, form_word, texts}
+use Rattle.mcdec_words.specs.declared.command.Form.{Form}
+use Rattle.mcdec_words.specs.declared.command.Form.TheVariants.{Alone, Linked}
 use Rattle.group_text.specs.Limits.{IsName}
 use Rattle.mcdec_words.specs.CommandReading.{HoldsArgs, NoArgs, AllArgs, Unless, NoEval, IsEval, NoRun, IsRun, NoCheck, IsCheck, NoDecompile, IsDecompile, NoSelfTest, IsSelfTest, NoSimplify, IsSimplify, IsLaws, NoSmt, IsSmt, operands_of}
 use Rattle.mcdec_words.specs.declared.command.Unread.{Unread}
@@ -182,27 +184,27 @@ module _ (words : List Word) (elf out : Word) (low : 2 ≤ length words) (first 
   split-decompile : texts words ≡ string_bytes elf ∷ string_bytes out ∷ behind_first 2 words
   split-decompile = first-two words elf out low first second
 
-  pub no-elf : string_bytes elf ≡ [] → NoDecompile (texts words)
-  no-elf none e o ns is same =
+  pub no-elf : (form : Form) → string_bytes elf ≡ [] → NoDecompile form (texts words)
+  no-elf form none e o ns is same =
       let whole = sym split-decompile ∙ same in
       let word : string_bytes elf ≡ e = cc in
       is.0 (sym word ∙ none)
 
-  pub no-out : string_bytes out ≡ [] → NoDecompile (texts words)
-  no-out none e o ns is same =
+  pub no-out : (form : Form) → string_bytes out ≡ [] → NoDecompile form (texts words)
+  no-out form none e o ns is same =
       let whole = sym split-decompile ∙ same in
       let word : string_bytes out ≡ o = cc in
       is.1 (sym word ∙ none)
 
-  pub one-file : string_bytes elf ≡ string_bytes out → NoDecompile (texts words)
-  one-file one e o ns is same =
+  pub one-file : (form : Form) → string_bytes elf ≡ string_bytes out → NoDecompile form (texts words)
+  one-file form one e o ns is same =
       let whole = sym split-decompile ∙ same in
       let word : string_bytes elf ≡ e = cc in
       let other : string_bytes out ≡ o = cc in
       is.2 (sym word ∙ one ∙ other)
 
-  pub no-names : behind_first 2 words ≡ [] → NoDecompile (texts words)
-  no-names none e o ns is same =
+  pub no-names : (form : Form) → behind_first 2 words ≡ [] → NoDecompile form (texts words)
+  no-names form none e o ns is same =
       let whole = sym split-decompile ∙ same in
       let names : behind_first 2 words ≡ ns = cc in
       is.3 (sym names ∙ none)
@@ -222,18 +224,18 @@ module _ (words : List Word) (elf out : Word) (low : 2 ≤ length words) (first 
       at [] some e = some refl
       at (w ∷ ws) some e = cc
 
-  other-names : (AreNames (behind_first 2 words) → ⊥) → NoDecompile (texts words)
-  other-names none e o ns is same =
+  other-names : (form : Form) → (AreNames (behind_first 2 words) → ⊥) → NoDecompile form (texts words)
+  other-names form none e o ns is same =
       let whole = sym split-decompile ∙ same in
       let names : behind_first 2 words ≡ ns = cc in
       none (subst AreNames (sym names) is.4)
 
-  pub bad-names : (why : Unread) → Unless (AreNames (behind_first 2 words) → ⊥) why → Unless (NoDecompile (texts words)) why
-  bad-names why none = unless-also other-names why none
+  pub bad-names : (form : Form) (why : Unread) → Unless (AreNames (behind_first 2 words) → ⊥) why → Unless (NoDecompile form (texts words)) why
+  bad-names form why none = unless-also (other-names form) why none
 
-  pub decompile-read : (e o : List ℕ) (ns : List (List ℕ)) → e ≡ string_bytes elf → o ≡ string_bytes out → ns ≡ behind_first 2 words → string_bytes elf ≢ [] → string_bytes out ≢ [] → (string_bytes elf ≡ string_bytes out → ⊥)
-      → (behind_first 2 words ≡ [] → ⊥) → AreNames ns → IsCommand (Decompile e o ns) × (texts words ≡ operands_of (Decompile e o ns))
-  decompile-read e o ns ee eo en some more apart any are = (
+  pub decompile-read : (form : Form) (e o : List ℕ) (ns : List (List ℕ)) → e ≡ string_bytes elf → o ≡ string_bytes out → ns ≡ behind_first 2 words → string_bytes elf ≢ [] → string_bytes out ≢ [] → (string_bytes elf ≡ string_bytes out → ⊥)
+      → (behind_first 2 words ≡ [] → ⊥) → AreNames ns → IsCommand (Decompile form e o ns) × (texts words ≡ operands_of (Decompile form e o ns))
+  decompile-read form e o ns ee eo en some more apart any are = (
     ((λ n. some (sym ee ∙ n)), (λ n. more (sym eo ∙ n)), (λ same. apart (sym ee ∙ same ∙ eo)), (λ n. any (sym en ∙ n)), are),
     split-decompile ∙ (λ i. sym ee i ∷ sym eo i ∷ sym en i),
   )
@@ -399,17 +401,18 @@ module _ (words : List Word) (first : Word) (low : 1 ≤ length words) (here : f
   pub check-is : bytes_eq text (codes "check") ≡ true → (c : ReadCheck) → IsCheck (behind_first 1 words) c → Words (texts words) (Check c.elf.now c.proof.now)
   check-is is c all = (all.0, behind-name (codes "check") is _ all.1)
 
-  not-decompile : bytes_eq text (codes "decompile") ≡ true → NoDecompile (behind_first 1 words) → IsNoCommand (texts words)
-  not-decompile is none c w =
-      let s = with-name (codes "decompile") is c w in
-      let v = is-decompile c s.0 in
+  not-decompile : (form : Form) → bytes_eq text (form_word form) ≡ true → NoDecompile form (behind_first 1 words) → IsNoCommand (texts words)
+  not-decompile form is none c w =
+      let s = with-name (form_word form) is c w in
+      let v = is-decompile form c s.0 in
       none v.0 v.1 v.2 (subst IsCommand v.3 w.0) (s.1 ∙ ap operands_of v.3)
 
-  pub no-decompile : bytes_eq text (codes "decompile") ≡ true → (e : Unread) → Unless (NoDecompile (behind_first 1 words)) e → Unless (IsNoCommand (texts words)) e
-  no-decompile is e none = unless-also (not-decompile is) e none
+  pub no-decompile : (form : Form) → bytes_eq text (form_word form) ≡ true → (e : Unread) → Unless (NoDecompile form (behind_first 1 words)) e → Unless (IsNoCommand (texts words)) e
+  no-decompile form is e none = unless-also (not-decompile form is) e none
 
-  pub decompile-is : bytes_eq text (codes "decompile") ≡ true → (d : ReadDecompile) → IsDecompile (behind_first 1 words) d → Words (texts words) (Decompile d.elf.now d.out.now d.names)
-  decompile-is is d all = (all.0, behind-name (codes "decompile") is _ all.1)
+  pub decompile-is : (form : Form) → bytes_eq text (form_word form) ≡ true → (d : ReadDecompile) → (d.form ≡ form) × IsDecompile (behind_first 1 words) d
+      → Words (texts words) (Decompile d.form d.elf.now d.out.now d.names)
+  decompile-is form is d (same, all) = (all.0, behind-name (form_word d.form) (subst (λ f. bytes_eq text (form_word f) ≡ true) (sym same) is) _ all.1)
 
   not-test : bytes_eq text (codes "selftest") ≡ true → NoSelfTest (behind_first 1 words) → IsNoCommand (texts words)
   not-test is none c w =

@@ -3,7 +3,7 @@
 --   eval PROOF NAME TURNS ARG*        ARG is xN=V, each N at most once,
 --   run ELF START UNTIL STEPS ARG*    or mem=A:H, with two hexadecimal digits for each byte, any number of them
 --   check ELF PROOF
---   decompile ELF OUT NAME+
+--   decompile ELF OUT NAME+           link ELF OUT NAME+
 --   selftest NUMBER SIZE
 --   simplify PROOF NAME OUT
 --   laws PROOF CERT
@@ -17,6 +17,8 @@ use Rattle.std.specs.declared.alloc.Global.{Global}
 use Rattle.rv_words.specs.declared.range.Range.{Range}
 use Rattle.mc_text.specs.Number.{hex}
 use Rattle.group_text.specs.Limits.{IsName}
+use Rattle.mcdec_words.specs.declared.command.Form.{Form}
+use Rattle.mcdec_words.specs.declared.command.Form.TheVariants.{Alone, Linked}
 
 -- a register that is given a value
 pub record Given : Type 0 where
@@ -32,7 +34,7 @@ pub data Command : Type 0 where
   Eval : (proof name : List ℕ) (turns : ℕ) (args : List Arg) → Command
   Run : (elf start : List ℕ) (until steps : ℕ) (args : List Arg) → Command
   Check : (elf proof : List ℕ) → Command
-  Decompile : (elf out : List ℕ) (names : List (List ℕ)) → Command
+  Decompile : (form : Form) (elf out : List ℕ) (names : List (List ℕ)) → Command
   SelfTest : (number size : ℕ) → Command
   Simplify : (proof name out : List ℕ) → Command
   Laws : (proof cert : List ℕ) → Command
@@ -50,12 +52,17 @@ abbrev pub arg_word : Arg → List ℕ
 arg_word (Value g) = given_word g
 arg_word (Memory r) = memory_word r
 
+-- the name of the command that decompiles functions so
+abbrev pub form_word : Form → List ℕ
+form_word Alone = codes "decompile"
+form_word Linked = codes "link"
+
 -- the words of a command: its name, and its operands
 abbrev pub words_of : Command → List (List ℕ)
 words_of (Eval proof name turns args) = codes "eval" ∷ proof ∷ name ∷ decimal turns ∷ map arg_word args
 words_of (Run elf start until steps args) = codes "run" ∷ elf ∷ start ∷ hex until ∷ decimal steps ∷ map arg_word args
 words_of (Check elf proof) = codes "check" ∷ elf ∷ proof ∷ []
-words_of (Decompile elf out names) = codes "decompile" ∷ elf ∷ out ∷ names
+words_of (Decompile form elf out names) = form_word form ∷ elf ∷ out ∷ names
 words_of (SelfTest number size) = codes "selftest" ∷ decimal number ∷ decimal size ∷ []
 words_of (Simplify proof name out) = codes "simplify" ∷ proof ∷ name ∷ out ∷ []
 words_of (Laws proof cert) = codes "laws" ∷ proof ∷ cert ∷ []
@@ -102,7 +109,7 @@ abbrev pub IsCommand : Command → Type 0
 IsCommand (Eval proof name turns args) = (proof ≢ []) × IsName name × (turns < 2 ^ 64) × AreArgs args
 IsCommand (Run elf start until steps args) = (elf ≢ []) × IsName start × (until < 2 ^ 64) × (steps < 2 ^ 64) × AreArgs args
 IsCommand (Check elf proof) = (elf ≢ []) × (proof ≢ [])
-IsCommand (Decompile elf out names) = (elf ≢ []) × (out ≢ []) × (elf ≢ out) × (names ≢ []) × AreNames names
+IsCommand (Decompile form elf out names) = (elf ≢ []) × (out ≢ []) × (elf ≢ out) × (names ≢ []) × AreNames names
 IsCommand (SelfTest number size) = (number < 2 ^ 64) × (1 ≤ size) × (size ≤ 600)
 IsCommand (Simplify proof name out) = (proof ≢ []) × IsName name × (out ≢ []) × (proof ≢ out)
 IsCommand (Laws proof cert) = (proof ≢ []) × (cert ≢ [])
@@ -128,7 +135,7 @@ abbrev pub inputs_of : Command → List (List ℕ)
 inputs_of (Eval proof name turns args) = proof ∷ []
 inputs_of (Run elf start until steps args) = elf ∷ []
 inputs_of (Check elf proof) = elf ∷ proof ∷ []
-inputs_of (Decompile elf out names) = elf ∷ []
+inputs_of (Decompile form elf out names) = elf ∷ []
 inputs_of (SelfTest number size) = []
 inputs_of (Simplify proof name out) = proof ∷ []
 inputs_of (Laws proof cert) = proof ∷ cert ∷ []
@@ -136,7 +143,7 @@ inputs_of (Smt proof name def out) = proof ∷ []
 
 -- the file that a command writes
 abbrev pub output_of : Command → Option (List ℕ)
-output_of (Decompile elf out names) = Some out
+output_of (Decompile form elf out names) = Some out
 output_of (Simplify proof name out) = Some out
 output_of (Smt proof name def out) = Some out
 output_of other = None

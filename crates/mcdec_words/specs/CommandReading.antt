@@ -13,6 +13,7 @@ use Rattle.mcdec_words.specs.declared.command.Laws.{Laws as ReadLaws}
 use Rattle.mcdec_words.specs.declared.command.Smt.{Smt as ReadSmt}
 use Rattle.mcdec_words.specs.declared.command.Argument.{Argument as ReadArg}
 use Rattle.mcdec_words.specs.declared.command.Argument.TheVariants as read_arg
+use Rattle.mcdec_words.specs.declared.command.Form.{Form}
 use Rattle.mcdec_words.specs.declared.command.Unread.{Unread}
 use Rattle.mcdec_words.specs.declared.command.Unread.TheVariants as unread
 use Rattle.rv_words.specs.declared.range.Range.{Range}
@@ -91,11 +92,11 @@ NoCheck ws = (elf proof : List ℕ) → IsCommand (Check elf proof) → ws ≢ o
 abbrev pub IsCheck : List (List ℕ) → ReadCheck → Type 0
 IsCheck ws c = IsCommand (Check c.elf.now c.proof.now) × (ws ≡ operands_of (Check c.elf.now c.proof.now))
 
-abbrev pub NoDecompile : List (List ℕ) → Type 0
-NoDecompile ws = (elf out : List ℕ) (names : List (List ℕ)) → IsCommand (Decompile elf out names) → ws ≢ operands_of (Decompile elf out names)
+abbrev pub NoDecompile : Form → List (List ℕ) → Type 0
+NoDecompile form ws = (elf out : List ℕ) (names : List (List ℕ)) → IsCommand (Decompile form elf out names) → ws ≢ operands_of (Decompile form elf out names)
 
 abbrev pub IsDecompile : List (List ℕ) → ReadDecompile → Type 0
-IsDecompile ws d = IsCommand (Decompile d.elf.now d.out.now d.names) × (ws ≡ operands_of (Decompile d.elf.now d.out.now d.names))
+IsDecompile ws d = IsCommand (Decompile d.form d.elf.now d.out.now d.names) × (ws ≡ operands_of (Decompile d.form d.elf.now d.out.now d.names))
 
 abbrev pub NoSelfTest : List (List ℕ) → Type 0
 NoSelfTest ws = (number size : ℕ) → IsCommand (SelfTest number size) → ws ≢ operands_of (SelfTest number size)
@@ -132,7 +133,7 @@ abbrev pub IsReadCheck : List (List ℕ) → ReadCheck → Type 0
 IsReadCheck ws c = Words ws (Check c.elf.now c.proof.now)
 
 abbrev pub IsReadDecompile : List (List ℕ) → ReadDecompile → Type 0
-IsReadDecompile ws d = Words ws (Decompile d.elf.now d.out.now d.names)
+IsReadDecompile ws d = Words ws (Decompile d.form d.elf.now d.out.now d.names)
 
 abbrev pub IsReadSelfTest : List (List ℕ) → ReadSelfTest → Type 0
 IsReadSelfTest ws t = Words ws (SelfTest t.number t.size)

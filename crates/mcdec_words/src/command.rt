@@ -72,9 +72,19 @@ pub struct Check<'a> {
     pub proof: &'a str,
 }
 
-/// `decompile ELF OUT NAME+`
+/// Which functions are decompiled together.
+#[derive(Clone, Copy, Debug, PartialEq, Eq)]
+pub enum Form {
+    /// Each function by itself.
+    Alone,
+    /// Each function with those that it calls.
+    Linked,
+}
+
+/// `decompile ELF OUT NAME+` · `link ELF OUT NAME+`
 #[derive(Drop)]
 pub struct Decompile<'a> {
+    pub form: Form,
     pub elf: &'a str,
     pub out: &'a str,
     pub names: List<Text>,
@@ -165,7 +175,7 @@ pub fn read_words(alloc: Global, words: &[String]) -> Result<Command<'_>, Unread
         return Ok(Command::Check(read_check(rest)?));
     }
     if first.as_str() == "decompile" {
-        return Ok(Command::Decompile(read_decompile(alloc, rest)?));
+        return Ok(Command::Decompile(read_decompile(alloc, Form::Alone, rest)?));
     }
     if first.as_str() == "selftest" {
         return Ok(Command::SelfTest(read_self_test(rest)?));
@@ -178,6 +188,9 @@ pub fn read_words(alloc: Global, words: &[String]) -> Result<Command<'_>, Unread
     }
     if first.as_str() == "smt" {
         return Ok(Command::Smt(read_smt(rest)?));
+    }
+    if first.as_str() == "link" {
+        return Ok(Command::Decompile(read_decompile(alloc, Form::Linked, rest)?));
     }
     Err(Unread::NotACommand)
 }
@@ -251,9 +264,9 @@ fn read_check(words: &[String]) -> Result<Check<'_>, Unread>
     })
 }
 
-/// The words behind `decompile`.
-fn read_decompile(alloc: Global, words: &[String]) -> Result<Decompile<'_>, Unread>
-    ensures { MatchResult result (λ d. IsDecompile (texts words.now) d) (λ e. Unless (NoDecompile (texts words.now)) e) }
+/// The words behind `decompile` or `link`.
+fn read_decompile(alloc: Global, form: Form, words: &[String]) -> Result<Decompile<'_>, Unread>
+    ensures { MatchResult result (λ d. (d.form ≡ form) × IsDecompile (texts words.now) d) (λ e. Unless (NoDecompile form (texts words.now)) e) }
 {
     let [elf, out, names @ ..] = words else {
         return Err(Unread::NotACommand);
@@ -263,6 +276,7 @@ fn read_decompile(alloc: Global, words: &[String]) -> Result<Decompile<'_>, Unre
     }
     let names = read_names(alloc, names)?;
     Ok(Decompile {
+        form,
         elf: elf.as_str(),
         out: out.as_str(),
         names,

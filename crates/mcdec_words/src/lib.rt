@@ -4,6 +4,6 @@
 mod command;
 
 pub use command::{
-    Check, Command, Decompile, Eval, Laws, Registers, Run, SelfTest, Simplify, Smt, Unread,
+    Check, Command, Decompile, Eval, Form, Laws, Registers, Run, SelfTest, Simplify, Smt, Unread,
     read_words,
 };

@@ -1,26 +1,34 @@
--- What the command `decompile` comes to, part by part.
+-- What the commands `decompile` and `link` come to, part by part.
 use Rattle.std.specs.Prelude.{ℕ, ◌≤◌, List, length}
 use Rattle.tailrec_lang.specs.Tree.{group_tree}
 use Rattle.path_walk.specs.declared.item.Item.{Item}
+use Rattle.mcdec_words.specs.declared.command.Form.{Form}
 use Rattle.mcdec_answers.specs.declared.answer.Answer.{Answer}
 use Rattle.mcdec_answers.specs.declared.answer.Answer.TheVariants as answer
-use Rattle.mcdec_commands.specs.DecompileAnswer.{DecompileGives}
+use Rattle.call_link.specs.declared.fault.LinkFault.{LinkFault}
+use Rattle.call_link.specs.declared.fault.LinkFault.TheVariants as fault
+use Rattle.mcdec_commands.specs.DecompileAnswer.{DecompileGives, IsRefusedIn}
 
 -- the item's group has a definition
 abbrev pub HasDef : Item → Type 0
 HasDef item = 1 ≤ length (group_tree item.group).defs
 
+-- why there is no proof for these names
+abbrev pub IsNoProofIn : Form → (file : List ℕ) (names : List (List ℕ)) → LinkFault → Type 0
+IsNoProofIn form file names (fault.Refused number why) = IsRefusedIn form file names number why
+IsNoProofIn form file names fault.NoMemory = Unit {0}
+
 -- what is answered of these names, where the ELF file has these bytes and can be read
-abbrev pub FileGives : (file : List ℕ) (names : List (List ℕ)) → Answer → Type 0
-FileGives file names answer.NotACommand = ⊥
-FileGives file names answer.ReadFault = ⊥
-FileGives file names answer.WriteFault = Unit {0}
-FileGives file names answer.NoMemory = Unit {0}
-FileGives file names (answer.Eval a) = ⊥
-FileGives file names (answer.Run a) = ⊥
-FileGives file names (answer.Check a) = ⊥
-FileGives file names (answer.Decompile a) = DecompileGives file names a
-FileGives file names (answer.SelfTest a) = ⊥
-FileGives file names (answer.Simplify a) = ⊥
-FileGives file names (answer.Laws a) = ⊥
-FileGives file names (answer.Smt a) = ⊥
+abbrev pub FileGives : Form → (file : List ℕ) (names : List (List ℕ)) → Answer → Type 0
+FileGives form file names answer.NotACommand = ⊥
+FileGives form file names answer.ReadFault = ⊥
+FileGives form file names answer.WriteFault = Unit {0}
+FileGives form file names answer.NoMemory = Unit {0}
+FileGives form file names (answer.Eval a) = ⊥
+FileGives form file names (answer.Run a) = ⊥
+FileGives form file names (answer.Check a) = ⊥
+FileGives form file names (answer.Decompile a) = DecompileGives form file names a
+FileGives form file names (answer.SelfTest a) = ⊥
+FileGives form file names (answer.Simplify a) = ⊥
+FileGives form file names (answer.Laws a) = ⊥
+FileGives form file names (answer.Smt a) = ⊥

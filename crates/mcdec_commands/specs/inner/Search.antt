@@ -7,7 +7,7 @@ use Rattle.tailrec_lang.specs.Tree.{GroupTree, group_tree, listed_def}
 use Rattle.tailrec_lang.specs.WellFormed.{IsWellFormed, IsFirstIllFormed}
 use Rattle.tailrec_lang.specs.Eval.{Arguments, Done, SideFalse, Turns, HasFewNeeds, eval}
 use Rattle.proof_text.specs.Line.{ProofTree, line_tree}
-use Rattle.proof_text.specs.Proofs.{AreProofsIn, bare, groups_of, text_of_proofs_in, texts_of_proofs_in}
+use Rattle.proof_text.specs.Proofs.{bare, groups_of, text_of_proofs_in, texts_of_proofs_in}
 use Rattle.proof_text.specs.FirstProofs.{Progress, HasGiven, MayOpen, ProofEnds, AreReadIn, with_line}
 use Rattle.proof_text.specs.Answers.{NoItem}
 use Rattle.proof_text.specs.declared.line.Line.{Line}
@@ -17,23 +17,8 @@ use Rattle.mcdec_commands.specs.declared.eval.Refusal.TheVariants as refusal
 use Rattle.mcdec_answers.specs.declared.answer.EvalAnswer.{EvalAnswer}
 use Rattle.mcdec_answers.specs.declared.answer.EvalAnswer.TheVariants as answer
 use Rattle.mcdec_words.specs.Command.{Arg}
-use Rattle.mcdec_commands.specs.EvalAnswer.{AreWellFormed, HasBadDef, HasBadLine, IsNamed, arguments_given, first_named, shown_of}
-
--- ---- what is said of texts of version 1 in EvalAnswer.antt, of texts of any version
-
-pub record IsNamedIn (v : Version) (text name : List ℕ) (found : Option GroupTree) : Type 0 where
-  pub proofs : List ProofTree
-  pub fit : AreProofsIn v proofs
-  pub spelled : text ≡ text_of_proofs_in v proofs
-  pub well_formed : AreWellFormed (groups_of proofs)
-  pub first : first_named name (groups_of proofs) ≡ found
-
-abbrev pub HasBadLineIn : (v : Version) (text : List ℕ) (line : ℕ) → Type 0
-HasBadLineIn v text line = IsBadAt (texts_of_proofs_in v) text line × ((ps : List ProofTree) → AreReadIn v text ps → AreWellFormed (groups_of ps))
-
-abbrev pub HasBadDefIn : (v : Version) (text : List ℕ) (group def : ℕ) → Type 0
-HasBadDefIn v text group def =
-    (ps : List ProofTree) × (g : GroupTree) × AreReadIn v text (ps ++ bare g ∷ []) × AreWellFormed (groups_of ps) × (group ≡ length ps) × IsFirstIllFormed g def
+use Rattle.text_versions.specs.Versions.{version_for}
+use Rattle.mcdec_commands.specs.EvalAnswer.{AreWellFormed, HasBadDefIn, HasBadLineIn, IsNamedIn, arguments_given, first_named, shown_of}
 
 -- ---- reading on
 
@@ -90,13 +75,9 @@ FindsIn v text name (Err (refusal.IllFormed n def)) = HasBadDefIn v text n def
 FindsIn v text name (Err refusal.NoFunction) = IsNamedIn v text name None
 FindsIn v text name (Err refusal.NoMemory) = Unit {0}
 
--- what a text of version 1 has for a name
+-- what a text has for a name
 abbrev pub Finds : List ℕ → List ℕ → Result Group Refusal → Type 0
-Finds text name (Ok g) = IsNamed text name (Some (group_tree g)) × HasFewNeeds (group_tree g)
-Finds text name (Err (refusal.Text line)) = HasBadLine text line
-Finds text name (Err (refusal.IllFormed n def)) = HasBadDef text n def
-Finds text name (Err refusal.NoFunction) = IsNamed text name None
-Finds text name (Err refusal.NoMemory) = Unit {0}
+Finds text name found = FindsIn (version_for text) text name found
 
 -- what was found of a name among these groups
 abbrev pub FoundSo : List ℕ → List GroupTree → Option Group → Type 0

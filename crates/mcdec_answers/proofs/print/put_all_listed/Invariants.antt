@@ -6,4 +6,4 @@ use Rattle.mcdec_answers.proofs.print.put_all_listed.Given as goal
 
 abbrev pub invariant-loop-listed : goal.invariant-loop-listed
 invariant-loop-listed g l =
-    Prints (Ok tt) (flat_map listed_line (take l.listed-index l.all)) (g.O.Sink.written l.fn.out) (g.O.Sink.written l.out) (g.O.Sink.faults l.fn.out) (g.O.Sink.faults l.out)
+    Prints (Ok tt) (flat_map (listed_line l.form) (take l.listed-index l.all)) (g.O.Sink.written l.fn.out) (g.O.Sink.written l.out) (g.O.Sink.faults l.fn.out) (g.O.Sink.faults l.out)

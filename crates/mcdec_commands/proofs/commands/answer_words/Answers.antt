@@ -1,6 +1,5 @@
-use Rattle.std.proofs.Common.{◌≡◌, List, Some, ℕ, refl, rules, subst}
+use Rattle.std.proofs.Common.{refl, rules, subst}
 use Rattle.mcdec_words.specs.Command.{IsNoCommand, texts}
-use Rattle.mcdec_answers.specs.declared.answer.Answer.TheVariants as answer
 use Rattle.mcdec_answers.proofs.Prints.{told_same}
 use Rattle.mcdec_words.specs.CommandReading.{IsRead}
 use Rattle.mcdec_words.specs.declared.command.Command.{Command as Read}
@@ -59,13 +58,13 @@ pub returns-in-Decompile-clause-written : goal.returns-in-Decompile-clause-writt
 returns-in-Decompile-clause-written g c =
     let is = subst (λ (command : Read). IsRead (texts c.args.words.now) command) c.in-Decompile.is c.in-Ok.ensures in
     let d = c.in-Decompile.d in
-    written-by (texts c.args.words.now) (Decompile d.elf.now d.out.now d.names) d.out.now is refl _ _ _ c.answer_decompile.ensures.written
+    written-by (texts c.args.words.now) (Decompile d.form d.elf.now d.out.now d.names) d.out.now is refl _ _ _ c.answer_decompile.ensures.written
 
 pub returns-in-Decompile-clause-kept : goal.returns-in-Decompile-clause-kept
 returns-in-Decompile-clause-kept g c =
     let is = subst (λ (command : Read). IsRead (texts c.args.words.now) command) c.in-Decompile.is c.in-Ok.ensures in
     let d = c.in-Decompile.d in
-    others-kept (texts c.args.words.now) (Decompile d.elf.now d.out.now d.names) d.out.now is refl _ _ _ c.answer_decompile.ensures.written
+    others-kept (texts c.args.words.now) (Decompile d.form d.elf.now d.out.now d.names) d.out.now is refl _ _ _ c.answer_decompile.ensures.written
 
 pub returns-in-SelfTest-clause-gives : goal.returns-in-SelfTest-clause-gives
 returns-in-SelfTest-clause-gives g c =

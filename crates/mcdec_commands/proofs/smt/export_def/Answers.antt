@@ -1,4 +1,4 @@
-use Rattle.std.proofs.Common.{◌<◌, ◌≤◌, List, map, ◌∙◌, subst, arith}
+use Rattle.std.proofs.Common.{List, map, ◌∙◌, subst, arith}
 use Rattle.tailrec_lang.specs.Tree.{group_tree}
 use Rattle.smt_terms.specs.declared.script.Fun.{Fun}
 use Rattle.smt_terms.specs.Sorts.{IsScript}

@@ -1,6 +1,7 @@
 use Rattle.std.proofs.Common.{sym, ◌∙◌}
 use Rattle.mcdec_words.proofs.ArgWords.{exit-with}
 use Rattle.mcdec_words.proofs.Words.{no-eval, eval-is, no-run, run-is, check-is, no-decompile, decompile-is, laws-is, no-simplify, no-smt, simplify-is, smt-is, test-is}
+use Rattle.mcdec_words.specs.declared.command.Form.TheVariants.{Alone, Linked}
 use Rattle.mcdec_words.proofs.command.read_words.Goals as goal
 
 pub returns-in_err-read_eval : goal.returns-in_err-read_eval
@@ -28,11 +29,11 @@ returns-then-eq-3 c =
 pub returns-in_err-read_decompile : goal.returns-in_err-read_decompile
 returns-in_err-read_decompile c =
     exit-with _ c.in_err-read_decompile.field-0.0 _ _ c.from_residual-in_err-read_decompile.ensures.1
-    (no-decompile c.args.words.now c.first-item.result c.in-len1-up.len_at_least c.first-item.is c.as_str-4.result.now c.as_str-4.ensures.value (sym c.eq-4.ensures ∙ c.if-eq-4.true) c.in_err-read_decompile.field-0.0 c.in_err-read_decompile.ensures)
+    (no-decompile c.args.words.now c.first-item.result c.in-len1-up.len_at_least c.first-item.is c.as_str-4.result.now c.as_str-4.ensures.value Alone (sym c.eq-4.ensures ∙ c.if-eq-4.true) c.in_err-read_decompile.field-0.0 c.in_err-read_decompile.ensures)
 
 pub returns-then-eq-4 : goal.returns-then-eq-4
 returns-then-eq-4 c =
-    decompile-is c.args.words.now c.first-item.result c.in-len1-up.len_at_least c.first-item.is c.as_str-4.result.now c.as_str-4.ensures.value (sym c.eq-4.ensures ∙ c.if-eq-4.true) c.in_ok-read_decompile.field-0 c.in_ok-read_decompile.ensures
+    decompile-is c.args.words.now c.first-item.result c.in-len1-up.len_at_least c.first-item.is c.as_str-4.result.now c.as_str-4.ensures.value Alone (sym c.eq-4.ensures ∙ c.if-eq-4.true) c.in_ok-read_decompile.field-0 c.in_ok-read_decompile.ensures
 
 pub returns-then-eq-5 : goal.returns-then-eq-5
 returns-then-eq-5 c =
@@ -59,3 +60,12 @@ returns-in_err-read_smt c =
 pub returns-then-eq-8 : goal.returns-then-eq-8
 returns-then-eq-8 c =
     smt-is c.args.words.now c.first-item.result c.in-len1-up.len_at_least c.first-item.is c.as_str-8.result.now c.as_str-8.ensures.value (sym c.eq-8.ensures ∙ c.if-eq-8.true) c.in_ok-read_smt.field-0 c.in_ok-read_smt.ensures
+
+pub returns-in_err-read_decompile-2 : goal.returns-in_err-read_decompile-2
+returns-in_err-read_decompile-2 c =
+    exit-with _ c.in_err-read_decompile-2.field-0.0 _ _ c.from_residual-in_err-read_decompile-2.ensures.1
+    (no-decompile c.args.words.now c.first-item.result c.in-len1-up.len_at_least c.first-item.is c.as_str-9.result.now c.as_str-9.ensures.value Linked (sym c.eq-9.ensures ∙ c.if-eq-9.true) c.in_err-read_decompile-2.field-0.0 c.in_err-read_decompile-2.ensures)
+
+pub returns-then-eq-9 : goal.returns-then-eq-9
+returns-then-eq-9 c =
+    decompile-is c.args.words.now c.first-item.result c.in-len1-up.len_at_least c.first-item.is c.as_str-9.result.now c.as_str-9.ensures.value Linked (sym c.eq-9.ensures ∙ c.if-eq-9.true) c.in_ok-read_decompile-2.field-0 c.in_ok-read_decompile-2.ensures

@@ -1,0 +1,148 @@
+-- Numbers of linked functions, summed over all of them: the order in which they stand changes nothing.
+use Rattle.std.proofs.Common.{◌≡◌, ℕ, zero, suc, ◌+◌, ◌<◌, ◌≤◌, true, List, [], ◌∷◌, length, get_or, Some, refl, sym, ap, subst, ◌∙◌, arith}
+use Rattle.std.specs.Prelude.{slice_get}
+use Rattle.std.specs.List.{AllZip, sum_by}
+use Rattle.std.proofs.lemmas.List.{length-map}
+use Rattle.std.proofs.lemmas.List.Sums.{sum_by-cons}
+use Rattle.std.proofs.lemmas.Option.{get_or_from_slice_get, slice_get_within}
+use Rattle.rv_words.specs.Bytes.{Bytes}
+use Rattle.flow_graph.specs.Graph.{GraphOf, IsGraphOf}
+use Rattle.flow_graph.proofs.GraphLaws.{one_graph}
+use Rattle.call_graph.specs.Functions.{AreFunctions, IsLinkedFunction, entries_of, size_of}
+use Rattle.call_graph.specs.declared.function.Function.{Function}
+use Rattle.call_graph.proofs.OneAnswer.{listed}
+use Rattle.code_parts.proofs.Lists.{slice-mapped}
+
+-- ---- numbers with keys, each key once
+
+abbrev Row : Type 0
+Row = ℕ × ℕ
+
+abbrev pub total : List Row → ℕ
+total [] = 0
+total (r ∷ rs) = r.1 + total rs
+
+abbrev without : ℕ → List Row → List Row
+without k [] = []
+without zero (r ∷ rs) = rs
+without (suc k) (r ∷ rs) = r ∷ without k rs
+
+total-without : (rs : List Row) (k : ℕ) (r : Row) → slice_get rs k ≡ Some r → total rs ≡ r.1 + total (without k rs)
+total-without [] k r at = absurd (cc)
+total-without (q ∷ rs) zero r at = let same : q ≡ r = cc in ap (λ (x : Row). x.1 + total rs) same
+total-without (q ∷ rs) (suc k) r at = let rest = total-without rs k r at in omega (arith, rest)
+
+kept-without : (rs : List Row) (j k : ℕ) (r : Row) → slice_get rs j ≡ Some r → (j ≡ k → ⊥) → (i : ℕ) × (slice_get (without k rs) i ≡ Some r)
+kept-without [] j k r at other = absurd (cc)
+kept-without (q ∷ rs) zero zero r at other = absurd (other refl)
+kept-without (q ∷ rs) zero (suc k) r at other = (zero, at)
+kept-without (q ∷ rs) (suc j) zero r at other = (j, at)
+kept-without (q ∷ rs) (suc j) (suc k) r at other = let m = kept-without rs j k r at (λ e. other (ap suc e)) in (suc m.0, m.1)
+
+abbrev HasKeysOnce : List Row → Type 0
+HasKeysOnce rs = (j k : ℕ) (x y : Row) → slice_get rs j ≡ Some x → slice_get rs k ≡ Some y → x.0 ≡ y.0 → j ≡ k
+
+abbrev AreIn : List Row → List Row → Type 0
+AreIn xs ys = (j : ℕ) (x : Row) → slice_get xs j ≡ Some x → (i : ℕ) × (slice_get ys i ≡ Some x)
+
+total-le : (xs ys : List Row) → HasKeysOnce xs → AreIn xs ys → total xs ≤ total ys
+total-le [] ys once are = omega arith
+total-le (x ∷ xs) ys once are =
+    let c = are zero x refl in
+    let whole = total-without ys c.0 x c.1 in
+    let rest = total-le xs (without c.0 ys) (λ j k y z a b e. let s : suc j ≡ suc k = once (suc j) (suc k) y z a b e in omega (arith, s))
+    (λ j y at. let m = are (suc j) y at in kept-without ys m.0 c.0 y m.1 (λ e. other j y at c m e)) in
+    omega (arith, whole, rest)
+  where
+    other : (j : ℕ) (y : Row) → slice_get xs j ≡ Some y → (c : (i : ℕ) × (slice_get ys i ≡ Some x)) → (m : (i : ℕ) × (slice_get ys i ≡ Some y)) → m.0 ≡ c.0 → ⊥
+    other j y at c m e =
+        let some : Some x ≡ Some y = sym c.1 ∙ ap (λ i. slice_get ys i) (sym e) ∙ m.1 in
+        let is : x ≡ y = cc in
+        let never : zero ≡ suc j = once zero (suc j) x y refl at (ap (λ (r : Row). r.0) is) in
+        omega (arith, never)
+
+-- ---- functions of one entry
+
+module _ (code : Bytes) (e : ℕ) (W : GraphOf → ℕ → Type 0) (one : (g : GraphOf) (n m : ℕ) → W g n → W g m → n ≡ m) where
+  -- the number of each function stands behind its entry
+  abbrev pub AreWeighed : List Function → List Row → Type 0
+  AreWeighed fs rows = AllZip (λ (f : Function) (r : Row). (r.0 ≡ f.entry) × W f.graph r.1) fs rows
+
+  row-of : (fs : List Function) (rows : List Row) → AreWeighed fs rows → (k : ℕ) (f : Function) → slice_get fs k ≡ Some f → (r : Row) × (slice_get rows k ≡ Some r) × (r.0 ≡ f.entry) × W f.graph r.1
+  row-of [] [] h k f at = absurd (cc)
+  row-of [] (r ∷ rows) h k f at = absurd h
+  row-of (g ∷ fs) [] h k f at = absurd h
+  row-of (g ∷ fs) (r ∷ rows) h zero f at =
+      let same : g ≡ f = cc in
+      let own = subst (λ (z : Function). (r.0 ≡ z.entry) × W z.graph r.1) same h.0 in
+      (r, refl, own.0, own.1)
+  row-of (g ∷ fs) (r ∷ rows) h (suc k) f at = row-of fs rows h.1 k f at
+
+  function-of : (fs : List Function) (rows : List Row) → AreWeighed fs rows → (k : ℕ) (r : Row) → slice_get rows k ≡ Some r → (f : Function) × (slice_get fs k ≡ Some f) × (r.0 ≡ f.entry) × W f.graph r.1
+  function-of [] [] h k r at = absurd (cc)
+  function-of [] (q ∷ rows) h k r at = absurd h
+  function-of (f ∷ fs) [] h k r at = absurd h
+  function-of (f ∷ fs) (q ∷ rows) h zero r at =
+      let same : q ≡ r = cc in
+      let own = subst (λ (z : Row). (z.0 ≡ f.entry) × W f.graph z.1) same h.0 in
+      (f, refl, own.0, own.1)
+  function-of (f ∷ fs) (q ∷ rows) h (suc k) r at = function-of fs rows h.1 k r at
+
+  keys-once : (fs : List Function) (rows : List Row) → AreFunctions code e fs → AreWeighed fs rows → HasKeysOnce rows
+  keys-once fs rows are h j k x y at there same =
+      let f = function-of fs rows h j x at in
+      let g = function-of fs rows h k y there in
+      let first = slice-mapped (λ (z : Function). z.entry) fs j f.0 f.1 in
+      let second = slice-mapped (λ (z : Function). z.entry) fs k g.0 g.1 in
+      let low = slice_get_within (entries_of fs) j f.0.entry first in
+      let high = slice_get_within (entries_of fs) k g.0.entry second in
+      let equal : get_or (entries_of fs) j 0 ≡ get_or (entries_of fs) k 0 =
+      get_or_from_slice_get (entries_of fs) j f.0.entry 0 first ∙ sym f.2 ∙ same ∙ g.2 ∙ sym (get_or_from_slice_get (entries_of fs) k g.0.entry 0 second) in
+      let down : j < k → ⊥ = λ lt. are.functions.different j k lt high equal in
+      let up : k < j → ⊥ = λ lt. are.functions.different k j lt low (sym equal) in
+      omega (arith, down, up)
+
+  in-other : (fs gs : List Function) (rows sows : List Row) → AreFunctions code e fs → AreFunctions code e gs → AreWeighed fs rows → AreWeighed gs sows → AreIn rows sows
+  in-other fs gs rows sows are too h k j x at =
+      let f = function-of fs rows h j x at in
+      let first = slice-mapped (λ (z : Function). z.entry) fs j f.0 f.1 in
+      let within = slice_get_within (entries_of fs) j f.0.entry first in
+      let long = length-map fs (λ (z : Function). z.entry) in
+      let is = are.functions.reached f.0.entry (j, within, get_or_from_slice_get (entries_of fs) j f.0.entry f.0.entry first) in
+      let n = listed code e gs f.0.entry too is in
+      let own : IsLinkedFunction code f.0 = subst (IsLinkedFunction code) (get_or_from_slice_get fs j f.0 f.0 f.1) (are.linked j f.0 (omega (arith, within, long))) in
+      let graph : n.function.graph ≡ f.0.graph = one_graph true code f.0.entry n.function.graph f.0.graph (subst (λ a. IsGraphOf true code a n.function.graph) n.is n.linked.graph) own.graph in
+      let s = row-of gs sows k n.place n.function n.at in
+      let key : s.0.0 ≡ x.0 = s.2 ∙ n.is ∙ sym f.2 in
+      let weight : s.0.1 ≡ x.1 = one f.0.graph s.0.1 x.1 (subst (λ (g : GraphOf). W g s.0.1) graph s.3) f.3 in
+      let row : s.0 ≡ x = λ i. (key i, weight i) in
+      (n.place, s.1 ∙ ap (λ (r : Row). Some r) row)
+
+  pub one-total : (fs gs : List Function) (rows sows : List Row) → AreFunctions code e fs → AreFunctions code e gs → AreWeighed fs rows → AreWeighed gs sows → total rows ≡ total sows
+  one-total fs gs rows sows are too h k =
+      let there = total-le rows sows (keys-once fs rows are h) (in-other fs gs rows sows are too h k) in
+      let back = total-le sows rows (keys-once gs sows too k) (in-other gs fs sows rows too are k h) in
+      omega (arith, there, back)
+
+-- ---- their sizes
+
+abbrev sizes : List Function → List Row
+sizes [] = []
+sizes (f ∷ fs) = (f.entry, size_of f) ∷ sizes fs
+
+abbrev IsSize : GraphOf → ℕ → Type 0
+IsSize g n = n ≡ length g.addrs
+
+one-size : (g : GraphOf) (n m : ℕ) → IsSize g n → IsSize g m → n ≡ m
+one-size g n m a b = a ∙ sym b
+
+sized : (code : Bytes) (e : ℕ) (fs : List Function) → AreWeighed code e IsSize one-size fs (sizes fs)
+sized code e [] = tt
+sized code e (f ∷ fs) = ((refl, refl), sized code e fs)
+
+sum-of-sizes : (fs : List Function) → sum_by size_of fs ≡ total (sizes fs)
+sum-of-sizes [] = refl
+sum-of-sizes (f ∷ fs) = sum_by-cons size_of f fs ∙ ap (λ n. size_of f + n) (sum-of-sizes fs)
+
+pub sizes-once : (code : Bytes) (e : ℕ) (fs gs : List Function) → AreFunctions code e fs → AreFunctions code e gs → sum_by size_of fs ≡ sum_by size_of gs
+sizes-once code e fs gs are too = sum-of-sizes fs ∙ one-total code e IsSize one-size fs gs (sizes fs) (sizes gs) are too (sized code e fs) (sized code e gs) ∙ sym (sum-of-sizes gs)
