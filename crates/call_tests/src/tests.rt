@@ -5,7 +5,6 @@ mod compressed;
 mod decoding;
 mod drawn;
 mod edges;
-mod elf_files;
 mod interned;
 mod machine;
 mod rewriting;

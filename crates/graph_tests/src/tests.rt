@@ -1,4 +1,7 @@
-//! What no clause says: the graphs and the loops of worked programs.
+//! What no clause says: files of programs, and the graphs, loops and stack accesses of worked programs.
 
+mod elf_files;
 mod forests;
 mod graphs;
+mod programs;
+mod stack;

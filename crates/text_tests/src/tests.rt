@@ -3,6 +3,5 @@
 mod axioms;
 mod checking;
 mod evaluating;
-mod further_rules;
 mod reading;
 mod terms;

@@ -1,12 +1,11 @@
 //! What no clause says: that codes are joined where there is memory, and the ranges of small codes.
 
-ghost use Rattle.std.specs.Prelude.{◌<◌, ◌≤◌, ◌+◌, ◌^◌, IfOk, length};
+ghost use Rattle.std.specs.Prelude.{◌≡◌, ◌<◌, ◌≤◌, ◌+◌, ◌^◌, IfOk, length, true};
 ghost use Rattle.rv_words.specs.Ranges.{AreRanges};
 
 use rv_words::{List, NoMemory, Range};
 use sep_assert::*;
 use std::alloc::Global;
-use std::process::Abort;
 use std::test::Fail;
 use word_terms::{Code, Mem, Word};
 
@@ -41,81 +40,87 @@ fn is_made_of(code: &Code, ranges: &[(u64, &[u8])]) -> bool {
     true
 }
 
-/// That the codes of one range each agree, and that joined they are these ranges.
-fn check_join(
-    rt: &impl Abort,
-    alloc: Global,
-    first: (u64, &[u8]),
-    second: (u64, &[u8]),
-    joined: &[(u64, &[u8])],
-) -> Result<(), NoMemory> {
-    assert!(rt; first.0 < 1 << 32 && !first.1.is_empty() && first.1.len() < 1 << 32);
-    assert!(rt; second.0 < 1 << 32 && !second.1.is_empty() && second.1.len() < 1 << 32);
+/// Whether these bytes are those of a range that is tested.
+fn is_small(at: u64, bytes: &[u8]) -> bool
+    ensures { result ≡ true → (0 < length bytes.now) × (at + length bytes.now ≤ 2 ^ 64) }
+{
+    at < 1 << 32 && !bytes.is_empty() && bytes.len() < 1 << 32
+}
+
+/// A range: its address and its bytes.
+type Piece = (u64, &'static [u8]);
+
+/// Whether the codes of one range each agree, and are joined to these ranges.
+fn join_to(alloc: Global, first: Piece, second: Piece, joined: &[Piece]) -> Result<bool, NoMemory> {
+    if !is_small(first.0, first.1) || !is_small(second.0, second.1) {
+        return Ok(false);
+    }
     let a = one_range(alloc, first.0, first.1)?;
     let b = one_range(alloc, second.0, second.1)?;
-    assert!(rt; code_agree(&a, &b));
+    if !code_agree(&a, &b) {
+        return Ok(false);
+    }
     let both = code_join(alloc, &a, &b)?;
-    assert!(rt; is_made_of(&both, joined));
-    assert!(rt;
-        code_within(&a, &both) && code_within(&b, &both) && code_within_either(&both, &b, &a)
-    );
-    assert!(rt; same_code(&a, &both) == (joined.len() == 1 && joined[0].1.len() == first.1.len()));
+    Ok(is_made_of(&both, joined) && are_within(&a, &b, &both))
+}
+
+fn are_within(a: &Code, b: &Code, both: &Code) -> bool {
+    code_within(a, both) && code_within(b, both) && code_within_either(both, b, a)
+}
+
+/// `add x10, x10, x11`
+const ADD: &[u8] = &[0x33, 0x05, 0xb5, 0x00];
+/// `jalr x0, 0(x1)`
+const RETURN: &[u8] = &[0x67, 0x80, 0x00, 0x00];
+/// Both.
+const BOTH: &[u8] = &[0x33, 0x05, 0xb5, 0x00, 0x67, 0x80, 0x00, 0x00];
+
+static JOINED: [(Piece, Piece, &[Piece]); 4] = [
+    ((0x10000, ADD), (0x10004, RETURN), &[(0x10000, BOTH)]),
+    ((0x10004, RETURN), (0x10000, ADD), &[(0x10000, BOTH)]),
+    ((0x10000, BOTH), (0x10004, RETURN), &[(0x10000, BOTH)]),
+    (
+        (0x10008, ADD),
+        (0x10000, RETURN),
+        &[(0x10000, RETURN), (0x10008, ADD)],
+    ),
+];
+
+#[test]
+fn codes_are_joined(rt: HostRuntime) -> Result<(), Fail> {
+    for &(first, second, joined) in &JOINED {
+        let is_so = join_to(rt.alloc(), first, second, joined)?;
+        assert!(rt; is_so);
+    }
     Ok(())
 }
 
-#[test]
-fn joined_codes(rt: HostRuntime) -> Result<(), Fail> {
-    let alloc = rt.alloc();
-    let add: &[u8] = &[0x33, 0x05, 0xb5, 0x00];
-    let jalr: &[u8] = &[0x67, 0x80, 0x00, 0x00];
-    let both: &[u8] = &[0x33, 0x05, 0xb5, 0x00, 0x67, 0x80, 0x00, 0x00];
-    check_join(
-        &rt,
-        alloc,
-        (0x10000, add),
-        (0x10004, jalr),
-        &[(0x10000, both)],
-    )?;
-    check_join(
-        &rt,
-        alloc,
-        (0x10004, jalr),
-        (0x10000, add),
-        &[(0x10000, both)],
-    )?;
-    check_join(
-        &rt,
-        alloc,
-        (0x10000, both),
-        (0x10004, jalr),
-        &[(0x10000, both)],
-    )?;
-    check_join(
-        &rt,
-        alloc,
-        (0x10008, add),
-        (0x10000, jalr),
-        &[(0x10000, jalr), (0x10008, add)],
-    )?;
-    Ok(())
-}
-
-#[test]
-fn codes_that_disagree(rt: HostRuntime) -> Result<(), Fail> {
-    let alloc = rt.alloc();
+/// Whether a byte agrees with those from 0x10000 on, and lies among them, as told, and is the same code as itself alone.
+fn compares_so(
+    alloc: Global,
+    (at, byte, agree, within): (u64, u8, bool, bool),
+) -> Result<bool, NoMemory> {
+    if at >= 1 << 32 {
+        return Ok(false);
+    }
     let a = one_range(alloc, 0x10000, &[1, 2, 3])?;
-    for (at, byte, agree, within) in [
-        (0x10000, 1, true, true),
-        (0x10001, 1, false, false),
-        (0x10003, 1, true, false),
-        (0xffff, 1, true, false),
-    ] {
-        let b = one_range(alloc, at, &[byte])?;
-        assert_eq!(rt;
-            (code_agree(&a, &b), code_within(&b, &a)),
-            (agree, within),
-            "{at}"
-        );
+    let b = one_range(alloc, at, &[byte])?;
+    let is_same = same_code(&b, &b) && !same_code(&a, &b);
+    Ok(code_agree(&a, &b) == agree && code_within(&b, &a) == within && is_same)
+}
+
+static COMPARED: [(u64, u8, bool, bool); 4] = [
+    (0x10000, 1, true, true),
+    (0x10001, 1, false, false),
+    (0x10003, 1, true, false),
+    (0xffff, 1, true, false),
+];
+
+#[test]
+fn codes_are_compared(rt: HostRuntime) -> Result<(), Fail> {
+    for &row in &COMPARED {
+        let is_so = compares_so(rt.alloc(), row)?;
+        assert!(rt; is_so);
     }
     Ok(())
 }
@@ -133,17 +138,25 @@ fn assertion(alloc: Global, pc: u64, x10: u32, m: u32) -> Result<Assertion, NoMe
     })
 }
 
+/// A program counter, a variable in x10 and a memory, and whether that is the assertion of 0x10000, 1 and 0.
+static ASSERTIONS: [(u64, u32, u32, bool); 4] = [
+    (0x10000, 1, 0, true),
+    (0x10004, 1, 0, false),
+    (0x10000, 2, 0, false),
+    (0x10000, 1, 1, false),
+];
+
+fn is_same(alloc: Global, pc: u64, x10: u32, m: u32) -> Result<bool, NoMemory> {
+    let first = assertion(alloc, 0x10000, 1, 0)?;
+    let second = assertion(alloc, pc, x10, m)?;
+    Ok(same_assertion(&first, &second))
+}
+
 #[test]
-fn assertions_compared(rt: HostRuntime) -> Result<(), Fail> {
-    let alloc = rt.alloc();
-    let a = assertion(alloc, 0x10000, 1, 0)?;
-    for (pc, x10, m, same) in [
-        (0x10000, 1, 0, true),
-        (0x10004, 1, 0, false),
-        (0x10000, 2, 0, false),
-        (0x10000, 1, 1, false),
-    ] {
-        assert_eq!(rt; same_assertion(&a, &assertion(alloc, pc, x10, m)?), same);
+fn assertions_are_compared(rt: HostRuntime) -> Result<(), Fail> {
+    for &(pc, x10, m, same) in &ASSERTIONS {
+        let found = is_same(rt.alloc(), pc, x10, m)?;
+        assert!(rt; found == same);
     }
     Ok(())
 }
@@ -159,15 +172,17 @@ fn many_ranges(alloc: Global, count: u64) -> Result<Code, NoMemory> {
     Ok(Code { ranges })
 }
 
-/// Codes of many ranges are compared in time that grows as their length does.
-#[test]
-fn codes_of_many_ranges(rt: HostRuntime) -> Result<(), Fail> {
-    let alloc = rt.alloc();
+/// Whether codes of many ranges are compared as they should be, in time that grows as their length does.
+fn many_are_compared(alloc: Global) -> Result<bool, NoMemory> {
     let some = many_ranges(alloc, 10_000)?;
     let all = many_ranges(alloc, 20_000)?;
-    assert!(rt; code_within(&some, &all));
-    assert!(rt; !code_within(&all, &some));
-    assert!(rt; code_agree(&all, &some));
-    assert!(rt; code_within_either(&all, &some, &all));
+    let is_within = code_within(&some, &all) && !code_within(&all, &some);
+    Ok(is_within && code_agree(&all, &some) && code_within_either(&all, &some, &all))
+}
+
+#[test]
+fn codes_of_many_ranges(rt: HostRuntime) -> Result<(), Fail> {
+    let is_so = many_are_compared(rt.alloc())?;
+    assert!(rt; is_so);
     Ok(())
 }

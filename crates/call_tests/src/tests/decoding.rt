@@ -4,9 +4,6 @@
 
 use rv_decode::*;
 use rv_words::{Cmp, Op, Width};
-use std::alloc::Global;
-use std::process::Abort;
-use std::test::Fail;
 
 /// The name of an operation on two registers.
 fn op_name(op: Op) -> &'static str {
@@ -145,50 +142,41 @@ fn shown(i: Instr) -> (&'static str, [i32; 3]) {
     }
 }
 
-/// The word is the instruction that is shown so, and the instruction has that word.
-fn expect_row(rt: &impl Abort, word: u32, name: &str, operands: [i32; 3]) {
+/// Whether the word is the instruction that is shown so, and the instruction has that word.
+fn is_row(word: u32, name: &str, operands: [i32; 3]) -> bool {
     match decode(word) {
         Some(i) => {
             let (name_shown, operands_shown) = shown(i);
-            assert_eq!(rt; name_shown, name, "{word:#010x}");
-            assert_eq!(rt; operands_shown, operands, "{word:#010x}");
-            assert_eq!(rt; encode(&i), Some(word), "{word:#010x}");
+            name_shown == name && operands_shown == operands && encode(&i) == Some(word)
         }
-        None => assert!(rt; false, "{word:#010x}"),
+        None => false,
     }
-}
-
-/// The word is no instruction.
-fn expect_no_row(rt: &impl Abort, word: u32) {
-    assert_eq!(rt; decode(word), None, "{word:#010x}");
 }
 
 #[test]
 fn words_with_a_row(rt: HostRuntime) {
     for &(word, name, operands) in &ROWS {
-        expect_row(&rt, word, name, operands);
+        assert!(rt; is_row(word, name, operands));
     }
-}
-
-/// Fences whose fields the disassembler doesn't know: any are allowed (section 2.7 of the manual).
-#[test]
-fn fences_with_any_fields(rt: HostRuntime) {
-    for (word, operands) in [
-        (0x8330_000f, [0x833, 0, 0]),
-        (0x0000_000f, [0, 0, 0]),
-        (0x0ff2_888f, [0x0ff, 5, 17]),
-        (0xffff_8f8f, [0xfff, 31, 31]),
-    ] {
-        expect_row(&rt, word, "fence", operands);
+    for &(word, operands) in &FENCES {
+        assert!(rt; is_row(word, "fence", operands));
     }
 }
 
 #[test]
 fn words_without_a_row(rt: HostRuntime) {
-    for word in NO_ROWS {
-        expect_no_row(&rt, word);
+    for &word in &NO_ROWS {
+        assert!(rt; decode(word).is_none());
     }
 }
+
+/// Fences whose fields the disassembler doesn't know: any are allowed (section 2.7 of the manual).
+static FENCES: [(u32, [i32; 3]); 4] = [
+    (0x8330_000f, [0x833, 0, 0]),
+    (0x0000_000f, [0, 0, 0]),
+    (0x0ff2_888f, [0x0ff, 5, 17]),
+    (0xffff_8f8f, [0xfff, 31, 31]),
+];
 
 /// Words, each with its name and its operands.
 static ROWS: [(u32, &str, [i32; 3]); 202] = [
@@ -397,7 +385,7 @@ static ROWS: [(u32, &str, [i32; 3]); 202] = [
 ];
 
 /// Words that are no instruction.
-const NO_ROWS: [u32; 106] = [
+static NO_ROWS: [u32; 106] = [
     0x0000_0000,
     0xffff_ffff,
     0xfffe_0781,

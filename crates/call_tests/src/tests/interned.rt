@@ -3,7 +3,6 @@
 use mc_text::Scan;
 use rv_words::List;
 use std::alloc::Global;
-use std::test::Fail;
 use term_arena::Arena;
 use term_text::{read_cond, read_mem, read_word};
 use word_terms::DEPTH_LIMIT;
@@ -22,12 +21,31 @@ static WORDS: [&[u8]; 9] = [
 ];
 
 /// The number of the word of a text.
-fn number_of(alloc: Global, arena: &mut Arena, text: &[u8]) -> Result<u64, Fail> {
-    let word = read_word(alloc, &mut Scan::new(text), DEPTH_LIMIT)
-        .ok()
-        .ok_or("word")?;
-    let number = arena.intern_word(&word)?;
-    Ok(number)
+fn number_of(alloc: Global, arena: &mut Arena, text: &[u8]) -> Option<u64> {
+    let word = read_word(alloc, &mut Scan::new(text), DEPTH_LIMIT).ok()?;
+    arena.intern_word(&word).ok()
+}
+
+/// The number of the memory of a text.
+fn number_of_memory(alloc: Global, arena: &mut Arena, text: &[u8]) -> Option<u64> {
+    let mem = read_mem(alloc, &mut Scan::new(text), DEPTH_LIMIT).ok()?;
+    arena.intern_mem(&mem).ok()
+}
+
+/// The number of the condition of a text.
+fn number_of_condition(alloc: Global, arena: &mut Arena, text: &[u8]) -> Option<u64> {
+    let cond = read_cond(alloc, &mut Scan::new(text), DEPTH_LIMIT).ok()?;
+    arena.intern_cond(&cond).ok()
+}
+
+/// The numbers of the words.
+fn numbers(alloc: Global, arena: &mut Arena) -> Option<List<u64>> {
+    let mut numbers = List::new(alloc);
+    for text in &WORDS {
+        let number = number_of(alloc, arena, text)?;
+        numbers.push(number).ok()?;
+    }
+    Some(numbers)
 }
 
 /// Whether the word of a place has the same number exactly as those with its text.
@@ -41,36 +59,30 @@ fn is_told_apart(numbers: &List<u64>, place: usize) -> bool {
     true
 }
 
-#[test]
-fn numbers_of_words(rt: HostRuntime) -> Result<(), Fail> {
-    let mut arena = Arena::new(rt.alloc());
-    let mut numbers = List::new(rt.alloc());
-    for text in &WORDS {
-        let number = number_of(rt.alloc(), &mut arena, text)?;
-        numbers.push(number)?;
-    }
-    assert!(rt; arena.len() == 10);
+/// Whether each word has its number.
+fn words_have_numbers(alloc: Global) -> Option<bool> {
+    let mut arena = Arena::new(alloc);
+    let numbers = numbers(alloc, &mut arena)?;
     for place in 0..WORDS.len() {
-        assert!(rt; is_told_apart(&numbers, place));
+        if !is_told_apart(&numbers, place) {
+            return Some(false);
+        }
     }
-    Ok(())
+    Some(arena.len() == 10)
+}
+
+/// Whether a memory has its number again, and a condition of it another one.
+fn others_have_numbers(alloc: Global) -> Option<bool> {
+    let mut arena = Arena::new(alloc);
+    let first = number_of_memory(alloc, &mut arena, b"(st1 m0 v0 v1)\n")?;
+    let text = b"(not (in8 (st1 m0 v0 v1) v0))\n";
+    let second = number_of_condition(alloc, &mut arena, text)?;
+    let third = number_of_memory(alloc, &mut arena, b"(st1 m0 v0 v1)\n")?;
+    Some(arena.len() == 6 && first == third && first != second)
 }
 
 #[test]
-fn numbers_of_memories_and_conditions(rt: HostRuntime) -> Result<(), Fail> {
-    let alloc = rt.alloc();
-    let mut arena = Arena::new(alloc);
-    let mem = read_mem(alloc, &mut Scan::new(b"(st1 m0 v0 v1)\n"), DEPTH_LIMIT)
-        .ok()
-        .ok_or("memory")?;
-    let text = b"(not (in8 (st1 m0 v0 v1) v0))\n";
-    let cond = read_cond(alloc, &mut Scan::new(text), DEPTH_LIMIT)
-        .ok()
-        .ok_or("condition")?;
-    let first = arena.intern_mem(&mem)?;
-    let second = arena.intern_cond(&cond)?;
-    let third = arena.intern_mem(&mem)?;
-    assert!(rt; arena.len() == 6);
-    assert!(rt; first == third && first != second);
-    Ok(())
+fn terms_have_numbers(rt: HostRuntime) {
+    assert!(rt; words_have_numbers(rt.alloc()) == Some(true));
+    assert!(rt; others_have_numbers(rt.alloc()) == Some(true));
 }

@@ -363,7 +363,7 @@ fn calls_in_memory_are_answered_or_fail(rt: HostRuntime) -> Result<(), Fail> {
     for &(kept, left) in &KEPT {
         let shelf_fails = fails_on_a_shelf(rt.alloc(), kept, left)?;
         let sink_fails = fails_on_a_sink(rt.alloc(), kept, left)?;
-        assert!(rt; shelf_fails && sink_fails, "kept {kept}");
+        assert!(rt; shelf_fails && sink_fails);
     }
     Ok(())
 }
@@ -407,6 +407,14 @@ fn file_is<S: Shelf>(alloc: Global, shelf: &mut S, name: &str, bytes: &[u8]) -> 
     }
 }
 
+/// Whether the file has as many bytes as these, and they are its one line.
+fn is_one_line<S: Shelf>(alloc: Global, shelf: &mut S, name: &str, bytes: &[u8]) -> bool {
+    let size = measure(shelf, name, 6) == Ok(bytes.len() as u64);
+    let mut lines = Lines::new(name, 6);
+    let line = gives_line(alloc, &mut lines, shelf, Some(bytes));
+    size && line && gives_line(alloc, &mut lines, shelf, None)
+}
+
 /// Calls on a file that was removed while it was open.
 static REMOVED: [Call; 2] = [Call::Append(b"abc", true), Call::Read(0, None)];
 
@@ -417,10 +425,7 @@ fn the_system_has_files(rt: HostRuntime) -> Result<(), Fail> {
     assert!(rt; all_give(&mut shelf, name, &CALLS));
     assert!(rt; gives(&mut shelf, name, Call::Append(b"abcdef", true)));
     assert!(rt; file_is(rt.alloc(), &mut shelf, name, b"abcdef"));
-    assert!(rt; measure(&mut shelf, name, 6) == Ok(6));
-    let mut lines = Lines::new(name, 6);
-    assert!(rt; gives_line(rt.alloc(), &mut lines, &mut shelf, Some(b"abcdef")));
-    assert!(rt; gives_line(rt.alloc(), &mut lines, &mut shelf, None));
+    assert!(rt; is_one_line(rt.alloc(), &mut shelf, name, b"abcdef"));
     fs::remove_file(&rt, name)?;
     assert!(rt; all_give(&mut shelf, name, &REMOVED));
     for name in [name, ".", ""] {

@@ -1,9 +1,8 @@
 //! What no clause says: that calls succeed while there is memory. The texts are written by hand.
 
 use mc_text::*;
-use rv_words::Bytes;
+use rv_words::{Bytes, NoMemory};
 use std::alloc::Global;
-use std::test::Fail;
 
 /// Texts, their tokens, and the line of the first place at which no token begins, if there is one.
 static TEXTS: [(&[u8], &[Token<'static>], Option<u64>); 18] = [
@@ -117,34 +116,36 @@ static BYTES: [(&[u8], Option<&[u8]>); 7] = [
 ];
 
 /// Whether the atom spells these bytes, or none.
-fn spells(alloc: Global, atom: &[u8], bytes: Option<&[u8]>) -> Result<bool, Fail> {
-    let found = hex_bytes(alloc, atom).ok().ok_or("memory")?;
-    Ok(match (&found, bytes) {
-        (Some(found), Some(bytes)) => found.as_slice() == bytes,
-        (None, None) => true,
+fn spells(alloc: Global, atom: &[u8], bytes: Option<&[u8]>) -> bool {
+    match (hex_bytes(alloc, atom), bytes) {
+        (Ok(Some(found)), Some(bytes)) => found.as_slice() == bytes,
+        (Ok(None), None) => true,
         _ => false,
-    })
-}
-
-#[test]
-fn atoms_spell_their_bytes(rt: HostRuntime) -> Result<(), Fail> {
-    for &(atom, bytes) in &BYTES {
-        assert!(rt; spells(rt.alloc(), atom, bytes)?);
     }
-    Ok(())
 }
 
 #[test]
-fn what_is_put_stands_at_the_end(rt: HostRuntime) -> Result<(), Fail> {
+fn atoms_spell_their_bytes(rt: HostRuntime) {
+    for &(atom, bytes) in &BYTES {
+        assert!(rt; spells(rt.alloc(), atom, bytes));
+    }
+}
+
+/// Puts an atom, numbers and bytes.
+fn put_some(out: &mut Bytes) -> Result<(), NoMemory> {
+    put_atom(out, b"a ")?;
+    put_dec(out, u64::MAX)?;
+    put_atom(out, b" ")?;
+    put_hex(out, 0x30_00f0)?;
+    put_bytes(out, &[])?;
+    put_bytes(out, &[0, 0xfe])
+}
+
+#[test]
+fn what_is_put_stands_at_the_end(rt: HostRuntime) {
     let mut out = Bytes::new(rt.alloc());
-    put_atom(&mut out, b"a ").ok().ok_or("atom")?;
-    put_dec(&mut out, u64::MAX).ok().ok_or("decimal")?;
-    put_atom(&mut out, b" ").ok().ok_or("space")?;
-    put_hex(&mut out, 0x30_00f0).ok().ok_or("hexadecimal")?;
-    put_bytes(&mut out, &[]).ok().ok_or("no bytes")?;
-    put_bytes(&mut out, &[0, 0xfe]).ok().ok_or("bytes")?;
+    assert!(rt; put_some(&mut out).is_ok());
     assert!(rt; out.as_slice() == b"a 18446744073709551615 0x3000f000fe".as_slice());
-    Ok(())
 }
 
 #[test]

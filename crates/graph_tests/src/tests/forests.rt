@@ -2,71 +2,16 @@
 
 ghost use Rattle.std.specs.Prelude.{◌≡◌, ◌<◌, length};
 
-use elf_image::{Image, read};
-use flow_graph::{FlowFault, Graph, Outside, build};
+use super::programs::{ADD, RETURN, graph, numbers, repeated};
+use flow_graph::{FlowFault, Graph, Outside};
 use loop_forest::*;
 use rv_decode::{Instr, encode};
 use rv_words::Cmp;
-use std::alloc::{AllocError, Global};
+use std::alloc::Global;
 use std::test::Fail;
 
-/// `addi x10, x10, 1`
-const ADD: u32 = 0x00150513;
-/// `jalr x0, 0(x1)`
-const RETURN: u32 = 0x00008067;
 /// `beq x10, x0, 0`
 const TO_ITSELF: u32 = 0x00050063;
-
-/// Appends numbers, each with its count of bytes, the low one first.
-fn push_numbers(file: &mut Vec<u8>, numbers: &[(usize, u64)]) -> Result<(), AllocError> {
-    for &(size, number) in numbers {
-        let mut rest = number;
-        for _ in 0..size {
-            file.push((rest % 256) as u8)?;
-            rest /= 256;
-        }
-    }
-    Ok(())
-}
-
-/// A file with these words as code at 0x10000.
-fn elf_file(alloc: Global, words: &[u32]) -> Result<Vec<u8>, AllocError> {
-    let mut file = Vec::from_slice(alloc, b"\x7fELF\x02\x01\x01\0\0\0\0\0\0\0\0\0")?;
-    let size = (words.len() as u64).wrapping_mul(4);
-    let header = [
-        (2, 2),
-        (2, 243),
-        (4, 1),
-        (8, 0x10000),
-        (8, 64),
-        (8, 0),
-        (4, 0),
-        (2, 64),
-        (2, 56),
-        (2, 1),
-        (6, 0),
-        (4, 1),
-        (4, 5),
-        (8, 120),
-        (8, 0x10000),
-        (8, 0x10000),
-        (8, size),
-        (8, size),
-        (8, 4),
-    ];
-    push_numbers(&mut file, &header)?;
-    for &word in words {
-        push_numbers(&mut file, &[(4, u64::from(word))])?;
-    }
-    Ok(file)
-}
-
-/// The graph of what is reached from 0x10000 in a file with these words there.
-fn graph(alloc: Global, words: &[u32]) -> Option<Graph> {
-    let file = elf_file(alloc, words).ok()?;
-    let image: Image = read(alloc, &file).ok()?;
-    build(alloc, &image, 0x10000).ok()
-}
 
 /// A loop: its head, its first and last node, all nodes between them being in it, its exits, and its parent.
 type Row = (u32, (u32, u32), &'static [u32], Option<u32>);
@@ -117,7 +62,7 @@ fn has(alloc: Global, words: &[u32], rows: &[Row], cuts: &[u32]) -> Option<bool>
 }
 
 /// Code as a compiler writes it, with a loop, a break, and two branches that join again.
-static COMPILED: [u32; 42] = [
+const COMPILED: &[u32] = &[
     0xfd010113, 0x02813423, 0x03010413, 0x00050793, 0xfcf42e23, 0xfe042623, 0xfe042423, 0x0500006f,
     0xfe842783, 0x0007871b, 0x00a00793, 0x04f70c63, 0xfe842783, 0x0017f793, 0x00078e63, 0xfec42783,
     0x00078713, 0xfe842783, 0x00f707bb, 0xfef42623, 0x0100006f, 0xfec42783, 0xfff7879b, 0xfef42623,
@@ -126,14 +71,23 @@ static COMPILED: [u32; 42] = [
     0x03010113, 0x00008067,
 ];
 
+/// `beq x10, x0, 40`
+const OUT: u32 = 0x02050463;
+
 /// Eight branches out of a loop.
-static EIGHT_EXITS: [u32; 19] = [
-    0x02050463, 0x02050463, 0x02050463, 0x02050463, 0x02050463, 0x02050463, 0x02050463, 0x02050463,
-    ADD, 0xfddff06f, RETURN, RETURN, RETURN, RETURN, RETURN, RETURN, RETURN, RETURN, RETURN,
+const EIGHT_EXITS: &[u32] = &[
+    OUT, OUT, OUT, OUT, OUT, OUT, OUT, OUT, ADD, 0xfddff06f, RETURN, RETURN, RETURN, RETURN,
+    RETURN, RETURN, RETURN, RETURN, RETURN,
+];
+
+/// .. and nine.
+const NINE_EXITS: &[u32] = &[
+    OUT, OUT, OUT, OUT, OUT, OUT, OUT, OUT, OUT, 0xfddff06f, RETURN, RETURN, RETURN, RETURN,
+    RETURN, RETURN, RETURN, RETURN, RETURN,
 ];
 
 /// Programs at 0x10000, with their loops and cuts.
-static FORESTS: [(&[u32], &[Row], &[u32]); 7] = [
+static FORESTS: [(&[u32], &[Row], &[u32]); 9] = [
     (&[RETURN], &[], &[0]),
     // nested loops: beq x10, x0, -4 and beq x10, x0, -12
     (
@@ -158,82 +112,69 @@ static FORESTS: [(&[u32], &[Row], &[u32]); 7] = [
     (&[0x00000263, RETURN], &[], &[0, 1]),
     // a jump to itself, which has no exit
     (&[0x0000006f], &[(0, (0, 0), &[], None)], &[0]),
+    (
+        COMPILED,
+        &[(27, (8, 32), &[33], None)],
+        &[0, 24, 27, 33, 37],
+    ),
+    (
+        EIGHT_EXITS,
+        &[(0, (0, 9), &[10, 11, 12, 13, 14, 15, 16, 17], None)],
+        &[0, 10, 11, 12, 13, 14, 15, 16, 17],
+    ),
 ];
 
 #[test]
 fn loops_and_cuts_are_found(rt: HostRuntime) -> Result<(), Fail> {
     for &(words, rows, cuts) in &FORESTS {
-        assert!(rt;
-            has(rt.alloc(), words, rows, cuts) == Some(true),
-            "the program of {} words",
-            words.len()
-        );
+        assert!(rt; has(rt.alloc(), words, rows, cuts) == Some(true));
     }
     Ok(())
 }
 
-/// The head of the loop with too many exits, if there is one.
-fn many_exits(alloc: Global, words: &[u32]) -> Option<u64> {
+/// Why a program has no forest, if it has none.
+fn refusal(alloc: Global, words: &[u32]) -> Option<Outside> {
     let g = graph(alloc, words)?;
     match find_loops(alloc, &g) {
-        Err(FlowFault::Outside(Outside::ManyExits(a))) => Some(a),
+        Err(FlowFault::Outside(why)) => Some(why),
         _ => None,
     }
 }
 
-#[test]
-fn compiled_code_has_a_loop(rt: HostRuntime) -> Result<(), Fail> {
-    let loops: [Row; 1] = [(27, (8, 32), &[33], None)];
-    assert!(rt; has(rt.alloc(), &COMPILED, &loops, &[0, 24, 27, 33, 37]) == Some(true));
-    Ok(())
-}
-
-#[test]
-fn nine_exits_are_too_many(rt: HostRuntime) -> Result<(), Fail> {
-    let mut words = EIGHT_EXITS;
-    let loops: [Row; 1] = [(0, (0, 9), &[10, 11, 12, 13, 14, 15, 16, 17], None)];
-    let cuts = [0, 10, 11, 12, 13, 14, 15, 16, 17];
-    assert!(rt; has(rt.alloc(), &words, &loops, &cuts) == Some(true));
-    words[8] = 0x02050463;
-    assert!(rt; many_exits(rt.alloc(), &words) == Some(0x10000));
-    Ok(())
-}
-
-/// Whether a program shows this cycle with two entries and these walks.
-fn shows(
-    alloc: Global,
-    words: &[u32],
-    cycle: &[u64],
-    first: &[u64],
-    second: &[u64],
-) -> Option<bool> {
-    let g = graph(alloc, words)?;
-    match find_loops(alloc, &g) {
-        Err(
-            FlowFault::Outside(
-                Outside::TwoEntries {
-                    cycle: c,
-                    first: f,
-                    second: s,
-                },
-            ),
-        ) => { Some(c.as_slice() == cycle && f.as_slice() == first && s.as_slice() == second) }
-        _ => None,
+/// Whether a fault shows this cycle with two entries and these walks.
+fn shows(why: &Outside, cycle: &[u64], walks: [&[u64]; 2]) -> bool {
+    match why {
+        Outside::TwoEntries {
+            cycle: c,
+            first,
+            second,
+        } => {
+            c.as_slice() == cycle && first.as_slice() == walks[0] && second.as_slice() == walks[1]
+        }
+        _ => false,
     }
 }
 
+/// A cycle with two entries.
+const TWO_ENTRIES: &[u32] = &[0x00050463, 0x00158593, 0xfe059ee3, RETURN];
+
+/// Whether it is refused with that cycle and two walks into it.
+fn two_entries_are_shown(alloc: Global) -> Option<bool> {
+    let why = refusal(alloc, TWO_ENTRIES)?;
+    let walks: [&[u64]; 2] = [&[0x10000, 0x10004], &[0x10000, 0x10008]];
+    Some(shows(&why, &[0x10004, 0x10008], walks))
+}
+
+/// Whether a loop with nine exits is refused with its head.
+fn nine_exits_are_refused(alloc: Global) -> Option<bool> {
+    let why = refusal(alloc, NINE_EXITS)?;
+    Some(numbers(&why) == (11, 0x10000, 0))
+}
+
 #[test]
-fn two_entries_are_shown(rt: HostRuntime) -> Result<(), Fail> {
-    let words = [0x00050463, 0x00158593, 0xfe059ee3, RETURN];
-    let shown = shows(
-        rt.alloc(),
-        &words,
-        &[0x10004, 0x10008],
-        &[0x10000, 0x10004],
-        &[0x10000, 0x10008],
-    );
-    assert!(rt; shown == Some(true));
-    Ok(())
+fn what_has_no_forest_is_refused(rt: HostRuntime) {
+    assert!(rt; nine_exits_are_refused(rt.alloc()) == Some(true));
+    assert!(rt; two_entries_are_shown(rt.alloc()) == Some(true));
 }
 
 /// How many loops and how many cuts a program has.
@@ -249,22 +190,11 @@ fn counts(alloc: Global, words: &[u32]) -> Option<(u32, u32)> {
     Some((f.loops(), cuts))
 }
 
-/// So many times one word, then two returns.
-fn repeated(alloc: Global, word: u32, count: usize) -> Result<Vec<u32>, AllocError> {
-    let mut words = Vec::new(alloc);
-    for _ in 0..count {
-        words.push(word)?;
-    }
-    words.push(RETURN)?;
-    words.push(RETURN)?;
-    Ok(words)
-}
-
 /// So many loops, each inside the one before.
-fn nested(alloc: Global, count: i32) -> Result<Vec<u32>, AllocError> {
+fn nested(alloc: Global, count: i32) -> Option<Vec<u32>> {
     let mut words = Vec::new(alloc);
     for _ in 0..count {
-        words.push(ADD)?;
+        words.push(ADD).ok()?;
     }
     let mut offset = -4i32;
     for _ in 0..count {
@@ -274,11 +204,11 @@ fn nested(alloc: Global, count: i32) -> Result<Vec<u32>, AllocError> {
             rs2: 0,
             offset,
         };
-        words.push(encode(&branch).unwrap_or(0))?;
+        words.push(encode(&branch)?).ok()?;
         offset = offset.wrapping_sub(8);
     }
-    words.push(RETURN)?;
-    Ok(words)
+    words.push(RETURN).ok()?;
+    Some(words)
 }
 
 /// Straight code, branches to themselves, and branches over one instruction each, with their loops and cuts.
@@ -290,23 +220,29 @@ static LONG: [(u32, usize, (u32, u32)); 5] = [
     (ADD, 31, (0, 1)),
 ];
 
+/// The counts of so many times one word, and then two returns.
+fn counts_of_repeated(alloc: Global, word: u32, count: usize) -> Option<(u32, u32)> {
+    let words = repeated(alloc, word, count, &[RETURN, RETURN])?;
+    counts(alloc, &words)
+}
+
+/// The counts of so many loops within one another.
+fn counts_of_nested(alloc: Global, count: i32) -> Option<(u32, u32)> {
+    let words = nested(alloc, count)?;
+    counts(alloc, &words)
+}
+
 #[test]
 fn long_code_is_cut(rt: HostRuntime) -> Result<(), Fail> {
     for &(word, count, found) in &LONG {
-        let words = repeated(rt.alloc(), word, count)?;
-        assert!(rt;
-            counts(rt.alloc(), &words) == Some(found),
-            "{count} times {word:#x}"
-        );
+        assert!(rt; counts_of_repeated(rt.alloc(), word, count) == Some(found));
     }
     Ok(())
 }
 
 #[test]
-fn deep_loops_are_found(rt: HostRuntime) -> Result<(), Fail> {
-    let words = nested(rt.alloc(), 500)?;
-    assert!(rt; counts(rt.alloc(), &words) == Some((500, 1000)));
-    Ok(())
+fn deep_loops_are_found(rt: HostRuntime) {
+    assert!(rt; counts_of_nested(rt.alloc(), 500) == Some((500, 1000)));
 }
 
 /// How deep a node's region is.
@@ -338,17 +274,18 @@ fn regions_are(alloc: Global, words: &[u32], regions: &[(Option<u32>, u32)]) -> 
     Some(true)
 }
 
+/// Loops within one another, and the region of each node with its depth.
+static REGIONS: [(Option<u32>, u32); 6] = [
+    (None, 0),
+    (None, 0),
+    (Some(0), 1),
+    (Some(1), 2),
+    (Some(0), 1),
+    (None, 0),
+];
+
 #[test]
-fn regions_are_told(rt: HostRuntime) -> Result<(), Fail> {
+fn regions_are_told(rt: HostRuntime) {
     let words = [ADD, ADD, ADD, 0xfe050ee3, 0xfe050ae3, RETURN];
-    let regions = [
-        (None, 0),
-        (None, 0),
-        (Some(0), 1),
-        (Some(1), 2),
-        (Some(0), 1),
-        (None, 0),
-    ];
-    assert!(rt; regions_are(rt.alloc(), &words, &regions) == Some(true));
-    Ok(())
+    assert!(rt; regions_are(rt.alloc(), &words, &REGIONS) == Some(true));
 }

@@ -1,8 +1,7 @@
-//! The outcomes of small functions, and that nested calls are kept in a list.
+//! The outcomes of small functions, and the first ill-formed definition of a group.
 
-use mc_text::{put_atom, put_dec};
 use proof_text::Reader;
-use rv_words::{ByteMap, Bytes, List, NoMemory, Width};
+use rv_words::{ByteMap, List, NoMemory, Width};
 use std::alloc::Global;
 use std::test::Fail;
 use tailrec_lang::{
@@ -35,7 +34,7 @@ leave 0 v0 v2 v3 ; m1
 ";
 
 /// How an evaluation is to end.
-#[derive(Clone, Copy, Debug)]
+#[derive(Clone, Copy)]
 enum Ending {
     /// By exit 0, with this program counter, the sum as the first word and at 0x1000, 0 as the second word, and with
     /// turns left.
@@ -174,31 +173,6 @@ fn functions_have_their_outcomes(rt: HostRuntime) -> Result<(), Fail> {
     Ok(())
 }
 
-/// The text, and definitions up to that number, each of which calls the one before it.
-fn nested(alloc: Global, last: u64) -> Result<Bytes, NoMemory> {
-    let mut text = Bytes::from_slice(alloc, TEXT.as_bytes())?;
-    for callee in 1..last {
-        put_atom(&mut text, b"def 0x20000 ret\ncall ")?;
-        put_dec(&mut text, callee)?;
-        put_atom(&mut text, b" 1 v0 v1 ; m0\narm\nleave 0 v2 v3 v4 ; m1\n")?;
-    }
-    put_atom(&mut text, b"end\n")?;
-    Ok(text)
-}
-
-#[test]
-fn calls_are_nested_as_deep_as_a_text_can_have_them(rt: HostRuntime) -> Result<(), Fail> {
-    let text = nested(rt.alloc(), 4095)?;
-    let ending = Ending::Done {
-        pc: 5,
-        sum: 11,
-        left: 0,
-    };
-    let ended = text_ends_so(rt.alloc(), text.as_slice(), (4095, 3, 4099), ending)?;
-    assert!(rt; ended);
-    Ok(())
-}
-
 /// What stands in the text, what is put in its place, and the first ill-formed definition.
 static CHANGES: [(&str, &str, Option<u32>); 4] = [
     ("call 0", "call 0", None),
@@ -242,7 +216,7 @@ fn is_ill_formed(alloc: Global, old: &str, new: &str, bad: Option<u32>) -> Resul
 fn the_first_ill_formed_definition(rt: HostRuntime) -> Result<(), Fail> {
     for &(old, new, bad) in &CHANGES {
         let is_first = is_ill_formed(rt.alloc(), old, new, bad)?;
-        assert!(rt; is_first, "{new}");
+        assert!(rt; is_first);
     }
     Ok(())
 }

@@ -1,6 +1,6 @@
 use Rattle.std.proofs.Common.{◌≡◌}
 use Rattle.group_text.specs.declared.version.Version.TheVariants.{One}
-use Rattle.text_tests.proofs.tests.reading.is_printed_again.Given as goal
+use Rattle.text_tests.proofs.tests.reading.copy_lines.Given as goal
 
 abbrev pub invariant-loop : goal.invariant-loop
 invariant-loop l = l.reader.version ≡ One
