@@ -1,8 +1,8 @@
 #!/usr/bin/env python3
-"""functions.py PROGRAM ELF [OUT]: what `decompile` of a built program says of each function of an ELF file, and a summary.
+"""functions.py [--link] PROGRAM ELF [OUT]: what `decompile`, or `link`, of a built program says of each function of an ELF file, and a summary.
 
-The functions are those of the file's symbol table. Each is decompiled alone, as many at a time as there are processors; its line says how many
-instructions and definitions it has, or why it is refused. With OUT, all that aren't refused are decompiled together into that file, which is
+The functions are those of the file's symbol table. Each is decompiled alone, or with --link with the functions that it calls, as many at a time as there
+are processors; its line says how many instructions and definitions it has, or why it is refused. With OUT, all that aren't refused are decompiled together into that file, which is
 then checked. (Their text is held in memory: nine bytes for each byte of it. Large files make hundreds of megabytes of text.) The exit status is 0 where the
 file was read, however many functions are refused.
 """
@@ -19,6 +19,7 @@ REASONS = {
     "call": "calls a function (a jump that keeps where it came from)",
     "jump-through": "jumps through a register other than by a return: a jump table, or a call at its end",
     "too-large": "has more than 1,024 instructions",
+    "recursive": "calls itself, by itself or by others",
     "two-entries": "has a loop that is entered at two places",
     "many-exits": "has a loop that is left to more than 8 places",
     "not-decoded": "has an instruction outside RV64IMC: floating point, atomics, CSRs, vectors",
@@ -61,7 +62,7 @@ def say(*words):
 
 def told(line, word):
     """What the line says of the function, and in one word why it is refused."""
-    if line.startswith("decompiled "):
+    if line.startswith(("decompiled ", "linked ")):
         _, _, _, instructions, definitions = line.split()
         return f"{instructions} instructions, {definitions} definitions", None
     why = line.removeprefix(f"refused {word} ")
@@ -69,17 +70,21 @@ def told(line, word):
 
 
 def main():
-    if len(sys.argv) not in (3, 4):
+    words = sys.argv[1:]
+    command, done = ("link", "linked") if words[:1] == ["--link"] else ("decompile", "decompiled")
+    if command == "link":
+        words.pop(0)
+    if len(words) not in (2, 3):
         sys.exit(__doc__)
-    program, elf = os.path.abspath(sys.argv[1]), sys.argv[2]
-    out = sys.argv[3] if len(sys.argv) == 4 else None
+    program, elf = os.path.abspath(words[0]), words[1]
+    out = words[2] if len(words) == 3 else None
     if not os.access(program, os.X_OK) or os.path.isdir(program):
-        sys.exit(f"{sys.argv[1]}: no program. README.md says how mcdec is built")
+        sys.exit(f"{words[0]}: no program. README.md says how mcdec is built")
     if out is not None and os.path.exists(out) and os.path.samefile(out, elf):
         sys.exit(f"{out} is the ELF file itself: nothing was done")
     with tempfile.TemporaryDirectory() as folder:
         # No instruction stands at an odd address, so the answer is that, or why the file isn't read.
-        status, line = say(program, "decompile", elf, os.path.join(folder, "none"), "0x1")
+        status, line = say(program, command, elf, os.path.join(folder, "none"), "0x1")
         if status != 1:
             hint = ". It is an object file: link it" if line == "unreadable elf kind 1" else ""
             sys.exit(f"{elf}: {line}{hint}")
@@ -91,7 +96,7 @@ def main():
         inside, why = [], collections.Counter()
         progress = sys.stderr.isatty()
         with ThreadPoolExecutor(os.cpu_count()) as pool:
-            answers = pool.map(lambda job: say(program, "decompile", elf, os.path.join(folder, f"{job[0]:x}"), job[1])[1], jobs)
+            answers = pool.map(lambda job: say(program, command, elf, os.path.join(folder, f"{job[0]:x}"), job[1])[1], jobs)
             for k, ((address, word), line) in enumerate(zip(jobs, answers), 1):
                 text, reason = told(line, word)
                 if reason is None:
@@ -106,11 +111,11 @@ def main():
                     print(f"{k} of {len(jobs)}, {len(inside)} inside", end="", file=sys.stderr, flush=True)
     if progress:
         print(f"\r{'':60}\r", end="", file=sys.stderr)
-    print(f"\n{len(jobs)} functions, {len(inside)} decompiled, {len(jobs) - len(inside)} refused")
+    print(f"\n{len(jobs)} functions, {len(inside)} {done}, {len(jobs) - len(inside)} refused")
     for reason, count in why.most_common():
         print(f"{count:7}  {reason}: {REASONS.get(reason, 'see docs/COMMANDS.md')}")
     if out is not None and inside:
-        status, lines = say(program, "decompile", elf, out, *inside)
+        status, lines = say(program, command, elf, out, *inside)
         if status:
             sys.exit(f"{out}: {lines}")
         print(f"{out}: {say(program, 'check', elf, out)[1]}")

@@ -165,8 +165,8 @@ class Text:
         return self.lines[self.at - 1].partition(" ")[2]
 
     def groups(self):
-        if self.take("mcproof") not in ("1",):
-            raise BadText("line 1: this script knows version 1")
+        if self.take("mcproof") not in ("1", "3"):
+            raise BadText("line 1: this script knows versions 1 and 3")
         while self.head() != "end":
             if self.head() == "group":
                 yield self.group()

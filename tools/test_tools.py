@@ -19,6 +19,7 @@ sys.path.insert(0, TOOLS)
 from functions import symbols, word_of
 
 SHOWN = ("gcd", "sum", "strlen", "average")
+LINKED = ("linked", "lcm")
 LCM = """0x11120  gcd                           7 instructions, 5 definitions
 0x11130  lcm                           call 0x11140
 
@@ -44,9 +45,9 @@ def say(tool, *words):
 
 
 def try_show(folder):
-    for name in SHOWN:
-        proof = os.path.join(EXAMPLES, name, f"{name}.proof")
-        expected = read(name, f"{name}.txt").decode()
+    for example, name in [*zip(SHOWN, SHOWN), LINKED]:
+        proof = os.path.join(EXAMPLES, example, f"{name}.proof")
+        expected = read(example, f"{name}.txt").decode()
         expect(f"show.py {name}", say("show.py", proof) == (0, expected, ""))
         expect(f"show.py {name}, the function alone", say("show.py", proof, name) == (0, expected, ""))
         status, picture, _ = say("show.py", proof, "--dot")
@@ -55,7 +56,7 @@ def try_show(folder):
         expect(f"show.py {name} --dot", status == 0 and edges and all(a in nodes and b in nodes for a, b in edges))
         expect(f"show.py {name}, another function", say("show.py", proof, "f")[:2] == (1, ""))
         # Each front of whole lines is no proof file; what the last line is shows whether it was read to its end.
-        text = read(name, f"{name}.proof").decode().split("\n")
+        text = read(example, f"{name}.proof").decode().split("\n")
         front = os.path.join(folder, "front")
         for count in (0, 1, 4, 7, text.index("end")):
             with open(front, "w") as file:
@@ -93,14 +94,15 @@ def try_program(program, folder):
 
 
 def try_answers(program, folder):
-    """What the page of the examples says that `decompile` and `check` say."""
+    """What the page of the examples says that `decompile`, `link` and `check` say."""
     told = re.findall(r"^\| `(\w+)` \| `(.*?)` \|(?: `(.*?)`)? \|$", document("examples/README.md"), re.M)
-    expect("the page of the examples has a row for each", {row[0] for row in told} == {*SHOWN, "refused"})
+    expect("the page of the examples has a row for each", {row[0] for row in told} == {*SHOWN, "refused", "linked"})
     for example, decompiled, accepted in told:
         name = decompiled.split()[1]
         elf, proof = os.path.join(EXAMPLES, example, f"{name}.elf"), os.path.join(EXAMPLES, example, f"{name}.proof")
         out = os.path.join(folder, "answers")
-        commands = [(["decompile", elf, out, name], decompiled)] + ([(["check", elf, proof], accepted)] if accepted else [])
+        command = "link" if decompiled.startswith("linked ") else "decompile"
+        commands = [([command, elf, out, name], decompiled)] + ([(["check", elf, proof], accepted)] if accepted else [])
         for words, line in commands:
             done = subprocess.run([program, *words], capture_output=True, text=True)
             expect(f"{words[0]} {name}", done.stdout == line + "\n")
