@@ -33,6 +33,8 @@ CASES = (
     ["decompile", "gcd.elf", "OUT", "gcd"],
     ["selftest", "7", "12"],
     ["decompile", "lcm.elf", "OUT", "lcm"],
+    ["link", "gcd.elf", "OUT", "gcd"],
+    ["link", "lcm.elf", "OUT", "lcm"],
     ["simplify", "gcd.proof", "gcd", "OUT"],
     ["laws", "gcd.proof", "gcd.cert"],
     ["smt", "average.proof", "average", "0", "OUT"],
