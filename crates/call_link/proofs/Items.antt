@@ -32,7 +32,8 @@ use Rattle.linked_group.proofs.Lists.{out-map}
 use Rattle.linked_group.proofs.Settings.{small-of, within-code}
 use Rattle.linked_group.proofs.Together.{defs-few, defs-some, formed, members-are}
 use Rattle.path_walk.specs.declared.item.Item.{Item}
-use Rattle.path_walk.specs.Linked.{AreClosedIn, IsLinkedItem}
+use Rattle.path_walk.specs.Closed.{AreClosedIn}
+use Rattle.path_walk.specs.Linked.{IsLinkedItem}
 use Rattle.path_walk.proofs.PartLimits.{part-printed}
 use Rattle.decompiler.specs.Names.{StandsFor}
 use Rattle.decompiler.specs.inner.Functions.{outside_of}

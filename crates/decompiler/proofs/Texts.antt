@@ -9,10 +9,8 @@ use Rattle.proof_text.specs.Line.{LineTree, ProofTree}
 use Rattle.proof_text.specs.LineSpelling.{line_tokens_in}
 use Rattle.proof_text.specs.Proofs.{line_texts_in, proof_texts_in, text_of_proofs_in}
 use Rattle.proof_text.proofs.ProofParts.{proof-text-apart}
-use Rattle.group_text.specs.Limits.{IsGroup, IsGroupIn}
 use Rattle.group_text.specs.Spelling.{end_tokens, group_tokens, title_tokens}
 use Rattle.group_text.specs.Version.{Version}
-use Rattle.tailrec_lang.specs.Tree.{GroupTree}
 
 pub each_at : {A B : Type 0} (P : B → Type 0) (h : A → B) (xs : List A) (i : ℕ) (d : A) → AllByRecursion P (map h xs) → i < length xs → P (h (get_or xs i d))
 each_at P h [] i d all lt = absurd (omega arith)
@@ -52,16 +50,3 @@ next_item v h xs i d old out new lt is more =
 -- the text by its parts
 pub text_parts : (v : Version) (ps : List ProofTree) → text_of_proofs_in v ps ≡ spell Start (title_tokens v) ++ (proof_texts_in v ps ++ spell Start end_tokens)
 text_parts v ps = proof-text-apart v ps
-
--- a group of a version in which groups have at most one memory has a text in the first version too
-pub in_first : (v : Version) (g : GroupTree) → v.most_mems ≤ 1 → IsGroupIn v g → IsGroup g
-in_first v g most is = record {
-  name = is.name;
-  registers = is.registers;
-  memories = (omega arith, (let few = is.memories.1 in omega (arith, few, most)));
-  code = is.code;
-  bytes = is.bytes;
-  defs = is.defs;
-  some = is.some;
-  few = is.few;
-}

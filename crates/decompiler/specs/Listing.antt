@@ -127,15 +127,23 @@ pub record HasDefs (g : GraphOf) (defs : List DefTree) : Type 0 where
 
 -- ---- what is listed
 
+-- a memory exactly where the code that is reached from e loads or stores
+abbrev pub HasMemory : Bytes → ℕ → ℕ → Type 0
+HasMemory code e mems = ((mems ≡ 1) × UsesMemory code e) ⊎ ((mems ≡ 0) × (UsesMemory code e → ⊥))
+
 -- What the group lists: the function under the name, entered at e; exactly the bytes of the reached code; the registers but x0 that it
--- reads or writes; a memory exactly where it loads or stores; and one definition for each of its parts.
-pub record Lists (code : Bytes) (e : ℕ) (graph : GraphOf) (name : List ℕ) (g : GroupTree) : Type 0 where
+-- reads or writes; so many memories that this holds; and one definition for each of its parts.
+pub record ListsWith (HasMemories : ℕ → Type 0) (code : Bytes) (e : ℕ) (graph : GraphOf) (name : List ℕ) (g : GroupTree) : Type 0 where
   pub named : g.name ≡ name
   pub entry : entry_at g (listed_def g) ≡ Some e
   pub bytes : (a b : ℕ) → (range_bytes g.code a ≡ Some b) ↔ (IsCodeOf code e a × (code a ≡ Some b))
   pub registers : (r : ℕ) → Contains g.regs r ↔ ((1 ≤ r) × (r ≤ 31) × IsUsed code e r)
-  pub memory : ((g.mems ≡ 1) × UsesMemory code e) ⊎ ((g.mems ≡ 0) × (UsesMemory code e → ⊥))
+  pub memory : HasMemories g.mems
   pub defs : HasDefs graph g.defs
+
+-- .. with a memory exactly where the code loads or stores
+abbrev pub Lists : Bytes → ℕ → GraphOf → List ℕ → GroupTree → Type 0
+Lists code e graph name g = ListsWith (HasMemory code e) code e graph name g
 
 -- The item of a name, which has no fault: what it lists is of the code that is reached from the name's address, as many instructions as it
 -- tells; it is accepted for the file, nothing is lost of the function, and it has a text.

@@ -37,7 +37,7 @@ pub fn decompile(alloc: Global, image: &Image, names: &List<Text>) -> Result<Pro
 }
 
 /// Why there is no proof, where this is why there is no item of the name of that number.
-fn refusal(number: u64, why: FlowFault) -> DecompileFault
+pub fn refusal(number: u64, why: FlowFault) -> DecompileFault
     ensures { result ≡ refusal number why }
 {
     match why {

@@ -8,7 +8,7 @@ mod name;
 mod text;
 
 pub use bytes::law_of_bytes;
-pub use functions::{decompile, outside_of};
+pub use functions::{decompile, outside_of, refusal};
 pub use laws::law_of_items;
 pub use name::address_of;
 pub use path_walk::{DecompileFault, Item, Proof};

@@ -13,8 +13,10 @@ ghost use Rattle.group_text.specs.Spelling.{group_tokens};
 ghost use Rattle.group_text.specs.Version.{version_of};
 ghost use Rattle.decompiler.specs.Listing.{proof_of, proofs_of};
 
+use group_text::put_group_lines;
+use mc_text::Pen;
 use path_walk::{Item, Proof};
-use proof_text::{Line, Version, put_end, put_group, put_newer_line, put_title};
+use proof_text::{Line, Version, put_end, put_newer_line, put_title};
 use rv_words::{Bytes, List, NoMemory};
 use std::alloc::Global;
 use tailrec_lang::Group;
@@ -36,11 +38,10 @@ pub fn proof_bytes(alloc: Global, p: &Proof) -> Result<Bytes, NoMemory>
     bytes_in(alloc, Version::One, p)
 }
 
-/// The text of a proof in a version in which groups have at most one memory.
+/// The text of a proof in that version.
 #[tactic(auto, using(crate::proofs::Texts::text_parts))]
 pub fn bytes_in(alloc: Global, version: Version, p: &Proof) -> Result<Bytes, NoMemory>
-    requires memories { (version_of version).most_mems ≤ 1 }
-    requires proofs { AreProofsIn (version_of version) (proofs_of p.now) }
+    requires { AreProofsIn (version_of version) (proofs_of p.now) }
     ensures { IfOk result (λ text. text ≡ text_of_proofs_in (version_of version) (proofs_of p.now)) }
 {
     let mut out = List::new(alloc);
@@ -52,8 +53,7 @@ pub fn bytes_in(alloc: Global, version: Version, p: &Proof) -> Result<Bytes, NoM
 
 /// Appends each group's text, and those of its lines after it.
 fn put_items(out: &mut Bytes, version: Version, items: &[Item]) -> Result<(), NoMemory>
-    requires memories { (version_of version).most_mems ≤ 1 }
-    requires proofs { AreProofsIn (version_of version) (map proof_of items.now) }
+    requires { AreProofsIn (version_of version) (map proof_of items.now) }
     ensures { OnOk result (out.new ≡ out.old ++ proof_texts_in (version_of version) (map proof_of items.now)) }
 {
     for item in items {
@@ -64,12 +64,21 @@ fn put_items(out: &mut Bytes, version: Version, items: &[Item]) -> Result<(), No
 
 /// Appends a group's text, and those of its lines after it.
 fn put_item(out: &mut Bytes, version: Version, item: &Item) -> Result<(), NoMemory>
-    requires memories { (version_of version).most_mems ≤ 1 }
-    requires proof { IsProofIn (version_of version) (proof_of item.now) }
+    requires { IsProofIn (version_of version) (proof_of item.now) }
     ensures { OnOk result (out.new ≡ out.old ++ (spell Start (group_tokens (group_tree item.now.group)) ++ line_texts_in (version_of version) item.now.group.code.ranges (map line_tree item.now.lines))) }
 {
-    put_group(out, &item.group)?;
+    put_item_group(out, &item.group)?;
     put_lines(out, version, &item.group, item.lines.as_slice())
+}
+
+/// Appends a group's text.
+#[tactic(auto, using(mc_text::proofs::Printed::printed_bytes, mc_text::proofs::Printed::prints))]
+fn put_item_group(out: &mut Bytes, group: &Group) -> Result<(), NoMemory>
+    ensures { OnOk result (out.new ≡ out.old ++ spell Start (group_tokens (group_tree group.now))) }
+{
+    let mut pen = Pen::new(out);
+    put_group_lines(&mut pen, group)?;
+    Ok(())
 }
 
 /// Appends the texts of the lines of a group's proof.

@@ -38,7 +38,7 @@ use Rattle.path_walk.specs.Item.{IsWalkedIn}
 use Rattle.linked_group.specs.Groups.{IsLinkedGroup, functions_of, group_in, load_or_store, member_in, members_of, setting_in}
 use Rattle.linked_group.specs.declared.group.LinkedFunction.{LinkedFunction}
 use Rattle.linked_group.specs.declared.group.LinkedGroup.{LinkedGroup}
-use Rattle.path_walk.specs.Linked.{AreClosedIn}
+use Rattle.path_walk.specs.Closed.{AreClosedIn}
 use Rattle.path_walk.specs.inner.LinkedWalks.{AreWalkedOf, AreWalkedTo, CanAllBeWalked, CanBeWalked, StandFrom}
 use Rattle.path_walk.specs.inner.Walks.{CloseFirst}
 use Rattle.path_walk.proofs.LineTexts.{all-join}

@@ -14,7 +14,9 @@ pub mod Limits
 pub mod Lines
 pub mod Lists
 pub mod OneMoreLine
+pub mod OrderedLines
 pub mod RightLines
+pub mod SplitParts
 pub mod SteeredTexts
 pub mod MissingFacts
 pub mod PartWalks

@@ -1,5 +1,5 @@
 -- The lines of an instruction and of a call have a text.
-use Rattle.std.proofs.Common.{◌≡◌, ℕ, zero, suc, ◌+◌, ◌^◌, ◌<◌, ◌≤◌, List, [], ◌∷◌, ◌++◌, map, length, Bool, true, false, cond, eqb, refl, sym, ap, ◌∙◌, subst, arith, mod-lt, eqb-true, length-append, Some, inl, inr, ◌/◌}
+use Rattle.std.proofs.Common.{◌≡◌, ℕ, zero, suc, ◌+◌, ◌^◌, ◌<◌, ◌≤◌, List, [], ◌∷◌, ◌++◌, map, length, Bool, true, false, cond, not, filter, eqb, refl, sym, ap, ◌∙◌, subst, arith, mod-lt, eqb-true, length-append, Some, inl, inr, ◌/◌, Contains}
 use Rattle.std.specs.Int.{byte_at, bytes_low_first, to_le_bytes, w16, w32}
 use Rattle.std.proofs.lemmas.List.FromFn.{length-range_with_len}
 use Rattle.std.specs.List.{AllByRecursion, position_or_len, range_with_len}
@@ -27,12 +27,12 @@ use Rattle.tailrec_lang.specs.Registers.{AreRegistersFrom}
 use Rattle.group_text.specs.Limits.{IsExit, IsValues}
 use Rattle.proof_text.specs.LineLimits.{AreRisingFrom, IsAssertion, IsFact, IsTriple}
 use Rattle.code_parts.specs.Bodies.{Flow, VariableMap, current, fresh, is_store, names, place_after, start}
-use Rattle.path_walk.specs.inner.Acts.{IsFineInstruction, IsFineExit, all_mems, gives_over, mem_after, named_triple, new_facts, numbered, results_at, triple_on}
+use Rattle.path_walk.specs.inner.Acts.{IsFineInstruction, IsFineExit, all_mems, gives_over, mem_after, mem_first, named_triple, new_facts, numbered, results_at, triple_on}
 use Rattle.path_walk.specs.inner.Histories.{exit_place, pc_of}
 use Rattle.path_walk.specs.inner.Writers.{IsFineCited, CitedTree, standing_at}
 use Rattle.path_walk.proofs.Joins.{or-within, some-same}
 use Rattle.path_walk.proofs.Lines.{memory-same, own-rise}
-use Rattle.code_parts.proofs.Lists.{length-map, rising-short}
+use Rattle.code_parts.proofs.Lists.{here, later, length-map, rising-short}
 use Rattle.path_walk.proofs.PartLimits.{IsLow, conditions-small, memory_after-small, place-low, result-small, sum-small, values-printed}
 use Rattle.code_parts.proofs.VariableMaps.{position-most}
 
@@ -65,6 +65,36 @@ mems-fine : (x : ℕ → MemTree) (w k : ℕ) → ((p : ℕ) → p < w + k → I
 mems-fine x w zero each = tt
 mems-fine x w (suc k) each = (each w (omega arith), mems-fine x (w + 1) k (λ p lt. each p (omega (arith, lt))))
 
+these-fine : (x : ℕ → MemTree) (ps : List ℕ) → ((p : ℕ) → Contains ps p → IsMem (x p)) → AllByRecursion IsMem (map x ps)
+these-fine x [] each = tt
+these-fine x (p ∷ ps) each = (each p (here p ps), these-fine x ps (λ q c. each q (later p ps q c)))
+
+range-within : (a n p : ℕ) → Contains (range_with_len a n) p → p < a + n
+range-within a zero p c = absurd (omega (arith, c.1))
+range-within a (suc n) p (zero, lt, at) = omega (arith, at)
+range-within a (suc n) p (suc k, lt, at) = let low = range-within (a + 1) n p (k, omega (arith, lt), at) in omega (arith, low)
+
+filter-among : (test : ℕ → Bool) (xs : List ℕ) (p : ℕ) → Contains (filter test xs) p → Contains xs p
+filter-among test [] p c = c
+filter-among test (x ∷ xs) p c = go (test x) c (λ d. later x xs p (filter-among test xs p d))
+  where
+    go : (b : Bool) → Contains (cond b (x ∷ filter test xs) (filter test xs)) p → (Contains (filter test xs) p → Contains (x ∷ xs) p) → Contains (x ∷ xs) p
+    go true (zero, lt, at) on = (0, omega arith, at)
+    go true (suc k, lt, at) on = on (k, omega (arith, lt), at)
+    go false c on = on c
+
+-- the memories in order, or with an instruction's own in front, are those that there are
+all-among : (mems p : ℕ) → Contains (all_mems mems) p → p < mems
+all-among mems p c = let low = range-within 0 mems p c in omega (arith, low)
+
+first-among : (i : Instr) (q mems : ℕ) → (has_memory i ≡ true → q < mems) → (p : ℕ) → Contains (mem_first i q mems) p → p < mems
+first-among i q mems low p = go (has_memory i) low
+  where
+    go : (b : Bool) → (b ≡ true → q < mems) → Contains (cond b (q ∷ filter (λ p. not (eqb p q)) (all_mems mems)) (all_mems mems)) p → p < mems
+    go false low c = all-among mems p c
+    go true low (zero, lt, at) = subst (λ (k : ℕ). k < mems) at (low refl)
+    go true low (suc k, lt, at) = all-among mems p (filter-among (λ p. not (eqb p q)) (all_mems mems) p (k, omega (arith, lt), at))
+
 -- ---- assertions
 
 assertion-fine : (pc : WordTree) (w : ℕ → WordTree) (rs : List ℕ) (ms : List MemTree) → IsWord pc → AreRegistersFrom 1 rs → ((r : ℕ) → IsWord (w r)) → AllByRecursion IsMem ms →
@@ -87,7 +117,7 @@ module _ (mem_count : ℕ) (v : VariableMap) (n : ℕ) (low : IsLow mem_count v 
   named-fine r = let most = low.word r in var-fine (v.reg r) (omega (arith, most, few))
 
   memory-fine : (q : ℕ) → q < mem_count → IsMem (MemVar (v.memory q))
-  memory-fine q lt = let most = low.memory q lt in mem_var-fine (v.memory q) (omega (arith, most, few))
+  memory-fine q lt = low.memory q lt
 
   pub pc-fine : (q : ℕ) (i : Instr) (form : Form) (a k : ℕ) → IsWord (pc_after i form a k (names v q))
   pc-fine q (instr.Op o rd rs1 rs2) form a k = mod-lt (a + k) (omega arith)
@@ -216,16 +246,17 @@ module _ (i : Instr) (form : Form) (a w : ℕ) (low_address : a < 2 ^ 64) (room 
   }) (omega arith) 0 (λ e. omega arith)
 
   module _ (f : Flow) (rise : AreRegistersFrom 1 f.regs) (v : VariableMap) (n : ℕ) (low : IsLow f.mems v n) (few : n ≤ 2 ^ 15) (q : ℕ) (has : has_memory i ≡ true → q < f.mems) where
-    -- over all registers and memories
-    wide-fine : IsTriple (triple_on i form a (length_of w) (word_code a w) f.regs (all_mems f.mems) q v)
-    wide-fine = record {
+    -- over all registers and memories, in any order
+    wide-fine : (ms : List ℕ) → ((p : ℕ) → Contains ms p → p < f.mems) → IsTriple (triple_on i form a (length_of w) (word_code a w) f.regs ms q v)
+    wide-fine ms among = record {
       facts = so-fine f.mems v n low (omega (arith, few)) q i has form;
-      pre = standing-fine f.mems v n low (omega (arith, few)) f (Const a) refl rise low_address;
+      pre = assertion-fine (Const a) (λ r. Var (v.reg r)) f.regs (map (λ p. MemVar (v.memory p)) ms) low_address rise (named-fine f.mems v n low (omega (arith, few)))
+          (these-fine (λ p. MemVar (v.memory p)) ms (λ p c. memory-fine f.mems v n low (omega (arith, few)) p (among p c)));
       code = word_code-ranges a w room;
       bytes = code-bytes a w;
-      post = assertion-fine (pc_after i form a (length_of w) (names v q)) (word_after i a (length_of w) (names v q)) f.regs (map (mem_after i q v) (range_with_len 0 f.mems))
+      post = assertion-fine (pc_after i form a (length_of w) (names v q)) (word_after i a (length_of w) (names v q)) f.regs (map (mem_after i q v) ms)
           (pc-fine f.mems v n low (omega (arith, few)) q i form a (length_of w)) rise (after-fine f.mems v n low (omega (arith, few)) q i has a (length_of w))
-          (mems-fine (mem_after i q v) 0 f.mems (λ p lt. mem_after-fine f.mems v n low (omega (arith, few)) q i has p (omega (arith, lt))));
+          (these-fine (mem_after i q v) ms (λ p c. mem_after-fine f.mems v n low (omega (arith, few)) q i has p (among p c)));
     }
 
     named-triple-fine : IsTriple (named_triple i form a (length_of w) (word_code a w) f.regs (all_mems f.mems) q v)
@@ -244,7 +275,8 @@ module _ (i : Instr) (form : Form) (a w : ℕ) (low_address : a < 2 ^ 64) (room 
       rule = λ k fits. (fits, words, mems (has_memory i) has);
       first = first-fine;
       current_over = over-fine f.mems v n low (omega (arith, few)) q has;
-      wide = wide-fine;
+      wide = wide-fine (mem_first i q f.mems) (first-among i q f.mems has);
+      in_order = wide-fine (all_mems f.mems) (all-among f.mems);
       named = named-triple-fine;
     }
       where
@@ -264,27 +296,27 @@ module _ (f : Flow) (rise : AreRegistersFrom 1 f.regs) (few_mems : f.mems ≤ 2)
   regs-few : length f.regs ≤ 31
   regs-few = let short = rising-short 1 f.regs (omega arith) rise in omega (arith, short)
 
-  pub next-low : (words mems n : ℕ) → words ≤ n → mems ≤ n → IsLow f.mems (fresh f words mems) (n + 31)
-  next-low words mems n h k =
+  pub next-low : (words mems n : ℕ) → words ≤ n → mems ≤ n → n < 2 ^ 16 → IsLow f.mems (fresh f words mems) (n + 31)
+  next-low words mems n h k few =
       let regs = regs-few in
       record {
         word = λ r. (let low = position-most f.regs r in omega (arith, low, regs, h));
-        memory = λ q lt. omega (arith, lt, few_mems, k);
+        memory = λ q lt. omega (arith, lt, few_mems, k, few);
         words = omega (arith, regs, h);
         mems = omega (arith, few_mems, k);
       }
 
   pub front-low : IsLow f.mems (start f) 31
-  front-low = subst (IsLow f.mems (start f)) (let e : 0 + 31 ≡ 31 = omega arith in e) (next-low 0 0 0 (omega arith) (omega arith))
+  front-low = subst (IsLow f.mems (start f)) (let e : 0 + 31 ≡ 31 = omega arith in e) (next-low 0 0 0 (omega arith) (omega arith) (omega arith))
 
-  pub exit-low : (x : Exit) (words mems n : ℕ) → words ≤ n → mems ≤ n → IsLow f.mems (exit_place f x words mems) (n + 1 + 31)
-  exit-low (At a) words mems n h k = next-low words mems (n + 1) (omega (arith, h)) (omega (arith, k))
-  exit-low Ret words mems n h k = next-low (suc words) mems (n + 1) (omega (arith, h)) (omega (arith, k))
+  pub exit-low : (x : Exit) (words mems n : ℕ) → words ≤ n → mems ≤ n → n ≤ 2 ^ 15 → IsLow f.mems (exit_place f x words mems) (n + 1 + 31)
+  exit-low (At a) words mems n h k few = next-low words mems (n + 1) (omega (arith, h)) (omega (arith, k)) (omega (arith, few))
+  exit-low Ret words mems n h k few = next-low (suc words) mems (n + 1) (omega (arith, h)) (omega (arith, k)) (omega (arith, few))
 
   results-fine : (x : Exit) (words mems n : ℕ) → words ≤ n → mems ≤ n → n ≤ 2 ^ 15 → IsValues (results_at f x words mems)
-  results-fine (At a) words mems n h k few = values-printed f.mems (fresh f words mems) (n + 31) (next-low words mems n h k) (omega (arith, few)) f refl
+  results-fine (At a) words mems n h k few = values-printed f.mems (fresh f words mems) (n + 31) (next-low words mems n h k (omega (arith, few))) (omega (arith, few)) f refl
   results-fine Ret words mems n h k few =
-      let vals = values-printed f.mems (fresh f (suc words) mems) (n + 1 + 31) (next-low (suc words) mems (n + 1) (omega (arith, h)) (omega (arith, k))) (omega (arith, few)) f refl in
+      let vals = values-printed f.mems (fresh f (suc words) mems) (n + 1 + 31) (next-low (suc words) mems (n + 1) (omega (arith, h)) (omega (arith, k)) (omega (arith, few))) (omega (arith, few)) f refl in
       ((var-fine words (omega (arith, h, few)), vals.0), vals.1)
 
   pub exit-pc-fine : (x : Exit) (words : ℕ) → IsExit x → words < 2 ^ 16 → IsWord (pc_of x words)
@@ -314,7 +346,7 @@ module _ (f : Flow) (rise : AreRegistersFrom 1 f.regs) (few_mems : f.mems ≤ 2)
           pre = standing-fine f.mems v n low (omega (arith, few)) f (Const entry) refl rise low_entry;
           code = order;
           bytes = bytes;
-          post = standing-fine f.mems (exit_place f x v.words v.mems) (n + 1 + 31) (exit-low x v.words v.mems n low.words low.mems) (omega (arith, few)) f (pc_of x v.words) refl rise (exit-pc-fine x v.words fine_exit (omega (arith, most, few)));
+          post = standing-fine f.mems (exit_place f x v.words v.mems) (n + 1 + 31) (exit-low x v.words v.mems n low.words low.mems few) (omega (arith, few)) f (pc_of x v.words) refl rise (exit-pc-fine x v.words fine_exit (omega (arith, most, few)));
         }
 
     pub exit-standing-fine : (v : VariableMap) (n : ℕ) → IsLow f.mems v n → n ≤ 2 ^ 15 → (j : ℕ) (facts : List FactTree) (code : List Range) → j < 2 ^ 64 → facts ≡ Gives d k (current f v) (results_at f x v.words v.mems) ∷ [] → code ≡ ranges →

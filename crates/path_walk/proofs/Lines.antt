@@ -1,4 +1,4 @@
--- The triples of one instruction: its axiom, over the current variables, over all registers, and with new variables.
+-- The triples of one instruction: its axiom, over the current variables, over all registers and memories, and with new variables.
 use Rattle.std.proofs.Common.{◌≡◌, ℕ, zero, suc, ◌+◌, ◌^◌, ◌≤◌, leb, List, [], ◌∷◌, ◌++◌, map, length, drop, filter, Bool, true, false, cond, not, eqb, ◌||◌, ◌<◌, ◌⊎◌, ◌&&◌, refl, sym, ap, ◌∙◌, subst, arith, Some, None, inl, inr, Contains, eqb-true, eq-eqb, ne_eqb}
 use Rattle.std.specs.List.{AllZip, range_with_len, position_or_len}
 use Rattle.std.specs.Option.{option_and_then}
@@ -6,13 +6,14 @@ use Rattle.std.specs.Prelude.{unwrap_or}
 use Rattle.std.proofs.lemmas.List.Elements.{Contains-append_left, Contains-append_right}
 use Rattle.rv_decode.specs.declared.instruction.Instr.{Instr}
 use Rattle.rv_decode.specs.declared.instruction.Instr.TheVariants as instr
+use Rattle.std.proofs.lemmas.Bool.{eqb-false}
 use Rattle.std.proofs.lemmas.Bool.Decides.{nat_tests}
 use Rattle.rvc.specs.Number.{instruction_of, length_of}
 use Rattle.rv_machine.specs.Step.{is_even}
 use Rattle.word_terms.specs.Tree.{WordTree, MemTree, Const, Var, Bin, Extend, Load, MemVar, Store}
 use Rattle.rv_words.specs.declared.range.Range.{Range}
 use Rattle.word_terms.specs.Substitution.{listed, put_in_mem}
-use Rattle.triple_kernel.specs.Tree.{FactTree, WordIs, MemIs, So}
+use Rattle.triple_kernel.specs.Tree.{FactTree, WordIs, MemIs, So, TripleTree}
 use Rattle.triple_kernel.specs.Rules.{IsInst, IsWeakened}
 use Rattle.triple_kernel.specs.Swap.{WordsStated, MemsStated, SwapWord, SwapMem, SwapRegister}
 use Rattle.tailrec_lang.specs.Registers.{AreRegistersFrom}
@@ -24,7 +25,9 @@ use Rattle.instr_axioms.specs.Terms.{Names, has_memory, conditions, result, word
 use Rattle.instr_axioms.specs.Axiom.{register_with, memory_if, triple_over, is_own, own, variables_for, own_triple, triple_if, axiom_of, word_code}
 use Rattle.instr_axioms.proofs.Instances.{Becomes, is_inst}
 use Rattle.code_parts.specs.Bodies.{VariableMap, names, is_store, wrote, stored, place_after}
-use Rattle.path_walk.specs.inner.Acts.{all_mems, mem_after, named_triple, new_facts, own_mem, own_mems, own_words, triple_on}
+use Rattle.further_rules.specs.Rules.{AreExchanged, IsExchanged}
+use Rattle.path_walk.specs.Further.{is_crossed}
+use Rattle.path_walk.specs.inner.Acts.{all_mems, mem_after, mem_first, named_triple, new_facts, own_mem, own_mems, own_words, triple_on}
 use Rattle.code_parts.proofs.Lists.{here, later, in_range, is_in, in-true}
 use Rattle.path_walk.proofs.Lists.{smaller-is, listed-place}
 use Rattle.path_walk.specs.inner.Acts.{numbered}
@@ -145,19 +148,64 @@ range-apart w (suc n) le =
     let other : eqb w 0 ≡ false = ne_eqb w 0 (λ e. absurd (omega (arith, e, le))) in
     (λ i. cond (not (other i)) (w ∷ filter (λ p. not (eqb p 0)) (range_with_len (w + 1) n)) (filter (λ p. not (eqb p 0)) (range_with_len (w + 1) n))) ∙ (λ i. w ∷ rest i)
 
--- an instruction's own memory in front of the others
-abbrev mem_first : Instr → ℕ → ℕ → List ℕ
-mem_first i q mems = cond (has_memory i) (q ∷ filter (λ p. not (eqb p q)) (all_mems mems)) (all_mems mems)
-
--- .. is the memories in order, where it is the first
-in-order : (i : Instr) (q mems : ℕ) → (has_memory i ≡ true → q < mems) → q ≡ 0 → mem_first i q mems ≡ all_mems mems
+-- its own memory in front is the memories in order, where it is the first
+pub in-order : (i : Instr) (q mems : ℕ) → (has_memory i ≡ true → q < mems) → is_crossed i q ≡ false → mem_first i q mems ≡ all_mems mems
 in-order i q mems low none = go (has_memory i) q mems low none
   where
-    go : (h : Bool) (q mems : ℕ) → (h ≡ true → q < mems) → q ≡ 0 → cond h (q ∷ filter (λ p. not (eqb p q)) (range_with_len 0 mems)) (range_with_len 0 mems) ≡ range_with_len 0 mems
+    go : (h : Bool) (q mems : ℕ) → (h ≡ true → q < mems) → (h && not (eqb q 0)) ≡ false → cond h (q ∷ filter (λ p. not (eqb p q)) (range_with_len 0 mems)) (range_with_len 0 mems) ≡ range_with_len 0 mems
     go false q mems low none = refl
     go true zero zero low none = absurd (let lt = low refl in omega (arith, lt))
     go true zero (suc n) low none = let rest = range-apart 1 n (omega arith) in λ i. 0 ∷ rest i
-    go true (suc q) mems low none = absurd (omega (arith, none))
+    go true (suc q) mems low none =
+        let other : eqb (suc q) 0 ≡ false = ne_eqb (suc q) 0 (λ e. absurd (omega (arith, e))) in
+        absurd (let clash : true ≡ false = (λ j. not (sym other j)) ∙ none in cc)
+
+-- an instruction that uses another memory than the first has one
+pub crossed-uses : (i : Instr) (q : ℕ) → is_crossed i q ≡ true → (has_memory i ≡ true) × (1 ≤ q)
+crossed-uses i q is = (both.0, positive q (eqb-false q 0 both.1))
+  where
+    by : (b c : Bool) → (b && not c) ≡ true → (b ≡ true) × (c ≡ false)
+    by true true e = absurd (cc)
+    by true false e = (refl, refl)
+    by false c e = absurd (cc)
+
+    both : (has_memory i ≡ true) × (eqb q 0 ≡ false)
+    both = by (has_memory i) (eqb q 0) is
+
+    positive : (q : ℕ) → (q ≡ 0 → ⊥) → 1 ≤ q
+    positive zero ne = absurd (ne refl)
+    positive (suc q) ne = omega arith
+
+pub uncrossed : (i : Instr) (q : ℕ) → q ≡ 0 → is_crossed i q ≡ true → ⊥
+uncrossed i q none is = let some = (crossed-uses i q is).1 in omega (arith, none, some)
+
+-- .. and of two that is the second, and stands in front of the first
+pub crossed-second : (i : Instr) (q mems : ℕ) → (has_memory i ≡ true → q < mems) → mems ≡ 2 → is_crossed i q ≡ true → (q ≡ 1) × (mem_first i q mems ≡ 1 ∷ 0 ∷ [])
+crossed-second i q mems low two is =
+    let uses = crossed-uses i q is in
+    let most = low uses.0 in
+    let least = uses.1 in
+    let one : q ≡ 1 = omega (arith, most, least, two) in
+    (one, (λ j. cond (uses.0 j) (q ∷ filter (λ p. not (eqb p q)) (range_with_len 0 mems)) (range_with_len 0 mems)) ∙ (λ j. one j ∷ filter (λ p. not (eqb p (one j))) (range_with_len 0 (two j))))
+
+exchanged-mems : (ms ns : List ℕ) (x : ℕ → MemTree) → ms ≡ 1 ∷ 0 ∷ [] → ns ≡ 0 ∷ 1 ∷ [] → AreExchanged (map x ms) (map x ns)
+exchanged-mems ms ns x m n = subst (λ (zs : List ℕ). AreExchanged (map x zs) (map x ns)) (sym m) (subst (λ (zs : List ℕ). AreExchanged (x 1 ∷ x 0 ∷ []) (map x zs)) (sym n) refl)
+
+-- so they are exchanged
+pub is_exchanged : (i : Instr) (form : Form) (a k : ℕ) (code : List Range) (regs : List ℕ) (q mems : ℕ) (v : VariableMap) → (has_memory i ≡ true → q < mems) → mems ≡ 2 → is_crossed i q ≡ true →
+    IsExchanged (triple_on i form a k code regs (mem_first i q mems) q v) (triple_on i form a k code regs (all_mems mems) q v)
+is_exchanged i form a k code regs q mems v low two is =
+    let front = (crossed-second i q mems low two is).1 in
+    record {
+      facts = refl;
+      code = refl;
+      pre_pc = refl;
+      pre_regs = refl;
+      pre_mems = exchanged-mems (mem_first i q mems) (all_mems mems) (λ p. MemVar (v.memory p)) front (ap all_mems two);
+      post_pc = refl;
+      post_regs = refl;
+      post_mems = exchanged-mems (mem_first i q mems) (all_mems mems) (mem_after i q v) front (ap all_mems two);
+    }
 
 -- over its own registers, its memory is the one that it has
 memory-if : (b : Bool) (q : ℕ) (x : ℕ → MemTree) (m : MemTree) → m ≡ x q → memory_if b m ≡ map x (cond b (q ∷ []) [])
@@ -176,14 +224,13 @@ own-on i form a k code q v =
       post = record { pc = pc_after i form a k (names v q); regs = map (register_with (word_after i a k (names v q))) (own i); mems = after_mems j };
     }
 
--- over all registers and one memory or none
-pub wide-on : (i : Instr) (form : Form) (a k : ℕ) (code : List Range) (regs : List ℕ) (has : Bool) (mems : ℕ) (v : VariableMap) → mems ≡ cond has 1 0 →
-    triple_over i form a k code regs has (names v 0) ≡ triple_on i form a k code regs (all_mems mems) 0 v
-wide-on i form a k code regs has mems v many = by has ∙ (λ j. triple_on i form a k code regs (all_mems (sym many j)) 0 v)
-  where
-    by : (b : Bool) → triple_over i form a k code regs b (names v 0) ≡ triple_on i form a k code regs (all_mems (cond b 1 0)) 0 v
-    by true = refl
-    by false = refl
+-- over registers and over memories that are put in
+pub over-on : (i : Instr) (form : Form) (a k : ℕ) (code : List Range) (regs ms : List ℕ) (q : ℕ) (v : VariableMap) (t u : TripleTree) (before after : List MemTree) → t ≡ triple_over i form a k code regs false (names v q) →
+    u ≡ record { facts = t.facts; pre = record { pc = t.pre.pc; regs = t.pre.regs; mems = before }; code = t.code; post = record { pc = t.post.pc; regs = t.post.regs; mems = after } } →
+    before ≡ map (λ p. MemVar (v.memory p)) ms → after ≡ map (mem_after i q v) ms → u ≡ triple_on i form a k code regs ms q v
+over-on i form a k code regs ms q v t u before after is made front behind =
+    made
+    ∙ (λ j. record { facts = (is j).facts; pre = record { pc = (is j).pre.pc; regs = (is j).pre.regs; mems = front j }; code = (is j).code; post = record { pc = (is j).post.pc; regs = (is j).post.regs; mems = behind j } })
 
 -- ---- frame
 
@@ -212,8 +259,8 @@ module _ (i : Instr) (form : Form) (a k : ℕ) (code : List Range) (regs : List 
           let no_in = not_in (is_in (own i) r) t in
           let clash : true ≡ false = sym yes_in ∙ no_in in cc)
 
-  first_framed : IsFramed (triple_on i form a k code (own i) (own_mem i q) q v) (triple_on i form a k code regs (mem_first i q mems) q v)
-  first_framed = record {
+  on_framed : IsFramed (triple_on i form a k code (own i) (own_mem i q) q v) (triple_on i form a k code regs (mem_first i q mems) q v)
+  on_framed = record {
     facts = refl;
     code = refl;
     pre_pc = refl;
@@ -227,10 +274,8 @@ module _ (i : Instr) (form : Form) (a k : ℕ) (code : List Range) (regs : List 
         (λ e. others-same i q v (all_mems mems)) (λ e. all-same i q v (all_mems mems) (store-has_memory i e));
   }
 
-  pub is_framed : (has_memory i ≡ true → q < mems) → q ≡ 0 → IsFramed (triple_over i form a k code (own i) (has_memory i) (names v q)) (triple_on i form a k code regs (all_mems mems) q v)
-  is_framed low first =
-      subst (λ t. IsFramed t (triple_on i form a k code regs (all_mems mems) q v)) (sym (own-on i form a k code q v))
-      (subst (λ ms. IsFramed (triple_on i form a k code (own i) (own_mem i q) q v) (triple_on i form a k code regs ms q v)) (in-order i q mems low first) first_framed)
+  pub is_framed : IsFramed (triple_over i form a k code (own i) (has_memory i) (names v q)) (triple_on i form a k code regs (mem_first i q mems) q v)
+  is_framed = subst (λ t. IsFramed t (triple_on i form a k code regs (mem_first i q mems) q v)) (sym (own-on i form a k code q v)) on_framed
 
 -- ---- inst
 

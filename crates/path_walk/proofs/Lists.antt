@@ -1,5 +1,6 @@
 -- Lists of variables and of terms for them.
-use Rattle.std.proofs.Common.{◌≡◌, ℕ, zero, suc, ◌+◌, ◌≤◌, List, [], ◌∷◌, ◌++◌, map, length, filter, zip, Bool, true, false, cond, not, eqb, refl, sym, ap, ◌∙◌, subst, arith, Some, eqb-true, eq-eqb, ne_eqb, Contains, ◌||◌}
+use Rattle.std.proofs.Common.{◌≡◌, ℕ, zero, suc, ◌+◌, ◌≤◌, List, [], ◌∷◌, ◌++◌, map, length, filter, zip, Bool, true, false, cond, not, eqb, refl, sym, ap, ◌∙◌, subst, arith, Some, eqb-true, eq-eqb, ne_eqb, Contains, ◌||◌, ◌<◌, take, get_or}
+use Rattle.std.proofs.lemmas.List.{map_more, map_push}
 use Rattle.std.proofs.lemmas.Bool.{eqb-false}
 use Rattle.std.specs.Prelude.{slice_get, unwrap_or}
 use Rattle.std.specs.List.{position_or_len, range_with_len}
@@ -148,3 +149,8 @@ smaller-is least (x ∷ xs) (y ∷ ys) low high all =
         let none : is_in xs y ≡ false = in-false xs y (λ c. let up = in_range (x + 1) xs y low.2 c in absurd (omega (arith, up.0, far.0))) in
         (λ i. cond (none i) (y ∷ filter (is_in (x ∷ xs)) ys) (filter (is_in (x ∷ xs)) ys)) ∙
         more low_all high.2 (λ z c. let up = in_range (y + 1) (x ∷ xs) z low_all c in contains-cases y ys z (all z c) (λ d. absurd (omega (arith, d, up.0))) (λ c. c))
+
+-- one item more of a list that is made of another, item by item
+pub mapped-more : {A X Y : Type 0} (h : X → Y) (k : A → Y) (xs : List A) (i : ℕ) (d : A) (ms more : List X) (m : X) → i < length xs → map h ms ≡ map k (take i xs) → more ≡ ms ++ m ∷ [] → h m ≡ k (get_or xs i d) →
+    map h more ≡ map k (take (i + 1) xs)
+mapped-more h k xs i d ms more m lt is pushed one = ap (map h) pushed ∙ map_push h ms m ∙ (λ j. is j ++ one j ∷ []) ∙ sym (map_more k xs i d lt)

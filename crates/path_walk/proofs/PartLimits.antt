@@ -29,10 +29,10 @@ use Rattle.code_parts.proofs.VariableMaps.{position-most}
 
 -- ---- terms
 
--- the variables that a place names, of so many memories, have numbers up to n
+-- the variables of registers that a place names, and those that are in scope, have numbers up to n; those of so many memories have 32 bits
 pub record IsLow (mem_count : ℕ) (v : VariableMap) (n : ℕ) : Type 0 where
   pub word : (r : ℕ) → v.reg r ≤ n
-  pub memory : (q : ℕ) → q < mem_count → v.memory q ≤ n
+  pub memory : (q : ℕ) → q < mem_count → v.memory q < 2 ^ 32
   pub words : v.words ≤ n
   pub mems : v.mems ≤ n
 
@@ -50,7 +50,7 @@ module _ (mem_count : ℕ) (v : VariableMap) (n : ℕ) (low : IsLow mem_count v 
         go false = let most = low.word r in omega (arith, most, few)
 
     memory-small : q < mem_count → v.memory q < 2 ^ 32
-    memory-small l = let most = low.memory q l in omega (arith, most, few)
+    memory-small l = low.memory q l
 
     pub sum-small : (d r : ℕ) (imm : ℤ) → FitsWord (suc (suc d)) (sum (names v q) r imm)
     sum-small d r imm = (source-small d r, word_of_small imm)
@@ -141,10 +141,14 @@ module _ (mem_count : ℕ) (v : VariableMap) (n : ℕ) (low : IsLow mem_count v 
       more : (x : ℕ) → x ≤ n → x ≤ suc n
       more x h = omega (arith, h)
 
+      stored-low : (b : Bool) (x w : ℕ) → x < 2 ^ 32 → w ≤ n → cond b w x < 2 ^ 32
+      stored-low true x w h k = omega (arith, k, few)
+      stored-low false x w h k = h
+
       go : (s d : Bool) → IsLow mem_count (cond s (stored q v) (cond d v (record { words = suc v.words; mems = v.mems; reg = λ r. cond (eqb r (destination i)) v.words (v.reg r); memory = v.memory }))) (suc n)
-      go true d = record { word = λ r. more (v.reg r) (low.word r); memory = λ p l. one (eqb p q) (v.memory p) v.mems (low.memory p l) low.mems; words = more v.words low.words; mems = let most = low.mems in omega (arith, most) }
-      go false true = record { word = λ r. more (v.reg r) (low.word r); memory = λ p l. more (v.memory p) (low.memory p l); words = more v.words low.words; mems = more v.mems low.mems }
-      go false false = record { word = λ r. one (eqb r (destination i)) (v.reg r) v.words (low.word r) low.words; memory = λ p l. more (v.memory p) (low.memory p l); words = let most = low.words in omega (arith, most); mems = more v.mems low.mems }
+      go true d = record { word = λ r. more (v.reg r) (low.word r); memory = λ p l. stored-low (eqb p q) (v.memory p) v.mems (low.memory p l) low.mems; words = more v.words low.words; mems = let most = low.mems in omega (arith, most) }
+      go false true = record { word = λ r. more (v.reg r) (low.word r); memory = low.memory; words = more v.words low.words; mems = more v.mems low.mems }
+      go false false = record { word = λ r. one (eqb r (destination i)) (v.reg r) v.words (low.word r) low.words; memory = low.memory; words = let most = low.words in omega (arith, most); mems = more v.mems low.mems }
 
 steps-join : (ss ts : List StepTree) → AllByRecursion IsStep ss → AllByRecursion IsStep ts → AllByRecursion IsStep (ss ++ ts)
 steps-join [] ts h k = k
@@ -176,13 +180,13 @@ either d true a b h k = h
 either d false a b h k = k
 
 module _ (f : Flow) (small : IsSmall f) where
-  fresh-low : (words mems n : ℕ) → words ≤ n → mems ≤ n → IsLow f.mems (fresh f words mems) (n + 31)
-  fresh-low words mems n h k =
+  fresh-low : (words mems n : ℕ) → words ≤ n → mems ≤ n → n < 2 ^ 16 → IsLow f.mems (fresh f words mems) (n + 31)
+  fresh-low words mems n h k few =
       let regs = small.regs in
       let one = small.mems in
       record {
         word = λ r. (let low = position-most f.regs r in omega (arith, low, regs, h));
-        memory = λ q l. omega (arith, k, l, one);
+        memory = λ q l. omega (arith, k, l, one, few);
         words = omega (arith, regs, h);
         mems = omega (arith, one, k);
       }
@@ -221,7 +225,7 @@ module _ (f : Flow) (small : IsSmall f) where
         u = fresh f (suc v.words) v.mems
 
         vals : IsValues (current f u)
-        vals = let w = low.words in let m = low.mems in values-printed f.mems u (n + 1 + 31) (fresh-low (suc v.words) v.mems (n + 1) (omega (arith, w)) (omega (arith, m))) (omega (arith, few)) f refl
+        vals = let w = low.words in let m = low.mems in values-printed f.mems u (n + 1 + 31) (fresh-low (suc v.words) v.mems (n + 1) (omega (arith, w)) (omega (arith, m)) (omega (arith, few))) (omega (arith, few)) f refl
 
         go : (b : Bool) → (arm_count (cond b (Arm (Leave 0 (with_pc (Var v.words) (current f u))) NoArm) NoArm) ≤ 16) × AreArms (suc d) (cond b (Arm (Leave 0 (with_pc (Var v.words) (current f u))) NoArm) NoArm)
         go true = let w = low.words in (omega arith, ((omega arith, ((omega (arith, w, few), vals.0), vals.1)), tt))
@@ -230,7 +234,7 @@ module _ (f : Flow) (small : IsSmall f) where
         let u : VariableMap = fresh f v.words v.mems in
         let count = arms-count (λ x. last_at f p x u) (rest_targets f (Some l)) in
         let most = targets-few (Some l) in
-        (omega (arith, count, most), arms-printed (suc d) (λ x. last_at f p x u) (λ x. last-printed d x u (n + 31) (fresh-low v.words v.mems n low.words low.mems) (omega (arith, few))) (rest_targets f (Some l)))
+        (omega (arith, count, most), arms-printed (suc d) (λ x. last_at f p x u) (λ x. last-printed d x u (n + 31) (fresh-low v.words v.mems n low.words low.mems (omega (arith, few))) (omega (arith, few))) (rest_targets f (Some l)))
 
     at-printed : (d m : ℕ) (v : VariableMap) (n : ℕ) → IsLow f.mems v n → n ≤ 2000 → IsBody (suc (suc d)) (end_at f p m v)
     at-printed d m v n low few =
@@ -298,7 +302,7 @@ module _ (f : Flow) (small : IsSmall f) where
             arm_of true u low_u =
                 let words = low_u.words in
                 let mems = low_u.mems in
-                let next = fresh-low (suc u.words) u.mems (suc (suc n)) (omega (arith, words)) (omega (arith, mems)) in
+                let next = fresh-low (suc u.words) u.mems (suc (suc n)) (omega (arith, words)) (omega (arith, mems)) (omega (arith, few)) in
                 let back : (f.addr m + size f m) % 2 ^ 64 < 2 ^ 64 = mod-lt (f.addr m + size f m) (omega arith) in
                 (omega arith, (((omega (arith, words, few), back), cut_or on d (f.to m Next) (fresh f (suc u.words) u.mems) (suc (suc n) + 31) (omega (arith, le)) next (omega (arith, few))), tt))
 
@@ -308,7 +312,7 @@ module _ (f : Flow) (small : IsSmall f) where
         by on (Some c) calls = enter on c calls (f.instr m) refl
 
   start-low : IsLow f.mems (start f) 31
-  start-low = subst (IsLow f.mems (start f)) (let e : 0 + 31 ≡ 31 = omega arith in e) (fresh-low 0 0 0 (omega arith) (omega arith))
+  start-low = subst (IsLow f.mems (start f)) (let e : 0 + 31 ≡ 31 = omega arith in e) (fresh-low 0 0 0 (omega arith) (omega arith) (omega arith))
 
   part-body-printed : (p : Part) → IsBody nesting_limit (part_body f p)
   part-body-printed (Loop l) = body-printed (Loop l) 32 62 (f.head l) (start f) 31 (omega arith) start-low (omega arith)
@@ -324,7 +328,7 @@ module _ (f : Flow) (small : IsSmall f) where
             small.number (Loop l),
             omega (arith, count, most),
             values-printed f.mems (start f) 31 start-low (omega arith) f refl,
-            arms-printed 63 (λ x. end_at f (Rest r n) x u) (λ x. at-printed (Rest r n) 61 x u (31 + 31) (fresh-low (start f).words (start f).mems 31 low.words low.mems) (omega arith)) (f.exits l),
+            arms-printed 63 (λ x. end_at f (Rest r n) x u) (λ x. at-printed (Rest r n) 61 x u (31 + 31) (fresh-low (start f).words (start f).mems 31 low.words low.mems (omega arith)) (omega arith)) (f.exits l),
           )
 
   exits-printed : (xs : List ℕ) (more : List Exit) → AllByRecursion IsExit more → AllByRecursion IsExit (map (λ n. At (f.addr n)) xs ++ more)

@@ -2,11 +2,13 @@
 use Rattle.std.proofs.Common.{◌≡◌, ℕ, zero, suc, ◌+◌, ◌^◌, ◌<◌, List, [], ◌∷◌, ◌++◌, map, length, get_or, take, true, fold, refl, sym, ap, subst, ◌∙◌, arith, Some, None, Option, false}
 use Rattle.std.proofs.lemmas.Option.{slice_get-get_or}
 use Rattle.std.specs.Prelude.{slice_get}
-use Rattle.std.specs.List.{AllByRecursion}
+use Rattle.std.specs.List.{All, AllByRecursion}
+use Rattle.std.proofs.lemmas.List.Elements.{All-contains_itself}
 use Rattle.tailrec_lang.specs.declared.group.Def.{Def}
 use Rattle.tailrec_lang.specs.Tree.{DefTree, GroupTree, def_tree, group_tree}
 use Rattle.proof_text.specs.Line.{LineTree, line_tree}
-use Rattle.proof_text.specs.LineLimits.{IsLine}
+use Rattle.group_text.specs.Version.{version_of}
+use Rattle.proof_text.specs.LineLimits.{IsLineIn}
 use Rattle.group_text.specs.declared.version.Version.{Version as Known}
 use Rattle.group_text.specs.declared.version.Version.TheVariants.{One}
 use Rattle.checker.specs.Instance.{History, after_line, after_lines, no_lines}
@@ -17,21 +19,18 @@ use Rattle.path_walk.specs.declared.item.Item.{Item}
 use Rattle.rv_words.specs.declared.range.Range.{Range}
 use Rattle.code_parts.specs.declared.callee.Callee.{Callee}
 use Rattle.code_parts.specs.Bodies.{Flow, part_body, part_def}
-use Rattle.path_walk.specs.Closed.{AreClosedBy}
-use Rattle.code_parts.specs.Graph.{CallsBelow, IsAlone, IsCode, IsFor, IsGraph, IsMade}
-use Rattle.code_parts.specs.Flows.{AreCodeOf, IsReached, alone, flow_of, group_of, group_over, setting_of}
+use Rattle.code_parts.specs.Graph.{CallsBelow, IsAlone, IsFor, IsGraph, IsMade, IsPart}
+use Rattle.code_parts.specs.Flows.{AreCodeOf, IsReached, Setting, alone, flow_of, group_of, group_over}
 use Rattle.path_walk.specs.Further.{IsVersionFor, further_of}
-use Rattle.path_walk.specs.Item.{IsItemOf, IsWalkedIn}
+use Rattle.path_walk.specs.Item.{IsItemWith, IsWalkedIn}
 use Rattle.code_parts.specs.Order.{AreParts}
 use Rattle.code_parts.specs.Kept.{FlowOf, flow_in}
-use Rattle.path_walk.specs.Memories.{UsesFirst}
-use Rattle.path_walk.specs.inner.Walks.{AreWalked, CloseFirst}
-use Rattle.code_parts.proofs.FlowMade.{made-over}
-use Rattle.code_parts.proofs.Settings.{same_flow}
+use Rattle.path_walk.specs.inner.Walks.{AreWalked, CloseFirst, IsItemOver}
 use Rattle.code_parts.proofs.FlowSize.{parts-fit}
 use Rattle.path_walk.proofs.CalledDefs.{below_closed, closed_to}
 use Rattle.code_parts.proofs.Groups.{for}
 use Rattle.code_parts.proofs.Lists.{length-map, slice-mapped}
+use Rattle.path_walk.proofs.Lines.{uncrossed}
 use Rattle.path_walk.proofs.RightLines.{fold-join, joined}
 
 all_join : {A : Type 0} (P : A → Type 0) (xs ys : List A) → AllByRecursion P xs → AllByRecursion P ys → AllByRecursion P (xs ++ ys)
@@ -62,31 +61,31 @@ first_more version f ranges p g n old new one number group code mine below befor
     } in
     subst (CloseFirst (further_of version) g (n + 1)) (sym one.lines) all
 
--- a function alone calls no other, so version 1 will do, and has no second memory
+-- where each access uses the first memory and no function is called any version will do, so version 1 does for a function alone
 pub version-alone : (f : Flow) → IsAlone f → IsVersionFor f One
-version-alone f alone = record { calls = λ n c node calls. absurd (called (alone.calls n node) calls) }
+version-alone f alone = record {
+  calls = λ n c node calls. absurd (called (alone.calls n node) calls);
+  crossed = λ n node is. absurd (uncrossed (f.instr n) (f.uses n) (alone.uses n node) is);
+}
   where
     called : {c : Callee} {o : Option Callee} → o ≡ None → o ≡ Some c → ⊥
     called none some = cc
 
-pub first-alone : (f : Flow) → IsAlone f → UsesFirst f
-first-alone f alone = record { mems = alone.mems; uses = alone.uses }
-
-module _ (s : FlowOf) where
-  pub none_walked : AreWalked s 0 [] []
+module _ (version : Known) (s : FlowOf) where
+  pub none_walked : AreWalked version s 0 [] []
   none_walked = record { are = refl; fine = tt; close = λ g made code. record { right = tt; closed = λ d lt. absurd (omega (arith, lt)) } }
 
   -- .. and the next part
-  pub walked_more : (n : ℕ) (p : Part) (defs : List DefTree) (d : DefTree) (old new : List LineTree) → IsGraph (flow_in s) → slice_get s.setting.parts n ≡ Some p → AreWalked s n defs old →
-      d ≡ part_def (flow_in s) p → IsWalkedIn One (flow_in s) s.code p old new → AreWalked s (n + 1) (defs ++ d ∷ []) new
+  pub walked_more : (n : ℕ) (p : Part) (defs : List DefTree) (d : DefTree) (old new : List LineTree) → IsGraph (flow_in s) → slice_get s.setting.parts n ≡ Some p → AreWalked version s n defs old →
+      d ≡ part_def (flow_in s) p → IsWalkedIn version (flow_in s) s.code p old new → AreWalked version s (n + 1) (defs ++ d ∷ []) new
   walked_more n p defs d old new graph at so_far def one = record {
     are = (λ i. so_far.are i ++ def i ∷ []) ∙ sym (one_more (part_def (flow_in s)) s.setting.parts n p at);
-    fine = subst (AllByRecursion IsLine) (sym one.lines) (all_join IsLine old one.added so_far.fine one.fine);
+    fine = subst (AllByRecursion (IsLineIn (version_of version))) (sym one.lines) (all_join (IsLineIn (version_of version)) old one.added so_far.fine one.fine);
     close = λ g made code.
         let there = made.part n p at in
         let mine : slice_get g.defs ((flow_in s).number p) ≡ Some (part_def (flow_in s) p) =
         (λ i. slice_get (made.defs i) ((flow_in s).number p)) ∙ slice-mapped (part_def (flow_in s)) s.setting.parts ((flow_in s).number p) p (made.listed p there.0) in
-        first_more One (flow_in s) s.code p g n old new one there.1 (for (flow_in s) g s.setting.parts graph made n) code mine (made.below n p at) (so_far.close g made code);
+        first_more version (flow_in s) s.code p g n old new one there.1 (for (flow_in s) g s.setting.parts graph made n) code mine (made.below n p at) (so_far.close g made code);
   }
 
 map_join : {A B : Type 0} (h : A → B) (xs : List A) (x : A) → map h (xs ++ x ∷ []) ≡ map h xs ++ h x ∷ []
@@ -94,47 +93,59 @@ map_join h [] x = refl
 map_join h (y ∷ xs) x = ap (λ zs. h y ∷ zs) (map_join h xs x)
 
 -- .. as the loop over them goes
-pub walked_next : (s : FlowOf) (parts : List Part) (n : ℕ) (x : Part) (defs more : List Def) (d : Def) (old new : List LineTree) → parts ≡ s.setting.parts → IsGraph (flow_in s) → n < length parts →
-    AreWalked s n (map def_tree defs) old → more ≡ defs ++ d ∷ [] → def_tree d ≡ part_def (flow_in s) (get_or parts n x) → IsWalkedIn One (flow_in s) s.code (get_or parts n x) old new →
-    AreWalked s (n + 1) (map def_tree more) new
-walked_next s parts n x defs more d old new are graph lt so_far pushed def one =
+pub walked_next : (version : Known) (s : FlowOf) (parts : List Part) (n : ℕ) (x : Part) (defs more : List Def) (d : Def) (old new : List LineTree) → parts ≡ s.setting.parts → IsGraph (flow_in s) → n < length parts →
+    AreWalked version s n (map def_tree defs) old → more ≡ defs ++ d ∷ [] → def_tree d ≡ part_def (flow_in s) (get_or parts n x) → IsWalkedIn version (flow_in s) s.code (get_or parts n x) old new →
+    AreWalked version s (n + 1) (map def_tree more) new
+walked_next version s parts n x defs more d old new are graph lt so_far pushed def one =
     let at : slice_get s.setting.parts n ≡ Some (get_or parts n x) = (λ i. slice_get (sym are i) n) ∙ slice_get-get_or parts n x lt in
-    subst (λ (ds : List DefTree). AreWalked s (n + 1) ds new) (sym (ap (map def_tree) pushed ∙ map_join def_tree defs d))
-    (walked_more s n (get_or parts n x) (map def_tree defs) (def_tree d) old new graph at so_far def one)
+    subst (λ (ds : List DefTree). AreWalked version s (n + 1) ds new) (sym (ap (map def_tree) pushed ∙ map_join def_tree defs d))
+    (walked_more version s n (get_or parts n x) (map def_tree defs) (def_tree d) old new graph at so_far def one)
 
 pub parts_small : (g : GraphOf) (f : ForestOf) (parts : List Part) → IsReached false g → IsForestOf g f → AreParts (flow_of g f (alone g parts)) (number_of f) parts → length parts < 2 ^ 32
 parts_small g f parts reached forest order = let fit = parts-fit false reached.code reached.entry g f (alone g parts) reached.is forest order in omega (arith, fit)
 
+pub parts-there : (f : Flow) (left : ℕ → ℕ) (parts : List Part) → AreParts f left parts → All (IsPart f) parts
+parts-there f left parts order = λ k d lt. (order.all (get_or parts k d)).0 (All-contains_itself parts k d lt)
+
 -- all parts, as an item
-pub item_from : (s : FlowOf) (name : List ℕ) (item : Item) → IsReached false s.graph → IsForestOf s.graph s.forest → AreParts (flow_in s) (number_of s.forest) s.setting.parts → AreCodeOf s.graph item.group.code.ranges → IsCode (flow_in s) s.code → setting_of s.setting ≡ alone s.graph s.setting.parts →
-    (defs : List DefTree) → AreWalked s (length s.setting.parts) defs (map line_tree item.lines) → group_tree item.group ≡ group_over (flow_in s) name s.code defs → item.reached ≡ length s.graph.addrs →
-    IsItemOf s.graph s.forest name item
-item_from s name item reached forest order whole code setting defs walked group count = record {
-  parts = s.setting.parts;
-  ordered = order_alone;
-  code = whole;
-  group = is ∙ (λ i. group_of (same i) name (sym ranges i) s.setting.parts);
-  lines = subst (λ (g : GroupTree). AreClosedBy g (map line_tree item.lines)) (sym is) closed;
+pub item_over : (version : Known) (s : FlowOf) (name : List ℕ) (count : ℕ) (item : Item) (defs : List DefTree) → AreWalked version s (length s.setting.parts) defs (map line_tree item.lines) →
+    group_tree item.group ≡ group_over (flow_in s) name s.code defs → item.reached ≡ count → IsItemOver version s name count item
+item_over version s name count item defs walked group reached = record {
+  group = is;
   fine = walked.fine;
-  reached = count;
+  close = λ made.
+      let all = walked.close (group_tree item.group) made (ap (λ (g : GroupTree). g.code) is) in
+      let long = length-map (part_def (flow_in s)) s.setting.parts in
+      let many : length (group_tree item.group).defs ≡ length (map (part_def (flow_in s)) s.setting.parts) = ap (λ (g : GroupTree). length g.defs) is in
+      record { right = all.right; closed = λ d lt. all.closed d (omega (arith, lt, many, long)) };
+  reached = reached;
 }
   where
-    same : flow_in s ≡ flow_of s.graph s.forest (alone s.graph s.setting.parts)
-    same = same_flow s s.graph s.forest (alone s.graph s.setting.parts) refl refl setting
-
-    order_alone : AreParts (flow_of s.graph s.forest (alone s.graph s.setting.parts)) (number_of s.forest) s.setting.parts
-    order_alone = subst (λ (f : Flow). AreParts f (number_of s.forest) s.setting.parts) same order
-
     is : group_tree item.group ≡ group_of (flow_in s) name s.code s.setting.parts
     is = group ∙ ap (group_over (flow_in s) name s.code) (walked.are ∙ ap (map (part_def (flow_in s))) (taken s.setting.parts))
 
+-- .. of a graph in the setting that goes with its parts
+pub item_in_setting : (version : Known) (set : List Part → Setting) (g : GraphOf) (f : ForestOf) (parts : List Part) (s : FlowOf) (name : List ℕ) (count : ℕ) (item : Item) →
+    flow_in s ≡ flow_of g f (set parts) → s.setting.parts ≡ parts → IsItemOver version s name count item → count ≡ length g.addrs → AreParts (flow_of g f (set parts)) (number_of f) parts → AreCodeOf g s.code →
+    ((ranges : List Range) → ranges ≡ s.code → IsMade (flow_of g f (set parts)) (group_of (flow_of g f (set parts)) name ranges parts) parts) → IsItemWith version set g f name item
+item_in_setting version set g f parts s name count item same are over long order code made = record {
+  parts = parts;
+  ordered = order;
+  code = subst (AreCodeOf g) (sym ranges) code;
+  group = is;
+  lines = over.close closed;
+  fine = over.fine;
+  reached = over.reached ∙ long;
+}
+  where
     ranges : item.group.code.ranges ≡ s.code
-    ranges = ap (λ (g : GroupTree). g.code) is
+    ranges = ap (λ (t : GroupTree). t.code) over.group
 
-    closed : AreClosedBy (group_of (flow_in s) name s.code s.setting.parts) (map line_tree item.lines)
+    is : group_tree item.group ≡ group_of (flow_of g f (set parts)) name item.group.code.ranges parts
+    is = over.group ∙ (λ i. group_of (same i) name (sym ranges i) (are i))
+
+    closed : IsMade (flow_in s) (group_tree item.group) s.setting.parts
     closed =
-        let made = subst (λ (f : Flow). IsMade f (group_of f name s.code s.setting.parts) s.setting.parts) (sym same)
-        (made-over reached.code reached.entry s.graph s.forest s.setting.parts name s.code reached.is forest (subst (λ (f : Flow). IsCode f s.code) same code) order_alone) in
-        let all = walked.close (group_of (flow_in s) name s.code s.setting.parts) made refl in
-        let count : length (map (part_def (flow_in s)) s.setting.parts) ≡ length s.setting.parts = length-map (part_def (flow_in s)) s.setting.parts in
-        record { right = all.right; closed = λ d lt. all.closed d (omega (arith, lt, count)) }
+        subst (λ (h : Flow). IsMade h (group_tree item.group) s.setting.parts) (sym same)
+        (subst (λ (ps : List Part). IsMade (flow_of g f (set parts)) (group_tree item.group) ps) (sym are)
+        (subst (λ (t : GroupTree). IsMade (flow_of g f (set parts)) t parts) (sym is) (made item.group.code.ranges ranges)))

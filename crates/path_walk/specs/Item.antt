@@ -5,7 +5,7 @@ use Rattle.rv_words.specs.declared.range.Range.{Range}
 use Rattle.tailrec_lang.specs.Tree.{GroupTree, group_tree}
 use Rattle.proof_text.specs.Line.{LineTree, line_tree}
 use Rattle.group_text.specs.Version.{version_of}
-use Rattle.proof_text.specs.LineLimits.{IsLine, IsLineIn}
+use Rattle.proof_text.specs.LineLimits.{IsLineIn}
 use Rattle.group_text.specs.declared.version.Version.{Version as Known}
 use Rattle.group_text.specs.declared.version.Version.TheVariants.{One}
 use Rattle.checker.specs.Instance.{AreInstancesBy, FurtherRule, History, after_line, after_lines}
@@ -14,10 +14,10 @@ use Rattle.loop_forest.specs.Forest.{ForestOf, number_of}
 use Rattle.code_parts.specs.declared.part.Part.{Part}
 use Rattle.path_walk.specs.declared.item.Item.{Item}
 use Rattle.code_parts.specs.Bodies.{Flow, part_body, part_def}
-use Rattle.path_walk.specs.Closed.{AreClosed, AreClosedBy}
+use Rattle.path_walk.specs.Closed.{AreClosed, AreClosedIn}
 use Rattle.path_walk.specs.Further.{further_of}
 use Rattle.code_parts.specs.Graph.{CallsBelow, IsFor}
-use Rattle.code_parts.specs.Flows.{AreCodeOf, alone, flow_of, group_of}
+use Rattle.code_parts.specs.Flows.{AreCodeOf, Setting, alone, flow_of, group_of}
 use Rattle.code_parts.specs.Order.{AreParts}
 
 -- lines after those that left h behind them, each of which is right in a text with that further rule, close definition d and open none again
@@ -45,12 +45,17 @@ pub record IsWalkedAfter (g : GraphOf) (f : ForestOf) (earlier : List Part) (p :
   pub code : AreCodeOf g ranges
   pub walked : IsWalked (flow_of g f (alone g earlier)) ranges p old new
 
--- The group of a graph's parts in their order, with its code, and lines that close each of its definitions.
-pub record IsItemOf (g : GraphOf) (f : ForestOf) (name : List ℕ) (item : Item) : Type 0 where
+-- The group of a graph's parts in their order, with its code, in the setting that goes with these parts, and lines in a text of that version that
+-- close each of its definitions.
+pub record IsItemWith (version : Known) (set : List Part → Setting) (g : GraphOf) (f : ForestOf) (name : List ℕ) (item : Item) : Type 0 where
   pub parts : List Part
-  pub ordered : AreParts (flow_of g f (alone g parts)) (number_of f) parts
+  pub ordered : AreParts (flow_of g f (set parts)) (number_of f) parts
   pub code : AreCodeOf g item.group.code.ranges
-  pub group : group_tree item.group ≡ group_of (flow_of g f (alone g parts)) name item.group.code.ranges parts
-  pub lines : AreClosedBy (group_tree item.group) (map line_tree item.lines)
-  pub fine : AllByRecursion IsLine (map line_tree item.lines)
+  pub group : group_tree item.group ≡ group_of (flow_of g f (set parts)) name item.group.code.ranges parts
+  pub lines : AreClosedIn version (group_tree item.group) (map line_tree item.lines)
+  pub fine : AllByRecursion (IsLineIn (version_of version)) (map line_tree item.lines)
   pub reached : item.reached ≡ length g.addrs
+
+-- .. of a function alone, in a text of version 1
+abbrev pub IsItemOf : GraphOf → ForestOf → List ℕ → Item → Type 0
+IsItemOf g f name item = IsItemWith One (alone g) g f name item

@@ -3,5 +3,5 @@ pub mod Further
 pub mod Forgotten
 pub mod Item
 pub mod Linked
-pub mod Memories
+pub mod Split
 pub mod inner

@@ -1,23 +1,16 @@
 -- The group of linked functions with the lines of its proof, as a text of version 3.
-use Rattle.std.specs.Prelude.{◌≡◌, ℕ, ◌<◌, List, map, true, length}
+use Rattle.std.specs.Prelude.{◌≡◌, ℕ, List, map}
 use Rattle.std.specs.List.{AllByRecursion, sum_by}
-use Rattle.tailrec_lang.specs.Tree.{GroupTree, group_tree}
-use Rattle.group_text.specs.declared.version.Version.{Version as Known}
+use Rattle.tailrec_lang.specs.Tree.{group_tree}
 use Rattle.group_text.specs.declared.version.Version.TheVariants.{Three}
 use Rattle.group_text.specs.Version.{version_of}
-use Rattle.proof_text.specs.Line.{LineTree, line_tree}
+use Rattle.proof_text.specs.Line.{line_tree}
 use Rattle.proof_text.specs.LineLimits.{IsLineIn}
-use Rattle.checker.specs.Instance.{AreInstancesBy, after_lines, no_lines}
 use Rattle.call_graph.specs.Functions.{size_of}
 use Rattle.linked_group.specs.Groups.{functions_of, group_in}
 use Rattle.linked_group.specs.declared.group.LinkedGroup.{LinkedGroup}
 use Rattle.path_walk.specs.declared.item.Item.{Item}
-use Rattle.path_walk.specs.Further.{further_of}
-
--- lines that are right in a text of that version, after which each definition is closed
-pub record AreClosedIn (version : Known) (g : GroupTree) (lines : List LineTree) : Type 0 where
-  pub right : AreInstancesBy (further_of version) g no_lines lines
-  pub closed : (d : ℕ) → d < length g.defs → (after_lines lines).closed d ≡ true
+use Rattle.path_walk.specs.Closed.{AreClosedIn}
 
 -- The group of linked functions under that name, and lines of version 3 that close each of its definitions; an instruction that two functions
 -- reach counts for both.

@@ -8,7 +8,6 @@ ghost use Rattle.sep_assert.specs.Code.{IsWithin};
 ghost use Rattle.code_parts.specs.Bodies as spec;
 ghost use Rattle.code_parts.specs.Graph.{IsPart};
 ghost use Rattle.path_walk.specs.Further.{IsVersionFor};
-ghost use Rattle.path_walk.specs.Memories.{UsesFirst};
 ghost use Rattle.path_walk.specs.inner.Near.{IsNear, IsNext};
 ghost use Rattle.code_parts.specs.inner.Ends.{body_on};
 ghost use Rattle.code_parts.specs.Kept.{flow_in};
@@ -46,7 +45,6 @@ fn lines_from(
     requires words { place.now.words + 33 * room < 2 ^ 14 }
     requires mems { place.now.mems + 3 * room < 2 ^ 14 }
     requires code { IsOver flow.now.code (option_map cited_tree (option_copied from)) }
-    requires memory { UsesFirst (flow_in flow.now) }
     requires version { IsVersionFor (flow_in flow.now) log.old.version }
     ensures { OnOk result (Leads (flow_in flow.now) p flow.now.code (writer_tree log.old) (writer_tree log.new)
         (Const ((flow_in flow.now).addr n)) (place_of place.now) (option_map cited_tree (option_copied from.entry)) (spec.body_at room (flow_in flow.now) p n (place_of place.now))) }
@@ -79,7 +77,6 @@ fn acting_lines(
     requires words { place.now.words + 33 * room < 2 ^ 14 }
     requires mems { place.now.mems + 3 * room < 2 ^ 14 }
     requires code { IsOver flow.now.code (option_map cited_tree (option_copied from)) }
-    requires memory { UsesFirst (flow_in flow.now) }
     requires version { IsVersionFor (flow_in flow.now) log.old.version }
     ensures { OnOk result (Leads (flow_in flow.now) p flow.now.code (writer_tree log.old) (writer_tree log.new)
         (Const ((flow_in flow.now).addr n)) (place_of place.now) (option_map cited_tree (option_copied from.entry)) (spec.body_at room (flow_in flow.now) p n (place_of place.now))) }
@@ -87,6 +84,7 @@ fn acting_lines(
     flow.law_of_code();
     let entry = entry_of(flow, p);
     let i = flow.instr(n);
+    let q = flow.uses(n);
     if is_jump_through(i) {
         let t = step(alloc, flow, entry, n, Form::Next, place, from, log)?;
         return log.cite(&t);
@@ -103,7 +101,7 @@ fn acting_lines(
         _ => {
             let t = step(alloc, flow, entry, n, Form::Next, place, from, log)?;
             let to = flow.to(n, Form::Next);
-            let next = after(i, 0, *place);
+            let next = after(i, q, *place);
             lines_to(alloc, flow, p, to, &next, room - 1, &t, log)
         }
     }
@@ -129,7 +127,6 @@ fn calling_lines(
     requires words { place.now.words + 33 * room < 2 ^ 14 }
     requires mems { place.now.mems + 3 * room < 2 ^ 14 }
     requires code { IsOver flow.now.code (option_map cited_tree (option_copied from)) }
-    requires memory { UsesFirst (flow_in flow.now) }
     requires version { IsVersionFor (flow_in flow.now) log.old.version }
     ensures { OnOk result (Leads (flow_in flow.now) p flow.now.code (writer_tree log.old) (writer_tree log.new)
         (Const ((flow_in flow.now).addr n)) (place_of place.now) (option_map cited_tree (option_copied from.entry)) (spec.body_at room (flow_in flow.now) p n (place_of place.now))) }
@@ -141,7 +138,8 @@ fn calling_lines(
         return Ok(());
     }
     let to = flow.to(n, Form::Next);
-    let next = after(flow.instr(n), 0, *place);
+    let q = flow.uses(n);
+    let next = after(flow.instr(n), q, *place);
     let call = FunctionCall {
         entry: callee.entry,
         def: callee.def,
@@ -169,7 +167,6 @@ fn lines_to(
     requires words { place.now.words + 33 * room < 2 ^ 14 }
     requires mems { place.now.mems + 3 * room < 2 ^ 14 }
     requires code { IsWithin (range_bytes at.now.code) (range_bytes flow.now.code) }
-    requires memory { UsesFirst (flow_in flow.now) }
     requires version { IsVersionFor (flow_in flow.now) log.old.version }
     ensures { OnOk result (Leads (flow_in flow.now) p flow.now.code (writer_tree log.old) (writer_tree log.new)
         (Const ((flow_in flow.now).addr n)) (place_of place.now) (Some (cited_tree at.now)) (body_on room (flow_in flow.now) p n (place_of place.now))) }
@@ -190,7 +187,6 @@ fn node_lines(
 ) -> Result<(), NoMemory>
     requires part { IsPart (flow_in flow.now) p }
     requires near { IsNear (flow_in flow.now) p 32 n }
-    requires memory { UsesFirst (flow_in flow.now) }
     requires version { IsVersionFor (flow_in flow.now) log.old.version }
     ensures { OnOk result (Leads (flow_in flow.now) p flow.now.code (writer_tree log.old) (writer_tree log.new)
         (Const ((flow_in flow.now).addr n)) (spec.start (flow_in flow.now)) None (spec.body_at 32 (flow_in flow.now) p n (spec.start (flow_in flow.now)))) }
@@ -207,7 +203,6 @@ pub fn part_lines(
     log: &mut ProofWriter,
 ) -> Result<(), NoMemory>
     requires part { IsPart (flow_in flow.now) p }
-    requires memory { UsesFirst (flow_in flow.now) }
     requires version { IsVersionFor (flow_in flow.now) log.old.version }
     ensures { OnOk result (Leads (flow_in flow.now) p flow.now.code (writer_tree log.old) (writer_tree log.new)
         (Const ((flow_in flow.now).addr (spec.first (flow_in flow.now) p))) (spec.start (flow_in flow.now)) None (spec.part_body (flow_in flow.now) p)) }

@@ -9,7 +9,6 @@ ghost use Rattle.sep_assert.specs.Tree.{assertion_tree};
 ghost use Rattle.triple_kernel.specs.Tree.{FactTree, fact_tree, triple_tree};
 ghost use Rattle.frame_compose.specs.Rules.{AreMissing};
 ghost use Rattle.code_parts.specs.Bodies.{start};
-ghost use Rattle.path_walk.specs.Memories.{UsesFirst};
 ghost use Rattle.path_walk.specs.inner.Acts.{GoesOn, IsAdded, Joined};
 ghost use Rattle.code_parts.specs.Kept.{flow_in};
 ghost use Rattle.path_walk.specs.inner.Writers as logs;
@@ -17,6 +16,7 @@ ghost use Rattle.path_walk.specs.inner.Writers.{writer_tree, cited_tree};
 ghost use Rattle.code_parts.specs.VariableMaps.{place_of};
 
 use crate::proof_writer::{CitedTheorem, ProofWriter};
+use crate::subs::law_of_memories;
 use code_parts::{Flow, VariableMap, current_mems, fresh, law_of_bytes};
 use instr_axioms::words_before;
 use proof_text::Rule;
@@ -124,13 +124,13 @@ fn join(
     requires pc { IsWord (word_tree pc) }
     requires words { place.now.words < 2 ^ 16 }
     requires mems { place.now.mems < 2 ^ 16 }
-    requires memory { UsesFirst (flow_in flow.now) }
     ensures joined { IfOk result (λ t. Joined (flow_in flow.now) entry (cited_tree from.now) (cited_tree last) (word_tree pc) (place_of place.now) (writer_tree log.old) (writer_tree log.new) (cited_tree t)) }
     ensures code { IfOk result (λ t. IsWithin (range_bytes t.code) (range_bytes flow.now.code)) }
 {
     from.law_of_texts();
     last.law_of_texts();
     flow.law_of_code();
+    law_of_memories(flow, place);
     let all = all_facts(alloc, from.facts(), last.facts())?;
     let code = code_join(alloc, from.code(), last.code())?;
     law_of_bytes(&code);
@@ -155,7 +155,6 @@ pub fn go_on(
     requires pc { IsWord (word_tree pc) }
     requires words { place.now.words < 2 ^ 16 }
     requires mems { place.now.mems < 2 ^ 16 }
-    requires memory { UsesFirst (flow_in flow.now) }
     ensures on { IfOk result (λ t. GoesOn (flow_in flow.now) entry (option_map cited_tree (option_copied from.entry)) (cited_tree last) (word_tree pc) (place_of place.now) (writer_tree log.old) (writer_tree log.new) (cited_tree t)) }
     ensures code { IfOk result (λ t. IsWithin (range_bytes t.code) (range_bytes flow.now.code)) }
 {

@@ -9,7 +9,6 @@ ghost use Rattle.tailrec_lang.specs.declared.group.Exit.TheVariants.{At};
 ghost use Rattle.code_parts.specs.declared.part.Part.TheVariants.{Loop, Rest};
 ghost use Rattle.code_parts.specs.Bodies as spec;
 ghost use Rattle.code_parts.specs.Graph.{IsPart};
-ghost use Rattle.path_walk.specs.Memories.{UsesFirst};
 ghost use Rattle.path_walk.specs.inner.Near.{IsEnd};
 ghost use Rattle.code_parts.specs.Kept.{flow_in};
 ghost use Rattle.path_walk.specs.inner.Lines.{ArmsLead};
@@ -51,7 +50,6 @@ fn last_lines(
     requires words { place.now.words < 2 ^ 15 }
     requires mems { place.now.mems < 2 ^ 15 }
     requires code { IsWithin (range_bytes at.now.code) (range_bytes flow.now.code) }
-    requires memory { UsesFirst (flow_in flow.now) }
     ensures { OnOk result (ArmsLead (flow_in flow.now) p flow.now.code ((flow_in flow.now).number q) (writer_tree log.old) (writer_tree log.new)
         (Const ((flow_in flow.now).addr (spec.first (flow_in flow.now) q))) (place_of place.now) (Some (cited_tree at.now))
         (map (λ x. At ((flow_in flow.now).addr x)) targets.now ++ []) 0
@@ -85,7 +83,6 @@ fn back_lines(
     requires words { place.now.words < 2 ^ 15 }
     requires mems { place.now.mems < 2 ^ 15 }
     requires code { IsWithin (range_bytes at.now.code) (range_bytes flow.now.code) }
-    requires memory { UsesFirst (flow_in flow.now) }
     ensures { OnOk result (ArmsLead (flow_in flow.now) p flow.now.code ((flow_in flow.now).number (Rest None n)) (writer_tree log.old) (writer_tree log.new)
         (Const ((flow_in flow.now).addr n)) (place_of place.now) (Some (cited_tree at.now))
         (spec.exits_of (flow_in flow.now) (Rest None n)) 0 (spec.rest_arms (flow_in flow.now) p None (place_of place.now))) }
@@ -121,7 +118,6 @@ fn loop_rest_lines(
     requires words { place.now.words < 2 ^ 15 }
     requires mems { place.now.mems < 2 ^ 15 }
     requires code { IsWithin (range_bytes at.now.code) (range_bytes flow.now.code) }
-    requires memory { UsesFirst (flow_in flow.now) }
     ensures { OnOk result (ArmsLead (flow_in flow.now) p flow.now.code ((flow_in flow.now).number (Rest (Some l) n)) (writer_tree log.old) (writer_tree log.new)
         (Const ((flow_in flow.now).addr n)) (place_of place.now) (Some (cited_tree at.now))
         (spec.exits_of (flow_in flow.now) (Rest (Some l) n)) 0 (spec.rest_arms (flow_in flow.now) p (Some l) (place_of place.now))) }
@@ -150,7 +146,6 @@ fn rest_lines(
     requires words { place.now.words < 2 ^ 15 }
     requires mems { place.now.mems < 2 ^ 15 }
     requires code { IsWithin (range_bytes at.now.code) (range_bytes flow.now.code) }
-    requires memory { UsesFirst (flow_in flow.now) }
     ensures { OnOk result (ArmsLead (flow_in flow.now) p flow.now.code ((flow_in flow.now).number (spec.rest_from (flow_in flow.now) n)) (writer_tree log.old) (writer_tree log.new)
         (Const ((flow_in flow.now).addr n)) (place_of place.now) (Some (cited_tree at.now))
         (spec.exits_of (flow_in flow.now) (spec.rest_from (flow_in flow.now) n)) 0 (spec.rest_arms (flow_in flow.now) p ((flow_in flow.now).around n) (place_of place.now))) }
@@ -176,7 +171,6 @@ pub fn end_lines(
     requires words { place.now.words < 2 ^ 15 }
     requires mems { place.now.mems < 2 ^ 15 }
     requires code { IsWithin (range_bytes at.now.code) (range_bytes flow.now.code) }
-    requires memory { UsesFirst (flow_in flow.now) }
     ensures { OnOk result (Leads (flow_in flow.now) p flow.now.code (writer_tree log.old) (writer_tree log.new)
         (Const ((flow_in flow.now).addr n)) (place_of place.now) (Some (cited_tree at.now)) (spec.end_at (flow_in flow.now) p n (place_of place.now))) }
 {
@@ -198,7 +192,6 @@ pub fn head_lines(
     requires part { IsPart (flow_in flow.now) p }
     requires loops { l < (flow_in flow.now).loops }
     requires around { (flow_in flow.now).around ((flow_in flow.now).head l) ≡ spec.own p }
-    requires memory { UsesFirst (flow_in flow.now) }
     ensures { OnOk result (ArmsLead (flow_in flow.now) p flow.now.code ((flow_in flow.now).number (Loop l)) (writer_tree log.old) (writer_tree log.new)
         (Const ((flow_in flow.now).addr ((flow_in flow.now).head l))) (spec.start (flow_in flow.now)) None
         (map (λ x. At ((flow_in flow.now).addr x)) ((flow_in flow.now).exits l) ++ []) 0

@@ -9,14 +9,13 @@ ghost use Rattle.triple_kernel.specs.Tree.{So, fact_tree};
 ghost use Rattle.group_text.specs.Version.{version_of};
 ghost use Rattle.code_parts.specs.Kept.{flow_in};
 ghost use Rattle.code_parts.specs.VariableMaps.{place_of};
-ghost use Rattle.path_walk.specs.Memories.{UsesFirst};
 ghost use Rattle.path_walk.specs.inner.Acts.{Entered, steered, steered_standing};
 ghost use Rattle.path_walk.specs.inner.Writers.{IsOver, cited_tree, writer_tree};
 
 use crate::compose::{go_on, whole_triple};
 use crate::exit_lines::leave_by;
 use crate::proof_writer::{CitedTheorem, ProofWriter};
-use crate::subs::place_at;
+use crate::subs::{law_of_memories, place_at};
 use code_parts::{Flow, VariableMap};
 use rv_words::{Cmp, List, NoMemory};
 use std::alloc::Global;
@@ -66,13 +65,13 @@ fn steer(
     requires words { place.now.words < 2 ^ 16 }
     requires mems { place.now.mems < 2 ^ 16 }
     requires code { IsWithin (range_bytes t.now.code) (range_bytes flow.now.code) }
-    requires memory { UsesFirst (flow_in flow.now) }
     ensures is { IfOk result (λ x. cited_tree x ≡ steered_standing (Var w) back (cited_tree t.now) (writer_tree log.old)) }
     ensures log { OnOk result (writer_tree log.new ≡ steered (flow_in flow.now) entry (Var w) back (place_of place.now) (cited_tree t.now) (writer_tree log.old)) }
     ensures code { IfOk result (λ x. IsWithin (range_bytes x.code) (range_bytes flow.now.code)) }
 {
     t.law_of_texts();
     flow.law_of_code();
+    law_of_memories(flow, place);
     let facts = steered_facts(alloc, t, w, back)?;
     let code = copy_code(alloc, t.code())?;
     let stated = whole_triple(
@@ -102,7 +101,6 @@ pub fn enter(
     requires words { place.now.words < 2 ^ 15 }
     requires mems { place.now.mems < 2 ^ 15 }
     requires code { IsOver flow.now.code (option_map cited_tree (option_copied from)) }
-    requires memory { UsesFirst (flow_in flow.now) }
     ensures entered { IfOk result (λ t. Entered (flow_in flow.now) entry flow.now.code call.entry call.def call.back (place_of place.now) (option_map cited_tree (option_copied from.entry)) (writer_tree log.old) (writer_tree log.new) (cited_tree t)) }
     ensures code { IfOk result (λ t. IsWithin (range_bytes t.code) (range_bytes flow.now.code)) }
 {

@@ -11,7 +11,6 @@ ghost use Rattle.proof_text.specs.LineLimits.{IsRule, IsTriple};
 ghost use Rattle.group_text.specs.Limits.{IsExit};
 ghost use Rattle.code_parts.specs.Bodies as bodies;
 ghost use Rattle.code_parts.specs.Graph.{IsPart};
-ghost use Rattle.path_walk.specs.Memories.{UsesFirst};
 ghost use Rattle.path_walk.specs.inner.Acts as spec;
 ghost use Rattle.path_walk.specs.inner.Histories.{exit_place, pc_of};
 ghost use Rattle.code_parts.specs.Kept.{flow_in};
@@ -20,7 +19,7 @@ ghost use Rattle.code_parts.specs.VariableMaps.{place_of};
 
 use crate::compose::{go_on, standing_at};
 use crate::proof_writer::{CitedTheorem, ProofWriter};
-use crate::subs::{call_mems, call_words, place_at};
+use crate::subs::{call_mems, call_words, law_of_memories, place_at};
 use code_parts::{Flow, Part, VariableMap, current, first_node, fresh, law_of_bytes, with_pc};
 use proof_text::Rule;
 use rv_words::{List, NoMemory};
@@ -179,12 +178,12 @@ pub fn leave_by(
 ) -> Result<CitedTheorem, NoMemory>
     requires words { place.now.words < 2 ^ 15 }
     requires mems { place.now.mems < 2 ^ 15 }
-    requires memory { UsesFirst (flow_in flow.now) }
     ensures is { IfOk result (λ t. cited_tree t ≡ spec.exit_standing (flow_in flow.now) flow.now.code def exit x (place_of place.now) (writer_tree log.old)) }
     ensures log { OnOk result (writer_tree log.new ≡ spec.exited (flow_in flow.now) flow.now.code entry def exit x (place_of place.now) (writer_tree log.old)) }
 {
     flow.law_of_code();
     law_of_exits(x);
+    law_of_memories(flow, place);
     law_of_bytes(flow.code());
     let number = exit_lines(alloc, flow, entry, def, exit, x, place, log)?;
     let known = gives(alloc, flow, def, exit, x, place)?;
@@ -209,7 +208,6 @@ pub fn exit_step(
     requires words { place.now.words < 2 ^ 15 }
     requires mems { place.now.mems < 2 ^ 15 }
     requires code { IsOver flow.now.code (option_map cited_tree (option_copied from)) }
-    requires memory { UsesFirst (flow_in flow.now) }
     ensures steps { IfOk result (λ t. StepsBy (flow_in flow.now) entry flow.now.code ((flow_in flow.now).number q) (writer_tree log.old) (writer_tree log.new) (Const ((flow_in flow.now).addr (bodies.first (flow_in flow.now) q))) (place_of place.now)
         (option_map cited_tree (option_copied from.entry)) (pc_of x place.now.words) (exit_place (flow_in flow.now) x place.now.words place.now.mems)
         (Gives ((flow_in flow.now).number q) exit (bodies.current (flow_in flow.now) (place_of place.now)) (spec.results_at (flow_in flow.now) x place.now.words place.now.mems) ∷ []) (cited_tree t)) }

@@ -1,19 +1,20 @@
 //! The lines of one instruction.
 
-ghost use Rattle.std.specs.Prelude.{◌≡◌, ℕ, ◌++◌, ◌+◌, ◌<◌, ◌≤◌, ◌^◌, IfOk, OnOk, if◌then◌else◌, map, option_copied, option_map, true};
+ghost use Rattle.std.specs.Prelude.{◌≡◌, ◌++◌, ◌+◌, ◌<◌, ◌^◌, All, IfOk, OnOk, map, option_copied, option_map, true};
 ghost use Rattle.rv_decode.specs.Registers.{destination};
 ghost use Rattle.rv_words.specs.Ranges.{range_bytes};
-ghost use Rattle.word_terms.specs.Tree.{Const};
+ghost use Rattle.word_terms.specs.Tree.{Const, MemVar, mem_tree};
 ghost use Rattle.sep_assert.specs.Code.{IsWithin};
 ghost use Rattle.triple_kernel.specs.Tree.{So, fact_tree, triple_tree};
 ghost use Rattle.rvc.specs.Number.{length_of as length_in_bytes};
 ghost use Rattle.instr_axioms.specs.Terms as terms;
 ghost use Rattle.instr_axioms.specs.Axiom as axioms;
+ghost use Rattle.group_text.specs.declared.version.Version.TheVariants.{Four};
 ghost use Rattle.proof_text.specs.Line.{Inst};
 ghost use Rattle.proof_text.specs.LineLimits.{IsRule, IsTriple};
 ghost use Rattle.code_parts.specs.Bodies as bodies;
 ghost use Rattle.code_parts.specs.Graph.{StandsAt};
-ghost use Rattle.path_walk.specs.Memories.{UsesFirst};
+ghost use Rattle.path_walk.specs.Further.{IsVersionFor, is_crossed as crosses};
 ghost use Rattle.path_walk.specs.inner.Acts as spec;
 ghost use Rattle.code_parts.specs.Kept.{flow_in};
 ghost use Rattle.path_walk.specs.inner.Writers.{IsOver, Steps, writer_tree, cited_tree, stating};
@@ -21,7 +22,7 @@ ghost use Rattle.code_parts.specs.VariableMaps.{place_of};
 
 use crate::compose::{go_on, standing_at};
 use crate::proof_writer::{CitedTheorem, ProofWriter};
-use crate::subs::{own_mems, own_words};
+use crate::subs::{law_of_memories, own_mems, own_words};
 use code_parts::{Flow, VariableMap, after};
 use instr_axioms::{
     Form, Variables, facts, has_memory, memory_after, own, pc_after, result, triple_over, word_code,
@@ -30,26 +31,30 @@ use proof_text::Rule;
 use rv_decode::{Instr, destination};
 use rv_words::{List, NoMemory};
 use rvc::length_of;
+use sep_assert::Assertion;
 use std::alloc::Global;
 use triple_kernel::{Fact, Triple};
 use word_terms::{Mem, Sub, Word};
 
-/// Adds what the definition knows of the variable of what an instruction writes.
+/// Adds what the definition knows of the variable of what an instruction writes, where it loads from or stores to that memory, if it does.
 fn add_new_fact(
     alloc: Global,
     i: Instr,
     addr: u64,
     length: u8,
+    q: u8,
     place: &VariableMap,
     facts: &mut List<Fact>,
 ) -> Result<(), NoMemory>
-    ensures { OnOk result (map fact_tree facts.new ≡ map fact_tree facts.old ++ spec.new_facts i addr length 0 (place_of place.now)) }
+    requires { q < 2 }
+    ensures { OnOk result (map fact_tree facts.new ≡ map fact_tree facts.old ++ spec.new_facts i addr length q (place_of place.now)) }
 {
+    let names = place.names_of(q);
     if let Instr::Store { .. } = i {
-        let m = memory_after(alloc, i, &place.names)?;
+        let m = memory_after(alloc, i, &names)?;
         facts.push(Fact::MemIs(Mem::Var(place.mems), m))?;
     } else if destination(&i) != 0 {
-        let t = result(alloc, i, addr, length, &place.names)?;
+        let t = result(alloc, i, addr, length, &names)?;
         facts.push(Fact::WordIs(Word::Var(place.words), t))?;
     }
     Ok(())
@@ -62,16 +67,18 @@ fn facts_of(
     form: Form,
     addr: u64,
     length: u8,
+    q: u8,
     place: &VariableMap,
 ) -> Result<List<Fact>, NoMemory>
-    ensures { IfOk result (λ fs. map fact_tree fs ≡ map So (terms.conditions i form (bodies.names (place_of place.now) 0)) ++ spec.new_facts i addr length 0 (place_of place.now)) }
+    requires { q < 2 }
+    ensures { IfOk result (λ fs. map fact_tree fs ≡ map So (terms.conditions i form (bodies.names (place_of place.now) q)) ++ spec.new_facts i addr length q (place_of place.now)) }
 {
-    let mut known = facts(alloc, i, form, &place.names)?;
-    add_new_fact(alloc, i, addr, length, place, &mut known)?;
+    let mut known = facts(alloc, i, form, &place.names_of(q))?;
+    add_new_fact(alloc, i, addr, length, q, place, &mut known)?;
     Ok(known)
 }
 
-/// The triple of an instruction over all registers, with new variables for what it writes.
+/// The triple of an instruction over all registers and memories, with new variables for what it writes.
 fn named_triple(
     alloc: Global,
     flow: &Flow<'_>,
@@ -79,18 +86,20 @@ fn named_triple(
     form: Form,
     addr: u64,
     word: u32,
+    q: u8,
     place: &VariableMap,
 ) -> Result<Triple, NoMemory>
     requires words { place.now.words < 2 ^ 15 }
     requires mems { place.now.mems < 2 ^ 15 }
     requires named { destination i < 32 }
-    ensures { IfOk result (λ t. triple_tree t ≡ spec.named_triple i form addr (length_in_bytes word) (axioms.word_code addr word) (flow_in flow.now).regs (spec.all_mems (flow_in flow.now).mems) 0 (place_of place.now)) }
+    requires memory { q < 2 }
+    ensures { IfOk result (λ t. triple_tree t ≡ spec.named_triple i form addr (length_in_bytes word) (axioms.word_code addr word) (flow_in flow.now).regs (spec.all_mems (flow_in flow.now).mems) q (place_of place.now)) }
 {
-    let known = facts_of(alloc, i, form, addr, length_of(word), place)?;
+    let known = facts_of(alloc, i, form, addr, length_of(word), q, place)?;
     let pre = standing_at(alloc, flow, Word::Const(addr), place)?;
     let code = word_code(alloc, addr, word)?;
-    let pc = pc_after(alloc, i, form, addr, length_of(word), &place.names)?;
-    let next = after(i, 0, *place);
+    let pc = pc_after(alloc, i, form, addr, length_of(word), &place.names_of(q))?;
+    let next = after(i, q, *place);
     let post = standing_at(alloc, flow, pc, &next)?;
     Ok(Triple {
         facts: known,
@@ -124,73 +133,165 @@ fn put_current(
     form: Form,
     addr: u64,
     word: u32,
+    q: u8,
     place: &VariableMap,
     first: u64,
     log: &mut ProofWriter,
 ) -> Result<u64, NoMemory>
-    requires rule { IsRule (Inst first (spec.own_words i (place_of place.now)) (spec.own_mems i 0 (place_of place.now))) }
-    requires stated { IsTriple (axioms.triple_over i form addr (length_in_bytes word) (axioms.word_code addr word) (axioms.own i) (terms.has_memory i) (bodies.names (place_of place.now) 0)) }
+    requires memory { q < 2 }
+    requires rule { IsRule (Inst first (spec.own_words i (place_of place.now)) (spec.own_mems i q (place_of place.now))) }
+    requires stated { IsTriple (axioms.triple_over i form addr (length_in_bytes word) (axioms.word_code addr word) (axioms.own i) (terms.has_memory i) (bodies.names (place_of place.now) q)) }
     ensures number { IfOk result (λ k. k ≡ log.old.next) }
-    ensures log { OnOk result (writer_tree log.new ≡ stating (Inst first (spec.own_words i (place_of place.now)) (spec.own_mems i 0 (place_of place.now)))
-        (axioms.triple_over i form addr (length_in_bytes word) (axioms.word_code addr word) (axioms.own i) (terms.has_memory i) (bodies.names (place_of place.now) 0)) (writer_tree log.old)) }
+    ensures log { OnOk result (writer_tree log.new ≡ stating (Inst first (spec.own_words i (place_of place.now)) (spec.own_mems i q (place_of place.now)))
+        (axioms.triple_over i form addr (length_in_bytes word) (axioms.word_code addr word) (axioms.own i) (terms.has_memory i) (bodies.names (place_of place.now) q)) (writer_tree log.old)) }
 {
     let regs = own(alloc, i)?;
     let regs = regs.as_slice();
-    let triple = triple_over(
-        alloc,
-        i,
-        form,
-        addr,
-        word,
-        regs,
-        has_memory(i),
-        &place.names,
-    )?;
+    let names = place.names_of(q);
+    let triple = triple_over(alloc, i, form, addr, word, regs, has_memory(i), &names)?;
     let words = own_words(alloc, regs, place)?;
-    let mems = own_mems(alloc, i, place)?;
+    let mems = own_mems(alloc, i, q, place)?;
     let number = log.state(Rule::Inst(first, Sub { words, mems }), triple)?;
     Ok(number)
 }
 
-/// Whether there is a memory, where there is one at most.
-fn has_mem(flow: &Flow<'_>) -> bool
-    requires { (flow_in flow.now).mems ≤ 1 }
-    ensures { (flow_in flow.now).mems ≡ if result then 1 else 0 }
+/// The variables of these memories.
+fn mems_before(alloc: Global, mems: &[u8], place: &VariableMap) -> Result<List<Mem>, NoMemory>
+    requires { All (λ p. p < 2) mems.now }
+    ensures { IfOk result (λ ms. map mem_tree ms ≡ map (λ p. MemVar ((place_of place.now).memory p)) mems.now) }
 {
-    match flow.mems() {
-        0 => false,
-        _ => true,
+    let mut before = List::new(alloc);
+    for p in mems {
+        before.push(Mem::Var(place.memory(*p)))?;
     }
+    Ok(before)
 }
 
-/// The triple of an instruction over all registers, and over the memory, if there is one.
-fn wide_triple(
+/// Memory p after an instruction that may store to memory q.
+fn mem_after(alloc: Global, i: Instr, q: u8, place: &VariableMap, p: u8) -> Result<Mem, NoMemory>
+    requires own { q < 2 }
+    requires memory { p < 2 }
+    ensures { IfOk result (λ m. mem_tree m ≡ spec.mem_after i q (place_of place.now) p) }
+{
+    if p == q {
+        return memory_after(alloc, i, &place.names_of(q));
+    }
+    Ok(Mem::Var(place.memory(p)))
+}
+
+/// These memories after an instruction that may store to memory q.
+fn mems_after(
+    alloc: Global,
+    i: Instr,
+    q: u8,
+    mems: &[u8],
+    place: &VariableMap,
+) -> Result<List<Mem>, NoMemory>
+    requires own { q < 2 }
+    requires memories { All (λ p. p < 2) mems.now }
+    ensures { IfOk result (λ ms. map mem_tree ms ≡ map (spec.mem_after i q (place_of place.now)) mems.now) }
+{
+    let mut after = List::new(alloc);
+    for p in mems {
+        let m = mem_after(alloc, i, q, place, *p)?;
+        after.push(m)?;
+    }
+    Ok(after)
+}
+
+/// The triple of an instruction over all registers and over these memories.
+fn triple_on(
     alloc: Global,
     flow: &Flow<'_>,
     i: Instr,
     form: Form,
     addr: u64,
     word: u32,
+    mems: &[u8],
+    q: u8,
     place: &VariableMap,
 ) -> Result<Triple, NoMemory>
-    requires { (flow_in flow.now).mems ≤ 1 }
-    ensures { IfOk result (λ t. triple_tree t ≡ spec.triple_on i form addr (length_in_bytes word) (axioms.word_code addr word) (flow_in flow.now).regs (spec.all_mems (flow_in flow.now).mems) 0 (place_of place.now)) }
+    requires own { q < 2 }
+    requires memories { All (λ p. p < 2) mems.now }
+    ensures { IfOk result (λ t. triple_tree t ≡ spec.triple_on i form addr (length_in_bytes word) (axioms.word_code addr word) (flow_in flow.now).regs mems.now q (place_of place.now)) }
 {
-    let triple = triple_over(
-        alloc,
-        i,
-        form,
-        addr,
-        word,
-        flow.regs(),
-        has_mem(flow),
-        &place.names,
-    )?;
-    Ok(triple)
+    let names = place.names_of(q);
+    let Triple {
+        facts,
+        pre,
+        code,
+        post,
+    } = triple_over(alloc, i, form, addr, word, flow.regs(), false, &names)?;
+    let pre = Assertion {
+        pc: pre.pc,
+        regs: pre.regs,
+        mems: mems_before(alloc, mems, place)?,
+    };
+    let post = Assertion {
+        pc: post.pc,
+        regs: post.regs,
+        mems: mems_after(alloc, i, q, mems, place)?,
+    };
+    Ok(Triple {
+        facts,
+        pre,
+        code,
+        post,
+    })
 }
 
-/// The lines of an instruction in that form: its axiom, over the current variables, over all registers, and with new
-/// variables for what it writes.
+/// The memories of a flow, in order.
+fn all_mems(flow: &Flow<'_>) -> &'static [u8]
+    ensures are { result.now ≡ spec.all_mems (flow_in flow.now).mems }
+    ensures low { All (λ p. p < 2) result.now }
+{
+    match flow.mems() {
+        0 => &[],
+        1 => &[0],
+        _ => &[0, 1],
+    }
+}
+
+/// Whether an instruction loads from or stores to memory q, which isn't the first.
+fn is_crossed(i: Instr, q: u8) -> bool
+    ensures { result ≡ crosses i q }
+{
+    has_memory(i) && q != 0
+}
+
+/// States the triple of an instruction over all registers and memories, in order: it is framed with its own memory in front, and where that is
+/// the second of two they are exchanged.
+fn put_wide(
+    alloc: Global,
+    flow: &Flow<'_>,
+    i: Instr,
+    form: Form,
+    addr: u64,
+    word: u32,
+    q: u8,
+    place: &VariableMap,
+    current: u64,
+    log: &mut ProofWriter,
+) -> Result<u64, NoMemory>
+    requires memory { q < 2 }
+    requires low { terms.has_memory i ≡ true → q < (flow_in flow.now).mems }
+    requires crossed { crosses i q ≡ true → (log.old.version ≡ Four) × ((flow_in flow.now).mems ≡ 2) }
+    requires wide { IsTriple (spec.triple_on i form addr (length_in_bytes word) (axioms.word_code addr word) (flow_in flow.now).regs (spec.mem_first i q (flow_in flow.now).mems) q (place_of place.now)) }
+    requires in_order { IsTriple (spec.triple_on i form addr (length_in_bytes word) (axioms.word_code addr word) (flow_in flow.now).regs (spec.all_mems (flow_in flow.now).mems) q (place_of place.now)) }
+    ensures number { IfOk result (λ k. k ≡ spec.ordered_at i q log.old.next) }
+    ensures log { OnOk result (writer_tree log.new ≡ spec.ordered (flow_in flow.now) i form addr word q (place_of place.now) current (writer_tree log.old)) }
+{
+    let wide = triple_on(alloc, flow, i, form, addr, word, all_mems(flow), q, place)?;
+    if !is_crossed(i, q) {
+        return log.state(Rule::Frame(current), wide);
+    }
+    let crossed = triple_on(alloc, flow, i, form, addr, word, &[1, 0], q, place)?;
+    let framed = log.state(Rule::Frame(current), crossed)?;
+    log.state_further(framed, wide)
+}
+
+/// The lines of an instruction in that form, where q is the memory that it loads from or stores to, if it does: its axiom, over the current
+/// variables, over all registers and memories, and with new variables for what it writes.
 fn instruction_lines(
     alloc: Global,
     flow: &Flow<'_>,
@@ -198,25 +299,27 @@ fn instruction_lines(
     form: Form,
     addr: u64,
     word: u32,
+    q: u8,
     place: &VariableMap,
     log: &mut ProofWriter,
 ) -> Result<u64, NoMemory>
     requires words { place.now.words < 2 ^ 15 }
     requires mems { place.now.mems < 2 ^ 15 }
     requires named { destination i < 32 }
-    requires one { (flow_in flow.now).mems ≤ 1 }
-    requires fine { spec.IsFineInstruction (flow_in flow.now) i form addr word 0 (place_of place.now) }
-    ensures number { IfOk result (λ k. k ≡ log.old.next + 1 + 1 + 1) }
+    requires memory { q < 2 }
+    requires low { terms.has_memory i ≡ true → q < (flow_in flow.now).mems }
+    requires crossed { crosses i q ≡ true → (log.old.version ≡ Four) × ((flow_in flow.now).mems ≡ 2) }
+    requires fine { spec.IsFineInstruction (flow_in flow.now) i form addr word q (place_of place.now) }
+    ensures number { IfOk result (λ k. k ≡ spec.ordered_at i q (log.old.next + 1 + 1) + 1) }
     ensures fits { IfOk result (λ k. k < 2 ^ 64) }
-    ensures log { OnOk result (writer_tree log.new ≡ spec.acted (flow_in flow.now) i form addr word 0 (place_of place.now) (writer_tree log.old)) }
+    ensures log { OnOk result (writer_tree log.new ≡ spec.acted (flow_in flow.now) i form addr word q (place_of place.now) (writer_tree log.old)) }
 {
     let own = first_triple(alloc, i, form, addr, word)?;
     let first = log.state(Rule::Axiom(addr, word, form), own)?;
-    let current = put_current(alloc, i, form, addr, word, place, first, log)?;
-    let wide = wide_triple(alloc, flow, i, form, addr, word, place)?;
-    let framed = log.state(Rule::Frame(current), wide)?;
-    let named = named_triple(alloc, flow, i, form, addr, word, place)?;
-    let number = log.state(Rule::Weaken(framed), named)?;
+    let current = put_current(alloc, i, form, addr, word, q, place, first, log)?;
+    let wide = put_wide(alloc, flow, i, form, addr, word, q, place, current, log)?;
+    let named = named_triple(alloc, flow, i, form, addr, word, q, place)?;
+    let number = log.state(Rule::Weaken(wide), named)?;
     Ok(number)
 }
 
@@ -229,7 +332,7 @@ fn act(
     place: &VariableMap,
     log: &mut ProofWriter,
 ) -> Result<CitedTheorem, NoMemory>
-    requires memory { UsesFirst (flow_in flow.now) }
+    requires version { IsVersionFor (flow_in flow.now) log.old.version }
     requires node { n < (flow_in flow.now).nodes }
     requires words { place.now.words < 2 ^ 15 }
     requires mems { place.now.mems < 2 ^ 15 }
@@ -240,9 +343,11 @@ fn act(
     let i = flow.instr(n);
     let addr = flow.addr(n);
     let word = flow.word(n);
+    let q = flow.uses(n);
     flow.law_of_code();
-    let number = instruction_lines(alloc, flow, i, form, addr, word, place, log)?;
-    let known = facts_of(alloc, i, form, addr, length_of(word), place)?;
+    law_of_memories(flow, place);
+    let number = instruction_lines(alloc, flow, i, form, addr, word, q, place, log)?;
+    let known = facts_of(alloc, i, form, addr, length_of(word), q, place)?;
     let code = word_code(alloc, addr, word)?;
     Ok(CitedTheorem::new(number, known, code))
 }
@@ -258,7 +363,7 @@ pub fn step(
     from: Option<&CitedTheorem>,
     log: &mut ProofWriter,
 ) -> Result<CitedTheorem, NoMemory>
-    requires memory { UsesFirst (flow_in flow.now) }
+    requires version { IsVersionFor (flow_in flow.now) log.old.version }
     requires node { n < (flow_in flow.now).nodes }
     requires form { terms.has_form ((flow_in flow.now).instr n) form ≡ true }
     requires words { place.now.words < 2 ^ 15 }
@@ -270,10 +375,19 @@ pub fn step(
         (map So (terms.conditions ((flow_in flow.now).instr n) form (bodies.names (place_of place.now) ((flow_in flow.now).uses n))) ++ spec.new_facts ((flow_in flow.now).instr n) ((flow_in flow.now).addr n) (bodies.size (flow_in flow.now) n) ((flow_in flow.now).uses n) (place_of place.now)) (cited_tree t)) }
     ensures code { IfOk result (λ t. IsWithin (range_bytes t.code) (range_bytes flow.now.code)) }
 {
+    law_of_memories(flow, place);
     let last = act(alloc, flow, n, form, place, log)?;
     let i = flow.instr(n);
-    let pc = pc_after(alloc, i, form, flow.addr(n), flow.size(n), &place.names)?;
-    let next = after(i, 0, *place);
+    let q = flow.uses(n);
+    let pc = pc_after(
+        alloc,
+        i,
+        form,
+        flow.addr(n),
+        flow.size(n),
+        &place.names_of(q),
+    )?;
+    let next = after(i, q, *place);
     let there = go_on(alloc, flow, entry, from, last, pc, &next, log)?;
     Ok(there)
 }

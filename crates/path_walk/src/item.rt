@@ -1,19 +1,21 @@
 //! A function's group with the lines of its proof.
 
-ghost use Rattle.std.specs.Prelude.{◌≡◌, IfOk, length, map, false};
+ghost use Rattle.std.specs.Prelude.{◌≡◌, All, IfOk, false, map};
 ghost use Rattle.proof_text.specs.Line.{line_tree};
 ghost use Rattle.checker.specs.Instance.{after_lines};
-ghost use Rattle.loop_forest.specs.Forest.{IsForestOf, number_of};
-ghost use Rattle.code_parts.specs.Flows.{AreCodeOf, IsReached, alone, setting_of};
-ghost use Rattle.code_parts.specs.Graph.{IsAlone};
-ghost use Rattle.path_walk.specs.Forgotten.{KeepsNone};
-ghost use Rattle.path_walk.specs.Item.{IsItemOf};
-ghost use Rattle.code_parts.specs.Order.{AreParts};
+ghost use Rattle.loop_forest.specs.Forest.{IsForestOf};
+ghost use Rattle.code_parts.specs.Flows.{IsReached};
+ghost use Rattle.code_parts.specs.Graph.{IsPart};
 ghost use Rattle.code_parts.specs.Kept.{flow_in};
+ghost use Rattle.path_walk.specs.Forgotten.{KeepsNone};
+ghost use Rattle.path_walk.specs.Further.{IsVersionFor};
+ghost use Rattle.path_walk.specs.Item.{IsItemOf};
+ghost use Rattle.path_walk.specs.inner.Walks.{IsItemOver};
 
 use crate::all_parts::walk_all;
 use code_parts::{Flow, Part, group_with, parts_of};
 use flow_graph::Graph;
+use group_text::Version;
 use loop_forest::Forest;
 use proof_text::Line;
 use rv_words::{List, NoMemory, Text};
@@ -36,31 +38,28 @@ pub fn item_of(alloc: Global, name: Text, graph: &Graph, forest: &Forest) -> Res
     ensures kept { IfOk result (λ item. KeepsNone (after_lines (map line_tree item.lines))) }
 {
     let parts = parts_of(alloc, graph, forest)?;
-    let flow = Flow::new(alloc, graph, forest, parts.as_slice())?;
-    item_in(alloc, name, &flow, parts.as_slice(), graph.len())
+    let parts = parts.as_slice();
+    let flow = Flow::new(alloc, graph, forest, parts)?;
+    flow.law_of_code();
+    item_in(alloc, Version::One, name, &flow, parts, graph.len())
 }
 
-/// The group of that name for a flow of all parts in their order.
-fn item_in(
+/// The group of that name for a flow of all parts in their order, in a text of that version.
+pub fn item_in(
     alloc: Global,
+    version: Version,
     name: Text,
     flow: &Flow<'_>,
     parts: &[Part],
     reached: u32,
 ) -> Result<Item, NoMemory>
-    requires reached { IsReached false flow.now.graph }
-    requires forest { IsForestOf flow.now.graph flow.now.forest }
-    requires alone { IsAlone (flow_in flow.now) }
-    requires setting { setting_of flow.now.setting ≡ alone flow.now.graph flow.now.setting.parts }
+    requires version { IsVersionFor (flow_in flow.now) version }
     requires parts { parts.now ≡ flow.now.setting.parts }
-    requires ordered { AreParts (flow_in flow.now) (number_of flow.now.forest) flow.now.setting.parts }
-    requires code { AreCodeOf flow.now.graph flow.now.code }
-    requires count { reached ≡ length flow.now.graph.addrs }
-    ensures item { IfOk result (λ item. IsItemOf flow.now.graph flow.now.forest name item) }
+    requires each { All (IsPart (flow_in flow.now)) parts.now }
+    ensures item { IfOk result (λ item. IsItemOver version flow.now name reached item) }
     ensures kept { IfOk result (λ item. KeepsNone (after_lines (map line_tree item.lines))) }
 {
-    flow.law_of_code();
-    let walks = walk_all(alloc, flow, parts)?;
+    let walks = walk_all(alloc, flow, version, parts)?;
     let group = group_with(alloc, name, flow, walks.defs)?;
     Ok(Item {
         group,

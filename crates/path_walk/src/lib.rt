@@ -17,6 +17,9 @@
 //! after the other, callees first, all over the code of the group. At a call of a function the way goes through that
 //! function's exit, and `steer` leads it on behind the call, where the fact that the return was to there is at hand.
 //!
+//! `split_item(alloc, name, &graph, &forest, &second)?` makes an `Item` of version 4 of a function alone with two memories: the accesses at the
+//! addresses of `second` use the second one. The theorem of such an access has its own memory in front, and `exchange` puts the two in order.
+//!
 //! That each line is right after those before it is in the contract of `item_of` (`IsItemOf`), and that no theorem is
 //! kept after them (`KeepsNone`); `walk` says it of each part's lines (`IsWalkedAfter`). The law that matters beside it is `law_of_texts`: the group can be written and read again. A `Proof` has an item for each name, or a
 //! `DecompileFault` says why there is none.
@@ -35,6 +38,7 @@ mod linked;
 mod one_part;
 mod proof;
 mod proof_writer;
+mod split;
 mod subs;
 
 pub use code_parts::Part;
@@ -43,3 +47,4 @@ pub use laws::law_of_texts;
 pub use linked::linked_item;
 pub use one_part::{Walked, walk};
 pub use proof::{DecompileFault, Proof};
+pub use split::split_item;

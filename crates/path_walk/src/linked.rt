@@ -13,8 +13,8 @@ ghost use Rattle.code_parts.specs.Kept.{flow_in};
 ghost use Rattle.code_parts.specs.Members.{flow_at};
 ghost use Rattle.linked_group.specs.Groups.{AreSomeFunctions, IsLinkedGroup, functions_of, member_in};
 ghost use Rattle.path_walk.specs.Forgotten.{KeepsNone};
+ghost use Rattle.path_walk.specs.Further.{IsVersionFor};
 ghost use Rattle.path_walk.specs.Linked.{IsLinkedItem};
-ghost use Rattle.path_walk.specs.Memories.{UsesFirst};
 ghost use Rattle.path_walk.specs.inner.LinkedWalks.{AreWalkedTo, CanAllBeWalked, CanBeWalked};
 
 use crate::item::Item;
@@ -37,8 +37,8 @@ fn walk_parts(
     defs: &mut List<Def>,
     lines: &mut List<Line>,
 ) -> Result<u64, NoMemory>
+    requires version { IsVersionFor (flow_in flow.now) Three }
     requires each { All (IsPart (flow_in flow.now)) parts.now }
-    requires memory { UsesFirst (flow_in flow.now) }
     requires first { first ≡ (after_lines (map line_tree lines.old)).next }
     ensures next { IfOk result (λ k. k ≡ (after_lines (map line_tree lines.new)).next) }
     ensures defs { OnOk result (map def_tree defs.new ≡ map def_tree defs.old ++ map (spec.part_def (flow_in flow.now)) parts.now) }

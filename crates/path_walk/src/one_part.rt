@@ -10,7 +10,6 @@ ghost use Rattle.code_parts.specs.Flows.{IsReached, alone, flow_of};
 ghost use Rattle.loop_forest.specs.Forest.{IsForestOf};
 ghost use Rattle.path_walk.specs.Forgotten.{KeepsNone};
 ghost use Rattle.path_walk.specs.Further.{IsVersionFor};
-ghost use Rattle.path_walk.specs.Memories.{UsesFirst};
 ghost use Rattle.path_walk.specs.Item.{IsWalkedIn, IsWalkedAfter};
 ghost use Rattle.code_parts.specs.Kept.{flow_in};
 ghost use Rattle.path_walk.specs.inner.Lines.{forgets, stated};
@@ -81,7 +80,6 @@ fn closing_lines(
 ) -> Result<List<Line>, NoMemory>
     requires version { IsVersionFor (flow_in flow.now) version }
     requires part { IsPart (flow_in flow.now) part }
-    requires memory { UsesFirst (flow_in flow.now) }
     ensures lines { IfOk result (λ more. (old : Items LineTree) → first ≡ (after_lines old).next → IsWalkedIn version (flow_in flow.now) flow.now.code part old (old ++ map line_tree more)) }
     ensures kept { IfOk result (λ more. (old : Items LineTree) → first ≡ (after_lines old).next → KeepsNone (after_lines old) → KeepsNone (after_lines (old ++ map line_tree more))) }
 {
@@ -108,7 +106,6 @@ pub fn walk_in(
 ) -> Result<Walked, NoMemory>
     requires version { IsVersionFor (flow_in flow.now) version }
     requires part { IsPart (flow_in flow.now) part }
-    requires memory { UsesFirst (flow_in flow.now) }
     requires first { first ≡ (after_lines (map line_tree lines.old)).next }
     ensures def { IfOk result (λ w. def_tree w.def ≡ spec.part_def (flow_in flow.now) part) }
     ensures next { IfOk result (λ w. w.next ≡ (after_lines (map line_tree lines.new)).next) }

@@ -16,6 +16,15 @@ use std::alloc::Global;
 use tailrec_lang::Exit;
 use word_terms::{Mem, Word};
 
+/// There are two memories at most, and the variable of the second is a number of 32 bits.
+pub fn law_of_memories(flow: &Flow<'_>, place: &VariableMap)
+    ensures few { (flow_in flow.now).mems ≤ 2 }
+    ensures second { (place_of place.now).memory 1 < 2 ^ 32 }
+{
+    let _count = flow.mems();
+    let _second = place.memory(1);
+}
+
 /// Adds the variables of these registers, each for the next variable.
 fn add_registers(
     regs: &[u8],
@@ -47,12 +56,18 @@ pub fn own_words(
 }
 
 /// The variable of an instruction's memory, if it has one.
-pub fn own_mems(alloc: Global, i: Instr, place: &VariableMap) -> Result<List<(u32, Mem)>, NoMemory>
-    ensures { IfOk result (λ ms. map mem_put_in ms ≡ spec.own_mems i 0 (place_of place.now)) }
+pub fn own_mems(
+    alloc: Global,
+    i: Instr,
+    q: u8,
+    place: &VariableMap,
+) -> Result<List<(u32, Mem)>, NoMemory>
+    requires { q < 2 }
+    ensures { IfOk result (λ ms. map mem_put_in ms ≡ spec.own_mems i q (place_of place.now)) }
 {
     let mut mems = List::new(alloc);
     if has_memory(i) {
-        mems.push((0, Mem::Var(place.names.memory)))?;
+        mems.push((0, Mem::Var(place.memory(q))))?;
     }
     Ok(mems)
 }

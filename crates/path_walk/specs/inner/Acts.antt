@@ -1,5 +1,5 @@
 -- The lines of one instruction, and of one exit of a call.
-use Rattle.std.specs.Prelude.{◌≡◌, ◌⊎◌, ℕ, suc, ◌+◌, ◌==◌, if◌then◌else◌, List, [], ◌∷◌, ◌++◌, map, Option, None, Some}
+use Rattle.std.specs.Prelude.{◌≡◌, ◌⊎◌, ℕ, suc, ◌+◌, ◌==◌, not, filter, if◌then◌else◌, List, [], ◌∷◌, ◌++◌, map, Option, None, Some}
 use Rattle.std.specs.List.{Contains, range_with_len}
 use Rattle.rv_words.specs.Bytes.{over}
 use Rattle.rv_words.specs.declared.range.Range.{Range}
@@ -21,6 +21,7 @@ use Rattle.mc_text.specs.Number.{IsWord as IsNumber}
 use Rattle.proof_text.specs.Line.{Axiom, Compose, Frame, Inst, UseExit, Weaken}
 use Rattle.proof_text.specs.LineLimits.{IsRule, IsTriple}
 use Rattle.code_parts.specs.Bodies.{Flow, VariableMap, current, fresh, is_store, names, place_after, start, with_pc}
+use Rattle.path_walk.specs.Further.{is_crossed}
 use Rattle.path_walk.specs.inner.Histories.{exit_place, pc_of}
 use Rattle.path_walk.specs.inner.Writers.{WriterTree, CitedTree, standing_at, stating, stating_further}
 
@@ -37,6 +38,10 @@ all_mems mems = range_with_len 0 mems
 
 abbrev pub own_mem : Instr → ℕ → List ℕ
 own_mem i q = if has_memory i then q ∷ [] else []
+
+-- .. in front of the others
+abbrev pub mem_first : Instr → ℕ → ℕ → List ℕ
+mem_first i q mems = if has_memory i then q ∷ filter (λ p. not (p == q)) (all_mems mems) else all_mems mems
 
 -- the memories after an instruction that may store to memory q
 abbrev pub mem_after : Instr → ℕ → VariableMap → ℕ → MemTree
@@ -76,18 +81,32 @@ named_triple i form a k code regs ms q v = record {
   };
 }
 
--- its axiom, over the current variables, over all registers and memories, and with new variables
+-- its axiom, and that over the current variables
+abbrev pub put : Instr → Form → ℕ → ℕ → ℕ → VariableMap → WriterTree → WriterTree
+put i form a w q v l =
+    stating (Inst l.next (own_words i v) (own_mems i q v)) (triple_over i form a (length_of w) (word_code a w) (own i) (has_memory i) (names v q)) (stating (Axiom a w form) (own_triple i form a w) l)
+
+-- that theorem over all registers and memories, its own in front; and then with the memories in order, by the further rule of the text where its
+-- own isn't the first
+abbrev pub ordered : Flow → Instr → Form → ℕ → ℕ → ℕ → VariableMap → ℕ → WriterTree → WriterTree
+ordered f i form a w q v current l =
+    if is_crossed i q then stating_further l.next (triple_on i form a (length_of w) (word_code a w) f.regs (all_mems f.mems) q v)
+    (stating (Frame current) (triple_on i form a (length_of w) (word_code a w) f.regs (mem_first i q f.mems) q v) l)
+    else stating (Frame current) (triple_on i form a (length_of w) (word_code a w) f.regs (mem_first i q f.mems) q v) l
+
+-- the number of the theorem that these end with, where the next was to have that number
+abbrev pub ordered_at : Instr → ℕ → ℕ → ℕ
+ordered_at i q next = if is_crossed i q then next + 1 else next
+
+-- all of these, and then with new variables
 abbrev pub acted : Flow → Instr → Form → ℕ → ℕ → ℕ → VariableMap → WriterTree → WriterTree
 acted f i form a w q v l =
-    stating (Weaken (l.next + 1 + 1)) (named_triple i form a (length_of w) (word_code a w) f.regs (all_mems f.mems) q v)
-    (stating (Frame (l.next + 1)) (triple_on i form a (length_of w) (word_code a w) f.regs (all_mems f.mems) q v)
-    (stating (Inst l.next (own_words i v) (own_mems i q v)) (triple_over i form a (length_of w) (word_code a w) (own i) (has_memory i) (names v q))
-    (stating (Axiom a w form) (own_triple i form a w) l)))
+    stating (Weaken (ordered_at i q (l.next + 1 + 1))) (named_triple i form a (length_of w) (word_code a w) f.regs (all_mems f.mems) q v) (ordered f i form a w q v (l.next + 1) (put i form a w q v l))
 
 -- the theorem that these end with
 abbrev pub act_standing : Instr → Form → ℕ → ℕ → ℕ → VariableMap → WriterTree → CitedTree
 act_standing i form a w q v l = record {
-  number = l.next + 1 + 1 + 1;
+  number = ordered_at i q (l.next + 1 + 1) + 1;
   facts = map So (conditions i form (names v q)) ++ new_facts i a (length_of w) q v;
   code = word_code a w;
 }
@@ -97,7 +116,8 @@ pub record IsFineInstruction (f : Flow) (i : Instr) (form : Form) (a w q : ℕ) 
   pub rule : (k : ℕ) → IsNumber k → IsRule (Inst k (own_words i v) (own_mems i q v))
   pub first : IsTriple (own_triple i form a w)
   pub current_over : IsTriple (triple_over i form a (length_of w) (word_code a w) (own i) (has_memory i) (names v q))
-  pub wide : IsTriple (triple_on i form a (length_of w) (word_code a w) f.regs (all_mems f.mems) q v)
+  pub wide : IsTriple (triple_on i form a (length_of w) (word_code a w) f.regs (mem_first i q f.mems) q v)
+  pub in_order : IsTriple (triple_on i form a (length_of w) (word_code a w) f.regs (all_mems f.mems) q v)
   pub named : IsTriple (named_triple i form a (length_of w) (word_code a w) f.regs (all_mems f.mems) q v)
 
 -- ---- one exit of a call

@@ -6,10 +6,10 @@ use Rattle.decompiler.specs.Listing.{proof_of}
 use Rattle.decompiler.proofs.Texts.{each_at, item_text, next_item}
 use Rattle.decompiler.proofs.text.put_items.Goals as goal
 
-pub put_item-requires-clause-proof : goal.put_item-requires-clause-proof
-put_item-requires-clause-proof c =
+pub put_item-requires : goal.put_item-requires
+put_item-requires c =
     subst (λ (i : Item). IsProofIn (version_of c.args.version) (proof_of i)) (sym c.item-item.is)
-    (each_at (IsProofIn (version_of c.args.version)) proof_of c.args.items.now c.loop-item.item-index c.item-item.result c.requires.proofs c.loop-item-test.true)
+    (each_at (IsProofIn (version_of c.args.version)) proof_of c.args.items.now c.loop-item.item-index c.item-item.result c.requires c.loop-item-test.true)
 
 pub loop-item-preserved : goal.loop-item-preserved
 loop-item-preserved c =

@@ -7,4 +7,4 @@ use Rattle.path_walk.specs.inner.Walks.{AreWalked}
 use Rattle.path_walk.proofs.all_parts.walk_all.Given as goal
 
 abbrev pub invariant-loop-part : goal.invariant-loop-part
-invariant-loop-part l = AreWalked l.flow l.part-index (map def_tree l.defs) (map line_tree l.lines) × (l.next ≡ (after_lines (map line_tree l.lines)).next) × KeepsNone (after_lines (map line_tree l.lines))
+invariant-loop-part l = AreWalked l.version l.flow l.part-index (map def_tree l.defs) (map line_tree l.lines) × (l.next ≡ (after_lines (map line_tree l.lines)).next) × KeepsNone (after_lines (map line_tree l.lines))

@@ -33,7 +33,7 @@ acting_lines-lines_to-requires t c =
     let f : Flow = flow_in c.args.flow.now in
     let edge : has_edge (f.instr c.args.n) Taken ≡ true = sym (ap (λ (i : Instr). has_edge i Taken) c.instr-i.ensures.is) ∙ ap (λ (i : Instr). has_edge i Taken) c.in-Branch.is in (
       omega (arith, c.decreases, c.requires.some),
-      (c.requires.part, (next_is f c.args.p c.args.room c.args.n c.to-to.result Taken c.requires.near (λ e. omega (arith, e, c.requires.some)) edge c.to-to.ensures.is, (omega (arith, c.requires.words, c.requires.some), (omega (arith, c.requires.mems, c.requires.some), (c.in_ok-t-in-Branch.ensures.code, (c.requires.memory, subst (λ (k : Known). IsVersionFor f k) (sym (c.in_ok-t-in-Branch.ensures.steps.version)) c.requires.version)))))),
+      (c.requires.part, (next_is f c.args.p c.args.room c.args.n c.to-to.result Taken c.requires.near (λ e. omega (arith, e, c.requires.some)) edge c.to-to.ensures.is, (omega (arith, c.requires.words, c.requires.some), (omega (arith, c.requires.mems, c.requires.some), (c.in_ok-t-in-Branch.ensures.code, subst (λ (k : Known). IsVersionFor f k) (sym (c.in_ok-t-in-Branch.ensures.steps.version)) c.requires.version))))),
     )
 
 pub acting_lines-lines_to-requires-in-Branch : goal.acting_lines-lines_to-requires-in-Branch
@@ -41,7 +41,7 @@ acting_lines-lines_to-requires-in-Branch t c =
     let f : Flow = flow_in c.args.flow.now in
     let edge : has_edge (f.instr c.args.n) Next ≡ true = sym (ap (λ (i : Instr). has_edge i Next) c.instr-i.ensures.is) ∙ ap (λ (i : Instr). has_edge i Next) c.in-Branch.is in (
       omega (arith, c.decreases, c.requires.some),
-      (c.requires.part, (next_is f c.args.p c.args.room c.args.n c.to-to-in-Branch.result Next c.requires.near (λ e. omega (arith, e, c.requires.some)) edge c.to-to-in-Branch.ensures.is, (omega (arith, c.requires.words, c.requires.some), (omega (arith, c.requires.mems, c.requires.some), (c.in_ok-t-in-Branch-2.ensures.code, (c.requires.memory, subst (λ (k : Known). IsVersionFor f k) (sym (c.in_ok-t-in-Branch-2.ensures.steps.version ∙ c.in_ok-lines_to-in-Branch.ensures.version ∙ c.in_ok-t-in-Branch.ensures.steps.version)) c.requires.version)))))),
+      (c.requires.part, (next_is f c.args.p c.args.room c.args.n c.to-to-in-Branch.result Next c.requires.near (λ e. omega (arith, e, c.requires.some)) edge c.to-to-in-Branch.ensures.is, (omega (arith, c.requires.words, c.requires.some), (omega (arith, c.requires.mems, c.requires.some), (c.in_ok-t-in-Branch-2.ensures.code, subst (λ (k : Known). IsVersionFor f k) (sym (c.in_ok-t-in-Branch-2.ensures.steps.version ∙ c.in_ok-lines_to-in-Branch.ensures.version ∙ c.in_ok-t-in-Branch.ensures.steps.version)) c.requires.version))))),
     )
 
 pub acting_lines-lines_to-requires-in_default : goal.acting_lines-lines_to-requires-in_default
@@ -49,9 +49,9 @@ acting_lines-lines_to-requires-in_default t c =
     let f : Flow = flow_in c.args.flow.now in
     let edge : has_edge (f.instr c.args.n) Next ≡ true =
     sym (ap (λ (i : Instr). has_edge i Next) c.instr-i.ensures.is) ∙ straight_edge c.instr-i.result c.in_default.not-Branch (sym c.is_jump_through.ensures ∙ c.if-is_jump_through.false) in
-    let few = few_more c.instr-i.result 0 (place_of c.args.place.now) (place_of c.after-next.result) c.after-next.ensures.is in (
+    let few = few_more c.instr-i.result c.uses-q.result (place_of c.args.place.now) (place_of c.after-next.result) c.after-next.ensures.is in (
       omega (arith, c.decreases, c.requires.some),
-      (c.requires.part, (next_is f c.args.p c.args.room c.args.n c.to-to-in_default.result Next c.requires.near (λ e. omega (arith, e, c.requires.some)) edge c.to-to-in_default.ensures.is, (omega (arith, c.requires.words, c.requires.some, few.0), (omega (arith, c.requires.mems, c.requires.some, few.1), (c.in_ok-t-in_default.ensures.code, (c.requires.memory, subst (λ (k : Known). IsVersionFor f k) (sym (c.in_ok-t-in_default.ensures.steps.version)) c.requires.version)))))),
+      (c.requires.part, (next_is f c.args.p c.args.room c.args.n c.to-to-in_default.result Next c.requires.near (λ e. omega (arith, e, c.requires.some)) edge c.to-to-in_default.ensures.is, (omega (arith, c.requires.words, c.requires.some, few.0), (omega (arith, c.requires.mems, c.requires.some, few.1), (c.in_ok-t-in_default.ensures.code, subst (λ (k : Known). IsVersionFor f k) (sym (c.in_ok-t-in_default.ensures.steps.version)) c.requires.version))))),
     )
 
 pub acting_lines-returns-in_ok-t-in-Branch-2 : goal.acting_lines-returns-in_ok-t-in-Branch-2
@@ -72,25 +72,25 @@ acting_lines-returns-in_ok-t-in_default t c =
     let from : Option CitedTree = option_map cited_tree (option_copied c.args.from) in
     on_ok_weaker c.lines_to-in_default.result (λ rest. straight_leads f c.args.p c.args.flow.now.code c.args.n c.args.room v (place_of c.after-next.result) c.instr-i.result c.to-to-in_default.result from
     (cited_tree c.in_ok-t-in_default.t) (writer_tree c.args.log.now) (writer_tree c.step-in_default.new.log) (writer_tree c.lines_to-in_default.new.log) c.requires.near.node c.requires.uncalled c.instr-i.ensures.is c.in_default.not-Branch
-    (sym c.is_jump_through.ensures ∙ c.if-is_jump_through.false) (λ e. omega (arith, e, c.requires.some)) (c.after-next.ensures.is ∙ (λ j. place_after c.instr-i.result (sym (c.requires.memory.uses c.args.n c.requires.near.node) j) v)) c.to-to-in_default.ensures.is
+    (sym c.is_jump_through.ensures ∙ c.if-is_jump_through.false) (λ e. omega (arith, e, c.requires.some)) (c.after-next.ensures.is ∙ (λ j. place_after c.instr-i.result (c.uses-q.ensures.is j) v)) c.to-to-in_default.ensures.is
     (steps_front f c.args.p c.args.flow.now.code _ _ _ _ _ _ _ _ _ _ c.entry_of-entry.ensures c.in_ok-t-in_default.ensures.steps) rest) c.lines_to-in_default.ensures
 
 pub lines_to-lines_from-requires : goal.lines_to-lines_from-requires
 lines_to-lines_from-requires t c = (
   omega (arith, c.decreases),
-  (c.requires.part, (c.requires.next.inside (sym c.is_cut.ensures ∙ c.if-is_cut.false), (c.requires.words, (c.requires.mems, (c.requires.code, (c.requires.memory, c.requires.version)))))),
+  (c.requires.part, (c.requires.next.inside (sym c.is_cut.ensures ∙ c.if-is_cut.false), (c.requires.words, (c.requires.mems, (c.requires.code, c.requires.version))))),
 )
 
 pub lines_from-calling_lines-requires : goal.lines_from-calling_lines-requires
 lines_from-calling_lines-requires t c = (
   omega (arith, c.decreases),
-  (c.requires.part, (c.requires.near, (sym c.callee.ensures.is ∙ c.in-Some.is, (omega (arith, c.if-room-eq0.false), (c.requires.words, (c.requires.mems, (c.requires.code, (c.requires.memory, c.requires.version)))))))),
+  (c.requires.part, (c.requires.near, (sym c.callee.ensures.is ∙ c.in-Some.is, (omega (arith, c.if-room-eq0.false), (c.requires.words, (c.requires.mems, (c.requires.code, c.requires.version))))))),
 )
 
 pub lines_from-acting_lines-requires : goal.lines_from-acting_lines-requires
 lines_from-acting_lines-requires t c = (
   omega (arith, c.decreases),
-  (c.requires.part, (c.requires.near, (sym c.callee.ensures.is ∙ c.in-None.is, (omega (arith, c.if-room-eq0.false), (c.requires.words, (c.requires.mems, (c.requires.code, (c.requires.memory, c.requires.version)))))))),
+  (c.requires.part, (c.requires.near, (sym c.callee.ensures.is ∙ c.in-None.is, (omega (arith, c.if-room-eq0.false), (c.requires.words, (c.requires.mems, (c.requires.code, c.requires.version))))))),
 )
 
 pub calling_lines-step-requires-clause-form : goal.calling_lines-step-requires-clause-form
@@ -103,22 +103,22 @@ calling_lines-enter-requires-clause-further t c =
 
 pub calling_lines-enter-requires-clause-words : goal.calling_lines-enter-requires-clause-words
 calling_lines-enter-requires-clause-words t c =
-    let few = few_more c.instr.result 0 (place_of c.args.place.now) (place_of c.after-next.result) c.after-next.ensures.is in
+    let few = few_more c.instr.result c.uses-q.result (place_of c.args.place.now) (place_of c.after-next.result) c.after-next.ensures.is in
     omega (arith, c.requires.words, few.0)
 
 pub calling_lines-enter-requires-clause-mems : goal.calling_lines-enter-requires-clause-mems
 calling_lines-enter-requires-clause-mems t c =
-    let few = few_more c.instr.result 0 (place_of c.args.place.now) (place_of c.after-next.result) c.after-next.ensures.is in
+    let few = few_more c.instr.result c.uses-q.result (place_of c.args.place.now) (place_of c.after-next.result) c.after-next.ensures.is in
     omega (arith, c.requires.mems, few.1)
 
 pub calling_lines-lines_to-requires : goal.calling_lines-lines_to-requires
 calling_lines-lines_to-requires t c =
     let f : Flow = flow_in c.args.flow.now in
     let edge : has_edge (f.instr c.args.n) Next ≡ true = c.requires.near.graph.calls c.args.n c.args.callee c.requires.near.node c.requires.called in
-    let few = few_more c.instr.result 0 (place_of c.args.place.now) (place_of c.after-next.result) c.after-next.ensures.is in
+    let few = few_more c.instr.result c.uses-q.result (place_of c.args.place.now) (place_of c.after-next.result) c.after-next.ensures.is in
     let version = entered-version f _ _ _ _ _ _ _ _ _ _ c.in_ok-there.ensures.entered ∙ c.in_ok-t.ensures.steps.version in (
       omega (arith, c.decreases, c.requires.some),
-      (c.requires.part, (next_is f c.args.p c.args.room c.args.n c.to-to.result Next c.requires.near (λ e. omega (arith, e, c.requires.some)) edge c.to-to.ensures.is, (omega (arith, c.requires.words, c.requires.some, few.0, c.place_at-back.ensures.words), (omega (arith, c.requires.mems, c.requires.some, few.1, c.place_at-back.ensures.mems), (c.in_ok-there.ensures.code, (c.requires.memory, subst (λ (k : Known). IsVersionFor f k) (sym version) c.requires.version)))))),
+      (c.requires.part, (next_is f c.args.p c.args.room c.args.n c.to-to.result Next c.requires.near (λ e. omega (arith, e, c.requires.some)) edge c.to-to.ensures.is, (omega (arith, c.requires.words, c.requires.some, few.0, c.place_at-back.ensures.words), (omega (arith, c.requires.mems, c.requires.some, few.1, c.place_at-back.ensures.mems), (c.in_ok-there.ensures.code, subst (λ (k : Known). IsVersionFor f k) (sym version) c.requires.version))))),
     )
 
 unreturned : (b : Bool) → not b ≡ true → b ≡ false
@@ -140,5 +140,9 @@ calling_lines-returns t c =
     on_ok_weaker c.lines_to.result (λ rest. called_made f c.args.p c.args.flow.now.code c.args.n c.args.room c.args.callee (place_of c.args.place.now) (place_of c.after-next.result) (place_of c.place_at-back.result) c.entry_of-entry.result
     c.to-to.result c.addr.result (option_map cited_tree (option_copied c.args.from)) (cited_tree c.in_ok-t.t) (cited_tree c.in_ok-there.there) (writer_tree c.args.log.now) (writer_tree c.step.new.log) (writer_tree c.enter.new.log) (writer_tree c.lines_to.new.log)
     c.requires.near.node c.requires.called (returned c.args.callee.returns c.if-not-callee.false) c.requires.some c.entry_of-entry.ensures c.to-to.ensures.is c.addr.ensures
-    (c.after-next.ensures.is ∙ (λ j. place_after (c.instr.ensures.is j) (sym (c.requires.memory.uses c.args.n c.requires.near.node) j) (place_of c.args.place.now))) c.place_at-back.ensures.is
+    (c.after-next.ensures.is ∙ (λ j. place_after (c.instr.ensures.is j) (c.uses-q.ensures.is j) (place_of c.args.place.now))) c.place_at-back.ensures.is
     c.in_ok-t.ensures.steps c.in_ok-there.ensures.entered rest) c.lines_to.ensures
+
+pub acting_lines-step-requires-in-Branch-2-clause-version : goal.acting_lines-step-requires-in-Branch-2-clause-version
+acting_lines-step-requires-in-Branch-2-clause-version t c =
+    subst (λ (k : Known). IsVersionFor (flow_in c.args.flow.now) k) (sym (c.in_ok-lines_to-in-Branch.ensures.version ∙ c.in_ok-t-in-Branch.ensures.steps.version)) c.requires.version

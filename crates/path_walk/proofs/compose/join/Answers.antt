@@ -24,9 +24,9 @@ state-requires-clause-stated c =
     subst (λ (xs : List FactTree). AreMissing xs (map fact_tree c.args.last.facts) more) known (subst (λ (ys : List FactTree). AreMissing (map fact_tree c.facts.result.now) ys more) facts c.in_ok-all.ensures.1) in
     let all : map fact_tree c.as_slice.result.now ≡ map fact_tree c.args.from.now.facts ++ more =
     ap (map fact_tree) c.as_slice.ensures ∙ c.in_ok-all.ensures.2 ∙ ap (λ (xs : List FactTree). xs ++ more) known in
-    let whole = whole-fine f c.law_of_code.ensures.registers (omega (arith, c.requires.memory.mems)) c.args.entry c.ranges.entry.fits (cited_tree c.args.from.now) (cited_tree c.args.last) c.law_of_texts.ensures c.law_of_texts-2.ensures more are
+    let whole = whole-fine f c.law_of_code.ensures.registers c.law_of_memories.ensures.few c.args.entry c.ranges.entry.fits (cited_tree c.args.from.now) (cited_tree c.args.last) c.law_of_texts.ensures c.law_of_texts-2.ensures more are
     c.in_ok-code.code.ranges c.in_ok-code.ensures.ranges c.law_of_bytes.ensures (word_tree c.args.pc) (place_of c.args.place.now) 65535 c.requires.pc
-    (low_place c.args.place.now 65535 f.mems c.requires.memory.mems (omega (arith, c.requires.words)) (omega (arith, c.requires.mems))) (omega arith) in
+    (low_place c.args.place.now 65535 f.mems c.law_of_memories.ensures.few c.law_of_memories.ensures.second (omega arith) (omega (arith, c.requires.words)) (omega (arith, c.requires.mems))) (omega arith) in
     subst IsTriple
     (sym (c.in_ok-whole.ensures
     ∙ (λ j. record { facts = all j; pre = standing_at f (Const c.args.entry) (start f); code = c.in_ok-code.code.ranges; post = standing_at f (word_tree c.args.pc) (place_of c.args.place.now) })))
@@ -42,7 +42,7 @@ new-requires c =
     subst (λ (xs : List FactTree). AreMissing xs (map fact_tree c.args.last.facts) more) known (subst (λ (ys : List FactTree). AreMissing (map fact_tree c.facts.result.now) ys more) facts c.in_ok-all.ensures.1) in
     let all : map fact_tree c.in_ok-all.all ≡ map fact_tree c.args.from.now.facts ++ more = c.in_ok-all.ensures.2 ∙ ap (λ (xs : List FactTree). xs ++ more) known in
     subst (λ (fs : List FactTree). IsFineCited (record { number = c.in_ok-number.number; facts = fs; code = c.in_ok-code.code.ranges })) (sym all)
-    (joined-fine f c.law_of_code.ensures.registers (omega (arith, c.requires.memory.mems)) c.args.entry c.ranges.entry.fits (cited_tree c.args.from.now) (cited_tree c.args.last) c.law_of_texts.ensures c.law_of_texts-2.ensures more are
+    (joined-fine f c.law_of_code.ensures.registers c.law_of_memories.ensures.few c.args.entry c.ranges.entry.fits (cited_tree c.args.from.now) (cited_tree c.args.last) c.law_of_texts.ensures c.law_of_texts-2.ensures more are
     c.in_ok-code.code.ranges c.in_ok-code.ensures.ranges c.law_of_bytes.ensures c.in_ok-number.number c.in_ok-number.ensures.fits)
 
 pub returns-clause-code : goal.returns-clause-code

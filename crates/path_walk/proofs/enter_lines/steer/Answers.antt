@@ -18,13 +18,13 @@ state_further-requires-clause-stated c =
     let f : Flow = flow_in c.args.flow.now in
     let all = ap (map fact_tree) c.as_slice.ensures ∙ c.in_ok-facts.ensures in
     subst IsTriple (sym c.in_ok-stated.ensures)
-    (steered-fine f c.law_of_code.ensures.registers (omega (arith, c.requires.memory.mems)) (cited_tree c.args.t.now) c.law_of_texts.ensures c.args.w c.args.back c.ranges.w.fits c.ranges.back.fits (map fact_tree c.as_slice.result.now) all
+    (steered-fine f c.law_of_code.ensures.registers c.law_of_memories.ensures.few (cited_tree c.args.t.now) c.law_of_texts.ensures c.args.w c.args.back c.ranges.w.fits c.ranges.back.fits (map fact_tree c.as_slice.result.now) all
     c.in_ok-code.code.ranges (c.in_ok-code.ensures ∙ c.code.ensures) c.args.entry c.ranges.entry.fits (place_of c.args.place.now) 65535
-    (low_place c.args.place.now 65535 f.mems c.requires.memory.mems (omega (arith, c.requires.words)) (omega (arith, c.requires.mems))) (omega arith))
+    (low_place c.args.place.now 65535 f.mems c.law_of_memories.ensures.few c.law_of_memories.ensures.second (omega arith) (omega (arith, c.requires.words)) (omega (arith, c.requires.mems))) (omega arith))
 
 pub new-requires : goal.new-requires
 new-requires c =
-    steered-standing-fine (flow_in c.args.flow.now) c.law_of_code.ensures.registers (omega (arith, c.requires.memory.mems)) (cited_tree c.args.t.now) c.law_of_texts.ensures c.args.w c.args.back c.ranges.w.fits c.ranges.back.fits
+    steered-standing-fine (flow_in c.args.flow.now) c.law_of_code.ensures.registers c.law_of_memories.ensures.few (cited_tree c.args.t.now) c.law_of_texts.ensures c.args.w c.args.back c.ranges.w.fits c.ranges.back.fits
     (map fact_tree c.in_ok-facts.facts) c.in_ok-facts.ensures c.in_ok-code.code.ranges (c.in_ok-code.ensures ∙ c.code.ensures) c.in_ok-number.number c.in_ok-number.ensures.fits
 
 pub returns-clause-is : goal.returns-clause-is

@@ -1,28 +1,48 @@
-use Rattle.std.proofs.Common.{ap, sym, ◌∙◌, subst}
+use Rattle.std.proofs.Common.{◌≡◌, ◌+◌, ap, ◌∙◌}
 use Rattle.instr_axioms.specs.Terms.{has_memory}
 use Rattle.rvc.specs.Number.{length_of}
 use Rattle.instr_axioms.specs.Axiom.{own, triple_over, word_code}
-use Rattle.proof_text.specs.Line.{Axiom, Frame, Inst, Weaken}
-use Rattle.proof_text.specs.LineLimits.{IsTriple}
-use Rattle.code_parts.specs.Bodies.{VariableMap, names}
-use Rattle.path_walk.specs.inner.Acts.{own_mems, own_words}
-use Rattle.path_walk.specs.inner.Writers.{WriterTree, writer_tree, stating}
+use Rattle.proof_text.specs.Line.{Axiom, Inst, Weaken}
+use Rattle.code_parts.specs.Bodies.{names}
+use Rattle.code_parts.specs.Kept.{flow_in}
 use Rattle.code_parts.specs.VariableMaps.{place_of}
+use Rattle.path_walk.specs.inner.Acts.{ordered, ordered_at, own_mems, own_words, put}
+use Rattle.path_walk.specs.inner.Writers.{WriterTree, writer_tree, stating}
+use Rattle.path_walk.proofs.OrderedLines.{ordered-next}
 use Rattle.path_walk.proofs.instruction_lines.instruction_lines.Goals as goal
 
-pub state-requires-2-clause-stated : goal.state-requires-2-clause-stated
-state-requires-2-clause-stated c = subst IsTriple (sym c.in_ok-wide.ensures) c.requires.fine.wide
+-- the axiom, and that over the current variables
+second : (c : goal.In_ok-number) → writer_tree c.put_current.new.log ≡ put c.args.i c.args.form c.args.addr c.args.word c.args.q (place_of c.args.place.now) (writer_tree c.args.log.now)
+second c =
+    let first = c.in_ok-first.ensures.log ∙ (λ j. stating (Axiom c.args.addr c.args.word c.args.form) (c.in_ok-own.ensures j) (writer_tree c.args.log.now)) in
+    c.in_ok-current.ensures.log
+    ∙ (λ j. stating (Inst (c.in_ok-first.ensures.number j) (own_words c.args.i (place_of c.args.place.now)) (own_mems c.args.i c.args.q (place_of c.args.place.now)))
+    (triple_over c.args.i c.args.form c.args.addr (length_of c.args.word) (word_code c.args.addr c.args.word) (own c.args.i) (has_memory c.args.i) (names (place_of c.args.place.now) c.args.q)) (first j))
+
+second_number : (c : goal.In_ok-number) → c.in_ok-current.current ≡ c.args.log.now.next + 1
+second_number c =
+    let first = c.in_ok-first.ensures.log ∙ (λ j. stating (Axiom c.args.addr c.args.word c.args.form) (c.in_ok-own.ensures j) (writer_tree c.args.log.now)) in
+    c.in_ok-current.ensures.number ∙ ap (λ (x : WriterTree). x.next) first
+
+third : (c : goal.In_ok-number) → writer_tree c.put_wide.new.log ≡
+    ordered (flow_in c.args.flow.now) c.args.i c.args.form c.args.addr c.args.word c.args.q (place_of c.args.place.now) (c.args.log.now.next + 1)
+    (put c.args.i c.args.form c.args.addr c.args.word c.args.q (place_of c.args.place.now) (writer_tree c.args.log.now))
+third c =
+    let now = second c in
+    let number = second_number c in
+    c.in_ok-wide.ensures.log ∙ (λ j. ordered (flow_in c.args.flow.now) c.args.i c.args.form c.args.addr c.args.word c.args.q (place_of c.args.place.now) (number j) (now j))
+
+pub put_current-requires-clause-rule : goal.put_current-requires-clause-rule
+put_current-requires-clause-rule c = c.requires.fine.rule c.in_ok-first.first c.in_ok-first.ensures.fits
+
+pub returns-clause-number : goal.returns-clause-number
+returns-clause-number c =
+    c.in_ok-number.ensures.number ∙ ap (λ (x : WriterTree). x.next) (third c)
+    ∙ ordered-next (flow_in c.args.flow.now) c.args.i c.args.form c.args.addr c.args.word c.args.q (place_of c.args.place.now) (c.args.log.now.next + 1)
+    (put c.args.i c.args.form c.args.addr c.args.word c.args.q (place_of c.args.place.now) (writer_tree c.args.log.now))
 
 pub returns-clause-log : goal.returns-clause-log
 returns-clause-log c =
-    let v : VariableMap = place_of c.args.place.now in
-    let l : WriterTree = writer_tree c.args.log.now in
-    let first = c.in_ok-first.ensures.log ∙ (λ j. stating (Axiom c.args.addr c.args.word c.args.form) (c.in_ok-own.ensures j) l) in
-    let second =
-    c.in_ok-current.ensures.log
-    ∙ (λ j. stating (Inst (c.in_ok-first.ensures.number j) (own_words c.args.i v) (own_mems c.args.i 0 v))
-    (triple_over c.args.i c.args.form c.args.addr (length_of c.args.word) (word_code c.args.addr c.args.word) (own c.args.i) (has_memory c.args.i) (names v 0)) (first j)) in
-    let second_number = c.in_ok-current.ensures.number ∙ ap (λ (x : WriterTree). x.next) first in
-    let third = c.in_ok-framed.ensures.log ∙ (λ j. stating (Frame (second_number j)) (c.in_ok-wide.ensures j) (second j)) in
-    let third_number = c.in_ok-framed.ensures.number ∙ ap (λ (x : WriterTree). x.next) second in
-    c.in_ok-number.ensures.log ∙ (λ j. stating (Weaken (third_number j)) (c.in_ok-named.ensures j) (third j))
+    let number = c.in_ok-wide.ensures.number ∙ ap (λ (x : WriterTree). ordered_at c.args.i c.args.q x.next) (second c) in
+    let before = third c in
+    c.in_ok-number.ensures.log ∙ (λ j. stating (Weaken (number j)) (c.in_ok-named.ensures j) (before j))

@@ -1,7 +1,6 @@
 use Rattle.std.proofs.Common.{◌≡◌, map, sym, ◌∙◌, subst}
 use Rattle.rvc.specs.Number.{length_of}
 use Rattle.instr_axioms.specs.Axiom.{own, triple_over, word_code}
-use Rattle.instr_axioms.specs.Variables.{names_of}
 use Rattle.proof_text.specs.Line.{Inst}
 use Rattle.proof_text.specs.LineLimits.{IsTriple}
 use Rattle.code_parts.specs.Bodies.{names}
@@ -14,12 +13,12 @@ pub state-requires-clause-stated : goal.state-requires-clause-stated
 state-requires-clause-stated c =
     let regs : c.as_slice-regs.result.now ≡ own c.args.i = c.as_slice-regs.ensures ∙ c.in_ok-regs.ensures.own in
     subst IsTriple
-    (sym (c.in_ok-triple.ensures ∙ (λ j. triple_over c.args.i c.args.form c.args.addr (length_of c.args.word) (word_code c.args.addr c.args.word) (regs j) (c.has_memory.ensures j) (names_of c.args.place.now.names))))
+    (sym (c.in_ok-triple.ensures ∙ (λ j. triple_over c.args.i c.args.form c.args.addr (length_of c.args.word) (word_code c.args.addr c.args.word) (regs j) (c.has_memory.ensures j) (c.names_of-names.ensures j))))
     c.requires.stated
 
 pub returns-clause-log : goal.returns-clause-log
 returns-clause-log c =
     let regs : c.as_slice-regs.result.now ≡ own c.args.i = c.as_slice-regs.ensures ∙ c.in_ok-regs.ensures.own in
-    let same = c.in_ok-triple.ensures ∙ (λ j. triple_over c.args.i c.args.form c.args.addr (length_of c.args.word) (word_code c.args.addr c.args.word) (regs j) (c.has_memory.ensures j) (names_of c.args.place.now.names)) in
+    let same = c.in_ok-triple.ensures ∙ (λ j. triple_over c.args.i c.args.form c.args.addr (length_of c.args.word) (word_code c.args.addr c.args.word) (regs j) (c.has_memory.ensures j) (c.names_of-names.ensures j)) in
     let words = c.in_ok-words.ensures ∙ (λ j. numbered 0 (map (names (place_of c.args.place.now) 0).word (regs j))) in
     c.in_ok-number.ensures.log ∙ (λ j. stating (Inst c.args.first (words j) (c.in_ok-mems.ensures j)) (same j) (writer_tree c.args.log.now))

@@ -11,9 +11,10 @@ use Rattle.code_parts.specs.Graph.{IsPart}
 use Rattle.code_parts.specs.Kept.{flow_in}
 use Rattle.code_parts.specs.Members.{flow_at}
 use Rattle.linked_group.specs.Groups.{member_in}
-use Rattle.path_walk.specs.Memories.{UsesFirst}
+use Rattle.path_walk.specs.Further.{IsVersionFor}
 use Rattle.path_walk.specs.inner.LinkedWalks.{AreWalkedTo}
 use Rattle.path_walk.proofs.FunctionsInOrder.{flow-same}
+use Rattle.path_walk.proofs.Lines.{uncrossed}
 use Rattle.path_walk.proofs.linked.walk_function.Goals as goal
 
 pub of-requires-clause-reached : goal.of-requires-clause-reached
@@ -39,8 +40,10 @@ walk_parts-requires-clause-each c =
     subst (λ (ps : List Part). All (IsPart (flow_in c.in_ok-flow.flow)) ps) (sym c.as_slice.ensures)
     (subst (λ (f : Flow). All (IsPart f) c.args.function.now.parts) (sym (flow-same c.in_ok-flow.flow c.args.group.now c.args.function.now c.in_ok-flow.ensures.graph c.in_ok-flow.ensures.forest (c.in_ok-flow.ensures.setting ∙ c.setting-setting.ensures))) c.requires.function.parts)
 
-pub walk_parts-requires-clause-memory : goal.walk_parts-requires-clause-memory
-walk_parts-requires-clause-memory c = subst UsesFirst (sym (flow-same c.in_ok-flow.flow c.args.group.now c.args.function.now c.in_ok-flow.ensures.graph c.in_ok-flow.ensures.forest (c.in_ok-flow.ensures.setting ∙ c.setting-setting.ensures))) (record { mems = c.requires.function.one; uses = λ n lt. refl })
+pub walk_parts-requires-clause-version : goal.walk_parts-requires-clause-version
+walk_parts-requires-clause-version c =
+    subst (λ (f : Flow). IsVersionFor f Three) (sym (flow-same c.in_ok-flow.flow c.args.group.now c.args.function.now c.in_ok-flow.ensures.graph c.in_ok-flow.ensures.forest (c.in_ok-flow.ensures.setting ∙ c.setting-setting.ensures)))
+    (record { calls = λ n k node e. refl; crossed = λ n node is. absurd (uncrossed ((flow_at (member_in c.args.group.now c.args.function.now)).instr n) 0 refl is) })
 
 pub returns-clause-defs : goal.returns-clause-defs
 returns-clause-defs c =

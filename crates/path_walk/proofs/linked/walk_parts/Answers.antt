@@ -1,4 +1,4 @@
-use Rattle.std.proofs.Common.{◌++◌, List, map, refl, sym, ap, ◌∙◌, arith, append-nil}
+use Rattle.std.proofs.Common.{◌++◌, List, map, sym, ap, ◌∙◌, arith, append-nil}
 use Rattle.tailrec_lang.specs.Tree.{def_tree}
 use Rattle.group_text.specs.declared.version.Version.TheVariants.{Three}
 use Rattle.proof_text.specs.Line.{line_tree}
@@ -15,9 +15,6 @@ loop-part-init c = (
   c.requires.first,
   λ k. k,
 )
-
-pub walk_in-requires-clause-version : goal.walk_in-requires-clause-version
-walk_in-requires-clause-version c = record { calls = λ n k node e. refl }
 
 pub loop-part-preserved : goal.loop-part-preserved
 loop-part-preserved c = (

@@ -8,7 +8,7 @@ use Rattle.code_parts.specs.Flows.{alone}
 use Rattle.code_parts.specs.Kept.{flow_in}
 use Rattle.code_parts.proofs.Settings.{same_flow}
 use Rattle.path_walk.specs.Item.{IsWalked}
-use Rattle.path_walk.proofs.PartsInOrder.{first-alone, version-alone}
+use Rattle.path_walk.proofs.PartsInOrder.{version-alone}
 use Rattle.path_walk.proofs.one_part.walk.Goals as goal
 
 pub walk_in-requires-clause-part : goal.walk_in-requires-clause-part
@@ -16,9 +16,6 @@ walk_in-requires-clause-part c = subst (λ (f : Flow). IsPart f c.args.part) (sy
 
 pub walk_in-requires-clause-version : goal.walk_in-requires-clause-version
 walk_in-requires-clause-version c = version-alone (flow_in c.in_ok-flow.flow) c.in_ok-flow.ensures.alone
-
-pub walk_in-requires-clause-memory : goal.walk_in-requires-clause-memory
-walk_in-requires-clause-memory c = first-alone (flow_in c.in_ok-flow.flow) c.in_ok-flow.ensures.alone
 
 pub returns-clause-def : goal.returns-clause-def
 returns-clause-def c = subst (λ (f : Flow). IfOk c.walk_in.result (λ w. def_tree w.def ≡ part_def f c.args.part)) (same_flow c.in_ok-flow.flow c.args.graph.now c.args.forest.now (alone c.args.graph.now c.args.earlier.now) c.in_ok-flow.ensures.graph c.in_ok-flow.ensures.forest c.in_ok-flow.ensures.setting) c.walk_in.ensures.def
