@@ -5,3 +5,6 @@ pub mod Loops
 pub mod AddressLemmas
 pub mod RegionLemmas
 pub mod CheckLemmas
+pub mod AccessLemmas
+pub mod Items
+pub mod SplitAccepted
