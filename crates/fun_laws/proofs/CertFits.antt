@@ -7,7 +7,9 @@ use Rattle.word_terms.specs.Tree.{WordTree, MemTree, CondTree}
 use Rattle.term_text.specs.Limits.{depth_limit, IsWord, IsMem, IsCond}
 use Rattle.tailrec_lang.specs.Tree.{ValuesTree, StepTree, Bind, BindMem, Need, BodyTree, Do, Branch, Call, Again, Leave, ArmTrees, NoArm, Arm, DefTree, GroupTree, def_tree}
 use Rattle.group_text.specs.Spelling.{arm_count}
-use Rattle.group_text.specs.Limits.{IsValues, IsStep, IsBody, AreArms, IsDef, IsGroup, nesting_limit, def_exit_limit, def_limit}
+use Rattle.group_text.specs.declared.version.Version.{Version as Known}
+use Rattle.group_text.specs.Version.{version_of}
+use Rattle.group_text.specs.Limits.{IsValues, IsStep, IsBody, AreArms, IsDef, IsGroupIn, nesting_limit, def_exit_limit, def_limit}
 use Rattle.term_laws.specs.declared.step.Rw.{Rw}
 use Rattle.term_laws.specs.Laws.{Term, OfWord, OfMem, OfCond, laws, law_at, Law}
 use Rattle.def_laws.specs.Rewriting.{step_term, count, below_or, value_at, term_at, arm_term_at, with_step_term, with_word_term, with_mem_term, with_cond, with_value, with_term, with_arm_term, with_def_term, IsRewritingStep, AreRewritingSteps}
@@ -153,13 +155,15 @@ steps_fit (r ∷ rs) ds es (ms, s, more) numbers h few =
     let rest = steps_fit rs ms es more numbers.1 (step-def_fits r ds ms s h) (subst (λ n. n ≤ def_limit) (sym same) few) in
     record { steps = (step-number_fits r ds ms s few numbers.0, rest.steps); defs = rest.defs; length = rest.length ∙ same }
 
-pub accepted_fits : (g : GroupTree) (c : Cert) → HaveNumbers c.steps → IsGroup g → IsCertOf g c → IsCert (cert_tree c)
-accepted_fits g c numbers h a =
-    let f = steps_fit c.steps g.defs (map def_tree c.result) a.steps numbers h.defs h.few in
-    record {
-      old = subst IsGroup (sym a.old) h;
-      steps = f.steps;
-      result = f.defs;
-      some = subst (λ n. 1 ≤ n) (sym f.length) h.some;
-      few = subst (λ n. n ≤ def_limit) (sym f.length) h.few;
-    }
+pub accepted_fits : (g : GroupTree) (c : Cert) → HaveNumbers c.steps → (k : Known) → IsGroupIn (version_of k) g → IsCertOf g c → IsCert (cert_tree c)
+accepted_fits g c numbers k h a =
+    let f = steps_fit c.steps g.defs (map def_tree c.result) a.steps numbers h.defs h.few in (
+      k,
+      record {
+        old = subst (IsGroupIn (version_of k)) (sym a.old) h;
+        steps = f.steps;
+        result = f.defs;
+        some = subst (λ n. 1 ≤ n) (sym f.length) h.some;
+        few = subst (λ n. n ≤ def_limit) (sym f.length) h.few;
+      },
+    )

@@ -1,5 +1,6 @@
 -- Certificates are read as they are spelled, and the lines before a fault can be completed.
 use Rattle.std.proofs.Common.{◌≡◌, ℕ, suc, ◌+◌, ◌-◌, ◌^◌, ◌<◌, ◌≤◌, Bool, true, false, cond, List, [], ◌∷◌, ◌++◌, length, codes, Ok, Err, refl, sym, ap, subst, ◌∙◌, arith, append_assoc, flat_map}
+use Rattle.std.specs.Prelude.{nat_le}
 use Rattle.std.specs.List.{AllByRecursion}
 use Rattle.mc_text.specs.Tokens.{Tok, Left, Right, Semi, Atom, Eol, Done, Stuck, IsAtom, is_atom_byte}
 use Rattle.std.specs.Str.{bytes_eq}
@@ -20,21 +21,21 @@ use Rattle.rv_words.specs.declared.range.Range.{Range}
 use Rattle.term_text.specs.Spelling.{range_tokens}
 use Rattle.tailrec_lang.specs.Tree.{DefTree, GroupTree}
 use Rattle.tailrec_lang.specs.Registers.{AreRegistersFrom}
-use Rattle.group_text.specs.Limits.{IsDef, IsGroup, IsName, def_limit}
+use Rattle.group_text.specs.Limits.{IsDef, IsGroupIn, IsName, def_limit}
 use Rattle.group_text.specs.Spelling.{line, number, group_tokens, def_tokens, end_tokens}
 use Rattle.group_text.specs.inner.Reading.{Head, def_at, is_def, are_some, own_defs, mark_row, regs_row, mems_row, code_row, name_of, group_of}
-use Rattle.group_text.specs.declared.version.Version.TheVariants.{One}
-use Rattle.group_text.specs.Version.{version_1}
+use Rattle.group_text.specs.declared.version.Version.TheVariants.{One, Four}
+use Rattle.group_text.specs.Version.{Version, version_1, version_4}
 use Rattle.group_text.proofs.HeadLaws.{HasMems}
 use Rattle.group_text.specs.inner.GroupRows.{more_head}
 use Rattle.group_text.proofs.StepLaws.{shrinks, atom-flat, name-law, number-law, eol-law, mark-law, row-law, ends-eol}
-use Rattle.group_text.proofs.HeadLaws.{IsCode, group-name-law, true-le}
-use Rattle.group_text.proofs.Texts.{def-cover, def-begins, HeadFits, Regs, RegsFit, regs_tokens, regs-cover, Mems, MemsFit, mems_tokens, mems-cover, CodeRow, CodeFits, code_tokens, code-cover}
+use Rattle.group_text.proofs.HeadLaws.{IsCode, group-name-law, le-true, mems-law, true-le}
+use Rattle.group_text.proofs.Texts.{def-cover, def-begins, HeadFits, Regs, RegsFit, regs_tokens, regs-cover, Mems, MemsFit, mems_tokens, CodeRow, CodeFits, code_tokens, code-cover}
 use Rattle.group_text.proofs.Real.{def-tokens, group-tokens}
 use Rattle.group_text.proofs.OwnDefs.{Defs, guard, judge, sent, def-refuses}
 use Rattle.term_laws.specs.declared.step.Rw.{Rw}
 use Rattle.fun_laws.specs.Spelling.{CertTree, cert_tokens, digits, place_text, result_tokens, cert_step_tokens, cert_title_tokens}
-use Rattle.fun_laws.specs.Limits.{IsCert, IsCertStep}
+use Rattle.fun_laws.specs.Limits.{IsCertIn, IsCertStep}
 use Rattle.fun_laws.specs.inner.Reading.{Mark, NameRow, Rest, StepRow, behind_head, behind_name, behind_old, behind_title, cert_at, cert_of, defs_to_end, is_step, name_row, place_of, result_at, step_at, step_numbers, step_of, title_row}
 use Rattle.fun_laws.proofs.PlaceLaws.{IsPlace, place-law}
 
@@ -218,6 +219,14 @@ rest-quiet (r ∷ rs, ds) h us = refl
 behind-cover : Covers behind_head (λ p. AreDefs p.0 × RestFits p.1) (λ p. flat_map def_tokens p.0 ++ rest_tokens p.1)
 behind-cover = own-cover behind_old (refuses-def behind_old rest-refuses) RestFits rest_tokens rest-cover rest-quiet
 
+-- versions of which there are readers
+pub record IsReadable (v : Version) : Type 0 where
+  pub some : v.least_mems ≤ v.most_mems
+  pub few : v.most_mems ≤ 2
+
+mems-cover-in : (v : Version) → IsReadable v → Covers (mems_row v) (MemsFit v) mems_tokens
+mems-cover-in v h = row-covers (mems_row v) (MemsFit v) mems_tokens (mems-law v (omega (arith, h.few))) (λ p k. refl) (tt, (v.most_mems, tt)) (tt, ((h.some, omega arith), tt))
+
 -- the head of the group, behind its name
 abbrev HeadRows : Type 0
 HeadRows = Regs × (Mems × CodeRow)
@@ -225,57 +234,59 @@ HeadRows = Regs × (Mems × CodeRow)
 abbrev make_head : List ℕ → HeadRows → Head
 make_head name x = record { name = name; regs = x.0.1.0; mems = x.1.0.1.0; code = x.1.1.1.0 }
 
-abbrev RowsFit : Head → Type 0
-RowsFit h = AreRegistersFrom 1 h.regs × (HasMems version_1 h.mems × IsCode h.code)
+abbrev RowsFit : Version → Head → Type 0
+RowsFit v h = AreRegistersFrom 1 h.regs × (HasMems v h.mems × IsCode h.code)
 
 abbrev head_tokens : Head → List Tok
 head_tokens h = line (codes "regs") (flat_map number h.regs ∷ []) ++ (line (codes "mems") (number h.mems ∷ []) ++ line (codes "code") (flat_map range_tokens h.code ∷ []))
 
-head-from : (name : List ℕ) (h : Head) → (h.name ≡ name) × RowsFit h → (p : HeadRows) × (make_head name p ≡ h) × (RegsFit p.0 × (MemsFit version_1 p.1.0 × CodeFits p.1.1))
-head-from name h f = (
+head-from : (v : Version) (name : List ℕ) (h : Head) → (h.name ≡ name) × RowsFit v h → (p : HeadRows) × (make_head name p ≡ h) × (RegsFit p.0 × (MemsFit v p.1.0 × CodeFits p.1.1))
+head-from v name h f = (
   ((tt, (h.regs, tt)), ((tt, (h.mems, tt)), (tt, (h.code, tt)))),
   (λ i. record { name = sym f.0 i; regs = h.regs; mems = h.mems; code = h.code }),
   ((tt, (f.1.0, tt)), ((tt, (f.1.1.0, tt)), (tt, (f.1.1.1, tt)))),
 )
 
-head-cover : (name : List ℕ) → Covers (more_head version_1 name) (λ h. (h.name ≡ name) × RowsFit h) head_tokens
-head-cover name =
-    covers-made (make_head name) (pair regs_row (pair (mems_row version_1) code_row)) _ _
-    (covers-with regs_row RegsFit regs_tokens regs-cover (λ _. pair (mems_row version_1) code_row) (λ _ p. MemsFit version_1 p.0 × CodeFits p.1) (λ _ p. mems_tokens p.0 ++ code_tokens p.1) (λ _ _.
-    covers-with (mems_row version_1) (MemsFit version_1) mems_tokens (mems-cover One) (λ _. code_row) (λ _. CodeFits) (λ _. code_tokens) (λ _ _. code-cover)))
-    (λ h. (h.name ≡ name) × RowsFit h) head_tokens (λ p f. (refl, (f.0.1.0, (f.1.0.1.0, f.1.1.1.0)))) (λ p. refl) (head-from name)
+head-cover : (v : Version) (h : IsReadable v) (name : List ℕ) → Covers (more_head v name) (λ h. (h.name ≡ name) × RowsFit v h) head_tokens
+head-cover v h name =
+    covers-made (make_head name) (pair regs_row (pair (mems_row v) code_row)) _ _
+    (covers-with regs_row RegsFit regs_tokens regs-cover (λ _. pair (mems_row v) code_row) (λ _ p. MemsFit v p.0 × CodeFits p.1) (λ _ p. mems_tokens p.0 ++ code_tokens p.1) (λ _ _.
+    covers-with (mems_row v) (MemsFit v) mems_tokens (mems-cover-in v h) (λ _. code_row) (λ _. CodeFits) (λ _. code_tokens) (λ _ _. code-cover)))
+    (λ h. (h.name ≡ name) × RowsFit v h) head_tokens (λ p f. (refl, (f.0.1.0, (f.1.0.1.0, f.1.1.1.0)))) (λ p. refl) (head-from v name)
 
 abbrev Parts : Type 0
 Parts = Head × (List DefTree × Rest)
 
-abbrev PartsFit : List ℕ → Parts → Type 0
-PartsFit name x = ((x.0.name ≡ name) × RowsFit x.0) × (AreDefs x.1.0 × RestFits x.1.1)
+abbrev PartsFit : Version → List ℕ → Parts → Type 0
+PartsFit v name x = ((x.0.name ≡ name) × RowsFit v x.0) × (AreDefs x.1.0 × RestFits x.1.1)
 
 abbrev parts_tokens : Parts → List Tok
 parts_tokens x = head_tokens x.0 ++ (flat_map def_tokens x.1.0 ++ rest_tokens x.1.1)
 
-parts-cover : (name : List ℕ) → Covers (pair (more_head version_1 name) behind_head) (PartsFit name) parts_tokens
-parts-cover name = covers-with (more_head version_1 name) (λ h. (h.name ≡ name) × RowsFit h) head_tokens (head-cover name) (λ _. behind_head) (λ _ p. AreDefs p.0 × RestFits p.1) (λ _ p. flat_map def_tokens p.0 ++ rest_tokens p.1) (λ _ _. behind-cover)
+parts-cover : (v : Version) (h : IsReadable v) (name : List ℕ) → Covers (pair (more_head v name) behind_head) (PartsFit v name) parts_tokens
+parts-cover v h name =
+    covers-with (more_head v name) (λ h. (h.name ≡ name) × RowsFit v h) head_tokens (head-cover v h name) (λ _. behind_head) (λ _ p. AreDefs p.0 × RestFits p.1) (λ _ p. flat_map def_tokens p.0 ++ rest_tokens p.1) (λ _ _. behind-cover)
 
 -- what stands behind the row of the name
-abbrev IsNamed : List ℕ → CertTree → Type 0
-IsNamed name c = ((c.old.name ≡ name) × (AreRegistersFrom 1 c.old.regs × (HasMems version_1 c.old.mems × IsCode c.old.code))) × (AreDefs c.old.defs × (AllByRecursion IsCertStep c.steps × AreDefs c.result))
+abbrev IsNamed : Version → List ℕ → CertTree → Type 0
+IsNamed v name c = ((c.old.name ≡ name) × (AreRegistersFrom 1 c.old.regs × (HasMems v c.old.mems × IsCode c.old.code))) × (AreDefs c.old.defs × (AllByRecursion IsCertStep c.steps × AreDefs c.result))
 
 abbrev named_tokens : CertTree → List Tok
 named_tokens c = head_tokens (record { name = c.old.name; regs = c.old.regs; mems = c.old.mems; code = c.old.code }) ++ (flat_map def_tokens c.old.defs ++ rest_tokens (c.steps, c.result))
 
-named-from : (name : List ℕ) (c : CertTree) → IsNamed name c → (x : Parts) × (cert_of x ≡ c) × PartsFit name x
-named-from name c h = ((record { name = c.old.name; regs = c.old.regs; mems = c.old.mems; code = c.old.code }, (c.old.defs, (c.steps, c.result))), refl, h)
+named-from : (v : Version) (name : List ℕ) (c : CertTree) → IsNamed v name c → (x : Parts) × (cert_of x ≡ c) × PartsFit v name x
+named-from v name c h = ((record { name = c.old.name; regs = c.old.regs; mems = c.old.mems; code = c.old.code }, (c.old.defs, (c.steps, c.result))), refl, h)
 
-named-cover : (n : NameRow) → Covers (behind_name n) (IsNamed n.1.0) named_tokens
-named-cover n = covers-made cert_of (pair (more_head version_1 n.1.0) behind_head) (PartsFit n.1.0) parts_tokens (parts-cover n.1.0) (IsNamed n.1.0) named_tokens (λ x h. h) (λ x. refl) (named-from n.1.0)
+named-cover : (v : Version) (h : IsReadable v) (n : NameRow) → Covers (behind_name v n) (IsNamed v n.1.0) named_tokens
+named-cover v h n =
+    covers-made cert_of (pair (more_head v n.1.0) behind_head) (PartsFit v n.1.0) parts_tokens (parts-cover v h n.1.0) (IsNamed v n.1.0) named_tokens (λ x h. h) (λ x. refl) (named-from v n.1.0)
 
 -- what stands behind the title
 abbrev old_tokens : CertTree → List Tok
 old_tokens c = group_tokens c.old ++ rest_tokens (c.steps, c.result)
 
-old-same : (p : NameRow × CertTree) → NameFits p.0 × IsNamed p.0.1.0 p.1 → old_tokens p.1 ≡ name_tokens p.0 ++ named_tokens p.1
-old-same (n, c) h =
+old-same : (v : Version) (p : NameRow × CertTree) → NameFits p.0 × IsNamed v p.0.1.0 p.1 → old_tokens p.1 ≡ name_tokens p.0 ++ named_tokens p.1
+old-same v (n, c) h =
     let name : List Tok = line (codes "group") ((Atom c.old.name ∷ []) ∷ []) in
     let regs : List Tok = line (codes "regs") (flat_map number c.old.regs ∷ []) in
     let mems : List Tok = line (codes "mems") (number c.old.mems ∷ []) in
@@ -290,8 +301,8 @@ old-same (n, c) h =
     ∙ ap (λ (v : List Tok). name ++ v) (two ∙ sym three)
     ∙ ap (λ (a : List ℕ). line (codes "group") ((Atom a ∷ []) ∷ []) ++ ((regs ++ (mems ++ code)) ++ (defs ++ rest))) h.1.0.0
 
-old-up : (p : NameRow × CertTree) → NameFits p.0 × IsNamed p.0.1.0 p.1 → IsCert p.1
-old-up (n, c) h = record {
+old-up : (v : Version) (p : NameRow × CertTree) → NameFits p.0 × IsNamed v p.0.1.0 p.1 → IsCertIn v p.1
+old-up v (n, c) h = record {
   old = record {
     name = subst IsName (sym h.1.0.0) h.0.1.0;
     registers = h.1.0.1.0;
@@ -308,8 +319,8 @@ old-up (n, c) h = record {
   few = h.1.1.1.1.1.1;
 }
 
-old-from : (c : CertTree) → IsCert c → (p : NameRow × CertTree) × (p.1 ≡ c) × (NameFits p.0 × IsNamed p.0.1.0 p.1)
-old-from c h = (
+old-from : (v : Version) (c : CertTree) → IsCertIn v c → (p : NameRow × CertTree) × (p.1 ≡ c) × (NameFits p.0 × IsNamed v p.0.1.0 p.1)
+old-from v c h = (
   ((tt, (c.old.name, tt)), c),
   refl,
   (
@@ -318,22 +329,36 @@ old-from c h = (
   ),
 )
 
-old-cover : Covers behind_title IsCert old_tokens
-old-cover =
-    covers-made (λ (p : NameRow × CertTree). p.1) (with name_row behind_name) (λ p. NameFits p.0 × IsNamed p.0.1.0 p.1) (λ p. old_tokens p.1)
-    (covers-as (with name_row behind_name) (λ p. NameFits p.0 × IsNamed p.0.1.0 p.1) (λ p. NameFits p.0 × IsNamed p.0.1.0 p.1) (λ p. name_tokens p.0 ++ named_tokens p.1) (λ p. old_tokens p.1)
-    (covers-with name_row NameFits name_tokens name-cover behind_name (λ n. IsNamed n.1.0) (λ _. named_tokens) (λ n h. named-cover n)) (λ p h. h) (λ p h. h) old-same)
-    IsCert old_tokens old-up (λ p. refl) old-from
+old-cover : (v : Version) (h : IsReadable v) → Covers (behind_title v) (IsCertIn v) old_tokens
+old-cover v h =
+    covers-made (λ (p : NameRow × CertTree). p.1) (with name_row (behind_name v)) (λ p. NameFits p.0 × IsNamed v p.0.1.0 p.1) (λ p. old_tokens p.1)
+    (covers-as (with name_row (behind_name v)) (λ p. NameFits p.0 × IsNamed v p.0.1.0 p.1) (λ p. NameFits p.0 × IsNamed v p.0.1.0 p.1) (λ p. name_tokens p.0 ++ named_tokens p.1) (λ p. old_tokens p.1)
+    (covers-with name_row NameFits name_tokens name-cover (behind_name v) (λ n. IsNamed v n.1.0) (λ _. named_tokens) (λ n fits. named-cover v h n)) (λ p h. h) (λ p h. h) (old-same v))
+    (IsCertIn v) old_tokens (old-up v) (λ p. refl) (old-from v)
 
 abbrev Title : Type 0
 Title = Unit {0} × (Unit {0} × Unit {0})
 
-pub cert-law : Covers cert_at IsCert cert_tokens
-cert-law = covers-made (λ (x : Title × CertTree). x.1) (pair title_row behind_title) _ _
-    (covers-with title_row (λ p. Always p.0 × (Always p.1.0 × Always p.1.1)) (λ _. cert_title_tokens) title-cover (λ _. behind_title) (λ _. IsCert) (λ _. old_tokens) (λ _ _. old-cover))
-    IsCert cert_tokens (λ x h. h.1) (λ x. refl) (λ c h. (((tt, (tt, tt)), c), refl, ((tt, (tt, tt)), h)))
+pub cert-law : (v : Version) (h : IsReadable v) → Covers (cert_at v) (IsCertIn v) cert_tokens
+cert-law v h = covers-made (λ (x : Title × CertTree). x.1) (pair title_row (behind_title v)) _ _
+    (covers-with title_row (λ p. Always p.0 × (Always p.1.0 × Always p.1.1)) (λ _. cert_title_tokens) title-cover (λ _. behind_title v) (λ _. IsCertIn v) (λ _. old_tokens) (λ _ _. old-cover v h))
+    (IsCertIn v) cert_tokens (λ x h. h.1) (λ x. refl) (λ c h. (((tt, (tt, tt)), c), refl, ((tt, (tt, tt)), h)))
 
 -- ---- what is written of certificates are tokens of a text
+
+pub false-le : (m n : ℕ) → nat_le m n ≡ false → n < m
+false-le m n h = grind (arith, nat_tests)
+
+-- a group with as many memories as another version takes
+pub with-memories : (v w : Version) (g : GroupTree) → IsGroupIn v g → (w.least_mems ≤ g.mems) × (g.mems ≤ w.most_mems) → IsGroupIn w g
+with-memories v w g h fits = record { name = h.name; registers = h.registers; memories = fits; code = h.code; bytes = h.bytes; defs = h.defs; some = h.some; few = h.few }
+
+old-tokens : (v : Version) → IsReadable v → (g : GroupTree) → IsGroupIn v g → AreTokens (group_tokens g)
+old-tokens v r g h = by (nat_le g.mems 1) refl
+  where
+    by : (b : Bool) → nat_le g.mems 1 ≡ b → AreTokens (group_tokens g)
+    by true e = group-tokens One g (with-memories v version_1 g h (omega arith, le-true g.mems 1 e))
+    by false e = group-tokens Four g (with-memories v version_4 g h (omega (arith, false-le g.mems 1 e), omega (arith, h.memories.1, r.few)))
 
 digit-atom : (k : ℕ) → k < 10 → is_atom_byte (48 + k) ≡ true
 digit-atom k h = grind (arith, nat_tests)
@@ -353,10 +378,10 @@ step-tokens : (r : Rw) → IsCertStep r → AreTokens (cert_step_tokens r)
 step-tokens r h =
     (word-atom (codes "rw") refl, (decimal-atom r.def (small r.def h.def), (decimal-atom r.term (small r.term h.term), (place-atom r.place h.place, (decimal-atom r.law (small r.law h.law), (tt, tt))))))
 
-pub cert-is-tokens : (c : CertTree) → IsCert c → AreTokens (cert_tokens c)
-cert-is-tokens c h =
+pub cert-is-tokens : (v : Version) → IsReadable v → (c : CertTree) → IsCertIn v c → AreTokens (cert_tokens c)
+cert-is-tokens v r c h =
     let end : AreTokens (flat_map def_tokens c.result ++ end_tokens) = tokens-append (flat_map def_tokens c.result) end_tokens (tokens-each def_tokens IsDef def-tokens c.result h.result) (word-atom (codes "end") refl, (tt, tt)) in
     let result : AreTokens (result_tokens ++ (flat_map def_tokens c.result ++ end_tokens)) = (word-atom (codes "result") refl, (tt, end)) in
     let steps : AreTokens (flat_map cert_step_tokens c.steps ++ (result_tokens ++ (flat_map def_tokens c.result ++ end_tokens))) =
     tokens-append (flat_map cert_step_tokens c.steps) (result_tokens ++ (flat_map def_tokens c.result ++ end_tokens)) (tokens-each cert_step_tokens IsCertStep step-tokens c.steps h.steps) result in
-    (word-atom (codes "mclaws") refl, (word-atom (codes "1") refl, (tt, tokens-append (group_tokens c.old) (flat_map cert_step_tokens c.steps ++ (result_tokens ++ (flat_map def_tokens c.result ++ end_tokens))) (group-tokens One c.old h.old) steps)))
+    (word-atom (codes "mclaws") refl, (word-atom (codes "1") refl, (tt, tokens-append (group_tokens c.old) (flat_map cert_step_tokens c.steps ++ (result_tokens ++ (flat_map def_tokens c.result ++ end_tokens))) (old-tokens v r c.old h.old) steps)))

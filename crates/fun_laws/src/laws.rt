@@ -3,7 +3,9 @@
 ghost use Rattle.std.specs.Prelude.{◌≡◌, ◌<◌, ◌^◌, ℕ, List};
 ghost use Rattle.mc_text.specs.Fault.{IsBadAt};
 ghost use Rattle.tailrec_lang.specs.Tree.{GroupTree};
-ghost use Rattle.group_text.specs.Limits.{IsGroup};
+ghost use Rattle.group_text.specs.declared.version.Version.{Version as Known};
+ghost use Rattle.group_text.specs.Limits.{IsGroupIn};
+ghost use Rattle.group_text.specs.Version.{version_of};
 ghost use Rattle.def_laws.specs.Certs.{IsCertOf};
 ghost use Rattle.fun_laws.specs.Limits.{IsCert, cert_texts};
 ghost use Rattle.fun_laws.specs.Spelling.{CertTree, cert_text, cert_tree};
@@ -12,9 +14,9 @@ ghost use Rattle.fun_laws.specs.inner.Numbers.{HaveNumbers};
 use def_laws::Cert;
 use term_laws::Rw;
 
-/// A certificate that is accepted of a group that has a text has one too: no law makes a term deeper.
+/// A certificate that is accepted of a group that has a text in some version has one too: no law makes a term deeper.
 pub fn law_of_limits(c: &Cert)
-    ensures { (g : GroupTree) → IsGroup g → IsCertOf g c.now → IsCert (cert_tree c.now) }
+    ensures { (k : Known) (g : GroupTree) → IsGroupIn (version_of k) g → IsCertOf g c.now → IsCert (cert_tree c.now) }
 {
     have_numbers(c.steps.as_slice());
 }

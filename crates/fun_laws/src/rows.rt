@@ -4,6 +4,7 @@ ghost use Rattle.std.specs.Prelude.{◌≤◌, map};
 ghost use Rattle.mc_text.specs.Reading.{star};
 ghost use Rattle.tailrec_lang.specs.Tree.{def_tree};
 ghost use Rattle.group_text.specs.inner.Rows.{RowsGive};
+ghost use Rattle.group_text.specs.Version.{version_of};
 ghost use Rattle.fun_laws.specs.Spelling.{cert_tree};
 ghost use Rattle.fun_laws.specs.inner.Reading.{behind_head, behind_name, behind_old, behind_title, cert_at, defs_to_end, is_step, result_at, step_at};
 ghost use Rattle.fun_laws.specs.inner.Views.{behind_view, defs_view, name_view, rest_view};
@@ -93,16 +94,17 @@ fn read_behind_name<E, R: Rows<E>>(
     alloc: Global,
     rows: &mut R,
     from: &mut E,
+    version: Version,
     name: Text,
 ) -> Result<Cert, ReadError>
-    ensures { RowsGive cert_tree result (R.May rows.old from.old) (R.May rows.new from.new) (behind_name (name_view name)) }
+    ensures { RowsGive cert_tree result (R.May rows.old from.old) (R.May rows.new from.new) (behind_name (version_of version) (name_view name)) }
 {
     let Head {
         name,
         regs,
         mems,
         code,
-    } = read_head(alloc, rows, from, Version::One, name)?;
+    } = read_head(alloc, rows, from, version, name)?;
     let (defs, (steps, result)) = read_behind_head(alloc, rows, from)?;
     let old = Group {
         name,
@@ -119,23 +121,25 @@ fn read_behind_title<E, R: Rows<E>>(
     alloc: Global,
     rows: &mut R,
     from: &mut E,
+    version: Version,
 ) -> Result<Cert, ReadError>
-    ensures { RowsGive cert_tree result (R.May rows.old from.old) (R.May rows.new from.new) behind_title }
+    ensures { RowsGive cert_tree result (R.May rows.old from.old) (R.May rows.new from.new) (behind_title (version_of version)) }
 {
     let name = next_row(alloc, rows, from, &NameRow)?;
-    let cert = read_behind_name(alloc, rows, from, name)?;
+    let cert = read_behind_name(alloc, rows, from, version, name)?;
     Ok(cert)
 }
 
-/// A certificate, up to the row that ends it.
+/// A certificate of a group of that version, up to the row that ends it.
 pub fn read_rows<E, R: Rows<E>>(
     alloc: Global,
     rows: &mut R,
     from: &mut E,
+    version: Version,
 ) -> Result<Cert, ReadError>
-    ensures { RowsGive cert_tree result (R.May rows.old from.old) (R.May rows.new from.new) cert_at }
+    ensures { RowsGive cert_tree result (R.May rows.old from.old) (R.May rows.new from.new) (cert_at (version_of version)) }
 {
     next_row(alloc, rows, from, &TitleRow)?;
-    let cert = read_behind_title(alloc, rows, from)?;
+    let cert = read_behind_title(alloc, rows, from, version)?;
     Ok(cert)
 }

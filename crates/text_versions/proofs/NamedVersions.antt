@@ -1,10 +1,8 @@
--- What the versions that are taken have in common.
-use Rattle.std.proofs.Common.{◌≡◌, ℕ, Bool, true, false, cond, List, ◌⊎◌, refl, subst, sym, arith}
-use Rattle.tailrec_lang.specs.Tree.{GroupTree}
+-- What a verdict says in the version that a text names.
+use Rattle.std.proofs.Common.{◌≡◌, ℕ, List, ◌⊎◌, subst, sym, arith}
 use Rattle.group_text.specs.declared.version.Version.{Version as Known}
 use Rattle.group_text.specs.declared.version.Version.TheVariants.{One, Three, Four}
 use Rattle.group_text.specs.Version.{version_of}
-use Rattle.group_text.specs.Limits.{IsGroup, IsGroupIn}
 use Rattle.proof_text.specs.Line.{ProofTree}
 use Rattle.proof_text.specs.Proofs.{groups_of}
 use Rattle.checker.specs.Headline.{Headline}
@@ -17,51 +15,28 @@ use Rattle.checker.proofs.SoundLemmas.{no_rule-keeps}
 use Rattle.further_rules.specs.Rules.{IsSteered}
 use Rattle.further_rules.proofs.SteerLemmas.{valid_steered}
 use Rattle.stack_split.proofs.CheckLemmas.{accepted-headline as split-headline}
-use Rattle.text_versions.specs.Versions.{SaysOf, evaluated_version, further_rule_of, has_title, named_version, version_for}
-
--- what is so of each version in which groups are evaluated is so of a text's
-of-each : (P : Known → Type 0) → P One → P Three → (text : List ℕ) → P (evaluated_version text)
-of-each P one three text = by (has_title Three text)
-  where
-    by : (b : Bool) → P (cond b Three One)
-    by true = three
-    by false = one
-
--- so a group of such a text is one of a text of version 1
-pub as-first : (text : List ℕ) (g : GroupTree) → IsGroupIn (version_for text) g → IsGroup g
-as-first text g =
-    of-each (λ (k : Known). IsGroupIn (version_of k) g → IsGroup g) (λ h. h)
-    (λ h. record { name = h.name; registers = h.registers; memories = h.memories; code = h.code; bytes = h.bytes; defs = h.defs; some = h.some; few = h.few })
-    text
-
--- a text that names version 3 is read in it
-pub three-evaluated : (text : List ℕ) → named_version text ≡ Three → Three ≡ evaluated_version text
-three-evaluated text = by (has_title Three text) (has_title Four text)
-  where
-    by : (b c : Bool) → cond b Three (cond c Four One) ≡ Three → Three ≡ cond b Three One
-    by true c e = refl
-    by false true e = absurd cc
-    by false false e = absurd cc
+use Rattle.path_walk.specs.Further.{further_of}
+use Rattle.text_versions.specs.Versions.{SaysOf, named_version}
 
 -- ---- a check in the version that a text names
 
 module _ (k : Known) (file text : List ℕ) (w : Verdict) (is : k ≡ named_version text) where
-  pub verdict-in : SaysBy (further_rule_of k) (version_of k) file text w → SaysOf file text w
-  verdict-in h = subst (λ (k : Known). SaysBy (further_rule_of k) (version_of k) file text w) is h
+  pub verdict-in : SaysBy (further_of k) (version_of k) file text w → SaysOf file text w
+  verdict-in h = subst (λ (k : Known). SaysBy (further_of k) (version_of k) file text w) is h
 
   pub headline-in : (IsAcceptance w → (ps : List ProofTree) → IsTextOfIn (version_of k) text ps → Headline file (groups_of ps))
       → IsAcceptance w → (ps : List ProofTree) → IsTextOfIn (version_of (named_version text)) text ps → Headline file (groups_of ps)
   headline-in h = subst (λ (k : Known). IsAcceptance w → (ps : List ProofTree) → IsTextOfIn (version_of k) text ps → Headline file (groups_of ps)) is h
 
-  pub exact-in : ((v : Verdict) → SaysBy (further_rule_of k) (version_of k) file text v → (w ≡ v) ⊎ (v ≡ verdict.NoMemory) ⊎ (w ≡ verdict.NoMemory))
+  pub exact-in : ((v : Verdict) → SaysBy (further_of k) (version_of k) file text v → (w ≡ v) ⊎ (v ≡ verdict.NoMemory) ⊎ (w ≡ verdict.NoMemory))
       → (v : Verdict) → SaysOf file text v → (w ≡ v) ⊎ (v ≡ verdict.NoMemory) ⊎ (w ≡ verdict.NoMemory)
-  exact-in h v says = h v (subst (λ (k : Known). SaysBy (further_rule_of k) (version_of k) file text v) (sym is) says)
+  exact-in h v says = h v (subst (λ (k : Known). SaysBy (further_of k) (version_of k) file text v) (sym is) says)
 
 -- what is accepted in the version that its first line names is right
 pub accepted-named : (file text : List ℕ) (w : Verdict) → SaysOf file text w → IsAcceptance w → (ps : List ProofTree) → IsTextOfIn (version_of (named_version text)) text ps → Headline file (groups_of ps)
 accepted-named file text w = by (named_version text)
   where
-    by : (k : Known) → SaysBy (further_rule_of k) (version_of k) file text w → IsAcceptance w → (ps : List ProofTree) → IsTextOfIn (version_of k) text ps → Headline file (groups_of ps)
+    by : (k : Known) → SaysBy (further_of k) (version_of k) file text w → IsAcceptance w → (ps : List ProofTree) → IsTextOfIn (version_of k) text ps → Headline file (groups_of ps)
     by One says = accepted-headline no_rule no_rule-keeps One (omega arith) file text w says
     by Three says = accepted-headline IsSteered valid_steered Three (omega arith) file text w says
     by Four says = split-headline file text w says

@@ -8,9 +8,8 @@ use Rattle.group_text.specs.declared.version.Version.TheVariants.{One, Three, Fo
 use Rattle.group_text.specs.Version.{Version, version_of}
 use Rattle.group_text.specs.Spelling.{title_tokens}
 use Rattle.checker.specs.declared.verdict.Verdict.{Verdict}
-use Rattle.checker.specs.Instance.{FurtherRule, no_rule}
 use Rattle.checker.specs.Verdicts.{SaysBy}
-use Rattle.further_rules.specs.Rules.{IsExchanged, IsSteered}
+use Rattle.path_walk.specs.Further.{further_of}
 
 -- whether a text begins with the first line of that version
 abbrev pub has_title : Known → List ℕ → Bool
@@ -20,21 +19,9 @@ has_title known text = starts_with nat_eq text (spell Start (title_tokens (versi
 abbrev pub named_version : List ℕ → Known
 named_version text = if has_title Three text then Three else if has_title Four text then Four else One
 
--- the further rule by which lines of that version may state a triple
-abbrev pub further_rule_of : Known → FurtherRule
-further_rule_of One = no_rule
-further_rule_of Three = IsSteered
-further_rule_of Four = IsExchanged
+abbrev pub version_for : List ℕ → Version
+version_for text = version_of (named_version text)
 
 -- what a verdict says of a text, in the version that its first line names
 abbrev pub SaysOf : (file text : List ℕ) → Verdict → Type 0
-SaysOf file text v = SaysBy (further_rule_of (named_version text)) (version_of (named_version text)) file text v
-
--- ---- evaluation, which has one memory at most
-
--- The version in which the groups of a text are evaluated: to evaluation a text of version 4 is none, from its first line on.
-abbrev pub evaluated_version : List ℕ → Known
-evaluated_version text = if has_title Three text then Three else One
-
-abbrev pub version_for : List ℕ → Version
-version_for text = version_of (evaluated_version text)
+SaysOf file text v = SaysBy (further_of (named_version text)) (version_for text) file text v

@@ -2,7 +2,7 @@
 
 ghost use Rattle.std.specs.Prelude.{◌≡◌, []};
 ghost use Rattle.proof_text.specs.FirstProofs.{HasGiven};
-ghost use Rattle.text_versions.specs.Versions.{evaluated_version, named_version};
+ghost use Rattle.text_versions.specs.Versions.{named_version};
 
 use proof_text::{Reader, Version};
 
@@ -19,15 +19,15 @@ pub fn named_version(text: &[u8]) -> Version
     }
 }
 
-/// Stands before the first line of a text, to read groups that are evaluated: in the version that it names, but for version
-/// 4, since evaluation has one memory at most.
+/// Stands before the first line of a text, to read it in the version that this line names.
 pub fn reader_of(text: &[u8]) -> Reader<'_>
     ensures text { result.text ≡ text.now }
-    ensures version { result.version ≡ evaluated_version text.now }
+    ensures version { result.version ≡ named_version text.now }
     ensures given { HasGiven [] result }
 {
     match named_version(text) {
+        Version::One => Reader::new(text),
         Version::Three => Reader::newer(text, 3),
-        Version::One | Version::Four => Reader::new(text),
+        Version::Four => Reader::newer(text, 4),
     }
 }

@@ -6,7 +6,7 @@ use Rattle.mc_text.specs.Reading.{Reader, pair, with, made, one, atom_of, star}
 use Rattle.mc_text.specs.inner.Reading.{eol, word, number_at}
 use Rattle.tailrec_lang.specs.Tree.{DefTree}
 use Rattle.group_text.specs.inner.Reading.{Head, name_of, group_of, mark_row, own_defs}
-use Rattle.group_text.specs.Version.{version_1}
+use Rattle.group_text.specs.Version.{Version}
 use Rattle.group_text.specs.inner.GroupRows.{more_head}
 use Rattle.term_laws.specs.declared.step.Rw.{Rw}
 use Rattle.fun_laws.specs.Spelling.{CertTree}
@@ -85,11 +85,12 @@ behind_head = pair own_defs behind_old
 abbrev pub cert_of : Head × (List DefTree × Rest) → CertTree
 cert_of x = record { old = group_of x.0 x.1.0; steps = x.1.1.0; result = x.1.1.1 }
 
-abbrev pub behind_name : NameRow → Reader CertTree
-behind_name n = made cert_of (pair (more_head version_1 n.1.0) behind_head)
+abbrev pub behind_name : Version → NameRow → Reader CertTree
+behind_name v n = made cert_of (pair (more_head v n.1.0) behind_head)
 
-abbrev pub behind_title : Reader CertTree
-behind_title = made (λ x. x.1) (with name_row behind_name)
+abbrev pub behind_title : Version → Reader CertTree
+behind_title v = made (λ x. x.1) (with name_row (behind_name v))
 
-abbrev pub cert_at : Reader CertTree
-cert_at = made (λ x. x.1) (pair title_row behind_title)
+-- a certificate of a group of that version
+abbrev pub cert_at : Version → Reader CertTree
+cert_at v = made (λ x. x.1) (pair title_row (behind_title v))

@@ -5,4 +5,4 @@ use Rattle.fun_laws.proofs.CertFits.{accepted_fits}
 use Rattle.fun_laws.proofs.laws.law_of_limits.Goals as goal
 
 pub returns : goal.returns
-returns c = λ g h a. accepted_fits g c.args.c.now (subst (λ (rs : Items Rw). HaveNumbers rs) c.as_slice.ensures c.have_numbers.ensures) h a
+returns c = λ k g h a. accepted_fits g c.args.c.now (subst (λ (rs : Items Rw). HaveNumbers rs) c.as_slice.ensures c.have_numbers.ensures) k h a

@@ -1,6 +1,11 @@
 use Rattle.std.proofs.Common.{refl, sym, ◌∙◌}
-use Rattle.text_versions.proofs.NamedVersions.{three-evaluated}
 use Rattle.text_versions.proofs.title.reader_of.Goals as goal
 
+pub returns-in-One-clause-version : goal.returns-in-One-clause-version
+returns-in-One-clause-version c = c.new.ensures.version ∙ sym (sym c.named_version.ensures ∙ c.in-One.is)
+
 pub returns-in-Three-clause-version : goal.returns-in-Three-clause-version
-returns-in-Three-clause-version c = c.newer.ensures.three refl ∙ three-evaluated c.args.text.now (sym c.named_version.ensures ∙ c.in-Three.is)
+returns-in-Three-clause-version c = c.newer.ensures.three refl ∙ sym (sym c.named_version.ensures ∙ c.in-Three.is)
+
+pub returns-in-Four-clause-version : goal.returns-in-Four-clause-version
+returns-in-Four-clause-version c = c.newer-in-Four.ensures.four refl ∙ sym (sym c.named_version.ensures ∙ c.in-Four.is)
