@@ -25,8 +25,11 @@ use Rattle.flow_graph.specs.declared.outside.Outside.TheVariants as outside
 use Rattle.loop_forest.specs.Cycles.{last_of}
 use Rattle.call_graph.specs.declared.fault.LinkWhy.{LinkWhy}
 use Rattle.call_graph.specs.declared.fault.LinkWhy.TheVariants as link
+use Rattle.mcdec_words.specs.Command.{memory_name}
+use Rattle.mcdec_words.specs.declared.command.Memory.{Memory}
+use Rattle.mcdec_words.specs.declared.command.Memory.TheVariants.{First, Second}
 use Rattle.mcdec_words.specs.declared.command.Form.{Form}
-use Rattle.mcdec_words.specs.declared.command.Form.TheVariants.{Alone, Linked}
+use Rattle.mcdec_words.specs.declared.command.Form.TheVariants.{Alone, Linked, Split}
 use Rattle.mcdec_answers.specs.declared.answer.DecompileAnswer.{DecompileAnswer}
 use Rattle.mcdec_answers.specs.declared.answer.DecompileAnswer.TheVariants as decompile
 use Rattle.mcdec_answers.specs.declared.answer.Listed.{Listed}
@@ -49,17 +52,21 @@ abbrev pub register_lines : List ℕ → List ℕ → List ℕ
 register_lines (r ∷ rs) (w ∷ ws) = register_line r w ++ register_lines rs ws
 register_lines _ _ = []
 
--- mem A H
-abbrev pub memory_line : Range → List ℕ
-memory_line r = codes "mem " ++ hex r.at ++ codes " " ++ encode_lower r.bytes ++ codes "\n"
+-- mem A H · stk A H
+abbrev pub range_line : Memory → Range → List ℕ
+range_line m r = memory_name m ++ codes " " ++ hex r.at ++ codes " " ++ encode_lower r.bytes ++ codes "\n"
+
+-- those of each memory
+abbrev pub memory_lines : (memory stack : List Range) → List ℕ
+memory_lines memory stack = flat_map (range_line First) memory ++ flat_map (range_line Second) stack
 
 -- done T or met K, and pc A
 abbrev pub count_lines : List ℕ → ℕ → ℕ → List ℕ
 count_lines word count pc = word ++ decimal count ++ codes "\npc " ++ hex pc ++ codes "\n"
 
--- these, and the lines of registers and of memory
+-- these, and the lines of registers and of memories
 abbrev pub shown_lines : List ℕ → Shown → List ℕ
-shown_lines word s = count_lines word s.count s.pc ++ register_lines s.registers s.words ++ flat_map memory_line s.memory
+shown_lines word s = count_lines word s.count s.pc ++ register_lines s.registers s.words ++ memory_lines s.memory s.stack
 
 -- why there is no step
 abbrev pub stuck_words : Stuck → List ℕ
@@ -114,8 +121,9 @@ link_words (link.Recursive a) = codes "recursive " ++ hex a
 abbrev pub done_word : Form → List ℕ
 done_word Alone = codes "decompiled "
 done_word Linked = codes "linked "
+done_word Split = codes "split "
 
--- decompiled NAME A I D · linked NAME A I D
+-- decompiled NAME A I D · linked NAME A I D · split NAME A I D
 abbrev pub listed_line : Form → Listed → List ℕ
 listed_line form l = done_word form ++ l.name ++ codes " " ++ hex l.entry ++ codes " " ++ decimal l.reached ++ codes " " ++ decimal l.defs ++ codes "\n"
 
@@ -160,7 +168,7 @@ check_printed check.ElfOverLimit = (7, codes "over limit elf\n")
 check_printed check.ProofOverLimit = (7, codes "over limit proof\n")
 check_printed (check.Judged v) = verdict_printed v
 
--- the status and the lines of what `decompile` and `link` come to
+-- the status and the lines of what `decompile`, `link` and `split` come to
 abbrev pub decompile_printed : DecompileAnswer → ℕ × List ℕ
 decompile_printed decompile.OverLimit = (7, codes "over limit elf\n")
 decompile_printed (decompile.Unreadable why) = (3, codes "unreadable elf " ++ fault_words why ++ codes "\n")

@@ -25,7 +25,7 @@ pub enum Answer {
     Run(RunAnswer),
     /// What the command `check` comes to.
     Check(CheckAnswer),
-    /// What the commands `decompile` and `link` come to.
+    /// What the commands `decompile`, `link` and `split` come to.
     Decompile(DecompileAnswer),
     /// What the command `selftest` comes to.
     SelfTest(SelfTestAnswer),
@@ -86,7 +86,7 @@ pub enum CheckAnswer {
     Judged(Verdict),
 }
 
-/// What the commands `decompile` and `link` come to.
+/// What the commands `decompile`, `link` and `split` come to.
 #[derive(Debug, Drop)]
 pub enum DecompileAnswer {
     /// The ELF file has more bytes than are read.
@@ -95,7 +95,7 @@ pub enum DecompileAnswer {
     Unreadable(ElfFault),
     /// This name is outside the fragment.
     Refused(Text, LinkWhy),
-    /// The text was written, with a function for each of these names, by itself or with those that it calls.
+    /// The text was written, with a function for each of these names, in that form.
     Decompiled(Form, List<Listed>),
 }
 
@@ -186,4 +186,6 @@ pub struct Shown {
     /// The word of each of these registers.
     pub words: List<u64>,
     pub memory: List<Range>,
+    /// Of the second memory, where there is one.
+    pub stack: List<Range>,
 }

@@ -1,7 +1,7 @@
 //! Printing an answer into a sink, piece by piece. It takes no memory.
 
 ghost use Rattle.std.specs.Prelude.{◌≡◌, ◌⊎◌, ◌≤◌, flat_map, max, min, codes, ◌++◌};
-ghost use Rattle.mcdec_answers.specs.Printed.{check_printed, count_lines, decompile_printed, done_word, eval_printed, fault_words, laws_printed, link_words, listed_line, memory_line, name_words, outside_words, printed, register_line, register_lines, run_printed, self_test_line, shown_lines, simplify_printed, smt_printed, status, stuck_words, verdict_printed, IsDelivered};
+ghost use Rattle.mcdec_answers.specs.Printed.{check_printed, count_lines, decompile_printed, done_word, eval_printed, fault_words, laws_printed, link_words, listed_line, memory_lines, name_words, outside_words, printed, range_line, register_line, register_lines, run_printed, self_test_line, shown_lines, simplify_printed, smt_printed, status, stuck_words, verdict_printed, IsDelivered};
 ghost use Rattle.std.specs.Fmt.{decimal};
 ghost use Rattle.hex.specs.Hex.{encode_lower};
 ghost use Rattle.loop_forest.specs.Cycles.{last_of};
@@ -20,7 +20,7 @@ use flow_graph::Outside;
 use itoa::Buffer;
 use mc_shelf::{Sink, Stop};
 use mc_text::{digit_pair, hex_into};
-use mcdec_words::Form;
+use mcdec_words::{Form, Memory};
 use rv_machine::Stuck;
 use rv_words::{List as Items, Range};
 
@@ -363,6 +363,7 @@ fn done_word(form: Form) -> &'static [u8]
     match form {
         Form::Alone => b"decompiled ",
         Form::Linked => b"linked ",
+        Form::Split => b"split ",
     }
 }
 
@@ -626,6 +627,7 @@ fn put_shown<O: Sink>(out: &mut O, word: &[u8], shown: &Shown) -> Result<(), Sto
         shown.registers.as_slice(),
         shown.words.as_slice(),
         shown.memory.as_slice(),
+        shown.stack.as_slice(),
     )
 }
 
@@ -637,31 +639,41 @@ fn put_end<O: Sink>(
     registers: &[u8],
     words: &[u64],
     memory: &[Range],
+    stack: &[Range],
 ) -> Result<(), Stop>
-    ensures { Prints result (count_lines word.now count pc ++ register_lines registers.now words.now ++ flat_map memory_line memory.now) (O.written out.old) (O.written out.new) (O.faults out.old) (O.faults out.new) }
+    ensures { Prints result (count_lines word.now count pc ++ register_lines registers.now words.now ++ memory_lines memory.now stack.now) (O.written out.old) (O.written out.new) (O.faults out.old) (O.faults out.new) }
 {
     put_count(out, word, count, pc)?;
     put_registers(out, registers, words)?;
-    put_memory(out, memory)
+    put_memories(out, memory, stack)
 }
 
-/// The lines of ranges of memory.
-fn put_memory<O: Sink>(out: &mut O, memory: &[Range]) -> Result<(), Stop>
-    ensures { Prints result (flat_map memory_line memory.now) (O.written out.old) (O.written out.new) (O.faults out.old) (O.faults out.new) }
+/// The lines of the ranges of each memory.
+fn put_memories<O: Sink>(out: &mut O, memory: &[Range], stack: &[Range]) -> Result<(), Stop>
+    ensures { Prints result (memory_lines memory.now stack.now) (O.written out.old) (O.written out.new) (O.faults out.old) (O.faults out.new) }
 {
-    for range in memory {
-        put_range(out, range)?;
+    put_ranges(out, Memory::First, memory)?;
+    put_ranges(out, Memory::Second, stack)
+}
+
+/// The lines of ranges of a memory.
+fn put_ranges<O: Sink>(out: &mut O, memory: Memory, ranges: &[Range]) -> Result<(), Stop>
+    ensures { Prints result (flat_map (range_line memory) ranges.now) (O.written out.old) (O.written out.new) (O.faults out.old) (O.faults out.new) }
+{
+    for range in ranges {
+        put_range(out, memory, range)?;
     }
     Ok(())
 }
 
-fn put_range<O: Sink>(out: &mut O, range: &Range) -> Result<(), Stop>
-    ensures { Prints result (memory_line range.now) (O.written out.old) (O.written out.new) (O.faults out.old) (O.faults out.new) }
+fn put_range<O: Sink>(out: &mut O, memory: Memory, range: &Range) -> Result<(), Stop>
+    ensures { Prints result (range_line memory range.now) (O.written out.old) (O.written out.new) (O.faults out.old) (O.faults out.new) }
 {
     put_all(
         out,
         &[
-            Piece::Text(b"mem "),
+            Piece::Text(memory.name().as_bytes()),
+            Piece::Text(b" "),
             Piece::Hex(range.at),
             Piece::Text(b" "),
             Piece::Bytes(range.bytes.as_slice()),

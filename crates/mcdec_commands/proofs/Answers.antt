@@ -1,10 +1,10 @@
 -- What is answered is what the words and the files give, and nothing else.
-use Rattle.std.proofs.Common.{◌≡◌, ◌≢◌, ℕ, Bool, true, false, cond, ◌+◌, ◌-◌, ◌<◌, ◌≤◌, List, [], ◌∷◌, length, map, replicate, Option, Some, None, Result, Ok, Err, refl, sym, ap, subst, ◌∙◌, arith}
-use Rattle.std.specs.Prelude.{IfOk, IfSome, IsSomeAnd, bytes_eq}
+use Rattle.std.proofs.Common.{◌≡◌, ◌≢◌, ℕ, Bool, true, false, cond, ◌+◌, ◌-◌, ◌<◌, ◌≤◌, List, [], ◌∷◌, length, map, Option, Some, None, Result, Ok, Err, refl, sym, ap, subst, ◌∙◌, arith}
+use Rattle.std.specs.Prelude.{IfOk, IfSome, IsSomeAnd, bytes_eq, slice_get}
 use Rattle.std.specs.List.{AllByRecursion}
 use Rattle.std.specs.Ordering.{nat_cmp}
 use Rattle.std.specs.FinMap.{FinMap, get}
-use Rattle.std.proofs.lemmas.List.{length-map, length-replicate}
+use Rattle.std.proofs.lemmas.List.{length-map, length-take}
 use Rattle.rv_words.specs.Bytes.{Bytes}
 use Rattle.rv_words.specs.declared.memory.NoMemory.{NoMemory}
 use Rattle.mc_shelf.specs.Shelf.{Contents, TellsName}
@@ -14,18 +14,20 @@ use Rattle.tailrec_lang.specs.Tree.{GroupTree, group_tree, def_tree, listed_def}
 use Rattle.tailrec_lang.specs.WellFormed.{IsWellFormed}
 use Rattle.tailrec_lang.specs.Eval.{Arguments, Outcome, Done, HasFewNeeds, eval}
 use Rattle.tailrec_lang.specs.Registers.{AreRegistersFrom}
-use Rattle.group_text.specs.Limits.{IsGroup}
+use Rattle.group_text.specs.declared.version.Version.{Version as Known}
+use Rattle.group_text.specs.declared.version.Version.TheVariants.{One, Three, Four}
+use Rattle.group_text.specs.Version.{version_of}
 use Rattle.proof_text.specs.Line.{ProofTree}
 use Rattle.proof_text.specs.Proofs.{AreProofsIn, groups_of}
-use Rattle.text_versions.specs.Versions.{version_for}
-use Rattle.text_versions.proofs.NamedVersions.{as-first}
+use Rattle.text_versions.specs.Versions.{named_version}
 use Rattle.mcdec_answers.specs.declared.answer.EvalAnswer.{EvalAnswer}
 use Rattle.mcdec_answers.specs.declared.answer.EvalAnswer.TheVariants as answer
 use Rattle.mcdec_words.specs.Command.{Eval, Run, Arg, Given, Words, value_of, givens, ranges}
+use Rattle.mcdec_words.specs.declared.command.Memory.TheVariants.{First, Second}
 use Rattle.mcdec_words.specs.CommandReading.{Holds, HoldsArgs, value_in}
 use Rattle.mcdec_commands.specs.Memory.{no_bytes, placed}
-use Rattle.mcdec_commands.specs.EvalAnswer.{proof_limit, arguments_given, first_named, ranges_in, EvalGives}
-use Rattle.mcdec_commands.specs.inner.Search.{Finds, GroupGives}
+use Rattle.mcdec_commands.specs.EvalAnswer.{proof_limit, arguments_given, first_named, memories_given, ranges_in, EvalGives}
+use Rattle.mcdec_commands.specs.inner.Search.{Finds, GroupGives, HasText}
 use Rattle.mcdec_commands.specs.Answer.{ReadsAreTold}
 use Rattle.mcdec_commands.specs.Held.{HoldsWith}
 
@@ -41,39 +43,45 @@ values-same gs values h least (r ∷ rs) are = rw (value-same gs values h r (ome
 -- ---- groups
 
 -- the last definition's number
-pub last-def : (g : Group) → IsGroup (group_tree g) → (n : ℕ) → n ≡ length g.defs → (1 ≤ n) × (n ≤ 4096) × (n - 1 ≡ listed_def (group_tree g))
-last-def g is n len = let same = length-map g.defs def_tree in (omega (arith, len, same, is.some), omega (arith, len, same, is.few), omega (arith, len, same))
+pub last-def : (g : Group) → HasText (group_tree g) → (n : ℕ) → n ≡ length g.defs → (1 ≤ n) × (n ≤ 4096) × (n - 1 ≡ listed_def (group_tree g))
+last-def g is n len = let same = length-map g.defs def_tree in (omega (arith, len, same, is.1.some), omega (arith, len, same, is.1.few), omega (arith, len, same))
 
-pub last-there : (g : Group) → IsGroup (group_tree g) → (n : ℕ) → n ≡ length g.defs → n - 1 < length g.defs
-last-there g is n len = let same = length-map g.defs def_tree in omega (arith, len, same, is.some)
+-- a group that has a text has two memories at most
+pub two-memories : (g : GroupTree) → HasText g → g.mems ≤ 2
+two-memories g (One, is) = omega (arith, is.memories.1)
+two-memories g (Three, is) = omega (arith, is.memories.1)
+two-memories g (Four, is) = is.memories.1
 
 pub words-there : (values : List (Option ℕ)) (rs ws : List ℕ) → ws ≡ map (value_in values) rs → length ws ≡ length rs
 words-there values rs ws e = ap length e ∙ length-map rs (value_in values)
 
-pub mems-there : (maps : List (FinMap nat_cmp ℕ)) (n : ℕ) (m : Bytes) → map get maps ≡ replicate n m → length maps ≡ n
-mems-there maps n m e = sym (length-map maps get) ∙ ap length e ∙ length-replicate {A = Bytes} n m
+pub mems-there : (maps : List (FinMap nat_cmp ℕ)) (n : ℕ) (memory stack : List Range) → n ≤ 2 → map get maps ≡ memories_given n memory stack → length maps ≡ n
+mems-there maps n memory stack few e =
+    let two : length (memories_given 2 memory stack) ≡ 2 = refl in
+    sym (length-map maps get) ∙ ap length e ∙ length-take n (placed memory no_bytes ∷ placed stack no_bytes ∷ []) ∙ omega (arith, few)
 
-module _ (g : GroupTree) (is : IsGroup g) (args : List Arg) (values : List (Option ℕ)) (memory : List Range) (h : HoldsArgs args values memory)
-    (x : Arguments) (words : x.words ≡ map (value_in values) g.regs) (mems : x.mems ≡ replicate g.mems (placed memory no_bytes)) where
+module _ (g : GroupTree) (is : HasText g) (args : List Arg) (values : List (Option ℕ)) (memory stack : List Range) (h : HoldsArgs args values memory stack)
+    (x : Arguments) (words : x.words ≡ map (value_in values) g.regs) (mems : x.mems ≡ memories_given g.mems memory stack) where
   arguments-same : x ≡ arguments_given args g
   arguments-same =
-      let ms : x.mems ≡ replicate g.mems (placed (ranges args) no_bytes) = mems ∙ ap (λ (rs : List Range). replicate g.mems (placed rs no_bytes)) h.1 in
-      λ i. record { words = (words ∙ values-same (givens args) values h.0 1 g.regs is.registers) i; mems = ms i }
+      let ms : x.mems ≡ memories_given g.mems (ranges First args) (ranges Second args) = mems ∙ (λ i. memories_given g.mems (h.1 i) (h.2 i)) in
+      λ i. record { words = (words ∙ values-same (givens args) values h.0 1 g.regs is.1.registers) i; mems = ms i }
 
   pub listed-outcome : (def : ℕ) → def ≡ listed_def g → (turns : ℕ) (o : Outcome) → o ≡ eval g def x turns → eval g (listed_def g) (arguments_given args g) turns ≡ o
   listed-outcome def last turns o e = sym (e ∙ ap (λ (d : ℕ). eval g d x turns) last ∙ ap (λ (y : Arguments). eval g (listed_def g) y turns) arguments-same)
 
   pub evaluated : (def : ℕ) → def ≡ listed_def g → (turns exit pc left : ℕ) (results : Arguments) → Done exit pc results left ≡ eval g def x turns
-      → (shown : List Range) → shown ≡ ranges_in results.mems memory
-      → GroupGives g turns args (answer.Done (record { count = turns - left; pc = pc; registers = g.regs; words = results.words; memory = shown }))
-  evaluated def last turns exit pc left results e shown is-shown =
-      let all : shown ≡ ranges_in results.mems (ranges args) = is-shown ∙ ap (ranges_in results.mems) h.1 in (
+      → (shown : List Range) → shown ≡ ranges_in (slice_get results.mems 0) memory → (behind : List Range) → behind ≡ ranges_in (slice_get results.mems 1) stack
+      → GroupGives g turns args (answer.Done (record { count = turns - left; pc = pc; registers = g.regs; words = results.words; memory = shown; stack = behind }))
+  evaluated def last turns exit pc left results e shown is-shown behind is-behind =
+      let all : shown ≡ ranges_in (slice_get results.mems 0) (ranges First args) = is-shown ∙ ap (ranges_in (slice_get results.mems 0)) h.1 in
+      let others : behind ≡ ranges_in (slice_get results.mems 1) (ranges Second args) = is-behind ∙ ap (ranges_in (slice_get results.mems 1)) h.2 in (
         exit,
         pc,
         left,
         results,
         listed-outcome def last turns (Done exit pc results left) e,
-        λ i. record { count = turns - left; pc = pc; registers = g.regs; words = results.words; memory = all i },
+        λ i. record { count = turns - left; pc = pc; registers = g.regs; words = results.words; memory = all i; stack = others i },
       )
 
 -- ---- texts
@@ -102,15 +110,15 @@ all-first F name (x ∷ gs) g e h = here (bytes_eq x.name name) e (λ k. all-fir
     here true e behind = let same : x ≡ g = cc in subst F same h.0
     here false e behind = behind e
 
--- groups of proofs that have a text in some version that is taken have one of version 1 too
-groups-fit : (text : List ℕ) (ps : List ProofTree) → AreProofsIn (version_for text) ps → AllByRecursion IsGroup (groups_of ps)
-groups-fit text [] h = tt
-groups-fit text (p ∷ ps) h = (as-first text p.group h.0.group, groups-fit text ps h.1)
+-- the groups of proofs that have a text
+groups-fit : (k : Known) (ps : List ProofTree) → AreProofsIn (version_of k) ps → AllByRecursion HasText (groups_of ps)
+groups-fit k [] h = tt
+groups-fit k (p ∷ ps) h = ((k, h.0.group), groups-fit k ps h.1)
 
-pub found-fits : (text name : List ℕ) (g : Group) → Finds text name (Ok g) → IsGroup (group_tree g) × IsWellFormed (group_tree g) × HasFewNeeds (group_tree g)
+pub found-fits : (text name : List ℕ) (g : Group) → Finds text name (Ok g) → HasText (group_tree g) × IsWellFormed (group_tree g) × HasFewNeeds (group_tree g)
 found-fits text name g f =
     let n = f.0 in (
-      all-first IsGroup name (groups_of n.proofs) (group_tree g) n.first (groups-fit text n.proofs n.spelled.fit),
+      all-first HasText name (groups_of n.proofs) (group_tree g) n.first (groups-fit (named_version text) n.proofs n.spelled.fit),
       all-first IsWellFormed name (groups_of n.proofs) (group_tree g) n.first n.well_formed,
       f.1,
     )

@@ -9,6 +9,7 @@ use Rattle.rv_machine.specs.State.{State}
 use Rattle.rv_machine.specs.Step.{step}
 use Rattle.rv_machine.specs.Run.{run}
 use Rattle.rv_machine.proofs.StepLemmas.{step-present}
+use Rattle.mcdec_words.specs.declared.command.Memory.TheVariants.{First}
 use Rattle.mcdec_words.specs.Command.{Arg, ranges}
 use Rattle.mcdec_commands.specs.Memory.{placed}
 use Rattle.mcdec_commands.specs.RunAnswer.{state_given}
@@ -67,7 +68,7 @@ still-there m n same [] all = tt
 still-there m n same (r ∷ rs) all = ((λ k lt. same (r.at + k) ∙ all.0 k lt), still-there m n same rs all.1)
 
 -- no byte of the lines of memory is one that is absent
-pub asked-present : (file : List ℕ) (args : List Arg) (a k : ℕ) (t : State) → run (state_given file args a) k ≡ Some t → AllByRecursion (IsPresent t.mem) (ranges args)
+pub asked-present : (file : List ℕ) (args : List Arg) (a k : ℕ) (t : State) → run (state_given file args a) k ≡ Some t → AllByRecursion (IsPresent t.mem) (ranges First args)
 asked-present file args a k t e =
     let s = state_given file args a in
-    still-there s.mem t.mem (run-present k s t e) (ranges args) (placed-has (ranges args) _)
+    still-there s.mem t.mem (run-present k s t e) (ranges First args) (placed-has (ranges First args) _)

@@ -1,4 +1,4 @@
--- What is answered to the command `decompile`, and what its output file holds then.
+-- What is answered to the commands `decompile`, `link` and `split`, and what its output file holds then.
 use Rattle.std.proofs.Common.{◌≡◌, ℕ, zero, suc, ◌<◌, ◌≤◌, min, get_or, List, [], ◌∷◌, ◌++◌, length, take, Option, Some, None, refl, sym, ap, subst, ◌∙◌, inl, inr, arith}
 use Rattle.std.specs.Prelude.{IfSome}
 use Rattle.mc_shelf.specs.Shelf.{Contents, TellsName}
@@ -7,11 +7,8 @@ use Rattle.group_text.specs.Version.{Version}
 use Rattle.proof_text.specs.Proofs.{AreProofsIn, text_of_proofs_in}
 use Rattle.path_walk.specs.declared.item.Item.{Item}
 use Rattle.path_walk.specs.declared.proof.Proof.{Proof}
-use Rattle.flow_graph.specs.declared.outside.Outside.{Outside}
-use Rattle.call_graph.specs.declared.fault.LinkWhy.TheVariants as link
-use Rattle.decompiler.specs.Listing.{IsRefused, proofs_of}
+use Rattle.decompiler.specs.Listing.{proofs_of}
 use Rattle.mcdec_words.specs.declared.command.Form.{Form}
-use Rattle.mcdec_words.specs.declared.command.Form.TheVariants.{Alone}
 use Rattle.checker.specs.declared.verdict.Verdict.TheVariants as ve
 use Rattle.mcdec_answers.specs.declared.answer.Answer.{Answer}
 use Rattle.mcdec_answers.specs.declared.answer.Answer.TheVariants as answer
@@ -25,7 +22,7 @@ use Rattle.mcdec_answers.specs.declared.answer.SmtAnswer.TheVariants as sm
 use Rattle.mcdec_answers.specs.declared.answer.Listed.{Listed}
 use Rattle.mcdec_words.specs.Command.{Command, Decompile, Words, output_of}
 use Rattle.mcdec_commands.specs.RunAnswer.{IsLoaded}
-use Rattle.mcdec_commands.specs.DecompileAnswer.{AreItemsIn, DecompileGives, IsRefusedIn, IsTextFor, all_listed, listed_of, version_in}
+use Rattle.mcdec_commands.specs.DecompileAnswer.{AreItemsIn, DecompileGives, IsTextFor, all_listed, listed_of, version_in}
 use Rattle.mcdec_commands.specs.Answer.{Gives, ReadsAreTold}
 use Rattle.mcdec_answers.specs.Printed.{status}
 use Rattle.mcdec_commands.specs.inner.Decompiling.{FileGives}
@@ -61,10 +58,6 @@ file-gives told ws form elf out names file rose wrote w held (answer.Decompile a
 pub text-for : (form : Form) (elf : List ℕ) (names : List (List ℕ)) (file : List ℕ) → IsLoaded file → (p : Proof) → AreItemsIn form file names p → (text : List ℕ) → text ≡ text_of_proofs_in (version_in form) (proofs_of p)
     → (files : Contents) → files elf ≡ Some file → IsTextFor form files elf names text
 text-for form elf names file loaded p items text is files holds = record { file = file; holds = holds; loaded = loaded; proof = p; items = items; spelled = is }
-
--- a name that is refused for a function by itself
-pub alone-refused : (file : List ℕ) (names : List (List ℕ)) (n : ℕ) (why : Outside) → IsRefused file names n why → IsRefusedIn Alone file names n (link.Outside why)
-alone-refused file names n why r = record { name = r.name; at = r.at; first = r.first; before = r.before }
 
 -- what is answered of it
 pub proof-told : (form : Form) (file : List ℕ) (names : List (List ℕ)) → IsLoaded file → (p : Proof) → AreItemsIn form file names p → (listed : List Listed) → listed ≡ all_listed names p.items → (a : Answer)

@@ -9,7 +9,8 @@ use Rattle.tailrec_lang.specs.WellFormed.{IsWellFormed, IsFirstIllFormed}
 use Rattle.tailrec_lang.specs.Eval.{Done, SideFalse, Turns, NoOutcome, Outcome, eval}
 use Rattle.proof_text.specs.Line.{ProofTree}
 use Rattle.proof_text.specs.Proofs.{bare, groups_of, texts_of_proofs_in}
-use Rattle.text_versions.specs.Versions.{SaysOf, evaluated_version, further_rule_of, named_version, version_for}
+use Rattle.path_walk.specs.Further.{further_of}
+use Rattle.text_versions.specs.Versions.{SaysOf, named_version, version_for}
 use Rattle.text_versions.proofs.NamedVersions.{accepted-named}
 use Rattle.mcdec_answers.specs.declared.answer.Answer.{Answer}
 use Rattle.mcdec_answers.specs.declared.answer.Answer.TheVariants as answer
@@ -26,7 +27,6 @@ use Rattle.mcdec_commands.specs.CheckAnswer.{CheckGives, AreRightFiles}
 use Rattle.mcdec_commands.specs.Listed.{without_proofs}
 use Rattle.path_walk.specs.declared.item.Item.{Item}
 use Rattle.mcdec_words.specs.declared.command.Form.{Form}
-use Rattle.mcdec_words.specs.declared.command.Form.TheVariants.{Alone, Linked}
 use Rattle.call_graph.specs.declared.fault.LinkWhy.{LinkWhy}
 use Rattle.mcdec_answers.specs.declared.answer.DecompileAnswer.{DecompileAnswer}
 use Rattle.mcdec_answers.specs.declared.answer.DecompileAnswer.TheVariants as de
@@ -46,7 +46,7 @@ use Rattle.def_laws.specs.Certs.{IsFirstBad}
 use Rattle.def_laws.proofs.OneResult.{no_result, one_first_bad, one_result}
 use Rattle.fun_laws.specs.Limits.{cert_texts}
 use Rattle.fun_laws.specs.Spelling.{CertTree}
-use Rattle.mcdec_commands.proofs.Judging.{cert-once}
+use Rattle.fun_laws.proofs.Whole.{certs-once}
 use Rattle.mcdec_commands.specs.Held.{HoldsWith}
 use Rattle.mcdec_commands.specs.SimplifyAnswer.{IsRefusal, SimplifyGives}
 use Rattle.mcdec_commands.specs.LawsAnswer.{IsCertText, LawsGives, TextsGive, cert_limit, step_line}
@@ -67,7 +67,7 @@ use Rattle.mcdec_commands.specs.inner.Search.{GroupGives}
 use Rattle.mcdec_commands.specs.Answer.{Gives, IsDetermined}
 use Rattle.mcdec_answers.specs.Printed.{IsPrinted, IsDelivered, status}
 use Rattle.mcdec_words.proofs.OneCommand.{words-unique}
-use Rattle.mcdec_words.proofs.CommandNames.{name_of, named-words, other-name}
+use Rattle.mcdec_words.proofs.CommandNames.{name_of, named-words, not-a-form, other-name}
 use Rattle.mc_text.proofs.FaultOnce.{bad-once}
 use Rattle.proof_text.proofs.Fronts.{fronts, text-front}
 use Rattle.proof_text.proofs.ProofTexts.{proofs-once}
@@ -190,7 +190,7 @@ module _ {A : Type 0} (unreadable : ℕ → A) (ill_formed : ℕ → ℕ → A) 
 
   bad-defs : (p : List ℕ) (a b : A) → BadDef ill_formed p a → BadDef ill_formed p b → a ≡ b
   bad-defs p a b (n, c, (ps, g, read, well, count, first), is) (m, d, (qs, h, read', well', count', first'), is') =
-      elim (fronts (evaluated_version p) p (ps ++ bare g ∷ []) (qs ++ bare h ∷ []) read read') [
+      elim (fronts (named_version p) p (ps ++ bare g ∷ []) (qs ++ bare h ∷ []) read read') [
         | inl m ↦
             let f = groups-front (ps ++ bare g ∷ []) (qs ++ bare h ∷ []) m in
             let r = same-last (groups_of qs) (groups_of ps) f.0 h g (begin-alike ps qs g h f.0 f.1) d first' well in
@@ -211,7 +211,7 @@ module _ {A : Type 0} (unreadable : ℕ → A) (ill_formed : ℕ → ℕ → A) 
 
   def-or-good : (p : List ℕ) (a b : A) → BadDef ill_formed p a → GoodText Says p b → ⊥
   def-or-good p a b (n, c, (ps, g, read, well, count, first), is) (qs, text, fine, said) =
-      let f = groups-front qs (ps ++ bare g ∷ []) (text-front (evaluated_version p) p qs (ps ++ bare g ∷ []) text.fit text.spelled read) in
+      let f = groups-front qs (ps ++ bare g ∷ []) (text-front (named_version p) p qs (ps ++ bare g ∷ []) text.fit text.spelled read) in
       not-front (groups_of ps) g c f.0 (groups_of qs) first (f.1 ∙ ap (λ (gs : List GroupTree). gs ++ f.0) (groups-more ps (bare g))) fine
 
   bad-or-good : (p : List ℕ) (a b : A) → BadText unreadable p a → GoodText Says p b → ⊥
@@ -227,7 +227,7 @@ module _ {A : Type 0} (unreadable : ℕ → A) (ill_formed : ℕ → ℕ → A) 
   text-once p a b once (inr (inr h)) (inl k) = absurd (bad-or-good p b a k h)
   text-once p a b once (inr (inr h)) (inr (inl k)) = absurd (def-or-good p b a k h)
   text-once p a b once (inr (inr (ps, text, fine, said))) (inr (inr (qs, other, well, says))) =
-      let same : ps ≡ qs = proofs-once (evaluated_version p) ps qs text.fit other.fit (sym text.spelled ∙ other.spelled) in
+      let same : ps ≡ qs = proofs-once (named_version p) ps qs text.fit other.fit (sym text.spelled ∙ other.spelled) in
       says-once (groups_of qs) a b once (subst (λ (xs : List ProofTree). Says (groups_of xs) a) same said) says
 
 -- ---- files
@@ -342,7 +342,7 @@ judged-unique file text a b (inl h) (inl k) = h.1 ∙ sym k.1
 judged-unique file text a b (inl h) (inr k) = absurd (over (length text) proof_limit h.0 k.0)
 judged-unique file text a b (inr h) (inl k) = absurd (over (length text) proof_limit k.0 h.0)
 judged-unique file text a b (inr (short, (v, some, says, is))) (inr (less, (w, other, said, this))) =
-    is ∙ ap ca.Judged (verdict-once (further_rule_of (named_version text)) (named_version text) file text v w some other says said) ∙ sym this
+    is ∙ ap ca.Judged (verdict-once (further_of (named_version text)) (named_version text) file text v w some other says said) ∙ sym this
 
 abbrev TextHeld : Contents → List ℕ → List ℕ → CheckAnswer → Type 0
 TextHeld files proof file a = (text : List ℕ) × (files proof ≡ Some text) × JudgedCase file text a
@@ -508,7 +508,7 @@ laws-once text gs a b once (inl (n, h, is)) (inl (m, k, this)) = is ∙ ap la.Un
 laws-once text gs a b once (inl (n, h, is)) (inr (c, k, more)) = absurd (not-bad cert_texts text n h (cert-there text c k))
 laws-once text gs a b once (inr (c, h, more)) (inl (m, k, this)) = absurd (not-bad cert_texts text m k (cert-there text c h))
 laws-once text gs a b once (inr (c, h, more)) (inr (d, k, others)) =
-    let same : c ≡ d = cert-once c d h.0 k.0 (sym h.1 ∙ k.1) in
+    let same : c ≡ d = certs-once c d h.0 k.0 (sym h.1 ∙ k.1) in
     cert-says-once (first_named d.old.name gs) d a b (subst (λ (x : CertTree). CertSays (first_named x.old.name gs) x a) same more) others
 
 abbrev TextsCase : List ℕ → List ℕ → LawsAnswer → Type 0
@@ -815,8 +815,7 @@ answered files ws rose wrote (answer.Run x) elf proof (f, s, u, k, args, v, h) w
 answered files ws rose wrote (answer.Check x) elf proof (elf', proof', v, (file, holds, h)) w e =
     let same = same-words elf proof elf' proof' (check-words ws (Check elf' proof') elf proof v w).1 in
     status-zero files elf proof file x (ap files (sym same.0) ∙ holds) (subst (λ (p : List ℕ). CheckGives (Some files) p file x) same.1 h) e
-answered files ws rose wrote (answer.Decompile x) elf proof (Alone, f, o, names, v, h) w e = absurd (other-name (codes "decompile") (codes "check") refl (check-words ws (Decompile Alone f o names) elf proof v w).0)
-answered files ws rose wrote (answer.Decompile x) elf proof (Linked, f, o, names, v, h) w e = absurd (other-name (codes "link") (codes "check") refl (check-words ws (Decompile Linked f o names) elf proof v w).0)
+answered files ws rose wrote (answer.Decompile x) elf proof (form, f, o, names, v, h) w e = absurd (not-a-form (codes "check") refl refl refl form (sym (check-words ws (Decompile form f o names) elf proof v w).0))
 answered files ws rose wrote (answer.SelfTest x) elf proof (n, s, v, h) w e = absurd (other-name (codes "selftest") (codes "check") refl (check-words ws (SelfTest n s) elf proof v w).0)
 answered files ws rose wrote (answer.Simplify x) elf proof (p, n, o, v, h) w e = absurd (other-name (codes "simplify") (codes "check") refl (check-words ws (Simplify p n o) elf proof v w).0)
 answered files ws rose wrote (answer.Laws x) elf proof (p, c, v, h) w e = absurd (other-name (codes "laws") (codes "check") refl (check-words ws (Laws p c) elf proof v w).0)

@@ -4,12 +4,8 @@ use Rattle.std.specs.Prelude.{IfSome}
 use Rattle.std.proofs.lemmas.Bool.{ne_eqb}
 use Rattle.std.proofs.lemmas.List.{take_all, take_more}
 use Rattle.mc_shelf.specs.Shelf.{Contents, TellsName}
-use Rattle.mc_text.specs.Tokens.{Done}
-use Rattle.mc_text.specs.declared.token.Before.TheVariants.{Start}
-use Rattle.mc_text.specs.Scanning.{lex, At}
 use Rattle.mc_text.specs.Fault.{IsBadAt, newlines}
-use Rattle.mc_text.proofs.ReaderLaws.{ok-value}
-use Rattle.mc_text.proofs.FaultLine.{newlines-append, text-read}
+use Rattle.mc_text.proofs.FaultLine.{newlines-append}
 use Rattle.tailrec_lang.specs.declared.group.Group.{Group}
 use Rattle.tailrec_lang.specs.Tree.{GroupTree, def_tree, group_tree}
 use Rattle.def_laws.specs.declared.cert.Cert.{Cert}
@@ -17,10 +13,8 @@ use Rattle.def_laws.specs.declared.judge.CertFault.TheVariants as fault
 use Rattle.def_laws.specs.Certs.{IsCertFault, IsCertOf, IsFirstBad}
 use Rattle.def_laws.specs.Rewriting.{AreRewritingSteps}
 use Rattle.def_laws.specs.Evaluation.{EvaluateAlike}
-use Rattle.fun_laws.specs.Limits.{IsCert, cert_texts}
-use Rattle.fun_laws.specs.Spelling.{CertTree, cert_text, cert_tokens, cert_tree}
-use Rattle.fun_laws.specs.inner.Reading.{cert_at}
-use Rattle.fun_laws.proofs.CertLaws.{cert-is-tokens, cert-law}
+use Rattle.fun_laws.specs.Limits.{cert_texts}
+use Rattle.fun_laws.specs.Spelling.{cert_tree}
 use Rattle.mcdec_answers.specs.declared.answer.Answer.{Answer}
 use Rattle.mcdec_answers.specs.declared.answer.Answer.TheVariants as answer
 use Rattle.mcdec_answers.specs.declared.answer.LawsAnswer.{LawsAnswer}
@@ -34,13 +28,6 @@ use Rattle.mcdec_commands.specs.inner.Judging.{CertGives}
 use Rattle.mcdec_commands.specs.inner.Search.{Finds}
 use Rattle.mcdec_commands.proofs.Answers.{held-with}
 use Rattle.mcdec_commands.proofs.Checking.{two-files}
-
--- a text is that of one certificate
-pub cert-once : (c d : CertTree) → IsCert c → IsCert d → cert_text c ≡ cert_text d → c ≡ d
-cert-once c d a b e =
-    let same : Ok (c, Done ∷ []) ≡ Ok (d, Done ∷ []) =
-    sym (text-read cert_at IsCert cert_tokens cert-law cert-is-tokens c a) ∙ ap (λ (v : List ℕ). cert_at (lex v (At Start))) e ∙ text-read cert_at IsCert cert_tokens cert-law cert-is-tokens d b in
-    ok-value c d (Done ∷ []) (Done ∷ []) same
 
 -- ---- the files that it reads
 

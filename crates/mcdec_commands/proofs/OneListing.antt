@@ -1,4 +1,4 @@
--- A file and names have one answer of `decompile` and of `link` at most, but for how two entries are shown.
+-- A file and names have one answer of `decompile`, of `link` and of `split` at most, but for how two entries are shown.
 use Rattle.std.proofs.Common.{◌≡◌, ℕ, zero, suc, ◌+◌, ◌<◌, ◌≤◌, nat_eq, ne_eqb, List, [], ◌∷◌, length, length-append, get_or, Some, Result, Ok, Err, false, eqb, refl, sym, ap, subst, ◌∙◌, ◌⊎◌, inl, inr, arith}
 use Rattle.std.specs.Prelude.{slice_get, unwrap_or}
 use Rattle.std.specs.List.{AllZip, Contains, flat_map, range_with_len}
@@ -29,7 +29,7 @@ use Rattle.loop_forest.proofs.OneForest.{one_head}
 use Rattle.path_walk.specs.declared.item.Item.{Item}
 use Rattle.code_parts.proofs.Lists.{here, later}
 use Rattle.decompiler.specs.Names.{StandsFor}
-use Rattle.decompiler.specs.Faults.{IsFirst, Missing, Doubled, InCode, InCycle, InLoop}
+use Rattle.decompiler.specs.Faults.{IsFirst, IsInFragment, Missing, Doubled, InCode, InCycle, InLoop}
 use Rattle.decompiler.specs.Listing.{HasDefs, IsDefOf, IsItemFor}
 use Rattle.call_graph.specs.Causes.{HasOneForm, IsCause}
 use Rattle.call_graph.specs.declared.fault.LinkWhy.{LinkWhy}
@@ -38,11 +38,12 @@ use Rattle.call_graph.proofs.OneCause.{one_cause}
 use Rattle.call_link.specs.Faults.{IsLinkFirst}
 use Rattle.call_link.specs.Faults as link_first
 use Rattle.mcdec_words.specs.declared.command.Form.{Form}
-use Rattle.mcdec_words.specs.declared.command.Form.TheVariants.{Alone, Linked}
+use Rattle.mcdec_words.specs.declared.command.Form.TheVariants.{Alone, Linked, Split}
 use Rattle.call_graph.specs.Functions.{AreFunctions}
 use Rattle.call_graph.specs.declared.function.Function.{Function}
 use Rattle.call_link.specs.Listing.{HaveDefs}
-use Rattle.mcdec_commands.specs.DecompileAnswer.{IsFaultIn, IsItemIn, IsRefusedIn, all_listed, listed_of}
+use Rattle.stack_split.specs.Listing.{IsSplitItemFor}
+use Rattle.mcdec_commands.specs.DecompileAnswer.{IsFaultAlone, IsFaultIn, IsItemIn, IsRefusedIn, all_listed, listed_of}
 use Rattle.mcdec_commands.proofs.Weighing.{AreWeighed, one-total, sizes-once, total}
 
 -- ---- what a name stands for
@@ -143,14 +144,30 @@ defs-long g ds es h k =
 
 -- ---- what is told of an item
 
-listed-once : (file name : List ℕ) (i j : Item) → IsItemFor file name i → IsItemFor file name j → listed_of name i ≡ listed_of name j
+-- what an item of a function by itself tells, whatever its memories
+record Tells (file name : List ℕ) (i : Item) : Type 0 where
+  entry : ℕ
+  stands : StandsFor file name (Ok entry)
+  graph : GraphOf
+  reach : IsGraphOf false (code_of_file file) entry graph
+  reached : i.reached ≡ length graph.addrs
+  entered : entry_at (group_tree i.group) (listed_def (group_tree i.group)) ≡ Some entry
+  defs : HasDefs graph (group_tree i.group).defs
+
+alone-tells : (file name : List ℕ) (i : Item) → IsItemFor file name i → Tells file name i
+alone-tells file name i h = record { entry = h.entry; stands = h.stands; graph = h.graph; reach = h.reach; reached = h.reached; entered = h.lists.entry; defs = h.lists.defs }
+
+split-tells : (file name : List ℕ) (i : Item) → IsSplitItemFor file name i → Tells file name i
+split-tells file name i h = record { entry = h.entry; stands = h.stands; graph = h.graph; reach = h.reach; reached = h.reached; entered = h.lists.entry; defs = h.lists.defs }
+
+listed-once : (file name : List ℕ) (i j : Item) → Tells file name i → Tells file name j → listed_of name i ≡ listed_of name j
 listed-once file name i j h k =
     let e : h.entry ≡ k.entry = same-value file name h.entry k.entry h.stands k.stands in
     let g : h.graph ≡ k.graph = one_graph false (code_of_file file) k.entry h.graph k.graph (subst (λ a. IsGraphOf false (code_of_file file) a h.graph) e h.reach) k.reach in
-    let entry : entry_at (group_tree i.group) (listed_def (group_tree i.group)) ≡ entry_at (group_tree j.group) (listed_def (group_tree j.group)) = h.lists.entry ∙ ap Some e ∙ sym k.lists.entry in
+    let entry : entry_at (group_tree i.group) (listed_def (group_tree i.group)) ≡ entry_at (group_tree j.group) (listed_def (group_tree j.group)) = h.entered ∙ ap Some e ∙ sym k.entered in
     let reached : i.reached ≡ j.reached = h.reached ∙ ap (λ (x : GraphOf). length x.addrs) g ∙ sym k.reached in
     let defs : length (group_tree i.group).defs ≡ length (group_tree j.group).defs =
-    defs-long k.graph (group_tree i.group).defs (group_tree j.group).defs (subst (λ (x : GraphOf). HasDefs x (group_tree i.group).defs) g h.lists.defs) k.lists.defs in
+    defs-long k.graph (group_tree i.group).defs (group_tree j.group).defs (subst (λ (x : GraphOf). HasDefs x (group_tree i.group).defs) g h.defs) k.defs in
     λ t. record { name = name; entry = unwrap_or (entry t) 0; reached = reached t; defs = defs t }
 
 -- ---- faults
@@ -203,7 +220,7 @@ cases-once file name why other u (inr h) (inr k) =
 first-once : (file name : List ℕ) (why other : Outside) → HasOneForm (link.Outside other) → IsFirst file name why → IsFirst file name other → why ≡ other
 first-once file name why other u h k = cases-once file name why other u (first-case file name why h) (first-case file name other k)
 
--- ---- functions by themselves, or with those that they call
+-- ---- functions by themselves, with those that they call, or with a memory for the stack
 
 abbrev LinkCase : List ℕ → List ℕ → LinkWhy → Type 0
 LinkCase file name why = ((f : NameFault) × StandsFor file name (Err f) × (why ≡ link.Outside (of_name f))) ⊎ ((e : ℕ) × StandsFor file name (Ok e) × IsCause (code_of_file file) e why)
@@ -221,16 +238,24 @@ links-once file name why other u (inr h) (inr k) =
     let e : h.0 ≡ k.0 = same-value file name h.0 k.0 h.1 k.1 in
     one_cause (code_of_file file) k.0 why other u (subst (λ a. IsCause (code_of_file file) a why) e h.2) k.2
 
+alone-once : (file name : List ℕ) (why other : LinkWhy) → HasOneForm other → IsFaultAlone file name why → IsFaultAlone file name other → why ≡ other
+alone-once file name (link.Outside why) (link.Outside other) u h k = ap link.Outside (first-once file name why other u h k)
+alone-once file name (link.Outside why) (link.Recursive b) u h k = absurd k
+alone-once file name (link.Recursive a) other u h k = absurd h
+
 fault-once : (form : Form) (file name : List ℕ) (why other : LinkWhy) → HasOneForm other → IsFaultIn form file name why → IsFaultIn form file name other → why ≡ other
-fault-once Alone file name (link.Outside why) (link.Outside other) u h k = ap link.Outside (first-once file name why other u h k)
-fault-once Alone file name (link.Outside why) (link.Recursive b) u h k = absurd k
-fault-once Alone file name (link.Recursive a) other u h k = absurd h
+fault-once Alone file name why other u h k = alone-once file name why other u h k
 fault-once Linked file name why other u h k = links-once file name why other u (link-case file name why h) (link-case file name other k)
+fault-once Split file name why other u h k = alone-once file name why other u h k
+
+no-fault : (file name : List ℕ) → IsInFragment file name → (why : LinkWhy) → IsFaultAlone file name why → ⊥
+no-fault file name inside (link.Outside why) f = inside why f
+no-fault file name inside (link.Recursive a) f = absurd f
 
 item-inside : (form : Form) (file name : List ℕ) (i : Item) → IsItemIn form file name i → (why : LinkWhy) → IsFaultIn form file name why → ⊥
-item-inside Alone file name i h (link.Outside why) f = h.inside why f
-item-inside Alone file name i h (link.Recursive a) f = absurd f
+item-inside Alone file name i h why f = no-fault file name h.inside why f
 item-inside Linked file name i h why f = h.inside why f
+item-inside Split file name i h why f = no-fault file name h.inside why f
 
 -- definitions of functions, as many as each has behind its entry
 abbrev counted : List Function → List (List DefTree) → List (ℕ × ℕ)
@@ -262,7 +287,8 @@ linked-defs-long code e fs gs ds es are too h k =
     ∙ sym (count-all gs k.rows k.each) ∙ sym (ap length k.all)
 
 told-once : (form : Form) (file name : List ℕ) (i j : Item) → IsItemIn form file name i → IsItemIn form file name j → listed_of name i ≡ listed_of name j
-told-once Alone file name i j h k = listed-once file name i j h k
+told-once Alone file name i j h k = listed-once file name i j (alone-tells file name i h) (alone-tells file name j k)
+told-once Split file name i j h k = listed-once file name i j (split-tells file name i h) (split-tells file name j k)
 told-once Linked file name i j h k =
     let code = code_of_file file in
     let e : h.entry ≡ k.entry = same-value file name h.entry k.entry h.stands k.stands in

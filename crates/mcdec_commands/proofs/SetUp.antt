@@ -22,6 +22,7 @@ use Rattle.rv_machine.specs.declared.running.RunEnd.TheVariants as end
 use Rattle.mcdec_answers.specs.declared.answer.RunAnswer.{RunAnswer}
 use Rattle.mcdec_answers.specs.declared.answer.RunAnswer.TheVariants as answer
 use Rattle.mcdec_answers.specs.declared.answer.Shown.{Shown}
+use Rattle.mcdec_words.specs.declared.command.Memory.TheVariants.{First}
 use Rattle.mcdec_words.specs.Command.{Arg, Given, AreGiven, given_to, value_of, givens, ranges}
 use Rattle.mcdec_words.specs.CommandReading.{Holds, given_in, value_in}
 use Rattle.mcdec_commands.specs.Memory.{placed, held_at}
@@ -182,12 +183,12 @@ held-all m r k bytes e is = λ i. record { at = r.at; bytes = (is ∙ (λ j. map
 
 -- ---- the whole state
 
-pub begun : (file : List ℕ) (args : List Arg) (a : ℕ) (pieces : List Piece) (memory : List Range) (s t v u : State) → bytes_in pieces ≡ memory_of_file file → memory ≡ ranges args → s ≡ empty_state a
+pub begun : (file : List ℕ) (args : List Arg) (a : ℕ) (pieces : List Piece) (memory : List Range) (s t v u : State) → bytes_in pieces ≡ memory_of_file file → memory ≡ ranges First args → s ≡ empty_state a
     → t ≡ with_bytes (bytes_in pieces) s → v ≡ record t { mem = placed memory t.mem } → ((v.reg ≡ (λ r. 0)) → u ≡ record v { reg = value_of (givens args) }) → u ≡ state_given file args a
 begun file args a pieces memory s t v u bytes same empty put over_it set =
     let loaded : t ≡ with_bytes (memory_of_file file) (empty_state a) = put ∙ (λ i. with_bytes (bytes i) (empty i)) in
-    let here : v ≡ record { pc = a; reg = λ r. 0; mem = placed (ranges args) (memory_of_file file) } =
-    over_it ∙ (λ i. with_placed (same i) (loaded i)) ∙ (λ i. record { pc = a; reg = λ r. 0; mem = placed (ranges args) (λ q. or-none (memory_of_file file q) i) }) in
+    let here : v ≡ record { pc = a; reg = λ r. 0; mem = placed (ranges First args) (memory_of_file file) } =
+    over_it ∙ (λ i. with_placed (same i) (loaded i)) ∙ (λ i. record { pc = a; reg = λ r. 0; mem = placed (ranges First args) (λ q. or-none (memory_of_file file q) i) }) in
     set (ap (λ (x : State). x.reg) here) ∙ ap (λ (x : State). record x { reg = value_of (givens args) }) here
   where
     or-none : (o : Option ℕ) → option_or o None ≡ o
@@ -247,7 +248,7 @@ not-shown o w e z = λ i. e i || not (eqb (z i) 0)
 -- ---- the answer
 
 abbrev shown_of : ℕ → ℕ → List ℕ → List ℕ → List Range → Shown
-shown_of k pc rs ws memory = record { count = k; pc = pc; registers = rs; words = ws; memory = memory }
+shown_of k pc rs ws memory = record { count = k; pc = pc; registers = rs; words = ws; memory = memory; stack = [] }
 
 -- all registers were looked at
 pub shown-all : (values : List (Option ℕ)) (t : State) (rs ws : List ℕ) (n : ℕ) → n ≡ 32 → HaveShown values t rs ws n → (gs : List Given) → Holds gs values → (k pc : ℕ) (memory : List Range) → pc ≡ t.pc
@@ -258,7 +259,7 @@ shown-all values t rs ws n e before gs h k pc memory p =
     λ i. shown_of k (p i) (all i) ((b.1 ∙ ap (map t.reg) all) i) memory
 
 module _ (until steps : ℕ) (args : List Arg) (s begun t : State) (same : s ≡ begun) where
-  pub met-given : (shown : Shown) (k : ℕ) (memory asked : List Range) → EndsIn until steps s t (end.Met k) → asked ≡ ranges args → memory ≡ map (held_at t.mem) asked
+  pub met-given : (shown : Shown) (k : ℕ) (memory asked : List Range) → EndsIn until steps s t (end.Met k) → asked ≡ ranges First args → memory ≡ map (held_at t.mem) asked
       → shown ≡ shown_with (givens args) k t memory → MachineGives until steps args begun (answer.Met shown)
   met-given shown k memory asked ends m held is =
       let all = held ∙ ap (map (held_at t.mem)) m in

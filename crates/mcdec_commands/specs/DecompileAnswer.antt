@@ -1,14 +1,14 @@
--- When each answer to `decompile` and `link` comes, and what text they write.
+-- When each answer to `decompile`, `link` and `split` comes, and what text they write.
 use Rattle.std.specs.Prelude.{◌≡◌, ℕ, ◌<◌, ◌≤◌, List, [], ◌∷◌, length, slice_get, Some, unwrap_or}
 use Rattle.std.specs.List.{AllZip}
 use Rattle.mc_shelf.specs.Shelf.{Contents}
 use Rattle.elf_image.specs.Fault.{fault_of}
 use Rattle.call_graph.specs.Causes.{HasOneForm}
 use Rattle.tailrec_lang.specs.Tree.{group_tree, listed_def}
-use Rattle.group_text.specs.Version.{Version, version_1, version_3}
+use Rattle.group_text.specs.Version.{Version, version_1, version_3, version_4}
 use Rattle.proof_text.specs.Proofs.{text_of_proofs_in}
 use Rattle.mcdec_words.specs.declared.command.Form.{Form}
-use Rattle.mcdec_words.specs.declared.command.Form.TheVariants.{Alone, Linked}
+use Rattle.mcdec_words.specs.declared.command.Form.TheVariants.{Alone, Linked, Split}
 use Rattle.call_graph.specs.declared.fault.LinkWhy.{LinkWhy}
 use Rattle.call_graph.specs.declared.fault.LinkWhy.TheVariants as link
 use Rattle.checker.specs.Headline.{entry_at}
@@ -18,6 +18,7 @@ use Rattle.decompiler.specs.Faults.{IsFirst}
 use Rattle.decompiler.specs.Listing.{IsFirstWith, IsItemFor, proofs_of}
 use Rattle.call_link.specs.Faults.{IsLinkFirst}
 use Rattle.call_link.specs.Listing.{IsLinkedItemFor}
+use Rattle.stack_split.specs.Listing.{IsSplitItemFor}
 use Rattle.mcdec_answers.specs.declared.answer.DecompileAnswer.{DecompileAnswer}
 use Rattle.mcdec_answers.specs.declared.answer.DecompileAnswer.TheVariants as answer
 use Rattle.mcdec_answers.specs.declared.answer.Listed.{Listed}
@@ -38,21 +39,27 @@ all_listed [] items = []
 all_listed (name ∷ names) [] = []
 all_listed (name ∷ names) (item ∷ items) = listed_of name item ∷ all_listed names items
 
--- ---- functions by themselves, or with those that they call
+-- ---- functions by themselves, with those that they call, or with a memory for the stack
 
 -- the item of a name
 abbrev pub IsItemIn : Form → (file name : List ℕ) → Item → Type 0
 IsItemIn Alone file name item = IsItemFor file name item
 IsItemIn Linked file name item = IsLinkedItemFor file name item
+IsItemIn Split file name item = IsSplitItemFor file name item
 
 abbrev pub AreItemsIn : Form → (file : List ℕ) (names : List (List ℕ)) → Proof → Type 0
 AreItemsIn form file names p = AllZip (IsItemIn form file) names p.items
 
+-- the first fault of a name, where its function stands by itself
+abbrev pub IsFaultAlone : (file name : List ℕ) → LinkWhy → Type 0
+IsFaultAlone file name (link.Outside why) = IsFirst file name why
+IsFaultAlone file name (link.Recursive a) = ⊥
+
 -- the first fault of a name
 abbrev pub IsFaultIn : Form → (file name : List ℕ) → LinkWhy → Type 0
-IsFaultIn Alone file name (link.Outside why) = IsFirst file name why
-IsFaultIn Alone file name (link.Recursive a) = ⊥
+IsFaultIn Alone file name why = IsFaultAlone file name why
 IsFaultIn Linked file name why = IsLinkFirst file name why
+IsFaultIn Split file name why = IsFaultAlone file name why
 
 -- the first of the names with a fault
 abbrev pub IsRefusedIn : Form → (file : List ℕ) (names : List (List ℕ)) → ℕ → LinkWhy → Type 0
@@ -62,6 +69,7 @@ IsRefusedIn form file names number why = IsFirstWith LinkWhy (IsFaultIn form fil
 abbrev pub version_in : Form → Version
 version_in Alone = version_1
 version_in Linked = version_3
+version_in Split = version_4
 
 -- What the command comes to, where the ELF file has these bytes.
 abbrev pub DecompileGives : Form → (file : List ℕ) (names : List (List ℕ)) → DecompileAnswer → Type 0

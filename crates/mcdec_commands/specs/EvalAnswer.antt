@@ -1,5 +1,5 @@
 -- When each answer to `eval` comes.
-use Rattle.std.specs.Prelude.{◌≡◌, ℕ, ◌-◌, ◌<◌, ◌≤◌, List, [], ◌∷◌, ◌++◌, Option, Some, None, bytes_eq, find, length, map, replicate}
+use Rattle.std.specs.Prelude.{◌≡◌, ℕ, ◌-◌, ◌<◌, ◌≤◌, List, [], ◌∷◌, ◌++◌, Option, Some, None, bytes_eq, find, length, map, slice_get, take}
 use Rattle.std.specs.List.{AllByRecursion}
 use Rattle.rv_words.specs.Bytes.{Bytes}
 use Rattle.mc_text.specs.Fault.{IsBadAt}
@@ -16,6 +16,7 @@ use Rattle.text_versions.specs.Versions.{version_for}
 use Rattle.mcdec_answers.specs.declared.answer.EvalAnswer.{EvalAnswer}
 use Rattle.mcdec_answers.specs.declared.answer.EvalAnswer.TheVariants as answer
 use Rattle.mcdec_answers.specs.declared.answer.Shown.{Shown}
+use Rattle.mcdec_words.specs.declared.command.Memory.TheVariants.{First, Second}
 use Rattle.mcdec_words.specs.Command.{Arg, value_of, givens, ranges}
 use Rattle.mcdec_commands.specs.Memory.{no_bytes, placed, held_at}
 
@@ -23,20 +24,30 @@ use Rattle.mcdec_commands.specs.Memory.{no_bytes, placed, held_at}
 abbrev pub proof_limit : ℕ
 proof_limit = 268435456
 
--- the value of each register of the group, 0 where it is given none, and, where the group has a memory, the words' bytes
--- in an empty one
-abbrev pub arguments_given : List Arg → GroupTree → Arguments
-arguments_given args g = record { words = map (value_of (givens args)) g.regs; mems = replicate g.mems (placed (ranges args) no_bytes) }
+-- so many memories, each with the bytes of its words in an empty one
+abbrev pub memories_given : ℕ → (memory stack : List Range) → List Bytes
+memories_given n memory stack = take n (placed memory no_bytes ∷ placed stack no_bytes ∷ [])
 
--- the words' ranges with the bytes that a group's memory has there, if it has one
-abbrev pub ranges_in : List Bytes → List Range → List Range
-ranges_in [] rs = []
-ranges_in (m ∷ ms) rs = map (held_at m) rs
+-- the value of each register of the group, 0 where it is given none, and the bytes of its memories
+abbrev pub arguments_given : List Arg → GroupTree → Arguments
+arguments_given args g = record { words = map (value_of (givens args)) g.regs; mems = memories_given g.mems (ranges First args) (ranges Second args) }
+
+-- ranges with the bytes that a memory has there; none where there is no such memory
+abbrev pub ranges_in : Option Bytes → List Range → List Range
+ranges_in None rs = []
+ranges_in (Some m) rs = map (held_at m) rs
 
 -- what is shown of an evaluation that is done
 abbrev pub shown_of : GroupTree → List Arg → (used pc : ℕ) → Arguments → Shown
 shown_of g args used pc results =
-    record { count = used; pc = pc; registers = g.regs; words = results.words; memory = ranges_in results.mems (ranges args) }
+    record {
+      count = used;
+      pc = pc;
+      registers = g.regs;
+      words = results.words;
+      memory = ranges_in (slice_get results.mems 0) (ranges First args);
+      stack = ranges_in (slice_get results.mems 1) (ranges Second args);
+    }
 
 -- the first group of the name, if there is one
 abbrev pub first_named : List ℕ → List GroupTree → Option GroupTree

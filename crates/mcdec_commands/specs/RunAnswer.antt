@@ -1,5 +1,5 @@
 -- When each answer to `run` comes.
-use Rattle.std.specs.Prelude.{◌≡◌, ℕ, ◌<◌, ◌≤◌, ◌==◌, Bool, not, ◌||◌, List, length, map, filter, is_some, Some, Ok, Err}
+use Rattle.std.specs.Prelude.{◌≡◌, ℕ, ◌<◌, ◌≤◌, ◌==◌, Bool, not, ◌||◌, List, [], length, map, filter, is_some, Some, Ok, Err}
 use Rattle.std.specs.List.{range_with_len}
 use Rattle.elf_image.specs.Fault.{IsReadable, fault_of}
 use Rattle.elf_image.specs.Image.{memory_of_file}
@@ -11,6 +11,7 @@ use Rattle.rv_machine.specs.declared.running.RunEnd.TheVariants as end
 use Rattle.mcdec_answers.specs.declared.answer.RunAnswer.{RunAnswer}
 use Rattle.mcdec_answers.specs.declared.answer.RunAnswer.TheVariants as answer
 use Rattle.mcdec_answers.specs.declared.answer.Shown.{Shown}
+use Rattle.mcdec_words.specs.declared.command.Memory.TheVariants.{First}
 use Rattle.mcdec_words.specs.Command.{Arg, Given, given_to, value_of, givens, ranges}
 use Rattle.mcdec_commands.specs.Memory.{placed, held_at}
 
@@ -21,7 +22,7 @@ elf_limit = 67108864
 -- the state at an address: in memory the file's bytes and the words' ranges over them, and in each register the value that it
 -- is given, or 0
 abbrev pub state_given : List ℕ → List Arg → ℕ → State
-state_given file args a = record { pc = a; reg = value_of (givens args); mem = placed (ranges args) (memory_of_file file) }
+state_given file args a = record { pc = a; reg = value_of (givens args); mem = placed (ranges First args) (memory_of_file file) }
 
 -- a register that is given a value, or doesn't hold 0
 abbrev pub is_shown : List Given → State → ℕ → Bool
@@ -38,7 +39,8 @@ shown_after args k t = record {
   pc = t.pc;
   registers = shown_registers (givens args) t;
   words = map t.reg (shown_registers (givens args) t);
-  memory = map (held_at t.mem) (ranges args);
+  memory = map (held_at t.mem) (ranges First args);
+  stack = [];
 }
 
 -- the file is within the limit and has no fault

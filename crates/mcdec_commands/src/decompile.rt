@@ -1,4 +1,4 @@
-//! The commands `decompile` and `link`.
+//! The commands `decompile`, `link` and `split`.
 
 ghost use Rattle.std.specs.Prelude.{◌≡◌, ◌<◌, ◌≤◌, ℕ, All, IfErr, IfOk, IfSome, List as Items, Some, length};
 ghost use Rattle.elf_image.specs.Image.{image_of};
@@ -11,7 +11,7 @@ ghost use Rattle.mcdec_commands.specs.DecompileAnswer.{AreItemsIn, IsRefusedIn, 
 ghost use Rattle.mcdec_answers.specs.Printed.{status};
 ghost use Rattle.mcdec_commands.specs.RunAnswer.{IsLoaded};
 ghost use Rattle.mcdec_words.specs.CommandReading.{IsReadDecompile};
-ghost use Rattle.mcdec_commands.specs.inner.Decompiling.{FileGives, HasDef, IsNoProofIn};
+ghost use Rattle.mcdec_commands.specs.inner.Decompiling.{FileGives, HasDef, IsNoProofIn, link_fault};
 ghost use Rattle.mcdec_commands.specs.inner.Writing.{IsTold, WritesOut};
 
 use crate::output::write_answer;
@@ -23,9 +23,10 @@ use mc_shelf::{ReadEnd, Shelf, read_file};
 use mcdec_answers::{Answer, DecompileAnswer, Listed};
 use mcdec_words::{Decompile, Form};
 use rv_words::{Bytes, List, NoMemory, Text};
+use stack_split::{law_of_split_items, split, split_bytes};
 use std::alloc::Global;
 
-/// The answer to `decompile` or `link`.
+/// The answer to `decompile`, `link` or `split`.
 pub fn answer_decompile<S: Shelf>(alloc: Global, d: &Decompile<'_>, shelf: &mut S) -> Answer
     requires { All IsName d.now.names }
     ensures gives { (ws : Items (Items ℕ)) → IsReadDecompile ws d.now
@@ -77,7 +78,7 @@ fn decompile_image<S: Shelf>(
     }
 }
 
-/// The items of the names: of each function by itself, or with those that it calls.
+/// The items of the names: of each function by itself, with those that it calls, or with a memory for its stack.
 fn proof_of_names(alloc: Global, image: &Image, d: &Decompile<'_>) -> Result<Proof, LinkFault>
     requires names { All IsName d.now.names }
     ensures items { (file : Items ℕ) → image.now ≡ image_of file → IfOk result (AreItemsIn d.now.form file d.now.names) }
@@ -86,16 +87,30 @@ fn proof_of_names(alloc: Global, image: &Image, d: &Decompile<'_>) -> Result<Pro
 {
     law_of_items();
     law_of_linked_items();
+    law_of_split_items();
     match d.form {
         Form::Alone => match decompile(alloc, image, &d.names) {
             Ok(proof) => Ok(proof),
-            Err(DecompileFault::Refused { name, why }) => Err(LinkFault::Refused {
-                name,
-                why: LinkWhy::Outside(why),
-            }),
-            Err(DecompileFault::NoMemory) => Err(LinkFault::NoMemory),
+            Err(fault) => Err(link_fault(fault)),
         },
         Form::Linked => link(alloc, image, &d.names),
+        Form::Split => match split(alloc, image, &d.names) {
+            Ok(proof) => Ok(proof),
+            Err(fault) => Err(link_fault(fault)),
+        },
+    }
+}
+
+/// Why there is no proof of functions by themselves, as one of the reasons for linked functions.
+fn link_fault(fault: DecompileFault) -> LinkFault
+    ensures { result ≡ link_fault fault }
+{
+    match fault {
+        DecompileFault::Refused { name, why } => LinkFault::Refused {
+            name,
+            why: LinkWhy::Outside(why),
+        },
+        DecompileFault::NoMemory => LinkFault::NoMemory,
     }
 }
 
@@ -134,7 +149,7 @@ fn write_proof<S: Shelf>(alloc: Global, proof: &Proof, d: &Decompile<'_>, shelf:
     write_answer(shelf, d.out, text.as_slice(), told)
 }
 
-/// The text of a proof, in the version that has functions by themselves, or those with the ones that they call.
+/// The text of a proof, in the version of its form.
 fn text_of_proof(alloc: Global, form: Form, proof: &Proof) -> Result<Bytes, NoMemory>
     requires { AreProofsIn (version_in form) (proofs_of proof.now) }
     ensures { IfOk result (λ text. text ≡ text_of_proofs_in (version_in form) (proofs_of proof.now)) }
@@ -142,6 +157,7 @@ fn text_of_proof(alloc: Global, form: Form, proof: &Proof) -> Result<Bytes, NoMe
     match form {
         Form::Alone => proof_bytes(alloc, proof),
         Form::Linked => linked_bytes(alloc, proof),
+        Form::Split => split_bytes(alloc, proof),
     }
 }
 

@@ -5,14 +5,14 @@ ghost use Rattle.mc_shelf.specs.Fault.{Rose};
 ghost use Rattle.tailrec_lang.specs.Tree.{GroupTree, group_tree};
 ghost use Rattle.tailrec_lang.specs.Eval.{HasFewNeeds};
 ghost use Rattle.tailrec_lang.specs.WellFormed.{IsWellFormed};
-ghost use Rattle.group_text.specs.Limits.{IsGroup, IsGroupIn};
+ghost use Rattle.group_text.specs.Limits.{IsGroupIn};
 ghost use Rattle.group_text.specs.Version.{version_of};
 ghost use Rattle.proof_text.specs.FirstProofs.{HasGiven};
 ghost use Rattle.mcdec_commands.specs.Answer.{Gives, ReadsAreTold};
 ghost use Rattle.mcdec_words.specs.Command.{Arg, AreArgs, IsMemory};
 ghost use Rattle.mcdec_words.specs.CommandReading.{HoldsArgs, IsReadEval, value_in};
 ghost use Rattle.mcdec_commands.specs.EvalAnswer.{EvalGives, proof_limit};
-ghost use Rattle.mcdec_commands.specs.inner.Search.{Finds, FindsIn, FoundSo, GroupGives, LineIs, LinesArePassed, NextIs};
+ghost use Rattle.mcdec_commands.specs.inner.Search.{Finds, FindsIn, FoundSo, GroupGives, HasText, LineIs, LinesArePassed, NextIs};
 
 use crate::memory::{memories, ranges_in};
 use mc_shelf::{ReadEnd, Shelf, read_file};
@@ -42,7 +42,8 @@ pub enum Refusal {
 
 /// The answer to `eval`.
 pub fn answer_eval<S: Shelf>(alloc: Global, e: &Eval<'_>, shelf: &mut S) -> Answer
-    requires { All IsMemory e.now.memory }
+    requires memory { All IsMemory e.now.memory }
+    requires stack { All IsMemory e.now.stack }
     ensures gives { (ws : List (List ℕ)) → IsReadEval ws e.now
         → Gives (S.contents shelf.old) ws (Rose (S.read_faults shelf.old) (S.read_faults shelf.new)) (Rose (S.write_faults shelf.old) (S.write_faults shelf.new)) result }
 
@@ -66,8 +67,9 @@ pub fn answer_eval<S: Shelf>(alloc: Global, e: &Eval<'_>, shelf: &mut S) -> Answ
 /// The answer to `eval` where its proof file has this text.
 fn evaluate_text(alloc: Global, text: &[u8], e: &Eval<'_>) -> Result<EvalAnswer, NoMemory>
     requires memory { All IsMemory e.now.memory }
+    requires stack { All IsMemory e.now.stack }
     requires within { length text.now ≤ proof_limit }
-    ensures { (args : List Arg) → AreArgs args → HoldsArgs args e.now.given.values e.now.memory
+    ensures { (args : List Arg) → AreArgs args → HoldsArgs args e.now.given.values e.now.memory e.now.stack
         → IfOk result (λ a. EvalGives text.now e.now.name.now e.now.turns args a) }
 {
     match find_group(alloc, text, e.name) {
@@ -163,25 +165,28 @@ fn next_line(alloc: Global, reader: &mut Reader<'_>, g: &Group) -> Result<Option
 
 /// The answer to `eval` of the listed function of this group.
 fn evaluate_group(alloc: Global, g: Group, e: &Eval<'_>) -> Result<EvalAnswer, NoMemory>
-    requires group { IsGroup (group_tree g) }
+    requires group { HasText (group_tree g) }
     requires well_formed { IsWellFormed (group_tree g) }
     requires needs { HasFewNeeds (group_tree g) }
     requires memory { All IsMemory e.now.memory }
-    ensures { (args : List Arg) → HoldsArgs args e.now.given.values e.now.memory
+    requires stack { All IsMemory e.now.stack }
+    ensures { (args : List Arg) → HoldsArgs args e.now.given.values e.now.memory e.now.stack
         → IfOk result (λ a. GroupGives (group_tree g) e.now.turns args a) }
 {
     let words = arguments(alloc, g.regs.as_slice(), &e.given)?;
-    let mems = memories(alloc, g.mems, e.memory.as_slice())?;
+    let mems = memories(alloc, g.mems, e.memory.as_slice(), e.stack.as_slice())?;
     let def = (g.defs.len() - 1) as u32;
     match eval(alloc, &g, def, &Args { words, mems }, e.turns)? {
         Outcome::Done { pc, args, left, .. } => {
-            let memory = ranges_in(alloc, args.mems.as_slice(), e.memory.as_slice())?;
+            let memory = ranges_in(alloc, args.mems.as_slice(), 0, e.memory.as_slice())?;
+            let stack = ranges_in(alloc, args.mems.as_slice(), 1, e.stack.as_slice())?;
             Ok(EvalAnswer::Done(Shown {
                 count: e.turns - left,
                 pc,
                 registers: g.regs,
                 words: args.words,
                 memory,
+                stack,
             }))
         }
         Outcome::SideFalse { def, ordinal } => Ok(EvalAnswer::SideFalse(def, ordinal)),

@@ -3,7 +3,9 @@
 ghost use Rattle.std.specs.Prelude.{◌≡◌, ℕ, ◌≤◌, IfOk, List as Items, Some, length};
 ghost use Rattle.mc_shelf.specs.Fault.{Rose};
 ghost use Rattle.tailrec_lang.specs.Tree.{group_tree};
-ghost use Rattle.group_text.specs.Limits.{IsGroup};
+ghost use Rattle.group_text.specs.Spelling.{group_tokens};
+ghost use Rattle.mc_text.specs.Tokens.{spell};
+ghost use Rattle.mc_text.specs.declared.token.Before.TheVariants.{Start};
 ghost use Rattle.fun_laws.specs.Limits.{IsCert, cert_texts};
 ghost use Rattle.fun_laws.specs.Spelling.{cert_text, cert_tree};
 ghost use Rattle.mc_text.specs.Fault.{IsBadAt, newlines};
@@ -15,11 +17,12 @@ ghost use Rattle.mcdec_words.specs.CommandReading.{IsReadLaws};
 
 use crate::eval::{PROOF_LIMIT, Refusal, find_group};
 use fun_laws::{Cert, CertFault, judge_cert, read_cert};
-use group_text::{TextFault, put_group};
+use group_text::{TextFault, put_group_lines};
 use mc_shelf::{ReadEnd, Shelf, read_file};
+use mc_text::Pen;
 use mcdec_answers::{Answer, LawsAnswer};
 use mcdec_words::Laws;
-use rv_words::{List, NoMemory};
+use rv_words::{Bytes, List, NoMemory};
 use std::alloc::Global;
 use tailrec_lang::Group;
 
@@ -126,12 +129,20 @@ fn judge_of(alloc: Global, g: &Group, cert: &Cert) -> Result<LawsAnswer, NoMemor
 
 /// The line of a step in a certificate of this group: behind the line of the title and those of the group.
 fn step_line(alloc: Global, old: &Group, step: u32) -> Result<u64, NoMemory>
-    requires { IsGroup (group_tree old.now) }
     ensures { IfOk result (λ line. line ≡ step_line (group_tree old.now) step) }
 {
-    let mut bytes = List::new(alloc);
-    put_group(&mut bytes, old)?;
+    let bytes = group_bytes(alloc, old)?;
     Ok(count_lines(bytes.as_slice()) + u64::from(step) + 2)
+}
+
+/// The text of a group.
+fn group_bytes(alloc: Global, g: &Group) -> Result<Bytes, NoMemory>
+    ensures { IfOk result (λ bytes. bytes ≡ spell Start (group_tokens (group_tree g.now))) }
+{
+    let mut bytes = List::new(alloc);
+    let mut pen = Pen::new(&mut bytes);
+    put_group_lines(&mut pen, g)?;
+    Ok(bytes)
 }
 
 /// How many newlines the text has.

@@ -1,23 +1,32 @@
 //! Ranges of bytes in memories.
 
-ghost use Rattle.std.specs.Prelude.{◌≡◌, ◌+◌, ◌≤◌, ◌^◌, All, IfOk, length, map, replicate};
+ghost use Rattle.std.specs.Prelude.{◌≡◌, ◌+◌, ◌≤◌, ◌^◌, All, IfOk, length, map, slice_get};
 ghost use Rattle.std.specs.FinMap.{get};
 ghost use Rattle.mcdec_words.specs.Command.{IsMemory};
-ghost use Rattle.mcdec_commands.specs.EvalAnswer.{ranges_in as ranges_of_first};
+ghost use Rattle.mcdec_commands.specs.EvalAnswer.{memories_given, ranges_in};
 ghost use Rattle.mcdec_commands.specs.Memory.{held_at, no_bytes, placed};
 
 use rv_words::{ByteMap, List, NoMemory, Range};
 use std::alloc::Global;
 
-/// As many memories with the ranges' bytes alone.
-pub fn memories(alloc: Global, count: u8, ranges: &[Range]) -> Result<List<ByteMap>, NoMemory>
-    requires few { count ≤ 1 }
-    requires memory { All IsMemory ranges.now }
-    ensures { IfOk result (λ list. map get list ≡ replicate count (placed ranges.now no_bytes)) }
+/// As many memories, each with its ranges' bytes alone.
+pub fn memories(
+    alloc: Global,
+    count: u8,
+    memory: &[Range],
+    stack: &[Range],
+) -> Result<List<ByteMap>, NoMemory>
+    requires few { count ≤ 2 }
+    requires memory { All IsMemory memory.now }
+    requires stack { All IsMemory stack.now }
+    ensures { IfOk result (λ list. map get list ≡ memories_given count memory.now stack.now) }
 {
     let mut list = List::new(alloc);
-    if count == 1 {
-        list.push(memory_of(alloc, ranges)?)?;
+    if count >= 1 {
+        list.push(memory_of(alloc, memory)?)?;
+    }
+    if count == 2 {
+        list.push(memory_of(alloc, stack)?)?;
     }
     Ok(list)
 }
@@ -34,18 +43,19 @@ fn memory_of(alloc: Global, ranges: &[Range]) -> Result<ByteMap, NoMemory>
     Ok(memory)
 }
 
-/// The ranges with the bytes that the first of the memories has there now; none where there is no memory.
+/// The ranges with the bytes that the memory of that number has there now; none where there is no such memory.
 pub fn ranges_in(
     alloc: Global,
     memories: &[ByteMap],
+    number: usize,
     ranges: &[Range],
 ) -> Result<List<Range>, NoMemory>
     requires { All IsMemory ranges.now }
-    ensures { IfOk result (λ now. now ≡ ranges_of_first (map get memories.now) ranges.now) }
+    ensures { IfOk result (λ now. now ≡ ranges_in (slice_get (map get memories.now) number) ranges.now) }
 {
-    match memories {
-        [] => Ok(List::new(alloc)),
-        [memory, ..] => ranges_now(alloc, memory, ranges),
+    match memories.get(number) {
+        Some(memory) => ranges_now(alloc, memory, ranges),
+        None => Ok(List::new(alloc)),
     }
 }
 

@@ -1,6 +1,6 @@
 //! The command `run`.
 
-ghost use Rattle.std.specs.Prelude.{◌≡◌, ℕ, ◌≤◌, List, All, IfOk, OnOk, length};
+ghost use Rattle.std.specs.Prelude.{◌≡◌, ℕ, ◌≤◌, List, [], All, IfOk, OnOk, length};
 ghost use Rattle.elf_image.specs.Image.{IsPlaced, bytes_in, image_of, padded};
 ghost use Rattle.mc_shelf.specs.Fault.{Rose};
 ghost use Rattle.rv_words.specs.Bytes.{bytes_from};
@@ -52,7 +52,7 @@ pub fn answer_run<S: Shelf>(alloc: Global, r: &Run<'_>, shelf: &mut S) -> Answer
 fn run_bytes(alloc: Global, file: Bytes, r: &Run<'_>) -> Result<RunAnswer, NoMemory>
     requires memory { All IsMemory r.now.memory }
     requires within { length file ≤ elf_limit }
-    ensures { (args : List Arg) → AreArgs args → HoldsArgs args r.now.given.values r.now.memory
+    ensures { (args : List Arg) → AreArgs args → HoldsArgs args r.now.given.values r.now.memory []
         → IfOk result (λ a. RunGives file r.now.start.now r.now.until r.now.steps args a) }
 {
     let image = match read(alloc, file.as_slice()) {
@@ -73,7 +73,7 @@ fn run_bytes(alloc: Global, file: Bytes, r: &Run<'_>) -> Result<RunAnswer, NoMem
 /// The answer to `run` from an address of this image. It is let go before the run.
 fn run_image(alloc: Global, image: Image, start: u64, r: &Run<'_>) -> Result<RunAnswer, NoMemory>
     requires { All IsMemory r.now.memory }
-    ensures { (args : List Arg) → AreArgs args → HoldsArgs args r.now.given.values r.now.memory → (file : List ℕ) → image ≡ image_of file
+    ensures { (args : List Arg) → AreArgs args → HoldsArgs args r.now.given.values r.now.memory [] → (file : List ℕ) → image ≡ image_of file
         → IfOk result (λ a. MachineGives r.now.until r.now.steps args (state_given file args start) a) }
 {
     law_of_image(&image);
@@ -162,5 +162,6 @@ fn shown(
         registers,
         words,
         memory,
+        stack: List::new(alloc),
     })
 }

@@ -3,12 +3,11 @@
 ghost use Rattle.std.specs.Prelude.{◌≡◌, ℕ, ◌≤◌, Err, IfSome, List as Items, Some, length};
 ghost use Rattle.mc_shelf.specs.Fault.{Rose, WhereTold};
 ghost use Rattle.tailrec_lang.specs.Tree.{group_tree};
-ghost use Rattle.group_text.specs.Limits.{IsGroup};
 ghost use Rattle.mcdec_commands.specs.Answer.{Gives, ReadsAreTold};
 ghost use Rattle.mcdec_commands.specs.EvalAnswer.{IsNamed, proof_limit};
 ghost use Rattle.mcdec_answers.specs.Printed.{status};
 ghost use Rattle.mcdec_words.specs.CommandReading.{IsReadSimplify};
-ghost use Rattle.mcdec_commands.specs.inner.Search.{Finds};
+ghost use Rattle.mcdec_commands.specs.inner.Search.{Finds, HasText};
 ghost use Rattle.mcdec_commands.specs.SimplifyAnswer.{IsCertFor};
 ghost use Rattle.mcdec_commands.specs.inner.Simplifying.{TextGives};
 ghost use Rattle.mcdec_commands.specs.inner.Writing.{IsTold, WritesOut};
@@ -61,7 +60,7 @@ fn refuse(why: Refusal) -> Answer
 
 /// Simplifies a group and writes its certificate into the output file. All that takes memory is made before that.
 fn simplify_group<S: Shelf>(alloc: Global, g: &Group, s: &Simplify<'_>, shelf: &mut S) -> Answer
-    requires { IsGroup (group_tree g.now) }
+    requires { HasText (group_tree g.now) }
     ensures gives { (text name : Items ℕ) → length text ≤ proof_limit → IsNamed text name (Some (group_tree g.now)) → TextGives text name result }
 
     ensures written { (text : Items ℕ) → length text ≤ proof_limit → IsNamed text s.now.name.now (Some (group_tree g.now)) → IfSome (S.contents shelf.old) (λ files. files s.now.proof.now ≡ Some text)

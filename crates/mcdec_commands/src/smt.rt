@@ -4,14 +4,13 @@ ghost use Rattle.std.specs.Prelude.{◌≡◌, ℕ, ◌<◌, ◌≤◌, Err, IfS
 ghost use Rattle.mc_shelf.specs.Fault.{Rose, WhereTold};
 ghost use Rattle.tailrec_lang.specs.Tree.{group_tree};
 ghost use Rattle.tailrec_lang.specs.WellFormed.{IsWellFormed};
-ghost use Rattle.group_text.specs.Limits.{IsGroup};
 ghost use Rattle.mcdec_commands.specs.Answer.{Gives, ReadsAreTold};
 ghost use Rattle.mcdec_commands.specs.EvalAnswer.{IsNamed, proof_limit};
 ghost use Rattle.mcdec_answers.specs.Printed.{status};
 ghost use Rattle.mcdec_words.specs.CommandReading.{IsReadSmt};
 ghost use Rattle.mcdec_commands.specs.SmtAnswer.{IsScriptFor};
 ghost use Rattle.mcdec_commands.specs.inner.Exporting.{DefGives};
-ghost use Rattle.mcdec_commands.specs.inner.Search.{Finds};
+ghost use Rattle.mcdec_commands.specs.inner.Search.{Finds, HasText};
 ghost use Rattle.mcdec_commands.specs.inner.Writing.{IsTold, WritesOut};
 
 use crate::eval::{PROOF_LIMIT, Refusal, find_group};
@@ -64,7 +63,7 @@ fn refuse(why: Refusal) -> Answer
 /// Exports a definition of a group, if it has one of that number and no loop is reached from it, and writes its script into the
 /// output file. All that takes memory is made before that.
 fn export_def<S: Shelf>(alloc: Global, g: &Group, s: &Smt<'_>, shelf: &mut S) -> Answer
-    requires group { IsGroup (group_tree g.now) }
+    requires group { HasText (group_tree g.now) }
     requires well_formed { IsWellFormed (group_tree g.now) }
     ensures gives { (text name : Items ℕ) → length text ≤ proof_limit → IsNamed text name (Some (group_tree g.now)) → DefGives text name s.now.def result }
 

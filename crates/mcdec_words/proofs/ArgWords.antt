@@ -7,6 +7,7 @@ use Rattle.std.specs.declared.string.String.{String}
 use Rattle.std.specs.declared.alloc.Global.{Global}
 use Rattle.std.proofs.Math.ListN.{length-set}
 use Rattle.std.proofs.lemmas.Bool.{eqb-true, eqb-false}
+use Rattle.std.proofs.lemmas.Grind.{flat_map-append}
 use Rattle.std.proofs.lemmas.List.{append-nil, map-append, map_more}
 use Rattle.std.proofs.lemmas.List.Elements.{All-from_recursion}
 use Rattle.std.proofs.lemmas.Option.{get_or_from_slice_get}
@@ -15,7 +16,9 @@ use Rattle.mcdec_words.specs.declared.command.Unread.{Unread}
 use Rattle.mcdec_words.specs.declared.command.Unread.TheVariants as unread
 use Rattle.mcdec_words.specs.declared.command.Eval.{Eval as ReadEval}
 use Rattle.mcdec_words.specs.declared.command.Run.{Run as ReadRun}
-use Rattle.mcdec_words.specs.Command.{Arg, Value, Memory, Given, IsGiven, IsMemory, AreGiven, AreArgs, given_to, given_word, memory_word, arg_word, givens, ranges, texts}
+use Rattle.mcdec_words.specs.Command.{Arg, Value, Bytes, Given, IsGiven, IsMemory, AreGiven, AreArgs, given_to, given_word, bytes_word, arg_word, givens, range_in, ranges, texts}
+use Rattle.mcdec_words.specs.declared.command.Memory.{Memory}
+use Rattle.mcdec_words.specs.declared.command.Memory.TheVariants.{First, Second}
 use Rattle.mcdec_words.specs.CommandReading.{Holds, IsArg, IsReadEval, IsReadRun, NoArgs, AllArgs, Unless}
 use Rattle.mcdec_words.proofs.Givens.{arg_word-injective}
 use Rattle.mcdec_words.proofs.Values.{AreGiven-last, Holds-last, none-parts, none_some, nones, no_value, texts-split}
@@ -23,18 +26,17 @@ use Rattle.mcdec_words.proofs.Values.{AreGiven-last, Holds-last, none-parts, non
 -- ---- arguments
 
 pub first-arg : (a : Arg) (args : List Arg) → AreArgs (a ∷ args) → IsArg a × AreArgs args
-first-arg (Value g) args all = (all.0.0, (all.0.2, all.1))
-first-arg (Memory r) args all = (all.1.0, (all.0, all.1.1))
+first-arg (Value g) args all = (all.0.0, (all.0.2, all.1, all.2))
+first-arg (Bytes First r) args all = (all.1.0, (all.0, all.1.1, all.2))
+first-arg (Bytes Second r) args all = (all.2.0, (all.0, all.1, all.2.1))
 
 givens-last : (args : List Arg) (a : Arg) → givens (args ++ a ∷ []) ≡ givens args ++ givens (a ∷ [])
 givens-last [] a = refl
 givens-last (Value g ∷ args) a = ap (λ (gs : List Given). g ∷ gs) (givens-last args a)
-givens-last (Memory r ∷ args) a = givens-last args a
+givens-last (Bytes m r ∷ args) a = givens-last args a
 
-ranges-last : (args : List Arg) (a : Arg) → ranges (args ++ a ∷ []) ≡ ranges args ++ ranges (a ∷ [])
-ranges-last [] a = refl
-ranges-last (Value g ∷ args) a = ranges-last args a
-ranges-last (Memory r ∷ args) a = ap (λ (rs : List Range). r ∷ rs) (ranges-last args a)
+ranges-last : (m : Memory) (args : List Arg) (a : Arg) → ranges m (args ++ a ∷ []) ≡ ranges m args ++ ranges m (a ∷ [])
+ranges-last m args a = flat_map-append (range_in m) args (a ∷ [])
 
 memory-last : (rs : List Range) (r : Range) → AllByRecursion IsMemory rs → IsMemory r → AllByRecursion IsMemory (rs ++ r ∷ [])
 memory-last [] r all is = (is, tt)
@@ -45,22 +47,45 @@ module _ (args : List Arg) (g : Given) where
   value-givens : givens args ++ g ∷ [] ≡ givens (args ++ Value g ∷ [])
   value-givens = sym (givens-last args (Value g))
 
-  value-ranges : ranges args ≡ ranges (args ++ Value g ∷ [])
-  value-ranges = sym (ranges-last args (Value g) ∙ append-nil (ranges args))
+  value-ranges : (m : Memory) → ranges m args ≡ ranges m (args ++ Value g ∷ [])
+  value-ranges First = sym (ranges-last First args (Value g) ∙ append-nil (ranges First args))
+  value-ranges Second = sym (ranges-last Second args (Value g) ∙ append-nil (ranges Second args))
 
   value-args : AreArgs args → IsGiven g → given_to (givens args) g.register ≡ None → AreArgs (args ++ Value g ∷ [])
-  value-args all is none = (subst AreGiven value-givens (AreGiven-last (givens args) g all.0 is none), subst (AllByRecursion IsMemory) value-ranges all.1)
+  value-args all is none = (
+    subst AreGiven value-givens (AreGiven-last (givens args) g all.0 is none),
+    subst (AllByRecursion IsMemory) (value-ranges First) all.1,
+    subst (AllByRecursion IsMemory) (value-ranges Second) all.2,
+  )
 
 -- with a range more
 module _ (args : List Arg) (r : Range) where
-  memory-givens : givens args ≡ givens (args ++ Memory r ∷ [])
-  memory-givens = sym (givens-last args (Memory r) ∙ append-nil (givens args))
+  bytes-givens : (m : Memory) → givens args ≡ givens (args ++ Bytes m r ∷ [])
+  bytes-givens m = sym (givens-last args (Bytes m r) ∙ append-nil (givens args))
 
-  memory-ranges : ranges args ++ r ∷ [] ≡ ranges (args ++ Memory r ∷ [])
-  memory-ranges = sym (ranges-last args (Memory r))
+  first-more : ranges First args ++ r ∷ [] ≡ ranges First (args ++ Bytes First r ∷ [])
+  first-more = sym (ranges-last First args (Bytes First r))
 
-  memory-args : AreArgs args → IsMemory r → AreArgs (args ++ Memory r ∷ [])
-  memory-args all is = (subst AreGiven memory-givens all.0, subst (AllByRecursion IsMemory) memory-ranges (memory-last (ranges args) r all.1 is))
+  first-kept : ranges First args ≡ ranges First (args ++ Bytes Second r ∷ [])
+  first-kept = sym (ranges-last First args (Bytes Second r) ∙ append-nil (ranges First args))
+
+  second-more : ranges Second args ++ r ∷ [] ≡ ranges Second (args ++ Bytes Second r ∷ [])
+  second-more = sym (ranges-last Second args (Bytes Second r))
+
+  second-kept : ranges Second args ≡ ranges Second (args ++ Bytes First r ∷ [])
+  second-kept = sym (ranges-last Second args (Bytes First r) ∙ append-nil (ranges Second args))
+
+  bytes-args : (m : Memory) → AreArgs args → IsMemory r → AreArgs (args ++ Bytes m r ∷ [])
+  bytes-args First all is = (
+    subst AreGiven (bytes-givens First) all.0,
+    subst (AllByRecursion IsMemory) first-more (memory-last (ranges First args) r all.1 is),
+    subst (AllByRecursion IsMemory) second-kept all.2,
+  )
+  bytes-args Second all is = (
+    subst AreGiven (bytes-givens Second) all.0,
+    subst (AllByRecursion IsMemory) first-kept all.1,
+    subst (AllByRecursion IsMemory) second-more (memory-last (ranges Second args) r all.2 is),
+  )
 
 -- ---- their words
 
@@ -73,7 +98,7 @@ one-arg (first ∷ front) word rest (a ∷ args) all e = one-arg front word rest
 
 none-behind : (a : Arg) (args : List Arg) (n : ℕ) → given_to (givens (a ∷ args)) n ≡ None → given_to (givens args) n ≡ None
 none-behind (Value g) args n e = (none-parts (eqb g.register n) g.value (given_to (givens args) n) e).1
-none-behind (Memory r) args n e = e
+none-behind (Bytes m r) args n e = e
 
 -- a register that is given none of the values is not that of one of the words
 among : (front : List (List ℕ)) (g : Given) (rest : List (List ℕ)) (args : List Arg) (n : ℕ) → IsGiven g → AreArgs args → front ++ given_word g ∷ rest ≡ map arg_word args → given_to (givens args) n ≡ None → g.register ≡ n → ⊥
@@ -93,9 +118,9 @@ not_before : (args : List Arg) (g : Given) (rest : List (List ℕ)) (others : Li
     → given_to (givens args) g.register ≡ None
 not_before [] g rest others all is fit e = refl
 not_before (a ∷ args) g rest [] all is fit e = absurd cc
-not_before (Memory r ∷ args) g rest (b ∷ others) all is fit e =
+not_before (Bytes m r ∷ args) g rest (b ∷ others) all is fit e =
     let tail : map arg_word args ++ given_word g ∷ rest ≡ map arg_word others = cc in
-    not_before args g rest others (first-arg (Memory r) args all).1 is (first-arg b others fit).1 tail
+    not_before args g rest others (first-arg (Bytes m r) args all).1 is (first-arg b others fit).1 tail
 not_before (Value f ∷ args) g rest (b ∷ others) all is fit e =
     let head : given_word f ≡ arg_word b = cc in
     let tail : map arg_word args ++ given_word g ∷ rest ≡ map arg_word others = cc in
@@ -136,11 +161,11 @@ abbrev Words : Type 0
 Words = List (String Global)
 
 -- how far the reading has come
-abbrev pub HaveArgs : Words → ℕ → List (Option ℕ) → List Range → Type 0
-HaveArgs words i values memory = AllArgs (texts (take i words)) values memory × (length values ≡ 32)
+abbrev pub HaveArgs : Words → ℕ → List (Option ℕ) → List Range → List Range → Type 0
+HaveArgs words i values memory stack = AllArgs (texts (take i words)) values memory stack × (length values ≡ 32)
 
-pub args-none : (words : Words) (memory : List Range) → memory ≡ [] → HaveArgs words 0 (replicate 32 no_value) memory
-args-none words memory none = (([], (tt, tt), refl, ((λ n lt. nones 32 n lt), none)), refl)
+pub args-none : (words : Words) (memory stack : List Range) → memory ≡ [] → stack ≡ [] → HaveArgs words 0 (replicate 32 no_value) memory stack
+args-none words memory stack none no_stack = (([], (tt, tt, tt), refl, ((λ n lt. nones 32 n lt), none, no_stack)), refl)
 
 module _ (words : Words) (i : ℕ) (word : String Global) (lt : i < length words) (item : word ≡ get_or words i word) (bytes : List ℕ) (same : bytes ≡ string_bytes word) where
   none-read : ((a : Arg) → IsArg a → bytes ≢ arg_word a) → NoArgs (texts words)
@@ -152,7 +177,7 @@ module _ (words : Words) (i : ℕ) (word : String Global) (lt : i < length words
   pub arg-unread : (e : Unread) → Unless ((a : Arg) → IsArg a → bytes ≢ arg_word a) e → Unless (NoArgs (texts words)) e
   arg-unread e none = unless-also none-read e none
 
-  module _ (values : List (Option ℕ)) (memory : List Range) (before : HaveArgs words i values memory) where
+  module _ (values : List (Option ℕ)) (memory stack : List Range) (before : HaveArgs words i values memory stack) where
     -- the words up to this one
     upto : (a : Arg) → bytes ≡ arg_word a → texts (take (i + 1) words) ≡ map arg_word (before.0.0 ++ a ∷ [])
     upto a spelled =
@@ -171,22 +196,34 @@ module _ (words : Words) (i : ℕ) (word : String Global) (lt : i < length words
           sym (λ j. before.0.2 j ++ (sym same ∙ spelled) j ∷ texts (drop (suc i) words)) ∙ sym (texts-split words i word lt item) ∙ k in
           none_some v (sym (not_before before.0.0 g (texts (drop (suc i) words)) others before.0.1 is fit split) ∙ held (Some v) e)
 
-      pub value-more : get_or values g.register None ≡ None → HaveArgs words (i + 1) (set values g.register (Some g.value)) memory
+      pub value-more : get_or values g.register None ≡ None → HaveArgs words (i + 1) (set values g.register (Some g.value)) memory stack
       value-more e =
           let now = Holds-last (givens before.0.0) g values is (held None e) before.1 before.0.3.0 in (
-            (before.0.0 ++ Value g ∷ [], value-args before.0.0 g before.0.1 is (held None e), upto (Value g) spelled, (subst (λ (gs : List Given). Holds gs (set values g.register (Some g.value))) (value-givens before.0.0 g) now, before.0.3.1 ∙ value-ranges before.0.0 g)),
+            (before.0.0 ++ Value g ∷ [], value-args before.0.0 g before.0.1 is (held None e), upto (Value g) spelled, (subst (λ (gs : List Given). Holds gs (set values g.register (Some g.value))) (value-givens before.0.0 g) now, before.0.3.1 ∙ value-ranges before.0.0 g First, before.0.3.2 ∙ value-ranges before.0.0 g Second)),
             length-set values g.register (Some g.value) ∙ before.1,
           )
 
-    pub memory-more : (r : Range) → IsMemory r → bytes ≡ memory_word r → (more : List Range) → more ≡ memory ++ r ∷ [] → HaveArgs words (i + 1) values more
-    memory-more r is spelled more pushed = (
-      (before.0.0 ++ Memory r ∷ [], memory-args before.0.0 r before.0.1 is, upto (Memory r) spelled, (subst (λ (gs : List Given). Holds gs values) (memory-givens before.0.0 r) before.0.3.0, pushed ∙ (λ j. before.0.3.1 j ++ r ∷ []) ∙ memory-ranges before.0.0 r)),
-      before.1,
-    )
+    module _ (r : Range) (is : IsMemory r) where
+      -- the words with a range more, whose registers are those before it
+      with-bytes : (m : Memory) → bytes ≡ bytes_word m r → (more others : List Range) → more ≡ ranges First (before.0.0 ++ Bytes m r ∷ []) → others ≡ ranges Second (before.0.0 ++ Bytes m r ∷ [])
+          → HaveArgs words (i + 1) values more others
+      with-bytes m spelled more others first second = (
+        (before.0.0 ++ Bytes m r ∷ [], bytes-args before.0.0 r m before.0.1 is, upto (Bytes m r) spelled, (subst (λ (gs : List Given). Holds gs values) (bytes-givens before.0.0 r m) before.0.3.0, first, second)),
+        before.1,
+      )
+
+      pub memory-more : bytes ≡ bytes_word First r → (more : List Range) → more ≡ memory ++ r ∷ [] → HaveArgs words (i + 1) values more stack
+      memory-more spelled more pushed = with-bytes First spelled more stack (pushed ∙ (λ j. before.0.3.1 j ++ r ∷ []) ∙ first-more before.0.0 r) (before.0.3.2 ∙ second-kept before.0.0 r)
+
+      pub stack-more : bytes ≡ bytes_word Second r → (more : List Range) → more ≡ stack ++ r ∷ [] → HaveArgs words (i + 1) values memory more
+      stack-more spelled more pushed = with-bytes Second spelled memory more (before.0.3.1 ∙ first-kept before.0.0 r) (pushed ∙ (λ j. before.0.3.2 j ++ r ∷ []) ∙ second-more before.0.0 r)
 
 -- the ranges that were read
 pub eval-ranges : (ws : List (List ℕ)) (e : ReadEval) → IsReadEval ws e → All IsMemory e.memory
-eval-ranges ws e is = subst (All IsMemory) (sym is.2.1) (All-from_recursion IsMemory (ranges is.0) is.1.0.3.1)
+eval-ranges ws e is = subst (All IsMemory) (sym is.2.1) (All-from_recursion IsMemory (ranges First is.0) is.1.0.3.1)
+
+pub eval-stack : (ws : List (List ℕ)) (e : ReadEval) → IsReadEval ws e → All IsMemory e.stack
+eval-stack ws e is = subst (All IsMemory) (sym is.2.2) (All-from_recursion IsMemory (ranges Second is.0) is.1.0.3.2)
 
 pub run-ranges : (ws : List (List ℕ)) (r : ReadRun) → IsReadRun ws r → All IsMemory r.memory
-run-ranges ws r is = subst (All IsMemory) (sym is.2.1) (All-from_recursion IsMemory (ranges is.0) is.1.0.4.1)
+run-ranges ws r is = subst (All IsMemory) (sym is.2.1) (All-from_recursion IsMemory (ranges First is.0) is.1.0.4.1)

@@ -4,7 +4,7 @@ use Rattle.std.specs.Str.{bytes_eq}
 use Rattle.std.proofs.lemmas.Slice.Eq.{bytes_eq-Decides}
 use Rattle.mcdec_words.specs.Command.{Command, Eval, Run, Check, Decompile, SelfTest, Simplify, Laws, Smt, Arg, Words, form_word, words_of}
 use Rattle.mcdec_words.specs.declared.command.Form.{Form}
-use Rattle.mcdec_words.specs.declared.command.Form.TheVariants.{Alone, Linked}
+use Rattle.mcdec_words.specs.declared.command.Form.TheVariants.{Alone, Linked, Split}
 use Rattle.mcdec_words.specs.CommandReading.{operands_of}
 
 pub other-name : (a b : List ℕ) → bytes_eq a b ≡ false → a ≡ b → ⊥
@@ -42,14 +42,33 @@ same-name ws c d a b = (named-words ws (operands_of c) (name_of c) d (a.1 ∙ na
 pub same-operands : (ws : List (List ℕ)) (c d : Command) → Words ws c → Words ws d → operands_of c ≡ operands_of d
 same-operands ws c d a b = (named-words ws (operands_of c) (name_of c) d (a.1 ∙ name-first c) b).1
 
+-- ---- the forms of decompiling
+
+-- a name that decompiles functions is of one form
+forms-once : (f g : Form) → form_word f ≡ form_word g → f ≡ g
+forms-once Alone Alone e = refl
+forms-once Alone Linked e = absurd (other-name (codes "decompile") (codes "link") refl e)
+forms-once Alone Split e = absurd (other-name (codes "decompile") (codes "split") refl e)
+forms-once Linked Alone e = absurd (other-name (codes "link") (codes "decompile") refl e)
+forms-once Linked Linked e = refl
+forms-once Linked Split e = absurd (other-name (codes "link") (codes "split") refl e)
+forms-once Split Alone e = absurd (other-name (codes "split") (codes "decompile") refl e)
+forms-once Split Linked e = absurd (other-name (codes "split") (codes "link") refl e)
+forms-once Split Split e = refl
+
+-- .. and no other command's
+pub not-a-form : (name : List ℕ) → bytes_eq name (codes "decompile") ≡ false → bytes_eq name (codes "link") ≡ false → bytes_eq name (codes "split") ≡ false → (f : Form) → name ≡ form_word f → ⊥
+not-a-form name a b c Alone e = other-name name (codes "decompile") a e
+not-a-form name a b c Linked e = other-name name (codes "link") b e
+not-a-form name a b c Split e = other-name name (codes "split") c e
+
 -- ---- the command of a name
 
 pub is-eval : (c : Command) → name_of c ≡ codes "eval" → (proof name : List ℕ) × (turns : ℕ) × (args : List Arg) × (c ≡ Eval proof name turns args)
 is-eval (Eval proof name turns args) e = (proof, name, turns, args, refl)
 is-eval (Run elf start until steps args) e = absurd (other-name (codes "run") (codes "eval") refl e)
 is-eval (Check elf proof) e = absurd (other-name (codes "check") (codes "eval") refl e)
-is-eval (Decompile Alone elf out names) e = absurd (other-name (codes "decompile") (codes "eval") refl e)
-is-eval (Decompile Linked elf out names) e = absurd (other-name (codes "link") (codes "eval") refl e)
+is-eval (Decompile form elf out names) e = absurd (not-a-form (codes "eval") refl refl refl form (sym e))
 is-eval (SelfTest number size) e = absurd (other-name (codes "selftest") (codes "eval") refl e)
 is-eval (Simplify proof name out) e = absurd (other-name (codes "simplify") (codes "eval") refl e)
 is-eval (Laws proof cert) e = absurd (other-name (codes "laws") (codes "eval") refl e)
@@ -59,8 +78,7 @@ pub is-run : (c : Command) → name_of c ≡ codes "run" → (elf start : List �
 is-run (Eval proof name turns args) e = absurd (other-name (codes "eval") (codes "run") refl e)
 is-run (Run elf start until steps args) e = (elf, start, until, steps, args, refl)
 is-run (Check elf proof) e = absurd (other-name (codes "check") (codes "run") refl e)
-is-run (Decompile Alone elf out names) e = absurd (other-name (codes "decompile") (codes "run") refl e)
-is-run (Decompile Linked elf out names) e = absurd (other-name (codes "link") (codes "run") refl e)
+is-run (Decompile form elf out names) e = absurd (not-a-form (codes "run") refl refl refl form (sym e))
 is-run (SelfTest number size) e = absurd (other-name (codes "selftest") (codes "run") refl e)
 is-run (Simplify proof name out) e = absurd (other-name (codes "simplify") (codes "run") refl e)
 is-run (Laws proof cert) e = absurd (other-name (codes "laws") (codes "run") refl e)
@@ -70,41 +88,27 @@ pub is-check : (c : Command) → name_of c ≡ codes "check" → (elf proof : Li
 is-check (Eval proof name turns args) e = absurd (other-name (codes "eval") (codes "check") refl e)
 is-check (Run elf start until steps args) e = absurd (other-name (codes "run") (codes "check") refl e)
 is-check (Check elf proof) e = (elf, proof, refl)
-is-check (Decompile Alone elf out names) e = absurd (other-name (codes "decompile") (codes "check") refl e)
-is-check (Decompile Linked elf out names) e = absurd (other-name (codes "link") (codes "check") refl e)
+is-check (Decompile form elf out names) e = absurd (not-a-form (codes "check") refl refl refl form (sym e))
 is-check (SelfTest number size) e = absurd (other-name (codes "selftest") (codes "check") refl e)
 is-check (Simplify proof name out) e = absurd (other-name (codes "simplify") (codes "check") refl e)
 is-check (Laws proof cert) e = absurd (other-name (codes "laws") (codes "check") refl e)
 is-check (Smt proof name def out) e = absurd (other-name (codes "smt") (codes "check") refl e)
 
--- a name that decompiles functions is of one form
-forms-once : (f g : Form) → form_word f ≡ form_word g → f ≡ g
-forms-once Alone Alone e = refl
-forms-once Alone Linked e = absurd (other-name (codes "decompile") (codes "link") refl e)
-forms-once Linked Alone e = absurd (other-name (codes "link") (codes "decompile") refl e)
-forms-once Linked Linked e = refl
-
--- .. and no other command's
-not-a-form : (name : List ℕ) → bytes_eq name (codes "decompile") ≡ false → bytes_eq name (codes "link") ≡ false → (f : Form) → name ≡ form_word f → ⊥
-not-a-form name a b Alone e = other-name name (codes "decompile") a e
-not-a-form name a b Linked e = other-name name (codes "link") b e
-
 pub is-decompile : (form : Form) (c : Command) → name_of c ≡ form_word form → (elf out : List ℕ) × (names : List (List ℕ)) × (c ≡ Decompile form elf out names)
-is-decompile form (Eval proof name turns args) e = absurd (not-a-form (codes "eval") refl refl form e)
-is-decompile form (Run elf start until steps args) e = absurd (not-a-form (codes "run") refl refl form e)
-is-decompile form (Check elf proof) e = absurd (not-a-form (codes "check") refl refl form e)
+is-decompile form (Eval proof name turns args) e = absurd (not-a-form (codes "eval") refl refl refl form e)
+is-decompile form (Run elf start until steps args) e = absurd (not-a-form (codes "run") refl refl refl form e)
+is-decompile form (Check elf proof) e = absurd (not-a-form (codes "check") refl refl refl form e)
 is-decompile form (Decompile f elf out names) e = (elf, out, names, ap (λ f. Decompile f elf out names) (forms-once f form e))
-is-decompile form (SelfTest number size) e = absurd (not-a-form (codes "selftest") refl refl form e)
-is-decompile form (Simplify proof name out) e = absurd (not-a-form (codes "simplify") refl refl form e)
-is-decompile form (Laws proof cert) e = absurd (not-a-form (codes "laws") refl refl form e)
-is-decompile form (Smt proof name def out) e = absurd (not-a-form (codes "smt") refl refl form e)
+is-decompile form (SelfTest number size) e = absurd (not-a-form (codes "selftest") refl refl refl form e)
+is-decompile form (Simplify proof name out) e = absurd (not-a-form (codes "simplify") refl refl refl form e)
+is-decompile form (Laws proof cert) e = absurd (not-a-form (codes "laws") refl refl refl form e)
+is-decompile form (Smt proof name def out) e = absurd (not-a-form (codes "smt") refl refl refl form e)
 
 pub is-test : (c : Command) → name_of c ≡ codes "selftest" → (number size : ℕ) × (c ≡ SelfTest number size)
 is-test (Eval proof name turns args) e = absurd (other-name (codes "eval") (codes "selftest") refl e)
 is-test (Run elf start until steps args) e = absurd (other-name (codes "run") (codes "selftest") refl e)
 is-test (Check elf proof) e = absurd (other-name (codes "check") (codes "selftest") refl e)
-is-test (Decompile Alone elf out names) e = absurd (other-name (codes "decompile") (codes "selftest") refl e)
-is-test (Decompile Linked elf out names) e = absurd (other-name (codes "link") (codes "selftest") refl e)
+is-test (Decompile form elf out names) e = absurd (not-a-form (codes "selftest") refl refl refl form (sym e))
 is-test (SelfTest number size) e = (number, size, refl)
 is-test (Simplify proof name out) e = absurd (other-name (codes "simplify") (codes "selftest") refl e)
 is-test (Laws proof cert) e = absurd (other-name (codes "laws") (codes "selftest") refl e)
@@ -114,8 +118,7 @@ pub is-simplify : (c : Command) → name_of c ≡ codes "simplify" → (proof na
 is-simplify (Eval proof name turns args) e = absurd (other-name (codes "eval") (codes "simplify") refl e)
 is-simplify (Run elf start until steps args) e = absurd (other-name (codes "run") (codes "simplify") refl e)
 is-simplify (Check elf proof) e = absurd (other-name (codes "check") (codes "simplify") refl e)
-is-simplify (Decompile Alone elf out names) e = absurd (other-name (codes "decompile") (codes "simplify") refl e)
-is-simplify (Decompile Linked elf out names) e = absurd (other-name (codes "link") (codes "simplify") refl e)
+is-simplify (Decompile form elf out names) e = absurd (not-a-form (codes "simplify") refl refl refl form (sym e))
 is-simplify (SelfTest number size) e = absurd (other-name (codes "selftest") (codes "simplify") refl e)
 is-simplify (Simplify proof name out) e = (proof, name, out, refl)
 is-simplify (Laws proof cert) e = absurd (other-name (codes "laws") (codes "simplify") refl e)
@@ -125,8 +128,7 @@ pub is-laws : (c : Command) → name_of c ≡ codes "laws" → (proof cert : Lis
 is-laws (Eval proof name turns args) e = absurd (other-name (codes "eval") (codes "laws") refl e)
 is-laws (Run elf start until steps args) e = absurd (other-name (codes "run") (codes "laws") refl e)
 is-laws (Check elf proof) e = absurd (other-name (codes "check") (codes "laws") refl e)
-is-laws (Decompile Alone elf out names) e = absurd (other-name (codes "decompile") (codes "laws") refl e)
-is-laws (Decompile Linked elf out names) e = absurd (other-name (codes "link") (codes "laws") refl e)
+is-laws (Decompile form elf out names) e = absurd (not-a-form (codes "laws") refl refl refl form (sym e))
 is-laws (SelfTest number size) e = absurd (other-name (codes "selftest") (codes "laws") refl e)
 is-laws (Simplify proof name out) e = absurd (other-name (codes "simplify") (codes "laws") refl e)
 is-laws (Laws proof cert) e = (proof, cert, refl)
@@ -136,8 +138,7 @@ pub is-smt : (c : Command) → name_of c ≡ codes "smt" → (proof name : List 
 is-smt (Eval proof name turns args) e = absurd (other-name (codes "eval") (codes "smt") refl e)
 is-smt (Run elf start until steps args) e = absurd (other-name (codes "run") (codes "smt") refl e)
 is-smt (Check elf proof) e = absurd (other-name (codes "check") (codes "smt") refl e)
-is-smt (Decompile Alone elf out names) e = absurd (other-name (codes "decompile") (codes "smt") refl e)
-is-smt (Decompile Linked elf out names) e = absurd (other-name (codes "link") (codes "smt") refl e)
+is-smt (Decompile form elf out names) e = absurd (not-a-form (codes "smt") refl refl refl form (sym e))
 is-smt (SelfTest number size) e = absurd (other-name (codes "selftest") (codes "smt") refl e)
 is-smt (Simplify proof name out) e = absurd (other-name (codes "simplify") (codes "smt") refl e)
 is-smt (Laws proof cert) e = absurd (other-name (codes "laws") (codes "smt") refl e)

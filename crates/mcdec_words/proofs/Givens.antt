@@ -14,7 +14,9 @@ use Rattle.mc_text.proofs.Numbers.{Passes, Pass, digits-pass}
 use Rattle.mc_text.proofs.OneSpelling.{decimal-once, hex-once, bytes-once}
 use Rattle.mcdec_words.specs.declared.command.Unread.{Unread}
 use Rattle.mcdec_words.specs.declared.command.Unread.TheVariants as unread
-use Rattle.mcdec_words.specs.Command.{Arg, Value, Memory, Given, IsGiven, IsMemory, given_word, memory_word, arg_word}
+use Rattle.mcdec_words.specs.Command.{Arg, Value, Bytes, Given, IsGiven, IsMemory, given_word, memory_name, bytes_word, arg_word}
+use Rattle.mcdec_words.specs.declared.command.Memory.{Memory}
+use Rattle.mcdec_words.specs.declared.command.Memory.TheVariants.{First, Second}
 use Rattle.mcdec_words.specs.CommandReading.{IsArg, Lacks, Unless}
 
 -- ---- the first of a byte
@@ -101,13 +103,24 @@ value-parts r = append_assoc (hex r.at) (codes ":") (encode_lower r.bytes)
 name-lacks : (n : ℕ) → Lacks 61 (register_name n)
 name-lacks n = (λ e. omega arith, decimal-lacks 61 n (omega arith) (omega arith))
 
-mem-lacks : Lacks 61 (codes "mem")
-mem-lacks = (λ e. omega arith, (λ e. omega arith, (λ e. omega arith, tt)))
+memory-lacks : (m : Memory) → Lacks 61 (memory_name m)
+memory-lacks First = (λ e. omega arith, (λ e. omega arith, (λ e. omega arith, tt)))
+memory-lacks Second = (λ e. omega arith, (λ e. omega arith, (λ e. omega arith, tt)))
 
 -- ---- a register's value
 
-not-mem : (n : ℕ) → register_name n ≡ codes "mem" → ⊥
-not-mem n e = let first : ◌≡◌ {A = ℕ} 120 109 = ap (λ (w : List ℕ). get_or w 0 0) e in omega arith
+first-byte : {v w : List ℕ} → v ≡ w → get_or v 0 0 ≡ get_or w 0 0
+first-byte e = ap (λ (w : List ℕ). get_or w 0 0) e
+
+not-memory : (n : ℕ) (m : Memory) → register_name n ≡ memory_name m → ⊥
+not-memory n First e = let first : ◌≡◌ {A = ℕ} 120 109 = first-byte e in omega arith
+not-memory n Second e = let first : ◌≡◌ {A = ℕ} 120 115 = first-byte e in omega arith
+
+memory-once : (m q : Memory) → memory_name m ≡ memory_name q → m ≡ q
+memory-once First First e = refl
+memory-once First Second e = let first : ◌≡◌ {A = ℕ} 109 115 = first-byte e in absurd (omega arith)
+memory-once Second First e = let first : ◌≡◌ {A = ℕ} 115 109 = first-byte e in absurd (omega arith)
+memory-once Second Second e = refl
 
 abbrev NoGiven : List ℕ → List ℕ → Type 0
 NoGiven name value = (g : Given) → IsGiven g → name ≡ register_name g.register → value ≢ hex g.value
@@ -166,34 +179,34 @@ module _ (value front back : List ℕ) (parted : (value ≡ front ++ 58 ∷ back
         some-length [] h = absurd (h refl)
         some-length (b ∷ bs) h = omega arith
 
--- ---- words of both kinds
+-- ---- words of each kind
 
 -- a word without =
 pub no-mark : (word : List ℕ) → ((front back : List ℕ) → word ≢ front ++ 61 ∷ back) → (a : Arg) → IsArg a → word ≢ arg_word a
 no-mark word none (Value g) is e = none (register_name g.register) (hex g.value) (e ∙ given-parts g)
-no-mark word none (Memory r) is e = none (codes "mem") (memory_value r) e
+no-mark word none (Bytes m r) is e = none (memory_name m) (memory_value r) e
 
 module _ (word name value : List ℕ) (parted : (word ≡ name ++ 61 ∷ value) × Lacks 61 name) where
   given-are : (g : Given) → word ≡ given_word g → (name ≡ register_name g.register) × (value ≡ hex g.value)
   given-are g e = first-once 61 name (register_name g.register) value (hex g.value) parted.1 (name-lacks g.register) (sym parted.0 ∙ e ∙ given-parts g)
 
-  memory-are : (r : Range) → word ≡ memory_word r → (name ≡ codes "mem") × (value ≡ memory_value r)
-  memory-are r e = first-once 61 name (codes "mem") value (memory_value r) parted.1 mem-lacks (sym parted.0 ∙ e)
+  bytes-are : (m : Memory) (r : Range) → word ≡ bytes_word m r → (name ≡ memory_name m) × (value ≡ memory_value r)
+  bytes-are m r e = first-once 61 name (memory_name m) value (memory_value r) parted.1 (memory-lacks m) (sym parted.0 ∙ e)
 
-  no-argument : name ≡ codes "mem" → NoMemoryValue value → (a : Arg) → IsArg a → word ≢ arg_word a
-  no-argument named none (Value g) is e = not-mem g.register (sym (given-are g e).0 ∙ named)
-  no-argument named none (Memory r) is e = none r is (memory-are r e).1
+  no-argument : (m : Memory) → name ≡ memory_name m → NoMemoryValue value → (a : Arg) → IsArg a → word ≢ arg_word a
+  no-argument m named none (Value g) is e = not-memory g.register m (sym (given-are g e).0 ∙ named)
+  no-argument m named none (Bytes q r) is e = none r is (bytes-are q r e).1
 
-  pub no-memory : name ≡ codes "mem" → (e : Unread) → Unless (NoMemoryValue value) e → Unless ((a : Arg) → IsArg a → word ≢ arg_word a) e
-  no-memory named unread.NotACommand none = no-argument named none
-  no-memory named unread.NoMemory none = tt
+  pub no-memory : (m : Memory) → name ≡ memory_name m → (e : Unread) → Unless (NoMemoryValue value) e → Unless ((a : Arg) → IsArg a → word ≢ arg_word a) e
+  no-memory m named unread.NotACommand none = no-argument m named none
+  no-memory m named unread.NoMemory none = tt
 
-  pub no-given : (name ≡ codes "mem" → ⊥) → NoGiven name value → (a : Arg) → IsArg a → word ≢ arg_word a
+  pub no-given : ((m : Memory) → name ≢ memory_name m) → NoGiven name value → (a : Arg) → IsArg a → word ≢ arg_word a
   no-given other none (Value g) is e = let p = given-are g e in none g is p.0 p.1
-  no-given other none (Memory r) is e = other (memory-are r e).0
+  no-given other none (Bytes m r) is e = other m (bytes-are m r e).0
 
-  pub memory-word : name ≡ codes "mem" → (r : Range) → value ≡ memory_value r → word ≡ memory_word r
-  memory-word named r e = parted.0 ∙ (λ i. named i ++ 61 ∷ e i)
+  pub bytes-word : (m : Memory) → name ≡ memory_name m → (r : Range) → value ≡ memory_value r → word ≡ bytes_word m r
+  bytes-word m named r e = parted.0 ∙ (λ i. named i ++ 61 ∷ e i)
 
   pub given-word : (g : Given) → name ≡ register_name g.register → value ≡ hex g.value → word ≡ given_word g
   given-word g named e = parted.0 ∙ (λ i. named i ++ 61 ∷ e i) ∙ sym (given-parts g)
@@ -208,19 +221,26 @@ given_word-injective g h a b e =
     let v : g.value ≡ h.value = hex-once g.value h.value a.2 b.2 p.1 in
     λ i. record { register = r i; value = v i }
 
-memory_word-injective : (q r : Range) → IsMemory q → IsMemory r → memory_word q ≡ memory_word r → q ≡ r
-memory_word-injective q r a b e =
-    let p = memory-are (memory_word q) (codes "mem") (memory_value q) (refl, mem-lacks) r e in
-    let x = parts-are (memory_value q) (hex q.at) (encode_lower q.bytes) (value-parts q, hex-lacks 58 q.at (omega arith) (omega arith)) r p.1 in
+memory_value-injective : (q r : Range) → IsMemory q → IsMemory r → memory_value q ≡ memory_value r → q ≡ r
+memory_value-injective q r a b e =
+    let x = parts-are (memory_value q) (hex q.at) (encode_lower q.bytes) (value-parts q, hex-lacks 58 q.at (omega arith) (omega arith)) r e in
     let s : q.at ≡ r.at = hex-once q.at r.at (address-fits q a) (address-fits r b) x.0 in
     let t : q.bytes ≡ r.bytes = bytes-once q.bytes r.bytes (bytes-fit q a) (bytes-fit r b) x.1 in
     λ i. record { at = s i; bytes = t i }
 
-unlike-words : (g : Given) (r : Range) → given_word g ≡ memory_word r → ⊥
-unlike-words g r e = let first : ◌≡◌ {A = ℕ} 120 109 = ap (λ (w : List ℕ). get_or w 0 0) e in omega arith
+bytes_word-injective : (m p : Memory) (q r : Range) → IsMemory q → IsMemory r → bytes_word m q ≡ bytes_word p r → Bytes m q ≡ Bytes p r
+bytes_word-injective m p q r a b e =
+    let x = bytes-are (bytes_word m q) (memory_name m) (memory_value q) (refl, memory-lacks m) p r e in
+    let s : m ≡ p = memory-once m p x.0 in
+    let t : q ≡ r = memory_value-injective q r a b x.1 in
+    λ i. Bytes (s i) (t i)
+
+unlike-words : (g : Given) (m : Memory) (r : Range) → given_word g ≡ bytes_word m r → ⊥
+unlike-words g First r e = let first : ◌≡◌ {A = ℕ} 120 109 = first-byte e in omega arith
+unlike-words g Second r e = let first : ◌≡◌ {A = ℕ} 120 115 = first-byte e in omega arith
 
 pub arg_word-injective : (a b : Arg) → IsArg a → IsArg b → arg_word a ≡ arg_word b → a ≡ b
 arg_word-injective (Value g) (Value h) x y e = ap Value (given_word-injective g h x y e)
-arg_word-injective (Value g) (Memory r) x y e = absurd (unlike-words g r e)
-arg_word-injective (Memory r) (Value g) x y e = absurd (unlike-words g r (sym e))
-arg_word-injective (Memory q) (Memory r) x y e = ap Memory (memory_word-injective q r x y e)
+arg_word-injective (Value g) (Bytes m r) x y e = absurd (unlike-words g m r e)
+arg_word-injective (Bytes m r) (Value g) x y e = absurd (unlike-words g m r (sym e))
+arg_word-injective (Bytes m q) (Bytes p r) x y e = bytes_word-injective m p q r x y e

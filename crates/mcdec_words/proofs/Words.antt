@@ -16,14 +16,14 @@ use Rattle.mcdec_words.specs.declared.command.Simplify.{Simplify as ReadSimplify
 use Rattle.mcdec_words.specs.declared.command.Laws.{Laws as ReadLaws}
 use Rattle.mcdec_words.specs.declared.command.Smt.{Smt as ReadSmt}
 use Rattle.mc_text.specs.Number.{hex, number_of}
-use Rattle.mcdec_words.specs.Command.{AreNames, Command, Eval, Run, Check, Decompile, SelfTest, Simplify, Laws, Smt, Arg, IsCommand, IsNoCommand, Words, arg_word, form_word, texts}
+use Rattle.mcdec_words.specs.Command.{AreNames, Command, Eval, Run, Check, Decompile, SelfTest, Simplify, Laws, Smt, Arg, IsCommand, IsNoCommand, Words, arg_word, form_word, ranges, texts}
 use Rattle.mcdec_words.specs.declared.command.Form.{Form}
-use Rattle.mcdec_words.specs.declared.command.Form.TheVariants.{Alone, Linked}
+use Rattle.mcdec_words.specs.declared.command.Memory.TheVariants.{Second}
 use Rattle.group_text.specs.Limits.{IsName}
 use Rattle.mcdec_words.specs.CommandReading.{HoldsArgs, NoArgs, AllArgs, Unless, NoEval, IsEval, NoRun, IsRun, NoCheck, IsCheck, NoDecompile, IsDecompile, NoSelfTest, IsSelfTest, NoSimplify, IsSimplify, IsLaws, NoSmt, IsSmt, operands_of}
 use Rattle.mcdec_words.specs.declared.command.Unread.{Unread}
 use Rattle.rv_words.specs.declared.range.Range.{Range}
-use Rattle.mcdec_words.proofs.ArgWords.{unless-also}
+use Rattle.mcdec_words.proofs.ArgWords.{args-unique, unless-also}
 use Rattle.mcdec_words.proofs.CommandNames.{is-check, is-decompile, is-eval, is-run, is-simplify, is-smt, is-test, name_of, named-words}
 use Rattle.mc_text.proofs.Numbers.{number_of-takes, number_of-again}
 use Rattle.mc_text.proofs.OneSpelling.{decimal-once}
@@ -92,9 +92,9 @@ module _ (words : List Word) (proof name turns : Word) (low : 3 ≤ length words
   pub eval-without : (why : Unread) → Unless (NoArgs (behind_first 3 words)) why → Unless (NoEval (texts words)) why
   eval-without why none = unless-also no-more why none
 
-  pub eval-read : (p n : List ℕ) (t : ℕ) (values : List (Option ℕ)) (memory : List Range) → p ≡ string_bytes proof → n ≡ string_bytes name → string_bytes proof ≢ [] → IsName (string_bytes name) → Some t ≡ number_of 10 (string_bytes turns)
-      → AllArgs (behind_first 3 words) values memory → (args : List Arg) × IsCommand (Eval p n t args) × (texts words ≡ operands_of (Eval p n t args)) × HoldsArgs args values memory
-  eval-read p n t values memory ep en some is number all =
+  pub eval-read : (p n : List ℕ) (t : ℕ) (values : List (Option ℕ)) (memory stack : List Range) → p ≡ string_bytes proof → n ≡ string_bytes name → string_bytes proof ≢ [] → IsName (string_bytes name) → Some t ≡ number_of 10 (string_bytes turns)
+      → AllArgs (behind_first 3 words) values memory stack → (args : List Arg) × IsCommand (Eval p n t args) × (texts words ≡ operands_of (Eval p n t args)) × HoldsArgs args values memory stack
+  eval-read p n t values memory stack ep en some is number all =
       let d = number_of-takes 10 (string_bytes turns) t (sym number) in
       let same : texts words ≡ operands_of (Eval p n t all.0) = split ∙ (λ i. sym ep i ∷ sym en i ∷ d.0 i ∷ all.2 i) in
       (all.0, (λ e. some (sym ep ∙ e), subst IsName (sym en) is, d.1, all.1), same, all.3)
@@ -130,13 +130,21 @@ module _ (words : List Word) (elf start until steps : Word) (low : 4 ≤ length 
   pub no-arguments : (why : Unread) → Unless (NoArgs (behind_first 4 words)) why → Unless (NoRun (texts words)) why
   no-arguments why none = unless-also no-args why none
 
-  pub run-read : (e s : List ℕ) (u k : ℕ) (values : List (Option ℕ)) (memory : List Range) → e ≡ string_bytes elf → s ≡ string_bytes start → string_bytes elf ≢ [] → IsName (string_bytes start)
-      → (u < 2 ^ 64) × (string_bytes until ≡ hex u) → Some k ≡ number_of 10 (string_bytes steps) → AllArgs (behind_first 4 words) values memory
-      → (args : List Arg) × IsCommand (Run e s u k args) × (texts words ≡ operands_of (Run e s u k args)) × HoldsArgs args values memory
-  run-read e s u k values memory ee es some is address number all =
+  -- bytes of a second memory
+  pub no-second : (values : List (Option ℕ)) (memory stack : List Range) → AllArgs (behind_first 4 words) values memory stack → (stack ≡ [] → ⊥) → NoRun (texts words)
+  no-second values memory stack all some e s u k args is same =
+      let whole = sym split-run ∙ same in
+      let others : behind_first 4 words ≡ map arg_word args = cc in
+      let equal : all.0 ≡ args = args-unique all.0 args all.1 is.4 (sym all.2 ∙ others) in
+      some (all.3.2 ∙ ap (ranges Second) equal ∙ is.5)
+
+  pub run-read : (e s : List ℕ) (u k : ℕ) (values : List (Option ℕ)) (memory stack : List Range) → e ≡ string_bytes elf → s ≡ string_bytes start → string_bytes elf ≢ [] → IsName (string_bytes start)
+      → (u < 2 ^ 64) × (string_bytes until ≡ hex u) → Some k ≡ number_of 10 (string_bytes steps) → AllArgs (behind_first 4 words) values memory stack → stack ≡ []
+      → (args : List Arg) × IsCommand (Run e s u k args) × (texts words ≡ operands_of (Run e s u k args)) × HoldsArgs args values memory []
+  run-read e s u k values memory stack ee es some is address number all none =
       let d = number_of-takes 10 (string_bytes steps) k (sym number) in
       let same : texts words ≡ operands_of (Run e s u k all.0) = split-run ∙ (λ i. sym ee i ∷ sym es i ∷ address.1 i ∷ d.0 i ∷ all.2 i) in
-      (all.0, ((λ n. some (sym ee ∙ n)), subst IsName (sym es) is, address.0, d.1, all.1), same, all.3)
+      (all.0, ((λ n. some (sym ee ∙ n)), subst IsName (sym es) is, address.0, d.1, all.1, sym all.3.2 ∙ none), same, (all.3.0, all.3.1, sym none ∙ all.3.2))
 
 -- ---- the words behind `check`
 
@@ -374,7 +382,7 @@ module _ (words : List Word) (first : Word) (low : 1 ≤ length words) (here : f
   pub no-eval : bytes_eq text (codes "eval") ≡ true → (e : Unread) → Unless (NoEval (behind_first 1 words)) e → Unless (IsNoCommand (texts words)) e
   no-eval is e none = unless-also (not-eval is) e none
 
-  pub eval-is : bytes_eq text (codes "eval") ≡ true → (e : ReadEval) → IsEval (behind_first 1 words) e → (args : List Arg) × Words (texts words) (Eval e.proof.now e.name.now e.turns args) × HoldsArgs args e.given.values e.memory
+  pub eval-is : bytes_eq text (codes "eval") ≡ true → (e : ReadEval) → IsEval (behind_first 1 words) e → (args : List Arg) × Words (texts words) (Eval e.proof.now e.name.now e.turns args) × HoldsArgs args e.given.values e.memory e.stack
   eval-is is e all = (all.0, (all.1, behind-name (codes "eval") is _ all.2), all.3)
 
   not-run : bytes_eq text (codes "run") ≡ true → NoRun (behind_first 1 words) → IsNoCommand (texts words)
@@ -386,7 +394,7 @@ module _ (words : List Word) (first : Word) (low : 1 ≤ length words) (here : f
   pub no-run : bytes_eq text (codes "run") ≡ true → (e : Unread) → Unless (NoRun (behind_first 1 words)) e → Unless (IsNoCommand (texts words)) e
   no-run is e none = unless-also (not-run is) e none
 
-  pub run-is : bytes_eq text (codes "run") ≡ true → (r : ReadRun) → IsRun (behind_first 1 words) r → (args : List Arg) × Words (texts words) (Run r.elf.now r.start.now r.until r.steps args) × HoldsArgs args r.given.values r.memory
+  pub run-is : bytes_eq text (codes "run") ≡ true → (r : ReadRun) → IsRun (behind_first 1 words) r → (args : List Arg) × Words (texts words) (Run r.elf.now r.start.now r.until r.steps args) × HoldsArgs args r.given.values r.memory []
   run-is is r all = (all.0, (all.1, behind-name (codes "run") is _ all.2), all.3)
 
   not-check : bytes_eq text (codes "check") ≡ true → NoCheck (behind_first 1 words) → IsNoCommand (texts words)

@@ -1,14 +1,14 @@
 -- The lists of words that are commands, and no others.
 --
---   eval PROOF NAME TURNS ARG*        ARG is xN=V, each N at most once,
---   run ELF START UNTIL STEPS ARG*    or mem=A:H, with two hexadecimal digits for each byte, any number of them
+--   eval PROOF NAME TURNS ARG*        ARG is xN=V, each N at most once, or mem=A:H, with two hexadecimal digits for each byte,
+--   run ELF START UNTIL STEPS ARG*    any number of them; behind `eval` also stk=A:H, formed as mem=A:H
 --   check ELF PROOF
---   decompile ELF OUT NAME+           link ELF OUT NAME+
+--   decompile ELF OUT NAME+           link ELF OUT NAME+           split ELF OUT NAME+
 --   selftest NUMBER SIZE
 --   simplify PROOF NAME OUT
 --   laws PROOF CERT
 --   smt PROOF NAME DEF OUT
-use Rattle.std.specs.Prelude.{◌≡◌, ◌≢◌, ℕ, ◌<◌, ◌≤◌, ◌^◌, ◌+◌, ◌==◌, if◌then◌else◌, List, [], ◌∷◌, ◌++◌, length, map, codes, Option, Some, None, unwrap_or, string_bytes}
+use Rattle.std.specs.Prelude.{◌≡◌, ◌≢◌, ℕ, ◌<◌, ◌≤◌, ◌^◌, ◌+◌, ◌==◌, if◌then◌else◌, List, [], ◌∷◌, ◌++◌, length, map, flat_map, codes, Option, Some, None, unwrap_or, string_bytes}
 use Rattle.std.specs.List.{All, AllByRecursion, AllPairs}
 use Rattle.std.specs.Fmt.{decimal}
 use Rattle.hex.specs.Hex.{encode_lower}
@@ -18,17 +18,19 @@ use Rattle.rv_words.specs.declared.range.Range.{Range}
 use Rattle.mc_text.specs.Number.{hex}
 use Rattle.group_text.specs.Limits.{IsName}
 use Rattle.mcdec_words.specs.declared.command.Form.{Form}
-use Rattle.mcdec_words.specs.declared.command.Form.TheVariants.{Alone, Linked}
+use Rattle.mcdec_words.specs.declared.command.Form.TheVariants.{Alone, Linked, Split}
+use Rattle.mcdec_words.specs.declared.command.Memory.{Memory}
+use Rattle.mcdec_words.specs.declared.command.Memory.TheVariants.{First, Second}
 
 -- a register that is given a value
 pub record Given : Type 0 where
   pub register : ℕ
   pub value : ℕ
 
--- a register's value, or bytes of memory
+-- a register's value, or bytes of one of a function's memories
 pub data Arg : Type 0 where
   Value : (given : Given) → Arg
-  Memory : (range : Range) → Arg
+  Bytes : (memory : Memory) (range : Range) → Arg
 
 pub data Command : Type 0 where
   Eval : (proof name : List ℕ) (turns : ℕ) (args : List Arg) → Command
@@ -44,18 +46,24 @@ pub data Command : Type 0 where
 abbrev pub given_word : Given → List ℕ
 given_word g = codes "x" ++ decimal g.register ++ codes "=" ++ hex g.value
 
--- mem=A:H
-abbrev pub memory_word : Range → List ℕ
-memory_word r = codes "mem=" ++ hex r.at ++ codes ":" ++ encode_lower r.bytes
+-- the name of a function's memory; the second one is that of the stack
+abbrev pub memory_name : Memory → List ℕ
+memory_name First = codes "mem"
+memory_name Second = codes "stk"
+
+-- mem=A:H · stk=A:H
+abbrev pub bytes_word : Memory → Range → List ℕ
+bytes_word m r = memory_name m ++ (codes "=" ++ hex r.at ++ codes ":" ++ encode_lower r.bytes)
 
 abbrev pub arg_word : Arg → List ℕ
 arg_word (Value g) = given_word g
-arg_word (Memory r) = memory_word r
+arg_word (Bytes m r) = bytes_word m r
 
 -- the name of the command that decompiles functions so
 abbrev pub form_word : Form → List ℕ
 form_word Alone = codes "decompile"
 form_word Linked = codes "link"
+form_word Split = codes "split"
 
 -- the words of a command: its name, and its operands
 abbrev pub words_of : Command → List (List ℕ)
@@ -89,16 +97,20 @@ IsMemory r = (0 < length r.bytes) × (r.at + length r.bytes ≤ 2 ^ 64) × AllBy
 abbrev pub givens : List Arg → List Given
 givens [] = []
 givens (Value g ∷ args) = g ∷ givens args
-givens (Memory r ∷ args) = givens args
+givens (Bytes m r ∷ args) = givens args
 
--- the bytes of memory, in the words' order
-abbrev pub ranges : List Arg → List Range
-ranges [] = []
-ranges (Value g ∷ args) = ranges args
-ranges (Memory r ∷ args) = r ∷ ranges args
+-- the bytes of that memory in a word
+abbrev pub range_in : Memory → Arg → List Range
+range_in First (Bytes First r) = r ∷ []
+range_in Second (Bytes Second r) = r ∷ []
+range_in m other = []
+
+-- .. and in all of them, in their order
+abbrev pub ranges : Memory → List Arg → List Range
+ranges m args = flat_map (range_in m) args
 
 abbrev pub AreArgs : List Arg → Type 0
-AreArgs args = AreGiven (givens args) × AllByRecursion IsMemory (ranges args)
+AreArgs args = AreGiven (givens args) × AllByRecursion IsMemory (ranges First args) × AllByRecursion IsMemory (ranges Second args)
 
 -- names, none of which stands twice
 abbrev pub AreNames : List (List ℕ) → Type 0
@@ -107,7 +119,7 @@ AreNames names = All IsName names × AllPairs (λ a b. a ≢ b) names
 -- what its words may be
 abbrev pub IsCommand : Command → Type 0
 IsCommand (Eval proof name turns args) = (proof ≢ []) × IsName name × (turns < 2 ^ 64) × AreArgs args
-IsCommand (Run elf start until steps args) = (elf ≢ []) × IsName start × (until < 2 ^ 64) × (steps < 2 ^ 64) × AreArgs args
+IsCommand (Run elf start until steps args) = (elf ≢ []) × IsName start × (until < 2 ^ 64) × (steps < 2 ^ 64) × AreArgs args × (ranges Second args ≡ [])
 IsCommand (Check elf proof) = (elf ≢ []) × (proof ≢ [])
 IsCommand (Decompile form elf out names) = (elf ≢ []) × (out ≢ []) × (elf ≢ out) × (names ≢ []) × AreNames names
 IsCommand (SelfTest number size) = (number < 2 ^ 64) × (1 ≤ size) × (size ≤ 600)

@@ -1,6 +1,6 @@
 -- What the reader of the command line's words gives.
 use Rattle.std.specs.List.{AllByRecursion}
-use Rattle.std.specs.Prelude.{◌≡◌, ◌≢◌, ℕ, ◌<◌, List, drop, map, Option, Some, None, slice_get, unwrap_or}
+use Rattle.std.specs.Prelude.{◌≡◌, ◌≢◌, ℕ, ◌<◌, List, [], drop, map, Option, Some, None, slice_get, unwrap_or}
 use Rattle.mcdec_words.specs.declared.command.Command.{Command as Read}
 use Rattle.mcdec_words.specs.declared.command.Command.TheVariants as read
 use Rattle.mcdec_words.specs.declared.command.Eval.{Eval as ReadEval}
@@ -14,10 +14,11 @@ use Rattle.mcdec_words.specs.declared.command.Smt.{Smt as ReadSmt}
 use Rattle.mcdec_words.specs.declared.command.Argument.{Argument as ReadArg}
 use Rattle.mcdec_words.specs.declared.command.Argument.TheVariants as read_arg
 use Rattle.mcdec_words.specs.declared.command.Form.{Form}
+use Rattle.mcdec_words.specs.declared.command.Memory.TheVariants.{First, Second}
 use Rattle.mcdec_words.specs.declared.command.Unread.{Unread}
 use Rattle.mcdec_words.specs.declared.command.Unread.TheVariants as unread
 use Rattle.rv_words.specs.declared.range.Range.{Range}
-use Rattle.mcdec_words.specs.Command.{Eval, Run, Check, Decompile, SelfTest, Simplify, Laws, Smt, Arg, Value, Memory, Given, IsGiven, IsMemory, IsCommand, AreArgs, Command, Words, given_to, arg_word, words_of, givens, ranges}
+use Rattle.mcdec_words.specs.Command.{Eval, Run, Check, Decompile, SelfTest, Simplify, Laws, Smt, Arg, Value, Bytes, Given, IsGiven, IsMemory, IsCommand, AreArgs, Command, Words, given_to, arg_word, words_of, givens, ranges}
 
 -- each register's value, or none
 abbrev pub Holds : List Given → List (Option ℕ) → Type 0
@@ -46,12 +47,12 @@ Lacks b bytes = AllByRecursion (λ c. c ≢ b) bytes
 -- a word behind the others, seen by what was read
 abbrev pub arg_of : ReadArg → Arg
 arg_of (read_arg.Value register value) = Value (record { register = register; value = value })
-arg_of (read_arg.Memory range) = Memory range
+arg_of (read_arg.Bytes memory range) = Bytes memory range
 
 -- a word by itself
 abbrev pub IsArg : Arg → Type 0
 IsArg (Value g) = IsGiven g
-IsArg (Memory r) = IsMemory r
+IsArg (Bytes m r) = IsMemory r
 
 -- what was read of words, or why nothing was
 abbrev pub Unless : Type 0 → Unread → Type 0
@@ -61,12 +62,12 @@ Unless none unread.NoMemory = Unit {0}
 abbrev pub NoArgs : List (List ℕ) → Type 0
 NoArgs ws = (args : List Arg) → AreArgs args → ws ≢ map arg_word args
 
--- the registers' values and the ranges
-abbrev pub HoldsArgs : List Arg → List (Option ℕ) → List Range → Type 0
-HoldsArgs args values memory = Holds (givens args) values × (memory ≡ ranges args)
+-- the registers' values, and the ranges of each memory
+abbrev pub HoldsArgs : List Arg → List (Option ℕ) → (memory stack : List Range) → Type 0
+HoldsArgs args values memory stack = Holds (givens args) values × (memory ≡ ranges First args) × (stack ≡ ranges Second args)
 
-abbrev pub AllArgs : List (List ℕ) → List (Option ℕ) → List Range → Type 0
-AllArgs ws values memory = (args : List Arg) × AreArgs args × (ws ≡ map arg_word args) × HoldsArgs args values memory
+abbrev pub AllArgs : List (List ℕ) → List (Option ℕ) → (memory stack : List Range) → Type 0
+AllArgs ws values memory stack = (args : List Arg) × AreArgs args × (ws ≡ map arg_word args) × HoldsArgs args values memory stack
 
 -- the words behind the command's name
 abbrev pub operands_of : Command → List (List ℕ)
@@ -77,14 +78,14 @@ NoEval ws = (proof name : List ℕ) (turns : ℕ) (args : List Arg) → IsComman
 
 abbrev pub IsEval : List (List ℕ) → ReadEval → Type 0
 IsEval ws e = (args : List Arg) × IsCommand (Eval e.proof.now e.name.now e.turns args) × (ws ≡ operands_of (Eval e.proof.now e.name.now e.turns args))
-    × HoldsArgs args e.given.values e.memory
+    × HoldsArgs args e.given.values e.memory e.stack
 
 abbrev pub NoRun : List (List ℕ) → Type 0
 NoRun ws = (elf start : List ℕ) (until steps : ℕ) (args : List Arg) → IsCommand (Run elf start until steps args) → ws ≢ operands_of (Run elf start until steps args)
 
 abbrev pub IsRun : List (List ℕ) → ReadRun → Type 0
 IsRun ws r = (args : List Arg) × IsCommand (Run r.elf.now r.start.now r.until r.steps args) × (ws ≡ operands_of (Run r.elf.now r.start.now r.until r.steps args))
-    × HoldsArgs args r.given.values r.memory
+    × HoldsArgs args r.given.values r.memory []
 
 abbrev pub NoCheck : List (List ℕ) → Type 0
 NoCheck ws = (elf proof : List ℕ) → IsCommand (Check elf proof) → ws ≢ operands_of (Check elf proof)
@@ -124,10 +125,10 @@ IsSmt ws s = IsCommand (Smt s.proof.now s.name.now s.def s.out.now) × (ws ≡ o
 
 -- the command, seen by what was read
 abbrev pub IsReadEval : List (List ℕ) → ReadEval → Type 0
-IsReadEval ws e = (args : List Arg) × Words ws (Eval e.proof.now e.name.now e.turns args) × HoldsArgs args e.given.values e.memory
+IsReadEval ws e = (args : List Arg) × Words ws (Eval e.proof.now e.name.now e.turns args) × HoldsArgs args e.given.values e.memory e.stack
 
 abbrev pub IsReadRun : List (List ℕ) → ReadRun → Type 0
-IsReadRun ws r = (args : List Arg) × Words ws (Run r.elf.now r.start.now r.until r.steps args) × HoldsArgs args r.given.values r.memory
+IsReadRun ws r = (args : List Arg) × Words ws (Run r.elf.now r.start.now r.until r.steps args) × HoldsArgs args r.given.values r.memory []
 
 abbrev pub IsReadCheck : List (List ℕ) → ReadCheck → Type 0
 IsReadCheck ws c = Words ws (Check c.elf.now c.proof.now)

@@ -5,8 +5,9 @@ ghost use Rattle.std.specs.Fmt.{decimal};
 ghost use Rattle.hex.specs.Hex.{encode_lower};
 ghost use Rattle.mc_text.specs.Number.{hex};
 ghost use Rattle.group_text.specs.Limits.{IsName};
-ghost use Rattle.mcdec_words.specs.Command.{AreNames, Arg, Given, IsGiven, IsMemory, IsNoCommand, arg_word, texts};
+ghost use Rattle.mcdec_words.specs.Command.{AreNames, Arg, Given, IsGiven, IsMemory, IsNoCommand, arg_word, memory_name, texts};
 ghost use Rattle.mcdec_words.specs.CommandReading.{AllArgs, IsArg, IsCheck, IsDecompile, IsEval, IsLaws, IsRead, IsRun, IsSelfTest, IsSimplify, IsSmt, Lacks, NoArgs, NoCheck, NoDecompile, NoEval, NoLaws, NoRun, NoSelfTest, NoSimplify, NoSmt, Unless, arg_of, given_in, value_in};
+ghost use Rattle.mcdec_words.specs.declared.command.Memory.{Memory as MemoryOf};
 ghost use Rattle.mcdec_words.specs.declared.command.Unread.TheVariants.{NoMemory};
 ghost use Rattle.rv_words.specs.declared.range.Range.{Range as RangeOf};
 
@@ -52,6 +53,8 @@ pub struct Eval<'a> {
     pub turns: u64,
     pub given: Registers,
     pub memory: List<Range>,
+    /// Bytes of the second memory.
+    pub stack: List<Range>,
 }
 
 /// `run ELF START UNTIL STEPS ARG*`
@@ -72,16 +75,18 @@ pub struct Check<'a> {
     pub proof: &'a str,
 }
 
-/// Which functions are decompiled together.
+/// How functions are decompiled.
 #[derive(Clone, Copy, Debug, PartialEq, Eq)]
 pub enum Form {
     /// Each function by itself.
     Alone,
     /// Each function with those that it calls.
     Linked,
+    /// Each function by itself, with its stack as a second memory.
+    Split,
 }
 
-/// `decompile ELF OUT NAME+` · `link ELF OUT NAME+`
+/// `decompile ELF OUT NAME+` · `link ELF OUT NAME+` · `split ELF OUT NAME+`
 #[derive(Drop)]
 pub struct Decompile<'a> {
     pub form: Form,
@@ -126,8 +131,28 @@ pub struct Smt<'a> {
 pub enum Argument {
     /// The number of a register, and its value.
     Value(u8, u64),
-    /// Bytes of memory.
-    Memory(Range),
+    /// Bytes of a memory.
+    Bytes(Memory, Range),
+}
+
+/// One of a function's memories.
+#[derive(Clone, Copy, Debug, PartialEq, Eq)]
+pub enum Memory {
+    First,
+    /// That of the stack, where a function has two.
+    Second,
+}
+
+impl Memory {
+    /// Its name in words and lines.
+    pub fn name(self) -> &'static str
+        ensures { result.now ≡ memory_name self }
+    {
+        match self {
+            Memory::First => "mem",
+            Memory::Second => "stk",
+        }
+    }
 }
 
 /// The values that the words give to registers, by their numbers.
@@ -192,6 +217,9 @@ pub fn read_words(alloc: Global, words: &[String]) -> Result<Command<'_>, Unread
     if first.as_str() == "link" {
         return Ok(Command::Decompile(read_decompile(alloc, Form::Linked, rest)?));
     }
+    if first.as_str() == "split" {
+        return Ok(Command::Decompile(read_decompile(alloc, Form::Split, rest)?));
+    }
     Err(Unread::NotACommand)
 }
 
@@ -209,13 +237,14 @@ fn read_eval(alloc: Global, words: &[String]) -> Result<Eval<'_>, Unread>
         Some(turns) => turns,
         None => return Err(Unread::NotACommand),
     };
-    let (given, memory) = read_arguments(alloc, arguments)?;
+    let (given, memory, stack) = read_arguments(alloc, arguments)?;
     Ok(Eval {
         proof: proof.as_str(),
         name: name.as_bytes(),
         turns,
         given,
         memory,
+        stack,
     })
 }
 
@@ -237,7 +266,10 @@ fn read_run(alloc: Global, words: &[String]) -> Result<Run<'_>, Unread>
         Some(steps) => steps,
         None => return Err(Unread::NotACommand),
     };
-    let (given, memory) = read_arguments(alloc, arguments)?;
+    let (given, memory, stack) = read_arguments(alloc, arguments)?;
+    if !stack.is_empty() {
+        return Err(Unread::NotACommand);
+    }
     Ok(Run {
         elf: elf.as_str(),
         start: start.as_bytes(),
@@ -264,7 +296,7 @@ fn read_check(words: &[String]) -> Result<Check<'_>, Unread>
     })
 }
 
-/// The words behind `decompile` or `link`.
+/// The words behind `decompile`, `link` or `split`.
 fn read_decompile(alloc: Global, form: Form, words: &[String]) -> Result<Decompile<'_>, Unread>
     ensures { MatchResult result (λ d. (d.form ≡ form) × IsDecompile (texts words.now) d) (λ e. Unless (NoDecompile form (texts words.now)) e) }
 {
@@ -405,12 +437,16 @@ fn is_name(bytes: &[u8]) -> bool
     bytes.len() <= 4096 && is_atom(bytes)
 }
 
-/// The values of registers, and bytes of memory.
-fn read_arguments(alloc: Global, words: &[String]) -> Result<(Registers, List<Range>), Unread>
-    ensures { MatchResult result (λ x. AllArgs (texts words.now) x.0.values x.1) (λ e. Unless (NoArgs (texts words.now)) e) }
+/// The values of registers, and the bytes of each memory.
+fn read_arguments(
+    alloc: Global,
+    words: &[String],
+) -> Result<(Registers, List<Range>, List<Range>), Unread>
+    ensures { MatchResult result (λ x. AllArgs (texts words.now) x.0.values x.1 x.2) (λ e. Unless (NoArgs (texts words.now)) e) }
 {
     let mut values = [None; 32];
     let mut memory = List::new(alloc);
+    let mut stack = List::new(alloc);
     for word in words {
         match read_argument(alloc, word.as_str())? {
             Argument::Value(register, value) => {
@@ -419,10 +455,11 @@ fn read_arguments(alloc: Global, words: &[String]) -> Result<(Registers, List<Ra
                 }
                 values[register as usize] = Some(value);
             }
-            Argument::Memory(range) => memory.push(range)?,
+            Argument::Bytes(Memory::First, range) => memory.push(range)?,
+            Argument::Bytes(Memory::Second, range) => stack.push(range)?,
         }
     }
-    Ok((Registers { values }, memory))
+    Ok((Registers { values }, memory, stack))
 }
 
 /// A word behind the others.
@@ -432,8 +469,8 @@ fn read_argument(alloc: Global, word: &str) -> Result<Argument, Unread>
     let Some((name, value)) = at_first(word, '=') else {
         return Err(Unread::NotACommand);
     };
-    if name == "mem" {
-        return Ok(Argument::Memory(read_memory(alloc, value)?));
+    if let Some(memory) = memory_named(name) {
+        return Ok(Argument::Bytes(memory, read_memory(alloc, value)?));
     }
     match read_register(name.as_bytes(), value.as_bytes()) {
         Some((register, value)) => Ok(Argument::Value(register, value)),
@@ -456,6 +493,19 @@ fn read_register(name: &[u8], value: &[u8]) -> Option<(u8, u64)>
     } else {
         None
     }
+}
+
+/// The memory of that name.
+fn memory_named(name: &str) -> Option<Memory>
+    ensures { MatchOption result ((m : MemoryOf) → name.now ≢ memory_name m) (λ m. name.now ≡ memory_name m) }
+{
+    if name == Memory::First.name() {
+        return Some(Memory::First);
+    }
+    if name == Memory::Second.name() {
+        return Some(Memory::Second);
+    }
+    None
 }
 
 /// Bytes of memory.

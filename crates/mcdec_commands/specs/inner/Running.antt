@@ -1,5 +1,5 @@
 -- What a run from a state comes to, and what is shown of a state.
-use Rattle.std.specs.Prelude.{◌≡◌, ℕ, List, map}
+use Rattle.std.specs.Prelude.{◌≡◌, ℕ, List, [], map}
 use Rattle.rv_words.specs.declared.range.Range.{Range}
 use Rattle.rv_machine.specs.State.{State}
 use Rattle.rv_machine.specs.Run.{EndsIn}
@@ -22,4 +22,4 @@ MachineGives until steps args s (answer.Met shown) = (t : State) × (k : ℕ) ×
 -- what is shown of a state after that many steps, with these bytes of memory
 abbrev pub shown_with : List Given → ℕ → State → List Range → Shown
 shown_with given k t memory =
-    record { count = k; pc = t.pc; registers = shown_registers given t; words = map t.reg (shown_registers given t); memory = memory }
+    record { count = k; pc = t.pc; registers = shown_registers given t; words = map t.reg (shown_registers given t); memory = memory; stack = [] }

@@ -1,6 +1,8 @@
 -- What is found in the text of a proof file, group by group, and what evaluation of a group's function comes to.
 use Rattle.std.specs.Prelude.{◌≡◌, ℕ, List, [], ◌∷◌, ◌++◌, ◌-◌, ◌<◌, ◌≤◌, length, Option, Some, None, Result, Ok, Err}
 use Rattle.mc_text.specs.Fault.{IsBadAt}
+use Rattle.group_text.specs.declared.version.Version.{Version as Known}
+use Rattle.group_text.specs.Limits.{IsGroupIn}
 use Rattle.group_text.specs.Version.{Version, version_of}
 use Rattle.tailrec_lang.specs.declared.group.Group.{Group}
 use Rattle.tailrec_lang.specs.Tree.{GroupTree, group_tree, listed_def}
@@ -92,6 +94,10 @@ pub record Searched (start : Progress) (name : List ℕ) (r : Progress) (count :
   pub well_formed : AreWellFormed (groups_of proofs)
   pub counted : count ≡ length proofs
   pub so : FoundSo name (groups_of proofs) found
+
+-- the group has a text in some version
+abbrev pub HasText : GroupTree → Type 0
+HasText g = (k : Known) × IsGroupIn (version_of k) g
 
 -- what `eval` of a group's function within turns comes to
 abbrev pub GroupGives : GroupTree → ℕ → List Arg → EvalAnswer → Type 0

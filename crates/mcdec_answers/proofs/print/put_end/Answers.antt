@@ -1,6 +1,5 @@
 use Rattle.std.proofs.Common.{◌++◌, Ok, Err}
-use Rattle.std.specs.Prelude.{flat_map}
-use Rattle.mcdec_answers.specs.Printed.{count_lines, memory_line, register_lines}
+use Rattle.mcdec_answers.specs.Printed.{count_lines, memory_lines, register_lines}
 use Rattle.mcdec_answers.proofs.Prints.{prints-exit, prints-then, prints-stopped}
 use Rattle.mcdec_answers.proofs.print.put_end.Goals as goal
 
@@ -10,7 +9,7 @@ returns-in_err-put_count g c =
     let first = count_lines c.args.word.now c.args.count c.args.pc in
     let second = register_lines c.args.registers.now c.args.words.now in
     prints-exit _ e _ _ _ _ _ c.from_residual.ensures.1
-    (prints-stopped e (first ++ second) (flat_map memory_line c.args.memory.now) _ _ _ _ (prints-stopped e first second _ _ _ _ c.in_err-put_count.ensures))
+    (prints-stopped e (first ++ second) (memory_lines c.args.memory.now c.args.stack.now) _ _ _ _ (prints-stopped e first second _ _ _ _ c.in_err-put_count.ensures))
 
 pub returns-in_err-put_registers : goal.returns-in_err-put_registers
 returns-in_err-put_registers g c =
@@ -18,12 +17,12 @@ returns-in_err-put_registers g c =
     let first = count_lines c.args.word.now c.args.count c.args.pc in
     let second = register_lines c.args.registers.now c.args.words.now in
     prints-exit _ e _ _ _ _ _ c.from_residual-in_err-put_registers.ensures.1
-    (prints-stopped e (first ++ second) (flat_map memory_line c.args.memory.now) _ _ _ _
+    (prints-stopped e (first ++ second) (memory_lines c.args.memory.now c.args.stack.now) _ _ _ _
     (prints-then (Err e) first second _ _ _ _ _ _ c.in_ok-put_count.ensures c.in_err-put_registers.ensures))
 
 pub returns : goal.returns
 returns g c =
     let first = count_lines c.args.word.now c.args.count c.args.pc in
     let second = register_lines c.args.registers.now c.args.words.now in
-    prints-then _ (first ++ second) (flat_map memory_line c.args.memory.now) _ _ _ _ _ _
-    (prints-then (Ok tt) first second _ _ _ _ _ _ c.in_ok-put_count.ensures c.in_ok-put_registers.ensures) c.put_memory.ensures
+    prints-then _ (first ++ second) (memory_lines c.args.memory.now c.args.stack.now) _ _ _ _ _ _
+    (prints-then (Ok tt) first second _ _ _ _ _ _ c.in_ok-put_count.ensures c.in_ok-put_registers.ensures) c.put_memories.ensures

@@ -4,7 +4,7 @@ use Rattle.mcdec_answers.proofs.Prints.{told_same}
 use Rattle.mcdec_words.specs.CommandReading.{IsRead}
 use Rattle.mcdec_words.specs.declared.command.Command.{Command as Read}
 use Rattle.mcdec_words.specs.Command.{Check, Decompile, Eval, Laws, Run, SelfTest, Simplify, Smt}
-use Rattle.mcdec_words.proofs.ArgWords.{eval-ranges, run-ranges}
+use Rattle.mcdec_words.proofs.ArgWords.{eval-ranges, eval-stack, run-ranges}
 use Rattle.mcdec_commands.proofs.Decompiling.{no-write-fault}
 use Rattle.mcdec_commands.proofs.Leaving.{LeavesAll, none-written, others-kept, written-by}
 use Rattle.mcdec_commands.proofs.SelfTesting.{test-gives}
@@ -14,9 +14,13 @@ pub answer_run-requires : goal.answer_run-requires
 answer_run-requires g c =
     run-ranges (texts c.args.words.now) c.in-Run.r (subst (λ (command : Read). IsRead (texts c.args.words.now) command) c.in-Run.is c.in-Ok.ensures)
 
-pub answer_eval-requires : goal.answer_eval-requires
-answer_eval-requires g c =
+pub answer_eval-requires-clause-memory : goal.answer_eval-requires-clause-memory
+answer_eval-requires-clause-memory g c =
     eval-ranges (texts c.args.words.now) c.in-Eval.e (subst (λ (command : Read). IsRead (texts c.args.words.now) command) c.in-Eval.is c.in-Ok.ensures)
+
+pub answer_eval-requires-clause-stack : goal.answer_eval-requires-clause-stack
+answer_eval-requires-clause-stack g c =
+    eval-stack (texts c.args.words.now) c.in-Eval.e (subst (λ (command : Read). IsRead (texts c.args.words.now) command) c.in-Eval.is c.in-Ok.ensures)
 
 pub returns-in-Eval-clause-gives : goal.returns-in-Eval-clause-gives
 returns-in-Eval-clause-gives g c =

@@ -10,3 +10,7 @@ returns-in-Ok-clause-items c file image = subst (λ (form : Form). AreItemsIn fo
 pub returns-in-Linked-clause-items : goal.returns-in-Linked-clause-items
 returns-in-Linked-clause-items c file image =
     subst (λ (form : Form). IfOk c.link.result (AreItemsIn form file c.args.d.now.names)) (sym c.in-Linked.is) (c.link.ensures.items file image)
+
+pub returns-in-Ok-split-clause-items : goal.returns-in-Ok-split-clause-items
+returns-in-Ok-split-clause-items c file image =
+    subst (λ (form : Form). AreItemsIn form file c.args.d.now.names c.in-Ok-split.proof) (sym c.in-Split.is) (c.in-Ok-split.ensures.items file image)

@@ -24,5 +24,6 @@ loop-register-preserved c =
 
 pub returns : goal.returns
 returns c given h =
-    shown-all c.args.values.now.values (state_of c.args.state.now) c.loop-register.registers c.loop-register.words c.loop-register.register
+    (λ i. record { count = c.args.count; pc = c.pc.result; registers = c.loop-register.registers; words = c.loop-register.words; memory = c.args.memory; stack = c.new.ensures i })
+    ∙ shown-all c.args.values.now.values (state_of c.args.state.now) c.loop-register.registers c.loop-register.words c.loop-register.register
     (omega (arith, c.loop-register-test.false, c.loop-register.auto.register-end)) c.loop-register.invariant given h c.args.count c.pc.result c.args.memory c.pc.ensures

@@ -9,5 +9,5 @@ returns-in_default c = no-mark c.args.word.now c.in_default.ensures
 pub returns-in-None : goal.returns-in-None
 returns-in-None c =
     no-given c.args.word.now c.in-Some.name.now c.in-Some.value.now c.in-Some.ensures
-    (λ e. true≢false (sym (c.eq.ensures ∙ (bytes_eq-Decides c.in-Some.name.now (codes "mem")).1 e) ∙ c.if-eq.false))
+    c.in_default-memory_named.ensures
     (λ g is n v. c.in-None.ensures g is (c.as_bytes.ensures.value ∙ n) (c.as_bytes-2.ensures.value ∙ v))

@@ -1,8 +1,8 @@
-use Rattle.std.proofs.Common.{sym, ap, ◌∙◌, subst, ◌≡◌, ◌^◌, ◌<◌, ℕ, List}
+use Rattle.std.proofs.Common.{true≢false, sym, ap, ◌∙◌, subst, ◌≡◌, ◌^◌, ◌<◌, ℕ, List}
 use Rattle.mc_text.specs.Number.{hex, number_of}
 use Rattle.group_text.specs.Limits.{IsName}
 use Rattle.mcdec_words.proofs.ArgWords.{exit-with}
-use Rattle.mcdec_words.proofs.Words.{filled, no-until, no-steps, no-arguments, run-read}
+use Rattle.mcdec_words.proofs.Words.{filled, no-until, no-steps, no-arguments, no-second, run-read}
 use Rattle.mcdec_words.proofs.command.read_run.Goals as goal
 
 pub returns-in-None : goal.returns-in-None
@@ -24,7 +24,13 @@ returns-in_err-given c =
 pub returns : goal.returns
 returns c =
     run-read c.args.words.now c.elf-item.result c.start-item.result c.until-item.result c.steps-item.result c.in-len4-up.len_at_least c.elf-item.is c.start-item.is c.until-item.is c.steps-item.is
-    c.as_str.result.now c.as_bytes-4.result.now c.in-Some.until c.in-Some-dec.steps c.in_ok-given.given.values c.in_ok-given.memory c.as_str.ensures.value c.as_bytes-4.ensures.value
+    c.as_str.result.now c.as_bytes-4.result.now c.in-Some.until c.in-Some-dec.steps c.in_ok-given.given.values c.in_ok-given.memory c.in_ok-given.stack c.as_str.ensures.value c.as_bytes-4.ensures.value
     (filled c.elf-item.result (sym c.is_empty.ensures ∙ c.if-is_empty.false)) (subst IsName c.as_bytes.ensures.value (c.is_name.ensures.0 c.if-not-is_name.false))
     (subst (λ (s : List ℕ). (c.in-Some.until < 2 ^ 64) × (s ≡ hex c.in-Some.until)) c.as_bytes-2.ensures.value c.in-Some.ensures.spelled)
     (sym c.in-Some-dec.is ∙ c.dec.ensures.read ∙ ap (number_of 10) c.as_bytes-3.ensures.value) c.in_ok-given.ensures
+    (c.is_empty-2.ensures.0 c.if-not-is_empty.false)
+
+pub returns-then-not-is_empty : goal.returns-then-not-is_empty
+returns-then-not-is_empty c =
+    no-second c.args.words.now c.elf-item.result c.start-item.result c.until-item.result c.steps-item.result c.in-len4-up.len_at_least c.elf-item.is c.start-item.is c.until-item.is c.steps-item.is
+    c.in_ok-given.given.values c.in_ok-given.memory c.in_ok-given.stack c.in_ok-given.ensures (λ none. true≢false (sym (c.is_empty-2.ensures.1 none) ∙ c.if-not-is_empty.true))

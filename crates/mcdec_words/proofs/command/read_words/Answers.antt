@@ -1,7 +1,7 @@
 use Rattle.std.proofs.Common.{sym, ◌∙◌}
 use Rattle.mcdec_words.proofs.ArgWords.{exit-with}
 use Rattle.mcdec_words.proofs.Words.{no-eval, eval-is, no-run, run-is, check-is, no-decompile, decompile-is, laws-is, no-simplify, no-smt, simplify-is, smt-is, test-is}
-use Rattle.mcdec_words.specs.declared.command.Form.TheVariants.{Alone, Linked}
+use Rattle.mcdec_words.specs.declared.command.Form.TheVariants.{Alone, Linked, Split}
 use Rattle.mcdec_words.proofs.command.read_words.Goals as goal
 
 pub returns-in_err-read_eval : goal.returns-in_err-read_eval
@@ -69,3 +69,12 @@ returns-in_err-read_decompile-2 c =
 pub returns-then-eq-9 : goal.returns-then-eq-9
 returns-then-eq-9 c =
     decompile-is c.args.words.now c.first-item.result c.in-len1-up.len_at_least c.first-item.is c.as_str-9.result.now c.as_str-9.ensures.value Linked (sym c.eq-9.ensures ∙ c.if-eq-9.true) c.in_ok-read_decompile-2.field-0 c.in_ok-read_decompile-2.ensures
+
+pub returns-in_err-read_decompile-3 : goal.returns-in_err-read_decompile-3
+returns-in_err-read_decompile-3 c =
+    exit-with _ c.in_err-read_decompile-3.field-0.0 _ _ c.from_residual-in_err-read_decompile-3.ensures.1
+    (no-decompile c.args.words.now c.first-item.result c.in-len1-up.len_at_least c.first-item.is c.as_str-10.result.now c.as_str-10.ensures.value Split (sym c.eq-10.ensures ∙ c.if-eq-10.true) c.in_err-read_decompile-3.field-0.0 c.in_err-read_decompile-3.ensures)
+
+pub returns-then-eq-10 : goal.returns-then-eq-10
+returns-then-eq-10 c =
+    decompile-is c.args.words.now c.first-item.result c.in-len1-up.len_at_least c.first-item.is c.as_str-10.result.now c.as_str-10.ensures.value Split (sym c.eq-10.ensures ∙ c.if-eq-10.true) c.in_ok-read_decompile-3.field-0 c.in_ok-read_decompile-3.ensures
