@@ -32,7 +32,9 @@ end
 #[test]
 fn a_certificate_is_made_and_printed(rt: HostRuntime) -> Result<(), Fail> {
     let alloc = rt.alloc();
-    let read = read_cert(alloc, CERT.as_bytes()).ok().ok_or("read")?;
+    let Ok(read) = read_cert(alloc, CERT.as_bytes()) else {
+        return Err(Fail::from("read"));
+    };
     let text = cert_bytes(alloc, &read)?;
     assert!(rt; text.as_slice() == CERT.as_bytes());
     let made = simplify(alloc, &read.old)?;
