@@ -1,8 +1,9 @@
 #!/usr/bin/env python3
-"""functions.py [--link] PROGRAM ELF [OUT]: what `decompile`, or `link`, of a built program says of each function of an ELF file, and a summary.
+"""functions.py [--link | --split] PROGRAM ELF [OUT]: what `decompile`, `link` or `split` of a built program says of each function of an ELF file, and a summary.
 
 The functions are those of the file's symbol table. Each is decompiled alone, or with --link with the functions that it calls, as many at a time as there
-are processors; its line says how many instructions and definitions it has, or why it is refused. With OUT, all that aren't refused are decompiled together into that file, which is
+are processors; its line says how many instructions and definitions it has, or why it is refused. With --split each has its stack as a second memory, and
+its line says how many of its loads and stores are to the stack. With OUT, all that aren't refused are decompiled together into that file, which is
 then checked. (Their text is held in memory: nine bytes for each byte of it. Large files make hundreds of megabytes of text.) The exit status is 0 where the
 file was read, however many functions are refused.
 """
@@ -15,6 +16,8 @@ import sys
 import tempfile
 from concurrent.futures import ThreadPoolExecutor
 
+# For each word before PROGRAM the command, and what its lines say was done.
+COMMANDS = {"--link": ("link", "linked"), "--split": ("split", "split")}
 REASONS = {
     "call": "calls a function (a jump that keeps where it came from)",
     "jump-through": "jumps through a register other than by a return: a jump table, or a call at its end",
@@ -60,9 +63,22 @@ def say(*words):
     return done.returncode, done.stdout.strip()
 
 
+def accesses(path):
+    """How many of the loads and stores of a text of version 4 are to the second memory, and how many there are: each has an axiom with one memory, and
+    an exchange where it is to the second one."""
+    second, all_of_them = set(), set()
+    with open(path, encoding="latin-1") as file:
+        for line in file:
+            if line.startswith("exchange "):
+                second.add(line.partition(" pre (")[2].split(" ")[0])
+            elif line.startswith("axiom ") and "; m0)" in line:
+                all_of_them.add(line.partition(" pre (")[2].split(" ")[0])
+    return len(second), len(all_of_them)
+
+
 def told(line, word):
     """What the line says of the function, and in one word why it is refused."""
-    if line.startswith(("decompiled ", "linked ")):
+    if line.startswith(("decompiled ", "linked ", "split ")):
         _, _, _, instructions, definitions = line.split()
         return f"{instructions} instructions, {definitions} definitions", None
     why = line.removeprefix(f"refused {word} ")
@@ -71,8 +87,8 @@ def told(line, word):
 
 def main():
     words = sys.argv[1:]
-    command, done = ("link", "linked") if words[:1] == ["--link"] else ("decompile", "decompiled")
-    if command == "link":
+    command, done = COMMANDS.get(words[0], ("decompile", "decompiled")) if words else (None, None)
+    if words and words[0] in COMMANDS:
         words.pop(0)
     if len(words) not in (2, 3):
         sys.exit(__doc__)
@@ -93,7 +109,7 @@ def main():
         if not names:
             sys.exit(f"{elf}: no function in its symbol table. `decompile` takes addresses too")
         jobs = [(address, word_of(address, name, values)) for address, name in sorted(names.items())]
-        inside, why = [], collections.Counter()
+        inside, why, on_stack = [], collections.Counter(), []
         progress = sys.stderr.isatty()
         with ThreadPoolExecutor(os.cpu_count()) as pool:
             answers = pool.map(lambda job: say(program, command, elf, os.path.join(folder, f"{job[0]:x}"), job[1])[1], jobs)
@@ -101,7 +117,11 @@ def main():
                 text, reason = told(line, word)
                 if reason is None:
                     inside.append(word)
-                    os.remove(os.path.join(folder, f"{address:x}"))
+                    text_path = os.path.join(folder, f"{address:x}")
+                    if command == "split":
+                        on_stack.append(accesses(text_path))
+                        text += f", {on_stack[-1][0]} of {on_stack[-1][1]} accesses to the stack"
+                    os.remove(text_path)
                 else:
                     why[reason] += 1
                 if progress:
@@ -112,6 +132,9 @@ def main():
     if progress:
         print(f"\r{'':60}\r", end="", file=sys.stderr)
     print(f"\n{len(jobs)} functions, {len(inside)} {done}, {len(jobs) - len(inside)} refused")
+    if command == "split":
+        users = [pair for pair in on_stack if pair[0]]
+        print(f"{len(users)} have accesses to the stack, {sum(a for a, _ in users)} of their {sum(b for _, b in users)}; all {sum(a for a, _ in on_stack)} of {sum(b for _, b in on_stack)}")
     for reason, count in why.most_common():
         print(f"{count:7}  {reason}: {REASONS.get(reason, 'see docs/COMMANDS.md')}")
     if out is not None and inside:

@@ -2,12 +2,14 @@
 """show.py PROOF [NAME] [--dot]: the functions of a proof file as a person reads them, or one of them.
 
 Registers have the names of the psABI, terms have operators, exits are told by their addresses, and the lines of proofs are left out. A variable
-that is a copy of another, or a number, or a sum of numbers, is replaced by that; the others keep the names of the text (v4, m1). Registers have the values at the entry of
+that is a copy of another, or a number, or a sum of numbers, is replaced by that; the others keep the names of the text (v4, m1), with the name of the memory
+that was stored to where there are two (stk2). Registers have the values at the entry of
 their definition, and with a prime those that a call left. What `again`, `continue as`, `leave to` and `return to` don't name stays as it is there.
 
     /u %u <u >=u >>u    unsigned        /s %s <s >=s >>s    signed        +w -w *w ..    on the low 32 bits, their sign extended
     mem[a]:4            the 4 bytes at the address a                      sx4(a)         the low 4 bytes, their sign extended
     mem[a]:4 := b       the memory after a store                          need           must be so, or nothing is claimed
+    stk                 the second memory: in a text that `split` wrote, what the function has on its stack
 
 With --dot, the definitions as a picture for graphviz: which calls and enters which, and which returns.
 """
@@ -22,6 +24,7 @@ OPERATORS = {
     "addw": "+w", "subw": "-w", "sllw": "<<w", "srlw": ">>uw", "sraw": ">>sw", "mulw": "*w", "divw": "/sw", "divuw": "/uw", "remw": "%sw", "remuw": "%uw",
     "eq": "==", "ne": "!=", "lt": "<s", "ge": ">=s", "ltu": "<u", "geu": ">=u",
 }
+MEMORIES = ("mem", "stk")
 CONTRARY = {"eq": "ne", "ne": "eq", "lt": "ge", "ge": "lt", "ltu": "geu", "geu": "ltu"}
 ACCESS = re.compile(r"(ld|st|in)([1248])$")
 SMALL = 4096
@@ -115,7 +118,7 @@ class Group:
     """A function with its parts: the registers, the definitions with their entries and exits, and the lines that show each."""
 
     def __init__(self, name, registers, mems, size):
-        self.name, self.registers, self.mems, self.size = name, registers, mems, size
+        self.name, self.registers, self.memories, self.size = name, registers, MEMORIES[:mems], size
         self.definitions, self.edges = [], {}
 
     def kind(self, d):
@@ -130,7 +133,8 @@ class Group:
 
     def text(self):
         names = " ".join(ABI[r] for r in self.registers)
-        yield f"function {self.name}: {self.size} bytes of code, {'with' if self.mems else 'without'} memory, registers {names}"
+        memories = "without memory" if not self.memories else "with memory" if len(self.memories) == 1 else "with two memories"
+        yield f"function {self.name}: {self.size} bytes of code, {memories}, registers {names}"
         for d, (_, _, lines) in enumerate(self.definitions):
             yield ""
             yield self.title(d)
@@ -165,8 +169,8 @@ class Text:
         return self.lines[self.at - 1].partition(" ")[2]
 
     def groups(self):
-        if self.take("mcproof") not in ("1", "3"):
-            raise BadText("line 1: this script knows versions 1 and 3")
+        if self.take("mcproof") not in ("1", "3", "4"):
+            raise BadText("line 1: this script knows versions 1, 3 and 4")
         while self.head() != "end":
             if self.head() == "group":
                 yield self.group()
@@ -181,7 +185,7 @@ class Text:
         group = Group(name, registers, mems, size)
         while self.head() == "def":
             entry, *exits = self.take().split()
-            names = {f"v{i}": ABI[r] for i, r in enumerate(registers)} | ({"m0": "mem"} if mems else {})
+            names = {f"v{i}": ABI[r] for i, r in enumerate(registers)} | {f"m{i}": memory for i, memory in enumerate(MEMORIES[:mems])}
             lines = []
             group.definitions.append((entry, exits, lines))
             Body(self, group, lines).read(Scope(len(registers), mems, names), "    ")
@@ -206,8 +210,8 @@ class Body:
         return [term for term in terms(text) if term != ";"]
 
     def changed(self, scope, values):
-        """The registers and the memory that get another value than at the definition's entry, or than the last call left them."""
-        names = [ABI[r] for r in self.group.registers] + ["mem"] * self.group.mems
+        """The registers and the memories that get another value than at the definition's entry, or than the last call left them."""
+        names = [ABI[r] for r in self.group.registers] + [*self.group.memories]
         told = [(name, shown(value, scope.names)) for name, value in zip(names, values)]
         changes = ", ".join(f"{name} = {value}" for name, value in told if value != name + "'" * scope.primes)
         return f" with {changes}" if changes else ""
@@ -249,10 +253,16 @@ class Body:
             name = f"v{scope.words}"
             scope.add_word(value if is_plain else name)
         else:
-            name = f"m{scope.mems}"
+            name = f"{self.stored_to(term, scope)}{scope.mems}"
             scope.add_mem(value if is_plain else name)
         if not is_plain:
             self.put(pad, f"{name} = {value}")
+
+    def stored_to(self, term, scope):
+        """What the memory after these stores is called, but for its number."""
+        while isinstance(term, list):
+            term = term[1]
+        return re.match(r"[a-z]+", scope.names[term])[0] if len(self.group.memories) == 2 else "m"
 
     def call(self, rest, scope, pad):
         target, arms, values = rest.split(" ", 2)
@@ -270,8 +280,8 @@ class Body:
                 arm.add_word(f"pc{prime}")
             for r in self.group.registers:
                 arm.add_word(ABI[r] + prime)
-            if self.group.mems:
-                arm.add_mem(f"mem{prime}")
+            for memory in self.group.memories:
+                arm.add_mem(memory + prime)
             passes = self.arm_passes(exit, arm) and passes
             part = Body(self.text, self.group, [])
             part.read(arm, pad + "    ")
@@ -287,7 +297,8 @@ class Body:
     def arm_passes(self, exit, arm):
         """Whether the arm that is next leaves by the same exit, with what the call gives."""
         count = len(self.group.registers) + (exit == "ret")
-        results = [f"v{i}" for i in range(arm.words - count, arm.words)] + [f"m{arm.mems - 1}"] * self.group.mems
+        results = [f"v{i}" for i in range(arm.words - count, arm.words)]
+        results += [f"m{i}" for i in range(arm.mems - len(self.group.memories), arm.mems)]
         line = self.text.lines[self.text.at] if self.text.at < len(self.text.lines) else ""
         match = re.fullmatch(r"leave (\d+) (.*)", line)
         return match is not None and self.exits[int(match[1])] == exit and [v for v in match[2].split() if v != ";"] == results

@@ -20,6 +20,7 @@ from functions import symbols, word_of
 
 SHOWN = ("gcd", "sum", "strlen", "average")
 LINKED = ("linked", "lcm")
+SPLIT = ("split", "swap")
 LCM = """0x11120  gcd                           7 instructions, 5 definitions
 0x11130  lcm                           call 0x11140
 
@@ -45,7 +46,7 @@ def say(tool, *words):
 
 
 def try_show(folder):
-    for example, name in [*zip(SHOWN, SHOWN), LINKED]:
+    for example, name in [*zip(SHOWN, SHOWN), LINKED, SPLIT]:
         proof = os.path.join(EXAMPLES, example, f"{name}.proof")
         expected = read(example, f"{name}.txt").decode()
         expect(f"show.py {name}", say("show.py", proof) == (0, expected, ""))
@@ -94,14 +95,14 @@ def try_program(program, folder):
 
 
 def try_answers(program, folder):
-    """What the page of the examples says that `decompile`, `link` and `check` say."""
+    """What the page of the examples says that `decompile`, `link`, `split` and `check` say."""
     told = re.findall(r"^\| `(\w+)` \| `(.*?)` \|(?: `(.*?)`)? \|$", document("examples/README.md"), re.M)
-    expect("the page of the examples has a row for each", {row[0] for row in told} == {*SHOWN, "refused", "linked"})
+    expect("the page of the examples has a row for each", {row[0] for row in told} == {*SHOWN, "refused", LINKED[0], SPLIT[0]})
     for example, decompiled, accepted in told:
         name = decompiled.split()[1]
         elf, proof = os.path.join(EXAMPLES, example, f"{name}.elf"), os.path.join(EXAMPLES, example, f"{name}.proof")
         out = os.path.join(folder, "answers")
-        command = "link" if decompiled.startswith("linked ") else "decompile"
+        command = {"linked": "link", "split": "split"}.get(decompiled.split()[0], "decompile")
         commands = [([command, elf, out, name], decompiled)] + ([(["check", elf, proof], accepted)] if accepted else [])
         for words, line in commands:
             done = subprocess.run([program, *words], capture_output=True, text=True)

@@ -23,6 +23,7 @@ ANSWERS = {
     },
     "decompile": {0: ["decompiled NAME A N N"], 1: [f"refused NAME {why}" for why in OUTSIDE], 3: UNREADABLE_ELF, 7: ["over limit elf"]},
     "link": {0: ["linked NAME A N N"], 1: [f"refused NAME {why}" for why in [*OUTSIDE, "recursive A"]], 3: UNREADABLE_ELF, 7: ["over limit elf"]},
+    "split": {0: ["split NAME A N N"], 1: [f"refused NAME {why}" for why in OUTSIDE], 3: UNREADABLE_ELF, 7: ["over limit elf"]},
     "eval": {0: ["done N"], 1: ["refused side N N", "refused no function", "refused def N N"], 3: ["unreadable text N"], 7: ["over limit proof", "turns used"]},
     "laws": {
         0: ["accepted N"],
@@ -63,7 +64,7 @@ FORMS = {
 
 
 def is_stated(command, status, lines):
-    """Whether these lines with that status are an answer to the command. One name at most was given to `decompile` or `link`."""
+    """Whether these lines with that status are an answer to the command. One name at most was given to `decompile`, `link` or `split`."""
     found = FORMS.get((command, status))
     return found is not None and found.fullmatch(lines) is not None
 
