@@ -6,7 +6,8 @@ numbers, any words, or point into a region of 256 bytes, and x2 at the end of a 
 
 - where `run` meets the return address after K steps, `eval` within 2K turns, with the region as the first memory and the frame as the second one, must be done with the same
   program counter, registers of the function and bytes; and no other register that was given has changed;
-- or it is refused at a side condition: then an access that is no stack access met the frame, as one of an array on the stack does, or a stack access left it.
+- or it is refused at a side condition: the function touches the file's own data, which `eval` isn't given; or an access that is no stack access met the frame, as one of an
+  array on the stack does, or a stack access left it.
 
 What it comes to is counted and printed; the exit status is 1 where something differs, which is told with the function and the start. With SECONDS it stops after as many.
 """
@@ -23,8 +24,9 @@ sys.path.insert(0, os.path.join(os.path.dirname(os.path.abspath(__file__)), ".."
 from functions import accesses, symbols
 
 BACK, STEPS = 0x2000, 20_000
-REGION, SIZE = 0x30000, 256
-TOP, FRAME = 0x40000, 1024
+# above what linkers place
+REGION, SIZE = 1 << 40, 256
+TOP, FRAME = 1 << 41, 1024
 
 
 def drawn(source):
