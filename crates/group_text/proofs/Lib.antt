@@ -17,3 +17,4 @@ pub mod Joins
 pub mod BodyJoins
 pub mod GroupJoins
 pub mod Claims
+pub mod Lending

@@ -5,7 +5,7 @@ ghost use Rattle.mc_text.specs.Reading.{pair, star};
 ghost use Rattle.mc_text.specs.inner.Reading.{times};
 ghost use Rattle.tailrec_lang.specs.Tree.{body_tree, step_tree};
 ghost use Rattle.tailrec_lang.specs.inner.Tree.{end_tree};
-ghost use Rattle.group_text.specs.inner.Rows.{RowsGive};
+ghost use Rattle.group_text.specs.inner.Rows.{RowsGive, halted_by};
 ghost use Rattle.group_text.specs.inner.Reading.{arm_at, body_at, end_at, is_step, mark_row, step_at};
 
 use crate::body_rows::EndRow;
@@ -24,6 +24,7 @@ fn read_steps<E, R: Rows<E>>(
 ) -> Result<List<Step>, ReadError>
     ensures gives { RowsGive (λ steps. map step_tree steps) result (R.May rows.old from.old) (R.May rows.new from.new) (star is_step step_at) }
     ensures left { R.left rows.new ≤ R.left rows.old }
+    ensures lends { R.Lends (halted_by result) rows.old from.old rows.new from.new }
 {
     let mut steps = List::new(alloc);
     'steps: while row_begins(alloc, rows, from, &StepRow)? {
@@ -45,6 +46,7 @@ fn read_arm<E, R: Rows<E>>(
 ) -> Result<Body, ReadError>
     ensures gives { RowsGive body_tree result (R.May rows.old from.old) (R.May rows.new from.new) (arm_at (body_at room)) }
     ensures left { R.left rows.new ≤ R.left rows.old }
+    ensures lends { R.Lends (halted_by result) rows.old from.old rows.new from.new }
 {
     next_row(alloc, rows, from, &MarkRow(b"arm"))?;
     let body = read_body(alloc, rows, from, room)?;
@@ -62,6 +64,7 @@ fn read_arms<E, R: Rows<E>>(
 ) -> Result<List<Body>, ReadError>
     ensures gives { RowsGive (λ arms. map body_tree arms) result (R.May rows.old from.old) (R.May rows.new from.new) (times count (arm_at (body_at room))) }
     ensures left { R.left rows.new ≤ R.left rows.old }
+    ensures lends { R.Lends (halted_by result) rows.old from.old rows.new from.new }
 {
     let mut arms = List::new(alloc);
     let mut left = count;
@@ -85,6 +88,7 @@ fn read_branch<E, R: Rows<E>>(
 ) -> Result<(Body, Body), ReadError>
     ensures gives { RowsGive (λ b. (body_tree b.0, ((tt, tt), body_tree b.1))) result (R.May rows.old from.old) (R.May rows.new from.new) (pair (body_at room) (pair (mark_row (codes "else")) (body_at room))) }
     ensures left { R.left rows.new ≤ R.left rows.old }
+    ensures lends { R.Lends (halted_by result) rows.old from.old rows.new from.new }
 {
     let first = read_body(alloc, rows, from, room)?;
     next_row(alloc, rows, from, &MarkRow(b"else"))?;
@@ -102,6 +106,7 @@ fn read_end<E, R: Rows<E>>(
 ) -> Result<End, ReadError>
     ensures gives { RowsGive end_tree result (R.May rows.old from.old) (R.May rows.new from.new) (end_at room (body_at room)) }
     ensures left { R.left rows.new ≤ R.left rows.old }
+    ensures lends { R.Lends (halted_by result) rows.old from.old rows.new from.new }
 {
     match next_row(alloc, rows, from, &LastRow(room))? {
         EndRow::If(cond) => {
@@ -127,6 +132,7 @@ pub fn read_body<E, R: Rows<E>>(
 ) -> Result<Body, ReadError>
     ensures gives { RowsGive body_tree result (R.May rows.old from.old) (R.May rows.new from.new) (body_at room) }
     ensures left { R.left rows.new ≤ R.left rows.old }
+    ensures lends { R.Lends (halted_by result) rows.old from.old rows.new from.new }
 {
     if room == 0 {
         return Err(ReadError::Bad);

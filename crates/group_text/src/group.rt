@@ -4,7 +4,7 @@ ghost use Rattle.std.specs.Prelude.{◌<◌, ◌≤◌, OnOk, Some, map, option_
 ghost use Rattle.mc_text.specs.Reading.{made, pair};
 ghost use Rattle.tailrec_lang.specs.Tree.{def_tree, group_tree};
 ghost use Rattle.group_text.specs.inner.Heads.{head_of};
-ghost use Rattle.group_text.specs.inner.Rows.{RowsGive};
+ghost use Rattle.group_text.specs.inner.Rows.{RowsGive, halted_by};
 ghost use Rattle.group_text.specs.inner.Reading.{def_at, group_of, next_at, own_defs, turn_at};
 ghost use Rattle.group_text.specs.inner.GroupRows.{more_head};
 ghost use Rattle.group_text.specs.Version.{version_of};
@@ -31,6 +31,7 @@ const DEF_LIMIT: usize = 4096;
 fn read_def<E, R: Rows<E>>(alloc: Global, rows: &mut R, from: &mut E) -> Result<Def, ReadError>
     ensures gives { RowsGive def_tree result (R.May rows.old from.old) (R.May rows.new from.new) def_at }
     ensures left { R.left rows.new ≤ R.left rows.old }
+    ensures lends { R.Lends (halted_by result) rows.old from.old rows.new from.new }
     ensures fewer { OnOk result (R.left rows.new < R.left rows.old) }
 {
     let (entry, exits) = next_row(alloc, rows, from, &DefRow)?;
@@ -46,6 +47,7 @@ pub fn read_defs<E, R: Rows<E>>(
 ) -> Result<List<Def>, ReadError>
     ensures gives { RowsGive (λ defs. map def_tree defs) result (R.May rows.old from.old) (R.May rows.new from.new) own_defs }
     ensures left { R.left rows.new ≤ R.left rows.old }
+    ensures lends { R.Lends (halted_by result) rows.old from.old rows.new from.new }
 {
     let mut defs = List::new(alloc);
     'defs: while row_begins(alloc, rows, from, &DefRow)? {
@@ -73,6 +75,7 @@ pub fn read_head<E, R: Rows<E>>(
 ) -> Result<Head, ReadError>
     ensures gives { RowsGive head_of result (R.May rows.old from.old) (R.May rows.new from.new) (more_head (version_of version) name) }
     ensures left { R.left rows.new ≤ R.left rows.old }
+    ensures lends { R.Lends (halted_by result) rows.old from.old rows.new from.new }
 {
     let regs = next_row(alloc, rows, from, &RegsRow)?;
     let mems = next_row(alloc, rows, from, &MemsRow(version))?;
@@ -95,6 +98,7 @@ fn read_group<E, R: Rows<E>>(
 ) -> Result<Group, ReadError>
     ensures gives { RowsGive (λ g. Some (group_tree g)) result (R.May rows.old from.old) (R.May rows.new from.new) (made (λ x. Some (group_of x.0 x.1)) (pair (more_head (version_of version) name) own_defs)) }
     ensures left { R.left rows.new ≤ R.left rows.old }
+    ensures lends { R.Lends (halted_by result) rows.old from.old rows.new from.new }
 {
     let Head {
         name,
@@ -121,6 +125,8 @@ fn read_next<E, R: Rows<E>>(
 ) -> Result<Option<Group>, ReadError>
     ensures gives { RowsGive (λ found. option_map group_tree found) result (R.May rows.old from.old) (R.May rows.new from.new) (next_at (version_of version)) }
     ensures left { R.left rows.new ≤ R.left rows.old }
+    ensures fewer { OnOk result (R.left rows.new < R.left rows.old) }
+    ensures lends { R.Lends (halted_by result) rows.old from.old rows.new from.new }
 {
     let first = next_row(alloc, rows, from, &GroupRow)?;
     match first {
@@ -142,6 +148,8 @@ pub fn read_turn<E, R: Rows<E>>(
 ) -> Result<Option<Group>, ReadError>
     ensures gives { RowsGive (λ found. option_map group_tree found) result (R.May rows.old from.old) (R.May rows.new from.new) (turn_at (version_of version) first) }
     ensures left { R.left rows.new ≤ R.left rows.old }
+    ensures fewer { OnOk result (R.left rows.new < R.left rows.old) }
+    ensures lends { R.Lends (halted_by result) rows.old from.old rows.new from.new }
 {
     if first {
         next_row(alloc, rows, from, &TitleRow(version))?;

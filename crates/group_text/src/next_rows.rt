@@ -7,7 +7,7 @@ ghost use Rattle.mc_text.specs.Scanning.{tokens_at};
 ghost use Rattle.mc_text.specs.Tokens.{Tok};
 ghost use Rattle.tailrec_lang.specs.Tree.{step_tree};
 ghost use Rattle.group_text.specs.inner.RowReader.{ReadAs, ReadsRows, read_as};
-ghost use Rattle.group_text.specs.inner.Rows.{RowPosition, RowsGive, tokens};
+ghost use Rattle.group_text.specs.inner.Rows.{RowPosition, RowsGive, halted_by, lost_by, tokens};
 ghost use Rattle.group_text.specs.inner.Reading.{code_row, def_start, is_def, is_step, mark_row, mems_row, regs_row, step_at, title_row};
 ghost use Rattle.group_text.specs.Version.{version_of};
 ghost use Rattle.group_text.specs.inner.BodyRows.{end_row, end_row_tree};
@@ -44,6 +44,7 @@ pub fn next_row<E, R: Rows<E>, X, W: ReadRow<X>>(
 ) -> Result<X, ReadError>
     ensures gives { ReadsRows (W.reads what.now).reader → RowsGive (W.reads what.now).view result (R.May rows.old from.old) (R.May rows.new from.new) (W.reads what.now).reader }
     ensures left { R.left rows.new ≤ R.left rows.old }
+    ensures lends { R.Lends (halted_by result) rows.old from.old rows.new from.new }
     ensures fewer { OnOk result (R.left rows.new < R.left rows.old) }
     ensures kept { OnErr result ((p : RowPosition) → R.May rows.new from.new p → R.May rows.old from.old p) }
 {
@@ -72,6 +73,7 @@ pub fn row_begins<E, R: Rows<E>, W: RowStart>(
 ) -> Result<bool, RowError>
     ensures kept { (p : RowPosition) → R.May rows.new from.new p → R.May rows.old from.old p }
     ensures left { R.left rows.new ≤ R.left rows.old }
+    ensures lends { R.Lends (lost_by result) rows.old from.old rows.new from.new }
     ensures goes_on { IfOk result (λ b. (p : RowPosition) → R.May rows.new from.new p → b ≡ goes_on W.goes (tokens p)) }
     ensures sure { R.Sure rows.old from.old → OnErr result ⊥ }
 {

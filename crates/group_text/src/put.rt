@@ -10,7 +10,6 @@ ghost use Rattle.word_terms.specs.Tree.{cond_tree, mem_tree, word_tree};
 ghost use Rattle.tailrec_lang.specs.Tree.{body_tree, def_tree, group_tree, step_tree, values_tree};
 ghost use Rattle.tailrec_lang.specs.inner.Tree.{arm_trees, end_tree};
 ghost use Rattle.group_text.specs.Spelling.{arm_tokens, body_tokens, def_tokens, end_tokens, exit_tokens, group_tokens, head_tokens, line, number, step_tokens, title_tokens, values_tokens};
-ghost use Rattle.group_text.specs.Limits.{IsGroup};
 ghost use Rattle.group_text.specs.Version.{version_of};
 
 use crate::version::Version;
@@ -54,7 +53,6 @@ fn put_title_line(pen: &mut Pen<'_>, version: Version) -> Result<(), NoMemory>
 /// Prints a group at the beginning of a line: its head, and its definitions.
 #[tactic(auto, using(mc_text::proofs::Printed::printed_bytes, mc_text::proofs::Printed::prints))]
 pub fn put_group(out: &mut Bytes, g: &Group) -> Result<(), NoMemory>
-    requires { IsGroup (group_tree g.now) }
     ensures ok { OnOk result (out.new ≡ out.old ++ spell Start (group_tokens (group_tree g.now))) }
     ensures prefix { BeginsWith out.old out.new }
 {

@@ -87,6 +87,14 @@ impl<'a> Rows<()> for TextRows<'a> {
 
     ghost left = { λ s. length s.rest };
 
+    ghost Lends = { λ lost s e t f. Unit {0} };
+
+    ghost lends_nothing = { λ a d. tt };
+
+    ghost lends_then = { λ lost a b c d e f first further. tt };
+
+    ghost lends_full = { λ a b d e calls. tt };
+
     fn hold(&mut self, _alloc: Global, _from: &mut ()) -> Result<bool, RowError> {
         self.held = held_or_first(self.held, self.rest);
         Ok(!self.held.is_empty())

@@ -1,5 +1,5 @@
 -- Reading by rows: what a reader answers, by the places at which its rows may stand.
-use Rattle.std.specs.Prelude.{◌≡◌, ℕ, ◌+◌, Bool, true, false, List, [], ◌++◌, Some, Result, Ok, Err}
+use Rattle.std.specs.Prelude.{◌≡◌, ℕ, ◌+◌, Bool, true, false, List, [], ◌++◌, Option, Some, None, Result, Ok, Err}
 use Rattle.mc_text.specs.declared.token.Before.TheVariants.{Start}
 use Rattle.mc_text.specs.Tokens.{Tok}
 use Rattle.mc_text.specs.Scanning.{lex, At, eols}
@@ -60,6 +60,21 @@ row_read_error lost.NoMemory = halt.NoMemory
 abbrev pub in_row : TokenError → ReadError
 in_row stop.Bad = halt.Bad
 in_row stop.NoMemory = halt.NoMemory
+
+-- by what a row was lost in a call, or nothing
+abbrev pub lost_by : {X : Type 0} → Result X RowError → Option RowError
+lost_by (Ok x) = None
+lost_by (Err e) = Some e
+
+abbrev pub row_error : ReadError → Option RowError
+row_error halt.Bad = None
+row_error halt.Fault = Some lost.Fault
+row_error halt.NoMemory = Some lost.NoMemory
+
+-- by what reading was kept from going on, other than the text, or nothing
+abbrev pub halted_by : {X : Type 0} → Result X ReadError → Option RowError
+halted_by (Ok x) = None
+halted_by (Err e) = row_error e
 
 -- from every place at which the rows may stand afterwards one comes back to a place at which they might stand before,
 -- and from there just this was read

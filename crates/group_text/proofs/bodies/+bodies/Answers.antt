@@ -14,10 +14,12 @@ use Rattle.word_terms.specs.Tree.{cond_tree}
 use Rattle.group_text.specs.inner.BodyRows.{end_row_tree, If, CallOf, AgainWith, LeaveBy}
 use Rattle.group_text.specs.declared.body_rows.EndRow.TheVariants as row
 use Rattle.group_text.proofs.RowLawsOf.{end-row, mark-row, small-bound}
+use Rattle.group_text.specs.declared.read_error.ReadError.TheVariants as halt
+use Rattle.group_text.proofs.Lending.{lends-on}
 use Rattle.group_text.proofs.bodies.+bodies.Goals as goal
 
 pub read_arms-arms-init : goal.read_arms-arms-init
-read_arms-arms-init g t c = record { told = so-init body_tree (times c.args.count (arm_at (body_at c.args.room))) _ c.new-arms.result c.new-arms.ensures; left = omega arith }
+read_arms-arms-init g t c = record { told = so-init body_tree (times c.args.count (arm_at (body_at c.args.room))) _ c.new-arms.result c.new-arms.ensures; left = omega arith; lends = g.met.R.Rows.lends_nothing _ _ }
 
 pub read_arms-arms-preserved : goal.read_arms-arms-preserved
 read_arms-arms-preserved g t c = record {
@@ -25,6 +27,7 @@ read_arms-arms-preserved g t c = record {
       (λ p may rest total e h. times-pushed body_tree (arm_at (body_at c.args.room)) c.arms.left _ c.arms.arms _ _ (tokens p) rest total (one-less c.arms.left c.arms-test.true) c.in_ok-push-in-Ok.ensures.ok e h)
       c.in-Ok.ensures.gives;
   left = omega (arith, c.in-Ok.ensures.left, c.arms.invariant.left);
+  lends = g.met.R.Rows.lends_then _ _ _ _ _ _ _ c.arms.invariant.lends c.in-Ok.ensures.lends;
 }
 
 pub read_arms-returns-in-Err-clause-gives : goal.read_arms-returns-in-Err-clause-gives
@@ -118,3 +121,12 @@ read_end-returns-in-Again-clause-gives g t c = end-is c.args.room (body_at c.arg
 pub read_end-returns-in-Leave-clause-gives : goal.read_end-returns-in-Leave-clause-gives
 read_end-returns-in-Leave-clause-gives g t c = end-is c.args.room (body_at c.args.room) _ _ _ (LeaveBy c.in-Leave.exit (values_tree c.in-Leave.values)) _ _ (view_leave c.in-Leave.exit c.in-Leave.values)
     (row-was c.args.room _ _ c.in_ok-cond.field-0 (row.Leave c.in-Leave.exit c.in-Leave.values) c.in-Leave.is (c.in_ok-cond.ensures.gives (end-row c.args.room (small-bound c.args.room)))) (no-more _ _)
+
+pub read_end-returns-in_err-new-in-If-clause-lends : goal.read_end-returns-in_err-new-in-If-clause-lends
+read_end-returns-in_err-new-in-If-clause-lends g t c = lends-on g.R.Rows.Lends halt.NoMemory c.from_residual-in_err-new-in-If.result _ _ _ _ c.from_residual-in_err-new-in-If.ensures.1 (g.met.R.Rows.lends_full _ _ _ _ (g.met.R.Rows.lends_then _ _ _ _ _ _ _ c.in_ok-cond.ensures.lends c.in_ok-first-in-If.ensures.lends))
+
+pub read_end-returns-in_err-new-in-If-2-clause-lends : goal.read_end-returns-in_err-new-in-If-2-clause-lends
+read_end-returns-in_err-new-in-If-2-clause-lends g t c = lends-on g.R.Rows.Lends halt.NoMemory c.from_residual-in_err-new-in-If-2.result _ _ _ _ c.from_residual-in_err-new-in-If-2.ensures.1 (g.met.R.Rows.lends_full _ _ _ _ (g.met.R.Rows.lends_then _ _ _ _ _ _ _ c.in_ok-cond.ensures.lends c.in_ok-first-in-If.ensures.lends))
+
+pub read_end-returns-in_ok-new-in-If-2-clause-lends : goal.read_end-returns-in_ok-new-in-If-2-clause-lends
+read_end-returns-in_ok-new-in-If-2-clause-lends g t c = g.met.R.Rows.lends_then _ _ _ _ _ _ _ c.in_ok-cond.ensures.lends c.in_ok-first-in-If.ensures.lends

@@ -1,4 +1,4 @@
-use Rattle.std.proofs.Common.{◌+◌, ◌*◌, ◌≤◌, map}
+use Rattle.std.proofs.Common.{◌+◌, ◌*◌, ◌≤◌, None, map}
 use Rattle.mc_text.specs.inner.Reading.{times, with_prefix}
 use Rattle.tailrec_lang.specs.Tree.{body_tree}
 use Rattle.group_text.specs.inner.Reading.{arm_at, body_at}
@@ -25,6 +25,7 @@ abbrev pub invariant-read_arms-arms : goal.invariant-read_arms-arms
 invariant-read_arms-arms g l = record {
   told : AllSo (times l.fn.count (arm_at (body_at l.room))) (g.R.Rows.May l.fn.rows l.fn.from) (g.R.Rows.May l.rows l.from) (λ ts. with_prefix (map body_tree l.arms) (times l.left (arm_at (body_at l.room)) ts));
   left : g.R.Rows.left l.rows ≤ g.R.Rows.left l.fn.rows;
+  lends : g.R.Rows.Lends None l.fn.rows l.fn.from l.rows l.from;
 }
 
 abbrev pub decreases-read_arms-arms : goal.decreases-read_arms-arms

@@ -12,7 +12,7 @@ use Rattle.group_text.proofs.Joins.{so-init, so-more, so-err, so-ok}
 use Rattle.group_text.proofs.bodies.read_steps.Goals as goal
 
 pub steps-init : goal.steps-init
-steps-init g c = record { told = so-init step_tree (star is_step step_at) _ c.new-steps.result c.new-steps.ensures; left = omega arith }
+steps-init g c = record { told = so-init step_tree (star is_step step_at) _ c.new-steps.result c.new-steps.ensures; left = omega arith; lends = g.met.R.Rows.lends_nothing _ _ }
 
 pub steps-preserved : goal.steps-preserved
 steps-preserved g c = record {
@@ -20,6 +20,7 @@ steps-preserved g c = record {
       (λ p may rest total e h. star-pushed step_tree is_step step_at step-shrinks c.steps.steps c.in-Ok.step c.push.new.self (tokens p) rest total c.in_ok-push-in-Ok.ensures.ok (sym (c.in_ok-row_begins.ensures.goes_on p may) ∙ c.if-branch.true) e h)
       (c.in-Ok.ensures.gives step-row);
   left = omega (arith, c.in-Ok.ensures.left, c.in_ok-row_begins.ensures.left, c.steps.invariant.left);
+  lends = g.met.R.Rows.lends_then _ _ _ _ _ _ _ (g.met.R.Rows.lends_then _ _ _ _ _ _ _ c.steps.invariant.lends c.in_ok-row_begins.ensures.lends) c.in-Ok.ensures.lends;
 }
 
 pub returns-in-Err-clause-gives : goal.returns-in-Err-clause-gives

@@ -21,6 +21,7 @@ defs-init g c = record {
       (so-begun (many def_limit is_def def_at) (g.R.Rows.May c.args.rows.now c.args.from.now));
   few = few-begun c.new-defs.result c.new-defs.ensures;
   left = omega arith;
+  lends = g.met.R.Rows.lends_nothing _ _;
 }
 
 pub returns-in_err-row_begins-clause-gives : goal.returns-in_err-row_begins-clause-gives
@@ -41,6 +42,7 @@ defs-preserved g c =
           c.in-Ok.ensures.gives;
       few = omega (arith, longer, fewer (length c.defs.defs) c.defs.invariant.few (λ e. c.if-len-eq-DEF_LIMIT.false (c.len.ensures ∙ e)));
       left = omega (arith, c.in-Ok.ensures.left, c.in_ok-row_begins.ensures.left, c.defs.invariant.left);
+      lends = g.met.R.Rows.lends_then _ _ _ _ _ _ _ (g.met.R.Rows.lends_then _ _ _ _ _ _ _ c.defs.invariant.lends c.in_ok-row_begins.ensures.lends) c.in-Ok.ensures.lends;
     }
 
 pub returns-in-Err-clause-gives : goal.returns-in-Err-clause-gives
