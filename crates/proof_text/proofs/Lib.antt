@@ -16,3 +16,10 @@ pub mod Given
 pub mod Fronts
 pub mod Called
 pub mod LineJoins
+pub mod Pulled
+pub mod Drawn
+pub mod PullLemmas
+pub mod PullCalls
+pub mod PullAnswers
+pub mod PullEffects
+pub mod SourceAnswers

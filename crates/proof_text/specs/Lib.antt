@@ -5,3 +5,5 @@ pub mod Proofs
 pub mod FirstProofs
 pub mod Answers
 pub mod inner
+pub mod Pulling
+pub mod Sources

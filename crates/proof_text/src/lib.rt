@@ -10,6 +10,11 @@ mod line_rules;
 mod line_subs;
 mod line_triples;
 mod proof_lines;
+mod proof_source;
+mod pull;
+mod pull_fault;
+mod pulled_items;
+mod pulled_rows;
 mod put_lines;
 mod reader;
 
@@ -21,5 +26,8 @@ pub use laws::{
     law_of_proof_parts, law_of_proof_texts, law_of_versions,
 };
 pub use line::{Line, Rule};
+pub use proof_source::ProofSource;
+pub use pull::Pull;
+pub use pull_fault::PullFault;
 pub use put_lines::{put_line, put_newer_line};
 pub use reader::Reader;

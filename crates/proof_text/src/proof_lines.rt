@@ -1,11 +1,11 @@
 //! Reading the lines of proofs.
 
-ghost use Rattle.std.specs.Prelude.{◌≡◌, ◌≤◌, false, option_map};
+ghost use Rattle.std.specs.Prelude.{◌≡◌, ◌<◌, ◌≤◌, IfOk, IfSome, false, option_map};
 ghost use Rattle.mc_text.specs.Reading.{goes_on, star};
 ghost use Rattle.mc_text.specs.Scanning.{tokens_at};
 ghost use Rattle.mc_text.specs.Outcome.{Gives, last_line};
 ghost use Rattle.proof_text.specs.Line.{line_tree};
-ghost use Rattle.group_text.specs.inner.Rows.{OnRowError, RowsGive, RowPosition, tokens};
+ghost use Rattle.group_text.specs.inner.Rows.{OnRowError, RowsGive, RowPosition, halted_by, tokens};
 ghost use Rattle.proof_text.specs.inner.OwnCode.{IsOwnCode};
 ghost use Rattle.group_text.specs.Version.{version_of};
 ghost use Rattle.group_text.specs.inner.Reading.{has_atom};
@@ -131,6 +131,8 @@ pub fn read_turn<E, R: Rows<E>>(
     ensures gives { IsOwnCode own.now.ranges → RowsGive (λ found. option_map line_tree found) result (R.May rows.old from.old) (R.May rows.new from.new) (turn_of (version_of version) own.now.ranges) }
     ensures lost { R.Sure rows.old from.old → OnRowError result ((p : RowPosition) → R.May rows.new from.new p → R.May rows.old from.old p × (goes_on ends_proof (tokens p) ≡ false)) }
     ensures left { R.left rows.new ≤ R.left rows.old }
+    ensures fewer { IfOk result (λ found. IfSome found (λ _. R.left rows.new < R.left rows.old)) }
+    ensures lends { R.Lends (halted_by result) rows.old from.old rows.new from.new }
 {
     if row_begins(alloc, rows, from, &ProofEnd)? {
         return Ok(None);

@@ -1,0 +1,35 @@
+use Rattle.std.proofs.Common.{◌≡◌, ℕ, None, IfSome, is_none}
+use Rattle.tailrec_lang.specs.declared.group.Group.{Group}
+use Rattle.tailrec_lang.specs.Tree.{group_tree}
+use Rattle.proof_text.specs.Sources.{BadGroupAt, EndsText, told_progress}
+use Rattle.proof_text.proofs.PullAnswers.{err_bad_so}
+use Rattle.proof_text.proofs.SourceAnswers.{gives_group, held_told, ok_given, ok_none, ok_some, pulls_so}
+use Rattle.proof_text.proofs.proof_source.PullProofSource.next_group.Goals as goal
+
+pub returns-clause-given : goal.returns-clause-given
+returns-clause-given g c =
+    let p = c.group.ensures.pulls in
+    ok_some c.group.result _ _ _
+    (λ x given shorter. gives_group (g.S.Shelf.contents c.args.from.now) (g.S.Shelf.contents c.group.new.shelf) c.args.self.now c.group.new.self p.shelf.kept p.name p.version p.size (group_tree x) given shorter)
+    c.group.ensures.given c.group.ensures.shorter
+
+pub returns-clause-end : goal.returns-clause-end
+returns-clause-end g c = ok_none c.group.result _ _ (λ ends. held_told c.args.self.now (g.S.Shelf.contents c.args.from.now) EndsText (ends c.requires.1)) c.group.ensures.end
+
+pub returns-clause-bad : goal.returns-clause-bad
+returns-clause-bad g c =
+    err_bad_so c.group.result _ (λ n. IfSome (told_progress (g.S.Shelf.contents c.args.from.now) c.args.self.now) (BadGroupAt n))
+    (λ n bad. held_told c.args.self.now (g.S.Shelf.contents c.args.from.now) (BadGroupAt n) (bad c.requires.0)) c.group.ensures.bad
+
+pub returns-clause-goes : goal.returns-clause-goes
+returns-clause-goes g c = ok_given c.group.result _ (λ found. c.group.new.self.ended ≡ is_none found) _ (λ x going open_. (going, open_)) c.group.ensures.pulls.goes_on c.group.ensures.ended
+
+pub returns-clause-fewer : goal.returns-clause-fewer
+returns-clause-fewer g c = c.group.ensures.pulls.fewer
+
+pub returns-clause-version : goal.returns-clause-version
+returns-clause-version g c = c.group.ensures.pulls.version
+
+pub returns-clause-lends : goal.returns-clause-lends
+returns-clause-lends g c =
+    pulls_so g.S.Shelf.contents g.S.Shelf.read_faults g.S.Shelf.write_faults g.S.Shelf.IsSure c.group.result c.args.self.now c.args.from.now c.group.new.self c.group.new.shelf c.requires.0 c.group.ensures.pulls

@@ -1,0 +1,44 @@
+use Rattle.std.proofs.Common.{◌≡◌, ℕ, ◌+◌, List, Option, Some, None, ◌⊎◌, inl, inr, refl, ap, ◌∙◌}
+use Rattle.std.specs.Prelude.{option_map}
+use Rattle.proof_text.specs.Line.{line_tree}
+use Rattle.proof_text.specs.inner.LineReading.{turn_of}
+use Rattle.group_text.specs.Version.{version_of}
+use Rattle.group_text.specs.inner.Rows.{row_error}
+use Rattle.group_text.proofs.Claims.{found-was, bad-was}
+use Rattle.proof_text.specs.inner.PulledRows.{EndsSo, WhereHeld, not_passed}
+use Rattle.proof_text.specs.inner.Drawing.{draws_as, draws_then}
+use Rattle.proof_text.specs.inner.Pulling.{EndsBehind, ReadFrom, StoppedAt, fault_lost}
+use Rattle.proof_text.proofs.PullAnswers.{bad_so, err_bad_so, held_at, none_ended, none_given}
+use Rattle.proof_text.proofs.PullLemmas.{group_within, line_within, read_from, stopped_at, told_so}
+use Rattle.proof_text.proofs.pulled_items.next_line.Goals as goal
+
+pub returns-in-Ok-Some-clause-given : goal.returns-in-Ok-Some-clause-given
+returns-in-Ok-Some-clause-given g c =
+    let d = c.in-Ok-Some.ensures.lends in
+    let all = found-was line_tree (turn_of (version_of c.args.version) c.args.own.now.ranges) _ _ c.in-Ok-Some.field-0 (Some c.in-Ok-Some.line) c.in-Ok-Some.field-0-is (c.in-Ok-Some.ensures.gives c.requires.own) in
+    told_so (g.S.Shelf.contents c.args.shelf.now) c.args.rows.now.lines.name _ (ReadFrom (turn_of (version_of c.args.version) c.args.own.now.ranges) (Some (line_tree c.in-Ok-Some.line)) c.args.rows.now c.read_turn.new.rows)
+    (λ files file is held last. read_from (g.S.Shelf.contents c.args.shelf.now) (g.S.Shelf.contents c.read_turn.new.from) c.args.rows.now c.read_turn.new.rows d.shelf.kept d.name (d.going refl ∙ c.requires.going) files file is held (turn_of (version_of c.args.version) c.args.own.now.ranges) last (Some (line_tree c.in-Ok-Some.line)) all) (d.last refl)
+
+pub returns-in-Ok-Some-clause-fits : goal.returns-in-Ok-Some-clause-fits
+returns-in-Ok-Some-clause-fits g c =
+    let d = c.in-Ok-Some.ensures.lends in
+    let all = found-was line_tree (turn_of (version_of c.args.version) c.args.own.now.ranges) _ _ c.in-Ok-Some.field-0 (Some c.in-Ok-Some.line) c.in-Ok-Some.field-0-is (c.in-Ok-Some.ensures.gives c.requires.own) in
+    line_within (g.S.Shelf.contents c.args.shelf.now) (g.S.Shelf.contents c.read_turn.new.from) c.args.rows.now c.read_turn.new.rows d.shelf.kept d.name (d.going refl ∙ c.requires.going) c.args.version c.args.own.now.ranges c.requires.own (line_tree c.in-Ok-Some.line) all
+
+pub returns-in-Ok-None-clause-end : goal.returns-in-Ok-None-clause-end
+returns-in-Ok-None-clause-end g c =
+    let d = c.in-Ok-None.ensures.lends in
+    let all = found-was line_tree (turn_of (version_of c.args.version) c.args.own.now.ranges) _ _ c.in-Ok-None.field-0 None c.in-Ok-None.field-0-is (c.in-Ok-None.ensures.gives c.requires.own) in
+    told_so (g.S.Shelf.contents c.args.shelf.now) c.args.rows.now.lines.name _ (ReadFrom (turn_of (version_of c.args.version) c.args.own.now.ranges) None c.args.rows.now c.read_turn.new.rows)
+    (λ files file is held last. read_from (g.S.Shelf.contents c.args.shelf.now) (g.S.Shelf.contents c.read_turn.new.from) c.args.rows.now c.read_turn.new.rows d.shelf.kept d.name (d.going refl ∙ c.requires.going) files file is held (turn_of (version_of c.args.version) c.args.own.now.ranges) last None all) (d.last refl)
+
+pub returns-in-Err-clause-bad : goal.returns-in-Err-clause-bad
+returns-in-Err-clause-bad g c =
+    let d = c.in-Err.ensures.lends in
+    bad_so c.fault_behind.result _ (λ (n : ℕ). WhereHeld (g.S.Shelf.contents c.args.shelf.now) c.args.rows.now.lines.name (StoppedAt (turn_of (version_of c.args.version) c.args.own.now.ranges) c.args.rows.now n))
+    (λ n h. told_so (g.S.Shelf.contents c.args.shelf.now) c.args.rows.now.lines.name _ (StoppedAt (turn_of (version_of c.args.version) c.args.own.now.ranges) c.args.rows.now n)
+    (λ files file is held last. stopped_at (g.S.Shelf.contents c.args.shelf.now) (g.S.Shelf.contents c.read_turn.new.from) c.args.rows.now c.read_turn.new.rows d.shelf.kept d.name (d.going (ap row_error h.0) ∙ c.requires.going) files file is held (turn_of (version_of c.args.version) c.args.own.now.ranges) d.taken n (h.1 ∙ ap (λ (k : ℕ). k + 1) c.passed.ensures) (bad-was (λ o. option_map line_tree o) (turn_of (version_of c.args.version) c.args.own.now.ranges) _ _ c.in-Err.halt h.0 (c.in-Err.ensures.gives c.requires.own))) (d.last (ap row_error h.0)))
+    c.fault_behind.ensures.bad
+
+pub returns-in-Err-clause-draws : goal.returns-in-Err-clause-draws
+returns-in-Err-clause-draws g c = draws_as (row_error c.in-Err.halt) (fault_lost c.fault_behind.result) c.fault_behind.ensures.lost c.in-Err.ensures.lends
