@@ -1,8 +1,7 @@
 -- What one more line and one more group make of what was judged.
 use Rattle.std.proofs.Common.{◌≡◌, ℕ, zero, suc, ◌+◌, ◌≤◌, Bool, true, false, List, [], ◌∷◌, ◌++◌, length, take, Option, map, Some, None, Result, Ok, Err, slice_get, refl, sym, ap, subst, ◌∙◌, ◌⊎◌, ⊎_elim, inl, inr, append_assoc, arith}
 use Rattle.std.specs.List.{AllByRecursion}
-use Rattle.std.specs.Prelude.{◌↔◌, IsTrue, IfErr}
-use Rattle.std.specs.Result.{IsErrAnd}
+use Rattle.std.specs.Prelude.{◌↔◌, IsTrue}
 use Rattle.std.proofs.lemmas.List.{append-nil, length-append}
 use Rattle.std.proofs.lemmas.List.Sums.{sum_by-append}
 use Rattle.mc_text.specs.Fault.{IsBadAt, newlines}
@@ -359,17 +358,6 @@ verdict-comes F known file text w said v h =
     (λ (k : w ≡ verdict.NoMemory → ⊥). inl (verdict-once F known file text w v k f said h))
     (or-memory w))
     (or-memory v)
-
--- ---- the exits of a `?`
-
-pub proof-exit : (F : FurtherRule) (g : GroupTree) (code : List Range) (old new : Progress) (result : Result Judged Verdict) (e : Verdict) → IsErrAnd result (λ y. y ≡ e) → ProofJudged F g code old new (Err e) → ProofJudged F g code old new result
-proof-exit F g code old new (Ok j) e is h = absurd is
-proof-exit F g code old new (Err v) e is h = subst (λ (x : Verdict). ProofJudged F g code old new (Err x)) (sym is) h
-
-pub text-exit : (F : FurtherRule) (v : Version) (text : List ℕ) (result : Result Tally Verdict) (e : Verdict) → IsErrAnd result (λ y. y ≡ e) → ((file : List ℕ) → IsReadable file → SaysBy F v file text e)
-    → IfErr result (λ w. (file : List ℕ) → IsReadable file → SaysBy F v file text w)
-text-exit F v text (Ok t) e is h = absurd is
-text-exit F v text (Err w) e is h = subst (λ (x : Verdict). (file : List ℕ) → IsReadable file → SaysBy F v file text x) (sym is) h
 
 -- before the first group
 pub no-groups-judged : (F : FurtherRule) (code : List Range) (r : Progress) → HasGiven [] r → GroupsJudged F r.version code r.text r (record { groups = 0; lines = 0; not_proved = None })

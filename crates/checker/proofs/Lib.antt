@@ -11,3 +11,4 @@ pub mod FileCodeLemmas
 pub mod FirstLemmas
 pub mod OneVerdict
 pub mod CheckLemmas
+pub mod SourceLemmas

@@ -4,4 +4,5 @@ pub mod Sound
 pub mod Accepts
 pub mod Bench
 pub mod Verdicts
+pub mod Pulled
 pub mod inner

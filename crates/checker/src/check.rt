@@ -1,7 +1,7 @@
 //! The check of a proof text for an ELF file. One loop serves each version: it goes by the version of its reader, and by the
 //! further rule that it is given.
 
-ghost use Rattle.std.specs.Prelude.{◌≡◌, [], ◌⊎◌, ◌+◌, ◌<◌, ◌≤◌, ◌^◌, ◌↔◌, ℕ, List as Items, IfOk, IfErr, IsTrue, length, true};
+ghost use Rattle.std.specs.Prelude.{◌≡◌, [], ◌⊎◌, ◌+◌, ◌<◌, ◌≤◌, ◌^◌, ◌↔◌, ℕ, List as Items, None, IfOk, IfErr, IfSome, OnOk, IsTrue, length, true, false};
 ghost use Rattle.elf_image.specs.Fault.{IsReadable};
 ghost use Rattle.elf_image.specs.Image.{image_of};
 ghost use Rattle.rv_words.specs.Ranges.{range_bytes};
@@ -17,17 +17,24 @@ ghost use Rattle.checker.specs.Bench.{group_of, history_of};
 ghost use Rattle.checker.specs.Headline.{Headline};
 ghost use Rattle.checker.specs.Verdicts.{IsAcceptance, IsTextOf, IsTextOfIn, Says, SaysBy};
 ghost use Rattle.checker.specs.inner.Checking.{IsCodeOf, LineJudged, NextGroup, NextLine, ProofJudged, TextJudged, verdict_of, with_group};
+ghost use Rattle.checker.specs.inner.Sourced.{pulled_by, stops_outside, verdicts};
+ghost use Rattle.checker.specs.Pulled.{IfVerdict, as_verdict, is_outside};
+ghost use Rattle.mc_shelf.specs.inner.OnlyReads.{OnlyReads};
+ghost use Rattle.proof_text.specs.Pulling.{held_text, left_of, progress_in};
+ghost use Rattle.proof_text.specs.Sources.{Both};
+ghost use Rattle.proof_text.specs.inner.PulledRows.{WhereHeld};
 
 use crate::bench::Bench;
 use crate::file_code::code_of_image;
 use crate::further_rule::{FurtherRule, NoRule};
-use crate::verdict::Verdict;
+use crate::verdict::{Pulled, Verdict};
 use elf_image::{ElfFault, Image, law_of_image, read};
-use proof_text::{Line, Reader, TextFault};
+use mc_shelf::Shelf;
+use proof_text::{Line, ProofSource, Pull, PullFault, Reader};
 use rv_words::NoMemory;
 use sep_assert::code_within;
 use std::alloc::Global;
-use tailrec_lang::{BadDef, Group, well_formed};
+use tailrec_lang::{Group, well_formed};
 use triple_kernel::RuleFault;
 use word_terms::Code;
 
@@ -85,7 +92,6 @@ pub fn check_by<R: FurtherRule>(
     ensures exact { (v : VerdictOf) → SaysBy R.states (version_of reader.old.version) elf.now reader.old.text v
         → (result ≡ v) ⊎ (v ≡ Verdict.NoMemory) ⊎ (result ≡ Verdict.NoMemory) }
 {
-    rule.law();
     match read(alloc, elf) {
         Ok(image) => check_image(alloc, &image, reader, rule),
         Err(ElfFault::NoMemory) => Verdict::NoMemory,
@@ -98,11 +104,37 @@ pub fn check_text(alloc: Global, image: &Image, proof: &[u8]) -> Verdict
     ensures verdict { (elf : Items ℕ) → IsReadable elf → image.now ≡ image_of elf → Says elf proof.now result }
 {
     let mut reader = Reader::new(proof);
-    check_image(alloc, image, &mut reader, &NoRule)
+    judge_image(alloc, image, &mut reader, &NoRule)
 }
 
-/// Checks the text of a reader for an ELF file that was read.
-fn check_image<R: FurtherRule>(
+/// Checks the text of a reader for an ELF file that was read, in the reader's version and with its further rule. The reader
+/// stands before the first line of a slice.
+pub fn check_image<R: FurtherRule>(
+    alloc: Global,
+    image: &Image,
+    reader: &mut Reader<'_>,
+    rule: &R,
+) -> Verdict
+    requires given { HasGiven [] reader.old }
+    requires few { length reader.old.text < 2 ^ 63 }
+
+    // What the verdict says of them.
+    ensures verdict { (elf : Items ℕ) → IsReadable elf → image.now ≡ image_of elf → SaysBy R.states (version_of reader.old.version) elf reader.old.text result }
+
+    // Where they are accepted, in a version with one memory at most, the functions of the text are right.
+    ensures headline { (elf : Items ℕ) → IsReadable elf → image.now ≡ image_of elf → (version_of reader.old.version).most_mems ≤ 1 → IsAcceptance result
+        → (ps : Items ProofTree) → IsTextOfIn (version_of reader.old.version) reader.old.text ps → Headline elf (groups_of ps) }
+
+    // A verdict that says what is so comes, but for want of memory.
+    ensures exact { (elf : Items ℕ) → IsReadable elf → image.now ≡ image_of elf → (v : VerdictOf) → SaysBy R.states (version_of reader.old.version) elf reader.old.text v
+        → (result ≡ v) ⊎ (v ≡ Verdict.NoMemory) ⊎ (result ≡ Verdict.NoMemory) }
+{
+    rule.law();
+    judge_image(alloc, image, reader, rule)
+}
+
+/// The verdict on the text of a reader for an ELF file that was read.
+fn judge_image<R: FurtherRule>(
     alloc: Global,
     image: &Image,
     reader: &mut Reader<'_>,
@@ -112,9 +144,58 @@ fn check_image<R: FurtherRule>(
     requires few { length reader.old.text < 2 ^ 63 }
     ensures verdict { (elf : Items ℕ) → IsReadable elf → image.now ≡ image_of elf → SaysBy R.states (version_of reader.old.version) elf reader.old.text result }
 {
-    match judge(alloc, image, reader, rule) {
-        Ok(tally) => conclude(tally),
-        Err(verdict) => verdict,
+    match judge_source(alloc, image, reader, &mut (), rule) {
+        Pulled::Verdict(verdict) => verdict,
+        Pulled::Fault => Verdict::NoMemory,
+    }
+}
+
+/// Checks the text of a file that is read line by line, for an ELF file that was read, in the text's version and with its
+/// further rule.
+pub fn check_pulled_by<S: Shelf, R: FurtherRule>(
+    alloc: Global,
+    image: &Image,
+    pull: &mut Pull<'_>,
+    shelf: &mut S,
+    rule: &R,
+) -> Pulled
+    requires going { (pull.old.refused ≡ None) × (pull.old.ended ≡ false) }
+    requires given { (file : Items ℕ) → HasGiven [] (progress_in pull.old file) }
+    requires few { left_of pull.old < 2 ^ 63 }
+
+    // Where it is told what the name holds: what the verdict says of the files, that the functions of a text that is accepted are
+    // right, in a version with one memory at most, and that a verdict that says what is so comes, but for want of memory.
+    ensures verdict { (elf : Items ℕ) → IsReadable elf → image.now ≡ image_of elf → IfVerdict result (λ v. WhereHeld (S.contents shelf.old) pull.old.rows.lines.name (λ file.
+        SaysBy R.states (version_of pull.old.version) elf (held_text pull.old file) v)) }
+    ensures headline { (elf : Items ℕ) → IsReadable elf → image.now ≡ image_of elf → (version_of pull.old.version).most_mems ≤ 1 → IfVerdict result (λ v. WhereHeld (S.contents shelf.old) pull.old.rows.lines.name (λ file.
+        IsAcceptance v → (ps : Items ProofTree) → IsTextOfIn (version_of pull.old.version) (held_text pull.old file) ps → Headline elf (groups_of ps))) }
+    ensures exact { (elf : Items ℕ) → IsReadable elf → image.now ≡ image_of elf → IfVerdict result (λ w. WhereHeld (S.contents shelf.old) pull.old.rows.lines.name (λ file.
+        (v : VerdictOf) → SaysBy R.states (version_of pull.old.version) elf (held_text pull.old file) v → (w ≡ v) ⊎ (v ≡ Verdict.NoMemory) ⊎ (w ≡ Verdict.NoMemory))) }
+
+    // Over every shelf: it only reads, and tells a fault only where one was counted.
+    ensures shelf { OnlyReads S.contents S.read_faults S.write_faults S.IsSure (is_outside result ≡ true) pull.old.rows.lines.name shelf.old shelf.new }
+{
+    rule.law();
+    judge_source(alloc, image, pull, shelf, rule)
+}
+
+/// The verdict on a text for an ELF file that was read.
+fn judge_source<E, P: ProofSource<E>, R: FurtherRule>(
+    alloc: Global,
+    image: &Image,
+    source: &mut P,
+    from: &mut E,
+    rule: &R,
+) -> Pulled
+    requires going { P.Goes source.old }
+    requires given { IfSome (P.told source.old from.old) (HasGiven []) }
+    requires few { P.left source.old < 2 ^ 63 }
+    ensures verdict { (elf : Items ℕ) → IsReadable elf → image.now ≡ image_of elf → IfSome (P.told source.old from.old) (λ r. SaysBy R.states (version_of r.version) elf r.text (as_verdict result)) }
+    ensures lends { P.Lends (is_outside result) source.old from.old source.new from.new }
+{
+    match judge(alloc, image, source, from, rule) {
+        Ok(tally) => Pulled::Verdict(conclude(tally)),
+        Err(pulled) => pulled,
     }
 }
 
@@ -132,43 +213,49 @@ fn conclude(tally: Tally) -> Verdict
 }
 
 /// Judges a text for a file's image.
-fn judge<R: FurtherRule>(
+fn judge<E, P: ProofSource<E>, R: FurtherRule>(
     alloc: Global,
     image: &Image,
-    reader: &mut Reader<'_>,
+    source: &mut P,
+    from: &mut E,
     rule: &R,
-) -> Result<Tally, Verdict>
-    requires given { HasGiven [] reader.old }
-    requires few { length reader.old.text < 2 ^ 63 }
-    ensures judged { IfOk result (λ t. (file : Items ℕ) → image.now ≡ image_of file → TextJudged R.states (version_of reader.old.version) file reader.old.text t) }
-    ensures fault { IfErr result (λ v. (file : Items ℕ) → IsReadable file → SaysBy R.states (version_of reader.old.version) file reader.old.text v) }
+) -> Result<Tally, Pulled>
+    requires going { P.Goes source.old }
+    requires given { IfSome (P.told source.old from.old) (HasGiven []) }
+    requires few { P.left source.old < 2 ^ 63 }
+    ensures judged { IfOk result (λ t. (file : Items ℕ) → image.now ≡ image_of file → IfSome (P.told source.old from.old) (λ r. TextJudged R.states (version_of r.version) file r.text t)) }
+    ensures fault { IfErr result (λ e. (file : Items ℕ) → IsReadable file → IfSome (P.told source.old from.old) (λ r. SaysBy R.states (version_of r.version) file r.text (as_verdict e))) }
+    ensures lends { P.Lends (stops_outside result) source.old from.old source.new from.new }
 {
     law_of_image(image);
     match code_of_image(alloc, image) {
-        Ok(code) => judge_text(alloc, &code, reader, rule),
-        Err(NoMemory) => Err(Verdict::NoMemory),
+        Ok(code) => judge_text(alloc, &code, source, from, rule),
+        Err(NoMemory) => Err(Pulled::Verdict(Verdict::NoMemory)),
     }
 }
 
 /// Judges a text group by group. Which group isn't proved is told when all are judged.
-fn judge_text<R: FurtherRule>(
+fn judge_text<E, P: ProofSource<E>, R: FurtherRule>(
     alloc: Global,
     code: &Code,
-    reader: &mut Reader<'_>,
+    source: &mut P,
+    from: &mut E,
     rule: &R,
-) -> Result<Tally, Verdict>
-    requires given { HasGiven [] reader.old }
-    requires few { length reader.old.text < 2 ^ 63 }
-    ensures judged { IfOk result (λ t. (file : Items ℕ) → IsCodeOf code.now.ranges file → TextJudged R.states (version_of reader.old.version) file reader.old.text t) }
-    ensures fault { IfErr result (λ v. (file : Items ℕ) → IsReadable file → SaysBy R.states (version_of reader.old.version) file reader.old.text v) }
+) -> Result<Tally, Pulled>
+    requires going { P.Goes source.old }
+    requires given { IfSome (P.told source.old from.old) (HasGiven []) }
+    requires few { P.left source.old < 2 ^ 63 }
+    ensures judged { IfOk result (λ t. (file : Items ℕ) → IsCodeOf code.now.ranges file → IfSome (P.told source.old from.old) (λ r. TextJudged R.states (version_of r.version) file r.text t)) }
+    ensures fault { IfErr result (λ e. (file : Items ℕ) → IsReadable file → IfSome (P.told source.old from.old) (λ r. SaysBy R.states (version_of r.version) file r.text (as_verdict e))) }
+    ensures lends { P.Lends (stops_outside result) source.old from.old source.new from.new }
 {
     let mut tally = Tally {
         groups: 0,
         lines: 0,
         not_proved: None,
     };
-    while let Some(group) = next_group(alloc, reader, tally.groups)? {
-        let judged = judge_proof(alloc, reader, rule, &group, code)?;
+    while let Some(group) = next_group(alloc, source, from, tally.groups)? {
+        let judged = judge_proof(alloc, source, from, rule, &group, code)?;
         tally = counted(tally, judged);
     }
     Ok(tally)
@@ -198,37 +285,64 @@ fn counted(tally: Tally, judged: Judged) -> Tally
 }
 
 /// The next group, if its definitions are well-formed. Its number is told of one in which they aren't.
-fn next_group(alloc: Global, reader: &mut Reader<'_>, number: u64) -> Result<Option<Group>, Verdict>
-    ensures { NextGroup number reader.old reader.new result }
+fn next_group<E, P: ProofSource<E>>(
+    alloc: Global,
+    source: &mut P,
+    from: &mut E,
+    number: u64,
+) -> Result<Option<Group>, Pulled>
+    requires { P.Goes source.old }
+    ensures told { Both (P.told source.old from.old) (P.told source.new from.new) (λ old new. NextGroup number old new (verdicts result)) }
+    ensures fits { IfOk result (λ found. IfSome found (λ g. IsGroupIn (version_of (P.version source.new)) (group_tree g))) }
+    ensures goes { IfOk result (λ found. IfSome found (λ _. P.Goes source.new)) }
+    ensures fewer { IfOk result (λ found. IfSome found (λ _. P.left source.new < P.left source.old)) }
+    ensures version { P.version source.new ≡ P.version source.old }
+    ensures lends { P.Lends (stops_outside result) source.old from.old source.new from.new }
 {
-    match reader.group(alloc) {
+    match source.next_group(alloc, from) {
         Ok(None) => Ok(None),
         Ok(Some(group)) => match well_formed(&group) {
             Ok(()) => Ok(Some(group)),
-            Err(BadDef { def }) => Err(Verdict::BadDef(number, def)),
+            Err(bad) => Err(Pulled::Verdict(Verdict::BadDef(number, bad.def))),
         },
-        Err(TextFault::Bad(line)) => Err(Verdict::BadText(line)),
-        Err(TextFault::NoMemory) => Err(Verdict::NoMemory),
+        Err(fault) => Err(pulled_of(fault)),
+    }
+}
+
+/// What a text comes to that can't be read.
+fn pulled_of(fault: PullFault) -> Pulled
+    ensures { result ≡ pulled_by fault }
+{
+    match fault {
+        PullFault::Bad(line) => Pulled::Verdict(Verdict::BadText(line)),
+        PullFault::Fault => Pulled::Fault,
+        PullFault::NoMemory => Pulled::Verdict(Verdict::NoMemory),
     }
 }
 
 /// Judges the lines of a group's proof.
-fn judge_proof<R: FurtherRule>(
+fn judge_proof<E, P: ProofSource<E>, R: FurtherRule>(
     alloc: Global,
-    reader: &mut Reader<'_>,
+    source: &mut P,
+    from: &mut E,
     rule: &R,
     group: &Group,
     code: &Code,
-) -> Result<Judged, Verdict>
-    requires group { IsGroupIn (version_of reader.old.version) (group_tree group.now) }
-    requires few { length reader.old.rest < 2 ^ 63 }
-    ensures { ProofJudged R.states (group_tree group.now) code.now.ranges reader.old reader.new result }
+) -> Result<Judged, Pulled>
+    requires going { P.Goes source.old }
+    requires group { IsGroupIn (version_of (P.version source.old)) (group_tree group.now) }
+    requires few { P.left source.old < 2 ^ 63 }
+    ensures judged { Both (P.told source.old from.old) (P.told source.new from.new) (λ old new. ProofJudged R.states (group_tree group.now) code.now.ranges old new (verdicts result)) }
+    ensures goes { OnOk result (P.Goes source.new) }
+    ensures few { IfOk result (λ j. j.lines + P.left source.new ≤ P.left source.old) }
+    ensures version { P.version source.new ≡ P.version source.old }
+    ensures lends { P.Lends (stops_outside result) source.old from.old source.new from.new }
 {
     let Ok(mut bench) = Bench::new(alloc, group) else {
-        return Err(Verdict::NoMemory);
+        return Err(Pulled::Verdict(Verdict::NoMemory));
     };
     let mut lines = 0;
-    while next_line(alloc, reader, rule, &mut bench)? {
+    while next_line(alloc, source, from, rule, &mut bench)? {
         lines += 1;
     }
     let proved = is_proved(&bench, code);
@@ -248,20 +362,27 @@ fn is_proved(bench: &Bench<'_>, code: &Code) -> bool
 }
 
 /// Reads and judges the next line, if there is one.
-fn next_line<R: FurtherRule>(
+fn next_line<E, P: ProofSource<E>, R: FurtherRule>(
     alloc: Global,
-    reader: &mut Reader<'_>,
+    source: &mut P,
+    from: &mut E,
     rule: &R,
     bench: &mut Bench<'_>,
-) -> Result<bool, Verdict>
-    requires { IsGroupIn (version_of reader.old.version) (group_of bench.old) }
-    ensures { NextLine R.states reader.old reader.new bench.old bench.new result }
+) -> Result<bool, Pulled>
+    requires going { P.Goes source.old }
+    requires group { IsGroupIn (version_of (P.version source.old)) (group_of bench.old) }
+    ensures told { Both (P.told source.old from.old) (P.told source.new from.new) (λ old new. NextLine R.states old new bench.old bench.new (verdicts result)) }
+    ensures goes { OnOk result (P.Goes source.new) }
+    ensures group { OnOk result (bench.new.0 ≡ bench.old.0) }
+    ensures left { P.left source.new ≤ P.left source.old }
+    ensures fewer { IfOk result (λ more. more ≡ true → P.left source.new < P.left source.old) }
+    ensures version { P.version source.new ≡ P.version source.old }
+    ensures lends { P.Lends (stops_outside result) source.old from.old source.new from.new }
 {
-    match reader.line(alloc, bench.group()) {
-        Ok(Some(line)) => judge_line(alloc, rule, bench, line, reader.place()),
+    match source.next_line(alloc, bench.group(), from) {
+        Ok(Some(line)) => judge_line(alloc, rule, bench, line, source.last_place()),
         Ok(None) => Ok(false),
-        Err(TextFault::Bad(line)) => Err(Verdict::BadText(line)),
-        Err(TextFault::NoMemory) => Err(Verdict::NoMemory),
+        Err(fault) => Err(pulled_of(fault)),
     }
 }
 
@@ -272,12 +393,13 @@ fn judge_line<R: FurtherRule>(
     bench: &mut Bench<'_>,
     line: Line,
     place: u64,
-) -> Result<bool, Verdict>
-    ensures { LineJudged R.states bench.old bench.new (line_tree line) place result }
+) -> Result<bool, Pulled>
+    ensures judged { LineJudged R.states bench.old bench.new (line_tree line) place (verdicts result) }
+    ensures inside { stops_outside result ≡ false }
 {
     match bench.judge_by(alloc, rule, line) {
         Ok(()) => Ok(true),
-        Err(RuleFault::NoInstance) => Err(Verdict::BadLine(place)),
-        Err(RuleFault::NoMemory) => Err(Verdict::NoMemory),
+        Err(RuleFault::NoInstance) => Err(Pulled::Verdict(Verdict::BadLine(place))),
+        Err(RuleFault::NoMemory) => Err(Pulled::Verdict(Verdict::NoMemory)),
     }
 }

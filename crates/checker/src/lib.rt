@@ -23,7 +23,7 @@ mod rules;
 mod verdict;
 
 pub use bench::Bench;
-pub use check::{check_by, check_bytes, check_text};
+pub use check::{check_by, check_bytes, check_image, check_pulled_by, check_text};
 pub use further_rule::{FurtherRule, NoRule};
 pub use laws::{law_of_exits, law_of_lines, law_of_proofs};
-pub use verdict::Verdict;
+pub use verdict::{Pulled, Verdict};

@@ -19,3 +19,11 @@ pub enum Verdict {
     NotProved(u64),
     NoMemory,
 }
+
+/// What the check of a text in a file comes to.
+#[derive(Clone, Copy, Debug, PartialEq, Eq)]
+pub enum Pulled {
+    Verdict(Verdict),
+    /// The outside failed while the text was read.
+    Fault,
+}

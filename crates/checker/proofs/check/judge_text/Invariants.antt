@@ -1,9 +1,15 @@
-use Rattle.std.proofs.Common.{length}
+use Rattle.std.proofs.Common.{◌+◌, ◌≤◌, false}
+use Rattle.proof_text.specs.Sources.{Both}
 use Rattle.checker.specs.inner.Checking.{GroupsJudged}
 use Rattle.checker.proofs.check.judge_text.Given as goal
 
 abbrev pub invariant-loop-group : goal.invariant-loop-group
-invariant-loop-group g l = GroupsJudged g.R.FurtherRule.states l.fn.reader.version l.code.ranges l.fn.reader.text l.reader l.tally
+invariant-loop-group g l = record {
+  told : Both (g.P.ProofSource.told l.fn.source l.fn.from) (g.P.ProofSource.told l.source l.from) (λ old r. GroupsJudged g.R.FurtherRule.states old.version l.code.ranges old.text r l.tally);
+  going : g.P.ProofSource.Goes l.source;
+  few : l.tally.groups + l.tally.lines + g.P.ProofSource.left l.source ≤ g.P.ProofSource.left l.fn.source;
+  lends : g.P.ProofSource.Lends false l.fn.source l.fn.from l.source l.from;
+}
 
 abbrev pub decreases-loop-group : goal.decreases-loop-group
-decreases-loop-group g l = length l.reader.rest
+decreases-loop-group g l = g.P.ProofSource.left l.source

@@ -1,19 +1,35 @@
-use Rattle.std.proofs.Common.{List, Err, subst}
-use Rattle.group_text.specs.Version.{version_of}
-use Rattle.mc_text.specs.Fault.{IsBadAt}
+use Rattle.std.proofs.Common.{Bool, IfNone, IfSome, Option, Err, sym, ap, subst, ◌∙◌}
 use Rattle.tailrec_lang.specs.declared.group.Group.{Group}
-use Rattle.group_text.specs.declared.read_error.TextFault.{TextFault}
-use Rattle.proof_text.specs.FirstProofs.{HasGiven, MayOpen}
-use Rattle.proof_text.specs.Line.{ProofTree}
-use Rattle.proof_text.specs.Proofs.{texts_of_proofs_in}
-use Rattle.proof_text.specs.Answers.{NoItem, OnBad}
-use Rattle.checker.proofs.CheckLemmas.{bad-after}
+use Rattle.tailrec_lang.specs.Tree.{group_tree}
+use Rattle.proof_text.specs.Sources.{Both, EndsText, GivesGroup}
+use Rattle.checker.specs.declared.verdict.Pulled.{Pulled}
+use Rattle.checker.specs.Pulled.{as_verdict, is_outside}
+use Rattle.checker.specs.inner.Checking.{NextGroup}
+use Rattle.checker.proofs.SourceLemmas.{both-told, fault-outside, group-bad, group-ill}
 use Rattle.checker.proofs.check.next_group.Goals as goal
 
-pub returns-in-Err-Bad : goal.returns-in-Err-Bad
-returns-in-Err-Bad c ps h may =
-    let k = c.in-Err-Bad in
-    let old = c.args.reader.now in
-    let bad = subst (λ (f : TextFault). OnBad {X = Group} (Err f) (λ n. (ps : List ProofTree) → HasGiven ps old → MayOpen ps old.rest → IsBadAt (texts_of_proofs_in (version_of old.version)) old.text n)) k.field-0-is k.ensures.bad in
-    let none = subst (λ (f : TextFault). OnBad {X = Group} (Err f) (λ n. (ps : List ProofTree) → HasGiven ps old → MayOpen ps old.rest → NoItem ps old)) k.field-0-is k.ensures.no_item in
-    bad-after ps old k.line h (bad ps h may) (none ps h may)
+pub returns-in-Ok-None-clause-told : goal.returns-in-Ok-None-clause-told
+returns-in-Ok-None-clause-told g c =
+    let k = c.in-Ok-None in
+    let o = g.P.ProofSource.told c.args.source.now c.args.from.now in
+    both-told o (g.P.ProofSource.told c.next_group.new.self c.next_group.new.from) EndsText _ (λ old new ends. ends) (g.met.P.ProofSource.lends_tells _ _ _ _ _ k.ensures.lends)
+    (subst (λ (f : Option Group). IfNone f (IfSome o EndsText)) k.field-0-is k.ensures.end)
+
+pub returns-in-Err-clause-told : goal.returns-in-Err-clause-told
+returns-in-Err-clause-told g c =
+    let k = c.in-Err in
+    let o = g.P.ProofSource.told c.args.source.now c.args.from.now in
+    let n = g.P.ProofSource.told c.next_group.new.self c.next_group.new.from in
+    subst (λ (e : Pulled). Both o n (λ old new. NextGroup c.args.number old new (Err (as_verdict e)))) (sym c.pulled_of.ensures)
+    (group-bad o n c.args.number k.fault k.ensures.bad (g.met.P.ProofSource.lends_tells _ _ _ _ _ k.ensures.lends))
+
+pub returns-in-Err-clause-lends : goal.returns-in-Err-clause-lends
+returns-in-Err-clause-lends g c =
+    subst (λ (failed : Bool). g.P.ProofSource.Lends failed c.args.source.now c.args.from.now c.next_group.new.self c.next_group.new.from) (fault-outside Group c.in-Err.fault ∙ ap is_outside (sym c.pulled_of.ensures)) c.in-Err.ensures.lends
+
+pub returns-in-Err-well_formed-clause-told : goal.returns-in-Err-well_formed-clause-told
+returns-in-Err-well_formed-clause-told g c =
+    let k = c.in-Ok-Some in
+    let o = g.P.ProofSource.told c.args.source.now c.args.from.now in
+    let n = g.P.ProofSource.told c.next_group.new.self c.next_group.new.from in
+    group-ill o n c.args.number k.group c.in-Err-well_formed.bad.def (subst (λ (f : Option Group). IfSome f (λ x. Both o n (GivesGroup (group_tree x)))) k.field-0-is k.ensures.given) c.in-Err-well_formed.ensures.first
