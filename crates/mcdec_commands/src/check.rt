@@ -3,19 +3,20 @@
 ghost use Rattle.std.specs.Prelude.{◌≡◌, ℕ, ◌≤◌, List};
 ghost use Rattle.mc_shelf.specs.Fault.{Rose};
 ghost use Rattle.mcdec_commands.specs.Answer.{Gives, ReadsAreTold};
+ghost use Rattle.elf_image.specs.Image.{image_of};
 ghost use Rattle.mcdec_words.specs.CommandReading.{IsReadCheck};
 ghost use Rattle.mcdec_commands.specs.inner.Checking.{ImageGives, answer_to};
 ghost use Rattle.mcdec_commands.specs.RunAnswer.{IsLoaded};
 
 use crate::eval::PROOF_LIMIT;
 use crate::run::ELF_LIMIT;
-use checker::Verdict;
-use elf_image::{ElfFault, read};
-use mc_shelf::{ReadEnd, Shelf, read_file};
+use checker::{Pulled, Verdict};
+use elf_image::{ElfFault, Image, read};
+use mc_shelf::{MeasureEnd, ReadEnd, Shelf, measure, read_file};
 use mcdec_answers::{Answer, CheckAnswer};
 use mcdec_words::Check;
 use std::alloc::Global;
-use text_versions::check_named;
+use text_versions::check_file;
 
 /// The answer to `check`.
 pub fn answer_check<S: Shelf>(alloc: Global, c: &Check<'_>, shelf: &mut S) -> Answer
@@ -35,39 +36,39 @@ pub fn answer_check<S: Shelf>(alloc: Global, c: &Check<'_>, shelf: &mut S) -> An
     };
     match read(alloc, file.as_slice()) {
         Ok(image) => {
-            drop(image);
-            check_file(alloc, file.as_slice(), c, shelf)
+            drop(file);
+            check_image(alloc, &image, c, shelf)
         }
         Err(ElfFault::NoMemory) => Answer::NoMemory,
         Err(why) => Answer::Check(CheckAnswer::Judged(Verdict::BadElf(why))),
     }
 }
 
-/// The answer to `check` where the ELF file has these bytes, which can be read. They are read again with the text.
-fn check_file<S: Shelf>(alloc: Global, file: &[u8], c: &Check<'_>, shelf: &mut S) -> Answer
-    requires { IsLoaded file.now }
-    ensures gives { ImageGives (S.contents shelf.old) c.now.proof.now file.now (Rose (S.read_faults shelf.old) (S.read_faults shelf.new)) result }
+/// The answer to `check` where this is the image of the ELF file. The proof file is measured first, and then judged line by line.
+fn check_image<S: Shelf>(alloc: Global, image: &Image, c: &Check<'_>, shelf: &mut S) -> Answer
+    ensures gives { (file : List ℕ) → IsLoaded file → image.now ≡ image_of file
+        → ImageGives (S.contents shelf.old) c.now.proof.now file (Rose (S.read_faults shelf.old) (S.read_faults shelf.new)) result }
 
     ensures kept { S.contents shelf.new ≡ S.contents shelf.old }
     ensures counted { (S.read_faults shelf.old ≤ S.read_faults shelf.new) × (S.write_faults shelf.old ≤ S.write_faults shelf.new) }
     ensures sure { (ws : List (List ℕ)) → IsReadCheck ws c.now → S.IsSure shelf.old → ReadsAreTold (S.contents shelf.old) ws
         → (S.read_faults shelf.new ≡ S.read_faults shelf.old) × (S.write_faults shelf.new ≡ S.write_faults shelf.old) }
 {
-    let text = match read_file(alloc, shelf, c.proof, PROOF_LIMIT) {
-        Ok(text) => text,
-        Err(ReadEnd::Fault) => return Answer::ReadFault,
-        Err(ReadEnd::TooLong) => return Answer::Check(CheckAnswer::ProofOverLimit),
-        Err(ReadEnd::NoMemory) => return Answer::NoMemory,
+    let size = match measure(shelf, c.proof, PROOF_LIMIT) {
+        Ok(size) => size,
+        Err(MeasureEnd::Fault) => return Answer::ReadFault,
+        Err(MeasureEnd::TooLong) => return Answer::Check(CheckAnswer::ProofOverLimit),
     };
-    answer_to(check_named(alloc, file, text.as_slice()))
+    answer_to(check_file(alloc, image, c.proof, size, shelf))
 }
 
-/// The answer that a verdict is.
-fn answer_to(verdict: Verdict) -> Answer
-    ensures { result ≡ answer_to verdict }
+/// The answer that a check comes to.
+fn answer_to(pulled: Pulled) -> Answer
+    ensures { result ≡ answer_to pulled }
 {
-    match verdict {
-        Verdict::NoMemory => Answer::NoMemory,
-        judged => Answer::Check(CheckAnswer::Judged(judged)),
+    match pulled {
+        Pulled::Fault => Answer::ReadFault,
+        Pulled::Verdict(Verdict::NoMemory) => Answer::NoMemory,
+        Pulled::Verdict(judged) => Answer::Check(CheckAnswer::Judged(judged)),
     }
 }

@@ -17,9 +17,8 @@ ghost use Rattle.mcdec_words.specs.CommandReading.{IsReadLaws};
 
 use crate::eval::{PROOF_LIMIT, Refusal, find_group};
 use fun_laws::{Cert, CertFault, judge_cert, read_cert};
-use group_text::{TextFault, put_group_lines};
+use group_text::{TextFault, put_group};
 use mc_shelf::{ReadEnd, Shelf, read_file};
-use mc_text::Pen;
 use mcdec_answers::{Answer, LawsAnswer};
 use mcdec_words::Laws;
 use rv_words::{Bytes, List, NoMemory};
@@ -140,8 +139,7 @@ fn group_bytes(alloc: Global, g: &Group) -> Result<Bytes, NoMemory>
     ensures { IfOk result (λ bytes. bytes ≡ spell Start (group_tokens (group_tree g.now))) }
 {
     let mut bytes = List::new(alloc);
-    let mut pen = Pen::new(&mut bytes);
-    put_group_lines(&mut pen, g)?;
+    put_group(&mut bytes, g)?;
     Ok(bytes)
 }
 

@@ -1,1 +1,2 @@
 pub mod NamedVersions
+pub mod HeldVersions

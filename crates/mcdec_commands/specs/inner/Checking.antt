@@ -1,6 +1,8 @@
 -- What the command `check` comes to, part by part.
-use Rattle.std.specs.Prelude.{ℕ, List, Option}
+use Rattle.std.specs.Prelude.{ℕ, List, Option, Some, IfSome}
 use Rattle.mc_shelf.specs.Shelf.{Contents}
+use Rattle.checker.specs.declared.verdict.Pulled.{Pulled}
+use Rattle.checker.specs.declared.verdict.Pulled.TheVariants as pulled
 use Rattle.checker.specs.declared.verdict.Verdict.{Verdict}
 use Rattle.checker.specs.declared.verdict.Verdict.TheVariants as verdict
 use Rattle.mcdec_answers.specs.declared.answer.Answer.{Answer}
@@ -9,9 +11,14 @@ use Rattle.mcdec_answers.specs.declared.answer.CheckAnswer.TheVariants as check
 use Rattle.mcdec_commands.specs.CheckAnswer.{CheckGives}
 
 -- the answer that a verdict is
-abbrev pub answer_to : Verdict → Answer
-answer_to verdict.NoMemory = answer.NoMemory
-answer_to v = answer.Check (check.Judged v)
+abbrev pub answer_of : Verdict → Answer
+answer_of verdict.NoMemory = answer.NoMemory
+answer_of v = answer.Check (check.Judged v)
+
+-- the answer that a check comes to
+abbrev pub answer_to : Pulled → Answer
+answer_to (pulled.Verdict v) = answer_of v
+answer_to pulled.Fault = answer.ReadFault
 
 -- what is answered of a proof file that a name holds, where the ELF file has these bytes
 abbrev pub ImageGives : Option Contents → (proof file : List ℕ) → (rose : Type 0) → Answer → Type 0
@@ -21,7 +28,7 @@ ImageGives told proof file rose answer.WriteFault = ⊥
 ImageGives told proof file rose answer.NoMemory = Unit {0}
 ImageGives told proof file rose (answer.Eval a) = ⊥
 ImageGives told proof file rose (answer.Run a) = ⊥
-ImageGives told proof file rose (answer.Check a) = CheckGives told proof file a
+ImageGives told proof file rose (answer.Check a) = IfSome told (λ files. CheckGives (Some files) proof file a)
 ImageGives told proof file rose (answer.Decompile a) = ⊥
 ImageGives told proof file rose (answer.SelfTest a) = ⊥
 ImageGives told proof file rose (answer.Simplify a) = ⊥

@@ -1,9 +1,9 @@
-use Rattle.std.proofs.Common.{rules, ◌∙◌, ℕ, ◌≤◌, List, length, sym, subst}
+use Rattle.std.proofs.Common.{rules, ap, ◌∙◌, sym, subst}
 use Rattle.mc_shelf.specs.Fault.{Rose}
 use Rattle.elf_image.specs.Fault.{IsReadable}
+use Rattle.elf_image.specs.Image.{image_of}
 use Rattle.mcdec_words.specs.Command.{Check}
 use Rattle.mcdec_commands.specs.Answer.{ReadsAreTold}
-use Rattle.mcdec_commands.specs.RunAnswer.{elf_limit}
 use Rattle.mcdec_commands.specs.inner.Checking.{ImageGives}
 use Rattle.mcdec_answers.proofs.Prints.{rose-later}
 use Rattle.elf_image.specs.declared.fault.ElfFault.{ElfFault}
@@ -30,26 +30,20 @@ returns-in-Err-NoMemory-clause-sure g c ws is sure told = c.read_file.ensures.su
 pub returns-in-Err-NoMemory-read-clause-sure : goal.returns-in-Err-NoMemory-read-clause-sure
 returns-in-Err-NoMemory-read-clause-sure g c ws is sure told = c.read_file.ensures.sure_counts sure (file-told (g.S.Shelf.contents c.args.shelf.now) ws told c.args.c.now.elf.now c.args.c.now.proof.now is)
 
-pub check_file-requires : goal.check_file-requires
-check_file-requires g c = (
-  subst (λ (f : List ℕ). length f ≤ elf_limit) (sym c.as_slice-in-Ok-read.ensures) c.in-Ok.ensures.within,
-  subst IsReadable (c.as_slice.ensures ∙ sym c.as_slice-in-Ok-read.ensures) c.in-Ok-read.ensures.readable,
-)
-
 pub returns-in-Ok-read-clause-gives : goal.returns-in-Ok-read-clause-gives
 returns-in-Ok-read-clause-gives g c ws is =
-    let rose = Rose (g.S.Shelf.read_faults c.read_file.new.shelf) (g.S.Shelf.read_faults c.check_file.new.shelf) in
+    let rose = Rose (g.S.Shelf.read_faults c.read_file.new.shelf) (g.S.Shelf.read_faults c.check_image.new.shelf) in
     image-gives (g.S.Shelf.contents c.args.shelf.now) ws c.args.c.now.elf.now c.args.c.now.proof.now c.in-Ok.file
-    (Rose (g.S.Shelf.read_faults c.args.shelf.now) (g.S.Shelf.read_faults c.check_file.new.shelf))
-    (Rose (g.S.Shelf.write_faults c.args.shelf.now) (g.S.Shelf.write_faults c.check_file.new.shelf))
-    rose is c.in-Ok.ensures.whole (rose-later _ _ _ c.read_file.ensures.counted.0) c.check_file.result
-    (subst (λ told. ImageGives told c.args.c.now.proof.now c.in-Ok.file rose c.check_file.result) c.read_file.ensures.kept
-    (subst (λ (f : List ℕ). ImageGives (g.S.Shelf.contents c.read_file.new.shelf) c.args.c.now.proof.now f rose c.check_file.result) c.as_slice-in-Ok-read.ensures c.check_file.ensures.gives))
+    (Rose (g.S.Shelf.read_faults c.args.shelf.now) (g.S.Shelf.read_faults c.check_image.new.shelf))
+    (Rose (g.S.Shelf.write_faults c.args.shelf.now) (g.S.Shelf.write_faults c.check_image.new.shelf))
+    rose is c.in-Ok.ensures.whole (rose-later _ _ _ c.read_file.ensures.counted.0) c.check_image.result
+    (subst (λ told. ImageGives told c.args.c.now.proof.now c.in-Ok.file rose c.check_image.result) c.read_file.ensures.kept
+    (c.check_image.ensures.gives c.in-Ok.file (c.in-Ok.ensures.within, subst IsReadable c.as_slice.ensures c.in-Ok-read.ensures.readable) (c.in-Ok-read.ensures.image ∙ ap image_of c.as_slice.ensures)))
 
 pub returns-in-Ok-read-clause-sure : goal.returns-in-Ok-read-clause-sure
 returns-in-Ok-read-clause-sure g c ws is sure told =
     let first = c.read_file.ensures.sure_counts sure (file-told (g.S.Shelf.contents c.args.shelf.now) ws told c.args.c.now.elf.now c.args.c.now.proof.now is) in
-    let later = c.check_file.ensures.sure ws is (c.read_file.ensures.stays_sure sure) (subst (λ held. ReadsAreTold held ws) (sym c.read_file.ensures.kept) told) in
+    let later = c.check_image.ensures.sure ws is (c.read_file.ensures.stays_sure sure) (subst (λ held. ReadsAreTold held ws) (sym c.read_file.ensures.kept) told) in
     (later.0 ∙ first.0, later.1 ∙ first.1)
 
 pub returns-clause-gives : goal.returns-clause-gives
