@@ -1,6 +1,9 @@
 -- Names among the command line's words, none of which stands twice.
-use Rattle.std.proofs.Common.{◌≡◌, ◌≢◌, ℕ, ◌+◌, ◌<◌, List, [], ◌∷◌, ◌++◌, length, take, get_or, string_bytes, sym, ap, subst, ◌∙◌, arith}
-use Rattle.std.specs.List.{Contains}
+use Rattle.std.proofs.Common.{◌≡◌, ◌≢◌, ◌↔◌, ◌||◌, ℕ, ◌+◌, ◌<◌, Bool, true, false, not, IsTrue, Bor, List, [], ◌∷◌, ◌++◌, length, map, take, get_or, string_bytes, refl, sym, ap, subst, ◌∙◌, arith, true≢false}
+use Rattle.std.specs.List.{Contains, list_any}
+use Rattle.std.specs.Str.{bytes_eq}
+use Rattle.std.specs.Cmp.Lexicographic.{bytes_decides, nat_list_eq_equiv}
+use Rattle.std.proofs.lemmas.Map.Views.{Contains-from_any, list_any-from_Contains}
 use Rattle.std.specs.declared.string.String.{String}
 use Rattle.std.specs.declared.alloc.Global.{Global}
 use Rattle.std.proofs.lemmas.List.{get_or-map, get_or-take, get_or_default, length-map, length-take-le, take_more}
@@ -40,3 +43,15 @@ module _ (words : List Word) (i : ℕ) (w : Word) (lt : i < length words) (is : 
       all_pairs_push (λ a b. a ≢ b) names (string_bytes w) are.1 (λ k d low e. none (k, low, get_or_default names k (string_bytes w) d low ∙ e)),
     ),
   )
+
+-- whether a name is among those that were seen, by a test on each of them
+seen-any : (name : List ℕ) (ks : List (Bor (List ℕ))) → list_any (λ k. bytes_eq name k.now) ks ≡ list_any (bytes_eq name) (map (λ k. k.now) ks)
+seen-any name [] = refl
+seen-any name (k ∷ ks) = ap (λ b. bytes_eq name k.now || b) (seen-any name ks)
+
+pub unseen : (name : List ℕ) (ks : List (Bor (List ℕ))) (new : Bool) → new ≡ not (list_any (λ k. bytes_eq name k.now) ks) → IsTrue new ↔ (Contains (map (λ k. k.now) ks) name → ⊥)
+unseen name ks new e = by (list_any (bytes_eq name) (map (λ k. k.now) ks)) refl (e ∙ ap not (seen-any name ks))
+  where
+    by : (t : Bool) → list_any (bytes_eq name) (map (λ k. k.now) ks) ≡ t → new ≡ not t → IsTrue new ↔ (Contains (map (λ k. k.now) ks) name → ⊥)
+    by true p q = (λ h c. true≢false (sym h ∙ q), λ none. absurd (none (Contains-from_any (λ x y. (bytes_decides x y).0) name (map (λ k. k.now) ks) p)))
+    by false p q = (λ h c. true≢false (sym (list_any-from_Contains nat_list_eq_equiv name (map (λ k. k.now) ks) c) ∙ p), λ none. q)

@@ -1,6 +1,6 @@
 //! The words of the command line.
 
-ghost use Rattle.std.specs.Prelude.{◌≡◌, ◌≢◌, ◌↔◌, ◌+◌, ◌<◌, ◌≤◌, ◌++◌, ◌∷◌, ℕ, Contains, List, IsTrue, MatchOption, MatchResult, codes};
+ghost use Rattle.std.specs.Prelude.{◌≡◌, ◌≢◌, ◌↔◌, ◌+◌, ◌<◌, ◌≤◌, ◌++◌, ◌∷◌, [], ℕ, Contains, IfOk, List, IsTrue, MatchOption, MatchResult, codes, map};
 ghost use Rattle.std.specs.Fmt.{decimal};
 ghost use Rattle.hex.specs.Hex.{encode_lower};
 ghost use Rattle.mc_text.specs.Number.{hex};
@@ -11,6 +11,7 @@ ghost use Rattle.mcdec_words.specs.declared.command.Memory.{Memory as MemoryOf};
 ghost use Rattle.mcdec_words.specs.declared.command.Unread.TheVariants.{NoMemory};
 ghost use Rattle.rv_words.specs.declared.range.Range.{Range as RangeOf};
 
+use indexmap::IndexSet;
 use mc_text::{dec, hex_bytes, hexnum, is_atom};
 use rv_words::{List, NoMemory, Range, Text};
 use std::alloc::{AllocError, AllocFailed, Global};
@@ -407,27 +408,26 @@ fn read_size(word: &[u8]) -> Option<u32>
 fn read_names(alloc: Global, words: &[String]) -> Result<List<Text>, Unread>
     ensures { MatchResult result (λ names. (names ≡ texts words.now) × AreNames names) (λ e. Unless (AreNames (texts words.now) → ⊥) e) }
 {
+    let mut seen = IndexSet::new(alloc);
     let mut names = List::new(alloc);
     for word in words {
-        let name = word.as_bytes();
-        if !is_name(name) || has_name(names.as_slice(), name) {
+        if !is_name(word.as_bytes()) {
             return Err(Unread::NotACommand);
         }
-        names.push(Text::from_slice(alloc, name)?)?;
+        if !is_new(&mut seen, word.as_str())? {
+            return Err(Unread::NotACommand);
+        }
+        names.push(Text::from_slice(alloc, word.as_bytes())?)?;
     }
     Ok(names)
 }
 
-/// Whether one of the names is this one.
-fn has_name(names: &[Text], name: &[u8]) -> bool
-    ensures { IsTrue result ↔ Contains names.now name.now }
+/// Whether a name isn't among those that were seen. It is from then on.
+fn is_new<'a>(seen: &mut IndexSet<&'a str>, name: &'a str) -> Result<bool, NoMemory>
+    ensures new { IfOk result (λ new. IsTrue new ↔ (Contains (map (λ k. k.now) seen.old.keys) name.now → ⊥)) }
+    ensures seen { IfOk result (λ new. IsTrue new → map (λ k. k.now) seen.new.keys ≡ map (λ k. k.now) seen.old.keys ++ name.now ∷ []) }
 {
-    for other in names {
-        if other.as_slice() == name {
-            return true;
-        }
-    }
-    false
+    Ok(seen.insert(name)?)
 }
 
 /// Whether the bytes are a name.
