@@ -59,32 +59,32 @@ module _ (ns ms : List Node) (e : Extends ns ms) where
   side_still a h = record { pc = word_still ns ms a.pc e h.pc; regs = registers_still a.regs h.regs; mems = mems_still a.mems h.mems }
 
   -- the trees are the same
-  same_word : (k : ℕ) → IsWordAt ns k → word_of ms k ≡ word_of ns k
+  pub same_word : (k : ℕ) → IsWordAt ns k → word_of ms k ≡ word_of ns k
   same_word k h = ap (λ (l : List Node). word_of l k) e.is ∙ same_word_of ns e.more k h
 
-  same_mem : (k : ℕ) → IsMemAt ns k → mem_of ms k ≡ mem_of ns k
+  pub same_mem : (k : ℕ) → IsMemAt ns k → mem_of ms k ≡ mem_of ns k
   same_mem k h = ap (λ (l : List Node). mem_of l k) e.is ∙ same_mem_of ns e.more k h
 
-  same_cond : (k : ℕ) → IsCondAt ns k → cond_of ms k ≡ cond_of ns k
+  pub same_cond : (k : ℕ) → IsCondAt ns k → cond_of ms k ≡ cond_of ns k
   same_cond k h = ap (λ (l : List Node). cond_of l k) e.is ∙ same_cond_of ns e.more k h
 
-  same_map : {A B : Type 0} (f g : A → B) (xs : List A) → All (λ x. f x ≡ g x) xs → map f xs ≡ map g xs
+  pub same_map : {A B : Type 0} (f g : A → B) (xs : List A) → All (λ x. f x ≡ g x) xs → map f xs ≡ map g xs
   same_map f g [] h = refl
   same_map {A} f g (x ∷ xs) h = λ i. All-head (λ (y : A). f y ≡ g y) x xs h i ∷ same_map f g xs (All-tail (λ (y : A). f y ≡ g y) x xs h) i
 
-  same_values : (v : HeldValues) → AreValuesAt ns v → values_over ms v ≡ values_over ns v
+  pub same_values : (v : HeldValues) → AreValuesAt ns v → values_over ms v ≡ values_over ns v
   same_values v h =
       let words = same_map (word_of ms) (word_of ns) v.words (λ i d low. same_word _ (h.words i d low)) in
       let mems = same_map (mem_of ms) (mem_of ns) v.mems (λ i d low. same_mem _ (h.mems i d low)) in
       λ i. record { words = words i; mems = mems i }
 
-  same_fact : (f : HeldFact) → IsFactAt ns f → fact_of ms f ≡ fact_of ns f
+  pub same_fact : (f : HeldFact) → IsFactAt ns f → fact_of ms f ≡ fact_of ns f
   same_fact (held.WordIs a b) h = λ i. WordIs (same_word a h.0 i) (same_word b h.1 i)
   same_fact (held.MemIs a b) h = λ i. MemIs (same_mem a h.0 i) (same_mem b h.1 i)
   same_fact (held.So c) h = λ i. So (same_cond c h i)
   same_fact (held.Gives def exit args results) h = λ i. Gives def exit (same_values args h.0 i) (same_values results h.1 i)
 
-  same_side : (a : HeldSide) → IsSideAt ns a → side_of ms a ≡ side_of ns a
+  pub same_side : (a : HeldSide) → IsSideAt ns a → side_of ms a ≡ side_of ns a
   same_side a h =
       let pc = same_word a.pc h.pc in
       let regs = same_map (register_of ms) (register_of ns) a.regs (λ i d low. λ j. ((get_or a.regs i d).0, same_word _ (h.regs i d low) j)) in

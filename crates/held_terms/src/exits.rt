@@ -140,7 +140,7 @@ fn are_next<L: Ledger>(
 }
 
 /// Whether the assertion is that where the definition is entered with its parameters.
-fn is_entry<L: Ledger>(
+pub fn is_entry<L: Ledger>(
     arena: &Arena,
     g: &Group,
     def: &Def,

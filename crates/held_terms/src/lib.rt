@@ -24,10 +24,11 @@ mod sides;
 mod swaps;
 mod table;
 
-pub use exits::is_exit;
+pub use exits::{is_entry, is_exit};
 pub use held::{Held, HeldFact, HeldSide, HeldValues};
 pub use instances::instance;
 pub use rules::{
     is_composition, is_discharged, is_extension, is_frame, is_instance, is_strengthened,
     is_weakened,
 };
+pub use same::{are_among, same_side};
