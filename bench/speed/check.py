@@ -20,7 +20,7 @@ PART = 32
 INSTRUCTIONS = 1024
 REGISTERS = range(1, 32)
 MASK = "0xfffffffffffffffe"
-SIZES = (4, 8, 16, 32)
+SIZES = (4, 16, 64, 256)
 
 
 def operands(i):
