@@ -13,8 +13,7 @@ ghost use Rattle.group_text.specs.Spelling.{group_tokens};
 ghost use Rattle.group_text.specs.Version.{version_of};
 ghost use Rattle.decompiler.specs.Listing.{proof_of, proofs_of};
 
-use group_text::put_group_lines;
-use mc_text::Pen;
+use group_text::put_group;
 use path_walk::{Item, Proof};
 use proof_text::{Line, Version, put_end, put_newer_line, put_title};
 use rv_words::{Bytes, List, NoMemory};
@@ -67,18 +66,8 @@ fn put_item(out: &mut Bytes, version: Version, item: &Item) -> Result<(), NoMemo
     requires { IsProofIn (version_of version) (proof_of item.now) }
     ensures { OnOk result (out.new ≡ out.old ++ (spell Start (group_tokens (group_tree item.now.group)) ++ line_texts_in (version_of version) item.now.group.code.ranges (map line_tree item.now.lines))) }
 {
-    put_item_group(out, &item.group)?;
+    put_group(out, &item.group)?;
     put_lines(out, version, &item.group, item.lines.as_slice())
-}
-
-/// Appends a group's text.
-#[tactic(auto, using(mc_text::proofs::Printed::printed_bytes, mc_text::proofs::Printed::prints))]
-fn put_item_group(out: &mut Bytes, group: &Group) -> Result<(), NoMemory>
-    ensures { OnOk result (out.new ≡ out.old ++ spell Start (group_tokens (group_tree group.now))) }
-{
-    let mut pen = Pen::new(out);
-    put_group_lines(&mut pen, group)?;
-    Ok(())
 }
 
 /// Appends the texts of the lines of a group's proof.

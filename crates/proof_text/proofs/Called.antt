@@ -32,7 +32,7 @@ use Rattle.proof_text.proofs.LineTokens.{line-is-tokens}
 use Rattle.proof_text.proofs.ProofTexts.{line-begins, some-line}
 use Rattle.group_text.proofs.Cuts.{are-lines, whole-lines}
 use Rattle.proof_text.proofs.Following.{ends-follow, follow-ends}
-use Rattle.proof_text.proofs.TextItems.{IsItem, AreItems, StartsOpen, last_code, items-fit, items-start, items-opened, items-added, items-fewer, last-is, last-fits}
+use Rattle.proof_text.proofs.TextItems.{IsItem, AreItems, StartsOpen, last_code, items-start, items-opened, items-added, items-fewer, last-is, last-fits}
 use Rattle.proof_text.proofs.Resumed.{OneLine, ends-no-line, ends-nothing, line-takes, line-ends, line-again}
 use Rattle.proof_text.proofs.Passed.{front_tokens, is_first, group_turn, turn_tokens, MayFollow, Turn, turn-takes, turn-again, turn-stops, turn-end, line-stops, turn-lines, turn-real, group-turned}
 use Rattle.proof_text.proofs.Given.{Given, given-items, items-given, first-is, shorter, still-lines, short, less, few, quiet, bad-call, bad-more, bad-tail-more, whole-call, given-more, would-read}

@@ -1,5 +1,5 @@
 -- What a call for a line and a row that is passed do to rows that are pulled.
-use Rattle.std.proofs.Common.{◌≡◌, ◌≢◌, ℕ, suc, ◌+◌, ◌≤◌, ◌<◌, Bool, true, false, cond, eqb, List, [], ◌∷◌, ◌++◌, length, Option, Some, None, IfSome, Result, Ok, Err, ◌⊎◌, inl, inr, refl, sym, ap, subst, ◌∙◌, arith}
+use Rattle.std.proofs.Common.{◌≡◌, ◌≢◌, ℕ, suc, ◌+◌, ◌≤◌, ◌<◌, Bool, true, false, cond, eqb, List, [], ◌∷◌, ◌++◌, length, Option, Some, None, IfSome, Result, Ok, Err, ◌⊎◌, inl, inr, refl, sym, ap, ◌∙◌, arith}
 use Rattle.std.proofs.lemmas.Bool.{eqb-true}
 use Rattle.std.specs.Option.{is_some}
 use Rattle.std.specs.Prelude.{IsErrOf}
@@ -11,7 +11,6 @@ use Rattle.mc_shelf.specs.Lines.{LinesState, bytes_left, GivesFirstLine}
 use Rattle.mc_shelf.specs.inner.OnlyReads.{OnlyReads}
 use Rattle.mc_shelf.specs.declared.lines.LineFault.{LineFault}
 use Rattle.mc_shelf.specs.declared.lines.LineFault.TheVariants as line
-use Rattle.mc_shelf.proofs.OnlyReadsLemmas.{reads_none, reads_so}
 use Rattle.group_text.specs.inner.Rows.{IsRow}
 use Rattle.group_text.specs.declared.read_error.RowError.{RowError}
 use Rattle.group_text.specs.declared.read_error.RowError.TheVariants as row

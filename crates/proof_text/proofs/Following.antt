@@ -1,9 +1,8 @@
 -- What follows in a text, to go by its first word.
-use Rattle.std.proofs.Common.{◌≡◌, ℕ, zero, suc, ◌+◌, ◌-◌, ◌≤◌, ◌<◌, Bool, true, false, cond, eqb, List, [], ◌∷◌, ◌++◌, length, codes, get_or, take, Option, Some, None, true≢false, refl, sym, ap, subst, ◌∙◌, arith, append_assoc, length-append, inl, inr}
+use Rattle.std.proofs.Common.{◌≡◌, ℕ, ◌≤◌, Bool, true, false, eqb, List, [], ◌∷◌, ◌++◌, length, codes, Option, Some, None, true≢false, refl, sym, ap, subst, ◌∙◌, arith, append_assoc, length-append, inl, inr}
 use Rattle.std.specs.Prelude.{◌||◌, option_map}
 use Rattle.std.specs.Str.{bytes_eq}
 use Rattle.std.proofs.lemmas.List.{append-nil}
-use Rattle.std.proofs.lemmas.Bool.{eqb-true}
 use Rattle.std.proofs.lemmas.Slice.Eq.{bytes_eq-Decides}
 use Rattle.mc_text.specs.Tokens.{Tok, Left, Right, Semi, Atom, Eol, Done, Stuck, IsAtom, HasNoAtomByte, Stands}
 use Rattle.mc_text.specs.declared.token.Before.TheVariants.{Start}
@@ -12,8 +11,8 @@ use Rattle.mc_text.specs.Fault.{first_lines, newlines}
 use Rattle.mc_text.specs.Reading.{goes_on}
 use Rattle.mc_text.proofs.Atoms.{word-atom}
 use Rattle.mc_text.proofs.Lines.{stands-lex, atom-stands}
-use Rattle.mc_text.proofs.FaultLine.{AreLines, EndsByte, one-newline, first-step, lines-zeroth, newlines-append, SameLine, same-line}
-use Rattle.mc_text.proofs.Tail.{count-cons, first-before}
+use Rattle.mc_text.proofs.FaultLine.{AreLines, EndsByte, first-step, SameLine, same-line}
+use Rattle.mc_text.proofs.Tail.{first-before}
 use Rattle.proof_text.specs.FirstProofs.{Follows, ProofEnds}
 use Rattle.group_text.specs.inner.Reading.{is_def}
 use Rattle.group_text.proofs.Cuts.{same-some}

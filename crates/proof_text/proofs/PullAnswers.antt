@@ -1,5 +1,5 @@
 -- Answers of calls, from those of the calls that they make.
-use Rattle.std.proofs.Common.{◌≡◌, ℕ, List, Option, Some, None, IfSome, IfNone, Result, Ok, Err, refl, sym, subst}
+use Rattle.std.proofs.Common.{◌≡◌, ℕ, List, Option, Some, None, IfSome, IfNone, Result, Ok, Err, subst}
 use Rattle.std.specs.Prelude.{IfOk, IfErr}
 use Rattle.mc_shelf.specs.Shelf.{Contents}
 use Rattle.proof_text.specs.declared.pull_fault.PullFault.{PullFault}

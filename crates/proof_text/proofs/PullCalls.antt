@@ -1,6 +1,6 @@
 -- What a call answers of a text in a file, from what was read of its rows.
 use Rattle.std.proofs.Common.{◌≡◌, ℕ, ◌+◌, ◌-◌, ◌<◌, true, false, eqb, List, [], ◌∷◌, ◌++◌, length, take, drop, Option, Some, None, Ok, Err, refl, sym, ap, subst, ◌∙◌, arith}
-use Rattle.mc_text.specs.Tokens.{Tok, Done}
+use Rattle.mc_text.specs.Tokens.{Tok}
 use Rattle.mc_text.specs.declared.token.Before.TheVariants.{Start}
 use Rattle.mc_text.specs.Scanning.{lex, At, eols}
 use Rattle.mc_text.specs.Fault.{IsBadAt}
@@ -22,7 +22,7 @@ use Rattle.proof_text.specs.Answers.{NoItem}
 use Rattle.proof_text.specs.Pulling.{PullState, AreFresh, progress_in, held_text}
 use Rattle.proof_text.specs.inner.LineReading.{turn_of}
 use Rattle.proof_text.specs.inner.PulledRows.{EndsSo, not_passed}
-use Rattle.proof_text.specs.inner.Pulling.{LinesLeft, ReadFrom, StoppedAt, EndsBehind}
+use Rattle.proof_text.specs.inner.Pulling.{ReadFrom, StoppedAt, EndsBehind}
 use Rattle.proof_text.proofs.Called.{group-bad, group-none, group-given, group-less, called-end, called-more, end-none, line-given, line-less, line-bad, line-none, lines-ended}
 use Rattle.proof_text.proofs.Resumed.{ends-nothing, line-ends}
 use Rattle.proof_text.proofs.PullLemmas.{nothing_more, something_more}

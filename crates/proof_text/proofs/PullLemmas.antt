@@ -1,22 +1,21 @@
 -- What was read of rows that are pulled: of the file, where it is told what the name holds, and of some text over every shelf.
-use Rattle.std.proofs.Common.{◌≡◌, ◌≢◌, ℕ, ◌+◌, ◌-◌, ◌≤◌, Bool, true, false, List, [], ◌∷◌, ◌++◌, length, Option, Some, None, IfSome, Ok, Err, refl, sym, ap, subst, ◌∙◌, arith, inl, inr}
+use Rattle.std.proofs.Common.{◌≡◌, ◌≢◌, ℕ, ◌+◌, ◌-◌, ◌≤◌, Bool, List, [], ◌∷◌, ◌++◌, length, Option, Some, None, IfSome, Ok, refl, sym, ap, subst, ◌∙◌, arith}
 use Rattle.std.proofs.lemmas.List.{append-nil}
-use Rattle.mc_text.specs.Tokens.{Tok, Done}
+use Rattle.mc_text.specs.Tokens.{Tok}
 use Rattle.mc_text.specs.declared.token.Before.TheVariants.{Start}
-use Rattle.mc_text.specs.Scanning.{lex, At, eols}
+use Rattle.mc_text.specs.Scanning.{lex, At}
 use Rattle.mc_text.specs.Reading.{Reader}
 use Rattle.mc_text.specs.Fault.{newlines}
 use Rattle.mc_shelf.specs.Shelf.{Contents}
-use Rattle.mc_shelf.specs.Lines.{LinesState}
 use Rattle.rv_words.specs.declared.range.Range.{Range}
 use Rattle.tailrec_lang.specs.Tree.{GroupTree}
 use Rattle.group_text.specs.declared.version.Version.{Version as Known}
 use Rattle.group_text.specs.Version.{version_of}
 use Rattle.group_text.specs.Limits.{IsGroupIn}
-use Rattle.group_text.specs.inner.Cut.{AreWholeLines, drop_lines}
+use Rattle.group_text.specs.inner.Cut.{AreWholeLines}
 use Rattle.group_text.specs.inner.Reading.{turn_at}
 use Rattle.group_text.specs.inner.Rest.{GoesOn}
-use Rattle.group_text.specs.inner.Rows.{RowPosition, tokens, total}
+use Rattle.group_text.specs.inner.Rows.{RowPosition, tokens}
 use Rattle.group_text.proofs.Cuts.{are-lines, cut, whole-lines}
 use Rattle.group_text.proofs.Claims.{bytes-left, tail-left}
 use Rattle.group_text.proofs.HeadLaws.{IsCode}
@@ -25,7 +24,7 @@ use Rattle.proof_text.specs.Line.{LineTree}
 use Rattle.proof_text.specs.LineLimits.{IsLineIn}
 use Rattle.proof_text.specs.inner.LineReading.{turn_of}
 use Rattle.proof_text.specs.inner.PulledRows.{PulledState, IsToldPlace, IsPossiblePlace, IsPlaceInName, IsPlaceIn, IsPulledPlace, WhereHeld, after_newlines, not_passed}
-use Rattle.proof_text.specs.inner.Pulling.{LinesLeft, ReadFrom, StoppedAt}
+use Rattle.proof_text.specs.inner.Pulling.{ReadFrom, StoppedAt}
 use Rattle.proof_text.proofs.Drawn.{after_lines, after_none}
 use Rattle.proof_text.proofs.Passed.{turn-takes}
 use Rattle.proof_text.proofs.Resumed.{line-takes}

@@ -1,21 +1,19 @@
 -- What the calls of a reader, or of a text in a file, give of a source of groups and lines.
-use Rattle.std.proofs.Common.{◌≡◌, ◌≢◌, ℕ, ◌<◌, ◌≤◌, Bool, true, false, true≢false, List, [], ◌∷◌, ◌++◌, length, take, Option, Some, None, IfSome, IfNone, Result, Ok, Err, refl, sym, ap, subst, ◌∙◌, arith}
-use Rattle.std.specs.Prelude.{◌↔◌, IfOk, IfErr}
+use Rattle.std.proofs.Common.{◌≡◌, ℕ, ◌<◌, ◌≤◌, true, false, true≢false, List, [], ◌∷◌, ◌++◌, length, take, Option, Some, None, IfSome, IfNone, Result, Ok, Err, refl, sym, ap, subst, ◌∙◌, arith}
+use Rattle.std.specs.Prelude.{◌↔◌, IfOk}
 use Rattle.mc_shelf.specs.Shelf.{Contents}
 use Rattle.mc_shelf.proofs.OnlyReadsLemmas.{reads_so}
-use Rattle.mc_text.specs.Fault.{IsBadAt}
 use Rattle.tailrec_lang.specs.Tree.{GroupTree}
-use Rattle.group_text.specs.Version.{version_of}
 use Rattle.group_text.specs.declared.read_error.TextFault.{TextFault}
 use Rattle.group_text.specs.declared.read_error.TextFault.TheVariants as text
 use Rattle.proof_text.specs.declared.pull_fault.PullFault.{PullFault}
 use Rattle.proof_text.specs.declared.pull_fault.PullFault.TheVariants as pull
 use Rattle.proof_text.specs.Line.{LineTree, ProofTree}
-use Rattle.proof_text.specs.Proofs.{bare, text_of_proofs_in, texts_of_proofs_in}
-use Rattle.proof_text.specs.FirstProofs.{Progress, HasGiven, MayOpen, ProofEnds, with_line}
-use Rattle.proof_text.specs.Answers.{IsEnd, NoItem, OnBad, OnEnd, OnGiven}
-use Rattle.proof_text.specs.Pulling.{FailedNow, IfBad, PullState, Pulls, held_text, is_fault, progress_in}
-use Rattle.proof_text.specs.Sources.{BadGroupAt, BadLineAt, Both, EndsLines, EndsText, GivesGroup, GivesLine, GoesOnIn, held_progress, pull_fault, told_progress}
+use Rattle.proof_text.specs.Proofs.{bare}
+use Rattle.proof_text.specs.FirstProofs.{Progress, HasGiven, ProofEnds, with_line}
+use Rattle.proof_text.specs.Answers.{IsEnd, OnBad, OnEnd, OnGiven}
+use Rattle.proof_text.specs.Pulling.{IfBad, PullState, Pulls, is_fault, progress_in}
+use Rattle.proof_text.specs.Sources.{Both, EndsLines, GivesGroup, GivesLine, GoesOnIn, held_progress, pull_fault, told_progress}
 use Rattle.proof_text.specs.inner.PulledRows.{WhereHeld}
 use Rattle.proof_text.specs.inner.Sourcing.{PullsSo}
 

@@ -1,13 +1,11 @@
 -- Calls on rows that are pulled, one after the other.
-use Rattle.std.proofs.Common.{◌≡◌, ◌≢◌, ℕ, List, Option, Some, None, IfSome, ◌⊎◌, inl, inr, refl, sym, subst, ◌∙◌, arith}
+use Rattle.std.proofs.Common.{◌≡◌, ℕ, List, Option, Some, None, IfSome, ◌⊎◌, inl, inr, refl, sym, subst, ◌∙◌, arith}
 use Rattle.mc_shelf.specs.Shelf.{Contents}
 use Rattle.mc_shelf.specs.inner.OnlyReads.{OnlyReads}
-use Rattle.mc_shelf.specs.declared.lines.LineFault.{LineFault}
-use Rattle.mc_shelf.specs.declared.lines.LineFault.TheVariants as line
 use Rattle.mc_shelf.proofs.OnlyReadsLemmas.{reads_none, reads_then, reads_so}
 use Rattle.group_text.specs.declared.read_error.RowError.{RowError}
 use Rattle.group_text.specs.declared.read_error.RowError.TheVariants as row
-use Rattle.proof_text.specs.inner.PulledRows.{PulledState, Draws, FailsFirst, WhereHeld, after_newlines, not_passed}
+use Rattle.proof_text.specs.inner.PulledRows.{PulledState, Draws, FailsFirst, WhereHeld}
 
 nothing-lost : (e : RowError) → None ≡ Some e → ⊥
 nothing-lost e h = absurd cc

@@ -1,13 +1,12 @@
 -- What a call reads of the rows of a file that is told.
-use Rattle.std.specs.Prelude.{◌≡◌, ℕ, ◌+◌, List, [], ◌∷◌, ◌++◌, Option, Some, None, Result, Ok, Err}
+use Rattle.std.specs.Prelude.{◌≡◌, ℕ, ◌+◌, List, ◌++◌, Option, Some, None, Result, Ok, Err}
 use Rattle.mc_text.specs.declared.token.Before.TheVariants.{Start}
-use Rattle.mc_text.specs.Tokens.{Tok, Done}
+use Rattle.mc_text.specs.Tokens.{Tok}
 use Rattle.mc_text.specs.Scanning.{lex, At, eols}
 use Rattle.mc_text.specs.Fault.{newlines}
 use Rattle.mc_text.specs.Reading.{Reader}
 use Rattle.tailrec_lang.specs.Tree.{GroupTree}
 use Rattle.group_text.specs.inner.Cut.{AreWholeLines, drop_lines}
-use Rattle.group_text.specs.inner.Rest.{GoesOn}
 use Rattle.group_text.specs.declared.read_error.RowError.{RowError}
 use Rattle.group_text.specs.declared.read_error.RowError.TheVariants as row
 use Rattle.proof_text.specs.declared.pull_fault.PullFault.{PullFault}

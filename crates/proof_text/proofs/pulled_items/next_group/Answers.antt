@@ -1,4 +1,4 @@
-use Rattle.std.proofs.Common.{◌≡◌, ℕ, ◌+◌, true, false, List, Option, Some, None, ◌⊎◌, inl, inr, refl, ap, ◌∙◌}
+use Rattle.std.proofs.Common.{◌≡◌, ℕ, ◌+◌, true, false, List, Some, None, ◌⊎◌, inl, inr, refl, ap, ◌∙◌}
 use Rattle.std.specs.Prelude.{option_map}
 use Rattle.tailrec_lang.specs.Tree.{group_tree}
 use Rattle.group_text.specs.inner.Reading.{turn_at}
@@ -9,7 +9,7 @@ use Rattle.proof_text.specs.inner.PulledRows.{EndsSo, WhereHeld, not_passed}
 use Rattle.proof_text.specs.inner.Drawing.{draws_as, draws_then}
 use Rattle.proof_text.specs.inner.Pulling.{EndsBehind, ReadFrom, StoppedAt, fault_lost}
 use Rattle.proof_text.proofs.PullAnswers.{bad_so, err_bad_so, held_at, none_ended, none_given}
-use Rattle.proof_text.proofs.PullLemmas.{group_within, line_within, read_from, stopped_at, told_so}
+use Rattle.proof_text.proofs.PullLemmas.{group_within, read_from, stopped_at, told_so}
 use Rattle.proof_text.proofs.pulled_items.next_group.Goals as goal
 
 pub returns-in-Ok-Some-clause-given : goal.returns-in-Ok-Some-clause-given

@@ -1,15 +1,15 @@
-use Rattle.std.proofs.Common.{◌≡◌, ℕ, ◌+◌, List, Option, Some, None, ◌⊎◌, inl, inr, refl, ap, ◌∙◌}
+use Rattle.std.proofs.Common.{ℕ, ◌+◌, Some, None, refl, ap, ◌∙◌}
 use Rattle.std.specs.Prelude.{option_map}
 use Rattle.proof_text.specs.Line.{line_tree}
 use Rattle.proof_text.specs.inner.LineReading.{turn_of}
 use Rattle.group_text.specs.Version.{version_of}
 use Rattle.group_text.specs.inner.Rows.{row_error}
 use Rattle.group_text.proofs.Claims.{found-was, bad-was}
-use Rattle.proof_text.specs.inner.PulledRows.{EndsSo, WhereHeld, not_passed}
-use Rattle.proof_text.specs.inner.Drawing.{draws_as, draws_then}
-use Rattle.proof_text.specs.inner.Pulling.{EndsBehind, ReadFrom, StoppedAt, fault_lost}
-use Rattle.proof_text.proofs.PullAnswers.{bad_so, err_bad_so, held_at, none_ended, none_given}
-use Rattle.proof_text.proofs.PullLemmas.{group_within, line_within, read_from, stopped_at, told_so}
+use Rattle.proof_text.specs.inner.PulledRows.{WhereHeld}
+use Rattle.proof_text.specs.inner.Drawing.{draws_as}
+use Rattle.proof_text.specs.inner.Pulling.{ReadFrom, StoppedAt, fault_lost}
+use Rattle.proof_text.proofs.PullAnswers.{bad_so}
+use Rattle.proof_text.proofs.PullLemmas.{line_within, read_from, stopped_at, told_so}
 use Rattle.proof_text.proofs.pulled_items.next_line.Goals as goal
 
 pub returns-in-Ok-Some-clause-given : goal.returns-in-Ok-Some-clause-given

@@ -1,5 +1,4 @@
-use Rattle.std.proofs.Common.{◌≡◌, ℕ, ◌+◌, Bool, true, false, List, Option, Some, None, inl, inr, refl, sym, ap, subst, ◌∙◌}
-use Rattle.std.specs.Prelude.{IfErr}
+use Rattle.std.proofs.Common.{◌≡◌, ℕ, ◌+◌, Bool, true, false, Option, None, inl, inr, refl, sym, ap, subst, ◌∙◌}
 use Rattle.tailrec_lang.specs.declared.group.Group.{Group}
 use Rattle.group_text.specs.declared.read_error.RowError.{RowError}
 use Rattle.proof_text.specs.inner.PulledRows.{Draws, EndsSo, WhereHeld, not_passed}

@@ -1,5 +1,4 @@
-use Rattle.std.proofs.Common.{◌≡◌, ℕ, None, IfSome, is_none}
-use Rattle.tailrec_lang.specs.declared.group.Group.{Group}
+use Rattle.std.proofs.Common.{◌≡◌, IfSome, is_none}
 use Rattle.tailrec_lang.specs.Tree.{group_tree}
 use Rattle.proof_text.specs.Sources.{BadGroupAt, EndsText, told_progress}
 use Rattle.proof_text.proofs.PullAnswers.{err_bad_so}

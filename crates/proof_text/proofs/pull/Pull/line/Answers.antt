@@ -1,12 +1,10 @@
-use Rattle.std.proofs.Common.{◌≡◌, ℕ, ◌<◌, eqb, true, false, true≢false, List, [], ◌∷◌, ◌++◌, length, Option, Some, None, IfSome, IfNone, Ok, Err, inl, inr, refl, sym, subst, ◌∙◌}
+use Rattle.std.proofs.Common.{◌≡◌, ℕ, ◌<◌, true, true≢false, List, [], ◌∷◌, ◌++◌, length, Some, None, Ok, Err, refl, sym, subst, ◌∙◌}
 use Rattle.mc_text.specs.Fault.{IsBadAt}
-use Rattle.tailrec_lang.specs.declared.group.Group.{Group}
 use Rattle.tailrec_lang.specs.Tree.{group_tree}
 use Rattle.group_text.specs.Limits.{IsGroupIn}
 use Rattle.group_text.specs.Version.{version_of}
 use Rattle.group_text.proofs.HeadLaws.{IsCode}
 use Rattle.proof_text.specs.declared.line.Line.{Line}
-use Rattle.proof_text.specs.LineLimits.{IsLineIn}
 use Rattle.proof_text.specs.declared.pull_fault.PullFault.{PullFault}
 use Rattle.proof_text.specs.Line.{ProofTree, line_tree}
 use Rattle.proof_text.specs.Proofs.{texts_of_proofs_in}
@@ -14,7 +12,7 @@ use Rattle.proof_text.specs.FirstProofs.{HasGiven, ProofEnds, with_line}
 use Rattle.proof_text.specs.Answers.{NoItem}
 use Rattle.proof_text.specs.Pulling.{PullState, Pulls, IfBad, progress_in, held_text}
 use Rattle.proof_text.specs.inner.LineReading.{turn_of}
-use Rattle.proof_text.specs.inner.PulledRows.{WhereHeld, rows_left}
+use Rattle.proof_text.specs.inner.PulledRows.{WhereHeld}
 use Rattle.proof_text.specs.inner.Pulling.{ReadFrom}
 use Rattle.proof_text.proofs.PullAnswers.{bad_all, bad_so, none_so, some_so}
 use Rattle.proof_text.proofs.PullCalls.{line_given, line_shorter, line_stopped, lines_ended}
