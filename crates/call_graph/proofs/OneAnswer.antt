@@ -6,7 +6,7 @@ use Rattle.std.proofs.lemmas.List.{get_or-map, length-map}
 use Rattle.std.proofs.lemmas.Option.{get_or_from_slice_get, slice_get-get_or, slice_get_within}
 use Rattle.rv_words.specs.Bytes.{Bytes}
 use Rattle.rv_decode.specs.declared.instruction.Instr.TheVariants.{Ebreak}
-use Rattle.flow_graph.specs.Flow.{called_by, look}
+use Rattle.flow_graph.specs.Flow.{called_by}
 use Rattle.flow_graph.specs.Walks.{Stop, Leave}
 use Rattle.flow_graph.proofs.Ways.{place_of, node_at}
 use Rattle.flow_graph.proofs.ExactLemmas.{graph_looks}

@@ -1,5 +1,5 @@
 -- Along calls that don't come back, fewer functions are reached.
-use Rattle.std.proofs.Common.{◌≡◌, ◌≢◌, ◌⊎◌, ℕ, zero, suc, ◌<◌, ◌≤◌, List, ◌∷◌, length, get_or, inl, inr, sym, arith, subst}
+use Rattle.std.proofs.Common.{◌≢◌, ℕ, zero, suc, ◌<◌, List, ◌∷◌, length, get_or, inl, inr, sym, arith, subst}
 use Rattle.std.specs.List.{Contains}
 use Rattle.std.proofs.lemmas.Bool.{cases_lt}
 use Rattle.rv_words.specs.Bytes.{Bytes}

@@ -1,18 +1,16 @@
 -- What a group of linked functions lists.
-use Rattle.std.proofs.Common.{◌≡◌, ℕ, zero, suc, ◌+◌, ◌<◌, ◌≤◌, Bool, true, false, ◌||◌, cond, List, [], ◌∷◌, ◌++◌, map, length, get_or, refl, sym, ap, ◌∙◌, arith, subst, Some, ◌⊎◌}
+use Rattle.std.proofs.Common.{◌≡◌, ℕ, suc, ◌+◌, ◌≤◌, Bool, true, false, ◌||◌, List, [], ◌∷◌, ◌++◌, map, refl, sym, ap, arith, subst, Some, ◌⊎◌}
 use Rattle.std.specs.Prelude.{◌↔◌}
 use Rattle.std.specs.List.{AllZip, Contains, flat_map, list_any}
 use Rattle.rv_words.specs.Bytes.{AreBytes, Bytes}
 use Rattle.rv_words.specs.Ranges.{range_bytes}
-use Rattle.rv_decode.specs.Registers.{registers_where}
 use Rattle.rv_decode.specs.declared.instruction.Instr.{Instr}
 use Rattle.tailrec_lang.specs.Tree.{DefTree}
 use Rattle.instr_axioms.specs.Axiom.{is_own}
 use Rattle.instr_axioms.specs.Terms.{has_memory}
 use Rattle.flow_graph.specs.Flow.{Next}
 use Rattle.flow_graph.specs.Walks.{Reaches}
-use Rattle.call_graph.specs.Calls.{IsFunction}
-use Rattle.call_graph.specs.Functions.{AreFunctions, entries_of}
+use Rattle.call_graph.specs.Functions.{AreFunctions}
 use Rattle.call_graph.specs.declared.function.Function.{Function}
 use Rattle.code_parts.specs.Bodies.{part_def}
 use Rattle.code_parts.specs.Flows.{HaveCode, setting_of}

@@ -1,5 +1,5 @@
 -- The item of a name, of all functions that calls lead to from its address.
-use Rattle.std.proofs.Common.{◌≡◌, ℕ, zero, suc, ◌+◌, ◌-◌, ◌<◌, ◌≤◌, Bool, true, false, cond, List, [], ◌∷◌, ◌++◌, map, length, get_or, Result, Ok, Err, refl, sym, ap, ◌∙◌, arith, subst, Some}
+use Rattle.std.proofs.Common.{◌≡◌, ℕ, suc, ◌+◌, ◌-◌, ◌≤◌, Bool, true, false, cond, List, [], ◌∷◌, ◌++◌, map, length, get_or, Result, Ok, Err, refl, sym, arith, subst}
 use Rattle.std.specs.List.{AllByRecursion, Contains}
 use Rattle.rv_words.specs.Bytes.{AreBytes}
 use Rattle.elf_image.specs.Image.{code_of_file}
@@ -18,10 +18,9 @@ use Rattle.call_graph.specs.Causes.{IsCallGraphFault, IsCause}
 use Rattle.call_graph.specs.Functions.{AreFunctions}
 use Rattle.call_graph.specs.declared.fault.CallGraphFault.{CallGraphFault}
 use Rattle.call_graph.specs.declared.fault.CallGraphFault.TheVariants as graph
-use Rattle.call_graph.specs.declared.fault.LinkWhy.{LinkWhy}
 use Rattle.call_graph.specs.declared.fault.LinkWhy.TheVariants.{Outside}
 use Rattle.call_graph.proofs.OneAnswer.{no_cause}
-use Rattle.code_parts.specs.Bodies.{Flow, part_def}
+use Rattle.code_parts.specs.Bodies.{part_def}
 use Rattle.code_parts.specs.declared.part.Part.{Part}
 use Rattle.code_parts.specs.Graph.{IsSmall}
 use Rattle.code_parts.specs.Members.{Member, defs_of, flow_at}

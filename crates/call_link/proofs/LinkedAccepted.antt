@@ -1,5 +1,5 @@
 -- Items of linked functions are accepted, and have a text; and the first name that has none is refused.
-use Rattle.std.proofs.Common.{◌≡◌, ℕ, ◌<◌, List, [], ◌∷◌, map, length, get_or, take}
+use Rattle.std.proofs.Common.{ℕ, ◌<◌, List, [], ◌∷◌, map, length, get_or, take}
 use Rattle.std.specs.List.{AllByRecursion, AllZip}
 use Rattle.group_text.specs.Version.{version_3}
 use Rattle.proof_text.specs.Proofs.{IsProofIn}

@@ -1,6 +1,6 @@
 //! The code of a graph.
 
-ghost use Rattle.std.specs.Prelude.{◌≡◌, ◌+◌, ◌<◌, IfOk, length};
+ghost use Rattle.std.specs.Prelude.{◌+◌, ◌<◌, IfOk, length};
 ghost use Rattle.std.specs.List.{AllByRecursion};
 ghost use Rattle.code_parts.specs.Flows.{AreCodeOf};
 ghost use Rattle.code_parts.specs.Kept.{IsReachedBy};

@@ -1,12 +1,11 @@
 -- A definition with one term rewritten is like it was.
-use Rattle.std.proofs.Common.{◌≡◌, ℕ, zero, suc, ◌+◌, ◌-◌, Bool, true, false, cond, nat_lt, List, [], ◌∷◌, Option, Some, None, option_map, slice_get, length, refl, sym, ap, subst}
+use Rattle.std.proofs.Common.{◌≡◌, ℕ, zero, suc, ◌+◌, ◌-◌, Bool, true, false, cond, nat_lt, List, [], ◌∷◌, Option, Some, None, option_map, slice_get, length, refl, sym, subst}
 use Rattle.std.specs.Prelude.{slice_set}
-use Rattle.std.specs.List.{AllByRecursion}
 use Rattle.word_terms.specs.Tree.{WordTree, MemTree, CondTree}
 use Rattle.tailrec_lang.specs.Tree.{ValuesTree, StepTree, Bind, BindMem, Need, BodyTree, Do, Branch, Call, Again, Leave, ArmTrees, NoArm, Arm, DefTree}
 use Rattle.term_laws.specs.declared.step.Rw.{Rw}
 use Rattle.term_laws.specs.Laws.{Term, OfWord, OfMem, OfCond}
-use Rattle.def_laws.specs.Rewriting.{step_term, count, arm_term_count, below_or, value_at, term_at, arm_term_at, with_step_term, with_word_term, with_mem_term, with_cond, with_value, with_term, with_arm_term, with_def_term, IsRewritingStep, AreRewritingSteps}
+use Rattle.def_laws.specs.Rewriting.{step_term, count, value_at, term_at, arm_term_at, with_step_term, with_word_term, with_mem_term, with_cond, with_value, with_term, with_arm_term, with_def_term, IsRewritingStep}
 use Rattle.term_laws.specs.Values.{KeepsValue}
 use Rattle.def_laws.specs.inner.Alike.{EachPair, AlikeWords, AlikeMems, AlikeConds, AlikeValues, AlikeSteps, AlikeBodies, AlikeArms, AlikeDefs}
 use Rattle.term_laws.proofs.LawLemmas.{sound_number}

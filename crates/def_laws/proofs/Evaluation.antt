@@ -1,5 +1,5 @@
 -- Groups whose definitions are alike have the same evaluation.
-use Rattle.std.proofs.Common.{◌≡◌, ℕ, zero, suc, ◌+◌, ◌<◌, ◌^◌, Bool, true, false, cond, nat_eq, List, [], ◌∷◌, Option, Some, None, option_map, slice_get, map, length, refl, sym, ap, subst, ◌∙◌, arith}
+use Rattle.std.proofs.Common.{◌≡◌, ℕ, zero, suc, ◌+◌, Bool, true, false, cond, List, [], ◌∷◌, slice_get, map, refl, ap, subst, ◌∙◌}
 use Rattle.std.specs.List.{AllByRecursion}
 use Rattle.word_terms.specs.Tree.{WordTree, MemTree}
 use Rattle.word_terms.specs.Environment.{Environment, IsInRange, no_variables, with_word, with_mem}
@@ -7,7 +7,7 @@ use Rattle.word_terms.specs.Value.{word_value, mem_value, cond_holds}
 use Rattle.word_terms.specs.Scope.{WordInRange, MemInRange}
 use Rattle.word_terms.proofs.Ranges.{word_in_range}
 use Rattle.tailrec_lang.specs.Tree.{ValuesTree, StepTree, Bind, BindMem, Need, BodyTree, Do, Branch, Call, Again, Leave, ArmTrees, NoArm, Arm, DefTree, GroupTree, exits_at}
-use Rattle.tailrec_lang.specs.Eval.{Arguments, Ending, Exited, NeedFalse, NoTurns, Nothing, Meaning, and_then, after_step, step_holds, step_needs, needs, arm_needs, arguments_of, body_ending, arm_ending, with_arguments, ending_within, ending, eval, with_pc}
+use Rattle.tailrec_lang.specs.Eval.{Arguments, Ending, Exited, NeedFalse, NoTurns, Nothing, Meaning, and_then, after_step, step_holds, step_needs, needs, arm_needs, arguments_of, body_ending, arm_ending, with_arguments, ending_within, eval, with_pc}
 use Rattle.tailrec_lang.proofs.Turns.{of_def}
 use Rattle.group_terms.specs.Range.{ArgumentsInRange, ValuesInRange, StepInRange, BodyInRange, ArmsInRange, DefInRange}
 use Rattle.group_terms.proofs.Ranges.{in_range-with_word, in_range-with_mem, in_range-with, in_range-none, memory, values_in_range}

@@ -1,5 +1,5 @@
 -- Steps of parts are steps of the whole.
-use Rattle.std.proofs.Common.{◌≡◌, ℕ, zero, suc, ◌+◌, ◌-◌, ◌<◌, ◌≤◌, List, [], ◌∷◌, ◌++◌, length, map, drop, get_or, nat_lt, Option, Some, None, option_map, slice_get, refl, sym, ap, subst, ◌∙◌, append_assoc, arith}
+use Rattle.std.proofs.Common.{◌≡◌, ℕ, zero, suc, ◌+◌, ◌-◌, ◌<◌, List, [], ◌∷◌, ◌++◌, length, map, drop, get_or, Option, Some, option_map, slice_get, refl, sym, ap, subst, ◌∙◌, append_assoc, arith}
 use Rattle.std.specs.Prelude.{slice_set}
 use Rattle.std.proofs.lemmas.List.{append-nil, length-map}
 use Rattle.word_terms.specs.Tree.{WordTree, MemTree, CondTree}
@@ -8,7 +8,7 @@ use Rattle.term_laws.specs.declared.step.Rw.{Rw}
 use Rattle.term_laws.specs.declared.log.Log.{Log}
 use Rattle.term_laws.specs.Laws.{Term, OfWord, OfMem, OfCond}
 use Rattle.term_laws.specs.inner.Steps.{AreTermSteps, IsNoted, IsTermStep}
-use Rattle.def_laws.specs.Rewriting.{step_term, count, arm_term_count, below_or, value_at, term_at, arm_term_at, with_step_term, with_word_term, with_mem_term, with_cond, with_value, with_term, with_arm_term}
+use Rattle.def_laws.specs.Rewriting.{step_term, count, arm_term_count, below_or, value_at, term_at, arm_term_at, with_step_term, with_word_term, with_mem_term, with_value, with_term, with_arm_term}
 use Rattle.def_laws.specs.inner.Puts.{steps_with}
 use Rattle.def_laws.specs.inner.Simplified.{Parts, IsPartStep, ArePartSteps, AreMade, ArePassed, IsNext, IsNotedStep, word_parts, mem_parts, value_parts, step_parts, body_parts, arm_parts}
 use Rattle.def_laws.proofs.Parts.{below, beyond}

@@ -1,15 +1,14 @@
 -- The terms of a body by their numbers.
-use Rattle.std.proofs.Common.{◌≡◌, ℕ, zero, suc, ◌+◌, ◌-◌, ◌<◌, ◌≤◌, List, [], ◌∷◌, length, map, Bool, true, false, cond, nat_lt, Option, Some, None, option_map, slice_get, get_or, take, drop, refl, sym, ap, subst, ◌∙◌, arith, rules}
-use Rattle.std.specs.Prelude.{slice_set}
+use Rattle.std.proofs.Common.{◌≡◌, ℕ, zero, suc, ◌+◌, ◌-◌, ◌<◌, ◌≤◌, List, [], ◌∷◌, length, map, true, false, cond, nat_lt, Some, option_map, slice_get, get_or, take, drop, refl, ap, subst, ◌∙◌, arith}
 use Rattle.std.proofs.lemmas.List.{length-map, take_all}
 use Rattle.word_terms.specs.Tree.{CondTree, word_tree, mem_tree}
 use Rattle.tailrec_lang.specs.declared.group.Body.{Body}
 use Rattle.tailrec_lang.specs.declared.group.Values.{Values}
-use Rattle.tailrec_lang.specs.Tree.{ValuesTree, BodyTree, Do, Branch, Call, ArmTrees, Arm, StepTree, body_tree, step_tree, values_tree, with_steps, arms_of}
+use Rattle.tailrec_lang.specs.Tree.{BodyTree, Branch, Call, ArmTrees, Arm, StepTree, body_tree, step_tree, values_tree, with_steps}
 use Rattle.tailrec_lang.specs.inner.Tree.{arm_trees, end_tree}
 use Rattle.tailrec_lang.proofs.Views.{view_body}
-use Rattle.term_laws.specs.Laws.{Term, OfWord, OfMem, OfCond}
-use Rattle.def_laws.specs.Rewriting.{step_term, count, arm_term_count, below_or, value_at, term_at, arm_term_at, with_term, with_arm_term}
+use Rattle.term_laws.specs.Laws.{OfWord, OfMem, OfCond}
+use Rattle.def_laws.specs.Rewriting.{step_term, count, below_or, value_at, term_at, arm_term_at, with_term, with_arm_term}
 use Rattle.def_laws.specs.inner.Parts.{IsInArm, HasNoArm}
 
 count-steps : (ss : List StepTree) (b : BodyTree) → count (with_steps ss b) ≡ length ss + count b

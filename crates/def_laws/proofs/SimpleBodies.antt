@@ -1,8 +1,8 @@
 -- Definitions all of whose terms are simple, and the steps that made them so.
-use Rattle.std.proofs.Common.{◌≡◌, ℕ, zero, suc, ◌+◌, ◌<◌, List, [], ◌∷◌, ◌++◌, length, map, drop, get_or, Option, Some, None, option_map, slice_get, refl, sym, ap, subst, ◌∙◌, append_assoc, arith}
+use Rattle.std.proofs.Common.{◌≡◌, ℕ, zero, suc, ◌+◌, ◌<◌, List, [], ◌∷◌, ◌++◌, length, map, drop, get_or, Some, option_map, slice_get, sym, ap, subst, ◌∙◌, arith}
 use Rattle.std.specs.Prelude.{slice_set}
 use Rattle.std.specs.List.{AllByRecursion}
-use Rattle.std.proofs.lemmas.List.{append-nil, length-map}
+use Rattle.std.proofs.lemmas.List.{length-map}
 use Rattle.word_terms.specs.declared.term.Word.{Word}
 use Rattle.word_terms.specs.declared.term.Mem.{Mem}
 use Rattle.word_terms.specs.Tree.{word_tree, mem_tree}
@@ -14,8 +14,8 @@ use Rattle.term_laws.specs.declared.log.Log.{Log}
 use Rattle.term_laws.specs.Laws.{Term, OfWord, OfMem, OfCond}
 use Rattle.term_laws.specs.Places.{Rewrites}
 use Rattle.term_laws.specs.Simple.{IsSimple}
-use Rattle.def_laws.specs.Rewriting.{step_term, count, arm_term_count, below_or, value_at, term_at, arm_term_at, with_term, with_def_term, IsRewritingStep, AreRewritingSteps, AreSimple}
-use Rattle.def_laws.specs.inner.Simplified.{ArePassed, IsNext, IsPartStep, Parts, ArePartSteps, AreMade, AreSimpleMems, AreSimpleSteps, AreSimpleValues, AreSimpleWords, IsSimpleBody, AreSimpleArms, AreSimpleDefs, IsSimplifiedDef, body_parts}
+use Rattle.def_laws.specs.Rewriting.{step_term, count, value_at, term_at, arm_term_at, with_term, with_def_term, IsRewritingStep, AreRewritingSteps, AreSimple}
+use Rattle.def_laws.specs.inner.Simplified.{ArePassed, IsNext, IsPartStep, Parts, ArePartSteps, AreSimpleMems, AreSimpleSteps, AreSimpleValues, AreSimpleWords, IsSimpleBody, AreSimpleArms, AreSimpleDefs, IsSimplifiedDef, body_parts}
 use Rattle.def_laws.proofs.PartSteps.{IsItem, apart, list_more, is-below, is-beyond, at-length, set-at-length, next-item, none_over, one_over}
 
 -- ---- each term of a simple body is simple

@@ -7,7 +7,7 @@ use Rattle.word_terms.specs.Scope.{WordInRange, MemInRange}
 use Rattle.tailrec_lang.specs.Eval.{Arguments, eval}
 use Rattle.term_laws.specs.declared.step.Rw.{Rw}
 use Rattle.group_terms.specs.Range.{ArgumentsInRange, ValuesInRange, StepInRange, BodyInRange, ArmsInRange, DefInRange, ExitInRange}
-use Rattle.def_laws.specs.Rewriting.{IsRewritingStep, AreRewritingSteps, with_defs}
+use Rattle.def_laws.specs.Rewriting.{AreRewritingSteps, with_defs}
 use Rattle.def_laws.specs.inner.Alike.{EachPair, AlikeWords, AlikeMems, AlikeValues, AlikeSteps, AlikeBodies, AlikeArms, AlikeDefs}
 use Rattle.def_laws.proofs.Bodies.{step-alike_defs}
 use Rattle.def_laws.proofs.Evaluation.{eval_same}

@@ -1,7 +1,7 @@
 //! The terms of a definition by their numbers.
 
 ghost use Rattle.std.specs.Prelude.{◌≡◌, ◌+◌, ◌<◌, IfNone, IfSome, length, map, option_map, slice_get};
-ghost use Rattle.word_terms.specs.Tree.{cond_tree, mem_tree, word_tree};
+ghost use Rattle.word_terms.specs.Tree.{mem_tree, word_tree};
 ghost use Rattle.tailrec_lang.specs.Tree.{body_tree, step_tree, values_tree};
 ghost use Rattle.tailrec_lang.specs.inner.Tree.{arm_trees, end_tree};
 ghost use Rattle.term_laws.specs.Laws.{OfMem, OfWord};

@@ -1,5 +1,5 @@
 -- What steps give has a text, if what they start from has.
-use Rattle.std.proofs.Common.{◌≡◌, ℕ, zero, suc, ◌+◌, ◌-◌, ◌^◌, ◌<◌, ◌≤◌, Bool, true, false, cond, nat_lt, List, [], ◌∷◌, length, Some, None, Option, option_map, map, slice_get, refl, sym, ap, subst, ◌∙◌, arith}
+use Rattle.std.proofs.Common.{◌≡◌, ℕ, zero, suc, ◌+◌, ◌-◌, ◌^◌, ◌<◌, ◌≤◌, Bool, true, false, cond, nat_lt, List, [], ◌∷◌, length, Some, Option, option_map, map, slice_get, refl, sym, ap, subst, ◌∙◌, arith}
 use Rattle.std.specs.Prelude.{slice_set}
 use Rattle.std.specs.List.{AllByRecursion}
 use Rattle.std.proofs.lemmas.Option.{slice_get_within}
@@ -12,7 +12,7 @@ use Rattle.group_text.specs.Version.{version_of}
 use Rattle.group_text.specs.Limits.{IsValues, IsStep, IsBody, AreArms, IsDef, IsGroupIn, nesting_limit, def_exit_limit, def_limit}
 use Rattle.term_laws.specs.declared.step.Rw.{Rw}
 use Rattle.term_laws.specs.Laws.{Term, OfWord, OfMem, OfCond, laws, law_at, Law}
-use Rattle.def_laws.specs.Rewriting.{step_term, count, below_or, value_at, term_at, arm_term_at, with_step_term, with_word_term, with_mem_term, with_cond, with_value, with_term, with_arm_term, with_def_term, IsRewritingStep, AreRewritingSteps}
+use Rattle.def_laws.specs.Rewriting.{step_term, count, value_at, term_at, arm_term_at, with_step_term, with_word_term, with_mem_term, with_cond, with_value, with_term, with_arm_term, with_def_term, IsRewritingStep, AreRewritingSteps}
 use Rattle.fun_laws.specs.Limits.{IsCert, IsCertStep}
 use Rattle.fun_laws.specs.Spelling.{cert_tree}
 use Rattle.def_laws.specs.declared.cert.Cert.{Cert}

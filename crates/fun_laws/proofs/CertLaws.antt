@@ -1,9 +1,8 @@
 -- Certificates are read as they are spelled, and the lines before a fault can be completed.
-use Rattle.std.proofs.Common.{◌≡◌, ℕ, suc, ◌+◌, ◌-◌, ◌^◌, ◌<◌, ◌≤◌, Bool, true, false, cond, List, [], ◌∷◌, ◌++◌, length, codes, Ok, Err, refl, sym, ap, subst, ◌∙◌, arith, append_assoc, flat_map}
+use Rattle.std.proofs.Common.{◌≡◌, ℕ, ◌+◌, ◌-◌, ◌^◌, ◌<◌, ◌≤◌, Bool, true, false, List, [], ◌∷◌, ◌++◌, length, codes, Ok, Err, refl, sym, ap, subst, ◌∙◌, arith, append_assoc, flat_map}
 use Rattle.std.specs.Prelude.{nat_le}
 use Rattle.std.specs.List.{AllByRecursion}
 use Rattle.mc_text.specs.Tokens.{Tok, Left, Right, Semi, Atom, Eol, Done, Stuck, IsAtom, is_atom_byte}
-use Rattle.std.specs.Str.{bytes_eq}
 use Rattle.std.proofs.lemmas.Bool.Decides.{nat_tests}
 use Rattle.std.proofs.lemmas.Slice.Eq.{bytes_eq-Decides}
 use Rattle.mc_text.specs.Reading.{Reader, ◌>>=◌, pair, with, made, one, atom_of, many, goes_on}
@@ -17,20 +16,19 @@ use Rattle.mc_text.proofs.Shown.{Always, decimal-atom, tokens-append, tokens-eac
 use Rattle.mc_text.proofs.Turns.{many-one, many-none, many-stop}
 use Rattle.mc_text.proofs.Covers.{Covers, row-covers, covers-with, covers-list, covers-made}
 use Rattle.mc_text.proofs.Repeated.{covers-alike, covers-as, covers-bounded}
-use Rattle.rv_words.specs.declared.range.Range.{Range}
 use Rattle.term_text.specs.Spelling.{range_tokens}
 use Rattle.tailrec_lang.specs.Tree.{DefTree, GroupTree}
 use Rattle.tailrec_lang.specs.Registers.{AreRegistersFrom}
 use Rattle.group_text.specs.Limits.{IsDef, IsGroupIn, IsName, def_limit}
 use Rattle.group_text.specs.Spelling.{line, number, group_tokens, def_tokens, end_tokens}
-use Rattle.group_text.specs.inner.Reading.{Head, def_at, is_def, are_some, own_defs, mark_row, regs_row, mems_row, code_row, name_of, group_of}
+use Rattle.group_text.specs.inner.Reading.{Head, def_at, is_def, are_some, own_defs, mark_row, regs_row, mems_row, code_row, name_of}
 use Rattle.group_text.specs.declared.version.Version.TheVariants.{One, Four}
 use Rattle.group_text.specs.Version.{Version, version_1, version_4}
 use Rattle.group_text.proofs.HeadLaws.{HasMems}
 use Rattle.group_text.specs.inner.GroupRows.{more_head}
-use Rattle.group_text.proofs.StepLaws.{shrinks, atom-flat, name-law, number-law, eol-law, mark-law, row-law, ends-eol}
+use Rattle.group_text.proofs.StepLaws.{shrinks, atom-flat, name-law, number-law, eol-law, mark-law, row-law}
 use Rattle.group_text.proofs.HeadLaws.{IsCode, group-name-law, le-true, mems-law, true-le}
-use Rattle.group_text.proofs.Texts.{def-cover, def-begins, HeadFits, Regs, RegsFit, regs_tokens, regs-cover, Mems, MemsFit, mems_tokens, CodeRow, CodeFits, code_tokens, code-cover}
+use Rattle.group_text.proofs.Texts.{def-cover, def-begins, Regs, RegsFit, regs_tokens, regs-cover, Mems, MemsFit, mems_tokens, CodeRow, CodeFits, code_tokens, code-cover}
 use Rattle.group_text.proofs.Real.{def-tokens, group-tokens}
 use Rattle.group_text.proofs.OwnDefs.{Defs, guard, judge, sent, def-refuses}
 use Rattle.term_laws.specs.declared.step.Rw.{Rw}

@@ -1,18 +1,17 @@
 -- Each row of a certificate has the law of rows.
-use Rattle.std.proofs.Common.{◌≡◌, List, [], ◌∷◌, ◌++◌, codes, refl}
-use Rattle.mc_text.specs.Tokens.{Tok, Atom, Eol}
-use Rattle.mc_text.specs.Reading.{pair, one, atom_of}
-use Rattle.mc_text.specs.inner.Reading.{eol, word}
+use Rattle.std.proofs.Common.{[], ◌∷◌, ◌++◌, codes, refl}
+use Rattle.mc_text.specs.Tokens.{Atom}
+use Rattle.mc_text.specs.Reading.{one, atom_of}
+use Rattle.mc_text.specs.inner.Reading.{word}
 use Rattle.mc_text.proofs.ReaderLaws.{Reads-pair}
 use Rattle.mc_text.proofs.Shown.{Always}
 use Rattle.group_text.specs.Limits.{IsName}
 use Rattle.group_text.specs.Spelling.{number}
 use Rattle.group_text.specs.inner.Reading.{name_of}
 use Rattle.group_text.specs.inner.RowReader.{ReadsRows}
-use Rattle.group_text.proofs.StepLaws.{atom-flat, name-law, eol-law, mark-law, row-law}
+use Rattle.group_text.proofs.StepLaws.{atom-flat, name-law, mark-law, row-law}
 use Rattle.group_text.proofs.HeadLaws.{group-name-law}
 use Rattle.group_text.proofs.RowReaders.{row-reads}
-use Rattle.term_laws.specs.declared.step.Rw.{Rw}
 use Rattle.fun_laws.specs.Limits.{IsCertStep}
 use Rattle.fun_laws.specs.Spelling.{place_text, cert_step_tokens}
 use Rattle.fun_laws.specs.inner.Reading.{name_row, step_at, title_row}

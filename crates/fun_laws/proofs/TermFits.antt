@@ -1,5 +1,5 @@
 -- A law gives a term that has a text, of one that has: it is no deeper, and its constants are 64-bit words.
-use Rattle.std.proofs.Common.{◌≡◌, ℕ, zero, suc, ◌+◌, ◌%◌, ◌^◌, ◌<◌, List, [], ◌∷◌, Some, slice_get, refl, sym, subst, arith}
+use Rattle.std.proofs.Common.{◌≡◌, ℕ, zero, suc, ◌+◌, ◌%◌, ◌^◌, ◌<◌, List, [], ◌∷◌, Some, slice_get, sym, subst, arith}
 use Rattle.std.specs.List.{AllByRecursion}
 use Rattle.rv_words.specs.Operation.{operation_value, extension_value}
 use Rattle.rv_words.specs.declared.operation.Op.{Op}

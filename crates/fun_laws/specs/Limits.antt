@@ -1,5 +1,5 @@
 -- Which certificates have a text.
-use Rattle.std.specs.Prelude.{ℕ, ◌<◌, ◌≤◌, List, length}
+use Rattle.std.specs.Prelude.{◌<◌, ◌≤◌, length}
 use Rattle.std.specs.List.{AllByRecursion}
 use Rattle.mc_text.specs.Fault.{Grammar}
 use Rattle.group_text.specs.declared.version.Version.{Version as Known}

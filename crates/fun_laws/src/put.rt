@@ -1,10 +1,10 @@
 //! Printing a certificate.
 #![tactic(auto, using(mc_text::proofs::Printed::prints))]
 
-ghost use Rattle.std.specs.Prelude.{◌≡◌, ◌<◌, ◌++◌, ◌∷◌, [], IfOk, OnOk, codes, flat_map};
+ghost use Rattle.std.specs.Prelude.{◌≡◌, ◌<◌, ◌++◌, IfOk, OnOk, flat_map};
 ghost use Rattle.std.specs.List.{AllByRecursion};
-ghost use Rattle.mc_text.specs.Printing.{BeginsWith, Keeps, page, print};
-ghost use Rattle.mc_text.specs.Tokens.{Atom, spell};
+ghost use Rattle.mc_text.specs.Printing.{Keeps, page, print};
+ghost use Rattle.mc_text.specs.Tokens.{spell};
 ghost use Rattle.mc_text.specs.declared.token.Before.TheVariants.{Start};
 ghost use Rattle.fun_laws.specs.Limits.{IsCert, IsCertStep};
 ghost use Rattle.fun_laws.specs.Spelling.{cert_text, cert_tokens, cert_tree, place_text, cert_step_tokens, cert_title_tokens};

@@ -1,6 +1,6 @@
 //! Reading a certificate, row by row.
 
-ghost use Rattle.std.specs.Prelude.{◌≤◌, map};
+ghost use Rattle.std.specs.Prelude.{map};
 ghost use Rattle.mc_text.specs.Reading.{star};
 ghost use Rattle.tailrec_lang.specs.Tree.{def_tree};
 ghost use Rattle.group_text.specs.inner.Rows.{RowsGive};

@@ -1,8 +1,7 @@
 //! Reading the rows of certificates, each by itself.
 
 ghost use Rattle.std.specs.Prelude.{◌≡◌, IfOk};
-ghost use Rattle.mc_text.specs.Reading.{atom_of, goes_on, one};
-ghost use Rattle.mc_text.specs.Scanning.{tokens_at};
+ghost use Rattle.mc_text.specs.Reading.{atom_of, one};
 ghost use Rattle.mc_text.specs.Outcome.{Gives, last_line};
 ghost use Rattle.group_text.specs.inner.RowReader.{read_as};
 ghost use Rattle.fun_laws.specs.inner.Reading.{are_digits, is_number, is_step, name_row, numbers, place_of, step_at, title_row};

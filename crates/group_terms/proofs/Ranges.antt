@@ -1,5 +1,5 @@
 -- Variables stand for 64-bit words and for memories.
-use Rattle.std.proofs.Common.{◌≡◌, ℕ, ◌+◌, ◌<◌, ◌^◌, Bool, true, false, cond, nat_eq, List, [], ◌∷◌, Option, Some, None, map, refl, sym, ap, subst, ◌∙◌, arith}
+use Rattle.std.proofs.Common.{◌≡◌, ℕ, ◌<◌, ◌^◌, true, false, cond, nat_eq, List, [], ◌∷◌, Option, Some, None, map, refl, ap, arith}
 use Rattle.std.specs.Prelude.{is_some}
 use Rattle.std.specs.List.{AllByRecursion}
 use Rattle.std.specs.Ordering.{nat_cmp}
@@ -8,7 +8,7 @@ use Rattle.rv_words.specs.Bytes.{Bytes, IsMemory}
 use Rattle.word_terms.specs.Tree.{WordTree, MemTree}
 use Rattle.word_terms.specs.Environment.{Environment, IsInRange, no_variables, with_word, with_mem, with_words, with_mems}
 use Rattle.word_terms.specs.Value.{word_value, mem_value}
-use Rattle.word_terms.specs.Scope.{WordInRange, MemInRange}
+use Rattle.word_terms.specs.Scope.{WordInRange}
 use Rattle.word_terms.proofs.Ranges.{word_in_range, mem_in_range}
 use Rattle.tailrec_lang.specs.Tree.{ValuesTree}
 use Rattle.tailrec_lang.specs.Eval.{Arguments, arguments_of, with_arguments}

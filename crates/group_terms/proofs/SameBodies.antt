@@ -1,7 +1,7 @@
 -- Bodies that are the same have the same steps and the same ends.
-use Rattle.std.proofs.Common.{◌≡◌, Bool, true, false, List, [], ◌∷◌, map, length, refl, sym, ap, ◌∙◌}
+use Rattle.std.proofs.Common.{◌≡◌, false, List, [], ◌∷◌, map, length, refl, sym, ap, ◌∙◌}
 use Rattle.tailrec_lang.specs.declared.group.Body.{Body}
-use Rattle.tailrec_lang.specs.Tree.{BodyTree, Do, ArmTrees, NoArm, Arm, StepTree, body_tree, step_tree, with_steps, arms_of}
+use Rattle.tailrec_lang.specs.Tree.{BodyTree, StepTree, body_tree, step_tree, with_steps, arms_of}
 use Rattle.tailrec_lang.specs.inner.Tree.{arm_trees, end_tree}
 use Rattle.tailrec_lang.proofs.Views.{view_body}
 use Rattle.group_terms.specs.inner.Steps.{is_do}

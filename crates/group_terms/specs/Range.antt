@@ -1,5 +1,5 @@
 -- Words of 64 bits, and memories of bytes at 64-bit addresses: in arguments, and as the constants and addresses of definitions.
-use Rattle.std.specs.Prelude.{ℕ, ◌<◌, ◌^◌}
+use Rattle.std.specs.Prelude.{◌<◌, ◌^◌}
 use Rattle.std.specs.List.{AllByRecursion}
 use Rattle.rv_words.specs.Bytes.{IsMemory}
 use Rattle.word_terms.specs.Scope.{WordInRange, MemInRange, CondInRange}

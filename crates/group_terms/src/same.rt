@@ -1,7 +1,7 @@
 //! Whether groups and their parts are the same trees.
 
 ghost use Rattle.std.specs.Prelude.{◌≡◌, ◌↔◌, IsTrue, false, map};
-ghost use Rattle.word_terms.specs.Tree.{mem_tree, word_tree};
+ghost use Rattle.word_terms.specs.Tree.{word_tree};
 ghost use Rattle.tailrec_lang.specs.Tree.{body_tree, def_tree, group_tree, step_tree, values_tree};
 ghost use Rattle.tailrec_lang.specs.inner.Tree.{arm_trees, end_tree};
 ghost use Rattle.group_terms.specs.inner.Steps.{is_do};

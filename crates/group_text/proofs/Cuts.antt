@@ -1,19 +1,10 @@
 -- Whole lines of bytes: cutting them off, and what they are read as.
-use Rattle.std.proofs.Common.{◌≡◌, ℕ, zero, suc, ◌+◌, ◌-◌, ◌≤◌, ◌<◌, Bool, true, false, cond, eqb, List, [], ◌∷◌, ◌++◌, length, codes, get_or, take, Option, Some, None, true≢false, refl, sym, ap, subst, ◌∙◌, arith, append_assoc, length-append, inl, inr}
-use Rattle.std.specs.Prelude.{◌||◌, option_map}
-use Rattle.std.specs.Str.{bytes_eq}
+use Rattle.std.proofs.Common.{◌≡◌, ℕ, zero, suc, ◌+◌, ◌-◌, ◌≤◌, ◌<◌, Bool, true, false, cond, eqb, List, [], ◌∷◌, ◌++◌, length, get_or, take, Some, true≢false, refl, sym, ap, subst, ◌∙◌, arith}
 use Rattle.std.proofs.lemmas.List.{append-nil}
 use Rattle.std.proofs.lemmas.Bool.{eqb-true}
-use Rattle.std.proofs.lemmas.Slice.Eq.{bytes_eq-Decides}
-use Rattle.mc_text.specs.Tokens.{Tok, Left, Right, Semi, Atom, Eol, Done, Stuck, IsAtom, HasNoAtomByte, Stands}
-use Rattle.mc_text.specs.declared.token.Before.TheVariants.{Start}
-use Rattle.mc_text.specs.Scanning.{lex, At}
 use Rattle.mc_text.specs.Fault.{first_lines, newlines}
-use Rattle.mc_text.specs.Reading.{goes_on}
-use Rattle.mc_text.proofs.Atoms.{word-atom}
-use Rattle.mc_text.proofs.Lines.{stands-lex, atom-stands}
-use Rattle.mc_text.proofs.FaultLine.{AreLines, EndsByte, one-newline, first-step, lines-zeroth, newlines-append, SameLine, same-line}
-use Rattle.mc_text.proofs.Tail.{count-cons, first-before}
+use Rattle.mc_text.proofs.FaultLine.{AreLines, EndsByte, one-newline, lines-zeroth, newlines-append}
+use Rattle.mc_text.proofs.Tail.{count-cons}
 use Rattle.group_text.specs.inner.Cut.{AreWholeLines, drop_lines}
 
 -- ---- a text is whole lines, and a rest without a newline

@@ -18,11 +18,10 @@ use Rattle.group_text.specs.inner.Reading.{mark_row, values_at, step_at, arm_bou
 use Rattle.group_text.proofs.StepLaws.{row-law, mark-law, number-law, values-law, values_row, atom-flat, eol-law, name-law}
 use Rattle.group_text.specs.inner.BodyRows.{end_row}
 use Rattle.mc_text.proofs.Shown.{Always}
-use Rattle.rv_words.specs.declared.range.Range.{Range}
 use Rattle.group_text.specs.inner.GroupRows.{first_row}
 use Rattle.group_text.proofs.HeadLaws.{def-row-law, group-name-law, regs-law, mems-law, code-law}
 use Rattle.group_text.specs.inner.RowReader.{ReadsRows}
-use Rattle.group_text.proofs.RowReaders.{row-reads, row-lines, row-made, row-keyed, row-refused, row-room}
+use Rattle.group_text.proofs.RowReaders.{row-reads, row-made, row-keyed, row-refused, row-room}
 
 row-of : {X : Type 0} (r : Reader X) (F : X → Type 0) (t : X → List Tok) → Reads r F t → StaysFlat F t → ReadsRows (pair r eol)
 row-of r F t law flat = row-reads (pair r eol) _ _ (row-law r F t law flat) (λ x h. (t x.0, refl))

@@ -1,5 +1,5 @@
 -- What holds of the versions that are read and written.
-use Rattle.std.proofs.Common.{◌≡◌, ℕ, ◌<◌, ◌≤◌, codes, refl, arith}
+use Rattle.std.proofs.Common.{◌<◌, ◌≤◌, codes, refl, arith}
 use Rattle.mc_text.specs.Tokens.{IsAtom}
 use Rattle.mc_text.proofs.Atoms.{word-atom}
 use Rattle.group_text.specs.declared.version.Version.{Version as Known}

@@ -1,5 +1,5 @@
 -- Where two steps lead, and no third one.
-use Rattle.std.proofs.Common.{◌≡◌, ℕ, zero, suc, Option, Some, None, sym, ap, ◌∙◌}
+use Rattle.std.proofs.Common.{◌≡◌, ℕ, zero, suc, Some, None, sym, ap, ◌∙◌}
 use Rattle.std.specs.Option.{option_and_then, unwrap_or}
 use Rattle.rv_machine.specs.State.{State}
 use Rattle.rv_machine.specs.Step.{step}

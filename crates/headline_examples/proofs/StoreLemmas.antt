@@ -1,6 +1,6 @@
 -- `sb x10, 0(x11)` and a return.
-use Rattle.std.proofs.Common.{◌≡◌, ℕ, ◌<◌, Bool, true, false, Option, Some, None, List, [], ◌∷◌, refl, sym, ap, subst, ◌∙◌, arith}
-use Rattle.std.specs.Prelude.{AllPairs, is_some, ◌==◌, ◌||◌, if◌then◌else◌, slice_index_or, unwrap_or}
+use Rattle.std.proofs.Common.{◌≡◌, ℕ, Bool, true, false, Option, Some, None, [], ◌∷◌, refl, sym, ap, subst, ◌∙◌, arith}
+use Rattle.std.specs.Prelude.{is_some, ◌==◌, ◌||◌, if◌then◌else◌, slice_index_or, unwrap_or}
 use Rattle.std.proofs.lemmas.Bool.{eqb-true}
 use Rattle.rv_words.specs.Bytes.{Bytes, put_byte}
 use Rattle.rv_words.specs.Ranges.{range_bytes}
@@ -13,7 +13,7 @@ use Rattle.rv_machine.specs.Run.{run}
 use Rattle.tailrec_lang.specs.Tree.{BodyTree, listed_def}
 use Rattle.tailrec_lang.specs.Eval.{Arguments, Done, eval}
 use Rattle.code_gen.specs.ElfFile.{elf_of}
-use Rattle.checker.specs.Headline.{AreApart, IsRight, Region, Starts, cut, held_in, is_within}
+use Rattle.checker.specs.Headline.{IsRight, Starts, cut, held_in, is_within}
 use Rattle.headline_examples.specs.Store.{at_place, keeps, memory_with, place, quiet, store_file, store_registers, store_start, stores, storing}
 use Rattle.headline_examples.proofs.Ends.{only-end}
 

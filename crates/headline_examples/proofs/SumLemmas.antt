@@ -1,5 +1,5 @@
 -- `add x10, x10, x11` and a return.
-use Rattle.std.proofs.Common.{◌≡◌, ℕ, zero, suc, ◌<◌, Bool, true, false, Some, None, List, [], ◌∷◌, refl, sym, ap, ◌∙◌, arith}
+use Rattle.std.proofs.Common.{◌≡◌, ℕ, zero, suc, Bool, true, false, Some, None, List, [], ◌∷◌, refl, sym, ap, ◌∙◌, arith}
 use Rattle.std.specs.Prelude.{AllPairs, Contains, ◌==◌, if◌then◌else◌, slice_index, option_and_then}
 use Rattle.std.proofs.lemmas.Bool.{eqb-true}
 use Rattle.rv_words.specs.Ranges.{range_bytes}
@@ -10,7 +10,7 @@ use Rattle.rv_machine.specs.State.{State}
 use Rattle.rv_machine.specs.Step.{step}
 use Rattle.rv_machine.specs.Run.{run}
 use Rattle.triple_kernel.specs.Valid.{Reaches}
-use Rattle.tailrec_lang.specs.Tree.{GroupTree, BodyTree, listed_def}
+use Rattle.tailrec_lang.specs.Tree.{BodyTree, listed_def}
 use Rattle.tailrec_lang.specs.Eval.{Arguments, Done, eval}
 use Rattle.code_gen.specs.ElfFile.{elf_of}
 use Rattle.checker.specs.Headline.{AreApart, Ends, IsRight, Starts, held_in}

@@ -1,5 +1,5 @@
 -- What an instruction's terms say is what the machine does: where its conditions are true it is carried out, and the other way.
-use Rattle.std.proofs.Common.{◌≡◌, ℕ, ◌+◌, ◌%◌, ◌^◌, ◌<◌, Bool, true, false, cond, not, eqb, eqb-true, eq-eqb, ◌↔◌, ℤ, IsTrue, Option, Some, None, is_some, List, [], ◌∷◌, Contains, refl, sym, ap, ◌∙◌, arith}
+use Rattle.std.proofs.Common.{◌≡◌, ℕ, ◌+◌, ◌%◌, ◌^◌, ◌<◌, Bool, true, false, cond, not, ◌↔◌, ℤ, IsTrue, Option, Some, None, is_some, List, [], ◌∷◌, Contains, refl, sym, ap, ◌∙◌, arith}
 use Rattle.std.proofs.Math.Nat.{mod-lt}
 use Rattle.std.proofs.lemmas.Nat.{pow_pos}
 use Rattle.rv_words.specs.Operation.{operation_value, comparison_holds, word_of}

@@ -2,7 +2,7 @@
 use Rattle.std.proofs.Common.{◌≡◌, ℕ, suc, ◌+◌, ◌^◌, ◌<◌, ◌≤◌, Bool, true, false, cond, eqb, eqb-true, Option, Some, None, List, [], ◌∷◌, get_or, map, Contains, refl, sym, ap, ◌∙◌, arith}
 use Rattle.std.proofs.lemmas.Bool.{eqb-false}
 use Rattle.std.specs.Option.{option_and_then}
-use Rattle.rvc.specs.Number.{bytes_of as bytes_of_number, instruction_of, is_word, length_of, number_at}
+use Rattle.rvc.specs.Number.{bytes_of as bytes_of_number, instruction_of, length_of, number_at}
 use Rattle.rvc.proofs.NumberLemmas.{instruction-small}
 use Rattle.rv_words.specs.Bytes.{Bytes, bytes_from, bytes_of, inside, store}
 use Rattle.rv_decode.specs.declared.instruction.Instr.{Instr}

@@ -1,6 +1,6 @@
 //! The code of several functions.
 
-ghost use Rattle.std.specs.Prelude.{◌≡◌, List as Items, IfOk};
+ghost use Rattle.std.specs.Prelude.{List as Items, IfOk};
 ghost use Rattle.rv_words.specs.Ranges.{AreRanges, range_bytes};
 ghost use Rattle.rv_words.specs.declared.range.Range.{Range as TheRange};
 ghost use Rattle.sep_assert.specs.Code.{Agree};

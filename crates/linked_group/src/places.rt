@@ -1,6 +1,6 @@
 //! Where the definitions of each function stand, and how it is called.
 
-ghost use Rattle.std.specs.Prelude.{◌≡◌, ◌+◌, ◌<◌, ◌^◌, IfOk, length};
+ghost use Rattle.std.specs.Prelude.{◌≡◌, ◌+◌, ◌<◌, IfOk, length};
 ghost use Rattle.linked_group.specs.Groups.{AreSomeFunctions, HasOrderedParts, called_as};
 ghost use Rattle.linked_group.specs.inner.Placing.{ArePlaced};
 ghost use Rattle.loop_forest.specs.Forest.{IsForestOf};

@@ -6,7 +6,7 @@ ghost use Rattle.tailrec_lang.specs.Tree.{body_tree, def_tree, exits_at, group_t
 ghost use Rattle.tailrec_lang.specs.inner.Tree.{arm_trees, end_tree};
 ghost use Rattle.triple_kernel.specs.Tree.{fact_tree, triple_tree};
 ghost use Rattle.triple_kernel.specs.Valid.{Valid};
-ghost use Rattle.loop_rule.specs.Leaves.{arm_leaves, at_entry, body_leaves, leaves_of, parameters};
+ghost use Rattle.loop_rule.specs.Leaves.{arm_leaves, body_leaves, leaves_of, parameters};
 ghost use Rattle.loop_rule.specs.Rule.{IsLedTo, LeadsTo, kept_at};
 ghost use Rattle.loop_rule.specs.inner.Citing.{Answers, Cites, CitesNone, IsSet, leaf_of};
 ghost use Rattle.loop_rule.specs.inner.Rule.{AreLed, AreNotLed, IsLed};

@@ -1,6 +1,6 @@
 //! Blocks of a file, read ahead of its lines.
 
-ghost use Rattle.std.specs.Prelude.{◌≡◌, ℕ, ◌+◌, ◌<◌, ◌≤◌, ◌⊎◌, ◌↔◌, ◌++◌, [], length, true, false, IsTrue, IfOk, OnOk, OnErr, IsErr, IsErrOf};
+ghost use Rattle.std.specs.Prelude.{◌≡◌, ◌+◌, ◌<◌, ◌≤◌, ◌⊎◌, ◌↔◌, ◌++◌, [], length, true, false, IsTrue, IfOk, OnOk, OnErr, IsErr, IsErrOf};
 ghost use Rattle.mc_shelf.specs.Lines.{up_to_newline, IsEnded};
 ghost use Rattle.mc_shelf.specs.inner.Ahead.{HasLine, IsDone, Takes, to_go};
 ghost use Rattle.mc_shelf.specs.inner.OnlyReads.{OnlyReads};
@@ -44,7 +44,7 @@ pub(crate) struct Ahead {
 }
 
 impl Model for Ahead {
-    ghost use Rattle.std.specs.Prelude.{ℕ, ◌-◌, ◌≤◌, take, drop};
+    ghost use Rattle.std.specs.Prelude.{◌-◌, ◌≤◌, take, drop};
     ghost use Rattle.mc_shelf.specs.inner.Ahead.{AheadState};
 
     ghost Value = { AheadState };

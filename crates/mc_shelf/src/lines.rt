@@ -1,6 +1,6 @@
 //! Files, line by line.
 
-ghost use Rattle.std.specs.Prelude.{◌≡◌, ◌≢◌, ◌+◌, ◌^◌, ◌<◌, ◌≤◌, ◌⊎◌, [], length, None, Some, Ok as Done, Err as Stopped, false, IfSome, IfNone, IfOk, IfErr, OnErr, OnOk, IsErrOf, unwrap_or};
+ghost use Rattle.std.specs.Prelude.{◌≡◌, ◌≢◌, ◌+◌, ◌^◌, ◌<◌, ◌≤◌, ◌⊎◌, [], length, None, Some, Ok as Done, Err as Stopped, false, IfSome, IfNone, IfOk, IfErr, OnOk, IsErrOf, unwrap_or};
 ghost use Rattle.mc_shelf.specs.Fault.{Rose};
 ghost use Rattle.mc_shelf.specs.Lines.{up_to_newline, IsEnded, bytes_left, AllGiven, GivesFirstLine};
 ghost use Rattle.mc_shelf.specs.Shelf.{TellsName};

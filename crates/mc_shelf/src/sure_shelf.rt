@@ -1,7 +1,6 @@
 //! A shelf in memory that never fails.
 
 ghost use Rattle.std.specs.Prelude.{◌≡◌, [], Some, Ok as Done, OnOk, OnErr, zero};
-ghost use Rattle.mc_shelf.specs.Files.{with_file};
 ghost use Rattle.mc_shelf.specs.Shelf.{Appends, KeepsOthers};
 ghost use Rattle.mc_shelf.specs.SureShelf.{sure_contents, surely_held};
 

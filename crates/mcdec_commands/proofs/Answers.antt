@@ -5,7 +5,6 @@ use Rattle.std.specs.List.{AllByRecursion}
 use Rattle.std.specs.Ordering.{nat_cmp}
 use Rattle.std.specs.FinMap.{FinMap, get}
 use Rattle.std.proofs.lemmas.List.{length-map, length-take}
-use Rattle.rv_words.specs.Bytes.{Bytes}
 use Rattle.rv_words.specs.declared.memory.NoMemory.{NoMemory}
 use Rattle.mc_shelf.specs.Shelf.{Contents, TellsName}
 use Rattle.rv_words.specs.declared.range.Range.{Range}

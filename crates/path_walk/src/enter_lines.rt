@@ -1,6 +1,6 @@
 //! The lines of a call of a function that returns.
 
-ghost use Rattle.std.specs.Prelude.{◌≡◌, ◌∷◌, [], ◌++◌, ◌<◌, ◌^◌, IfOk, OnOk, is_some, map, option_copied, option_map, suc, true};
+ghost use Rattle.std.specs.Prelude.{◌≡◌, ◌∷◌, [], ◌++◌, ◌<◌, ◌^◌, IfOk, OnOk, is_some, map, option_copied, option_map, true};
 ghost use Rattle.rv_words.specs.Ranges.{range_bytes};
 ghost use Rattle.rv_words.specs.declared.comparison.Cmp.TheVariants.{Eq};
 ghost use Rattle.word_terms.specs.Tree.{Compare, Const, Var};

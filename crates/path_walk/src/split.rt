@@ -1,6 +1,6 @@
 //! The group of a function alone with two memories, and the lines of its proof.
 
-ghost use Rattle.std.specs.Prelude.{◌≡◌, IfOk, false, map};
+ghost use Rattle.std.specs.Prelude.{IfOk, false, map};
 ghost use Rattle.proof_text.specs.Line.{line_tree};
 ghost use Rattle.checker.specs.Instance.{after_lines};
 ghost use Rattle.loop_forest.specs.Forest.{IsForestOf};

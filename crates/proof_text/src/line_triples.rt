@@ -1,6 +1,6 @@
 //! Reading triples, after their first word.
 
-ghost use Rattle.std.specs.Prelude.{◌≡◌, IfOk, codes, map};
+ghost use Rattle.std.specs.Prelude.{◌≡◌, codes, map};
 ghost use Rattle.mc_text.specs.Reading.{is_open, made, star};
 ghost use Rattle.mc_text.specs.inner.Reading.{checked, word};
 ghost use Rattle.mc_text.specs.Outcome.{Gives, last_line};

@@ -27,7 +27,7 @@ pub struct Script {
 
 impl Model for Script {
     ghost use Rattle.std.specs.Prelude.{List, map};
-    ghost use Rattle.std.specs.Coded.{codes, coded_list};
+    ghost use Rattle.std.specs.Coded.{codes};
     ghost use Rattle.smt_terms.specs.contracts.tree.Tree as tree;
     ghost use Rattle.smt_terms.specs.declared.script.Fun.{Fun as Function};
     ghost use Rattle.smt_terms.specs.Sorts.{IsScript};

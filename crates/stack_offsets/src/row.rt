@@ -1,5 +1,5 @@
 //! The offsets of registers at a node.
-ghost use Rattle.std.specs.Prelude.{◌≡◌, ℕ, ◌+◌, ◌%◌, ◌^◌, ◌<◌, ◌≤◌, Bool, None, false, true, IsTrue, count_by, is_some, length, option_map};
+ghost use Rattle.std.specs.Prelude.{◌≡◌, ℕ, ◌+◌, ◌%◌, ◌^◌, ◌<◌, ◌≤◌, None, false, true, IsTrue, count_by, is_some, length, option_map};
 ghost use Rattle.rv_words.specs.Operation.{word_of};
 ghost use Rattle.stack_offsets.specs.Offsets.{entry_offsets, given_offset, offsets_after};
 ghost use Rattle.stack_offsets.specs.inner.Rows.{both_same, offsets_of};

@@ -1,8 +1,8 @@
 -- The terms of a definition, as the code has them.
-use Rattle.std.specs.Prelude.{◌≡◌, ℕ, ◌<◌, List, map, slice_get, slice_set, length, Option, Some, None}
+use Rattle.std.specs.Prelude.{◌≡◌, ℕ, List, map, slice_get, slice_set, Some, None}
 use Rattle.word_terms.specs.Tree.{word_tree, mem_tree, cond_tree}
 use Rattle.tailrec_lang.specs.declared.group.Body.{Body}
-use Rattle.tailrec_lang.specs.Tree.{BodyTree, arms_of, body_tree}
+use Rattle.tailrec_lang.specs.Tree.{arms_of, body_tree}
 use Rattle.tailrec_lang.specs.inner.Tree.{arm_trees}
 use Rattle.def_laws.specs.declared.find.TermRef.{TermRef}
 use Rattle.def_laws.specs.declared.find.TermRef.TheVariants as part

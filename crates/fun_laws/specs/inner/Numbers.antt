@@ -1,5 +1,5 @@
 -- The numbers of terms that steps have.
-use Rattle.std.specs.Prelude.{ℕ, ◌<◌, ◌^◌, List}
+use Rattle.std.specs.Prelude.{◌<◌, ◌^◌, List}
 use Rattle.std.specs.List.{AllByRecursion}
 use Rattle.term_laws.specs.declared.step.Rw.{Rw}
 

@@ -1,8 +1,8 @@
 -- Reading groups from tokens, by computing: a line a rule of the grammar.
-use Rattle.std.specs.Prelude.{ℕ, zero, suc, ◌+◌, ◌-◌, ◌^◌, Bool, true, false, ◌&&◌, ◌||◌, nat_le, ◌==◌, if◌then◌else◌, List, [], ◌∷◌, length, codes, Option, Some, None, option_map, Err}
+use Rattle.std.specs.Prelude.{ℕ, zero, suc, ◌+◌, ◌^◌, Bool, true, false, ◌&&◌, ◌||◌, nat_le, ◌==◌, if◌then◌else◌, List, [], ◌∷◌, length, codes, Option, Some, None, option_map, Err}
 use Rattle.std.specs.Str.{bytes_eq}
 use Rattle.mc_text.specs.Number.{hex_of}
-use Rattle.mc_text.specs.Tokens.{Tok, Atom, Done, is_atom_byte}
+use Rattle.mc_text.specs.Tokens.{Tok, Atom, is_atom_byte}
 use Rattle.mc_text.specs.Reading.{Reader, pair, with, made, one, atom_of, many, star, refused, address_at, is_open}
 use Rattle.mc_text.specs.inner.Reading.{is_semi, times, eol, word, keyed, checked, unless, number_at}
 use Rattle.rv_words.specs.declared.range.Range.{Range}

@@ -1,4 +1,4 @@
-use Rattle.std.proofs.Common.{rules, map, sym}
+use Rattle.std.proofs.Common.{rules, map}
 use Rattle.tailrec_lang.specs.Tree.{def_tree, group_tree}
 use Rattle.def_laws.specs.Certs.{IsCertOf}
 use Rattle.def_laws.proofs.judge.judge_cert.Goals as goal

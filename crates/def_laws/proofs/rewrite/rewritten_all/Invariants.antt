@@ -1,4 +1,4 @@
-use Rattle.std.proofs.Common.{◌≡◌, take, map}
+use Rattle.std.proofs.Common.{take, map}
 use Rattle.tailrec_lang.specs.Tree.{def_tree}
 use Rattle.def_laws.specs.Rewriting.{AreRewritingSteps}
 use Rattle.def_laws.proofs.rewrite.rewritten_all.Given as goal

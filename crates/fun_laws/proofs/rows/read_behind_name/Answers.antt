@@ -1,11 +1,11 @@
-use Rattle.std.proofs.Common.{map, List as Items}
+use Rattle.std.proofs.Common.{List as Items}
 use Rattle.mc_text.specs.Reading.{Reader}
 use Rattle.tailrec_lang.specs.Tree.{DefTree}
 use Rattle.group_text.specs.inner.Heads.{head_of}
 use Rattle.group_text.specs.inner.Reading.{Head}
 use Rattle.group_text.specs.Version.{version_of}
 use Rattle.group_text.specs.inner.GroupRows.{more_head}
-use Rattle.group_text.proofs.BodyJoins.{both-ok, err-first, err-second, passed-on}
+use Rattle.group_text.proofs.BodyJoins.{both-ok, err-first, passed-on}
 use Rattle.fun_laws.specs.Spelling.{cert_tree}
 use Rattle.fun_laws.specs.inner.Reading.{Rest, behind_head, behind_name, cert_of}
 use Rattle.fun_laws.specs.inner.Views.{behind_view, name_view}

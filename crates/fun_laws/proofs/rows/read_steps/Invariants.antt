@@ -1,4 +1,3 @@
-use Rattle.std.proofs.Common.{◌≤◌}
 use Rattle.mc_text.specs.Reading.{star}
 use Rattle.mc_text.specs.inner.Reading.{with_prefix}
 use Rattle.group_text.proofs.Joins.{AllSo}

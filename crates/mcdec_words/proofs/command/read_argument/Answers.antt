@@ -1,5 +1,4 @@
-use Rattle.std.proofs.Common.{true≢false, codes, sym, ◌∙◌}
-use Rattle.std.proofs.lemmas.Slice.Eq.{bytes_eq-Decides}
+use Rattle.std.proofs.Common.{◌∙◌}
 use Rattle.mcdec_words.proofs.Givens.{no-mark, no-given}
 use Rattle.mcdec_words.proofs.command.read_argument.Goals as goal
 

@@ -4,12 +4,11 @@ use Rattle.std.specs.FinMap.{get}
 use Rattle.std.proofs.lemmas.List.{map-append}
 use Rattle.rv_words.specs.Bytes.{Bytes}
 use Rattle.rv_words.specs.declared.byte_map.ByteMap.{ByteMap}
-use Rattle.word_terms.specs.Environment.{Environment, environment_of}
+use Rattle.word_terms.specs.Environment.{Environment}
 use Rattle.word_terms.specs.Tree.{MemTree, mem_tree, word_tree}
 use Rattle.word_terms.specs.Scope.{MemInScope}
 use Rattle.word_terms.specs.Value.{mem_value, word_value}
 use Rattle.word_terms.specs.declared.term.Mem.{Mem}
-use Rattle.word_terms.specs.declared.term.Word.{Word}
 use Rattle.tailrec_lang.specs.Eval.{variables_of}
 use Rattle.tailrec_lang.proofs.Lists.{all-at, all-front, map-last}
 use Rattle.tailrec_lang.proofs.args.last_values.Goals as goal

@@ -1,5 +1,4 @@
-use Rattle.std.proofs.Common.{◌≡◌, [], List, ℕ, None, Some, Ok, Err, Option, Result, true, false, IfSome, refl, ap, subst}
-use Rattle.std.specs.Option.{is_some}
+use Rattle.std.proofs.Common.{◌≡◌, [], List, ℕ, None, Some, Ok, Option, Result, IfSome, ap, subst}
 use Rattle.mc_shelf.specs.Lines.{AllGiven, GivesFirstLine, bytes_left}
 use Rattle.mc_shelf.specs.declared.lines.LineFault.{LineFault}
 use Rattle.group_text.specs.inner.Rows.{IsRow, RowPosition}
