@@ -26,8 +26,12 @@ pub use laws::{
     law_of_proof_parts, law_of_proof_texts, law_of_versions,
 };
 pub use line::{Line, Rule};
+pub use line_rows::ProofEnd;
+pub use line_rules::{read_form, read_instruction, read_theorem};
+pub use line_triples::is_other;
+pub use proof_lines::read_theorems;
 pub use proof_source::ProofSource;
 pub use pull::Pull;
 pub use pull_fault::PullFault;
-pub use put_lines::{put_line, put_newer_line};
+pub use put_lines::{put_cited, put_form, put_line, put_newer_line, put_stated_code, put_theorems};
 pub use reader::Reader;

@@ -38,8 +38,9 @@ fn instruction_of(atom: &[u8]) -> Option<u32>
     }
 }
 
+/// An instruction word.
 #[tactic(auto, unfolding(mc_text::specs::Reading::one))]
-fn read_instruction<'a>(scan: &mut Scan<'a>) -> Result<u32, TokenError>
+pub fn read_instruction<'a>(scan: &mut Scan<'a>) -> Result<u32, TokenError>
     ensures gives { Gives (λ n. n) result scan.old scan.new (one (atom_of instruction_of)) }
     ensures last { last_line scan.new ≡ last_line scan.old }
 {
@@ -51,7 +52,7 @@ fn read_instruction<'a>(scan: &mut Scan<'a>) -> Result<u32, TokenError>
 
 /// How an instruction goes on.
 #[tactic(auto, unfolding(mc_text::specs::Reading::one))]
-fn read_form<'a>(scan: &mut Scan<'a>) -> Result<Form, TokenError>
+pub fn read_form<'a>(scan: &mut Scan<'a>) -> Result<Form, TokenError>
     ensures gives { Gives (λ form. form) result scan.old scan.new (one (atom_of axiom_form_of)) }
     ensures last { last_line scan.new ≡ last_line scan.old }
 {

@@ -95,7 +95,7 @@ fn read_assertion<'a>(alloc: Global, scan: &mut Scan<'a>) -> Result<Assertion, T
 // ---- code
 
 /// Whether these are rising ranges other than the group's own.
-fn is_other(own: &Code, code: &Code) -> bool
+pub fn is_other(own: &Code, code: &Code) -> bool
     ensures { result ≡ is_other own.now.ranges code.now.ranges }
 {
     ranges_rise(code.ranges.as_slice()) && !is_own(own, code)

@@ -23,7 +23,7 @@ use std::alloc::Global;
 use word_terms::Code;
 
 /// The numbers of theorems up to the end of the line.
-fn read_theorems<'a>(alloc: Global, scan: &mut Scan<'a>) -> Result<List<u64>, TokenError>
+pub fn read_theorems<'a>(alloc: Global, scan: &mut Scan<'a>) -> Result<List<u64>, TokenError>
     ensures gives { Gives (λ theorems. theorems) result scan.old scan.new (star has_atom theorem_at) }
     ensures last { last_line scan.new ≡ last_line scan.old }
 {

@@ -89,7 +89,7 @@ fn put_line_tokens(
 }
 
 /// Prints the numbers of theorems.
-fn put_theorems(pen: &mut Pen<'_>, theorems: &[u64]) -> Result<(), NoMemory>
+pub fn put_theorems(pen: &mut Pen<'_>, theorems: &[u64]) -> Result<(), NoMemory>
     ensures ok { OnOk result (page pen.new ≡ print (flat_map number theorems.now) (page pen.old)) }
     ensures kept { Keeps (page pen.old) (page pen.new) }
 {
@@ -140,7 +140,7 @@ fn put_rule(pen: &mut Pen<'_>, rule: &Rule) -> Result<(), NoMemory>
 }
 
 /// Prints a word and a number.
-fn put_cited(pen: &mut Pen<'_>, word: &[u8], n: u64) -> Result<(), NoMemory>
+pub fn put_cited(pen: &mut Pen<'_>, word: &[u8], n: u64) -> Result<(), NoMemory>
     ensures ok { OnOk result (page pen.new ≡ print (keyed_tokens word.now (number n ∷ [])) (page pen.old)) }
     ensures kept { Keeps (page pen.old) (page pen.new) }
 {
@@ -148,7 +148,8 @@ fn put_cited(pen: &mut Pen<'_>, word: &[u8], n: u64) -> Result<(), NoMemory>
     pen.dec(n)
 }
 
-fn put_form(pen: &mut Pen<'_>, form: Form) -> Result<(), NoMemory>
+/// Prints how an instruction goes on.
+pub fn put_form(pen: &mut Pen<'_>, form: Form) -> Result<(), NoMemory>
     ensures ok { OnOk result (page pen.new ≡ print (form_tokens form) (page pen.old)) }
     ensures kept { Keeps (page pen.old) (page pen.new) }
 {
@@ -328,7 +329,7 @@ fn put_register(pen: &mut Pen<'_>, register: &(u8, Word)) -> Result<(), NoMemory
 }
 
 /// Prints the code of a triple: its ranges, or that it is the group's own.
-fn put_stated_code(pen: &mut Pen<'_>, own: &Code, code: &Code) -> Result<(), NoMemory>
+pub fn put_stated_code(pen: &mut Pen<'_>, own: &Code, code: &Code) -> Result<(), NoMemory>
     ensures ok { OnOk result (page pen.new ≡ print (Atom (codes "code") ∷ code_tokens own.now.ranges code.now.ranges) (page pen.old)) }
     ensures kept { Keeps (page pen.old) (page pen.new) }
 {
