@@ -23,7 +23,7 @@ from concurrent.futures import ThreadPoolExecutor
 
 HERE = os.path.dirname(os.path.abspath(__file__))
 EXAMPLES = os.path.join(HERE, "..", "..", "examples")
-FILES = [os.path.join(EXAMPLES, *path.split("/")) for path in ("average/average.proof", "gcd/gcd.elf", "gcd/gcd.proof", "refused/lcm.elf", "sum/sum.elf", "sum/sum.proof")]
+FILES = [os.path.join(EXAMPLES, *path.split("/")) for path in ("average/average.proof", "gcd/gcd.elf", "gcd/gcd.proof", "refused/lcm.elf", "split/swap.elf", "sum/sum.elf", "sum/sum.proof")]
 NUMBERS = "mem=0x8000:01000000000000000200000000000000"
 START = ["x1=0x2000", "x10=0x8000", "x11=0x2", NUMBERS]
 CASES = (
@@ -35,6 +35,8 @@ CASES = (
     ["decompile", "lcm.elf", "OUT", "lcm"],
     ["link", "gcd.elf", "OUT", "gcd"],
     ["link", "lcm.elf", "OUT", "lcm"],
+    ["split", "swap.elf", "OUT", "swap"],
+    ["split", "lcm.elf", "OUT", "lcm"],
     ["simplify", "gcd.proof", "gcd", "OUT"],
     ["laws", "gcd.proof", "gcd.cert"],
     ["smt", "average.proof", "average", "0", "OUT"],
