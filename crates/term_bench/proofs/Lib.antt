@@ -1,0 +1,4 @@
+pub mod PutLemmas
+pub mod LeafLemmas
+pub mod RuleLemmas
+pub mod BenchLemmas

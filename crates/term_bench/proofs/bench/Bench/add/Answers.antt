@@ -1,0 +1,18 @@
+use Rattle.std.proofs.Common.{ap, sym, ◌∙◌, subst}
+use Rattle.term_arena.specs.Arena.{AreChildren}
+use Rattle.term_bench.specs.Bench.{BenchState, state_history, state_nodes}
+use Rattle.term_bench.proofs.BenchLemmas.{history_stays, sound_grown}
+use Rattle.term_bench.proofs.bench.Bench.add.Goals as goal
+
+pub add-requires : goal.add-requires
+add-requires g c = subst (λ (k : BenchState). AreChildren (state_nodes k) c.args.n) (sym c.self.view_is) c.requires
+
+pub invariant_of-self : goal.invariant_of-self
+invariant_of-self g c =
+    let s = c.self.inside in
+    sound_grown s.arena c.add.new.self c.add.ensures.grows s.group.now s.held s.closed c.self.invariant
+
+pub returns-clause-same : goal.returns-clause-same
+returns-clause-same g c =
+    let s = c.self.inside in
+    history_stays s.arena c.add.new.self c.add.ensures.grows s.group.now s.held s.closed c.self.invariant.there ∙ ap state_history c.self.view_is

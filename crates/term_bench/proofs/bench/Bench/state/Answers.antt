@@ -1,0 +1,56 @@
+use Rattle.std.proofs.Common.{List, ap, sym, ◌∙◌, subst}
+use Rattle.tailrec_lang.specs.Tree.{group_tree}
+use Rattle.triple_kernel.specs.Tree.{triple_tree}
+use Rattle.proof_text.specs.Line.{States, rule_tree}
+use Rattle.term_arena.specs.declared.node.Node.{Node}
+use Rattle.term_arena.specs.Arena.{Extends}
+use Rattle.held_terms.specs.Held.{triple_of}
+use Rattle.held_terms.proofs.InstanceLemmas.{extends_next, held_still, same_triple}
+use Rattle.checker.specs.Instance.{with_theorem}
+use Rattle.term_bench.specs.Bench.{state_group, state_history, state_nodes}
+use Rattle.term_bench.proofs.BenchLemmas.{meets_same, same_with}
+use Rattle.term_bench.proofs.bench.Bench.state.Goals as goal
+
+pub keep-requires-clause-there : goal.keep-requires-clause-there
+keep-requires-clause-there g c =
+    held_still (state_nodes c.put.new.self) (state_nodes c.meets.new.self) c.meets.ensures.grows c.in_ok-put.put c.in_ok-put.ensures.put.at
+
+pub keep-requires-clause-sound : goal.keep-requires-clause-sound
+keep-requires-clause-sound g c =
+    let old = c.args.self.now in
+    let one = c.put.new.self in
+    let two = c.meets.new.self in
+    let by = rule_tree c.args.rule.now in
+    let t = triple_tree c.args.stated.now in
+    let so = (meets_same (state_group old) (state_group one) (state_history old) (state_history one) by t (ap group_tree c.put.ensures.group) c.put.ensures.same).0 (c.in_ok-so.ensures.answer.0 c.if-not-so.false) in
+    let sound = c.law_of_lines.ensures (state_group old) c.law_of_bench.ensures.well_formed (state_history old) c.law_of_bench.ensures.sound (States by t) so in
+    same_with (state_group old) (state_group two) (state_history old) (state_history two) t (triple_of (state_nodes two) c.in_ok-put.put) sound
+    (ap group_tree (c.meets.ensures.group ∙ c.put.ensures.group)) (c.meets.ensures.same ∙ c.put.ensures.same)
+    (same_triple (state_nodes one) (state_nodes two) c.meets.ensures.grows c.in_ok-put.put c.in_ok-put.ensures.put.at ∙ c.in_ok-put.ensures.put.is)
+
+pub returns-clause-instance : goal.returns-clause-instance
+returns-clause-instance g c =
+    let old = c.args.self.now in
+    let one = c.put.new.self in
+    (meets_same (state_group old) (state_group one) (state_history old) (state_history one) (rule_tree c.args.rule.now) (triple_tree c.args.stated.now) (ap group_tree c.put.ensures.group) c.put.ensures.same).0 (c.in_ok-so.ensures.answer.0 c.if-not-so.false)
+
+pub returns-clause-after : goal.returns-clause-after
+returns-clause-after g c =
+    let one = c.put.new.self in
+    let two = c.meets.new.self in
+    let same = c.meets.ensures.same ∙ c.put.ensures.same in
+    let t = same_triple (state_nodes one) (state_nodes two) c.meets.ensures.grows c.in_ok-put.put c.in_ok-put.ensures.put.at ∙ c.in_ok-put.ensures.put.is in
+    c.in_ok-keep.ensures.after ∙ (λ i. with_theorem (t i) (same i))
+
+pub returns-clause-grows : goal.returns-clause-grows
+returns-clause-grows g c =
+    let old = state_nodes c.args.self.now in
+    let two = state_nodes c.meets.new.self in
+    subst (λ (ns : List Node). Extends old ns) (sym c.keep.ensures.nodes) (extends_next old (state_nodes c.put.new.self) two c.put.ensures.grows c.meets.ensures.grows)
+
+pub returns-then-not-so-clause-no_instance : goal.returns-then-not-so-clause-no_instance
+returns-then-not-so-clause-no_instance g c = λ e m.
+    let old = c.args.self.now in
+    let one = c.put.new.self in
+    let yes = c.in_ok-so.ensures.answer.1 ((meets_same (state_group old) (state_group one) (state_history old) (state_history one) (rule_tree c.args.rule.now) (triple_tree c.args.stated.now) (ap group_tree c.put.ensures.group) c.put.ensures.same).1 m) in
+    absurd (cc)

@@ -1,0 +1,11 @@
+use Rattle.std.proofs.Common.{map, take}
+use Rattle.term_arena.specs.Arena.{Extends}
+use Rattle.triple_kernel.specs.Tree.{fact_tree}
+use Rattle.term_bench.specs.inner.Put.{AreFactsPut}
+use Rattle.term_bench.proofs.put.put_facts.Given as goal
+
+abbrev pub invariant-loop-fact : goal.invariant-loop-fact
+invariant-loop-fact g l = record {
+  grows : Extends l.fn.arena l.arena;
+  put : AreFactsPut l.arena l.numbers (map fact_tree (take l.fact-index l.facts));
+}

@@ -1,0 +1,17 @@
+use Rattle.term_arena.specs.Arena.{IsMemAt, mem_of}
+use Rattle.word_terms.specs.Tree.{mem_tree}
+use Rattle.held_terms.proofs.InstanceLemmas.{extends_next}
+use Rattle.term_bench.proofs.PutLemmas.{mems_stay, put_next}
+use Rattle.term_bench.proofs.put.put_mems.Goals as goal
+
+pub loop-mem-preserved : goal.loop-mem-preserved
+loop-mem-preserved g c =
+    let xs = c.args.mems.now in
+    let i = c.loop-mem.mem-index in
+    let before = c.loop-mem.arena in
+    let now = c.put_mem.new.arena in
+    record {
+      grows = extends_next c.args.arena.now before now c.loop-mem.invariant.grows c.put_mem.ensures.grows;
+      put = put_next (IsMemAt now) (mem_of now) mem_tree c.loop-mem.numbers _ xs i c.mem-item.result c.in_ok-k.k c.loop-mem-test.true c.mem-item.is c.in_ok-push.ensures.ok
+          (mems_stay before now c.put_mem.ensures.grows c.loop-mem.numbers _ c.loop-mem.invariant.put) c.in_ok-k.ensures.put;
+    }

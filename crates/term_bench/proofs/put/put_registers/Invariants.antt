@@ -1,0 +1,11 @@
+use Rattle.std.proofs.Common.{map, take}
+use Rattle.term_arena.specs.Arena.{Extends}
+use Rattle.sep_assert.specs.Tree.{register_tree}
+use Rattle.term_bench.specs.inner.Put.{AreRegistersPut}
+use Rattle.term_bench.proofs.put.put_registers.Given as goal
+
+abbrev pub invariant-loop-register : goal.invariant-loop-register
+invariant-loop-register g l = record {
+  grows : Extends l.fn.arena l.arena;
+  put : AreRegistersPut l.arena l.numbers (map register_tree (take l.register-index l.registers));
+}

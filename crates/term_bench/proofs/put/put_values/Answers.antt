@@ -1,0 +1,15 @@
+use Rattle.std.proofs.Common.{List, map, subst}
+use Rattle.word_terms.specs.declared.term.Word.{Word}
+use Rattle.word_terms.specs.declared.term.Mem.{Mem}
+use Rattle.word_terms.specs.Tree.{mem_tree, word_tree}
+use Rattle.term_bench.specs.inner.Put.{AreMemsPut, AreWordsPut}
+use Rattle.term_bench.proofs.PutLemmas.{both_put, words_stay}
+use Rattle.term_bench.proofs.put.put_values.Goals as goal
+
+pub returns-clause-put : goal.returns-clause-put
+returns-clause-put g c =
+    let one = c.put_words.new.arena in
+    let two = c.put_mems.new.arena in
+    let words = subst (λ (ws : List Word). AreWordsPut one c.in_ok-words.words (map word_tree ws)) c.as_slice.ensures c.in_ok-words.ensures.put in
+    let mems = subst (λ (ms : List Mem). AreMemsPut two c.in_ok-mems.mems (map mem_tree ms)) c.as_slice-2.ensures c.in_ok-mems.ensures.put in
+    both_put two c.in_ok-words.words c.in_ok-mems.mems _ _ (words_stay one two c.put_mems.ensures.grows c.in_ok-words.words _ words) mems

@@ -1,0 +1,11 @@
+use Rattle.std.proofs.Common.{map, take}
+use Rattle.term_arena.specs.Arena.{Extends}
+use Rattle.proof_text.specs.Line.{word_put_in}
+use Rattle.term_bench.specs.inner.Put.{AreRegistersPut}
+use Rattle.term_bench.proofs.put.put_word_terms.Given as goal
+
+abbrev pub invariant-loop-term : goal.invariant-loop-term
+invariant-loop-term g l = record {
+  grows : Extends l.fn.arena l.arena;
+  put : AreRegistersPut l.arena l.numbers (map word_put_in (take l.term-index l.terms));
+}

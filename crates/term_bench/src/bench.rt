@@ -1,0 +1,315 @@
+//! The judge of the lines of a group's proof, over numbers.
+
+ghost use Rattle.std.specs.Prelude.{◌≡◌, ◌<◌, ◌↔◌, IfOk, IfSome, IsErrOf, IsTrue, OnErr, OnOk, [], false, is_some, length, map, option_map, replicate, true};
+ghost use Rattle.std.specs.Option.{option_copied};
+ghost use Rattle.tailrec_lang.specs.Tree.{group_tree};
+ghost use Rattle.tailrec_lang.specs.WellFormed.{IsWellFormed};
+ghost use Rattle.triple_kernel.specs.Tree.{triple_tree};
+ghost use Rattle.loop_rule.specs.Rule.{IsClosedBy};
+ghost use Rattle.proof_text.specs.Line.{line_tree, rule_tree};
+ghost use Rattle.term_arena.specs.Arena.{AreChildren, Extends, IsAdded};
+ghost use Rattle.held_terms.specs.Held.{IsHeldAt, triple_of};
+ghost use Rattle.checker.specs.Instance.{Instance, Meets, after_line, no_lines, with_closed, with_theorem, without};
+ghost use Rattle.checker.specs.Sound.{Sound};
+ghost use Rattle.term_bench.specs.Bench.{state_group, state_history, state_nodes};
+ghost use Rattle.term_bench.specs.inner.Put.{IsHeldPut};
+
+use crate::closing::is_closed_by;
+use crate::put::put_triple;
+use crate::rules::{is_closed, meets, theorem};
+use checker::law_of_lines;
+use held_terms::Held;
+use proof_text::{Line, Rule};
+use rv_words::{List, NoMemory};
+use std::alloc::Global;
+use std::marker::Model;
+use std::sync::ledger::Ledger;
+use tailrec_lang::Group;
+use term_arena::{Arena, Node, Steps};
+use triple_kernel::{RuleFault, Triple};
+
+/// Judges the lines of a group's proof, one after the other. It keeps their terms once each, the theorems that can still be
+/// cited as numbers of terms, and which definitions are closed.
+#[derive(Drop)]
+pub struct Bench<'g> {
+    group: &'g Group,
+    arena: Arena,
+    held: List<Option<Held>>,
+    closed: List<bool>,
+}
+
+impl<'g> Model for Bench<'g> {
+    ghost use Rattle.std.specs.Coded.{codes};
+    ghost use Rattle.word_terms.specs.contracts.term.Word as word;
+    ghost use Rattle.word_terms.specs.contracts.term.Mem as mem;
+    ghost use Rattle.word_terms.specs.contracts.term.Cond as cond;
+    ghost use Rattle.tailrec_lang.specs.contracts.group.Body as body;
+    ghost use Rattle.tailrec_lang.specs.contracts.group.End as end;
+    ghost use Rattle.term_bench.specs.Bench.{BenchState};
+    ghost use Rattle.term_bench.specs.inner.Bench.{IsSoundState};
+
+    ghost Value = { BenchState };
+
+    ghost coded = { Prim.hlevel (codes, word.the_row.coded, mem.the_row.coded, cond.the_row.coded, body.the_row.coded, end.the_row.coded) };
+
+    ghost view = { λ b. (b.group.now, b.arena, b.held, b.closed) };
+
+    ghost invariant = { λ b. IsSoundState (b.group.now, b.arena, b.held, b.closed) };
+}
+
+impl<'g> Bench<'g> {
+    /// A bench before the first line.
+    pub fn new(alloc: Global, group: &'g Group) -> Result<Bench<'g>, NoMemory>
+        requires { IsWellFormed (group_tree group.now) }
+        ensures group { IfOk result (λ b. b.0 ≡ group.now) }
+        ensures none { IfOk result (λ b. state_history b ≡ no_lines) }
+        ensures empty { IfOk result (λ b. state_nodes b ≡ []) }
+    {
+        let closed = none_closed(alloc, group.defs.len())?;
+        Ok(Bench {
+            group,
+            arena: Arena::new(alloc),
+            held: List::new(alloc),
+            closed,
+        })
+    }
+
+    /// The number of the term of that outermost form. It takes one step.
+    pub fn add<L: Ledger>(&mut self, n: Node, steps: &mut Steps<L>) -> Result<u64, NoMemory>
+        requires { AreChildren (state_nodes self.old) n }
+        ensures ok { IfOk result (λ k. IsAdded (state_nodes self.old) n k (state_nodes self.new)) }
+        ensures err { OnErr result (self.new ≡ self.old) }
+        ensures group { self.new.0 ≡ self.old.0 }
+        ensures same { state_history self.new ≡ state_history self.old }
+    {
+        self.arena.add(n, steps)
+    }
+
+    /// Judges the next line. After a refusal the theorems and the closed definitions are as before; the arena may have more
+    /// terms.
+    pub fn judge<L: Ledger>(
+        &mut self,
+        alloc: Global,
+        line: &Line,
+        steps: &mut Steps<L>,
+    ) -> Result<(), RuleFault>
+        ensures group { self.new.0 ≡ self.old.0 }
+        ensures instance { OnOk result (Instance (state_group self.old) (state_history self.old) (line_tree line.now)) }
+        ensures after { OnOk result (state_history self.new ≡ after_line (state_history self.old) (line_tree line.now)) }
+        ensures no_instance { IsErrOf result RuleFault.NoInstance → Instance (state_group self.old) (state_history self.old) (line_tree line.now) → ⊥ }
+        ensures same { OnErr result (state_history self.new ≡ state_history self.old) }
+        ensures grows { Extends (state_nodes self.old) (state_nodes self.new) }
+    {
+        match line {
+            Line::States { rule, stated } => self.state(alloc, rule, stated, steps),
+            Line::Loop { def, cited } => self.close(alloc, *def, cited.as_slice(), steps),
+            Line::Forget(k) => self.forget(*k),
+            Line::Further { .. } => Err(RuleFault::NoInstance),
+        }
+    }
+
+    /// Whether a definition of the group is closed.
+    pub fn is_closed(&self, def: u32) -> bool
+        ensures { result ≡ (state_history self.now).closed def }
+    {
+        is_closed(self.closed.as_slice(), def)
+    }
+
+    /// The theorem of that number, if it exists and wasn't forgotten, over the numbers of the bench's terms.
+    pub fn theorem(&self, k: u64) -> Option<&Held>
+        ensures theorem { option_map (triple_of (state_nodes self.now)) (option_copied result) ≡ (state_history self.now).theorem k }
+        ensures there { IfSome (option_copied result) (λ h. IsHeldAt (state_nodes self.now) h) }
+    {
+        theorem(&self.arena, self.held.as_slice(), k)
+    }
+
+    /// Whether the theorem of that number exists and wasn't forgotten.
+    pub fn is_held(&self, k: u64) -> bool
+        ensures { result ≡ is_some ((state_history self.now).theorem k) }
+    {
+        self.theorem(k).is_some()
+    }
+
+    /// What holds of each bench: its theorems are valid, and the definitions that it has as closed are right.
+    pub fn law_of_bench(&self)
+        ensures well_formed { IsWellFormed (state_group self.now) }
+        ensures sound { Sound (state_group self.now) (state_history self.now) }
+        ensures count { length self.now.3 ≡ length self.now.0.defs }
+    {
+        let _held = &self.held;
+    }
+
+    /// States a triple by a rule.
+    #[tactic(auto, using(held_terms::proofs::InstanceLemmas::extends_next))]
+    fn state<L: Ledger>(
+        &mut self,
+        alloc: Global,
+        rule: &Rule,
+        stated: &Triple,
+        steps: &mut Steps<L>,
+    ) -> Result<(), RuleFault>
+        ensures group { self.new.0 ≡ self.old.0 }
+        ensures instance { OnOk result (Meets (state_group self.old) (state_history self.old) (rule_tree rule.now) (triple_tree stated.now)) }
+        ensures after { OnOk result (state_history self.new ≡ with_theorem (triple_tree stated.now) (state_history self.old)) }
+        ensures no_instance { IsErrOf result RuleFault.NoInstance → Meets (state_group self.old) (state_history self.old) (rule_tree rule.now) (triple_tree stated.now) → ⊥ }
+        ensures same { OnErr result (state_history self.new ≡ state_history self.old) }
+        ensures grows { Extends (state_nodes self.old) (state_nodes self.new) }
+    {
+        law_of_lines();
+        self.law_of_bench();
+        let put = self.put(alloc, stated, steps)?;
+        let so = self.meets(alloc, rule, stated, &put, steps)?;
+        if !so {
+            return Err(RuleFault::NoInstance);
+        }
+        self.keep(put)?;
+        Ok(())
+    }
+
+    /// The numbers of a triple's terms.
+    fn put<L: Ledger>(
+        &mut self,
+        alloc: Global,
+        stated: &Triple,
+        steps: &mut Steps<L>,
+    ) -> Result<Held, NoMemory>
+        ensures put { IfOk result (λ h. IsHeldPut (state_nodes self.new) h (triple_tree stated.now)) }
+        ensures group { self.new.0 ≡ self.old.0 }
+        ensures same { state_history self.new ≡ state_history self.old }
+        ensures grows { Extends (state_nodes self.old) (state_nodes self.new) }
+    {
+        put_triple(alloc, &mut self.arena, stated, steps)
+    }
+
+    /// Whether the triple whose numbers those are meets the row of the rule.
+    fn meets<L: Ledger>(
+        &mut self,
+        alloc: Global,
+        rule: &Rule,
+        stated: &Triple,
+        put: &Held,
+        steps: &mut Steps<L>,
+    ) -> Result<bool, NoMemory>
+        requires { IsHeldPut (state_nodes self.old) put.now (triple_tree stated.now) }
+        ensures answer { IfOk result (λ r. IsTrue r ↔ Meets (state_group self.old) (state_history self.old) (rule_tree rule.now) (triple_tree stated.now)) }
+        ensures group { self.new.0 ≡ self.old.0 }
+        ensures same { state_history self.new ≡ state_history self.old }
+        ensures grows { Extends (state_nodes self.old) (state_nodes self.new) }
+    {
+        meets(
+            alloc,
+            self.group,
+            &mut self.arena,
+            self.held.as_slice(),
+            self.closed.as_slice(),
+            rule,
+            stated,
+            put,
+            steps,
+        )
+    }
+
+    /// Keeps the next theorem, which is valid.
+    fn keep(&mut self, h: Held) -> Result<(), NoMemory>
+        requires there { IsHeldAt (state_nodes self.old) h }
+        requires sound { Sound (state_group self.old) (with_theorem (triple_of (state_nodes self.old) h) (state_history self.old)) }
+        ensures group { self.new.0 ≡ self.old.0 }
+        ensures nodes { state_nodes self.new ≡ state_nodes self.old }
+        ensures after { OnOk result (state_history self.new ≡ with_theorem (triple_of (state_nodes self.old) h) (state_history self.old)) }
+        ensures same { OnErr result (self.new ≡ self.old) }
+    {
+        self.held.push(Some(h))?;
+        Ok(())
+    }
+
+    /// Closes a definition by a theorem for each of its leaves.
+    fn close<L: Ledger>(
+        &mut self,
+        alloc: Global,
+        def: u32,
+        cited: &[u64],
+        steps: &mut Steps<L>,
+    ) -> Result<(), RuleFault>
+        ensures group { self.new.0 ≡ self.old.0 }
+        ensures instance { OnOk result (IsClosedBy (state_group self.old) def (map (state_history self.old).theorem cited.now)) }
+        ensures after { OnOk result (state_history self.new ≡ with_closed def (state_history self.old)) }
+        ensures no_instance { IsErrOf result RuleFault.NoInstance → IsClosedBy (state_group self.old) def (map (state_history self.old).theorem cited.now) → ⊥ }
+        ensures same { OnErr result (state_history self.new ≡ state_history self.old) }
+        ensures grows { Extends (state_nodes self.old) (state_nodes self.new) }
+    {
+        law_of_lines();
+        self.law_of_bench();
+        let so = self.is_closed_by(alloc, def, cited, steps)?;
+        if !so {
+            return Err(RuleFault::NoInstance);
+        }
+        self.law_of_bench();
+        self.set_closed(def);
+        Ok(())
+    }
+
+    /// Whether the definition of that number is closed by the theorems that are cited, one for each of its leaves.
+    fn is_closed_by<L: Ledger>(
+        &mut self,
+        alloc: Global,
+        def: u32,
+        cited: &[u64],
+        steps: &mut Steps<L>,
+    ) -> Result<bool, NoMemory>
+        ensures answer { IfOk result (λ r. IsTrue r ↔ IsClosedBy (state_group self.old) def (map (state_history self.old).theorem cited.now)) }
+        ensures group { self.new.0 ≡ self.old.0 }
+        ensures same { state_history self.new ≡ state_history self.old }
+        ensures grows { Extends (state_nodes self.old) (state_nodes self.new) }
+    {
+        is_closed_by(
+            alloc,
+            self.group,
+            &mut self.arena,
+            self.held.as_slice(),
+            def,
+            cited,
+            steps,
+        )
+    }
+
+    /// Keeps that a definition is closed, which is right.
+    fn set_closed(&mut self, def: u32)
+        requires within { def < length self.old.3 }
+        requires sound { Sound (state_group self.old) (with_closed def (state_history self.old)) }
+        ensures group { self.new.0 ≡ self.old.0 }
+        ensures nodes { state_nodes self.new ≡ state_nodes self.old }
+        ensures after { state_history self.new ≡ with_closed def (state_history self.old) }
+    {
+        self.closed.set(def as usize, true);
+    }
+
+    /// Forgets a theorem.
+    fn forget(&mut self, k: u64) -> Result<(), RuleFault>
+        ensures group { self.new.0 ≡ self.old.0 }
+        ensures nodes { state_nodes self.new ≡ state_nodes self.old }
+        ensures instance { OnOk result (is_some ((state_history self.old).theorem k) ≡ true) }
+        ensures after { OnOk result (state_history self.new ≡ without k (state_history self.old)) }
+        ensures no_instance { OnErr result (is_some ((state_history self.old).theorem k) ≡ true → ⊥) }
+        ensures same { OnErr result (self.new ≡ self.old) }
+    {
+        law_of_lines();
+        self.law_of_bench();
+        if !self.is_held(k) {
+            return Err(RuleFault::NoInstance);
+        }
+        self.held.set(k as usize, None);
+        Ok(())
+    }
+}
+
+/// So many definitions, none of them closed.
+#[tactic(auto, using(std::proofs::lemmas::List::replicate_more))]
+fn none_closed(alloc: Global, count: usize) -> Result<List<bool>, NoMemory>
+    ensures { IfOk result (λ closed. closed ≡ replicate count false) }
+{
+    let mut closed = List::new(alloc);
+    for _ in 0..count {
+        closed.push(false)?;
+    }
+    Ok(closed)
+}

@@ -1,0 +1,269 @@
+//! The rules by which a line states a triple, each with the theorems that it cites.
+
+ghost use Rattle.std.specs.Prelude.{◌≡◌, ◌↔◌, IfOk, IfSome, IsSomeAnd, IsTrue, Some as Just, map, option_map, true};
+ghost use Rattle.std.specs.Option.{option_copied};
+ghost use Rattle.tailrec_lang.specs.Tree.{group_tree};
+ghost use Rattle.triple_kernel.specs.Tree.{triple_tree};
+ghost use Rattle.triple_kernel.specs.Rules.{IsDischarged, IsInst, IsStrengthened, IsWeakened};
+ghost use Rattle.instr_axioms.specs.Axiom.{axiom_of};
+ghost use Rattle.frame_compose.specs.Rules.{IsComposed, IsExtended, IsFramed};
+ghost use Rattle.loop_rule.specs.Rule.{IsExit};
+ghost use Rattle.proof_text.specs.Line.{mem_put_in, rule_tree, word_put_in};
+ghost use Rattle.term_arena.specs.Arena.{Extends};
+ghost use Rattle.held_terms.specs.Held.{IsHeldAt, triple_of};
+ghost use Rattle.checker.specs.Instance.{Meets, put_for};
+ghost use Rattle.term_bench.specs.Bench.{AreHeldAt, state_history, is_closed_in, theorem_at};
+ghost use Rattle.term_bench.specs.inner.Put.{IsHeldPut};
+
+use crate::put::{put_mem_terms, put_word_terms};
+use held_terms::{
+    Held, is_composition, is_discharged, is_exit, is_extension, is_frame, is_instance,
+    is_strengthened, is_weakened,
+};
+use instr_axioms::axiom_triple;
+use proof_text::Rule;
+use rv_words::NoMemory;
+use std::alloc::Global;
+use std::sync::ledger::Ledger;
+use tailrec_lang::Group;
+use term_arena::{Arena, Steps};
+use triple_kernel::{Form, Triple, same_triple};
+use word_terms::Sub;
+
+/// The theorem of that number, if it exists and wasn't forgotten.
+pub(crate) fn theorem<'a>(arena: &Arena, held: &'a [Option<Held>], k: u64) -> Option<&'a Held>
+    requires { AreHeldAt arena.now held.now }
+    ensures theorem { option_map (triple_of arena.now) (option_copied result) ≡ theorem_at arena.now held.now k }
+    ensures there { IfSome (option_copied result) (λ h. IsHeldAt arena.now h) }
+{
+    match held.get(k as usize) {
+        Some(Some(h)) => Some(h),
+        _ => None,
+    }
+}
+
+/// Whether the stated triple meets the row of the rule, after those theorems and closed definitions. Its numbers are those
+/// of `put`.
+#[tactic(auto, using(crate::proofs::BenchLemmas::extends_none))]
+pub(crate) fn meets<L: Ledger>(
+    alloc: Global,
+    g: &Group,
+    arena: &mut Arena,
+    held: &[Option<Held>],
+    closed: &[bool],
+    rule: &Rule,
+    stated: &Triple,
+    put: &Held,
+    steps: &mut Steps<L>,
+) -> Result<bool, NoMemory>
+    requires held { AreHeldAt arena.old held.now }
+    requires put { IsHeldPut arena.old put.now (triple_tree stated.now) }
+    ensures answer { IfOk result (λ r. IsTrue r ↔ Meets (group_tree g.now) (state_history (g.now, arena.old, held.now, closed.now)) (rule_tree rule.now) (triple_tree stated.now)) }
+    ensures grows { Extends arena.old arena.new }
+{
+    match rule {
+        Rule::Axiom(addr, word, form) => by_axiom(alloc, *addr, *word, *form, stated),
+        Rule::Inst(p, terms) => by_inst(alloc, arena, held, *p, terms, put, steps),
+        Rule::Frame(p) => Ok(by_frame(arena, held, *p, put)),
+        Rule::Compose(p, q) => Ok(by_compose(arena, held, *p, *q, put)),
+        Rule::ExtendCode(p) => Ok(by_extend_code(arena, held, *p, put)),
+        Rule::Strengthen(p) => by_strengthen(alloc, arena, held, *p, put, steps),
+        Rule::Weaken(p) => by_weaken(alloc, arena, held, *p, put, steps),
+        Rule::Discharge(p) => by_discharge(alloc, arena, held, *p, put, steps),
+        Rule::UseExit(def, exit) => Ok(by_use_exit(arena, g, closed, *def, *exit, put, steps)),
+    }
+}
+
+fn by_axiom(
+    alloc: Global,
+    addr: u64,
+    word: u32,
+    form: Form,
+    stated: &Triple,
+) -> Result<bool, NoMemory>
+    ensures { IfOk result (λ r. IsTrue r ↔ (axiom_of addr word form ≡ Just (triple_tree stated.now))) }
+{
+    match axiom_triple(alloc, addr, word, form)? {
+        Some(t) => Ok(same_triple(&t, stated)),
+        None => Ok(false),
+    }
+}
+
+#[tactic(auto, using(crate::proofs::BenchLemmas::extends_none))]
+fn by_inst<L: Ledger>(
+    alloc: Global,
+    arena: &mut Arena,
+    held: &[Option<Held>],
+    p: u64,
+    terms: &Sub,
+    stated: &Held,
+    steps: &mut Steps<L>,
+) -> Result<bool, NoMemory>
+    requires held { AreHeldAt arena.old held.now }
+    requires stated { IsHeldAt arena.old stated.now }
+    ensures answer { IfOk result (λ r. IsTrue r ↔ IsSomeAnd (theorem_at arena.old held.now p) (λ p. IsInst (put_for (map word_put_in terms.now.words) (map mem_put_in terms.now.mems)) p (triple_of arena.old stated.now))) }
+    ensures grows { Extends arena.old arena.new }
+{
+    match theorem(arena, held, p) {
+        Some(p) => is_instance_by(alloc, arena, p, terms, stated, steps),
+        None => Ok(false),
+    }
+}
+
+#[tactic(auto, using(held_terms::proofs::InstanceLemmas::extends_next))]
+fn is_instance_by<L: Ledger>(
+    alloc: Global,
+    arena: &mut Arena,
+    p: &Held,
+    terms: &Sub,
+    stated: &Held,
+    steps: &mut Steps<L>,
+) -> Result<bool, NoMemory>
+    requires p { IsHeldAt arena.old p.now }
+    requires stated { IsHeldAt arena.old stated.now }
+    ensures answer { IfOk result (λ r. IsTrue r ↔ IsInst (put_for (map word_put_in terms.now.words) (map mem_put_in terms.now.mems)) (triple_of arena.old p.now) (triple_of arena.old stated.now)) }
+    ensures grows { Extends arena.old arena.new }
+{
+    let words = put_word_terms(alloc, arena, terms.words.as_slice(), steps)?;
+    let mems = put_mem_terms(alloc, arena, terms.mems.as_slice(), steps)?;
+    let same = is_instance(
+        alloc,
+        arena,
+        p,
+        words.as_slice(),
+        mems.as_slice(),
+        stated,
+        steps,
+    )?;
+    Ok(same)
+}
+
+fn by_frame(arena: &Arena, held: &[Option<Held>], p: u64, stated: &Held) -> bool
+    requires held { AreHeldAt arena.now held.now }
+    requires stated { IsHeldAt arena.now stated.now }
+    ensures { IsTrue result ↔ IsSomeAnd (theorem_at arena.now held.now p) (λ p. IsFramed p (triple_of arena.now stated.now)) }
+{
+    match theorem(arena, held, p) {
+        Some(p) => is_frame(arena, p, stated),
+        None => false,
+    }
+}
+
+fn by_compose(arena: &Arena, held: &[Option<Held>], p: u64, q: u64, stated: &Held) -> bool
+    requires held { AreHeldAt arena.now held.now }
+    requires stated { IsHeldAt arena.now stated.now }
+    ensures { IsTrue result ↔ IsSomeAnd (theorem_at arena.now held.now p) (λ p. IsSomeAnd (theorem_at arena.now held.now q) (λ q. IsComposed p q (triple_of arena.now stated.now))) }
+{
+    match theorem(arena, held, p) {
+        Some(p) => is_composition_with(arena, held, p, q, stated),
+        None => false,
+    }
+}
+
+fn is_composition_with(
+    arena: &Arena,
+    held: &[Option<Held>],
+    p: &Held,
+    q: u64,
+    stated: &Held,
+) -> bool
+    requires held { AreHeldAt arena.now held.now }
+    requires p { IsHeldAt arena.now p.now }
+    requires stated { IsHeldAt arena.now stated.now }
+    ensures { IsTrue result ↔ IsSomeAnd (theorem_at arena.now held.now q) (λ q. IsComposed (triple_of arena.now p.now) q (triple_of arena.now stated.now)) }
+{
+    match theorem(arena, held, q) {
+        Some(q) => is_composition(arena, p, q, stated),
+        None => false,
+    }
+}
+
+fn by_extend_code(arena: &Arena, held: &[Option<Held>], p: u64, stated: &Held) -> bool
+    requires held { AreHeldAt arena.now held.now }
+    requires stated { IsHeldAt arena.now stated.now }
+    ensures { IsTrue result ↔ IsSomeAnd (theorem_at arena.now held.now p) (λ p. IsExtended p (triple_of arena.now stated.now)) }
+{
+    match theorem(arena, held, p) {
+        Some(p) => is_extension(arena, p, stated),
+        None => false,
+    }
+}
+
+fn by_strengthen<L: Ledger>(
+    alloc: Global,
+    arena: &Arena,
+    held: &[Option<Held>],
+    p: u64,
+    stated: &Held,
+    steps: &mut Steps<L>,
+) -> Result<bool, NoMemory>
+    requires held { AreHeldAt arena.now held.now }
+    requires stated { IsHeldAt arena.now stated.now }
+    ensures { IfOk result (λ r. IsTrue r ↔ IsSomeAnd (theorem_at arena.now held.now p) (λ p. IsStrengthened p (triple_of arena.now stated.now))) }
+{
+    match theorem(arena, held, p) {
+        Some(p) => is_strengthened(alloc, arena, p, stated, steps),
+        None => Ok(false),
+    }
+}
+
+fn by_weaken<L: Ledger>(
+    alloc: Global,
+    arena: &Arena,
+    held: &[Option<Held>],
+    p: u64,
+    stated: &Held,
+    steps: &mut Steps<L>,
+) -> Result<bool, NoMemory>
+    requires held { AreHeldAt arena.now held.now }
+    requires stated { IsHeldAt arena.now stated.now }
+    ensures { IfOk result (λ r. IsTrue r ↔ IsSomeAnd (theorem_at arena.now held.now p) (λ p. IsWeakened p (triple_of arena.now stated.now))) }
+{
+    match theorem(arena, held, p) {
+        Some(p) => is_weakened(alloc, arena, p, stated, steps),
+        None => Ok(false),
+    }
+}
+
+fn by_discharge<L: Ledger>(
+    alloc: Global,
+    arena: &Arena,
+    held: &[Option<Held>],
+    p: u64,
+    stated: &Held,
+    steps: &mut Steps<L>,
+) -> Result<bool, NoMemory>
+    requires held { AreHeldAt arena.now held.now }
+    requires stated { IsHeldAt arena.now stated.now }
+    ensures { IfOk result (λ r. IsTrue r ↔ IsSomeAnd (theorem_at arena.now held.now p) (λ p. IsDischarged p (triple_of arena.now stated.now))) }
+{
+    match theorem(arena, held, p) {
+        Some(p) => is_discharged(alloc, arena, p, stated, steps),
+        None => Ok(false),
+    }
+}
+
+fn by_use_exit<L: Ledger>(
+    arena: &Arena,
+    g: &Group,
+    closed: &[bool],
+    def: u32,
+    exit: u32,
+    stated: &Held,
+    steps: &mut Steps<L>,
+) -> bool
+    requires { IsHeldAt arena.now stated.now }
+    ensures { IsTrue result ↔ ((is_closed_in closed.now def ≡ true) × IsExit (group_tree g.now) def exit (triple_of arena.now stated.now)) }
+{
+    is_closed(closed, def) && is_exit(arena, g, def, exit, stated, steps)
+}
+
+/// Whether the definition of that number is closed.
+pub(crate) fn is_closed(closed: &[bool], def: u32) -> bool
+    ensures { result ≡ is_closed_in closed.now def }
+{
+    match closed.get(def as usize) {
+        Some(c) => *c,
+        None => false,
+    }
+}
