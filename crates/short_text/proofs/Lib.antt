@@ -1,0 +1,17 @@
+pub mod KindLaws
+pub mod TermRefs
+pub mod NodeLaws
+pub mod HeldLaws
+pub mod PlaceLaws
+pub mod ShortLaws
+pub mod ShortJoins
+pub mod TableLaws
+pub mod TableReading
+pub mod Longer
+pub mod GroupTurns
+pub mod ShortParts
+pub mod TableSpelling
+pub mod TableCovers
+pub mod ShortTokens
+pub mod ShortTexts
+pub mod Examples
