@@ -1,8 +1,13 @@
 -- What a bench holds: in a larger arena, with a theorem more or less, and with one more definition that is closed.
-use Rattle.std.proofs.Common.{◌≡◌, ℕ, zero, suc, ◌<◌, Bool, true, false, cond, Option, Some, None, List, [], ◌∷◌, ◌++◌, length, map, refl, sym, ap, ◌∙◌, subst, arith}
+use Rattle.std.proofs.Common.{◌≡◌, ℕ, zero, suc, ◌+◌, ◌<◌, Bool, true, false, cond, Option, Some, None, List, [], ◌∷◌, length, map, refl, sym, ap, ◌∙◌, subst, arith}
 use Rattle.std.specs.Prelude.{◌==◌, ◌↔◌, IfSome, is_some, option_map, replicate, slice_get, slice_set, unwrap_or}
-use Rattle.std.proofs.lemmas.List.{append-nil, length-append, length-map}
+use Rattle.std.proofs.lemmas.List.{append-nil, length-map}
 use Rattle.std.proofs.lemmas.Option.{slice_get_within}
+use Rattle.std.proofs.lemmas.Map.Lookups.{exact_unsigned}
+use Rattle.std.proofs.lemmas.Map.Views.{btree_map_contains_key_iff}
+use Rattle.std.specs.BTreeMap.{BTreeMap, IsOrdered, get, is_at, keys}
+use Rattle.std.specs.Cmp.{nat_cmp_total, nat_eq_equiv, unsigned_tied}
+use Rattle.std.specs.Ordering.{nat_cmp}
 use lib.Dec.{eqb-suc-suc, eqb-zero-suc, eqb-suc-zero}
 use Rattle.tailrec_lang.specs.declared.group.Group.{Group}
 use Rattle.tailrec_lang.specs.Tree.{GroupTree, def_tree, group_tree}
@@ -17,22 +22,19 @@ use Rattle.loop_rule.specs.Rule.{IsClosedBy}
 use Rattle.proof_text.specs.Line.{RuleTree}
 use Rattle.checker.specs.Instance.{History, Meets, no_lines, with_closed, with_theorem, without}
 use Rattle.checker.specs.Sound.{Sound}
-use Rattle.checker.specs.inner.Bench.{thing_at}
 use Rattle.checker.proofs.SoundLemmas.{no_lines-sound}
-use Rattle.term_bench.specs.Bench.{AreHeldAt, BenchState, held_in_place, is_closed_in, state_group, state_history, theorem_at}
+use Rattle.term_bench.specs.Bench.{AreHeldAt, BenchState, CanCite, Theorems, held_by_number, is_closed_in, state_group, state_history, theorem_at}
 use Rattle.term_bench.specs.inner.Bench.{IsSoundState}
 
--- ---- lists with one item more or another one
+-- ---- a look-up after a change at one number
+
+-- as the map's order tells numbers apart
+at-number : (k q : ℕ) → is_at (nat_cmp k) q ≡ (q == k)
+at-number k q = unsigned_tied k q ∙ nat_eq_equiv.symm k q
 
 cond-ap : {A B : Type 0} (f : A → B) (b : Bool) (x y : A) → f (cond b x y) ≡ cond b (f x) (f y)
 cond-ap f true x y = refl
 cond-ap f false x y = refl
-
-get-push : {A : Type 0} (xs : List A) (x : A) (k : ℕ) → slice_get (xs ++ x ∷ []) k ≡ cond (k == length xs) (Some x) (slice_get xs k)
-get-push [] x zero = refl
-get-push [] x (suc k) = sym (ap (λ (b : Bool). cond b (Some x) None) (eqb-suc-zero k))
-get-push (y ∷ xs) x zero = sym (ap (λ (b : Bool). cond b (Some x) (Some y)) (eqb-zero-suc (length xs)))
-get-push (y ∷ xs) x (suc k) = get-push xs x k ∙ sym (ap (λ (b : Bool). cond b (Some x) (slice_get xs k)) (eqb-suc-suc k (length xs)))
 
 get-set : {A : Type 0} (xs : List A) (j : ℕ) (x : A) (k : ℕ) → j < length xs → slice_get (slice_set xs j x) k ≡ cond (k == j) (Some x) (slice_get xs k)
 get-set [] j x k low = absurd (omega (arith, low))
@@ -41,7 +43,7 @@ get-set (y ∷ xs) zero x (suc k) low = sym (ap (λ (b : Bool). cond b (Some x) 
 get-set (y ∷ xs) (suc j) x zero low = sym (ap (λ (b : Bool). cond b (Some x) (Some y)) (eqb-zero-suc j))
 get-set (y ∷ xs) (suc j) x (suc k) low = get-set xs j x k (omega (arith, low)) ∙ sym (ap (λ (b : Bool). cond b (Some x) (slice_get xs k)) (eqb-suc-suc k j))
 
-pub length-set : {A : Type 0} (xs : List A) (j : ℕ) (x : A) → length (slice_set xs j x) ≡ length xs
+length-set : {A : Type 0} (xs : List A) (j : ℕ) (x : A) → length (slice_set xs j x) ≡ length xs
 length-set [] j x = refl
 length-set (y ∷ xs) zero x = refl
 length-set (y ∷ xs) (suc j) x = ap suc (length-set xs j x)
@@ -57,15 +59,15 @@ none-closed (suc n) (suc d) = none-closed n d
 
 -- ---- before the first line
 
-pub nothing_held : (g : Group) (ns : List Node) (held : List (Option Held)) (closed : List Bool) (n : ℕ) → held ≡ [] → closed ≡ replicate n false → state_history (g, ns, held, closed) ≡ no_lines
+pub nothing_held : (g : Group) (ns : List Node) (held : Theorems) (closed : List Bool) (n : ℕ) → held ≡ [] → closed ≡ replicate n false → state_history (g, ns, held, 0, closed) ≡ no_lines
 nothing_held g ns held closed n h e =
-    (λ i. state_history (g, ns, h i, e i)) ∙ (λ i. record { next = 0; theorem = λ k. None; closed = λ d. none-closed n d i })
+    (λ i. state_history (g, ns, h i, 0, e i)) ∙ (λ i. record { next = 0; theorem = λ k. None; closed = λ d. none-closed n d i })
 
 nothing-there : (ns : List Node) → AreHeldAt ns []
 nothing-there ns k = tt
 
-pub sound_first : (g : Group) (ns : List Node) (held : List (Option Held)) (closed : List Bool) (n : ℕ) → IsWellFormed (group_tree g) → held ≡ [] → closed ≡ replicate n false → n ≡ length g.defs
-    → IsSoundState (g, ns, held, closed)
+pub sound_first : (g : Group) (ns : List Node) (held : Theorems) (closed : List Bool) (n : ℕ) → IsWellFormed (group_tree g) → held ≡ [] → closed ≡ replicate n false → n ≡ length g.defs
+    → IsSoundState (g, ns, held, 0, closed)
 sound_first g ns held closed n w h e c = record {
   there = subst (AreHeldAt ns) (sym h) (nothing-there ns);
   count = ap length e ∙ length-none n false ∙ c;
@@ -84,84 +86,102 @@ module _ (ns ms : List Node) (e : Extends ns ms) where
   same None h = refl
   same (Some p) h = ap Some (same_triple ns ms e p h)
 
-  pub held_stay : (held : List (Option Held)) → AreHeldAt ns held → AreHeldAt ms held
-  held_stay held h = λ k. still (held_in_place held k) (h k)
+  pub held_stay : (held : Theorems) → AreHeldAt ns held → AreHeldAt ms held
+  held_stay held h = λ k. still (held_by_number held k) (h k)
 
-  pub theorems_stay : (held : List (Option Held)) → AreHeldAt ns held → theorem_at ms held ≡ theorem_at ns held
-  theorems_stay held h = λ i. λ k. same (held_in_place held k) (h k) i
+  pub theorems_stay : (held : Theorems) → AreHeldAt ns held → theorem_at ms held ≡ theorem_at ns held
+  theorems_stay held h = λ i. λ k. same (held_by_number held k) (h k) i
 
-  pub history_stays : (g : Group) (held : List (Option Held)) (closed : List Bool) → AreHeldAt ns held → state_history (g, ms, held, closed) ≡ state_history (g, ns, held, closed)
-  history_stays g held closed h = λ i. record { next = length held; theorem = theorems_stay held h i; closed = is_closed_in closed }
+  pub history_stays : (g : Group) (held : Theorems) (next : ℕ) (closed : List Bool) → AreHeldAt ns held → state_history (g, ms, held, next, closed) ≡ state_history (g, ns, held, next, closed)
+  history_stays g held next closed h = λ i. record { next = next; theorem = theorems_stay held h i; closed = is_closed_in closed }
 
-  pub sound_grown : (g : Group) (held : List (Option Held)) (closed : List Bool) → IsSoundState (g, ns, held, closed) → IsSoundState (g, ms, held, closed)
-  sound_grown g held closed k = record {
+  pub sound_grown : (g : Group) (held : Theorems) (next : ℕ) (closed : List Bool) → IsSoundState (g, ns, held, next, closed) → IsSoundState (g, ms, held, next, closed)
+  sound_grown g held next closed k = record {
     there = held_stay held k.there;
     count = k.count;
     well_formed = k.well_formed;
-    sound = subst (Sound (group_tree g)) (sym (history_stays g held closed k.there)) k.sound;
+    sound = subst (Sound (group_tree g)) (sym (history_stays g held next closed k.there)) k.sound;
   }
 
 -- ---- after a line
 
-module _ (g : Group) (ns : List Node) (held : List (Option Held)) (closed : List Bool) where
+-- the look-ups after a change at one number
+abbrev pub Changes : Theorems → Theorems → ℕ → Option Held → Type 0
+Changes old new k w = (q : ℕ) → held_by_number new q ≡ cond (is_at (nat_cmp k) q) w (held_by_number old q)
+
+module _ (g : Group) (ns : List Node) (held : Theorems) (next : ℕ) (closed : List Bool) where
   abbrev now : History
-  now = state_history (g, ns, held, closed)
+  now = state_history (g, ns, held, next, closed)
 
-  abbrev tree : Option (Option Held) → Option TripleTree
-  tree o = option_map (triple_of ns) (thing_at o)
+  abbrev tree : Option Held → Option TripleTree
+  tree o = option_map (triple_of ns) o
 
-  pub history_more : (h : Held) → state_history (g, ns, held ++ Some h ∷ [], closed) ≡ with_theorem (triple_of ns h) now
-  history_more h = λ i. record {
-    next = length-append held (Some h ∷ []) i;
-    theorem = λ k. (ap tree (get-push held (Some h) k) ∙ cond-ap tree (k == length held) (Some (Some h)) (slice_get held k)) i;
-    closed = is_closed_in closed;
-  }
+  changed : (more : Theorems) (j : ℕ) (w : Option Held) → Changes held more j w → (k : ℕ) → theorem_at ns more k ≡ cond (k == j) (tree w) (theorem_at ns held k)
+  changed more j w c k =
+      ap tree (c k) ∙ ap (λ (b : Bool). tree (cond b w (held_by_number held k))) (at-number j k) ∙ cond-ap tree (k == j) w (held_by_number held k)
 
-  pub history_less : (j : ℕ) → j < length held → state_history (g, ns, slice_set held j None, closed) ≡ without j now
-  history_less j low = λ i. record {
-    next = length-set held j None i;
-    theorem = λ k. (ap tree (get-set held j None k low) ∙ cond-ap tree (k == j) (Some None) (slice_get held k)) i;
-    closed = is_closed_in closed;
-  }
+  there-or : (b : Bool) (w o : Option Held) → IfSome w (λ h. IsHeldAt ns h) → IfSome o (λ h. IsHeldAt ns h) → IfSome (cond b w o) (λ h. IsHeldAt ns h)
+  there-or true w o here there = here
+  there-or false w o here there = there
 
-  pub history_closed : (d : ℕ) → d < length closed → state_history (g, ns, held, slice_set closed d true) ≡ with_closed d now
+  there-after : (more : Theorems) (j : ℕ) (w : Option Held) → Changes held more j w → IfSome w (λ h. IsHeldAt ns h) → AreHeldAt ns held → AreHeldAt ns more
+  there-after more j w c here there = λ k. subst (λ (o : Option Held). IfSome o (λ h. IsHeldAt ns h)) (sym (c k)) (there-or (is_at (nat_cmp j) k) w (held_by_number held k) here (there k))
+
+  module _ (more : Theorems) (after : ℕ) (h : Held) (c : Changes held more next (Some h)) (n : after ≡ next + 1) where
+    pub history_more : state_history (g, ns, more, after, closed) ≡ with_theorem (triple_of ns h) now
+    history_more = λ i. record { next = n i; theorem = λ k. changed more next (Some h) c k i; closed = is_closed_in closed }
+
+    pub sound_more : IsSoundState (g, ns, held, next, closed) → IsHeldAt ns h → Sound (group_tree g) (with_theorem (triple_of ns h) now) → IsSoundState (g, ns, more, after, closed)
+    sound_more k here sound = record {
+      there = there-after more next (Some h) c here k.there;
+      count = k.count;
+      well_formed = k.well_formed;
+      sound = subst (Sound (group_tree g)) (sym history_more) sound;
+    }
+
+  module _ (less : Theorems) (j : ℕ) (c : Changes held less j None) where
+    pub history_less : state_history (g, ns, less, next, closed) ≡ without j now
+    history_less = λ i. record { next = next; theorem = λ k. changed less j None c k i; closed = is_closed_in closed }
+
+    pub sound_less : IsSoundState (g, ns, held, next, closed) → Sound (group_tree g) (without j now) → IsSoundState (g, ns, less, next, closed)
+    sound_less k sound = record {
+      there = there-after less j None c tt k.there;
+      count = k.count;
+      well_formed = k.well_formed;
+      sound = subst (Sound (group_tree g)) (sym history_less) sound;
+    }
+
+  pub history_closed : (d : ℕ) → d < length closed → state_history (g, ns, held, next, slice_set closed d true) ≡ with_closed d now
   history_closed d low = λ i. record {
-    next = length held;
+    next = next;
     theorem = theorem_at ns held;
     closed = λ c. (ap (λ (o : Option Bool). unwrap_or o false) (get-set closed d true c low) ∙ cond-ap (λ (o : Option Bool). unwrap_or o false) (c == d) (Some true) (slice_get closed c)) i;
   }
 
-  one-more : (h : Held) (b : Bool) (o : Option (Option Held)) → IsHeldAt ns h → IfSome (thing_at o) (λ p. IsHeldAt ns p) → IfSome (thing_at (cond b (Some (Some h)) o)) (λ p. IsHeldAt ns p)
-  one-more h true o here there = here
-  one-more h false o here there = there
-
-  one-less : (b : Bool) (o : Option (Option Held)) → IfSome (thing_at o) (λ p. IsHeldAt ns p) → IfSome (thing_at (cond b (Some None) o)) (λ p. IsHeldAt ns p)
-  one-less true o there = tt
-  one-less false o there = there
-
-  pub sound_more : (h : Held) → IsSoundState (g, ns, held, closed) → IsHeldAt ns h → Sound (group_tree g) (with_theorem (triple_of ns h) now) → IsSoundState (g, ns, held ++ Some h ∷ [], closed)
-  sound_more h k here sound = record {
-    there = λ i. subst (λ (o : Option (Option Held)). IfSome (thing_at o) (λ p. IsHeldAt ns p)) (sym (get-push held (Some h) i)) (one-more h (i == length held) (slice_get held i) here (k.there i));
-    count = k.count;
-    well_formed = k.well_formed;
-    sound = subst (Sound (group_tree g)) (sym (history_more h)) sound;
-  }
-
-  pub sound_less : (j : ℕ) → j < length held → IsSoundState (g, ns, held, closed) → Sound (group_tree g) (without j now) → IsSoundState (g, ns, slice_set held j None, closed)
-  sound_less j low k sound = record {
-    there = λ i. subst (λ (o : Option (Option Held)). IfSome (thing_at o) (λ p. IsHeldAt ns p)) (sym (get-set held j None i low)) (one-less (i == j) (slice_get held i) (k.there i));
-    count = k.count;
-    well_formed = k.well_formed;
-    sound = subst (Sound (group_tree g)) (sym (history_less j low)) sound;
-  }
-
-  pub sound_closed : (d : ℕ) → d < length closed → IsSoundState (g, ns, held, closed) → Sound (group_tree g) (with_closed d now) → IsSoundState (g, ns, held, slice_set closed d true)
+  pub sound_closed : (d : ℕ) → d < length closed → IsSoundState (g, ns, held, next, closed) → Sound (group_tree g) (with_closed d now) → IsSoundState (g, ns, held, next, slice_set closed d true)
   sound_closed d low k sound = record {
     there = k.there;
     count = length-set closed d true ∙ k.count;
     well_formed = k.well_formed;
     sound = subst (Sound (group_tree g)) (sym (history_closed d low)) sound;
   }
+
+-- ---- how many theorems can be cited
+
+some-map : {A B : Type 0} (f : A → B) (o : Option A) → is_some (option_map f o) ≡ is_some o
+some-map f None = refl
+some-map f (Some x) = refl
+
+pub cited : (g : Group) (ns : List Node) (held : BTreeMap ℕ Held) (next : ℕ) (closed : List Bool) (n : ℕ) → IsOrdered nat_cmp held → n ≡ length held.entries → CanCite (state_history (g, ns, held.entries, next, closed)) n
+cited g ns held next closed n rise many = record {
+  numbers = keys held;
+  rise = rise;
+  each = λ k.
+      let listed = btree_map_contains_key_iff nat_cmp_total exact_unsigned held k in
+      let same = some-map (triple_of ns) (get nat_cmp held k) in
+      (λ c. same ∙ listed.1 c, λ e. listed.0 (sym same ∙ e));
+  many = length-map held.entries (λ (e : ℕ × Held). e.0) ∙ sym many;
+}
 
 -- ---- the same history, of the same group
 
@@ -180,11 +200,6 @@ extends_none ns = record { more = []; is = sym (append-nil ns) }
 pub extends_same : (ns ms : List Node) → ms ≡ ns → Extends ns ms
 extends_same ns ms e = record { more = []; is = e ∙ sym (append-nil ns) }
 
-pub within_held : (ns : List Node) (held : List (Option Held)) (k : ℕ) → is_some (theorem_at ns held k) ≡ true → k < length held
-within_held ns [] k e = absurd (cc)
-within_held ns (h ∷ held) zero e = omega arith
-within_held ns (h ∷ held) (suc k) e = let low = within_held ns held k e in omega (arith, low)
-
 -- ---- the row of a rule after the same history
 
 pub meets_same : (g k : GroupTree) (h j : History) (r : RuleTree) (t : TripleTree) → k ≡ g → j ≡ h → Meets k j r t ↔ Meets g h r t
@@ -200,7 +215,7 @@ closed_same g k h j d cited eg eh = (
 )
 
 -- the closed definition has a place: the set of closed ones has one for each definition of the group, and lines don't change that
-pub closed_within : (old new : BenchState) (d : ℕ) (cited : List ℕ) → length new.3 ≡ length new.0.defs → new.0 ≡ old.0 → IsClosedBy (state_group old) d (map (state_history old).theorem cited) → d < length new.3
+pub closed_within : (old new : BenchState) (d : ℕ) (cited : List ℕ) → length new.4 ≡ length new.0.defs → new.0 ≡ old.0 → IsClosedBy (state_group old) d (map (state_history old).theorem cited) → d < length new.4
 closed_within old new d cited count eg by =
     let def : d < length (state_group old).defs = slice_get_within (state_group old).defs d by.def by.is in
     let groups : length (state_group old).defs ≡ length new.0.defs = length-map old.0.defs def_tree ∙ ap (λ (g : Group). length g.defs) (sym eg) in

@@ -2,3 +2,14 @@ pub mod PutLemmas
 pub mod LeafLemmas
 pub mod RuleLemmas
 pub mod BenchLemmas
+pub mod ShortLemmas
+pub mod MakingLemmas
+pub mod CodeBytes
+pub mod Merging
+pub mod DepthLemmas
+pub mod LimitLemmas
+pub mod ExitParts
+pub mod ComputedLemmas
+pub mod StatingLemmas
+pub mod LargerTables
+pub mod OneLine

@@ -12,8 +12,9 @@ use Rattle.held_terms.specs.Held.{IsHeldAt, triple_of}
 use Rattle.held_terms.specs.Image.{IsSubAt, put_for_numbers}
 use Rattle.held_terms.proofs.InstanceLemmas.{same_triple}
 use Rattle.tailrec_lang.specs.Tree.{GroupTree}
-use Rattle.proof_text.specs.Line.{RuleTree}
+use Rattle.proof_text.specs.Line.{RuleTree, Axiom, Inst, Frame, Compose, ExtendCode, Strengthen, Weaken, Discharge, UseExit}
 use Rattle.checker.specs.Instance.{History, Meets, put_for}
+use Rattle.term_bench.specs.Bench.{Theorems, history_from, is_closed_in, theorem_at}
 use Rattle.term_bench.specs.inner.Put.{AreRegistersPut, AreMemTermsPut}
 
 -- ---- terms that are put in for variables
@@ -48,8 +49,27 @@ inst_row ns ms words mems ts us p t b e w m at_p at_t is =
     (subst (λ (x : TripleTree). b ↔ IsInst (put_for_numbers ms words mems) x (triple_of ns t)) (same_triple ns ms e p at_p)
     (subst (λ (x : TripleTree). b ↔ IsInst (put_for_numbers ms words mems) (triple_of ms p) x) (same_triple ns ms e t at_t) is))
 
--- ---- the row of a rule, of what was put in
+-- ---- the row of a rule
 
+-- whichever number the next theorem has
+pub meets_next : (g : GroupTree) (n m : ℕ) (theorem : ℕ → Option TripleTree) (closed : ℕ → Bool) (r : RuleTree) (t : TripleTree) → Meets g (record { next = n; theorem = theorem; closed = closed }) r t → Meets g (record { next = m; theorem = theorem; closed = closed }) r t
+meets_next g n m theorem closed (Axiom address word form) t is = is
+meets_next g n m theorem closed (Inst p words mems) t is = is
+meets_next g n m theorem closed (Frame p) t is = is
+meets_next g n m theorem closed (Compose p q) t is = is
+meets_next g n m theorem closed (ExtendCode p) t is = is
+meets_next g n m theorem closed (Strengthen p) t is = is
+meets_next g n m theorem closed (Weaken p) t is = is
+meets_next g n m theorem closed (Discharge p) t is = is
+meets_next g n m theorem closed (UseExit def exit) t is = is
+
+pub same_next : (g : GroupTree) (n : ℕ) (ns : List Node) (held : Theorems) (closed : List Bool) (r : RuleTree) (t : TripleTree) (b : Type 0) → (b ↔ Meets g (history_from 0 ns held closed) r t) → b ↔ Meets g (history_from n ns held closed) r t
+same_next g n ns held closed r t b is = (
+  λ x. meets_next g 0 n (theorem_at ns held) (is_closed_in closed) r t (is.0 x),
+  λ m. is.1 (meets_next g n 0 (theorem_at ns held) (is_closed_in closed) r t m),
+)
+
+-- .. of what was put in
 pub rule_row : (g : GroupTree) (h : History) (r s : RuleTree) (t u : TripleTree) (b : Type 0) → r ≡ s → u ≡ t → (b ↔ Meets g h s u) → b ↔ Meets g h r t
 rule_row g h r s t u b e eu is =
     subst (λ (x : RuleTree). b ↔ Meets g h x t) (sym e) (subst (λ (x : TripleTree). b ↔ Meets g h s x) eu is)

@@ -1,5 +1,9 @@
 -- What a bench over numbers keeps of the lines of a group's proof, and the history that it stands for.
-use Rattle.std.specs.Prelude.{ℕ, Bool, false, List, length, slice_get, Option, option_map, unwrap_or, IfSome}
+use Rattle.std.specs.Prelude.{◌≡◌, ◌↔◌, ℕ, Bool, true, false, List, length, slice_get, Option, option_map, unwrap_or, is_some, IfSome, Contains}
+use Rattle.std.specs.List.Sorted.{IsStrictlySortedBy}
+use Rattle.std.specs.Ordering.{nat_cmp}
+use Rattle.std.specs.BTreeMap.{is_at}
+use Rattle.std.specs.Map.{lookup}
 use Rattle.tailrec_lang.specs.declared.group.Group.{Group}
 use Rattle.tailrec_lang.specs.Tree.{GroupTree, group_tree}
 use Rattle.triple_kernel.specs.Tree.{TripleTree}
@@ -7,12 +11,15 @@ use Rattle.term_arena.specs.declared.node.Node.{Node}
 use Rattle.held_terms.specs.declared.held.Held.{Held}
 use Rattle.held_terms.specs.Held.{triple_of, IsHeldAt}
 use Rattle.checker.specs.Instance.{History}
-use Rattle.checker.specs.inner.Bench.{thing_at}
 
--- the group, the terms of the arena, the theorems over their numbers, none in the place of one that was forgotten, and which
--- definitions are closed
+-- the theorems that can be cited, each beside its number
+abbrev pub Theorems : Type 0
+Theorems = List (ℕ × Held)
+
+-- the group, the terms of the arena, the theorems over their numbers, the number of the next theorem, and which definitions are
+-- closed
 abbrev pub BenchState : Type 0
-BenchState = Group × List Node × List (Option Held) × List Bool
+BenchState = Group × List Node × Theorems × ℕ × List Bool
 
 abbrev pub state_group : BenchState → GroupTree
 state_group k = group_tree k.0
@@ -21,20 +28,30 @@ abbrev pub state_nodes : BenchState → List Node
 state_nodes k = k.1
 
 -- the theorem of that number, if it was made and not forgotten
-abbrev pub held_in_place : List (Option Held) → ℕ → Option Held
-held_in_place held k = thing_at (slice_get held k)
+abbrev pub held_by_number : Theorems → ℕ → Option Held
+held_by_number held k = lookup (is_at (nat_cmp k)) held
 
 -- .. as the triple that its numbers stand for
-abbrev pub theorem_at : List Node → List (Option Held) → ℕ → Option TripleTree
-theorem_at ns held k = option_map (triple_of ns) (held_in_place held k)
+abbrev pub theorem_at : List Node → Theorems → ℕ → Option TripleTree
+theorem_at ns held k = option_map (triple_of ns) (held_by_number held k)
 
 -- each number of the theorems is one of the arena, of the kind of its place
-abbrev pub AreHeldAt : List Node → List (Option Held) → Type 0
-AreHeldAt ns held = (k : ℕ) → IfSome (held_in_place held k) (λ h. IsHeldAt ns h)
+abbrev pub AreHeldAt : List Node → Theorems → Type 0
+AreHeldAt ns held = (k : ℕ) → IfSome (held_by_number held k) (λ h. IsHeldAt ns h)
 
 abbrev pub is_closed_in : List Bool → ℕ → Bool
 is_closed_in closed d = unwrap_or (slice_get closed d) false
 
--- what the lines left behind them
+-- what the lines left behind them, where the next theorem has that number
+abbrev pub history_from : ℕ → List Node → Theorems → List Bool → History
+history_from next ns held closed = record { next = next; theorem = theorem_at ns held; closed = is_closed_in closed }
+
 abbrev pub state_history : BenchState → History
-state_history k = record { next = length k.2; theorem = theorem_at k.1 k.2; closed = is_closed_in k.3 }
+state_history k = history_from k.3 k.1 k.2 k.4
+
+-- so many theorems can be cited: their numbers, in rising order
+pub record CanCite (h : History) (count : ℕ) : Type 0 where
+  pub numbers : List ℕ
+  pub rise : IsStrictlySortedBy nat_cmp numbers
+  pub each : (k : ℕ) → Contains numbers k ↔ (is_some (h.theorem k) ≡ true)
+  pub many : length numbers ≡ count

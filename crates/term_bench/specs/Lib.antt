@@ -1,2 +1,4 @@
 pub mod Bench
 pub mod inner
+pub mod Fine
+pub mod Short

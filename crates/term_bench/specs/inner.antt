@@ -1,3 +1,6 @@
 pub mod Put
 pub mod Bench
 pub mod Leaves
+pub mod Making
+pub mod Depths
+pub mod Exits

@@ -11,17 +11,23 @@ ghost use Rattle.term_arena.specs.Arena.{AreChildren, Extends, IsAdded};
 ghost use Rattle.held_terms.specs.Held.{IsHeldAt, triple_of};
 ghost use Rattle.checker.specs.Instance.{Instance, Meets, after_line, no_lines, with_closed, with_theorem, without};
 ghost use Rattle.checker.specs.Sound.{Sound};
-ghost use Rattle.term_bench.specs.Bench.{state_group, state_history, state_nodes};
+ghost use Rattle.term_bench.specs.Bench.{CanCite, state_group, state_history, state_nodes};
+ghost use Rattle.proof_text.specs.inner.OwnCode.{IsOwnCode};
+ghost use Rattle.term_bench.specs.Short.{AreWithin, IsFineShort, IsNeverStated, IsShortInstance, IsStatedBy, LeavesBehind};
+ghost use Rattle.term_bench.specs.inner.Making.{MadeIf};
 ghost use Rattle.term_bench.specs.inner.Put.{IsHeldPut};
 
 use crate::closing::is_closed_by;
 use crate::put::put_triple;
 use crate::rules::{is_closed, meets, theorem};
+use crate::stating::stated_by;
 use checker::law_of_lines;
 use held_terms::Held;
 use proof_text::{Line, Rule};
 use rv_words::{List, NoMemory};
+use short_text::Short;
 use std::alloc::Global;
+use std::collections::BTreeMap;
 use std::marker::Model;
 use std::sync::ledger::Ledger;
 use tailrec_lang::Group;
@@ -29,12 +35,14 @@ use term_arena::{Arena, Node, Steps};
 use triple_kernel::{RuleFault, Triple};
 
 /// Judges the lines of a group's proof, one after the other. It keeps their terms once each, the theorems that can still be
-/// cited as numbers of terms, and which definitions are closed.
+/// cited as numbers of terms, and which definitions are closed. A theorem that is forgotten leaves no place behind it, while
+/// the arena keeps its terms.
 #[derive(Drop)]
 pub struct Bench<'g> {
     group: &'g Group,
     arena: Arena,
-    held: List<Option<Held>>,
+    held: BTreeMap<u64, Held>,
+    next: u64,
     closed: List<bool>,
 }
 
@@ -52,9 +60,9 @@ impl<'g> Model for Bench<'g> {
 
     ghost coded = { Prim.hlevel (codes, word.the_row.coded, mem.the_row.coded, cond.the_row.coded, body.the_row.coded, end.the_row.coded) };
 
-    ghost view = { λ b. (b.group.now, b.arena, b.held, b.closed) };
+    ghost view = { λ b. (b.group.now, b.arena, b.held.entries, b.next, b.closed) };
 
-    ghost invariant = { λ b. IsSoundState (b.group.now, b.arena, b.held, b.closed) };
+    ghost invariant = { λ b. IsSoundState (b.group.now, b.arena, b.held.entries, b.next, b.closed) };
 }
 
 impl<'g> Bench<'g> {
@@ -69,7 +77,8 @@ impl<'g> Bench<'g> {
         Ok(Bench {
             group,
             arena: Arena::new(alloc),
-            held: List::new(alloc),
+            held: BTreeMap::new(alloc),
+            next: 0,
             closed,
         })
     }
@@ -86,7 +95,7 @@ impl<'g> Bench<'g> {
     }
 
     /// Judges the next line. After a refusal the theorems and the closed definitions are as before; the arena may have more
-    /// terms.
+    /// terms. A theorem whose number's successor has more than 64 bits is refused as for want of memory.
     pub fn judge<L: Ledger>(
         &mut self,
         alloc: Global,
@@ -108,6 +117,31 @@ impl<'g> Bench<'g> {
         }
     }
 
+    /// Judges the next line, which is short and over the numbers of the bench's terms: whether there is a triple within the limits
+    /// of texts that makes it right, which then is the next theorem. After a refusal the theorems and the closed definitions are
+    /// as before; the arena may have more terms.
+    pub fn derive<L: Ledger>(
+        &mut self,
+        alloc: Global,
+        line: &Short,
+        steps: &mut Steps<L>,
+    ) -> Result<(), RuleFault>
+        requires code { IsOwnCode (state_group self.old).code }
+        requires within { AreWithin (state_history self.old) }
+        requires line { IsFineShort (state_nodes self.old) line.now }
+        ensures group { self.new.0 ≡ self.old.0 }
+        ensures left { OnOk result (LeavesBehind (state_group self.old) (state_history self.old) (state_nodes self.old) line.now (state_history self.new)) }
+        ensures no_instance { IsErrOf result RuleFault.NoInstance → IsShortInstance (state_group self.old) (state_history self.old) (state_nodes self.old) line.now → ⊥ }
+        ensures same { OnErr result (state_history self.new ≡ state_history self.old) }
+        ensures grows { Extends (state_nodes self.old) (state_nodes self.new) }
+    {
+        match line {
+            Short::Loop(def, cited) => self.close(alloc, *def, cited.as_slice(), steps),
+            Short::Forget(k) => self.forget(*k),
+            _ => self.derive_triple(alloc, line, steps),
+        }
+    }
+
     /// Whether a definition of the group is closed.
     pub fn is_closed(&self, def: u32) -> bool
         ensures { result ≡ (state_history self.now).closed def }
@@ -120,7 +154,14 @@ impl<'g> Bench<'g> {
         ensures theorem { option_map (triple_of (state_nodes self.now)) (option_copied result) ≡ (state_history self.now).theorem k }
         ensures there { IfSome (option_copied result) (λ h. IsHeldAt (state_nodes self.now) h) }
     {
-        theorem(&self.arena, self.held.as_slice(), k)
+        theorem(&self.arena, &self.held, k)
+    }
+
+    /// How many theorems are kept: those that were stated and not forgotten.
+    pub fn kept(&self) -> u64
+        ensures { CanCite (state_history self.now) result }
+    {
+        self.held.len() as u64
     }
 
     /// Whether the theorem of that number exists and wasn't forgotten.
@@ -134,7 +175,7 @@ impl<'g> Bench<'g> {
     pub fn law_of_bench(&self)
         ensures well_formed { IsWellFormed (state_group self.now) }
         ensures sound { Sound (state_group self.now) (state_history self.now) }
-        ensures count { length self.now.3 ≡ length self.now.0.defs }
+        ensures count { length self.now.4 ≡ length self.now.0.defs }
     {
         let _held = &self.held;
     }
@@ -164,6 +205,58 @@ impl<'g> Bench<'g> {
         }
         self.keep(put)?;
         Ok(())
+    }
+
+    /// Keeps the triple that the line states, if it is right.
+    fn derive_triple<L: Ledger>(
+        &mut self,
+        alloc: Global,
+        line: &Short,
+        steps: &mut Steps<L>,
+    ) -> Result<(), RuleFault>
+        requires code { IsOwnCode (state_group self.old).code }
+        requires within { AreWithin (state_history self.old) }
+        requires line { IsFineShort (state_nodes self.old) line.now }
+        ensures group { self.new.0 ≡ self.old.0 }
+        ensures left { OnOk result (LeavesBehind (state_group self.old) (state_history self.old) (state_nodes self.old) line.now (state_history self.new)) }
+        ensures no_instance { IsErrOf result RuleFault.NoInstance → IsNeverStated (state_group self.old) (state_history self.old) (state_nodes self.old) line.now }
+        ensures same { OnErr result (state_history self.new ≡ state_history self.old) }
+        ensures grows { Extends (state_nodes self.old) (state_nodes self.new) }
+    {
+        law_of_lines();
+        self.law_of_bench();
+        let made = self.stated_by(alloc, line, steps)?;
+        let Some(h) = made else {
+            return Err(RuleFault::NoInstance);
+        };
+        self.keep(h)?;
+        Ok(())
+    }
+
+    /// The triple that the line states, if it is right.
+    fn stated_by<L: Ledger>(
+        &mut self,
+        alloc: Global,
+        line: &Short,
+        steps: &mut Steps<L>,
+    ) -> Result<Option<Held>, NoMemory>
+        requires code { IsOwnCode (state_group self.old).code }
+        requires within { AreWithin (state_history self.old) }
+        requires line { IsFineShort (state_nodes self.old) line.now }
+        ensures made { IfOk result (λ o. MadeIf (state_nodes self.new) (IsStatedBy (state_group self.old) (state_history self.old) (state_nodes self.old) line.now) o) }
+        ensures group { self.new.0 ≡ self.old.0 }
+        ensures same { state_history self.new ≡ state_history self.old }
+        ensures grows { Extends (state_nodes self.old) (state_nodes self.new) }
+    {
+        stated_by(
+            alloc,
+            self.group,
+            &mut self.arena,
+            &self.held,
+            self.closed.as_slice(),
+            line,
+            steps,
+        )
     }
 
     /// The numbers of a triple's terms.
@@ -200,7 +293,7 @@ impl<'g> Bench<'g> {
             alloc,
             self.group,
             &mut self.arena,
-            self.held.as_slice(),
+            &self.held,
             self.closed.as_slice(),
             rule,
             stated,
@@ -218,7 +311,11 @@ impl<'g> Bench<'g> {
         ensures after { OnOk result (state_history self.new ≡ with_theorem (triple_of (state_nodes self.old) h) (state_history self.old)) }
         ensures same { OnErr result (self.new ≡ self.old) }
     {
-        self.held.push(Some(h))?;
+        let Some(next) = self.next.checked_add(1) else {
+            return Err(NoMemory);
+        };
+        self.held.insert(self.next, h)?;
+        self.next = next;
         Ok(())
     }
 
@@ -265,7 +362,7 @@ impl<'g> Bench<'g> {
             alloc,
             self.group,
             &mut self.arena,
-            self.held.as_slice(),
+            &self.held,
             def,
             cited,
             steps,
@@ -274,7 +371,7 @@ impl<'g> Bench<'g> {
 
     /// Keeps that a definition is closed, which is right.
     fn set_closed(&mut self, def: u32)
-        requires within { def < length self.old.3 }
+        requires within { def < length self.old.4 }
         requires sound { Sound (state_group self.old) (with_closed def (state_history self.old)) }
         ensures group { self.new.0 ≡ self.old.0 }
         ensures nodes { state_nodes self.new ≡ state_nodes self.old }
@@ -297,7 +394,7 @@ impl<'g> Bench<'g> {
         if !self.is_held(k) {
             return Err(RuleFault::NoInstance);
         }
-        self.held.set(k as usize, None);
+        self.held.remove(&k);
         Ok(())
     }
 }

@@ -18,6 +18,7 @@ use loop_rule::{Leaf, leaves};
 use rv_words::{List, NoMemory};
 use sep_assert::code_within;
 use std::alloc::Global;
+use std::collections::BTreeMap;
 use std::sync::ledger::Ledger;
 use tailrec_lang::{Def, Group, def_at};
 use term_arena::{Arena, Steps};
@@ -34,13 +35,13 @@ pub(crate) fn is_closed_by<L: Ledger>(
     alloc: Global,
     g: &Group,
     arena: &mut Arena,
-    held: &[Option<Held>],
+    held: &BTreeMap<u64, Held>,
     def: u32,
     cited: &[u64],
     steps: &mut Steps<L>,
 ) -> Result<bool, NoMemory>
-    requires { AreHeldAt arena.old held.now }
-    ensures answer { IfOk result (λ r. IsTrue r ↔ IsClosedBy (group_tree g.now) def (map (theorem_at arena.old held.now) cited.now)) }
+    requires { AreHeldAt arena.old held.now.entries }
+    ensures answer { IfOk result (λ r. IsTrue r ↔ IsClosedBy (group_tree g.now) def (map (theorem_at arena.old held.now.entries) cited.now)) }
     ensures grows { Extends arena.old arena.new }
 {
     let Some(d) = def_at(g, def as usize) else {
@@ -89,13 +90,13 @@ fn are_led<L: Ledger>(
     g: &Group,
     def: &Def,
     leaves: &[HeldLeaf],
-    held: &[Option<Held>],
+    held: &BTreeMap<u64, Held>,
     cited: &[u64],
     steps: &mut Steps<L>,
 ) -> bool
-    requires held { AreHeldAt arena.now held.now }
+    requires held { AreHeldAt arena.now held.now.entries }
     requires leaves { AreLeavesAt arena.now leaves.now }
-    ensures { IsTrue result ↔ AllZip (IsLedTo (group_tree g.now) (def_tree def.now)) (map (leaf_over arena.now) leaves.now) (map (theorem_at arena.now held.now) cited.now) }
+    ensures { IsTrue result ↔ AllZip (IsLedTo (group_tree g.now) (def_tree def.now)) (map (leaf_over arena.now) leaves.now) (map (theorem_at arena.now held.now.entries) cited.now) }
 {
     if leaves.len() != cited.len() {
         return false;
@@ -114,13 +115,13 @@ fn is_led<L: Ledger>(
     g: &Group,
     def: &Def,
     leaf: &HeldLeaf,
-    held: &[Option<Held>],
+    held: &BTreeMap<u64, Held>,
     number: u64,
     steps: &mut Steps<L>,
 ) -> bool
-    requires held { AreHeldAt arena.now held.now }
+    requires held { AreHeldAt arena.now held.now.entries }
     requires leaf { IsLeafAt arena.now leaf.now }
-    ensures { IsTrue result ↔ IsLedTo (group_tree g.now) (def_tree def.now) (leaf_over arena.now leaf.now) (theorem_at arena.now held.now number) }
+    ensures { IsTrue result ↔ IsLedTo (group_tree g.now) (def_tree def.now) (leaf_over arena.now leaf.now) (theorem_at arena.now held.now.entries number) }
 {
     match theorem(arena, held, number) {
         Some(p) => leads(arena, g, def, leaf, p, steps),

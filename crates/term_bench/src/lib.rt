@@ -7,16 +7,32 @@
 //!
 //! `bench.judge(alloc, &line, &mut steps)` is Ok exactly where the line is an `Instance` after what the bench holds. What it
 //! holds stands for a `History` (`state_history`), and that is as it was after a refusal, while the arena may have more terms.
+//! A theorem that was forgotten takes no place; `bench.kept()` is how many there are.
 //! The type keeps that each theorem is valid and each closed definition right, by the checker's law of lines, so that nothing
 //! is proved again of the rules. `put_triple` puts the terms of a triple into an arena.
+//!
+//! `bench.derive(alloc, &line, &mut steps)` does so for a short line, whose terms are numbers of the arena and which leaves out
+//! what can be computed: it is Ok exactly where some triple within the limits of texts makes the line right
+//! (`IsShortInstance`), and then holds that triple. A rule makes it of the theorems that the line cites (`making`), or it is
+//! computed and its depth is looked up (`computed`, `depths`). `law_of_full_lines` says that short lines stand for as many lines of
+//! version 1, each right after those before it, and `law_of_one_full_line` that a short line stands for one alone.
 //!
 //! The check of proof texts doesn't stand on this bench yet.
 #![tactic(auto)]
 
 mod bench;
 mod closing;
+mod computed;
+mod copies;
+mod depths;
+mod exits;
+mod laws;
+mod limits;
+mod making;
 mod put;
 mod rules;
+mod stating;
 
 pub use bench::Bench;
+pub use laws::{law_of_full_lines, law_of_larger_tables, law_of_one_full_line};
 pub use put::put_triple;

@@ -12,7 +12,7 @@ ghost use Rattle.proof_text.specs.Line.{mem_put_in, rule_tree, word_put_in};
 ghost use Rattle.term_arena.specs.Arena.{Extends};
 ghost use Rattle.held_terms.specs.Held.{IsHeldAt, triple_of};
 ghost use Rattle.checker.specs.Instance.{Meets, put_for};
-ghost use Rattle.term_bench.specs.Bench.{AreHeldAt, state_history, is_closed_in, theorem_at};
+ghost use Rattle.term_bench.specs.Bench.{AreHeldAt, history_from, is_closed_in, theorem_at};
 ghost use Rattle.term_bench.specs.inner.Put.{IsHeldPut};
 
 use crate::put::{put_mem_terms, put_word_terms};
@@ -24,6 +24,7 @@ use instr_axioms::axiom_triple;
 use proof_text::Rule;
 use rv_words::NoMemory;
 use std::alloc::Global;
+use std::collections::BTreeMap;
 use std::sync::ledger::Ledger;
 use tailrec_lang::Group;
 use term_arena::{Arena, Steps};
@@ -31,15 +32,12 @@ use triple_kernel::{Form, Triple, same_triple};
 use word_terms::Sub;
 
 /// The theorem of that number, if it exists and wasn't forgotten.
-pub(crate) fn theorem<'a>(arena: &Arena, held: &'a [Option<Held>], k: u64) -> Option<&'a Held>
-    requires { AreHeldAt arena.now held.now }
-    ensures theorem { option_map (triple_of arena.now) (option_copied result) ≡ theorem_at arena.now held.now k }
+pub(crate) fn theorem<'a>(arena: &Arena, held: &'a BTreeMap<u64, Held>, k: u64) -> Option<&'a Held>
+    requires { AreHeldAt arena.now held.now.entries }
+    ensures theorem { option_map (triple_of arena.now) (option_copied result) ≡ theorem_at arena.now held.now.entries k }
     ensures there { IfSome (option_copied result) (λ h. IsHeldAt arena.now h) }
 {
-    match held.get(k as usize) {
-        Some(Some(h)) => Some(h),
-        _ => None,
-    }
+    held.get(&k)
 }
 
 /// Whether the stated triple meets the row of the rule, after those theorems and closed definitions. Its numbers are those
@@ -49,16 +47,16 @@ pub(crate) fn meets<L: Ledger>(
     alloc: Global,
     g: &Group,
     arena: &mut Arena,
-    held: &[Option<Held>],
+    held: &BTreeMap<u64, Held>,
     closed: &[bool],
     rule: &Rule,
     stated: &Triple,
     put: &Held,
     steps: &mut Steps<L>,
 ) -> Result<bool, NoMemory>
-    requires held { AreHeldAt arena.old held.now }
+    requires held { AreHeldAt arena.old held.now.entries }
     requires put { IsHeldPut arena.old put.now (triple_tree stated.now) }
-    ensures answer { IfOk result (λ r. IsTrue r ↔ Meets (group_tree g.now) (state_history (g.now, arena.old, held.now, closed.now)) (rule_tree rule.now) (triple_tree stated.now)) }
+    ensures answer { IfOk result (λ r. IsTrue r ↔ Meets (group_tree g.now) (history_from 0 arena.old held.now.entries closed.now) (rule_tree rule.now) (triple_tree stated.now)) }
     ensures grows { Extends arena.old arena.new }
 {
     match rule {
@@ -93,15 +91,15 @@ fn by_axiom(
 fn by_inst<L: Ledger>(
     alloc: Global,
     arena: &mut Arena,
-    held: &[Option<Held>],
+    held: &BTreeMap<u64, Held>,
     p: u64,
     terms: &Sub,
     stated: &Held,
     steps: &mut Steps<L>,
 ) -> Result<bool, NoMemory>
-    requires held { AreHeldAt arena.old held.now }
+    requires held { AreHeldAt arena.old held.now.entries }
     requires stated { IsHeldAt arena.old stated.now }
-    ensures answer { IfOk result (λ r. IsTrue r ↔ IsSomeAnd (theorem_at arena.old held.now p) (λ p. IsInst (put_for (map word_put_in terms.now.words) (map mem_put_in terms.now.mems)) p (triple_of arena.old stated.now))) }
+    ensures answer { IfOk result (λ r. IsTrue r ↔ IsSomeAnd (theorem_at arena.old held.now.entries p) (λ p. IsInst (put_for (map word_put_in terms.now.words) (map mem_put_in terms.now.mems)) p (triple_of arena.old stated.now))) }
     ensures grows { Extends arena.old arena.new }
 {
     match theorem(arena, held, p) {
@@ -138,10 +136,10 @@ fn is_instance_by<L: Ledger>(
     Ok(same)
 }
 
-fn by_frame(arena: &Arena, held: &[Option<Held>], p: u64, stated: &Held) -> bool
-    requires held { AreHeldAt arena.now held.now }
+fn by_frame(arena: &Arena, held: &BTreeMap<u64, Held>, p: u64, stated: &Held) -> bool
+    requires held { AreHeldAt arena.now held.now.entries }
     requires stated { IsHeldAt arena.now stated.now }
-    ensures { IsTrue result ↔ IsSomeAnd (theorem_at arena.now held.now p) (λ p. IsFramed p (triple_of arena.now stated.now)) }
+    ensures { IsTrue result ↔ IsSomeAnd (theorem_at arena.now held.now.entries p) (λ p. IsFramed p (triple_of arena.now stated.now)) }
 {
     match theorem(arena, held, p) {
         Some(p) => is_frame(arena, p, stated),
@@ -149,10 +147,10 @@ fn by_frame(arena: &Arena, held: &[Option<Held>], p: u64, stated: &Held) -> bool
     }
 }
 
-fn by_compose(arena: &Arena, held: &[Option<Held>], p: u64, q: u64, stated: &Held) -> bool
-    requires held { AreHeldAt arena.now held.now }
+fn by_compose(arena: &Arena, held: &BTreeMap<u64, Held>, p: u64, q: u64, stated: &Held) -> bool
+    requires held { AreHeldAt arena.now held.now.entries }
     requires stated { IsHeldAt arena.now stated.now }
-    ensures { IsTrue result ↔ IsSomeAnd (theorem_at arena.now held.now p) (λ p. IsSomeAnd (theorem_at arena.now held.now q) (λ q. IsComposed p q (triple_of arena.now stated.now))) }
+    ensures { IsTrue result ↔ IsSomeAnd (theorem_at arena.now held.now.entries p) (λ p. IsSomeAnd (theorem_at arena.now held.now.entries q) (λ q. IsComposed p q (triple_of arena.now stated.now))) }
 {
     match theorem(arena, held, p) {
         Some(p) => is_composition_with(arena, held, p, q, stated),
@@ -162,15 +160,15 @@ fn by_compose(arena: &Arena, held: &[Option<Held>], p: u64, q: u64, stated: &Hel
 
 fn is_composition_with(
     arena: &Arena,
-    held: &[Option<Held>],
+    held: &BTreeMap<u64, Held>,
     p: &Held,
     q: u64,
     stated: &Held,
 ) -> bool
-    requires held { AreHeldAt arena.now held.now }
+    requires held { AreHeldAt arena.now held.now.entries }
     requires p { IsHeldAt arena.now p.now }
     requires stated { IsHeldAt arena.now stated.now }
-    ensures { IsTrue result ↔ IsSomeAnd (theorem_at arena.now held.now q) (λ q. IsComposed (triple_of arena.now p.now) q (triple_of arena.now stated.now)) }
+    ensures { IsTrue result ↔ IsSomeAnd (theorem_at arena.now held.now.entries q) (λ q. IsComposed (triple_of arena.now p.now) q (triple_of arena.now stated.now)) }
 {
     match theorem(arena, held, q) {
         Some(q) => is_composition(arena, p, q, stated),
@@ -178,10 +176,10 @@ fn is_composition_with(
     }
 }
 
-fn by_extend_code(arena: &Arena, held: &[Option<Held>], p: u64, stated: &Held) -> bool
-    requires held { AreHeldAt arena.now held.now }
+fn by_extend_code(arena: &Arena, held: &BTreeMap<u64, Held>, p: u64, stated: &Held) -> bool
+    requires held { AreHeldAt arena.now held.now.entries }
     requires stated { IsHeldAt arena.now stated.now }
-    ensures { IsTrue result ↔ IsSomeAnd (theorem_at arena.now held.now p) (λ p. IsExtended p (triple_of arena.now stated.now)) }
+    ensures { IsTrue result ↔ IsSomeAnd (theorem_at arena.now held.now.entries p) (λ p. IsExtended p (triple_of arena.now stated.now)) }
 {
     match theorem(arena, held, p) {
         Some(p) => is_extension(arena, p, stated),
@@ -192,14 +190,14 @@ fn by_extend_code(arena: &Arena, held: &[Option<Held>], p: u64, stated: &Held) -
 fn by_strengthen<L: Ledger>(
     alloc: Global,
     arena: &Arena,
-    held: &[Option<Held>],
+    held: &BTreeMap<u64, Held>,
     p: u64,
     stated: &Held,
     steps: &mut Steps<L>,
 ) -> Result<bool, NoMemory>
-    requires held { AreHeldAt arena.now held.now }
+    requires held { AreHeldAt arena.now held.now.entries }
     requires stated { IsHeldAt arena.now stated.now }
-    ensures { IfOk result (λ r. IsTrue r ↔ IsSomeAnd (theorem_at arena.now held.now p) (λ p. IsStrengthened p (triple_of arena.now stated.now))) }
+    ensures { IfOk result (λ r. IsTrue r ↔ IsSomeAnd (theorem_at arena.now held.now.entries p) (λ p. IsStrengthened p (triple_of arena.now stated.now))) }
 {
     match theorem(arena, held, p) {
         Some(p) => is_strengthened(alloc, arena, p, stated, steps),
@@ -210,14 +208,14 @@ fn by_strengthen<L: Ledger>(
 fn by_weaken<L: Ledger>(
     alloc: Global,
     arena: &Arena,
-    held: &[Option<Held>],
+    held: &BTreeMap<u64, Held>,
     p: u64,
     stated: &Held,
     steps: &mut Steps<L>,
 ) -> Result<bool, NoMemory>
-    requires held { AreHeldAt arena.now held.now }
+    requires held { AreHeldAt arena.now held.now.entries }
     requires stated { IsHeldAt arena.now stated.now }
-    ensures { IfOk result (λ r. IsTrue r ↔ IsSomeAnd (theorem_at arena.now held.now p) (λ p. IsWeakened p (triple_of arena.now stated.now))) }
+    ensures { IfOk result (λ r. IsTrue r ↔ IsSomeAnd (theorem_at arena.now held.now.entries p) (λ p. IsWeakened p (triple_of arena.now stated.now))) }
 {
     match theorem(arena, held, p) {
         Some(p) => is_weakened(alloc, arena, p, stated, steps),
@@ -228,14 +226,14 @@ fn by_weaken<L: Ledger>(
 fn by_discharge<L: Ledger>(
     alloc: Global,
     arena: &Arena,
-    held: &[Option<Held>],
+    held: &BTreeMap<u64, Held>,
     p: u64,
     stated: &Held,
     steps: &mut Steps<L>,
 ) -> Result<bool, NoMemory>
-    requires held { AreHeldAt arena.now held.now }
+    requires held { AreHeldAt arena.now held.now.entries }
     requires stated { IsHeldAt arena.now stated.now }
-    ensures { IfOk result (λ r. IsTrue r ↔ IsSomeAnd (theorem_at arena.now held.now p) (λ p. IsDischarged p (triple_of arena.now stated.now))) }
+    ensures { IfOk result (λ r. IsTrue r ↔ IsSomeAnd (theorem_at arena.now held.now.entries p) (λ p. IsDischarged p (triple_of arena.now stated.now))) }
 {
     match theorem(arena, held, p) {
         Some(p) => is_discharged(alloc, arena, p, stated, steps),

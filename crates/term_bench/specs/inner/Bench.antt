@@ -8,6 +8,6 @@ use Rattle.term_bench.specs.Bench.{BenchState, AreHeldAt, state_group, state_his
 -- the triple of each exit of a closed definition.
 pub record IsSoundState (k : BenchState) : Type 0 where
   pub there : AreHeldAt (state_nodes k) k.2
-  pub count : length k.3 ≡ length k.0.defs
+  pub count : length k.4 ≡ length k.0.defs
   pub well_formed : IsWellFormed (state_group k)
   pub sound : Sound (state_group k) (state_history k)

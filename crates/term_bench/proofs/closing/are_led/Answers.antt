@@ -15,7 +15,7 @@ returns-then-not-is_led g c = (
       let i = c.loop-i.i in
       let lx : i < length a.leaves.now = omega arith in
       let ly : i < length a.cited.now = omega arith in
-      let yes = c.is_led.ensures.1 (zip_at (leaf_over a.arena.now) (theorem_at a.arena.now a.held.now) (IsLedTo (group_tree a.g.now) (def_tree a.def.now)) a.leaves.now a.cited.now i c.index-leaves-i.result _ lx ly c.index-leaves-i.is (read_at a.cited.now i 0 _ ly) all) in
+      let yes = c.is_led.ensures.1 (zip_at (leaf_over a.arena.now) (theorem_at a.arena.now a.held.now.entries) (IsLedTo (group_tree a.g.now) (def_tree a.def.now)) a.leaves.now a.cited.now i c.index-leaves-i.result _ lx ly c.index-leaves-i.is (read_at a.cited.now i 0 _ ly) all) in
       absurd (cc),
 )
 
@@ -25,7 +25,7 @@ loop-i-preserved g c =
     let i = c.loop-i.i in
     let lx : i < length a.leaves.now = omega arith in
     let ly : i < length a.cited.now = omega arith in
-    zip_more (leaf_over a.arena.now) (theorem_at a.arena.now a.held.now) (IsLedTo (group_tree a.g.now) (def_tree a.def.now)) a.leaves.now a.cited.now i c.index-leaves-i.result _ lx ly c.index-leaves-i.is (read_at a.cited.now i 0 _ ly)
+    zip_more (leaf_over a.arena.now) (theorem_at a.arena.now a.held.now.entries) (IsLedTo (group_tree a.g.now) (def_tree a.def.now)) a.leaves.now a.cited.now i c.index-leaves-i.result _ lx ly c.index-leaves-i.is (read_at a.cited.now i 0 _ ly)
     c.loop-i.invariant (c.is_led.ensures.0 c.if-not-is_led.false)
 
 pub returns-then-leaves-cited : goal.returns-then-leaves-cited
@@ -33,6 +33,6 @@ returns-then-leaves-cited g c = (
   λ e. absurd (cc),
   λ all.
       let a = c.args in
-      let same = zip_count (leaf_over a.arena.now) (theorem_at a.arena.now a.held.now) (IsLedTo (group_tree a.g.now) (def_tree a.def.now)) a.leaves.now a.cited.now all in
+      let same = zip_count (leaf_over a.arena.now) (theorem_at a.arena.now a.held.now.entries) (IsLedTo (group_tree a.g.now) (def_tree a.def.now)) a.leaves.now a.cited.now all in
       absurd (omega (arith, same)),
 )

@@ -7,4 +7,4 @@ use Rattle.term_bench.specs.inner.Leaves.{leaf_over}
 use Rattle.term_bench.proofs.closing.are_led.Given as goal
 
 abbrev pub invariant-loop-i : goal.invariant-loop-i
-invariant-loop-i g l = AllZip (IsLedTo (group_tree l.g) (def_tree l.def)) (map (leaf_over l.arena) (take l.i l.leaves)) (map (theorem_at l.arena l.held) (take l.i l.cited))
+invariant-loop-i g l = AllZip (IsLedTo (group_tree l.g) (def_tree l.def)) (map (leaf_over l.arena) (take l.i l.leaves)) (map (theorem_at l.arena l.held.entries) (take l.i l.cited))

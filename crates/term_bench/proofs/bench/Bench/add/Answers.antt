@@ -10,9 +10,9 @@ add-requires g c = subst (λ (k : BenchState). AreChildren (state_nodes k) c.arg
 pub invariant_of-self : goal.invariant_of-self
 invariant_of-self g c =
     let s = c.self.inside in
-    sound_grown s.arena c.add.new.self c.add.ensures.grows s.group.now s.held s.closed c.self.invariant
+    sound_grown s.arena c.add.new.self c.add.ensures.grows s.group.now s.held.entries s.next s.closed c.self.invariant
 
 pub returns-clause-same : goal.returns-clause-same
 returns-clause-same g c =
     let s = c.self.inside in
-    history_stays s.arena c.add.new.self c.add.ensures.grows s.group.now s.held s.closed c.self.invariant.there ∙ ap state_history c.self.view_is
+    history_stays s.arena c.add.new.self c.add.ensures.grows s.group.now s.held.entries s.next s.closed c.self.invariant.there ∙ ap state_history c.self.view_is

@@ -1,30 +1,27 @@
-use Rattle.std.proofs.Common.{List, Option, map, ap, sym, ◌∙◌, subst, IfOk, IsTrue}
+use Rattle.std.proofs.Common.{map, ap, ◌∙◌, subst, IfOk, IsTrue}
 use Rattle.std.specs.Prelude.{◌↔◌}
 use Rattle.term_arena.specs.Arena.{Extends}
 use Rattle.loop_rule.specs.Rule.{IsClosedBy}
-use Rattle.held_terms.specs.declared.held.Held.{Held}
-use Rattle.term_bench.specs.Bench.{AreHeldAt, BenchState, state_group, state_history, state_nodes}
+use Rattle.term_bench.specs.Bench.{BenchState, state_group, state_history, state_nodes}
 use Rattle.term_bench.proofs.BenchLemmas.{history_stays, sound_grown}
 use Rattle.term_bench.proofs.bench.Bench.is_closed_by.Goals as goal
 
 pub is_closed_by-requires : goal.is_closed_by-requires
-is_closed_by-requires g c = subst (λ (hs : List (Option Held)). AreHeldAt c.self.inside.arena hs) (sym c.as_slice.ensures) c.self.invariant.there
+is_closed_by-requires g c = c.self.invariant.there
 
 pub invariant_of-self : goal.invariant_of-self
 invariant_of-self g c =
     let s = c.self.inside in
-    sound_grown s.arena c.is_closed_by.new.arena c.is_closed_by.ensures.grows s.group.now s.held s.closed c.self.invariant
+    sound_grown s.arena c.is_closed_by.new.arena c.is_closed_by.ensures.grows s.group.now s.held.entries s.next s.closed c.self.invariant
 
 pub returns-clause-same : goal.returns-clause-same
 returns-clause-same g c =
     let s = c.self.inside in
-    history_stays s.arena c.is_closed_by.new.arena c.is_closed_by.ensures.grows s.group.now s.held s.closed c.self.invariant.there ∙ ap state_history c.self.view_is
+    history_stays s.arena c.is_closed_by.new.arena c.is_closed_by.ensures.grows s.group.now s.held.entries s.next s.closed c.self.invariant.there ∙ ap state_history c.self.view_is
 
 pub returns-clause-grows : goal.returns-clause-grows
 returns-clause-grows g c = subst (λ (k : BenchState). Extends (state_nodes k) c.is_closed_by.new.arena) c.self.view_is c.is_closed_by.ensures.grows
 
 pub returns-clause-answer : goal.returns-clause-answer
 returns-clause-answer g c =
-    let s = c.self.inside in
-    subst (λ (k : BenchState). IfOk c.is_closed_by.result (λ r. IsTrue r ↔ IsClosedBy (state_group k) c.args.def (map (state_history k).theorem c.args.cited.now)))
-    ((λ i. (s.group.now, s.arena, c.as_slice.ensures i, s.closed)) ∙ c.self.view_is) c.is_closed_by.ensures.answer
+    subst (λ (k : BenchState). IfOk c.is_closed_by.result (λ r. IsTrue r ↔ IsClosedBy (state_group k) c.args.def (map (state_history k).theorem c.args.cited.now))) c.self.view_is c.is_closed_by.ensures.answer

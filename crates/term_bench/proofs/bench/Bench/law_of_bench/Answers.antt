@@ -11,4 +11,4 @@ pub returns-clause-sound : goal.returns-clause-sound
 returns-clause-sound c = subst (λ (k : BenchState). Sound (state_group k) (state_history k)) c.self.view_is c.self.invariant.sound
 
 pub returns-clause-count : goal.returns-clause-count
-returns-clause-count c = subst (λ (k : BenchState). length k.3 ≡ length k.0.defs) c.self.view_is c.self.invariant.count
+returns-clause-count c = subst (λ (k : BenchState). length k.4 ≡ length k.0.defs) c.self.view_is c.self.invariant.count

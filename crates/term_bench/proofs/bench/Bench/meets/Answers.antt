@@ -1,17 +1,19 @@
-use Rattle.std.proofs.Common.{List, Option, ap, sym, ◌∙◌, subst, IfOk, IsTrue}
-use Rattle.std.specs.Prelude.{◌↔◌}
+use Rattle.std.proofs.Common.{List, ap, sym, ◌∙◌, subst, IfOk, IsTrue}
+use Rattle.std.specs.Prelude.{◌↔◌, Bool}
+use Rattle.std.proofs.lemmas.Result.{IfOk-weaker}
+use Rattle.tailrec_lang.specs.Tree.{group_tree}
 use Rattle.term_arena.specs.Arena.{Extends}
 use Rattle.triple_kernel.specs.Tree.{triple_tree}
 use Rattle.proof_text.specs.Line.{rule_tree}
-use Rattle.held_terms.specs.declared.held.Held.{Held}
 use Rattle.checker.specs.Instance.{Meets}
-use Rattle.term_bench.specs.Bench.{AreHeldAt, BenchState, state_group, state_history, state_nodes}
+use Rattle.term_bench.specs.Bench.{BenchState, history_from, state_group, state_history, state_nodes}
 use Rattle.term_bench.specs.inner.Put.{IsHeldPut}
 use Rattle.term_bench.proofs.BenchLemmas.{history_stays, sound_grown}
+use Rattle.term_bench.proofs.RuleLemmas.{same_next}
 use Rattle.term_bench.proofs.bench.Bench.meets.Goals as goal
 
 pub meets-requires-clause-held : goal.meets-requires-clause-held
-meets-requires-clause-held g c = subst (λ (hs : List (Option Held)). AreHeldAt c.self.inside.arena hs) (sym c.as_slice.ensures) c.self.invariant.there
+meets-requires-clause-held g c = c.self.invariant.there
 
 pub meets-requires-clause-put : goal.meets-requires-clause-put
 meets-requires-clause-put g c = subst (λ (k : BenchState). IsHeldPut (state_nodes k) c.args.put.now (triple_tree c.args.stated.now)) (sym c.self.view_is) c.requires
@@ -19,12 +21,12 @@ meets-requires-clause-put g c = subst (λ (k : BenchState). IsHeldPut (state_nod
 pub invariant_of-self : goal.invariant_of-self
 invariant_of-self g c =
     let s = c.self.inside in
-    sound_grown s.arena c.meets.new.arena c.meets.ensures.grows s.group.now s.held s.closed c.self.invariant
+    sound_grown s.arena c.meets.new.arena c.meets.ensures.grows s.group.now s.held.entries s.next s.closed c.self.invariant
 
 pub returns-clause-same : goal.returns-clause-same
 returns-clause-same g c =
     let s = c.self.inside in
-    history_stays s.arena c.meets.new.arena c.meets.ensures.grows s.group.now s.held s.closed c.self.invariant.there ∙ ap state_history c.self.view_is
+    history_stays s.arena c.meets.new.arena c.meets.ensures.grows s.group.now s.held.entries s.next s.closed c.self.invariant.there ∙ ap state_history c.self.view_is
 
 pub returns-clause-grows : goal.returns-clause-grows
 returns-clause-grows g c = subst (λ (k : BenchState). Extends (state_nodes k) c.meets.new.arena) c.self.view_is c.meets.ensures.grows
@@ -32,5 +34,8 @@ returns-clause-grows g c = subst (λ (k : BenchState). Extends (state_nodes k) c
 pub returns-clause-answer : goal.returns-clause-answer
 returns-clause-answer g c =
     let s = c.self.inside in
-    subst (λ (k : BenchState). IfOk c.meets.result (λ r. IsTrue r ↔ Meets (state_group k) (state_history k) (rule_tree c.args.rule.now) (triple_tree c.args.stated.now)))
-    ((λ i. (s.group.now, s.arena, c.as_slice.ensures i, c.as_slice-2.ensures i)) ∙ c.self.view_is) c.meets.ensures.answer
+    let r = rule_tree c.args.rule.now in
+    let t = triple_tree c.args.stated.now in
+    let answer = subst (λ (cs : List Bool). IfOk c.meets.result (λ b. IsTrue b ↔ Meets (group_tree s.group.now) (history_from 0 s.arena s.held.entries cs) r t)) c.as_slice.ensures c.meets.ensures.answer in
+    subst (λ (k : BenchState). IfOk c.meets.result (λ b. IsTrue b ↔ Meets (state_group k) (state_history k) r t)) c.self.view_is
+    (IfOk-weaker c.meets.result _ _ (λ b is. same_next (group_tree s.group.now) s.next s.arena s.held.entries s.closed r t (IsTrue b) is) answer)

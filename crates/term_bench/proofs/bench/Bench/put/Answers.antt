@@ -7,12 +7,12 @@ use Rattle.term_bench.proofs.bench.Bench.put.Goals as goal
 pub invariant_of-self : goal.invariant_of-self
 invariant_of-self g c =
     let s = c.self.inside in
-    sound_grown s.arena c.put_triple.new.arena c.put_triple.ensures.grows s.group.now s.held s.closed c.self.invariant
+    sound_grown s.arena c.put_triple.new.arena c.put_triple.ensures.grows s.group.now s.held.entries s.next s.closed c.self.invariant
 
 pub returns-clause-same : goal.returns-clause-same
 returns-clause-same g c =
     let s = c.self.inside in
-    history_stays s.arena c.put_triple.new.arena c.put_triple.ensures.grows s.group.now s.held s.closed c.self.invariant.there ∙ ap state_history c.self.view_is
+    history_stays s.arena c.put_triple.new.arena c.put_triple.ensures.grows s.group.now s.held.entries s.next s.closed c.self.invariant.there ∙ ap state_history c.self.view_is
 
 pub returns-clause-grows : goal.returns-clause-grows
 returns-clause-grows g c = subst (λ (k : BenchState). Extends (state_nodes k) c.put_triple.new.arena) c.self.view_is c.put_triple.ensures.grows

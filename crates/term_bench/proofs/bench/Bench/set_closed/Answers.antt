@@ -7,18 +7,18 @@ use Rattle.term_bench.proofs.BenchLemmas.{history_closed, sound_closed}
 use Rattle.term_bench.proofs.bench.Bench.set_closed.Goals as goal
 
 pub set-requires : goal.set-requires
-set-requires c = subst (λ (k : BenchState). c.args.def < length k.3) (sym c.self.view_is) c.requires.within
+set-requires c = subst (λ (k : BenchState). c.args.def < length k.4) (sym c.self.view_is) c.requires.within
 
 pub invariant_of-self : goal.invariant_of-self
 invariant_of-self c =
     let s = c.self.inside in
-    let low = subst (λ (k : BenchState). c.args.def < length k.3) (sym c.self.view_is) c.requires.within in
+    let low = subst (λ (k : BenchState). c.args.def < length k.4) (sym c.self.view_is) c.requires.within in
     let sound = subst (λ (k : BenchState). Sound (state_group k) (with_closed c.args.def (state_history k))) (sym c.self.view_is) c.requires.sound in
-    subst (λ (cs : List Bool). IsSoundState (s.group.now, s.arena, s.held, cs)) (sym c.set.ensures) (sound_closed s.group.now s.arena s.held s.closed c.args.def low c.self.invariant sound)
+    subst (λ (cs : List Bool). IsSoundState (s.group.now, s.arena, s.held.entries, s.next, cs)) (sym c.set.ensures) (sound_closed s.group.now s.arena s.held.entries s.next s.closed c.args.def low c.self.invariant sound)
 
 pub returns-clause-after : goal.returns-clause-after
 returns-clause-after c =
     let s = c.self.inside in
-    let low = subst (λ (k : BenchState). c.args.def < length k.3) (sym c.self.view_is) c.requires.within in
-    ap (λ (cs : List Bool). state_history (s.group.now, s.arena, s.held, cs)) c.set.ensures ∙ history_closed s.group.now s.arena s.held s.closed c.args.def low
+    let low = subst (λ (k : BenchState). c.args.def < length k.4) (sym c.self.view_is) c.requires.within in
+    ap (λ (cs : List Bool). state_history (s.group.now, s.arena, s.held.entries, s.next, cs)) c.set.ensures ∙ history_closed s.group.now s.arena s.held.entries s.next s.closed c.args.def low
     ∙ ap (λ (k : BenchState). with_closed c.args.def (state_history k)) c.self.view_is

@@ -1,15 +1,13 @@
-use Rattle.std.proofs.Common.{◌≡◌, List, Option, ap, sym, ◌∙◌, subst}
+use Rattle.std.proofs.Common.{◌≡◌, subst}
 use Rattle.std.specs.Prelude.{option_map}
 use Rattle.std.specs.Option.{option_copied}
-use Rattle.held_terms.specs.declared.held.Held.{Held}
 use Rattle.held_terms.specs.Held.{triple_of}
-use Rattle.term_bench.specs.Bench.{AreHeldAt, BenchState, state_history, state_nodes, theorem_at}
+use Rattle.term_bench.specs.Bench.{BenchState, state_history, state_nodes}
 use Rattle.term_bench.proofs.bench.Bench.theorem.Goals as goal
 
 pub theorem-requires : goal.theorem-requires
-theorem-requires c = subst (λ (hs : List (Option Held)). AreHeldAt c.self.inside.arena hs) (sym c.as_slice.ensures) c.self.invariant.there
+theorem-requires c = c.self.invariant.there
 
 pub returns-clause-theorem : goal.returns-clause-theorem
 returns-clause-theorem c =
-    subst (λ (k : BenchState). option_map (triple_of (state_nodes k)) (option_copied c.theorem.result) ≡ (state_history k).theorem c.args.k) c.self.view_is
-    (c.theorem.ensures.theorem ∙ ap (λ (hs : List (Option Held)). theorem_at c.self.inside.arena hs c.args.k) c.as_slice.ensures)
+    subst (λ (k : BenchState). option_map (triple_of (state_nodes k)) (option_copied c.theorem.result) ≡ (state_history k).theorem c.args.k) c.self.view_is c.theorem.ensures.theorem

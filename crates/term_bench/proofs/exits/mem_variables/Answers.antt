@@ -1,0 +1,16 @@
+use Rattle.word_terms.specs.Tree.{MemVar}
+use Rattle.term_arena.specs.Arena.{IsMemAt, mem_of}
+use Rattle.held_terms.proofs.InstanceLemmas.{extends_next}
+use Rattle.term_bench.proofs.ExitParts.{variable_more}
+use Rattle.term_bench.proofs.PutLemmas.{mems_stay}
+use Rattle.term_bench.proofs.exits.mem_variables.Goals as goal
+
+pub loop-i-preserved : goal.loop-i-preserved
+loop-i-preserved g c =
+    let before = c.loop-i.arena in
+    let now = c.mem_variable.new.arena in
+    let grows = c.mem_variable.ensures.grows in
+    record {
+      grows = extends_next c.args.arena.now before now c.loop-i.invariant.grows grows;
+      put = variable_more (IsMemAt now) (mem_of now) MemVar c.args.first c.loop-i.i c.loop-i.list _ c.in_ok-k.k c.in_ok-push.ensures.ok (mems_stay before now grows c.loop-i.list _ c.loop-i.invariant.put) c.in_ok-k.ensures.put;
+    }

@@ -1,0 +1,12 @@
+use Rattle.std.proofs.Common.{map}
+use Rattle.std.specs.List.{range_with_len}
+use Rattle.word_terms.specs.Tree.{MemVar}
+use Rattle.term_arena.specs.Arena.{Extends}
+use Rattle.term_bench.specs.inner.Put.{AreMemsPut}
+use Rattle.term_bench.proofs.exits.mem_variables.Given as goal
+
+abbrev pub invariant-loop-i : goal.invariant-loop-i
+invariant-loop-i g l = record {
+  grows : Extends l.fn.arena l.arena;
+  put : AreMemsPut l.arena l.list (map MemVar (range_with_len l.first l.i));
+}

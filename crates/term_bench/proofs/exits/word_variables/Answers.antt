@@ -1,0 +1,16 @@
+use Rattle.word_terms.specs.Tree.{Var}
+use Rattle.term_arena.specs.Arena.{IsWordAt, word_of}
+use Rattle.held_terms.proofs.InstanceLemmas.{extends_next}
+use Rattle.term_bench.proofs.ExitParts.{variable_more}
+use Rattle.term_bench.proofs.PutLemmas.{words_stay}
+use Rattle.term_bench.proofs.exits.word_variables.Goals as goal
+
+pub loop-i-preserved : goal.loop-i-preserved
+loop-i-preserved g c =
+    let before = c.loop-i.arena in
+    let now = c.word_variable.new.arena in
+    let grows = c.word_variable.ensures.grows in
+    record {
+      grows = extends_next c.args.arena.now before now c.loop-i.invariant.grows grows;
+      put = variable_more (IsWordAt now) (word_of now) Var c.args.first c.loop-i.i c.loop-i.list _ c.in_ok-k.k c.in_ok-push.ensures.ok (words_stay before now grows c.loop-i.list _ c.loop-i.invariant.put) c.in_ok-k.ensures.put;
+    }

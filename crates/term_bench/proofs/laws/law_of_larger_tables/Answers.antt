@@ -1,0 +1,11 @@
+use Rattle.term_bench.proofs.LargerTables.{fine_grows, instance_grows, left_of_table}
+use Rattle.term_bench.proofs.laws.law_of_larger_tables.Goals as goal
+
+pub returns-clause-fine : goal.returns-clause-fine
+returns-clause-fine c = fine_grows
+
+pub returns-clause-instance : goal.returns-clause-instance
+returns-clause-instance c = instance_grows
+
+pub returns-clause-left : goal.returns-clause-left
+returns-clause-left c = left_of_table

@@ -1,0 +1,106 @@
+//! Triples that a line computes, which may be deeper than what is written.
+
+ghost use Rattle.std.specs.Prelude.{◌≡◌, IfOk, Some as Just};
+ghost use Rattle.tailrec_lang.specs.Tree.{group_tree};
+ghost use Rattle.triple_kernel.specs.Rules.{IsInst};
+ghost use Rattle.instr_axioms.specs.Axiom.{axiom_of};
+ghost use Rattle.loop_rule.specs.Rule.{IsExit};
+ghost use Rattle.proof_text.specs.inner.OwnCode.{IsOwnCode};
+ghost use Rattle.term_arena.specs.Arena.{Extends};
+ghost use Rattle.held_terms.specs.Held.{IsHeldAt, triple_of};
+ghost use Rattle.held_terms.specs.Image.{IsSubAt, put_for_numbers};
+ghost use Rattle.term_bench.specs.Fine.{IsFineHeld};
+ghost use Rattle.term_bench.specs.inner.Making.{MadeIf};
+
+use crate::depths::deepen;
+use crate::exits::exit_held;
+use crate::limits::is_within;
+use crate::put::put_triple;
+use held_terms::{Held, instance};
+use instr_axioms::axiom_triple;
+use rv_words::{List, NoMemory};
+use std::alloc::Global;
+use std::sync::ledger::Ledger;
+use tailrec_lang::Group;
+use term_arena::{Arena, Steps};
+use triple_kernel::Form;
+
+/// The triple, if it is within the limits.
+fn if_within<L: Ledger>(
+    alloc: Global,
+    arena: &Arena,
+    h: Held,
+    steps: &mut Steps<L>,
+) -> Result<Option<Held>, NoMemory>
+    requires there { IsHeldAt arena.now h }
+    requires code { IsOwnCode h.code.ranges }
+    ensures { IfOk result (λ o. MadeIf arena.now (λ t. t ≡ triple_of arena.now h) o) }
+{
+    let mut depths = List::new(alloc);
+    deepen(arena, &mut depths, steps)?;
+    if !is_within(arena, depths.as_slice(), &h) {
+        return Ok(None);
+    }
+    Ok(Some(h))
+}
+
+/// Terms for the variables of a theorem, all put in at once.
+pub(crate) fn put_in<L: Ledger>(
+    alloc: Global,
+    arena: &mut Arena,
+    p: &Held,
+    words: &[(u32, u64)],
+    mems: &[(u32, u64)],
+    steps: &mut Steps<L>,
+) -> Result<Option<Held>, NoMemory>
+    requires p { IsFineHeld arena.old p.now }
+    requires sub { IsSubAt arena.old words.now mems.now }
+    ensures made { IfOk result (λ o. MadeIf arena.new (λ t. IsInst (put_for_numbers arena.old words.now mems.now) (triple_of arena.old p.now) t) o) }
+    ensures grows { Extends arena.old arena.new }
+{
+    let h = instance(alloc, arena, p, words, mems, steps)?;
+    let made = if_within(alloc, arena, h, steps)?;
+    Ok(made)
+}
+
+/// The axiom of the instruction word at an address, in a form.
+pub(crate) fn axiom<L: Ledger>(
+    alloc: Global,
+    arena: &mut Arena,
+    addr: u64,
+    word: u32,
+    form: Form,
+    steps: &mut Steps<L>,
+) -> Result<Option<Held>, NoMemory>
+    ensures made { IfOk result (λ o. MadeIf arena.new (λ t. axiom_of addr word form ≡ Just t) o) }
+    ensures grows { Extends arena.old arena.new }
+{
+    let found = axiom_triple(alloc, addr, word, form)?;
+    let Some(t) = found else {
+        return Ok(None);
+    };
+    let h = put_triple(alloc, arena, &t, steps)?;
+    let made = if_within(alloc, arena, h, steps)?;
+    Ok(made)
+}
+
+/// The triple of an exit of a definition.
+pub(crate) fn exit<L: Ledger>(
+    alloc: Global,
+    arena: &mut Arena,
+    g: &Group,
+    def: u32,
+    number: u32,
+    steps: &mut Steps<L>,
+) -> Result<Option<Held>, NoMemory>
+    requires code { IsOwnCode g.now.code.ranges }
+    ensures made { IfOk result (λ o. MadeIf arena.new (λ t. IsExit (group_tree g.now) def number t) o) }
+    ensures grows { Extends arena.old arena.new }
+{
+    let found = exit_held(alloc, arena, g, def, number, steps)?;
+    let Some(h) = found else {
+        return Ok(None);
+    };
+    let made = if_within(alloc, arena, h, steps)?;
+    Ok(made)
+}

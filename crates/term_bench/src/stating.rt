@@ -1,0 +1,244 @@
+//! The triples that short lines state, made over numbers.
+
+ghost use Rattle.std.specs.Prelude.{◌≡◌, IfOk, IfSome, IsSomeAnd, map, option_map, true};
+ghost use Rattle.std.specs.Option.{option_copied};
+ghost use Rattle.tailrec_lang.specs.Tree.{group_tree};
+ghost use Rattle.triple_kernel.specs.Rules.{IsDischarged, IsInst, IsStrengthened, IsWeakened};
+ghost use Rattle.frame_compose.specs.Rules.{IsComposed, IsExtended, IsFramed, further, rest_after};
+ghost use Rattle.loop_rule.specs.Rule.{IsExit};
+ghost use Rattle.proof_text.specs.inner.OwnCode.{IsOwnCode};
+ghost use Rattle.term_arena.specs.Arena.{Extends, mem_of};
+ghost use Rattle.held_terms.specs.Held.{fact_of, register_of, side_of, triple_of};
+ghost use Rattle.held_terms.specs.Image.{IsSubAt, put_for_numbers};
+ghost use Rattle.term_bench.specs.Bench.{history_from, is_closed_in, theorem_at};
+ghost use Rattle.term_bench.specs.Fine.{AreFineFacts, AreFineMems, AreFineRegisters, IsFineHeld, IsFineSide};
+ghost use Rattle.term_bench.specs.Short.{AreFineAt, IsFineShort, IsStatedBy};
+ghost use Rattle.term_bench.specs.inner.Making.{MadeIf};
+
+use crate::computed::{axiom, exit, put_in};
+use crate::making::{composed, discharged, extended, framed, strengthened, weakened};
+use crate::rules::is_closed;
+use held_terms::{Held, HeldFact, HeldSide};
+use rv_words::{List, NoMemory};
+use short_text::Short;
+use std::alloc::Global;
+use std::collections::BTreeMap;
+use std::sync::ledger::Ledger;
+use tailrec_lang::Group;
+use term_arena::{Arena, Steps};
+use word_terms::Code;
+
+/// The triple that the line states after those theorems and closed definitions, if it is right.
+pub(crate) fn stated_by<L: Ledger>(
+    alloc: Global,
+    g: &Group,
+    arena: &mut Arena,
+    held: &BTreeMap<u64, Held>,
+    closed: &[bool],
+    line: &Short,
+    steps: &mut Steps<L>,
+) -> Result<Option<Held>, NoMemory>
+    requires code { IsOwnCode g.now.code.ranges }
+    requires held { AreFineAt arena.old held.now.entries }
+    requires line { IsFineShort arena.old line.now }
+    ensures made { IfOk result (λ o. MadeIf arena.new (IsStatedBy (group_tree g.now) (history_from 0 arena.old held.now.entries closed.now) arena.old line.now) o) }
+    ensures grows { Extends arena.old arena.new }
+{
+    match line {
+        Short::Axiom(addr, word, form) => axiom(alloc, arena, *addr, *word, *form, steps),
+        Short::Inst(p, words, mems) => by_inst(alloc, arena, held, *p, words, mems, steps),
+        Short::UseExit(def, number) => {
+            by_use_exit(alloc, g, arena, closed, *def, *number, steps)
+        }
+        Short::Frame(p, regs, mems) => by_frame(alloc, arena, held, *p, regs, mems),
+        Short::ExtendCode(p, code) => by_extend_code(alloc, arena, held, *p, code),
+        Short::Compose(p, q) => by_compose(alloc, arena, held, *p, *q),
+        Short::Strengthen(p, facts, pre) => {
+            by_strengthen(alloc, arena, held, *p, facts, pre, steps)
+        }
+        Short::Weaken(p, facts, post) => { by_weaken(alloc, arena, held, *p, facts, post, steps) }
+        Short::Discharge(p, facts) => { by_discharge(alloc, arena, held, *p, facts, steps) }
+        Short::Loop(_, _) => Ok(None),
+        Short::Forget(_) => Ok(None),
+    }
+}
+
+/// The theorem of that number, if it exists and wasn't forgotten.
+fn fine_theorem<'a>(arena: &Arena, held: &'a BTreeMap<u64, Held>, k: u64) -> Option<&'a Held>
+    requires { AreFineAt arena.now held.now.entries }
+    ensures theorem { option_map (triple_of arena.now) (option_copied result) ≡ theorem_at arena.now held.now.entries k }
+    ensures fine { IfSome (option_copied result) (λ h. IsFineHeld arena.now h) }
+{
+    arena.law_of_nodes();
+    held.get(&k)
+}
+
+fn by_inst<L: Ledger>(
+    alloc: Global,
+    arena: &mut Arena,
+    held: &BTreeMap<u64, Held>,
+    p: u64,
+    words: &List<(u32, u64)>,
+    mems: &List<(u32, u64)>,
+    steps: &mut Steps<L>,
+) -> Result<Option<Held>, NoMemory>
+    requires held { AreFineAt arena.old held.now.entries }
+    requires sub { IsSubAt arena.old words.now mems.now }
+    ensures made { IfOk result (λ o. MadeIf arena.new (λ t. IsSomeAnd (theorem_at arena.old held.now.entries p) (λ q. IsInst (put_for_numbers arena.old words.now mems.now) q t)) o) }
+    ensures grows { Extends arena.old arena.new }
+{
+    match fine_theorem(arena, held, p) {
+        Some(q) => {
+            let words = words.as_slice();
+            let made = put_in(alloc, arena, q, words, mems.as_slice(), steps)?;
+            Ok(made)
+        }
+        None => Ok(None),
+    }
+}
+
+fn by_use_exit<L: Ledger>(
+    alloc: Global,
+    g: &Group,
+    arena: &mut Arena,
+    closed: &[bool],
+    def: u32,
+    number: u32,
+    steps: &mut Steps<L>,
+) -> Result<Option<Held>, NoMemory>
+    requires code { IsOwnCode g.now.code.ranges }
+    ensures made { IfOk result (λ o. MadeIf arena.new (λ t. (is_closed_in closed.now def ≡ true) × IsExit (group_tree g.now) def number t) o) }
+    ensures grows { Extends arena.old arena.new }
+{
+    if !is_closed(closed, def) {
+        return Ok(None);
+    }
+    exit(alloc, arena, g, def, number, steps)
+}
+
+fn by_frame(
+    alloc: Global,
+    arena: &Arena,
+    held: &BTreeMap<u64, Held>,
+    p: u64,
+    regs: &List<(u8, u64)>,
+    mems: &List<u64>,
+) -> Result<Option<Held>, NoMemory>
+    requires held { AreFineAt arena.now held.now.entries }
+    requires regs { AreFineRegisters arena.now regs.now }
+    requires mems { AreFineMems arena.now mems.now }
+    ensures { IfOk result (λ o. MadeIf arena.now (λ t. IsSomeAnd (theorem_at arena.now held.now.entries p) (λ q. IsFramed q t × (further q.pre.regs t.pre.regs ≡ map (register_of arena.now) regs.now) × (rest_after q.pre.mems t.pre.mems ≡ map (mem_of arena.now) mems.now))) o) }
+{
+    match fine_theorem(arena, held, p) {
+        Some(q) => framed(alloc, arena, q, regs.as_slice(), mems.as_slice()),
+        None => Ok(None),
+    }
+}
+
+fn by_extend_code(
+    alloc: Global,
+    arena: &Arena,
+    held: &BTreeMap<u64, Held>,
+    p: u64,
+    code: &Code,
+) -> Result<Option<Held>, NoMemory>
+    requires held { AreFineAt arena.now held.now.entries }
+    requires code { IsOwnCode code.now.ranges }
+    ensures { IfOk result (λ o. MadeIf arena.now (λ t. IsSomeAnd (theorem_at arena.now held.now.entries p) (λ q. IsExtended q t × (t.code ≡ code.now.ranges))) o) }
+{
+    match fine_theorem(arena, held, p) {
+        Some(q) => extended(alloc, arena, q, code),
+        None => Ok(None),
+    }
+}
+
+fn by_compose(
+    alloc: Global,
+    arena: &Arena,
+    held: &BTreeMap<u64, Held>,
+    p: u64,
+    q: u64,
+) -> Result<Option<Held>, NoMemory>
+    requires held { AreFineAt arena.now held.now.entries }
+    ensures { IfOk result (λ o. MadeIf arena.now (λ t. IsSomeAnd (theorem_at arena.now held.now.entries p) (λ p. IsSomeAnd (theorem_at arena.now held.now.entries q) (λ q. IsComposed p q t))) o) }
+{
+    match fine_theorem(arena, held, p) {
+        Some(first) => composed_with(alloc, arena, held, first, q),
+        None => Ok(None),
+    }
+}
+
+fn composed_with(
+    alloc: Global,
+    arena: &Arena,
+    held: &BTreeMap<u64, Held>,
+    first: &Held,
+    q: u64,
+) -> Result<Option<Held>, NoMemory>
+    requires held { AreFineAt arena.now held.now.entries }
+    requires first { IsFineHeld arena.now first.now }
+    ensures { IfOk result (λ o. MadeIf arena.now (λ t. IsSomeAnd (theorem_at arena.now held.now.entries q) (λ q. IsComposed (triple_of arena.now first.now) q t)) o) }
+{
+    match fine_theorem(arena, held, q) {
+        Some(second) => composed(alloc, arena, first, second),
+        None => Ok(None),
+    }
+}
+
+fn by_strengthen<L: Ledger>(
+    alloc: Global,
+    arena: &Arena,
+    held: &BTreeMap<u64, Held>,
+    p: u64,
+    facts: &List<HeldFact>,
+    pre: &HeldSide,
+    steps: &mut Steps<L>,
+) -> Result<Option<Held>, NoMemory>
+    requires held { AreFineAt arena.now held.now.entries }
+    requires facts { AreFineFacts arena.now facts.now }
+    requires pre { IsFineSide arena.now pre.now }
+    ensures { IfOk result (λ o. MadeIf arena.now (λ t. IsSomeAnd (theorem_at arena.now held.now.entries p) (λ q. IsStrengthened q t × (t.facts ≡ map (fact_of arena.now) facts.now) × (t.pre ≡ side_of arena.now pre.now))) o) }
+{
+    match fine_theorem(arena, held, p) {
+        Some(q) => strengthened(alloc, arena, q, facts.as_slice(), pre, steps),
+        None => Ok(None),
+    }
+}
+
+fn by_weaken<L: Ledger>(
+    alloc: Global,
+    arena: &Arena,
+    held: &BTreeMap<u64, Held>,
+    p: u64,
+    facts: &List<HeldFact>,
+    post: &HeldSide,
+    steps: &mut Steps<L>,
+) -> Result<Option<Held>, NoMemory>
+    requires held { AreFineAt arena.now held.now.entries }
+    requires facts { AreFineFacts arena.now facts.now }
+    requires post { IsFineSide arena.now post.now }
+    ensures { IfOk result (λ o. MadeIf arena.now (λ t. IsSomeAnd (theorem_at arena.now held.now.entries p) (λ q. IsWeakened q t × (t.facts ≡ map (fact_of arena.now) facts.now) × (t.post ≡ side_of arena.now post.now))) o) }
+{
+    match fine_theorem(arena, held, p) {
+        Some(q) => weakened(alloc, arena, q, facts.as_slice(), post, steps),
+        None => Ok(None),
+    }
+}
+
+fn by_discharge<L: Ledger>(
+    alloc: Global,
+    arena: &Arena,
+    held: &BTreeMap<u64, Held>,
+    p: u64,
+    facts: &List<HeldFact>,
+    steps: &mut Steps<L>,
+) -> Result<Option<Held>, NoMemory>
+    requires held { AreFineAt arena.now held.now.entries }
+    requires facts { AreFineFacts arena.now facts.now }
+    ensures { IfOk result (λ o. MadeIf arena.now (λ t. IsSomeAnd (theorem_at arena.now held.now.entries p) (λ q. IsDischarged q t × (t.facts ≡ map (fact_of arena.now) facts.now))) o) }
+{
+    match fine_theorem(arena, held, p) {
+        Some(q) => discharged(alloc, arena, q, facts.as_slice(), steps),
+        None => Ok(None),
+    }
+}
