@@ -3,3 +3,4 @@ pub mod ChainLemmas
 pub mod TreeNodes
 pub mod TreeLemmas
 pub mod PutLemmas
+pub mod PutOrder

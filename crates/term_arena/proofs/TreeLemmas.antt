@@ -19,7 +19,7 @@ fold-trees : (ts : List Tree) (ns : List Node) → (rest : List Tree) × (fold w
 fold-trees ts [] = ([], sym (append-nil ts))
 fold-trees ts (n ∷ ns) = let h = fold-trees (with_tree ts n) ns in (tree_over ts n ∷ h.0, h.1 ∙ append_assoc ts (tree_over ts n ∷ []) h.0)
 
-trees-push : (ns : List Node) (n : Node) → trees_of (ns ++ n ∷ []) ≡ with_tree (trees_of ns) n
+pub trees-push : (ns : List Node) (n : Node) → trees_of (ns ++ n ∷ []) ≡ with_tree (trees_of ns) n
 unfolding trees_of
 trees-push ns n = fold-append with_tree [] ns (n ∷ [])
 

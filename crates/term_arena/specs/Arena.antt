@@ -1,5 +1,5 @@
 -- What the numbers of an arena stand for. A node's children have numbers below its own, so each tree is made of earlier ones.
-use Rattle.std.specs.Prelude.{◌≡◌, ℕ, ◌+◌, ◌<◌, List, [], ◌∷◌, ◌++◌, Option, Some, fold, length, slice_get, take}
+use Rattle.std.specs.Prelude.{◌≡◌, ◌⊎◌, ℕ, ◌+◌, ◌<◌, List, [], ◌∷◌, ◌++◌, Option, Some, fold, length, slice_get, take, Contains}
 use Rattle.word_terms.specs.Tree.{WordTree, MemTree, CondTree, Const, Var, Bin, Extend, Load, MemVar, Store, Compare, Neg, Inside}
 use Rattle.rv_words.specs.declared.comparison.Cmp.TheVariants.{Eq}
 use Rattle.term_arena.specs.declared.node.Node.{Node}
@@ -117,6 +117,29 @@ pub record Extends (ns ms : List Node) : Type 0 where
 pub data IsAdded (ns : List Node) (n : Node) (k : ℕ) (ms : List Node) : Type 0 where
   Was_there : slice_get ns k ≡ Some n → ms ≡ ns → IsAdded ns n k ms
   Is_next : k ≡ length ns → ms ≡ ns ++ n ∷ [] → IsAdded ns n k ms
+
+-- a term's subterms: children first, from left to right, and the term itself last
+abbrev mutual
+  pub word_subterms : WordTree → List Tree
+  word_subterms (Const n) = OfWord (Const n) ∷ []
+  word_subterms (Var i) = OfWord (Var i) ∷ []
+  word_subterms (Bin op a b) = word_subterms a ++ (word_subterms b ++ OfWord (Bin op a b) ∷ [])
+  word_subterms (Extend ext a) = word_subterms a ++ OfWord (Extend ext a) ∷ []
+  word_subterms (Load width m a) = mem_subterms m ++ (word_subterms a ++ OfWord (Load width m a) ∷ [])
+
+  pub mem_subterms : MemTree → List Tree
+  mem_subterms (MemVar i) = OfMem (MemVar i) ∷ []
+  mem_subterms (Store width m a v) = mem_subterms m ++ (word_subterms a ++ (word_subterms v ++ OfMem (Store width m a v) ∷ []))
+
+abbrev pub cond_subterms : CondTree → List Tree
+cond_subterms (Compare cmp a b) = word_subterms a ++ (word_subterms b ++ OfCond (Compare cmp a b) ∷ [])
+cond_subterms (Neg c) = cond_subterms c ++ OfCond (Neg c) ∷ []
+cond_subterms (Inside width m a) = mem_subterms m ++ (word_subterms a ++ OfCond (Inside width m a) ∷ [])
+
+-- terms were put in one after the other, each new one behind those that were there
+abbrev pub ArePutIn : List Tree → List Tree → List Tree → Type 0
+ArePutIn before [] after = after ≡ before
+ArePutIn before (x ∷ xs) after = (Contains before x × ArePutIn before xs after) ⊎ ((Contains before x → ⊥) × ArePutIn (before ++ x ∷ []) xs after)
 
 -- how many nodes a tree has
 abbrev mutual

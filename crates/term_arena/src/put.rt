@@ -3,7 +3,7 @@
 
 ghost use Rattle.std.specs.Prelude.{◌≡◌, ◌≤◌, ◌+◌, IfOk, Some as Just};
 ghost use Rattle.word_terms.specs.Tree.{cond_tree, mem_tree, word_tree};
-ghost use Rattle.term_arena.specs.Arena.{Extends, OfCond, OfMem, OfWord, cond_nodes, mem_nodes, tree_of, word_nodes};
+ghost use Rattle.term_arena.specs.Arena.{ArePutIn, Extends, OfCond, OfMem, OfWord, cond_nodes, cond_subterms, mem_nodes, mem_subterms, tree_of, trees_of, word_nodes, word_subterms};
 
 use crate::arena::Arena;
 use crate::node::Node;
@@ -18,6 +18,7 @@ impl Arena {
     pub fn put_word<L: Ledger>(&mut self, t: &Word, steps: &mut Steps<L>) -> Result<u64, NoMemory>
         ensures tree { IfOk result (λ k. tree_of self.new k ≡ Just (OfWord (word_tree t.now))) }
         ensures grows { Extends self.old self.new }
+        ensures order { IfOk result (λ _. ArePutIn (trees_of self.old) (word_subterms (word_tree t.now)) (trees_of self.new)) }
         ensures steps { steps.new ≤ steps.old + word_nodes (word_tree t.now) }
     {
         match t {
@@ -45,6 +46,7 @@ impl Arena {
     pub fn put_mem<L: Ledger>(&mut self, t: &Mem, steps: &mut Steps<L>) -> Result<u64, NoMemory>
         ensures tree { IfOk result (λ k. tree_of self.new k ≡ Just (OfMem (mem_tree t.now))) }
         ensures grows { Extends self.old self.new }
+        ensures order { IfOk result (λ _. ArePutIn (trees_of self.old) (mem_subterms (mem_tree t.now)) (trees_of self.new)) }
         ensures steps { steps.new ≤ steps.old + mem_nodes (mem_tree t.now) }
     {
         match t {
@@ -62,6 +64,7 @@ impl Arena {
     pub fn put_cond<L: Ledger>(&mut self, t: &Cond, steps: &mut Steps<L>) -> Result<u64, NoMemory>
         ensures tree { IfOk result (λ k. tree_of self.new k ≡ Just (OfCond (cond_tree t.now))) }
         ensures grows { Extends self.old self.new }
+        ensures order { IfOk result (λ _. ArePutIn (trees_of self.old) (cond_subterms (cond_tree t.now)) (trees_of self.new)) }
         ensures steps { steps.new ≤ steps.old + cond_nodes (cond_tree t.now) }
     {
         match t {
