@@ -12,5 +12,9 @@ mod read;
 pub use ahead::{begins_mem, begins_word};
 pub use laws::law_of_one_spelling;
 pub use lists::{read_mems, read_ranges, read_words};
+pub use name::{
+    name_of_comparison, name_of_extension, name_of_inside, name_of_load, name_of_operation,
+    name_of_store,
+};
 pub use put::{put_cond, put_mem, put_range, put_word};
 pub use read::{read_cond, read_mem, read_range, read_word, variable_of};
