@@ -8,7 +8,8 @@ use Rattle.mc_text.specs.declared.token.Before.TheVariants.{Start}
 use Rattle.proof_text.specs.Line.{LineTree, ProofTree}
 use Rattle.proof_text.specs.LineSpelling.{line_tokens_in}
 use Rattle.proof_text.specs.Proofs.{line_texts_in, proof_texts_in, text_of_proofs_in}
-use Rattle.proof_text.proofs.ProofParts.{proof-text-apart}
+use Rattle.proof_text.specs.LineGrammar.{whole_lines}
+use Rattle.proof_text.proofs.ProofParts.{proof-text-apart, whole-line}
 use Rattle.group_text.specs.Spelling.{end_tokens, group_tokens, title_tokens}
 use Rattle.group_text.specs.Version.{Version}
 
@@ -49,4 +50,4 @@ next_item v h xs i d old out new lt is more =
 
 -- the text by its parts
 pub text_parts : (v : Version) (ps : List ProofTree) → text_of_proofs_in v ps ≡ spell Start (title_tokens v) ++ (proof_texts_in v ps ++ spell Start end_tokens)
-text_parts v ps = proof-text-apart v ps
+text_parts v ps = proof-text-apart whole_lines v (whole-line v) ps

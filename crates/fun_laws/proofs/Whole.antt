@@ -15,8 +15,8 @@ use Rattle.mc_text.proofs.Tail.{bad-tail, bad-end}
 use Rattle.group_text.specs.inner.Rest.{GoesOn, is_done}
 use Rattle.group_text.proofs.Claims.{Read, Stopped}
 use Rattle.group_text.specs.declared.version.Version.{Version as Known}
-use Rattle.group_text.specs.declared.version.Version.TheVariants.{One, Three, Four}
-use Rattle.group_text.specs.Version.{Version, version_1, version_3, version_4, version_of}
+use Rattle.group_text.specs.declared.version.Version.TheVariants.{One, Two, Three, Four}
+use Rattle.group_text.specs.Version.{Version, version_1, version_2, version_3, version_4, version_of}
 use Rattle.group_text.proofs.HeadLaws.{le-true}
 use Rattle.fun_laws.specs.Limits.{IsCert, IsCertIn, cert_texts, cert_texts_in}
 use Rattle.fun_laws.specs.Spelling.{CertTree, cert_text, cert_tokens}
@@ -129,6 +129,7 @@ any-readable = record { some = omega arith; few = omega arith }
 
 pub readable : (k : Known) → IsReadable (version_of k)
 readable One = record { some = omega arith; few = omega arith }
+readable Two = record { some = omega arith; few = omega arith }
 readable Three = record { some = omega arith; few = omega arith }
 readable Four = record { some = omega arith; few = omega arith }
 
@@ -148,9 +149,9 @@ certs-once c d a b e =
 
 -- ---- texts that are none
 
--- a certificate of a group of version 3 is one of a group of version 1
-in-first : (c : CertTree) → IsCertIn version_3 c → IsCertIn version_1 c
-in-first c h = record { old = with-memories version_3 version_1 c.old h.old h.old.memories; steps = h.steps; result = h.result; some = h.some; few = h.few }
+-- a certificate of a group of a version with one memory at most is one of a group of version 1
+in-first : (v : Version) → v.most_mems ≤ 1 → (c : CertTree) → IsCertIn v c → IsCertIn version_1 c
+in-first v one c h = record { old = with-memories v version_1 c.old h.old (omega arith, omega (arith, h.old.memories.1, one)); steps = h.steps; result = h.result; some = h.some; few = h.few }
 
 module _ (text : List ℕ) where
   abbrev First : ℕ → Type 0
@@ -162,7 +163,8 @@ module _ (text : List ℕ) where
   either : (o : Option (List ℕ)) → IsSomeAnd o (Begins cert_texts) → IsSomeAnd o (Begins (cert_texts_in version_1)) ⊎ IsSomeAnd o (Begins (cert_texts_in version_4))
   either None h = absurd h
   either (Some w) (c, (One, h), more, e) = inl (c, h, more, e)
-  either (Some w) (c, (Three, h), more, e) = inl (c, in-first c h, more, e)
+  either (Some w) (c, (Two, h), more, e) = inl (c, in-first version_2 (omega arith) c h, more, e)
+  either (Some w) (c, (Three, h), more, e) = inl (c, in-first version_3 (omega arith) c h, more, e)
   either (Some w) (c, (Four, h), more, e) = inr (c, h, more, e)
 
   begins-one : (k : Known) (o : Option (List ℕ)) → IsSomeAnd o (Begins (cert_texts_in (version_of k))) → IsSomeAnd o (Begins cert_texts)
@@ -171,7 +173,8 @@ module _ (text : List ℕ) where
 
   none : (InGrammar (cert_texts_in version_1) text → ⊥) → (InGrammar (cert_texts_in version_4) text → ⊥) → InGrammar cert_texts text → ⊥
   none first second (c, (One, h), e) = first (c, h, e)
-  none first second (c, (Three, h), e) = first (c, in-first c h, e)
+  none first second (c, (Two, h), e) = first (c, in-first version_2 (omega arith) c h, e)
+  none first second (c, (Three, h), e) = first (c, in-first version_3 (omega arith) c h, e)
   none first second (c, (Four, h), e) = second (c, h, e)
 
   not-either : (n : ℕ) → (First n → ⊥) → (Second n → ⊥) → LinesBegin cert_texts text n → ⊥

@@ -2,7 +2,7 @@
 use Rattle.std.specs.Prelude.{ℕ, Bool, false, List, codes, Option, Some, None}
 use Rattle.std.specs.Str.{bytes_eq}
 use Rattle.group_text.specs.declared.version.Version.{Version as Known}
-use Rattle.group_text.specs.declared.version.Version.TheVariants.{One, Three, Four}
+use Rattle.group_text.specs.declared.version.Version.TheVariants.{One, Two, Three, Four}
 
 pub record Version : Type 0 where
   -- what follows `mcproof` in the first line
@@ -16,6 +16,9 @@ pub record Version : Type 0 where
 abbrev pub version_1 : Version
 version_1 = record { title = codes "1"; least_mems = 0; most_mems = 1; further = None }
 
+abbrev pub version_2 : Version
+version_2 = record { title = codes "2"; least_mems = 0; most_mems = 1; further = None }
+
 abbrev pub version_3 : Version
 version_3 = record { title = codes "3"; least_mems = 0; most_mems = 1; further = Some (codes "steer") }
 
@@ -25,6 +28,7 @@ version_4 = record { title = codes "4"; least_mems = 2; most_mems = 2; further =
 -- the versions that are read and written
 abbrev pub version_of : Known → Version
 version_of One = version_1
+version_of Two = version_2
 version_of Three = version_3
 version_of Four = version_4
 

@@ -8,6 +8,8 @@ ghost use Rattle.group_text.specs.inner.Reading.{has_mems};
 #[derive(Clone, Copy, Debug, PartialEq, Eq)]
 pub enum Version {
     One,
+    /// A table of terms stands behind the definitions of a group, and its lines leave out what can be computed.
+    Two,
     /// A line may state a triple by the rule `steer`: for functions that call others.
     Three,
     /// A line may state a triple by the rule `exchange`, and each group has two memories.
@@ -21,6 +23,7 @@ impl Version {
     {
         match self {
             Version::One => b"1",
+            Version::Two => b"2",
             Version::Three => b"3",
             Version::Four => b"4",
         }
@@ -32,6 +35,7 @@ impl Version {
     {
         match self {
             Version::One => 0,
+            Version::Two => 0,
             Version::Three => 0,
             Version::Four => 2,
         }
@@ -43,6 +47,7 @@ impl Version {
     {
         match self {
             Version::One => 1,
+            Version::Two => 1,
             Version::Three => 1,
             Version::Four => 2,
         }
@@ -61,6 +66,7 @@ impl Version {
     {
         match self {
             Version::One => false,
+            Version::Two => false,
             Version::Three => word == b"steer".as_slice(),
             Version::Four => word == b"exchange".as_slice(),
         }
@@ -72,6 +78,7 @@ impl Version {
     {
         match self {
             Version::One => b"",
+            Version::Two => b"",
             Version::Three => b"steer",
             Version::Four => b"exchange",
         }

@@ -14,7 +14,7 @@ use Rattle.tailrec_lang.specs.WellFormed.{IsWellFormed}
 use Rattle.tailrec_lang.specs.Eval.{Arguments, Outcome, Done, HasFewNeeds, eval}
 use Rattle.tailrec_lang.specs.Registers.{AreRegistersFrom}
 use Rattle.group_text.specs.declared.version.Version.{Version as Known}
-use Rattle.group_text.specs.declared.version.Version.TheVariants.{One, Three, Four}
+use Rattle.group_text.specs.declared.version.Version.TheVariants.{One, Two, Three, Four}
 use Rattle.group_text.specs.Version.{version_of}
 use Rattle.proof_text.specs.Line.{ProofTree}
 use Rattle.proof_text.specs.Proofs.{AreProofsIn, groups_of}
@@ -48,6 +48,7 @@ last-def g is n len = let same = length-map g.defs def_tree in (omega (arith, le
 -- a group that has a text has two memories at most
 pub two-memories : (g : GroupTree) → HasText g → g.mems ≤ 2
 two-memories g (One, is) = omega (arith, is.memories.1)
+two-memories g (Two, is) = omega (arith, is.memories.1)
 two-memories g (Three, is) = omega (arith, is.memories.1)
 two-memories g (Four, is) = is.memories.1
 

@@ -71,6 +71,7 @@ use Rattle.mcdec_words.proofs.CommandNames.{name_of, named-words, not-a-form, ot
 use Rattle.mc_text.proofs.FaultOnce.{bad-once}
 use Rattle.proof_text.proofs.Fronts.{fronts, text-front}
 use Rattle.proof_text.proofs.ProofTexts.{proofs-once}
+use Rattle.proof_text.proofs.WholeLaws.{lines_known}
 use Rattle.mcdec_commands.proofs.Groups.{groups-front, groups-more}
 use Rattle.mcdec_commands.proofs.Listed.{groups-fit, groups-left}
 use Rattle.mcdec_commands.proofs.OneListing.{all-told-once, err_is, none-refused, ok_err, ok_is, refused-once, stands-once}
@@ -190,7 +191,7 @@ module _ {A : Type 0} (unreadable : ℕ → A) (ill_formed : ℕ → ℕ → A) 
 
   bad-defs : (p : List ℕ) (a b : A) → BadDef ill_formed p a → BadDef ill_formed p b → a ≡ b
   bad-defs p a b (n, c, (ps, g, read, well, count, first), is) (m, d, (qs, h, read', well', count', first'), is') =
-      elim (fronts (named_version p) p (ps ++ bare g ∷ []) (qs ++ bare h ∷ []) read read') [
+      elim (fronts (lines_known (named_version p)) p (ps ++ bare g ∷ []) (qs ++ bare h ∷ []) read read') [
         | inl m ↦
             let f = groups-front (ps ++ bare g ∷ []) (qs ++ bare h ∷ []) m in
             let r = same-last (groups_of qs) (groups_of ps) f.0 h g (begin-alike ps qs g h f.0 f.1) d first' well in
@@ -211,7 +212,7 @@ module _ {A : Type 0} (unreadable : ℕ → A) (ill_formed : ℕ → ℕ → A) 
 
   def-or-good : (p : List ℕ) (a b : A) → BadDef ill_formed p a → GoodText Says p b → ⊥
   def-or-good p a b (n, c, (ps, g, read, well, count, first), is) (qs, text, fine, said) =
-      let f = groups-front qs (ps ++ bare g ∷ []) (text-front (named_version p) p qs (ps ++ bare g ∷ []) text.fit text.spelled read) in
+      let f = groups-front qs (ps ++ bare g ∷ []) (text-front (lines_known (named_version p)) p qs (ps ++ bare g ∷ []) text.fit text.spelled read) in
       not-front (groups_of ps) g c f.0 (groups_of qs) first (f.1 ∙ ap (λ (gs : List GroupTree). gs ++ f.0) (groups-more ps (bare g))) fine
 
   bad-or-good : (p : List ℕ) (a b : A) → BadText unreadable p a → GoodText Says p b → ⊥
@@ -227,7 +228,7 @@ module _ {A : Type 0} (unreadable : ℕ → A) (ill_formed : ℕ → ℕ → A) 
   text-once p a b once (inr (inr h)) (inl k) = absurd (bad-or-good p b a k h)
   text-once p a b once (inr (inr h)) (inr (inl k)) = absurd (def-or-good p b a k h)
   text-once p a b once (inr (inr (ps, text, fine, said))) (inr (inr (qs, other, well, says))) =
-      let same : ps ≡ qs = proofs-once (named_version p) ps qs text.fit other.fit (sym text.spelled ∙ other.spelled) in
+      let same : ps ≡ qs = proofs-once (lines_known (named_version p)) ps qs text.fit other.fit (sym text.spelled ∙ other.spelled) in
       says-once (groups_of qs) a b once (subst (λ (xs : List ProofTree). Says (groups_of xs) a) same said) says
 
 -- ---- files

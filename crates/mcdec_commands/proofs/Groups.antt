@@ -19,11 +19,12 @@ use Rattle.proof_text.specs.Answers.{NoItem, OnBad}
 use Rattle.group_text.specs.declared.read_error.TextFault.{TextFault}
 use Rattle.group_text.specs.declared.read_error.TextFault.TheVariants.{Bad, NoMemory}
 use Rattle.proof_text.proofs.TextItems.{items-opened, items-added}
+use Rattle.proof_text.proofs.WholeLaws.{lines_known}
 use Rattle.proof_text.proofs.Fronts.{fronts, front-read, few-read, given-read}
 use Rattle.mcdec_commands.specs.declared.eval.Refusal.{Refusal}
 use Rattle.mcdec_commands.specs.declared.eval.Refusal.TheVariants as refusal
 use Rattle.checker.specs.inner.Checking.{IsSameText}
-use Rattle.mcdec_commands.specs.EvalAnswer.{AreWellFormed, HasBadLineIn, first_named}
+use Rattle.mcdec_commands.specs.EvalAnswer.{AreWellFormed, HasBadLineIn, IsNamedIn, first_named}
 use Rattle.mcdec_commands.specs.inner.Search.{HasPassed, LineIs, LinesArePassed, Passing, NextIs, FindsIn, FoundSo, Searched}
 
 all-behind : (F : GroupTree → Type 0) (gs : List GroupTree) (g : GroupTree) → AllByRecursion F gs → F g → AllByRecursion F (gs ++ g ∷ [])
@@ -122,7 +123,7 @@ next-item (p ∷ ps) hs (Adds l) more e = (and_line p ps l, line-behind p ps l)
 
 all-well : (qs : List ProofTree) (r : Progress) → HasGiven qs r → NoItem qs r → AreWellFormed (groups_of qs)
     → (hs : List ProofTree) → AreReadIn (version_of r.version) r.text hs → AreWellFormed (groups_of hs)
-all-well qs r h none well hs read = elim (fronts r.version r.text qs hs (given-read r.version qs r h) read) [ inl m ↦ front m | inr m ↦ behind m.0 m.1 ]
+all-well qs r h none well hs read = elim (fronts (lines_known r.version) r.text qs hs (given-read (lines_known r.version) qs r h) read) [ inl m ↦ front m | inr m ↦ behind m.0 m.1 ]
   where
     front : BeginsWithItems qs hs → AreWellFormed (groups_of hs)
     front m = let f = groups-front qs hs m in all-front IsWellFormed (groups_of hs) f.0 (subst AreWellFormed f.1 well)
@@ -132,7 +133,7 @@ all-well qs r h none well hs read = elim (fronts r.version r.text qs hs (given-r
     behind (i ∷ more) e =
         let k = next-item qs hs i more e in
         let begins : items hs ≡ items k.0 ++ more = e ∙ sym (append_assoc (items qs) (i ∷ []) more) ∙ ap (λ (is : List ItemTree). is ++ more) (sym k.1) in
-        let a = front-read r.version r.text hs k.0 read (more, begins) in
+        let a = front-read (lines_known r.version) r.text hs k.0 read (more, begins) in
         let new : Progress = record { version = r.version; text = r.text; rest = a.0; place = newlines (passed_in (version_of r.version) k.0) } in
         absurd (none i k.0 new refl refl k.1 (record { fit = a.1.fit; text = a.1.text; place = refl; ended = a.1.ended }))
 
@@ -230,11 +231,19 @@ module _ (start : Progress) (name : List ℕ) (r : Progress) (count : ℕ) (foun
   stopped new refusal.NoFunction h = absurd h
   stopped new refusal.NoMemory h = tt
 
+  -- the text has ended: its first group of the name
+  pub ended : (new : Progress) (o : Option Group) → ((g : Group) → o ≡ Some g → ⊥) → NextIs count r new (Ok o)
+      → IsNamedIn (version_of start.version) start.text name (first_named name (groups_of s.proofs))
+  ended new None not h =
+      same-so (λ v t. IsNamedIn v t name (first_named name (groups_of s.proofs))) r start s.same
+      (record { proofs = s.proofs; spelled = record { fit = s.passed.given.fit; spelled = h s.proofs s.passed }; well_formed = s.well_formed; first = refl })
+  ended new (Some g) not h = absurd (not g refl)
+
   -- an item takes a byte
   no-more-than : count ≤ length start.text
   no-more-than =
       let n : length r.text ≡ length start.text = ap length s.same.0 in
-      omega (arith, few-read r.version r.text s.proofs (given-read r.version s.proofs r s.passed.given), few-proofs s.proofs, s.counted, n)
+      omega (arith, few-read (lines_known r.version) r.text s.proofs (given-read (lines_known r.version) s.proofs r s.passed.given), few-proofs s.proofs, s.counted, n)
     where
       few-proofs : (ps : List ProofTree) → length ps ≤ length (items ps)
       few-proofs [] = omega arith

@@ -23,7 +23,7 @@ use Rattle.group_text.specs.Limits.{AreGroupsIn}
 use Rattle.proof_text.specs.Proofs.{proof_tokens_in, text_of_proofs_in, AreProofsIn, groups_of}
 use Rattle.group_text.specs.Spelling.{line, number, address, exit_tokens, values_tokens, step_tokens, arm_count, body_tokens, arm_tokens, def_tokens, group_tokens, title_tokens, end_tokens, text_in}
 use Rattle.group_text.specs.declared.version.Version.{Version as Known}
-use Rattle.group_text.specs.declared.version.Version.TheVariants.{One, Three, Four}
+use Rattle.group_text.specs.declared.version.Version.TheVariants.{One, Two, Three, Four}
 use Rattle.group_text.specs.Version.{version_of}
 use Rattle.proof_text.proofs.LineTokens.{line-is-tokens}
 use Rattle.group_text.proofs.Real.{group-tokens, title-tokens}
@@ -242,6 +242,7 @@ rule-named (UseExit def exit) rest = refl
 further-named : (known : Known) → is_some (version_of known).further ≡ true → (p : ℕ) (rest : List Tok)
     → is_of_proof (spell Start (Atom (unwrap_or (version_of known).further []) ∷ Atom (decimal p) ∷ rest)) ≡ true
 further-named One some p rest = absurd (true≢false (sym some))
+further-named Two some p rest = absurd (true≢false (sym some))
 further-named Three some p rest = refl
 further-named Four some p rest = refl
 

@@ -3,7 +3,7 @@ use Rattle.std.specs.Prelude.{◌≡◌, ℕ, ◌<◌, ◌==◌, Bool, not, ◌&
 use Rattle.rv_decode.specs.declared.instruction.Instr.{Instr}
 use Rattle.instr_axioms.specs.Terms.{has_memory}
 use Rattle.group_text.specs.declared.version.Version.{Version as Known}
-use Rattle.group_text.specs.declared.version.Version.TheVariants.{One, Three, Four}
+use Rattle.group_text.specs.declared.version.Version.TheVariants.{One, Two, Three, Four}
 use Rattle.checker.specs.Instance.{FurtherRule, no_rule}
 use Rattle.further_rules.specs.Rules.{IsExchanged, IsSteered}
 use Rattle.code_parts.specs.declared.callee.Callee.{Callee}
@@ -12,6 +12,7 @@ use Rattle.code_parts.specs.Bodies.{Flow}
 -- version 1 has none, version 3 has `steer`, and version 4 `exchange`
 abbrev pub further_of : Known → FurtherRule
 further_of One = no_rule
+further_of Two = no_rule
 further_of Three = IsSteered
 further_of Four = IsExchanged
 

@@ -8,6 +8,7 @@ use Rattle.group_text.specs.declared.version.Version.TheVariants.{Four}
 use Rattle.proof_text.specs.Line.{ProofTree}
 use Rattle.proof_text.specs.Proofs.{AreProofsIn, groups_of}
 use Rattle.proof_text.proofs.ProofTexts.{proofs-once}
+use Rattle.proof_text.proofs.WholeLaws.{lines_known}
 use Rattle.further_rules.specs.Rules.{IsExchanged}
 use Rattle.further_rules.proofs.ExchangeLemmas.{valid_exchanged}
 use Rattle.checker.specs.declared.verdict.Verdict.{Verdict}
@@ -40,7 +41,7 @@ proofs-right file (p ∷ ps) fit each g (suc k, lt, e) = proofs-right file ps fi
 pub accepted-headline : (file text : List ℕ) (v : Verdict) → SaysBy IsExchanged version_4 file text v
     → IsAcceptance v → (ps : List ProofTree) → IsTextOfIn version_4 text ps → Headline file (groups_of ps)
 accepted-headline file text (verdict.Accepted functions lines) h is ps t =
-    let same : h.proofs ≡ ps = proofs-once Four h.proofs ps h.spelled.fit t.fit (sym h.spelled.spelled ∙ t.spelled) in
+    let same : h.proofs ≡ ps = proofs-once (lines_known Four) h.proofs ps h.spelled.fit t.fit (sym h.spelled.spelled ∙ t.spelled) in
     proofs-right file ps t.fit (subst (AllByRecursion (IsAcceptedBy IsExchanged file)) same h.accepted.each)
 accepted-headline file text (verdict.BadElf why) h is ps t = absurd is
 accepted-headline file text (verdict.BadText n) h is ps t = absurd is

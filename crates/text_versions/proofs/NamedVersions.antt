@@ -1,7 +1,7 @@
 -- What a verdict says in the version that a text names.
 use Rattle.std.proofs.Common.{◌≡◌, ℕ, List, ◌⊎◌, subst, sym, arith}
 use Rattle.group_text.specs.declared.version.Version.{Version as Known}
-use Rattle.group_text.specs.declared.version.Version.TheVariants.{One, Three, Four}
+use Rattle.group_text.specs.declared.version.Version.TheVariants.{One, Two, Three, Four}
 use Rattle.group_text.specs.Version.{version_of}
 use Rattle.proof_text.specs.Line.{ProofTree}
 use Rattle.proof_text.specs.Proofs.{groups_of}
@@ -38,5 +38,6 @@ accepted-named file text w = by (named_version text)
   where
     by : (k : Known) → SaysBy (further_of k) (version_of k) file text w → IsAcceptance w → (ps : List ProofTree) → IsTextOfIn (version_of k) text ps → Headline file (groups_of ps)
     by One says = accepted-headline no_rule no_rule-keeps One (omega arith) file text w says
+    by Two says = accepted-headline no_rule no_rule-keeps Two (omega arith) file text w says
     by Three says = accepted-headline IsSteered valid_steered Three (omega arith) file text w says
     by Four says = split-headline file text w says

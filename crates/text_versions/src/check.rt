@@ -4,7 +4,8 @@ ghost use Rattle.std.specs.Prelude.{◌≡◌, ◌⊎◌, ◌<◌, ◌^◌, ℕ,
 ghost use Rattle.elf_image.specs.Fault.{IsReadable};
 ghost use Rattle.elf_image.specs.Image.{image_of};
 ghost use Rattle.mc_shelf.specs.inner.OnlyReads.{OnlyReads};
-ghost use Rattle.group_text.specs.Version.{version_of};
+ghost use Rattle.group_text.specs.Version.{version_2, version_of};
+ghost use Rattle.checker.specs.Instance.{no_rule};
 ghost use Rattle.proof_text.specs.FirstProofs.{HasGiven};
 ghost use Rattle.proof_text.specs.Line.{ProofTree};
 ghost use Rattle.proof_text.specs.Proofs.{groups_of};
@@ -19,10 +20,10 @@ ghost use Rattle.text_versions.specs.Versions.{SaysOf, named_version};
 
 use crate::title::{held_version, named_version, pull_in};
 use call_link::{Steer, check_linked};
-use checker::{NoRule, Pulled, Verdict, check_bytes, check_pulled_by};
+use checker::{NoRule, Pulled, Verdict, check_by, check_bytes, check_pulled_by};
 use elf_image::Image;
 use mc_shelf::{LineFault, Lines, Shelf};
-use proof_text::{Pull, Version};
+use proof_text::{Pull, Reader, Version};
 use stack_split::{Exchange, check_split};
 use std::alloc::Global;
 
@@ -39,9 +40,20 @@ pub fn check_named(alloc: Global, elf: &[u8], proof: &[u8]) -> Verdict
 {
     match named_version(proof) {
         Version::One => check_bytes(alloc, elf, proof),
+        Version::Two => check_whole(alloc, elf, proof),
         Version::Three => check_linked(alloc, elf, proof),
         Version::Four => check_split(alloc, elf, proof),
     }
+}
+
+/// Checks a proof text that begins as version 2 does, with lines as those of version 1.
+fn check_whole(alloc: Global, elf: &[u8], proof: &[u8]) -> Verdict
+    ensures verdict { SaysBy no_rule version_2 elf.now proof.now result }
+    ensures headline { IsAcceptance result → (ps : Items ProofTree) → IsTextOfIn version_2 proof.now ps → Headline elf.now (groups_of ps) }
+    ensures exact { (v : VerdictOf) → SaysBy no_rule version_2 elf.now proof.now v → (result ≡ v) ⊎ (v ≡ Verdict.NoMemory) ⊎ (result ≡ Verdict.NoMemory) }
+{
+    let mut reader = Reader::of_version(proof, Version::Two);
+    check_by(alloc, elf, &mut reader, &NoRule)
 }
 
 /// Checks the text of a file that is read line by line, for an ELF file that was read, with the further rule of that version.
@@ -62,6 +74,7 @@ fn check_in<S: Shelf>(
 {
     match version {
         Version::One => check_pulled_by(alloc, image, pull, shelf, &NoRule),
+        Version::Two => check_pulled_by(alloc, image, pull, shelf, &NoRule),
         Version::Three => check_pulled_by(alloc, image, pull, shelf, &Steer),
         Version::Four => check_pulled_by(alloc, image, pull, shelf, &Exchange),
     }

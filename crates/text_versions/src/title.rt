@@ -33,11 +33,7 @@ pub fn reader_of(text: &[u8]) -> Reader<'_>
     ensures version { result.version ≡ named_version text.now }
     ensures given { HasGiven [] result }
 {
-    match named_version(text) {
-        Version::One => Reader::new(text),
-        Version::Three => Reader::newer(text, 3),
-        Version::Four => Reader::newer(text, 4),
-    }
+    Reader::of_version(text, named_version(text))
 }
 
 /// How many bytes of a text are read for its version.
@@ -79,9 +75,5 @@ pub(crate) fn pull_in<'s>(lines: Lines<'s>, version: Version) -> Pull<'s>
     ensures left { left_of result ≤ lines.entry.size }
     ensures given { (file : Items ℕ) → HasGiven [] (progress_in result file) }
 {
-    match version {
-        Version::One => Pull::new(lines),
-        Version::Three => Pull::newer(lines, 3),
-        Version::Four => Pull::newer(lines, 4),
-    }
+    Pull::of_version(lines, version)
 }

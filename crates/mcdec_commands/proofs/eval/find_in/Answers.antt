@@ -1,8 +1,10 @@
 use Rattle.std.proofs.Common.{arith, subst, Option, Ok}
 use Rattle.tailrec_lang.specs.declared.group.Group.{Group}
 use Rattle.group_text.specs.Version.{version_of}
-use Rattle.mcdec_commands.specs.inner.Search.{NextIs}
-use Rattle.mcdec_commands.proofs.Groups.{stopped, count-fits, more, found-exit}
+use Rattle.proof_text.specs.Proofs.{groups_of}
+use Rattle.mcdec_commands.specs.EvalAnswer.{IsNamedIn}
+use Rattle.mcdec_commands.specs.inner.Search.{FoundSo, NextIs}
+use Rattle.mcdec_commands.proofs.Groups.{stopped, ended, count-fits, more, found-exit}
 use Rattle.mcdec_commands.proofs.eval.find_in.Goals as goal
 
 pub returns-in_err-g : goal.returns-in_err-g
@@ -24,3 +26,17 @@ pub loop-found-smaller : goal.loop-found-smaller
 loop-found-smaller c =
     let next = subst (λ (o : Option Group). NextIs c.loop-found.count c.loop-found.reader c.next_group.new.reader (Ok o)) c.in-Some.is c.in_ok-g.ensures in
     omega (arith, next.1)
+
+pub returns-in-Some-found : goal.returns-in-Some-found
+returns-in-Some-found c =
+    let so = subst (FoundSo c.args.name.now (groups_of c.loop-found.invariant.proofs)) c.in-Some-found.is c.loop-found.invariant.so in (
+      subst (IsNamedIn (version_of c.args.reader.now.version) c.args.reader.now.text c.args.name.now) so.0
+          (ended c.args.reader.now c.args.name.now c.loop-found.reader c.loop-found.count c.loop-found.found c.loop-found.invariant c.next_group.new.reader c.in_ok-g.field-0 c.in_default.not-Some c.in_ok-g.ensures),
+      so.1,
+    )
+
+pub returns-in-None : goal.returns-in-None
+returns-in-None c =
+    let so = subst (FoundSo c.args.name.now (groups_of c.loop-found.invariant.proofs)) c.in-None.is c.loop-found.invariant.so in
+    subst (IsNamedIn (version_of c.args.reader.now.version) c.args.reader.now.text c.args.name.now) so
+    (ended c.args.reader.now c.args.name.now c.loop-found.reader c.loop-found.count c.loop-found.found c.loop-found.invariant c.next_group.new.reader c.in_ok-g.field-0 c.in_default.not-Some c.in_ok-g.ensures)

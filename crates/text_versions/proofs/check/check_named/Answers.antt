@@ -11,6 +11,15 @@ returns-in-One-clause-headline c = headline-in _ c.args.elf.now c.args.proof.now
 pub returns-in-One-clause-exact : goal.returns-in-One-clause-exact
 returns-in-One-clause-exact c = exact-in _ c.args.elf.now c.args.proof.now c.check_bytes.result (sym c.in-One.is ∙ c.named_version.ensures) c.check_bytes.ensures.exact
 
+pub returns-in-Two-clause-verdict : goal.returns-in-Two-clause-verdict
+returns-in-Two-clause-verdict c = verdict-in _ c.args.elf.now c.args.proof.now c.check_whole.result (sym c.in-Two.is ∙ c.named_version.ensures) c.check_whole.ensures.verdict
+
+pub returns-in-Two-clause-headline : goal.returns-in-Two-clause-headline
+returns-in-Two-clause-headline c = headline-in _ c.args.elf.now c.args.proof.now c.check_whole.result (sym c.in-Two.is ∙ c.named_version.ensures) c.check_whole.ensures.headline
+
+pub returns-in-Two-clause-exact : goal.returns-in-Two-clause-exact
+returns-in-Two-clause-exact c = exact-in _ c.args.elf.now c.args.proof.now c.check_whole.result (sym c.in-Two.is ∙ c.named_version.ensures) c.check_whole.ensures.exact
+
 pub returns-in-Three-clause-verdict : goal.returns-in-Three-clause-verdict
 returns-in-Three-clause-verdict c = verdict-in _ c.args.elf.now c.args.proof.now c.check_linked.result (sym c.in-Three.is ∙ c.named_version.ensures) c.check_linked.ensures.verdict
 
