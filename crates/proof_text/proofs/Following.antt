@@ -16,7 +16,7 @@ use Rattle.mc_text.proofs.Tail.{first-before}
 use Rattle.proof_text.specs.FirstProofs.{Follows, ProofEnds}
 use Rattle.group_text.specs.inner.Reading.{is_def}
 use Rattle.group_text.proofs.Cuts.{same-some}
-use Rattle.proof_text.specs.inner.LineReading.{ends_proof}
+use Rattle.proof_text.specs.inner.LineReaders.{ends_proof}
 
 -- ---- whether a definition follows
 

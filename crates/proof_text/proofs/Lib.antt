@@ -7,6 +7,8 @@ pub mod TripleLaws
 pub mod RuleLaws
 pub mod LineLaws
 pub mod LineTokens
+pub mod KnownLines
+pub mod WholeLaws
 pub mod ProofTexts
 pub mod TextItems
 pub mod Resumed
@@ -23,3 +25,4 @@ pub mod PullCalls
 pub mod PullAnswers
 pub mod PullEffects
 pub mod SourceAnswers
+pub mod WholeAnswers

@@ -1,5 +1,5 @@
 -- A line of a proof is read as it is spelled.
-use Rattle.std.proofs.Common.{◌≡◌, ℕ, ◌<◌, true, true≢false, Option, Some, None, is_some, List, [], ◌∷◌, ◌++◌, codes, refl, sym, ap, subst, ◌∙◌, arith, append_assoc, inl, inr, ◌⊎◌}
+use Rattle.std.proofs.Common.{◌≡◌, ℕ, ◌<◌, true, true≢false, Option, Some, None, is_some, List, [], ◌∷◌, ◌++◌, codes, refl, sym, ap, subst, ◌∙◌, append_assoc, inl, inr, ◌⊎◌}
 use Rattle.std.specs.Fmt.{decimal}
 use Rattle.std.specs.List.{AllByRecursion, flat_map}
 use Rattle.mc_text.specs.Number.{IsWord as IsNumber}
@@ -9,7 +9,6 @@ use Rattle.mc_text.specs.inner.Reading.{eol, keyed}
 use Rattle.mc_text.proofs.ReaderLaws.{Reads, IsElse, Reads-pair}
 use Rattle.mc_text.proofs.Inline.{reads-list}
 use Rattle.mc_text.proofs.Choices.{reads-as}
-use Rattle.mc_text.proofs.Covers.{Covers, row-covers}
 use Rattle.mc_text.proofs.Shown.{Always}
 use Rattle.rv_words.specs.declared.range.Range.{Range}
 use Rattle.triple_kernel.specs.Tree.{TripleTree}
@@ -23,7 +22,6 @@ use Rattle.proof_text.specs.inner.LineReading.{index_at, theorem_at, cited_at, t
 use Rattle.group_text.proofs.StepLaws.{atom-flat, eol-law}
 use Rattle.group_text.proofs.HeadLaws.{IsCode}
 use Rattle.std.specs.Prelude.{unwrap_or}
-use Rattle.proof_text.proofs.ProofParts.{whole-line}
 use Rattle.group_text.specs.Version.{is_word_of, is_further}
 use Rattle.proof_text.proofs.FurtherWords.{word-apart, word-not-loop, word-not-forget, where-none, where-word}
 use Rattle.proof_text.proofs.Keyed.{Image, reads-image, reads-keyed}
@@ -262,7 +260,3 @@ module _ (known : Known) where
         (reads-keyed (codes "loop") loop_at kept_at (Image loop FitLoop) IsKeptOr line_rest own_line loop-law kept-law
         (λ l f. subst (λ (x : LineTree). own_line x ≡ Atom (codes "loop") ∷ line_rest x) f.1 refl) kept-not-loop)
         any-up any-down
-
-    -- .. and where reading stops, the lines before can be completed
-    pub line-cover : Covers (line_at (version_of known) own) (IsLineIn (version_of known)) own_line
-    line-cover = row-covers (line_at (version_of known) own) (IsLineIn (version_of known)) own_line line-law (λ l h. whole-line (version_of known) own l) (Forget 0) (omega arith)

@@ -15,13 +15,12 @@ use Rattle.sep_assert.specs.Tree.{AssertionTree}
 use Rattle.triple_kernel.specs.Tree.{FactTree, WordIs, MemIs, So, Gives, TripleTree}
 use Rattle.triple_kernel.specs.declared.form.Form.{Form}
 use Rattle.triple_kernel.specs.declared.form.Form.TheVariants.{Next, Taken}
-use Rattle.proof_text.specs.Line.{RuleTree, Axiom, Inst, Frame, Compose, ExtendCode, Strengthen, Weaken, Discharge, UseExit, LineTree, States, Loop, Forget, Further, ProofTree}
-use Rattle.group_text.specs.Spelling.{number, values_tokens, group_tokens, title_tokens, end_tokens}
+use Rattle.proof_text.specs.Line.{RuleTree, Axiom, Inst, Frame, Compose, ExtendCode, Strengthen, Weaken, Discharge, UseExit, LineTree, States, Loop, Forget, Further}
+use Rattle.group_text.specs.Spelling.{number, values_tokens}
 use Rattle.proof_text.specs.LineSpelling.{fact_tokens, register_tokens, assertion_tokens, same_ranges, code_tokens, triple_tokens, form_tokens, word_sub_tokens, mem_sub_tokens, rule_tokens, line_tokens_in}
 use Rattle.proof_text.specs.LineLimits.{IsFact, IsAssertion, IsTriple, AreRisingFrom, IsRule, IsLineIn}
-use Rattle.proof_text.specs.Proofs.{proof_tokens_in, IsProofIn, AreProofsIn}
 use Rattle.group_text.proofs.HeadLaws.{IsCode}
-use Rattle.group_text.proofs.Real.{eol-tokens, values-tokens, ranges-tokens, group-tokens, title-tokens}
+use Rattle.group_text.proofs.Real.{eol-tokens, values-tokens, ranges-tokens}
 use Rattle.std.specs.Prelude.{unwrap_or}
 use Rattle.proof_text.proofs.FurtherWords.{word-is-atom}
 use Rattle.proof_text.proofs.TripleLaws.{IsRegister, registers-of, registers-small}
@@ -146,11 +145,3 @@ module _ (known : Known) where
       there : (o : Option (List ℕ)) → (version_of known).further ≡ o → is_some o ≡ true → IsAtom (unwrap_or (version_of known).further [])
       there None e some = absurd (true≢false (sym some))
       there (Some w) e some = subst (λ (o : Option (List ℕ)). IsAtom (unwrap_or o [])) (sym e) (word-is-atom known w e)
-
-  proof-is-tokens : (p : ProofTree) → IsProofIn (version_of known) p → AreTokens (proof_tokens_in (version_of known) p)
-  proof-is-tokens p h = tokens-append (group_tokens p.group) (flat_map (line_tokens_in (version_of known) p.group.code) p.lines) (group-tokens known p.group h.group) (tokens-each (line_tokens_in (version_of known) p.group.code) (IsLineIn (version_of known)) (line-is-tokens p.group.code) p.lines h.lines)
-
-  pub proofs-tokens : (ps : List ProofTree) → AreProofsIn (version_of known) ps → AreTokens (title_tokens (version_of known) ++ (flat_map (proof_tokens_in (version_of known)) ps ++ end_tokens))
-  proofs-tokens ps h =
-      tokens-append (title_tokens (version_of known)) (flat_map (proof_tokens_in (version_of known)) ps ++ end_tokens) (title-tokens known)
-      (tokens-append (flat_map (proof_tokens_in (version_of known)) ps) end_tokens (tokens-each (proof_tokens_in (version_of known)) (IsProofIn (version_of known)) proof-is-tokens ps h) (word-atom (codes "end") refl, (tt, tt)))

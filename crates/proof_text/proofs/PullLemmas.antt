@@ -9,8 +9,6 @@ use Rattle.mc_text.specs.Fault.{newlines}
 use Rattle.mc_shelf.specs.Shelf.{Contents}
 use Rattle.rv_words.specs.declared.range.Range.{Range}
 use Rattle.tailrec_lang.specs.Tree.{GroupTree}
-use Rattle.group_text.specs.declared.version.Version.{Version as Known}
-use Rattle.group_text.specs.Version.{version_of}
 use Rattle.group_text.specs.Limits.{IsGroupIn}
 use Rattle.group_text.specs.inner.Cut.{AreWholeLines}
 use Rattle.group_text.specs.inner.Reading.{turn_at}
@@ -20,11 +18,10 @@ use Rattle.group_text.proofs.Cuts.{are-lines, cut, whole-lines}
 use Rattle.group_text.proofs.Claims.{bytes-left, tail-left}
 use Rattle.group_text.proofs.HeadLaws.{IsCode}
 use Rattle.group_text.proofs.Joins.{AllOk, AllBad}
-use Rattle.proof_text.specs.Line.{LineTree}
-use Rattle.proof_text.specs.LineLimits.{IsLineIn}
-use Rattle.proof_text.specs.inner.LineReading.{turn_of}
+use Rattle.proof_text.specs.inner.LineReaders.{KnownTexts}
 use Rattle.proof_text.specs.inner.PulledRows.{PulledState, IsToldPlace, IsPossiblePlace, IsPlaceInName, IsPlaceIn, IsPulledPlace, WhereHeld, after_newlines, not_passed}
 use Rattle.proof_text.specs.inner.Pulling.{ReadFrom, StoppedAt}
+use Rattle.proof_text.proofs.KnownLines.{version, Line, Are, Fits, turn}
 use Rattle.proof_text.proofs.Drawn.{after_lines, after_none}
 use Rattle.proof_text.proofs.Passed.{turn-takes}
 use Rattle.proof_text.proofs.Resumed.{line-takes}
@@ -126,11 +123,11 @@ module _ (told now : Option Contents) (old new : PulledState) (kept : now ≡ to
       let k = all q.0 (record { going = going; taken = q.1; in_file = q.2 }) in
       (tokens k.spot, tokens q.0, k.is)
 
-  pub group_within : (known : Known) (first : Bool) (g : GroupTree) → AllOk (turn_at (version_of known) first) (Some g) Old New → IsGroupIn (version_of known) g
-  group_within known first g all = let s = some_read (turn_at (version_of known) first) (Some g) all in (turn-takes known first s.0 g s.1 s.2).fits
+  pub group_within : (known : KnownTexts) (first : Bool) (g : GroupTree) → AllOk (turn_at (version known) first) (Some g) Old New → IsGroupIn (version known) g
+  group_within known first g all = let s = some_read (turn_at (version known) first) (Some g) all in (turn-takes known first s.0 g s.1 s.2).fits
 
-  pub line_within : (known : Known) (own : List Range) → IsCode own → (l : LineTree) → AllOk (turn_of (version_of known) own) (Some l) Old New → IsLineIn (version_of known) l
-  line_within known own code l all = let s = some_read (turn_of (version_of known) own) (Some l) all in (line-takes known own code s.0 l s.1 s.2).fits
+  pub line_within : (known : KnownTexts) (own : List Range) → IsCode own → (before : List (Line known)) → Are known before → (l : Line known) → AllOk (turn known own before) (Some l) Old New → Fits known before l
+  line_within known own code before are l all = let s = some_read (turn known own before) (Some l) all in (line-takes known own code before are s.0 l s.1 s.2).fits
 
 -- ---- behind the last group
 

@@ -1,34 +1,25 @@
 -- Reading goes on behind groups and lines that were read, one call for each.
-use Rattle.std.proofs.Common.{◌≡◌, ℕ, suc, ◌≤◌, Bool, true, false, true≢false, cond, List, [], ◌∷◌, ◌++◌, length, codes, Option, Some, None, Ok, Err, refl, sym, ap, subst, ◌∙◌, arith, append_assoc, length-append, inl, inr}
-use Rattle.std.specs.Prelude.{◌&&◌, ◌||◌, not}
+use Rattle.std.proofs.Common.{◌≡◌, ℕ, zero, suc, ◌≤◌, Bool, true, false, true≢false, cond, List, [], ◌∷◌, ◌++◌, length, codes, Option, Some, None, Ok, Err, refl, sym, ap, subst, ◌∙◌, arith, append_assoc, length-append, inl, inr}
+use Rattle.std.specs.Prelude.{◌||◌}
 use Rattle.std.specs.List.{AllByRecursion, flat_map}
 use Rattle.std.specs.Str.{bytes_eq}
 use Rattle.std.proofs.lemmas.Slice.Eq.{bytes_eq-Decides}
 use Rattle.mc_text.specs.Tokens.{Tok, Left, Right, Semi, Atom, Eol, Done, Stuck}
-use Rattle.mc_text.specs.Reading.{Reader, ◌>>=◌, pair, with, made, many, one, goes_on, refused}
-use Rattle.mc_text.specs.inner.Reading.{eol, keyed, with_prefix}
+use Rattle.mc_text.specs.Reading.{Reader, ◌>>=◌, pair, with, made, many, goes_on, refused}
+use Rattle.mc_text.specs.inner.Reading.{eol, keyed}
 use Rattle.mc_text.proofs.ReaderLaws.{Out, ok-rest, ok-value, err-is, IsElse, keyed-cases, keyed-hit, keyed-miss}
-use Rattle.mc_text.proofs.Star.{star-more, star-fails}
 use Rattle.mc_text.proofs.Turns.{many-one, many-stop, many-none}
-use Rattle.mc_text.proofs.Fuel.{pair-alike}
 use Rattle.rv_words.specs.declared.range.Range.{Range}
 use Rattle.tailrec_lang.specs.Tree.{DefTree, GroupTree}
 use Rattle.group_text.specs.Limits.{def_limit, IsDef, IsGroupIn}
-use Rattle.proof_text.specs.Line.{LineTree, ProofTree}
-use Rattle.proof_text.specs.LineLimits.{IsLineIn}
-use Rattle.proof_text.specs.LineSpelling.{line_tokens_in}
 use Rattle.group_text.specs.Spelling.{def_tokens, group_tokens}
 use Rattle.group_text.specs.inner.Reading.{Head, def_at, is_def, are_some, own_defs, head_at, group_of, group_at, next_at}
-use Rattle.proof_text.specs.inner.LineReading.{more_defs, defs_at, line_at, rule_at, rule_head_of, begins_line, ends_proof, lines_at, turn_of, proof_of, proofs_at, all_proofs}
-use Rattle.group_text.proofs.HeadLaws.{true-le}
+use Rattle.group_text.proofs.HeadLaws.{IsCode, true-le}
 use Rattle.group_text.proofs.OwnDefs.{Defs, good, bad, guard, judge, sent, many-again, own-takes, own-again, def-refuses}
-use Rattle.group_text.proofs.HeadLaws.{IsCode}
 use Rattle.group_text.proofs.Texts.{HeadFits, head_of, head-fits, lines_of_head, head-cover, def-cover, def-begins, group_row, group-split}
-use Rattle.proof_text.proofs.FurtherWords.{def-not-further}
-use Rattle.proof_text.proofs.LineLaws.{line-law}
-use Rattle.proof_text.proofs.ProofTexts.{Tail, tail_at, behind_at, proof_reader, end_row, enough-proofs, line-shrinks, line-begins, lines-no-longer}
-use Rattle.group_text.specs.declared.version.Version.{Version as Known}
-use Rattle.group_text.specs.Version.{version_of}
+use Rattle.proof_text.specs.inner.LineReaders.{KnownTexts, ends_proof, more_defs, defs_at, behind_head, group_first, line_first, nothing_more, end_or_group, tail_at}
+use Rattle.proof_text.proofs.KnownLines.{version, Line, Tail, line_tokens, Are, Fits, line_at, turn, tail_from, all}
+use Rattle.proof_text.proofs.ProofTexts.{no-end, no-group, group_reader, line_reader, enough}
 
 -- ---- a reader's parts
 
@@ -75,9 +66,6 @@ with-bad {X} {Y} {Z} a b c ts bad h e = by (a ts) e
 
 -- ---- where one group stops, all proofs stop
 
-abbrev pub Proofs : Type 0
-Proofs = Out (List ProofTree)
-
 abbrev joined : DefTree → Defs → Defs
 joined d q = ◌>>=◌ {A = List DefTree × List Tok} {B = List DefTree × List Tok} q (λ xs. Ok (d ∷ xs.0, xs.1))
 
@@ -122,36 +110,37 @@ module _ {Z : Type 0} (R : Reader Z) (refuse : (us : List Tok) → goes_on is_de
           let same : ts ≡ us = err-is {Y = List DefTree} ts us (sym (ap (λ (q : Defs). judge (guard q)) (many-none is_def def_at def_limit ts g) ∙ sent [] ts false false g refl) ∙ h) in
           rw (def-refuses ts g) (ap (λ (v : List Tok). Err v) same)
 
-module _ (known : Known) where
-  -- no line begins as a definition does
-  def-no-line : (own : List Range) (us : List Tok) → line_at (version_of known) own (Atom (codes "def") ∷ us) ≡ Err (Atom (codes "def") ∷ us)
-  unfolding line_at rule_at rule_head_of one
-  def-no-line own us = rw (def-not-further known) refl
+module _ (known : KnownTexts) where
+  -- nothing behind a group's definitions begins as a definition does
+  refuse-word : (n : ℕ) (own : List Range) (us : List Tok) → tail_from known n own [] (Atom (codes "def") ∷ us) ≡ Err (Atom (codes "def") ∷ us)
+  unfolding tail_at
+  refuse-word zero own us = refl
+  refuse-word (suc n) own us = rw (known.laws.refuses_def own [] us) refl
 
-  refuse-word : (own : List Range) (n : ℕ) (us : List Tok) → pair (lines_at (version_of known) own) (proofs_at (version_of known) n) (Atom (codes "def") ∷ us) ≡ Err (Atom (codes "def") ∷ us)
-  refuse-word own n us = rw (many-stop begins_line (line_at (version_of known) own) (length us) (Atom (codes "def") ∷ us) (Atom (codes "def") ∷ us) refl (def-no-line own us)) refl
+  refuse-def : (n : ℕ) (own : List Range) (us : List Tok) → goes_on is_def us ≡ true → tail_from known n own [] us ≡ Err us
+  refuse-def n own [] e = absurd cc
+  refuse-def n own (Atom a ∷ us) e = let same : a ≡ codes "def" = (bytes_eq-Decides a (codes "def")).0 e in rw same (refuse-word n own us)
+  refuse-def n own (Left ∷ us) e = absurd cc
+  refuse-def n own (Right ∷ us) e = absurd cc
+  refuse-def n own (Semi ∷ us) e = absurd cc
+  refuse-def n own (Eol ∷ us) e = absurd cc
+  refuse-def n own (Done ∷ us) e = absurd cc
+  refuse-def n own (Stuck ∷ us) e = absurd cc
 
-  refuse-def : (own : List Range) (n : ℕ) (us : List Tok) → goes_on is_def us ≡ true → pair (lines_at (version_of known) own) (proofs_at (version_of known) n) us ≡ Err us
-  refuse-def own n [] e = absurd cc
-  refuse-def own n (Atom a ∷ us) e = let same : a ≡ codes "def" = (bytes_eq-Decides a (codes "def")).0 e in rw same (refuse-word own n us)
-  refuse-def own n (Left ∷ us) e = absurd cc
-  refuse-def own n (Right ∷ us) e = absurd cc
-  refuse-def own n (Semi ∷ us) e = absurd cc
-  refuse-def own n (Eol ∷ us) e = absurd cc
-  refuse-def own n (Done ∷ us) e = absurd cc
-  refuse-def own n (Stuck ∷ us) e = absurd cc
+  abbrev tail_code : ℕ → List Range → Reader (Tail known)
+  tail_code n own = tail_from known n own []
 
-  group-stops : (n : ℕ) (ts us : List Tok) → group_at (version_of known) ts ≡ Err us → proof_reader known n ts ≡ Err us
+  group-stops : (n : ℕ) (ts us : List Tok) → group_at (version known) ts ≡ Err us → group_reader known n ts ≡ Err us
   unfolding group_at
   group-stops n ts us h =
-      let parts : pair (head_at (version_of known)) own_defs ts ≡ Err us = made-bad {X = Head × List DefTree} {Y = GroupTree} (λ x. group_of x.0 x.1) (pair (head_at (version_of known)) own_defs ts) us h in
-      rw (with-bad (head_at (version_of known)) (λ x. behind_at known x n) own_defs ts us (λ x vs bad. own-stops (tail_at known x n) (refuse-def x.code n) vs bad) parts) refl
+      let parts : pair (head_at (version known)) own_defs ts ≡ Err us = made-bad {X = Head × List DefTree} {Y = GroupTree} (λ x. group_of x.0 x.1) (pair (head_at (version known)) own_defs ts) us h in
+      rw (with-bad (head_at (version known)) (λ x. behind_head (tail_code n x.code)) own_defs ts us (λ x vs bad. own-stops (tail_code n x.code) (refuse-def n x.code) vs bad) parts) refl
 
   abbrev some_group : Reader (Option GroupTree)
-  some_group = made Some (group_at (version_of known))
+  some_group = made Some (group_at (version known))
 
-  abbrev no_group : Reader (Option GroupTree)
-  no_group = made (λ (_ : Unit {0}). None) eol
+  abbrev no_next : Reader (Option GroupTree)
+  no_next = made (λ (_ : Unit {0}). None) eol
 
   abbrev group_key : Reader (Option GroupTree)
   group_key = keyed (codes "group") some_group refused
@@ -167,34 +156,26 @@ module _ (known : Known) where
   else-alike k r other q more (Done ∷ ts) h = tt
   else-alike k r other q more (Stuck ∷ ts) h = tt
 
-  abbrev proofs_key : ℕ → Reader (List ProofTree)
-  proofs_key n = keyed (codes "group") (proof_reader known n) refused
+  abbrev nothing : Reader (Tail known)
+  nothing = nothing_more
 
-  as-keys : (n : ℕ) (ts : List Tok) → proofs_at (version_of known) (suc n) ts ≡ keyed (codes "end") end_row (proofs_key n) ts
-  unfolding proofs_at
-  as-keys n ts = refl
+  abbrev first_key : ℕ → Reader (Tail known)
+  first_key n = keyed (codes "group") (group_reader known n) refused
 
-  more-proofs : (n : ℕ) (ts : List Tok) → length ts ≤ n → all_proofs (version_of known) ts ≡ proofs_at (version_of known) n ts
-  more-proofs n ts le = enough-proofs known (length ts) n ts (omega arith) le
-
-  in-keys : (ts : List Tok) → all_proofs (version_of known) ts ≡ keyed (codes "end") end_row (proofs_key (length ts)) ts
-  in-keys ts = more-proofs (suc (length ts)) ts (omega arith) ∙ as-keys (length ts) ts
-
-  key-stops : (n : ℕ) (ts us : List Tok) → group_key ts ≡ Err us → proofs_key n ts ≡ Err us
+  key-stops : (n : ℕ) (ts us : List Tok) → group_key ts ≡ Err us → first_key n ts ≡ Err us
   key-stops n ts us h =
       elim (keyed-cases (codes "group") some_group refused ts (Err us) h) [
-        | inl k ↦ ap (proofs_key n) k.1 ∙ keyed-hit (codes "group") (proof_reader known n) refused k.0 ∙ group-stops n k.0 us (made-bad {X = GroupTree} {Y = Option GroupTree} Some (group_at (version_of known) k.0) us k.2)
-        | inr k ↦ keyed-miss (codes "group") (proof_reader known n) refused ts (else-alike (codes "group") some_group refused (proof_reader known n) refused ts k.0) ∙ ap (λ (v : List Tok). Err v) (err-is {Y = Option GroupTree} ts us k.1)
+        | inl k ↦ ap (first_key n) k.1 ∙ keyed-hit (codes "group") (group_reader known n) refused k.0 ∙ group-stops n k.0 us (made-bad {X = GroupTree} {Y = Option GroupTree} Some (group_at (version known) k.0) us k.2)
+        | inr k ↦ keyed-miss (codes "group") (group_reader known n) refused ts (else-alike (codes "group") some_group refused (group_reader known n) refused ts k.0) ∙ ap (λ (v : List Tok). Err v) (err-is {Y = Option GroupTree} ts us k.1)
       ]
 
-  pub next-stops : (ts us : List Tok) → next_at (version_of known) ts ≡ Err us → all_proofs (version_of known) ts ≡ Err us
+  pub next-stops : (ts us : List Tok) → next_at (version known) ts ≡ Err us → all known ts ≡ Err us
   unfolding next_at
   next-stops ts us h =
       let n : ℕ = length ts in
-      in-keys ts ∙
-      elim (keyed-cases (codes "end") no_group group_key ts (Err us) h) [
-        | inl k ↦ ap (keyed (codes "end") end_row (proofs_key n)) k.1 ∙ keyed-hit (codes "end") end_row (proofs_key n) k.0 ∙ rw (made-bad {X = Unit {0}} {Y = Option GroupTree} (λ _. None) (eol k.0) us k.2) refl
-        | inr k ↦ keyed-miss (codes "end") end_row (proofs_key n) ts (else-alike (codes "end") no_group group_key end_row (proofs_key n) ts k.0) ∙ key-stops n ts us k.1
+      elim (keyed-cases (codes "end") no_next group_key ts (Err us) h) [
+        | inl k ↦ ap (keyed (codes "end") nothing (first_key n)) k.1 ∙ keyed-hit (codes "end") nothing (first_key n) k.0 ∙ rw (made-bad {X = Unit {0}} {Y = Option GroupTree} (λ _. None) (eol k.0) us k.2) refl
+        | inr k ↦ keyed-miss (codes "end") nothing (first_key n) ts (else-alike (codes "end") no_next group_key nothing (first_key n) ts k.0) ∙ key-stops n ts us k.1
       ]
 
   not-none : (g : GroupTree) → Some g ≡ None → ⊥
@@ -206,36 +187,35 @@ module _ (known : Known) where
   never-read : (ts us : List Tok) (o : Option GroupTree) → refused ts ≡ Ok (o, us) → ⊥
   never-read ts us o e = cc
 
-  no-end : (ts us : List Tok) → group_key ts ≡ Ok (None, us) → ⊥
-  no-end ts us h =
+  group-not-end : (ts us : List Tok) → group_key ts ≡ Ok (None, us) → ⊥
+  group-not-end ts us h =
       elim (keyed-cases (codes "group") some_group refused ts (Ok (None, us)) h) [
-        | inl k ↦ let m = made-good {X = GroupTree} {Y = Option GroupTree} Some (group_at (version_of known) k.0) None us k.2 in not-none m.0 m.2
+        | inl k ↦ let m = made-good {X = GroupTree} {Y = Option GroupTree} Some (group_at (version known) k.0) None us k.2 in not-none m.0 m.2
         | inr k ↦ never-read ts us None k.1
       ]
 
-  pub next-end : (ts us : List Tok) → next_at (version_of known) ts ≡ Ok (None, us) → all_proofs (version_of known) ts ≡ Ok ([], us)
+  pub next-end : (ts us : List Tok) → next_at (version known) ts ≡ Ok (None, us) → all known ts ≡ Ok (([], []), us)
   unfolding next_at
   next-end ts us h =
       let n : ℕ = length ts in
-      in-keys ts ∙
-      elim (keyed-cases (codes "end") no_group group_key ts (Ok (None, us)) h) [
-        | inl k ↦ ap (keyed (codes "end") end_row (proofs_key n)) k.1 ∙ keyed-hit (codes "end") end_row (proofs_key n) k.0 ∙ rw (made-good {X = Unit {0}} {Y = Option GroupTree} (λ _. None) (eol k.0) None us k.2).1 refl
-        | inr k ↦ absurd (no-end ts us k.1)
+      elim (keyed-cases (codes "end") no_next group_key ts (Ok (None, us)) h) [
+        | inl k ↦ ap (keyed (codes "end") nothing (first_key n)) k.1 ∙ keyed-hit (codes "end") nothing (first_key n) k.0 ∙ rw (made-good {X = Unit {0}} {Y = Option GroupTree} (λ _. None) (eol k.0) None us k.2).1 refl
+        | inr k ↦ absurd (group-not-end ts us k.1)
       ]
 
   -- ---- what a group was read from
 
   pub record OneGroup (ts : List Tok) (g : GroupTree) (us : List Tok) : Type 0 where
     pub is : ts ≡ group_tokens g ++ us
-    pub fits : IsGroupIn (version_of known) g
+    pub fits : IsGroupIn (version known) g
     pub ended : goes_on is_def us ≡ false
 
-  group-takes : (ts : List Tok) (g : GroupTree) (us : List Tok) → group_at (version_of known) ts ≡ Ok (g, us) → OneGroup (Atom (codes "group") ∷ ts) g us
+  group-takes : (ts : List Tok) (g : GroupTree) (us : List Tok) → group_at (version known) ts ≡ Ok (g, us) → OneGroup (Atom (codes "group") ∷ ts) g us
   unfolding group_at
   group-takes ts g us h =
-      let m = made-good {X = Head × List DefTree} {Y = GroupTree} (λ x. group_of x.0 x.1) (pair (head_at (version_of known)) own_defs ts) g us h in
-      let p = pair-good (head_at (version_of known)) own_defs ts m.0 us m.1 in
-      let a = (head-cover known).takes ts m.0.0 p.0 p.1 in
+      let m = made-good {X = Head × List DefTree} {Y = GroupTree} (λ x. group_of x.0 x.1) (pair (head_at (version known)) own_defs ts) g us h in
+      let p = pair-good (head_at (version known)) own_defs ts m.0 us m.1 in
+      let a = (head-cover known.version).takes ts m.0.0 p.0 p.1 in
       let b = own-takes p.0 m.0.1 us p.2 in
       subst (λ (z : GroupTree). OneGroup (Atom (codes "group") ∷ ts) z us) m.2 (record {
         is = ap (λ (v : List Tok). Atom (codes "group") ∷ v) (a.0 ∙ ap (λ (v : List Tok). lines_of_head m.0.0 ++ v) b.0 ∙ sym (append_assoc (lines_of_head m.0.0) (flat_map def_tokens m.0.1) us) ∙ ap (λ (v : List Tok). v ++ us) (sym (group-split m.0.0 m.0.1)));
@@ -250,15 +230,15 @@ module _ (known : Known) where
   key-takes ts g us h =
       elim (keyed-cases (codes "group") some_group refused ts (Ok (Some g, us)) h) [
         | inl k ↦
-            let m = made-good {X = GroupTree} {Y = Option GroupTree} Some (group_at (version_of known) k.0) (Some g) us k.2 in
+            let m = made-good {X = GroupTree} {Y = Option GroupTree} Some (group_at (version known) k.0) (Some g) us k.2 in
             subst (λ (v : List Tok). OneGroup v g us) (sym k.1) (subst (λ (z : GroupTree). OneGroup (Atom (codes "group") ∷ k.0) z us) (same-group m.0 g m.2) (group-takes k.0 m.0 us m.1))
         | inr k ↦ absurd (never-read ts us (Some g) k.1)
       ]
 
-  pub next-takes : (ts : List Tok) (g : GroupTree) (us : List Tok) → next_at (version_of known) ts ≡ Ok (Some g, us) → OneGroup ts g us
+  pub next-takes : (ts : List Tok) (g : GroupTree) (us : List Tok) → next_at (version known) ts ≡ Ok (Some g, us) → OneGroup ts g us
   unfolding next_at
   next-takes ts g us h =
-      elim (keyed-cases (codes "end") no_group group_key ts (Ok (Some g, us)) h) [
+      elim (keyed-cases (codes "end") no_next group_key ts (Ok (Some g, us)) h) [
         | inl k ↦ let m = made-good {X = Unit {0}} {Y = Option GroupTree} (λ _. None) (eol k.0) (Some g) us k.2 in absurd (not-some g m.2)
         | inr k ↦ key-takes ts g us k.1
       ]
@@ -268,140 +248,128 @@ module _ (known : Known) where
   group-parts : (g : GroupTree) (us : List Tok) → group_row g ++ us ≡ lines_of_head (head_of g) ++ (flat_map def_tokens g.defs ++ us)
   group-parts g us = ap (λ (v : List Tok). v ++ us) (group-split (head_of g) g.defs) ∙ append_assoc (lines_of_head (head_of g)) (flat_map def_tokens g.defs) us
 
-  group-again : (g : GroupTree) (us : List Tok) → IsGroupIn (version_of known) g → goes_on is_def us ≡ false → group_at (version_of known) (group_row g ++ us) ≡ Ok (g, us)
+  group-again : (g : GroupTree) (us : List Tok) → IsGroupIn (version known) g → goes_on is_def us ≡ false → group_at (version known) (group_row g ++ us) ≡ Ok (g, us)
   unfolding group_at
   group-again g us h e =
-      ap (made (λ (x : Head × List DefTree). group_of x.0 x.1) (pair (head_at (version_of known)) own_defs)) (group-parts g us)
-      ∙ rw ((head-cover known).again (head_of g) (flat_map def_tokens g.defs ++ us) (head-fits (version_of known) g h), own-again g.defs us (record { fit = h.defs; some = h.some; few = h.few; ended = e })) refl
+      ap (made (λ (x : Head × List DefTree). group_of x.0 x.1) (pair (head_at (version known)) own_defs)) (group-parts g us)
+      ∙ rw ((head-cover known.version).again (head_of g) (flat_map def_tokens g.defs ++ us) (head-fits (version known) g h), own-again g.defs us (record { fit = h.defs; some = h.some; few = h.few; ended = e })) refl
 
-  as-some : (vs : List Tok) → next_at (version_of known) (Atom (codes "group") ∷ vs) ≡ some_group vs
+  as-some : (vs : List Tok) → next_at (version known) (Atom (codes "group") ∷ vs) ≡ some_group vs
   unfolding next_at
   as-some vs = refl
 
-  pub next-again : (g : GroupTree) (us : List Tok) → IsGroupIn (version_of known) g → goes_on is_def us ≡ false → next_at (version_of known) (group_tokens g ++ us) ≡ Ok (Some g, us)
+  pub next-again : (g : GroupTree) (us : List Tok) → IsGroupIn (version known) g → goes_on is_def us ≡ false → next_at (version known) (group_tokens g ++ us) ≡ Ok (Some g, us)
   next-again g us h e = as-some (group_row g ++ us) ∙ rw (group-again g us h e) refl
 
--- ---- behind the first word of a group
+-- ---- what stands behind items
 
--- a proof in front, of which lines follow
-abbrev pub opened : GroupTree → Out Tail → Proofs
-opened g q = ◌>>=◌ {A = Tail × List Tok} {B = List ProofTree × List Tok} q (λ p. Ok (record { group = g; lines = p.0.0 } ∷ p.0.1, p.1))
+module _ (known : KnownTexts) where
+  abbrev pub Tails : Type 0
+  Tails = Out (Tail known)
 
-module _ (known : Known) where
+  -- a group in front, to which the lines that follow belong
+  abbrev pub opened : GroupTree → Tails → Tails
+  opened g q = ◌>>=◌ {A = Tail known × List Tok} {B = Tail known × List Tok} q (λ p. Ok (([], record { group = g; lines = p.0.0 } ∷ p.0.1), p.1))
+
+  -- a line in front
+  abbrev pub added : Line known → Tails → Tails
+  added l q = ◌>>=◌ {A = Tail known × List Tok} {B = Tail known × List Tok} q (λ p. Ok ((l ∷ p.0.0, p.0.1), p.1))
+
+  -- further lines of the group of that code behind these, and all proofs behind
+  abbrev pub rest_at : List Range → List (Line known) → Reader (Tail known)
+  rest_at own before ts = tail_from known (length ts) own before ts
+
   abbrev GroupTail : Type 0
-  GroupTail = DefTree × (List DefTree × Tail)
+  GroupTail = DefTree × (List DefTree × Tail known)
 
-  abbrev put : Head → DefTree → List DefTree → Out Tail → Proofs
-  put h d ds q = ◌>>=◌ {A = (Head × GroupTail) × List Tok} {B = List ProofTree × List Tok}
+  abbrev put : Head → DefTree → List DefTree → Tails → Tails
+  put h d ds q = ◌>>=◌ {A = (Head × GroupTail) × List Tok} {B = Tail known × List Tok}
       (◌>>=◌ {A = GroupTail × List Tok} {B = (Head × GroupTail) × List Tok}
-      (◌>>=◌ {A = (List DefTree × Tail) × List Tok} {B = GroupTail × List Tok}
-      (◌>>=◌ {A = Tail × List Tok} {B = (List DefTree × Tail) × List Tok} q (λ p. Ok ((ds, p.0), p.1))) (λ p. Ok ((d, p.0), p.1))) (λ p. Ok ((h, p.0), p.1))) (λ p. Ok (proof_of p.0.0 (p.0.1.0 ∷ p.0.1.1.0) p.0.1.1.1.0 ∷ p.0.1.1.1.1, p.1))
+      (◌>>=◌ {A = (List DefTree × Tail known) × List Tok} {B = GroupTail × List Tok}
+      (◌>>=◌ {A = Tail known × List Tok} {B = (List DefTree × Tail known) × List Tok} q (λ p. Ok ((ds, p.0), p.1))) (λ p. Ok ((d, p.0), p.1))) (λ p. Ok ((h, p.0), p.1))) (λ p. Ok (group_first p.0, p.1))
 
-  put-is : (h : Head) (d : DefTree) (ds : List DefTree) (q : Out Tail) → put h d ds q ≡ opened (group_of h (d ∷ ds)) q
+  put-is : (h : Head) (d : DefTree) (ds : List DefTree) (q : Tails) → put h d ds q ≡ opened (group_of h (d ∷ ds)) q
   put-is h d ds (Ok p) = refl
   put-is h d ds (Err bad) = refl
 
-  reader-again : (n : ℕ) (h : Head) (d : DefTree) (ds : List DefTree) (us : List Tok) → HeadFits (version_of known) h → IsDef d → AllByRecursion IsDef ds → length ds ≤ more_defs → goes_on is_def us ≡ false
-      → proof_reader known n (lines_of_head h ++ ((def_tokens d ++ flat_map def_tokens ds) ++ us)) ≡ opened (group_of h (d ∷ ds)) (tail_at known h n us)
+  reader-again : (n : ℕ) (h : Head) (d : DefTree) (ds : List DefTree) (us : List Tok) → HeadFits (version known) h → IsDef d → AllByRecursion IsDef ds → length ds ≤ more_defs → goes_on is_def us ≡ false
+      → group_reader known n (lines_of_head h ++ ((def_tokens d ++ flat_map def_tokens ds) ++ us)) ≡ opened (group_of h (d ∷ ds)) (tail_code known n h.code us)
   reader-again n h d ds us fh fd fds le e =
-      rw ((head-cover known).again h ((def_tokens d ++ flat_map def_tokens ds) ++ us) fh, append_assoc (def_tokens d) (flat_map def_tokens ds) us, def-cover.again d (flat_map def_tokens ds ++ us) fd, many-again is_def def_at IsDef def_tokens def-cover def-begins more_defs ds us fds le e)
-      (put-is h d ds (tail_at known h n us))
-
-  as-proof : (n : ℕ) (vs : List Tok) → proofs_at (version_of known) (suc n) (Atom (codes "group") ∷ vs) ≡ proof_reader known n vs
-  unfolding proofs_at
-  as-proof n vs = refl
+      rw ((head-cover known.version).again h ((def_tokens d ++ flat_map def_tokens ds) ++ us) fh, append_assoc (def_tokens d) (flat_map def_tokens ds) us, def-cover.again d (flat_map def_tokens ds ++ us) fd, many-again is_def def_at IsDef def_tokens def-cover def-begins more_defs ds us fds le e)
+      (put-is h d ds (tail_code known n h.code us))
 
   -- a group in front
-  one-more : (n : ℕ) (g : GroupTree) (ds : List DefTree) (us : List Tok) → g.defs ≡ ds → IsGroupIn (version_of known) g → goes_on is_def us ≡ false → proofs_at (version_of known) (suc n) (group_tokens g ++ us) ≡ opened g (tail_at known (head_of g) n us)
+  one-more : (n : ℕ) (g : GroupTree) (ds : List DefTree) (us : List Tok) → g.defs ≡ ds → IsGroupIn (version known) g → goes_on is_def us ≡ false → group_reader known n (group_row g ++ us) ≡ opened g (tail_code known n g.code us)
   one-more n g [] us is h e = absurd (let len : length g.defs ≡ 0 = ap length is in omega (arith, h.some, len))
   one-more n g (d ∷ ds) us is h e =
       let fits : AllByRecursion IsDef (d ∷ ds) = subst (AllByRecursion IsDef) is h.defs in
       let len : length g.defs ≡ suc (length ds) = ap length is in
-      as-proof n (group_row g ++ us) ∙ ap (proof_reader known n) (group-parts known g us ∙ ap (λ (v : List DefTree). lines_of_head (head_of g) ++ (flat_map def_tokens v ++ us)) is)
-      ∙ reader-again n (head_of g) d ds us (head-fits (version_of known) g h) fits.0 fits.1 (omega (arith, h.few, len)) e
-      ∙ ap (λ (v : List DefTree). opened (group_of (head_of g) v) (tail_at known (head_of g) n us)) (sym is)
+      ap (group_reader known n) (group-parts known g us ∙ ap (λ (v : List DefTree). lines_of_head (head_of g) ++ (flat_map def_tokens v ++ us)) is)
+      ∙ reader-again n (head_of g) d ds us (head-fits (version known) g h) fits.0 fits.1 (omega (arith, h.few, len)) e
+      ∙ ap (λ (v : List DefTree). opened (group_of (head_of g) v) (tail_code known n g.code us)) (sym is)
 
-  -- ---- behind items
-
-  -- further lines of the group of that code, and all proofs behind
-  abbrev pub rest_at : List Range → Reader Tail
-  rest_at own = pair (lines_at (version_of known) own) (all_proofs (version_of known))
-
-  tail-is : (n : ℕ) (g : GroupTree) (us : List Tok) → IsGroupIn (version_of known) g → length us ≤ n → tail_at known (head_of g) n us ≡ rest_at g.code us
-  tail-is n g us h le = pair-alike (lines_at (version_of known) g.code) (lines-no-longer known (head_of g) (head-fits (version_of known) g h)) (proofs_at (version_of known) n) (all_proofs (version_of known)) us (λ xs lx. sym (more-proofs known n xs (omega (arith, le, lx))))
-
-  pub all-one : (g : GroupTree) (us : List Tok) → IsGroupIn (version_of known) g → goes_on is_def us ≡ false → all_proofs (version_of known) (group_tokens g ++ us) ≡ opened g (rest_at g.code us)
+  pub all-one : (g : GroupTree) (us : List Tok) → IsGroupIn (version known) g → goes_on is_def us ≡ false → all known (group_tokens g ++ us) ≡ opened g (rest_at g.code [] us)
   all-one g us h e =
       let n : ℕ = length (group_tokens g ++ us) in
-      more-proofs known (suc n) (group_tokens g ++ us) (omega arith) ∙ one-more n g g.defs us refl h e ∙ ap (opened g) (tail-is n g us h (omega (arith, length-append (group_tokens g) us)))
+      one-more n g g.defs us refl h e ∙ ap (opened g) (enough known n (length us) g.code (h.code, h.bytes) [] known.laws.none us (omega (arith, length-append (group_tokens g) us)) (omega arith))
 
--- no lines in front
-abbrev pub no_lines : Proofs → Out Tail
-no_lines q = ◌>>=◌ {A = List ProofTree × List Tok} {B = Tail × List Tok} q (λ p. Ok (([], p.0), p.1))
+  -- ---- where the lines of a group have ended
 
--- a line in front
-abbrev pub added : LineTree → Out Tail → Out Tail
-added l q = ◌>>=◌ {A = Tail × List Tok} {B = Tail × List Tok} q (λ p. Ok ((l ∷ p.0.0, p.0.1), p.1))
+  -- a group or the end follows, whatever else is read otherwise
+  either-word : (f : List Range → Reader (Tail known)) (r q : Reader (Tail known)) (a : List ℕ) (ts : List Tok) (x y : Bool) → bytes_eq a (codes "group") ≡ x → bytes_eq a (codes "end") ≡ y → x || y ≡ true
+      → end_or_group (version known) f r (Atom a ∷ ts) ≡ end_or_group (version known) f q (Atom a ∷ ts)
+  either-word f r q a ts x true g e h = rw e refl
+  either-word f r q a ts true false g e h = rw (e, g) refl
+  either-word f r q a ts false false g e h = absurd (true≢false (sym h))
 
-module _ (known : Known) where
-  pub rest-none : (own : List Range) (ts : List Tok) → goes_on begins_line ts ≡ false → rest_at known own ts ≡ no_lines (all_proofs (version_of known) ts)
-  rest-none own ts e = rw (many-none begins_line (line_at (version_of known) own) (length ts) ts e) refl
+  either-same : (f : List Range → Reader (Tail known)) (r q : Reader (Tail known)) (ts : List Tok) → goes_on ends_proof ts ≡ true → end_or_group (version known) f r ts ≡ end_or_group (version known) f q ts
+  either-same f r q [] e = absurd (true≢false (sym e))
+  either-same f r q (Atom a ∷ ts) e = either-word f r q a ts (bytes_eq a (codes "group")) (bytes_eq a (codes "end")) refl refl e
+  either-same f r q (Left ∷ ts) e = absurd (true≢false (sym e))
+  either-same f r q (Right ∷ ts) e = absurd (true≢false (sym e))
+  either-same f r q (Semi ∷ ts) e = absurd (true≢false (sym e))
+  either-same f r q (Eol ∷ ts) e = absurd (true≢false (sym e))
+  either-same f r q (Done ∷ ts) e = absurd (true≢false (sym e))
+  either-same f r q (Stuck ∷ ts) e = absurd (true≢false (sym e))
 
-  abbrev Lines : Type 0
-  Lines = Out (List LineTree)
+  as-either : (n : ℕ) (own : List Range) (before : List (Line known)) (ts : List Tok) → tail_from known (suc n) own before ts ≡ end_or_group (version known) (tail_code known n) (line_reader known n own before) ts
+  unfolding tail_at
+  as-either n own before ts = refl
 
-  abbrev behind_lines : Lines → Out Tail
-  behind_lines q = ◌>>=◌ {A = List LineTree × List Tok} {B = Tail × List Tok} q (λ p. ◌>>=◌ {A = List ProofTree × List Tok} {B = Tail × List Tok} (all_proofs (version_of known) p.1) (λ y. Ok ((p.0, y.0), y.1)))
+  module _ (own : List Range) (code : IsCode own) (before : List (Line known)) (are : Are known before) where
+    in-either : (ts : List Tok) → rest_at own before ts ≡ end_or_group (version known) (tail_code known (length ts)) (line_reader known (length ts) own before) ts
+    in-either ts = enough known (length ts) (suc (length ts)) own code before are ts (omega arith) (omega arith) ∙ as-either (length ts) own before ts
 
-  front-is : (q : Lines) → with_prefix [] q ≡ q
-  front-is (Ok p) = refl
-  front-is (Err bad) = refl
+    pub rest-none : (ts : List Tok) → goes_on ends_proof ts ≡ true → rest_at own before ts ≡ all known ts
+    rest-none ts e = in-either ts ∙ either-same (tail_code known (length ts)) (line_reader known (length ts) own before) refused ts e
 
-  line-in-front : (l : LineTree) (ls : List LineTree) (q : Proofs) → ◌>>=◌ {A = List ProofTree × List Tok} {B = Tail × List Tok} q (λ y. Ok ((l ∷ ls, y.0), y.1)) ≡ added l (◌>>=◌ {A = List ProofTree × List Tok} {B = Tail × List Tok} q (λ y. Ok ((ls, y.0), y.1)))
-  line-in-front l ls (Ok y) = refl
-  line-in-front l ls (Err bad) = refl
+    -- and where they haven't
+    pub rest-line : (ts : List Tok) → goes_on ends_proof ts ≡ false → rest_at own before ts ≡ line_reader known (length ts) own before ts
+    rest-line ts e =
+        let n : ℕ = length ts in
+        let with_group : Reader (Tail known) = keyed (codes "group") (group_reader known n) (line_reader known n own before) in
+        in-either ts ∙ keyed-miss (codes "end") nothing_more with_group ts (no-end nothing_more with_group ts e) ∙ keyed-miss (codes "group") (group_reader known n) (line_reader known n own before) ts (no-group (group_reader known n) (line_reader known n own before) ts e)
 
-  lines-in-front : (l : LineTree) (q : Lines) → behind_lines (with_prefix (l ∷ []) q) ≡ added l (behind_lines q)
-  lines-in-front l (Ok p) = line-in-front l p.0 (all_proofs (version_of known) p.1)
-  lines-in-front l (Err bad) = refl
+-- ---- a call for a line
 
--- ---- first words
+module _ (known : KnownTexts) where
+  abbrev Turned : Type 0
+  Turned = Out (Option (Line known))
 
--- a line doesn't begin as a group does, or the end
-pub ends-no-line : (ts : List Tok) → goes_on ends_proof ts ≡ true → goes_on begins_line ts ≡ false
-ends-no-line [] e = absurd (true≢false (sym e))
-ends-no-line (Atom a ∷ ts) e = one-of (bytes_eq a (codes "group")) (bytes_eq a (codes "end")) e
-  where
-    one-of : (g f : Bool) → g || f ≡ true → not g && not f ≡ false
-    one-of true f e = refl
-    one-of false true e = refl
-    one-of false false e = absurd (true≢false (sym e))
-ends-no-line (Left ∷ ts) e = absurd (true≢false (sym e))
-ends-no-line (Right ∷ ts) e = absurd (true≢false (sym e))
-ends-no-line (Semi ∷ ts) e = absurd (true≢false (sym e))
-ends-no-line (Eol ∷ ts) e = absurd (true≢false (sym e))
-ends-no-line (Done ∷ ts) e = absurd (true≢false (sym e))
-ends-no-line (Stuck ∷ ts) e = absurd (true≢false (sym e))
+  abbrev none_left : List Tok → Turned
+  none_left ts = Ok (None, ts)
 
-pub goes-on-line : (ts : List Tok) → goes_on begins_line ts ≡ true → goes_on ends_proof ts ≡ false
-goes-on-line ts b = by (goes_on ends_proof ts) refl
-  where
-    by : (e : Bool) → goes_on ends_proof ts ≡ e → goes_on ends_proof ts ≡ false
-    by true e = absurd (true≢false (sym b ∙ ends-no-line ts e))
-    by false e = e
-
-module _ (known : Known) where
-  pub ends-nothing : (own : List Range) (ts : List Tok) → goes_on ends_proof ts ≡ true → turn_of (version_of known) own ts ≡ Ok (None, ts)
-  ends-nothing own ts e = rw e refl
+  pub ends-nothing : (own : List Range) (before : List (Line known)) (ts : List Tok) → goes_on ends_proof ts ≡ true → turn known own before ts ≡ Ok (None, ts)
+  ends-nothing own before ts e = rw e refl
 
   -- where a call reads a group or the end, no line stands
   word-first : (k : List ℕ) (ts us : List Tok) → (bytes_eq k (codes "group") || bytes_eq k (codes "end")) ≡ true → ts ≡ Atom k ∷ us → goes_on ends_proof ts ≡ true
   word-first k ts us e is = ap (goes_on ends_proof) is ∙ e
 
-  pub next-word : (ts : List Tok) (o : Option GroupTree) (us : List Tok) → next_at (version_of known) ts ≡ Ok (o, us) → goes_on ends_proof ts ≡ true
+  pub next-word : (ts : List Tok) (o : Option GroupTree) (us : List Tok) → next_at (version known) ts ≡ Ok (o, us) → goes_on ends_proof ts ≡ true
   unfolding next_at
   next-word ts o us h =
-      elim (keyed-cases (codes "end") (no_group known) (group_key known) ts (Ok (o, us)) h) [
+      elim (keyed-cases (codes "end") (no_next known) (group_key known) ts (Ok (o, us)) h) [
         | inl k ↦ word-first (codes "end") ts k.0 refl k.1
         | inr k ↦ elim (keyed-cases (codes "group") (some_group known) refused ts (Ok (o, us)) k.1) [
           | inl m ↦ word-first (codes "group") ts m.0 refl m.1
@@ -409,96 +377,68 @@ module _ (known : Known) where
         ]
       ]
 
-  pub record OneLine (own : List Range) (ts : List Tok) (l : LineTree) (us : List Tok) : Type 0 where
-    pub is : ts ≡ line_tokens_in (version_of known) own l ++ us
-    pub fits : IsLineIn (version_of known) l
+  pub record OneLine (own : List Range) (before : List (Line known)) (ts : List Tok) (l : Line known) (us : List Tok) : Type 0 where
+    pub is : ts ≡ line_tokens known own l ++ us
+    pub fits : Fits known before l
 
-  module _ (own : List Range) (fits : IsCode own) where
-    pub rest-added : (l : LineTree) (us : List Tok) → IsLineIn (version_of known) l → rest_at known own (line_tokens_in (version_of known) own l ++ us) ≡ added l (rest_at known own us)
+  line-in-front : (l : Line known) (q : Tails known) → ◌>>=◌ {A = (Line known × Tail known) × List Tok} {B = Tail known × List Tok} (◌>>=◌ {A = Tail known × List Tok} {B = (Line known × Tail known) × List Tok} q (λ y. Ok ((l, y.0), y.1))) (λ p. Ok (line_first p.0, p.1)) ≡ added known l q
+  line-in-front l (Ok y) = refl
+  line-in-front l (Err bad) = refl
+
+  module _ (own : List Range) (code : IsCode own) (before : List (Line known)) (are : Are known before) where
+    pub rest-added : (l : Line known) (us : List Tok) → Fits known before l → rest_at known own before (line_tokens known own l ++ us) ≡ added known l (rest_at known own (before ++ l ∷ []) us)
     rest-added l us h =
-        let ts = line_tokens_in (version_of known) own l ++ us in
-        ap (behind_lines known) (sym (star-more begins_line (line_at (version_of known) own) (line-shrinks known own fits) [] ts l us _ (line-begins known own l us) ((line-law known own fits).again l us h) (front-is known (lines_at (version_of known) own ts)))) ∙ lines-in-front known l (lines_at (version_of known) own us)
-
-    -- ---- where a line stops
-
-    line-at-stops : (ts us : List Tok) → goes_on begins_line ts ≡ true → line_at (version_of known) own ts ≡ Err us → rest_at known own ts ≡ Err us
-    line-at-stops ts us g e = rw (star-fails begins_line (line_at (version_of known) own) (line-shrinks known own fits) [] ts us (lines_at (version_of known) own ts) g e (front-is known (lines_at (version_of known) own ts))) refl
+        let ts = line_tokens known own l ++ us in
+        let n : ℕ = length ts in
+        rest-line known own code before are ts (known.laws.begins own l us)
+        ∙ rw ((known.laws.reads own code before are).again l us h) (line-in-front l (tail_from known n own (before ++ l ∷ []) us))
+        ∙ ap (added known l) (enough known n (length us) own code (before ++ l ∷ []) (known.laws.more before l are h) us (omega (arith, length-append (line_tokens known own l) us)) (omega arith))
 
     -- ---- where a line, or the end of the lines, is not read
 
-    abbrev Turned : Type 0
-    Turned = Out (Option LineTree)
-
-    abbrev nothing : List Tok → Turned
-    nothing ts = Ok (None, ts)
-
-    not-stopped : (ts us : List Tok) → nothing ts ≡ Err us → ⊥
+    not-stopped : (ts us : List Tok) → none_left ts ≡ Err us → ⊥
     not-stopped ts us e = cc
 
-    -- no proof begins so, and no line
-    abbrev IsRefused : List Tok → Type 0
-    IsRefused ts = (line_at (version_of known) own ts ≡ Err ts) × (all_proofs (version_of known) ts ≡ Err ts)
+    line-at-stops : (ts us : List Tok) → goes_on ends_proof ts ≡ false → line_at known own before ts ≡ Err us → rest_at known own before ts ≡ Err us
+    line-at-stops ts us e h = rest-line known own code before are ts e ∙ rw h refl
 
-    refused-first : (ts : List Tok) → goes_on ends_proof ts ≡ false → goes_on begins_line ts ≡ false → IsRefused ts
-    unfolding line_at rule_at one proofs_at
-    refused-first [] e b = (refl, refl)
-    refused-first (Atom a ∷ ts) e b = absurd (neither (bytes_eq a (codes "group")) (bytes_eq a (codes "end")) e b)
-      where
-        neither : (g f : Bool) → g || f ≡ false → not g && not f ≡ false → ⊥
-        neither true f e b = absurd (true≢false e)
-        neither false true e b = absurd (true≢false e)
-        neither false false e b = absurd (true≢false b)
-    refused-first (Left ∷ ts) e b = (refl, refl)
-    refused-first (Right ∷ ts) e b = (refl, refl)
-    refused-first (Semi ∷ ts) e b = (refl, refl)
-    refused-first (Eol ∷ ts) e b = (refl, refl)
-    refused-first (Done ∷ ts) e b = (refl, refl)
-    refused-first (Stuck ∷ ts) e b = (refl, refl)
-
-    line-stops : (ts us : List Tok) → goes_on ends_proof ts ≡ false → line_at (version_of known) own ts ≡ Err us → (b : Bool) → goes_on begins_line ts ≡ b → rest_at known own ts ≡ Err us
-    line-stops ts us e h true b = line-at-stops ts us b h
-    line-stops ts us e h false b =
-        let k = refused-first ts e b in
-        let same : ts ≡ us = err-is {Y = LineTree} ts us (sym k.0 ∙ h) in
-        rest-none known own ts b ∙ ap no_lines k.1 ∙ ap (λ (v : List Tok). Err v) same
-
-    turn-stops : (ts us : List Tok) (e : Bool) → goes_on ends_proof ts ≡ e → cond e (nothing ts) (made Some (line_at (version_of known) own) ts) ≡ Err us → rest_at known own ts ≡ Err us
+    turn-stops : (ts us : List Tok) (e : Bool) → goes_on ends_proof ts ≡ e → cond e (none_left ts) (made Some (line_at known own before) ts) ≡ Err us → rest_at known own before ts ≡ Err us
     turn-stops ts us true e h = absurd (not-stopped ts us h)
-    turn-stops ts us false e h = line-stops ts us e (made-bad {X = LineTree} {Y = Option LineTree} Some (line_at (version_of known) own ts) us h) (goes_on begins_line ts) refl
+    turn-stops ts us false e h = line-at-stops ts us e (made-bad {X = Line known} {Y = Option (Line known)} Some (line_at known own before ts) us h)
 
     -- where a call stops, reading the rest stops
-    pub rest-refused : (ts us : List Tok) → turn_of (version_of known) own ts ≡ Err us → rest_at known own ts ≡ Err us
+    pub rest-refused : (ts us : List Tok) → turn known own before ts ≡ Err us → rest_at known own before ts ≡ Err us
     rest-refused ts us h = turn-stops ts us (goes_on ends_proof ts) refl h
 
     -- ---- what a line was read from
 
-    same-line : (l m : LineTree) → Some l ≡ Some m → l ≡ m
+    same-line : (l m : Line known) → Some l ≡ Some m → l ≡ m
     same-line l m e = cc
 
-    not-line : (l : LineTree) → None ≡ Some l → ⊥
+    not-line : (l : Line known) → None ≡ Some l → ⊥
     not-line l e = cc
 
-    no-line : (l : LineTree) → Some l ≡ None → ⊥
+    no-line : (l : Line known) → Some l ≡ None → ⊥
     no-line l e = cc
 
-    taken : (ts : List Tok) (l : LineTree) (us : List Tok) (e : Bool) → cond e (nothing ts) (made Some (line_at (version_of known) own) ts) ≡ Ok (Some l, us) → OneLine own ts l us
-    taken ts l us true h = absurd (not-line l (ok-value {Y = Option LineTree} None (Some l) ts us h))
+    taken : (ts : List Tok) (l : Line known) (us : List Tok) (e : Bool) → cond e (none_left ts) (made Some (line_at known own before) ts) ≡ Ok (Some l, us) → OneLine own before ts l us
+    taken ts l us true h = absurd (not-line l (ok-value {Y = Option (Line known)} None (Some l) ts us h))
     taken ts l us false h =
-        let m = made-good {X = LineTree} {Y = Option LineTree} Some (line_at (version_of known) own ts) (Some l) us h in
-        let k = (line-law known own fits).takes ts m.0 us m.1 in
-        subst (λ (x : LineTree). OneLine own ts x us) (same-line m.0 l m.2) (record { is = k.0; fits = k.1 })
+        let m = made-good {X = Line known} {Y = Option (Line known)} Some (line_at known own before ts) (Some l) us h in
+        let k = (known.laws.reads own code before are).takes ts m.0 us m.1 in
+        subst (λ (x : Line known). OneLine own before ts x us) (same-line m.0 l m.2) (record { is = k.0; fits = k.1 })
 
-    pub line-takes : (ts : List Tok) (l : LineTree) (us : List Tok) → turn_of (version_of known) own ts ≡ Ok (Some l, us) → OneLine own ts l us
+    pub line-takes : (ts : List Tok) (l : Line known) (us : List Tok) → turn known own before ts ≡ Ok (Some l, us) → OneLine own before ts l us
     line-takes ts l us h = taken ts l us (goes_on ends_proof ts) h
 
-    not-taken : (ts us : List Tok) (e : Bool) → cond e (nothing ts) (made Some (line_at (version_of known) own) ts) ≡ Ok (None, us) → e ≡ true
+    not-taken : (ts us : List Tok) (e : Bool) → cond e (none_left ts) (made Some (line_at known own before) ts) ≡ Ok (None, us) → e ≡ true
     not-taken ts us true h = refl
-    not-taken ts us false h = let m = made-good {X = LineTree} {Y = Option LineTree} Some (line_at (version_of known) own ts) None us h in absurd (no-line m.0 m.2)
+    not-taken ts us false h = let m = made-good {X = Line known} {Y = Option (Line known)} Some (line_at known own before ts) None us h in absurd (no-line m.0 m.2)
 
-    pub line-ends : (ts us : List Tok) → turn_of (version_of known) own ts ≡ Ok (None, us) → goes_on ends_proof ts ≡ true
+    pub line-ends : (ts us : List Tok) → turn known own before ts ≡ Ok (None, us) → goes_on ends_proof ts ≡ true
     line-ends ts us h = not-taken ts us (goes_on ends_proof ts) h
 
     -- ---- and it is read again
 
-    pub line-again : (l : LineTree) (us : List Tok) → IsLineIn (version_of known) l → turn_of (version_of known) own (line_tokens_in (version_of known) own l ++ us) ≡ Ok (Some l, us)
-    line-again l us h = rw (goes-on-line (line_tokens_in (version_of known) own l ++ us) (line-begins known own l us), (line-law known own fits).again l us h) refl
+    pub line-again : (l : Line known) (us : List Tok) → Fits known before l → turn known own before (line_tokens known own l ++ us) ≡ Ok (Some l, us)
+    line-again l us h = rw (known.laws.begins own l us, (known.laws.reads own code before are).again l us h) refl

@@ -8,9 +8,10 @@ use Rattle.group_text.specs.declared.read_error.TextFault.{TextFault}
 use Rattle.group_text.specs.declared.read_error.TextFault.TheVariants as text
 use Rattle.proof_text.specs.declared.pull_fault.PullFault.{PullFault}
 use Rattle.proof_text.specs.declared.pull_fault.PullFault.TheVariants as pull
-use Rattle.proof_text.specs.Line.{LineTree, ProofTree}
+use Rattle.proof_text.specs.Line.{ProofOf}
+use Rattle.proof_text.specs.LineGrammar.{LineGrammar}
 use Rattle.proof_text.specs.Proofs.{bare}
-use Rattle.proof_text.specs.FirstProofs.{Progress, HasGiven, ProofEnds, with_line}
+use Rattle.proof_text.specs.FirstProofs.{Progress, HasGivenOver, ProofEnds, with_line}
 use Rattle.proof_text.specs.Answers.{IsEnd, OnBad, OnEnd, OnGiven}
 use Rattle.proof_text.specs.Pulling.{IfBad, PullState, Pulls, is_fault, progress_in}
 use Rattle.proof_text.specs.Sources.{Both, EndsLines, GivesGroup, GivesLine, GoesOnIn, held_progress, pull_fault, told_progress}
@@ -128,17 +129,17 @@ module _ (told now : Option Contents) (old new : PullState) (kept : now ≡ told
     goes-on : (file : List ℕ) → length (progress_in new file).rest < length (progress_in old file).rest → GoesOnIn (progress_in old file) (progress_in new file)
     goes-on file shorter = record { text = λ i. take (size i) file; version = version; shorter = shorter }
 
-    pub gives_group : (g : GroupTree)
-        → WhereHeld told old.rows.lines.name (λ file. (ps : List ProofTree) → HasGiven ps (progress_in old file) → HasGiven (ps ++ bare g ∷ []) (progress_in new file))
+    pub gives_group : (L : LineGrammar) (g : GroupTree)
+        → WhereHeld told old.rows.lines.name (λ file. (ps : List (ProofOf L.Line)) → HasGivenOver L ps (progress_in old file) → HasGivenOver L (ps ++ bare g ∷ []) (progress_in new file))
         → WhereHeld told old.rows.lines.name (λ file. length (progress_in new file).rest < length (progress_in old file).rest)
-        → Both (told_progress told old) (told_progress now new) (GivesGroup g)
-    gives_group g given shorter = held_both _ _ (GivesGroup g) (λ file is less. record { on = goes-on file less; given = is }) given shorter
+        → Both (told_progress told old) (told_progress now new) (GivesGroup L g)
+    gives_group L g given shorter = held_both _ _ (GivesGroup L g) (λ file is less. record { on = goes-on file less; given = is }) given shorter
 
-    pub gives_line : (g : GroupTree) (l : LineTree)
-        → WhereHeld told old.rows.lines.name (λ file. (ps : List ProofTree) (p : ProofTree) → HasGiven (ps ++ p ∷ []) (progress_in old file) → p.group ≡ g → HasGiven (ps ++ with_line p l ∷ []) (progress_in new file))
+    pub gives_line : (L : LineGrammar) (g : GroupTree) (before : List L.Line) (l : L.Line)
+        → WhereHeld told old.rows.lines.name (λ file. (ps : List (ProofOf L.Line)) (p : ProofOf L.Line) → HasGivenOver L (ps ++ p ∷ []) (progress_in old file) → p.group ≡ g → p.lines ≡ before → HasGivenOver L (ps ++ with_line p l ∷ []) (progress_in new file))
         → WhereHeld told old.rows.lines.name (λ file. length (progress_in new file).rest < length (progress_in old file).rest)
-        → Both (told_progress told old) (told_progress now new) (GivesLine g l)
-    gives_line g l given shorter = held_both _ _ (GivesLine g l) (λ file is less. record { on = goes-on file less; given = is }) given shorter
+        → Both (told_progress told old) (told_progress now new) (GivesLine L g before l)
+    gives_line L g before l given shorter = held_both _ _ (GivesLine L g before l) (λ file is less. record { on = goes-on file less; given = is }) given shorter
 
     pub ends_lines : WhereHeld told old.rows.lines.name (λ file. (progress_in new file ≡ progress_in old file) × ProofEnds (progress_in old file).rest) → Both (told_progress told old) (told_progress now new) EndsLines
     ends_lines h = held_both _ _ EndsLines (λ file is same. is) h h

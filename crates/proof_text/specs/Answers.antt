@@ -1,7 +1,8 @@
 -- What a call of a reader answers.
 use Rattle.std.specs.Prelude.{◌≡◌, ℕ, List, [], ◌∷◌, ◌++◌, Option, Some, None, Result, Ok, Err}
-use Rattle.proof_text.specs.Line.{ProofTree}
-use Rattle.proof_text.specs.FirstProofs.{Progress, ItemTree, items, HasGiven}
+use Rattle.proof_text.specs.Line.{ProofOf, ProofTree}
+use Rattle.proof_text.specs.LineGrammar.{LineGrammar, whole_lines}
+use Rattle.proof_text.specs.FirstProofs.{Progress, ItemOf, items, HasGivenOver}
 use Rattle.group_text.specs.declared.read_error.TextFault.{TextFault}
 use Rattle.group_text.specs.declared.read_error.TextFault.TheVariants.{Bad, NoMemory}
 
@@ -30,5 +31,8 @@ IsEnd (Ok None) = Unit {0}
 IsEnd (Err e) = ⊥
 
 -- no item comes after those that were given
+abbrev pub NoItemOver : (L : LineGrammar) → List (ProofOf L.Line) → Progress → Type 0
+NoItemOver L ps r = (i : ItemOf L.Line) (qs : List (ProofOf L.Line)) (new : Progress) → new.text ≡ r.text → new.version ≡ r.version → items qs ≡ items ps ++ i ∷ [] → HasGivenOver L qs new → ⊥
+
 abbrev pub NoItem : List ProofTree → Progress → Type 0
-NoItem ps r = (i : ItemTree) (qs : List ProofTree) (new : Progress) → new.text ≡ r.text → new.version ≡ r.version → items qs ≡ items ps ++ i ∷ [] → HasGiven qs new → ⊥
+NoItem ps r = NoItemOver whole_lines ps r

@@ -2,6 +2,7 @@ pub mod Line
 pub mod LineSpelling
 pub mod LineLimits
 pub mod Proofs
+pub mod LineGrammar
 pub mod FirstProofs
 pub mod Answers
 pub mod inner

@@ -31,10 +31,14 @@ pub data LineTree : Type 0 where
   Forget : (k : ℕ) → LineTree
   Further : (p : ℕ) (stated : TripleTree) → LineTree
 
--- a group with its proof
-pub record ProofTree : Type 0 where
+-- a group with the lines behind it, whatever lines these are
+pub record ProofOf (L : Type 0) : Type 0 where
   pub group : GroupTree
-  pub lines : List LineTree
+  pub lines : List L
+
+-- a group with its proof
+abbrev pub ProofTree : Type 0
+ProofTree = ProofOf LineTree
 
 -- a variable's number and the tree of its term
 abbrev pub word_put_in : ℕ × Word → ℕ × WordTree

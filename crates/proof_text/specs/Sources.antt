@@ -8,10 +8,11 @@ use Rattle.group_text.specs.declared.read_error.TextFault.{TextFault}
 use Rattle.group_text.specs.declared.read_error.TextFault.TheVariants as text
 use Rattle.proof_text.specs.declared.pull_fault.PullFault.{PullFault}
 use Rattle.proof_text.specs.declared.pull_fault.PullFault.TheVariants as pull
-use Rattle.proof_text.specs.Line.{LineTree, ProofTree}
-use Rattle.proof_text.specs.Proofs.{bare, text_of_proofs_in, texts_of_proofs_in}
-use Rattle.proof_text.specs.FirstProofs.{Progress, HasGiven, MayOpen, ProofEnds, with_line}
-use Rattle.proof_text.specs.Answers.{NoItem}
+use Rattle.proof_text.specs.Line.{ProofOf}
+use Rattle.proof_text.specs.LineGrammar.{LineGrammar, text_over, texts_over}
+use Rattle.proof_text.specs.Proofs.{bare}
+use Rattle.proof_text.specs.FirstProofs.{Progress, HasGivenOver, MayOpen, ProofEnds, with_line}
+use Rattle.proof_text.specs.Answers.{NoItemOver}
 use Rattle.proof_text.specs.Pulling.{PullState, progress_in}
 
 -- where it was told before it is told afterwards, and both are so
@@ -27,29 +28,29 @@ pub record GoesOnIn (old new : Progress) : Type 0 where
   pub shorter : length new.rest < length old.rest
 
 -- a group was given
-pub record GivesGroup (g : GroupTree) (old new : Progress) : Type 0 where
+pub record GivesGroup (L : LineGrammar) (g : GroupTree) (old new : Progress) : Type 0 where
   pub on : GoesOnIn old new
-  pub given : (ps : List ProofTree) → HasGiven ps old → HasGiven (ps ++ bare g ∷ []) new
+  pub given : (ps : List (ProofOf L.Line)) → HasGivenOver L ps old → HasGivenOver L (ps ++ bare g ∷ []) new
 
--- a line of the proof of that group was given
-pub record GivesLine (g : GroupTree) (l : LineTree) (old new : Progress) : Type 0 where
+-- a line was given behind these lines of that group
+pub record GivesLine (L : LineGrammar) (g : GroupTree) (before : List L.Line) (l : L.Line) (old new : Progress) : Type 0 where
   pub on : GoesOnIn old new
-  pub given : (ps : List ProofTree) (p : ProofTree) → HasGiven (ps ++ p ∷ []) old → p.group ≡ g → HasGiven (ps ++ with_line p l ∷ []) new
+  pub given : (ps : List (ProofOf L.Line)) (p : ProofOf L.Line) → HasGivenOver L (ps ++ p ∷ []) old → p.group ≡ g → p.lines ≡ before → HasGivenOver L (ps ++ with_line p l ∷ []) new
 
 -- the text ends well
-abbrev pub EndsText : Progress → Type 0
-EndsText r = (ps : List ProofTree) → HasGiven ps r → r.text ≡ text_of_proofs_in (version_of r.version) ps
+abbrev pub EndsText : LineGrammar → Progress → Type 0
+EndsText L r = (ps : List (ProofOf L.Line)) → HasGivenOver L ps r → r.text ≡ text_over L (version_of r.version) ps
 
 -- it is none at that line, and no group comes
-abbrev pub BadGroupAt : ℕ → Progress → Type 0
-BadGroupAt n r = (ps : List ProofTree) → HasGiven ps r → MayOpen ps r.rest → IsBadAt (texts_of_proofs_in (version_of r.version)) r.text n × NoItem ps r
+abbrev pub BadGroupAt : LineGrammar → ℕ → Progress → Type 0
+BadGroupAt L n r = (ps : List (ProofOf L.Line)) → HasGivenOver L ps r → MayOpen ps r.rest → IsBadAt (texts_over L (version_of r.version)) r.text n × NoItemOver L ps r
 
 -- no line of the group's proof comes: where the proof has ended, and where the text is none at that line
 abbrev pub EndsLines : Progress → Progress → Type 0
 EndsLines old new = (new ≡ old) × ProofEnds old.rest
 
-abbrev pub BadLineAt : GroupTree → ℕ → Progress → Type 0
-BadLineAt g n r = (ps : List ProofTree) (p : ProofTree) → HasGiven (ps ++ p ∷ []) r → p.group ≡ g → IsBadAt (texts_of_proofs_in (version_of r.version)) r.text n × NoItem (ps ++ p ∷ []) r
+abbrev pub BadLineAt : (L : LineGrammar) → GroupTree → List L.Line → ℕ → Progress → Type 0
+BadLineAt L g before n r = (ps : List (ProofOf L.Line)) (p : ProofOf L.Line) → HasGivenOver L (ps ++ p ∷ []) r → p.group ≡ g → p.lines ≡ before → IsBadAt (texts_over L (version_of r.version)) r.text n × NoItemOver L (ps ++ p ∷ []) r
 
 -- how far the text was read that a name of a shelf holds, where it is told
 abbrev pub held_progress : Option (List ℕ) → PullState → Option Progress

@@ -5,10 +5,10 @@ mod laws;
 mod line;
 mod line_facts;
 mod line_heads;
-mod line_rows;
 mod line_rules;
 mod line_subs;
 mod line_triples;
+mod line_turns;
 mod proof_lines;
 mod proof_source;
 mod pull;
@@ -16,6 +16,7 @@ mod pull_fault;
 mod pulled_items;
 mod pulled_rows;
 mod put_lines;
+mod read_lines;
 mod reader;
 
 pub use group_text::{
@@ -26,12 +27,13 @@ pub use laws::{
     law_of_proof_parts, law_of_proof_texts, law_of_versions,
 };
 pub use line::{Line, Rule};
-pub use line_rows::ProofEnd;
 pub use line_rules::{read_form, read_instruction, read_theorem};
 pub use line_triples::is_other;
+pub use line_turns::ProofEnd;
 pub use proof_lines::read_theorems;
 pub use proof_source::ProofSource;
 pub use pull::Pull;
 pub use pull_fault::PullFault;
 pub use put_lines::{put_cited, put_form, put_line, put_newer_line, put_stated_code, put_theorems};
+pub use read_lines::{ReadLines, WholeLines};
 pub use reader::Reader;

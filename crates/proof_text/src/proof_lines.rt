@@ -1,21 +1,19 @@
 //! Reading the lines of proofs.
 
-ghost use Rattle.std.specs.Prelude.{◌≡◌, ◌<◌, ◌≤◌, IfOk, IfSome, false, option_map};
+ghost use Rattle.std.specs.Prelude.{◌≡◌};
 ghost use Rattle.mc_text.specs.Reading.{goes_on, star};
 ghost use Rattle.mc_text.specs.Scanning.{tokens_at};
 ghost use Rattle.mc_text.specs.Outcome.{Gives, last_line};
 ghost use Rattle.proof_text.specs.Line.{line_tree};
-ghost use Rattle.group_text.specs.inner.Rows.{OnRowError, RowsGive, RowPosition, halted_by, tokens};
-ghost use Rattle.proof_text.specs.inner.OwnCode.{IsOwnCode};
 ghost use Rattle.group_text.specs.Version.{version_of};
 ghost use Rattle.group_text.specs.inner.Reading.{has_atom};
-ghost use Rattle.proof_text.specs.inner.LineReading.{ends_proof, forget_row, further_row, line_at, loop_row, stated_row, theorem_at, turn_of};
+ghost use Rattle.proof_text.specs.inner.LineReaders.{ends_proof};
+ghost use Rattle.proof_text.specs.inner.LineReading.{forget_row, further_row, line_at, loop_row, stated_row, theorem_at};
 
 use crate::line::Line;
-use crate::line_rows::{LineRow, ProofEnd};
 use crate::line_rules::{read_cited, read_rule, read_theorem};
 use crate::line_triples::read_triple;
-use group_text::{ReadError, Rows, Version, has_atom, next_row, read_index, row_begins};
+use group_text::{Version, has_atom, read_index};
 use mc_text::cursor::{eol, peek};
 use mc_text::{Scan, Token, TokenError};
 use rv_words::List;
@@ -118,25 +116,4 @@ pub fn ends_proof(scan: &Scan<'_>) -> bool
         Some((Token::Atom(name), _)) => name == b"group".as_slice() || name == b"end".as_slice(),
         _ => false,
     }
-}
-
-/// The next line of a text of that version, by the group's own code, or none where the group's proof ends.
-pub fn read_turn<E, R: Rows<E>>(
-    alloc: Global,
-    rows: &mut R,
-    from: &mut E,
-    version: Version,
-    own: &Code,
-) -> Result<Option<Line>, ReadError>
-    ensures gives { IsOwnCode own.now.ranges → RowsGive (λ found. option_map line_tree found) result (R.May rows.old from.old) (R.May rows.new from.new) (turn_of (version_of version) own.now.ranges) }
-    ensures lost { R.Sure rows.old from.old → OnRowError result ((p : RowPosition) → R.May rows.new from.new p → R.May rows.old from.old p × (goes_on ends_proof (tokens p) ≡ false)) }
-    ensures left { R.left rows.new ≤ R.left rows.old }
-    ensures fewer { IfOk result (λ found. IfSome found (λ _. R.left rows.new < R.left rows.old)) }
-    ensures lends { R.Lends (halted_by result) rows.old from.old rows.new from.new }
-{
-    if row_begins(alloc, rows, from, &ProofEnd)? {
-        return Ok(None);
-    }
-    let line = next_row(alloc, rows, from, &LineRow(own, version))?;
-    Ok(Some(line))
 }

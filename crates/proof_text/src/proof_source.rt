@@ -1,18 +1,18 @@
 //! Where the groups of a text and the lines of their proofs come from.
 
-ghost use Rattle.std.specs.Prelude.{◌≡◌, ℕ, ◌<◌, ◌≤◌, Bool, Option, IfErr, IfNone, IfOk, IfSome, IsSome, false};
+ghost use Rattle.std.specs.Prelude.{◌≡◌, ◌∷◌, ◌++◌, [], ℕ, List, ◌<◌, ◌≤◌, Bool, Option, IfErr, IfNone, IfOk, IfSome, IsSome, false};
 ghost use Rattle.tailrec_lang.specs.Tree.{group_tree};
 ghost use Rattle.group_text.specs.Limits.{IsGroupIn};
 ghost use Rattle.group_text.specs.Version.{version_of};
 ghost use Rattle.group_text.specs.declared.version.Version.{Version as Known};
-ghost use Rattle.proof_text.specs.Line.{line_tree};
+ghost use Rattle.proof_text.specs.inner.LineReaders.{IsBehindLines, ReadsLines};
 ghost use Rattle.proof_text.specs.FirstProofs.{Progress};
 ghost use Rattle.proof_text.specs.Pulling.{IfBad, is_fault};
 ghost use Rattle.proof_text.specs.Sources.{BadGroupAt, BadLineAt, Both, EndsLines, EndsText, GivesGroup, GivesLine, pull_fault};
 
-use crate::line::Line;
 use crate::pull::Pull;
 use crate::pull_fault::PullFault;
+use crate::read_lines::ReadLines;
 use crate::reader::Reader;
 use group_text::TextFault;
 use mc_shelf::Shelf;
@@ -20,7 +20,7 @@ use std::alloc::Global;
 use tailrec_lang::Group;
 
 /// A text that is read one group or line a call. What is lent at each call is where it stands.
-pub trait ProofSource<E> {
+pub trait ProofSource<E, W: ReadLines> {
     /// How far it was read, where that is told.
     ghost told: { Self → E → Option Progress };
 
@@ -38,12 +38,19 @@ pub trait ProofSource<E> {
 
     /// The next group, or none where the text ends well: to be called where the text begins, or where `next_line` has given
     /// none.
-    fn next_group(&mut self, alloc: Global, from: &mut E) -> Result<Option<Group>, PullFault>
-        requires { Goes self.old }
-        ensures given { IfOk result (λ found. IfSome found (λ g. Both (told self.old from.old) (told self.new from.new) (GivesGroup (group_tree g)))) }
+    fn next_group(
+        &mut self,
+        alloc: Global,
+        from: &mut E,
+        kept: &mut W,
+    ) -> Result<Option<Group>, PullFault>
+        requires going { Goes self.old }
+        requires laws { ReadsLines W.readers (version_of (version self.old)) }
+        ensures given { IfOk result (λ found. IfSome found (λ g. Both (told self.old from.old) (told self.new from.new) (GivesGroup W.readers.grammar (group_tree g)))) }
+        ensures behind { IfOk result (λ found. IfSome found (λ _. W.Behind kept.new [])) }
         ensures fits { IfOk result (λ found. IfSome found (λ g. IsGroupIn (version_of (version self.new)) (group_tree g))) }
-        ensures end { IfOk result (λ found. IfNone found (IfSome (told self.old from.old) EndsText)) }
-        ensures bad { IfErr result (λ fault. IfBad fault (λ n. IfSome (told self.old from.old) (BadGroupAt n))) }
+        ensures end { IfOk result (λ found. IfNone found (IfSome (told self.old from.old) (EndsText W.readers.grammar))) }
+        ensures bad { IfErr result (λ fault. IfBad fault (λ n. IfSome (told self.old from.old) (BadGroupAt W.readers.grammar n))) }
         ensures goes { IfOk result (λ found. IfSome found (λ _. Goes self.new)) }
         ensures fewer { IfOk result (λ found. IfSome found (λ _. left self.new < left self.old)) }
         ensures version { version self.new ≡ version self.old }
@@ -55,12 +62,17 @@ pub trait ProofSource<E> {
         alloc: Global,
         group: &Group,
         from: &mut E,
-    ) -> Result<Option<Line>, PullFault>
+        kept: &mut W,
+    ) -> Result<Option<W::Line>, PullFault>
         requires going { Goes self.old }
+        requires laws { ReadsLines W.readers (version_of (version self.old)) }
+        requires kept { IsBehindLines W.readers (version_of (version self.old)) (W.Behind kept.old) }
         requires group { IsGroupIn (version_of (version self.old)) (group_tree group.now) }
-        ensures given { IfOk result (λ found. IfSome found (λ l. Both (told self.old from.old) (told self.new from.new) (GivesLine (group_tree group.now) (line_tree l)))) }
+        ensures given { (before : List W.readers.grammar.Line) → W.Behind kept.old before → W.readers.grammar.Are (version_of (version self.old)) before → IfOk result (λ found. IfSome found (λ l. Both (told self.old from.old) (told self.new from.new) (GivesLine W.readers.grammar (group_tree group.now) before (W.tree l)))) }
+        ensures behind { (before : List W.readers.grammar.Line) → W.Behind kept.old before → IfOk result (λ found. IfSome found (λ l. W.Behind kept.new (before ++ W.tree l ∷ []))) }
+        ensures fits { (before : List W.readers.grammar.Line) → W.Behind kept.old before → W.readers.grammar.Are (version_of (version self.old)) before → IfOk result (λ found. IfSome found (λ l. W.readers.Fits (version_of (version self.old)) before (W.tree l))) }
         ensures end { IfOk result (λ found. IfNone found (Both (told self.old from.old) (told self.new from.new) EndsLines)) }
-        ensures bad { IfErr result (λ fault. IfBad fault (λ n. IfSome (told self.old from.old) (BadLineAt (group_tree group.now) n))) }
+        ensures bad { (before : List W.readers.grammar.Line) → W.Behind kept.old before → W.readers.grammar.Are (version_of (version self.old)) before → IfErr result (λ fault. IfBad fault (λ n. IfSome (told self.old from.old) (BadLineAt W.readers.grammar (group_tree group.now) before n))) }
         ensures goes { IfOk result (λ _. Goes self.new) }
         ensures left { left self.new ≤ left self.old }
         ensures fewer { IfOk result (λ found. IfSome found (λ _. left self.new < left self.old)) }
@@ -94,7 +106,7 @@ fn fault_of_text(fault: TextFault) -> PullFault
     }
 }
 
-impl<'a> ProofSource<()> for Reader<'a> {
+impl<'a, W: ReadLines> ProofSource<(), W> for Reader<'a> {
     ghost use Rattle.std.specs.Prelude.{◌≡◌, Some, false, length, refl};
 
     ghost told = { λ s e. Some s };
@@ -116,8 +128,13 @@ impl<'a> ProofSource<()> for Reader<'a> {
 
     ghost told_version = { λ a d. refl };
 
-    fn next_group(&mut self, alloc: Global, _from: &mut ()) -> Result<Option<Group>, PullFault> {
-        match self.group(alloc) {
+    fn next_group(
+        &mut self,
+        alloc: Global,
+        _from: &mut (),
+        kept: &mut W,
+    ) -> Result<Option<Group>, PullFault> {
+        match self.next_group(alloc, kept) {
             Ok(found) => Ok(found),
             Err(fault) => Err(fault_of_text(fault)),
         }
@@ -128,8 +145,9 @@ impl<'a> ProofSource<()> for Reader<'a> {
         alloc: Global,
         group: &Group,
         _from: &mut (),
-    ) -> Result<Option<Line>, PullFault> {
-        match self.line(alloc, group) {
+        kept: &mut W,
+    ) -> Result<Option<W::Line>, PullFault> {
+        match self.next_line(alloc, group, kept) {
             Ok(found) => Ok(found),
             Err(fault) => Err(fault_of_text(fault)),
         }
@@ -140,7 +158,7 @@ impl<'a> ProofSource<()> for Reader<'a> {
     }
 }
 
-impl<'s, S: Shelf> ProofSource<S> for Pull<'s> {
+impl<'s, S: Shelf, W: ReadLines> ProofSource<S, W> for Pull<'s> {
     ghost use Rattle.std.specs.Prelude.{◌≡◌, None, false};
     ghost use Rattle.proof_text.specs.Pulling.{left_of};
     ghost use Rattle.proof_text.specs.Sources.{told_progress};
@@ -164,8 +182,13 @@ impl<'s, S: Shelf> ProofSource<S> for Pull<'s> {
 
     ghost told_version = { λ a d. told_of_version (S.contents d) a };
 
-    fn next_group(&mut self, alloc: Global, from: &mut S) -> Result<Option<Group>, PullFault> {
-        self.group(alloc, from)
+    fn next_group(
+        &mut self,
+        alloc: Global,
+        from: &mut S,
+        kept: &mut W,
+    ) -> Result<Option<Group>, PullFault> {
+        self.next_group(alloc, from, kept)
     }
 
     fn next_line(
@@ -173,8 +196,9 @@ impl<'s, S: Shelf> ProofSource<S> for Pull<'s> {
         alloc: Global,
         group: &Group,
         from: &mut S,
-    ) -> Result<Option<Line>, PullFault> {
-        self.line(alloc, group, from)
+        kept: &mut W,
+    ) -> Result<Option<W::Line>, PullFault> {
+        self.next_line(alloc, group, from, kept)
     }
 
     fn last_place(&self) -> u64 {

@@ -1,25 +1,23 @@
 //! The next group or the next line of rows that are pulled.
 
-ghost use Rattle.std.specs.Prelude.{◌≡◌, ◌+◌, ◌-◌, ◌<◌, ◌≤◌, ◌⊎◌, ℕ, IfErr, IfNone, IfOk, IfSome, None, Some, true, false};
+ghost use Rattle.std.specs.Prelude.{◌≡◌, ◌+◌, ◌-◌, ◌<◌, ◌≤◌, ◌⊎◌, ◌∷◌, ◌++◌, [], ℕ, List, IfErr, IfNone, IfOk, IfSome, None, Some, true, false};
 ghost use Rattle.tailrec_lang.specs.Tree.{group_tree};
 ghost use Rattle.group_text.specs.Limits.{IsGroupIn};
 ghost use Rattle.group_text.specs.Version.{version_of};
 ghost use Rattle.group_text.specs.inner.Reading.{turn_at};
-ghost use Rattle.proof_text.specs.Line.{line_tree};
-ghost use Rattle.proof_text.specs.LineLimits.{IsLineIn};
 ghost use Rattle.proof_text.specs.Pulling.{IfBad};
 ghost use Rattle.group_text.specs.declared.read_error.ReadError.TheVariants.{Bad};
 ghost use Rattle.group_text.specs.declared.read_error.RowError.TheVariants.{NoMemory};
 ghost use Rattle.group_text.specs.inner.Rows.{row_error};
-ghost use Rattle.proof_text.specs.inner.LineReading.{turn_of};
+ghost use Rattle.proof_text.specs.inner.LineReaders.{ReadsLines, turn_over};
 ghost use Rattle.proof_text.specs.inner.OwnCode.{IsOwnCode};
 ghost use Rattle.proof_text.specs.inner.PulledRows.{Draws, EndsSo, WhereHeld, not_passed, rows_left};
 ghost use Rattle.proof_text.specs.inner.Pulling.{EndsBehind, ReadFrom, StoppedAt, fault_lost, pull_lost};
 
-use crate::line::Line;
-use crate::proof_lines::read_turn as read_line_turn;
+use crate::line_turns::read_turn as read_line_turn;
 use crate::pull_fault::PullFault;
 use crate::pulled_rows::PulledRows;
+use crate::read_lines::ReadLines;
 use group_text::{ReadError, RowError, Version, read_turn};
 use mc_shelf::Shelf;
 use std::alloc::Global;
@@ -121,28 +119,32 @@ pub(crate) fn next_group<S: Shelf>(
     }
 }
 
-/// The next line of a proof in a text of that version, by the group's own code, or none where the proof ends.
-pub(crate) fn next_line<S: Shelf>(
+/// The next line behind a group in a text of that version, by the group's own code, or none where the proof ends.
+pub(crate) fn next_line<S: Shelf, W: ReadLines>(
     alloc: Global,
     rows: &mut PulledRows<'_>,
     shelf: &mut S,
     version: Version,
     own: &Code,
-) -> Result<Option<Line>, PullFault>
+    kept: &mut W,
+) -> Result<Option<W::Line>, PullFault>
     requires going { rows.old.lines.refused ≡ None }
     requires own { IsOwnCode own.now.ranges }
-    ensures given { IfOk result (λ found. IfSome found (λ l. WhereHeld (S.contents shelf.old) rows.old.lines.name
-        (ReadFrom (turn_of (version_of version) own.now.ranges) (Some (line_tree l)) rows.old rows.new))) }
-    ensures fits { IfOk result (λ found. IfSome found (λ l. IsLineIn (version_of version) (line_tree l))) }
-    ensures end { IfOk result (λ found. IfNone found (WhereHeld (S.contents shelf.old) rows.old.lines.name
-        (ReadFrom (turn_of (version_of version) own.now.ranges) None rows.old rows.new))) }
-    ensures bad { IfErr result (λ fault. IfBad fault (λ n. WhereHeld (S.contents shelf.old) rows.old.lines.name
-        (StoppedAt (turn_of (version_of version) own.now.ranges) rows.old n))) }
+    requires laws { ReadsLines W.readers (version_of version) }
+    ensures given { (before : List W.readers.grammar.Line) → W.Behind kept.old before → W.readers.grammar.Are (version_of version) before → IfOk result (λ found. IfSome found (λ l. WhereHeld (S.contents shelf.old) rows.old.lines.name
+        (ReadFrom (turn_over W.readers (version_of version) own.now.ranges before) (Some (W.tree l)) rows.old rows.new))) }
+    ensures behind { (before : List W.readers.grammar.Line) → W.Behind kept.old before → IfOk result (λ found. IfSome found (λ l. W.Behind kept.new (before ++ W.tree l ∷ []))) }
+    ensures fits { (before : List W.readers.grammar.Line) → W.Behind kept.old before → W.readers.grammar.Are (version_of version) before → IfOk result (λ found. IfSome found (λ l. W.readers.Fits (version_of version) before (W.tree l))) }
+    ensures end { (before : List W.readers.grammar.Line) → W.Behind kept.old before → W.readers.grammar.Are (version_of version) before → IfOk result (λ found. IfNone found (WhereHeld (S.contents shelf.old) rows.old.lines.name
+        (ReadFrom (turn_over W.readers (version_of version) own.now.ranges before) None rows.old rows.new))) }
+    ensures bad { (before : List W.readers.grammar.Line) → W.Behind kept.old before → W.readers.grammar.Are (version_of version) before → IfErr result (λ fault. IfBad fault (λ n. WhereHeld (S.contents shelf.old) rows.old.lines.name
+        (StoppedAt (turn_over W.readers (version_of version) own.now.ranges before) rows.old n))) }
+    ensures kept { IfErr result (λ _. (before : List W.readers.grammar.Line) → W.Behind kept.old before → W.Behind kept.new before) }
     ensures draws { Draws S.contents S.read_faults S.write_faults S.IsSure (pull_lost result) rows.old shelf.old rows.new shelf.new }
     ensures left { rows_left rows.new ≤ rows_left rows.old }
     ensures fewer { IfOk result (λ found. IfSome found (λ _. rows_left rows.new < rows_left rows.old)) }
 {
-    match read_line_turn(alloc, rows, shelf, version, own) {
+    match read_line_turn(alloc, rows, shelf, version, own, kept) {
         Ok(Some(line)) => Ok(Some(line)),
         Ok(None) => Ok(None),
         Err(halt) => Err(fault_behind(halt, rows.passed())),

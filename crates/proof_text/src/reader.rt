@@ -1,20 +1,23 @@
 //! Reading a text, one group or line a call.
 
 ghost use Rattle.std.specs.Prelude.{◌≡◌, ◌<◌, ◌↔◌, ◌⊎◌, ◌∷◌, ◌++◌, [], List as Items, OnErr, length};
+ghost use Rattle.proof_text.specs.LineGrammar.{text_over, texts_over};
+ghost use Rattle.proof_text.specs.inner.LineReaders.{IsBehindLines, ReadsLines};
 ghost use Rattle.mc_text.specs.Fault.{IsBadAt};
 ghost use Rattle.tailrec_lang.specs.Eval.{HasFewNeeds};
 ghost use Rattle.tailrec_lang.specs.Tree.{group_tree};
 ghost use Rattle.group_text.specs.Limits.{IsGroupIn};
 ghost use Rattle.group_text.specs.Version.{version_of};
 ghost use Rattle.group_text.specs.declared.version.Version.TheVariants.{Four, One, Three};
-ghost use Rattle.proof_text.specs.Line.{ProofTree, line_tree};
+ghost use Rattle.proof_text.specs.Line.{ProofOf, ProofTree, line_tree};
 ghost use Rattle.proof_text.specs.LineLimits.{IsLineIn};
 ghost use Rattle.proof_text.specs.Proofs.{bare, text_of_proofs_in, texts_of_proofs_in};
-ghost use Rattle.proof_text.specs.FirstProofs.{HasGiven, MayOpen, ProofEnds, with_line};
-ghost use Rattle.proof_text.specs.Answers.{IsEnd, NoItem, OnBad, OnEnd, OnGiven};
+ghost use Rattle.proof_text.specs.FirstProofs.{HasGiven, HasGivenOver, MayOpen, ProofEnds, with_line};
+ghost use Rattle.proof_text.specs.Answers.{IsEnd, NoItem, NoItemOver, OnBad, OnEnd, OnGiven};
 
 use crate::line::Line;
-use crate::proof_lines::read_turn as read_line_turn;
+use crate::line_turns::read_turn as read_line_turn;
+use crate::read_lines::{ReadLines, WholeLines};
 use group_text::{ReadError, Rows, TextFault, TextRows, Version, is_end, read_turn, whole_lines};
 use std::alloc::Global;
 use std::marker::Model;
@@ -50,7 +53,7 @@ impl<'a> Reader<'a> {
         ensures version { result.version ≡ One }
         ensures given { HasGiven [] result }
     {
-        Reader::at_start(text, Version::One)
+        Reader::of_version(text, Version::One)
     }
 
     /// Stands before the first line of a text of version 3 or 4.
@@ -62,16 +65,17 @@ impl<'a> Reader<'a> {
         ensures given { HasGiven [] result }
     {
         if version == 3 {
-            Reader::at_start(text, Version::Three)
+            Reader::of_version(text, Version::Three)
         } else {
-            Reader::at_start(text, Version::Four)
+            Reader::of_version(text, Version::Four)
         }
     }
 
     /// Stands before the first line of a text of that version.
-    fn at_start(text: &'a [u8], version: Version) -> Reader<'a>
+    pub fn of_version(text: &'a [u8], version: Version) -> Reader<'a>
         ensures text { result.text ≡ text.now }
         ensures version { result.version ≡ version }
+        ensures begin { (result.rest ≡ result.text) × (result.place ≡ 0) }
         ensures given { HasGiven [] result }
     {
         let (lines, tail) = whole_lines(text);
@@ -81,6 +85,93 @@ impl<'a> Reader<'a> {
             lines,
             tail,
             place: 0,
+        }
+    }
+
+    /// The next group of a text with such lines, or none where the text ends well: to be called where the text begins, or
+    /// where `next_line` has given none. A fault and the end are answered again and again.
+    pub fn next_group<W: ReadLines>(
+        &mut self,
+        alloc: Global,
+        kept: &mut W,
+    ) -> Result<Option<Group>, TextFault>
+        requires { ReadsLines W.readers (version_of self.old.version) }
+        ensures text { self.new.text ≡ self.old.text }
+        ensures version { self.new.version ≡ self.old.version }
+        ensures given { OnGiven result (λ g. (ps : Items (ProofOf W.readers.grammar.Line)) → HasGivenOver W.readers.grammar ps self.old → HasGivenOver W.readers.grammar (ps ++ bare (group_tree g) ∷ []) self.new) }
+        ensures behind { OnGiven result (λ _. W.Behind kept.new []) }
+        ensures fits { OnGiven result (λ g. IsGroupIn (version_of self.new.version) (group_tree g)) }
+        ensures needs { OnGiven result (λ g. HasFewNeeds (group_tree g)) }
+        ensures shorter { OnGiven result (λ _. length self.new.rest < length self.old.rest) }
+        ensures end { OnEnd result ((ps : Items (ProofOf W.readers.grammar.Line)) → HasGivenOver W.readers.grammar ps self.old → self.old.text ≡ text_over W.readers.grammar (version_of self.old.version) ps) }
+        ensures bad { OnBad result (λ n. (ps : Items (ProofOf W.readers.grammar.Line)) → HasGivenOver W.readers.grammar ps self.old → MayOpen ps self.old.rest → IsBadAt (texts_over W.readers.grammar (version_of self.old.version)) self.old.text n) }
+        ensures no_item { OnBad result (λ n. (ps : Items (ProofOf W.readers.grammar.Line)) → HasGivenOver W.readers.grammar ps self.old → MayOpen ps self.old.rest → NoItemOver W.readers.grammar ps self.old) }
+        ensures end_same { OnEnd result (self.new ≡ self.old) }
+        ensures fault_same { OnErr result (self.new ≡ self.old) }
+    {
+        let mut rows = TextRows::new(self.lines);
+        match read_turn(alloc, &mut rows, &mut (), self.version, self.place == 0) {
+            Ok(Some(group)) => {
+                let passed = rows.taken(&());
+                self.lines = rows.rest();
+                self.place += passed;
+                kept.start(alloc);
+                Ok(Some(group))
+            }
+            Ok(None) => {
+                if is_end(rows.rest(), self.tail) {
+                    Ok(None)
+                } else {
+                    Err(TextFault::Bad(self.place + rows.taken(&()) + 1))
+                }
+            }
+            Err(ReadError::Bad) => Err(TextFault::Bad(self.place + rows.taken(&()) + 1)),
+            Err(ReadError::Fault) => Err(TextFault::NoMemory),
+            Err(ReadError::NoMemory) => Err(TextFault::NoMemory),
+        }
+    }
+
+    /// The next line behind the definitions of the group that was given last, or none where its lines end. Both that and a
+    /// fault are answered again and again.
+    pub fn next_line<W: ReadLines>(
+        &mut self,
+        alloc: Global,
+        group: &Group,
+        kept: &mut W,
+    ) -> Result<Option<W::Line>, TextFault>
+        requires laws { ReadsLines W.readers (version_of self.old.version) }
+        requires kept { IsBehindLines W.readers (version_of self.old.version) (W.Behind kept.old) }
+        requires group { IsGroupIn (version_of self.old.version) (group_tree group.now) }
+        ensures text { self.new.text ≡ self.old.text }
+        ensures version { self.new.version ≡ self.old.version }
+        // Behind lines that may be those of which was kept.
+        ensures given { (before : Items W.readers.grammar.Line) → W.Behind kept.old before → OnGiven result (λ l. (ps : Items (ProofOf W.readers.grammar.Line)) (p : ProofOf W.readers.grammar.Line)
+            → HasGivenOver W.readers.grammar (ps ++ p ∷ []) self.old → p.group ≡ group_tree group.now → p.lines ≡ before → HasGivenOver W.readers.grammar (ps ++ with_line p (W.tree l) ∷ []) self.new) }
+        ensures behind { (before : Items W.readers.grammar.Line) → W.Behind kept.old before → OnGiven result (λ l. W.Behind kept.new (before ++ W.tree l ∷ [])) }
+        ensures fits { (before : Items W.readers.grammar.Line) → W.Behind kept.old before → W.readers.grammar.Are (version_of self.old.version) before → OnGiven result (λ l. W.readers.Fits (version_of self.old.version) before (W.tree l)) }
+        ensures bad { (before : Items W.readers.grammar.Line) → W.Behind kept.old before → OnBad result (λ n. (ps : Items (ProofOf W.readers.grammar.Line)) (p : ProofOf W.readers.grammar.Line)
+            → HasGivenOver W.readers.grammar (ps ++ p ∷ []) self.old → p.group ≡ group_tree group.now → p.lines ≡ before → IsBadAt (texts_over W.readers.grammar (version_of self.old.version)) self.old.text n) }
+        ensures no_item { (before : Items W.readers.grammar.Line) → W.Behind kept.old before → OnBad result (λ n. (ps : Items (ProofOf W.readers.grammar.Line)) (p : ProofOf W.readers.grammar.Line)
+            → HasGivenOver W.readers.grammar (ps ++ p ∷ []) self.old → p.group ≡ group_tree group.now → p.lines ≡ before → NoItemOver W.readers.grammar (ps ++ p ∷ []) self.old) }
+        ensures kept { OnErr result ((before : Items W.readers.grammar.Line) → W.Behind kept.old before → W.Behind kept.new before) }
+        // Whatever was kept.
+        ensures end { IsEnd result ↔ ProofEnds self.old.rest }
+        ensures shorter { OnGiven result (λ _. length self.new.rest < length self.old.rest) }
+        ensures end_same { OnEnd result (self.new ≡ self.old) }
+        ensures fault_same { OnErr result (self.new ≡ self.old) }
+    {
+        let mut ahead = TextRows::new(self.lines);
+        match read_line_turn(alloc, &mut ahead, &mut (), self.version, &group.code, kept) {
+            Ok(Some(line)) => {
+                let passed = ahead.taken(&());
+                self.lines = ahead.rest();
+                self.place += passed;
+                Ok(Some(line))
+            }
+            Ok(None) => Ok(None),
+            Err(ReadError::Bad) => Err(TextFault::Bad(self.place + ahead.taken(&()) + 1)),
+            Err(ReadError::Fault) => Err(TextFault::NoMemory),
+            Err(ReadError::NoMemory) => Err(TextFault::NoMemory),
         }
     }
 
@@ -99,25 +190,7 @@ impl<'a> Reader<'a> {
         ensures end_same { OnEnd result (self.new ≡ self.old) }
         ensures fault_same { OnErr result (self.new ≡ self.old) }
     {
-        let mut rows = TextRows::new(self.lines);
-        match read_turn(alloc, &mut rows, &mut (), self.version, self.place == 0) {
-            Ok(Some(group)) => {
-                let passed = rows.taken(&());
-                self.lines = rows.rest();
-                self.place += passed;
-                Ok(Some(group))
-            }
-            Ok(None) => {
-                if is_end(rows.rest(), self.tail) {
-                    Ok(None)
-                } else {
-                    Err(TextFault::Bad(self.place + rows.taken(&()) + 1))
-                }
-            }
-            Err(ReadError::Bad) => Err(TextFault::Bad(self.place + rows.taken(&()) + 1)),
-            Err(ReadError::Fault) => Err(TextFault::NoMemory),
-            Err(ReadError::NoMemory) => Err(TextFault::NoMemory),
-        }
+        self.next_group(alloc, &mut WholeLines)
     }
 
     /// The next line of the proof of the group that was given last, or none where its lines end. Both that and a fault are
@@ -135,19 +208,7 @@ impl<'a> Reader<'a> {
         ensures end_same { OnEnd result (self.new ≡ self.old) }
         ensures fault_same { OnErr result (self.new ≡ self.old) }
     {
-        let mut ahead = TextRows::new(self.lines);
-        match read_line_turn(alloc, &mut ahead, &mut (), self.version, &group.code) {
-            Ok(Some(line)) => {
-                let passed = ahead.taken(&());
-                self.lines = ahead.rest();
-                self.place += passed;
-                Ok(Some(line))
-            }
-            Ok(None) => Ok(None),
-            Err(ReadError::Bad) => Err(TextFault::Bad(self.place + ahead.taken(&()) + 1)),
-            Err(ReadError::Fault) => Err(TextFault::NoMemory),
-            Err(ReadError::NoMemory) => Err(TextFault::NoMemory),
-        }
+        self.next_line(alloc, group, &mut WholeLines)
     }
 
     /// The number of the last line of the group or line that was given last, and 0 before the first.

@@ -1,16 +1,15 @@
 -- Reading the lines of proofs from tokens, by computing: a line a rule of the grammar. A list of items is read with what
 -- stands behind it, so the words between the parts of a triple are read with the part before them.
-use Rattle.std.specs.Prelude.{ℕ, zero, suc, ◌+◌, ◌-◌, ◌^◌, Bool, true, false, ◌&&◌, ◌||◌, not, nat_le, List, [], ◌∷◌, length, map, codes, Option, Some, None, option_map, Ok, if◌then◌else◌}
-use Rattle.std.specs.Str.{bytes_eq}
+use Rattle.std.specs.Prelude.{ℕ, ◌+◌, ◌^◌, Bool, true, false, ◌&&◌, not, nat_le, List, [], ◌∷◌, map, codes, Option, option_map, if◌then◌else◌}
 use Rattle.mc_text.specs.Number.{hex_of, number_of}
-use Rattle.mc_text.specs.Tokens.{Tok, Atom}
-use Rattle.mc_text.specs.Reading.{Reader, pair, with, made, one, atom_of, below, many, star, goes_on, refused, is_left, is_right, is_open, address_at}
+use Rattle.mc_text.specs.Tokens.{Atom}
+use Rattle.mc_text.specs.Reading.{Reader, pair, with, made, one, atom_of, below, star, is_left, is_right, is_open, address_at}
 use Rattle.mc_text.specs.inner.Reading.{is_semi, eol, word, keyed, checked, number_at}
 use Rattle.rv_words.specs.declared.range.Range.{Range}
 use Rattle.word_terms.specs.Tree.{WordTree, MemTree}
 use Rattle.term_text.specs.Limits.{depth_limit}
 use Rattle.term_text.specs.Reading.{named, or_option, variable_of, form_of, word_at, mem_at, cond_at, range_at, begins_word, begins_mem}
-use Rattle.tailrec_lang.specs.Tree.{ValuesTree, DefTree}
+use Rattle.tailrec_lang.specs.Tree.{ValuesTree}
 use Rattle.sep_assert.specs.Tree.{AssertionTree}
 use Rattle.triple_kernel.specs.Tree.{FactTree, WordIs, MemIs, So, Gives, TripleTree}
 use Rattle.triple_kernel.specs.declared.form.Form.{Form}
@@ -21,11 +20,13 @@ use Rattle.proof_text.specs.declared.line_heads.RuleHead.{RuleHead}
 use Rattle.proof_text.specs.declared.line_heads.RuleHead.TheVariants as rule_head
 use Rattle.proof_text.specs.declared.line_heads.SubHead.{SubHead}
 use Rattle.proof_text.specs.declared.line_heads.SubHead.TheVariants as sub_head
-use Rattle.proof_text.specs.Line.{RuleTree, Axiom, Inst, Frame, Compose, ExtendCode, Strengthen, Weaken, Discharge, UseExit, LineTree, States, Loop, Forget, Further, ProofTree}
+use Rattle.proof_text.specs.Line.{RuleTree, Axiom, Inst, Frame, Compose, ExtendCode, Strengthen, Weaken, Discharge, UseExit, LineTree, States, Loop, Forget, Further}
 use Rattle.group_text.specs.Version.{Version, is_further}
 use Rattle.proof_text.specs.LineSpelling.{same_ranges}
-use Rattle.group_text.specs.Limits.{def_limit}
-use Rattle.group_text.specs.inner.Reading.{has_atom, registers_rise, ranges_rise, Head, def_at, is_def, head_at, group_of, title_row}
+use Rattle.proof_text.specs.LineLimits.{IsLineIn}
+use Rattle.proof_text.specs.LineGrammar.{whole_lines}
+use Rattle.group_text.specs.inner.Reading.{has_atom, registers_rise, ranges_rise}
+use Rattle.proof_text.specs.inner.LineReaders.{LineReaders, turn_over}
 
 -- ---- numbers
 
@@ -224,45 +225,10 @@ keyed_where test r other (t ∷ ts) = other (t ∷ ts)
 unfoldable pub line_at : Version → List Range → Reader LineTree
 line_at v own = keyed (codes "loop") loop_row (keyed (codes "forget") forget_row (keyed_where (is_further v) (further_row own) (stated_row own)))
 
--- whether a token is the first of the next group, or of the line that ends the text
-abbrev pub ends_proof : Tok → Bool
-ends_proof (Atom a) = bytes_eq a (codes "group") || bytes_eq a (codes "end")
-ends_proof _ = false
+-- lines that state whole triples
+abbrev pub whole_readers : LineReaders
+whole_readers = record { grammar = whole_lines; Fits = λ v ls l. IsLineIn v l; line_at = λ v own ls. line_at v own }
 
 -- what one call reads: the next line, or none where the proof ends
 abbrev pub turn_of : Version → List Range → Reader (Option LineTree)
-turn_of v own ts = if goes_on ends_proof ts then Ok (None, ts) else made Some (line_at v own) ts
-
--- ---- whole texts
-
--- whether a line of a proof may begin so: neither the next group nor the end of the text does
-abbrev pub begins_line : Tok → Bool
-begins_line (Atom a) = not (bytes_eq a (codes "group")) && not (bytes_eq a (codes "end"))
-begins_line _ = false
-
--- the lines of a group, by its code
-abbrev pub lines_at : Version → List Range → Reader (List LineTree)
-lines_at v own = star begins_line (line_at v own)
-
--- how many definitions may follow the first
-abbrev pub more_defs : ℕ
-more_defs = def_limit - 1
-
-abbrev pub defs_at : Reader (List DefTree)
-defs_at = many more_defs is_def def_at
-
-abbrev pub proof_of : Head → List DefTree → List LineTree → ProofTree
-proof_of h defs lines = record { group = group_of h defs; lines = lines }
-
--- at most so many groups with their lines, and the end of the text
-unfoldable pub proofs_at : Version → ℕ → Reader (List ProofTree)
-proofs_at v zero ts = keyed (codes "end") (made (λ _. []) eol) refused ts
-proofs_at v (suc n) ts =
-    keyed (codes "end") (made (λ _. []) eol)
-    (keyed (codes "group") (made (λ x. proof_of x.0 (x.1.0 ∷ x.1.1.0) x.1.1.1.0 ∷ x.1.1.1.1) (with (head_at v) (λ h. pair def_at (pair defs_at (pair (lines_at v h.code) (proofs_at v n)))))) refused) ts
-
-abbrev pub all_proofs : Version → Reader (List ProofTree)
-all_proofs v ts = proofs_at v (length ts) ts
-
-abbrev pub proofs_text_at : Version → Reader (List ProofTree)
-proofs_text_at v = made (λ x. x.1) (pair (title_row v) (all_proofs v))
+turn_of v own ts = turn_over whole_readers v own [] ts

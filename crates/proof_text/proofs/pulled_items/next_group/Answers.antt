@@ -9,6 +9,7 @@ use Rattle.proof_text.specs.inner.PulledRows.{EndsSo, WhereHeld, not_passed}
 use Rattle.proof_text.specs.inner.Drawing.{draws_as, draws_then}
 use Rattle.proof_text.specs.inner.Pulling.{EndsBehind, ReadFrom, StoppedAt, fault_lost}
 use Rattle.proof_text.proofs.PullAnswers.{bad_so, err_bad_so, held_at, none_ended, none_given}
+use Rattle.proof_text.proofs.WholeLaws.{lines_known}
 use Rattle.proof_text.proofs.PullLemmas.{group_within, read_from, stopped_at, told_so}
 use Rattle.proof_text.proofs.pulled_items.next_group.Goals as goal
 
@@ -23,7 +24,7 @@ pub returns-in-Ok-Some-clause-fits : goal.returns-in-Ok-Some-clause-fits
 returns-in-Ok-Some-clause-fits g c =
     let d = c.in-Ok-Some.ensures.lends in
     let all = found-was group_tree (turn_at (version_of c.args.version) c.args.first) _ _ c.in-Ok-Some.field-0 (Some c.in-Ok-Some.group) c.in-Ok-Some.field-0-is c.in-Ok-Some.ensures.gives in
-    group_within (g.S.Shelf.contents c.args.shelf.now) (g.S.Shelf.contents c.read_turn.new.from) c.args.rows.now c.read_turn.new.rows d.shelf.kept d.name (d.going refl ∙ c.requires) c.args.version c.args.first (group_tree c.in-Ok-Some.group) all
+    group_within (g.S.Shelf.contents c.args.shelf.now) (g.S.Shelf.contents c.read_turn.new.from) c.args.rows.now c.read_turn.new.rows d.shelf.kept d.name (d.going refl ∙ c.requires) (lines_known c.args.version) c.args.first (group_tree c.in-Ok-Some.group) all
 
 pub returns-in-Ok-None-clause-given : goal.returns-in-Ok-None-clause-given
 returns-in-Ok-None-clause-given g c = none_given c.read_end.result _ c.read_end.ensures.none

@@ -1,115 +1,42 @@
-use Rattle.std.proofs.Common.{◌≡◌, ℕ, ◌<◌, true, true≢false, List, [], ◌∷◌, ◌++◌, length, Some, None, Ok, Err, refl, sym, subst, ◌∙◌}
+use Rattle.std.proofs.Common.{◌≡◌, ℕ, List, [], ◌∷◌, ◌++◌, None, IfSome, refl, sym, subst}
+use Rattle.std.specs.Prelude.{IfOk}
+use Rattle.std.specs.List.{AllByRecursion}
 use Rattle.mc_text.specs.Fault.{IsBadAt}
 use Rattle.tailrec_lang.specs.Tree.{group_tree}
-use Rattle.group_text.specs.Limits.{IsGroupIn}
 use Rattle.group_text.specs.Version.{version_of}
-use Rattle.group_text.proofs.HeadLaws.{IsCode}
+use Rattle.group_text.specs.declared.version.Version.{Version as Known}
 use Rattle.proof_text.specs.declared.line.Line.{Line}
-use Rattle.proof_text.specs.declared.pull_fault.PullFault.{PullFault}
-use Rattle.proof_text.specs.Line.{ProofTree, line_tree}
+use Rattle.proof_text.specs.Line.{LineTree, ProofTree, line_tree}
+use Rattle.proof_text.specs.LineLimits.{IsLineIn}
 use Rattle.proof_text.specs.Proofs.{texts_of_proofs_in}
-use Rattle.proof_text.specs.FirstProofs.{HasGiven, ProofEnds, with_line}
+use Rattle.proof_text.specs.LineGrammar.{whole_lines}
+use Rattle.proof_text.specs.FirstProofs.{HasGiven, with_line}
 use Rattle.proof_text.specs.Answers.{NoItem}
-use Rattle.proof_text.specs.Pulling.{PullState, Pulls, IfBad, progress_in, held_text}
-use Rattle.proof_text.specs.inner.LineReading.{turn_of}
-use Rattle.proof_text.specs.inner.PulledRows.{WhereHeld}
-use Rattle.proof_text.specs.inner.Pulling.{ReadFrom}
-use Rattle.proof_text.proofs.PullAnswers.{bad_all, bad_so, none_so, some_so}
-use Rattle.proof_text.proofs.PullCalls.{line_given, line_shorter, line_stopped, lines_ended}
-use Rattle.proof_text.proofs.PullEffects.{pulls_drawn, pulls_ended, pulls_refused}
-use Rattle.proof_text.proofs.PullLemmas.{told_so}
+use Rattle.proof_text.specs.Pulling.{held_text, progress_in}
+use Rattle.proof_text.proofs.Called.{last-proof-are}
+use Rattle.proof_text.proofs.WholeAnswers.{pulled_all, refused_all}
+use Rattle.proof_text.proofs.WholeLaws.{lines-read}
 use Rattle.proof_text.proofs.pull.Pull.line.Goals as goal
 
-not-none : (fault : PullFault) → Some fault ≡ None → ⊥
-not-none f e = cc
+pub next_line-requires-clause-laws : goal.next_line-requires-clause-laws
+next_line-requires-clause-laws g c = lines-read c.args.self.now.version
 
--- ---- where it was refused
+pub returns-clause-given : goal.returns-clause-given
+returns-clause-given g c =
+    pulled_all (λ (ls : List LineTree). AllByRecursion (IsLineIn (version_of c.args.self.now.version)) ls) c.next_line.result (g.S.Shelf.contents c.args.shelf.now) c.args.self.now.rows.lines.name
+    (λ (ls : List LineTree) (l : Line) (file : List ℕ). (ps : List ProofTree) (p : ProofTree) → HasGiven (ps ++ p ∷ []) (progress_in c.args.self.now file) → p.group ≡ group_tree c.args.group.now → p.lines ≡ ls → HasGiven (ps ++ with_line p (line_tree l) ∷ []) (progress_in c.next_line.new.self file))
+    (λ (l : Line) (file : List ℕ). (ps : List ProofTree) (p : ProofTree) → HasGiven (ps ++ p ∷ []) (progress_in c.args.self.now file) → p.group ≡ group_tree c.args.group.now → HasGiven (ps ++ with_line p (line_tree l) ∷ []) (progress_in c.next_line.new.self file))
+    (λ l file each ps p h same. each p.lines (last-proof-are whole_lines (version_of c.args.self.now.version) ps p h.fit) ps p h same refl) (λ ls are. c.next_line.ensures.given ls tt are)
 
-pub returns-in-Some-clause-bad : goal.returns-in-Some-clause-bad
-returns-in-Some-clause-bad g c =
-    let was : c.args.self.now.refused ≡ Some c.in-Some.fault = subst (λ (s : PullState). s.refused ≡ Some c.in-Some.fault) c.self.view_is c.in-Some.is in
-    bad_all c.in-Some.fault _ (λ n none. absurd (not-none c.in-Some.fault (sym was ∙ none)))
+pub returns-clause-bad : goal.returns-clause-bad
+returns-clause-bad g c =
+    refused_all (λ (ls : List LineTree). AllByRecursion (IsLineIn (version_of c.args.self.now.version)) ls) c.next_line.result (c.args.self.now.refused ≡ None) (g.S.Shelf.contents c.args.shelf.now) c.args.self.now.rows.lines.name
+    (λ (ls : List LineTree) (n : ℕ) (file : List ℕ). (ps : List ProofTree) (p : ProofTree) → HasGiven (ps ++ p ∷ []) (progress_in c.args.self.now file) → p.group ≡ group_tree c.args.group.now → p.lines ≡ ls
+    → IsBadAt (texts_of_proofs_in (version_of c.args.self.now.version)) (held_text c.args.self.now file) n × NoItem (ps ++ p ∷ []) (progress_in c.args.self.now file))
+    (λ (n : ℕ) (file : List ℕ). (ps : List ProofTree) (p : ProofTree) → HasGiven (ps ++ p ∷ []) (progress_in c.args.self.now file) → p.group ≡ group_tree c.args.group.now
+    → IsBadAt (texts_of_proofs_in (version_of c.args.self.now.version)) (held_text c.args.self.now file) n × NoItem (ps ++ p ∷ []) (progress_in c.args.self.now file))
+    (λ n file each ps p h same. each p.lines (last-proof-are whole_lines (version_of c.args.self.now.version) ps p h.fit) ps p h same refl) (λ ls are. c.next_line.ensures.bad ls tt are)
 
-pub returns-in-Some-clause-pulls : goal.returns-in-Some-clause-pulls
-returns-in-Some-clause-pulls g c =
-    let was : c.args.self.now.refused ≡ Some c.in-Some.fault = subst (λ (s : PullState). s.refused ≡ Some c.in-Some.fault) c.self.view_is c.in-Some.is in
-    pulls_refused g.S.Shelf.contents g.S.Shelf.read_faults g.S.Shelf.write_faults g.S.Shelf.IsSure {X = Line} (Err c.in-Some.fault) c.args.self.now c.args.shelf.now c.in-Some.fault was refl
-
--- ---- where it has ended
-
-pub returns-then-self-clause-end : goal.returns-then-self-clause-end
-returns-then-self-clause-end g c =
-    let ended : c.args.self.now.ended ≡ true = subst (λ (s : PullState). s.ended ≡ true) c.self.view_is c.if-self.true in
-    λ open_. absurd (true≢false (sym ended ∙ open_))
-
-pub returns-then-self-clause-pulls : goal.returns-then-self-clause-pulls
-returns-then-self-clause-pulls g c =
-    let going : c.args.self.now.refused ≡ None = subst (λ (s : PullState). s.refused ≡ None) c.self.view_is c.in_default.is in
-    pulls_ended g.S.Shelf.contents g.S.Shelf.read_faults g.S.Shelf.write_faults g.S.Shelf.IsSure {X = Line} (Ok None) c.args.self.now c.args.shelf.now going refl
-
--- ---- where it was given, or there was none
-
-pub returns-in-Ok-clause-given : goal.returns-in-Ok-clause-given
-returns-in-Ok-clause-given g c =
-    let before : PullState = record { version = c.self.inside.version; rows = c.self.inside.rows; place = c.self.inside.place; ended = c.self.inside.ended; refused = c.self.inside.refused } in
-    let inside = c.self.invariant c.in_default.is in
-    let place = inside.1 c.if-self.false in
-    let d = c.in-Ok.ensures.draws in
-    let new : PullState = record { version = c.self.inside.version; rows = c.next_line.new.rows; place = c.passed-self-inside.result; ended = c.self.inside.ended; refused = c.self.inside.refused } in
-    let fits : IsGroupIn (version_of before.version) (group_tree c.args.group.now) = subst (λ (s : PullState). IsGroupIn (version_of s.version) (group_tree c.args.group.now)) (sym c.self.view_is) c.requires in
-    some_so c.in-Ok.found (λ x. WhereHeld (g.S.Shelf.contents c.args.shelf.now) before.rows.lines.name (ReadFrom (turn_of (version_of before.version) c.args.group.now.code.ranges) (Some (line_tree x)) before.rows new.rows)) _
-    (λ x gives. subst (λ (s : PullState). WhereHeld (g.S.Shelf.contents c.args.shelf.now) s.rows.lines.name (λ (file : List ℕ). (ps : List ProofTree) (p : ProofTree) → HasGiven (ps ++ p ∷ []) (progress_in s file) → p.group ≡ group_tree c.args.group.now → HasGiven (ps ++ with_line p (line_tree x) ∷ []) (progress_in new file))) c.self.view_is
-    (told_so (g.S.Shelf.contents c.args.shelf.now) before.rows.lines.name _ _ (λ files file is held k. line_given before file place new refl d.size c.passed-self-inside.ensures (group_tree c.args.group.now) fits (line_tree x) k) gives)) c.in-Ok.ensures.given
-
-pub returns-in-Ok-clause-shorter : goal.returns-in-Ok-clause-shorter
-returns-in-Ok-clause-shorter g c =
-    let before : PullState = record { version = c.self.inside.version; rows = c.self.inside.rows; place = c.self.inside.place; ended = c.self.inside.ended; refused = c.self.inside.refused } in
-    let inside = c.self.invariant c.in_default.is in
-    let place = inside.1 c.if-self.false in
-    let d = c.in-Ok.ensures.draws in
-    let new : PullState = record { version = c.self.inside.version; rows = c.next_line.new.rows; place = c.passed-self-inside.result; ended = c.self.inside.ended; refused = c.self.inside.refused } in
-    let fits : IsGroupIn (version_of before.version) (group_tree c.args.group.now) = subst (λ (s : PullState). IsGroupIn (version_of s.version) (group_tree c.args.group.now)) (sym c.self.view_is) c.requires in
-    some_so c.in-Ok.found (λ x. WhereHeld (g.S.Shelf.contents c.args.shelf.now) before.rows.lines.name (ReadFrom (turn_of (version_of before.version) c.args.group.now.code.ranges) (Some (line_tree x)) before.rows new.rows)) _
-    (λ x gives. subst (λ (s : PullState). WhereHeld (g.S.Shelf.contents c.args.shelf.now) s.rows.lines.name (λ (file : List ℕ). length (progress_in new file).rest < length (progress_in s file).rest)) c.self.view_is
-    (told_so (g.S.Shelf.contents c.args.shelf.now) before.rows.lines.name _ _ (λ files file is held k. line_shorter before file place new refl d.size c.passed-self-inside.ensures (group_tree c.args.group.now) fits (line_tree x) k) gives)) c.in-Ok.ensures.given
-
-pub returns-in-Ok-clause-end : goal.returns-in-Ok-clause-end
-returns-in-Ok-clause-end g c =
-    let before : PullState = record { version = c.self.inside.version; rows = c.self.inside.rows; place = c.self.inside.place; ended = c.self.inside.ended; refused = c.self.inside.refused } in
-    let inside = c.self.invariant c.in_default.is in
-    let place = inside.1 c.if-self.false in
-    let d = c.in-Ok.ensures.draws in
-    let new : PullState = record { version = c.self.inside.version; rows = c.next_line.new.rows; place = c.passed-self-inside.result; ended = c.self.inside.ended; refused = c.self.inside.refused } in
-    let code : IsCode c.args.group.now.code.ranges = (c.requires.code, c.requires.bytes) in
-    none_so c.in-Ok.found (WhereHeld (g.S.Shelf.contents c.args.shelf.now) before.rows.lines.name (ReadFrom (turn_of (version_of before.version) c.args.group.now.code.ranges) None before.rows new.rows)) _
-    (λ ends open_. subst (λ (s : PullState). WhereHeld (g.S.Shelf.contents c.args.shelf.now) s.rows.lines.name (λ (file : List ℕ). (progress_in new file ≡ progress_in s file) × ProofEnds (progress_in s file).rest)) c.self.view_is
-    (told_so (g.S.Shelf.contents c.args.shelf.now) before.rows.lines.name _ _ (λ files file is held k. lines_ended before file place new refl d.size (group_tree c.args.group.now) code c.passed-self-inside.ensures k) ends)) c.in-Ok.ensures.end
-
-pub returns-in-Ok-clause-pulls : goal.returns-in-Ok-clause-pulls
-returns-in-Ok-clause-pulls g c =
-    let before : PullState = record { version = c.self.inside.version; rows = c.self.inside.rows; place = c.self.inside.place; ended = c.self.inside.ended; refused = c.self.inside.refused } in
-    let inside = c.self.invariant c.in_default.is in
-    let new : PullState = record { version = c.self.inside.version; rows = c.next_line.new.rows; place = c.passed-self-inside.result; ended = c.self.inside.ended; refused = c.self.inside.refused } in
-    subst (λ (s : PullState). Pulls g.S.Shelf.contents g.S.Shelf.read_faults g.S.Shelf.write_faults g.S.Shelf.IsSure (Ok c.in-Ok.found) s c.args.shelf.now new c.next_line.new.shelf) c.self.view_is
-    (pulls_drawn g.S.Shelf.contents g.S.Shelf.read_faults g.S.Shelf.write_faults g.S.Shelf.IsSure (Ok c.in-Ok.found) before c.args.shelf.now new c.next_line.new.shelf c.in_default.is c.if-self.false inside.0 refl c.in-Ok.ensures.draws tt c.in_default.is c.in-Ok.ensures.left c.in-Ok.ensures.fewer)
-
--- ---- where it is refused
-
-pub returns-in-Err-clause-bad : goal.returns-in-Err-clause-bad
-returns-in-Err-clause-bad g c =
-    let before : PullState = record { version = c.self.inside.version; rows = c.self.inside.rows; place = c.self.inside.place; ended = c.self.inside.ended; refused = c.self.inside.refused } in
-    let inside = c.self.invariant c.in_default.is in
-    let place = inside.1 c.if-self.false in
-    subst (λ (s : PullState). IfBad c.in-Err.fault (λ (n : ℕ). s.refused ≡ None → WhereHeld (g.S.Shelf.contents c.args.shelf.now) s.rows.lines.name (λ (file : List ℕ). (ps : List ProofTree) (p : ProofTree) → HasGiven (ps ++ p ∷ []) (progress_in s file) → p.group ≡ group_tree c.args.group.now → IsBadAt (texts_of_proofs_in (version_of s.version)) (held_text s file) n × NoItem (ps ++ p ∷ []) (progress_in s file)))) c.self.view_is
-    (bad_so c.in-Err.fault _ (λ (n : ℕ). before.refused ≡ None → WhereHeld (g.S.Shelf.contents c.args.shelf.now) before.rows.lines.name (λ (file : List ℕ). (ps : List ProofTree) (p : ProofTree) → HasGiven (ps ++ p ∷ []) (progress_in before file) → p.group ≡ group_tree c.args.group.now → IsBadAt (texts_of_proofs_in (version_of before.version)) (held_text before file) n × NoItem (ps ++ p ∷ []) (progress_in before file)))
-    (λ n stops going. told_so (g.S.Shelf.contents c.args.shelf.now) before.rows.lines.name _ _
-    (λ files file is held k ps p h same. line_stopped before file place (group_tree c.args.group.now) ps p h same n k) stops) c.in-Err.ensures.bad)
-
-pub returns-in-Err-clause-pulls : goal.returns-in-Err-clause-pulls
-returns-in-Err-clause-pulls g c =
-    let before : PullState = record { version = c.self.inside.version; rows = c.self.inside.rows; place = c.self.inside.place; ended = c.self.inside.ended; refused = c.self.inside.refused } in
-    let inside = c.self.invariant c.in_default.is in
-    let place = inside.1 c.if-self.false in
-    let new : PullState = record { version = c.self.inside.version; rows = c.next_line.new.rows; place = c.self.inside.place; ended = c.self.inside.ended; refused = Some c.in-Err.fault } in
-    subst (λ (s : PullState). Pulls g.S.Shelf.contents g.S.Shelf.read_faults g.S.Shelf.write_faults g.S.Shelf.IsSure {X = Line} (Err c.in-Err.fault) s c.args.shelf.now new c.next_line.new.shelf) c.self.view_is
-    (pulls_drawn g.S.Shelf.contents g.S.Shelf.read_faults g.S.Shelf.write_faults g.S.Shelf.IsSure {X = Line} (Err c.in-Err.fault) before c.args.shelf.now new c.next_line.new.shelf c.in_default.is c.if-self.false inside.0 refl c.in-Err.ensures.draws refl tt c.in-Err.ensures.left tt)
+pub returns-clause-fits : goal.returns-clause-fits
+returns-clause-fits g c =
+    subst (λ (v : Known). IfOk c.next_line.result (λ found. IfSome found (λ l. IsLineIn (version_of v) (line_tree l)))) (sym c.next_line.ensures.pulls.version) (c.next_line.ensures.fits [] tt tt)
