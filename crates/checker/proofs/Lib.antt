@@ -11,4 +11,7 @@ pub mod FileCodeLemmas
 pub mod FirstLemmas
 pub mod OneVerdict
 pub mod CheckLemmas
+pub mod JudgedLemmas
+pub mod Told
+pub mod WholeLemmas
 pub mod SourceLemmas

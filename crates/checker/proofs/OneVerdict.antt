@@ -17,6 +17,7 @@ use Rattle.group_text.specs.declared.version.Version.{Version as Known}
 use Rattle.group_text.specs.Version.{version_of}
 use Rattle.proof_text.proofs.Fronts.{fronts, text-front}
 use Rattle.proof_text.proofs.ProofTexts.{proofs-once}
+use Rattle.proof_text.proofs.WholeLaws.{lines_known}
 use Rattle.mc_text.proofs.FaultOnce.{bad-once}
 use Rattle.checker.specs.Verdicts.{AreRightSoFar, IsBadText, IsTextOfIn, SaysBy, line_count}
 use Rattle.checker.proofs.FirstLemmas.{AreFirst, begins-first, def-wrong, first-def, first-right, group-last, line-last, line-wrong, same-last}
@@ -159,17 +160,17 @@ module _ (F : FurtherRule) (known : Known) where
       ⊎_elim
       (λ (f : BeginsWithItems k.proofs h.proofs). ⊎_elim (λ (e : h.proofs ≡ k.proofs). same e) (λ (r : AreRightSoFar F h.proofs). absurd (h.wrong r)) (k.first h.proofs (begins-first h.proofs k.proofs f)))
       (λ (f : BeginsWithItems h.proofs k.proofs). ⊎_elim (λ (e : k.proofs ≡ h.proofs). same (sym e)) (λ (r : AreRightSoFar F k.proofs). absurd (k.wrong r)) (h.first k.proofs (begins-first k.proofs h.proofs f)))
-      (fronts known text k.proofs h.proofs k.read h.read)
+      (fronts (lines_known known) text k.proofs h.proofs k.read h.read)
     where
       same : h.proofs ≡ k.proofs → v ≡ w
       same e = same-kind k.proofs v w (subst (λ (ps : List ProofTree). DefCase ps v ⊎ LineCase ps v) e h.kind) k.kind
 
   refused-or-whole : (file text : List ℕ) (v w : Verdict) → Refused text v → WholeCase file text w → ⊥
-  refused-or-whole file text v w h (qs, t, right, end) = h.wrong (first-right F h.proofs qs (begins-first h.proofs qs (text-front known text qs h.proofs t.fit t.spelled h.read)) right)
+  refused-or-whole file text v w h (qs, t, right, end) = h.wrong (first-right F h.proofs qs (begins-first h.proofs qs (text-front (lines_known known) text qs h.proofs t.fit t.spelled h.read)) right)
 
   whole-once : (file text : List ℕ) (v w : Verdict) → WholeCase file text v → WholeCase file text w → v ≡ w
   whole-once file text v w (ps, t, right, end) (qs, t', right', end') =
-      let same : ps ≡ qs = proofs-once known ps qs t.fit t'.fit (sym t.spelled ∙ t'.spelled) in
+      let same : ps ≡ qs = proofs-once (lines_known known) ps qs t.fit t'.fit (sym t.spelled ∙ t'.spelled) in
       same-end file qs v w (subst (λ (xs : List ProofTree). EndCase file xs v) same end) end'
 
   text-once : (file text : List ℕ) (v w : Verdict) → TextCase file text v → TextCase file text w → v ≡ w

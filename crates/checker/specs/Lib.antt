@@ -4,5 +4,6 @@ pub mod Sound
 pub mod Accepts
 pub mod Bench
 pub mod Verdicts
+pub mod LineRules
 pub mod Pulled
 pub mod inner

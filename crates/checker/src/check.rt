@@ -1,22 +1,25 @@
 //! The check of a proof text for an ELF file. One loop serves each version: it goes by the version of its reader, and by the
 //! further rule that it is given.
 
-ghost use Rattle.std.specs.Prelude.{◌≡◌, [], ◌⊎◌, ◌+◌, ◌<◌, ◌≤◌, ◌^◌, ◌↔◌, ℕ, List as Items, None, IfOk, IfErr, IfSome, OnOk, IsTrue, length, true, false};
+ghost use Rattle.std.specs.Prelude.{◌≡◌, ◌∷◌, ◌++◌, [], ◌⊎◌, ◌+◌, ◌<◌, ◌≤◌, ◌^◌, ◌↔◌, ℕ, List as Items, None, IfOk, IfErr, IfSome, OnOk, IsTrue, length, true, false, if◌then◌else◌};
 ghost use Rattle.elf_image.specs.Fault.{IsReadable};
 ghost use Rattle.elf_image.specs.Image.{image_of};
 ghost use Rattle.rv_words.specs.Ranges.{range_bytes};
 ghost use Rattle.sep_assert.specs.Code.{IsWithin};
 ghost use Rattle.tailrec_lang.specs.Tree.{group_tree, listed_def};
-ghost use Rattle.proof_text.specs.Line.{ProofTree, line_tree};
+ghost use Rattle.tailrec_lang.specs.WellFormed.{IsWellFormed};
+ghost use Rattle.proof_text.specs.Line.{ProofTree};
+ghost use Rattle.proof_text.specs.inner.LineReaders.{ReadsLines};
 ghost use Rattle.group_text.specs.Limits.{IsGroupIn, def_limit};
 ghost use Rattle.group_text.specs.Version.{version_of};
-ghost use Rattle.proof_text.specs.FirstProofs.{HasGiven};
+ghost use Rattle.proof_text.specs.FirstProofs.{HasGiven, HasGivenOver};
 ghost use Rattle.proof_text.specs.Proofs.{groups_of};
 ghost use Rattle.checker.specs.declared.verdict.Verdict.{Verdict as VerdictOf};
-ghost use Rattle.checker.specs.Bench.{group_of, history_of};
+ghost use Rattle.checker.specs.Instance.{no_lines};
+ghost use Rattle.checker.specs.LineRules.{SaysOver};
 ghost use Rattle.checker.specs.Headline.{Headline};
 ghost use Rattle.checker.specs.Verdicts.{IsAcceptance, IsTextOf, IsTextOfIn, Says, SaysBy};
-ghost use Rattle.checker.specs.inner.Checking.{IsCodeOf, LineJudged, NextGroup, NextLine, ProofJudged, TextJudged, verdict_of, with_group};
+ghost use Rattle.checker.specs.inner.Checking.{IsCodeOf, LineJudged, LinesJudged, MayFollow, NextGroup, NextLine, ProofJudged, StandBehind, TextJudged, verdict_of, with_group};
 ghost use Rattle.checker.specs.inner.Sourced.{pulled_by, stops_outside, verdicts};
 ghost use Rattle.checker.specs.Pulled.{IfVerdict, as_verdict, is_outside};
 ghost use Rattle.mc_shelf.specs.inner.OnlyReads.{OnlyReads};
@@ -24,27 +27,20 @@ ghost use Rattle.proof_text.specs.Pulling.{held_text, left_of, progress_in};
 ghost use Rattle.proof_text.specs.Sources.{Both};
 ghost use Rattle.proof_text.specs.inner.PulledRows.{WhereHeld};
 
-use crate::bench::Bench;
 use crate::file_code::code_of_image;
 use crate::further_rule::{FurtherRule, NoRule};
+use crate::line_judge::{JudgeLines, JudgeProofs, Judged, RuledLines, RuledReader};
+use crate::tree_judge::{ByRule, OverTrees};
 use crate::verdict::{Pulled, Verdict};
 use elf_image::{ElfFault, Image, law_of_image, read};
 use mc_shelf::Shelf;
-use proof_text::{Line, ProofSource, Pull, PullFault, Reader};
+use proof_text::{ProofSource, Pull, PullFault, Reader};
 use rv_words::NoMemory;
 use sep_assert::code_within;
 use std::alloc::Global;
 use tailrec_lang::{Group, well_formed};
 use triple_kernel::RuleFault;
 use word_terms::Code;
-
-/// What the lines of a group's proof come to.
-#[derive(Clone, Copy, Debug)]
-pub(crate) struct Judged {
-    pub lines: u64,
-    /// Whether the group's function is closed and its code is the file's.
-    pub proved: bool,
-}
 
 /// What was judged of a text so far.
 #[derive(Clone, Copy, Debug)]
@@ -179,8 +175,8 @@ pub fn check_pulled_by<S: Shelf, R: FurtherRule>(
     judge_source(alloc, image, pull, shelf, rule)
 }
 
-/// The verdict on a text for an ELF file that was read.
-fn judge_source<E, P: ProofSource<E>, R: FurtherRule>(
+/// The verdict on a text of whole lines for an ELF file that was read.
+fn judge_source<E, P: ProofSource<E, RuledReader<ByRule<R>>>, R: FurtherRule>(
     alloc: Global,
     image: &Image,
     source: &mut P,
@@ -193,7 +189,41 @@ fn judge_source<E, P: ProofSource<E>, R: FurtherRule>(
     ensures verdict { (elf : Items ℕ) → IsReadable elf → image.now ≡ image_of elf → IfSome (P.told source.old from.old) (λ r. SaysBy R.states (version_of r.version) elf r.text (as_verdict result)) }
     ensures lends { P.Lends (is_outside result) source.old from.old source.new from.new }
 {
-    match judge(alloc, image, source, from, rule) {
+    let mut kept = RuledReader {
+        lines: ByRule::new(),
+    };
+    check_source(alloc, image, source, from, &mut kept, &OverTrees, rule)
+}
+
+/// Checks a text for an ELF file that was read, whatever lines stand behind its groups. The source stands before the first line of
+/// a text.
+pub fn check_source<
+    E,
+    V: RuledLines,
+    P: ProofSource<E, RuledReader<V>>,
+    X,
+    J: JudgeProofs<V, X, E, P>,
+>(
+    alloc: Global,
+    image: &Image,
+    source: &mut P,
+    from: &mut E,
+    kept: &mut RuledReader<V>,
+    judge: &J,
+    by: &X,
+) -> Pulled
+    requires going { P.Goes source.old }
+    requires laws { ReadsLines V.readers (version_of (P.version source.old)) }
+    requires given { IfSome (P.told source.old from.old) (HasGivenOver V.readers.grammar []) }
+    requires few { P.left source.old < 2 ^ 63 }
+
+    // What the verdict says of them.
+    ensures verdict { (elf : Items ℕ) → IsReadable elf → image.now ≡ image_of elf → IfSome (P.told source.old from.old) (λ r. SaysOver V.rules (version_of r.version) elf r.text (as_verdict result)) }
+
+    // What the check does to the source and to what is lent.
+    ensures lends { P.Lends (is_outside result) source.old from.old source.new from.new }
+{
+    match judge_file(alloc, image, source, from, kept, judge, by) {
         Ok(tally) => Pulled::Verdict(conclude(tally)),
         Err(pulled) => pulled,
     }
@@ -213,40 +243,46 @@ fn conclude(tally: Tally) -> Verdict
 }
 
 /// Judges a text for a file's image.
-fn judge<E, P: ProofSource<E>, R: FurtherRule>(
+fn judge_file<E, V: RuledLines, P: ProofSource<E, RuledReader<V>>, X, J: JudgeProofs<V, X, E, P>>(
     alloc: Global,
     image: &Image,
     source: &mut P,
     from: &mut E,
-    rule: &R,
+    kept: &mut RuledReader<V>,
+    judge: &J,
+    by: &X,
 ) -> Result<Tally, Pulled>
     requires going { P.Goes source.old }
-    requires given { IfSome (P.told source.old from.old) (HasGiven []) }
+    requires laws { ReadsLines V.readers (version_of (P.version source.old)) }
+    requires given { IfSome (P.told source.old from.old) (HasGivenOver V.readers.grammar []) }
     requires few { P.left source.old < 2 ^ 63 }
-    ensures judged { IfOk result (λ t. (file : Items ℕ) → image.now ≡ image_of file → IfSome (P.told source.old from.old) (λ r. TextJudged R.states (version_of r.version) file r.text t)) }
-    ensures fault { IfErr result (λ e. (file : Items ℕ) → IsReadable file → IfSome (P.told source.old from.old) (λ r. SaysBy R.states (version_of r.version) file r.text (as_verdict e))) }
+    ensures judged { IfOk result (λ t. (file : Items ℕ) → image.now ≡ image_of file → IfSome (P.told source.old from.old) (λ r. TextJudged V.rules (version_of r.version) file r.text t)) }
+    ensures fault { IfErr result (λ e. (file : Items ℕ) → IsReadable file → IfSome (P.told source.old from.old) (λ r. SaysOver V.rules (version_of r.version) file r.text (as_verdict e))) }
     ensures lends { P.Lends (stops_outside result) source.old from.old source.new from.new }
 {
     law_of_image(image);
     match code_of_image(alloc, image) {
-        Ok(code) => judge_text(alloc, &code, source, from, rule),
+        Ok(code) => judge_text(alloc, &code, source, from, kept, judge, by),
         Err(NoMemory) => Err(Pulled::Verdict(Verdict::NoMemory)),
     }
 }
 
 /// Judges a text group by group. Which group isn't proved is told when all are judged.
-fn judge_text<E, P: ProofSource<E>, R: FurtherRule>(
+fn judge_text<E, V: RuledLines, P: ProofSource<E, RuledReader<V>>, X, J: JudgeProofs<V, X, E, P>>(
     alloc: Global,
     code: &Code,
     source: &mut P,
     from: &mut E,
-    rule: &R,
+    kept: &mut RuledReader<V>,
+    judge: &J,
+    by: &X,
 ) -> Result<Tally, Pulled>
     requires going { P.Goes source.old }
-    requires given { IfSome (P.told source.old from.old) (HasGiven []) }
+    requires laws { ReadsLines V.readers (version_of (P.version source.old)) }
+    requires given { IfSome (P.told source.old from.old) (HasGivenOver V.readers.grammar []) }
     requires few { P.left source.old < 2 ^ 63 }
-    ensures judged { IfOk result (λ t. (file : Items ℕ) → IsCodeOf code.now.ranges file → IfSome (P.told source.old from.old) (λ r. TextJudged R.states (version_of r.version) file r.text t)) }
-    ensures fault { IfErr result (λ e. (file : Items ℕ) → IsReadable file → IfSome (P.told source.old from.old) (λ r. SaysBy R.states (version_of r.version) file r.text (as_verdict e))) }
+    ensures judged { IfOk result (λ t. (file : Items ℕ) → IsCodeOf code.now.ranges file → IfSome (P.told source.old from.old) (λ r. TextJudged V.rules (version_of r.version) file r.text t)) }
+    ensures fault { IfErr result (λ e. (file : Items ℕ) → IsReadable file → IfSome (P.told source.old from.old) (λ r. SaysOver V.rules (version_of r.version) file r.text (as_verdict e))) }
     ensures lends { P.Lends (stops_outside result) source.old from.old source.new from.new }
 {
     let mut tally = Tally {
@@ -254,8 +290,8 @@ fn judge_text<E, P: ProofSource<E>, R: FurtherRule>(
         lines: 0,
         not_proved: None,
     };
-    while let Some(group) = next_group(alloc, source, from, tally.groups)? {
-        let judged = judge_proof(alloc, source, from, rule, &group, code)?;
+    while let Some(group) = next_group(alloc, source, from, kept, tally.groups)? {
+        let judged = judge.judge_proof(alloc, source, from, kept, by, &group, code)?;
         tally = counted(tally, judged);
     }
     Ok(tally)
@@ -285,21 +321,25 @@ fn counted(tally: Tally, judged: Judged) -> Tally
 }
 
 /// The next group, if its definitions are well-formed. Its number is told of one in which they aren't.
-fn next_group<E, P: ProofSource<E>>(
+fn next_group<E, V: RuledLines, P: ProofSource<E, RuledReader<V>>>(
     alloc: Global,
     source: &mut P,
     from: &mut E,
+    kept: &mut RuledReader<V>,
     number: u64,
 ) -> Result<Option<Group>, Pulled>
-    requires { P.Goes source.old }
-    ensures told { Both (P.told source.old from.old) (P.told source.new from.new) (λ old new. NextGroup number old new (verdicts result)) }
+    requires going { P.Goes source.old }
+    requires laws { ReadsLines V.readers (version_of (P.version source.old)) }
+    ensures told { Both (P.told source.old from.old) (P.told source.new from.new) (λ old new. NextGroup V.readers.grammar number old new (verdicts result)) }
+    ensures kept { IfOk result (λ found. IfSome found (λ _. V.Behind kept.new.lines [])) }
     ensures fits { IfOk result (λ found. IfSome found (λ g. IsGroupIn (version_of (P.version source.new)) (group_tree g))) }
+    ensures well_formed { IfOk result (λ found. IfSome found (λ g. IsWellFormed (group_tree g))) }
     ensures goes { IfOk result (λ found. IfSome found (λ _. P.Goes source.new)) }
     ensures fewer { IfOk result (λ found. IfSome found (λ _. P.left source.new < P.left source.old)) }
     ensures version { P.version source.new ≡ P.version source.old }
     ensures lends { P.Lends (stops_outside result) source.old from.old source.new from.new }
 {
-    match source.next_group(alloc, from) {
+    match source.next_group(alloc, from, kept) {
         Ok(None) => Ok(None),
         Ok(Some(group)) => match well_formed(&group) {
             Ok(()) => Ok(Some(group)),
@@ -320,85 +360,138 @@ fn pulled_of(fault: PullFault) -> Pulled
     }
 }
 
-/// Judges the lines of a group's proof.
-fn judge_proof<E, P: ProofSource<E>, R: FurtherRule>(
+/// Judges the lines of the group that was given last by its bench, which has judged none. What is kept of lines is that before the
+/// first.
+pub fn judge_group<E, V: RuledLines, P: ProofSource<E, RuledReader<V>>, X, B: JudgeLines<V, X>>(
     alloc: Global,
     source: &mut P,
     from: &mut E,
-    rule: &R,
+    kept: &mut RuledReader<V>,
+    bench: &mut B,
+    by: &X,
     group: &Group,
     code: &Code,
 ) -> Result<Judged, Pulled>
     requires going { P.Goes source.old }
+    requires laws { ReadsLines V.readers (version_of (P.version source.old)) }
+    requires kept { V.Behind kept.old.lines [] }
+    requires bench { B.GoesWith bench.old kept.old.lines }
+    requires none { B.history bench.old ≡ no_lines }
+    requires same { B.group bench.old ≡ group_tree group.now }
     requires group { IsGroupIn (version_of (P.version source.old)) (group_tree group.now) }
     requires few { P.left source.old < 2 ^ 63 }
-    ensures judged { Both (P.told source.old from.old) (P.told source.new from.new) (λ old new. ProofJudged R.states (group_tree group.now) code.now.ranges old new (verdicts result)) }
+    ensures judged { ProofJudged V.rules (group_tree group.now) code.now.ranges (P.told source.old from.old) (P.told source.new from.new) (verdicts result) }
     ensures goes { OnOk result (P.Goes source.new) }
     ensures few { IfOk result (λ j. j.lines + P.left source.new ≤ P.left source.old) }
     ensures version { P.version source.new ≡ P.version source.old }
     ensures lends { P.Lends (stops_outside result) source.old from.old source.new from.new }
 {
-    let Ok(mut bench) = Bench::new(alloc, group) else {
-        return Err(Pulled::Verdict(Verdict::NoMemory));
-    };
-    let mut lines = 0;
-    while next_line(alloc, source, from, rule, &mut bench)? {
-        lines += 1;
-    }
-    let proved = is_proved(&bench, code);
+    let lines = judge_lines(alloc, source, from, kept, bench, by, group)?;
+    let proved = is_proved::<V, X, B>(bench, group, code);
     Ok(Judged { lines, proved })
 }
 
 /// Whether the group's function is closed and its code is the file's.
-fn is_proved(bench: &Bench<'_>, code: &Code) -> bool
-    requires some { 1 ≤ length (group_of bench.now).defs }
-    requires few { length (group_of bench.now).defs ≤ def_limit }
-    ensures { IsTrue result ↔ (((history_of bench.now).closed (listed_def (group_of bench.now)) ≡ true)
-        × IsWithin (range_bytes (group_of bench.now).code) (range_bytes code.now.ranges)) }
+fn is_proved<V: RuledLines, X, B: JudgeLines<V, X>>(bench: &B, group: &Group, code: &Code) -> bool
+    requires some { 1 ≤ length group.now.defs }
+    requires few { length group.now.defs ≤ def_limit }
+    ensures { IsTrue result ↔ (((B.history bench.now).closed (listed_def (group_tree group.now)) ≡ true)
+        × IsWithin (range_bytes (group_tree group.now).code) (range_bytes code.now.ranges)) }
 {
-    let group = bench.group();
     let last = (group.defs.len() - 1) as u32;
     bench.is_closed(last) && code_within(&group.code, code)
 }
 
-/// Reads and judges the next line, if there is one.
-fn next_line<E, P: ProofSource<E>, R: FurtherRule>(
+/// Judges the lines of a group's proof: how many of them are counted.
+fn judge_lines<E, V: RuledLines, P: ProofSource<E, RuledReader<V>>, X, B: JudgeLines<V, X>>(
     alloc: Global,
     source: &mut P,
     from: &mut E,
-    rule: &R,
-    bench: &mut Bench<'_>,
-) -> Result<bool, Pulled>
+    kept: &mut RuledReader<V>,
+    bench: &mut B,
+    by: &X,
+    group: &Group,
+) -> Result<u64, Pulled>
     requires going { P.Goes source.old }
-    requires group { IsGroupIn (version_of (P.version source.old)) (group_of bench.old) }
-    ensures told { Both (P.told source.old from.old) (P.told source.new from.new) (λ old new. NextLine R.states old new bench.old bench.new (verdicts result)) }
+    requires laws { ReadsLines V.readers (version_of (P.version source.old)) }
+    requires kept { V.Behind kept.old.lines [] }
+    requires bench { B.GoesWith bench.old kept.old.lines }
+    requires none { B.history bench.old ≡ no_lines }
+    requires same { B.group bench.old ≡ group_tree group.now }
+    requires group { IsGroupIn (version_of (P.version source.old)) (group_tree group.now) }
+    requires few { P.left source.old < 2 ^ 63 }
+    ensures judged { LinesJudged V.rules (group_tree group.now) (B.history bench.new) (P.told source.old from.old) (P.told source.new from.new) (verdicts result) }
     ensures goes { OnOk result (P.Goes source.new) }
-    ensures group { OnOk result (bench.new.0 ≡ bench.old.0) }
-    ensures left { P.left source.new ≤ P.left source.old }
-    ensures fewer { IfOk result (λ more. more ≡ true → P.left source.new < P.left source.old) }
+    ensures few { IfOk result (λ count. count + P.left source.new ≤ P.left source.old) }
     ensures version { P.version source.new ≡ P.version source.old }
     ensures lends { P.Lends (stops_outside result) source.old from.old source.new from.new }
 {
-    match source.next_line(alloc, bench.group(), from) {
-        Ok(Some(line)) => judge_line(alloc, rule, bench, line, source.last_place()),
-        Ok(None) => Ok(false),
+    let mut lines = 0;
+    while let Some(counts) = next_line(alloc, source, from, kept, bench, by, group)? {
+        lines = with_line(lines, counts);
+    }
+    Ok(lines)
+}
+
+/// One line more, which may be counted.
+fn with_line(lines: u64, counts: bool) -> u64
+    requires { lines + 1 < 2 ^ 64 }
+    ensures counted { result ≡ lines + (if counts then 1 else 0) }
+    ensures few { result ≤ lines + 1 }
+{
+    if counts { lines + 1 } else { lines }
+}
+
+/// Reads and judges the next line, if there is one: whether it is counted.
+fn next_line<E, V: RuledLines, P: ProofSource<E, RuledReader<V>>, X, B: JudgeLines<V, X>>(
+    alloc: Global,
+    source: &mut P,
+    from: &mut E,
+    kept: &mut RuledReader<V>,
+    bench: &mut B,
+    by: &X,
+    group: &Group,
+) -> Result<Option<bool>, Pulled>
+    requires going { P.Goes source.old }
+    requires laws { ReadsLines V.readers (version_of (P.version source.old)) }
+    requires behind { (before : Items V.readers.grammar.Line) × StandBehind V.readers.grammar (version_of (P.version source.old)) (V.Behind kept.old.lines) (B.GoesWith bench.old kept.old.lines) before }
+    requires group { IsGroupIn (version_of (P.version source.old)) (group_tree group.now) }
+    requires same { B.group bench.old ≡ group_tree group.now }
+    ensures judged { (before : Items V.readers.grammar.Line) → StandBehind V.readers.grammar (version_of (P.version source.old)) (V.Behind kept.old.lines) (B.GoesWith bench.old kept.old.lines) before
+        → NextLine V.rules (group_tree group.now) before (B.history bench.old) (B.history bench.new)
+        (StandBehind V.readers.grammar (version_of (P.version source.old)) (V.Behind kept.new.lines) (B.GoesWith bench.new kept.new.lines)) (P.told source.old from.old) (P.told source.new from.new) (verdicts result) }
+    ensures goes { OnOk result (P.Goes source.new) }
+    ensures group { B.group bench.new ≡ B.group bench.old }
+    ensures left { P.left source.new ≤ P.left source.old }
+    ensures fewer { IfOk result (λ found. IfSome found (λ _. P.left source.new < P.left source.old)) }
+    ensures version { P.version source.new ≡ P.version source.old }
+    ensures lends { P.Lends (stops_outside result) source.old from.old source.new from.new }
+{
+    match source.next_line(alloc, group, from, kept) {
+        Ok(Some(line)) => judge_line(alloc, bench, by, &kept.lines, line, source.last_place()),
+        Ok(None) => Ok(None),
         Err(fault) => Err(pulled_of(fault)),
     }
 }
 
-/// Judges a line, whose place in the text is told if it is wrong.
-fn judge_line<R: FurtherRule>(
+/// Judges the line that was read last, whose place in the text is told if it is wrong.
+fn judge_line<V: RuledLines, X, B: JudgeLines<V, X>>(
     alloc: Global,
-    rule: &R,
-    bench: &mut Bench<'_>,
-    line: Line,
+    bench: &mut B,
+    by: &X,
+    lines: &V,
+    line: V::Line,
     place: u64,
-) -> Result<bool, Pulled>
-    ensures judged { LineJudged R.states bench.old bench.new (line_tree line) place (verdicts result) }
+) -> Result<Option<bool>, Pulled>
+    requires { MayFollow V.readers V.Behind (B.GoesWith bench.old) lines.now (V.tree line) }
+    ensures judged { (old : V) (before : Items V.readers.grammar.Line) → B.GoesWith bench.old old → V.Behind old before
+        → LineJudged V.rules (B.group bench.old) before (B.history bench.old) (V.tree line) (B.history bench.new) place (verdicts result) }
+    ensures goes { OnOk result (B.GoesWith bench.new lines.now) }
+    ensures group { B.group bench.new ≡ B.group bench.old }
     ensures inside { stops_outside result ≡ false }
 {
-    match bench.judge_by(alloc, rule, line) {
-        Ok(()) => Ok(true),
+    match bench.judge_line(alloc, by, lines, line) {
+        Ok(counts) => Ok(Some(counts)),
         Err(RuleFault::NoInstance) => Err(Pulled::Verdict(Verdict::BadLine(place))),
         Err(RuleFault::NoMemory) => Err(Pulled::Verdict(Verdict::NoMemory)),
     }

@@ -1,6 +1,6 @@
 //! Laws of proofs. These functions do nothing: their contracts are the laws. Each speaks of the definitions alone.
 
-ghost use Rattle.std.specs.Prelude.{ℕ, ◌≤◌, List};
+ghost use Rattle.std.specs.Prelude.{ℕ, ◌≤◌, ◌↔◌, List};
 ghost use Rattle.elf_image.specs.Image.{code_of_file};
 ghost use Rattle.tailrec_lang.specs.Tree.{GroupTree, listed_def};
 ghost use Rattle.tailrec_lang.specs.WellFormed.{IsWellFormed};
@@ -8,6 +8,7 @@ ghost use Rattle.rv_words.specs.Ranges.{range_bytes};
 ghost use Rattle.sep_assert.specs.Code.{IsWithin};
 ghost use Rattle.tailrec_lang.specs.Registers.{AreRegistersFrom};
 ghost use Rattle.group_text.specs.Limits.{AreGroups};
+ghost use Rattle.group_text.specs.Version.{Version};
 ghost use Rattle.loop_rule.specs.Rule.{IsClosed};
 ghost use Rattle.proof_text.specs.Line.{LineTree, ProofTree};
 ghost use Rattle.proof_text.specs.Proofs.{groups_of};
@@ -15,6 +16,11 @@ ghost use Rattle.checker.specs.Instance.{History, Instance, after_line};
 ghost use Rattle.checker.specs.Accepts.{Accepts};
 ghost use Rattle.checker.specs.Headline.{IsRight, Headline};
 ghost use Rattle.checker.specs.Sound.{Sound};
+ghost use Rattle.checker.specs.declared.verdict.Verdict.{Verdict};
+ghost use Rattle.checker.specs.LineRules.{SaysOver, whole_rules};
+ghost use Rattle.checker.specs.Verdicts.{SaysBy};
+
+use crate::further_rule::FurtherRule;
 
 /// Where the triple of each exit of the last definition is valid, evaluation tells where the machine goes.
 pub fn law_of_exits()
@@ -32,4 +38,10 @@ pub fn law_of_lines()
 pub fn law_of_proofs()
     ensures { (file : List ℕ) (ps : List ProofTree)
         → AreGroups (groups_of ps) → Accepts file ps → Headline file (groups_of ps) }
+{}
+
+/// Of lines that state whole triples a verdict says by the rules of lines exactly what it says by the further rule.
+pub fn law_of_whole_lines<R: FurtherRule>(_rule: &R)
+    ensures { (v : Version) (file text : List ℕ) (verdict : Verdict)
+        → SaysBy R.states v file text verdict ↔ SaysOver (whole_rules R.states) v file text verdict }
 {}

@@ -19,11 +19,17 @@ mod copy;
 mod file_code;
 mod further_rule;
 mod laws;
+mod line_judge;
 mod rules;
+mod tree_judge;
 mod verdict;
 
 pub use bench::Bench;
-pub use check::{check_by, check_bytes, check_image, check_pulled_by, check_text};
+pub use check::{
+    check_by, check_bytes, check_image, check_pulled_by, check_source, check_text, judge_group,
+};
 pub use further_rule::{FurtherRule, NoRule};
-pub use laws::{law_of_exits, law_of_lines, law_of_proofs};
+pub use laws::{law_of_exits, law_of_lines, law_of_proofs, law_of_whole_lines};
+pub use line_judge::{JudgeLines, JudgeProofs, Judged, RuledLines, RuledReader};
+pub use tree_judge::{ByRule, OverTrees};
 pub use verdict::{Pulled, Verdict};

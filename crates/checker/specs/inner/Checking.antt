@@ -1,5 +1,5 @@
--- What was judged of a text, line by line and group by group. F is its further rule.
-use Rattle.std.specs.Prelude.{◌≡◌, ◌↔◌, ℕ, ◌+◌, ◌<◌, ◌≤◌, Bool, true, false, IsTrue, List, [], ◌∷◌, ◌++◌, length, Option, Some, None, Result, Ok, Err}
+-- What was judged of a text, line by line and group by group, whatever lines stand behind its groups. J are the rules of the lines.
+use Rattle.std.specs.Prelude.{◌≡◌, ◌↔◌, ℕ, ◌+◌, Bool, true, false, IsTrue, IfSome, List, [], ◌∷◌, ◌++◌, length, Option, Some, None, Result, Ok, Err}
 use Rattle.std.specs.List.{AllByRecursion}
 use Rattle.rv_words.specs.declared.range.Range.{Range}
 use Rattle.rv_words.specs.Ranges.{range_bytes}
@@ -7,130 +7,142 @@ use Rattle.elf_image.specs.Image.{code_of_file}
 use Rattle.tailrec_lang.specs.declared.group.Group.{Group}
 use Rattle.tailrec_lang.specs.Tree.{GroupTree, group_tree}
 use Rattle.tailrec_lang.specs.WellFormed.{IsWellFormed, IsFirstIllFormed}
-use Rattle.proof_text.specs.Line.{LineTree, ProofTree}
-use Rattle.group_text.specs.Limits.{IsGroupIn}
 use Rattle.mc_text.specs.Fault.{IsBadAt}
 use Rattle.group_text.specs.declared.version.Version.{Version as Known}
 use Rattle.group_text.specs.Version.{Version, version_of}
-use Rattle.proof_text.specs.FirstProofs.{AreReadIn, BeginsWithItems, HasGiven, MayOpen, Progress, ProofEnds, with_line}
-use Rattle.proof_text.specs.Proofs.{bare, text_of_proofs_in, texts_of_proofs_in}
-use Rattle.checker.specs.declared.check.Judged.{Judged}
+use Rattle.proof_text.specs.Line.{ProofOf}
+use Rattle.proof_text.specs.LineGrammar.{LineGrammar, text_over, texts_over}
+use Rattle.proof_text.specs.FirstProofs.{AreReadOver, BeginsWithItems, HasGivenOver, MayOpen, Progress, ProofEnds, with_line}
+use Rattle.proof_text.specs.Proofs.{bare}
+use Rattle.proof_text.specs.Sources.{Both, EndsLines, GivesLine}
+use Rattle.proof_text.specs.inner.LineReaders.{LineReaders}
+use Rattle.checker.specs.declared.line_judge.Judged.{Judged}
 use Rattle.checker.specs.declared.check.Tally.{Tally}
 use Rattle.checker.specs.declared.verdict.Verdict.{Verdict}
 use Rattle.checker.specs.declared.verdict.Verdict.TheVariants as verdict
-use Rattle.checker.specs.Instance.{FurtherRule, AreInstancesBy, InstanceBy, after_line, after_lines, no_lines}
-use Rattle.checker.specs.Accepts.{IsProved}
-use Rattle.checker.specs.Bench.{Kept, group_of, history_of}
-use Rattle.checker.specs.Verdicts.{AreRightSoFar, IsFirstNotProved, IsTextOfIn, line_count}
+use Rattle.checker.specs.Instance.{History, no_lines}
+use Rattle.checker.specs.LineRules.{AllLeave, IsClosedFor, IsFirstNotProvedOver, IsProvedOver, IsRightOver, IsTextOver, LineRules, counted_in, count_over}
 
-abbrev pub proof_of : GroupTree → List LineTree → ProofTree
+abbrev pub proof_of : {L : Type 0} → GroupTree → List L → ProofOf L
 proof_of g lines = record { group = g; lines = lines }
 
 -- the text leaves the grammar of that version at that line, and nothing is read of it but these proofs and the first of them
-pub record IsBadAfter (v : Version) (text : List ℕ) (n : ℕ) (ps : List ProofTree) : Type 0 where
-  pub bad : IsBadAt (texts_of_proofs_in v) text n
-  pub no_more : (qs : List ProofTree) → AreReadIn v text qs → BeginsWithItems ps qs
+pub record IsBadAfter (L : LineGrammar) (v : Version) (text : List ℕ) (n : ℕ) (ps : List (ProofOf L.Line)) : Type 0 where
+  pub bad : IsBadAt (texts_over L v) text n
+  pub no_more : (qs : List (ProofOf L.Line)) → AreReadOver L v text qs → BeginsWithItems ps qs
 
 -- it is read of the same text, in the same version
 abbrev pub IsSameText : Progress → Progress → Type 0
 IsSameText new old = (new.text ≡ old.text) × (new.version ≡ old.version)
 
--- fewer bytes are left
-abbrev pub IsShorter : Progress → Progress → Type 0
-IsShorter new old = length new.rest < length old.rest
-
 -- ---- a line
 
--- a line of the group was given
-abbrev pub GivesLine : GroupTree → Progress → Progress → LineTree → Type 0
-GivesLine g old new l = (ps : List ProofTree) (p : ProofTree) → HasGiven (ps ++ p ∷ []) old → p.group ≡ g → HasGiven (ps ++ with_line p l ∷ []) new
+-- What is kept to read the next line may be that behind these, which may stand behind a group, and what is kept to judge it goes with
+-- that.
+pub record StandBehind (L : LineGrammar) (v : Version) (Behind : List L.Line → Type 0) (Goes : Type 0) (ls : List L.Line) : Type 0 where
+  pub behind : Behind ls
+  pub goes : Goes
+  pub are : L.Are v ls
 
--- the line at that place of the text, judged
-abbrev pub LineJudged : FurtherRule → (before after : Kept) → LineTree → ℕ → Result Bool Verdict → Type 0
-LineJudged F b c l place (Ok true) = InstanceBy F (group_of b) (history_of b) l × (c.0 ≡ b.0) × (history_of c ≡ after_line (history_of b) l)
-LineJudged F b c l place (Ok false) = ⊥
-LineJudged F b c l place (Err (verdict.BadLine n)) = (n ≡ place) × (InstanceBy F (group_of b) (history_of b) l → ⊥)
-LineJudged F b c l place (Err verdict.NoMemory) = Unit {0}
-LineJudged F b c l place (Err (verdict.Accepted functions lines)) = ⊥
-LineJudged F b c l place (Err (verdict.BadElf why)) = ⊥
-LineJudged F b c l place (Err (verdict.BadText n)) = ⊥
-LineJudged F b c l place (Err (verdict.BadDef g d)) = ⊥
-LineJudged F b c l place (Err (verdict.NotProved g)) = ⊥
+-- That line was read behind lines behind which it may stand, and what is kept to judge it goes with what was kept of these.
+pub record MayFollow {S : Type 0} (R : LineReaders) (Behind : S → List R.grammar.Line → Type 0) (GoesWith : S → Type 0) (new : S) (l : R.grammar.Line) : Type 0 where
+  pub old : S
+  pub version : Version
+  pub before : List R.grammar.Line
+  pub goes : GoesWith old
+  pub behind : Behind old before
+  pub are : R.grammar.Are version before
+  pub fits : R.Fits version before l
+  pub read : Behind new (before ++ l ∷ [])
 
--- the next line, judged: whether there is one, or what is wrong
-abbrev pub NextLine : FurtherRule → (old new : Progress) (before after : Kept) → Result Bool Verdict → Type 0
-NextLine F old new b c (Ok true) = (l : LineTree) × IsSameText new old × IsShorter new old × GivesLine (group_of b) old new l
-    × InstanceBy F (group_of b) (history_of b) l × (c.0 ≡ b.0) × (history_of c ≡ after_line (history_of b) l)
-NextLine F old new b c (Ok false) = (new ≡ old) × (c ≡ b) × ProofEnds new.rest
-NextLine F old new b c (Err (verdict.BadLine n)) = (l : LineTree) × (r : Progress) × IsSameText r old × GivesLine (group_of b) old r l
-    × (n ≡ r.place) × (InstanceBy F (group_of b) (history_of b) l → ⊥)
-NextLine F old new b c (Err (verdict.BadText n)) = (ps : List ProofTree) (p : ProofTree) → HasGiven (ps ++ p ∷ []) old → p.group ≡ group_of b → IsBadAfter (version_of old.version) old.text n (ps ++ p ∷ [])
-NextLine F old new b c (Err verdict.NoMemory) = Unit {0}
-NextLine F old new b c (Err (verdict.Accepted functions lines)) = ⊥
-NextLine F old new b c (Err (verdict.BadElf why)) = ⊥
-NextLine F old new b c (Err (verdict.BadDef g d)) = ⊥
-NextLine F old new b c (Err (verdict.NotProved g)) = ⊥
+-- the line at that place of the text behind those, judged: whether it is counted, or that it is wrong
+abbrev pub LineJudged : {L : LineGrammar} → LineRules L → GroupTree → List L.Line → History → L.Line → History → ℕ → Result (Option Bool) Verdict → Type 0
+LineJudged J g before h l after place (Ok (Some counts)) = J.Leaves g before h l after × (counts ≡ J.counts l)
+LineJudged J g before h l after place (Ok None) = ⊥
+LineJudged J g before h l after place (Err (verdict.BadLine n)) = (n ≡ place) × ((next : History) → J.Leaves g before h l next → ⊥)
+LineJudged J g before h l after place (Err verdict.NoMemory) = Unit {0}
+LineJudged J g before h l after place (Err (verdict.Accepted functions lines)) = ⊥
+LineJudged J g before h l after place (Err (verdict.BadElf why)) = ⊥
+LineJudged J g before h l after place (Err (verdict.BadText n)) = ⊥
+LineJudged J g before h l after place (Err (verdict.BadDef k d)) = ⊥
+LineJudged J g before h l after place (Err (verdict.NotProved k)) = ⊥
+
+-- The next line behind those, judged, where it is told how far the text was read before and after: whether there is one and it is
+-- counted, or what is wrong. After says what is kept afterwards.
+abbrev pub NextLine : {L : LineGrammar} → LineRules L → GroupTree → List L.Line → (h after : History) → (After : List L.Line → Type 0) → (old new : Option Progress) → Result (Option Bool) Verdict → Type 0
+NextLine {L} J g before h after After o n (Ok (Some counts)) = (l : L.Line) × Both o n (GivesLine L g before l) × J.Leaves g before h l after × (counts ≡ J.counts l) × After (before ++ l ∷ [])
+NextLine J g before h after After o n (Ok None) = Both o n EndsLines × (after ≡ h)
+NextLine {L} J g before h after After o n (Err (verdict.BadLine k)) = (l : L.Line) × Both o n (λ old new. GivesLine L g before l old new × (k ≡ new.place)) × ((next : History) → J.Leaves g before h l next → ⊥)
+NextLine {L} J g before h after After o n (Err (verdict.BadText k)) = IfSome o (λ r. (ps : List (ProofOf L.Line)) (p : ProofOf L.Line) → HasGivenOver L (ps ++ p ∷ []) r → p.group ≡ g → p.lines ≡ before → IsBadAfter L (version_of r.version) r.text k (ps ++ p ∷ []))
+NextLine J g before h after After o n (Err verdict.NoMemory) = Unit {0}
+NextLine J g before h after After o n (Err (verdict.Accepted functions lines)) = ⊥
+NextLine J g before h after After o n (Err (verdict.BadElf why)) = ⊥
+NextLine J g before h after After o n (Err (verdict.BadDef k d)) = ⊥
+NextLine J g before h after After o n (Err (verdict.NotProved k)) = ⊥
 
 -- ---- the lines of a group's proof
 
--- lines of the group were given, and all of them are right
-pub record GivesLines (F : FurtherRule) (g : GroupTree) (old new : Progress) (lines : List LineTree) : Type 0 where
+-- these lines of the group were given
+pub record GivesLines (L : LineGrammar) (g : GroupTree) (lines : List L.Line) (old new : Progress) : Type 0 where
   pub text : IsSameText new old
-  pub given : (ps : List ProofTree) → HasGiven (ps ++ bare g ∷ []) old → HasGiven (ps ++ proof_of g lines ∷ []) new
-  pub right : AreInstancesBy F g no_lines lines
+  pub given : (ps : List (ProofOf L.Line)) → HasGivenOver L (ps ++ bare g ∷ []) old → HasGivenOver L (ps ++ proof_of g lines ∷ []) new
 
--- so far so many lines were given and judged
-pub record LinesJudged (F : FurtherRule) (g : GroupTree) (old new : Progress) (b : Kept) (count : ℕ) : Type 0 where
-  pub lines : List LineTree
-  pub given : GivesLines F g old new lines
-  pub group : group_of b ≡ g
-  pub fits : IsGroupIn (version_of new.version) (group_of b)
-  pub after : history_of b ≡ after_lines lines
-  pub counted : count ≡ length lines
-  pub few : count + length new.rest ≤ length old.rest
+-- so far these lines were given, each of them is right, and so many are counted
+pub record LinesSoFar {L : LineGrammar} (J : LineRules L) (g : GroupTree) (h : History) (Behind : List L.Line → Type 0) (old new : Option Progress) (count : ℕ) : Type 0 where
+  pub lines : List L.Line
+  pub behind : Behind lines
+  pub right : AllLeave J g [] no_lines lines h
+  pub counted : count ≡ counted_in J lines
+  pub given : Both old new (GivesLines L g lines)
+
+-- the lines stop at one that is wrong, or where the text is none
+abbrev pub LinesStopped : {L : LineGrammar} → LineRules L → GroupTree → (old new : Option Progress) → Verdict → Type 0
+LinesStopped {L} J g o n (verdict.BadLine k) = (lines : List L.Line) × (l : L.Line) × (after : History)
+    × Both o n (λ old new. IsSameText new old × (k ≡ new.place) × ((ps : List (ProofOf L.Line)) → HasGivenOver L (ps ++ bare g ∷ []) old → HasGivenOver L (ps ++ with_line (proof_of g lines) l ∷ []) new))
+    × AllLeave J g [] no_lines lines after × ((next : History) → J.Leaves g lines after l next → ⊥)
+LinesStopped {L} J g o n (verdict.BadText k) = (lines : List L.Line) × (after : History) × AllLeave J g [] no_lines lines after
+    × IfSome o (λ r. (ps : List (ProofOf L.Line)) → HasGivenOver L (ps ++ bare g ∷ []) r → IsBadAfter L (version_of r.version) r.text k (ps ++ proof_of g lines ∷ []))
+LinesStopped J g o n verdict.NoMemory = Unit {0}
+LinesStopped J g o n (verdict.Accepted functions lines) = ⊥
+LinesStopped J g o n (verdict.BadElf why) = ⊥
+LinesStopped J g o n (verdict.BadDef k d) = ⊥
+LinesStopped J g o n (verdict.NotProved k) = ⊥
+
+-- all lines were given, are right, and leave that: so many are counted
+abbrev pub LinesJudged : {L : LineGrammar} → LineRules L → GroupTree → History → (old new : Option Progress) → Result ℕ Verdict → Type 0
+LinesJudged {L} J g after o n (Ok count) = (lines : List L.Line) × Both o n (λ old new. GivesLines L g lines old new × ProofEnds new.rest) × AllLeave J g [] no_lines lines after × (count ≡ counted_in J lines)
+LinesJudged J g after o n (Err v) = LinesStopped J g o n v
 
 -- the code is all of a file's
 abbrev pub IsCodeOf : List Range → List ℕ → Type 0
 IsCodeOf code file = range_bytes code ≡ code_of_file file
 
--- what a group's proof comes to
-abbrev pub ProofJudged : FurtherRule → GroupTree → List Range → (old new : Progress) → Result Judged Verdict → Type 0
-ProofJudged F g code old new (Ok j) = (lines : List LineTree) × GivesLines F g old new lines × ProofEnds new.rest × (j.lines ≡ length lines)
-    × (j.lines + length new.rest ≤ length old.rest)
-    × ((file : List ℕ) → IsCodeOf code file → (IsTrue j.proved ↔ IsProved file (proof_of g lines)))
-ProofJudged F g code old new (Err (verdict.BadLine n)) = (lines : List LineTree) × (l : LineTree) × (r : Progress) × IsSameText r old × (n ≡ r.place)
-    × ((ps : List ProofTree) → HasGiven (ps ++ bare g ∷ []) old → HasGiven (ps ++ with_line (proof_of g lines) l ∷ []) r)
-    × AreInstancesBy F g no_lines lines × (InstanceBy F g (after_lines lines) l → ⊥)
-ProofJudged F g code old new (Err (verdict.BadText n)) = (lines : List LineTree) × AreInstancesBy F g no_lines lines
-    × ((ps : List ProofTree) → HasGiven (ps ++ bare g ∷ []) old → IsBadAfter (version_of old.version) old.text n (ps ++ proof_of g lines ∷ []))
-ProofJudged F g code old new (Err verdict.NoMemory) = Unit {0}
-ProofJudged F g code old new (Err (verdict.Accepted functions lines)) = ⊥
-ProofJudged F g code old new (Err (verdict.BadElf why)) = ⊥
-ProofJudged F g code old new (Err (verdict.BadDef g' d)) = ⊥
-ProofJudged F g code old new (Err (verdict.NotProved g')) = ⊥
+-- what a group's proof comes to, where it is told how far the text was read before and after
+abbrev pub ProofJudged : {L : LineGrammar} → LineRules L → GroupTree → List Range → (old new : Option Progress) → Result Judged Verdict → Type 0
+ProofJudged {L} J g code o n (Ok j) = (lines : List L.Line) × (after : History) × Both o n (λ old new. GivesLines L g lines old new × ProofEnds new.rest) × AllLeave J g [] no_lines lines after
+    × (j.lines ≡ counted_in J lines) × ((file : List ℕ) → IsCodeOf code file → (IsTrue j.proved ↔ IsClosedFor file g after))
+ProofJudged J g code o n (Err v) = LinesStopped J g o n v
 
 -- ---- a group
 
 -- the next group, judged, or what is wrong
-abbrev pub NextGroup : ℕ → Progress → Progress → Result (Option Group) Verdict → Type 0
-NextGroup n old new (Ok None) = (ps : List ProofTree) → HasGiven ps old → old.text ≡ text_of_proofs_in (version_of old.version) ps
-NextGroup n old new (Ok (Some g)) = IsSameText new old × IsShorter new old × IsGroupIn (version_of new.version) (group_tree g) × IsWellFormed (group_tree g)
-    × ((ps : List ProofTree) → HasGiven ps old → HasGiven (ps ++ bare (group_tree g) ∷ []) new)
-NextGroup n old new (Err (verdict.BadDef m d)) = (m ≡ n) × (g : GroupTree) × IsFirstIllFormed g d × (r : Progress) × IsSameText r old
-    × ((ps : List ProofTree) → HasGiven ps old → HasGiven (ps ++ bare g ∷ []) r)
-NextGroup n old new (Err (verdict.BadText line)) = (ps : List ProofTree) → HasGiven ps old → MayOpen ps old.rest → IsBadAfter (version_of old.version) old.text line ps
-NextGroup n old new (Err verdict.NoMemory) = Unit {0}
-NextGroup n old new (Err (verdict.Accepted functions lines)) = ⊥
-NextGroup n old new (Err (verdict.BadElf why)) = ⊥
-NextGroup n old new (Err (verdict.BadLine line)) = ⊥
-NextGroup n old new (Err (verdict.NotProved g)) = ⊥
+abbrev pub NextGroup : LineGrammar → ℕ → Progress → Progress → Result (Option Group) Verdict → Type 0
+NextGroup L n old new (Ok None) = (ps : List (ProofOf L.Line)) → HasGivenOver L ps old → old.text ≡ text_over L (version_of old.version) ps
+NextGroup L n old new (Ok (Some g)) = IsSameText new old × IsWellFormed (group_tree g) × ((ps : List (ProofOf L.Line)) → HasGivenOver L ps old → HasGivenOver L (ps ++ bare (group_tree g) ∷ []) new)
+NextGroup L n old new (Err (verdict.BadDef m d)) = (m ≡ n) × (g : GroupTree) × IsFirstIllFormed g d × IsSameText new old × ((ps : List (ProofOf L.Line)) → HasGivenOver L ps old → HasGivenOver L (ps ++ bare g ∷ []) new)
+NextGroup L n old new (Err (verdict.BadText line)) = (ps : List (ProofOf L.Line)) → HasGivenOver L ps old → MayOpen ps old.rest → IsBadAfter L (version_of old.version) old.text line ps
+NextGroup L n old new (Err verdict.NoMemory) = Unit {0}
+NextGroup L n old new (Err (verdict.Accepted functions lines)) = ⊥
+NextGroup L n old new (Err (verdict.BadElf why)) = ⊥
+NextGroup L n old new (Err (verdict.BadLine line)) = ⊥
+NextGroup L n old new (Err (verdict.NotProved g)) = ⊥
 
 -- ---- groups
 
 -- which of them is the first that isn't proved, if there is one
-abbrev pub ProvedSo : List ℕ → List ProofTree → Option ℕ → Type 0
-ProvedSo file ps None = AllByRecursion (IsProved file) ps
-ProvedSo file ps (Some k) = IsFirstNotProved file ps k
+abbrev pub ProvedSo : {L : LineGrammar} → LineRules L → List ℕ → List (ProofOf L.Line) → Option ℕ → Type 0
+ProvedSo J file ps None = AllByRecursion (IsProvedOver J file) ps
+ProvedSo J file ps (Some k) = IsFirstNotProvedOver J file ps k
 
 -- the first group that isn't proved, with one group more
 abbrev pub first_not_proved : Option ℕ → Bool → ℕ → Option ℕ
@@ -142,26 +154,25 @@ abbrev pub with_group : Tally → Judged → Tally
 with_group t j = record { groups = t.groups + 1; lines = t.lines + j.lines; not_proved = first_not_proved t.not_proved j.proved t.groups }
 
 -- so far these proofs were given of a text, nothing is wrong in them, and they are counted
-pub record GroupsJudged (F : FurtherRule) (known : Known) (code : List Range) (text : List ℕ) (r : Progress) (t : Tally) : Type 0 where
-  pub proofs : List ProofTree
-  pub few : t.groups + t.lines + length r.rest ≤ length text
-  pub given : HasGiven proofs r
+pub record GroupsJudged {L : LineGrammar} (J : LineRules L) (known : Known) (code : List Range) (text : List ℕ) (r : Progress) (t : Tally) : Type 0 where
+  pub proofs : List (ProofOf L.Line)
+  pub given : HasGivenOver L proofs r
   pub same : r.text ≡ text
   pub version : r.version ≡ known
   pub may_open : MayOpen proofs r.rest
-  pub right : AreRightSoFar F proofs
+  pub right : AllByRecursion (IsRightOver J) proofs
   pub groups : t.groups ≡ length proofs
-  pub lines : t.lines ≡ line_count proofs
-  pub so : (file : List ℕ) → IsCodeOf code file → ProvedSo file proofs t.not_proved
+  pub lines : t.lines ≡ count_over J proofs
+  pub so : (file : List ℕ) → IsCodeOf code file → ProvedSo J file proofs t.not_proved
 
 -- the text is that of proofs in which nothing is wrong, and they are counted
-pub record TextJudged (F : FurtherRule) (v : Version) (file text : List ℕ) (t : Tally) : Type 0 where
-  pub proofs : List ProofTree
-  pub spelled : IsTextOfIn v text proofs
-  pub right : AreRightSoFar F proofs
+pub record TextJudged {L : LineGrammar} (J : LineRules L) (v : Version) (file text : List ℕ) (t : Tally) : Type 0 where
+  pub proofs : List (ProofOf L.Line)
+  pub spelled : IsTextOver L v text proofs
+  pub right : AllByRecursion (IsRightOver J) proofs
   pub groups : t.groups ≡ length proofs
-  pub lines : t.lines ≡ line_count proofs
-  pub so : ProvedSo file proofs t.not_proved
+  pub lines : t.lines ≡ count_over J proofs
+  pub so : ProvedSo J file proofs t.not_proved
 
 -- the verdict on it
 abbrev pub verdict_for : Option ℕ → ℕ → ℕ → Verdict

@@ -1,13 +1,14 @@
-use Rattle.std.proofs.Common.{sym, subst}
 use Rattle.group_text.specs.Version.{version_of}
-use Rattle.checker.specs.declared.verdict.Verdict.{Verdict}
-use Rattle.checker.specs.Verdicts.{SaysBy}
-use Rattle.checker.proofs.CheckLemmas.{text-verdict}
-use Rattle.checker.proofs.SourceLemmas.{some-so}
+use Rattle.proof_text.proofs.WholeLaws.{lines-read}
+use Rattle.checker.specs.Pulled.{as_verdict}
+use Rattle.checker.proofs.Told.{some-so}
+use Rattle.checker.proofs.WholeLemmas.{whole-says}
 use Rattle.checker.proofs.check.judge_source.Goals as goal
 
-pub returns-in-Ok-clause-verdict : goal.returns-in-Ok-clause-verdict
-returns-in-Ok-clause-verdict g c elf readable is =
+pub check_source-requires-clause-laws : goal.check_source-requires-clause-laws
+check_source-requires-clause-laws g c = lines-read (g.P.ProofSource.version c.args.source.now)
+
+pub returns-clause-verdict : goal.returns-clause-verdict
+returns-clause-verdict g c elf readable is =
     some-so (g.P.ProofSource.told c.args.source.now c.args.from.now) _ _
-    (λ r judged. subst (λ (v : Verdict). SaysBy g.R.FurtherRule.states (version_of r.version) elf r.text v) (sym c.conclude.ensures) (text-verdict g.R.FurtherRule.states (version_of r.version) elf r.text readable c.in-Ok.tally judged))
-    (c.in-Ok.ensures.judged elf is)
+    (λ r says. whole-says g.R.FurtherRule.states (version_of r.version) elf r.text (as_verdict c.check_source.result) says) (c.check_source.ensures.verdict elf readable is)

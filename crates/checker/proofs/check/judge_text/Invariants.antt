@@ -1,13 +1,14 @@
-use Rattle.std.proofs.Common.{◌+◌, ◌≤◌, false}
+use Rattle.std.proofs.Common.{◌≡◌, ◌+◌, ◌≤◌, false}
 use Rattle.proof_text.specs.Sources.{Both}
-use Rattle.checker.specs.inner.Checking.{GroupsJudged}
+use Rattle.checker.proofs.JudgedLemmas.{Groups}
 use Rattle.checker.proofs.check.judge_text.Given as goal
 
 abbrev pub invariant-loop-group : goal.invariant-loop-group
 invariant-loop-group g l = record {
-  told : Both (g.P.ProofSource.told l.fn.source l.fn.from) (g.P.ProofSource.told l.source l.from) (λ old r. GroupsJudged g.R.FurtherRule.states old.version l.code.ranges old.text r l.tally);
+  told : Both (g.P.ProofSource.told l.fn.source l.fn.from) (g.P.ProofSource.told l.source l.from) (Groups g.V.RuledLines.rules l.code.ranges l.tally);
   going : g.P.ProofSource.Goes l.source;
   few : l.tally.groups + l.tally.lines + g.P.ProofSource.left l.source ≤ g.P.ProofSource.left l.fn.source;
+  version : g.P.ProofSource.version l.source ≡ g.P.ProofSource.version l.fn.source;
   lends : g.P.ProofSource.Lends false l.fn.source l.fn.from l.source l.from;
 }
 
