@@ -1,5 +1,5 @@
 -- A proof with a table: what it is written as, and that it may be written.
-use Rattle.std.proofs.Common.{◌≡◌, ℕ, false, List, [], ◌∷◌, ◌++◌, codes, refl, arith}
+use Rattle.std.proofs.Common.{◌≡◌, ℕ, false, List, [], ◌∷◌, ◌++◌, map, codes, refl, arith}
 use Rattle.std.specs.Fmt.{digits}
 use Rattle.std.specs.List.{AllByRecursion}
 use Rattle.hex.specs.Hex.{encode_with}
@@ -15,6 +15,7 @@ use Rattle.triple_kernel.specs.declared.form.Form.TheVariants.{Next}
 use Rattle.held_terms.specs.declared.held.HeldFact.TheVariants as held
 use Rattle.short_text.specs.declared.short.Short.{Short}
 use Rattle.short_text.specs.declared.short.Short.TheVariants as short
+use Rattle.short_text.specs.declared.short.ShortLine.TheVariants.{Term, Proof}
 use Rattle.short_text.specs.Table.{IsTable, depths_of}
 use Rattle.short_text.specs.ShortLimits.{IsShort}
 use Rattle.short_text.specs.ShortProofs.{ShortProof, text_of_short_proofs}
@@ -53,7 +54,7 @@ lines =
     ∷ []
 
 abbrev proof : ShortProof
-proof = record { group = group; table = table; lines = lines }
+proof = record { group = group; lines = map Term table ++ map Proof lines }
 
 -- the rows, each with its newline
 abbrev rows : List (List ℕ) → List ℕ

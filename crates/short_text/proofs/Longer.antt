@@ -4,8 +4,8 @@ use Rattle.std.specs.Prelude.{nat_le, ◌&&◌, Contains, slice_get, slice_index
 use Rattle.std.specs.Result.{IsErrAnd}
 use Rattle.std.proofs.lemmas.Bool.{and_from}
 use Rattle.mc_text.specs.Tokens.{Tok, Position}
-use Rattle.mc_text.specs.Reading.{◌>>=◌}
-use Rattle.mc_text.specs.inner.Reading.{checked}
+use Rattle.mc_text.specs.Reading.{Reader, ◌>>=◌, or_else, pair, one}
+use Rattle.mc_text.specs.inner.Reading.{is_eol, checked, eol}
 use Rattle.mc_text.specs.Scanning.{tokens_at}
 use Rattle.mc_text.specs.Outcome.{Gives}
 use Rattle.mc_text.specs.declared.cursor.TokenError.{TokenError}
@@ -16,7 +16,7 @@ use Rattle.term_arena.specs.Arena.{AreChildren, IsAdded, Was_there, Is_next, IsA
 use Rattle.group_text.proofs.HeadLaws.{le-true, true-le}
 use Rattle.short_text.specs.Table.{HasNumbers, depth_over, depths_of, IsTable}
 use Rattle.short_text.specs.inner.ShortReading.{node_at, has_children, is_written_in, may_follow}
-use Rattle.short_text.specs.inner.TableParts.{AreTableParts, GoesOnWith}
+use Rattle.short_text.specs.inner.TableParts.{AreTableParts}
 use Rattle.short_text.proofs.NodeLaws.{node-law}
 use Rattle.short_text.proofs.TableLaws.{read-next, children-are, next-numbers, table-more, depths-more, other-unwritten, childless, too-deep, there-already}
 
@@ -57,17 +57,7 @@ pub added-next : (ns ms : List Node) (n : Node) (k : ℕ) → IsAdded ns n k ms 
 added-next ns ms n k (Was_there at same) le = absurd (let none = past-none ns k le in let clash : some n ≡ None = sym at ∙ none in cc)
 added-next ns ms n k (Is_next at more) le = more
 
-pub added-before : (ns ms : List Node) (n : Node) (k : ℕ) → IsAdded ns n k ms → k < length ns → slice_get ns k ≡ Some n
-added-before ns ms n k (Was_there at same) lt = at
-added-before ns ms n k (Is_next at more) lt = absurd (omega (arith, at, lt))
-
 -- ---- the parts of the table
-
--- an equal term's number is one of the table's
-pub there-before : (nodes : List Node) (depths : List ℕ) (arena ms : List Node) (n : Node) (k : ℕ) → AreTableParts nodes depths arena → IsAdded arena n k ms → k < length nodes → may_follow nodes n ≡ false
-there-before nodes depths arena ms n k parts added lt =
-    let len : length arena ≡ length nodes = ap length parts.kept in
-    there-already nodes n k (ap (λ (v : List Node). slice_get v k) (sym parts.kept) ∙ added-before arena ms n k added (omega (arith, len, lt)))
 
 pub follows : (nodes : List Node) (depths : List ℕ) (arena ms : List Node) (n : Node) (k : ℕ) → AreTableParts nodes depths arena → HasNumbers n → has_children nodes n ≡ true → depth_over depths n ≤ depth_limit → IsAdded arena n k ms → IsArena ms → length nodes ≤ k → may_follow nodes n ≡ true
 unfolding may_follow
@@ -126,8 +116,18 @@ module _ (self nodes : List Node) (depths : List ℕ) (arena : List Node) (n : N
       let is : depth_over (depths_of nodes) n ≡ d = ap (λ (ds : List ℕ). depth_over ds n) (sym (at ∙ parts.measured)) ∙ sym found in
       here false (too-deep nodes n (ap (λ (k : ℕ). nat_le k depth_limit) is ∙ le-false d depth_limit deep))
 
-  pub none-twice : (ms : List Node) (k len : ℕ) → IsAdded arena n k ms → len ≡ length nodes → k < len → refused_here
-  none-twice ms k len added is lt = here false (there-before nodes depths arena ms n k parts added (omega (arith, is, lt)))
+  -- it has another number than the next, so it was there before
+  pub was-there : (ms : List Node) (k len : ℕ) → IsAdded arena n k ms → len ≡ length nodes → (k ≡ len → ⊥) → (ms ≡ arena) × refused_here
+  was-there ms k len (Was_there at is) long other = (is, here false (there-already nodes n k (ap (λ (v : List Node). slice_get v k) (sym parts.kept) ∙ at)))
+  was-there ms k len (Is_next at more) long other = absurd (other (at ∙ ap length parts.kept ∙ sym long))
+
+  -- the table is as it was
+  pub same-parts : (ns : List Node) (ds : List ℕ) (ms : List Node) → ns ≡ nodes → ds ≡ depths → ms ≡ arena → AreTableParts ns ds ms
+  same-parts ns ds ms e f g = record {
+    terms = subst IsTable (sym e) parts.terms;
+    measured = f ∙ parts.measured ∙ ap depths_of (sym e);
+    kept = g ∙ parts.kept ∙ sym e;
+  }
 
   module _ (numbers : HasNumbers n) (seen : List Node) (b : Bool) (at : seen ≡ nodes) (found : b ≡ has_children seen n) (there : b ≡ true) (measured : List ℕ) (d : ℕ) (over : measured ≡ depths) (deep : d ≡ depth_over measured n) (flat : d ≤ depth_limit)
       (ms : List Node) (k len : ℕ) (added : IsAdded arena n k ms) (is : IsArena ms) (long : len ≡ length nodes) (le : len ≤ k) where
@@ -164,22 +164,56 @@ by_test n ts b = cond b (Ok (n, ts)) (Err ts)
 abbrev tested : List Node → Out Node → Out Node
 tested ns q = ◌>>=◌ {A = Node × List Tok} {B = Node × List Tok} q (λ p. by_test p.0 p.1 (may_follow ns p.0))
 
+abbrev then_end : Out Node → Out (Node × Unit {0})
+then_end q = ◌>>=◌ {A = Node × List Tok} {B = (Node × Unit {0}) × List Tok} q (λ p. ◌>>=◌ {A = Unit {0} × List Tok} {B = (Node × Unit {0}) × List Tok} (eol p.1) (λ r. Ok ((p.0, r.0), r.1)))
+
+abbrev ended : Node → List Tok → Out (Unit {0}) → Out (Node × Unit {0})
+ended n ts q = ◌>>=◌ {A = Unit {0} × List Tok} {B = (Node × Unit {0}) × List Tok} q (λ r. Ok ((n, r.0), r.1))
+
 pub read-numbers : (old new : Position) (n : Node) → node_at (tokens_at old) ≡ Ok (n, tokens_at new) → HasNumbers n
 read-numbers old new n e = (node-law.takes (tokens_at old) n (tokens_at new) e).1
 
-pub next-taken : (ns more : List Node) (n : Node) (old new : Position) → node_at (tokens_at old) ≡ Ok (n, tokens_at new) → GoesOnWith ns n (Ok more) → checked (may_follow ns) node_at (tokens_at old) ≡ Ok (n, tokens_at new)
-next-taken ns more n old new e h = ap (tested ns) e ∙ ap (by_test n (tokens_at new)) h.1
+abbrev err : List Tok → Out (Unit {0})
+err bad = Err bad
 
-abbrev pub first : Node × List Node → Node
-first p = p.0
+not-end : (t : Tok) (ts bad : List Tok) (o : Option (Unit {0})) → or_else o ts (t ∷ ts) ≡ Err bad → bad ≡ t ∷ ts
+not-end t ts bad (Some x) e = absurd cc
+not-end t ts bad None e = cc
 
-abbrev IsRefused : List Node → Position → Position → Result (Node × List Node) TokenError → Type 0
-IsRefused ns old new result = Gives first result old new (checked (may_follow ns) node_at)
+eol-stops : (ts bad : List Tok) → eol ts ≡ Err bad → bad ≡ ts
+unfolding one
+eol-stops [] bad e = cc
+eol-stops (t ∷ ts) bad e = not-end t ts bad (is_eol t) e
 
-refused : (ns : List Node) (n : Node) (e : TokenError) (old new : Position) → node_at (tokens_at old) ≡ Ok (n, tokens_at new) → GoesOnWith ns n (Err e) → IsRefused ns old new (Err e)
-refused ns n stop.Bad old new e h = ap (tested ns) e ∙ ap (by_test n (tokens_at new)) h
-refused ns n stop.NoMemory old new e h = tt
+abbrev pub nothing : Unit {0} → Unit {0}
+nothing x = tt
 
-pub next-refused : (ns : List Node) (n : Node) (f : TokenError) (old new : Position) (result : Result (Node × List Node) TokenError) → node_at (tokens_at old) ≡ Ok (n, tokens_at new) → GoesOnWith ns n (Err f) → IsErrAnd result (λ e. e ≡ f) → Gives first result old new (checked (may_follow ns) node_at)
-next-refused ns n f old new (Ok p) e h is = absurd is
-next-refused ns n f old new (Err g) e h is = subst (λ (x : TokenError). IsRefused ns old new (Err x)) (sym is) (refused ns n f old new e h)
+module _ (ns : List Node) (n : Node) (old mid : Position) (read : node_at (tokens_at old) ≡ Ok (n, tokens_at mid)) where
+  abbrev last_node_at : Reader (Node × Unit {0})
+  last_node_at = pair (checked (may_follow ns) node_at) eol
+
+  tested-is : (b : Bool) → may_follow ns n ≡ b → last_node_at (tokens_at old) ≡ then_end (by_test n (tokens_at mid) b)
+  tested-is b e = ap (λ (q : Out Node). then_end (tested ns q)) read ∙ ap (λ (v : Bool). then_end (by_test n (tokens_at mid) v)) e
+
+  pub last-taken : (new : Position) → may_follow ns n ≡ true → eol (tokens_at mid) ≡ Ok (tt, tokens_at new) → last_node_at (tokens_at old) ≡ Ok ((n, tt), tokens_at new)
+  last-taken new may end = tested-is true may ∙ ap (ended n (tokens_at mid)) end
+
+  pub last-refused : may_follow ns n ≡ false → last_node_at (tokens_at old) ≡ Err (tokens_at mid)
+  last-refused may = tested-is false may
+
+  -- whether it may stand there or not, no end of the line follows
+  none-ends : eol (tokens_at mid) ≡ Err (tokens_at mid) → last_node_at (tokens_at old) ≡ Err (tokens_at mid)
+  none-ends none = by (may_follow ns n) refl
+    where
+      by : (b : Bool) → may_follow ns n ≡ b → last_node_at (tokens_at old) ≡ Err (tokens_at mid)
+      by true e = tested-is true e ∙ ap (ended n (tokens_at mid)) none
+      by false e = tested-is false e
+
+  abbrev last_node : Node → Node × Unit {0}
+  last_node m = (m, tt)
+
+  pub last-stopped : (new : Position) (f : TokenError) (result : Result Node TokenError) → IsErrAnd result (λ e. e ≡ f) → Gives nothing (Err f) mid new eol → Gives last_node result old mid last_node_at
+  last-stopped new f (Ok m) is h = absurd is
+  last-stopped new stop.Bad (Err g) is h =
+      subst (λ (e : TokenError). Gives last_node (Err e) old mid last_node_at) (sym is) (none-ends (h ∙ ap (λ (ts : List Tok). err ts) (eol-stops (tokens_at mid) (tokens_at new) h)))
+  last-stopped new stop.NoMemory (Err g) is h = subst (λ (e : TokenError). Gives last_node (Err e) old mid last_node_at) (sym is) tt

@@ -1,4 +1,4 @@
--- What is written of short proofs are tokens of a text.
+-- What is written of short lines are tokens of a text.
 use Rattle.std.proofs.Common.{ℕ, ◌+◌, Bool, true, false, cond, List, [], ◌∷◌, ◌++◌, map, codes, refl, arith, flat_map}
 use Rattle.std.specs.Fmt.{decimal}
 use Rattle.std.specs.List.{AllByRecursion}
@@ -13,12 +13,9 @@ use Rattle.tailrec_lang.specs.Registers.{AreRegistersFrom}
 use Rattle.term_arena.specs.declared.node.Node.{Node}
 use Rattle.triple_kernel.specs.declared.form.Form.{Form}
 use Rattle.triple_kernel.specs.declared.form.Form.TheVariants.{Next, Taken}
-use Rattle.group_text.specs.Limits.{IsGroupIn}
-use Rattle.group_text.specs.Spelling.{number, group_tokens, title_tokens, end_tokens}
-use Rattle.group_text.specs.Version.{version_1}
-use Rattle.group_text.specs.declared.version.Version.TheVariants.{One}
+use Rattle.group_text.specs.Spelling.{number}
 use Rattle.group_text.proofs.HeadLaws.{IsCode}
-use Rattle.group_text.proofs.Real.{eol-tokens, ranges-tokens, group-tokens}
+use Rattle.group_text.proofs.Real.{eol-tokens, ranges-tokens}
 use Rattle.proof_text.specs.LineLimits.{AreRisingFrom}
 use Rattle.proof_text.specs.LineSpelling.{same_ranges, code_tokens, form_tokens}
 use Rattle.held_terms.specs.declared.held.HeldValues.{HeldValues}
@@ -27,11 +24,9 @@ use Rattle.held_terms.specs.declared.held.HeldFact.TheVariants as held
 use Rattle.held_terms.specs.declared.held.HeldSide.{HeldSide}
 use Rattle.short_text.specs.declared.short.Short.{Short}
 use Rattle.short_text.specs.declared.short.Short.TheVariants as short
-use Rattle.short_text.specs.Table.{HasNumbers}
-use Rattle.short_text.specs.ShortSpelling.{term_number, table_line, held_values_tokens, held_fact_tokens, held_register_tokens, held_side_tokens, word_place_tokens, mem_place_tokens, short_tokens}
+use Rattle.short_text.specs.ShortSpelling.{term_number, held_values_tokens, held_fact_tokens, held_register_tokens, held_side_tokens, word_place_tokens, mem_place_tokens, short_tokens}
 use Rattle.short_text.specs.ShortLimits.{IsWordNumber, IsMemNumber, AreHeldValues, IsHeldFact, AreHeldRegisters, IsHeldSide, IsShort}
-use Rattle.short_text.specs.ShortProofs.{version_2, ShortProof, IsShortProof, AreShortProofs, short_proof_tokens}
-use Rattle.short_text.proofs.TableLaws.{term-atom, small, one-tokens, two-tokens, table-line-tokens, next-numbers}
+use Rattle.short_text.proofs.TableLaws.{term-atom, small, one-tokens, two-tokens}
 
 abbrev close : List Tok
 close = Right ∷ []
@@ -143,25 +138,3 @@ module _ (ns : List Node) where
   short-is-tokens own (short.Loop def cited) h =
       (word-atom (codes "loop") refl, (decimal-atom def (small def h.0), eol-tokens (flat_map number cited) (tokens-each number IsNumber (λ n k. (decimal-atom n k, tt)) cited h.1)))
   short-is-tokens own (short.Forget k) h = (word-atom (codes "forget") refl, (decimal-atom k h, (tt, tt)))
-
--- ---- texts
-
--- but for the title version 2 has the groups of version 1
-as-first : (p : ShortProof) → IsGroupIn version_2 p.group → IsGroupIn version_1 p.group
-as-first p h = record { name = h.name; registers = h.registers; memories = h.memories; code = h.code; bytes = h.bytes; defs = h.defs; some = h.some; few = h.few }
-
-proof-is-tokens : (p : ShortProof) → IsShortProof p → AreTokens (short_proof_tokens p)
-proof-is-tokens p h =
-    let lines = flat_map (short_tokens p.group.code) p.lines in
-    tokens-append (group_tokens p.group) (flat_map table_line p.table ++ lines) (group-tokens One p.group (as-first p h.group))
-    (tokens-append (flat_map table_line p.table) lines (tokens-each table_line HasNumbers table-line-tokens p.table (next-numbers [] p.table h.table))
-    (tokens-each (short_tokens p.group.code) (IsShort p.table) (short-is-tokens p.table p.group.code) p.lines h.lines))
-
-pub short-text-tokens : (ps : List ShortProof) → AreShortProofs ps → AreTokens (title_tokens version_2 ++ (flat_map short_proof_tokens ps ++ end_tokens))
-short-text-tokens ps h = (
-  word-atom (codes "mcproof") refl,
-  (
-    word-atom (codes "2") refl,
-    (tt, tokens-append (flat_map short_proof_tokens ps) end_tokens (tokens-each short_proof_tokens IsShortProof proof-is-tokens ps h) (word-atom (codes "end") refl, (tt, tt))),
-  ),
-)

@@ -232,8 +232,15 @@ next-more : (ns ms : List Node) (n : Node) → AreNextTerms ns ms → IsNextTerm
 next-more ns [] n h k = (subst (λ (v : List Node). IsNextTerm v n) (append-nil ns) k, tt)
 next-more ns (m ∷ ms) n h k = (h.0, next-more (ns ++ m ∷ []) ms n h.1 (subst (λ (v : List Node). IsNextTerm v n) (sym (append_assoc ns (m ∷ []) ms)) k))
 
+next-fewer : (ns ms : List Node) (n : Node) → AreNextTerms ns (ms ++ n ∷ []) → AreNextTerms ns ms × IsNextTerm (ns ++ ms) n
+next-fewer ns [] n h = (tt, subst (λ (v : List Node). IsNextTerm v n) (sym (append-nil ns)) h.0)
+next-fewer ns (m ∷ ms) n h = let k = next-fewer (ns ++ m ∷ []) ms n h.1 in ((h.0, k.0), subst (λ (v : List Node). IsNextTerm v n) (append_assoc ns (m ∷ []) ms) k.1)
+
 pub table-more : (ns : List Node) (n : Node) → IsTable ns → IsNextTerm ns n → IsTable (ns ++ n ∷ [])
 table-more ns n h k = next-more [] ns n h k
+
+pub table-fewer : (ns : List Node) (n : Node) → IsTable (ns ++ n ∷ []) → IsTable ns × IsNextTerm ns n
+table-fewer ns n h = next-fewer [] ns n h
 
 depths-from : (ds : List ℕ) (ns : List Node) (n : Node) → fold with_depth ds (ns ++ n ∷ []) ≡ with_depth (fold with_depth ds ns) n
 depths-from ds [] n = refl

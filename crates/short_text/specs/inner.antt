@@ -1,3 +1,4 @@
 pub mod Kinds
 pub mod ShortReading
 pub mod TableParts
+pub mod ShortReaders

@@ -1,48 +1,54 @@
 //! Laws of texts of version 2. These functions do nothing: their contracts are the laws.
 
-ghost use Rattle.std.specs.Prelude.{◌≡◌, ◌++◌, ℕ, List, Ok, false, flat_map};
+ghost use Rattle.std.specs.Prelude.{◌≡◌, ◌≤◌, ◌⊎◌, ◌++◌, ℕ, List, length, map};
+ghost use Rattle.std.specs.List.{AllByRecursion};
 ghost use Rattle.rv_words.specs.declared.range.Range.{Range};
 ghost use Rattle.mc_text.specs.Tokens.{Tok, spell};
 ghost use Rattle.mc_text.specs.declared.token.Before.TheVariants.{Start};
 ghost use Rattle.mc_text.specs.Fault.{IsBadAt};
-ghost use Rattle.mc_text.specs.Reading.{goes_on};
 ghost use Rattle.term_arena.specs.declared.node.Node.{Node};
 ghost use Rattle.group_text.specs.Spelling.{end_tokens, title_tokens};
+ghost use Rattle.group_text.specs.Version.{Version, version_2};
+ghost use Rattle.proof_text.specs.FirstProofs.{AreReadOver, BeginsWithItems, items};
+ghost use Rattle.proof_text.specs.Proofs.{proof_texts_by};
+ghost use Rattle.proof_text.specs.inner.LineReaders.{ReadsLines};
 ghost use Rattle.proof_text.specs.inner.OwnCode.{IsOwnCode};
-ghost use Rattle.short_text.specs.declared.short.Short.{Short as Line};
+ghost use Rattle.short_text.specs.declared.short.Short.{Short};
+ghost use Rattle.short_text.specs.declared.short.ShortLine.{ShortLine as Line};
+ghost use Rattle.short_text.specs.declared.short.ShortLine.TheVariants.{Proof, Term};
 ghost use Rattle.short_text.specs.Table.{IsTable};
-ghost use Rattle.short_text.specs.ShortSpelling.{short_tokens, table_line};
 ghost use Rattle.short_text.specs.ShortLimits.{IsShort};
-ghost use Rattle.short_text.specs.ShortProofs.{AreShortProofs, ShortProof, short_texts, text_of_short_proof, text_of_short_proofs, version_2};
-ghost use Rattle.short_text.specs.inner.ShortReading.{is_term, short_at, table_at};
+ghost use Rattle.short_text.specs.ShortProofs.{AreShortLines, AreShortProofs, IsNextLine, ShortProof, proof_lines, short_line_tokens, short_lines, short_texts, table_of, text_of_short_proofs};
+ghost use Rattle.short_text.specs.inner.ShortReaders.{short_readers};
 
-/// The text of groups with their tables and lines is what `put_short_title`, for each group `put_group`, then
+/// Behind a group stands a table, and behind it lines over that.
+pub fn law_of_tables()
+    ensures apart { (ls : List Line) → AreShortLines ls → ls ≡ map Term (table_of ls) ++ map Proof (proof_lines ls) }
+    ensures joined { (ns : List Node) (ss : List Short) → IsTable ns → AllByRecursion (IsShort ns) ss → AreShortLines (map Term ns ++ map Proof ss) }
+    ensures terms { (ns : List Node) (ss : List Short) → table_of (map Term ns ++ map Proof ss) ≡ ns }
+    ensures lines { (ns : List Node) (ss : List Short) → proof_lines (map Term ns ++ map Proof ss) ≡ ss }
+{}
+
+/// Lines behind those of a table and a proof are read as they are spelled, and tokens begin with the spelling of one at most.
+pub fn law_of_short_lines()
+    ensures read { (v : Version) → ReadsLines short_readers v }
+    ensures once { (own : List Range) → IsOwnCode own → (before : List Line) → AreShortLines before → (l m : Line) (rest more : List Tok) → IsNextLine before l → IsNextLine before m
+        → short_line_tokens own l ++ rest ≡ short_line_tokens own m ++ more → (l ≡ m) × (rest ≡ more) }
+{}
+
+/// The text of groups with their tables and lines is what `put_title` of version 2, for each group `put_group`, then
 /// `put_table_line` of each of its terms and `put_short_line` of each of its lines, and `put_end` append, one after the other.
 pub fn law_of_short_parts()
-    ensures { (ps : List ShortProof) → text_of_short_proofs ps ≡ spell Start (title_tokens version_2) ++ (flat_map text_of_short_proof ps ++ spell Start end_tokens) }
+    ensures { (ps : List ShortProof) → text_of_short_proofs ps ≡ spell Start (title_tokens version_2) ++ (proof_texts_by short_line_tokens ps ++ spell Start end_tokens) }
 {}
 
-/// What is read as a table is one, and the tokens before what follows are its spelling; each table is read so where no
-/// further term follows it; and tokens begin with the spelling of one such table at most.
-pub fn law_of_tables()
-    ensures read { (ts : List Tok) (ns : List Node) (rest : List Tok) → table_at ts ≡ Ok (ns, rest) → IsTable ns × (ts ≡ flat_map table_line ns ++ rest) }
-    ensures spelled { (ns : List Node) (rest : List Tok) → IsTable ns → goes_on is_term rest ≡ false → table_at (flat_map table_line ns ++ rest) ≡ Ok (ns, rest) }
-    ensures once { (ms ns : List Node) (rest more : List Tok) → IsTable ms → IsTable ns → goes_on is_term rest ≡ false → goes_on is_term more ≡ false
-        → flat_map table_line ms ++ rest ≡ flat_map table_line ns ++ more → (ms ≡ ns) × (rest ≡ more) }
-{}
-
-/// What is read as a line beside a table and a group's own code is one, and the tokens before what follows are its spelling;
-/// each line is read so; and tokens begin with the spelling of one line at most.
-pub fn law_of_short_lines()
-    ensures read { (ns : List Node) (own : List Range) → IsOwnCode own → (ts : List Tok) (l : Line) (rest : List Tok) → short_at ns own ts ≡ Ok (l, rest)
-        → IsShort ns l × (ts ≡ short_tokens own l ++ rest) }
-    ensures spelled { (ns : List Node) (own : List Range) → IsOwnCode own → (l : Line) (rest : List Tok) → IsShort ns l → short_at ns own (short_tokens own l ++ rest) ≡ Ok (l, rest) }
-    ensures once { (ns : List Node) (own : List Range) → IsOwnCode own → (l m : Line) (rest more : List Tok) → IsShort ns l → IsShort ns m
-        → short_tokens own l ++ rest ≡ short_tokens own m ++ more → (l ≡ m) × (rest ≡ more) }
-{}
-
-/// A text of version 2 is that of one list of groups with their tables and lines, and is none from one line on.
+/// A text of version 2 is that of one list of groups with their tables and lines, and is none from one line on. The groups,
+/// terms and lines that are read of it are its own, and of two lists of what is first in it one begins with the other.
 pub fn law_of_short_texts()
     ensures once { (ps qs : List ShortProof) → AreShortProofs ps → AreShortProofs qs → text_of_short_proofs ps ≡ text_of_short_proofs qs → ps ≡ qs }
     ensures faults { (text : List ℕ) (m n : ℕ) → IsBadAt short_texts text m → IsBadAt short_texts text n → m ≡ n }
+    ensures read { (text : List ℕ) (ps qs : List ShortProof) → AreShortProofs ps → text ≡ text_of_short_proofs ps → AreReadOver short_lines version_2 text qs → BeginsWithItems ps qs }
+    ensures alike { (text : List ℕ) (ps qs : List ShortProof) → AreReadOver short_lines version_2 text ps → AreReadOver short_lines version_2 text qs → BeginsWithItems ps qs ⊎ BeginsWithItems qs ps }
+    ensures fewer { (text : List ℕ) (ps qs : List ShortProof) → AreReadOver short_lines version_2 text ps → BeginsWithItems ps qs → AreReadOver short_lines version_2 text qs }
+    ensures few { (text : List ℕ) (ps : List ShortProof) → AreReadOver short_lines version_2 text ps → length (items ps) ≤ length text }
 {}

@@ -6,17 +6,12 @@ ghost use Rattle.std.specs.Fmt.{decimal};
 ghost use Rattle.mc_text.specs.Printing.{BeginsWith, Keeps, page, print};
 ghost use Rattle.mc_text.specs.Tokens.{Atom, Semi, spell};
 ghost use Rattle.mc_text.specs.declared.token.Before.TheVariants.{Start};
-ghost use Rattle.group_text.specs.Spelling.{address, line, number, title_tokens};
+ghost use Rattle.group_text.specs.Spelling.{address, line, number};
 ghost use Rattle.term_text.specs.Spelling.{form};
 ghost use Rattle.proof_text.specs.LineSpelling.{code_tokens, form_tokens};
 ghost use Rattle.tailrec_lang.specs.Tree.{group_tree};
-ghost use Rattle.short_text.specs.ShortProofs.{version_2};
 ghost use Rattle.short_text.specs.ShortSpelling.{held_fact_tokens, held_register_tokens, held_side_tokens, held_values_tokens, list_tokens, mem_place_tokens, node_tokens, short_tokens, table_line, term_number, word_place_tokens};
 
-use crate::names::{
-    name_of_comparison, name_of_extension, name_of_inside, name_of_load, name_of_operation,
-    name_of_store,
-};
 use crate::short::Short;
 use held_terms::{HeldFact, HeldSide, HeldValues};
 use itoa::Buffer;
@@ -25,28 +20,12 @@ use proof_text::{put_cited, put_form, put_stated_code, put_theorems};
 use rv_words::{Bytes, NoMemory};
 use tailrec_lang::Group;
 use term_arena::Node;
+use term_text::{
+    name_of_comparison, name_of_extension, name_of_inside, name_of_load, name_of_operation,
+    name_of_store,
+};
 use triple_kernel::Form;
 use word_terms::Code;
-
-/// Prints what stands before the groups of a text of version 2.
-#[tactic(auto, using(mc_text::proofs::Printed::printed_bytes, mc_text::proofs::Printed::prints))]
-pub fn put_short_title(out: &mut Bytes) -> Result<(), NoMemory>
-    ensures ok { OnOk result (out.new ≡ out.old ++ spell Start (title_tokens version_2)) }
-    ensures prefix { BeginsWith out.old out.new }
-{
-    let mut pen = Pen::new(out);
-    put_title_line(&mut pen)?;
-    Ok(())
-}
-
-fn put_title_line(pen: &mut Pen<'_>) -> Result<(), NoMemory>
-    ensures ok { OnOk result (page pen.new ≡ print (title_tokens version_2) (page pen.old)) }
-    ensures kept { Keeps (page pen.old) (page pen.new) }
-{
-    pen.atom(b"mcproof")?;
-    pen.atom(b"2")?;
-    pen.eol()
-}
 
 /// Prints a line of a table at the beginning of a line.
 #[tactic(auto, using(mc_text::proofs::Printed::printed_bytes, mc_text::proofs::Printed::prints))]

@@ -2,6 +2,7 @@
 
 use held_terms::{HeldFact, HeldSide};
 use rv_words::List;
+use term_arena::Node;
 use triple_kernel::Form;
 use word_terms::Code;
 
@@ -26,4 +27,13 @@ pub enum Short {
     Loop(u32, List<u64>),
     /// Forgets a theorem.
     Forget(u64),
+}
+
+/// A line behind the definitions of a group in a text of version 2.
+#[derive(Debug, Drop)]
+pub enum ShortLine {
+    /// A term of the group's table, which has the next number.
+    Term(Node),
+    /// A line of the group's proof, over the table.
+    Proof(Short),
 }

@@ -1,10 +1,11 @@
 //! Tables of terms, which find each of their terms by its node.
 
-ghost use Rattle.std.specs.Prelude.{◌≡◌, ◌<◌, [], IfOk};
+ghost use Rattle.std.specs.Prelude.{◌≡◌, ◌<◌, ◌++◌, ◌∷◌, [], ℕ, List as Items, IfOk, OnOk, OnErr};
 ghost use Rattle.term_arena.specs.Arena.{AreChildren, IsAdded, IsArena};
+ghost use Rattle.term_arena.specs.declared.node.Node.{Node as NodeOf};
 ghost use Rattle.short_text.specs.Table.{HasNumbers, IsTable, depth_in, depth_over};
 ghost use Rattle.short_text.specs.inner.ShortReading.{has_children};
-ghost use Rattle.short_text.specs.inner.TableParts.{GoesOnWith};
+ghost use Rattle.short_text.specs.inner.TableParts.{Puts};
 
 use crate::kind::{Kind, has_kind};
 use mc_text::TokenError;
@@ -17,7 +18,8 @@ use term_arena::{Arena, Node, Steps};
 /// The greatest depth of a term.
 const DEPTH_LIMIT: u64 = 64;
 
-/// The terms of a table by their numbers.
+/// The terms of a table by their numbers. What finds the number of a node is an arena, so a term costs no more behind many
+/// others than behind few.
 #[derive(Drop)]
 pub struct Table {
     nodes: List<Node>,
@@ -57,41 +59,68 @@ impl Table {
         self.nodes.as_slice()
     }
 
-    /// The table with one more term, if it may go on with that.
-    pub fn with(self, node: Node) -> Result<Table, TokenError>
+    /// Puts a term behind the others, if it may stand there.
+    pub fn put(&mut self, node: Node) -> Result<(), TokenError>
         requires { HasNumbers node }
-        ensures { GoesOnWith self node result }
+        ensures { Puts self.old node result self.new }
     {
-        let Table {
-            mut nodes,
-            mut depths,
-            mut arena,
-        } = self;
-        if !has_children(nodes.as_slice(), node) {
+        if !has_children(self.nodes.as_slice(), node) {
             return Err(TokenError::Bad);
         }
-        let depth = depth_over(depths.as_slice(), node);
+        let depth = depth_over(self.depths.as_slice(), node);
         if depth > DEPTH_LIMIT {
             return Err(TokenError::Bad);
         }
-        let number = number_in(&mut arena, node)?;
-        if number < nodes.len() as u64 {
-            return Err(TokenError::Bad);
+        let next = self.nodes.len() as u64;
+        push_both(&mut self.nodes, &mut self.depths, node, depth as u8)?;
+        match number_in(&mut self.arena, node) {
+            Ok(number) if number == next => Ok(()),
+            Ok(_) => {
+                pop_both(&mut self.nodes, &mut self.depths);
+                Err(TokenError::Bad)
+            }
+            Err(_) => {
+                pop_both(&mut self.nodes, &mut self.depths);
+                Err(TokenError::NoMemory)
+            }
         }
-        nodes.push(node)?;
-        depths.push(depth as u8)?;
-        Ok(Table {
-            nodes,
-            depths,
-            arena,
-        })
     }
+}
+
+/// Adds a term and its depth at the end, or none of them.
+fn push_both(
+    nodes: &mut List<Node>,
+    depths: &mut List<u8>,
+    node: Node,
+    depth: u8,
+) -> Result<(), NoMemory>
+    ensures ok { OnOk result ((nodes.new ≡ nodes.old ++ node ∷ []) × (depths.new ≡ depths.old ++ depth ∷ [])) }
+    ensures err { OnErr result ((nodes.new ≡ nodes.old) × (depths.new ≡ depths.old)) }
+{
+    nodes.push(node)?;
+    match depths.push(depth) {
+        Ok(()) => Ok(()),
+        Err(fault) => {
+            nodes.pop();
+            Err(fault)
+        }
+    }
+}
+
+/// Takes the last term and the last depth away.
+fn pop_both(nodes: &mut List<Node>, depths: &mut List<u8>)
+    ensures nodes { (ns : Items NodeOf) (n : NodeOf) → nodes.old ≡ ns ++ n ∷ [] → nodes.new ≡ ns }
+    ensures depths { (ds : Items ℕ) (d : ℕ) → depths.old ≡ ds ++ d ∷ [] → depths.new ≡ ds }
+{
+    nodes.pop();
+    depths.pop();
 }
 
 /// The number of a node, which is added where it isn't there.
 fn number_in(arena: &mut Arena, node: Node) -> Result<u64, NoMemory>
     requires { AreChildren arena.old node }
     ensures added { IfOk result (λ k. IsAdded arena.old node k arena.new) }
+    ensures same { OnErr result (arena.new ≡ arena.old) }
     ensures arena { IsArena arena.new }
 {
     counted_number::<Brand>(arena, node, Blank::new(1))
@@ -104,6 +133,7 @@ fn counted_number<L: Ledger>(arena: &mut Arena, node: Node, blank: Blank) -> Res
     requires one { L.parts ≡ 1 }
     requires children { AreChildren arena.old node }
     ensures added { IfOk result (λ k. IsAdded arena.old node k arena.new) }
+    ensures same { OnErr result (arena.new ≡ arena.old) }
     ensures arena { IsArena arena.new }
 {
     let number = arena.add(node, &mut Steps::<L>::new(blank));

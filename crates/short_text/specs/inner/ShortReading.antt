@@ -1,10 +1,10 @@
 -- Reading tables and short lines from tokens, by computing: a line a rule of the grammar.
-use Rattle.std.specs.Prelude.{ℕ, zero, suc, ◌+◌, Bool, true, false, ◌&&◌, not, nat_le, ◌==◌, if◌then◌else◌, List, [], ◌∷◌, ◌++◌, length, map, codes, Option, Some, None, option_map, Ok}
+use Rattle.std.specs.Prelude.{ℕ, ◌+◌, Bool, true, false, ◌&&◌, not, nat_le, ◌==◌, if◌then◌else◌, List, [], ◌∷◌, map, codes, Option, Some, None, option_map}
 use Rattle.std.specs.Str.{bytes_eq}
 use Rattle.mc_text.specs.Number.{number_of, hex_of}
 use Rattle.mc_text.specs.Tokens.{Tok, Atom, spell}
 use Rattle.mc_text.specs.declared.token.Before.TheVariants.{Start}
-use Rattle.mc_text.specs.Reading.{Reader, pair, with, made, one, atom_of, star, choice, goes_on, is_left, is_right, is_open, address_at}
+use Rattle.mc_text.specs.Reading.{Reader, pair, with, made, one, atom_of, star, choice, is_left, is_right, is_open, address_at}
 use Rattle.mc_text.specs.inner.Reading.{is_semi, eol, word, keyed, checked, number_at}
 use Rattle.rv_words.specs.Operation.{operation_name, comparison_name}
 use Rattle.rv_words.specs.declared.operation.Op.TheVariants.{Add, Sub, Sll, Slt, Sltu, Xor, Srl, Sra, Or, And, Mul, Mulh, Mulhsu, Mulhu, Div, Divu, Rem, Remu, Addw, Subw, Sllw, Srlw, Sraw, Mulw, Divw, Divuw, Remw, Remuw}
@@ -18,7 +18,7 @@ use Rattle.term_text.specs.Reading.{named, or_option, variable_of, form_of, rang
 use Rattle.term_arena.specs.declared.node.Node.{Node}
 use Rattle.term_arena.specs.declared.node.Node.TheVariants as node
 use Rattle.group_text.specs.inner.Reading.{has_atom, registers_rise}
-use Rattle.proof_text.specs.inner.LineReading.{index_at, theorem_at, instruction_of, axiom_form_of, is_other, ends_proof}
+use Rattle.proof_text.specs.inner.LineReading.{index_at, theorem_at, instruction_of, axiom_form_of, is_other}
 use Rattle.triple_kernel.specs.declared.form.Form.{Form}
 use Rattle.held_terms.specs.declared.held.HeldValues.{HeldValues}
 use Rattle.held_terms.specs.declared.held.HeldFact.{HeldFact}
@@ -147,15 +147,6 @@ term_row ns = made (λ x. x.1.0) (pair (word (codes "term")) (pair (checked (may
 abbrev pub is_term : Tok → Bool
 is_term (Atom a) = bytes_eq a (codes "term")
 is_term _ = false
-
--- at most so many lines of a table, behind those terms
-unfoldable pub terms_from : ℕ → List Node → Reader (List Node)
-terms_from zero ns ts = Ok ([], ts)
-terms_from (suc n) ns ts = if goes_on is_term ts then made (λ x. x.0 ∷ x.1) (with (term_row ns) (λ m. terms_from n (ns ++ m ∷ []))) ts else Ok ([], ts)
-
--- a table
-abbrev pub table_at : Reader (List Node)
-table_at ts = terms_from (length ts) [] ts
 
 -- ---- facts
 
@@ -366,7 +357,3 @@ short_at ns own = made (λ x. x.1) (with (one (atom_of short_head_of)) (short_pa
 abbrev pub rise_behind : Bool → ℕ → List (Place × ℕ) → Bool
 rise_behind true least ps = mem_places_rise least ps
 rise_behind false least ps = places_rise least ps
-
--- what one call reads: the next line, or none where the proof ends
-abbrev pub short_turn : List Node → List Range → Reader (Option Short)
-short_turn ns own ts = if goes_on ends_proof ts then Ok (None, ts) else made Some (short_at ns own) ts

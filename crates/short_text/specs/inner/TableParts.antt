@@ -12,8 +12,8 @@ pub record AreTableParts (nodes : List Node) (depths : List ℕ) (arena : List N
   pub measured : depths ≡ depths_of nodes
   pub kept : arena ≡ nodes
 
--- the table with one more term, if that may follow
-abbrev pub GoesOnWith : List Node → Node → Result (List Node) TokenError → Type 0
-GoesOnWith ns n (Ok more) = (more ≡ ns ++ n ∷ []) × (may_follow ns n ≡ true)
-GoesOnWith ns n (Err stop.Bad) = may_follow ns n ≡ false
-GoesOnWith ns n (Err stop.NoMemory) = Unit {0}
+-- a term was put behind those of the table, or it may not stand there; else the table is the same
+abbrev pub Puts : List Node → Node → Result (Unit {0}) TokenError → List Node → Type 0
+Puts ns n (Ok _) more = (more ≡ ns ++ n ∷ []) × (may_follow ns n ≡ true)
+Puts ns n (Err stop.Bad) more = (more ≡ ns) × (may_follow ns n ≡ false)
+Puts ns n (Err stop.NoMemory) more = more ≡ ns

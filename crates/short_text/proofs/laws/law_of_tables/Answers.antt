@@ -1,11 +1,14 @@
-use Rattle.short_text.proofs.TableSpelling.{table-takes, table-again, table-once}
+use Rattle.short_text.proofs.LineParts.{apart, joined, table-joined, lines-joined}
 use Rattle.short_text.proofs.laws.law_of_tables.Goals as goal
 
-pub returns-clause-read : goal.returns-clause-read
-returns-clause-read c = λ ts ns rest e. let h = table-takes ts ns rest e in (h.1, h.0)
+pub returns-clause-apart : goal.returns-clause-apart
+returns-clause-apart c = apart
 
-pub returns-clause-spelled : goal.returns-clause-spelled
-returns-clause-spelled c = table-again
+pub returns-clause-joined : goal.returns-clause-joined
+returns-clause-joined c = joined
 
-pub returns-clause-once : goal.returns-clause-once
-returns-clause-once c = table-once
+pub returns-clause-terms : goal.returns-clause-terms
+returns-clause-terms c = table-joined
+
+pub returns-clause-lines : goal.returns-clause-lines
+returns-clause-lines c = lines-joined
