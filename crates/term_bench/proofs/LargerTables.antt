@@ -5,7 +5,6 @@ use Rattle.std.specs.List.{AllByRecursion}
 use Rattle.word_terms.specs.Tree.{WordTree}
 use Rattle.tailrec_lang.specs.Tree.{GroupTree}
 use Rattle.triple_kernel.specs.Tree.{TripleTree}
-use Rattle.frame_compose.specs.Rules.{further}
 use Rattle.term_text.specs.Limits.{IsMem, IsWord}
 use Rattle.proof_text.specs.Line.{Inst, LineTree, States, Loop, Forget, Further}
 use Rattle.proof_text.specs.LineLimits.{AreRisingFrom, IsAssertion, IsFact}
@@ -116,6 +115,9 @@ module _ (ns ms : List Node) (e : Extends ns ms) where
         λ r. record { full = full.0 r.full; further = more.0 r.further; fits = r.fits; right = r.right },
         λ r. record { full = full.1 r.full; further = more.1 r.further; fits = r.fits; right = r.right },
       )
+
+  pub right_grows : (g : GroupTree) (h : History) (s : Short) (l : LineTree) → IsFineShort ns s → IsRightFor g h ns s l → IsRightFor g h ms s l
+  right_grows g h s l fine r = (right-same g h s fine l).0 r
 
   pub instance_grows : (g : GroupTree) (h : History) (s : Short) → IsFineShort ns s → IsShortInstance g h ns s → IsShortInstance g h ms s
   instance_grows g h s fine x = (x.0, (right-same g h s fine x.0).0 x.1)

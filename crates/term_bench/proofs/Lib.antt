@@ -2,6 +2,7 @@ pub mod PutLemmas
 pub mod LeafLemmas
 pub mod RuleLemmas
 pub mod BenchLemmas
+pub mod PutOrder
 pub mod ShortLemmas
 pub mod MakingLemmas
 pub mod CodeBytes

@@ -4,7 +4,7 @@ use Rattle.std.proofs.lemmas.Option.{none-some, same_Some}
 use Rattle.tailrec_lang.specs.Tree.{GroupTree}
 use Rattle.sep_assert.proofs.SameCode.{same_ranges}
 use Rattle.triple_kernel.specs.Tree.{TripleTree}
-use Rattle.proof_text.specs.Line.{Axiom, Compose, Discharge, ExtendCode, Forget, Further, Inst, LineTree, Loop, States, Strengthen, UseExit, Weaken}
+use Rattle.proof_text.specs.Line.{Forget, Further, Inst, LineTree, Loop, States}
 use Rattle.term_arena.specs.declared.node.Node.{Node}
 use Rattle.term_arena.specs.Arena.{mem_of}
 use Rattle.held_terms.specs.Held.{fact_of, register_of, side_of}

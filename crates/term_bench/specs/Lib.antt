@@ -1,4 +1,5 @@
 pub mod Bench
+pub mod Terms
 pub mod inner
 pub mod Fine
 pub mod Short

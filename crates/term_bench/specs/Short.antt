@@ -1,5 +1,5 @@
 -- When a short line is right after the lines before it, and what it leaves behind it.
-use Rattle.std.specs.Prelude.{◌≡◌, ℕ, ◌<◌, ◌^◌, IfSome, IsSomeAnd, List, [], ◌∷◌, Option, Some, fold}
+use Rattle.std.specs.Prelude.{◌≡◌, ℕ, ◌<◌, ◌^◌, IfSome, IsSomeAnd, List, [], ◌∷◌, Some, fold}
 use Rattle.std.specs.List.{AllByRecursion, AllZip}
 use Rattle.mc_text.specs.Number.{IsWord as IsNumber}
 use Rattle.tailrec_lang.specs.Tree.{GroupTree}

@@ -32,4 +32,6 @@ pub fn law_of_larger_tables()
         → IsFineShort ns line → IsShortInstance g h ns line → IsShortInstance g h ms line }
     ensures left { (ns ms : List Node) → Extends ns ms → (g : GroupTree) (h : History) (line : Short) (after : History)
         → IsFineShort ns line → LeavesBehind g h ms line after → LeavesBehind g h ns line after }
+    ensures full { (ns ms : List Node) → Extends ns ms → (g : GroupTree) (h : History) (line : Short) (l : LineTree)
+        → IsFineShort ns line → IsRightFor g h ns line l → IsRightFor g h ms line l }
 {}

@@ -35,4 +35,4 @@ mod stating;
 
 pub use bench::Bench;
 pub use laws::{law_of_full_lines, law_of_larger_tables, law_of_one_full_line};
-pub use put::put_triple;
+pub use put::{put_facts, put_mem_terms, put_mems, put_side, put_triple, put_word, put_word_terms};

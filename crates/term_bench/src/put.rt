@@ -1,13 +1,14 @@
 //! Triples put into an arena, term by term.
 #![tactic(auto, using(held_terms::proofs::InstanceLemmas::extends_next))]
 
-ghost use Rattle.std.specs.Prelude.{IfOk, map};
+ghost use Rattle.std.specs.Prelude.{IfOk, [], ◌∷◌, flat_map, map};
 ghost use Rattle.word_terms.specs.Tree.{cond_tree, mem_tree, word_tree};
 ghost use Rattle.tailrec_lang.specs.Tree.{values_tree};
 ghost use Rattle.sep_assert.specs.Tree.{assertion_tree, register_tree};
 ghost use Rattle.triple_kernel.specs.Tree.{fact_tree, triple_tree};
 ghost use Rattle.proof_text.specs.Line.{mem_put_in, word_put_in};
-ghost use Rattle.term_arena.specs.Arena.{Extends};
+ghost use Rattle.term_arena.specs.Arena.{Extends, OfCond, OfMem, OfWord};
+ghost use Rattle.term_bench.specs.Terms.{AreTermsPutIn, assertion_terms, fact_terms, values_terms};
 ghost use Rattle.term_bench.specs.inner.Put.{AreFactsPut, AreMemTermsPut, AreMemsPut, AreRegistersPut, AreWordsPut, IsCondPut, IsFactPut, IsHeldPut, IsMemPut, IsSidePut, IsValuesPut, IsWordPut};
 
 use held_terms::{Held, HeldFact, HeldSide, HeldValues};
@@ -51,6 +52,7 @@ pub fn put_facts<L: Ledger>(
 ) -> Result<List<HeldFact>, NoMemory>
     ensures put { IfOk result (λ fs. AreFactsPut arena.new fs (map fact_tree facts.now)) }
     ensures grows { Extends arena.old arena.new }
+    ensures order { IfOk result (λ _. AreTermsPutIn arena.old (flat_map fact_terms (map fact_tree facts.now)) arena.new) }
 {
     let mut numbers = List::new(alloc);
     for fact in facts {
@@ -68,6 +70,7 @@ fn put_fact<L: Ledger>(
 ) -> Result<HeldFact, NoMemory>
     ensures put { IfOk result (λ f. IsFactPut arena.new f (fact_tree fact.now)) }
     ensures grows { Extends arena.old arena.new }
+    ensures order { IfOk result (λ _. AreTermsPutIn arena.old (fact_terms (fact_tree fact.now)) arena.new) }
 {
     match fact {
         Fact::WordIs(a, b) => {
@@ -110,6 +113,7 @@ fn put_values<L: Ledger>(
 ) -> Result<HeldValues, NoMemory>
     ensures put { IfOk result (λ v. IsValuesPut arena.new v (values_tree values.now)) }
     ensures grows { Extends arena.old arena.new }
+    ensures order { IfOk result (λ _. AreTermsPutIn arena.old (values_terms (values_tree values.now)) arena.new) }
 {
     let words = put_words(alloc, arena, values.words.as_slice(), steps)?;
     let mems = put_mems(alloc, arena, values.mems.as_slice(), steps)?;
@@ -125,6 +129,7 @@ pub fn put_side<L: Ledger>(
 ) -> Result<HeldSide, NoMemory>
     ensures put { IfOk result (λ s. IsSidePut arena.new s (assertion_tree side.now)) }
     ensures grows { Extends arena.old arena.new }
+    ensures order { IfOk result (λ _. AreTermsPutIn arena.old (assertion_terms (assertion_tree side.now)) arena.new) }
 {
     let pc = put_word(arena, &side.pc, steps)?;
     let regs = put_registers(alloc, arena, side.regs.as_slice(), steps)?;
@@ -140,6 +145,7 @@ fn put_registers<L: Ledger>(
 ) -> Result<List<(u8, u64)>, NoMemory>
     ensures put { IfOk result (λ rs. AreRegistersPut arena.new rs (map register_tree registers.now)) }
     ensures grows { Extends arena.old arena.new }
+    ensures order { IfOk result (λ _. AreTermsPutIn arena.old (map (λ r. OfWord r.1) (map register_tree registers.now)) arena.new) }
 {
     let mut numbers = List::new(alloc);
     for register in registers {
@@ -157,6 +163,7 @@ fn put_words<L: Ledger>(
 ) -> Result<List<u64>, NoMemory>
     ensures put { IfOk result (λ ks. AreWordsPut arena.new ks (map word_tree words.now)) }
     ensures grows { Extends arena.old arena.new }
+    ensures order { IfOk result (λ _. AreTermsPutIn arena.old (map OfWord (map word_tree words.now)) arena.new) }
 {
     let mut numbers = List::new(alloc);
     for word in words {
@@ -166,7 +173,8 @@ fn put_words<L: Ledger>(
     Ok(numbers)
 }
 
-fn put_mems<L: Ledger>(
+/// The numbers of memories.
+pub fn put_mems<L: Ledger>(
     alloc: Global,
     arena: &mut Arena,
     mems: &[Mem],
@@ -174,6 +182,7 @@ fn put_mems<L: Ledger>(
 ) -> Result<List<u64>, NoMemory>
     ensures put { IfOk result (λ ks. AreMemsPut arena.new ks (map mem_tree mems.now)) }
     ensures grows { Extends arena.old arena.new }
+    ensures order { IfOk result (λ _. AreTermsPutIn arena.old (map OfMem (map mem_tree mems.now)) arena.new) }
 {
     let mut numbers = List::new(alloc);
     for mem in mems {
@@ -192,6 +201,7 @@ pub fn put_word_terms<L: Ledger>(
 ) -> Result<List<(u32, u64)>, NoMemory>
     ensures put { IfOk result (λ ps. AreRegistersPut arena.new ps (map word_put_in terms.now)) }
     ensures grows { Extends arena.old arena.new }
+    ensures order { IfOk result (λ _. AreTermsPutIn arena.old (map (λ p. OfWord p.1) (map word_put_in terms.now)) arena.new) }
 {
     let mut numbers = List::new(alloc);
     for term in terms {
@@ -210,6 +220,7 @@ pub fn put_mem_terms<L: Ledger>(
 ) -> Result<List<(u32, u64)>, NoMemory>
     ensures put { IfOk result (λ ps. AreMemTermsPut arena.new ps (map mem_put_in terms.now)) }
     ensures grows { Extends arena.old arena.new }
+    ensures order { IfOk result (λ _. AreTermsPutIn arena.old (map (λ p. OfMem p.1) (map mem_put_in terms.now)) arena.new) }
 {
     let mut numbers = List::new(alloc);
     for term in terms {
@@ -219,13 +230,15 @@ pub fn put_mem_terms<L: Ledger>(
     Ok(numbers)
 }
 
-fn put_word<L: Ledger>(
+/// The number of a word.
+pub fn put_word<L: Ledger>(
     arena: &mut Arena,
     word: &Word,
     steps: &mut Steps<L>,
 ) -> Result<u64, NoMemory>
     ensures put { IfOk result (λ k. IsWordPut arena.new k (word_tree word.now)) }
     ensures grows { Extends arena.old arena.new }
+    ensures order { IfOk result (λ _. AreTermsPutIn arena.old (OfWord (word_tree word.now) ∷ []) arena.new) }
 {
     let k = arena.put_word(word, steps)?;
     Ok(k)
@@ -234,6 +247,7 @@ fn put_word<L: Ledger>(
 fn put_mem<L: Ledger>(arena: &mut Arena, mem: &Mem, steps: &mut Steps<L>) -> Result<u64, NoMemory>
     ensures put { IfOk result (λ k. IsMemPut arena.new k (mem_tree mem.now)) }
     ensures grows { Extends arena.old arena.new }
+    ensures order { IfOk result (λ _. AreTermsPutIn arena.old (OfMem (mem_tree mem.now) ∷ []) arena.new) }
 {
     let k = arena.put_mem(mem, steps)?;
     Ok(k)
@@ -246,6 +260,7 @@ fn put_cond<L: Ledger>(
 ) -> Result<u64, NoMemory>
     ensures put { IfOk result (λ k. IsCondPut arena.new k (cond_tree cond.now)) }
     ensures grows { Extends arena.old arena.new }
+    ensures order { IfOk result (λ _. AreTermsPutIn arena.old (OfCond (cond_tree cond.now) ∷ []) arena.new) }
 {
     let k = arena.put_cond(cond, steps)?;
     Ok(k)

@@ -1,4 +1,4 @@
-use Rattle.term_bench.proofs.LargerTables.{fine_grows, instance_grows, left_of_table}
+use Rattle.term_bench.proofs.LargerTables.{fine_grows, instance_grows, left_of_table, right_grows}
 use Rattle.term_bench.proofs.laws.law_of_larger_tables.Goals as goal
 
 pub returns-clause-fine : goal.returns-clause-fine
@@ -9,3 +9,6 @@ returns-clause-instance c = instance_grows
 
 pub returns-clause-left : goal.returns-clause-left
 returns-clause-left c = left_of_table
+
+pub returns-clause-full : goal.returns-clause-full
+returns-clause-full c = right_grows

@@ -1,9 +1,14 @@
-use Rattle.std.proofs.Common.{sym, subst}
+use Rattle.std.proofs.Common.{[], ◌∷◌, sym, subst}
 use Rattle.triple_kernel.specs.declared.triple.Fact.{Fact}
+use Rattle.word_terms.specs.Tree.{mem_tree, word_tree}
+use Rattle.tailrec_lang.specs.Tree.{values_tree}
 use Rattle.triple_kernel.specs.Tree.{fact_tree}
+use Rattle.term_arena.specs.Arena.{OfMem, OfWord}
 use Rattle.held_terms.specs.declared.held.HeldFact.TheVariants as held
+use Rattle.term_bench.specs.Terms.{AreTermsPutIn, fact_terms, values_terms}
 use Rattle.term_bench.specs.inner.Put.{IsFactPut}
 use Rattle.term_bench.proofs.PutLemmas.{gives_put, mem_stays, mems_equal, so_put, values_stay, word_stays, words_equal}
+use Rattle.term_bench.proofs.PutOrder.{terms-then}
 use Rattle.term_bench.proofs.put.put_fact.Goals as goal
 
 pub returns-in_ok-y-in-WordIs-clause-put : goal.returns-in_ok-y-in-WordIs-clause-put
@@ -38,3 +43,31 @@ returns-in_ok-y-in-Gives-clause-put g c =
     let y = c.in_ok-y-in-Gives.y in
     subst (λ (f : Fact). IsFactPut two (held.Gives c.in-Gives.def c.in-Gives.exit x y) (fact_tree f)) (sym c.in-Gives.is)
     (gives_put two c.in-Gives.def c.in-Gives.exit x y _ _ (values_stay one two c.put_values-in-Gives.ensures.grows x _ c.in_ok-x-in-Gives.ensures.put) c.in_ok-y-in-Gives.ensures.put)
+
+pub returns-in_ok-y-in-WordIs-clause-order : goal.returns-in_ok-y-in-WordIs-clause-order
+returns-in_ok-y-in-WordIs-clause-order g c =
+    let start = c.args.arena.now in
+    let one = c.put_word.new.arena in
+    let two = c.put_word-in-WordIs.new.arena in
+    subst (λ (f : Fact). AreTermsPutIn start (fact_terms (fact_tree f)) two) (sym c.in-WordIs.is)
+    (terms-then start (OfWord (word_tree c.in-WordIs.a) ∷ []) one (OfWord (word_tree c.in-WordIs.b) ∷ []) two c.in_ok-x-in-WordIs.ensures.order c.in_ok-y-in-WordIs.ensures.order)
+
+pub returns-in_ok-y-in-MemIs-clause-order : goal.returns-in_ok-y-in-MemIs-clause-order
+returns-in_ok-y-in-MemIs-clause-order g c =
+    let start = c.args.arena.now in
+    let one = c.put_mem.new.arena in
+    let two = c.put_mem-in-MemIs.new.arena in
+    subst (λ (f : Fact). AreTermsPutIn start (fact_terms (fact_tree f)) two) (sym c.in-MemIs.is)
+    (terms-then start (OfMem (mem_tree c.in-MemIs.a) ∷ []) one (OfMem (mem_tree c.in-MemIs.b) ∷ []) two c.in_ok-x-in-MemIs.ensures.order c.in_ok-y-in-MemIs.ensures.order)
+
+pub returns-in_ok-x-in-So-clause-order : goal.returns-in_ok-x-in-So-clause-order
+returns-in_ok-x-in-So-clause-order g c =
+    subst (λ (f : Fact). AreTermsPutIn c.args.arena.now (fact_terms (fact_tree f)) c.put_cond.new.arena) (sym c.in-So.is) c.in_ok-x-in-So.ensures.order
+
+pub returns-in_ok-y-in-Gives-clause-order : goal.returns-in_ok-y-in-Gives-clause-order
+returns-in_ok-y-in-Gives-clause-order g c =
+    let start = c.args.arena.now in
+    let one = c.put_values.new.arena in
+    let two = c.put_values-in-Gives.new.arena in
+    subst (λ (f : Fact). AreTermsPutIn start (fact_terms (fact_tree f)) two) (sym c.in-Gives.is)
+    (terms-then start (values_terms (values_tree c.in-Gives.args)) one (values_terms (values_tree c.in-Gives.results)) two c.in_ok-x-in-Gives.ensures.order c.in_ok-y-in-Gives.ensures.order)

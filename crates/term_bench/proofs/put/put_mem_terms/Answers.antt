@@ -1,8 +1,9 @@
-use Rattle.term_arena.specs.Arena.{IsMemAt}
+use Rattle.term_arena.specs.Arena.{IsMemAt, OfMem}
 use Rattle.proof_text.specs.Line.{mem_put_in}
 use Rattle.term_bench.specs.inner.Put.{mem_term_of}
 use Rattle.held_terms.proofs.InstanceLemmas.{extends_next}
 use Rattle.term_bench.proofs.PutLemmas.{mem_terms_stay, mem_beside, put_next}
+use Rattle.term_bench.proofs.PutOrder.{item-then}
 use Rattle.term_bench.proofs.put.put_mem_terms.Goals as goal
 
 pub loop-term-preserved : goal.loop-term-preserved
@@ -15,4 +16,5 @@ loop-term-preserved g c =
       grows = extends_next c.args.arena.now before now c.loop-term.invariant.grows c.put_mem.ensures.grows;
       put = put_next (λ r. IsMemAt now r.1) (mem_term_of now) mem_put_in c.loop-term.numbers _ xs i c.term-item.result (c.term-item.result.0, c.in_ok-k.k) c.loop-term-test.true c.term-item.is c.in_ok-push.ensures.ok
           (mem_terms_stay before now c.put_mem.ensures.grows c.loop-term.numbers _ c.loop-term.invariant.put) (mem_beside now c.term-item.result.0 c.in_ok-k.k _ c.in_ok-k.ensures.put);
+      order = item-then mem_put_in (λ p. OfMem p.1) c.args.arena.now xs i c.term-item.result before now c.loop-term-test.true c.term-item.is c.loop-term.invariant.order c.in_ok-k.ensures.order;
     }

@@ -1,7 +1,8 @@
-use Rattle.term_arena.specs.Arena.{IsMemAt, mem_of}
+use Rattle.term_arena.specs.Arena.{IsMemAt, mem_of, OfMem}
 use Rattle.word_terms.specs.Tree.{mem_tree}
 use Rattle.held_terms.proofs.InstanceLemmas.{extends_next}
 use Rattle.term_bench.proofs.PutLemmas.{mems_stay, put_next}
+use Rattle.term_bench.proofs.PutOrder.{item-then}
 use Rattle.term_bench.proofs.put.put_mems.Goals as goal
 
 pub loop-mem-preserved : goal.loop-mem-preserved
@@ -14,4 +15,5 @@ loop-mem-preserved g c =
       grows = extends_next c.args.arena.now before now c.loop-mem.invariant.grows c.put_mem.ensures.grows;
       put = put_next (IsMemAt now) (mem_of now) mem_tree c.loop-mem.numbers _ xs i c.mem-item.result c.in_ok-k.k c.loop-mem-test.true c.mem-item.is c.in_ok-push.ensures.ok
           (mems_stay before now c.put_mem.ensures.grows c.loop-mem.numbers _ c.loop-mem.invariant.put) c.in_ok-k.ensures.put;
+      order = item-then mem_tree OfMem c.args.arena.now xs i c.mem-item.result before now c.loop-mem-test.true c.mem-item.is c.loop-mem.invariant.order c.in_ok-k.ensures.order;
     }

@@ -2,8 +2,11 @@ use Rattle.std.proofs.Common.{List, map, subst}
 use Rattle.word_terms.specs.declared.term.Word.{Word}
 use Rattle.word_terms.specs.declared.term.Mem.{Mem}
 use Rattle.word_terms.specs.Tree.{mem_tree, word_tree}
+use Rattle.term_arena.specs.Arena.{OfMem, OfWord}
+use Rattle.term_bench.specs.Terms.{AreTermsPutIn}
 use Rattle.term_bench.specs.inner.Put.{AreMemsPut, AreWordsPut}
 use Rattle.term_bench.proofs.PutLemmas.{both_put, words_stay}
+use Rattle.term_bench.proofs.PutOrder.{terms-then}
 use Rattle.term_bench.proofs.put.put_values.Goals as goal
 
 pub returns-clause-put : goal.returns-clause-put
@@ -13,3 +16,12 @@ returns-clause-put g c =
     let words = subst (λ (ws : List Word). AreWordsPut one c.in_ok-words.words (map word_tree ws)) c.as_slice.ensures c.in_ok-words.ensures.put in
     let mems = subst (λ (ms : List Mem). AreMemsPut two c.in_ok-mems.mems (map mem_tree ms)) c.as_slice-2.ensures c.in_ok-mems.ensures.put in
     both_put two c.in_ok-words.words c.in_ok-mems.mems _ _ (words_stay one two c.put_mems.ensures.grows c.in_ok-words.words _ words) mems
+
+pub returns-clause-order : goal.returns-clause-order
+returns-clause-order g c =
+    let start = c.args.arena.now in
+    let one = c.put_words.new.arena in
+    let two = c.put_mems.new.arena in
+    let words = subst (λ (ws : List Word). AreTermsPutIn start (map OfWord (map word_tree ws)) one) c.as_slice.ensures c.in_ok-words.ensures.order in
+    let mems = subst (λ (ms : List Mem). AreTermsPutIn one (map OfMem (map mem_tree ms)) two) c.as_slice-2.ensures c.in_ok-mems.ensures.order in
+    terms-then start (map OfWord (map word_tree c.args.values.now.words)) one (map OfMem (map mem_tree c.args.values.now.mems)) two words mems

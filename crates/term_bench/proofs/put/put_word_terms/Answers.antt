@@ -1,8 +1,9 @@
-use Rattle.term_arena.specs.Arena.{IsWordAt}
+use Rattle.term_arena.specs.Arena.{IsWordAt, OfWord}
 use Rattle.proof_text.specs.Line.{word_put_in}
 use Rattle.held_terms.specs.Held.{register_of}
 use Rattle.held_terms.proofs.InstanceLemmas.{extends_next}
 use Rattle.term_bench.proofs.PutLemmas.{registers_stay, word_beside, put_next}
+use Rattle.term_bench.proofs.PutOrder.{item-then}
 use Rattle.term_bench.proofs.put.put_word_terms.Goals as goal
 
 pub loop-term-preserved : goal.loop-term-preserved
@@ -15,4 +16,5 @@ loop-term-preserved g c =
       grows = extends_next c.args.arena.now before now c.loop-term.invariant.grows c.put_word.ensures.grows;
       put = put_next (λ r. IsWordAt now r.1) (register_of now) word_put_in c.loop-term.numbers _ xs i c.term-item.result (c.term-item.result.0, c.in_ok-k.k) c.loop-term-test.true c.term-item.is c.in_ok-push.ensures.ok
           (registers_stay before now c.put_word.ensures.grows c.loop-term.numbers _ c.loop-term.invariant.put) (word_beside now c.term-item.result.0 c.in_ok-k.k _ c.in_ok-k.ensures.put);
+      order = item-then word_put_in (λ p. OfWord p.1) c.args.arena.now xs i c.term-item.result before now c.loop-term-test.true c.term-item.is c.loop-term.invariant.order c.in_ok-k.ensures.order;
     }

@@ -1,7 +1,8 @@
-use Rattle.term_arena.specs.Arena.{IsWordAt, word_of}
+use Rattle.term_arena.specs.Arena.{IsWordAt, word_of, OfWord}
 use Rattle.word_terms.specs.Tree.{word_tree}
 use Rattle.held_terms.proofs.InstanceLemmas.{extends_next}
 use Rattle.term_bench.proofs.PutLemmas.{words_stay, put_next}
+use Rattle.term_bench.proofs.PutOrder.{item-then}
 use Rattle.term_bench.proofs.put.put_words.Goals as goal
 
 pub loop-word-preserved : goal.loop-word-preserved
@@ -14,4 +15,5 @@ loop-word-preserved g c =
       grows = extends_next c.args.arena.now before now c.loop-word.invariant.grows c.put_word.ensures.grows;
       put = put_next (IsWordAt now) (word_of now) word_tree c.loop-word.numbers _ xs i c.word-item.result c.in_ok-k.k c.loop-word-test.true c.word-item.is c.in_ok-push.ensures.ok
           (words_stay before now c.put_word.ensures.grows c.loop-word.numbers _ c.loop-word.invariant.put) c.in_ok-k.ensures.put;
+      order = item-then word_tree OfWord c.args.arena.now xs i c.word-item.result before now c.loop-word-test.true c.word-item.is c.loop-word.invariant.order c.in_ok-k.ensures.order;
     }

@@ -3,7 +3,7 @@ use Rattle.tailrec_lang.specs.Tree.{group_tree}
 use Rattle.term_arena.specs.Arena.{Extends}
 use Rattle.proof_text.specs.inner.OwnCode.{IsOwnCode}
 use Rattle.term_bench.specs.Bench.{BenchState, history_from, is_closed_in, state_group, state_history, state_nodes, theorem_at}
-use Rattle.term_bench.specs.Short.{AreFineAt, AreWithin, IsFineShort, IsStatedBy}
+use Rattle.term_bench.specs.Short.{AreWithin, IsFineShort, IsStatedBy}
 use Rattle.term_bench.specs.inner.Making.{MadeIf}
 use Rattle.term_bench.proofs.BenchLemmas.{history_stays, sound_grown}
 use Rattle.term_bench.proofs.StatingLemmas.{fine_held, made_ok, stated_next}
