@@ -3,7 +3,7 @@
 
 Without PROGRAM, what needs no program: each example's text is shown as the file beside it says, as a picture too, and one function of it alone; a text
 that is no proof file is refused; the symbols of the ELF files are found; links of the documents, and paths that they name, lead somewhere; each crate of
-crates.txt stands in README.md, in its layer, and in the tables of ARCHITECTURE.md and PROMISES.md. With a built program also what it says of the examples: each is
+crates.txt stands in README.md, in its layer, and in the tables of ARCHITECTURE.md and PROMISES.md, which names public items alone. With a built program also what it says of the examples: each is
 decompiled to the text that stands there, the lines are those of examples/README.md, and functions.py tells which functions are refused.
 """
 import os
@@ -129,6 +129,16 @@ def document(name):
         return file.read()
 
 
+def sources(crate):
+    """The code of a crate."""
+    found = []
+    for folder, _, names in os.walk(os.path.join(TOP, "crates", crate, "src")):
+        for name in names:
+            with open(os.path.join(folder, name), encoding="utf8") as file:
+                found.append(file.read())
+    return "\n".join(found)
+
+
 def try_crates():
     found, uses = layers()
     crates = [crate for names in found.values() for crate in names]
@@ -144,6 +154,9 @@ def try_crates():
     expect("the table of ARCHITECTURE.md has the crates in the order of crates.txt", told == crates)
     told = re.findall(r"^\| (?!Crate)(\w[\w, ]*) \| ", promises.partition("## Crate by crate")[2].partition("\n## ")[0], re.M)
     expect("the table of PROMISES.md has the crates in the order of crates.txt", [name for names in told for name in names.split(", ")] == crates)
+    for crate, where in re.findall(r"^\| (\w+) \| [^|]* \| ([^|]*) \|$", promises.partition("## Crate by crate")[2], re.M):
+        for name in re.findall(r"`(\w+)(?:::\w+)?`", where) if crate in crates else ():
+            expect(f"PROMISES.md names {name} of {crate}", re.search(rf"\bpub (?:fn|struct|enum|trait) {name}\b", sources(crate)))
 
 
 def try_documents():

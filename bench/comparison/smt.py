@@ -1,18 +1,21 @@
 #!/usr/bin/env python3
-"""smt.py PROGRAM [ELF]: what z3 and cvc5 do with the texts that the command `smt` of a built program writes. A solver that isn't installed is passed over.
+"""smt.py PROGRAM [ELF [SECONDS [OTHER]]]: what z3 and cvc5 do with the texts that the command `smt` of a built program writes. A solver that isn't installed is passed over.
 
 - Chains of 4 to 32 joins: how long each solver takes to read the text of the last definition, and for two goals. The code is drawn by this script: in
   `sides`, both sides of each branch go on in the same definition; in `either`, two branches lead to one addition, or past it.
-- Each definition that is free of loops, of all functions of `functions.elf`, or of ELF, a file with symbols: each solver reads its text and decides a goal
+- Each definition that is free of loops, of all functions of `functions.elf`, or of ELF, a file with symbols: each solver must read its text, and decides a goal
   that is true by form. Which definitions `smt` refuses for a loop is found here once more, from the proof file.
 - Values: from drawn registers, and where the function has a memory, 64 drawn bytes, the values that each solver gives the functions of a definition must be
   those that the command `eval` gives.
+- With OTHER, another file: each function of ELF that is free of loops and has a namesake there that is so as well. The two are asked for a start of which both are done, and
+  return elsewhere or with another word in x10; both solvers must say the same. Of one source compiled in two ways there is none, but where a function has an address of its file.
 - Properties of the functions of `functions.elf`: each solver must prove those of `TRUE` (`unsat`) and refute those of `FALSE` (`sat`); of those of `BEYOND`,
   which are true as well, it is told how far the solvers come.
 
-A solver has LIMIT seconds of a processor and 4 GiB for each text. The exit status is 1 where an answer is another than it must be; where a solver has none within
+A solver has SECONDS of a processor, 20 where it isn't given, and 4 GiB for each text. The exit status is 1 where an answer is another than it must be; where a solver has none within
 the limit, that is told.
 """
+import collections
 import os
 import random
 import re
@@ -31,7 +34,6 @@ from instructions import RETURN, arithmetic, branch, immediate, jump, words
 from measuring import measure_work
 from proof_texts import groups_of
 
-LIMIT = 20
 OVER = "over the limit"
 MEMORY = 4 << 30
 JOINS = (4, 8, 12, 16, 20, 24, 28, 32)
@@ -185,8 +187,8 @@ def stored(name, bytes_at):
 class Bench:
     """A program, the solvers that are installed, and a folder to work in."""
 
-    def __init__(self, program, folder):
-        self.program, self.folder = program, folder
+    def __init__(self, program, folder, limit):
+        self.program, self.folder, self.limit = program, folder, limit
         self.solvers = [solver for solver in SOLVERS if shutil.which(solver)]
         self.faults, self.undecided = [], []
 
@@ -213,7 +215,7 @@ class Bench:
         path = self.path("goal.smt2")
         with open(path, "w") as file:
             file.write(f"(set-logic ALL)\n(set-option :produce-models true)\n{text}")
-        status, line, seconds, _ = measure_work(shutil.which(solver), [*SOLVERS[solver], path], LIMIT, MEMORY, self.path("said"))
+        status, line, seconds, _ = measure_work(shutil.which(solver), [*SOLVERS[solver], path], self.limit, MEMORY, self.path("said"))
         with open(self.path("said")) as file:
             said = file.read()
         return (OVER if status < 0 or "memory" in line else line), seconds, said
@@ -272,7 +274,7 @@ def either(joins):
 
 def try_chains(bench):
     head = "".join(f"{solver + ': reads':>14} {'by form':>9} {'low bit':>9}" for solver in bench.solvers)
-    print(f"{'chain':8} {'joins':>5} {'bytes':>7}{head}    seconds of a processor; - is over {LIMIT}", flush=True)
+    print(f"{'chain':8} {'joins':>5} {'bytes':>7}{head}    seconds of a processor; - is over {bench.limit}", flush=True)
     for shape, added in ((sides, "(bvmul x11 (_ bv{} 64))"), (either, "(_ bv0 64)")):
         over = set()
         for joins in JOINS:
@@ -304,7 +306,8 @@ def try_chains(bench):
 
 def try_definitions(bench, groups):
     """Each definition that is free of loops. The texts of the whole functions."""
-    whole, sizes, told, loops = {}, [], {solver: [] for solver in bench.solvers}, 0
+    whole, sizes, loops = {}, [], 0
+    read, told = ({solver: [] for solver in bench.solvers} for _ in range(2))
     for group in groups:
         for definition in range(len(group.entries)):
             text = bench.export(group, definition)
@@ -315,13 +318,17 @@ def try_definitions(bench, groups):
             if definition == len(group.entries) - 1:
                 whole[group.name] = text
             for solver in bench.solvers:
+                answer, seconds, _ = bench.solve(solver, text + "(check-sat)\n")
+                read[solver].append((seconds, f"{group.name} {definition}"))
+                bench.judge(answer, "sat", f"{solver} reads definition {definition} of {group.name}")
                 answer, seconds, _ = bench.solve(solver, text + by_form(group, definition, text))
                 told[solver].append((seconds, f"{group.name} {definition}"))
                 bench.judge(answer, "unsat", f"{solver}: definition {definition} of {group.name}")
     print(f"\n{len(groups)} functions: {len(sizes)} definitions exported, {loops} refused for a loop; texts of {min(sizes)} to {max(sizes)} bytes, {statistics.median(sizes):.0f} in the middle")
-    for solver, times in told.items():
-        middle, (most, which) = statistics.median(seconds for seconds, _ in times), max(times)
-        print(f"{solver}: {len(times)} read and decided, {middle:.2f} s in the middle, {most:.2f} s at most ({which})", flush=True)
+    for done, by_solver in (("read", read), ("decided", told)):
+        for solver, times in by_solver.items():
+            middle, (most, which) = statistics.median(seconds for seconds, _ in times), max(times)
+            print(f"{solver}: {len(times)} {done} or tried, {middle:.2f} s in the middle, {most:.2f} s at most ({which})", flush=True)
     return whole
 
 
@@ -448,7 +455,7 @@ def try_properties(bench, properties):
     for title, formulas, expected in (("proved", TRUE, "unsat"), ("refuted", FALSE, "sat"), ("true, and perhaps beyond a solver", BEYOND, "unsat")):
         head = "".join(f"{solver:>8}" for solver in bench.solvers)
         formulas = formulas.strip().split("\n")
-        print(f"\n{head}    {len(formulas)} properties, {title}; seconds of a processor, - is over {LIMIT}", flush=True)
+        print(f"\n{head}    {len(formulas)} properties, {title}; seconds of a processor, - is over {bench.limit}", flush=True)
         for formula in formulas:
             text, cells = properties.text(formula), []
             for solver in bench.solvers:
@@ -458,12 +465,58 @@ def try_properties(bench, properties):
             print("".join(f"{cell:>8}" for cell in cells) + f"    {formula}", flush=True)
 
 
+# ---- two files
+
+
+def whole_functions(bench, elf):
+    """The functions of a file by their names: those that are free of loops, with the text of the last definition."""
+    with open(elf, "rb") as file:
+        names, values = symbols(file.read())
+    found = {}
+    for address, name in sorted(names.items()):
+        group = bench.decompile(elf, word_of(address, name, values)) if values[name] == {address} else None
+        text = group and bench.export(group, len(group.entries) - 1)
+        if text:
+            found[name] = group, text
+    return found
+
+
+def question_of_two(first, second):
+    """Whether there is a start from which both are done, and differ in x10 or in the place to which they return."""
+    lines, told = [], []
+    for letter, (group, text) in zip("ab", (first, second)):
+        lines += [re.sub(r"\bf(?=\d+_)", f"{letter}.f", line) for line in text.split("\n") if letter == "a" or not line.startswith("(define-fun rv_")]
+        names, last = " ".join([*(f"x{register}" for register in group.registers), *(["m", "d"] if group.has_memory else [])]), len(group.entries) - 1
+        asked = {"ok": "ok", "pc": "pc"} | ({"x10": f"w{group.registers.index(10)}"} if 10 in group.registers else {})
+        told.append({"x10": "x10"} | {word: f"({letter}.f{last}_{end} {names})" if names else f"{letter}.f{last}_{end}" for word, end in asked.items()})
+    lines += [f"(declare-const x{register} {WORD})" for register in range(1, 32)] + [f"(declare-const m {BYTES})", f"(declare-const d {DOMAIN})"]
+    a, b = told
+    return "\n".join([*lines, f"(assert {a['ok']})", f"(assert {b['ok']})", f"(assert (not (and (= {a['pc']} {b['pc']}) (= {a['x10']} {b['x10']}))))", "(check-sat)", ""])
+
+
+def try_two_files(bench, elf, other):
+    first, second = whole_functions(bench, elf), whole_functions(bench, other)
+    names, counts = sorted(first.keys() & second.keys()), collections.Counter()
+    for name in names:
+        text = question_of_two(first[name], second[name])
+        answers = {solver: bench.solve(solver, text)[0] for solver in bench.solvers}
+        if not {*answers.values()} <= {"sat", "unsat", OVER}:
+            bench.fault(name, "of both files:", answers)
+        decided = {answer for answer in answers.values() if answer in ("sat", "unsat")}
+        if len(decided) == 2:
+            bench.fault(name, "of both files: solvers differ:", answers)
+        counts["undecided by some solver" if OVER in answers.values() else {"unsat": "the same", "sat": "not the same"}.get(*decided)] += 1
+    print(f"{len(names)} functions of both files, asked of each solver: {', '.join(f'{count} {what}' for what, count in counts.most_common())}", flush=True)
+
+
 def main():
-    if len(sys.argv) not in (2, 3):
+    if not 2 <= len(sys.argv) <= 5:
         sys.exit(__doc__)
-    elf = sys.argv[2] if len(sys.argv) == 3 else FUNCTIONS
+    elf = sys.argv[2] if len(sys.argv) > 2 else FUNCTIONS
+    limit = int(sys.argv[3]) if len(sys.argv) > 3 else 20
+    other = sys.argv[4] if len(sys.argv) > 4 else None
     with tempfile.TemporaryDirectory() as folder:
-        bench = Bench(os.path.abspath(sys.argv[1]), folder)
+        bench = Bench(os.path.abspath(sys.argv[1]), folder, limit)
         for solver in SOLVERS:
             print(f"{solver}: {'installed' if solver in bench.solvers else 'not installed, passed over'}")
         with open(elf, "rb") as file:
@@ -475,6 +528,8 @@ def main():
             try_chains(bench)
         whole = try_definitions(bench, groups)
         try_values(bench, groups, whole, given if sum(len(held) for _, held in given) <= 1024 else [])
+        if other:
+            try_two_files(bench, elf, other)
         if elf == FUNCTIONS:
             try_properties(bench, Properties(groups, whole, given))
         print(f"\n{len(bench.faults)} answers otherwise than they must be, {len(bench.undecided)} over the limit")

@@ -1,7 +1,7 @@
 #!/usr/bin/env python3
 """failing.py PROGRAM [PROCESSES]: has each call fail by which a built program asks the system for memory or a file, and looks at how it ends.
 
-For each command there is a case, and one that is refused. Of each kind of call (memory; opening to read, opening to write; seeking; reading; writing;
+For each command there is a case, and one that is refused; for five of them also the smallest one. Of each kind of call (memory; opening to read, opening to write; seeking; reading; writing;
 closing) the first fails, then the second, and so on up to the last that the command makes: that call alone, then that call and all of its kind after it.
 Reads and writes are also made short, by one of them carrying a single byte. A run must end
 
@@ -22,11 +22,23 @@ import tempfile
 from concurrent.futures import ThreadPoolExecutor
 
 HERE = os.path.dirname(os.path.abspath(__file__))
-EXAMPLES = os.path.join(HERE, "..", "..", "examples")
-FILES = [os.path.join(EXAMPLES, *path.split("/")) for path in ("average/average.proof", "gcd/gcd.elf", "gcd/gcd.proof", "refused/lcm.elf", "split/swap.elf", "sum/sum.elf", "sum/sum.proof")]
+TOP = os.path.join(HERE, "..", "..")
+sys.path.insert(0, os.path.join(HERE, "..", "library"))
+from elf_files import BASE, write_elf
+from instructions import words as bytes_of
+
+EXAMPLES = ("average/average.proof", "gcd/gcd.elf", "gcd/gcd.proof", "refused/lcm.elf", "split/swap.elf", "sum/sum.elf", "sum/sum.proof")
+FILES = [os.path.join(TOP, "examples", *path.split("/")) for path in EXAMPLES] + [os.path.join(TOP, "crates", "mcdec", "data", name) for name in ("p", "add.elf", "add.proof")]
+# Files of a few instructions: an addition and a return; a loop of additions.
+MADE = {"one.elf": (0x00150513, 0x00008067), "loop.elf": (0x00B50533, 0xFFF58593, 0xFE059CE3, 0x00008067)}
 NUMBERS = "mem=0x8000:01000000000000000200000000000000"
 START = ["x1=0x2000", "x10=0x8000", "x11=0x2", NUMBERS]
 CASES = (
+    ["eval", "p", "sum", "1", "x10=0x2", "x11=0x3"],
+    ["run", "one.elf", "0x10000", "0x2000", "10", "x1=0x2000", "x10=0xffffffffffffffff"],
+    ["decompile", "loop.elf", "OUT", "0x10000"],
+    ["check", "add.elf", "add.proof"],
+    ["selftest", "0", "1"],
     ["eval", "sum.proof", "sum", "100", *START],
     ["run", "sum.elf", "sum", "0x2000", "100", *START],
     ["check", "gcd.elf", "gcd.proof"],
@@ -135,6 +147,9 @@ def main():
         os.mkdir(files)
         for path in FILES:
             shutil.copy(path, files)
+        for name, code in MADE.items():
+            code = bytes_of(code)
+            write_elf(os.path.join(files, name), [(BASE, code, len(code), len(code))])
         subprocess.run([program, "simplify", "gcd.proof", "gcd", "gcd.cert"], cwd=files, check=True, stdout=subprocess.DEVNULL)
         before = contents(files)
         for words in CASES:

@@ -3,7 +3,8 @@
 
 It makes an ELF file and proof texts of several lengths in a folder that it removes again, runs the program on them, and prints a table.
 A text is one function's group, again and again: 1,023 additions on 30 registers and a return, with the lines by which such a function is
-proved a part of 32 instructions after the other. Its groups have 31 registers, and its theorems up to 32 facts. With FILE, the text of
+proved a part of 32 instructions after the other. Its groups have 31 registers, and its theorems up to 32 facts. One more text is a single group of 64 MiB:
+behind the lines of its proof an axiom is stated and forgotten, again and again. With FILE, the text of
 16 MiB and its ELF file, FILE.elf, are written there and nothing is run.
 """
 import os
@@ -21,6 +22,8 @@ INSTRUCTIONS = 1024
 REGISTERS = range(1, 32)
 MASK = "0xfffffffffffffffe"
 SIZES = (4, 16, 64, 256)
+# The text of a single group, in MiB.
+ONE = 64
 
 
 def operands(i):
@@ -157,8 +160,27 @@ def write_text(path, text, count):
         file.write("end\n")
 
 
+def write_one_group(path, text, lines, size):
+    """A text of one group of about so many bytes. Gives how many lines its proof has."""
+    here, only = f"{BASE + 4 * (INSTRUCTIONS - 1):#x}", code(INSTRUCTIONS - 1, INSTRUCTIONS)
+    stated = f"pre {holds(here, {1: 'v0'})} code {only} post {holds(f'(and (add v0 0x0) {MASK})', {1: 'v0'})}"
+    axiom = f"axiom {here} {RETURN:#x} next facts {stated}"
+    theorems = sum(not line.startswith(("loop ", "forget ")) for line in text[text.index("\naxiom ") + 1 :].splitlines())
+    count = (size - len(text)) // (len(axiom) + len("\nforget 1000000\n"))
+    with open(path, "w") as file:
+        file.write(f"mcproof 1\n{text}")
+        for i in range(count):
+            file.write(f"{axiom}\nforget {theorems + i}\n")
+        file.write("end\n")
+    return lines + 2 * count
+
+
 def write_code(path):
     write_elf(path, [(BASE, CODE, len(CODE), len(CODE))])
+
+
+def tell(case, length, seconds, peak):
+    print(f"{case:16} {seconds:9.2f} {peak / MIB:9.0f} {length / 1e6 / seconds:12.2f} {peak / length:18.2f}", flush=True)
 
 
 def main():
@@ -185,8 +207,12 @@ def main():
                 answer, seconds, peak = measure(program, words)
                 if not answer.startswith(expected.encode()):
                     sys.exit(f"{words[0]}, {size} MiB: {answer[:200]!r}")
-                rate, kept = length / 1e6 / seconds, peak / length
-                print(f"{words[0]:6} {size:5} MiB {seconds:9.2f} {peak / MIB:9.0f} {rate:12.2f} {kept:18.2f}")
+                tell(f"{words[0]:6} {size:5} MiB", length, seconds, peak)
+        count = write_one_group(proof, text, lines, ONE * MIB)
+        answer, seconds, peak = measure(program, ["check", elf, proof])
+        if answer != f"accepted 1 {count}\n".encode():
+            sys.exit(f"one group, {ONE} MiB: {answer[:200]!r}")
+        tell(f"one    {ONE:5} MiB", os.path.getsize(proof), seconds, peak)
 
 
 if __name__ == "__main__":
