@@ -20,7 +20,7 @@ use Rattle.code_parts.specs.declared.callee.Callee.{Callee}
 use Rattle.code_parts.specs.declared.part.Part.{Part}
 use Rattle.code_parts.specs.declared.part.Part.TheVariants.{Loop, Rest}
 use Rattle.code_parts.specs.Bodies.{Flow, VariableMap, size, Straight, action_body, action_calling, action_of, arms_over, body_at, index_of, names, needs, part_body, place_after, rest_body, start, writes}
-use Rattle.code_parts.specs.Graph.{has_edge, is_return}
+use Rattle.code_parts.specs.Graph.{has_edge, is_jump_through}
 use Rattle.code_parts.specs.inner.Ends.{body_on, called_body, returned_body}
 
 -- ---- the first place of a number
@@ -84,7 +84,7 @@ part_head f p r n l is some = (λ i. rest_body 32 f p n (sym some i)) ∙ (λ i.
 abbrev pub IsNoBranch : Instr → Type 0
 IsNoBranch i = (c : Cmp) (rs1 rs2 : ℕ) (offset : ℤ) → i ≡ instr.Branch c rs1 rs2 offset → ⊥
 
-straight : (i : Instr) → IsNoBranch i → is_return i ≡ false → (a k q : ℕ) (to : Form → ℕ) (v : VariableMap) → action_of i a k q to v ≡ Straight (needs i q v ++ writes i a k q v) (place_after i q v) (to Next)
+straight : (i : Instr) → IsNoBranch i → is_jump_through i ≡ false → (a k q : ℕ) (to : Form → ℕ) (v : VariableMap) → action_of i a k q to v ≡ Straight (needs i q v ++ writes i a k q v) (place_after i q v) (to Next)
 straight (instr.Op o rd rs1 rs2) b j a k q to v = refl
 straight (instr.OpImm o rd rs1 imm) b j a k q to v = refl
 straight (instr.Lui rd imm) b j a k q to v = refl
@@ -98,7 +98,7 @@ straight (instr.Fence imm rs1 rd) b j a k q to v = refl
 straight instr.Ecall b j a k q to v = refl
 straight instr.Ebreak b j a k q to v = refl
 
-pub straight_edge : (i : Instr) → IsNoBranch i → is_return i ≡ false → has_edge i Next ≡ true
+pub straight_edge : (i : Instr) → IsNoBranch i → is_jump_through i ≡ false → has_edge i Next ≡ true
 straight_edge (instr.Op o rd rs1 rs2) b j = refl
 straight_edge (instr.OpImm o rd rs1 imm) b j = refl
 straight_edge (instr.Lui rd imm) b j = refl
@@ -126,7 +126,7 @@ two_ways b c x y ss d p q steps is test first second =
     view_body b ∙ (λ i. with_steps (steps i) (end_tree (is i))) ∙ (λ i. with_steps ss (view_branch c x y i)) ∙ (λ i. with_steps ss (Branch (test i) (first i) (second i)))
 
 -- .. that goes on to one node, after these steps and its own
-pub goes_straight : (f : Flow) (p : Part) (n room : ℕ) (v : VariableMap) (i : Instr) (steps all : List StepTree) → f.callee n ≡ None → i ≡ f.instr n → IsNoBranch i → is_return i ≡ false → (room ≡ 0 → ⊥)
+pub goes_straight : (f : Flow) (p : Part) (n room : ℕ) (v : VariableMap) (i : Instr) (steps all : List StepTree) → f.callee n ≡ None → i ≡ f.instr n → IsNoBranch i → is_jump_through i ≡ false → (room ≡ 0 → ⊥)
     → all ≡ steps ++ (needs i (f.uses n) v ++ writes i (f.addr n) (size f n) (f.uses n) v) → with_steps all (body_on (room - 1) f p (f.to n Next) (place_after i (f.uses n) v)) ≡ with_steps steps (body_at room f p n v)
 goes_straight f p n room v i steps all none is b j some made =
     (λ k. with_steps (made k) (body_on (room - 1) f p (f.to n Next) (place_after i (f.uses n) v)))
@@ -140,7 +140,7 @@ goes_two_ways f p n room v i c rs1 rs2 offset none is branch some =
     (λ k. action_body f p (action_of (sym branch k) (f.addr n) (size f n) (f.uses n) (f.to n) v) v (body_at (room - 1) f p))
     ∙ (λ k. action_body f p (action_of (is k) (f.addr n) (size f n) (f.uses n) (f.to n) v) v (body_at (room - 1) f p)) ∙ at-room room f p n v none some
 
-return-body : (f : Flow) (p : Part) (i : Instr) (a k q : ℕ) (to : Form → ℕ) (v : VariableMap) (go : ℕ → VariableMap → BodyTree) → is_return i ≡ true → returned_body f i a k q v ≡ action_body f p (action_of i a k q to v) v go
+return-body : (f : Flow) (p : Part) (i : Instr) (a k q : ℕ) (to : Form → ℕ) (v : VariableMap) (go : ℕ → VariableMap → BodyTree) → is_jump_through i ≡ true → returned_body f i a k q v ≡ action_body f p (action_of i a k q to v) v go
 return-body f p (instr.Jalr rd rs1 imm) a k q to v go is = refl
 return-body f p (instr.Op o rd rs1 rs2) a k q to v go is = absurd (cc)
 return-body f p (instr.OpImm o rd rs1 imm) a k q to v go is = absurd (cc)
@@ -154,7 +154,7 @@ return-body f p (instr.Fence imm rs1 rd) a k q to v go is = absurd (cc)
 return-body f p instr.Ecall a k q to v go is = absurd (cc)
 return-body f p instr.Ebreak a k q to v go is = absurd (cc)
 
-pub goes_back : (f : Flow) (p : Part) (n room : ℕ) (v : VariableMap) (i : Instr) → f.callee n ≡ None → i ≡ f.instr n → is_return i ≡ true → (room ≡ 0 → ⊥) → returned_body f i (f.addr n) (size f n) (f.uses n) v ≡ body_at room f p n v
+pub goes_back : (f : Flow) (p : Part) (n room : ℕ) (v : VariableMap) (i : Instr) → f.callee n ≡ None → i ≡ f.instr n → is_jump_through i ≡ true → (room ≡ 0 → ⊥) → returned_body f i (f.addr n) (size f n) (f.uses n) v ≡ body_at room f p n v
 goes_back f p n room v i none is jump some =
     return-body f p i (f.addr n) (size f n) (f.uses n) (f.to n) v (body_at (room - 1) f p) jump
     ∙ (λ k. action_body f p (action_of (is k) (f.addr n) (size f n) (f.uses n) (f.to n) v) v (body_at (room - 1) f p)) ∙ at-room room f p n v none some

@@ -10,7 +10,7 @@ use Rattle.code_parts.specs.declared.part.Part.{Part}
 use Rattle.code_parts.specs.declared.part.Part.TheVariants.{Loop, Rest}
 use Rattle.code_parts.specs.Bodies.{Flow, VariableMap, Action, Straight, Fork, Return, Enter, action_of, action_calling, own, rest_targets, index_of, end_of}
 use Rattle.code_parts.specs.declared.callee.Callee.{Callee}
-use Rattle.code_parts.specs.Graph.{has_edge, is_return}
+use Rattle.code_parts.specs.Graph.{has_edge, is_jump_through}
 
 -- ---- edges of actions
 
@@ -47,7 +47,7 @@ Returns (Fork c a b) = ⊥
 Returns (Return ss t) = Unit {0}
 Returns (Enter ss u c back to) = ⊥
 
-pub returns-is : (i : Instr) (a k q : ℕ) (to : Form → ℕ) (v : VariableMap) → Returns (action_of i a k q to v) → is_return i ≡ true
+pub returns-is : (i : Instr) (a k q : ℕ) (to : Form → ℕ) (v : VariableMap) → Returns (action_of i a k q to v) → is_jump_through i ≡ true
 returns-is (instr.Op o rd rs1 rs2) a k q to v h = absurd h
 returns-is (instr.OpImm o rd rs1 imm) a k q to v h = absurd h
 returns-is (instr.Lui rd imm) a k q to v h = absurd h
@@ -61,7 +61,7 @@ returns-is (instr.Fence imm rs1 rd) a k q to v h = absurd h
 returns-is instr.Ecall a k q to v h = absurd h
 returns-is instr.Ebreak a k q to v h = absurd h
 
-pub returns-calling : (o : Option Callee) (i : Instr) (a k q : ℕ) (to : Form → ℕ) (v : VariableMap) → Returns (action_calling o i a k q to v) → is_return i ≡ true
+pub returns-calling : (o : Option Callee) (i : Instr) (a k q : ℕ) (to : Form → ℕ) (v : VariableMap) → Returns (action_calling o i a k q to v) → is_jump_through i ≡ true
 returns-calling None i a k q to v h = returns-is i a k q to v h
 returns-calling (Some c) i a k q to v h = absurd h
 

@@ -15,7 +15,7 @@ use Rattle.triple_kernel.specs.declared.form.Form.TheVariants.{Next, Taken}
 use Rattle.code_parts.specs.declared.part.Part.{Part}
 use Rattle.code_parts.specs.declared.part.Part.TheVariants.{Loop, Rest}
 use Rattle.code_parts.specs.Bodies.{Flow, part_body, part_def}
-use Rattle.code_parts.specs.Graph.{IsEdge, IsPart, IsPlaced, IsGraph, StandsAt, IsMade, CallsBelow, has_edge, is_return}
+use Rattle.code_parts.specs.Graph.{IsEdge, IsPart, IsPlaced, IsGraph, StandsAt, IsMade, CallsBelow, has_edge, is_jump_through}
 use Rattle.code_parts.specs.Order.{AreParts, StandsBefore}
 use Rattle.std.specs.List.{Contains}
 use Rattle.rv_words.specs.declared.range.Range.{Range}
@@ -141,7 +141,7 @@ summing-graph = record {
     near (suc (suc (suc zero))) lt = omega arith
     near (suc (suc (suc (suc n)))) lt = absurd (omega arith)
 
-    returned : (n : ℕ) → n < 4 → is_return (summing.instr n) ≡ true → (inner_at n ≡ None) × (summing.returns ≡ true)
+    returned : (n : ℕ) → n < 4 → is_jump_through (summing.instr n) ≡ true → (inner_at n ≡ None) × (summing.returns ≡ true)
     returned zero lt e = absurd (cc)
     returned (suc zero) lt e = absurd (cc)
     returned (suc (suc zero)) lt e = absurd (cc)

@@ -31,7 +31,7 @@ use Rattle.flow_graph.proofs.InstructionLemmas.{graph_stands, through_return}
 use Rattle.loop_forest.specs.Forest.{ForestOf, IsForestOf}
 use Rattle.tailrec_lang.specs.Registers.{AreRegistersFrom}
 use Rattle.code_parts.specs.declared.callee.Callee.{Callee}
-use Rattle.code_parts.specs.Graph.{IsCallTo, IsCode, StandsAt, has_edge, is_return}
+use Rattle.code_parts.specs.Graph.{IsCallTo, IsCode, StandsAt, has_edge, is_jump_through}
 use Rattle.code_parts.specs.Flows.{HaveCode, IsSetFor, Setting, edge_number, flow_of, registers_of}
 use Rattle.code_parts.proofs.Lists.{in-true}
 use Rattle.code_parts.proofs.Registers.{filter-has, filter-rise, or_left, or_right}
@@ -113,7 +113,7 @@ zero-is : (z : ℤ) → is_zero z ≡ true → z ≡ pos 0
 zero-is (pos n) e = ap pos (eqb-true n 0 e)
 zero-is (negsuc n) e = absurd (cc)
 
-return-is : (linked : Bool) (a : ℕ) (i : Instr) → admitted linked a i ≡ Ok i → is_return i ≡ true → i ≡ instr.Jalr 0 1 (pos 0)
+return-is : (linked : Bool) (a : ℕ) (i : Instr) → admitted linked a i ≡ Ok i → is_jump_through i ≡ true → i ≡ instr.Jalr 0 1 (pos 0)
 return-is linked a (instr.Jalr rd rs1 imm) fine e =
     let t = all_three (eqb rd 0) (eqb rs1 1) (is_zero imm) (through_return linked a rd rs1 imm fine) in
     let x = eqb-true rd 0 t.0 in

@@ -21,7 +21,7 @@ use Rattle.loop_forest.specs.Walking.{IsPlacedIn, IsWalkable, first_of, inner_of
 use Rattle.loop_forest.proofs.WalkLaws.{walkable}
 use Rattle.code_parts.specs.Bodies.{Flow, index_of, rest_targets}
 use Rattle.code_parts.specs.declared.callee.Callee.{Callee}
-use Rattle.code_parts.specs.Graph.{IsEdge, IsGraph, IsPlaced, has_edge, is_return}
+use Rattle.code_parts.specs.Graph.{IsEdge, IsGraph, IsPlaced, has_edge, is_jump_through}
 use Rattle.code_parts.specs.Flows.{Setting, edge_number, flow_of}
 use Rattle.code_parts.proofs.Lists.{contains-cases}
 
@@ -92,7 +92,7 @@ has-target a k instr.Ebreak Next e = omega arith
 has-target a k instr.Ebreak Taken e = absurd (cc)
 
 -- a return has none
-no-target : (a k : ℕ) (i : Instr) → is_return i ≡ true → targets a k i ≡ []
+no-target : (a k : ℕ) (i : Instr) → is_jump_through i ≡ true → targets a k i ≡ []
 no-target a k (instr.Jalr rd rs1 imm) e = refl
 no-target a k (instr.Branch c rs1 rs2 offset) e = absurd (cc)
 no-target a k (instr.Op o rd rs1 rs2) e = absurd (cc)
@@ -189,7 +189,7 @@ module _ (linked : Bool) (code : Bytes) (entry : ℕ) (g : GraphOf) (f : ForestO
         let there = edge n m lt x in
         (flow.within n m there, placed-in (inner_of f n) m (λ l e. inner-numbered n l lt e) (walks.placed n m there));
     near = λ n lt. omega arith;
-    returned = λ n lt e. (walks.returned n lt (no-edges n lt e), any-at is_return g.instrs n instr.Ebreak (instructed n lt) e);
+    returned = λ n lt e. (walks.returned n lt (no-edges n lt e), any-at is_jump_through g.instrs n instr.Ebreak (instructed n lt) e);
     cut_inner = λ n lt cut none. (λ i. first_of (none i) (region_of f n));
     calls = λ n c lt e. jumps (address n) (instr_at n) c e;
     head_is = λ n l lt e. walks.own n l e;
@@ -221,5 +221,5 @@ module _ (linked : Bool) (code : Bytes) (entry : ℕ) (g : GraphOf) (f : ForestO
       jumps a instr.Ecall c e = refl
       jumps a instr.Ebreak c e = refl
 
-      no-edges : (n : ℕ) → n < length g.addrs → is_return (instr_at n) ≡ true → succs_of g.edges n ≡ []
+      no-edges : (n : ℕ) → n < length g.addrs → is_jump_through (instr_at n) ≡ true → succs_of g.edges n ≡ []
       no-edges n lt e = mapped-none (λ m. get_or g.addrs m 0) (succs_of g.edges n) (successors n lt ∙ no-target (address n) (length_of (get_or g.numbers n 0)) (instr_at n) e)

@@ -23,7 +23,7 @@ use Rattle.loop_forest.specs.Walking.{index_in}
 use Rattle.code_parts.specs.declared.part.Part.{Part}
 use Rattle.code_parts.specs.declared.part.Part.TheVariants.{Loop, Rest}
 use Rattle.code_parts.specs.Regions.{IsOfRegion}
-use Rattle.code_parts.specs.Graph.{IsAlone, IsCode, IsGraph, IsPart, StandsAt, has_edge, is_return}
+use Rattle.code_parts.specs.Graph.{IsAlone, IsCode, IsGraph, IsPart, StandsAt, has_edge, is_jump_through}
 use Rattle.code_parts.specs.Flows.{AreCodeOf, HaveInstructions, IsReached, IsSetFor, Setting, SettingOf, alone, edge_number, flow_of, function_at, registers_of, setting_of, unlinked}
 use Rattle.code_parts.specs.declared.callee.Callee.{Callee}
 use Rattle.code_parts.specs.Kept.{FlowOf, IsKept, flow_in}
@@ -155,7 +155,7 @@ alone_is g parts regs mem mems registers memory count = λ i. record {
 }
 
 -- what is kept of a function alone
-pub kept_alone : (g : GraphOf) (f : ForestOf) (parts : List Part) (t : SettingOf) (ret : Bool) (code : List Range) → IsReached false g → IsForestOf g f → length parts < 2 ^ 32 → setting_of t ≡ alone g parts → ret ≡ list_any is_return g.instrs → AreCodeOf g code → IsKept g f t ret code
+pub kept_alone : (g : GraphOf) (f : ForestOf) (parts : List Part) (t : SettingOf) (ret : Bool) (code : List Range) → IsReached false g → IsForestOf g f → length parts < 2 ^ 32 → setting_of t ≡ alone g parts → ret ≡ list_any is_jump_through g.instrs → AreCodeOf g code → IsKept g f t ret code
 kept_alone g f parts t ret code reached forest few is returns whole = record {
   reached = (false, reached);
   forest = forest;

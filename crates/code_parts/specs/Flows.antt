@@ -23,7 +23,7 @@ use Rattle.code_parts.specs.declared.part.Part.{Part}
 use Rattle.code_parts.specs.declared.part.Part.TheVariants.{Loop, Rest}
 use Rattle.code_parts.specs.Bodies.{Flow, part_def}
 use Rattle.code_parts.specs.declared.callee.Callee.{Callee}
-use Rattle.code_parts.specs.Graph.{is_return}
+use Rattle.code_parts.specs.Graph.{is_jump_through}
 
 -- ---- numbers of parts
 
@@ -116,7 +116,7 @@ flow_of g f s = record {
   around = region_of f;
   head = head_of f;
   exits = λ l. if nat_lt l (length f.heads) then exits_of f l else [];
-  returns = list_any is_return g.instrs;
+  returns = list_any is_jump_through g.instrs;
   number = λ p. s.base + place_in s.parts p;
   regs = s.regs;
   mems = s.mems;

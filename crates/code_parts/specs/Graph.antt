@@ -29,9 +29,9 @@ has_edge (instr.Jalr rd rs1 imm) form = false
 has_edge i Next = true
 has_edge i Taken = false
 
-abbrev pub is_return : Instr → Bool
-is_return (instr.Jalr rd rs1 imm) = true
-is_return i = false
+abbrev pub is_jump_through : Instr → Bool
+is_jump_through (instr.Jalr rd rs1 imm) = true
+is_jump_through i = false
 
 -- there is an edge from n to m
 abbrev pub IsEdge : Flow → ℕ → ℕ → Type 0
@@ -54,7 +54,7 @@ pub record IsGraph (f : Flow) : Type 0 where
   pub stays : (n m : ℕ) → n < f.nodes → IsEdge f n m → f.is_cut m ≡ false → (m < f.nodes) × (inner m ≡ inner n) × (rank m < rank n)
   pub placed : (n m : ℕ) → n < f.nodes → IsEdge f n m → f.is_cut m ≡ true → (m < f.nodes) × IsPlaced f (inner n) m
   pub near : (n : ℕ) → n < f.nodes → rank n < 32
-  pub returned : (n : ℕ) → n < f.nodes → is_return (f.instr n) ≡ true → (inner n ≡ None) × (f.returns ≡ true)
+  pub returned : (n : ℕ) → n < f.nodes → is_jump_through (f.instr n) ≡ true → (inner n ≡ None) × (f.returns ≡ true)
   pub cut_inner : (n : ℕ) → n < f.nodes → f.is_cut n ≡ true → f.loop_of n ≡ None → inner n ≡ f.around n
   pub head_is : (n l : ℕ) → n < f.nodes → f.loop_of n ≡ Some l → (l < f.loops) × (f.head l ≡ n)
   pub loop_head : (l : ℕ) → l < f.loops → (f.head l < f.nodes) × (inner (f.head l) ≡ Some l)
@@ -83,7 +83,7 @@ pub record StandsAt (f : Flow) (code : List Range) (n : ℕ) : Type 0 where
   pub form : (form : Form) → has_edge (f.instr n) form ≡ true → has_form (f.instr n) form ≡ true
   pub goes : (form : Form) (v : Names) → f.callee n ≡ None → has_edge (f.instr n) form ≡ true → pc_after (f.instr n) form (f.addr n) (size f n) v ≡ Const (f.addr (f.to n form))
   pub calls : (c : Callee) → f.callee n ≡ Some c → IsCallTo f c n
-  pub return_is : is_return (f.instr n) ≡ true → f.instr n ≡ instr.Jalr 0 1 (pos 0)
+  pub return_is : is_jump_through (f.instr n) ≡ true → f.instr n ≡ instr.Jalr 0 1 (pos 0)
 
 -- each instruction of the graph stands in the code, and its registers rise
 pub record IsCode (f : Flow) (code : List Range) : Type 0 where

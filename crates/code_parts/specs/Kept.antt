@@ -4,7 +4,7 @@ use Rattle.std.specs.List.{list_any}
 use Rattle.rv_words.specs.declared.range.Range.{Range}
 use Rattle.flow_graph.specs.Graph.{GraphOf}
 use Rattle.loop_forest.specs.Forest.{ForestOf, IsForestOf}
-use Rattle.code_parts.specs.Graph.{is_return}
+use Rattle.code_parts.specs.Graph.{is_jump_through}
 use Rattle.code_parts.specs.Bodies.{Flow}
 use Rattle.code_parts.specs.Flows.{HaveInstructions, IsReached, IsSetFor, SettingOf, flow_of, setting_of}
 
@@ -28,5 +28,5 @@ pub record IsKept (g : GraphOf) (f : ForestOf) (s : SettingOf) (returns : Bool) 
   pub few : s.base + length s.parts < 2 ^ 32
   pub few_mems : s.mems ≤ 2
   pub fits : IsSetFor g (setting_of s)
-  pub returns_is : returns ≡ list_any is_return g.instrs
+  pub returns_is : returns ≡ list_any is_jump_through g.instrs
   pub code_has : HaveInstructions g code

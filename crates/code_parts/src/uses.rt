@@ -4,7 +4,7 @@ ghost use Rattle.std.specs.Prelude.{◌≡◌, IfOk};
 ghost use Rattle.std.specs.List.{list_any};
 ghost use Rattle.instr_axioms.specs.Axiom.{is_own};
 ghost use Rattle.instr_axioms.specs.Terms.{has_memory};
-ghost use Rattle.code_parts.specs.Graph.{is_return};
+ghost use Rattle.code_parts.specs.Graph.{is_jump_through};
 ghost use Rattle.code_parts.specs.Flows.{registers_of};
 
 use flow_graph::Graph;
@@ -61,7 +61,7 @@ pub fn uses_memory(g: &Graph) -> bool
 
 /// Whether an instruction is a jump through a register, which is a return.
 pub fn is_jump_through(i: Instr) -> bool
-    ensures { result ≡ is_return i }
+    ensures { result ≡ is_jump_through i }
 {
     matches!(i, Instr::Jalr { .. })
 }
@@ -69,7 +69,7 @@ pub fn is_jump_through(i: Instr) -> bool
 /// Whether an instruction returns.
 #[tactic(auto, using(crate::proofs::AnyOf::found_one))]
 pub fn returns(g: &Graph) -> bool
-    ensures { result ≡ list_any is_return g.now.instrs }
+    ensures { result ≡ list_any is_jump_through g.now.instrs }
 {
     for n in 0..g.len() {
         if is_jump_through(g.instr(n)) {

@@ -24,7 +24,7 @@ use Rattle.flow_graph.proofs.FlowLemmas.{is_flow}
 use Rattle.flow_graph.proofs.InstructionLemmas.{graph_stands, through_return}
 use Rattle.flow_graph.proofs.Ways.{node_at}
 use Rattle.code_parts.specs.Flows.{AreCodeOf, HaveCode, IsReached, node_code, registers_of}
-use Rattle.code_parts.specs.Graph.{is_return as is_jump_through}
+use Rattle.code_parts.specs.Graph.{is_jump_through}
 use Rattle.code_parts.proofs.AnyOf.{slice-below}
 use Rattle.code_parts.proofs.CodeOf.{have_code}
 use Rattle.code_parts.proofs.GraphCode.{code_in}

@@ -14,7 +14,7 @@ use Rattle.flow_graph.proofs.FlowLemmas.{is_flow}
 use Rattle.flow_graph.proofs.Ways.{node_at, place_of}
 use Rattle.loop_forest.specs.Loops.{IsHead}
 use Rattle.loop_forest.specs.Regions.{IsAround}
-use Rattle.loop_forest.specs.Cuts.{IsBase, Entry, Head, Exit, Joined, IsCut, StandsAt, AtBase, After}
+use Rattle.loop_forest.specs.Cuts.{IsBase, Entry, Head, Exit, Joined, IsCut, StepsSinceCut, AtBase, After}
 use Rattle.loop_forest.specs.Forest.{ForestOf, IsForestOf, incoming, place_of as cut_place, region_of, head_of}
 use Rattle.loop_forest.specs.Walking.{IsWalkable}
 use Rattle.loop_forest.proofs.BaseLemmas.{single}
@@ -71,7 +71,7 @@ module _ (linked : Bool) (code : Bytes) (e : ℕ) (g : GraphOf) (graph : IsGraph
     cut_at c cut = stands_once (single g) c (cut_place f c) 0 (forest.places c (cut_node c cut)) cut
 
     pub cut_of : (c : ℕ) → c < length g.addrs → cut_place f c ≡ 0 → IsCut (HasEdge g) g.entry (incoming g) c
-    cut_of c lt none = subst (StandsAt (HasEdge g) (IsBase (HasEdge g) g.entry (incoming g)) c) none (forest.places c lt)
+    cut_of c lt none = subst (StepsSinceCut (HasEdge g) (IsBase (HasEdge g) g.entry (incoming g)) c) none (forest.places c lt)
 
     pub region_at : (c : ℕ) (region : Option ℕ) → c < length g.addrs → IsAround (HasEdge g) g.entry c region → option_map (head_of f) (region_of f c) ≡ region
     region_at c region lt around =

@@ -149,7 +149,7 @@ is_graph = record {
   loop_exit = loop_exit;
 }
   where
-    returned : (n : ℕ) → n < 4 → Rattle.code_parts.specs.Graph.is_return (summing.instr n) ≡ true → (inner n ≡ None) × (true ≡ true)
+    returned : (n : ℕ) → n < 4 → Rattle.code_parts.specs.Graph.is_jump_through (summing.instr n) ≡ true → (inner n ≡ None) × (true ≡ true)
     returned zero lt h = absurd (no_cut h)
     returned (suc zero) lt h = absurd (no_cut h)
     returned (suc (suc zero)) lt h = absurd (no_cut h)

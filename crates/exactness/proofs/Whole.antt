@@ -35,7 +35,7 @@ use Rattle.exactness.proofs.Returns.{Steps, IsKept, kept-step, in-one}
 use Rattle.exactness.proofs.StateVariables.{Stands}
 use Rattle.exactness.proofs.BodyLemmas.{AllHold, after_steps, needs-hold, needs-after}
 use Rattle.code_parts.proofs.Lists.{length-map}
-use Rattle.code_parts.specs.Graph.{has_edge, is_return, StandsAt, IsCode}
+use Rattle.code_parts.specs.Graph.{has_edge, is_jump_through, StandsAt, IsCode}
 use Rattle.exactness.proofs.PartLaw.{IsDone}
 use Rattle.exactness.proofs.Simulation.{region_of, in-region, held, fits, touched-in, written, only-next, regs_same}
 
@@ -117,7 +117,7 @@ module _ (f : Flow) (regions : List Region) (count : length regions ≡ f.mems) 
     held-same r m = λ i. record { words = map (r i) f.regs; mems = map (λ x. cut x (m i)) regions }
 
     acted : (i : Instr) → StandsIn i a w code f.regs (has_memory i) → (has_memory i ≡ true → q < length regions) → (to : Form → ℕ) → ((form : Form) → has_edge i form ≡ true → word_value (pc_after i form a (length_of w) (names v q)) e ≡ f.addr (to form))
-        → (is_return i ≡ true → i ≡ instr.Jalr 0 1 (pos 0)) → (Calls s → ⊥) → instruction_at s ≡ Some i → IsAfter i a (length_of w) (names v q) e s u
+        → (is_jump_through i ≡ true → i ≡ instr.Jalr 0 1 (pos 0)) → (Calls s → ⊥) → instruction_at s ≡ Some i → IsAfter i a (length_of w) (names v q) e s u
         → IsActed (action_of i a (length_of w) q to v) v e s u
     acted (instr.Op o rd rs1 rs2) there uses to goes alone no_call fetch after = straight (instr.Op o rd rs1 rs2) there uses refl fetch (λ z. cc) no_call after (to Next) (goes Next refl)
     acted (instr.OpImm o rd rs1 imm) there uses to goes alone no_call fetch after = straight (instr.OpImm o rd rs1 imm) there uses refl fetch (λ z. cc) no_call after (to Next) (goes Next refl)

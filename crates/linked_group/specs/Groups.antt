@@ -14,7 +14,7 @@ use Rattle.call_graph.specs.Functions.{AreFunctions}
 use Rattle.call_graph.specs.declared.function.Function.{Function}
 use Rattle.code_parts.specs.declared.callee.Callee.{Callee}
 use Rattle.code_parts.specs.declared.part.Part.TheVariants.{Rest}
-use Rattle.code_parts.specs.Graph.{is_return}
+use Rattle.code_parts.specs.Graph.{is_jump_through}
 use Rattle.code_parts.specs.Flows.{SettingOf, alone, flow_of, node_code, place_in, setting_of}
 use Rattle.code_parts.specs.Members.{AreBased, Member, defs_of}
 use Rattle.code_parts.specs.Order.{AreParts}
@@ -55,7 +55,7 @@ abbrev pub called_as : LinkedFunction → Callee
 called_as f = record {
   entry = f.function.now.entry;
   def = f.base + place_in f.parts (Rest None f.function.now.graph.entry);
-  returns = list_any is_return f.function.now.graph.instrs;
+  returns = list_any is_jump_through f.function.now.graph.instrs;
 }
 
 -- what its flow has beside its graph

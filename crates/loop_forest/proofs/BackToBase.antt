@@ -2,7 +2,7 @@
 use Rattle.std.proofs.Common.{◌≤◌, ◌∙◌, ap, inl, inr, get_or, ◌≡◌, ℕ, ◌+◌, ◌%◌, ◌<◌, List, [], length, Bool, sym, arith, subst}
 use Rattle.std.specs.List.{Contains}
 use Rattle.flow_graph.specs.Graph.{GraphOf, HasEdge, IsFlow, preds_of}
-use Rattle.loop_forest.specs.inner.Standing.{IsEnd, IsEndOf, IsMarked, HasBases}
+use Rattle.loop_forest.specs.inner.Bases.{IsEnd, IsEndOf, IsMarked, HasBases}
 use Rattle.loop_forest.specs.inner.DepthFirst.{mark_of, number_of}
 use Rattle.std.proofs.lemmas.Bool.{cases_eq}
 use Rattle.loop_forest.specs.declared.depth_first.Mark.{Mark}

@@ -6,11 +6,11 @@ use Rattle.std.proofs.Math.Seq.{get_or-append_seam}
 use Rattle.std.proofs.lemmas.Bool.{cases_eq}
 use Rattle.flow_graph.specs.Graph.{GraphOf, HasEdge, IsFlow, preds_of}
 use Rattle.loop_forest.specs.Loops.{IsHead, IsExit}
-use Rattle.loop_forest.specs.Cuts.{StandsAt, AtBase, After}
+use Rattle.loop_forest.specs.Cuts.{StepsSinceCut, AtBase, After}
 use Rattle.flow_graph.proofs.Ways.{place_of, node_at}
 use Rattle.flow_graph.proofs.ExactLemmas.{pred_succ, succ_pred}
 use Rattle.loop_forest.specs.Cuts.{IsBase, Entry, Head, Exit, Joined}
-use Rattle.loop_forest.specs.inner.Standing.{AreBases, ArePlaces, HasBases, IsBaseOf, IsEnd, IsMarked}
+use Rattle.loop_forest.specs.inner.Bases.{AreBases, ArePlaces, HasBases, IsBaseOf, IsEnd, IsMarked}
 use Rattle.loop_forest.specs.inner.DepthFirst.{mark_of, number_of}
 use Rattle.loop_forest.specs.declared.depth_first.Mark.{Mark}
 use Rattle.loop_forest.specs.Loops.{IsSettled}
@@ -85,16 +85,16 @@ single g n u v out d e = two_edges (preds_of g.edges n) u v (λ j. out (Joined j
 pub places_start : (g : GraphOf) (base : List Bool) → ArePlaces g base [] 0
 places_start g base = record { as_long = refl; each = λ k l. absurd (omega arith) }
 
-pub places_more : (g : GraphOf) (base : List Bool) (places : List ℕ) (n p : ℕ) → ArePlaces g base places n → StandsAt (HasEdge g) (IsMarked base) n p → ArePlaces g base (places ++ p ∷ []) (n + 1)
+pub places_more : (g : GraphOf) (base : List Bool) (places : List ℕ) (n p : ℕ) → ArePlaces g base places n → StepsSinceCut (HasEdge g) (IsMarked base) n p → ArePlaces g base (places ++ p ∷ []) (n + 1)
 places_more g base places n p a s = record {
   as_long = length-append places (p ∷ []) ∙ ap (λ k. k + 1) a.as_long;
   each = λ k l. elim (cases_eq k n) [
     | inl q ↦
         let at : get_or (places ++ p ∷ []) k 0 ≡ p = ap (λ z. get_or (places ++ p ∷ []) z 0) (q ∙ sym a.as_long) ∙ get_or-append_seam places p [] 0 in
-        subst (λ (z : ℕ). StandsAt (HasEdge g) (IsMarked base) k z) (sym at) (subst (λ (z : ℕ). StandsAt (HasEdge g) (IsMarked base) z p) (sym q) s)
+        subst (λ (z : ℕ). StepsSinceCut (HasEdge g) (IsMarked base) k z) (sym at) (subst (λ (z : ℕ). StepsSinceCut (HasEdge g) (IsMarked base) z p) (sym q) s)
     | inr m ↦
         let at : get_or (places ++ p ∷ []) k 0 ≡ get_or places k 0 = get_or_append_left places (p ∷ []) 0 k (omega (arith, a.as_long, m, l)) in
-        subst (λ (z : ℕ). StandsAt (HasEdge g) (IsMarked base) k z) (sym at) (a.each k (omega arith))
+        subst (λ (z : ℕ). StepsSinceCut (HasEdge g) (IsMarked base) k z) (sym at) (a.each k (omega arith))
   ];
 }
 
@@ -110,7 +110,7 @@ has_bases g loops marks table f a t s n = record {
 }
 
 -- places by one table are places by any other that says the same
-pub stands_same : {E : ℕ → ℕ → Type 0} {P Q : ℕ → Type 0} → ((n : ℕ) → P n → Q n) → ((n : ℕ) → Q n → P n) → {n k : ℕ} → StandsAt E P n k → StandsAt E Q n k
+pub stands_same : {E : ℕ → ℕ → Type 0} {P Q : ℕ → Type 0} → ((n : ℕ) → P n → Q n) → ((n : ℕ) → Q n → P n) → {n k : ℕ} → StepsSinceCut E P n k → StepsSinceCut E Q n k
 stands_same to from (AtBase b) = AtBase (to _ b)
 stands_same to from (After m d s q) = After (λ b. m (from _ b)) d (stands_same to from s) q
 
@@ -128,7 +128,7 @@ marked_below table n m = elim (leb_tells (length table) n) [
 
 -- the places are those of the definition; a cut is where the place is 0
 pub places_are : (g : GraphOf) (loops : List LoopWithExits) (table : List Bool) (n k : ℕ) → IsFlow g → AreLoops g loops (length g.addrs) → AreBases g loops table (length g.addrs)
-    → StandsAt (HasEdge g) (IsMarked table) n k → StandsAt (HasEdge g) (IsBase (HasEdge g) g.entry (incoming g)) n k
+    → StepsSinceCut (HasEdge g) (IsMarked table) n k → StepsSinceCut (HasEdge g) (IsBase (HasEdge g) g.entry (incoming g)) n k
 places_are g loops table n k f a t s = stands_same
     (λ m d. base_is g loops m a ((t.each m (let l = marked_below table m d in omega (arith, l, t.as_long))).0 d))
     (λ m d. (t.each m (base_below g m f d)).1 (base_of g loops m f a d)) s

@@ -10,7 +10,7 @@ use Rattle.loop_forest.specs.Regions.{HasManyExits, loop_exit_limit}
 use Rattle.loop_forest.specs.inner.Found.{AreLoops, heads}
 use Rattle.loop_forest.specs.inner.Kept.{AreRegions, IsKept, forest_of}
 use Rattle.loop_forest.specs.inner.LoopOf.{IsIn}
-use Rattle.loop_forest.specs.inner.Standing.{AreBases, ArePlaces}
+use Rattle.loop_forest.specs.inner.Bases.{AreBases, ArePlaces}
 use Rattle.loop_forest.specs.inner.DepthFirst.{IsNumbered, mark_of, number_of}
 use Rattle.loop_forest.specs.declared.heads.LoopWithExits.{LoopWithExits}
 use Rattle.loop_forest.specs.declared.depth_first.Mark.{Mark}

@@ -6,7 +6,7 @@ use Rattle.flow_graph.specs.Walks.{Way, Stop, Leave, AnyNode, Reaches}
 use Rattle.loop_forest.specs.Cycles.{IsCycle}
 use Rattle.loop_forest.specs.Loops.{IsSettled}
 use Rattle.loop_forest.specs.Loops.{IsBackEdge, IsHead, InLoop, AtHead, IsExit}
-use Rattle.loop_forest.specs.Cuts.{StandsAt, AtBase, After}
+use Rattle.loop_forest.specs.Cuts.{StepsSinceCut, AtBase, After}
 use Rattle.loop_forest.specs.Regions.{IsAround}
 use Rattle.loop_forest.specs.inner.Inner.{IsInner}
 use Rattle.loop_forest.specs.Cuts.{Head, IsCut}
@@ -88,16 +88,16 @@ module _ (E : ℕ → ℕ → Type 0) (e : ℕ) (reach : (a b : ℕ) → E a b �
 
 -- ---- places after the last cut
 
-pub stands_below : {E : ℕ → ℕ → Type 0} {Base : ℕ → Type 0} {n k : ℕ} → StandsAt E Base n k → k < 32
+pub stands_below : {E : ℕ → ℕ → Type 0} {Base : ℕ → Type 0} {n k : ℕ} → StepsSinceCut E Base n k → k < 32
 stands_below (AtBase b) = omega arith
 stands_below (After m d s q) = omega (arith, q)
 
 -- an edge to a node that is no cut comes nearer to 32
-pub nearer : {E : ℕ → ℕ → Type 0} {Base : ℕ → Type 0} → ((n u v : ℕ) → (Base n → ⊥) → E u n → E v n → u ≡ v) → (u n k j : ℕ) → E u n → StandsAt E Base u k → StandsAt E Base n j → j ≢ 0 → 31 - j < 31 - k
+pub nearer : {E : ℕ → ℕ → Type 0} {Base : ℕ → Type 0} → ((n u v : ℕ) → (Base n → ⊥) → E u n → E v n → u ≡ v) → (u n k j : ℕ) → E u n → StepsSinceCut E Base u k → StepsSinceCut E Base n j → j ≢ 0 → 31 - j < 31 - k
 nearer single u n k j d s (AtBase b) ne = absurd (ne refl)
 nearer {E} {Base} single u n k j d s (After {u = v} {k = i} m c t q) ne =
     let same : v ≡ u = single n v u m c d in
-    let at : i ≡ k = stands_once single u i k (subst (λ (z : ℕ). StandsAt E Base z i) same t) s in
+    let at : i ≡ k = stands_once single u i k (subst (λ (z : ℕ). StepsSinceCut E Base z i) same t) s in
     let below : k < 32 = stands_below s in
     omega (arith, q, at, below, ne)
 

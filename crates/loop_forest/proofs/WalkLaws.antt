@@ -12,7 +12,7 @@ use Rattle.flow_graph.proofs.NumberLemmas.{different_from_rising, number_at}
 use Rattle.loop_forest.specs.Cycles.{IsCycle}
 use Rattle.loop_forest.specs.Loops.{IsHead, InLoop, IsExit}
 use Rattle.loop_forest.specs.Regions.{IsAround}
-use Rattle.loop_forest.specs.Cuts.{StandsAt, AtBase, After, IsBase, Entry, Head, Exit}
+use Rattle.loop_forest.specs.Cuts.{StepsSinceCut, AtBase, After, IsBase, Entry, Head, Exit}
 use Rattle.loop_forest.specs.Forest.{ForestOf, IsForestOf, exits_of, head_of, incoming, inside_of, number_of, place_of, region_of}
 use Rattle.loop_forest.specs.Walking.{IsPlacedIn, IsWalkable, first_of, index_in, inner_of, loop_of}
 use Rattle.loop_forest.specs.inner.Inner.{IsInner, IsPlaced}
@@ -142,17 +142,17 @@ module _ (g : GraphOf) (f : ForestOf) (flow : IsFlow g) (is : IsForestOf g f) wh
   Base : ℕ → Type 0
   Base = IsBase (HasEdge g) g.entry (incoming g)
 
-  place_once : (n k : ℕ) → n < length g.addrs → StandsAt (HasEdge g) (IsBase (HasEdge g) g.entry (incoming g)) n k → place_of f n ≡ k
+  place_once : (n k : ℕ) → n < length g.addrs → StepsSinceCut (HasEdge g) (IsBase (HasEdge g) g.entry (incoming g)) n k → place_of f n ≡ k
   place_once n k i s = stands_once (single g) n (place_of f n) k (is.places n i) s
 
   base_zero : (n : ℕ) → n < length g.addrs → IsBase (HasEdge g) g.entry (incoming g) n → place_of f n ≡ 0
   base_zero n i b = place_once n 0 i (AtBase b)
 
-  next_place : (n m : ℕ) → n < length g.addrs → HasEdge g n m → (j : ℕ) → StandsAt (HasEdge g) (IsBase (HasEdge g) g.entry (incoming g)) m j → j ≢ 0 → j ≡ place_of f n + 1
+  next_place : (n m : ℕ) → n < length g.addrs → HasEdge g n m → (j : ℕ) → StepsSinceCut (HasEdge g) (IsBase (HasEdge g) g.entry (incoming g)) m j → j ≢ 0 → j ≡ place_of f n + 1
   next_place n m i d _ (AtBase b) ne = absurd (ne refl)
   next_place n m i d j (After {u = u} {k = k} out e s q) ne =
       let same : u ≡ n = single g m u n out e d in
-      let at : place_of f n ≡ k = place_once n k i (subst (λ (z : ℕ). StandsAt (HasEdge g) (IsBase (HasEdge g) g.entry (incoming g)) z k) same s) in
+      let at : place_of f n ≡ k = place_once n k i (subst (λ (z : ℕ). StepsSinceCut (HasEdge g) (IsBase (HasEdge g) g.entry (incoming g)) z k) same s) in
       let below : k < 32 = stands_below s in
       omega (arith, q, at, below, ne)
 

@@ -3,7 +3,7 @@ pub mod SecondEntry
 pub mod DepthFirst
 pub mod LoopOf
 pub mod Found
-pub mod Standing
+pub mod Bases
 pub mod Placed
 pub mod Inner
 pub mod Kept

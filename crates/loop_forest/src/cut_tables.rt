@@ -1,9 +1,9 @@
 //! Nodes that are cuts whatever stands before them, and the places of all nodes.
 ghost use Rattle.std.specs.Prelude.{◌<◌, ◌≤◌, ◌↔◌, IfOk, IsTrue, length};
 ghost use Rattle.flow_graph.specs.Graph.{preds_of};
-ghost use Rattle.loop_forest.specs.inner.Standing.{AreBases, ArePlaces, HasBases, IsBaseOf, IsEnd, IsEndOf};
+ghost use Rattle.loop_forest.specs.inner.Bases.{AreBases, ArePlaces, HasBases, IsBaseOf, IsEnd, IsEndOf};
 
-use crate::cuts::standing;
+use crate::cuts::steps_since_cut;
 use crate::depth_first::Mark;
 use crate::heads::LoopWithExits;
 use flow_graph::Graph;
@@ -72,7 +72,7 @@ pub fn places(alloc: Global, g: &Graph, marks: &[Mark], base: &[bool]) -> Result
     let mut found = Vec::new(alloc);
     let mut n = 0;
     'nodes: while n < count {
-        found.push(standing(g, marks, base, n))?;
+        found.push(steps_since_cut(g, marks, base, n))?;
         n += 1;
     }
     Ok(found)

@@ -24,7 +24,7 @@ use Rattle.code_parts.specs.declared.part.Part.{Part}
 use Rattle.code_parts.specs.declared.part.Part.TheVariants.{Loop, Rest}
 use Rattle.code_parts.specs.Bodies.{size, Flow, VariableMap, body_at, current, end_at, end_of, exits_of, first, fresh, index_of, last_at, names, needs, or_else, own, part_def, place_after, rest_arms, rest_from, rest_targets, returned, start, targets, with_pc, writes}
 use Rattle.tailrec_lang.specs.Registers.{AreRegistersFrom}
-use Rattle.code_parts.specs.Graph.{IsPart, IsPlaced, has_edge, is_return}
+use Rattle.code_parts.specs.Graph.{IsPart, IsPlaced, has_edge, is_jump_through}
 use Rattle.path_walk.specs.inner.Acts.{new_facts, results_at}
 use Rattle.path_walk.specs.inner.Near.{IsEnd, IsNear}
 use Rattle.code_parts.specs.inner.Ends.{body_on, returned_body, returning}
@@ -293,7 +293,7 @@ module _ (f : Flow) (p : Part) (ranges : List Range) where
   steps_front entry old new pc v from to u more t front steps = subst (λ (e : ℕ). Steps f e ranges old new pc v from to u more t) front steps
 
   -- after the steps of an instruction that goes on to one node
-  pub straight_leads : (n room : ℕ) (v u : VariableMap) (i : Instr) (m : ℕ) (from : Option CitedTree) (t : CitedTree) (old mid new : WriterTree) → n < f.nodes → f.callee n ≡ None → i ≡ f.instr n → IsNoBranch i → is_return i ≡ false → (room ≡ 0 → ⊥) →
+  pub straight_leads : (n room : ℕ) (v u : VariableMap) (i : Instr) (m : ℕ) (from : Option CitedTree) (t : CitedTree) (old mid new : WriterTree) → n < f.nodes → f.callee n ≡ None → i ≡ f.instr n → IsNoBranch i → is_jump_through i ≡ false → (room ≡ 0 → ⊥) →
       u ≡ place_after i (f.uses n) v → m ≡ f.to n Next →
       Steps f (part_def f p).entry ranges old mid (Const (f.addr n)) v from (pc_after (f.instr n) Next (f.addr n) (size f n) (names v (f.uses n))) (place_after (f.instr n) (f.uses n) v) (map So (conditions (f.instr n) Next (names v (f.uses n))) ++ new_facts (f.instr n) (f.addr n) (size f n) (f.uses n) v) t →
       Leads f p ranges mid new (Const (f.addr m)) u (Some t) (body_on (room - 1) f p m u) → Leads f p ranges old new (Const (f.addr n)) v from (body_at room f p n v)
@@ -372,7 +372,7 @@ module _ (f : Flow) (p : Part) (ranges : List Range) where
       on_two = subst (λ (k : ℕ). Leads f p ranges d new (Const (f.addr k)) v (Some t2) (body_on (room - 1) f p k v)) right go_two
 
   -- after a return
-  pub return_leads : (n room : ℕ) (v : VariableMap) (from : Option CitedTree) (t : CitedTree) (old mid : WriterTree) → IsNear f p room n → f.callee n ≡ None → is_return (f.instr n) ≡ true → (room ≡ 0 → ⊥) →
+  pub return_leads : (n room : ℕ) (v : VariableMap) (from : Option CitedTree) (t : CitedTree) (old mid : WriterTree) → IsNear f p room n → f.callee n ≡ None → is_jump_through (f.instr n) ≡ true → (room ≡ 0 → ⊥) →
       Steps f (part_def f p).entry ranges old mid (Const (f.addr n)) v from (pc_after (f.instr n) Next (f.addr n) (size f n) (names v (f.uses n))) (place_after (f.instr n) (f.uses n) v) (map So (conditions (f.instr n) Next (names v (f.uses n))) ++ new_facts (f.instr n) (f.addr n) (size f n) (f.uses n) v) t →
       Leads f p ranges old (citing t.number mid) (Const (f.addr n)) v from (body_at room f p n v)
   return_leads n room v from t old mid near uncalled jump some step =

@@ -11,7 +11,7 @@ use Rattle.code_parts.specs.declared.part.Part.{Part}
 use Rattle.code_parts.specs.declared.part.Part.TheVariants.{Loop, Rest}
 use Rattle.rv_decode.specs.Registers.{destination}
 use Rattle.code_parts.specs.Bodies.{Flow, VariableMap, is_store, own, place_after, stored}
-use Rattle.code_parts.specs.Graph.{IsCode, IsEdge, IsGraph, IsPart, IsPlaced, has_edge, is_return}
+use Rattle.code_parts.specs.Graph.{IsCode, IsEdge, IsGraph, IsPart, IsPlaced, has_edge, is_jump_through}
 use Rattle.path_walk.specs.inner.Near.{IsEnd, IsNear, IsNext}
 
 -- ---- forms
@@ -19,7 +19,7 @@ use Rattle.path_walk.specs.inner.Near.{IsEnd, IsNear, IsNext}
 pub edge_form : (f : Flow) (ranges : List Range) (n : ℕ) (form : Form) → IsCode f ranges → n < f.nodes → has_edge (f.instr n) form ≡ true → has_form (f.instr n) form ≡ true
 edge_form f ranges n form code node edge = (code.each n node).form form edge
 
-return-has : (i : Instr) → is_return i ≡ true → has_form i Next ≡ true
+return-has : (i : Instr) → is_jump_through i ≡ true → has_form i Next ≡ true
 return-has (instr.Jalr rd rs1 imm) is = refl
 return-has (instr.Op o rd rs1 rs2) is = absurd (cc)
 return-has (instr.OpImm o rd rs1 imm) is = absurd (cc)
@@ -33,7 +33,7 @@ return-has (instr.Fence imm rs1 rd) is = absurd (cc)
 return-has instr.Ecall is = absurd (cc)
 return-has instr.Ebreak is = absurd (cc)
 
-pub return_form : (f : Flow) (n : ℕ) → is_return (f.instr n) ≡ true → has_form (f.instr n) Next ≡ true
+pub return_form : (f : Flow) (n : ℕ) → is_jump_through (f.instr n) ≡ true → has_form (f.instr n) Next ≡ true
 return_form f n is = return-has (f.instr n) is
 
 -- ---- variables

@@ -1,5 +1,5 @@
 use Rattle.std.proofs.Common.{◌≤◌, ◌-◌, length}
-use Rattle.loop_forest.specs.inner.Standing.{AreBases}
+use Rattle.loop_forest.specs.inner.Bases.{AreBases}
 use Rattle.loop_forest.proofs.cut_tables.base_table.Given as goal
 
 abbrev pub invariant-nodes : goal.invariant-nodes

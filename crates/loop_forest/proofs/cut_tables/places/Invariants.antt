@@ -1,5 +1,5 @@
 use Rattle.std.proofs.Common.{◌≤◌, ◌-◌, length}
-use Rattle.loop_forest.specs.inner.Standing.{ArePlaces}
+use Rattle.loop_forest.specs.inner.Bases.{ArePlaces}
 use Rattle.loop_forest.proofs.cut_tables.places.Given as goal
 
 abbrev pub invariant-nodes : goal.invariant-nodes

@@ -1,7 +1,7 @@
 use Rattle.std.proofs.Common.{◌≤◌, List, Bool, length, subst, arith}
 use Rattle.loop_forest.specs.inner.Found.{IsFound, heads}
 use Rattle.loop_forest.specs.inner.Kept.{AreRegions}
-use Rattle.loop_forest.specs.inner.Standing.{AreBases, ArePlaces}
+use Rattle.loop_forest.specs.inner.Bases.{AreBases, ArePlaces}
 use Rattle.loop_forest.specs.declared.heads.Found.{Found}
 use Rattle.loop_forest.specs.declared.heads.LoopWithExits.{LoopWithExits}
 use Rattle.loop_forest.proofs.BaseLemmas.{has_bases, head_below}

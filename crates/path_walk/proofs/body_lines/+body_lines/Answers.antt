@@ -8,7 +8,7 @@ use Rattle.group_text.specs.declared.version.Version.{Version as Known}
 use Rattle.group_text.specs.Version.{version_of}
 use Rattle.path_walk.specs.Further.{IsVersionFor}
 use Rattle.code_parts.specs.Bodies.{Flow, VariableMap, body_at, place_after}
-use Rattle.code_parts.specs.Graph.{has_edge, is_return}
+use Rattle.code_parts.specs.Graph.{has_edge, is_jump_through}
 use Rattle.code_parts.specs.Kept.{flow_in}
 use Rattle.path_walk.specs.inner.Writers.{Leads, WriterTree, CitedTree, writer_tree, cited_tree}
 use Rattle.code_parts.specs.VariableMaps.{place_of}
@@ -23,7 +23,7 @@ acting_lines-returns-then-is_jump_through t c =
     let f : Flow = flow_in c.args.flow.now in
     let v : VariableMap = place_of c.args.place.now in
     let from : Option CitedTree = option_map cited_tree (option_copied c.args.from) in
-    let jump : is_return (f.instr c.args.n) ≡ true = sym (ap is_return c.instr-i.ensures.is) ∙ sym c.is_jump_through.ensures ∙ c.if-is_jump_through.true in
+    let jump : is_jump_through (f.instr c.args.n) ≡ true = sym (ap is_jump_through c.instr-i.ensures.is) ∙ sym c.is_jump_through.ensures ∙ c.if-is_jump_through.true in
     on_ok_weaker c.cite.result (λ e. subst (λ (l : WriterTree). Leads f c.args.p c.args.flow.now.code (writer_tree c.args.log.now) l (Const (f.addr c.args.n)) v from (body_at c.args.room f c.args.p c.args.n v)) (sym e)
     (return_leads f c.args.p c.args.flow.now.code c.args.n c.args.room v from (cited_tree c.in_ok-t.t) (writer_tree c.args.log.now) (writer_tree c.step.new.log) c.requires.near c.requires.uncalled jump (λ e. omega (arith, e, c.requires.some))
     (steps_front f c.args.p c.args.flow.now.code _ _ _ _ _ _ _ _ _ _ c.entry_of-entry.ensures c.in_ok-t.ensures.steps))) c.cite.ensures

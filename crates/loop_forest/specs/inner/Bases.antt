@@ -3,7 +3,7 @@ use Rattle.std.specs.Prelude.{◌≡◌, ℕ, ◌<◌, ◌≤◌, ◌⊎◌, ◌
 use Rattle.flow_graph.specs.Graph.{GraphOf, HasEdge, preds_of}
 use Rattle.loop_forest.specs.Loops.{IsSettled}
 use Rattle.loop_forest.specs.Loops.{IsHead}
-use Rattle.loop_forest.specs.Cuts.{StandsAt}
+use Rattle.loop_forest.specs.Cuts.{StepsSinceCut}
 use Rattle.loop_forest.specs.inner.DepthFirst.{mark_of, number_of}
 use Rattle.std.specs.List.{Contains}
 use Rattle.loop_forest.specs.declared.depth_first.Mark.{Mark}
@@ -42,4 +42,4 @@ pub record AreBases (g : GraphOf) (loops : List LoopWithExits) (table : List Boo
 -- the places of the first n nodes
 pub record ArePlaces (g : GraphOf) (base : List Bool) (places : List ℕ) (n : ℕ) : Type 0 where
   pub as_long : length places ≡ n
-  pub each : (k : ℕ) → k < n → StandsAt (HasEdge g) (IsMarked base) k (slice_index places k)
+  pub each : (k : ℕ) → k < n → StepsSinceCut (HasEdge g) (IsMarked base) k (slice_index places k)

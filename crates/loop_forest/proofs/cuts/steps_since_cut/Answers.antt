@@ -1,11 +1,11 @@
 use Rattle.std.proofs.Common.{◌≡◌, ℕ, ◌+◌, ◌%◌, sym, ◌∙◌, subst, arith, true≢false, refl}
 use Rattle.flow_graph.specs.Graph.{HasEdge}
-use Rattle.loop_forest.specs.Cuts.{StandsAt, AtBase, After}
+use Rattle.loop_forest.specs.Cuts.{StepsSinceCut, AtBase, After}
 use Rattle.flow_graph.proofs.ExactLemmas.{pred_succ}
-use Rattle.loop_forest.specs.inner.Standing.{IsMarked}
+use Rattle.loop_forest.specs.inner.Bases.{IsMarked}
 use Rattle.loop_forest.proofs.IteratorLoops.{passed_first, passed_start}
 use Rattle.loop_forest.proofs.BackToBase.{some_pred, pred_number, one_more, no_more}
-use Rattle.loop_forest.proofs.cuts.standing.Goals as goal
+use Rattle.loop_forest.proofs.cuts.steps_since_cut.Goals as goal
 
 pub back-smaller : goal.back-smaller
 back-smaller c =
@@ -19,7 +19,7 @@ back-preserved c =
     record {
       within = c.len-count.ensures.flow.source c.in-Some.u c.back.at edge;
       few = omega arith;
-      onward = λ k s. subst (λ (j : ℕ). StandsAt (HasEdge c.args.g.now) (IsMarked c.args.base.now) c.args.n j) (one_more k c.back.steps)
+      onward = λ k s. subst (λ (j : ℕ). StepsSinceCut (HasEdge c.args.g.now) (IsMarked c.args.base.now) c.args.n j) (one_more k c.back.steps)
           (c.back.invariant.onward ((k + 1) % 32) (After (λ b. true≢false (sym b ∙ c.back-test.true)) edge s refl));
     }
 
@@ -27,5 +27,5 @@ pub returns-in-None : goal.returns-in-None
 returns-in-None c = absurd (some_pred c.args.g.now c.args.marks.now c.args.base.now c.back.at c.len-count.ensures.flow c.requires.bases c.back.invariant.within (λ b. true≢false (sym b ∙ c.back-test.true)) (sym c.preds-preds.ensures ∙ c.in-None.ensures.steps.0))
 
 pub returns : goal.returns
-returns c = subst (λ (j : ℕ). StandsAt (HasEdge c.args.g.now) (IsMarked c.args.base.now) c.args.n j) (no_more c.back.steps c.back.invariant.few)
+returns c = subst (λ (j : ℕ). StepsSinceCut (HasEdge c.args.g.now) (IsMarked c.args.base.now) c.args.n j) (no_more c.back.steps c.back.invariant.few)
     (c.back.invariant.onward 0 (AtBase c.back-test.false))
