@@ -1,6 +1,6 @@
 -- What a bench holds: in a larger arena, with a theorem more or less, and with one more definition that is closed.
-use Rattle.std.proofs.Common.{◌≡◌, ℕ, zero, suc, ◌+◌, ◌<◌, Bool, true, false, cond, Option, Some, None, List, [], ◌∷◌, length, map, refl, sym, ap, ◌∙◌, subst, arith}
-use Rattle.std.specs.Prelude.{◌==◌, ◌↔◌, IfSome, is_some, option_map, replicate, slice_get, slice_set, unwrap_or}
+use Rattle.std.proofs.Common.{◌≡◌, ℕ, zero, suc, ◌+◌, ◌<◌, Bool, true, false, cond, Option, Some, None, List, [], ◌∷◌, ◌++◌, length, map, refl, sym, ap, ◌∙◌, subst, arith}
+use Rattle.std.specs.Prelude.{◌==◌, ◌↔◌, IfSome, Contains, is_some, option_map, replicate, slice_get, slice_set, unwrap_or}
 use Rattle.std.proofs.lemmas.List.{append-nil, length-map}
 use Rattle.std.proofs.lemmas.Option.{slice_get_within}
 use Rattle.std.proofs.lemmas.Map.Lookups.{exact_unsigned}
@@ -14,7 +14,8 @@ use Rattle.tailrec_lang.specs.Tree.{GroupTree, def_tree, group_tree}
 use Rattle.tailrec_lang.specs.WellFormed.{IsWellFormed}
 use Rattle.triple_kernel.specs.Tree.{TripleTree}
 use Rattle.term_arena.specs.declared.node.Node.{Node}
-use Rattle.term_arena.specs.Arena.{Extends}
+use Rattle.term_arena.specs.Arena.{Extends, IsAdded, Was_there, Is_next}
+use Rattle.term_arena.proofs.Places.{contains_at}
 use Rattle.held_terms.specs.declared.held.Held.{Held}
 use Rattle.held_terms.specs.Held.{IsHeldAt, triple_of}
 use Rattle.held_terms.proofs.InstanceLemmas.{held_still, same_triple}
@@ -196,6 +197,11 @@ same_closed g k h j d s eg eh = subst (λ (x : GroupTree). Sound x (with_closed 
 
 pub extends_none : (ns : List Node) → Extends ns ns
 extends_none ns = record { more = []; is = sym (append-nil ns) }
+
+-- a node that isn't there gets the next number
+pub added_new : (ns ms : List Node) (n : Node) (k : ℕ) → IsAdded ns n k ms → (Contains ns n → ⊥) → (k ≡ length ns) × (ms ≡ ns ++ n ∷ [])
+added_new ns ms n k (Was_there at same) none = absurd (none (contains_at ns k n at))
+added_new ns ms n k (Is_next e f) none = (e, f)
 
 pub extends_same : (ns ms : List Node) → ms ≡ ns → Extends ns ms
 extends_same ns ms e = record { more = []; is = e ∙ sym (append-nil ns) }

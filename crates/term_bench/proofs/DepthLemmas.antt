@@ -140,6 +140,9 @@ store_depth x y z w n up p q least width m a v hm ha hv = record { fits = fits; 
 
 -- ---- depths of numbers
 
+pub no_depths : (ns : List Node) (depths : List ℕ) → depths ≡ [] → AreDepths ns depths
+no_depths ns depths none = subst (AreDepths ns) (sym none) (record { few = omega arith; each = λ k n t at tree. absurd (cc) })
+
 module _ (ns : List Node) (depths : List ℕ) (are : AreDepths ns depths) where
   -- .. of one more
   pub more_depths : (n : ℕ) → length depths < length ns → ((t : Tree) → tree_of ns (length depths) ≡ Some t → HasDepth t n) → AreDepths ns (depths ++ n ∷ [])

@@ -14,3 +14,7 @@ pub mod ComputedLemmas
 pub mod StatingLemmas
 pub mod LargerTables
 pub mod OneLine
+pub mod TableDepths
+pub mod StandingLemmas
+pub mod OneVerdict
+pub mod ShortVerdicts

@@ -15,9 +15,10 @@ use Rattle.instr_axioms.specs.Axiom.{axiom_of}
 use Rattle.frame_compose.specs.Rules.{IsComposed, IsExtended, IsFramed, further, rest_after}
 use Rattle.loop_rule.specs.Rule.{IsClosedBy, IsExit}
 use Rattle.group_text.specs.Limits.{index_limit}
+use Rattle.group_text.specs.Version.{Version, version_1}
 use Rattle.term_text.specs.Limits.{IsMem, IsWord}
 use Rattle.proof_text.specs.Line.{RuleTree, Axiom, Inst, Frame, Compose, ExtendCode, Strengthen, Weaken, Discharge, UseExit, LineTree, States, Loop, Forget, Further}
-use Rattle.proof_text.specs.LineLimits.{AreRisingFrom, IsTriple}
+use Rattle.proof_text.specs.LineLimits.{AreRisingFrom, IsLineIn, IsTriple}
 use Rattle.term_arena.specs.declared.node.Node.{Node}
 use Rattle.term_arena.specs.Arena.{mem_of}
 use Rattle.held_terms.specs.declared.held.Held.{Held}
@@ -28,10 +29,10 @@ use Rattle.held_terms.specs.Image.{IsSubAt, put_for_numbers}
 use Rattle.short_text.specs.declared.short.Short.{Short}
 use Rattle.short_text.specs.declared.short.Short.TheVariants as short
 use Rattle.short_text.specs.FullLine.{mems_for, rule_over, words_for}
-use Rattle.checker.specs.Instance.{AreInstances, History, Meets, after_line, put_for, with_closed, with_theorem, without}
+use Rattle.checker.specs.Instance.{AreInstances, History, Meets, after_line, no_lines, put_for, with_closed, with_theorem, without}
 use Rattle.term_bench.specs.Bench.{AreHeldAt, Theorems, held_by_number, state_history}
 use Rattle.term_bench.specs.Fine.{IsFineHeld}
-use Rattle.term_bench.specs.Short.{AreFineAt, AreFullLines, AreWithin, HasFurtherAfter, IsFineShort, IsNeverStated, IsRightFor, IsShortInstance, IsStatedBy, LeaveAfter, LeavesBehind}
+use Rattle.term_bench.specs.Short.{AreFineAt, AreFullLines, AreWithin, HasFurtherAfter, IsFineShort, IsNeverStated, IsShortInstance, IsStatedBy, LeaveAfter, LeavesBehind}
 use Rattle.term_bench.specs.inner.Making.{MadeIf}
 use Rattle.term_bench.proofs.ComputedLemmas.{made_as}
 use Rattle.term_bench.proofs.RuleLemmas.{meets_next, same_put}
@@ -245,18 +246,21 @@ with-one h t fits w = record { each = λ k u e. go (k == h.next) k u e }
     go true k u e = subst IsTriple (same_Some t u e) fits
     go false k u e = w.each k u e
 
-line-within : (g : GroupTree) (h : History) (ns : List Node) (s : Short) (l : LineTree) → IsRightFor g h ns s l → AreWithin h → AreWithin (after_line h l)
-line-within g h ns s (States rule t) r w = with-one h t r.fits.1 w
-line-within g h ns s (Loop d cited) r w = record { each = w.each }
-line-within g h ns s (Forget j) r w = record { each = λ k u e. go (k == j) k u e }
+pub none_within : AreWithin no_lines
+none_within = record { each = λ k t e. absurd (none-some t e) }
+
+pub line_within : (v : Version) (h : History) (l : LineTree) → IsLineIn v l → AreWithin h → AreWithin (after_line h l)
+line_within v h (States rule t) fits w = with-one h t fits.1 w
+line_within v h (Loop d cited) fits w = record { each = w.each }
+line_within v h (Forget j) fits w = record { each = λ k u e. go (k == j) k u e }
   where
     go : (b : Bool) (k : ℕ) (u : TripleTree) → cond b None (h.theorem k) ≡ Some u → IsTriple u
     go true k u e = absurd (none-some u e)
     go false k u e = w.each k u e
-line-within g h ns s (Further p t) r w = absurd r.full
+line_within v h (Further p t) fits w = with-one h t fits.2 w
 
 pub left_within : (g : GroupTree) (h : History) (ns : List Node) (s : Short) (after : History) → LeavesBehind g h ns s after → AreWithin h → AreWithin after
-left_within g h ns s after l w = subst AreWithin (sym l.2) (line-within g h ns s l.0 l.1 w)
+left_within g h ns s after l w = subst AreWithin (sym l.2) (line_within version_1 h l.0 l.1.fits w)
 
 pub lines_within : (g : GroupTree) (h : History) (ns : List Node) (lines : List Short) (after : History) → LeaveAfter g h ns lines after → AreWithin h → AreWithin after
 lines_within g h ns [] after e w = subst AreWithin (sym e) w

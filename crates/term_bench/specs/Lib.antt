@@ -3,3 +3,4 @@ pub mod Terms
 pub mod inner
 pub mod Fine
 pub mod Short
+pub mod ShortRules

@@ -4,3 +4,4 @@ pub mod Leaves
 pub mod Making
 pub mod Depths
 pub mod Exits
+pub mod Standing

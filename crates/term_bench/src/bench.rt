@@ -1,6 +1,6 @@
 //! The judge of the lines of a group's proof, over numbers.
 
-ghost use Rattle.std.specs.Prelude.{◌≡◌, ◌<◌, ◌↔◌, IfOk, IfSome, IsErrOf, IsTrue, OnErr, OnOk, [], false, is_some, length, map, option_map, replicate, true};
+ghost use Rattle.std.specs.Prelude.{◌≡◌, ◌+◌, ◌<◌, ◌↔◌, IfOk, IfSome, IsErrOf, IsTrue, OnErr, OnOk, [], false, is_some, length, map, option_map, replicate, true};
 ghost use Rattle.std.specs.Option.{option_copied};
 ghost use Rattle.tailrec_lang.specs.Tree.{group_tree};
 ghost use Rattle.tailrec_lang.specs.WellFormed.{IsWellFormed};
@@ -34,13 +34,14 @@ use tailrec_lang::Group;
 use term_arena::{Arena, Node, Steps};
 use triple_kernel::{RuleFault, Triple};
 
-/// Judges the lines of a group's proof, one after the other. It keeps their terms once each, the theorems that can still be
-/// cited as numbers of terms, and which definitions are closed. A theorem that is forgotten leaves no place behind it, while
-/// the arena keeps its terms.
+/// Judges the lines of a group's proof, one after the other. It keeps their terms once each, how deep they are, as far as that
+/// was asked, the theorems that can still be cited as numbers of terms, and which definitions are closed. A theorem that is
+/// forgotten leaves no place behind it, while the arena keeps its terms.
 #[derive(Drop)]
 pub struct Bench<'g> {
     group: &'g Group,
     arena: Arena,
+    depths: List<u8>,
     held: BTreeMap<u64, Held>,
     next: u64,
     closed: List<bool>,
@@ -55,6 +56,7 @@ impl<'g> Model for Bench<'g> {
     ghost use Rattle.tailrec_lang.specs.contracts.group.End as end;
     ghost use Rattle.term_bench.specs.Bench.{BenchState};
     ghost use Rattle.term_bench.specs.inner.Bench.{IsSoundState};
+    ghost use Rattle.term_bench.specs.inner.Depths.{AreDepths};
 
     ghost Value = { BenchState };
 
@@ -62,7 +64,7 @@ impl<'g> Model for Bench<'g> {
 
     ghost view = { λ b. (b.group.now, b.arena, b.held.entries, b.next, b.closed) };
 
-    ghost invariant = { λ b. IsSoundState (b.group.now, b.arena, b.held.entries, b.next, b.closed) };
+    ghost invariant = { λ b. IsSoundState (b.group.now, b.arena, b.held.entries, b.next, b.closed) × AreDepths b.arena b.depths };
 }
 
 impl<'g> Bench<'g> {
@@ -77,6 +79,7 @@ impl<'g> Bench<'g> {
         Ok(Bench {
             group,
             arena: Arena::new(alloc),
+            depths: List::new(alloc),
             held: BTreeMap::new(alloc),
             next: 0,
             closed,
@@ -87,11 +90,20 @@ impl<'g> Bench<'g> {
     pub fn add<L: Ledger>(&mut self, n: Node, steps: &mut Steps<L>) -> Result<u64, NoMemory>
         requires { AreChildren (state_nodes self.old) n }
         ensures ok { IfOk result (λ k. IsAdded (state_nodes self.old) n k (state_nodes self.new)) }
+        ensures grows { Extends (state_nodes self.old) (state_nodes self.new) }
+        ensures steps { steps.new ≡ steps.old + 1 }
         ensures err { OnErr result (self.new ≡ self.old) }
         ensures group { self.new.0 ≡ self.old.0 }
         ensures same { state_history self.new ≡ state_history self.old }
     {
         self.arena.add(n, steps)
+    }
+
+    /// How many terms there are.
+    pub fn terms(&self) -> u64
+        ensures { result ≡ length (state_nodes self.now) }
+    {
+        self.arena.len()
     }
 
     /// Judges the next line. After a refusal the theorems and the closed definitions are as before; the arena may have more
@@ -252,6 +264,7 @@ impl<'g> Bench<'g> {
             alloc,
             self.group,
             &mut self.arena,
+            &mut self.depths,
             &self.held,
             self.closed.as_slice(),
             line,

@@ -1,7 +1,7 @@
 //! Definitions that are closed by theorems over numbers.
 #![tactic(auto, using(held_terms::proofs::InstanceLemmas::extends_next, crate::proofs::BenchLemmas::extends_none))]
 
-ghost use Rattle.std.specs.Prelude.{◌≡◌, ◌↔◌, IfOk, IsTrue, map};
+ghost use Rattle.std.specs.Prelude.{◌↔◌, IfOk, IsTrue, map};
 ghost use Rattle.std.specs.List.{AllZip};
 ghost use Rattle.tailrec_lang.specs.Tree.{def_tree, group_tree};
 ghost use Rattle.loop_rule.specs.Tree.{leaf_tree};

@@ -10,6 +10,7 @@ ghost use Rattle.term_arena.specs.Arena.{Extends};
 ghost use Rattle.held_terms.specs.Held.{IsHeldAt, triple_of};
 ghost use Rattle.held_terms.specs.Image.{IsSubAt, put_for_numbers};
 ghost use Rattle.term_bench.specs.Fine.{IsFineHeld};
+ghost use Rattle.term_bench.specs.inner.Depths.{AreDepths};
 ghost use Rattle.term_bench.specs.inner.Making.{MadeIf};
 
 use crate::depths::deepen;
@@ -25,19 +26,20 @@ use tailrec_lang::Group;
 use term_arena::{Arena, Steps};
 use triple_kernel::Form;
 
-/// The triple, if it is within the limits.
+/// The triple, if it is within the limits. The depths are looked up, or computed where there are none yet.
 fn if_within<L: Ledger>(
-    alloc: Global,
     arena: &Arena,
+    depths: &mut List<u8>,
     h: Held,
     steps: &mut Steps<L>,
 ) -> Result<Option<Held>, NoMemory>
     requires there { IsHeldAt arena.now h }
     requires code { IsOwnCode h.code.ranges }
-    ensures { IfOk result (λ o. MadeIf arena.now (λ t. t ≡ triple_of arena.now h) o) }
+    requires depths { AreDepths arena.now depths.old }
+    ensures made { IfOk result (λ o. MadeIf arena.now (λ t. t ≡ triple_of arena.now h) o) }
+    ensures depths { AreDepths arena.now depths.new }
 {
-    let mut depths = List::new(alloc);
-    deepen(arena, &mut depths, steps)?;
+    deepen(arena, depths, steps)?;
     if !is_within(arena, depths.as_slice(), &h) {
         return Ok(None);
     }
@@ -48,6 +50,7 @@ fn if_within<L: Ledger>(
 pub(crate) fn put_in<L: Ledger>(
     alloc: Global,
     arena: &mut Arena,
+    depths: &mut List<u8>,
     p: &Held,
     words: &[(u32, u64)],
     mems: &[(u32, u64)],
@@ -55,11 +58,13 @@ pub(crate) fn put_in<L: Ledger>(
 ) -> Result<Option<Held>, NoMemory>
     requires p { IsFineHeld arena.old p.now }
     requires sub { IsSubAt arena.old words.now mems.now }
+    requires depths { AreDepths arena.old depths.old }
     ensures made { IfOk result (λ o. MadeIf arena.new (λ t. IsInst (put_for_numbers arena.old words.now mems.now) (triple_of arena.old p.now) t) o) }
     ensures grows { Extends arena.old arena.new }
+    ensures depths { AreDepths arena.new depths.new }
 {
     let h = instance(alloc, arena, p, words, mems, steps)?;
-    let made = if_within(alloc, arena, h, steps)?;
+    let made = if_within(arena, depths, h, steps)?;
     Ok(made)
 }
 
@@ -67,20 +72,23 @@ pub(crate) fn put_in<L: Ledger>(
 pub(crate) fn axiom<L: Ledger>(
     alloc: Global,
     arena: &mut Arena,
+    depths: &mut List<u8>,
     addr: u64,
     word: u32,
     form: Form,
     steps: &mut Steps<L>,
 ) -> Result<Option<Held>, NoMemory>
+    requires depths { AreDepths arena.old depths.old }
     ensures made { IfOk result (λ o. MadeIf arena.new (λ t. axiom_of addr word form ≡ Just t) o) }
     ensures grows { Extends arena.old arena.new }
+    ensures depths { AreDepths arena.new depths.new }
 {
     let found = axiom_triple(alloc, addr, word, form)?;
     let Some(t) = found else {
         return Ok(None);
     };
     let h = put_triple(alloc, arena, &t, steps)?;
-    let made = if_within(alloc, arena, h, steps)?;
+    let made = if_within(arena, depths, h, steps)?;
     Ok(made)
 }
 
@@ -88,19 +96,22 @@ pub(crate) fn axiom<L: Ledger>(
 pub(crate) fn exit<L: Ledger>(
     alloc: Global,
     arena: &mut Arena,
+    depths: &mut List<u8>,
     g: &Group,
     def: u32,
     number: u32,
     steps: &mut Steps<L>,
 ) -> Result<Option<Held>, NoMemory>
     requires code { IsOwnCode g.now.code.ranges }
+    requires depths { AreDepths arena.old depths.old }
     ensures made { IfOk result (λ o. MadeIf arena.new (λ t. IsExit (group_tree g.now) def number t) o) }
     ensures grows { Extends arena.old arena.new }
+    ensures depths { AreDepths arena.new depths.new }
 {
     let found = exit_held(alloc, arena, g, def, number, steps)?;
     let Some(h) = found else {
         return Ok(None);
     };
-    let made = if_within(alloc, arena, h, steps)?;
+    let made = if_within(arena, depths, h, steps)?;
     Ok(made)
 }

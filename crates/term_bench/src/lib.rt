@@ -17,10 +17,17 @@
 //! computed and its depth is looked up (`computed`, `depths`). `law_of_full_lines` says that short lines stand for as many lines of
 //! version 1, each right after those before it, and `law_of_one_full_line` that a short line stands for one alone.
 //!
-//! The check of proof texts doesn't stand on this bench yet.
+//! A loop over the lines of a text of version 2 puts the terms of its table in first, by `bench.add(node, &mut steps)`: each gets its
+//! number in the table (`law_of_new_terms`). What `derive` asks of a line then holds of each line that is read beside the table
+//! (`law_of_read_lines`, `law_of_larger_tables`), and what it asks of the theorems goes on to hold (`law_of_limits`).
+//!
+//! `OverNumbers` and `OverTables` judge the proofs of a text by such benches, for the check of the crate `checker`: those of
+//! version 1, and those of version 2 (`short_rules`), whose terms stand in a table. `check_numbered(alloc, &elf, &mut reader)` and
+//! `check_pulled_numbered` are the check of texts of version 1 so, `check_short` and `check_pulled_short` that of texts of version 2.
 #![tactic(auto)]
 
 mod bench;
+mod check;
 mod closing;
 mod computed;
 mod copies;
@@ -31,8 +38,18 @@ mod limits;
 mod making;
 mod put;
 mod rules;
+mod short_check;
+mod short_judge;
 mod stating;
+mod whole_judge;
 
 pub use bench::Bench;
-pub use laws::{law_of_full_lines, law_of_larger_tables, law_of_one_full_line};
+pub use check::{check_numbered, check_pulled_numbered};
+pub use laws::{
+    law_of_full_lines, law_of_larger_tables, law_of_limits, law_of_new_terms, law_of_one_full_line,
+    law_of_read_lines, law_of_short_proofs,
+};
 pub use put::{put_facts, put_mem_terms, put_mems, put_side, put_triple, put_word, put_word_terms};
+pub use short_check::{check_pulled_short, check_short};
+pub use short_judge::{ByTable, OverTables};
+pub use whole_judge::OverNumbers;

@@ -13,6 +13,7 @@ ghost use Rattle.held_terms.specs.Image.{IsSubAt, put_for_numbers};
 ghost use Rattle.term_bench.specs.Bench.{history_from, is_closed_in, theorem_at};
 ghost use Rattle.term_bench.specs.Fine.{AreFineFacts, AreFineMems, AreFineRegisters, IsFineHeld, IsFineSide};
 ghost use Rattle.term_bench.specs.Short.{AreFineAt, IsFineShort, IsStatedBy};
+ghost use Rattle.term_bench.specs.inner.Depths.{AreDepths};
 ghost use Rattle.term_bench.specs.inner.Making.{MadeIf};
 
 use crate::computed::{axiom, exit, put_in};
@@ -33,6 +34,7 @@ pub(crate) fn stated_by<L: Ledger>(
     alloc: Global,
     g: &Group,
     arena: &mut Arena,
+    depths: &mut List<u8>,
     held: &BTreeMap<u64, Held>,
     closed: &[bool],
     line: &Short,
@@ -41,14 +43,16 @@ pub(crate) fn stated_by<L: Ledger>(
     requires code { IsOwnCode g.now.code.ranges }
     requires held { AreFineAt arena.old held.now.entries }
     requires line { IsFineShort arena.old line.now }
+    requires depths { AreDepths arena.old depths.old }
     ensures made { IfOk result (λ o. MadeIf arena.new (IsStatedBy (group_tree g.now) (history_from 0 arena.old held.now.entries closed.now) arena.old line.now) o) }
     ensures grows { Extends arena.old arena.new }
+    ensures depths { AreDepths arena.new depths.new }
 {
     match line {
-        Short::Axiom(addr, word, form) => axiom(alloc, arena, *addr, *word, *form, steps),
-        Short::Inst(p, words, mems) => by_inst(alloc, arena, held, *p, words, mems, steps),
+        Short::Axiom(addr, word, form) => axiom(alloc, arena, depths, *addr, *word, *form, steps),
+        Short::Inst(p, words, mems) => by_inst(alloc, arena, depths, held, *p, words, mems, steps),
         Short::UseExit(def, number) => {
-            by_use_exit(alloc, g, arena, closed, *def, *number, steps)
+            by_use_exit(alloc, g, arena, depths, closed, *def, *number, steps)
         }
         Short::Frame(p, regs, mems) => by_frame(alloc, arena, held, *p, regs, mems),
         Short::ExtendCode(p, code) => by_extend_code(alloc, arena, held, *p, code),
@@ -76,6 +80,7 @@ fn fine_theorem<'a>(arena: &Arena, held: &'a BTreeMap<u64, Held>, k: u64) -> Opt
 fn by_inst<L: Ledger>(
     alloc: Global,
     arena: &mut Arena,
+    depths: &mut List<u8>,
     held: &BTreeMap<u64, Held>,
     p: u64,
     words: &List<(u32, u64)>,
@@ -84,13 +89,15 @@ fn by_inst<L: Ledger>(
 ) -> Result<Option<Held>, NoMemory>
     requires held { AreFineAt arena.old held.now.entries }
     requires sub { IsSubAt arena.old words.now mems.now }
+    requires depths { AreDepths arena.old depths.old }
     ensures made { IfOk result (λ o. MadeIf arena.new (λ t. IsSomeAnd (theorem_at arena.old held.now.entries p) (λ q. IsInst (put_for_numbers arena.old words.now mems.now) q t)) o) }
     ensures grows { Extends arena.old arena.new }
+    ensures depths { AreDepths arena.new depths.new }
 {
     match fine_theorem(arena, held, p) {
         Some(q) => {
             let words = words.as_slice();
-            let made = put_in(alloc, arena, q, words, mems.as_slice(), steps)?;
+            let made = put_in(alloc, arena, depths, q, words, mems.as_slice(), steps)?;
             Ok(made)
         }
         None => Ok(None),
@@ -101,19 +108,22 @@ fn by_use_exit<L: Ledger>(
     alloc: Global,
     g: &Group,
     arena: &mut Arena,
+    depths: &mut List<u8>,
     closed: &[bool],
     def: u32,
     number: u32,
     steps: &mut Steps<L>,
 ) -> Result<Option<Held>, NoMemory>
     requires code { IsOwnCode g.now.code.ranges }
+    requires depths { AreDepths arena.old depths.old }
     ensures made { IfOk result (λ o. MadeIf arena.new (λ t. (is_closed_in closed.now def ≡ true) × IsExit (group_tree g.now) def number t) o) }
     ensures grows { Extends arena.old arena.new }
+    ensures depths { AreDepths arena.new depths.new }
 {
     if !is_closed(closed, def) {
         return Ok(None);
     }
-    exit(alloc, arena, g, def, number, steps)
+    exit(alloc, arena, depths, g, def, number, steps)
 }
 
 fn by_frame(

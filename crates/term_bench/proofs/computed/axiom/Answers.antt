@@ -6,6 +6,7 @@ use Rattle.triple_kernel.specs.Tree.{TripleTree, triple_tree}
 use Rattle.held_terms.specs.Held.{triple_of}
 use Rattle.proof_text.specs.inner.OwnCode.{IsOwnCode}
 use Rattle.term_bench.proofs.ComputedLemmas.{axiom_code, made_one}
+use Rattle.term_bench.proofs.DepthLemmas.{depths_stay}
 use Rattle.term_bench.proofs.computed.axiom.Goals as goal
 
 pub if_within-requires-clause-code : goal.if_within-requires-clause-code
@@ -19,4 +20,10 @@ returns-clause-made g c =
     let new = c.put_triple.new.arena in
     let u = triple_of new c.in_ok-h.h in
     let e : axiom_of c.args.addr c.args.word c.args.form ≡ Some u = sym c.in_ok-found.ensures ∙ ap (option_map triple_tree) c.in-Some.is ∙ ap Some (sym c.in_ok-h.ensures.put.is) in
-    made_one new (λ x. axiom_of c.args.addr c.args.word c.args.form ≡ Some x) u e (λ x p. same_Some x u (sym p ∙ e)) c.in_ok-made.made c.in_ok-made.ensures
+    made_one new (λ x. axiom_of c.args.addr c.args.word c.args.form ≡ Some x) u e (λ x p. same_Some x u (sym p ∙ e)) c.in_ok-made.made c.in_ok-made.ensures.made
+
+pub returns-in_err-h-clause-depths : goal.returns-in_err-h-clause-depths
+returns-in_err-h-clause-depths g c = depths_stay c.args.arena.now c.put_triple.new.arena c.args.depths.now c.put_triple.ensures.grows c.requires.depths
+
+pub if_within-requires-clause-depths : goal.if_within-requires-clause-depths
+if_within-requires-clause-depths g c = depths_stay c.args.arena.now c.put_triple.new.arena c.args.depths.now c.put_triple.ensures.grows c.requires.depths

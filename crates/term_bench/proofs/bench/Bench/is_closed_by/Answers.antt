@@ -4,20 +4,22 @@ use Rattle.term_arena.specs.Arena.{Extends}
 use Rattle.loop_rule.specs.Rule.{IsClosedBy}
 use Rattle.term_bench.specs.Bench.{BenchState, state_group, state_history, state_nodes}
 use Rattle.term_bench.proofs.BenchLemmas.{history_stays, sound_grown}
+use Rattle.term_bench.proofs.DepthLemmas.{depths_stay}
 use Rattle.term_bench.proofs.bench.Bench.is_closed_by.Goals as goal
 
 pub is_closed_by-requires : goal.is_closed_by-requires
-is_closed_by-requires g c = c.self.invariant.there
+is_closed_by-requires g c = c.self.invariant.0.there
 
 pub invariant_of-self : goal.invariant_of-self
 invariant_of-self g c =
     let s = c.self.inside in
-    sound_grown s.arena c.is_closed_by.new.arena c.is_closed_by.ensures.grows s.group.now s.held.entries s.next s.closed c.self.invariant
+    let grows = c.is_closed_by.ensures.grows in
+    (sound_grown s.arena c.is_closed_by.new.arena grows s.group.now s.held.entries s.next s.closed c.self.invariant.0, depths_stay s.arena c.is_closed_by.new.arena s.depths grows c.self.invariant.1)
 
 pub returns-clause-same : goal.returns-clause-same
 returns-clause-same g c =
     let s = c.self.inside in
-    history_stays s.arena c.is_closed_by.new.arena c.is_closed_by.ensures.grows s.group.now s.held.entries s.next s.closed c.self.invariant.there ∙ ap state_history c.self.view_is
+    history_stays s.arena c.is_closed_by.new.arena c.is_closed_by.ensures.grows s.group.now s.held.entries s.next s.closed c.self.invariant.0.there ∙ ap state_history c.self.view_is
 
 pub returns-clause-grows : goal.returns-clause-grows
 returns-clause-grows g c = subst (λ (k : BenchState). Extends (state_nodes k) c.is_closed_by.new.arena) c.self.view_is c.is_closed_by.ensures.grows

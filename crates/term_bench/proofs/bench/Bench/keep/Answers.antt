@@ -12,7 +12,7 @@ invariant_of-self-2 c =
     let h = c.args.h in
     let there = subst (λ (k : BenchState). IsHeldAt (state_nodes k) h) (sym c.self.view_is) c.requires.there in
     let sound = subst (λ (k : BenchState). Sound (state_group k) (with_theorem (triple_of (state_nodes k) h) (state_history k))) (sym c.self.view_is) c.requires.sound in
-    sound_more s.group.now s.arena s.held.entries s.next s.closed c.insert.new.self.entries c.in-Some.next h c.in_ok-insert.ensures.updates.0 c.in-Some.ensures.1 c.self.invariant there sound
+    (sound_more s.group.now s.arena s.held.entries s.next s.closed c.insert.new.self.entries c.in-Some.next h c.in_ok-insert.ensures.updates.0 c.in-Some.ensures.1 c.self.invariant.0 there sound, c.self.invariant.1)
 
 pub returns-clause-after : goal.returns-clause-after
 returns-clause-after c =

@@ -10,10 +10,11 @@ use Rattle.term_bench.specs.Bench.{BenchState, history_from, state_group, state_
 use Rattle.term_bench.specs.inner.Put.{IsHeldPut}
 use Rattle.term_bench.proofs.BenchLemmas.{history_stays, sound_grown}
 use Rattle.term_bench.proofs.RuleLemmas.{same_next}
+use Rattle.term_bench.proofs.DepthLemmas.{depths_stay}
 use Rattle.term_bench.proofs.bench.Bench.meets.Goals as goal
 
 pub meets-requires-clause-held : goal.meets-requires-clause-held
-meets-requires-clause-held g c = c.self.invariant.there
+meets-requires-clause-held g c = c.self.invariant.0.there
 
 pub meets-requires-clause-put : goal.meets-requires-clause-put
 meets-requires-clause-put g c = subst (λ (k : BenchState). IsHeldPut (state_nodes k) c.args.put.now (triple_tree c.args.stated.now)) (sym c.self.view_is) c.requires
@@ -21,12 +22,13 @@ meets-requires-clause-put g c = subst (λ (k : BenchState). IsHeldPut (state_nod
 pub invariant_of-self : goal.invariant_of-self
 invariant_of-self g c =
     let s = c.self.inside in
-    sound_grown s.arena c.meets.new.arena c.meets.ensures.grows s.group.now s.held.entries s.next s.closed c.self.invariant
+    let grows = c.meets.ensures.grows in
+    (sound_grown s.arena c.meets.new.arena grows s.group.now s.held.entries s.next s.closed c.self.invariant.0, depths_stay s.arena c.meets.new.arena s.depths grows c.self.invariant.1)
 
 pub returns-clause-same : goal.returns-clause-same
 returns-clause-same g c =
     let s = c.self.inside in
-    history_stays s.arena c.meets.new.arena c.meets.ensures.grows s.group.now s.held.entries s.next s.closed c.self.invariant.there ∙ ap state_history c.self.view_is
+    history_stays s.arena c.meets.new.arena c.meets.ensures.grows s.group.now s.held.entries s.next s.closed c.self.invariant.0.there ∙ ap state_history c.self.view_is
 
 pub returns-clause-grows : goal.returns-clause-grows
 returns-clause-grows g c = subst (λ (k : BenchState). Extends (state_nodes k) c.meets.new.arena) c.self.view_is c.meets.ensures.grows

@@ -13,8 +13,10 @@ pub invariant_of-self : goal.invariant_of-self
 invariant_of-self c =
     let s = c.self.inside in
     let low = subst (λ (k : BenchState). c.args.def < length k.4) (sym c.self.view_is) c.requires.within in
-    let sound = subst (λ (k : BenchState). Sound (state_group k) (with_closed c.args.def (state_history k))) (sym c.self.view_is) c.requires.sound in
-    subst (λ (cs : List Bool). IsSoundState (s.group.now, s.arena, s.held.entries, s.next, cs)) (sym c.set.ensures) (sound_closed s.group.now s.arena s.held.entries s.next s.closed c.args.def low c.self.invariant sound)
+    let sound = subst (λ (k : BenchState). Sound (state_group k) (with_closed c.args.def (state_history k))) (sym c.self.view_is) c.requires.sound in (
+      subst (λ (cs : List Bool). IsSoundState (s.group.now, s.arena, s.held.entries, s.next, cs)) (sym c.set.ensures) (sound_closed s.group.now s.arena s.held.entries s.next s.closed c.args.def low c.self.invariant.0 sound),
+      c.self.invariant.1,
+    )
 
 pub returns-clause-after : goal.returns-clause-after
 returns-clause-after c =

@@ -15,7 +15,10 @@ stated_by-requires-clause-code g c = subst (λ (k : BenchState). IsOwnCode (stat
 pub stated_by-requires-clause-held : goal.stated_by-requires-clause-held
 stated_by-requires-clause-held g c =
     let s = c.self.inside in
-    fine_held s.group.now s.arena s.held.entries s.next s.closed c.self.invariant.there (subst (λ (k : BenchState). AreWithin (state_history k)) (sym c.self.view_is) c.requires.within)
+    fine_held s.group.now s.arena s.held.entries s.next s.closed c.self.invariant.0.there (subst (λ (k : BenchState). AreWithin (state_history k)) (sym c.self.view_is) c.requires.within)
+
+pub stated_by-requires-clause-depths : goal.stated_by-requires-clause-depths
+stated_by-requires-clause-depths g c = c.self.invariant.1
 
 pub stated_by-requires-clause-line : goal.stated_by-requires-clause-line
 stated_by-requires-clause-line g c = subst (λ (k : BenchState). IsFineShort (state_nodes k) c.args.line.now) (sym c.self.view_is) c.requires.line
@@ -23,12 +26,12 @@ stated_by-requires-clause-line g c = subst (λ (k : BenchState). IsFineShort (st
 pub invariant_of-self : goal.invariant_of-self
 invariant_of-self g c =
     let s = c.self.inside in
-    sound_grown s.arena c.stated_by.new.arena c.stated_by.ensures.grows s.group.now s.held.entries s.next s.closed c.self.invariant
+    (sound_grown s.arena c.stated_by.new.arena c.stated_by.ensures.grows s.group.now s.held.entries s.next s.closed c.self.invariant.0, c.stated_by.ensures.depths)
 
 pub returns-clause-same : goal.returns-clause-same
 returns-clause-same g c =
     let s = c.self.inside in
-    history_stays s.arena c.stated_by.new.arena c.stated_by.ensures.grows s.group.now s.held.entries s.next s.closed c.self.invariant.there ∙ ap state_history c.self.view_is
+    history_stays s.arena c.stated_by.new.arena c.stated_by.ensures.grows s.group.now s.held.entries s.next s.closed c.self.invariant.0.there ∙ ap state_history c.self.view_is
 
 pub returns-clause-grows : goal.returns-clause-grows
 returns-clause-grows g c = subst (λ (k : BenchState). Extends (state_nodes k) c.stated_by.new.arena) c.self.view_is c.stated_by.ensures.grows

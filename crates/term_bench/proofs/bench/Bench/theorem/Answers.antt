@@ -6,7 +6,7 @@ use Rattle.term_bench.specs.Bench.{BenchState, state_history, state_nodes}
 use Rattle.term_bench.proofs.bench.Bench.theorem.Goals as goal
 
 pub theorem-requires : goal.theorem-requires
-theorem-requires c = c.self.invariant.there
+theorem-requires c = c.self.invariant.0.there
 
 pub returns-clause-theorem : goal.returns-clause-theorem
 returns-clause-theorem c =
