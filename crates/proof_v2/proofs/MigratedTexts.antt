@@ -1,0 +1,54 @@
+-- A text that is accepted, and what it becomes.
+use Rattle.std.proofs.Common.{◌≡◌, ◌⊎◌, ℕ, List, [], ◌∷◌, Result, Err, inl, inr, refl, sym, ap, ◌∙◌, subst}
+use Rattle.std.specs.List.{AllByRecursion}
+use Rattle.group_text.specs.declared.version.Version.TheVariants.{One}
+use Rattle.group_text.specs.Version.{version_1}
+use Rattle.proof_text.specs.Line.{ProofTree}
+use Rattle.proof_text.proofs.ProofTexts.{proofs-once}
+use Rattle.proof_text.proofs.WholeLaws.{lines_known}
+use Rattle.checker.specs.declared.verdict.Verdict.{Verdict}
+use Rattle.checker.specs.declared.verdict.Verdict.TheVariants as verdict
+use Rattle.checker.specs.Accepts.{Accepts, IsAccepted}
+use Rattle.checker.specs.Instance.{no_rule}
+use Rattle.checker.specs.Verdicts.{AreRightSoFar, IsAcceptance, IsAcceptedText, Says}
+use Rattle.proof_v2.specs.MigratedText.{IsMigratedText}
+use Rattle.proof_v2.specs.inner.Rewriting.{BecomesText, IsRightText}
+
+module _ (file text : List ℕ) (f l : ℕ) (a : IsAcceptedText no_rule version_1 file text f l) where
+  accepted-right : (ps : List ProofTree) → AllByRecursion (IsAccepted file) ps → AreRightSoFar no_rule ps
+  accepted-right [] h = tt
+  accepted-right (p ∷ ps) h = (record { well_formed = h.0.well_formed; lines = h.0.lines }, accepted-right ps h.1)
+
+  pub right-text : IsRightText text
+  right-text = record { proofs = a.proofs; spelled = a.spelled; right = accepted-right a.proofs a.accepted.each }
+
+  pub migrated-text : (more : List ℕ) → BecomesText text more → IsMigratedText file text more
+  migrated-text more b =
+      let same : a.proofs ≡ b.old = proofs-once (lines_known One) a.proofs b.old a.spelled.fit b.spelled.fit (sym a.spelled.spelled ∙ b.spelled.spelled) in
+      record { old = b.old; spelled = b.spelled; accepted = subst (Accepts file) same a.accepted; new = b.new; migrated = b.migrated; fit = b.fit; is = b.is }
+
+-- which verdict refuses it
+pub refused-by : {X : Type 0} (checked v : Verdict) (result : Result X Verdict) → result ≡ Err checked → (checked ≡ v) ⊎ (v ≡ verdict.NoMemory) ⊎ (checked ≡ verdict.NoMemory)
+    → (result ≡ Err v) ⊎ (v ≡ verdict.NoMemory) ⊎ (result ≡ Err verdict.NoMemory)
+refused-by checked v result is (inl e) = inl (is ∙ ap Err e)
+refused-by checked v result is (inr (inl e)) = inr (inl e)
+refused-by checked v result is (inr (inr e)) = inr (inr (is ∙ ap Err e))
+
+-- one that isn't a verdict of acceptance
+pub no-acceptance : (v : Verdict) → ((f l : ℕ) → v ≡ verdict.Accepted f l → ⊥) → IsAcceptance v → ⊥
+no-acceptance (verdict.Accepted f l) never h = never f l refl
+no-acceptance (verdict.BadElf why) never h = h
+no-acceptance (verdict.BadText n) never h = h
+no-acceptance (verdict.BadDef g d) never h = h
+no-acceptance (verdict.BadLine n) never h = h
+no-acceptance (verdict.NotProved g) never h = h
+no-acceptance verdict.NoMemory never h = h
+
+-- where it is accepted, none but for want of memory
+pub not-refused : (f l : ℕ) (checked v : Verdict) → checked ≡ verdict.Accepted f l → (IsAcceptance v → ⊥) → (checked ≡ v) ⊎ (v ≡ verdict.NoMemory) ⊎ (checked ≡ verdict.NoMemory) → v ≡ verdict.NoMemory
+not-refused f l checked v is never (inl e) = absurd (never (subst IsAcceptance (sym is ∙ e) tt))
+not-refused f l checked v is never (inr (inl e)) = e
+not-refused f l checked v is never (inr (inr e)) = absurd (subst IsAcceptance (sym is ∙ e) tt)
+
+pub for-memory : (file text : List ℕ) (v : Verdict) → v ≡ verdict.NoMemory → Says file text v × (IsAcceptance v → ⊥)
+for-memory file text v e = subst (λ (w : Verdict). Says file text w × (IsAcceptance w → ⊥)) (sym e) (tt, λ h. h)

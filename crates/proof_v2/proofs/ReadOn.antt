@@ -1,0 +1,130 @@
+-- The lines of a group's proof are read one after the other, and become short ones.
+use Rattle.std.proofs.Common.{◌≡◌, ◌≤◌, ◌<◌, ℕ, Option, List, [], ◌∷◌, ◌++◌, None, Some, Ok, Err, length, refl, sym, ap, ◌∙◌, subst, arith}
+use Rattle.std.specs.Prelude.{◌↔◌}
+use Rattle.mc_text.specs.Fault.{IsBadAt}
+use Rattle.tailrec_lang.specs.declared.group.Group.{Group}
+use Rattle.tailrec_lang.specs.Tree.{GroupTree, group_tree}
+use Rattle.group_text.specs.Limits.{IsGroupIn}
+use Rattle.group_text.specs.declared.read_error.TextFault.{TextFault}
+use Rattle.group_text.specs.declared.read_error.TextFault.TheVariants.{Bad}
+use Rattle.group_text.specs.declared.version.Version.{Version as Known}
+use Rattle.group_text.specs.declared.version.Version.TheVariants.{One}
+use Rattle.group_text.specs.Version.{version_1, version_of}
+use Rattle.term_arena.specs.declared.node.Node.{Node}
+use Rattle.term_arena.specs.Arena.{Extends}
+use Rattle.proof_text.specs.Line.{ProofTree, line_tree}
+use Rattle.proof_text.specs.Answers.{IsEnd, OnBad, OnEnd, OnGiven}
+use Rattle.proof_text.specs.FirstProofs.{AreReadIn, HasGiven, MayOpen, Progress, ProofEnds, with_line}
+use Rattle.proof_text.specs.LineLimits.{IsLineIn}
+use Rattle.proof_text.specs.Proofs.{AreProofsIn, bare, text_of_proofs_in, texts_of_proofs_in}
+use Rattle.proof_text.specs.declared.line.Line.{Line}
+use Rattle.proof_text.proofs.Fronts.{given-read}
+use Rattle.proof_text.proofs.WholeLaws.{lines_known}
+use Rattle.checker.specs.Bench.{Kept, group_of, history_of}
+use Rattle.checker.specs.Instance.{History, Instance, after_line, after_lines, no_lines}
+use Rattle.short_text.specs.declared.short.Short.{Short}
+use Rattle.term_bench.specs.Short.{IsFineShort, IsRightFor}
+use Rattle.term_bench.specs.Terms.{AreTermsPutIn}
+use Rattle.proof_v2.specs.ShortTerms.{line_terms}
+use Rattle.proof_v2.specs.inner.Migrating.{AreMigrated}
+use Rattle.proof_v2.specs.inner.Rewriting.{GoesOn, GroupIsNext, HasOpened, HasPassed, IsRightText, LineIsNext, LinesAreShort, LinesSoFar, with_lines}
+use Rattle.proof_v2.proofs.MoreLines.{after_one_more, line-more, none-migrated}
+use Rattle.proof_v2.proofs.RightTexts.{line-right, not-bad}
+
+pub stays : (r : Progress) → GoesOn r r
+stays r = record { text = refl; version = refl; no_longer = omega arith }
+
+pub goes-on : (a b d : Progress) → GoesOn a b → GoesOn b d → GoesOn a d
+goes-on a b d x y = let first : length b.rest ≤ length a.rest = x.no_longer in let second : length d.rest ≤ length b.rest = y.no_longer in
+    record { text = y.text ∙ x.text; version = y.version ∙ x.version; no_longer = omega (arith, first, second) }
+
+read-of : (ps : List ProofTree) (r : Progress) (text : List ℕ) → HasGiven ps r → r.version ≡ One → r.text ≡ text → AreReadIn version_1 text ps
+read-of ps r text h kind same = subst (λ (t : List ℕ). AreReadIn version_1 t ps) same (subst (λ (k : Known). AreReadIn (version_of k) r.text ps) kind (given-read (lines_known r.version) ps r h))
+
+module _ (g : GroupTree) where
+  pub lines-first : (r : Progress) (k : Kept) (ns : List Node) → group_of k ≡ g → history_of k ≡ no_lines → ns ≡ [] → LinesSoFar g r r k ns []
+  lines-first r k ns group none empty = record {
+    lines = [];
+    goes = stays r;
+    given = λ ps h. h;
+    migrated = subst (λ (v : List Node). AreMigrated g v [] []) (sym empty) (none-migrated g);
+    group = group;
+    history = none;
+  }
+
+  pub lines-next : (old now new : Progress) (before after : Kept) (ns ms : List Node) (ss : List Short) (s : Short) (l : Line) → LinesSoFar g old now before ns ss → LineIsNext g now new (Some l)
+      → IsRightFor (group_of before) (history_of before) ms s (line_tree l) → IsFineShort ms s → AreTermsPutIn ns (line_terms (history_of before) (line_tree l)) ms → Extends ns ms
+      → group_of after ≡ group_of before → history_of after ≡ after_line (history_of before) (line_tree l) → LinesSoFar g old new after ms (ss ++ s ∷ [])
+  lines-next old now new before after ns ms ss s l so next right fine put grows group history =
+      let h : History = after_lines so.lines in
+      let there : IsRightFor g h ms s (line_tree l) = subst (λ (k : GroupTree). IsRightFor k h ms s (line_tree l)) so.group (subst (λ (k : History). IsRightFor (group_of before) k ms s (line_tree l)) so.history right) in
+      let terms : AreTermsPutIn ns (line_terms h (line_tree l)) ms = subst (λ (k : History). AreTermsPutIn ns (line_terms k (line_tree l)) ms) so.history put in
+      record {
+        lines = so.lines ++ line_tree l ∷ [];
+        goes = goes-on old now new so.goes next.0;
+        given = λ ps opened. next.3 ps (with_lines g so.lines) (so.given ps opened) refl;
+        migrated = line-more g ns ms ss so.lines s (line_tree l) so.migrated grows next.2 there fine terms;
+        group = group ∙ so.group;
+        history = history ∙ ap (λ (k : History). after_line k (line_tree l)) so.history ∙ sym (after_one_more so.lines (line_tree l));
+      }
+
+  -- the line is right
+  pub line-instance : (text : List ℕ) (old now new : Progress) (before : Kept) (ns : List Node) (ss : List Short) (l : Line) → IsRightText text → old.text ≡ text → old.version ≡ One → HasOpened g old
+      → LinesSoFar g old now before ns ss → LineIsNext g now new (Some l) → Instance (group_of before) (history_of before) (line_tree l)
+  line-instance text old now new before ns ss l right of known opened so next =
+      let given = next.3 opened.0 (with_lines g so.lines) (so.given opened.0 opened.1) refl in
+      let goes = goes-on old now new so.goes next.0 in
+      let read : AreReadIn version_1 text (opened.0 ++ with_line (with_lines g so.lines) (line_tree l) ∷ []) = read-of (opened.0 ++ with_line (with_lines g so.lines) (line_tree l) ∷ []) new text given (goes.version ∙ known) (goes.text ∙ of) in
+      subst (λ (k : GroupTree). Instance k (history_of before) (line_tree l)) (sym so.group)
+      (subst (λ (k : History). Instance g k (line_tree l)) (sym so.history) (line-right text opened.0 (with_lines g so.lines) (line_tree l) right read))
+
+  -- no line, so the proof ends
+  pub no-line : (now new : Progress) (found : Option Line) → ((l : Line) → found ≡ Some l → ⊥) → LineIsNext g now new found → LineIsNext g now new None
+  no-line now new None none end = end
+  no-line now new (Some l) none next = absurd (none l refl)
+
+  pub lines-end : (now new : Progress) → LineIsNext g now new None → ProofEnds new.rest
+  lines-end now new end = subst (λ (r : Progress). ProofEnds r.rest) (sym end.0) end.1
+
+  pub lines-read : (old now new : Progress) (k : Kept) (ns : List Node) (ss : List Short) → LinesSoFar g old now k ns ss → LineIsNext g now new None → LinesAreShort g old new ns ss
+  lines-read old now new k ns ss so end = subst (λ (r : Progress). LinesAreShort g old r ns ss) (sym end.0) (record { lines = so.lines; goes = so.goes; given = so.given; migrated = so.migrated })
+
+-- ---- what a call of the reader gives
+
+module _ (old new : Progress) (text : new.text ≡ old.text) (version : new.version ≡ old.version) (one : old.version ≡ One) where
+  pub group-next : (found : Option Group) → OnGiven (Ok found) (λ g. (ps : List ProofTree) → HasGiven ps old → HasGiven (ps ++ bare (group_tree g) ∷ []) new) → OnGiven (Ok found) (λ g. IsGroupIn (version_of new.version) (group_tree g))
+      → OnGiven (Ok found) (λ g. length new.rest < length old.rest) → OnEnd (Ok found) ((ps : List ProofTree) → HasGiven ps old → old.text ≡ text_of_proofs_in (version_of old.version) ps) → GroupIsNext old new found
+  group-next (Some g) given fits shorter end = (
+    record { text = text; version = version; no_longer = omega (arith, shorter) },
+    shorter,
+    subst (λ (k : Known). IsGroupIn (version_of k) (group_tree g)) (version ∙ one) fits,
+    given,
+  )
+  group-next None given fits shorter end = λ ps h. record {
+    fit = subst (λ (k : Known). AreProofsIn (version_of k) ps) one h.fit;
+    spelled = subst (λ (k : Known). old.text ≡ text_of_proofs_in (version_of k) ps) one (end ps h);
+  }
+
+  pub line-next : (g : GroupTree) (found : Option Line) → OnGiven (Ok found) (λ l. (ps : List ProofTree) (p : ProofTree) → HasGiven (ps ++ p ∷ []) old → p.group ≡ g → HasGiven (ps ++ with_line p (line_tree l) ∷ []) new)
+      → OnGiven (Ok found) (λ l. IsLineIn (version_of new.version) (line_tree l)) → OnGiven (Ok found) (λ l. length new.rest < length old.rest) → IsEnd (Ok found) ↔ ProofEnds old.rest → OnEnd (Ok found) (new ≡ old) → LineIsNext g old new found
+  line-next g (Some l) given fits shorter ends same = (
+    record { text = text; version = version; no_longer = omega (arith, shorter) },
+    shorter,
+    subst (λ (k : Known). IsLineIn (version_of k) (line_tree l)) (version ∙ one) fits,
+    given,
+  )
+  line-next g None given fits shorter ends same = (same, ends.0 tt)
+
+-- no line of the text is bad
+module _ (old : Progress) (right : IsRightText old.text) (one : old.version ≡ One) where
+  bad-here : (n : ℕ) → IsBadAt (texts_of_proofs_in (version_of old.version)) old.text n → ⊥
+  bad-here n bad = not-bad old.text n right (subst (λ (k : Known). IsBadAt (texts_of_proofs_in (version_of k)) old.text n) one bad)
+
+  pub no-bad-group : (e : TextFault) (n : ℕ) → e ≡ Bad n → HasPassed old → OnBad {X = Group} (Err e) (λ n. (ps : List ProofTree) → HasGiven ps old → MayOpen ps old.rest → IsBadAt (texts_of_proofs_in (version_of old.version)) old.text n) → ⊥
+  no-bad-group e n is passed bad =
+      bad-here n (subst (λ (x : TextFault). OnBad {X = Group} (Err x) (λ n. (ps : List ProofTree) → HasGiven ps old → MayOpen ps old.rest → IsBadAt (texts_of_proofs_in (version_of old.version)) old.text n)) is bad passed.0 passed.1 passed.2)
+
+  pub no-bad-line : (g : GroupTree) (e : TextFault) (n : ℕ) → e ≡ Bad n → (ps : List ProofTree) (p : ProofTree) → HasGiven (ps ++ p ∷ []) old → p.group ≡ g
+      → OnBad {X = Line} (Err e) (λ n. (ps : List ProofTree) (p : ProofTree) → HasGiven (ps ++ p ∷ []) old → p.group ≡ g → IsBadAt (texts_of_proofs_in (version_of old.version)) old.text n) → ⊥
+  no-bad-line g e n is ps p given group bad =
+      bad-here n (subst (λ (x : TextFault). OnBad {X = Line} (Err x) (λ n. (ps : List ProofTree) (p : ProofTree) → HasGiven (ps ++ p ∷ []) old → p.group ≡ g → IsBadAt (texts_of_proofs_in (version_of old.version)) old.text n)) is bad ps p given group)

@@ -1,0 +1,6 @@
+use Rattle.proof_v2.proofs.MigratedTexts.{migrated-text}
+use Rattle.proof_v2.proofs.counted.migrate_image.Goals as goal
+
+pub returns-in-Ok-clause-text : goal.returns-in-Ok-clause-text
+returns-in-Ok-clause-text c elf readable image =
+    migrated-text elf c.args.proof.now c.in-Accepted.functions c.in-Accepted.lines (c.in-Accepted.ensures.verdict elf readable image) c.in-Ok.text c.in-Ok.ensures.text

@@ -1,0 +1,4 @@
+pub mod Shortening
+pub mod Migrating
+pub mod Rewriting
+pub mod ShortReading

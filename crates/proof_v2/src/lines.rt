@@ -1,0 +1,242 @@
+//! The short line for a line of version 1.
+#![tactic(auto, using(held_terms::proofs::InstanceLemmas::extends_next, term_bench::proofs::BenchLemmas::extends_none))]
+
+ghost use Rattle.std.specs.Prelude.{◌≡◌, ◌++◌, IfOk, List as Items, Some as Just, flat_map, map};
+ghost use Rattle.term_arena.specs.declared.node.Node.{Node};
+ghost use Rattle.triple_kernel.specs.Tree.{TripleTree, triple_tree};
+ghost use Rattle.proof_text.specs.Line.{Discharge, ExtendCode, Frame, Inst, States, Strengthen, Weaken, line_tree, mem_put_in, rule_tree, word_put_in};
+ghost use Rattle.proof_text.specs.LineLimits.{IsLine};
+ghost use Rattle.checker.specs.Bench.{group_of, history_of};
+ghost use Rattle.checker.specs.Instance.{History, Instance, Meets};
+ghost use Rattle.term_arena.specs.Arena.{Extends, OfMem, OfWord};
+ghost use Rattle.term_bench.specs.Short.{IsFineShort, IsRightFor};
+ghost use Rattle.term_bench.specs.Terms.{AreTermsPutIn, assertion_terms, fact_terms};
+ghost use Rattle.proof_v2.specs.ShortTerms.{further_terms, line_terms};
+ghost use Rattle.proof_v2.specs.inner.Shortening.{IsShortOf};
+
+use crate::further::{put_further_mems, put_further_registers};
+use checker::Bench;
+use proof_text::{Line, Rule};
+use rv_words::{List, NoMemory};
+use short_text::Short;
+use std::alloc::Global;
+use std::sync::ledger::Ledger;
+use term_arena::{Arena, Steps};
+use term_bench::{put_facts, put_mem_terms, put_side, put_word_terms};
+use triple_kernel::Triple;
+use word_terms::{Sub, copy_code};
+
+/// The short line for which the line is the full one, over a table in which its terms stand from then on.
+pub fn short_line<'g, L: Ledger>(
+    alloc: Global,
+    arena: &mut Arena,
+    bench: &Bench<'g>,
+    line: &Line,
+    steps: &mut Steps<L>,
+) -> Result<Short, NoMemory>
+    requires fits { IsLine (line_tree line.now) }
+    requires instance { Instance (group_of bench.now) (history_of bench.now) (line_tree line.now) }
+    ensures right { IfOk result (λ s. IsRightFor (group_of bench.now) (history_of bench.now) arena.new s (line_tree line.now)) }
+    ensures fine { IfOk result (λ s. IsFineShort arena.new s) }
+    ensures order { IfOk result (λ _. AreTermsPutIn arena.old (line_terms (history_of bench.now) (line_tree line.now)) arena.new) }
+    ensures grows { Extends arena.old arena.new }
+{
+    let short = shortened(alloc, arena, bench, line, steps)?;
+    Ok(short)
+}
+
+/// The line without what can be computed.
+fn shortened<'g, L: Ledger>(
+    alloc: Global,
+    arena: &mut Arena,
+    bench: &Bench<'g>,
+    line: &Line,
+    steps: &mut Steps<L>,
+) -> Result<Short, NoMemory>
+    requires fits { IsLine (line_tree line.now) }
+    requires instance { Instance (group_of bench.now) (history_of bench.now) (line_tree line.now) }
+    ensures line { IfOk result (λ s. IsShortOf (history_of bench.now) arena.new s (line_tree line.now)) }
+    ensures order { IfOk result (λ _. AreTermsPutIn arena.old (line_terms (history_of bench.now) (line_tree line.now)) arena.new) }
+    ensures grows { Extends arena.old arena.new }
+{
+    match line {
+        Line::States { rule, stated } => short_rule(alloc, arena, bench, rule, stated, steps),
+        Line::Loop { def, cited } => short_loop(alloc, *def, cited.as_slice()),
+        Line::Forget(k) => Ok(Short::Forget(*k)),
+        Line::Further { .. } => unreachable!(),
+    }
+}
+
+/// .. for a triple that is stated by a rule.
+fn short_rule<'g, L: Ledger>(
+    alloc: Global,
+    arena: &mut Arena,
+    bench: &Bench<'g>,
+    rule: &Rule,
+    stated: &Triple,
+    steps: &mut Steps<L>,
+) -> Result<Short, NoMemory>
+    requires fits { IsLine (States (rule_tree rule.now) (triple_tree stated.now)) }
+    requires meets { Meets (group_of bench.now) (history_of bench.now) (rule_tree rule.now) (triple_tree stated.now) }
+    ensures line { IfOk result (λ s. IsShortOf (history_of bench.now) arena.new s (States (rule_tree rule.now) (triple_tree stated.now))) }
+    ensures order { IfOk result (λ _. AreTermsPutIn arena.old (line_terms (history_of bench.now) (States (rule_tree rule.now) (triple_tree stated.now))) arena.new) }
+    ensures grows { Extends arena.old arena.new }
+{
+    match rule {
+        Rule::Axiom(address, word, form) => Ok(Short::Axiom(*address, *word, *form)),
+        Rule::Inst(p, sub) => short_inst(alloc, arena, *p, sub, steps),
+        Rule::Frame(p) => short_frame(alloc, arena, bench, *p, stated, steps),
+        Rule::ExtendCode(p) => short_extension(alloc, *p, stated),
+        Rule::Compose(p, q) => Ok(Short::Compose(*p, *q)),
+        Rule::Strengthen(p) => short_strengthened(alloc, arena, *p, stated, steps),
+        Rule::Weaken(p) => short_weakened(alloc, arena, *p, stated, steps),
+        Rule::Discharge(p) => short_discharged(alloc, arena, *p, stated, steps),
+        Rule::UseExit(def, exit) => Ok(Short::UseExit(*def, *exit)),
+    }
+}
+
+/// .. for a triple with terms put in for variables.
+fn short_inst<L: Ledger>(
+    alloc: Global,
+    arena: &mut Arena,
+    p: u64,
+    sub: &Sub,
+    steps: &mut Steps<L>,
+) -> Result<Short, NoMemory>
+    ensures line { IfOk result (λ s. (h : History) (t : TripleTree) → IsLine (States (Inst p (map word_put_in sub.now.words) (map mem_put_in sub.now.mems)) t)
+        → IsShortOf h arena.new s (States (Inst p (map word_put_in sub.now.words) (map mem_put_in sub.now.mems)) t)) }
+    ensures order { IfOk result (λ _. AreTermsPutIn arena.old (map (λ x. OfWord x.1) (map word_put_in sub.now.words) ++ map (λ x. OfMem x.1) (map mem_put_in sub.now.mems)) arena.new) }
+    ensures grows { Extends arena.old arena.new }
+{
+    let words = put_word_terms(alloc, arena, sub.words.as_slice(), steps)?;
+    let mems = put_mem_terms(alloc, arena, sub.mems.as_slice(), steps)?;
+    Ok(Short::Inst(p, words, mems))
+}
+
+/// .. for a triple that is stated from a theorem with further registers and memories.
+fn short_frame<'g, L: Ledger>(
+    alloc: Global,
+    arena: &mut Arena,
+    bench: &Bench<'g>,
+    p: u64,
+    stated: &Triple,
+    steps: &mut Steps<L>,
+) -> Result<Short, NoMemory>
+    requires { Meets (group_of bench.now) (history_of bench.now) (Frame p) (triple_tree stated.now) }
+    ensures line { IfOk result (λ s. IsLine (States (Frame p) (triple_tree stated.now)) → IsShortOf (history_of bench.now) arena.new s (States (Frame p) (triple_tree stated.now))) }
+    ensures order { IfOk result (λ _. AreTermsPutIn arena.old (line_terms (history_of bench.now) (States (Frame p) (triple_tree stated.now))) arena.new) }
+    ensures grows { Extends arena.old arena.new }
+{
+    let held = bench.theorem(alloc, p)?;
+    match held {
+        Some(theorem) => short_further(alloc, arena, p, theorem.triple(), stated, steps),
+        None => unreachable!(),
+    }
+}
+
+/// .. for one with further registers and memories than the triple of theorem p.
+fn short_further<L: Ledger>(
+    alloc: Global,
+    arena: &mut Arena,
+    p: u64,
+    own: &Triple,
+    stated: &Triple,
+    steps: &mut Steps<L>,
+) -> Result<Short, NoMemory>
+    ensures line { IfOk result (λ s. (h : History) → h.theorem p ≡ Just (triple_tree own.now) → IsLine (States (Frame p) (triple_tree stated.now)) → IsShortOf h arena.new s (States (Frame p) (triple_tree stated.now))) }
+    ensures order { IfOk result (λ _. AreTermsPutIn arena.old (further_terms (triple_tree own.now) (triple_tree stated.now)) arena.new) }
+    ensures grows { Extends arena.old arena.new }
+{
+    let regs = put_further_registers(
+        alloc,
+        arena,
+        own.pre.regs.as_slice(),
+        stated.pre.regs.as_slice(),
+        steps,
+    )?;
+    let mems = put_further_mems(
+        alloc,
+        arena,
+        own.pre.mems.as_slice(),
+        stated.pre.mems.as_slice(),
+        steps,
+    )?;
+    Ok(Short::Frame(p, regs, mems))
+}
+
+/// .. for a triple over further code.
+fn short_extension(alloc: Global, p: u64, stated: &Triple) -> Result<Short, NoMemory>
+    ensures { IfOk result (λ s. (h : History) (ns : Items Node) → IsLine (States (ExtendCode p) (triple_tree stated.now)) → IsShortOf h ns s (States (ExtendCode p) (triple_tree stated.now))) }
+{
+    let code = copy_code(alloc, &stated.code)?;
+    Ok(Short::ExtendCode(p, code))
+}
+
+/// .. for a triple with other facts and another precondition.
+fn short_strengthened<L: Ledger>(
+    alloc: Global,
+    arena: &mut Arena,
+    p: u64,
+    stated: &Triple,
+    steps: &mut Steps<L>,
+) -> Result<Short, NoMemory>
+    ensures line { IfOk result (λ s. (h : History) → IsLine (States (Strengthen p) (triple_tree stated.now)) → IsShortOf h arena.new s (States (Strengthen p) (triple_tree stated.now))) }
+    ensures order { IfOk result (λ _. AreTermsPutIn arena.old (flat_map fact_terms (triple_tree stated.now).facts ++ assertion_terms (triple_tree stated.now).pre) arena.new) }
+    ensures grows { Extends arena.old arena.new }
+{
+    let facts = put_facts(alloc, arena, stated.facts.as_slice(), steps)?;
+    let pre = put_side(alloc, arena, &stated.pre, steps)?;
+    Ok(Short::Strengthen(p, facts, pre))
+}
+
+/// .. for a triple with other facts and another postcondition.
+fn short_weakened<L: Ledger>(
+    alloc: Global,
+    arena: &mut Arena,
+    p: u64,
+    stated: &Triple,
+    steps: &mut Steps<L>,
+) -> Result<Short, NoMemory>
+    ensures line { IfOk result (λ s. (h : History) → IsLine (States (Weaken p) (triple_tree stated.now)) → IsShortOf h arena.new s (States (Weaken p) (triple_tree stated.now))) }
+    ensures order { IfOk result (λ _. AreTermsPutIn arena.old (flat_map fact_terms (triple_tree stated.now).facts ++ assertion_terms (triple_tree stated.now).post) arena.new) }
+    ensures grows { Extends arena.old arena.new }
+{
+    let facts = put_facts(alloc, arena, stated.facts.as_slice(), steps)?;
+    let post = put_side(alloc, arena, &stated.post, steps)?;
+    Ok(Short::Weaken(p, facts, post))
+}
+
+/// .. for a triple with other facts.
+fn short_discharged<L: Ledger>(
+    alloc: Global,
+    arena: &mut Arena,
+    p: u64,
+    stated: &Triple,
+    steps: &mut Steps<L>,
+) -> Result<Short, NoMemory>
+    ensures line { IfOk result (λ s. (h : History) → IsLine (States (Discharge p) (triple_tree stated.now)) → IsShortOf h arena.new s (States (Discharge p) (triple_tree stated.now))) }
+    ensures order { IfOk result (λ _. AreTermsPutIn arena.old (flat_map fact_terms (triple_tree stated.now).facts) arena.new) }
+    ensures grows { Extends arena.old arena.new }
+{
+    let facts = put_facts(alloc, arena, stated.facts.as_slice(), steps)?;
+    Ok(Short::Discharge(p, facts))
+}
+
+/// .. for the end of a definition.
+fn short_loop(alloc: Global, def: u32, cited: &[u64]) -> Result<Short, NoMemory>
+    ensures { IfOk result (λ s. s ≡ Short.Loop def cited.now) }
+{
+    let copies = copy_numbers(alloc, cited)?;
+    Ok(Short::Loop(def, copies))
+}
+
+/// The same numbers in memory of their own.
+fn copy_numbers(alloc: Global, numbers: &[u64]) -> Result<List<u64>, NoMemory>
+    ensures { IfOk result (λ copies. copies ≡ numbers.now) }
+{
+    let mut copies = List::new(alloc);
+    for number in numbers {
+        copies.push(*number)?;
+    }
+    Ok(copies)
+}
