@@ -1,2 +1,2 @@
 pub mod NamedVersions
-pub mod HeldVersions
+pub mod JudgedVersions
