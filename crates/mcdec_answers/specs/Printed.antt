@@ -40,6 +40,8 @@ use Rattle.mcdec_answers.specs.declared.answer.LawsAnswer.{LawsAnswer}
 use Rattle.mcdec_answers.specs.declared.answer.LawsAnswer.TheVariants as laws
 use Rattle.mcdec_answers.specs.declared.answer.SmtAnswer.{SmtAnswer}
 use Rattle.mcdec_answers.specs.declared.answer.SmtAnswer.TheVariants as smt
+use Rattle.mcdec_answers.specs.declared.answer.MigrateAnswer.{MigrateAnswer}
+use Rattle.mcdec_answers.specs.declared.answer.MigrateAnswer.TheVariants as migrate
 use Rattle.mcdec_answers.specs.declared.answer.Shown.{Shown}
 use Rattle.mc_text.specs.Number.{hex}
 
@@ -206,6 +208,13 @@ smt_printed smt.NoDef = (1, codes "refused no def\n")
 smt_printed (smt.Loop def) = (1, codes "refused loop " ++ decimal def ++ codes "\n")
 smt_printed (smt.Exported def) = (0, codes "exported " ++ decimal def ++ codes "\n")
 
+-- the status and the lines of what `migrate` comes to
+abbrev pub migrate_printed : MigrateAnswer → ℕ × List ℕ
+migrate_printed migrate.ElfOverLimit = (7, codes "over limit elf\n")
+migrate_printed migrate.ProofOverLimit = (7, codes "over limit proof\n")
+migrate_printed (migrate.Refused v) = verdict_printed v
+migrate_printed (migrate.Migrated functions lines) = (0, codes "migrated " ++ decimal functions ++ codes " " ++ decimal lines ++ codes "\n")
+
 -- the status and the lines of each answer
 abbrev pub printed : Answer → ℕ × List ℕ
 printed answer.NotACommand = (2, codes "not a command\n")
@@ -220,6 +229,7 @@ printed (answer.SelfTest a) = (0, self_test_line a)
 printed (answer.Simplify a) = simplify_printed a
 printed (answer.Laws a) = laws_printed a
 printed (answer.Smt a) = smt_printed a
+printed (answer.Migrate a) = migrate_printed a
 
 abbrev pub status : Answer → ℕ
 status a = (printed a).0

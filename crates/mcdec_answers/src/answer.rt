@@ -35,6 +35,8 @@ pub enum Answer {
     Laws(LawsAnswer),
     /// What the command `smt` comes to.
     Smt(SmtAnswer),
+    /// What the command `migrate` comes to.
+    Migrate(MigrateAnswer),
 }
 
 /// What the command `eval` comes to.
@@ -174,6 +176,19 @@ pub enum SmtAnswer {
     Loop(u32),
     /// A script was written for this definition.
     Exported(u32),
+}
+
+/// What the command `migrate` comes to.
+#[derive(Clone, Copy, Debug)]
+pub enum MigrateAnswer {
+    /// The ELF file has more bytes than are read.
+    ElfOverLimit,
+    /// The proof file has more bytes than are read.
+    ProofOverLimit,
+    /// The verdict that refuses the two. It is never want of memory.
+    Refused(Verdict),
+    /// A text of version 2 was written, with that many functions and proof lines.
+    Migrated(u64, u64),
 }
 
 /// What is shown of the end of an evaluation or a run.

@@ -5,7 +5,7 @@ mod answer;
 mod print;
 
 pub use answer::{
-    Answer, CheckAnswer, DecompileAnswer, EvalAnswer, LawsAnswer, Listed, RunAnswer,
+    Answer, CheckAnswer, DecompileAnswer, EvalAnswer, LawsAnswer, Listed, MigrateAnswer, RunAnswer,
     SelfTestAnswer, Shown, SimplifyAnswer, SmtAnswer,
 };
 pub use print::deliver;

@@ -1,7 +1,7 @@
 //! Printing an answer into a sink, piece by piece. It takes no memory.
 
 ghost use Rattle.std.specs.Prelude.{◌≡◌, ◌⊎◌, ◌≤◌, flat_map, max, min, codes, ◌++◌};
-ghost use Rattle.mcdec_answers.specs.Printed.{check_printed, count_lines, decompile_printed, done_word, eval_printed, fault_words, laws_printed, link_words, listed_line, memory_lines, name_words, outside_words, printed, range_line, register_line, register_lines, run_printed, self_test_line, shown_lines, simplify_printed, smt_printed, status, stuck_words, verdict_printed, IsDelivered};
+ghost use Rattle.mcdec_answers.specs.Printed.{check_printed, count_lines, decompile_printed, done_word, eval_printed, fault_words, laws_printed, link_words, listed_line, memory_lines, migrate_printed, name_words, outside_words, printed, range_line, register_line, register_lines, run_printed, self_test_line, shown_lines, simplify_printed, smt_printed, status, stuck_words, verdict_printed, IsDelivered};
 ghost use Rattle.std.specs.Fmt.{decimal};
 ghost use Rattle.hex.specs.Hex.{encode_lower};
 ghost use Rattle.loop_forest.specs.Cycles.{last_of};
@@ -10,7 +10,7 @@ ghost use Rattle.mc_text.specs.Number.{hex};
 ghost use Rattle.mcdec_answers.specs.inner.Printing.{Prints, PrintsAnswer, piece_text, pieces_text};
 
 use crate::answer::{
-    Answer, CheckAnswer, DecompileAnswer, EvalAnswer, LawsAnswer, Listed, RunAnswer,
+    Answer, CheckAnswer, DecompileAnswer, EvalAnswer, LawsAnswer, Listed, MigrateAnswer, RunAnswer,
     SelfTestAnswer, Shown, SimplifyAnswer, SmtAnswer,
 };
 use call_graph::LinkWhy;
@@ -109,6 +109,7 @@ fn put_answer<O: Sink>(out: &mut O, answer: &Answer) -> Result<u8, Stop>
         Answer::Simplify(a) => put_simplify(out, a),
         Answer::Laws(a) => put_laws(out, a),
         Answer::Smt(a) => put_smt(out, a),
+        Answer::Migrate(a) => put_migrate(out, a),
     }
 }
 
@@ -220,6 +221,19 @@ fn put_smt<O: Sink>(out: &mut O, answer: &SmtAnswer) -> Result<u8, Stop>
         SmtAnswer::NoDef => put_text(out, b"refused no def\n").and(Ok(1)),
         SmtAnswer::Loop(def) => put_numbered(out, b"refused loop ", u64::from(*def)).and(Ok(1)),
         SmtAnswer::Exported(def) => put_numbered(out, b"exported ", u64::from(*def)).and(Ok(0)),
+    }
+}
+
+fn put_migrate<O: Sink>(out: &mut O, answer: &MigrateAnswer) -> Result<u8, Stop>
+    ensures { PrintsAnswer result (migrate_printed answer.now) (O.written out.old) (O.written out.new) (O.faults out.old) (O.faults out.new) }
+{
+    match answer {
+        MigrateAnswer::ElfOverLimit => put_text(out, b"over limit elf\n").and(Ok(7)),
+        MigrateAnswer::ProofOverLimit => put_text(out, b"over limit proof\n").and(Ok(7)),
+        MigrateAnswer::Refused(verdict) => put_verdict(out, verdict),
+        MigrateAnswer::Migrated(functions, lines) => put_migrated(out, *functions, *lines).and(Ok(
+            0,
+        )),
     }
 }
 
@@ -425,6 +439,21 @@ fn put_accepted<O: Sink>(out: &mut O, functions: u64, lines: u64) -> Result<(), 
         out,
         &[
             Piece::Text(b"accepted "),
+            Piece::Decimal(functions),
+            Piece::Text(b" "),
+            Piece::Decimal(lines),
+            Piece::Text(b"\n"),
+        ],
+    )
+}
+
+fn put_migrated<O: Sink>(out: &mut O, functions: u64, lines: u64) -> Result<(), Stop>
+    ensures { Prints result (codes "migrated " ++ decimal functions ++ codes " " ++ decimal lines ++ codes "\n") (O.written out.old) (O.written out.new) (O.faults out.old) (O.faults out.new) }
+{
+    put_all(
+        out,
+        &[
+            Piece::Text(b"migrated "),
             Piece::Decimal(functions),
             Piece::Text(b" "),
             Piece::Decimal(lines),

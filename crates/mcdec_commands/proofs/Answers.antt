@@ -16,9 +16,10 @@ use Rattle.tailrec_lang.specs.Registers.{AreRegistersFrom}
 use Rattle.group_text.specs.declared.version.Version.{Version as Known}
 use Rattle.group_text.specs.declared.version.Version.TheVariants.{One, Two, Three, Four}
 use Rattle.group_text.specs.Version.{version_of}
-use Rattle.proof_text.specs.Line.{ProofTree}
-use Rattle.proof_text.specs.Proofs.{AreProofsIn, groups_of}
-use Rattle.text_versions.specs.Versions.{named_version}
+use Rattle.proof_text.specs.LineGrammar.{AreProofsOver}
+use Rattle.proof_text.specs.Proofs.{groups_of}
+use Rattle.proof_v2.specs.AnyText.{AnyProof, any_lines}
+use Rattle.proof_v2.specs.Titles.{named_version}
 use Rattle.mcdec_answers.specs.declared.answer.EvalAnswer.{EvalAnswer}
 use Rattle.mcdec_answers.specs.declared.answer.EvalAnswer.TheVariants as answer
 use Rattle.mcdec_words.specs.Command.{Eval, Run, Arg, Given, Words, value_of, givens, ranges}
@@ -111,15 +112,15 @@ all-first F name (x ∷ gs) g e h = here (bytes_eq x.name name) e (λ k. all-fir
     here false e behind = behind e
 
 -- the groups of proofs that have a text
-groups-fit : (k : Known) (ps : List ProofTree) → AreProofsIn (version_of k) ps → AllByRecursion HasText (groups_of ps)
+groups-fit : (k : Known) (ps : List (AnyProof k)) → AreProofsOver (any_lines k) (version_of k) ps → AllByRecursion HasText (groups_of ps)
 groups-fit k [] h = tt
 groups-fit k (p ∷ ps) h = ((k, h.0.group), groups-fit k ps h.1)
 
 pub found-fits : (text name : List ℕ) (g : Group) → Finds text name (Ok g) → HasText (group_tree g) × IsWellFormed (group_tree g) × HasFewNeeds (group_tree g)
 found-fits text name g f =
     let n = f.0 in (
-      all-first HasText name (groups_of n.proofs) (group_tree g) n.first (groups-fit (named_version text) n.proofs n.spelled.fit),
-      all-first IsWellFormed name (groups_of n.proofs) (group_tree g) n.first n.well_formed,
+      all-first HasText name n.groups (group_tree g) n.first (subst (AllByRecursion HasText) (sym n.listed.groups) (groups-fit (named_version text) n.listed.proofs n.listed.spelled.fit)),
+      all-first IsWellFormed name n.groups (group_tree g) n.first n.well_formed,
       f.1,
     )
 

@@ -4,12 +4,14 @@ use Rattle.std.specs.Prelude.{IfSome, IsSomeAnd}
 use Rattle.mc_shelf.specs.Shelf.{Contents, TellsName}
 use Rattle.elf_image.specs.Fault.{fault_of}
 use Rattle.proof_text.specs.inner.PulledRows.{WhereHeld}
+use Rattle.proof_text.proofs.PullLemmas.{told_so}
 use Rattle.checker.specs.Pulled.{IfVerdict, is_outside}
 use Rattle.checker.specs.declared.verdict.Pulled.{Pulled}
 use Rattle.checker.specs.declared.verdict.Pulled.TheVariants as pulled
 use Rattle.checker.specs.declared.verdict.Verdict.{Verdict}
 use Rattle.checker.specs.declared.verdict.Verdict.TheVariants as verdict
 use Rattle.text_versions.specs.Versions.{SaysOf}
+use Rattle.text_versions.proofs.NamedVersions.{named-fault}
 use Rattle.mcdec_answers.specs.declared.answer.CheckAnswer.{CheckAnswer}
 use Rattle.mcdec_answers.specs.declared.answer.CheckAnswer.TheVariants as check
 use Rattle.mcdec_answers.specs.declared.answer.Answer.{Answer}
@@ -68,7 +70,7 @@ module _ (proof file : List ℕ) (size : ℕ) (loaded : IsLoaded file) (short : 
     verdict-gives (verdict.BadDef group def) h = measured-text told (λ (t : List ℕ). SaysOf file t (verdict.BadDef group def)) measured h
     verdict-gives (verdict.BadLine line) h = measured-text told (λ (t : List ℕ). SaysOf file t (verdict.BadLine line)) measured h
     verdict-gives (verdict.NotProved group) h = measured-text told (λ (t : List ℕ). SaysOf file t (verdict.NotProved group)) measured h
-    verdict-gives (verdict.BadElf why) h = measured-file told (fault_of file ≡ Some why) measured h
+    verdict-gives (verdict.BadElf why) h = measured-file told (fault_of file ≡ Some why) measured (told_so told proof _ _ (λ files text is held says. named-fault file (take size text) why says) h)
     verdict-gives verdict.NoMemory h = tt
 
     pub pulled-gives : (p : Pulled) → IfVerdict p (λ v. WhereHeld told proof (λ text. SaysOf file (take size text) v)) → (is_outside p ≡ true → rose) → ImageGives told proof file rose (answer_to p)
@@ -98,6 +100,7 @@ image-gives told ws elf proof file rose wrote later w held since (answer.SelfTes
 image-gives told ws elf proof file rose wrote later w held since (answer.Simplify a) h = absurd h
 image-gives told ws elf proof file rose wrote later w held since (answer.Laws a) h = absurd h
 image-gives told ws elf proof file rose wrote later w held since (answer.Smt a) h = absurd h
+image-gives told ws elf proof file rose wrote later w held since (answer.Migrate a) h = absurd h
 image-gives told ws elf proof file rose wrote later w held since (answer.Eval a) h = absurd h
 image-gives told ws elf proof file rose wrote later w held since (answer.Run a) h = absurd h
 image-gives told ws elf proof file rose wrote later w held since (answer.Check a) h = (elf, proof, w, check-gives told elf proof file a held h)

@@ -19,6 +19,7 @@ use Rattle.mcdec_answers.specs.declared.answer.CheckAnswer.TheVariants as ca
 use Rattle.mcdec_answers.specs.declared.answer.SimplifyAnswer.TheVariants as si
 use Rattle.mcdec_answers.specs.declared.answer.LawsAnswer.TheVariants as la
 use Rattle.mcdec_answers.specs.declared.answer.SmtAnswer.TheVariants as sm
+use Rattle.mcdec_answers.specs.declared.answer.MigrateAnswer.TheVariants as mi
 use Rattle.mcdec_answers.specs.declared.answer.Listed.{Listed}
 use Rattle.mcdec_words.specs.Command.{Command, Decompile, Words, output_of}
 use Rattle.mcdec_commands.specs.RunAnswer.{IsLoaded}
@@ -50,6 +51,7 @@ file-gives told ws form elf out names file rose wrote w held (answer.SelfTest a)
 file-gives told ws form elf out names file rose wrote w held (answer.Simplify a) since h = absurd h
 file-gives told ws form elf out names file rose wrote w held (answer.Laws a) since h = absurd h
 file-gives told ws form elf out names file rose wrote w held (answer.Smt a) since h = absurd h
+file-gives told ws form elf out names file rose wrote w held (answer.Migrate a) since h = absurd h
 file-gives told ws form elf out names file rose wrote w held (answer.Decompile a) since h = (form, elf, out, names, w, held-with told elf file (λ f. DecompileGives form f names a) held h)
 
 -- ---- the text that is written
@@ -145,3 +147,13 @@ no-write-fault told ws rose wrote c w none (answer.Smt sm.NoFunction) h e = omeg
 no-write-fault told ws rose wrote c w none (answer.Smt sm.NoDef) h e = omega (arith, e)
 no-write-fault told ws rose wrote c w none (answer.Smt (sm.Loop n)) h e = omega (arith, e)
 no-write-fault told ws rose wrote c w none (answer.Smt (sm.Exported n)) h e = omega (arith, e)
+no-write-fault told ws rose wrote c w none (answer.Migrate mi.ElfOverLimit) h e = omega (arith, e)
+no-write-fault told ws rose wrote c w none (answer.Migrate mi.ProofOverLimit) h e = omega (arith, e)
+no-write-fault told ws rose wrote c w none (answer.Migrate (mi.Refused (ve.Accepted n m))) h e = omega (arith, e)
+no-write-fault told ws rose wrote c w none (answer.Migrate (mi.Refused (ve.BadElf why))) h e = omega (arith, e)
+no-write-fault told ws rose wrote c w none (answer.Migrate (mi.Refused (ve.BadText n))) h e = omega (arith, e)
+no-write-fault told ws rose wrote c w none (answer.Migrate (mi.Refused (ve.BadDef n d))) h e = omega (arith, e)
+no-write-fault told ws rose wrote c w none (answer.Migrate (mi.Refused (ve.BadLine n))) h e = omega (arith, e)
+no-write-fault told ws rose wrote c w none (answer.Migrate (mi.Refused (ve.NotProved n))) h e = omega (arith, e)
+no-write-fault told ws rose wrote c w none (answer.Migrate (mi.Refused ve.NoMemory)) h e = omega (arith, e)
+no-write-fault told ws rose wrote c w none (answer.Migrate (mi.Migrated n m)) h e = omega (arith, e)

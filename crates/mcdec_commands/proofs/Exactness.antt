@@ -7,11 +7,12 @@ use Rattle.mc_text.specs.Fault.{Grammar, InGrammar, IsBadAt}
 use Rattle.tailrec_lang.specs.Tree.{DefTree, GroupTree, listed_def}
 use Rattle.tailrec_lang.specs.WellFormed.{IsWellFormed, IsFirstIllFormed}
 use Rattle.tailrec_lang.specs.Eval.{Done, SideFalse, Turns, NoOutcome, Outcome, eval}
-use Rattle.proof_text.specs.Line.{ProofTree}
-use Rattle.proof_text.specs.Proofs.{bare, groups_of, texts_of_proofs_in}
 use Rattle.path_walk.specs.Further.{further_of}
-use Rattle.text_versions.specs.Versions.{SaysOf, named_version, version_for}
-use Rattle.text_versions.proofs.NamedVersions.{accepted-named}
+use Rattle.proof_v2.specs.AnyText.{any_texts}
+use Rattle.proof_v2.specs.Titles.{named_version}
+use Rattle.proof_v2.proofs.AnyVerdicts.{accepted-lists}
+use Rattle.text_versions.specs.Versions.{IsTextListing, SaysOf}
+use Rattle.text_versions.proofs.NamedVersions.{accepted-named, named-comes}
 use Rattle.mcdec_answers.specs.declared.answer.Answer.{Answer}
 use Rattle.mcdec_answers.specs.declared.answer.Answer.TheVariants as answer
 use Rattle.mcdec_answers.specs.declared.answer.EvalAnswer.{EvalAnswer}
@@ -20,11 +21,9 @@ use Rattle.mcdec_answers.specs.declared.answer.RunAnswer.{RunAnswer}
 use Rattle.mcdec_answers.specs.declared.answer.RunAnswer.TheVariants as ra
 use Rattle.checker.specs.declared.verdict.Verdict.{Verdict}
 use Rattle.checker.specs.declared.verdict.Verdict.TheVariants as verdict
-use Rattle.checker.proofs.OneVerdict.{verdict-once}
 use Rattle.mcdec_answers.specs.declared.answer.CheckAnswer.{CheckAnswer}
 use Rattle.mcdec_answers.specs.declared.answer.CheckAnswer.TheVariants as ca
 use Rattle.mcdec_commands.specs.CheckAnswer.{CheckGives, AreRightFiles}
-use Rattle.mcdec_commands.specs.Listed.{without_proofs}
 use Rattle.path_walk.specs.declared.item.Item.{Item}
 use Rattle.mcdec_words.specs.declared.command.Form.{Form}
 use Rattle.call_graph.specs.declared.fault.LinkWhy.{LinkWhy}
@@ -38,9 +37,9 @@ use Rattle.mcdec_answers.specs.declared.answer.LawsAnswer.{LawsAnswer}
 use Rattle.mcdec_answers.specs.declared.answer.LawsAnswer.TheVariants as la
 use Rattle.mcdec_answers.specs.declared.answer.SmtAnswer.{SmtAnswer}
 use Rattle.mcdec_answers.specs.declared.answer.SmtAnswer.TheVariants as sm
+use Rattle.mcdec_answers.specs.declared.answer.MigrateAnswer.{MigrateAnswer}
 use Rattle.smt_export.specs.Reach.{IsLeastLoop}
 use Rattle.mcdec_commands.specs.SmtAnswer.{IsLoopFree, SmtGives}
-use Rattle.checker.specs.Verdicts.{IsTextOfIn}
 use Rattle.def_laws.specs.Rewriting.{AreRewritingSteps}
 use Rattle.def_laws.specs.Certs.{IsFirstBad}
 use Rattle.def_laws.proofs.OneResult.{no_result, one_first_bad, one_result}
@@ -51,7 +50,7 @@ use Rattle.mcdec_commands.specs.Held.{HoldsWith}
 use Rattle.mcdec_commands.specs.SimplifyAnswer.{IsRefusal, SimplifyGives}
 use Rattle.mcdec_commands.specs.LawsAnswer.{IsCertText, LawsGives, TextsGive, cert_limit, step_line}
 use Rattle.mcdec_words.specs.CommandReading.{operands_of}
-use Rattle.mcdec_words.specs.Command.{Command, Eval, Run, Check, Decompile, SelfTest, Simplify, Laws, Smt, Arg, Words, IsNoCommand}
+use Rattle.mcdec_words.specs.Command.{Command, Eval, Run, Check, Decompile, SelfTest, Simplify, Laws, Smt, Migrate, Arg, Words, IsNoCommand}
 use Rattle.elf_image.specs.declared.fault.ElfFault.{ElfFault}
 use Rattle.elf_image.specs.Fault.{IsReadable, fault_of}
 use Rattle.elf_image.specs.declared.symbol.NameFault.{NameFault}
@@ -69,13 +68,11 @@ use Rattle.mcdec_answers.specs.Printed.{IsPrinted, IsDelivered, status}
 use Rattle.mcdec_words.proofs.OneCommand.{words-unique}
 use Rattle.mcdec_words.proofs.CommandNames.{name_of, named-words, not-a-form, other-name}
 use Rattle.mc_text.proofs.FaultOnce.{bad-once}
-use Rattle.proof_text.proofs.Fronts.{fronts, text-front}
-use Rattle.proof_text.proofs.ProofTexts.{proofs-once}
-use Rattle.proof_text.proofs.WholeLaws.{lines_known}
-use Rattle.mcdec_commands.proofs.Groups.{groups-front, groups-more}
+use Rattle.mcdec_commands.proofs.Groups.{begins-alike, listed-front, listed-once}
 use Rattle.mcdec_commands.proofs.Listed.{groups-fit, groups-left}
+use Rattle.mcdec_commands.proofs.OneFile.{none_fault, over, some_fault, some_file}
+use Rattle.mcdec_commands.proofs.OneMigration.{MigrateCase, migrate-case, migrate-unique}
 use Rattle.mcdec_commands.proofs.OneListing.{all-told-once, err_is, none-refused, ok_err, ok_is, refused-once, stands-once}
-use Rattle.std.proofs.lemmas.List.{length-map}
 use Rattle.std.proofs.lemmas.Bool.{cases_order}
 
 -- ---- groups
@@ -153,13 +150,6 @@ same-last (y ∷ gs) (x ∷ hs) more g h e c first well =
     let r = same-last gs hs more g h rest c first well.1 in
     (omega (arith, r.0), r.1)
 
--- the groups of proofs that begin alike
-begin-alike : (ps qs : List ProofTree) (g h : GroupTree) (more : List GroupTree) → groups_of (ps ++ bare g ∷ []) ≡ groups_of (qs ++ bare h ∷ []) ++ more → groups_of ps ++ g ∷ [] ≡ (groups_of qs ++ h ∷ []) ++ more
-begin-alike ps qs g h more e = sym (groups-more ps (bare g)) ∙ e ∙ ap (λ (gs : List GroupTree). gs ++ more) (groups-more qs (bare h))
-
-as-many : (ps : List ProofTree) → length (groups_of ps) ≡ length ps
-as-many ps = length-map ps (λ (p : ProofTree). p.group)
-
 -- a text of a grammar isn't bad at a line
 not-bad : {X : Type 0} (g : Grammar X) (p : List ℕ) (n : ℕ) → IsBadAt g p n → InGrammar g p → ⊥
 not-bad g p zero h k = absurd h
@@ -167,8 +157,8 @@ not-bad g p (suc n) h k = h.0 k
 
 -- what is so of the first group of a name, if there is one
 named-case : (p name : List ℕ) (found : Option GroupTree) (F : Option GroupTree → Type 0) → IsNamed p name found → F found
-    → (ps : List ProofTree) × IsTextOfIn (version_for p) p ps × AreWellFormed (groups_of ps) × F (first_named name (groups_of ps))
-named-case p name found F n h = (n.proofs, n.spelled, n.well_formed, subst F (sym n.first) h)
+    → (gs : List GroupTree) × IsTextListing p gs × AreWellFormed gs × F (first_named name gs)
+named-case p name found F n h = (n.groups, n.listed, n.well_formed, subst F (sym n.first) h)
 
 -- Answers of any kind to a text: a bad line, a definition that isn't well-formed, or what is said of its groups.
 abbrev BadText : {A : Type 0} → (ℕ → A) → List ℕ → A → Type 0
@@ -178,7 +168,7 @@ abbrev BadDef : {A : Type 0} → (ℕ → ℕ → A) → List ℕ → A → Type
 BadDef ill_formed p a = (n def : ℕ) × HasBadDef p n def × (a ≡ ill_formed n def)
 
 abbrev GoodText : {A : Type 0} → (List GroupTree → A → Type 0) → List ℕ → A → Type 0
-GoodText Says p a = (ps : List ProofTree) × IsTextOfIn (version_for p) p ps × AreWellFormed (groups_of ps) × Says (groups_of ps) a
+GoodText Says p a = (gs : List GroupTree) × IsTextListing p gs × AreWellFormed gs × Says gs a
 
 abbrev TextCase : {A : Type 0} → (ℕ → A) → (ℕ → ℕ → A) → (List GroupTree → A → Type 0) → List ℕ → A → Type 0
 TextCase unreadable ill_formed Says p a = BadText unreadable p a ⊎ (BadDef ill_formed p a ⊎ GoodText Says p a)
@@ -187,36 +177,30 @@ TextCase unreadable ill_formed Says p a = BadText unreadable p a ⊎ (BadDef ill
 module _ {A : Type 0} (unreadable : ℕ → A) (ill_formed : ℕ → ℕ → A) (Says : List GroupTree → A → Type 0) (Once : A → Type 0)
     (says-once : (gs : List GroupTree) (a b : A) → Once b → Says gs a → Says gs b → a ≡ b) where
   bad-texts : (p : List ℕ) (a b : A) → BadText unreadable p a → BadText unreadable p b → a ≡ b
-  bad-texts p a b (n, h, is) (m, k, this) = is ∙ ap unreadable (bad-once (texts_of_proofs_in (version_for p)) p n m h.0 k.0) ∙ sym this
+  bad-texts p a b (n, h, is) (m, k, this) = is ∙ ap unreadable (bad-once (any_texts (named_version p)) p n m h.0 k.0) ∙ sym this
 
   bad-defs : (p : List ℕ) (a b : A) → BadDef ill_formed p a → BadDef ill_formed p b → a ≡ b
-  bad-defs p a b (n, c, (ps, g, read, well, count, first), is) (m, d, (qs, h, read', well', count', first'), is') =
-      elim (fronts (lines_known (named_version p)) p (ps ++ bare g ∷ []) (qs ++ bare h ∷ []) read read') [
-        | inl m ↦
-            let f = groups-front (ps ++ bare g ∷ []) (qs ++ bare h ∷ []) m in
-            let r = same-last (groups_of qs) (groups_of ps) f.0 h g (begin-alike ps qs g h f.0 f.1) d first' well in
-            same (sym r.0, sym r.1)
-        | inr m ↦
-            let f = groups-front (qs ++ bare h ∷ []) (ps ++ bare g ∷ []) m in
-            same (same-last (groups_of ps) (groups_of qs) f.0 g h (begin-alike qs ps h g f.0 f.1) c first well')
+  bad-defs p a b (n, c, (gs, g, read, well, count, first), is) (m, d, (hs, h, read', well', count', first'), is') =
+      elim (begins-alike (named_version p) p (gs ++ g ∷ []) (hs ++ h ∷ []) read read') [
+        | inl f ↦ let r = same-last hs gs f.0 h g f.1 d first' well in same (sym r.0, sym r.1)
+        | inr f ↦ same (same-last gs hs f.0 g h f.1 c first well')
       ]
     where
-      same : (length (groups_of ps) ≡ length (groups_of qs)) × (g ≡ h) → a ≡ b
+      same : (length gs ≡ length hs) × (g ≡ h) → a ≡ b
       same r =
-          let number : n ≡ m = count ∙ sym (as-many ps) ∙ r.0 ∙ as-many qs ∙ sym count' in
+          let number : n ≡ m = count ∙ r.0 ∙ sym count' in
           is ∙ (λ i. ill_formed (number i) (first-def h c d (subst (λ (x : GroupTree). IsFirstIllFormed x c) r.1 first) first' i)) ∙ sym is'
 
   bad-or-def : (p : List ℕ) (a b : A) → BadText unreadable p a → BadDef ill_formed p b → ⊥
-  bad-or-def p a b (m, h, this) (n, c, (ps, g, read, well, count, first), is) =
-      ill g c first (last-of IsWellFormed (groups_of ps) g (subst AreWellFormed (groups-more ps (bare g)) (h.1 (ps ++ bare g ∷ []) read)))
+  bad-or-def p a b (m, h, this) (n, c, (gs, g, read, well, count, first), is) = ill g c first (last-of IsWellFormed gs g (h.1 (gs ++ g ∷ []) read))
 
   def-or-good : (p : List ℕ) (a b : A) → BadDef ill_formed p a → GoodText Says p b → ⊥
-  def-or-good p a b (n, c, (ps, g, read, well, count, first), is) (qs, text, fine, said) =
-      let f = groups-front qs (ps ++ bare g ∷ []) (text-front (lines_known (named_version p)) p qs (ps ++ bare g ∷ []) text.fit text.spelled read) in
-      not-front (groups_of ps) g c f.0 (groups_of qs) first (f.1 ∙ ap (λ (gs : List GroupTree). gs ++ f.0) (groups-more ps (bare g))) fine
+  def-or-good p a b (n, c, (gs, g, read, well, count, first), is) (hs, text, fine, said) =
+      let f = listed-front (named_version p) p hs (gs ++ g ∷ []) text read in
+      not-front gs g c f.0 hs first f.1 fine
 
   bad-or-good : (p : List ℕ) (a b : A) → BadText unreadable p a → GoodText Says p b → ⊥
-  bad-or-good p a b (n, h, is) (qs, text, fine, said) = not-bad (texts_of_proofs_in (version_for p)) p n h.0 (qs, text.fit, text.spelled)
+  bad-or-good p a b (n, h, is) (gs, text, fine, said) = not-bad (any_texts (named_version p)) p n h.0 (text.proofs, text.spelled.fit, text.spelled.spelled)
 
   text-once : (p : List ℕ) (a b : A) → Once b → TextCase unreadable ill_formed Says p a → TextCase unreadable ill_formed Says p b → a ≡ b
   text-once p a b once (inl h) (inl k) = bad-texts p a b h k
@@ -227,9 +211,8 @@ module _ {A : Type 0} (unreadable : ℕ → A) (ill_formed : ℕ → ℕ → A) 
   text-once p a b once (inr (inl h)) (inr (inr k)) = absurd (def-or-good p a b h k)
   text-once p a b once (inr (inr h)) (inl k) = absurd (bad-or-good p b a k h)
   text-once p a b once (inr (inr h)) (inr (inl k)) = absurd (def-or-good p b a k h)
-  text-once p a b once (inr (inr (ps, text, fine, said))) (inr (inr (qs, other, well, says))) =
-      let same : ps ≡ qs = proofs-once (lines_known (named_version p)) ps qs text.fit other.fit (sym text.spelled ∙ other.spelled) in
-      says-once (groups_of qs) a b once (subst (λ (xs : List ProofTree). Says (groups_of xs) a) same said) says
+  text-once p a b once (inr (inr (gs, text, fine, said))) (inr (inr (hs, other, well, says))) =
+      says-once hs a b once (subst (λ (xs : List GroupTree). Says xs a) (listed-once (named_version p) p gs hs text other) said) says
 
 -- ---- files
 
@@ -258,9 +241,6 @@ file-case p name turns args (ev.SideFalse def ordinal) (small, g, named, e) = in
 file-case p name turns args ev.TurnsUsed (small, g, named, e) = inr (small, good-eval p name turns args (Some g) ev.TurnsUsed named e)
 file-case p name turns args (ev.Done shown) (small, g, named, exit, pc, left, results, e, is) =
     inr (small, good-eval p name turns args (Some g) (ev.Done shown) named (exit, pc, left, results, e, is))
-
-over : (n limit : ℕ) → limit < n → n ≤ limit → ⊥
-over n limit a b = omega arith
 
 file-unique : (p name : List ℕ) (turns : ℕ) (args : List Arg) (a b : EvalAnswer) → FileCase p name turns args a → FileCase p name turns args b → a ≡ b
 file-unique p name turns args a b (inl h) (inl k) = h.1 ∙ sym k.1
@@ -298,12 +278,6 @@ start-unique file start until steps args a b (inr h) (inr k) =
 abbrev ImageCase : List ℕ → List ℕ → ℕ → ℕ → List Arg → RunAnswer → Type 0
 ImageCase file start until steps args a = ((why : ElfFault) × (fault_of file ≡ Some why) × (a ≡ ra.Unreadable why)) ⊎ (IsReadable file × StartCase file start until steps args a)
 
-some_fault : (x y : ElfFault) → Some x ≡ Some y → x ≡ y
-some_fault x y e = cc
-
-none_fault : (x : ElfFault) → None ≡ Some x → ⊥
-none_fault x e = cc
-
 image-unique : (file start : List ℕ) (until steps : ℕ) (args : List Arg) (a b : RunAnswer) → ImageCase file start until steps args a → ImageCase file start until steps args b → a ≡ b
 image-unique file start until steps args a b (inl h) (inl k) = h.2 ∙ ap ra.Unreadable (some_fault h.0 k.0 (sym h.1 ∙ k.1)) ∙ sym k.2
 image-unique file start until steps args a b (inl h) (inr k) = absurd (none_fault h.0 (sym k.0 ∙ h.1))
@@ -327,9 +301,6 @@ run-unique file start until steps args a b (inl h) (inr k) = absurd (over (lengt
 run-unique file start until steps args a b (inr h) (inl k) = absurd (over (length file) elf_limit k.0 h.0)
 run-unique file start until steps args a b (inr h) (inr k) = image-unique file start until steps args a b h.1 k.1
 
-some_file : (x y : List ℕ) → Some x ≡ Some y → x ≡ y
-some_file x y e = cc
-
 -- ---- checks
 
 abbrev VerdictCase : List ℕ → List ℕ → CheckAnswer → Type 0
@@ -343,7 +314,7 @@ judged-unique file text a b (inl h) (inl k) = h.1 ∙ sym k.1
 judged-unique file text a b (inl h) (inr k) = absurd (over (length text) proof_limit h.0 k.0)
 judged-unique file text a b (inr h) (inl k) = absurd (over (length text) proof_limit k.0 h.0)
 judged-unique file text a b (inr (short, (v, some, says, is))) (inr (less, (w, other, said, this))) =
-    is ∙ ap ca.Judged (verdict-once (further_of (named_version text)) (named_version text) file text v w some other says said) ∙ sym this
+    is ∙ ap ca.Judged (elim (named-comes file text v says w said) [ inl same ↦ same | inr never ↦ absurd (elim never [ inl none ↦ other none | inr none ↦ some none ]) ]) ∙ sym this
 
 abbrev TextHeld : Contents → List ℕ → List ℕ → CheckAnswer → Type 0
 TextHeld files proof file a = (text : List ℕ) × (files proof ≡ Some text) × JudgedCase file text a
@@ -645,6 +616,7 @@ CommandGives files (SelfTest number size) a = (x : SelfTestAnswer) × (a ≡ ans
 CommandGives files (Simplify proof name out) a = (x : SimplifyAnswer) × (a ≡ answer.Simplify x) × ((p : List ℕ) × (files proof ≡ Some p) × SimplifyCase p name x)
 CommandGives files (Laws proof cert) a = (x : LawsAnswer) × (a ≡ answer.Laws x) × ((p : List ℕ) × (files proof ≡ Some p) × LawsCase files cert p x)
 CommandGives files (Smt proof name def out) a = (x : SmtAnswer) × (a ≡ answer.Smt x) × ((p : List ℕ) × (files proof ≡ Some p) × SmtCase p name def x)
+CommandGives files (Migrate elf proof out) a = (x : MigrateAnswer) × (a ≡ answer.Migrate x) × ((p : List ℕ) × (files elf ≡ Some p) × MigrateCase files proof p x)
 
 command-unique : (files : Contents) (c : Command) (a b : Answer) → IsDetermined b → CommandGives files c a → CommandGives files c b → a ≡ b
 command-unique files (Eval proof name turns args) a b d (x, ax, (p, held, h)) (y, by, (q, holds, k)) =
@@ -669,6 +641,9 @@ command-unique files (Laws proof cert) a b d (x, ax, (p, held, h)) (y, by, (q, h
 command-unique files (Smt proof name def out) a b d (x, ax, (p, held, h)) (y, by, (q, holds, k)) =
     let same : p ≡ q = some_file p q (sym held ∙ holds) in
     ax ∙ ap answer.Smt (smt-unique q name def x y (subst (λ (r : List ℕ). SmtCase r name def x) same h) k) ∙ sym by
+command-unique files (Migrate elf proof out) a b d (x, ax, (p, held, h)) (y, by, (q, holds, k)) =
+    let same : p ≡ q = some_file p q (sym held ∙ holds) in
+    ax ∙ ap answer.Migrate (migrate-unique files proof q x y (subst (λ (r : List ℕ). MigrateCase files proof r x) same h) k) ∙ sym by
 
 -- ---- answers
 
@@ -689,6 +664,7 @@ IsOfFiles (answer.SelfTest x) = Unit {0}
 IsOfFiles (answer.Simplify x) = Unit {0}
 IsOfFiles (answer.Laws x) = Unit {0}
 IsOfFiles (answer.Smt x) = Unit {0}
+IsOfFiles (answer.Migrate x) = Unit {0}
 
 words-case : (files : Contents) (ws : List (List ℕ)) (rose wrote : Type 0) (a : Answer) → IsOfFiles a → Gives (Some files) ws rose wrote a → WordsCase files ws a
 words-case files ws rose wrote answer.NotACommand d h = inl (h, refl)
@@ -703,6 +679,7 @@ words-case files ws rose wrote (answer.SelfTest x) d (number, size, w, h) = inr 
 words-case files ws rose wrote (answer.Simplify x) d (proof, name, out, w, (file, held, h)) = inr (Simplify proof name out, w, (x, refl, (file, held, simplify-case file name x h)))
 words-case files ws rose wrote (answer.Laws x) d (proof, cert, w, (file, held, h)) = inr (Laws proof cert, w, (x, refl, (file, held, laws-case files cert file x h)))
 words-case files ws rose wrote (answer.Smt x) d (proof, name, def, out, w, (file, held, h)) = inr (Smt proof name def out, w, (x, refl, (file, held, smt-case file name def x h)))
+words-case files ws rose wrote (answer.Migrate x) d (elf, proof, out, w, (file, held, h)) = inr (Migrate elf proof out, w, (x, refl, (file, held, migrate-case files proof file x h)))
 
 determined : (a : Answer) → IsDetermined a → IsOfFiles a
 determined answer.NotACommand d = tt
@@ -717,6 +694,7 @@ determined (answer.SelfTest x) d = absurd d
 determined (answer.Simplify x) d = tt
 determined (answer.Laws x) d = tt
 determined (answer.Smt x) d = tt
+determined (answer.Migrate x) d = tt
 
 case-unique : (files : Contents) (ws : List (List ℕ)) (a b : Answer) → IsDetermined b → WordsCase files ws a → WordsCase files ws b → a ≡ b
 case-unique files ws a b d (inl h) (inl k) = h.1 ∙ sym k.1
@@ -761,6 +739,7 @@ delivered-exact files ws rose wrote (answer.SelfTest x) result old new g h a d k
 delivered-exact files ws rose wrote (answer.Simplify x) result old new g h a d k = comes a (answer.Simplify x) result old new (answer-unique files ws rose wrote (answer.Simplify x) a tt d g k) h
 delivered-exact files ws rose wrote (answer.Laws x) result old new g h a d k = comes a (answer.Laws x) result old new (answer-unique files ws rose wrote (answer.Laws x) a tt d g k) h
 delivered-exact files ws rose wrote (answer.Smt x) result old new g h a d k = comes a (answer.Smt x) result old new (answer-unique files ws rose wrote (answer.Smt x) a tt d g k) h
+delivered-exact files ws rose wrote (answer.Migrate x) result old new g h a d k = comes a (answer.Migrate x) result old new (answer-unique files ws rose wrote (answer.Migrate x) a tt d g k) h
 
 pub exact-given : (told : Option Contents) (ws : List (List ℕ)) (rose wrote : Type 0) (b : Answer) (result : ℕ) (old new : Option (List ℕ))
     → Gives told ws rose wrote b → IsDelivered b result old new
@@ -783,17 +762,19 @@ same-words : (elf proof elf' proof' : List ℕ) → elf ∷ proof ∷ [] ≡ elf
 same-words elf proof elf' proof' e = (cc, cc)
 
 accepted-files : (files : Contents) (elf proof file : List ℕ) (functions lines : ℕ) → files elf ≡ Some file → CheckGives (Some files) proof file (ca.Judged (verdict.Accepted functions lines)) → AreRightFiles files elf proof
-accepted-files files elf proof file functions lines holds (loaded, (text, held, (short, good))) = record {
-  file = file;
-  text = text;
-  holds_file = holds;
-  holds_text = held;
-  version = named_version text;
-  groups = groups_of good.proofs;
-  fit = groups-fit (named_version text) good.proofs good.spelled.fit;
-  listed = ap without_proofs good.spelled.spelled ∙ groups-left (named_version text) good.proofs good.spelled.fit;
-  right = accepted-named file text (verdict.Accepted functions lines) good tt good.proofs good.spelled;
-}
+accepted-files files elf proof file functions lines holds (loaded, (text, held, (short, good))) =
+    let l = accepted-lists (further_of (named_version text)) (named_version text) file text functions lines good in
+    record {
+      file = file;
+      text = text;
+      holds_file = holds;
+      holds_text = held;
+      version = named_version text;
+      groups = l.0;
+      fit = groups-fit (named_version text) text l.0 l.1;
+      listed = groups-left (named_version text) text l.0 l.1;
+      right = accepted-named file text (verdict.Accepted functions lines) good tt l.0 l.1;
+    }
 
 status-zero : (files : Contents) (elf proof file : List ℕ) (a : CheckAnswer) → files elf ≡ Some file → CheckGives (Some files) proof file a → status (answer.Check a) ≡ 0 → AreRightFiles files elf proof
 status-zero files elf proof file ca.ElfOverLimit holds h e = absurd (omega (arith, e))
@@ -821,6 +802,7 @@ answered files ws rose wrote (answer.SelfTest x) elf proof (n, s, v, h) w e = ab
 answered files ws rose wrote (answer.Simplify x) elf proof (p, n, o, v, h) w e = absurd (other-name (codes "simplify") (codes "check") refl (check-words ws (Simplify p n o) elf proof v w).0)
 answered files ws rose wrote (answer.Laws x) elf proof (p, c, v, h) w e = absurd (other-name (codes "laws") (codes "check") refl (check-words ws (Laws p c) elf proof v w).0)
 answered files ws rose wrote (answer.Smt x) elf proof (p, n, d, o, v, h) w e = absurd (other-name (codes "smt") (codes "check") refl (check-words ws (Smt p n d o) elf proof v w).0)
+answered files ws rose wrote (answer.Migrate x) elf proof (f, p, o, v, h) w e = absurd (other-name (codes "migrate") (codes "check") refl (check-words ws (Migrate f p o) elf proof v w).0)
 
 pub headline-given : (told : Option Contents) (ws : List (List ℕ)) (rose wrote : Type 0) (b : Answer) (result : ℕ) (old new : Option (List ℕ))
     → Gives told ws rose wrote b → IsDelivered b result old new

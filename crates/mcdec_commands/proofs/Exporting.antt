@@ -44,6 +44,7 @@ def-gives told ws proof name def out file rose wrote w held (answer.Decompile a)
 def-gives told ws proof name def out file rose wrote w held (answer.SelfTest a) since h = absurd h
 def-gives told ws proof name def out file rose wrote w held (answer.Simplify a) since h = absurd h
 def-gives told ws proof name def out file rose wrote w held (answer.Laws a) since h = absurd h
+def-gives told ws proof name def out file rose wrote w held (answer.Migrate a) since h = absurd h
 def-gives told ws proof name def out file rose wrote w held (answer.Smt a) since h = (proof, name, def, out, w, held-with told proof file (λ f. SmtGives f name def a) held h)
 
 -- ---- a definition of the group

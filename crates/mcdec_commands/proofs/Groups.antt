@@ -1,31 +1,35 @@
 -- What a search through a text's groups has found.
-use Rattle.std.proofs.Common.{◌≡◌, ℕ, Bool, true, false, cond, ◌+◌, ◌^◌, ◌<◌, ◌≤◌, List, [], ◌∷◌, ◌++◌, length, map, Option, Some, None, Result, Ok, Err, refl, sym, ap, subst, ◌∙◌, inl, inr, arith, append_assoc}
+use Rattle.std.proofs.Common.{◌≡◌, ℕ, Bool, true, false, cond, ◌+◌, ◌^◌, ◌<◌, ◌≤◌, List, [], ◌∷◌, ◌++◌, length, map, Option, Some, None, Result, Ok, Err, refl, sym, ap, subst, ◌∙◌, ◌⊎◌, inl, inr, arith, append_assoc}
 use Rattle.std.specs.List.{AllByRecursion}
 use Rattle.std.specs.Prelude.{bytes_eq}
 use Rattle.std.specs.Result.{IsErrAnd}
-use Rattle.std.proofs.lemmas.List.{append-nil, length-append}
+use Rattle.std.proofs.lemmas.List.{append-nil, length-append, length-map}
 use Rattle.mc_text.specs.Fault.{IsBadAt, newlines}
 use Rattle.group_text.specs.declared.version.Version.{Version as Known}
-use Rattle.group_text.specs.Version.{Version, version_of}
+use Rattle.group_text.specs.Version.{version_of}
 use Rattle.tailrec_lang.specs.declared.group.Group.{Group}
 use Rattle.tailrec_lang.specs.Tree.{GroupTree, group_tree}
-use Rattle.tailrec_lang.specs.WellFormed.{IsWellFormed}
+use Rattle.tailrec_lang.specs.WellFormed.{IsFirstIllFormed, IsWellFormed}
 use Rattle.tailrec_lang.specs.Eval.{HasFewNeeds}
-use Rattle.proof_text.specs.declared.line.Line.{Line}
-use Rattle.proof_text.specs.Line.{LineTree, ProofTree, line_tree}
-use Rattle.proof_text.specs.Proofs.{bare, groups_of, texts_of_proofs_in}
-use Rattle.proof_text.specs.FirstProofs.{Progress, ItemTree, Opens, Adds, items, passed_in, with_line, HasGiven, ProofEnds, MayOpen, AreReadIn, BeginsWithItems}
-use Rattle.proof_text.specs.Answers.{NoItem, OnBad}
+use Rattle.proof_text.specs.Line.{ProofOf}
+use Rattle.proof_text.specs.LineGrammar.{AreProofsOver}
+use Rattle.proof_text.specs.Proofs.{bare, groups_of}
+use Rattle.proof_text.specs.FirstProofs.{Progress, ItemOf, Opens, Adds, items, passed_over, with_line, HasGivenOver, ProofEnds, MayOpen, AreReadOver, BeginsWithItems}
+use Rattle.proof_text.specs.Answers.{NoItemOver, OnBad, OnEnd, OnGiven}
 use Rattle.group_text.specs.declared.read_error.TextFault.{TextFault}
 use Rattle.group_text.specs.declared.read_error.TextFault.TheVariants.{Bad, NoMemory}
 use Rattle.proof_text.proofs.TextItems.{items-opened, items-added}
-use Rattle.proof_text.proofs.WholeLaws.{lines_known}
-use Rattle.proof_text.proofs.Fronts.{fronts, front-read, few-read, given-read}
+use Rattle.proof_text.proofs.Fronts.{fronts, front-read, few-read, given-read, text-front}
+use Rattle.proof_text.proofs.ProofTexts.{proofs-once}
 use Rattle.mcdec_commands.specs.declared.eval.Refusal.{Refusal}
 use Rattle.mcdec_commands.specs.declared.eval.Refusal.TheVariants as refusal
 use Rattle.checker.specs.inner.Checking.{IsSameText}
+use Rattle.proof_v2.specs.declared.any_reader.AnyLine.{AnyLine}
+use Rattle.proof_v2.specs.AnyReading.{AnyState, AreLinesIn, AreTermsIn, GivesGroupAny, GivesLines, HasGivenAny, StopsGroups, StopsLines, with_lines}
+use Rattle.proof_v2.specs.AnyText.{AnyProof, BeginsIn, ListsIn, any_lines, any_texts}
+use Rattle.proof_v2.proofs.AnyKnown.{any_known}
 use Rattle.mcdec_commands.specs.EvalAnswer.{AreWellFormed, HasBadLineIn, IsNamedIn, first_named}
-use Rattle.mcdec_commands.specs.inner.Search.{HasPassed, LineIs, LinesArePassed, Passing, NextIs, FindsIn, FoundSo, Searched}
+use Rattle.mcdec_commands.specs.inner.Search.{GoesOnBehind, LineIs, LinesArePassed, Passing, NextIs, FindsIn, FoundSo, Searched}
 
 all-behind : (F : GroupTree → Type 0) (gs : List GroupTree) (g : GroupTree) → AllByRecursion F gs → F g → AllByRecursion F (gs ++ g ∷ [])
 all-behind F [] g h k = (k, tt)
@@ -71,216 +75,288 @@ module _ (name : List ℕ) (gs : List GroupTree) (next : Group) (found : Option 
 
 -- ---- groups among items
 
-abbrev opened : List ItemTree → List GroupTree
-opened [] = []
-opened (Opens g ∷ is) = g ∷ opened is
-opened (Adds l ∷ is) = opened is
+module _ {L : Type 0} where
+  abbrev opened : List (ItemOf L) → List GroupTree
+  opened [] = []
+  opened (Opens g ∷ is) = g ∷ opened is
+  opened (Adds l ∷ is) = opened is
 
-opened-behind : (is js : List ItemTree) → opened (is ++ js) ≡ opened is ++ opened js
-opened-behind [] js = refl
-opened-behind (Opens g ∷ is) js = ap (λ (gs : List GroupTree). g ∷ gs) (opened-behind is js)
-opened-behind (Adds l ∷ is) js = opened-behind is js
+  opened-behind : (is js : List (ItemOf L)) → opened (is ++ js) ≡ opened is ++ opened js
+  opened-behind [] js = refl
+  opened-behind (Opens g ∷ is) js = ap (λ (gs : List GroupTree). g ∷ gs) (opened-behind is js)
+  opened-behind (Adds l ∷ is) js = opened-behind is js
 
-opened-lines : (ls : List LineTree) (is : List ItemTree) → opened (map Adds ls ++ is) ≡ opened is
-opened-lines [] is = refl
-opened-lines (l ∷ ls) is = opened-lines ls is
+  opened-lines : (ls : List L) (is : List (ItemOf L)) → opened (map Adds ls ++ is) ≡ opened is
+  opened-lines [] is = refl
+  opened-lines (l ∷ ls) is = opened-lines ls is
 
-opened-are : (ps : List ProofTree) → opened (items ps) ≡ groups_of ps
-opened-are [] = refl
-opened-are (p ∷ ps) = ap (λ (gs : List GroupTree). p.group ∷ gs) (opened-lines p.lines (items ps) ∙ opened-are ps)
+  opened-are : (ps : List (ProofOf L)) → opened (items ps) ≡ groups_of ps
+  opened-are [] = refl
+  opened-are (p ∷ ps) = ap (λ (gs : List GroupTree). p.group ∷ gs) (opened-lines p.lines (items ps) ∙ opened-are ps)
 
--- where the items of some proofs begin with those of others, so do their groups
-pub groups-front : (ps qs : List ProofTree) → BeginsWithItems ps qs → (more : List GroupTree) × (groups_of ps ≡ groups_of qs ++ more)
-groups-front ps qs b =
-    (opened b.0, sym (opened-are ps) ∙ ap opened b.1 ∙ opened-behind (items qs) b.0 ∙ ap (λ (gs : List GroupTree). gs ++ opened b.0) (opened-are qs))
+  -- where the items of some proofs begin with those of others, so do their groups
+  pub groups-front : (ps qs : List (ProofOf L)) → BeginsWithItems ps qs → (more : List GroupTree) × (groups_of ps ≡ groups_of qs ++ more)
+  groups-front ps qs b =
+      (opened b.0, sym (opened-are ps) ∙ ap opened b.1 ∙ opened-behind (items qs) b.0 ∙ ap (λ (gs : List GroupTree). gs ++ opened b.0) (opened-are qs))
 
-pub groups-more : (ps : List ProofTree) (p : ProofTree) → groups_of (ps ++ p ∷ []) ≡ groups_of ps ++ p.group ∷ []
-groups-more [] p = refl
-groups-more (x ∷ ps) p = ap (λ (gs : List GroupTree). x.group ∷ gs) (groups-more ps p)
+  pub groups-more : (ps : List (ProofOf L)) (p : ProofOf L) → groups_of (ps ++ p ∷ []) ≡ groups_of ps ++ p.group ∷ []
+  groups-more [] p = refl
+  groups-more (x ∷ ps) p = ap (λ (gs : List GroupTree). x.group ∷ gs) (groups-more ps p)
 
--- proofs with one line more
-abbrev and_line : ProofTree → List ProofTree → LineTree → List ProofTree
-and_line p [] l = with_line p l ∷ []
-and_line p (q ∷ ps) l = p ∷ and_line q ps l
+  pub as-many : (ps : List (ProofOf L)) → length (groups_of ps) ≡ length ps
+  as-many ps = length-map ps (λ (p : ProofOf L). p.group)
 
-line-behind : (p : ProofTree) (ps : List ProofTree) (l : LineTree) → items (and_line p ps l) ≡ items (p ∷ ps) ++ Adds l ∷ []
-line-behind p [] l = items-added [] p l
-line-behind p (q ∷ ps) l =
-    ap (λ (is : List ItemTree). Opens p.group ∷ (map Adds p.lines ++ is)) (line-behind q ps l)
-    ∙ ap (λ (is : List ItemTree). Opens p.group ∷ is) (sym (append_assoc (map Adds p.lines) (items (q ∷ ps)) (Adds l ∷ [])))
+  -- proofs with one line more
+  abbrev and_line : ProofOf L → List (ProofOf L) → L → List (ProofOf L)
+  and_line p [] l = with_line p l ∷ []
+  and_line p (q ∷ ps) l = p ∷ and_line q ps l
 
-no-line-first : (hs : List ProofTree) (l : LineTree) (more : List ItemTree) → items hs ≡ Adds l ∷ more → ⊥
-no-line-first [] l more e = cc
-no-line-first (h ∷ hs) l more e = cc
+  line-behind : (p : ProofOf L) (ps : List (ProofOf L)) (l : L) → items (and_line p ps l) ≡ items (p ∷ ps) ++ Adds l ∷ []
+  line-behind p [] l = items-added [] p l
+  line-behind p (q ∷ ps) l =
+      ap (λ (is : List (ItemOf L)). Opens p.group ∷ (map Adds p.lines ++ is)) (line-behind q ps l)
+      ∙ ap (λ (is : List (ItemOf L)). Opens p.group ∷ is) (sym (append_assoc (map Adds p.lines) (items (q ∷ ps)) (Adds l ∷ [])))
 
--- an item that comes next
-next-item : (ps hs : List ProofTree) (i : ItemTree) (more : List ItemTree) → items hs ≡ items ps ++ i ∷ more → (ks : List ProofTree) × (items ks ≡ items ps ++ i ∷ [])
-next-item ps hs (Opens g) more e = (ps ++ bare g ∷ [], items-opened ps g)
-next-item [] hs (Adds l) more e = absurd (no-line-first hs l more e)
-next-item (p ∷ ps) hs (Adds l) more e = (and_line p ps l, line-behind p ps l)
+  no-line-first : (hs : List (ProofOf L)) (l : L) (more : List (ItemOf L)) → items hs ≡ Adds l ∷ more → ⊥
+  no-line-first [] l more e = cc
+  no-line-first (h ∷ hs) l more e = cc
+
+  -- an item that comes next
+  next-item : (ps hs : List (ProofOf L)) (i : ItemOf L) (more : List (ItemOf L)) → items hs ≡ items ps ++ i ∷ more → (ks : List (ProofOf L)) × (items ks ≡ items ps ++ i ∷ [])
+  next-item ps hs (Opens g) more e = (ps ++ bare g ∷ [], items-opened ps g)
+  next-item [] hs (Adds l) more e = absurd (no-line-first hs l more e)
+  next-item (p ∷ ps) hs (Adds l) more e = (and_line p ps l, line-behind p ps l)
+
+  same-groups : (ps : List (ProofOf L)) (p q : ProofOf L) → p.group ≡ q.group → groups_of (ps ++ p ∷ []) ≡ groups_of (ps ++ q ∷ [])
+  same-groups ps p q e = groups-more ps p ∙ ap (λ (g : GroupTree). groups_of ps ++ g ∷ []) e ∙ sym (groups-more ps q)
+
+-- ---- the groups of a text
+
+module _ (k : Known) (text : List ℕ) (gs hs : List GroupTree) where
+  front-of : (ps qs : List (AnyProof k)) → gs ≡ groups_of ps → hs ≡ groups_of qs → BeginsWithItems ps qs → (more : List GroupTree) × (gs ≡ hs ++ more)
+  front-of ps qs a b m = let f = groups-front ps qs m in (f.0, a ∙ f.1 ∙ ap (λ (is : List GroupTree). is ++ f.0) (sym b))
+
+  -- of two lists with which it begins one begins with the other
+  pub begins-alike : BeginsIn k text gs → BeginsIn k text hs → ((more : List GroupTree) × (gs ≡ hs ++ more)) ⊎ ((more : List GroupTree) × (hs ≡ gs ++ more))
+  begins-alike a b = elim (fronts (any_known k) text a.proofs b.proofs a.read b.read) [ inl m ↦ inl (front-of a.proofs b.proofs a.groups b.groups m) | inr m ↦ inr (back m) ]
+    where
+      back : BeginsWithItems b.proofs a.proofs → (more : List GroupTree) × (hs ≡ gs ++ more)
+      back m = let f = groups-front b.proofs a.proofs m in (f.0, b.groups ∙ f.1 ∙ ap (λ (is : List GroupTree). is ++ f.0) (sym a.groups))
+
+  -- all of them begin with these
+  pub listed-front : ListsIn k text gs → BeginsIn k text hs → (more : List GroupTree) × (gs ≡ hs ++ more)
+  listed-front a b = front-of a.proofs b.proofs a.groups b.groups (text-front (any_known k) text a.proofs b.proofs a.spelled.fit a.spelled.spelled b.read)
+
+  pub listed-once : ListsIn k text gs → ListsIn k text hs → gs ≡ hs
+  listed-once a b =
+      let same : a.proofs ≡ b.proofs = proofs-once (any_known k) a.proofs b.proofs a.spelled.fit b.spelled.fit (sym a.spelled.spelled ∙ b.spelled.spelled) in
+      a.groups ∙ ap (λ (ps : List (AnyProof k)). groups_of ps) same ∙ sym b.groups
 
 -- ---- what is read where no further item follows
 
-all-well : (qs : List ProofTree) (r : Progress) → HasGiven qs r → NoItem qs r → AreWellFormed (groups_of qs)
-    → (hs : List ProofTree) → AreReadIn (version_of r.version) r.text hs → AreWellFormed (groups_of hs)
-all-well qs r h none well hs read = elim (fronts (lines_known r.version) r.text qs hs (given-read (lines_known r.version) qs r h) read) [ inl m ↦ front m | inr m ↦ behind m.0 m.1 ]
-  where
-    front : BeginsWithItems qs hs → AreWellFormed (groups_of hs)
-    front m = let f = groups-front qs hs m in all-front IsWellFormed (groups_of hs) f.0 (subst AreWellFormed f.1 well)
+module _ (r : Progress) where
+  well-at : (qs : List (AnyProof r.version)) → HasGivenOver (any_lines r.version) qs r → NoItemOver (any_lines r.version) qs r → AreWellFormed (groups_of qs)
+      → (hs : List (AnyProof r.version)) → AreReadOver (any_lines r.version) (version_of r.version) r.text hs → AreWellFormed (groups_of hs)
+  well-at qs h none well hs read = elim (fronts (any_known r.version) r.text qs hs (given-read (any_known r.version) qs r h) read) [ inl m ↦ front m | inr m ↦ behind m.0 m.1 ]
+    where
+      front : BeginsWithItems qs hs → AreWellFormed (groups_of hs)
+      front m = let f = groups-front qs hs m in all-front IsWellFormed (groups_of hs) f.0 (subst AreWellFormed f.1 well)
 
-    behind : (more : List ItemTree) → items hs ≡ items qs ++ more → AreWellFormed (groups_of hs)
-    behind [] e = front ([], sym (append-nil (items qs)) ∙ sym e ∙ sym (append-nil (items hs)))
-    behind (i ∷ more) e =
-        let k = next-item qs hs i more e in
-        let begins : items hs ≡ items k.0 ++ more = e ∙ sym (append_assoc (items qs) (i ∷ []) more) ∙ ap (λ (is : List ItemTree). is ++ more) (sym k.1) in
-        let a = front-read (lines_known r.version) r.text hs k.0 read (more, begins) in
-        let new : Progress = record { version = r.version; text = r.text; rest = a.0; place = newlines (passed_in (version_of r.version) k.0) } in
-        absurd (none i k.0 new refl refl k.1 (record { fit = a.1.fit; text = a.1.text; place = refl; ended = a.1.ended }))
+      behind : (more : List (ItemOf (any_lines r.version).Line)) → items hs ≡ items qs ++ more → AreWellFormed (groups_of hs)
+      behind [] e = front ([], sym (append-nil (items qs)) ∙ sym e ∙ sym (append-nil (items hs)))
+      behind (i ∷ more) e =
+          let k = next-item qs hs i more e in
+          let begins : items hs ≡ items k.0 ++ more = e ∙ sym (append_assoc (items qs) (i ∷ []) more) ∙ ap (λ (is : List (ItemOf (any_lines r.version).Line)). is ++ more) (sym k.1) in
+          let a = front-read (any_known r.version) r.text hs k.0 read (more, begins) in
+          let new : Progress = record { version = r.version; text = r.text; rest = a.0; place = newlines (passed_over (any_lines r.version) (version_of r.version) k.0) } in
+          absurd (none i k.0 new refl refl k.1 (record { fit = a.1.fit; text = a.1.text; place = refl; ended = a.1.ended }))
 
-bad-text : (qs : List ProofTree) (r : Progress) (line : ℕ) → HasGiven qs r → IsBadAt (texts_of_proofs_in (version_of r.version)) r.text line → NoItem qs r
-    → AreWellFormed (groups_of qs) → HasBadLineIn (version_of r.version) r.text line
-bad-text qs r line h bad none well = (bad, all-well qs r h none well)
+module _ (k : Known) (r : AnyState) where
+  pub read-given : (ps : List (AnyProof k)) → HasGivenAny k ps r → AreReadOver (any_lines k) (version_of k) r.progress.text ps
+  read-given ps h =
+      subst (λ (k : Known). (ps : List (AnyProof k)) → HasGivenOver (any_lines k) ps r.progress → AreReadOver (any_lines k) (version_of k) r.progress.text ps) h.version
+      (λ ps g. given-read (any_known r.progress.version) ps r.progress g) ps h.given
+
+  all-well : (qs : List (AnyProof k)) → HasGivenAny k qs r → NoItemOver (any_lines k) qs r.progress → AreWellFormed (groups_of qs)
+      → (gs : List GroupTree) → BeginsIn k r.progress.text gs → AreWellFormed gs
+  all-well qs h none well gs b =
+      subst AreWellFormed (sym b.groups)
+      (subst (λ (k : Known). (qs : List (AnyProof k)) → HasGivenOver (any_lines k) qs r.progress → NoItemOver (any_lines k) qs r.progress → AreWellFormed (groups_of qs)
+      → (hs : List (AnyProof k)) → AreReadOver (any_lines k) (version_of k) r.progress.text hs → AreWellFormed (groups_of hs)) h.version (well-at r.progress) qs h.given none well b.proofs b.read)
+
+  bad-text : (qs : List (AnyProof k)) (line : ℕ) → HasGivenAny k qs r → IsBadAt (any_texts k) r.progress.text line → NoItemOver (any_lines k) qs r.progress
+      → AreWellFormed (groups_of qs) → HasBadLineIn k r.progress.text line
+  bad-text qs line h bad none well = (bad, all-well qs h none well)
 
 -- ---- one text
-
--- what is so of a reader's text, in its version, is so of it wherever the reader stands
-same-so : (P : Version → List ℕ → Type 0) (new old : Progress) → IsSameText new old → P (version_of new.version) new.text → P (version_of old.version) old.text
-same-so P new old s h = subst (λ (v : Known). P (version_of v) old.text) s.1 (subst (λ (t : List ℕ). P (version_of new.version) t) s.0 h)
 
 -- the same text as before that
 same-more : (new now old : Progress) → IsSameText new now → IsSameText now old → IsSameText new old
 same-more new now old s t = (s.0 ∙ t.0, s.1 ∙ t.1)
 
+bad-same : (k : Known) (line : ℕ) (new old : Progress) → IsSameText new old → HasBadLineIn k new.text line → HasBadLineIn k old.text line
+bad-same k line new old s h = subst (λ (t : List ℕ). HasBadLineIn k t line) s.0 h
+
 -- ---- the lines of a proof
 
-may-open : (ps : List ProofTree) (p : ProofTree) (rest : List ℕ) → ProofEnds rest → MayOpen (ps ++ p ∷ []) rest
+may-open : {L : Type 0} (ps : List (ProofOf L)) (p : ProofOf L) (rest : List ℕ) → ProofEnds rest → MayOpen (ps ++ p ∷ []) rest
 may-open [] p rest h = h
 may-open (x ∷ ps) p rest h = h
 
-same-groups : (ps : List ProofTree) (p q : ProofTree) → p.group ≡ q.group → groups_of (ps ++ p ∷ []) ≡ groups_of (ps ++ q ∷ [])
-same-groups ps p q e = groups-more ps p ∙ ap (λ (g : GroupTree). groups_of ps ++ g ∷ []) e ∙ sym (groups-more ps q)
-
-module _ (g : GroupTree) (start now : Progress) (s : Passing g start now) where
-  pub line-more : (new : Progress) (l : Line) → LineIs g now new (Ok (Some l)) → Passing g start new
+module _ (g : GroupTree) (start now : AnyState) (s : Passing g start now) where
+  pub line-more : (new : AnyState) (l : AnyLine) → LineIs g now new (Ok (Some l)) → Passing g start new
   line-more new l k = record {
-    text = same-more new now start k.0 s.text;
+    text = same-more new.progress now.progress start.progress k.0 s.text;
     no_longer = omega (arith, k.1, s.no_longer);
-    given = λ ps p h e. let q = s.given ps p h e in (with_line q.0 (line_tree l), q.1, k.2 ps q.0 q.2 q.1);
+    given = λ v ps p h e. let q = s.given v ps p h e in k.2 v ps q.0 q.2 q.1;
   }
 
-  pub lines-end : (new : Progress) → LineIs g now new (Ok None) → LinesArePassed g start new (Ok tt)
+  pub lines-end : (new : AnyState) → LineIs g now new (Ok None) → LinesArePassed g start new (Ok tt)
   lines-end new k = (
-    same-more new now start (ap (λ (p : Progress). p.text) k.0, ap (λ (p : Progress). p.version) k.0) s.text,
-    subst (λ (p : Progress). length p.rest ≤ length start.rest) (sym k.0) s.no_longer,
-    λ ps p h e.
-        let q = s.given ps p h e in
-        (q.0, q.1, subst (HasPassed (ps ++ q.0 ∷ [])) (sym k.0) (record { given = q.2; over = may-open ps q.0 now.rest k.1 })),
+    same-more new.progress now.progress start.progress k.0 s.text,
+    omega (arith, k.1, s.no_longer),
+    λ v ps p h e.
+        let q = s.given v ps p h e in
+        let r = k.2 v ps q.0 q.2 q.1 in
+        (r.0, r.1, record { given = r.2; over = may-open ps r.0 new.progress.rest k.3 }),
   )
 
-  pub lines-stop : (new last : Progress) (e : Refusal) → LineIs g now new (Err e) → LinesArePassed g start last (Err e)
-  lines-stop new last (refusal.Text line) k = λ ps p h e well.
-      let q = s.given ps p h e in
-      let stop = k ps q.0 q.2 q.1 in
-      same-so (λ v t. HasBadLineIn v t line) now start s.text
-      (bad-text (ps ++ q.0 ∷ []) now line q.2 stop.0 stop.1 (subst AreWellFormed (same-groups ps p q.0 (e ∙ sym q.1)) well))
+  pub lines-stop : (new last : AnyState) (e : Refusal) → LineIs g now new (Err e) → LinesArePassed g start last (Err e)
+  lines-stop new last (refusal.Text line) k = λ v ps p h e well.
+      let q = s.given v ps p h e in
+      let stop = k.1 v ps q.0 q.2 q.1 in
+      bad-same v line now.progress start.progress s.text
+      (bad-same v line new.progress now.progress k.0
+      (bad-text v new (ps ++ stop.1 ∷ []) line stop.3 (subst (λ (t : List ℕ). IsBadAt (any_texts v) t line) (sym k.0.0) stop.0) stop.4 (subst AreWellFormed (same-groups ps p stop.1 (e ∙ sym stop.2)) well)))
   lines-stop new last (refusal.IllFormed m def) k = absurd k
   lines-stop new last refusal.NoFunction k = absurd k
   lines-stop new last refusal.NoMemory k = tt
 
+-- what a reader answers, where nothing is told but what groups there are
+goes-on : (g : GroupTree) (Are : (k : Known) → List (any_lines k).Line → Type 0) (old new : AnyState) → GivesLines g Are old new → GoesOnBehind g old new
+goes-on g Are old new given = λ k ps p h e. let x = given k ps p h e in (with_lines p x.0, e, x.2)
+
+pub line-answer : (g : GroupTree) (old new : AnyState) (o : Option AnyLine) → IsSameText new.progress old.progress → length new.progress.rest ≤ length old.progress.rest
+    → OnGiven {X = AnyLine} (Ok o) (λ l. GivesLines g (λ k. AreLinesIn k l) old new) → OnGiven {X = AnyLine} (Ok o) (λ _. length new.progress.rest < length old.progress.rest)
+    → OnEnd {X = AnyLine} (Ok o) (ProofEnds new.progress.rest × GivesLines g AreTermsIn old new) → LineIs g old new (Ok o)
+line-answer g old new (Some l) same no-more given fewer ends = (same, fewer, goes-on g (λ k. AreLinesIn k l) old new given)
+line-answer g old new None same no-more given fewer ends = (same, no-more, goes-on g AreTermsIn old new ends.1, ends.0)
+
+pub line-bad : (g : GroupTree) (old new : AnyState) (f : TextFault) (line : ℕ) → f ≡ Bad line → IsSameText new.progress old.progress → OnBad {X = AnyLine} (Err f) (λ n. StopsLines g n old new)
+    → LineIs g old new (Err (refusal.Text line))
+line-bad g old new (Bad m) line e same stops =
+    let is : m ≡ line = cc in
+    (same, λ k ps p h e. let x = stops k ps p h e in (subst (λ (n : ℕ). IsBadAt (any_texts k) old.progress.text n) is x.0, with_lines p x.1, e, x.3, x.4))
+line-bad g old new NoMemory line e same stops = absurd cc
+
 -- ---- the next group
 
-module _ (old : Progress) (ps : List ProofTree) (h : HasPassed ps old) where
-  -- no group is read
-  pub group-bad : (line : ℕ) → IsBadAt (texts_of_proofs_in (version_of old.version)) old.text line → NoItem ps old → AreWellFormed (groups_of ps)
-      → HasBadLineIn (version_of old.version) old.text line
-  group-bad line bad none well = bad-text ps old line h.given bad none well
+pub group-refused : (n : ℕ) (old new : AnyState) (f : TextFault) (line : ℕ) → f ≡ Bad line → OnBad {X = Group} (Err f) (λ n. StopsGroups n old) → NextIs n old new (Err (refusal.Text line))
+group-refused n old new (Bad m) line e stops = λ k ps h well.
+    let same : m ≡ line = cc in
+    let stop = stops k ps h.given h.over in
+    subst (λ (x : ℕ). HasBadLineIn k old.progress.text x) same (bad-text k old ps m h.given stop.0 stop.1 well)
+group-refused n old new NoMemory line e stops = absurd cc
 
-  pub group-refused : (f : TextFault) (line : ℕ) → f ≡ Bad line
-      → OnBad {X = Group} (Err f) (λ n. (qs : List ProofTree) → HasGiven qs old → MayOpen qs old.rest → IsBadAt (texts_of_proofs_in (version_of old.version)) old.text n)
-      → OnBad {X = Group} (Err f) (λ n. (qs : List ProofTree) → HasGiven qs old → MayOpen qs old.rest → NoItem qs old) → AreWellFormed (groups_of ps)
-      → HasBadLineIn (version_of old.version) old.text line
-  group-refused (Bad n) line e bad none well =
-      let same : n ≡ line = cc in
-      subst (λ (k : ℕ). HasBadLineIn (version_of old.version) old.text k) same (group-bad n (bad ps h.given h.over) (none ps h.given h.over) well)
-  group-refused NoMemory line e bad none well = absurd cc
+module _ (n : ℕ) (old mid new : AnyState) (g : Group) (same : IsSameText mid.progress old.progress) (given : GivesGroupAny (group_tree g) old mid) where
+  pub group-ill : (def : ℕ) → IsFirstIllFormed (group_tree g) def → NextIs n old new (Err (refusal.IllFormed n def))
+  group-ill def first = (
+    refl,
+    group_tree g,
+    first,
+    λ k ps h. record {
+      proofs = ps ++ bare (group_tree g) ∷ [];
+      read = subst (λ (t : List ℕ). AreReadOver (any_lines k) (version_of k) t (ps ++ bare (group_tree g) ∷ [])) same.0 (read-given k mid (ps ++ bare (group_tree g) ∷ []) (given k ps h.given));
+      groups = sym (groups-more ps (bare (group_tree g)));
+    },
+  )
 
-  -- a group is read, and a line behind it is none
-  module _ (g : GroupTree) (mid : Progress) (same : IsSameText mid old) (given : HasGiven (ps ++ bare g ∷ []) mid) where
-    pub lines-bad : (new : Progress) (line : ℕ) → IsWellFormed g → LinesArePassed g mid new (Err (refusal.Text line)) → AreWellFormed (groups_of ps)
-        → HasBadLineIn (version_of old.version) old.text line
-    lines-bad new line is k well =
-        same-so (λ v t. HasBadLineIn v t line) mid old same
-        (k ps (bare g) given refl (subst AreWellFormed (sym (groups-more ps (bare g))) (all-behind IsWellFormed (groups_of ps) g well is)))
-
--- where the lines of a group are refused, no group is given
-pub lines-refused : (n : ℕ) (old mid new last : Progress) (g : GroupTree) → IsSameText mid old → ((ps : List ProofTree) → HasGiven ps old → HasGiven (ps ++ bare g ∷ []) mid) → IsWellFormed g
-    → (e : Refusal) → LinesArePassed g mid new (Err e) → NextIs n old last (Err e)
-lines-refused n old mid new last g same given is (refusal.Text line) k = λ ps h well. lines-bad old ps h g mid same (given ps h.given) new line is k well
-lines-refused n old mid new last g same given is (refusal.IllFormed m def) k = absurd k
-lines-refused n old mid new last g same given is refusal.NoFunction k = absurd k
-lines-refused n old mid new last g same given is refusal.NoMemory k = tt
+  -- where the lines of a group are refused, no group is given
+  pub lines-refused : IsWellFormed (group_tree g) → (last : AnyState) (e : Refusal) → LinesArePassed (group_tree g) mid new (Err e) → NextIs n old last (Err e)
+  lines-refused is last (refusal.Text line) k = λ v ps h well.
+      bad-same v line mid.progress old.progress same
+      (k v ps (bare (group_tree g)) (given v ps h.given) refl (subst AreWellFormed (sym (groups-more ps (bare (group_tree g)))) (all-behind IsWellFormed (groups_of ps) (group_tree g) well is)))
+  lines-refused is last (refusal.IllFormed m def) k = absurd k
+  lines-refused is last refusal.NoFunction k = absurd k
+  lines-refused is last refusal.NoMemory k = tt
 
 -- ---- the search
 
-module _ (start : Progress) (name : List ℕ) (r : Progress) (count : ℕ) (found : Option Group) (s : Searched start name r count found) where
+module _ (start : AnyState) (name : List ℕ) (r : AnyState) (count : ℕ) (found : Option Group) (s : Searched start name r count found) where
   -- the search stopped
-  pub stopped : (new : Progress) (e : Refusal) → NextIs count r new (Err e) → FindsIn (version_of start.version) start.text name (Err e)
-  stopped new (refusal.Text line) h = same-so (λ v t. HasBadLineIn v t line) r start s.same (h s.proofs s.passed s.well_formed)
-  stopped new (refusal.IllFormed m def) h =
-      (s.proofs, h.1, same-so (λ v t. AreReadIn v t (s.proofs ++ bare h.1 ∷ [])) r start s.same (h.3 s.proofs s.passed), s.well_formed, h.0 ∙ s.counted, h.2)
+  pub stopped : (new : AnyState) (e : Refusal) → NextIs count r new (Err e) → FindsIn start.progress.version start.progress.text name (Err e)
+  stopped new (refusal.Text line) h = bad-same start.progress.version line r.progress start.progress s.same (h start.progress.version s.proofs s.passed s.well_formed)
+  stopped new (refusal.IllFormed m def) h = (
+    groups_of s.proofs,
+    h.1,
+    subst (λ (t : List ℕ). BeginsIn start.progress.version t (groups_of s.proofs ++ h.1 ∷ [])) s.same.0 (h.3 start.progress.version s.proofs s.passed),
+    s.well_formed,
+    h.0 ∙ s.counted ∙ sym (as-many s.proofs),
+    h.2,
+  )
   stopped new refusal.NoFunction h = absurd h
   stopped new refusal.NoMemory h = tt
 
   -- the text has ended: its first group of the name
-  pub ended : (new : Progress) (o : Option Group) → ((g : Group) → o ≡ Some g → ⊥) → NextIs count r new (Ok o)
-      → IsNamedIn (version_of start.version) start.text name (first_named name (groups_of s.proofs))
-  ended new None not h =
-      same-so (λ v t. IsNamedIn v t name (first_named name (groups_of s.proofs))) r start s.same
-      (record { proofs = s.proofs; spelled = record { fit = s.passed.given.fit; spelled = h s.proofs s.passed }; well_formed = s.well_formed; first = refl })
+  pub ended : (new : AnyState) (o : Option Group) → ((g : Group) → o ≡ Some g → ⊥) → NextIs count r new (Ok o)
+      → IsNamedIn start.progress.version start.progress.text name (first_named name (groups_of s.proofs))
+  ended new None not h = record {
+    groups = groups_of s.proofs;
+    listed = record {
+      proofs = s.proofs;
+      spelled = record {
+        fit = subst (λ (v : Known). AreProofsOver (any_lines start.progress.version) (version_of v) s.proofs) s.passed.given.version s.passed.given.given.fit;
+        spelled = sym s.same.0 ∙ h start.progress.version s.proofs s.passed;
+      };
+      groups = refl;
+    };
+    well_formed = s.well_formed;
+    first = refl;
+  }
   ended new (Some g) not h = absurd (not g refl)
 
   -- an item takes a byte
-  no-more-than : count ≤ length start.text
+  no-more-than : count ≤ length start.progress.text
   no-more-than =
-      let n : length r.text ≡ length start.text = ap length s.same.0 in
-      omega (arith, few-read (lines_known r.version) r.text s.proofs (given-read (lines_known r.version) s.proofs r s.passed.given), few-proofs s.proofs, s.counted, n)
+      let n : length r.progress.text ≡ length start.progress.text = ap length s.same.0 in
+      omega (arith, few-read (any_known start.progress.version) r.progress.text s.proofs (read-given start.progress.version r s.proofs s.passed.given), few-proofs s.proofs, s.counted, n)
     where
-      few-proofs : (ps : List ProofTree) → length ps ≤ length (items ps)
+      few-proofs : (ps : List (AnyProof start.progress.version)) → length ps ≤ length (items ps)
       few-proofs [] = omega arith
       few-proofs (p ∷ ps) = omega (arith, few-proofs ps, length-append (map Adds p.lines) (items ps))
 
   -- so they can be counted
-  pub count-fits : length start.text < 2 ^ 63 → count + 1 < 2 ^ 64
+  pub count-fits : length start.progress.text < 2 ^ 63 → count + 1 < 2 ^ 64
   count-fits low = omega (arith, no-more-than, low)
 
   -- the search goes on
-  pub more : (new : Progress) (g : Group) (now : Option Group) → NextIs count r new (Ok (Some g)) → ((gs : List GroupTree) → FoundSo name gs found → FoundSo name (gs ++ group_tree g ∷ []) now) → Searched start name new (count + 1) now
+  pub more : (new : AnyState) (g : Group) (now : Option Group) → NextIs count r new (Ok (Some g)) → ((gs : List GroupTree) → FoundSo name gs found → FoundSo name (gs ++ group_tree g ∷ []) now) → Searched start name new (count + 1) now
   more new g now h keep =
-      let q = h.4 s.proofs s.passed in
+      let q = h.4 start.progress.version s.proofs s.passed in
       let groups : groups_of (s.proofs ++ q.0 ∷ []) ≡ groups_of s.proofs ++ group_tree g ∷ [] = groups-more s.proofs q.0 ∙ ap (λ (x : GroupTree). groups_of s.proofs ++ x ∷ []) q.1 in
       record {
         proofs = s.proofs ++ q.0 ∷ [];
         passed = q.2;
-        same = same-more new r start h.0 s.same;
+        same = same-more new.progress r.progress start.progress h.0 s.same;
         well_formed = subst AreWellFormed (sym groups) (all-behind IsWellFormed (groups_of s.proofs) (group_tree g) s.well_formed h.2);
         counted = omega (arith, s.counted, length-append s.proofs (q.0 ∷ []));
         so = subst (λ (gs : List GroupTree). FoundSo name gs now) (sym groups) (keep (groups_of s.proofs) s.so);
       }
 
 -- the exit of a `?`
-pub found-exit : (v : Version) (text name : List ℕ) (result : Result Group Refusal) (e : Refusal) → IsErrAnd result (λ y. y ≡ e) → FindsIn v text name (Err e) → FindsIn v text name result
+pub found-exit : (v : Known) (text name : List ℕ) (result : Result Group Refusal) (e : Refusal) → IsErrAnd result (λ y. y ≡ e) → FindsIn v text name (Err e) → FindsIn v text name result
 found-exit v text name (Ok g) e is h = absurd is
 found-exit v text name (Err y) e is h = subst (λ (x : Refusal). FindsIn v text name (Err x)) (sym is) h
 
-pub passed-exit : (g : GroupTree) (old new : Progress) (result : Result (Unit {0}) Refusal) (e : Refusal) → IsErrAnd result (λ y. y ≡ e) → LinesArePassed g old new (Err e) → LinesArePassed g old new result
+pub passed-exit : (g : GroupTree) (old new : AnyState) (result : Result (Unit {0}) Refusal) (e : Refusal) → IsErrAnd result (λ y. y ≡ e) → LinesArePassed g old new (Err e) → LinesArePassed g old new result
 passed-exit g old new (Ok done) e is h = absurd is
 passed-exit g old new (Err y) e is h = subst (λ (x : Refusal). LinesArePassed g old new (Err x)) (sym is) h
 
-pub next-exit : (n : ℕ) (old new : Progress) (result : Result (Option Group) Refusal) (e : Refusal) → IsErrAnd result (λ y. y ≡ e) → NextIs n old new (Err e) → NextIs n old new result
+pub next-exit : (n : ℕ) (old new : AnyState) (result : Result (Option Group) Refusal) (e : Refusal) → IsErrAnd result (λ y. y ≡ e) → NextIs n old new (Err e) → NextIs n old new result
 next-exit n old new (Ok found) e is h = absurd is
 next-exit n old new (Err y) e is h = subst (λ (x : Refusal). NextIs n old new (Err x)) (sym is) h
 
 -- no line more
-pub no-line : (g : GroupTree) (now new : Progress) (o : Option Line) → ((l : Line) → o ≡ Some l → ⊥) → LineIs g now new (Ok o) → LineIs g now new (Ok None)
+pub no-line : (g : GroupTree) (now new : AnyState) (o : Option AnyLine) → ((l : AnyLine) → o ≡ Some l → ⊥) → LineIs g now new (Ok o) → LineIs g now new (Ok None)
 no-line g now new None not h = h
 no-line g now new (Some l) not h = absurd (not l refl)

@@ -89,10 +89,10 @@ none-says file text c is found = (cert_tree c, is, found)
 
 -- where the second text is no certificate, whatever name was looked for
 pub unreadable-found : (file text name : List ℕ) (g : Group) (line : ℕ) → Finds file name (Ok g) → IsBadAt cert_texts text line → TextsGive file text (laws.UnreadableCert line)
-unreadable-found file text name g line found bad = ((found.0.proofs, found.0.spelled, found.0.well_formed), bad)
+unreadable-found file text name g line found bad = ((found.0.groups, found.0.listed, found.0.well_formed), bad)
 
 pub unreadable-none : (file text name : List ℕ) (line : ℕ) → Finds file name (Err refusal.NoFunction) → IsBadAt cert_texts text line → TextsGive file text (laws.UnreadableCert line)
-unreadable-none file text name line found bad = ((found.proofs, found.spelled, found.well_formed), bad)
+unreadable-none file text name line found bad = ((found.groups, found.listed, found.well_formed), bad)
 
 -- ---- files
 
@@ -122,6 +122,7 @@ cert-gives told ws proof cert file rose wrote later w held since (answer.Decompi
 cert-gives told ws proof cert file rose wrote later w held since (answer.SelfTest a) h = absurd h
 cert-gives told ws proof cert file rose wrote later w held since (answer.Simplify a) h = absurd h
 cert-gives told ws proof cert file rose wrote later w held since (answer.Smt a) h = absurd h
+cert-gives told ws proof cert file rose wrote later w held since (answer.Migrate a) h = absurd h
 cert-gives told ws proof cert file rose wrote later w held since answer.ReadFault h = (Laws proof cert, w, two-files proof cert, since h)
 cert-gives told ws proof cert file rose wrote later w held since answer.NoMemory h = tt
 cert-gives told ws proof cert file rose wrote later w held since (answer.Laws a) h = (proof, cert, w, held-with told proof file (λ f. LawsGives told cert f a) held h)

@@ -91,14 +91,19 @@ module _ (IsText : Contents → List ℕ → Type 0) (out : List ℕ) (a : Answe
       subst (λ (m : Option Contents). WhereTold o m (WritesOut IsText out a)) (sym same)
       (told_same o (WritesOut IsText out a) (λ x. record { output = alone (IsText x) (status a) (x out) some; others = λ other apart. refl }))
 
-  -- what was written is such a text, since a name holds this file
+  -- what was written is such a text, by what the names hold
+  pub text-by : (text : List ℕ) (Held : Contents → Type 0) → ((files : Contents) → Held files → IsText files text) → (o n : Option Contents) → IfSome o Held
+      → WhereTold o n (WritesOut (λ files t. t ≡ text) out a) → WhereTold o n (WritesOut IsText out a)
+  text-by text Held is None None held h = tt
+  text-by text Held is None (Some y) held h = h
+  text-by text Held is (Some x) None held h = h
+  text-by text Held is (Some x) (Some y) held h =
+      record { output = leaves-also (λ t. t ≡ text) (IsText x) (status a) (x out) (y out) (λ t e. subst (IsText x) (sym e) (is x held)) h.output; others = h.others }
+
+  -- .. since a name holds this file
   pub text-written : (name file text : List ℕ) → ((files : Contents) → files name ≡ Some file → IsText files text) → (o n : Option Contents) → IfSome o (λ files. files name ≡ Some file)
       → WhereTold o n (WritesOut (λ files t. t ≡ text) out a) → WhereTold o n (WritesOut IsText out a)
-  text-written name file text is None None held h = tt
-  text-written name file text is None (Some y) held h = h
-  text-written name file text is (Some x) None held h = h
-  text-written name file text is (Some x) (Some y) held h =
-      record { output = leaves-also (λ t. t ≡ text) (IsText x) (status a) (x out) (y out) (λ t e. subst (IsText x) (sym e) (is x held)) h.output; others = h.others }
+  text-written name file text is o n held h = text-by text (λ files. files name ≡ Some file) is o n held h
 
 -- ---- how the top call ends
 

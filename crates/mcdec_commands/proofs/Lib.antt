@@ -7,11 +7,14 @@ pub mod Groups
 pub mod Weighing
 pub mod OneListing
 pub mod Listed
+pub mod OneFile
+pub mod OneMigration
 pub mod Exactness
 pub mod Leaving
 pub mod Decompiling
 pub mod Judging
 pub mod Simplifying
 pub mod Exporting
+pub mod Migrating
 pub mod SelfTesting
 pub mod Examples

@@ -1,26 +1,46 @@
 -- Without the lines of proofs the text of proofs is that of their groups, in each version.
-use Rattle.std.proofs.Common.{true≢false, ◌≡◌, ℕ, suc, Bool, true, false, cond, eqb, not, List, [], ◌∷◌, ◌++◌, codes, filter, refl, sym, ap, subst, ◌∙◌, arith, append_assoc, flat_map}
+use Rattle.std.proofs.Common.{true≢false, ◌≡◌, ℕ, suc, Bool, true, false, cond, if◌then◌else◌, eqb, not, List, [], ◌∷◌, ◌++◌, codes, filter, map, refl, sym, ap, subst, ◌∙◌, arith, append_assoc, flat_map}
 use Rattle.std.specs.Prelude.{is_some, unwrap_or}
 use Rattle.std.specs.Fmt.{decimal}
 use Rattle.std.specs.List.{AllByRecursion, onto_first}
 use Rattle.mc_text.specs.Fault.{newlines}
-use Rattle.mc_text.specs.Tokens.{Tok, Semi, Atom, Eol, newline, gap, token_bytes, before_next, spell}
+use Rattle.mc_text.specs.Tokens.{Tok, Right, Semi, Atom, Eol, newline, gap, token_bytes, before_next, spell}
 use Rattle.mc_text.specs.declared.token.Before.{Before}
 use Rattle.mc_text.specs.declared.token.Before.TheVariants.{Start, Open, Later}
 use Rattle.mc_text.proofs.Lines.{AreTokens}
 use Rattle.mc_text.proofs.ReaderLaws.{IsFlat, flat-append}
 use Rattle.mc_text.proofs.FaultLine.{newlines-spell, eols-flat, tokens-front}
 use Rattle.rv_words.specs.declared.range.Range.{Range}
-use Rattle.term_text.specs.Spelling.{joined, word_tokens, mem_tokens, cond_tokens, range_tokens}
+use Rattle.term_text.specs.Spelling.{form, joined, word_tokens, mem_tokens, cond_tokens, range_tokens}
 use Rattle.term_text.proofs.TermFacts.{word-flat, mem-flat, cond-flat, range-flat}
 use Rattle.tailrec_lang.specs.Tree.{ValuesTree, StepTree, Bind, BindMem, Need, BodyTree, Do, Branch, Call, Again, Leave, ArmTrees, NoArm, Arm, DefTree, GroupTree}
 use Rattle.tailrec_lang.specs.declared.group.Exit.{Exit}
 use Rattle.tailrec_lang.specs.declared.group.Exit.TheVariants.{At, Ret}
-use Rattle.proof_text.specs.Line.{RuleTree, Axiom, Inst, Frame, Compose, ExtendCode, Strengthen, Weaken, Discharge, UseExit, LineTree, States, Loop, Forget, Further, ProofTree}
+use Rattle.proof_text.specs.Line.{RuleTree, Axiom, Inst, Frame, Compose, ExtendCode, Strengthen, Weaken, Discharge, UseExit, LineTree, States, Loop, Forget, Further}
 use Rattle.proof_text.specs.LineLimits.{IsLineIn}
 use Rattle.proof_text.specs.LineSpelling.{rule_tokens, line_tokens_in}
 use Rattle.group_text.specs.Limits.{AreGroupsIn}
-use Rattle.proof_text.specs.Proofs.{proof_tokens_in, text_of_proofs_in, AreProofsIn, groups_of}
+use Rattle.proof_text.specs.LineSpelling.{code_tokens, form_tokens, same_ranges}
+use Rattle.proof_text.specs.LineGrammar.{AreProofsOver, proof_tokens_over}
+use Rattle.proof_text.specs.Proofs.{groups_of}
+use Rattle.proof_text.specs.FirstProofs.{Adds}
+use Rattle.proof_text.proofs.TextItems.{AreItems, items-fit}
+use Rattle.triple_kernel.specs.declared.form.Form.{Form}
+use Rattle.triple_kernel.specs.declared.form.Form.TheVariants.{Next, Taken}
+use Rattle.term_arena.specs.declared.node.Node.{Node}
+use Rattle.term_arena.specs.declared.node.Node.TheVariants as node
+use Rattle.held_terms.specs.declared.held.HeldFact.{HeldFact}
+use Rattle.held_terms.specs.declared.held.HeldFact.TheVariants as held
+use Rattle.held_terms.specs.declared.held.HeldSide.{HeldSide}
+use Rattle.held_terms.specs.declared.held.HeldValues.{HeldValues}
+use Rattle.short_text.specs.declared.short.Short.{Short}
+use Rattle.short_text.specs.declared.short.Short.TheVariants as short
+use Rattle.short_text.specs.declared.short.ShortLine.{ShortLine}
+use Rattle.short_text.specs.declared.short.ShortLine.TheVariants.{Proof, Term}
+use Rattle.short_text.specs.ShortProofs.{short_line_tokens}
+use Rattle.short_text.specs.ShortSpelling.{held_fact_tokens, held_register_tokens, held_side_tokens, held_values_tokens, list_tokens, mem_place_tokens, node_tokens, short_tokens, term_number, word_place_tokens}
+use Rattle.proof_v2.specs.AnyText.{AnyProof, ListsIn, any_lines}
+use Rattle.proof_v2.proofs.AnyKnown.{any_fits, any_known}
 use Rattle.group_text.specs.Spelling.{line, number, address, exit_tokens, values_tokens, step_tokens, arm_count, body_tokens, arm_tokens, def_tokens, group_tokens, title_tokens, end_tokens, text_in}
 use Rattle.group_text.specs.declared.version.Version.{Version as Known}
 use Rattle.group_text.specs.declared.version.Version.TheVariants.{One, Two, Three, Four}
@@ -273,41 +293,163 @@ module _ (known : Known) where
       let real = subst AreTokens (sym e) (line-is-tokens known own (Further p t) h) in
       subst Goes e (row-goes row flat (further-named known h.0 p behind) real)
 
-  proof-lines-go : (own : List Range) (ls : List LineTree) → AllByRecursion (IsLineIn (version_of known)) ls
-      → (us vs : List Tok) → AreSame us vs → AreSame (flat_map (tokens_of own) ls ++ us) vs
-  proof-lines-go own [] h us vs s = s
-  proof-lines-go own (l ∷ ls) h us vs s =
-      let rest = flat_map (tokens_of own) ls in
-      ap (λ (ts : List Tok). without_proofs (spell Start ts)) (append_assoc (tokens_of own l) rest us)
-      ∙ (proof-line-goes own l h.0).same (rest ++ us) vs (proof-lines-go own ls h.1 us vs s)
+-- ---- tables, and short lines over them
 
-  -- ---- the text
+form-flat : (name : List ℕ) (parts : List (List Tok)) → AllByRecursion IsFlat parts → IsFlat (form name parts)
+form-flat name parts h = ((λ e. absurd cc), atom-flat name (joined parts (Right ∷ [])) (by parts h))
+  where
+    by : (ps : List (List Tok)) → AllByRecursion IsFlat ps → IsFlat (joined ps (Right ∷ []))
+    by [] k = ((λ e. absurd cc), tt)
+    by (p ∷ ps) k = flat-append p (joined ps (Right ∷ [])) k.0 (by ps k.1)
+
+term-flat : (k : ℕ) → IsFlat (term_number k)
+term-flat k = atom-flat _ [] tt
+
+terms-flat : (ks : List ℕ) → IsFlat (flat_map term_number ks)
+terms-flat ks = each-flat term_number term-flat ks
+
+node-flat : (n : Node) → IsFlat (node_tokens n)
+node-flat (node.Const n) = atom-flat _ [] tt
+node-flat (node.WordVar i) = atom-flat _ [] tt
+node-flat (node.Bin op a b) = form-flat _ (term_number a ∷ term_number b ∷ []) (term-flat a, (term-flat b, tt))
+node-flat (node.Extend ext a) = form-flat _ (term_number a ∷ []) (term-flat a, tt)
+node-flat (node.Load width m a) = form-flat _ (term_number m ∷ term_number a ∷ []) (term-flat m, (term-flat a, tt))
+node-flat (node.MemVar i) = atom-flat _ [] tt
+node-flat (node.Store width m a v) = form-flat _ (term_number m ∷ term_number a ∷ term_number v ∷ []) (term-flat m, (term-flat a, (term-flat v, tt)))
+node-flat (node.Compare cmp a b) = form-flat _ (term_number a ∷ term_number b ∷ []) (term-flat a, (term-flat b, tt))
+node-flat (node.Neg c) = form-flat _ (term_number c ∷ []) (term-flat c, tt)
+node-flat (node.Inside width m a) = form-flat _ (term_number m ∷ term_number a ∷ []) (term-flat m, (term-flat a, tt))
+
+held-values-flat : (v : HeldValues) → IsFlat (held_values_tokens v)
+held-values-flat v = flat-append (flat_map term_number v.words) (Semi ∷ flat_map term_number v.mems) (terms-flat v.words) ((λ e. absurd cc), terms-flat v.mems)
+
+semi-flat : IsFlat (Semi ∷ [])
+semi-flat = ((λ e. absurd cc), tt)
+
+held-fact-flat : (f : HeldFact) → IsFlat (held_fact_tokens f)
+held-fact-flat (held.WordIs a b) = form-flat _ (term_number a ∷ term_number b ∷ []) (term-flat a, (term-flat b, tt))
+held-fact-flat (held.MemIs a b) = form-flat _ (term_number a ∷ term_number b ∷ []) (term-flat a, (term-flat b, tt))
+held-fact-flat (held.So c) = form-flat _ (term_number c ∷ []) (term-flat c, tt)
+held-fact-flat (held.Gives def exit args results) =
+    form-flat _ (number def ∷ number exit ∷ held_values_tokens args ∷ (Semi ∷ []) ∷ held_values_tokens results ∷ [])
+    (number-flat def, (number-flat exit, (held-values-flat args, (semi-flat, (held-values-flat results, tt)))))
+
+place-flat : (name : List ℕ) (k : ℕ) → IsFlat (form name (term_number k ∷ []))
+place-flat name k = form-flat name (term_number k ∷ []) (term-flat k, tt)
+
+registers-flat : (rs : List (ℕ × ℕ)) → IsFlat (flat_map held_register_tokens rs)
+registers-flat rs = each-flat held_register_tokens (λ r. place-flat (decimal r.0) r.1) rs
+
+word-places-flat : (ps : List (ℕ × ℕ)) → IsFlat (flat_map word_place_tokens ps)
+word-places-flat ps = each-flat word_place_tokens (λ s. place-flat (codes "v" ++ decimal s.0) s.1) ps
+
+mem-places-flat : (ps : List (ℕ × ℕ)) → IsFlat (flat_map mem_place_tokens ps)
+mem-places-flat ps = each-flat mem_place_tokens (λ s. place-flat (codes "m" ++ decimal s.0) s.1) ps
+
+side-flat : (s : HeldSide) → IsFlat (held_side_tokens s)
+side-flat s = ((λ e. absurd cc), by)
+  where
+    close : IsFlat (flat_map term_number s.mems ++ (Right ∷ []))
+    close = flat-append (flat_map term_number s.mems) (Right ∷ []) (terms-flat s.mems) ((λ e. absurd cc), tt)
+
+    by : IsFlat (joined (term_number s.pc ∷ flat_map held_register_tokens s.regs ∷ (Semi ∷ []) ∷ flat_map term_number s.mems ∷ []) (Right ∷ []))
+    by = flat-append (term_number s.pc) _ (term-flat s.pc) (flat-append (flat_map held_register_tokens s.regs) _ (registers-flat s.regs) (flat-append (Semi ∷ []) _ semi-flat close))
+
+code-flat : (own rs : List Range) → IsFlat (code_tokens own rs)
+code-flat own rs = by (same_ranges rs own)
+  where
+    by : (b : Bool) → IsFlat (if b then Atom (codes "all") ∷ [] else flat_map range_tokens rs)
+    by true = atom-flat _ [] tt
+    by false = each-flat range_tokens range-flat rs
+
+facts-flat : (fs : List HeldFact) → IsFlat (list_tokens (codes "facts") held_fact_tokens fs)
+facts-flat fs = atom-flat _ (flat_map held_fact_tokens fs) (each-flat held_fact_tokens held-fact-flat fs)
+
+next-flat : (form : Form) → IsFlat (form_tokens form)
+next-flat Next = atom-flat _ [] tt
+next-flat Taken = atom-flat _ [] tt
+
+module _ (own : List Range) where
+  short-goes : (s : Short) → AreTokens (short_tokens own s) → Goes (short_tokens own s)
+  short-goes (short.Axiom a word form) = line-goes (codes "axiom") (address a ∷ address word ∷ form_tokens form ∷ []) (atom-flat _ [] tt, (atom-flat _ [] tt, (next-flat form, tt))) refl
+  short-goes (short.Inst p words mems) =
+      line-goes (codes "inst") (number p ∷ flat_map word_place_tokens words ∷ flat_map mem_place_tokens mems ∷ []) (number-flat p, (word-places-flat words, (mem-places-flat mems, tt))) refl
+  short-goes (short.Frame p regs mems) =
+      line-goes (codes "frame") (number p ∷ flat_map held_register_tokens regs ∷ (Semi ∷ []) ∷ flat_map term_number mems ∷ [])
+      (number-flat p, (registers-flat regs, (semi-flat, (terms-flat mems, tt)))) refl
+  short-goes (short.ExtendCode p code) =
+      line-goes (codes "extend") (number p ∷ (Atom (codes "code") ∷ code_tokens own code.ranges) ∷ []) (number-flat p, (atom-flat _ (code_tokens own code.ranges) (code-flat own code.ranges), tt)) refl
+  short-goes (short.Compose p q) = line-goes (codes "compose") (number p ∷ number q ∷ []) (number-flat p, (number-flat q, tt)) refl
+  short-goes (short.Strengthen p facts pre) =
+      line-goes (codes "strengthen") (number p ∷ list_tokens (codes "facts") held_fact_tokens facts ∷ (Atom (codes "pre") ∷ held_side_tokens pre) ∷ [])
+      (number-flat p, (facts-flat facts, (atom-flat _ (held_side_tokens pre) (side-flat pre), tt))) refl
+  short-goes (short.Weaken p facts post) =
+      line-goes (codes "weaken") (number p ∷ list_tokens (codes "facts") held_fact_tokens facts ∷ (Atom (codes "post") ∷ held_side_tokens post) ∷ [])
+      (number-flat p, (facts-flat facts, (atom-flat _ (held_side_tokens post) (side-flat post), tt))) refl
+  short-goes (short.Discharge p facts) = line-goes (codes "discharge") (number p ∷ list_tokens (codes "facts") held_fact_tokens facts ∷ []) (number-flat p, (facts-flat facts, tt)) refl
+  short-goes (short.UseExit def exit) = line-goes (codes "use") (number def ∷ number exit ∷ []) (number-flat def, (number-flat exit, tt)) refl
+  short-goes (short.Loop def cited) = line-goes (codes "loop") (number def ∷ flat_map number cited ∷ []) (number-flat def, (each-flat number number-flat cited, tt)) refl
+  short-goes (short.Forget k) = line-goes (codes "forget") (number k ∷ []) (number-flat k, tt) refl
+
+  short-line-goes : (l : ShortLine) → AreTokens (short_line_tokens own l) → Goes (short_line_tokens own l)
+  short-line-goes (Term n) = line-goes (codes "term") (node_tokens n ∷ []) (node-flat n, tt) refl
+  short-line-goes (Proof s) = short-goes s
+
+-- ---- the text
+
+module _ (k : Known) where
+  abbrev tokens_in : List Range → (any_lines k).Line → List Tok
+  tokens_in own l = (any_lines k).tokens (version_of k) own l
+
+any-line-goes : (k : Known) (own : List Range) (before : List (any_lines k).Line) (l : (any_lines k).Line) → any_fits k (version_of k) before l → AreTokens (tokens_in k own l) → Goes (tokens_in k own l)
+any-line-goes One own before l h real = proof-line-goes One own l h
+any-line-goes Two own before l h real = short-line-goes own l real
+any-line-goes Three own before l h real = proof-line-goes Three own l h
+any-line-goes Four own before l h real = proof-line-goes Four own l h
+
+module _ (k : Known) where
+  lines-go : (own : List Range) (before ls : List (any_lines k).Line) → AreItems (any_known k) before (map Adds ls ++ [])
+      → (us vs : List Tok) → AreSame us vs → AreSame (flat_map (tokens_in k own) ls ++ us) vs
+  lines-go own before [] h us vs s = s
+  lines-go own before (l ∷ ls) h us vs s =
+      let rest = flat_map (tokens_in k own) ls in
+      ap (λ (ts : List Tok). without_proofs (spell Start ts)) (append_assoc (tokens_in k own l) rest us)
+      ∙ (any-line-goes k own before l h.0 ((any_known k).laws.real own before l h.0)).same (rest ++ us) vs (lines-go own (before ++ l ∷ []) ls h.1 us vs s)
 
   -- behind the first line
-  abbrev proofs_rest : List ProofTree → List Tok
-  proofs_rest ps = flat_map (proof_tokens_in (version_of known)) ps ++ end_tokens
+  abbrev proofs_rest : List (AnyProof k) → List Tok
+  proofs_rest ps = flat_map (proof_tokens_over (any_lines k) (version_of k)) ps ++ end_tokens
 
-  abbrev groups_rest : List ProofTree → List Tok
+  abbrev groups_rest : List (AnyProof k) → List Tok
   groups_rest ps = flat_map group_tokens (groups_of ps) ++ end_tokens
 
-  proofs-same : (ps : List ProofTree) → AreProofsIn (version_of known) ps → AreSame (proofs_rest ps) (groups_rest ps)
+  proofs-same : (ps : List (AnyProof k)) → AreProofsOver (any_lines k) (version_of k) ps → AreSame (proofs_rest ps) (groups_rest ps)
   proofs-same [] h = refl
   proofs-same (p ∷ ps) h =
-      let lines = flat_map (tokens_of p.group.code) p.lines in
-      let item_apart = append_assoc (proof_tokens_in (version_of known) p) (flat_map (proof_tokens_in (version_of known)) ps) end_tokens in
+      let lines = flat_map (tokens_in k p.group.code) p.lines in
+      let item_apart = append_assoc (proof_tokens_over (any_lines k) (version_of k) p) (flat_map (proof_tokens_over (any_lines k) (version_of k)) ps) end_tokens in
       let lines_apart = append_assoc (group_tokens p.group) lines (proofs_rest ps) in
       let group_apart = append_assoc (group_tokens p.group) (flat_map group_tokens (groups_of ps)) end_tokens in
-      let behind = proof-lines-go p.group.code p.lines h.0.lines (proofs_rest ps) (groups_rest ps) (proofs-same ps h.1) in
+      let one = items-fit (any_known k) (p ∷ []) (h.0, tt) [] in
+      let behind = lines-go p.group.code [] p.lines one.1 (proofs_rest ps) (groups_rest ps) (proofs-same ps h.1) in
       ap (λ (ts : List Tok). without_proofs (spell Start ts)) (item_apart ∙ lines_apart)
-      ∙ (group-stays p.group (group-tokens known p.group h.0.group)).same (lines ++ proofs_rest ps) (groups_rest ps) behind
+      ∙ (group-stays p.group (group-tokens k p.group h.0.group)).same (lines ++ proofs_rest ps) (groups_rest ps) behind
       ∙ ap (λ (ts : List Tok). lines_of (spell Start ts)) (sym group_apart)
 
-  title-stays : Stays (title_tokens (version_of known))
-  title-stays = line-stays (codes "mcproof") ((Atom (version_of known).title ∷ []) ∷ []) (atom-flat (version_of known).title [] tt, tt) refl (title-tokens known)
+  title-stays : Stays (title_tokens (version_of k))
+  title-stays = line-stays (codes "mcproof") ((Atom (version_of k).title ∷ []) ∷ []) (atom-flat (version_of k).title [] tt, tt) refl (title-tokens k)
 
-  pub groups-left : (ps : List ProofTree) → AreProofsIn (version_of known) ps → without_proofs (text_of_proofs_in (version_of known) ps) ≡ lines_of (text_in (version_of known) (groups_of ps))
-  groups-left ps h = title-stays.same (proofs_rest ps) (groups_rest ps) (proofs-same ps h)
+  -- of the groups that a text has
+  module _ (text : List ℕ) (gs : List GroupTree) (l : ListsIn k text gs) where
+    pub groups-left : without_proofs text ≡ lines_of (text_in (version_of k) gs)
+    groups-left =
+        ap without_proofs l.spelled.spelled
+        ∙ title-stays.same (proofs_rest l.proofs) (groups_rest l.proofs) (proofs-same l.proofs l.spelled.fit)
+        ∙ ap (λ (hs : List GroupTree). lines_of (text_in (version_of k) hs)) (sym l.groups)
 
-  pub groups-fit : (ps : List ProofTree) → AreProofsIn (version_of known) ps → AreGroupsIn (version_of known) (groups_of ps)
-  groups-fit [] h = tt
-  groups-fit (p ∷ ps) h = (h.0.group, groups-fit ps h.1)
+    pub groups-fit : AreGroupsIn (version_of k) gs
+    groups-fit = subst (AreGroupsIn (version_of k)) (sym l.groups) (each l.proofs l.spelled.fit)
+      where
+        each : (ps : List (AnyProof k)) → AreProofsOver (any_lines k) (version_of k) ps → AreGroupsIn (version_of k) (groups_of ps)
+        each [] h = tt
+        each (p ∷ ps) h = (h.0.group, each ps h.1)

@@ -5,7 +5,7 @@ use Rattle.mcdec_answers.specs.declared.answer.Answer.{Answer}
 use Rattle.mcdec_answers.specs.declared.answer.Answer.TheVariants as answer
 use Rattle.mcdec_answers.specs.declared.answer.SelfTestAnswer.{SelfTestAnswer}
 use Rattle.mcdec_words.specs.declared.command.Form.{Form}
-use Rattle.mcdec_words.specs.Command.{Arg, Check, Decompile, Eval, Laws, Run, SelfTest, Simplify, Smt, Words, inputs_of, output_of}
+use Rattle.mcdec_words.specs.Command.{Arg, Check, Decompile, Eval, Laws, Run, SelfTest, Simplify, Smt, Migrate, Words, inputs_of, output_of}
 use Rattle.mcdec_commands.specs.SelfTestAnswer.{SelfTestGives}
 use Rattle.mcdec_commands.specs.Answer.{Gives}
 use Rattle.mcdec_commands.specs.inner.SelfTesting.{TestGives}
@@ -24,6 +24,7 @@ test-gives told ws number size rose wrote w (answer.Decompile a) h = absurd h
 test-gives told ws number size rose wrote w (answer.Simplify a) h = absurd h
 test-gives told ws number size rose wrote w (answer.Laws a) h = absurd h
 test-gives told ws number size rose wrote w (answer.Smt a) h = absurd h
+test-gives told ws number size rose wrote w (answer.Migrate a) h = absurd h
 test-gives told ws number size rose wrote w (answer.SelfTest a) h = (number, size, w, h)
 
 -- ---- no other answer
@@ -49,6 +50,9 @@ no-laws p c n k e = cc
 no-smt : (p m : List ℕ) (d : ℕ) (o : List ℕ) (n k : ℕ) → Smt p m d o ≡ SelfTest n k → ⊥
 no-smt p m d o n k e = cc
 
+no-migrate : (f p o : List ℕ) (n k : ℕ) → Migrate f p o ≡ SelfTest n k → ⊥
+no-migrate f p o n k e = cc
+
 same-numbers : (m j n k : ℕ) → SelfTest m j ≡ SelfTest n k → (m ≡ n) × (j ≡ k)
 same-numbers m j n k e = (cc, cc)
 
@@ -66,6 +70,7 @@ answers told ws rose wrote n k w (answer.Decompile a) (form, f, o, names, v, h) 
 answers told ws rose wrote n k w (answer.Simplify a) (p, m, o, v, h) = absurd (no-simplify p m o n k (words-unique ws (Simplify p m o) (SelfTest n k) v w))
 answers told ws rose wrote n k w (answer.Laws a) (p, c, v, h) = absurd (no-laws p c n k (words-unique ws (Laws p c) (SelfTest n k) v w))
 answers told ws rose wrote n k w (answer.Smt a) (p, m, d, o, v, h) = absurd (no-smt p m d o n k (words-unique ws (Smt p m d o) (SelfTest n k) v w))
+answers told ws rose wrote n k w (answer.Migrate a) (f, p, o, v, h) = absurd (no-migrate f p o n k (words-unique ws (Migrate f p o) (SelfTest n k) v w))
 answers told ws rose wrote n k w (answer.SelfTest a) (m, j, v, h) =
     let same = same-numbers m j n k (words-unique ws (SelfTest m j) (SelfTest n k) v w) in
     inl (a, refl, subst (λ (y : ℕ). SelfTestGives n y a) same.1 (subst (λ (x : ℕ). SelfTestGives x j a) same.0 h))

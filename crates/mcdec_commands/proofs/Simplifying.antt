@@ -42,6 +42,7 @@ text-gives told ws proof name out file rose wrote w held (answer.SelfTest a) sin
 text-gives told ws proof name out file rose wrote w held (answer.Simplify a) since h = (proof, name, out, w, held-with told proof file (λ f. SimplifyGives f name a) held h)
 text-gives told ws proof name out file rose wrote w held (answer.Laws a) since h = absurd h
 text-gives told ws proof name out file rose wrote w held (answer.Smt a) since h = absurd h
+text-gives told ws proof name out file rose wrote w held (answer.Migrate a) since h = absurd h
 
 -- ---- the certificate is written
 

@@ -3,7 +3,7 @@ use Rattle.std.specs.Prelude.{◌≡◌, ◌≢◌, ℕ, List, [], All, Option, 
 use Rattle.mc_shelf.specs.Shelf.{Contents, TellsName}
 use Rattle.mcdec_answers.specs.declared.answer.Answer.{Answer}
 use Rattle.mcdec_answers.specs.declared.answer.Answer.TheVariants as answer
-use Rattle.mcdec_words.specs.Command.{Command, Eval, Run, Check, Decompile, SelfTest, Simplify, Laws, Smt, Arg, Words, IsNoCommand, inputs_of, output_of}
+use Rattle.mcdec_words.specs.Command.{Command, Eval, Run, Check, Decompile, SelfTest, Simplify, Laws, Smt, Migrate, Arg, Words, IsNoCommand, inputs_of, output_of}
 use Rattle.mcdec_words.specs.declared.command.Form.{Form}
 use Rattle.mcdec_commands.specs.Held.{HoldsWith}
 use Rattle.mcdec_commands.specs.EvalAnswer.{EvalGives}
@@ -14,6 +14,7 @@ use Rattle.mcdec_commands.specs.RunAnswer.{RunGives}
 use Rattle.mcdec_commands.specs.SimplifyAnswer.{IsRefusal, SimplifyGives}
 use Rattle.mcdec_commands.specs.LawsAnswer.{LawsGives}
 use Rattle.mcdec_commands.specs.SmtAnswer.{SmtGives}
+use Rattle.mcdec_commands.specs.MigrateAnswer.{MigrateGives}
 
 -- the command reads a file
 abbrev pub HasInputs : Command → Type 0
@@ -45,6 +46,8 @@ Gives told ws rose wrote (answer.Simplify a) =
 Gives told ws rose wrote (answer.Laws a) = (proof cert : List ℕ) × Words ws (Laws proof cert) × HoldsWith told proof (λ file. LawsGives told cert file a)
 Gives told ws rose wrote (answer.Smt a) =
     (proof name : List ℕ) × (def : ℕ) × (out : List ℕ) × Words ws (Smt proof name def out) × HoldsWith told proof (λ file. SmtGives file name def a)
+Gives told ws rose wrote (answer.Migrate a) =
+    (elf proof out : List ℕ) × Words ws (Migrate elf proof out) × HoldsWith told elf (λ file. MigrateGives told proof file a)
 
 -- ---- the contract of the top call
 
@@ -62,6 +65,7 @@ IsDetermined (answer.SelfTest a) = ⊥
 IsDetermined (answer.Simplify a) = IsRefusal a
 IsDetermined (answer.Laws a) = Unit {0}
 IsDetermined (answer.Smt a) = Unit {0}
+IsDetermined (answer.Migrate a) = Unit {0}
 
 -- each file that the words' command reads is there
 abbrev pub ReadsAreTold : Option Contents → List (List ℕ) → Type 0

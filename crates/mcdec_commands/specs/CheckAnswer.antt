@@ -34,8 +34,8 @@ CheckGives told proof file answer.ElfOverLimit = elf_limit < length file
 CheckGives told proof file answer.ProofOverLimit = IsLoaded file × HoldsWith told proof (λ text. proof_limit < length text)
 CheckGives told proof file (answer.Judged v) = VerdictGives told proof file v
 
--- The one name holds an ELF file, the other a text of that version. Without the lines of proofs this is the text of these
--- groups, whose functions are right of the file.
+-- The one name holds an ELF file, the other a text of that version. Without the lines of proofs and of their tables this is the
+-- text of these groups, whose functions are right of the file.
 pub record AreRightFiles (files : Contents) (elf proof : List ℕ) : Type 0 where
   pub file : List ℕ
   pub text : List ℕ

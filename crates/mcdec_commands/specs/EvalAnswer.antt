@@ -7,12 +7,9 @@ use Rattle.rv_words.specs.declared.range.Range.{Range}
 use Rattle.tailrec_lang.specs.Tree.{GroupTree, listed_def}
 use Rattle.tailrec_lang.specs.WellFormed.{IsWellFormed, IsFirstIllFormed}
 use Rattle.tailrec_lang.specs.Eval.{Arguments, Done, SideFalse, Turns, eval}
-use Rattle.proof_text.specs.Line.{ProofTree}
-use Rattle.group_text.specs.Version.{Version}
-use Rattle.proof_text.specs.Proofs.{bare, groups_of, texts_of_proofs_in}
-use Rattle.proof_text.specs.FirstProofs.{AreReadIn}
-use Rattle.checker.specs.Verdicts.{IsTextOfIn}
-use Rattle.text_versions.specs.Versions.{version_for}
+use Rattle.group_text.specs.declared.version.Version.{Version as Known}
+use Rattle.proof_v2.specs.AnyText.{BeginsIn, ListsIn, any_texts}
+use Rattle.proof_v2.specs.Titles.{named_version}
 use Rattle.mcdec_answers.specs.declared.answer.EvalAnswer.{EvalAnswer}
 use Rattle.mcdec_answers.specs.declared.answer.EvalAnswer.TheVariants as answer
 use Rattle.mcdec_answers.specs.declared.answer.Shown.{Shown}
@@ -59,32 +56,32 @@ AreWellFormed gs = AllByRecursion IsWellFormed gs
 
 -- ---- what is found in a text of that version
 
--- the text is that of groups with the lines of their proofs, all groups are well-formed, and this is the first of the name, if any
-pub record IsNamedIn (v : Version) (text name : List ℕ) (found : Option GroupTree) : Type 0 where
-  pub proofs : List ProofTree
-  pub spelled : IsTextOfIn v text proofs
-  pub well_formed : AreWellFormed (groups_of proofs)
-  pub first : first_named name (groups_of proofs) ≡ found
+-- the text is one of well-formed groups, and this is the first of the name, if any
+pub record IsNamedIn (k : Known) (text name : List ℕ) (found : Option GroupTree) : Type 0 where
+  pub groups : List GroupTree
+  pub listed : ListsIn k text groups
+  pub well_formed : AreWellFormed groups
+  pub first : first_named name groups ≡ found
 
--- the text isn't one of groups with the lines of proofs, from this line on, and the groups before it are well-formed
-abbrev pub HasBadLineIn : (v : Version) (text : List ℕ) (line : ℕ) → Type 0
-HasBadLineIn v text line = IsBadAt (texts_of_proofs_in v) text line × ((ps : List ProofTree) → AreReadIn v text ps → AreWellFormed (groups_of ps))
+-- the text isn't one of groups with what may stand behind them, from this line on, and the groups before it are well-formed
+abbrev pub HasBadLineIn : (k : Known) (text : List ℕ) (line : ℕ) → Type 0
+HasBadLineIn k text line = IsBadAt (any_texts k) text line × ((gs : List GroupTree) → BeginsIn k text gs → AreWellFormed gs)
 
 -- this definition of the group of that number is the text's first that isn't well-formed
-abbrev pub HasBadDefIn : (v : Version) (text : List ℕ) (group def : ℕ) → Type 0
-HasBadDefIn v text group def =
-    (ps : List ProofTree) × (g : GroupTree) × AreReadIn v text (ps ++ bare g ∷ []) × AreWellFormed (groups_of ps) × (group ≡ length ps) × IsFirstIllFormed g def
+abbrev pub HasBadDefIn : (k : Known) (text : List ℕ) (group def : ℕ) → Type 0
+HasBadDefIn k text group def =
+    (gs : List GroupTree) × (g : GroupTree) × BeginsIn k text (gs ++ g ∷ []) × AreWellFormed gs × (group ≡ length gs) × IsFirstIllFormed g def
 
 -- ---- in the version that the text's first line names
 
 abbrev pub IsNamed : (text name : List ℕ) → Option GroupTree → Type 0
-IsNamed text name found = IsNamedIn (version_for text) text name found
+IsNamed text name found = IsNamedIn (named_version text) text name found
 
 abbrev pub HasBadLine : (text : List ℕ) (line : ℕ) → Type 0
-HasBadLine text line = HasBadLineIn (version_for text) text line
+HasBadLine text line = HasBadLineIn (named_version text) text line
 
 abbrev pub HasBadDef : (text : List ℕ) (group def : ℕ) → Type 0
-HasBadDef text group def = HasBadDefIn (version_for text) text group def
+HasBadDef text group def = HasBadDefIn (named_version text) text group def
 
 -- What `eval` of a name comes to, where the proof file has these bytes. Lines of proofs are read, and not judged. A group is judged
 -- when its definitions are read: one that isn't well-formed is told before a bad line behind them, and after one among them.

@@ -6,10 +6,7 @@ use Rattle.mc_text.specs.Tokens.{spell}
 use Rattle.mc_text.specs.declared.token.Before.TheVariants.{Start}
 use Rattle.tailrec_lang.specs.Tree.{DefTree, GroupTree}
 use Rattle.group_text.specs.Spelling.{group_tokens}
-use Rattle.proof_text.specs.Line.{ProofTree}
-use Rattle.proof_text.specs.Proofs.{groups_of}
-use Rattle.checker.specs.Verdicts.{IsTextOfIn}
-use Rattle.text_versions.specs.Versions.{version_for}
+use Rattle.text_versions.specs.Versions.{IsTextListing}
 use Rattle.def_laws.specs.Rewriting.{AreRewritingSteps}
 use Rattle.def_laws.specs.Certs.{IsFirstBad}
 use Rattle.def_laws.specs.Evaluation.{EvaluateAlike}
@@ -24,9 +21,9 @@ use Rattle.mcdec_commands.specs.EvalAnswer.{AreWellFormed, HasBadDef, HasBadLine
 abbrev pub cert_limit : ℕ
 cert_limit = 268435456
 
--- the text is that of well-formed groups with the lines of their proofs
+-- the text is one of well-formed groups
 abbrev pub HasGroups : List ℕ → Type 0
-HasGroups text = (ps : List ProofTree) × IsTextOfIn (version_for text) text ps × AreWellFormed (groups_of ps)
+HasGroups text = (gs : List GroupTree) × IsTextListing text gs × AreWellFormed gs
 
 abbrev pub IsCertText : List ℕ → CertTree → Type 0
 IsCertText text c = IsCert c × (text ≡ cert_text c)

@@ -9,6 +9,7 @@ pub mod SelfTestAnswer
 pub mod SimplifyAnswer
 pub mod LawsAnswer
 pub mod SmtAnswer
+pub mod MigrateAnswer
 pub mod Output
 pub mod Answer
 pub mod inner

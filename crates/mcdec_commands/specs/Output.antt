@@ -1,16 +1,18 @@
 -- What the file that a command writes holds after it.
 use Rattle.std.specs.Prelude.{◌≡◌, ◌≢◌, ℕ, List, take, Option, Some, ◌⊎◌}
 use Rattle.mc_shelf.specs.Shelf.{Contents}
-use Rattle.mcdec_words.specs.Command.{Command, Decompile, Simplify, Smt}
+use Rattle.mcdec_words.specs.Command.{Command, Decompile, Simplify, Smt, Migrate}
 use Rattle.mcdec_commands.specs.DecompileAnswer.{IsTextFor}
 use Rattle.mcdec_commands.specs.SimplifyAnswer.{IsCertFor}
 use Rattle.mcdec_commands.specs.SmtAnswer.{IsScriptFor}
+use Rattle.mcdec_commands.specs.MigrateAnswer.{IsMigrationFor}
 
 -- the texts that a command may write, where the names hold these files
 abbrev pub IsOutput : Contents → Command → List ℕ → Type 0
 IsOutput files (Decompile form elf out names) = IsTextFor form files elf names
 IsOutput files (Simplify proof name out) = IsCertFor files proof name
 IsOutput files (Smt proof name def out) = IsScriptFor files proof name def
+IsOutput files (Migrate elf proof out) = IsMigrationFor files elf proof
 IsOutput files other = λ text. ⊥
 
 -- it holds all of such a text

@@ -7,3 +7,4 @@ pub mod SelfTesting
 pub mod Simplifying
 pub mod Exporting
 pub mod Judging
+pub mod Migrating

@@ -13,6 +13,7 @@ use crate::check::answer_check;
 use crate::decompile::answer_decompile;
 use crate::eval::answer_eval;
 use crate::laws::answer_laws;
+use crate::migrate::answer_migrate;
 use crate::run::answer_run;
 use crate::selftest::answer_selftest;
 use crate::simplify::answer_simplify;
@@ -89,5 +90,6 @@ fn answer_words<S: Shelf>(alloc: Global, words: &[String], shelf: &mut S) -> Ans
         Command::Simplify(s) => answer_simplify(alloc, &s, shelf),
         Command::Laws(l) => answer_laws(alloc, &l, shelf),
         Command::Smt(s) => answer_smt(alloc, &s, shelf),
+        Command::Migrate(m) => answer_migrate(alloc, &m, shelf),
     }
 }

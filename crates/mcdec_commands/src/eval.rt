@@ -7,7 +7,7 @@ ghost use Rattle.tailrec_lang.specs.Eval.{HasFewNeeds};
 ghost use Rattle.tailrec_lang.specs.WellFormed.{IsWellFormed};
 ghost use Rattle.group_text.specs.Limits.{IsGroupIn};
 ghost use Rattle.group_text.specs.Version.{version_of};
-ghost use Rattle.proof_text.specs.FirstProofs.{HasGiven};
+ghost use Rattle.proof_v2.specs.AnyReading.{HasGivenAny};
 ghost use Rattle.mcdec_commands.specs.Answer.{Gives, ReadsAreTold};
 ghost use Rattle.mcdec_words.specs.Command.{Arg, AreArgs, IsMemory};
 ghost use Rattle.mcdec_words.specs.CommandReading.{HoldsArgs, IsReadEval, value_in};
@@ -18,7 +18,8 @@ use crate::memory::{memories, ranges_in};
 use mc_shelf::{ReadEnd, Shelf, read_file};
 use mcdec_answers::{Answer, EvalAnswer, Shown};
 use mcdec_words::{Eval, Registers};
-use proof_text::{Line, Reader, TextFault};
+use proof_text::TextFault;
+use proof_v2::{AnyLine, AnyReader};
 use rv_words::{List, NoMemory};
 use std::alloc::Global;
 use tailrec_lang::{Args, BadDef, Group, Outcome, eval, well_formed};
@@ -85,15 +86,15 @@ fn evaluate_text(alloc: Global, text: &[u8], e: &Eval<'_>) -> Result<EvalAnswer,
 pub fn find_group(alloc: Global, text: &[u8], name: &[u8]) -> Result<Group, Refusal>
     ensures { Finds text.now name.now result }
 {
-    let mut reader = reader_of(text);
+    let mut reader = reader_of(alloc, text);
     find_in(alloc, &mut reader, name)
 }
 
 /// The first group of that name in a text of the reader's version, of which nothing was read.
-fn find_in(alloc: Global, reader: &mut Reader<'_>, name: &[u8]) -> Result<Group, Refusal>
-    requires start { HasGiven [] reader.old }
-    requires within { length reader.old.text < 2 ^ 63 }
-    ensures { FindsIn (version_of reader.old.version) reader.old.text name.now result }
+fn find_in(alloc: Global, reader: &mut AnyReader<'_>, name: &[u8]) -> Result<Group, Refusal>
+    requires start { HasGivenAny reader.old.progress.version [] reader.old }
+    requires within { length reader.old.progress.text < 2 ^ 63 }
+    ensures { FindsIn reader.old.progress.version reader.old.progress.text name.now result }
 {
     let mut found = None;
     let mut count = 0;
@@ -125,7 +126,11 @@ fn first_named(found: Option<Group>, next: Group, name: &[u8]) -> Option<Group>
 }
 
 /// The next group, if it is well-formed, with the lines of its proof passed over. Its number is told of one that isn't.
-fn next_group(alloc: Global, reader: &mut Reader<'_>, number: u64) -> Result<Option<Group>, Refusal>
+fn next_group(
+    alloc: Global,
+    reader: &mut AnyReader<'_>,
+    number: u64,
+) -> Result<Option<Group>, Refusal>
     ensures { NextIs number reader.old reader.new result }
 {
     match reader.group(alloc) {
@@ -143,8 +148,8 @@ fn next_group(alloc: Global, reader: &mut Reader<'_>, number: u64) -> Result<Opt
 }
 
 /// Reads the lines of a group's proof, up to where they end.
-fn pass_lines(alloc: Global, reader: &mut Reader<'_>, g: &Group) -> Result<(), Refusal>
-    requires { IsGroupIn (version_of reader.old.version) (group_tree g.now) }
+fn pass_lines(alloc: Global, reader: &mut AnyReader<'_>, g: &Group) -> Result<(), Refusal>
+    requires { IsGroupIn (version_of reader.old.progress.version) (group_tree g.now) }
     ensures { LinesArePassed (group_tree g.now) reader.old reader.new result }
 {
     while let Some(_) = next_line(alloc, reader, g)? {}
@@ -152,8 +157,12 @@ fn pass_lines(alloc: Global, reader: &mut Reader<'_>, g: &Group) -> Result<(), R
 }
 
 /// The next line of a group's proof, or none where they end.
-fn next_line(alloc: Global, reader: &mut Reader<'_>, g: &Group) -> Result<Option<Line>, Refusal>
-    requires { IsGroupIn (version_of reader.old.version) (group_tree g.now) }
+fn next_line(
+    alloc: Global,
+    reader: &mut AnyReader<'_>,
+    g: &Group,
+) -> Result<Option<AnyLine>, Refusal>
+    requires { IsGroupIn (version_of reader.old.progress.version) (group_tree g.now) }
     ensures { LineIs (group_tree g.now) reader.old reader.new result }
 {
     match reader.line(alloc, g) {

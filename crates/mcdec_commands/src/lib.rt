@@ -2,8 +2,8 @@
 //!
 //! `run_words(alloc, &words, &mut shelf, &mut out)` does what the words of a command line say, prints the lines of the
 //! answer into the sink, and gives its exit status. Each command has a file, with one call that reads what the command
-//! needs and makes an `Answer`: `answer_eval`, `answer_run` and so on. `decompile`, `simplify` and `smt` write a file, only
-//! after all that can be refused was tried, by `output::write_answer`.
+//! needs and makes an `Answer`: `answer_eval`, `answer_run` and so on. `decompile`, `simplify`, `smt` and `migrate` write a
+//! file, only after all that can be refused was tried, by `output::write_answer`.
 //!
 //! A `Shelf` is files by name and a `Sink` the output, both traits of mc_shelf, so that proofs and tests run the same code
 //! as the program does, over files in memory.
@@ -19,6 +19,7 @@ mod decompile;
 mod eval;
 mod laws;
 mod memory;
+mod migrate;
 mod output;
 mod run;
 mod selftest;

@@ -2,7 +2,7 @@
 use Rattle.std.proofs.Common.{◌≡◌, ℕ, false, List, ◌∷◌, codes, refl, sym, ap, ◌∙◌, true≢false}
 use Rattle.std.specs.Str.{bytes_eq}
 use Rattle.std.proofs.lemmas.Slice.Eq.{bytes_eq-Decides}
-use Rattle.mcdec_words.specs.Command.{Command, Eval, Run, Check, Decompile, SelfTest, Simplify, Laws, Smt, Arg, Words, form_word, words_of}
+use Rattle.mcdec_words.specs.Command.{Command, Eval, Run, Check, Decompile, SelfTest, Simplify, Laws, Smt, Migrate, Arg, Words, form_word, words_of}
 use Rattle.mcdec_words.specs.declared.command.Form.{Form}
 use Rattle.mcdec_words.specs.declared.command.Form.TheVariants.{Alone, Linked, Split}
 use Rattle.mcdec_words.specs.CommandReading.{operands_of}
@@ -20,6 +20,7 @@ name_of (SelfTest number size) = codes "selftest"
 name_of (Simplify proof name out) = codes "simplify"
 name_of (Laws proof cert) = codes "laws"
 name_of (Smt proof name def out) = codes "smt"
+name_of (Migrate elf proof out) = codes "migrate"
 
 name-first : (c : Command) → words_of c ≡ name_of c ∷ operands_of c
 name-first (Eval proof name turns args) = refl
@@ -30,6 +31,7 @@ name-first (SelfTest number size) = refl
 name-first (Simplify proof name out) = refl
 name-first (Laws proof cert) = refl
 name-first (Smt proof name def out) = refl
+name-first (Migrate elf proof out) = refl
 
 -- words of which the first is told are those of a command of that name
 pub named-words : (ws rest : List (List ℕ)) (name : List ℕ) (c : Command) → ws ≡ name ∷ rest → Words ws c → (name_of c ≡ name) × (rest ≡ operands_of c)
@@ -73,6 +75,7 @@ is-eval (SelfTest number size) e = absurd (other-name (codes "selftest") (codes 
 is-eval (Simplify proof name out) e = absurd (other-name (codes "simplify") (codes "eval") refl e)
 is-eval (Laws proof cert) e = absurd (other-name (codes "laws") (codes "eval") refl e)
 is-eval (Smt proof name def out) e = absurd (other-name (codes "smt") (codes "eval") refl e)
+is-eval (Migrate elf proof out) e = absurd (other-name (codes "migrate") (codes "eval") refl e)
 
 pub is-run : (c : Command) → name_of c ≡ codes "run" → (elf start : List ℕ) × (until steps : ℕ) × (args : List Arg) × (c ≡ Run elf start until steps args)
 is-run (Eval proof name turns args) e = absurd (other-name (codes "eval") (codes "run") refl e)
@@ -83,6 +86,7 @@ is-run (SelfTest number size) e = absurd (other-name (codes "selftest") (codes "
 is-run (Simplify proof name out) e = absurd (other-name (codes "simplify") (codes "run") refl e)
 is-run (Laws proof cert) e = absurd (other-name (codes "laws") (codes "run") refl e)
 is-run (Smt proof name def out) e = absurd (other-name (codes "smt") (codes "run") refl e)
+is-run (Migrate elf proof out) e = absurd (other-name (codes "migrate") (codes "run") refl e)
 
 pub is-check : (c : Command) → name_of c ≡ codes "check" → (elf proof : List ℕ) × (c ≡ Check elf proof)
 is-check (Eval proof name turns args) e = absurd (other-name (codes "eval") (codes "check") refl e)
@@ -93,6 +97,7 @@ is-check (SelfTest number size) e = absurd (other-name (codes "selftest") (codes
 is-check (Simplify proof name out) e = absurd (other-name (codes "simplify") (codes "check") refl e)
 is-check (Laws proof cert) e = absurd (other-name (codes "laws") (codes "check") refl e)
 is-check (Smt proof name def out) e = absurd (other-name (codes "smt") (codes "check") refl e)
+is-check (Migrate elf proof out) e = absurd (other-name (codes "migrate") (codes "check") refl e)
 
 pub is-decompile : (form : Form) (c : Command) → name_of c ≡ form_word form → (elf out : List ℕ) × (names : List (List ℕ)) × (c ≡ Decompile form elf out names)
 is-decompile form (Eval proof name turns args) e = absurd (not-a-form (codes "eval") refl refl refl form e)
@@ -103,6 +108,7 @@ is-decompile form (SelfTest number size) e = absurd (not-a-form (codes "selftest
 is-decompile form (Simplify proof name out) e = absurd (not-a-form (codes "simplify") refl refl refl form e)
 is-decompile form (Laws proof cert) e = absurd (not-a-form (codes "laws") refl refl refl form e)
 is-decompile form (Smt proof name def out) e = absurd (not-a-form (codes "smt") refl refl refl form e)
+is-decompile form (Migrate elf proof out) e = absurd (not-a-form (codes "migrate") refl refl refl form e)
 
 pub is-test : (c : Command) → name_of c ≡ codes "selftest" → (number size : ℕ) × (c ≡ SelfTest number size)
 is-test (Eval proof name turns args) e = absurd (other-name (codes "eval") (codes "selftest") refl e)
@@ -113,6 +119,7 @@ is-test (SelfTest number size) e = (number, size, refl)
 is-test (Simplify proof name out) e = absurd (other-name (codes "simplify") (codes "selftest") refl e)
 is-test (Laws proof cert) e = absurd (other-name (codes "laws") (codes "selftest") refl e)
 is-test (Smt proof name def out) e = absurd (other-name (codes "smt") (codes "selftest") refl e)
+is-test (Migrate elf proof out) e = absurd (other-name (codes "migrate") (codes "selftest") refl e)
 
 pub is-simplify : (c : Command) → name_of c ≡ codes "simplify" → (proof name out : List ℕ) × (c ≡ Simplify proof name out)
 is-simplify (Eval proof name turns args) e = absurd (other-name (codes "eval") (codes "simplify") refl e)
@@ -123,6 +130,7 @@ is-simplify (SelfTest number size) e = absurd (other-name (codes "selftest") (co
 is-simplify (Simplify proof name out) e = (proof, name, out, refl)
 is-simplify (Laws proof cert) e = absurd (other-name (codes "laws") (codes "simplify") refl e)
 is-simplify (Smt proof name def out) e = absurd (other-name (codes "smt") (codes "simplify") refl e)
+is-simplify (Migrate elf proof out) e = absurd (other-name (codes "migrate") (codes "simplify") refl e)
 
 pub is-laws : (c : Command) → name_of c ≡ codes "laws" → (proof cert : List ℕ) × (c ≡ Laws proof cert)
 is-laws (Eval proof name turns args) e = absurd (other-name (codes "eval") (codes "laws") refl e)
@@ -133,6 +141,7 @@ is-laws (SelfTest number size) e = absurd (other-name (codes "selftest") (codes 
 is-laws (Simplify proof name out) e = absurd (other-name (codes "simplify") (codes "laws") refl e)
 is-laws (Laws proof cert) e = (proof, cert, refl)
 is-laws (Smt proof name def out) e = absurd (other-name (codes "smt") (codes "laws") refl e)
+is-laws (Migrate elf proof out) e = absurd (other-name (codes "migrate") (codes "laws") refl e)
 
 pub is-smt : (c : Command) → name_of c ≡ codes "smt" → (proof name : List ℕ) × (def : ℕ) × (out : List ℕ) × (c ≡ Smt proof name def out)
 is-smt (Eval proof name turns args) e = absurd (other-name (codes "eval") (codes "smt") refl e)
@@ -143,3 +152,15 @@ is-smt (SelfTest number size) e = absurd (other-name (codes "selftest") (codes "
 is-smt (Simplify proof name out) e = absurd (other-name (codes "simplify") (codes "smt") refl e)
 is-smt (Laws proof cert) e = absurd (other-name (codes "laws") (codes "smt") refl e)
 is-smt (Smt proof name def out) e = (proof, name, def, out, refl)
+is-smt (Migrate elf proof out) e = absurd (other-name (codes "migrate") (codes "smt") refl e)
+
+pub is-migrate : (c : Command) → name_of c ≡ codes "migrate" → (elf proof out : List ℕ) × (c ≡ Migrate elf proof out)
+is-migrate (Eval proof name turns args) e = absurd (other-name (codes "eval") (codes "migrate") refl e)
+is-migrate (Run elf start until steps args) e = absurd (other-name (codes "run") (codes "migrate") refl e)
+is-migrate (Check elf proof) e = absurd (other-name (codes "check") (codes "migrate") refl e)
+is-migrate (Decompile form elf out names) e = absurd (not-a-form (codes "migrate") refl refl refl form (sym e))
+is-migrate (SelfTest number size) e = absurd (other-name (codes "selftest") (codes "migrate") refl e)
+is-migrate (Simplify proof name out) e = absurd (other-name (codes "simplify") (codes "migrate") refl e)
+is-migrate (Laws proof cert) e = absurd (other-name (codes "laws") (codes "migrate") refl e)
+is-migrate (Smt proof name def out) e = absurd (other-name (codes "smt") (codes "migrate") refl e)
+is-migrate (Migrate elf proof out) e = (elf, proof, out, refl)

@@ -3,10 +3,10 @@ use Rattle.std.proofs.Common.{◌≡◌, ℕ, List, map, sym, subst, ◌∙◌, 
 use Rattle.std.specs.Fmt.{decimal}
 use Rattle.mc_text.specs.Number.{hex}
 use Rattle.mc_text.proofs.OneSpelling.{decimal-once, hex-once}
-use Rattle.mcdec_words.specs.Command.{Command, Eval, Run, Check, Decompile, SelfTest, Simplify, Laws, Smt, Arg, Words, arg_word}
+use Rattle.mcdec_words.specs.Command.{Command, Eval, Run, Check, Decompile, SelfTest, Simplify, Laws, Smt, Migrate, Arg, Words, arg_word}
 use Rattle.mcdec_words.specs.declared.command.Form.{Form}
 use Rattle.mcdec_words.proofs.ArgWords.{args-unique}
-use Rattle.mcdec_words.proofs.CommandNames.{is-check, is-decompile, is-eval, is-laws, is-run, is-simplify, is-smt, is-test, same-name, same-operands}
+use Rattle.mcdec_words.proofs.CommandNames.{is-check, is-decompile, is-eval, is-laws, is-migrate, is-run, is-simplify, is-smt, is-test, same-name, same-operands}
 
 -- ---- two commands of one name
 
@@ -84,6 +84,14 @@ smts-once ws p n q m d e o r a b =
     let k = decimal-once d e a.0.2 b.0.2 z in
     λ i. Smt (x i) (y i) (k i) (w i)
 
+migrates-once : (ws : List (List ℕ)) (e p o f q r : List ℕ) → Words ws (Migrate e p o) → Words ws (Migrate f q r) → Migrate e p o ≡ Migrate f q r
+migrates-once ws e p o f q r a b =
+    let same = same-operands ws (Migrate e p o) (Migrate f q r) a b in
+    let x : e ≡ f = cc in
+    let y : p ≡ q = cc in
+    let z : o ≡ r = cc in
+    λ i. Migrate (x i) (y i) (z i)
+
 -- ---- any two
 
 pub words-unique : (ws : List (List ℕ)) (c d : Command) → Words ws c → Words ws d → c ≡ d
@@ -111,3 +119,6 @@ words-unique ws (Laws p c) d a b =
 words-unique ws (Smt p n k o) d a b =
     let v = is-smt d (same-name ws (Smt p n k o) d a b) in
     smts-once ws p n v.0 v.1 k v.2 o v.3 a (subst (Words ws) v.4 b) ∙ sym v.4
+words-unique ws (Migrate e p o) d a b =
+    let v = is-migrate d (same-name ws (Migrate e p o) d a b) in
+    migrates-once ws e p o v.0 v.1 v.2 a (subst (Words ws) v.3 b) ∙ sym v.3

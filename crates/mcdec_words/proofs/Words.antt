@@ -15,16 +15,17 @@ use Rattle.mcdec_words.specs.declared.command.SelfTest.{SelfTest as ReadSelfTest
 use Rattle.mcdec_words.specs.declared.command.Simplify.{Simplify as ReadSimplify}
 use Rattle.mcdec_words.specs.declared.command.Laws.{Laws as ReadLaws}
 use Rattle.mcdec_words.specs.declared.command.Smt.{Smt as ReadSmt}
+use Rattle.mcdec_words.specs.declared.command.Migrate.{Migrate as ReadMigrate}
 use Rattle.mc_text.specs.Number.{hex, number_of}
-use Rattle.mcdec_words.specs.Command.{AreNames, Command, Eval, Run, Check, Decompile, SelfTest, Simplify, Laws, Smt, Arg, IsCommand, IsNoCommand, Words, arg_word, form_word, ranges, texts}
+use Rattle.mcdec_words.specs.Command.{AreNames, Command, Eval, Run, Check, Decompile, SelfTest, Simplify, Laws, Smt, Migrate, Arg, IsCommand, IsNoCommand, Words, arg_word, form_word, ranges, texts}
 use Rattle.mcdec_words.specs.declared.command.Form.{Form}
 use Rattle.mcdec_words.specs.declared.command.Memory.TheVariants.{Second}
 use Rattle.group_text.specs.Limits.{IsName}
-use Rattle.mcdec_words.specs.CommandReading.{HoldsArgs, NoArgs, AllArgs, Unless, NoEval, IsEval, NoRun, IsRun, NoCheck, IsCheck, NoDecompile, IsDecompile, NoSelfTest, IsSelfTest, NoSimplify, IsSimplify, IsLaws, NoSmt, IsSmt, operands_of}
+use Rattle.mcdec_words.specs.CommandReading.{HoldsArgs, NoArgs, AllArgs, Unless, NoEval, IsEval, NoRun, IsRun, NoCheck, IsCheck, NoDecompile, IsDecompile, NoSelfTest, IsSelfTest, NoSimplify, IsSimplify, IsLaws, NoSmt, IsSmt, NoMigrate, IsMigrate, operands_of}
 use Rattle.mcdec_words.specs.declared.command.Unread.{Unread}
 use Rattle.rv_words.specs.declared.range.Range.{Range}
 use Rattle.mcdec_words.proofs.ArgWords.{args-unique, unless-also}
-use Rattle.mcdec_words.proofs.CommandNames.{is-check, is-decompile, is-eval, is-run, is-simplify, is-smt, is-test, name_of, named-words}
+use Rattle.mcdec_words.proofs.CommandNames.{is-check, is-decompile, is-eval, is-migrate, is-run, is-simplify, is-smt, is-test, name_of, named-words}
 use Rattle.mc_text.proofs.Numbers.{number_of-takes, number_of-again}
 use Rattle.mc_text.proofs.OneSpelling.{decimal-once}
 
@@ -360,6 +361,51 @@ module _ (words : List Word) (proof name def out : Word) (four : length words �
     split-smt ∙ (λ i. sym ep i ∷ sym en i ∷ number.1 i ∷ sym eo i ∷ []),
   )
 
+-- ---- the words behind `migrate`
+
+module _ (words : List Word) (elf proof out : Word) (three : length words ≡ 3) (first : elf ≡ get_or words 0 elf) (second : proof ≡ get_or words 1 proof) (third : out ≡ get_or words 2 out) where
+  split-migrate : texts words ≡ string_bytes elf ∷ string_bytes proof ∷ string_bytes out ∷ []
+  split-migrate = three-words words elf proof out three first second third
+
+  pub migrate-no-elf : string_bytes elf ≡ [] → NoMigrate (texts words)
+  migrate-no-elf none e p o is same =
+      let whole = sym split-migrate ∙ same in
+      let word : string_bytes elf ≡ e = cc in
+      is.0 (sym word ∙ none)
+
+  pub migrate-no-proof : string_bytes proof ≡ [] → NoMigrate (texts words)
+  migrate-no-proof none e p o is same =
+      let whole = sym split-migrate ∙ same in
+      let word : string_bytes proof ≡ p = cc in
+      is.1 (sym word ∙ none)
+
+  pub migrate-no-output : string_bytes out ≡ [] → NoMigrate (texts words)
+  migrate-no-output none e p o is same =
+      let whole = sym split-migrate ∙ same in
+      let word : string_bytes out ≡ o = cc in
+      is.2 (sym word ∙ none)
+
+  pub migrate-over-elf : string_bytes elf ≡ string_bytes out → NoMigrate (texts words)
+  migrate-over-elf one e p o is same =
+      let whole = sym split-migrate ∙ same in
+      let word : string_bytes elf ≡ e = cc in
+      let other : string_bytes out ≡ o = cc in
+      is.3 (sym word ∙ one ∙ other)
+
+  pub migrate-over-proof : string_bytes proof ≡ string_bytes out → NoMigrate (texts words)
+  migrate-over-proof one e p o is same =
+      let whole = sym split-migrate ∙ same in
+      let word : string_bytes proof ≡ p = cc in
+      let other : string_bytes out ≡ o = cc in
+      is.4 (sym word ∙ one ∙ other)
+
+  pub migrate-read : (e p o : List ℕ) → e ≡ string_bytes elf → p ≡ string_bytes proof → o ≡ string_bytes out → string_bytes elf ≢ [] → string_bytes proof ≢ [] → string_bytes out ≢ []
+      → (string_bytes elf ≡ string_bytes out → ⊥) → (string_bytes proof ≡ string_bytes out → ⊥) → IsCommand (Migrate e p o) × (texts words ≡ operands_of (Migrate e p o))
+  migrate-read e p o ee ep eo some more any apart other = (
+    ((λ n. some (sym ee ∙ n)), (λ n. more (sym ep ∙ n)), (λ n. any (sym eo ∙ n)), (λ same. apart (sym ee ∙ same ∙ eo)), (λ same. other (sym ep ∙ same ∙ eo))),
+    split-migrate ∙ (λ i. sym ee i ∷ sym ep i ∷ sym eo i ∷ []),
+  )
+
 -- ---- all of the words
 
 module _ (words : List Word) (first : Word) (low : 1 ≤ length words) (here : first ≡ get_or words 0 first) (text : List ℕ) (value : text ≡ string_bytes first) where
@@ -460,3 +506,15 @@ module _ (words : List Word) (first : Word) (low : 1 ≤ length words) (here : f
 
   pub smt-is : bytes_eq text (codes "smt") ≡ true → (s : ReadSmt) → IsSmt (behind_first 1 words) s → Words (texts words) (Smt s.proof.now s.name.now s.def s.out.now)
   smt-is is s all = (all.0, behind-name (codes "smt") is _ all.1)
+
+  not-migrate : bytes_eq text (codes "migrate") ≡ true → NoMigrate (behind_first 1 words) → IsNoCommand (texts words)
+  not-migrate is none c w =
+      let s = with-name (codes "migrate") is c w in
+      let v = is-migrate c s.0 in
+      none v.0 v.1 v.2 (subst IsCommand v.3 w.0) (s.1 ∙ ap operands_of v.3)
+
+  pub no-migrate : bytes_eq text (codes "migrate") ≡ true → (e : Unread) → Unless (NoMigrate (behind_first 1 words)) e → Unless (IsNoCommand (texts words)) e
+  no-migrate is e none = unless-also (not-migrate is) e none
+
+  pub migrate-is : bytes_eq text (codes "migrate") ≡ true → (m : ReadMigrate) → IsMigrate (behind_first 1 words) m → Words (texts words) (Migrate m.elf.now m.proof.now m.out.now)
+  migrate-is is m all = (all.0, behind-name (codes "migrate") is _ all.1)

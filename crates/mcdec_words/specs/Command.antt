@@ -41,6 +41,7 @@ pub data Command : Type 0 where
   Simplify : (proof name out : List ℕ) → Command
   Laws : (proof cert : List ℕ) → Command
   Smt : (proof name : List ℕ) (def : ℕ) (out : List ℕ) → Command
+  Migrate : (elf proof out : List ℕ) → Command
 
 -- xN=V
 abbrev pub given_word : Given → List ℕ
@@ -75,6 +76,7 @@ words_of (SelfTest number size) = codes "selftest" ∷ decimal number ∷ decima
 words_of (Simplify proof name out) = codes "simplify" ∷ proof ∷ name ∷ out ∷ []
 words_of (Laws proof cert) = codes "laws" ∷ proof ∷ cert ∷ []
 words_of (Smt proof name def out) = codes "smt" ∷ proof ∷ name ∷ decimal def ∷ out ∷ []
+words_of (Migrate elf proof out) = codes "migrate" ∷ elf ∷ proof ∷ out ∷ []
 
 abbrev pub IsGiven : Given → Type 0
 IsGiven g = (1 ≤ g.register) × (g.register ≤ 31) × (g.value < 2 ^ 64)
@@ -126,6 +128,7 @@ IsCommand (SelfTest number size) = (number < 2 ^ 64) × (1 ≤ size) × (size �
 IsCommand (Simplify proof name out) = (proof ≢ []) × IsName name × (out ≢ []) × (proof ≢ out)
 IsCommand (Laws proof cert) = (proof ≢ []) × (cert ≢ [])
 IsCommand (Smt proof name def out) = (proof ≢ []) × IsName name × (def < 2 ^ 64) × (out ≢ []) × (proof ≢ out)
+IsCommand (Migrate elf proof out) = (elf ≢ []) × (proof ≢ []) × (out ≢ []) × (elf ≢ out) × (proof ≢ out)
 
 -- the texts of the words
 abbrev pub texts : List (String Global) → List (List ℕ)
@@ -152,10 +155,12 @@ inputs_of (SelfTest number size) = []
 inputs_of (Simplify proof name out) = proof ∷ []
 inputs_of (Laws proof cert) = proof ∷ cert ∷ []
 inputs_of (Smt proof name def out) = proof ∷ []
+inputs_of (Migrate elf proof out) = elf ∷ proof ∷ []
 
 -- the file that a command writes
 abbrev pub output_of : Command → Option (List ℕ)
 output_of (Decompile form elf out names) = Some out
 output_of (Simplify proof name out) = Some out
 output_of (Smt proof name def out) = Some out
+output_of (Migrate elf proof out) = Some out
 output_of other = None

@@ -11,6 +11,7 @@ use Rattle.mcdec_words.specs.declared.command.SelfTest.{SelfTest as ReadSelfTest
 use Rattle.mcdec_words.specs.declared.command.Simplify.{Simplify as ReadSimplify}
 use Rattle.mcdec_words.specs.declared.command.Laws.{Laws as ReadLaws}
 use Rattle.mcdec_words.specs.declared.command.Smt.{Smt as ReadSmt}
+use Rattle.mcdec_words.specs.declared.command.Migrate.{Migrate as ReadMigrate}
 use Rattle.mcdec_words.specs.declared.command.Argument.{Argument as ReadArg}
 use Rattle.mcdec_words.specs.declared.command.Argument.TheVariants as read_arg
 use Rattle.mcdec_words.specs.declared.command.Form.{Form}
@@ -18,7 +19,7 @@ use Rattle.mcdec_words.specs.declared.command.Memory.TheVariants.{First, Second}
 use Rattle.mcdec_words.specs.declared.command.Unread.{Unread}
 use Rattle.mcdec_words.specs.declared.command.Unread.TheVariants as unread
 use Rattle.rv_words.specs.declared.range.Range.{Range}
-use Rattle.mcdec_words.specs.Command.{Eval, Run, Check, Decompile, SelfTest, Simplify, Laws, Smt, Arg, Value, Bytes, Given, IsGiven, IsMemory, IsCommand, AreArgs, Command, Words, given_to, arg_word, words_of, givens, ranges}
+use Rattle.mcdec_words.specs.Command.{Eval, Run, Check, Decompile, SelfTest, Simplify, Laws, Smt, Migrate, Arg, Value, Bytes, Given, IsGiven, IsMemory, IsCommand, AreArgs, Command, Words, given_to, arg_word, words_of, givens, ranges}
 
 -- each register's value, or none
 abbrev pub Holds : List Given → List (Option ℕ) → Type 0
@@ -123,6 +124,12 @@ NoSmt ws = (proof name : List ℕ) (def : ℕ) (out : List ℕ) → IsCommand (S
 abbrev pub IsSmt : List (List ℕ) → ReadSmt → Type 0
 IsSmt ws s = IsCommand (Smt s.proof.now s.name.now s.def s.out.now) × (ws ≡ operands_of (Smt s.proof.now s.name.now s.def s.out.now))
 
+abbrev pub NoMigrate : List (List ℕ) → Type 0
+NoMigrate ws = (elf proof out : List ℕ) → IsCommand (Migrate elf proof out) → ws ≢ operands_of (Migrate elf proof out)
+
+abbrev pub IsMigrate : List (List ℕ) → ReadMigrate → Type 0
+IsMigrate ws m = IsCommand (Migrate m.elf.now m.proof.now m.out.now) × (ws ≡ operands_of (Migrate m.elf.now m.proof.now m.out.now))
+
 -- the command, seen by what was read
 abbrev pub IsReadEval : List (List ℕ) → ReadEval → Type 0
 IsReadEval ws e = (args : List Arg) × Words ws (Eval e.proof.now e.name.now e.turns args) × HoldsArgs args e.given.values e.memory e.stack
@@ -148,6 +155,9 @@ IsReadLaws ws l = Words ws (Laws l.proof.now l.cert.now)
 abbrev pub IsReadSmt : List (List ℕ) → ReadSmt → Type 0
 IsReadSmt ws s = Words ws (Smt s.proof.now s.name.now s.def s.out.now)
 
+abbrev pub IsReadMigrate : List (List ℕ) → ReadMigrate → Type 0
+IsReadMigrate ws m = Words ws (Migrate m.elf.now m.proof.now m.out.now)
+
 abbrev pub IsRead : List (List ℕ) → Read → Type 0
 IsRead ws (read.Eval e) = IsReadEval ws e
 IsRead ws (read.Run r) = IsReadRun ws r
@@ -157,3 +167,4 @@ IsRead ws (read.SelfTest t) = IsReadSelfTest ws t
 IsRead ws (read.Simplify s) = IsReadSimplify ws s
 IsRead ws (read.Laws l) = IsReadLaws ws l
 IsRead ws (read.Smt s) = IsReadSmt ws s
+IsRead ws (read.Migrate m) = IsReadMigrate ws m

@@ -6,7 +6,7 @@ ghost use Rattle.hex.specs.Hex.{encode_lower};
 ghost use Rattle.mc_text.specs.Number.{hex};
 ghost use Rattle.group_text.specs.Limits.{IsName};
 ghost use Rattle.mcdec_words.specs.Command.{AreNames, Arg, Given, IsGiven, IsMemory, IsNoCommand, arg_word, memory_name, texts};
-ghost use Rattle.mcdec_words.specs.CommandReading.{AllArgs, IsArg, IsCheck, IsDecompile, IsEval, IsLaws, IsRead, IsRun, IsSelfTest, IsSimplify, IsSmt, Lacks, NoArgs, NoCheck, NoDecompile, NoEval, NoLaws, NoRun, NoSelfTest, NoSimplify, NoSmt, Unless, arg_of, given_in, value_in};
+ghost use Rattle.mcdec_words.specs.CommandReading.{AllArgs, IsArg, IsCheck, IsDecompile, IsEval, IsLaws, IsMigrate, IsRead, IsRun, IsSelfTest, IsSimplify, IsSmt, Lacks, NoArgs, NoCheck, NoDecompile, NoEval, NoLaws, NoMigrate, NoRun, NoSelfTest, NoSimplify, NoSmt, Unless, arg_of, given_in, value_in};
 ghost use Rattle.mcdec_words.specs.declared.command.Memory.{Memory as MemoryOf};
 ghost use Rattle.mcdec_words.specs.declared.command.Unread.TheVariants.{NoMemory};
 ghost use Rattle.rv_words.specs.declared.range.Range.{Range as RangeOf};
@@ -44,6 +44,7 @@ pub enum Command<'a> {
     Simplify(Simplify<'a>),
     Laws(Laws<'a>),
     Smt(Smt<'a>),
+    Migrate(Migrate<'a>),
 }
 
 /// `eval PROOF NAME TURNS ARG*`
@@ -124,6 +125,14 @@ pub struct Smt<'a> {
     pub proof: &'a str,
     pub name: &'a [u8],
     pub def: u64,
+    pub out: &'a str,
+}
+
+/// `migrate ELF PROOF OUT`
+#[derive(Clone, Copy, Debug)]
+pub struct Migrate<'a> {
+    pub elf: &'a str,
+    pub proof: &'a str,
     pub out: &'a str,
 }
 
@@ -220,6 +229,9 @@ pub fn read_words(alloc: Global, words: &[String]) -> Result<Command<'_>, Unread
     }
     if first.as_str() == "split" {
         return Ok(Command::Decompile(read_decompile(alloc, Form::Split, rest)?));
+    }
+    if first.as_str() == "migrate" {
+        return Ok(Command::Migrate(read_migrate(rest)?));
     }
     Err(Unread::NotACommand)
 }
@@ -388,6 +400,26 @@ fn read_smt(words: &[String]) -> Result<Smt<'_>, Unread>
         proof: proof.as_str(),
         name: name.as_bytes(),
         def,
+        out: out.as_str(),
+    })
+}
+
+/// The words behind `migrate`.
+fn read_migrate(words: &[String]) -> Result<Migrate<'_>, Unread>
+    ensures { MatchResult result (λ m. IsMigrate (texts words.now) m) (λ e. Unless (NoMigrate (texts words.now)) e) }
+{
+    let [elf, proof, out] = words else {
+        return Err(Unread::NotACommand);
+    };
+    if elf.is_empty() || proof.is_empty() || out.is_empty() {
+        return Err(Unread::NotACommand);
+    }
+    if elf.as_str() == out.as_str() || proof.as_str() == out.as_str() {
+        return Err(Unread::NotACommand);
+    }
+    Ok(Migrate {
+        elf: elf.as_str(),
+        proof: proof.as_str(),
         out: out.as_str(),
     })
 }

@@ -4,6 +4,6 @@
 mod command;
 
 pub use command::{
-    Check, Command, Decompile, Eval, Form, Laws, Memory, Registers, Run, SelfTest, Simplify, Smt,
-    Unread, read_words,
+    Check, Command, Decompile, Eval, Form, Laws, Memory, Migrate, Registers, Run, SelfTest,
+    Simplify, Smt, Unread, read_words,
 };

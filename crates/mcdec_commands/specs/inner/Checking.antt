@@ -34,3 +34,4 @@ ImageGives told proof file rose (answer.SelfTest a) = ⊥
 ImageGives told proof file rose (answer.Simplify a) = ⊥
 ImageGives told proof file rose (answer.Laws a) = ⊥
 ImageGives told proof file rose (answer.Smt a) = ⊥
+ImageGives told proof file rose (answer.Migrate a) = ⊥

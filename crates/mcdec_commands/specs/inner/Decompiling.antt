@@ -40,3 +40,4 @@ FileGives form file names (answer.SelfTest a) = ⊥
 FileGives form file names (answer.Simplify a) = ⊥
 FileGives form file names (answer.Laws a) = ⊥
 FileGives form file names (answer.Smt a) = ⊥
+FileGives form file names (answer.Migrate a) = ⊥

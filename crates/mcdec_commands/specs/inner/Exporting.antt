@@ -18,3 +18,4 @@ DefGives text name def (answer.SelfTest a) = ⊥
 DefGives text name def (answer.Simplify a) = ⊥
 DefGives text name def (answer.Laws a) = ⊥
 DefGives text name def (answer.Smt a) = SmtGives text name def a
+DefGives text name def (answer.Migrate a) = ⊥

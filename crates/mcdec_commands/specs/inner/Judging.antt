@@ -19,3 +19,4 @@ CertGives told cert file rose (answer.SelfTest a) = ⊥
 CertGives told cert file rose (answer.Simplify a) = ⊥
 CertGives told cert file rose (answer.Laws a) = LawsGives told cert file a
 CertGives told cert file rose (answer.Smt a) = ⊥
+CertGives told cert file rose (answer.Migrate a) = ⊥

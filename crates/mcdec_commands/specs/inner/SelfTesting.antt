@@ -18,3 +18,4 @@ TestGives number size (answer.SelfTest a) = SelfTestGives number size a
 TestGives number size (answer.Simplify a) = ⊥
 TestGives number size (answer.Laws a) = ⊥
 TestGives number size (answer.Smt a) = ⊥
+TestGives number size (answer.Migrate a) = ⊥

@@ -18,3 +18,4 @@ TextGives text name (answer.SelfTest a) = ⊥
 TextGives text name (answer.Simplify a) = SimplifyGives text name a
 TextGives text name (answer.Laws a) = ⊥
 TextGives text name (answer.Smt a) = ⊥
+TextGives text name (answer.Migrate a) = ⊥

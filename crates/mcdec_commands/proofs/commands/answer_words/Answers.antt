@@ -3,7 +3,7 @@ use Rattle.mcdec_words.specs.Command.{IsNoCommand, texts}
 use Rattle.mcdec_answers.proofs.Prints.{told_same}
 use Rattle.mcdec_words.specs.CommandReading.{IsRead}
 use Rattle.mcdec_words.specs.declared.command.Command.{Command as Read}
-use Rattle.mcdec_words.specs.Command.{Check, Decompile, Eval, Laws, Run, SelfTest, Simplify, Smt}
+use Rattle.mcdec_words.specs.Command.{Check, Decompile, Eval, Laws, Migrate, Run, SelfTest, Simplify, Smt}
 use Rattle.mcdec_words.proofs.ArgWords.{eval-ranges, eval-stack, run-ranges}
 use Rattle.mcdec_commands.proofs.Decompiling.{no-write-fault}
 use Rattle.mcdec_commands.proofs.Leaving.{LeavesAll, none-written, others-kept, written-by}
@@ -140,3 +140,19 @@ returns-in-Smt-clause-kept g c =
     let is = subst (λ (command : Read). IsRead (texts c.args.words.now) command) c.in-Smt.is c.in-Ok.ensures in
     let s = c.in-Smt.s in
     others-kept (texts c.args.words.now) (Smt s.proof.now s.name.now s.def s.out.now) s.out.now is refl _ _ _ c.answer_smt.ensures.written
+
+pub returns-in-Migrate-clause-gives : goal.returns-in-Migrate-clause-gives
+returns-in-Migrate-clause-gives g c =
+    c.answer_migrate.ensures.gives (texts c.args.words.now) (subst (λ (command : Read). IsRead (texts c.args.words.now) command) c.in-Migrate.is c.in-Ok.ensures)
+
+pub returns-in-Migrate-clause-written : goal.returns-in-Migrate-clause-written
+returns-in-Migrate-clause-written g c =
+    let is = subst (λ (command : Read). IsRead (texts c.args.words.now) command) c.in-Migrate.is c.in-Ok.ensures in
+    let m = c.in-Migrate.m in
+    written-by (texts c.args.words.now) (Migrate m.elf.now m.proof.now m.out.now) m.out.now is refl _ _ _ c.answer_migrate.ensures.written
+
+pub returns-in-Migrate-clause-kept : goal.returns-in-Migrate-clause-kept
+returns-in-Migrate-clause-kept g c =
+    let is = subst (λ (command : Read). IsRead (texts c.args.words.now) command) c.in-Migrate.is c.in-Ok.ensures in
+    let m = c.in-Migrate.m in
+    others-kept (texts c.args.words.now) (Migrate m.elf.now m.proof.now m.out.now) m.out.now is refl _ _ _ c.answer_migrate.ensures.written

@@ -6,4 +6,4 @@ abbrev pub invariant-loop-found : goal.invariant-loop-found
 invariant-loop-found l = Searched l.fn.reader l.name l.reader l.count l.found
 
 abbrev pub decreases-loop-found : goal.decreases-loop-found
-decreases-loop-found l = length l.reader.rest
+decreases-loop-found l = length l.reader.progress.rest

@@ -7,4 +7,4 @@ abbrev pub invariant-loop : goal.invariant-loop
 invariant-loop l = Passing (group_tree l.g) l.fn.reader l.reader
 
 abbrev pub decreases-loop : goal.decreases-loop
-decreases-loop l = length l.reader.rest
+decreases-loop l = length l.reader.progress.rest

@@ -1,6 +1,6 @@
 use Rattle.std.proofs.Common.{sym, ◌∙◌}
 use Rattle.mcdec_words.proofs.ArgWords.{exit-with}
-use Rattle.mcdec_words.proofs.Words.{no-eval, eval-is, no-run, run-is, check-is, no-decompile, decompile-is, laws-is, no-simplify, no-smt, simplify-is, smt-is, test-is}
+use Rattle.mcdec_words.proofs.Words.{no-eval, eval-is, no-run, run-is, check-is, no-decompile, decompile-is, laws-is, no-migrate, no-simplify, no-smt, migrate-is, simplify-is, smt-is, test-is}
 use Rattle.mcdec_words.specs.declared.command.Form.TheVariants.{Alone, Linked, Split}
 use Rattle.mcdec_words.proofs.command.read_words.Goals as goal
 
@@ -78,3 +78,12 @@ returns-in_err-read_decompile-3 c =
 pub returns-then-eq-10 : goal.returns-then-eq-10
 returns-then-eq-10 c =
     decompile-is c.args.words.now c.first-item.result c.in-len1-up.len_at_least c.first-item.is c.as_str-10.result.now c.as_str-10.ensures.value Split (sym c.eq-10.ensures ∙ c.if-eq-10.true) c.in_ok-read_decompile-3.field-0 c.in_ok-read_decompile-3.ensures
+
+pub returns-in_err-read_migrate : goal.returns-in_err-read_migrate
+returns-in_err-read_migrate c =
+    exit-with _ c.in_err-read_migrate.field-0.0 _ _ c.from_residual-in_err-read_migrate.ensures.1
+    (no-migrate c.args.words.now c.first-item.result c.in-len1-up.len_at_least c.first-item.is c.as_str-11.result.now c.as_str-11.ensures.value (sym c.eq-11.ensures ∙ c.if-eq-11.true) c.in_err-read_migrate.field-0.0 c.in_err-read_migrate.ensures)
+
+pub returns-then-eq-11 : goal.returns-then-eq-11
+returns-then-eq-11 c =
+    migrate-is c.args.words.now c.first-item.result c.in-len1-up.len_at_least c.first-item.is c.as_str-11.result.now c.as_str-11.ensures.value (sym c.eq-11.ensures ∙ c.if-eq-11.true) c.in_ok-read_migrate.field-0 c.in_ok-read_migrate.ensures

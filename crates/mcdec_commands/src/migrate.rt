@@ -1,0 +1,93 @@
+//! The command `migrate`.
+
+ghost use Rattle.std.specs.Prelude.{◌≡◌, ℕ, ◌≤◌, IfSome, List as Items, Some};
+ghost use Rattle.mc_shelf.specs.Fault.{Rose, WhereTold};
+ghost use Rattle.elf_image.specs.Fault.{IsReadable};
+ghost use Rattle.elf_image.specs.Image.{image_of};
+ghost use Rattle.checker.specs.Verdicts.{IsAcceptance};
+ghost use Rattle.mcdec_answers.specs.Printed.{status};
+ghost use Rattle.mcdec_commands.specs.Answer.{Gives, ReadsAreTold};
+ghost use Rattle.mcdec_commands.specs.MigrateAnswer.{IsMigrationFor};
+ghost use Rattle.mcdec_commands.specs.RunAnswer.{IsLoaded};
+ghost use Rattle.mcdec_commands.specs.inner.Migrating.{FileMigrates, refusal_of};
+ghost use Rattle.mcdec_commands.specs.inner.Writing.{WritesOut};
+ghost use Rattle.mcdec_words.specs.CommandReading.{IsReadMigrate};
+
+use crate::eval::PROOF_LIMIT;
+use crate::output::write_answer;
+use crate::run::ELF_LIMIT;
+use checker::Verdict;
+use elf_image::{ElfFault, Image, read};
+use mc_shelf::{ReadEnd, Shelf, read_file};
+use mcdec_answers::{Answer, MigrateAnswer};
+use mcdec_words::Migrate;
+use proof_v2::migrate_image;
+use std::alloc::Global;
+
+/// The answer to `migrate`.
+pub fn answer_migrate<S: Shelf>(alloc: Global, m: &Migrate<'_>, shelf: &mut S) -> Answer
+    ensures gives { (ws : Items (Items ℕ)) → IsReadMigrate ws m.now
+        → Gives (S.contents shelf.old) ws (Rose (S.read_faults shelf.old) (S.read_faults shelf.new)) (Rose (S.write_faults shelf.old) (S.write_faults shelf.new)) result }
+
+    ensures written { WhereTold (S.contents shelf.old) (S.contents shelf.new) (WritesOut (λ files. IsMigrationFor files m.now.elf.now m.now.proof.now) m.now.out.now result) }
+    ensures counted { (S.read_faults shelf.old ≤ S.read_faults shelf.new) × (S.write_faults shelf.old ≤ S.write_faults shelf.new) }
+    ensures cause { status result ≡ 5 → Rose (S.write_faults shelf.old) (S.write_faults shelf.new) }
+    ensures sure { (ws : Items (Items ℕ)) → IsReadMigrate ws m.now → S.IsSure shelf.old → ReadsAreTold (S.contents shelf.old) ws
+        → (S.read_faults shelf.new ≡ S.read_faults shelf.old) × (S.write_faults shelf.new ≡ S.write_faults shelf.old) }
+{
+    let file = match read_file(alloc, shelf, m.elf, ELF_LIMIT) {
+        Ok(file) => file,
+        Err(ReadEnd::Fault) => return Answer::ReadFault,
+        Err(ReadEnd::TooLong) => return Answer::Migrate(MigrateAnswer::ElfOverLimit),
+        Err(ReadEnd::NoMemory) => return Answer::NoMemory,
+    };
+    match read(alloc, file.as_slice()) {
+        Ok(image) => {
+            drop(file);
+            migrate_text(alloc, &image, m, shelf)
+        }
+        Err(ElfFault::NoMemory) => Answer::NoMemory,
+        Err(why) => Answer::Migrate(MigrateAnswer::Refused(Verdict::BadElf(why))),
+    }
+}
+
+/// The answer to `migrate` where this is the image of the ELF file. All that takes memory is made before the text is written.
+fn migrate_text<S: Shelf>(alloc: Global, image: &Image, m: &Migrate<'_>, shelf: &mut S) -> Answer
+    requires image { (file : Items ℕ) × IsReadable file × (image.now ≡ image_of file) }
+    ensures gives { (file : Items ℕ) → IsLoaded file → image.now ≡ image_of file
+        → FileMigrates (S.contents shelf.old) m.now.proof.now file (Rose (S.read_faults shelf.old) (S.read_faults shelf.new)) result }
+
+    ensures written { (file : Items ℕ) → IsLoaded file → image.now ≡ image_of file → IfSome (S.contents shelf.old) (λ files. files m.now.elf.now ≡ Some file)
+        → WhereTold (S.contents shelf.old) (S.contents shelf.new) (WritesOut (λ files. IsMigrationFor files m.now.elf.now m.now.proof.now) m.now.out.now result) }
+    ensures counted { (S.read_faults shelf.old ≤ S.read_faults shelf.new) × (S.write_faults shelf.old ≤ S.write_faults shelf.new) }
+    ensures cause { status result ≡ 5 → Rose (S.write_faults shelf.old) (S.write_faults shelf.new) }
+    ensures sure { (ws : Items (Items ℕ)) → IsReadMigrate ws m.now → S.IsSure shelf.old → ReadsAreTold (S.contents shelf.old) ws
+        → (S.read_faults shelf.new ≡ S.read_faults shelf.old) × (S.write_faults shelf.new ≡ S.write_faults shelf.old) }
+{
+    let text = match read_file(alloc, shelf, m.proof, PROOF_LIMIT) {
+        Ok(text) => text,
+        Err(ReadEnd::Fault) => return Answer::ReadFault,
+        Err(ReadEnd::TooLong) => return Answer::Migrate(MigrateAnswer::ProofOverLimit),
+        Err(ReadEnd::NoMemory) => return Answer::NoMemory,
+    };
+    match migrate_image(alloc, image, text.as_slice()) {
+        Ok(migrated) => {
+            let told = Answer::Migrate(MigrateAnswer::Migrated(migrated.functions, migrated.lines));
+            write_answer(shelf, m.out, migrated.text.as_slice(), told)
+        }
+        Err(why) => refuse(why),
+    }
+}
+
+/// The answer where this verdict refuses the text.
+fn refuse(why: Verdict) -> Answer
+    requires { IsAcceptance why → ⊥ }
+    ensures answer { result ≡ refusal_of why }
+    ensures refused { status result ≡ 0 → ⊥ }
+    ensures no_fault { status result ≡ 5 → ⊥ }
+{
+    match why {
+        Verdict::NoMemory => Answer::NoMemory,
+        why => Answer::Migrate(MigrateAnswer::Refused(why)),
+    }
+}
