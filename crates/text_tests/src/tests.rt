@@ -3,5 +3,6 @@
 mod axioms;
 mod checking;
 mod evaluating;
+mod numbered;
 mod reading;
 mod terms;
