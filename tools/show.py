@@ -169,8 +169,8 @@ class Text:
         return self.lines[self.at - 1].partition(" ")[2]
 
     def groups(self):
-        if self.take("mcproof") not in ("1", "3", "4"):
-            raise BadText("line 1: this script knows versions 1, 3 and 4")
+        if self.take("mcproof") not in ("1", "2", "3", "4"):
+            raise BadText("line 1: this script knows versions 1 to 4")
         while self.head() != "end":
             if self.head() == "group":
                 yield self.group()

@@ -5,7 +5,8 @@ Each case is drawn from its number: one of some small files after one change to 
 
 - A changed proof goes to `check`. Where it is accepted, each function in it is still what the code does: from drawn registers and bytes, `run` must come
   to where evaluation ends, with the same registers and bytes, and with all other registers as they were. Evaluation that doesn't end says nothing.
-  It goes to `simplify` and `smt` as well; what `simplify` writes, `laws` must accept.
+  It goes to `simplify` and `smt` as well; what `simplify` writes, `laws` must accept. So do the proofs in version 2, as `migrate` writes them. `migrate` takes a
+  changed proof of version 1 exactly where `check` accepts it, and `check` accepts what it writes with the same numbers; of version 2 it takes none.
 - A changed ELF file goes to `decompile`, to `check` with the old proof, or to `run`. What is decompiled must be accepted and is compared in the same
   manner, and so is what is accepted; what isn't leaves no OUT.
 - A changed certificate goes to `laws`. Where it is accepted, and for each that `simplify` writes, evaluation with the new definitions must answer as with
@@ -115,7 +116,10 @@ class Tester:
                 text = file.read()
             found = re.search(rb"^code \(\S+ (\w+)\)", text, re.M)
             start = code.index(bytes.fromhex(found[1].decode()))
-            self.files.append((code, text, name, (start, start + len(found[1]) // 2)))
+            place = (start, start + len(found[1]) // 2)
+            self.speaker.say("migrate", os.path.join(TOP, elf), os.path.join(TOP, proof), self.path("table"))
+            with open(self.path("table"), "rb") as file:
+                self.files += [(code, text, name, place), (code, file.read(), name, place)]
             group = first_group(text)
             self.speaker.say("simplify", os.path.join(TOP, proof), group.name, self.path("certificate"))
             with open(self.path("certificate"), "rb") as file:
@@ -147,6 +151,19 @@ class Tester:
             raise Wrong(f"check: {lines!r} of {text.count(bytes([10]))} lines")
         return status == 0
 
+    def migrate(self, elf, proof, text):
+        """Has a text migrated: that goes as its check does, but for texts of other versions than the first."""
+        out = self.path("migrated")
+        checked, migrated = self.say("check", elf, proof), self.say("migrate", elf, proof, out)
+        is_other = re.match(rb"mcproof [234]\n", text)
+        due = (3, b"unreadable text 1\n") if is_other else (checked[0], re.sub(rb"^accepted", b"migrated", checked[1]))
+        if 6 in (checked[0], migrated[0]):
+            return
+        if migrated != due:
+            raise Wrong(f"check: {checked}, migrate: {migrated}")
+        if migrated[0] == 0 and self.say("check", elf, out) not in (checked, (6, b"no memory\n")):
+            raise Wrong(f"what is migrated isn't accepted as {checked}")
+
     def compare(self, draw, elf, proof, code, text):
         """What evaluation of each function gives, the code does."""
         for group in groups(text):
@@ -175,6 +192,7 @@ class Tester:
         elf, proof = self.write("e", code), self.write("p", changed)
         if self.check(elf, proof, changed):
             self.compare(draw, elf, proof, code, changed)
+        self.migrate(elf, proof, changed)
         group = first_group(text)
         self.writes("smt", proof, group.name, str(draw.randrange(3)))
         certificate = self.writes("simplify", proof, group.name)

@@ -52,6 +52,9 @@ CASES = (
     ["simplify", "gcd.proof", "gcd", "OUT"],
     ["laws", "gcd.proof", "gcd.cert"],
     ["smt", "average.proof", "average", "0", "OUT"],
+    ["migrate", "gcd.elf", "gcd.proof", "OUT"],
+    ["check", "gcd.elf", "gcd.two"],
+    ["eval", "gcd.two", "gcd", "100", "x1=0x2000", "x10=0x30", "x11=0x24"],
 )
 OLD = b"what was there before"
 # The status where a call of the kind fails, and its line.
@@ -150,7 +153,8 @@ def main():
         for name, code in MADE.items():
             code = bytes_of(code)
             write_elf(os.path.join(files, name), [(BASE, code, len(code), len(code))])
-        subprocess.run([program, "simplify", "gcd.proof", "gcd", "gcd.cert"], cwd=files, check=True, stdout=subprocess.DEVNULL)
+        for words in (["simplify", "gcd.proof", "gcd", "gcd.cert"], ["migrate", "gcd.elf", "gcd.proof", "gcd.two"]):
+            subprocess.run([program, *words], cwd=files, check=True, stdout=subprocess.DEVNULL)
         before = contents(files)
         for words in CASES:
             case = Case(program, library, files, words)

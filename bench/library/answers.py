@@ -31,6 +31,12 @@ ANSWERS = {
         3: ["unreadable text N", "unreadable laws N"],
         7: ["over limit proof", "over limit laws"],
     },
+    "migrate": {
+        0: ["migrated N N"],
+        1: ["refused line N", "refused def N N", "refused group N"],
+        3: [*UNREADABLE_ELF, "unreadable text N"],
+        7: ["over limit elf", "over limit proof"],
+    },
     "run": {
         0: ["met N"],
         1: ["refused NAME no-such", "refused NAME ambiguous A A", *(f"refused stuck N {why}" for why in STUCK)],

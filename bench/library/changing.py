@@ -2,7 +2,7 @@
 import re
 
 ATOM = re.compile(rb"[^ ();\n]+")
-NUMBERS = tuple(re.compile(form) for form in (rb"[vm]\d+", rb"0x[0-9a-f]+", rb"\d+"))
+NUMBERS = tuple(re.compile(form) for form in (rb"[vmt]\d+", rb"0x[0-9a-f]+", rb"\d+"))
 # What may stand for an atom: another one of its kind. The last kind is any other word.
 WORDS = (
     rb"add|sub|sll|slt|sltu|xor|srl|sra|or|and|mul|mulh|mulhsu|mulhu|div|divu|rem|remu|addw|subw|sllw|srlw|sraw|mulw|divw|divuw|remw|remuw",
@@ -14,7 +14,7 @@ WORDS = (
 )
 KINDS = NUMBERS + tuple(re.compile(words) for words in WORDS)
 TERMS = re.compile(rb"\([^()]*(?:\([^()]*(?:\([^()]*\)[^()]*)*\)[^()]*)*\)")
-BYTES = b" \n();0123456789abcdefvmx\0\xff"
+BYTES = b" \n();0123456789abcdefvmtx\0\xff"
 EDGES = (0, 1, 2, 4, 7, 8, 31, 63, 64, 255, 4095, 4096, 65535, 65536, (1 << 31) - 1, 1 << 31, (1 << 32) - 1, (1 << 63) - 1, 1 << 63, (1 << 64) - 1)
 
 
@@ -35,7 +35,7 @@ def change_bytes(draw, data, others=None):
 
 def near(draw, atom):
     """A number near the one of an atom, or at an edge, written as the atom is."""
-    front = re.match(rb"[vm]?", atom)[0]
+    front = re.match(rb"[vmt]?", atom)[0]
     base = 16 if atom.startswith(b"0x") else 10
     number = int(atom[len(front) :], base)
     number = draw.choice((number + 1, max(number - 1, 0), number ^ 1, 2 * number, number // 2, draw.choice(EDGES)))
@@ -96,7 +96,7 @@ def change_line(draw, text):
     """A line is left out, stands twice, or stands in another place, or instead of another."""
     lines = text.split(b"\n")
     # Most often a line of the proof, which may stand anywhere there.
-    first = next((i for i, line in enumerate(lines) if line.startswith(b"axiom")), 0) if draw.random() < 0.8 else 0
+    first = next((i for i, line in enumerate(lines) if line.startswith((b"axiom", b"term"))), 0) if draw.random() < 0.8 else 0
     place, other, way = draw.randrange(first, len(lines)), draw.randrange(first, len(lines)), draw.randrange(4)
     line = lines[place]
     if way in (0, 2):
@@ -166,7 +166,8 @@ def add_line_at_end(draw, text):
 
 def add_group(draw, text):
     """The first group stands twice."""
-    return text.replace(b"mcproof 1\n", text.replace(b"\nend\n", b"\n"), 1).replace(b"\nmcproof 1\n", b"\n")
+    title = text[: text.find(b"\n") + 1]
+    return text.replace(title, text.replace(b"\nend\n", b"\n"), 1).replace(b"\n" + title, b"\n") if title else text
 
 
 TEXT_CHANGES = (
