@@ -19,7 +19,7 @@ from decompile import NAME, SHAPES, least
 from elf_files import BASE, write_elf
 from functions import symbols, word_of
 from instructions import words
-from measuring import MIB, measure
+from measuring import MIB, given_words, measure
 from simplify import FUNCTIONS, copies, tree
 
 SIZES = (4, 16, 64)
@@ -79,12 +79,9 @@ def compare_functions(bench, elf):
 
 
 def main():
-    if not 2 <= len(sys.argv) <= 4:
-        sys.exit(__doc__)
-    largest = int(sys.argv[2]) if len(sys.argv) > 2 else 1024
-    elf = sys.argv[3] if len(sys.argv) > 3 else FUNCTIONS
+    program, largest, elf = given_words(__doc__, FUNCTIONS)
     with tempfile.TemporaryDirectory() as folder:
-        bench = Bench(os.path.abspath(sys.argv[1]), folder)
+        bench = Bench(program, folder)
         pair = f"{'seconds':>9} {'peak MiB':>9}"
         print(f"{'':24} {'version 1':>9} {'version 2':>9} {'':6} {'migrate':>19} {'check, version 1':>19} {'check, version 2':>19}")
         print(f"{'text':24} {'MB':>9} {'MB':>9} {'ratio':>6} {pair} {pair} {pair}")

@@ -25,7 +25,7 @@ from decompile import NAME, SHAPES, slope
 from elf_files import BASE, write_elf
 from functions import symbols, word_of
 from instructions import RETURN, branch, immediate, words
-from measuring import MIB, measure_work
+from measuring import MIB, given_words, measure_work
 
 FUNCTIONS = os.path.join(FOLDER, "..", "comparison", "functions.elf")
 LIMIT, MEMORY = 3600, resource.RLIM_INFINITY
@@ -122,12 +122,9 @@ def measure_functions(bench, elf):
 
 
 def main():
-    if not 2 <= len(sys.argv) <= 4:
-        sys.exit(__doc__)
-    largest = int(sys.argv[2]) if len(sys.argv) > 2 else 1024
-    elf = sys.argv[3] if len(sys.argv) > 3 else FUNCTIONS
+    program, largest, elf = given_words(__doc__, FUNCTIONS)
     with tempfile.TemporaryDirectory() as folder:
-        bench = Bench(os.path.abspath(sys.argv[1]), folder)
+        bench = Bench(program, folder)
         head = f"{'seconds':>9} {'peak MiB':>9}"
         print(f"{'':36} {'simplify':>19} {'laws':>19}")
         print(f"{'function':10} {'instr':>6} {'text MB':>9} {'steps':>8} {head} {head}")
