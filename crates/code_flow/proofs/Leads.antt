@@ -6,7 +6,7 @@ use Rattle.std.proofs.Math.Nat.{mod-eq_of_lt}
 use Rattle.std.proofs.lemmas.Bool.{eq-eqb}
 use Rattle.std.proofs.lemmas.Bool.Decides.{leb_tells}
 use Rattle.std.proofs.lemmas.List.{length-append}
-use Rattle.rv_words.specs.Bytes.{Bytes}
+use Rattle.rv_words.specs.Bytes.{Bytes, away}
 use Rattle.rv_words.specs.declared.comparison.Cmp.{Cmp}
 use Rattle.rv_words.specs.declared.comparison.Cmp.TheVariants.{Eq, Ne}
 use Rattle.rv_decode.specs.declared.instruction.Instr.{Instr}
@@ -16,7 +16,7 @@ use Rattle.rv_decode.specs.Encodes.{word_of}
 use Rattle.rv_decode.specs.Ranges.{is_encodable}
 use Rattle.rvc.specs.Number.{length_of, number_in}
 use Rattle.rvc.proofs.LongLemmas.{instruction_of-word, number_in-word, word-long}
-use Rattle.flow_graph.specs.Flow.{admitted, following, length_in, look, look_fetched, look_decoded, target, targets, next}
+use Rattle.flow_graph.specs.Flow.{admitted, length_in, look, look_fetched, look_decoded, target, targets, next}
 use Rattle.flow_graph.specs.declared.outside.Outside.TheVariants.{Misaligned}
 use Rattle.flow_graph.proofs.Ways.{Contains-cons}
 use Rattle.code_gen.specs.Pieces.{Pieces, Done, Add, Mix, Choose, Repeat}
@@ -74,7 +74,7 @@ pub record Here (bytes : Bytes) (b n u : ℕ) (i : Instr) : Type 0 where
 pub none-there : {A : Type 0} (a : ℕ) → Contains [] a → A
 none-there a (k, h, e) = absurd (omega (arith, h))
 
-follows : (b n u : ℕ) → Ground b n → u < n → following (at b u) 4 ≡ at b (u + 1)
+follows : (b n u : ℕ) → Ground b n → u < n → away (at b u) 4 ≡ at b (u + 1)
 follows b n u g h =
     let small : at b u + 4 < 2 ^ 64 = omega (arith, g.room, h) in
     let there : at b u + 4 ≡ at b (u + 1) = omega arith in
@@ -82,7 +82,7 @@ follows b n u g h =
 
 -- an instruction that goes on to the next
 goes-on : {bytes : Bytes} {b n u : ℕ} (i : Instr) (to : ℕ → Type 0) → Here bytes b n u i → admitted false (at b u) i ≡ Ok i
-    → targets (at b u) 4 i ≡ following (at b u) 4 ∷ [] → to (u + 1) → Leads bytes b u to
+    → targets (at b u) 4 i ≡ away (at b u) 4 ∷ [] → to (u + 1) → Leads bytes b u to
 goes-on {bytes} {b} {n} {u} i to h fine one next =
     let there : targets (at b u) 4 i ≡ at b (u + 1) ∷ [] = one ∙ (λ j. follows b n u h.ground h.place j ∷ []) in
     record {

@@ -5,7 +5,7 @@ use Rattle.std.proofs.lemmas.Option.{slice_get-get_or, slice_get_within}
 use Rattle.std.specs.Prelude.{slice_get}
 use Rattle.std.specs.List.{Contains, list_any}
 use Rattle.std.specs.Option.{option_or}
-use Rattle.rv_words.specs.Bytes.{Bytes, AreBytes, bytes_from}
+use Rattle.rv_words.specs.Bytes.{Bytes, AreBytes, bytes_from, away}
 use Rattle.rvc.specs.Number.{bytes_of, instruction_of, is_word, length_of, number_at}
 use Rattle.rvc.proofs.ByteLemmas.{bytes-long, number-bytes, number-small}
 use Rattle.rvc.proofs.NumberLemmas.{instruction-named, number_in-is}
@@ -23,7 +23,7 @@ use Rattle.instr_axioms.specs.Terms.{Names, has_form, pc_after}
 use Rattle.instr_axioms.specs.Axiom.{is_own, word_code}
 use Rattle.flow_graph.specs.declared.outside.Outside.{Outside}
 use Rattle.flow_graph.specs.declared.outside.Outside.TheVariants.{Call}
-use Rattle.flow_graph.specs.Flow.{StandsIn, admitted, called_by, following, is_zero, target, targets}
+use Rattle.flow_graph.specs.Flow.{StandsIn, admitted, called_by, is_zero, target, targets}
 use Rattle.flow_graph.specs.Graph.{GraphOf, IsGraphOf}
 use Rattle.flow_graph.proofs.FlowLemmas.{is_flow}
 use Rattle.flow_graph.proofs.ExactLemmas.{graph_numbers}
@@ -75,8 +75,8 @@ target-is linked a k (instr.Jal rd offset) Next v fine none e =
     by (eqb rd 0) (eqb rd 1) refl refl (if_so (eqb rd 0 || (linked && eqb rd 1)) (Ok (instr.Jal rd offset)) (Call a) (instr.Jal rd offset) fine) none
   where
     by : (x y : Bool) → eqb rd 0 ≡ x → eqb rd 1 ≡ y → (x || (linked && y)) ≡ true → cond y (Some (target a offset)) None ≡ None →
-        Const (target a offset) ≡ Const (get_or (cond (eqb rd 0) (target a offset) (following a k) ∷ []) 0 0)
-    by true y t u h q = λ j. Const (get_or (cond (sym t j) (target a offset) (following a k) ∷ []) 0 0)
+        Const (target a offset) ≡ Const (get_or (cond (eqb rd 0) (target a offset) (away a k) ∷ []) 0 0)
+    by true y t u h q = λ j. Const (get_or (cond (sym t j) (target a offset) (away a k) ∷ []) 0 0)
     by false true t u h q = absurd (cc)
     by false false t u h q = absurd (neither linked h)
       where

@@ -1,7 +1,7 @@
 -- A graph and its forest are what bodies of parts rest on.
 use Rattle.std.proofs.Common.{◌≡◌, ◌≢◌, ℕ, zero, suc, ◌+◌, ◌-◌, ◌<◌, List, [], ◌∷◌, map, length, get_or, Bool, true, false, cond, eqb, ltb, ◌||◌, refl, sym, ap, subst, ◌∙◌, arith, Option, None, Some, option_map, inl, inr, eq-eqb}
 use Rattle.std.proofs.lemmas.Bool.{eqb-false, lt-ltb}
-use Rattle.std.specs.Option.{unwrap_or}
+use Rattle.std.specs.Option.{unwrap_or, option_or}
 use Rattle.std.specs.Prelude.{slice_get}
 use Rattle.std.specs.List.{Contains, list_any}
 use Rattle.rv_words.specs.Bytes.{Bytes}
@@ -17,7 +17,7 @@ use Rattle.flow_graph.proofs.FlowLemmas.{is_flow}
 use Rattle.flow_graph.proofs.GraphLaws.{successors_are}
 use Rattle.flow_graph.proofs.Ways.{node_at}
 use Rattle.loop_forest.specs.Forest.{ForestOf, IsForestOf, exits_of, head_of, place_of, region_of}
-use Rattle.loop_forest.specs.Walking.{IsPlacedIn, IsWalkable, first_of, inner_of, loop_of}
+use Rattle.loop_forest.specs.Walking.{IsPlacedIn, IsWalkable, inner_of, loop_of}
 use Rattle.loop_forest.proofs.WalkLaws.{walkable}
 use Rattle.code_parts.specs.Bodies.{Flow, index_of, rest_targets}
 use Rattle.code_parts.specs.declared.callee.Callee.{Callee}
@@ -149,7 +149,7 @@ module _ (linked : Bool) (code : Bytes) (entry : ℕ) (g : GraphOf) (f : ForestO
   pub inner-numbered : (n l : ℕ) → n < length g.addrs → inner_of f n ≡ Some l → Numbered l
   inner-numbered n l lt e = go (loop_of f n) refl e
     where
-      go : (o : Option ℕ) → loop_of f n ≡ o → first_of o (region_of f n) ≡ Some l → Numbered l
+      go : (o : Option ℕ) → loop_of f n ≡ o → option_or o (region_of f n) ≡ Some l → Numbered l
       go None is e = forest.within n l lt e
       go (Some k) is e = let same : k ≡ l = cc in subst Numbered same (walks.own n k is).0
 
@@ -190,7 +190,7 @@ module _ (linked : Bool) (code : Bytes) (entry : ℕ) (g : GraphOf) (f : ForestO
         (flow.within n m there, placed-in (inner_of f n) m (λ l e. inner-numbered n l lt e) (walks.placed n m there));
     near = λ n lt. omega arith;
     returned = λ n lt e. (walks.returned n lt (no-edges n lt e), any-at is_jump_through g.instrs n instr.Ebreak (instructed n lt) e);
-    cut_inner = λ n lt cut none. (λ i. first_of (none i) (region_of f n));
+    cut_inner = λ n lt cut none. (λ i. option_or (none i) (region_of f n));
     calls = λ n c lt e. jumps (address n) (instr_at n) c e;
     head_is = λ n l lt e. walks.own n l e;
     loop_head = λ l lt. let h = walks.head l lt in (h.0, h.2);

@@ -2,17 +2,18 @@
 use Rattle.std.proofs.Common.{◌≡◌, ◌≢◌, ℕ, zero, suc, ◌+◌, ◌*◌, ◌<◌, ◌≤◌, List, [], ◌∷◌, length, Bool, true, false, cond, eqb, ◌&&◌, refl, sym, ap, subst, ◌∙◌, arith, Option, None, Some, option_map, ◌⊎◌, inl, inr, eq-eqb}
 use Rattle.std.proofs.lemmas.Bool.{eqb-false, eqb-true}
 use Rattle.std.proofs.lemmas.Bool.Decides.{leb_tells}
-use Rattle.std.specs.Prelude.{slice_get}
+use Rattle.std.specs.Prelude.{slice_get, unwrap_or}
 use Rattle.std.specs.List.{Contains}
+use Rattle.std.specs.Option.{option_or}
 use Rattle.rv_words.specs.Bytes.{Bytes}
 use Rattle.tailrec_lang.specs.Tree.{ValuesTree, StepTree, BodyTree, Call, Again, Leave, NoArm, Arm, with_steps}
 use Rattle.word_terms.specs.Tree.{Var}
 use Rattle.flow_graph.specs.Graph.{GraphOf, HasEdge, IsGraphOf}
 use Rattle.loop_forest.specs.Forest.{ForestOf, IsForestOf, exits_of, head_of, number_of, place_of, region_of}
-use Rattle.loop_forest.specs.Walking.{IsPlacedIn, inner_of, first_of, loop_of}
+use Rattle.loop_forest.specs.Walking.{IsPlacedIn, inner_of, loop_of}
 use Rattle.code_parts.specs.declared.part.Part.{Part}
 use Rattle.code_parts.specs.declared.part.Part.TheVariants.{Loop, Rest}
-use Rattle.code_parts.specs.Bodies.{size, Flow, VariableMap, Action, Straight, Fork, Return, Enter, return_arm, action, action_body, arms_over, body_at, current, end_at, end_of, first, fresh, index_of, last_at, or_else, own, part_body, rest_arms, rest_body, rest_from, rest_targets, start, with_pc}
+use Rattle.code_parts.specs.Bodies.{size, Flow, VariableMap, Action, Straight, Fork, Return, Enter, return_arm, action, action_body, arms_over, body_at, current, end_at, end_of, first, fresh, index_of, last_at, own, part_body, rest_arms, rest_body, rest_from, rest_targets, start, with_pc}
 use Rattle.code_parts.specs.declared.callee.Callee.{Callee}
 use Rattle.code_parts.specs.Graph.{ArmsBelow, CallsBelow, IsPart, IsPlaced}
 use Rattle.code_parts.specs.Flows.{Setting, flow_of, place_in, same_part, same_region}
@@ -156,15 +157,15 @@ module _ (d : ℕ) where
   arms-below (n ∷ ns) go h = (h 0 n refl, arms-below ns go (λ k x e. h (suc k) x e))
 
   -- by itself a part calls nothing
-  end-below : (f : Flow) (p : Part) (n : ℕ) (x : ValuesTree) (c : BodyTree) → (end_of f p n x ≡ None → CallsBelow d c) → CallsBelow d (or_else (end_of f p n x) c)
+  end-below : (f : Flow) (p : Part) (n : ℕ) (x : ValuesTree) (c : BodyTree) → (end_of f p n x ≡ None → CallsBelow d c) → CallsBelow d (unwrap_or (end_of f p n x) c)
   end-below f (Rest r m) n x c h = by (index_of (rest_targets f r) n) h
     where
-      by : (o : Option ℕ) → (option_map (λ k. Leave k x) o ≡ None → CallsBelow d c) → CallsBelow d (or_else (option_map (λ k. Leave k x) o) c)
+      by : (o : Option ℕ) → (option_map (λ k. Leave k x) o ≡ None → CallsBelow d c) → CallsBelow d (unwrap_or (option_map (λ k. Leave k x) o) c)
       by None g = g refl
       by (Some k) g = tt
   end-below f (Loop l) n x c h = by (eqb n (f.head l)) (index_of (f.exits l) n) h
     where
-      by : (t : Bool) (o : Option ℕ) → (cond t (Some (Again x)) (option_map (λ k. Leave k x) o) ≡ None → CallsBelow d c) → CallsBelow d (or_else (cond t (Some (Again x)) (option_map (λ k. Leave k x) o)) c)
+      by : (t : Bool) (o : Option ℕ) → (cond t (Some (Again x)) (option_map (λ k. Leave k x) o) ≡ None → CallsBelow d c) → CallsBelow d (unwrap_or (cond t (Some (Again x)) (option_map (λ k. Leave k x) o)) c)
       by true o g = tt
       by false None g = g refl
       by false (Some k) g = tt
@@ -260,7 +261,7 @@ module _ (linked : Bool) (code : Bytes) (entry : ℕ) (g : GraphOf) (f : ForestO
     body-below (suc b) n v node region near = acts b (body-below b) n v node region near (action the_flow n v) refl
 
   rest-below : (r : Option ℕ) (n : ℕ) (there : IsPart the_flow (Rest r n)) (o : Option ℕ) → loop_of f n ≡ o → CallsBelow (the_flow.number (Rest r n)) (rest_body 32 the_flow (Rest r n) n o)
-  rest-below r n there None none = body-below (Rest r n) there 32 n (start the_flow) there.0 ((λ i. first_of (none i) (region_of f n)) ∙ there.2) (omega arith)
+  rest-below r n there None none = body-below (Rest r n) there 32 n (start the_flow) there.0 ((λ i. option_or (none i) (region_of f n)) ∙ there.2) (omega arith)
   rest-below r n there (Some l) some =
       let h = (walks linked code entry g f s graph forest).own n l some in
       let same : left (head_of f l) ≡ left n = ap left h.1 in

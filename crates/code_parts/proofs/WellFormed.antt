@@ -1,6 +1,6 @@
 -- The definitions of parts are well-formed.
 use Rattle.std.proofs.Common.{◌≡◌, ℕ, zero, suc, ◌+◌, ◌<◌, List, [], ◌∷◌, ◌++◌, map, length, Bool, true, false, cond, eqb, refl, sym, ap, ◌∙◌, subst, arith, Option, Some, None, inl, inr, Contains}
-use Rattle.std.specs.Prelude.{slice_get, option_map}
+use Rattle.std.specs.Prelude.{slice_get, option_map, unwrap_or}
 use Rattle.std.proofs.lemmas.List.Elements.{All-cons}
 use Rattle.rv_decode.specs.declared.instruction.Instr.{Instr}
 use Rattle.rv_decode.specs.declared.instruction.Instr.TheVariants as instr
@@ -18,7 +18,7 @@ use Rattle.rv_decode.specs.Registers.{sources}
 use Rattle.instr_axioms.specs.Terms.{has_memory, conditions}
 use Rattle.code_parts.specs.declared.part.Part.{Part}
 use Rattle.code_parts.specs.declared.part.Part.TheVariants.{Loop, Rest}
-use Rattle.code_parts.specs.Bodies.{Flow, VariableMap, size, names, current, fresh, start, with_pc, needs, writes, place_after, Action, Straight, Fork, Return, Enter, return_arm, action_of, action_calling, action, own, rest_targets, targets, returned, exits_of, rest_from, index_of, end_of, or_else, arms_over, last_at, rest_arms, end_at, action_body, body_at, rest_body, part_body}
+use Rattle.code_parts.specs.Bodies.{Flow, VariableMap, size, names, current, fresh, start, with_pc, needs, writes, place_after, Action, Straight, Fork, Return, Enter, return_arm, action_of, action_calling, action, own, rest_targets, targets, returned, exits_of, rest_from, index_of, end_of, arms_over, last_at, rest_arms, end_at, action_body, body_at, rest_body, part_body}
 use Rattle.code_parts.specs.declared.callee.Callee.{Callee}
 use Rattle.code_parts.specs.Graph.{IsEdge, IsPart, IsPlaced, IsGraph, IsCode, StandsAt, HasPart, CallsBelow, ArmsBelow}
 use Rattle.code_parts.proofs.Counts.{all_words_after, all_mems_after, all-words, all-mems, need-words, need-mems}
@@ -131,7 +131,7 @@ module _ (f : Flow) (g : GroupTree) (p : Part) (d : ℕ) (regs : g.regs ≡ f.re
   last_formed : (n k : ℕ) (v : VariableMap) → IsIn f v → slice_get (rest_targets f (own p)) k ≡ Some n → Formed (last_at f p n v) v.words v.mems
   last_formed n k v is at = go (end_of f p n (current f v)) refl
     where
-      go : (o : Option BodyTree) → end_of f p n (current f v) ≡ o → Formed (or_else o (Leave 0 (current f v))) v.words v.mems
+      go : (o : Option BodyTree) → end_of f p n (current f v) ≡ o → Formed (unwrap_or o (Leave 0 (current f v))) v.words v.mems
       go None none = absurd (let found = index-some (rest_targets f (own p)) n k at in end-some f p n found.0 (current f v) found.1 none)
       go (Some b) some = end_formed p refl n v b is some
 
@@ -185,7 +185,7 @@ module _ (f : Flow) (g : GroupTree) (p : Part) (d : ℕ) (regs : g.regs ≡ f.re
       inside (inl q) none = absurd (end-some f p n q.0 (current f v) q.1 none)
       inside (inr q) none = q
 
-      go : (o : Option BodyTree) → end_of f p n (current f v) ≡ o → CallsBelow d (or_else o rest) → Formed (or_else o rest) v.words v.mems
+      go : (o : Option BodyTree) → end_of f p n (current f v) ≡ o → CallsBelow d (unwrap_or o rest) → Formed (unwrap_or o rest) v.words v.mems
       go None none ok = (ok.0, counts v, current-scope f v v.words v.mems is (omega arith) (omega arith), call_formed n node cut (f.around n) (sym (inside placed none)) refl v is ok.0 ok.1)
       go (Some b) some ok = end_formed p refl n v b is some
 

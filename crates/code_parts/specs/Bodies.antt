@@ -1,5 +1,5 @@
 -- The parts of a graph and their definitions: what the decompiler makes of a function.
-use Rattle.std.specs.Prelude.{ℕ, zero, suc, ◌+◌, ◌==◌, Bool, true, false, if◌then◌else◌, Option, Some, None, option_map, List, [], ◌∷◌, ◌++◌, map, length}
+use Rattle.std.specs.Prelude.{ℕ, zero, suc, ◌+◌, ◌==◌, Bool, true, false, if◌then◌else◌, Option, Some, None, option_map, unwrap_or, List, [], ◌∷◌, ◌++◌, map, length}
 use Rattle.std.specs.List.{position_or_len, range_with_len}
 use Rattle.rv_words.specs.declared.comparison.Cmp.TheVariants.{Eq}
 use Rattle.rv_decode.specs.declared.instruction.Instr.{Instr}
@@ -12,7 +12,8 @@ use Rattle.triple_kernel.specs.declared.form.Form.{Form}
 use Rattle.triple_kernel.specs.declared.form.Form.TheVariants.{Next, Taken}
 use Rattle.rv_decode.specs.Registers.{destination}
 use Rattle.rvc.specs.Number.{length_of}
-use Rattle.instr_axioms.specs.Terms.{Names, following, word_in, conditions, result, memory_after, pc_after}
+use Rattle.rv_words.specs.Bytes.{away}
+use Rattle.instr_axioms.specs.Terms.{Names, word_in, conditions, result, memory_after, pc_after}
 use Rattle.code_parts.specs.declared.callee.Callee.{Callee}
 use Rattle.code_parts.specs.declared.part.Part.{Part}
 use Rattle.code_parts.specs.declared.part.Part.TheVariants.{Loop, Rest}
@@ -124,7 +125,7 @@ action_of i a k q to v = Straight (needs i q v ++ writes i a k q v) (place_after
 -- .. where it calls that function, or none
 abbrev pub action_calling : Option Callee → Instr → ℕ → ℕ → ℕ → (Form → ℕ) → VariableMap → Action
 action_calling None i a k q to v = action_of i a k q to v
-action_calling (Some c) i a k q to v = Enter (needs i q v ++ writes i a k q v) (place_after i q v) c (following a k) (to Next)
+action_calling (Some c) i a k q to v = Enter (needs i q v ++ writes i a k q v) (place_after i q v) c (away a k) (to Next)
 
 -- how many bytes the instruction of a node has
 abbrev pub size : Flow → ℕ → ℕ
@@ -180,10 +181,6 @@ abbrev pub end_of : Flow → Part → ℕ → ValuesTree → Option BodyTree
 end_of f (Loop l) n x = if n == f.head l then Some (Again x) else option_map (λ k. Leave k x) (index_of (f.exits l) n)
 end_of f (Rest r c) n x = option_map (λ k. Leave k x) (index_of (rest_targets f r) n)
 
-abbrev pub or_else : Option BodyTree → BodyTree → BodyTree
-or_else None b = b
-or_else (Some a) b = a
-
 -- a body for each of the nodes
 abbrev pub arms_over : List ℕ → (ℕ → BodyTree) → ArmTrees
 arms_over [] go = NoArm
@@ -191,7 +188,7 @@ arms_over (x ∷ xs) go = Arm (go x) (arms_over xs go)
 
 -- the part ends at the node by itself
 abbrev pub last_at : Flow → Part → ℕ → VariableMap → BodyTree
-last_at f p n v = or_else (end_of f p n (current f v)) (Leave 0 (current f v))
+last_at f p n v = unwrap_or (end_of f p n (current f v)) (Leave 0 (current f v))
 
 -- The arms of a call of the rest of a region. The part ends at each of its exits by itself, since it is of the same region.
 abbrev pub rest_arms : Flow → Part → Option ℕ → VariableMap → ArmTrees
@@ -200,7 +197,7 @@ rest_arms f p (Some l) v = arms_over (rest_targets f (Some l)) (λ x. last_at f 
 
 -- at a cut: the part ends by itself, or it calls the rest from there on
 abbrev pub end_at : Flow → Part → ℕ → VariableMap → BodyTree
-end_at f p n v = or_else (end_of f p n (current f v)) (Call (f.number (rest_from f n)) (current f v) (rest_arms f p (f.around n) v))
+end_at f p n v = unwrap_or (end_of f p n (current f v)) (Call (f.number (rest_from f n)) (current f v) (rest_arms f p (f.around n) v))
 
 -- what a call of a function goes on with: a check that it returned to that address, and then the body from there on
 abbrev pub return_arm : Flow → Bool → ℕ → VariableMap → (VariableMap → BodyTree) → ArmTrees

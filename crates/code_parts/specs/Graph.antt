@@ -15,7 +15,8 @@ use Rattle.tailrec_lang.specs.declared.group.Exit.TheVariants.{Ret}
 use Rattle.triple_kernel.specs.declared.form.Form.{Form}
 use Rattle.triple_kernel.specs.declared.form.Form.TheVariants.{Next, Taken}
 use Rattle.rv_decode.specs.Registers.{sources, destination}
-use Rattle.instr_axioms.specs.Terms.{Names, following, has_memory, pc_after, has_form}
+use Rattle.rv_words.specs.Bytes.{away}
+use Rattle.instr_axioms.specs.Terms.{Names, has_memory, pc_after, has_form}
 use Rattle.instr_axioms.specs.Axiom.{word_code}
 use Rattle.code_parts.specs.declared.part.Part.{Part}
 use Rattle.code_parts.specs.declared.part.Part.TheVariants.{Loop, Rest}
@@ -66,7 +67,7 @@ pub record IsCallTo (f : Flow) (c : Callee) (n : ℕ) : Type 0 where
   pub offset : ℤ
   pub instr : f.instr n ≡ instr.Jal 1 offset
   pub entry : c.entry ≡ plus (f.addr n) offset
-  pub back : f.addr (f.to n Next) ≡ following (f.addr n) (size f n)
+  pub back : f.addr (f.to n Next) ≡ away (f.addr n) (size f n)
 
 -- The instruction of the node stands in the code, as its parcel or word, and goes on as the graph says. Among jumps through a register
 -- there is the return alone.

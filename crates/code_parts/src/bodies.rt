@@ -6,7 +6,7 @@ ghost use Rattle.rv_words.specs.declared.comparison.Cmp.TheVariants.{Eq};
 ghost use Rattle.word_terms.specs.Tree.{Compare, Const, Var};
 ghost use Rattle.tailrec_lang.specs.Tree.{Do, Need, arms_of, body_tree, step_tree, with_steps};
 ghost use Rattle.triple_kernel.specs.declared.form.Form.TheVariants.{Next};
-ghost use Rattle.instr_axioms.specs.Terms.{following};
+ghost use Rattle.rv_words.specs.Bytes.{away};
 ghost use Rattle.code_parts.specs.Bodies as spec;
 ghost use Rattle.code_parts.specs.Graph.{IsPart, has_edge};
 ghost use Rattle.code_parts.specs.Regions.{IsOfRegion};
@@ -297,7 +297,7 @@ fn returned_to(alloc: Global, back: u64, returned: u32) -> Result<List<Step>, No
 
 /// The address behind an instruction of that many bytes.
 fn behind(addr: u64, length: u8) -> u64
-    ensures { result ≡ following addr length }
+    ensures { result ≡ away addr length }
 {
     addr.wrapping_add(u64::from(length))
 }

@@ -20,7 +20,8 @@ use Rattle.code_gen.proofs.ShapeLemmas.{drawn-shaped}
 use Rattle.code_gen.proofs.SizeLemmas.{drawn-count}
 use Rattle.code_gen.proofs.StepLemmas.{drawn-steps}
 use Rattle.code_gen.proofs.TargetLemmas.{each-split}
-use Rattle.code_runs.specs.Runs.{IsAtReturn, PassesThrough, StartsProgram, Returns, behind}
+use Rattle.rv_machine.specs.Run.{IsAtReturn}
+use Rattle.code_runs.specs.Runs.{PassesThrough, StartsProgram, Returns, behind}
 use Rattle.code_runs.proofs.Ways.{way-run, return-run, return-misses, return-untouched, return-last, return-first}
 use Rattle.code_runs.proofs.Passing.{Ground, At, Passes, Here, none, found, four, glue, under, within, immediate, register, jumps, taken, passed, written}
 use Rattle.code_runs.proofs.Turns.{Loop, turns, no_zero}

@@ -6,10 +6,10 @@ use Rattle.rv_decode.specs.declared.instruction.Instr.{Instr}
 use Rattle.rv_decode.specs.declared.instruction.Instr.TheVariants.{Op, OpImm, Lui, Auipc, Jal, Jalr, Branch, Load, Store, Fence, Ecall, Ebreak}
 use Rattle.rv_machine.specs.State.{State}
 use Rattle.rv_machine.specs.Step.{instruction_at, step}
-use Rattle.rv_machine.specs.Run.{run, Misses}
+use Rattle.rv_machine.specs.Run.{run, Misses, IsAtReturn}
 use Rattle.rv_machine.specs.Touches.{touched, touched_by, touches, nothing}
 use Rattle.rv_machine.proofs.RunLemmas.{run-more}
-use Rattle.code_runs.specs.Runs.{IsAtReturn, TouchesNothing}
+use Rattle.code_runs.specs.Runs.{TouchesNothing}
 
 -- an operation, a jump by an offset or a branch
 abbrev pub is_plain : Instr → Bool

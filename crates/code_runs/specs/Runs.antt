@@ -1,10 +1,8 @@
 -- Runs of the machine through drawn code.
-use Rattle.std.specs.Prelude.{◌≡◌, ◌≢◌, ℕ, ◌+◌, ◌-◌, ◌*◌, ◌<◌, ◌≤◌, Some, pos, length}
-use Rattle.rv_decode.specs.declared.instruction.Instr.TheVariants.{Jalr}
+use Rattle.std.specs.Prelude.{◌≡◌, ◌≢◌, ℕ, ◌+◌, ◌-◌, ◌*◌, ◌<◌, ◌≤◌, Some, length}
 use Rattle.rv_machine.specs.State.{State}
-use Rattle.rv_machine.specs.Step.{instruction_at}
 use Rattle.rv_machine.specs.Touches.{touches, IsTouched}
-use Rattle.rv_machine.specs.Run.{run, EndsIn}
+use Rattle.rv_machine.specs.Run.{run, EndsIn, IsAtReturn}
 use Rattle.rv_machine.specs.declared.running.RunEnd.TheVariants as end
 use Rattle.code_gen.specs.Pieces.{Pieces}
 use Rattle.code_gen.specs.Program.{code, instructions}
@@ -31,10 +29,6 @@ pub record StartsProgram (number size : ℕ) (s : State) : Type 0 where
   pub pc : s.pc ≡ start
   pub code : EachAt (IsWordAt s.mem start) 0 (instructions number size)
   pub returns : s.reg 1 ≡ behind
-
--- the next step is the return, `jalr x0, 0(x1)`
-abbrev pub IsAtReturn : State → Type 0
-IsAtReturn s = instruction_at s ≡ Some (Jalr 0 1 (pos 0))
 
 -- the next step neither loads nor stores
 abbrev pub TouchesNothing : State → Type 0

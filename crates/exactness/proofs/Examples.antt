@@ -16,7 +16,7 @@ use Rattle.rv_decode.specs.declared.instruction.Instr.TheVariants as instr
 use Rattle.rvc.specs.Number.{bytes_of}
 use Rattle.rv_machine.specs.State.{State}
 use Rattle.rv_machine.specs.Step.{instruction_at, step}
-use Rattle.rv_machine.specs.Run.{run}
+use Rattle.rv_machine.specs.Run.{run, IsAtReturn}
 use Rattle.rv_machine.specs.Touches.{IsTouched, touched, touches}
 use Rattle.rv_machine.proofs.StepLemmas.{touches-at}
 use Rattle.tailrec_lang.specs.declared.group.Exit.TheVariants.{Ret}
@@ -32,7 +32,7 @@ use Rattle.code_parts.specs.declared.part.Part.{Part}
 use Rattle.code_parts.specs.declared.part.Part.TheVariants.{Loop, Rest}
 use Rattle.code_parts.specs.Bodies.{Flow, part_def}
 use Rattle.code_parts.specs.Graph.{IsAlone, has_edge, IsEdge, IsPart, IsPlaced, IsGraph, StandsAt, IsCode}
-use Rattle.exactness.specs.Exact.{IsAtReturn, FirstReturns, Exact}
+use Rattle.exactness.specs.Exact.{FirstReturns, Exact}
 use Rattle.exactness.specs.Parts.{HasParts, LeavesAs, Meets}
 use Rattle.exactness.proofs.Runs.{law-of-part, nothing-lost}
 

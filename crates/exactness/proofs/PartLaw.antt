@@ -1,6 +1,6 @@
 -- The law of a part: a run from the part's first node that first returns is an evaluation of the part's definition.
 use Rattle.std.proofs.Common.{◌≡◌, ℕ, zero, suc, ◌+◌, ◌-◌, ◌*◌, ◌<◌, ◌≤◌, Bool, true, false, cond, eqb, eqb-true, eq-eqb, ◌⊎◌, inl, inr, Option, Some, None, option_map, [], ◌∷◌, length, refl, sym, ap, subst, ◌∙◌, arith}
-use Rattle.std.specs.Prelude.{slice_get}
+use Rattle.std.specs.Prelude.{slice_get, unwrap_or}
 use Rattle.word_terms.specs.Tree.{Var}
 use Rattle.word_terms.specs.Environment.{Environment, no_variables}
 use Rattle.word_terms.specs.Value.{word_value, cond_holds}
@@ -8,7 +8,7 @@ use Rattle.tailrec_lang.specs.Tree.{ValuesTree, BodyTree, Call, Again, Leave, No
 use Rattle.tailrec_lang.specs.Eval.{Arguments, Meaning, Ending, Exited, NeedFalse, and_then, body_ending, arm_ending, arguments_of, with_arguments, needs}
 use Rattle.code_parts.specs.declared.part.Part.{Part}
 use Rattle.code_parts.specs.declared.part.Part.TheVariants.{Loop, Rest}
-use Rattle.code_parts.specs.Bodies.{Flow, size, VariableMap, Action, Straight, Fork, Return, Enter, return_arm, action, fresh, start, current, with_pc, own, first, rest_targets, targets, rest_from, index_of, end_of, or_else, arms_over, last_at, rest_arms, end_at, action_body, body_at, rest_body, part_body}
+use Rattle.code_parts.specs.Bodies.{Flow, size, VariableMap, Action, Straight, Fork, Return, Enter, return_arm, action, fresh, start, current, with_pc, own, first, rest_targets, targets, rest_from, index_of, end_of, arms_over, last_at, rest_arms, end_at, action_body, body_at, rest_body, part_body}
 use Rattle.code_parts.specs.declared.callee.Callee.{Callee}
 use Rattle.exactness.proofs.Returns.{Comes, split}
 use Rattle.exactness.proofs.StateVariables.{Stands, stands-fresh, stands-start, stands-returned, returned-values}
@@ -171,7 +171,7 @@ module _ (f : Flow) (graph : IsGraph f) (rise : AreRegistersFrom 1 f.regs)
         by (λ b h. end-law k laws p there t n (current f v) e u j o m lt good place is.same comes enough b h) (end_of f p n (current f v)) refl
       where
         by : ((b : BodyTree) → end_of f p n (current f v) ≡ Some b → Gives p k t (body_ending call (f.number p) b e o m))
-            → (c : Option BodyTree) → end_of f p n (current f v) ≡ c → Gives p k t (body_ending call (f.number p) (or_else c (Leave 0 (current f v))) e o m)
+            → (c : Option BodyTree) → end_of f p n (current f v) ≡ c → Gives p k t (body_ending call (f.number p) (unwrap_or c (Leave 0 (current f v))) e o m)
         by ends None none = absurd (let q = is-found (rest_targets f (own p)) n (contains-at (rest_targets f (own p)) i n at) in end-some f p n q.place (current f v) q.found none)
         by ends (Some b) some = ends b some
 
@@ -222,7 +222,7 @@ module _ (f : Flow) (graph : IsGraph f) (rise : AreRegistersFrom 1 f.regs)
         by : ((b : BodyTree) → end_of f p n (current f v) ≡ Some b → Gives p k t (body_ending call (f.number p) b e o m))
             → (f.around n ≡ own p → Gives p k t (body_ending call (f.number p) (Call (f.number (rest_from f n)) (current f v) (rest_arms f p (f.around n) v)) e o m))
             → (c : Option BodyTree) → end_of f p n (current f v) ≡ c
-            → Gives p k t (body_ending call (f.number p) (or_else c (Call (f.number (rest_from f n)) (current f v) (rest_arms f p (f.around n) v))) e o m)
+            → Gives p k t (body_ending call (f.number p) (unwrap_or c (Call (f.number (rest_from f n)) (current f v) (rest_arms f p (f.around n) v))) e o m)
         by ends calls None none = calls (inside placed none)
         by ends calls (Some b) some = ends b some
 

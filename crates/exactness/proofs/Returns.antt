@@ -5,14 +5,13 @@ use Rattle.rv_decode.specs.declared.instruction.Instr.{Instr}
 use Rattle.rv_decode.specs.declared.instruction.Instr.TheVariants.{Op, OpImm, Lui, Auipc, Jal, Jalr, Branch, Load, Store, Fence, Ecall, Ebreak}
 use Rattle.rv_machine.specs.State.{State, with_register}
 use Rattle.rv_machine.specs.Step.{step, instruction_at}
-use Rattle.rv_machine.specs.Run.{run}
+use Rattle.rv_machine.specs.Run.{run, IsAtReturn}
 use Rattle.rv_machine.specs.Step.{length_at}
 use Rattle.rv_machine.specs.Touches.{IsTouched, touches}
 use Rattle.rv_machine.specs.Update.{reg_after}
 use Rattle.rv_machine.proofs.StepLemmas.{step-act, act-some, step-untouched, step-present}
 use Rattle.rv_decode.specs.Registers.{destination}
 use Rattle.checker.specs.Headline.{Region, is_within}
-use Rattle.exactness.specs.Exact.{IsAtReturn}
 use Rattle.exactness.specs.LinkExact.{IsAtCall, StaysIn, FirstReturnsIn, after_instruction}
 use Rattle.exactness.specs.LinkExact as exact
 

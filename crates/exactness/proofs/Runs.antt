@@ -2,7 +2,7 @@
 use Rattle.std.proofs.Common.{◌≡◌, ℕ, zero, suc, ◌+◌, ◌*◌, ◌<◌, ◌≤◌, true, cond, ◌⊎◌, inl, inr, Option, Some, None, List, [], ◌∷◌, ◌++◌, map, refl, sym, ap, subst, ◌∙◌, arith, Bool, false, ◌||◌, length, Contains}
 use Rattle.std.specs.Prelude.{slice_get, option_map, AllPairs, IsSomeAnd}
 use Rattle.rv_machine.specs.State.{State}
-use Rattle.rv_machine.specs.Run.{run}
+use Rattle.rv_machine.specs.Run.{run, IsAtReturn}
 use Rattle.rv_machine.proofs.RunLemmas.{run-none, run-more}
 use Rattle.word_terms.specs.Environment.{Environment}
 use Rattle.rv_words.specs.Ranges.{range_bytes}
@@ -21,7 +21,7 @@ use Rattle.code_parts.specs.declared.callee.Callee.{Callee}
 use Rattle.code_parts.specs.Bodies as bodies
 use Rattle.code_parts.specs.Graph.{IsAlone, IsPart, IsGraph, IsCode}
 use Rattle.checker.specs.Headline.{AreApart, Region, is_within, held_in, Ends}
-use Rattle.exactness.specs.Exact.{IsAtReturn, FirstReturns, Gives, Exact}
+use Rattle.exactness.specs.Exact.{FirstReturns, Gives, Exact}
 use Rattle.exactness.specs.LinkExact.{FirstReturnsIn, after_instruction}
 use Rattle.exactness.specs.Parts.{HasParts, HoldsCode, LeavesAs, Meets, turns_at, turns_for, LawOfPart}
 use Rattle.exactness.proofs.Returns.{Steps, Comes, comes-plain, IsKept, kept-here}

@@ -12,7 +12,7 @@ use Rattle.rv_decode.specs.Decodes.{decoded}
 use Rattle.rvc.specs.Number.{bytes_of}
 use Rattle.rv_machine.specs.State.{State}
 use Rattle.rv_machine.specs.Step.{instruction_at, step}
-use Rattle.rv_machine.specs.Run.{run}
+use Rattle.rv_machine.specs.Run.{run, IsAtReturn}
 use Rattle.rv_machine.specs.Touches.{IsTouched, touched, touches}
 use Rattle.rv_machine.proofs.StepLemmas.{touches-at}
 use Rattle.word_terms.specs.Tree.{Const}
@@ -29,7 +29,7 @@ use Rattle.code_parts.specs.declared.part.Part.TheVariants.{Loop, Rest}
 use Rattle.code_parts.specs.Bodies.{Flow, part_def}
 use Rattle.code_parts.specs.Graph.{IsAlone, has_edge, IsEdge, IsPart, IsPlaced, IsGraph, StandsAt, IsCode}
 use Rattle.checker.specs.Headline.{Region, is_within}
-use Rattle.exactness.specs.Exact.{IsAtReturn, FirstReturns, Exact}
+use Rattle.exactness.specs.Exact.{FirstReturns, Exact}
 use Rattle.exactness.specs.Parts.{HasParts}
 use Rattle.exactness.proofs.Examples.{some_in, or_none, no_cut}
 use Rattle.exactness.proofs.Runs.{nothing-lost}

@@ -4,7 +4,7 @@ use Rattle.std.specs.Prelude.{pos, ℤ, ◌^◌, AllPairs, IsSomeAnd, slice_get}
 use Rattle.std.specs.Option.{option_or}
 use Rattle.rvc.specs.Number.{bytes_of, length_of, number_at}
 use Rattle.rvc.proofs.NumberLemmas.{instruction-small}
-use Rattle.rv_words.specs.Bytes.{Bytes, over, bytes_from}
+use Rattle.rv_words.specs.Bytes.{Bytes, over, bytes_from, away}
 use Rattle.rv_decode.specs.declared.instruction.Instr.{Instr}
 use Rattle.rv_decode.specs.declared.instruction.Instr.TheVariants as instr
 use Rattle.rv_machine.specs.State.{State}
@@ -20,7 +20,7 @@ use Rattle.sep_assert.specs.Code.{IsWithin}
 use Rattle.tailrec_lang.specs.Tree.{GroupTree}
 use Rattle.triple_kernel.specs.declared.form.Form.{Form}
 use Rattle.triple_kernel.specs.declared.form.Form.TheVariants.{Next, Taken}
-use Rattle.instr_axioms.specs.Terms.{following, has_memory, word_in, conditions, pc_after, has_form}
+use Rattle.instr_axioms.specs.Terms.{has_memory, word_in, conditions, pc_after, has_form}
 use Rattle.instr_axioms.specs.Effects.{AreTrue, IsAfter}
 use Rattle.instr_axioms.proofs.Effects.{act-terms, cut}
 use Rattle.instr_axioms.proofs.Memories.{has-number}
@@ -29,7 +29,7 @@ use Rattle.code_parts.specs.Bodies.{Flow, VariableMap, size, Action, Straight, n
 use Rattle.code_parts.specs.declared.callee.Callee.{Callee}
 use Rattle.checker.specs.Headline.{Region, AreApart, is_within, held_in}
 use Rattle.checker.specs.Headline as headline
-use Rattle.exactness.specs.Exact.{IsAtReturn}
+use Rattle.rv_machine.specs.Run.{IsAtReturn}
 use Rattle.exactness.specs.LinkExact.{IsAtCall, after_instruction}
 use Rattle.exactness.proofs.Returns.{Steps, IsKept, kept-step, in-one}
 use Rattle.exactness.proofs.StateVariables.{Stands}
@@ -98,7 +98,7 @@ module _ (f : Flow) (regions : List Region) (count : length regions ≡ f.mems) 
         (one.0, one.1, one.2 ∙ goes, (λ r. no_return (same_instr i (instr.Jalr 0 1 (pos 0)) (sym fetch ∙ r))), no_call)
 
     -- a call
-    entered : (offset : ℤ) → StandsIn (instr.Jal 1 offset) a w code f.regs false → (c : Callee) (to : Form → ℕ) → c.entry ≡ plus a offset → f.addr (to Next) ≡ following a (length_of w) → length_at s ≡ length_of w
+    entered : (offset : ℤ) → StandsIn (instr.Jal 1 offset) a w code f.regs false → (c : Callee) (to : Form → ℕ) → c.entry ≡ plus a offset → f.addr (to Next) ≡ away a (length_of w) → length_at s ≡ length_of w
         → instruction_at s ≡ Some (instr.Jal 1 offset) → (IsAtCall s → Calls s) → IsAfter (instr.Jal 1 offset) a (length_of w) (names v q) e s u
         → IsActed (action_calling (Some c) (instr.Jal 1 offset) a (length_of w) q to v) v e s u
     entered offset there c to entry back long fetch calls after =
@@ -205,7 +205,7 @@ module _ (f : Flow) (code : List Range) (has : IsCode f code) (regions : List Re
           (act-terms a (names v q) e s (size f n) i u (fits f regions count i a (f.word n) code there q enough v e s is at) touch).0 acts
 
       entering : (c : Callee) → f.callee n ≡ Some c → (offset : ℤ) → (j : Instr) → j ≡ instr.Jal 1 offset → StandsIn j a (f.word n) code f.regs (has_memory j) → instruction_at s ≡ Some j → IsAfter j a (size f n) (names v q) e s u
-          → c.entry ≡ plus a offset → f.addr (f.to n Next) ≡ following a (size f n) → IsDone f State (λ s. s.pc) (held f regions count) after_instruction IsAtReturn Calls Good (Steps Uses regions) (action_calling (Some c) j a (size f n) q (f.to n) v) v e s u
+          → c.entry ≡ plus a offset → f.addr (f.to n Next) ≡ away a (size f n) → IsDone f State (λ s. s.pc) (held f regions count) after_instruction IsAtReturn Calls Good (Steps Uses regions) (action_calling (Some c) j a (size f n) q (f.to n) v) v e s u
       entering c has_c offset j same here fetched_j after_j entry back =
           let J = instr.Jal 1 offset in
           subst (λ j. IsDone f State (λ s. s.pc) (held f regions count) after_instruction IsAtReturn Calls Good (Steps Uses regions) (action_calling (Some c) j a (size f n) q (f.to n) v) v e s u) (sym same)

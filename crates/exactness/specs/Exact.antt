@@ -1,18 +1,12 @@
 -- Nothing is lost: where the machine returns from a function, evaluation gives what it returns with.
-use Rattle.std.specs.Prelude.{◌≡◌, ℕ, ◌-◌, ◌*◌, ◌<◌, true, List, slice_get, Some, pos}
-use Rattle.rv_decode.specs.declared.instruction.Instr.TheVariants.{Jalr}
+use Rattle.std.specs.Prelude.{◌≡◌, ℕ, ◌-◌, ◌*◌, ◌<◌, true, List, slice_get, Some}
 use Rattle.rv_machine.specs.State.{State}
-use Rattle.rv_machine.specs.Step.{instruction_at}
 use Rattle.rv_machine.specs.Touches.{touches, IsTouched}
-use Rattle.rv_machine.specs.Run.{run}
+use Rattle.rv_machine.specs.Run.{run, IsAtReturn}
 use Rattle.tailrec_lang.specs.declared.group.Exit.TheVariants.{Ret}
 use Rattle.tailrec_lang.specs.Tree.{GroupTree, exits_at, listed_def}
 use Rattle.tailrec_lang.specs.Eval.{Arguments, Done, eval}
 use Rattle.checker.specs.Headline.{Region, is_within, held_in, Starts, Ends}
-
--- the machine stands at the return, `jalr x0, 0(x1)`
-abbrev pub IsAtReturn : State → Type 0
-IsAtReturn s = instruction_at s ≡ Some (Jalr 0 1 (pos 0))
 
 -- the next step loads and stores in the regions alone
 abbrev pub StaysWithin : List Region → State → Type 0

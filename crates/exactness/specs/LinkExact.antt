@@ -4,10 +4,10 @@ use Rattle.rv_decode.specs.declared.instruction.Instr.TheVariants.{Jal}
 use Rattle.rv_machine.specs.State.{State}
 use Rattle.rv_machine.specs.Step.{instruction_at, length_at, next, step}
 use Rattle.rv_machine.specs.Touches.{touches, IsTouched}
-use Rattle.rv_machine.specs.Run.{run}
+use Rattle.rv_machine.specs.Run.{run, IsAtReturn}
 use Rattle.tailrec_lang.specs.Tree.{GroupTree}
 use Rattle.checker.specs.Headline.{Region, Starts}
-use Rattle.exactness.specs.Exact.{IsAtReturn, Gives}
+use Rattle.exactness.specs.Exact.{Gives}
 
 -- ---- several memories
 

@@ -1,17 +1,13 @@
 -- What stands at an address, and where it leads. Sums are modulo 2 ^ 64.
 use Rattle.std.specs.Prelude.{◌≡◌, ℕ, ◌+◌, ◌%◌, ◌^◌, ◌==◌, Bool, true, false, ◌&&◌, ◌||◌, if◌then◌else◌, ℤ, pos, Option, Some, None, unwrap_or, Result, Ok, Err, List, [], ◌∷◌}
 use Rattle.std.specs.List.{Contains}
-use Rattle.rv_words.specs.Bytes.{Bytes}
+use Rattle.rv_words.specs.Bytes.{Bytes, away}
 use Rattle.rv_words.specs.Operation.{word_of}
 use Rattle.rv_decode.specs.declared.instruction.Instr.{Instr}
 use Rattle.rv_decode.specs.declared.instruction.Instr.TheVariants.{Jal, Jalr, Branch, Ecall, Ebreak}
 use Rattle.rvc.specs.Number.{instruction_of, length_of, number_in}
 use Rattle.flow_graph.specs.declared.outside.Outside.{Outside}
 use Rattle.flow_graph.specs.declared.outside.Outside.TheVariants.{OutsideCode, NotDecoded, Environment, Call, JumpThrough, Misaligned}
-
--- the address of the instruction after one of k bytes
-abbrev pub following : ℕ → ℕ → ℕ
-following a k = (a + k) % 2 ^ 64
 
 -- the target of a jump by an offset
 abbrev pub target : ℕ → ℤ → ℕ
@@ -65,10 +61,10 @@ pub record StandsIn (linked : Bool) (code : Bytes) (a : ℕ) (i : Instr) : Type 
 -- where an instruction of k bytes without a fault leads from a: a branch on and to its target, in that order, also where these are equal.
 -- A call comes back.
 abbrev pub targets : ℕ → ℕ → Instr → List ℕ
-targets a k (Branch c rs1 rs2 offset) = following a k ∷ target a offset ∷ []
-targets a k (Jal rd offset) = (if rd == 0 then target a offset else following a k) ∷ []
+targets a k (Branch c rs1 rs2 offset) = away a k ∷ target a offset ∷ []
+targets a k (Jal rd offset) = (if rd == 0 then target a offset else away a k) ∷ []
 targets a k (Jalr rd rs1 imm) = []
-targets a k i = following a k ∷ []
+targets a k i = away a k ∷ []
 
 -- the function that an instruction at a calls
 abbrev pub called_by : ℕ → Instr → Option ℕ

@@ -2,7 +2,7 @@
 //! by x1 and come back.
 
 ghost use Rattle.std.specs.Prelude.{◌≡◌, ◌+◌, ◌<◌, ◌^◌, Some, None, if◌then◌else◌};
-ghost use Rattle.rv_words.specs.Bytes.{inside, load};
+ghost use Rattle.rv_words.specs.Bytes.{away, inside, load};
 ghost use Rattle.rvc.specs.Number.{number_in};
 ghost use Rattle.elf_image.specs.Image.{code_in};
 ghost use Rattle.flow_graph.specs.Flow as spec;
@@ -23,7 +23,7 @@ pub enum Targets {
 
 /// The address of the instruction after one of that many bytes.
 fn following(a: u64, length: u8) -> u64
-    ensures { result ≡ spec.following a length }
+    ensures { result ≡ away a length }
 {
     a.wrapping_add(u64::from(length))
 }

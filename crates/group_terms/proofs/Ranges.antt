@@ -2,8 +2,6 @@
 use Rattle.std.proofs.Common.{◌≡◌, ℕ, ◌<◌, ◌^◌, true, false, cond, nat_eq, List, [], ◌∷◌, Option, Some, None, map, refl, ap, arith}
 use Rattle.std.specs.Prelude.{is_some}
 use Rattle.std.specs.List.{AllByRecursion}
-use Rattle.std.specs.Ordering.{nat_cmp}
-use Rattle.std.specs.FinMap.{get-empty}
 use Rattle.rv_words.specs.Bytes.{Bytes, IsMemory}
 use Rattle.word_terms.specs.Tree.{WordTree, MemTree}
 use Rattle.word_terms.specs.Environment.{Environment, IsInRange, no_variables, with_word, with_mem, with_words, with_mems}
@@ -46,7 +44,7 @@ pub in_range-with : (e : Environment) (x : Arguments) → IsInRange e → Argume
 in_range-with e x r h = in_range-with_mems x.mems (with_words e x.words) (in_range-with_words x.words e r h.words) h.mems
 
 pub in_range-none : IsInRange no_variables
-in_range-none = record { word = λ i. omega arith; address = λ i a b is. absurd (cc (get-empty nat_cmp a)); byte = λ i a b is. absurd (cc (get-empty nat_cmp a)) }
+in_range-none = record { word = λ i. omega arith; address = λ i a b is. absurd (cc); byte = λ i a b is. absurd (cc) }
 
 -- ---- values
 

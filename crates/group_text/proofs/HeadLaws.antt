@@ -6,7 +6,7 @@ use Rattle.std.specs.Str.{bytes_eq}
 use Rattle.std.specs.Fmt.{decimal}
 use Rattle.std.proofs.lemmas.Bool.Decides.{nat_tests}
 use Rattle.std.proofs.lemmas.Slice.Eq.{bytes_eq-Decides}
-use Rattle.mc_text.specs.Number.{IsWord as IsNumber, AreBytes, hex, hex_of}
+use Rattle.mc_text.specs.Number.{IsNumber, AreSomeBytes, hex, hex_of}
 use Rattle.mc_text.specs.Tokens.{Tok, Atom, Eol, is_atom_byte, IsAtom}
 use Rattle.mc_text.specs.Reading.{Reader, pair, one, atom_of, star, goes_on, address_at, is_open}
 use Rattle.mc_text.specs.inner.Reading.{eol, word, checked, number_at}
@@ -222,7 +222,7 @@ HasBytes r = AllByRecursion (λ b. b < 256) r.bytes
 abbrev pub IsCode : List Range → Type 0
 IsCode rs = AreRanges rs × AllByRecursion HasBytes rs
 
-some-bytes : (bs : List ℕ) → AreBytes bs → 0 < length bs
+some-bytes : (bs : List ℕ) → AreSomeBytes bs → 0 < length bs
 some-bytes [] h = absurd (h.0 refl)
 some-bytes (b ∷ bs) h = omega arith
 

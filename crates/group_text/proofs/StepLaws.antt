@@ -1,7 +1,7 @@
 -- Lines within bodies: values and steps are read as they are spelled.
 use Rattle.std.proofs.Common.{◌≡◌, ℕ, ◌^◌, ◌<◌, ◌≤◌, true, List, [], ◌∷◌, ◌++◌, length, codes, Ok, refl, ap, arith, append_assoc, length-append, inl, inr, ◌⊎◌}
 use Rattle.std.specs.List.{AllByRecursion, flat_map}
-use Rattle.mc_text.specs.Number.{IsWord as IsNumber, hex, hex_of, number_of}
+use Rattle.mc_text.specs.Number.{IsNumber, hex, hex_of, number_of}
 use Rattle.mc_text.specs.Tokens.{Tok, Semi, Atom, Eol}
 use Rattle.mc_text.specs.Reading.{Reader, pair, made, one, atom_of, below, star, goes_on, refused, address_at}
 use Rattle.mc_text.specs.inner.Reading.{is_semi, is_eol, is_word, eol, word, keyed, number_at}

@@ -1,6 +1,6 @@
 -- Definitions, groups and texts are read as they are spelled, and the lines before a fault can be completed.
 use Rattle.std.proofs.Common.{◌≡◌, ℕ, true, List, [], ◌∷◌, ◌++◌, codes, refl, sym, ap, ◌∙◌, arith, append_assoc, flat_map}
-use Rattle.mc_text.specs.Number.{IsWord as IsNumber, hex}
+use Rattle.mc_text.specs.Number.{IsNumber, hex}
 use Rattle.mc_text.specs.Tokens.{Tok, Atom, Eol}
 use Rattle.mc_text.specs.Reading.{pair, one, atom_of, goes_on}
 use Rattle.mc_text.specs.inner.Reading.{eol, word}

@@ -12,6 +12,7 @@ ghost use Rattle.tailrec_lang.specs.Tree.{step_tree, values_tree};
 ghost use Rattle.group_text.specs.inner.Reading.{arm_bound, is_step, mark_row, step_at, values_at};
 ghost use Rattle.group_text.specs.inner.BodyRows.{call_of, end_row, end_row_tree, leave_by};
 
+use crate::heads::EXIT_LIMIT;
 use mc_text::cursor::{eol, keyword, number, peek, semi};
 use mc_text::{Scan, Token, TokenError};
 use std::alloc::Global;
@@ -124,7 +125,7 @@ pub fn read_index<'a>(scan: &mut Scan<'a>) -> Result<u32, TokenError>
 fn arm_bound(room: u32) -> u64
     ensures { result ≡ arm_bound room }
 {
-    if room == 0 { 1 } else { 17 }
+    if room == 0 { 1 } else { EXIT_LIMIT as u64 + 1 }
 }
 
 /// How many arms a call has.

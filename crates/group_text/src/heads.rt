@@ -76,11 +76,14 @@ fn read_exits<'a>(alloc: Global, scan: &mut Scan<'a>) -> Result<List<Exit>, Toke
     Ok(exits)
 }
 
+/// A definition has at most so many exits, and a call so many arms.
+pub(crate) const EXIT_LIMIT: usize = 16;
+
 /// Whether there are at most 16 exits, and at most one of them returns.
 fn are_few_exits(exits: &[Exit]) -> bool
     ensures { result ≡ are_few_exits exits.now }
 {
-    exits.len() <= 16 && returns(exits) <= 1
+    exits.len() <= EXIT_LIMIT && returns(exits) <= 1
 }
 
 /// How many exits return.

@@ -2,7 +2,7 @@
 
 ghost use Rattle.std.specs.Prelude.{◌≡◌};
 ghost use Rattle.instr_axioms.specs.Axiom as spec;
-ghost use Rattle.instr_axioms.specs.Terms.{following};
+ghost use Rattle.rv_words.specs.Bytes.{away};
 
 use rvc::length_of;
 
@@ -15,7 +15,7 @@ pub fn has_room(a: u64, number: u32) -> bool
 
 /// The address of the next instruction, behind one of that many bytes.
 pub fn next(a: u64, length: u8) -> u64
-    ensures { result ≡ following a length }
+    ensures { result ≡ away a length }
 {
     a.wrapping_add(u64::from(length))
 }

@@ -1,6 +1,7 @@
 -- The laws that walks rest on.
 use Rattle.std.proofs.Common.{◌≡◌, ◌≢◌, ℕ, suc, ◌+◌, ◌<◌, ◌⊎◌, inl, inr, refl, sym, ◌∙◌, ap, subst, arith, Bool, true, false, cond, nat_eq, Option, None, Some, option_map, List, [], ◌∷◌, length, get_or}
 use Rattle.std.specs.List.{Contains, list_any}
+use Rattle.std.specs.Option.{option_or}
 use Rattle.std.proofs.lemmas.Bool.Decides.{eqb_tells}
 use Rattle.std.proofs.lemmas.Cmp.{nat_eq_equiv}
 use Rattle.std.proofs.lemmas.Map.Views.{Contains-from_any, list_any-from_Contains, exact_unsigned_eq}
@@ -14,7 +15,7 @@ use Rattle.loop_forest.specs.Loops.{IsHead, InLoop, IsExit}
 use Rattle.loop_forest.specs.Regions.{IsAround}
 use Rattle.loop_forest.specs.Cuts.{StepsSinceCut, AtBase, After, IsBase, Entry, Head, Exit}
 use Rattle.loop_forest.specs.Forest.{ForestOf, IsForestOf, exits_of, head_of, incoming, inside_of, number_of, place_of, region_of}
-use Rattle.loop_forest.specs.Walking.{IsPlacedIn, IsWalkable, first_of, index_in, inner_of, loop_of}
+use Rattle.loop_forest.specs.Walking.{IsPlacedIn, IsWalkable, index_in, inner_of, loop_of}
 use Rattle.loop_forest.specs.inner.Inner.{IsInner, IsPlaced}
 use Rattle.loop_forest.proofs.BaseLemmas.{head_below, single}
 use Rattle.loop_forest.proofs.CutLemmas.{stands_once}
@@ -120,7 +121,7 @@ module _ (g : GraphOf) (f : ForestOf) (flow : IsFlow g) (is : IsForestOf g f) wh
   around_inner n (Some l) plain p = (p.0, p.2, λ h k i. p.3 h k (λ q. plain (subst (λ (z : ℕ). IsHead (HasEdge g) g.entry z) q k)) i)
 
   inner_cases : (n : ℕ) → n < length g.addrs → (o : Option ℕ) → loop_of f n ≡ o
-      → IsInner (HasEdge g) g.entry n (option_map (head_of f) (first_of o (region_of f n))) × ((l : ℕ) → first_of o (region_of f n) ≡ Some l → l < length f.heads)
+      → IsInner (HasEdge g) g.entry n (option_map (head_of f) (option_or o (region_of f n))) × ((l : ℕ) → option_or o (region_of f n) ≡ Some l → l < length f.heads)
   inner_cases n i None e = (
     around_inner n _ (λ k. index_none f.heads n e ((is.heads n).1 k)) (is.regions n i),
     region_within n i,

@@ -1,6 +1,7 @@
 -- What walks along a graph rest on: laws of a forest in terms of what it holds alone.
 use Rattle.std.specs.Prelude.{◌≡◌, ◌≢◌, ℕ, ◌+◌, ◌==◌, ◌<◌, ◌⊎◌, if◌then◌else◌, Option, Some, None, option_map, List, [], ◌∷◌, length}
 use Rattle.std.specs.List.{Contains}
+use Rattle.std.specs.Option.{option_or}
 use Rattle.flow_graph.specs.Graph.{GraphOf, HasEdge, succs_of}
 use Rattle.loop_forest.specs.Cycles.{IsCycle}
 use Rattle.loop_forest.specs.Forest.{ForestOf, exits_of, head_of, number_of, place_of, region_of}
@@ -14,13 +15,9 @@ index_in (x ∷ xs) n = if x == n then Some 0 else option_map (λ k. k + 1) (ind
 abbrev pub loop_of : ForestOf → ℕ → Option ℕ
 loop_of f n = index_in f.heads n
 
-abbrev pub first_of : Option ℕ → Option ℕ → Option ℕ
-first_of None r = r
-first_of (Some l) r = Some l
-
 -- the smallest loop that has a node, where a head counts as a node of its own loop
 abbrev pub inner_of : ForestOf → ℕ → Option ℕ
-inner_of f n = first_of (loop_of f n) (region_of f n)
+inner_of f n = option_or (loop_of f n) (region_of f n)
 
 -- where a walk in a region may come to: the head of the region's loop, one of its exits, or a node of the region
 abbrev pub IsPlacedIn : ForestOf → Option ℕ → ℕ → Type 0

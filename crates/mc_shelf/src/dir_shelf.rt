@@ -12,15 +12,17 @@ use std::marker::Model;
 use std::rt::Files;
 
 /// The system's files, by their paths. The file that the last `create` opened stays open, and takes what is appended to its name.
+/// So does the file that the last read opened, for the next read of its name.
 #[derive(Drop)]
 pub struct DirShelf<R: Files> {
     runtime: R,
     open: Option<OpenFile<R>>,
+    source: Option<OpenFile<R>>,
     read_faults: u64,
     write_faults: u64,
 }
 
-/// A file that is open for writing, and its name.
+/// A file that is open, and its name.
 #[derive(Drop)]
 struct OpenFile<R: Files> {
     name: String,
@@ -42,17 +44,31 @@ impl<R: Files + AllocGlobal> DirShelf<R> {
         DirShelf {
             runtime,
             open: None,
+            source: None,
             read_faults: 0,
             write_faults: 0,
         }
     }
 
-    fn read_from(&self, name: &str, at: u64, into: &mut [u8]) -> io::Result<usize>
-        ensures { IfOk result (λ n. n ≤ length into.old) }
+    /// Opens the file, where it isn't open for reading, and keeps it open. Where there is no memory for the name, no file is kept.
+    fn read_from(&mut self, name: &str, at: u64, into: &mut [u8]) -> io::Result<usize>
+        ensures fits { IfOk result (λ n. n ≤ length into.old) }
+        ensures same { self.new ≡ self.old }
     {
+        if let Some(source) = &mut self.source
+            && source.name.as_str() == name
+        {
+            source.file.seek(SeekFrom::Start(at))?;
+            return source.file.read(into);
+        }
         let mut file = File::open(&self.runtime, name)?;
         file.seek(SeekFrom::Start(at))?;
-        file.read(into)
+        let count = file.read(into)?;
+        self.source = match String::from_str(self.runtime.alloc(), name) {
+            Ok(name) => Some(OpenFile { name, file }),
+            Err(_) => None,
+        };
+        Ok(count)
     }
 
     /// Empties the file, and keeps it open. Where there is no memory for the name, no file is kept.

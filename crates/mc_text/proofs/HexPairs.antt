@@ -11,7 +11,7 @@ use Rattle.hex.specs.declared.error.FromHexError.{FromHexError}
 use Rattle.hex.specs.Hex.{lower_digits, encode_with, encode_lower, hex_digit_value, is_hex_digit as is_any_digit, digit_or_error, pair_value, value_at, decode_pairs, decode_of, IsBytes}
 use Rattle.hex.proofs.Pairs.{cons_byte, decode_pairs-ok_pair}
 use Rattle.hex.proofs.HexLemmas.{length-encode_with, decode_of-encode_lower, decode_of-ok, decode_of-even, decode_of-digits}
-use Rattle.mc_text.specs.Number.{is_hex_digit, AreBytes, AreDigitPairs, Spelled, spelled_by, bytes_of_digits}
+use Rattle.mc_text.specs.Number.{is_hex_digit, AreSomeBytes, AreDigitPairs, Spelled, spelled_by, bytes_of_digits}
 use Rattle.mc_text.specs.inner.Number.{value_of}
 use Rattle.mc_text.proofs.Numbers.{Pass}
 
@@ -129,9 +129,9 @@ abbrev ok : List ℕ → Result (List ℕ) FromHexError
 ok bytes = Ok bytes
 
 abbrev pub SpelledBytes : List ℕ → Option (List ℕ) → Type 0
-SpelledBytes text o = Spelled AreBytes encode_lower text o
+SpelledBytes text o = Spelled AreSomeBytes encode_lower text o
 
-nothing-spelled : (bytes : List ℕ) → AreBytes bytes → [] ≡ encode_lower bytes → ⊥
+nothing-spelled : (bytes : List ℕ) → AreSomeBytes bytes → [] ≡ encode_lower bytes → ⊥
 unfolding encode_with
 nothing-spelled [] h s = h.0 refl
 nothing-spelled (b ∷ bs) h s = absurd cc
@@ -160,7 +160,7 @@ any-digit : (xs : List ℕ) → Pass is_hex_digit xs → Pass is_any_digit xs
 any-digit [] h = tt
 any-digit (x ∷ xs) h = (ap is_some (lower x h.0).some, any-digit xs h.1)
 
-spelled-pairs : (bytes : List ℕ) → AreBytes bytes → AreDigitPairs (encode_lower bytes)
+spelled-pairs : (bytes : List ℕ) → AreSomeBytes bytes → AreDigitPairs (encode_lower bytes)
 unfolding encode_with
 spelled-pairs [] h = absurd (h.0 refl)
 spelled-pairs (b ∷ bs) h = record {
@@ -182,7 +182,7 @@ spelled-found text None h = (λ s. absurd (true≢false (sym s)), λ p. absurd (
 
 -- ---- the same by computing
 
-spelled-back : (text bytes : List ℕ) (b : Bool) → bytes_eq (encode_lower bytes) text ≡ b → AreBytes bytes → SpelledBytes text None → None ≡ cond b (Some bytes) None
+spelled-back : (text bytes : List ℕ) (b : Bool) → bytes_eq (encode_lower bytes) text ≡ b → AreSomeBytes bytes → SpelledBytes text None → None ≡ cond b (Some bytes) None
 spelled-back text bytes true e f h = absurd (h bytes f (sym ((bytes_eq-Decides (encode_lower bytes) text).0 e)))
 spelled-back text bytes false e f h = refl
 

@@ -7,6 +7,7 @@ pub mod Printed
 pub mod Atoms
 pub mod Lines
 pub mod Parentheses
+pub mod AtomAhead
 pub mod OneSpelling
 pub mod ReaderLaws
 pub mod Choices

@@ -11,7 +11,7 @@ use Rattle.std.proofs.lemmas.Fmt.{digits_is_IsNumeral}
 use Rattle.std.proofs.lemmas.List.{take-append-drop}
 use Rattle.mc_text.specs.declared.number.Base.{Base}
 use Rattle.mc_text.specs.declared.number.Base.TheVariants.{Decimal, Hexadecimal}
-use Rattle.mc_text.specs.Number.{hex, IsWord, Spelled, number_of, hex_of}
+use Rattle.mc_text.specs.Number.{hex, IsNumber, Spelled, number_of, hex_of}
 use Rattle.mc_text.specs.inner.Number.{base_number}
 
 -- ---- the digits that a number is written with
@@ -87,24 +87,24 @@ none-found n e = cc
 
 -- ---- what an atom spells, or that it spells nothing
 
-pub number-spelled : (base : ℕ) (ds : List ℕ) (o : Option ℕ) → 2 ≤ base → base ≤ 16 → o ≡ number_of base ds → Spelled IsWord (digits base false) ds o
+pub number-spelled : (base : ℕ) (ds : List ℕ) (o : Option ℕ) → 2 ≤ base → base ≤ 16 → o ≡ number_of base ds → Spelled IsNumber (digits base false) ds o
 number-spelled base ds (Some n) low high e = let t = number_of-takes base ds n (sym e) in (t.1, t.0)
 number-spelled base ds None low high e = λ n lt is. none-found n (e ∙ ap (number_of base) is ∙ number_of-again base n low high lt)
 
-pub without-0x : (text : List ℕ) → bytes_eq (take 2 text) (codes "0x") ≡ false → Spelled {X = ℕ} IsWord hex text None
+pub without-0x : (text : List ℕ) → bytes_eq (take 2 text) (codes "0x") ≡ false → Spelled {X = ℕ} IsNumber hex text None
 without-0x text f = λ n lt is. true≢false (sym (ap (λ (s : List ℕ). bytes_eq (take 2 s) (codes "0x")) is) ∙ f)
 
-pub behind-0x : (text : List ℕ) (o : Option ℕ) → bytes_eq (take 2 text) (codes "0x") ≡ true → o ≡ number_of 16 (drop 2 text) → Spelled IsWord hex text o
+pub behind-0x : (text : List ℕ) (o : Option ℕ) → bytes_eq (take 2 text) (codes "0x") ≡ true → o ≡ number_of 16 (drop 2 text) → Spelled IsNumber hex text o
 behind-0x text (Some n) t e =
     let k = number_of-takes 16 (drop 2 text) n (sym e) in
     (k.1, sym (take-append-drop 2 text) ∙ (λ i. (bytes_eq-Decides (take 2 text) (codes "0x")).0 t i ++ k.0 i))
 behind-0x text None t e =
     λ n lt is. none-found n (e ∙ ap (λ (s : List ℕ). number_of 16 (drop 2 s)) is ∙ number_of-again 16 n (omega arith) (omega arith) lt)
 
-pub hex_of-spelled : (text : List ℕ) (o : Option ℕ) → o ≡ hex_of text → Spelled IsWord hex text o
+pub hex_of-spelled : (text : List ℕ) (o : Option ℕ) → o ≡ hex_of text → Spelled IsNumber hex text o
 unfolding hex_of
 hex_of-spelled text o e = choose (bytes_eq (take 2 text) (codes "0x")) refl e
   where
-    choose : (b : Bool) → bytes_eq (take 2 text) (codes "0x") ≡ b → o ≡ cond b (number_of 16 (drop 2 text)) None → Spelled IsWord hex text o
+    choose : (b : Bool) → bytes_eq (take 2 text) (codes "0x") ≡ b → o ≡ cond b (number_of 16 (drop 2 text)) None → Spelled IsNumber hex text o
     choose true t e = behind-0x text o t e
-    choose false f e = subst (Spelled IsWord hex text) (sym e) (without-0x text f)
+    choose false f e = subst (Spelled IsNumber hex text) (sym e) (without-0x text f)

@@ -7,7 +7,7 @@ use Rattle.hex.specs.declared.error.FromHexError.{FromHexError}
 use Rattle.hex.proofs.HexLemmas.{decode_of-encode_lower}
 use Rattle.mc_text.specs.declared.token.Before.{Before}
 use Rattle.mc_text.specs.declared.token.Before.TheVariants.{Start}
-use Rattle.mc_text.specs.Number.{hex, IsWord, AreBytes, Spelled, number_of}
+use Rattle.mc_text.specs.Number.{hex, IsNumber, AreSomeBytes, Spelled, number_of}
 use Rattle.mc_text.specs.Tokens.{Tok, Left, Right, Semi, Atom, Eol, Done, Stuck, token_text, before_next, spell, IsToken, Stands}
 use Rattle.mc_text.specs.Scanning.{At, lex}
 use Rattle.mc_text.proofs.Numbers.{number_of-again}
@@ -68,19 +68,19 @@ some x = Some x
 same-some : {X : Type 0} (x y : X) → some x ≡ some y → x ≡ y
 same-some x y e = cc
 
-digits-once : (base m n : ℕ) → 2 ≤ base → base ≤ 16 → IsWord m → IsWord n → digits base false m ≡ digits base false n → m ≡ n
+digits-once : (base m n : ℕ) → 2 ≤ base → base ≤ 16 → IsNumber m → IsNumber n → digits base false m ≡ digits base false n → m ≡ n
 digits-once base m n low high h k e = same-some m n (sym (number_of-again base m low high h) ∙ ap (number_of base) e ∙ number_of-again base n low high k)
 
-pub decimal-once : (m n : ℕ) → IsWord m → IsWord n → decimal m ≡ decimal n → m ≡ n
+pub decimal-once : (m n : ℕ) → IsNumber m → IsNumber n → decimal m ≡ decimal n → m ≡ n
 decimal-once m n h k e = digits-once 10 m n (omega arith) (omega arith) h k e
 
-pub hex-once : (m n : ℕ) → IsWord m → IsWord n → hex m ≡ hex n → m ≡ n
+pub hex-once : (m n : ℕ) → IsNumber m → IsNumber n → hex m ≡ hex n → m ≡ n
 hex-once m n h k e = digits-once 16 m n (omega arith) (omega arith) h k (ap (drop 2) e)
 
 abbrev ok : List ℕ → Result (List ℕ) FromHexError
 ok bs = Ok bs
 
-pub bytes-once : (bs cs : List ℕ) → AreBytes bs → AreBytes cs → encode_lower bs ≡ encode_lower cs → bs ≡ cs
+pub bytes-once : (bs cs : List ℕ) → AreSomeBytes bs → AreSomeBytes cs → encode_lower bs ≡ encode_lower cs → bs ≡ cs
 bytes-once bs cs h k e = ok-same bs cs (sym (decode_of-encode_lower bs (is_bytes bs h.1)) ∙ ap decode_of e ∙ decode_of-encode_lower cs (is_bytes cs k.1))
   where
     ok-same : (bs cs : List ℕ) → ok bs ≡ ok cs → bs ≡ cs

@@ -8,7 +8,7 @@ use Rattle.std.proofs.Math.Nat.{pow-le-pow_left}
 use Rattle.std.specs.Str.{bytes_eq}
 use Rattle.std.specs.Fmt.{decimal, digits}
 use Rattle.hex.specs.Hex.{encode_with, encode_lower}
-use Rattle.mc_text.specs.Number.{hex, is_hex_digit, IsWord, AreBytes, Spelled, number_of, hex_of, bytes_of_digits as bytes_spelled}
+use Rattle.mc_text.specs.Number.{hex, is_hex_digit, IsNumber, AreSomeBytes, Spelled, number_of, hex_of, bytes_of_digits as bytes_spelled}
 use Rattle.mc_text.specs.Tokens.{Tok, Left, Right, Semi, Atom, Eol, Done, Stuck, is_atom_byte, IsAtom}
 use Rattle.mc_text.specs.Reading.{is_left, is_right, atom_of, below}
 use Rattle.mc_text.specs.inner.Reading.{is_semi, is_eol, is_word}
@@ -91,16 +91,16 @@ module _ {X : Type 0} (f : List ℕ → Option X) (Fits : X → Type 0) (spellin
   pub spelled-back : (x : X) → Fits x → f (spelling x) ≡ Some x
   spelled-back x h = found x (f (spelling x)) h (told (spelling x) (f (spelling x)) refl)
 
-pub shows-decimal : Shows (atom_of (number_of 10)) IsWord (λ n. Atom (decimal n))
-shows-decimal = shows-atom (number_of 10) IsWord decimal
-    (spelled-there (number_of 10) IsWord decimal (λ a o e. number-spelled 10 a o (omega arith) (omega arith) e) decimal-once)
-    (spelled-back (number_of 10) IsWord decimal (λ a o e. number-spelled 10 a o (omega arith) (omega arith) e) decimal-once)
+pub shows-decimal : Shows (atom_of (number_of 10)) IsNumber (λ n. Atom (decimal n))
+shows-decimal = shows-atom (number_of 10) IsNumber decimal
+    (spelled-there (number_of 10) IsNumber decimal (λ a o e. number-spelled 10 a o (omega arith) (omega arith) e) decimal-once)
+    (spelled-back (number_of 10) IsNumber decimal (λ a o e. number-spelled 10 a o (omega arith) (omega arith) e) decimal-once)
 
-pub shows-hex : Shows (atom_of hex_of) IsWord (λ n. Atom (hex n))
-shows-hex = shows-atom hex_of IsWord hex (spelled-there hex_of IsWord hex hex_of-spelled hex-once) (spelled-back hex_of IsWord hex hex_of-spelled hex-once)
+pub shows-hex : Shows (atom_of hex_of) IsNumber (λ n. Atom (hex n))
+shows-hex = shows-atom hex_of IsNumber hex (spelled-there hex_of IsNumber hex hex_of-spelled hex-once) (spelled-back hex_of IsNumber hex hex_of-spelled hex-once)
 
-pub shows-bytes : Shows (atom_of bytes_spelled) AreBytes (λ bytes. Atom (encode_lower bytes))
-shows-bytes = shows-atom bytes_spelled AreBytes encode_lower (spelled-there bytes_spelled AreBytes encode_lower bytes_of-spelled bytes-once) (spelled-back bytes_spelled AreBytes encode_lower bytes_of-spelled bytes-once)
+pub shows-bytes : Shows (atom_of bytes_spelled) AreSomeBytes (λ bytes. Atom (encode_lower bytes))
+shows-bytes = shows-atom bytes_spelled AreSomeBytes encode_lower (spelled-there bytes_spelled AreSomeBytes encode_lower bytes_of-spelled bytes-once) (spelled-back bytes_spelled AreSomeBytes encode_lower bytes_of-spelled bytes-once)
 
 -- numbers below a limit
 below-there : (limit : ℕ) (o : Option ℕ) (n : ℕ) → below limit o ≡ some n → (o ≡ some n) × (n < limit)
@@ -116,25 +116,25 @@ shows-below limit le = shows-atom (λ a. below limit (number_of 10 a)) (λ n. n 
     (λ a n e. let b = below-there limit (number_of 10 a) n e in let h = shows-number-there a n b.0 in (h.0, b.1))
     (λ n lt. ap (below limit) (shows-number-back n (omega (arith, le, lt))) ∙ ap (λ (b : Bool). cond b (some n) None) (lt-ltb n limit lt))
   where
-    shows-number-there : (a : List ℕ) (n : ℕ) → number_of 10 a ≡ some n → (a ≡ decimal n) × IsWord n
-    shows-number-there a n e = spelled-there (number_of 10) IsWord decimal (λ a o e. number-spelled 10 a o (omega arith) (omega arith) e) decimal-once a n e
+    shows-number-there : (a : List ℕ) (n : ℕ) → number_of 10 a ≡ some n → (a ≡ decimal n) × IsNumber n
+    shows-number-there a n e = spelled-there (number_of 10) IsNumber decimal (λ a o e. number-spelled 10 a o (omega arith) (omega arith) e) decimal-once a n e
 
-    shows-number-back : (n : ℕ) → IsWord n → number_of 10 (decimal n) ≡ some n
-    shows-number-back n h = spelled-back (number_of 10) IsWord decimal (λ a o e. number-spelled 10 a o (omega arith) (omega arith) e) decimal-once n h
+    shows-number-back : (n : ℕ) → IsNumber n → number_of 10 (decimal n) ≡ some n
+    shows-number-back n h = spelled-back (number_of 10) IsNumber decimal (λ a o e. number-spelled 10 a o (omega arith) (omega arith) e) decimal-once n h
 
 -- ---- what is written is an atom
 
 glyph-atom : Passes is_atom_byte 16
 glyph-atom d lt = grind (arith, nat_tests)
 
-some-digits : (base n : ℕ) → 2 ≤ base → base ≤ 16 → IsWord n → digits base false n ≡ [] → ⊥
+some-digits : (base n : ℕ) → 2 ≤ base → base ≤ 16 → IsNumber n → digits base false n ≡ [] → ⊥
 some-digits base n low high lt e =
     let wide : n < base ^ 64 = omega (arith, lt, pow-le-pow_left low 64) in
     let h = (digits_is_IsNumeral base false low high n wide).0 in
     let len : length (digits base false n) ≡ 0 = ap length e in
     omega (arith, h.0, len)
 
-pub decimal-atom : (n : ℕ) → IsWord n → IsAtom (decimal n)
+pub decimal-atom : (n : ℕ) → IsNumber n → IsAtom (decimal n)
 decimal-atom n h = text-atom (decimal n) (some-digits 10 n (omega arith) (omega arith) h) (digits-pass is_atom_byte 10 n (omega arith) (λ d lt. glyph-atom d (omega arith)))
 
 pub hex-atom : (n : ℕ) → IsAtom (hex n)
@@ -147,7 +147,7 @@ hex-digits-atom : (ds : List ℕ) → Pass is_hex_digit ds → Pass is_atom_byte
 hex-digits-atom [] h = tt
 hex-digits-atom (d ∷ ds) h = (hex-digit-atom d h.0, hex-digits-atom ds h.1)
 
-pub bytes-atom : (bytes : List ℕ) → AreBytes bytes → IsAtom (encode_lower bytes)
+pub bytes-atom : (bytes : List ℕ) → AreSomeBytes bytes → IsAtom (encode_lower bytes)
 unfolding encode_with
 bytes-atom [] h = absurd (h.0 refl)
 bytes-atom (b ∷ bs) h = text-atom (encode_lower (b ∷ bs)) (λ e. absurd cc) (hex-digits-atom (encode_lower (b ∷ bs)) (encode-pass (b ∷ bs) h.1))

@@ -11,13 +11,13 @@ use Rattle.hex.specs.declared.error.FromHexError.{FromHexError}
 abbrev pub hex : ℕ → List ℕ
 hex n = codes "0x" ++ digits 16 false n
 
-abbrev pub IsWord : ℕ → Type 0
-IsWord n = n < 2 ^ 64
+abbrev pub IsNumber : ℕ → Type 0
+IsNumber n = n < 2 ^ 64
 
 -- Bytes are written as the hex crate's `encode_lower`: two lower-case digits each, the high four bits first.
 -- There is at least one byte.
-abbrev pub AreBytes : List ℕ → Type 0
-AreBytes bytes = (bytes ≢ []) × AllByRecursion (λ b. b < 256) bytes
+abbrev pub AreSomeBytes : List ℕ → Type 0
+AreSomeBytes bytes = (bytes ≢ []) × AllByRecursion (λ b. b < 256) bytes
 
 -- a digit from 0 to 9 or from a to f
 abbrev pub is_hex_digit : ℕ → Bool

@@ -47,6 +47,10 @@ abbrev pub is_open : Tok → Bool
 is_open Left = true
 is_open _ = false
 
+abbrev pub begins_atom : Tok → Bool
+begins_atom (Atom a) = true
+begins_atom _ = false
+
 -- an atom that the test takes
 abbrev pub atom_of : {X : Type 0} → (List ℕ → Option X) → Tok → Option X
 atom_of f (Atom a) = f a

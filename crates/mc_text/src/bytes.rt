@@ -3,7 +3,7 @@
 ghost use Rattle.std.specs.Prelude.{◌≡◌, ◌≢◌, ◌↔◌, [], IfOk, IsSome, IsTrue};
 ghost use Rattle.std.specs.List.{AllPass};
 ghost use Rattle.hex.specs.Hex.{encode_lower, decode_of};
-ghost use Rattle.mc_text.specs.Number.{is_hex_digit, AreBytes, AreDigitPairs, Spelled, bytes_of_digits};
+ghost use Rattle.mc_text.specs.Number.{is_hex_digit, AreSomeBytes, AreDigitPairs, Spelled, bytes_of_digits};
 ghost use Rattle.mc_text.specs.inner.Number.{value_of};
 
 use hex::FromHexError;
@@ -12,7 +12,7 @@ use std::alloc::Global;
 
 /// The bytes that an even, positive number of lower-case hexadecimal digits spell.
 pub fn hex_bytes(alloc: Global, atom: &[u8]) -> Result<Option<Bytes>, NoMemory>
-    ensures spelled { IfOk result (λ found. Spelled AreBytes encode_lower atom.now found) }
+    ensures spelled { IfOk result (λ found. Spelled AreSomeBytes encode_lower atom.now found) }
     ensures found { IfOk result (λ found. IsSome found ↔ AreDigitPairs atom.now) }
     ensures read { IfOk result (λ found. found ≡ bytes_of_digits atom.now) }
 {

@@ -131,39 +131,39 @@ pub fn eol<'a>(scan: &mut Scan<'a>) -> Result<(), TokenError>
 }
 
 /// An atom, whatever it spells.
-#[tactic(auto, unfolding(crate::specs::Reading::one))]
+#[tactic(auto, unfolding(crate::specs::Reading::one), using(crate::proofs::AtomAhead::no_atom))]
 pub fn atom<'a>(scan: &mut Scan<'a>) -> Result<&'a [u8], TokenError>
     ensures gives { Gives (λ a. a.now) result scan.old scan.new (one is_atom) }
     ensures last { last_line scan.new ≡ last_line scan.old }
 {
-    match peek(scan) {
-        Some((Token::Atom(atom), ahead)) => accept(scan, ahead, Some(atom)),
-        _ => Err(TokenError::Bad),
+    match scan.atom_ahead() {
+        Some((atom, ahead)) => accept(scan, ahead, Some(atom)),
+        None => Err(TokenError::Bad),
     }
 }
 
 /// Passes over this word.
-#[tactic(auto, unfolding(crate::specs::Reading::one))]
+#[tactic(auto, unfolding(crate::specs::Reading::one), using(crate::proofs::AtomAhead::no_word))]
 pub fn keyword<'a>(scan: &mut Scan<'a>, text: &[u8]) -> Result<(), TokenError>
     ensures gives { Gives (λ _. tt) result scan.old scan.new (one (is_word text.now)) }
     ensures last { last_line scan.new ≡ last_line scan.old }
 {
-    match peek(scan) {
-        Some((Token::Atom(atom), ahead)) if atom == text => accept(scan, ahead, Some(())),
+    match scan.atom_ahead() {
+        Some((atom, ahead)) if atom == text => accept(scan, ahead, Some(())),
         _ => Err(TokenError::Bad),
     }
 }
 
 /// A decimal number below the limit.
-#[tactic(auto, unfolding(crate::specs::Reading::one))]
+#[tactic(auto, unfolding(crate::specs::Reading::one), using(crate::proofs::AtomAhead::no_atom_of))]
 pub fn number<'a>(scan: &mut Scan<'a>, limit: u64) -> Result<u64, TokenError>
     ensures gives { Gives (λ n. n) result scan.old scan.new (number_at limit) }
     ensures small { IfOk result (λ n. n < limit) }
     ensures last { last_line scan.new ≡ last_line scan.old }
 {
-    match peek(scan) {
-        Some((Token::Atom(atom), ahead)) => accept(scan, ahead, below(limit, dec(atom))),
-        _ => Err(TokenError::Bad),
+    match scan.atom_ahead() {
+        Some((atom, ahead)) => accept(scan, ahead, below(limit, dec(atom))),
+        None => Err(TokenError::Bad),
     }
 }
 
@@ -179,26 +179,26 @@ fn below(limit: u64, number: Option<u64>) -> Option<u64>
 }
 
 /// An address, in hexadecimal digits.
-#[tactic(auto, unfolding(crate::specs::Reading::one))]
+#[tactic(auto, unfolding(crate::specs::Reading::one), using(crate::proofs::AtomAhead::no_atom_of))]
 pub fn address<'a>(scan: &mut Scan<'a>) -> Result<u64, TokenError>
     ensures gives { Gives (λ n. n) result scan.old scan.new address_at }
     ensures last { last_line scan.new ≡ last_line scan.old }
 {
-    match peek(scan) {
-        Some((Token::Atom(atom), ahead)) => accept(scan, ahead, hexnum(atom)),
-        _ => Err(TokenError::Bad),
+    match scan.atom_ahead() {
+        Some((atom, ahead)) => accept(scan, ahead, hexnum(atom)),
+        None => Err(TokenError::Bad),
     }
 }
 
 /// One byte or more, in two hexadecimal digits each.
-#[tactic(auto, unfolding(crate::specs::Reading::one))]
+#[tactic(auto, unfolding(crate::specs::Reading::one), using(crate::proofs::AtomAhead::no_atom_of))]
 pub fn bytes<'a>(alloc: Global, scan: &mut Scan<'a>) -> Result<Bytes, TokenError>
     ensures gives { Gives (λ bytes. bytes) result scan.old scan.new bytes_at }
     ensures last { last_line scan.new ≡ last_line scan.old }
 {
-    match peek(scan) {
-        Some((Token::Atom(atom), ahead)) => accept(scan, ahead, hex_bytes(alloc, atom)?),
-        _ => Err(TokenError::Bad),
+    match scan.atom_ahead() {
+        Some((atom, ahead)) => accept(scan, ahead, hex_bytes(alloc, atom)?),
+        None => Err(TokenError::Bad),
     }
 }
 

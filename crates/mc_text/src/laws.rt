@@ -3,15 +3,15 @@
 ghost use Rattle.std.specs.Prelude.{◌≡◌, ℕ, List};
 ghost use Rattle.std.specs.Fmt.{decimal};
 ghost use Rattle.hex.specs.Hex.{encode_lower};
-ghost use Rattle.mc_text.specs.Number.{AreBytes, IsWord, hex};
+ghost use Rattle.mc_text.specs.Number.{AreSomeBytes, IsNumber, hex};
 ghost use Rattle.mc_text.specs.Tokens.{Stands, Tok};
 ghost use Rattle.mc_text.specs.declared.token.Before.{Before};
 
 /// Numbers and bytes have one spelling each.
 pub fn law_of_one_spelling()
-    ensures decimals { (m n : ℕ) → IsWord m → IsWord n → decimal m ≡ decimal n → m ≡ n }
-    ensures hex_numbers { (m n : ℕ) → IsWord m → IsWord n → hex m ≡ hex n → m ≡ n }
-    ensures bytes { (bs cs : List ℕ) → AreBytes bs → AreBytes cs → encode_lower bs ≡ encode_lower cs → bs ≡ cs }
+    ensures decimals { (m n : ℕ) → IsNumber m → IsNumber n → decimal m ≡ decimal n → m ≡ n }
+    ensures hex_numbers { (m n : ℕ) → IsNumber m → IsNumber n → hex m ≡ hex n → m ≡ n }
+    ensures bytes { (bs cs : List ℕ) → AreSomeBytes bs → AreSomeBytes cs → encode_lower bs ≡ encode_lower cs → bs ≡ cs }
 {}
 
 /// At a place of a text stands at most one token.

@@ -4,7 +4,7 @@ ghost use Rattle.std.specs.Prelude.{◌≡◌, MatchOption, true, false, take, d
 ghost use Rattle.std.specs.Char.{digit_value};
 ghost use Rattle.std.specs.Str.{bytes_eq};
 ghost use Rattle.std.specs.Fmt.{decimal};
-ghost use Rattle.mc_text.specs.Number.{hex, IsWord, Spelled, number_of, hex_of};
+ghost use Rattle.mc_text.specs.Number.{hex, IsNumber, Spelled, number_of, hex_of};
 ghost use Rattle.mc_text.specs.inner.Number.{base_number, is_digit_of, is_padded, ReadsDigits};
 
 /// The bases in which numbers are written.
@@ -27,7 +27,7 @@ impl Base {
 
 /// The number that an atom spells in decimal digits, without a leading zero.
 pub fn dec(atom: &[u8]) -> Option<u64>
-    ensures spelled { Spelled IsWord decimal atom.now result }
+    ensures spelled { Spelled IsNumber decimal atom.now result }
     ensures read { result ≡ number_of 10 atom.now }
 {
     number_of(Base::Decimal, atom)
@@ -36,7 +36,7 @@ pub fn dec(atom: &[u8]) -> Option<u64>
 /// The number that an atom spells by `0x` and lower-case hexadecimal digits, without a leading zero.
 #[tactic(auto, unfolding(crate::specs::Number::hex_of))]
 pub fn hexnum(atom: &[u8]) -> Option<u64>
-    ensures spelled { Spelled IsWord hex atom.now result }
+    ensures spelled { Spelled IsNumber hex atom.now result }
     ensures read { result ≡ hex_of atom.now }
 {
     match hex_part(atom) {

@@ -2,9 +2,10 @@
 
 ghost use Rattle.std.specs.Prelude.{◌≡◌, ◌∷◌, ◌≤◌, ◌<◌, ℕ, List, length, slice_index, IfOk, IfErr, OnErr, IfSome, IfNone, ◌++◌, [], true, false, IsTrue, ◌↔◌};
 ghost use Rattle.std.specs.List.{AllPass};
-ghost use Rattle.mc_text.specs.Tokens.{is_atom_byte, IsAtom, Tok, Left, Right, Atom, before_next, Done, tok, token_bytes, token_text, eol, HasNoAtomByte, Position, Passes, Stands};
+ghost use Rattle.mc_text.specs.Tokens.{is_atom_byte, IsAtom, Tok, Left, Right, Atom, before_next, Done, tok, gap, token_bytes, token_text, eol, HasNoAtomByte, Position, Passes, Stands};
 ghost use Rattle.mc_text.specs.Scanning.{lex, At, Within, or_stuck, loose, class_of, tokens_at, Scanned};
-ghost use Rattle.mc_text.specs.Reading.{goes_on, is_open};
+ghost use Rattle.mc_text.specs.Reading.{begins_atom, goes_on, is_open};
+ghost use Rattle.mc_text.specs.Outcome.{last_line};
 ghost use Rattle.mc_text.specs.inner.Scanning.{state_of, Found, IsWhole, IsSettled, IsInside, space_text};
 ghost use Rattle.mc_text.specs.declared.token.Before.TheVariants.{Start, Later};
 
@@ -108,6 +109,31 @@ impl<'a> Scan<'a> {
         behind_left(self.rest, self.before).is_some()
     }
 
+    /// The atom that stands here, and a scanner after it.
+    #[inline(always)]
+    pub fn atom_ahead(&self) -> Option<(&'a [u8], Scan<'a>)>
+        ensures ahead { IfSome result (λ q. tokens_at self.now ≡ Atom q.0.now ∷ tokens_at q.1) }
+        ensures passes { IfSome result (λ q. Passes (Atom q.0.now) self.now q.1) }
+        ensures last { IfSome result (λ q. last_line q.1 ≡ last_line self.now) }
+        ensures none { IfNone result (goes_on begins_atom (tokens_at self.now) ≡ false) }
+    {
+        match behind_gap(self.rest, self.before) {
+            None => None,
+            Some(bytes) => {
+                let (atom, rest) = atom_at(bytes);
+                if atom.is_empty() {
+                    return None;
+                }
+                let ahead = Scan {
+                    rest,
+                    before: Before::Later,
+                    line: self.line,
+                };
+                Some((atom, ahead))
+            }
+        }
+    }
+
     /// Another scanner at the same place.
     pub fn fork(&self) -> Scan<'a>
         ensures { result ≡ self.now }
@@ -171,6 +197,22 @@ fn behind_right(bytes: &[u8]) -> Option<&[u8]>
     match bytes {
         [b')', rest @ ..] => Some(rest),
         _ => None,
+    }
+}
+
+/// The bytes after the space that belongs before an atom.
+#[inline(always)]
+fn behind_gap(bytes: &[u8], before: Before) -> Option<&[u8]>
+    ensures parts { IfSome result (λ rest. bytes.now ≡ gap before (Atom []) ++ rest.now) }
+    ensures shorter { IfSome result (λ rest. length rest.now ≤ length bytes.now) }
+    ensures none { IfNone result ((rest : List ℕ) → bytes.now ≡ gap before (Atom []) ++ rest → ⊥) }
+{
+    match before {
+        Before::Later => match bytes {
+            [b' ', rest @ ..] => Some(rest),
+            _ => None,
+        },
+        _ => Some(bytes),
     }
 }
 
@@ -260,6 +302,7 @@ fn if_some<'a>(fits: bool, token: Token<'a>, rest: &'a [u8]) -> Option<(Token<'a
 fn atom_at(bytes: &[u8]) -> (&[u8], &[u8])
     ensures atom { lex bytes.now Within ≡ Atom result.0.now ∷ lex result.1.now (At Later) }
     ensures parts { result.0.now ++ result.1.now ≡ bytes.now }
+    ensures fits { AllPass is_atom_byte result.0.now }
     ensures whole { HasNoAtomByte result.1.now }
     ensures some { 0 < length bytes.now → IsTrue (is_atom_byte (slice_index bytes.now 0)) → 0 < length result.0.now }
 {

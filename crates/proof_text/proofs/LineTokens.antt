@@ -1,7 +1,7 @@
 -- What is written of proofs are tokens of a text.
 use Rattle.std.proofs.Common.{◌≡◌, Option, Some, None, is_some, true≢false, sym, subst, ℕ, ◌+◌, ◌^◌, ◌<◌, Bool, true, false, cond, List, [], ◌∷◌, ◌++◌, codes, refl, arith, flat_map}
 use Rattle.std.specs.Fmt.{decimal}
-use Rattle.mc_text.specs.Number.{IsWord as IsNumber}
+use Rattle.mc_text.specs.Number.{IsNumber}
 use Rattle.mc_text.specs.Tokens.{Tok, Right, Semi, Atom, Eol, IsAtom}
 use Rattle.mc_text.proofs.Atoms.{letter-atom, word-atom}
 use Rattle.mc_text.proofs.Lines.{AreTokens}

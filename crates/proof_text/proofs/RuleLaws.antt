@@ -4,7 +4,7 @@ use Rattle.std.specs.Prelude.{nat_le, option_map}
 use Rattle.std.specs.Fmt.{decimal}
 use Rattle.std.specs.List.{AllByRecursion, flat_map}
 use Rattle.std.proofs.lemmas.Bool.{and_parts, and_from, ltb-true, lt-ltb}
-use Rattle.mc_text.specs.Number.{IsWord as IsNumber, hex, hex_of, number_of}
+use Rattle.mc_text.specs.Number.{IsNumber, hex, hex_of, number_of}
 use Rattle.mc_text.specs.Tokens.{Tok, Left, Right, Atom}
 use Rattle.mc_text.specs.Reading.{pair, one, atom_of, below, star, goes_on, is_open, is_right, address_at}
 use Rattle.mc_text.proofs.ReaderLaws.{Reads, IsFlat, flat-append, Reads-one, Reads-pair}

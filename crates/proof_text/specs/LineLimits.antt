@@ -1,7 +1,7 @@
 -- Which lines of a proof have a text.
 use Rattle.std.specs.Prelude.{◌≡◌, ℕ, ◌+◌, ◌≤◌, ◌<◌, ◌^◌, true, map, List, [], ◌∷◌, is_some}
 use Rattle.std.specs.List.{AllByRecursion}
-use Rattle.mc_text.specs.Number.{IsWord as IsNumber}
+use Rattle.mc_text.specs.Number.{IsNumber}
 use Rattle.rv_words.specs.Ranges.{AreRanges}
 use Rattle.term_text.specs.Limits.{IsWord, IsMem, IsCond}
 use Rattle.sep_assert.specs.Tree.{AssertionTree}

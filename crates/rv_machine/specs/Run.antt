@@ -1,7 +1,8 @@
 -- Runs of the machine, and how one ends that stops at an address.
-use Rattle.std.specs.Prelude.{◌≡◌, ◌≢◌, ℕ, zero, suc, ◌<◌, ◌≤◌, Option, Some, option_and_then}
+use Rattle.std.specs.Prelude.{◌≡◌, ◌≢◌, ℕ, zero, suc, ◌<◌, ◌≤◌, Option, Some, option_and_then, pos}
+use Rattle.rv_decode.specs.declared.instruction.Instr.TheVariants.{Jalr}
 use Rattle.rv_machine.specs.State.{State}
-use Rattle.rv_machine.specs.Step.{step, stuck}
+use Rattle.rv_machine.specs.Step.{instruction_at, step, stuck}
 use Rattle.rv_machine.specs.declared.running.RunEnd.{RunEnd}
 use Rattle.rv_machine.specs.declared.running.RunEnd.TheVariants as end
 
@@ -9,6 +10,10 @@ use Rattle.rv_machine.specs.declared.running.RunEnd.TheVariants as end
 unfoldable pub run : State → ℕ → Option State
 run s zero = Some s
 run s (suc k) = option_and_then (λ t. run t k) (step s)
+
+-- the next step is the return, `jalr x0, 0(x1)`
+abbrev pub IsAtReturn : State → Type 0
+IsAtReturn s = instruction_at s ≡ Some (Jalr 0 1 (pos 0))
 
 -- no state of the run is at that address before k steps
 abbrev pub Misses : ℕ → State → ℕ → Type 0

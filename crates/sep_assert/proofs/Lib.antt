@@ -6,3 +6,4 @@ pub mod SearchLemmas
 pub mod SameCode
 pub mod Keys
 pub mod Parted
+pub mod PieceTests

@@ -6,6 +6,7 @@ ghost use Rattle.rv_words.specs.Ranges.{range_bytes};
 ghost use Rattle.sep_assert.specs.Code.{Agree, IsWithin};
 ghost use Rattle.sep_assert.specs.inner.Code.{AreSameAt};
 
+use crate::pieces::are_pieces_of;
 use crate::search::Search;
 use rv_words::Range;
 use word_terms::Code;
@@ -38,8 +39,15 @@ pub fn code_within_either(a: &Code, b: &Code, c: &Code) -> bool
     )
 }
 
-/// Where the ranges rise, each is looked at once.
+/// Whether every byte of `a` is that byte of `b` or, where `b` has none, of `c`. Mostly each has one range, which is compared at once.
 fn are_bytes_of(a: &[Range], b: &[Range], c: &[Range]) -> bool
+    ensures { IsTrue result ↔ IsWithin (range_bytes a.now) (over (range_bytes b.now) (range_bytes c.now)) }
+{
+    are_pieces_of(a, b, c) || are_found_in(a, b, c)
+}
+
+/// The same, byte by byte. Where the ranges rise, each is looked at once.
+fn are_found_in(a: &[Range], b: &[Range], c: &[Range]) -> bool
     ensures { IsTrue result ↔ IsWithin (range_bytes a.now) (over (range_bytes b.now) (range_bytes c.now)) }
 {
     let mut in_a = Search::new(a);

@@ -5,6 +5,7 @@ mod assertion;
 mod code;
 mod joining;
 mod laws;
+mod pieces;
 mod search;
 
 pub use assertion::{Assertion, same_assertion, same_mems, same_register, same_registers};

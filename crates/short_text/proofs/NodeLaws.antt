@@ -2,7 +2,7 @@
 use Rattle.std.proofs.Common.{◌≡◌, ℕ, ◌^◌, ◌<◌, true, false, List, [], ◌∷◌, ◌++◌, codes, Some, refl, ap, subst, inl, inr, ◌⊎◌}
 use Rattle.std.specs.Prelude.{option_map}
 use Rattle.std.specs.Fmt.{decimal, digits}
-use Rattle.mc_text.specs.Number.{IsWord as IsNumber, hex, hex_of}
+use Rattle.mc_text.specs.Number.{IsNumber, hex, hex_of}
 use Rattle.mc_text.specs.Tokens.{Tok, Left, Right, Atom, Eol}
 use Rattle.mc_text.specs.Reading.{pair, one, atom_of, goes_on, choice, is_right, is_open}
 use Rattle.mc_text.specs.inner.Reading.{eol, word, checked}

@@ -3,7 +3,7 @@ use Rattle.std.proofs.Common.{◌≡◌, ℕ, ◌^◌, ◌<◌, Bool, true, fals
 use Rattle.std.specs.Fmt.{decimal}
 use Rattle.std.specs.List.{AllByRecursion, flat_map}
 use Rattle.std.proofs.lemmas.Bool.{and_parts, and_from, ltb-true, lt-ltb}
-use Rattle.mc_text.specs.Number.{IsWord as IsNumber, hex, hex_of}
+use Rattle.mc_text.specs.Number.{IsNumber, hex, hex_of}
 use Rattle.mc_text.specs.Tokens.{Tok, Semi, Atom, Eol}
 use Rattle.mc_text.specs.Reading.{pair, made, one, atom_of, below, star, is_open, address_at}
 use Rattle.mc_text.specs.inner.Reading.{eol, word, checked}

@@ -2,7 +2,7 @@
 use Rattle.std.proofs.Common.{ℕ, ◌+◌, Bool, true, false, cond, List, [], ◌∷◌, ◌++◌, map, codes, refl, arith, flat_map}
 use Rattle.std.specs.Fmt.{decimal}
 use Rattle.std.specs.List.{AllByRecursion}
-use Rattle.mc_text.specs.Number.{IsWord as IsNumber}
+use Rattle.mc_text.specs.Number.{IsNumber}
 use Rattle.mc_text.specs.Tokens.{Tok, Right, Semi, Atom, Eol}
 use Rattle.mc_text.proofs.Atoms.{letter-atom, word-atom}
 use Rattle.mc_text.proofs.Lines.{AreTokens}

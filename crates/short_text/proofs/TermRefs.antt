@@ -2,7 +2,7 @@
 use Rattle.std.proofs.Common.{◌≡◌, ℕ, Bool, true, false, cond, eqb, List, [], ◌∷◌, ◌++◌, codes, Option, Some, None, refl, ap, subst, ◌∙◌, arith}
 use Rattle.std.specs.Fmt.{decimal}
 use Rattle.std.proofs.lemmas.Bool.{eqb-true}
-use Rattle.mc_text.specs.Number.{IsWord as IsNumber, number_of}
+use Rattle.mc_text.specs.Number.{IsNumber, number_of}
 use Rattle.mc_text.specs.Tokens.{Tok, Atom}
 use Rattle.mc_text.specs.Reading.{atom_of, goes_on}
 use Rattle.mc_text.proofs.ReaderLaws.{Reads, IsFlat, Reads-one}

@@ -1,7 +1,7 @@
 -- Which short lines have a text beside a table.
 use Rattle.std.specs.Prelude.{ℕ, ◌<◌, ◌^◌, map, List}
 use Rattle.std.specs.List.{AllByRecursion}
-use Rattle.mc_text.specs.Number.{IsWord as IsNumber}
+use Rattle.mc_text.specs.Number.{IsNumber}
 use Rattle.rv_words.specs.Ranges.{AreRanges}
 use Rattle.tailrec_lang.specs.Registers.{AreRegistersFrom}
 use Rattle.term_arena.specs.declared.node.Node.{Node}

@@ -1,6 +1,6 @@
 -- Tables of terms: each term cites earlier ones, of the kinds that it has in these places, and is none of them.
 use Rattle.std.specs.Prelude.{ℕ, ◌+◌, ◌<◌, ◌≤◌, ◌^◌, max, List, [], ◌∷◌, ◌++◌, fold, slice_get, unwrap_or, Contains}
-use Rattle.mc_text.specs.Number.{IsWord as IsNumber}
+use Rattle.mc_text.specs.Number.{IsNumber}
 use Rattle.term_text.specs.Limits.{depth_limit}
 use Rattle.term_arena.specs.declared.node.Node.{Node}
 use Rattle.term_arena.specs.declared.node.Node.TheVariants as node

@@ -1,7 +1,7 @@
 -- The tokens of terms: none ends a line, each is a token of a text, and the first shows what follows.
 use Rattle.std.proofs.Common.{◌≡◌, ℕ, zero, suc, ◌^◌, ◌<◌, true, List, [], ◌∷◌, ◌++◌, length, codes, refl, arith}
 use Rattle.std.specs.Fmt.{decimal, digits}
-use Rattle.mc_text.specs.Number.{AreBytes}
+use Rattle.mc_text.specs.Number.{AreSomeBytes}
 use Rattle.mc_text.specs.Tokens.{Tok, Left, Right, Atom, is_atom_byte, IsAtom}
 use Rattle.mc_text.specs.Reading.{goes_on, is_open}
 use Rattle.mc_text.proofs.Atoms.{letter-atom, word-atom}
@@ -190,5 +190,5 @@ mem-tokens m h = mem-tokens-at depth_limit m h
 pub cond-tokens : (c : CondTree) → IsCond c → AreTokens (cond_tokens c)
 cond-tokens c h = cond-tokens-at depth_limit c h
 
-pub range-tokens : (r : Range) → AreBytes r.bytes → AreTokens (range_tokens r)
+pub range-tokens : (r : Range) → AreSomeBytes r.bytes → AreTokens (range_tokens r)
 range-tokens r h = (tt, (hex-atom r.at, (bytes-atom r.bytes h, (tt, tt))))

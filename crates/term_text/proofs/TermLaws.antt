@@ -1,7 +1,7 @@
 -- Words, memories, conditions and ranges are read as they are spelled.
 use Rattle.std.proofs.Common.{◌≡◌, ℕ, zero, suc, ◌<◌, List, [], ◌∷◌, ◌++◌, length, codes, Option, Some, None, refl, sym, ap, arith, length-append, inl, inr, ◌⊎◌}
 use Rattle.hex.specs.Hex.{encode_lower}
-use Rattle.mc_text.specs.Number.{hex, IsWord as Fits64, AreBytes, hex_of, bytes_of_digits}
+use Rattle.mc_text.specs.Number.{hex, IsNumber, AreSomeBytes, hex_of, bytes_of_digits}
 use Rattle.mc_text.specs.Tokens.{Tok, Left, Right, Atom}
 use Rattle.mc_text.specs.Reading.{Reader, pair, with, one, is_left, is_right, atom_of, choice, refused, is_open}
 use Rattle.mc_text.proofs.ReaderLaws.{Reads, Reads-one, Reads-pair, Reads-with, err-is}
@@ -309,12 +309,12 @@ cond-law = cond-law-at depth_limit
 abbrev RangeParts : Type 0
 RangeParts = Unit {0} × (ℕ × (List ℕ × Unit {0}))
 
-range-parts-law : Reads (pair (one is_left) (pair (one (atom_of hex_of)) (pair (one (atom_of bytes_of_digits)) (one is_right)))) (λ (x : RangeParts). Always x.0 × (Fits64 x.1.0 × (AreBytes x.1.1.0 × Always x.1.1.1)))
+range-parts-law : Reads (pair (one is_left) (pair (one (atom_of hex_of)) (pair (one (atom_of bytes_of_digits)) (one is_right)))) (λ (x : RangeParts). Always x.0 × (IsNumber x.1.0 × (AreSomeBytes x.1.1.0 × Always x.1.1.1)))
     (λ x. Left ∷ Atom (hex x.1.0) ∷ Atom (encode_lower x.1.1.0) ∷ end)
 range-parts-law =
     Reads-pair (one is_left) Always (λ x. Left ∷ []) (Reads-one is_left Always (λ x. Left) shows-left) (λ x h. (λ e. absurd cc, tt)) (pair (one (atom_of hex_of)) (pair (one (atom_of bytes_of_digits)) (one is_right))) _ _
-    (Reads-pair (one (atom_of hex_of)) Fits64 (λ n. Atom (hex n) ∷ []) (Reads-one (atom_of hex_of) Fits64 (λ n. Atom (hex n)) shows-hex) (λ n h. (λ e. absurd cc, tt)) (pair (one (atom_of bytes_of_digits)) (one is_right)) _ _
-    (Reads-pair (one (atom_of bytes_of_digits)) AreBytes (λ bytes. Atom (encode_lower bytes) ∷ []) (Reads-one (atom_of bytes_of_digits) AreBytes (λ bytes. Atom (encode_lower bytes)) shows-bytes) (λ bytes h. (λ e. absurd cc, tt)) (one is_right) Always (λ x. end) right-law))
+    (Reads-pair (one (atom_of hex_of)) IsNumber (λ n. Atom (hex n) ∷ []) (Reads-one (atom_of hex_of) IsNumber (λ n. Atom (hex n)) shows-hex) (λ n h. (λ e. absurd cc, tt)) (pair (one (atom_of bytes_of_digits)) (one is_right)) _ _
+    (Reads-pair (one (atom_of bytes_of_digits)) AreSomeBytes (λ bytes. Atom (encode_lower bytes) ∷ []) (Reads-one (atom_of bytes_of_digits) AreSomeBytes (λ bytes. Atom (encode_lower bytes)) shows-bytes) (λ bytes h. (λ e. absurd cc, tt)) (one is_right) Always (λ x. end) right-law))
 
 pub range-law : Reads range_at IsRange range_tokens
 unfolding range_at

@@ -1,6 +1,6 @@
 -- Which terms have a text: their numbers fit, and they are at most 64 deep. And which ranges.
 use Rattle.std.specs.Prelude.{ℕ, zero, suc, ◌<◌, ◌^◌}
-use Rattle.mc_text.specs.Number.{AreBytes}
+use Rattle.mc_text.specs.Number.{AreSomeBytes}
 use Rattle.rv_words.specs.declared.range.Range.{Range}
 use Rattle.word_terms.specs.Tree.{WordTree, Const, Var, Bin, Extend, Load, MemTree, MemVar, Store, CondTree, Compare, Neg, Inside}
 
@@ -40,4 +40,4 @@ IsCond c = FitsCond depth_limit c
 
 -- an address and one byte or more
 abbrev pub IsRange : Range → Type 0
-IsRange r = (r.at < 2 ^ 64) × AreBytes r.bytes
+IsRange r = (r.at < 2 ^ 64) × AreSomeBytes r.bytes

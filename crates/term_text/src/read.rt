@@ -10,8 +10,8 @@ ghost use Rattle.term_text.specs.Spelling.{cond_tokens, mem_tokens, range_tokens
 ghost use Rattle.term_text.specs.Reading.{variable_of, word_leaf_of, mem_leaf_of, word_head_of, cond_head_of, store_of, word_parts, mem_parts, cond_parts, word_at, mem_at, cond_at, range_at};
 
 use crate::head::{CondHead, WordHead, cond_head_of, store_of, word_head_of};
-use mc_text::cursor::{accept, address, bytes, left, peek, right};
-use mc_text::{Scan, Token, TokenError, dec, hexnum};
+use mc_text::cursor::{accept, address, bytes, is_open, left, right};
+use mc_text::{Scan, TokenError, dec, hexnum};
 use rv_words::{Range, Width};
 use std::alloc::Global;
 use word_terms::{Cond, Mem, Word};
@@ -62,44 +62,44 @@ fn mem_leaf_of(atom: &[u8]) -> Option<Mem>
 }
 
 /// The name of a form of a word.
-#[tactic(auto, unfolding(mc_text::specs::Reading::one))]
+#[tactic(auto, unfolding(mc_text::specs::Reading::one), using(mc_text::proofs::AtomAhead::no_atom_of))]
 fn word_name<'a>(scan: &mut Scan<'a>) -> Result<WordHead, TokenError>
     ensures gives { Gives (λ h. h) result scan.old scan.new (one (atom_of word_head_of)) }
     ensures last { last_line scan.new ≡ last_line scan.old }
 {
-    match peek(scan) {
-        Some((Token::Atom(name), ahead)) => accept(scan, ahead, word_head_of(name)),
-        _ => Err(TokenError::Bad),
+    match scan.atom_ahead() {
+        Some((name, ahead)) => accept(scan, ahead, word_head_of(name)),
+        None => Err(TokenError::Bad),
     }
 }
 
 /// The name of a store, for its width.
-#[tactic(auto, unfolding(mc_text::specs::Reading::one))]
+#[tactic(auto, unfolding(mc_text::specs::Reading::one), using(mc_text::proofs::AtomAhead::no_atom_of))]
 fn store_name<'a>(scan: &mut Scan<'a>) -> Result<Width, TokenError>
     ensures gives { Gives (λ h. h) result scan.old scan.new (one (atom_of store_of)) }
     ensures last { last_line scan.new ≡ last_line scan.old }
 {
-    match peek(scan) {
-        Some((Token::Atom(name), ahead)) => accept(scan, ahead, store_of(name)),
-        _ => Err(TokenError::Bad),
+    match scan.atom_ahead() {
+        Some((name, ahead)) => accept(scan, ahead, store_of(name)),
+        None => Err(TokenError::Bad),
     }
 }
 
 /// The name of a form of a condition.
-#[tactic(auto, unfolding(mc_text::specs::Reading::one))]
+#[tactic(auto, unfolding(mc_text::specs::Reading::one), using(mc_text::proofs::AtomAhead::no_atom_of))]
 fn cond_name<'a>(scan: &mut Scan<'a>) -> Result<CondHead, TokenError>
     ensures gives { Gives (λ h. h) result scan.old scan.new (one (atom_of cond_head_of)) }
     ensures last { last_line scan.new ≡ last_line scan.old }
 {
-    match peek(scan) {
-        Some((Token::Atom(name), ahead)) => accept(scan, ahead, cond_head_of(name)),
-        _ => Err(TokenError::Bad),
+    match scan.atom_ahead() {
+        Some((name, ahead)) => accept(scan, ahead, cond_head_of(name)),
+        None => Err(TokenError::Bad),
     }
 }
 
 /// A word of at most that depth, as its reading function gives it.
 #[cycle(terms)]
-#[tactic(auto, unfolding(crate::specs::Reading::word_at, mc_text::specs::Reading::one))]
+#[tactic(auto, unfolding(crate::specs::Reading::word_at, mc_text::specs::Reading::one), using(mc_text::proofs::AtomAhead::no_atom_of))]
 fn word_within<'a>(alloc: Global, scan: &mut Scan<'a>, room: u32) -> Result<Word, TokenError>
     ensures gives { Gives word_tree result scan.old scan.new (word_at room) }
     ensures last { last_line scan.new ≡ last_line scan.old }
@@ -107,15 +107,15 @@ fn word_within<'a>(alloc: Global, scan: &mut Scan<'a>, room: u32) -> Result<Word
     if room == 0 {
         return Err(TokenError::Bad);
     }
-    match peek(scan) {
-        Some((Token::Left, ahead)) => {
-            *scan = ahead;
-            let head = word_name(scan)?;
-            word_parts(alloc, scan, room - 1, head)
-        }
-        Some((Token::Atom(atom), ahead)) => accept(scan, ahead, word_leaf_of(atom)),
-        _ => Err(TokenError::Bad),
+    if let Some((atom, ahead)) = scan.atom_ahead() {
+        return accept(scan, ahead, word_leaf_of(atom));
     }
+    if !is_open(scan) {
+        return Err(TokenError::Bad);
+    }
+    left(scan)?;
+    let head = word_name(scan)?;
+    word_parts(alloc, scan, room - 1, head)
 }
 
 /// What stands after the name of a form.
@@ -152,7 +152,7 @@ fn word_parts<'a>(
 
 /// A memory of at most that depth, as its reading function gives it.
 #[cycle(terms)]
-#[tactic(auto, unfolding(crate::specs::Reading::mem_at, mc_text::specs::Reading::one))]
+#[tactic(auto, unfolding(crate::specs::Reading::mem_at, mc_text::specs::Reading::one), using(mc_text::proofs::AtomAhead::no_atom_of))]
 fn mem_within<'a>(alloc: Global, scan: &mut Scan<'a>, room: u32) -> Result<Mem, TokenError>
     ensures gives { Gives mem_tree result scan.old scan.new (mem_at room) }
     ensures last { last_line scan.new ≡ last_line scan.old }
@@ -160,15 +160,15 @@ fn mem_within<'a>(alloc: Global, scan: &mut Scan<'a>, room: u32) -> Result<Mem, 
     if room == 0 {
         return Err(TokenError::Bad);
     }
-    match peek(scan) {
-        Some((Token::Left, ahead)) => {
-            *scan = ahead;
-            let width = store_name(scan)?;
-            mem_parts(alloc, scan, room - 1, width)
-        }
-        Some((Token::Atom(atom), ahead)) => accept(scan, ahead, mem_leaf_of(atom)),
-        _ => Err(TokenError::Bad),
+    if let Some((atom, ahead)) = scan.atom_ahead() {
+        return accept(scan, ahead, mem_leaf_of(atom));
     }
+    if !is_open(scan) {
+        return Err(TokenError::Bad);
+    }
+    left(scan)?;
+    let width = store_name(scan)?;
+    mem_parts(alloc, scan, room - 1, width)
 }
 
 /// What stands after the name of a store.

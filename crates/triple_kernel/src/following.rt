@@ -36,6 +36,7 @@ fn follows(fact: &Fact, others: &[Fact]) -> bool
 }
 
 /// Whether the condition has no variables and is true.
+#[tactic(auto, using(word_terms::proofs::Variables::no_variables_are))]
 fn is_always_true(c: &Cond) -> bool
     ensures { IsTrue result ↔ IsAlwaysTrue (cond_tree c.now) }
 {

@@ -2,12 +2,18 @@
 use Rattle.std.proofs.Common.{◌≡◌, ℕ, ◌+◌, List, [], ◌∷◌, map, length, refl, sym, ◌∙◌, arith, cond, true}
 use Rattle.std.specs.Prelude.{nat_eq}
 use Rattle.std.specs.List.{range_with_len}
+use Rattle.std.specs.Ordering.{nat_cmp}
+use Rattle.std.specs.FinMap.{get-empty}
 use Rattle.std.proofs.lemmas.Bool.Decides.{nat_tests}
 use Rattle.rv_words.specs.Bytes.{Bytes}
 use Rattle.word_terms.specs.Tree.{Var, MemVar}
-use Rattle.word_terms.specs.Environment.{Environment, with_word, with_mem, with_words, with_mems}
+use Rattle.word_terms.specs.Environment.{Environment, no_variables, variables, with_word, with_mem, with_words, with_mems}
 use Rattle.word_terms.specs.Value.{word_value, mem_value}
 use Rattle.word_terms.proofs.Agreement.{extends-with_words, extends-with_mems}
+
+-- those of empty lists
+pub no_variables_are : variables [] [] ≡ no_variables
+no_variables_are = λ j. record { word = λ i. 0; words = 0; mem = λ i a. get-empty nat_cmp a j; mems = 0 }
 
 -- ---- how many there are
 

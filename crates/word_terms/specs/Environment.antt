@@ -1,6 +1,6 @@
 -- What the variables stand for: the word of each word variable and the bytes of each memory variable, and how many
 -- there are of both, which are numbered apart. Variables are levels: a new one takes the next number.
-use Rattle.std.specs.Prelude.{ℕ, ◌≡◌, ◌+◌, ◌^◌, ◌<◌, ◌≤◌, ◌==◌, if◌then◌else◌, Some, List, [], fold, slice_index, slice_index_or, length}
+use Rattle.std.specs.Prelude.{ℕ, ◌≡◌, ◌+◌, ◌^◌, ◌<◌, ◌≤◌, ◌==◌, if◌then◌else◌, Some, None, List, fold, slice_index, slice_index_or, length}
 use Rattle.std.specs.Ordering.{nat_cmp}
 use Rattle.std.specs.FinMap.{FinMap, empty, get}
 use Rattle.rv_words.specs.Bytes.{Bytes}
@@ -34,7 +34,7 @@ variables ns ms = record { word = λ i. slice_index ns i; words = length ns; mem
 
 -- no variables
 abbrev pub no_variables : Environment
-no_variables = variables [] []
+no_variables = record { word = λ i. 0; words = 0; mem = λ i a. None; mems = 0 }
 
 -- the environment of a call
 abbrev pub environment_of : Env → Environment

@@ -416,7 +416,7 @@ fn is_one_line<S: Shelf>(alloc: Global, shelf: &mut S, name: &str, bytes: &[u8])
 }
 
 /// Calls on a file that was removed while it was open.
-static REMOVED: [Call; 2] = [Call::Append(b"abc", true), Call::Read(0, None)];
+static REMOVED: [Call; 2] = [Call::Append(b"abc", true), Call::Read(0, Some(b"abcd"))];
 
 #[test]
 fn the_system_has_files(rt: HostRuntime) -> Result<(), Fail> {
@@ -447,6 +447,7 @@ fn each_name_takes_what_is_its_own(rt: HostRuntime) -> Result<(), Fail> {
     assert!(rt; gives(&mut shelf, second, Call::Append(b"xy", true)));
     assert!(rt; file_is(rt.alloc(), &mut shelf, first, b"abcdef"));
     assert!(rt; file_is(rt.alloc(), &mut shelf, second, b"xy"));
+    assert!(rt; file_is(rt.alloc(), &mut shelf, first, b"abcdef"));
     fs::remove_file(&rt, first)?;
     fs::remove_file(&rt, second)?;
     Ok(())

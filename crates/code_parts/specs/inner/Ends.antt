@@ -4,7 +4,8 @@ use Rattle.word_terms.specs.Tree.{Var}
 use Rattle.tailrec_lang.specs.Tree.{BodyTree, Call, Leave, StepTree, with_steps}
 use Rattle.rv_decode.specs.declared.instruction.Instr.{Instr}
 use Rattle.triple_kernel.specs.declared.form.Form.TheVariants.{Next}
-use Rattle.instr_axioms.specs.Terms.{following, pc_after}
+use Rattle.rv_words.specs.Bytes.{away}
+use Rattle.instr_axioms.specs.Terms.{pc_after}
 use Rattle.code_parts.specs.declared.callee.Callee.{Callee}
 use Rattle.code_parts.specs.declared.part.Part.{Part}
 use Rattle.code_parts.specs.Bodies.{Flow, VariableMap, body_at, current, end_at, fresh, names, needs, place_after, return_arm, size, with_pc, writes}
@@ -31,4 +32,4 @@ after_node f n v = place_after (f.instr n) (f.uses n) v
 -- the body for a node that calls a function, where `room` instructions may follow
 abbrev pub called_body : ℕ → Flow → Part → ℕ → Callee → VariableMap → BodyTree
 called_body room f p n c v =
-    with_steps (steps_at f n v) (Call c.def (current f (after_node f n v)) (return_arm f c.returns (following (f.addr n) (size f n)) (after_node f n v) (λ w. body_on room f p (f.to n Next) w)))
+    with_steps (steps_at f n v) (Call c.def (current f (after_node f n v)) (return_arm f c.returns (away (f.addr n) (size f n)) (after_node f n v) (λ w. body_on room f p (f.to n Next) w)))

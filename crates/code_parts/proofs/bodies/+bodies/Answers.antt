@@ -1,7 +1,7 @@
 use Rattle.std.proofs.Common.{◌≡◌, ◌-◌, ◌+◌, ℕ, suc, IfOk, List, ◌++◌, map, refl, ap, sym, ◌∙◌, subst, arith}
 use Rattle.rv_decode.specs.declared.instruction.Instr.{Instr}
 use Rattle.tailrec_lang.specs.Tree.{BodyTree, StepTree, body_tree, step_tree, with_steps}
-use Rattle.instr_axioms.specs.Terms.{following}
+use Rattle.rv_words.specs.Bytes.{away}
 use Rattle.code_parts.specs.Bodies.{Flow, VariableMap, current, fresh, needs, place_after, return_arm, writes}
 use Rattle.code_parts.specs.inner.Ends.{body_on, returned_body, steps_at}
 use Rattle.code_parts.specs.Kept.{flow_in}
@@ -66,7 +66,7 @@ calling_body-returns m c =
     let long = c.size-length.ensures in
     let made = c.in_ok-steps.ensures ∙ (λ j. map step_tree c.args.steps ++ (needs (is j) (us j) v ++ writes (is j) (at j) (long j) (us j) v)) in
     let place = c.after-next.ensures.is ∙ (λ j. place_after (is j) (us j) v) in
-    let back = c.behind-back.ensures ∙ (λ j. following (at j) (long j)) in
+    let back = c.behind-back.ensures ∙ (λ j. away (at j) (long j)) in
     called_after _ c.args.callee.def c.in_ok-values.values c.in_ok-arms.arms _ _ _ (map step_tree c.args.steps) (steps_at f c.args.n v) refl made refl
     (c.in_ok-values.ensures ∙ ap (current f) place)
     (c.in_ok-arms.ensures ∙ (λ j. return_arm f c.args.callee.returns (back j) (place j) (λ w. body_on c.args.room f c.args.p (c.to-to.ensures.is j) w)))

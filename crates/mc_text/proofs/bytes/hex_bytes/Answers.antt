@@ -2,7 +2,7 @@ use Rattle.std.proofs.Common.{◌≡◌, None, true≢false, sym, ◌∙◌}
 use Rattle.std.specs.Prelude.{IsSome, ◌↔◌}
 use Rattle.std.proofs.lemmas.Result.{IfOk-weaker}
 use Rattle.hex.specs.Hex.{encode_lower, decode_of}
-use Rattle.mc_text.specs.Number.{AreBytes, AreDigitPairs, Spelled, bytes_of_digits}
+use Rattle.mc_text.specs.Number.{AreSomeBytes, AreDigitPairs, Spelled, bytes_of_digits}
 use Rattle.mc_text.specs.inner.Number.{value_of}
 use Rattle.mc_text.proofs.HexPairs.{none-spelled, digits-spelled, spelled-found, spelled-read}
 use Rattle.mc_text.proofs.bytes.hex_bytes.Goals as goal
@@ -11,7 +11,7 @@ pub returns-then-are_hex_digits-clause-spelled : goal.returns-then-are_hex_digit
 returns-then-are_hex_digits-clause-spelled c =
     let text = c.args.atom.now in
     let h = c.are_hex_digits.ensures.0 c.if-are_hex_digits.true in
-    IfOk-weaker c.decoded.result (λ found. found ≡ value_of (decode_of text)) (λ found. Spelled AreBytes encode_lower text found)
+    IfOk-weaker c.decoded.result (λ found. found ≡ value_of (decode_of text)) (λ found. Spelled AreSomeBytes encode_lower text found)
     (λ found e. digits-spelled text found h.0 h.1 e) c.decoded.ensures
 
 pub returns-then-are_hex_digits-clause-found : goal.returns-then-are_hex_digits-clause-found

@@ -6,7 +6,7 @@ use Rattle.rv_words.specs.Ranges.{range_bytes}
 use Rattle.sep_assert.specs.inner.Code.{AreSameAt}
 use Rattle.sep_assert.proofs.CodeLemmas.{within_of_all, all_of_within}
 use Rattle.sep_assert.proofs.SearchLemmas.{same-in}
-use Rattle.sep_assert.proofs.code.are_bytes_of.Goals as goal
+use Rattle.sep_assert.proofs.code.are_found_in.Goals as goal
 
 pub returns-then-not-are_bytes_at : goal.returns-then-not-are_bytes_at
 returns-then-not-are_bytes_at c = (

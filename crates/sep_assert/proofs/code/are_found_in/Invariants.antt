@@ -3,7 +3,7 @@ use Rattle.std.specs.Prelude.{All}
 use Rattle.rv_words.specs.Bytes.{over}
 use Rattle.rv_words.specs.Ranges.{range_bytes}
 use Rattle.sep_assert.specs.inner.Code.{AreSameAt}
-use Rattle.sep_assert.proofs.code.are_bytes_of.Given as goal
+use Rattle.sep_assert.proofs.code.are_found_in.Given as goal
 
 abbrev pub invariant-loop-range : goal.invariant-loop-range
 invariant-loop-range l = record {
