@@ -6,6 +6,7 @@ use Rattle.std.proofs.lemmas.List.{get_or_push, get_or_append_left, append-nil}
 use Rattle.std.proofs.lemmas.Bool.Decides.{nat_tests}
 use Rattle.std.proofs.Math.ListN.{get_or-eq_default}
 use Rattle.word_terms.specs.Environment.{no_variables, with_word, with_mem, with_words, with_mems, variables}
+use Rattle.word_terms.proofs.Variables.{no_variables_are}
 use Rattle.tailrec_lang.specs.declared.args.Args.{Args}
 use Rattle.tailrec_lang.specs.Eval.{arguments, variables_of, with_arguments}
 
@@ -46,4 +47,5 @@ variables_arguments x y =
 
 -- arguments alone
 pub entry_variables : (x : Args) → with_arguments no_variables (arguments x) ≡ variables_of x
-entry_variables x = (λ j. with_mems (variables_words [] [] x.words j) (map get x.mems)) ∙ variables_mems x.words [] x.mems
+entry_variables x =
+    (λ j. with_arguments (sym no_variables_are j) (arguments x)) ∙ (λ j. with_mems (variables_words [] [] x.words j) (map get x.mems)) ∙ variables_mems x.words [] x.mems

@@ -21,13 +21,13 @@ item_there (x ∷ xs) zero lt = (x, refl)
 item_there (x ∷ xs) (suc k) lt = item_there xs k (omega arith)
 
 -- an entry with turns left, as far as the way through its body goes
-pub turn_taken : (g : GroupTree) (d left : ℕ) (x : Args) (b : BodyTree) (def : DefTree) (w : Walk) → slice_get g.defs d ≡ Some def → b ≡ def.body
-    → ((call : Meaning) (d left : ℕ) → body_ending call d b (variables_of x) 0 left ≡ walk_ending call d w left) → 0 < left
+pub turn_taken : (g : GroupTree) (d left : ℕ) (x : Args) (b : BodyTree) (def : DefTree) (w : Walk) (before : ℕ) → before ≡ 0 → slice_get g.defs d ≡ Some def → b ≡ def.body
+    → ((call : Meaning) (d left : ℕ) → body_ending call d b (variables_of x) before left ≡ walk_ending call d w left) → 0 < left
     → ending g d (arguments x) left ≡ walk_ending (ending g) d w (left - 1)
-turn_taken g d left x b def w is same way more =
+turn_taken g d left x b def w before none is same way more =
     let one : left ≡ suc (left - 1) = omega arith in
     (λ j. ending g d (arguments x) (one j)) ∙ ending-enter g d (arguments x) (left - 1) def is
-    ∙ (λ j. body_ending (ending g) d (sym same j) (entry_variables x j) 0 (left - 1)) ∙ way (ending g) d (left - 1)
+    ∙ (λ j. body_ending (ending g) d (sym same j) (entry_variables x j) (sym none j) (left - 1)) ∙ way (ending g) d (left - 1)
 
 pub entry_fits : (g : GroupTree) (d : ℕ) (b : BodyTree) (def : DefTree) (w m : ℕ) → IsWellFormed g → slice_get g.defs d ≡ Some def → b ≡ def.body → w ≡ length g.regs → m ≡ g.mems
     → BodyIsWellFormed g d b w m

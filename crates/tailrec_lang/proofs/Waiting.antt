@@ -10,11 +10,11 @@ use Rattle.tailrec_lang.specs.Tree.{GroupTree, body_tree, exits_at}
 use Rattle.tailrec_lang.specs.inner.Tree.{arm_trees}
 use Rattle.tailrec_lang.specs.WellFormed.{ArmsAreWellFormed, BodyIsWellFormed, exit_words}
 use Rattle.tailrec_lang.specs.Eval.{Ending, NeedFalse, NoTurns, Meaning, and_then, arm_ending, arm_needs, body_ending, needs, variables_of, with_arguments}
-use Rattle.tailrec_lang.specs.inner.Walk.{FrameFits, ResultsFit, Waits, unwound}
+use Rattle.tailrec_lang.specs.inner.Walk.{FrameFits, ResultsFit, Waits, needs_passed, unwound}
 
 -- what comes of an ending of the definition that a call entered
 abbrev pub resumed : Meaning → Frame → Ending → Ending
-resumed call f o = and_then o (λ exit results left. arm_ending call f.def (arm_trees f.arms.now) exit (with_arguments (variables_of f.variables) results) f.ordinal left)
+resumed call f o = and_then o (λ exit results left. arm_ending call f.def (arm_trees f.arms.now) exit (with_arguments (variables_of f.variables) results) (needs_passed f.passed) left)
 
 pub unwound-push : (call : Meaning) (fs : List Frame) (f : Frame) (o : Ending) → unwound call (fs ++ f ∷ []) o ≡ unwound call fs (resumed call f o)
 unwound-push call [] f o = refl
@@ -76,12 +76,6 @@ arm_ending-at call d (c ∷ bs) (suc k) b e o left lt at =
 pub exit_there : (g : GroupTree) (o : Option Exit) (x : Args) → ResultsFit g o x → (exit : Exit) × (o ≡ Some exit) × (length x.words ≡ exit_words g exit) × (length x.mems ≡ g.mems)
 exit_there g None x fits = absurd fits
 exit_there g (Some exit) x fits = (exit, refl, fits.0, fits.1)
-
-pub arm_taken : (bs : List Body) (k : ℕ) → arm_needs (arm_trees (take k bs)) ≤ arm_needs (arm_trees bs)
-arm_taken [] zero = omega arith
-arm_taken [] (suc k) = omega arith
-arm_taken (c ∷ bs) zero = omega arith
-arm_taken (c ∷ bs) (suc k) = let rest = arm_taken bs k in omega (arith, rest)
 
 -- ---- a call goes on
 

@@ -6,12 +6,13 @@ ghost use Rattle.tailrec_lang.specs.inner.Tree.{arm_trees};
 ghost use Rattle.tailrec_lang.specs.WellFormed.{IsWellFormed};
 ghost use Rattle.tailrec_lang.specs.Eval.{HasFewNeeds, LeavesInScope, Meaning, arguments, arm_ending, done_by, outcome_of, variables_of, with_arguments};
 ghost use Rattle.tailrec_lang.specs.Eval.{eval as outcome};
-ghost use Rattle.tailrec_lang.specs.inner.Walk.{FrameFits, IsLeft, ResultsFit, Waits, WalkFits, unwound, walk_ending};
+ghost use Rattle.tailrec_lang.specs.inner.Walk.{FrameFits, IsLeft, ResultsFit, Waits, WalkFits, needs_passed, unwound, walk_ending};
 
 use crate::args::Args;
 use crate::group::{Body, Exit, Group};
+use crate::passed::{Passed, Skipped};
 use crate::scope::exits_of;
-use crate::walk::{Transfer, Walk, go_through, needs_in_arms};
+use crate::walk::{Transfer, Walk, go_through};
 use rv_words::{List, NoMemory};
 use std::alloc::Global;
 
@@ -36,13 +37,13 @@ pub enum Outcome {
 }
 
 /// A call that waits for the definition that it entered: in which definition it stands, which one it entered, the
-/// variables at the call, how many Needs stand before it, and its arms.
+/// variables at the call, what stands before it, and its arms.
 #[derive(Drop)]
 pub struct Frame<'a> {
     def: u32,
     callee: u32,
     variables: Args,
-    ordinal: u64,
+    passed: Passed<'a>,
     arms: &'a [Body],
 }
 
@@ -76,11 +77,12 @@ pub fn eval(
     let mut left = turns;
     'turns_left: while left > 0 {
         left -= 1;
-        let entered = go_through(alloc, body_of(g, current), variables, 0)?;
+        let start = Passed::nothing(alloc);
+        let entered = go_through(alloc, body_of(g, current), variables, start)?;
         let place = return_through(alloc, &mut waiting, current, entered)?;
         let Walk {
             variables: here,
-            ordinal,
+            passed,
             stop,
         } = place.walk;
         match stop {
@@ -93,7 +95,7 @@ pub fn eval(
                     def: place.def,
                     callee,
                     variables: here,
-                    ordinal,
+                    passed,
                     arms,
                 })?;
                 current = callee;
@@ -102,6 +104,7 @@ pub fn eval(
             Transfer::Left(exit, results) => return done(alloc, g, def, exit, results, left),
             Transfer::False => {
                 let def = place.def;
+                let ordinal = passed.needs();
                 return Ok(Outcome::SideFalse { def, ordinal });
             }
         }
@@ -136,7 +139,7 @@ fn return_through<'a>(
     'pops: loop {
         let Walk {
             variables,
-            ordinal,
+            passed,
             stop,
         } = walk;
         match stop {
@@ -151,7 +154,7 @@ fn return_through<'a>(
                         def,
                         walk: Walk {
                             variables,
-                            ordinal,
+                            passed,
                             stop,
                         },
                     });
@@ -161,7 +164,7 @@ fn return_through<'a>(
                 def,
                 walk: Walk {
                     variables,
-                    ordinal,
+                    passed,
                     stop,
                 },
             }),
@@ -178,7 +181,7 @@ fn resume<'a>(
 ) -> Result<Walk<'a>, NoMemory>
     requires { (g : GroupTree) × FrameFits g frame × ResultsFit g (slice_get (exits_at g frame.callee) exit) results }
     ensures ending { IfOk result (λ w. (call : Meaning) (left : ℕ)
-        → arm_ending call frame.entry.def (arm_trees frame.entry.arms.now) exit (with_arguments (variables_of frame.entry.variables) (arguments results)) frame.entry.ordinal left
+        → arm_ending call frame.entry.def (arm_trees frame.entry.arms.now) exit (with_arguments (variables_of frame.entry.variables) (arguments results)) (needs_passed frame.entry.passed) left
         ≡ walk_ending call frame.entry.def w left) }
     ensures fits { IfOk result (λ w. (g : GroupTree) → FrameFits g frame.entry → ResultsFit g (slice_get (exits_at g frame.entry.callee) exit) results
         → WalkFits g frame.entry.def w) }
@@ -186,11 +189,12 @@ fn resume<'a>(
     let arms = frame.arms;
     let place = exit as usize;
     let before = &arms[..place];
-    let ordinal = frame.ordinal + needs_in_arms(before);
+    let mut passed = frame.passed;
+    passed.skip(Skipped::Arms(before))?;
     let mut variables = frame.variables;
     variables.append(results)?;
     let arm = &arms[place];
-    go_through(alloc, arm, variables, ordinal)
+    go_through(alloc, arm, variables, passed)
 }
 
 /// The outcome of leaving by an exit.

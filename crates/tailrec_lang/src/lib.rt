@@ -20,6 +20,7 @@ mod evaluator;
 mod group;
 mod laws;
 mod needs;
+mod passed;
 mod scope;
 mod walk;
 

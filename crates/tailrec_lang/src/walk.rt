@@ -5,10 +5,11 @@ ghost use Rattle.tailrec_lang.specs.Tree.{BodyTree, GroupTree, body_tree, step_t
 ghost use Rattle.tailrec_lang.specs.inner.Tree.{arm_trees};
 ghost use Rattle.tailrec_lang.specs.WellFormed.{BodyIsWellFormed, StepInScope, mems_after, words_after};
 ghost use Rattle.tailrec_lang.specs.Eval.{Meaning, NeedFalse, after_step, arm_needs, body_ending, needs, step_holds, step_needs, variables_of};
-ghost use Rattle.tailrec_lang.specs.inner.Walk.{WalkFits, steps_need, walk_ending};
+ghost use Rattle.tailrec_lang.specs.inner.Walk.{WalkFits, needs_passed, steps_need, walk_ending};
 
 use crate::args::{Args, last_values, values_of};
 use crate::group::{Body, End, Step};
+use crate::passed::{Passed, Skipped};
 use rv_words::NoMemory;
 use std::alloc::Global;
 use word_terms::{memory_of, truth, value};
@@ -26,53 +27,53 @@ pub enum Transfer<'a> {
     False,
 }
 
-/// Where a body gives control on, its variables there if a call waits with them, and how many Needs of its definition stand before that place.
+/// Where a body gives control on, its variables there if a call waits with them, and what of its definition stands before that place.
 #[derive(Drop)]
 pub struct Walk<'a> {
     pub variables: Args,
-    pub ordinal: u64,
+    pub passed: Passed<'a>,
     pub stop: Transfer<'a>,
 }
 
-/// Goes through a body from these variables on, where `ordinal` Needs of its definition stand before it.
-pub fn go_through(
+/// Goes through a body from these variables on, where `passed` of its definition stands before it.
+pub fn go_through<'a>(
     alloc: Global,
-    body: &Body,
+    body: &'a Body,
     variables: Args,
-    ordinal: u64,
-) -> Result<Walk<'_>, NoMemory>
+    passed: Passed<'a>,
+) -> Result<Walk<'a>, NoMemory>
     requires scope { (g : GroupTree) × (d : ℕ) × BodyIsWellFormed g d (body_tree body.now) (length variables.words) (length variables.mems) }
-    requires needs { ordinal + needs (body_tree body.now) < 2 ^ 64 }
+    requires needs { needs_passed passed + needs (body_tree body.now) < 2 ^ 64 }
     ensures ending { IfOk result (λ w. (call : Meaning) (d left : ℕ)
-        → body_ending call d (body_tree body.now) (variables_of variables) ordinal left ≡ walk_ending call d w left) }
+        → body_ending call d (body_tree body.now) (variables_of variables) (needs_passed passed.entry) left ≡ walk_ending call d w left) }
     ensures fits { IfOk result (λ w. (g : GroupTree) (d : ℕ)
         → BodyIsWellFormed g d (body_tree body.now) (length variables.words) (length variables.mems) → WalkFits g d w) }
 {
     let mut variables = variables;
-    let mut ordinal = ordinal;
+    let mut passed = passed;
     let steps = body.steps.as_slice();
-    if !take_steps(alloc, steps, &mut variables, &mut ordinal)? {
+    if !take_steps(alloc, steps, &mut variables, &mut passed)? {
         let stop = Transfer::False;
         return Ok(Walk {
             variables,
-            ordinal,
+            passed,
             stop,
         });
     }
     match &body.end {
         End::Branch(c, a, b) => {
             if truth(c, &variables.env()) {
-                return go_through(alloc, a, variables, ordinal);
+                return go_through(alloc, a, variables, passed);
             }
-            let before = ordinal + needs_in(a);
-            go_through(alloc, b, variables, before)
+            passed.skip(Skipped::First(a))?;
+            go_through(alloc, b, variables, passed)
         }
         End::Call(def, values, arms) => {
             let args = values_of(alloc, values, &variables)?;
             let stop = Transfer::Call(*def, args, arms.as_slice());
             Ok(Walk {
                 variables,
-                ordinal,
+                passed,
                 stop,
             })
         }
@@ -81,7 +82,7 @@ pub fn go_through(
             let stop = Transfer::Again(args);
             Ok(Walk {
                 variables: Args::none(alloc),
-                ordinal,
+                passed,
                 stop,
             })
         }
@@ -90,7 +91,7 @@ pub fn go_through(
             let stop = Transfer::Left(*exit, results);
             Ok(Walk {
                 variables: Args::none(alloc),
-                ordinal,
+                passed,
                 stop,
             })
         }
@@ -102,15 +103,16 @@ fn take_steps(
     alloc: Global,
     steps: &[Step],
     variables: &mut Args,
-    ordinal: &mut u64,
+    passed: &mut Passed<'_>,
 ) -> Result<bool, NoMemory>
     requires scope { (g : GroupTree) × (d : ℕ) × (rest : BodyTree)
         × BodyIsWellFormed g d (with_steps (map step_tree steps.now) rest) (length variables.old.words) (length variables.old.mems) }
-    requires needs { ordinal.old + steps_need (map step_tree steps.now) < 2 ^ 64 }
+    requires needs { needs_passed passed.old + steps_need (map step_tree steps.now) < 2 ^ 64 }
     ensures ending { IfOk result (λ all. (call : Meaning) (d left : ℕ) (rest : BodyTree)
-        → body_ending call d (with_steps (map step_tree steps.now) rest) (variables_of variables.old) ordinal.old left
-        ≡ cond all (body_ending call d rest (variables_of variables.new) ordinal.new left) (NeedFalse d ordinal.new)) }
-    ensures needs { IfOk result (λ all. IsTrue all → ordinal.new ≡ ordinal.old + steps_need (map step_tree steps.now)) }
+        → body_ending call d (with_steps (map step_tree steps.now) rest) (variables_of variables.old) (needs_passed passed.old) left
+        ≡ cond all (body_ending call d rest (variables_of variables.new) (needs_passed passed.new) left) (NeedFalse d (needs_passed passed.new))) }
+    ensures needs { IfOk result (λ all. IsTrue all → needs_passed passed.new ≡ needs_passed passed.old + steps_need (map step_tree steps.now)) }
+    ensures few { IfOk result (λ _. needs_passed passed.new < 2 ^ 64) }
     ensures scope { IfOk result (λ all. IsTrue all → (g : GroupTree) (d : ℕ) (rest : BodyTree)
         → BodyIsWellFormed g d (with_steps (map step_tree steps.now) rest) (length variables.old.words) (length variables.old.mems)
         → BodyIsWellFormed g d rest (length variables.new.words) (length variables.new.mems)) }
@@ -120,7 +122,7 @@ fn take_steps(
             return Ok(false);
         }
         add_variable(alloc, step, variables)?;
-        *ordinal += needs_of(step);
+        passed.met += needs_of(step);
     }
     Ok(true)
 }

@@ -3,8 +3,8 @@ use Rattle.std.specs.Prelude.{slice_get}
 use Rattle.std.proofs.lemmas.List.{length-map}
 use Rattle.tailrec_lang.specs.declared.evaluator.Frame.{Frame}
 use Rattle.tailrec_lang.specs.Tree.{body_tree, def_tree, exits_at, group_tree}
-use Rattle.tailrec_lang.specs.Eval.{LeavesInScope, arguments, ending, needs, with_pc}
-use Rattle.tailrec_lang.specs.inner.Walk.{IsLeaving, ResultsFit, StopFits, Waits, stop_ending, unwound}
+use Rattle.tailrec_lang.specs.Eval.{LeavesInScope, NeedFalse, arguments, ending, needs, with_pc}
+use Rattle.tailrec_lang.specs.inner.Walk.{IsLeaving, ResultsFit, StopFits, Waits, needs_passed, stop_ending, unwound}
 use Rattle.tailrec_lang.proofs.Results.{if_ok-then}
 use Rattle.tailrec_lang.proofs.Waiting.{unwound-push, unwound-turns, unwound-false, waits-push}
 use Rattle.tailrec_lang.proofs.Evaluation.{item_there, turn_taken, entry_fits, done_in_scope}
@@ -31,7 +31,7 @@ go_through-requires-clause-needs c =
     let body = c.body_of.ensures d.0 d.1 in
     let few = c.requires.needs current d.0 d.1 in
     let same = ap needs body in
-    omega (arith, few, same)
+    omega (arith, few, same, c.nothing-start.ensures)
 
 pub return_through-requires : goal.return_through-requires
 return_through-requires c =
@@ -55,7 +55,7 @@ turns_left-preserved-in-Again-1 c =
     let wf = entry_fits g current (body_tree c.body_of.result.now) d.0 (length c.turns_left.variables.words) (length c.turns_left.variables.mems) c.requires.well_formed d.1 body c.turns_left.invariant.words c.turns_left.invariant.mems in
     let fits = c.in_ok-place.ensures.fits g c.args.def c.turns_left.invariant.waits (c.in_ok-entered.ensures.fits g current wf) lt in
     let left = c.turns_left.left - 1 in
-    let turn = turn_taken g current c.turns_left.left c.turns_left.variables (body_tree c.body_of.result.now) d.0 c.in_ok-entered.entered d.1 body c.in_ok-entered.ensures.ending c.turns_left-test.true in
+    let turn = turn_taken g current c.turns_left.left c.turns_left.variables (body_tree c.body_of.result.now) d.0 c.in_ok-entered.entered (needs_passed c.nothing-start.result) c.nothing-start.ensures d.1 body c.in_ok-entered.ensures.ending c.turns_left-test.true in
     let now = sym (c.in_ok-place.ensures.ending call left) ∙ (λ j. unwound call c.turns_left.waiting (sym turn j)) ∙ c.turns_left.invariant.same in
     let inside : c.in_ok-place.place.def < length c.args.g.now.defs = subst (λ n. c.in_ok-place.place.def < n) (length-map c.args.g.now.defs def_tree) fits.2 in
     let args = subst (λ s. StopFits g c.in_ok-place.place.def s c.in_ok-place.place.walk) c.in-Again.is fits.1 in
@@ -79,10 +79,10 @@ turns_left-preserved c =
     let wf = entry_fits g current (body_tree c.body_of.result.now) d.0 (length c.turns_left.variables.words) (length c.turns_left.variables.mems) c.requires.well_formed d.1 body c.turns_left.invariant.words c.turns_left.invariant.mems in
     let fits = c.in_ok-place.ensures.fits g c.args.def c.turns_left.invariant.waits (c.in_ok-entered.ensures.fits g current wf) lt in
     let left = c.turns_left.left - 1 in
-    let turn = turn_taken g current c.turns_left.left c.turns_left.variables (body_tree c.body_of.result.now) d.0 c.in_ok-entered.entered d.1 body c.in_ok-entered.ensures.ending c.turns_left-test.true in
+    let turn = turn_taken g current c.turns_left.left c.turns_left.variables (body_tree c.body_of.result.now) d.0 c.in_ok-entered.entered (needs_passed c.nothing-start.result) c.nothing-start.ensures d.1 body c.in_ok-entered.ensures.ending c.turns_left-test.true in
     let now = sym (c.in_ok-place.ensures.ending call left) ∙ (λ j. unwound call c.turns_left.waiting (sym turn j)) ∙ c.turns_left.invariant.same in
     let place = c.in_ok-place.place in
-    let f : Frame = record { def = place.def; callee = c.in-Call.callee; variables = place.walk.variables; ordinal = place.walk.ordinal; arms = c.in-Call.arms } in
+    let f : Frame = record { def = place.def; callee = c.in-Call.callee; variables = place.walk.variables; passed = place.walk.passed; arms = c.in-Call.arms } in
     let stop = subst (λ s. StopFits g place.def s place.walk) c.in-Call.is fits.1 in
     let inside : place.def < length c.args.g.now.defs = subst (λ n. place.def < n) (length-map c.args.g.now.defs def_tree) fits.2 in
     let pushed = c.in_ok-push-in-Call.ensures.ok in
@@ -123,7 +123,7 @@ returns-in-Left-clause-ok c =
     let wf = entry_fits g current (body_tree c.body_of.result.now) d.0 (length c.turns_left.variables.words) (length c.turns_left.variables.mems) c.requires.well_formed d.1 body c.turns_left.invariant.words c.turns_left.invariant.mems in
     let fits = c.in_ok-place.ensures.fits g c.args.def c.turns_left.invariant.waits (c.in_ok-entered.ensures.fits g current wf) lt in
     let left = c.turns_left.left - 1 in
-    let turn = turn_taken g current c.turns_left.left c.turns_left.variables (body_tree c.body_of.result.now) d.0 c.in_ok-entered.entered d.1 body c.in_ok-entered.ensures.ending c.turns_left-test.true in
+    let turn = turn_taken g current c.turns_left.left c.turns_left.variables (body_tree c.body_of.result.now) d.0 c.in_ok-entered.entered (needs_passed c.nothing-start.result) c.nothing-start.ensures d.1 body c.in_ok-entered.ensures.ending c.turns_left-test.true in
     let now = sym (c.in_ok-place.ensures.ending call left) ∙ (λ j. unwound call c.turns_left.waiting (sym turn j)) ∙ c.turns_left.invariant.same in
     let empty = c.in_ok-place.ensures.left (subst IsLeaving (sym c.in-Left.is) tt) in
     let first = subst (λ fs. Waits g c.args.def fs c.in_ok-place.place.def) empty fits.0 in
@@ -148,6 +148,17 @@ returns-in-Left-clause-within c =
     if_ok-then _ _ c.done.result (λ o is. subst (LeavesInScope g c.args.def c.args.turns) (sym is)
     (done_in_scope g c.args.def c.args.turns (slice_get (exits_at g c.args.def) c.in-Left.exit) c.in-Left.exit c.in-Left.results (c.turns_left.left - 1) refl results less)) c.done.ensures
 
+pub needs-ordinal-requires : goal.needs-ordinal-requires
+needs-ordinal-requires c =
+    let g = group_tree c.args.g.now in
+    let current = c.turns_left.current in
+    let lt : current < length g.defs = subst (λ n. current < n) (sym (length-map c.args.g.now.defs def_tree)) c.turns_left.invariant.there in
+    let d = item_there g.defs current lt in
+    let body = c.body_of.ensures d.0 d.1 in
+    let wf = entry_fits g current (body_tree c.body_of.result.now) d.0 (length c.turns_left.variables.words) (length c.turns_left.variables.mems) c.requires.well_formed d.1 body c.turns_left.invariant.words c.turns_left.invariant.mems in
+    let fits = c.in_ok-place.ensures.fits g c.args.def c.turns_left.invariant.waits (c.in_ok-entered.ensures.fits g current wf) lt in
+    subst (λ s. StopFits g c.in_ok-place.place.def s c.in_ok-place.place.walk) c.in-False.is fits.1
+
 pub returns-in-False-clause-ok : goal.returns-in-False-clause-ok
 returns-in-False-clause-ok c =
     let g = group_tree c.args.g.now in
@@ -157,10 +168,10 @@ returns-in-False-clause-ok c =
     let d = item_there g.defs current lt in
     let body = c.body_of.ensures d.0 d.1 in
     let left = c.turns_left.left - 1 in
-    let turn = turn_taken g current c.turns_left.left c.turns_left.variables (body_tree c.body_of.result.now) d.0 c.in_ok-entered.entered d.1 body c.in_ok-entered.ensures.ending c.turns_left-test.true in
+    let turn = turn_taken g current c.turns_left.left c.turns_left.variables (body_tree c.body_of.result.now) d.0 c.in_ok-entered.entered (needs_passed c.nothing-start.result) c.nothing-start.ensures d.1 body c.in_ok-entered.ensures.ending c.turns_left-test.true in
     let now = sym (c.in_ok-place.ensures.ending call left) ∙ (λ j. unwound call c.turns_left.waiting (sym turn j)) ∙ c.turns_left.invariant.same in
     let place = c.in_ok-place.place in
-    let here = sym (unwound-false call c.return_through.new.waiting place.def place.walk.ordinal)
+    let here = (λ j. NeedFalse place.def (c.needs-ordinal.ensures j)) ∙ sym (unwound-false call c.return_through.new.waiting place.def (needs_passed place.walk.passed))
     ∙ (λ j. unwound call c.return_through.new.waiting (stop_ending call place.def (sym c.in-False.is j) place.walk left)) ∙ now in
     λ j. with_pc (exits_at g c.args.def) (here j)
 

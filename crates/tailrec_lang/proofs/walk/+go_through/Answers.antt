@@ -28,24 +28,6 @@ go_through-requires t c = (
       ((g, d, here), omega (arith, whole, split, taken, same, c.requires.needs)),
 )
 
-pub needs_in-requires : goal.needs_in-requires
-needs_in-requires t c =
-    let b = c.args.body.now in
-    let whole = needs_steps_end b c.as_slice-steps.result.now c.as_slice-steps.ensures in
-    let split = needs_branch b.end c.in-Branch.c c.in-Branch.a c.in-Branch.b c.in-Branch.is in
-    let same = ap (λ x. needs (body_tree x)) c.deref-in-Branch.ensures in
-    omega (arith, whole, split, same, c.requires.needs)
-
-pub overflow_add-before : goal.overflow_add-before
-overflow_add-before t c =
-    let b = c.args.body.now in
-    let all : IsTrue c.in_ok-take_steps.field-0 = search rules in
-    let whole = needs_steps_end b c.as_slice-steps.result.now c.as_slice-steps.ensures in
-    let split = needs_branch b.end c.in-Branch.c c.in-Branch.a c.in-Branch.b c.in-Branch.is in
-    let taken = c.in_ok-take_steps.ensures.needs all in
-    let same = ap (λ x. needs (body_tree x)) c.deref-in-Branch.ensures in
-    omega (arith, whole, split, taken, same, c.requires.needs, c.needs_in.ensures)
-
 pub go_through-requires-in-Branch : goal.go_through-requires-in-Branch
 go_through-requires-in-Branch t c = (
   (let fewer = branches_branch c.args.body.now c.in-Branch.c c.in-Branch.a c.in-Branch.b c.in-Branch.is in
@@ -63,7 +45,7 @@ go_through-requires-in-Branch t c = (
       let taken = c.in_ok-take_steps.ensures.needs all in
       let first = ap (λ x. needs (body_tree x)) c.deref-in-Branch.ensures in
       let second = ap (λ x. needs (body_tree x)) c.deref-in-Branch-2.ensures in
-      ((g, d, here), omega (arith, whole, split, taken, first, second, c.requires.needs, c.needs_in.ensures)),
+      ((g, d, here), omega (arith, whole, split, taken, first, second, c.requires.needs, c.in_ok-skip-in-Branch.ensures)),
 )
 
 pub returns-in_ok-args-in-Call-clause-fits : goal.returns-in_ok-args-in-Call-clause-fits
