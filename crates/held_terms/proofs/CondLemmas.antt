@@ -1,8 +1,12 @@
 -- Conditions over numbers: in pairs, and without variables.
-use Rattle.std.proofs.Common.{◌≡◌, ℕ, Bool, true, false, not, List, [], ◌∷◌, ◌++◌, Option, Some, None, option_map, refl, ap, sym, ◌∙◌, subst, inl, inr, arith}
+use Rattle.std.proofs.Common.{◌≡◌, ℕ, Bool, true, false, cond, not, List, [], ◌∷◌, ◌++◌, Option, Some, None, option_map, refl, ap, sym, ◌∙◌, subst, inl, inr, arith}
 use Rattle.std.specs.Prelude.{◌↔◌, IfNone, IfSome, IsTrue}
-use Rattle.std.specs.List.{Contains}
-use Rattle.std.proofs.lemmas.List.Elements.{Contains-push_cases}
+use Rattle.std.specs.Map.{lookup}
+use Rattle.std.specs.Ordering.{nat_cmp}
+use Rattle.std.specs.BTreeMap.{BTreeMap, IsEmpty, IsUnchanged, Updates, get, is_at}
+use Rattle.std.specs.Cmp.{Equal-is}
+use Rattle.std.proofs.lemmas.Bool.{cases_Bool, cond-true, cond-false}
+use Rattle.std.proofs.lemmas.Map.Lookups.{exact_unsigned}
 use Rattle.rv_words.specs.declared.operation.Op.{Op}
 use Rattle.rv_words.specs.declared.extension.Ext.{Ext}
 use Rattle.rv_words.specs.declared.comparison.Cmp.{Cmp}
@@ -12,7 +16,6 @@ use Rattle.word_terms.specs.Scope.{MemInScope}
 use Rattle.term_arena.specs.declared.node.Node.{Node}
 use Rattle.term_arena.specs.declared.node.Node.TheVariants as node
 use Rattle.term_arena.specs.Arena.{Tree, OfCond, as_word, as_mem, as_cond, tree_of, trees_of, tree_over, word_of, mem_of, cond_of, IsWordAt, IsMemAt, IsCondAt, AreChildren, AreBelow}
-use Rattle.term_arena.proofs.Places.{at_contains}
 use Rattle.triple_kernel.specs.Tree.{FactTree}
 use Rattle.triple_kernel.specs.Swap.{SwapMem}
 use Rattle.triple_kernel.specs.Rules.{Alike, IsAlwaysTrue, SameAddresses, before_stores}
@@ -174,17 +177,25 @@ module _ (ns : List Node) where
   inside_is c (node.Inside width m a) h e no_compare no_neg = subst (Tells None) (sym (ap as_cond e)) (λ s. no_memory _ s.0)
   inside_is c n h e no_compare no_neg = let f = sym e ∙ h in cc
 
-  pub constants_none : AreConstants ns []
-  constants_none = record { each = λ x v c. let at = at_contains [] (x, v) c in cc }
+  pub constants_none : (values : BTreeMap ℕ (Option ℕ)) → IsEmpty values → AreConstants ns values
+  constants_none values empty = record { each = λ x v e. let f : None ≡ Some v = sym (ap (λ es. lookup (is_at (nat_cmp x)) es) empty) ∙ e in cc }
 
-  pub constant_known : (values : List (ℕ × Option ℕ)) (x : ℕ) (v : Option ℕ) → AreConstants ns values → Contains values (x, v) → IsConstant (word_of ns x) v
-  constant_known values x v a c = a.each x v c
+  pub constants_same : (values more : BTreeMap ℕ (Option ℕ)) → IsUnchanged values more → AreConstants ns values → AreConstants ns more
+  constants_same values more same a = record { each = λ x v e. a.each x v (ap (λ es. lookup (is_at (nat_cmp x)) es) (sym same) ∙ e) }
 
-  pub constants_more : (values more : List (ℕ × Option ℕ)) (x : ℕ) (v : Option ℕ) → more ≡ values ++ (x, v) ∷ [] → AreConstants ns values → IsConstant (word_of ns x) v → AreConstants ns more
-  constants_more values more x v e a h = record {
-    each = λ y w c. elim (Contains-push_cases values (x, v) (y, w) (subst (λ (l : List (ℕ × Option ℕ)). Contains l (y, w)) e c)) [
-      | inl was ↦ a.each y w was
-      | inr last ↦ subst (λ (q : ℕ × Option ℕ). IsConstant (word_of ns q.0) q.1) last h
+  pub constant_known : (values : BTreeMap ℕ (Option ℕ)) (x : ℕ) (v : Option ℕ) → AreConstants ns values → Some v ≡ get nat_cmp values x → IsConstant (word_of ns x) v
+  constant_known values x v a e = a.each x v (sym e)
+
+  pub constants_more : (values more : BTreeMap ℕ (Option ℕ)) (x : ℕ) (v : Option ℕ) → Updates nat_cmp values more x (Some v) → AreConstants ns values
+      → IsConstant (word_of ns x) v → AreConstants ns more
+  constants_more values more x v updates a h = record {
+    each = λ y w e. elim (cases_Bool (is_at (nat_cmp x) y)) [
+      | inl here ↦
+          let same : x ≡ y = exact_unsigned x y ((Equal-is (nat_cmp x y)).0 here) in
+          let value : Some v ≡ Some w = sym (updates.0 y ∙ cond-true _ _ _ here) ∙ e in
+          let is : v ≡ w = cc in
+          subst (λ (u : Option ℕ). IsConstant (word_of ns y) u) is (subst (λ (z : ℕ). IsConstant (word_of ns z) v) same h)
+      | inr other ↦ a.each y w (sym (updates.0 y ∙ cond-false _ _ _ other) ∙ e)
     ];
   }
 

@@ -1,17 +1,21 @@
 -- Images of terms in an arena that grows.
-use Rattle.std.proofs.Common.{◌≡◌, ℕ, ◌<◌, Bool, true, false, List, [], ◌∷◌, ◌++◌, Option, Some, None, length, IfSome, unwrap_or, option_map, refl, ap, sym, ◌∙◌, subst, inl, inr, arith, length-append}
+use Rattle.std.proofs.Common.{◌≡◌, ◌⊎◌, ℕ, ◌<◌, Bool, true, false, cond, List, [], ◌∷◌, ◌++◌, Option, Some, None, length, IfSome, unwrap_or, option_map, refl, ap, sym, ◌∙◌, subst, inl, inr, arith, length-append}
 use Rattle.std.specs.Prelude.{slice_get, All, ◌==◌, if◌then◌else◌}
-use Rattle.std.specs.List.{Contains}
+use Rattle.std.specs.Cmp.{nat_eq_equiv, unsigned_tied}
+use Rattle.std.specs.BTreeMap.{Updates, get, is_at}
+use Rattle.std.specs.Map.{lookup}
+use Rattle.std.specs.Ordering.{nat_cmp}
+use Rattle.std.proofs.lemmas.Bool.{eqb-false, eqb-true}
 use Rattle.std.proofs.lemmas.List.Elements.{All-head, All-tail}
 use Rattle.word_terms.specs.Tree.{Const, Var, Bin, Extend, Load, MemVar, Store, Compare, Neg, Inside}
 use Rattle.word_terms.specs.Substitution.{Substitution, listed, put_in_word, put_in_mem, put_in_cond}
 use Rattle.term_arena.specs.declared.node.Node.{Node}
 use Rattle.term_arena.specs.declared.node.Node.TheVariants as node
 use Rattle.term_arena.specs.Arena.{Tree, OfWord, OfMem, OfCond, as_word, as_mem, as_cond, tree_of, trees_of, tree_over, word_of, mem_of, cond_of, IsWordAt, IsMemAt, IsCondAt, AreChildren, Extends}
-use Rattle.term_arena.proofs.Places.{at-append, at-push_cases, at_contains}
+use Rattle.term_arena.proofs.Places.{at-append}
 use Rattle.term_arena.proofs.TreeLemmas.{word_kept, mem_kept, same_word_of, same_mem_of, word_there, mem_there, cond_there}
 use Rattle.term_arena.proofs.PutLemmas.{tree_stays}
-use Rattle.held_terms.specs.Image.{put_in, put_for_numbers, IsSubAt, IsImage, AreImages, IsReady}
+use Rattle.held_terms.specs.Image.{put_in, put_for_numbers, IsSubAt, IsImage, Known, AreImages, IsReady}
 use Rattle.held_terms.specs.inner.ImageNode.{ImageNode}
 
 -- ---- a larger arena
@@ -19,8 +23,8 @@ use Rattle.held_terms.specs.inner.ImageNode.{ImageNode}
 pub stays : (ns ms : List Node) (s : Substitution) (x y : ℕ) → Extends ns ms → IsImage ns s x y → IsImage ms s x y
 stays ns ms s x y e i = record { tree = i.tree; from = tree_stays ns ms x _ e i.from; to = tree_stays ns ms y _ e i.to }
 
-pub all_stay : (ns ms : List Node) (s : Substitution) (known : List (ℕ × ℕ)) → Extends ns ms → AreImages ns s known → AreImages ms s known
-all_stay ns ms s known e a = record { each = λ k x y h. stays ns ms s x y e (a.each k x y h) }
+pub all_stay : (ns ms : List Node) (s : Substitution) (known : Known) → Extends ns ms → AreImages ns s known → AreImages ms s known
+all_stay ns ms s known e a = record { each = λ x y h. stays ns ms s x y e (a.each x y h) }
 
 pub longer : (ns ms : List Node) (x : ℕ) → Extends ns ms → x < length ns → x < length ms
 longer ns ms x e h = let l : length ms ≡ length (ns ++ e.more) = ap length e.is in omega (arith, length-append ns e.more)
@@ -131,22 +135,25 @@ module _ (ns : List Node) (s : Substitution) where
   image_tree (node.Inside width p a) (node.Inside w x y) i h = let u = mem_image p x h.0 i.1 in let v = word_image a y h.1 i.2 in λ j. OfCond (Inside (sym i.0 j) (as_mem (u j)) (as_word (v j)))
   image_tree n m i h = absurd i
 
--- one more pair
-pub images_more : (ns : List Node) (s : Substitution) (known : List (ℕ × ℕ)) (x y : ℕ) → AreImages ns s known → IsImage ns s x y → AreImages ns s (known ++ (x, y) ∷ [])
-images_more ns s known x y a i = record {
-  each = λ k u v h. elim (at-push_cases known (x, y) k (u, v) h) [
-    | inl old ↦ a.each k u v old.1
-    | inr last ↦ subst (λ (p : ℕ × ℕ). IsImage ns s p.0 p.1) last.1 i
-  ];
-}
-
-pub image_known : (ns : List Node) (s : Substitution) (known : List (ℕ × ℕ)) (x y : ℕ) → AreImages ns s known → Contains known (x, y) → IsImage ns s x y
-image_known ns s known x y a c = let p = at_contains known (x, y) c in a.each p.0 x y p.1
-
 -- ---- what an imaging goes on with
 
+at-number : (k q : ℕ) → is_at (nat_cmp k) q ≡ (q == k)
+at-number k q = unsigned_tied k q ∙ nat_eq_equiv.symm k q
+
+pub same_get : (old new : Known) → new.entries ≡ old.entries → (k : ℕ) → get nat_cmp new k ≡ get nat_cmp old k
+same_get old new e k = ap (λ (es : List (ℕ × Option ℕ)). lookup (is_at (nat_cmp k)) es) e
+
+-- what is there after one number was put in
+pub put_cases : (old new : Known) (x : ℕ) (v : Option ℕ) (k : ℕ) (w : Option ℕ) → Updates nat_cmp old new x (Some v) → get nat_cmp new k ≡ Some w
+    → ((k ≡ x) × (w ≡ v)) ⊎ ((k ≡ x → ⊥) × (get nat_cmp old k ≡ Some w))
+put_cases old new x v k w u h = by (k == x) refl (sym (u.0 k ∙ ap (λ (b : Bool). cond b (Some v) (get nat_cmp old k)) (at-number x k)) ∙ h)
+  where
+    by : (b : Bool) → (k == x) ≡ b → cond (k == x) (Some v) (get nat_cmp old k) ≡ Some w → ((k ≡ x) × (w ≡ v)) ⊎ ((k ≡ x → ⊥) × (get nat_cmp old k ≡ Some w))
+    by true e f = let g : Some v ≡ Some w = sym (ap (λ (b : Bool). cond b (Some v) (get nat_cmp old k)) e) ∙ f in inl (eqb-true k x e, cc)
+    by false e f = inr (eqb-false k x e, sym (ap (λ (b : Bool). cond b (Some v) (get nat_cmp old k)) e) ∙ f)
+
 -- an image in a larger arena
-pub image_stays : (ns ms : List Node) (words mems known : List (ℕ × ℕ)) (x y : ℕ) → IsReady ns words mems known → Extends ns ms
+pub image_stays : (ns ms : List Node) (words mems : List (ℕ × ℕ)) (known : Known) (x y : ℕ) → IsReady ns words mems known → Extends ns ms
     → IsImage ns (put_for_numbers ns words mems) x y → IsImage ms (put_for_numbers ms words mems) x y
 image_stays ns ms words mems known x y r e i =
     subst (λ (s : Substitution). IsImage ms s x y) (sym (same_sub ns ms words mems e r.sub)) (stays ns ms _ x y e i)
@@ -154,32 +161,52 @@ image_stays ns ms words mems known x y r e i =
 pub get_stays : (ns ms : List Node) (k : ℕ) (n : Node) → Extends ns ms → slice_get ns k ≡ Some n → slice_get ms k ≡ Some n
 get_stays ns ms k n e h = ap (λ (l : List Node). slice_get l k) e.is ∙ at-append ns e.more k n h
 
-pub ready_stays : (ns ms : List Node) (words mems known : List (ℕ × ℕ)) → Extends ns ms → IsReady ns words mems known → IsReady ms words mems known
+pub ready_stays : (ns ms : List Node) (words mems : List (ℕ × ℕ)) (known : Known) → Extends ns ms → IsReady ns words mems known → IsReady ms words mems known
 ready_stays ns ms words mems known e r = record {
   sub = still_there ns ms words mems e r.sub;
   images = subst (λ (s : Substitution). AreImages ms s known) (sym (same_sub ns ms words mems e r.sub)) (all_stay ns ms _ known e r.images);
 }
 
-pub ready_more : (ns : List Node) (words mems known : List (ℕ × ℕ)) (x y : ℕ) → IsReady ns words mems known → IsImage ns (put_for_numbers ns words mems) x y
-    → IsReady ns words mems (known ++ (x, y) ∷ [])
-ready_more ns words mems known x y r i = record { sub = r.sub; images = images_more ns _ known x y r.images i }
+pub ready_same : (ns : List Node) (words mems : List (ℕ × ℕ)) (old new : Known) → new.entries ≡ old.entries → IsReady ns words mems old → IsReady ns words mems new
+ready_same ns words mems old new e r = record { sub = r.sub; images = record { each = λ u v h. r.images.each u v (sym (same_get old new e u) ∙ h) } }
 
-pub ready_image : (ns : List Node) (words mems known : List (ℕ × ℕ)) (x y : ℕ) → IsReady ns words mems known → Contains known (x, y) → IsImage ns (put_for_numbers ns words mems) x y
-ready_image ns words mems known x y r c = image_known ns _ known x y r.images c
+-- the number's image is begun, is kept
+pub ready_begun : (ns : List Node) (words mems : List (ℕ × ℕ)) (old new : Known) (x : ℕ) → Updates nat_cmp old new x (Some None) → IsReady ns words mems old → IsReady ns words mems new
+ready_begun ns words mems old new x u r = record {
+  sub = r.sub;
+  images = record {
+    each = λ k v h. elim (put_cases old new x None k (Some v) u h) [
+      | inl here ↦ (let e : Some v ≡ None = here.1 in cc)
+      | inr there ↦ r.images.each k v there.1
+    ];
+  };
+}
+
+pub ready_kept : (ns : List Node) (words mems : List (ℕ × ℕ)) (old new : Known) (x y : ℕ) → Updates nat_cmp old new x (Some (Some y)) → IsReady ns words mems old
+    → IsImage ns (put_for_numbers ns words mems) x y → IsReady ns words mems new
+ready_kept ns words mems old new x y u r i = record {
+  sub = r.sub;
+  images = record {
+    each = λ k v h. elim (put_cases old new x (Some y) k (Some v) u h) [
+      | inl here ↦ (let e : Some v ≡ Some y = here.1 in let f : y ≡ v = cc in subst (λ (z : ℕ). IsImage ns (put_for_numbers ns words mems) k z) f (subst (λ (z : ℕ). IsImage ns (put_for_numbers ns words mems) z y) (sym here.0) i))
+      | inr there ↦ r.images.each k v there.1
+    ];
+  };
+}
 
 pub constant_image : (ns : List Node) (s : Substitution) (x n : ℕ) → tree_of ns x ≡ Some (OfWord (Const n)) → IsImage ns s x x
 constant_image ns s x n e = record { tree = OfWord (Const n); from = e; to = e }
 
-pub ready_word : (ns : List Node) (words mems known : List (ℕ × ℕ)) (x i y : ℕ) → IsReady ns words mems known → tree_of ns x ≡ Some (OfWord (Var i)) → y ≡ unwrap_or (listed words i) x
+pub ready_word : (ns : List Node) (words mems : List (ℕ × ℕ)) (known : Known) (x i y : ℕ) → IsReady ns words mems known → tree_of ns x ≡ Some (OfWord (Var i)) → y ≡ unwrap_or (listed words i) x
     → IsImage ns (put_for_numbers ns words mems) x y
 ready_word ns words mems known x i y r e is = word_variable ns words mems x i y r.sub e is
 
-pub ready_mem : (ns : List Node) (words mems known : List (ℕ × ℕ)) (x i y : ℕ) → IsReady ns words mems known → tree_of ns x ≡ Some (OfMem (MemVar i)) → y ≡ unwrap_or (listed mems i) x
+pub ready_mem : (ns : List Node) (words mems : List (ℕ × ℕ)) (known : Known) (x i y : ℕ) → IsReady ns words mems known → tree_of ns x ≡ Some (OfMem (MemVar i)) → y ≡ unwrap_or (listed mems i) x
     → IsImage ns (put_for_numbers ns words mems) x y
 ready_mem ns words mems known x i y r e is = mem_variable ns words mems x i y r.sub e is
 
 -- the node is added, and its number is the image
-pub image_added : (ns ms : List Node) (words mems known : List (ℕ × ℕ)) (x y : ℕ) (n m : Node) → IsReady ns words mems known → tree_of ns x ≡ Some (tree_over (trees_of ns) n) → AreChildren ns n
+pub image_added : (ns ms : List Node) (words mems : List (ℕ × ℕ)) (known : Known) (x y : ℕ) (n m : Node) → IsReady ns words mems known → tree_of ns x ≡ Some (tree_over (trees_of ns) n) → AreChildren ns n
     → Extends ns ms → ImageNode ns (put_for_numbers ns words mems) n m → tree_of ms y ≡ Some (tree_over (trees_of ns) m) → IsImage ms (put_for_numbers ms words mems) x y
 image_added ns ms words mems known x y n m r at h e i new =
     subst (λ (s : Substitution). IsImage ms s x y) (sym (same_sub ns ms words mems e r.sub)) (record {

@@ -1,10 +1,16 @@
+pub mod AskedLemmas
 pub mod CondLemmas
 pub mod ExitLemmas
 pub mod FewLemmas
 pub mod ImageLemmas
+pub mod ImagingLemmas
 pub mod InstanceLemmas
+pub mod NumberLemmas
+pub mod PlaceLemmas
 pub mod Indices
+pub mod LookLemmas
 pub mod Registers
 pub mod SideLemmas
 pub mod SwapLemmas
 pub mod TableLemmas
+pub mod ToldLemmas

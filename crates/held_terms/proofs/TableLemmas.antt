@@ -21,7 +21,7 @@ use Rattle.held_terms.proofs.FewLemmas.{few, pairs, count_of_pairs, in_pairs}
 
 -- ---- lists of subterms
 
-has_top : (ts : List Tree) (x : Tree) → HasTree ts (Some x) → Contains ts x
+pub has_top : (ts : List Tree) (x : Tree) → HasTree ts (Some x) → Contains ts x
 has_top ts (OfWord (Const n)) h = h
 has_top ts (OfWord (Var i)) h = h
 has_top ts (OfWord (Bin op a b)) h = h.0
@@ -33,7 +33,7 @@ has_top ts (OfCond (Compare cmp a b)) h = h.0
 has_top ts (OfCond (Neg c)) h = h.0
 has_top ts (OfCond (Inside width m a)) h = h.0
 
-has_number : (ns : List Node) (ts : List Tree) (k : ℕ) (x : Tree) → tree_of ns k ≡ Some x → HasTree ts (tree_of ns k) → IsIn ns ts k
+pub has_number : (ns : List Node) (ts : List Tree) (k : ℕ) (x : Tree) → tree_of ns k ≡ Some x → HasTree ts (tree_of ns k) → IsIn ns ts k
 has_number ns ts k x e h = record { tree = x; at = e; here = has_top ts x (subst (HasTree ts) e h) }
 
 -- children of two nodes of one form
@@ -157,17 +157,15 @@ module _ (ns : List Node) (facts : List FactTree) where
     ];
   }
 
-  pub place_within : (old mid new : List Entry) (p : Entry) (at : ℕ) → mid ≡ old ++ p ∷ [] → AreDecided ns facts mid new → at ≡ length old → at < length new
-  place_within old mid new p at em d ea =
-      let l : length new ≡ length (mid ++ d.more) = ap length d.is in
-      let m : length mid ≡ length (old ++ p ∷ []) = ap length em in
-      omega (arith, l, m, ea, length-append mid d.more, length_push old p)
-
   -- the entry that was pushed is still there
   pub still_at : (old mid new : List Entry) (p : Entry) → mid ≡ old ++ p ∷ [] → AreDecided ns facts mid new → slice_get new (length old) ≡ Some p
   still_at old mid new p em d =
       ap (λ (l : List Entry). slice_get l (length old)) d.is
       ∙ at-append mid d.more (length old) p (ap (λ (l : List Entry). slice_get l (length old)) em ∙ at-push old p)
+
+  -- .. and so is its pair
+  pub key_still : (old mid new : List Entry) (p : Entry) (at : ℕ) → mid ≡ old ++ p ∷ [] → AreDecided ns facts mid new → at ≡ length old → slice_get (keys_of new) at ≡ Some (key_of p)
+  key_still old mid new p at em d ea = map-at key_of new at p (ap (λ k. slice_get new k) ea ∙ still_at old mid new p em d)
 
 -- ---- steps and pairs
 

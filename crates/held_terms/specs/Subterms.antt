@@ -4,7 +4,11 @@ use Rattle.std.specs.List.{Contains}
 use Rattle.word_terms.specs.Tree.{WordTree, MemTree, CondTree, Const, Var, Bin, Extend, Load, MemVar, Store, Compare, Neg, Inside}
 use Rattle.term_arena.specs.declared.node.Node.{Node}
 use Rattle.term_arena.specs.Arena.{Tree, OfWord, OfMem, OfCond, tree_of}
+use Rattle.held_terms.specs.declared.held.HeldValues.{HeldValues}
+use Rattle.held_terms.specs.declared.held.HeldFact.{HeldFact}
+use Rattle.held_terms.specs.declared.held.HeldFact.TheVariants as held
 use Rattle.held_terms.specs.declared.held.HeldSide.{HeldSide}
+use Rattle.held_terms.specs.declared.held.Held.{Held}
 
 -- ---- of one term
 
@@ -50,3 +54,27 @@ pub record HasSide (ns : List Node) (s : HeldSide) (ts : List Tree) : Type 0 whe
 -- .. of two assertions
 abbrev pub HasSides : List Node → HeldSide → HeldSide → List Tree → Type 0
 HasSides ns a b ts = HasSide ns a ts × HasSide ns b ts
+
+-- ---- of the terms of a triple
+
+-- the list has each subterm of the numbers' terms, of the values, of the fact, of the facts, of the triple
+abbrev pub HasTerms : List Node → List ℕ → List Tree → Type 0
+HasTerms ns ks ts = All (λ k. HasTree ts (tree_of ns k)) ks
+
+pub record HasValues (ns : List Node) (v : HeldValues) (ts : List Tree) : Type 0 where
+  pub words : HasTerms ns v.words ts
+  pub mems : HasTerms ns v.mems ts
+
+abbrev pub HasFact : List Node → HeldFact → List Tree → Type 0
+HasFact ns (held.WordIs a b) ts = HasTree ts (tree_of ns a) × HasTree ts (tree_of ns b)
+HasFact ns (held.MemIs a b) ts = HasTree ts (tree_of ns a) × HasTree ts (tree_of ns b)
+HasFact ns (held.So c) ts = HasTree ts (tree_of ns c)
+HasFact ns (held.Gives def exit args results) ts = HasValues ns args ts × HasValues ns results ts
+
+abbrev pub HasFacts : List Node → List HeldFact → List Tree → Type 0
+HasFacts ns fs ts = All (λ f. HasFact ns f ts) fs
+
+pub record HasHeld (ns : List Node) (h : Held) (ts : List Tree) : Type 0 where
+  pub facts : HasFacts ns h.facts ts
+  pub pre : HasSide ns h.pre ts
+  pub post : HasSide ns h.post ts

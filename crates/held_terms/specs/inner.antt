@@ -1,7 +1,11 @@
 pub mod Table
+pub mod Places
+pub mod Numbers
 pub mod Pairs
 pub mod SideTables
 pub mod ImageNode
+pub mod Imaging
 pub mod Instances
 pub mod Following
 pub mod Leaves
+pub mod Looks

@@ -1,7 +1,8 @@
 //! Conditions over numbers: whether two are alike by facts, and whether one without variables is true.
 
 ghost use Rattle.std.specs.Prelude.{◌≡◌, ◌↔◌, IfNone, IfOk, IfSome, IsTrue, List as Items, OnOk, Some as Just, map, not, option_map, true};
-ghost use Rattle.std.specs.List.{Contains};
+ghost use Rattle.std.specs.BTreeMap.{get};
+ghost use Rattle.std.specs.Ordering.{nat_cmp};
 ghost use Rattle.rv_words.specs.Operation.{extension_value};
 ghost use Rattle.term_arena.specs.Arena.{IsCondAt, IsMemAt, IsWordAt, cond_of, mem_of, word_of};
 ghost use Rattle.triple_kernel.specs.Tree.{FactTree};
@@ -12,9 +13,11 @@ ghost use Rattle.held_terms.specs.inner.SideTables.{AreRight};
 ghost use Rattle.held_terms.specs.inner.Following.{AreConstants, CondPairsAlike, CondPairsAre, CondPairsFit, IsBeforeStore, IsConstant, IsDecidedAlone, applied, compared};
 ghost use Rattle.held_terms.specs.inner.Following.{stored_over as memory_under};
 
-use crate::held::HeldFact;
+use crate::facts::Facts;
 use crate::sides::{swap_memories, swap_words};
-use rv_words::{Cmp, Ext, List, NoMemory, Op, apply, compare, extend};
+use crate::table::Table;
+use rv_words::{Cmp, Ext, NoMemory, Op, apply, compare, extend};
+use std::collections::BTreeMap;
 use std::sync::ledger::Ledger;
 use term_arena::{Arena, Node, Steps};
 
@@ -75,8 +78,8 @@ fn cond_pairs<L: Ledger>(arena: &Arena, a: u64, b: u64, steps: &mut Steps<L>) ->
 /// whether it has some bytes, only the addresses count.
 pub(crate) fn are_alike<L: Ledger>(
     arena: &Arena,
-    facts: &[HeldFact],
-    known: &mut List<(u64, u64, bool)>,
+    facts: &Facts,
+    known: &mut Table,
     a: u64,
     b: u64,
     steps: &mut Steps<L>,
@@ -115,8 +118,8 @@ pub(crate) fn are_alike<L: Ledger>(
 
 fn have_same_addresses<L: Ledger>(
     arena: &Arena,
-    facts: &[HeldFact],
-    known: &mut List<(u64, u64, bool)>,
+    facts: &Facts,
+    known: &mut Table,
     m: u64,
     n: u64,
     steps: &mut Steps<L>,
@@ -172,7 +175,7 @@ fn stored_over(n: Node) -> Option<u64>
 /// Whether the condition has no variables and is true.
 pub(crate) fn is_always_true<L: Ledger>(
     arena: &Arena,
-    values: &mut List<(u64, Option<u64>)>,
+    values: &mut BTreeMap<u64, Option<u64>>,
     c: u64,
     steps: &mut Steps<L>,
 ) -> Result<bool, NoMemory>
@@ -197,7 +200,7 @@ fn is_true(truth: Option<bool>) -> bool
 /// Whether the condition is true, if it has no variables.
 fn truth_of<L: Ledger>(
     arena: &Arena,
-    values: &mut List<(u64, Option<u64>)>,
+    values: &mut BTreeMap<u64, Option<u64>>,
     c: u64,
     steps: &mut Steps<L>,
 ) -> Result<Option<bool>, NoMemory>
@@ -241,11 +244,11 @@ fn negated(truth: Option<bool>) -> Option<bool>
     }
 }
 
-/// The value of a word, if it has no variables. Values that are known are kept in a list.
+/// The value of a word, if it has no variables. Values that are known are kept.
 #[cycle(constants)]
 fn constant_of<L: Ledger>(
     arena: &Arena,
-    values: &mut List<(u64, Option<u64>)>,
+    values: &mut BTreeMap<u64, Option<u64>>,
     x: u64,
     steps: &mut Steps<L>,
 ) -> Result<Option<u64>, NoMemory>
@@ -254,11 +257,11 @@ fn constant_of<L: Ledger>(
     ensures value { IfOk result (λ v. IsConstant (word_of arena.now x) v) }
     ensures values { AreConstants arena.now values.new }
 {
-    if let Some(v) = value_in(values.as_slice(), x) {
+    if let Some(v) = value_in(values, x) {
         return Ok(v);
     }
     let v = constant_over(arena, values, x, steps)?;
-    values.push((x, v))?;
+    values.insert(x, v)?;
     Ok(v)
 }
 
@@ -266,7 +269,7 @@ fn constant_of<L: Ledger>(
 #[cycle(constants)]
 fn constant_over<L: Ledger>(
     arena: &Arena,
-    values: &mut List<(u64, Option<u64>)>,
+    values: &mut BTreeMap<u64, Option<u64>>,
     x: u64,
     steps: &mut Steps<L>,
 ) -> Result<Option<u64>, NoMemory>
@@ -312,13 +315,11 @@ fn extended(ext: Ext, a: Option<u64>) -> Option<u64>
 }
 
 /// What is known of the value of a word, if anything is.
-fn value_in(values: &[(u64, Option<u64>)], x: u64) -> Option<Option<u64>>
-    ensures { IfSome result (λ v. Contains values.now (x, v)) }
+fn value_in(values: &BTreeMap<u64, Option<u64>>, x: u64) -> Option<Option<u64>>
+    ensures { result ≡ get nat_cmp values.now x }
 {
-    for entry in values {
-        if entry.0 == x {
-            return Some(entry.1);
-        }
+    match values.get(&x) {
+        Some(v) => Some(*v),
+        None => None,
     }
-    None
 }

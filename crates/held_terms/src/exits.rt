@@ -1,6 +1,6 @@
 //! The triple of an exit of a definition, over numbers.
 
-ghost use Rattle.std.specs.Prelude.{◌≡◌, ◌↔◌, ◌∷◌, ◌+◌, [], IsTrue, Some as Just, length, map, slice_get, zip};
+ghost use Rattle.std.specs.Prelude.{◌≡◌, ◌↔◌, ◌∷◌, ◌+◌, ◌*◌, ◌≤◌, [], IsTrue, List as Items, Some as Just, length, map, slice_get, zip};
 ghost use Rattle.std.specs.List.{range_with_len};
 ghost use Rattle.word_terms.specs.Tree.{Const, MemVar, Var};
 ghost use Rattle.tailrec_lang.specs.Tree.{def_tree, group_tree};
@@ -8,8 +8,10 @@ ghost use Rattle.triple_kernel.specs.Tree.{Gives};
 ghost use Rattle.loop_rule.specs.Leaves.{at_entry, at_exit, parameters, variables_after};
 ghost use Rattle.loop_rule.specs.Rule.{IsExit, exit_triple};
 ghost use Rattle.loop_rule.specs.Rule.{results as results_of};
-ghost use Rattle.term_arena.specs.Arena.{IsMemAt, IsWordAt, mem_of, word_of};
+ghost use Rattle.term_arena.specs.Arena.{IsMemAt, IsWordAt, Tree, mem_of, word_of};
 ghost use Rattle.held_terms.specs.Held.{AreFactsAt, AreMemsAt, AreRegistersAt, AreValuesAt, AreWordsAt, IsFactAt, IsHeldAt, IsSideAt, fact_of, register_of, side_of, triple_of, values_over};
+ghost use Rattle.held_terms.specs.Subterms.{HasFact, HasFacts, HasHeld, HasRegisters, HasSide, HasTerms, HasValues};
+ghost use Rattle.held_terms.specs.inner.Looks.{Looks};
 ghost use Rattle.held_terms.specs.inner.Leaves.{constant_of, mem_variable_of, variable_of};
 
 use crate::held::{Held, HeldFact, HeldSide, HeldValues};
@@ -18,7 +20,8 @@ use std::sync::ledger::Ledger;
 use tailrec_lang::{Def, Exit, Group, def_at, results_at};
 use term_arena::{Arena, Node, Steps};
 
-/// The triple of an exit of a definition.
+/// The triple of an exit of a definition. At most one step is taken for each different term of the list of arguments and that of
+/// results, of each kind, and of each of the two assertions.
 pub fn is_exit<L: Ledger>(
     arena: &Arena,
     g: &Group,
@@ -28,7 +31,8 @@ pub fn is_exit<L: Ledger>(
     steps: &mut Steps<L>,
 ) -> bool
     requires { IsHeldAt arena.now stated.now }
-    ensures { IsTrue result ↔ IsExit (group_tree g.now) d exit (triple_of arena.now stated.now) }
+    ensures answer { IsTrue result ↔ IsExit (group_tree g.now) d exit (triple_of arena.now stated.now) }
+    ensures steps { (ts : Items Tree) → HasHeld arena.now stated.now ts → steps.new ≤ steps.old + (10 * length ts + 1) }
 {
     match def_at(g, d as usize) {
         Some(def) => is_exit_of(arena, g, d, def, exit, stated, steps),
@@ -48,7 +52,8 @@ fn is_exit_of<L: Ledger>(
 ) -> bool
     requires def { slice_get (group_tree g.now).defs d ≡ Just (def_tree def.now) }
     requires stated { IsHeldAt arena.now stated.now }
-    ensures { IsTrue result ↔ IsExit (group_tree g.now) d exit (triple_of arena.now stated.now) }
+    ensures answer { IsTrue result ↔ IsExit (group_tree g.now) d exit (triple_of arena.now stated.now) }
+    ensures steps { (ts : Items Tree) → HasHeld arena.now stated.now ts → steps.new ≤ steps.old + (10 * length ts + 1) }
 {
     match def.exits.get(exit as usize) {
         Some(x) => is_exit_triple(arena, g, d, def, exit, *x, stated, steps),
@@ -56,7 +61,7 @@ fn is_exit_of<L: Ledger>(
     }
 }
 
-/// Whether the triple is that of the exit. A step is taken for each of its terms at most.
+/// Whether the triple is that of the exit.
 fn is_exit_triple<L: Ledger>(
     arena: &Arena,
     g: &Group,
@@ -68,7 +73,8 @@ fn is_exit_triple<L: Ledger>(
     steps: &mut Steps<L>,
 ) -> bool
     requires { IsHeldAt arena.now stated.now }
-    ensures { IsTrue result ↔ (triple_of arena.now stated.now ≡ exit_triple (group_tree g.now) d (def_tree def.now) exit x) }
+    ensures answer { IsTrue result ↔ (triple_of arena.now stated.now ≡ exit_triple (group_tree g.now) d (def_tree def.now) exit x) }
+    ensures steps { Looks 10 (HasHeld arena.now stated.now) result steps.old steps.new }
 {
     is_exit_fact(arena, g, d, exit, x, stated.facts.as_slice(), steps)
         && is_entry(arena, g, def, &stated.pre, steps)
@@ -87,7 +93,8 @@ fn is_exit_fact<L: Ledger>(
     steps: &mut Steps<L>,
 ) -> bool
     requires { AreFactsAt arena.now facts.now }
-    ensures { IsTrue result ↔ (map (fact_of arena.now) facts.now ≡ Gives d exit (parameters (group_tree g.now)) (results_of (group_tree g.now) x) ∷ []) }
+    ensures answer { IsTrue result ↔ (map (fact_of arena.now) facts.now ≡ Gives d exit (parameters (group_tree g.now)) (results_of (group_tree g.now) x) ∷ []) }
+    ensures steps { Looks 4 (HasFacts arena.now facts.now) result steps.old steps.new }
 {
     facts.len() == 1 && is_gives(arena, g, d, exit, x, &facts[0], steps)
 }
@@ -102,7 +109,8 @@ fn is_gives<L: Ledger>(
     steps: &mut Steps<L>,
 ) -> bool
     requires { IsFactAt arena.now fact.now }
-    ensures { IsTrue result ↔ (fact_of arena.now fact.now ≡ Gives d exit (parameters (group_tree g.now)) (results_of (group_tree g.now) x)) }
+    ensures answer { IsTrue result ↔ (fact_of arena.now fact.now ≡ Gives d exit (parameters (group_tree g.now)) (results_of (group_tree g.now) x)) }
+    ensures steps { Looks 4 (HasFact arena.now fact.now) result steps.old steps.new }
 {
     match fact {
         HeldFact::Gives {
@@ -133,13 +141,15 @@ fn are_next<L: Ledger>(
     steps: &mut Steps<L>,
 ) -> bool
     requires { AreValuesAt arena.now values.now }
-    ensures { IsTrue result ↔ (values_over arena.now values.now ≡ variables_after words mems more_words more_mems) }
+    ensures answer { IsTrue result ↔ (values_over arena.now values.now ≡ variables_after words mems more_words more_mems) }
+    ensures steps { Looks 2 (HasValues arena.now values.now) result steps.old steps.new }
 {
     are_word_variables(arena, values.words.as_slice(), words, more_words, steps)
         && are_mem_variables(arena, values.mems.as_slice(), mems, more_mems, steps)
 }
 
-/// Whether the assertion is that where the definition is entered with its parameters.
+/// Whether the assertion is that where the definition is entered with its parameters. A step is taken for each of the terms of that
+/// one at most.
 pub fn is_entry<L: Ledger>(
     arena: &Arena,
     g: &Group,
@@ -148,7 +158,9 @@ pub fn is_entry<L: Ledger>(
     steps: &mut Steps<L>,
 ) -> bool
     requires { IsSideAt arena.now side.now }
-    ensures { IsTrue result ↔ (side_of arena.now side.now ≡ at_entry (group_tree g.now) (def_tree def.now) (parameters (group_tree g.now))) }
+    ensures answer { IsTrue result ↔ (side_of arena.now side.now ≡ at_entry (group_tree g.now) (def_tree def.now) (parameters (group_tree g.now))) }
+    ensures steps { Looks 3 (HasSide arena.now side.now) result steps.old steps.new }
+    ensures each { steps.new ≤ steps.old + (1 + (length g.now.regs + g.now.mems)) }
 {
     is_constant(arena, side.pc, def.entry, steps) && have_variables(arena, g, side, 0, 0, steps)
 }
@@ -162,7 +174,8 @@ fn is_end<L: Ledger>(
     steps: &mut Steps<L>,
 ) -> bool
     requires { IsSideAt arena.now side.now }
-    ensures { IsTrue result ↔ (side_of arena.now side.now ≡ at_exit (group_tree g.now) (Just x) (results_of (group_tree g.now) x)) }
+    ensures answer { IsTrue result ↔ (side_of arena.now side.now ≡ at_exit (group_tree g.now) (Just x) (results_of (group_tree g.now) x)) }
+    ensures steps { Looks 3 (HasSide arena.now side.now) result steps.old steps.new }
 {
     let words = g.regs.as_slice().len();
     let mems = g.mems as usize;
@@ -188,7 +201,9 @@ fn have_variables<L: Ledger>(
     steps: &mut Steps<L>,
 ) -> bool
     requires { IsSideAt arena.now side.now }
-    ensures { IsTrue result ↔ ((map (register_of arena.now) side.now.regs ≡ zip g.now.regs (map Var (range_with_len words (length g.now.regs)))) × (map (mem_of arena.now) side.now.mems ≡ map MemVar (range_with_len mems g.now.mems))) }
+    ensures answer { IsTrue result ↔ ((map (register_of arena.now) side.now.regs ≡ zip g.now.regs (map Var (range_with_len words (length g.now.regs)))) × (map (mem_of arena.now) side.now.mems ≡ map MemVar (range_with_len mems g.now.mems))) }
+    ensures steps { Looks 2 (HasSide arena.now side.now) result steps.old steps.new }
+    ensures each { steps.new ≤ steps.old + (length g.now.regs + g.now.mems) }
 {
     are_registers(arena, side.regs.as_slice(), g.regs.as_slice(), words, steps)
         && are_mem_variables(arena, side.mems.as_slice(), mems, g.mems as usize, steps)
@@ -203,7 +218,9 @@ fn are_registers<L: Ledger>(
     steps: &mut Steps<L>,
 ) -> bool
     requires { AreRegistersAt arena.now registers.now }
-    ensures { IsTrue result ↔ (map (register_of arena.now) registers.now ≡ zip numbers.now (map Var (range_with_len first (length numbers.now)))) }
+    ensures answer { IsTrue result ↔ (map (register_of arena.now) registers.now ≡ zip numbers.now (map Var (range_with_len first (length numbers.now)))) }
+    ensures steps { Looks 1 (HasRegisters arena.now registers.now) result steps.old steps.new }
+    ensures each { steps.new ≤ steps.old + length numbers.now }
 {
     if registers.len() != numbers.len() {
         return false;
@@ -225,7 +242,8 @@ fn is_register<L: Ledger>(
     steps: &mut Steps<L>,
 ) -> bool
     requires { IsWordAt arena.now register.1 }
-    ensures { IsTrue result ↔ (register_of arena.now register ≡ (number, Var (first + i))) }
+    ensures answer { IsTrue result ↔ (register_of arena.now register ≡ (number, Var (first + i))) }
+    ensures steps { steps.new ≤ steps.old + 1 }
 {
     register.0 == number && is_variable(arena, register.1, first, i, steps)
 }
@@ -238,7 +256,8 @@ fn are_word_variables<L: Ledger>(
     steps: &mut Steps<L>,
 ) -> bool
     requires { AreWordsAt arena.now words.now }
-    ensures { IsTrue result ↔ (map (word_of arena.now) words.now ≡ map Var (range_with_len first count)) }
+    ensures answer { IsTrue result ↔ (map (word_of arena.now) words.now ≡ map Var (range_with_len first count)) }
+    ensures steps { Looks 1 (HasTerms arena.now words.now) result steps.old steps.new }
 {
     if words.len() != count {
         return false;
@@ -259,7 +278,9 @@ fn are_mem_variables<L: Ledger>(
     steps: &mut Steps<L>,
 ) -> bool
     requires { AreMemsAt arena.now mems.now }
-    ensures { IsTrue result ↔ (map (mem_of arena.now) mems.now ≡ map MemVar (range_with_len first count)) }
+    ensures answer { IsTrue result ↔ (map (mem_of arena.now) mems.now ≡ map MemVar (range_with_len first count)) }
+    ensures steps { Looks 1 (HasTerms arena.now mems.now) result steps.old steps.new }
+    ensures each { steps.new ≤ steps.old + count }
 {
     if mems.len() != count {
         return false;
@@ -281,7 +302,8 @@ fn is_variable<L: Ledger>(
     steps: &mut Steps<L>,
 ) -> bool
     requires { IsWordAt arena.now word }
-    ensures { IsTrue result ↔ (word_of arena.now word ≡ Var (first + i)) }
+    ensures answer { IsTrue result ↔ (word_of arena.now word ≡ Var (first + i)) }
+    ensures steps { steps.new ≡ steps.old + 1 }
 {
     match variable_in(arena.node(word, steps)) {
         Some(j) => is_after(j, first, i),
@@ -297,7 +319,8 @@ fn is_mem_variable<L: Ledger>(
     steps: &mut Steps<L>,
 ) -> bool
     requires { IsMemAt arena.now mem }
-    ensures { IsTrue result ↔ (mem_of arena.now mem ≡ MemVar (first + i)) }
+    ensures answer { IsTrue result ↔ (mem_of arena.now mem ≡ MemVar (first + i)) }
+    ensures steps { steps.new ≡ steps.old + 1 }
 {
     match mem_variable_in(arena.node(mem, steps)) {
         Some(j) => is_after(j, first, i),
@@ -307,7 +330,8 @@ fn is_mem_variable<L: Ledger>(
 
 fn is_constant<L: Ledger>(arena: &Arena, word: u64, n: u64, steps: &mut Steps<L>) -> bool
     requires { IsWordAt arena.now word }
-    ensures { IsTrue result ↔ (word_of arena.now word ≡ Const n) }
+    ensures answer { IsTrue result ↔ (word_of arena.now word ≡ Const n) }
+    ensures steps { steps.new ≡ steps.old + 1 }
 {
     match constant_in(arena.node(word, steps)) {
         Some(m) => is_equal(m, n),

@@ -11,11 +11,13 @@ ghost use Rattle.held_terms.specs.inner.SideTables.{AreRight};
 ghost use Rattle.held_terms.specs.inner.Following.{AreConstants};
 
 use crate::conditions::{are_alike, is_always_true};
+use crate::facts::Facts;
 use crate::held::HeldFact;
-use crate::same::is_among;
 use crate::sides::{swap_memories, swap_words};
-use rv_words::{List, NoMemory};
+use crate::table::Table;
+use rv_words::NoMemory;
 use std::alloc::Global;
+use std::collections::BTreeMap;
 use std::sync::ledger::Ledger;
 use term_arena::{Arena, Steps};
 
@@ -24,15 +26,15 @@ pub fn are_among_or_follow<L: Ledger>(
     alloc: Global,
     arena: &Arena,
     facts: &[HeldFact],
-    others: &[HeldFact],
+    others: &Facts,
     steps: &mut Steps<L>,
 ) -> Result<bool, NoMemory>
     requires facts { AreFactsAt arena.now facts.now }
     requires others { AreFactsAt arena.now others.now }
     ensures { IfOk result (λ r. IsTrue r ↔ AreAmongOrFollow (map (fact_of arena.now) facts.now) (map (fact_of arena.now) others.now)) }
 {
-    let mut known = List::new(alloc);
-    let mut values = List::new(alloc);
+    let mut known = Table::new(alloc);
+    let mut values = BTreeMap::new(alloc);
     for fact in facts {
         let holds = is_among_or_follows(arena, others, &mut known, &mut values, fact, steps)?;
         if !holds {
@@ -45,9 +47,9 @@ pub fn are_among_or_follow<L: Ledger>(
 /// Whether the fact is among the others or follows from them.
 fn is_among_or_follows<L: Ledger>(
     arena: &Arena,
-    others: &[HeldFact],
-    known: &mut List<(u64, u64, bool)>,
-    values: &mut List<(u64, Option<u64>)>,
+    others: &Facts,
+    known: &mut Table,
+    values: &mut BTreeMap<u64, Option<u64>>,
     fact: &HeldFact,
     steps: &mut Steps<L>,
 ) -> Result<bool, NoMemory>
@@ -59,7 +61,7 @@ fn is_among_or_follows<L: Ledger>(
     ensures right { OnOk result (AreRight arena.now (map (fact_of arena.now) others.now) known.new) }
     ensures values { AreConstants arena.now values.new }
 {
-    if is_among(arena, fact, others) {
+    if others.has(arena, fact) {
         return Ok(true);
     }
     let holds = follows(arena, others, known, values, fact, steps)?;
@@ -69,9 +71,9 @@ fn is_among_or_follows<L: Ledger>(
 /// Whether the fact follows from the others.
 fn follows<L: Ledger>(
     arena: &Arena,
-    others: &[HeldFact],
-    known: &mut List<(u64, u64, bool)>,
-    values: &mut List<(u64, Option<u64>)>,
+    others: &Facts,
+    known: &mut Table,
+    values: &mut BTreeMap<u64, Option<u64>>,
     fact: &HeldFact,
     steps: &mut Steps<L>,
 ) -> Result<bool, NoMemory>
@@ -102,9 +104,9 @@ fn follows<L: Ledger>(
 
 fn condition_follows<L: Ledger>(
     arena: &Arena,
-    others: &[HeldFact],
-    known: &mut List<(u64, u64, bool)>,
-    values: &mut List<(u64, Option<u64>)>,
+    others: &Facts,
+    known: &mut Table,
+    values: &mut BTreeMap<u64, Option<u64>>,
     c: u64,
     steps: &mut Steps<L>,
 ) -> Result<bool, NoMemory>
@@ -120,25 +122,27 @@ fn condition_follows<L: Ledger>(
     if always {
         return Ok(true);
     }
-    let like = is_like_some(arena, others, known, c, steps)?;
+    let like = is_like_some(arena, others, others.as_slice(), known, c, steps)?;
     Ok(like)
 }
 
-/// Whether one of the facts says that a condition of the same kind is true.
+/// Whether one of those given says that a condition is true which is alike by the facts.
 fn is_like_some<L: Ledger>(
     arena: &Arena,
-    facts: &[HeldFact],
-    known: &mut List<(u64, u64, bool)>,
+    facts: &Facts,
+    given: &[HeldFact],
+    known: &mut Table,
     c: u64,
     steps: &mut Steps<L>,
 ) -> Result<bool, NoMemory>
     requires facts { AreFactsAt arena.now facts.now }
+    requires given { AreFactsAt arena.now given.now }
     requires right { AreRight arena.now (map (fact_of arena.now) facts.now) known.old }
     requires there { IsCondAt arena.now c }
-    ensures answer { IfOk result (λ r. IsTrue r ↔ ((d : CondTree) × Contains (map (fact_of arena.now) facts.now) (So d) × Alike (map (fact_of arena.now) facts.now) (cond_of arena.now c) d)) }
+    ensures answer { IfOk result (λ r. IsTrue r ↔ ((d : CondTree) × Contains (map (fact_of arena.now) given.now) (So d) × Alike (map (fact_of arena.now) facts.now) (cond_of arena.now c) d)) }
     ensures right { OnOk result (AreRight arena.now (map (fact_of arena.now) facts.now) known.new) }
 {
-    for fact in facts {
+    for fact in given {
         let like = is_like(arena, facts, known, c, fact, steps)?;
         if like {
             return Ok(true);
@@ -149,8 +153,8 @@ fn is_like_some<L: Ledger>(
 
 fn is_like<L: Ledger>(
     arena: &Arena,
-    facts: &[HeldFact],
-    known: &mut List<(u64, u64, bool)>,
+    facts: &Facts,
+    known: &mut Table,
     c: u64,
     fact: &HeldFact,
     steps: &mut Steps<L>,

@@ -1,35 +1,70 @@
 //! Terms put in for variables: the number of the image of a term.
 
-ghost use Rattle.std.specs.Prelude.{◌≡◌, ◌<◌, IfOk, IfSome, Some as Just, length, slice_get, unwrap_or};
-ghost use Rattle.std.specs.List.{Contains};
+ghost use Rattle.std.specs.Prelude.{◌≡◌, ◌<◌, ◌+◌, IfOk, OnOk, Some as Just, length, slice_get, unwrap_or};
+ghost use Rattle.std.specs.Option.{option_flatten};
+ghost use Rattle.std.specs.BTreeMap.{get};
+ghost use Rattle.std.specs.Ordering.{nat_cmp};
 ghost use Rattle.word_terms.specs.Substitution.{listed};
 ghost use Rattle.term_arena.specs.Arena.{Extends};
 ghost use Rattle.held_terms.specs.Image.{IsImage, IsReady, put_for_numbers};
 ghost use Rattle.held_terms.specs.inner.ImageNode.{ImageNode};
+ghost use Rattle.held_terms.specs.inner.Imaging.{AreEnded, HasTerm, Imaged, IsFree};
 
-use rv_words::{List, NoMemory};
+use rv_words::NoMemory;
+use std::collections::BTreeMap;
 use std::sync::ledger::Ledger;
 use term_arena::{Arena, Node, Steps, law_of_arenas};
 
-/// The number of the image of a term. Images that are known are kept in a list.
+/// The number of the image of a term. Each number whose image is asked for is kept, so it is read once, and one node is added
+/// for it.
+#[cycle(images)]
 #[tactic(auto, using(crate::proofs::ImageLemmas::image_stays, crate::proofs::ImageLemmas::get_stays, crate::proofs::ImageLemmas::longer))]
 pub fn image<L: Ledger>(
     arena: &mut Arena,
     words: &[(u32, u64)],
     mems: &[(u32, u64)],
-    known: &mut List<(u64, u64)>,
+    known: &mut BTreeMap<u64, Option<u64>>,
     x: u64,
     steps: &mut Steps<L>,
 ) -> Result<u64, NoMemory>
     requires there { x < length arena.old }
     requires ready { IsReady arena.old words.now mems.now known.old }
+    requires free { IsFree known.old (x + 1) }
     ensures image { IfOk result (λ y. IsImage arena.new (put_for_numbers arena.new words.now mems.now) x y) }
     ensures ready { IsReady arena.new words.now mems.now known.new }
     ensures grows { Extends arena.old arena.new }
+    ensures ended { OnOk result (AreEnded known.old known.new) }
+    ensures imaged { Imaged arena.old arena.new (HasTerm arena.old x) known.old known.new steps.old steps.new }
 {
-    if let Some(y) = image_in(known.as_slice(), x) {
+    if let Some(y) = image_in(known, x) {
         return Ok(y);
     }
+    known.insert(x, None)?;
+    let y = image_over(arena, words, mems, known, x, steps)?;
+    known.insert(x, Some(y))?;
+    Ok(y)
+}
+
+/// The number of the image of a term, which isn't known.
+#[cycle(images)]
+#[tactic(auto, using(crate::proofs::ImageLemmas::image_stays, crate::proofs::ImageLemmas::get_stays, crate::proofs::ImageLemmas::longer, crate::proofs::ImagingLemmas::free_less, crate::proofs::ImagingLemmas::free_next, crate::proofs::ImagingLemmas::free_after, crate::proofs::ImagingLemmas::ended_none, crate::proofs::ImagingLemmas::ended_both))]
+fn image_over<L: Ledger>(
+    arena: &mut Arena,
+    words: &[(u32, u64)],
+    mems: &[(u32, u64)],
+    known: &mut BTreeMap<u64, Option<u64>>,
+    x: u64,
+    steps: &mut Steps<L>,
+) -> Result<u64, NoMemory>
+    requires there { x < length arena.old }
+    requires ready { IsReady arena.old words.now mems.now known.old }
+    requires free { IsFree known.old x }
+    ensures image { IfOk result (λ y. IsImage arena.new (put_for_numbers arena.new words.now mems.now) x y) }
+    ensures ready { IsReady arena.new words.now mems.now known.new }
+    ensures grows { Extends arena.old arena.new }
+    ensures ended { OnOk result (AreEnded known.old known.new) }
+    ensures imaged { Imaged arena.old arena.new (HasTerm arena.old x) known.old known.new (steps.old + 2) steps.new }
+{
     let n = arena.node(x, steps);
     match n {
         Node::Const(_) => Ok(x),
@@ -108,12 +143,12 @@ pub fn image<L: Ledger>(
     }
 }
 
-/// Adds the image of a node, whose children were made, and keeps that it is known.
+/// Adds the image of a node, whose children's images were made.
 fn made<L: Ledger>(
     arena: &mut Arena,
     words: &[(u32, u64)],
     mems: &[(u32, u64)],
-    known: &mut List<(u64, u64)>,
+    known: &BTreeMap<u64, Option<u64>>,
     x: u64,
     n: Node,
     m: Node,
@@ -121,28 +156,26 @@ fn made<L: Ledger>(
 ) -> Result<u64, NoMemory>
     requires at { slice_get arena.old x ≡ Just n }
     requires node { ImageNode arena.old (put_for_numbers arena.old words.now mems.now) n m }
-    requires ready { IsReady arena.old words.now mems.now known.old }
+    requires ready { IsReady arena.old words.now mems.now known.now }
     ensures image { IfOk result (λ y. IsImage arena.new (put_for_numbers arena.new words.now mems.now) x y) }
-    ensures ready { IsReady arena.new words.now mems.now known.new }
+    ensures ready { IsReady arena.new words.now mems.now known.now }
     ensures grows { Extends arena.old arena.new }
+    ensures steps { steps.new ≡ steps.old + 1 }
 {
     law_of_arenas();
     arena.law_of_nodes();
     let y = arena.add(m, steps)?;
-    known.push((x, y))?;
     Ok(y)
 }
 
 /// The image of a number, if it is known.
-fn image_in(known: &[(u64, u64)], x: u64) -> Option<u64>
-    ensures { IfSome result (λ y. Contains known.now (x, y)) }
+fn image_in(known: &BTreeMap<u64, Option<u64>>, x: u64) -> Option<u64>
+    ensures { result ≡ option_flatten (get nat_cmp known.now x) }
 {
-    for pair in known {
-        if pair.0 == x {
-            return Some(pair.1);
-        }
+    match known.get(&x) {
+        Some(y) => *y,
+        None => None,
     }
-    None
 }
 
 /// The number that is listed for a variable, or that of the variable.

@@ -1,23 +1,27 @@
 //! Terms put in for the variables of a whole triple.
-#![tactic(auto, using(crate::proofs::ImageLemmas::image_stays, crate::proofs::ImageLemmas::longer, crate::proofs::InstanceLemmas::extends_next))]
+#![tactic(auto, using(crate::proofs::ImageLemmas::image_stays, crate::proofs::ImageLemmas::longer, crate::proofs::InstanceLemmas::extends_next, crate::proofs::ImagingLemmas::free_all, crate::proofs::ImagingLemmas::made_still))]
 
-ghost use Rattle.std.specs.Prelude.{IfOk};
+ghost use Rattle.std.specs.Prelude.{◌≤◌, ◌+◌, ◌*◌, IfOk, List as Items, OnOk, length};
 ghost use Rattle.std.specs.List.{AllZip};
-ghost use Rattle.term_arena.specs.Arena.{Extends};
+ghost use Rattle.term_arena.specs.Arena.{Extends, Tree};
 ghost use Rattle.triple_kernel.specs.Rules.{IsInst};
 ghost use Rattle.held_terms.specs.Held.{AreFactsAt, AreRegistersAt, AreValuesAt, IsFactAt, IsHeldAt, IsSideAt, triple_of};
 ghost use Rattle.held_terms.specs.Image.{IsReady, IsSubAt, put_for_numbers};
+ghost use Rattle.held_terms.specs.Subterms.{HasFact, HasFacts, HasHeld, HasRegisters, HasSide, HasTerms, HasValues};
+ghost use Rattle.held_terms.specs.inner.Imaging.{AreMade, Imaged};
 ghost use Rattle.held_terms.specs.inner.Instances.{AreImagesOf, AreWithin, IsFactImage, IsRegisterImage, IsSideImage, IsValuesImage};
 
 use crate::held::{Held, HeldFact, HeldSide, HeldValues};
 use crate::images::image;
 use rv_words::{List, NoMemory};
 use std::alloc::Global;
+use std::collections::BTreeMap;
 use std::sync::ledger::Ledger;
 use term_arena::{Arena, Steps};
 use word_terms::copy_code;
 
-/// The triple with all listed variables replaced at once, but for its code.
+/// The triple with all listed variables replaced at once, but for its code. Each different term of the triple takes two steps at
+/// most.
 pub fn instance<L: Ledger>(
     alloc: Global,
     arena: &mut Arena,
@@ -31,19 +35,34 @@ pub fn instance<L: Ledger>(
     ensures there { IfOk result (λ q. IsHeldAt arena.new q) }
     ensures instance { IfOk result (λ q. IsInst (put_for_numbers arena.old words.now mems.now) (triple_of arena.old p.now) (triple_of arena.new q)) }
     ensures grows { Extends arena.old arena.new }
+    ensures steps { (ts : Items Tree) → HasHeld arena.old p.now ts → steps.new ≤ steps.old + 2 * length ts }
 {
-    let mut known = List::new(alloc);
-    let facts = fact_images(
-        alloc,
-        arena,
-        words,
-        mems,
-        &mut known,
-        p.facts.as_slice(),
-        steps,
-    )?;
-    let pre = side_image(alloc, arena, words, mems, &mut known, &p.pre, steps)?;
-    let post = side_image(alloc, arena, words, mems, &mut known, &p.post, steps)?;
+    let mut known = BTreeMap::new(alloc);
+    let q = held_image(alloc, arena, words, mems, &mut known, p, steps);
+    arena.law_of_nodes();
+    q
+}
+
+fn held_image<L: Ledger>(
+    alloc: Global,
+    arena: &mut Arena,
+    words: &[(u32, u64)],
+    mems: &[(u32, u64)],
+    known: &mut BTreeMap<u64, Option<u64>>,
+    p: &Held,
+    steps: &mut Steps<L>,
+) -> Result<Held, NoMemory>
+    requires p { IsHeldAt arena.old p.now }
+    requires ready { IsReady arena.old words.now mems.now known.old }
+    requires made { AreMade known.old }
+    ensures there { IfOk result (λ q. IsHeldAt arena.new q) }
+    ensures instance { IfOk result (λ q. IsInst (put_for_numbers arena.old words.now mems.now) (triple_of arena.old p.now) (triple_of arena.new q)) }
+    ensures grows { Extends arena.old arena.new }
+    ensures imaged { Imaged arena.old arena.new (HasHeld arena.old p.now) known.old known.new steps.old steps.new }
+{
+    let facts = fact_images(alloc, arena, words, mems, known, p.facts.as_slice(), steps)?;
+    let pre = side_image(alloc, arena, words, mems, known, &p.pre, steps)?;
+    let post = side_image(alloc, arena, words, mems, known, &p.post, steps)?;
     let code = copy_code(alloc, &p.code)?;
     Ok(Held {
         facts,
@@ -59,15 +78,18 @@ fn images<L: Ledger>(
     arena: &mut Arena,
     words: &[(u32, u64)],
     mems: &[(u32, u64)],
-    known: &mut List<(u64, u64)>,
+    known: &mut BTreeMap<u64, Option<u64>>,
     xs: &[u64],
     steps: &mut Steps<L>,
 ) -> Result<List<u64>, NoMemory>
     requires within { AreWithin arena.old xs.now }
     requires ready { IsReady arena.old words.now mems.now known.old }
+    requires made { AreMade known.old }
     ensures images { IfOk result (λ ys. AreImagesOf arena.new (put_for_numbers arena.new words.now mems.now) xs.now ys) }
     ensures ready { IsReady arena.new words.now mems.now known.new }
     ensures grows { Extends arena.old arena.new }
+    ensures made { OnOk result (AreMade known.new) }
+    ensures imaged { Imaged arena.old arena.new (HasTerms arena.old xs.now) known.old known.new steps.old steps.new }
 {
     let mut ys = List::new(alloc);
     for i in 0..xs.len() {
@@ -83,15 +105,18 @@ fn register_images<L: Ledger>(
     arena: &mut Arena,
     words: &[(u32, u64)],
     mems: &[(u32, u64)],
-    known: &mut List<(u64, u64)>,
+    known: &mut BTreeMap<u64, Option<u64>>,
     registers: &[(u8, u64)],
     steps: &mut Steps<L>,
 ) -> Result<List<(u8, u64)>, NoMemory>
     requires registers { AreRegistersAt arena.old registers.now }
     requires ready { IsReady arena.old words.now mems.now known.old }
+    requires made { AreMade known.old }
     ensures images { IfOk result (λ qs. AllZip (IsRegisterImage arena.new (put_for_numbers arena.new words.now mems.now)) registers.now qs) }
     ensures ready { IsReady arena.new words.now mems.now known.new }
     ensures grows { Extends arena.old arena.new }
+    ensures made { OnOk result (AreMade known.new) }
+    ensures imaged { Imaged arena.old arena.new (HasRegisters arena.old registers.now) known.old known.new steps.old steps.new }
 {
     let mut images = List::new(alloc);
     for i in 0..registers.len() {
@@ -106,15 +131,18 @@ fn values_image<L: Ledger>(
     arena: &mut Arena,
     words: &[(u32, u64)],
     mems: &[(u32, u64)],
-    known: &mut List<(u64, u64)>,
+    known: &mut BTreeMap<u64, Option<u64>>,
     values: &HeldValues,
     steps: &mut Steps<L>,
 ) -> Result<HeldValues, NoMemory>
     requires values { AreValuesAt arena.old values.now }
     requires ready { IsReady arena.old words.now mems.now known.old }
+    requires made { AreMade known.old }
     ensures image { IfOk result (λ w. IsValuesImage arena.new (put_for_numbers arena.new words.now mems.now) values.now w) }
     ensures ready { IsReady arena.new words.now mems.now known.new }
     ensures grows { Extends arena.old arena.new }
+    ensures made { OnOk result (AreMade known.new) }
+    ensures imaged { Imaged arena.old arena.new (HasValues arena.old values.now) known.old known.new steps.old steps.new }
 {
     let first = images(
         alloc,
@@ -145,15 +173,18 @@ fn fact_image<L: Ledger>(
     arena: &mut Arena,
     words: &[(u32, u64)],
     mems: &[(u32, u64)],
-    known: &mut List<(u64, u64)>,
+    known: &mut BTreeMap<u64, Option<u64>>,
     fact: &HeldFact,
     steps: &mut Steps<L>,
 ) -> Result<HeldFact, NoMemory>
     requires fact { IsFactAt arena.old fact.now }
     requires ready { IsReady arena.old words.now mems.now known.old }
+    requires made { AreMade known.old }
     ensures image { IfOk result (λ f. IsFactImage arena.new (put_for_numbers arena.new words.now mems.now) fact.now f) }
     ensures ready { IsReady arena.new words.now mems.now known.new }
     ensures grows { Extends arena.old arena.new }
+    ensures made { OnOk result (AreMade known.new) }
+    ensures imaged { Imaged arena.old arena.new (HasFact arena.old fact.now) known.old known.new steps.old steps.new }
 {
     match fact {
         HeldFact::WordIs(a, b) => {
@@ -193,15 +224,18 @@ fn fact_images<L: Ledger>(
     arena: &mut Arena,
     words: &[(u32, u64)],
     mems: &[(u32, u64)],
-    known: &mut List<(u64, u64)>,
+    known: &mut BTreeMap<u64, Option<u64>>,
     facts: &[HeldFact],
     steps: &mut Steps<L>,
 ) -> Result<List<HeldFact>, NoMemory>
     requires facts { AreFactsAt arena.old facts.now }
     requires ready { IsReady arena.old words.now mems.now known.old }
+    requires made { AreMade known.old }
     ensures images { IfOk result (λ gs. AllZip (IsFactImage arena.new (put_for_numbers arena.new words.now mems.now)) facts.now gs) }
     ensures ready { IsReady arena.new words.now mems.now known.new }
     ensures grows { Extends arena.old arena.new }
+    ensures made { OnOk result (AreMade known.new) }
+    ensures imaged { Imaged arena.old arena.new (HasFacts arena.old facts.now) known.old known.new steps.old steps.new }
 {
     let mut images = List::new(alloc);
     for fact in facts {
@@ -216,15 +250,18 @@ fn side_image<L: Ledger>(
     arena: &mut Arena,
     words: &[(u32, u64)],
     mems: &[(u32, u64)],
-    known: &mut List<(u64, u64)>,
+    known: &mut BTreeMap<u64, Option<u64>>,
     side: &HeldSide,
     steps: &mut Steps<L>,
 ) -> Result<HeldSide, NoMemory>
     requires side { IsSideAt arena.old side.now }
     requires ready { IsReady arena.old words.now mems.now known.old }
+    requires made { AreMade known.old }
     ensures image { IfOk result (λ b. IsSideImage arena.new (put_for_numbers arena.new words.now mems.now) side.now b) }
     ensures ready { IsReady arena.new words.now mems.now known.new }
     ensures grows { Extends arena.old arena.new }
+    ensures made { OnOk result (AreMade known.new) }
+    ensures imaged { Imaged arena.old arena.new (HasSide arena.old side.now) known.old known.new steps.old steps.new }
 {
     let pc = image(arena, words, mems, known, side.pc, steps)?;
     let regs = register_images(

@@ -7,11 +7,13 @@
 //! [`instance`], which makes the triple in place of comparing it.
 //!
 //! Two terms may be swapped where facts say that they are equal: the pairs that were decided stand in a table
-//! (`table`), so that each pair of subterms is decided once, and shared subterms don't cost their paths.
+//! (`table`), so that each pair of subterms is decided once, and shared subterms don't cost their paths. A pair is looked up
+//! by order, and so is a fact among more than a few ([`Facts`]).
 #![tactic(auto)]
 
 mod conditions;
 mod exits;
+mod facts;
 mod following;
 mod further;
 mod held;
@@ -25,10 +27,11 @@ mod swaps;
 mod table;
 
 pub use exits::{is_entry, is_exit};
+pub use facts::Facts;
 pub use held::{Held, HeldFact, HeldSide, HeldValues};
 pub use instances::instance;
 pub use rules::{
     is_composition, is_discharged, is_extension, is_frame, is_instance, is_strengthened,
     is_weakened,
 };
-pub use same::{are_among, same_side};
+pub use same::same_side;

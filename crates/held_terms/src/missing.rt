@@ -4,13 +4,16 @@ ghost use Rattle.std.specs.Prelude.{◌≡◌, ◌↔◌, ◌++◌, ◌<◌, IsT
 ghost use Rattle.frame_compose.specs.Rules.{AreMissing, rest_after};
 ghost use Rattle.held_terms.specs.Held.{AreFactsAt, IsFactAt, fact_of};
 
+use crate::facts::Facts;
 use crate::held::HeldFact;
-use crate::same::{is_among, same_fact, same_facts};
+use crate::same::{same_fact, same_facts};
 use frame_compose::{prefix, rest_after};
+use std::alloc::Global;
 use term_arena::Arena;
 
 /// Whether all facts are the first ones and then those of the second that aren't among them, in order.
 pub fn are_facts_of_both(
+    alloc: Global,
     arena: &Arena,
     first: &[HeldFact],
     second: &[HeldFact],
@@ -21,8 +24,11 @@ pub fn are_facts_of_both(
     requires all { AreFactsAt arena.now all.now }
     ensures { IsTrue result ↔ ((map (fact_of arena.now) first.now ++ rest_after (map (fact_of arena.now) first.now) (map (fact_of arena.now) all.now) ≡ map (fact_of arena.now) all.now) × AreMissing (map (fact_of arena.now) first.now) (map (fact_of arena.now) second.now) (rest_after (map (fact_of arena.now) first.now) (map (fact_of arena.now) all.now))) }
 {
-    begins_with(arena, all, first)
-        && are_missing(arena, first, second, rest_after(all, first.len()))
+    if !begins_with(arena, all, first) {
+        return false;
+    }
+    let known = Facts::new(alloc, first, second.len());
+    are_missing(arena, &known, second, rest_after(all, first.len()))
 }
 
 /// Whether the first facts of all are those.
@@ -35,7 +41,7 @@ fn begins_with(arena: &Arena, all: &[HeldFact], first: &[HeldFact]) -> bool
 }
 
 /// Whether the last facts are the second ones without those among the first, in order.
-fn are_missing(arena: &Arena, known: &[HeldFact], facts: &[HeldFact], more: &[HeldFact]) -> bool
+fn are_missing(arena: &Arena, known: &Facts, facts: &[HeldFact], more: &[HeldFact]) -> bool
     requires known { AreFactsAt arena.now known.now }
     requires facts { AreFactsAt arena.now facts.now }
     requires more { AreFactsAt arena.now more.now }
@@ -43,7 +49,7 @@ fn are_missing(arena: &Arena, known: &[HeldFact], facts: &[HeldFact], more: &[He
 {
     let mut place = 0;
     for fact in facts {
-        if is_among(arena, fact, known) {
+        if known.has(arena, fact) {
             continue;
         }
         if !is_at(arena, more, place, fact) {

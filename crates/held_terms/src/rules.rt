@@ -5,15 +5,16 @@ ghost use Rattle.frame_compose.specs.Rules.{IsComposed, IsExtended, IsFramed};
 ghost use Rattle.triple_kernel.specs.Rules.{AreAmong, IsDischarged, IsInst, IsStrengthened, IsWeakened};
 ghost use Rattle.held_terms.specs.Held.{IsHeldAt, fact_of, side_of, triple_of};
 ghost use Rattle.held_terms.specs.Image.{IsSubAt, put_for_numbers};
-ghost use Rattle.held_terms.specs.Subterms.{HasSides};
+ghost use Rattle.held_terms.specs.Subterms.{HasHeld, HasSides};
 ghost use Rattle.term_arena.specs.Arena.{Extends, Tree};
 
+use crate::facts::Facts;
 use crate::following::are_among_or_follow;
 use crate::further::{are_listed, same_further, same_further_mems};
 use crate::held::Held;
 use crate::instances::instance;
 use crate::missing::are_facts_of_both;
-use crate::same::{are_among, same_facts, same_side, same_triple, same_word};
+use crate::same::{same_facts, same_side, same_triple, same_word};
 use crate::sides::are_swapped;
 use frame_compose::is_union;
 use rv_words::NoMemory;
@@ -63,7 +64,7 @@ pub fn is_extension(arena: &Arena, p: &Held, stated: &Held) -> bool
 }
 
 /// One theorem after another, which begins where it ends.
-pub fn is_composition(arena: &Arena, p: &Held, q: &Held, stated: &Held) -> bool
+pub fn is_composition(alloc: Global, arena: &Arena, p: &Held, q: &Held, stated: &Held) -> bool
     requires p { IsHeldAt arena.now p.now }
     requires q { IsHeldAt arena.now q.now }
     requires stated { IsHeldAt arena.now stated.now }
@@ -74,6 +75,7 @@ pub fn is_composition(arena: &Arena, p: &Held, q: &Held, stated: &Held) -> bool
         && same_side(arena, &p.pre, &stated.pre)
         && same_side(arena, &q.post, &stated.post)
         && are_facts_of_both(
+            alloc,
             arena,
             p.facts.as_slice(),
             q.facts.as_slice(),
@@ -81,7 +83,8 @@ pub fn is_composition(arena: &Arena, p: &Held, q: &Held, stated: &Held) -> bool
         )
 }
 
-/// Terms for the variables of a theorem, all put in at once. Its code stays.
+/// Terms for the variables of a theorem, all put in at once. Its code stays. Each different term of the theorem takes two steps at
+/// most.
 pub fn is_instance<L: Ledger>(
     alloc: Global,
     arena: &mut Arena,
@@ -96,6 +99,7 @@ pub fn is_instance<L: Ledger>(
     requires stated { IsHeldAt arena.old stated.now }
     ensures answer { IfOk result (λ r. IsTrue r ↔ IsInst (put_for_numbers arena.old words.now mems.now) (triple_of arena.old p.now) (triple_of arena.old stated.now)) }
     ensures grows { Extends arena.old arena.new }
+    ensures steps { (ts : Items Tree) → HasHeld arena.old p.now ts → steps.new ≤ steps.old + 2 * length ts }
 {
     let put_in = instance(alloc, arena, p, words, mems, steps)?;
     Ok(same_triple(arena, &put_in, stated))
@@ -114,17 +118,11 @@ pub fn is_strengthened<L: Ledger>(
     ensures answer { IfOk result (λ r. IsTrue r ↔ IsStrengthened (triple_of arena.now p.now) (triple_of arena.now stated.now)) }
     ensures steps { (ts : Items Tree) → HasSides arena.now p.now.pre stated.now.pre ts → steps.new ≤ steps.old + 2 * (length ts * length ts) }
 {
-    if !keeps_after(arena, p, stated) {
+    let facts = Facts::new(alloc, stated.facts.as_slice(), stated.facts.len());
+    if !keeps_after(arena, p, stated, &facts) {
         return Ok(false);
     }
-    let same = are_swapped(
-        alloc,
-        arena,
-        stated.facts.as_slice(),
-        &p.pre,
-        &stated.pre,
-        steps,
-    )?;
+    let same = are_swapped(alloc, arena, &facts, &p.pre, &stated.pre, steps)?;
     Ok(same)
 }
 
@@ -141,17 +139,11 @@ pub fn is_weakened<L: Ledger>(
     ensures answer { IfOk result (λ r. IsTrue r ↔ IsWeakened (triple_of arena.now p.now) (triple_of arena.now stated.now)) }
     ensures steps { (ts : Items Tree) → HasSides arena.now p.now.post stated.now.post ts → steps.new ≤ steps.old + 2 * (length ts * length ts) }
 {
-    if !keeps_before(arena, p, stated) {
+    let facts = Facts::new(alloc, stated.facts.as_slice(), stated.facts.len());
+    if !keeps_before(arena, p, stated, &facts) {
         return Ok(false);
     }
-    let same = are_swapped(
-        alloc,
-        arena,
-        stated.facts.as_slice(),
-        &p.post,
-        &stated.post,
-        steps,
-    )?;
+    let same = are_swapped(alloc, arena, &facts, &p.post, &stated.post, steps)?;
     Ok(same)
 }
 
@@ -170,13 +162,8 @@ pub fn is_discharged<L: Ledger>(
     if !keeps_all_but_facts(arena, p, stated) {
         return Ok(false);
     }
-    let follow = are_among_or_follow(
-        alloc,
-        arena,
-        p.facts.as_slice(),
-        stated.facts.as_slice(),
-        steps,
-    )?;
+    let facts = Facts::new(alloc, stated.facts.as_slice(), stated.facts.len());
+    let follow = are_among_or_follow(alloc, arena, p.facts.as_slice(), &facts, steps)?;
     Ok(follow)
 }
 
@@ -192,23 +179,25 @@ fn keeps_all_but_facts(arena: &Arena, p: &Held, stated: &Held) -> bool
 }
 
 /// The same code and postcondition, and at least the same facts.
-fn keeps_after(arena: &Arena, p: &Held, stated: &Held) -> bool
+fn keeps_after(arena: &Arena, p: &Held, stated: &Held, facts: &Facts) -> bool
     requires p { IsHeldAt arena.now p.now }
     requires stated { IsHeldAt arena.now stated.now }
+    requires facts { facts.now ≡ stated.now.facts }
     ensures { IsTrue result ↔ ((p.now.code.ranges ≡ stated.now.code.ranges) × (side_of arena.now p.now.post ≡ side_of arena.now stated.now.post) × AreAmong (map (fact_of arena.now) p.now.facts) (map (fact_of arena.now) stated.now.facts)) }
 {
     same_code(&p.code, &stated.code)
         && same_side(arena, &p.post, &stated.post)
-        && are_among(arena, p.facts.as_slice(), stated.facts.as_slice())
+        && facts.has_all(arena, p.facts.as_slice())
 }
 
 /// The same code and precondition, and at least the same facts.
-fn keeps_before(arena: &Arena, p: &Held, stated: &Held) -> bool
+fn keeps_before(arena: &Arena, p: &Held, stated: &Held, facts: &Facts) -> bool
     requires p { IsHeldAt arena.now p.now }
     requires stated { IsHeldAt arena.now stated.now }
+    requires facts { facts.now ≡ stated.now.facts }
     ensures { IsTrue result ↔ ((p.now.code.ranges ≡ stated.now.code.ranges) × (side_of arena.now p.now.pre ≡ side_of arena.now stated.now.pre) × AreAmong (map (fact_of arena.now) p.now.facts) (map (fact_of arena.now) stated.now.facts)) }
 {
     same_code(&p.code, &stated.code)
         && same_side(arena, &p.pre, &stated.pre)
-        && are_among(arena, p.facts.as_slice(), stated.facts.as_slice())
+        && facts.has_all(arena, p.facts.as_slice())
 }

@@ -3,7 +3,6 @@
 ghost use Rattle.std.specs.Prelude.{◌≡◌, ◌↔◌, IsTrue, map};
 ghost use Rattle.std.specs.List.{Contains};
 ghost use Rattle.term_arena.specs.Arena.{IsCondAt, IsMemAt, IsWordAt, cond_of, mem_of, word_of};
-ghost use Rattle.triple_kernel.specs.Rules.{AreAmong};
 ghost use Rattle.held_terms.specs.Held.{AreFactsAt, AreMemsAt, AreRegistersAt, AreValuesAt, AreWordsAt, IsFactAt, IsHeldAt, IsSideAt, fact_of, register_of, side_of, triple_of, values_over};
 
 use crate::held::{Held, HeldFact, HeldSide, HeldValues};
@@ -178,20 +177,6 @@ pub fn same_facts(arena: &Arena, a: &[HeldFact], b: &[HeldFact]) -> bool
     }
     for i in 0..a.len() {
         if !same_fact(arena, &a[i], &b[i]) {
-            return false;
-        }
-    }
-    true
-}
-
-/// Whether each of the facts is among the others.
-pub fn are_among(arena: &Arena, facts: &[HeldFact], others: &[HeldFact]) -> bool
-    requires facts { AreFactsAt arena.now facts.now }
-    requires others { AreFactsAt arena.now others.now }
-    ensures { IsTrue result ↔ AreAmong (map (fact_of arena.now) facts.now) (map (fact_of arena.now) others.now) }
-{
-    for fact in facts {
-        if !is_among(arena, fact, others) {
             return false;
         }
     }

@@ -9,9 +9,11 @@ ghost use Rattle.held_terms.specs.Subterms.{HasSides};
 ghost use Rattle.held_terms.specs.inner.Table.{HasBoth, Went};
 ghost use Rattle.held_terms.specs.inner.SideTables.{AreRight, HasBothMems, HasBothRegisters};
 
-use crate::held::{HeldFact, HeldSide};
+use crate::facts::Facts;
+use crate::held::HeldSide;
 use crate::swaps::{swap_mem, swap_word};
-use rv_words::{List, NoMemory};
+use crate::table::Table;
+use rv_words::NoMemory;
 use std::alloc::Global;
 use std::sync::ledger::Ledger;
 use term_arena::{Arena, Steps};
@@ -19,8 +21,8 @@ use term_arena::{Arena, Steps};
 /// Whether two assertions are the same but for terms that may be swapped.
 pub(crate) fn swap_side<L: Ledger>(
     arena: &Arena,
-    facts: &[HeldFact],
-    known: &mut List<(u64, u64, bool)>,
+    facts: &Facts,
+    known: &mut Table,
     a: &HeldSide,
     b: &HeldSide,
     steps: &mut Steps<L>,
@@ -62,8 +64,8 @@ pub(crate) fn swap_side<L: Ledger>(
 #[tactic(auto, using(crate::proofs::SideLemmas::right_known))]
 pub(crate) fn swap_words<L: Ledger>(
     arena: &Arena,
-    facts: &[HeldFact],
-    known: &mut List<(u64, u64, bool)>,
+    facts: &Facts,
+    known: &mut Table,
     a: u64,
     b: u64,
     steps: &mut Steps<L>,
@@ -84,8 +86,8 @@ pub(crate) fn swap_words<L: Ledger>(
 #[tactic(auto, using(crate::proofs::SideLemmas::right_known))]
 pub(crate) fn swap_memories<L: Ledger>(
     arena: &Arena,
-    facts: &[HeldFact],
-    known: &mut List<(u64, u64, bool)>,
+    facts: &Facts,
+    known: &mut Table,
     a: u64,
     b: u64,
     steps: &mut Steps<L>,
@@ -105,8 +107,8 @@ pub(crate) fn swap_memories<L: Ledger>(
 #[tactic(auto, using(crate::proofs::TableLemmas::went_none))]
 fn swap_registers<L: Ledger>(
     arena: &Arena,
-    facts: &[HeldFact],
-    known: &mut List<(u64, u64, bool)>,
+    facts: &Facts,
+    known: &mut Table,
     a: &[(u8, u64)],
     b: &[(u8, u64)],
     steps: &mut Steps<L>,
@@ -133,8 +135,8 @@ fn swap_registers<L: Ledger>(
 
 fn swap_register<L: Ledger>(
     arena: &Arena,
-    facts: &[HeldFact],
-    known: &mut List<(u64, u64, bool)>,
+    facts: &Facts,
+    known: &mut Table,
     a: (u8, u64),
     b: (u8, u64),
     steps: &mut Steps<L>,
@@ -157,8 +159,8 @@ fn swap_register<L: Ledger>(
 #[tactic(auto, using(crate::proofs::TableLemmas::went_none))]
 fn swap_mems<L: Ledger>(
     arena: &Arena,
-    facts: &[HeldFact],
-    known: &mut List<(u64, u64, bool)>,
+    facts: &Facts,
+    known: &mut Table,
     a: &[u64],
     b: &[u64],
     steps: &mut Steps<L>,
@@ -188,7 +190,7 @@ fn swap_mems<L: Ledger>(
 pub fn are_swapped<L: Ledger>(
     alloc: Global,
     arena: &Arena,
-    facts: &[HeldFact],
+    facts: &Facts,
     a: &HeldSide,
     b: &HeldSide,
     steps: &mut Steps<L>,
@@ -200,7 +202,7 @@ pub fn are_swapped<L: Ledger>(
     ensures steps { (ts : Items Tree) → HasSides arena.now a.now b.now ts → steps.new ≤ steps.old + 2 * (length ts * length ts) }
 {
     arena.law_of_nodes();
-    let mut known = List::new(alloc);
+    let mut known = Table::new(alloc);
     let v = swap_side(arena, facts, &mut known, a, b, steps)?;
     Ok(v)
 }

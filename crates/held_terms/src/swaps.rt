@@ -9,10 +9,10 @@ ghost use Rattle.held_terms.specs.Held.{AreFactsAt, IsFactAt, fact_of};
 ghost use Rattle.held_terms.specs.inner.Table.{AreDecided, HasBoth, IsKnown, Went};
 ghost use Rattle.held_terms.specs.inner.Pairs.{MemPairsAre, MemPairsFit, MemPairsSwap, WordPairsAre, WordPairsFit, WordPairsSwap, MemPairsUnder, WordPairsUnder};
 
-use crate::held::HeldFact;
+use crate::facts::Facts;
 use crate::same::{same_mem, same_word};
-use crate::table::answer_in;
-use rv_words::{List, NoMemory};
+use crate::table::Table;
+use rv_words::NoMemory;
 use std::sync::ledger::Ledger;
 use term_arena::{Arena, Node, Steps};
 
@@ -122,8 +122,8 @@ fn mem_pairs<L: Ledger>(arena: &Arena, a: u64, b: u64, steps: &mut Steps<L>) -> 
 #[tactic(auto, using(triple_kernel::proofs::StatedLemmas::stated_words_swap, triple_kernel::proofs::StatedLemmas::stated_mems_swap, crate::proofs::TableLemmas::known_child, crate::proofs::TableLemmas::known_next, crate::proofs::TableLemmas::known_after, crate::proofs::TableLemmas::known_pushed))]
 pub fn swap_word<L: Ledger>(
     arena: &Arena,
-    facts: &[HeldFact],
-    known: &mut List<(u64, u64, bool)>,
+    facts: &Facts,
+    known: &mut Table,
     a: u64,
     b: u64,
     steps: &mut Steps<L>,
@@ -139,7 +139,7 @@ pub fn swap_word<L: Ledger>(
     if are_words_stated(arena, facts, a, b) {
         return Ok(true);
     }
-    if let Some(v) = answer_in(known.as_slice(), a, b) {
+    if let Some(v) = known.answer(a, b) {
         return Ok(v);
     }
     let at = known.len();
@@ -154,8 +154,8 @@ pub fn swap_word<L: Ledger>(
 #[tactic(auto, using(triple_kernel::proofs::StatedLemmas::stated_words_swap, triple_kernel::proofs::StatedLemmas::stated_mems_swap, crate::proofs::TableLemmas::known_child, crate::proofs::TableLemmas::known_next, crate::proofs::TableLemmas::known_after, crate::proofs::TableLemmas::known_pushed))]
 fn swap_below_words<L: Ledger>(
     arena: &Arena,
-    facts: &[HeldFact],
-    known: &mut List<(u64, u64, bool)>,
+    facts: &Facts,
+    known: &mut Table,
     a: u64,
     b: u64,
     steps: &mut Steps<L>,
@@ -199,8 +199,8 @@ fn swap_below_words<L: Ledger>(
 #[tactic(auto, using(triple_kernel::proofs::StatedLemmas::stated_words_swap, triple_kernel::proofs::StatedLemmas::stated_mems_swap, crate::proofs::TableLemmas::known_child, crate::proofs::TableLemmas::known_next, crate::proofs::TableLemmas::known_after, crate::proofs::TableLemmas::known_pushed))]
 pub fn swap_mem<L: Ledger>(
     arena: &Arena,
-    facts: &[HeldFact],
-    known: &mut List<(u64, u64, bool)>,
+    facts: &Facts,
+    known: &mut Table,
     a: u64,
     b: u64,
     steps: &mut Steps<L>,
@@ -216,7 +216,7 @@ pub fn swap_mem<L: Ledger>(
     if are_mems_stated(arena, facts, a, b) {
         return Ok(true);
     }
-    if let Some(v) = answer_in(known.as_slice(), a, b) {
+    if let Some(v) = known.answer(a, b) {
         return Ok(v);
     }
     let at = known.len();
@@ -231,8 +231,8 @@ pub fn swap_mem<L: Ledger>(
 #[tactic(auto, using(triple_kernel::proofs::StatedLemmas::stated_words_swap, triple_kernel::proofs::StatedLemmas::stated_mems_swap, crate::proofs::TableLemmas::known_child, crate::proofs::TableLemmas::known_next, crate::proofs::TableLemmas::known_after, crate::proofs::TableLemmas::known_pushed))]
 fn swap_below_mems<L: Ledger>(
     arena: &Arena,
-    facts: &[HeldFact],
-    known: &mut List<(u64, u64, bool)>,
+    facts: &Facts,
+    known: &mut Table,
     a: u64,
     b: u64,
     steps: &mut Steps<L>,
@@ -262,76 +262,20 @@ fn swap_below_mems<L: Ledger>(
     }
 }
 
-fn are_words_stated(arena: &Arena, facts: &[HeldFact], a: u64, b: u64) -> bool
+fn are_words_stated(arena: &Arena, facts: &Facts, a: u64, b: u64) -> bool
     requires facts { AreFactsAt arena.now facts.now }
     requires a { IsWordAt arena.now a }
     requires b { IsWordAt arena.now b }
     ensures { IsTrue result ↔ WordsStated (map (fact_of arena.now) facts.now) (word_of arena.now a) (word_of arena.now b) }
 {
-    same_word(arena, a, b)
-        || is_word_stated(arena, facts, a, b)
-        || is_word_stated(arena, facts, b, a)
+    same_word(arena, a, b) || facts.has_words(arena, a, b) || facts.has_words(arena, b, a)
 }
 
-fn are_mems_stated(arena: &Arena, facts: &[HeldFact], a: u64, b: u64) -> bool
+fn are_mems_stated(arena: &Arena, facts: &Facts, a: u64, b: u64) -> bool
     requires facts { AreFactsAt arena.now facts.now }
     requires a { IsMemAt arena.now a }
     requires b { IsMemAt arena.now b }
     ensures { IsTrue result ↔ MemsStated (map (fact_of arena.now) facts.now) (mem_of arena.now a) (mem_of arena.now b) }
 {
-    same_mem(arena, a, b) || is_mem_stated(arena, facts, a, b) || is_mem_stated(arena, facts, b, a)
-}
-
-#[tactic(auto, using(triple_kernel::proofs::Among::is_among, triple_kernel::proofs::Among::not_among_more))]
-fn is_word_stated(arena: &Arena, facts: &[HeldFact], a: u64, b: u64) -> bool
-    requires facts { AreFactsAt arena.now facts.now }
-    requires a { IsWordAt arena.now a }
-    requires b { IsWordAt arena.now b }
-    ensures { IsTrue result ↔ Contains (map (fact_of arena.now) facts.now) (WordIs (word_of arena.now a) (word_of arena.now b)) }
-{
-    for fact in facts {
-        if is_word_fact(arena, fact, a, b) {
-            return true;
-        }
-    }
-    false
-}
-
-fn is_word_fact(arena: &Arena, fact: &HeldFact, a: u64, b: u64) -> bool
-    requires fact { IsFactAt arena.now fact.now }
-    requires a { IsWordAt arena.now a }
-    requires b { IsWordAt arena.now b }
-    ensures { IsTrue result ↔ (fact_of arena.now fact.now ≡ WordIs (word_of arena.now a) (word_of arena.now b)) }
-{
-    match fact {
-        HeldFact::WordIs(x, y) => same_word(arena, *x, a) && same_word(arena, *y, b),
-        _ => false,
-    }
-}
-
-#[tactic(auto, using(triple_kernel::proofs::Among::is_among, triple_kernel::proofs::Among::not_among_more))]
-fn is_mem_stated(arena: &Arena, facts: &[HeldFact], a: u64, b: u64) -> bool
-    requires facts { AreFactsAt arena.now facts.now }
-    requires a { IsMemAt arena.now a }
-    requires b { IsMemAt arena.now b }
-    ensures { IsTrue result ↔ Contains (map (fact_of arena.now) facts.now) (MemIs (mem_of arena.now a) (mem_of arena.now b)) }
-{
-    for fact in facts {
-        if is_mem_fact(arena, fact, a, b) {
-            return true;
-        }
-    }
-    false
-}
-
-fn is_mem_fact(arena: &Arena, fact: &HeldFact, a: u64, b: u64) -> bool
-    requires fact { IsFactAt arena.now fact.now }
-    requires a { IsMemAt arena.now a }
-    requires b { IsMemAt arena.now b }
-    ensures { IsTrue result ↔ (fact_of arena.now fact.now ≡ MemIs (mem_of arena.now a) (mem_of arena.now b)) }
-{
-    match fact {
-        HeldFact::MemIs(x, y) => same_mem(arena, *x, a) && same_mem(arena, *y, b),
-        _ => false,
-    }
+    same_mem(arena, a, b) || facts.has_mems(arena, a, b) || facts.has_mems(arena, b, a)
 }

@@ -1,8 +1,11 @@
 pub mod PutLemmas
 pub mod LeafLemmas
+pub mod LeafSteps
 pub mod RuleLemmas
 pub mod BenchLemmas
 pub mod PutOrder
+pub mod PutSteps
+pub mod SubtermLemmas
 pub mod ShortLemmas
 pub mod MakingLemmas
 pub mod CodeBytes

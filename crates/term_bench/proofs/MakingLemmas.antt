@@ -11,7 +11,6 @@ use Rattle.rv_words.specs.declared.range.Range.{Range}
 use Rattle.rv_words.specs.Ranges.{range_bytes}
 use Rattle.sep_assert.specs.Code.{Agree}
 use Rattle.triple_kernel.specs.Tree.{FactTree}
-use Rattle.triple_kernel.specs.Rules.{AreAmong}
 use Rattle.frame_compose.specs.Rules.{IsComposed, AreMissing, rest_after}
 use Rattle.term_arena.specs.declared.node.Node.{Node}
 use Rattle.held_terms.specs.declared.held.Held.{Held}
@@ -135,14 +134,3 @@ fine_more ns first second old new i f low is (inr k) s o =
       All-push (IsFactAt ns) old f o.0 there,
       subst (AllByRecursion IsFact) (sym (map-append (fact_of ns) old (f ∷ []))) (all-push IsFact (map (fact_of ns) old) (fact_of ns f) o.1 here),
     )
-
--- a list of one
-pub one_among : (some all : List FactTree) (f : FactTree) → some ≡ f ∷ [] → AreAmong some all ↔ Contains all f
-one_among some all f e = (
-  λ a. a.each f (subst (λ (l : List FactTree). Contains l f) (sym e) (zero, omega arith, refl)),
-  λ c. record { each = λ x h. only x c (subst (λ (l : List FactTree). Contains l x) e h) },
-)
-  where
-    only : (x : FactTree) → Contains all f → Contains (f ∷ []) x → Contains all x
-    only x c (zero, low, at) = subst (Contains all) at c
-    only x c (suc k, low, at) = absurd (omega (arith, low))

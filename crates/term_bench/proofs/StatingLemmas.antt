@@ -3,7 +3,7 @@ use Rattle.std.proofs.Common.{◌≡◌, ℕ, ◌==◌, ◌<◌, ◌^◌, Bool, 
 use Rattle.std.specs.Prelude.{IfOk, IfSome, IsSomeAnd, OnOk, is_some, option_map}
 use Rattle.std.proofs.lemmas.Option.{none-some, same_Some}
 use Rattle.rv_words.specs.declared.memory.NoMemory.{NoMemory}
-use Rattle.mc_text.specs.Number.{IsWord as IsNumber}
+use Rattle.mc_text.specs.Number.{IsNumber}
 use Rattle.word_terms.specs.declared.code.Code.{Code}
 use Rattle.word_terms.specs.Substitution.{Substitution}
 use Rattle.tailrec_lang.specs.declared.group.Group.{Group}

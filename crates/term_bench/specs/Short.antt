@@ -1,7 +1,7 @@
 -- When a short line is right after the lines before it, and what it leaves behind it.
 use Rattle.std.specs.Prelude.{◌≡◌, ℕ, ◌<◌, ◌^◌, IfSome, IsSomeAnd, List, [], ◌∷◌, Some, fold}
 use Rattle.std.specs.List.{AllByRecursion, AllZip}
-use Rattle.mc_text.specs.Number.{IsWord as IsNumber}
+use Rattle.mc_text.specs.Number.{IsNumber}
 use Rattle.tailrec_lang.specs.Tree.{GroupTree}
 use Rattle.triple_kernel.specs.Tree.{TripleTree}
 use Rattle.term_arena.specs.declared.node.Node.{Node}

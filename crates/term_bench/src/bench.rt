@@ -1,19 +1,20 @@
 //! The judge of the lines of a group's proof, over numbers.
 
-ghost use Rattle.std.specs.Prelude.{◌≡◌, ◌+◌, ◌<◌, ◌↔◌, IfOk, IfSome, IsErrOf, IsTrue, OnErr, OnOk, [], false, is_some, length, map, option_map, replicate, true};
+ghost use Rattle.std.specs.Prelude.{◌≡◌, ◌+◌, ◌<◌, ◌≤◌, ◌↔◌, ◌++◌, IfOk, IfSome, IsErrOf, IsTrue, List as Items, OnErr, OnOk, [], false, is_some, length, map, option_map, replicate, slice_get, true};
 ghost use Rattle.std.specs.Option.{option_copied};
 ghost use Rattle.tailrec_lang.specs.Tree.{group_tree};
 ghost use Rattle.tailrec_lang.specs.WellFormed.{IsWellFormed};
 ghost use Rattle.triple_kernel.specs.Tree.{triple_tree};
 ghost use Rattle.loop_rule.specs.Rule.{IsClosedBy};
 ghost use Rattle.proof_text.specs.Line.{line_tree, rule_tree};
-ghost use Rattle.term_arena.specs.Arena.{AreChildren, Extends, IsAdded};
+ghost use Rattle.term_arena.specs.Arena.{AreChildren, Extends, IsAdded, Tree};
 ghost use Rattle.held_terms.specs.Held.{IsHeldAt, triple_of};
 ghost use Rattle.checker.specs.Instance.{Instance, Meets, after_line, no_lines, with_closed, with_theorem, without};
 ghost use Rattle.checker.specs.Sound.{Sound};
 ghost use Rattle.term_bench.specs.Bench.{CanCite, state_group, state_history, state_nodes};
 ghost use Rattle.proof_text.specs.inner.OwnCode.{IsOwnCode};
 ghost use Rattle.term_bench.specs.Short.{AreWithin, IsFineShort, IsNeverStated, IsShortInstance, IsStatedBy, LeavesBehind};
+ghost use Rattle.term_bench.specs.Terms.{HasLine, HasSubterms, closing_terms, compares_numbers, is_bounded, is_bounded_line, is_compared, is_loop, loop_terms, nodes_of, pair_steps, premise_terms, put_in_terms, stated_triple_terms, triple_terms, whole_line_terms};
 ghost use Rattle.term_bench.specs.inner.Making.{MadeIf};
 ghost use Rattle.term_bench.specs.inner.Put.{IsHeldPut};
 
@@ -107,7 +108,10 @@ impl<'g> Bench<'g> {
     }
 
     /// Judges the next line. After a refusal the theorems and the closed definitions are as before; the arena may have more
-    /// terms. A theorem whose number's successor has more than 64 bits is refused as for want of memory.
+    /// terms. A theorem whose number's successor has more than 64 bits is refused as for want of memory. A line by `frame`,
+    /// `compose` or `extend` takes at most a step for each node of its terms, and one that forgets takes none. One by another rule takes
+    /// at most four steps more for each pair of different terms: those of its triple and of the theorem that it cites. One that closes
+    /// a definition takes at most a step for each node of what the theorems have to state.
     pub fn judge<L: Ledger>(
         &mut self,
         alloc: Global,
@@ -120,6 +124,9 @@ impl<'g> Bench<'g> {
         ensures no_instance { IsErrOf result RuleFault.NoInstance → Instance (state_group self.old) (state_history self.old) (line_tree line.now) → ⊥ }
         ensures same { OnErr result (state_history self.new ≡ state_history self.old) }
         ensures grows { Extends (state_nodes self.old) (state_nodes self.new) }
+        ensures steps { is_compared (line_tree line.now) ≡ true → steps.new ≤ steps.old + nodes_of (stated_triple_terms (line_tree line.now)) }
+        ensures most { is_bounded_line (line_tree line.now) ≡ true → (ts : Items Tree) → HasLine (state_history self.old).theorem (line_tree line.now) ts → steps.new ≤ steps.old + (nodes_of (whole_line_terms (line_tree line.now)) + pair_steps ts) }
+        ensures closing { is_loop (line_tree line.now) ≡ true → steps.new ≤ steps.old + nodes_of (loop_terms (state_group self.old) (line_tree line.now)) }
     {
         match line {
             Line::States { rule, stated } => self.state(alloc, rule, stated, steps),
@@ -207,6 +214,8 @@ impl<'g> Bench<'g> {
         ensures no_instance { IsErrOf result RuleFault.NoInstance → Meets (state_group self.old) (state_history self.old) (rule_tree rule.now) (triple_tree stated.now) → ⊥ }
         ensures same { OnErr result (state_history self.new ≡ state_history self.old) }
         ensures grows { Extends (state_nodes self.old) (state_nodes self.new) }
+        ensures steps { compares_numbers (rule_tree rule.now) ≡ true → steps.new ≤ steps.old + nodes_of (triple_terms (triple_tree stated.now)) }
+        ensures most { is_bounded (rule_tree rule.now) ≡ true → (ts : Items Tree) → HasSubterms ts (triple_terms (triple_tree stated.now)) → HasSubterms ts (premise_terms (state_history self.old).theorem (rule_tree rule.now)) → steps.new ≤ steps.old + (nodes_of (triple_terms (triple_tree stated.now) ++ put_in_terms (rule_tree rule.now)) + pair_steps ts) }
     {
         law_of_lines();
         self.law_of_bench();
@@ -283,6 +292,7 @@ impl<'g> Bench<'g> {
         ensures group { self.new.0 ≡ self.old.0 }
         ensures same { state_history self.new ≡ state_history self.old }
         ensures grows { Extends (state_nodes self.old) (state_nodes self.new) }
+        ensures steps { steps.new ≤ steps.old + nodes_of (triple_terms (triple_tree stated.now)) }
     {
         put_triple(alloc, &mut self.arena, stated, steps)
     }
@@ -301,6 +311,8 @@ impl<'g> Bench<'g> {
         ensures group { self.new.0 ≡ self.old.0 }
         ensures same { state_history self.new ≡ state_history self.old }
         ensures grows { Extends (state_nodes self.old) (state_nodes self.new) }
+        ensures steps { compares_numbers (rule_tree rule.now) ≡ true → steps.new ≡ steps.old }
+        ensures most { is_bounded (rule_tree rule.now) ≡ true → (ts : Items Tree) → HasSubterms ts (triple_terms (triple_tree stated.now)) → HasSubterms ts (premise_terms (state_history self.old).theorem (rule_tree rule.now)) → steps.new ≤ steps.old + (nodes_of (put_in_terms (rule_tree rule.now)) + pair_steps ts) }
     {
         meets(
             alloc,
@@ -346,6 +358,7 @@ impl<'g> Bench<'g> {
         ensures no_instance { IsErrOf result RuleFault.NoInstance → IsClosedBy (state_group self.old) def (map (state_history self.old).theorem cited.now) → ⊥ }
         ensures same { OnErr result (state_history self.new ≡ state_history self.old) }
         ensures grows { Extends (state_nodes self.old) (state_nodes self.new) }
+        ensures steps { steps.new ≤ steps.old + nodes_of (closing_terms (state_group self.old) (slice_get (state_group self.old).defs def)) }
     {
         law_of_lines();
         self.law_of_bench();
@@ -370,6 +383,7 @@ impl<'g> Bench<'g> {
         ensures group { self.new.0 ≡ self.old.0 }
         ensures same { state_history self.new ≡ state_history self.old }
         ensures grows { Extends (state_nodes self.old) (state_nodes self.new) }
+        ensures steps { steps.new ≤ steps.old + nodes_of (closing_terms (state_group self.old) (slice_get (state_group self.old).defs def)) }
     {
         is_closed_by(
             alloc,

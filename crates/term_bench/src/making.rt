@@ -14,7 +14,7 @@ ghost use Rattle.term_bench.specs.inner.Making.{AddedIfNew, AreFactsOfBoth, Come
 
 use crate::copies::{copy_fact, copy_facts, copy_side};
 use held_terms::{
-    Held, HeldFact, HeldSide, are_among, is_discharged, is_extension, is_strengthened, is_weakened,
+    Facts, Held, HeldFact, HeldSide, is_discharged, is_extension, is_strengthened, is_weakened,
     same_side,
 };
 use rv_words::{List, NoMemory};
@@ -166,9 +166,10 @@ fn facts_of_both(
     ensures both { IfOk result (λ all. AreFactsOfBoth (map (fact_of arena.now) first.now) (map (fact_of arena.now) second.now) (map (fact_of arena.now) all)) }
     ensures fine { IfOk result (λ all. AreFineFacts arena.now all) }
 {
+    let known = Facts::new(alloc, first, second.len());
     let mut all = copy_facts(alloc, first)?;
     for fact in second {
-        add_if_new(alloc, arena, first, &mut all, fact)?;
+        add_if_new(alloc, arena, &known, &mut all, fact)?;
     }
     Ok(all)
 }
@@ -177,7 +178,7 @@ fn facts_of_both(
 fn add_if_new(
     alloc: Global,
     arena: &Arena,
-    first: &[HeldFact],
+    first: &Facts,
     all: &mut List<HeldFact>,
     fact: &HeldFact,
 ) -> Result<(), NoMemory>
@@ -185,21 +186,12 @@ fn add_if_new(
     requires fact { IsFactAt arena.now fact.now }
     ensures { OnOk result (AddedIfNew arena.now first.now fact.now all.old all.new) }
 {
-    if is_among(arena, fact, first) {
+    if first.has(arena, fact) {
         return Ok(());
     }
     let copy = copy_fact(alloc, fact)?;
     all.push(copy)?;
     Ok(())
-}
-
-/// Whether the fact is among the others.
-fn is_among(arena: &Arena, fact: &HeldFact, others: &[HeldFact]) -> bool
-    requires fact { IsFactAt arena.now fact.now }
-    requires others { AreFactsAt arena.now others.now }
-    ensures { IsTrue result ↔ Contains (map (fact_of arena.now) others.now) (fact_of arena.now fact.now) }
-{
-    are_among(arena, std::slice::from_ref(fact), others)
 }
 
 /// Further registers and memories, which stay as they are.

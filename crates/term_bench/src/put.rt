@@ -1,14 +1,14 @@
 //! Triples put into an arena, term by term.
 #![tactic(auto, using(held_terms::proofs::InstanceLemmas::extends_next))]
 
-ghost use Rattle.std.specs.Prelude.{IfOk, [], ◌∷◌, flat_map, map};
+ghost use Rattle.std.specs.Prelude.{◌≤◌, ◌+◌, IfOk, [], ◌∷◌, flat_map, map};
 ghost use Rattle.word_terms.specs.Tree.{cond_tree, mem_tree, word_tree};
 ghost use Rattle.tailrec_lang.specs.Tree.{values_tree};
 ghost use Rattle.sep_assert.specs.Tree.{assertion_tree, register_tree};
 ghost use Rattle.triple_kernel.specs.Tree.{fact_tree, triple_tree};
 ghost use Rattle.proof_text.specs.Line.{mem_put_in, word_put_in};
-ghost use Rattle.term_arena.specs.Arena.{Extends, OfCond, OfMem, OfWord};
-ghost use Rattle.term_bench.specs.Terms.{AreTermsPutIn, assertion_terms, fact_terms, values_terms};
+ghost use Rattle.term_arena.specs.Arena.{Extends, OfCond, OfMem, OfWord, cond_nodes, mem_nodes, word_nodes};
+ghost use Rattle.term_bench.specs.Terms.{AreTermsPutIn, assertion_terms, fact_terms, nodes_of, triple_terms, values_terms};
 ghost use Rattle.term_bench.specs.inner.Put.{AreFactsPut, AreMemTermsPut, AreMemsPut, AreRegistersPut, AreWordsPut, IsCondPut, IsFactPut, IsHeldPut, IsMemPut, IsSidePut, IsValuesPut, IsWordPut};
 
 use held_terms::{Held, HeldFact, HeldSide, HeldValues};
@@ -30,6 +30,7 @@ pub fn put_triple<L: Ledger>(
 ) -> Result<Held, NoMemory>
     ensures put { IfOk result (λ h. IsHeldPut arena.new h (triple_tree t.now)) }
     ensures grows { Extends arena.old arena.new }
+    ensures steps { steps.new ≤ steps.old + nodes_of (triple_terms (triple_tree t.now)) }
 {
     let facts = put_facts(alloc, arena, t.facts.as_slice(), steps)?;
     let pre = put_side(alloc, arena, &t.pre, steps)?;
@@ -53,8 +54,9 @@ pub fn put_facts<L: Ledger>(
     ensures put { IfOk result (λ fs. AreFactsPut arena.new fs (map fact_tree facts.now)) }
     ensures grows { Extends arena.old arena.new }
     ensures order { IfOk result (λ _. AreTermsPutIn arena.old (flat_map fact_terms (map fact_tree facts.now)) arena.new) }
+    ensures steps { steps.new ≤ steps.old + nodes_of (flat_map fact_terms (map fact_tree facts.now)) }
 {
-    let mut numbers = List::new(alloc);
+    let mut numbers = List::with_capacity(alloc, facts.len())?;
     for fact in facts {
         let k = put_fact(alloc, arena, fact, steps)?;
         numbers.push(k)?;
@@ -71,6 +73,7 @@ fn put_fact<L: Ledger>(
     ensures put { IfOk result (λ f. IsFactPut arena.new f (fact_tree fact.now)) }
     ensures grows { Extends arena.old arena.new }
     ensures order { IfOk result (λ _. AreTermsPutIn arena.old (fact_terms (fact_tree fact.now)) arena.new) }
+    ensures steps { steps.new ≤ steps.old + nodes_of (fact_terms (fact_tree fact.now)) }
 {
     match fact {
         Fact::WordIs(a, b) => {
@@ -114,6 +117,7 @@ fn put_values<L: Ledger>(
     ensures put { IfOk result (λ v. IsValuesPut arena.new v (values_tree values.now)) }
     ensures grows { Extends arena.old arena.new }
     ensures order { IfOk result (λ _. AreTermsPutIn arena.old (values_terms (values_tree values.now)) arena.new) }
+    ensures steps { steps.new ≤ steps.old + nodes_of (values_terms (values_tree values.now)) }
 {
     let words = put_words(alloc, arena, values.words.as_slice(), steps)?;
     let mems = put_mems(alloc, arena, values.mems.as_slice(), steps)?;
@@ -130,6 +134,7 @@ pub fn put_side<L: Ledger>(
     ensures put { IfOk result (λ s. IsSidePut arena.new s (assertion_tree side.now)) }
     ensures grows { Extends arena.old arena.new }
     ensures order { IfOk result (λ _. AreTermsPutIn arena.old (assertion_terms (assertion_tree side.now)) arena.new) }
+    ensures steps { steps.new ≤ steps.old + nodes_of (assertion_terms (assertion_tree side.now)) }
 {
     let pc = put_word(arena, &side.pc, steps)?;
     let regs = put_registers(alloc, arena, side.regs.as_slice(), steps)?;
@@ -146,8 +151,9 @@ fn put_registers<L: Ledger>(
     ensures put { IfOk result (λ rs. AreRegistersPut arena.new rs (map register_tree registers.now)) }
     ensures grows { Extends arena.old arena.new }
     ensures order { IfOk result (λ _. AreTermsPutIn arena.old (map (λ r. OfWord r.1) (map register_tree registers.now)) arena.new) }
+    ensures steps { steps.new ≤ steps.old + nodes_of (map (λ r. OfWord r.1) (map register_tree registers.now)) }
 {
-    let mut numbers = List::new(alloc);
+    let mut numbers = List::with_capacity(alloc, registers.len())?;
     for register in registers {
         let k = put_word(arena, &register.1, steps)?;
         numbers.push((register.0, k))?;
@@ -164,8 +170,9 @@ fn put_words<L: Ledger>(
     ensures put { IfOk result (λ ks. AreWordsPut arena.new ks (map word_tree words.now)) }
     ensures grows { Extends arena.old arena.new }
     ensures order { IfOk result (λ _. AreTermsPutIn arena.old (map OfWord (map word_tree words.now)) arena.new) }
+    ensures steps { steps.new ≤ steps.old + nodes_of (map OfWord (map word_tree words.now)) }
 {
-    let mut numbers = List::new(alloc);
+    let mut numbers = List::with_capacity(alloc, words.len())?;
     for word in words {
         let k = put_word(arena, word, steps)?;
         numbers.push(k)?;
@@ -183,8 +190,9 @@ pub fn put_mems<L: Ledger>(
     ensures put { IfOk result (λ ks. AreMemsPut arena.new ks (map mem_tree mems.now)) }
     ensures grows { Extends arena.old arena.new }
     ensures order { IfOk result (λ _. AreTermsPutIn arena.old (map OfMem (map mem_tree mems.now)) arena.new) }
+    ensures steps { steps.new ≤ steps.old + nodes_of (map OfMem (map mem_tree mems.now)) }
 {
-    let mut numbers = List::new(alloc);
+    let mut numbers = List::with_capacity(alloc, mems.len())?;
     for mem in mems {
         let k = put_mem(arena, mem, steps)?;
         numbers.push(k)?;
@@ -202,8 +210,9 @@ pub fn put_word_terms<L: Ledger>(
     ensures put { IfOk result (λ ps. AreRegistersPut arena.new ps (map word_put_in terms.now)) }
     ensures grows { Extends arena.old arena.new }
     ensures order { IfOk result (λ _. AreTermsPutIn arena.old (map (λ p. OfWord p.1) (map word_put_in terms.now)) arena.new) }
+    ensures steps { steps.new ≤ steps.old + nodes_of (map (λ p. OfWord p.1) (map word_put_in terms.now)) }
 {
-    let mut numbers = List::new(alloc);
+    let mut numbers = List::with_capacity(alloc, terms.len())?;
     for term in terms {
         let k = put_word(arena, &term.1, steps)?;
         numbers.push((term.0, k))?;
@@ -221,8 +230,9 @@ pub fn put_mem_terms<L: Ledger>(
     ensures put { IfOk result (λ ps. AreMemTermsPut arena.new ps (map mem_put_in terms.now)) }
     ensures grows { Extends arena.old arena.new }
     ensures order { IfOk result (λ _. AreTermsPutIn arena.old (map (λ p. OfMem p.1) (map mem_put_in terms.now)) arena.new) }
+    ensures steps { steps.new ≤ steps.old + nodes_of (map (λ p. OfMem p.1) (map mem_put_in terms.now)) }
 {
-    let mut numbers = List::new(alloc);
+    let mut numbers = List::with_capacity(alloc, terms.len())?;
     for term in terms {
         let k = put_mem(arena, &term.1, steps)?;
         numbers.push((term.0, k))?;
@@ -239,6 +249,7 @@ pub fn put_word<L: Ledger>(
     ensures put { IfOk result (λ k. IsWordPut arena.new k (word_tree word.now)) }
     ensures grows { Extends arena.old arena.new }
     ensures order { IfOk result (λ _. AreTermsPutIn arena.old (OfWord (word_tree word.now) ∷ []) arena.new) }
+    ensures steps { steps.new ≤ steps.old + word_nodes (word_tree word.now) }
 {
     let k = arena.put_word(word, steps)?;
     Ok(k)
@@ -248,6 +259,7 @@ fn put_mem<L: Ledger>(arena: &mut Arena, mem: &Mem, steps: &mut Steps<L>) -> Res
     ensures put { IfOk result (λ k. IsMemPut arena.new k (mem_tree mem.now)) }
     ensures grows { Extends arena.old arena.new }
     ensures order { IfOk result (λ _. AreTermsPutIn arena.old (OfMem (mem_tree mem.now) ∷ []) arena.new) }
+    ensures steps { steps.new ≤ steps.old + mem_nodes (mem_tree mem.now) }
 {
     let k = arena.put_mem(mem, steps)?;
     Ok(k)
@@ -261,6 +273,7 @@ fn put_cond<L: Ledger>(
     ensures put { IfOk result (λ k. IsCondPut arena.new k (cond_tree cond.now)) }
     ensures grows { Extends arena.old arena.new }
     ensures order { IfOk result (λ _. AreTermsPutIn arena.old (OfCond (cond_tree cond.now) ∷ []) arena.new) }
+    ensures steps { steps.new ≤ steps.old + cond_nodes (cond_tree cond.now) }
 {
     let k = arena.put_cond(cond, steps)?;
     Ok(k)

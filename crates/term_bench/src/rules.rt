@@ -1,6 +1,6 @@
 //! The rules by which a line states a triple, each with the theorems that it cites.
 
-ghost use Rattle.std.specs.Prelude.{◌≡◌, ◌↔◌, IfOk, IfSome, IsSomeAnd, IsTrue, Some as Just, map, option_map, true};
+ghost use Rattle.std.specs.Prelude.{◌≡◌, ◌↔◌, ◌+◌, ◌*◌, ◌≤◌, ◌++◌, IfOk, List as Items, length, IfSome, IsSomeAnd, IsTrue, Some as Just, map, option_map, true};
 ghost use Rattle.std.specs.Option.{option_copied};
 ghost use Rattle.tailrec_lang.specs.Tree.{group_tree};
 ghost use Rattle.triple_kernel.specs.Tree.{triple_tree};
@@ -9,10 +9,11 @@ ghost use Rattle.instr_axioms.specs.Axiom.{axiom_of};
 ghost use Rattle.frame_compose.specs.Rules.{IsComposed, IsExtended, IsFramed};
 ghost use Rattle.loop_rule.specs.Rule.{IsExit};
 ghost use Rattle.proof_text.specs.Line.{mem_put_in, rule_tree, word_put_in};
-ghost use Rattle.term_arena.specs.Arena.{Extends};
+ghost use Rattle.term_arena.specs.Arena.{Extends, OfMem, OfWord, Tree};
 ghost use Rattle.held_terms.specs.Held.{IsHeldAt, triple_of};
 ghost use Rattle.checker.specs.Instance.{Meets, put_for};
 ghost use Rattle.term_bench.specs.Bench.{AreHeldAt, history_from, is_closed_in, theorem_at};
+ghost use Rattle.term_bench.specs.Terms.{HasSubterms, compares_numbers, is_bounded, nodes_of, pair_steps, premise_terms, put_in_terms, theorem_terms, triple_terms};
 ghost use Rattle.term_bench.specs.inner.Put.{IsHeldPut};
 
 use crate::put::{put_mem_terms, put_word_terms};
@@ -58,12 +59,14 @@ pub(crate) fn meets<L: Ledger>(
     requires put { IsHeldPut arena.old put.now (triple_tree stated.now) }
     ensures answer { IfOk result (λ r. IsTrue r ↔ Meets (group_tree g.now) (history_from 0 arena.old held.now.entries closed.now) (rule_tree rule.now) (triple_tree stated.now)) }
     ensures grows { Extends arena.old arena.new }
+    ensures steps { compares_numbers (rule_tree rule.now) ≡ true → steps.new ≡ steps.old }
+    ensures most { is_bounded (rule_tree rule.now) ≡ true → (ts : Items Tree) → HasSubterms ts (triple_terms (triple_tree stated.now)) → HasSubterms ts (premise_terms (theorem_at arena.old held.now.entries) (rule_tree rule.now)) → steps.new ≤ steps.old + (nodes_of (put_in_terms (rule_tree rule.now)) + pair_steps ts) }
 {
     match rule {
         Rule::Axiom(addr, word, form) => by_axiom(alloc, *addr, *word, *form, stated),
         Rule::Inst(p, terms) => by_inst(alloc, arena, held, *p, terms, put, steps),
         Rule::Frame(p) => Ok(by_frame(arena, held, *p, put)),
-        Rule::Compose(p, q) => Ok(by_compose(arena, held, *p, *q, put)),
+        Rule::Compose(p, q) => Ok(by_compose(alloc, arena, held, *p, *q, put)),
         Rule::ExtendCode(p) => Ok(by_extend_code(arena, held, *p, put)),
         Rule::Strengthen(p) => by_strengthen(alloc, arena, held, *p, put, steps),
         Rule::Weaken(p) => by_weaken(alloc, arena, held, *p, put, steps),
@@ -101,6 +104,7 @@ fn by_inst<L: Ledger>(
     requires stated { IsHeldAt arena.old stated.now }
     ensures answer { IfOk result (λ r. IsTrue r ↔ IsSomeAnd (theorem_at arena.old held.now.entries p) (λ p. IsInst (put_for (map word_put_in terms.now.words) (map mem_put_in terms.now.mems)) p (triple_of arena.old stated.now))) }
     ensures grows { Extends arena.old arena.new }
+    ensures steps { (ts : Items Tree) → HasSubterms ts (theorem_terms (theorem_at arena.old held.now.entries p)) → steps.new ≤ steps.old + (nodes_of (map (λ q. OfWord q.1) (map word_put_in terms.now.words) ++ map (λ q. OfMem q.1) (map mem_put_in terms.now.mems)) + 2 * length ts) }
 {
     match theorem(arena, held, p) {
         Some(p) => is_instance_by(alloc, arena, p, terms, stated, steps),
@@ -121,6 +125,7 @@ fn is_instance_by<L: Ledger>(
     requires stated { IsHeldAt arena.old stated.now }
     ensures answer { IfOk result (λ r. IsTrue r ↔ IsInst (put_for (map word_put_in terms.now.words) (map mem_put_in terms.now.mems)) (triple_of arena.old p.now) (triple_of arena.old stated.now)) }
     ensures grows { Extends arena.old arena.new }
+    ensures steps { (ts : Items Tree) → HasSubterms ts (triple_terms (triple_of arena.old p.now)) → steps.new ≤ steps.old + (nodes_of (map (λ q. OfWord q.1) (map word_put_in terms.now.words) ++ map (λ q. OfMem q.1) (map mem_put_in terms.now.mems)) + 2 * length ts) }
 {
     let words = put_word_terms(alloc, arena, terms.words.as_slice(), steps)?;
     let mems = put_mem_terms(alloc, arena, terms.mems.as_slice(), steps)?;
@@ -147,18 +152,26 @@ fn by_frame(arena: &Arena, held: &BTreeMap<u64, Held>, p: u64, stated: &Held) ->
     }
 }
 
-fn by_compose(arena: &Arena, held: &BTreeMap<u64, Held>, p: u64, q: u64, stated: &Held) -> bool
+fn by_compose(
+    alloc: Global,
+    arena: &Arena,
+    held: &BTreeMap<u64, Held>,
+    p: u64,
+    q: u64,
+    stated: &Held,
+) -> bool
     requires held { AreHeldAt arena.now held.now.entries }
     requires stated { IsHeldAt arena.now stated.now }
     ensures { IsTrue result ↔ IsSomeAnd (theorem_at arena.now held.now.entries p) (λ p. IsSomeAnd (theorem_at arena.now held.now.entries q) (λ q. IsComposed p q (triple_of arena.now stated.now))) }
 {
     match theorem(arena, held, p) {
-        Some(p) => is_composition_with(arena, held, p, q, stated),
+        Some(p) => is_composition_with(alloc, arena, held, p, q, stated),
         None => false,
     }
 }
 
 fn is_composition_with(
+    alloc: Global,
     arena: &Arena,
     held: &BTreeMap<u64, Held>,
     p: &Held,
@@ -171,7 +184,7 @@ fn is_composition_with(
     ensures { IsTrue result ↔ IsSomeAnd (theorem_at arena.now held.now.entries q) (λ q. IsComposed (triple_of arena.now p.now) q (triple_of arena.now stated.now)) }
 {
     match theorem(arena, held, q) {
-        Some(q) => is_composition(arena, p, q, stated),
+        Some(q) => is_composition(alloc, arena, p, q, stated),
         None => false,
     }
 }
@@ -197,7 +210,8 @@ fn by_strengthen<L: Ledger>(
 ) -> Result<bool, NoMemory>
     requires held { AreHeldAt arena.now held.now.entries }
     requires stated { IsHeldAt arena.now stated.now }
-    ensures { IfOk result (λ r. IsTrue r ↔ IsSomeAnd (theorem_at arena.now held.now.entries p) (λ p. IsStrengthened p (triple_of arena.now stated.now))) }
+    ensures answer { IfOk result (λ r. IsTrue r ↔ IsSomeAnd (theorem_at arena.now held.now.entries p) (λ p. IsStrengthened p (triple_of arena.now stated.now))) }
+    ensures steps { (ts : Items Tree) → HasSubterms ts (triple_terms (triple_of arena.now stated.now)) → HasSubterms ts (theorem_terms (theorem_at arena.now held.now.entries p)) → steps.new ≤ steps.old + 2 * (length ts * length ts) }
 {
     match theorem(arena, held, p) {
         Some(p) => is_strengthened(alloc, arena, p, stated, steps),
@@ -215,7 +229,8 @@ fn by_weaken<L: Ledger>(
 ) -> Result<bool, NoMemory>
     requires held { AreHeldAt arena.now held.now.entries }
     requires stated { IsHeldAt arena.now stated.now }
-    ensures { IfOk result (λ r. IsTrue r ↔ IsSomeAnd (theorem_at arena.now held.now.entries p) (λ p. IsWeakened p (triple_of arena.now stated.now))) }
+    ensures answer { IfOk result (λ r. IsTrue r ↔ IsSomeAnd (theorem_at arena.now held.now.entries p) (λ p. IsWeakened p (triple_of arena.now stated.now))) }
+    ensures steps { (ts : Items Tree) → HasSubterms ts (triple_terms (triple_of arena.now stated.now)) → HasSubterms ts (theorem_terms (theorem_at arena.now held.now.entries p)) → steps.new ≤ steps.old + 2 * (length ts * length ts) }
 {
     match theorem(arena, held, p) {
         Some(p) => is_weakened(alloc, arena, p, stated, steps),
@@ -251,7 +266,8 @@ fn by_use_exit<L: Ledger>(
     steps: &mut Steps<L>,
 ) -> bool
     requires { IsHeldAt arena.now stated.now }
-    ensures { IsTrue result ↔ ((is_closed_in closed.now def ≡ true) × IsExit (group_tree g.now) def exit (triple_of arena.now stated.now)) }
+    ensures answer { IsTrue result ↔ ((is_closed_in closed.now def ≡ true) × IsExit (group_tree g.now) def exit (triple_of arena.now stated.now)) }
+    ensures steps { (ts : Items Tree) → HasSubterms ts (triple_terms (triple_of arena.now stated.now)) → steps.new ≤ steps.old + (10 * length ts + 1) }
 {
     is_closed(closed, def) && is_exit(arena, g, def, exit, stated, steps)
 }

@@ -1,6 +1,7 @@
 -- Facts that follow from others, over numbers: conditions in pairs, memories before stores, and values of terms without variables.
 use Rattle.std.specs.Prelude.{◌≡◌, ℕ, ◌<◌, Bool, List, Option, Some, None}
-use Rattle.std.specs.List.{Contains}
+use Rattle.std.specs.Ordering.{nat_cmp}
+use Rattle.std.specs.BTreeMap.{BTreeMap, get}
 use Rattle.rv_words.specs.declared.operation.Op.{Op}
 use Rattle.rv_words.specs.declared.comparison.Cmp.{Cmp}
 use Rattle.rv_words.specs.Operation.{operation_value, comparison_holds}
@@ -74,6 +75,6 @@ abbrev pub IsDecidedAlone : CondTree → Option Bool → Type 0
 IsDecidedAlone c None = CondInScope c 0 0 → ⊥
 IsDecidedAlone c (Some b) = CondInScope c 0 0 × (cond_holds c no_variables ≡ b)
 
--- each entry is the number of a word, and its value if it has no variables
-pub record AreConstants (ns : List Node) (values : List (ℕ × Option ℕ)) : Type 0 where
-  pub each : (x : ℕ) (v : Option ℕ) → Contains values (x, v) → IsConstant (word_of ns x) v
+-- what is found for the number of a word is its value if it has no variables
+pub record AreConstants (ns : List Node) (values : BTreeMap ℕ (Option ℕ)) : Type 0 where
+  pub each : (x : ℕ) (v : Option ℕ) → get nat_cmp values x ≡ Some v → IsConstant (word_of ns x) v

@@ -6,12 +6,12 @@ use Rattle.held_terms.proofs.exits.is_mem_variable.Goals as goal
 pub node-requires : goal.node-requires
 node-requires g c = number_within c.args.arena.now c.args.mem _ c.requires
 
-pub returns-in-Some : goal.returns-in-Some
-returns-in-Some g c =
+pub returns-in-Some-clause-answer : goal.returns-in-Some-clause-answer
+returns-in-Some-clause-answer g c =
     mem_variable_some c.args.arena.now c.args.mem c.node.result c.in-Some.j (c.args.first + c.args.i) _ c.requires c.node.ensures.tree (sym c.mem_variable_in.ensures ∙ c.in-Some.is) c.is_after.ensures
 
-pub returns-in-None : goal.returns-in-None
-returns-in-None g c = (
+pub returns-in-None-clause-answer : goal.returns-in-None-clause-answer
+returns-in-None-clause-answer g c = (
   λ e. absurd (cc),
   λ x. absurd (mem_variable_none c.args.arena.now c.args.mem c.node.result (c.args.first + c.args.i) c.requires c.node.ensures.tree (sym c.mem_variable_in.ensures ∙ c.in-None.is) x),
 )

@@ -11,6 +11,6 @@ use Rattle.held_terms.proofs.following.is_like_some.Given as goal
 -- no condition of those so far is like it
 abbrev pub invariant-loop-fact : goal.invariant-loop-fact
 invariant-loop-fact g l = record {
-  none : (d : CondTree) → Contains (map (fact_of l.arena) (take l.fact-index l.facts)) (So d) → Alike (map (fact_of l.arena) l.facts) (cond_of l.arena l.c) d → ⊥;
+  none : (d : CondTree) → Contains (map (fact_of l.arena) (take l.fact-index l.given)) (So d) → Alike (map (fact_of l.arena) l.facts) (cond_of l.arena l.c) d → ⊥;
   right : AreRight l.arena (map (fact_of l.arena) l.facts) l.known;
 }

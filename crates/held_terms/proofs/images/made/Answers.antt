@@ -1,17 +1,11 @@
-use Rattle.std.proofs.Common.{ℕ, List, sym, subst}
-use Rattle.held_terms.specs.Image.{IsReady, put_for_numbers}
-use Rattle.held_terms.proofs.ImageLemmas.{image_added, image_children, ready_more, ready_stays}
+use Rattle.held_terms.specs.Image.{put_for_numbers}
+use Rattle.held_terms.proofs.ImageLemmas.{image_added, image_children, ready_stays}
 use Rattle.held_terms.proofs.images.made.Goals as goal
 
 pub add-requires : goal.add-requires
 add-requires g c =
     image_children c.args.arena.now (put_for_numbers c.args.arena.now c.args.words.now c.args.mems.now) c.args.n c.args.m c.requires.node
     (c.law_of_arenas.ensures.children c.args.arena.now c.args.x c.args.n c.law_of_nodes.ensures c.requires.at)
-
-pub returns-in_err-push-clause-ready : goal.returns-in_err-push-clause-ready
-returns-in_err-push-clause-ready g c =
-    subst (λ (known : List (ℕ × ℕ)). IsReady c.add.new.self c.args.words.now c.args.mems.now known) (sym c.in_err-push.ensures.err)
-    (ready_stays c.args.arena.now c.add.new.self c.args.words.now c.args.mems.now c.args.known.now c.in_ok-y.ensures.grows c.requires.ready)
 
 pub returns-clause-image : goal.returns-clause-image
 returns-clause-image g c =
@@ -21,11 +15,7 @@ returns-clause-image g c =
     c.in_ok-y.ensures.grows c.requires.node c.in_ok-y.ensures.tree
 
 pub returns-clause-ready : goal.returns-clause-ready
-returns-clause-ready g c =
-    let ns = c.args.arena.now in
-    subst (λ (known : List (ℕ × ℕ)). IsReady c.add.new.self c.args.words.now c.args.mems.now known) (sym c.in_ok-push.ensures.ok)
-    (ready_more c.add.new.self c.args.words.now c.args.mems.now c.args.known.now c.args.x c.in_ok-y.y
-    (ready_stays ns c.add.new.self c.args.words.now c.args.mems.now c.args.known.now c.in_ok-y.ensures.grows c.requires.ready)
-    (image_added ns c.add.new.self c.args.words.now c.args.mems.now c.args.known.now c.args.x c.in_ok-y.y c.args.n c.args.m c.requires.ready
-    (c.law_of_arenas.ensures.node ns c.args.x c.args.n c.law_of_nodes.ensures c.requires.at) (c.law_of_arenas.ensures.children ns c.args.x c.args.n c.law_of_nodes.ensures c.requires.at)
-    c.in_ok-y.ensures.grows c.requires.node c.in_ok-y.ensures.tree))
+returns-clause-ready g c = ready_stays c.args.arena.now c.add.new.self c.args.words.now c.args.mems.now c.args.known.now c.in_ok-y.ensures.grows c.requires.ready
+
+pub returns-in_err-y-clause-ready : goal.returns-in_err-y-clause-ready
+returns-in_err-y-clause-ready g c = ready_stays c.args.arena.now c.add.new.self c.args.words.now c.args.mems.now c.args.known.now c.add.ensures.grows c.requires.ready

@@ -1,56 +1,15 @@
-use Rattle.std.proofs.Common.{List, subst}
-use Rattle.std.specs.List.{AllZip}
-use Rattle.held_terms.specs.declared.held.HeldFact.{HeldFact}
-use Rattle.held_terms.specs.declared.held.Held.{Held}
-use Rattle.held_terms.specs.Image.{put_for_numbers}
-use Rattle.held_terms.specs.inner.Instances.{IsFactImage}
-use Rattle.held_terms.proofs.InstanceLemmas.{side_still, extends_next, facts_stay, side_stays, AreParts, held_there, held_still, instance_of}
+use Rattle.held_terms.specs.Subterms.{HasHeld}
+use Rattle.held_terms.proofs.InstanceLemmas.{none_ready}
+use Rattle.held_terms.proofs.ImagingLemmas.{few_images, none_asked}
 use Rattle.held_terms.proofs.instances.instance.Goals as goal
 
-pub side_image-requires-clause-side : goal.side_image-requires-clause-side
-side_image-requires-clause-side g c = side_still c.args.arena.now c.fact_images.new.arena c.fact_images.ensures.grows c.args.p.now.pre c.requires.p.pre
+pub held_image-q-requires-clause-ready : goal.held_image-q-requires-clause-ready
+held_image-q-requires-clause-ready g c = none_ready c.args.arena.now c.args.words.now c.args.mems.now c.new-known.result c.new-known.ensures.empty c.requires.sub
 
-pub side_image-requires-2-clause-side : goal.side_image-requires-2-clause-side
-side_image-requires-2-clause-side g c =
-    let now = c.side_image.new.arena in
-    side_still c.args.arena.now now (extends_next c.args.arena.now c.fact_images.new.arena now c.fact_images.ensures.grows c.side_image.ensures.grows) c.args.p.now.post c.requires.p.post
+pub held_image-q-requires-clause-made : goal.held_image-q-requires-clause-made
+held_image-q-requires-clause-made g c = none_asked c.new-known.result c.new-known.ensures.empty
 
-pub returns-clause-there : goal.returns-clause-there
-returns-clause-there g c =
-    let words = c.args.words.now in
-    let mems = c.args.mems.now in
-    let one = c.fact_images.new.arena in
-    let two = c.side_image.new.arena in
-    let now = c.side_image-2.new.arena in
-    let two_now = c.side_image-2.ensures.grows in
-    let one_now = extends_next one two now c.side_image.ensures.grows two_now in
-    let grown = extends_next c.args.arena.now one now c.fact_images.ensures.grows one_now in
-    let q : Held = record { facts = c.in_ok-facts.facts; pre = c.in_ok-pre.pre; code = c.in_ok-code.code; post = c.in_ok-post.post } in
-    let facts = subst (λ (fs : List HeldFact). AllZip (IsFactImage one (put_for_numbers one words mems)) fs c.in_ok-facts.facts) c.as_slice.ensures c.in_ok-facts.ensures.images in
-    let parts : AreParts now (put_for_numbers now words mems) c.args.p.now q = record {
-      facts = facts_stay one now words mems c.fact_images.new.known c.fact_images.ensures.ready one_now c.args.p.now.facts c.in_ok-facts.facts facts;
-      pre = side_stays two now words mems c.side_image.new.known c.side_image.ensures.ready two_now c.args.p.now.pre c.in_ok-pre.pre c.in_ok-pre.ensures.image;
-      code = c.in_ok-code.ensures;
-      post = c.in_ok-post.ensures.image;
-    } in
-    held_there now (put_for_numbers now words mems) c.args.p.now q (held_still c.args.arena.now now grown c.args.p.now c.requires.p) parts
-
-pub returns-clause-instance : goal.returns-clause-instance
-returns-clause-instance g c =
-    let words = c.args.words.now in
-    let mems = c.args.mems.now in
-    let one = c.fact_images.new.arena in
-    let two = c.side_image.new.arena in
-    let now = c.side_image-2.new.arena in
-    let two_now = c.side_image-2.ensures.grows in
-    let one_now = extends_next one two now c.side_image.ensures.grows two_now in
-    let grown = extends_next c.args.arena.now one now c.fact_images.ensures.grows one_now in
-    let q : Held = record { facts = c.in_ok-facts.facts; pre = c.in_ok-pre.pre; code = c.in_ok-code.code; post = c.in_ok-post.post } in
-    let facts = subst (λ (fs : List HeldFact). AllZip (IsFactImage one (put_for_numbers one words mems)) fs c.in_ok-facts.facts) c.as_slice.ensures c.in_ok-facts.ensures.images in
-    let parts : AreParts now (put_for_numbers now words mems) c.args.p.now q = record {
-      facts = facts_stay one now words mems c.fact_images.new.known c.fact_images.ensures.ready one_now c.args.p.now.facts c.in_ok-facts.facts facts;
-      pre = side_stays two now words mems c.side_image.new.known c.side_image.ensures.ready two_now c.args.p.now.pre c.in_ok-pre.pre c.in_ok-pre.ensures.image;
-      code = c.in_ok-code.ensures;
-      post = c.in_ok-post.ensures.image;
-    } in
-    instance_of c.args.arena.now now words mems c.args.p.now q grown c.requires.sub c.requires.p parts
+pub returns-clause-steps : goal.returns-clause-steps
+returns-clause-steps g c ts has =
+    few_images c.args.arena.now c.held_image-q.new.arena (HasHeld c.args.arena.now c.args.p.now) c.new-known.result c.held_image-q.new.known c.args.steps.now c.held_image-q.new.steps ts
+    c.new-known.ensures.empty c.law_of_nodes.ensures c.new-known.ensures.ordered has c.held_image-q.ensures.imaged

@@ -3,6 +3,8 @@ use Rattle.held_terms.specs.Image.{put_for_numbers}
 use Rattle.held_terms.specs.inner.Instances.{IsRegisterImage}
 use Rattle.term_arena.proofs.TreeLemmas.{number_within}
 use Rattle.held_terms.proofs.ImageLemmas.{longer}
+use Rattle.held_terms.specs.Subterms.{HasRegisters}
+use Rattle.held_terms.proofs.ImagingLemmas.{has_still, imaged_next, made_still}
 use Rattle.held_terms.proofs.Indices.{read_at}
 use Rattle.held_terms.proofs.InstanceLemmas.{extends_next, registers_stay, zip_next}
 use Rattle.held_terms.proofs.instances.register_images.Goals as goal
@@ -18,6 +20,9 @@ loop-i-preserved g c =
     let now = c.image.new.arena in
     record {
       ready = c.image.ensures.ready;
+      made = made_still c.loop-i.known c.image.new.known c.loop-i.invariant.made c.in_ok-y.ensures.ended;
+      imaged = imaged_next c.args.arena.now c.loop-i.arena c.image.new.arena (HasRegisters c.args.arena.now c.args.registers.now) _ c.args.known.now c.loop-i.known c.image.new.known c.args.steps.now c.loop-i.steps c.image.new.steps c.loop-i.invariant.imaged
+          (λ ts has. has_still c.args.arena.now c.loop-i.arena c.loop-i.invariant.grows _ ts (number_within c.args.arena.now _ _ (c.requires.registers c.loop-i.i (0, 0) low)) (has c.loop-i.i (0, 0) low)) c.image.ensures.imaged;
       grows = extends_next c.args.arena.now before now c.loop-i.invariant.grows c.image.ensures.grows;
       images = zip_next (IsRegisterImage now (put_for_numbers now words mems)) xs c.loop-i.images _ i _ (_, c.in_ok-y.y) low (read_at xs i (0, 0) _ low) c.in_ok-push.ensures.ok
           (registers_stay before now words mems c.loop-i.known c.loop-i.invariant.ready c.image.ensures.grows (take i xs) c.loop-i.images c.loop-i.invariant.images)
@@ -28,3 +33,15 @@ pub image-requires-clause-there : goal.image-requires-clause-there
 image-requires-clause-there g c =
     let low : c.loop-i.i < length c.args.registers.now = omega arith in
     longer c.args.arena.now c.loop-i.arena _ c.loop-i.invariant.grows (number_within c.args.arena.now _ _ (c.requires.registers c.loop-i.i (0, 0) low))
+
+pub returns-in_err-y-clause-imaged : goal.returns-in_err-y-clause-imaged
+returns-in_err-y-clause-imaged g c =
+    let low : c.loop-i.i < length c.args.registers.now = omega arith in
+    imaged_next c.args.arena.now c.loop-i.arena c.image.new.arena (HasRegisters c.args.arena.now c.args.registers.now) _ c.args.known.now c.loop-i.known c.image.new.known c.args.steps.now c.loop-i.steps c.image.new.steps c.loop-i.invariant.imaged
+    (λ ts has. has_still c.args.arena.now c.loop-i.arena c.loop-i.invariant.grows _ ts (number_within c.args.arena.now _ _ (c.requires.registers c.loop-i.i (0, 0) low)) (has c.loop-i.i (0, 0) low)) c.image.ensures.imaged
+
+pub returns-in_err-push-clause-imaged : goal.returns-in_err-push-clause-imaged
+returns-in_err-push-clause-imaged g c =
+    let low : c.loop-i.i < length c.args.registers.now = omega arith in
+    imaged_next c.args.arena.now c.loop-i.arena c.image.new.arena (HasRegisters c.args.arena.now c.args.registers.now) _ c.args.known.now c.loop-i.known c.image.new.known c.args.steps.now c.loop-i.steps c.image.new.steps c.loop-i.invariant.imaged
+    (λ ts has. has_still c.args.arena.now c.loop-i.arena c.loop-i.invariant.grows _ ts (number_within c.args.arena.now _ _ (c.requires.registers c.loop-i.i (0, 0) low)) (has c.loop-i.i (0, 0) low)) c.image.ensures.imaged

@@ -4,6 +4,10 @@ use Rattle.term_arena.proofs.TreeLemmas.{number_within}
 use Rattle.held_terms.specs.Held.{AreRegistersAt}
 use Rattle.held_terms.specs.Image.{put_for_numbers}
 use Rattle.held_terms.specs.inner.Instances.{AreWithin, AreImagesOf, IsRegisterImage}
+use Rattle.held_terms.specs.Subterms.{HasRegisters, HasSide, HasTerms}
+use Rattle.held_terms.specs.inner.Imaging.{Imaged}
+use Rattle.held_terms.proofs.AskedLemmas.{registers_asked, terms_asked}
+use Rattle.held_terms.proofs.ImagingLemmas.{imaged_next, imaged_under, made_still}
 use Rattle.held_terms.proofs.ImageLemmas.{image_stays}
 use Rattle.held_terms.proofs.InstanceLemmas.{mems_within, registers_still, mems_still, registers_stay, extends_next}
 use Rattle.held_terms.proofs.instances.side_image.Goals as goal
@@ -35,3 +39,52 @@ returns-clause-image g c =
           (subst (λ (rs : List (ℕ × ℕ)). AllZip (IsRegisterImage two (put_for_numbers two words mems)) rs c.in_ok-regs.regs) c.as_slice.ensures c.in_ok-regs.ensures.images);
       mems = subst (λ (ks : List ℕ). AreImagesOf three (put_for_numbers three words mems) ks c.in_ok-memories.memories) c.as_slice-2.ensures c.in_ok-memories.ensures.images;
     }
+
+pub returns-in_err-pc-clause-imaged : goal.returns-in_err-pc-clause-imaged
+returns-in_err-pc-clause-imaged g c =
+    let start = c.args.arena.now in
+    let one : Imaged start c.image.new.arena (HasSide c.args.arena.now c.args.side.now) c.args.known.now c.image.new.known c.args.steps.now c.image.new.steps =
+    imaged_under start c.image.new.arena (HasSide c.args.arena.now c.args.side.now) _ c.args.known.now c.image.new.known c.args.steps.now c.image.new.steps (λ ts has. has.pc) c.image.ensures.imaged in
+    one
+
+pub returns-in_err-regs-clause-imaged : goal.returns-in_err-regs-clause-imaged
+returns-in_err-regs-clause-imaged g c =
+    let start = c.args.arena.now in
+    let one : Imaged start c.image.new.arena (HasSide c.args.arena.now c.args.side.now) c.args.known.now c.image.new.known c.args.steps.now c.image.new.steps =
+    imaged_under start c.image.new.arena (HasSide c.args.arena.now c.args.side.now) _ c.args.known.now c.image.new.known c.args.steps.now c.image.new.steps (λ ts has. has.pc) c.image.ensures.imaged in
+    let two : Imaged start c.register_images.new.arena (HasSide c.args.arena.now c.args.side.now) c.args.known.now c.register_images.new.known c.args.steps.now c.register_images.new.steps =
+    imaged_next start c.image.new.arena c.register_images.new.arena (HasSide c.args.arena.now c.args.side.now) _ c.args.known.now c.image.new.known c.register_images.new.known c.args.steps.now c.image.new.steps c.register_images.new.steps one
+    (λ ts has. subst (λ (rs : List (ℕ × ℕ)). HasRegisters c.image.new.arena rs ts) (sym c.as_slice.ensures) (registers_asked start c.image.new.arena c.image.ensures.grows ts c.args.side.now.regs c.requires.side.regs has.regs))
+    c.register_images.ensures.imaged in
+    two
+
+pub returns-in_err-memories-clause-imaged : goal.returns-in_err-memories-clause-imaged
+returns-in_err-memories-clause-imaged g c =
+    let start = c.args.arena.now in
+    let one : Imaged start c.image.new.arena (HasSide c.args.arena.now c.args.side.now) c.args.known.now c.image.new.known c.args.steps.now c.image.new.steps =
+    imaged_under start c.image.new.arena (HasSide c.args.arena.now c.args.side.now) _ c.args.known.now c.image.new.known c.args.steps.now c.image.new.steps (λ ts has. has.pc) c.image.ensures.imaged in
+    let two : Imaged start c.register_images.new.arena (HasSide c.args.arena.now c.args.side.now) c.args.known.now c.register_images.new.known c.args.steps.now c.register_images.new.steps =
+    imaged_next start c.image.new.arena c.register_images.new.arena (HasSide c.args.arena.now c.args.side.now) _ c.args.known.now c.image.new.known c.register_images.new.known c.args.steps.now c.image.new.steps c.register_images.new.steps one
+    (λ ts has. subst (λ (rs : List (ℕ × ℕ)). HasRegisters c.image.new.arena rs ts) (sym c.as_slice.ensures) (registers_asked start c.image.new.arena c.image.ensures.grows ts c.args.side.now.regs c.requires.side.regs has.regs))
+    c.register_images.ensures.imaged in
+    imaged_next start c.register_images.new.arena c.images.new.arena (HasSide c.args.arena.now c.args.side.now) _ c.args.known.now c.register_images.new.known c.images.new.known c.args.steps.now c.register_images.new.steps c.images.new.steps two
+    (λ ts has. subst (λ (ks : List ℕ). HasTerms c.register_images.new.arena ks ts) (sym c.as_slice-2.ensures)
+    (terms_asked start c.register_images.new.arena (extends_next start c.image.new.arena c.register_images.new.arena c.image.ensures.grows c.register_images.ensures.grows) ts c.args.side.now.mems (mems_within start c.args.side.now.mems c.requires.side.mems) has.mems))
+    c.images.ensures.imaged
+
+pub returns-clause-imaged : goal.returns-clause-imaged
+returns-clause-imaged g c =
+    let start = c.args.arena.now in
+    let one : Imaged start c.image.new.arena (HasSide c.args.arena.now c.args.side.now) c.args.known.now c.image.new.known c.args.steps.now c.image.new.steps =
+    imaged_under start c.image.new.arena (HasSide c.args.arena.now c.args.side.now) _ c.args.known.now c.image.new.known c.args.steps.now c.image.new.steps (λ ts has. has.pc) c.image.ensures.imaged in
+    let two : Imaged start c.register_images.new.arena (HasSide c.args.arena.now c.args.side.now) c.args.known.now c.register_images.new.known c.args.steps.now c.register_images.new.steps =
+    imaged_next start c.image.new.arena c.register_images.new.arena (HasSide c.args.arena.now c.args.side.now) _ c.args.known.now c.image.new.known c.register_images.new.known c.args.steps.now c.image.new.steps c.register_images.new.steps one
+    (λ ts has. subst (λ (rs : List (ℕ × ℕ)). HasRegisters c.image.new.arena rs ts) (sym c.as_slice.ensures) (registers_asked start c.image.new.arena c.image.ensures.grows ts c.args.side.now.regs c.requires.side.regs has.regs))
+    c.register_images.ensures.imaged in
+    imaged_next start c.register_images.new.arena c.images.new.arena (HasSide c.args.arena.now c.args.side.now) _ c.args.known.now c.register_images.new.known c.images.new.known c.args.steps.now c.register_images.new.steps c.images.new.steps two
+    (λ ts has. subst (λ (ks : List ℕ). HasTerms c.register_images.new.arena ks ts) (sym c.as_slice-2.ensures)
+    (terms_asked start c.register_images.new.arena (extends_next start c.image.new.arena c.register_images.new.arena c.image.ensures.grows c.register_images.ensures.grows) ts c.args.side.now.mems (mems_within start c.args.side.now.mems c.requires.side.mems) has.mems))
+    c.images.ensures.imaged
+
+pub register_images-requires-clause-made : goal.register_images-requires-clause-made
+register_images-requires-clause-made g c = made_still c.args.known.now c.image.new.known c.requires.made c.in_ok-pc.ensures.ended

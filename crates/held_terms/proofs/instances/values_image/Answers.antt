@@ -1,6 +1,10 @@
 use Rattle.std.proofs.Common.{ℕ, List, sym, subst}
 use Rattle.held_terms.specs.Image.{put_for_numbers}
 use Rattle.held_terms.specs.inner.Instances.{AreWithin, AreImagesOf}
+use Rattle.held_terms.specs.Subterms.{HasTerms, HasValues}
+use Rattle.held_terms.specs.inner.Imaging.{Imaged}
+use Rattle.held_terms.proofs.AskedLemmas.{terms_asked}
+use Rattle.held_terms.proofs.ImagingLemmas.{imaged_next, imaged_under}
 use Rattle.held_terms.proofs.InstanceLemmas.{words_within, mems_within, mems_still, images_stay}
 use Rattle.held_terms.proofs.instances.values_image.Goals as goal
 
@@ -25,3 +29,30 @@ returns-clause-image g c =
           (subst (λ (ks : List ℕ). AreImagesOf one (put_for_numbers one words mems) ks c.in_ok-first.first) c.as_slice.ensures c.in_ok-first.ensures.images);
       mems = subst (λ (ks : List ℕ). AreImagesOf two (put_for_numbers two words mems) ks c.in_ok-second.second) c.as_slice-2.ensures c.in_ok-second.ensures.images;
     }
+
+pub returns-in_err-first-clause-imaged : goal.returns-in_err-first-clause-imaged
+returns-in_err-first-clause-imaged g c =
+    let one : Imaged c.args.arena.now c.images.new.arena (HasValues c.args.arena.now c.args.values.now) c.args.known.now c.images.new.known c.args.steps.now c.images.new.steps =
+    imaged_under c.args.arena.now c.images.new.arena (HasValues c.args.arena.now c.args.values.now) _ c.args.known.now c.images.new.known c.args.steps.now c.images.new.steps
+    (λ ts has. subst (λ (ks : List ℕ). HasTerms c.args.arena.now ks ts) (sym c.as_slice.ensures) has.words) c.images.ensures.imaged in
+    one
+
+pub returns-in_err-second-clause-imaged : goal.returns-in_err-second-clause-imaged
+returns-in_err-second-clause-imaged g c =
+    let one : Imaged c.args.arena.now c.images.new.arena (HasValues c.args.arena.now c.args.values.now) c.args.known.now c.images.new.known c.args.steps.now c.images.new.steps =
+    imaged_under c.args.arena.now c.images.new.arena (HasValues c.args.arena.now c.args.values.now) _ c.args.known.now c.images.new.known c.args.steps.now c.images.new.steps
+    (λ ts has. subst (λ (ks : List ℕ). HasTerms c.args.arena.now ks ts) (sym c.as_slice.ensures) has.words) c.images.ensures.imaged in
+    imaged_next c.args.arena.now c.images.new.arena c.images-2.new.arena (HasValues c.args.arena.now c.args.values.now) _ c.args.known.now c.images.new.known c.images-2.new.known c.args.steps.now c.images.new.steps c.images-2.new.steps one
+    (λ ts has. subst (λ (ks : List ℕ). HasTerms c.images.new.arena ks ts) (sym c.as_slice-2.ensures)
+    (terms_asked c.args.arena.now c.images.new.arena c.images.ensures.grows ts c.args.values.now.mems (mems_within c.args.arena.now c.args.values.now.mems c.requires.values.mems) has.mems))
+    c.images-2.ensures.imaged
+
+pub returns-clause-imaged : goal.returns-clause-imaged
+returns-clause-imaged g c =
+    let one : Imaged c.args.arena.now c.images.new.arena (HasValues c.args.arena.now c.args.values.now) c.args.known.now c.images.new.known c.args.steps.now c.images.new.steps =
+    imaged_under c.args.arena.now c.images.new.arena (HasValues c.args.arena.now c.args.values.now) _ c.args.known.now c.images.new.known c.args.steps.now c.images.new.steps
+    (λ ts has. subst (λ (ks : List ℕ). HasTerms c.args.arena.now ks ts) (sym c.as_slice.ensures) has.words) c.images.ensures.imaged in
+    imaged_next c.args.arena.now c.images.new.arena c.images-2.new.arena (HasValues c.args.arena.now c.args.values.now) _ c.args.known.now c.images.new.known c.images-2.new.known c.args.steps.now c.images.new.steps c.images-2.new.steps one
+    (λ ts has. subst (λ (ks : List ℕ). HasTerms c.images.new.arena ks ts) (sym c.as_slice-2.ensures)
+    (terms_asked c.args.arena.now c.images.new.arena c.images.ensures.grows ts c.args.values.now.mems (mems_within c.args.arena.now c.args.values.now.mems c.requires.values.mems) has.mems))
+    c.images-2.ensures.imaged

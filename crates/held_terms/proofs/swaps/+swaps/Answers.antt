@@ -1,8 +1,6 @@
-use Rattle.std.proofs.Common.{ℕ, ◌+◌, ◌≤◌, List, false, refl, ap, sym, subst, ◌∙◌, arith, rules}
+use Rattle.std.proofs.Common.{ℕ, ◌+◌, ◌≤◌, false, refl, ap, ◌∙◌, arith, rules}
 use Rattle.std.specs.Prelude.{slice_get}
-use Rattle.std.specs.List.{Contains}
-use Rattle.held_terms.specs.inner.Table.{Entry, keys_of}
-use Rattle.held_terms.proofs.TableLemmas.{known_pushed, decided_none, decided_both, decided_set, still_at, place_within, word_known, mem_known, word_decided, mem_decided, went_none, went_first, went_next, went_pushed, went_set, answer_last}
+use Rattle.held_terms.proofs.TableLemmas.{known_pushed, decided_none, decided_both, decided_set, still_at, key_still, word_known, mem_known, word_decided, mem_decided, went_none, went_first, went_next, went_pushed, went_set, answer_last}
 use Rattle.held_terms.proofs.swaps.+swaps.Goals as goal
 
 pub swap_word-returns-then-are_words_stated-clause-decided : goal.swap_word-returns-then-are_words_stated-clause-decided
@@ -12,7 +10,7 @@ pub swap_word-returns-then-are_words_stated-clause-went : goal.swap_word-returns
 swap_word-returns-then-are_words_stated-clause-went g t c = went_none _ _ c.args.known.now c.args.known.now _ _ refl (omega arith)
 
 pub swap_word-returns-in-Some-clause-answer : goal.swap_word-returns-in-Some-clause-answer
-swap_word-returns-in-Some-clause-answer g t c = word_known c.args.arena.now _ c.args.known.now c.args.a c.args.b c.in-Some.v c.requires.known (subst (λ (l : List Entry). Contains l (c.args.a, c.args.b, c.in-Some.v)) c.as_slice.ensures c.in-Some.ensures.found) c.requires.a c.requires.b
+swap_word-returns-in-Some-clause-answer g t c = word_known c.args.arena.now _ c.args.known.now c.args.a c.args.b c.in-Some.v c.requires.known c.in-Some.ensures.found c.requires.a c.requires.b
 
 pub swap_word-returns-in-Some-clause-decided : goal.swap_word-returns-in-Some-clause-decided
 swap_word-returns-in-Some-clause-decided g t c = decided_none _ _ _
@@ -26,11 +24,11 @@ swap_word-returns-in_err-push-clause-went g t c = went_none _ _ c.args.known.now
 pub swap_word-returns-in_err-v-clause-went : goal.swap_word-returns-in_err-v-clause-went
 swap_word-returns-in_err-v-clause-went g t c =
     went_pushed c.args.arena.now c.args.a c.args.b false _ _ c.args.known.now c.push.new.self c.swap_below_words.new.known c.args.steps.now c.swap_below_words.new.steps
-    c.requires.a c.requires.b c.in_ok-push.ensures.ok (λ h. c.in_default.ensures.none (subst (λ (l : List Entry). Contains (keys_of l) (c.args.a, c.args.b)) (sym c.as_slice.ensures) h)) c.swap_below_words.ensures.went
+    c.requires.a c.requires.b c.in_ok-push.ensures.ok c.in_default.ensures.none c.swap_below_words.ensures.went
 
 pub swap_word-set-requires : goal.swap_word-set-requires
 swap_word-set-requires g t c =
-    place_within c.args.arena.now _ c.args.known.now c.push.new.self c.swap_below_words.new.known (c.args.a, c.args.b, false) c.len-at.result
+    key_still c.args.arena.now _ c.args.known.now c.push.new.self c.swap_below_words.new.known (c.args.a, c.args.b, false) c.len-at.result
     c.in_ok-push.ensures.ok c.in_ok-v.ensures.decided c.len-at.ensures
 
 pub swap_word-returns-clause-answer : goal.swap_word-returns-clause-answer
@@ -50,7 +48,7 @@ swap_word-returns-clause-went g t c =
     ∙ still_at c.args.arena.now _ c.args.known.now c.push.new.self c.swap_below_words.new.known (c.args.a, c.args.b, false) c.in_ok-push.ensures.ok c.in_ok-v.ensures.decided)
     refl c.set.ensures
     (went_pushed c.args.arena.now c.args.a c.args.b false _ _ c.args.known.now c.push.new.self c.swap_below_words.new.known c.args.steps.now c.swap_below_words.new.steps
-    c.requires.a c.requires.b c.in_ok-push.ensures.ok (λ h. c.in_default.ensures.none (subst (λ (l : List Entry). Contains (keys_of l) (c.args.a, c.args.b)) (sym c.as_slice.ensures) h)) c.swap_below_words.ensures.went)
+    c.requires.a c.requires.b c.in_ok-push.ensures.ok c.in_default.ensures.none c.swap_below_words.ensures.went)
 
 pub swap_below_words-returns-in-Differ-clause-decided : goal.swap_below_words-returns-in-Differ-clause-decided
 swap_below_words-returns-in-Differ-clause-decided g t c = decided_none _ _ _
@@ -67,7 +65,7 @@ pub swap_mem-returns-then-are_mems_stated-clause-went : goal.swap_mem-returns-th
 swap_mem-returns-then-are_mems_stated-clause-went g t c = went_none _ _ c.args.known.now c.args.known.now _ _ refl (omega arith)
 
 pub swap_mem-returns-in-Some-clause-answer : goal.swap_mem-returns-in-Some-clause-answer
-swap_mem-returns-in-Some-clause-answer g t c = mem_known c.args.arena.now _ c.args.known.now c.args.a c.args.b c.in-Some.v c.requires.known (subst (λ (l : List Entry). Contains l (c.args.a, c.args.b, c.in-Some.v)) c.as_slice.ensures c.in-Some.ensures.found) c.requires.a c.requires.b
+swap_mem-returns-in-Some-clause-answer g t c = mem_known c.args.arena.now _ c.args.known.now c.args.a c.args.b c.in-Some.v c.requires.known c.in-Some.ensures.found c.requires.a c.requires.b
 
 pub swap_mem-returns-in-Some-clause-decided : goal.swap_mem-returns-in-Some-clause-decided
 swap_mem-returns-in-Some-clause-decided g t c = decided_none _ _ _
@@ -81,11 +79,11 @@ swap_mem-returns-in_err-push-clause-went g t c = went_none _ _ c.args.known.now 
 pub swap_mem-returns-in_err-v-clause-went : goal.swap_mem-returns-in_err-v-clause-went
 swap_mem-returns-in_err-v-clause-went g t c =
     went_pushed c.args.arena.now c.args.a c.args.b false _ _ c.args.known.now c.push.new.self c.swap_below_mems.new.known c.args.steps.now c.swap_below_mems.new.steps
-    c.requires.a c.requires.b c.in_ok-push.ensures.ok (λ h. c.in_default.ensures.none (subst (λ (l : List Entry). Contains (keys_of l) (c.args.a, c.args.b)) (sym c.as_slice.ensures) h)) c.swap_below_mems.ensures.went
+    c.requires.a c.requires.b c.in_ok-push.ensures.ok c.in_default.ensures.none c.swap_below_mems.ensures.went
 
 pub swap_mem-set-requires : goal.swap_mem-set-requires
 swap_mem-set-requires g t c =
-    place_within c.args.arena.now _ c.args.known.now c.push.new.self c.swap_below_mems.new.known (c.args.a, c.args.b, false) c.len-at.result
+    key_still c.args.arena.now _ c.args.known.now c.push.new.self c.swap_below_mems.new.known (c.args.a, c.args.b, false) c.len-at.result
     c.in_ok-push.ensures.ok c.in_ok-v.ensures.decided c.len-at.ensures
 
 pub swap_mem-returns-clause-answer : goal.swap_mem-returns-clause-answer
@@ -105,7 +103,7 @@ swap_mem-returns-clause-went g t c =
     ∙ still_at c.args.arena.now _ c.args.known.now c.push.new.self c.swap_below_mems.new.known (c.args.a, c.args.b, false) c.in_ok-push.ensures.ok c.in_ok-v.ensures.decided)
     refl c.set.ensures
     (went_pushed c.args.arena.now c.args.a c.args.b false _ _ c.args.known.now c.push.new.self c.swap_below_mems.new.known c.args.steps.now c.swap_below_mems.new.steps
-    c.requires.a c.requires.b c.in_ok-push.ensures.ok (λ h. c.in_default.ensures.none (subst (λ (l : List Entry). Contains (keys_of l) (c.args.a, c.args.b)) (sym c.as_slice.ensures) h)) c.swap_below_mems.ensures.went)
+    c.requires.a c.requires.b c.in_ok-push.ensures.ok c.in_default.ensures.none c.swap_below_mems.ensures.went)
 
 pub swap_below_mems-returns-in-Differ-clause-decided : goal.swap_below_mems-returns-in-Differ-clause-decided
 swap_below_mems-returns-in-Differ-clause-decided g t c = decided_none _ _ _

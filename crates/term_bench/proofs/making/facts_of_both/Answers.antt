@@ -1,3 +1,6 @@
+use Rattle.std.proofs.Common.{List, subst}
+use Rattle.held_terms.specs.declared.held.HeldFact.{HeldFact}
+use Rattle.term_bench.specs.inner.Making.{AddedIfNew}
 use Rattle.term_bench.proofs.MakingLemmas.{both_more, fine_more}
 use Rattle.term_bench.proofs.making.facts_of_both.Goals as goal
 
@@ -9,7 +12,8 @@ loop-fact-preserved c =
     let i = c.loop-fact.fact-index in
     let old = c.loop-fact.all in
     let new = c.add_if_new.new.all in
+    let added = subst (λ (known : List HeldFact). AddedIfNew ns known c.fact-item.result old new) c.new-known.ensures c.in_ok-add_if_new.ensures in
     record {
-      both = both_more ns first second i c.fact-item.result c.loop-fact-test.true c.fact-item.is old new c.in_ok-add_if_new.ensures c.loop-fact.invariant.both;
-      fine = fine_more ns first second old new i c.fact-item.result c.loop-fact-test.true c.fact-item.is c.in_ok-add_if_new.ensures c.requires.second c.loop-fact.invariant.fine;
+      both = both_more ns first second i c.fact-item.result c.loop-fact-test.true c.fact-item.is old new added c.loop-fact.invariant.both;
+      fine = fine_more ns first second old new i c.fact-item.result c.loop-fact-test.true c.fact-item.is added c.requires.second c.loop-fact.invariant.fine;
     }

@@ -1,14 +1,15 @@
 use Rattle.std.proofs.Common.{[], ◌∷◌, sym, subst}
 use Rattle.triple_kernel.specs.declared.triple.Fact.{Fact}
-use Rattle.word_terms.specs.Tree.{mem_tree, word_tree}
+use Rattle.word_terms.specs.Tree.{cond_tree, mem_tree, word_tree}
 use Rattle.tailrec_lang.specs.Tree.{values_tree}
 use Rattle.triple_kernel.specs.Tree.{fact_tree}
-use Rattle.term_arena.specs.Arena.{OfMem, OfWord}
+use Rattle.term_arena.specs.Arena.{OfCond, OfMem, OfWord}
 use Rattle.held_terms.specs.declared.held.HeldFact.TheVariants as held
 use Rattle.term_bench.specs.Terms.{AreTermsPutIn, fact_terms, values_terms}
 use Rattle.term_bench.specs.inner.Put.{IsFactPut}
 use Rattle.term_bench.proofs.PutLemmas.{gives_put, mem_stays, mems_equal, so_put, values_stay, word_stays, words_equal}
 use Rattle.term_bench.proofs.PutOrder.{terms-then}
+use Rattle.term_bench.proofs.PutSteps.{both_steps, fact_steps, first_steps, one_step}
 use Rattle.term_bench.proofs.put.put_fact.Goals as goal
 
 pub returns-in_ok-y-in-WordIs-clause-put : goal.returns-in_ok-y-in-WordIs-clause-put
@@ -71,3 +72,40 @@ returns-in_ok-y-in-Gives-clause-order g c =
     let two = c.put_values-in-Gives.new.arena in
     subst (λ (f : Fact). AreTermsPutIn start (fact_terms (fact_tree f)) two) (sym c.in-Gives.is)
     (terms-then start (values_terms (values_tree c.in-Gives.args)) one (values_terms (values_tree c.in-Gives.results)) two c.in_ok-x-in-Gives.ensures.order c.in_ok-y-in-Gives.ensures.order)
+
+pub returns-in_err-x-in-WordIs-clause-steps : goal.returns-in_err-x-in-WordIs-clause-steps
+returns-in_err-x-in-WordIs-clause-steps g c = fact_steps c.args.fact.now _ c.args.steps.now c.put_word.new.steps c.in-WordIs.is (first_steps c.args.steps.now c.put_word.new.steps (OfWord (word_tree c.in-WordIs.a) ∷ []) (OfWord (word_tree c.in-WordIs.b) ∷ []) (one_step c.args.steps.now c.put_word.new.steps (OfWord (word_tree c.in-WordIs.a)) c.put_word.ensures.steps))
+
+pub returns-in_err-y-in-WordIs-clause-steps : goal.returns-in_err-y-in-WordIs-clause-steps
+returns-in_err-y-in-WordIs-clause-steps g c = fact_steps c.args.fact.now _ c.args.steps.now c.put_word-in-WordIs.new.steps c.in-WordIs.is (both_steps c.args.steps.now c.put_word.new.steps c.put_word-in-WordIs.new.steps (OfWord (word_tree c.in-WordIs.a) ∷ []) (OfWord (word_tree c.in-WordIs.b) ∷ []) (one_step c.args.steps.now c.put_word.new.steps (OfWord (word_tree c.in-WordIs.a)) c.put_word.ensures.steps) (one_step c.put_word.new.steps c.put_word-in-WordIs.new.steps (OfWord (word_tree c.in-WordIs.b)) c.put_word-in-WordIs.ensures.steps))
+
+pub returns-in_ok-y-in-WordIs-clause-steps : goal.returns-in_ok-y-in-WordIs-clause-steps
+returns-in_ok-y-in-WordIs-clause-steps g c = fact_steps c.args.fact.now _ c.args.steps.now c.put_word-in-WordIs.new.steps c.in-WordIs.is (both_steps c.args.steps.now c.put_word.new.steps c.put_word-in-WordIs.new.steps (OfWord (word_tree c.in-WordIs.a) ∷ []) (OfWord (word_tree c.in-WordIs.b) ∷ []) (one_step c.args.steps.now c.put_word.new.steps (OfWord (word_tree c.in-WordIs.a)) c.put_word.ensures.steps) (one_step c.put_word.new.steps c.put_word-in-WordIs.new.steps (OfWord (word_tree c.in-WordIs.b)) c.put_word-in-WordIs.ensures.steps))
+
+pub returns-in_err-x-in-MemIs-clause-steps : goal.returns-in_err-x-in-MemIs-clause-steps
+returns-in_err-x-in-MemIs-clause-steps g c = fact_steps c.args.fact.now _ c.args.steps.now c.put_mem.new.steps c.in-MemIs.is (first_steps c.args.steps.now c.put_mem.new.steps (OfMem (mem_tree c.in-MemIs.a) ∷ []) (OfMem (mem_tree c.in-MemIs.b) ∷ []) (one_step c.args.steps.now c.put_mem.new.steps (OfMem (mem_tree c.in-MemIs.a)) c.put_mem.ensures.steps))
+
+pub returns-in_err-y-in-MemIs-clause-steps : goal.returns-in_err-y-in-MemIs-clause-steps
+returns-in_err-y-in-MemIs-clause-steps g c = fact_steps c.args.fact.now _ c.args.steps.now c.put_mem-in-MemIs.new.steps c.in-MemIs.is (both_steps c.args.steps.now c.put_mem.new.steps c.put_mem-in-MemIs.new.steps (OfMem (mem_tree c.in-MemIs.a) ∷ []) (OfMem (mem_tree c.in-MemIs.b) ∷ []) (one_step c.args.steps.now c.put_mem.new.steps (OfMem (mem_tree c.in-MemIs.a)) c.put_mem.ensures.steps) (one_step c.put_mem.new.steps c.put_mem-in-MemIs.new.steps (OfMem (mem_tree c.in-MemIs.b)) c.put_mem-in-MemIs.ensures.steps))
+
+pub returns-in_ok-y-in-MemIs-clause-steps : goal.returns-in_ok-y-in-MemIs-clause-steps
+returns-in_ok-y-in-MemIs-clause-steps g c = fact_steps c.args.fact.now _ c.args.steps.now c.put_mem-in-MemIs.new.steps c.in-MemIs.is (both_steps c.args.steps.now c.put_mem.new.steps c.put_mem-in-MemIs.new.steps (OfMem (mem_tree c.in-MemIs.a) ∷ []) (OfMem (mem_tree c.in-MemIs.b) ∷ []) (one_step c.args.steps.now c.put_mem.new.steps (OfMem (mem_tree c.in-MemIs.a)) c.put_mem.ensures.steps) (one_step c.put_mem.new.steps c.put_mem-in-MemIs.new.steps (OfMem (mem_tree c.in-MemIs.b)) c.put_mem-in-MemIs.ensures.steps))
+
+pub returns-in_err-x-in-So-clause-steps : goal.returns-in_err-x-in-So-clause-steps
+returns-in_err-x-in-So-clause-steps g c = fact_steps c.args.fact.now _ c.args.steps.now c.put_cond.new.steps c.in-So.is (one_step c.args.steps.now c.put_cond.new.steps (OfCond (cond_tree c.in-So.c)) c.put_cond.ensures.steps)
+
+pub returns-in_ok-x-in-So-clause-steps : goal.returns-in_ok-x-in-So-clause-steps
+returns-in_ok-x-in-So-clause-steps g c = fact_steps c.args.fact.now _ c.args.steps.now c.put_cond.new.steps c.in-So.is (one_step c.args.steps.now c.put_cond.new.steps (OfCond (cond_tree c.in-So.c)) c.put_cond.ensures.steps)
+
+pub returns-in_err-x-in-Gives-clause-steps : goal.returns-in_err-x-in-Gives-clause-steps
+returns-in_err-x-in-Gives-clause-steps g c = fact_steps c.args.fact.now _ c.args.steps.now c.put_values.new.steps c.in-Gives.is (first_steps c.args.steps.now c.put_values.new.steps (values_terms (values_tree c.in-Gives.args)) (values_terms (values_tree c.in-Gives.results)) c.put_values.ensures.steps)
+
+pub returns-in_err-y-in-Gives-clause-steps : goal.returns-in_err-y-in-Gives-clause-steps
+returns-in_err-y-in-Gives-clause-steps g c =
+    fact_steps c.args.fact.now _ c.args.steps.now c.put_values-in-Gives.new.steps c.in-Gives.is
+    (both_steps c.args.steps.now c.put_values.new.steps c.put_values-in-Gives.new.steps (values_terms (values_tree c.in-Gives.args)) (values_terms (values_tree c.in-Gives.results)) c.put_values.ensures.steps c.put_values-in-Gives.ensures.steps)
+
+pub returns-in_ok-y-in-Gives-clause-steps : goal.returns-in_ok-y-in-Gives-clause-steps
+returns-in_ok-y-in-Gives-clause-steps g c =
+    fact_steps c.args.fact.now _ c.args.steps.now c.put_values-in-Gives.new.steps c.in-Gives.is
+    (both_steps c.args.steps.now c.put_values.new.steps c.put_values-in-Gives.new.steps (values_terms (values_tree c.in-Gives.args)) (values_terms (values_tree c.in-Gives.results)) c.put_values.ensures.steps c.put_values-in-Gives.ensures.steps)

@@ -1,7 +1,7 @@
-use Rattle.std.proofs.Common.{map, take}
+use Rattle.std.proofs.Common.{◌+◌, ◌≤◌, drop, map, take}
 use Rattle.term_arena.specs.Arena.{Extends, OfMem}
 use Rattle.word_terms.specs.Tree.{mem_tree}
-use Rattle.term_bench.specs.Terms.{AreTermsPutIn}
+use Rattle.term_bench.specs.Terms.{AreTermsPutIn, nodes_of}
 use Rattle.term_bench.specs.inner.Put.{AreMemsPut}
 use Rattle.term_bench.proofs.put.put_mems.Given as goal
 
@@ -10,4 +10,5 @@ invariant-loop-mem g l = record {
   grows : Extends l.fn.arena l.arena;
   put : AreMemsPut l.arena l.numbers (map mem_tree (take l.mem-index l.mems));
   order : AreTermsPutIn l.fn.arena (map OfMem (map mem_tree (take l.mem-index l.mems))) l.arena;
+  few : l.steps + nodes_of (map OfMem (map mem_tree (drop l.mem-index l.mems))) ≤ l.fn.steps + nodes_of (map OfMem (map mem_tree l.mems));
 }

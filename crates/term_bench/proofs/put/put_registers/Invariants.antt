@@ -1,7 +1,7 @@
-use Rattle.std.proofs.Common.{map, take}
+use Rattle.std.proofs.Common.{◌+◌, ◌≤◌, drop, map, take}
 use Rattle.term_arena.specs.Arena.{Extends, OfWord}
 use Rattle.sep_assert.specs.Tree.{register_tree}
-use Rattle.term_bench.specs.Terms.{AreTermsPutIn}
+use Rattle.term_bench.specs.Terms.{AreTermsPutIn, nodes_of}
 use Rattle.term_bench.specs.inner.Put.{AreRegistersPut}
 use Rattle.term_bench.proofs.put.put_registers.Given as goal
 
@@ -10,4 +10,5 @@ invariant-loop-register g l = record {
   grows : Extends l.fn.arena l.arena;
   put : AreRegistersPut l.arena l.numbers (map register_tree (take l.register-index l.registers));
   order : AreTermsPutIn l.fn.arena (map (λ r. OfWord r.1) (map register_tree (take l.register-index l.registers))) l.arena;
+  few : l.steps + nodes_of (map (λ r. OfWord r.1) (map register_tree (drop l.register-index l.registers))) ≤ l.fn.steps + nodes_of (map (λ r. OfWord r.1) (map register_tree l.registers));
 }

@@ -1,14 +1,15 @@
-use Rattle.std.proofs.Common.{ℕ, List, [], ◌∷◌, ◌++◌, map, subst}
+use Rattle.std.proofs.Common.{ℕ, ◌+◌, ◌≤◌, List, [], ◌∷◌, ◌++◌, map, subst}
 use Rattle.word_terms.specs.declared.term.Word.{Word}
 use Rattle.word_terms.specs.declared.term.Mem.{Mem}
 use Rattle.word_terms.specs.Tree.{mem_tree, word_tree}
 use Rattle.sep_assert.specs.Tree.{register_tree}
 use Rattle.held_terms.proofs.InstanceLemmas.{extends_next}
 use Rattle.term_arena.specs.Arena.{OfMem, OfWord}
-use Rattle.term_bench.specs.Terms.{AreTermsPutIn}
+use Rattle.term_bench.specs.Terms.{AreTermsPutIn, nodes_of}
 use Rattle.term_bench.specs.inner.Put.{AreMemsPut, AreRegistersPut}
 use Rattle.term_bench.proofs.PutLemmas.{registers_stay, side_put, word_stays}
 use Rattle.term_bench.proofs.PutOrder.{terms-then}
+use Rattle.term_bench.proofs.PutSteps.{both_steps, first_steps, one_step}
 use Rattle.term_bench.proofs.put.put_side.Goals as goal
 
 pub returns-clause-put : goal.returns-clause-put
@@ -32,3 +33,26 @@ returns-clause-order g c =
     let mems = subst (λ (ms : List Mem). AreTermsPutIn two (map OfMem (map mem_tree ms)) three) c.as_slice-2.ensures c.in_ok-mems.ensures.order in
     terms-then start (OfWord (word_tree side.pc) ∷ []) one (map (λ r. OfWord r.1) (map register_tree side.regs) ++ map OfMem (map mem_tree side.mems)) three c.in_ok-pc.ensures.order
     (terms-then one (map (λ r. OfWord r.1) (map register_tree side.regs)) two (map OfMem (map mem_tree side.mems)) three regs mems)
+
+pub returns-in_err-pc-clause-steps : goal.returns-in_err-pc-clause-steps
+returns-in_err-pc-clause-steps g c = first_steps c.args.steps.now c.put_word.new.steps (OfWord (word_tree c.args.side.now.pc) ∷ []) (map (λ r. OfWord r.1) (map register_tree c.args.side.now.regs) ++ map OfMem (map mem_tree c.args.side.now.mems)) (one_step c.args.steps.now c.put_word.new.steps (OfWord (word_tree c.args.side.now.pc)) c.put_word.ensures.steps)
+
+pub returns-in_err-regs-clause-steps : goal.returns-in_err-regs-clause-steps
+returns-in_err-regs-clause-steps g c =
+    both_steps c.args.steps.now c.put_word.new.steps c.put_registers.new.steps (OfWord (word_tree c.args.side.now.pc) ∷ []) (map (λ r. OfWord r.1) (map register_tree c.args.side.now.regs) ++ map OfMem (map mem_tree c.args.side.now.mems)) (one_step c.args.steps.now c.put_word.new.steps (OfWord (word_tree c.args.side.now.pc)) c.put_word.ensures.steps)
+    (first_steps c.put_word.new.steps c.put_registers.new.steps (map (λ r. OfWord r.1) (map register_tree c.args.side.now.regs)) (map OfMem (map mem_tree c.args.side.now.mems))
+    (subst (λ (rs : List (ℕ × Word)). c.put_registers.new.steps ≤ c.put_word.new.steps + nodes_of (map (λ r. OfWord r.1) (map register_tree rs))) c.as_slice.ensures c.put_registers.ensures.steps))
+
+pub returns-in_err-mems-clause-steps : goal.returns-in_err-mems-clause-steps
+returns-in_err-mems-clause-steps g c =
+    both_steps c.args.steps.now c.put_word.new.steps c.put_mems.new.steps (OfWord (word_tree c.args.side.now.pc) ∷ []) (map (λ r. OfWord r.1) (map register_tree c.args.side.now.regs) ++ map OfMem (map mem_tree c.args.side.now.mems)) (one_step c.args.steps.now c.put_word.new.steps (OfWord (word_tree c.args.side.now.pc)) c.put_word.ensures.steps)
+    (both_steps c.put_word.new.steps c.put_registers.new.steps c.put_mems.new.steps (map (λ r. OfWord r.1) (map register_tree c.args.side.now.regs)) (map OfMem (map mem_tree c.args.side.now.mems))
+    (subst (λ (rs : List (ℕ × Word)). c.put_registers.new.steps ≤ c.put_word.new.steps + nodes_of (map (λ r. OfWord r.1) (map register_tree rs))) c.as_slice.ensures c.put_registers.ensures.steps)
+    (subst (λ (ms : List Mem). c.put_mems.new.steps ≤ c.put_registers.new.steps + nodes_of (map OfMem (map mem_tree ms))) c.as_slice-2.ensures c.put_mems.ensures.steps))
+
+pub returns-clause-steps : goal.returns-clause-steps
+returns-clause-steps g c =
+    both_steps c.args.steps.now c.put_word.new.steps c.put_mems.new.steps (OfWord (word_tree c.args.side.now.pc) ∷ []) (map (λ r. OfWord r.1) (map register_tree c.args.side.now.regs) ++ map OfMem (map mem_tree c.args.side.now.mems)) (one_step c.args.steps.now c.put_word.new.steps (OfWord (word_tree c.args.side.now.pc)) c.put_word.ensures.steps)
+    (both_steps c.put_word.new.steps c.put_registers.new.steps c.put_mems.new.steps (map (λ r. OfWord r.1) (map register_tree c.args.side.now.regs)) (map OfMem (map mem_tree c.args.side.now.mems))
+    (subst (λ (rs : List (ℕ × Word)). c.put_registers.new.steps ≤ c.put_word.new.steps + nodes_of (map (λ r. OfWord r.1) (map register_tree rs))) c.as_slice.ensures c.put_registers.ensures.steps)
+    (subst (λ (ms : List Mem). c.put_mems.new.steps ≤ c.put_registers.new.steps + nodes_of (map OfMem (map mem_tree ms))) c.as_slice-2.ensures c.put_mems.ensures.steps))

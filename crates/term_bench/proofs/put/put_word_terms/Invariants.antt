@@ -1,7 +1,7 @@
-use Rattle.std.proofs.Common.{map, take}
+use Rattle.std.proofs.Common.{◌+◌, ◌≤◌, drop, map, take}
 use Rattle.term_arena.specs.Arena.{Extends, OfWord}
 use Rattle.proof_text.specs.Line.{word_put_in}
-use Rattle.term_bench.specs.Terms.{AreTermsPutIn}
+use Rattle.term_bench.specs.Terms.{AreTermsPutIn, nodes_of}
 use Rattle.term_bench.specs.inner.Put.{AreRegistersPut}
 use Rattle.term_bench.proofs.put.put_word_terms.Given as goal
 
@@ -10,4 +10,5 @@ invariant-loop-term g l = record {
   grows : Extends l.fn.arena l.arena;
   put : AreRegistersPut l.arena l.numbers (map word_put_in (take l.term-index l.terms));
   order : AreTermsPutIn l.fn.arena (map (λ p. OfWord p.1) (map word_put_in (take l.term-index l.terms))) l.arena;
+  few : l.steps + nodes_of (map (λ p. OfWord p.1) (map word_put_in (drop l.term-index l.terms))) ≤ l.fn.steps + nodes_of (map (λ p. OfWord p.1) (map word_put_in l.terms));
 }

@@ -1,5 +1,7 @@
-use Rattle.std.proofs.Common.{ℕ, List, map, sym, subst, IsTrue}
+use Rattle.std.proofs.Common.{ℕ, ◌+◌, ◌≤◌, List, map, sym, subst, IsTrue, arith}
 use Rattle.std.specs.Prelude.{◌↔◌}
+use Rattle.word_terms.specs.Tree.{MemTree, WordTree}
+use Rattle.term_arena.specs.Arena.{OfMem, OfWord}
 use Rattle.word_terms.specs.declared.term.Word.{Word}
 use Rattle.word_terms.specs.declared.term.Mem.{Mem}
 use Rattle.proof_text.specs.Line.{mem_put_in, word_put_in}
@@ -7,7 +9,11 @@ use Rattle.triple_kernel.specs.Rules.{IsInst}
 use Rattle.held_terms.specs.Held.{triple_of}
 use Rattle.held_terms.specs.Image.{IsSubAt, put_for_numbers}
 use Rattle.held_terms.proofs.InstanceLemmas.{extends_next, held_still}
+use Rattle.held_terms.proofs.AskedLemmas.{held_asked}
+use Rattle.term_bench.specs.Terms.{nodes_of}
 use Rattle.term_bench.specs.inner.Put.{AreMemTermsPut, AreRegistersPut}
+use Rattle.term_bench.proofs.PutSteps.{nodes_then}
+use Rattle.term_bench.proofs.SubtermLemmas.{held_at}
 use Rattle.term_bench.proofs.PutLemmas.{registers_stay}
 use Rattle.term_bench.proofs.RuleLemmas.{inst_row, sub_put}
 use Rattle.term_bench.proofs.rules.is_instance_by.Goals as goal
@@ -48,3 +54,51 @@ returns-clause-answer g c =
     let is = subst (λ (l : List (ℕ × ℕ)). IsTrue c.in_ok-same.same ↔ IsInst (put_for_numbers two ws l) (triple_of two p) (triple_of two t)) c.as_slice-4.ensures
     (subst (λ (l : List (ℕ × ℕ)). IsTrue c.in_ok-same.same ↔ IsInst (put_for_numbers two l c.as_slice-4.result.now) (triple_of two p) (triple_of two t)) c.as_slice-3.ensures c.in_ok-same.ensures.answer) in
     inst_row old two ws ms _ _ p t (IsTrue c.in_ok-same.same) (extends_next old one two c.put_word_terms.ensures.grows c.put_mem_terms.ensures.grows) words mems c.requires.p c.requires.stated is
+
+pub returns-in_err-words-clause-steps : goal.returns-in_err-words-clause-steps
+returns-in_err-words-clause-steps g c ts has =
+    let ws = map (λ (q : ℕ × WordTree). OfWord q.1) (map word_put_in c.args.terms.now.words) in
+    let ms = map (λ (q : ℕ × MemTree). OfMem q.1) (map mem_put_in c.args.terms.now.mems) in
+    let both = nodes_then ws ms in
+    let one : c.put_word_terms.new.steps ≤ c.args.steps.now + nodes_of ws =
+    subst (λ (l : List (ℕ × Word)). c.put_word_terms.new.steps ≤ c.args.steps.now + nodes_of (map (λ (q : ℕ × WordTree). OfWord q.1) (map word_put_in l))) c.as_slice.ensures c.put_word_terms.ensures.steps in
+    omega (arith, one, both)
+
+pub returns-in_err-mems-clause-steps : goal.returns-in_err-mems-clause-steps
+returns-in_err-mems-clause-steps g c ts has =
+    let ws = map (λ (q : ℕ × WordTree). OfWord q.1) (map word_put_in c.args.terms.now.words) in
+    let ms = map (λ (q : ℕ × MemTree). OfMem q.1) (map mem_put_in c.args.terms.now.mems) in
+    let both = nodes_then ws ms in
+    let one : c.put_word_terms.new.steps ≤ c.args.steps.now + nodes_of ws =
+    subst (λ (l : List (ℕ × Word)). c.put_word_terms.new.steps ≤ c.args.steps.now + nodes_of (map (λ (q : ℕ × WordTree). OfWord q.1) (map word_put_in l))) c.as_slice.ensures c.put_word_terms.ensures.steps in
+    let two : c.put_mem_terms.new.steps ≤ c.put_word_terms.new.steps + nodes_of ms =
+    subst (λ (l : List (ℕ × Mem)). c.put_mem_terms.new.steps ≤ c.put_word_terms.new.steps + nodes_of (map (λ (q : ℕ × MemTree). OfMem q.1) (map mem_put_in l))) c.as_slice-2.ensures c.put_mem_terms.ensures.steps in
+    omega (arith, one, two, both)
+
+pub returns-in_err-same-clause-steps : goal.returns-in_err-same-clause-steps
+returns-in_err-same-clause-steps g c ts has =
+    let ws = map (λ (q : ℕ × WordTree). OfWord q.1) (map word_put_in c.args.terms.now.words) in
+    let ms = map (λ (q : ℕ × MemTree). OfMem q.1) (map mem_put_in c.args.terms.now.mems) in
+    let both = nodes_then ws ms in
+    let one : c.put_word_terms.new.steps ≤ c.args.steps.now + nodes_of ws =
+    subst (λ (l : List (ℕ × Word)). c.put_word_terms.new.steps ≤ c.args.steps.now + nodes_of (map (λ (q : ℕ × WordTree). OfWord q.1) (map word_put_in l))) c.as_slice.ensures c.put_word_terms.ensures.steps in
+    let two : c.put_mem_terms.new.steps ≤ c.put_word_terms.new.steps + nodes_of ms =
+    subst (λ (l : List (ℕ × Mem)). c.put_mem_terms.new.steps ≤ c.put_word_terms.new.steps + nodes_of (map (λ (q : ℕ × MemTree). OfMem q.1) (map mem_put_in l))) c.as_slice-2.ensures c.put_mem_terms.ensures.steps in
+    let arena = c.put_mem_terms.new.arena in
+    let grown = extends_next c.args.arena.now c.put_word_terms.new.arena arena c.put_word_terms.ensures.grows c.put_mem_terms.ensures.grows in
+    let three = c.is_instance.ensures.steps ts (held_asked c.args.arena.now arena grown ts c.args.p.now c.requires.p (held_at ts c.args.arena.now c.args.p.now c.requires.p has)) in
+    omega (arith, one, two, three, both)
+
+pub returns-clause-steps : goal.returns-clause-steps
+returns-clause-steps g c ts has =
+    let ws = map (λ (q : ℕ × WordTree). OfWord q.1) (map word_put_in c.args.terms.now.words) in
+    let ms = map (λ (q : ℕ × MemTree). OfMem q.1) (map mem_put_in c.args.terms.now.mems) in
+    let both = nodes_then ws ms in
+    let one : c.put_word_terms.new.steps ≤ c.args.steps.now + nodes_of ws =
+    subst (λ (l : List (ℕ × Word)). c.put_word_terms.new.steps ≤ c.args.steps.now + nodes_of (map (λ (q : ℕ × WordTree). OfWord q.1) (map word_put_in l))) c.as_slice.ensures c.put_word_terms.ensures.steps in
+    let two : c.put_mem_terms.new.steps ≤ c.put_word_terms.new.steps + nodes_of ms =
+    subst (λ (l : List (ℕ × Mem)). c.put_mem_terms.new.steps ≤ c.put_word_terms.new.steps + nodes_of (map (λ (q : ℕ × MemTree). OfMem q.1) (map mem_put_in l))) c.as_slice-2.ensures c.put_mem_terms.ensures.steps in
+    let arena = c.put_mem_terms.new.arena in
+    let grown = extends_next c.args.arena.now c.put_word_terms.new.arena arena c.put_word_terms.ensures.grows c.put_mem_terms.ensures.grows in
+    let three = c.is_instance.ensures.steps ts (held_asked c.args.arena.now arena grown ts c.args.p.now c.requires.p (held_at ts c.args.arena.now c.args.p.now c.requires.p has)) in
+    omega (arith, one, two, three, both)

@@ -1,8 +1,9 @@
-use Rattle.std.proofs.Common.{map, ap, ◌∙◌, subst, IfOk, IsTrue}
-use Rattle.std.specs.Prelude.{◌↔◌}
+use Rattle.std.proofs.Common.{◌+◌, ◌≤◌, map, ap, ◌∙◌, subst, IfOk, IsTrue}
+use Rattle.std.specs.Prelude.{◌↔◌, slice_get}
 use Rattle.term_arena.specs.Arena.{Extends}
 use Rattle.loop_rule.specs.Rule.{IsClosedBy}
 use Rattle.term_bench.specs.Bench.{BenchState, state_group, state_history, state_nodes}
+use Rattle.term_bench.specs.Terms.{closing_terms, nodes_of}
 use Rattle.term_bench.proofs.BenchLemmas.{history_stays, sound_grown}
 use Rattle.term_bench.proofs.DepthLemmas.{depths_stay}
 use Rattle.term_bench.proofs.bench.Bench.is_closed_by.Goals as goal
@@ -27,3 +28,7 @@ returns-clause-grows g c = subst (λ (k : BenchState). Extends (state_nodes k) c
 pub returns-clause-answer : goal.returns-clause-answer
 returns-clause-answer g c =
     subst (λ (k : BenchState). IfOk c.is_closed_by.result (λ r. IsTrue r ↔ IsClosedBy (state_group k) c.args.def (map (state_history k).theorem c.args.cited.now))) c.self.view_is c.is_closed_by.ensures.answer
+
+pub returns-clause-steps : goal.returns-clause-steps
+returns-clause-steps g c =
+    subst (λ (k : BenchState). c.is_closed_by.new.steps ≤ c.args.steps.now + nodes_of (closing_terms (state_group k) (slice_get (state_group k).defs c.args.def))) c.self.view_is c.is_closed_by.ensures.steps

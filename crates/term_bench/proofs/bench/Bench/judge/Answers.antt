@@ -1,6 +1,9 @@
-use Rattle.term_bench.specs.Bench.{state_nodes}
+use Rattle.term_bench.specs.Bench.{state_group, state_history, state_nodes}
 use Rattle.term_bench.proofs.BenchLemmas.{extends_same}
-use Rattle.std.proofs.Common.{refl}
+use Rattle.std.proofs.Common.{◌≡◌, ◌+◌, ◌≤◌, true, true≢false, refl, sym, ap, subst, ◌∙◌, arith}
+use Rattle.proof_text.specs.declared.line.Line.{Line}
+use Rattle.proof_text.specs.Line.{line_tree}
+use Rattle.term_bench.specs.Terms.{HasLine, is_bounded_line, is_compared, is_loop, loop_terms, nodes_of, pair_steps, stated_triple_terms, whole_line_terms}
 use Rattle.term_bench.proofs.bench.Bench.judge.Goals as goal
 
 pub returns-in-Forget-clause-grows : goal.returns-in-Forget-clause-grows
@@ -8,3 +11,43 @@ returns-in-Forget-clause-grows g c = extends_same (state_nodes c.args.self.now) 
 
 pub returns-in-Further-clause-grows : goal.returns-in-Further-clause-grows
 returns-in-Further-clause-grows g c = extends_same (state_nodes c.args.self.now) (state_nodes c.args.self.now) refl
+
+pub returns-in-States-clause-steps : goal.returns-in-States-clause-steps
+returns-in-States-clause-steps g c =
+    subst (λ (l : Line). is_compared (line_tree l) ≡ true → c.state.new.steps ≤ c.args.steps.now + nodes_of (stated_triple_terms (line_tree l))) (sym c.in-States.is) c.state.ensures.steps
+
+pub returns-in-Loop-clause-steps : goal.returns-in-Loop-clause-steps
+returns-in-Loop-clause-steps g c = λ e. absurd (true≢false (sym e ∙ ap (λ (l : Line). is_compared (line_tree l)) c.in-Loop.is))
+
+pub returns-in-Forget-clause-steps : goal.returns-in-Forget-clause-steps
+returns-in-Forget-clause-steps g c = λ e. omega arith
+
+pub returns-in-Further-clause-steps : goal.returns-in-Further-clause-steps
+returns-in-Further-clause-steps g c = λ e. omega arith
+
+pub returns-in-States-clause-most : goal.returns-in-States-clause-most
+returns-in-States-clause-most g c = λ e ts has.
+    subst (λ (l : Line). is_bounded_line (line_tree l) ≡ true → HasLine (state_history c.args.self.now).theorem (line_tree l) ts → c.state.new.steps ≤ c.args.steps.now + (nodes_of (whole_line_terms (line_tree l)) + pair_steps ts)) (sym c.in-States.is)
+    (λ b h. c.state.ensures.most b ts h.0 h.1) e has
+
+pub returns-in-Loop-clause-most : goal.returns-in-Loop-clause-most
+returns-in-Loop-clause-most g c = λ e. absurd (true≢false (sym e ∙ ap (λ (l : Line). is_bounded_line (line_tree l)) c.in-Loop.is))
+
+pub returns-in-Forget-clause-most : goal.returns-in-Forget-clause-most
+returns-in-Forget-clause-most g c = λ e ts has. omega arith
+
+pub returns-in-Further-clause-most : goal.returns-in-Further-clause-most
+returns-in-Further-clause-most g c = λ e ts has. omega arith
+
+pub returns-in-Loop-clause-closing : goal.returns-in-Loop-clause-closing
+returns-in-Loop-clause-closing g c = λ e.
+    subst (λ (l : Line). c.close.new.steps ≤ c.args.steps.now + nodes_of (loop_terms (state_group c.args.self.now) (line_tree l))) (sym c.in-Loop.is) c.close.ensures.steps
+
+pub returns-in-States-clause-closing : goal.returns-in-States-clause-closing
+returns-in-States-clause-closing g c = λ e. absurd (true≢false (sym e ∙ ap (λ (l : Line). is_loop (line_tree l)) c.in-States.is))
+
+pub returns-in-Forget-clause-closing : goal.returns-in-Forget-clause-closing
+returns-in-Forget-clause-closing g c = λ e. absurd (true≢false (sym e ∙ ap (λ (l : Line). is_loop (line_tree l)) c.in-Forget.is))
+
+pub returns-in-Further-clause-closing : goal.returns-in-Further-clause-closing
+returns-in-Further-clause-closing g c = λ e. absurd (true≢false (sym e ∙ ap (λ (l : Line). is_loop (line_tree l)) c.in-Further.is))

@@ -7,6 +7,7 @@ use Rattle.triple_kernel.specs.Tree.{triple_tree}
 use Rattle.proof_text.specs.Line.{rule_tree}
 use Rattle.checker.specs.Instance.{Meets}
 use Rattle.term_bench.specs.Bench.{BenchState, history_from, state_group, state_history, state_nodes}
+use Rattle.term_bench.specs.Terms.{HasSubterms, premise_terms}
 use Rattle.term_bench.specs.inner.Put.{IsHeldPut}
 use Rattle.term_bench.proofs.BenchLemmas.{history_stays, sound_grown}
 use Rattle.term_bench.proofs.RuleLemmas.{same_next}
@@ -41,3 +42,7 @@ returns-clause-answer g c =
     let answer = subst (λ (cs : List Bool). IfOk c.meets.result (λ b. IsTrue b ↔ Meets (group_tree s.group.now) (history_from 0 s.arena s.held.entries cs) r t)) c.as_slice.ensures c.meets.ensures.answer in
     subst (λ (k : BenchState). IfOk c.meets.result (λ b. IsTrue b ↔ Meets (state_group k) (state_history k) r t)) c.self.view_is
     (IfOk-weaker c.meets.result _ _ (λ b is. same_next (group_tree s.group.now) s.next s.arena s.held.entries s.closed r t (IsTrue b) is) answer)
+
+pub returns-clause-most : goal.returns-clause-most
+returns-clause-most g c = λ e ts has cited.
+    c.meets.ensures.most e ts has (subst (λ (k : BenchState). HasSubterms ts (premise_terms (state_history k).theorem (rule_tree c.args.rule.now))) (sym c.self.view_is) cited)

@@ -1,4 +1,4 @@
-use Rattle.std.proofs.Common.{List, ap, sym, ◌∙◌, subst}
+use Rattle.std.proofs.Common.{ℕ, ◌+◌, ◌≤◌, List, ap, sym, ◌∙◌, subst, arith}
 use Rattle.tailrec_lang.specs.Tree.{group_tree}
 use Rattle.triple_kernel.specs.Tree.{triple_tree}
 use Rattle.proof_text.specs.Line.{States, rule_tree}
@@ -6,8 +6,10 @@ use Rattle.term_arena.specs.declared.node.Node.{Node}
 use Rattle.term_arena.specs.Arena.{Extends}
 use Rattle.held_terms.specs.Held.{triple_of}
 use Rattle.held_terms.proofs.InstanceLemmas.{extends_next, held_still, same_triple}
-use Rattle.checker.specs.Instance.{with_theorem}
+use Rattle.checker.specs.Instance.{History, with_theorem}
 use Rattle.term_bench.specs.Bench.{state_group, state_history, state_nodes}
+use Rattle.term_bench.specs.Terms.{HasSubterms, nodes_of, premise_terms, put_in_terms, triple_terms}
+use Rattle.term_bench.proofs.PutSteps.{nodes_then}
 use Rattle.term_bench.proofs.BenchLemmas.{meets_same, same_with}
 use Rattle.term_bench.proofs.bench.Bench.state.Goals as goal
 
@@ -54,3 +56,63 @@ returns-then-not-so-clause-no_instance g c = λ e m.
     let one = c.put.new.self in
     let yes = c.in_ok-so.ensures.answer.1 ((meets_same (state_group old) (state_group one) (state_history old) (state_history one) (rule_tree c.args.rule.now) (triple_tree c.args.stated.now) (ap group_tree c.put.ensures.group) c.put.ensures.same).1 m) in
     absurd (cc)
+
+pub returns-in_err-so-clause-steps : goal.returns-in_err-so-clause-steps
+returns-in_err-so-clause-steps g c = λ e. subst (λ (n : ℕ). n ≤ c.args.steps.now + nodes_of (triple_terms (triple_tree c.args.stated.now))) (sym (c.meets.ensures.steps e)) c.put.ensures.steps
+
+pub returns-then-not-so-clause-steps : goal.returns-then-not-so-clause-steps
+returns-then-not-so-clause-steps g c = λ e. subst (λ (n : ℕ). n ≤ c.args.steps.now + nodes_of (triple_terms (triple_tree c.args.stated.now))) (sym (c.meets.ensures.steps e)) c.put.ensures.steps
+
+pub returns-in_err-keep-clause-steps : goal.returns-in_err-keep-clause-steps
+returns-in_err-keep-clause-steps g c = λ e. subst (λ (n : ℕ). n ≤ c.args.steps.now + nodes_of (triple_terms (triple_tree c.args.stated.now))) (sym (c.meets.ensures.steps e)) c.put.ensures.steps
+
+pub returns-clause-steps : goal.returns-clause-steps
+returns-clause-steps g c = λ e. subst (λ (n : ℕ). n ≤ c.args.steps.now + nodes_of (triple_terms (triple_tree c.args.stated.now))) (sym (c.meets.ensures.steps e)) c.put.ensures.steps
+
+pub returns-in_err-put-clause-most : goal.returns-in_err-put-clause-most
+returns-in_err-put-clause-most g c = λ e ts has cited.
+    let rule = rule_tree c.args.rule.now in
+    let stated = triple_tree c.args.stated.now in
+    let first = c.put.ensures.steps in
+    let both = nodes_then (triple_terms stated) (put_in_terms rule) in
+    omega (arith, first, both)
+
+pub returns-in_err-so-clause-most : goal.returns-in_err-so-clause-most
+returns-in_err-so-clause-most g c = λ e ts has cited.
+    let rule = rule_tree c.args.rule.now in
+    let stated = triple_tree c.args.stated.now in
+    let first = c.put.ensures.steps in
+    let both = nodes_then (triple_terms stated) (put_in_terms rule) in
+    let again = subst (λ (h : History). HasSubterms ts (premise_terms h.theorem rule)) (sym c.put.ensures.same) cited in
+    let next = c.meets.ensures.most e ts has again in
+    omega (arith, first, next, both)
+
+pub returns-then-not-so-clause-most : goal.returns-then-not-so-clause-most
+returns-then-not-so-clause-most g c = λ e ts has cited.
+    let rule = rule_tree c.args.rule.now in
+    let stated = triple_tree c.args.stated.now in
+    let first = c.put.ensures.steps in
+    let both = nodes_then (triple_terms stated) (put_in_terms rule) in
+    let again = subst (λ (h : History). HasSubterms ts (premise_terms h.theorem rule)) (sym c.put.ensures.same) cited in
+    let next = c.meets.ensures.most e ts has again in
+    omega (arith, first, next, both)
+
+pub returns-in_err-keep-clause-most : goal.returns-in_err-keep-clause-most
+returns-in_err-keep-clause-most g c = λ e ts has cited.
+    let rule = rule_tree c.args.rule.now in
+    let stated = triple_tree c.args.stated.now in
+    let first = c.put.ensures.steps in
+    let both = nodes_then (triple_terms stated) (put_in_terms rule) in
+    let again = subst (λ (h : History). HasSubterms ts (premise_terms h.theorem rule)) (sym c.put.ensures.same) cited in
+    let next = c.meets.ensures.most e ts has again in
+    omega (arith, first, next, both)
+
+pub returns-clause-most : goal.returns-clause-most
+returns-clause-most g c = λ e ts has cited.
+    let rule = rule_tree c.args.rule.now in
+    let stated = triple_tree c.args.stated.now in
+    let first = c.put.ensures.steps in
+    let both = nodes_then (triple_terms stated) (put_in_terms rule) in
+    let again = subst (λ (h : History). HasSubterms ts (premise_terms h.theorem rule)) (sym c.put.ensures.same) cited in
+    let next = c.meets.ensures.most e ts has again in
+    omega (arith, first, next, both)

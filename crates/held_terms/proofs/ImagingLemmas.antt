@@ -1,0 +1,289 @@
+-- Images that are made one after the other: which are being made, and how many steps it takes.
+use Rattle.std.proofs.Common.{◌≡◌, ◌⊎◌, ℕ, zero, suc, ◌+◌, ◌*◌, ◌<◌, ◌≤◌, true, false, true≢false, List, [], ◌∷◌, Option, Some, None, length, get_or, map, refl, ap, sym, ◌∙◌, subst, inl, inr, arith}
+use Rattle.std.specs.Prelude.{IsSome, if◌then◌else◌, is_some, slice_get}
+use Rattle.std.specs.Option.{option_flatten}
+use Rattle.std.specs.List.{Contains}
+use Rattle.std.specs.List.Sorted.{IsStrictlySortedBy}
+use Rattle.std.specs.BTreeMap.{IsOrdered, Updates, btree_map_len, get, is_at, keys}
+use Rattle.std.specs.Map.{lookup}
+use Rattle.std.specs.Ordering.{nat_cmp}
+use Rattle.std.specs.Cmp.{nat_cmp_total}
+use Rattle.std.proofs.lemmas.Map.Lookups.{exact_unsigned}
+use Rattle.std.proofs.lemmas.List.{length-map}
+use Rattle.std.proofs.lemmas.Bool.{cases_order}
+use Rattle.std.proofs.lemmas.Map.Keys.{below_from_sorted}
+use Rattle.std.proofs.lemmas.Map.Views.{btree_map_contains_key_iff}
+use Rattle.term_arena.specs.declared.node.Node.{Node}
+use Rattle.term_arena.specs.declared.node.Node.TheVariants as node
+use Rattle.term_arena.specs.Arena.{Tree, OfWord, OfMem, OfCond, tree_of, trees_of, tree_over, word_of, mem_of, cond_of, IsWordAt, IsMemAt, IsCondAt, AreChildren, Extends, IsArena}
+use Rattle.term_arena.proofs.Places.{at_contains, at_place, contains_at, map-at}
+use Rattle.term_arena.proofs.PutLemmas.{tree_stays}
+use Rattle.term_arena.proofs.TreeLemmas.{length-trees, one_number}
+use Rattle.held_terms.specs.Image.{Known}
+use Rattle.held_terms.specs.Subterms.{HasWord, HasMem, HasCond, HasTree, HasTerms, HasRegisters, HasValues, HasFact, HasFacts, HasSide, HasHeld}
+use Rattle.held_terms.specs.inner.Imaging.{AreAsked, AreEnded, AreMade, HasTerm, Imaged, IsFree}
+use Rattle.held_terms.specs.inner.Table.{IsIn}
+use Rattle.held_terms.proofs.FewLemmas.{few}
+use Rattle.held_terms.proofs.ImageLemmas.{put_cases, same_get}
+use Rattle.held_terms.proofs.LookLemmas.{read-at, within}
+use Rattle.held_terms.proofs.TableLemmas.{has_number}
+
+-- ---- which are being made
+
+pub none_asked : (known : Known) → known.entries ≡ [] → AreMade known
+none_asked known e = record { none = λ k h. let f : None ≡ Some None = sym (ap (λ (es : List (ℕ × Option ℕ)). lookup (is_at (nat_cmp k)) es) e) ∙ h in cc }
+
+pub free_all : (known : Known) (n : ℕ) → AreMade known → IsFree known n
+free_all known n m = record { above = λ k h. absurd (m.none k h) }
+
+pub free_less : (known : Known) (a x : ℕ) → IsFree known a → x < a → IsFree known (x + 1)
+free_less known a x f lt = record { above = λ k h. let le = f.above k h in omega (arith, le, lt) }
+
+-- .. after images that ended
+pub free_next : (old new : Known) (a x : ℕ) → IsFree old a → AreEnded old new → x < a → IsFree new (x + 1)
+free_next old new a x f e lt = record { above = λ k h. let le = f.above k (e.before k h) in omega (arith, le, lt) }
+
+pub free_after : (old mid new : Known) (a x : ℕ) → IsFree old a → AreEnded old mid → AreEnded mid new → x < a → IsFree new (x + 1)
+free_after old mid new a x f e d lt = record { above = λ k h. let le = f.above k (e.before k (d.before k h)) in omega (arith, le, lt) }
+
+pub free_begun : (old new : Known) (x : ℕ) → Updates nat_cmp old new x (Some None) → IsFree old (x + 1) → IsFree new x
+free_begun old new x u f = record {
+  above = λ k h. elim (put_cases old new x None k None u h) [
+    | inl here ↦ (let e = here.0 in omega (arith, e))
+    | inr there ↦ (let le = f.above k there.1 in omega (arith, le))
+  ];
+}
+
+pub ended_none : (known : Known) → AreEnded known known
+ended_none known = record { before = λ k h. h }
+
+pub ended_both : (old mid new : Known) → AreEnded old mid → AreEnded mid new → AreEnded old new
+ended_both old mid new e d = record { before = λ k h. e.before k (d.before k h) }
+
+-- the one that was begun is kept
+pub ended_kept : (old mid new last : Known) (x y : ℕ) → Updates nat_cmp old mid x (Some None) → AreEnded mid new → Updates nat_cmp new last x (Some (Some y)) → AreEnded old last
+ended_kept old mid new last x y u e v = record {
+  before = λ k h. elim (put_cases new last x (Some y) k None v h) [
+    | inl here ↦ (let f : None ≡ Some y = here.1 in cc)
+    | inr there ↦ elim (put_cases old mid x None k None u (e.before k there.1)) [
+      | inl again ↦ absurd (there.0 again.0)
+      | inr was ↦ was.1
+    ]
+  ];
+}
+
+pub made_still : (old new : Known) → AreMade old → AreEnded old new → AreMade new
+made_still old new m e = record { none = λ k h. m.none k (e.before k h) }
+
+-- ---- what lists have
+
+module _ (ns : List Node) where
+  word_has : (ts : List Tree) (k : ℕ) → IsWordAt ns k → HasWord ts (word_of ns k) → HasTerm ns k ts
+  word_has ts k h has = subst (HasTree ts) (sym h) has
+
+  mem_has : (ts : List Tree) (k : ℕ) → IsMemAt ns k → HasMem ts (mem_of ns k) → HasTerm ns k ts
+  mem_has ts k h has = subst (HasTree ts) (sym h) has
+
+  cond_has : (ts : List Tree) (k : ℕ) → IsCondAt ns k → HasCond ts (cond_of ns k) → HasTerm ns k ts
+  cond_has ts k h has = subst (HasTree ts) (sym h) has
+
+  -- each list that has a node's subterms has those of its children
+  abbrev Under : ℕ → ℕ → Type 0
+  Under x a = (ts : List Tree) → HasTerm ns x ts → HasTerm ns a ts
+
+  abbrev pub AreUnder : ℕ → Node → Type 0
+  AreUnder x (node.Bin op a b) = Under x a × Under x b
+  AreUnder x (node.Extend ext a) = Under x a
+  AreUnder x (node.Load width m a) = Under x m × Under x a
+  AreUnder x (node.Store width m a v) = Under x m × Under x a × Under x v
+  AreUnder x (node.Compare cmp a b) = Under x a × Under x b
+  AreUnder x (node.Neg c) = Under x c
+  AreUnder x (node.Inside width m a) = Under x m × Under x a
+  AreUnder x n = Unit {0}
+
+  pub children_under : (x : ℕ) (n : Node) → tree_of ns x ≡ Some (tree_over (trees_of ns) n) → AreChildren ns n → AreUnder x n
+  children_under x (node.Const n) e h = tt
+  children_under x (node.WordVar i) e h = tt
+  children_under x (node.MemVar i) e h = tt
+  children_under x (node.Bin op a b) e h = (λ ts has. word_has ts a h.0 (subst (HasTree ts) e has).1, λ ts has. word_has ts b h.1 (subst (HasTree ts) e has).2)
+  children_under x (node.Extend ext a) e h = λ ts has. word_has ts a h (subst (HasTree ts) e has).1
+  children_under x (node.Load width m a) e h = (λ ts has. mem_has ts m h.0 (subst (HasTree ts) e has).1, λ ts has. word_has ts a h.1 (subst (HasTree ts) e has).2)
+  children_under x (node.Store width m a v) e h =
+      (λ ts has. mem_has ts m h.0 (subst (HasTree ts) e has).1, λ ts has. word_has ts a h.1 (subst (HasTree ts) e has).2, λ ts has. word_has ts v h.2 (subst (HasTree ts) e has).3)
+  children_under x (node.Compare cmp a b) e h = (λ ts has. word_has ts a h.0 (subst (HasTree ts) e has).1, λ ts has. word_has ts b h.1 (subst (HasTree ts) e has).2)
+  children_under x (node.Neg c) e h = λ ts has. cond_has ts c h (subst (HasTree ts) e has).1
+  children_under x (node.Inside width m a) e h = (λ ts has. mem_has ts m h.0 (subst (HasTree ts) e has).1, λ ts has. word_has ts a h.1 (subst (HasTree ts) e has).2)
+
+-- in a larger arena
+module _ (ms ns : List Node) (e : Extends ms ns) where
+  pub has_still : (k : ℕ) (ts : List Tree) → k < length ms → HasTerm ms k ts → HasTerm ns k ts
+  has_still k ts low has =
+      let l = length-trees ms in
+      let here : k < length (trees_of ms) = omega (arith, low, l) in
+      let at = at_place (trees_of ms) k here in
+      subst (HasTree ts) (sym (tree_stays ms ns k at.0 e at.1)) (subst (HasTree ts) at.1 has)
+
+  in_still : (ts : List Tree) (k : ℕ) → IsIn ms ts k → IsIn ns ts k
+  in_still ts k i = record { tree = i.tree; at = tree_stays ms ns k i.tree e i.at; here = i.here }
+
+  asked_still : (ts : List Tree) (known : Known) → AreAsked ms ts known → AreAsked ns ts known
+  asked_still ts known a = record { each = λ k h. in_still ts k (a.each k h) }
+
+-- ---- steps
+
+asked_same : (ns : List Node) (ts : List Tree) (old new : Known) → new.entries ≡ old.entries → AreAsked ns ts old → AreAsked ns ts new
+asked_same ns ts old new e a = record { each = λ k h. a.each k (subst (λ (o : Option (Option ℕ)). IsSome o) (same_get old new e k) h) }
+
+some_get : (o : Option (Option ℕ)) → IsSome o → (w : Option ℕ) × (o ≡ Some w)
+some_get None h = absurd (cc)
+some_get (Some w) h = (w, refl)
+
+asked_put : (ns : List Node) (ts : List Tree) (old new : Known) (x : ℕ) (v : Option ℕ) → Updates nat_cmp old new x (Some v) → IsIn ns ts x → AreAsked ns ts old → AreAsked ns ts new
+asked_put ns ts old new x v u i a = record {
+  each = λ k h.
+      let w = some_get (get nat_cmp new k) h in
+      elim (put_cases old new x v k w.0 u w.1) [
+        | inl here ↦ subst (IsIn ns ts) (sym here.0) i
+        | inr there ↦ a.each k (ap (λ (o : Option (Option ℕ)). is_some o) there.1)
+      ];
+}
+
+pub imaged_none : (ns : List Node) (P : List Tree → Type 0) (known : Known) (s t : ℕ) → t ≤ s → Imaged ns ns P known known s t
+imaged_none ns P known s t le = record { steps = omega (arith, le); ordered = λ o. o; inside = λ ts has a. a }
+
+-- where nothing more was kept
+pub imaged_same : (ms ns : List Node) (P : List Tree → Type 0) (old mid new : Known) (s t : ℕ) → new.entries ≡ mid.entries → IsOrdered nat_cmp new → Imaged ms ns P old mid s t → Imaged ms ns P old new s t
+imaged_same ms ns P old mid new s t e o i = record {
+  steps = let le = i.steps in let l : length new.entries ≡ length mid.entries = ap length e in omega (arith, le, l);
+  ordered = λ _. o;
+  inside = λ ts has a. asked_same ns ts mid new e (i.inside ts has a);
+}
+
+pub imaged_from : (ms ns : List Node) (P : List Tree → Type 0) (old new : Known) (s r t : ℕ) → r ≤ s → Imaged ms ns P old new r t → Imaged ms ns P old new s t
+imaged_from ms ns P old new s r t le i = record { steps = let h = i.steps in omega (arith, h, le); ordered = i.ordered; inside = i.inside }
+
+pub imaged_under : (ms ns : List Node) (P Q : List Tree → Type 0) (old new : Known) (s t : ℕ) → ((ts : List Tree) → P ts → Q ts) → Imaged ms ns Q old new s t → Imaged ms ns P old new s t
+imaged_under ms ns P Q old new s t f i = record { steps = i.steps; ordered = i.ordered; inside = λ ts has a. i.inside ts (f ts has) a }
+
+pub imaged_both : (ls ms ns : List Node) (P : List Tree → Type 0) (old mid new : Known) (s r t : ℕ) → Imaged ls ms P old mid s r → Imaged ms ns P mid new r t → Imaged ls ns P old new s t
+imaged_both ls ms ns P old mid new s r t i j = record {
+  steps = let a = i.steps in let b = j.steps in omega (arith, a, b);
+  ordered = λ o. j.ordered (i.ordered o);
+  inside = λ ts has a. j.inside ts has (i.inside ts has a);
+}
+
+-- .. of other terms, which stand in what P asks for
+pub imaged_next : (ls ms ns : List Node) (P Q : List Tree → Type 0) (old mid new : Known) (s r t : ℕ) → Imaged ls ms P old mid s r → ((ts : List Tree) → P ts → Q ts) → Imaged ms ns Q mid new r t
+    → Imaged ls ns P old new s t
+imaged_next ls ms ns P Q old mid new s r t i f j = imaged_both ls ms ns P old mid new s r t i (imaged_under ms ns P Q mid new r t f j)
+
+number-in : (ns : List Node) (ts : List Tree) (x : ℕ) → x < length ns → HasTerm ns x ts → IsIn ns ts x
+number-in ns ts x low has =
+    let l = length-trees ns in
+    let here : x < length (trees_of ns) = omega (arith, low, l) in
+    let at = at_place (trees_of ns) x here in
+    has_number ns ts x at.0 at.1 has
+
+-- from where the number was begun
+pub imaged_begun : (ms ns : List Node) (x : ℕ) (old mid new : Known) (s t : ℕ) → x < length ms → Updates nat_cmp old mid x (Some None) → btree_map_len mid ≡ btree_map_len old + 1 → IsOrdered nat_cmp mid
+    → Imaged ms ns (HasTerm ms x) mid new (s + 2) t → Imaged ms ns (HasTerm ms x) old new s t
+imaged_begun ms ns x old mid new s t low u l o i = record {
+  steps = let h = i.steps in omega (arith, h, l);
+  ordered = λ _. i.ordered o;
+  inside = λ ts has a. i.inside ts has (asked_put ms ts old mid x None u (number-in ms ts x low has) a);
+}
+
+-- .. to where it is kept
+pub imaged_kept : (ms ns : List Node) (x y n : ℕ) (old new last : Known) (s t : ℕ) → x < length ms → Extends ms ns → Updates nat_cmp new last x (Some (Some y)) → btree_map_len last ≡ btree_map_len new + n
+    → IsOrdered nat_cmp last → Imaged ms ns (HasTerm ms x) old new s t → Imaged ms ns (HasTerm ms x) old last s t
+imaged_kept ms ns x y n old new last s t low g u l o i = record {
+  steps = let h = i.steps in omega (arith, h, l);
+  ordered = λ _. o;
+  inside = λ ts has a. asked_put ns ts new last x (Some y) u (in_still ms ns g ts x (number-in ms ts x low has)) (i.inside ts has a);
+}
+
+-- what is known of a number
+pub known_image : (o : Option (Option ℕ)) (y : ℕ) → option_flatten o ≡ Some y → o ≡ Some (Some y)
+known_image None y e = cc
+known_image (Some None) y e = cc
+known_image (Some (Some z)) y e = ap (λ (w : Option ℕ). Some w) e
+
+pub not_begun : (known : Known) (x : ℕ) → option_flatten (get nat_cmp known x) ≡ None → IsFree known (x + 1) → get nat_cmp known x ≡ None
+not_begun known x e f = by (get nat_cmp known x) refl e
+  where
+    by : (o : Option (Option ℕ)) → get nat_cmp known x ≡ o → option_flatten o ≡ None → o ≡ None
+    by None same n = refl
+    by (Some None) same n = let le = f.above x same in absurd (omega (arith, le))
+    by (Some (Some z)) same n = let no : Some z ≡ None = n in cc
+
+-- one entry more, where there was none
+pub one_longer : (was now : Option (Option ℕ)) (l m : ℕ) → was ≡ now → now ≡ None → m ≡ l + (if is_some was then 0 else 1) → m ≡ l + 1
+one_longer None now l m e n h = h
+one_longer (Some w) now l m e n h = let no : Some w ≡ None = e ∙ n in cc
+
+-- ---- how many
+
+one-place : (ks : List ℕ) (i j k : ℕ) → IsStrictlySortedBy nat_cmp ks → slice_get ks i ≡ Some k → slice_get ks j ≡ Some k → i ≡ j
+one-place ks i j k o hi hj = elim (cases_order i j) [
+  | inl same ↦ same
+  | inr other ↦ elim other [ inl lt ↦ absurd (apart i j lt hi hj) | inr gt ↦ absurd (apart j i gt hj hi) ]
+]
+  where
+    apart : (a b : ℕ) → a < b → slice_get ks a ≡ Some k → slice_get ks b ≡ Some k → ⊥
+    apart a b lt ha hb =
+        let rises = below_from_sorted ks a b 0 o lt (within ks b k hb) in
+        let ka = read-at ks a k 0 ha in
+        let kb = read-at ks b k 0 hb in
+        omega (arith, rises, ka, kb)
+
+-- no more than two steps for each different term
+pub few_images : (ms ns : List Node) (P : List Tree → Type 0) (old new : Known) (s t : ℕ) (ts : List Tree) → old.entries ≡ [] → IsArena ns → IsOrdered nat_cmp old → P ts → Imaged ms ns P old new s t
+    → t ≤ s + 2 * length ts
+few_images ms ns P old new s t ts none arena o has i =
+    let asked : AreAsked ms ts old = record { each = λ k h. let no : false ≡ true = sym (ap (λ (es : List (ℕ × Option ℕ)). is_some (lookup (is_at (nat_cmp k)) es)) none) ∙ h in absurd (true≢false (sym no)) } in
+    let all = i.inside ts has asked in
+    let sorted = i.ordered o in
+    let key : (k : ℕ) → Contains (keys new) k → IsIn ns ts k = λ k c. all.each k ((btree_map_contains_key_iff nat_cmp_total exact_unsigned new k).1 c) in
+    let os : List (Option Tree) = map (λ (y : Tree). Some y) ts in
+    let apart : (a b : ℕ) (k l : ℕ) → slice_get (keys new) a ≡ Some k → slice_get (keys new) b ≡ Some l → tree_of ns k ≡ tree_of ns l → a ≡ b = λ a b k l ha hb e.
+    let ik = key k (contains_at (keys new) a k ha) in
+    let same : k ≡ l = one_number ns k l ik.tree arena ik.at (sym e ∙ ik.at) in
+    one-place (keys new) a b k sorted ha (hb ∙ ap (λ (q : ℕ). Some q) (sym same)) in
+    let there : (k : ℕ) → Contains (keys new) k → Contains os (tree_of ns k) = λ k c.
+    let ik = key k c in
+    let at = at_contains ts ik.tree ik.here in
+    subst (Contains os) (sym ik.at) (contains_at os at.0 (Some ik.tree) (map-at (λ (y : Tree). Some y) ts at.0 ik.tree at.1)) in
+    let most = few (tree_of ns) (keys new) os apart there in
+    let n : length (keys new) ≡ length new.entries = length-map new.entries (λ (e : ℕ × Option ℕ). e.0) in
+    let m : length os ≡ length ts = length-map ts (λ (y : Tree). Some y) in
+    let z : length old.entries ≡ 0 = ap length none in
+    let h = i.steps in
+    omega (arith, most, n, m, z, h)
+
+-- ---- of a node's children, one after the other
+
+pub imaged_first : (ms ns : List Node) (x a : ℕ) (old new : Known) (s r t : ℕ) → r ≡ s + 1 → ((ts : List Tree) → HasTerm ms x ts → HasTerm ms a ts) → Imaged ms ns (HasTerm ms a) old new r t
+    → Imaged ms ns (HasTerm ms x) old new (s + 1) t
+imaged_first ms ns x a old new s r t e f i = record {
+  steps = let h = i.steps in omega (arith, h, e);
+  ordered = i.ordered;
+  inside = λ ts has k. i.inside ts (f ts has) k;
+}
+
+pub imaged_child : (ls ms ns : List Node) (x a : ℕ) (old mid new : Known) (s r t : ℕ) → Extends ls ms → a < x → x < length ls → ((ts : List Tree) → HasTerm ls x ts → HasTerm ls a ts)
+    → Imaged ls ms (HasTerm ls x) old mid s r → Imaged ms ns (HasTerm ms a) mid new r t → Imaged ls ns (HasTerm ls x) old new s t
+imaged_child ls ms ns x a old mid new s r t e lt low f i j =
+    let here : a < length ls = omega (arith, lt, low) in
+    imaged_next ls ms ns (HasTerm ls x) (HasTerm ms a) old mid new s r t i (λ ts has. has_still ls ms e a ts here (f ts has)) j
+
+-- .. where one failed
+pub imaged_failed : (ms ns : List Node) (P : List Tree → Type 0) (old new : Known) (s t : ℕ) → Imaged ms ns P old new (s + 1) t → Imaged ms ns P old new (s + 2) t
+imaged_failed ms ns P old new s t i = record { steps = let h = i.steps in omega (arith, h); ordered = i.ordered; inside = i.inside }
+
+-- .. where all are made
+pub imaged_made : (ls ms ns : List Node) (P : List Tree → Type 0) (old new : Known) (s r t : ℕ) → Extends ms ns → t ≡ r + 1 → Imaged ls ms P old new (s + 1) r → Imaged ls ns P old new (s + 2) t
+imaged_made ls ms ns P old new s r t e is i = record {
+  steps = let h = i.steps in omega (arith, h, is);
+  ordered = i.ordered;
+  inside = λ ts has a. asked_still ms ns e ts new (i.inside ts has a);
+}
