@@ -2,6 +2,7 @@ pub mod Writing
 pub mod SetUp
 pub mod Asked
 pub mod Answers
+pub mod Loading
 pub mod Checking
 pub mod Groups
 pub mod Weighing

@@ -1,6 +1,6 @@
 -- What is answered to the command `migrate`, and what its output file holds then.
 use Rattle.std.proofs.Common.{◌≡◌, ℕ, ◌≤◌, List, [], length, Option, Some, None, refl, sym, subst, inl, inr, arith}
-use Rattle.std.specs.Prelude.{IfSome, IsSomeAnd}
+use Rattle.std.specs.Prelude.{IfSome}
 use Rattle.mc_shelf.specs.Shelf.{Contents, TellsName}
 use Rattle.checker.specs.declared.verdict.Verdict.{Verdict}
 use Rattle.checker.specs.declared.verdict.Verdict.TheVariants as verdict

@@ -1,3 +1,4 @@
+pub mod Loading
 pub mod Running
 pub mod Checking
 pub mod Search

@@ -6,13 +6,13 @@ ghost use Rattle.mcdec_commands.specs.Answer.{Gives, ReadsAreTold};
 ghost use Rattle.elf_image.specs.Image.{image_of};
 ghost use Rattle.mcdec_words.specs.CommandReading.{IsReadCheck};
 ghost use Rattle.mcdec_commands.specs.inner.Checking.{ImageGives, answer_to};
+ghost use Rattle.mcdec_commands.specs.inner.Loading.{not_loaded};
 ghost use Rattle.mcdec_commands.specs.RunAnswer.{IsLoaded};
 
-use crate::eval::PROOF_LIMIT;
-use crate::run::ELF_LIMIT;
+use crate::load::{LoadFault, PROOF_LIMIT, load_image, not_read};
 use checker::{Pulled, Verdict};
-use elf_image::{ElfFault, Image, read};
-use mc_shelf::{MeasureEnd, ReadEnd, Shelf, measure, read_file};
+use elf_image::Image;
+use mc_shelf::{MeasureEnd, Shelf, measure};
 use mcdec_answers::{Answer, CheckAnswer};
 use mcdec_words::Check;
 use std::alloc::Global;
@@ -28,19 +28,19 @@ pub fn answer_check<S: Shelf>(alloc: Global, c: &Check<'_>, shelf: &mut S) -> An
     ensures sure { (ws : List (List ℕ)) → IsReadCheck ws c.now → S.IsSure shelf.old → ReadsAreTold (S.contents shelf.old) ws
         → (S.read_faults shelf.new ≡ S.read_faults shelf.old) × (S.write_faults shelf.new ≡ S.write_faults shelf.old) }
 {
-    let file = match read_file(alloc, shelf, c.elf, ELF_LIMIT) {
-        Ok(file) => file,
-        Err(ReadEnd::Fault) => return Answer::ReadFault,
-        Err(ReadEnd::TooLong) => return Answer::Check(CheckAnswer::ElfOverLimit),
-        Err(ReadEnd::NoMemory) => return Answer::NoMemory,
-    };
-    match read(alloc, file.as_slice()) {
-        Ok(image) => {
-            drop(file);
-            check_image(alloc, &image, c, shelf)
-        }
-        Err(ElfFault::NoMemory) => Answer::NoMemory,
-        Err(why) => Answer::Check(CheckAnswer::Judged(Verdict::BadElf(why))),
+    match load_image(alloc, shelf, c.elf) {
+        Ok(image) => check_image(alloc, &image, c, shelf),
+        Err(fault) => not_loaded(fault),
+    }
+}
+
+/// The answer where there is no image of the ELF file.
+fn not_loaded(fault: LoadFault) -> Answer
+    ensures { result ≡ not_loaded (Answer.Check CheckAnswer.ElfOverLimit) (λ why. Answer.Check (CheckAnswer.Judged (Verdict.BadElf why))) fault }
+{
+    match fault {
+        LoadFault::Unread(end) => not_read(end, Answer::Check(CheckAnswer::ElfOverLimit)),
+        LoadFault::Unreadable(why) => Answer::Check(CheckAnswer::Judged(Verdict::BadElf(why))),
     }
 }
 

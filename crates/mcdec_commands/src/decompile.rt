@@ -12,14 +12,15 @@ ghost use Rattle.mcdec_answers.specs.Printed.{status};
 ghost use Rattle.mcdec_commands.specs.RunAnswer.{IsLoaded};
 ghost use Rattle.mcdec_words.specs.CommandReading.{IsReadDecompile};
 ghost use Rattle.mcdec_commands.specs.inner.Decompiling.{FileGives, HasDef, IsNoProofIn, link_fault};
+ghost use Rattle.mcdec_commands.specs.inner.Loading.{not_loaded};
 ghost use Rattle.mcdec_commands.specs.inner.Writing.{IsTold, WritesOut};
 
+use crate::load::{LoadFault, load_image, not_read};
 use crate::output::write_answer;
-use crate::run::ELF_LIMIT;
 use call_link::{LinkFault, LinkWhy, law_of_linked_items, link, linked_bytes};
 use decompiler::{DecompileFault, Item, Proof, decompile, entry_of, law_of_items, proof_bytes};
-use elf_image::{ElfFault, Image, read};
-use mc_shelf::{ReadEnd, Shelf, read_file};
+use elf_image::Image;
+use mc_shelf::Shelf;
 use mcdec_answers::{Answer, DecompileAnswer, Listed};
 use mcdec_words::{Decompile, Form};
 use rv_words::{Bytes, List, NoMemory, Text};
@@ -38,16 +39,21 @@ pub fn answer_decompile<S: Shelf>(alloc: Global, d: &Decompile<'_>, shelf: &mut 
     ensures sure { (ws : Items (Items ℕ)) → IsReadDecompile ws d.now → S.IsSure shelf.old → ReadsAreTold (S.contents shelf.old) ws
         → (S.read_faults shelf.new ≡ S.read_faults shelf.old) × (S.write_faults shelf.new ≡ S.write_faults shelf.old) }
 {
-    let file = match read_file(alloc, shelf, d.elf, ELF_LIMIT) {
-        Ok(file) => file,
-        Err(ReadEnd::Fault) => return Answer::ReadFault,
-        Err(ReadEnd::TooLong) => return Answer::Decompile(DecompileAnswer::OverLimit),
-        Err(ReadEnd::NoMemory) => return Answer::NoMemory,
-    };
-    match read(alloc, file.as_slice()) {
+    match load_image(alloc, shelf, d.elf) {
         Ok(image) => decompile_image(alloc, &image, d, shelf),
-        Err(ElfFault::NoMemory) => Answer::NoMemory,
-        Err(why) => Answer::Decompile(DecompileAnswer::Unreadable(why)),
+        Err(fault) => not_loaded(fault),
+    }
+}
+
+/// The answer where there is no image of the ELF file.
+fn not_loaded(fault: LoadFault) -> Answer
+    ensures answer { result ≡ not_loaded (Answer.Decompile DecompileAnswer.OverLimit) (λ why. Answer.Decompile (DecompileAnswer.Unreadable why)) fault }
+    ensures refused { status result ≡ 0 → ⊥ }
+    ensures no_fault { status result ≡ 5 → ⊥ }
+{
+    match fault {
+        LoadFault::Unread(end) => not_read(end, Answer::Decompile(DecompileAnswer::OverLimit)),
+        LoadFault::Unreadable(why) => Answer::Decompile(DecompileAnswer::Unreadable(why)),
     }
 }
 

@@ -14,8 +14,9 @@ ghost use Rattle.mcdec_words.specs.CommandReading.{HoldsArgs, IsReadEval, value_
 ghost use Rattle.mcdec_commands.specs.EvalAnswer.{EvalGives, proof_limit};
 ghost use Rattle.mcdec_commands.specs.inner.Search.{Finds, FindsIn, FoundSo, GroupGives, HasText, LineIs, LinesArePassed, NextIs};
 
+use crate::load::{PROOF_LIMIT, not_read};
 use crate::memory::{memories, ranges_in};
-use mc_shelf::{ReadEnd, Shelf, read_file};
+use mc_shelf::{Shelf, read_file};
 use mcdec_answers::{Answer, EvalAnswer, Shown};
 use mcdec_words::{Eval, Registers};
 use proof_text::TextFault;
@@ -24,9 +25,6 @@ use rv_words::{List, NoMemory};
 use std::alloc::Global;
 use tailrec_lang::{Args, BadDef, Group, Outcome, eval, well_formed};
 use text_versions::reader_of;
-
-/// The most bytes of a proof file that are read.
-pub const PROOF_LIMIT: u64 = 268_435_456;
 
 /// Why a text has no function to evaluate.
 #[derive(Clone, Copy, Debug, PartialEq, Eq)]
@@ -55,9 +53,7 @@ pub fn answer_eval<S: Shelf>(alloc: Global, e: &Eval<'_>, shelf: &mut S) -> Answ
 {
     let text = match read_file(alloc, shelf, e.proof, PROOF_LIMIT) {
         Ok(text) => text,
-        Err(ReadEnd::Fault) => return Answer::ReadFault,
-        Err(ReadEnd::TooLong) => return Answer::Eval(EvalAnswer::OverLimit),
-        Err(ReadEnd::NoMemory) => return Answer::NoMemory,
+        Err(end) => return not_read(end, Answer::Eval(EvalAnswer::OverLimit)),
     };
     match evaluate_text(alloc, text.as_slice(), e) {
         Ok(answer) => Answer::Eval(answer),

@@ -15,10 +15,11 @@ ghost use Rattle.mcdec_commands.specs.LawsAnswer.{TextsGive, step_line};
 ghost use Rattle.mcdec_commands.specs.inner.Judging.{CertGives};
 ghost use Rattle.mcdec_words.specs.CommandReading.{IsReadLaws};
 
-use crate::eval::{PROOF_LIMIT, Refusal, find_group};
+use crate::eval::{Refusal, find_group};
+use crate::load::{PROOF_LIMIT, not_read};
 use fun_laws::{Cert, CertFault, judge_cert, read_cert};
 use group_text::{TextFault, put_group};
-use mc_shelf::{ReadEnd, Shelf, read_file};
+use mc_shelf::{Shelf, read_file};
 use mcdec_answers::{Answer, LawsAnswer};
 use mcdec_words::Laws;
 use rv_words::{Bytes, List, NoMemory};
@@ -40,9 +41,7 @@ pub fn answer_laws<S: Shelf>(alloc: Global, l: &Laws<'_>, shelf: &mut S) -> Answ
 {
     let file = match read_file(alloc, shelf, l.proof, PROOF_LIMIT) {
         Ok(file) => file,
-        Err(ReadEnd::Fault) => return Answer::ReadFault,
-        Err(ReadEnd::TooLong) => return Answer::Laws(LawsAnswer::ProofOverLimit),
-        Err(ReadEnd::NoMemory) => return Answer::NoMemory,
+        Err(end) => return not_read(end, Answer::Laws(LawsAnswer::ProofOverLimit)),
     };
     judge_file(alloc, file.as_slice(), l, shelf)
 }
@@ -59,9 +58,7 @@ fn judge_file<S: Shelf>(alloc: Global, file: &[u8], l: &Laws<'_>, shelf: &mut S)
 {
     let text = match read_file(alloc, shelf, l.cert, CERT_LIMIT) {
         Ok(text) => text,
-        Err(ReadEnd::Fault) => return Answer::ReadFault,
-        Err(ReadEnd::TooLong) => return Answer::Laws(LawsAnswer::CertOverLimit),
-        Err(ReadEnd::NoMemory) => return Answer::NoMemory,
+        Err(end) => return not_read(end, Answer::Laws(LawsAnswer::CertOverLimit)),
     };
     match judge_texts(alloc, file, text.as_slice()) {
         Ok(answer) => Answer::Laws(answer),

@@ -18,6 +18,7 @@ mod commands;
 mod decompile;
 mod eval;
 mod laws;
+mod load;
 mod memory;
 mod migrate;
 mod output;

@@ -9,16 +9,16 @@ ghost use Rattle.mcdec_answers.specs.Printed.{status};
 ghost use Rattle.mcdec_commands.specs.Answer.{Gives, ReadsAreTold};
 ghost use Rattle.mcdec_commands.specs.MigrateAnswer.{IsMigrationFor};
 ghost use Rattle.mcdec_commands.specs.RunAnswer.{IsLoaded};
+ghost use Rattle.mcdec_commands.specs.inner.Loading.{not_loaded};
 ghost use Rattle.mcdec_commands.specs.inner.Migrating.{FileMigrates, refusal_of};
 ghost use Rattle.mcdec_commands.specs.inner.Writing.{WritesOut};
 ghost use Rattle.mcdec_words.specs.CommandReading.{IsReadMigrate};
 
-use crate::eval::PROOF_LIMIT;
+use crate::load::{LoadFault, PROOF_LIMIT, load_image, not_read};
 use crate::output::write_answer;
-use crate::run::ELF_LIMIT;
 use checker::Verdict;
-use elf_image::{ElfFault, Image, read};
-use mc_shelf::{ReadEnd, Shelf, read_file};
+use elf_image::Image;
+use mc_shelf::{Shelf, read_file};
 use mcdec_answers::{Answer, MigrateAnswer};
 use mcdec_words::Migrate;
 use proof_v2::migrate_image;
@@ -35,19 +35,21 @@ pub fn answer_migrate<S: Shelf>(alloc: Global, m: &Migrate<'_>, shelf: &mut S) -
     ensures sure { (ws : Items (Items ℕ)) → IsReadMigrate ws m.now → S.IsSure shelf.old → ReadsAreTold (S.contents shelf.old) ws
         → (S.read_faults shelf.new ≡ S.read_faults shelf.old) × (S.write_faults shelf.new ≡ S.write_faults shelf.old) }
 {
-    let file = match read_file(alloc, shelf, m.elf, ELF_LIMIT) {
-        Ok(file) => file,
-        Err(ReadEnd::Fault) => return Answer::ReadFault,
-        Err(ReadEnd::TooLong) => return Answer::Migrate(MigrateAnswer::ElfOverLimit),
-        Err(ReadEnd::NoMemory) => return Answer::NoMemory,
-    };
-    match read(alloc, file.as_slice()) {
-        Ok(image) => {
-            drop(file);
-            migrate_text(alloc, &image, m, shelf)
-        }
-        Err(ElfFault::NoMemory) => Answer::NoMemory,
-        Err(why) => Answer::Migrate(MigrateAnswer::Refused(Verdict::BadElf(why))),
+    match load_image(alloc, shelf, m.elf) {
+        Ok(image) => migrate_text(alloc, &image, m, shelf),
+        Err(fault) => not_loaded(fault),
+    }
+}
+
+/// The answer where there is no image of the ELF file.
+fn not_loaded(fault: LoadFault) -> Answer
+    ensures answer { result ≡ not_loaded (Answer.Migrate MigrateAnswer.ElfOverLimit) (λ why. Answer.Migrate (MigrateAnswer.Refused (Verdict.BadElf why))) fault }
+    ensures refused { status result ≡ 0 → ⊥ }
+    ensures no_fault { status result ≡ 5 → ⊥ }
+{
+    match fault {
+        LoadFault::Unread(end) => not_read(end, Answer::Migrate(MigrateAnswer::ElfOverLimit)),
+        LoadFault::Unreadable(why) => Answer::Migrate(MigrateAnswer::Refused(Verdict::BadElf(why))),
     }
 }
 
@@ -66,9 +68,7 @@ fn migrate_text<S: Shelf>(alloc: Global, image: &Image, m: &Migrate<'_>, shelf: 
 {
     let text = match read_file(alloc, shelf, m.proof, PROOF_LIMIT) {
         Ok(text) => text,
-        Err(ReadEnd::Fault) => return Answer::ReadFault,
-        Err(ReadEnd::TooLong) => return Answer::Migrate(MigrateAnswer::ProofOverLimit),
-        Err(ReadEnd::NoMemory) => return Answer::NoMemory,
+        Err(end) => return not_read(end, Answer::Migrate(MigrateAnswer::ProofOverLimit)),
     };
     match migrate_image(alloc, image, text.as_slice()) {
         Ok(migrated) => {

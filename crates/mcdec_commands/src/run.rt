@@ -1,6 +1,6 @@
 //! The command `run`.
 
-ghost use Rattle.std.specs.Prelude.{◌≡◌, ℕ, ◌≤◌, List, [], All, IfOk, OnOk, length};
+ghost use Rattle.std.specs.Prelude.{◌≡◌, ℕ, ◌≤◌, List, [], All, IfOk, OnOk};
 ghost use Rattle.elf_image.specs.Image.{IsPlaced, bytes_in, image_of, padded};
 ghost use Rattle.mc_shelf.specs.Fault.{Rose};
 ghost use Rattle.rv_words.specs.Bytes.{bytes_from};
@@ -9,21 +9,20 @@ ghost use Rattle.mcdec_commands.specs.Answer.{Gives, ReadsAreTold};
 ghost use Rattle.mcdec_words.specs.Command.{AreArgs, AreGiven, Arg, Given, IsMemory, value_of};
 ghost use Rattle.mcdec_words.specs.CommandReading.{Holds, HoldsArgs, IsReadRun};
 ghost use Rattle.mcdec_commands.specs.Memory.{placed};
-ghost use Rattle.mcdec_commands.specs.RunAnswer.{RunGives, state_given, elf_limit};
+ghost use Rattle.mcdec_commands.specs.RunAnswer.{IsLoaded, RunGives, state_given};
+ghost use Rattle.mcdec_commands.specs.inner.Loading.{not_loaded};
 ghost use Rattle.mcdec_commands.specs.inner.Running.{MachineGives, shown_with};
 
+use crate::load::{LoadFault, load_image, not_read};
 use crate::memory::ranges_now;
 use decompiler::address_of;
-use elf_image::{ElfFault, Image, Piece, law_of_image, read};
-use mc_shelf::{ReadEnd, Shelf, read_file};
+use elf_image::{Image, Piece, law_of_image};
+use mc_shelf::Shelf;
 use mcdec_answers::{Answer, RunAnswer, Shown};
 use mcdec_words::{Registers, Run};
 use rv_machine::{RunEnd, State};
-use rv_words::{Bytes, List, NoMemory, Range, Text};
+use rv_words::{List, NoMemory, Range, Text};
 use std::alloc::Global;
-
-/// The most bytes of an ELF file that are read.
-pub const ELF_LIMIT: u64 = 67_108_864;
 
 /// The answer to `run`.
 pub fn answer_run<S: Shelf>(alloc: Global, r: &Run<'_>, shelf: &mut S) -> Answer
@@ -36,31 +35,32 @@ pub fn answer_run<S: Shelf>(alloc: Global, r: &Run<'_>, shelf: &mut S) -> Answer
     ensures sure { (ws : List (List ℕ)) → IsReadRun ws r.now → S.IsSure shelf.old → ReadsAreTold (S.contents shelf.old) ws
         → (S.read_faults shelf.new ≡ S.read_faults shelf.old) × (S.write_faults shelf.new ≡ S.write_faults shelf.old) }
 {
-    let file = match read_file(alloc, shelf, r.elf, ELF_LIMIT) {
-        Ok(file) => file,
-        Err(ReadEnd::Fault) => return Answer::ReadFault,
-        Err(ReadEnd::TooLong) => return Answer::Run(RunAnswer::OverLimit),
-        Err(ReadEnd::NoMemory) => return Answer::NoMemory,
+    let image = match load_image(alloc, shelf, r.elf) {
+        Ok(image) => image,
+        Err(fault) => return not_loaded(fault),
     };
-    match run_bytes(alloc, file, r) {
+    match run_loaded(alloc, image, r) {
         Ok(answer) => Answer::Run(answer),
         Err(NoMemory) => Answer::NoMemory,
     }
 }
 
-/// The answer to `run` where its ELF file has these bytes. They are let go before the run's memory is made.
-fn run_bytes(alloc: Global, file: Bytes, r: &Run<'_>) -> Result<RunAnswer, NoMemory>
-    requires memory { All IsMemory r.now.memory }
-    requires within { length file ≤ elf_limit }
-    ensures { (args : List Arg) → AreArgs args → HoldsArgs args r.now.given.values r.now.memory []
+/// The answer where there is no image of the ELF file.
+fn not_loaded(fault: LoadFault) -> Answer
+    ensures { result ≡ not_loaded (Answer.Run RunAnswer.OverLimit) (λ why. Answer.Run (RunAnswer.Unreadable why)) fault }
+{
+    match fault {
+        LoadFault::Unread(end) => not_read(end, Answer::Run(RunAnswer::OverLimit)),
+        LoadFault::Unreadable(why) => Answer::Run(RunAnswer::Unreadable(why)),
+    }
+}
+
+/// The answer to `run` where this is the image of the ELF file.
+fn run_loaded(alloc: Global, image: Image, r: &Run<'_>) -> Result<RunAnswer, NoMemory>
+    requires { All IsMemory r.now.memory }
+    ensures { (args : List Arg) → AreArgs args → HoldsArgs args r.now.given.values r.now.memory [] → (file : List ℕ) → IsLoaded file → image ≡ image_of file
         → IfOk result (λ a. RunGives file r.now.start.now r.now.until r.now.steps args a) }
 {
-    let image = match read(alloc, file.as_slice()) {
-        Ok(image) => image,
-        Err(ElfFault::NoMemory) => return Err(NoMemory),
-        Err(why) => return Ok(RunAnswer::Unreadable(why)),
-    };
-    drop(file);
     match address_of(&image, r.start) {
         Ok(start) => run_image(alloc, image, start, r),
         Err(why) => {

@@ -12,10 +12,11 @@ ghost use Rattle.mcdec_commands.specs.SimplifyAnswer.{IsCertFor};
 ghost use Rattle.mcdec_commands.specs.inner.Simplifying.{TextGives};
 ghost use Rattle.mcdec_commands.specs.inner.Writing.{IsTold, WritesOut};
 
-use crate::eval::{PROOF_LIMIT, Refusal, find_group};
+use crate::eval::{Refusal, find_group};
+use crate::load::{PROOF_LIMIT, not_read};
 use crate::output::write_answer;
 use fun_laws::{cert_bytes, law_of_limits, simplify};
-use mc_shelf::{ReadEnd, Shelf, read_file};
+use mc_shelf::{Shelf, read_file};
 use mcdec_answers::{Answer, SimplifyAnswer};
 use mcdec_words::Simplify;
 use std::alloc::Global;
@@ -34,9 +35,7 @@ pub fn answer_simplify<S: Shelf>(alloc: Global, s: &Simplify<'_>, shelf: &mut S)
 {
     let text = match read_file(alloc, shelf, s.proof, PROOF_LIMIT) {
         Ok(text) => text,
-        Err(ReadEnd::Fault) => return Answer::ReadFault,
-        Err(ReadEnd::TooLong) => return Answer::Simplify(SimplifyAnswer::OverLimit),
-        Err(ReadEnd::NoMemory) => return Answer::NoMemory,
+        Err(end) => return not_read(end, Answer::Simplify(SimplifyAnswer::OverLimit)),
     };
     match find_group(alloc, text.as_slice(), s.name) {
         Ok(g) => simplify_group(alloc, &g, s, shelf),

@@ -13,9 +13,10 @@ ghost use Rattle.mcdec_commands.specs.inner.Exporting.{DefGives};
 ghost use Rattle.mcdec_commands.specs.inner.Search.{Finds, HasText};
 ghost use Rattle.mcdec_commands.specs.inner.Writing.{IsTold, WritesOut};
 
-use crate::eval::{PROOF_LIMIT, Refusal, find_group};
+use crate::eval::{Refusal, find_group};
+use crate::load::{PROOF_LIMIT, not_read};
 use crate::output::write_answer;
-use mc_shelf::{ReadEnd, Shelf, read_file};
+use mc_shelf::{Shelf, read_file};
 use mcdec_answers::{Answer, SmtAnswer};
 use mcdec_words::Smt;
 use smt_export::{ExportFault, export};
@@ -36,9 +37,7 @@ pub fn answer_smt<S: Shelf>(alloc: Global, s: &Smt<'_>, shelf: &mut S) -> Answer
 {
     let text = match read_file(alloc, shelf, s.proof, PROOF_LIMIT) {
         Ok(text) => text,
-        Err(ReadEnd::Fault) => return Answer::ReadFault,
-        Err(ReadEnd::TooLong) => return Answer::Smt(SmtAnswer::OverLimit),
-        Err(ReadEnd::NoMemory) => return Answer::NoMemory,
+        Err(end) => return not_read(end, Answer::Smt(SmtAnswer::OverLimit)),
     };
     match find_group(alloc, text.as_slice(), s.name) {
         Ok(g) => export_def(alloc, &g, s, shelf),

@@ -133,6 +133,10 @@ module _ (file text more : List ℕ) (m : IsMigratedText file text more) where
     count = all-counted m.old m.new m.migrated m.fit;
   }
 
+  -- so are both texts, with the same numbers
+  pub both-accepted : (f : ℕ) × (l : ℕ) × IsAcceptedText no_rule version_1 file text f l × IsAcceptedOver short_rules version_2 file more f l
+  both-accepted = (length m.old, line_count m.old, record { proofs = m.old; spelled = m.spelled; accepted = m.accepted; groups = refl; count = refl }, still-accepted)
+
   -- it was the text of these proofs alone
   old-once : (ps : List ProofTree) → IsTextOf text ps → m.old ≡ ps
   old-once ps h = proofs-once (lines_known One) m.old ps m.spelled.fit h.fit (sym m.spelled.spelled ∙ h.spelled)

@@ -6,6 +6,7 @@ use Rattle.term_arena.specs.declared.node.Node.{Node}
 use Rattle.term_arena.specs.Arena.{Extends, IsArena, Tree, trees_of}
 use Rattle.proof_text.specs.Line.{LineTree}
 use Rattle.proof_text.specs.LineLimits.{IsLine}
+use Rattle.checker.proofs.FirstLemmas.{after-more, all-more}
 use Rattle.short_text.specs.declared.short.Short.{Short}
 use Rattle.short_text.specs.ShortLimits.{IsShort}
 use Rattle.short_text.specs.Table.{IsTable}
@@ -20,10 +21,6 @@ use Rattle.proof_v2.specs.inner.Migrating.{AreMigrated}
 use Rattle.proof_v2.proofs.Fits.{line_fits}
 use Rattle.proof_v2.proofs.LineTerms.{lines-fit}
 use Rattle.proof_v2.proofs.NewTables.{new-table}
-
-all-more : {A : Type 0} (P : A → Type 0) (xs : List A) (x : A) → AllByRecursion P xs → P x → AllByRecursion P (xs ++ x ∷ [])
-all-more P [] x h k = (k, tt)
-all-more P (y ∷ xs) x h k = (h.0, all-more P xs x h.1 k)
 
 -- ---- over a larger table
 
@@ -52,10 +49,6 @@ terms-more h [] l = append-nil (line_terms h l)
 terms-more h (m ∷ ls) l =
     ap (λ (ts : List Tree). line_terms h m ++ ts) (terms-more (after_line h m) ls l)
     ∙ sym (append_assoc (line_terms h m) (lines_terms (after_line h m) ls) (line_terms (fold after_line (after_line h m) ls) l))
-
-after-more : (h : History) (ls : List LineTree) (l : LineTree) → fold after_line h (ls ++ l ∷ []) ≡ after_line (fold after_line h ls) l
-after-more h [] l = refl
-after-more h (m ∷ ls) l = after-more (after_line h m) ls l
 
 pub line-more : (g : GroupTree) (ns ms : List Node) (ss : List Short) (ls : List LineTree) (s : Short) (l : LineTree) → AreMigrated g ns ss ls → Extends ns ms → IsLine l
     → IsRightFor g (after_lines ls) ms s l → IsFineShort ms s → AreTermsPutIn ns (line_terms (after_lines ls) l) ms → AreMigrated g ms (ss ++ s ∷ []) (ls ++ l ∷ [])

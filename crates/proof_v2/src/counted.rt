@@ -3,7 +3,10 @@
 ghost use Rattle.std.specs.Prelude.{◌≡◌, ℕ, List as Items, IfErr, IfOk};
 ghost use Rattle.elf_image.specs.Fault.{IsReadable};
 ghost use Rattle.elf_image.specs.Image.{image_of};
+ghost use Rattle.group_text.specs.Version.{version_2};
+ghost use Rattle.checker.specs.LineRules.{IsAcceptedOver};
 ghost use Rattle.checker.specs.Verdicts.{IsAcceptance, Says};
+ghost use Rattle.term_bench.specs.ShortRules.{short_rules};
 ghost use Rattle.proof_v2.specs.MigratedText.{IsMigratedText};
 
 use crate::texts::rewritten;
@@ -27,6 +30,9 @@ pub fn migrate_image(alloc: Global, image: &Image, proof: &[u8]) -> Result<Count
 
     // It has as many groups and lines as the text of version 1.
     ensures counted { (elf : Items ℕ) → IsReadable elf → image.now ≡ image_of elf → IfOk result (λ m. Says elf proof.now (Verdict.Accepted m.functions m.lines)) }
+
+    // It is accepted, with these numbers.
+    ensures accepted { (elf : Items ℕ) → IsReadable elf → image.now ≡ image_of elf → IfOk result (λ m. IsAcceptedOver short_rules version_2 elf m.text m.functions m.lines) }
 
     // The verdict that refuses it says what is so.
     ensures refused { (elf : Items ℕ) → IsReadable elf → image.now ≡ image_of elf → IfErr result (λ v. Says elf proof.now v) }

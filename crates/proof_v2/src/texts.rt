@@ -1,8 +1,8 @@
 //! A text of version 1 as one of version 2.
 
-ghost use Rattle.std.specs.Prelude.{◌≡◌, ◌⊎◌, ◌++◌, ◌∷◌, ◌<◌, ◌^◌, [], List as Items, IfErr, IfOk, OnOk, Err as Error, length};
+ghost use Rattle.std.specs.Prelude.{◌≡◌, ◌⊎◌, ◌++◌, ◌∷◌, ◌<◌, ◌^◌, ℕ, [], List as Items, IfErr, IfOk, OnOk, Err as Error, length};
 ghost use Rattle.group_text.specs.Limits.{IsGroupIn};
-ghost use Rattle.group_text.specs.Version.{version_1};
+ghost use Rattle.group_text.specs.Version.{version_1, version_2};
 ghost use Rattle.group_text.specs.declared.version.Version.TheVariants.{One};
 ghost use Rattle.tailrec_lang.specs.Tree.{group_tree};
 ghost use Rattle.proof_text.specs.FirstProofs.{HasGiven, ProofEnds};
@@ -11,9 +11,11 @@ ghost use Rattle.proof_text.specs.Proofs.{line_texts_by};
 ghost use Rattle.checker.specs.declared.verdict.Verdict.{Verdict as VerdictOf};
 ghost use Rattle.checker.specs.Bench.{group_of, history_of};
 ghost use Rattle.checker.specs.Instance.{Instance, after_line};
+ghost use Rattle.checker.specs.LineRules.{IsAcceptedOver};
 ghost use Rattle.checker.specs.Verdicts.{IsAcceptance, Says};
 ghost use Rattle.short_text.specs.ShortSpelling.{short_tokens, table_line};
 ghost use Rattle.term_arena.specs.Arena.{IsArena};
+ghost use Rattle.term_bench.specs.ShortRules.{short_rules};
 ghost use Rattle.proof_v2.specs.MigratedText.{IsMigratedText};
 ghost use Rattle.proof_v2.specs.inner.Rewriting.{BecomesText, GroupIsNext, HasOpened, HasPassed, IsRightText, LineIsNext, LinesAreShort, ProofIsPut};
 
@@ -33,6 +35,9 @@ use triple_kernel::RuleFault;
 /// its lines in the order in which they are first used, and a short line for each line. It is refused exactly as by `check_bytes`.
 pub fn migrate(alloc: Global, elf: &[u8], proof: &[u8]) -> Result<Bytes, Verdict>
     ensures text { IfOk result (λ text. IsMigratedText elf.now proof.now text) }
+
+    // Both texts are accepted, that of version 2 with as many groups and lines.
+    ensures accepted { IfOk result (λ text. (functions : ℕ) × (lines : ℕ) × Says elf.now proof.now (Verdict.Accepted functions lines) × IsAcceptedOver short_rules version_2 elf.now text functions lines) }
 
     // The verdict that refuses it says what is so.
     ensures refused { IfErr result (λ v. Says elf.now proof.now v × (IsAcceptance v → ⊥)) }

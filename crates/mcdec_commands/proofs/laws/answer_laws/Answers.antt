@@ -1,24 +1,29 @@
-use Rattle.std.proofs.Common.{rules, ◌∙◌, sym, subst}
+use Rattle.std.proofs.Common.{◌∙◌, sym, subst}
 use Rattle.mc_shelf.specs.Fault.{Rose}
 use Rattle.mcdec_words.specs.Command.{Laws}
-use Rattle.mcdec_commands.specs.Answer.{ReadsAreTold}
+use Rattle.mcdec_answers.specs.declared.answer.Answer.TheVariants as answer
+use Rattle.mcdec_answers.specs.declared.answer.LawsAnswer.TheVariants as la
+use Rattle.mcdec_commands.specs.Answer.{Gives, ReadsAreTold}
+use Rattle.mcdec_commands.specs.EvalAnswer.{proof_limit}
 use Rattle.mcdec_commands.specs.inner.Judging.{CertGives}
 use Rattle.mcdec_answers.proofs.Prints.{rose-later}
 use Rattle.mcdec_commands.proofs.Checking.{two-files}
 use Rattle.mcdec_commands.proofs.Judging.{cert-gives, laws-proof-told}
+use Rattle.mcdec_commands.proofs.Loading.{unread, unread-so}
 use Rattle.mcdec_commands.proofs.laws.answer_laws.Goals as goal
 
-pub returns-in-Err-Fault-clause-gives : goal.returns-in-Err-Fault-clause-gives
-returns-in-Err-Fault-clause-gives g c ws is = let l = c.args.l.now in (Laws l.proof.now l.cert.now, is, two-files l.proof.now l.cert.now, c.read_file.ensures.cause (search rules))
+pub returns-in-Err-clause-gives : goal.returns-in-Err-clause-gives
+returns-in-Err-clause-gives g c ws is =
+    let l = c.args.l.now in
+    let told = g.S.Shelf.contents c.args.shelf.now in
+    let rose = Rose (g.S.Shelf.read_faults c.args.shelf.now) (g.S.Shelf.read_faults c.read_file.new.shelf) in
+    let wrote = Rose (g.S.Shelf.write_faults c.args.shelf.now) (g.S.Shelf.write_faults c.read_file.new.shelf) in
+    unread-so told l.proof.now rose (Gives told ws rose wrote) (λ rises. (Laws l.proof.now l.cert.now, is, two-files l.proof.now l.cert.now, rises)) tt (answer.Laws la.ProofOverLimit) proof_limit
+    (λ long. (l.proof.now, l.cert.now, is, long)) c.in-Err.end (unread told l.proof.now rose proof_limit c.read_file.result c.in-Err.end c.in-Err.is c.read_file.ensures.cause c.read_file.ensures.too_long)
+    c.not_read.result c.not_read.ensures.answer
 
-pub returns-in-Err-Fault-clause-sure : goal.returns-in-Err-Fault-clause-sure
-returns-in-Err-Fault-clause-sure g c ws is sure told = c.read_file.ensures.sure_counts sure (laws-proof-told (g.S.Shelf.contents c.args.shelf.now) ws told c.args.l.now.proof.now c.args.l.now.cert.now is)
-
-pub returns-in-Err-TooLong-clause-sure : goal.returns-in-Err-TooLong-clause-sure
-returns-in-Err-TooLong-clause-sure g c ws is sure told = c.read_file.ensures.sure_counts sure (laws-proof-told (g.S.Shelf.contents c.args.shelf.now) ws told c.args.l.now.proof.now c.args.l.now.cert.now is)
-
-pub returns-in-Err-NoMemory-clause-sure : goal.returns-in-Err-NoMemory-clause-sure
-returns-in-Err-NoMemory-clause-sure g c ws is sure told = c.read_file.ensures.sure_counts sure (laws-proof-told (g.S.Shelf.contents c.args.shelf.now) ws told c.args.l.now.proof.now c.args.l.now.cert.now is)
+pub returns-in-Err-clause-sure : goal.returns-in-Err-clause-sure
+returns-in-Err-clause-sure g c ws is sure told = c.read_file.ensures.sure_counts sure (laws-proof-told (g.S.Shelf.contents c.args.shelf.now) ws told c.args.l.now.proof.now c.args.l.now.cert.now is)
 
 pub returns-clause-gives : goal.returns-clause-gives
 returns-clause-gives g c ws is =

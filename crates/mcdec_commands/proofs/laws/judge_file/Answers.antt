@@ -1,16 +1,23 @@
 use Rattle.std.proofs.Common.{subst}
-use Rattle.mcdec_commands.specs.LawsAnswer.{TextsGive}
+use Rattle.mc_shelf.specs.Fault.{Rose}
+use Rattle.mcdec_answers.specs.declared.answer.Answer.TheVariants as answer
+use Rattle.mcdec_answers.specs.declared.answer.LawsAnswer.TheVariants as la
+use Rattle.mcdec_commands.specs.LawsAnswer.{TextsGive, cert_limit}
+use Rattle.mcdec_commands.specs.inner.Judging.{CertGives}
 use Rattle.mcdec_commands.proofs.Judging.{held-gives, laws-cert-told}
+use Rattle.mcdec_commands.proofs.Loading.{unread, unread-so}
 use Rattle.mcdec_commands.proofs.laws.judge_file.Goals as goal
 
-pub returns-in-Err-Fault-clause-sure : goal.returns-in-Err-Fault-clause-sure
-returns-in-Err-Fault-clause-sure g c ws is sure told = c.read_file.ensures.sure_counts sure (laws-cert-told (g.S.Shelf.contents c.args.shelf.now) ws told c.args.l.now.proof.now c.args.l.now.cert.now is)
+pub returns-in-Err-clause-gives : goal.returns-in-Err-clause-gives
+returns-in-Err-clause-gives g c =
+    let cert = c.args.l.now.cert.now in
+    let told = g.S.Shelf.contents c.args.shelf.now in
+    let rose = Rose (g.S.Shelf.read_faults c.args.shelf.now) (g.S.Shelf.read_faults c.read_file.new.shelf) in
+    unread-so told cert rose (CertGives told cert c.args.file.now rose) (λ rises. rises) tt (answer.Laws la.CertOverLimit) cert_limit (λ long. (c.requires, long)) c.in-Err.end
+    (unread told cert rose cert_limit c.read_file.result c.in-Err.end c.in-Err.is c.read_file.ensures.cause c.read_file.ensures.too_long) c.not_read.result c.not_read.ensures.answer
 
-pub returns-in-Err-TooLong-clause-sure : goal.returns-in-Err-TooLong-clause-sure
-returns-in-Err-TooLong-clause-sure g c ws is sure told = c.read_file.ensures.sure_counts sure (laws-cert-told (g.S.Shelf.contents c.args.shelf.now) ws told c.args.l.now.proof.now c.args.l.now.cert.now is)
-
-pub returns-in-Err-NoMemory-clause-sure : goal.returns-in-Err-NoMemory-clause-sure
-returns-in-Err-NoMemory-clause-sure g c ws is sure told = c.read_file.ensures.sure_counts sure (laws-cert-told (g.S.Shelf.contents c.args.shelf.now) ws told c.args.l.now.proof.now c.args.l.now.cert.now is)
+pub returns-in-Err-clause-sure : goal.returns-in-Err-clause-sure
+returns-in-Err-clause-sure g c ws is sure told = c.read_file.ensures.sure_counts sure (laws-cert-told (g.S.Shelf.contents c.args.shelf.now) ws told c.args.l.now.proof.now c.args.l.now.cert.now is)
 
 pub returns-in-Ok-judge_texts-clause-gives : goal.returns-in-Ok-judge_texts-clause-gives
 returns-in-Ok-judge_texts-clause-gives g c =

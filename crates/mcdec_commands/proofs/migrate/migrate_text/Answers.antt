@@ -1,23 +1,31 @@
 use Rattle.std.proofs.Common.{◌∙◌, sym, subst}
 use Rattle.mc_shelf.specs.Fault.{Rose}
 use Rattle.checker.specs.Verdicts.{Says}
+use Rattle.mcdec_answers.specs.declared.answer.Answer.TheVariants as answer
+use Rattle.mcdec_answers.specs.declared.answer.MigrateAnswer.TheVariants as mi
+use Rattle.mcdec_commands.specs.EvalAnswer.{proof_limit}
+use Rattle.mcdec_commands.specs.MigrateAnswer.{IsMigrationFor}
 use Rattle.mcdec_commands.specs.inner.Migrating.{FileMigrates}
 use Rattle.mcdec_commands.specs.inner.Writing.{IsTold}
-use Rattle.mcdec_commands.proofs.Leaving.{is-told}
+use Rattle.mcdec_commands.proofs.Leaving.{is-told, nothing-written}
+use Rattle.mcdec_commands.proofs.Loading.{unread, unread-so}
 use Rattle.mcdec_commands.proofs.Migrating.{migrate-proof-told, refused-gives}
 use Rattle.mcdec_commands.proofs.migrate.migrate_text.Goals as goal
 
-pub returns-in-Err-Fault-clause-sure : goal.returns-in-Err-Fault-clause-sure
-returns-in-Err-Fault-clause-sure g c ws is sure told =
-    let m = c.args.m.now in c.read_file.ensures.sure_counts sure (migrate-proof-told (g.S.Shelf.contents c.args.shelf.now) ws told m.elf.now m.proof.now m.out.now is)
-
-pub returns-in-Err-TooLong-clause-sure : goal.returns-in-Err-TooLong-clause-sure
-returns-in-Err-TooLong-clause-sure g c ws is sure told =
-    let m = c.args.m.now in c.read_file.ensures.sure_counts sure (migrate-proof-told (g.S.Shelf.contents c.args.shelf.now) ws told m.elf.now m.proof.now m.out.now is)
-
-pub returns-in-Err-NoMemory-clause-sure : goal.returns-in-Err-NoMemory-clause-sure
-returns-in-Err-NoMemory-clause-sure g c ws is sure told =
-    let m = c.args.m.now in c.read_file.ensures.sure_counts sure (migrate-proof-told (g.S.Shelf.contents c.args.shelf.now) ws told m.elf.now m.proof.now m.out.now is)
+pub returns-in-Err : goal.returns-in-Err
+returns-in-Err g c =
+    let m = c.args.m.now in
+    let told = g.S.Shelf.contents c.args.shelf.now in
+    let rose = Rose (g.S.Shelf.read_faults c.args.shelf.now) (g.S.Shelf.read_faults c.read_file.new.shelf) in
+    record {
+      gives = λ file loaded image.
+          unread-so told m.proof.now rose (FileMigrates told m.proof.now file rose) (λ rises. rises) tt (answer.Migrate mi.ProofOverLimit) proof_limit (λ long. (loaded, long)) c.in-Err.end
+          (unread told m.proof.now rose proof_limit c.read_file.result c.in-Err.end c.in-Err.is c.read_file.ensures.cause c.read_file.ensures.too_long) c.not_read.result c.not_read.ensures.answer;
+      written = λ file loaded image held. nothing-written (λ files. IsMigrationFor files m.elf.now m.proof.now) m.out.now c.not_read.result _ _ c.read_file.ensures.kept c.not_read.ensures.refused;
+      counted = c.read_file.ensures.counted;
+      cause = λ five. absurd (c.not_read.ensures.no_fault five);
+      sure = λ ws is sure all. c.read_file.ensures.sure_counts sure (migrate-proof-told told ws all m.elf.now m.proof.now m.out.now is);
+    }
 
 pub returns-in-Ok-migrate_image-clause-sure : goal.returns-in-Ok-migrate_image-clause-sure
 returns-in-Ok-migrate_image-clause-sure g c ws is sure told =
@@ -33,9 +41,9 @@ returns-clause-gives g c file loaded image =
     let m = c.args.m.now in
     let told = g.S.Shelf.contents c.args.shelf.now in
     let rose = Rose (g.S.Shelf.read_faults c.args.shelf.now) (g.S.Shelf.read_faults c.read_file.new.shelf) in
-    let says = subst (λ t. Says file t c.in-Err.why) c.as_slice.ensures (c.in-Err.ensures.refused file loaded.1 image) in
+    let says = subst (λ t. Says file t c.in-Err-migrate_image.why) c.as_slice.ensures (c.in-Err-migrate_image.ensures.refused file loaded.1 image) in
     subst (FileMigrates told m.proof.now file rose) (sym c.refuse.ensures.answer)
-    (refused-gives told m.proof.now file c.in-Ok.text rose loaded c.in-Ok.ensures.within c.in-Ok.ensures.whole c.in-Err.why says c.in-Err.ensures.no_acceptance)
+    (refused-gives told m.proof.now file c.in-Ok.text rose loaded c.in-Ok.ensures.within c.in-Ok.ensures.whole c.in-Err-migrate_image.why says c.in-Err-migrate_image.ensures.no_acceptance)
 
 pub returns-clause-sure : goal.returns-clause-sure
 returns-clause-sure g c ws is sure told =

@@ -1,51 +1,45 @@
-use Rattle.std.proofs.Common.{rules, length, ◌<◌}
+use Rattle.mc_shelf.specs.Fault.{Rose}
 use Rattle.mcdec_words.specs.Command.{Run}
-use Rattle.mcdec_commands.specs.RunAnswer.{elf_limit, RunGives}
-use Rattle.mcdec_commands.proofs.Answers.{held-with, held-such, elf-told, one-file}
+use Rattle.mcdec_answers.specs.declared.answer.Answer.TheVariants as answer
+use Rattle.mcdec_answers.specs.declared.answer.RunAnswer.TheVariants as run
+use Rattle.mcdec_commands.specs.Answer.{Gives}
+use Rattle.mcdec_commands.specs.RunAnswer.{RunGives}
+use Rattle.mcdec_commands.proofs.Answers.{held-with, elf-told, one-file}
+use Rattle.mcdec_commands.proofs.Loading.{unloaded-so}
 use Rattle.mcdec_commands.proofs.run.answer_run.Goals as goal
 
-pub returns-in-Err-Fault-clause-gives : goal.returns-in-Err-Fault-clause-gives
-returns-in-Err-Fault-clause-gives g c ws is = (Run c.args.r.now.elf.now c.args.r.now.start.now c.args.r.now.until c.args.r.now.steps is.0, is.1, one-file c.args.r.now.elf.now, c.read_file.ensures.cause (search rules))
+pub returns-in-Ok-run_loaded-clause-gives : goal.returns-in-Ok-run_loaded-clause-gives
+returns-in-Ok-run_loaded-clause-gives g c ws is =
+    let r = c.args.r.now in
+    let image = c.in-Ok.ensures.image in (
+      r.elf.now,
+      r.start.now,
+      r.until,
+      r.steps,
+      is.0,
+      is.1,
+      held-with (g.S.Shelf.contents c.args.shelf.now) r.elf.now image.file (λ file. RunGives file r.start.now r.until r.steps is.0 c.in-Ok-run_loaded.answer) image.holds
+          (c.in-Ok-run_loaded.ensures is.0 is.1.0.4 is.2 image.file image.loaded image.is),
+    )
 
-pub returns-in-Err-TooLong-clause-gives : goal.returns-in-Err-TooLong-clause-gives
-returns-in-Err-TooLong-clause-gives g c ws is = (
-  c.args.r.now.elf.now,
-  c.args.r.now.start.now,
-  c.args.r.now.until,
-  c.args.r.now.steps,
-  is.0,
-  is.1,
-  held-such (g.S.Shelf.contents c.args.shelf.now) c.args.r.now.elf.now (λ file. elf_limit < length file) (c.read_file.ensures.too_long (search rules)),
-)
+pub returns-in-Ok-run_loaded-clause-sure : goal.returns-in-Ok-run_loaded-clause-sure
+returns-in-Ok-run_loaded-clause-sure g c ws is sure told =
+    let r = c.args.r.now in c.load_image.ensures.sure sure (elf-told (g.S.Shelf.contents c.args.shelf.now) ws told r.elf.now r.start.now r.until r.steps is.0 is.1)
 
-pub returns-in-Ok-run_bytes-clause-gives : goal.returns-in-Ok-run_bytes-clause-gives
-returns-in-Ok-run_bytes-clause-gives g c ws is = (
-  c.args.r.now.elf.now,
-  c.args.r.now.start.now,
-  c.args.r.now.until,
-  c.args.r.now.steps,
-  is.0,
-  is.1,
-  held-with (g.S.Shelf.contents c.args.shelf.now) c.args.r.now.elf.now c.in-Ok.file (λ file. RunGives file c.args.r.now.start.now c.args.r.now.until c.args.r.now.steps is.0 c.in-Ok-run_bytes.answer) c.in-Ok.ensures.whole
-      (c.in-Ok-run_bytes.ensures is.0 is.1.0.4 is.2),
-)
+pub returns-in-Err-run_loaded-clause-sure : goal.returns-in-Err-run_loaded-clause-sure
+returns-in-Err-run_loaded-clause-sure g c ws is sure told =
+    let r = c.args.r.now in c.load_image.ensures.sure sure (elf-told (g.S.Shelf.contents c.args.shelf.now) ws told r.elf.now r.start.now r.until r.steps is.0 is.1)
 
-pub returns-in-Err-Fault-clause-sure : goal.returns-in-Err-Fault-clause-sure
-returns-in-Err-Fault-clause-sure g c ws is sure told =
-    c.read_file.ensures.sure_counts sure (elf-told (g.S.Shelf.contents c.args.shelf.now) ws told c.args.r.now.elf.now c.args.r.now.start.now c.args.r.now.until c.args.r.now.steps is.0 is.1)
-
-pub returns-in-Err-TooLong-clause-sure : goal.returns-in-Err-TooLong-clause-sure
-returns-in-Err-TooLong-clause-sure g c ws is sure told =
-    c.read_file.ensures.sure_counts sure (elf-told (g.S.Shelf.contents c.args.shelf.now) ws told c.args.r.now.elf.now c.args.r.now.start.now c.args.r.now.until c.args.r.now.steps is.0 is.1)
-
-pub returns-in-Err-NoMemory-clause-sure : goal.returns-in-Err-NoMemory-clause-sure
-returns-in-Err-NoMemory-clause-sure g c ws is sure told =
-    c.read_file.ensures.sure_counts sure (elf-told (g.S.Shelf.contents c.args.shelf.now) ws told c.args.r.now.elf.now c.args.r.now.start.now c.args.r.now.until c.args.r.now.steps is.0 is.1)
-
-pub returns-in-Ok-run_bytes-clause-sure : goal.returns-in-Ok-run_bytes-clause-sure
-returns-in-Ok-run_bytes-clause-sure g c ws is sure told =
-    c.read_file.ensures.sure_counts sure (elf-told (g.S.Shelf.contents c.args.shelf.now) ws told c.args.r.now.elf.now c.args.r.now.start.now c.args.r.now.until c.args.r.now.steps is.0 is.1)
+pub returns-in-Err-clause-gives : goal.returns-in-Err-clause-gives
+returns-in-Err-clause-gives g c ws is =
+    let r = c.args.r.now in
+    let told = g.S.Shelf.contents c.args.shelf.now in
+    let rose = Rose (g.S.Shelf.read_faults c.args.shelf.now) (g.S.Shelf.read_faults c.load_image.new.shelf) in
+    let wrote = Rose (g.S.Shelf.write_faults c.args.shelf.now) (g.S.Shelf.write_faults c.load_image.new.shelf) in
+    unloaded-so told r.elf.now rose (Gives told ws rose wrote) (λ rises. (Run r.elf.now r.start.now r.until r.steps is.0, is.1, one-file r.elf.now, rises)) tt (answer.Run run.OverLimit)
+    (λ why. answer.Run (run.Unreadable why)) (λ long. (r.elf.now, r.start.now, r.until, r.steps, is.0, is.1, long)) (λ why bad. (r.elf.now, r.start.now, r.until, r.steps, is.0, is.1, bad))
+    c.in-Err.fault c.in-Err.ensures.fault c.not_loaded.result c.not_loaded.ensures
 
 pub returns-in-Err-clause-sure : goal.returns-in-Err-clause-sure
 returns-in-Err-clause-sure g c ws is sure told =
-    c.read_file.ensures.sure_counts sure (elf-told (g.S.Shelf.contents c.args.shelf.now) ws told c.args.r.now.elf.now c.args.r.now.start.now c.args.r.now.until c.args.r.now.steps is.0 is.1)
+    let r = c.args.r.now in c.load_image.ensures.sure sure (elf-told (g.S.Shelf.contents c.args.shelf.now) ws told r.elf.now r.start.now r.until r.steps is.0 is.1)

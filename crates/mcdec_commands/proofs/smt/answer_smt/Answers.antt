@@ -1,11 +1,16 @@
-use Rattle.std.proofs.Common.{rules, ◌∙◌, sym, subst, Ok, Err}
+use Rattle.std.proofs.Common.{◌∙◌, sym, subst, Ok, Err}
 use Rattle.mc_shelf.specs.Fault.{Rose}
 use Rattle.mcdec_words.specs.Command.{Smt}
+use Rattle.mcdec_answers.specs.declared.answer.Answer.TheVariants as answer
+use Rattle.mcdec_answers.specs.declared.answer.SmtAnswer.TheVariants as sm
+use Rattle.mcdec_commands.specs.Answer.{Gives}
+use Rattle.mcdec_commands.specs.EvalAnswer.{proof_limit}
 use Rattle.mcdec_commands.specs.inner.Search.{Finds}
 use Rattle.mcdec_commands.specs.inner.Writing.{IsTold}
 use Rattle.mcdec_commands.proofs.Answers.{found-fits, one-file}
 use Rattle.mcdec_commands.specs.SmtAnswer.{IsScriptFor}
 use Rattle.mcdec_commands.proofs.Leaving.{is-told, nothing-written}
+use Rattle.mcdec_commands.proofs.Loading.{unread, unread-so}
 use Rattle.mcdec_commands.proofs.Exporting.{smt-told, def-gives}
 use Rattle.mcdec_answers.proofs.Prints.{rose-later}
 use Rattle.mcdec_commands.proofs.smt.answer_smt.Goals as goal
@@ -16,21 +21,21 @@ export_def-requires-clause-group g c = (found-fits c.as_slice.result.now c.args.
 pub export_def-requires-clause-well_formed : goal.export_def-requires-clause-well_formed
 export_def-requires-clause-well_formed g c = (found-fits c.as_slice.result.now c.args.s.now.name.now c.in-Ok-find_group.g c.in-Ok-find_group.ensures).1
 
-pub returns-in-Err-Fault-clause-gives : goal.returns-in-Err-Fault-clause-gives
-returns-in-Err-Fault-clause-gives g c ws is =
-    let s = c.args.s.now in (Smt s.proof.now s.name.now s.def s.out.now, is, one-file s.proof.now, c.read_file.ensures.cause (search rules))
-
-pub returns-in-Err-Fault-clause-sure : goal.returns-in-Err-Fault-clause-sure
-returns-in-Err-Fault-clause-sure g c ws is sure told =
-    let s = c.args.s.now in c.read_file.ensures.sure_counts sure (smt-told (g.S.Shelf.contents c.args.shelf.now) ws told s.proof.now s.name.now s.def s.out.now is)
-
-pub returns-in-Err-TooLong-clause-sure : goal.returns-in-Err-TooLong-clause-sure
-returns-in-Err-TooLong-clause-sure g c ws is sure told =
-    let s = c.args.s.now in c.read_file.ensures.sure_counts sure (smt-told (g.S.Shelf.contents c.args.shelf.now) ws told s.proof.now s.name.now s.def s.out.now is)
-
-pub returns-in-Err-NoMemory-clause-sure : goal.returns-in-Err-NoMemory-clause-sure
-returns-in-Err-NoMemory-clause-sure g c ws is sure told =
-    let s = c.args.s.now in c.read_file.ensures.sure_counts sure (smt-told (g.S.Shelf.contents c.args.shelf.now) ws told s.proof.now s.name.now s.def s.out.now is)
+pub returns-in-Err : goal.returns-in-Err
+returns-in-Err g c =
+    let s = c.args.s.now in
+    let told = g.S.Shelf.contents c.args.shelf.now in
+    let rose = Rose (g.S.Shelf.read_faults c.args.shelf.now) (g.S.Shelf.read_faults c.read_file.new.shelf) in
+    let wrote = Rose (g.S.Shelf.write_faults c.args.shelf.now) (g.S.Shelf.write_faults c.read_file.new.shelf) in
+    record {
+      gives = λ ws is.
+          unread-so told s.proof.now rose (Gives told ws rose wrote) (λ rises. (Smt s.proof.now s.name.now s.def s.out.now, is, one-file s.proof.now, rises)) tt (answer.Smt sm.OverLimit) proof_limit (λ long. (s.proof.now, s.name.now, s.def, s.out.now, is, long))
+          c.in-Err.end (unread told s.proof.now rose proof_limit c.read_file.result c.in-Err.end c.in-Err.is c.read_file.ensures.cause c.read_file.ensures.too_long) c.not_read.result c.not_read.ensures.answer;
+      written = nothing-written (λ files. IsScriptFor files s.proof.now s.name.now s.def) s.out.now c.not_read.result _ _ c.read_file.ensures.kept c.not_read.ensures.refused;
+      counted = c.read_file.ensures.counted;
+      cause = λ five. absurd (c.not_read.ensures.no_fault five);
+      sure = λ ws is sure all. c.read_file.ensures.sure_counts sure (smt-told told ws all s.proof.now s.name.now s.def s.out.now is);
+    }
 
 pub returns-in-Ok-find_group-clause-gives : goal.returns-in-Ok-find_group-clause-gives
 returns-in-Ok-find_group-clause-gives g c ws is =
@@ -53,7 +58,7 @@ pub returns : goal.returns
 returns g c =
     let s = c.args.s.now in
     let told = g.S.Shelf.contents c.args.shelf.now in
-    let found = subst (λ t. Finds t s.name.now (Err c.in-Err.why)) c.as_slice.ensures c.in-Err.ensures in
+    let found = subst (λ t. Finds t s.name.now (Err c.in-Err-find_group.why)) c.as_slice.ensures c.in-Err-find_group.ensures in
     record {
       gives = λ ws is.
           def-gives told ws s.proof.now s.name.now s.def s.out.now c.in-Ok.text _ _ is c.in-Ok.ensures.whole c.refuse.result (λ five. absurd (c.refuse.ensures.no_fault five))

@@ -1,10 +1,14 @@
-use Rattle.std.proofs.Common.{◌≡◌, inl, inr, refl, subst}
+use Rattle.std.proofs.Common.{◌≡◌, ℕ, inl, inr, refl, subst}
 use Rattle.std.proofs.lemmas.Result.{IfErr-weaker, IfOk-weaker}
 use Rattle.checker.specs.declared.verdict.Verdict.{Verdict}
 use Rattle.checker.specs.declared.verdict.Verdict.TheVariants as verdict
+use Rattle.group_text.specs.Version.{version_2}
+use Rattle.checker.specs.LineRules.{IsAcceptedOver}
 use Rattle.checker.specs.Verdicts.{IsAcceptance, Says}
+use Rattle.term_bench.specs.ShortRules.{short_rules}
 use Rattle.proof_v2.specs.MigratedText.{IsMigratedText}
 use Rattle.proof_v2.specs.inner.Rewriting.{BecomesText}
+use Rattle.proof_v2.proofs.AcceptedTexts.{both-accepted}
 use Rattle.proof_v2.proofs.MigratedTexts.{for-memory, migrated-text, no-acceptance, not-refused, refused-by, right-text}
 use Rattle.proof_v2.proofs.texts.migrate.Goals as goal
 
@@ -18,6 +22,15 @@ returns-in-Accepted-clause-text c =
     let text = c.args.proof.now in
     IfOk-weaker c.rewritten.result (BecomesText text) (IsMigratedText file text)
     (λ more. migrated-text file text _ _ (subst (λ (v : Verdict). Says file text v) c.in-Accepted.is c.check_bytes.ensures.verdict) more)
+    c.rewritten.ensures.text
+
+pub returns-in-Accepted-clause-accepted : goal.returns-in-Accepted-clause-accepted
+returns-in-Accepted-clause-accepted c =
+    let file = c.args.elf.now in
+    let text = c.args.proof.now in
+    IfOk-weaker c.rewritten.result (BecomesText text)
+    (λ more. (functions : ℕ) × (lines : ℕ) × Says file text (verdict.Accepted functions lines) × IsAcceptedOver short_rules version_2 file more functions lines)
+    (λ more b. both-accepted file text more (migrated-text file text _ _ (subst (λ (v : Verdict). Says file text v) c.in-Accepted.is c.check_bytes.ensures.verdict) more b))
     c.rewritten.ensures.text
 
 pub returns-in-Accepted-clause-refused : goal.returns-in-Accepted-clause-refused
