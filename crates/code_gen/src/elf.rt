@@ -16,7 +16,7 @@ pub struct Field {
 }
 
 /// Where the program stands in memory.
-const START: u64 = 0x10000;
+pub const START: u64 = 0x10000;
 
 /// The file of these instruction words, which stand from address 0x10000 on and are entered there.
 #[tactic(auto, unfolding(crate::specs::ElfFile::elf_of))]

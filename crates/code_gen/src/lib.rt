@@ -6,7 +6,7 @@ mod elf;
 mod laws;
 mod pieces;
 
-pub use elf::elf_file;
+pub use elf::{START, elf_file};
 pub use laws::{
     law_of_counters, law_of_draws, law_of_shapes, law_of_steps, law_of_targets, law_of_words,
 };

@@ -9,7 +9,7 @@ use Rattle.std.proofs.lemmas.List.{length-append, take_all}
 use Rattle.std.proofs.lemmas.List.Sums.{fails_before_first, passes_at_first, split_at_first}
 use Rattle.std.proofs.lemmas.Str.Pattern.{IsSplitOnceResult, split_once_first}
 use Rattle.rv_words.specs.declared.range.Range.{Range}
-use Rattle.mc_text.specs.Number.{hex, IsWord, AreBytes, Spelled}
+use Rattle.mc_text.specs.Number.{hex, IsNumber, AreSomeBytes, Spelled}
 use Rattle.mc_text.proofs.Numbers.{Passes, Pass, digits-pass}
 use Rattle.mc_text.proofs.OneSpelling.{decimal-once, hex-once, bytes-once}
 use Rattle.mcdec_words.specs.declared.command.Unread.{Unread}
@@ -126,7 +126,7 @@ abbrev NoGiven : List ℕ → List ℕ → Type 0
 NoGiven name value = (g : Given) → IsGiven g → name ≡ register_name g.register → value ≢ hex g.value
 
 -- a number behind x that is no register's
-pub other-register : (name value : List ℕ) (n : ℕ) → Spelled IsWord decimal (take (length name - 1) (drop 1 name)) (Some n) → (1 ≤ n → n ≤ 31 → ⊥) → NoGiven name value
+pub other-register : (name value : List ℕ) (n : ℕ) → Spelled IsNumber decimal (take (length name - 1) (drop 1 name)) (Some n) → (1 ≤ n → n ≤ 31 → ⊥) → NoGiven name value
 other-register name value n spelled none g is e =
     let digits-here : take (length name - 1) (drop 1 name) ≡ decimal g.register =
     ap (λ (w : List ℕ). take (length w - 1) (drop 1 w)) e ∙ take_all (suc (length (decimal g.register)) - 1) (decimal g.register) (omega arith) in
@@ -138,13 +138,13 @@ other-register name value n spelled none g is e =
 abbrev NoMemoryValue : List ℕ → Type 0
 NoMemoryValue value = (r : Range) → IsMemory r → value ≢ memory_value r
 
-address-fits : (r : Range) → IsMemory r → IsWord r.at
+address-fits : (r : Range) → IsMemory r → IsNumber r.at
 address-fits r is = omega (arith, is.0, is.1)
 
 some-bytes : (bytes : List ℕ) → 0 < length bytes → bytes ≢ []
 some-bytes bytes h e = let n : length bytes ≡ 0 = ap length e in omega arith
 
-bytes-fit : (r : Range) → IsMemory r → AreBytes r.bytes
+bytes-fit : (r : Range) → IsMemory r → AreSomeBytes r.bytes
 bytes-fit r is = (some-bytes r.bytes is.0, is.2)
 
 -- a value that has no :
@@ -155,13 +155,13 @@ module _ (value front back : List ℕ) (parted : (value ≡ front ++ 58 ∷ back
   parts-are : (r : Range) → value ≡ memory_value r → (front ≡ hex r.at) × (back ≡ encode_lower r.bytes)
   parts-are r e = first-once 58 front (hex r.at) back (encode_lower r.bytes) parted.1 (hex-lacks 58 r.at (omega arith) (omega arith)) (sym parted.0 ∙ e ∙ value-parts r)
 
-  pub no-address : Spelled IsWord hex front None → NoMemoryValue value
+  pub no-address : Spelled IsNumber hex front None → NoMemoryValue value
   no-address none r is e = none r.at (address-fits r is) (parts-are r e).0
 
-  pub no-digits : Spelled AreBytes encode_lower back None → NoMemoryValue value
+  pub no-digits : Spelled AreSomeBytes encode_lower back None → NoMemoryValue value
   no-digits none r is e = none r.bytes (bytes-fit r is) (parts-are r e).1
 
-  module _ (at : ℕ) (bytes : List ℕ) (address : Spelled IsWord hex front (Some at)) (told : Spelled AreBytes encode_lower back (Some bytes)) where
+  module _ (at : ℕ) (bytes : List ℕ) (address : Spelled IsNumber hex front (Some at)) (told : Spelled AreSomeBytes encode_lower back (Some bytes)) where
     pub past-the-end : (at + length bytes ≤ 2 ^ 64 → ⊥) → NoMemoryValue value
     past-the-end far r is e =
         let p = parts-are r e in

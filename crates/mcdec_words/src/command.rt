@@ -424,12 +424,15 @@ fn read_migrate(words: &[String]) -> Result<Migrate<'_>, Unread>
     })
 }
 
+/// The greatest size of a program that is drawn. It then has at most 1,001 instructions.
+const PROGRAM_SIZE_LIMIT: u64 = 600;
+
 /// The size of a program.
 fn read_size(word: &[u8]) -> Option<u32>
     ensures { MatchOption result ((n : ℕ) → 1 ≤ n → n ≤ 600 → word.now ≢ decimal n) (λ n. (1 ≤ n) × (n ≤ 600) × (word.now ≡ decimal n)) }
 {
     let size = dec(word)?;
-    if 1 <= size && size <= 600 {
+    if 1 <= size && size <= PROGRAM_SIZE_LIMIT {
         Some(size as u32)
     } else {
         None

@@ -13,7 +13,8 @@ use Rattle.tailrec_lang.specs.WellFormed.{exit_words}
 use Rattle.tailrec_lang.proofs.Definitions.{exits_there}
 use Rattle.triple_kernel.specs.Tree.{FactTree, So, Gives, TripleTree}
 use Rattle.triple_kernel.specs.declared.form.Form.TheVariants.{Next}
-use Rattle.instr_axioms.specs.Terms.{conditions, following, pc_after}
+use Rattle.rv_words.specs.Bytes.{away}
+use Rattle.instr_axioms.specs.Terms.{conditions, pc_after}
 use Rattle.loop_rule.specs.Tree.{LeafTree}
 use Rattle.loop_rule.specs.Leaves.{arm_leaves, body_leaves, variables_after}
 use Rattle.group_text.specs.declared.version.Version.{Version as Known}
@@ -146,7 +147,7 @@ module _ (f : Flow) (p : Part) (ranges : List Range) where
             let stood = step.each s path ready here in
             let at = s.code.each n node in
             let is = at.calls c calls in
-            let back : f.addr (f.to n Next) ≡ following (f.addr n) (size f n) = is.back in
+            let back : f.addr (f.to n Next) ≡ away (f.addr n) (size f n) = is.back in
             let pc : pc_after (f.instr n) Next (f.addr n) (size f n) (names v (f.uses n)) ≡ Const c.entry = (λ j. pc_after (is.instr j) Next (f.addr n) (size f n) (names v (f.uses n))) ∙ ap Const (sym is.entry) in
             let facts : path ++ (map So (conditions (f.instr n) Next (names v (f.uses n))) ++ new_facts (f.instr n) (f.addr n) (size f n) (f.uses n) v) ≡ facts_after ss v.words v.mems path =
             sym (append_assoc path (map So (conditions (f.instr n) Next (names v (f.uses n)))) (new_facts (f.instr n) (f.addr n) (size f n) (f.uses n) v)) ∙ sym (all-facts (f.instr n) (f.addr n) (size f n) (f.uses n) v path) in
@@ -154,14 +155,14 @@ module _ (f : Flow) (p : Part) (ranges : List Range) where
             let known = subst (λ (fs : List FactTree). StandsAs f (part_def f p).entry ranges (past f ranges s mid) (Const c.entry) u fs t) facts there in
             let on = subst (λ (k : ℕ). Leads f p ranges mid new (Const c.entry) u (Some t) (entered k)) back rest in
             let led = on.each s (facts_after ss v.words v.mems path) stood.grown.ready known
-            (closed_more (past f ranges s old) (past f ranges s mid) (entered (following (f.addr n) (size f n))) stood.grown.keeps (closed_steps (past f ranges s old) ss (entered (following (f.addr n) (size f n))) closed))
-            (below_steps s.bound ss (entered (following (f.addr n) (size f n))) below) in
+            (closed_more (past f ranges s old) (past f ranges s mid) (entered (away (f.addr n) (size f n))) stood.grown.keeps (closed_steps (past f ranges s old) ss (entered (away (f.addr n) (size f n))) closed))
+            (below_steps s.bound ss (entered (away (f.addr n) (size f n))) below) in
             let g : GroupTree = group_in f ranges s in
-            let leaves : body_leaves g (part_def f p) (with_steps ss (entered (following (f.addr n) (size f n)))) v.words v.mems path ≡ body_leaves g (part_def f p) (entered (following (f.addr n) (size f n))) u.words u.mems (facts_after ss v.words v.mems path) =
-            leaves-steps g (part_def f p) ss (entered (following (f.addr n) (size f n))) v.words v.mems path
-            ∙ (λ j. body_leaves g (part_def f p) (entered (following (f.addr n) (size f n))) (all-words (f.instr n) (f.addr n) (size f n) (f.uses n) v j) (all-mems (f.instr n) (f.addr n) (size f n) (f.uses n) v j) (facts_after ss v.words v.mems path)) in
+            let leaves : body_leaves g (part_def f p) (with_steps ss (entered (away (f.addr n) (size f n)))) v.words v.mems path ≡ body_leaves g (part_def f p) (entered (away (f.addr n) (size f n))) u.words u.mems (facts_after ss v.words v.mems path) =
+            leaves-steps g (part_def f p) ss (entered (away (f.addr n) (size f n))) v.words v.mems path
+            ∙ (λ j. body_leaves g (part_def f p) (entered (away (f.addr n) (size f n))) (all-words (f.instr n) (f.addr n) (size f n) (f.uses n) v j) (all-mems (f.instr n) (f.addr n) (size f n) (f.uses n) v j) (facts_after ss v.words v.mems path)) in
             subst (λ (ls : List LeafTree). Led f p ranges s old new ls) (sym leaves)
-            (led_after f p ranges s old mid new (body_leaves g (part_def f p) (entered (following (f.addr n) (size f n))) u.words u.mems (facts_after ss v.words v.mems path)) stood.grown stood.cited led);
+            (led_after f p ranges s old mid new (body_leaves g (part_def f p) (entered (away (f.addr n) (size f n))) u.words u.mems (facts_after ss v.words v.mems path)) stood.grown stood.cited led);
       })
     where
       u : VariableMap

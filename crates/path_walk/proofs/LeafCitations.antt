@@ -1,6 +1,6 @@
 -- Lines after which a theorem is cited for each leaf: one way after another.
 use Rattle.std.proofs.Common.{◌≡◌, ℕ, suc, ◌+◌, ◌-◌, ◌<◌, List, [], ◌∷◌, ◌++◌, map, length, Bool, true, false, cond, eqb, refl, sym, ap, ◌∙◌, subst, Option, Some, None, eqb-true, inl, inr, append_assoc, append-nil}
-use Rattle.std.specs.Prelude.{ℤ, pos, slice_get, option_map, is_some}
+use Rattle.std.specs.Prelude.{ℤ, pos, slice_get, option_map, is_some, unwrap_or}
 use Rattle.std.specs.List.{AllZip}
 use Rattle.rv_words.specs.declared.range.Range.{Range}
 use Rattle.rv_words.specs.declared.comparison.Cmp.{Cmp}
@@ -22,7 +22,7 @@ use Rattle.loop_rule.specs.Leaves.{arm_leaves, at_exit, body_leaves, parameters,
 use Rattle.loop_rule.specs.Rule.{LeadsTo}
 use Rattle.code_parts.specs.declared.part.Part.{Part}
 use Rattle.code_parts.specs.declared.part.Part.TheVariants.{Loop, Rest}
-use Rattle.code_parts.specs.Bodies.{size, Flow, VariableMap, body_at, current, end_at, end_of, exits_of, first, fresh, index_of, last_at, names, needs, or_else, own, part_def, place_after, rest_arms, rest_from, rest_targets, returned, start, targets, with_pc, writes}
+use Rattle.code_parts.specs.Bodies.{size, Flow, VariableMap, body_at, current, end_at, end_of, exits_of, first, fresh, index_of, last_at, names, needs, own, part_def, place_after, rest_arms, rest_from, rest_targets, returned, start, targets, with_pc, writes}
 use Rattle.tailrec_lang.specs.Registers.{AreRegistersFrom}
 use Rattle.code_parts.specs.Graph.{IsPart, IsPlaced, has_edge, is_jump_through}
 use Rattle.path_walk.specs.inner.Acts.{new_facts, results_at}
@@ -153,7 +153,7 @@ module _ (f : Flow) (p : Part) (ranges : List Range) where
       Leads f p ranges old (citing t.number old) (Const (f.addr n)) v (Some t) (last_at f p n v)
   last_leads n k v t old at = go (end_of f p n (current f v)) refl
     where
-      go : (o : Option BodyTree) → end_of f p n (current f v) ≡ o → Leads f p ranges old (citing t.number old) (Const (f.addr n)) v (Some t) (or_else o (Leave 0 (current f v)))
+      go : (o : Option BodyTree) → end_of f p n (current f v) ≡ o → Leads f p ranges old (citing t.number old) (Const (f.addr n)) v (Some t) (unwrap_or o (Leave 0 (current f v)))
       go None none = absurd (let found = index-some (rest_targets f (own p)) n k at in end-some f p n found.0 (current f v) found.1 none)
       go (Some b) some = own_leads p refl n v t old b some
 
@@ -268,7 +268,7 @@ module _ (f : Flow) (p : Part) (ranges : List Range) where
   end_own n v t old is =
       let there = end-there p n (current f v) is in
       let rest : BodyTree = Call (f.number (rest_from f n)) (current f v) (rest_arms f p (f.around n) v) in
-      subst (λ (o : Option BodyTree). Leads f p ranges old (citing t.number old) (Const (f.addr n)) v (Some t) (or_else o rest)) (sym there.1) (own_leads p refl n v t old there.0 there.1)
+      subst (λ (o : Option BodyTree). Leads f p ranges old (citing t.number old) (Const (f.addr n)) v (Some t) (unwrap_or o rest)) (sym there.1) (own_leads p refl n v t old there.0 there.1)
 
   -- .. or it is of the region whose rest it calls
   pub around-own : (n : ℕ) → IsEnd f p n → ends_at f p n ≡ false → f.around n ≡ own p
@@ -283,7 +283,7 @@ module _ (f : Flow) (p : Part) (ranges : List Range) where
       Leads f p ranges old new (Const (f.addr n)) v (Some t) (end_at f p n v)
   end_called n v t old new end is lead =
       let rest : BodyTree = Call (f.number (rest_from f n)) (current f v) (rest_arms f p (f.around n) v) in
-      subst (λ (o : Option BodyTree). Leads f p ranges old new (Const (f.addr n)) v (Some t) (or_else o rest)) (sym (end-missing p n (current f v) is))
+      subst (λ (o : Option BodyTree). Leads f p ranges old new (Const (f.addr n)) v (Some t) (unwrap_or o rest)) (sym (end-missing p n (current f v) is))
       (call_leads (rest_from f n) (end.node, end.cut, refl) old new (Const (f.addr n)) v (Some t) (rest_arms f p (f.around n) v) lead)
 
   -- ---- instructions

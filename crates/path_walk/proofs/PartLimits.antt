@@ -1,6 +1,6 @@
 -- The definitions of parts are within the limits of the grammar.
 use Rattle.std.proofs.Common.{◌≡◌, ℕ, zero, suc, ◌+◌, ◌^◌, ◌<◌, ◌≤◌, ℤ, List, [], ◌∷◌, ◌++◌, map, length, Bool, true, false, cond, eqb, refl, ap, ◌∙◌, ◌*◌, ◌%◌, subst, arith, Option, Some, None, mod-lt}
-use Rattle.std.specs.Prelude.{option_map}
+use Rattle.std.specs.Prelude.{option_map, unwrap_or}
 use Rattle.std.specs.List.{AllByRecursion, range_with_len}
 use Rattle.rv_words.proofs.WordLemmas.{word_of_small}
 use Rattle.rv_words.specs.declared.width.Width.{Width}
@@ -18,10 +18,11 @@ use Rattle.group_text.specs.Limits.{IsValues, IsStep, IsBody, AreArms, nesting_l
 use Rattle.triple_kernel.specs.declared.form.Form.{Form}
 use Rattle.triple_kernel.specs.declared.form.Form.TheVariants.{Next, Taken}
 use Rattle.rv_decode.specs.Registers.{destination}
-use Rattle.instr_axioms.specs.Terms.{following, has_memory, word_in, sum, loaded, conditions, result, memory_after, pc_after}
+use Rattle.rv_words.specs.Bytes.{away}
+use Rattle.instr_axioms.specs.Terms.{has_memory, word_in, sum, loaded, conditions, result, memory_after, pc_after}
 use Rattle.code_parts.specs.declared.part.Part.{Part}
 use Rattle.code_parts.specs.declared.part.Part.TheVariants.{Loop, Rest}
-use Rattle.code_parts.specs.Bodies.{Enter, Flow, VariableMap, size, action_calling, return_arm, names, current, fresh, start, with_pc, is_store, stored, place_after, needs, writes, Straight, action_of, first, rest_targets, targets, returned, rest_from, index_of, end_of, or_else, arms_over, last_at, rest_arms, end_at, action_body, body_at, rest_body, part_body, part_def}
+use Rattle.code_parts.specs.Bodies.{Enter, Flow, VariableMap, size, action_calling, return_arm, names, current, fresh, start, with_pc, is_store, stored, place_after, needs, writes, Straight, action_of, first, rest_targets, targets, returned, rest_from, index_of, end_of, arms_over, last_at, rest_arms, end_at, action_body, body_at, rest_body, part_body, part_def}
 use Rattle.code_parts.specs.declared.callee.Callee.{Callee}
 use Rattle.code_parts.specs.Graph.{IsSmall}
 use Rattle.path_walk.proofs.Limits.{exits-few}
@@ -195,21 +196,21 @@ module _ (f : Flow) (small : IsSmall f) where
   targets-few None = omega arith
   targets-few (Some l) = let few = small.exits l in omega (arith, few)
 
-  leave-printed : (d : ℕ) (xs : List ℕ) (m : ℕ) (v : VariableMap) (b : BodyTree) → length xs ≤ 9 → IsValues (current f v) → IsBody (suc d) b → IsBody (suc d) (or_else (option_map (λ k. Leave k (current f v)) (index_of xs m)) b)
+  leave-printed : (d : ℕ) (xs : List ℕ) (m : ℕ) (v : VariableMap) (b : BodyTree) → length xs ≤ 9 → IsValues (current f v) → IsBody (suc d) b → IsBody (suc d) (unwrap_or (option_map (λ k. Leave k (current f v)) (index_of xs m)) b)
   leave-printed d xs m v b few vals h = go (index_of xs m) refl
     where
-      go : (o : Option ℕ) → index_of xs m ≡ o → IsBody (suc d) (or_else (option_map (λ k. Leave k (current f v)) o) b)
+      go : (o : Option ℕ) → index_of xs m ≡ o → IsBody (suc d) (unwrap_or (option_map (λ k. Leave k (current f v)) o) b)
       go None is = h
       go (Some k) is = let low = index-most xs m k is in (omega (arith, low, few), vals)
 
-  end-printed : (d : ℕ) (p : Part) (m : ℕ) (v : VariableMap) (b : BodyTree) → IsValues (current f v) → IsBody (suc d) b → IsBody (suc d) (or_else (end_of f p m (current f v)) b)
+  end-printed : (d : ℕ) (p : Part) (m : ℕ) (v : VariableMap) (b : BodyTree) → IsValues (current f v) → IsBody (suc d) b → IsBody (suc d) (unwrap_or (end_of f p m (current f v)) b)
   end-printed d (Rest r c) m v b vals h = leave-printed d (rest_targets f r) m v b (targets-few r) vals h
   end-printed d (Loop l) m v b vals h = go (eqb m (f.head l))
     where
       few : length (f.exits l) ≤ 9
       few = let most = small.exits l in omega (arith, most)
 
-      go : (t : Bool) → IsBody (suc d) (or_else (cond t (Some (Again (current f v))) (option_map (λ k. Leave k (current f v)) (index_of (f.exits l) m))) b)
+      go : (t : Bool) → IsBody (suc d) (unwrap_or (cond t (Some (Again (current f v))) (option_map (λ k. Leave k (current f v)) (index_of (f.exits l) m))) b)
       go true = vals
       go false = leave-printed d (f.exits l) m v b few vals h
 
@@ -287,7 +288,7 @@ module _ (f : Flow) (small : IsSmall f) where
 
         -- a call of a function binds at most a word for each register and one more
         enter : ((e m : ℕ) (v : VariableMap) (n : ℕ) → room ≤ e → IsLow f.mems v n → n + 33 * room ≤ 2000 → IsBody (suc (suc e)) (body_at room f p m v)) → (c : Callee) → f.callee m ≡ Some c → (i : Instr) → f.instr m ≡ i
-            → IsBody (suc (suc (suc d))) (action_body f p (Enter (needs i (f.uses m) v ++ writes i (f.addr m) (size f m) (f.uses m) v) (place_after i (f.uses m) v) c (following (f.addr m) (size f m)) (f.to m Next)) v (body_at room f p))
+            → IsBody (suc (suc (suc d))) (action_body f p (Enter (needs i (f.uses m) v ++ writes i (f.addr m) (size f m) (f.uses m) v) (place_after i (f.uses m) v) c (away (f.addr m) (size f m)) (f.to m Next)) v (body_at room f p))
         enter on c calls i is =
             let u : VariableMap = place_after i (f.uses m) v in
             let low_u = place-low f.mems v n low few_now i (f.uses m) in
@@ -296,8 +297,8 @@ module _ (f : Flow) (small : IsSmall f) where
             steps-printed (suc (suc d)) (needs i (f.uses m) v ++ writes i (f.addr m) (size f m) (f.uses m) v) _ (steps-printed_of i is) (small.callee m c calls, arm.0, vals, arm.1)
           where
             arm_of : (b : Bool) (u : VariableMap) → IsLow f.mems u (suc n) →
-                (arm_count (return_arm f b (following (f.addr m) (size f m)) u (λ w. cond (f.is_cut (f.to m Next)) (end_at f p (f.to m Next) w) (body_at room f p (f.to m Next) w))) ≤ 16)
-                × AreArms (suc (suc d)) (return_arm f b (following (f.addr m) (size f m)) u (λ w. cond (f.is_cut (f.to m Next)) (end_at f p (f.to m Next) w) (body_at room f p (f.to m Next) w)))
+                (arm_count (return_arm f b (away (f.addr m) (size f m)) u (λ w. cond (f.is_cut (f.to m Next)) (end_at f p (f.to m Next) w) (body_at room f p (f.to m Next) w))) ≤ 16)
+                × AreArms (suc (suc d)) (return_arm f b (away (f.addr m) (size f m)) u (λ w. cond (f.is_cut (f.to m Next)) (end_at f p (f.to m Next) w) (body_at room f p (f.to m Next) w)))
             arm_of false u low_u = (omega arith, tt)
             arm_of true u low_u =
                 let words = low_u.words in

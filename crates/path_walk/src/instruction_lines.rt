@@ -36,6 +36,16 @@ use std::alloc::Global;
 use triple_kernel::{Fact, Triple};
 use word_terms::{Mem, Sub, Word};
 
+/// An instruction in one form: what it is, where it stands and as which word, and the memory that it loads from or stores to, if it does.
+#[derive(Clone, Copy, Debug)]
+struct InstructionAt {
+    instr: Instr,
+    form: Form,
+    addr: u64,
+    word: u32,
+    memory: u8,
+}
+
 /// Adds what the definition knows of the variable of what an instruction writes, where it loads from or stores to that memory, if it does.
 fn add_new_fact(
     alloc: Global,
@@ -61,20 +71,16 @@ fn add_new_fact(
 }
 
 /// The facts of an instruction in that form, and of what it writes.
-fn facts_of(
-    alloc: Global,
-    i: Instr,
-    form: Form,
-    addr: u64,
-    length: u8,
-    q: u8,
-    place: &VariableMap,
-) -> Result<List<Fact>, NoMemory>
-    requires { q < 2 }
-    ensures { IfOk result (λ fs. map fact_tree fs ≡ map So (terms.conditions i form (bodies.names (place_of place.now) q)) ++ spec.new_facts i addr length q (place_of place.now)) }
+fn facts_of(alloc: Global, at: InstructionAt, place: &VariableMap) -> Result<List<Fact>, NoMemory>
+    requires { at.memory < 2 }
+    ensures { IfOk result (λ fs. map fact_tree fs ≡ map So (terms.conditions at.instr at.form (bodies.names (place_of place.now) at.memory)) ++ spec.new_facts at.instr at.addr (length_in_bytes at.word) at.memory (place_of place.now)) }
 {
-    let mut known = facts(alloc, i, form, &place.names_of(q))?;
-    add_new_fact(alloc, i, addr, length, q, place, &mut known)?;
+    let names = place.names_of(at.memory);
+    let mut known = facts(alloc, at.instr, at.form, &names)?;
+    let length = length_of(at.word);
+    add_new_fact(
+        alloc, at.instr, at.addr, length, at.memory, place, &mut known,
+    )?;
     Ok(known)
 }
 
@@ -82,24 +88,22 @@ fn facts_of(
 fn named_triple(
     alloc: Global,
     flow: &Flow<'_>,
-    i: Instr,
-    form: Form,
-    addr: u64,
-    word: u32,
-    q: u8,
+    at: InstructionAt,
     place: &VariableMap,
 ) -> Result<Triple, NoMemory>
     requires words { place.now.words < 2 ^ 15 }
     requires mems { place.now.mems < 2 ^ 15 }
-    requires named { destination i < 32 }
-    requires memory { q < 2 }
-    ensures { IfOk result (λ t. triple_tree t ≡ spec.named_triple i form addr (length_in_bytes word) (axioms.word_code addr word) (flow_in flow.now).regs (spec.all_mems (flow_in flow.now).mems) q (place_of place.now)) }
+    requires named { destination at.instr < 32 }
+    requires memory { at.memory < 2 }
+    ensures { IfOk result (λ t. triple_tree t ≡ spec.named_triple at.instr at.form at.addr (length_in_bytes at.word) (axioms.word_code at.addr at.word) (flow_in flow.now).regs (spec.all_mems (flow_in flow.now).mems) at.memory (place_of place.now)) }
 {
-    let known = facts_of(alloc, i, form, addr, length_of(word), q, place)?;
-    let pre = standing_at(alloc, flow, Word::Const(addr), place)?;
-    let code = word_code(alloc, addr, word)?;
-    let pc = pc_after(alloc, i, form, addr, length_of(word), &place.names_of(q))?;
-    let next = after(i, q, *place);
+    let known = facts_of(alloc, at, place)?;
+    let pre = standing_at(alloc, flow, Word::Const(at.addr), place)?;
+    let code = word_code(alloc, at.addr, at.word)?;
+    let names = place.names_of(at.memory);
+    let length = length_of(at.word);
+    let pc = pc_after(alloc, at.instr, at.form, at.addr, length, &names)?;
+    let next = after(at.instr, at.memory, *place);
     let post = standing_at(alloc, flow, pc, &next)?;
     Ok(Triple {
         facts: known,
@@ -110,15 +114,16 @@ fn named_triple(
 }
 
 /// The triple of an instruction's axiom.
-fn first_triple(
-    alloc: Global,
-    i: Instr,
-    form: Form,
-    addr: u64,
-    word: u32,
-) -> Result<Triple, NoMemory>
-    ensures { IfOk result (λ t. triple_tree t ≡ axioms.own_triple i form addr word) }
+fn first_triple(alloc: Global, at: InstructionAt) -> Result<Triple, NoMemory>
+    ensures { IfOk result (λ t. triple_tree t ≡ axioms.own_triple at.instr at.form at.addr at.word) }
 {
+    let InstructionAt {
+        instr: i,
+        form,
+        addr,
+        word,
+        ..
+    } = at;
     let regs = own(alloc, i)?;
     let regs = regs.as_slice();
     let names = Variables::numbered(regs, 0, 0);
@@ -129,22 +134,25 @@ fn first_triple(
 /// States the axiom of an instruction over the current variables, where it was stated over its own.
 fn put_current(
     alloc: Global,
-    i: Instr,
-    form: Form,
-    addr: u64,
-    word: u32,
-    q: u8,
+    at: InstructionAt,
     place: &VariableMap,
     first: u64,
     log: &mut ProofWriter,
 ) -> Result<u64, NoMemory>
-    requires memory { q < 2 }
-    requires rule { IsRule (Inst first (spec.own_words i (place_of place.now)) (spec.own_mems i q (place_of place.now))) }
-    requires stated { IsTriple (axioms.triple_over i form addr (length_in_bytes word) (axioms.word_code addr word) (axioms.own i) (terms.has_memory i) (bodies.names (place_of place.now) q)) }
+    requires memory { at.memory < 2 }
+    requires rule { IsRule (Inst first (spec.own_words at.instr (place_of place.now)) (spec.own_mems at.instr at.memory (place_of place.now))) }
+    requires stated { IsTriple (axioms.triple_over at.instr at.form at.addr (length_in_bytes at.word) (axioms.word_code at.addr at.word) (axioms.own at.instr) (terms.has_memory at.instr) (bodies.names (place_of place.now) at.memory)) }
     ensures number { IfOk result (λ k. k ≡ log.old.next) }
-    ensures log { OnOk result (writer_tree log.new ≡ stating (Inst first (spec.own_words i (place_of place.now)) (spec.own_mems i q (place_of place.now)))
-        (axioms.triple_over i form addr (length_in_bytes word) (axioms.word_code addr word) (axioms.own i) (terms.has_memory i) (bodies.names (place_of place.now) q)) (writer_tree log.old)) }
+    ensures log { OnOk result (writer_tree log.new ≡ stating (Inst first (spec.own_words at.instr (place_of place.now)) (spec.own_mems at.instr at.memory (place_of place.now)))
+        (axioms.triple_over at.instr at.form at.addr (length_in_bytes at.word) (axioms.word_code at.addr at.word) (axioms.own at.instr) (terms.has_memory at.instr) (bodies.names (place_of place.now) at.memory)) (writer_tree log.old)) }
 {
+    let InstructionAt {
+        instr: i,
+        form,
+        addr,
+        word,
+        memory: q,
+    } = at;
     let regs = own(alloc, i)?;
     let regs = regs.as_slice();
     let names = place.names_of(q);
@@ -203,18 +211,21 @@ fn mems_after(
 fn triple_on(
     alloc: Global,
     flow: &Flow<'_>,
-    i: Instr,
-    form: Form,
-    addr: u64,
-    word: u32,
+    at: InstructionAt,
     mems: &[u8],
-    q: u8,
     place: &VariableMap,
 ) -> Result<Triple, NoMemory>
-    requires own { q < 2 }
+    requires own { at.memory < 2 }
     requires memories { All (λ p. p < 2) mems.now }
-    ensures { IfOk result (λ t. triple_tree t ≡ spec.triple_on i form addr (length_in_bytes word) (axioms.word_code addr word) (flow_in flow.now).regs mems.now q (place_of place.now)) }
+    ensures { IfOk result (λ t. triple_tree t ≡ spec.triple_on at.instr at.form at.addr (length_in_bytes at.word) (axioms.word_code at.addr at.word) (flow_in flow.now).regs mems.now at.memory (place_of place.now)) }
 {
+    let InstructionAt {
+        instr: i,
+        form,
+        addr,
+        word,
+        memory: q,
+    } = at;
     let names = place.names_of(q);
     let Triple {
         facts,
@@ -264,28 +275,24 @@ fn is_crossed(i: Instr, q: u8) -> bool
 fn put_wide(
     alloc: Global,
     flow: &Flow<'_>,
-    i: Instr,
-    form: Form,
-    addr: u64,
-    word: u32,
-    q: u8,
+    at: InstructionAt,
     place: &VariableMap,
     current: u64,
     log: &mut ProofWriter,
 ) -> Result<u64, NoMemory>
-    requires memory { q < 2 }
-    requires low { terms.has_memory i ≡ true → q < (flow_in flow.now).mems }
-    requires crossed { crosses i q ≡ true → (log.old.version ≡ Four) × ((flow_in flow.now).mems ≡ 2) }
-    requires wide { IsTriple (spec.triple_on i form addr (length_in_bytes word) (axioms.word_code addr word) (flow_in flow.now).regs (spec.mem_first i q (flow_in flow.now).mems) q (place_of place.now)) }
-    requires in_order { IsTriple (spec.triple_on i form addr (length_in_bytes word) (axioms.word_code addr word) (flow_in flow.now).regs (spec.all_mems (flow_in flow.now).mems) q (place_of place.now)) }
-    ensures number { IfOk result (λ k. k ≡ spec.ordered_at i q log.old.next) }
-    ensures log { OnOk result (writer_tree log.new ≡ spec.ordered (flow_in flow.now) i form addr word q (place_of place.now) current (writer_tree log.old)) }
+    requires memory { at.memory < 2 }
+    requires low { terms.has_memory at.instr ≡ true → at.memory < (flow_in flow.now).mems }
+    requires crossed { crosses at.instr at.memory ≡ true → (log.old.version ≡ Four) × ((flow_in flow.now).mems ≡ 2) }
+    requires wide { IsTriple (spec.triple_on at.instr at.form at.addr (length_in_bytes at.word) (axioms.word_code at.addr at.word) (flow_in flow.now).regs (spec.mem_first at.instr at.memory (flow_in flow.now).mems) at.memory (place_of place.now)) }
+    requires in_order { IsTriple (spec.triple_on at.instr at.form at.addr (length_in_bytes at.word) (axioms.word_code at.addr at.word) (flow_in flow.now).regs (spec.all_mems (flow_in flow.now).mems) at.memory (place_of place.now)) }
+    ensures number { IfOk result (λ k. k ≡ spec.ordered_at at.instr at.memory log.old.next) }
+    ensures log { OnOk result (writer_tree log.new ≡ spec.ordered (flow_in flow.now) at.instr at.form at.addr at.word at.memory (place_of place.now) current (writer_tree log.old)) }
 {
-    let wide = triple_on(alloc, flow, i, form, addr, word, all_mems(flow), q, place)?;
-    if !is_crossed(i, q) {
+    let wide = triple_on(alloc, flow, at, all_mems(flow), place)?;
+    if !is_crossed(at.instr, at.memory) {
         return log.state(Rule::Frame(current), wide);
     }
-    let crossed = triple_on(alloc, flow, i, form, addr, word, &[1, 0], q, place)?;
+    let crossed = triple_on(alloc, flow, at, &[1, 0], place)?;
     let framed = log.state(Rule::Frame(current), crossed)?;
     log.state_further(framed, wide)
 }
@@ -295,30 +302,26 @@ fn put_wide(
 fn instruction_lines(
     alloc: Global,
     flow: &Flow<'_>,
-    i: Instr,
-    form: Form,
-    addr: u64,
-    word: u32,
-    q: u8,
+    at: InstructionAt,
     place: &VariableMap,
     log: &mut ProofWriter,
 ) -> Result<u64, NoMemory>
     requires words { place.now.words < 2 ^ 15 }
     requires mems { place.now.mems < 2 ^ 15 }
-    requires named { destination i < 32 }
-    requires memory { q < 2 }
-    requires low { terms.has_memory i ≡ true → q < (flow_in flow.now).mems }
-    requires crossed { crosses i q ≡ true → (log.old.version ≡ Four) × ((flow_in flow.now).mems ≡ 2) }
-    requires fine { spec.IsFineInstruction (flow_in flow.now) i form addr word q (place_of place.now) }
-    ensures number { IfOk result (λ k. k ≡ spec.ordered_at i q (log.old.next + 1 + 1) + 1) }
+    requires named { destination at.instr < 32 }
+    requires memory { at.memory < 2 }
+    requires low { terms.has_memory at.instr ≡ true → at.memory < (flow_in flow.now).mems }
+    requires crossed { crosses at.instr at.memory ≡ true → (log.old.version ≡ Four) × ((flow_in flow.now).mems ≡ 2) }
+    requires fine { spec.IsFineInstruction (flow_in flow.now) at.instr at.form at.addr at.word at.memory (place_of place.now) }
+    ensures number { IfOk result (λ k. k ≡ spec.ordered_at at.instr at.memory (log.old.next + 1 + 1) + 1) }
     ensures fits { IfOk result (λ k. k < 2 ^ 64) }
-    ensures log { OnOk result (writer_tree log.new ≡ spec.acted (flow_in flow.now) i form addr word q (place_of place.now) (writer_tree log.old)) }
+    ensures log { OnOk result (writer_tree log.new ≡ spec.acted (flow_in flow.now) at.instr at.form at.addr at.word at.memory (place_of place.now) (writer_tree log.old)) }
 {
-    let own = first_triple(alloc, i, form, addr, word)?;
-    let first = log.state(Rule::Axiom(addr, word, form), own)?;
-    let current = put_current(alloc, i, form, addr, word, q, place, first, log)?;
-    let wide = put_wide(alloc, flow, i, form, addr, word, q, place, current, log)?;
-    let named = named_triple(alloc, flow, i, form, addr, word, q, place)?;
+    let own = first_triple(alloc, at)?;
+    let first = log.state(Rule::Axiom(at.addr, at.word, at.form), own)?;
+    let current = put_current(alloc, at, place, first, log)?;
+    let wide = put_wide(alloc, flow, at, place, current, log)?;
+    let named = named_triple(alloc, flow, at, place)?;
     let number = log.state(Rule::Weaken(wide), named)?;
     Ok(number)
 }
@@ -346,8 +349,15 @@ fn act(
     let q = flow.uses(n);
     flow.law_of_code();
     law_of_memories(flow, place);
-    let number = instruction_lines(alloc, flow, i, form, addr, word, q, place, log)?;
-    let known = facts_of(alloc, i, form, addr, length_of(word), q, place)?;
+    let at = InstructionAt {
+        instr: i,
+        form,
+        addr,
+        word,
+        memory: q,
+    };
+    let number = instruction_lines(alloc, flow, at, place, log)?;
+    let known = facts_of(alloc, at, place)?;
     let code = word_code(alloc, addr, word)?;
     Ok(CitedTheorem::new(number, known, code))
 }

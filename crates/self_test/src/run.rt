@@ -6,15 +6,13 @@ ghost use Rattle.rv_machine.specs.State.{state_of};
 ghost use Rattle.self_test.specs.Start.{begin, file_of, given};
 ghost use Rattle.self_test.specs.Results.{Runs};
 
+use code_gen::START;
 use elf_image::Image;
 use rv_machine::{RunEnd, State};
 use rv_words::NoMemory;
 use std::alloc::Global;
 
-/// Where a program stands in memory.
-const START: u64 = 0x10000;
-
-/// Where it returns to.
+/// Where a program returns to.
 const BEHIND: u64 = 0x20000;
 
 /// More steps than any program makes.

@@ -17,7 +17,7 @@ use Rattle.triple_kernel.specs.Tree.{FactTree, Gives, MemIs, So, TripleTree, Wor
 use Rattle.frame_compose.specs.Rules.{AreMissing}
 use Rattle.instr_axioms.specs.Terms.{conditions, has_memory, memory_after, pc_after, result, word_after}
 use Rattle.instr_axioms.specs.Axiom.{own, own_triple, register_with, triple_over, word_code}
-use Rattle.mc_text.specs.Number.{IsWord as IsNumber}
+use Rattle.mc_text.specs.Number.{IsNumber}
 use Rattle.proof_text.specs.Line.{Axiom, Compose, Frame, Inst, UseExit, Weaken}
 use Rattle.proof_text.specs.LineLimits.{IsRule, IsTriple}
 use Rattle.code_parts.specs.Bodies.{Flow, VariableMap, current, fresh, is_store, names, place_after, start, with_pc}

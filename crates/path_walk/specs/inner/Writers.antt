@@ -1,7 +1,7 @@
 -- The lines of a part as they are written, and what they have shown.
 use Rattle.std.specs.Prelude.{◌≡◌, ℕ, ◌+◌, ◌<◌, ◌^◌, List, [], ◌∷◌, ◌++◌, map, fold, true, Option, None, Some}
 use Rattle.std.specs.List.{AllByRecursion, AllZip, range_with_len}
-use Rattle.mc_text.specs.Number.{IsWord as IsNumber}
+use Rattle.mc_text.specs.Number.{IsNumber}
 use Rattle.group_text.specs.declared.version.Version.{Version as Known}
 use Rattle.rv_words.specs.declared.range.Range.{Range}
 use Rattle.rv_words.specs.Ranges.{AreRanges, range_bytes}

@@ -49,18 +49,16 @@ new-requires c =
     f.mems v 32768 (low_place c.args.place.now 32768 f.mems c.law_of_memories.ensures.few c.law_of_memories.ensures.second (omega arith) (omega (arith, c.requires.words)) (omega (arith, c.requires.mems))) (omega arith) c.uses-q.result
     (subst (λ (i : Instr). has_memory i ≡ true → c.uses-q.result < f.mems) (sym c.instr-i.ensures.is) (subst (λ (q : ℕ). has_memory (f.instr c.args.n) ≡ true → q < f.mems) (sym c.uses-q.ensures.is) at.memory))
     c.in_ok-number.number _ _ c.in_ok-number.ensures.fits
-    (c.in_ok-known.ensures ∙ (λ j. map So (conditions c.instr-i.result c.args.form (names v c.uses-q.result)) ++ new_facts c.instr-i.result c.addr-addr.result (c.length_of.ensures j) c.uses-q.result v)) c.in_ok-code.ensures
+    c.in_ok-known.ensures c.in_ok-code.ensures
 
 pub returns : goal.returns
 returns c =
     let f : Flow = flow_in c.args.flow.now in
     let v : VariableMap = place_of c.args.place.now in
-    let l : WriterTree = writer_tree c.args.log.now in
-    let q : ℕ = c.uses-q.result in
-    let known = c.in_ok-known.ensures ∙ (λ j. map So (conditions c.instr-i.result c.args.form (names v q)) ++ new_facts c.instr-i.result c.addr-addr.result (c.length_of.ensures j) q v) in (
+    let l : WriterTree = writer_tree c.args.log.now in (
       c.word-word.ensures.stands,
       c.new.ensures
-          ∙ (λ j. record { number = c.in_ok-number.ensures.number j; facts = known j; code = c.in_ok-code.ensures j })
+          ∙ (λ j. record { number = c.in_ok-number.ensures.number j; facts = c.in_ok-known.ensures j; code = c.in_ok-code.ensures j })
           ∙ (λ j. act_standing (c.instr-i.ensures.is j) c.args.form (c.addr-addr.ensures j) (c.word-word.ensures.is j) (c.uses-q.ensures.is j) v l),
       c.in_ok-number.ensures.log ∙ (λ j. acted f (c.instr-i.ensures.is j) c.args.form (c.addr-addr.ensures j) (c.word-word.ensures.is j) (c.uses-q.ensures.is j) v l),
     )

@@ -11,5 +11,5 @@ pub returns : goal.returns
 returns c =
     let f : Flow = flow_in c.args.flow.now in
     let over = c.in_ok-facts.ensures
-    ∙ (λ j. triple_over c.args.i c.args.form c.args.addr (length_of c.args.word) (word_code c.args.addr c.args.word) (c.regs.ensures.are j) false (c.names_of-names.ensures j)) in
-    over-on c.args.i c.args.form c.args.addr (length_of c.args.word) (word_code c.args.addr c.args.word) f.regs c.args.mems.now c.args.q (place_of c.args.place.now) _ _ _ _ over refl c.in_ok-mems_before.ensures c.in_ok-mems_after.ensures
+    ∙ (λ j. triple_over c.args.at.instr c.args.at.form c.args.at.addr (length_of c.args.at.word) (word_code c.args.at.addr c.args.at.word) (c.regs.ensures.are j) false (c.names_of-names.ensures j)) in
+    over-on c.args.at.instr c.args.at.form c.args.at.addr (length_of c.args.at.word) (word_code c.args.at.addr c.args.at.word) f.regs c.args.mems.now c.args.at.memory (place_of c.args.place.now) _ _ _ _ over refl c.in_ok-mems_before.ensures c.in_ok-mems_after.ensures
