@@ -10,8 +10,8 @@ ghost use Rattle.proof_text.specs.inner.LineReading.{fact_at, fact_head_of, fact
 
 use crate::line_heads::{FactHead, fact_head_of};
 use group_text::read_index;
-use mc_text::cursor::{accept, is_open, left, peek, right, semi};
-use mc_text::{Scan, Token, TokenError};
+use mc_text::cursor::{accept, is_open, left, right, semi};
+use mc_text::{Scan, TokenError};
 use rv_words::List;
 use std::alloc::Global;
 use tailrec_lang::Values;
@@ -44,14 +44,14 @@ fn read_results<'a>(alloc: Global, scan: &mut Scan<'a>) -> Result<Values, TokenE
 }
 
 /// The name of a form of a fact.
-#[tactic(auto, unfolding(mc_text::specs::Reading::one))]
+#[tactic(auto, unfolding(mc_text::specs::Reading::one), using(mc_text::proofs::AtomAhead::no_atom_of))]
 fn fact_name<'a>(scan: &mut Scan<'a>) -> Result<FactHead, TokenError>
     ensures gives { Gives (λ h. h) result scan.old scan.new (one (atom_of fact_head_of)) }
     ensures last { last_line scan.new ≡ last_line scan.old }
 {
-    match peek(scan) {
-        Some((Token::Atom(name), ahead)) => accept(scan, ahead, fact_head_of(name)),
-        _ => Err(TokenError::Bad),
+    match scan.atom_ahead() {
+        Some((name, ahead)) => accept(scan, ahead, fact_head_of(name)),
+        None => Err(TokenError::Bad),
     }
 }
 

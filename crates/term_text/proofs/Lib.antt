@@ -1,4 +1,5 @@
 pub mod NameTests
+pub mod NoAtom
 pub mod Leaves
 pub mod TermFacts
 pub mod TermLaws

@@ -5,28 +5,28 @@ ghost use Rattle.mc_text.specs.Reading.{goes_on};
 ghost use Rattle.mc_text.specs.Scanning.{tokens_at};
 ghost use Rattle.term_text.specs.Reading.{begins_with_m, begins_word, begins_mem};
 
-use mc_text::cursor::peek;
-use mc_text::{Scan, Token};
+use mc_text::Scan;
+use mc_text::cursor::is_open;
 
 /// Whether a word follows, to go by its first token.
+#[tactic(auto, using(crate::proofs::NoAtom::word_without_atom))]
 pub fn begins_word(scan: &Scan<'_>) -> bool
     ensures { result ≡ goes_on begins_word (tokens_at scan.now) }
 {
-    match peek(scan) {
-        Some((Token::Left, _)) => true,
-        Some((Token::Atom(atom), _)) => !begins_with_m(atom),
-        _ => false,
+    match scan.atom_ahead() {
+        Some((atom, _)) => !begins_with_m(atom),
+        None => is_open(scan),
     }
 }
 
 /// Whether a memory follows, to go by its first token.
+#[tactic(auto, using(crate::proofs::NoAtom::mem_without_atom))]
 pub fn begins_mem(scan: &Scan<'_>) -> bool
     ensures { result ≡ goes_on begins_mem (tokens_at scan.now) }
 {
-    match peek(scan) {
-        Some((Token::Left, _)) => true,
-        Some((Token::Atom(atom), _)) => begins_with_m(atom),
-        _ => false,
+    match scan.atom_ahead() {
+        Some((atom, _)) => begins_with_m(atom),
+        None => is_open(scan),
     }
 }
 
