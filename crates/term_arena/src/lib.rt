@@ -5,6 +5,7 @@ mod arena;
 mod chains;
 mod intern;
 mod laws;
+mod leaves;
 mod node;
 mod put;
 mod steps;
