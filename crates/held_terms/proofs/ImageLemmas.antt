@@ -1,10 +1,6 @@
 -- Images of terms in an arena that grows.
 use Rattle.std.proofs.Common.{◌≡◌, ◌⊎◌, ℕ, ◌<◌, Bool, true, false, cond, List, [], ◌∷◌, ◌++◌, Option, Some, None, length, IfSome, unwrap_or, option_map, refl, ap, sym, ◌∙◌, subst, inl, inr, arith, length-append}
 use Rattle.std.specs.Prelude.{slice_get, All, ◌==◌, if◌then◌else◌}
-use Rattle.std.specs.Cmp.{nat_eq_equiv, unsigned_tied}
-use Rattle.std.specs.BTreeMap.{Updates, get, is_at}
-use Rattle.std.specs.Map.{lookup}
-use Rattle.std.specs.Ordering.{nat_cmp}
 use Rattle.std.proofs.lemmas.Bool.{eqb-false, eqb-true}
 use Rattle.std.proofs.lemmas.List.Elements.{All-head, All-tail}
 use Rattle.word_terms.specs.Tree.{Const, Var, Bin, Extend, Load, MemVar, Store, Compare, Neg, Inside}
@@ -15,8 +11,9 @@ use Rattle.term_arena.specs.Arena.{Tree, OfWord, OfMem, OfCond, as_word, as_mem,
 use Rattle.term_arena.proofs.Places.{at-append}
 use Rattle.term_arena.proofs.TreeLemmas.{word_kept, mem_kept, same_word_of, same_mem_of, word_there, mem_there, cond_there}
 use Rattle.term_arena.proofs.PutLemmas.{tree_stays}
-use Rattle.held_terms.specs.Image.{put_in, put_for_numbers, IsSubAt, IsImage, Known, AreImages, IsReady}
+use Rattle.held_terms.specs.Image.{put_in, put_for_numbers, image_at, IsSubAt, IsImage, Known, AreImages, IsReady}
 use Rattle.held_terms.specs.inner.ImageNode.{ImageNode}
+use Rattle.held_terms.specs.inner.Imaging.{Updates}
 
 -- ---- a larger arena
 
@@ -137,20 +134,14 @@ module _ (ns : List Node) (s : Substitution) where
 
 -- ---- what an imaging goes on with
 
-at-number : (k q : ℕ) → is_at (nat_cmp k) q ≡ (q == k)
-at-number k q = unsigned_tied k q ∙ nat_eq_equiv.symm k q
-
-pub same_get : (old new : Known) → new.entries ≡ old.entries → (k : ℕ) → get nat_cmp new k ≡ get nat_cmp old k
-same_get old new e k = ap (λ (es : List (ℕ × Option ℕ)). lookup (is_at (nat_cmp k)) es) e
-
 -- what is there after one number was put in
-pub put_cases : (old new : Known) (x : ℕ) (v : Option ℕ) (k : ℕ) (w : Option ℕ) → Updates nat_cmp old new x (Some v) → get nat_cmp new k ≡ Some w
-    → ((k ≡ x) × (w ≡ v)) ⊎ ((k ≡ x → ⊥) × (get nat_cmp old k ≡ Some w))
-put_cases old new x v k w u h = by (k == x) refl (sym (u.0 k ∙ ap (λ (b : Bool). cond b (Some v) (get nat_cmp old k)) (at-number x k)) ∙ h)
+pub put_cases : (old new : Known) (x : ℕ) (v : Option ℕ) (k : ℕ) (w : Option ℕ) → Updates old new x v → image_at new k ≡ Some w
+    → ((k ≡ x) × (w ≡ v)) ⊎ ((k ≡ x → ⊥) × (image_at old k ≡ Some w))
+put_cases old new x v k w u h = by (k == x) refl (sym (u k) ∙ h)
   where
-    by : (b : Bool) → (k == x) ≡ b → cond (k == x) (Some v) (get nat_cmp old k) ≡ Some w → ((k ≡ x) × (w ≡ v)) ⊎ ((k ≡ x → ⊥) × (get nat_cmp old k ≡ Some w))
-    by true e f = let g : Some v ≡ Some w = sym (ap (λ (b : Bool). cond b (Some v) (get nat_cmp old k)) e) ∙ f in inl (eqb-true k x e, cc)
-    by false e f = inr (eqb-false k x e, sym (ap (λ (b : Bool). cond b (Some v) (get nat_cmp old k)) e) ∙ f)
+    by : (b : Bool) → (k == x) ≡ b → cond (k == x) (Some v) (image_at old k) ≡ Some w → ((k ≡ x) × (w ≡ v)) ⊎ ((k ≡ x → ⊥) × (image_at old k ≡ Some w))
+    by true e f = let g : Some v ≡ Some w = sym (ap (λ (b : Bool). cond b (Some v) (image_at old k)) e) ∙ f in inl (eqb-true k x e, cc)
+    by false e f = inr (eqb-false k x e, sym (ap (λ (b : Bool). cond b (Some v) (image_at old k)) e) ∙ f)
 
 -- an image in a larger arena
 pub image_stays : (ns ms : List Node) (words mems : List (ℕ × ℕ)) (known : Known) (x y : ℕ) → IsReady ns words mems known → Extends ns ms
@@ -167,11 +158,8 @@ ready_stays ns ms words mems known e r = record {
   images = subst (λ (s : Substitution). AreImages ms s known) (sym (same_sub ns ms words mems e r.sub)) (all_stay ns ms _ known e r.images);
 }
 
-pub ready_same : (ns : List Node) (words mems : List (ℕ × ℕ)) (old new : Known) → new.entries ≡ old.entries → IsReady ns words mems old → IsReady ns words mems new
-ready_same ns words mems old new e r = record { sub = r.sub; images = record { each = λ u v h. r.images.each u v (sym (same_get old new e u) ∙ h) } }
-
 -- the number's image is begun, is kept
-pub ready_begun : (ns : List Node) (words mems : List (ℕ × ℕ)) (old new : Known) (x : ℕ) → Updates nat_cmp old new x (Some None) → IsReady ns words mems old → IsReady ns words mems new
+pub ready_begun : (ns : List Node) (words mems : List (ℕ × ℕ)) (old new : Known) (x : ℕ) → Updates old new x None → IsReady ns words mems old → IsReady ns words mems new
 ready_begun ns words mems old new x u r = record {
   sub = r.sub;
   images = record {
@@ -182,7 +170,7 @@ ready_begun ns words mems old new x u r = record {
   };
 }
 
-pub ready_kept : (ns : List Node) (words mems : List (ℕ × ℕ)) (old new : Known) (x y : ℕ) → Updates nat_cmp old new x (Some (Some y)) → IsReady ns words mems old
+pub ready_kept : (ns : List Node) (words mems : List (ℕ × ℕ)) (old new : Known) (x y : ℕ) → Updates old new x (Some y) → IsReady ns words mems old
     → IsImage ns (put_for_numbers ns words mems) x y → IsReady ns words mems new
 ready_kept ns words mems old new x y u r i = record {
   sub = r.sub;

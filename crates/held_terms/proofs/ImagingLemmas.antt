@@ -4,34 +4,32 @@ use Rattle.std.specs.Prelude.{IsSome, if◌then◌else◌, is_some, slice_get}
 use Rattle.std.specs.Option.{option_flatten}
 use Rattle.std.specs.List.{Contains}
 use Rattle.std.specs.List.Sorted.{IsStrictlySortedBy}
-use Rattle.std.specs.BTreeMap.{IsOrdered, Updates, btree_map_len, get, is_at, keys}
-use Rattle.std.specs.Map.{lookup}
+use Rattle.std.specs.Map.{keys_of}
 use Rattle.std.specs.Ordering.{nat_cmp}
-use Rattle.std.specs.Cmp.{nat_cmp_total}
-use Rattle.std.proofs.lemmas.Map.Lookups.{exact_unsigned}
 use Rattle.std.proofs.lemmas.List.{length-map}
 use Rattle.std.proofs.lemmas.Bool.{cases_order}
+use Rattle.std.proofs.lemmas.Cmp.{nat_eq_equiv}
 use Rattle.std.proofs.lemmas.Map.Keys.{below_from_sorted}
-use Rattle.std.proofs.lemmas.Map.Views.{btree_map_contains_key_iff}
+use Rattle.std.proofs.lemmas.Map.Views.{IsSome-lookup_from_Contains}
 use Rattle.term_arena.specs.declared.node.Node.{Node}
 use Rattle.term_arena.specs.declared.node.Node.TheVariants as node
 use Rattle.term_arena.specs.Arena.{Tree, OfWord, OfMem, OfCond, tree_of, trees_of, tree_over, word_of, mem_of, cond_of, IsWordAt, IsMemAt, IsCondAt, AreChildren, Extends, IsArena}
 use Rattle.term_arena.proofs.Places.{at_contains, at_place, contains_at, map-at}
 use Rattle.term_arena.proofs.PutLemmas.{tree_stays}
 use Rattle.term_arena.proofs.TreeLemmas.{length-trees, one_number}
-use Rattle.held_terms.specs.Image.{Known}
+use Rattle.held_terms.specs.Image.{Known, image_at}
 use Rattle.held_terms.specs.Subterms.{HasWord, HasMem, HasCond, HasTree, HasTerms, HasRegisters, HasValues, HasFact, HasFacts, HasSide, HasHeld}
-use Rattle.held_terms.specs.inner.Imaging.{AreAsked, AreEnded, AreMade, HasTerm, Imaged, IsFree}
+use Rattle.held_terms.specs.inner.Imaging.{AreAsked, AreEnded, AreMade, HasTerm, Imaged, IsFree, IsOrdered, Updates}
 use Rattle.held_terms.specs.inner.Table.{IsIn}
 use Rattle.held_terms.proofs.FewLemmas.{few}
-use Rattle.held_terms.proofs.ImageLemmas.{put_cases, same_get}
+use Rattle.held_terms.proofs.ImageLemmas.{put_cases}
 use Rattle.held_terms.proofs.LookLemmas.{read-at, within}
 use Rattle.held_terms.proofs.TableLemmas.{has_number}
 
 -- ---- which are being made
 
-pub none_asked : (known : Known) → known.entries ≡ [] → AreMade known
-none_asked known e = record { none = λ k h. let f : None ≡ Some None = sym (ap (λ (es : List (ℕ × Option ℕ)). lookup (is_at (nat_cmp k)) es) e) ∙ h in cc }
+pub none_asked : (known : Known) → known ≡ [] → AreMade known
+none_asked known e = record { none = λ k h. let f : None ≡ Some None = sym (ap (λ (es : List (ℕ × Option ℕ)). image_at es k) e) ∙ h in cc }
 
 pub free_all : (known : Known) (n : ℕ) → AreMade known → IsFree known n
 free_all known n m = record { above = λ k h. absurd (m.none k h) }
@@ -46,7 +44,7 @@ free_next old new a x f e lt = record { above = λ k h. let le = f.above k (e.be
 pub free_after : (old mid new : Known) (a x : ℕ) → IsFree old a → AreEnded old mid → AreEnded mid new → x < a → IsFree new (x + 1)
 free_after old mid new a x f e d lt = record { above = λ k h. let le = f.above k (e.before k (d.before k h)) in omega (arith, le, lt) }
 
-pub free_begun : (old new : Known) (x : ℕ) → Updates nat_cmp old new x (Some None) → IsFree old (x + 1) → IsFree new x
+pub free_begun : (old new : Known) (x : ℕ) → Updates old new x None → IsFree old (x + 1) → IsFree new x
 free_begun old new x u f = record {
   above = λ k h. elim (put_cases old new x None k None u h) [
     | inl here ↦ (let e = here.0 in omega (arith, e))
@@ -61,7 +59,7 @@ pub ended_both : (old mid new : Known) → AreEnded old mid → AreEnded mid new
 ended_both old mid new e d = record { before = λ k h. e.before k (d.before k h) }
 
 -- the one that was begun is kept
-pub ended_kept : (old mid new last : Known) (x y : ℕ) → Updates nat_cmp old mid x (Some None) → AreEnded mid new → Updates nat_cmp new last x (Some (Some y)) → AreEnded old last
+pub ended_kept : (old mid new last : Known) (x y : ℕ) → Updates old mid x None → AreEnded mid new → Updates new last x (Some y) → AreEnded old last
 ended_kept old mid new last x y u e v = record {
   before = λ k h. elim (put_cases new last x (Some y) k None v h) [
     | inl here ↦ (let f : None ≡ Some y = here.1 in cc)
@@ -131,17 +129,14 @@ module _ (ms ns : List Node) (e : Extends ms ns) where
 
 -- ---- steps
 
-asked_same : (ns : List Node) (ts : List Tree) (old new : Known) → new.entries ≡ old.entries → AreAsked ns ts old → AreAsked ns ts new
-asked_same ns ts old new e a = record { each = λ k h. a.each k (subst (λ (o : Option (Option ℕ)). IsSome o) (same_get old new e k) h) }
-
 some_get : (o : Option (Option ℕ)) → IsSome o → (w : Option ℕ) × (o ≡ Some w)
 some_get None h = absurd (cc)
 some_get (Some w) h = (w, refl)
 
-asked_put : (ns : List Node) (ts : List Tree) (old new : Known) (x : ℕ) (v : Option ℕ) → Updates nat_cmp old new x (Some v) → IsIn ns ts x → AreAsked ns ts old → AreAsked ns ts new
+asked_put : (ns : List Node) (ts : List Tree) (old new : Known) (x : ℕ) (v : Option ℕ) → Updates old new x v → IsIn ns ts x → AreAsked ns ts old → AreAsked ns ts new
 asked_put ns ts old new x v u i a = record {
   each = λ k h.
-      let w = some_get (get nat_cmp new k) h in
+      let w = some_get (image_at new k) h in
       elim (put_cases old new x v k w.0 u w.1) [
         | inl here ↦ subst (IsIn ns ts) (sym here.0) i
         | inr there ↦ a.each k (ap (λ (o : Option (Option ℕ)). is_some o) there.1)
@@ -152,12 +147,8 @@ pub imaged_none : (ns : List Node) (P : List Tree → Type 0) (known : Known) (s
 imaged_none ns P known s t le = record { steps = omega (arith, le); ordered = λ o. o; inside = λ ts has a. a }
 
 -- where nothing more was kept
-pub imaged_same : (ms ns : List Node) (P : List Tree → Type 0) (old mid new : Known) (s t : ℕ) → new.entries ≡ mid.entries → IsOrdered nat_cmp new → Imaged ms ns P old mid s t → Imaged ms ns P old new s t
-imaged_same ms ns P old mid new s t e o i = record {
-  steps = let le = i.steps in let l : length new.entries ≡ length mid.entries = ap length e in omega (arith, le, l);
-  ordered = λ _. o;
-  inside = λ ts has a. asked_same ns ts mid new e (i.inside ts has a);
-}
+pub imaged_same : (ms ns : List Node) (P : List Tree → Type 0) (old mid new : Known) (s t : ℕ) → new ≡ mid → Imaged ms ns P old mid s t → Imaged ms ns P old new s t
+imaged_same ms ns P old mid new s t e i = subst (λ (known : Known). Imaged ms ns P old known s t) (sym e) i
 
 pub imaged_from : (ms ns : List Node) (P : List Tree → Type 0) (old new : Known) (s r t : ℕ) → r ≤ s → Imaged ms ns P old new r t → Imaged ms ns P old new s t
 imaged_from ms ns P old new s r t le i = record { steps = let h = i.steps in omega (arith, h, le); ordered = i.ordered; inside = i.inside }
@@ -185,7 +176,7 @@ number-in ns ts x low has =
     has_number ns ts x at.0 at.1 has
 
 -- from where the number was begun
-pub imaged_begun : (ms ns : List Node) (x : ℕ) (old mid new : Known) (s t : ℕ) → x < length ms → Updates nat_cmp old mid x (Some None) → btree_map_len mid ≡ btree_map_len old + 1 → IsOrdered nat_cmp mid
+pub imaged_begun : (ms ns : List Node) (x : ℕ) (old mid new : Known) (s t : ℕ) → x < length ms → Updates old mid x None → length mid ≡ length old + 1 → IsOrdered mid
     → Imaged ms ns (HasTerm ms x) mid new (s + 2) t → Imaged ms ns (HasTerm ms x) old new s t
 imaged_begun ms ns x old mid new s t low u l o i = record {
   steps = let h = i.steps in omega (arith, h, l);
@@ -194,8 +185,8 @@ imaged_begun ms ns x old mid new s t low u l o i = record {
 }
 
 -- .. to where it is kept
-pub imaged_kept : (ms ns : List Node) (x y n : ℕ) (old new last : Known) (s t : ℕ) → x < length ms → Extends ms ns → Updates nat_cmp new last x (Some (Some y)) → btree_map_len last ≡ btree_map_len new + n
-    → IsOrdered nat_cmp last → Imaged ms ns (HasTerm ms x) old new s t → Imaged ms ns (HasTerm ms x) old last s t
+pub imaged_kept : (ms ns : List Node) (x y n : ℕ) (old new last : Known) (s t : ℕ) → x < length ms → Extends ms ns → Updates new last x (Some y) → length last ≡ length new + n
+    → IsOrdered last → Imaged ms ns (HasTerm ms x) old new s t → Imaged ms ns (HasTerm ms x) old last s t
 imaged_kept ms ns x y n old new last s t low g u l o i = record {
   steps = let h = i.steps in omega (arith, h, l);
   ordered = λ _. o;
@@ -208,22 +199,22 @@ known_image None y e = cc
 known_image (Some None) y e = cc
 known_image (Some (Some z)) y e = ap (λ (w : Option ℕ). Some w) e
 
-pub not_begun : (known : Known) (x : ℕ) → option_flatten (get nat_cmp known x) ≡ None → IsFree known (x + 1) → get nat_cmp known x ≡ None
-not_begun known x e f = by (get nat_cmp known x) refl e
+pub not_begun : (known : Known) (x : ℕ) → option_flatten (image_at known x) ≡ None → IsFree known (x + 1) → image_at known x ≡ None
+not_begun known x e f = by (image_at known x) refl e
   where
-    by : (o : Option (Option ℕ)) → get nat_cmp known x ≡ o → option_flatten o ≡ None → o ≡ None
+    by : (o : Option (Option ℕ)) → image_at known x ≡ o → option_flatten o ≡ None → o ≡ None
     by None same n = refl
     by (Some None) same n = let le = f.above x same in absurd (omega (arith, le))
     by (Some (Some z)) same n = let no : Some z ≡ None = n in cc
 
 -- one entry more, where there was none
-pub one_longer : (was now : Option (Option ℕ)) (l m : ℕ) → was ≡ now → now ≡ None → m ≡ l + (if is_some was then 0 else 1) → m ≡ l + 1
-one_longer None now l m e n h = h
-one_longer (Some w) now l m e n h = let no : Some w ≡ None = e ∙ n in cc
+pub one_longer : (was : Option (Option ℕ)) (l m : ℕ) → was ≡ None → m ≡ l + (if is_some was then 0 else 1) → m ≡ l + 1
+one_longer None l m n h = h
+one_longer (Some w) l m n h = let no : Some w ≡ None = n in cc
 
 -- ---- how many
 
-one-place : (ks : List ℕ) (i j k : ℕ) → IsStrictlySortedBy nat_cmp ks → slice_get ks i ≡ Some k → slice_get ks j ≡ Some k → i ≡ j
+pub one-place : (ks : List ℕ) (i j k : ℕ) → IsStrictlySortedBy nat_cmp ks → slice_get ks i ≡ Some k → slice_get ks j ≡ Some k → i ≡ j
 one-place ks i j k o hi hj = elim (cases_order i j) [
   | inl same ↦ same
   | inr other ↦ elim other [ inl lt ↦ absurd (apart i j lt hi hj) | inr gt ↦ absurd (apart j i gt hj hi) ]
@@ -236,27 +227,31 @@ one-place ks i j k o hi hj = elim (cases_order i j) [
         let kb = read-at ks b k 0 hb in
         omega (arith, rises, ka, kb)
 
+none_rise : IsOrdered []
+unfolding IsStrictlySortedBy
+none_rise = tt
+
 -- no more than two steps for each different term
-pub few_images : (ms ns : List Node) (P : List Tree → Type 0) (old new : Known) (s t : ℕ) (ts : List Tree) → old.entries ≡ [] → IsArena ns → IsOrdered nat_cmp old → P ts → Imaged ms ns P old new s t
+pub few_images : (ms ns : List Node) (P : List Tree → Type 0) (old new : Known) (s t : ℕ) (ts : List Tree) → old ≡ [] → IsArena ns → P ts → Imaged ms ns P old new s t
     → t ≤ s + 2 * length ts
-few_images ms ns P old new s t ts none arena o has i =
-    let asked : AreAsked ms ts old = record { each = λ k h. let no : false ≡ true = sym (ap (λ (es : List (ℕ × Option ℕ)). is_some (lookup (is_at (nat_cmp k)) es)) none) ∙ h in absurd (true≢false (sym no)) } in
+few_images ms ns P old new s t ts none arena has i =
+    let asked : AreAsked ms ts old = record { each = λ k h. let no : false ≡ true = sym (ap (λ (es : List (ℕ × Option ℕ)). is_some (image_at es k)) none) ∙ h in absurd (true≢false (sym no)) } in
     let all = i.inside ts has asked in
-    let sorted = i.ordered o in
-    let key : (k : ℕ) → Contains (keys new) k → IsIn ns ts k = λ k c. all.each k ((btree_map_contains_key_iff nat_cmp_total exact_unsigned new k).1 c) in
+    let sorted = i.ordered (subst IsOrdered (sym none) none_rise) in
+    let key : (k : ℕ) → Contains (keys_of new) k → IsIn ns ts k = λ k c. all.each k (IsSome-lookup_from_Contains nat_eq_equiv k new c) in
     let os : List (Option Tree) = map (λ (y : Tree). Some y) ts in
-    let apart : (a b : ℕ) (k l : ℕ) → slice_get (keys new) a ≡ Some k → slice_get (keys new) b ≡ Some l → tree_of ns k ≡ tree_of ns l → a ≡ b = λ a b k l ha hb e.
-    let ik = key k (contains_at (keys new) a k ha) in
+    let apart : (a b : ℕ) (k l : ℕ) → slice_get (keys_of new) a ≡ Some k → slice_get (keys_of new) b ≡ Some l → tree_of ns k ≡ tree_of ns l → a ≡ b = λ a b k l ha hb e.
+    let ik = key k (contains_at (keys_of new) a k ha) in
     let same : k ≡ l = one_number ns k l ik.tree arena ik.at (sym e ∙ ik.at) in
-    one-place (keys new) a b k sorted ha (hb ∙ ap (λ (q : ℕ). Some q) (sym same)) in
-    let there : (k : ℕ) → Contains (keys new) k → Contains os (tree_of ns k) = λ k c.
+    one-place (keys_of new) a b k sorted ha (hb ∙ ap (λ (q : ℕ). Some q) (sym same)) in
+    let there : (k : ℕ) → Contains (keys_of new) k → Contains os (tree_of ns k) = λ k c.
     let ik = key k c in
     let at = at_contains ts ik.tree ik.here in
     subst (Contains os) (sym ik.at) (contains_at os at.0 (Some ik.tree) (map-at (λ (y : Tree). Some y) ts at.0 ik.tree at.1)) in
-    let most = few (tree_of ns) (keys new) os apart there in
-    let n : length (keys new) ≡ length new.entries = length-map new.entries (λ (e : ℕ × Option ℕ). e.0) in
+    let most = few (tree_of ns) (keys_of new) os apart there in
+    let n : length (keys_of new) ≡ length new = length-map new _ in
     let m : length os ≡ length ts = length-map ts (λ (y : Tree). Some y) in
-    let z : length old.entries ≡ 0 = ap length none in
+    let z : length old ≡ 0 = ap length none in
     let h = i.steps in
     omega (arith, most, n, m, z, h)
 

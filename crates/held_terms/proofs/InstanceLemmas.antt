@@ -2,9 +2,6 @@
 use Rattle.std.proofs.Common.{◌≡◌, ℕ, ◌+◌, ◌<◌, List, Option, Some, None, [], ◌∷◌, length, get_or, map, take, refl, sym, ap, ◌∙◌, ◌++◌, append_assoc, subst, arith}
 use Rattle.std.specs.Prelude.{◌↔◌, All}
 use Rattle.std.specs.List.{AllZip}
-use Rattle.std.specs.BTreeMap.{is_at}
-use Rattle.std.specs.Map.{lookup}
-use Rattle.std.specs.Ordering.{nat_cmp}
 use Rattle.std.proofs.lemmas.List.{take_more}
 use Rattle.std.proofs.lemmas.List.Elements.{All-head, All-tail, AllZip-get_or, AllZip-push, length_all_zip}
 use Rattle.word_terms.specs.Substitution.{Substitution, put_in_word, put_in_mem, put_in_cond}
@@ -19,7 +16,7 @@ use Rattle.held_terms.specs.declared.held.HeldFact.TheVariants as held
 use Rattle.held_terms.specs.declared.held.HeldSide.{HeldSide}
 use Rattle.held_terms.specs.declared.held.Held.{Held}
 use Rattle.held_terms.specs.Held.{values_over, fact_of, register_of, side_of, triple_of, AreWordsAt, AreMemsAt, AreRegistersAt, AreValuesAt, IsFactAt, AreFactsAt, IsSideAt, IsHeldAt}
-use Rattle.held_terms.specs.Image.{IsImage, IsReady, Known, IsSubAt, put_for_numbers}
+use Rattle.held_terms.specs.Image.{IsImage, IsReady, Known, IsSubAt, image_at, put_for_numbers}
 use Rattle.held_terms.specs.inner.Instances.{AreWithin, AreImagesOf, IsRegisterImage, IsValuesImage, IsFactImage, IsSideImage}
 use Rattle.held_terms.proofs.ImageLemmas.{image_stays, word_still, mem_still, word_image, mem_image, cond_image, same_sub}
 
@@ -257,8 +254,8 @@ instance_of ns ms words mems p q e sub h i =
 pub extends_next : (ns ms os : List Node) → Extends ns ms → Extends ms os → Extends ns os
 extends_next ns ms os a b = record { more = a.more ++ b.more; is = b.is ∙ ap (λ (l : List Node). l ++ b.more) a.is ∙ append_assoc ns a.more b.more }
 
-pub none_ready : (ns : List Node) (words mems : List (ℕ × ℕ)) (known : Known) → known.entries ≡ [] → IsSubAt ns words mems → IsReady ns words mems known
-none_ready ns words mems known e sub = record { sub = sub; images = record { each = λ x y h. let f : None ≡ Some (Some y) = sym (ap (λ (es : List (ℕ × Option ℕ)). lookup (is_at (nat_cmp x)) es) e) ∙ h in cc } }
+pub none_ready : (ns : List Node) (words mems : List (ℕ × ℕ)) (known : Known) → known ≡ [] → IsSubAt ns words mems → IsReady ns words mems known
+none_ready ns words mems known e sub = record { sub = sub; images = record { each = λ x y h. let f : None ≡ Some (Some y) = sym (ap (λ (es : List (ℕ × Option ℕ)). image_at es x) e) ∙ h in cc } }
 
 -- ---- item after item
 

@@ -1,7 +1,9 @@
+pub mod AloneLemmas
 pub mod AskedLemmas
 pub mod CondLemmas
 pub mod ExitLemmas
 pub mod FewLemmas
+pub mod FindLemmas
 pub mod ImageLemmas
 pub mod ImagingLemmas
 pub mod InstanceLemmas
@@ -10,7 +12,9 @@ pub mod PlaceLemmas
 pub mod Indices
 pub mod LookLemmas
 pub mod Registers
+pub mod SeekLemmas
 pub mod SideLemmas
+pub mod SlotLemmas
 pub mod SwapLemmas
 pub mod TableLemmas
 pub mod ToldLemmas

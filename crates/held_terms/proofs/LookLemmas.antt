@@ -10,7 +10,7 @@ use Rattle.word_terms.specs.Tree.{Var, MemVar}
 use Rattle.term_arena.specs.declared.node.Node.{Node}
 use Rattle.term_arena.specs.Arena.{Tree, OfWord, OfMem, tree_of, word_of, mem_of, IsWordAt, IsMemAt}
 use Rattle.term_arena.proofs.Places.{at_contains, map-at}
-use Rattle.held_terms.specs.inner.Looks.{Looks}
+use Rattle.held_terms.specs.Looks.{Looks}
 use Rattle.held_terms.specs.Held.{AreWordsAt, AreMemsAt, AreRegistersAt}
 use Rattle.held_terms.specs.Subterms.{HasTree, HasTerms, HasRegisters, HasSide}
 use Rattle.held_terms.proofs.FewLemmas.{few}

@@ -7,11 +7,12 @@ use Rattle.std.proofs.lemmas.List.Elements.{Contains-push_cases, Contains-append
 use Rattle.word_terms.specs.Tree.{Const, Var, Bin, Extend, Load, MemVar, Store, Compare, Neg, Inside}
 use Rattle.term_arena.specs.declared.node.Node.{Node}
 use Rattle.term_arena.specs.declared.node.Node.TheVariants as node
-use Rattle.term_arena.specs.Arena.{Tree, OfWord, OfMem, OfCond, tree_of, trees_of, tree_over, word_of, mem_of, IsWordAt, IsMemAt, AreChildren, IsArena}
+use Rattle.term_arena.specs.Arena.{Tree, OfWord, OfMem, OfCond, tree_of, trees_of, tree_over, word_of, mem_of, cond_of, IsWordAt, IsMemAt, IsCondAt, AreChildren, IsArena}
 use Rattle.term_arena.proofs.Places.{at-push_cases, at-append, at-push, contains_at, at_contains, map-set_same, map-at}
 use Rattle.term_arena.proofs.TreeLemmas.{one_number}
 use Rattle.triple_kernel.specs.Tree.{FactTree}
 use Rattle.triple_kernel.specs.Swap.{SwapWord, SwapMem}
+use Rattle.triple_kernel.specs.Rules.{Alike}
 use Rattle.held_terms.specs.declared.swaps.WordPairs.{WordPairs}
 use Rattle.held_terms.specs.declared.swaps.MemPairs.{MemPairs}
 use Rattle.held_terms.specs.Subterms.{HasWord, HasMem, HasTree}
@@ -81,6 +82,9 @@ module _ (ns : List Node) (facts : List FactTree) where
   pub mem_decided : (a b : ℕ) (v : Bool) → IsMemAt ns a → IsMemAt ns b → (IsTrue v ↔ SwapMem facts (mem_of ns a) (mem_of ns b)) → IsDecided ns facts (a, b, v)
   mem_decided a b v ha hb is = record { one = OfMem (mem_of ns a); other = OfMem (mem_of ns b); at_one = ha; at_other = hb; is = is }
 
+  pub cond_decided : (a b : ℕ) (v : Bool) → IsCondAt ns a → IsCondAt ns b → (IsTrue v ↔ Alike facts (cond_of ns a) (cond_of ns b)) → IsDecided ns facts (a, b, v)
+  cond_decided a b v ha hb is = record { one = OfCond (cond_of ns a); other = OfCond (cond_of ns b); at_one = ha; at_other = hb; is = is }
+
   same_tree : (k : ℕ) (x y : Tree) → tree_of ns k ≡ Some x → tree_of ns k ≡ Some y → x ≡ y
   same_tree k x y e f = let g : Some x ≡ Some y = sym e ∙ f in cc
 
@@ -90,7 +94,7 @@ module _ (ns : List Node) (facts : List FactTree) where
       let other = same_tree p.1 d.other y d.at_other ey in
       subst (λ (t : Tree). IsTrue p.2 ↔ SwapTrees facts t y) one (subst (λ (u : Tree). IsTrue p.2 ↔ SwapTrees facts d.one u) other d.is)
 
-  -- what the table says of two words, of two memories
+  -- what the table says of two words, of two memories, of two conditions
   pub word_known : (known : List Entry) (a b : ℕ) (v : Bool) → IsKnown ns facts known (a + 1) → Contains known (a, b, v) → IsWordAt ns a → IsWordAt ns b
       → IsTrue v ↔ SwapWord facts (word_of ns a) (word_of ns b)
   word_known known a b v k c ha hb = decided_is (a, b, v) (OfWord (word_of ns a)) (OfWord (word_of ns b)) (k.each (a, b, v) c (omega arith)) ha hb
@@ -98,6 +102,10 @@ module _ (ns : List Node) (facts : List FactTree) where
   pub mem_known : (known : List Entry) (a b : ℕ) (v : Bool) → IsKnown ns facts known (a + 1) → Contains known (a, b, v) → IsMemAt ns a → IsMemAt ns b
       → IsTrue v ↔ SwapMem facts (mem_of ns a) (mem_of ns b)
   mem_known known a b v k c ha hb = decided_is (a, b, v) (OfMem (mem_of ns a)) (OfMem (mem_of ns b)) (k.each (a, b, v) c (omega arith)) ha hb
+
+  pub cond_known : (known : List Entry) (a b : ℕ) (v : Bool) → IsKnown ns facts known (a + 1) → Contains known (a, b, v) → IsCondAt ns a → IsCondAt ns b
+      → IsTrue v ↔ Alike facts (cond_of ns a) (cond_of ns b)
+  cond_known known a b v k c ha hb = decided_is (a, b, v) (OfCond (cond_of ns a)) (OfCond (cond_of ns b)) (k.each (a, b, v) c (omega arith)) ha hb
 
   pub known_less : (known : List Entry) (n m : ℕ) → IsKnown ns facts known n → m ≤ n → IsKnown ns facts known m
   known_less known n m k le = record { each = λ p c lt. k.each p c (omega (arith, lt, le)) }

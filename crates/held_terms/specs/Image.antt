@@ -1,7 +1,6 @@
 -- Terms put in for variables, over the numbers of an arena.
-use Rattle.std.specs.Prelude.{◌≡◌, ℕ, All, List, Option, Some, option_map}
-use Rattle.std.specs.BTreeMap.{BTreeMap, get}
-use Rattle.std.specs.Ordering.{nat_cmp}
+use Rattle.std.specs.Prelude.{◌≡◌, ◌==◌, ℕ, All, List, Option, Some, option_map}
+use Rattle.std.specs.Map.{lookup}
 use Rattle.word_terms.specs.Substitution.{Substitution, listed, put_in_word, put_in_mem, put_in_cond}
 use Rattle.term_arena.specs.declared.node.Node.{Node}
 use Rattle.term_arena.specs.Arena.{Tree, OfWord, OfMem, OfCond, tree_of, word_of, mem_of, IsWordAt, IsMemAt}
@@ -27,13 +26,17 @@ pub record IsImage (ns : List Node) (s : Substitution) (x y : ℕ) : Type 0 wher
   pub from : tree_of ns x ≡ Some tree
   pub to : tree_of ns y ≡ Some (put_in s tree)
 
--- numbers whose images are asked for, each with that of its image, or with none while that is being made
+-- numbers whose images are asked for, in order, each with that of its image, or with none while that is being made
 abbrev pub Known : Type 0
-Known = BTreeMap ℕ (Option ℕ)
+Known = List (ℕ × Option ℕ)
+
+-- what is known of a number that was asked for
+abbrev pub image_at : Known → ℕ → Option (Option ℕ)
+image_at known k = lookup (λ q. k == q) known
 
 -- each number that is kept as an image is one
 pub record AreImages (ns : List Node) (s : Substitution) (known : Known) : Type 0 where
-  pub each : (x y : ℕ) → get nat_cmp known x ≡ Some (Some y) → IsImage ns s x y
+  pub each : (x y : ℕ) → image_at known x ≡ Some (Some y) → IsImage ns s x y
 
 -- what an imaging goes on with: the terms that are put in, and the images that are known
 pub record IsReady (ns : List Node) (words mems : List (ℕ × ℕ)) (known : Known) : Type 0 where

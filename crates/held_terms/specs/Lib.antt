@@ -1,4 +1,5 @@
 pub mod Held
 pub mod Subterms
+pub mod Looks
 pub mod Image
 pub mod inner

@@ -39,17 +39,17 @@ HasTree ts None = Unit {0}
 
 -- ---- of the terms of an assertion
 
--- the list has each subterm of what the registers hold, of the memories, of the assertion
+-- the list has each subterm of the numbers' terms, of what the registers hold, of the assertion
+abbrev pub HasTerms : List Node → List ℕ → List Tree → Type 0
+HasTerms ns ks ts = All (λ k. HasTree ts (tree_of ns k)) ks
+
 abbrev pub HasRegisters : List Node → List (ℕ × ℕ) → List Tree → Type 0
 HasRegisters ns rs ts = All (λ r. HasTree ts (tree_of ns r.1)) rs
-
-abbrev pub HasMems : List Node → List ℕ → List Tree → Type 0
-HasMems ns ks ts = All (λ k. HasTree ts (tree_of ns k)) ks
 
 pub record HasSide (ns : List Node) (s : HeldSide) (ts : List Tree) : Type 0 where
   pub pc : HasTree ts (tree_of ns s.pc)
   pub regs : HasRegisters ns s.regs ts
-  pub mems : HasMems ns s.mems ts
+  pub mems : HasTerms ns s.mems ts
 
 -- .. of two assertions
 abbrev pub HasSides : List Node → HeldSide → HeldSide → List Tree → Type 0
@@ -57,10 +57,7 @@ HasSides ns a b ts = HasSide ns a ts × HasSide ns b ts
 
 -- ---- of the terms of a triple
 
--- the list has each subterm of the numbers' terms, of the values, of the fact, of the facts, of the triple
-abbrev pub HasTerms : List Node → List ℕ → List Tree → Type 0
-HasTerms ns ks ts = All (λ k. HasTree ts (tree_of ns k)) ks
-
+-- the list has each subterm of the values, of the fact, of the facts, of the triple
 pub record HasValues (ns : List Node) (v : HeldValues) (ts : List Tree) : Type 0 where
   pub words : HasTerms ns v.words ts
   pub mems : HasTerms ns v.mems ts

@@ -5,7 +5,8 @@ pub mod Pairs
 pub mod SideTables
 pub mod ImageNode
 pub mod Imaging
+pub mod Slots
 pub mod Instances
+pub mod Alone
 pub mod Following
 pub mod Leaves
-pub mod Looks

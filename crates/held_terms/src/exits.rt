@@ -11,7 +11,7 @@ ghost use Rattle.loop_rule.specs.Rule.{results as results_of};
 ghost use Rattle.term_arena.specs.Arena.{IsMemAt, IsWordAt, Tree, mem_of, word_of};
 ghost use Rattle.held_terms.specs.Held.{AreFactsAt, AreMemsAt, AreRegistersAt, AreValuesAt, AreWordsAt, IsFactAt, IsHeldAt, IsSideAt, fact_of, register_of, side_of, triple_of, values_over};
 ghost use Rattle.held_terms.specs.Subterms.{HasFact, HasFacts, HasHeld, HasRegisters, HasSide, HasTerms, HasValues};
-ghost use Rattle.held_terms.specs.inner.Looks.{Looks};
+ghost use Rattle.held_terms.specs.Looks.{Looks};
 ghost use Rattle.held_terms.specs.inner.Leaves.{constant_of, mem_variable_of, variable_of};
 
 use crate::held::{Held, HeldFact, HeldSide, HeldValues};
@@ -78,7 +78,7 @@ fn is_exit_triple<L: Ledger>(
 {
     is_exit_fact(arena, g, d, exit, x, stated.facts.as_slice(), steps)
         && is_entry(arena, g, def, &stated.pre, steps)
-        && same_code(&stated.code, &g.code)
+        && same_code(stated.code.as_code(), &g.code)
         && is_end(arena, g, x, &stated.post, steps)
 }
 

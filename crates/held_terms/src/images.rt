@@ -1,17 +1,14 @@
 //! Terms put in for variables: the number of the image of a term.
 
 ghost use Rattle.std.specs.Prelude.{◌≡◌, ◌<◌, ◌+◌, IfOk, OnOk, Some as Just, length, slice_get, unwrap_or};
-ghost use Rattle.std.specs.Option.{option_flatten};
-ghost use Rattle.std.specs.BTreeMap.{get};
-ghost use Rattle.std.specs.Ordering.{nat_cmp};
 ghost use Rattle.word_terms.specs.Substitution.{listed};
 ghost use Rattle.term_arena.specs.Arena.{Extends};
 ghost use Rattle.held_terms.specs.Image.{IsImage, IsReady, put_for_numbers};
 ghost use Rattle.held_terms.specs.inner.ImageNode.{ImageNode};
 ghost use Rattle.held_terms.specs.inner.Imaging.{AreEnded, HasTerm, Imaged, IsFree};
 
+use crate::image_table::ImageTable;
 use rv_words::NoMemory;
-use std::collections::BTreeMap;
 use std::sync::ledger::Ledger;
 use term_arena::{Arena, Node, Steps, law_of_arenas};
 
@@ -23,7 +20,7 @@ pub fn image<L: Ledger>(
     arena: &mut Arena,
     words: &[(u32, u64)],
     mems: &[(u32, u64)],
-    known: &mut BTreeMap<u64, Option<u64>>,
+    known: &mut ImageTable,
     x: u64,
     steps: &mut Steps<L>,
 ) -> Result<u64, NoMemory>
@@ -36,7 +33,7 @@ pub fn image<L: Ledger>(
     ensures ended { OnOk result (AreEnded known.old known.new) }
     ensures imaged { Imaged arena.old arena.new (HasTerm arena.old x) known.old known.new steps.old steps.new }
 {
-    if let Some(y) = image_in(known, x) {
+    if let Some(y) = known.get(x) {
         return Ok(y);
     }
     known.insert(x, None)?;
@@ -52,7 +49,7 @@ fn image_over<L: Ledger>(
     arena: &mut Arena,
     words: &[(u32, u64)],
     mems: &[(u32, u64)],
-    known: &mut BTreeMap<u64, Option<u64>>,
+    known: &mut ImageTable,
     x: u64,
     steps: &mut Steps<L>,
 ) -> Result<u64, NoMemory>
@@ -148,7 +145,7 @@ fn made<L: Ledger>(
     arena: &mut Arena,
     words: &[(u32, u64)],
     mems: &[(u32, u64)],
-    known: &BTreeMap<u64, Option<u64>>,
+    known: &ImageTable,
     x: u64,
     n: Node,
     m: Node,
@@ -166,16 +163,6 @@ fn made<L: Ledger>(
     arena.law_of_nodes();
     let y = arena.add(m, steps)?;
     Ok(y)
-}
-
-/// The image of a number, if it is known.
-fn image_in(known: &BTreeMap<u64, Option<u64>>, x: u64) -> Option<u64>
-    ensures { result ≡ option_flatten (get nat_cmp known.now x) }
-{
-    match known.get(&x) {
-        Some(y) => *y,
-        None => None,
-    }
 }
 
 /// The number that is listed for a variable, or that of the variable.

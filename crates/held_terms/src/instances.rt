@@ -12,19 +12,19 @@ ghost use Rattle.held_terms.specs.inner.Imaging.{AreMade, Imaged};
 ghost use Rattle.held_terms.specs.inner.Instances.{AreImagesOf, AreWithin, IsFactImage, IsRegisterImage, IsSideImage, IsValuesImage};
 
 use crate::held::{Held, HeldFact, HeldSide, HeldValues};
+use crate::image_table::ImageTable;
 use crate::images::image;
 use rv_words::{List, NoMemory};
 use std::alloc::Global;
-use std::collections::BTreeMap;
 use std::sync::ledger::Ledger;
 use term_arena::{Arena, Steps};
-use word_terms::copy_code;
 
 /// The triple with all listed variables replaced at once, but for its code. Each different term of the triple takes two steps at
-/// most.
+/// most. The table is for the images that are made on the way; what it had of other triples is forgotten.
 pub fn instance<L: Ledger>(
     alloc: Global,
     arena: &mut Arena,
+    known: &mut ImageTable,
     p: &Held,
     words: &[(u32, u64)],
     mems: &[(u32, u64)],
@@ -37,8 +37,8 @@ pub fn instance<L: Ledger>(
     ensures grows { Extends arena.old arena.new }
     ensures steps { (ts : Items Tree) → HasHeld arena.old p.now ts → steps.new ≤ steps.old + 2 * length ts }
 {
-    let mut known = BTreeMap::new(alloc);
-    let q = held_image(alloc, arena, words, mems, &mut known, p, steps);
+    known.clear();
+    let q = held_image(alloc, arena, words, mems, known, p, steps);
     arena.law_of_nodes();
     q
 }
@@ -48,7 +48,7 @@ fn held_image<L: Ledger>(
     arena: &mut Arena,
     words: &[(u32, u64)],
     mems: &[(u32, u64)],
-    known: &mut BTreeMap<u64, Option<u64>>,
+    known: &mut ImageTable,
     p: &Held,
     steps: &mut Steps<L>,
 ) -> Result<Held, NoMemory>
@@ -63,7 +63,7 @@ fn held_image<L: Ledger>(
     let facts = fact_images(alloc, arena, words, mems, known, p.facts.as_slice(), steps)?;
     let pre = side_image(alloc, arena, words, mems, known, &p.pre, steps)?;
     let post = side_image(alloc, arena, words, mems, known, &p.post, steps)?;
-    let code = copy_code(alloc, &p.code)?;
+    let code = p.code.share()?;
     Ok(Held {
         facts,
         pre,
@@ -78,7 +78,7 @@ fn images<L: Ledger>(
     arena: &mut Arena,
     words: &[(u32, u64)],
     mems: &[(u32, u64)],
-    known: &mut BTreeMap<u64, Option<u64>>,
+    known: &mut ImageTable,
     xs: &[u64],
     steps: &mut Steps<L>,
 ) -> Result<List<u64>, NoMemory>
@@ -91,7 +91,7 @@ fn images<L: Ledger>(
     ensures made { OnOk result (AreMade known.new) }
     ensures imaged { Imaged arena.old arena.new (HasTerms arena.old xs.now) known.old known.new steps.old steps.new }
 {
-    let mut ys = List::new(alloc);
+    let mut ys = List::with_capacity(alloc, xs.len())?;
     for i in 0..xs.len() {
         let y = image(arena, words, mems, known, xs[i], steps)?;
         ys.push(y)?;
@@ -105,7 +105,7 @@ fn register_images<L: Ledger>(
     arena: &mut Arena,
     words: &[(u32, u64)],
     mems: &[(u32, u64)],
-    known: &mut BTreeMap<u64, Option<u64>>,
+    known: &mut ImageTable,
     registers: &[(u8, u64)],
     steps: &mut Steps<L>,
 ) -> Result<List<(u8, u64)>, NoMemory>
@@ -118,7 +118,7 @@ fn register_images<L: Ledger>(
     ensures made { OnOk result (AreMade known.new) }
     ensures imaged { Imaged arena.old arena.new (HasRegisters arena.old registers.now) known.old known.new steps.old steps.new }
 {
-    let mut images = List::new(alloc);
+    let mut images = List::with_capacity(alloc, registers.len())?;
     for i in 0..registers.len() {
         let y = image(arena, words, mems, known, registers[i].1, steps)?;
         images.push((registers[i].0, y))?;
@@ -131,7 +131,7 @@ fn values_image<L: Ledger>(
     arena: &mut Arena,
     words: &[(u32, u64)],
     mems: &[(u32, u64)],
-    known: &mut BTreeMap<u64, Option<u64>>,
+    known: &mut ImageTable,
     values: &HeldValues,
     steps: &mut Steps<L>,
 ) -> Result<HeldValues, NoMemory>
@@ -173,7 +173,7 @@ fn fact_image<L: Ledger>(
     arena: &mut Arena,
     words: &[(u32, u64)],
     mems: &[(u32, u64)],
-    known: &mut BTreeMap<u64, Option<u64>>,
+    known: &mut ImageTable,
     fact: &HeldFact,
     steps: &mut Steps<L>,
 ) -> Result<HeldFact, NoMemory>
@@ -224,7 +224,7 @@ fn fact_images<L: Ledger>(
     arena: &mut Arena,
     words: &[(u32, u64)],
     mems: &[(u32, u64)],
-    known: &mut BTreeMap<u64, Option<u64>>,
+    known: &mut ImageTable,
     facts: &[HeldFact],
     steps: &mut Steps<L>,
 ) -> Result<List<HeldFact>, NoMemory>
@@ -237,7 +237,7 @@ fn fact_images<L: Ledger>(
     ensures made { OnOk result (AreMade known.new) }
     ensures imaged { Imaged arena.old arena.new (HasFacts arena.old facts.now) known.old known.new steps.old steps.new }
 {
-    let mut images = List::new(alloc);
+    let mut images = List::with_capacity(alloc, facts.len())?;
     for fact in facts {
         let image = fact_image(alloc, arena, words, mems, known, fact, steps)?;
         images.push(image)?;
@@ -250,7 +250,7 @@ fn side_image<L: Ledger>(
     arena: &mut Arena,
     words: &[(u32, u64)],
     mems: &[(u32, u64)],
-    known: &mut BTreeMap<u64, Option<u64>>,
+    known: &mut ImageTable,
     side: &HeldSide,
     steps: &mut Steps<L>,
 ) -> Result<HeldSide, NoMemory>

@@ -11,17 +11,20 @@
 //! by order, and so is a fact among more than a few ([`Facts`]).
 #![tactic(auto)]
 
+mod alone;
 mod conditions;
 mod exits;
 mod facts;
 mod following;
 mod further;
 mod held;
+mod image_table;
 mod images;
 mod instances;
 mod missing;
 mod rules;
 mod same;
+mod shared_code;
 mod sides;
 mod swaps;
 mod table;
@@ -29,9 +32,11 @@ mod table;
 pub use exits::{is_entry, is_exit};
 pub use facts::Facts;
 pub use held::{Held, HeldFact, HeldSide, HeldValues};
+pub use image_table::ImageTable;
 pub use instances::instance;
 pub use rules::{
     is_composition, is_discharged, is_extension, is_frame, is_instance, is_strengthened,
     is_weakened,
 };
 pub use same::same_side;
+pub use shared_code::SharedCode;

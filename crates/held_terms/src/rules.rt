@@ -5,13 +5,14 @@ ghost use Rattle.frame_compose.specs.Rules.{IsComposed, IsExtended, IsFramed};
 ghost use Rattle.triple_kernel.specs.Rules.{AreAmong, IsDischarged, IsInst, IsStrengthened, IsWeakened};
 ghost use Rattle.held_terms.specs.Held.{IsHeldAt, fact_of, side_of, triple_of};
 ghost use Rattle.held_terms.specs.Image.{IsSubAt, put_for_numbers};
-ghost use Rattle.held_terms.specs.Subterms.{HasHeld, HasSides};
+ghost use Rattle.held_terms.specs.Subterms.{HasFacts, HasHeld, HasSides};
 ghost use Rattle.term_arena.specs.Arena.{Extends, Tree};
 
 use crate::facts::Facts;
 use crate::following::are_among_or_follow;
 use crate::further::{are_listed, same_further, same_further_mems};
 use crate::held::Held;
+use crate::image_table::ImageTable;
 use crate::instances::instance;
 use crate::missing::are_facts_of_both;
 use crate::same::{same_facts, same_side, same_triple, same_word};
@@ -30,7 +31,7 @@ pub fn is_frame(arena: &Arena, p: &Held, stated: &Held) -> bool
     ensures { IsTrue result ↔ IsFramed (triple_of arena.now p.now) (triple_of arena.now stated.now) }
 {
     same_facts(arena, p.facts.as_slice(), stated.facts.as_slice())
-        && same_code(&p.code, &stated.code)
+        && same_code(p.code.as_code(), stated.code.as_code())
         && same_word(arena, p.pre.pc, stated.pre.pc)
         && same_word(arena, p.post.pc, stated.post.pc)
         && are_listed(arena, p.pre.regs.as_slice(), stated.pre.regs.as_slice())
@@ -60,7 +61,7 @@ pub fn is_extension(arena: &Arena, p: &Held, stated: &Held) -> bool
     same_facts(arena, p.facts.as_slice(), stated.facts.as_slice())
         && same_side(arena, &p.pre, &stated.pre)
         && same_side(arena, &p.post, &stated.post)
-        && code_within(&p.code, &stated.code)
+        && code_within(p.code.as_code(), stated.code.as_code())
 }
 
 /// One theorem after another, which begins where it ends.
@@ -71,7 +72,7 @@ pub fn is_composition(alloc: Global, arena: &Arena, p: &Held, q: &Held, stated: 
     ensures { IsTrue result ↔ IsComposed (triple_of arena.now p.now) (triple_of arena.now q.now) (triple_of arena.now stated.now) }
 {
     same_side(arena, &p.post, &q.pre)
-        && is_union(&p.code, &q.code, &stated.code)
+        && is_union(p.code.as_code(), q.code.as_code(), stated.code.as_code())
         && same_side(arena, &p.pre, &stated.pre)
         && same_side(arena, &q.post, &stated.post)
         && are_facts_of_both(
@@ -88,6 +89,7 @@ pub fn is_composition(alloc: Global, arena: &Arena, p: &Held, q: &Held, stated: 
 pub fn is_instance<L: Ledger>(
     alloc: Global,
     arena: &mut Arena,
+    known: &mut ImageTable,
     p: &Held,
     words: &[(u32, u64)],
     mems: &[(u32, u64)],
@@ -101,7 +103,7 @@ pub fn is_instance<L: Ledger>(
     ensures grows { Extends arena.old arena.new }
     ensures steps { (ts : Items Tree) → HasHeld arena.old p.now ts → steps.new ≤ steps.old + 2 * length ts }
 {
-    let put_in = instance(alloc, arena, p, words, mems, steps)?;
+    let put_in = instance(alloc, arena, known, p, words, mems, steps)?;
     Ok(same_triple(arena, &put_in, stated))
 }
 
@@ -147,7 +149,7 @@ pub fn is_weakened<L: Ledger>(
     Ok(same)
 }
 
-/// Other facts, from which those of the theorem follow.
+/// Other facts, from which those of the theorem follow. Each pair of different terms takes two steps at most, and each term one more.
 pub fn is_discharged<L: Ledger>(
     alloc: Global,
     arena: &Arena,
@@ -157,7 +159,8 @@ pub fn is_discharged<L: Ledger>(
 ) -> Result<bool, NoMemory>
     requires p { IsHeldAt arena.now p.now }
     requires stated { IsHeldAt arena.now stated.now }
-    ensures { IfOk result (λ r. IsTrue r ↔ IsDischarged (triple_of arena.now p.now) (triple_of arena.now stated.now)) }
+    ensures answer { IfOk result (λ r. IsTrue r ↔ IsDischarged (triple_of arena.now p.now) (triple_of arena.now stated.now)) }
+    ensures steps { (ts : Items Tree) → HasFacts arena.now p.now.facts ts → HasFacts arena.now stated.now.facts ts → steps.new ≤ steps.old + (2 * (length ts * length ts) + length ts) }
 {
     if !keeps_all_but_facts(arena, p, stated) {
         return Ok(false);
@@ -174,7 +177,7 @@ fn keeps_all_but_facts(arena: &Arena, p: &Held, stated: &Held) -> bool
     ensures { IsTrue result ↔ ((side_of arena.now p.now.pre ≡ side_of arena.now stated.now.pre) × (p.now.code.ranges ≡ stated.now.code.ranges) × (side_of arena.now p.now.post ≡ side_of arena.now stated.now.post)) }
 {
     same_side(arena, &p.pre, &stated.pre)
-        && same_code(&p.code, &stated.code)
+        && same_code(p.code.as_code(), stated.code.as_code())
         && same_side(arena, &p.post, &stated.post)
 }
 
@@ -185,7 +188,7 @@ fn keeps_after(arena: &Arena, p: &Held, stated: &Held, facts: &Facts) -> bool
     requires facts { facts.now ≡ stated.now.facts }
     ensures { IsTrue result ↔ ((p.now.code.ranges ≡ stated.now.code.ranges) × (side_of arena.now p.now.post ≡ side_of arena.now stated.now.post) × AreAmong (map (fact_of arena.now) p.now.facts) (map (fact_of arena.now) stated.now.facts)) }
 {
-    same_code(&p.code, &stated.code)
+    same_code(p.code.as_code(), stated.code.as_code())
         && same_side(arena, &p.post, &stated.post)
         && facts.has_all(arena, p.facts.as_slice())
 }
@@ -197,7 +200,7 @@ fn keeps_before(arena: &Arena, p: &Held, stated: &Held, facts: &Facts) -> bool
     requires facts { facts.now ≡ stated.now.facts }
     ensures { IsTrue result ↔ ((p.now.code.ranges ≡ stated.now.code.ranges) × (side_of arena.now p.now.pre ≡ side_of arena.now stated.now.pre) × AreAmong (map (fact_of arena.now) p.now.facts) (map (fact_of arena.now) stated.now.facts)) }
 {
-    same_code(&p.code, &stated.code)
+    same_code(p.code.as_code(), stated.code.as_code())
         && same_side(arena, &p.pre, &stated.pre)
         && facts.has_all(arena, p.facts.as_slice())
 }

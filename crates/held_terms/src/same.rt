@@ -206,6 +206,6 @@ pub fn same_triple(arena: &Arena, a: &Held, b: &Held) -> bool
 {
     same_facts(arena, a.facts.as_slice(), b.facts.as_slice())
         && same_side(arena, &a.pre, &b.pre)
-        && same_code(&a.code, &b.code)
+        && same_code(a.code.as_code(), b.code.as_code())
         && same_side(arena, &a.post, &b.post)
 }

@@ -56,12 +56,15 @@ no-more : (n : ℕ) → n ≤ n * n
 no-more zero = omega arith
 no-more (suc n) = let outer = suc-mul n (suc n) in omega (arith, outer)
 
--- two steps for each term, for each pair, and ten for each term and one more
+-- two steps for each term, for each pair, for each pair with one for each term, and ten for each term and one more
 pub terms_within : (n : ℕ) → 2 * n ≤ 4 * ((n + 1) * (n + 1))
 terms_within n = let e = square n in omega (arith, e)
 
 pub pairs_within : (n : ℕ) → 2 * (n * n) ≤ 4 * ((n + 1) * (n + 1))
 pairs_within n = let e = square n in omega (arith, e)
+
+pub searches_within : (n : ℕ) → 2 * (n * n) + n ≤ 4 * ((n + 1) * (n + 1))
+searches_within n = let e = square n in omega (arith, e)
 
 pub looks_within : (n : ℕ) → 10 * n + 1 ≤ 4 * ((n + 1) * (n + 1))
 looks_within n = let e = square n in let le = no-more n in omega (arith, e, le)

@@ -33,18 +33,19 @@ assertion_terms a = OfWord a.pc ∷ (map (λ r. OfWord r.1) a.regs ++ map OfMem 
 abbrev pub AreTermsPutIn : List Node → List Tree → List Node → Type 0
 AreTermsPutIn before terms after = ArePutIn (trees_of before) (flat_map subterms terms) (trees_of after)
 
--- those of a triple
+-- the terms of a triple: of its facts, its precondition and its postcondition
 abbrev pub triple_terms : TripleTree → List Tree
 triple_terms t = flat_map fact_terms t.facts ++ (assertion_terms t.pre ++ assertion_terms t.post)
 
 -- ---- how many nodes they have
 
+-- how many nodes a term has
 abbrev pub tree_nodes : Tree → ℕ
 tree_nodes (OfWord t) = word_nodes t
 tree_nodes (OfMem m) = mem_nodes m
 tree_nodes (OfCond c) = cond_nodes c
 
--- .. together
+-- how many nodes the terms of a list have together
 abbrev pub nodes_of : List Tree → ℕ
 nodes_of [] = 0
 nodes_of (t ∷ ts) = tree_nodes t + nodes_of ts
@@ -61,7 +62,7 @@ compares_numbers (Weaken p) = false
 compares_numbers (Discharge p) = false
 compares_numbers (UseExit def exit) = false
 
--- .. of a line, which may also forget
+-- whether judging the line only compares numbers of terms, or forgets a theorem
 abbrev pub is_compared : LineTree → Bool
 is_compared (States rule stated) = compares_numbers rule
 is_compared (Loop def cited) = false
@@ -75,7 +76,7 @@ stated_triple_terms (Loop def cited) = []
 stated_triple_terms (Forget k) = []
 stated_triple_terms (Further p stated) = triple_terms stated
 
--- .. that it puts in for variables
+-- the terms that a rule puts in for variables
 abbrev pub put_in_terms : RuleTree → List Tree
 put_in_terms (Axiom address word form) = []
 put_in_terms (Inst p words mems) = map (λ q. OfWord q.1) words ++ map (λ q. OfMem q.1) mems
@@ -87,7 +88,7 @@ put_in_terms (Weaken p) = []
 put_in_terms (Discharge p) = []
 put_in_terms (UseExit def exit) = []
 
--- all of them
+-- the terms of a line: those of the triple that it states, and those that its rule puts in for variables
 abbrev pub whole_line_terms : LineTree → List Tree
 whole_line_terms (States rule stated) = triple_terms stated ++ put_in_terms rule
 whole_line_terms (Loop def cited) = []
@@ -98,16 +99,16 @@ whole_line_terms (Further p stated) = triple_terms stated
 abbrev pub end_terms : LeafTree → List Tree
 end_terms l = flat_map fact_terms l.facts ++ assertion_terms l.post
 
--- .. with what holds where the way begins
+-- the terms of a leaf with those of what holds where the way to it begins
 abbrev pub leaf_terms : AssertionTree → LeafTree → List Tree
 leaf_terms pre l = assertion_terms pre ++ end_terms l
 
--- .. of each leaf of a definition, if there is one
+-- the terms of what the theorems of a definition's leaves have to state, one leaf after the other, if there is the definition
 abbrev pub closing_terms : GroupTree → Option DefTree → List Tree
 closing_terms g None = []
 closing_terms g (Some def) = flat_map (leaf_terms (at_entry g def (parameters g))) (leaves_of g def)
 
--- .. of the definition that a line closes
+-- the terms of what the theorems have to state by which a line closes a definition
 abbrev pub loop_terms : GroupTree → LineTree → List Tree
 loop_terms g (States rule stated) = []
 loop_terms g (Loop def cited) = closing_terms g (slice_get g.defs def)
@@ -132,7 +133,7 @@ abbrev pub theorem_terms : Option TripleTree → List Tree
 theorem_terms None = []
 theorem_terms (Some t) = triple_terms t
 
--- .. of the theorem of which the rule goes on
+-- the terms of the theorems from which a rule goes on
 abbrev pub premise_terms : (ℕ → Option TripleTree) → RuleTree → List Tree
 premise_terms theorem (Axiom address word form) = []
 premise_terms theorem (Inst p words mems) = theorem_terms (theorem p)
@@ -144,32 +145,13 @@ premise_terms theorem (Weaken p) = theorem_terms (theorem p)
 premise_terms theorem (Discharge p) = theorem_terms (theorem p)
 premise_terms theorem (UseExit def exit) = []
 
--- the list has each subterm of the triple that the line states, and of the theorems that it cites
+-- the list has each subterm of the triple that a line states and of the theorems from which its rule goes on
 abbrev pub HasLine : (ℕ → Option TripleTree) → LineTree → List Tree → Type 0
 HasLine theorem (States rule stated) ts = HasSubterms ts (triple_terms stated) × HasSubterms ts (premise_terms theorem rule)
 HasLine theorem (Loop def cited) ts = Unit {0}
 HasLine theorem (Forget k) ts = Unit {0}
 HasLine theorem (Further p stated) ts = Unit {0}
 
--- whether the steps of the rule are bounded by pairs of terms
-abbrev pub is_bounded : RuleTree → Bool
-is_bounded (Axiom address word form) = true
-is_bounded (Inst p words mems) = true
-is_bounded (Frame p) = true
-is_bounded (Compose p q) = true
-is_bounded (ExtendCode p) = true
-is_bounded (Strengthen p) = true
-is_bounded (Weaken p) = true
-is_bounded (Discharge p) = false
-is_bounded (UseExit def exit) = true
-
--- .. of a line
-abbrev pub is_bounded_line : LineTree → Bool
-is_bounded_line (States rule stated) = is_bounded rule
-is_bounded_line (Loop def cited) = false
-is_bounded_line (Forget k) = true
-is_bounded_line (Further p stated) = true
-
--- four steps for each pair of different terms, or of one with none
+-- 4 (T + 1)^2, where T is how many terms a list has
 abbrev pub pair_steps : List Tree → ℕ
 pair_steps ts = 4 * ((length ts + 1) * (length ts + 1))

@@ -5,3 +5,4 @@ pub mod Making
 pub mod Depths
 pub mod Exits
 pub mod Standing
+pub mod Sharing

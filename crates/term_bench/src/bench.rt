@@ -14,18 +14,20 @@ ghost use Rattle.checker.specs.Sound.{Sound};
 ghost use Rattle.term_bench.specs.Bench.{CanCite, state_group, state_history, state_nodes};
 ghost use Rattle.proof_text.specs.inner.OwnCode.{IsOwnCode};
 ghost use Rattle.term_bench.specs.Short.{AreWithin, IsFineShort, IsNeverStated, IsShortInstance, IsStatedBy, LeavesBehind};
-ghost use Rattle.term_bench.specs.Terms.{HasLine, HasSubterms, closing_terms, compares_numbers, is_bounded, is_bounded_line, is_compared, is_loop, loop_terms, nodes_of, pair_steps, premise_terms, put_in_terms, stated_triple_terms, triple_terms, whole_line_terms};
+ghost use Rattle.term_bench.specs.Terms.{HasLine, HasSubterms, closing_terms, compares_numbers, is_compared, is_loop, loop_terms, nodes_of, pair_steps, premise_terms, put_in_terms, stated_triple_terms, triple_terms, whole_line_terms};
 ghost use Rattle.term_bench.specs.inner.Making.{MadeIf};
 ghost use Rattle.term_bench.specs.inner.Put.{IsHeldPut};
 
 use crate::closing::is_closed_by;
+use crate::copies::copy_to_share;
 use crate::put::put_triple;
-use crate::rules::{is_closed, meets, theorem};
+use crate::rules::{code_giver, is_closed, meets, theorem};
 use crate::stating::stated_by;
 use checker::law_of_lines;
-use held_terms::Held;
+use held_terms::{Held, ImageTable, SharedCode};
 use proof_text::{Line, Rule};
 use rv_words::{List, NoMemory};
+use sep_assert::same_code;
 use short_text::Short;
 use std::alloc::Global;
 use std::collections::BTreeMap;
@@ -36,16 +38,19 @@ use term_arena::{Arena, Node, Steps};
 use triple_kernel::{RuleFault, Triple};
 
 /// Judges the lines of a group's proof, one after the other. It keeps their terms once each, how deep they are, as far as that
-/// was asked, the theorems that can still be cited as numbers of terms, and which definitions are closed. A theorem that is
-/// forgotten leaves no place behind it, while the arena keeps its terms.
+/// was asked, room for the images that an instance makes, the theorems that can still be cited as numbers of terms, which
+/// definitions are closed, and the group's code, for theorems to share. A theorem that is forgotten leaves no place behind it,
+/// while the arena keeps its terms.
 #[derive(Drop)]
 pub struct Bench<'g> {
     group: &'g Group,
     arena: Arena,
     depths: List<u8>,
+    images: ImageTable,
     held: BTreeMap<u64, Held>,
     next: u64,
     closed: List<bool>,
+    code: SharedCode,
 }
 
 impl<'g> Model for Bench<'g> {
@@ -77,13 +82,16 @@ impl<'g> Bench<'g> {
         ensures empty { IfOk result (λ b. state_nodes b ≡ []) }
     {
         let closed = none_closed(alloc, group.defs.len())?;
+        let code = copy_to_share(alloc, &group.code)?;
         Ok(Bench {
             group,
             arena: Arena::new(alloc),
             depths: List::new(alloc),
+            images: ImageTable::new(alloc),
             held: BTreeMap::new(alloc),
             next: 0,
             closed,
+            code,
         })
     }
 
@@ -109,9 +117,10 @@ impl<'g> Bench<'g> {
 
     /// Judges the next line. After a refusal the theorems and the closed definitions are as before; the arena may have more
     /// terms. A theorem whose number's successor has more than 64 bits is refused as for want of memory. A line by `frame`,
-    /// `compose` or `extend` takes at most a step for each node of its terms, and one that forgets takes none. One by another rule takes
-    /// at most four steps more for each pair of different terms: those of its triple and of the theorem that it cites. One that closes
-    /// a definition takes at most a step for each node of what the theorems have to state.
+    /// `compose` or `extend` takes at most a step for each node of the triple that it states, and one that forgets takes none. One by
+    /// any other rule takes at most one for each node of its terms and 4 (T + 1)^2 more, where T is how many different terms its
+    /// triple and the theorem that it cites have. One that closes a definition takes at most one for each node of what each of its
+    /// theorems has to state: the entry, the facts of the way and its end.
     pub fn judge<L: Ledger>(
         &mut self,
         alloc: Global,
@@ -125,7 +134,7 @@ impl<'g> Bench<'g> {
         ensures same { OnErr result (state_history self.new ≡ state_history self.old) }
         ensures grows { Extends (state_nodes self.old) (state_nodes self.new) }
         ensures steps { is_compared (line_tree line.now) ≡ true → steps.new ≤ steps.old + nodes_of (stated_triple_terms (line_tree line.now)) }
-        ensures most { is_bounded_line (line_tree line.now) ≡ true → (ts : Items Tree) → HasLine (state_history self.old).theorem (line_tree line.now) ts → steps.new ≤ steps.old + (nodes_of (whole_line_terms (line_tree line.now)) + pair_steps ts) }
+        ensures most { is_loop (line_tree line.now) ≡ false → (ts : Items Tree) → HasLine (state_history self.old).theorem (line_tree line.now) ts → steps.new ≤ steps.old + (nodes_of (whole_line_terms (line_tree line.now)) + pair_steps ts) }
         ensures closing { is_loop (line_tree line.now) ≡ true → steps.new ≤ steps.old + nodes_of (loop_terms (state_group self.old) (line_tree line.now)) }
     {
         match line {
@@ -215,7 +224,7 @@ impl<'g> Bench<'g> {
         ensures same { OnErr result (state_history self.new ≡ state_history self.old) }
         ensures grows { Extends (state_nodes self.old) (state_nodes self.new) }
         ensures steps { compares_numbers (rule_tree rule.now) ≡ true → steps.new ≤ steps.old + nodes_of (triple_terms (triple_tree stated.now)) }
-        ensures most { is_bounded (rule_tree rule.now) ≡ true → (ts : Items Tree) → HasSubterms ts (triple_terms (triple_tree stated.now)) → HasSubterms ts (premise_terms (state_history self.old).theorem (rule_tree rule.now)) → steps.new ≤ steps.old + (nodes_of (triple_terms (triple_tree stated.now) ++ put_in_terms (rule_tree rule.now)) + pair_steps ts) }
+        ensures most { (ts : Items Tree) → HasSubterms ts (triple_terms (triple_tree stated.now)) → HasSubterms ts (premise_terms (state_history self.old).theorem (rule_tree rule.now)) → steps.new ≤ steps.old + (nodes_of (triple_terms (triple_tree stated.now) ++ put_in_terms (rule_tree rule.now)) + pair_steps ts) }
     {
         law_of_lines();
         self.law_of_bench();
@@ -224,7 +233,7 @@ impl<'g> Bench<'g> {
         if !so {
             return Err(RuleFault::NoInstance);
         }
-        self.keep(put)?;
+        self.keep_by(rule, put)?;
         Ok(())
     }
 
@@ -250,7 +259,7 @@ impl<'g> Bench<'g> {
         let Some(h) = made else {
             return Err(RuleFault::NoInstance);
         };
-        self.keep(h)?;
+        self.keep_made(h)?;
         Ok(())
     }
 
@@ -274,6 +283,7 @@ impl<'g> Bench<'g> {
             self.group,
             &mut self.arena,
             &mut self.depths,
+            &mut self.images,
             &self.held,
             self.closed.as_slice(),
             line,
@@ -312,12 +322,13 @@ impl<'g> Bench<'g> {
         ensures same { state_history self.new ≡ state_history self.old }
         ensures grows { Extends (state_nodes self.old) (state_nodes self.new) }
         ensures steps { compares_numbers (rule_tree rule.now) ≡ true → steps.new ≡ steps.old }
-        ensures most { is_bounded (rule_tree rule.now) ≡ true → (ts : Items Tree) → HasSubterms ts (triple_terms (triple_tree stated.now)) → HasSubterms ts (premise_terms (state_history self.old).theorem (rule_tree rule.now)) → steps.new ≤ steps.old + (nodes_of (put_in_terms (rule_tree rule.now)) + pair_steps ts) }
+        ensures most { (ts : Items Tree) → HasSubterms ts (triple_terms (triple_tree stated.now)) → HasSubterms ts (premise_terms (state_history self.old).theorem (rule_tree rule.now)) → steps.new ≤ steps.old + (nodes_of (put_in_terms (rule_tree rule.now)) + pair_steps ts) }
     {
         meets(
             alloc,
             self.group,
             &mut self.arena,
+            &mut self.images,
             &self.held,
             self.closed.as_slice(),
             rule,
@@ -342,6 +353,66 @@ impl<'g> Bench<'g> {
         self.held.insert(self.next, h)?;
         self.next = next;
         Ok(())
+    }
+
+    /// Keeps the next theorem, which the rule states, without a copy of code that is kept already.
+    fn keep_by(&mut self, rule: &Rule, h: Held) -> Result<(), NoMemory>
+        requires there { IsHeldAt (state_nodes self.old) h }
+        requires sound { Sound (state_group self.old) (with_theorem (triple_of (state_nodes self.old) h) (state_history self.old)) }
+        requires meets { Meets (state_group self.old) (state_history self.old) (rule_tree rule.now) (triple_of (state_nodes self.old) h) }
+        ensures group { self.new.0 ≡ self.old.0 }
+        ensures nodes { state_nodes self.new ≡ state_nodes self.old }
+        ensures after { OnOk result (state_history self.new ≡ with_theorem (triple_of (state_nodes self.old) h) (state_history self.old)) }
+        ensures same { OnErr result (self.new ≡ self.old) }
+    {
+        let shared = self.with_shared_code(rule, h)?;
+        self.keep(shared)
+    }
+
+    /// Keeps the next theorem, likewise, where its code may be the group's.
+    fn keep_made(&mut self, h: Held) -> Result<(), NoMemory>
+        requires there { IsHeldAt (state_nodes self.old) h }
+        requires sound { Sound (state_group self.old) (with_theorem (triple_of (state_nodes self.old) h) (state_history self.old)) }
+        ensures group { self.new.0 ≡ self.old.0 }
+        ensures nodes { state_nodes self.new ≡ state_nodes self.old }
+        ensures after { OnOk result (state_history self.new ≡ with_theorem (triple_of (state_nodes self.old) h) (state_history self.old)) }
+        ensures same { OnErr result (self.new ≡ self.old) }
+    {
+        let shared = self.with_own_code(h)?;
+        self.keep(shared)
+    }
+
+    /// The same triple. Its code is in the place of that of the theorem from which the rule takes it, else in that of the bench's.
+    fn with_shared_code(&self, rule: &Rule, h: Held) -> Result<Held, NoMemory>
+        requires { Meets (state_group self.now) (state_history self.now) (rule_tree rule.now) (triple_of (state_nodes self.now) h) }
+        ensures { IfOk result (λ shared. shared ≡ h) }
+    {
+        match code_giver(rule) {
+            Some(p) => self.with_code_of(p, h),
+            None => self.with_own_code(h),
+        }
+    }
+
+    /// The same triple. Its code is in the place of that of a theorem, which is the same.
+    fn with_code_of(&self, p: u64, h: Held) -> Result<Held, NoMemory>
+        requires { IfSome ((state_history self.now).theorem p) (λ q. q.code ≡ h.code.ranges) }
+        ensures { IfOk result (λ shared. shared ≡ h) }
+    {
+        match self.theorem(p) {
+            Some(q) => with_code(h, &q.code),
+            None => Ok(h),
+        }
+    }
+
+    /// The same triple. Where its code is the bench's, it is in the same place.
+    fn with_own_code(&self, h: Held) -> Result<Held, NoMemory>
+        ensures { IfOk result (λ shared. shared ≡ h) }
+    {
+        if same_code(h.code.as_code(), self.code.as_code()) {
+            with_code(h, &self.code)
+        } else {
+            Ok(h)
+        }
     }
 
     /// Closes a definition by a theorem for each of its leaves.
@@ -436,4 +507,18 @@ fn none_closed(alloc: Global, count: usize) -> Result<List<bool>, NoMemory>
         closed.push(false)?;
     }
     Ok(closed)
+}
+
+/// The same triple, with its code in another place.
+fn with_code(h: Held, code: &SharedCode) -> Result<Held, NoMemory>
+    requires { code.now.ranges ≡ h.code.ranges }
+    ensures { IfOk result (λ shared. shared ≡ h) }
+{
+    let code = code.share()?;
+    Ok(Held {
+        facts: h.facts,
+        pre: h.pre,
+        code,
+        post: h.post,
+    })
 }

@@ -156,5 +156,5 @@ fn leads<L: Ledger>(
     is_entry(arena, g, def, &p.pre, steps)
         && same_side(arena, &p.post, &leaf.post)
         && facts.has_all(arena, p.facts.as_slice())
-        && code_within(&p.code, &g.code)
+        && code_within(p.code.as_code(), &g.code)
 }

@@ -17,7 +17,7 @@ use crate::depths::deepen;
 use crate::exits::exit_held;
 use crate::limits::is_within;
 use crate::put::put_triple;
-use held_terms::{Held, instance};
+use held_terms::{Held, ImageTable, instance};
 use instr_axioms::axiom_triple;
 use rv_words::{List, NoMemory};
 use std::alloc::Global;
@@ -51,6 +51,7 @@ pub(crate) fn put_in<L: Ledger>(
     alloc: Global,
     arena: &mut Arena,
     depths: &mut List<u8>,
+    images: &mut ImageTable,
     p: &Held,
     words: &[(u32, u64)],
     mems: &[(u32, u64)],
@@ -63,7 +64,7 @@ pub(crate) fn put_in<L: Ledger>(
     ensures grows { Extends arena.old arena.new }
     ensures depths { AreDepths arena.new depths.new }
 {
-    let h = instance(alloc, arena, p, words, mems, steps)?;
+    let h = instance(alloc, arena, images, p, words, mems, steps)?;
     let made = if_within(arena, depths, h, steps)?;
     Ok(made)
 }

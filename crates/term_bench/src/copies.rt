@@ -2,9 +2,10 @@
 
 ghost use Rattle.std.specs.Prelude.{◌≡◌, IfOk};
 
-use held_terms::{HeldFact, HeldSide, HeldValues};
+use held_terms::{HeldFact, HeldSide, HeldValues, SharedCode};
 use rv_words::{List, NoMemory};
 use std::alloc::Global;
+use word_terms::{Code, copy_code};
 
 fn copy_values(alloc: Global, values: &HeldValues) -> Result<HeldValues, NoMemory>
     ensures { IfOk result (λ copy. copy ≡ values.now) }
@@ -63,4 +64,19 @@ pub(crate) fn copy_side(alloc: Global, side: &HeldSide) -> Result<HeldSide, NoMe
         regs,
         mems,
     })
+}
+
+/// The same code in memory of its own, which triples may share.
+pub(crate) fn copy_to_share(alloc: Global, code: &Code) -> Result<SharedCode, NoMemory>
+    ensures { IfOk result (λ copy. copy.ranges ≡ code.now.ranges) }
+{
+    let copy = copy_code(alloc, code)?;
+    SharedCode::new(alloc, copy)
+}
+
+/// The same code in the same place.
+pub(crate) fn share(code: &SharedCode) -> Result<SharedCode, NoMemory>
+    ensures { IfOk result (λ same. same.ranges ≡ code.now.ranges) }
+{
+    code.share()
 }

@@ -13,13 +13,13 @@ ghost use Rattle.loop_rule.specs.Rule.{exit_triple};
 ghost use Rattle.term_bench.specs.inner.Put.{AreMemsPut, AreWordsPut, IsHeldPut, IsMemPut, IsSidePut, IsValuesPut, IsWordPut};
 ghost use Rattle.term_bench.specs.inner.Exits.{IsHeldWith, IsExitPut};
 
+use crate::copies::copy_to_share;
 use held_terms::{Held, HeldFact, HeldSide, HeldValues};
 use rv_words::{List, NoMemory};
 use std::alloc::Global;
 use std::sync::ledger::Ledger;
 use tailrec_lang::{Def, Exit, Group, def_at, results_at};
 use term_arena::{Arena, Node, Steps};
-use word_terms::copy_code;
 
 /// The triple of that exit of that definition, if there is one.
 pub(crate) fn exit_held<L: Ledger>(
@@ -64,7 +64,7 @@ fn triple_at<L: Ledger>(
     let pre = entry_side(alloc, arena, g, def, &args, steps)?;
     let post = exit_side(alloc, arena, g, x, &results, steps)?;
     let facts = gives(alloc, d, exit, args, results)?;
-    let code = copy_code(alloc, &g.code)?;
+    let code = copy_to_share(alloc, &g.code)?;
     Ok(Held {
         facts,
         pre,

@@ -2,7 +2,10 @@
 
 ghost use Rattle.std.specs.Prelude.{◌≡◌, ◌↔◌, ◌⊎◌, ◌<◌, ◌++◌, All, IfOk, IsFalse, IsTrue, OnOk, false, length, map};
 ghost use Rattle.std.specs.List.{Contains};
+ghost use Rattle.rv_words.specs.Bytes.{over};
+ghost use Rattle.rv_words.specs.Ranges.{AreRanges, range_bytes};
 ghost use Rattle.tailrec_lang.specs.Registers.{AreRegistersFrom};
+ghost use Rattle.sep_assert.specs.Code.{Agree};
 ghost use Rattle.triple_kernel.specs.Rules.{IsDischarged, IsStrengthened, IsWeakened};
 ghost use Rattle.frame_compose.specs.Rules.{AreWith, IsComposed, IsExtended, IsFramed, further, rest_after};
 ghost use Rattle.frame_compose.specs.Rules as spec;
@@ -12,31 +15,31 @@ ghost use Rattle.held_terms.specs.Held.{AreFactsAt, IsFactAt, fact_of, register_
 ghost use Rattle.term_bench.specs.Fine.{AreFineFacts, AreFineMems, AreFineRegisters, IsFineHeld, IsFineSide};
 ghost use Rattle.term_bench.specs.inner.Making.{AddedIfNew, AreFactsOfBoth, ComesFirst, HasParts, MadeIf, number};
 
-use crate::copies::{copy_fact, copy_facts, copy_side};
+use crate::copies::{copy_fact, copy_facts, copy_side, copy_to_share, share};
 use held_terms::{
-    Facts, Held, HeldFact, HeldSide, is_discharged, is_extension, is_strengthened, is_weakened,
-    same_side,
+    Facts, Held, HeldFact, HeldSide, SharedCode, is_discharged, is_extension, is_strengthened,
+    is_weakened, same_side,
 };
 use rv_words::{List, NoMemory};
 use sep_assert::{code_agree, code_join};
 use std::alloc::Global;
 use std::sync::ledger::Ledger;
 use term_arena::{Arena, Steps};
-use word_terms::{Code, copy_code};
+use word_terms::Code;
 
 /// The triple of those parts, in memory of its own.
 fn with_parts(
     alloc: Global,
     facts: &[HeldFact],
     pre: &HeldSide,
-    code: &Code,
+    code: &SharedCode,
     post: &HeldSide,
 ) -> Result<Held, NoMemory>
     ensures { IfOk result (λ t. HasParts t facts.now pre.now code.now.ranges post.now) }
 {
     let facts = copy_facts(alloc, facts)?;
     let pre = copy_side(alloc, pre)?;
-    let code = copy_code(alloc, code)?;
+    let code = share(code)?;
     let post = copy_side(alloc, post)?;
     Ok(Held {
         facts,
@@ -57,7 +60,8 @@ pub(crate) fn extended(
     requires code { IsOwnCode code.now.ranges }
     ensures { IfOk result (λ o. MadeIf arena.now (λ t. IsExtended (triple_of arena.now p.now) t × (t.code ≡ code.now.ranges)) o) }
 {
-    let t = with_parts(alloc, p.facts.as_slice(), &p.pre, code, &p.post)?;
+    let code = copy_to_share(alloc, code)?;
+    let t = with_parts(alloc, p.facts.as_slice(), &p.pre, &code, &p.post)?;
     if !is_extension(arena, p, &t) {
         return Ok(None);
     }
@@ -139,12 +143,12 @@ pub(crate) fn composed(
     requires q { IsFineHeld arena.now q.now }
     ensures { IfOk result (λ o. MadeIf arena.now (λ t. IsComposed (triple_of arena.now p.now) (triple_of arena.now q.now) t) o) }
 {
-    if !same_side(arena, &p.post, &q.pre) || !code_agree(&p.code, &q.code) {
+    if !same_side(arena, &p.post, &q.pre) || !code_agree(p.code.as_code(), q.code.as_code()) {
         return Ok(None);
     }
     let facts = facts_of_both(alloc, arena, p.facts.as_slice(), q.facts.as_slice())?;
     let pre = copy_side(alloc, &p.pre)?;
-    let code = code_join(alloc, &p.code, &q.code)?;
+    let code = joined_code(alloc, &p.code, &q.code)?;
     let post = copy_side(alloc, &q.post)?;
     Ok(Some(Held {
         facts,
@@ -152,6 +156,18 @@ pub(crate) fn composed(
         code,
         post,
     }))
+}
+
+/// The code of both, which may be shared.
+fn joined_code(alloc: Global, a: &SharedCode, b: &SharedCode) -> Result<SharedCode, NoMemory>
+    requires first { AreRanges a.now.ranges }
+    requires second { AreRanges b.now.ranges }
+    requires agree { Agree (range_bytes a.now.ranges) (range_bytes b.now.ranges) }
+    ensures bytes { IfOk result (λ c. range_bytes c.ranges ≡ over (range_bytes a.now.ranges) (range_bytes b.now.ranges)) }
+    ensures ranges { IfOk result (λ c. AreRanges c.ranges) }
+{
+    let code = code_join(alloc, a.as_code(), b.as_code())?;
+    SharedCode::new(alloc, code)
 }
 
 /// The first facts, and then those of the second that aren't among them, in order.
@@ -215,7 +231,7 @@ pub(crate) fn framed(
     }
     let facts = copy_facts(alloc, p.facts.as_slice())?;
     let pre = with_further(alloc, &p.pre, regs, mems)?;
-    let code = copy_code(alloc, &p.code)?;
+    let code = share(&p.code)?;
     let post = with_further(alloc, &p.post, regs, mems)?;
     Ok(Some(Held {
         facts,

@@ -11,6 +11,7 @@ ghost use Rattle.term_arena.specs.Arena.{Extends, OfCond, OfMem, OfWord, cond_no
 ghost use Rattle.term_bench.specs.Terms.{AreTermsPutIn, assertion_terms, fact_terms, nodes_of, triple_terms, values_terms};
 ghost use Rattle.term_bench.specs.inner.Put.{AreFactsPut, AreMemTermsPut, AreMemsPut, AreRegistersPut, AreWordsPut, IsCondPut, IsFactPut, IsHeldPut, IsMemPut, IsSidePut, IsValuesPut, IsWordPut};
 
+use crate::copies::copy_to_share;
 use held_terms::{Held, HeldFact, HeldSide, HeldValues};
 use rv_words::{List, NoMemory};
 use sep_assert::Assertion;
@@ -19,7 +20,7 @@ use std::sync::ledger::Ledger;
 use tailrec_lang::Values;
 use term_arena::{Arena, Steps};
 use triple_kernel::{Fact, Triple};
-use word_terms::{Cond, Mem, Word, copy_code};
+use word_terms::{Cond, Mem, Word};
 
 /// The triple of the numbers of its terms.
 pub fn put_triple<L: Ledger>(
@@ -35,7 +36,7 @@ pub fn put_triple<L: Ledger>(
     let facts = put_facts(alloc, arena, t.facts.as_slice(), steps)?;
     let pre = put_side(alloc, arena, &t.pre, steps)?;
     let post = put_side(alloc, arena, &t.post, steps)?;
-    let code = copy_code(alloc, &t.code)?;
+    let code = copy_to_share(alloc, &t.code)?;
     Ok(Held {
         facts,
         pre,

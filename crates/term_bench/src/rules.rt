@@ -13,12 +13,13 @@ ghost use Rattle.term_arena.specs.Arena.{Extends, OfMem, OfWord, Tree};
 ghost use Rattle.held_terms.specs.Held.{IsHeldAt, triple_of};
 ghost use Rattle.checker.specs.Instance.{Meets, put_for};
 ghost use Rattle.term_bench.specs.Bench.{AreHeldAt, history_from, is_closed_in, theorem_at};
-ghost use Rattle.term_bench.specs.Terms.{HasSubterms, compares_numbers, is_bounded, nodes_of, pair_steps, premise_terms, put_in_terms, theorem_terms, triple_terms};
+ghost use Rattle.term_bench.specs.Terms.{HasSubterms, compares_numbers, nodes_of, pair_steps, premise_terms, put_in_terms, theorem_terms, triple_terms};
 ghost use Rattle.term_bench.specs.inner.Put.{IsHeldPut};
+ghost use Rattle.term_bench.specs.inner.Sharing.{code_giver};
 
 use crate::put::{put_mem_terms, put_word_terms};
 use held_terms::{
-    Held, is_composition, is_discharged, is_exit, is_extension, is_frame, is_instance,
+    Held, ImageTable, is_composition, is_discharged, is_exit, is_extension, is_frame, is_instance,
     is_strengthened, is_weakened,
 };
 use instr_axioms::axiom_triple;
@@ -48,6 +49,7 @@ pub(crate) fn meets<L: Ledger>(
     alloc: Global,
     g: &Group,
     arena: &mut Arena,
+    images: &mut ImageTable,
     held: &BTreeMap<u64, Held>,
     closed: &[bool],
     rule: &Rule,
@@ -60,11 +62,11 @@ pub(crate) fn meets<L: Ledger>(
     ensures answer { IfOk result (λ r. IsTrue r ↔ Meets (group_tree g.now) (history_from 0 arena.old held.now.entries closed.now) (rule_tree rule.now) (triple_tree stated.now)) }
     ensures grows { Extends arena.old arena.new }
     ensures steps { compares_numbers (rule_tree rule.now) ≡ true → steps.new ≡ steps.old }
-    ensures most { is_bounded (rule_tree rule.now) ≡ true → (ts : Items Tree) → HasSubterms ts (triple_terms (triple_tree stated.now)) → HasSubterms ts (premise_terms (theorem_at arena.old held.now.entries) (rule_tree rule.now)) → steps.new ≤ steps.old + (nodes_of (put_in_terms (rule_tree rule.now)) + pair_steps ts) }
+    ensures most { (ts : Items Tree) → HasSubterms ts (triple_terms (triple_tree stated.now)) → HasSubterms ts (premise_terms (theorem_at arena.old held.now.entries) (rule_tree rule.now)) → steps.new ≤ steps.old + (nodes_of (put_in_terms (rule_tree rule.now)) + pair_steps ts) }
 {
     match rule {
         Rule::Axiom(addr, word, form) => by_axiom(alloc, *addr, *word, *form, stated),
-        Rule::Inst(p, terms) => by_inst(alloc, arena, held, *p, terms, put, steps),
+        Rule::Inst(p, terms) => by_inst(alloc, arena, images, held, *p, terms, put, steps),
         Rule::Frame(p) => Ok(by_frame(arena, held, *p, put)),
         Rule::Compose(p, q) => Ok(by_compose(alloc, arena, held, *p, *q, put)),
         Rule::ExtendCode(p) => Ok(by_extend_code(arena, held, *p, put)),
@@ -72,6 +74,23 @@ pub(crate) fn meets<L: Ledger>(
         Rule::Weaken(p) => by_weaken(alloc, arena, held, *p, put, steps),
         Rule::Discharge(p) => by_discharge(alloc, arena, held, *p, put, steps),
         Rule::UseExit(def, exit) => Ok(by_use_exit(arena, g, closed, *def, *exit, put, steps)),
+    }
+}
+
+/// The theorem whose code the triple has that a line by the rule states, if it has that of one.
+pub(crate) fn code_giver(rule: &Rule) -> Option<u64>
+    ensures { result ≡ code_giver (rule_tree rule.now) }
+{
+    match rule {
+        Rule::Axiom(_, _, _) => None,
+        Rule::Inst(p, _) => Some(*p),
+        Rule::Frame(p) => Some(*p),
+        Rule::Compose(_, _) => None,
+        Rule::ExtendCode(_) => None,
+        Rule::Strengthen(p) => Some(*p),
+        Rule::Weaken(p) => Some(*p),
+        Rule::Discharge(p) => Some(*p),
+        Rule::UseExit(_, _) => None,
     }
 }
 
@@ -94,6 +113,7 @@ fn by_axiom(
 fn by_inst<L: Ledger>(
     alloc: Global,
     arena: &mut Arena,
+    images: &mut ImageTable,
     held: &BTreeMap<u64, Held>,
     p: u64,
     terms: &Sub,
@@ -107,7 +127,7 @@ fn by_inst<L: Ledger>(
     ensures steps { (ts : Items Tree) → HasSubterms ts (theorem_terms (theorem_at arena.old held.now.entries p)) → steps.new ≤ steps.old + (nodes_of (map (λ q. OfWord q.1) (map word_put_in terms.now.words) ++ map (λ q. OfMem q.1) (map mem_put_in terms.now.mems)) + 2 * length ts) }
 {
     match theorem(arena, held, p) {
-        Some(p) => is_instance_by(alloc, arena, p, terms, stated, steps),
+        Some(p) => is_instance_by(alloc, arena, images, p, terms, stated, steps),
         None => Ok(false),
     }
 }
@@ -116,6 +136,7 @@ fn by_inst<L: Ledger>(
 fn is_instance_by<L: Ledger>(
     alloc: Global,
     arena: &mut Arena,
+    images: &mut ImageTable,
     p: &Held,
     terms: &Sub,
     stated: &Held,
@@ -132,6 +153,7 @@ fn is_instance_by<L: Ledger>(
     let same = is_instance(
         alloc,
         arena,
+        images,
         p,
         words.as_slice(),
         mems.as_slice(),
@@ -248,7 +270,8 @@ fn by_discharge<L: Ledger>(
 ) -> Result<bool, NoMemory>
     requires held { AreHeldAt arena.now held.now.entries }
     requires stated { IsHeldAt arena.now stated.now }
-    ensures { IfOk result (λ r. IsTrue r ↔ IsSomeAnd (theorem_at arena.now held.now.entries p) (λ p. IsDischarged p (triple_of arena.now stated.now))) }
+    ensures answer { IfOk result (λ r. IsTrue r ↔ IsSomeAnd (theorem_at arena.now held.now.entries p) (λ p. IsDischarged p (triple_of arena.now stated.now))) }
+    ensures steps { (ts : Items Tree) → HasSubterms ts (triple_terms (triple_of arena.now stated.now)) → HasSubterms ts (theorem_terms (theorem_at arena.now held.now.entries p)) → steps.new ≤ steps.old + (2 * (length ts * length ts) + length ts) }
 {
     match theorem(arena, held, p) {
         Some(p) => is_discharged(alloc, arena, p, stated, steps),

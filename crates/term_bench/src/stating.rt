@@ -19,7 +19,7 @@ ghost use Rattle.term_bench.specs.inner.Making.{MadeIf};
 use crate::computed::{axiom, exit, put_in};
 use crate::making::{composed, discharged, extended, framed, strengthened, weakened};
 use crate::rules::is_closed;
-use held_terms::{Held, HeldFact, HeldSide};
+use held_terms::{Held, HeldFact, HeldSide, ImageTable};
 use rv_words::{List, NoMemory};
 use short_text::Short;
 use std::alloc::Global;
@@ -35,6 +35,7 @@ pub(crate) fn stated_by<L: Ledger>(
     g: &Group,
     arena: &mut Arena,
     depths: &mut List<u8>,
+    images: &mut ImageTable,
     held: &BTreeMap<u64, Held>,
     closed: &[bool],
     line: &Short,
@@ -50,7 +51,9 @@ pub(crate) fn stated_by<L: Ledger>(
 {
     match line {
         Short::Axiom(addr, word, form) => axiom(alloc, arena, depths, *addr, *word, *form, steps),
-        Short::Inst(p, words, mems) => by_inst(alloc, arena, depths, held, *p, words, mems, steps),
+        Short::Inst(p, words, mems) => by_inst(
+            alloc, arena, depths, images, held, *p, words, mems, steps,
+        ),
         Short::UseExit(def, number) => {
             by_use_exit(alloc, g, arena, depths, closed, *def, *number, steps)
         }
@@ -81,6 +84,7 @@ fn by_inst<L: Ledger>(
     alloc: Global,
     arena: &mut Arena,
     depths: &mut List<u8>,
+    images: &mut ImageTable,
     held: &BTreeMap<u64, Held>,
     p: u64,
     words: &List<(u32, u64)>,
@@ -97,7 +101,16 @@ fn by_inst<L: Ledger>(
     match fine_theorem(arena, held, p) {
         Some(q) => {
             let words = words.as_slice();
-            let made = put_in(alloc, arena, depths, q, words, mems.as_slice(), steps)?;
+            let made = put_in(
+                alloc,
+                arena,
+                depths,
+                images,
+                q,
+                words,
+                mems.as_slice(),
+                steps,
+            )?;
             Ok(made)
         }
         None => Ok(None),

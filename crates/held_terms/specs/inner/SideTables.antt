@@ -6,7 +6,7 @@ use Rattle.term_arena.specs.Arena.{Tree, mem_of}
 use Rattle.triple_kernel.specs.Tree.{FactTree}
 use Rattle.triple_kernel.specs.Swap.{SwapMem, SwapRegister}
 use Rattle.held_terms.specs.Held.{register_of}
-use Rattle.held_terms.specs.Subterms.{HasRegisters, HasMems}
+use Rattle.held_terms.specs.Subterms.{HasRegisters, HasTerms}
 use Rattle.held_terms.specs.inner.Table.{Entry, IsDecided, Went}
 
 -- the list has each subterm of both lists' terms
@@ -14,7 +14,7 @@ abbrev pub HasBothRegisters : List Node → List (ℕ × ℕ) → List (ℕ × �
 HasBothRegisters ns a b ts = HasRegisters ns a ts × HasRegisters ns b ts
 
 abbrev pub HasBothMems : List Node → List ℕ → List ℕ → List Tree → Type 0
-HasBothMems ns a b ts = HasMems ns a ts × HasMems ns b ts
+HasBothMems ns a b ts = HasTerms ns a ts × HasTerms ns b ts
 
 -- each entry of the table is right
 pub record AreRight (ns : List Node) (facts : List FactTree) (known : List Entry) : Type 0 where

@@ -1,10 +1,11 @@
--- A table of pairs of numbers, each with the answer whether their terms may be swapped.
+-- A table of pairs of numbers, each with the answer whether their terms may be swapped, or are alike where they are conditions.
 use Rattle.std.specs.Prelude.{◌≡◌, ◌↔◌, ℕ, ◌+◌, ◌*◌, ◌<◌, ◌≤◌, Bool, IsTrue, List, Some, ◌++◌, length, map, slice_get}
 use Rattle.std.specs.List.{Contains}
 use Rattle.term_arena.specs.declared.node.Node.{Node}
-use Rattle.term_arena.specs.Arena.{Tree, OfWord, OfMem, tree_of}
+use Rattle.term_arena.specs.Arena.{Tree, OfWord, OfMem, OfCond, tree_of}
 use Rattle.triple_kernel.specs.Tree.{FactTree}
 use Rattle.triple_kernel.specs.Swap.{SwapWord, SwapMem}
+use Rattle.triple_kernel.specs.Rules.{Alike}
 use Rattle.held_terms.specs.Subterms.{HasTree}
 
 -- the list has each subterm of both
@@ -21,9 +22,11 @@ key_of p = (p.0, p.1)
 abbrev pub keys_of : List Entry → List (ℕ × ℕ)
 keys_of known = map key_of known
 
+-- one may stand for the other; conditions are alike
 abbrev pub SwapTrees : List FactTree → Tree → Tree → Type 0
 SwapTrees facts (OfWord t) (OfWord u) = SwapWord facts t u
 SwapTrees facts (OfMem m) (OfMem n) = SwapMem facts m n
+SwapTrees facts (OfCond c) (OfCond d) = Alike facts c d
 SwapTrees facts x y = ⊥
 
 -- the entry's answer is right

@@ -1,5 +1,5 @@
 use Rattle.term_arena.proofs.TreeLemmas.{number_within}
-use Rattle.held_terms.proofs.CondLemmas.{conds_fit, conds_alike}
+use Rattle.held_terms.proofs.CondLemmas.{conds_fit, conds_alike, conds_under}
 use Rattle.held_terms.proofs.conditions.cond_pairs.Goals as goal
 
 pub returns-clause-fit : goal.returns-clause-fit
@@ -14,3 +14,7 @@ node-n-requires g c = number_within c.args.arena.now c.args.a _ c.requires.a
 
 pub node-m-requires : goal.node-m-requires
 node-m-requires g c = number_within c.args.arena.now c.args.b _ c.requires.b
+
+pub returns-clause-under : goal.returns-clause-under
+returns-clause-under g c =
+    conds_under c.args.arena.now c.args.a c.args.b c.node-n.result c.node-m.result _ c.node-n.ensures.tree c.node-m.ensures.tree c.node-n.ensures.children c.node-m.ensures.children c.cond_pairs_of.ensures

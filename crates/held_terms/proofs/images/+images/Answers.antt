@@ -1,6 +1,7 @@
-use Rattle.std.proofs.Common.{◌+◌, ◌≤◌, refl, sym, ◌∙◌, arith, rules}
+use Rattle.std.proofs.Common.{◌+◌, ◌≤◌, refl, sym, subst, ◌∙◌, arith, rules}
 use Rattle.term_arena.specs.declared.node.Node.TheVariants as node
-use Rattle.held_terms.proofs.ImageLemmas.{constant_image, get_stays, image_stays, ready_begun, ready_kept, ready_mem, ready_same, ready_word}
+use Rattle.held_terms.specs.Image.{IsReady, Known}
+use Rattle.held_terms.proofs.ImageLemmas.{constant_image, get_stays, image_stays, ready_begun, ready_kept, ready_mem, ready_word}
 use Rattle.held_terms.specs.inner.Imaging.{HasTerm}
 use Rattle.held_terms.proofs.InstanceLemmas.{extends_next}
 use Rattle.held_terms.proofs.ImagingLemmas.{children_under, ended_kept, ended_none, free_begun, imaged_begun, imaged_child, imaged_failed, imaged_first, imaged_kept, imaged_made, imaged_none, imaged_same, known_image, not_begun, one_longer}
@@ -180,7 +181,7 @@ image_over-returns-in-MemVar-clause-imaged g t c =
 
 pub image-returns-in-Some-clause-image : goal.image-returns-in-Some-clause-image
 image-returns-in-Some-clause-image g t c =
-    c.requires.ready.images.each c.args.x c.in-Some.y (known_image _ _ (sym c.image_in.ensures ∙ c.in-Some.is))
+    c.requires.ready.images.each c.args.x c.in-Some.y (known_image _ _ (sym c.get.ensures ∙ c.in-Some.is))
 
 pub image-returns-in-Some-clause-ended : goal.image-returns-in-Some-clause-ended
 image-returns-in-Some-clause-ended g t c =
@@ -192,27 +193,27 @@ image-returns-in-Some-clause-imaged g t c =
 
 pub image-returns-in_err-insert-clause-ready : goal.image-returns-in_err-insert-clause-ready
 image-returns-in_err-insert-clause-ready g t c =
-    ready_same c.args.arena.now c.args.words.now c.args.mems.now c.args.known.now c.insert.new.self c.in_err-insert.ensures.err c.requires.ready
+    subst (λ (known : Known). IsReady c.args.arena.now c.args.words.now c.args.mems.now known) (sym c.in_err-insert.ensures.err) c.requires.ready
 
 pub image-returns-in_err-insert-clause-imaged : goal.image-returns-in_err-insert-clause-imaged
 image-returns-in_err-insert-clause-imaged g t c =
-    imaged_same c.args.arena.now c.args.arena.now _ c.args.known.now c.args.known.now c.insert.new.self c.args.steps.now c.args.steps.now c.in_err-insert.ensures.err c.insert.ensures.ordered (imaged_none c.args.arena.now _ c.args.known.now c.args.steps.now c.args.steps.now (omega arith))
+    imaged_same c.args.arena.now c.args.arena.now _ c.args.known.now c.args.known.now c.insert.new.self c.args.steps.now c.args.steps.now c.in_err-insert.ensures.err (imaged_none c.args.arena.now _ c.args.known.now c.args.steps.now c.args.steps.now (omega arith))
 
 pub image-returns-in_err-y-clause-imaged : goal.image-returns-in_err-y-clause-imaged
 image-returns-in_err-y-clause-imaged g t c =
     imaged_begun c.args.arena.now c.image_over.new.arena c.args.x c.args.known.now c.insert.new.self c.image_over.new.known c.args.steps.now c.image_over.new.steps c.requires.there c.in_ok-insert.ensures.updates
-    (one_longer _ _ _ _ c.in_ok-insert.ensures.old (not_begun c.args.known.now c.args.x (sym c.in_default.ensures) c.requires.free) c.in_ok-insert.ensures.len)
+    (one_longer _ _ _ (not_begun c.args.known.now c.args.x (sym c.in_default.ensures) c.requires.free) c.in_ok-insert.ensures.len)
     c.insert.ensures.ordered c.image_over.ensures.imaged
 
 pub image-returns-in_err-insert-2-clause-ready : goal.image-returns-in_err-insert-2-clause-ready
 image-returns-in_err-insert-2-clause-ready g t c =
-    ready_same c.image_over.new.arena c.args.words.now c.args.mems.now c.image_over.new.known c.insert-2.new.self c.in_err-insert-2.ensures.err c.image_over.ensures.ready
+    subst (λ (known : Known). IsReady c.image_over.new.arena c.args.words.now c.args.mems.now known) (sym c.in_err-insert-2.ensures.err) c.image_over.ensures.ready
 
 pub image-returns-in_err-insert-2-clause-imaged : goal.image-returns-in_err-insert-2-clause-imaged
 image-returns-in_err-insert-2-clause-imaged g t c =
-    imaged_same c.args.arena.now c.image_over.new.arena _ c.args.known.now c.image_over.new.known c.insert-2.new.self c.args.steps.now c.image_over.new.steps c.in_err-insert-2.ensures.err c.insert-2.ensures.ordered
+    imaged_same c.args.arena.now c.image_over.new.arena _ c.args.known.now c.image_over.new.known c.insert-2.new.self c.args.steps.now c.image_over.new.steps c.in_err-insert-2.ensures.err
     (imaged_begun c.args.arena.now c.image_over.new.arena c.args.x c.args.known.now c.insert.new.self c.image_over.new.known c.args.steps.now c.image_over.new.steps c.requires.there c.in_ok-insert.ensures.updates
-    (one_longer _ _ _ _ c.in_ok-insert.ensures.old (not_begun c.args.known.now c.args.x (sym c.in_default.ensures) c.requires.free) c.in_ok-insert.ensures.len)
+    (one_longer _ _ _ (not_begun c.args.known.now c.args.x (sym c.in_default.ensures) c.requires.free) c.in_ok-insert.ensures.len)
     c.insert.ensures.ordered c.image_over.ensures.imaged)
 
 pub image-returns-clause-ready : goal.image-returns-clause-ready
@@ -227,7 +228,7 @@ pub image-returns-clause-imaged : goal.image-returns-clause-imaged
 image-returns-clause-imaged g t c =
     imaged_kept c.args.arena.now c.image_over.new.arena c.args.x c.in_ok-y.y _ c.args.known.now c.image_over.new.known c.insert-2.new.self c.args.steps.now c.image_over.new.steps c.requires.there c.image_over.ensures.grows c.in_ok-insert-2.ensures.updates c.in_ok-insert-2.ensures.len c.insert-2.ensures.ordered
     (imaged_begun c.args.arena.now c.image_over.new.arena c.args.x c.args.known.now c.insert.new.self c.image_over.new.known c.args.steps.now c.image_over.new.steps c.requires.there c.in_ok-insert.ensures.updates
-    (one_longer _ _ _ _ c.in_ok-insert.ensures.old (not_begun c.args.known.now c.args.x (sym c.in_default.ensures) c.requires.free) c.in_ok-insert.ensures.len)
+    (one_longer _ _ _ (not_begun c.args.known.now c.args.x (sym c.in_default.ensures) c.requires.free) c.in_ok-insert.ensures.len)
     c.insert.ensures.ordered c.image_over.ensures.imaged)
 
 pub image-image_over-requires : goal.image-image_over-requires

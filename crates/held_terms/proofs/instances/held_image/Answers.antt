@@ -1,5 +1,6 @@
-use Rattle.std.proofs.Common.{List, sym, subst}
+use Rattle.std.proofs.Common.{List, ap, sym, subst}
 use Rattle.std.specs.List.{AllZip}
+use Rattle.word_terms.specs.declared.code.Code.{Code}
 use Rattle.held_terms.specs.declared.held.HeldFact.{HeldFact}
 use Rattle.held_terms.specs.declared.held.Held.{Held}
 use Rattle.held_terms.specs.Image.{put_for_numbers}
@@ -34,7 +35,7 @@ returns-clause-there g c =
     let parts : AreParts now (put_for_numbers now words mems) c.args.p.now q = record {
       facts = facts_stay one now words mems c.fact_images.new.known c.fact_images.ensures.ready one_now c.args.p.now.facts c.in_ok-facts.facts facts;
       pre = side_stays two now words mems c.side_image.new.known c.side_image.ensures.ready two_now c.args.p.now.pre c.in_ok-pre.pre c.in_ok-pre.ensures.image;
-      code = c.in_ok-code.ensures;
+      code = ap (λ (code : Code). code.ranges) c.in_ok-code.ensures;
       post = c.in_ok-post.ensures.image;
     } in
     held_there now (put_for_numbers now words mems) c.args.p.now q (held_still c.args.arena.now now grown c.args.p.now c.requires.p) parts
@@ -54,7 +55,7 @@ returns-clause-instance g c =
     let parts : AreParts now (put_for_numbers now words mems) c.args.p.now q = record {
       facts = facts_stay one now words mems c.fact_images.new.known c.fact_images.ensures.ready one_now c.args.p.now.facts c.in_ok-facts.facts facts;
       pre = side_stays two now words mems c.side_image.new.known c.side_image.ensures.ready two_now c.args.p.now.pre c.in_ok-pre.pre c.in_ok-pre.ensures.image;
-      code = c.in_ok-code.ensures;
+      code = ap (λ (code : Code). code.ranges) c.in_ok-code.ensures;
       post = c.in_ok-post.ensures.image;
     } in
     instance_of c.args.arena.now now words mems c.args.p.now q grown c.requires.ready.sub c.requires.p parts

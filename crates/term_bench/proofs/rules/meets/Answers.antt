@@ -1,4 +1,4 @@
-use Rattle.std.proofs.Common.{◌+◌, ◌≤◌, length, true≢false, ap, refl, sym, ◌∙◌, subst, arith, IsTrue}
+use Rattle.std.proofs.Common.{◌+◌, ◌*◌, ◌≤◌, length, true≢false, ap, refl, sym, ◌∙◌, subst, arith, IsTrue}
 use Rattle.std.proofs.lemmas.Result.{IfOk-weaker}
 use Rattle.tailrec_lang.specs.Tree.{group_tree}
 use Rattle.triple_kernel.specs.Tree.{TripleTree, triple_tree}
@@ -6,8 +6,8 @@ use Rattle.proof_text.specs.declared.line.Rule.{Rule}
 use Rattle.proof_text.specs.Line.{rule_tree}
 use Rattle.held_terms.specs.Held.{triple_of}
 use Rattle.term_bench.specs.Bench.{history_from, theorem_at}
-use Rattle.term_bench.specs.Terms.{HasSubterms, compares_numbers, is_bounded, nodes_of, pair_steps, premise_terms, put_in_terms, triple_terms}
-use Rattle.term_bench.proofs.PutSteps.{looks_within, pairs_within, terms_within}
+use Rattle.term_bench.specs.Terms.{HasSubterms, compares_numbers, nodes_of, pair_steps, premise_terms, put_in_terms, triple_terms}
+use Rattle.term_bench.proofs.PutSteps.{looks_within, pairs_within, searches_within, terms_within}
 use Rattle.term_bench.proofs.RuleLemmas.{rule_row}
 use Rattle.term_bench.proofs.rules.meets.Goals as goal
 
@@ -39,7 +39,7 @@ returns-in-Weaken-clause-answer g c =
 pub returns-in-Discharge-clause-answer : goal.returns-in-Discharge-clause-answer
 returns-in-Discharge-clause-answer g c =
     let a = c.args in
-    IfOk-weaker c.by_discharge.result _ _ (λ r is. rule_row (group_tree a.g.now) (history_from 0 a.arena.now a.held.now.entries a.closed.now) (rule_tree a.rule.now) _ (triple_tree a.stated.now) (triple_of a.arena.now a.put.now) (IsTrue r) (ap rule_tree c.in-Discharge.is) c.requires.put.is is) c.by_discharge.ensures
+    IfOk-weaker c.by_discharge.result _ _ (λ r is. rule_row (group_tree a.g.now) (history_from 0 a.arena.now a.held.now.entries a.closed.now) (rule_tree a.rule.now) _ (triple_tree a.stated.now) (triple_of a.arena.now a.put.now) (IsTrue r) (ap rule_tree c.in-Discharge.is) c.requires.put.is is) c.by_discharge.ensures.answer
 
 pub returns-in-UseExit-clause-answer : goal.returns-in-UseExit-clause-answer
 returns-in-UseExit-clause-answer g c =
@@ -79,43 +79,47 @@ pub returns-in-ExtendCode-clause-steps : goal.returns-in-ExtendCode-clause-steps
 returns-in-ExtendCode-clause-steps g c = λ e. refl
 
 pub returns-in-Axiom-clause-most : goal.returns-in-Axiom-clause-most
-returns-in-Axiom-clause-most g c = λ e ts has cited. omega arith
+returns-in-Axiom-clause-most g c = λ ts has cited. omega arith
 
 pub returns-in-Frame-clause-most : goal.returns-in-Frame-clause-most
-returns-in-Frame-clause-most g c = λ e ts has cited. omega arith
+returns-in-Frame-clause-most g c = λ ts has cited. omega arith
 
 pub returns-in-Compose-clause-most : goal.returns-in-Compose-clause-most
-returns-in-Compose-clause-most g c = λ e ts has cited. omega arith
+returns-in-Compose-clause-most g c = λ ts has cited. omega arith
 
 pub returns-in-ExtendCode-clause-most : goal.returns-in-ExtendCode-clause-most
-returns-in-ExtendCode-clause-most g c = λ e ts has cited. omega arith
+returns-in-ExtendCode-clause-most g c = λ ts has cited. omega arith
 
 pub returns-in-Inst-clause-most : goal.returns-in-Inst-clause-most
-returns-in-Inst-clause-most g c = λ e ts has cited.
+returns-in-Inst-clause-most g c = λ ts has cited.
     let within = terms_within (length ts) in
     subst (λ (r : Rule). HasSubterms ts (premise_terms (theorem_at c.args.arena.now c.args.held.now.entries) (rule_tree r)) → c.by_inst.new.steps ≤ c.args.steps.now + (nodes_of (put_in_terms (rule_tree r)) + pair_steps ts)) (sym c.in-Inst.is)
     (λ h. let le = c.by_inst.ensures.steps ts h in omega (arith, le, within)) cited
 
 pub returns-in-Strengthen-clause-most : goal.returns-in-Strengthen-clause-most
-returns-in-Strengthen-clause-most g c = λ e ts has cited.
+returns-in-Strengthen-clause-most g c = λ ts has cited.
     let stated = subst (λ (t : TripleTree). HasSubterms ts (triple_terms t)) (sym c.requires.put.is) has in
     let within = pairs_within (length ts) in
     subst (λ (r : Rule). HasSubterms ts (premise_terms (theorem_at c.args.arena.now c.args.held.now.entries) (rule_tree r)) → c.by_strengthen.new.steps ≤ c.args.steps.now + (nodes_of (put_in_terms (rule_tree r)) + pair_steps ts)) (sym c.in-Strengthen.is)
     (λ h. let le = c.by_strengthen.ensures.steps ts stated h in omega (arith, le, within)) cited
 
 pub returns-in-Weaken-clause-most : goal.returns-in-Weaken-clause-most
-returns-in-Weaken-clause-most g c = λ e ts has cited.
+returns-in-Weaken-clause-most g c = λ ts has cited.
     let stated = subst (λ (t : TripleTree). HasSubterms ts (triple_terms t)) (sym c.requires.put.is) has in
     let within = pairs_within (length ts) in
     subst (λ (r : Rule). HasSubterms ts (premise_terms (theorem_at c.args.arena.now c.args.held.now.entries) (rule_tree r)) → c.by_weaken.new.steps ≤ c.args.steps.now + (nodes_of (put_in_terms (rule_tree r)) + pair_steps ts)) (sym c.in-Weaken.is)
     (λ h. let le = c.by_weaken.ensures.steps ts stated h in omega (arith, le, within)) cited
 
 pub returns-in-UseExit-clause-most : goal.returns-in-UseExit-clause-most
-returns-in-UseExit-clause-most g c = λ e ts has cited.
+returns-in-UseExit-clause-most g c = λ ts has cited.
     let stated = subst (λ (t : TripleTree). HasSubterms ts (triple_terms t)) (sym c.requires.put.is) has in
     let within = looks_within (length ts) in
     subst (λ (r : Rule). HasSubterms ts (premise_terms (theorem_at c.args.arena.now c.args.held.now.entries) (rule_tree r)) → c.by_use_exit.new.steps ≤ c.args.steps.now + (nodes_of (put_in_terms (rule_tree r)) + pair_steps ts)) (sym c.in-UseExit.is)
     (λ h. let le = c.by_use_exit.ensures.steps ts stated in omega (arith, le, within)) cited
 
 pub returns-in-Discharge-clause-most : goal.returns-in-Discharge-clause-most
-returns-in-Discharge-clause-most g c = λ e. absurd (true≢false (sym e ∙ ap (λ (r : Rule). is_bounded (rule_tree r)) c.in-Discharge.is))
+returns-in-Discharge-clause-most g c = λ ts has cited.
+    let stated = subst (λ (t : TripleTree). HasSubterms ts (triple_terms t)) (sym c.requires.put.is) has in
+    let within = searches_within (length ts) in
+    subst (λ (r : Rule). HasSubterms ts (premise_terms (theorem_at c.args.arena.now c.args.held.now.entries) (rule_tree r)) → c.by_discharge.new.steps ≤ c.args.steps.now + (nodes_of (put_in_terms (rule_tree r)) + pair_steps ts)) (sym c.in-Discharge.is)
+    (λ h. let le = c.by_discharge.ensures.steps ts stated h in omega (arith, le, within)) cited

@@ -13,14 +13,14 @@ use Rattle.term_bench.proofs.BenchLemmas.{same_with}
 use Rattle.term_bench.proofs.StatingLemmas.{stated_left}
 use Rattle.term_bench.proofs.bench.Bench.derive_triple.Goals as goal
 
-pub keep-requires-clause-there : goal.keep-requires-clause-there
-keep-requires-clause-there g c =
+pub keep_made-requires-clause-there : goal.keep_made-requires-clause-there
+keep_made-requires-clause-there g c =
     let old = c.args.self.now in
     let one = c.stated_by.new.self in
     (subst (λ (o : Option Held). MadeIf (state_nodes one) (IsStatedBy (state_group old) (state_history old) (state_nodes old) c.args.line.now) o) c.in-Some.is c.in_ok-made.ensures.made).0.there
 
-pub keep-requires-clause-sound : goal.keep-requires-clause-sound
-keep-requires-clause-sound g c =
+pub keep_made-requires-clause-sound : goal.keep_made-requires-clause-sound
+keep_made-requires-clause-sound g c =
     let old = c.args.self.now in
     let one = c.stated_by.new.self in
     let made : MadeIf (state_nodes one) (IsStatedBy (state_group old) (state_history old) (state_nodes old) c.args.line.now) (Some c.in-Some.h) =
@@ -36,9 +36,9 @@ returns-clause-left g c =
     let made : MadeIf (state_nodes one) (IsStatedBy (state_group old) (state_history old) (state_nodes old) c.args.line.now) (Some c.in-Some.h) =
     subst (λ (o : Option Held). MadeIf (state_nodes one) (IsStatedBy (state_group old) (state_history old) (state_nodes old) c.args.line.now) o) c.in-Some.is c.in_ok-made.ensures.made in
     let t = triple_of (state_nodes one) c.in-Some.h in
-    stated_left (state_group old) (state_history old) (state_nodes old) c.args.line.now t _ made.1 (c.in_ok-keep.ensures.after ∙ ap (with_theorem t) c.stated_by.ensures.same)
+    stated_left (state_group old) (state_history old) (state_nodes old) c.args.line.now t _ made.1 (c.in_ok-keep_made.ensures.after ∙ ap (with_theorem t) c.stated_by.ensures.same)
 
 pub returns-clause-grows : goal.returns-clause-grows
 returns-clause-grows g c =
     let old = state_nodes c.args.self.now in
-    subst (λ (ns : List Node). Extends old ns) (sym c.keep.ensures.nodes) c.stated_by.ensures.grows
+    subst (λ (ns : List Node). Extends old ns) (sym c.keep_made.ensures.nodes) c.stated_by.ensures.grows

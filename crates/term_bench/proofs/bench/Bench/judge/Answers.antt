@@ -3,7 +3,7 @@ use Rattle.term_bench.proofs.BenchLemmas.{extends_same}
 use Rattle.std.proofs.Common.{◌≡◌, ◌+◌, ◌≤◌, true, true≢false, refl, sym, ap, subst, ◌∙◌, arith}
 use Rattle.proof_text.specs.declared.line.Line.{Line}
 use Rattle.proof_text.specs.Line.{line_tree}
-use Rattle.term_bench.specs.Terms.{HasLine, is_bounded_line, is_compared, is_loop, loop_terms, nodes_of, pair_steps, stated_triple_terms, whole_line_terms}
+use Rattle.term_bench.specs.Terms.{HasLine, is_compared, is_loop, loop_terms, nodes_of, pair_steps, stated_triple_terms, whole_line_terms}
 use Rattle.term_bench.proofs.bench.Bench.judge.Goals as goal
 
 pub returns-in-Forget-clause-grows : goal.returns-in-Forget-clause-grows
@@ -27,11 +27,11 @@ returns-in-Further-clause-steps g c = λ e. omega arith
 
 pub returns-in-States-clause-most : goal.returns-in-States-clause-most
 returns-in-States-clause-most g c = λ e ts has.
-    subst (λ (l : Line). is_bounded_line (line_tree l) ≡ true → HasLine (state_history c.args.self.now).theorem (line_tree l) ts → c.state.new.steps ≤ c.args.steps.now + (nodes_of (whole_line_terms (line_tree l)) + pair_steps ts)) (sym c.in-States.is)
-    (λ b h. c.state.ensures.most b ts h.0 h.1) e has
+    subst (λ (l : Line). HasLine (state_history c.args.self.now).theorem (line_tree l) ts → c.state.new.steps ≤ c.args.steps.now + (nodes_of (whole_line_terms (line_tree l)) + pair_steps ts)) (sym c.in-States.is)
+    (λ h. c.state.ensures.most ts h.0 h.1) has
 
 pub returns-in-Loop-clause-most : goal.returns-in-Loop-clause-most
-returns-in-Loop-clause-most g c = λ e. absurd (true≢false (sym e ∙ ap (λ (l : Line). is_bounded_line (line_tree l)) c.in-Loop.is))
+returns-in-Loop-clause-most g c = λ e. absurd (true≢false (sym (ap (λ (l : Line). is_loop (line_tree l)) c.in-Loop.is) ∙ e))
 
 pub returns-in-Forget-clause-most : goal.returns-in-Forget-clause-most
 returns-in-Forget-clause-most g c = λ e ts has. omega arith

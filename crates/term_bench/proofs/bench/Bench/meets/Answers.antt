@@ -44,5 +44,5 @@ returns-clause-answer g c =
     (IfOk-weaker c.meets.result _ _ (λ b is. same_next (group_tree s.group.now) s.next s.arena s.held.entries s.closed r t (IsTrue b) is) answer)
 
 pub returns-clause-most : goal.returns-clause-most
-returns-clause-most g c = λ e ts has cited.
-    c.meets.ensures.most e ts has (subst (λ (k : BenchState). HasSubterms ts (premise_terms (state_history k).theorem (rule_tree c.args.rule.now))) (sym c.self.view_is) cited)
+returns-clause-most g c = λ ts has cited.
+    c.meets.ensures.most ts has (subst (λ (k : BenchState). HasSubterms ts (premise_terms (state_history k).theorem (rule_tree c.args.rule.now))) (sym c.self.view_is) cited)

@@ -4,7 +4,7 @@ use Rattle.term_bench.proofs.bench.Bench.new.Goals as goal
 
 pub invariant_of-result : goal.invariant_of-result
 invariant_of-result c =
-    (sound_first c.args.group.now c.new.result c.new-3.result.entries c.in_ok-closed.closed c.len.result c.requires c.new-3.ensures.empty c.in_ok-closed.ensures c.len.ensures, no_depths c.new.result c.new-2.result c.new-2.ensures)
+    (sound_first c.args.group.now c.new.result c.new-4.result.entries c.in_ok-closed.closed c.len.result c.requires c.new-4.ensures.empty c.in_ok-closed.ensures c.len.ensures, no_depths c.new.result c.new-2.result c.new-2.ensures)
 
 pub returns-clause-none : goal.returns-clause-none
-returns-clause-none c = nothing_held c.args.group.now c.new.result c.new-3.result.entries c.in_ok-closed.closed c.len.result c.new-3.ensures.empty c.in_ok-closed.ensures
+returns-clause-none c = nothing_held c.args.group.now c.new.result c.new-4.result.entries c.in_ok-closed.closed c.len.result c.new-4.ensures.empty c.in_ok-closed.ensures

@@ -1,24 +1,24 @@
 use Rattle.std.proofs.Common.{ℕ, ◌+◌, ◌≤◌, List, ap, sym, ◌∙◌, subst, arith}
 use Rattle.tailrec_lang.specs.Tree.{group_tree}
-use Rattle.triple_kernel.specs.Tree.{triple_tree}
+use Rattle.triple_kernel.specs.Tree.{TripleTree, triple_tree}
 use Rattle.proof_text.specs.Line.{States, rule_tree}
 use Rattle.term_arena.specs.declared.node.Node.{Node}
 use Rattle.term_arena.specs.Arena.{Extends}
 use Rattle.held_terms.specs.Held.{triple_of}
 use Rattle.held_terms.proofs.InstanceLemmas.{extends_next, held_still, same_triple}
-use Rattle.checker.specs.Instance.{History, with_theorem}
+use Rattle.checker.specs.Instance.{History, Meets, with_theorem}
 use Rattle.term_bench.specs.Bench.{state_group, state_history, state_nodes}
 use Rattle.term_bench.specs.Terms.{HasSubterms, nodes_of, premise_terms, put_in_terms, triple_terms}
 use Rattle.term_bench.proofs.PutSteps.{nodes_then}
 use Rattle.term_bench.proofs.BenchLemmas.{meets_same, same_with}
 use Rattle.term_bench.proofs.bench.Bench.state.Goals as goal
 
-pub keep-requires-clause-there : goal.keep-requires-clause-there
-keep-requires-clause-there g c =
+pub keep_by-requires-clause-there : goal.keep_by-requires-clause-there
+keep_by-requires-clause-there g c =
     held_still (state_nodes c.put.new.self) (state_nodes c.meets.new.self) c.meets.ensures.grows c.in_ok-put.put c.in_ok-put.ensures.put.at
 
-pub keep-requires-clause-sound : goal.keep-requires-clause-sound
-keep-requires-clause-sound g c =
+pub keep_by-requires-clause-sound : goal.keep_by-requires-clause-sound
+keep_by-requires-clause-sound g c =
     let old = c.args.self.now in
     let one = c.put.new.self in
     let two = c.meets.new.self in
@@ -29,6 +29,17 @@ keep-requires-clause-sound g c =
     same_with (state_group old) (state_group two) (state_history old) (state_history two) t (triple_of (state_nodes two) c.in_ok-put.put) sound
     (ap group_tree (c.meets.ensures.group ∙ c.put.ensures.group)) (c.meets.ensures.same ∙ c.put.ensures.same)
     (same_triple (state_nodes one) (state_nodes two) c.meets.ensures.grows c.in_ok-put.put c.in_ok-put.ensures.put.at ∙ c.in_ok-put.ensures.put.is)
+
+pub keep_by-requires-clause-meets : goal.keep_by-requires-clause-meets
+keep_by-requires-clause-meets g c =
+    let old = c.args.self.now in
+    let one = c.put.new.self in
+    let two = c.meets.new.self in
+    let by = rule_tree c.args.rule.now in
+    let t = triple_tree c.args.stated.now in
+    let so = (meets_same (state_group two) (state_group one) (state_history two) (state_history one) by t (sym (ap group_tree c.meets.ensures.group)) (sym c.meets.ensures.same)).0 (c.in_ok-so.ensures.answer.0 c.if-not-so.false) in
+    subst (λ (u : TripleTree). Meets (state_group two) (state_history two) by u)
+    (sym (same_triple (state_nodes one) (state_nodes two) c.meets.ensures.grows c.in_ok-put.put c.in_ok-put.ensures.put.at ∙ c.in_ok-put.ensures.put.is)) so
 
 pub returns-clause-instance : goal.returns-clause-instance
 returns-clause-instance g c =
@@ -42,13 +53,13 @@ returns-clause-after g c =
     let two = c.meets.new.self in
     let same = c.meets.ensures.same ∙ c.put.ensures.same in
     let t = same_triple (state_nodes one) (state_nodes two) c.meets.ensures.grows c.in_ok-put.put c.in_ok-put.ensures.put.at ∙ c.in_ok-put.ensures.put.is in
-    c.in_ok-keep.ensures.after ∙ (λ i. with_theorem (t i) (same i))
+    c.in_ok-keep_by.ensures.after ∙ (λ i. with_theorem (t i) (same i))
 
 pub returns-clause-grows : goal.returns-clause-grows
 returns-clause-grows g c =
     let old = state_nodes c.args.self.now in
     let two = state_nodes c.meets.new.self in
-    subst (λ (ns : List Node). Extends old ns) (sym c.keep.ensures.nodes) (extends_next old (state_nodes c.put.new.self) two c.put.ensures.grows c.meets.ensures.grows)
+    subst (λ (ns : List Node). Extends old ns) (sym c.keep_by.ensures.nodes) (extends_next old (state_nodes c.put.new.self) two c.put.ensures.grows c.meets.ensures.grows)
 
 pub returns-then-not-so-clause-no_instance : goal.returns-then-not-so-clause-no_instance
 returns-then-not-so-clause-no_instance g c = λ e m.
@@ -63,14 +74,14 @@ returns-in_err-so-clause-steps g c = λ e. subst (λ (n : ℕ). n ≤ c.args.ste
 pub returns-then-not-so-clause-steps : goal.returns-then-not-so-clause-steps
 returns-then-not-so-clause-steps g c = λ e. subst (λ (n : ℕ). n ≤ c.args.steps.now + nodes_of (triple_terms (triple_tree c.args.stated.now))) (sym (c.meets.ensures.steps e)) c.put.ensures.steps
 
-pub returns-in_err-keep-clause-steps : goal.returns-in_err-keep-clause-steps
-returns-in_err-keep-clause-steps g c = λ e. subst (λ (n : ℕ). n ≤ c.args.steps.now + nodes_of (triple_terms (triple_tree c.args.stated.now))) (sym (c.meets.ensures.steps e)) c.put.ensures.steps
+pub returns-in_err-keep_by-clause-steps : goal.returns-in_err-keep_by-clause-steps
+returns-in_err-keep_by-clause-steps g c = λ e. subst (λ (n : ℕ). n ≤ c.args.steps.now + nodes_of (triple_terms (triple_tree c.args.stated.now))) (sym (c.meets.ensures.steps e)) c.put.ensures.steps
 
 pub returns-clause-steps : goal.returns-clause-steps
 returns-clause-steps g c = λ e. subst (λ (n : ℕ). n ≤ c.args.steps.now + nodes_of (triple_terms (triple_tree c.args.stated.now))) (sym (c.meets.ensures.steps e)) c.put.ensures.steps
 
 pub returns-in_err-put-clause-most : goal.returns-in_err-put-clause-most
-returns-in_err-put-clause-most g c = λ e ts has cited.
+returns-in_err-put-clause-most g c = λ ts has cited.
     let rule = rule_tree c.args.rule.now in
     let stated = triple_tree c.args.stated.now in
     let first = c.put.ensures.steps in
@@ -78,41 +89,41 @@ returns-in_err-put-clause-most g c = λ e ts has cited.
     omega (arith, first, both)
 
 pub returns-in_err-so-clause-most : goal.returns-in_err-so-clause-most
-returns-in_err-so-clause-most g c = λ e ts has cited.
+returns-in_err-so-clause-most g c = λ ts has cited.
     let rule = rule_tree c.args.rule.now in
     let stated = triple_tree c.args.stated.now in
     let first = c.put.ensures.steps in
     let both = nodes_then (triple_terms stated) (put_in_terms rule) in
     let again = subst (λ (h : History). HasSubterms ts (premise_terms h.theorem rule)) (sym c.put.ensures.same) cited in
-    let next = c.meets.ensures.most e ts has again in
+    let next = c.meets.ensures.most ts has again in
     omega (arith, first, next, both)
 
 pub returns-then-not-so-clause-most : goal.returns-then-not-so-clause-most
-returns-then-not-so-clause-most g c = λ e ts has cited.
+returns-then-not-so-clause-most g c = λ ts has cited.
     let rule = rule_tree c.args.rule.now in
     let stated = triple_tree c.args.stated.now in
     let first = c.put.ensures.steps in
     let both = nodes_then (triple_terms stated) (put_in_terms rule) in
     let again = subst (λ (h : History). HasSubterms ts (premise_terms h.theorem rule)) (sym c.put.ensures.same) cited in
-    let next = c.meets.ensures.most e ts has again in
+    let next = c.meets.ensures.most ts has again in
     omega (arith, first, next, both)
 
-pub returns-in_err-keep-clause-most : goal.returns-in_err-keep-clause-most
-returns-in_err-keep-clause-most g c = λ e ts has cited.
+pub returns-in_err-keep_by-clause-most : goal.returns-in_err-keep_by-clause-most
+returns-in_err-keep_by-clause-most g c = λ ts has cited.
     let rule = rule_tree c.args.rule.now in
     let stated = triple_tree c.args.stated.now in
     let first = c.put.ensures.steps in
     let both = nodes_then (triple_terms stated) (put_in_terms rule) in
     let again = subst (λ (h : History). HasSubterms ts (premise_terms h.theorem rule)) (sym c.put.ensures.same) cited in
-    let next = c.meets.ensures.most e ts has again in
+    let next = c.meets.ensures.most ts has again in
     omega (arith, first, next, both)
 
 pub returns-clause-most : goal.returns-clause-most
-returns-clause-most g c = λ e ts has cited.
+returns-clause-most g c = λ ts has cited.
     let rule = rule_tree c.args.rule.now in
     let stated = triple_tree c.args.stated.now in
     let first = c.put.ensures.steps in
     let both = nodes_then (triple_terms stated) (put_in_terms rule) in
     let again = subst (λ (h : History). HasSubterms ts (premise_terms h.theorem rule)) (sym c.put.ensures.same) cited in
-    let next = c.meets.ensures.most e ts has again in
+    let next = c.meets.ensures.most ts has again in
     omega (arith, first, next, both)

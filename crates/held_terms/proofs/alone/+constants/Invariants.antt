@@ -1,5 +1,5 @@
 use Rattle.std.proofs.Common.{◌+◌, ◌*◌}
-use Rattle.held_terms.proofs.conditions.+constants.Given as goal
+use Rattle.held_terms.proofs.alone.+constants.Given as goal
 
 abbrev pub decreases-constant_of : goal.decreases-constant_of
 decreases-constant_of g l = 2 * l.x + 1

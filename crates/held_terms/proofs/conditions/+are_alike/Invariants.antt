@@ -1,4 +1,0 @@
-use Rattle.held_terms.proofs.conditions.+are_alike.Given as goal
-
-abbrev pub decreases-are_alike : goal.decreases-are_alike
-decreases-are_alike g l = l.a
