@@ -1,5 +1,6 @@
 pub mod Writing
 pub mod SetUp
+pub mod PlacedTwice
 pub mod Asked
 pub mod Answers
 pub mod Loading

@@ -28,7 +28,7 @@ use Rattle.mcdec_words.specs.CommandReading.{Holds, given_in, value_in}
 use Rattle.mcdec_commands.specs.Memory.{placed, held_at}
 use Rattle.decompiler.specs.Names.{StandsFor}
 use Rattle.mcdec_commands.specs.RunAnswer.{state_given, elf_limit, is_shown, shown_registers, RunGives}
-use Rattle.mcdec_commands.specs.inner.Running.{MachineGives, shown_with}
+use Rattle.mcdec_commands.specs.inner.Running.{MachineGives, shown_with, with_placed}
 
 -- ---- values
 
@@ -156,12 +156,9 @@ placed-one-more rs m old new i r lt item before put =
     let upto : take i rs ++ r ∷ [] ≡ take (i + 1) rs = (λ k. take i rs ++ item k ∷ []) ∙ sym (take_more rs i r lt) in
     put ∙ ap (over (bytes_from r.at r.bytes)) before ∙ sym (placed-last (take i rs) r m) ∙ (λ k. placed (upto k) m)
 
-abbrev with_placed : List Range → State → State
-with_placed rs s = record s { mem = placed rs s.mem }
-
 -- the ranges in front of place i are in memory
 abbrev pub HaveRanges : List Range → Contents → Contents → ℕ → Type 0
-HaveRanges rs old new i = state_of new ≡ record (state_of old) { mem = placed (take i rs) (state_of old).mem }
+HaveRanges rs old new i = state_of new ≡ with_placed (take i rs) (state_of old)
 
 pub ranges-more : (rs : List Range) (old new newer : Contents) (i : ℕ) (r : Range) → i < length rs → r ≡ get_or rs i r → HaveRanges rs old new i
     → state_of newer ≡ with_bytes (bytes_from r.at r.bytes) (state_of new) → HaveRanges rs old newer (i + 1)

@@ -22,6 +22,7 @@ mod load;
 mod memory;
 mod migrate;
 mod output;
+mod places;
 mod run;
 mod selftest;
 mod simplify;

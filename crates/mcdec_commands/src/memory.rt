@@ -1,11 +1,12 @@
 //! Ranges of bytes in memories.
 
-ghost use Rattle.std.specs.Prelude.{◌≡◌, ◌+◌, ◌≤◌, ◌^◌, All, IfOk, length, map, slice_get};
+ghost use Rattle.std.specs.Prelude.{◌≡◌, ◌+◌, ◌≤◌, ◌^◌, All, IfOk, OnOk, length, map, slice_get};
 ghost use Rattle.std.specs.FinMap.{get};
 ghost use Rattle.mcdec_words.specs.Command.{IsMemory};
 ghost use Rattle.mcdec_commands.specs.EvalAnswer.{memories_given, ranges_in};
 ghost use Rattle.mcdec_commands.specs.Memory.{held_at, no_bytes, placed};
 
+use crate::places::starts_by_address;
 use rv_words::{ByteMap, List, NoMemory, Range};
 use std::alloc::Global;
 
@@ -31,16 +32,41 @@ pub fn memories(
     Ok(list)
 }
 
-/// A memory with the ranges' bytes alone, one range put over the other.
+/// A memory with the ranges' bytes alone, one range put over the other. They are put there by address first, so that none
+/// is put in front of another.
 fn memory_of(alloc: Global, ranges: &[Range]) -> Result<ByteMap, NoMemory>
     requires { All IsMemory ranges.now }
     ensures { IfOk result (λ memory. get memory ≡ placed ranges.now no_bytes) }
 {
     let mut memory = ByteMap::new(alloc);
+    place_rising(alloc, &mut memory, ranges)?;
+    place_each(&mut memory, ranges)?;
+    Ok(memory)
+}
+
+/// Puts the ranges into memory by address. Where each is put over them afterwards, that makes no difference.
+fn place_rising(alloc: Global, memory: &mut ByteMap, ranges: &[Range]) -> Result<(), NoMemory>
+    requires { All IsMemory ranges.now }
+    ensures { OnOk result (placed ranges.now (get memory.new) ≡ placed ranges.now (get memory.old)) }
+{
+    let starts = starts_by_address(alloc, ranges)?;
+    for start in &starts {
+        if let Some(range) = ranges.get(start.place) {
+            memory.place(range.at, range.bytes.as_slice())?;
+        }
+    }
+    Ok(())
+}
+
+/// Puts the ranges into memory, one over the other.
+fn place_each(memory: &mut ByteMap, ranges: &[Range]) -> Result<(), NoMemory>
+    requires { All IsMemory ranges.now }
+    ensures { OnOk result (get memory.new ≡ placed ranges.now (get memory.old)) }
+{
     for range in ranges {
         memory.place(range.at, range.bytes.as_slice())?;
     }
-    Ok(memory)
+    Ok(())
 }
 
 /// The ranges with the bytes that the memory of that number has there now; none where there is no such memory.

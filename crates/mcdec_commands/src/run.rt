@@ -8,13 +8,13 @@ ghost use Rattle.rv_machine.specs.State.{state_of, with_bytes};
 ghost use Rattle.mcdec_commands.specs.Answer.{Gives, ReadsAreTold};
 ghost use Rattle.mcdec_words.specs.Command.{AreArgs, AreGiven, Arg, Given, IsMemory, value_of};
 ghost use Rattle.mcdec_words.specs.CommandReading.{Holds, HoldsArgs, IsReadRun};
-ghost use Rattle.mcdec_commands.specs.Memory.{placed};
 ghost use Rattle.mcdec_commands.specs.RunAnswer.{IsLoaded, RunGives, state_given};
 ghost use Rattle.mcdec_commands.specs.inner.Loading.{not_loaded};
-ghost use Rattle.mcdec_commands.specs.inner.Running.{MachineGives, shown_with};
+ghost use Rattle.mcdec_commands.specs.inner.Running.{MachineGives, shown_with, with_placed};
 
 use crate::load::{LoadFault, load_image, not_read};
 use crate::memory::ranges_now;
+use crate::places::starts_by_address;
 use decompiler::address_of;
 use elf_image::{Image, Piece, law_of_image};
 use mc_shelf::Shelf;
@@ -80,7 +80,7 @@ fn run_image(alloc: Global, image: Image, start: u64, r: &Run<'_>) -> Result<Run
     let mut state = State::new(alloc, start);
     place_pieces(&mut state, image.pieces())?;
     drop(image);
-    place_ranges(&mut state, r.memory.as_slice())?;
+    place_ranges(alloc, &mut state, r.memory.as_slice())?;
     set_registers(&mut state, &r.given);
     match state.run(r.until, r.steps) {
         RunEnd::Met(steps) => {
@@ -115,10 +115,34 @@ fn place_piece(state: &mut State, piece: &Piece) -> Result<(), NoMemory>
     state.place(piece.at, piece.from.as_slice())
 }
 
-/// Puts the ranges' bytes into memory, one range after the other.
-fn place_ranges(state: &mut State, ranges: &[Range]) -> Result<(), NoMemory>
+/// Puts the ranges into memory, one over the other. They are put there by address first, so that none is put in front of
+/// another.
+fn place_ranges(alloc: Global, state: &mut State, ranges: &[Range]) -> Result<(), NoMemory>
     requires { All IsMemory ranges.now }
-    ensures { OnOk result (state_of state.new ≡ record (state_of state.old) { mem = placed ranges.now (state_of state.old).mem }) }
+    ensures { OnOk result (state_of state.new ≡ with_placed ranges.now (state_of state.old)) }
+{
+    place_rising(alloc, state, ranges)?;
+    place_each(state, ranges)
+}
+
+/// Puts the ranges into memory by address. Where each is put over them afterwards, that makes no difference.
+fn place_rising(alloc: Global, state: &mut State, ranges: &[Range]) -> Result<(), NoMemory>
+    requires { All IsMemory ranges.now }
+    ensures { OnOk result (with_placed ranges.now (state_of state.new) ≡ with_placed ranges.now (state_of state.old)) }
+{
+    let starts = starts_by_address(alloc, ranges)?;
+    for start in &starts {
+        if let Some(range) = ranges.get(start.place) {
+            state.place(range.at, range.bytes.as_slice())?;
+        }
+    }
+    Ok(())
+}
+
+/// Puts the ranges into memory, one over the other.
+fn place_each(state: &mut State, ranges: &[Range]) -> Result<(), NoMemory>
+    requires { All IsMemory ranges.now }
+    ensures { OnOk result (state_of state.new ≡ with_placed ranges.now (state_of state.old)) }
 {
     for range in ranges {
         state.place(range.at, range.bytes.as_slice())?;

@@ -8,7 +8,12 @@ use Rattle.mcdec_answers.specs.declared.answer.RunAnswer.{RunAnswer}
 use Rattle.mcdec_answers.specs.declared.answer.RunAnswer.TheVariants as answer
 use Rattle.mcdec_answers.specs.declared.answer.Shown.{Shown}
 use Rattle.mcdec_words.specs.Command.{Arg, Given}
+use Rattle.mcdec_commands.specs.Memory.{placed}
 use Rattle.mcdec_commands.specs.RunAnswer.{shown_registers, shown_after}
+
+-- a state with the ranges' bytes put over those of its memory
+abbrev pub with_placed : List Range → State → State
+with_placed rs s = record s { mem = placed rs s.mem }
 
 -- what a run from a state to an address within steps comes to
 abbrev pub MachineGives : ℕ → ℕ → List Arg → State → RunAnswer → Type 0

@@ -1,7 +1,0 @@
-use Rattle.std.proofs.Common.{◌≡◌, take}
-use Rattle.std.specs.FinMap.{get}
-use Rattle.mcdec_commands.specs.Memory.{no_bytes, placed}
-use Rattle.mcdec_commands.proofs.memory.memory_of.Given as goal
-
-abbrev pub invariant-loop-range : goal.invariant-loop-range
-invariant-loop-range l = get l.memory ≡ placed (take l.range-index l.ranges) no_bytes
