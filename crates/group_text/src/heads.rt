@@ -20,6 +20,9 @@ use tailrec_lang::Exit;
 use term_text::read_ranges;
 use word_terms::Code;
 
+/// A definition has at most so many exits, and a call so many arms.
+pub(crate) const EXIT_LIMIT: usize = 16;
+
 /// Whether an atom follows.
 pub fn has_atom(scan: &Scan<'_>) -> bool
     ensures { result ≡ goes_on has_atom (tokens_at scan.now) }
@@ -75,9 +78,6 @@ fn read_exits<'a>(alloc: Global, scan: &mut Scan<'a>) -> Result<List<Exit>, Toke
     }
     Ok(exits)
 }
-
-/// A definition has at most so many exits, and a call so many arms.
-pub(crate) const EXIT_LIMIT: usize = 16;
 
 /// Whether there are at most 16 exits, and at most one of them returns.
 fn are_few_exits(exits: &[Exit]) -> bool

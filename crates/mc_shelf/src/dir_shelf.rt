@@ -76,6 +76,7 @@ impl<R: Files + AllocGlobal> DirShelf<R> {
         ensures { self.new ≡ self.old }
     {
         let file = File::create(&self.runtime, name)?;
+        self.source = None;
         self.open = match String::from_str(self.runtime.alloc(), name) {
             Ok(name) => Some(OpenFile { name, file }),
             Err(_) => None,

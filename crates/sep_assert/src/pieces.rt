@@ -7,8 +7,8 @@ ghost use Rattle.sep_assert.specs.Code.{IsWithin};
 
 use rv_words::Range;
 
-/// Whether each range of `a` lies in the first one of `b` or, where each has one range, in that of `b` and that of `c` together.
-/// It says nothing of others.
+/// Whether each range of `a` lies in the first one of `b` or, where `b` has no other, in it and the first one of `c` together.
+/// Where it doesn't say so, `a` may still lie in both.
 pub(crate) fn are_pieces_of(a: &[Range], b: &[Range], c: &[Range]) -> bool
     ensures { IsTrue result → IsWithin (range_bytes a.now) (over (range_bytes b.now) (range_bytes c.now)) }
 {

@@ -1,6 +1,6 @@
 //! Evaluation within a number of turns.
 
-ghost use Rattle.std.specs.Prelude.{◌≡◌, ◌+◌, ◌<◌, ℕ, [], length, slice_get, Some, IfOk};
+ghost use Rattle.std.specs.Prelude.{◌≡◌, ◌<◌, ℕ, [], length, slice_get, Some, IfOk};
 ghost use Rattle.tailrec_lang.specs.Tree.{DefTree, GroupTree, body_tree, exits_at, group_tree};
 ghost use Rattle.tailrec_lang.specs.inner.Tree.{arm_trees};
 ghost use Rattle.tailrec_lang.specs.WellFormed.{IsWellFormed};

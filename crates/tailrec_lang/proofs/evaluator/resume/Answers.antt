@@ -1,4 +1,4 @@
-use Rattle.std.proofs.Common.{arith, ◌+◌, sym, ◌∙◌}
+use Rattle.std.proofs.Common.{arith, sym, ◌∙◌}
 use Rattle.std.proofs.lemmas.List.{length-take-le}
 use Rattle.tailrec_lang.specs.Tree.{body_tree}
 use Rattle.tailrec_lang.specs.Eval.{arguments, body_ending, variables_of, with_arguments}
