@@ -1,18 +1,19 @@
 -- How many steps it takes to see whether theorems lead to leaves.
-use Rattle.std.proofs.Common.{◌≡◌, ℕ, suc, ◌+◌, ◌*◌, ◌≤◌, List, [], ◌∷◌, ◌++◌, length, flat_map, map, refl, sym, ap, ◌∙◌, subst, arith}
-use Rattle.std.specs.Prelude.{zip}
+use Rattle.std.proofs.Common.{◌≡◌, ℕ, Option, Some, zero, suc, ◌+◌, ◌≤◌, List, [], ◌∷◌, ◌++◌, drop, length, flat_map, map, refl, sym, ◌∙◌, subst, arith}
+use Rattle.std.specs.Prelude.{slice_get, sum_by, zip}
 use Rattle.std.specs.List.{range_with_len}
-use Rattle.std.proofs.Math.Nat.{suc-mul, zero-mul}
-use Rattle.std.proofs.lemmas.Nat.{mul-le}
 use Rattle.std.proofs.lemmas.List.{length-map}
 use Rattle.std.proofs.lemmas.List.FromFn.{length-map-range_with_len}
+use Rattle.std.proofs.lemmas.List.Sums.{sum_by-cons}
 use Rattle.word_terms.specs.Tree.{WordTree, MemVar, Var}
 use Rattle.tailrec_lang.specs.Tree.{DefTree, GroupTree}
 use Rattle.sep_assert.specs.Tree.{AssertionTree}
+use Rattle.triple_kernel.specs.declared.triple.Fact.{Fact}
+use Rattle.triple_kernel.specs.Tree.{fact_tree}
 use Rattle.loop_rule.specs.Tree.{LeafTree}
-use Rattle.loop_rule.specs.Leaves.{at_entry, parameters}
-use Rattle.term_arena.specs.Arena.{OfMem, OfWord}
-use Rattle.term_bench.specs.Terms.{assertion_terms, end_terms, leaf_terms, nodes_of}
+use Rattle.loop_rule.specs.Leaves.{at_entry, leaves_of, parameters}
+use Rattle.term_arena.specs.Arena.{OfMem, OfWord, Tree}
+use Rattle.term_bench.specs.Terms.{assertion_terms, closing_terms, end_terms, fact_terms, leaf_terms, nodes_of}
 use Rattle.term_bench.proofs.PutSteps.{nodes_then}
 
 -- ---- variables have one node each
@@ -30,7 +31,7 @@ mems-nodes [] = omega arith
 mems-nodes (k ∷ ks) = let rest = mems-nodes ks in omega (arith, rest)
 
 -- what holds where a definition is entered has one node for the program counter, each register and each memory
-pub entry_nodes : (g : GroupTree) (def : DefTree) → nodes_of (assertion_terms (at_entry g def (parameters g))) ≡ 1 + (length g.regs + g.mems)
+entry_nodes : (g : GroupTree) (def : DefTree) → nodes_of (assertion_terms (at_entry g def (parameters g))) ≡ 1 + (length g.regs + g.mems)
 entry_nodes g def =
     let words = range_with_len 0 (length g.regs) in
     let mems = range_with_len 0 g.mems in
@@ -45,33 +46,42 @@ entry_nodes g def =
 
 -- ---- of all leaves
 
-pub leaves_nodes : (pre : AssertionTree) (ls : List LeafTree) → nodes_of (flat_map (leaf_terms pre) ls) ≡ nodes_of (flat_map end_terms ls) + length ls * nodes_of (assertion_terms pre)
-leaves_nodes pre [] = let z = zero-mul (nodes_of (assertion_terms pre)) in omega (arith, z)
-leaves_nodes pre (l ∷ ls) =
-    let one : nodes_of (leaf_terms pre l) ≡ nodes_of (assertion_terms pre) + nodes_of (end_terms l) = nodes_then (assertion_terms pre) (end_terms l) in
-    let whole : nodes_of (flat_map (leaf_terms pre) (l ∷ ls)) ≡ nodes_of (leaf_terms pre l) + nodes_of (flat_map (leaf_terms pre) ls) = nodes_then (leaf_terms pre l) (flat_map (leaf_terms pre) ls) in
-    let ends : nodes_of (flat_map end_terms (l ∷ ls)) ≡ nodes_of (end_terms l) + nodes_of (flat_map end_terms ls) = nodes_then (end_terms l) (flat_map end_terms ls) in
-    let rest = leaves_nodes pre ls in
-    let more = suc-mul (length ls) (nodes_of (assertion_terms pre)) in
-    omega (arith, one, whole, ends, rest, more)
+leaves_sum : (pre : AssertionTree) (ls : List LeafTree) → sum_by (λ l. nodes_of (leaf_terms pre l)) ls ≡ nodes_of (flat_map (leaf_terms pre) ls)
+leaves_sum pre [] = refl
+leaves_sum pre (l ∷ ls) =
+    let first = sum_by-cons (λ l. nodes_of (leaf_terms pre l)) l ls in
+    let rest = leaves_sum pre ls in
+    let whole = nodes_then (leaf_terms pre l) (flat_map (leaf_terms pre) ls) in
+    omega (arith, first, rest, whole)
 
--- of leaves that were put in, and of theorems that were looked at
-pub closing_steps : (g : GroupTree) (def : DefTree) (ls : List LeafTree) (s r t n : ℕ) → r ≤ s + nodes_of (flat_map end_terms ls) → n ≡ length ls → t ≤ r + n * (1 + (length g.regs + g.mems))
-    → t ≤ s + nodes_of (flat_map (leaf_terms (at_entry g def (parameters g))) ls)
-closing_steps g def ls s r t n put many looks =
-    let all = leaves_nodes (at_entry g def (parameters g)) ls in
-    let same : n * (1 + (length g.regs + g.mems)) ≡ length ls * nodes_of (assertion_terms (at_entry g def (parameters g))) = λ j. many j * sym (entry_nodes g def) j in
-    omega (arith, put, looks, all, same)
+pub closing_steps : (g : GroupTree) (d : ℕ) (def : DefTree) (s r : ℕ) → slice_get g.defs d ≡ Some def → r ≤ s + sum_by (λ l. nodes_of (leaf_terms (at_entry g def (parameters g)) l)) (leaves_of g def)
+    → r ≤ s + nodes_of (closing_terms g (slice_get g.defs d))
+closing_steps g d def s r is few =
+    let sum = leaves_sum (at_entry g def (parameters g)) (leaves_of g def) in
+    let here : r ≤ s + nodes_of (closing_terms g (Some def)) = omega (arith, few, sum) in
+    subst (λ (o : Option DefTree). r ≤ s + nodes_of (closing_terms g o)) (sym is) here
 
-pub putting_steps : (g : GroupTree) (def : DefTree) (ls : List LeafTree) (s r : ℕ) → r ≤ s + nodes_of (flat_map end_terms ls) → r ≤ s + nodes_of (flat_map (leaf_terms (at_entry g def (parameters g))) ls)
-putting_steps g def ls s r put = let all = leaves_nodes (at_entry g def (parameters g)) ls in omega (arith, put, all)
+-- ---- of one leaf
 
--- one theorem more
-pub next_leaf : (s r t i n : ℕ) → r ≤ s + i * n → t ≤ r + n → t ≤ s + (i + 1) * n
-next_leaf s r t i n before one =
-    let e : i + 1 ≡ suc i = omega arith in
-    let more : (i + 1) * n ≡ i * n + n = ap (λ (k : ℕ). k * n) e ∙ suc-mul i n in
-    omega (arith, before, one, more)
+-- the last ones have no more nodes than all
+nodes_dropped : {X Y : Type 0} (tree : X → Y) (of : Y → List Tree) (n : ℕ) (xs : List X) → nodes_of (flat_map of (map tree (drop n xs))) ≤ nodes_of (flat_map of (map tree xs))
+nodes_dropped tree of zero xs = omega arith
+nodes_dropped tree of (suc n) [] = omega arith
+nodes_dropped tree of (suc n) (x ∷ xs) = let rest = nodes_dropped tree of n xs in let whole = nodes_then (of (tree x)) (flat_map of (map tree xs)) in omega (arith, rest, whole)
 
-pub within_leaves : (s t i n m : ℕ) → t ≤ s + i * n → i ≤ m → t ≤ s + m * n
-within_leaves s t i n m few le = let more = mul-le i n m n le (omega arith) in omega (arith, few, more)
+-- of the last facts of a way
+pub last_steps : (n : ℕ) (way last : List Fact) (s r : ℕ) → last ≡ drop n way → r ≤ s + nodes_of (flat_map fact_terms (map fact_tree last)) → r ≤ s + nodes_of (flat_map fact_terms (map fact_tree way))
+last_steps n way last s r is few =
+    let here : r ≤ s + nodes_of (flat_map fact_terms (map fact_tree (drop n way))) = subst (λ (fs : List Fact). r ≤ s + nodes_of (flat_map fact_terms (map fact_tree fs))) is few in
+    let less = nodes_dropped fact_tree fact_terms n way in
+    omega (arith, here, less)
+
+-- of facts and of an end that were put in, and of a theorem that was looked at
+pub leaf_steps : (g : GroupTree) (def : DefTree) (l : LeafTree) (s r t u : ℕ) → r ≤ s + nodes_of (flat_map fact_terms l.facts) → t ≤ r + nodes_of (assertion_terms l.post) → u ≤ t + (1 + (length g.regs + g.mems))
+    → u ≤ s + sum_by (λ l. nodes_of (leaf_terms (at_entry g def (parameters g)) l)) (l ∷ [])
+leaf_steps g def l s r t u one two three =
+    let pre = entry_nodes g def in
+    let whole = nodes_then (assertion_terms (at_entry g def (parameters g))) (end_terms l) in
+    let end = nodes_then (flat_map fact_terms l.facts) (assertion_terms l.post) in
+    let sum = sum_by-cons (λ l. nodes_of (leaf_terms (at_entry g def (parameters g)) l)) l [] in
+    omega (arith, one, two, three, pre, whole, end, sum)

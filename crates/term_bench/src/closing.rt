@@ -1,34 +1,78 @@
 //! Definitions that are closed by theorems over numbers.
 #![tactic(auto, using(held_terms::proofs::InstanceLemmas::extends_next, crate::proofs::BenchLemmas::extends_none))]
 
-ghost use Rattle.std.specs.Prelude.{◌↔◌, ◌+◌, ◌*◌, ◌≤◌, IfOk, IsTrue, flat_map, length, map, slice_get};
-ghost use Rattle.std.specs.List.{AllZip};
+ghost use Rattle.std.specs.Prelude.{◌≡◌, ◌↔◌, ◌+◌, ◌≤◌, IfOk, IsErrOf, IsOk, IsTrue, OnOk, drop, false, flat_map, length, map, slice_get};
 ghost use Rattle.tailrec_lang.specs.Tree.{def_tree, group_tree};
-ghost use Rattle.loop_rule.specs.Tree.{leaf_tree};
+ghost use Rattle.triple_kernel.specs.Tree.{fact_tree};
 ghost use Rattle.loop_rule.specs.Rule.{IsClosedBy, IsLedTo, LeadsTo};
 ghost use Rattle.term_arena.specs.Arena.{Extends};
-ghost use Rattle.held_terms.specs.Held.{IsHeldAt, triple_of};
+ghost use Rattle.held_terms.specs.Held.{AreFactsAt, IsHeldAt, IsSideAt, triple_of};
 ghost use Rattle.term_bench.specs.Bench.{AreHeldAt, theorem_at};
-ghost use Rattle.term_bench.specs.Terms.{closing_terms, end_terms, nodes_of};
-ghost use Rattle.term_bench.specs.inner.Leaves.{AreLeavesAt, AreLeavesPut, IsLeafAt, IsLeafPut, leaf_over};
+ghost use Rattle.term_bench.specs.Terms.{closing_terms, fact_terms, nodes_of};
+ghost use Rattle.term_bench.specs.inner.Leaves.{AreFirstOf, AreOnWay, leaf_over};
 
 use crate::put::{put_facts, put_side};
 use crate::rules::theorem;
 use held_terms::{Facts, Held, HeldFact, HeldSide, is_entry, same_side};
-use loop_rule::{Leaf, leaves};
+use loop_rule::{JudgeLeaves, cite_for_leaves, shorten};
 use rv_words::{List, NoMemory};
-use sep_assert::code_within;
+use sep_assert::{Assertion, code_within};
 use std::alloc::Global;
 use std::collections::BTreeMap;
 use std::sync::ledger::Ledger;
 use tailrec_lang::{Def, Group, def_at};
 use term_arena::{Arena, Steps};
+use triple_kernel::{Fact, RuleFault};
 
-/// An end of a body at which an entry into it ends, over numbers: the facts of the way there, and what has to hold there.
-#[derive(Debug, Drop)]
-pub(crate) struct HeldLeaf {
-    pub facts: List<HeldFact>,
-    pub post: HeldSide,
+/// Judges the leaves of a definition by theorems over numbers. A fact of the way is put into the arena where the first leaf behind it
+/// is judged, and once for all leaves behind it.
+#[derive(Drop)]
+pub(crate) struct HeldLeaves<'a, L: Ledger> {
+    pub arena: &'a mut Arena,
+    pub group: &'a Group,
+    pub def: &'a Def,
+    pub held: &'a BTreeMap<u64, Held>,
+    /// The facts of the way.
+    pub way: &'a mut List<Fact>,
+    /// The first of them, of the numbers of their terms.
+    pub put: &'a mut List<HeldFact>,
+    pub steps: &'a mut Steps<L>,
+}
+
+impl<'a, L: Ledger> JudgeLeaves for HeldLeaves<'a, L> {
+    ghost use Rattle.term_bench.specs.inner.Leaves.{held_judge};
+
+    ghost judge = { held_judge };
+
+    fn length(&self) -> usize {
+        self.way.len()
+    }
+
+    fn push(&mut self, fact: Fact) -> Result<(), NoMemory> {
+        self.way.push(fact)?;
+        Ok(())
+    }
+
+    fn shorten(&mut self, length: usize) {
+        shorten(self.way, length);
+        shorten(self.put, length);
+    }
+
+    fn is_led(&mut self, alloc: Global, post: &Assertion, number: u64) -> Result<bool, NoMemory> {
+        put_way(alloc, self.arena, self.way.as_slice(), self.put, self.steps)?;
+        let end = put_side(alloc, self.arena, post, self.steps)?;
+        Ok(led_by(
+            alloc,
+            self.arena,
+            self.group,
+            self.def,
+            self.put.as_slice(),
+            &end,
+            self.held,
+            number,
+            self.steps,
+        ))
+    }
 }
 
 /// Whether the definition of that number is closed by the theorems that are cited, one for each of its leaves.
@@ -49,90 +93,80 @@ pub(crate) fn is_closed_by<L: Ledger>(
     let Some(d) = def_at(g, def as usize) else {
         return Ok(false);
     };
-    let trees = leaves(alloc, g, def)?;
-    let ends = put_leaves(alloc, arena, trees.as_slice(), steps)?;
-    Ok(are_led(alloc, arena, g, d, ends.as_slice(), held, cited, steps))
+    let mut way = List::new(alloc);
+    let mut put = List::new(alloc);
+    let mut leaves = HeldLeaves {
+        arena,
+        group: g,
+        def: d,
+        held,
+        way: &mut way,
+        put: &mut put,
+        steps,
+    };
+    let led = was_led(cite_for_leaves(alloc, g, d, cited, &mut leaves))?;
+    Ok(led)
 }
 
-/// The leaves of the numbers of their terms.
-fn put_leaves<L: Ledger>(
+/// Whether theorems were found to lead to leaves, if there was memory.
+fn was_led(cited: Result<(), RuleFault>) -> Result<bool, NoMemory>
+    ensures led { IfOk result (λ r. IsTrue r → IsOk cited) }
+    ensures not_led { IfOk result (λ r. r ≡ false → IsErrOf cited RuleFault.NoInstance) }
+{
+    match cited {
+        Ok(()) => Ok(true),
+        Err(RuleFault::NoInstance) => Ok(false),
+        Err(RuleFault::NoMemory) => Err(NoMemory),
+    }
+}
+
+/// Puts the facts of the way that aren't put yet.
+fn put_way<L: Ledger>(
     alloc: Global,
     arena: &mut Arena,
-    leaves: &[Leaf],
+    way: &[Fact],
+    put: &mut List<HeldFact>,
     steps: &mut Steps<L>,
-) -> Result<List<HeldLeaf>, NoMemory>
-    ensures put { IfOk result (λ ls. AreLeavesPut arena.new ls (map leaf_tree leaves.now)) }
+) -> Result<(), NoMemory>
+    requires { AreFirstOf arena.old put.old (map fact_tree way.now) }
+    ensures all { OnOk result (AreOnWay arena.new put.new (map fact_tree way.now)) }
+    ensures first { AreFirstOf arena.new put.new (map fact_tree way.now) }
     ensures grows { Extends arena.old arena.new }
-    ensures steps { steps.new ≤ steps.old + nodes_of (flat_map end_terms (map leaf_tree leaves.now)) }
+    ensures steps { steps.new ≤ steps.old + nodes_of (flat_map fact_terms (map fact_tree way.now)) }
 {
-    let mut numbers = List::new(alloc);
-    for leaf in leaves {
-        let k = put_leaf(alloc, arena, leaf, steps)?;
-        numbers.push(k)?;
-    }
-    Ok(numbers)
+    let more = put_facts(alloc, arena, from_place(way, put.len()), steps)?;
+    put.append(more)?;
+    Ok(())
 }
 
-fn put_leaf<L: Ledger>(
-    alloc: Global,
-    arena: &mut Arena,
-    leaf: &Leaf,
-    steps: &mut Steps<L>,
-) -> Result<HeldLeaf, NoMemory>
-    ensures put { IfOk result (λ l. IsLeafPut arena.new l (leaf_tree leaf.now)) }
-    ensures grows { Extends arena.old arena.new }
-    ensures steps { steps.new ≤ steps.old + nodes_of (end_terms (leaf_tree leaf.now)) }
+/// The items from that place on.
+fn from_place(items: &[Fact], place: usize) -> &[Fact]
+    requires { place ≤ length items.now }
+    ensures { result.now ≡ drop place items.now }
 {
-    let facts = put_facts(alloc, arena, leaf.facts.as_slice(), steps)?;
-    let post = put_side(alloc, arena, &leaf.post, steps)?;
-    Ok(HeldLeaf { facts, post })
-}
-
-/// Whether the theorems that are cited lead to the leaves, one to each, in their order.
-fn are_led<L: Ledger>(
-    alloc: Global,
-    arena: &Arena,
-    g: &Group,
-    def: &Def,
-    leaves: &[HeldLeaf],
-    held: &BTreeMap<u64, Held>,
-    cited: &[u64],
-    steps: &mut Steps<L>,
-) -> bool
-    requires held { AreHeldAt arena.now held.now.entries }
-    requires leaves { AreLeavesAt arena.now leaves.now }
-    ensures answer { IsTrue result ↔ AllZip (IsLedTo (group_tree g.now) (def_tree def.now)) (map (leaf_over arena.now) leaves.now) (map (theorem_at arena.now held.now.entries) cited.now) }
-    ensures steps { steps.new ≤ steps.old + length leaves.now * (1 + (length g.now.regs + g.now.mems)) }
-{
-    if leaves.len() != cited.len() {
-        return false;
-    }
-    for i in 0..leaves.len() {
-        if !is_led(alloc, arena, g, def, &leaves[i], held, cited[i], steps) {
-            return false;
-        }
-    }
-    true
+    &items[place..]
 }
 
 /// Whether the theorem of that number leads to the leaf, if there is one.
-fn is_led<L: Ledger>(
+fn led_by<L: Ledger>(
     alloc: Global,
     arena: &Arena,
     g: &Group,
     def: &Def,
-    leaf: &HeldLeaf,
+    way: &[HeldFact],
+    post: &HeldSide,
     held: &BTreeMap<u64, Held>,
     number: u64,
     steps: &mut Steps<L>,
 ) -> bool
     requires held { AreHeldAt arena.now held.now.entries }
-    requires leaf { IsLeafAt arena.now leaf.now }
-    ensures answer { IsTrue result ↔ IsLedTo (group_tree g.now) (def_tree def.now) (leaf_over arena.now leaf.now) (theorem_at arena.now held.now.entries number) }
+    requires way { AreFactsAt arena.now way.now }
+    requires post { IsSideAt arena.now post.now }
+    ensures answer { IsTrue result ↔ IsLedTo (group_tree g.now) (def_tree def.now) (leaf_over arena.now way.now post.now) (theorem_at arena.now held.now.entries number) }
     ensures steps { steps.new ≤ steps.old + (1 + (length g.now.regs + g.now.mems)) }
 {
     match theorem(arena, held, number) {
-        Some(p) => leads(alloc, arena, g, def, leaf, p, steps),
+        Some(p) => leads(alloc, arena, g, def, way, post, p, steps),
         None => false,
     }
 }
@@ -143,18 +177,20 @@ fn leads<L: Ledger>(
     arena: &Arena,
     g: &Group,
     def: &Def,
-    leaf: &HeldLeaf,
+    way: &[HeldFact],
+    post: &HeldSide,
     p: &Held,
     steps: &mut Steps<L>,
 ) -> bool
-    requires leaf { IsLeafAt arena.now leaf.now }
+    requires way { AreFactsAt arena.now way.now }
+    requires post { IsSideAt arena.now post.now }
     requires p { IsHeldAt arena.now p.now }
-    ensures answer { IsTrue result ↔ LeadsTo (group_tree g.now) (def_tree def.now) (leaf_over arena.now leaf.now) (triple_of arena.now p.now) }
+    ensures answer { IsTrue result ↔ LeadsTo (group_tree g.now) (def_tree def.now) (leaf_over arena.now way.now post.now) (triple_of arena.now p.now) }
     ensures steps { steps.new ≤ steps.old + (1 + (length g.now.regs + g.now.mems)) }
 {
-    let facts = Facts::new(alloc, leaf.facts.as_slice(), p.facts.len());
+    let facts = Facts::new(alloc, way, p.facts.len());
     is_entry(arena, g, def, &p.pre, steps)
-        && same_side(arena, &p.post, &leaf.post)
+        && same_side(arena, &p.post, post)
         && facts.has_all(arena, p.facts.as_slice())
         && code_within(p.code.as_code(), &g.code)
 }
