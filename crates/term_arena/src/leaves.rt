@@ -27,6 +27,7 @@ impl FirstLeaves {
     }
 
     /// The number of a node, where it is one of these and has one.
+    #[inline(always)]
     pub fn number_of(&self, n: Node) -> Option<u64>
         ensures { (ns : List NodeOf) → ArePlaced ns self.now → IfSome result (λ k. slice_get ns k ≡ Just n) }
     {
@@ -52,6 +53,7 @@ impl FirstLeaves {
 }
 
 /// The number that a place leads to.
+#[inline(always)]
 fn number_at(places: &[u64], i: usize) -> Option<u64>
     ensures { IfSome result (λ k. slice_index places.now i ≡ k + 1) }
 {

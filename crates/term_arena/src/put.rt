@@ -13,8 +13,8 @@ use std::sync::ledger::Ledger;
 use word_terms::{Cond, Mem, Word};
 
 impl Arena {
-    /// The number of a word. It takes at most a step for each node.
-    #[cycle(puts)]
+    /// The number of a word. It takes at most a step for each node. Mostly it is a variable or a constant.
+    #[inline(always)]
     pub fn put_word<L: Ledger>(&mut self, t: &Word, steps: &mut Steps<L>) -> Result<u64, NoMemory>
         ensures tree { IfOk result (λ k. tree_of self.new k ≡ Just (OfWord (word_tree t.now))) }
         ensures grows { Extends self.old self.new }
@@ -22,20 +22,35 @@ impl Arena {
         ensures steps { steps.new ≤ steps.old + word_nodes (word_tree t.now) }
     {
         match t {
-            Word::Const(n) => self.add(Node::Const(*n), steps),
-            Word::Var(i) => self.add(Node::WordVar(*i), steps),
+            Word::Const(n) => self.add_leaf(Node::Const(*n), steps),
+            Word::Var(i) => self.add_leaf(Node::WordVar(*i), steps),
+            _ => self.put_parts(t, steps),
+        }
+    }
+
+    /// The number of a word, whatever it is.
+    #[cycle(puts)]
+    fn put_parts<L: Ledger>(&mut self, t: &Word, steps: &mut Steps<L>) -> Result<u64, NoMemory>
+        ensures tree { IfOk result (λ k. tree_of self.new k ≡ Just (OfWord (word_tree t.now))) }
+        ensures grows { Extends self.old self.new }
+        ensures order { IfOk result (λ _. ArePutIn (trees_of self.old) (word_subterms (word_tree t.now)) (trees_of self.new)) }
+        ensures steps { steps.new ≤ steps.old + word_nodes (word_tree t.now) }
+    {
+        match t {
+            Word::Const(n) => self.add_leaf(Node::Const(*n), steps),
+            Word::Var(i) => self.add_leaf(Node::WordVar(*i), steps),
             Word::Bin(op, a, b) => {
-                let a = self.put_word(a, steps)?;
-                let b = self.put_word(b, steps)?;
+                let a = self.put_parts(a, steps)?;
+                let b = self.put_parts(b, steps)?;
                 self.add(Node::Bin(*op, a, b), steps)
             }
             Word::Extend(ext, a) => {
-                let a = self.put_word(a, steps)?;
+                let a = self.put_parts(a, steps)?;
                 self.add(Node::Extend(*ext, a), steps)
             }
             Word::Load(width, m, a) => {
                 let m = self.put_mem(m, steps)?;
-                let a = self.put_word(a, steps)?;
+                let a = self.put_parts(a, steps)?;
                 self.add(Node::Load(*width, m, a), steps)
             }
         }
@@ -50,11 +65,11 @@ impl Arena {
         ensures steps { steps.new ≤ steps.old + mem_nodes (mem_tree t.now) }
     {
         match t {
-            Mem::Var(i) => self.add(Node::MemVar(*i), steps),
+            Mem::Var(i) => self.add_leaf(Node::MemVar(*i), steps),
             Mem::Store(width, m, a, v) => {
                 let m = self.put_mem(m, steps)?;
-                let a = self.put_word(a, steps)?;
-                let v = self.put_word(v, steps)?;
+                let a = self.put_parts(a, steps)?;
+                let v = self.put_parts(v, steps)?;
                 self.add(Node::Store(*width, m, a, v), steps)
             }
         }
