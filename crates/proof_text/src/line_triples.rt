@@ -34,15 +34,16 @@ fn read_register_term<'a>(alloc: Global, scan: &mut Scan<'a>) -> Result<(u8, Wor
     Ok((register, word))
 }
 
-/// The registers up to a token other than a left parenthesis.
+/// The registers up to a token other than a left parenthesis. There is memory for that many at once.
 fn read_register_terms<'a>(
     alloc: Global,
     scan: &mut Scan<'a>,
+    expected: usize,
 ) -> Result<List<(u8, Word)>, TokenError>
     ensures gives { Gives (λ regs. map register_tree regs) result scan.old scan.new (star is_open register_at) }
     ensures last { last_line scan.new ≡ last_line scan.old }
 {
-    let mut regs = List::new(alloc);
+    let mut regs = List::with_capacity(alloc, expected)?;
     'regs: while is_open(scan) {
         match read_register_term(alloc, scan) {
             Ok(register) => regs.push(register)?,
@@ -73,15 +74,19 @@ fn registers_rise(registers: &[(u8, Word)]) -> bool
     true
 }
 
-/// An assertion.
+/// An assertion, with memory for that many registers at once.
 #[tactic(auto, unfolding(crate::specs::inner::LineReading::assertion_at))]
-fn read_assertion<'a>(alloc: Global, scan: &mut Scan<'a>) -> Result<Assertion, TokenError>
+fn read_assertion<'a>(
+    alloc: Global,
+    scan: &mut Scan<'a>,
+    expected: usize,
+) -> Result<Assertion, TokenError>
     ensures gives { Gives assertion_tree result scan.old scan.new assertion_at }
     ensures last { last_line scan.new ≡ last_line scan.old }
 {
     left(scan)?;
     let pc = read_word(alloc, scan, DEPTH_LIMIT)?;
-    let regs = read_register_terms(alloc, scan)?;
+    let regs = read_register_terms(alloc, scan, expected)?;
     semi(scan)?;
     let mems = read_mems(alloc, scan)?;
     right(scan)?;
@@ -152,7 +157,7 @@ fn read_code<'a>(alloc: Global, scan: &mut Scan<'a>, own: &Code) -> Result<Code,
     }
 }
 
-/// A triple, after its first word, by the group's own code.
+/// A triple, after its first word, by the group's own code. Mostly both sides have as many registers.
 #[tactic(auto, unfolding(crate::specs::inner::LineReading::triple_at))]
 pub fn read_triple<'a>(alloc: Global, scan: &mut Scan<'a>, own: &Code) -> Result<Triple, TokenError>
     ensures gives { Gives triple_tree result scan.old scan.new (triple_at own.now.ranges) }
@@ -160,10 +165,10 @@ pub fn read_triple<'a>(alloc: Global, scan: &mut Scan<'a>, own: &Code) -> Result
 {
     let facts = read_facts(alloc, scan)?;
     keyword(scan, b"pre")?;
-    let pre = read_assertion(alloc, scan)?;
+    let pre = read_assertion(alloc, scan, 0)?;
     keyword(scan, b"code")?;
     let code = read_code(alloc, scan, own)?;
-    let post = read_assertion(alloc, scan)?;
+    let post = read_assertion(alloc, scan, pre.regs.len())?;
     Ok(Triple {
         facts,
         pre,
