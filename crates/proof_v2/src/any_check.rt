@@ -18,12 +18,12 @@ ghost use Rattle.proof_v2.specs.AnyVerdicts.{SaysAny, SaysIn};
 ghost use Rattle.proof_v2.specs.Titles.{any_version};
 
 use crate::title::{any_version, as_any, held_version, is_short};
-use checker::{NoRule, Pulled, Verdict, check_bytes, check_pulled_by};
+use checker::{Pulled, Verdict, check_bytes};
 use elf_image::Image;
 use mc_shelf::{LineFault, Lines, Shelf};
 use proof_text::{Pull, Reader, Version};
 use std::alloc::Global;
-use term_bench::{check_pulled_short, check_short};
+use term_bench::{check_pulled_numbered, check_pulled_short, check_short};
 
 /// Checks a proof text of version 1 or 2 for an ELF file.
 pub fn check_any_bytes(alloc: Global, elf: &[u8], proof: &[u8]) -> Verdict
@@ -68,7 +68,7 @@ pub fn check_pulled_any<S: Shelf>(
     if is_short(version) {
         check_pulled_short(alloc, image, pull, shelf)
     } else {
-        check_pulled_by(alloc, image, pull, shelf, &NoRule)
+        check_pulled_numbered(alloc, image, pull, shelf)
     }
 }
 
