@@ -12,7 +12,7 @@ ghost use Rattle.group_text.specs.Version.{Version};
 ghost use Rattle.loop_rule.specs.Rule.{IsClosed};
 ghost use Rattle.proof_text.specs.Line.{LineTree, ProofTree};
 ghost use Rattle.proof_text.specs.Proofs.{groups_of};
-ghost use Rattle.checker.specs.Instance.{History, Instance, after_line};
+ghost use Rattle.checker.specs.Instance.{History, InstanceBy, after_line};
 ghost use Rattle.checker.specs.Accepts.{Accepts};
 ghost use Rattle.checker.specs.Headline.{IsRight, Headline};
 ghost use Rattle.checker.specs.Sound.{Sound};
@@ -28,11 +28,13 @@ pub fn law_of_exits()
         → IsWithin (range_bytes g.code) (code_of_file file) → IsClosed g (listed_def g) → IsRight file g }
 {}
 
-/// A line that is right keeps theorems and closed definitions valid.
-pub fn law_of_lines()
+/// A line that is right in a text with that further rule keeps theorems and closed definitions valid.
+pub fn law_of_lines<R: FurtherRule>(rule: &R)
     ensures { (g : GroupTree) → IsWellFormed g
-        → (h : History) → Sound g h → (l : LineTree) → Instance g h l → Sound g (after_line h l) }
-{}
+        → (h : History) → Sound g h → (l : LineTree) → InstanceBy R.states g h l → Sound g (after_line h l) }
+{
+    rule.law();
+}
 
 /// What is accepted is right.
 pub fn law_of_proofs()
