@@ -7,6 +7,7 @@ pub mod FindLemmas
 pub mod ImageLemmas
 pub mod ImagingLemmas
 pub mod InstanceLemmas
+pub mod LaterLemmas
 pub mod NumberLemmas
 pub mod PlaceLemmas
 pub mod Indices

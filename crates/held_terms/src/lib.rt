@@ -21,6 +21,7 @@ mod held;
 mod image_table;
 mod images;
 mod instances;
+mod later_rules;
 mod missing;
 mod rules;
 mod same;
@@ -34,6 +35,7 @@ pub use facts::Facts;
 pub use held::{Held, HeldFact, HeldSide, HeldValues};
 pub use image_table::ImageTable;
 pub use instances::instance;
+pub use later_rules::{is_exchanged, is_steered};
 pub use rules::{
     is_composition, is_discharged, is_extension, is_frame, is_instance, is_strengthened,
     is_weakened,

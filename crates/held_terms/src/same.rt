@@ -78,8 +78,9 @@ pub fn same_mems(arena: &Arena, a: &[u64], b: &[u64]) -> bool
     true
 }
 
+/// Whether two lists of registers are the same with the same terms.
 #[tactic(auto, using(sep_assert::proofs::SameLists::map_differs))]
-fn same_registers(arena: &Arena, a: &[(u8, u64)], b: &[(u8, u64)]) -> bool
+pub fn same_registers(arena: &Arena, a: &[(u8, u64)], b: &[(u8, u64)]) -> bool
     requires a { AreRegistersAt arena.now a.now }
     requires b { AreRegistersAt arena.now b.now }
     ensures { IsTrue result ↔ (map (register_of arena.now) a.now ≡ map (register_of arena.now) b.now) }

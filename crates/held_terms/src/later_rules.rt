@@ -1,0 +1,77 @@
+//! The rules that lines of later versions have, over numbers.
+
+ghost use Rattle.std.specs.Prelude.{◌≡◌, ◌↔◌, ◌+◌, ◌≤◌, IfOk, IsTrue, map};
+ghost use Rattle.term_arena.specs.Arena.{Extends, mem_of};
+ghost use Rattle.triple_kernel.specs.Rules.{AreAmong};
+ghost use Rattle.further_rules.specs.Rules.{AreExchanged, IsExchanged, IsSteered};
+ghost use Rattle.held_terms.specs.Held.{AreMemsAt, IsHeldAt, fact_of, register_of, side_of, triple_of};
+
+use crate::facts::Facts;
+use crate::held::{Held, HeldFact};
+use crate::same::{same_facts, same_mem, same_mems, same_registers, same_side, same_word};
+use rv_words::{Cmp, NoMemory};
+use sep_assert::same_code;
+use std::alloc::Global;
+use std::sync::ledger::Ledger;
+use term_arena::{Arena, Node, Steps};
+
+/// More facts, and another last program counter, which one of them says to be the same. It takes one step.
+pub fn is_steered<L: Ledger>(
+    alloc: Global,
+    arena: &mut Arena,
+    p: &Held,
+    stated: &Held,
+    steps: &mut Steps<L>,
+) -> Result<bool, NoMemory>
+    requires p { IsHeldAt arena.old p.now }
+    requires stated { IsHeldAt arena.old stated.now }
+    ensures answer { IfOk result (λ r. IsTrue r ↔ IsSteered (triple_of arena.old p.now) (triple_of arena.old stated.now)) }
+    ensures grows { Extends arena.old arena.new }
+    ensures steps { steps.new ≤ steps.old + 1 }
+{
+    let facts = Facts::new(alloc, stated.facts.as_slice(), p.facts.len());
+    if !keeps_all_but_place(arena, p, stated, &facts) {
+        return Ok(false);
+    }
+    let equation = arena.add(Node::Compare(Cmp::Eq, p.post.pc, stated.post.pc), steps)?;
+    Ok(facts.has(arena, &HeldFact::So(equation)))
+}
+
+/// At least the same facts, and all else the same but the last program counter.
+fn keeps_all_but_place(arena: &Arena, p: &Held, stated: &Held, facts: &Facts) -> bool
+    requires p { IsHeldAt arena.now p.now }
+    requires stated { IsHeldAt arena.now stated.now }
+    requires facts { facts.now ≡ stated.now.facts }
+    ensures { IsTrue result ↔ ((side_of arena.now p.now.pre ≡ side_of arena.now stated.now.pre) × (p.now.code.ranges ≡ stated.now.code.ranges) × (map (register_of arena.now) p.now.post.regs ≡ map (register_of arena.now) stated.now.post.regs) × (map (mem_of arena.now) p.now.post.mems ≡ map (mem_of arena.now) stated.now.post.mems) × AreAmong (map (fact_of arena.now) p.now.facts) (map (fact_of arena.now) stated.now.facts)) }
+{
+    same_side(arena, &p.pre, &stated.pre)
+        && same_code(p.code.as_code(), stated.code.as_code())
+        && same_registers(arena, p.post.regs.as_slice(), stated.post.regs.as_slice())
+        && same_mems(arena, p.post.mems.as_slice(), stated.post.mems.as_slice())
+        && facts.has_all(arena, p.facts.as_slice())
+}
+
+/// The two memories exchanged, in both assertions.
+pub fn is_exchanged(arena: &Arena, p: &Held, stated: &Held) -> bool
+    requires p { IsHeldAt arena.now p.now }
+    requires stated { IsHeldAt arena.now stated.now }
+    ensures { IsTrue result ↔ IsExchanged (triple_of arena.now p.now) (triple_of arena.now stated.now) }
+{
+    same_facts(arena, p.facts.as_slice(), stated.facts.as_slice())
+        && same_code(p.code.as_code(), stated.code.as_code())
+        && same_word(arena, p.pre.pc, stated.pre.pc)
+        && same_registers(arena, p.pre.regs.as_slice(), stated.pre.regs.as_slice())
+        && are_exchanged(arena, p.pre.mems.as_slice(), stated.pre.mems.as_slice())
+        && same_word(arena, p.post.pc, stated.post.pc)
+        && same_registers(arena, p.post.regs.as_slice(), stated.post.regs.as_slice())
+        && are_exchanged(arena, p.post.mems.as_slice(), stated.post.mems.as_slice())
+}
+
+/// Whether the two lists have two memories each, the same in the other order.
+fn are_exchanged(arena: &Arena, a: &[u64], b: &[u64]) -> bool
+    requires a { AreMemsAt arena.now a.now }
+    requires b { AreMemsAt arena.now b.now }
+    ensures { IsTrue result ↔ AreExchanged (map (mem_of arena.now) a.now) (map (mem_of arena.now) b.now) }
+{
+    a.len() == 2 && b.len() == 2 && same_mem(arena, a[0], b[1]) && same_mem(arena, a[1], b[0])
+}
