@@ -1,10 +1,14 @@
 //! The rules that lines of later versions have, over numbers.
 
 ghost use Rattle.std.specs.Prelude.{◌≡◌, ◌↔◌, ◌+◌, ◌≤◌, IfOk, IsTrue, map};
-ghost use Rattle.term_arena.specs.Arena.{Extends, mem_of};
+ghost use Rattle.std.specs.List.{Contains};
+ghost use Rattle.rv_words.specs.declared.comparison.Cmp.TheVariants.{Eq};
+ghost use Rattle.word_terms.specs.Tree.{Compare};
+ghost use Rattle.term_arena.specs.Arena.{Extends, IsWordAt, mem_of, word_of};
+ghost use Rattle.triple_kernel.specs.Tree.{So};
 ghost use Rattle.triple_kernel.specs.Rules.{AreAmong};
 ghost use Rattle.further_rules.specs.Rules.{AreExchanged, IsExchanged, IsSteered};
-ghost use Rattle.held_terms.specs.Held.{AreMemsAt, IsHeldAt, fact_of, register_of, side_of, triple_of};
+ghost use Rattle.held_terms.specs.Held.{AreFactsAt, AreMemsAt, IsHeldAt, fact_of, register_of, side_of, triple_of};
 
 use crate::facts::Facts;
 use crate::held::{Held, HeldFact};
@@ -33,8 +37,8 @@ pub fn is_steered<L: Ledger>(
     if !keeps_all_but_place(arena, p, stated, &facts) {
         return Ok(false);
     }
-    let equation = arena.add(Node::Compare(Cmp::Eq, p.post.pc, stated.post.pc), steps)?;
-    Ok(facts.has(arena, &HeldFact::So(equation)))
+    let equal = are_equal_by(arena, &facts, p.post.pc, stated.post.pc, steps)?;
+    Ok(equal)
 }
 
 /// At least the same facts, and all else the same but the last program counter.
@@ -49,6 +53,25 @@ fn keeps_all_but_place(arena: &Arena, p: &Held, stated: &Held, facts: &Facts) ->
         && same_registers(arena, p.post.regs.as_slice(), stated.post.regs.as_slice())
         && same_mems(arena, p.post.mems.as_slice(), stated.post.mems.as_slice())
         && facts.has_all(arena, p.facts.as_slice())
+}
+
+/// Whether one of the facts is that the two words are equal, in that order. It takes one step.
+fn are_equal_by<L: Ledger>(
+    arena: &mut Arena,
+    facts: &Facts,
+    a: u64,
+    b: u64,
+    steps: &mut Steps<L>,
+) -> Result<bool, NoMemory>
+    requires facts { AreFactsAt arena.old facts.now }
+    requires a { IsWordAt arena.old a }
+    requires b { IsWordAt arena.old b }
+    ensures answer { IfOk result (λ r. IsTrue r ↔ Contains (map (fact_of arena.old) facts.now) (So (Compare Eq (word_of arena.old a) (word_of arena.old b)))) }
+    ensures grows { Extends arena.old arena.new }
+    ensures steps { steps.new ≡ steps.old + 1 }
+{
+    let equation = arena.add(Node::Compare(Cmp::Eq, a, b), steps)?;
+    Ok(facts.has(arena, &HeldFact::So(equation)))
 }
 
 /// The two memories exchanged, in both assertions.
