@@ -1,10 +1,10 @@
 -- The rules that lines of later versions have, over an arena that grows.
-use Rattle.std.proofs.Common.{◌≡◌, ℕ, List, Some, map, sym, ap, subst}
+use Rattle.std.proofs.Common.{◌≡◌, ℕ, List, Some, map, ap, subst}
 use Rattle.std.specs.Prelude.{◌↔◌}
 use Rattle.std.specs.List.{Contains}
 use Rattle.rv_words.specs.declared.comparison.Cmp.TheVariants.{Eq}
 use Rattle.word_terms.specs.Tree.{Compare}
-use Rattle.triple_kernel.specs.Tree.{FactTree, So}
+use Rattle.triple_kernel.specs.Tree.{So}
 use Rattle.term_arena.specs.declared.node.Node.{Node}
 use Rattle.term_arena.specs.declared.node.Node.TheVariants as node
 use Rattle.term_arena.specs.Arena.{as_cond, cond_of, tree_of, tree_over, trees_of, word_of, IsCondAt, Extends}
