@@ -1,6 +1,6 @@
 -- What a bench holds: in a larger arena, with a theorem more or less, and with one more definition that is closed.
 use Rattle.std.proofs.Common.{◌≡◌, ℕ, zero, suc, ◌+◌, ◌<◌, Bool, true, false, cond, Option, Some, None, List, [], ◌∷◌, ◌++◌, length, map, refl, sym, ap, ◌∙◌, subst, arith}
-use Rattle.std.specs.Prelude.{◌==◌, ◌↔◌, IfSome, Contains, is_some, option_map, replicate, slice_get, slice_set, unwrap_or}
+use Rattle.std.specs.Prelude.{◌==◌, ◌↔◌, IfSome, IsSomeAnd, Contains, is_some, option_map, replicate, slice_get, slice_set, unwrap_or}
 use Rattle.std.proofs.lemmas.List.{append-nil, length-map}
 use Rattle.std.proofs.lemmas.Option.{slice_get_within}
 use Rattle.std.proofs.lemmas.Map.Lookups.{exact_unsigned}
@@ -21,7 +21,7 @@ use Rattle.held_terms.specs.Held.{IsHeldAt, triple_of}
 use Rattle.held_terms.proofs.InstanceLemmas.{held_still, same_triple}
 use Rattle.loop_rule.specs.Rule.{IsClosedBy}
 use Rattle.proof_text.specs.Line.{RuleTree}
-use Rattle.checker.specs.Instance.{History, Meets, no_lines, with_closed, with_theorem, without}
+use Rattle.checker.specs.Instance.{FurtherRule, History, Meets, no_lines, with_closed, with_theorem, without}
 use Rattle.checker.specs.Sound.{Sound}
 use Rattle.checker.proofs.SoundLemmas.{no_lines-sound}
 use Rattle.term_bench.specs.Bench.{AreHeldAt, BenchState, CanCite, Theorems, held_by_number, is_closed_in, state_group, state_history, theorem_at}
@@ -212,6 +212,13 @@ pub meets_same : (g k : GroupTree) (h j : History) (r : RuleTree) (t : TripleTre
 meets_same g k h j r t eg eh = (
   λ m. subst (λ (x : GroupTree). Meets x h r t) eg (subst (λ (x : History). Meets k x r t) eh m),
   λ m. subst (λ (x : History). Meets k x r t) (sym eh) (subst (λ (x : GroupTree). Meets x h r t) (sym eg) m),
+)
+
+-- .. and what a further rule states from a theorem
+pub further_same : (F : FurtherRule) (cited : ℕ) (h j : History) (t u : TripleTree) → j ≡ h → u ≡ t → IsSomeAnd (j.theorem cited) (λ p. F p u) ↔ IsSomeAnd (h.theorem cited) (λ p. F p t)
+further_same F cited h j t u eh et = (
+  λ m. subst (λ (x : TripleTree). IsSomeAnd (h.theorem cited) (λ p. F p x)) et (subst (λ (x : History). IsSomeAnd (x.theorem cited) (λ p. F p u)) eh m),
+  λ m. subst (λ (x : History). IsSomeAnd (x.theorem cited) (λ p. F p u)) (sym eh) (subst (λ (x : TripleTree). IsSomeAnd (h.theorem cited) (λ p. F p x)) (sym et) m),
 )
 
 pub closed_same : (g k : GroupTree) (h j : History) (d : ℕ) (cited : List ℕ) → k ≡ g → j ≡ h → IsClosedBy k d (map j.theorem cited) ↔ IsClosedBy g d (map h.theorem cited)

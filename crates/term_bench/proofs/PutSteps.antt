@@ -56,7 +56,10 @@ no-more : (n : ℕ) → n ≤ n * n
 no-more zero = omega arith
 no-more (suc n) = let outer = suc-mul n (suc n) in omega (arith, outer)
 
--- two steps for each term, for each pair, for each pair with one for each term, and ten for each term and one more
+-- one step; two for each term, for each pair, for each pair with one for each term; and ten for each term and one more
+pub one_within : (n : ℕ) → 1 ≤ 4 * ((n + 1) * (n + 1))
+one_within n = let e = square n in omega (arith, e)
+
 pub terms_within : (n : ℕ) → 2 * n ≤ 4 * ((n + 1) * (n + 1))
 terms_within n = let e = square n in omega (arith, e)
 

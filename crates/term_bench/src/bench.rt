@@ -1,6 +1,6 @@
 //! The judge of the lines of a group's proof, over numbers.
 
-ghost use Rattle.std.specs.Prelude.{◌≡◌, ◌+◌, ◌<◌, ◌≤◌, ◌↔◌, ◌++◌, IfOk, IfSome, IsErrOf, IsTrue, List as Items, OnErr, OnOk, [], false, is_some, length, map, option_map, replicate, slice_get, true};
+ghost use Rattle.std.specs.Prelude.{◌≡◌, ◌+◌, ◌<◌, ◌≤◌, ◌↔◌, ◌++◌, IfOk, IfSome, IsErrOf, IsSomeAnd, IsTrue, List as Items, OnErr, OnOk, [], false, is_some, length, map, option_map, replicate, slice_get, true};
 ghost use Rattle.std.specs.Option.{option_copied};
 ghost use Rattle.tailrec_lang.specs.Tree.{group_tree};
 ghost use Rattle.tailrec_lang.specs.WellFormed.{IsWellFormed};
@@ -9,7 +9,7 @@ ghost use Rattle.loop_rule.specs.Rule.{IsClosedBy};
 ghost use Rattle.proof_text.specs.Line.{line_tree, rule_tree};
 ghost use Rattle.term_arena.specs.Arena.{AreChildren, Extends, IsAdded, Tree};
 ghost use Rattle.held_terms.specs.Held.{IsHeldAt, triple_of};
-ghost use Rattle.checker.specs.Instance.{Instance, Meets, after_line, no_lines, with_closed, with_theorem, without};
+ghost use Rattle.checker.specs.Instance.{Instance, InstanceBy, Meets, after_line, no_lines, with_closed, with_theorem, without};
 ghost use Rattle.checker.specs.Sound.{Sound};
 ghost use Rattle.term_bench.specs.Bench.{CanCite, state_group, state_history, state_nodes};
 ghost use Rattle.proof_text.specs.inner.OwnCode.{IsOwnCode};
@@ -20,10 +20,11 @@ ghost use Rattle.term_bench.specs.inner.Put.{IsHeldPut};
 
 use crate::closing::is_closed_by;
 use crate::copies::copy_to_share;
+use crate::held_rule::HeldRule;
 use crate::put::put_triple;
-use crate::rules::{code_giver, is_closed, meets, theorem};
+use crate::rules::{by_further, code_giver, is_closed, meets, theorem};
 use crate::stating::stated_by;
-use checker::law_of_lines;
+use checker::{NoRule, law_of_lines};
 use held_terms::{Held, ImageTable, SharedCode};
 use proof_text::{Line, Rule};
 use rv_words::{List, NoMemory};
@@ -115,12 +116,8 @@ impl<'g> Bench<'g> {
         self.arena.len()
     }
 
-    /// Judges the next line. After a refusal the theorems and the closed definitions are as before; the arena may have more
-    /// terms. A theorem whose number's successor has more than 64 bits is refused as for want of memory. A line by `frame`,
-    /// `compose` or `extend` takes at most a step for each node of the triple that it states, and one that forgets takes none. One by
-    /// any other rule takes at most one for each node of its terms and 4 (T + 1)^2 more, where T is how many different terms its
-    /// triple and the theorem that it cites have. One that closes a definition takes at most one for each node of what each of its
-    /// theorems has to state: the entry, the facts of the way and its end.
+    /// Judges the next line, where there is no further rule. After a refusal the theorems and the closed definitions are as before;
+    /// the arena may have more terms. What it takes is said of `judge_by`.
     pub fn judge<L: Ledger>(
         &mut self,
         alloc: Global,
@@ -137,11 +134,39 @@ impl<'g> Bench<'g> {
         ensures most { is_loop (line_tree line.now) ≡ false → (ts : Items Tree) → HasLine (state_history self.old).theorem (line_tree line.now) ts → steps.new ≤ steps.old + (nodes_of (whole_line_terms (line_tree line.now)) + pair_steps ts) }
         ensures closing { is_loop (line_tree line.now) ≡ true → steps.new ≤ steps.old + nodes_of (loop_terms (state_group self.old) (line_tree line.now)) }
     {
+        self.judge_by(alloc, &NoRule, line, steps)
+    }
+
+    /// Judges the next line of a text with that further rule. After a refusal the theorems and the closed definitions are as before;
+    /// the arena may have more terms. A theorem whose number's successor has more than 64 bits is refused as for want of memory. A
+    /// line by `frame`, `compose` or `extend` takes at most a step for each node of the triple that it states, and one that forgets
+    /// takes none. One by any other rule takes at most one for each node of its terms and 4 (T + 1)^2 more, where T is how many
+    /// different terms its triple and the theorem that it cites have. One that closes a definition takes at most one for each node
+    /// of what each of its theorems has to state: the entry, the facts of the way and its end.
+    pub fn judge_by<R: HeldRule, L: Ledger>(
+        &mut self,
+        alloc: Global,
+        by: &R,
+        line: &Line,
+        steps: &mut Steps<L>,
+    ) -> Result<(), RuleFault>
+        ensures group { self.new.0 ≡ self.old.0 }
+        ensures instance { OnOk result (InstanceBy R.states (state_group self.old) (state_history self.old) (line_tree line.now)) }
+        ensures after { OnOk result (state_history self.new ≡ after_line (state_history self.old) (line_tree line.now)) }
+        ensures no_instance { IsErrOf result RuleFault.NoInstance → InstanceBy R.states (state_group self.old) (state_history self.old) (line_tree line.now) → ⊥ }
+        ensures same { OnErr result (state_history self.new ≡ state_history self.old) }
+        ensures grows { Extends (state_nodes self.old) (state_nodes self.new) }
+        ensures steps { is_compared (line_tree line.now) ≡ true → steps.new ≤ steps.old + nodes_of (stated_triple_terms (line_tree line.now)) }
+        ensures most { is_loop (line_tree line.now) ≡ false → (ts : Items Tree) → HasLine (state_history self.old).theorem (line_tree line.now) ts → steps.new ≤ steps.old + (nodes_of (whole_line_terms (line_tree line.now)) + pair_steps ts) }
+        ensures closing { is_loop (line_tree line.now) ≡ true → steps.new ≤ steps.old + nodes_of (loop_terms (state_group self.old) (line_tree line.now)) }
+    {
         match line {
             Line::States { rule, stated } => self.state(alloc, rule, stated, steps),
             Line::Loop { def, cited } => self.close(alloc, *def, cited.as_slice(), steps),
             Line::Forget(k) => self.forget(*k),
-            Line::Further { .. } => Err(RuleFault::NoInstance),
+            Line::Further { cited, stated } => {
+                self.state_further(alloc, by, *cited, stated, steps)
+            }
         }
     }
 
@@ -226,7 +251,7 @@ impl<'g> Bench<'g> {
         ensures steps { compares_numbers (rule_tree rule.now) ≡ true → steps.new ≤ steps.old + nodes_of (triple_terms (triple_tree stated.now)) }
         ensures most { (ts : Items Tree) → HasSubterms ts (triple_terms (triple_tree stated.now)) → HasSubterms ts (premise_terms (state_history self.old).theorem (rule_tree rule.now)) → steps.new ≤ steps.old + (nodes_of (triple_terms (triple_tree stated.now) ++ put_in_terms (rule_tree rule.now)) + pair_steps ts) }
     {
-        law_of_lines();
+        law_of_lines(&NoRule);
         self.law_of_bench();
         let put = self.put(alloc, stated, steps)?;
         let so = self.meets(alloc, rule, stated, &put, steps)?;
@@ -234,6 +259,35 @@ impl<'g> Bench<'g> {
             return Err(RuleFault::NoInstance);
         }
         self.keep_by(rule, put)?;
+        Ok(())
+    }
+
+    /// States a triple by a further rule.
+    #[tactic(auto, using(held_terms::proofs::InstanceLemmas::extends_next))]
+    fn state_further<R: HeldRule, L: Ledger>(
+        &mut self,
+        alloc: Global,
+        by: &R,
+        cited: u64,
+        stated: &Triple,
+        steps: &mut Steps<L>,
+    ) -> Result<(), RuleFault>
+        ensures group { self.new.0 ≡ self.old.0 }
+        ensures instance { OnOk result (IsSomeAnd ((state_history self.old).theorem cited) (λ p. R.states p (triple_tree stated.now))) }
+        ensures after { OnOk result (state_history self.new ≡ with_theorem (triple_tree stated.now) (state_history self.old)) }
+        ensures no_instance { IsErrOf result RuleFault.NoInstance → IsSomeAnd ((state_history self.old).theorem cited) (λ p. R.states p (triple_tree stated.now)) → ⊥ }
+        ensures same { OnErr result (state_history self.new ≡ state_history self.old) }
+        ensures grows { Extends (state_nodes self.old) (state_nodes self.new) }
+        ensures steps { steps.new ≤ steps.old + (nodes_of (triple_terms (triple_tree stated.now)) + 1) }
+    {
+        law_of_lines(by);
+        self.law_of_bench();
+        let put = self.put(alloc, stated, steps)?;
+        let so = self.by_further(alloc, by, cited, &put, steps)?;
+        if !so {
+            return Err(RuleFault::NoInstance);
+        }
+        self.keep_made(put)?;
         Ok(())
     }
 
@@ -253,7 +307,7 @@ impl<'g> Bench<'g> {
         ensures same { OnErr result (state_history self.new ≡ state_history self.old) }
         ensures grows { Extends (state_nodes self.old) (state_nodes self.new) }
     {
-        law_of_lines();
+        law_of_lines(&NoRule);
         self.law_of_bench();
         let made = self.stated_by(alloc, line, steps)?;
         let Some(h) = made else {
@@ -336,6 +390,25 @@ impl<'g> Bench<'g> {
             put,
             steps,
         )
+    }
+
+    /// Whether the further rule states the triple of those numbers from the theorem of that number.
+    fn by_further<R: HeldRule, L: Ledger>(
+        &mut self,
+        alloc: Global,
+        by: &R,
+        cited: u64,
+        put: &Held,
+        steps: &mut Steps<L>,
+    ) -> Result<bool, NoMemory>
+        requires { IsHeldAt (state_nodes self.old) put.now }
+        ensures answer { IfOk result (λ r. IsTrue r ↔ IsSomeAnd ((state_history self.old).theorem cited) (λ p. R.states p (triple_of (state_nodes self.old) put.now))) }
+        ensures group { self.new.0 ≡ self.old.0 }
+        ensures same { state_history self.new ≡ state_history self.old }
+        ensures grows { Extends (state_nodes self.old) (state_nodes self.new) }
+        ensures steps { steps.new ≤ steps.old + 1 }
+    {
+        by_further(alloc, by, &mut self.arena, &self.held, cited, put, steps)
     }
 
     /// Keeps the next theorem, which is valid.
@@ -431,7 +504,7 @@ impl<'g> Bench<'g> {
         ensures grows { Extends (state_nodes self.old) (state_nodes self.new) }
         ensures steps { steps.new ≤ steps.old + nodes_of (closing_terms (state_group self.old) (slice_get (state_group self.old).defs def)) }
     {
-        law_of_lines();
+        law_of_lines(&NoRule);
         self.law_of_bench();
         let so = self.is_closed_by(alloc, def, cited, steps)?;
         if !so {
@@ -487,7 +560,7 @@ impl<'g> Bench<'g> {
         ensures no_instance { OnErr result (is_some ((state_history self.old).theorem k) ≡ true → ⊥) }
         ensures same { OnErr result (self.new ≡ self.old) }
     {
-        law_of_lines();
+        law_of_lines(&NoRule);
         self.law_of_bench();
         if !self.is_held(k) {
             return Err(RuleFault::NoInstance);

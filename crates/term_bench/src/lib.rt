@@ -5,11 +5,12 @@
 //! are put into one arena, which has each term once, and a rule compares numbers; so a term that occurs in a thousand
 //! theorems is kept and compared as one.
 //!
-//! `bench.judge(alloc, &line, &mut steps)` is Ok exactly where the line is an `Instance` after what the bench holds. What it
-//! holds stands for a `History` (`state_history`), and that is as it was after a refusal, while the arena may have more terms.
-//! A theorem that was forgotten takes no place; `bench.kept()` is how many there are.
-//! The type keeps that each theorem is valid and each closed definition right, by the checker's law of lines, so that nothing
-//! is proved again of the rules. `put_triple` puts the terms of a triple into an arena.
+//! `bench.judge(alloc, &line, &mut steps)` is Ok exactly where the line is an `Instance` after what the bench holds, and
+//! `bench.judge_by` where it is an `InstanceBy` the further rule of its version. What it holds stands for a `History`
+//! (`state_history`), and that is as it was after a refusal, while the arena may have more terms. A theorem that was forgotten
+//! takes no place; `bench.kept()` is how many there are. The type keeps that each theorem is valid and each closed definition
+//! right, by the checker's law of lines, so that nothing is proved again of the rules. `put_triple` puts the terms of a triple
+//! into an arena.
 //!
 //! `bench.derive(alloc, &line, &mut steps)` does so for a short line, whose terms are numbers of the arena and which leaves out
 //! what can be computed: it is Ok exactly where some triple within the limits of texts makes the line right
@@ -21,9 +22,10 @@
 //! number in the table (`law_of_new_terms`). What `derive` asks of a line then holds of each line that is read beside the table
 //! (`law_of_read_lines`, `law_of_larger_tables`), and what it asks of the theorems goes on to hold (`law_of_limits`).
 //!
-//! `OverNumbers` and `OverTables` judge the proofs of a text by such benches, for the check of the crate `checker`: those of
-//! version 1, and those of version 2 (`short_rules`), whose terms stand in a table. `check_numbered(alloc, &elf, &mut reader)` and
-//! `check_pulled_numbered` are the check of texts of version 1 so, `check_short` and `check_pulled_short` that of texts of version 2.
+//! `OverNumbers` and `OverTables` judge the proofs of a text by such benches, for the check of the crate `checker`: those whose lines
+//! state whole triples, by the further rule of their version (`HeldRule`), and those of version 2 (`short_rules`), whose terms stand
+//! in a table. `check_numbered(alloc, &elf, &mut reader, &rule)` and `check_pulled_numbered` are the check of texts of the first kind,
+//! `check_short` and `check_pulled_short` that of texts of version 2.
 #![tactic(auto)]
 
 mod bench;
@@ -33,6 +35,7 @@ mod computed;
 mod copies;
 mod depths;
 mod exits;
+mod held_rule;
 mod laws;
 mod limits;
 mod making;
@@ -45,6 +48,7 @@ mod whole_judge;
 
 pub use bench::Bench;
 pub use check::{check_numbered, check_pulled_numbered};
+pub use held_rule::HeldRule;
 pub use laws::{
     law_of_full_lines, law_of_larger_tables, law_of_limits, law_of_new_terms, law_of_one_full_line,
     law_of_read_lines, law_of_short_proofs,

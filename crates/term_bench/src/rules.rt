@@ -17,6 +17,7 @@ ghost use Rattle.term_bench.specs.Terms.{HasSubterms, compares_numbers, nodes_of
 ghost use Rattle.term_bench.specs.inner.Put.{IsHeldPut};
 ghost use Rattle.term_bench.specs.inner.Sharing.{code_giver};
 
+use crate::held_rule::HeldRule;
 use crate::put::{put_mem_terms, put_word_terms};
 use held_terms::{
     Held, ImageTable, is_composition, is_discharged, is_exit, is_extension, is_frame, is_instance,
@@ -293,6 +294,29 @@ fn by_use_exit<L: Ledger>(
     ensures steps { (ts : Items Tree) → HasSubterms ts (triple_terms (triple_of arena.now stated.now)) → steps.new ≤ steps.old + (10 * length ts + 1) }
 {
     is_closed(closed, def) && is_exit(arena, g, def, exit, stated, steps)
+}
+
+/// Whether the further rule states the triple of those numbers from the theorem of that number.
+#[tactic(auto, using(crate::proofs::BenchLemmas::extends_none))]
+pub(crate) fn by_further<R: HeldRule, L: Ledger>(
+    alloc: Global,
+    by: &R,
+    arena: &mut Arena,
+    held: &BTreeMap<u64, Held>,
+    p: u64,
+    stated: &Held,
+    steps: &mut Steps<L>,
+) -> Result<bool, NoMemory>
+    requires held { AreHeldAt arena.old held.now.entries }
+    requires stated { IsHeldAt arena.old stated.now }
+    ensures answer { IfOk result (λ r. IsTrue r ↔ IsSomeAnd (theorem_at arena.old held.now.entries p) (λ p. R.states p (triple_of arena.old stated.now))) }
+    ensures grows { Extends arena.old arena.new }
+    ensures steps { steps.new ≤ steps.old + 1 }
+{
+    match theorem(arena, held, p) {
+        Some(p) => by.is_stated(alloc, arena, p, stated, steps),
+        None => Ok(false),
+    }
 }
 
 /// Whether the definition of that number is closed.

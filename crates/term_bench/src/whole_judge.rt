@@ -2,13 +2,12 @@
 
 ghost use Rattle.std.specs.Prelude.{◌≡◌, IsErrOf, OnOk};
 ghost use Rattle.proof_text.specs.Line.{line_tree};
-ghost use Rattle.checker.specs.Instance.{Instance, after_line};
+ghost use Rattle.checker.specs.Instance.{InstanceBy, after_line};
 ghost use Rattle.term_bench.specs.Bench.{state_group, state_history};
 
 use crate::bench::Bench;
-use checker::{
-    ByRule, JudgeLines, JudgeProofs, Judged, NoRule, Pulled, RuledReader, Verdict, judge_group,
-};
+use crate::held_rule::HeldRule;
+use checker::{ByRule, JudgeLines, JudgeProofs, Judged, Pulled, RuledReader, Verdict, judge_group};
 use proof_text::{Line, ProofSource};
 use std::alloc::Global;
 use std::marker::Brand;
@@ -18,7 +17,7 @@ use term_arena::Steps;
 use triple_kernel::RuleFault;
 use word_terms::Code;
 
-impl<'g> JudgeLines<ByRule<NoRule>, NoRule> for Bench<'g> {
+impl<'g, R: HeldRule> JudgeLines<ByRule<R>, R> for Bench<'g> {
     ghost use Rattle.term_bench.specs.Bench.{state_group, state_history};
 
     ghost group = { state_group };
@@ -30,11 +29,11 @@ impl<'g> JudgeLines<ByRule<NoRule>, NoRule> for Bench<'g> {
     fn judge_line(
         &mut self,
         alloc: Global,
-        _by: &NoRule,
-        _lines: &ByRule<NoRule>,
+        by: &R,
+        _lines: &ByRule<R>,
         line: Line,
     ) -> Result<bool, RuleFault> {
-        judge_counted::<Brand>(self, alloc, &line, Blank::new(1))?;
+        judge_counted::<R, Brand>(self, alloc, by, &line, Blank::new(1))?;
         Ok(true)
     }
 
@@ -44,9 +43,10 @@ impl<'g> JudgeLines<ByRule<NoRule>, NoRule> for Bench<'g> {
 }
 
 /// Judges the next line, with a counter.
-fn judge_counted<L: Ledger>(
+fn judge_counted<R: HeldRule, L: Ledger>(
     bench: &mut Bench<'_>,
     alloc: Global,
+    by: &R,
     line: &Line,
     blank: Blank,
 ) -> Result<(), RuleFault>
@@ -54,26 +54,26 @@ fn judge_counted<L: Ledger>(
     requires parts { blank.parts ≡ L.parts }
     requires one { L.parts ≡ 1 }
     ensures group { bench.new.0 ≡ bench.old.0 }
-    ensures instance { OnOk result (Instance (state_group bench.old) (state_history bench.old) (line_tree line.now)) }
+    ensures instance { OnOk result (InstanceBy R.states (state_group bench.old) (state_history bench.old) (line_tree line.now)) }
     ensures after { OnOk result (state_history bench.new ≡ after_line (state_history bench.old) (line_tree line.now)) }
-    ensures no_instance { IsErrOf result RuleFault.NoInstance → Instance (state_group bench.old) (state_history bench.old) (line_tree line.now) → ⊥ }
+    ensures no_instance { IsErrOf result RuleFault.NoInstance → InstanceBy R.states (state_group bench.old) (state_history bench.old) (line_tree line.now) → ⊥ }
 {
-    bench.judge(alloc, line, &mut Steps::<L>::new(blank))
+    bench.judge_by(alloc, by, line, &mut Steps::<L>::new(blank))
 }
 
-/// Judges proofs whose lines state whole triples, without a further rule, by benches that keep their terms as numbers.
+/// Judges proofs whose lines state whole triples by benches that keep their terms as numbers.
 #[derive(Clone, Copy, Debug, Drop)]
 pub struct OverNumbers;
 
-impl<E, P: ProofSource<E, RuledReader<ByRule<NoRule>>>> JudgeProofs<ByRule<NoRule>, NoRule, E, P>
+impl<R: HeldRule, E, P: ProofSource<E, RuledReader<ByRule<R>>>> JudgeProofs<ByRule<R>, R, E, P>
     for OverNumbers {
     fn judge_proof(
         &self,
         alloc: Global,
         source: &mut P,
         from: &mut E,
-        kept: &mut RuledReader<ByRule<NoRule>>,
-        by: &NoRule,
+        kept: &mut RuledReader<ByRule<R>>,
+        by: &R,
         group: &Group,
         code: &Code,
     ) -> Result<Judged, Pulled> {

@@ -3,7 +3,6 @@ use Rattle.proof_text.proofs.WholeLaws.{lines-read}
 use Rattle.checker.specs.Pulled.{as_verdict}
 use Rattle.checker.proofs.Told.{some-so}
 use Rattle.checker.proofs.WholeLemmas.{whole-says}
-use Rattle.checker.specs.Instance.{no_rule}
 use Rattle.term_bench.proofs.check.judge_source.Goals as goal
 
 pub check_source-requires-clause-laws : goal.check_source-requires-clause-laws
@@ -12,4 +11,4 @@ check_source-requires-clause-laws g c = lines-read (g.P.ProofSource.version c.ar
 pub returns-clause-verdict : goal.returns-clause-verdict
 returns-clause-verdict g c elf readable is =
     some-so (g.P.ProofSource.told c.args.source.now c.args.from.now) _ _
-    (λ r says. whole-says no_rule (version_of r.version) elf r.text (as_verdict c.check_source.result) says) (c.check_source.ensures.verdict elf readable is)
+    (λ r says. whole-says g.R.FurtherRule.states (version_of r.version) elf r.text (as_verdict c.check_source.result) says) (c.check_source.ensures.verdict elf readable is)

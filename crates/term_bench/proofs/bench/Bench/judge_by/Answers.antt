@@ -1,16 +1,14 @@
 use Rattle.term_bench.specs.Bench.{state_group, state_history, state_nodes}
 use Rattle.term_bench.proofs.BenchLemmas.{extends_same}
-use Rattle.std.proofs.Common.{◌≡◌, ◌+◌, ◌≤◌, true, true≢false, refl, sym, ap, subst, ◌∙◌, arith}
+use Rattle.term_bench.proofs.PutSteps.{one_within}
+use Rattle.std.proofs.Common.{◌≡◌, ◌+◌, ◌≤◌, length, true, true≢false, sym, ap, subst, ◌∙◌, arith}
 use Rattle.proof_text.specs.declared.line.Line.{Line}
 use Rattle.proof_text.specs.Line.{line_tree}
 use Rattle.term_bench.specs.Terms.{HasLine, is_compared, is_loop, loop_terms, nodes_of, pair_steps, stated_triple_terms, whole_line_terms}
-use Rattle.term_bench.proofs.bench.Bench.judge.Goals as goal
+use Rattle.term_bench.proofs.bench.Bench.judge_by.Goals as goal
 
 pub returns-in-Forget-clause-grows : goal.returns-in-Forget-clause-grows
 returns-in-Forget-clause-grows g c = extends_same (state_nodes c.args.self.now) (state_nodes c.forget.new.self) c.forget.ensures.nodes
-
-pub returns-in-Further-clause-grows : goal.returns-in-Further-clause-grows
-returns-in-Further-clause-grows g c = extends_same (state_nodes c.args.self.now) (state_nodes c.args.self.now) refl
 
 pub returns-in-States-clause-steps : goal.returns-in-States-clause-steps
 returns-in-States-clause-steps g c =
@@ -23,7 +21,7 @@ pub returns-in-Forget-clause-steps : goal.returns-in-Forget-clause-steps
 returns-in-Forget-clause-steps g c = λ e. omega arith
 
 pub returns-in-Further-clause-steps : goal.returns-in-Further-clause-steps
-returns-in-Further-clause-steps g c = λ e. omega arith
+returns-in-Further-clause-steps g c = λ e. absurd (true≢false (sym e ∙ ap (λ (l : Line). is_compared (line_tree l)) c.in-Further.is))
 
 pub returns-in-States-clause-most : goal.returns-in-States-clause-most
 returns-in-States-clause-most g c = λ e ts has.
@@ -37,7 +35,10 @@ pub returns-in-Forget-clause-most : goal.returns-in-Forget-clause-most
 returns-in-Forget-clause-most g c = λ e ts has. omega arith
 
 pub returns-in-Further-clause-most : goal.returns-in-Further-clause-most
-returns-in-Further-clause-most g c = λ e ts has. omega arith
+returns-in-Further-clause-most g c = λ e ts has.
+    let within = one_within (length ts) in
+    subst (λ (l : Line). c.state_further.new.steps ≤ c.args.steps.now + (nodes_of (whole_line_terms (line_tree l)) + pair_steps ts)) (sym c.in-Further.is)
+    (let le = c.state_further.ensures.steps in omega (arith, le, within))
 
 pub returns-in-Loop-clause-closing : goal.returns-in-Loop-clause-closing
 returns-in-Loop-clause-closing g c = λ e.
