@@ -5,6 +5,7 @@ ghost use Rattle.elf_image.specs.Fault.{IsReadable};
 ghost use Rattle.elf_image.specs.Image.{image_of};
 ghost use Rattle.mc_shelf.specs.inner.OnlyReads.{OnlyReads};
 ghost use Rattle.tailrec_lang.specs.Tree.{GroupTree};
+ghost use Rattle.group_text.specs.declared.version.Version.TheVariants.{One};
 ghost use Rattle.proof_text.specs.FirstProofs.{HasGiven};
 ghost use Rattle.proof_text.specs.Pulling.{held_text, left_of, progress_in};
 ghost use Rattle.proof_text.specs.inner.PulledRows.{WhereHeld};
@@ -18,12 +19,12 @@ ghost use Rattle.proof_v2.specs.AnyVerdicts.{SaysAny, SaysIn};
 ghost use Rattle.proof_v2.specs.Titles.{any_version};
 
 use crate::title::{any_version, as_any, held_version, is_short};
-use checker::{Pulled, Verdict, check_bytes};
+use checker::{NoRule, Pulled, Verdict};
 use elf_image::Image;
 use mc_shelf::{LineFault, Lines, Shelf};
 use proof_text::{Pull, Reader, Version};
 use std::alloc::Global;
-use term_bench::{check_pulled_numbered, check_pulled_short, check_short};
+use term_bench::{check_numbered, check_pulled_numbered, check_pulled_short, check_short};
 
 /// Checks a proof text of version 1 or 2 for an ELF file.
 pub fn check_any_bytes(alloc: Global, elf: &[u8], proof: &[u8]) -> Verdict
@@ -40,8 +41,16 @@ pub fn check_any_bytes(alloc: Global, elf: &[u8], proof: &[u8]) -> Verdict
         let mut reader = Reader::of_version(proof, Version::Two);
         check_short(alloc, elf, &mut reader)
     } else {
-        check_bytes(alloc, elf, proof)
+        check_whole(alloc, elf, proof)
     }
+}
+
+/// Checks a proof text of version 1 for an ELF file.
+fn check_whole(alloc: Global, elf: &[u8], proof: &[u8]) -> Verdict
+    ensures { SaysIn no_rule One elf.now proof.now result }
+{
+    let mut reader = Reader::of_version(proof, Version::One);
+    check_numbered(alloc, elf, &mut reader, &NoRule)
 }
 
 /// Checks the text of a file of that version that is read line by line, for an ELF file that was read: of version 2, or without
@@ -68,7 +77,7 @@ pub fn check_pulled_any<S: Shelf>(
     if is_short(version) {
         check_pulled_short(alloc, image, pull, shelf)
     } else {
-        check_pulled_numbered(alloc, image, pull, shelf)
+        check_pulled_numbered(alloc, image, pull, shelf, &NoRule)
     }
 }
 

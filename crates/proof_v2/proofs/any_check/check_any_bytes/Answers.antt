@@ -12,12 +12,12 @@ returns-then-is_short-clause-headline c =
 
 pub returns-else-is_short-clause-headline : goal.returns-else-is_short-clause-headline
 returns-else-is_short-clause-headline c =
-    any-right c.args.elf.now c.args.proof.now c.check_bytes.result
-    (says-at no_rule One (any_version c.args.proof.now) c.args.elf.now c.args.proof.now c.args.proof.now c.check_bytes.result
-    (any-one c.args.proof.now (λ two. true≢false (sym (c.is_short.ensures.1 (c.any_version.ensures ∙ two)) ∙ c.if-is_short.false))) refl c.check_bytes.ensures.verdict)
+    any-right c.args.elf.now c.args.proof.now c.check_whole.result
+    (says-at no_rule One (any_version c.args.proof.now) c.args.elf.now c.args.proof.now c.args.proof.now c.check_whole.result
+    (any-one c.args.proof.now (λ two. true≢false (sym (c.is_short.ensures.1 (c.any_version.ensures ∙ two)) ∙ c.if-is_short.false))) refl c.check_whole.ensures)
 
 pub returns-else-is_short-clause-exact : goal.returns-else-is_short-clause-exact
 returns-else-is_short-clause-exact c =
-    any-comes c.args.elf.now c.args.proof.now c.check_bytes.result
-    (says-at no_rule One (any_version c.args.proof.now) c.args.elf.now c.args.proof.now c.args.proof.now c.check_bytes.result
-    (any-one c.args.proof.now (λ two. true≢false (sym (c.is_short.ensures.1 (c.any_version.ensures ∙ two)) ∙ c.if-is_short.false))) refl c.check_bytes.ensures.verdict)
+    any-comes c.args.elf.now c.args.proof.now c.check_whole.result
+    (says-at no_rule One (any_version c.args.proof.now) c.args.elf.now c.args.proof.now c.args.proof.now c.check_whole.result
+    (any-one c.args.proof.now (λ two. true≢false (sym (c.is_short.ensures.1 (c.any_version.ensures ∙ two)) ∙ c.if-is_short.false))) refl c.check_whole.ensures)
