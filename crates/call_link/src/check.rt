@@ -9,10 +9,15 @@ ghost use Rattle.checker.specs.Headline.{Headline};
 ghost use Rattle.checker.specs.Verdicts.{IsAcceptance, IsTextOfIn, SaysBy};
 ghost use Rattle.further_rules.specs.Rules.{IsSteered};
 
-use checker::{FurtherRule, Verdict, check_by};
+use checker::{FurtherRule, Verdict};
 use further_rules::{law_of_steering, steer};
+use held_terms::{Held, is_steered};
 use proof_text::Reader;
+use rv_words::NoMemory;
 use std::alloc::Global;
+use std::sync::ledger::Ledger;
+use term_arena::{Arena, Steps};
+use term_bench::{HeldRule, check_numbered};
 use triple_kernel::{NoInstance, Thm, Triple};
 
 /// The further rule of version 3.
@@ -31,6 +36,19 @@ impl FurtherRule for Steer {
     }
 }
 
+impl HeldRule for Steer {
+    fn is_stated<L: Ledger>(
+        &self,
+        alloc: Global,
+        arena: &mut Arena,
+        premise: &Held,
+        stated: &Held,
+        steps: &mut Steps<L>,
+    ) -> Result<bool, NoMemory> {
+        is_steered(alloc, arena, premise, stated, steps)
+    }
+}
+
 /// Checks a proof text of version 3 for an ELF file.
 pub fn check_linked(alloc: Global, elf: &[u8], proof: &[u8]) -> Verdict
     // What the verdict says of them.
@@ -43,5 +61,5 @@ pub fn check_linked(alloc: Global, elf: &[u8], proof: &[u8]) -> Verdict
     ensures exact { (v : VerdictOf) → SaysBy IsSteered version_3 elf.now proof.now v → (result ≡ v) ⊎ (v ≡ Verdict.NoMemory) ⊎ (result ≡ Verdict.NoMemory) }
 {
     let mut reader = Reader::newer(proof, 3);
-    check_by(alloc, elf, &mut reader, &Steer)
+    check_numbered(alloc, elf, &mut reader, &Steer)
 }

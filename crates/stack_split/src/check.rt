@@ -9,10 +9,15 @@ ghost use Rattle.checker.specs.Headline.{Headline};
 ghost use Rattle.checker.specs.Verdicts.{IsAcceptance, IsTextOfIn, SaysBy};
 ghost use Rattle.further_rules.specs.Rules.{IsExchanged};
 
-use checker::{FurtherRule, Verdict, check_by};
+use checker::{FurtherRule, Verdict};
 use further_rules::{exchange, law_of_exchanging};
+use held_terms::{Held, is_exchanged};
 use proof_text::Reader;
+use rv_words::NoMemory;
 use std::alloc::Global;
+use std::sync::ledger::Ledger;
+use term_arena::{Arena, Steps};
+use term_bench::{HeldRule, check_numbered};
 use triple_kernel::{NoInstance, Thm, Triple};
 
 /// The further rule of version 4.
@@ -31,6 +36,20 @@ impl FurtherRule for Exchange {
     }
 }
 
+impl HeldRule for Exchange {
+    #[tactic(auto, using(term_bench::proofs::BenchLemmas::extends_none))]
+    fn is_stated<L: Ledger>(
+        &self,
+        _alloc: Global,
+        arena: &mut Arena,
+        premise: &Held,
+        stated: &Held,
+        _steps: &mut Steps<L>,
+    ) -> Result<bool, NoMemory> {
+        Ok(is_exchanged(arena, premise, stated))
+    }
+}
+
 /// Checks a proof text of version 4 for an ELF file.
 pub fn check_split(alloc: Global, elf: &[u8], proof: &[u8]) -> Verdict
     // What the verdict says of them.
@@ -43,5 +62,5 @@ pub fn check_split(alloc: Global, elf: &[u8], proof: &[u8]) -> Verdict
     ensures exact { (v : VerdictOf) → SaysBy IsExchanged version_4 elf.now proof.now v → (result ≡ v) ⊎ (v ≡ Verdict.NoMemory) ⊎ (result ≡ Verdict.NoMemory) }
 {
     let mut reader = Reader::newer(proof, 4);
-    check_by(alloc, elf, &mut reader, &Exchange)
+    check_numbered(alloc, elf, &mut reader, &Exchange)
 }

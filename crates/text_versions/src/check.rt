@@ -17,13 +17,14 @@ ghost use Rattle.proof_v2.specs.AnyVerdicts.{SaysIn};
 ghost use Rattle.text_versions.specs.Versions.{IsTextListing, SaysOf};
 
 use call_link::Steer;
-use checker::{Pulled, Verdict, check_pulled_by};
+use checker::{Pulled, Verdict};
 use elf_image::Image;
 use mc_shelf::{LineFault, Lines, Shelf};
 use proof_text::{Pull, Version};
 use proof_v2::{check_pulled_any, held_version};
 use stack_split::Exchange;
 use std::alloc::Global;
+use term_bench::check_pulled_numbered;
 
 /// Checks the text of a file that is read line by line, for an ELF file that was read, with the further rule of that version.
 fn check_in<S: Shelf>(
@@ -44,8 +45,8 @@ fn check_in<S: Shelf>(
     match version {
         Version::One => check_pulled_any(alloc, image, pull, version, shelf),
         Version::Two => check_pulled_any(alloc, image, pull, version, shelf),
-        Version::Three => check_pulled_by(alloc, image, pull, shelf, &Steer),
-        Version::Four => check_pulled_by(alloc, image, pull, shelf, &Exchange),
+        Version::Three => check_pulled_numbered(alloc, image, pull, shelf, &Steer),
+        Version::Four => check_pulled_numbered(alloc, image, pull, shelf, &Exchange),
     }
 }
 

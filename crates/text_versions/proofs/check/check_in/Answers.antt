@@ -24,12 +24,12 @@ returns-in-Two-clause-verdict g c elf readable is =
 
 pub returns-in-Three-clause-verdict : goal.returns-in-Three-clause-verdict
 returns-in-Three-clause-verdict g c elf readable is =
-    judged-in (g.S.Shelf.contents c.args.shelf.now) c.args.pull.now.rows.lines.name elf c.check_pulled_by.result (held_text c.args.pull.now) c.args.version Three c.in-Three.is
+    judged-in (g.S.Shelf.contents c.args.shelf.now) c.args.pull.now.rows.lines.name elf c.check_pulled_numbered.result (held_text c.args.pull.now) c.args.version Three c.in-Three.is
     (λ v file. SaysBy IsSteered (version_of c.args.pull.now.version) elf (held_text c.args.pull.now file) v)
-    (λ v file says. subst (λ (k : Known). SaysBy IsSteered (version_of k) elf (held_text c.args.pull.now file) v) (c.requires.version ∙ c.in-Three.is) says) (c.check_pulled_by.ensures.verdict elf readable is)
+    (λ v file says. subst (λ (k : Known). SaysBy IsSteered (version_of k) elf (held_text c.args.pull.now file) v) (c.requires.version ∙ c.in-Three.is) says) (c.check_pulled_numbered.ensures.verdict elf readable is)
 
 pub returns-in-Four-clause-verdict : goal.returns-in-Four-clause-verdict
 returns-in-Four-clause-verdict g c elf readable is =
-    judged-in (g.S.Shelf.contents c.args.shelf.now) c.args.pull.now.rows.lines.name elf c.check_pulled_by-in-Four.result (held_text c.args.pull.now) c.args.version Four c.in-Four.is
+    judged-in (g.S.Shelf.contents c.args.shelf.now) c.args.pull.now.rows.lines.name elf c.check_pulled_numbered-in-Four.result (held_text c.args.pull.now) c.args.version Four c.in-Four.is
     (λ v file. SaysBy IsExchanged (version_of c.args.pull.now.version) elf (held_text c.args.pull.now file) v)
-    (λ v file says. subst (λ (k : Known). SaysBy IsExchanged (version_of k) elf (held_text c.args.pull.now file) v) (c.requires.version ∙ c.in-Four.is) says) (c.check_pulled_by-in-Four.ensures.verdict elf readable is)
+    (λ v file says. subst (λ (k : Known). SaysBy IsExchanged (version_of k) elf (held_text c.args.pull.now file) v) (c.requires.version ∙ c.in-Four.is) says) (c.check_pulled_numbered-in-Four.ensures.verdict elf readable is)
