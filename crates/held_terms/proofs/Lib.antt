@@ -19,3 +19,4 @@ pub mod SlotLemmas
 pub mod SwapLemmas
 pub mod TableLemmas
 pub mod ToldLemmas
+pub mod WayLemmas

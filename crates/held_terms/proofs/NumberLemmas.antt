@@ -81,7 +81,7 @@ has_cases x xs y c = elim (Contains-append_cases (x ∷ []) xs y c) [
   | inr more ↦ inr more
 ]
 
-same_lists : (ks : List ℕ) → slice_cmp nat_cmp ks ks ≡ Equal
+pub same_lists : (ks : List ℕ) → slice_cmp nat_cmp ks ks ≡ Equal
 same_lists [] = refl
 same_lists (k ∷ ks) = ap (λ (o : Ordering). ordering_then o (slice_cmp nat_cmp ks ks)) (sym (nat_cmp_is k k Equal refl)) ∙ same_lists ks
 

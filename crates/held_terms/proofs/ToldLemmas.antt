@@ -54,7 +54,7 @@ module _ (ns : List Node) (arena : IsArena ns) where
       let mems = one_mems v.mems w.mems hv.mems hw.mems (ap (λ (t : ValuesTree). t.mems) e) in
       λ i. record { words = words i; mems = mems i }
 
-  one_fact : (f g : HeldFact) → IsFactAt ns f → IsFactAt ns g → fact_of ns f ≡ fact_of ns g → f ≡ g
+  pub one_fact : (f g : HeldFact) → IsFactAt ns f → IsFactAt ns g → fact_of ns f ≡ fact_of ns g → f ≡ g
   one_fact (held.WordIs a b) (held.WordIs c d) hf hg e =
       let ea : word_of ns a ≡ word_of ns c = cc in
       let eb : word_of ns b ≡ word_of ns d = cc in

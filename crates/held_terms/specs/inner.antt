@@ -1,6 +1,7 @@
 pub mod Table
 pub mod Places
 pub mod Numbers
+pub mod Ways
 pub mod Pairs
 pub mod SideTables
 pub mod ImageNode

@@ -19,7 +19,7 @@ use std::marker::Model;
 use term_arena::Arena;
 
 /// How many facts are looked through one after the other.
-const FEW: usize = 8;
+pub(crate) const FEW: usize = 8;
 
 /// What the numbers of each form of facts begin with.
 const WORD_IS: u64 = 0;
@@ -161,7 +161,7 @@ fn index_of(alloc: Global, facts: &[HeldFact]) -> Result<BTreeSet<Vec<u64>>, NoM
 }
 
 /// The fact's form and its numbers, which tell it from each other one.
-fn numbers_of(alloc: Global, fact: &HeldFact) -> Result<Vec<u64>, NoMemory>
+pub(crate) fn numbers_of(alloc: Global, fact: &HeldFact) -> Result<Vec<u64>, NoMemory>
     ensures { IfOk result (λ v. v.items ≡ numbers_of fact.now) }
 {
     match fact {

@@ -8,7 +8,7 @@
 //!
 //! Two terms may be swapped where facts say that they are equal: the pairs that were decided stand in a table
 //! (`table`), so that each pair of subterms is decided once, and shared subterms don't cost their paths. A pair is looked up
-//! by order, and so is a fact among more than a few ([`Facts`]).
+//! by order, and so is a fact among more than a few ([`Facts`]), or among those of a way, which come and go at its end ([`Way`]).
 #![tactic(auto)]
 
 mod alone;
@@ -29,6 +29,7 @@ mod shared_code;
 mod sides;
 mod swaps;
 mod table;
+mod way;
 
 pub use exits::{is_entry, is_exit};
 pub use facts::Facts;
@@ -42,3 +43,4 @@ pub use rules::{
 };
 pub use same::same_side;
 pub use shared_code::SharedCode;
+pub use way::Way;

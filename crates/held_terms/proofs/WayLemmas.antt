@@ -1,0 +1,253 @@
+-- Facts of a way: which ones are indexed after a change, and where they are found.
+use Rattle.std.proofs.Common.{true≢false, max, ◌≡◌, ◌⊎◌, ℕ, zero, suc, ◌+◌, ◌<◌, ◌≤◌, Bool, true, false, cond, List, [], ◌∷◌, ◌++◌, Option, Some, None, Ordering, Less, Equal, Greater, length, map, take, get_or, refl, ap, sym, ◌∙◌, subst, inl, inr, arith, length-append}
+use Rattle.std.specs.Prelude.{◌↔◌, IsTrue, slice_get}
+use Rattle.std.specs.List.{Contains}
+use Rattle.std.specs.Map.{lookup}
+use Rattle.std.specs.Ordering.{is_eq, nat_cmp, match_ordering}
+use Rattle.std.specs.BTreeMap.{insert_entry}
+use Rattle.std.specs.Cmp.{Equal-is}
+use Rattle.std.specs.Cmp.Lexicographic.{slice_cmp}
+use Rattle.std.proofs.lemmas.Bool.{cases_Bool, cond-true, cond-false}
+use Rattle.std.proofs.lemmas.Map.Lookups.{exact_bytes}
+use Rattle.std.proofs.lemmas.Option.{none-some, same_Some, slice_get_within}
+use Rattle.std.proofs.lemmas.List.Elements.{All-contains, Contains-push_cases}
+use Rattle.tailrec_lang.proofs.Lists.{map-take_more}
+use Rattle.term_arena.proofs.Places.{at-append, at_place, at_contains, contains_at, at-map, map-at}
+use Rattle.term_arena.specs.declared.node.Node.{Node}
+use Rattle.term_arena.specs.Arena.{IsArena}
+use Rattle.triple_kernel.specs.Tree.{FactTree}
+use Rattle.triple_kernel.specs.Rules.{AreAmong}
+use Rattle.held_terms.specs.declared.held.HeldFact.{HeldFact}
+use Rattle.held_terms.specs.Held.{fact_of, IsFactAt, AreFactsAt}
+use Rattle.held_terms.specs.inner.Numbers.{numbers_of}
+use Rattle.held_terms.specs.inner.Ways.{found_at, HasPlace, IsPlaced, IsIndexed}
+use Rattle.held_terms.proofs.NumberLemmas.{same_lists, told}
+use Rattle.held_terms.proofs.ToldLemmas.{one_fact}
+
+-- ---- the first items of a list
+
+pub at_take : {A : Type 0} (n : ℕ) (xs : List A) (k : ℕ) (x : A) → k < n → slice_get xs k ≡ Some x → slice_get (take n xs) k ≡ Some x
+at_take zero xs k x lt e = absurd (omega (arith, lt))
+at_take (suc n) [] k x lt e = e
+at_take (suc n) (y ∷ xs) zero x lt e = e
+at_take (suc n) (y ∷ xs) (suc k) x lt e = at_take n xs k x (omega (arith, lt)) e
+
+pub take_at : {A : Type 0} (n : ℕ) (xs : List A) (k : ℕ) (x : A) → slice_get (take n xs) k ≡ Some x → slice_get xs k ≡ Some x
+take_at zero [] k x e = e
+take_at zero (y ∷ xs) k x e = cc
+take_at (suc n) [] k x e = e
+take_at (suc n) (y ∷ xs) zero x e = e
+take_at (suc n) (y ∷ xs) (suc k) x e = take_at n xs k x e
+
+low_take : {A : Type 0} (m n : ℕ) (xs : List A) → m ≤ n → m ≤ length xs → m ≤ length (take n xs)
+low_take zero n xs le long = omega arith
+low_take (suc m) zero xs le long = absurd (omega (arith, le))
+low_take (suc m) (suc n) [] le long = absurd (omega (arith, long))
+low_take (suc m) (suc n) (x ∷ xs) le long = let rest = low_take m n xs (omega (arith, le)) (omega (arith, long)) in omega (arith, rest)
+
+-- among the first ones, and among more of them
+pub among_first : {A : Type 0} (n : ℕ) (xs : List A) (k : ℕ) (x : A) → k < n → slice_get xs k ≡ Some x → Contains (take n xs) x
+among_first n xs k x lt e = contains_at (take n xs) k x (at_take n xs k x lt e)
+
+pub among_all : {A : Type 0} (n : ℕ) (xs : List A) (x : A) → Contains (take n xs) x → Contains xs x
+among_all n xs x c = let at = at_contains (take n xs) x c in contains_at xs at.0 x (take_at n xs at.0 x at.1)
+
+take_under : {A : Type 0} (n : ℕ) (xs : List A) (k : ℕ) (x : A) → slice_get (take n xs) k ≡ Some x → k < n
+take_under zero [] k x e = cc
+take_under zero (y ∷ xs) k x e = cc
+take_under (suc n) [] k x e = cc
+take_under (suc n) (y ∷ xs) zero x e = omega arith
+take_under (suc n) (y ∷ xs) (suc k) x e = let lt = take_under n xs k x e in omega (arith, lt)
+
+pub among_more_first : {A : Type 0} (n m : ℕ) (xs : List A) (x : A) → n ≤ m → Contains (take n xs) x → Contains (take m xs) x
+among_more_first n m xs x le c =
+    let at = at_contains (take n xs) x c in
+    let lt = take_under n xs at.0 x at.1 in
+    among_first m xs at.0 x (omega (arith, lt, le)) (take_at n xs at.0 x at.1)
+
+-- ---- an index with one entry more
+
+module _ {V : Type 0} (items : V → List ℕ) where
+  abbrev test : List ℕ → V → Bool
+  test k v = is_eq (slice_cmp nat_cmp k (items v))
+
+  abbrev order : V → V → Ordering
+  order v w = slice_cmp nat_cmp (items v) (items w)
+
+  Found : (V × ℕ) → List (V × ℕ) → List ℕ → Type 0
+  Found p new k = lookup (test k) new ≡ Some p.1
+
+  -- at the entry's own numbers
+  inserted_here : (v : V) (place : ℕ) (es : List (V × ℕ)) → lookup (test (items v)) (insert_entry order es v place) ≡ Some place
+  inserted_here v place [] = cond-true (test (items v) v) (Some place) None (ap is_eq (same_lists (items v)))
+  inserted_here v place (e ∷ es) = at_order (order v e.0) refl
+    where
+      at_order : (o : Ordering) → o ≡ order v e.0 → lookup (test (items v)) (match_ordering o ((v, place) ∷ e ∷ es) ((e.0, place) ∷ es) (e ∷ insert_entry order es v place)) ≡ Some place
+      at_order Less is = cond-true (test (items v) v) (Some place) (lookup (test (items v)) (e ∷ es)) (ap is_eq (same_lists (items v)))
+      at_order Equal is = cond-true (test (items v) e.0) (Some place) (lookup (test (items v)) es) (ap is_eq (sym is))
+      at_order Greater is = cond-false (test (items v) e.0) (Some e.1) (lookup (test (items v)) (insert_entry order es v place)) (ap is_eq (sym is)) ∙ inserted_here v place es
+
+  -- at others
+  inserted_other : (v : V) (place : ℕ) (es : List (V × ℕ)) (k : List ℕ) → test k v ≡ false → lookup (test k) (insert_entry order es v place) ≡ lookup (test k) es
+  inserted_other v place [] k other = cond-false (test k v) (Some place) None other
+  inserted_other v place (e ∷ es) k other = at_order (order v e.0) refl
+    where
+      rest : lookup (test k) (insert_entry order es v place) ≡ lookup (test k) es
+      rest = inserted_other v place es k other
+
+      at_order : (o : Ordering) → o ≡ order v e.0 → lookup (test k) (match_ordering o ((v, place) ∷ e ∷ es) ((e.0, place) ∷ es) (e ∷ insert_entry order es v place)) ≡ lookup (test k) (e ∷ es)
+      at_order Less is = cond-false (test k v) (Some place) (lookup (test k) (e ∷ es)) other
+      at_order Equal is =
+          let same : items v ≡ items e.0 = exact_bytes (items v) (items e.0) (sym is) in
+          let apart : test k e.0 ≡ false = ap (λ (l : List ℕ). is_eq (slice_cmp nat_cmp k l)) (sym same) ∙ other in
+          cond-false (test k e.0) (Some place) (lookup (test k) es) apart ∙ sym (cond-false (test k e.0) (Some e.1) (lookup (test k) es) apart)
+      at_order Greater is = (λ i. cond (test k e.0) (Some e.1) (rest i))
+
+  pub has_place : (v : V) (place : ℕ) (old new : List (V × ℕ)) → new ≡ insert_entry order old v place → HasPlace (found_at items old) (found_at items new) (items v) place
+  has_place v place old new e = record {
+    here = ap (lookup (test (items v))) e ∙ inserted_here v place old;
+    others = λ k. elim (cases_Bool (test k v)) [
+      | inl same ↦ inl (exact_bytes k (items v) ((Equal-is _).0 same))
+      | inr other ↦ inr (ap (lookup (test k)) e ∙ inserted_other v place old k other)
+    ];
+  }
+
+-- ---- which facts are indexed
+
+before_or_last : (j i : ℕ) → j < i + 1 → (j < i) ⊎ (j ≡ i)
+before_or_last zero zero lt = inr refl
+before_or_last zero (suc i) lt = inl (omega arith)
+before_or_last (suc j) zero lt = absurd (omega (arith, lt))
+before_or_last (suc j) (suc i) lt = elim (before_or_last j i (omega (arith, lt))) [ inl h ↦ inl (omega (arith, h)) | inr h ↦ inr (ap suc h) ]
+
+pub indexed_none : (facts : List HeldFact) (at : List ℕ → Option ℕ) → IsIndexed facts 0 at
+indexed_none facts at = record { few = omega arith; each = λ i f lt e. absurd (omega (arith, lt)) }
+
+pub indexed_more : (facts more new : List HeldFact) (n : ℕ) (at : List ℕ → Option ℕ) → new ≡ facts ++ more → IsIndexed facts n at → IsIndexed new n at
+indexed_more facts more new n at is a =
+    subst (λ (l : List HeldFact). IsIndexed l n at) (sym is) (record {
+      few = let long = length-append facts more in let few = a.few in omega (arith, long, few);
+      each = λ i f lt e.
+          let few = a.few in
+          let item = at_place facts i (omega (arith, lt, few)) in
+          let same : item.0 ≡ f = same_Some item.0 f (sym (at-append facts more i item.0 item.1) ∙ e) in
+          let p = a.each i f lt (item.1 ∙ ap (λ (g : HeldFact). Some g) same) in
+          record { place = p.place; low = p.low; found = p.found; there = at-append facts more p.place f p.there };
+    })
+
+pub indexed_short : (facts new : List HeldFact) (n m l : ℕ) (at : List ℕ → Option ℕ) → new ≡ take l facts → m ≤ n → m ≤ l → IsIndexed facts n at → IsIndexed new m at
+indexed_short facts new n m l at is le short a =
+    subst (λ (fs : List HeldFact). IsIndexed fs m at) (sym is) (record {
+      few = let few = a.few in low_take m l facts short (omega (arith, le, few));
+      each = λ i f lt e.
+          let p = a.each i f (omega (arith, lt, le)) (take_at l facts i f e) in
+          let low = p.low in
+          record { place = p.place; low = p.low; found = p.found; there = at_take l facts p.place f (omega (arith, low, lt, short)) p.there };
+    })
+
+module _ (facts : List HeldFact) (i : ℕ) (f : HeldFact) (there : slice_get facts i ≡ Some f) where
+  same_at : (j : ℕ) (g : HeldFact) → j ≡ i → slice_get facts j ≡ Some g → f ≡ g
+  same_at j g same e = same_Some f g (sym there ∙ ap (λ (k : ℕ). slice_get facts k) (sym same) ∙ e)
+
+  -- the next one was found before
+  pub indexed_known : (at : List ℕ → Option ℕ) → IsIndexed facts i at → IsPlaced facts at i f → IsIndexed facts (i + 1) at
+  indexed_known at a p = record {
+    few = let long = slice_get_within facts i f there in omega (arith, long);
+    each = λ j g lt e. elim (before_or_last j i lt) [
+      | inl before ↦ a.each j g before e
+      | inr same ↦ subst (IsPlaced facts at (j + 1)) (same_at j g same e) (record { place = p.place; low = (let low = p.low in omega (arith, low, same)); found = p.found; there = p.there })
+    ];
+  }
+
+  -- it is found now
+  pub indexed_next : (at new : List ℕ → Option ℕ) → IsIndexed facts i at → (IsPlaced facts at i f → ⊥) → HasPlace at new (numbers_of f) i → IsIndexed facts (i + 1) new
+  indexed_next at new a unknown h = record {
+    few = let long = slice_get_within facts i f there in omega (arith, long);
+    each = λ j g lt e. elim (before_or_last j i lt) [
+      | inl before ↦
+          let p = a.each j g before e in
+          elim (h.others (numbers_of g)) [
+            | inl same ↦
+                let one : g ≡ f = told g f same in
+                let q : IsPlaced facts at (j + 1) f = subst (IsPlaced facts at (j + 1)) one p in
+                absurd (unknown (record { place = q.place; low = (let low = q.low in omega (arith, low, before)); found = q.found; there = q.there }))
+            | inr kept ↦ record { place = p.place; low = p.low; found = kept ∙ p.found; there = p.there }
+          ]
+      | inr same ↦ subst (IsPlaced facts new (j + 1)) (same_at j g same e) (record { place = i; low = omega (arith, same); found = h.here; there = there })
+    ];
+  }
+
+-- what is found at a place there is, where it is one of the first ones
+pub placed_is : (facts : List HeldFact) (at : List ℕ → Option ℕ) (n place : ℕ) (f : HeldFact) (r : Bool) → at (numbers_of f) ≡ Some place → slice_get facts place ≡ Some f → (IsTrue r ↔ (place < n)) → IsTrue r ↔ IsPlaced facts at n f
+placed_is facts at n place f r found there is = (
+  λ h. record { place = place; low = is.0 h; found = found; there = there },
+  λ p. is.1 (subst (λ (k : ℕ). k < n) (same_Some p.place place (sym p.found ∙ found)) p.low),
+)
+
+-- it isn't found at another place
+pub not_there : (facts : List HeldFact) (o : Option ℕ) (p : ℕ) (f : HeldFact) (r : Bool) → o ≡ Some p → (IsTrue r ↔ (slice_get facts p ≡ Some f)) → r ≡ false → (place : ℕ) → o ≡ Some place → slice_get facts place ≡ Some f → ⊥
+not_there facts o p f r found is not place here there =
+    let same : place ≡ p = same_Some place p (sym here ∙ found) in
+    true≢false (sym (is.1 (subst (λ (k : ℕ). slice_get facts k ≡ Some f) same there)) ∙ not)
+
+-- ---- facts as trees
+
+pub stands_not : (facts : List HeldFact) (place : ℕ) (f : HeldFact) → length facts ≤ place → IsTrue false ↔ (slice_get facts place ≡ Some f)
+stands_not facts place f past = (
+  λ h. absurd (true≢false (sym h)),
+  λ e. let low = slice_get_within facts place f e in absurd (omega (arith, low, past)),
+)
+
+module _ (ns : List Node) (arena : IsArena ns) (facts : List HeldFact) (there : AreFactsAt ns facts) where
+  pub fact_there : (place : ℕ) (g : HeldFact) → slice_get facts place ≡ Some g → IsFactAt ns g
+  fact_there place g e = All-contains (IsFactAt ns) facts g there (contains_at facts place g e)
+
+  -- the fact stands where its tree does
+  pub stands_is : (place : ℕ) (g f : HeldFact) (r : Bool) → slice_get facts place ≡ Some g → IsFactAt ns f → (IsTrue r ↔ (fact_of ns g ≡ fact_of ns f)) → IsTrue r ↔ (slice_get facts place ≡ Some f)
+  stands_is place g f r e hf is = (
+    λ h. e ∙ ap (λ (x : HeldFact). Some x) (one_fact ns arena g f (fact_there place g e) hf (is.0 h)),
+    λ k. is.1 (ap (fact_of ns) (same_Some g f (sym e ∙ k))),
+  )
+
+  -- among the first trees, where it stands at one of the first places
+  pub tree_first : (place : ℕ) (f : HeldFact) → slice_get facts place ≡ Some f → Contains (take (place + 1) (map (fact_of ns) facts)) (fact_of ns f)
+  tree_first place f e = among_first (place + 1) (map (fact_of ns) facts) place (fact_of ns f) (omega arith) (map-at (fact_of ns) facts place f e)
+
+  pub tree_at : (place : ℕ) (g : HeldFact) (t : FactTree) → slice_get facts place ≡ Some g → fact_of ns g ≡ t → Contains (take (place + 1) (map (fact_of ns) facts)) t
+  tree_at place g t e same = subst (Contains (take (place + 1) (map (fact_of ns) facts))) same (tree_first place g e)
+
+  -- none of them, where it is found at no place and all are indexed
+  pub none_indexed : (at : List ℕ → Option ℕ) (f : HeldFact) → IsFactAt ns f → IsIndexed facts (length facts) at → ((place : ℕ) → at (numbers_of f) ≡ Some place → slice_get facts place ≡ Some f → ⊥)
+      → Contains (map (fact_of ns) facts) (fact_of ns f) → ⊥
+  none_indexed at f hf a none c =
+      let tree = at_contains (map (fact_of ns) facts) (fact_of ns f) c in
+      let item = at-map (fact_of ns) facts tree.0 (fact_of ns f) tree.1 in
+      let same : item.0 ≡ f = one_fact ns arena item.0 f (fact_there tree.0 item.0 item.1) hf item.2 in
+      let here : slice_get facts tree.0 ≡ Some f = item.1 ∙ ap (λ (x : HeldFact). Some x) same in
+      let p = a.each tree.0 f (slice_get_within facts tree.0 f here) here in
+      none p.place p.found p.there
+
+-- one fact more among the first ones
+pub among_more : (ns : List Node) (facts way : List HeldFact) (i n m k : ℕ) (f : HeldFact) → i < length facts → f ≡ get_or facts i f → m ≡ max n k → AreAmong (map (fact_of ns) (take i facts)) (take k (map (fact_of ns) way))
+    → Contains (take n (map (fact_of ns) way)) (fact_of ns f) → AreAmong (map (fact_of ns) (take (i + 1) facts)) (take m (map (fact_of ns) way))
+among_more ns facts way i n m k f lt is most a c =
+    let trees = map (fact_of ns) way in
+    record {
+      each = λ t h.
+          elim (Contains-push_cases (map (fact_of ns) (take i facts)) (fact_of ns f) t (subst (λ (l : List FactTree). Contains l t) (map-take_more (fact_of ns) facts i f lt is) h)) [
+            | inl was ↦ among_more_first k m trees t (omega (arith, most)) (a.each t was)
+            | inr same ↦ subst (Contains (take m trees)) same (among_more_first n m trees (fact_of ns f) (omega (arith, most)) c)
+          ];
+    }
+
+pub among_none : (ns : List Node) (facts : List HeldFact) (way : List FactTree) → AreAmong (map (fact_of ns) (take 0 facts)) way
+among_none ns [] way = record { each = λ t c. let at = at_contains [] t c in cc }
+among_none ns (f ∷ facts) way = record { each = λ t c. let at = at_contains [] t c in cc }
+
+-- ---- answers
+
+pub indexed_same : {V : Type 0} (items : V → List ℕ) (facts : List HeldFact) (n : ℕ) (old new : List (V × ℕ)) → new ≡ old → IsIndexed facts n (found_at items old) → IsIndexed facts n (found_at items new)
+indexed_same items facts n old new e a = subst (λ es. IsIndexed facts n (found_at items es)) (sym e) a
+
+pub known_not : {P : Type 0} (r : Bool) → (IsTrue r ↔ P) → r ≡ false → P → ⊥
+known_not r is not p = true≢false (sym (is.1 p) ∙ not)

@@ -1,0 +1,8 @@
+use Rattle.std.proofs.Common.{◌≡◌, arith, min}
+use Rattle.held_terms.proofs.WayLemmas.{indexed_short}
+use Rattle.held_terms.proofs.way.Way.shorten.Goals as goal
+
+pub invariant_of-self : goal.invariant_of-self
+invariant_of-self c =
+    let least : c.min.result ≡ min c.self.inside.indexed c.args.length = c.min.ensures in
+    indexed_short c.self.inside.facts c.shorten.new.list c.self.inside.indexed c.min.result c.args.length _ c.shorten.ensures (omega (arith, least)) (omega (arith, least)) c.self.invariant
