@@ -1,4 +1,5 @@
 pub mod PutLemmas
+pub mod AskedLemmas
 pub mod LeafLemmas
 pub mod LeafSteps
 pub mod RuleLemmas

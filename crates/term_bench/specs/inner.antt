@@ -1,6 +1,7 @@
 pub mod Put
 pub mod Bench
 pub mod Leaves
+pub mod Asked
 pub mod Making
 pub mod Depths
 pub mod Exits

@@ -1,19 +1,24 @@
 //! Definitions that are closed by theorems over numbers.
 #![tactic(auto, using(held_terms::proofs::InstanceLemmas::extends_next, crate::proofs::BenchLemmas::extends_none))]
 
-ghost use Rattle.std.specs.Prelude.{◌≡◌, ◌↔◌, ◌+◌, ◌≤◌, IfOk, IsErrOf, IsOk, IsTrue, OnOk, drop, false, flat_map, length, map, slice_get};
+ghost use Rattle.std.specs.Prelude.{◌≡◌, ◌↔◌, ◌⊎◌, ◌+◌, ◌≤◌, IfOk, IsErrOf, IsOk, IsSome, IsTrue, OnOk, drop, false, flat_map, length, map, slice_get};
+ghost use Rattle.std.specs.BTreeMap.{get};
+ghost use Rattle.std.specs.Ordering.{nat_cmp};
 ghost use Rattle.tailrec_lang.specs.Tree.{def_tree, group_tree};
 ghost use Rattle.triple_kernel.specs.Tree.{fact_tree};
-ghost use Rattle.loop_rule.specs.Rule.{IsClosedBy, IsLedTo, LeadsTo};
+ghost use Rattle.triple_kernel.specs.Rules.{AreAmong};
+ghost use Rattle.loop_rule.specs.Rule.{IsClosedBy, IsLedTo};
 ghost use Rattle.term_arena.specs.Arena.{Extends};
-ghost use Rattle.held_terms.specs.Held.{AreFactsAt, IsHeldAt, IsSideAt, triple_of};
+ghost use Rattle.held_terms.specs.Held.{AreFactsAt, IsHeldAt, IsSideAt, fact_of, triple_of};
 ghost use Rattle.term_bench.specs.Bench.{AreHeldAt, theorem_at};
 ghost use Rattle.term_bench.specs.Terms.{closing_terms, fact_terms, nodes_of};
+ghost use Rattle.term_bench.specs.inner.Asked.{AreAsked, Begins, KnowsOf, LeadsOver, StaysAsked, StaysFor, closing_with};
 ghost use Rattle.term_bench.specs.inner.Leaves.{AreFirstOf, AreOnWay, leaf_over};
 
+use crate::asked::Asked;
 use crate::put::{put_facts, put_side};
 use crate::rules::theorem;
-use held_terms::{Facts, Held, HeldFact, HeldSide, is_entry, same_side};
+use held_terms::{Held, HeldSide, Way, is_entry, same_side};
 use loop_rule::{JudgeLeaves, cite_for_leaves, shorten};
 use rv_words::{List, NoMemory};
 use sep_assert::{Assertion, code_within};
@@ -35,7 +40,9 @@ pub(crate) struct HeldLeaves<'a, L: Ledger> {
     /// The facts of the way.
     pub way: &'a mut List<Fact>,
     /// The first of them, of the numbers of their terms.
-    pub put: &'a mut List<HeldFact>,
+    pub put: &'a mut Way,
+    /// What was asked for earlier leaves.
+    pub asked: &'a mut Asked,
     pub steps: &'a mut Steps<L>,
 }
 
@@ -50,26 +57,20 @@ impl<'a, L: Ledger> JudgeLeaves for HeldLeaves<'a, L> {
 
     fn push(&mut self, fact: Fact) -> Result<(), NoMemory> {
         self.way.push(fact)?;
-        Ok(())
+        self.asked.push()
     }
 
     fn shorten(&mut self, length: usize) {
         shorten(self.way, length);
-        shorten(self.put, length);
+        self.put.shorten(length);
+        self.asked.shorten(length);
     }
 
     fn is_led(&mut self, alloc: Global, post: &Assertion, number: u64) -> Result<bool, NoMemory> {
         put_way(alloc, self.arena, self.way.as_slice(), self.put, self.steps)?;
         let end = put_side(alloc, self.arena, post, self.steps)?;
         Ok(led_by(
-            alloc,
-            self.arena,
-            self.group,
-            self.def,
-            self.put.as_slice(),
-            &end,
-            self.held,
-            number,
+            self.arena, self.group, self.def, self.put, &end, self.held, number, self.asked,
             self.steps,
         ))
     }
@@ -94,7 +95,8 @@ pub(crate) fn is_closed_by<L: Ledger>(
         return Ok(false);
     };
     let mut way = List::new(alloc);
-    let mut put = List::new(alloc);
+    let mut put = Way::new(alloc);
+    let mut asked = Asked::new(alloc)?;
     let mut leaves = HeldLeaves {
         arena,
         group: g,
@@ -102,6 +104,7 @@ pub(crate) fn is_closed_by<L: Ledger>(
         held,
         way: &mut way,
         put: &mut put,
+        asked: &mut asked,
         steps,
     };
     let led = was_led(cite_for_leaves(alloc, g, d, cited, &mut leaves))?;
@@ -125,7 +128,7 @@ fn put_way<L: Ledger>(
     alloc: Global,
     arena: &mut Arena,
     way: &[Fact],
-    put: &mut List<HeldFact>,
+    put: &mut Way,
     steps: &mut Steps<L>,
 ) -> Result<(), NoMemory>
     requires { AreFirstOf arena.old put.old (map fact_tree way.now) }
@@ -149,48 +152,91 @@ fn from_place(items: &[Fact], place: usize) -> &[Fact]
 
 /// Whether the theorem of that number leads to the leaf, if there is one.
 fn led_by<L: Ledger>(
-    alloc: Global,
     arena: &Arena,
     g: &Group,
     def: &Def,
-    way: &[HeldFact],
+    way: &mut Way,
     post: &HeldSide,
     held: &BTreeMap<u64, Held>,
     number: u64,
+    asked: &mut Asked,
     steps: &mut Steps<L>,
 ) -> bool
     requires held { AreHeldAt arena.now held.now.entries }
-    requires way { AreFactsAt arena.now way.now }
+    requires way { AreFactsAt arena.now way.old }
     requires post { IsSideAt arena.now post.now }
-    ensures answer { IsTrue result ↔ IsLedTo (group_tree g.now) (def_tree def.now) (leaf_over arena.now way.now post.now) (theorem_at arena.now held.now.entries number) }
+    requires asked { AreAsked (closing_with (group_tree g.now) (def_tree def.now) (theorem_at arena.now held.now.entries)) (map (fact_of arena.now) way.old) asked.old }
+    ensures answer { IsTrue result ↔ IsLedTo (group_tree g.now) (def_tree def.now) (leaf_over arena.now way.old post.now) (theorem_at arena.now held.now.entries number) }
+    ensures way { way.new ≡ way.old }
+    ensures asked { AreAsked (closing_with (group_tree g.now) (def_tree def.now) (theorem_at arena.now held.now.entries)) (map (fact_of arena.now) way.old) asked.new }
     ensures steps { steps.new ≤ steps.old + (1 + (length g.now.regs + g.now.mems)) }
 {
     match theorem(arena, held, number) {
-        Some(p) => leads(alloc, arena, g, def, way, post, p, steps),
+        Some(p) => {
+            same_side(arena, &p.post, post) && leads(arena, g, def, way, p, number, asked, steps)
+        }
         None => false,
     }
 }
 
-/// Whether the theorem leads from the definition's entry to the leaf.
+/// Whether the theorem, which has that number, leads from the definition's entry over the way.
 fn leads<L: Ledger>(
-    alloc: Global,
     arena: &Arena,
     g: &Group,
     def: &Def,
-    way: &[HeldFact],
-    post: &HeldSide,
+    way: &mut Way,
     p: &Held,
+    number: u64,
+    asked: &mut Asked,
     steps: &mut Steps<L>,
 ) -> bool
-    requires way { AreFactsAt arena.now way.now }
-    requires post { IsSideAt arena.now post.now }
+    requires way { AreFactsAt arena.now way.old }
     requires p { IsHeldAt arena.now p.now }
-    ensures answer { IsTrue result ↔ LeadsTo (group_tree g.now) (def_tree def.now) (leaf_over arena.now way.now post.now) (triple_of arena.now p.now) }
+    requires known { KnowsOf (group_tree g.now) (def_tree def.now) (map (fact_of arena.now) way.old) number asked.old (triple_of arena.now p.now) }
+    ensures answer { IsTrue result ↔ LeadsOver (group_tree g.now) (def_tree def.now) (map (fact_of arena.now) way.old) (triple_of arena.now p.now) }
+    ensures way { way.new ≡ way.old }
+    ensures asked { StaysAsked (group_tree g.now) (def_tree def.now) (map (fact_of arena.now) way.old) number (triple_of arena.now p.now) asked.old asked.new }
     ensures steps { steps.new ≤ steps.old + (1 + (length g.now.regs + g.now.mems)) }
 {
-    let facts = Facts::new(alloc, way, p.facts.len());
-    is_entry(arena, g, def, &p.pre, steps)
-        && same_side(arena, &p.post, post)
-        && facts.has_all(arena, p.facts.as_slice())
-        && code_within(p.code.as_code(), &g.code)
+    if asked.leads(number) {
+        return true;
+    }
+    begins(arena, g, def, p, number, asked, steps) && has_facts(arena, way, p, number, asked)
+}
+
+/// Whether the theorem, which has that number, begins at the definition's entry, within the group's code.
+fn begins<L: Ledger>(
+    arena: &Arena,
+    g: &Group,
+    def: &Def,
+    p: &Held,
+    number: u64,
+    asked: &Asked,
+    steps: &mut Steps<L>,
+) -> bool
+    requires p { IsHeldAt arena.now p.now }
+    ensures found { IsTrue result → IsSome (get nat_cmp asked.now.fronts number) ⊎ Begins (group_tree g.now) (def_tree def.now) (triple_of arena.now p.now) }
+    ensures none { result ≡ false → Begins (group_tree g.now) (def_tree def.now) (triple_of arena.now p.now) → ⊥ }
+    ensures steps { steps.new ≤ steps.old + (1 + (length g.now.regs + g.now.mems)) }
+{
+    asked.begins(number)
+        || is_entry(arena, g, def, &p.pre, steps) && code_within(p.code.as_code(), &g.code)
+}
+
+/// Whether the theorem's facts are on the way, where it is one of that number which begins at the entry.
+fn has_facts(arena: &Arena, way: &mut Way, p: &Held, number: u64, asked: &mut Asked) -> bool
+    requires way { AreFactsAt arena.now way.old }
+    requires p { IsHeldAt arena.now p.now }
+    ensures answer { IsTrue result ↔ AreAmong (map (fact_of arena.now) p.now.facts) (map (fact_of arena.now) way.old) }
+    ensures way { way.new ≡ way.old }
+    ensures asked { StaysFor (map (fact_of arena.now) way.old) number (triple_of arena.now p.now) asked.old asked.new }
+{
+    way.index(arena);
+    match way.front(arena, p.facts.as_slice()) {
+        Some(many) => {
+            asked.keep(number, many);
+            true
+        }
+        None => false,
+    }
 }

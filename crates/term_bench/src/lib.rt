@@ -28,6 +28,7 @@
 //! `check_short` and `check_pulled_short` that of texts of version 2.
 #![tactic(auto)]
 
+mod asked;
 mod bench;
 mod check;
 mod closing;

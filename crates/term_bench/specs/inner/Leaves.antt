@@ -12,6 +12,7 @@ use Rattle.loop_rule.specs.Leaves.{at_entry, parameters}
 use Rattle.loop_rule.specs.Judge.{Judge}
 use Rattle.term_bench.specs.declared.closing.HeldLeaves.{HeldLeaves}
 use Rattle.term_bench.specs.Bench.{AreHeldAt, theorem_at}
+use Rattle.term_bench.specs.inner.Asked.{AreAsked, closing_with}
 use Rattle.term_bench.specs.Terms.{leaf_terms, nodes_of}
 use Rattle.term_bench.specs.inner.Put.{AreFactsPut}
 
@@ -29,10 +30,11 @@ pub record AreFirstOf (ns : List Node) (put : List HeldFact) (way : List FactTre
 abbrev pub AreOnWay : List Node → List HeldFact → List FactTree → Type 0
 AreOnWay ns put way = AreFactsPut ns put way
 
--- the theorems' numbers are there, and those of the facts that were put
+-- the theorems' numbers are there, and those of the facts that were put; what is kept of theorems is right
 pub record IsReady {L : Type 0} (k : HeldLeaves L) : Type 0 where
   pub held : AreHeldAt k.arena.now k.held.now.entries
   pub first : AreFirstOf k.arena.now k.put.now (map fact_tree k.way.now)
+  pub asked : AreAsked (closing_with (group_tree k.group.now) (def_tree k.def.now) (theorem_at k.arena.now k.held.now.entries)) (map fact_tree k.way.now) k.asked.now
 
 -- the same arena, which grew, and the same counter
 pub record GrewFrom {L : Type 0} (old new : HeldLeaves L) : Type 0 where

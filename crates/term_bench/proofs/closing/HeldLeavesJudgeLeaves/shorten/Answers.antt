@@ -1,6 +1,10 @@
-use Rattle.std.proofs.Common.{[], map, refl, sym, ap, ◌∙◌, arith}
+use Rattle.std.proofs.Common.{[], map, take, refl, sym, ap, ◌∙◌, arith}
 use Rattle.std.proofs.lemmas.List.{take-map}
+use Rattle.tailrec_lang.specs.Tree.{def_tree, group_tree}
 use Rattle.triple_kernel.specs.Tree.{fact_tree}
+use Rattle.term_bench.specs.Bench.{theorem_at}
+use Rattle.term_bench.specs.inner.Asked.{closing_with}
+use Rattle.term_bench.proofs.AskedLemmas.{asked_put}
 use Rattle.term_bench.proofs.BenchLemmas.{extends_none}
 use Rattle.term_bench.proofs.LeafLemmas.{first_short, held_went}
 use Rattle.term_bench.proofs.closing.HeldLeavesJudgeLeaves.shorten.Goals as goal
@@ -11,9 +15,15 @@ returns-clause-way g c = ap (map fact_tree) c.shorten.ensures ∙ sym (take-map 
 pub returns-clause-went : goal.returns-clause-went
 returns-clause-went g c =
     let old = c.args.self.now in
+    let group = group_tree old.group.now in
+    let def = def_tree old.def.now in
+    let theorem = theorem_at old.arena.now old.held.now.entries in
     held_went [] old _ refl refl refl (record { arena = refl; grows = extends_none old.arena.now; steps = refl }) c.requires
     (record {
       held = c.requires.held;
-      first = first_short old.arena.now c.args.length old.put.now c.shorten-2.new.list (map fact_tree old.way.now) (map fact_tree c.shorten.new.list) c.requires.first c.shorten-2.ensures
+      first = first_short old.arena.now c.args.length old.put.now c.shorten-2.new.self (map fact_tree old.way.now) (map fact_tree c.shorten.new.list) c.requires.first c.shorten-2.ensures
           (ap (map fact_tree) c.shorten.ensures ∙ sym (take-map fact_tree c.args.length old.way.now));
+      asked = asked_put group def theorem theorem (take c.args.length (map fact_tree old.way.now)) (map fact_tree c.shorten.new.list) c.shorten-3.new.self refl
+          (ap (map fact_tree) c.shorten.ensures ∙ sym (take-map fact_tree c.args.length old.way.now))
+          (c.shorten-3.ensures (closing_with group def theorem) (map fact_tree old.way.now) c.requires.asked);
     }) (omega arith)
