@@ -1,11 +1,11 @@
 -- Leaves that are judged by theorems over the numbers of an arena.
-use Rattle.std.proofs.Common.{◌≡◌, ℕ, zero, suc, ◌+◌, ◌-◌, ◌≤◌, Option, Some, None, List, [], ◌∷◌, ◌++◌, append_assoc, length, map, take, drop, refl, sym, ap, ◌∙◌, subst, arith, true≢false}
+use Rattle.std.proofs.Common.{◌≡◌, ℕ, zero, suc, ◌+◌, ◌-◌, ◌≤◌, Option, Some, List, [], ◌∷◌, ◌++◌, append_assoc, length, map, take, drop, refl, sym, ap, ◌∙◌, subst, arith, true≢false}
 use Rattle.std.specs.Prelude.{◌↔◌, All, Bool, true, false, slice_get, sum_by}
 use Rattle.std.specs.List.{AllZip}
 use Rattle.std.proofs.Math.Seq.{drop-append_seam}
 use Rattle.std.proofs.lemmas.List.{length-append, length-map, map-append, take-map, drop-map, append-nil}
 use Rattle.std.proofs.lemmas.List.Elements.{All-append, All-take}
-use Rattle.std.proofs.lemmas.Option.{none-some, same_Some}
+use Rattle.std.proofs.lemmas.Option.{same_Some}
 use Rattle.tailrec_lang.specs.Tree.{DefTree, GroupTree, def_tree, group_tree}
 use Rattle.sep_assert.specs.Tree.{AssertionTree}
 use Rattle.triple_kernel.specs.declared.triple.Fact.{Fact}
@@ -103,9 +103,6 @@ module _ (g : GroupTree) (d : ℕ) (cited : List (Option TripleTree)) where
   pub closed_by : (def : DefTree) (so : Bool) → slice_get g.defs d ≡ Some def → (so ≡ true → AllZip (IsLedTo g def) (leaves_of g def) cited) → (so ≡ false → AllZip (IsLedTo g def) (leaves_of g def) cited → ⊥) → so ≡ true ↔ IsClosedBy g d cited
   closed_by def true is led not_led = (λ t. record { def = def; is = is; each = led t }, λ closed. refl)
   closed_by def false is led not_led = (λ t. absurd (true≢false (sym t)), λ closed. absurd (not_led refl (closed_each def is closed)))
-
-  pub not_closed : slice_get g.defs d ≡ None → IsClosedBy g d cited → ⊥
-  not_closed is c = none-some c.def (sym is ∙ c.is)
 
 -- ---- what judges leaves
 

@@ -13,7 +13,8 @@ ghost use Rattle.held_terms.specs.Held.{AreFactsAt, IsHeldAt, IsSideAt, fact_of,
 ghost use Rattle.term_bench.specs.Bench.{AreHeldAt, theorem_at};
 ghost use Rattle.term_bench.specs.Terms.{closing_terms, fact_terms, nodes_of};
 ghost use Rattle.term_bench.specs.inner.Asked.{AreAsked, Begins, KnowsOf, LeadsOver, StaysAsked, StaysFor, closing_with};
-ghost use Rattle.term_bench.specs.inner.Leaves.{AreFirstOf, AreOnWay, leaf_over};
+ghost use Rattle.term_bench.specs.inner.Put.{AreFactsPut};
+ghost use Rattle.term_bench.specs.inner.Leaves.{AreFirstOf, leaf_over};
 
 use crate::asked::Asked;
 use crate::put::{put_facts, put_side};
@@ -132,7 +133,7 @@ fn put_way<L: Ledger>(
     steps: &mut Steps<L>,
 ) -> Result<(), NoMemory>
     requires { AreFirstOf arena.old put.old (map fact_tree way.now) }
-    ensures all { OnOk result (AreOnWay arena.new put.new (map fact_tree way.now)) }
+    ensures all { OnOk result (AreFactsPut arena.new put.new (map fact_tree way.now)) }
     ensures first { AreFirstOf arena.new put.new (map fact_tree way.now) }
     ensures grows { Extends arena.old arena.new }
     ensures steps { steps.new ≤ steps.old + nodes_of (flat_map fact_terms (map fact_tree way.now)) }

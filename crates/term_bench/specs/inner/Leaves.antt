@@ -14,7 +14,6 @@ use Rattle.term_bench.specs.declared.closing.HeldLeaves.{HeldLeaves}
 use Rattle.term_bench.specs.Bench.{AreHeldAt, theorem_at}
 use Rattle.term_bench.specs.inner.Asked.{AreAsked, closing_with}
 use Rattle.term_bench.specs.Terms.{leaf_terms, nodes_of}
-use Rattle.term_bench.specs.inner.Put.{AreFactsPut}
 
 -- the leaf that numbers stand for
 abbrev pub leaf_over : List Node → List HeldFact → HeldSide → LeafTree
@@ -25,10 +24,6 @@ pub record AreFirstOf (ns : List Node) (put : List HeldFact) (way : List FactTre
   pub at : AreFactsAt ns put
   pub rest : List FactTree
   pub is : way ≡ map (fact_of ns) put ++ rest
-
--- they stand for all of them
-abbrev pub AreOnWay : List Node → List HeldFact → List FactTree → Type 0
-AreOnWay ns put way = AreFactsPut ns put way
 
 -- the theorems' numbers are there, and those of the facts that were put; what is kept of theorems is right
 pub record IsReady {L : Type 0} (k : HeldLeaves L) : Type 0 where
