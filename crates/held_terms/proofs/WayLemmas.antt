@@ -74,34 +74,28 @@ module _ {V : Type 0} (items : V → List ℕ) where
   abbrev order : V → V → Ordering
   order v w = slice_cmp nat_cmp (items v) (items w)
 
-  Found : (V × ℕ) → List (V × ℕ) → List ℕ → Type 0
-  Found p new k = lookup (test k) new ≡ Some p.1
-
   -- at the entry's own numbers
   inserted_here : (v : V) (place : ℕ) (es : List (V × ℕ)) → lookup (test (items v)) (insert_entry order es v place) ≡ Some place
   inserted_here v place [] = cond-true (test (items v) v) (Some place) None (ap is_eq (same_lists (items v)))
-  inserted_here v place (e ∷ es) = at_order (order v e.0) refl
+  inserted_here v place (e ∷ es) = at_order (inserted_here v place es) (order v e.0) refl
     where
-      at_order : (o : Ordering) → o ≡ order v e.0 → lookup (test (items v)) (match_ordering o ((v, place) ∷ e ∷ es) ((e.0, place) ∷ es) (e ∷ insert_entry order es v place)) ≡ Some place
-      at_order Less is = cond-true (test (items v) v) (Some place) (lookup (test (items v)) (e ∷ es)) (ap is_eq (same_lists (items v)))
-      at_order Equal is = cond-true (test (items v) e.0) (Some place) (lookup (test (items v)) es) (ap is_eq (sym is))
-      at_order Greater is = cond-false (test (items v) e.0) (Some e.1) (lookup (test (items v)) (insert_entry order es v place)) (ap is_eq (sym is)) ∙ inserted_here v place es
+      at_order : lookup (test (items v)) (insert_entry order es v place) ≡ Some place → (o : Ordering) → o ≡ order v e.0 → lookup (test (items v)) (match_ordering o ((v, place) ∷ e ∷ es) ((e.0, place) ∷ es) (e ∷ insert_entry order es v place)) ≡ Some place
+      at_order rest Less is = cond-true (test (items v) v) (Some place) (lookup (test (items v)) (e ∷ es)) (ap is_eq (same_lists (items v)))
+      at_order rest Equal is = cond-true (test (items v) e.0) (Some place) (lookup (test (items v)) es) (ap is_eq (sym is))
+      at_order rest Greater is = cond-false (test (items v) e.0) (Some e.1) (lookup (test (items v)) (insert_entry order es v place)) (ap is_eq (sym is)) ∙ rest
 
   -- at others
   inserted_other : (v : V) (place : ℕ) (es : List (V × ℕ)) (k : List ℕ) → test k v ≡ false → lookup (test k) (insert_entry order es v place) ≡ lookup (test k) es
   inserted_other v place [] k other = cond-false (test k v) (Some place) None other
-  inserted_other v place (e ∷ es) k other = at_order (order v e.0) refl
+  inserted_other v place (e ∷ es) k other = at_order (inserted_other v place es k other) (order v e.0) refl
     where
-      rest : lookup (test k) (insert_entry order es v place) ≡ lookup (test k) es
-      rest = inserted_other v place es k other
-
-      at_order : (o : Ordering) → o ≡ order v e.0 → lookup (test k) (match_ordering o ((v, place) ∷ e ∷ es) ((e.0, place) ∷ es) (e ∷ insert_entry order es v place)) ≡ lookup (test k) (e ∷ es)
-      at_order Less is = cond-false (test k v) (Some place) (lookup (test k) (e ∷ es)) other
-      at_order Equal is =
+      at_order : lookup (test k) (insert_entry order es v place) ≡ lookup (test k) es → (o : Ordering) → o ≡ order v e.0 → lookup (test k) (match_ordering o ((v, place) ∷ e ∷ es) ((e.0, place) ∷ es) (e ∷ insert_entry order es v place)) ≡ lookup (test k) (e ∷ es)
+      at_order rest Less is = cond-false (test k v) (Some place) (lookup (test k) (e ∷ es)) other
+      at_order rest Equal is =
           let same : items v ≡ items e.0 = exact_bytes (items v) (items e.0) (sym is) in
           let apart : test k e.0 ≡ false = ap (λ (l : List ℕ). is_eq (slice_cmp nat_cmp k l)) (sym same) ∙ other in
           cond-false (test k e.0) (Some place) (lookup (test k) es) apart ∙ sym (cond-false (test k e.0) (Some e.1) (lookup (test k) es) apart)
-      at_order Greater is = (λ i. cond (test k e.0) (Some e.1) (rest i))
+      at_order rest Greater is = (λ i. cond (test k e.0) (Some e.1) (rest i))
 
   pub has_place : (v : V) (place : ℕ) (old new : List (V × ℕ)) → new ≡ insert_entry order old v place → HasPlace (found_at items old) (found_at items new) (items v) place
   has_place v place old new e = record {
@@ -192,9 +186,9 @@ not_there facts o p f r found is not place here there =
 
 -- ---- facts as trees
 
-pub stands_not : (facts : List HeldFact) (place : ℕ) (f : HeldFact) → length facts ≤ place → IsTrue false ↔ (slice_get facts place ≡ Some f)
-stands_not facts place f past = (
-  λ h. absurd (true≢false (sym h)),
+pub stands_not : (facts : List HeldFact) (place : ℕ) (f : HeldFact) (r : Bool) → (IsTrue r → ⊥) → length facts ≤ place → IsTrue r ↔ (slice_get facts place ≡ Some f)
+stands_not facts place f r none past = (
+  λ h. absurd (none h),
   λ e. let low = slice_get_within facts place f e in absurd (omega (arith, low, past)),
 )
 

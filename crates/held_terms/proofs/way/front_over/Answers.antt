@@ -4,18 +4,15 @@ use Rattle.triple_kernel.specs.Rules.{AreAmong}
 use Rattle.triple_kernel.proofs.Among.{is_among}
 use Rattle.held_terms.specs.declared.held.HeldFact.{HeldFact}
 use Rattle.held_terms.specs.Held.{fact_of}
-use Rattle.held_terms.proofs.WayLemmas.{among_more, among_none}
+use Rattle.held_terms.proofs.WayLemmas.{among_more}
 use Rattle.held_terms.proofs.way.front_over.Goals as goal
-
-pub loop-fact-established : goal.loop-fact-established
-loop-fact-established c = (among_none c.args.arena.now c.args.facts.now _, omega arith)
 
 pub loop-fact-preserved : goal.loop-fact-preserved
 loop-fact-preserved c =
-    let most : c.max.result ≡ max c.in-Some.n c.loop-fact.front = c.max.ensures in
+    let most : c.max-front.result ≡ max c.in-Some.n c.loop-fact.front = c.max-front.ensures in
     let old = c.loop-fact.invariant.1 in
     let new = c.in-Some.ensures.few in (
-      among_more c.args.arena.now c.args.facts.now c.args.way.now c.loop-fact.fact-index c.in-Some.n c.max.result c.loop-fact.front c.fact-item.result c.loop-fact-test.true c.fact-item.is most c.loop-fact.invariant.0 c.in-Some.ensures.some,
+      among_more c.args.arena.now c.args.facts.now c.args.way.now c.loop-fact.fact-index c.in-Some.n c.max-front.result c.loop-fact.front c.fact-item.result c.loop-fact-test.true c.fact-item.is most c.loop-fact.invariant.0 c.in-Some.ensures.some,
       omega (arith, most, old, new),
     )
 

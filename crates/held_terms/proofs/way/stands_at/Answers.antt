@@ -9,4 +9,4 @@ returns-then-place-facts c =
     (at_read c.args.facts.now c.args.place c.index-facts-place.result (omega arith) c.index-facts-place.is) c.requires.fact c.same_fact.ensures
 
 pub returns-else-place-facts : goal.returns-else-place-facts
-returns-else-place-facts c = stands_not c.args.facts.now c.args.place c.args.fact.now (omega arith)
+returns-else-place-facts c = stands_not c.args.facts.now c.args.place c.args.fact.now _ (λ h. omega (arith, h)) (omega arith)
