@@ -186,21 +186,17 @@ not_there facts o p f r found is not place here there =
 
 -- ---- facts as trees
 
-pub stands_not : (facts : List HeldFact) (place : ℕ) (f : HeldFact) (r : Bool) → (IsTrue r → ⊥) → length facts ≤ place → IsTrue r ↔ (slice_get facts place ≡ Some f)
-stands_not facts place f r none past = (
-  λ h. absurd (none h),
-  λ e. let low = slice_get_within facts place f e in absurd (omega (arith, low, past)),
-)
-
 module _ (ns : List Node) (arena : IsArena ns) (facts : List HeldFact) (there : AreFactsAt ns facts) where
   pub fact_there : (place : ℕ) (g : HeldFact) → slice_get facts place ≡ Some g → IsFactAt ns g
   fact_there place g e = All-contains (IsFactAt ns) facts g there (contains_at facts place g e)
 
   -- the fact stands where its tree does
-  pub stands_is : (place : ℕ) (g f : HeldFact) (r : Bool) → slice_get facts place ≡ Some g → IsFactAt ns f → (IsTrue r ↔ (fact_of ns g ≡ fact_of ns f)) → IsTrue r ↔ (slice_get facts place ≡ Some f)
-  stands_is place g f r e hf is = (
-    λ h. e ∙ ap (λ (x : HeldFact). Some x) (one_fact ns arena g f (fact_there place g e) hf (is.0 h)),
-    λ k. is.1 (ap (fact_of ns) (same_Some g f (sym e ∙ k))),
+  pub stands_is : (place : ℕ) (f : HeldFact) (r : Bool) → IsFactAt ns f → (IsTrue r ↔ (slice_get (map (fact_of ns) facts) place ≡ Some (fact_of ns f))) → IsTrue r ↔ (slice_get facts place ≡ Some f)
+  stands_is place f r hf is = (
+    λ h.
+        let item = at-map (fact_of ns) facts place (fact_of ns f) (is.0 h) in
+        item.1 ∙ ap (λ (x : HeldFact). Some x) (one_fact ns arena item.0 f (fact_there place item.0 item.1) hf item.2),
+    λ k. is.1 (map-at (fact_of ns) facts place f k),
   )
 
   -- among the first trees, where it stands at one of the first places

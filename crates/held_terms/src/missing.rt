@@ -61,7 +61,7 @@ fn are_missing(arena: &Arena, known: &Facts, facts: &[HeldFact], more: &[HeldFac
 }
 
 /// Whether that fact stands at a place.
-fn is_at(arena: &Arena, all: &[HeldFact], place: usize, fact: &HeldFact) -> bool
+pub(crate) fn is_at(arena: &Arena, all: &[HeldFact], place: usize, fact: &HeldFact) -> bool
     requires all { AreFactsAt arena.now all.now }
     requires fact { IsFactAt arena.now fact.now }
     ensures is { IsTrue result ↔ (slice_get (map (fact_of arena.now) all.now) place ≡ Some (fact_of arena.now fact.now)) }

@@ -10,6 +10,7 @@ ghost use Rattle.held_terms.specs.inner.Ways.{HasPlace, IsIndexed, IsPlaced, fou
 
 use crate::facts::{FEW, numbers_of};
 use crate::held::HeldFact;
+use crate::missing::is_at;
 use crate::same::same_fact;
 use loop_rule::shorten;
 use rv_words::{List, NoMemory};
@@ -273,7 +274,7 @@ fn stands_at(arena: &Arena, facts: &[HeldFact], place: usize, fact: &HeldFact) -
     ensures { IsTrue result ↔ (slice_get facts.now place ≡ Just fact.now) }
 {
     arena.law_of_nodes();
-    place < facts.len() && same_fact(arena, &facts[place], fact)
+    is_at(arena, facts, place, fact)
 }
 
 /// Where all of the facts are indexed and the fact is among them: so many of the first ones that it is among these.
