@@ -52,7 +52,7 @@ among_first n xs k x lt e = contains_at (take n xs) k x (at_take n xs k x lt e)
 pub among_all : {A : Type 0} (n : ℕ) (xs : List A) (x : A) → Contains (take n xs) x → Contains xs x
 among_all n xs x c = let at = at_contains (take n xs) x c in contains_at xs at.0 x (take_at n xs at.0 x at.1)
 
-take_under : {A : Type 0} (n : ℕ) (xs : List A) (k : ℕ) (x : A) → slice_get (take n xs) k ≡ Some x → k < n
+pub take_under : {A : Type 0} (n : ℕ) (xs : List A) (k : ℕ) (x : A) → slice_get (take n xs) k ≡ Some x → k < n
 take_under zero [] k x e = cc
 take_under zero (y ∷ xs) k x e = cc
 take_under (suc n) [] k x e = cc

@@ -1,10 +1,10 @@
 -- What is kept of theorems that were asked for leaves stays right while the way changes.
 use Rattle.std.proofs.Common.{true≢false, ◌≡◌, ◌⊎◌, ℕ, zero, suc, ◌+◌, ◌<◌, ◌≤◌, Bool, true, false, cond, List, [], ◌∷◌, ◌++◌, Option, Some, None, Equal, length, map, take, refl, ap, sym, ◌∙◌, subst, inl, inr, arith, length-append}
-use Rattle.std.specs.Prelude.{◌↔◌, IsSome, IsTrue, slice_get}
+use Rattle.std.specs.Prelude.{◌↔◌, IsSome, IsTrue, OnErr, OnOk, Result, Ok, Err, slice_get}
 use Rattle.std.specs.Cmp.{Equal-is}
 use Rattle.std.specs.Map.{lookup}
 use Rattle.std.specs.Ordering.{is_eq, nat_cmp}
-use Rattle.std.specs.BTreeMap.{BTreeMap, get, is_at}
+use Rattle.std.specs.BTreeMap.{Updates, get, is_at}
 use Rattle.std.proofs.lemmas.Bool.{cases_Bool, cond-true, cond-false}
 use Rattle.std.proofs.lemmas.Map.Lookups.{exact_unsigned}
 use Rattle.std.proofs.lemmas.Option.{none-some, same_Some}
@@ -13,6 +13,9 @@ use Rattle.tailrec_lang.specs.Tree.{DefTree, GroupTree}
 use Rattle.triple_kernel.specs.Tree.{FactTree, TripleTree}
 use Rattle.triple_kernel.specs.Rules.{AreAmong}
 use Rattle.loop_rule.specs.Judge.{Closing}
+use Rattle.term_arena.specs.declared.node.Node.{Node}
+use Rattle.held_terms.specs.declared.held.HeldFact.{HeldFact}
+use Rattle.held_terms.specs.Held.{fact_of}
 use Rattle.held_terms.proofs.WayLemmas.{among_more_first, among_all, take_at, take_under}
 use Rattle.term_bench.specs.declared.asked.Front.{Front}
 use Rattle.term_bench.specs.declared.asked.Asked.{Asked}
@@ -158,6 +161,13 @@ asked_same c way old new stamps next fronts a =
     (λ i s e. let low = a.stamps i s (at i s e) in omega (arith, low, next))
     (λ g low e. (at g.length g.stamp e, λ ts few among. among, λ few. few)) a
 
+-- .. if there was memory for it
+pub asked_tried : {A E : Type 0} (c : Closing) (way : List FactTree) (t : TripleTree) (number : ℕ) (f : Front) (old new : Asked) (r : Result A E) → OnOk r (Updates nat_cmp old.fronts new.fronts number (Some f))
+    → OnErr r (new.fronts.entries ≡ old.fronts.entries) → c.theorem number ≡ Some t → Begins c.group c.def t → AreAmong t.facts (take f.length way) → f.length ≤ length way → slice_get old.stamps f.length ≡ Some f.stamp
+    → new.stamps ≡ old.stamps → new.next ≡ old.next → AreAsked c way old → AreAsked c way new
+asked_tried c way t number f old new (Ok x) updates none is begins facts few here stamps next a = asked_kept c way t number f old new is begins facts few here stamps next updates.0 a
+asked_tried c way t number f old new (Err e) updates none is begins facts few here stamps next a = asked_same c way old new stamps next none a
+
 -- ---- what is known of one theorem
 
 pub knows_of : (g : GroupTree) (def : DefTree) (theorem : ℕ → Option TripleTree) (way : List FactTree) (number : ℕ) (k : Asked) (t : TripleTree) → theorem number ≡ Some t → AreAsked (closing_with g def theorem) way k
@@ -173,11 +183,14 @@ begins_known g def way number k t knows b = elim b [ inl kept ↦ of_some (get n
     of_some None e kept = cc
     of_some (Some f) e kept = (knows.each f e).begins
 
+pub among_whole : (n : ℕ) (ts way : List FactTree) → AreAmong ts (take n way) → AreAmong ts way
+among_whole n ts way a = record { each = λ f c. among_all n way f (a.each f c) }
+
 pub leads_known : (g : GroupTree) (def : DefTree) (way : List FactTree) (number : ℕ) (k : Asked) (t : TripleTree) → KnowsOf g def way number k t → HasStanding k number → LeadsOver g def way t
 leads_known g def way number k t knows h =
     let known = knows.each h.front h.is in
     let first = known.facts h.stands in
-    record { begins = known.begins; facts = record { each = λ f c. among_all h.front.length way f (first.each f c) } }
+    record { begins = known.begins; facts = among_whole h.front.length t.facts way first }
 
 pub stays_none : (g : GroupTree) (def : DefTree) (way : List FactTree) (number : ℕ) (t : TripleTree) (k : Asked) → StaysAsked g def way number t k k
 stays_none g def way number t k = record { each = λ theorem is a. a }
@@ -192,6 +205,12 @@ asked_put g def theorem now way new k t w a =
     subst (λ (f : ℕ → Option TripleTree). AreAsked (closing_with g def f) new k) (sym t) (subst (λ (fs : List FactTree). AreAsked (closing_with g def theorem) fs k) (sym w) a)
 
 -- ---- whether a theorem leads to a leaf
+
+-- the facts are among first ones of the way, by other names for both
+pub among_front : (ns : List Node) (facts given way now : List HeldFact) (n : ℕ) → given ≡ facts → now ≡ way → AreAmong (map (fact_of ns) given) (take n (map (fact_of ns) now)) → AreAmong (map (fact_of ns) facts) (take n (map (fact_of ns) way))
+among_front ns facts given way now n f w a =
+    subst (λ (fs : List HeldFact). AreAmong (map (fact_of ns) fs) (take n (map (fact_of ns) way))) f
+    (subst (λ (fs : List HeldFact). AreAmong (map (fact_of ns) given) (take n (map (fact_of ns) fs))) w a)
 
 pub leads_facts : (g : GroupTree) (def : DefTree) (way : List FactTree) (t : TripleTree) (r : Bool) → Begins g def t → (IsTrue r ↔ AreAmong t.facts way) → IsTrue r ↔ LeadsOver g def way t
 leads_facts g def way t r begins is = (λ h. record { begins = begins; facts = is.0 h }, λ l. is.1 l.facts)
