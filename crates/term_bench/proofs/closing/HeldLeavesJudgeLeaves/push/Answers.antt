@@ -4,7 +4,7 @@ use Rattle.triple_kernel.specs.declared.triple.Fact.{Fact}
 use Rattle.triple_kernel.specs.Tree.{fact_tree}
 use Rattle.tailrec_lang.specs.Tree.{def_tree, group_tree}
 use Rattle.term_bench.specs.Bench.{theorem_at}
-use Rattle.term_bench.specs.inner.Asked.{AreAsked, closing_with}
+use Rattle.term_bench.specs.inner.Asked.{closing_with}
 use Rattle.term_bench.proofs.AskedLemmas.{asked_put}
 use Rattle.term_bench.specs.inner.Leaves.{AreFirstOf}
 use Rattle.term_bench.proofs.BenchLemmas.{extends_none}
@@ -30,5 +30,12 @@ returns-clause-went g c =
 pub returns-in_err-push-clause-went : goal.returns-in_err-push-clause-went
 returns-in_err-push-clause-went g c =
     let old = c.args.self.now in
+    let group = group_tree old.group.now in
+    let def = def_tree old.def.now in
+    let theorem = theorem_at old.arena.now old.held.now.entries in
     held_went [] old _ refl refl refl (record { arena = refl; grows = extends_none old.arena.now; steps = refl }) c.requires
-    (record { held = c.requires.held; first = subst (λ (fs : List Fact). AreFirstOf old.arena.now old.put.now (map fact_tree fs)) (sym c.in_err-push.ensures.err) c.requires.first; asked = subst (λ (fs : List Fact). AreAsked (closing_with (group_tree old.group.now) (def_tree old.def.now) (theorem_at old.arena.now old.held.now.entries)) (map fact_tree fs) old.asked.now) (sym c.in_err-push.ensures.err) c.requires.asked }) (omega arith)
+    (record {
+      held = c.requires.held;
+      first = subst (λ (fs : List Fact). AreFirstOf old.arena.now old.put.now (map fact_tree fs)) (sym c.in_err-push.ensures.err) c.requires.first;
+      asked = asked_put group def theorem theorem (map fact_tree old.way.now) (map fact_tree c.push.new.self) old.asked.now refl (ap (map fact_tree) c.in_err-push.ensures.err) c.requires.asked;
+    }) (omega arith)
