@@ -1,17 +1,17 @@
 -- Facts by their numbers: each is told by them, and a set of them is looked up.
-use Rattle.std.proofs.Common.{◌≡◌, ◌⊎◌, ℕ, ◌+◌, ◌<◌, Bool, true, false, ◌||◌, cond, List, [], ◌∷◌, ◌++◌, Option, Some, None, Ordering, Less, Equal, Greater, length, map, take, get_or, refl, ap, sym, ◌∙◌, subst, inl, inr, arith, length-append}
+use Rattle.std.proofs.Common.{◌≡◌, ◌⊎◌, ℕ, ◌+◌, ◌<◌, Bool, true, false, List, [], ◌∷◌, ◌++◌, Option, Some, None, Ordering, Less, Equal, Greater, length, map, take, get_or, refl, ap, sym, ◌∙◌, subst, inl, inr, arith}
 use Rattle.std.specs.Prelude.{◌↔◌, IfSome, IsTrue}
 use Rattle.std.specs.List.{Contains, list_any}
 use Rattle.std.specs.Ordering.{is_eq, nat_cmp, match_ordering, ordering_then}
 use Rattle.std.specs.Cmp.{Equal-is, nat_cmp_is}
 use Rattle.std.specs.Cmp.Lexicographic.{slice_cmp}
 use Rattle.std.specs.BTreeSet.{insert_key}
-use Rattle.std.proofs.lemmas.Bool.{both_ways, cases_Bool, or_left, or_right, or_cases}
+use Rattle.std.proofs.lemmas.Bool.{or_left, or_right, or_cases}
 use Rattle.std.proofs.lemmas.List.{append_assoc}
 use Rattle.std.proofs.lemmas.List.Elements.{Contains-append_left, Contains-append_right, Contains-append_cases, Contains-push_cases, Contains-push}
 use Rattle.std.proofs.lemmas.Map.Lookups.{exact_bytes}
 use Rattle.tailrec_lang.proofs.Lists.{map-take_more}
-use Rattle.term_arena.proofs.Places.{at_contains, contains_at}
+use Rattle.term_arena.proofs.Places.{at_contains}
 use Rattle.held_terms.specs.declared.held.HeldValues.{HeldValues}
 use Rattle.held_terms.specs.declared.held.HeldFact.{HeldFact}
 use Rattle.held_terms.specs.declared.held.HeldFact.TheVariants as held

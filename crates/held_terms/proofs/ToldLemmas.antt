@@ -1,5 +1,5 @@
 -- Facts over an arena are told by their numbers.
-use Rattle.std.proofs.Common.{◌≡◌, ℕ, Bool, List, [], ◌∷◌, Some, map, refl, ap, sym, ◌∙◌, subst}
+use Rattle.std.proofs.Common.{◌≡◌, ℕ, Bool, List, [], ◌∷◌, Some, map, refl, ap, ◌∙◌}
 use Rattle.std.specs.Prelude.{◌↔◌, IsTrue}
 use Rattle.std.specs.List.{Contains}
 use Rattle.std.proofs.lemmas.List.Elements.{All-head, All-tail, All-contains}
@@ -8,7 +8,6 @@ use Rattle.term_arena.specs.Arena.{OfWord, OfMem, OfCond, word_of, mem_of, cond_
 use Rattle.term_arena.proofs.Places.{at_contains, contains_at, at-map, map-at}
 use Rattle.term_arena.proofs.TreeLemmas.{one_number}
 use Rattle.tailrec_lang.specs.Tree.{ValuesTree}
-use Rattle.triple_kernel.specs.Tree.{FactTree}
 use Rattle.held_terms.specs.declared.held.HeldValues.{HeldValues}
 use Rattle.held_terms.specs.declared.held.HeldFact.{HeldFact}
 use Rattle.held_terms.specs.declared.held.HeldFact.TheVariants as held

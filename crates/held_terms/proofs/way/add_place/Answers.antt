@@ -10,6 +10,6 @@ pub returns-clause-ok : goal.returns-clause-ok
 returns-clause-ok c =
     on_ok_weaker c.insert_place.result
     (λ h. indexed_next c.args.facts.now c.args.place c.index-facts-place.result (at_read c.args.facts.now c.args.place c.index-facts-place.result c.requires.low c.index-facts-place.is) _ _ c.requires.index
-      (known_not _ c.is_known.ensures c.if-is_known.false)
-      (subst (λ (k : List ℕ). HasPlace (found_at (λ v. vec_items v) c.args.index.now.entries) (found_at (λ v. vec_items v) c.insert_place.new.index.entries) k c.args.place) c.in_ok-numbers.ensures h))
+    (known_not _ c.is_known.ensures c.if-is_known.false)
+    (subst (λ (k : List ℕ). HasPlace (found_at (λ v. vec_items v) c.args.index.now.entries) (found_at (λ v. vec_items v) c.insert_place.new.index.entries) k c.args.place) c.in_ok-numbers.ensures h))
     c.insert_place.ensures.ok

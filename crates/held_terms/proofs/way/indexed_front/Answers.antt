@@ -1,4 +1,3 @@
-use Rattle.std.proofs.Common.{arith}
 use Rattle.held_terms.proofs.WayLemmas.{none_indexed, tree_first}
 use Rattle.held_terms.proofs.way.indexed_front.Goals as goal
 
