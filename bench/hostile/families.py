@@ -89,7 +89,7 @@ def leaves_refused(n):
     return TURN, text(AGAIN, *["let 0x0"] * n, *tree(n, "again ;"), LOOP, "loop 0", code=TURN.hex()), CHECK
 
 
-@family(200)
+@family(40_000)
 def facts_of_leaves(n):
     """n leaves behind n steps, each with a theorem of n facts."""
     steps, facts = each(n, "let {0:#x}", "\n"), each(n, "(is v{0} {0:#x})")
@@ -97,7 +97,16 @@ def facts_of_leaves(n):
     return TURN, text(*lines, code=TURN.hex()), CHECK
 
 
-@family(4000)
+@family(800)
+def late_facts(n):
+    """n leaves behind n steps. Each second one has a theorem of n facts and of the condition that stands right before the leaf."""
+    steps, facts = each(n, "let {0:#x}", "\n"), each(n, "(is v{0} {0:#x})")
+    pairs = tree(n // 2, "if (eq 0x1 0x1)\nagain ;\nelse\nagain ;")
+    lines = [AGAIN, steps, *pairs, LOOP, states("weaken 0", f"(so (eq 0x1 0x1)) {facts}", behind=ENTRY), "loop 0" + " 1 0" * (n // 2)]
+    return TURN, text(*lines, code=TURN.hex()), CHECK
+
+
+@family(20_000)
 def code_of_leaves(n):
     """n leaves, each with a theorem of code of 4n bytes."""
     covered = f"({ENTRY} {TURN.hex()})"
