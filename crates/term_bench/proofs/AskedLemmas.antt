@@ -1,13 +1,13 @@
 -- What is kept of theorems that were asked for leaves stays right while the way changes.
-use Rattle.std.proofs.Common.{true≢false, ◌≡◌, ◌⊎◌, ℕ, zero, suc, ◌+◌, ◌<◌, ◌≤◌, Bool, true, false, cond, List, [], ◌∷◌, ◌++◌, Option, Some, None, Equal, length, map, take, refl, ap, sym, ◌∙◌, subst, inl, inr, arith, length-append}
+use Rattle.std.proofs.Common.{true≢false, ◌≡◌, ◌⊎◌, ℕ, zero, suc, ◌+◌, ◌<◌, ◌≤◌, Bool, false, cond, List, [], ◌∷◌, ◌++◌, Option, Some, None, length, map, take, refl, ap, sym, ◌∙◌, subst, inl, inr, arith, length-append}
 use Rattle.std.specs.Prelude.{◌↔◌, IsSome, IsTrue, OnErr, OnOk, Result, Ok, Err, slice_get}
 use Rattle.std.specs.Cmp.{Equal-is}
 use Rattle.std.specs.Map.{lookup}
-use Rattle.std.specs.Ordering.{is_eq, nat_cmp}
+use Rattle.std.specs.Ordering.{nat_cmp}
 use Rattle.std.specs.BTreeMap.{Updates, get, is_at}
 use Rattle.std.proofs.lemmas.Bool.{cases_Bool, cond-true, cond-false}
 use Rattle.std.proofs.lemmas.Map.Lookups.{exact_unsigned}
-use Rattle.std.proofs.lemmas.Option.{none-some, same_Some}
+use Rattle.std.proofs.lemmas.Option.{same_Some}
 use Rattle.term_arena.proofs.Places.{at-push_cases}
 use Rattle.tailrec_lang.specs.Tree.{DefTree, GroupTree}
 use Rattle.triple_kernel.specs.Tree.{FactTree, TripleTree}
@@ -16,7 +16,7 @@ use Rattle.loop_rule.specs.Judge.{Closing}
 use Rattle.term_arena.specs.declared.node.Node.{Node}
 use Rattle.held_terms.specs.declared.held.HeldFact.{HeldFact}
 use Rattle.held_terms.specs.Held.{fact_of}
-use Rattle.held_terms.proofs.WayLemmas.{among_more_first, among_all, take_at, take_under}
+use Rattle.held_terms.proofs.WayLemmas.{among_all, take_at, take_under}
 use Rattle.term_bench.specs.declared.asked.Front.{Front}
 use Rattle.term_bench.specs.declared.asked.Asked.{Asked}
 use Rattle.term_bench.specs.inner.Asked.{AreAsked, Begins, HasStanding, IsAsked, IsKnown, KnowsOf, LeadsOver, Stands, StaysAsked, StaysFor, closing_with}
