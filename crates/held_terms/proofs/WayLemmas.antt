@@ -114,9 +114,6 @@ before_or_last zero (suc i) lt = inl (omega arith)
 before_or_last (suc j) zero lt = absurd (omega (arith, lt))
 before_or_last (suc j) (suc i) lt = elim (before_or_last j i (omega (arith, lt))) [ inl h ↦ inl (omega (arith, h)) | inr h ↦ inr (ap suc h) ]
 
-pub indexed_none : (facts : List HeldFact) (at : List ℕ → Option ℕ) → IsIndexed facts 0 at
-indexed_none facts at = record { few = omega arith; each = λ i f lt e. absurd (omega (arith, lt)) }
-
 pub indexed_more : (facts more new : List HeldFact) (n : ℕ) (at : List ℕ → Option ℕ) → new ≡ facts ++ more → IsIndexed facts n at → IsIndexed new n at
 indexed_more facts more new n at is a =
     subst (λ (l : List HeldFact). IsIndexed l n at) (sym is) (record {
@@ -143,16 +140,6 @@ module _ (facts : List HeldFact) (i : ℕ) (f : HeldFact) (there : slice_get fac
   same_at : (j : ℕ) (g : HeldFact) → j ≡ i → slice_get facts j ≡ Some g → f ≡ g
   same_at j g same e = same_Some f g (sym there ∙ ap (λ (k : ℕ). slice_get facts k) (sym same) ∙ e)
 
-  -- the next one was found before
-  pub indexed_known : (at : List ℕ → Option ℕ) → IsIndexed facts i at → IsPlaced facts at i f → IsIndexed facts (i + 1) at
-  indexed_known at a p = record {
-    few = let long = slice_get_within facts i f there in omega (arith, long);
-    each = λ j g lt e. elim (before_or_last j i lt) [
-      | inl before ↦ a.each j g before e
-      | inr same ↦ subst (IsPlaced facts at (j + 1)) (same_at j g same e) (record { place = p.place; low = (let low = p.low in omega (arith, low, same)); found = p.found; there = p.there })
-    ];
-  }
-
   -- it is found now
   pub indexed_next : (at new : List ℕ → Option ℕ) → IsIndexed facts i at → (IsPlaced facts at i f → ⊥) → HasPlace at new (numbers_of f) i → IsIndexed facts (i + 1) new
   indexed_next at new a unknown h = record {
@@ -170,19 +157,6 @@ module _ (facts : List HeldFact) (i : ℕ) (f : HeldFact) (there : slice_get fac
       | inr same ↦ subst (IsPlaced facts new (j + 1)) (same_at j g same e) (record { place = i; low = omega (arith, same); found = h.here; there = there })
     ];
   }
-
--- what is found at a place there is, where it is one of the first ones
-pub placed_is : (facts : List HeldFact) (at : List ℕ → Option ℕ) (n place : ℕ) (f : HeldFact) (r : Bool) → at (numbers_of f) ≡ Some place → slice_get facts place ≡ Some f → (IsTrue r ↔ (place < n)) → IsTrue r ↔ IsPlaced facts at n f
-placed_is facts at n place f r found there is = (
-  λ h. record { place = place; low = is.0 h; found = found; there = there },
-  λ p. is.1 (subst (λ (k : ℕ). k < n) (same_Some p.place place (sym p.found ∙ found)) p.low),
-)
-
--- it isn't found at another place
-pub not_there : (facts : List HeldFact) (o : Option ℕ) (p : ℕ) (f : HeldFact) (r : Bool) → o ≡ Some p → (IsTrue r ↔ (slice_get facts p ≡ Some f)) → r ≡ false → (place : ℕ) → o ≡ Some place → slice_get facts place ≡ Some f → ⊥
-not_there facts o p f r found is not place here there =
-    let same : place ≡ p = same_Some place p (sym here ∙ found) in
-    true≢false (sym (is.1 (subst (λ (k : ℕ). slice_get facts k ≡ Some f) same there)) ∙ not)
 
 -- ---- facts as trees
 
@@ -230,14 +204,7 @@ among_more ns facts way i n m k f lt is most a c =
           ];
     }
 
-pub among_none : (ns : List Node) (facts : List HeldFact) (way : List FactTree) → AreAmong (map (fact_of ns) (take 0 facts)) way
-among_none ns [] way = record { each = λ t c. let at = at_contains [] t c in cc }
-among_none ns (f ∷ facts) way = record { each = λ t c. let at = at_contains [] t c in cc }
-
 -- ---- answers
-
-pub indexed_same : {V : Type 0} (items : V → List ℕ) (facts : List HeldFact) (n : ℕ) (old new : List (V × ℕ)) → new ≡ old → IsIndexed facts n (found_at items old) → IsIndexed facts n (found_at items new)
-indexed_same items facts n old new e a = subst (λ es. IsIndexed facts n (found_at items es)) (sym e) a
 
 pub known_not : {P : Type 0} (r : Bool) → (IsTrue r ↔ P) → r ≡ false → P → ⊥
 known_not r is not p = true≢false (sym (is.1 p) ∙ not)

@@ -192,9 +192,6 @@ leads_known g def way number k t knows h =
     let first = known.facts h.stands in
     record { begins = known.begins; facts = among_whole h.front.length t.facts way first }
 
-pub stays_none : (g : GroupTree) (def : DefTree) (way : List FactTree) (number : ℕ) (t : TripleTree) (k : Asked) → StaysAsked g def way number t k k
-stays_none g def way number t k = record { each = λ theorem is a. a }
-
 pub stays_so : (g : GroupTree) (def : DefTree) (way : List FactTree) (number : ℕ) (t : TripleTree) (old new : Asked) → Begins g def t → StaysFor way number t old new → StaysAsked g def way number t old new
 stays_so g def way number t old new begins s = record { each = λ theorem is a. s.each (closing_with g def theorem) is begins a }
 
@@ -214,6 +211,3 @@ among_front ns facts given way now n f w a =
 
 pub leads_facts : (g : GroupTree) (def : DefTree) (way : List FactTree) (t : TripleTree) (r : Bool) → Begins g def t → (IsTrue r ↔ AreAmong t.facts way) → IsTrue r ↔ LeadsOver g def way t
 leads_facts g def way t r begins is = (λ h. record { begins = begins; facts = is.0 h }, λ l. is.1 l.facts)
-
-pub leads_not : (g : GroupTree) (def : DefTree) (way : List FactTree) (t : TripleTree) → (Begins g def t → ⊥) → IsTrue false ↔ LeadsOver g def way t
-leads_not g def way t none = (λ h. absurd (true≢false (sym h)), λ l. absurd (none l.begins))
