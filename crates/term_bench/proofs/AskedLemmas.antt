@@ -1,5 +1,5 @@
 -- What is kept of theorems that were asked for leaves stays right while the way changes.
-use Rattle.std.proofs.Common.{true≢false, ◌≡◌, ◌⊎◌, ℕ, zero, suc, ◌+◌, ◌<◌, ◌≤◌, Bool, false, cond, List, [], ◌∷◌, ◌++◌, Option, Some, None, length, map, take, refl, ap, sym, ◌∙◌, subst, inl, inr, arith, length-append}
+use Rattle.std.proofs.Common.{◌≡◌, ◌⊎◌, ℕ, zero, suc, ◌+◌, ◌<◌, ◌≤◌, Bool, cond, List, [], ◌∷◌, ◌++◌, Option, Some, None, length, map, take, refl, ap, sym, ◌∙◌, subst, inl, inr, arith, length-append}
 use Rattle.std.specs.Prelude.{◌↔◌, IsSome, IsTrue, OnErr, OnOk, Result, Ok, Err, slice_get}
 use Rattle.std.specs.Cmp.{Equal-is}
 use Rattle.std.specs.Map.{lookup}
@@ -71,16 +71,6 @@ module _ (c : Closing) (way now : List FactTree) (old new : Asked) (next : old.n
           };
         };
   }
-
-pub asked_none : (c : Closing) (way : List FactTree) (k : Asked) → k.stamps ≡ 0 ∷ [] → k.next ≡ 1 → k.fronts.entries ≡ [] → AreAsked c way k
-asked_none c way k stamps next none = record {
-  stamps = λ i s e. one i s (sym (ap (λ (l : List ℕ). slice_get l i) stamps) ∙ e);
-  each = λ number f e. let no_front : None ≡ Some f = sym (ap (λ es. lookup (is_at (nat_cmp number)) es) none) ∙ e in cc;
-}
-  where
-    one : (i s : ℕ) → slice_get (0 ∷ []) i ≡ Some s → s < k.next
-    one zero s e = let same : 0 ≡ s = same_Some 0 s e in omega (arith, same, next)
-    one (suc i) s e = cc
 
 pub asked_push : (c : Closing) (way : List FactTree) (f : FactTree) (old new : Asked) → new.stamps ≡ old.stamps ++ old.next ∷ [] → new.next ≡ old.next + 1 → new.fronts.entries ≡ old.fronts.entries → AreAsked c way old
     → AreAsked c (way ++ f ∷ []) new
