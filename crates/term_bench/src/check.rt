@@ -1,4 +1,4 @@
-//! The check of proof texts of version 1, and of others without a further rule, that keeps the terms of each proof as numbers.
+//! The check of proof texts whose lines state whole triples, with the further rule of their version, that keeps terms as numbers.
 
 ghost use Rattle.std.specs.Prelude.{◌≡◌, [], ◌⊎◌, ◌<◌, ◌≤◌, ◌^◌, ℕ, List as Items, None, IfSome, length, true, false};
 ghost use Rattle.elf_image.specs.Fault.{IsReadable};
