@@ -8,6 +8,7 @@ pub mod ImageLemmas
 pub mod ImagingLemmas
 pub mod InstanceLemmas
 pub mod LaterLemmas
+pub mod ListingLemmas
 pub mod NumberLemmas
 pub mod PlaceLemmas
 pub mod Indices

@@ -7,6 +7,7 @@ pub mod SideTables
 pub mod ImageNode
 pub mod Imaging
 pub mod Slots
+pub mod Listings
 pub mod Instances
 pub mod Alone
 pub mod Following

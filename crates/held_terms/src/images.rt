@@ -1,13 +1,13 @@
 //! Terms put in for variables: the number of the image of a term.
 
-ghost use Rattle.std.specs.Prelude.{◌≡◌, ◌<◌, ◌+◌, IfOk, OnOk, Some as Just, length, slice_get, unwrap_or};
-ghost use Rattle.word_terms.specs.Substitution.{listed};
+ghost use Rattle.std.specs.Prelude.{◌≡◌, ◌<◌, ◌+◌, IfOk, OnOk, Some as Just, length, slice_get};
 ghost use Rattle.term_arena.specs.Arena.{Extends};
 ghost use Rattle.held_terms.specs.Image.{IsImage, IsReady, put_for_numbers};
 ghost use Rattle.held_terms.specs.inner.ImageNode.{ImageNode};
 ghost use Rattle.held_terms.specs.inner.Imaging.{AreEnded, HasTerm, Imaged, IsFree};
 
 use crate::image_table::ImageTable;
+use crate::listing::Listing;
 use rv_words::NoMemory;
 use std::sync::ledger::Ledger;
 use term_arena::{Arena, Node, Steps, law_of_arenas};
@@ -18,8 +18,8 @@ use term_arena::{Arena, Node, Steps, law_of_arenas};
 #[tactic(auto, using(crate::proofs::ImageLemmas::image_stays, crate::proofs::ImageLemmas::get_stays, crate::proofs::ImageLemmas::longer))]
 pub fn image<L: Ledger>(
     arena: &mut Arena,
-    words: &[(u32, u64)],
-    mems: &[(u32, u64)],
+    words: &Listing,
+    mems: &Listing,
     known: &mut ImageTable,
     x: u64,
     steps: &mut Steps<L>,
@@ -47,8 +47,8 @@ pub fn image<L: Ledger>(
 #[tactic(auto, using(crate::proofs::ImageLemmas::image_stays, crate::proofs::ImageLemmas::get_stays, crate::proofs::ImageLemmas::longer, crate::proofs::ImagingLemmas::free_less, crate::proofs::ImagingLemmas::free_next, crate::proofs::ImagingLemmas::free_after, crate::proofs::ImagingLemmas::ended_none, crate::proofs::ImagingLemmas::ended_both))]
 fn image_over<L: Ledger>(
     arena: &mut Arena,
-    words: &[(u32, u64)],
-    mems: &[(u32, u64)],
+    words: &Listing,
+    mems: &Listing,
     known: &mut ImageTable,
     x: u64,
     steps: &mut Steps<L>,
@@ -65,8 +65,8 @@ fn image_over<L: Ledger>(
     let n = arena.node(x, steps);
     match n {
         Node::Const(_) => Ok(x),
-        Node::WordVar(i) => Ok(number_for(words, i, x)),
-        Node::MemVar(i) => Ok(number_for(mems, i, x)),
+        Node::WordVar(i) => Ok(words.number_for(i, x)),
+        Node::MemVar(i) => Ok(mems.number_for(i, x)),
         Node::Bin(op, a, b) => {
             let a = image(arena, words, mems, known, a, steps)?;
             let b = image(arena, words, mems, known, b, steps)?;
@@ -143,8 +143,8 @@ fn image_over<L: Ledger>(
 /// Adds the image of a node, whose children's images were made.
 fn made<L: Ledger>(
     arena: &mut Arena,
-    words: &[(u32, u64)],
-    mems: &[(u32, u64)],
+    words: &Listing,
+    mems: &Listing,
     known: &ImageTable,
     x: u64,
     n: Node,
@@ -163,16 +163,4 @@ fn made<L: Ledger>(
     arena.law_of_nodes();
     let y = arena.add(m, steps)?;
     Ok(y)
-}
-
-/// The number that is listed for a variable, or that of the variable.
-fn number_for(list: &[(u32, u64)], i: u32, x: u64) -> u64
-    ensures { result ≡ unwrap_or (listed list.now i) x }
-{
-    for entry in list {
-        if entry.0 == i {
-            return entry.1;
-        }
-    }
-    x
 }

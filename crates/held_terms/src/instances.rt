@@ -14,6 +14,7 @@ ghost use Rattle.held_terms.specs.inner.Instances.{AreImagesOf, AreWithin, IsFac
 use crate::held::{Held, HeldFact, HeldSide, HeldValues};
 use crate::image_table::ImageTable;
 use crate::images::image;
+use crate::listing::Listing;
 use rv_words::{List, NoMemory};
 use std::alloc::Global;
 use std::sync::ledger::Ledger;
@@ -38,7 +39,9 @@ pub fn instance<L: Ledger>(
     ensures steps { (ts : Items Tree) → HasHeld arena.old p.now ts → steps.new ≤ steps.old + 2 * length ts }
 {
     known.clear();
-    let q = held_image(alloc, arena, words, mems, known, p, steps);
+    let word_terms = Listing::new(alloc, words);
+    let mem_terms = Listing::new(alloc, mems);
+    let q = held_image(alloc, arena, &word_terms, &mem_terms, known, p, steps);
     arena.law_of_nodes();
     q
 }
@@ -46,8 +49,8 @@ pub fn instance<L: Ledger>(
 fn held_image<L: Ledger>(
     alloc: Global,
     arena: &mut Arena,
-    words: &[(u32, u64)],
-    mems: &[(u32, u64)],
+    words: &Listing,
+    mems: &Listing,
     known: &mut ImageTable,
     p: &Held,
     steps: &mut Steps<L>,
@@ -76,8 +79,8 @@ fn held_image<L: Ledger>(
 fn images<L: Ledger>(
     alloc: Global,
     arena: &mut Arena,
-    words: &[(u32, u64)],
-    mems: &[(u32, u64)],
+    words: &Listing,
+    mems: &Listing,
     known: &mut ImageTable,
     xs: &[u64],
     steps: &mut Steps<L>,
@@ -103,8 +106,8 @@ fn images<L: Ledger>(
 fn register_images<L: Ledger>(
     alloc: Global,
     arena: &mut Arena,
-    words: &[(u32, u64)],
-    mems: &[(u32, u64)],
+    words: &Listing,
+    mems: &Listing,
     known: &mut ImageTable,
     registers: &[(u8, u64)],
     steps: &mut Steps<L>,
@@ -129,8 +132,8 @@ fn register_images<L: Ledger>(
 fn values_image<L: Ledger>(
     alloc: Global,
     arena: &mut Arena,
-    words: &[(u32, u64)],
-    mems: &[(u32, u64)],
+    words: &Listing,
+    mems: &Listing,
     known: &mut ImageTable,
     values: &HeldValues,
     steps: &mut Steps<L>,
@@ -171,8 +174,8 @@ fn values_image<L: Ledger>(
 fn fact_image<L: Ledger>(
     alloc: Global,
     arena: &mut Arena,
-    words: &[(u32, u64)],
-    mems: &[(u32, u64)],
+    words: &Listing,
+    mems: &Listing,
     known: &mut ImageTable,
     fact: &HeldFact,
     steps: &mut Steps<L>,
@@ -222,8 +225,8 @@ fn fact_image<L: Ledger>(
 fn fact_images<L: Ledger>(
     alloc: Global,
     arena: &mut Arena,
-    words: &[(u32, u64)],
-    mems: &[(u32, u64)],
+    words: &Listing,
+    mems: &Listing,
     known: &mut ImageTable,
     facts: &[HeldFact],
     steps: &mut Steps<L>,
@@ -248,8 +251,8 @@ fn fact_images<L: Ledger>(
 fn side_image<L: Ledger>(
     alloc: Global,
     arena: &mut Arena,
-    words: &[(u32, u64)],
-    mems: &[(u32, u64)],
+    words: &Listing,
+    mems: &Listing,
     known: &mut ImageTable,
     side: &HeldSide,
     steps: &mut Steps<L>,

@@ -22,6 +22,7 @@ mod image_table;
 mod images;
 mod instances;
 mod later_rules;
+mod listing;
 mod missing;
 mod rules;
 mod same;
