@@ -163,6 +163,13 @@ def instances(n):
     return words([FENCE]), text(*LEAVES, STEP, states("weaken 0", facts), states(f"inst 1 {pairs}", facts)), CHECK
 
 
+@family(8000)
+def listed_variables(n):
+    """n terms for variables, the last one first, in n facts, each of another variable."""
+    facts, pairs = each(n, "(is v{0} 0x0)"), " ".join(f"(v{i} v{i})" for i in reversed(range(n)))
+    return words([FENCE]), text(*LEAVES, STEP, states("weaken 0", facts), states(f"inst 1 {pairs}", facts)), CHECK
+
+
 # ---- `check`: code, theorems, groups
 
 
