@@ -1,5 +1,6 @@
 pub mod AloneLemmas
 pub mod AskedLemmas
+pub mod ClassLemmas
 pub mod CondLemmas
 pub mod ExitLemmas
 pub mod FewLemmas

@@ -112,6 +112,11 @@ module _ (ns : List Node) where
       let h = a.steps in
       omega (arith, h, pairs, terms)
 
+  -- .. after one step for each term
+  pub few_after : (P : List Tree → Type 0) (ts : List Tree) (known : List Entry) (finds : Finds) (s r t : ℕ) → IsArena ns → P ts → r ≤ s + length ts → AllSought ns P known finds r t
+      → t ≤ s + (2 * (length ts * length ts) + 2 * length ts)
+  few_after P ts known finds s r t arena has first a = let h = few_sought P ts known finds r t arena has a in omega (arith, h, first)
+
   -- ---- of facts
 
   pub fact_there : (fs : List HeldFact) (i : ℕ) (f : HeldFact) (ts : List Tree) → i < length fs → f ≡ get_or fs i f → HasFacts ns fs ts → HasFact ns f ts
@@ -127,3 +132,7 @@ module _ (ns : List Node) where
   given_next c fs i f old mid new was is now s r t low e a j =
       sought_both (HasCondAnd ns c fs) old mid new was is now s r t a
       (sought_under (HasCondAnd ns c fs) (HasCondAndFact ns c f) mid new is now r t (λ ts h. (h.0, fact_there fs i f ts low e h.1)) j)
+
+  -- steps that were bounded over a slice of the facts
+  pub after : (fs gs hs : List HeldFact) → gs ≡ hs → (ts : List Tree) (s r : ℕ) → ((us : List Tree) → HasFacts ns fs us → HasFacts ns gs us → r ≤ s + length us) → HasFacts ns fs ts → HasFacts ns hs ts → r ≤ s + length ts
+  after fs gs hs e ts s r most one two = most ts one (subst (λ (l : List HeldFact). HasFacts ns l ts) (sym e) two)

@@ -12,3 +12,4 @@ pub mod Instances
 pub mod Alone
 pub mod Following
 pub mod Leaves
+pub mod Classes

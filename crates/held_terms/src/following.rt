@@ -10,9 +10,11 @@ ghost use Rattle.held_terms.specs.Held.{AreFactsAt, IsFactAt, fact_of};
 ghost use Rattle.held_terms.specs.inner.SideTables.{AreRight};
 ghost use Rattle.held_terms.specs.Subterms.{HasFacts};
 ghost use Rattle.held_terms.specs.inner.Alone.{AreAllFound};
+ghost use Rattle.held_terms.specs.inner.Classes.{Narrows};
 ghost use Rattle.held_terms.specs.inner.Following.{HasCondAnd, HasCondAndFact, HasFactAnd, Sought};
 
 use crate::alone::{Found, is_always_true};
+use crate::candidates::{Candidates, candidates_of, classify};
 use crate::conditions::are_alike;
 use crate::facts::Facts;
 use crate::held::HeldFact;
@@ -25,7 +27,7 @@ use std::sync::ledger::Ledger;
 use term_arena::{Arena, Steps};
 
 /// Whether each of the facts is among the others or follows from them. Each pair of numbers takes two steps at most, and each number
-/// one more.
+/// two more.
 #[tactic(auto, using(crate::proofs::SeekLemmas::all_none))]
 pub fn are_among_or_follow<L: Ledger>(
     alloc: Global,
@@ -37,13 +39,22 @@ pub fn are_among_or_follow<L: Ledger>(
     requires facts { AreFactsAt arena.now facts.now }
     requires others { AreFactsAt arena.now others.now }
     ensures answer { IfOk result (λ r. IsTrue r ↔ AreAmongOrFollow (map (fact_of arena.now) facts.now) (map (fact_of arena.now) others.now)) }
-    ensures steps { (ts : Items Tree) → HasFacts arena.now facts.now ts → HasFacts arena.now others.now ts → steps.new ≤ steps.old + (2 * (length ts * length ts) + length ts) }
+    ensures steps { (ts : Items Tree) → HasFacts arena.now facts.now ts → HasFacts arena.now others.now ts → steps.new ≤ steps.old + (2 * (length ts * length ts) + 2 * length ts) }
 {
     arena.law_of_nodes();
+    let candidates = classify(alloc, arena, facts, others.as_slice(), steps)?;
     let mut known = Table::new(alloc);
     let mut found = BTreeMap::new(alloc);
     for fact in facts {
-        let holds = is_among_or_follows(arena, others, &mut known, &mut found, fact, steps)?;
+        let holds = is_among_or_follows(
+            arena,
+            others,
+            &candidates,
+            &mut known,
+            &mut found,
+            fact,
+            steps,
+        )?;
         if !holds {
             return Ok(false);
         }
@@ -55,12 +66,14 @@ pub fn are_among_or_follow<L: Ledger>(
 fn is_among_or_follows<L: Ledger>(
     arena: &Arena,
     others: &Facts,
+    candidates: &Candidates,
     known: &mut Table,
     found: &mut BTreeMap<u64, Found>,
     fact: &HeldFact,
     steps: &mut Steps<L>,
 ) -> Result<bool, NoMemory>
     requires others { AreFactsAt arena.now others.now }
+    requires candidates { Narrows arena.now others.now candidates.now.classes candidates.now.lists }
     requires right { AreRight arena.now (map (fact_of arena.now) others.now) known.old }
     requires found { AreAllFound arena.now found.old }
     requires fact { IsFactAt arena.now fact.now }
@@ -72,7 +85,7 @@ fn is_among_or_follows<L: Ledger>(
     if others.has(arena, fact) {
         return Ok(true);
     }
-    let holds = follows(arena, others, known, found, fact, steps)?;
+    let holds = follows(arena, others, candidates, known, found, fact, steps)?;
     Ok(holds)
 }
 
@@ -80,12 +93,14 @@ fn is_among_or_follows<L: Ledger>(
 fn follows<L: Ledger>(
     arena: &Arena,
     others: &Facts,
+    candidates: &Candidates,
     known: &mut Table,
     found: &mut BTreeMap<u64, Found>,
     fact: &HeldFact,
     steps: &mut Steps<L>,
 ) -> Result<bool, NoMemory>
     requires others { AreFactsAt arena.now others.now }
+    requires candidates { Narrows arena.now others.now candidates.now.classes candidates.now.lists }
     requires right { AreRight arena.now (map (fact_of arena.now) others.now) known.old }
     requires found { AreAllFound arena.now found.old }
     requires fact { IsFactAt arena.now fact.now }
@@ -104,7 +119,7 @@ fn follows<L: Ledger>(
             Ok(same)
         }
         HeldFact::So(c) => {
-            let holds = condition_follows(arena, others, known, found, *c, steps)?;
+            let holds = condition_follows(arena, others, candidates, known, found, *c, steps)?;
             Ok(holds)
         }
         HeldFact::Gives { .. } => Ok(false),
@@ -114,12 +129,14 @@ fn follows<L: Ledger>(
 fn condition_follows<L: Ledger>(
     arena: &Arena,
     others: &Facts,
+    candidates: &Candidates,
     known: &mut Table,
     found: &mut BTreeMap<u64, Found>,
     c: u64,
     steps: &mut Steps<L>,
 ) -> Result<bool, NoMemory>
     requires others { AreFactsAt arena.now others.now }
+    requires candidates { Narrows arena.now others.now candidates.now.classes candidates.now.lists }
     requires right { AreRight arena.now (map (fact_of arena.now) others.now) known.old }
     requires found { AreAllFound arena.now found.old }
     requires there { IsCondAt arena.now c }
@@ -132,7 +149,8 @@ fn condition_follows<L: Ledger>(
     if always {
         return Ok(true);
     }
-    let like = is_like_some(arena, others, others.as_slice(), known, found, c, steps)?;
+    let given = candidates_of(arena, candidates, others.as_slice(), c);
+    let like = is_like_some(arena, others, given, known, found, c, steps)?;
     Ok(like)
 }
 

@@ -9,9 +9,13 @@
 //! Two terms may be swapped where facts say that they are equal: the pairs that were decided stand in a table
 //! (`table`), so that each pair of subterms is decided once, and shared subterms don't cost their paths. A pair is looked up
 //! by order, and so is a fact among more than a few ([`Facts`]), or among those of a way, which come and go at its end ([`Way`]).
+//! Whether a condition follows from facts is decided by those alone that say that one of its class is true (`classes`, `candidates`):
+//! terms that facts let stand for one another have one class.
 #![tactic(auto)]
 
 mod alone;
+mod candidates;
+mod classes;
 mod conditions;
 mod exits;
 mod facts;

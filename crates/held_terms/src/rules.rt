@@ -149,7 +149,7 @@ pub fn is_weakened<L: Ledger>(
     Ok(same)
 }
 
-/// Other facts, from which those of the theorem follow. Each pair of different terms takes two steps at most, and each term one more.
+/// Other facts, from which those of the theorem follow. Each pair of different terms takes two steps at most, and each term two more.
 pub fn is_discharged<L: Ledger>(
     alloc: Global,
     arena: &Arena,
@@ -160,7 +160,7 @@ pub fn is_discharged<L: Ledger>(
     requires p { IsHeldAt arena.now p.now }
     requires stated { IsHeldAt arena.now stated.now }
     ensures answer { IfOk result (λ r. IsTrue r ↔ IsDischarged (triple_of arena.now p.now) (triple_of arena.now stated.now)) }
-    ensures steps { (ts : Items Tree) → HasFacts arena.now p.now.facts ts → HasFacts arena.now stated.now.facts ts → steps.new ≤ steps.old + (2 * (length ts * length ts) + length ts) }
+    ensures steps { (ts : Items Tree) → HasFacts arena.now p.now.facts ts → HasFacts arena.now stated.now.facts ts → steps.new ≤ steps.old + (2 * (length ts * length ts) + 2 * length ts) }
 {
     if !keeps_all_but_facts(arena, p, stated) {
         return Ok(false);

@@ -66,7 +66,7 @@ terms_within n = let e = square n in omega (arith, e)
 pub pairs_within : (n : ℕ) → 2 * (n * n) ≤ 4 * ((n + 1) * (n + 1))
 pairs_within n = let e = square n in omega (arith, e)
 
-pub searches_within : (n : ℕ) → 2 * (n * n) + n ≤ 4 * ((n + 1) * (n + 1))
+pub searches_within : (n : ℕ) → 2 * (n * n) + 2 * n ≤ 4 * ((n + 1) * (n + 1))
 searches_within n = let e = square n in omega (arith, e)
 
 pub looks_within : (n : ℕ) → 10 * n + 1 ≤ 4 * ((n + 1) * (n + 1))

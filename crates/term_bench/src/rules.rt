@@ -272,7 +272,7 @@ fn by_discharge<L: Ledger>(
     requires held { AreHeldAt arena.now held.now.entries }
     requires stated { IsHeldAt arena.now stated.now }
     ensures answer { IfOk result (λ r. IsTrue r ↔ IsSomeAnd (theorem_at arena.now held.now.entries p) (λ p. IsDischarged p (triple_of arena.now stated.now))) }
-    ensures steps { (ts : Items Tree) → HasSubterms ts (triple_terms (triple_of arena.now stated.now)) → HasSubterms ts (theorem_terms (theorem_at arena.now held.now.entries p)) → steps.new ≤ steps.old + (2 * (length ts * length ts) + length ts) }
+    ensures steps { (ts : Items Tree) → HasSubterms ts (triple_terms (triple_of arena.now stated.now)) → HasSubterms ts (theorem_terms (theorem_at arena.now held.now.entries p)) → steps.new ≤ steps.old + (2 * (length ts * length ts) + 2 * length ts) }
 {
     match theorem(arena, held, p) {
         Some(p) => is_discharged(alloc, arena, p, stated, steps),

@@ -100,15 +100,15 @@ pub record AreMoreFound (ns : List Node) (old new : Finds) : Type 0 where
 -- ---- how many entries, and steps
 
 -- the tree of each number that has an entry is in the list
-pub record AreSearched (ns : List Node) (ts : List Tree) (finds : Finds) : Type 0 where
+pub record AreSearched {V : Type 0} (ns : List Node) (ts : List Tree) (finds : BTreeMap ℕ V) : Type 0 where
   pub each : (k : ℕ) → IsSome (get nat_cmp finds k) → IsIn ns ts k
 
 -- the entries that came are of terms in each list that P asks for
-pub record Kept (ns : List Node) (P : List Tree → Type 0) (old new : Finds) : Type 0 where
+pub record Kept {V : Type 0} (ns : List Node) (P : List Tree → Type 0) (old new : BTreeMap ℕ V) : Type 0 where
   pub ordered : IsOrdered nat_cmp old → IsOrdered nat_cmp new
   pub inside : (ts : List Tree) → P ts → AreSearched ns ts old → AreSearched ns ts new
 
 -- .. and each took one step at most
-pub record Searched (ns : List Node) (P : List Tree → Type 0) (old new : Finds) (s t : ℕ) : Type 0 where
+pub record Searched {V : Type 0} (ns : List Node) (P : List Tree → Type 0) (old new : BTreeMap ℕ V) (s t : ℕ) : Type 0 where
   pub steps : t + btree_map_len old ≤ s + btree_map_len new
   pub kept : Kept ns P old new

@@ -11,5 +11,5 @@ invariant-loop-fact g l = record {
   hold : AreAmongOrFollow (map (fact_of l.arena) (take l.fact-index l.facts)) (map (fact_of l.arena) l.others);
   right : AreRight l.arena (map (fact_of l.arena) l.others) l.known;
   found : AreAllFound l.arena l.found;
-  sought : AllSought l.arena (HasBothFacts l.arena l.facts l.others) l.known l.found l.fn.steps l.steps;
+  sought : AllSought l.arena (HasBothFacts l.arena l.facts l.others) l.known l.found l.initial.steps l.steps;
 }
