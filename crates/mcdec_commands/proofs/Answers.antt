@@ -25,9 +25,9 @@ use Rattle.mcdec_answers.specs.declared.answer.EvalAnswer.TheVariants as answer
 use Rattle.mcdec_words.specs.Command.{Eval, Run, Arg, Given, Words, value_of, givens, ranges}
 use Rattle.mcdec_words.specs.declared.command.Memory.TheVariants.{First, Second}
 use Rattle.mcdec_words.specs.CommandReading.{Holds, HoldsArgs, value_in}
-use Rattle.mcdec_commands.specs.Memory.{no_bytes, placed}
-use Rattle.mcdec_commands.specs.EvalAnswer.{proof_limit, arguments_given, first_named, memories_given, ranges_in, EvalGives}
-use Rattle.mcdec_commands.specs.inner.Search.{Finds, GroupGives, HasText}
+use Rattle.mcdec_commands.specs.Memory.{placed, ranges_in}
+use Rattle.mcdec_commands.specs.EvalAnswer.{proof_limit, arguments_given, memories_given, EvalGives}
+use Rattle.mcdec_commands.specs.inner.Search.{Finds, GroupGives, HasText, first_named}
 use Rattle.mcdec_commands.specs.Answer.{ReadsAreTold}
 use Rattle.mcdec_commands.specs.Held.{HoldsWith}
 
@@ -59,7 +59,7 @@ words-there values rs ws e = ap length e ∙ length-map rs (value_in values)
 pub mems-there : (maps : List (FinMap nat_cmp ℕ)) (n : ℕ) (memory stack : List Range) → n ≤ 2 → map get maps ≡ memories_given n memory stack → length maps ≡ n
 mems-there maps n memory stack few e =
     let two : length (memories_given 2 memory stack) ≡ 2 = refl in
-    sym (length-map maps get) ∙ ap length e ∙ length-take n (placed memory no_bytes ∷ placed stack no_bytes ∷ []) ∙ omega (arith, few)
+    sym (length-map maps get) ∙ ap length e ∙ length-take n (placed memory (λ a. None) ∷ placed stack (λ a. None) ∷ []) ∙ omega (arith, few)
 
 module _ (g : GroupTree) (is : HasText g) (args : List Arg) (values : List (Option ℕ)) (memory stack : List Range) (h : HoldsArgs args values memory stack)
     (x : Arguments) (words : x.words ≡ map (value_in values) g.regs) (mems : x.mems ≡ memories_given g.mems memory stack) where

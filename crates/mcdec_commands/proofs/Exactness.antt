@@ -55,14 +55,13 @@ use Rattle.elf_image.specs.declared.fault.ElfFault.{ElfFault}
 use Rattle.elf_image.specs.Fault.{IsReadable, fault_of}
 use Rattle.elf_image.specs.declared.symbol.NameFault.{NameFault}
 use Rattle.rv_machine.specs.State.{State}
-use Rattle.rv_machine.specs.Run.{EndsIn}
-use Rattle.rv_machine.specs.declared.running.RunEnd.{RunEnd}
-use Rattle.rv_machine.specs.declared.running.RunEnd.TheVariants as end
 use Rattle.rv_machine.proofs.RunLemmas.{ends-once}
 use Rattle.decompiler.specs.Names.{StandsFor}
-use Rattle.mcdec_commands.specs.RunAnswer.{elf_limit, IsLoaded, state_given, shown_after, RunGives}
-use Rattle.mcdec_commands.specs.EvalAnswer.{AreWellFormed, HasBadDef, HasBadLine, IsNamed, first_named, proof_limit, arguments_given, shown_of, EvalGives}
-use Rattle.mcdec_commands.specs.inner.Search.{GroupGives}
+use Rattle.mcdec_commands.specs.Memory.{shown_at}
+use Rattle.mcdec_commands.specs.RunAnswer.{elf_limit, IsLoaded, answer_at, state_given, RunGives}
+use Rattle.mcdec_commands.specs.EvalAnswer.{HasBadDef, HasBadLine, IsNamed, proof_limit, arguments_given, EvalGives}
+use Rattle.mcdec_commands.specs.inner.Running.{MachineGives}
+use Rattle.mcdec_commands.specs.inner.Search.{GroupGives, first_named}
 use Rattle.mcdec_commands.specs.Answer.{Gives, IsDetermined}
 use Rattle.mcdec_answers.specs.Printed.{IsPrinted, IsDelivered, status}
 use Rattle.mcdec_words.proofs.OneCommand.{words-unique}
@@ -78,7 +77,7 @@ use Rattle.std.proofs.lemmas.Bool.{cases_order}
 -- ---- groups
 
 abbrev answer_for : GroupTree → ℕ → List Arg → Outcome → EvalAnswer
-answer_for g turns args (Done exit pc results left) = ev.Done (shown_of g args (turns - left) pc results)
+answer_for g turns args (Done exit pc results left) = ev.Done (shown_at args (turns - left) pc g.regs results.words results.mems)
 answer_for g turns args Turns = ev.TurnsUsed
 answer_for g turns args (SideFalse def ordinal) = ev.SideFalse def ordinal
 answer_for g turns args NoOutcome = ev.NoFunction
@@ -128,15 +127,15 @@ first-def : (g : GroupTree) (c d : ℕ) → IsFirstIllFormed g c → IsFirstIllF
 first-def g c d h k = omega (arith, not-earlier g c d h k, not-earlier g d c k h)
 
 -- a list of groups all of which are well-formed doesn't begin with one that ends otherwise
-not-front : (gs : List GroupTree) (g : GroupTree) (def : ℕ) (more hs : List GroupTree) → IsFirstIllFormed g def → hs ≡ (gs ++ g ∷ []) ++ more → AreWellFormed hs → ⊥
-not-front gs g def more hs first e well = ill g def first (last-of IsWellFormed gs g (front IsWellFormed (gs ++ g ∷ []) more (subst AreWellFormed e well)))
+not-front : (gs : List GroupTree) (g : GroupTree) (def : ℕ) (more hs : List GroupTree) → IsFirstIllFormed g def → hs ≡ (gs ++ g ∷ []) ++ more → AllByRecursion IsWellFormed hs → ⊥
+not-front gs g def more hs first e well = ill g def first (last-of IsWellFormed gs g (front IsWellFormed (gs ++ g ∷ []) more (subst (AllByRecursion IsWellFormed) e well)))
   where
     front : (F : GroupTree → Type 0) (xs ys : List GroupTree) → AllByRecursion F (xs ++ ys) → AllByRecursion F xs
     front F [] ys h = tt
     front F (x ∷ xs) ys h = (h.0, front F xs ys h.1)
 
 -- two lists one of which begins with the other, each with one that isn't well-formed behind others that are
-same-last : (gs hs more : List GroupTree) (g h : GroupTree) → hs ++ h ∷ [] ≡ (gs ++ g ∷ []) ++ more → (c : ℕ) → IsFirstIllFormed g c → AreWellFormed hs → (length gs ≡ length hs) × (g ≡ h)
+same-last : (gs hs more : List GroupTree) (g h : GroupTree) → hs ++ h ∷ [] ≡ (gs ++ g ∷ []) ++ more → (c : ℕ) → IsFirstIllFormed g c → AllByRecursion IsWellFormed hs → (length gs ≡ length hs) × (g ≡ h)
 same-last [] [] [] g h e c first well = (refl, cc)
 same-last [] [] (m ∷ more) g h e c first well = absurd cc
 same-last [] (x ∷ hs) more g h e c first well = let same : x ≡ g = cc in absurd (ill g c first (subst IsWellFormed same well.0))
@@ -157,7 +156,7 @@ not-bad g p (suc n) h k = h.0 k
 
 -- what is so of the first group of a name, if there is one
 named-case : (p name : List ℕ) (found : Option GroupTree) (F : Option GroupTree → Type 0) → IsNamed p name found → F found
-    → (gs : List GroupTree) × IsTextListing p gs × AreWellFormed gs × F (first_named name gs)
+    → (gs : List GroupTree) × IsTextListing p gs × AllByRecursion IsWellFormed gs × F (first_named name gs)
 named-case p name found F n h = (n.groups, n.listed, n.well_formed, subst F (sym n.first) h)
 
 -- Answers of any kind to a text: a bad line, a definition that isn't well-formed, or what is said of its groups.
@@ -168,7 +167,7 @@ abbrev BadDef : {A : Type 0} → (ℕ → ℕ → A) → List ℕ → A → Type
 BadDef ill_formed p a = (n def : ℕ) × HasBadDef p n def × (a ≡ ill_formed n def)
 
 abbrev GoodText : {A : Type 0} → (List GroupTree → A → Type 0) → List ℕ → A → Type 0
-GoodText Says p a = (gs : List GroupTree) × IsTextListing p gs × AreWellFormed gs × Says gs a
+GoodText Says p a = (gs : List GroupTree) × IsTextListing p gs × AllByRecursion IsWellFormed gs × Says gs a
 
 abbrev TextCase : {A : Type 0} → (ℕ → A) → (ℕ → ℕ → A) → (List GroupTree → A → Type 0) → List ℕ → A → Type 0
 TextCase unreadable ill_formed Says p a = BadText unreadable p a ⊎ (BadDef ill_formed p a ⊎ GoodText Says p a)
@@ -251,21 +250,13 @@ file-unique p name turns args a b (inr h) (inr k) =
 
 -- ---- runs
 
-abbrev answer_at : List Arg → State → RunEnd → RunAnswer
-answer_at args t (end.Met k) = ra.Met (shown_after args k t)
-answer_at args t (end.Stuck k why) = ra.Stuck k why
-answer_at args t end.Steps = ra.StepsUsed
-
-abbrev MachineCase : ℕ → ℕ → List Arg → State → RunAnswer → Type 0
-MachineCase until steps args s a = (t : State) × (e : RunEnd) × EndsIn until steps s t e × (a ≡ answer_at args t e)
-
-machine-unique : (until steps : ℕ) (args : List Arg) (s : State) (a b : RunAnswer) → MachineCase until steps args s a → MachineCase until steps args s b → a ≡ b
+machine-unique : (until steps : ℕ) (args : List Arg) (s : State) (a b : RunAnswer) → MachineGives until steps args s a → MachineGives until steps args s b → a ≡ b
 machine-unique until steps args s a b h k =
     let p = ends-once until steps s h.0 k.0 h.1 k.1 h.2 k.2 in h.3 ∙ (λ i. answer_at args (p.0 i) (p.1 i)) ∙ sym k.3
 
 abbrev StartCase : List ℕ → List ℕ → ℕ → ℕ → List Arg → RunAnswer → Type 0
 StartCase file start until steps args a =
-    ((f : NameFault) × StandsFor file start (Err f) × (a ≡ ra.StartRefused start f)) ⊎ ((n : ℕ) × StandsFor file start (Ok n) × MachineCase until steps args (state_given file args n) a)
+    ((f : NameFault) × StandsFor file start (Err f) × (a ≡ ra.StartRefused start f)) ⊎ ((n : ℕ) × StandsFor file start (Ok n) × MachineGives until steps args (state_given file args n) a)
 
 start-unique : (file start : List ℕ) (until steps : ℕ) (args : List Arg) (a b : RunAnswer) → StartCase file start until steps args a → StartCase file start until steps args b → a ≡ b
 start-unique file start until steps args a b (inl h) (inl k) = h.2 ∙ ap (ra.StartRefused start) (err_is h.0 k.0 (stands-once file start (Err h.0) (Err k.0) h.1 k.1)) ∙ sym k.2
@@ -273,7 +264,7 @@ start-unique file start until steps args a b (inl h) (inr k) = absurd (ok_err k.
 start-unique file start until steps args a b (inr h) (inl k) = absurd (ok_err h.0 k.0 (stands-once file start (Ok h.0) (Err k.0) h.1 k.1))
 start-unique file start until steps args a b (inr h) (inr k) =
     let n : h.0 ≡ k.0 = ok_is h.0 k.0 (stands-once file start (Ok h.0) (Ok k.0) h.1 k.1) in
-    machine-unique until steps args (state_given file args k.0) a b (subst (λ (x : ℕ). MachineCase until steps args (state_given file args x) a) n h.2) k.2
+    machine-unique until steps args (state_given file args k.0) a b (subst (λ (x : ℕ). MachineGives until steps args (state_given file args x) a) n h.2) k.2
 
 abbrev ImageCase : List ℕ → List ℕ → ℕ → ℕ → List Arg → RunAnswer → Type 0
 ImageCase file start until steps args a = ((why : ElfFault) × (fault_of file ≡ Some why) × (a ≡ ra.Unreadable why)) ⊎ (IsReadable file × StartCase file start until steps args a)
@@ -291,9 +282,9 @@ run-case : (file start : List ℕ) (until steps : ℕ) (args : List Arg) (a : Ru
 run-case file start until steps args ra.OverLimit h = inl (h, refl)
 run-case file start until steps args (ra.Unreadable why) h = inr (h.0, inl (why, h.1, refl))
 run-case file start until steps args (ra.StartRefused name why) (loaded, same, stands) = inr (loaded.0, inr (loaded.1, inl (why, stands, ap (λ (n : List ℕ). ra.StartRefused n why) same)))
-run-case file start until steps args (ra.Stuck k why) (loaded, t, r) = inr (loaded.0, inr (loaded.1, inr (r.at, r.stands, (t, end.Stuck k why, r.ends, refl))))
-run-case file start until steps args ra.StepsUsed (loaded, t, r) = inr (loaded.0, inr (loaded.1, inr (r.at, r.stands, (t, end.Steps, r.ends, refl))))
-run-case file start until steps args (ra.Met shown) (loaded, t, k, r, is) = inr (loaded.0, inr (loaded.1, inr (r.at, r.stands, (t, end.Met k, r.ends, ap ra.Met is))))
+run-case file start until steps args (ra.Stuck k why) (loaded, at, t, how, stands, ends, is) = inr (loaded.0, inr (loaded.1, inr (at, stands, (t, how, ends, is))))
+run-case file start until steps args ra.StepsUsed (loaded, at, t, how, stands, ends, is) = inr (loaded.0, inr (loaded.1, inr (at, stands, (t, how, ends, is))))
+run-case file start until steps args (ra.Met shown) (loaded, at, t, how, stands, ends, is) = inr (loaded.0, inr (loaded.1, inr (at, stands, (t, how, ends, is))))
 
 run-unique : (file start : List ℕ) (until steps : ℕ) (args : List Arg) (a b : RunAnswer) → RunCase file start until steps args a → RunCase file start until steps args b → a ≡ b
 run-unique file start until steps args a b (inl h) (inl k) = h.1 ∙ sym k.1

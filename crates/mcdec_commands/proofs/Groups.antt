@@ -27,9 +27,10 @@ use Rattle.checker.specs.inner.Checking.{IsSameText}
 use Rattle.proof_v2.specs.declared.any_reader.AnyLine.{AnyLine}
 use Rattle.proof_v2.specs.AnyReading.{AnyState, AreLinesIn, AreTermsIn, GivesGroupAny, GivesLines, HasGivenAny, StopsGroups, StopsLines, with_lines}
 use Rattle.proof_v2.specs.AnyText.{AnyProof, BeginsIn, ListsIn, any_lines, any_texts}
+use Rattle.proof_v2.specs.Titles.{named_version}
 use Rattle.proof_v2.proofs.AnyKnown.{any_known}
-use Rattle.mcdec_commands.specs.EvalAnswer.{AreWellFormed, HasBadLineIn, IsNamedIn, first_named}
-use Rattle.mcdec_commands.specs.inner.Search.{GoesOnBehind, LineIs, LinesArePassed, Passing, NextIs, FindsIn, FoundSo, Searched}
+use Rattle.mcdec_commands.specs.EvalAnswer.{IsNamed}
+use Rattle.mcdec_commands.specs.inner.Search.{HasBadLineIn, GoesOnBehind, LineIs, LinesArePassed, Passing, NextIs, Finds, FoundSo, Searched, first_named}
 
 all-behind : (F : GroupTree → Type 0) (gs : List GroupTree) (g : GroupTree) → AllByRecursion F gs → F g → AllByRecursion F (gs ++ g ∷ [])
 all-behind F [] g h k = (k, tt)
@@ -155,14 +156,14 @@ module _ (k : Known) (text : List ℕ) (gs hs : List GroupTree) where
 -- ---- what is read where no further item follows
 
 module _ (r : Progress) where
-  well-at : (qs : List (AnyProof r.version)) → HasGivenOver (any_lines r.version) qs r → NoItemOver (any_lines r.version) qs r → AreWellFormed (groups_of qs)
-      → (hs : List (AnyProof r.version)) → AreReadOver (any_lines r.version) (version_of r.version) r.text hs → AreWellFormed (groups_of hs)
+  well-at : (qs : List (AnyProof r.version)) → HasGivenOver (any_lines r.version) qs r → NoItemOver (any_lines r.version) qs r → AllByRecursion IsWellFormed (groups_of qs)
+      → (hs : List (AnyProof r.version)) → AreReadOver (any_lines r.version) (version_of r.version) r.text hs → AllByRecursion IsWellFormed (groups_of hs)
   well-at qs h none well hs read = elim (fronts (any_known r.version) r.text qs hs (given-read (any_known r.version) qs r h) read) [ inl m ↦ front m | inr m ↦ behind m.0 m.1 ]
     where
-      front : BeginsWithItems qs hs → AreWellFormed (groups_of hs)
-      front m = let f = groups-front qs hs m in all-front IsWellFormed (groups_of hs) f.0 (subst AreWellFormed f.1 well)
+      front : BeginsWithItems qs hs → AllByRecursion IsWellFormed (groups_of hs)
+      front m = let f = groups-front qs hs m in all-front IsWellFormed (groups_of hs) f.0 (subst (AllByRecursion IsWellFormed) f.1 well)
 
-      behind : (more : List (ItemOf (any_lines r.version).Line)) → items hs ≡ items qs ++ more → AreWellFormed (groups_of hs)
+      behind : (more : List (ItemOf (any_lines r.version).Line)) → items hs ≡ items qs ++ more → AllByRecursion IsWellFormed (groups_of hs)
       behind [] e = front ([], sym (append-nil (items qs)) ∙ sym e ∙ sym (append-nil (items hs)))
       behind (i ∷ more) e =
           let k = next-item qs hs i more e in
@@ -177,15 +178,15 @@ module _ (k : Known) (r : AnyState) where
       subst (λ (k : Known). (ps : List (AnyProof k)) → HasGivenOver (any_lines k) ps r.progress → AreReadOver (any_lines k) (version_of k) r.progress.text ps) h.version
       (λ ps g. given-read (any_known r.progress.version) ps r.progress g) ps h.given
 
-  all-well : (qs : List (AnyProof k)) → HasGivenAny k qs r → NoItemOver (any_lines k) qs r.progress → AreWellFormed (groups_of qs)
-      → (gs : List GroupTree) → BeginsIn k r.progress.text gs → AreWellFormed gs
+  all-well : (qs : List (AnyProof k)) → HasGivenAny k qs r → NoItemOver (any_lines k) qs r.progress → AllByRecursion IsWellFormed (groups_of qs)
+      → (gs : List GroupTree) → BeginsIn k r.progress.text gs → AllByRecursion IsWellFormed gs
   all-well qs h none well gs b =
-      subst AreWellFormed (sym b.groups)
-      (subst (λ (k : Known). (qs : List (AnyProof k)) → HasGivenOver (any_lines k) qs r.progress → NoItemOver (any_lines k) qs r.progress → AreWellFormed (groups_of qs)
-      → (hs : List (AnyProof k)) → AreReadOver (any_lines k) (version_of k) r.progress.text hs → AreWellFormed (groups_of hs)) h.version (well-at r.progress) qs h.given none well b.proofs b.read)
+      subst (AllByRecursion IsWellFormed) (sym b.groups)
+      (subst (λ (k : Known). (qs : List (AnyProof k)) → HasGivenOver (any_lines k) qs r.progress → NoItemOver (any_lines k) qs r.progress → AllByRecursion IsWellFormed (groups_of qs)
+      → (hs : List (AnyProof k)) → AreReadOver (any_lines k) (version_of k) r.progress.text hs → AllByRecursion IsWellFormed (groups_of hs)) h.version (well-at r.progress) qs h.given none well b.proofs b.read)
 
   bad-text : (qs : List (AnyProof k)) (line : ℕ) → HasGivenAny k qs r → IsBadAt (any_texts k) r.progress.text line → NoItemOver (any_lines k) qs r.progress
-      → AreWellFormed (groups_of qs) → HasBadLineIn k r.progress.text line
+      → AllByRecursion IsWellFormed (groups_of qs) → HasBadLineIn k r.progress.text line
   bad-text qs line h bad none well = (bad, all-well qs h none well)
 
 -- ---- one text
@@ -227,7 +228,7 @@ module _ (g : GroupTree) (start now : AnyState) (s : Passing g start now) where
       let stop = k.1 v ps q.0 q.2 q.1 in
       bad-same v line now.progress start.progress s.text
       (bad-same v line new.progress now.progress k.0
-      (bad-text v new (ps ++ stop.1 ∷ []) line stop.3 (subst (λ (t : List ℕ). IsBadAt (any_texts v) t line) (sym k.0.0) stop.0) stop.4 (subst AreWellFormed (same-groups ps p stop.1 (e ∙ sym stop.2)) well)))
+      (bad-text v new (ps ++ stop.1 ∷ []) line stop.3 (subst (λ (t : List ℕ). IsBadAt (any_texts v) t line) (sym k.0.0) stop.0) stop.4 (subst (AllByRecursion IsWellFormed) (same-groups ps p stop.1 (e ∙ sym stop.2)) well)))
   lines-stop new last (refusal.IllFormed m def) k = absurd k
   lines-stop new last refusal.NoFunction k = absurd k
   lines-stop new last refusal.NoMemory k = tt
@@ -275,7 +276,7 @@ module _ (n : ℕ) (old mid new : AnyState) (g : Group) (same : IsSameText mid.p
   pub lines-refused : IsWellFormed (group_tree g) → (last : AnyState) (e : Refusal) → LinesArePassed (group_tree g) mid new (Err e) → NextIs n old last (Err e)
   lines-refused is last (refusal.Text line) k = λ v ps h well.
       bad-same v line mid.progress old.progress same
-      (k v ps (bare (group_tree g)) (given v ps h.given) refl (subst AreWellFormed (sym (groups-more ps (bare (group_tree g)))) (all-behind IsWellFormed (groups_of ps) (group_tree g) well is)))
+      (k v ps (bare (group_tree g)) (given v ps h.given) refl (subst (AllByRecursion IsWellFormed) (sym (groups-more ps (bare (group_tree g)))) (all-behind IsWellFormed (groups_of ps) (group_tree g) well is)))
   lines-refused is last (refusal.IllFormed m def) k = absurd k
   lines-refused is last refusal.NoFunction k = absurd k
   lines-refused is last refusal.NoMemory k = tt
@@ -283,37 +284,43 @@ module _ (n : ℕ) (old mid new : AnyState) (g : Group) (same : IsSameText mid.p
 -- ---- the search
 
 module _ (start : AnyState) (name : List ℕ) (r : AnyState) (count : ℕ) (found : Option Group) (s : Searched start name r count found) where
-  -- the search stopped
-  pub stopped : (new : AnyState) (e : Refusal) → NextIs count r new (Err e) → FindsIn start.progress.version start.progress.text name (Err e)
-  stopped new (refusal.Text line) h = bad-same start.progress.version line r.progress start.progress s.same (h start.progress.version s.proofs s.passed s.well_formed)
-  stopped new (refusal.IllFormed m def) h = (
-    groups_of s.proofs,
-    h.1,
-    subst (λ (t : List ℕ). BeginsIn start.progress.version t (groups_of s.proofs ++ h.1 ∷ [])) s.same.0 (h.3 start.progress.version s.proofs s.passed),
-    s.well_formed,
-    h.0 ∙ s.counted ∙ sym (as-many s.proofs),
-    h.2,
-  )
-  stopped new refusal.NoFunction h = absurd h
-  stopped new refusal.NoMemory h = tt
+  -- of a reader of the version that the text's first line names
+  module _ (named : start.progress.version ≡ named_version start.progress.text) where
+    -- the search stopped
+    pub stopped : (new : AnyState) (e : Refusal) → NextIs count r new (Err e) → Finds start.progress.text name (Err e)
+    stopped new (refusal.Text line) h =
+        subst (λ (v : Known). HasBadLineIn v start.progress.text line) named
+        (bad-same start.progress.version line r.progress start.progress s.same (h start.progress.version s.proofs s.passed s.well_formed))
+    stopped new (refusal.IllFormed m def) h = (
+      groups_of s.proofs,
+      h.1,
+      subst (λ (v : Known). BeginsIn v start.progress.text (groups_of s.proofs ++ h.1 ∷ [])) named
+          (subst (λ (t : List ℕ). BeginsIn start.progress.version t (groups_of s.proofs ++ h.1 ∷ [])) s.same.0 (h.3 start.progress.version s.proofs s.passed)),
+      s.well_formed,
+      h.0 ∙ s.counted ∙ sym (as-many s.proofs),
+      h.2,
+    )
+    stopped new refusal.NoFunction h = absurd h
+    stopped new refusal.NoMemory h = tt
 
-  -- the text has ended: its first group of the name
-  pub ended : (new : AnyState) (o : Option Group) → ((g : Group) → o ≡ Some g → ⊥) → NextIs count r new (Ok o)
-      → IsNamedIn start.progress.version start.progress.text name (first_named name (groups_of s.proofs))
-  ended new None not h = record {
-    groups = groups_of s.proofs;
-    listed = record {
-      proofs = s.proofs;
-      spelled = record {
-        fit = subst (λ (v : Known). AreProofsOver (any_lines start.progress.version) (version_of v) s.proofs) s.passed.given.version s.passed.given.given.fit;
-        spelled = sym s.same.0 ∙ h start.progress.version s.proofs s.passed;
-      };
-      groups = refl;
-    };
-    well_formed = s.well_formed;
-    first = refl;
-  }
-  ended new (Some g) not h = absurd (not g refl)
+    -- the text has ended: its first group of the name
+    pub ended : (new : AnyState) (o : Option Group) → ((g : Group) → o ≡ Some g → ⊥) → NextIs count r new (Ok o) → IsNamed start.progress.text name (first_named name (groups_of s.proofs))
+    ended new None not h =
+        let listed : ListsIn start.progress.version start.progress.text (groups_of s.proofs) = record {
+          proofs = s.proofs;
+          spelled = record {
+            fit = subst (λ (v : Known). AreProofsOver (any_lines start.progress.version) (version_of v) s.proofs) s.passed.given.version s.passed.given.given.fit;
+            spelled = sym s.same.0 ∙ h start.progress.version s.proofs s.passed;
+          };
+          groups = refl;
+        } in
+        record {
+          groups = groups_of s.proofs;
+          listed = subst (λ (v : Known). ListsIn v start.progress.text (groups_of s.proofs)) named listed;
+          well_formed = s.well_formed;
+          first = refl;
+        }
+    ended new (Some g) not h = absurd (not g refl)
 
   -- an item takes a byte
   no-more-than : count ≤ length start.progress.text
@@ -338,15 +345,15 @@ module _ (start : AnyState) (name : List ℕ) (r : AnyState) (count : ℕ) (foun
         proofs = s.proofs ++ q.0 ∷ [];
         passed = q.2;
         same = same-more new.progress r.progress start.progress h.0 s.same;
-        well_formed = subst AreWellFormed (sym groups) (all-behind IsWellFormed (groups_of s.proofs) (group_tree g) s.well_formed h.2);
+        well_formed = subst (AllByRecursion IsWellFormed) (sym groups) (all-behind IsWellFormed (groups_of s.proofs) (group_tree g) s.well_formed h.2);
         counted = omega (arith, s.counted, length-append s.proofs (q.0 ∷ []));
         so = subst (λ (gs : List GroupTree). FoundSo name gs now) (sym groups) (keep (groups_of s.proofs) s.so);
       }
 
 -- the exit of a `?`
-pub found-exit : (v : Known) (text name : List ℕ) (result : Result Group Refusal) (e : Refusal) → IsErrAnd result (λ y. y ≡ e) → FindsIn v text name (Err e) → FindsIn v text name result
-found-exit v text name (Ok g) e is h = absurd is
-found-exit v text name (Err y) e is h = subst (λ (x : Refusal). FindsIn v text name (Err x)) (sym is) h
+pub found-exit : (text name : List ℕ) (result : Result Group Refusal) (e : Refusal) → IsErrAnd result (λ y. y ≡ e) → Finds text name (Err e) → Finds text name result
+found-exit text name (Ok g) e is h = absurd is
+found-exit text name (Err y) e is h = subst (λ (x : Refusal). Finds text name (Err x)) (sym is) h
 
 pub passed-exit : (g : GroupTree) (old new : AnyState) (result : Result (Unit {0}) Refusal) (e : Refusal) → IsErrAnd result (λ y. y ≡ e) → LinesArePassed g old new (Err e) → LinesArePassed g old new result
 passed-exit g old new (Ok done) e is h = absurd is

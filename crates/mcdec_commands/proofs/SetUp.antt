@@ -18,6 +18,7 @@ use Rattle.rv_machine.specs.State.{Contents, State, empty_state, state_of, with_
 use Rattle.rv_machine.specs.Step.{writes}
 use Rattle.rv_machine.specs.Run.{EndsIn}
 use Rattle.rv_machine.specs.declared.state.Stuck.{Stuck}
+use Rattle.rv_machine.specs.declared.running.RunEnd.{RunEnd}
 use Rattle.rv_machine.specs.declared.running.RunEnd.TheVariants as end
 use Rattle.mcdec_answers.specs.declared.answer.RunAnswer.{RunAnswer}
 use Rattle.mcdec_answers.specs.declared.answer.RunAnswer.TheVariants as answer
@@ -27,8 +28,8 @@ use Rattle.mcdec_words.specs.Command.{Arg, Given, AreGiven, given_to, value_of, 
 use Rattle.mcdec_words.specs.CommandReading.{Holds, given_in, value_in}
 use Rattle.mcdec_commands.specs.Memory.{placed, held_at}
 use Rattle.decompiler.specs.Names.{StandsFor}
-use Rattle.mcdec_commands.specs.RunAnswer.{state_given, elf_limit, is_shown, shown_registers, RunGives}
-use Rattle.mcdec_commands.specs.inner.Running.{MachineGives, shown_with, with_placed}
+use Rattle.mcdec_commands.specs.RunAnswer.{answer_at, state_given, elf_limit, RunGives}
+use Rattle.mcdec_commands.specs.inner.Running.{MachineGives, is_shown, shown_with, with_placed}
 
 -- ---- values
 
@@ -252,7 +253,7 @@ pub shown-all : (values : List (Option ℕ)) (t : State) (rs ws : List ℕ) (n :
     → shown_of k pc rs ws memory ≡ shown_with gs k t memory
 shown-all values t rs ws n e before gs h k pc memory p =
     let b = before gs h in
-    let all : rs ≡ shown_registers gs t = b.0 ∙ (λ i. filter (is_shown gs t) (range_with_len 1 (e i - 1))) in
+    let all : rs ≡ filter (is_shown gs t) (range_with_len 1 31) = b.0 ∙ (λ i. filter (is_shown gs t) (range_with_len 1 (e i - 1))) in
     λ i. shown_of k (p i) (all i) ((b.1 ∙ ap (map t.reg) all) i) memory
 
 module _ (until steps : ℕ) (args : List Arg) (s begun t : State) (same : s ≡ begun) where
@@ -260,22 +261,23 @@ module _ (until steps : ℕ) (args : List Arg) (s begun t : State) (same : s ≡
       → shown ≡ shown_with (givens args) k t memory → MachineGives until steps args begun (answer.Met shown)
   met-given shown k memory asked ends m held is =
       let all = held ∙ ap (map (held_at t.mem)) m in
-      (t, k, subst (λ (x : State). EndsIn until steps x t (end.Met k)) same ends, is ∙ ap (shown_with (givens args) k t) all)
+      (t, end.Met k, subst (λ (x : State). EndsIn until steps x t (end.Met k)) same ends, ap answer.Met (is ∙ ap (shown_with (givens args) k t) all))
 
   pub stuck-given : (k : ℕ) (why : Stuck) → EndsIn until steps s t (end.Stuck k why) → MachineGives until steps args begun (answer.Stuck k why)
-  stuck-given k why ends = (t, subst (λ (x : State). EndsIn until steps x t (end.Stuck k why)) same ends)
+  stuck-given k why ends = (t, end.Stuck k why, subst (λ (x : State). EndsIn until steps x t (end.Stuck k why)) same ends, refl)
 
   pub steps-given : EndsIn until steps s t end.Steps → MachineGives until steps args begun answer.StepsUsed
-  steps-given ends = (t, subst (λ (x : State). EndsIn until steps x t end.Steps) same ends)
+  steps-given ends = (t, end.Steps, subst (λ (x : State). EndsIn until steps x t end.Steps) same ends, refl)
 
 module _ (file start : List ℕ) (until steps : ℕ) (args : List Arg) (at : ℕ) (small : length file ≤ elf_limit) (readable : IsReadable file) (stands : StandsFor file start (Ok at)) where
+  -- an end's answer is none of those that come before a run
   image-gives : (a : RunAnswer) → MachineGives until steps args (state_given file args at) a → RunGives file start until steps args a
-  image-gives answer.OverLimit h = absurd h
-  image-gives (answer.Unreadable why) h = absurd h
-  image-gives (answer.StartRefused name why) h = absurd h
-  image-gives (answer.Stuck k why) h = ((small, readable), h.0, record { at = at; stands = stands; ends = h.1 })
-  image-gives answer.StepsUsed h = ((small, readable), h.0, record { at = at; stands = stands; ends = h.1 })
-  image-gives (answer.Met shown) h = ((small, readable), h.0, h.1, record { at = at; stands = stands; ends = h.2 }, h.3)
+  image-gives a (t, how, ends, is) = subst (RunGives file start until steps args) (sym is) (of-end how ends)
+    where
+      of-end : (how : RunEnd) → EndsIn until steps (state_given file args at) t how → RunGives file start until steps args (answer_at args t how)
+      of-end (end.Met k) ends = ((small, readable), at, t, end.Met k, stands, ends, refl)
+      of-end (end.Stuck k why) ends = ((small, readable), at, t, end.Stuck k why, stands, ends, refl)
+      of-end end.Steps ends = ((small, readable), at, t, end.Steps, stands, ends, refl)
 
   pub image-given : (result : Result RunAnswer NoMemory) → IfOk result (λ a. MachineGives until steps args (state_given file args at) a) → IfOk result (λ a. RunGives file start until steps args a)
   image-given (Err e) h = tt

@@ -1,5 +1,5 @@
 -- When each answer to `eval` comes.
-use Rattle.std.specs.Prelude.{◌≡◌, ℕ, ◌-◌, ◌<◌, ◌≤◌, List, [], ◌∷◌, ◌++◌, Option, Some, None, bytes_eq, find, length, map, slice_get, take}
+use Rattle.std.specs.Prelude.{◌≡◌, ℕ, ◌-◌, ◌<◌, ◌≤◌, List, [], ◌∷◌, ◌++◌, Option, Some, None, bytes_eq, find, length, map, take}
 use Rattle.std.specs.List.{AllByRecursion}
 use Rattle.rv_words.specs.Bytes.{Bytes}
 use Rattle.mc_text.specs.Fault.{IsBadAt}
@@ -7,15 +7,13 @@ use Rattle.rv_words.specs.declared.range.Range.{Range}
 use Rattle.tailrec_lang.specs.Tree.{GroupTree, listed_def}
 use Rattle.tailrec_lang.specs.WellFormed.{IsWellFormed, IsFirstIllFormed}
 use Rattle.tailrec_lang.specs.Eval.{Arguments, Done, SideFalse, Turns, eval}
-use Rattle.group_text.specs.declared.version.Version.{Version as Known}
 use Rattle.proof_v2.specs.AnyText.{BeginsIn, ListsIn, any_texts}
 use Rattle.proof_v2.specs.Titles.{named_version}
 use Rattle.mcdec_answers.specs.declared.answer.EvalAnswer.{EvalAnswer}
 use Rattle.mcdec_answers.specs.declared.answer.EvalAnswer.TheVariants as answer
-use Rattle.mcdec_answers.specs.declared.answer.Shown.{Shown}
 use Rattle.mcdec_words.specs.declared.command.Memory.TheVariants.{First, Second}
 use Rattle.mcdec_words.specs.Command.{Arg, value_of, givens, ranges}
-use Rattle.mcdec_commands.specs.Memory.{no_bytes, placed, held_at}
+use Rattle.mcdec_commands.specs.Memory.{placed, shown_at}
 
 -- the most bytes of a proof file that are read
 abbrev pub proof_limit : ℕ
@@ -23,65 +21,30 @@ proof_limit = 268435456
 
 -- so many memories, each with the bytes of its words in an empty one
 abbrev pub memories_given : ℕ → (memory stack : List Range) → List Bytes
-memories_given n memory stack = take n (placed memory no_bytes ∷ placed stack no_bytes ∷ [])
+memories_given n memory stack = take n (placed memory (λ a. None) ∷ placed stack (λ a. None) ∷ [])
 
 -- the value of each register of the group, 0 where it is given none, and the bytes of its memories
 abbrev pub arguments_given : List Arg → GroupTree → Arguments
 arguments_given args g = record { words = map (value_of (givens args)) g.regs; mems = memories_given g.mems (ranges First args) (ranges Second args) }
 
--- ranges with the bytes that a memory has there; none where there is no such memory
-abbrev pub ranges_in : Option Bytes → List Range → List Range
-ranges_in None rs = []
-ranges_in (Some m) rs = map (held_at m) rs
-
--- what is shown of an evaluation that is done
-abbrev pub shown_of : GroupTree → List Arg → (used pc : ℕ) → Arguments → Shown
-shown_of g args used pc results =
-    record {
-      count = used;
-      pc = pc;
-      registers = g.regs;
-      words = results.words;
-      memory = ranges_in (slice_get results.mems 0) (ranges First args);
-      stack = ranges_in (slice_get results.mems 1) (ranges Second args);
-    }
-
--- the first group of the name, if there is one
-abbrev pub first_named : List ℕ → List GroupTree → Option GroupTree
-first_named name gs = find (λ g. bytes_eq g.name name) gs
-
--- each group is well-formed
-abbrev pub AreWellFormed : List GroupTree → Type 0
-AreWellFormed gs = AllByRecursion IsWellFormed gs
-
--- ---- what is found in a text of that version
-
--- the text is one of well-formed groups, and this is the first of the name, if any
-pub record IsNamedIn (k : Known) (text name : List ℕ) (found : Option GroupTree) : Type 0 where
+-- the text, in the version that its first line names, is one of well-formed groups, and this is the first of the name, if any
+pub record IsNamed (text name : List ℕ) (found : Option GroupTree) : Type 0 where
   pub groups : List GroupTree
-  pub listed : ListsIn k text groups
-  pub well_formed : AreWellFormed groups
-  pub first : first_named name groups ≡ found
+  pub listed : ListsIn (named_version text) text groups
+  pub well_formed : AllByRecursion IsWellFormed groups
+  pub first : find (λ g. bytes_eq g.name name) groups ≡ found
 
--- the text isn't one of groups with what may stand behind them, from this line on, and the groups before it are well-formed
-abbrev pub HasBadLineIn : (k : Known) (text : List ℕ) (line : ℕ) → Type 0
-HasBadLineIn k text line = IsBadAt (any_texts k) text line × ((gs : List GroupTree) → BeginsIn k text gs → AreWellFormed gs)
+-- the text, in that version, isn't one of groups with what may stand behind them, from this line on, and the groups before it are well-formed
+abbrev pub HasBadLine : (text : List ℕ) (line : ℕ) → Type 0
+HasBadLine text line =
+    IsBadAt (any_texts (named_version text)) text line
+    × ((gs : List GroupTree) → BeginsIn (named_version text) text gs → AllByRecursion IsWellFormed gs)
 
 -- this definition of the group of that number is the text's first that isn't well-formed
-abbrev pub HasBadDefIn : (k : Known) (text : List ℕ) (group def : ℕ) → Type 0
-HasBadDefIn k text group def =
-    (gs : List GroupTree) × (g : GroupTree) × BeginsIn k text (gs ++ g ∷ []) × AreWellFormed gs × (group ≡ length gs) × IsFirstIllFormed g def
-
--- ---- in the version that the text's first line names
-
-abbrev pub IsNamed : (text name : List ℕ) → Option GroupTree → Type 0
-IsNamed text name found = IsNamedIn (named_version text) text name found
-
-abbrev pub HasBadLine : (text : List ℕ) (line : ℕ) → Type 0
-HasBadLine text line = HasBadLineIn (named_version text) text line
-
 abbrev pub HasBadDef : (text : List ℕ) (group def : ℕ) → Type 0
-HasBadDef text group def = HasBadDefIn (named_version text) text group def
+HasBadDef text group def =
+    (gs : List GroupTree) × (g : GroupTree) × BeginsIn (named_version text) text (gs ++ g ∷ []) × AllByRecursion IsWellFormed gs
+    × (group ≡ length gs) × IsFirstIllFormed g def
 
 -- What `eval` of a name comes to, where the proof file has these bytes. Lines of proofs are read, and not judged. A group is judged
 -- when its definitions are read: one that isn't well-formed is told before a bad line behind them, and after one among them.
@@ -96,4 +59,5 @@ EvalGives file name turns args answer.TurnsUsed =
     (length file ≤ proof_limit) × (g : GroupTree) × IsNamed file name (Some g) × (eval g (listed_def g) (arguments_given args g) turns ≡ Turns)
 EvalGives file name turns args (answer.Done shown) =
     (length file ≤ proof_limit) × (g : GroupTree) × IsNamed file name (Some g) × (exit pc left : ℕ) × (results : Arguments)
-    × (eval g (listed_def g) (arguments_given args g) turns ≡ Done exit pc results left) × (shown ≡ shown_of g args (turns - left) pc results)
+    × (eval g (listed_def g) (arguments_given args g) turns ≡ Done exit pc results left)
+    × (shown ≡ shown_at args (turns - left) pc g.regs results.words results.mems)

@@ -1,10 +1,12 @@
 -- When each answer to `laws` comes.
 use Rattle.std.specs.Prelude.{◌≡◌, ℕ, ◌+◌, ◌<◌, ◌≤◌, List, length, Option, Some, None}
+use Rattle.std.specs.List.{AllByRecursion}
 use Rattle.mc_shelf.specs.Shelf.{Contents}
 use Rattle.mc_text.specs.Fault.{IsBadAt, newlines}
 use Rattle.mc_text.specs.Tokens.{spell}
 use Rattle.mc_text.specs.declared.token.Before.TheVariants.{Start}
 use Rattle.tailrec_lang.specs.Tree.{DefTree, GroupTree}
+use Rattle.tailrec_lang.specs.WellFormed.{IsWellFormed}
 use Rattle.group_text.specs.Spelling.{group_tokens}
 use Rattle.text_versions.specs.Versions.{IsTextListing}
 use Rattle.def_laws.specs.Rewriting.{AreRewritingSteps}
@@ -15,7 +17,7 @@ use Rattle.fun_laws.specs.Spelling.{CertTree, cert_text}
 use Rattle.mcdec_answers.specs.declared.answer.LawsAnswer.{LawsAnswer}
 use Rattle.mcdec_answers.specs.declared.answer.LawsAnswer.TheVariants as answer
 use Rattle.mcdec_commands.specs.Held.{HoldsWith}
-use Rattle.mcdec_commands.specs.EvalAnswer.{AreWellFormed, HasBadDef, HasBadLine, IsNamed, proof_limit}
+use Rattle.mcdec_commands.specs.EvalAnswer.{HasBadDef, HasBadLine, IsNamed, proof_limit}
 
 -- the most bytes of a certificate's file that are read
 abbrev pub cert_limit : ℕ
@@ -23,7 +25,7 @@ cert_limit = 268435456
 
 -- the text is one of well-formed groups
 abbrev pub HasGroups : List ℕ → Type 0
-HasGroups text = (gs : List GroupTree) × IsTextListing text gs × AreWellFormed gs
+HasGroups text = (gs : List GroupTree) × IsTextListing text gs × AllByRecursion IsWellFormed gs
 
 abbrev pub IsCertText : List ℕ → CertTree → Type 0
 IsCertText text c = IsCert c × (text ≡ cert_text c)

@@ -8,11 +8,12 @@ ghost use Rattle.tailrec_lang.specs.WellFormed.{IsWellFormed};
 ghost use Rattle.group_text.specs.Limits.{IsGroupIn};
 ghost use Rattle.group_text.specs.Version.{version_of};
 ghost use Rattle.proof_v2.specs.AnyReading.{HasGivenAny};
+ghost use Rattle.proof_v2.specs.Titles.{named_version};
 ghost use Rattle.mcdec_commands.specs.Answer.{Gives, ReadsAreTold};
 ghost use Rattle.mcdec_words.specs.Command.{Arg, AreArgs, IsMemory};
 ghost use Rattle.mcdec_words.specs.CommandReading.{HoldsArgs, IsReadEval, value_in};
 ghost use Rattle.mcdec_commands.specs.EvalAnswer.{EvalGives, proof_limit};
-ghost use Rattle.mcdec_commands.specs.inner.Search.{Finds, FindsIn, FoundSo, GroupGives, HasText, LineIs, LinesArePassed, NextIs};
+ghost use Rattle.mcdec_commands.specs.inner.Search.{Finds, FoundSo, GroupGives, HasText, LineIs, LinesArePassed, NextIs};
 
 use crate::load::{PROOF_LIMIT, not_read};
 use crate::memory::{memories, ranges_in};
@@ -86,11 +87,12 @@ pub fn find_group(alloc: Global, text: &[u8], name: &[u8]) -> Result<Group, Refu
     find_in(alloc, &mut reader, name)
 }
 
-/// The first group of that name in a text of the reader's version, of which nothing was read.
+/// The first group of that name in the reader's text, of which nothing was read.
 fn find_in(alloc: Global, reader: &mut AnyReader<'_>, name: &[u8]) -> Result<Group, Refusal>
     requires start { HasGivenAny reader.old.progress.version [] reader.old }
+    requires version { reader.old.progress.version ≡ named_version reader.old.progress.text }
     requires within { length reader.old.progress.text < 2 ^ 63 }
-    ensures { FindsIn reader.old.progress.version reader.old.progress.text name.now result }
+    ensures { Finds reader.old.progress.text name.now result }
 {
     let mut found = None;
     let mut count = 0;

@@ -1,10 +1,10 @@
 //! Ranges of bytes in memories.
 
-ghost use Rattle.std.specs.Prelude.{◌≡◌, ◌+◌, ◌≤◌, ◌^◌, All, IfOk, OnOk, length, map, slice_get};
+ghost use Rattle.std.specs.Prelude.{◌≡◌, ◌+◌, ◌≤◌, ◌^◌, All, IfOk, None, OnOk, length, map, slice_get};
 ghost use Rattle.std.specs.FinMap.{get};
 ghost use Rattle.mcdec_words.specs.Command.{IsMemory};
-ghost use Rattle.mcdec_commands.specs.EvalAnswer.{memories_given, ranges_in};
-ghost use Rattle.mcdec_commands.specs.Memory.{held_at, no_bytes, placed};
+ghost use Rattle.mcdec_commands.specs.EvalAnswer.{memories_given};
+ghost use Rattle.mcdec_commands.specs.Memory.{held_at, placed, ranges_in};
 
 use crate::places::starts_by_address;
 use rv_words::{ByteMap, List, NoMemory, Range};
@@ -36,7 +36,7 @@ pub fn memories(
 /// is put in front of another.
 fn memory_of(alloc: Global, ranges: &[Range]) -> Result<ByteMap, NoMemory>
     requires { All IsMemory ranges.now }
-    ensures { IfOk result (λ memory. get memory ≡ placed ranges.now no_bytes) }
+    ensures { IfOk result (λ memory. get memory ≡ placed ranges.now (λ a. None)) }
 {
     let mut memory = ByteMap::new(alloc);
     place_rising(alloc, &mut memory, ranges)?;

@@ -7,7 +7,6 @@ use Rattle.std.specs.declared.string.String.{String}
 use Rattle.std.specs.declared.alloc.Global.{Global}
 use Rattle.std.proofs.Math.ListN.{length-set}
 use Rattle.std.proofs.lemmas.Bool.{eqb-true, eqb-false}
-use Rattle.std.proofs.lemmas.Grind.{flat_map-append}
 use Rattle.std.proofs.lemmas.List.{append-nil, map-append, map_more}
 use Rattle.std.proofs.lemmas.List.Elements.{All-from_recursion}
 use Rattle.std.proofs.lemmas.Option.{get_or_from_slice_get}
@@ -16,7 +15,7 @@ use Rattle.mcdec_words.specs.declared.command.Unread.{Unread}
 use Rattle.mcdec_words.specs.declared.command.Unread.TheVariants as unread
 use Rattle.mcdec_words.specs.declared.command.Eval.{Eval as ReadEval}
 use Rattle.mcdec_words.specs.declared.command.Run.{Run as ReadRun}
-use Rattle.mcdec_words.specs.Command.{Arg, Value, Bytes, Given, IsGiven, IsMemory, AreGiven, AreArgs, given_to, given_word, bytes_word, arg_word, givens, range_in, ranges, texts}
+use Rattle.mcdec_words.specs.Command.{Arg, Value, Bytes, Given, IsGiven, IsMemory, AreGiven, AreArgs, given_to, given_word, bytes_word, arg_word, givens, ranges, texts}
 use Rattle.mcdec_words.specs.declared.command.Memory.{Memory}
 use Rattle.mcdec_words.specs.declared.command.Memory.TheVariants.{First, Second}
 use Rattle.mcdec_words.specs.CommandReading.{Holds, IsArg, IsReadEval, IsReadRun, NoArgs, AllArgs, Unless}
@@ -36,7 +35,13 @@ givens-last (Value g ∷ args) a = ap (λ (gs : List Given). g ∷ gs) (givens-l
 givens-last (Bytes m r ∷ args) a = givens-last args a
 
 ranges-last : (m : Memory) (args : List Arg) (a : Arg) → ranges m (args ++ a ∷ []) ≡ ranges m args ++ ranges m (a ∷ [])
-ranges-last m args a = flat_map-append (range_in m) args (a ∷ [])
+ranges-last m [] a = refl
+ranges-last First (Value g ∷ args) a = ranges-last First args a
+ranges-last Second (Value g ∷ args) a = ranges-last Second args a
+ranges-last First (Bytes First r ∷ args) a = ap (λ (rs : List Range). r ∷ rs) (ranges-last First args a)
+ranges-last First (Bytes Second r ∷ args) a = ranges-last First args a
+ranges-last Second (Bytes First r ∷ args) a = ranges-last Second args a
+ranges-last Second (Bytes Second r ∷ args) a = ap (λ (rs : List Range). r ∷ rs) (ranges-last Second args a)
 
 memory-last : (rs : List Range) (r : Range) → AllByRecursion IsMemory rs → IsMemory r → AllByRecursion IsMemory (rs ++ r ∷ [])
 memory-last [] r all is = (is, tt)

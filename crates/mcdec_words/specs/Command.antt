@@ -8,7 +8,7 @@
 --   simplify PROOF NAME OUT
 --   laws PROOF CERT
 --   smt PROOF NAME DEF OUT
-use Rattle.std.specs.Prelude.{◌≡◌, ◌≢◌, ℕ, ◌<◌, ◌≤◌, ◌^◌, ◌+◌, ◌==◌, if◌then◌else◌, List, [], ◌∷◌, ◌++◌, length, map, flat_map, codes, Option, Some, None, unwrap_or, string_bytes}
+use Rattle.std.specs.Prelude.{◌≡◌, ◌≢◌, ℕ, ◌<◌, ◌≤◌, ◌^◌, ◌+◌, ◌==◌, if◌then◌else◌, List, [], ◌∷◌, ◌++◌, length, map, codes, Option, Some, None, unwrap_or, string_bytes}
 use Rattle.std.specs.List.{All, AllByRecursion, AllPairs}
 use Rattle.std.specs.Fmt.{decimal}
 use Rattle.hex.specs.Hex.{encode_lower}
@@ -101,15 +101,12 @@ givens [] = []
 givens (Value g ∷ args) = g ∷ givens args
 givens (Bytes m r ∷ args) = givens args
 
--- the bytes of that memory in a word
-abbrev pub range_in : Memory → Arg → List Range
-range_in First (Bytes First r) = r ∷ []
-range_in Second (Bytes Second r) = r ∷ []
-range_in m other = []
-
--- .. and in all of them, in their order
+-- the ranges of that memory, in the words' order
 abbrev pub ranges : Memory → List Arg → List Range
-ranges m args = flat_map (range_in m) args
+ranges m [] = []
+ranges First (Bytes First r ∷ args) = r ∷ ranges First args
+ranges Second (Bytes Second r ∷ args) = r ∷ ranges Second args
+ranges m (other ∷ args) = ranges m args
 
 abbrev pub AreArgs : List Arg → Type 0
 AreArgs args = AreGiven (givens args) × AllByRecursion IsMemory (ranges First args) × AllByRecursion IsMemory (ranges Second args)

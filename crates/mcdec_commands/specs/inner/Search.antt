@@ -1,5 +1,6 @@
 -- What is found in the text of a proof file, group by group, and what evaluation of a group's function comes to.
-use Rattle.std.specs.Prelude.{◌≡◌, ℕ, List, [], ◌∷◌, ◌++◌, ◌-◌, ◌<◌, ◌≤◌, length, Option, Some, None, Result, Ok, Err}
+use Rattle.std.specs.Prelude.{◌≡◌, ℕ, List, [], ◌∷◌, ◌++◌, ◌-◌, ◌<◌, ◌≤◌, bytes_eq, find, length, Option, Some, None, Result, Ok, Err}
+use Rattle.std.specs.List.{AllByRecursion}
 use Rattle.mc_text.specs.Fault.{IsBadAt}
 use Rattle.group_text.specs.declared.version.Version.{Version as Known}
 use Rattle.group_text.specs.Limits.{IsGroupIn}
@@ -15,16 +16,20 @@ use Rattle.proof_text.specs.Answers.{NoItemOver}
 use Rattle.checker.specs.inner.Checking.{IsSameText}
 use Rattle.proof_v2.specs.AnyReading.{AnyState, HasGivenAny}
 use Rattle.proof_v2.specs.AnyText.{AnyProof, BeginsIn, any_lines, any_texts}
-use Rattle.proof_v2.specs.Titles.{named_version}
 use Rattle.proof_v2.specs.declared.any_reader.AnyLine.{AnyLine}
 use Rattle.mcdec_commands.specs.declared.eval.Refusal.{Refusal}
 use Rattle.mcdec_commands.specs.declared.eval.Refusal.TheVariants as refusal
 use Rattle.mcdec_answers.specs.declared.answer.EvalAnswer.{EvalAnswer}
 use Rattle.mcdec_answers.specs.declared.answer.EvalAnswer.TheVariants as answer
 use Rattle.mcdec_words.specs.Command.{Arg}
-use Rattle.mcdec_commands.specs.EvalAnswer.{AreWellFormed, HasBadDefIn, HasBadLineIn, IsNamedIn, arguments_given, first_named, shown_of}
+use Rattle.mcdec_commands.specs.Memory.{shown_at}
+use Rattle.mcdec_commands.specs.EvalAnswer.{HasBadDef, HasBadLine, IsNamed, arguments_given}
 
 -- ---- reading on
+
+-- the text, of that version, is bad at this line, and the groups before it are well-formed
+abbrev pub HasBadLineIn : (k : Known) (text : List ℕ) (line : ℕ) → Type 0
+HasBadLineIn k text line = IsBadAt (any_texts k) text line × ((gs : List GroupTree) → BeginsIn k text gs → AllByRecursion IsWellFormed gs)
 
 -- these proofs were given of a text of that version, and the lines of the last one have ended
 pub record HasPassed (k : Known) (ps : List (AnyProof k)) (r : AnyState) : Type 0 where
@@ -52,7 +57,7 @@ abbrev pub LinesArePassed : GroupTree → AnyState → AnyState → Result (Unit
 LinesArePassed g old new (Ok done) = IsSameText new.progress old.progress × (length new.progress.rest ≤ length old.progress.rest)
     × ((k : Known) (ps : List (AnyProof k)) (p : AnyProof k) → HasGivenAny k (ps ++ p ∷ []) old → p.group ≡ g → (q : AnyProof k) × (q.group ≡ g) × HasPassed k (ps ++ q ∷ []) new)
 LinesArePassed g old new (Err (refusal.Text line)) = (k : Known) (ps : List (AnyProof k)) (p : AnyProof k) → HasGivenAny k (ps ++ p ∷ []) old → p.group ≡ g
-    → AreWellFormed (groups_of (ps ++ p ∷ [])) → HasBadLineIn k old.progress.text line
+    → AllByRecursion IsWellFormed (groups_of (ps ++ p ∷ [])) → HasBadLineIn k old.progress.text line
 LinesArePassed g old new (Err (refusal.IllFormed m def)) = ⊥
 LinesArePassed g old new (Err refusal.NoFunction) = ⊥
 LinesArePassed g old new (Err refusal.NoMemory) = Unit {0}
@@ -68,7 +73,7 @@ abbrev pub NextIs : ℕ → AnyState → AnyState → Result (Option Group) Refu
 NextIs n old new (Ok None) = (k : Known) (ps : List (AnyProof k)) → HasPassed k ps old → old.progress.text ≡ text_over (any_lines k) (version_of k) ps
 NextIs n old new (Ok (Some g)) = IsSameText new.progress old.progress × (length new.progress.rest < length old.progress.rest) × IsWellFormed (group_tree g) × HasFewNeeds (group_tree g)
     × ((k : Known) (ps : List (AnyProof k)) → HasPassed k ps old → (q : AnyProof k) × (q.group ≡ group_tree g) × HasPassed k (ps ++ q ∷ []) new)
-NextIs n old new (Err (refusal.Text line)) = (k : Known) (ps : List (AnyProof k)) → HasPassed k ps old → AreWellFormed (groups_of ps) → HasBadLineIn k old.progress.text line
+NextIs n old new (Err (refusal.Text line)) = (k : Known) (ps : List (AnyProof k)) → HasPassed k ps old → AllByRecursion IsWellFormed (groups_of ps) → HasBadLineIn k old.progress.text line
 NextIs n old new (Err (refusal.IllFormed m def)) = (m ≡ n) × (g : GroupTree) × IsFirstIllFormed g def
     × ((k : Known) (ps : List (AnyProof k)) → HasPassed k ps old → BeginsIn k old.progress.text (groups_of ps ++ g ∷ []))
 NextIs n old new (Err refusal.NoFunction) = ⊥
@@ -76,17 +81,17 @@ NextIs n old new (Err refusal.NoMemory) = Unit {0}
 
 -- ---- what was found
 
--- what a text of that version has for a name
-abbrev pub FindsIn : Known → List ℕ → List ℕ → Result Group Refusal → Type 0
-FindsIn k text name (Ok g) = IsNamedIn k text name (Some (group_tree g)) × HasFewNeeds (group_tree g)
-FindsIn k text name (Err (refusal.Text line)) = HasBadLineIn k text line
-FindsIn k text name (Err (refusal.IllFormed n def)) = HasBadDefIn k text n def
-FindsIn k text name (Err refusal.NoFunction) = IsNamedIn k text name None
-FindsIn k text name (Err refusal.NoMemory) = Unit {0}
-
 -- what a text has for a name
 abbrev pub Finds : List ℕ → List ℕ → Result Group Refusal → Type 0
-Finds text name found = FindsIn (named_version text) text name found
+Finds text name (Ok g) = IsNamed text name (Some (group_tree g)) × HasFewNeeds (group_tree g)
+Finds text name (Err (refusal.Text line)) = HasBadLine text line
+Finds text name (Err (refusal.IllFormed n def)) = HasBadDef text n def
+Finds text name (Err refusal.NoFunction) = IsNamed text name None
+Finds text name (Err refusal.NoMemory) = Unit {0}
+
+-- the first group of the name, if there is one
+abbrev pub first_named : List ℕ → List GroupTree → Option GroupTree
+first_named name gs = find (λ g. bytes_eq g.name name) gs
 
 -- what was found of a name among these groups
 abbrev pub FoundSo : List ℕ → List GroupTree → Option Group → Type 0
@@ -98,7 +103,7 @@ pub record Searched (start : AnyState) (name : List ℕ) (r : AnyState) (count :
   pub proofs : List (AnyProof start.progress.version)
   pub passed : HasPassed start.progress.version proofs r
   pub same : IsSameText r.progress start.progress
-  pub well_formed : AreWellFormed (groups_of proofs)
+  pub well_formed : AllByRecursion IsWellFormed (groups_of proofs)
   pub counted : count ≡ length proofs
   pub so : FoundSo name (groups_of proofs) found
 
@@ -115,4 +120,4 @@ GroupGives g turns args answer.NoFunction = ⊥
 GroupGives g turns args (answer.SideFalse def ordinal) = eval g (listed_def g) (arguments_given args g) turns ≡ SideFalse def ordinal
 GroupGives g turns args answer.TurnsUsed = eval g (listed_def g) (arguments_given args g) turns ≡ Turns
 GroupGives g turns args (answer.Done shown) = (exit pc left : ℕ) × (results : Arguments)
-    × (eval g (listed_def g) (arguments_given args g) turns ≡ Done exit pc results left) × (shown ≡ shown_of g args (turns - left) pc results)
+    × (eval g (listed_def g) (arguments_given args g) turns ≡ Done exit pc results left) × (shown ≡ shown_at args (turns - left) pc g.regs results.words results.mems)

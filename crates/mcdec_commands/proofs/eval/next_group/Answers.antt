@@ -6,7 +6,7 @@ use Rattle.tailrec_lang.specs.Tree.{def_tree, group_tree}
 use Rattle.group_text.specs.Limits.{IsGroupIn}
 use Rattle.group_text.specs.Version.{version_of}
 use Rattle.proof_v2.specs.AnyReading.{GivesGroupAny}
-use Rattle.mcdec_commands.specs.EvalAnswer.{HasBadLineIn}
+use Rattle.mcdec_commands.specs.inner.Search.{HasBadLineIn}
 use Rattle.mcdec_commands.proofs.Groups.{group-ill, group-refused, lines-refused, next-exit}
 use Rattle.mcdec_commands.proofs.eval.next_group.Goals as goal
 
