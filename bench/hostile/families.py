@@ -139,13 +139,27 @@ def composed_facts(n):
     return two, text(*lines, code=two.hex()), CHECK
 
 
-@family(100)
+@family(8000)
 def discharged_facts(n):
     """n facts, each of which follows from another by n equations."""
     facts = " ".join(f"(so (eq (add v{i} 0x1) v{n + i}))" for i in range(n))
     others = " ".join(f"(so (eq (add 0x0 0x1) v{n + i}))" for i in range(n))
     equations = each(n, "(is v{0} 0x0)")
     return words([FENCE]), text(*LEAVES, STEP, states("weaken 0", facts), states("discharge 1", f"{equations} {others}")), CHECK
+
+
+@family(500)
+def one_class(n):
+    """n conditions that differ in their operations alone, each of which follows from another by an equation."""
+
+    def condition(i, word):
+        for _ in range(6):
+            i, operation = divmod(i, 4)
+            word = f"({('add', 'sub', 'xor', 'or')[operation]} {word} v1)"
+        return f"(so (eq {word} v2))"
+
+    facts, others = (" ".join(condition(i, word) for i in range(n)) for word in ("v0", "0x0"))
+    return words([FENCE]), text(*LEAVES, STEP, states("weaken 0", facts), states("discharge 1", f"(is v0 0x0) {others}")), CHECK
 
 
 @family(4000)
@@ -165,8 +179,8 @@ def instances(n):
 
 @family(8000)
 def listed_variables(n):
-    """n terms for variables, the last one first, in n facts, each of another variable."""
-    facts, pairs = each(n, "(is v{0} 0x0)"), " ".join(f"(v{i} v{i})" for i in reversed(range(n)))
+    """n terms for variables, in n facts, each of another variable."""
+    facts, pairs = each(n, "(is v{0} 0x0)"), each(n, "(v{0} v{0})")
     return words([FENCE]), text(*LEAVES, STEP, states("weaken 0", facts), states(f"inst 1 {pairs}", facts)), CHECK
 
 
