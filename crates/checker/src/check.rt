@@ -51,7 +51,7 @@ pub(crate) struct Tally {
     pub not_proved: Option<u64>,
 }
 
-/// Checks a proof text for an ELF file.
+/// Checks a proof text of version 1 for an ELF file, from the bytes of both.
 pub fn check_bytes(alloc: Global, elf: &[u8], proof: &[u8]) -> Verdict
     // What the verdict says of them.
     ensures verdict { Says elf.now proof.now result }
@@ -95,7 +95,7 @@ pub fn check_by<R: FurtherRule>(
     }
 }
 
-/// Checks a proof text for an ELF file that was read.
+/// Checks a proof text of version 1 for an ELF file that was read.
 pub fn check_text(alloc: Global, image: &Image, proof: &[u8]) -> Verdict
     ensures verdict { (elf : Items ℕ) → IsReadable elf → image.now ≡ image_of elf → Says elf proof.now result }
 {

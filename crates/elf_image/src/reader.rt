@@ -125,7 +125,7 @@ fn read_symbols(alloc: Global, file: &[u8]) -> Result<Symbols, NoMemory>
     Ok(Symbols::of(strings, functions))
 }
 
-/// What a file puts into memory and its function symbols, or why it is not read.
+/// What a file (System V ABI, ELF-64 object files; RISC-V ELF psABI) puts into memory, and its function symbols, or why it is not read.
 pub fn read(alloc: Global, file: &[u8]) -> Result<Image, ElfFault>
     ensures readable { OnOk result (IsReadable file.now) }
     ensures image { IfOk result (λ image. image ≡ image_of file.now) }

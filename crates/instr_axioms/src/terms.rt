@@ -179,7 +179,8 @@ pub fn facts(alloc: Global, i: Instr, form: Form, names: &Variables) -> Result<L
     Ok(facts)
 }
 
-/// What the instruction of that many bytes at an address writes to its destination.
+/// What the instruction of that many bytes at an address writes to its destination. Where that is x0, nothing is written, and the
+/// term is that of the value.
 pub fn result(
     alloc: Global,
     i: Instr,

@@ -80,12 +80,14 @@ impl State {
         self.memory.law_of_values();
     }
 
+    /// The program counter: the address of the instruction that is next (section 2.1 of the manual).
     pub fn pc(&self) -> u64
         ensures { result ≡ self.now.pc }
     {
         self.pc
     }
 
+    /// The word in register `n`, 0 to 31; of x0 that is 0 (section 2.1 of the manual).
     pub fn reg(&self, n: u8) -> u64
         requires { n < 32 }
         ensures { result ≡ (state_of self.now).reg n }
@@ -93,6 +95,7 @@ impl State {
         self.registers.get(n)
     }
 
+    /// Writes a word to register `n`, 1 to 31.
     pub fn set_reg(&mut self, n: u8, v: u64)
         requires within { n < 32 }
         requires not_zero { n ≢ 0 }
@@ -101,6 +104,7 @@ impl State {
         self.registers.set(n, v);
     }
 
+    /// The memory: the bytes that are present, by address.
     pub fn memory(&self) -> &ByteMap
         ensures { result.now ≡ self.now.memory }
     {
@@ -125,7 +129,8 @@ impl State {
         self.memory.place_zeros(a, n)
     }
 
-    /// Makes one step. It takes no memory.
+    /// Makes one step: carries out the instruction at the program counter (chapters 2, 5, 7 and 16 of the manual). Where there is
+    /// none or it can't be carried out, nothing changes. It takes no memory.
     #[tactic(auto, unfolding(crate::specs::Step::step, crate::specs::Step::stuck))]
     pub fn step(&mut self) -> Result<(), Stuck>
         ensures ok { OnOk result (next_state (state_of self.old) ≡ Some (state_of self.new)) }
