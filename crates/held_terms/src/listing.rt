@@ -4,11 +4,13 @@ ghost use Rattle.std.specs.Prelude.{◌≡◌, ◌<◌, ◌+◌, IfSome, OnOk, d
 ghost use Rattle.word_terms.specs.Substitution.{listed};
 ghost use Rattle.held_terms.specs.inner.Listings.{IsIndexOf};
 
-use crate::facts::FEW;
 use rv_words::NoMemory;
 use std::alloc::Global;
 use std::collections::BTreeMap;
 use std::marker::Model;
+
+/// How many terms are looked for one by one: those for all registers and memories, which a line that `decompile` writes has at most.
+const FEW: usize = 40;
 
 /// Numbers of terms, each listed for a variable. Where there are more than a few, they are looked up by an index, if there was
 /// memory for it.
