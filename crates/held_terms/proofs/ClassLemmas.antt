@@ -6,13 +6,16 @@ use Rattle.std.specs.List.{Contains}
 use Rattle.std.specs.BTreeMap.{BTreeMap, Updates, get, is_at}
 use Rattle.std.specs.Map.{lookup}
 use Rattle.std.specs.Ordering.{nat_cmp}
+use Rattle.std.proofs.lemmas.List.{append-nil}
 use Rattle.std.proofs.lemmas.List.Elements.{All-cons, All-contains, All-more, All-nil, All-weaker, Contains-append_left, Contains-push_cases}
-use Rattle.word_terms.specs.Tree.{WordTree, CondTree, Const, Var, Bin, Extend, Load, Compare, Neg, Inside}
+use Rattle.word_terms.specs.Tree.{WordTree, CondTree, Const, Var, Bin, Extend, Load, MemVar, Compare, Neg, Inside}
 use Rattle.term_arena.specs.declared.node.Node.{Node}
 use Rattle.term_arena.specs.declared.node.Node.TheVariants as node
-use Rattle.term_arena.specs.Arena.{Tree, OfWord, tree_of, trees_of, tree_over, word_of, cond_of, IsWordAt, IsCondAt, AreChildren, AreBelow}
+use Rattle.term_arena.specs.Arena.{Tree, OfWord, OfCond, tree_of, trees_of, tree_over, as_word, as_mem, as_cond, word_of, mem_of, cond_of, IsWordAt, IsCondAt, AreChildren, AreBelow, Extends, IsArena, Was_there, Is_next}
+use Rattle.term_arena.specs.Arena.{IsAdded as IsAddedNode}
 use Rattle.term_arena.proofs.Places.{at_contains, at_place, at_read, at-map, at-push, contains_at, map-at}
-use Rattle.term_arena.proofs.TreeLemmas.{length-trees}
+use Rattle.term_arena.proofs.PutLemmas.{tree_stays}
+use Rattle.term_arena.proofs.TreeLemmas.{cond_there, length-trees, mem_there, one_number, word_there}
 use Rattle.triple_kernel.specs.Tree.{FactTree, WordIs, So}
 use Rattle.triple_kernel.specs.Swap.{SwapWord, WordsStated}
 use Rattle.triple_kernel.specs.Rules.{Alike}
@@ -20,40 +23,42 @@ use Rattle.held_terms.specs.declared.held.HeldFact.{HeldFact}
 use Rattle.held_terms.specs.declared.held.HeldFact.TheVariants as held
 use Rattle.held_terms.specs.Held.{AreFactsAt, IsFactAt, fact_of}
 use Rattle.held_terms.specs.Subterms.{HasFact, HasFacts}
-use Rattle.held_terms.specs.inner.Classes.{Agrees, AreClassed, AreFrom, AreOneClass, AreSame, Grows, HasClass, HasTwoTerms, IsAdded, IsAgreed, IsFactListed, IsFormAt, IsListed, IsOverTwo, Leaves, Lists, Narrows, Seen, class_found, cond_class, form_of, listed, mixed, mixed_of, tree_class, word_class}
+use Rattle.held_terms.specs.inner.Classes.{Agrees, AreClassed, AreForms, AreFrom, AreOneForm, ArePartsAt, AreSame, Grows, HasClass, HasMemory, IsAdded, IsAgreed, IsAlone, IsFactListed, IsFormOver, IsListed, IsOver, Leaves, Lists, Narrows, Seen, class_found, class_node, cond_form, form_at, listed, node_over, parts_of, tree_form, word_form}
 use Rattle.held_terms.proofs.FindLemmas.{find_cases, find_there, other_find}
+use Rattle.held_terms.proofs.ImageLemmas.{word_still}
 use Rattle.held_terms.proofs.ImagingLemmas.{children_under}
+use Rattle.held_terms.proofs.InstanceLemmas.{extends_next}
 
--- ---- terms that facts let stand for one another have one class
+-- ---- terms that facts let stand for one another have one form
 
-module _ (facts : List FactTree) (free : ℕ → ℕ) (one : AreOneClass free facts) where
-  stated-class : (a b : WordTree) → WordsStated facts a b → word_class free a ≡ word_class free b
-  stated-class a b (inl e) = ap (word_class free) e
-  stated-class a b (inr (inl c)) = one.each a b c
-  stated-class a b (inr (inr c)) = sym (one.each b a c)
+module _ (facts : List FactTree) (free : ℕ → WordTree) (one : AreOneForm free facts) where
+  stated-form : (a b : WordTree) → WordsStated facts a b → word_form free a ≡ word_form free b
+  stated-form a b (inl e) = ap (word_form free) e
+  stated-form a b (inr (inl c)) = one.each a b c
+  stated-form a b (inr (inr c)) = sym (one.each b a c)
 
-  swap-class : (a b : WordTree) → SwapWord facts a b → word_class free a ≡ word_class free b
-  swap-class (Const n) b h = stated-class (Const n) b h
-  swap-class (Var i) b h = stated-class (Var i) b h
-  swap-class (Bin op x y) b (inl h) = stated-class (Bin op x y) b h
-  swap-class (Bin op x y) (Bin o u v) (inr h) = λ i. mixed 2 (swap-class x u h.1 i) (swap-class y v h.2 i)
-  swap-class (Bin op x y) b (inr h) = absurd h
-  swap-class (Extend ext x) b (inl h) = stated-class (Extend ext x) b h
-  swap-class (Extend ext x) (Extend e u) (inr h) = λ i. mixed 3 (swap-class x u h.1 i) (swap-class x u h.1 i)
-  swap-class (Extend ext x) b (inr h) = absurd h
-  swap-class (Load width m x) b (inl h) = stated-class (Load width m x) b h
-  swap-class (Load width m x) (Load w q u) (inr h) = λ i. mixed 4 (swap-class x u h.2 i) (swap-class x u h.2 i)
-  swap-class (Load width m x) b (inr h) = absurd h
+  swap-form : (a b : WordTree) → SwapWord facts a b → word_form free a ≡ word_form free b
+  swap-form (Const n) b h = stated-form (Const n) b h
+  swap-form (Var i) b h = stated-form (Var i) b h
+  swap-form (Bin op x y) b (inl h) = stated-form (Bin op x y) b h
+  swap-form (Bin op x y) (Bin o u v) (inr h) = λ i. Bin (h.0 i) (swap-form x u h.1 i) (swap-form y v h.2 i)
+  swap-form (Bin op x y) b (inr h) = absurd h
+  swap-form (Extend ext x) b (inl h) = stated-form (Extend ext x) b h
+  swap-form (Extend ext x) (Extend e u) (inr h) = λ i. Extend (h.0 i) (swap-form x u h.1 i)
+  swap-form (Extend ext x) b (inr h) = absurd h
+  swap-form (Load width m x) b (inl h) = stated-form (Load width m x) b h
+  swap-form (Load width m x) (Load w q u) (inr h) = λ i. Load (h.0 i) (MemVar 0) (swap-form x u h.2 i)
+  swap-form (Load width m x) b (inr h) = absurd h
 
-  pub alike_class : (c d : CondTree) → Alike facts c d → cond_class free c ≡ cond_class free d
-  alike_class (Compare cmp x y) (Compare o u v) h = λ i. mixed 5 (swap-class x u h.1 i) (swap-class y v h.2 i)
-  alike_class (Compare cmp x y) d h = absurd h
-  alike_class (Neg x) (Neg u) h = λ i. mixed 6 (alike_class x u h i) (alike_class x u h i)
-  alike_class (Neg x) d h = absurd h
-  alike_class (Inside width m x) (Inside w q u) h = λ i. mixed 7 (swap-class x u h.2 i) (swap-class x u h.2 i)
-  alike_class (Inside width m x) d h = absurd h
+  pub alike_form : (c d : CondTree) → Alike facts c d → cond_form free c ≡ cond_form free d
+  alike_form (Compare cmp x y) (Compare o u v) h = λ i. Compare (h.0 i) (swap-form x u h.1 i) (swap-form y v h.2 i)
+  alike_form (Compare cmp x y) d h = absurd h
+  alike_form (Neg x) (Neg u) h = λ i. Neg (alike_form x u h i)
+  alike_form (Neg x) d h = absurd h
+  alike_form (Inside width m x) (Inside w q u) h = λ i. Inside (h.0 i) (MemVar 0) (swap-form x u h.2 i)
+  alike_form (Inside width m x) d h = absurd h
 
--- ---- what the class of a number's term is made of
+-- ---- what the form of a number's term is made of
 
 module _ (ns : List Node) where
   abbrev Over : Node → ℕ → Type 0
@@ -62,105 +67,225 @@ module _ (ns : List Node) where
   pub tree_there : (x : ℕ) → x < length ns → (t : Tree) × (tree_of ns x ≡ Some t)
   tree_there x low = let l = length-trees ns in let here : x < length (trees_of ns) = omega (arith, low, l) in at_place (trees_of ns) x here
 
-  pub form_fits : (x : ℕ) (n : Node) → Over n x → AreChildren ns n → AreBelow x n → IsFormAt ns x (form_of n)
-  form_fits x (node.Const n) e h low = λ free. ap (tree_class free) e
-  form_fits x (node.WordVar i) e h low = e
-  form_fits x (node.Bin op a b) e h low = record {
+  -- the form of a child
+  module _ (free : ℕ → WordTree) (forms : List Node) (v a : ℕ) (is : tree_of forms v ≡ form_at free (tree_of ns a)) where
+    word-there : IsWordAt ns a → IsWordAt forms v
+    word-there h = word_there forms v _ (is ∙ ap (form_at free) h)
+
+    cond-there : IsCondAt ns a → IsCondAt forms v
+    cond-there h = cond_there forms v _ (is ∙ ap (form_at free) h)
+
+    word-form : IsWordAt ns a → word_form free (word_of ns a) ≡ word_of forms v
+    word-form h = sym (ap as_word (is ∙ ap (form_at free) h))
+
+    cond-form : IsCondAt ns a → cond_form free (cond_of ns a) ≡ cond_of forms v
+    cond-form h = sym (ap as_cond (is ∙ ap (form_at free) h))
+
+  mem-form : (forms : List Node) → HasMemory forms → MemVar 0 ≡ mem_of forms 0
+  mem-form forms m = sym (ap as_mem m)
+
+  pub parts_fit : (x : ℕ) (n : Node) → Over n x → AreChildren ns n → AreBelow x n → ArePartsAt ns x (parts_of n)
+  parts_fit x (node.Const n) e h low = record { children = λ forms. tt; form = λ free forms. ap (form_at free) e }
+  parts_fit x (node.WordVar i) e h low = e
+  parts_fit x (node.Bin op a b) e h low = record {
     first = low.0;
     second = low.1;
-    class = λ free. ap (tree_class free) e ∙ (λ i. mixed 2 (tree_class free (sym h.0 i)) (tree_class free (sym h.1 i)));
     under = λ ts has. let u = children_under ns x (node.Bin op a b) e h in (u.0 ts has, u.1 ts has);
+    children = λ free forms v w m hv hw. (word-there free forms v a hv h.0, word-there free forms w b hw h.1);
+    form = λ free forms v w m hv hw. ap (form_at free) e ∙ (λ i. Some (OfWord (Bin op (word-form free forms v a hv h.0 i) (word-form free forms w b hw h.1 i))));
   }
-  form_fits x (node.Extend ext a) e h low = record {
+  parts_fit x (node.Extend ext a) e h low = record {
     first = low;
     second = low;
-    class = λ free. ap (tree_class free) e ∙ (λ i. mixed 3 (tree_class free (sym h i)) (tree_class free (sym h i)));
     under = λ ts has. let u = children_under ns x (node.Extend ext a) e h in (u ts has, u ts has);
+    children = λ free forms v w m hv hw. word-there free forms v a hv h;
+    form = λ free forms v w m hv hw. ap (form_at free) e ∙ (λ i. Some (OfWord (Extend ext (word-form free forms v a hv h i))));
   }
-  form_fits x (node.Load width m a) e h low = record {
+  parts_fit x (node.Load width m a) e h low = record {
     first = low.1;
     second = low.1;
-    class = λ free. ap (tree_class free) e ∙ (λ i. mixed 4 (tree_class free (sym h.1 i)) (tree_class free (sym h.1 i)));
     under = λ ts has. let u = children_under ns x (node.Load width m a) e h in (u.1 ts has, u.1 ts has);
+    children = λ free forms v w hm hv hw. (mem_there forms 0 (MemVar 0) hm, word-there free forms v a hv h.1);
+    form = λ free forms v w hm hv hw. ap (form_at free) e ∙ (λ i. Some (OfWord (Load width (mem-form forms hm i) (word-form free forms v a hv h.1 i))));
   }
-  form_fits x (node.MemVar i) e h low = λ free. ap (tree_class free) e
-  form_fits x (node.Store width m a v) e h low = λ free. ap (tree_class free) e
-  form_fits x (node.Compare cmp a b) e h low = record {
+  parts_fit x (node.MemVar i) e h low = record { children = λ forms. tt; form = λ free forms. ap (form_at free) e }
+  parts_fit x (node.Store width m a v) e h low = record { children = λ forms. tt; form = λ free forms. ap (form_at free) e }
+  parts_fit x (node.Compare cmp a b) e h low = record {
     first = low.0;
     second = low.1;
-    class = λ free. ap (tree_class free) e ∙ (λ i. mixed 5 (tree_class free (sym h.0 i)) (tree_class free (sym h.1 i)));
     under = λ ts has. let u = children_under ns x (node.Compare cmp a b) e h in (u.0 ts has, u.1 ts has);
+    children = λ free forms v w m hv hw. (word-there free forms v a hv h.0, word-there free forms w b hw h.1);
+    form = λ free forms v w m hv hw. ap (form_at free) e ∙ (λ i. Some (OfCond (Compare cmp (word-form free forms v a hv h.0 i) (word-form free forms w b hw h.1 i))));
   }
-  form_fits x (node.Neg c) e h low = record {
+  parts_fit x (node.Neg c) e h low = record {
     first = low;
     second = low;
-    class = λ free. ap (tree_class free) e ∙ (λ i. mixed 6 (tree_class free (sym h i)) (tree_class free (sym h i)));
     under = λ ts has. let u = children_under ns x (node.Neg c) e h in (u ts has, u ts has);
+    children = λ free forms v w m hv hw. cond-there free forms v c hv h;
+    form = λ free forms v w m hv hw. ap (form_at free) e ∙ (λ i. Some (OfCond (Neg (cond-form free forms v c hv h i))));
   }
-  form_fits x (node.Inside width m a) e h low = record {
+  parts_fit x (node.Inside width m a) e h low = record {
     first = low.1;
     second = low.1;
-    class = λ free. ap (tree_class free) e ∙ (λ i. mixed 7 (tree_class free (sym h.1 i)) (tree_class free (sym h.1 i)));
     under = λ ts has. let u = children_under ns x (node.Inside width m a) e h in (u.1 ts has, u.1 ts has);
+    children = λ free forms v w hm hv hw. (mem_there forms 0 (MemVar 0) hm, word-there free forms v a hv h.1);
+    form = λ free forms v w hm hv hw. ap (form_at free) e ∙ (λ i. Some (OfCond (Inside width (mem-form forms hm i) (word-form free forms v a hv h.1 i))));
   }
+
+-- the first form has the number 0
+pub first_form : (n : Node) (k : ℕ) (forms : List Node) (t : Tree) → IsAddedNode [] n k forms → tree_of forms k ≡ Some t → tree_of forms 0 ≡ Some t
+first_form n k forms t (Was_there at same) e = let no : None ≡ Some n = at in cc
+first_form n k forms t (Is_next first is) e = ap (tree_of forms) (sym first) ∙ e
 
 -- ---- what is known of classes
 
-pub grows_none : (l : Leaves) → Grows l l
-grows_none l = record { each = λ i v h. h }
+pub forms_none : (forms : List Node) → Extends forms forms
+forms_none forms = record { more = []; is = sym (append-nil forms) }
 
-pub grows_both : (old mid new : Leaves) → Grows old mid → Grows mid new → Grows old new
-grows_both old mid new g h = record { each = λ i v e. h.each i v (g.each i v e) }
+pub grows_forms : (forms more : List Node) (l : Leaves) → Extends forms more → Grows forms more l l
+grows_forms forms more l e = record { stay = e; each = λ i v h. h }
+
+pub grows_none : (forms : List Node) (l : Leaves) → Grows forms forms l l
+grows_none forms l = grows_forms forms forms l (forms_none forms)
+
+pub grows_both : (forms more most : List Node) (old mid new : Leaves) → Grows forms more old mid → Grows more most mid new → Grows forms most old new
+grows_both forms more most old mid new g h = record { stay = extends_next forms more most g.stay h.stay; each = λ i v e. h.each i v (g.each i v e) }
 
 -- a variable that had no class gets one
-pub grows_put : (old new : Leaves) (i w : ℕ) → get nat_cmp old i ≡ None → Updates nat_cmp old new i (Some w) → Grows old new
-grows_put old new i w none u = record {
+pub grows_put : (forms more : List Node) (old new : Leaves) (i w : ℕ) → Extends forms more → get nat_cmp old i ≡ None → Updates nat_cmp old new i (Some w) → Grows forms more old new
+grows_put forms more old new i w e none u = record {
+  stay = e;
   each = λ k v h. other_find old new i (Some w) k u (λ same. let no : None ≡ Some v = sym none ∙ sym (ap (get nat_cmp old) same) ∙ h in cc) ∙ h;
 }
 
-pub agrees_before : (old new : Leaves) (free : ℕ → ℕ) → Grows old new → Agrees new free → Agrees old free
-agrees_before old new free g a = record { each = λ i v h. a.each i v (g.each i v h) }
+pub forms_still : (forms more : List Node) (l : Leaves) → Extends forms more → AreForms forms l → AreForms more l
+forms_still forms more l e f = record { memory = tree_stays forms more 0 _ e f.memory; words = λ i v h. word_still forms more v e (f.words i v h) }
+
+pub forms_put : (forms more : List Node) (old new : Leaves) (i w : ℕ) → Extends forms more → IsWordAt more w → Updates nat_cmp old new i (Some w) → AreForms forms old → AreForms more new
+forms_put forms more old new i w e is u f = record {
+  memory = tree_stays forms more 0 _ e f.memory;
+  words = λ k v h. elim (find_cases old new i w k v u h) [
+    | inl here ↦ subst (IsWordAt more) (sym here.1) is
+    | inr there ↦ word_still forms more v e (f.words k v there.1)
+  ];
+}
+
+pub forms_begun : (forms : List Node) (l : Leaves) → HasMemory forms → l.entries ≡ [] → AreForms forms l
+forms_begun forms l m e = record { memory = m; words = λ i v h. let no : None ≡ Some v = sym (ap (λ (es : List (ℕ × ℕ)). lookup (is_at (nat_cmp i)) es) e) ∙ h in cc }
+
+-- what agrees later agrees before
+pub agrees_before : (forms more : List Node) (old new : Leaves) (free : ℕ → WordTree) → AreForms forms old → Grows forms more old new → Agrees more new free → Agrees forms old free
+agrees_before forms more old new free f g a = record {
+  each = λ i v h.
+      let is = f.words i v h in
+      let still : tree_of more v ≡ Some (OfWord (word_of forms v)) = tree_stays forms more v _ g.stay is in
+      is ∙ sym still ∙ a.each i v (g.each i v h);
+}
+
+-- each variable's form, and some word for one that has none
+or-zero : Option ℕ → ℕ
+or-zero None = 0
+or-zero (Some v) = v
+
+free-of : List Node → Leaves → ℕ → WordTree
+free-of forms leaves i = word_of forms (or-zero (get nat_cmp leaves i))
+
+free-agrees : (forms : List Node) (leaves : Leaves) → AreForms forms leaves → Agrees forms leaves (free-of forms leaves)
+unfolding free-of or-zero
+free-agrees forms leaves f = record { each = λ i v h. f.words i v h ∙ ap (λ (o : Option ℕ). Some (OfWord (word_of forms (or-zero o)))) (sym h) }
 
 module _ (ns : List Node) where
-  pub class_still : (old new : Leaves) (x v : ℕ) → Grows old new → HasClass ns old x v → HasClass ns new x v
-  class_still old new x v g h = record { is = λ free a. h.is free (agrees_before old new free g a) }
+  -- the class is the number of the term's form
+  class-form : (forms : List Node) (leaves : Leaves) (x v : ℕ) (free : ℕ → WordTree) → HasClass ns forms leaves x v → Agrees forms leaves free → tree_of forms v ≡ form_at free (tree_of ns x)
+  class-form forms leaves x v free h a = h.is free a ∙ sym (ap (form_at free) h.there)
 
-  pub classed_still : (old new : Leaves) (seen : Seen) → Grows old new → AreClassed ns old seen → AreClassed ns new seen
-  classed_still old new seen g a = record { each = λ x v h. class_still old new x v g (a.each x v h) }
+  pub class_still : (forms more : List Node) (old new : Leaves) (x v : ℕ) → AreForms forms old → Grows forms more old new → HasClass ns forms old x v → HasClass ns more new x v
+  class_still forms more old new x v f g h = record {
+    tree = h.tree;
+    there = h.there;
+    is = λ free a. tree_stays forms more v _ g.stay (h.is free (agrees_before forms more old new free f g a));
+  }
 
-  pub classed_none : (leaves : Leaves) (seen : Seen) → seen.entries ≡ [] → AreClassed ns leaves seen
-  classed_none leaves seen e = record { each = λ x v h. let no : None ≡ Some (Some v) = sym (ap (λ (es : List (ℕ × Option ℕ)). lookup (is_at (nat_cmp x)) es) e) ∙ h in cc }
+  -- the class of a word is one that a variable can have
+  pub class_word : (forms : List Node) (leaves : Leaves) (x : ℕ) (o : Option ℕ) → AreForms forms leaves → IsWordAt ns x → IfSome o (λ k. HasClass ns forms leaves x k) → IfSome o (λ k. IsWordAt forms k)
+  class_word forms leaves x None f h o = tt
+  class_word forms leaves x (Some v) f h o = word-there ns (free-of forms leaves) forms v x (class-form forms leaves x v (free-of forms leaves) o (free-agrees forms leaves f)) h
+
+  pub classed_still : (forms more : List Node) (old new : Leaves) (seen : Seen) → Grows forms more old new → AreForms more new → AreClassed ns forms old seen → AreClassed ns more new seen
+  classed_still forms more old new seen g f a = record { ready = f; each = λ x v h. class_still forms more old new x v a.ready g (a.each x v h) }
+
+  -- where forms alone came
+  pub classed_more : (forms more : List Node) (leaves : Leaves) (seen : Seen) → Extends forms more → AreClassed ns forms leaves seen → AreClassed ns more leaves seen
+  classed_more forms more leaves seen e a = classed_still forms more leaves leaves seen (grows_forms forms more leaves e) (forms_still forms more leaves e a.ready) a
+
+  pub classed_none : (forms : List Node) (leaves : Leaves) (seen : Seen) → AreForms forms leaves → seen.entries ≡ [] → AreClassed ns forms leaves seen
+  classed_none forms leaves seen f e = record { ready = f; each = λ x v h. let no : None ≡ Some (Some v) = sym (ap (λ (es : List (ℕ × Option ℕ)). lookup (is_at (nat_cmp x)) es) e) ∙ h in cc }
 
   -- where an entry was put in
-  pub classed_put : (leaves : Leaves) (old new : Seen) (x : ℕ) (o : Option ℕ) → AreClassed ns leaves old → Updates nat_cmp old new x (Some o) → IfSome o (λ k. HasClass ns leaves x k) → AreClassed ns leaves new
-  classed_put leaves old new x o a u is = record {
+  pub classed_put : (forms : List Node) (leaves : Leaves) (old new : Seen) (x : ℕ) (o : Option ℕ) → AreClassed ns forms leaves old → Updates nat_cmp old new x (Some o) → IfSome o (λ k. HasClass ns forms leaves x k) → AreClassed ns forms leaves new
+  classed_put forms leaves old new x o a u is = record {
+    ready = a.ready;
     each = λ k v h. elim (find_cases old new x o k (Some v) u h) [
-      | inl here ↦ subst (λ (j : ℕ). HasClass ns leaves j v) (sym here.0) (subst (λ (p : Option ℕ). IfSome p (λ k. HasClass ns leaves x k)) (sym here.1) is)
+      | inl here ↦ subst (λ (j : ℕ). HasClass ns forms leaves j v) (sym here.0) (subst (λ (p : Option ℕ). IfSome p (λ k. HasClass ns forms leaves x k)) (sym here.1) is)
       | inr there ↦ a.each k v there.1
     ];
   }
 
-  pub class_known : (leaves : Leaves) (seen : Seen) (x : ℕ) (o : Option ℕ) → AreClassed ns leaves seen → get nat_cmp seen x ≡ Some o → IfSome o (λ k. HasClass ns leaves x k)
-  class_known leaves seen x None a e = tt
-  class_known leaves seen x (Some v) a e = a.each x v e
+  pub class_known : (forms : List Node) (leaves : Leaves) (seen : Seen) (x : ℕ) (o : Option ℕ) → AreClassed ns forms leaves seen → get nat_cmp seen x ≡ Some o → IfSome o (λ k. HasClass ns forms leaves x k)
+  class_known forms leaves seen x None a e = tt
+  class_known forms leaves seen x (Some v) a e = a.each x v e
 
-  pub class_there : (leaves : Leaves) (seen : Seen) (x v : ℕ) → AreClassed ns leaves seen → class_found (get nat_cmp seen x) ≡ Some v → HasClass ns leaves x v
-  class_there leaves seen x v a e = a.each x v (by (get nat_cmp seen x) e)
+  pub class_there : (forms : List Node) (leaves : Leaves) (seen : Seen) (x v : ℕ) → AreClassed ns forms leaves seen → class_found (get nat_cmp seen x) ≡ Some v → HasClass ns forms leaves x v
+  class_there forms leaves seen x v a e = a.each x v (by (get nat_cmp seen x) e)
     where
       by : (o : Option (Option ℕ)) → class_found o ≡ Some v → o ≡ Some (Some v)
       by None is = cc
       by (Some p) is = ap (λ (q : Option ℕ). Some q) is
 
-  pub class_of_variable : (leaves : Leaves) (x i v : ℕ) → tree_of ns x ≡ Some (OfWord (Var i)) → get nat_cmp leaves i ≡ Some v → HasClass ns leaves x v
-  class_of_variable leaves x i v e h = record { is = λ free a. ap (tree_class free) e ∙ a.each i v h }
+  pub class_of_variable : (forms : List Node) (leaves : Leaves) (x i v : ℕ) → tree_of ns x ≡ Some (OfWord (Var i)) → get nat_cmp leaves i ≡ Some v → HasClass ns forms leaves x v
+  class_of_variable forms leaves x i v e h = record { tree = OfWord (Var i); there = e; is = λ free a. a.each i v h }
 
-  pub class_over_two : (mid new : Leaves) (x kind a b : ℕ) (o p : Option ℕ) → IsOverTwo ns x kind a b → Grows mid new → IfSome o (λ k. HasClass ns mid a k) → IfSome p (λ k. HasClass ns new b k)
-      → IfSome (mixed_of kind o p) (λ k. HasClass ns new x k)
-  class_over_two mid new x kind a b (Some v) (Some w) is g ho hp =
-      record { is = λ free f. is.class free ∙ (λ i. mixed kind (ho.is free (agrees_before mid new free g f) i) (hp.is free f i)) }
-  class_over_two mid new x kind a b (Some v) None is g ho hp = tt
-  class_over_two mid new x kind a b None (Some w) is g ho hp = tt
-  class_over_two mid new x kind a b None None is g ho hp = tt
+  pub class_alone : (forms more : List Node) (leaves : Leaves) (x v : ℕ) (n : Node) → x < length ns → IsAlone ns x n → tree_of more v ≡ Some (tree_over (trees_of forms) n) → HasClass ns more leaves x v
+  class_alone forms more leaves x v n low is h = let t = tree_there ns x low in record { tree = t.0; there = t.1; is = λ free a. h ∙ sym (is.form free forms) ∙ ap (form_at free) t.1 }
+
+  -- over two classes, the first of which was known before the second
+  module _ (mid new : List Node) (old leaves : Leaves) (x : ℕ) (n : Node) (a b : ℕ) (is : IsOver ns x n a b) (f : AreForms mid old) (now : AreForms new leaves) (g : Grows mid new old leaves) where
+    module _ (v w : ℕ) (hv : HasClass ns mid old a v) (hw : HasClass ns new leaves b w) (free : ℕ → WordTree) (agrees : Agrees new leaves free) where
+      first-form : tree_of new v ≡ form_at free (tree_of ns a)
+      first-form = class-form new leaves a v free (class_still mid new old leaves a v f g hv) agrees
+
+      second-form : tree_of new w ≡ form_at free (tree_of ns b)
+      second-form = class-form new leaves b w free hw agrees
+
+      children-over : AreChildren new (node_over n v w)
+      children-over = is.children free new v w now.memory first-form second-form
+
+      form-over : form_at free (tree_of ns x) ≡ Some (tree_over (trees_of new) (node_over n v w))
+      form-over = is.form free new v w now.memory first-form second-form
+
+    pub over_children : (o p : Option ℕ) → IfSome o (λ k. HasClass ns mid old a k) → IfSome p (λ k. HasClass ns new leaves b k) → IfSome (class_node n o p) (AreChildren new)
+    over_children (Some v) (Some w) ho hp = children-over v w ho hp (free-of new leaves) (free-agrees new leaves now)
+    over_children (Some v) None ho hp = tt
+    over_children None (Some w) ho hp = tt
+    over_children None None ho hp = tt
+
+    module _ (last : List Node) (low : x < length ns) (e : Extends new last) where
+      class-over : (v w k : ℕ) → HasClass ns mid old a v → HasClass ns new leaves b w → tree_of last k ≡ Some (tree_over (trees_of new) (node_over n v w)) → HasClass ns last leaves x k
+      class-over v w k hv hw h = let t = tree_there ns x low in record {
+        tree = t.0;
+        there = t.1;
+        is = λ free agrees.
+            let before = agrees_before new last leaves leaves free now (grows_forms new last leaves e) agrees in
+            h ∙ sym (form-over v w hv hw free before) ∙ ap (form_at free) t.1;
+      }
+
+      pub over_class : (o p r : Option ℕ) → IfSome o (λ k. HasClass ns mid old a k) → IfSome p (λ k. HasClass ns new leaves b k) → IfSome r (λ k. IsFormOver new last (class_node n o p) k)
+          → IfSome r (λ k. HasClass ns last leaves x k)
+      over_class o p None ho hp hr = tt
+      over_class (Some v) (Some w) (Some k) ho hp hr = class-over v w k ho hp hr
+      over_class (Some v) None (Some k) ho hp hr = absurd hr
+      over_class None (Some w) (Some k) ho hp hr = absurd hr
+      over_class None None (Some k) ho hp hr = absurd hr
 
 pub from_none : (fs : List HeldFact) (lists : Lists) → lists.entries ≡ [] → AreFrom fs lists
 from_none fs lists e = record {
@@ -171,17 +296,6 @@ from_none fs lists e = record {
 }
 
 -- ---- equations that agree
-
-or-zero : Option ℕ → ℕ
-or-zero None = 0
-or-zero (Some v) = v
-
-free-of : Leaves → ℕ → ℕ
-free-of leaves i = or-zero (get nat_cmp leaves i)
-
-free-agrees : (leaves : Leaves) → Agrees leaves (free-of leaves)
-unfolding free-of or-zero
-free-agrees leaves = record { each = λ i v h. ap or-zero h }
 
 module _ (ns : List Node) where
   word-is : (f : HeldFact) (a b : WordTree) → fact_of ns f ≡ WordIs a b → (x : ℕ) × (y : ℕ) × (f ≡ held.WordIs x y) × (word_of ns x ≡ a) × (word_of ns y ≡ b)
@@ -203,31 +317,38 @@ module _ (ns : List Node) where
       let at = at_contains fs f c in
       subst (Contains (map (fact_of ns) fs)) e (contains_at (map (fact_of ns) fs) at.0 (fact_of ns f) (map-at (fact_of ns) fs at.0 f at.1))
 
-  module _ (fs : List HeldFact) (leaves : Leaves) (seen : Seen) (there : AreFactsAt ns fs) (classed : AreClassed ns leaves seen) where
-    word-class : (x v : ℕ) (o : Option ℕ) → IsWordAt ns x → class_found (get nat_cmp seen x) ≡ o → o ≡ Some v → word_class (free-of leaves) (word_of ns x) ≡ v
-    word-class x v o h e s = sym (ap (tree_class (free-of leaves)) h) ∙ (class_there ns leaves seen x v classed (e ∙ s)).is (free-of leaves) (free-agrees leaves)
+  module _ (fs : List HeldFact) (forms : List Node) (leaves : Leaves) (seen : Seen) (there : AreFactsAt ns fs) (arena : IsArena forms) (classed : AreClassed ns forms leaves seen) where
+    free : ℕ → WordTree
+    free = free-of forms leaves
 
-    same-class : (x y : ℕ) (o p : Option ℕ) → IsWordAt ns x → IsWordAt ns y → class_found (get nat_cmp seen x) ≡ o → class_found (get nat_cmp seen y) ≡ p → AreSame o p
-        → word_class (free-of leaves) (word_of ns x) ≡ word_class (free-of leaves) (word_of ns y)
-    same-class x y (Some v) (Some w) hx hy ex ey s = word-class x v (Some v) hx ex refl ∙ s ∙ sym (word-class y w (Some w) hy ey refl)
-    same-class x y (Some v) None hx hy ex ey s = absurd s
-    same-class x y None (Some w) hx hy ex ey s = absurd s
-    same-class x y None None hx hy ex ey s = absurd s
+    known-form : (x v : ℕ) → class_found (get nat_cmp seen x) ≡ Some v → tree_of forms v ≡ form_at free (tree_of ns x)
+    unfolding free
+    known-form x v e = class-form ns forms leaves x v free (class_there ns forms leaves seen x v classed e) (free-agrees forms leaves classed.ready)
 
-    agreed-one : All (IsAgreed seen) fs → AreOneClass (free-of leaves) (map (fact_of ns) fs)
+    known-word : (x v : ℕ) (o : Option ℕ) → IsWordAt ns x → class_found (get nat_cmp seen x) ≡ o → o ≡ Some v → word_form free (word_of ns x) ≡ word_of forms v
+    known-word x v o h e s = word-form ns free forms v x (known-form x v (e ∙ s)) h
+
+    same-form : (x y : ℕ) (o p : Option ℕ) → IsWordAt ns x → IsWordAt ns y → class_found (get nat_cmp seen x) ≡ o → class_found (get nat_cmp seen y) ≡ p → AreSame o p
+        → word_form free (word_of ns x) ≡ word_form free (word_of ns y)
+    same-form x y (Some v) (Some w) hx hy ex ey s = known-word x v (Some v) hx ex refl ∙ ap (word_of forms) s ∙ sym (known-word y w (Some w) hy ey refl)
+    same-form x y (Some v) None hx hy ex ey s = absurd s
+    same-form x y None (Some w) hx hy ex ey s = absurd s
+    same-form x y None None hx hy ex ey s = absurd s
+
+    agreed-one : All (IsAgreed seen) fs → AreOneForm free (map (fact_of ns) fs)
     agreed-one agreed = record {
       each = λ a b c.
           let f = fact-at fs (WordIs a b) c in
           let w = word-is f.0 a b f.2 in
           let is = subst (λ (g : HeldFact). IsAgreed seen g) w.2 (All-contains (IsAgreed seen) fs f.0 agreed f.1) in
           let at = subst (λ (g : HeldFact). IsFactAt ns g) w.2 (All-contains (λ g. IsFactAt ns g) fs f.0 there f.1) in
-          sym (ap (word_class (free-of leaves)) w.3) ∙ same-class w.0 w.1 _ _ at.0 at.1 refl refl is ∙ ap (word_class (free-of leaves)) w.4;
+          sym (ap (word_form free) w.3) ∙ same-form w.0 w.1 _ _ at.0 at.1 refl refl is ∙ ap (word_form free) w.4;
     }
 
     -- ---- conditions by their classes
 
-    cond-class : (x v : ℕ) → IsCondAt ns x → class_found (get nat_cmp seen x) ≡ Some v → cond_class (free-of leaves) (cond_of ns x) ≡ v
-    cond-class x v h e = sym (ap (tree_class (free-of leaves)) h) ∙ (class_there ns leaves seen x v classed e).is (free-of leaves) (free-agrees leaves)
+    known-cond : (x v : ℕ) → IsCondAt ns x → class_found (get nat_cmp seen x) ≡ Some v → tree_of forms v ≡ Some (OfCond (cond_form free (cond_of ns x)))
+    known-cond x v h e = known-form x v e ∙ ap (form_at free) h
 
     pub narrows_all : (lists : Lists) → All (IsAgreed seen) fs → AreFrom fs lists → All (IsFactListed seen lists) fs → Narrows ns fs seen lists
     narrows_all lists agreed from all = record {
@@ -237,10 +358,10 @@ module _ (ns : List Node) where
           let w = cond-is f.0 d f.2 in
           let is = subst (λ (g : HeldFact). IsFactListed seen lists g) w.1 (All-contains (IsFactListed seen lists) fs f.0 all f.1) in
           let at = subst (λ (g : HeldFact). IsFactAt ns g) w.1 (All-contains (λ g. IsFactAt ns g) fs f.0 there f.1) in
-          let one = cond-class c v h e in
-          let other = cond-class w.0 is.class at is.is in
-          let like = alike_class (map (fact_of ns) fs) (free-of leaves) (agreed-one agreed) (cond_of ns c) d alike in
-          let same : v ≡ is.class = sym one ∙ like ∙ sym (ap (cond_class (free-of leaves)) w.2) ∙ other in
+          let one = known-cond c v h e in
+          let other = known-cond w.0 is.class at is.is in
+          let like = alike_form (map (fact_of ns) fs) free (agreed-one agreed) (cond_of ns c) d alike ∙ sym (ap (cond_form free) w.2) in
+          let same : v ≡ is.class = one_number forms v is.class _ arena one (other ∙ ap (λ (q : CondTree). Some (OfCond q)) (sym like)) in
           there-fact (listed (get nat_cmp lists v)) (held.So w.0) (So d) (subst (λ (k : ℕ). Contains (listed (get nat_cmp lists k)) (held.So w.0)) (sym same) is.there) (ap (λ (q : CondTree). So q) w.2);
     }
 

@@ -5,7 +5,7 @@ ghost use Rattle.std.specs.BTreeMap.{Updates, get};
 ghost use Rattle.std.specs.List.{Contains};
 ghost use Rattle.std.specs.Ordering.{nat_cmp};
 ghost use Rattle.word_terms.specs.Tree.{CondTree};
-ghost use Rattle.term_arena.specs.Arena.{IsCondAt, Tree, cond_of};
+ghost use Rattle.term_arena.specs.Arena.{IsCondAt, IsWordAt, Tree, cond_of};
 ghost use Rattle.triple_kernel.specs.Tree.{So};
 ghost use Rattle.triple_kernel.specs.Rules.{Alike};
 ghost use Rattle.held_terms.specs.declared.held.HeldFact.{HeldFact as FactOf};
@@ -16,7 +16,7 @@ ghost use Rattle.held_terms.specs.inner.Alone.{Searched};
 ghost use Rattle.held_terms.specs.inner.Classes.{AreClassed, AreFrom, AreSame, HasTwoTerms, IsAdded, IsAgreed, IsFactListed, Narrows, listed};
 ghost use Rattle.held_terms.specs.inner.Following.{HasBothFacts};
 
-use crate::classes::{class_in, class_of};
+use crate::classes::{class_in, class_of, no_forms};
 use crate::held::HeldFact;
 use rv_words::{List, NoMemory};
 use std::alloc::Global;
@@ -52,10 +52,19 @@ pub(crate) fn classify<L: Ledger>(
     if facts.len() <= FEW || others.len() <= FEW {
         return Ok(all_are(alloc));
     }
+    let mut forms = no_forms(alloc)?;
     let mut leaves = BTreeMap::new(alloc);
     let mut classes = BTreeMap::new(alloc);
-    see_both(arena, facts, others, &mut leaves, &mut classes, steps)?;
-    gather(alloc, arena, &leaves, classes, others)
+    see_both(
+        arena,
+        facts,
+        others,
+        &mut forms,
+        &mut leaves,
+        &mut classes,
+        steps,
+    )?;
+    gather(alloc, arena, &forms, &leaves, classes, others)
 }
 
 /// No class is known.
@@ -104,19 +113,20 @@ fn see_both<L: Ledger>(
     arena: &Arena,
     facts: &[HeldFact],
     others: &[HeldFact],
+    forms: &mut Arena,
     leaves: &mut BTreeMap<u32, u64>,
     classes: &mut BTreeMap<u64, Option<u64>>,
     steps: &mut Steps<L>,
 ) -> Result<(), NoMemory>
     requires facts { AreFactsAt arena.now facts.now }
     requires others { AreFactsAt arena.now others.now }
-    requires classed { AreClassed arena.now leaves.old classes.old }
-    ensures classed { OnOk result (AreClassed arena.now leaves.new classes.new) }
+    requires classed { AreClassed arena.now forms.old leaves.old classes.old }
+    ensures classed { OnOk result (AreClassed arena.now forms.new leaves.new classes.new) }
     ensures searched { Searched arena.now (HasBothFacts arena.now facts.now others.now) classes.old classes.new steps.old steps.new }
 {
-    see_all(arena, others, true, leaves, classes, steps)?;
-    see_all(arena, others, false, leaves, classes, steps)?;
-    see_all(arena, facts, false, leaves, classes, steps)?;
+    see_all(arena, others, true, forms, leaves, classes, steps)?;
+    see_all(arena, others, false, forms, leaves, classes, steps)?;
+    see_all(arena, facts, false, forms, leaves, classes, steps)?;
     Ok(())
 }
 
@@ -126,17 +136,18 @@ fn see_all<L: Ledger>(
     arena: &Arena,
     facts: &[HeldFact],
     equations: bool,
+    forms: &mut Arena,
     leaves: &mut BTreeMap<u32, u64>,
     classes: &mut BTreeMap<u64, Option<u64>>,
     steps: &mut Steps<L>,
 ) -> Result<(), NoMemory>
     requires facts { AreFactsAt arena.now facts.now }
-    requires classed { AreClassed arena.now leaves.old classes.old }
-    ensures classed { OnOk result (AreClassed arena.now leaves.new classes.new) }
+    requires classed { AreClassed arena.now forms.old leaves.old classes.old }
+    ensures classed { OnOk result (AreClassed arena.now forms.new leaves.new classes.new) }
     ensures searched { Searched arena.now (HasFacts arena.now facts.now) classes.old classes.new steps.old steps.new }
 {
     for fact in facts {
-        see(arena, fact, equations, leaves, classes, steps)?;
+        see(arena, fact, equations, forms, leaves, classes, steps)?;
     }
     Ok(())
 }
@@ -147,25 +158,26 @@ fn see<L: Ledger>(
     arena: &Arena,
     fact: &HeldFact,
     equations: bool,
+    forms: &mut Arena,
     leaves: &mut BTreeMap<u32, u64>,
     classes: &mut BTreeMap<u64, Option<u64>>,
     steps: &mut Steps<L>,
 ) -> Result<(), NoMemory>
     requires fact { IsFactAt arena.now fact.now }
-    requires classed { AreClassed arena.now leaves.old classes.old }
-    ensures classed { OnOk result (AreClassed arena.now leaves.new classes.new) }
+    requires classed { AreClassed arena.now forms.old leaves.old classes.old }
+    ensures classed { OnOk result (AreClassed arena.now forms.new leaves.new classes.new) }
     ensures searched { Searched arena.now (HasFact arena.now fact.now) classes.old classes.new steps.old steps.new }
 {
     match fact {
         HeldFact::WordIs(a, b) => {
             if equations {
-                see_equation(arena, *a, *b, leaves, classes, steps)?;
+                see_equation(arena, *a, *b, forms, leaves, classes, steps)?;
             }
             Ok(())
         }
         HeldFact::So(c) => {
             if !equations {
-                class_of(arena, leaves, classes, *c, *c, steps)?;
+                class_of(arena, forms, leaves, classes, *c, None, steps)?;
             }
             Ok(())
         }
@@ -179,20 +191,21 @@ fn see_equation<L: Ledger>(
     arena: &Arena,
     a: u64,
     b: u64,
+    forms: &mut Arena,
     leaves: &mut BTreeMap<u32, u64>,
     classes: &mut BTreeMap<u64, Option<u64>>,
     steps: &mut Steps<L>,
 ) -> Result<(), NoMemory>
-    requires a { a < length arena.now }
-    requires b { b < length arena.now }
-    requires classed { AreClassed arena.now leaves.old classes.old }
-    ensures classed { OnOk result (AreClassed arena.now leaves.new classes.new) }
+    requires a { IsWordAt arena.now a }
+    requires b { IsWordAt arena.now b }
+    requires classed { AreClassed arena.now forms.old leaves.old classes.old }
+    ensures classed { OnOk result (AreClassed arena.now forms.new leaves.new classes.new) }
     ensures searched { Searched arena.now (HasTwoTerms arena.now a b) classes.old classes.new steps.old steps.new }
 {
     if class_in(classes, a).is_some() {
-        see_two(arena, a, b, leaves, classes, steps)
+        see_two(arena, a, b, forms, leaves, classes, steps)
     } else {
-        see_two(arena, b, a, leaves, classes, steps)
+        see_two(arena, b, a, forms, leaves, classes, steps)
     }
 }
 
@@ -201,19 +214,19 @@ fn see_two<L: Ledger>(
     arena: &Arena,
     a: u64,
     b: u64,
+    forms: &mut Arena,
     leaves: &mut BTreeMap<u32, u64>,
     classes: &mut BTreeMap<u64, Option<u64>>,
     steps: &mut Steps<L>,
 ) -> Result<(), NoMemory>
-    requires a { a < length arena.now }
-    requires b { b < length arena.now }
-    requires classed { AreClassed arena.now leaves.old classes.old }
-    ensures classed { OnOk result (AreClassed arena.now leaves.new classes.new) }
+    requires a { IsWordAt arena.now a }
+    requires b { IsWordAt arena.now b }
+    requires classed { AreClassed arena.now forms.old leaves.old classes.old }
+    ensures classed { OnOk result (AreClassed arena.now forms.new leaves.new classes.new) }
     ensures searched { Searched arena.now (HasTwoTerms arena.now a b) classes.old classes.new steps.old steps.new }
 {
-    let first = class_of(arena, leaves, classes, a, a, steps)?;
-    let wanted = first.unwrap_or(b);
-    class_of(arena, leaves, classes, b, wanted, steps)?;
+    let first = class_of(arena, forms, leaves, classes, a, None, steps)?;
+    class_of(arena, forms, leaves, classes, b, first, steps)?;
     Ok(())
 }
 
@@ -223,15 +236,17 @@ fn see_two<L: Ledger>(
 fn gather(
     alloc: Global,
     arena: &Arena,
+    forms: &Arena,
     leaves: &BTreeMap<u32, u64>,
     classes: BTreeMap<u64, Option<u64>>,
     others: &[HeldFact],
 ) -> Result<Candidates, NoMemory>
     requires others { AreFactsAt arena.now others.now }
-    requires classed { AreClassed arena.now leaves.now classes }
+    requires classed { AreClassed arena.now forms.now leaves.now classes }
     ensures { IfOk result (λ c. Narrows arena.now others.now c.classes c.lists) }
 {
     arena.law_of_nodes();
+    forms.law_of_nodes();
     if !are_agreed(&classes, others) {
         return Ok(all_are(alloc));
     }

@@ -1,108 +1,145 @@
 -- Classes of words and conditions: where facts let one stand for the other, both have one class.
-use Rattle.std.specs.Prelude.{◌≡◌, ◌⊎◌, ℕ, ◌+◌, ◌*◌, ◌<◌, ◌%◌, ◌/◌, ◌^◌, List, [], Option, Some, None, map}
+use Rattle.std.specs.Prelude.{◌≡◌, ◌⊎◌, ℕ, ◌<◌, List, [], Option, Some, None, map}
 use Rattle.std.specs.List.{Contains}
 use Rattle.std.specs.Ordering.{nat_cmp}
 use Rattle.std.specs.BTreeMap.{BTreeMap, get}
-use Rattle.word_terms.specs.Tree.{WordTree, CondTree, Const, Var, Bin, Extend, Load, Compare, Neg, Inside}
+use Rattle.word_terms.specs.Tree.{WordTree, CondTree, Const, Var, Bin, Extend, Load, MemVar, Compare, Neg, Inside}
 use Rattle.term_arena.specs.declared.node.Node.{Node}
 use Rattle.term_arena.specs.declared.node.Node.TheVariants as node
-use Rattle.term_arena.specs.Arena.{Tree, OfWord, OfMem, OfCond, tree_of, cond_of, IsCondAt}
+use Rattle.term_arena.specs.Arena.{Tree, OfWord, OfMem, OfCond, tree_of, tree_over, trees_of, cond_of, AreChildren, Extends, IsCondAt, IsWordAt}
 use Rattle.triple_kernel.specs.Tree.{FactTree, WordIs, So}
 use Rattle.triple_kernel.specs.Rules.{Alike}
-use Rattle.held_terms.specs.declared.classes.Form.{Form}
-use Rattle.held_terms.specs.declared.classes.Form.TheVariants as form
+use Rattle.held_terms.specs.declared.classes.Parts.{Parts}
+use Rattle.held_terms.specs.declared.classes.Parts.TheVariants as parts
 use Rattle.held_terms.specs.declared.held.HeldFact.{HeldFact}
 use Rattle.held_terms.specs.declared.held.HeldFact.TheVariants as held
 use Rattle.held_terms.specs.Held.{fact_of}
 use Rattle.held_terms.specs.inner.Imaging.{HasTerm}
 
--- ---- the class of a term, by those of its variables
+-- ---- the form of a term, by those of its variables
 
--- a number of a kind and of two numbers
-unfoldable pub mixed : ℕ → ℕ → ℕ → ℕ
-mixed kind a b = (((a * 11400714819323198485) % 2 ^ 64 + (b * 14029467366897019727) % 2 ^ 64) % 2 ^ 64 + (kind * 1609587929392839161) % 2 ^ 64) % 2 ^ 64
+-- the term itself, with a form for each variable, and one memory for all
+abbrev pub word_form : (ℕ → WordTree) → WordTree → WordTree
+word_form free (Const n) = Const n
+word_form free (Var i) = free i
+word_form free (Bin op a b) = Bin op (word_form free a) (word_form free b)
+word_form free (Extend ext a) = Extend ext (word_form free a)
+word_form free (Load width m a) = Load width (MemVar 0) (word_form free a)
 
-abbrev pub word_class : (ℕ → ℕ) → WordTree → ℕ
-word_class free (Const n) = mixed 1 n 0
-word_class free (Var i) = free i
-word_class free (Bin op a b) = mixed 2 (word_class free a) (word_class free b)
-word_class free (Extend ext a) = mixed 3 (word_class free a) (word_class free a)
-word_class free (Load width m a) = mixed 4 (word_class free a) (word_class free a)
+abbrev pub cond_form : (ℕ → WordTree) → CondTree → CondTree
+cond_form free (Compare cmp a b) = Compare cmp (word_form free a) (word_form free b)
+cond_form free (Neg c) = Neg (cond_form free c)
+cond_form free (Inside width m a) = Inside width (MemVar 0) (word_form free a)
 
-abbrev pub cond_class : (ℕ → ℕ) → CondTree → ℕ
-cond_class free (Compare cmp a b) = mixed 5 (word_class free a) (word_class free b)
-cond_class free (Neg c) = mixed 6 (cond_class free c) (cond_class free c)
-cond_class free (Inside width m a) = mixed 7 (word_class free a) (word_class free a)
+abbrev pub tree_form : (ℕ → WordTree) → Tree → Tree
+tree_form free (OfWord t) = OfWord (word_form free t)
+tree_form free (OfMem m) = OfMem (MemVar 0)
+tree_form free (OfCond c) = OfCond (cond_form free c)
 
--- memories don't count
-abbrev pub tree_class : (ℕ → ℕ) → Option Tree → ℕ
-tree_class free (Some (OfWord t)) = word_class free t
-tree_class free (Some (OfMem m)) = 0
-tree_class free (Some (OfCond c)) = cond_class free c
-tree_class free None = 0
+-- that of a number's term
+abbrev pub form_at : (ℕ → WordTree) → Option Tree → Option Tree
+form_at free (Some t) = Some (tree_form free t)
+form_at free None = None
 
--- the two words of each stated equation have one class
-pub record AreOneClass (free : ℕ → ℕ) (facts : List FactTree) : Type 0 where
-  pub each : (a b : WordTree) → Contains facts (WordIs a b) → word_class free a ≡ word_class free b
+-- the two words of each stated equation have one form
+pub record AreOneForm (free : ℕ → WordTree) (facts : List FactTree) : Type 0 where
+  pub each : (a b : WordTree) → Contains facts (WordIs a b) → word_form free a ≡ word_form free b
 
 -- ---- what it is made of
 
-abbrev pub form_of : Node → Form
-form_of (node.Const n) = form.Fixed (mixed 1 n 0)
-form_of (node.WordVar i) = form.Variable i
-form_of (node.Bin op a b) = form.Over 2 a b
-form_of (node.Extend ext a) = form.Over 3 a a
-form_of (node.Load width m a) = form.Over 4 a a
-form_of (node.Compare cmp a b) = form.Over 5 a b
-form_of (node.Neg c) = form.Over 6 c c
-form_of (node.Inside width m a) = form.Over 7 a a
-form_of (node.MemVar i) = form.Fixed 0
-form_of (node.Store width m a v) = form.Fixed 0
+abbrev pub parts_of : Node → Parts
+parts_of (node.Const n) = parts.Alone (node.Const n)
+parts_of (node.WordVar i) = parts.Variable i
+parts_of (node.Bin op a b) = parts.Over (node.Bin op a b) a b
+parts_of (node.Extend ext a) = parts.Over (node.Extend ext a) a a
+parts_of (node.Load width m a) = parts.Over (node.Load width m a) a a
+parts_of (node.Compare cmp a b) = parts.Over (node.Compare cmp a b) a b
+parts_of (node.Neg c) = parts.Over (node.Neg c) c c
+parts_of (node.Inside width m a) = parts.Over (node.Inside width m a) a a
+parts_of (node.MemVar i) = parts.Alone (node.MemVar 0)
+parts_of (node.Store width m a v) = parts.Alone (node.MemVar 0)
+
+-- the node over other words or another condition, and over the memory of the number 0
+abbrev pub node_over : Node → ℕ → ℕ → Node
+node_over (node.Bin op x y) a b = node.Bin op a b
+node_over (node.Extend ext x) a b = node.Extend ext a
+node_over (node.Load width m x) a b = node.Load width 0 a
+node_over (node.Compare cmp x y) a b = node.Compare cmp a b
+node_over (node.Neg c) a b = node.Neg a
+node_over (node.Inside width m x) a b = node.Inside width 0 a
+node_over n a b = n
+
+-- .. if both are known
+abbrev pub class_node : Node → Option ℕ → Option ℕ → Option Node
+class_node n (Some a) (Some b) = Some (node_over n a b)
+class_node n a b = None
+
+-- that node's form has the number, where it is known
+abbrev pub IsFormOver : List Node → List Node → Option Node → ℕ → Type 0
+IsFormOver old new (Some n) k = tree_of new k ≡ Some (tree_over (trees_of old) n)
+IsFormOver old new None k = ⊥
 
 -- the list has each subterm of both
 abbrev pub HasTwoTerms : List Node → ℕ → ℕ → List Tree → Type 0
 HasTwoTerms ns a b ts = HasTerm ns a ts × HasTerm ns b ts
 
--- the class of a kind of terms over two
-pub record IsOverTwo (ns : List Node) (x kind a b : ℕ) : Type 0 where
+-- all memories are the one of the number 0
+abbrev pub HasMemory : List Node → Type 0
+HasMemory forms = tree_of forms 0 ≡ Some (OfMem (MemVar 0))
+
+-- the form of the number's term is that node's, whose children aren't asked for
+pub record IsAlone (ns : List Node) (x : ℕ) (n : Node) : Type 0 where
+  pub children : (forms : List Node) → AreChildren forms n
+  pub form : (free : ℕ → WordTree) (forms : List Node) → form_at free (tree_of ns x) ≡ Some (tree_over (trees_of forms) n)
+
+-- .. is that node over the forms of two terms
+pub record IsOver (ns : List Node) (x : ℕ) (n : Node) (a b : ℕ) : Type 0 where
   pub first : a < x
   pub second : b < x
-  pub class : (free : ℕ → ℕ) → tree_class free (tree_of ns x) ≡ mixed kind (tree_class free (tree_of ns a)) (tree_class free (tree_of ns b))
   pub under : (ts : List Tree) → HasTerm ns x ts → HasTwoTerms ns a b ts
+  pub children : (free : ℕ → WordTree) (forms : List Node) (v w : ℕ) → HasMemory forms → tree_of forms v ≡ form_at free (tree_of ns a) → tree_of forms w ≡ form_at free (tree_of ns b)
+      → AreChildren forms (node_over n v w)
+  pub form : (free : ℕ → WordTree) (forms : List Node) (v w : ℕ) → HasMemory forms → tree_of forms v ≡ form_at free (tree_of ns a) → tree_of forms w ≡ form_at free (tree_of ns b)
+      → form_at free (tree_of ns x) ≡ Some (tree_over (trees_of forms) (node_over n v w))
 
-abbrev pub IsFormAt : List Node → ℕ → Form → Type 0
-IsFormAt ns x (form.Fixed v) = (free : ℕ → ℕ) → tree_class free (tree_of ns x) ≡ v
-IsFormAt ns x (form.Variable i) = tree_of ns x ≡ Some (OfWord (Var i))
-IsFormAt ns x (form.Over kind a b) = IsOverTwo ns x kind a b
-
-abbrev pub mixed_of : ℕ → Option ℕ → Option ℕ → Option ℕ
-mixed_of kind (Some a) (Some b) = Some (mixed kind a b)
-mixed_of kind a b = None
+abbrev pub ArePartsAt : List Node → ℕ → Parts → Type 0
+ArePartsAt ns x (parts.Alone n) = IsAlone ns x n
+ArePartsAt ns x (parts.Variable i) = tree_of ns x ≡ Some (OfWord (Var i))
+ArePartsAt ns x (parts.Over n a b) = IsOver ns x n a b
 
 -- ---- what is known of classes
 
--- classes of variables; classes of numbers, where they are known
+-- classes of variables; classes of numbers, where they are known. A class is the number of a form
 abbrev pub Leaves : Type 0
 Leaves = BTreeMap ℕ ℕ
 
 abbrev pub Seen : Type 0
 Seen = BTreeMap ℕ (Option ℕ)
 
--- the variables that have a class have this one
-pub record Agrees (leaves : Leaves) (free : ℕ → ℕ) : Type 0 where
-  pub each : (i v : ℕ) → get nat_cmp leaves i ≡ Some v → free i ≡ v
+-- the one memory is there, and the forms of variables are words
+pub record AreForms (forms : List Node) (leaves : Leaves) : Type 0 where
+  pub memory : HasMemory forms
+  pub words : (i v : ℕ) → get nat_cmp leaves i ≡ Some v → IsWordAt forms v
 
--- each variable keeps its class
-pub record Grows (old new : Leaves) : Type 0 where
+-- the variables that have a class have this form
+pub record Agrees (forms : List Node) (leaves : Leaves) (free : ℕ → WordTree) : Type 0 where
+  pub each : (i v : ℕ) → get nat_cmp leaves i ≡ Some v → tree_of forms v ≡ Some (OfWord (free i))
+
+-- each form keeps its number, and each variable its class
+pub record Grows (forms more : List Node) (old new : Leaves) : Type 0 where
+  pub stay : Extends forms more
   pub each : (i v : ℕ) → get nat_cmp old i ≡ Some v → get nat_cmp new i ≡ Some v
 
--- that is the number's class, whatever those of other variables are
-pub record HasClass (ns : List Node) (leaves : Leaves) (x v : ℕ) : Type 0 where
-  pub is : (free : ℕ → ℕ) → Agrees leaves free → tree_class free (tree_of ns x) ≡ v
+-- that is the class of the number's term, whatever the forms of other variables are
+pub record HasClass (ns forms : List Node) (leaves : Leaves) (x v : ℕ) : Type 0 where
+  pub tree : Tree
+  pub there : tree_of ns x ≡ Some tree
+  pub is : (free : ℕ → WordTree) → Agrees forms leaves free → tree_of forms v ≡ Some (tree_form free tree)
 
 -- each class that is known is right
-pub record AreClassed (ns : List Node) (leaves : Leaves) (seen : Seen) : Type 0 where
-  pub each : (x v : ℕ) → get nat_cmp seen x ≡ Some (Some v) → HasClass ns leaves x v
+pub record AreClassed (ns forms : List Node) (leaves : Leaves) (seen : Seen) : Type 0 where
+  pub ready : AreForms forms leaves
+  pub each : (x v : ℕ) → get nat_cmp seen x ≡ Some (Some v) → HasClass ns forms leaves x v
 
 -- the class that an entry says
 abbrev pub class_found : Option (Option ℕ) → Option ℕ

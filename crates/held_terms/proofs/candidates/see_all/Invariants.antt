@@ -5,6 +5,6 @@ use Rattle.held_terms.proofs.candidates.see_all.Given as goal
 
 abbrev pub invariant-loop-fact : goal.invariant-loop-fact
 invariant-loop-fact g l = record {
-  classed : AreClassed l.arena l.leaves l.classes;
+  classed : AreClassed l.arena l.forms l.leaves l.classes;
   searched : Searched l.arena (HasFacts l.arena l.facts) l.fn.classes l.classes l.fn.steps l.steps;
 }

@@ -1,5 +1,5 @@
 use Rattle.std.proofs.Common.{◌+◌, sym, ◌∙◌}
-use Rattle.held_terms.proofs.ClassLemmas.{classed_still, tree_there}
+use Rattle.held_terms.proofs.ClassLemmas.{class_alone, classed_more, classed_still, grows_both, grows_forms, over_children, over_class, tree_there}
 use Rattle.held_terms.proofs.FindLemmas.{searched_begun, searched_first, searched_kept, searched_next, searched_same}
 use Rattle.held_terms.proofs.classes.+classes.Goals as goal
 
@@ -19,20 +19,55 @@ class_of-returns-clause-searched g t c =
 
 pub class_over-returns-in_err-first-in-Over-clause-searched : goal.class_over-returns-in_err-first-in-Over-clause-searched
 class_over-returns-in_err-first-in-Over-clause-searched g t c =
-    searched_first c.args.arena.now c.args.x c.in-Over.a c.args.seen.now c.class_of.new.seen c.args.steps.now c.read_form.new.steps c.class_of.new.steps c.read_form.ensures.steps (λ ts has. (c.in-Over.ensures.form.under ts has).0) c.class_of.ensures.searched
+    searched_first c.args.arena.now c.args.x c.in-Over.a c.args.seen.now c.class_of.new.seen c.args.steps.now c.read_parts.new.steps c.class_of.new.steps c.read_parts.ensures.steps (λ ts has. (c.in-Over.ensures.parts.under ts has).0) c.class_of.ensures.searched
 
 pub class_over-returns-in_err-second-in-Over-clause-searched : goal.class_over-returns-in_err-second-in-Over-clause-searched
 class_over-returns-in_err-second-in-Over-clause-searched g t c =
     searched_next c.args.arena.now c.args.x c.in-Over.b c.args.seen.now c.class_of.new.seen c.class_of-in-Over.new.seen (c.args.steps.now + 1) c.class_of.new.steps c.class_of-in-Over.new.steps
-    (searched_first c.args.arena.now c.args.x c.in-Over.a c.args.seen.now c.class_of.new.seen c.args.steps.now c.read_form.new.steps c.class_of.new.steps c.read_form.ensures.steps (λ ts has. (c.in-Over.ensures.form.under ts has).0) c.class_of.ensures.searched)
-    (λ ts has. (c.in-Over.ensures.form.under ts has).1) c.class_of-in-Over.ensures.searched
+    (searched_first c.args.arena.now c.args.x c.in-Over.a c.args.seen.now c.class_of.new.seen c.args.steps.now c.read_parts.new.steps c.class_of.new.steps c.read_parts.ensures.steps (λ ts has. (c.in-Over.ensures.parts.under ts has).0) c.class_of.ensures.searched)
+    (λ ts has. (c.in-Over.ensures.parts.under ts has).1) c.class_of-in-Over.ensures.searched
 
-pub class_over-returns-in_ok-second-in-Over-clause-searched : goal.class_over-returns-in_ok-second-in-Over-clause-searched
-class_over-returns-in_ok-second-in-Over-clause-searched g t c =
+pub class_over-returns-in_err-v-in-Over-clause-searched : goal.class_over-returns-in_err-v-in-Over-clause-searched
+class_over-returns-in_err-v-in-Over-clause-searched g t c =
     searched_next c.args.arena.now c.args.x c.in-Over.b c.args.seen.now c.class_of.new.seen c.class_of-in-Over.new.seen (c.args.steps.now + 1) c.class_of.new.steps c.class_of-in-Over.new.steps
-    (searched_first c.args.arena.now c.args.x c.in-Over.a c.args.seen.now c.class_of.new.seen c.args.steps.now c.read_form.new.steps c.class_of.new.steps c.read_form.ensures.steps (λ ts has. (c.in-Over.ensures.form.under ts has).0) c.class_of.ensures.searched)
-    (λ ts has. (c.in-Over.ensures.form.under ts has).1) c.class_of-in-Over.ensures.searched
+    (searched_first c.args.arena.now c.args.x c.in-Over.a c.args.seen.now c.class_of.new.seen c.args.steps.now c.read_parts.new.steps c.class_of.new.steps c.read_parts.ensures.steps (λ ts has. (c.in-Over.ensures.parts.under ts has).0) c.class_of.ensures.searched)
+    (λ ts has. (c.in-Over.ensures.parts.under ts has).1) c.class_of-in-Over.ensures.searched
+
+pub class_over-returns-in_ok-v-in-Over-clause-searched : goal.class_over-returns-in_ok-v-in-Over-clause-searched
+class_over-returns-in_ok-v-in-Over-clause-searched g t c =
+    searched_next c.args.arena.now c.args.x c.in-Over.b c.args.seen.now c.class_of.new.seen c.class_of-in-Over.new.seen (c.args.steps.now + 1) c.class_of.new.steps c.class_of-in-Over.new.steps
+    (searched_first c.args.arena.now c.args.x c.in-Over.a c.args.seen.now c.class_of.new.seen c.args.steps.now c.read_parts.new.steps c.class_of.new.steps c.read_parts.ensures.steps (λ ts has. (c.in-Over.ensures.parts.under ts has).0) c.class_of.ensures.searched)
+    (λ ts has. (c.in-Over.ensures.parts.under ts has).1) c.class_of-in-Over.ensures.searched
 
 pub class_over-returns-in_ok-v-in-Variable-clause-seen : goal.class_over-returns-in_ok-v-in-Variable-clause-seen
 class_over-returns-in_ok-v-in-Variable-clause-seen g t c =
-    classed_still c.args.arena.now c.args.leaves.now c.class_of_variable.new.leaves c.args.seen.now c.in_ok-v-in-Variable.ensures.grows c.requires.seen
+    classed_still c.args.arena.now c.args.forms.now c.class_of_variable.new.forms c.args.leaves.now c.class_of_variable.new.leaves c.args.seen.now c.in_ok-v-in-Variable.ensures.grows c.in_ok-v-in-Variable.ensures.forms c.requires.seen
+
+pub class_over-add_form-requires : goal.class_over-add_form-requires
+class_over-add_form-requires g t c = c.in-Alone.ensures.parts.children c.args.forms.now
+
+pub class_over-returns-in_ok-v-in-Alone-clause-class : goal.class_over-returns-in_ok-v-in-Alone-clause-class
+class_over-returns-in_ok-v-in-Alone-clause-class g t c =
+    class_alone c.args.arena.now c.args.forms.now c.add_form.new.forms c.args.leaves.now c.args.x c.in_ok-v-in-Alone.v c.in-Alone.n c.requires.there c.in-Alone.ensures.parts c.in_ok-v-in-Alone.ensures.tree
+
+pub class_over-returns-in_ok-v-in-Alone-clause-seen : goal.class_over-returns-in_ok-v-in-Alone-clause-seen
+class_over-returns-in_ok-v-in-Alone-clause-seen g t c =
+    classed_more c.args.arena.now c.args.forms.now c.add_form.new.forms c.args.leaves.now c.args.seen.now c.add_form.ensures.grows c.requires.seen
+
+pub class_over-class_with-requires : goal.class_over-class_with-requires
+class_over-class_with-requires g t c =
+    over_children c.args.arena.now c.class_of.new.forms c.class_of-in-Over.new.forms c.class_of.new.leaves c.class_of-in-Over.new.leaves c.args.x c.in-Over.n c.in-Over.a c.in-Over.b c.in-Over.ensures.parts c.in_ok-first-in-Over.ensures.seen.ready c.in_ok-second-in-Over.ensures.seen.ready c.in_ok-second-in-Over.ensures.grows c.in_ok-first-in-Over.first c.in_ok-second-in-Over.second c.in_ok-first-in-Over.ensures.class c.in_ok-second-in-Over.ensures.class
+
+pub class_over-returns-in_ok-v-in-Over-clause-class : goal.class_over-returns-in_ok-v-in-Over-clause-class
+class_over-returns-in_ok-v-in-Over-clause-class g t c =
+    over_class c.args.arena.now c.class_of.new.forms c.class_of-in-Over.new.forms c.class_of.new.leaves c.class_of-in-Over.new.leaves c.args.x c.in-Over.n c.in-Over.a c.in-Over.b c.in-Over.ensures.parts c.in_ok-first-in-Over.ensures.seen.ready c.in_ok-second-in-Over.ensures.seen.ready c.in_ok-second-in-Over.ensures.grows c.class_with.new.forms c.requires.there c.class_with.ensures.grows c.in_ok-first-in-Over.first c.in_ok-second-in-Over.second c.in_ok-v-in-Over.v c.in_ok-first-in-Over.ensures.class c.in_ok-second-in-Over.ensures.class c.in_ok-v-in-Over.ensures.class
+
+pub class_over-returns-in_ok-v-in-Over-clause-seen : goal.class_over-returns-in_ok-v-in-Over-clause-seen
+class_over-returns-in_ok-v-in-Over-clause-seen g t c =
+    classed_more c.args.arena.now c.class_of-in-Over.new.forms c.class_with.new.forms c.class_of-in-Over.new.leaves c.class_of-in-Over.new.seen c.class_with.ensures.grows c.in_ok-second-in-Over.ensures.seen
+
+pub class_over-returns-in_ok-v-in-Over-clause-grows : goal.class_over-returns-in_ok-v-in-Over-clause-grows
+class_over-returns-in_ok-v-in-Over-clause-grows g t c =
+    grows_both c.args.forms.now c.class_of-in-Over.new.forms c.class_with.new.forms c.args.leaves.now c.class_of-in-Over.new.leaves c.class_of-in-Over.new.leaves
+    (grows_both c.args.forms.now c.class_of.new.forms c.class_of-in-Over.new.forms c.args.leaves.now c.class_of.new.leaves c.class_of-in-Over.new.leaves c.in_ok-first-in-Over.ensures.grows c.in_ok-second-in-Over.ensures.grows)
+    (grows_forms c.class_of-in-Over.new.forms c.class_with.new.forms c.class_of-in-Over.new.leaves c.class_with.ensures.grows)
