@@ -184,6 +184,14 @@ def listed_variables(n):
     return words([FENCE]), text(*LEAVES, STEP, states("weaken 0", facts), states(f"inst 1 {pairs}", facts)), CHECK
 
 
+@family(8000)
+def crowded_constants(n):
+    """n constants that all fall into one slot of the table of terms."""
+    inverse = pow(11400714819323198485, -1, 1 << 64)
+    facts = " ".join(f"(is v0 {i * inverse % (1 << 64):#x})" for i in range(n))
+    return words([FENCE]), text(*LEAVES, STEP, states("weaken 0", facts)), CHECK
+
+
 # ---- `check`: code, theorems, groups
 
 

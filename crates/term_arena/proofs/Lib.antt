@@ -1,5 +1,6 @@
 pub mod Places
 pub mod ChainLemmas
+pub mod CrowdedLemmas
 pub mod PlaceLemmas
 pub mod TreeNodes
 pub mod TreeLemmas

@@ -3,6 +3,7 @@
 
 mod arena;
 mod chains;
+mod crowded;
 mod intern;
 mod laws;
 mod leaves;
