@@ -210,6 +210,31 @@ def code_of_lines(n):
     return TURN, text(AGAIN, "again ;", first, states("extend 0", behind=ENTRY), *composed, code=(TURN * n).hex()), CHECK
 
 
+# ---- `check` of version 2, in which a line states what it computes
+
+
+def short_text(terms, lines):
+    """A text of version 2 of a function that jumps to itself, with the terms `t1` on behind the address `t0`."""
+    head = ["mcproof 2", "group f", "regs", "mems 0", f"code ({ENTRY} {TURN.hex()})", AGAIN, "again ;", f"term {ENTRY}"]
+    return "\n".join([*head, *(f"term {it}" for it in terms), f"axiom {ENTRY} {jump(0):#x} next", *lines, "end", ""])
+
+
+@family(500)
+def extended_facts(n):
+    """A theorem of n facts, and n lines that state it again."""
+    lines = [f"weaken 0 facts {each(n, '(is t{0} t{0})').replace('t0', f't{n}')} post (t0 ;)", *["extend 1 code all"] * n]
+    return TURN, short_text([f"{i:#x}" for i in range(n)], lines), CHECK
+
+
+@family(1 << 14, "NUMBER")
+def doubled_facts(n):
+    """A theorem of n facts, the power of 2 that isn't above n: each two lines double them, by an instance that is put behind."""
+    many = n.bit_length() - 1
+    terms = ["0x0", "v0", *(it for i in range(many) for it in (f"{1 << i:#x}", f"(add t2 t{2 * i + 3})"))]
+    lines = [f"inst {2 * i + 1} (v0 t{2 * i + 4})\ncompose {2 * i + 1} {2 * i + 2}" for i in range(many)]
+    return TURN, short_text(terms, ["weaken 0 facts (is t2 t1) post (t0 ;)", *lines]), CHECK
+
+
 @family(100_000)
 def theorems(n):
     """n axioms, all kept."""
