@@ -162,6 +162,13 @@ def one_class(n):
     return words([FENCE]), text(*LEAVES, STEP, states("weaken 0", facts), states("discharge 1", f"(is v0 0x0) {others}")), CHECK
 
 
+@family(500)
+def one_form(n):
+    """n conditions that differ in their memories alone, each of which follows from another by an equation."""
+    facts, others = (each(n, f"(so (eq (ld8 m{{0}} {word}) v2))") for word in ("v0", "0x0"))
+    return words([FENCE]), text(*LEAVES, STEP, states("weaken 0", facts), states("discharge 1", f"(is v0 0x0) {others}")), CHECK
+
+
 @family(4000)
 def swapped_terms(n):
     """n terms that are swapped by n equations."""
