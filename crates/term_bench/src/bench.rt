@@ -38,6 +38,10 @@ use tailrec_lang::Group;
 use term_arena::{Arena, Node, Steps};
 use triple_kernel::{RuleFault, Triple};
 
+/// How many facts the theorems of a group have together, those that are forgotten too: more than a text of version 1 within the limit
+/// of a file can state. In version 2 two lines can double the facts of a theorem.
+const FACTS_LIMIT: u64 = 1 << 25;
+
 /// Judges the lines of a group's proof, one after the other. It keeps their terms once each, how deep they are, as far as that
 /// was asked, room for the images that an instance makes, the theorems that can still be cited as numbers of terms, which
 /// definitions are closed, and the group's code, for theorems to share. A theorem that is forgotten leaves no place behind it,
@@ -50,6 +54,8 @@ pub struct Bench<'g> {
     images: ImageTable,
     held: BTreeMap<u64, Held>,
     next: u64,
+    /// How many facts theorems had so far.
+    facts: u64,
     closed: List<bool>,
     code: SharedCode,
 }
@@ -91,6 +97,7 @@ impl<'g> Bench<'g> {
             images: ImageTable::new(alloc),
             held: BTreeMap::new(alloc),
             next: 0,
+            facts: 0,
             closed,
             code,
         })
@@ -423,8 +430,13 @@ impl<'g> Bench<'g> {
         let Some(next) = self.next.checked_add(1) else {
             return Err(NoMemory);
         };
+        let facts = self.facts.saturating_add(h.facts.len() as u64);
+        if facts > FACTS_LIMIT {
+            return Err(NoMemory);
+        }
         self.held.insert(self.next, h)?;
         self.next = next;
+        self.facts = facts;
         Ok(())
     }
 
