@@ -1,6 +1,6 @@
--- Classes of words and conditions.
+-- Classes of words, memories and conditions.
 use Rattle.std.proofs.Common.{◌≡◌, ◌⊎◌, ℕ, suc, ◌+◌, ◌<◌, ◌≤◌, Bool, true, false, List, [], ◌∷◌, ◌++◌, Option, Some, None, get_or, length, map, take, take_all, refl, ap, sym, ◌∙◌, subst, inl, inr, arith}
-use Rattle.std.specs.Prelude.{◌↔◌, ◌==◌, All, IfSome}
+use Rattle.std.specs.Prelude.{◌↔◌, ◌==◌, All, IfSome, option_map, unwrap_or}
 use Rattle.std.proofs.lemmas.Bool.{eqb-false, eqb-true}
 use Rattle.std.specs.List.{Contains}
 use Rattle.std.specs.BTreeMap.{BTreeMap, Updates, get, is_at}
@@ -8,55 +8,111 @@ use Rattle.std.specs.Map.{lookup}
 use Rattle.std.specs.Ordering.{nat_cmp}
 use Rattle.std.proofs.lemmas.List.{append-nil}
 use Rattle.std.proofs.lemmas.List.Elements.{All-cons, All-contains, All-more, All-nil, All-weaker, Contains-append_left, Contains-push_cases}
-use Rattle.word_terms.specs.Tree.{WordTree, CondTree, Const, Var, Bin, Extend, Load, MemVar, Compare, Neg, Inside}
+use Rattle.word_terms.specs.Tree.{WordTree, MemTree, CondTree, Const, Var, Bin, Extend, Load, MemVar, Store, Compare, Neg, Inside}
+use Rattle.word_terms.specs.Substitution.{Substitution, put_in_word, put_in_mem}
 use Rattle.term_arena.specs.declared.node.Node.{Node}
 use Rattle.term_arena.specs.declared.node.Node.TheVariants as node
-use Rattle.term_arena.specs.Arena.{Tree, OfWord, OfCond, tree_of, trees_of, tree_over, as_word, as_mem, as_cond, word_of, mem_of, cond_of, IsWordAt, IsCondAt, AreChildren, AreBelow, Extends, IsArena, Was_there, Is_next}
-use Rattle.term_arena.specs.Arena.{IsAdded as IsAddedNode}
+use Rattle.term_arena.specs.Arena.{Tree, OfWord, OfMem, OfCond, tree_of, trees_of, tree_over, as_word, as_mem, as_cond, word_of, mem_of, cond_of, IsWordAt, IsMemAt, IsCondAt, AreChildren, AreBelow, Extends, IsArena}
 use Rattle.term_arena.proofs.Places.{at_contains, at_place, at_read, at-map, at-push, contains_at, map-at}
 use Rattle.term_arena.proofs.PutLemmas.{tree_stays}
-use Rattle.term_arena.proofs.TreeLemmas.{cond_there, length-trees, mem_there, one_number, word_there}
-use Rattle.triple_kernel.specs.Tree.{FactTree, WordIs, So}
-use Rattle.triple_kernel.specs.Swap.{SwapWord, WordsStated}
-use Rattle.triple_kernel.specs.Rules.{Alike}
+use Rattle.term_arena.proofs.TreeLemmas.{cond_there, length-trees, mem_there, number_within, one_number, word_there}
+use Rattle.triple_kernel.specs.Tree.{FactTree, WordIs, MemIs, So}
+use Rattle.triple_kernel.specs.Swap.{SwapWord, SwapMem, WordsStated, MemsStated}
+use Rattle.triple_kernel.specs.Rules.{Alike, SameAddresses, before_stores}
+use Rattle.held_terms.specs.declared.classes.Children.{Children}
+use Rattle.held_terms.specs.declared.classes.Class.{Class}
+use Rattle.held_terms.specs.declared.classes.Leaves.{Leaves}
+use Rattle.held_terms.specs.declared.classes.Variable.{Variable}
+use Rattle.held_terms.specs.declared.classes.Variable.TheVariants as variable
 use Rattle.held_terms.specs.declared.held.HeldFact.{HeldFact}
 use Rattle.held_terms.specs.declared.held.HeldFact.TheVariants as held
 use Rattle.held_terms.specs.Held.{AreFactsAt, IsFactAt, fact_of}
 use Rattle.held_terms.specs.Subterms.{HasFact, HasFacts}
-use Rattle.held_terms.specs.inner.Classes.{Agrees, AreClassed, AreForms, AreFrom, AreOneForm, ArePartsAt, AreSame, Grows, HasClass, HasMemory, IsAdded, IsAgreed, IsAlone, IsFactListed, IsFormOver, IsListed, IsOver, Leaves, Lists, Narrows, Seen, class_found, class_node, cond_form, form_at, listed, node_over, parts_of, tree_form, word_form}
+use Rattle.held_terms.specs.inner.Classes.{Agrees, AreClassed, AreClasses, AreForms, AreFrom, AreOneForm, AreOneKind, ArePartsAt, AreSame, Grows, HasClass, HasLeaf, IsAdded, IsAgreed, IsClass, IsClassOver, IsFactListed, IsLeaf, IsListed, IsOver, IsWanted, Lists, Narrows, Seen, all_known, class_found, cond_form, form_at, leaf_of, listed, node_over, parts_of, tree_base, tree_form, variable_tree}
 use Rattle.held_terms.proofs.FindLemmas.{find_cases, find_there, other_find}
-use Rattle.held_terms.proofs.ImageLemmas.{word_still}
 use Rattle.held_terms.proofs.ImagingLemmas.{children_under}
 use Rattle.held_terms.proofs.InstanceLemmas.{extends_next}
 
 -- ---- terms that facts let stand for one another have one form
 
-module _ (facts : List FactTree) (free : ℕ → WordTree) (one : AreOneForm free facts) where
-  stated-form : (a b : WordTree) → WordsStated facts a b → word_form free a ≡ word_form free b
-  stated-form a b (inl e) = ap (word_form free) e
-  stated-form a b (inr (inl c)) = one.each a b c
-  stated-form a b (inr (inr c)) = sym (one.each b a c)
+-- the form of a memory is one over that of the memory before its outer stores
+base-form : (s : Substitution) (m : MemTree) → before_stores (put_in_mem s (before_stores m)) ≡ before_stores (put_in_mem s m)
+base-form s (MemVar i) = refl
+base-form s (Store width m a v) = base-form s m
 
-  swap-form : (a b : WordTree) → SwapWord facts a b → word_form free a ≡ word_form free b
-  swap-form (Const n) b h = stated-form (Const n) b h
-  swap-form (Var i) b h = stated-form (Var i) b h
-  swap-form (Bin op x y) b (inl h) = stated-form (Bin op x y) b h
-  swap-form (Bin op x y) (Bin o u v) (inr h) = λ i. Bin (h.0 i) (swap-form x u h.1 i) (swap-form y v h.2 i)
-  swap-form (Bin op x y) b (inr h) = absurd h
-  swap-form (Extend ext x) b (inl h) = stated-form (Extend ext x) b h
-  swap-form (Extend ext x) (Extend e u) (inr h) = λ i. Extend (h.0 i) (swap-form x u h.1 i)
-  swap-form (Extend ext x) b (inr h) = absurd h
-  swap-form (Load width m x) b (inl h) = stated-form (Load width m x) b h
-  swap-form (Load width m x) (Load w q u) (inr h) = λ i. Load (h.0 i) (MemVar 0) (swap-form x u h.2 i)
-  swap-form (Load width m x) b (inr h) = absurd h
+module _ (facts : List FactTree) (s : Substitution) (one : AreOneForm s facts) where
+  stated-word : (a b : WordTree) → WordsStated facts a b → put_in_word s a ≡ put_in_word s b
+  stated-word a b (inl e) = ap (put_in_word s) e
+  stated-word a b (inr (inl c)) = one.words a b c
+  stated-word a b (inr (inr c)) = sym (one.words b a c)
 
-  pub alike_form : (c d : CondTree) → Alike facts c d → cond_form free c ≡ cond_form free d
-  alike_form (Compare cmp x y) (Compare o u v) h = λ i. Compare (h.0 i) (swap-form x u h.1 i) (swap-form y v h.2 i)
+  stated-mem : (m n : MemTree) → MemsStated facts m n → put_in_mem s m ≡ put_in_mem s n
+  stated-mem m n (inl e) = ap (put_in_mem s) e
+  stated-mem m n (inr (inl c)) = one.mems m n c
+  stated-mem m n (inr (inr c)) = sym (one.mems n m c)
+
+  mutual
+    swap-word : (a b : WordTree) → SwapWord facts a b → put_in_word s a ≡ put_in_word s b
+    swap-word (Const n) b h = stated-word (Const n) b h
+    swap-word (Var i) b h = stated-word (Var i) b h
+    swap-word (Bin op x y) b (inl h) = stated-word (Bin op x y) b h
+    swap-word (Bin op x y) (Bin o u v) (inr h) = λ i. Bin (h.0 i) (swap-word x u h.1 i) (swap-word y v h.2 i)
+    swap-word (Bin op x y) b (inr h) = absurd h
+    swap-word (Extend ext x) b (inl h) = stated-word (Extend ext x) b h
+    swap-word (Extend ext x) (Extend e u) (inr h) = λ i. Extend (h.0 i) (swap-word x u h.1 i)
+    swap-word (Extend ext x) b (inr h) = absurd h
+    swap-word (Load width m x) b (inl h) = stated-word (Load width m x) b h
+    swap-word (Load width m x) (Load w n u) (inr h) = λ i. Load (h.0 i) (swap-mem m n h.1 i) (swap-word x u h.2 i)
+    swap-word (Load width m x) b (inr h) = absurd h
+
+    swap-mem : (m n : MemTree) → SwapMem facts m n → put_in_mem s m ≡ put_in_mem s n
+    swap-mem (MemVar i) n h = stated-mem (MemVar i) n h
+    swap-mem (Store width m x y) n (inl h) = stated-mem (Store width m x y) n h
+    swap-mem (Store width m x y) (Store w n u v) (inr h) = λ i. Store (h.0 i) (swap-mem m n h.1 i) (swap-word x u h.2 i) (swap-word y v h.3 i)
+    swap-mem (Store width m x y) n (inr h) = absurd h
+
+  same-base : (m n : MemTree) → SameAddresses facts m n → before_stores (put_in_mem s m) ≡ before_stores (put_in_mem s n)
+  same-base m n (inl h) = ap before_stores (swap-mem m n h)
+  same-base m n (inr h) = sym (base-form s m) ∙ ap before_stores (swap-mem (before_stores m) (before_stores n) h) ∙ base-form s n
+
+  pub alike_form : (c d : CondTree) → Alike facts c d → cond_form s c ≡ cond_form s d
+  alike_form (Compare cmp x y) (Compare o u v) h = λ i. Compare (h.0 i) (swap-word x u h.1 i) (swap-word y v h.2 i)
   alike_form (Compare cmp x y) d h = absurd h
   alike_form (Neg x) (Neg u) h = λ i. Neg (alike_form x u h i)
   alike_form (Neg x) d h = absurd h
-  alike_form (Inside width m x) (Inside w q u) h = λ i. Inside (h.0 i) (MemVar 0) (swap-form x u h.2 i)
+  alike_form (Inside width m x) (Inside w n u) h = λ i. Inside (h.0 i) (same-base m n h.1 i) (swap-word x u h.2 i)
   alike_form (Inside width m x) d h = absurd h
+
+-- ---- classes of forms
+
+-- of a form that is no store
+class-alone : (forms : List Node) (c : Class) (form : Option Tree) (t : Tree) → c.base ≡ c.form → tree_of forms c.form ≡ Some t → form ≡ Some t → tree_base (Some t) ≡ Some t → IsClass forms c form
+class-alone forms c form t same h e plain = record { form = h ∙ sym e; base = ap (tree_of forms) same ∙ h ∙ sym plain ∙ ap tree_base (sym e) }
+
+class-stays : (forms more : List Node) (c : Class) (t : Tree) → Extends forms more → IsClass forms c (Some t) → IsClass more c (Some t)
+class-stays forms more c (OfWord t) e is = record { form = tree_stays forms more c.form _ e is.form; base = tree_stays forms more c.base _ e is.base }
+class-stays forms more c (OfMem m) e is = record { form = tree_stays forms more c.form _ e is.form; base = tree_stays forms more c.base _ e is.base }
+class-stays forms more c (OfCond d) e is = record { form = tree_stays forms more c.form _ e is.form; base = tree_stays forms more c.base _ e is.base }
+
+module _ (forms : List Node) (c : Class) where
+  word-leaf : (i : ℕ) (t : WordTree) → IsClass forms c (Some (OfWord t)) → IsLeaf forms (variable.Word i) c
+  word-leaf i t is = record { form = word_there forms c.form t is.form; base = is.base ∙ sym (ap (λ o. Some (OfWord (as_word o))) is.form) }
+
+  mem-leaf : (i : ℕ) (m : MemTree) → IsClass forms c (Some (OfMem m)) → IsLeaf forms (variable.Mem i) c
+  mem-leaf i m is = record { form = mem_there forms c.form m is.form; base = is.base ∙ sym (ap (λ o. Some (OfMem (before_stores (as_mem o)))) is.form) }
+
+  leaf-tree : (v : Variable) → IsLeaf forms v c → (t : Tree) × IsClass forms c (Some t)
+  leaf-tree (variable.Word i) is = (OfWord (word_of forms c.form), is)
+  leaf-tree (variable.Mem i) is = (OfMem (mem_of forms c.form), is)
+
+  -- that of a variable that has its own
+  pub own_leaf : (v : Variable) → c.base ≡ c.form → tree_of forms c.form ≡ Some (variable_tree v) → IsLeaf forms v c
+  own_leaf (variable.Word i) same h = word-leaf i (Var i) (class-alone forms c _ (OfWord (Var i)) same h refl refl)
+  own_leaf (variable.Mem i) same h = mem-leaf i (MemVar i) (class-alone forms c _ (OfMem (MemVar i)) same h refl refl)
+
+leaf-still : (forms more : List Node) (v : Variable) (c : Class) → Extends forms more → IsLeaf forms v c → IsLeaf more v c
+leaf-still forms more (variable.Word i) c e is = word-leaf more c i _ (class-stays forms more c _ e is)
+leaf-still forms more (variable.Mem i) c e is = mem-leaf more c i _ (class-stays forms more c _ e is)
 
 -- ---- what the form of a number's term is made of
 
@@ -68,224 +124,310 @@ module _ (ns : List Node) where
   tree_there x low = let l = length-trees ns in let here : x < length (trees_of ns) = omega (arith, low, l) in at_place (trees_of ns) x here
 
   -- the form of a child
-  module _ (free : ℕ → WordTree) (forms : List Node) (v a : ℕ) (is : tree_of forms v ≡ form_at free (tree_of ns a)) where
-    word-there : IsWordAt ns a → IsWordAt forms v
-    word-there h = word_there forms v _ (is ∙ ap (form_at free) h)
+  module _ (s : Substitution) (forms : List Node) (k : Class) (a : ℕ) (is : IsClass forms k (form_at s (tree_of ns a))) where
+    word-there : IsWordAt ns a → IsWordAt forms k.form
+    word-there h = word_there forms k.form _ (is.form ∙ ap (form_at s) h)
 
-    cond-there : IsCondAt ns a → IsCondAt forms v
-    cond-there h = cond_there forms v _ (is ∙ ap (form_at free) h)
+    mem-there : IsMemAt ns a → IsMemAt forms k.form
+    mem-there h = mem_there forms k.form _ (is.form ∙ ap (form_at s) h)
 
-    word-form : IsWordAt ns a → word_form free (word_of ns a) ≡ word_of forms v
-    word-form h = sym (ap as_word (is ∙ ap (form_at free) h))
+    cond-there : IsCondAt ns a → IsCondAt forms k.form
+    cond-there h = cond_there forms k.form _ (is.form ∙ ap (form_at s) h)
 
-    cond-form : IsCondAt ns a → cond_form free (cond_of ns a) ≡ cond_of forms v
-    cond-form h = sym (ap as_cond (is ∙ ap (form_at free) h))
+    base-tree : IsMemAt ns a → tree_of forms k.base ≡ Some (OfMem (before_stores (put_in_mem s (mem_of ns a))))
+    base-tree h = is.base ∙ ap (λ o. tree_base (form_at s o)) h
 
-  mem-form : (forms : List Node) → HasMemory forms → MemVar 0 ≡ mem_of forms 0
-  mem-form forms m = sym (ap as_mem m)
+    base-there : IsMemAt ns a → IsMemAt forms k.base
+    base-there h = mem_there forms k.base _ (base-tree h)
+
+    word-form : IsWordAt ns a → put_in_word s (word_of ns a) ≡ word_of forms k.form
+    word-form h = sym (ap as_word (is.form ∙ ap (form_at s) h))
+
+    mem-form : IsMemAt ns a → put_in_mem s (mem_of ns a) ≡ mem_of forms k.form
+    mem-form h = sym (ap as_mem (is.form ∙ ap (form_at s) h))
+
+    cond-form : IsCondAt ns a → cond_form s (cond_of ns a) ≡ cond_of forms k.form
+    cond-form h = sym (ap as_cond (is.form ∙ ap (form_at s) h))
+
+    mem-base : IsMemAt ns a → before_stores (put_in_mem s (mem_of ns a)) ≡ mem_of forms k.base
+    mem-base h = sym (ap as_mem (base-tree h))
 
   pub parts_fit : (x : ℕ) (n : Node) → Over n x → AreChildren ns n → AreBelow x n → ArePartsAt ns x (parts_of n)
-  parts_fit x (node.Const n) e h low = record { children = λ forms. tt; form = λ free forms. ap (form_at free) e }
+  parts_fit x (node.Const n) e h low = e
   parts_fit x (node.WordVar i) e h low = e
+  parts_fit x (node.MemVar i) e h low = e
   parts_fit x (node.Bin op a b) e h low = record {
     first = low.0;
     second = low.1;
-    under = λ ts has. let u = children_under ns x (node.Bin op a b) e h in (u.0 ts has, u.1 ts has);
-    children = λ free forms v w m hv hw. (word-there free forms v a hv h.0, word-there free forms w b hw h.1);
-    form = λ free forms v w m hv hw. ap (form_at free) e ∙ (λ i. Some (OfWord (Bin op (word-form free forms v a hv h.0 i) (word-form free forms w b hw h.1 i))));
+    third = low.1;
+    under = λ ts has. let u = children_under ns x (node.Bin op a b) e h in (u.0 ts has, u.1 ts has, u.1 ts has);
+    children = λ s forms k are. (word-there s forms k.first a are.first h.0, word-there s forms k.second b are.second h.1);
+    class = λ s old new k v are more is.
+        class-alone new v _ _ (ap (λ (c : Class). c.base) is.1) is.0 (ap (form_at s) e ∙ (λ i. Some (OfWord (Bin op (word-form s old k.first a are.first h.0 i) (word-form s old k.second b are.second h.1 i))))) refl;
   }
   parts_fit x (node.Extend ext a) e h low = record {
     first = low;
     second = low;
-    under = λ ts has. let u = children_under ns x (node.Extend ext a) e h in (u ts has, u ts has);
-    children = λ free forms v w m hv hw. word-there free forms v a hv h;
-    form = λ free forms v w m hv hw. ap (form_at free) e ∙ (λ i. Some (OfWord (Extend ext (word-form free forms v a hv h i))));
+    third = low;
+    under = λ ts has. let u = children_under ns x (node.Extend ext a) e h in (u ts has, u ts has, u ts has);
+    children = λ s forms k are. word-there s forms k.first a are.first h;
+    class = λ s old new k v are more is.
+        class-alone new v _ _ (ap (λ (c : Class). c.base) is.1) is.0 (ap (form_at s) e ∙ (λ i. Some (OfWord (Extend ext (word-form s old k.first a are.first h i))))) refl;
   }
   parts_fit x (node.Load width m a) e h low = record {
-    first = low.1;
+    first = low.0;
     second = low.1;
-    under = λ ts has. let u = children_under ns x (node.Load width m a) e h in (u.1 ts has, u.1 ts has);
-    children = λ free forms v w hm hv hw. (mem_there forms 0 (MemVar 0) hm, word-there free forms v a hv h.1);
-    form = λ free forms v w hm hv hw. ap (form_at free) e ∙ (λ i. Some (OfWord (Load width (mem-form forms hm i) (word-form free forms v a hv h.1 i))));
+    third = low.1;
+    under = λ ts has. let u = children_under ns x (node.Load width m a) e h in (u.0 ts has, u.1 ts has, u.1 ts has);
+    children = λ s forms k are. (mem-there s forms k.first m are.first h.0, word-there s forms k.second a are.second h.1);
+    class = λ s old new k v are more is.
+        class-alone new v _ _ (ap (λ (c : Class). c.base) is.1) is.0 (ap (form_at s) e ∙ (λ i. Some (OfWord (Load width (mem-form s old k.first m are.first h.0 i) (word-form s old k.second a are.second h.1 i))))) refl;
   }
-  parts_fit x (node.MemVar i) e h low = record { children = λ forms. tt; form = λ free forms. ap (form_at free) e }
-  parts_fit x (node.Store width m a v) e h low = record { children = λ forms. tt; form = λ free forms. ap (form_at free) e }
+  parts_fit x (node.Store width m a v) e h low = record {
+    first = low.0;
+    second = low.1;
+    third = low.2;
+    under = λ ts has. let u = children_under ns x (node.Store width m a v) e h in (u.0 ts has, u.1 ts has, u.2 ts has);
+    children = λ s forms k are. (mem-there s forms k.first m are.first h.0, word-there s forms k.second a are.second h.1, word-there s forms k.third v are.third h.2);
+    class = λ s old new k j are more is. record {
+      form = is.0 ∙ sym (ap (form_at s) e ∙ (λ i. Some (OfMem (Store width (mem-form s old k.first m are.first h.0 i) (word-form s old k.second a are.second h.1 i) (word-form s old k.third v are.third h.2 i)))));
+      base =
+          ap (λ (c : Class). tree_of new c.base) is.1 ∙ tree_stays old new k.first.base _ more (base-tree s old k.first m are.first h.0) ∙ sym (ap (λ o. tree_base (form_at s o)) e);
+    };
+  }
   parts_fit x (node.Compare cmp a b) e h low = record {
     first = low.0;
     second = low.1;
-    under = λ ts has. let u = children_under ns x (node.Compare cmp a b) e h in (u.0 ts has, u.1 ts has);
-    children = λ free forms v w m hv hw. (word-there free forms v a hv h.0, word-there free forms w b hw h.1);
-    form = λ free forms v w m hv hw. ap (form_at free) e ∙ (λ i. Some (OfCond (Compare cmp (word-form free forms v a hv h.0 i) (word-form free forms w b hw h.1 i))));
+    third = low.1;
+    under = λ ts has. let u = children_under ns x (node.Compare cmp a b) e h in (u.0 ts has, u.1 ts has, u.1 ts has);
+    children = λ s forms k are. (word-there s forms k.first a are.first h.0, word-there s forms k.second b are.second h.1);
+    class = λ s old new k v are more is.
+        class-alone new v _ _ (ap (λ (c : Class). c.base) is.1) is.0 (ap (form_at s) e ∙ (λ i. Some (OfCond (Compare cmp (word-form s old k.first a are.first h.0 i) (word-form s old k.second b are.second h.1 i))))) refl;
   }
   parts_fit x (node.Neg c) e h low = record {
     first = low;
     second = low;
-    under = λ ts has. let u = children_under ns x (node.Neg c) e h in (u ts has, u ts has);
-    children = λ free forms v w m hv hw. cond-there free forms v c hv h;
-    form = λ free forms v w m hv hw. ap (form_at free) e ∙ (λ i. Some (OfCond (Neg (cond-form free forms v c hv h i))));
+    third = low;
+    under = λ ts has. let u = children_under ns x (node.Neg c) e h in (u ts has, u ts has, u ts has);
+    children = λ s forms k are. cond-there s forms k.first c are.first h;
+    class = λ s old new k v are more is.
+        class-alone new v _ _ (ap (λ (c : Class). c.base) is.1) is.0 (ap (form_at s) e ∙ (λ i. Some (OfCond (Neg (cond-form s old k.first c are.first h i))))) refl;
   }
   parts_fit x (node.Inside width m a) e h low = record {
-    first = low.1;
+    first = low.0;
     second = low.1;
-    under = λ ts has. let u = children_under ns x (node.Inside width m a) e h in (u.1 ts has, u.1 ts has);
-    children = λ free forms v w hm hv hw. (mem_there forms 0 (MemVar 0) hm, word-there free forms v a hv h.1);
-    form = λ free forms v w hm hv hw. ap (form_at free) e ∙ (λ i. Some (OfCond (Inside width (mem-form forms hm i) (word-form free forms v a hv h.1 i))));
+    third = low.1;
+    under = λ ts has. let u = children_under ns x (node.Inside width m a) e h in (u.0 ts has, u.1 ts has, u.1 ts has);
+    children = λ s forms k are. (base-there s forms k.first m are.first h.0, word-there s forms k.second a are.second h.1);
+    class = λ s old new k v are more is.
+        class-alone new v _ _ (ap (λ (c : Class). c.base) is.1) is.0 (ap (form_at s) e ∙ (λ i. Some (OfCond (Inside width (mem-base s old k.first m are.first h.0 i) (word-form s old k.second a are.second h.1 i))))) refl;
   }
 
--- the first form has the number 0
-pub first_form : (n : Node) (k : ℕ) (forms : List Node) (t : Tree) → IsAddedNode [] n k forms → tree_of forms k ≡ Some t → tree_of forms 0 ≡ Some t
-first_form n k forms t (Was_there at same) e = let no : None ≡ Some n = at in cc
-first_form n k forms t (Is_next first is) e = ap (tree_of forms) (sym first) ∙ e
-
--- ---- what is known of classes
+-- ---- variables
 
 pub forms_none : (forms : List Node) → Extends forms forms
 forms_none forms = record { more = []; is = sym (append-nil forms) }
 
 pub grows_forms : (forms more : List Node) (l : Leaves) → Extends forms more → Grows forms more l l
-grows_forms forms more l e = record { stay = e; each = λ i v h. h }
+grows_forms forms more l e = record { stay = e; each = λ v c h. h }
 
 pub grows_none : (forms : List Node) (l : Leaves) → Grows forms forms l l
 grows_none forms l = grows_forms forms forms l (forms_none forms)
 
 pub grows_both : (forms more most : List Node) (old mid new : Leaves) → Grows forms more old mid → Grows more most mid new → Grows forms most old new
-grows_both forms more most old mid new g h = record { stay = extends_next forms more most g.stay h.stay; each = λ i v e. h.each i v (g.each i v e) }
+grows_both forms more most old mid new g h = record { stay = extends_next forms more most g.stay h.stay; each = λ v c e. h.each v c (g.each v c e) }
+
+-- where the class of a word's variable was written, of a memory's
+pub put_word : (old new : Leaves) (i : ℕ) (c : Class) → Updates nat_cmp old.words new.words i (Some c) → new.mems ≡ old.mems → HasLeaf old new (variable.Word i) c
+put_word old new i c u e = record { here = find_there old.words new.words i (Some c) u; keeps = keeps; from = from }
+  where
+    keeps : (w : Variable) (d : Class) → (w ≡ variable.Word i → ⊥) → leaf_of old w ≡ Some d → leaf_of new w ≡ Some d
+    keeps (variable.Word k) d other h = other_find old.words new.words i (Some c) k u (λ same. other (ap variable.Word same)) ∙ h
+    keeps (variable.Mem k) d other h = ap (λ (m : BTreeMap ℕ Class). get nat_cmp m k) e ∙ h
+
+    from : (w : Variable) (d : Class) → leaf_of new w ≡ Some d → ((w ≡ variable.Word i) × (d ≡ c)) ⊎ (leaf_of old w ≡ Some d)
+    from (variable.Word k) d h = elim (find_cases old.words new.words i c k d u h) [ inl here ↦ inl (ap variable.Word here.0, here.1) | inr there ↦ inr there.1 ]
+    from (variable.Mem k) d h = inr (sym (ap (λ (m : BTreeMap ℕ Class). get nat_cmp m k) e) ∙ h)
+
+pub put_mem : (old new : Leaves) (i : ℕ) (c : Class) → Updates nat_cmp old.mems new.mems i (Some c) → new.words ≡ old.words → HasLeaf old new (variable.Mem i) c
+put_mem old new i c u e = record { here = find_there old.mems new.mems i (Some c) u; keeps = keeps; from = from }
+  where
+    keeps : (w : Variable) (d : Class) → (w ≡ variable.Mem i → ⊥) → leaf_of old w ≡ Some d → leaf_of new w ≡ Some d
+    keeps (variable.Mem k) d other h = other_find old.mems new.mems i (Some c) k u (λ same. other (ap variable.Mem same)) ∙ h
+    keeps (variable.Word k) d other h = ap (λ (m : BTreeMap ℕ Class). get nat_cmp m k) e ∙ h
+
+    from : (w : Variable) (d : Class) → leaf_of new w ≡ Some d → ((w ≡ variable.Mem i) × (d ≡ c)) ⊎ (leaf_of old w ≡ Some d)
+    from (variable.Mem k) d h = elim (find_cases old.mems new.mems i c k d u h) [ inl here ↦ inl (ap variable.Mem here.0, here.1) | inr there ↦ inr there.1 ]
+    from (variable.Word k) d h = inr (sym (ap (λ (m : BTreeMap ℕ Class). get nat_cmp m k) e) ∙ h)
 
 -- a variable that had no class gets one
-pub grows_put : (forms more : List Node) (old new : Leaves) (i w : ℕ) → Extends forms more → get nat_cmp old i ≡ None → Updates nat_cmp old new i (Some w) → Grows forms more old new
-grows_put forms more old new i w e none u = record {
+pub grows_put : (forms more : List Node) (old new : Leaves) (v : Variable) (c : Class) → Extends forms more → leaf_of old v ≡ None → HasLeaf old new v c → Grows forms more old new
+grows_put forms more old new v c e none put = record {
   stay = e;
-  each = λ k v h. other_find old new i (Some w) k u (λ same. let no : None ≡ Some v = sym none ∙ sym (ap (get nat_cmp old) same) ∙ h in cc) ∙ h;
+  each = λ w d h. put.keeps w d (λ same. let no : None ≡ Some d = sym none ∙ sym (ap (leaf_of old) same) ∙ h in cc) h;
 }
 
 pub forms_still : (forms more : List Node) (l : Leaves) → Extends forms more → AreForms forms l → AreForms more l
-forms_still forms more l e f = record { memory = tree_stays forms more 0 _ e f.memory; words = λ i v h. word_still forms more v e (f.words i v h) }
+forms_still forms more l e f = record { each = λ v c h. leaf-still forms more v c e (f.each v c h) }
 
-pub forms_put : (forms more : List Node) (old new : Leaves) (i w : ℕ) → Extends forms more → IsWordAt more w → Updates nat_cmp old new i (Some w) → AreForms forms old → AreForms more new
-forms_put forms more old new i w e is u f = record {
-  memory = tree_stays forms more 0 _ e f.memory;
-  words = λ k v h. elim (find_cases old new i w k v u h) [
-    | inl here ↦ subst (IsWordAt more) (sym here.1) is
-    | inr there ↦ word_still forms more v e (f.words k v there.1)
+pub forms_put : (forms more : List Node) (old new : Leaves) (v : Variable) (c : Class) → Extends forms more → IsLeaf more v c → HasLeaf old new v c → AreForms forms old → AreForms more new
+forms_put forms more old new v c e is put f = record {
+  each = λ w d h. elim (put.from w d h) [
+    | inl here ↦ subst (λ (u : Variable). IsLeaf more u d) (sym here.0) (subst (IsLeaf more v) (sym here.1) is)
+    | inr there ↦ leaf-still forms more w d e (f.each w d there)
   ];
 }
 
-pub forms_begun : (forms : List Node) (l : Leaves) → HasMemory forms → l.entries ≡ [] → AreForms forms l
-forms_begun forms l m e = record { memory = m; words = λ i v h. let no : None ≡ Some v = sym (ap (λ (es : List (ℕ × ℕ)). lookup (is_at (nat_cmp i)) es) e) ∙ h in cc }
-
 -- what agrees later agrees before
-pub agrees_before : (forms more : List Node) (old new : Leaves) (free : ℕ → WordTree) → AreForms forms old → Grows forms more old new → Agrees more new free → Agrees forms old free
-agrees_before forms more old new free f g a = record {
-  each = λ i v h.
-      let is = f.words i v h in
-      let still : tree_of more v ≡ Some (OfWord (word_of forms v)) = tree_stays forms more v _ g.stay is in
-      is ∙ sym still ∙ a.each i v (g.each i v h);
+pub agrees_before : (forms more : List Node) (old new : Leaves) (s : Substitution) → AreForms forms old → Grows forms more old new → Agrees more new s → Agrees forms old s
+agrees_before forms more old new s f g a = record {
+  each = λ v c h.
+      let t = leaf-tree forms c v (f.each v c h) in
+      let now = a.each v c (g.each v c h) in
+      subst (IsClass forms c) (sym (class-stays forms more c t.0 g.stay t.1).form ∙ now.form) t.1;
 }
 
--- each variable's form, and some word for one that has none
-or-zero : Option ℕ → ℕ
-or-zero None = 0
-or-zero (Some v) = v
+-- each variable's form; one that has none stays
+forms-of : List Node → Leaves → Substitution
+forms-of forms leaves = record {
+  word = λ i. option_map (λ (c : Class). word_of forms c.form) (get nat_cmp leaves.words i);
+  mem = λ i. option_map (λ (c : Class). mem_of forms c.form) (get nat_cmp leaves.mems i);
+}
 
-free-of : List Node → Leaves → ℕ → WordTree
-free-of forms leaves i = word_of forms (or-zero (get nat_cmp leaves i))
+forms-agree : (forms : List Node) (leaves : Leaves) → AreForms forms leaves → Agrees forms leaves (forms-of forms leaves)
+unfolding forms-of
+forms-agree forms leaves f = record { each = each }
+  where
+    each : (v : Variable) (c : Class) → leaf_of leaves v ≡ Some c → IsClass forms c (Some (tree_form (forms-of forms leaves) (variable_tree v)))
+    each (variable.Word i) c h =
+        let e = ap (λ (o : Option Class). unwrap_or (option_map (λ (k : Class). word_of forms k.form) o) (Var i)) h in
+        subst (λ (t : WordTree). IsClass forms c (Some (OfWord t))) (sym e) (f.each (variable.Word i) c h)
+    each (variable.Mem i) c h =
+        let e = ap (λ (o : Option Class). unwrap_or (option_map (λ (k : Class). mem_of forms k.form) o) (MemVar i)) h in
+        subst (λ (m : MemTree). IsClass forms c (Some (OfMem m))) (sym e) (f.each (variable.Mem i) c h)
 
-free-agrees : (forms : List Node) (leaves : Leaves) → AreForms forms leaves → Agrees forms leaves (free-of forms leaves)
-unfolding free-of or-zero
-free-agrees forms leaves f = record { each = λ i v h. f.words i v h ∙ ap (λ (o : Option ℕ). Some (OfWord (word_of forms (or-zero o)))) (sym h) }
+-- ---- what is known of classes
 
 module _ (ns : List Node) where
-  -- the class is the number of the term's form
-  class-form : (forms : List Node) (leaves : Leaves) (x v : ℕ) (free : ℕ → WordTree) → HasClass ns forms leaves x v → Agrees forms leaves free → tree_of forms v ≡ form_at free (tree_of ns x)
-  class-form forms leaves x v free h a = h.is free a ∙ sym (ap (form_at free) h.there)
+  -- the class is that of the term's form
+  class-form : (forms : List Node) (leaves : Leaves) (x : ℕ) (c : Class) (s : Substitution) → HasClass ns forms leaves x c → Agrees forms leaves s → IsClass forms c (form_at s (tree_of ns x))
+  class-form forms leaves x c s h a = subst (λ (o : Option Tree). IsClass forms c (form_at s o)) (sym h.there) (h.is s a)
 
-  pub class_still : (forms more : List Node) (old new : Leaves) (x v : ℕ) → AreForms forms old → Grows forms more old new → HasClass ns forms old x v → HasClass ns more new x v
-  class_still forms more old new x v f g h = record {
+  class-still : (forms more : List Node) (old new : Leaves) (x : ℕ) (c : Class) → AreForms forms old → Grows forms more old new → HasClass ns forms old x c → HasClass ns more new x c
+  class-still forms more old new x c f g h = record {
     tree = h.tree;
     there = h.there;
-    is = λ free a. tree_stays forms more v _ g.stay (h.is free (agrees_before forms more old new free f g a));
+    is = λ s a. class-stays forms more c _ g.stay (h.is s (agrees_before forms more old new s f g a));
   }
 
-  -- the class of a word is one that a variable can have
-  pub class_word : (forms : List Node) (leaves : Leaves) (x : ℕ) (o : Option ℕ) → AreForms forms leaves → IsWordAt ns x → IfSome o (λ k. HasClass ns forms leaves x k) → IfSome o (λ k. IsWordAt forms k)
-  class_word forms leaves x None f h o = tt
-  class_word forms leaves x (Some v) f h o = word-there ns (free-of forms leaves) forms v x (class-form forms leaves x v (free-of forms leaves) o (free-agrees forms leaves f)) h
+  pub known_still : (forms more : List Node) (old new : Leaves) (x : ℕ) (o : Option Class) → AreForms forms old → Grows forms more old new → IfSome o (HasClass ns forms old x)
+      → IfSome o (HasClass ns more new x)
+  known_still forms more old new x None f g h = tt
+  known_still forms more old new x (Some c) f g h = class-still forms more old new x c f g h
+
+  pub kind_within : (a b : ℕ) → AreOneKind ns a b → (a < length ns) × (b < length ns)
+  kind_within a b (inl h) = (number_within ns a _ h.0, number_within ns b _ h.1)
+  kind_within a b (inr h) = (number_within ns a _ h.0, number_within ns b _ h.1)
+
+  pub kind_turned : (a b : ℕ) → AreOneKind ns a b → AreOneKind ns b a
+  kind_turned a b (inl h) = inl (h.1, h.0)
+  kind_turned a b (inr h) = inr (h.1, h.0)
+
+  -- the class of a term is one that a variable of its kind can have
+  pub class_wanted : (forms : List Node) (leaves : Leaves) (a b : ℕ) (o : Option Class) → AreForms forms leaves → AreOneKind ns a b → IfSome o (HasClass ns forms leaves a) → IfSome o (IsWanted ns forms b)
+  class_wanted forms leaves a b None f kind h = tt
+  class_wanted forms leaves a b (Some c) f kind h = λ v e. by kind v e
+    where
+      is : IsClass forms c (form_at (forms-of forms leaves) (tree_of ns a))
+      is = class-form forms leaves a c (forms-of forms leaves) h (forms-agree forms leaves f)
+
+      by : AreOneKind ns a b → (v : Variable) → tree_of ns b ≡ Some (variable_tree v) → IsLeaf forms v c
+      by (inl k) (variable.Word i) e = word-leaf forms c i _ (subst (λ (o : Option Tree). IsClass forms c (form_at (forms-of forms leaves) o)) k.0 is)
+      by (inl k) (variable.Mem i) e = let no = sym k.1 ∙ e in cc
+      by (inr k) (variable.Word i) e = let no = sym k.1 ∙ e in cc
+      by (inr k) (variable.Mem i) e = mem-leaf forms c i _ (subst (λ (o : Option Tree). IsClass forms c (form_at (forms-of forms leaves) o)) k.0 is)
+
+  pub wanted_leaf : (forms : List Node) (x : ℕ) (v : Variable) (o : Option Class) → tree_of ns x ≡ Some (variable_tree v) → IfSome o (IsWanted ns forms x) → IfSome o (IsLeaf forms v)
+  wanted_leaf forms x v None e h = tt
+  wanted_leaf forms x v (Some c) e h = h v e
 
   pub classed_still : (forms more : List Node) (old new : Leaves) (seen : Seen) → Grows forms more old new → AreForms more new → AreClassed ns forms old seen → AreClassed ns more new seen
-  classed_still forms more old new seen g f a = record { ready = f; each = λ x v h. class_still forms more old new x v a.ready g (a.each x v h) }
+  classed_still forms more old new seen g f a = record { ready = f; each = λ x c h. class-still forms more old new x c a.ready g (a.each x c h) }
 
   -- where forms alone came
   pub classed_more : (forms more : List Node) (leaves : Leaves) (seen : Seen) → Extends forms more → AreClassed ns forms leaves seen → AreClassed ns more leaves seen
   classed_more forms more leaves seen e a = classed_still forms more leaves leaves seen (grows_forms forms more leaves e) (forms_still forms more leaves e a.ready) a
 
-  pub classed_none : (forms : List Node) (leaves : Leaves) (seen : Seen) → AreForms forms leaves → seen.entries ≡ [] → AreClassed ns forms leaves seen
-  classed_none forms leaves seen f e = record { ready = f; each = λ x v h. let no : None ≡ Some (Some v) = sym (ap (λ (es : List (ℕ × Option ℕ)). lookup (is_at (nat_cmp x)) es) e) ∙ h in cc }
+  pub classed_none : (forms : List Node) (leaves : Leaves) (seen : Seen) → ((v : Variable) → leaf_of leaves v ≡ None) → seen.entries ≡ [] → AreClassed ns forms leaves seen
+  classed_none forms leaves seen none e = record {
+    ready = record { each = λ v c h. let no : None ≡ Some c = sym (none v) ∙ h in cc };
+    each = λ x c h. let no : None ≡ Some (Some c) = sym (ap (λ (es : List (ℕ × Option Class)). lookup (is_at (nat_cmp x)) es) e) ∙ h in cc;
+  }
 
   -- where an entry was put in
-  pub classed_put : (forms : List Node) (leaves : Leaves) (old new : Seen) (x : ℕ) (o : Option ℕ) → AreClassed ns forms leaves old → Updates nat_cmp old new x (Some o) → IfSome o (λ k. HasClass ns forms leaves x k) → AreClassed ns forms leaves new
+  pub classed_put : (forms : List Node) (leaves : Leaves) (old new : Seen) (x : ℕ) (o : Option Class) → AreClassed ns forms leaves old → Updates nat_cmp old new x (Some o) → IfSome o (HasClass ns forms leaves x)
+      → AreClassed ns forms leaves new
   classed_put forms leaves old new x o a u is = record {
     ready = a.ready;
-    each = λ k v h. elim (find_cases old new x o k (Some v) u h) [
-      | inl here ↦ subst (λ (j : ℕ). HasClass ns forms leaves j v) (sym here.0) (subst (λ (p : Option ℕ). IfSome p (λ k. HasClass ns forms leaves x k)) (sym here.1) is)
-      | inr there ↦ a.each k v there.1
+    each = λ k c h. elim (find_cases old new x o k (Some c) u h) [
+      | inl here ↦ subst (λ (j : ℕ). HasClass ns forms leaves j c) (sym here.0) (subst (λ (p : Option Class). IfSome p (HasClass ns forms leaves x)) (sym here.1) is)
+      | inr there ↦ a.each k c there.1
     ];
   }
 
-  pub class_known : (forms : List Node) (leaves : Leaves) (seen : Seen) (x : ℕ) (o : Option ℕ) → AreClassed ns forms leaves seen → get nat_cmp seen x ≡ Some o → IfSome o (λ k. HasClass ns forms leaves x k)
+  pub class_known : (forms : List Node) (leaves : Leaves) (seen : Seen) (x : ℕ) (o : Option Class) → AreClassed ns forms leaves seen → get nat_cmp seen x ≡ Some o → IfSome o (HasClass ns forms leaves x)
   class_known forms leaves seen x None a e = tt
-  class_known forms leaves seen x (Some v) a e = a.each x v e
+  class_known forms leaves seen x (Some c) a e = a.each x c e
 
-  pub class_there : (forms : List Node) (leaves : Leaves) (seen : Seen) (x v : ℕ) → AreClassed ns forms leaves seen → class_found (get nat_cmp seen x) ≡ Some v → HasClass ns forms leaves x v
-  class_there forms leaves seen x v a e = a.each x v (by (get nat_cmp seen x) e)
-    where
-      by : (o : Option (Option ℕ)) → class_found o ≡ Some v → o ≡ Some (Some v)
-      by None is = cc
-      by (Some p) is = ap (λ (q : Option ℕ). Some q) is
+  pub class_of_variable : (forms : List Node) (leaves : Leaves) (x : ℕ) (v : Variable) (c : Class) → tree_of ns x ≡ Some (variable_tree v) → leaf_of leaves v ≡ Some c → HasClass ns forms leaves x c
+  class_of_variable forms leaves x v c e h = record { tree = variable_tree v; there = e; is = λ s a. a.each v c h }
 
-  pub class_of_variable : (forms : List Node) (leaves : Leaves) (x i v : ℕ) → tree_of ns x ≡ Some (OfWord (Var i)) → get nat_cmp leaves i ≡ Some v → HasClass ns forms leaves x v
-  class_of_variable forms leaves x i v e h = record { tree = OfWord (Var i); there = e; is = λ free a. a.each i v h }
+  pub class_of_constant : (forms : List Node) (leaves : Leaves) (x n : ℕ) (c : Class) → tree_of ns x ≡ Some (OfWord (Const n)) → tree_of forms c.form ≡ Some (OfWord (Const n)) → c.base ≡ c.form
+      → HasClass ns forms leaves x c
+  class_of_constant forms leaves x n c e h same = record { tree = OfWord (Const n); there = e; is = λ s a. class-alone forms c _ (OfWord (Const n)) same h refl refl }
 
-  pub class_alone : (forms more : List Node) (leaves : Leaves) (x v : ℕ) (n : Node) → x < length ns → IsAlone ns x n → tree_of more v ≡ Some (tree_over (trees_of forms) n) → HasClass ns more leaves x v
-  class_alone forms more leaves x v n low is h = let t = tree_there ns x low in record { tree = t.0; there = t.1; is = λ free a. h ∙ sym (is.form free forms) ∙ ap (form_at free) t.1 }
+  -- over the classes of three terms
+  module _ (forms : List Node) (leaves : Leaves) (x : ℕ) (n : Node) (a b c : ℕ) (is : IsOver ns x n a b c) (ready : AreForms forms leaves) where
+    are-classes : (p q r : Class) → HasClass ns forms leaves a p → HasClass ns forms leaves b q → HasClass ns forms leaves c r → (s : Substitution) → Agrees forms leaves s
+        → AreClasses ns forms s a b c (record { first = p; second = q; third = r })
+    are-classes p q r hp hq hr s agrees = record {
+      first = class-form forms leaves a p s hp agrees;
+      second = class-form forms leaves b q s hq agrees;
+      third = class-form forms leaves c r s hr agrees;
+    }
 
-  -- over two classes, the first of which was known before the second
-  module _ (mid new : List Node) (old leaves : Leaves) (x : ℕ) (n : Node) (a b : ℕ) (is : IsOver ns x n a b) (f : AreForms mid old) (now : AreForms new leaves) (g : Grows mid new old leaves) where
-    module _ (v w : ℕ) (hv : HasClass ns mid old a v) (hw : HasClass ns new leaves b w) (free : ℕ → WordTree) (agrees : Agrees new leaves free) where
-      first-form : tree_of new v ≡ form_at free (tree_of ns a)
-      first-form = class-form new leaves a v free (class_still mid new old leaves a v f g hv) agrees
+    pub over_children : (o p q : Option Class) (known : Option Children) → known ≡ all_known o p q → IfSome o (HasClass ns forms leaves a) → IfSome p (HasClass ns forms leaves b) → IfSome q (HasClass ns forms leaves c)
+        → IfSome known (λ k. AreChildren forms (node_over n k))
+    over_children o p q known e ho hp hq = subst (λ (l : Option Children). IfSome l (λ k. AreChildren forms (node_over n k))) (sym e) (by o p q ho hp hq)
+      where
+        by : (o p q : Option Class) → IfSome o (HasClass ns forms leaves a) → IfSome p (HasClass ns forms leaves b) → IfSome q (HasClass ns forms leaves c) → IfSome (all_known o p q) (λ k. AreChildren forms (node_over n k))
+        by None p q ho hp hq = tt
+        by (Some u) None q ho hp hq = tt
+        by (Some u) (Some v) None ho hp hq = tt
+        by (Some u) (Some v) (Some w) ho hp hq = is.children (forms-of forms leaves) forms _ (are-classes u v w ho hp hq (forms-of forms leaves) (forms-agree forms leaves ready))
 
-      second-form : tree_of new w ≡ form_at free (tree_of ns b)
-      second-form = class-form new leaves b w free hw agrees
-
-      children-over : AreChildren new (node_over n v w)
-      children-over = is.children free new v w now.memory first-form second-form
-
-      form-over : form_at free (tree_of ns x) ≡ Some (tree_over (trees_of new) (node_over n v w))
-      form-over = is.form free new v w now.memory first-form second-form
-
-    pub over_children : (o p : Option ℕ) → IfSome o (λ k. HasClass ns mid old a k) → IfSome p (λ k. HasClass ns new leaves b k) → IfSome (class_node n o p) (AreChildren new)
-    over_children (Some v) (Some w) ho hp = children-over v w ho hp (free-of new leaves) (free-agrees new leaves now)
-    over_children (Some v) None ho hp = tt
-    over_children None (Some w) ho hp = tt
-    over_children None None ho hp = tt
-
-    module _ (last : List Node) (low : x < length ns) (e : Extends new last) where
-      class-over : (v w k : ℕ) → HasClass ns mid old a v → HasClass ns new leaves b w → tree_of last k ≡ Some (tree_over (trees_of new) (node_over n v w)) → HasClass ns last leaves x k
-      class-over v w k hv hw h = let t = tree_there ns x low in record {
+    module _ (more : List Node) (low : x < length ns) (e : Extends forms more) where
+      over-class : (u v w k : Class) → HasClass ns forms leaves a u → HasClass ns forms leaves b v → HasClass ns forms leaves c w
+          → IsClassOver forms more n (Some (record { first = u; second = v; third = w })) k → HasClass ns more leaves x k
+      over-class u v w k hu hv hw h = let t = tree_there ns x low in record {
         tree = t.0;
         there = t.1;
-        is = λ free agrees.
-            let before = agrees_before new last leaves leaves free now (grows_forms new last leaves e) agrees in
-            h ∙ sym (form-over v w hv hw free before) ∙ ap (form_at free) t.1;
+        is = λ s agrees.
+            let before = agrees_before forms more leaves leaves s ready (grows_forms forms more leaves e) agrees in
+            subst (λ (o : Option Tree). IsClass more k (form_at s o)) t.1 (is.class s forms more _ k (are-classes u v w hu hv hw s before) e h);
       }
 
-      pub over_class : (o p r : Option ℕ) → IfSome o (λ k. HasClass ns mid old a k) → IfSome p (λ k. HasClass ns new leaves b k) → IfSome r (λ k. IsFormOver new last (class_node n o p) k)
-          → IfSome r (λ k. HasClass ns last leaves x k)
-      over_class o p None ho hp hr = tt
-      over_class (Some v) (Some w) (Some k) ho hp hr = class-over v w k ho hp hr
-      over_class (Some v) None (Some k) ho hp hr = absurd hr
-      over_class None (Some w) (Some k) ho hp hr = absurd hr
-      over_class None None (Some k) ho hp hr = absurd hr
+      pub over_class : (o p q r : Option Class) (known : Option Children) → known ≡ all_known o p q → IfSome o (HasClass ns forms leaves a) → IfSome p (HasClass ns forms leaves b) → IfSome q (HasClass ns forms leaves c)
+          → IfSome r (IsClassOver forms more n known) → IfSome r (HasClass ns more leaves x)
+      over_class o p q r known e ho hp hq hr = by o p q r ho hp hq (subst (λ (l : Option Children). IfSome r (IsClassOver forms more n l)) e hr)
+        where
+          by : (o p q r : Option Class) → IfSome o (HasClass ns forms leaves a) → IfSome p (HasClass ns forms leaves b) → IfSome q (HasClass ns forms leaves c) → IfSome r (IsClassOver forms more n (all_known o p q))
+              → IfSome r (HasClass ns more leaves x)
+          by o p q None ho hp hq hr = tt
+          by None p q (Some k) ho hp hq hr = absurd hr
+          by (Some u) None q (Some k) ho hp hq hr = absurd hr
+          by (Some u) (Some v) None (Some k) ho hp hq hr = absurd hr
+          by (Some u) (Some v) (Some w) (Some k) ho hp hq hr = over-class u v w k ho hp hq hr
 
 pub from_none : (fs : List HeldFact) (lists : Lists) → lists.entries ≡ [] → AreFrom fs lists
 from_none fs lists e = record {
@@ -301,6 +443,10 @@ module _ (ns : List Node) where
   word-is : (f : HeldFact) (a b : WordTree) → fact_of ns f ≡ WordIs a b → (x : ℕ) × (y : ℕ) × (f ≡ held.WordIs x y) × (word_of ns x ≡ a) × (word_of ns y ≡ b)
   word-is (held.WordIs x y) a b e = (x, y, refl, cc, cc)
   word-is f a b e = cc
+
+  mem-is : (f : HeldFact) (m n : MemTree) → fact_of ns f ≡ MemIs m n → (x : ℕ) × (y : ℕ) × (f ≡ held.MemIs x y) × (mem_of ns x ≡ m) × (mem_of ns y ≡ n)
+  mem-is (held.MemIs x y) m n e = (x, y, refl, cc, cc)
+  mem-is f m n e = cc
 
   cond-is : (f : HeldFact) (d : CondTree) → fact_of ns f ≡ So d → (x : ℕ) × (f ≡ held.So x) × (cond_of ns x ≡ d)
   cond-is (held.So x) d e = (x, refl, cc)
@@ -318,37 +464,48 @@ module _ (ns : List Node) where
       subst (Contains (map (fact_of ns) fs)) e (contains_at (map (fact_of ns) fs) at.0 (fact_of ns f) (map-at (fact_of ns) fs at.0 f at.1))
 
   module _ (fs : List HeldFact) (forms : List Node) (leaves : Leaves) (seen : Seen) (there : AreFactsAt ns fs) (arena : IsArena forms) (classed : AreClassed ns forms leaves seen) where
-    free : ℕ → WordTree
-    free = free-of forms leaves
+    s : Substitution
+    s = forms-of forms leaves
 
-    known-form : (x v : ℕ) → class_found (get nat_cmp seen x) ≡ Some v → tree_of forms v ≡ form_at free (tree_of ns x)
-    unfolding free
-    known-form x v e = class-form ns forms leaves x v free (class_there ns forms leaves seen x v classed e) (free-agrees forms leaves classed.ready)
+    known-form : (x v : ℕ) → class_found (get nat_cmp seen x) ≡ Some v → tree_of forms v ≡ form_at s (tree_of ns x)
+    unfolding s
+    known-form x v e = by (get nat_cmp seen x) refl e
+      where
+        by : (o : Option (Option Class)) → get nat_cmp seen x ≡ o → class_found o ≡ Some v → tree_of forms v ≡ form_at s (tree_of ns x)
+        by None is e = cc
+        by (Some None) is e = cc
+        by (Some (Some c)) is e =
+            let same : c.form ≡ v = cc in
+            sym (ap (tree_of forms) same) ∙ (class-form ns forms leaves x c s (classed.each x c is) (forms-agree forms leaves classed.ready)).form
 
-    known-word : (x v : ℕ) (o : Option ℕ) → IsWordAt ns x → class_found (get nat_cmp seen x) ≡ o → o ≡ Some v → word_form free (word_of ns x) ≡ word_of forms v
-    known-word x v o h e s = word-form ns free forms v x (known-form x v (e ∙ s)) h
+    same-form : (x y : ℕ) (o p : Option ℕ) → class_found (get nat_cmp seen x) ≡ o → class_found (get nat_cmp seen y) ≡ p → AreSame o p → form_at s (tree_of ns x) ≡ form_at s (tree_of ns y)
+    same-form x y (Some v) (Some w) ex ey e = sym (known-form x v ex) ∙ ap (tree_of forms) e ∙ known-form y w ey
+    same-form x y (Some v) None ex ey e = absurd e
+    same-form x y None (Some w) ex ey e = absurd e
+    same-form x y None None ex ey e = absurd e
 
-    same-form : (x y : ℕ) (o p : Option ℕ) → IsWordAt ns x → IsWordAt ns y → class_found (get nat_cmp seen x) ≡ o → class_found (get nat_cmp seen y) ≡ p → AreSame o p
-        → word_form free (word_of ns x) ≡ word_form free (word_of ns y)
-    same-form x y (Some v) (Some w) hx hy ex ey s = known-word x v (Some v) hx ex refl ∙ ap (word_of forms) s ∙ sym (known-word y w (Some w) hy ey refl)
-    same-form x y (Some v) None hx hy ex ey s = absurd s
-    same-form x y None (Some w) hx hy ex ey s = absurd s
-    same-form x y None None hx hy ex ey s = absurd s
-
-    agreed-one : All (IsAgreed seen) fs → AreOneForm free (map (fact_of ns) fs)
+    agreed-one : All (IsAgreed seen) fs → AreOneForm s (map (fact_of ns) fs)
     agreed-one agreed = record {
-      each = λ a b c.
+      words = λ a b c.
           let f = fact-at fs (WordIs a b) c in
           let w = word-is f.0 a b f.2 in
           let is = subst (λ (g : HeldFact). IsAgreed seen g) w.2 (All-contains (IsAgreed seen) fs f.0 agreed f.1) in
           let at = subst (λ (g : HeldFact). IsFactAt ns g) w.2 (All-contains (λ g. IsFactAt ns g) fs f.0 there f.1) in
-          sym (ap (word_form free) w.3) ∙ same-form w.0 w.1 _ _ at.0 at.1 refl refl is ∙ ap (word_form free) w.4;
+          let same = sym (ap (form_at s) at.0) ∙ same-form w.0 w.1 _ _ refl refl is ∙ ap (form_at s) at.1 in
+          sym (ap (put_in_word s) w.3) ∙ ap as_word same ∙ ap (put_in_word s) w.4;
+      mems = λ m n c.
+          let f = fact-at fs (MemIs m n) c in
+          let w = mem-is f.0 m n f.2 in
+          let is = subst (λ (g : HeldFact). IsAgreed seen g) w.2 (All-contains (IsAgreed seen) fs f.0 agreed f.1) in
+          let at = subst (λ (g : HeldFact). IsFactAt ns g) w.2 (All-contains (λ g. IsFactAt ns g) fs f.0 there f.1) in
+          let same = sym (ap (form_at s) at.0) ∙ same-form w.0 w.1 _ _ refl refl is ∙ ap (form_at s) at.1 in
+          sym (ap (put_in_mem s) w.3) ∙ ap as_mem same ∙ ap (put_in_mem s) w.4;
     }
 
     -- ---- conditions by their classes
 
-    known-cond : (x v : ℕ) → IsCondAt ns x → class_found (get nat_cmp seen x) ≡ Some v → tree_of forms v ≡ Some (OfCond (cond_form free (cond_of ns x)))
-    known-cond x v h e = known-form x v e ∙ ap (form_at free) h
+    known-cond : (x v : ℕ) → IsCondAt ns x → class_found (get nat_cmp seen x) ≡ Some v → tree_of forms v ≡ Some (OfCond (cond_form s (cond_of ns x)))
+    known-cond x v h e = known-form x v e ∙ ap (form_at s) h
 
     pub narrows_all : (lists : Lists) → All (IsAgreed seen) fs → AreFrom fs lists → All (IsFactListed seen lists) fs → Narrows ns fs seen lists
     narrows_all lists agreed from all = record {
@@ -360,7 +517,7 @@ module _ (ns : List Node) where
           let at = subst (λ (g : HeldFact). IsFactAt ns g) w.1 (All-contains (λ g. IsFactAt ns g) fs f.0 there f.1) in
           let one = known-cond c v h e in
           let other = known-cond w.0 is.class at is.is in
-          let like = alike_form (map (fact_of ns) fs) free (agreed-one agreed) (cond_of ns c) d alike ∙ sym (ap (cond_form free) w.2) in
+          let like = alike_form (map (fact_of ns) fs) s (agreed-one agreed) (cond_of ns c) d alike ∙ sym (ap (cond_form s) w.2) in
           let same : v ≡ is.class = one_number forms v is.class _ arena one (other ∙ ap (λ (q : CondTree). Some (OfCond q)) (sym like)) in
           there-fact (listed (get nat_cmp lists v)) (held.So w.0) (So d) (subst (λ (k : ℕ). Contains (listed (get nat_cmp lists k)) (held.So w.0)) (sym same) is.there) (ap (λ (q : CondTree). So q) w.2);
     }
@@ -369,7 +526,7 @@ module _ (ns : List Node) where
   pub narrows_none : (fs : List HeldFact) (seen : Seen) (lists : Lists) → seen.entries ≡ [] → lists.entries ≡ [] → Narrows ns fs seen lists
   narrows_none fs seen lists e l = record {
     among = from_none fs lists l;
-    all = λ c v d h is has alike. let no : None ≡ Some v = sym (ap (λ (es : List (ℕ × Option ℕ)). class_found (lookup (is_at (nat_cmp c)) es)) e) ∙ is in cc;
+    all = λ c v d h is has alike. let no : None ≡ Some v = sym (ap (λ (es : List (ℕ × Option Class)). class_found (lookup (is_at (nat_cmp c)) es)) e) ∙ is in cc;
   }
 
 -- ---- facts one after the other

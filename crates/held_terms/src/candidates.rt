@@ -1,11 +1,15 @@
 //! Conditions of facts by their classes: one is compared only with those of its own class.
+//!
+//! A class may still have many conditions of which few are alike: those over words or memories which are each equal to a third one, but
+//! not stated to be equal themselves. Where no forms of variables meet the equations, all conditions are compared. Each pair that was
+//! compared is kept, so that such facts take time and memory by the square.
 
 ghost use Rattle.std.specs.Prelude.{◌≡◌, ◌+◌, ◌<◌, ◌≤◌, [], All, IfOk, IsTrue, List as Items, None as Nothing, OnOk, length, map};
 ghost use Rattle.std.specs.BTreeMap.{Updates, get};
 ghost use Rattle.std.specs.List.{Contains};
 ghost use Rattle.std.specs.Ordering.{nat_cmp};
 ghost use Rattle.word_terms.specs.Tree.{CondTree};
-ghost use Rattle.term_arena.specs.Arena.{IsCondAt, IsWordAt, Tree, cond_of};
+ghost use Rattle.term_arena.specs.Arena.{IsCondAt, Tree, cond_of};
 ghost use Rattle.triple_kernel.specs.Tree.{So};
 ghost use Rattle.triple_kernel.specs.Rules.{Alike};
 ghost use Rattle.held_terms.specs.declared.held.HeldFact.{HeldFact as FactOf};
@@ -13,10 +17,10 @@ ghost use Rattle.held_terms.specs.declared.held.HeldFact.TheVariants.{So as SoAt
 ghost use Rattle.held_terms.specs.Held.{AreFactsAt, IsFactAt, fact_of};
 ghost use Rattle.held_terms.specs.Subterms.{HasFact, HasFacts};
 ghost use Rattle.held_terms.specs.inner.Alone.{Searched};
-ghost use Rattle.held_terms.specs.inner.Classes.{AreClassed, AreFrom, AreSame, HasTwoTerms, IsAdded, IsAgreed, IsFactListed, Narrows, listed};
+ghost use Rattle.held_terms.specs.inner.Classes.{AreClassed, AreFrom, AreOneKind, AreSame, HasTwoTerms, IsAdded, IsAgreed, IsFactListed, Narrows, listed};
 ghost use Rattle.held_terms.specs.inner.Following.{HasBothFacts};
 
-use crate::classes::{class_in, class_of, no_forms};
+use crate::classes::{Class, Leaves, class_in, class_of, no_leaves};
 use crate::held::HeldFact;
 use rv_words::{List, NoMemory};
 use std::alloc::Global;
@@ -31,7 +35,7 @@ const FEW: usize = 16;
 /// known is compared with all facts.
 #[derive(Drop)]
 pub(crate) struct Candidates {
-    classes: BTreeMap<u64, Option<u64>>,
+    classes: BTreeMap<u64, Option<Class>>,
     lists: BTreeMap<u64, List<HeldFact>>,
 }
 
@@ -52,8 +56,8 @@ pub(crate) fn classify<L: Ledger>(
     if facts.len() <= FEW || others.len() <= FEW {
         return Ok(all_are(alloc));
     }
-    let mut forms = no_forms(alloc)?;
-    let mut leaves = BTreeMap::new(alloc);
+    let mut forms = Arena::new(alloc);
+    let mut leaves = no_leaves(alloc);
     let mut classes = BTreeMap::new(alloc);
     see_both(
         arena,
@@ -114,8 +118,8 @@ fn see_both<L: Ledger>(
     facts: &[HeldFact],
     others: &[HeldFact],
     forms: &mut Arena,
-    leaves: &mut BTreeMap<u32, u64>,
-    classes: &mut BTreeMap<u64, Option<u64>>,
+    leaves: &mut Leaves,
+    classes: &mut BTreeMap<u64, Option<Class>>,
     steps: &mut Steps<L>,
 ) -> Result<(), NoMemory>
     requires facts { AreFactsAt arena.now facts.now }
@@ -130,15 +134,15 @@ fn see_both<L: Ledger>(
     Ok(())
 }
 
-/// The classes of the equations of words among the facts, or those of the conditions.
+/// The classes of the equations among the facts, or those of the conditions.
 #[tactic(auto, using(crate::proofs::FindLemmas::searched_none))]
 fn see_all<L: Ledger>(
     arena: &Arena,
     facts: &[HeldFact],
     equations: bool,
     forms: &mut Arena,
-    leaves: &mut BTreeMap<u32, u64>,
-    classes: &mut BTreeMap<u64, Option<u64>>,
+    leaves: &mut Leaves,
+    classes: &mut BTreeMap<u64, Option<Class>>,
     steps: &mut Steps<L>,
 ) -> Result<(), NoMemory>
     requires facts { AreFactsAt arena.now facts.now }
@@ -152,15 +156,15 @@ fn see_all<L: Ledger>(
     Ok(())
 }
 
-/// The classes of the fact, if it is an equation of words, or if it is a condition.
+/// The classes of the fact, if it is an equation, or if it is a condition.
 #[tactic(auto, using(crate::proofs::FindLemmas::searched_none))]
 fn see<L: Ledger>(
     arena: &Arena,
     fact: &HeldFact,
     equations: bool,
     forms: &mut Arena,
-    leaves: &mut BTreeMap<u32, u64>,
-    classes: &mut BTreeMap<u64, Option<u64>>,
+    leaves: &mut Leaves,
+    classes: &mut BTreeMap<u64, Option<Class>>,
     steps: &mut Steps<L>,
 ) -> Result<(), NoMemory>
     requires fact { IsFactAt arena.now fact.now }
@@ -169,35 +173,32 @@ fn see<L: Ledger>(
     ensures searched { Searched arena.now (HasFact arena.now fact.now) classes.old classes.new steps.old steps.new }
 {
     match fact {
-        HeldFact::WordIs(a, b) => {
-            if equations {
-                see_equation(arena, *a, *b, forms, leaves, classes, steps)?;
-            }
-            Ok(())
+        HeldFact::WordIs(a, b) if equations => {
+            see_equation(arena, *a, *b, forms, leaves, classes, steps)
         }
-        HeldFact::So(c) => {
-            if !equations {
-                class_of(arena, forms, leaves, classes, *c, None, steps)?;
-            }
+        HeldFact::MemIs(a, b) if equations => {
+            see_equation(arena, *a, *b, forms, leaves, classes, steps)
+        }
+        HeldFact::So(c) if !equations => {
+            class_of(arena, forms, leaves, classes, *c, None, steps)?;
             Ok(())
         }
         _ => Ok(()),
     }
 }
 
-/// The classes of two equal words. If the first one was seen, the second gets its class, where that is free, else the first one
+/// The classes of two equal words, or of two equal memories. If the first one was seen, the second gets its class, where that is free, else the first one
 /// gets that of the second.
 fn see_equation<L: Ledger>(
     arena: &Arena,
     a: u64,
     b: u64,
     forms: &mut Arena,
-    leaves: &mut BTreeMap<u32, u64>,
-    classes: &mut BTreeMap<u64, Option<u64>>,
+    leaves: &mut Leaves,
+    classes: &mut BTreeMap<u64, Option<Class>>,
     steps: &mut Steps<L>,
 ) -> Result<(), NoMemory>
-    requires a { IsWordAt arena.now a }
-    requires b { IsWordAt arena.now b }
+    requires kind { AreOneKind arena.now a b }
     requires classed { AreClassed arena.now forms.old leaves.old classes.old }
     ensures classed { OnOk result (AreClassed arena.now forms.new leaves.new classes.new) }
     ensures searched { Searched arena.now (HasTwoTerms arena.now a b) classes.old classes.new steps.old steps.new }
@@ -209,18 +210,17 @@ fn see_equation<L: Ledger>(
     }
 }
 
-/// The class of a word, and of a second one, which gets the same, where that is free.
+/// The class of a word or a memory, and of a second one, which gets the same, where that is free.
 fn see_two<L: Ledger>(
     arena: &Arena,
     a: u64,
     b: u64,
     forms: &mut Arena,
-    leaves: &mut BTreeMap<u32, u64>,
-    classes: &mut BTreeMap<u64, Option<u64>>,
+    leaves: &mut Leaves,
+    classes: &mut BTreeMap<u64, Option<Class>>,
     steps: &mut Steps<L>,
 ) -> Result<(), NoMemory>
-    requires a { IsWordAt arena.now a }
-    requires b { IsWordAt arena.now b }
+    requires kind { AreOneKind arena.now a b }
     requires classed { AreClassed arena.now forms.old leaves.old classes.old }
     ensures classed { OnOk result (AreClassed arena.now forms.new leaves.new classes.new) }
     ensures searched { Searched arena.now (HasTwoTerms arena.now a b) classes.old classes.new steps.old steps.new }
@@ -232,13 +232,13 @@ fn see_two<L: Ledger>(
 
 // ---- lists
 
-/// The facts by their classes, if the two words of each equation have one.
+/// The facts by their classes, if the two sides of each equation have one.
 fn gather(
     alloc: Global,
     arena: &Arena,
     forms: &Arena,
-    leaves: &BTreeMap<u32, u64>,
-    classes: BTreeMap<u64, Option<u64>>,
+    leaves: &Leaves,
+    classes: BTreeMap<u64, Option<Class>>,
     others: &[HeldFact],
 ) -> Result<Candidates, NoMemory>
     requires others { AreFactsAt arena.now others.now }
@@ -258,8 +258,8 @@ fn gather(
     Ok(Candidates { classes, lists })
 }
 
-/// Whether the two words of each equation have one class.
-fn are_agreed(classes: &BTreeMap<u64, Option<u64>>, facts: &[HeldFact]) -> bool
+/// Whether the two sides of each equation have one class.
+fn are_agreed(classes: &BTreeMap<u64, Option<Class>>, facts: &[HeldFact]) -> bool
     ensures { IsTrue result → All (IsAgreed classes.now) facts.now }
 {
     for fact in facts {
@@ -270,11 +270,12 @@ fn are_agreed(classes: &BTreeMap<u64, Option<u64>>, facts: &[HeldFact]) -> bool
     true
 }
 
-fn is_agreed(classes: &BTreeMap<u64, Option<u64>>, fact: &HeldFact) -> bool
+fn is_agreed(classes: &BTreeMap<u64, Option<Class>>, fact: &HeldFact) -> bool
     ensures { IsTrue result → IsAgreed classes.now fact.now }
 {
     match fact {
         HeldFact::WordIs(a, b) => have_one_class(class_in(classes, *a), class_in(classes, *b)),
+        HeldFact::MemIs(a, b) => have_one_class(class_in(classes, *a), class_in(classes, *b)),
         _ => true,
     }
 }
@@ -294,7 +295,7 @@ fn have_one_class(a: Option<u64>, b: Option<u64>) -> bool
 /// Lists the conditions of facts by their classes. Whether all are known.
 fn list_all(
     alloc: Global,
-    classes: &BTreeMap<u64, Option<u64>>,
+    classes: &BTreeMap<u64, Option<Class>>,
     facts: &[HeldFact],
     lists: &mut BTreeMap<u64, List<HeldFact>>,
 ) -> Result<bool, NoMemory>
@@ -314,7 +315,7 @@ fn list_all(
 /// Lists the condition of a fact, if it is one. Whether its class is known.
 fn list_fact(
     alloc: Global,
-    classes: &BTreeMap<u64, Option<u64>>,
+    classes: &BTreeMap<u64, Option<Class>>,
     fact: &HeldFact,
     lists: &mut BTreeMap<u64, List<HeldFact>>,
 ) -> Result<bool, NoMemory>

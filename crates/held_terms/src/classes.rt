@@ -1,16 +1,17 @@
-//! Classes of words and of conditions: where facts let one stand for the other, both have one class.
+//! Classes of words, memories and conditions: where facts let one stand for the other, both have one class.
 //!
 //! A class is the number of a form in an arena of its own. The form of a term is the term itself, but that each variable stands for
-//! the form that an equation chose for it, and that all memories are one. So two terms have one class exactly where they have the same form:
-//! operations, widths and comparisons count, and no constants can be chosen so that others come to the same class.
+//! the form that an equation chose for it, and that a condition on an address stands over the memory before its outer stores. So two terms
+//! have one class exactly where they have the same form: operations, widths, comparisons and memories count, and no constants can be chosen
+//! so that others come to the same class.
 
-ghost use Rattle.std.specs.Prelude.{◌≡◌, ◌+◌, ◌<◌, IfOk, IfSome, OnOk, Some as Just, length};
+ghost use Rattle.std.specs.Prelude.{◌≡◌, ◌+◌, ◌<◌, IfOk, IfSome, None as Nothing, OnOk, Some as Just, length};
 ghost use Rattle.std.specs.BTreeMap.{get};
 ghost use Rattle.std.specs.Ordering.{nat_cmp};
-ghost use Rattle.word_terms.specs.Tree.{MemVar as MemVarOf};
-ghost use Rattle.term_arena.specs.Arena.{AreChildren, Extends, IsAdded, IsWordAt, OfMem, tree_of, tree_over, trees_of};
+ghost use Rattle.term_arena.specs.Arena.{AreChildren, Extends, IsAdded, tree_of, tree_over, trees_of};
+ghost use Rattle.held_terms.specs.declared.classes.Variable.{Variable as VariableOf};
 ghost use Rattle.held_terms.specs.inner.Alone.{Searched};
-ghost use Rattle.held_terms.specs.inner.Classes.{AreClassed, AreForms, ArePartsAt, Grows, HasClass, IsFormOver, class_found, class_node, node_over};
+ghost use Rattle.held_terms.specs.inner.Classes.{AreClassed, AreForms, ArePartsAt, Grows, HasClass, HasLeaf, IsClass, IsClassOver, IsLeaf, IsWanted, all_known, class_at, class_found, leaf_of, node_over, variable_tree};
 ghost use Rattle.held_terms.specs.inner.Classes.{parts_of as parts_of_node};
 ghost use Rattle.held_terms.specs.inner.Imaging.{HasTerm};
 
@@ -21,76 +22,103 @@ use std::marker::Brand;
 use std::sync::ledger::{Blank, Ledger};
 use term_arena::{Arena, Node, Steps};
 
-/// The number of the form of all memories.
-const MEMORY: u64 = 0;
+/// A class: the number of a form, and, if it is that of a memory, the number of the memory before all of its outer stores.
+#[derive(Clone, Copy, Debug)]
+pub(crate) struct Class {
+    form: u64,
+    base: u64,
+}
+
+/// The classes of a term's children. Where there are fewer, the last one counts again.
+#[derive(Clone, Copy, Debug)]
+struct Children {
+    first: Class,
+    second: Class,
+    third: Class,
+}
+
+/// The variable of a word or of a memory.
+#[derive(Clone, Copy, Debug)]
+enum Variable {
+    Word(u32),
+    Mem(u32),
+}
 
 /// What the form of a term is made of.
 #[derive(Clone, Copy, Debug)]
-pub(crate) enum Parts {
-    /// A form without children.
-    Alone(Node),
-    /// The variable of a word, whose form is free.
-    Variable(u32),
-    /// The term itself, over the forms of two children, or twice that of the only one that counts.
-    Over(Node, u64, u64),
+enum Parts {
+    /// The constant itself.
+    Constant(u64),
+    /// A variable, whose form is free.
+    Variable(Variable),
+    /// The term itself, over the forms of three children. Where there are fewer, the last one counts again.
+    Over(Node, u64, u64, u64),
 }
 
-/// What the form of a node's term is made of. Memories don't count.
+/// What the form of a node's term is made of.
 fn parts_of(n: Node) -> Parts
     ensures { result ≡ parts_of_node n }
 {
     match n {
-        Node::Const(_) => Parts::Alone(n),
-        Node::WordVar(i) => Parts::Variable(i),
-        Node::Bin(_, a, b) => Parts::Over(n, a, b),
-        Node::Extend(_, a) => Parts::Over(n, a, a),
-        Node::Load(_, _, a) => Parts::Over(n, a, a),
-        Node::Compare(_, a, b) => Parts::Over(n, a, b),
-        Node::Neg(c) => Parts::Over(n, c, c),
-        Node::Inside(_, _, a) => Parts::Over(n, a, a),
-        Node::MemVar(_) => Parts::Alone(Node::MemVar(0)),
-        Node::Store(_, _, _, _) => Parts::Alone(Node::MemVar(0)),
+        Node::Const(value) => Parts::Constant(value),
+        Node::WordVar(i) => Parts::Variable(Variable::Word(i)),
+        Node::Bin(_, a, b) => Parts::Over(n, a, b, b),
+        Node::Extend(_, a) => Parts::Over(n, a, a, a),
+        Node::Load(_, m, a) => Parts::Over(n, m, a, a),
+        Node::MemVar(i) => Parts::Variable(Variable::Mem(i)),
+        Node::Store(_, m, a, v) => Parts::Over(n, m, a, v),
+        Node::Compare(_, a, b) => Parts::Over(n, a, b, b),
+        Node::Neg(c) => Parts::Over(n, c, c, c),
+        Node::Inside(_, m, a) => Parts::Over(n, m, a, a),
     }
 }
 
-/// The form of a node's term over the forms of its children that count, if both are known.
-fn class_node(n: Node, first: Option<u64>, second: Option<u64>) -> Option<Node>
-    ensures { result ≡ class_node n first second }
+/// All three, if they are known.
+fn all_known(first: Option<Class>, second: Option<Class>, third: Option<Class>) -> Option<Children>
+    ensures { result ≡ all_known first second third }
 {
-    match first {
-        Some(a) => match second {
-            Some(b) => Some(node_over(n, a, b)),
-            None => None,
-        },
-        None => None,
-    }
+    Some(Children {
+        first: first?,
+        second: second?,
+        third: third?,
+    })
 }
 
-/// The node with other children.
-fn node_over(n: Node, a: u64, b: u64) -> Node
-    ensures { result ≡ node_over n a b }
+/// The node over the forms of its children. A condition on an address stands over the memory before its outer stores.
+fn node_over(n: Node, c: Children) -> Node
+    ensures { result ≡ node_over n c }
 {
     match n {
-        Node::Bin(op, _, _) => Node::Bin(op, a, b),
-        Node::Extend(ext, _) => Node::Extend(ext, a),
-        Node::Load(width, _, _) => Node::Load(width, MEMORY, a),
-        Node::Compare(cmp, _, _) => Node::Compare(cmp, a, b),
-        Node::Neg(_) => Node::Neg(a),
-        Node::Inside(width, _, _) => Node::Inside(width, MEMORY, a),
+        Node::Bin(op, _, _) => Node::Bin(op, c.first.form, c.second.form),
+        Node::Extend(ext, _) => Node::Extend(ext, c.first.form),
+        Node::Load(width, _, _) => Node::Load(width, c.first.form, c.second.form),
+        Node::Store(width, _, _, _) => Node::Store(
+            width,
+            c.first.form,
+            c.second.form,
+            c.third.form,
+        ),
+        Node::Compare(cmp, _, _) => Node::Compare(cmp, c.first.form, c.second.form),
+        Node::Neg(_) => Node::Neg(c.first.form),
+        Node::Inside(width, _, _) => Node::Inside(width, c.first.base, c.second.form),
         _ => n,
     }
 }
 
-// ---- forms
-
-/// No forms but that of all memories.
-pub(crate) fn no_forms(alloc: Global) -> Result<Arena, NoMemory>
-    ensures { IfOk result (λ forms. tree_of forms 0 ≡ Just (OfMem (MemVarOf 0))) }
+/// The class of that node's form, which has that number.
+fn class_at(n: Node, c: Children, form: u64) -> Class
+    ensures { result ≡ class_at n c form }
 {
-    let mut forms = Arena::new(alloc);
-    add_form(&mut forms, Node::MemVar(0))?;
-    Ok(forms)
+    match n {
+        Node::Store(_, _, _, _) => Class {
+            form,
+            base: c.first.base,
+        },
+        _ => Class { form, base: form },
+    }
 }
+
+// ---- forms
 
 /// The number of a form. No steps are counted.
 fn add_form(forms: &mut Arena, n: Node) -> Result<u64, NoMemory>
@@ -115,6 +143,132 @@ fn counted_form<L: Ledger>(forms: &mut Arena, n: Node, blank: Blank) -> Result<u
     forms.add(n, &mut Steps::<L>::new(blank))
 }
 
+/// The class of a form that is no store.
+fn class_alone(forms: &mut Arena, n: Node) -> Result<Class, NoMemory>
+    requires { AreChildren forms.old n }
+    ensures form { IfOk result (λ c. tree_of forms.new c.form ≡ Just (tree_over (trees_of forms.old) n)) }
+    ensures base { IfOk result (λ c. c.base ≡ c.form) }
+    ensures grows { Extends forms.old forms.new }
+{
+    let form = add_form(forms, n)?;
+    Ok(Class { form, base: form })
+}
+
+/// The class of that node's form over the forms of its children, if these are known.
+fn class_with(
+    forms: &mut Arena,
+    n: Node,
+    children: Option<Children>,
+) -> Result<Option<Class>, NoMemory>
+    requires { IfSome children (λ c. AreChildren forms.old (node_over n c)) }
+    ensures class { IfOk result (λ v. IfSome v (λ k. IsClassOver forms.old forms.new n children k)) }
+    ensures grows { Extends forms.old forms.new }
+{
+    match children {
+        Some(c) => {
+            let form = add_form(forms, node_over(n, c))?;
+            Ok(Some(class_at(n, c, form)))
+        }
+        None => Ok(None),
+    }
+}
+
+// ---- variables
+
+/// The classes of variables that have one.
+#[derive(Drop)]
+pub(crate) struct Leaves {
+    words: BTreeMap<u32, Class>,
+    mems: BTreeMap<u32, Class>,
+}
+
+/// No variable has a class.
+pub(crate) fn no_leaves(alloc: Global) -> Leaves
+    ensures { (v : VariableOf) → leaf_of result v ≡ Nothing }
+{
+    Leaves {
+        words: BTreeMap::new(alloc),
+        mems: BTreeMap::new(alloc),
+    }
+}
+
+fn leaf_in(leaves: &Leaves, v: Variable) -> Option<Class>
+    ensures { result ≡ leaf_of leaves.now v }
+{
+    match v {
+        Variable::Word(i) => leaf_among(&leaves.words, i),
+        Variable::Mem(i) => leaf_among(&leaves.mems, i),
+    }
+}
+
+fn leaf_among(leaves: &BTreeMap<u32, Class>, i: u32) -> Option<Class>
+    ensures { result ≡ get nat_cmp leaves.now i }
+{
+    match leaves.get(&i) {
+        Some(c) => Some(*c),
+        None => None,
+    }
+}
+
+/// Gives the variable that class.
+fn put_leaf(leaves: &mut Leaves, v: Variable, c: Class) -> Result<(), NoMemory>
+    ensures { OnOk result (HasLeaf leaves.old leaves.new v c) }
+{
+    match v {
+        Variable::Word(i) => {
+            leaves.words.insert(i, c)?;
+        }
+        Variable::Mem(i) => {
+            leaves.mems.insert(i, c)?;
+        }
+    }
+    Ok(())
+}
+
+/// The class of a variable, which is the one that is wanted, if it has none yet, and one of its own, if none is wanted.
+fn class_of_variable(
+    forms: &mut Arena,
+    leaves: &mut Leaves,
+    v: Variable,
+    wanted: Option<Class>,
+) -> Result<Class, NoMemory>
+    requires wanted { IfSome wanted (IsLeaf forms.old v) }
+    requires forms { AreForms forms.old leaves.old }
+    ensures class { IfOk result (λ c. leaf_of leaves.new v ≡ Just c) }
+    ensures forms { OnOk result (AreForms forms.new leaves.new) }
+    ensures grows { OnOk result (Grows forms.old forms.new leaves.old leaves.new) }
+{
+    if let Some(c) = leaf_in(leaves, v) {
+        return Ok(c);
+    }
+    let c = wanted_or_own(forms, v, wanted)?;
+    put_leaf(leaves, v, c)?;
+    Ok(c)
+}
+
+/// The class that is wanted, or that of a variable that has its own.
+fn wanted_or_own(forms: &mut Arena, v: Variable, wanted: Option<Class>) -> Result<Class, NoMemory>
+    requires { IfSome wanted (IsLeaf forms.old v) }
+    ensures leaf { IfOk result (λ c. IsLeaf forms.new v c) }
+    ensures grows { Extends forms.old forms.new }
+{
+    match wanted {
+        Some(c) => Ok(c),
+        None => own_class(forms, v),
+    }
+}
+
+/// The class of a variable that has its own.
+fn own_class(forms: &mut Arena, v: Variable) -> Result<Class, NoMemory>
+    ensures leaf { IfOk result (λ c. IsLeaf forms.new v c) }
+    ensures grows { Extends forms.old forms.new }
+{
+    match v {
+        Variable::Word(i) => class_alone(forms, Node::WordVar(i)),
+        Variable::Mem(i) => class_alone(forms, Node::MemVar(i)),
+    }
+}
+
 // ---- classes
 
 /// The class of a term, as far as it is known. A variable that has none yet gets the one that is wanted, if it is the term itself,
@@ -123,16 +277,16 @@ fn counted_form<L: Ledger>(forms: &mut Arena, n: Node, blank: Blank) -> Result<u
 pub(crate) fn class_of<L: Ledger>(
     arena: &Arena,
     forms: &mut Arena,
-    leaves: &mut BTreeMap<u32, u64>,
-    seen: &mut BTreeMap<u64, Option<u64>>,
+    leaves: &mut Leaves,
+    seen: &mut BTreeMap<u64, Option<Class>>,
     x: u64,
-    wanted: Option<u64>,
+    wanted: Option<Class>,
     steps: &mut Steps<L>,
-) -> Result<Option<u64>, NoMemory>
+) -> Result<Option<Class>, NoMemory>
     requires there { x < length arena.now }
-    requires wanted { IfSome wanted (λ k. IsWordAt forms.old k) }
+    requires wanted { IfSome wanted (IsWanted arena.now forms.old x) }
     requires seen { AreClassed arena.now forms.old leaves.old seen.old }
-    ensures class { IfOk result (λ v. IfSome v (λ k. HasClass arena.now forms.new leaves.new x k)) }
+    ensures class { IfOk result (λ v. IfSome v (HasClass arena.now forms.new leaves.new x)) }
     ensures seen { OnOk result (AreClassed arena.now forms.new leaves.new seen.new) }
     ensures grows { OnOk result (Grows forms.old forms.new leaves.old leaves.new) }
     ensures searched { Searched arena.now (HasTerm arena.now x) seen.old seen.new steps.old steps.new }
@@ -151,34 +305,35 @@ pub(crate) fn class_of<L: Ledger>(
 fn class_over<L: Ledger>(
     arena: &Arena,
     forms: &mut Arena,
-    leaves: &mut BTreeMap<u32, u64>,
-    seen: &mut BTreeMap<u64, Option<u64>>,
+    leaves: &mut Leaves,
+    seen: &mut BTreeMap<u64, Option<Class>>,
     x: u64,
-    wanted: Option<u64>,
+    wanted: Option<Class>,
     steps: &mut Steps<L>,
-) -> Result<Option<u64>, NoMemory>
+) -> Result<Option<Class>, NoMemory>
     requires there { x < length arena.now }
-    requires wanted { IfSome wanted (λ k. IsWordAt forms.old k) }
+    requires wanted { IfSome wanted (IsWanted arena.now forms.old x) }
     requires seen { AreClassed arena.now forms.old leaves.old seen.old }
-    ensures class { IfOk result (λ v. IfSome v (λ k. HasClass arena.now forms.new leaves.new x k)) }
+    ensures class { IfOk result (λ v. IfSome v (HasClass arena.now forms.new leaves.new x)) }
     ensures seen { OnOk result (AreClassed arena.now forms.new leaves.new seen.new) }
     ensures grows { OnOk result (Grows forms.old forms.new leaves.old leaves.new) }
     ensures searched { Searched arena.now (HasTerm arena.now x) seen.old seen.new (steps.old + 1) steps.new }
 {
     match read_parts(arena, x, steps) {
-        Parts::Alone(n) => {
-            let v = add_form(forms, n)?;
-            Ok(Some(v))
+        Parts::Constant(n) => {
+            let c = class_alone(forms, Node::Const(n))?;
+            Ok(Some(c))
         }
-        Parts::Variable(i) => {
-            let v = class_of_variable(forms, leaves, i, wanted)?;
-            Ok(Some(v))
+        Parts::Variable(v) => {
+            let c = class_of_variable(forms, leaves, v, wanted)?;
+            Ok(Some(c))
         }
-        Parts::Over(n, a, b) => {
+        Parts::Over(n, a, b, d) => {
             let first = class_of(arena, forms, leaves, seen, a, None, steps)?;
             let second = class_of(arena, forms, leaves, seen, b, None, steps)?;
-            let v = class_with(forms, n, first, second)?;
-            Ok(v)
+            let third = class_of(arena, forms, leaves, seen, d, None, steps)?;
+            let c = class_with(forms, n, all_known(first, second, third))?;
+            Ok(c)
         }
     }
 }
@@ -193,70 +348,8 @@ fn read_parts<L: Ledger>(arena: &Arena, x: u64, steps: &mut Steps<L>) -> Parts
     parts_of(n)
 }
 
-/// The class of a term of that node whose children that count have those classes.
-fn class_with(
-    forms: &mut Arena,
-    n: Node,
-    first: Option<u64>,
-    second: Option<u64>,
-) -> Result<Option<u64>, NoMemory>
-    requires { IfSome (class_node n first second) (AreChildren forms.old) }
-    ensures class { IfOk result (λ v. IfSome v (λ k. IsFormOver forms.old forms.new (class_node n first second) k)) }
-    ensures grows { Extends forms.old forms.new }
-{
-    match class_node(n, first, second) {
-        Some(form) => {
-            let v = add_form(forms, form)?;
-            Ok(Some(v))
-        }
-        None => Ok(None),
-    }
-}
-
-/// The class of a variable, which is the one that is wanted, if it has none yet, and one of its own, if none is wanted.
-fn class_of_variable(
-    forms: &mut Arena,
-    leaves: &mut BTreeMap<u32, u64>,
-    i: u32,
-    wanted: Option<u64>,
-) -> Result<u64, NoMemory>
-    requires wanted { IfSome wanted (λ k. IsWordAt forms.old k) }
-    requires forms { AreForms forms.old leaves.old }
-    ensures class { IfOk result (λ v. get nat_cmp leaves.new i ≡ Just v) }
-    ensures forms { OnOk result (AreForms forms.new leaves.new) }
-    ensures grows { OnOk result (Grows forms.old forms.new leaves.old leaves.new) }
-{
-    if let Some(v) = leaf_in(leaves, i) {
-        return Ok(v);
-    }
-    let v = wanted_or_own(forms, i, wanted)?;
-    leaves.insert(i, v)?;
-    Ok(v)
-}
-
-/// The class that is wanted, or that of a variable that has its own.
-fn wanted_or_own(forms: &mut Arena, i: u32, wanted: Option<u64>) -> Result<u64, NoMemory>
-    requires { IfSome wanted (λ k. IsWordAt forms.old k) }
-    ensures word { IfOk result (λ v. IsWordAt forms.new v) }
-    ensures grows { Extends forms.old forms.new }
-{
-    match wanted {
-        Some(v) => Ok(v),
-        None => add_form(forms, Node::WordVar(i)),
-    }
-}
-
-fn leaf_in(leaves: &BTreeMap<u32, u64>, i: u32) -> Option<u64>
-    ensures { result ≡ get nat_cmp leaves.now i }
-{
-    match leaves.get(&i) {
-        Some(v) => Some(*v),
-        None => None,
-    }
-}
-
 /// What is known of a number's class, if it was read.
-fn seen_in(seen: &BTreeMap<u64, Option<u64>>, x: u64) -> Option<Option<u64>>
+fn seen_in(seen: &BTreeMap<u64, Option<Class>>, x: u64) -> Option<Option<Class>>
     ensures { result ≡ get nat_cmp seen.now x }
 {
     match seen.get(&x) {
@@ -265,12 +358,12 @@ fn seen_in(seen: &BTreeMap<u64, Option<u64>>, x: u64) -> Option<Option<u64>>
     }
 }
 
-/// The class of a number, if it is known.
-pub(crate) fn class_in(seen: &BTreeMap<u64, Option<u64>>, x: u64) -> Option<u64>
+/// The class of a number, if it is known, by the number of its form.
+pub(crate) fn class_in(seen: &BTreeMap<u64, Option<Class>>, x: u64) -> Option<u64>
     ensures { result ≡ class_found (get nat_cmp seen.now x) }
 {
-    match seen.get(&x) {
-        Some(v) => *v,
-        None => None,
+    match seen_in(seen, x) {
+        Some(Some(c)) => Some(c.form),
+        _ => None,
     }
 }
