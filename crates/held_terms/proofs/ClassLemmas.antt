@@ -28,7 +28,7 @@ use Rattle.held_terms.specs.declared.held.HeldFact.{HeldFact}
 use Rattle.held_terms.specs.declared.held.HeldFact.TheVariants as held
 use Rattle.held_terms.specs.Held.{AreFactsAt, IsFactAt, fact_of}
 use Rattle.held_terms.specs.Subterms.{HasFact, HasFacts}
-use Rattle.held_terms.specs.inner.Classes.{Agrees, AreClassed, AreClasses, AreForms, AreFrom, AreOneForm, AreOneKind, ArePartsAt, AreSame, Grows, HasClass, HasLeaf, IsAdded, IsAgreed, IsClass, IsClassOver, IsFactListed, IsLeaf, IsListed, IsOver, IsWanted, Lists, Narrows, Seen, all_known, class_found, cond_form, form_at, leaf_of, listed, node_over, parts_of, tree_base, tree_form, variable_tree}
+use Rattle.held_terms.specs.inner.Classes.{Agrees, AreClassed, AreClasses, AreForms, AreFrom, AreOneForm, AreOneKind, ArePartsAt, AreSame, Grows, HasClass, HasLeaf, IsAdded, IsAgreed, IsClass, IsClassOver, IsFactListed, IsLeaf, IsOver, IsWanted, Lists, Narrows, Seen, all_known, class_found, cond_form, form_at, leaf_of, listed, node_over, parts_of, tree_base, tree_form, variable_tree}
 use Rattle.held_terms.proofs.FindLemmas.{find_cases, find_there, other_find}
 use Rattle.held_terms.proofs.ImagingLemmas.{children_under}
 use Rattle.held_terms.proofs.InstanceLemmas.{extends_next}

@@ -187,8 +187,8 @@ fn see<L: Ledger>(
     }
 }
 
-/// The classes of two equal words, or of two equal memories. If the first one was seen, the second gets its class, where that is free, else the first one
-/// gets that of the second.
+/// The classes of two equal words, or of two equal memories. If the first one was seen, the second gets its class, where that is
+/// free, else the first one gets that of the second.
 fn see_equation<L: Ledger>(
     arena: &Arena,
     a: u64,

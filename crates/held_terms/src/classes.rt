@@ -22,7 +22,7 @@ use std::marker::Brand;
 use std::sync::ledger::{Blank, Ledger};
 use term_arena::{Arena, Node, Steps};
 
-/// A class: the number of a form, and, if it is that of a memory, the number of the memory before all of its outer stores.
+/// A class: the number of a form, and that of the memory before its outer stores, if it is one of a memory, else the same number.
 #[derive(Clone, Copy, Debug)]
 pub(crate) struct Class {
     form: u64,

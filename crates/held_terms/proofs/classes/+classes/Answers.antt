@@ -1,4 +1,4 @@
-use Rattle.std.proofs.Common.{◌+◌, sym, ◌∙◌}
+use Rattle.std.proofs.Common.{◌+◌, sym}
 use Rattle.held_terms.proofs.ClassLemmas.{class_of_constant, class_of_variable, classed_more, classed_still, grows_both, grows_forms, known_still, over_children, over_class, tree_there, wanted_leaf}
 use Rattle.held_terms.proofs.FindLemmas.{searched_begun, searched_first, searched_kept, searched_next, searched_same}
 use Rattle.held_terms.proofs.classes.+classes.Goals as goal
