@@ -1,5 +1,5 @@
 -- Facts of a way: which ones are indexed after a change, and where they are found.
-use Rattle.std.proofs.Common.{true≢false, max, ◌≡◌, ◌⊎◌, ℕ, zero, suc, ◌+◌, ◌<◌, ◌≤◌, Bool, false, cond, List, [], ◌∷◌, ◌++◌, Option, Some, None, Ordering, Less, Equal, Greater, length, map, take, get_or, refl, ap, sym, ◌∙◌, subst, inl, inr, arith, length-append}
+use Rattle.std.proofs.Common.{true≢false, ◌≡◌, ◌⊎◌, ℕ, zero, suc, ◌+◌, ◌<◌, ◌≤◌, Bool, false, cond, List, [], ◌∷◌, ◌++◌, Option, Some, None, Ordering, Less, Equal, Greater, length, map, take, refl, ap, sym, ◌∙◌, subst, inl, inr, arith, length-append}
 use Rattle.std.specs.Prelude.{◌↔◌, IsTrue, slice_get}
 use Rattle.std.specs.List.{Contains}
 use Rattle.std.specs.Map.{lookup}
@@ -10,13 +10,10 @@ use Rattle.std.specs.Cmp.Lexicographic.{slice_cmp}
 use Rattle.std.proofs.lemmas.Bool.{cases_Bool, cond-true, cond-false}
 use Rattle.std.proofs.lemmas.Map.Lookups.{exact_bytes}
 use Rattle.std.proofs.lemmas.Option.{same_Some, slice_get_within}
-use Rattle.std.proofs.lemmas.List.Elements.{All-contains, Contains-push_cases}
-use Rattle.tailrec_lang.proofs.Lists.{map-take_more}
+use Rattle.std.proofs.lemmas.List.Elements.{All-contains}
 use Rattle.term_arena.proofs.Places.{at-append, at_place, at_contains, contains_at, at-map, map-at}
 use Rattle.term_arena.specs.declared.node.Node.{Node}
 use Rattle.term_arena.specs.Arena.{IsArena}
-use Rattle.triple_kernel.specs.Tree.{FactTree}
-use Rattle.triple_kernel.specs.Rules.{AreAmong}
 use Rattle.held_terms.specs.declared.held.HeldFact.{HeldFact}
 use Rattle.held_terms.specs.Held.{fact_of, IsFactAt, AreFactsAt}
 use Rattle.held_terms.specs.inner.Numbers.{numbers_of}
@@ -45,25 +42,12 @@ low_take (suc m) zero xs le long = absurd (omega (arith, le))
 low_take (suc m) (suc n) [] le long = absurd (omega (arith, long))
 low_take (suc m) (suc n) (x ∷ xs) le long = let rest = low_take m n xs (omega (arith, le)) (omega (arith, long)) in omega (arith, rest)
 
--- among the first ones, and among more of them
-pub among_first : {A : Type 0} (n : ℕ) (xs : List A) (k : ℕ) (x : A) → k < n → slice_get xs k ≡ Some x → Contains (take n xs) x
-among_first n xs k x lt e = contains_at (take n xs) k x (at_take n xs k x lt e)
-
-pub among_all : {A : Type 0} (n : ℕ) (xs : List A) (x : A) → Contains (take n xs) x → Contains xs x
-among_all n xs x c = let at = at_contains (take n xs) x c in contains_at xs at.0 x (take_at n xs at.0 x at.1)
-
 pub take_under : {A : Type 0} (n : ℕ) (xs : List A) (k : ℕ) (x : A) → slice_get (take n xs) k ≡ Some x → k < n
 take_under zero [] k x e = cc
 take_under zero (y ∷ xs) k x e = cc
 take_under (suc n) [] k x e = cc
 take_under (suc n) (y ∷ xs) zero x e = omega arith
 take_under (suc n) (y ∷ xs) (suc k) x e = let lt = take_under n xs k x e in omega (arith, lt)
-
-pub among_more_first : {A : Type 0} (n m : ℕ) (xs : List A) (x : A) → n ≤ m → Contains (take n xs) x → Contains (take m xs) x
-among_more_first n m xs x le c =
-    let at = at_contains (take n xs) x c in
-    let lt = take_under n xs at.0 x at.1 in
-    among_first m xs at.0 x (omega (arith, lt, le)) (take_at n xs at.0 x at.1)
 
 -- ---- an index with one entry more
 
@@ -108,7 +92,7 @@ module _ {V : Type 0} (items : V → List ℕ) where
 
 -- ---- which facts are indexed
 
-before_or_last : (j i : ℕ) → j < i + 1 → (j < i) ⊎ (j ≡ i)
+pub before_or_last : (j i : ℕ) → j < i + 1 → (j < i) ⊎ (j ≡ i)
 before_or_last zero zero lt = inr refl
 before_or_last zero (suc i) lt = inl (omega arith)
 before_or_last (suc j) zero lt = absurd (omega (arith, lt))
@@ -173,13 +157,6 @@ module _ (ns : List Node) (arena : IsArena ns) (facts : List HeldFact) (there : 
     λ k. is.1 (map-at (fact_of ns) facts place f k),
   )
 
-  -- among the first trees, where it stands at one of the first places
-  pub tree_first : (place : ℕ) (f : HeldFact) → slice_get facts place ≡ Some f → Contains (take (place + 1) (map (fact_of ns) facts)) (fact_of ns f)
-  tree_first place f e = among_first (place + 1) (map (fact_of ns) facts) place (fact_of ns f) (omega arith) (map-at (fact_of ns) facts place f e)
-
-  pub tree_at : (place : ℕ) (g : HeldFact) (t : FactTree) → slice_get facts place ≡ Some g → fact_of ns g ≡ t → Contains (take (place + 1) (map (fact_of ns) facts)) t
-  tree_at place g t e same = subst (Contains (take (place + 1) (map (fact_of ns) facts))) same (tree_first place g e)
-
   -- none of them, where it is found at no place and all are indexed
   pub none_indexed : (at : List ℕ → Option ℕ) (f : HeldFact) → IsFactAt ns f → IsIndexed facts (length facts) at → ((place : ℕ) → at (numbers_of f) ≡ Some place → slice_get facts place ≡ Some f → ⊥)
       → Contains (map (fact_of ns) facts) (fact_of ns f) → ⊥
@@ -190,19 +167,6 @@ module _ (ns : List Node) (arena : IsArena ns) (facts : List HeldFact) (there : 
       let here : slice_get facts tree.0 ≡ Some f = item.1 ∙ ap (λ (x : HeldFact). Some x) same in
       let p = a.each tree.0 f (slice_get_within facts tree.0 f here) here in
       none p.place p.found p.there
-
--- one fact more among the first ones
-pub among_more : (ns : List Node) (facts way : List HeldFact) (i n m k : ℕ) (f : HeldFact) → i < length facts → f ≡ get_or facts i f → m ≡ max n k → AreAmong (map (fact_of ns) (take i facts)) (take k (map (fact_of ns) way))
-    → Contains (take n (map (fact_of ns) way)) (fact_of ns f) → AreAmong (map (fact_of ns) (take (i + 1) facts)) (take m (map (fact_of ns) way))
-among_more ns facts way i n m k f lt is most a c =
-    let trees = map (fact_of ns) way in
-    record {
-      each = λ t h.
-          elim (Contains-push_cases (map (fact_of ns) (take i facts)) (fact_of ns f) t (subst (λ (l : List FactTree). Contains l t) (map-take_more (fact_of ns) facts i f lt is) h)) [
-            | inl was ↦ among_more_first k m trees t (omega (arith, most)) (a.each t was)
-            | inr same ↦ subst (Contains (take m trees)) same (among_more_first n m trees (fact_of ns f) (omega (arith, most)) c)
-          ];
-    }
 
 -- ---- answers
 

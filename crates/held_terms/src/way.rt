@@ -1,9 +1,8 @@
 //! The facts of a way, which are looked up by the order of their numbers.
 
-ghost use Rattle.std.specs.Prelude.{◌≡◌, ◌↔◌, ◌+◌, ◌<◌, ◌≤◌, ◌++◌, [], ℕ, IfNone, IfSome, IsTrue, OnErr, OnOk, Some as Just, length, map, slice_get, take};
+ghost use Rattle.std.specs.Prelude.{◌≡◌, ◌↔◌, ◌+◌, ◌<◌, ◌++◌, [], ℕ, IfNone, IfSome, IsTrue, OnErr, OnOk, Some as Just, length, map, slice_get, take};
 ghost use Rattle.std.specs.List.{Contains};
 ghost use Rattle.std.specs.Vec.{vec_items};
-ghost use Rattle.triple_kernel.specs.Rules.{AreAmong};
 ghost use Rattle.held_terms.specs.Held.{AreFactsAt, IsFactAt, fact_of};
 ghost use Rattle.held_terms.specs.inner.Numbers.{numbers_of};
 ghost use Rattle.held_terms.specs.inner.Ways.{HasPlace, IsIndexed, IsPlaced, found_at};
@@ -95,54 +94,26 @@ impl Way {
         }
     }
 
-    /// Where all of the facts are on the way: so many of its first facts that they are among these, and no more than have to be where
-    /// all of the way is indexed.
-    pub fn front(&self, arena: &Arena, facts: &[HeldFact]) -> Option<usize>
+    /// A place at which the fact is on the way.
+    pub fn place(&self, arena: &Arena, fact: &HeldFact) -> Option<usize>
         requires own { AreFactsAt arena.now self.now }
-        requires facts { AreFactsAt arena.now facts.now }
-        ensures some { IfSome result (λ n. AreAmong (map (fact_of arena.now) facts.now) (take n (map (fact_of arena.now) self.now))) }
-        ensures few { IfSome result (λ n. n ≤ length self.now) }
-        ensures none { IfNone result (AreAmong (map (fact_of arena.now) facts.now) (map (fact_of arena.now) self.now) → ⊥) }
+        requires fact { IsFactAt arena.now fact.now }
+        ensures some { IfSome result (λ place. slice_get (map (fact_of arena.now) self.now) place ≡ Just (fact_of arena.now fact.now)) }
+        ensures none { IfNone result (Contains (map (fact_of arena.now) self.now) (fact_of arena.now fact.now) → ⊥) }
     {
-        front_over(
+        place_over(
             self.alloc,
             arena,
             self.facts.as_slice(),
             &self.index,
             self.indexed,
-            facts,
+            fact,
         )
     }
 }
 
-/// Where all of the facts are on the way, of which so many are indexed: so many of its first ones that they are among these.
-fn front_over(
-    alloc: Global,
-    arena: &Arena,
-    way: &[HeldFact],
-    index: &BTreeMap<Vec<u64>, usize>,
-    indexed: usize,
-    facts: &[HeldFact],
-) -> Option<usize>
-    requires way { AreFactsAt arena.now way.now }
-    requires facts { AreFactsAt arena.now facts.now }
-    requires index { IsIndexed way.now indexed (found_at vec_items index.now.entries) }
-    ensures some { IfSome result (λ n. AreAmong (map (fact_of arena.now) facts.now) (take n (map (fact_of arena.now) way.now))) }
-    ensures few { IfSome result (λ n. n ≤ length way.now) }
-    ensures none { IfNone result (AreAmong (map (fact_of arena.now) facts.now) (map (fact_of arena.now) way.now) → ⊥) }
-{
-    let mut front = 0;
-    for fact in facts {
-        match front_of(alloc, arena, way, index, indexed, fact) {
-            Some(n) => front = n.max(front),
-            None => return None,
-        }
-    }
-    Some(front)
-}
-
-/// Where the fact is on the way: so many of its first facts that it is among these.
-fn front_of(
+/// A place at which the fact is on the way, of which so many facts are indexed.
+fn place_over(
     alloc: Global,
     arena: &Arena,
     way: &[HeldFact],
@@ -153,16 +124,15 @@ fn front_of(
     requires way { AreFactsAt arena.now way.now }
     requires fact { IsFactAt arena.now fact.now }
     requires index { IsIndexed way.now indexed (found_at vec_items index.now.entries) }
-    ensures some { IfSome result (λ n. Contains (take n (map (fact_of arena.now) way.now)) (fact_of arena.now fact.now)) }
-    ensures few { IfSome result (λ n. n ≤ length way.now) }
+    ensures some { IfSome result (λ place. slice_get (map (fact_of arena.now) way.now) place ≡ Just (fact_of arena.now fact.now)) }
     ensures none { IfNone result (Contains (map (fact_of arena.now) way.now) (fact_of arena.now fact.now) → ⊥) }
 {
     if indexed == way.len() {
         if let Ok(numbers) = numbers_of(alloc, fact) {
-            return indexed_front(arena, way, index, fact, numbers.as_slice());
+            return place_of_all(arena, way, index, fact, numbers.as_slice());
         }
     }
-    front_among(arena, way, fact)
+    place_among(arena, way, fact)
 }
 
 /// Indexes the facts from the place on, while there is memory for that. Gives how many first facts are indexed then.
@@ -277,8 +247,8 @@ fn stands_at(arena: &Arena, facts: &[HeldFact], place: usize, fact: &HeldFact) -
     is_at(arena, facts, place, fact)
 }
 
-/// Where all of the facts are indexed and the fact is among them: so many of the first ones that it is among these.
-fn indexed_front(
+/// A place at which the fact stands among the facts, where all of these are indexed.
+fn place_of_all(
     arena: &Arena,
     facts: &[HeldFact],
     index: &BTreeMap<Vec<u64>, usize>,
@@ -289,29 +259,27 @@ fn indexed_front(
     requires fact { IsFactAt arena.now fact.now }
     requires numbers { numbers.now ≡ numbers_of fact.now }
     requires index { IsIndexed facts.now (length facts.now) (found_at vec_items index.now.entries) }
-    ensures some { IfSome result (λ n. Contains (take n (map (fact_of arena.now) facts.now)) (fact_of arena.now fact.now)) }
-    ensures few { IfSome result (λ n. n ≤ length facts.now) }
+    ensures some { IfSome result (λ place. slice_get (map (fact_of arena.now) facts.now) place ≡ Just (fact_of arena.now fact.now)) }
     ensures none { IfNone result (Contains (map (fact_of arena.now) facts.now) (fact_of arena.now fact.now) → ⊥) }
 {
     arena.law_of_nodes();
     match indexed_place(arena, facts, index, fact, numbers) {
-        Some(place) => Some(place + 1),
+        Some(place) => Some(place),
         None => None,
     }
 }
 
-/// Where the fact is among them: so many of the first ones that it is among these.
-fn front_among(arena: &Arena, facts: &[HeldFact], fact: &HeldFact) -> Option<usize>
+/// A place at which the fact stands among the facts.
+fn place_among(arena: &Arena, facts: &[HeldFact], fact: &HeldFact) -> Option<usize>
     requires facts { AreFactsAt arena.now facts.now }
     requires fact { IsFactAt arena.now fact.now }
-    ensures some { IfSome result (λ n. Contains (take n (map (fact_of arena.now) facts.now)) (fact_of arena.now fact.now)) }
-    ensures few { IfSome result (λ n. n ≤ length facts.now) }
+    ensures some { IfSome result (λ place. slice_get (map (fact_of arena.now) facts.now) place ≡ Just (fact_of arena.now fact.now)) }
     ensures none { IfNone result (Contains (map (fact_of arena.now) facts.now) (fact_of arena.now fact.now) → ⊥) }
 {
     arena.law_of_nodes();
     for place in 0..facts.len() {
         if same_fact(arena, &facts[place], fact) {
-            return Some(place + 1);
+            return Some(place);
         }
     }
     None

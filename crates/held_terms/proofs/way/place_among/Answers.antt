@@ -1,17 +1,17 @@
-use Rattle.std.proofs.Common.{List, map, sym, subst}
+use Rattle.std.proofs.Common.{List, Some, ap, map, sym, subst, ◌∙◌}
 use Rattle.std.specs.List.{Contains}
 use Rattle.std.proofs.lemmas.List.{take_all}
-use Rattle.term_arena.proofs.Places.{at_read}
+use Rattle.term_arena.proofs.Places.{at_read, map-at}
+use Rattle.triple_kernel.specs.Tree.{FactTree}
 use Rattle.triple_kernel.proofs.Among.{not_among_more}
 use Rattle.held_terms.specs.declared.held.HeldFact.{HeldFact}
 use Rattle.held_terms.specs.Held.{fact_of}
-use Rattle.held_terms.proofs.WayLemmas.{tree_at}
-use Rattle.held_terms.proofs.way.front_among.Goals as goal
+use Rattle.held_terms.proofs.way.place_among.Goals as goal
 
 pub returns-then-same_fact-clause-some : goal.returns-then-same_fact-clause-some
 returns-then-same_fact-clause-some c =
-    tree_at c.args.arena.now c.law_of_nodes.ensures c.args.facts.now c.requires.facts c.loop-place.place c.index-facts-place.result (fact_of c.args.arena.now c.args.fact.now)
-    (at_read c.args.facts.now c.loop-place.place c.index-facts-place.result c.loop-place-test.true c.index-facts-place.is) (c.same_fact.ensures.0 c.if-same_fact.true)
+    map-at (fact_of c.args.arena.now) c.args.facts.now c.loop-place.place c.index-facts-place.result
+    (at_read c.args.facts.now c.loop-place.place c.index-facts-place.result c.loop-place-test.true c.index-facts-place.is) ∙ ap (λ (f : FactTree). Some f) (c.same_fact.ensures.0 c.if-same_fact.true)
 
 pub loop-place-preserved : goal.loop-place-preserved
 loop-place-preserved c =
