@@ -1,7 +1,7 @@
 //! Definitions that are closed by theorems over numbers.
 #![tactic(auto, using(held_terms::proofs::InstanceLemmas::extends_next, crate::proofs::BenchLemmas::extends_none))]
 
-ghost use Rattle.std.specs.Prelude.{◌≡◌, ◌↔◌, ◌⊎◌, ◌+◌, ◌≤◌, IfOk, IsErrOf, IsOk, IsSome, IsTrue, OnOk, drop, false, flat_map, length, map, slice_get};
+ghost use Rattle.std.specs.Prelude.{◌≡◌, ◌↔◌, ◌⊎◌, ◌+◌, ◌<◌, ◌≤◌, ◌∷◌, [], ℕ, IfOk, IsErrOf, IsOk, IsSome, IsTrue, List as Items, OnOk, drop, false, flat_map, length, map, slice_get};
 ghost use Rattle.std.specs.BTreeMap.{get};
 ghost use Rattle.std.specs.Ordering.{nat_cmp};
 ghost use Rattle.tailrec_lang.specs.Tree.{def_tree, group_tree};
@@ -12,14 +12,14 @@ ghost use Rattle.term_arena.specs.Arena.{Extends};
 ghost use Rattle.held_terms.specs.Held.{AreFactsAt, IsHeldAt, IsSideAt, fact_of, triple_of};
 ghost use Rattle.term_bench.specs.Bench.{AreHeldAt, theorem_at};
 ghost use Rattle.term_bench.specs.Terms.{closing_terms, fact_terms, nodes_of};
-ghost use Rattle.term_bench.specs.inner.Asked.{AreAsked, Begins, KnowsOf, LeadsOver, StaysAsked, StaysFor, closing_with};
+ghost use Rattle.term_bench.specs.inner.Asked.{AreAsked, AreFound, Begins, KnowsOf, KnowsPlaces, LeadsOver, StaysAsked, StaysFor, closing_with};
 ghost use Rattle.term_bench.specs.inner.Put.{AreFactsPut};
 ghost use Rattle.term_bench.specs.inner.Leaves.{AreFirstOf, leaf_over};
 
-use crate::asked::Asked;
+use crate::asked::{Asked, Places};
 use crate::put::{put_facts, put_side};
 use crate::rules::theorem;
-use held_terms::{Held, HeldSide, Way, is_entry, same_side};
+use held_terms::{Held, HeldFact, HeldSide, Way, is_entry, same_side};
 use loop_rule::{JudgeLeaves, cite_for_leaves, shorten};
 use rv_words::{List, NoMemory};
 use sep_assert::{Assertion, code_within};
@@ -70,10 +70,10 @@ impl<'a, L: Ledger> JudgeLeaves for HeldLeaves<'a, L> {
     fn is_led(&mut self, alloc: Global, post: &Assertion, number: u64) -> Result<bool, NoMemory> {
         put_way(alloc, self.arena, self.way.as_slice(), self.put, self.steps)?;
         let end = put_side(alloc, self.arena, post, self.steps)?;
-        Ok(led_by(
-            self.arena, self.group, self.def, self.put, &end, self.held, number, self.asked,
+        led_by(
+            alloc, self.arena, self.group, self.def, self.put, &end, self.held, number, self.asked,
             self.steps,
-        ))
+        )
     }
 }
 
@@ -97,7 +97,7 @@ pub(crate) fn is_closed_by<L: Ledger>(
     };
     let mut way = List::new(alloc);
     let mut put = Way::new(alloc);
-    let mut asked = Asked::new(alloc)?;
+    let mut asked = Asked::new(alloc);
     let mut leaves = HeldLeaves {
         arena,
         group: g,
@@ -153,6 +153,7 @@ fn from_place(items: &[Fact], place: usize) -> &[Fact]
 
 /// Whether the theorem of that number leads to the leaf, if there is one.
 fn led_by<L: Ledger>(
+    alloc: Global,
     arena: &Arena,
     g: &Group,
     def: &Def,
@@ -162,26 +163,30 @@ fn led_by<L: Ledger>(
     number: u64,
     asked: &mut Asked,
     steps: &mut Steps<L>,
-) -> bool
+) -> Result<bool, NoMemory>
     requires held { AreHeldAt arena.now held.now.entries }
     requires way { AreFactsAt arena.now way.old }
     requires post { IsSideAt arena.now post.now }
     requires asked { AreAsked (closing_with (group_tree g.now) (def_tree def.now) (theorem_at arena.now held.now.entries)) (map (fact_of arena.now) way.old) asked.old }
-    ensures answer { IsTrue result ↔ IsLedTo (group_tree g.now) (def_tree def.now) (leaf_over arena.now way.old post.now) (theorem_at arena.now held.now.entries number) }
+    ensures answer { IfOk result (λ r. IsTrue r ↔ IsLedTo (group_tree g.now) (def_tree def.now) (leaf_over arena.now way.old post.now) (theorem_at arena.now held.now.entries number)) }
     ensures way { way.new ≡ way.old }
     ensures asked { AreAsked (closing_with (group_tree g.now) (def_tree def.now) (theorem_at arena.now held.now.entries)) (map (fact_of arena.now) way.old) asked.new }
     ensures steps { steps.new ≤ steps.old + (1 + (length g.now.regs + g.now.mems)) }
 {
     match theorem(arena, held, number) {
         Some(p) => {
-            same_side(arena, &p.post, post) && leads(arena, g, def, way, p, number, asked, steps)
+            Ok(
+                same_side(arena, &p.post, post)
+                    && leads(alloc, arena, g, def, way, p, number, asked, steps)?,
+            )
         }
-        None => false,
+        None => Ok(false),
     }
 }
 
 /// Whether the theorem, which has that number, leads from the definition's entry over the way.
 fn leads<L: Ledger>(
+    alloc: Global,
     arena: &Arena,
     g: &Group,
     def: &Def,
@@ -190,19 +195,22 @@ fn leads<L: Ledger>(
     number: u64,
     asked: &mut Asked,
     steps: &mut Steps<L>,
-) -> bool
+) -> Result<bool, NoMemory>
     requires way { AreFactsAt arena.now way.old }
     requires p { IsHeldAt arena.now p.now }
     requires known { KnowsOf (group_tree g.now) (def_tree def.now) (map (fact_of arena.now) way.old) number asked.old (triple_of arena.now p.now) }
-    ensures answer { IsTrue result ↔ LeadsOver (group_tree g.now) (def_tree def.now) (map (fact_of arena.now) way.old) (triple_of arena.now p.now) }
+    ensures answer { IfOk result (λ r. IsTrue r ↔ LeadsOver (group_tree g.now) (def_tree def.now) (map (fact_of arena.now) way.old) (triple_of arena.now p.now)) }
     ensures way { way.new ≡ way.old }
     ensures asked { StaysAsked (group_tree g.now) (def_tree def.now) (map (fact_of arena.now) way.old) number (triple_of arena.now p.now) asked.old asked.new }
     ensures steps { steps.new ≤ steps.old + (1 + (length g.now.regs + g.now.mems)) }
 {
     if asked.leads(number) {
-        return true;
+        return Ok(true);
     }
-    begins(arena, g, def, p, number, asked, steps) && has_facts(arena, way, p, number, asked)
+    if begins(arena, g, def, p, number, asked, steps) {
+        return has_facts(alloc, arena, way, p, number, asked);
+    }
+    Ok(false)
 }
 
 /// Whether the theorem, which has that number, begins at the definition's entry, within the group's code.
@@ -216,7 +224,7 @@ fn begins<L: Ledger>(
     steps: &mut Steps<L>,
 ) -> bool
     requires p { IsHeldAt arena.now p.now }
-    ensures found { IsTrue result → IsSome (get nat_cmp asked.now.fronts number) ⊎ Begins (group_tree g.now) (def_tree def.now) (triple_of arena.now p.now) }
+    ensures found { IsTrue result → IsSome (get nat_cmp asked.now.theorems number) ⊎ Begins (group_tree g.now) (def_tree def.now) (triple_of arena.now p.now) }
     ensures none { result ≡ false → Begins (group_tree g.now) (def_tree def.now) (triple_of arena.now p.now) → ⊥ }
     ensures steps { steps.new ≤ steps.old + (1 + (length g.now.regs + g.now.mems)) }
 {
@@ -224,20 +232,74 @@ fn begins<L: Ledger>(
         || is_entry(arena, g, def, &p.pre, steps) && code_within(p.code.as_code(), &g.code)
 }
 
-/// Whether the theorem's facts are on the way, where it is one of that number which begins at the entry.
-fn has_facts(arena: &Arena, way: &mut Way, p: &Held, number: u64, asked: &mut Asked) -> bool
+/// Whether the theorem's facts are on the way, where it is one of that number which begins at the entry. Those that still stand where they
+/// were found aren't looked up.
+fn has_facts(
+    alloc: Global,
+    arena: &Arena,
+    way: &mut Way,
+    p: &Held,
+    number: u64,
+    asked: &mut Asked,
+) -> Result<bool, NoMemory>
     requires way { AreFactsAt arena.now way.old }
     requires p { IsHeldAt arena.now p.now }
-    ensures answer { IsTrue result ↔ AreAmong (map (fact_of arena.now) p.now.facts) (map (fact_of arena.now) way.old) }
+    requires known { KnowsPlaces (map (fact_of arena.now) way.old) number asked.old (map (fact_of arena.now) p.now.facts) }
+    ensures answer { IfOk result (λ r. IsTrue r ↔ AreAmong (map (fact_of arena.now) p.now.facts) (map (fact_of arena.now) way.old)) }
     ensures way { way.new ≡ way.old }
     ensures asked { StaysFor (map (fact_of arena.now) way.old) number (triple_of arena.now p.now) asked.old asked.new }
 {
     way.index(arena);
-    match way.front(arena, p.facts.as_slice()) {
-        Some(many) => {
-            asked.keep(number, many);
-            true
-        }
-        None => false,
+    let facts = p.facts.as_slice();
+    let (mut places, left) = asked.take(alloc, number, facts.len())?;
+    if !find_facts(arena, way, facts, left.as_slice(), asked, &mut places)? {
+        return Ok(false);
     }
+    asked.keep(number, places);
+    Ok(true)
+}
+
+/// Whether the facts of those numbers are on the way too, where the others were found at the places. Notes where they are.
+fn find_facts(
+    arena: &Arena,
+    way: &Way,
+    facts: &[HeldFact],
+    left: &[usize],
+    asked: &Asked,
+    places: &mut Places,
+) -> Result<bool, NoMemory>
+    requires way { AreFactsAt arena.now way.now }
+    requires facts { AreFactsAt arena.now facts.now }
+    requires found { AreFound asked.now.stamps (map (fact_of arena.now) way.now) (map (fact_of arena.now) facts.now) places.old left.now }
+    ensures yes { IfOk result (λ r. IsTrue r → AreFound asked.now.stamps (map (fact_of arena.now) way.now) (map (fact_of arena.now) facts.now) places.new []) }
+    ensures no { IfOk result (λ r. r ≡ false → AreAmong (map (fact_of arena.now) facts.now) (map (fact_of arena.now) way.now) → ⊥) }
+{
+    for fact in left {
+        if !find_fact(arena, way, facts, *fact, asked, places)? {
+            return Ok(false);
+        }
+    }
+    Ok(true)
+}
+
+/// Whether the fact of that number is on the way. Notes where it is.
+fn find_fact(
+    arena: &Arena,
+    way: &Way,
+    facts: &[HeldFact],
+    fact: usize,
+    asked: &Asked,
+    places: &mut Places,
+) -> Result<bool, NoMemory>
+    requires way { AreFactsAt arena.now way.now }
+    requires facts { AreFactsAt arena.now facts.now }
+    requires low { fact < length facts.now }
+    ensures yes { IfOk result (λ r. IsTrue r → (rest : Items ℕ) → AreFound asked.now.stamps (map (fact_of arena.now) way.now) (map (fact_of arena.now) facts.now) places.old (fact ∷ rest) → AreFound asked.now.stamps (map (fact_of arena.now) way.now) (map (fact_of arena.now) facts.now) places.new rest) }
+    ensures no { IfOk result (λ r. r ≡ false → AreAmong (map (fact_of arena.now) facts.now) (map (fact_of arena.now) way.now) → ⊥) }
+{
+    let Some(place) = way.place(arena, &facts[fact]) else {
+        return Ok(false);
+    };
+    asked.note(places, place, fact)?;
+    Ok(true)
 }

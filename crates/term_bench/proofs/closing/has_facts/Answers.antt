@@ -1,23 +1,19 @@
-use Rattle.std.proofs.Common.{◌≤◌, ap, arith, length, map, refl, take}
-use Rattle.std.proofs.lemmas.List.{length-map}
-use Rattle.triple_kernel.specs.Rules.{AreAmong}
+use Rattle.std.proofs.Common.{[], map, refl}
 use Rattle.held_terms.specs.Held.{fact_of, triple_of}
-use Rattle.term_bench.proofs.AskedLemmas.{among_front, among_whole}
+use Rattle.term_bench.specs.inner.Asked.{AreFound}
+use Rattle.term_bench.proofs.AskedLemmas.{found_among, found_over}
 use Rattle.term_bench.proofs.closing.has_facts.Goals as goal
 
-pub returns-in-Some-clause-answer : goal.returns-in-Some-clause-answer
-returns-in-Some-clause-answer c =
-    let ns = c.args.arena.now in
-    let first : AreAmong (map (fact_of ns) c.args.p.now.facts) (take c.in-Some.many (map (fact_of ns) c.args.way.now)) =
-    among_front ns c.args.p.now.facts c.as_slice.result.now c.args.way.now c.index.new.self c.in-Some.many c.as_slice.ensures c.index.ensures c.in-Some.ensures.some in
-    (λ yes. among_whole c.in-Some.many (map (fact_of ns) c.args.p.now.facts) (map (fact_of ns) c.args.way.now) first, λ among. refl)
+pub returns-clause-answer : goal.returns-clause-answer
+returns-clause-answer c =
+    let f = fact_of c.args.arena.now in
+    let found : AreFound c.take.new.self.stamps (map f c.args.way.now) (map f c.args.p.now.facts) c.find_facts.new.places [] =
+    found_over c.take.new.self.stamps c.args.arena.now c.index.new.self c.args.way.now c.as_slice-facts.result.now c.args.p.now.facts c.find_facts.new.places c.index.ensures c.as_slice-facts.ensures (c.in_ok-find_facts.ensures.yes c.if-not-branch.false) in
+    (λ yes. found_among c.take.new.self.stamps (map f c.args.way.now) (map f c.args.p.now.facts) c.find_facts.new.places found, λ among. refl)
 
-pub returns-in-Some-clause-asked : goal.returns-in-Some-clause-asked
-returns-in-Some-clause-asked c =
-    let ns = c.args.arena.now in
-    let way = map (fact_of ns) c.args.way.now in
-    let first : AreAmong (map (fact_of ns) c.args.p.now.facts) (take c.in-Some.many way) =
-    among_front ns c.args.p.now.facts c.as_slice.result.now c.args.way.now c.index.new.self c.in-Some.many c.as_slice.ensures c.index.ensures c.in-Some.ensures.some in
-    let few : c.in-Some.many ≤ length way =
-    (let long = length-map c.args.way.now (fact_of ns) in let same = ap length c.index.ensures in let low = c.in-Some.ensures.few in omega (arith, long, same, low)) in
-    record { each = λ d is begins a. c.keep.ensures d way (triple_of ns c.args.p.now) is begins first few a }
+pub returns-clause-asked : goal.returns-clause-asked
+returns-clause-asked c =
+    let f = fact_of c.args.arena.now in
+    let found : AreFound c.take.new.self.stamps (map f c.args.way.now) (map f c.args.p.now.facts) c.find_facts.new.places [] =
+    found_over c.take.new.self.stamps c.args.arena.now c.index.new.self c.args.way.now c.as_slice-facts.result.now c.args.p.now.facts c.find_facts.new.places c.index.ensures c.as_slice-facts.ensures (c.in_ok-find_facts.ensures.yes c.if-not-branch.false) in
+    record { each = λ d is begins a. c.keep.ensures d (map f c.args.way.now) (triple_of c.args.arena.now c.args.p.now) is begins found (c.take.ensures.asked d (map f c.args.way.now) a) }

@@ -1,4 +1,5 @@
 use Rattle.std.proofs.Common.{map, refl}
+use Rattle.std.proofs.lemmas.Result.{IfOk-weaker}
 use Rattle.tailrec_lang.specs.Tree.{def_tree, group_tree}
 use Rattle.held_terms.specs.Held.{fact_of, triple_of}
 use Rattle.term_bench.proofs.AskedLemmas.{begins_known, leads_facts, leads_known, stays_so}
@@ -11,6 +12,9 @@ returns-then-leads-clause-answer g c =
       λ leads. refl,
     )
 
+pub has_facts-requires-clause-known : goal.has_facts-requires-clause-known
+has_facts-requires-clause-known g c = c.requires.known.places
+
 pub returns-then-begins-clause-answer : goal.returns-then-begins-clause-answer
 returns-then-begins-clause-answer g c =
     let ns = c.args.arena.now in
@@ -18,7 +22,8 @@ returns-then-begins-clause-answer g c =
     let def = def_tree c.args.def.now in
     let way = map (fact_of ns) c.args.way.now in
     let t = triple_of ns c.args.p.now in
-    leads_facts group def way t c.has_facts.result (begins_known group def way c.args.number c.args.asked.now t c.requires.known (c.begins.ensures.found c.if-begins.true)) c.has_facts.ensures.answer
+    let begins = begins_known group def way c.args.number c.args.asked.now t c.requires.known (c.begins.ensures.found c.if-begins.true) in
+    IfOk-weaker c.has_facts.result _ _ (λ r is. leads_facts group def way t r begins is) c.has_facts.ensures.answer
 
 pub returns-then-begins-clause-asked : goal.returns-then-begins-clause-asked
 returns-then-begins-clause-asked g c =

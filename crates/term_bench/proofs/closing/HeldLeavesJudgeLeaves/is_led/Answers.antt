@@ -1,5 +1,5 @@
 use Rattle.std.proofs.Common.{◌≡◌, ◌+◌, ◌≤◌, List, [], ◌∷◌, flat_map, map, refl, sym, ap, ◌∙◌, subst, arith, IsTrue}
-use Rattle.std.specs.Prelude.{◌↔◌}
+use Rattle.std.specs.Prelude.{◌↔◌, IfOk}
 use Rattle.tailrec_lang.specs.Tree.{def_tree, group_tree}
 use Rattle.sep_assert.specs.Tree.{assertion_tree}
 use Rattle.triple_kernel.specs.declared.triple.Fact.{Fact}
@@ -55,8 +55,8 @@ returns-clause-answer g c =
     leaf_put two c.put_way.new.put c.in_ok-end.end (map fact_tree c.as_slice.result.now) (assertion_tree c.args.post.now) all c.in_ok-end.ensures.put
     ∙ (λ i. record { facts = map fact_tree (c.as_slice.ensures i); post = assertion_tree c.args.post.now }) in
     let theorem : theorem_at two old.held.now.entries ≡ theorem_at old.arena.now old.held.now.entries = theorems_stay old.arena.now two (extends_next old.arena.now one two c.put_way.ensures.grows c.put_side.ensures.grows) old.held.now.entries c.requires.held in
-    subst (λ f. IsTrue c.led_by.result ↔ IsLedTo group def (leaf_with (map fact_tree old.way.now) c.args.post.now) (f c.args.number)) theorem
-    (subst (λ (l : LeafTree). IsTrue c.led_by.result ↔ IsLedTo group def l (theorem_at two old.held.now.entries c.args.number)) leaf c.led_by.ensures.answer)
+    subst (λ f. IfOk c.led_by.result (λ r. IsTrue r ↔ IsLedTo group def (leaf_with (map fact_tree old.way.now) c.args.post.now) (f c.args.number))) theorem
+    (subst (λ (l : LeafTree). IfOk c.led_by.result (λ r. IsTrue r ↔ IsLedTo group def l (theorem_at two old.held.now.entries c.args.number))) leaf c.led_by.ensures.answer)
 
 pub returns-in_err-put_way-clause-went : goal.returns-in_err-put_way-clause-went
 returns-in_err-put_way-clause-went g c =
