@@ -97,12 +97,22 @@ def facts_of_leaves(n):
     return TURN, text(*lines, code=TURN.hex()), CHECK
 
 
-@family(800)
+@family(20_000)
 def late_facts(n):
     """n leaves behind n steps. Each second one has a theorem of n facts and of the condition that stands right before the leaf."""
     steps, facts = each(n, "let {0:#x}", "\n"), each(n, "(is v{0} {0:#x})")
     pairs = tree(n // 2, "if (eq 0x1 0x1)\nagain ;\nelse\nagain ;")
     lines = [AGAIN, steps, *pairs, LOOP, states("weaken 0", f"(so (eq 0x1 0x1)) {facts}", behind=ENTRY), "loop 0" + " 1 0" * (n // 2)]
+    return TURN, text(*lines, code=TURN.hex()), CHECK
+
+
+@family(10_000)
+def facts_of_blocks(n):
+    """n leaves in blocks, as many as a block has leaves and steps. Each leaf of a block has another theorem of as many facts, those of its block's steps."""
+    size = math.isqrt(n)
+    block = "\n".join([each(size, "let {0:#x}", "\n"), *tree(size, "again ;")])
+    facts = each(size, "(is v{0} {0:#x})")
+    lines = [AGAIN, *tree(size, block), LOOP, *[states("weaken 0", facts, behind=ENTRY)] * size, "loop 0" + "".join(f" {i + 1}" for i in range(size)) * size]
     return TURN, text(*lines, code=TURN.hex()), CHECK
 
 
