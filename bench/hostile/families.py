@@ -2,7 +2,7 @@
 """families.py PROGRAM [FAMILY..]: how the cost of a command grows with files and words that are made to cost much.
 
 A family is a way to make them of any size. Each is made at three sizes, each twice the one before, and the program is run on them. A line tells the bytes
-(of the text, of the ELF file, of the words; of what is decompiled, those of OUT), the seconds of a processor and the MiB that were taken, then by which power
+(of the text, of the certificate, of the ELF file, of the words; of what is decompiled, those of OUT), the seconds of a processor and the MiB that were taken, then by which power
 of the bytes time and memory grow from the second size to the third, and what that comes to at the limit of the bytes, with the power to a half. Powers of
 times below a tenth of a second and of peaks below 32 MiB aren't told. A program gets a minute of a processor and 4 GiB, and is run twice: the faster run
 counts. All families take a minute or two; with their names, only those are tried.
@@ -26,18 +26,19 @@ SMALL = 16 * MIB
 TIMES = ("years", 365 * 86400), ("days", 86400), ("h", 3600), ("min", 60)
 SPACES = ("TiB", MIB), ("GiB", 1024)
 FENCE, NOTHING = 0x0000000F, immediate(0, 10, 10, 1)
-# The most bytes of a proof file and of an ELF file, and of words on Linux.
-LIMITS = {"PROOF": 256 * MIB, "ELF": 64 * MIB, "WORDS": 2 * MIB}
+# The most bytes of a proof file, of a certificate and of an ELF file, and of words on Linux.
+LIMITS = {"PROOF": 256 * MIB, "CERT": 256 * MIB, "ELF": 64 * MIB, "WORDS": 2 * MIB}
 Family = collections.namedtuple("Family", "sizes counted make")
-# The bytes of code at the base, or the segments of the ELF file; the text; the words of the command; how many functions `f` the symbol table has.
-Made = collections.namedtuple("Made", "code text command symbols", defaults=(0,))
+# The bytes of code at the base, or the segments of the ELF file; the text; the words of the command; how many functions `f` the symbol table has; the
+# certificate.
+Made = collections.namedtuple("Made", "code text command symbols certificate", defaults=(0, ""))
 FAMILIES = {}
 ENTRY, BEHIND = f"{BASE:#x}", f"{BASE + 4:#x}"
 CHECK, DECOMPILE = ["check", "ELF", "PROOF"], ["decompile", "ELF", "OUT", ENTRY]
 
 
 def family(first, counted="PROOF"):
-    """A family with its least size, and what its bytes are: those of PROOF, of ELF, of the WORDS, of OUT, or a NUMBER that grows as the cost may.
+    """A family with its least size, and what its bytes are: those of PROOF, of CERT, of ELF, of the WORDS, of OUT, or a NUMBER that grows as the cost may.
     What makes it gives what `Made` has."""
 
     def add(make):
@@ -311,6 +312,30 @@ def calls(n):
     return words([FENCE]), text(*LEAVES, *twice), ["eval", "PROOF", "f", str(n)]
 
 
+# ---- `laws`
+
+
+def certified(body):
+    """A text whose definition has such a body, in which each line but `else` has one term, and a certificate that makes `v0` of each `(add v0 0x0)`."""
+    proof, old, new = text(LEAVES[0], *body, registers="10"), "(add v0 0x0)", "v0"
+    group = proof.partition("\n")[2].rpartition("end\n")[0]
+    steps = [f"rw 0 {i} - 1" for i, line in enumerate(line for line in body if line != "else") if old in line]
+    result = [*steps, "result", LEAVES[0], *(line.replace(old, new) for line in body), "end", ""]
+    return words([FENCE]), proof, ["laws", "PROOF", "CERT"], 0, f"mclaws 1\n{group}" + "\n".join(result)
+
+
+@family(20_000, "CERT")
+def steps_of_a_certificate(n):
+    """n steps, each of which rewrites another term of a body of n steps."""
+    return certified(["let (add v0 0x0)"] * n + ["leave 0 v0 ;"])
+
+
+@family(20_000, "CERT")
+def steps_in_leaves(n):
+    """n steps, each of which rewrites another leaf of a body."""
+    return certified(tree(n, "leave 0 (add v0 0x0) ;"))
+
+
 # ---- ELF files and words
 
 
@@ -406,11 +431,12 @@ def drawn_branches(n):
 
 def write(folder, made):
     """Writes the files of what was made, and gives their paths."""
-    paths = {name: os.path.join(folder, name) for name in ("ELF", "PROOF", "OUT")}
+    paths = {name: os.path.join(folder, name) for name in ("ELF", "PROOF", "CERT", "OUT")}
     segments = made.code if isinstance(made.code, list) else [(BASE, made.code, len(made.code), len(made.code))]
     write_elf(paths["ELF"], segments, [("f", BASE)] * made.symbols)
-    with open(paths["PROOF"], "w") as file:
-        file.write(made.text)
+    for name, content in (("PROOF", made.text), ("CERT", made.certificate)):
+        with open(paths[name], "w") as file:
+            file.write(content)
     return paths
 
 

@@ -1,5 +1,5 @@
 -- A definition with one term rewritten is like it was.
-use Rattle.std.proofs.Common.{◌≡◌, ℕ, zero, suc, ◌+◌, ◌-◌, Bool, true, false, cond, nat_lt, List, [], ◌∷◌, Option, Some, None, option_map, slice_get, length, refl, sym, subst}
+use Rattle.std.proofs.Common.{◌≡◌, ℕ, zero, suc, ◌+◌, ◌-◌, Bool, true, false, cond, nat_lt, List, [], ◌∷◌, Option, Some, option_map, slice_get, length, refl, sym, subst}
 use Rattle.std.specs.Prelude.{slice_set}
 use Rattle.word_terms.specs.Tree.{WordTree, MemTree, CondTree}
 use Rattle.tailrec_lang.specs.Tree.{ValuesTree, StepTree, Bind, BindMem, Need, BodyTree, Do, Branch, Call, Again, Leave, ArmTrees, NoArm, Arm, DefTree}
@@ -8,6 +8,7 @@ use Rattle.term_laws.specs.Laws.{Term, OfWord, OfMem, OfCond}
 use Rattle.def_laws.specs.Rewriting.{step_term, count, value_at, term_at, arm_term_at, with_step_term, with_word_term, with_mem_term, with_cond, with_value, with_term, with_arm_term, with_def_term, IsRewritingStep}
 use Rattle.term_laws.specs.Values.{KeepsValue}
 use Rattle.def_laws.specs.inner.Alike.{EachPair, AlikeWords, AlikeMems, AlikeConds, AlikeValues, AlikeSteps, AlikeBodies, AlikeArms, AlikeDefs}
+use Rattle.def_laws.proofs.Parts.{made-some}
 use Rattle.term_laws.proofs.LawLemmas.{sound_number}
 use Rattle.term_laws.proofs.Places.{alike-refl, rewrites-alike}
 
@@ -32,11 +33,6 @@ mems-refl ms = each_pair-refl AlikeMems (λ m. alike-refl (OfMem m)) ms
 
 values-refl : (v : ValuesTree) → AlikeValues v v
 values-refl v = (words-refl v.words, mems-refl v.mems)
-
--- what an option's item was made from
-made-some : {A B : Type 0} (f : A → B) (o : Option A) (y : B) → option_map f o ≡ Some y → (x : A) × (o ≡ Some x) × (f x ≡ y)
-made-some f None y is = absurd (cc)
-made-some f (Some x) y is = (x, refl, cc)
 
 word-alike : (ts : List WordTree) (i : ℕ) (s x : Term) → option_map OfWord (slice_get ts i) ≡ Some s → KeepsValue s x → EachPair AlikeWords ts (with_word_term ts i x)
 word-alike ts i s (OfWord u) is a =

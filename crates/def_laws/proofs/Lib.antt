@@ -3,7 +3,8 @@ pub mod Evaluation
 pub mod Steps
 pub mod OneResult
 pub mod Parts
-pub mod Puts
+pub mod Skeletons
+pub mod Takes
 pub mod StepLemmas
 pub mod PartSteps
 pub mod SimpleBodies

@@ -9,9 +9,8 @@ use Rattle.term_laws.specs.declared.log.Log.{Log}
 use Rattle.term_laws.specs.Laws.{Term, OfWord, OfMem, OfCond}
 use Rattle.term_laws.specs.inner.Steps.{AreTermSteps, IsNoted, IsTermStep}
 use Rattle.def_laws.specs.Rewriting.{step_term, count, arm_term_count, below_or, value_at, term_at, arm_term_at, with_step_term, with_word_term, with_mem_term, with_value, with_term, with_arm_term}
-use Rattle.def_laws.specs.inner.Puts.{steps_with}
-use Rattle.def_laws.specs.inner.Simplified.{Parts, IsPartStep, ArePartSteps, AreMade, ArePassed, IsNext, IsNotedStep, word_parts, mem_parts, value_parts, step_parts, body_parts, arm_parts}
-use Rattle.def_laws.proofs.Parts.{below, beyond}
+use Rattle.def_laws.specs.inner.Simplified.{Parts, IsPartStep, ArePartSteps, AreMade, ArePassed, IsNext, IsNotedStep, steps_with, word_parts, mem_parts, value_parts, step_parts, body_parts, arm_parts}
+use Rattle.def_laws.proofs.Parts.{below, beyond, numbered_apart}
 
 -- ---- steps one after the other, and in the whole
 
@@ -113,12 +112,6 @@ module _ {A : Type 0} (p : Parts A) (o : ℕ) where
 
 -- ---- numbers below a count, or past it
 
-pub apart : (k n : ℕ) (P : Type 0) → (k < n → P) → ((i : ℕ) → k ≡ n + i → P) → P
-apart zero zero P f g = g 0 (omega arith)
-apart zero (suc n) P f g = f (omega arith)
-apart (suc k) zero P f g = g (suc k) (omega arith)
-apart (suc k) (suc n) P f g = apart k n P (λ h. f (omega (arith, h))) (λ i h. g i (omega (arith, h)))
-
 pub is-below : {X : Type 0} (k n : ℕ) (f g : ℕ → Option X) (t : X) → k < n → below_or k n f g ≡ Some t → f k ≡ Some t
 is-below k n f g t h e = sym (below k n f g h) ∙ e
 
@@ -132,7 +125,7 @@ within-list of (x ∷ xs) (suc k) t e = let h = within-list of xs k t e in omega
 
 within-value : (v : ValuesTree) (k : ℕ) (t : Term) → value_at v k ≡ Some t → k < length v.words + length v.mems
 within-value v k t e =
-    apart k (length v.words) (k < length v.words + length v.mems)
+    numbered_apart k (length v.words) (k < length v.words + length v.mems)
     (λ h. omega (arith, h))
     (λ i h. let l = within-list OfMem v.mems i t (is-beyond k (length v.words) i (λ i. option_map OfWord (slice_get v.words i)) (λ i. option_map OfMem (slice_get v.mems i)) t h e) in omega (arith, h, l))
 
@@ -142,11 +135,11 @@ mutual
   within (Do s b) (suc k) t e = let h = within b k t e in omega (arith, h)
   within (Branch c a b) zero t e = omega arith
   within (Branch c a b) (suc k) t e =
-      apart k (count a) (suc k < count (Branch c a b))
+      numbered_apart k (count a) (suc k < count (Branch c a b))
       (λ h. omega (arith, h))
       (λ i h. let l = within b i t (is-beyond k (count a) i (term_at a) (term_at b) t h e) in omega (arith, h, l))
   within (Call d v bs) k t e =
-      apart k (length v.words + length v.mems) (k < count (Call d v bs))
+      numbered_apart k (length v.words + length v.mems) (k < count (Call d v bs))
       (λ h. omega (arith, h))
       (λ i h. let l = within-arms bs i t (is-beyond k (length v.words + length v.mems) i (value_at v) (arm_term_at bs) t h e) in omega (arith, h, l))
   within (Again v) k t e = within-value v k t e
@@ -155,7 +148,7 @@ mutual
   within-arms : (bs : ArmTrees) (k : ℕ) (t : Term) → arm_term_at bs k ≡ Some t → k < arm_term_count bs
   within-arms NoArm k t e = absurd (cc)
   within-arms (Arm b bs) k t e =
-      apart k (count b) (k < arm_term_count (Arm b bs))
+      numbered_apart k (count b) (k < arm_term_count (Arm b bs))
       (λ h. omega (arith, h))
       (λ i h. let l = within-arms bs i t (is-beyond k (count b) i (term_at b) (arm_term_at bs) t h e) in omega (arith, h, l))
 
@@ -200,7 +193,7 @@ mems_put ts ms t i = record { words = ts; mems = with_mem_term ms i t }
 
 value-count : (v : ValuesTree) (k : ℕ) (t : Term) → values_count (with_value v k t) ≡ values_count v
 value-count v k t =
-    apart k (length v.words) (values_count (with_value v k t) ≡ values_count v)
+    numbered_apart k (length v.words) (values_count (with_value v k t) ≡ values_count v)
     (λ h. ap values_count (below k (length v.words) (words_put v.words v.mems t) (mems_put v.words v.mems t) h) ∙ ap (λ n. n + length v.mems) (word-length v.words k t))
     (λ i h. ap values_count (beyond k (length v.words) i (words_put v.words v.mems t) (mems_put v.words v.mems t) h) ∙ ap (λ n. length v.words + n) (mem-length v.mems i t))
 
@@ -210,11 +203,11 @@ mutual
   body-count (Do s b) (suc k) t = ap (λ n. 1 + n) (body-count b k t)
   body-count (Branch c a b) zero t = refl
   body-count (Branch c a b) (suc k) t =
-      apart k (count a) (count (with_term (Branch c a b) (suc k) t) ≡ count (Branch c a b))
+      numbered_apart k (count a) (count (with_term (Branch c a b) (suc k) t) ≡ count (Branch c a b))
       (λ h. ap count (below k (count a) (λ i. Branch c (with_term a i t) b) (λ i. Branch c a (with_term b i t)) h) ∙ ap (λ n. 1 + (n + count b)) (body-count a k t))
       (λ i h. ap count (beyond k (count a) i (λ i. Branch c (with_term a i t) b) (λ i. Branch c a (with_term b i t)) h) ∙ ap (λ n. 1 + (count a + n)) (body-count b i t))
   body-count (Call d v bs) k t =
-      apart k (length v.words + length v.mems) (count (with_term (Call d v bs) k t) ≡ count (Call d v bs))
+      numbered_apart k (length v.words + length v.mems) (count (with_term (Call d v bs) k t) ≡ count (Call d v bs))
       (λ h. ap count (below k (length v.words + length v.mems) (λ i. Call d (with_value v i t) bs) (λ i. Call d v (with_arm_term bs i t)) h) ∙ ap (λ n. n + arm_term_count bs) (value-count v k t))
       (λ i h. ap count (beyond k (length v.words + length v.mems) i (λ i. Call d (with_value v i t) bs) (λ i. Call d v (with_arm_term bs i t)) h) ∙ ap (λ n. values_count v + n) (arms-count bs i t))
   body-count (Again v) k t = value-count v k t
@@ -223,7 +216,7 @@ mutual
   arms-count : (bs : ArmTrees) (k : ℕ) (t : Term) → arm_term_count (with_arm_term bs k t) ≡ arm_term_count bs
   arms-count NoArm k t = refl
   arms-count (Arm b bs) k t =
-      apart k (count b) (arm_term_count (with_arm_term (Arm b bs) k t) ≡ arm_term_count (Arm b bs))
+      numbered_apart k (count b) (arm_term_count (with_arm_term (Arm b bs) k t) ≡ arm_term_count (Arm b bs))
       (λ h. ap arm_term_count (below k (count b) (λ i. Arm (with_term b i t) bs) (λ i. Arm b (with_arm_term bs i t)) h) ∙ ap (λ n. n + arm_term_count bs) (body-count b k t))
       (λ i h. ap arm_term_count (beyond k (count b) i (λ i. Arm (with_term b i t) bs) (λ i. Arm b (with_arm_term bs i t)) h) ∙ ap (λ n. count b + n) (arms-count bs i t))
 

@@ -16,7 +16,8 @@ use Rattle.term_laws.specs.Places.{Rewrites}
 use Rattle.term_laws.specs.Simple.{IsSimple}
 use Rattle.def_laws.specs.Rewriting.{step_term, count, value_at, term_at, arm_term_at, with_term, with_def_term, IsRewritingStep, AreRewritingSteps, AreSimple}
 use Rattle.def_laws.specs.inner.Simplified.{ArePassed, IsNext, IsPartStep, Parts, ArePartSteps, AreSimpleMems, AreSimpleSteps, AreSimpleValues, AreSimpleWords, IsSimpleBody, AreSimpleArms, AreSimpleDefs, IsSimplifiedDef, body_parts}
-use Rattle.def_laws.proofs.PartSteps.{IsItem, apart, list_more, is-below, is-beyond, at-length, set-at-length, next-item, none_over, one_over}
+use Rattle.def_laws.proofs.Parts.{numbered_apart}
+use Rattle.def_laws.proofs.PartSteps.{IsItem, list_more, is-below, is-beyond, at-length, set-at-length, next-item, none_over, one_over}
 
 -- ---- each term of a simple body is simple
 
@@ -27,7 +28,7 @@ list-simple of (x ∷ xs) (suc k) t h e = list-simple of xs k t h.1 e
 
 value-simple : (v : ValuesTree) (k : ℕ) (t : Term) → AreSimpleValues v → value_at v k ≡ Some t → IsSimple t
 value-simple v k t h e =
-    apart k (length v.words) (IsSimple t)
+    numbered_apart k (length v.words) (IsSimple t)
     (λ l. list-simple OfWord v.words k t h.0 (is-below k (length v.words) (λ i. option_map OfWord (slice_get v.words i)) (λ i. option_map OfMem (slice_get v.mems i)) t l e))
     (λ i l. list-simple OfMem v.mems i t h.1 (is-beyond k (length v.words) i (λ i. option_map OfWord (slice_get v.words i)) (λ i. option_map OfMem (slice_get v.mems i)) t l e))
 
@@ -40,11 +41,11 @@ mutual
   body-simple (Do s b) (suc k) t h e = body-simple b k t h.1 e
   body-simple (Branch c a b) zero t h e = some-simple (OfCond c) t e h.0
   body-simple (Branch c a b) (suc k) t h e =
-      apart k (count a) (IsSimple t)
+      numbered_apart k (count a) (IsSimple t)
       (λ l. body-simple a k t h.1 (is-below k (count a) (term_at a) (term_at b) t l e))
       (λ i l. body-simple b i t h.2 (is-beyond k (count a) i (term_at a) (term_at b) t l e))
   body-simple (Call d v bs) k t h e =
-      apart k (length v.words + length v.mems) (IsSimple t)
+      numbered_apart k (length v.words + length v.mems) (IsSimple t)
       (λ l. value-simple v k t h.0 (is-below k (length v.words + length v.mems) (value_at v) (arm_term_at bs) t l e))
       (λ i l. arms-simple bs i t h.1 (is-beyond k (length v.words + length v.mems) i (value_at v) (arm_term_at bs) t l e))
   body-simple (Again v) k t h e = value-simple v k t h e
@@ -53,7 +54,7 @@ mutual
   arms-simple : (bs : ArmTrees) (k : ℕ) (t : Term) → AreSimpleArms bs → arm_term_at bs k ≡ Some t → IsSimple t
   arms-simple NoArm k t h e = absurd (cc)
   arms-simple (Arm b bs) k t h e =
-      apart k (count b) (IsSimple t)
+      numbered_apart k (count b) (IsSimple t)
       (λ l. body-simple b k t h.0 (is-below k (count b) (term_at b) (arm_term_at bs) t l e))
       (λ i l. arms-simple bs i t h.1 (is-beyond k (count b) i (term_at b) (arm_term_at bs) t l e))
 

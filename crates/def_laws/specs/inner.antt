@@ -1,5 +1,5 @@
 pub mod Alike
-pub mod Parts
-pub mod Puts
+pub mod Apart
+pub mod Taken
 pub mod Stops
 pub mod Simplified

@@ -5,10 +5,11 @@ ghost use Rattle.tailrec_lang.specs.Tree.{def_tree, group_tree};
 ghost use Rattle.def_laws.specs.Certs.{IsCertOf, IsCertFault};
 ghost use Rattle.def_laws.specs.Evaluation.{EvaluateAlike};
 
+use crate::apart::{are_same, take_defs};
 use crate::cert::Cert;
 use crate::laws::law_of_rewriting;
 use crate::rewrite::{StepFault, rewritten_all};
-use group_terms::{has_range, same_defs, same_group};
+use group_terms::{has_range, same_group};
 use std::alloc::Global;
 use tailrec_lang::Group;
 
@@ -24,8 +25,10 @@ pub enum CertFault {
     NoMemory,
 }
 
-/// Whether the steps rewrite the group's definitions to the stated ones. A step costs as much time as its definition is
-/// long, which it copies. The fault of a step whose number is 2^32 or more is told as want of memory.
+/// Whether the steps rewrite the group's definitions to the stated ones. The time is that of reading both and the certificate,
+/// and for each step that of copying the term that it rewrites. The fault of a step whose number is 2^32 or more is told as
+/// want of memory.
+#[tactic(auto, using(crate::proofs::StepLemmas::cert_accepted, crate::proofs::StepLemmas::cert_refused))]
 pub fn judge_cert(alloc: Global, g: &Group, c: &Cert) -> Result<(), CertFault>
     ensures ok { IfOk result (λ _. IsCertOf (group_tree g.now) c.now) }
     ensures same { IfOk result (λ _. EvaluateAlike (group_tree g.now) (map def_tree c.now.result)) }
@@ -37,13 +40,16 @@ pub fn judge_cert(alloc: Global, g: &Group, c: &Cert) -> Result<(), CertFault>
         return Err(CertFault::Group);
     }
     match rewritten_all(alloc, g.defs.as_slice(), c.steps.as_slice()) {
-        Ok(defs) => {
-            if same_defs(defs.as_slice(), c.result.as_slice()) {
-                Ok(())
-            } else {
-                Err(CertFault::Result)
+        Ok(parts) => match take_defs(alloc, c.result.as_slice()) {
+            Ok(stated) => {
+                if are_same(parts.as_slice(), stated.as_slice()) {
+                    Ok(())
+                } else {
+                    Err(CertFault::Result)
+                }
             }
-        }
+            Err(_) => Err(CertFault::NoMemory),
+        },
         Err(StepFault::At(i)) => {
             if i > u32::MAX as usize {
                 return Err(CertFault::NoMemory);

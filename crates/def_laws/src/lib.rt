@@ -1,11 +1,11 @@
 //! Certified rewriting of functions by laws of words and conditions.
 #![tactic(auto)]
 
+mod apart;
 mod cert;
-mod find;
 mod judge;
 mod laws;
-mod put;
+mod made;
 mod rewrite;
 mod simplification;
 

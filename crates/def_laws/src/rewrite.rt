@@ -1,18 +1,15 @@
-//! Steps of rewriting, applied to definitions.
+//! Steps of rewriting, applied to the terms of definitions.
 
-ghost use Rattle.std.specs.Prelude.{◌≡◌, IfErr, IfNone, IfOk, IfSome, List as Items, map, slice_set};
-ghost use Rattle.tailrec_lang.specs.Tree.{DefTree, def_tree};
+ghost use Rattle.std.specs.Prelude.{◌≡◌, IfErr, IfNone, IfOk, IfSome, map, slice_set};
+ghost use Rattle.tailrec_lang.specs.Tree.{def_tree};
 ghost use Rattle.term_laws.specs.Laws.{Term};
-ghost use Rattle.def_laws.specs.Rewriting.{AreRewritingSteps, IsRewritingStep, with_def_term};
 ghost use Rattle.term_laws.specs.Places.{Rewrites};
-ghost use Rattle.def_laws.specs.inner.Parts.{term_of};
-ghost use Rattle.def_laws.specs.inner.Puts.{new_term};
 ghost use Rattle.term_laws.specs.inner.Shapes.{law_of};
+ghost use Rattle.def_laws.specs.inner.Apart.{AreRewritten, IsNewTerm, with_new_term};
 ghost use Rattle.def_laws.specs.inner.Stops.{StopsAt};
+ghost use Rattle.def_laws.specs.inner.Taken.{apart_tree, term_of};
 
-use crate::find::{TermRef, find_term};
-use crate::put::{NewTerm, put_body, replace};
-use group_terms::copy_defs;
+use crate::apart::{ApartDef, BodyTerm, take_defs};
 use rv_words::{List, NoMemory};
 use std::alloc::Global;
 use tailrec_lang::Def;
@@ -37,78 +34,87 @@ impl From<NoMemory> for StepFault {
 }
 
 /// The term with the law applied at that place, if the place is there and the law matches.
-pub fn rewrite_term(
+fn rewrite_term(
     alloc: Global,
-    t: TermRef<'_>,
+    t: &BodyTerm,
     shape: Shape,
     place: &[u8],
-) -> Result<Option<NewTerm>, NoMemory>
-    ensures some { IfOk result (λ o. IfSome o (λ u. Rewrites (law_of shape) place.now (term_of t.entry) (new_term u))) }
-    ensures none { IfOk result (λ o. IfNone o ((u : Term) → Rewrites (law_of shape) place.now (term_of t.entry) u → ⊥)) }
+) -> Result<Option<BodyTerm>, NoMemory>
+    ensures some { IfOk result (λ o. IfSome o (λ u. Rewrites (law_of shape) place.now (term_of t.now) (term_of u))) }
+    ensures none { IfOk result (λ o. IfNone o ((u : Term) → Rewrites (law_of shape) place.now (term_of t.now) u → ⊥)) }
 {
     match t {
-        TermRef::Word(t) => match rewrite_word(alloc, t, shape, place)? {
-            Some(u) => Ok(Some(NewTerm::Word(u))),
+        BodyTerm::Word(t) => match rewrite_word(alloc, t, shape, place)? {
+            Some(u) => Ok(Some(BodyTerm::Word(u))),
             None => Ok(None),
         },
-        TermRef::Mem(t) => match rewrite_mem(alloc, t, shape, place)? {
-            Some(u) => Ok(Some(NewTerm::Mem(u))),
+        BodyTerm::Mem(t) => match rewrite_mem(alloc, t, shape, place)? {
+            Some(u) => Ok(Some(BodyTerm::Mem(u))),
             None => Ok(None),
         },
-        TermRef::Cond(t) => match rewrite_cond(alloc, t, shape, place)? {
-            Some(u) => Ok(Some(NewTerm::Cond(u))),
+        BodyTerm::Cond(t) => match rewrite_cond(alloc, t, shape, place)? {
+            Some(u) => Ok(Some(BodyTerm::Cond(u))),
             None => Ok(None),
         },
     }
 }
 
-/// The definition with another term of that number.
-fn put_def(alloc: Global, def: &Def, k: usize, x: NewTerm) -> Result<Def, NoMemory>
-    ensures { IfOk result (λ d. def_tree d ≡ with_def_term (def_tree def.now) k (new_term x)) }
-{
-    let exits = List::from_slice(alloc, def.exits.as_slice())?;
-    let body = put_body(alloc, &def.body, k, x)?;
-    Ok(Def {
-        entry: def.entry,
-        exits,
-        body,
-    })
-}
-
-/// The definition that the step rewrites, rewritten, if the step rewrites one.
-#[tactic(auto, using(crate::proofs::StepLemmas::step_made, crate::proofs::StepLemmas::no_law, crate::proofs::StepLemmas::no_def, crate::proofs::StepLemmas::no_term, crate::proofs::StepLemmas::no_rewrite))]
-pub fn rewritten(alloc: Global, defs: &[Def], r: &Rw) -> Result<Option<Def>, NoMemory>
-    ensures some { IfOk result (λ o. IfSome o (λ d. IsRewritingStep r.now (map def_tree defs.now) (slice_set (map def_tree defs.now) r.now.def (def_tree d)))) }
-    ensures none { IfOk result (λ o. IfNone o ((es : Items DefTree) → IsRewritingStep r.now (map def_tree defs.now) es → ⊥)) }
+/// The term that the step gives, if it rewrites one.
+#[tactic(auto, using(crate::proofs::StepLemmas::no_law, crate::proofs::StepLemmas::no_def, crate::proofs::StepLemmas::no_term, crate::proofs::StepLemmas::no_rewrite))]
+fn new_term(alloc: Global, parts: &[ApartDef], r: &Rw) -> Result<Option<BodyTerm>, NoMemory>
+    ensures some { IfOk result (λ o. IfSome o (λ u. IsNewTerm r.now (map apart_tree parts.now) (term_of u))) }
+    ensures none { IfOk result (λ o. IfNone o ((u : Term) → IsNewTerm r.now (map apart_tree parts.now) u → ⊥)) }
 {
     let Some(shape) = shape_of(r.law) else {
         return Ok(None);
     };
-    let Some(def) = defs.get(r.def as usize) else {
+    let Some(def) = parts.get(r.def as usize) else {
         return Ok(None);
     };
-    let Some(t) = find_term(&def.body, r.term as usize) else {
+    let Some(t) = def.terms.get(r.term as usize) else {
         return Ok(None);
     };
     let Some(new) = rewrite_term(alloc, t, shape, r.place.as_slice())? else {
         return Ok(None);
     };
-    let d = put_def(alloc, def, r.term as usize, new)?;
-    Ok(Some(d))
+    Ok(Some(new))
 }
 
-/// The definitions after the steps, or the first step that doesn't rewrite them.
-#[tactic(auto, using(crate::proofs::StepLemmas::stepped))]
-pub fn rewritten_all(alloc: Global, defs: &[Def], steps: &[Rw]) -> Result<List<Def>, StepFault>
-    ensures ok { IfOk result (λ es. AreRewritingSteps steps.now (map def_tree defs.now) (map def_tree es)) }
+/// Writes the item at place `i`, if the place is there.
+#[tactic(auto, using(crate::proofs::Parts::set_beyond))]
+fn replace<T: Drop>(list: &mut List<T>, i: usize, item: T)
+    ensures { list.new ≡ slice_set list.old i item }
+{
+    if i < list.len() {
+        list.set(i, item);
+    }
+}
+
+/// Puts a term into the place of the one of that number, if there is one.
+#[tactic(auto, using(crate::proofs::StepLemmas::term_put, crate::proofs::StepLemmas::not_put))]
+fn put_term(parts: &mut Vec<ApartDef>, d: usize, k: usize, x: BodyTerm)
+    ensures { map apart_tree parts.new.items ≡ with_new_term (map apart_tree parts.old.items) d k (term_of x) }
+{
+    if d < parts.len() {
+        let def = &mut parts[d];
+        replace(&mut def.terms, k, x);
+    }
+}
+
+/// What the steps make of the definitions, taken apart, or the first step that doesn't rewrite them. A step costs as much
+/// time as the term that it rewrites is long.
+#[tactic(auto, using(crate::proofs::StepLemmas::begun, crate::proofs::StepLemmas::stepped, crate::proofs::StepLemmas::stopped))]
+pub fn rewritten_all(alloc: Global, defs: &[Def], steps: &[Rw]) -> Result<Vec<ApartDef>, StepFault>
+    ensures ok { IfOk result (λ ps. AreRewritten steps.now (map def_tree defs.now) (map apart_tree ps.items)) }
     ensures err { IfErr result (λ e. StopsAt steps.now (map def_tree defs.now) e) }
 {
-    let mut now = copy_defs(alloc, defs)?;
+    let mut parts = take_defs(alloc, defs)?;
     for i in 0..steps.len() {
-        match rewritten(alloc, now.as_slice(), &steps[i])? {
-            Some(d) => replace(&mut now, steps[i].def as usize, d),
+        let r = &steps[i];
+        match new_term(alloc, parts.as_slice(), r)? {
+            Some(x) => put_term(&mut parts, r.def as usize, r.term as usize, x),
             None => return Err(StepFault::At(i)),
         }
     }
-    Ok(now)
+    Ok(parts)
 }

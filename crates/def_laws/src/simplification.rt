@@ -13,7 +13,7 @@ ghost use Rattle.def_laws.specs.inner.Simplified.{ArePassed, AreSimpleArms, AreS
 
 use crate::cert::Cert;
 use crate::laws::law_of_rewriting;
-use crate::put::{made_branch, made_call};
+use crate::made::{made_branch, made_call};
 use group_terms::{copy_group, has_range};
 use rv_words::{List, NoMemory};
 use std::alloc::Global;

@@ -1,5 +1,5 @@
 -- Parts of a definition whose terms are simplified one after the other, in the order of its text.
-use Rattle.std.specs.Prelude.{◌≡◌, ℕ, ◌+◌, List, [], ◌∷◌, ◌++◌, Option, Some, option_map, slice_get}
+use Rattle.std.specs.Prelude.{◌≡◌, ℕ, zero, suc, ◌+◌, List, [], ◌∷◌, ◌++◌, Option, Some, option_map, slice_get}
 use Rattle.std.specs.List.{AllByRecursion}
 use Rattle.word_terms.specs.Tree.{WordTree, MemTree}
 use Rattle.tailrec_lang.specs.Tree.{ValuesTree, StepTree, Bind, BindMem, Need, BodyTree, Do, Branch, Call, Again, Leave, ArmTrees, NoArm, Arm, DefTree}
@@ -9,8 +9,7 @@ use Rattle.term_laws.specs.Laws.{Law, law_at, Term, OfWord, OfMem, OfCond}
 use Rattle.term_laws.specs.Places.{Rewrites}
 use Rattle.term_laws.specs.Simple.{IsSimple}
 use Rattle.term_laws.specs.inner.Steps.{IsNoted}
-use Rattle.def_laws.specs.Rewriting.{step_term, term_at, arm_term_at, value_at, with_word_term, with_mem_term, with_value, with_term, with_arm_term}
-use Rattle.def_laws.specs.inner.Puts.{steps_with}
+use Rattle.def_laws.specs.Rewriting.{step_term, term_at, arm_term_at, value_at, with_step_term, with_word_term, with_mem_term, with_value, with_term, with_arm_term}
 
 -- ---- what has terms: which one has a number, and the same with another term there
 
@@ -65,6 +64,12 @@ pub record IsNext (old new : Log) : Type 0 where
   pub steps : new.steps ≡ old.steps
 
 -- ---- the parts of a definition
+
+-- the steps with another term in the one of that number
+abbrev pub steps_with : Term → List StepTree → ℕ → List StepTree
+steps_with x [] k = []
+steps_with x (s ∷ ss) zero = with_step_term s x ∷ ss
+steps_with x (s ∷ ss) (suc k) = s ∷ steps_with x ss k
 
 abbrev pub word_parts : Parts (List WordTree)
 word_parts = record { at = λ ts k. option_map OfWord (slice_get ts k); put = with_word_term }
