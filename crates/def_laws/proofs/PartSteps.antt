@@ -10,7 +10,9 @@ use Rattle.term_laws.specs.Laws.{Term, OfWord, OfMem, OfCond}
 use Rattle.term_laws.specs.inner.Steps.{AreTermSteps, IsNoted, IsTermStep}
 use Rattle.def_laws.specs.Rewriting.{step_term, count, arm_term_count, below_or, value_at, term_at, arm_term_at, with_step_term, with_word_term, with_mem_term, with_value, with_term, with_arm_term}
 use Rattle.def_laws.specs.inner.Simplified.{Parts, IsPartStep, ArePartSteps, AreMade, ArePassed, IsNext, IsNotedStep, steps_with, word_parts, mem_parts, value_parts, step_parts, body_parts, arm_parts}
-use Rattle.def_laws.proofs.Parts.{below, beyond, numbered_apart}
+use Rattle.def_laws.specs.inner.Apart.{arm_skeletons, blank_mem, blank_values, blank_word, skeleton, terms, value_terms}
+use Rattle.def_laws.proofs.Parts.{below, beyond}
+use Rattle.def_laws.proofs.Skeletons.{arm-skeletons-kept, blank-values, blank-words, skeleton-kept, term-at, terms-count, value-at, value-terms-count}
 
 -- ---- steps one after the other, and in the whole
 
@@ -123,51 +125,16 @@ within-list of [] k t e = absurd (cc)
 within-list of (x ∷ xs) zero t e = omega arith
 within-list of (x ∷ xs) (suc k) t e = let h = within-list of xs k t e in omega (arith, h)
 
+within-terms : (ts : List Term) (k n : ℕ) (t : Term) → length ts ≡ n → slice_get ts k ≡ Some t → k < n
+within-terms ts k n t size e = let h = within-list (λ x. x) ts k t (ap (option_map (λ x. x)) e) in omega (arith, h, size)
+
 within-value : (v : ValuesTree) (k : ℕ) (t : Term) → value_at v k ≡ Some t → k < length v.words + length v.mems
-within-value v k t e =
-    numbered_apart k (length v.words) (k < length v.words + length v.mems)
-    (λ h. omega (arith, h))
-    (λ i h. let l = within-list OfMem v.mems i t (is-beyond k (length v.words) i (λ i. option_map OfWord (slice_get v.words i)) (λ i. option_map OfMem (slice_get v.mems i)) t h e) in omega (arith, h, l))
+within-value v k t e = within-terms (value_terms v) k (length v.words + length v.mems) t (value-terms-count v) (sym (value-at v k) ∙ e)
 
-mutual
-  within : (b : BodyTree) (k : ℕ) (t : Term) → term_at b k ≡ Some t → k < count b
-  within (Do s b) zero t e = omega arith
-  within (Do s b) (suc k) t e = let h = within b k t e in omega (arith, h)
-  within (Branch c a b) zero t e = omega arith
-  within (Branch c a b) (suc k) t e =
-      numbered_apart k (count a) (suc k < count (Branch c a b))
-      (λ h. omega (arith, h))
-      (λ i h. let l = within b i t (is-beyond k (count a) i (term_at a) (term_at b) t h e) in omega (arith, h, l))
-  within (Call d v bs) k t e =
-      numbered_apart k (length v.words + length v.mems) (k < count (Call d v bs))
-      (λ h. omega (arith, h))
-      (λ i h. let l = within-arms bs i t (is-beyond k (length v.words + length v.mems) i (value_at v) (arm_term_at bs) t h e) in omega (arith, h, l))
-  within (Again v) k t e = within-value v k t e
-  within (Leave x v) k t e = within-value v k t e
-
-  within-arms : (bs : ArmTrees) (k : ℕ) (t : Term) → arm_term_at bs k ≡ Some t → k < arm_term_count bs
-  within-arms NoArm k t e = absurd (cc)
-  within-arms (Arm b bs) k t e =
-      numbered_apart k (count b) (k < arm_term_count (Arm b bs))
-      (λ h. omega (arith, h))
-      (λ i h. let l = within-arms bs i t (is-beyond k (count b) i (term_at b) (arm_term_at bs) t h e) in omega (arith, h, l))
+within : (b : BodyTree) (k : ℕ) (t : Term) → term_at b k ≡ Some t → k < count b
+within b k t e = within-terms (terms b) k (count b) t (terms-count b) (sym (term-at b k) ∙ e)
 
 -- ---- counts stay
-
-set-length : {A : Type 0} (xs : List A) (k : ℕ) (x : A) → length (slice_set xs k x) ≡ length xs
-set-length [] k x = refl
-set-length (y ∷ xs) zero x = refl
-set-length (y ∷ xs) (suc k) x = ap suc (set-length xs k x)
-
-word-length : (ts : List WordTree) (k : ℕ) (t : Term) → length (with_word_term ts k t) ≡ length ts
-word-length ts k (OfWord t) = set-length ts k t
-word-length ts k (OfMem m) = refl
-word-length ts k (OfCond c) = refl
-
-mem-length : (ms : List MemTree) (k : ℕ) (t : Term) → length (with_mem_term ms k t) ≡ length ms
-mem-length ms k (OfWord t) = refl
-mem-length ms k (OfMem m) = set-length ms k m
-mem-length ms k (OfCond c) = refl
 
 steps-length : (ss : List StepTree) (k : ℕ) (t : Term) → length (steps_with t ss k) ≡ length ss
 steps-length [] k t = refl
@@ -191,34 +158,36 @@ words_put ts ms t i = record { words = with_word_term ts i t; mems = ms }
 abbrev mems_put : List WordTree → List MemTree → Term → ℕ → ValuesTree
 mems_put ts ms t i = record { words = ts; mems = with_mem_term ms i t }
 
-value-count : (v : ValuesTree) (k : ℕ) (t : Term) → values_count (with_value v k t) ≡ values_count v
-value-count v k t =
-    numbered_apart k (length v.words) (values_count (with_value v k t) ≡ values_count v)
-    (λ h. ap values_count (below k (length v.words) (words_put v.words v.mems t) (mems_put v.words v.mems t) h) ∙ ap (λ n. n + length v.mems) (word-length v.words k t))
-    (λ i h. ap values_count (beyond k (length v.words) i (words_put v.words v.mems t) (mems_put v.words v.mems t) h) ∙ ap (λ n. length v.words + n) (mem-length v.mems i t))
+blank-count : (v : ValuesTree) → values_count (blank_values v) ≡ values_count v
+blank-count v = λ j. length-map v.words blank_word j + length-map v.mems blank_mem j
 
 mutual
-  body-count : (b : BodyTree) (k : ℕ) (t : Term) → count (with_term b k t) ≡ count b
-  body-count (Do s b) zero t = refl
-  body-count (Do s b) (suc k) t = ap (λ n. 1 + n) (body-count b k t)
-  body-count (Branch c a b) zero t = refl
-  body-count (Branch c a b) (suc k) t =
-      numbered_apart k (count a) (count (with_term (Branch c a b) (suc k) t) ≡ count (Branch c a b))
-      (λ h. ap count (below k (count a) (λ i. Branch c (with_term a i t) b) (λ i. Branch c a (with_term b i t)) h) ∙ ap (λ n. 1 + (n + count b)) (body-count a k t))
-      (λ i h. ap count (beyond k (count a) i (λ i. Branch c (with_term a i t) b) (λ i. Branch c a (with_term b i t)) h) ∙ ap (λ n. 1 + (count a + n)) (body-count b i t))
-  body-count (Call d v bs) k t =
-      numbered_apart k (length v.words + length v.mems) (count (with_term (Call d v bs) k t) ≡ count (Call d v bs))
-      (λ h. ap count (below k (length v.words + length v.mems) (λ i. Call d (with_value v i t) bs) (λ i. Call d v (with_arm_term bs i t)) h) ∙ ap (λ n. n + arm_term_count bs) (value-count v k t))
-      (λ i h. ap count (beyond k (length v.words + length v.mems) i (λ i. Call d (with_value v i t) bs) (λ i. Call d v (with_arm_term bs i t)) h) ∙ ap (λ n. values_count v + n) (arms-count bs i t))
-  body-count (Again v) k t = value-count v k t
-  body-count (Leave x v) k t = value-count v k t
+  skeleton-count : (b : BodyTree) → count (skeleton b) ≡ count b
+  skeleton-count (Do s b) = ap (λ n. 1 + n) (skeleton-count b)
+  skeleton-count (Branch c a b) = λ j. 1 + (skeleton-count a j + skeleton-count b j)
+  skeleton-count (Call d v bs) = λ j. blank-count v j + arm-skeletons-count bs j
+  skeleton-count (Again v) = blank-count v
+  skeleton-count (Leave x v) = blank-count v
 
-  arms-count : (bs : ArmTrees) (k : ℕ) (t : Term) → arm_term_count (with_arm_term bs k t) ≡ arm_term_count bs
-  arms-count NoArm k t = refl
-  arms-count (Arm b bs) k t =
-      numbered_apart k (count b) (arm_term_count (with_arm_term (Arm b bs) k t) ≡ arm_term_count (Arm b bs))
-      (λ h. ap arm_term_count (below k (count b) (λ i. Arm (with_term b i t) bs) (λ i. Arm b (with_arm_term bs i t)) h) ∙ ap (λ n. n + arm_term_count bs) (body-count b k t))
-      (λ i h. ap arm_term_count (beyond k (count b) i (λ i. Arm (with_term b i t) bs) (λ i. Arm b (with_arm_term bs i t)) h) ∙ ap (λ n. count b + n) (arms-count bs i t))
+  arm-skeletons-count : (bs : ArmTrees) → arm_term_count (arm_skeletons bs) ≡ arm_term_count bs
+  arm-skeletons-count NoArm = refl
+  arm-skeletons-count (Arm b bs) = λ j. skeleton-count b j + arm-skeletons-count bs j
+
+-- what the blanks alone tell, no new term changes
+same-blank : {A B : Type 0} (blank : A → A) (size : A → B) → ((x : A) → size (blank x) ≡ size x) → (x y : A) → blank x ≡ blank y → size x ≡ size y
+same-blank blank size same x y e = sym (same x) ∙ ap size e ∙ same y
+
+word-length : (ts : List WordTree) (k : ℕ) (t : Term) → length (with_word_term ts k t) ≡ length ts
+word-length ts k t = same-blank (map blank_word) length (λ us. length-map us blank_word) _ _ (blank-words ts k t)
+
+value-count : (v : ValuesTree) (k : ℕ) (t : Term) → values_count (with_value v k t) ≡ values_count v
+value-count v k t = same-blank blank_values values_count blank-count _ _ (blank-values v k t)
+
+body-count : (b : BodyTree) (k : ℕ) (t : Term) → count (with_term b k t) ≡ count b
+body-count b k t = same-blank skeleton count skeleton-count _ _ (skeleton-kept b k t)
+
+arms-count : (bs : ArmTrees) (k : ℕ) (t : Term) → arm_term_count (with_arm_term bs k t) ≡ arm_term_count bs
+arms-count bs k t = same-blank arm_skeletons arm_term_count arm-skeletons-count _ _ (arm-skeletons-kept bs k t)
 
 pub count_kept : (o : ℕ) (l m : Log) (x y : BodyTree) → AreMade body_parts o l m x y → count y ≡ count x
 count_kept o l m x y a = kept body_parts l.def o l.place count body-count a.made x y a.are

@@ -33,13 +33,13 @@ set-second (y ∷ xs) ys (suc k) i x h = ap (λ zs. y ∷ zs) (set-second xs ys 
 
 -- ---- terms by their numbers
 
-value-terms-count : (v : ValuesTree) → length (value_terms v) ≡ length v.words + length v.mems
+pub value-terms-count : (v : ValuesTree) → length (value_terms v) ≡ length v.words + length v.mems
 value-terms-count v =
     let n = length-append (map OfWord v.words) (map OfMem v.mems) in
     let m = length-map v.words OfWord in let o = length-map v.mems OfMem in omega (arith, n, m, o)
 
 mutual
-  terms-count : (b : BodyTree) → length (terms b) ≡ count b
+  pub terms-count : (b : BodyTree) → length (terms b) ≡ count b
   terms-count (Do s b) = let h = terms-count b in omega (arith, h)
   terms-count (Branch c a b) = let h = terms-count a in let g = terms-count b in let n = length-append (terms a) (terms b) in omega (arith, h, g, n)
   terms-count (Call d v bs) = let h = value-terms-count v in let g = arm-terms-count bs in let n = length-append (value_terms v) (arm_terms bs) in omega (arith, h, g, n)
@@ -57,7 +57,7 @@ at-either k n f g xs ys size first second =
     (λ h. below k n f g h ∙ first k ∙ sym (get-first xs ys k (omega (arith, h, size))))
     (λ i h. beyond k n i f g h ∙ second i ∙ sym (get-second xs ys k i (omega (arith, h, size))))
 
-value-at : (v : ValuesTree) (k : ℕ) → value_at v k ≡ slice_get (value_terms v) k
+pub value-at : (v : ValuesTree) (k : ℕ) → value_at v k ≡ slice_get (value_terms v) k
 value-at v k =
     at-either k (length v.words) _ _ (map OfWord v.words) (map OfMem v.mems) (length-map v.words OfWord)
     (λ i. sym (mapped_at OfWord v.words i)) (λ i. sym (mapped_at OfMem v.mems i))
@@ -167,7 +167,7 @@ blank-set f [] k x same = refl
 blank-set f (y ∷ xs) zero x same = ap (λ z. z ∷ map f xs) (same x y)
 blank-set f (y ∷ xs) (suc k) x same = ap (λ zs. f y ∷ zs) (blank-set f xs k x same)
 
-blank-words : (ts : List WordTree) (k : ℕ) (x : Term) → map blank_word (with_word_term ts k x) ≡ map blank_word ts
+pub blank-words : (ts : List WordTree) (k : ℕ) (x : Term) → map blank_word (with_word_term ts k x) ≡ map blank_word ts
 blank-words ts k (OfWord t) = blank-set blank_word ts k t (λ y z. refl)
 blank-words ts k (OfMem m) = refl
 blank-words ts k (OfCond c) = refl
@@ -177,7 +177,7 @@ blank-mems ms k (OfMem m) = blank-set blank_mem ms k m (λ y z. refl)
 blank-mems ms k (OfWord t) = refl
 blank-mems ms k (OfCond c) = refl
 
-blank-values : (v : ValuesTree) (k : ℕ) (x : Term) → blank_values (with_value v k x) ≡ blank_values v
+pub blank-values : (v : ValuesTree) (k : ℕ) (x : Term) → blank_values (with_value v k x) ≡ blank_values v
 blank-values v k x =
     one-of (λ (w : ValuesTree). blank_values w ≡ blank_values v) (nat_lt k (length v.words)) _ _
     (λ j. record { words = blank-words v.words k x j; mems = map blank_mem v.mems })
@@ -205,7 +205,7 @@ mutual
   skeleton-kept (Again v) k x = ap Again (blank-values v k x)
   skeleton-kept (Leave e v) k x = ap (Leave e) (blank-values v k x)
 
-  arm-skeletons-kept : (bs : ArmTrees) (k : ℕ) (x : Term) → arm_skeletons (with_arm_term bs k x) ≡ arm_skeletons bs
+  pub arm-skeletons-kept : (bs : ArmTrees) (k : ℕ) (x : Term) → arm_skeletons (with_arm_term bs k x) ≡ arm_skeletons bs
   arm-skeletons-kept NoArm k x = refl
   arm-skeletons-kept (Arm b bs) k x =
       one-of (λ z. arm_skeletons z ≡ arm_skeletons (Arm b bs)) (nat_lt k (count b)) _ _
