@@ -159,7 +159,7 @@ def discharged_facts(n):
     return words([FENCE]), text(*LEAVES, STEP, states("weaken 0", facts), states("discharge 1", f"{equations} {others}")), CHECK
 
 
-@family(500)
+@family(8000)
 def one_class(n):
     """n conditions that differ in their operations alone, each of which follows from another by an equation."""
 
@@ -173,7 +173,7 @@ def one_class(n):
     return words([FENCE]), text(*LEAVES, STEP, states("weaken 0", facts), states("discharge 1", f"(is v0 0x0) {others}")), CHECK
 
 
-@family(500)
+@family(8000)
 def one_form(n):
     """n conditions that differ in their memories alone, each of which follows from another by an equation."""
     facts, others = (each(n, f"(so (eq (ld8 m{{0}} {word}) v2))") for word in ("v0", "0x0"))
@@ -248,7 +248,7 @@ def extended_facts(n):
 def doubled_facts(n):
     """A theorem of n facts, the power of 2 that isn't above n: each two lines double them, by an instance that is put behind."""
     many = n.bit_length() - 1
-    terms = ["0x0", "v0", *(it for i in range(many) for it in (f"{1 << i:#x}", f"(add t2 t{2 * i + 3})"))]
+    terms = ["0x0", "v0", *(it for i in range(many) for it in (f"{3 << i:#x}", f"(add t2 t{2 * i + 3})"))]
     lines = [f"inst {2 * i + 1} (v0 t{2 * i + 4})\ncompose {2 * i + 1} {2 * i + 2}" for i in range(many)]
     return TURN, short_text(terms, ["weaken 0 facts (is t2 t1) post (t0 ;)", *lines]), CHECK
 
