@@ -483,9 +483,9 @@ fn judge_line<V: RuledLines, X, B: JudgeLines<V, X>>(
     line: V::Line,
     place: u64,
 ) -> Result<Option<bool>, Pulled>
-    requires { MayFollow V.readers V.Behind (B.GoesWith bench.old) lines.now (V.tree line) }
+    requires { MayFollow V.readers V.Behind (B.GoesWith bench.old) lines.now (V.tree (B.group bench.old).code line) }
     ensures judged { (old : V) (before : Items V.readers.grammar.Line) → B.GoesWith bench.old old → V.Behind old before
-        → LineJudged V.rules (B.group bench.old) before (B.history bench.old) (V.tree line) (B.history bench.new) place (verdicts result) }
+        → LineJudged V.rules (B.group bench.old) before (B.history bench.old) (V.tree (B.group bench.old).code line) (B.history bench.new) place (verdicts result) }
     ensures goes { OnOk result (B.GoesWith bench.new lines.now) }
     ensures group { B.group bench.new ≡ B.group bench.old }
     ensures inside { stops_outside result ≡ false }

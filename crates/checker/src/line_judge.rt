@@ -1,6 +1,7 @@
 //! Lines behind groups: how they are read, when they are right, and what judges them.
 
 ghost use Rattle.std.specs.Prelude.{◌≡◌, ◌∷◌, ◌++◌, ◌+◌, ◌^◌, ◌<◌, ◌≤◌, [], List, IfOk, IsErrOf, OnErr, OnOk};
+ghost use Rattle.rv_words.specs.declared.range.Range.{Range};
 ghost use Rattle.tailrec_lang.specs.Tree.{GroupTree, group_tree};
 ghost use Rattle.tailrec_lang.specs.WellFormed.{IsWellFormed};
 ghost use Rattle.mc_text.specs.Outcome.{Gives};
@@ -29,8 +30,8 @@ pub trait RuledLines {
     /// How lines are written and read.
     ghost readers: { LineReaders };
 
-    /// A line as a tree.
-    ghost tree: { Self.Line → readers.grammar.Line };
+    /// A line as a tree, by the group's own code.
+    ghost tree: { List Range → Self.Line → readers.grammar.Line };
 
     /// What is kept may be that behind these lines of a group.
     ghost Behind: { Self → List readers.grammar.Line → Type 0 };
@@ -50,8 +51,8 @@ pub trait RuledLines {
         version: Version,
         own: &Code,
     ) -> Result<Self::Line, TokenError>
-        ensures gives { (before : List readers.grammar.Line) → Behind self.old before → Gives tree result scan.old scan.new (readers.line_at (version_of version) own.now.ranges before) }
-        ensures behind { (before : List readers.grammar.Line) → Behind self.old before → IfOk result (λ l. Behind self.new (before ++ tree l ∷ [])) }
+        ensures gives { (before : List readers.grammar.Line) → Behind self.old before → Gives (tree own.now.ranges) result scan.old scan.new (readers.line_at (version_of version) own.now.ranges before) }
+        ensures behind { (before : List readers.grammar.Line) → Behind self.old before → IfOk result (λ l. Behind self.new (before ++ tree own.now.ranges l ∷ [])) }
         ensures kept { OnErr result ((before : List readers.grammar.Line) → Behind self.old before → Behind self.new before) };
 }
 
@@ -113,14 +114,14 @@ pub trait JudgeLines<V: RuledLines, X> {
         lines: &V,
         line: V::Line,
     ) -> Result<bool, RuleFault>
-        requires { MayFollow V.readers V.Behind (GoesWith self.old) lines.now (V.tree line) }
+        requires { MayFollow V.readers V.Behind (GoesWith self.old) lines.now (V.tree (group self.old).code line) }
         ensures group { group self.new ≡ group self.old }
         ensures leaves { (old : V) (before : List V.readers.grammar.Line) → GoesWith self.old old → V.Behind old before
-            → OnOk result (V.rules.Leaves (group self.old) before (history self.old) (V.tree line) (history self.new)) }
-        ensures counts { IfOk result (λ counts. counts ≡ V.rules.counts (V.tree line)) }
+            → OnOk result (V.rules.Leaves (group self.old) before (history self.old) (V.tree (group self.old).code line) (history self.new)) }
+        ensures counts { IfOk result (λ counts. counts ≡ V.rules.counts (V.tree (group self.old).code line)) }
         ensures goes { OnOk result (GoesWith self.new lines.now) }
         ensures wrong { (old : V) (before : List V.readers.grammar.Line) → GoesWith self.old old → V.Behind old before
-            → IsErrOf result RuleFault.NoInstance → (next : History) → V.rules.Leaves (group self.old) before (history self.old) (V.tree line) next → ⊥ };
+            → IsErrOf result RuleFault.NoInstance → (next : History) → V.rules.Leaves (group self.old) before (history self.old) (V.tree (group self.old).code line) next → ⊥ };
 
     /// Whether a definition of the group is closed.
     fn is_closed(&self, def: u32) -> bool

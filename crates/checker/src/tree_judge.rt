@@ -41,7 +41,7 @@ impl<R: FurtherRule> RuledLines for ByRule<R> {
 
     ghost readers = { whole_readers };
 
-    ghost tree = { line_tree };
+    ghost tree = { λ own l. line_tree l };
 
     ghost Behind = { λ s before. Unit {0} };
 

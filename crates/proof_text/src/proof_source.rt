@@ -68,9 +68,9 @@ pub trait ProofSource<E, W: ReadLines> {
         requires laws { ReadsLines W.readers (version_of (version self.old)) }
         requires kept { IsBehindLines W.readers (version_of (version self.old)) (W.Behind kept.old) }
         requires group { IsGroupIn (version_of (version self.old)) (group_tree group.now) }
-        ensures given { (before : List W.readers.grammar.Line) → W.Behind kept.old before → W.readers.grammar.Are (version_of (version self.old)) before → IfOk result (λ found. IfSome found (λ l. Both (told self.old from.old) (told self.new from.new) (GivesLine W.readers.grammar (group_tree group.now) before (W.tree l)))) }
-        ensures behind { (before : List W.readers.grammar.Line) → W.Behind kept.old before → IfOk result (λ found. IfSome found (λ l. W.Behind kept.new (before ++ W.tree l ∷ []))) }
-        ensures fits { (before : List W.readers.grammar.Line) → W.Behind kept.old before → W.readers.grammar.Are (version_of (version self.old)) before → IfOk result (λ found. IfSome found (λ l. W.readers.Fits (version_of (version self.old)) before (W.tree l))) }
+        ensures given { (before : List W.readers.grammar.Line) → W.Behind kept.old before → W.readers.grammar.Are (version_of (version self.old)) before → IfOk result (λ found. IfSome found (λ l. Both (told self.old from.old) (told self.new from.new) (GivesLine W.readers.grammar (group_tree group.now) before (W.tree (group_tree group.now).code l)))) }
+        ensures behind { (before : List W.readers.grammar.Line) → W.Behind kept.old before → IfOk result (λ found. IfSome found (λ l. W.Behind kept.new (before ++ W.tree (group_tree group.now).code l ∷ []))) }
+        ensures fits { (before : List W.readers.grammar.Line) → W.Behind kept.old before → W.readers.grammar.Are (version_of (version self.old)) before → IfOk result (λ found. IfSome found (λ l. W.readers.Fits (version_of (version self.old)) before (W.tree (group_tree group.now).code l))) }
         ensures end { IfOk result (λ found. IfNone found (Both (told self.old from.old) (told self.new from.new) EndsLines)) }
         ensures bad { (before : List W.readers.grammar.Line) → W.Behind kept.old before → W.readers.grammar.Are (version_of (version self.old)) before → IfErr result (λ fault. IfBad fault (λ n. IfSome (told self.old from.old) (BadLineAt W.readers.grammar (group_tree group.now) before n))) }
         ensures goes { IfOk result (λ _. Goes self.new) }

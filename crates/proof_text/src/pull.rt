@@ -164,7 +164,7 @@ impl<'s> Pull<'s> {
         // Where it is told what the name holds.
         ensures given { (before : Items W.readers.grammar.Line) → W.Behind kept.old before → W.readers.grammar.Are (version_of self.old.version) before → IfOk result (λ found. IfSome found (λ l. WhereHeld (S.contents shelf.old) self.old.rows.lines.name (λ file.
             (ps : Items (ProofOf W.readers.grammar.Line)) (p : ProofOf W.readers.grammar.Line) → HasGivenOver W.readers.grammar (ps ++ p ∷ []) (progress_in self.old file) → p.group ≡ group_tree group.now → p.lines ≡ before
-            → HasGivenOver W.readers.grammar (ps ++ with_line p (W.tree l) ∷ []) (progress_in self.new file)))) }
+            → HasGivenOver W.readers.grammar (ps ++ with_line p (W.tree (group_tree group.now).code l) ∷ []) (progress_in self.new file)))) }
         ensures shorter { IfOk result (λ found. IfSome found (λ _. WhereHeld (S.contents shelf.old) self.old.rows.lines.name (λ file.
             length (progress_in self.new file).rest < length (progress_in self.old file).rest))) }
         ensures end { IfOk result (λ found. IfNone found (self.old.ended ≡ false → WhereHeld (S.contents shelf.old) self.old.rows.lines.name (λ file.
@@ -174,8 +174,8 @@ impl<'s> Pull<'s> {
             → IsBadAt (texts_over W.readers.grammar (version_of self.old.version)) (held_text self.old file) n × NoItemOver W.readers.grammar (ps ++ p ∷ []) (progress_in self.old file)))) }
 
         // Over every shelf.
-        ensures fits { (before : Items W.readers.grammar.Line) → W.Behind kept.old before → W.readers.grammar.Are (version_of self.old.version) before → IfOk result (λ found. IfSome found (λ l. W.readers.Fits (version_of self.old.version) before (W.tree l))) }
-        ensures behind { (before : Items W.readers.grammar.Line) → W.Behind kept.old before → IfOk result (λ found. IfSome found (λ l. W.Behind kept.new (before ++ W.tree l ∷ []))) }
+        ensures fits { (before : Items W.readers.grammar.Line) → W.Behind kept.old before → W.readers.grammar.Are (version_of self.old.version) before → IfOk result (λ found. IfSome found (λ l. W.readers.Fits (version_of self.old.version) before (W.tree (group_tree group.now).code l))) }
+        ensures behind { (before : Items W.readers.grammar.Line) → W.Behind kept.old before → IfOk result (λ found. IfSome found (λ l. W.Behind kept.new (before ++ W.tree (group_tree group.now).code l ∷ []))) }
         ensures kept { IfErr result (λ _. (before : Items W.readers.grammar.Line) → W.Behind kept.old before → W.Behind kept.new before) }
         ensures ended { self.new.ended ≡ self.old.ended }
         ensures pulls { Pulls S.contents S.read_faults S.write_faults S.IsSure result self.old shelf.old self.new shelf.new }

@@ -132,9 +132,9 @@ pub(crate) fn next_line<S: Shelf, W: ReadLines>(
     requires own { IsOwnCode own.now.ranges }
     requires laws { ReadsLines W.readers (version_of version) }
     ensures given { (before : List W.readers.grammar.Line) → W.Behind kept.old before → W.readers.grammar.Are (version_of version) before → IfOk result (λ found. IfSome found (λ l. WhereHeld (S.contents shelf.old) rows.old.lines.name
-        (ReadFrom (turn_over W.readers (version_of version) own.now.ranges before) (Some (W.tree l)) rows.old rows.new))) }
-    ensures behind { (before : List W.readers.grammar.Line) → W.Behind kept.old before → IfOk result (λ found. IfSome found (λ l. W.Behind kept.new (before ++ W.tree l ∷ []))) }
-    ensures fits { (before : List W.readers.grammar.Line) → W.Behind kept.old before → W.readers.grammar.Are (version_of version) before → IfOk result (λ found. IfSome found (λ l. W.readers.Fits (version_of version) before (W.tree l))) }
+        (ReadFrom (turn_over W.readers (version_of version) own.now.ranges before) (Some (W.tree own.now.ranges l)) rows.old rows.new))) }
+    ensures behind { (before : List W.readers.grammar.Line) → W.Behind kept.old before → IfOk result (λ found. IfSome found (λ l. W.Behind kept.new (before ++ W.tree own.now.ranges l ∷ []))) }
+    ensures fits { (before : List W.readers.grammar.Line) → W.Behind kept.old before → W.readers.grammar.Are (version_of version) before → IfOk result (λ found. IfSome found (λ l. W.readers.Fits (version_of version) before (W.tree own.now.ranges l))) }
     ensures end { (before : List W.readers.grammar.Line) → W.Behind kept.old before → W.readers.grammar.Are (version_of version) before → IfOk result (λ found. IfNone found (WhereHeld (S.contents shelf.old) rows.old.lines.name
         (ReadFrom (turn_over W.readers (version_of version) own.now.ranges before) None rows.old rows.new))) }
     ensures bad { (before : List W.readers.grammar.Line) → W.Behind kept.old before → W.readers.grammar.Are (version_of version) before → IfErr result (λ fault. IfBad fault (λ n. WhereHeld (S.contents shelf.old) rows.old.lines.name

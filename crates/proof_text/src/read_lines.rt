@@ -1,6 +1,7 @@
 //! What reads the lines behind groups.
 
 ghost use Rattle.std.specs.Prelude.{◌∷◌, ◌++◌, [], List, IfOk, OnErr};
+ghost use Rattle.rv_words.specs.declared.range.Range.{Range};
 ghost use Rattle.mc_text.specs.Outcome.{Gives, last_line};
 ghost use Rattle.group_text.specs.Version.{version_of};
 ghost use Rattle.proof_text.specs.inner.LineReaders.{LineReaders};
@@ -20,8 +21,8 @@ pub trait ReadLines {
     /// How lines are written and read.
     ghost readers: { LineReaders };
 
-    /// A line as a tree.
-    ghost tree: { Self.Line → readers.grammar.Line };
+    /// A line as a tree, by the group's own code.
+    ghost tree: { List Range → Self.Line → readers.grammar.Line };
 
     /// What is kept may be that behind these lines of a group.
     ghost Behind: { Self → List readers.grammar.Line → Type 0 };
@@ -38,8 +39,8 @@ pub trait ReadLines {
         version: Version,
         own: &Code,
     ) -> Result<Self::Line, TokenError>
-        ensures gives { (before : List readers.grammar.Line) → Behind self.old before → Gives tree result scan.old scan.new (readers.line_at (version_of version) own.now.ranges before) }
-        ensures behind { (before : List readers.grammar.Line) → Behind self.old before → IfOk result (λ l. Behind self.new (before ++ tree l ∷ [])) }
+        ensures gives { (before : List readers.grammar.Line) → Behind self.old before → Gives (tree own.now.ranges) result scan.old scan.new (readers.line_at (version_of version) own.now.ranges before) }
+        ensures behind { (before : List readers.grammar.Line) → Behind self.old before → IfOk result (λ l. Behind self.new (before ++ tree own.now.ranges l ∷ [])) }
         ensures kept { OnErr result ((before : List readers.grammar.Line) → Behind self.old before → Behind self.new before) };
 }
 
@@ -55,7 +56,7 @@ impl ReadLines for WholeLines {
 
     ghost readers = { whole_readers };
 
-    ghost tree = { line_tree };
+    ghost tree = { λ own l. line_tree l };
 
     ghost Behind = { λ s before. Unit {0} };
 

@@ -146,9 +146,9 @@ impl<'a> Reader<'a> {
         ensures version { self.new.version ≡ self.old.version }
         // Behind lines that may be those of which was kept.
         ensures given { (before : Items W.readers.grammar.Line) → W.Behind kept.old before → OnGiven result (λ l. (ps : Items (ProofOf W.readers.grammar.Line)) (p : ProofOf W.readers.grammar.Line)
-            → HasGivenOver W.readers.grammar (ps ++ p ∷ []) self.old → p.group ≡ group_tree group.now → p.lines ≡ before → HasGivenOver W.readers.grammar (ps ++ with_line p (W.tree l) ∷ []) self.new) }
-        ensures behind { (before : Items W.readers.grammar.Line) → W.Behind kept.old before → OnGiven result (λ l. W.Behind kept.new (before ++ W.tree l ∷ [])) }
-        ensures fits { (before : Items W.readers.grammar.Line) → W.Behind kept.old before → W.readers.grammar.Are (version_of self.old.version) before → OnGiven result (λ l. W.readers.Fits (version_of self.old.version) before (W.tree l)) }
+            → HasGivenOver W.readers.grammar (ps ++ p ∷ []) self.old → p.group ≡ group_tree group.now → p.lines ≡ before → HasGivenOver W.readers.grammar (ps ++ with_line p (W.tree (group_tree group.now).code l) ∷ []) self.new) }
+        ensures behind { (before : Items W.readers.grammar.Line) → W.Behind kept.old before → OnGiven result (λ l. W.Behind kept.new (before ++ W.tree (group_tree group.now).code l ∷ [])) }
+        ensures fits { (before : Items W.readers.grammar.Line) → W.Behind kept.old before → W.readers.grammar.Are (version_of self.old.version) before → OnGiven result (λ l. W.readers.Fits (version_of self.old.version) before (W.tree (group_tree group.now).code l)) }
         ensures bad { (before : Items W.readers.grammar.Line) → W.Behind kept.old before → OnBad result (λ n. (ps : Items (ProofOf W.readers.grammar.Line)) (p : ProofOf W.readers.grammar.Line)
             → HasGivenOver W.readers.grammar (ps ++ p ∷ []) self.old → p.group ≡ group_tree group.now → p.lines ≡ before → IsBadAt (texts_over W.readers.grammar (version_of self.old.version)) self.old.text n) }
         ensures no_item { (before : Items W.readers.grammar.Line) → W.Behind kept.old before → OnBad result (λ n. (ps : Items (ProofOf W.readers.grammar.Line)) (p : ProofOf W.readers.grammar.Line)

@@ -61,7 +61,7 @@ impl ReadLines for ShortLines {
 
     ghost readers = { short_readers };
 
-    ghost tree = { λ l. l };
+    ghost tree = { λ own l. l };
 
     ghost Behind = { AreKept };
 

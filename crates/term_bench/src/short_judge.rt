@@ -53,7 +53,7 @@ impl RuledLines for ByTable {
 
     ghost readers = { short_readers };
 
-    ghost tree = { λ l. l };
+    ghost tree = { λ own l. l };
 
     ghost Behind = { λ s before. AreKept s.lines before };
 

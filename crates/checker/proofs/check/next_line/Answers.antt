@@ -4,7 +4,7 @@ use Rattle.group_text.specs.Version.{version_of}
 use Rattle.proof_text.specs.Sources.{Both, EndsLines, GivesLine}
 use Rattle.checker.specs.declared.verdict.Pulled.{Pulled}
 use Rattle.checker.specs.Pulled.{as_verdict, is_outside}
-use Rattle.checker.specs.inner.Checking.{LineJudged, NextLine, StandBehind}
+use Rattle.checker.specs.inner.Checking.{LineJudged, MayFollow, NextLine, StandBehind}
 use Rattle.checker.specs.inner.Sourced.{verdicts}
 use Rattle.checker.proofs.JudgedLemmas.{line-bad, line-given}
 use Rattle.checker.proofs.SourceLemmas.{fault-outside, ok-all, ok-so, some-all-of}
@@ -16,16 +16,16 @@ judge_line-requires g c =
     let v = version_of (g.P.ProofSource.version c.args.source.now) in
     let before = c.requires.behind.0 in
     let stand = c.requires.behind.1 in
-    record {
+    subst (λ (x : GroupTree). MayFollow g.V.RuledLines.readers g.V.RuledLines.Behind (g.B.JudgeLines.GoesWith c.args.bench.now) c.next_line.new.kept.lines (g.V.RuledLines.tree x.code k.line)) (sym c.requires.same) (record {
       old = c.args.kept.now.lines;
       version = v;
       before = before;
       goes = stand.goes;
       behind = stand.behind;
       are = stand.are;
-      fits = subst (λ (f : Option _). IfSome f (λ x. g.V.RuledLines.readers.Fits v before (g.V.RuledLines.tree x))) k.field-0-is (k.ensures.fits before stand.behind stand.are);
-      read = subst (λ (f : Option _). IfSome f (λ x. g.V.RuledLines.Behind c.next_line.new.kept.lines (before ++ g.V.RuledLines.tree x ∷ []))) k.field-0-is (k.ensures.behind before stand.behind);
-    }
+      fits = subst (λ (f : Option _). IfSome f (λ x. g.V.RuledLines.readers.Fits v before (g.V.RuledLines.tree (group_tree c.args.group.now).code x))) k.field-0-is (k.ensures.fits before stand.behind stand.are);
+      read = subst (λ (f : Option _). IfSome f (λ x. g.V.RuledLines.Behind c.next_line.new.kept.lines (before ++ g.V.RuledLines.tree (group_tree c.args.group.now).code x ∷ []))) k.field-0-is (k.ensures.behind before stand.behind);
+    })
 
 pub returns-in-Ok-Some-clause-judged : goal.returns-in-Ok-Some-clause-judged
 returns-in-Ok-Some-clause-judged g c before stand =
@@ -33,17 +33,17 @@ returns-in-Ok-Some-clause-judged g c before stand =
     let R = g.V.RuledLines.readers in
     let J = g.V.RuledLines.rules in
     let v = version_of (g.P.ProofSource.version c.args.source.now) in
-    let l = g.V.RuledLines.tree k.line in
+    let l = g.V.RuledLines.tree (group_tree c.args.group.now).code k.line in
     let o = g.P.ProofSource.told c.args.source.now c.args.from.now in
     let n = g.P.ProofSource.told c.next_line.new.self c.next_line.new.from in
     let h = g.B.JudgeLines.history c.args.bench.now in
     let after = g.B.JudgeLines.history c.judge_line.new.bench in
-    let fits = subst (λ (f : Option _). IfSome f (λ x. R.Fits v before (g.V.RuledLines.tree x))) k.field-0-is (k.ensures.fits before stand.behind stand.are) in
-    let kept = subst (λ (f : Option _). IfSome f (λ x. g.V.RuledLines.Behind c.next_line.new.kept.lines (before ++ g.V.RuledLines.tree x ∷ []))) k.field-0-is (k.ensures.behind before stand.behind) in
+    let fits = subst (λ (f : Option _). IfSome f (λ x. R.Fits v before (g.V.RuledLines.tree (group_tree c.args.group.now).code x))) k.field-0-is (k.ensures.fits before stand.behind stand.are) in
+    let kept = subst (λ (f : Option _). IfSome f (λ x. g.V.RuledLines.Behind c.next_line.new.kept.lines (before ++ g.V.RuledLines.tree (group_tree c.args.group.now).code x ∷ []))) k.field-0-is (k.ensures.behind before stand.behind) in
     line-given R J (group_tree c.args.group.now) before h after (StandBehind R.grammar v (g.V.RuledLines.Behind c.next_line.new.kept.lines) (g.B.JudgeLines.GoesWith c.judge_line.new.bench c.next_line.new.kept.lines)) o n l c.last_place.result c.judge_line.result
-    (subst (λ (f : Option _). IfSome f (λ x. Both o n (GivesLine R.grammar (group_tree c.args.group.now) before (g.V.RuledLines.tree x)))) k.field-0-is (k.ensures.given before stand.behind stand.are))
+    (subst (λ (f : Option _). IfSome f (λ x. Both o n (GivesLine R.grammar (group_tree c.args.group.now) before (g.V.RuledLines.tree (group_tree c.args.group.now).code x)))) k.field-0-is (k.ensures.given before stand.behind stand.are))
     (c.last_place.ensures c.next_line.new.from)
-    (subst (λ (x : GroupTree). LineJudged J x before h l after c.last_place.result (verdicts c.judge_line.result)) c.requires.same (c.judge_line.ensures.judged c.args.kept.now.lines before stand.goes stand.behind))
+    (subst (λ (x : GroupTree). LineJudged J x before h (g.V.RuledLines.tree x.code k.line) after c.last_place.result (verdicts c.judge_line.result)) c.requires.same (c.judge_line.ensures.judged c.args.kept.now.lines before stand.goes stand.behind))
     (ok-so c.judge_line.result _ _ (λ goes. record { behind = kept; goes = goes; are = c.requires.laws.more before l stand.are fits }) c.judge_line.ensures.goes)
 
 pub returns-in-Ok-Some-clause-goes : goal.returns-in-Ok-Some-clause-goes

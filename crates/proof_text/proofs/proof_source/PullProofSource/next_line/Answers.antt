@@ -10,7 +10,7 @@ returns-clause-given g c =
     λ ls kept are.
     let p = c.next_line.ensures.pulls in
     ok_some c.next_line.result _ _ _
-    (λ x given shorter. gives_line (g.S.Shelf.contents c.args.from.now) (g.S.Shelf.contents c.next_line.new.shelf) c.args.self.now c.next_line.new.self p.shelf.kept p.name p.version p.size g.W.ReadLines.readers.grammar (group_tree c.args.group.now) ls (g.W.ReadLines.tree x) given shorter)
+    (λ x given shorter. gives_line (g.S.Shelf.contents c.args.from.now) (g.S.Shelf.contents c.next_line.new.shelf) c.args.self.now c.next_line.new.self p.shelf.kept p.name p.version p.size g.W.ReadLines.readers.grammar (group_tree c.args.group.now) ls (g.W.ReadLines.tree c.args.group.now.code.ranges x) given shorter)
     (c.next_line.ensures.given ls kept are) c.next_line.ensures.shorter
 
 pub returns-clause-end : goal.returns-clause-end

@@ -10,7 +10,7 @@ use Rattle.proof_text.proofs.proof_source.ReaderProofSourceUnit.next_line.Goals 
 pub returns-in-Ok-clause-given : goal.returns-in-Ok-clause-given
 returns-in-Ok-clause-given g c =
     λ ls kept are.
-    some_both c.in-Ok.found _ _ (λ (l : g.row.W-Line.Denot). GivesLine g.W.ReadLines.readers.grammar (group_tree c.args.group.now) ls (g.W.ReadLines.tree l) c.args.self.now c.next_line.new.self) (λ l given shorter. record { on = record { text = c.in-Ok.ensures.text; version = c.in-Ok.ensures.version; shorter = shorter }; given = given })
+    some_both c.in-Ok.found _ _ (λ (l : g.row.W-Line.Denot). GivesLine g.W.ReadLines.readers.grammar (group_tree c.args.group.now) ls (g.W.ReadLines.tree c.args.group.now.code.ranges l) c.args.self.now c.next_line.new.self) (λ l given shorter. record { on = record { text = c.in-Ok.ensures.text; version = c.in-Ok.ensures.version; shorter = shorter }; given = given })
     (c.in-Ok.ensures.given ls kept) c.in-Ok.ensures.shorter
 
 pub returns-in-Ok-clause-end : goal.returns-in-Ok-clause-end

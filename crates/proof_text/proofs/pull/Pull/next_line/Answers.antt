@@ -58,9 +58,9 @@ returns-in-Ok-clause-given g c =
     let new : PullState = record { version = c.self.inside.version; rows = c.next_line.new.rows; place = c.passed-self-inside.result; ended = c.self.inside.ended; refused = c.self.inside.refused } in
     let fits : IsGroupIn (version_of before.version) (group_tree c.args.group.now) = subst (λ (s : PullState). IsGroupIn (version_of s.version) (group_tree c.args.group.now)) (sym c.self.view_is) c.requires.group in
     let are : g.W.ReadLines.readers.grammar.Are (version_of before.version) ls = subst (λ (s : PullState). g.W.ReadLines.readers.grammar.Are (version_of s.version) ls) (sym c.self.view_is) were in
-    some_so c.in-Ok.found (λ x. WhereHeld (g.S.Shelf.contents c.args.shelf.now) before.rows.lines.name (ReadFrom (turn_over g.W.ReadLines.readers (version_of before.version) c.args.group.now.code.ranges ls) (Some (g.W.ReadLines.tree x)) before.rows new.rows)) _
-    (λ x gives. subst (λ (s : PullState). WhereHeld (g.S.Shelf.contents c.args.shelf.now) s.rows.lines.name (λ (file : List ℕ). (ps : List (ProofOf g.W.ReadLines.readers.grammar.Line)) (p : ProofOf g.W.ReadLines.readers.grammar.Line) → HasGivenOver g.W.ReadLines.readers.grammar (ps ++ p ∷ []) (progress_in s file) → p.group ≡ group_tree c.args.group.now → p.lines ≡ ls → HasGivenOver g.W.ReadLines.readers.grammar (ps ++ with_line p (g.W.ReadLines.tree x) ∷ []) (progress_in new file))) c.self.view_is
-    (told_so (g.S.Shelf.contents c.args.shelf.now) before.rows.lines.name _ _ (λ files file is held k. (line_given g.W.ReadLines.readers before (subst (λ (s : PullState). ReadsLines g.W.ReadLines.readers (version_of s.version)) (sym c.self.view_is) c.requires.laws) file place new refl d.size c.passed-self-inside.ensures (group_tree c.args.group.now) fits ls (g.W.ReadLines.tree x) k)) gives)) (c.in-Ok.ensures.given ls kept are)
+    some_so c.in-Ok.found (λ x. WhereHeld (g.S.Shelf.contents c.args.shelf.now) before.rows.lines.name (ReadFrom (turn_over g.W.ReadLines.readers (version_of before.version) c.args.group.now.code.ranges ls) (Some (g.W.ReadLines.tree c.args.group.now.code.ranges x)) before.rows new.rows)) _
+    (λ x gives. subst (λ (s : PullState). WhereHeld (g.S.Shelf.contents c.args.shelf.now) s.rows.lines.name (λ (file : List ℕ). (ps : List (ProofOf g.W.ReadLines.readers.grammar.Line)) (p : ProofOf g.W.ReadLines.readers.grammar.Line) → HasGivenOver g.W.ReadLines.readers.grammar (ps ++ p ∷ []) (progress_in s file) → p.group ≡ group_tree c.args.group.now → p.lines ≡ ls → HasGivenOver g.W.ReadLines.readers.grammar (ps ++ with_line p (g.W.ReadLines.tree c.args.group.now.code.ranges x) ∷ []) (progress_in new file))) c.self.view_is
+    (told_so (g.S.Shelf.contents c.args.shelf.now) before.rows.lines.name _ _ (λ files file is held k. (line_given g.W.ReadLines.readers before (subst (λ (s : PullState). ReadsLines g.W.ReadLines.readers (version_of s.version)) (sym c.self.view_is) c.requires.laws) file place new refl d.size c.passed-self-inside.ensures (group_tree c.args.group.now) fits ls (g.W.ReadLines.tree c.args.group.now.code.ranges x) k)) gives)) (c.in-Ok.ensures.given ls kept are)
 
 pub returns-in-Ok-clause-shorter : goal.returns-in-Ok-clause-shorter
 returns-in-Ok-clause-shorter g c =
@@ -72,9 +72,9 @@ returns-in-Ok-clause-shorter g c =
     let fits : IsGroupIn (version_of before.version) (group_tree c.args.group.now) = subst (λ (s : PullState). IsGroupIn (version_of s.version) (group_tree c.args.group.now)) (sym c.self.view_is) c.requires.group in
     let ls = c.requires.kept.0 in
     let are : g.W.ReadLines.readers.grammar.Are (version_of before.version) ls = subst (λ (s : PullState). g.W.ReadLines.readers.grammar.Are (version_of s.version) ls) (sym c.self.view_is) c.requires.kept.2 in
-    some_so c.in-Ok.found (λ x. WhereHeld (g.S.Shelf.contents c.args.shelf.now) before.rows.lines.name (ReadFrom (turn_over g.W.ReadLines.readers (version_of before.version) c.args.group.now.code.ranges ls) (Some (g.W.ReadLines.tree x)) before.rows new.rows)) _
+    some_so c.in-Ok.found (λ x. WhereHeld (g.S.Shelf.contents c.args.shelf.now) before.rows.lines.name (ReadFrom (turn_over g.W.ReadLines.readers (version_of before.version) c.args.group.now.code.ranges ls) (Some (g.W.ReadLines.tree c.args.group.now.code.ranges x)) before.rows new.rows)) _
     (λ x gives. subst (λ (s : PullState). WhereHeld (g.S.Shelf.contents c.args.shelf.now) s.rows.lines.name (λ (file : List ℕ). length (progress_in new file).rest < length (progress_in s file).rest)) c.self.view_is
-    (told_so (g.S.Shelf.contents c.args.shelf.now) before.rows.lines.name _ _ (λ files file is held k. line_shorter g.W.ReadLines.readers before (subst (λ (s : PullState). ReadsLines g.W.ReadLines.readers (version_of s.version)) (sym c.self.view_is) c.requires.laws) file place new refl d.size c.passed-self-inside.ensures (group_tree c.args.group.now) fits ls are (g.W.ReadLines.tree x) k) gives)) (c.in-Ok.ensures.given ls c.requires.kept.1 are)
+    (told_so (g.S.Shelf.contents c.args.shelf.now) before.rows.lines.name _ _ (λ files file is held k. line_shorter g.W.ReadLines.readers before (subst (λ (s : PullState). ReadsLines g.W.ReadLines.readers (version_of s.version)) (sym c.self.view_is) c.requires.laws) file place new refl d.size c.passed-self-inside.ensures (group_tree c.args.group.now) fits ls are (g.W.ReadLines.tree c.args.group.now.code.ranges x) k) gives)) (c.in-Ok.ensures.given ls c.requires.kept.1 are)
 
 pub returns-in-Ok-clause-end : goal.returns-in-Ok-clause-end
 returns-in-Ok-clause-end g c =
@@ -128,4 +128,4 @@ returns-in-Ok-clause-fits g c =
     λ ls kept were.
     let before : PullState = record { version = c.self.inside.version; rows = c.self.inside.rows; place = c.self.inside.place; ended = c.self.inside.ended; refused = c.self.inside.refused } in
     let are : g.W.ReadLines.readers.grammar.Are (version_of before.version) ls = subst (λ (s : PullState). g.W.ReadLines.readers.grammar.Are (version_of s.version) ls) (sym c.self.view_is) were in
-    subst (λ (s : PullState). IfSome c.in-Ok.found (λ l. g.W.ReadLines.readers.Fits (version_of s.version) ls (g.W.ReadLines.tree l))) c.self.view_is (c.in-Ok.ensures.fits ls kept are)
+    subst (λ (s : PullState). IfSome c.in-Ok.found (λ l. g.W.ReadLines.readers.Fits (version_of s.version) ls (g.W.ReadLines.tree c.args.group.now.code.ranges l))) c.self.view_is (c.in-Ok.ensures.fits ls kept are)
