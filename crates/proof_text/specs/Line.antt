@@ -1,5 +1,6 @@
 -- The lines of a proof as trees: what contracts see of them, whatever their places in memory.
-use Rattle.std.specs.Prelude.{ℕ, List, map}
+use Rattle.std.specs.Prelude.{ℕ, Bool, true, false, List, map}
+use Rattle.rv_words.specs.declared.range.Range.{Range}
 use Rattle.word_terms.specs.Tree.{WordTree, MemTree, word_tree, mem_tree}
 use Rattle.word_terms.specs.declared.term.Word.{Word}
 use Rattle.word_terms.specs.declared.term.Mem.{Mem}
@@ -10,6 +11,7 @@ use Rattle.proof_text.specs.declared.line.Rule.{Rule}
 use Rattle.proof_text.specs.declared.line.Rule.TheVariants as rule
 use Rattle.proof_text.specs.declared.line.Line.{Line}
 use Rattle.proof_text.specs.declared.line.Line.TheVariants as line
+use Rattle.proof_text.specs.declared.line.SpelledLine.{SpelledLine}
 
 -- the rule by which a triple is stated, with the theorems that it is stated from
 pub data RuleTree : Type 0 where
@@ -65,3 +67,25 @@ line_tree (line.States by stated) = States (rule_tree by) (triple_tree stated)
 line_tree (line.Loop def cited) = Loop def cited
 line_tree (line.Forget k) = Forget k
 line_tree (line.Further cited stated) = Further cited (triple_tree stated)
+
+-- ---- lines as they are spelled
+
+-- code, or the group's own where that is left out
+abbrev pub code_or_own : List Range → (all : Bool) → List Range → List Range
+code_or_own own true code = own
+code_or_own own false code = code
+
+-- a triple of such code
+abbrev pub triple_or_own : List Range → (all : Bool) → TripleTree → TripleTree
+triple_or_own own all t = record { facts = t.facts; pre = t.pre; code = code_or_own own all t.code; post = t.post }
+
+-- a line with such a triple
+abbrev pub line_or_own : List Range → (all : Bool) → LineTree → LineTree
+line_or_own own all (States rule t) = States rule (triple_or_own own all t)
+line_or_own own all (Loop def cited) = Loop def cited
+line_or_own own all (Forget k) = Forget k
+line_or_own own all (Further p t) = Further p (triple_or_own own all t)
+
+-- the tree of a line that is kept as it is spelled, by the group's own code
+abbrev pub spelled_tree : List Range → SpelledLine → LineTree
+spelled_tree own s = line_or_own own s.all (line_tree s.line)

@@ -26,7 +26,7 @@ pub use laws::{
     law_of_first_proofs, law_of_groups_alone, law_of_one_line, law_of_one_spelling,
     law_of_proof_parts, law_of_proof_texts, law_of_versions,
 };
-pub use line::{Line, Rule};
+pub use line::{Line, Rule, SpelledLine};
 pub use line_rules::{read_form, read_instruction, read_theorem};
 pub use line_triples::is_other;
 pub use line_turns::ProofEnd;
@@ -35,5 +35,5 @@ pub use proof_source::ProofSource;
 pub use pull::Pull;
 pub use pull_fault::PullFault;
 pub use put_lines::{put_cited, put_form, put_line, put_newer_line, put_stated_code, put_theorems};
-pub use read_lines::{ReadLines, WholeLines};
+pub use read_lines::{ReadLines, SpelledLines, WholeLines};
 pub use reader::Reader;

@@ -1,8 +1,13 @@
 //! The lines of a proof.
 
-use rv_words::List;
+ghost use Rattle.std.specs.Prelude.{◌≡◌, IfOk, true};
+ghost use Rattle.triple_kernel.specs.Tree.{triple_tree};
+ghost use Rattle.proof_text.specs.Line.{line_or_own, line_tree, spelled_tree, triple_or_own};
+
+use rv_words::{List, NoMemory};
+use std::alloc::Global;
 use triple_kernel::{Form, Triple};
-use word_terms::Sub;
+use word_terms::{Code, Sub, copy_code};
 
 /// The rule by which a triple is stated, with the numbers of the theorems that it is stated from.
 #[derive(Debug, Drop)]
@@ -31,4 +36,54 @@ pub enum Line {
     Forget(u64),
     /// States a triple from a theorem by the further rule of the text's version: the next theorem.
     Further { cited: u64, stated: Triple },
+}
+
+/// A line of a proof as it is spelled: where `all` stands for the code of its triple, which is the group's own, that is left out.
+#[derive(Debug, Drop)]
+pub struct SpelledLine {
+    pub line: Line,
+    pub all: bool,
+}
+
+impl SpelledLine {
+    /// The line, with the group's own code where it was left out.
+    pub fn with_own(self, alloc: Global, own: &Code) -> Result<Line, NoMemory>
+        ensures { IfOk result (λ line. line_tree line ≡ spelled_tree own.now.ranges self) }
+    {
+        if self.all {
+            with_code(alloc, own, self.line)
+        } else {
+            Ok(self.line)
+        }
+    }
+}
+
+/// The line, whose triple has that code.
+fn with_code(alloc: Global, code: &Code, line: Line) -> Result<Line, NoMemory>
+    ensures { IfOk result (λ whole. line_tree whole ≡ line_or_own code.now.ranges true (line_tree line)) }
+{
+    match line {
+        Line::States { rule, stated } => {
+            let stated = triple_of_code(alloc, code, stated)?;
+            Ok(Line::States { rule, stated })
+        }
+        Line::Further { cited, stated } => {
+            let stated = triple_of_code(alloc, code, stated)?;
+            Ok(Line::Further { cited, stated })
+        }
+        line => Ok(line),
+    }
+}
+
+/// The triple, with that code.
+fn triple_of_code(alloc: Global, code: &Code, triple: Triple) -> Result<Triple, NoMemory>
+    ensures { IfOk result (λ t. triple_tree t ≡ triple_or_own code.now.ranges true (triple_tree triple)) }
+{
+    let code = copy_code(alloc, code)?;
+    Ok(Triple {
+        facts: triple.facts,
+        pre: triple.pre,
+        code,
+        post: triple.post,
+    })
 }

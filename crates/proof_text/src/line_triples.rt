@@ -7,6 +7,7 @@ ghost use Rattle.mc_text.specs.Outcome.{Gives, last_line};
 ghost use Rattle.sep_assert.specs.Tree.{assertion_tree, register_tree};
 ghost use Rattle.triple_kernel.specs.Tree.{triple_tree};
 ghost use Rattle.group_text.specs.inner.Reading.{registers_rise};
+ghost use Rattle.proof_text.specs.Line.{code_or_own, triple_or_own};
 ghost use Rattle.proof_text.specs.inner.LineReading.{assertion_at, code_at, has_rising, is_other, ranges_to_post, register_at, triple_at};
 
 use crate::line_facts::read_facts;
@@ -19,7 +20,7 @@ use sep_assert::Assertion;
 use std::alloc::Global;
 use term_text::{read_mems, read_ranges, read_word};
 use triple_kernel::Triple;
-use word_terms::{Code, DEPTH_LIMIT, Word, copy_code};
+use word_terms::{Code, DEPTH_LIMIT, Word};
 
 /// A register and its term.
 #[tactic(auto, unfolding(crate::specs::inner::LineReading::register_at))]
@@ -117,31 +118,35 @@ fn read_ranges_to_post<'a>(alloc: Global, scan: &mut Scan<'a>) -> Result<Code, T
 }
 
 /// Code other than the group's own, with the word behind it.
-fn read_other<'a>(alloc: Global, scan: &mut Scan<'a>, own: &Code) -> Result<Code, TokenError>
-    ensures gives { Gives (λ code. code.ranges) result scan.old scan.new (checked (is_other own.now.ranges) ranges_to_post) }
+fn read_other<'a>(
+    alloc: Global,
+    scan: &mut Scan<'a>,
+    own: &Code,
+) -> Result<(Code, bool), TokenError>
+    ensures gives { Gives (λ c. code_or_own own.now.ranges c.1 c.0.ranges) result scan.old scan.new (checked (is_other own.now.ranges) ranges_to_post) }
     ensures last { last_line scan.new ≡ last_line scan.old }
 {
     let code = read_ranges_to_post(alloc, scan)?;
     if !is_other(own, &code) {
         return Err(TokenError::Bad);
     }
-    Ok(code)
+    Ok((code, false))
 }
 
-/// The group's own code, with the word behind it, after the word that stands for it.
-fn read_own<'a>(alloc: Global, scan: &mut Scan<'a>, own: &Code) -> Result<Code, TokenError>
-    ensures gives { Gives (λ code. code.ranges) result scan.old scan.new (made (λ _. own.now.ranges) (word (codes "post"))) }
+/// What stands for the group's own code, after the word for that, with the word behind it: that code is left out.
+fn read_own<'a>(alloc: Global, scan: &mut Scan<'a>, own: &Code) -> Result<(Code, bool), TokenError>
+    ensures gives { Gives (λ c. code_or_own own.now.ranges c.1 c.0.ranges) result scan.old scan.new (made (λ _. own.now.ranges) (word (codes "post"))) }
     ensures last { last_line scan.new ≡ last_line scan.old }
 {
     keyword(scan, b"post")?;
-    let code = copy_code(alloc, own)?;
-    Ok(code)
+    let ranges = List::new(alloc);
+    Ok((Code { ranges }, true))
 }
 
-/// Code, by the group's own, with the word behind it.
+/// Code, with the word behind it, and whether it is the group's own, which is left out.
 #[tactic(auto, unfolding(crate::specs::inner::LineReading::code_at))]
-fn read_code<'a>(alloc: Global, scan: &mut Scan<'a>, own: &Code) -> Result<Code, TokenError>
-    ensures gives { Gives (λ code. code.ranges) result scan.old scan.new (code_at own.now.ranges) }
+fn read_code<'a>(alloc: Global, scan: &mut Scan<'a>, own: &Code) -> Result<(Code, bool), TokenError>
+    ensures gives { Gives (λ c. code_or_own own.now.ranges c.1 c.0.ranges) result scan.old scan.new (code_at own.now.ranges) }
     ensures last { last_line scan.new ≡ last_line scan.old }
 {
     match peek(scan) {
@@ -157,22 +162,28 @@ fn read_code<'a>(alloc: Global, scan: &mut Scan<'a>, own: &Code) -> Result<Code,
     }
 }
 
-/// A triple, after its first word, by the group's own code. Mostly both sides have as many registers.
+/// A triple, after its first word, and whether its code is the group's own, which is left out. Mostly both sides have as many
+/// registers.
 #[tactic(auto, unfolding(crate::specs::inner::LineReading::triple_at))]
-pub fn read_triple<'a>(alloc: Global, scan: &mut Scan<'a>, own: &Code) -> Result<Triple, TokenError>
-    ensures gives { Gives triple_tree result scan.old scan.new (triple_at own.now.ranges) }
+pub fn read_triple<'a>(
+    alloc: Global,
+    scan: &mut Scan<'a>,
+    own: &Code,
+) -> Result<(Triple, bool), TokenError>
+    ensures gives { Gives (λ t. triple_or_own own.now.ranges t.1 (triple_tree t.0)) result scan.old scan.new (triple_at own.now.ranges) }
     ensures last { last_line scan.new ≡ last_line scan.old }
 {
     let facts = read_facts(alloc, scan)?;
     keyword(scan, b"pre")?;
     let pre = read_assertion(alloc, scan, 0)?;
     keyword(scan, b"code")?;
-    let code = read_code(alloc, scan, own)?;
+    let (code, all) = read_code(alloc, scan, own)?;
     let post = read_assertion(alloc, scan, pre.regs.len())?;
-    Ok(Triple {
+    let triple = Triple {
         facts,
         pre,
         code,
         post,
-    })
+    };
+    Ok((triple, all))
 }

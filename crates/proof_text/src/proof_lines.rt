@@ -4,13 +4,13 @@ ghost use Rattle.std.specs.Prelude.{◌≡◌};
 ghost use Rattle.mc_text.specs.Reading.{goes_on, star};
 ghost use Rattle.mc_text.specs.Scanning.{tokens_at};
 ghost use Rattle.mc_text.specs.Outcome.{Gives, last_line};
-ghost use Rattle.proof_text.specs.Line.{line_tree};
+ghost use Rattle.proof_text.specs.Line.{line_tree, spelled_tree};
 ghost use Rattle.group_text.specs.Version.{version_of};
 ghost use Rattle.group_text.specs.inner.Reading.{has_atom};
 ghost use Rattle.proof_text.specs.inner.LineReaders.{ends_proof};
 ghost use Rattle.proof_text.specs.inner.LineReading.{forget_row, further_row, line_at, loop_row, stated_row, theorem_at};
 
-use crate::line::Line;
+use crate::line::{Line, SpelledLine};
 use crate::line_rules::{read_cited, read_rule, read_theorem};
 use crate::line_triples::read_triple;
 use group_text::{Version, has_atom, read_index};
@@ -36,50 +36,61 @@ pub fn read_theorems<'a>(alloc: Global, scan: &mut Scan<'a>) -> Result<List<u64>
 }
 
 /// What stands after the word of a line that closes a definition.
-fn read_loop<'a>(alloc: Global, scan: &mut Scan<'a>) -> Result<Line, TokenError>
-    ensures gives { Gives line_tree result scan.old scan.new loop_row }
+fn read_loop<'a>(alloc: Global, scan: &mut Scan<'a>, own: &Code) -> Result<SpelledLine, TokenError>
+    ensures gives { Gives (spelled_tree own.now.ranges) result scan.old scan.new loop_row }
     ensures last { last_line scan.new ≡ last_line scan.old }
 {
     let def = read_index(scan)?;
     let cited = read_theorems(alloc, scan)?;
     eol(scan)?;
-    Ok(Line::Loop { def, cited })
+    let line = Line::Loop { def, cited };
+    Ok(SpelledLine { line, all: false })
 }
 
 /// What stands after the word of a line that forgets a theorem.
-fn read_forget<'a>(scan: &mut Scan<'a>) -> Result<Line, TokenError>
-    ensures gives { Gives line_tree result scan.old scan.new forget_row }
+fn read_forget<'a>(scan: &mut Scan<'a>, own: &Code) -> Result<SpelledLine, TokenError>
+    ensures gives { Gives (spelled_tree own.now.ranges) result scan.old scan.new forget_row }
     ensures last { last_line scan.new ≡ last_line scan.old }
 {
     let k = read_theorem(scan)?;
     eol(scan)?;
-    Ok(Line::Forget(k))
+    let line = Line::Forget(k);
+    Ok(SpelledLine { line, all: false })
 }
 
 /// A line that states a triple, by the group's own code.
-fn read_stated<'a>(alloc: Global, scan: &mut Scan<'a>, own: &Code) -> Result<Line, TokenError>
-    ensures gives { Gives line_tree result scan.old scan.new (stated_row own.now.ranges) }
+fn read_stated<'a>(
+    alloc: Global,
+    scan: &mut Scan<'a>,
+    own: &Code,
+) -> Result<SpelledLine, TokenError>
+    ensures gives { Gives (spelled_tree own.now.ranges) result scan.old scan.new (stated_row own.now.ranges) }
     ensures last { last_line scan.new ≡ last_line scan.old }
 {
     let rule = read_rule(alloc, scan)?;
-    let stated = read_triple(alloc, scan, own)?;
+    let (stated, all) = read_triple(alloc, scan, own)?;
     eol(scan)?;
-    Ok(Line::States { rule, stated })
+    let line = Line::States { rule, stated };
+    Ok(SpelledLine { line, all })
 }
 
 /// What stands after the word of a line by the further rule, by the group's own code.
-fn read_further<'a>(alloc: Global, scan: &mut Scan<'a>, own: &Code) -> Result<Line, TokenError>
-    ensures gives { Gives line_tree result scan.old scan.new (further_row own.now.ranges) }
+fn read_further<'a>(
+    alloc: Global,
+    scan: &mut Scan<'a>,
+    own: &Code,
+) -> Result<SpelledLine, TokenError>
+    ensures gives { Gives (spelled_tree own.now.ranges) result scan.old scan.new (further_row own.now.ranges) }
     ensures last { last_line scan.new ≡ last_line scan.old }
 {
     let cited = read_cited(scan)?;
-    let stated = read_triple(alloc, scan, own)?;
+    let (stated, all) = read_triple(alloc, scan, own)?;
     eol(scan)?;
-    Ok(Line::Further { cited, stated })
+    let line = Line::Further { cited, stated };
+    Ok(SpelledLine { line, all })
 }
 
-/// A line of a text of that version, by the group's own code.
-#[tactic(auto, unfolding(crate::specs::inner::LineReading::line_at))]
+/// A line of a text of that version, with the group's own code where `all` stands for that.
 pub fn read_line<'a>(
     alloc: Global,
     scan: &mut Scan<'a>,
@@ -89,14 +100,30 @@ pub fn read_line<'a>(
     ensures gives { Gives line_tree result scan.old scan.new (line_at (version_of version) own.now.ranges) }
     ensures last { last_line scan.new ≡ last_line scan.old }
 {
+    let spelled = read_spelled(alloc, scan, version, own)?;
+    let line = spelled.with_own(alloc, own)?;
+    Ok(line)
+}
+
+/// A line of a text of that version, as it is spelled beside the group's own code.
+#[tactic(auto, unfolding(crate::specs::inner::LineReading::line_at))]
+pub fn read_spelled<'a>(
+    alloc: Global,
+    scan: &mut Scan<'a>,
+    version: Version,
+    own: &Code,
+) -> Result<SpelledLine, TokenError>
+    ensures gives { Gives (spelled_tree own.now.ranges) result scan.old scan.new (line_at (version_of version) own.now.ranges) }
+    ensures last { last_line scan.new ≡ last_line scan.old }
+{
     match peek(scan) {
         Some((Token::Atom(name), ahead)) => {
             if name == b"loop".as_slice() {
                 *scan = ahead;
-                read_loop(alloc, scan)
+                read_loop(alloc, scan, own)
             } else if name == b"forget".as_slice() {
                 *scan = ahead;
-                read_forget(scan)
+                read_forget(scan, own)
             } else if version.is_further(name) {
                 *scan = ahead;
                 read_further(alloc, scan, own)

@@ -6,8 +6,8 @@ ghost use Rattle.mc_text.specs.Outcome.{Gives, last_line};
 ghost use Rattle.group_text.specs.Version.{version_of};
 ghost use Rattle.proof_text.specs.inner.LineReaders.{LineReaders};
 
-use crate::line::Line;
-use crate::proof_lines::read_line;
+use crate::line::{Line, SpelledLine};
+use crate::proof_lines::{read_line, read_spelled};
 use group_text::Version;
 use mc_text::{Scan, TokenError};
 use std::alloc::Global;
@@ -70,5 +70,34 @@ impl ReadLines for WholeLines {
         own: &Code,
     ) -> Result<Line, TokenError> {
         read_line(alloc, scan, version, own)
+    }
+}
+
+/// Reads lines that state whole triples as they are spelled, so that none has a copy of the group's own code.
+#[derive(Clone, Copy, Debug, Drop)]
+pub struct SpelledLines;
+
+impl ReadLines for SpelledLines {
+    ghost use Rattle.proof_text.specs.Line.{spelled_tree};
+    ghost use Rattle.proof_text.specs.inner.LineReading.{whole_readers};
+
+    type Line = SpelledLine;
+
+    ghost readers = { whole_readers };
+
+    ghost tree = { spelled_tree };
+
+    ghost Behind = { λ s before. Unit {0} };
+
+    fn start(&mut self, _alloc: Global) {}
+
+    fn read<'a>(
+        &mut self,
+        alloc: Global,
+        scan: &mut Scan<'a>,
+        version: Version,
+        own: &Code,
+    ) -> Result<SpelledLine, TokenError> {
+        read_spelled(alloc, scan, version, own)
     }
 }

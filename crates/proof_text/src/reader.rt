@@ -9,15 +9,15 @@ ghost use Rattle.tailrec_lang.specs.Tree.{group_tree};
 ghost use Rattle.group_text.specs.Limits.{IsGroupIn};
 ghost use Rattle.group_text.specs.Version.{version_of};
 ghost use Rattle.group_text.specs.declared.version.Version.TheVariants.{Four, One, Three};
-ghost use Rattle.proof_text.specs.Line.{ProofOf, ProofTree, line_tree};
+ghost use Rattle.proof_text.specs.Line.{ProofOf, ProofTree, line_tree, spelled_tree};
 ghost use Rattle.proof_text.specs.LineLimits.{IsLineIn};
 ghost use Rattle.proof_text.specs.Proofs.{bare, text_of_proofs_in, texts_of_proofs_in};
 ghost use Rattle.proof_text.specs.FirstProofs.{HasGiven, HasGivenOver, MayOpen, ProofEnds, with_line};
 ghost use Rattle.proof_text.specs.Answers.{IsEnd, NoItem, NoItemOver, OnBad, OnEnd, OnGiven};
 
-use crate::line::Line;
+use crate::line::{Line, SpelledLine};
 use crate::line_turns::read_turn as read_line_turn;
-use crate::read_lines::{ReadLines, WholeLines};
+use crate::read_lines::{ReadLines, SpelledLines, WholeLines};
 use group_text::{ReadError, Rows, TextFault, TextRows, Version, is_end, read_turn, whole_lines};
 use std::alloc::Global;
 use std::marker::Model;
@@ -209,6 +209,28 @@ impl<'a> Reader<'a> {
         ensures fault_same { OnErr result (self.new ≡ self.old) }
     {
         self.next_line(alloc, group, &mut WholeLines)
+    }
+
+    /// The next line of the proof of the group that was given last, or none where its lines end, as it is spelled. Both
+    /// that and a fault are answered again and again.
+    pub fn spelled_line(
+        &mut self,
+        alloc: Global,
+        group: &Group,
+    ) -> Result<Option<SpelledLine>, TextFault>
+        requires { IsGroupIn (version_of self.old.version) (group_tree group.now) }
+        ensures text { self.new.text ≡ self.old.text }
+        ensures version { self.new.version ≡ self.old.version }
+        ensures given { OnGiven result (λ l. (ps : Items ProofTree) (p : ProofTree) → HasGiven (ps ++ p ∷ []) self.old → p.group ≡ group_tree group.now → HasGiven (ps ++ with_line p (spelled_tree (group_tree group.now).code l) ∷ []) self.new) }
+        ensures fits { OnGiven result (λ l. IsLineIn (version_of self.new.version) (spelled_tree (group_tree group.now).code l)) }
+        ensures shorter { OnGiven result (λ _. length self.new.rest < length self.old.rest) }
+        ensures end { IsEnd result ↔ ProofEnds self.old.rest }
+        ensures bad { OnBad result (λ n. (ps : Items ProofTree) (p : ProofTree) → HasGiven (ps ++ p ∷ []) self.old → p.group ≡ group_tree group.now → IsBadAt (texts_of_proofs_in (version_of self.old.version)) self.old.text n) }
+        ensures no_item { OnBad result (λ n. (ps : Items ProofTree) (p : ProofTree) → HasGiven (ps ++ p ∷ []) self.old → p.group ≡ group_tree group.now → NoItem (ps ++ p ∷ []) self.old) }
+        ensures end_same { OnEnd result (self.new ≡ self.old) }
+        ensures fault_same { OnErr result (self.new ≡ self.old) }
+    {
+        self.next_line(alloc, group, &mut SpelledLines)
     }
 
     /// The number of the last line of the group or line that was given last, and 0 before the first.
