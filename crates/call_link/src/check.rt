@@ -43,9 +43,10 @@ impl HeldRule for Steer {
         arena: &mut Arena,
         premise: &Held,
         stated: &Held,
+        same_code: bool,
         steps: &mut Steps<L>,
     ) -> Result<bool, NoMemory> {
-        is_steered(alloc, arena, premise, stated, steps)
+        is_steered(alloc, arena, premise, stated, same_code, steps)
     }
 }
 

@@ -15,27 +15,28 @@ ghost use Rattle.held_terms.specs.Looks.{Looks};
 ghost use Rattle.held_terms.specs.inner.Leaves.{constant_of, mem_variable_of, variable_of};
 
 use crate::held::{Held, HeldFact, HeldSide, HeldValues};
-use sep_assert::same_code;
 use std::sync::ledger::Ledger;
 use tailrec_lang::{Def, Exit, Group, def_at, results_at};
 use term_arena::{Arena, Node, Steps};
 
-/// The triple of an exit of a definition. At most one step is taken for each different term of the list of arguments and that of
-/// results, of each kind, and of each of the two assertions.
+/// The triple of an exit of a definition. Whether its code is the group's own is told by the caller. At most one step is taken for each
+/// different term of the list of arguments and that of results, of each kind, and of each of the two assertions.
 pub fn is_exit<L: Ledger>(
     arena: &Arena,
     g: &Group,
     d: u32,
     exit: u32,
     stated: &Held,
+    own: bool,
     steps: &mut Steps<L>,
 ) -> bool
-    requires { IsHeldAt arena.now stated.now }
+    requires stated { IsHeldAt arena.now stated.now }
+    requires code { IsTrue own ↔ (stated.now.code.ranges ≡ g.now.code.ranges) }
     ensures answer { IsTrue result ↔ IsExit (group_tree g.now) d exit (triple_of arena.now stated.now) }
     ensures steps { (ts : Items Tree) → HasHeld arena.now stated.now ts → steps.new ≤ steps.old + (10 * length ts + 1) }
 {
     match def_at(g, d as usize) {
-        Some(def) => is_exit_of(arena, g, d, def, exit, stated, steps),
+        Some(def) => is_exit_of(arena, g, d, def, exit, stated, own, steps),
         None => false,
     }
 }
@@ -48,15 +49,17 @@ fn is_exit_of<L: Ledger>(
     def: &Def,
     exit: u32,
     stated: &Held,
+    own: bool,
     steps: &mut Steps<L>,
 ) -> bool
     requires def { slice_get (group_tree g.now).defs d ≡ Just (def_tree def.now) }
     requires stated { IsHeldAt arena.now stated.now }
+    requires code { IsTrue own ↔ (stated.now.code.ranges ≡ g.now.code.ranges) }
     ensures answer { IsTrue result ↔ IsExit (group_tree g.now) d exit (triple_of arena.now stated.now) }
     ensures steps { (ts : Items Tree) → HasHeld arena.now stated.now ts → steps.new ≤ steps.old + (10 * length ts + 1) }
 {
     match def.exits.get(exit as usize) {
-        Some(x) => is_exit_triple(arena, g, d, def, exit, *x, stated, steps),
+        Some(x) => is_exit_triple(arena, g, d, def, exit, *x, stated, own, steps),
         None => false,
     }
 }
@@ -70,15 +73,17 @@ fn is_exit_triple<L: Ledger>(
     exit: u32,
     x: Exit,
     stated: &Held,
+    own: bool,
     steps: &mut Steps<L>,
 ) -> bool
-    requires { IsHeldAt arena.now stated.now }
+    requires stated { IsHeldAt arena.now stated.now }
+    requires code { IsTrue own ↔ (stated.now.code.ranges ≡ g.now.code.ranges) }
     ensures answer { IsTrue result ↔ (triple_of arena.now stated.now ≡ exit_triple (group_tree g.now) d (def_tree def.now) exit x) }
     ensures steps { Looks 10 (HasHeld arena.now stated.now) result steps.old steps.new }
 {
     is_exit_fact(arena, g, d, exit, x, stated.facts.as_slice(), steps)
         && is_entry(arena, g, def, &stated.pre, steps)
-        && same_code(stated.code.as_code(), &g.code)
+        && own
         && is_end(arena, g, x, &stated.post, steps)
 }
 

@@ -1,4 +1,4 @@
-//! The rules that lines of later versions have, over numbers.
+//! The rules that lines of later versions have, over numbers. Whether codes are the same is told by the caller here too.
 
 ghost use Rattle.std.specs.Prelude.{◌≡◌, ◌↔◌, ◌+◌, ◌≤◌, IfOk, IsTrue, map};
 ghost use Rattle.std.specs.List.{Contains};
@@ -14,27 +14,29 @@ use crate::facts::Facts;
 use crate::held::{Held, HeldFact};
 use crate::same::{same_facts, same_mem, same_mems, same_registers, same_side, same_word};
 use rv_words::{Cmp, NoMemory};
-use sep_assert::same_code;
 use std::alloc::Global;
 use std::sync::ledger::Ledger;
 use term_arena::{Arena, Node, Steps};
 
-/// More facts, and another last program counter, which one of them says to be the same. It takes one step.
+/// More facts, and another last program counter, which one of them says to be the same. Whether the code is the same is told by the
+/// caller. It takes one step.
 pub fn is_steered<L: Ledger>(
     alloc: Global,
     arena: &mut Arena,
     p: &Held,
     stated: &Held,
+    same_code: bool,
     steps: &mut Steps<L>,
 ) -> Result<bool, NoMemory>
     requires p { IsHeldAt arena.old p.now }
     requires stated { IsHeldAt arena.old stated.now }
+    requires code { IsTrue same_code ↔ (p.now.code.ranges ≡ stated.now.code.ranges) }
     ensures answer { IfOk result (λ r. IsTrue r ↔ IsSteered (triple_of arena.old p.now) (triple_of arena.old stated.now)) }
     ensures grows { Extends arena.old arena.new }
     ensures steps { steps.new ≤ steps.old + 1 }
 {
     let facts = Facts::new(alloc, stated.facts.as_slice(), p.facts.len());
-    if !keeps_all_but_place(arena, p, stated, &facts) {
+    if !keeps_all_but_place(arena, p, stated, same_code, &facts) {
         return Ok(false);
     }
     let equal = are_equal_by(arena, &facts, p.post.pc, stated.post.pc, steps)?;
@@ -42,14 +44,21 @@ pub fn is_steered<L: Ledger>(
 }
 
 /// At least the same facts, and all else the same but the last program counter.
-fn keeps_all_but_place(arena: &Arena, p: &Held, stated: &Held, facts: &Facts) -> bool
+fn keeps_all_but_place(
+    arena: &Arena,
+    p: &Held,
+    stated: &Held,
+    same_code: bool,
+    facts: &Facts,
+) -> bool
     requires p { IsHeldAt arena.now p.now }
     requires stated { IsHeldAt arena.now stated.now }
+    requires code { IsTrue same_code ↔ (p.now.code.ranges ≡ stated.now.code.ranges) }
     requires facts { facts.now ≡ stated.now.facts }
     ensures { IsTrue result ↔ ((side_of arena.now p.now.pre ≡ side_of arena.now stated.now.pre) × (p.now.code.ranges ≡ stated.now.code.ranges) × (map (register_of arena.now) p.now.post.regs ≡ map (register_of arena.now) stated.now.post.regs) × (map (mem_of arena.now) p.now.post.mems ≡ map (mem_of arena.now) stated.now.post.mems) × AreAmong (map (fact_of arena.now) p.now.facts) (map (fact_of arena.now) stated.now.facts)) }
 {
     same_side(arena, &p.pre, &stated.pre)
-        && same_code(p.code.as_code(), stated.code.as_code())
+        && same_code
         && same_registers(arena, p.post.regs.as_slice(), stated.post.regs.as_slice())
         && same_mems(arena, p.post.mems.as_slice(), stated.post.mems.as_slice())
         && facts.has_all(arena, p.facts.as_slice())
@@ -74,14 +83,15 @@ fn are_equal_by<L: Ledger>(
     Ok(facts.has(arena, &HeldFact::So(equation)))
 }
 
-/// The two memories exchanged, in both assertions.
-pub fn is_exchanged(arena: &Arena, p: &Held, stated: &Held) -> bool
+/// The two memories exchanged, in both assertions. Whether the code is the same is told by the caller.
+pub fn is_exchanged(arena: &Arena, p: &Held, stated: &Held, same_code: bool) -> bool
     requires p { IsHeldAt arena.now p.now }
     requires stated { IsHeldAt arena.now stated.now }
+    requires code { IsTrue same_code ↔ (p.now.code.ranges ≡ stated.now.code.ranges) }
     ensures { IsTrue result ↔ IsExchanged (triple_of arena.now p.now) (triple_of arena.now stated.now) }
 {
     same_facts(arena, p.facts.as_slice(), stated.facts.as_slice())
-        && same_code(p.code.as_code(), stated.code.as_code())
+        && same_code
         && same_word(arena, p.pre.pc, stated.pre.pc)
         && same_registers(arena, p.pre.regs.as_slice(), stated.pre.regs.as_slice())
         && are_exchanged(arena, p.pre.mems.as_slice(), stated.pre.mems.as_slice())

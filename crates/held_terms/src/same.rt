@@ -6,7 +6,6 @@ ghost use Rattle.term_arena.specs.Arena.{IsCondAt, IsMemAt, IsWordAt, cond_of, m
 ghost use Rattle.held_terms.specs.Held.{AreFactsAt, AreMemsAt, AreRegistersAt, AreValuesAt, AreWordsAt, IsFactAt, IsHeldAt, IsSideAt, fact_of, register_of, side_of, triple_of, values_over};
 
 use crate::held::{Held, HeldFact, HeldSide, HeldValues};
-use sep_assert::same_code;
 use term_arena::{Arena, law_of_arenas};
 
 /// Whether two numbers stand for the same term.
@@ -199,14 +198,15 @@ pub fn is_among(arena: &Arena, fact: &HeldFact, others: &[HeldFact]) -> bool
     false
 }
 
-/// Whether two triples are the same.
-pub fn same_triple(arena: &Arena, a: &Held, b: &Held) -> bool
+/// Whether two triples are the same. Whether their code is the same is told by the caller.
+pub fn same_triple(arena: &Arena, a: &Held, b: &Held, same_code: bool) -> bool
     requires a { IsHeldAt arena.now a.now }
     requires b { IsHeldAt arena.now b.now }
+    requires code { IsTrue same_code ↔ (a.now.code.ranges ≡ b.now.code.ranges) }
     ensures { IsTrue result ↔ (triple_of arena.now a.now ≡ triple_of arena.now b.now) }
 {
     same_facts(arena, a.facts.as_slice(), b.facts.as_slice())
         && same_side(arena, &a.pre, &b.pre)
-        && same_code(a.code.as_code(), b.code.as_code())
+        && same_code
         && same_side(arena, &a.post, &b.post)
 }

@@ -44,9 +44,10 @@ impl HeldRule for Exchange {
         arena: &mut Arena,
         premise: &Held,
         stated: &Held,
+        same_code: bool,
         _steps: &mut Steps<L>,
     ) -> Result<bool, NoMemory> {
-        Ok(is_exchanged(arena, premise, stated))
+        Ok(is_exchanged(arena, premise, stated, same_code))
     }
 }
 

@@ -21,7 +21,7 @@ use held_terms::{
     is_weakened, same_side,
 };
 use rv_words::{List, NoMemory};
-use sep_assert::{code_agree, code_join};
+use sep_assert::{code_agree, code_join, code_within};
 use std::alloc::Global;
 use std::sync::ledger::Ledger;
 use term_arena::{Arena, Steps};
@@ -62,7 +62,8 @@ pub(crate) fn extended(
 {
     let code = copy_to_share(alloc, code)?;
     let t = with_parts(alloc, p.facts.as_slice(), &p.pre, &code, &p.post)?;
-    if !is_extension(arena, p, &t) {
+    let within = code_within(p.code.as_code(), t.code.as_code());
+    if !is_extension(arena, p, &t, within) {
         return Ok(None);
     }
     Ok(Some(t))
@@ -83,7 +84,7 @@ pub(crate) fn strengthened<L: Ledger>(
     ensures { IfOk result (λ o. MadeIf arena.now (λ t. IsStrengthened (triple_of arena.now p.now) t × (t.facts ≡ map (fact_of arena.now) facts.now) × (t.pre ≡ side_of arena.now pre.now)) o) }
 {
     let t = with_parts(alloc, facts, pre, &p.code, &p.post)?;
-    let so = is_strengthened(alloc, arena, p, &t, steps)?;
+    let so = is_strengthened(alloc, arena, p, &t, true, steps)?;
     if !so {
         return Ok(None);
     }
@@ -105,7 +106,7 @@ pub(crate) fn weakened<L: Ledger>(
     ensures { IfOk result (λ o. MadeIf arena.now (λ t. IsWeakened (triple_of arena.now p.now) t × (t.facts ≡ map (fact_of arena.now) facts.now) × (t.post ≡ side_of arena.now post.now)) o) }
 {
     let t = with_parts(alloc, facts, &p.pre, &p.code, post)?;
-    let so = is_weakened(alloc, arena, p, &t, steps)?;
+    let so = is_weakened(alloc, arena, p, &t, true, steps)?;
     if !so {
         return Ok(None);
     }
@@ -125,7 +126,7 @@ pub(crate) fn discharged<L: Ledger>(
     ensures { IfOk result (λ o. MadeIf arena.now (λ t. IsDischarged (triple_of arena.now p.now) t × (t.facts ≡ map (fact_of arena.now) facts.now)) o) }
 {
     let t = with_parts(alloc, facts, &p.pre, &p.code, &p.post)?;
-    let so = is_discharged(alloc, arena, p, &t, steps)?;
+    let so = is_discharged(alloc, arena, p, &t, true, steps)?;
     if !so {
         return Ok(None);
     }
