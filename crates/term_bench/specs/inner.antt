@@ -7,3 +7,4 @@ pub mod Depths
 pub mod Exits
 pub mod Standing
 pub mod Sharing
+pub mod Marks

@@ -6,7 +6,7 @@ ghost use Rattle.tailrec_lang.specs.Tree.{group_tree};
 ghost use Rattle.tailrec_lang.specs.WellFormed.{IsWellFormed};
 ghost use Rattle.triple_kernel.specs.Tree.{triple_tree};
 ghost use Rattle.loop_rule.specs.Rule.{IsClosedBy};
-ghost use Rattle.proof_text.specs.Line.{line_tree, rule_tree};
+ghost use Rattle.proof_text.specs.Line.{line_or_own, line_tree, rule_tree, triple_or_own};
 ghost use Rattle.term_arena.specs.Arena.{AreChildren, Extends, IsAdded, Tree};
 ghost use Rattle.held_terms.specs.Held.{IsHeldAt, triple_of};
 ghost use Rattle.checker.specs.Instance.{Instance, InstanceBy, Meets, after_line, no_lines, with_closed, with_theorem, without};
@@ -16,12 +16,14 @@ ghost use Rattle.proof_text.specs.inner.OwnCode.{IsOwnCode};
 ghost use Rattle.term_bench.specs.Short.{AreWithin, IsFineShort, IsNeverStated, IsShortInstance, IsStatedBy, LeavesBehind};
 ghost use Rattle.term_bench.specs.Terms.{HasLine, HasSubterms, closing_terms, compares_numbers, is_compared, is_loop, loop_terms, nodes_of, pair_steps, premise_terms, put_in_terms, stated_triple_terms, triple_terms, whole_line_terms};
 ghost use Rattle.term_bench.specs.inner.Making.{MadeIf};
+ghost use Rattle.term_bench.specs.inner.Marks.{held_over};
 ghost use Rattle.term_bench.specs.inner.Put.{IsHeldPut};
 
 use crate::closing::is_closed_by;
 use crate::copies::copy_to_share;
 use crate::held_rule::HeldRule;
 use crate::put::put_triple;
+use crate::known::is_known;
 use crate::rules::{by_further, code_giver, is_closed, meets, theorem};
 use crate::stating::stated_by;
 use checker::{NoRule, law_of_lines};
@@ -31,7 +33,7 @@ use rv_words::{List, NoMemory};
 use sep_assert::same_code;
 use short_text::Short;
 use std::alloc::Global;
-use std::collections::BTreeMap;
+use std::collections::{BTreeMap, BTreeSet};
 use std::marker::Model;
 use std::sync::ledger::Ledger;
 use tailrec_lang::Group;
@@ -44,8 +46,8 @@ const FACTS_LIMIT: u64 = 1 << 25;
 
 /// Judges the lines of a group's proof, one after the other. It keeps their terms once each, how deep they are, as far as that
 /// was asked, room for the images that an instance makes, the theorems that can still be cited as numbers of terms, which
-/// definitions are closed, and the group's code, for theorems to share. A theorem that is forgotten leaves no place behind it,
-/// while the arena keeps its terms.
+/// definitions are closed, the group's code, for theorems to share, and which of them are known to have it. A theorem that is forgotten
+/// leaves no place behind it, while the arena keeps its terms.
 #[derive(Drop)]
 pub struct Bench<'g> {
     group: &'g Group,
@@ -58,6 +60,8 @@ pub struct Bench<'g> {
     facts: u64,
     closed: List<bool>,
     code: SharedCode,
+    /// Theorems that have the group's own code: those that a line states so, as far as there is room to keep it.
+    marked: BTreeSet<u64>,
 }
 
 impl<'g> Model for Bench<'g> {
@@ -70,6 +74,7 @@ impl<'g> Model for Bench<'g> {
     ghost use Rattle.term_bench.specs.Bench.{BenchState};
     ghost use Rattle.term_bench.specs.inner.Bench.{IsSoundState};
     ghost use Rattle.term_bench.specs.inner.Depths.{AreDepths};
+    ghost use Rattle.term_bench.specs.inner.Marks.{IsOwnKept};
 
     ghost Value = { BenchState };
 
@@ -77,7 +82,7 @@ impl<'g> Model for Bench<'g> {
 
     ghost view = { λ b. (b.group.now, b.arena, b.held.entries, b.next, b.closed) };
 
-    ghost invariant = { λ b. IsSoundState (b.group.now, b.arena, b.held.entries, b.next, b.closed) × AreDepths b.arena b.depths };
+    ghost invariant = { λ b. IsSoundState (b.group.now, b.arena, b.held.entries, b.next, b.closed) × AreDepths b.arena b.depths × IsOwnKept b.group.now b.code b.held.entries b.marked };
 }
 
 impl<'g> Bench<'g> {
@@ -100,6 +105,7 @@ impl<'g> Bench<'g> {
             facts: 0,
             closed,
             code,
+            marked: BTreeSet::new(alloc),
         })
     }
 
@@ -167,12 +173,35 @@ impl<'g> Bench<'g> {
         ensures most { is_loop (line_tree line.now) ≡ false → (ts : Items Tree) → HasLine (state_history self.old).theorem (line_tree line.now) ts → steps.new ≤ steps.old + (nodes_of (whole_line_terms (line_tree line.now)) + pair_steps ts) }
         ensures closing { is_loop (line_tree line.now) ≡ true → steps.new ≤ steps.old + nodes_of (loop_terms (state_group self.old) (line_tree line.now)) }
     {
+        self.judge_spelled(alloc, by, line, false, steps)
+    }
+
+    /// Judges the next line of a text with that further rule, as it is spelled: where `all` says so, the code of its triple is the
+    /// group's own, which is left out. What it takes is said of `judge_by`.
+    pub fn judge_spelled<R: HeldRule, L: Ledger>(
+        &mut self,
+        alloc: Global,
+        by: &R,
+        line: &Line,
+        all: bool,
+        steps: &mut Steps<L>,
+    ) -> Result<(), RuleFault>
+        ensures group { self.new.0 ≡ self.old.0 }
+        ensures instance { OnOk result (InstanceBy R.states (state_group self.old) (state_history self.old) (line_or_own (state_group self.old).code all (line_tree line.now))) }
+        ensures after { OnOk result (state_history self.new ≡ after_line (state_history self.old) (line_or_own (state_group self.old).code all (line_tree line.now))) }
+        ensures no_instance { IsErrOf result RuleFault.NoInstance → InstanceBy R.states (state_group self.old) (state_history self.old) (line_or_own (state_group self.old).code all (line_tree line.now)) → ⊥ }
+        ensures same { OnErr result (state_history self.new ≡ state_history self.old) }
+        ensures grows { Extends (state_nodes self.old) (state_nodes self.new) }
+        ensures steps { is_compared (line_or_own (state_group self.old).code all (line_tree line.now)) ≡ true → steps.new ≤ steps.old + nodes_of (stated_triple_terms (line_or_own (state_group self.old).code all (line_tree line.now))) }
+        ensures most { is_loop (line_or_own (state_group self.old).code all (line_tree line.now)) ≡ false → (ts : Items Tree) → HasLine (state_history self.old).theorem (line_or_own (state_group self.old).code all (line_tree line.now)) ts → steps.new ≤ steps.old + (nodes_of (whole_line_terms (line_or_own (state_group self.old).code all (line_tree line.now))) + pair_steps ts) }
+        ensures closing { is_loop (line_or_own (state_group self.old).code all (line_tree line.now)) ≡ true → steps.new ≤ steps.old + nodes_of (loop_terms (state_group self.old) (line_or_own (state_group self.old).code all (line_tree line.now))) }
+    {
         match line {
-            Line::States { rule, stated } => self.state(alloc, rule, stated, steps),
+            Line::States { rule, stated } => self.state(alloc, rule, stated, all, steps),
             Line::Loop { def, cited } => self.close(alloc, *def, cited.as_slice(), steps),
             Line::Forget(k) => self.forget(*k),
             Line::Further { cited, stated } => {
-                self.state_further(alloc, by, *cited, stated, steps)
+                self.state_further(alloc, by, *cited, stated, all, steps)
             }
         }
     }
@@ -247,25 +276,26 @@ impl<'g> Bench<'g> {
         alloc: Global,
         rule: &Rule,
         stated: &Triple,
+        own: bool,
         steps: &mut Steps<L>,
     ) -> Result<(), RuleFault>
         ensures group { self.new.0 ≡ self.old.0 }
-        ensures instance { OnOk result (Meets (state_group self.old) (state_history self.old) (rule_tree rule.now) (triple_tree stated.now)) }
-        ensures after { OnOk result (state_history self.new ≡ with_theorem (triple_tree stated.now) (state_history self.old)) }
-        ensures no_instance { IsErrOf result RuleFault.NoInstance → Meets (state_group self.old) (state_history self.old) (rule_tree rule.now) (triple_tree stated.now) → ⊥ }
+        ensures instance { OnOk result (Meets (state_group self.old) (state_history self.old) (rule_tree rule.now) (triple_or_own (state_group self.old).code own (triple_tree stated.now))) }
+        ensures after { OnOk result (state_history self.new ≡ with_theorem (triple_or_own (state_group self.old).code own (triple_tree stated.now)) (state_history self.old)) }
+        ensures no_instance { IsErrOf result RuleFault.NoInstance → Meets (state_group self.old) (state_history self.old) (rule_tree rule.now) (triple_or_own (state_group self.old).code own (triple_tree stated.now)) → ⊥ }
         ensures same { OnErr result (state_history self.new ≡ state_history self.old) }
         ensures grows { Extends (state_nodes self.old) (state_nodes self.new) }
-        ensures steps { compares_numbers (rule_tree rule.now) ≡ true → steps.new ≤ steps.old + nodes_of (triple_terms (triple_tree stated.now)) }
-        ensures most { (ts : Items Tree) → HasSubterms ts (triple_terms (triple_tree stated.now)) → HasSubterms ts (premise_terms (state_history self.old).theorem (rule_tree rule.now)) → steps.new ≤ steps.old + (nodes_of (triple_terms (triple_tree stated.now) ++ put_in_terms (rule_tree rule.now)) + pair_steps ts) }
+        ensures steps { compares_numbers (rule_tree rule.now) ≡ true → steps.new ≤ steps.old + nodes_of (triple_terms (triple_or_own (state_group self.old).code own (triple_tree stated.now))) }
+        ensures most { (ts : Items Tree) → HasSubterms ts (triple_terms (triple_or_own (state_group self.old).code own (triple_tree stated.now))) → HasSubterms ts (premise_terms (state_history self.old).theorem (rule_tree rule.now)) → steps.new ≤ steps.old + (nodes_of (triple_terms (triple_or_own (state_group self.old).code own (triple_tree stated.now)) ++ put_in_terms (rule_tree rule.now)) + pair_steps ts) }
     {
         law_of_lines(&NoRule);
         self.law_of_bench();
-        let put = self.put(alloc, stated, steps)?;
-        let so = self.meets(alloc, rule, stated, &put, steps)?;
+        let put = self.put(alloc, stated, own, steps)?;
+        let so = self.meets(alloc, rule, stated, own, &put, steps)?;
         if !so {
             return Err(RuleFault::NoInstance);
         }
-        self.keep_by(rule, put)?;
+        self.keep_by(rule, put, own)?;
         Ok(())
     }
 
@@ -277,24 +307,25 @@ impl<'g> Bench<'g> {
         by: &R,
         cited: u64,
         stated: &Triple,
+        own: bool,
         steps: &mut Steps<L>,
     ) -> Result<(), RuleFault>
         ensures group { self.new.0 ≡ self.old.0 }
-        ensures instance { OnOk result (IsSomeAnd ((state_history self.old).theorem cited) (λ p. R.states p (triple_tree stated.now))) }
-        ensures after { OnOk result (state_history self.new ≡ with_theorem (triple_tree stated.now) (state_history self.old)) }
-        ensures no_instance { IsErrOf result RuleFault.NoInstance → IsSomeAnd ((state_history self.old).theorem cited) (λ p. R.states p (triple_tree stated.now)) → ⊥ }
+        ensures instance { OnOk result (IsSomeAnd ((state_history self.old).theorem cited) (λ p. R.states p (triple_or_own (state_group self.old).code own (triple_tree stated.now)))) }
+        ensures after { OnOk result (state_history self.new ≡ with_theorem (triple_or_own (state_group self.old).code own (triple_tree stated.now)) (state_history self.old)) }
+        ensures no_instance { IsErrOf result RuleFault.NoInstance → IsSomeAnd ((state_history self.old).theorem cited) (λ p. R.states p (triple_or_own (state_group self.old).code own (triple_tree stated.now))) → ⊥ }
         ensures same { OnErr result (state_history self.new ≡ state_history self.old) }
         ensures grows { Extends (state_nodes self.old) (state_nodes self.new) }
-        ensures steps { steps.new ≤ steps.old + (nodes_of (triple_terms (triple_tree stated.now)) + 1) }
+        ensures steps { steps.new ≤ steps.old + (nodes_of (triple_terms (triple_or_own (state_group self.old).code own (triple_tree stated.now))) + 1) }
     {
         law_of_lines(by);
         self.law_of_bench();
-        let put = self.put(alloc, stated, steps)?;
-        let so = self.by_further(alloc, by, cited, &put, steps)?;
+        let put = self.put(alloc, stated, own, steps)?;
+        let so = self.by_further(alloc, by, cited, &put, own, steps)?;
         if !so {
             return Err(RuleFault::NoInstance);
         }
-        self.keep_made(put)?;
+        self.keep_made(put, own)?;
         Ok(())
     }
 
@@ -320,7 +351,7 @@ impl<'g> Bench<'g> {
         let Some(h) = made else {
             return Err(RuleFault::NoInstance);
         };
-        self.keep_made(h)?;
+        self.keep_made(h, false)?;
         Ok(())
     }
 
@@ -352,20 +383,27 @@ impl<'g> Bench<'g> {
         )
     }
 
-    /// The numbers of a triple's terms.
+    /// The numbers of a triple's terms. Its code is the group's own where `own` says so.
     fn put<L: Ledger>(
         &mut self,
         alloc: Global,
         stated: &Triple,
+        own: bool,
         steps: &mut Steps<L>,
     ) -> Result<Held, NoMemory>
-        ensures put { IfOk result (λ h. IsHeldPut (state_nodes self.new) h (triple_tree stated.now)) }
+        ensures put { IfOk result (λ h. IsHeldPut (state_nodes self.new) h (triple_or_own (state_group self.old).code own (triple_tree stated.now))) }
+        ensures own { IfOk result (λ h. IsTrue own → h.code.ranges ≡ (state_group self.old).code) }
         ensures group { self.new.0 ≡ self.old.0 }
         ensures same { state_history self.new ≡ state_history self.old }
         ensures grows { Extends (state_nodes self.old) (state_nodes self.new) }
         ensures steps { steps.new ≤ steps.old + nodes_of (triple_terms (triple_tree stated.now)) }
     {
-        put_triple(alloc, &mut self.arena, stated, steps)
+        let put = put_triple(alloc, &mut self.arena, stated, steps)?;
+        if own {
+            over_code(put, &self.code)
+        } else {
+            Ok(put)
+        }
     }
 
     /// Whether the triple whose numbers those are meets the row of the rule.
@@ -374,11 +412,13 @@ impl<'g> Bench<'g> {
         alloc: Global,
         rule: &Rule,
         stated: &Triple,
+        own: bool,
         put: &Held,
         steps: &mut Steps<L>,
     ) -> Result<bool, NoMemory>
-        requires { IsHeldPut (state_nodes self.old) put.now (triple_tree stated.now) }
-        ensures answer { IfOk result (λ r. IsTrue r ↔ Meets (state_group self.old) (state_history self.old) (rule_tree rule.now) (triple_tree stated.now)) }
+        requires put { IsHeldPut (state_nodes self.old) put.now (triple_or_own (state_group self.old).code own (triple_tree stated.now)) }
+        requires own { IsTrue own → put.now.code.ranges ≡ (state_group self.old).code }
+        ensures answer { IfOk result (λ r. IsTrue r ↔ Meets (state_group self.old) (state_history self.old) (rule_tree rule.now) (triple_or_own (state_group self.old).code own (triple_tree stated.now))) }
         ensures group { self.new.0 ≡ self.old.0 }
         ensures same { state_history self.new ≡ state_history self.old }
         ensures grows { Extends (state_nodes self.old) (state_nodes self.new) }
@@ -391,9 +431,11 @@ impl<'g> Bench<'g> {
             &mut self.arena,
             &mut self.images,
             &self.held,
+            &self.marked,
             self.closed.as_slice(),
             rule,
             stated,
+            own,
             put,
             steps,
         )
@@ -406,22 +448,26 @@ impl<'g> Bench<'g> {
         by: &R,
         cited: u64,
         put: &Held,
+        own: bool,
         steps: &mut Steps<L>,
     ) -> Result<bool, NoMemory>
-        requires { IsHeldAt (state_nodes self.old) put.now }
+        requires put { IsHeldAt (state_nodes self.old) put.now }
+        requires own { IsTrue own → put.now.code.ranges ≡ (state_group self.old).code }
         ensures answer { IfOk result (λ r. IsTrue r ↔ IsSomeAnd ((state_history self.old).theorem cited) (λ p. R.states p (triple_of (state_nodes self.old) put.now))) }
         ensures group { self.new.0 ≡ self.old.0 }
         ensures same { state_history self.new ≡ state_history self.old }
         ensures grows { Extends (state_nodes self.old) (state_nodes self.new) }
         ensures steps { steps.new ≤ steps.old + 1 }
     {
-        by_further(alloc, by, &mut self.arena, &self.held, cited, put, steps)
+        let known = is_known(self.group, &self.held, &self.marked, own, cited, put);
+        by_further(alloc, by, &mut self.arena, &self.held, cited, put, known, steps)
     }
 
-    /// Keeps the next theorem, which is valid.
-    fn keep(&mut self, h: Held) -> Result<(), NoMemory>
+    /// Keeps the next theorem, which is valid, and that it has the group's own code where `own` says so and there is room for that.
+    fn keep(&mut self, h: Held, own: bool) -> Result<(), NoMemory>
         requires there { IsHeldAt (state_nodes self.old) h }
         requires sound { Sound (state_group self.old) (with_theorem (triple_of (state_nodes self.old) h) (state_history self.old)) }
+        requires own { IsTrue own → h.code.ranges ≡ (state_group self.old).code }
         ensures group { self.new.0 ≡ self.old.0 }
         ensures nodes { state_nodes self.new ≡ state_nodes self.old }
         ensures after { OnOk result (state_history self.new ≡ with_theorem (triple_of (state_nodes self.old) h) (state_history self.old)) }
@@ -434,37 +480,52 @@ impl<'g> Bench<'g> {
         if facts > FACTS_LIMIT {
             return Err(NoMemory);
         }
-        self.held.insert(self.next, h)?;
+        let number = self.next;
+        self.marked.remove(&number);
+        self.held.insert(number, h)?;
         self.next = next;
         self.facts = facts;
+        if own {
+            let _marked = self.marked.insert(number);
+        }
         Ok(())
     }
 
     /// Keeps the next theorem, which the rule states, without a copy of code that is kept already.
-    fn keep_by(&mut self, rule: &Rule, h: Held) -> Result<(), NoMemory>
+    fn keep_by(&mut self, rule: &Rule, h: Held, own: bool) -> Result<(), NoMemory>
         requires there { IsHeldAt (state_nodes self.old) h }
         requires sound { Sound (state_group self.old) (with_theorem (triple_of (state_nodes self.old) h) (state_history self.old)) }
         requires meets { Meets (state_group self.old) (state_history self.old) (rule_tree rule.now) (triple_of (state_nodes self.old) h) }
+        requires own { IsTrue own → h.code.ranges ≡ (state_group self.old).code }
         ensures group { self.new.0 ≡ self.old.0 }
         ensures nodes { state_nodes self.new ≡ state_nodes self.old }
         ensures after { OnOk result (state_history self.new ≡ with_theorem (triple_of (state_nodes self.old) h) (state_history self.old)) }
         ensures same { OnErr result (self.new ≡ self.old) }
     {
-        let shared = self.with_shared_code(rule, h)?;
-        self.keep(shared)
+        let shared = if own {
+            h
+        } else {
+            self.with_shared_code(rule, h)?
+        };
+        self.keep(shared, own)
     }
 
-    /// Keeps the next theorem, likewise, where its code may be the group's.
-    fn keep_made(&mut self, h: Held) -> Result<(), NoMemory>
+    /// Keeps the next theorem, likewise, where its code may be the group's though `own` doesn't say so.
+    fn keep_made(&mut self, h: Held, own: bool) -> Result<(), NoMemory>
         requires there { IsHeldAt (state_nodes self.old) h }
         requires sound { Sound (state_group self.old) (with_theorem (triple_of (state_nodes self.old) h) (state_history self.old)) }
+        requires own { IsTrue own → h.code.ranges ≡ (state_group self.old).code }
         ensures group { self.new.0 ≡ self.old.0 }
         ensures nodes { state_nodes self.new ≡ state_nodes self.old }
         ensures after { OnOk result (state_history self.new ≡ with_theorem (triple_of (state_nodes self.old) h) (state_history self.old)) }
         ensures same { OnErr result (self.new ≡ self.old) }
     {
-        let shared = self.with_own_code(h)?;
-        self.keep(shared)
+        let shared = if own {
+            h
+        } else {
+            self.with_own_code(h)?
+        };
+        self.keep(shared, own)
     }
 
     /// The same triple. Its code is in the place of that of the theorem from which the rule takes it, else in that of the bench's.
@@ -578,6 +639,7 @@ impl<'g> Bench<'g> {
             return Err(RuleFault::NoInstance);
         }
         self.held.remove(&k);
+        self.marked.remove(&k);
         Ok(())
     }
 }
@@ -598,6 +660,13 @@ fn none_closed(alloc: Global, count: usize) -> Result<List<bool>, NoMemory>
 fn with_code(h: Held, code: &SharedCode) -> Result<Held, NoMemory>
     requires { code.now.ranges ≡ h.code.ranges }
     ensures { IfOk result (λ shared. shared ≡ h) }
+{
+    over_code(h, code)
+}
+
+/// The triple over that code, which it shares.
+fn over_code(h: Held, code: &SharedCode) -> Result<Held, NoMemory>
+    ensures { IfOk result (λ over. over ≡ held_over code.now h) }
 {
     let code = code.share()?;
     Ok(Held {

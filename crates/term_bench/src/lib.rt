@@ -6,7 +6,8 @@
 //! theorems is kept and compared as one.
 //!
 //! `bench.judge(alloc, &line, &mut steps)` is Ok exactly where the line is an `Instance` after what the bench holds, and
-//! `bench.judge_by` where it is an `InstanceBy` the further rule of its version. What it holds stands for a `History`
+//! `bench.judge_by` where it is an `InstanceBy` the further rule of its version, as `bench.judge_spelled` of a line whose triple's code
+//! is left out where that is the group's own. What it holds stands for a `History`
 //! (`state_history`), and that is as it was after a refusal, while the arena may have more terms. A theorem that was forgotten
 //! takes no place; `bench.kept()` is how many there are. The type keeps that each theorem is valid and each closed definition
 //! right, by the checker's law of lines, so that nothing is proved again of the rules. `put_triple` puts the terms of a triple
@@ -37,6 +38,7 @@ mod copies;
 mod depths;
 mod exits;
 mod held_rule;
+mod known;
 mod laws;
 mod limits;
 mod making;

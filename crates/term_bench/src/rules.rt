@@ -8,16 +8,18 @@ ghost use Rattle.triple_kernel.specs.Rules.{IsDischarged, IsInst, IsStrengthened
 ghost use Rattle.instr_axioms.specs.Axiom.{axiom_of};
 ghost use Rattle.frame_compose.specs.Rules.{IsComposed, IsExtended, IsFramed};
 ghost use Rattle.loop_rule.specs.Rule.{IsExit};
-ghost use Rattle.proof_text.specs.Line.{mem_put_in, rule_tree, word_put_in};
+ghost use Rattle.proof_text.specs.Line.{mem_put_in, rule_tree, triple_or_own, word_put_in};
 ghost use Rattle.term_arena.specs.Arena.{Extends, OfMem, OfWord, Tree};
 ghost use Rattle.held_terms.specs.Held.{IsHeldAt, triple_of};
 ghost use Rattle.checker.specs.Instance.{Meets, put_for};
-ghost use Rattle.term_bench.specs.Bench.{AreHeldAt, history_from, is_closed_in, theorem_at};
+ghost use Rattle.term_bench.specs.Bench.{AreHeldAt, held_by_number, history_from, is_closed_in, theorem_at};
 ghost use Rattle.term_bench.specs.Terms.{HasSubterms, compares_numbers, nodes_of, pair_steps, premise_terms, put_in_terms, theorem_terms, triple_terms};
+ghost use Rattle.term_bench.specs.inner.Marks.{HaveCode};
 ghost use Rattle.term_bench.specs.inner.Put.{IsHeldPut};
 ghost use Rattle.term_bench.specs.inner.Sharing.{code_giver};
 
 use crate::held_rule::HeldRule;
+use crate::known::{has_code, has_code_within, has_own_code, have_union, is_known};
 use crate::put::{put_mem_terms, put_word_terms};
 use held_terms::{
     Held, ImageTable, is_composition, is_discharged, is_exit, is_extension, is_frame, is_instance,
@@ -26,25 +28,27 @@ use held_terms::{
 use instr_axioms::axiom_triple;
 use proof_text::Rule;
 use rv_words::NoMemory;
+use sep_assert::{same_assertion, same_code};
 use std::alloc::Global;
-use std::collections::BTreeMap;
+use std::collections::{BTreeMap, BTreeSet};
 use std::sync::ledger::Ledger;
 use tailrec_lang::Group;
 use term_arena::{Arena, Steps};
-use triple_kernel::{Form, Triple, same_triple};
-use word_terms::Sub;
+use triple_kernel::{Form, Triple, same_facts};
+use word_terms::{Code, Sub};
 
 /// The theorem of that number, if it exists and wasn't forgotten.
 pub(crate) fn theorem<'a>(arena: &Arena, held: &'a BTreeMap<u64, Held>, k: u64) -> Option<&'a Held>
     requires { AreHeldAt arena.now held.now.entries }
     ensures theorem { option_map (triple_of arena.now) (option_copied result) ≡ theorem_at arena.now held.now.entries k }
     ensures there { IfSome (option_copied result) (λ h. IsHeldAt arena.now h) }
+    ensures held { option_copied result ≡ held_by_number held.now.entries k }
 {
     held.get(&k)
 }
 
-/// Whether the stated triple meets the row of the rule, after those theorems and closed definitions. Its numbers are those
-/// of `put`.
+/// Whether the stated triple meets the row of the rule, after those theorems and closed definitions. Its numbers and its code are those
+/// of `put`. Where the code is the group's own, as `own` says, it isn't compared with that of a theorem that is marked.
 #[tactic(auto, using(crate::proofs::BenchLemmas::extends_none))]
 pub(crate) fn meets<L: Ledger>(
     alloc: Global,
@@ -52,29 +56,59 @@ pub(crate) fn meets<L: Ledger>(
     arena: &mut Arena,
     images: &mut ImageTable,
     held: &BTreeMap<u64, Held>,
+    marked: &BTreeSet<u64>,
     closed: &[bool],
     rule: &Rule,
     stated: &Triple,
+    own: bool,
     put: &Held,
     steps: &mut Steps<L>,
 ) -> Result<bool, NoMemory>
     requires held { AreHeldAt arena.old held.now.entries }
-    requires put { IsHeldPut arena.old put.now (triple_tree stated.now) }
-    ensures answer { IfOk result (λ r. IsTrue r ↔ Meets (group_tree g.now) (history_from 0 arena.old held.now.entries closed.now) (rule_tree rule.now) (triple_tree stated.now)) }
+    requires marked { HaveCode g.now.code.ranges held.now.entries marked.now }
+    requires put { IsHeldPut arena.old put.now (triple_or_own (group_tree g.now).code own (triple_tree stated.now)) }
+    requires own { IsTrue own → put.now.code.ranges ≡ g.now.code.ranges }
+    ensures answer { IfOk result (λ r. IsTrue r ↔ Meets (group_tree g.now) (history_from 0 arena.old held.now.entries closed.now) (rule_tree rule.now) (triple_or_own (group_tree g.now).code own (triple_tree stated.now))) }
     ensures grows { Extends arena.old arena.new }
     ensures steps { compares_numbers (rule_tree rule.now) ≡ true → steps.new ≡ steps.old }
     ensures most { (ts : Items Tree) → HasSubterms ts (triple_terms (triple_tree stated.now)) → HasSubterms ts (premise_terms (theorem_at arena.old held.now.entries) (rule_tree rule.now)) → steps.new ≤ steps.old + (nodes_of (put_in_terms (rule_tree rule.now)) + pair_steps ts) }
 {
     match rule {
-        Rule::Axiom(addr, word, form) => by_axiom(alloc, *addr, *word, *form, stated),
-        Rule::Inst(p, terms) => by_inst(alloc, arena, images, held, *p, terms, put, steps),
-        Rule::Frame(p) => Ok(by_frame(arena, held, *p, put)),
-        Rule::Compose(p, q) => Ok(by_compose(alloc, arena, held, *p, *q, put)),
-        Rule::ExtendCode(p) => Ok(by_extend_code(arena, held, *p, put)),
-        Rule::Strengthen(p) => by_strengthen(alloc, arena, held, *p, put, steps),
-        Rule::Weaken(p) => by_weaken(alloc, arena, held, *p, put, steps),
-        Rule::Discharge(p) => by_discharge(alloc, arena, held, *p, put, steps),
-        Rule::UseExit(def, exit) => Ok(by_use_exit(arena, g, closed, *def, *exit, put, steps)),
+        Rule::Axiom(addr, word, form) => {
+            by_axiom(alloc, *addr, *word, *form, stated, put.code.as_code())
+        }
+        Rule::Inst(p, terms) => {
+            let known = is_known(g, held, marked, own, *p, put);
+            by_inst(alloc, arena, images, held, *p, terms, put, known, steps)
+        }
+        Rule::Frame(p) => {
+            let known = is_known(g, held, marked, own, *p, put);
+            Ok(by_frame(arena, held, *p, put, known))
+        }
+        Rule::Compose(p, q) => {
+            let first = is_known(g, held, marked, own, *p, put);
+            let second = is_known(g, held, marked, own, *q, put);
+            Ok(by_compose(alloc, arena, held, *p, *q, put, first, second))
+        }
+        Rule::ExtendCode(p) => {
+            let known = is_known(g, held, marked, own, *p, put);
+            Ok(by_extend_code(arena, held, *p, put, known))
+        }
+        Rule::Strengthen(p) => {
+            let known = is_known(g, held, marked, own, *p, put);
+            by_strengthen(alloc, arena, held, *p, put, known, steps)
+        }
+        Rule::Weaken(p) => {
+            let known = is_known(g, held, marked, own, *p, put);
+            by_weaken(alloc, arena, held, *p, put, known, steps)
+        }
+        Rule::Discharge(p) => {
+            let known = is_known(g, held, marked, own, *p, put);
+            by_discharge(alloc, arena, held, *p, put, known, steps)
+        }
+        Rule::UseExit(def, exit) => {
+            Ok(by_use_exit(arena, g, closed, *def, *exit, put, own, steps))
+        }
     }
 }
 
@@ -101,13 +135,24 @@ fn by_axiom(
     word: u32,
     form: Form,
     stated: &Triple,
+    code: &Code,
 ) -> Result<bool, NoMemory>
-    ensures { IfOk result (λ r. IsTrue r ↔ (axiom_of addr word form ≡ Just (triple_tree stated.now))) }
+    ensures { IfOk result (λ r. IsTrue r ↔ (axiom_of addr word form ≡ Just (triple_over code.now.ranges (triple_tree stated.now)))) }
 {
     match axiom_triple(alloc, addr, word, form)? {
-        Some(t) => Ok(same_triple(&t, stated)),
+        Some(t) => Ok(is_triple_over(&t, stated, code)),
         None => Ok(false),
     }
+}
+
+/// Whether the first triple is the second one over that code.
+fn is_triple_over(t: &Triple, stated: &Triple, code: &Code) -> bool
+    ensures { IsTrue result ↔ (triple_tree t.now ≡ triple_over code.now.ranges (triple_tree stated.now)) }
+{
+    same_facts(t.facts.as_slice(), stated.facts.as_slice())
+        && same_assertion(&t.pre, &stated.pre)
+        && same_code(&t.code, code)
+        && same_assertion(&t.post, &stated.post)
 }
 
 #[tactic(auto, using(crate::proofs::BenchLemmas::extends_none))]
@@ -119,16 +164,18 @@ fn by_inst<L: Ledger>(
     p: u64,
     terms: &Sub,
     stated: &Held,
+    known: bool,
     steps: &mut Steps<L>,
 ) -> Result<bool, NoMemory>
     requires held { AreHeldAt arena.old held.now.entries }
     requires stated { IsHeldAt arena.old stated.now }
+    requires known { IsTrue known → IfSome (held_by_number held.now.entries p) (λ q. q.code.ranges ≡ stated.now.code.ranges) }
     ensures answer { IfOk result (λ r. IsTrue r ↔ IsSomeAnd (theorem_at arena.old held.now.entries p) (λ p. IsInst (put_for (map word_put_in terms.now.words) (map mem_put_in terms.now.mems)) p (triple_of arena.old stated.now))) }
     ensures grows { Extends arena.old arena.new }
     ensures steps { (ts : Items Tree) → HasSubterms ts (theorem_terms (theorem_at arena.old held.now.entries p)) → steps.new ≤ steps.old + (nodes_of (map (λ q. OfWord q.1) (map word_put_in terms.now.words) ++ map (λ q. OfMem q.1) (map mem_put_in terms.now.mems)) + 2 * length ts) }
 {
     match theorem(arena, held, p) {
-        Some(p) => is_instance_by(alloc, arena, images, p, terms, stated, steps),
+        Some(p) => is_instance_by(alloc, arena, images, p, terms, stated, known, steps),
         None => Ok(false),
     }
 }
@@ -141,10 +188,12 @@ fn is_instance_by<L: Ledger>(
     p: &Held,
     terms: &Sub,
     stated: &Held,
+    known: bool,
     steps: &mut Steps<L>,
 ) -> Result<bool, NoMemory>
     requires p { IsHeldAt arena.old p.now }
     requires stated { IsHeldAt arena.old stated.now }
+    requires known { IsTrue known → p.now.code.ranges ≡ stated.now.code.ranges }
     ensures answer { IfOk result (λ r. IsTrue r ↔ IsInst (put_for (map word_put_in terms.now.words) (map mem_put_in terms.now.mems)) (triple_of arena.old p.now) (triple_of arena.old stated.now)) }
     ensures grows { Extends arena.old arena.new }
     ensures steps { (ts : Items Tree) → HasSubterms ts (triple_terms (triple_of arena.old p.now)) → steps.new ≤ steps.old + (nodes_of (map (λ q. OfWord q.1) (map word_put_in terms.now.words) ++ map (λ q. OfMem q.1) (map mem_put_in terms.now.mems)) + 2 * length ts) }
@@ -159,18 +208,26 @@ fn is_instance_by<L: Ledger>(
         words.as_slice(),
         mems.as_slice(),
         stated,
+        has_code(known, p, stated),
         steps,
     )?;
     Ok(same)
 }
 
-fn by_frame(arena: &Arena, held: &BTreeMap<u64, Held>, p: u64, stated: &Held) -> bool
+fn by_frame(
+    arena: &Arena,
+    held: &BTreeMap<u64, Held>,
+    p: u64,
+    stated: &Held,
+    known: bool,
+) -> bool
     requires held { AreHeldAt arena.now held.now.entries }
     requires stated { IsHeldAt arena.now stated.now }
+    requires known { IsTrue known → IfSome (held_by_number held.now.entries p) (λ q. q.code.ranges ≡ stated.now.code.ranges) }
     ensures { IsTrue result ↔ IsSomeAnd (theorem_at arena.now held.now.entries p) (λ p. IsFramed p (triple_of arena.now stated.now)) }
 {
     match theorem(arena, held, p) {
-        Some(p) => is_frame(arena, p, stated),
+        Some(p) => is_frame(arena, p, stated, has_code(known, p, stated)),
         None => false,
     }
 }
@@ -182,13 +239,19 @@ fn by_compose(
     p: u64,
     q: u64,
     stated: &Held,
+    first_known: bool,
+    second_known: bool,
 ) -> bool
     requires held { AreHeldAt arena.now held.now.entries }
     requires stated { IsHeldAt arena.now stated.now }
+    requires first { IsTrue first_known → IfSome (held_by_number held.now.entries p) (λ q. q.code.ranges ≡ stated.now.code.ranges) }
+    requires second { IsTrue second_known → IfSome (held_by_number held.now.entries q) (λ p. p.code.ranges ≡ stated.now.code.ranges) }
     ensures { IsTrue result ↔ IsSomeAnd (theorem_at arena.now held.now.entries p) (λ p. IsSomeAnd (theorem_at arena.now held.now.entries q) (λ q. IsComposed p q (triple_of arena.now stated.now))) }
 {
     match theorem(arena, held, p) {
-        Some(p) => is_composition_with(alloc, arena, held, p, q, stated),
+        Some(p) => {
+            is_composition_with(alloc, arena, held, p, q, stated, first_known, second_known)
+        }
         None => false,
     }
 }
@@ -200,25 +263,39 @@ fn is_composition_with(
     p: &Held,
     q: u64,
     stated: &Held,
+    first_known: bool,
+    second_known: bool,
 ) -> bool
     requires held { AreHeldAt arena.now held.now.entries }
     requires p { IsHeldAt arena.now p.now }
     requires stated { IsHeldAt arena.now stated.now }
+    requires first { IsTrue first_known → p.now.code.ranges ≡ stated.now.code.ranges }
+    requires second { IsTrue second_known → IfSome (held_by_number held.now.entries q) (λ p. p.code.ranges ≡ stated.now.code.ranges) }
     ensures { IsTrue result ↔ IsSomeAnd (theorem_at arena.now held.now.entries q) (λ q. IsComposed (triple_of arena.now p.now) q (triple_of arena.now stated.now)) }
 {
     match theorem(arena, held, q) {
-        Some(q) => is_composition(alloc, arena, p, q, stated),
+        Some(q) => {
+            let union = have_union(first_known, second_known, p, q, stated);
+            is_composition(alloc, arena, p, q, stated, union)
+        }
         None => false,
     }
 }
 
-fn by_extend_code(arena: &Arena, held: &BTreeMap<u64, Held>, p: u64, stated: &Held) -> bool
+fn by_extend_code(
+    arena: &Arena,
+    held: &BTreeMap<u64, Held>,
+    p: u64,
+    stated: &Held,
+    known: bool,
+) -> bool
     requires held { AreHeldAt arena.now held.now.entries }
     requires stated { IsHeldAt arena.now stated.now }
+    requires known { IsTrue known → IfSome (held_by_number held.now.entries p) (λ q. q.code.ranges ≡ stated.now.code.ranges) }
     ensures { IsTrue result ↔ IsSomeAnd (theorem_at arena.now held.now.entries p) (λ p. IsExtended p (triple_of arena.now stated.now)) }
 {
     match theorem(arena, held, p) {
-        Some(p) => is_extension(arena, p, stated),
+        Some(p) => is_extension(arena, p, stated, has_code_within(known, p, stated)),
         None => false,
     }
 }
@@ -229,15 +306,20 @@ fn by_strengthen<L: Ledger>(
     held: &BTreeMap<u64, Held>,
     p: u64,
     stated: &Held,
+    known: bool,
     steps: &mut Steps<L>,
 ) -> Result<bool, NoMemory>
     requires held { AreHeldAt arena.now held.now.entries }
     requires stated { IsHeldAt arena.now stated.now }
+    requires known { IsTrue known → IfSome (held_by_number held.now.entries p) (λ q. q.code.ranges ≡ stated.now.code.ranges) }
     ensures answer { IfOk result (λ r. IsTrue r ↔ IsSomeAnd (theorem_at arena.now held.now.entries p) (λ p. IsStrengthened p (triple_of arena.now stated.now))) }
     ensures steps { (ts : Items Tree) → HasSubterms ts (triple_terms (triple_of arena.now stated.now)) → HasSubterms ts (theorem_terms (theorem_at arena.now held.now.entries p)) → steps.new ≤ steps.old + 2 * (length ts * length ts) }
 {
     match theorem(arena, held, p) {
-        Some(p) => is_strengthened(alloc, arena, p, stated, steps),
+        Some(p) => {
+            let same = has_code(known, p, stated);
+            is_strengthened(alloc, arena, p, stated, same, steps)
+        }
         None => Ok(false),
     }
 }
@@ -248,15 +330,20 @@ fn by_weaken<L: Ledger>(
     held: &BTreeMap<u64, Held>,
     p: u64,
     stated: &Held,
+    known: bool,
     steps: &mut Steps<L>,
 ) -> Result<bool, NoMemory>
     requires held { AreHeldAt arena.now held.now.entries }
     requires stated { IsHeldAt arena.now stated.now }
+    requires known { IsTrue known → IfSome (held_by_number held.now.entries p) (λ q. q.code.ranges ≡ stated.now.code.ranges) }
     ensures answer { IfOk result (λ r. IsTrue r ↔ IsSomeAnd (theorem_at arena.now held.now.entries p) (λ p. IsWeakened p (triple_of arena.now stated.now))) }
     ensures steps { (ts : Items Tree) → HasSubterms ts (triple_terms (triple_of arena.now stated.now)) → HasSubterms ts (theorem_terms (theorem_at arena.now held.now.entries p)) → steps.new ≤ steps.old + 2 * (length ts * length ts) }
 {
     match theorem(arena, held, p) {
-        Some(p) => is_weakened(alloc, arena, p, stated, steps),
+        Some(p) => {
+            let same = has_code(known, p, stated);
+            is_weakened(alloc, arena, p, stated, same, steps)
+        }
         None => Ok(false),
     }
 }
@@ -267,15 +354,20 @@ fn by_discharge<L: Ledger>(
     held: &BTreeMap<u64, Held>,
     p: u64,
     stated: &Held,
+    known: bool,
     steps: &mut Steps<L>,
 ) -> Result<bool, NoMemory>
     requires held { AreHeldAt arena.now held.now.entries }
     requires stated { IsHeldAt arena.now stated.now }
+    requires known { IsTrue known → IfSome (held_by_number held.now.entries p) (λ q. q.code.ranges ≡ stated.now.code.ranges) }
     ensures answer { IfOk result (λ r. IsTrue r ↔ IsSomeAnd (theorem_at arena.now held.now.entries p) (λ p. IsDischarged p (triple_of arena.now stated.now))) }
     ensures steps { (ts : Items Tree) → HasSubterms ts (triple_terms (triple_of arena.now stated.now)) → HasSubterms ts (theorem_terms (theorem_at arena.now held.now.entries p)) → steps.new ≤ steps.old + (2 * (length ts * length ts) + 2 * length ts) }
 {
     match theorem(arena, held, p) {
-        Some(p) => is_discharged(alloc, arena, p, stated, steps),
+        Some(p) => {
+            let same = has_code(known, p, stated);
+            is_discharged(alloc, arena, p, stated, same, steps)
+        }
         None => Ok(false),
     }
 }
@@ -287,13 +379,16 @@ fn by_use_exit<L: Ledger>(
     def: u32,
     exit: u32,
     stated: &Held,
+    own: bool,
     steps: &mut Steps<L>,
 ) -> bool
-    requires { IsHeldAt arena.now stated.now }
+    requires stated { IsHeldAt arena.now stated.now }
+    requires own { IsTrue own → stated.now.code.ranges ≡ g.now.code.ranges }
     ensures answer { IsTrue result ↔ ((is_closed_in closed.now def ≡ true) × IsExit (group_tree g.now) def exit (triple_of arena.now stated.now)) }
     ensures steps { (ts : Items Tree) → HasSubterms ts (triple_terms (triple_of arena.now stated.now)) → steps.new ≤ steps.old + (10 * length ts + 1) }
 {
-    is_closed(closed, def) && is_exit(arena, g, def, exit, stated, steps)
+    is_closed(closed, def)
+        && is_exit(arena, g, def, exit, stated, has_own_code(g, own, stated), steps)
 }
 
 /// Whether the further rule states the triple of those numbers from the theorem of that number.
@@ -305,16 +400,18 @@ pub(crate) fn by_further<R: HeldRule, L: Ledger>(
     held: &BTreeMap<u64, Held>,
     p: u64,
     stated: &Held,
+    known: bool,
     steps: &mut Steps<L>,
 ) -> Result<bool, NoMemory>
     requires held { AreHeldAt arena.old held.now.entries }
     requires stated { IsHeldAt arena.old stated.now }
+    requires known { IsTrue known → IfSome (held_by_number held.now.entries p) (λ q. q.code.ranges ≡ stated.now.code.ranges) }
     ensures answer { IfOk result (λ r. IsTrue r ↔ IsSomeAnd (theorem_at arena.old held.now.entries p) (λ p. R.states p (triple_of arena.old stated.now))) }
     ensures grows { Extends arena.old arena.new }
     ensures steps { steps.new ≤ steps.old + 1 }
 {
     match theorem(arena, held, p) {
-        Some(p) => by.is_stated(alloc, arena, p, stated, steps),
+        Some(p) => by.is_stated(alloc, arena, p, stated, has_code(known, p, stated), steps),
         None => Ok(false),
     }
 }

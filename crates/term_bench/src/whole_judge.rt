@@ -1,14 +1,14 @@
 //! Lines that state whole triples, judged by a bench that keeps their terms as numbers.
 
 ghost use Rattle.std.specs.Prelude.{◌≡◌, IsErrOf, OnOk};
-ghost use Rattle.proof_text.specs.Line.{line_tree};
+ghost use Rattle.proof_text.specs.Line.{spelled_tree};
 ghost use Rattle.checker.specs.Instance.{InstanceBy, after_line};
 ghost use Rattle.term_bench.specs.Bench.{state_group, state_history};
 
 use crate::bench::Bench;
 use crate::held_rule::HeldRule;
 use checker::{ByRule, JudgeLines, JudgeProofs, Judged, Pulled, RuledReader, Verdict, judge_group};
-use proof_text::{Line, ProofSource};
+use proof_text::{ProofSource, SpelledLine};
 use std::alloc::Global;
 use std::marker::Brand;
 use std::sync::ledger::{Blank, Ledger};
@@ -31,7 +31,7 @@ impl<'g, R: HeldRule> JudgeLines<ByRule<R>, R> for Bench<'g> {
         alloc: Global,
         by: &R,
         _lines: &ByRule<R>,
-        line: Line,
+        line: SpelledLine,
     ) -> Result<bool, RuleFault> {
         judge_counted::<R, Brand>(self, alloc, by, &line, Blank::new(1))?;
         Ok(true)
@@ -47,18 +47,18 @@ fn judge_counted<R: HeldRule, L: Ledger>(
     bench: &mut Bench<'_>,
     alloc: Global,
     by: &R,
-    line: &Line,
+    line: &SpelledLine,
     blank: Blank,
 ) -> Result<(), RuleFault>
     requires name { blank.name ≡ L.name }
     requires parts { blank.parts ≡ L.parts }
     requires one { L.parts ≡ 1 }
     ensures group { bench.new.0 ≡ bench.old.0 }
-    ensures instance { OnOk result (InstanceBy R.states (state_group bench.old) (state_history bench.old) (line_tree line.now)) }
-    ensures after { OnOk result (state_history bench.new ≡ after_line (state_history bench.old) (line_tree line.now)) }
-    ensures no_instance { IsErrOf result RuleFault.NoInstance → InstanceBy R.states (state_group bench.old) (state_history bench.old) (line_tree line.now) → ⊥ }
+    ensures instance { OnOk result (InstanceBy R.states (state_group bench.old) (state_history bench.old) (spelled_tree (state_group bench.old).code line.now)) }
+    ensures after { OnOk result (state_history bench.new ≡ after_line (state_history bench.old) (spelled_tree (state_group bench.old).code line.now)) }
+    ensures no_instance { IsErrOf result RuleFault.NoInstance → InstanceBy R.states (state_group bench.old) (state_history bench.old) (spelled_tree (state_group bench.old).code line.now) → ⊥ }
 {
-    bench.judge_by(alloc, by, line, &mut Steps::<L>::new(blank))
+    bench.judge_spelled(alloc, by, &line.line, line.all, &mut Steps::<L>::new(blank))
 }
 
 /// Judges proofs whose lines state whole triples by benches that keep their terms as numbers.

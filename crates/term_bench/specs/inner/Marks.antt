@@ -1,0 +1,26 @@
+-- Which theorems are known to have the group's own code.
+use Rattle.std.specs.Prelude.{◌≡◌, ℕ, true, List, IfSome}
+use Rattle.std.specs.BTreeSet.{BTreeSet, contains}
+use Rattle.std.specs.Ordering.{nat_cmp}
+use Rattle.rv_words.specs.declared.range.Range.{Range}
+use Rattle.word_terms.specs.declared.code.Code.{Code}
+use Rattle.tailrec_lang.specs.declared.group.Group.{Group}
+use Rattle.triple_kernel.specs.Tree.{TripleTree}
+use Rattle.held_terms.specs.declared.held.Held.{Held}
+use Rattle.term_bench.specs.Bench.{Theorems, held_by_number}
+
+-- each theorem whose number is marked has that code
+abbrev pub HaveCode : List Range → Theorems → BTreeSet ℕ → Type 0
+HaveCode code held marked = (k : ℕ) → contains nat_cmp marked k ≡ true → IfSome (held_by_number held k) (λ h. h.code.ranges ≡ code)
+
+-- the code that is kept for theorems to share is the group's own, and the marked theorems have it
+pub record IsOwnKept (g : Group) (code : Code) (held : Theorems) (marked : BTreeSet ℕ) : Type 0 where
+  pub code : code.ranges ≡ g.code.ranges
+  pub theorems : HaveCode g.code.ranges held marked
+
+-- the triple over that code
+abbrev pub held_over : Code → Held → Held
+held_over code h = record { facts = h.facts; pre = h.pre; code = code; post = h.post }
+
+abbrev pub triple_over : List Range → TripleTree → TripleTree
+triple_over code t = record { facts = t.facts; pre = t.pre; code = code; post = t.post }
