@@ -7,14 +7,14 @@ use crate::line_judge::{JudgeLines, JudgeProofs, Judged, RuledLines, RuledReader
 use crate::verdict::{Pulled, Verdict};
 use group_text::Version;
 use mc_text::{Scan, TokenError};
-use proof_text::{Line, ProofSource, ReadLines, WholeLines};
+use proof_text::{ProofSource, ReadLines, SpelledLine, SpelledLines};
 use std::alloc::Global;
 use std::marker::PhantomData;
 use tailrec_lang::Group;
 use triple_kernel::RuleFault;
 use word_terms::Code;
 
-/// Lines that state whole triples, with a further rule. Nothing is kept of them.
+/// Lines that state whole triples, as they are spelled, with a further rule. Nothing is kept of them.
 pub struct ByRule<R> {
     by: PhantomData<R>,
 }
@@ -33,15 +33,15 @@ impl<R> Drop for ByRule<R> {
 }
 
 impl<R: FurtherRule> RuledLines for ByRule<R> {
-    ghost use Rattle.proof_text.specs.Line.{line_tree};
+    ghost use Rattle.proof_text.specs.Line.{spelled_tree};
     ghost use Rattle.proof_text.specs.inner.LineReading.{whole_readers};
     ghost use Rattle.checker.specs.LineRules.{whole_rules};
 
-    type Line = Line;
+    type Line = SpelledLine;
 
     ghost readers = { whole_readers };
 
-    ghost tree = { λ own l. line_tree l };
+    ghost tree = { spelled_tree };
 
     ghost Behind = { λ s before. Unit {0} };
 
@@ -55,8 +55,8 @@ impl<R: FurtherRule> RuledLines for ByRule<R> {
         scan: &mut Scan<'a>,
         version: Version,
         own: &Code,
-    ) -> Result<Line, TokenError> {
-        WholeLines.read(alloc, scan, version, own)
+    ) -> Result<SpelledLine, TokenError> {
+        SpelledLines.read(alloc, scan, version, own)
     }
 }
 
@@ -74,8 +74,9 @@ impl<'g, R: FurtherRule> JudgeLines<ByRule<R>, R> for Bench<'g> {
         alloc: Global,
         by: &R,
         _lines: &ByRule<R>,
-        line: Line,
+        line: SpelledLine,
     ) -> Result<bool, RuleFault> {
+        let line = line.with_own(alloc, &self.group().code)?;
         self.judge_by(alloc, by, line)?;
         Ok(true)
     }

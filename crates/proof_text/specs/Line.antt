@@ -70,22 +70,22 @@ line_tree (line.Further cited stated) = Further cited (triple_tree stated)
 
 -- ---- lines as they are spelled
 
--- code, or the group's own where that is left out
+-- code, or the group's own where `all` stands for that
 abbrev pub code_or_own : List Range → (all : Bool) → List Range → List Range
 code_or_own own true code = own
 code_or_own own false code = code
 
--- a triple of such code
+-- the triple, with such code
 abbrev pub triple_or_own : List Range → (all : Bool) → TripleTree → TripleTree
 triple_or_own own all t = record { facts = t.facts; pre = t.pre; code = code_or_own own all t.code; post = t.post }
 
--- a line with such a triple
+-- the line, with such code in the triple that it states
 abbrev pub line_or_own : List Range → (all : Bool) → LineTree → LineTree
 line_or_own own all (States rule t) = States rule (triple_or_own own all t)
 line_or_own own all (Loop def cited) = Loop def cited
 line_or_own own all (Forget k) = Forget k
 line_or_own own all (Further p t) = Further p (triple_or_own own all t)
 
--- the tree of a line that is kept as it is spelled, by the group's own code
+-- the tree of a line that is kept as it is spelled: it has the group's own code where `all` stands for that
 abbrev pub spelled_tree : List Range → SpelledLine → LineTree
 spelled_tree own s = line_or_own own s.all (line_tree s.line)

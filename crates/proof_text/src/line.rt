@@ -38,10 +38,12 @@ pub enum Line {
     Further { cited: u64, stated: Triple },
 }
 
-/// A line of a proof as it is spelled: where `all` stands for the code of its triple, which is the group's own, that is left out.
+/// A line of a proof as it is spelled, without a copy of the group's own code.
 #[derive(Debug, Drop)]
 pub struct SpelledLine {
+    /// The line. Where `all` is true, the code of its triple says nothing.
     pub line: Line,
+    /// Whether `all` stands for the code of its triple, which is the group's own then.
     pub all: bool,
 }
 
