@@ -4,6 +4,7 @@ pub mod LeafLemmas
 pub mod LeafSteps
 pub mod RuleLemmas
 pub mod BenchLemmas
+pub mod MarkLemmas
 pub mod PutOrder
 pub mod PutSteps
 pub mod SubtermLemmas

@@ -14,8 +14,8 @@ abbrev pub HaveCode : List Range → Theorems → BTreeSet ℕ → Type 0
 HaveCode code held marked = (k : ℕ) → contains nat_cmp marked k ≡ true → IfSome (held_by_number held k) (λ h. h.code.ranges ≡ code)
 
 -- the code that is kept for theorems to share is the group's own, and the marked theorems have it
-pub record IsOwnKept (g : Group) (code : Code) (held : Theorems) (marked : BTreeSet ℕ) : Type 0 where
-  pub code : code.ranges ≡ g.code.ranges
+pub record IsOwnKept (g : Group) (kept : Code) (held : Theorems) (marked : BTreeSet ℕ) : Type 0 where
+  pub code : kept.ranges ≡ g.code.ranges
   pub theorems : HaveCode g.code.ranges held marked
 
 -- the triple over that code
