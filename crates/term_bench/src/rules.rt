@@ -14,7 +14,7 @@ ghost use Rattle.held_terms.specs.Held.{IsHeldAt, triple_of};
 ghost use Rattle.checker.specs.Instance.{Meets, put_for};
 ghost use Rattle.term_bench.specs.Bench.{AreHeldAt, held_by_number, history_from, is_closed_in, theorem_at};
 ghost use Rattle.term_bench.specs.Terms.{HasSubterms, compares_numbers, nodes_of, pair_steps, premise_terms, put_in_terms, theorem_terms, triple_terms};
-ghost use Rattle.term_bench.specs.inner.Marks.{HaveCode};
+ghost use Rattle.term_bench.specs.inner.Marks.{HaveCode, over_code};
 ghost use Rattle.term_bench.specs.inner.Put.{IsHeldPut};
 ghost use Rattle.term_bench.specs.inner.Sharing.{code_giver};
 
@@ -137,7 +137,7 @@ fn by_axiom(
     stated: &Triple,
     code: &Code,
 ) -> Result<bool, NoMemory>
-    ensures { IfOk result (λ r. IsTrue r ↔ (axiom_of addr word form ≡ Just (triple_over code.now.ranges (triple_tree stated.now)))) }
+    ensures { IfOk result (λ r. IsTrue r ↔ (axiom_of addr word form ≡ Just (over_code code.now.ranges (triple_tree stated.now)))) }
 {
     match axiom_triple(alloc, addr, word, form)? {
         Some(t) => Ok(is_triple_over(&t, stated, code)),
@@ -147,7 +147,7 @@ fn by_axiom(
 
 /// Whether the first triple is the second one over that code.
 fn is_triple_over(t: &Triple, stated: &Triple, code: &Code) -> bool
-    ensures { IsTrue result ↔ (triple_tree t.now ≡ triple_over code.now.ranges (triple_tree stated.now)) }
+    ensures { IsTrue result ↔ (triple_tree t.now ≡ over_code code.now.ranges (triple_tree stated.now)) }
 {
     same_facts(t.facts.as_slice(), stated.facts.as_slice())
         && same_assertion(&t.pre, &stated.pre)

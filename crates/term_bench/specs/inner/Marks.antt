@@ -18,9 +18,9 @@ pub record IsOwnKept (g : Group) (kept : Code) (held : Theorems) (marked : BTree
   pub code : kept.ranges ≡ g.code.ranges
   pub theorems : HaveCode g.code.ranges held marked
 
--- the triple over that code
+-- the triple over that code, by the numbers of its terms and by these
 abbrev pub held_over : Code → Held → Held
 held_over code h = record { facts = h.facts; pre = h.pre; code = code; post = h.post }
 
-abbrev pub triple_over : List Range → TripleTree → TripleTree
-triple_over code t = record { facts = t.facts; pre = t.pre; code = code; post = t.post }
+abbrev pub over_code : List Range → TripleTree → TripleTree
+over_code code t = record { facts = t.facts; pre = t.pre; code = code; post = t.post }
