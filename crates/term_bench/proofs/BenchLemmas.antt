@@ -9,6 +9,7 @@ use Rattle.std.specs.BTreeMap.{BTreeMap, IsOrdered, get, is_at, keys}
 use Rattle.std.specs.Cmp.{nat_cmp_total, nat_eq_equiv, unsigned_tied}
 use Rattle.std.specs.Ordering.{nat_cmp}
 use lib.Dec.{eqb-suc-suc, eqb-zero-suc, eqb-suc-zero}
+use Rattle.rv_words.specs.declared.range.Range.{Range}
 use Rattle.tailrec_lang.specs.declared.group.Group.{Group}
 use Rattle.tailrec_lang.specs.Tree.{GroupTree, def_tree, group_tree}
 use Rattle.tailrec_lang.specs.WellFormed.{IsWellFormed}
@@ -26,6 +27,7 @@ use Rattle.checker.specs.Sound.{Sound}
 use Rattle.checker.proofs.SoundLemmas.{no_lines-sound}
 use Rattle.term_bench.specs.Bench.{AreHeldAt, BenchState, CanCite, Theorems, held_by_number, is_closed_in, state_group, state_history, theorem_at}
 use Rattle.term_bench.specs.inner.Bench.{IsSoundState}
+use Rattle.term_bench.specs.inner.Marks.{Changes}
 
 -- ---- a look-up after a change at one number
 
@@ -105,10 +107,6 @@ module _ (ns ms : List Node) (e : Extends ns ms) where
   }
 
 -- ---- after a line
-
--- the look-ups after a change at one number
-abbrev pub Changes : Theorems → Theorems → ℕ → Option Held → Type 0
-Changes old new k w = (q : ℕ) → held_by_number new q ≡ cond (is_at (nat_cmp k) q) w (held_by_number old q)
 
 module _ (g : Group) (ns : List Node) (held : Theorems) (next : ℕ) (closed : List Bool) where
   abbrev now : History
@@ -212,6 +210,14 @@ pub meets_same : (g k : GroupTree) (h j : History) (r : RuleTree) (t : TripleTre
 meets_same g k h j r t eg eh = (
   λ m. subst (λ (x : GroupTree). Meets x h r t) eg (subst (λ (x : History). Meets k x r t) eh m),
   λ m. subst (λ (x : History). Meets k x r t) (sym eh) (subst (λ (x : GroupTree). Meets x h r t) (sym eg) m),
+)
+
+-- .. of a triple over the group's code
+pub meets_over : (g k : Group) (h j : History) (r : RuleTree) (t : List Range → TripleTree) → k ≡ g → j ≡ h
+    → Meets (group_tree k) j r (t (group_tree k).code) ↔ Meets (group_tree g) h r (t (group_tree g).code)
+meets_over g k h j r t eg eh = (
+  λ m. subst (λ (x : Group). Meets (group_tree x) h r (t (group_tree x).code)) eg (subst (λ (x : History). Meets (group_tree k) x r (t (group_tree k).code)) eh m),
+  λ m. subst (λ (x : History). Meets (group_tree k) x r (t (group_tree k).code)) (sym eh) (subst (λ (x : Group). Meets (group_tree x) h r (t (group_tree x).code)) (sym eg) m),
 )
 
 -- .. and what a further rule states from a theorem

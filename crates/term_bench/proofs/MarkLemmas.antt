@@ -13,8 +13,7 @@ use Rattle.sep_assert.proofs.CodeLemmas as code
 use Rattle.frame_compose.proofs.UnionLemmas.{covered_by_first, union-within}
 use Rattle.held_terms.specs.declared.held.Held.{Held}
 use Rattle.term_bench.specs.Bench.{Theorems, held_by_number}
-use Rattle.term_bench.specs.inner.Marks.{HaveCode}
-use Rattle.term_bench.proofs.BenchLemmas.{Changes}
+use Rattle.term_bench.specs.inner.Marks.{Changes, HaveCode}
 
 -- ---- codes that are the same
 

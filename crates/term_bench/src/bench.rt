@@ -1,6 +1,6 @@
 //! The judge of the lines of a group's proof, over numbers.
 
-ghost use Rattle.std.specs.Prelude.{◌≡◌, ◌+◌, ◌<◌, ◌≤◌, ◌↔◌, ◌++◌, IfOk, IfSome, IsErrOf, IsSomeAnd, IsTrue, List as Items, OnErr, OnOk, [], false, is_some, length, map, option_map, replicate, slice_get, true};
+ghost use Rattle.std.specs.Prelude.{◌≡◌, ◌+◌, ◌<◌, ◌≤◌, ◌↔◌, ◌++◌, IfOk, IfSome, IsErrOf, IsSomeAnd, IsTrue, List as Items, OnErr, OnOk, [], false, is_some, Some as Just, length, map, option_map, replicate, slice_get, true};
 ghost use Rattle.std.specs.Option.{option_copied};
 ghost use Rattle.tailrec_lang.specs.Tree.{group_tree};
 ghost use Rattle.tailrec_lang.specs.WellFormed.{IsWellFormed};
@@ -8,15 +8,17 @@ ghost use Rattle.triple_kernel.specs.Tree.{triple_tree};
 ghost use Rattle.loop_rule.specs.Rule.{IsClosedBy};
 ghost use Rattle.proof_text.specs.Line.{line_or_own, line_tree, rule_tree, triple_or_own};
 ghost use Rattle.term_arena.specs.Arena.{AreChildren, Extends, IsAdded, Tree};
+ghost use Rattle.rv_words.specs.declared.range.Range.{Range};
+ghost use Rattle.held_terms.specs.declared.held.Held.{Held as HeldOf};
 ghost use Rattle.held_terms.specs.Held.{IsHeldAt, triple_of};
 ghost use Rattle.checker.specs.Instance.{Instance, InstanceBy, Meets, after_line, no_lines, with_closed, with_theorem, without};
 ghost use Rattle.checker.specs.Sound.{Sound};
-ghost use Rattle.term_bench.specs.Bench.{CanCite, state_group, state_history, state_nodes};
+ghost use Rattle.term_bench.specs.Bench.{CanCite, Theorems, state_group, state_history, state_nodes};
 ghost use Rattle.proof_text.specs.inner.OwnCode.{IsOwnCode};
 ghost use Rattle.term_bench.specs.Short.{AreWithin, IsFineShort, IsNeverStated, IsShortInstance, IsStatedBy, LeavesBehind};
 ghost use Rattle.term_bench.specs.Terms.{HasLine, HasSubterms, closing_terms, compares_numbers, is_compared, is_loop, loop_terms, nodes_of, pair_steps, premise_terms, put_in_terms, stated_triple_terms, triple_terms, whole_line_terms};
 ghost use Rattle.term_bench.specs.inner.Making.{MadeIf};
-ghost use Rattle.term_bench.specs.inner.Marks.{held_over};
+ghost use Rattle.term_bench.specs.inner.Marks.{Changes, HaveCode, held_over};
 ghost use Rattle.term_bench.specs.inner.Put.{IsHeldPut};
 
 use crate::closing::is_closed_by;
@@ -398,12 +400,7 @@ impl<'g> Bench<'g> {
         ensures grows { Extends (state_nodes self.old) (state_nodes self.new) }
         ensures steps { steps.new ≤ steps.old + nodes_of (triple_terms (triple_tree stated.now)) }
     {
-        let put = put_triple(alloc, &mut self.arena, stated, steps)?;
-        if own {
-            over_code(put, &self.code)
-        } else {
-            Ok(put)
-        }
+        put_over(alloc, &mut self.arena, stated, own, &self.code, steps)
     }
 
     /// Whether the triple whose numbers those are meets the row of the rule.
@@ -485,9 +482,7 @@ impl<'g> Bench<'g> {
         self.held.insert(number, h)?;
         self.next = next;
         self.facts = facts;
-        if own {
-            let _marked = self.marked.insert(number);
-        }
+        mark(&mut self.marked, number, own);
         Ok(())
     }
 
@@ -654,6 +649,38 @@ fn none_closed(alloc: Global, count: usize) -> Result<List<bool>, NoMemory>
         closed.push(false)?;
     }
     Ok(closed)
+}
+
+/// The numbers of a triple's terms. Its code is the one given where `own` says so.
+fn put_over<L: Ledger>(
+    alloc: Global,
+    arena: &mut Arena,
+    stated: &Triple,
+    own: bool,
+    code: &SharedCode,
+    steps: &mut Steps<L>,
+) -> Result<Held, NoMemory>
+    ensures put { IfOk result (λ h. IsHeldPut arena.new h (triple_or_own code.now.ranges own (triple_tree stated.now))) }
+    ensures own { IfOk result (λ h. IsTrue own → h.code.ranges ≡ code.now.ranges) }
+    ensures grows { Extends arena.old arena.new }
+    ensures steps { steps.new ≤ steps.old + nodes_of (triple_terms (triple_tree stated.now)) }
+{
+    let put = put_triple(alloc, arena, stated, steps)?;
+    if own {
+        over_code(put, code)
+    } else {
+        Ok(put)
+    }
+}
+
+/// Marks the theorem of that number, which has the group's own code where `own` says so, if it does and there is room for the mark.
+fn mark(marked: &mut BTreeSet<u64>, number: u64, own: bool)
+    ensures { (code : Items Range) (old held : Theorems) (h : HeldOf) → Changes old held number (Just h) → (IsTrue own → h.code.ranges ≡ code)
+        → HaveCode code held marked.old → HaveCode code held marked.new }
+{
+    if own {
+        let _marked = marked.insert(number);
+    }
 }
 
 /// The same triple, with its code in another place.

@@ -1,5 +1,6 @@
 -- Which theorems are known to have the group's own code.
-use Rattle.std.specs.Prelude.{◌≡◌, ℕ, true, List, IfSome}
+use Rattle.std.specs.Prelude.{◌≡◌, ℕ, true, cond, List, Option, IfSome}
+use Rattle.std.specs.BTreeMap.{is_at}
 use Rattle.std.specs.BTreeSet.{BTreeSet, contains}
 use Rattle.std.specs.Ordering.{nat_cmp}
 use Rattle.rv_words.specs.declared.range.Range.{Range}
@@ -12,6 +13,10 @@ use Rattle.term_bench.specs.Bench.{Theorems, held_by_number}
 -- each theorem whose number is marked has that code
 abbrev pub HaveCode : List Range → Theorems → BTreeSet ℕ → Type 0
 HaveCode code held marked = (k : ℕ) → contains nat_cmp marked k ≡ true → IfSome (held_by_number held k) (λ h. h.code.ranges ≡ code)
+
+-- the look-ups after a change at one number
+abbrev pub Changes : Theorems → Theorems → ℕ → Option Held → Type 0
+Changes old new k w = (q : ℕ) → held_by_number new q ≡ cond (is_at (nat_cmp k) q) w (held_by_number old q)
 
 -- the code that is kept for theorems to share is the group's own, and the marked theorems have it
 pub record IsOwnKept (g : Group) (kept : Code) (held : Theorems) (marked : BTreeSet ℕ) : Type 0 where

@@ -12,7 +12,7 @@ pub invariant_of-self : goal.invariant_of-self
 invariant_of-self g c =
     let s = c.self.inside in
     let grows = c.add.ensures.grows in
-    (sound_grown s.arena c.add.new.self grows s.group.now s.held.entries s.next s.closed c.self.invariant.0, depths_stay s.arena c.add.new.self s.depths grows c.self.invariant.1)
+    (sound_grown s.arena c.add.new.self grows s.group.now s.held.entries s.next s.closed c.self.invariant.0, depths_stay s.arena c.add.new.self s.depths grows c.self.invariant.1, c.self.invariant.2)
 
 pub returns-clause-same : goal.returns-clause-same
 returns-clause-same g c =

@@ -15,7 +15,7 @@ pub invariant_of-self : goal.invariant_of-self
 invariant_of-self g c =
     let s = c.self.inside in
     let grows = c.is_closed_by.ensures.grows in
-    (sound_grown s.arena c.is_closed_by.new.arena grows s.group.now s.held.entries s.next s.closed c.self.invariant.0, depths_stay s.arena c.is_closed_by.new.arena s.depths grows c.self.invariant.1)
+    (sound_grown s.arena c.is_closed_by.new.arena grows s.group.now s.held.entries s.next s.closed c.self.invariant.0, depths_stay s.arena c.is_closed_by.new.arena s.depths grows c.self.invariant.1, c.self.invariant.2)
 
 pub returns-clause-same : goal.returns-clause-same
 returns-clause-same g c =

@@ -8,13 +8,13 @@ use Rattle.term_bench.proofs.bench.Bench.put.Goals as goal
 pub invariant_of-self : goal.invariant_of-self
 invariant_of-self g c =
     let s = c.self.inside in
-    let grows = c.put_triple.ensures.grows in
-    (sound_grown s.arena c.put_triple.new.arena grows s.group.now s.held.entries s.next s.closed c.self.invariant.0, depths_stay s.arena c.put_triple.new.arena s.depths grows c.self.invariant.1)
+    let grows = c.put_over.ensures.grows in
+    (sound_grown s.arena c.put_over.new.arena grows s.group.now s.held.entries s.next s.closed c.self.invariant.0, depths_stay s.arena c.put_over.new.arena s.depths grows c.self.invariant.1, c.self.invariant.2)
 
 pub returns-clause-same : goal.returns-clause-same
 returns-clause-same g c =
     let s = c.self.inside in
-    history_stays s.arena c.put_triple.new.arena c.put_triple.ensures.grows s.group.now s.held.entries s.next s.closed c.self.invariant.0.there ∙ ap state_history c.self.view_is
+    history_stays s.arena c.put_over.new.arena c.put_over.ensures.grows s.group.now s.held.entries s.next s.closed c.self.invariant.0.there ∙ ap state_history c.self.view_is
 
 pub returns-clause-grows : goal.returns-clause-grows
-returns-clause-grows g c = subst (λ (k : BenchState). Extends (state_nodes k) c.put_triple.new.arena) c.self.view_is c.put_triple.ensures.grows
+returns-clause-grows g c = subst (λ (k : BenchState). Extends (state_nodes k) c.put_over.new.arena) c.self.view_is c.put_over.ensures.grows

@@ -1,8 +1,9 @@
 use Rattle.std.proofs.Common.{List, ap, sym, ◌∙◌, subst, arith}
 use Rattle.std.specs.Prelude.{IsSomeAnd}
+use Rattle.tailrec_lang.specs.declared.group.Group.{Group}
 use Rattle.tailrec_lang.specs.Tree.{group_tree}
 use Rattle.triple_kernel.specs.Tree.{TripleTree, triple_tree}
-use Rattle.proof_text.specs.Line.{Further}
+use Rattle.proof_text.specs.Line.{Further, triple_or_own}
 use Rattle.term_arena.specs.declared.node.Node.{Node}
 use Rattle.term_arena.specs.Arena.{Extends}
 use Rattle.held_terms.specs.Held.{triple_of}
@@ -12,8 +13,11 @@ use Rattle.term_bench.specs.Bench.{state_group, state_history, state_nodes}
 use Rattle.term_bench.proofs.BenchLemmas.{further_same, same_with}
 use Rattle.term_bench.proofs.bench.Bench.state_further.Goals as goal
 
-pub by_further-requires : goal.by_further-requires
-by_further-requires g c = c.in_ok-put.ensures.put.at
+pub by_further-requires-clause-put : goal.by_further-requires-clause-put
+by_further-requires-clause-put g c = c.in_ok-put.ensures.put.at
+
+pub by_further-requires-clause-own : goal.by_further-requires-clause-own
+by_further-requires-clause-own g c = λ own. c.in_ok-put.ensures.own own ∙ sym (ap (λ (k : Group). (group_tree k).code) c.put.ensures.group)
 
 pub keep_made-requires-clause-there : goal.keep_made-requires-clause-there
 keep_made-requires-clause-there g c =
@@ -24,7 +28,7 @@ keep_made-requires-clause-sound g c =
     let old = c.args.self.now in
     let one = c.put.new.self in
     let two = c.by_further.new.self in
-    let t = triple_tree c.args.stated.now in
+    let t = triple_or_own (state_group c.args.self.now).code c.args.own (triple_tree c.args.stated.now) in
     let so = (further_same g.R.FurtherRule.states c.args.cited (state_history old) (state_history one) t (triple_of (state_nodes one) c.in_ok-put.put) c.put.ensures.same c.in_ok-put.ensures.put.is).0 (c.in_ok-so.ensures.answer.0 c.if-not-so.false) in
     let sound = c.law_of_lines.ensures (state_group old) c.law_of_bench.ensures.well_formed (state_history old) c.law_of_bench.ensures.sound (Further c.args.cited t) so in
     same_with (state_group old) (state_group two) (state_history old) (state_history two) t (triple_of (state_nodes two) c.in_ok-put.put) sound
@@ -34,7 +38,7 @@ keep_made-requires-clause-sound g c =
 pub returns-clause-instance : goal.returns-clause-instance
 returns-clause-instance g c =
     let one = c.put.new.self in
-    (further_same g.R.FurtherRule.states c.args.cited (state_history c.args.self.now) (state_history one) (triple_tree c.args.stated.now) (triple_of (state_nodes one) c.in_ok-put.put) c.put.ensures.same c.in_ok-put.ensures.put.is).0 (c.in_ok-so.ensures.answer.0 c.if-not-so.false)
+    (further_same g.R.FurtherRule.states c.args.cited (state_history c.args.self.now) (state_history one) (triple_or_own (state_group c.args.self.now).code c.args.own (triple_tree c.args.stated.now)) (triple_of (state_nodes one) c.in_ok-put.put) c.put.ensures.same c.in_ok-put.ensures.put.is).0 (c.in_ok-so.ensures.answer.0 c.if-not-so.false)
 
 pub returns-clause-after : goal.returns-clause-after
 returns-clause-after g c =
@@ -53,5 +57,5 @@ returns-clause-grows g c =
 pub returns-then-not-so-clause-no_instance : goal.returns-then-not-so-clause-no_instance
 returns-then-not-so-clause-no_instance g c = λ e m.
     let one = c.put.new.self in
-    let yes = c.in_ok-so.ensures.answer.1 ((further_same g.R.FurtherRule.states c.args.cited (state_history c.args.self.now) (state_history one) (triple_tree c.args.stated.now) (triple_of (state_nodes one) c.in_ok-put.put) c.put.ensures.same c.in_ok-put.ensures.put.is).1 m) in
+    let yes = c.in_ok-so.ensures.answer.1 ((further_same g.R.FurtherRule.states c.args.cited (state_history c.args.self.now) (state_history one) (triple_or_own (state_group c.args.self.now).code c.args.own (triple_tree c.args.stated.now)) (triple_of (state_nodes one) c.in_ok-put.put) c.put.ensures.same c.in_ok-put.ensures.put.is).1 m) in
     absurd (cc)

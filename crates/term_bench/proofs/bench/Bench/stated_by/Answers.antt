@@ -26,7 +26,7 @@ stated_by-requires-clause-line g c = subst (λ (k : BenchState). IsFineShort (st
 pub invariant_of-self : goal.invariant_of-self
 invariant_of-self g c =
     let s = c.self.inside in
-    (sound_grown s.arena c.stated_by.new.arena c.stated_by.ensures.grows s.group.now s.held.entries s.next s.closed c.self.invariant.0, c.stated_by.ensures.depths)
+    (sound_grown s.arena c.stated_by.new.arena c.stated_by.ensures.grows s.group.now s.held.entries s.next s.closed c.self.invariant.0, c.stated_by.ensures.depths, c.self.invariant.2)
 
 pub returns-clause-same : goal.returns-clause-same
 returns-clause-same g c =
