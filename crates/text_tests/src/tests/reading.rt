@@ -248,8 +248,9 @@ fn copy_line(
     requires fits { IsGroupIn (version_of reader.old.version) (group_tree group.now) }
     ensures { reader.new.version ≡ One }
 {
-    match reader.line(alloc, group) {
+    match reader.spelled_line(alloc, group) {
         Ok(Some(line)) => {
+            let line = line.with_own(alloc, &group.code)?;
             put_line(out, group, &line)?;
             Ok(Read::More)
         }
