@@ -24,8 +24,8 @@ ghost use Rattle.term_bench.specs.inner.Put.{IsHeldPut};
 use crate::closing::is_closed_by;
 use crate::copies::copy_to_share;
 use crate::held_rule::HeldRule;
-use crate::put::put_triple;
 use crate::known::is_known;
+use crate::put::put_triple;
 use crate::rules::{by_further, code_giver, is_closed, meets, theorem};
 use crate::stating::stated_by;
 use checker::{NoRule, law_of_lines};
@@ -457,7 +457,16 @@ impl<'g> Bench<'g> {
         ensures steps { steps.new ≤ steps.old + 1 }
     {
         let known = is_known(self.group, &self.held, &self.marked, own, cited, put);
-        by_further(alloc, by, &mut self.arena, &self.held, cited, put, known, steps)
+        by_further(
+            alloc,
+            by,
+            &mut self.arena,
+            &self.held,
+            cited,
+            put,
+            known,
+            steps,
+        )
     }
 
     /// Keeps the next theorem, which is valid, and that it has the group's own code where `own` says so and there is room for that.
@@ -515,11 +524,7 @@ impl<'g> Bench<'g> {
         ensures after { OnOk result (state_history self.new ≡ with_theorem (triple_of (state_nodes self.old) h) (state_history self.old)) }
         ensures same { OnErr result (self.new ≡ self.old) }
     {
-        let shared = if own {
-            h
-        } else {
-            self.with_own_code(h)?
-        };
+        let shared = if own { h } else { self.with_own_code(h)? };
         self.keep(shared, own)
     }
 
@@ -602,6 +607,7 @@ impl<'g> Bench<'g> {
             self.group,
             &mut self.arena,
             &self.held,
+            &self.marked,
             def,
             cited,
             steps,
@@ -666,11 +672,7 @@ fn put_over<L: Ledger>(
     ensures steps { steps.new ≤ steps.old + nodes_of (triple_terms (triple_tree stated.now)) }
 {
     let put = put_triple(alloc, arena, stated, steps)?;
-    if own {
-        over_code(put, code)
-    } else {
-        Ok(put)
-    }
+    if own { over_code(put, code) } else { Ok(put) }
 }
 
 /// Marks the theorem of that number, which has the group's own code where `own` says so, if it does and there is room for the mark.

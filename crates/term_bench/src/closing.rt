@@ -15,16 +15,18 @@ ghost use Rattle.term_bench.specs.Terms.{closing_terms, fact_terms, nodes_of};
 ghost use Rattle.term_bench.specs.inner.Asked.{AreAsked, AreFound, Begins, KnowsOf, KnowsPlaces, LeadsOver, StaysAsked, StaysFor, closing_with};
 ghost use Rattle.term_bench.specs.inner.Put.{AreFactsPut};
 ghost use Rattle.term_bench.specs.inner.Leaves.{AreFirstOf, leaf_over};
+ghost use Rattle.term_bench.specs.inner.Marks.{HaveCode};
 
 use crate::asked::{Asked, Places};
+use crate::known::is_within_own;
 use crate::put::{put_facts, put_side};
 use crate::rules::theorem;
 use held_terms::{Held, HeldFact, HeldSide, Way, is_entry, same_side};
 use loop_rule::{JudgeLeaves, cite_for_leaves, shorten};
 use rv_words::{List, NoMemory};
-use sep_assert::{Assertion, code_within};
+use sep_assert::Assertion;
 use std::alloc::Global;
-use std::collections::BTreeMap;
+use std::collections::{BTreeMap, BTreeSet};
 use std::sync::ledger::Ledger;
 use tailrec_lang::{Def, Group, def_at};
 use term_arena::{Arena, Steps};
@@ -38,6 +40,8 @@ pub(crate) struct HeldLeaves<'a, L: Ledger> {
     pub group: &'a Group,
     pub def: &'a Def,
     pub held: &'a BTreeMap<u64, Held>,
+    /// Theorems that have the group's own code.
+    pub marked: &'a BTreeSet<u64>,
     /// The facts of the way.
     pub way: &'a mut List<Fact>,
     /// The first of them, of the numbers of their terms.
@@ -71,7 +75,16 @@ impl<'a, L: Ledger> JudgeLeaves for HeldLeaves<'a, L> {
         put_way(alloc, self.arena, self.way.as_slice(), self.put, self.steps)?;
         let end = put_side(alloc, self.arena, post, self.steps)?;
         led_by(
-            alloc, self.arena, self.group, self.def, self.put, &end, self.held, number, self.asked,
+            alloc,
+            self.arena,
+            self.group,
+            self.def,
+            self.put,
+            &end,
+            self.held,
+            self.marked,
+            number,
+            self.asked,
             self.steps,
         )
     }
@@ -83,11 +96,13 @@ pub(crate) fn is_closed_by<L: Ledger>(
     g: &Group,
     arena: &mut Arena,
     held: &BTreeMap<u64, Held>,
+    marked: &BTreeSet<u64>,
     def: u32,
     cited: &[u64],
     steps: &mut Steps<L>,
 ) -> Result<bool, NoMemory>
-    requires { AreHeldAt arena.old held.now.entries }
+    requires held { AreHeldAt arena.old held.now.entries }
+    requires marked { HaveCode g.now.code.ranges held.now.entries marked.now }
     ensures answer { IfOk result (λ r. IsTrue r ↔ IsClosedBy (group_tree g.now) def (map (theorem_at arena.old held.now.entries) cited.now)) }
     ensures grows { Extends arena.old arena.new }
     ensures steps { steps.new ≤ steps.old + nodes_of (closing_terms (group_tree g.now) (slice_get (group_tree g.now).defs def)) }
@@ -103,6 +118,7 @@ pub(crate) fn is_closed_by<L: Ledger>(
         group: g,
         def: d,
         held,
+        marked,
         way: &mut way,
         put: &mut put,
         asked: &mut asked,
@@ -160,11 +176,13 @@ fn led_by<L: Ledger>(
     way: &mut Way,
     post: &HeldSide,
     held: &BTreeMap<u64, Held>,
+    marked: &BTreeSet<u64>,
     number: u64,
     asked: &mut Asked,
     steps: &mut Steps<L>,
 ) -> Result<bool, NoMemory>
     requires held { AreHeldAt arena.now held.now.entries }
+    requires marked { HaveCode g.now.code.ranges held.now.entries marked.now }
     requires way { AreFactsAt arena.now way.old }
     requires post { IsSideAt arena.now post.now }
     requires asked { AreAsked (closing_with (group_tree g.now) (def_tree def.now) (theorem_at arena.now held.now.entries)) (map (fact_of arena.now) way.old) asked.old }
@@ -175,16 +193,18 @@ fn led_by<L: Ledger>(
 {
     match theorem(arena, held, number) {
         Some(p) => {
+            let own = marked.contains(&number);
             Ok(
                 same_side(arena, &p.post, post)
-                    && leads(alloc, arena, g, def, way, p, number, asked, steps)?,
+                    && leads(alloc, arena, g, def, way, p, own, number, asked, steps)?,
             )
         }
         None => Ok(false),
     }
 }
 
-/// Whether the theorem, which has that number, leads from the definition's entry over the way.
+/// Whether the theorem, which has that number, leads from the definition's entry over the way. It has the group's own code where `own`
+/// says so.
 fn leads<L: Ledger>(
     alloc: Global,
     arena: &Arena,
@@ -192,12 +212,14 @@ fn leads<L: Ledger>(
     def: &Def,
     way: &mut Way,
     p: &Held,
+    own: bool,
     number: u64,
     asked: &mut Asked,
     steps: &mut Steps<L>,
 ) -> Result<bool, NoMemory>
     requires way { AreFactsAt arena.now way.old }
     requires p { IsHeldAt arena.now p.now }
+    requires own { IsTrue own → p.now.code.ranges ≡ g.now.code.ranges }
     requires known { KnowsOf (group_tree g.now) (def_tree def.now) (map (fact_of arena.now) way.old) number asked.old (triple_of arena.now p.now) }
     ensures answer { IfOk result (λ r. IsTrue r ↔ LeadsOver (group_tree g.now) (def_tree def.now) (map (fact_of arena.now) way.old) (triple_of arena.now p.now)) }
     ensures way { way.new ≡ way.old }
@@ -207,7 +229,7 @@ fn leads<L: Ledger>(
     if asked.leads(number) {
         return Ok(true);
     }
-    if begins(arena, g, def, p, number, asked, steps) {
+    if begins(arena, g, def, p, own, number, asked, steps) {
         return has_facts(alloc, arena, way, p, number, asked);
     }
     Ok(false)
@@ -219,17 +241,18 @@ fn begins<L: Ledger>(
     g: &Group,
     def: &Def,
     p: &Held,
+    own: bool,
     number: u64,
     asked: &Asked,
     steps: &mut Steps<L>,
 ) -> bool
     requires p { IsHeldAt arena.now p.now }
+    requires own { IsTrue own → p.now.code.ranges ≡ g.now.code.ranges }
     ensures found { IsTrue result → IsSome (get nat_cmp asked.now.theorems number) ⊎ Begins (group_tree g.now) (def_tree def.now) (triple_of arena.now p.now) }
     ensures none { result ≡ false → Begins (group_tree g.now) (def_tree def.now) (triple_of arena.now p.now) → ⊥ }
     ensures steps { steps.new ≤ steps.old + (1 + (length g.now.regs + g.now.mems)) }
 {
-    asked.begins(number)
-        || is_entry(arena, g, def, &p.pre, steps) && code_within(p.code.as_code(), &g.code)
+    asked.begins(number) || is_entry(arena, g, def, &p.pre, steps) && is_within_own(g, own, p)
 }
 
 /// Whether the theorem's facts are on the way, where it is one of that number which begins at the entry. Those that still stand where they

@@ -74,3 +74,12 @@ pub(crate) fn has_own_code(g: &Group, own: bool, stated: &Held) -> bool
 {
     own || same_code(stated.code.as_code(), &g.code)
 }
+
+/// Whether the theorem's code lies within the group's own. Where it is known to be that, nothing is compared.
+#[tactic(auto, using(crate::proofs::MarkLemmas::within_same))]
+pub(crate) fn is_within_own(g: &Group, own: bool, p: &Held) -> bool
+    requires { IsTrue own → p.now.code.ranges ≡ g.now.code.ranges }
+    ensures { IsTrue result ↔ IsWithin (range_bytes p.now.code.ranges) (range_bytes g.now.code.ranges) }
+{
+    own || code_within(p.code.as_code(), &g.code)
+}

@@ -214,13 +214,7 @@ fn is_instance_by<L: Ledger>(
     Ok(same)
 }
 
-fn by_frame(
-    arena: &Arena,
-    held: &BTreeMap<u64, Held>,
-    p: u64,
-    stated: &Held,
-    known: bool,
-) -> bool
+fn by_frame(arena: &Arena, held: &BTreeMap<u64, Held>, p: u64, stated: &Held, known: bool) -> bool
     requires held { AreHeldAt arena.now held.now.entries }
     requires stated { IsHeldAt arena.now stated.now }
     requires known { IsTrue known → IfSome (held_by_number held.now.entries p) (λ q. q.code.ranges ≡ stated.now.code.ranges) }
@@ -388,7 +382,15 @@ fn by_use_exit<L: Ledger>(
     ensures steps { (ts : Items Tree) → HasSubterms ts (triple_terms (triple_of arena.now stated.now)) → steps.new ≤ steps.old + (10 * length ts + 1) }
 {
     is_closed(closed, def)
-        && is_exit(arena, g, def, exit, stated, has_own_code(g, own, stated), steps)
+        && is_exit(
+            arena,
+            g,
+            def,
+            exit,
+            stated,
+            has_own_code(g, own, stated),
+            steps,
+        )
 }
 
 /// Whether the further rule states the triple of those numbers from the theorem of that number.

@@ -1,4 +1,4 @@
--- Which theorems are known to have the group's own code.
+-- Which theorems are marked, since they are known to have the group's own code; and triples over other code.
 use Rattle.std.specs.Prelude.{◌≡◌, ℕ, true, cond, List, Option, IfSome}
 use Rattle.std.specs.BTreeMap.{is_at}
 use Rattle.std.specs.BTreeSet.{BTreeSet, contains}

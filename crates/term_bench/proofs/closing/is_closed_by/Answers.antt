@@ -6,7 +6,7 @@ use Rattle.term_bench.proofs.LeafSteps.{closing_steps}
 use Rattle.term_bench.proofs.closing.is_closed_by.Goals as goal
 
 pub cite_for_leaves-requires-clause-ready : goal.cite_for_leaves-requires-clause-ready
-cite_for_leaves-requires-clause-ready g c = record { held = c.requires; first = first_none c.args.arena.now c.new-put.result c.new-way.result c.new-put.ensures c.new-way.ensures; asked = c.new-asked.ensures _ _ }
+cite_for_leaves-requires-clause-ready g c = record { held = c.requires.held; marked = c.requires.marked; first = first_none c.args.arena.now c.new-put.result c.new-way.result c.new-put.ensures c.new-way.ensures; asked = c.new-asked.ensures _ _ }
 
 pub returns-clause-answer : goal.returns-clause-answer
 returns-clause-answer g c =

@@ -8,8 +8,11 @@ use Rattle.term_bench.proofs.BenchLemmas.{history_stays, sound_grown}
 use Rattle.term_bench.proofs.DepthLemmas.{depths_stay}
 use Rattle.term_bench.proofs.bench.Bench.is_closed_by.Goals as goal
 
-pub is_closed_by-requires : goal.is_closed_by-requires
-is_closed_by-requires g c = c.self.invariant.0.there
+pub is_closed_by-requires-clause-held : goal.is_closed_by-requires-clause-held
+is_closed_by-requires-clause-held g c = c.self.invariant.0.there
+
+pub is_closed_by-requires-clause-marked : goal.is_closed_by-requires-clause-marked
+is_closed_by-requires-clause-marked g c = c.self.invariant.2.theorems
 
 pub invariant_of-self : goal.invariant_of-self
 invariant_of-self g c =

@@ -27,6 +27,9 @@ led_by-requires-clause-held g c =
     let old = c.args.self.now in
     held_stay old.arena.now c.put_side.new.arena (extends_next old.arena.now c.put_way.new.arena c.put_side.new.arena c.put_way.ensures.grows c.put_side.ensures.grows) old.held.now.entries c.requires.held
 
+pub led_by-requires-clause-marked : goal.led_by-requires-clause-marked
+led_by-requires-clause-marked g c = c.requires.marked
+
 pub led_by-requires-clause-way : goal.led_by-requires-clause-way
 led_by-requires-clause-way g c = (facts_stay c.put_way.new.arena c.put_side.new.arena c.put_side.ensures.grows c.put_way.new.put _ c.in_ok-put_way.ensures.all).at
 
@@ -67,6 +70,7 @@ returns-in_err-put_way-clause-went g c =
     held_went (leaf_with (map fact_tree old.way.now) c.args.post.now ∷ []) old _ refl refl refl (record { arena = refl; grows = c.put_way.ensures.grows; steps = refl }) c.requires
     (record {
       held = held_stay old.arena.now c.put_way.new.arena c.put_way.ensures.grows old.held.now.entries c.requires.held;
+      marked = c.requires.marked;
       first = subst (λ (fs : List Fact). AreFirstOf c.put_way.new.arena c.put_way.new.put (map fact_tree fs)) c.as_slice.ensures c.put_way.ensures.first;
       asked = asked_put (group_tree old.group.now) (def_tree old.def.now) (theorem_at old.arena.now old.held.now.entries) (theorem_at c.put_way.new.arena old.held.now.entries) (map fact_tree old.way.now) (map fact_tree old.way.now) old.asked.now
           (theorems_stay old.arena.now c.put_way.new.arena c.put_way.ensures.grows old.held.now.entries c.requires.held) refl c.requires.asked;
@@ -82,6 +86,7 @@ returns-in_err-end-clause-went g c =
     held_went (leaf_with (map fact_tree old.way.now) c.args.post.now ∷ []) old _ refl refl refl (record { arena = refl; grows = grows; steps = refl }) c.requires
     (record {
       held = held_stay old.arena.now c.put_side.new.arena grows old.held.now.entries c.requires.held;
+      marked = c.requires.marked;
       first = first_still c.put_way.new.arena c.put_side.new.arena c.put_way.new.put (map fact_tree old.way.now) c.put_side.ensures.grows
           (subst (λ (fs : List Fact). AreFirstOf c.put_way.new.arena c.put_way.new.put (map fact_tree fs)) c.as_slice.ensures c.put_way.ensures.first);
       asked = asked_put (group_tree old.group.now) (def_tree old.def.now) (theorem_at old.arena.now old.held.now.entries) (theorem_at c.put_side.new.arena old.held.now.entries) (map fact_tree old.way.now) (map fact_tree old.way.now) old.asked.now
@@ -100,6 +105,7 @@ returns-clause-went g c =
     held_went (leaf_with (map fact_tree old.way.now) c.args.post.now ∷ []) old _ refl refl refl (record { arena = refl; grows = grows; steps = refl }) c.requires
     (record {
       held = held_stay old.arena.now c.put_side.new.arena grows old.held.now.entries c.requires.held;
+      marked = c.requires.marked;
       first = subst (λ (fs : List HeldFact). AreFirstOf c.put_side.new.arena fs (map fact_tree old.way.now)) (sym c.led_by.ensures.way)
           (first_still c.put_way.new.arena c.put_side.new.arena c.put_way.new.put (map fact_tree old.way.now) c.put_side.ensures.grows
           (subst (λ (fs : List Fact). AreFirstOf c.put_way.new.arena c.put_way.new.put (map fact_tree fs)) c.as_slice.ensures c.put_way.ensures.first));

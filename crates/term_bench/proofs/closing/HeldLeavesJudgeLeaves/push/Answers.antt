@@ -20,6 +20,7 @@ returns-clause-went g c =
     held_went [] old _ refl refl refl (record { arena = refl; grows = extends_none old.arena.now; steps = refl }) c.requires
     (record {
       held = c.requires.held;
+      marked = c.requires.marked;
       first = first_pushed old.arena.now old.put.now (map fact_tree old.way.now) (map fact_tree c.push.new.self) (fact_tree c.args.fact) c.requires.first
           (ap (map fact_tree) c.in_ok-push.ensures.ok ∙ map-append fact_tree old.way.now (c.args.fact ∷ []));
       asked = asked_put group def theorem theorem (map fact_tree old.way.now ++ fact_tree c.args.fact ∷ []) (map fact_tree c.push.new.self) c.push-2.new.self refl
@@ -36,6 +37,7 @@ returns-in_err-push-clause-went g c =
     held_went [] old _ refl refl refl (record { arena = refl; grows = extends_none old.arena.now; steps = refl }) c.requires
     (record {
       held = c.requires.held;
+      marked = c.requires.marked;
       first = subst (λ (fs : List Fact). AreFirstOf old.arena.now old.put.now (map fact_tree fs)) (sym c.in_err-push.ensures.err) c.requires.first;
       asked = asked_put group def theorem theorem (map fact_tree old.way.now) (map fact_tree c.push.new.self) old.asked.now refl (ap (map fact_tree) c.in_err-push.ensures.err) c.requires.asked;
     }) (omega arith)

@@ -21,6 +21,7 @@ returns-clause-went g c =
     held_went [] old _ refl refl refl (record { arena = refl; grows = extends_none old.arena.now; steps = refl }) c.requires
     (record {
       held = c.requires.held;
+      marked = c.requires.marked;
       first = first_short old.arena.now c.args.length old.put.now c.shorten-2.new.self (map fact_tree old.way.now) (map fact_tree c.shorten.new.list) c.requires.first c.shorten-2.ensures
           (ap (map fact_tree) c.shorten.ensures ∙ sym (take-map fact_tree c.args.length old.way.now));
       asked = asked_put group def theorem theorem (take c.args.length (map fact_tree old.way.now)) (map fact_tree c.shorten.new.list) c.shorten-3.new.self refl
