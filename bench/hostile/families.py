@@ -213,14 +213,14 @@ def crowded_constants(n):
 # ---- `check`: code, theorems, groups
 
 
-@family(3000)
+@family(50_000)
 def code_of_theorems(n):
     """n theorems of a group's code of 4n bytes, all kept."""
     first = states(f"axiom {ENTRY} {FENCE:#x} next", covered=f"({ENTRY} {words([FENCE]).hex()})")
     return words([FENCE]), text(*LEAVES, first, *[states("extend 0")] * n, code=words([FENCE] * n).hex()), CHECK
 
 
-@family(2000)
+@family(50_000)
 def code_of_lines(n):
     """n compositions over a group's code of 4n bytes, each forgotten."""
     first = states(f"axiom {ENTRY} {jump(0):#x} next", covered=f"({ENTRY} {TURN.hex()})", behind=ENTRY)
@@ -228,13 +228,28 @@ def code_of_lines(n):
     return TURN, text(AGAIN, "again ;", first, states("extend 0", behind=ENTRY), *composed, code=(TURN * n).hex()), CHECK
 
 
+@family(1 << 14)
+def code_of_cited(n):
+    """n theorems of a group's code of 4n bytes, each cited for a leaf."""
+    first = states(f"axiom {ENTRY} {FENCE:#x} next", covered=f"({ENTRY} {words([FENCE]).hex()})")
+    cited = " ".join(str(i + 1) for i in range(n))
+    return words([FENCE]), text(LEAVES[0], *tree(n, "leave 0 ;"), first, *[states("extend 0")] * n, f"loop 0 {cited}", code=words([FENCE] * n).hex()), CHECK
+
+
 # ---- `check` of version 2, in which a line states what it computes
 
 
-def short_text(terms, lines):
+def short_text(terms, lines, code=TURN.hex()):
     """A text of version 2 of a function that jumps to itself, with the terms `t1` on behind the address `t0`."""
-    head = ["mcproof 2", "group f", "regs", "mems 0", f"code ({ENTRY} {TURN.hex()})", AGAIN, "again ;", f"term {ENTRY}"]
+    head = ["mcproof 2", "group f", "regs", "mems 0", f"code ({ENTRY} {code})", AGAIN, "again ;", f"term {ENTRY}"]
     return "\n".join([*head, *(f"term {it}" for it in terms), f"axiom {ENTRY} {jump(0):#x} next", *lines, "end", ""])
+
+
+@family(2000)
+def code_of_short_lines(n):
+    """n lines that extend a theorem to a group's code of 4n bytes, of which each is forgotten."""
+    lines = [f"extend 0 code all\nforget {i + 1}" for i in range(n)]
+    return TURN, short_text([], lines, (TURN * n).hex()), CHECK
 
 
 @family(500)
