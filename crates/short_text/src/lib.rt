@@ -27,5 +27,5 @@ mod terms;
 
 pub use laws::{law_of_short_lines, law_of_short_parts, law_of_short_texts, law_of_tables};
 pub use put::{put_short_line, put_table_line};
-pub use short::{Short, ShortLine};
+pub use short::{Short, ShortLine, SpelledShort};
 pub use short_lines::ShortLines;
