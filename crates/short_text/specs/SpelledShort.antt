@@ -10,10 +10,10 @@ use Rattle.short_text.specs.declared.short.SpelledShort.{SpelledShort}
 
 -- the line of a proof: one that extends a theorem's code does so by such code
 abbrev pub short_or_own : List Range → (all : Bool) → Short → Short
-short_or_own own all (short.ExtendCode p code) = short.ExtendCode p (record { ranges = code_or_own own all code.ranges })
 short_or_own own all (short.Axiom address word form) = short.Axiom address word form
 short_or_own own all (short.Inst p words mems) = short.Inst p words mems
 short_or_own own all (short.Frame p regs mems) = short.Frame p regs mems
+short_or_own own all (short.ExtendCode p code) = short.ExtendCode p (record { ranges = code_or_own own all code.ranges })
 short_or_own own all (short.Compose p q) = short.Compose p q
 short_or_own own all (short.Strengthen p facts pre) = short.Strengthen p facts pre
 short_or_own own all (short.Weaken p facts post) = short.Weaken p facts post

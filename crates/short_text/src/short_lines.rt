@@ -81,7 +81,7 @@ impl ShortLines {
         }
     }
 
-    /// The term of the next line, which is one of the table.
+    /// The term of the next line, which is put into the table.
     fn read_term<'a>(&mut self, scan: &mut Scan<'a>) -> Result<Node, TokenError>
         ensures gives { (before : Items Line) → AreKept self.old before → Gives Term result scan.old scan.new (term_line_at (has_begun before) (table_of before)) }
         ensures behind { (before : Items Line) → AreKept self.old before → IfOk result (λ n. AreKept self.new (before ++ Term n ∷ [])) }
@@ -124,6 +124,7 @@ impl ReadLines for ShortLines {
         } else {
             let (line, all) = read_short(alloc, scan, self.table.nodes(), own)?;
             let line = ShortLine::Proof(line);
+            // Without memory for the code nothing is kept of the line.
             let line = SpelledShort { line, all }.with_own(alloc, own)?;
             self.begun = true;
             Ok(line)
