@@ -20,11 +20,12 @@ ghost use Rattle.term_bench.specs.Terms.{HasLine, HasSubterms, closing_terms, co
 ghost use Rattle.term_bench.specs.inner.Making.{MadeIf};
 ghost use Rattle.term_bench.specs.inner.Marks.{Changes, HaveCode, held_over};
 ghost use Rattle.term_bench.specs.inner.Put.{IsHeldPut};
+ghost use Rattle.term_bench.specs.inner.Sharing.{IsOwnStated};
 
 use crate::closing::is_closed_by;
 use crate::copies::copy_to_share;
 use crate::held_rule::HeldRule;
-use crate::known::is_known;
+use crate::known::{is_known, states_own};
 use crate::put::put_triple;
 use crate::rules::{by_further, code_giver, is_closed, meets, theorem};
 use crate::stating::stated_by;
@@ -349,12 +350,21 @@ impl<'g> Bench<'g> {
     {
         law_of_lines(&NoRule);
         self.law_of_bench();
+        let own = self.states_own(line);
         let made = self.stated_by(alloc, line, steps)?;
         let Some(h) = made else {
             return Err(RuleFault::NoInstance);
         };
-        self.keep_made(h, false)?;
+        self.keep_made(h, own)?;
         Ok(())
+    }
+
+    /// Whether the triple that the line states, where it is right, is known to have the group's own code.
+    fn states_own(&self, line: &Short) -> bool
+        requires { IsOwnCode (state_group self.now).code }
+        ensures { IsTrue result → IsOwnStated (state_group self.now) (state_history self.now) (state_nodes self.now) line.now }
+    {
+        states_own(&self.marked, line)
     }
 
     /// The triple that the line states, if it is right.

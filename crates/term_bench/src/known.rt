@@ -1,15 +1,19 @@
 //! What is known of code without a look at its bytes: which theorems have the group's own, and whether a stated triple does.
 
 ghost use Rattle.std.specs.Prelude.{◌≡◌, ◌↔◌, IfSome, IsTrue};
+ghost use Rattle.std.specs.BTreeSet.{contains};
+ghost use Rattle.std.specs.Ordering.{nat_cmp};
 ghost use Rattle.rv_words.specs.Bytes.{over};
 ghost use Rattle.rv_words.specs.Ranges.{range_bytes};
 ghost use Rattle.sep_assert.specs.Code.{Agree, IsWithin};
 ghost use Rattle.term_bench.specs.Bench.{held_by_number};
 ghost use Rattle.term_bench.specs.inner.Marks.{HaveCode};
+ghost use Rattle.term_bench.specs.inner.Sharing.{states_own};
 
 use frame_compose::is_union;
 use held_terms::Held;
 use sep_assert::{code_within, same_code};
+use short_text::Short;
 use std::collections::{BTreeMap, BTreeSet};
 use tailrec_lang::Group;
 
@@ -82,4 +86,24 @@ pub(crate) fn is_within_own(g: &Group, own: bool, p: &Held) -> bool
     ensures { IsTrue result ↔ IsWithin (range_bytes p.now.code.ranges) (range_bytes g.now.code.ranges) }
 {
     own || code_within(p.code.as_code(), &g.code)
+}
+
+/// Whether the triple that the line states, where it is right, is known to have the group's own code, since it has that of theorems that are
+/// marked.
+pub(crate) fn states_own(marked: &BTreeSet<u64>, line: &Short) -> bool
+    ensures { result ≡ states_own (contains nat_cmp marked.now) line.now }
+{
+    match line {
+        Short::Axiom(_, _, _) => false,
+        Short::Inst(p, _, _) => marked.contains(p),
+        Short::Frame(p, _, _) => marked.contains(p),
+        Short::ExtendCode(_, _) => false,
+        Short::Compose(_, _) => false,
+        Short::Strengthen(p, _, _) => marked.contains(p),
+        Short::Weaken(p, _, _) => marked.contains(p),
+        Short::Discharge(p, _) => marked.contains(p),
+        Short::UseExit(_, _) => false,
+        Short::Loop(_, _) => false,
+        Short::Forget(_) => false,
+    }
 }

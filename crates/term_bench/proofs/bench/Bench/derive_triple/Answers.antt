@@ -1,4 +1,5 @@
 use Rattle.std.proofs.Common.{List, Option, Some, ap, refl, sym, ◌∙◌, subst}
+use Rattle.tailrec_lang.specs.declared.group.Group.{Group}
 use Rattle.tailrec_lang.specs.Tree.{group_tree}
 use Rattle.proof_text.specs.Line.{States}
 use Rattle.term_arena.specs.declared.node.Node.{Node}
@@ -42,3 +43,11 @@ pub returns-clause-grows : goal.returns-clause-grows
 returns-clause-grows g c =
     let old = state_nodes c.args.self.now in
     subst (λ (ns : List Node). Extends old ns) (sym c.keep_made.ensures.nodes) c.stated_by.ensures.grows
+
+pub keep_made-requires-clause-own : goal.keep_made-requires-clause-own
+keep_made-requires-clause-own g c = λ own.
+    let old = c.args.self.now in
+    let one = c.stated_by.new.self in
+    let made : MadeIf (state_nodes one) (IsStatedBy (state_group old) (state_history old) (state_nodes old) c.args.line.now) (Some c.in-Some.h) =
+    subst (λ (o : Option Held). MadeIf (state_nodes one) (IsStatedBy (state_group old) (state_history old) (state_nodes old) c.args.line.now) o) c.in-Some.is c.in_ok-made.ensures.made in
+    (c.states_own-own.ensures own).each (triple_of (state_nodes one) c.in-Some.h) made.1 ∙ sym (ap (λ (k : Group). (group_tree k).code) c.stated_by.ensures.group)
