@@ -389,6 +389,7 @@ impl<'g> Bench<'g> {
             &mut self.depths,
             &mut self.images,
             &self.held,
+            &self.marked,
             self.closed.as_slice(),
             line,
             steps,

@@ -1,6 +1,6 @@
 //! The triples that short lines state, made over numbers.
 
-ghost use Rattle.std.specs.Prelude.{◌≡◌, IfOk, IfSome, IsSomeAnd, map, option_map, true};
+ghost use Rattle.std.specs.Prelude.{◌≡◌, IfOk, IfSome, IsSomeAnd, IsTrue, map, option_map, true};
 ghost use Rattle.std.specs.Option.{option_copied};
 ghost use Rattle.tailrec_lang.specs.Tree.{group_tree};
 ghost use Rattle.triple_kernel.specs.Rules.{IsDischarged, IsInst, IsStrengthened, IsWeakened};
@@ -10,20 +10,22 @@ ghost use Rattle.proof_text.specs.inner.OwnCode.{IsOwnCode};
 ghost use Rattle.term_arena.specs.Arena.{Extends, mem_of};
 ghost use Rattle.held_terms.specs.Held.{fact_of, register_of, side_of, triple_of};
 ghost use Rattle.held_terms.specs.Image.{IsSubAt, put_for_numbers};
-ghost use Rattle.term_bench.specs.Bench.{history_from, is_closed_in, theorem_at};
+ghost use Rattle.term_bench.specs.Bench.{held_by_number, history_from, is_closed_in, theorem_at};
 ghost use Rattle.term_bench.specs.Fine.{AreFineFacts, AreFineMems, AreFineRegisters, IsFineHeld, IsFineSide};
 ghost use Rattle.term_bench.specs.Short.{AreFineAt, IsFineShort, IsStatedBy};
 ghost use Rattle.term_bench.specs.inner.Depths.{AreDepths};
 ghost use Rattle.term_bench.specs.inner.Making.{MadeIf};
+ghost use Rattle.term_bench.specs.inner.Marks.{HaveCode};
 
 use crate::computed::{axiom, exit, put_in};
+use crate::known::are_known;
 use crate::making::{composed, discharged, extended, framed, strengthened, weakened};
 use crate::rules::is_closed;
 use held_terms::{Held, HeldFact, HeldSide, ImageTable};
 use rv_words::{List, NoMemory};
 use short_text::Short;
 use std::alloc::Global;
-use std::collections::BTreeMap;
+use std::collections::{BTreeMap, BTreeSet};
 use std::sync::ledger::Ledger;
 use tailrec_lang::Group;
 use term_arena::{Arena, Steps};
@@ -37,12 +39,14 @@ pub(crate) fn stated_by<L: Ledger>(
     depths: &mut List<u8>,
     images: &mut ImageTable,
     held: &BTreeMap<u64, Held>,
+    marked: &BTreeSet<u64>,
     closed: &[bool],
     line: &Short,
     steps: &mut Steps<L>,
 ) -> Result<Option<Held>, NoMemory>
     requires code { IsOwnCode g.now.code.ranges }
     requires held { AreFineAt arena.old held.now.entries }
+    requires marked { HaveCode g.now.code.ranges held.now.entries marked.now }
     requires line { IsFineShort arena.old line.now }
     requires depths { AreDepths arena.old depths.old }
     ensures made { IfOk result (λ o. MadeIf arena.new (IsStatedBy (group_tree g.now) (history_from 0 arena.old held.now.entries closed.now) arena.old line.now) o) }
@@ -59,7 +63,7 @@ pub(crate) fn stated_by<L: Ledger>(
         }
         Short::Frame(p, regs, mems) => by_frame(alloc, arena, held, *p, regs, mems),
         Short::ExtendCode(p, code) => by_extend_code(alloc, arena, held, *p, code),
-        Short::Compose(p, q) => by_compose(alloc, arena, held, *p, *q),
+        Short::Compose(p, q) => by_compose(alloc, g, arena, held, marked, *p, *q),
         Short::Strengthen(p, facts, pre) => {
             by_strengthen(alloc, arena, held, *p, facts, pre, steps)
         }
@@ -75,6 +79,7 @@ fn fine_theorem<'a>(arena: &Arena, held: &'a BTreeMap<u64, Held>, k: u64) -> Opt
     requires { AreFineAt arena.now held.now.entries }
     ensures theorem { option_map (triple_of arena.now) (option_copied result) ≡ theorem_at arena.now held.now.entries k }
     ensures fine { IfSome (option_copied result) (λ h. IsFineHeld arena.now h) }
+    ensures held { option_copied result ≡ held_by_number held.now.entries k }
 {
     arena.law_of_nodes();
     held.get(&k)
@@ -177,16 +182,20 @@ fn by_extend_code(
 
 fn by_compose(
     alloc: Global,
+    g: &Group,
     arena: &Arena,
     held: &BTreeMap<u64, Held>,
+    marked: &BTreeSet<u64>,
     p: u64,
     q: u64,
 ) -> Result<Option<Held>, NoMemory>
     requires held { AreFineAt arena.now held.now.entries }
+    requires marked { HaveCode g.now.code.ranges held.now.entries marked.now }
     ensures { IfOk result (λ o. MadeIf arena.now (λ t. IsSomeAnd (theorem_at arena.now held.now.entries p) (λ p. IsSomeAnd (theorem_at arena.now held.now.entries q) (λ q. IsComposed p q t))) o) }
 {
+    let known = are_known(g, held, marked, p, q);
     match fine_theorem(arena, held, p) {
-        Some(first) => composed_with(alloc, arena, held, first, q),
+        Some(first) => composed_with(alloc, arena, held, first, q, known),
         None => Ok(None),
     }
 }
@@ -197,13 +206,15 @@ fn composed_with(
     held: &BTreeMap<u64, Held>,
     first: &Held,
     q: u64,
+    known: bool,
 ) -> Result<Option<Held>, NoMemory>
     requires held { AreFineAt arena.now held.now.entries }
     requires first { IsFineHeld arena.now first.now }
+    requires known { IsTrue known → IfSome (held_by_number held.now.entries q) (λ h. first.now.code.ranges ≡ h.code.ranges) }
     ensures { IfOk result (λ o. MadeIf arena.now (λ t. IsSomeAnd (theorem_at arena.now held.now.entries q) (λ q. IsComposed (triple_of arena.now first.now) q t)) o) }
 {
     match fine_theorem(arena, held, q) {
-        Some(second) => composed(alloc, arena, first, second),
+        Some(second) => composed(alloc, arena, first, second, known),
         None => Ok(None),
     }
 }

@@ -17,6 +17,9 @@ stated_by-requires-clause-held g c =
     let s = c.self.inside in
     fine_held s.group.now s.arena s.held.entries s.next s.closed c.self.invariant.0.there (subst (λ (k : BenchState). AreWithin (state_history k)) (sym c.self.view_is) c.requires.within)
 
+pub stated_by-requires-clause-marked : goal.stated_by-requires-clause-marked
+stated_by-requires-clause-marked g c = c.self.invariant.2.theorems
+
 pub stated_by-requires-clause-depths : goal.stated_by-requires-clause-depths
 stated_by-requires-clause-depths g c = c.self.invariant.1
 
