@@ -9,7 +9,7 @@ use Rattle.triple_kernel.specs.Tree.{TripleTree}
 use Rattle.frame_compose.specs.Rules.{IsComposed}
 use Rattle.proof_text.specs.LineLimits.{IsTriple}
 use Rattle.proof_text.specs.inner.OwnCode.{IsOwnCode}
-use Rattle.proof_text.specs.Line.{Compose, Discharge, Frame, Inst, Strengthen, Weaken}
+use Rattle.proof_text.specs.Line.{Compose, Discharge, Frame, Inst, Strengthen, UseExit, Weaken}
 use Rattle.term_arena.specs.declared.node.Node.{Node}
 use Rattle.held_terms.specs.declared.held.Held.{Held}
 use Rattle.held_terms.specs.Held.{triple_of}
@@ -61,6 +61,6 @@ module _ (g : GroupTree) (h : History) (ns : List Node) (marked : ℕ → Bool) 
   own_stated (short.Strengthen p facts pre) e = record { each = λ t x. code-of (h.theorem p) _ t (have p e) (rule_of g h ns (short.Strengthen p facts pre) t (Strengthen p) x x.1.full.0) (λ q i. i.code) }
   own_stated (short.Weaken p facts post) e = record { each = λ t x. code-of (h.theorem p) _ t (have p e) (rule_of g h ns (short.Weaken p facts post) t (Weaken p) x x.1.full.0) (λ q i. i.code) }
   own_stated (short.Discharge p facts) e = record { each = λ t x. code-of (h.theorem p) _ t (have p e) (rule_of g h ns (short.Discharge p facts) t (Discharge p) x x.1.full.0) (λ q i. i.code) }
-  own_stated (short.UseExit d exit) e = absurd (true≢false (sym e))
+  own_stated (short.UseExit d exit) e = record { each = λ t x. ap (λ (q : TripleTree). q.code) (rule_of g h ns (short.UseExit d exit) t (UseExit d exit) x x.1.full.0).1.same }
   own_stated (short.Loop d cited) e = absurd (true≢false (sym e))
   own_stated (short.Forget k) e = absurd (true≢false (sym e))

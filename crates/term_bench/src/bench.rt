@@ -385,6 +385,7 @@ impl<'g> Bench<'g> {
         stated_by(
             alloc,
             self.group,
+            &self.code,
             &mut self.arena,
             &mut self.depths,
             &mut self.images,

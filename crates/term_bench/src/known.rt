@@ -112,7 +112,7 @@ pub(crate) fn is_within_own(g: &Group, own: bool, p: &Held) -> bool
 }
 
 /// Whether the triple that the line states, where it is right, is known to have the group's own code, since it has that of theorems that are
-/// marked.
+/// marked, or is that of an exit.
 pub(crate) fn states_own(marked: &BTreeSet<u64>, line: &Short) -> bool
     ensures { result ≡ states_own (contains nat_cmp marked.now) line.now }
 {
@@ -125,7 +125,7 @@ pub(crate) fn states_own(marked: &BTreeSet<u64>, line: &Short) -> bool
         Short::Strengthen(p, _, _) => marked.contains(p),
         Short::Weaken(p, _, _) => marked.contains(p),
         Short::Discharge(p, _) => marked.contains(p),
-        Short::UseExit(_, _) => false,
+        Short::UseExit(_, _) => true,
         Short::Loop(_, _) => false,
         Short::Forget(_) => false,
     }

@@ -21,7 +21,7 @@ use crate::computed::{axiom, exit, put_in};
 use crate::known::are_known;
 use crate::making::{composed, discharged, extended, framed, strengthened, weakened};
 use crate::rules::is_closed;
-use held_terms::{Held, HeldFact, HeldSide, ImageTable};
+use held_terms::{Held, HeldFact, HeldSide, ImageTable, SharedCode};
 use rv_words::{List, NoMemory};
 use short_text::Short;
 use std::alloc::Global;
@@ -31,10 +31,12 @@ use tailrec_lang::Group;
 use term_arena::{Arena, Steps};
 use word_terms::Code;
 
-/// The triple that the line states after those theorems and closed definitions, if it is right.
+/// The triple that the line states after those theorems and closed definitions, if it is right. That of an exit shares that code, which is
+/// the group's own.
 pub(crate) fn stated_by<L: Ledger>(
     alloc: Global,
     g: &Group,
+    code: &SharedCode,
     arena: &mut Arena,
     depths: &mut List<u8>,
     images: &mut ImageTable,
@@ -45,6 +47,7 @@ pub(crate) fn stated_by<L: Ledger>(
     steps: &mut Steps<L>,
 ) -> Result<Option<Held>, NoMemory>
     requires code { IsOwnCode g.now.code.ranges }
+    requires shared { code.now.ranges ≡ g.now.code.ranges }
     requires held { AreFineAt arena.old held.now.entries }
     requires marked { HaveCode g.now.code.ranges held.now.entries marked.now }
     requires line { IsFineShort arena.old line.now }
@@ -59,10 +62,10 @@ pub(crate) fn stated_by<L: Ledger>(
             alloc, arena, depths, images, held, *p, words, mems, steps,
         ),
         Short::UseExit(def, number) => {
-            by_use_exit(alloc, g, arena, depths, closed, *def, *number, steps)
+            by_use_exit(alloc, g, code, arena, depths, closed, *def, *number, steps)
         }
         Short::Frame(p, regs, mems) => by_frame(alloc, arena, held, *p, regs, mems),
-        Short::ExtendCode(p, code) => by_extend_code(alloc, arena, held, *p, code),
+        Short::ExtendCode(p, more) => by_extend_code(alloc, arena, held, *p, more),
         Short::Compose(p, q) => by_compose(alloc, g, arena, held, marked, *p, *q),
         Short::Strengthen(p, facts, pre) => {
             by_strengthen(alloc, arena, held, *p, facts, pre, steps)
@@ -125,6 +128,7 @@ fn by_inst<L: Ledger>(
 fn by_use_exit<L: Ledger>(
     alloc: Global,
     g: &Group,
+    code: &SharedCode,
     arena: &mut Arena,
     depths: &mut List<u8>,
     closed: &[bool],
@@ -133,6 +137,7 @@ fn by_use_exit<L: Ledger>(
     steps: &mut Steps<L>,
 ) -> Result<Option<Held>, NoMemory>
     requires code { IsOwnCode g.now.code.ranges }
+    requires shared { code.now.ranges ≡ g.now.code.ranges }
     requires depths { AreDepths arena.old depths.old }
     ensures made { IfOk result (λ o. MadeIf arena.new (λ t. (is_closed_in closed.now def ≡ true) × IsExit (group_tree g.now) def number t) o) }
     ensures grows { Extends arena.old arena.new }
@@ -141,7 +146,7 @@ fn by_use_exit<L: Ledger>(
     if !is_closed(closed, def) {
         return Ok(None);
     }
-    exit(alloc, arena, depths, g, def, number, steps)
+    exit(alloc, arena, depths, g, code, def, number, steps)
 }
 
 fn by_frame(

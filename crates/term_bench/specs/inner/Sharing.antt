@@ -1,5 +1,5 @@
 -- Which theorems give their code to those that a rule makes of them.
-use Rattle.std.specs.Prelude.{◌≡◌, ◌&&◌, ℕ, Bool, false, List, Option, Some, None}
+use Rattle.std.specs.Prelude.{◌≡◌, ◌&&◌, ℕ, Bool, true, false, List, Option, Some, None}
 use Rattle.tailrec_lang.specs.Tree.{GroupTree}
 use Rattle.triple_kernel.specs.Tree.{TripleTree}
 use Rattle.term_arena.specs.declared.node.Node.{Node}
@@ -31,7 +31,7 @@ states_own marked (short.Compose p q) = marked p && marked q
 states_own marked (short.Strengthen p facts pre) = marked p
 states_own marked (short.Weaken p facts post) = marked p
 states_own marked (short.Discharge p facts) = marked p
-states_own marked (short.UseExit def exit) = false
+states_own marked (short.UseExit def exit) = true
 states_own marked (short.Loop def cited) = false
 states_own marked (short.Forget k) = false
 

@@ -50,7 +50,7 @@ returns-in-ExtendCode-clause-made g c =
     let h = history_from 0 old c.args.held.now.entries c.args.closed.now in
     let fine = subst (IsFineShort old) c.in-ExtendCode.is c.requires.line in
     subst (λ (s : Short). IfOk c.by_extend_code.result (MadeIf c.args.arena.now (IsStatedBy tree h old s))) (sym c.in-ExtendCode.is)
-    (made_ok c.by_extend_code.result c.args.arena.now _ _ (λ t fits m. extend_to tree h old t fits c.in-ExtendCode.p c.in-ExtendCode.code fine.0 m) (λ t fits x. extend_from tree h old t fits c.in-ExtendCode.p c.in-ExtendCode.code x) c.by_extend_code.ensures)
+    (made_ok c.by_extend_code.result c.args.arena.now _ _ (λ t fits m. extend_to tree h old t fits c.in-ExtendCode.p c.in-ExtendCode.more fine.0 m) (λ t fits x. extend_from tree h old t fits c.in-ExtendCode.p c.in-ExtendCode.more x) c.by_extend_code.ensures)
 
 pub returns-in-Compose-clause-made : goal.returns-in-Compose-clause-made
 returns-in-Compose-clause-made g c =

@@ -12,6 +12,9 @@ use Rattle.term_bench.proofs.bench.Bench.stated_by.Goals as goal
 pub stated_by-requires-clause-code : goal.stated_by-requires-clause-code
 stated_by-requires-clause-code g c = subst (λ (k : BenchState). IsOwnCode (state_group k).code) (sym c.self.view_is) c.requires.code
 
+pub stated_by-requires-clause-shared : goal.stated_by-requires-clause-shared
+stated_by-requires-clause-shared g c = c.self.invariant.2.code
+
 pub stated_by-requires-clause-held : goal.stated_by-requires-clause-held
 stated_by-requires-clause-held g c =
     let s = c.self.inside in
