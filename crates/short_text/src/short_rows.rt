@@ -4,6 +4,8 @@ ghost use Rattle.std.specs.Prelude.{◌≡◌};
 ghost use Rattle.mc_text.specs.Reading.{atom_of, made, one};
 ghost use Rattle.mc_text.specs.inner.Reading.{eol};
 ghost use Rattle.mc_text.specs.Outcome.{Gives, last_line};
+ghost use Rattle.proof_text.specs.Line.{code_or_own};
+ghost use Rattle.short_text.specs.SpelledShort.{short_or_own};
 ghost use Rattle.short_text.specs.inner.ShortReading.{axiom_line, changed_row, closing_line, code_to_end, composition_line, discharge_line, extension_line, facts_to, forget_line, frame_line, inst_row, ranges_to_end, short_at, short_head_of, short_parts, use_line};
 
 use crate::facts::read_held_facts;
@@ -22,13 +24,17 @@ use rv_words::List;
 use std::alloc::Global;
 use term_arena::Node;
 use term_text::read_ranges;
-use word_terms::{Code, copy_code};
+use word_terms::Code;
 
 // ---- code
 
 /// Code other than the group's own, with the end of the line.
-fn read_other<'a>(alloc: Global, scan: &mut Scan<'a>, own: &Code) -> Result<Code, TokenError>
-    ensures gives { Gives (λ code. code.ranges) result scan.old scan.new (ranges_to_end own.now.ranges) }
+fn read_other<'a>(
+    alloc: Global,
+    scan: &mut Scan<'a>,
+    own: &Code,
+) -> Result<(Code, bool), TokenError>
+    ensures gives { Gives (λ c. code_or_own own.now.ranges c.1 c.0.ranges) result scan.old scan.new (ranges_to_end own.now.ranges) }
     ensures last { last_line scan.new ≡ last_line scan.old }
 {
     let ranges = read_ranges(alloc, scan)?;
@@ -37,23 +43,23 @@ fn read_other<'a>(alloc: Global, scan: &mut Scan<'a>, own: &Code) -> Result<Code
         return Err(TokenError::Bad);
     }
     eol(scan)?;
-    Ok(code)
+    Ok((code, false))
 }
 
-/// The group's own code, with the end of the line, after the word that stands for it.
-fn read_own<'a>(alloc: Global, scan: &mut Scan<'a>, own: &Code) -> Result<Code, TokenError>
-    ensures gives { Gives (λ code. code.ranges) result scan.old scan.new (made (λ _. own.now.ranges) eol) }
+/// What stands for the group's own code, after the word for that, with the end of the line: that code is left out.
+fn read_own<'a>(alloc: Global, scan: &mut Scan<'a>, own: &Code) -> Result<(Code, bool), TokenError>
+    ensures gives { Gives (λ c. code_or_own own.now.ranges c.1 c.0.ranges) result scan.old scan.new (made (λ _. own.now.ranges) eol) }
     ensures last { last_line scan.new ≡ last_line scan.old }
 {
     eol(scan)?;
-    let code = copy_code(alloc, own)?;
-    Ok(code)
+    let ranges = List::new(alloc);
+    Ok((Code { ranges }, true))
 }
 
-/// Code, by the group's own, with the end of the line.
+/// Code, with the end of the line, and whether it is the group's own, which is left out.
 #[tactic(auto, unfolding(crate::specs::inner::ShortReading::code_to_end))]
-fn read_code<'a>(alloc: Global, scan: &mut Scan<'a>, own: &Code) -> Result<Code, TokenError>
-    ensures gives { Gives (λ code. code.ranges) result scan.old scan.new (code_to_end own.now.ranges) }
+fn read_code<'a>(alloc: Global, scan: &mut Scan<'a>, own: &Code) -> Result<(Code, bool), TokenError>
+    ensures gives { Gives (λ c. code_or_own own.now.ranges c.1 c.0.ranges) result scan.old scan.new (code_to_end own.now.ranges) }
     ensures last { last_line scan.new ≡ last_line scan.old }
 {
     match peek(scan) {
@@ -107,14 +113,19 @@ fn read_frame<'a>(alloc: Global, scan: &mut Scan<'a>, table: &[Node]) -> Result<
     Ok(Short::Frame(p, regs, mems))
 }
 
-fn read_extension<'a>(alloc: Global, scan: &mut Scan<'a>, own: &Code) -> Result<Short, TokenError>
-    ensures gives { Gives (λ l. l) result scan.old scan.new (extension_line own.now.ranges) }
+/// A line that extends a theorem's code, and whether that by which it does is the group's own, which is left out.
+fn read_extension<'a>(
+    alloc: Global,
+    scan: &mut Scan<'a>,
+    own: &Code,
+) -> Result<(Short, bool), TokenError>
+    ensures gives { Gives (λ l. short_or_own own.now.ranges l.1 l.0) result scan.old scan.new (extension_line own.now.ranges) }
     ensures last { last_line scan.new ≡ last_line scan.old }
 {
     let p = read_theorem(scan)?;
     keyword(scan, b"code")?;
-    let code = read_code(alloc, scan, own)?;
-    Ok(Short::ExtendCode(p, code))
+    let (code, all) = read_code(alloc, scan, own)?;
+    Ok((Short::ExtendCode(p, code), all))
 }
 
 fn read_composition<'a>(scan: &mut Scan<'a>) -> Result<Short, TokenError>
@@ -218,52 +229,53 @@ fn short_name<'a>(scan: &mut Scan<'a>) -> Result<ShortHead, TokenError>
     }
 }
 
-/// What stands after the first word of a line.
+/// What stands after the first word of a line, and whether its code is the group's own, which is left out.
 fn read_parts<'a>(
     alloc: Global,
     scan: &mut Scan<'a>,
     table: &[Node],
     own: &Code,
     head: ShortHead,
-) -> Result<Short, TokenError>
-    ensures gives { Gives (λ l. l) result scan.old scan.new (short_parts table.now own.now.ranges head) }
+) -> Result<(Short, bool), TokenError>
+    ensures gives { Gives (λ l. short_or_own own.now.ranges l.1 l.0) result scan.old scan.new (short_parts table.now own.now.ranges head) }
     ensures last { last_line scan.new ≡ last_line scan.old }
 {
-    match head {
-        ShortHead::Axiom => read_axiom(scan),
+    let line = match head {
+        ShortHead::Axiom => read_axiom(scan)?,
         ShortHead::Inst => {
             let (p, places) = read_inst(alloc, scan, table)?;
             let words = word_places(alloc, places.as_slice())?;
             let mems = mem_places(alloc, places.as_slice())?;
-            Ok(Short::Inst(p, words, mems))
+            Short::Inst(p, words, mems)
         }
-        ShortHead::Frame => read_frame(alloc, scan, table),
-        ShortHead::ExtendCode => read_extension(alloc, scan, own),
-        ShortHead::Compose => read_composition(scan),
+        ShortHead::Frame => read_frame(alloc, scan, table)?,
+        ShortHead::ExtendCode => return read_extension(alloc, scan, own),
+        ShortHead::Compose => read_composition(scan)?,
         ShortHead::Strengthen => {
             let (p, (facts, pre)) = read_changed(alloc, scan, table, b"pre")?;
-            Ok(Short::Strengthen(p, facts, pre))
+            Short::Strengthen(p, facts, pre)
         }
         ShortHead::Weaken => {
             let (p, (facts, post)) = read_changed(alloc, scan, table, b"post")?;
-            Ok(Short::Weaken(p, facts, post))
+            Short::Weaken(p, facts, post)
         }
-        ShortHead::Discharge => read_discharge(alloc, scan, table),
-        ShortHead::UseExit => read_use(scan),
-        ShortHead::Loop => read_loop(alloc, scan),
-        ShortHead::Forget => read_forget(scan),
-    }
+        ShortHead::Discharge => read_discharge(alloc, scan, table)?,
+        ShortHead::UseExit => read_use(scan)?,
+        ShortHead::Loop => read_loop(alloc, scan)?,
+        ShortHead::Forget => read_forget(scan)?,
+    };
+    Ok((line, false))
 }
 
-/// A short line, by the table and the group's own code.
+/// A short line, by the table, and whether its code is the group's own, which is left out.
 #[tactic(auto, unfolding(crate::specs::inner::ShortReading::short_at))]
 pub fn read_short<'a>(
     alloc: Global,
     scan: &mut Scan<'a>,
     table: &[Node],
     own: &Code,
-) -> Result<Short, TokenError>
-    ensures gives { Gives (λ l. l) result scan.old scan.new (short_at table.now own.now.ranges) }
+) -> Result<(Short, bool), TokenError>
+    ensures gives { Gives (λ l. short_or_own own.now.ranges l.1 l.0) result scan.old scan.new (short_at table.now own.now.ranges) }
     ensures last { last_line scan.new ≡ last_line scan.old }
 {
     let head = short_name(scan)?;

@@ -1,8 +1,10 @@
-use Rattle.short_text.proofs.KeptLaws.{kept-term, kept-proof}
+use Rattle.std.proofs.Common.{true, [], ◌∷◌, ◌++◌, sym, subst}
+use Rattle.short_text.specs.SpelledShort.{short_or_own}
+use Rattle.short_text.specs.declared.short.ShortLine.{ShortLine}
+use Rattle.short_text.specs.inner.ShortReaders.{AreKept}
+use Rattle.short_text.proofs.KeptLaws.{kept-proof}
 use Rattle.short_text.proofs.short_lines.ShortLinesReadLines.read.Goals as goal
 
-pub returns-in_ok-node-clause-behind : goal.returns-in_ok-node-clause-behind
-returns-in_ok-node-clause-behind c = λ before kept. kept-term c.args.self.now c.self.inside.table c.self.inside.begun c.self.view_is before kept c.read_term_row.new.table c.in_ok-node.node c.in_ok-node.ensures.longer
-
-pub returns-in_ok-line-clause-behind : goal.returns-in_ok-line-clause-behind
-returns-in_ok-line-clause-behind c = λ before kept. kept-proof c.args.self.now c.self.inside.table c.self.inside.begun c.self.view_is before kept c.in_ok-line.line
+pub returns-in_ok-line-2-clause-behind : goal.returns-in_ok-line-2-clause-behind
+returns-in_ok-line-2-clause-behind c = λ before kept. subst (λ (l : ShortLine). AreKept (record { table = c.self.inside.table; begun = true }) (before ++ l ∷ [])) (sym c.in_ok-line-2.ensures)
+    (kept-proof c.args.self.now c.self.inside.table c.self.inside.begun c.self.view_is before kept (short_or_own c.args.own.now.ranges c.in_ok-line.all c.in_ok-line.line))
