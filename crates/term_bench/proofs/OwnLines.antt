@@ -9,13 +9,14 @@ use Rattle.triple_kernel.specs.Tree.{TripleTree}
 use Rattle.frame_compose.specs.Rules.{IsComposed}
 use Rattle.proof_text.specs.LineLimits.{IsTriple}
 use Rattle.proof_text.specs.inner.OwnCode.{IsOwnCode}
-use Rattle.proof_text.specs.Line.{Compose, Discharge, Frame, Inst, Strengthen, UseExit, Weaken}
+use Rattle.proof_text.specs.Line.{Compose, Discharge, Frame, Inst, Strengthen, UseExit, Weaken, code_or_own}
 use Rattle.term_arena.specs.declared.node.Node.{Node}
 use Rattle.held_terms.specs.declared.held.Held.{Held}
 use Rattle.held_terms.specs.Held.{triple_of}
 use Rattle.short_text.specs.declared.short.Short.{Short}
 use Rattle.short_text.specs.declared.short.Short.TheVariants as short
 use Rattle.short_text.specs.FullLine.{mems_for, words_for}
+use Rattle.short_text.specs.SpelledShort.{short_or_own}
 use Rattle.checker.specs.Instance.{History}
 use Rattle.term_bench.specs.Bench.{Theorems, held_by_number, theorem_at}
 use Rattle.term_bench.specs.inner.Sharing.{IsOwnStated, states_own}
@@ -46,21 +47,63 @@ module _ (g : GroupTree) (h : History) (ns : List Node) (marked : ℕ → Bool) 
   union-of (Some p) (Some q) t fits has second so =
       same_ranges t.code g.code fits.code own.0 (sym so.code ∙ sym (over_same p.code q.code (has ∙ sym second)) ∙ ap range_bytes has)
 
-  pub own_stated : (s : Short) → states_own marked s ≡ true → IsOwnStated g h ns s
-  own_stated (short.Axiom a w form) e = absurd (true≢false (sym e))
-  own_stated (short.Inst p words mems) e = record {
+  pub own_stated : (all : Bool) (s : Short) → states_own marked all s ≡ true → IsOwnStated g h ns (short_or_own g.code all s)
+  own_stated all (short.Axiom a w form) e = absurd (true≢false (sym e))
+  own_stated all (short.Inst p words mems) e = record {
     each = λ t x. code-of (h.theorem p) _ t (have p e) (rule_of g h ns (short.Inst p words mems) t (Inst p (words_for ns words) (mems_for ns mems)) x x.1.full.0) (λ q i. i.code);
   }
-  own_stated (short.Frame p regs mems) e = record { each = λ t x. code-of (h.theorem p) _ t (have p e) (rule_of g h ns (short.Frame p regs mems) t (Frame p) x x.1.full.0) (λ q i. i.code) }
-  own_stated (short.ExtendCode p code) e = absurd (true≢false (sym e))
-  own_stated (short.Compose p q) e = record {
+  own_stated all (short.Frame p regs mems) e = record { each = λ t x. code-of (h.theorem p) _ t (have p e) (rule_of g h ns (short.Frame p regs mems) t (Frame p) x x.1.full.0) (λ q i. i.code) }
+  own_stated all (short.ExtendCode p code) e = record { each = λ t x. x.1.full.1 ∙ ap (λ (b : Bool). code_or_own g.code b code.ranges) e }
+  own_stated all (short.Compose p q) e = record {
     each = λ t x.
         let both = and-both (marked p) (marked q) e in
         union-of (h.theorem p) (h.theorem q) t x.1.fits.1 (have p both.0) (have q both.1) (rule_of g h ns (short.Compose p q) t (Compose p q) x x.1.full.0);
   }
-  own_stated (short.Strengthen p facts pre) e = record { each = λ t x. code-of (h.theorem p) _ t (have p e) (rule_of g h ns (short.Strengthen p facts pre) t (Strengthen p) x x.1.full.0) (λ q i. i.code) }
-  own_stated (short.Weaken p facts post) e = record { each = λ t x. code-of (h.theorem p) _ t (have p e) (rule_of g h ns (short.Weaken p facts post) t (Weaken p) x x.1.full.0) (λ q i. i.code) }
-  own_stated (short.Discharge p facts) e = record { each = λ t x. code-of (h.theorem p) _ t (have p e) (rule_of g h ns (short.Discharge p facts) t (Discharge p) x x.1.full.0) (λ q i. i.code) }
-  own_stated (short.UseExit d exit) e = record { each = λ t x. ap (λ (q : TripleTree). q.code) (rule_of g h ns (short.UseExit d exit) t (UseExit d exit) x x.1.full.0).1.same }
-  own_stated (short.Loop d cited) e = absurd (true≢false (sym e))
-  own_stated (short.Forget k) e = absurd (true≢false (sym e))
+  own_stated all (short.Strengthen p facts pre) e = record { each = λ t x. code-of (h.theorem p) _ t (have p e) (rule_of g h ns (short.Strengthen p facts pre) t (Strengthen p) x x.1.full.0) (λ q i. i.code) }
+  own_stated all (short.Weaken p facts post) e = record { each = λ t x. code-of (h.theorem p) _ t (have p e) (rule_of g h ns (short.Weaken p facts post) t (Weaken p) x x.1.full.0) (λ q i. i.code) }
+  own_stated all (short.Discharge p facts) e = record { each = λ t x. code-of (h.theorem p) _ t (have p e) (rule_of g h ns (short.Discharge p facts) t (Discharge p) x x.1.full.0) (λ q i. i.code) }
+  own_stated all (short.UseExit d exit) e = record { each = λ t x. ap (λ (q : TripleTree). q.code) (rule_of g h ns (short.UseExit d exit) t (UseExit d exit) x x.1.full.0).1.same }
+  own_stated all (short.Loop d cited) e = absurd (true≢false (sym e))
+  own_stated all (short.Forget k) e = absurd (true≢false (sym e))
+
+-- ---- lines as they are spelled
+
+pub not_own : (own : List Range) (s : Short) → short_or_own own false s ≡ s
+not_own own (short.Axiom a w form) = refl
+not_own own (short.Inst p words mems) = refl
+not_own own (short.Frame p regs mems) = refl
+not_own own (short.ExtendCode p code) = refl
+not_own own (short.Compose p q) = refl
+not_own own (short.Strengthen p facts pre) = refl
+not_own own (short.Weaken p facts post) = refl
+not_own own (short.Discharge p facts) = refl
+not_own own (short.UseExit d exit) = refl
+not_own own (short.Loop d cited) = refl
+not_own own (short.Forget k) = refl
+
+-- a line that closes a definition or forgets a theorem is spelled so
+pub spelled_loop : (own : List Range) (all : Bool) (s : Short) (d : ℕ) (cited : List ℕ) → short_or_own own all s ≡ short.Loop d cited → s ≡ short.Loop d cited
+spelled_loop own all (short.Axiom a w form) d cited e = absurd cc
+spelled_loop own all (short.Inst p words mems) d cited e = absurd cc
+spelled_loop own all (short.Frame p regs mems) d cited e = absurd cc
+spelled_loop own all (short.ExtendCode p code) d cited e = absurd cc
+spelled_loop own all (short.Compose p q) d cited e = absurd cc
+spelled_loop own all (short.Strengthen p facts pre) d cited e = absurd cc
+spelled_loop own all (short.Weaken p facts post) d cited e = absurd cc
+spelled_loop own all (short.Discharge p facts) d cited e = absurd cc
+spelled_loop own all (short.UseExit j exit) d cited e = absurd cc
+spelled_loop own all (short.Loop j ks) d cited e = e
+spelled_loop own all (short.Forget k) d cited e = absurd cc
+
+pub spelled_forget : (own : List Range) (all : Bool) (s : Short) (k : ℕ) → short_or_own own all s ≡ short.Forget k → s ≡ short.Forget k
+spelled_forget own all (short.Axiom a w form) k e = absurd cc
+spelled_forget own all (short.Inst p words mems) k e = absurd cc
+spelled_forget own all (short.Frame p regs mems) k e = absurd cc
+spelled_forget own all (short.ExtendCode p code) k e = absurd cc
+spelled_forget own all (short.Compose p q) k e = absurd cc
+spelled_forget own all (short.Strengthen p facts pre) k e = absurd cc
+spelled_forget own all (short.Weaken p facts post) k e = absurd cc
+spelled_forget own all (short.Discharge p facts) k e = absurd cc
+spelled_forget own all (short.UseExit d exit) k e = absurd cc
+spelled_forget own all (short.Loop d cited) k e = absurd cc
+spelled_forget own all (short.Forget j) k e = e

@@ -34,6 +34,19 @@ pub(crate) fn is_known(
     own && marked.contains(&p)
 }
 
+/// Whether the theorem of that number is known to have the group's own code, since it is marked.
+pub(crate) fn is_marked(
+    g: &Group,
+    held: &BTreeMap<u64, Held>,
+    marked: &BTreeSet<u64>,
+    p: u64,
+) -> bool
+    requires { HaveCode g.now.code.ranges held.now.entries marked.now }
+    ensures { IsTrue result → IfSome (held_by_number held.now.entries p) (λ q. q.code.ranges ≡ g.now.code.ranges) }
+{
+    marked.contains(&p)
+}
+
 /// Whether the theorems of those numbers are known to have the same code, since both are marked.
 pub(crate) fn are_known(
     g: &Group,
@@ -112,15 +125,15 @@ pub(crate) fn is_within_own(g: &Group, own: bool, p: &Held) -> bool
 }
 
 /// Whether the triple that the line states, where it is right, is known to have the group's own code, since it has that of theorems that are
-/// marked, or is that of an exit.
-pub(crate) fn states_own(marked: &BTreeSet<u64>, line: &Short) -> bool
-    ensures { result ≡ states_own (contains nat_cmp marked.now) line.now }
+/// marked, or is that of an exit, or `all` stands for it.
+pub(crate) fn states_own(marked: &BTreeSet<u64>, line: &Short, all: bool) -> bool
+    ensures { result ≡ states_own (contains nat_cmp marked.now) all line.now }
 {
     match line {
         Short::Axiom(_, _, _) => false,
         Short::Inst(p, _, _) => marked.contains(p),
         Short::Frame(p, _, _) => marked.contains(p),
-        Short::ExtendCode(_, _) => false,
+        Short::ExtendCode(_, _) => all,
         Short::Compose(p, q) => marked.contains(p) && marked.contains(q),
         Short::Strengthen(p, _, _) => marked.contains(p),
         Short::Weaken(p, _, _) => marked.contains(p),

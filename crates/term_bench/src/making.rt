@@ -15,18 +15,17 @@ ghost use Rattle.held_terms.specs.Held.{AreFactsAt, IsFactAt, fact_of, register_
 ghost use Rattle.term_bench.specs.Fine.{AreFineFacts, AreFineMems, AreFineRegisters, IsFineHeld, IsFineSide};
 ghost use Rattle.term_bench.specs.inner.Making.{AddedIfNew, AreFactsOfBoth, ComesFirst, HasParts, MadeIf, number};
 
-use crate::copies::{copy_fact, copy_facts, copy_side, copy_to_share, share};
-use crate::known::have_agreement;
+use crate::copies::{copy_fact, copy_facts, copy_side, share};
+use crate::known::{has_code_within, have_agreement};
 use held_terms::{
     Facts, Held, HeldFact, HeldSide, SharedCode, is_discharged, is_extension, is_strengthened,
     is_weakened, same_side,
 };
 use rv_words::{List, NoMemory};
-use sep_assert::{code_join, code_within};
+use sep_assert::code_join;
 use std::alloc::Global;
 use std::sync::ledger::Ledger;
 use term_arena::{Arena, Steps};
-use word_terms::Code;
 
 /// The triple of those parts, in memory of its own.
 fn with_parts(
@@ -50,20 +49,21 @@ fn with_parts(
     })
 }
 
-/// More code.
+/// More code, which is shared. Where the theorem is known to have it, nothing is compared.
 pub(crate) fn extended(
     alloc: Global,
     arena: &Arena,
     p: &Held,
-    code: &Code,
+    code: &SharedCode,
+    known: bool,
 ) -> Result<Option<Held>, NoMemory>
     requires p { IsFineHeld arena.now p.now }
     requires code { IsOwnCode code.now.ranges }
+    requires known { IsTrue known → p.now.code.ranges ≡ code.now.ranges }
     ensures { IfOk result (λ o. MadeIf arena.now (λ t. IsExtended (triple_of arena.now p.now) t × (t.code ≡ code.now.ranges)) o) }
 {
-    let code = copy_to_share(alloc, code)?;
-    let t = with_parts(alloc, p.facts.as_slice(), &p.pre, &code, &p.post)?;
-    let within = code_within(p.code.as_code(), t.code.as_code());
+    let t = with_parts(alloc, p.facts.as_slice(), &p.pre, code, &p.post)?;
+    let within = has_code_within(known, p, &t);
     if !is_extension(arena, p, &t, within) {
         return Ok(None);
     }

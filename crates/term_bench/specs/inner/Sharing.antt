@@ -21,19 +21,20 @@ code_giver (Weaken p) = Some p
 code_giver (Discharge p) = Some p
 code_giver (UseExit def exit) = None
 
--- whether the triple that a short line states has the group's own code where the theorems with these numbers have it
-abbrev pub states_own : (ℕ → Bool) → Short → Bool
-states_own marked (short.Axiom address word form) = false
-states_own marked (short.Inst p words mems) = marked p
-states_own marked (short.Frame p regs mems) = marked p
-states_own marked (short.ExtendCode p code) = false
-states_own marked (short.Compose p q) = marked p && marked q
-states_own marked (short.Strengthen p facts pre) = marked p
-states_own marked (short.Weaken p facts post) = marked p
-states_own marked (short.Discharge p facts) = marked p
-states_own marked (short.UseExit def exit) = true
-states_own marked (short.Loop def cited) = false
-states_own marked (short.Forget k) = false
+-- whether the triple that a short line states has the group's own code where the theorems with these numbers have it, and `all` stands for
+-- that code
+abbrev pub states_own : (ℕ → Bool) → (all : Bool) → Short → Bool
+states_own marked all (short.Axiom address word form) = false
+states_own marked all (short.Inst p words mems) = marked p
+states_own marked all (short.Frame p regs mems) = marked p
+states_own marked all (short.ExtendCode p code) = all
+states_own marked all (short.Compose p q) = marked p && marked q
+states_own marked all (short.Strengthen p facts pre) = marked p
+states_own marked all (short.Weaken p facts post) = marked p
+states_own marked all (short.Discharge p facts) = marked p
+states_own marked all (short.UseExit def exit) = true
+states_own marked all (short.Loop def cited) = false
+states_own marked all (short.Forget k) = false
 
 -- each triple that the line states has the group's own code
 pub record IsOwnStated (g : GroupTree) (h : History) (ns : List Node) (s : Short) : Type 0 where
