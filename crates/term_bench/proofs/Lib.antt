@@ -5,6 +5,7 @@ pub mod LeafSteps
 pub mod RuleLemmas
 pub mod BenchLemmas
 pub mod MarkLemmas
+pub mod OwnLines
 pub mod PutOrder
 pub mod PutSteps
 pub mod SubtermLemmas

@@ -1,9 +1,10 @@
 -- Codes that are known to be the same, and theorems that are marked as having the group's own.
-use Rattle.std.proofs.Common.{◌≡◌, ℕ, Bool, true, false, true≢false, cond, Option, Some, None, List, [], refl, sym, ap, ◌∙◌, subst, IsTrue}
-use Rattle.std.specs.Prelude.{◌↔◌, ◌&&◌, ◌==◌, IfSome}
+use Rattle.std.proofs.Common.{◌≡◌, ℕ, Bool, true, false, true≢false, cond, Option, Some, None, List, [], refl, sym, ap, ◌∙◌, subst}
+use Rattle.std.specs.Prelude.{◌↔◌, IfSome}
 use Rattle.std.specs.BTreeSet.{BTreeSet, contains}
 use Rattle.std.specs.BTreeMap.{is_at}
 use Rattle.std.specs.List.{list_any}
+use Rattle.std.specs.Option.{option_or}
 use Rattle.std.specs.Ordering.{nat_cmp}
 use Rattle.rv_words.specs.Bytes.{Bytes, over}
 use Rattle.rv_words.specs.Ranges.{range_bytes}
@@ -13,12 +14,30 @@ use Rattle.sep_assert.proofs.CodeLemmas as code
 use Rattle.frame_compose.proofs.UnionLemmas.{covered_by_first, union-within}
 use Rattle.held_terms.specs.declared.held.Held.{Held}
 use Rattle.term_bench.specs.Bench.{Theorems, held_by_number}
-use Rattle.term_bench.specs.inner.Marks.{Changes, HaveCode}
+use Rattle.term_bench.specs.inner.Marks.{Changes, HaveCode, HaveSameCode}
 
 -- ---- codes that are the same
 
 pub within_same : (xs zs : List Range) → xs ≡ zs → IsWithin (range_bytes xs) (range_bytes zs)
 within_same xs zs e = code.within_same xs zs e
+
+pub agree_same : (xs ys : List Range) → xs ≡ ys → Agree (range_bytes xs) (range_bytes ys)
+agree_same xs ys e a b c x y =
+    let one : range_bytes xs a ≡ range_bytes ys a = λ i. range_bytes (e i) a in
+    cc
+
+pub over_same : (xs ys : List Range) → xs ≡ ys → range_bytes xs ≡ over (range_bytes xs) (range_bytes ys)
+over_same xs ys e = sym (λ i a. first (range_bytes xs a) (range_bytes ys a) (λ j. range_bytes (sym e j) a) i)
+  where
+    first : (o p : Option ℕ) → p ≡ o → option_or o p ≡ o
+    first None p e = e
+    first (Some x) p e = refl
+
+-- theorems that have the same
+pub marked_same : (own : List Range) (p q : Option Held) → IfSome p (λ h. h.code.ranges ≡ own) → IfSome q (λ h. h.code.ranges ≡ own) → HaveSameCode p q
+marked_same own None q a b = tt
+marked_same own (Some p) None a b = tt
+marked_same own (Some p) (Some q) a b = a ∙ sym b
 
 abbrev pub AreUnited : List Range → List Range → List Range → Type 0
 AreUnited xs ys zs = Agree (range_bytes xs) (range_bytes ys) × (over (range_bytes xs) (range_bytes ys) ≡ range_bytes zs)

@@ -15,16 +15,18 @@ ghost use Rattle.checker.specs.Instance.{Instance, InstanceBy, Meets, after_line
 ghost use Rattle.checker.specs.Sound.{Sound};
 ghost use Rattle.term_bench.specs.Bench.{CanCite, Theorems, state_group, state_history, state_nodes};
 ghost use Rattle.proof_text.specs.inner.OwnCode.{IsOwnCode};
+ghost use Rattle.short_text.specs.SpelledShort.{short_or_own};
 ghost use Rattle.term_bench.specs.Short.{AreWithin, IsFineShort, IsNeverStated, IsShortInstance, IsStatedBy, LeavesBehind};
 ghost use Rattle.term_bench.specs.Terms.{HasLine, HasSubterms, closing_terms, compares_numbers, is_compared, is_loop, loop_terms, nodes_of, pair_steps, premise_terms, put_in_terms, stated_triple_terms, triple_terms, whole_line_terms};
 ghost use Rattle.term_bench.specs.inner.Making.{MadeIf};
 ghost use Rattle.term_bench.specs.inner.Marks.{Changes, HaveCode, held_over};
 ghost use Rattle.term_bench.specs.inner.Put.{IsHeldPut};
+ghost use Rattle.term_bench.specs.inner.Sharing.{IsOwnStated};
 
 use crate::closing::is_closed_by;
 use crate::copies::copy_to_share;
 use crate::held_rule::HeldRule;
-use crate::known::is_known;
+use crate::known::{is_known, states_own};
 use crate::put::put_triple;
 use crate::rules::{by_further, code_giver, is_closed, meets, theorem};
 use crate::stating::stated_by;
@@ -226,10 +228,31 @@ impl<'g> Bench<'g> {
         ensures same { OnErr result (state_history self.new ≡ state_history self.old) }
         ensures grows { Extends (state_nodes self.old) (state_nodes self.new) }
     {
+        self.derive_spelled(alloc, line, false, steps)
+    }
+
+    /// Judges the next line, likewise, as it is spelled: where `all` says so, the code by which it extends that of a theorem is the group's own,
+    /// which is left out.
+    pub fn derive_spelled<L: Ledger>(
+        &mut self,
+        alloc: Global,
+        line: &Short,
+        all: bool,
+        steps: &mut Steps<L>,
+    ) -> Result<(), RuleFault>
+        requires code { IsOwnCode (state_group self.old).code }
+        requires within { AreWithin (state_history self.old) }
+        requires line { IsFineShort (state_nodes self.old) (short_or_own (state_group self.old).code all line.now) }
+        ensures group { self.new.0 ≡ self.old.0 }
+        ensures left { OnOk result (LeavesBehind (state_group self.old) (state_history self.old) (state_nodes self.old) (short_or_own (state_group self.old).code all line.now) (state_history self.new)) }
+        ensures no_instance { IsErrOf result RuleFault.NoInstance → IsShortInstance (state_group self.old) (state_history self.old) (state_nodes self.old) (short_or_own (state_group self.old).code all line.now) → ⊥ }
+        ensures same { OnErr result (state_history self.new ≡ state_history self.old) }
+        ensures grows { Extends (state_nodes self.old) (state_nodes self.new) }
+    {
         match line {
             Short::Loop(def, cited) => self.close(alloc, *def, cited.as_slice(), steps),
             Short::Forget(k) => self.forget(*k),
-            _ => self.derive_triple(alloc, line, steps),
+            _ => self.derive_triple(alloc, line, all, steps),
         }
     }
 
@@ -336,25 +359,35 @@ impl<'g> Bench<'g> {
         &mut self,
         alloc: Global,
         line: &Short,
+        all: bool,
         steps: &mut Steps<L>,
     ) -> Result<(), RuleFault>
         requires code { IsOwnCode (state_group self.old).code }
         requires within { AreWithin (state_history self.old) }
-        requires line { IsFineShort (state_nodes self.old) line.now }
+        requires line { IsFineShort (state_nodes self.old) (short_or_own (state_group self.old).code all line.now) }
         ensures group { self.new.0 ≡ self.old.0 }
-        ensures left { OnOk result (LeavesBehind (state_group self.old) (state_history self.old) (state_nodes self.old) line.now (state_history self.new)) }
-        ensures no_instance { IsErrOf result RuleFault.NoInstance → IsNeverStated (state_group self.old) (state_history self.old) (state_nodes self.old) line.now }
+        ensures left { OnOk result (LeavesBehind (state_group self.old) (state_history self.old) (state_nodes self.old) (short_or_own (state_group self.old).code all line.now) (state_history self.new)) }
+        ensures no_instance { IsErrOf result RuleFault.NoInstance → IsNeverStated (state_group self.old) (state_history self.old) (state_nodes self.old) (short_or_own (state_group self.old).code all line.now) }
         ensures same { OnErr result (state_history self.new ≡ state_history self.old) }
         ensures grows { Extends (state_nodes self.old) (state_nodes self.new) }
     {
         law_of_lines(&NoRule);
         self.law_of_bench();
-        let made = self.stated_by(alloc, line, steps)?;
+        let own = self.states_own(line, all);
+        let made = self.stated_by(alloc, line, all, steps)?;
         let Some(h) = made else {
             return Err(RuleFault::NoInstance);
         };
-        self.keep_made(h, false)?;
+        self.keep_made(h, own)?;
         Ok(())
+    }
+
+    /// Whether the triple that the line states, where it is right, is known to have the group's own code.
+    fn states_own(&self, line: &Short, all: bool) -> bool
+        requires { IsOwnCode (state_group self.now).code }
+        ensures { IsTrue result → IsOwnStated (state_group self.now) (state_history self.now) (state_nodes self.now) (short_or_own (state_group self.now).code all line.now) }
+    {
+        states_own(&self.marked, line, all)
     }
 
     /// The triple that the line states, if it is right.
@@ -362,12 +395,13 @@ impl<'g> Bench<'g> {
         &mut self,
         alloc: Global,
         line: &Short,
+        all: bool,
         steps: &mut Steps<L>,
     ) -> Result<Option<Held>, NoMemory>
         requires code { IsOwnCode (state_group self.old).code }
         requires within { AreWithin (state_history self.old) }
-        requires line { IsFineShort (state_nodes self.old) line.now }
-        ensures made { IfOk result (λ o. MadeIf (state_nodes self.new) (IsStatedBy (state_group self.old) (state_history self.old) (state_nodes self.old) line.now) o) }
+        requires line { IsFineShort (state_nodes self.old) (short_or_own (state_group self.old).code all line.now) }
+        ensures made { IfOk result (λ o. MadeIf (state_nodes self.new) (IsStatedBy (state_group self.old) (state_history self.old) (state_nodes self.old) (short_or_own (state_group self.old).code all line.now)) o) }
         ensures group { self.new.0 ≡ self.old.0 }
         ensures same { state_history self.new ≡ state_history self.old }
         ensures grows { Extends (state_nodes self.old) (state_nodes self.new) }
@@ -375,12 +409,15 @@ impl<'g> Bench<'g> {
         stated_by(
             alloc,
             self.group,
+            &self.code,
             &mut self.arena,
             &mut self.depths,
             &mut self.images,
             &self.held,
+            &self.marked,
             self.closed.as_slice(),
             line,
+            all,
             steps,
         )
     }

@@ -17,7 +17,7 @@ use crate::depths::deepen;
 use crate::exits::exit_held;
 use crate::limits::is_within;
 use crate::put::put_triple;
-use held_terms::{Held, ImageTable, instance};
+use held_terms::{Held, ImageTable, SharedCode, instance};
 use instr_axioms::axiom_triple;
 use rv_words::{List, NoMemory};
 use std::alloc::Global;
@@ -93,23 +93,25 @@ pub(crate) fn axiom<L: Ledger>(
     Ok(made)
 }
 
-/// The triple of an exit of a definition.
+/// The triple of an exit of a definition, which shares that code.
 pub(crate) fn exit<L: Ledger>(
     alloc: Global,
     arena: &mut Arena,
     depths: &mut List<u8>,
     g: &Group,
+    code: &SharedCode,
     def: u32,
     number: u32,
     steps: &mut Steps<L>,
 ) -> Result<Option<Held>, NoMemory>
     requires code { IsOwnCode g.now.code.ranges }
+    requires shared { code.now.ranges ≡ g.now.code.ranges }
     requires depths { AreDepths arena.old depths.old }
     ensures made { IfOk result (λ o. MadeIf arena.new (λ t. IsExit (group_tree g.now) def number t) o) }
     ensures grows { Extends arena.old arena.new }
     ensures depths { AreDepths arena.new depths.new }
 {
-    let found = exit_held(alloc, arena, g, def, number, steps)?;
+    let found = exit_held(alloc, arena, g, code, def, number, steps)?;
     let Some(h) = found else {
         return Ok(None);
     };

@@ -13,23 +13,25 @@ ghost use Rattle.loop_rule.specs.Rule.{exit_triple};
 ghost use Rattle.term_bench.specs.inner.Put.{AreMemsPut, AreWordsPut, IsHeldPut, IsMemPut, IsSidePut, IsValuesPut, IsWordPut};
 ghost use Rattle.term_bench.specs.inner.Exits.{IsHeldWith, IsExitPut};
 
-use crate::copies::copy_to_share;
-use held_terms::{Held, HeldFact, HeldSide, HeldValues};
+use crate::copies::share;
+use held_terms::{Held, HeldFact, HeldSide, HeldValues, SharedCode};
 use rv_words::{List, NoMemory};
 use std::alloc::Global;
 use std::sync::ledger::Ledger;
 use tailrec_lang::{Def, Exit, Group, def_at, results_at};
 use term_arena::{Arena, Node, Steps};
 
-/// The triple of that exit of that definition, if there is one.
+/// The triple of that exit of that definition, if there is one. It shares that code, which is the group's own.
 pub(crate) fn exit_held<L: Ledger>(
     alloc: Global,
     arena: &mut Arena,
     g: &Group,
+    code: &SharedCode,
     d: u32,
     exit: u32,
     steps: &mut Steps<L>,
 ) -> Result<Option<Held>, NoMemory>
+    requires { code.now.ranges ≡ g.now.code.ranges }
     ensures put { IfOk result (λ o. IsExitPut arena.new (group_tree g.now) d exit o) }
     ensures grows { Extends arena.old arena.new }
 {
@@ -39,7 +41,7 @@ pub(crate) fn exit_held<L: Ledger>(
     let Some(x) = def.exits.get(exit as usize) else {
         return Ok(None);
     };
-    let h = triple_at(alloc, arena, g, d, def, exit, *x, steps)?;
+    let h = triple_at(alloc, arena, g, code, d, def, exit, *x, steps)?;
     Ok(Some(h))
 }
 
@@ -48,12 +50,14 @@ fn triple_at<L: Ledger>(
     alloc: Global,
     arena: &mut Arena,
     g: &Group,
+    code: &SharedCode,
     d: u32,
     def: &Def,
     exit: u32,
     x: Exit,
     steps: &mut Steps<L>,
 ) -> Result<Held, NoMemory>
+    requires { code.now.ranges ≡ g.now.code.ranges }
     ensures put { IfOk result (λ h. IsHeldPut arena.new h (exit_triple (group_tree g.now) d (def_tree def.now) exit x)) }
     ensures grows { Extends arena.old arena.new }
 {
@@ -64,7 +68,7 @@ fn triple_at<L: Ledger>(
     let pre = entry_side(alloc, arena, g, def, &args, steps)?;
     let post = exit_side(alloc, arena, g, x, &results, steps)?;
     let facts = gives(alloc, d, exit, args, results)?;
-    let code = copy_to_share(alloc, &g.code)?;
+    let code = share(code)?;
     Ok(Held {
         facts,
         pre,

@@ -15,17 +15,17 @@ ghost use Rattle.held_terms.specs.Held.{AreFactsAt, IsFactAt, fact_of, register_
 ghost use Rattle.term_bench.specs.Fine.{AreFineFacts, AreFineMems, AreFineRegisters, IsFineHeld, IsFineSide};
 ghost use Rattle.term_bench.specs.inner.Making.{AddedIfNew, AreFactsOfBoth, ComesFirst, HasParts, MadeIf, number};
 
-use crate::copies::{copy_fact, copy_facts, copy_side, copy_to_share, share};
+use crate::copies::{copy_fact, copy_facts, copy_side, share};
+use crate::known::{has_code_within, have_agreement};
 use held_terms::{
     Facts, Held, HeldFact, HeldSide, SharedCode, is_discharged, is_extension, is_strengthened,
     is_weakened, same_side,
 };
 use rv_words::{List, NoMemory};
-use sep_assert::{code_agree, code_join, code_within};
+use sep_assert::code_join;
 use std::alloc::Global;
 use std::sync::ledger::Ledger;
 use term_arena::{Arena, Steps};
-use word_terms::Code;
 
 /// The triple of those parts, in memory of its own.
 fn with_parts(
@@ -49,20 +49,21 @@ fn with_parts(
     })
 }
 
-/// More code.
+/// More code, which is shared. Where the theorem is known to have it, nothing is compared.
 pub(crate) fn extended(
     alloc: Global,
     arena: &Arena,
     p: &Held,
-    code: &Code,
+    code: &SharedCode,
+    known: bool,
 ) -> Result<Option<Held>, NoMemory>
     requires p { IsFineHeld arena.now p.now }
     requires code { IsOwnCode code.now.ranges }
+    requires known { IsTrue known → p.now.code.ranges ≡ code.now.ranges }
     ensures { IfOk result (λ o. MadeIf arena.now (λ t. IsExtended (triple_of arena.now p.now) t × (t.code ≡ code.now.ranges)) o) }
 {
-    let code = copy_to_share(alloc, code)?;
-    let t = with_parts(alloc, p.facts.as_slice(), &p.pre, &code, &p.post)?;
-    let within = code_within(p.code.as_code(), t.code.as_code());
+    let t = with_parts(alloc, p.facts.as_slice(), &p.pre, code, &p.post)?;
+    let within = has_code_within(known, p, &t);
     if !is_extension(arena, p, &t, within) {
         return Ok(None);
     }
@@ -133,23 +134,25 @@ pub(crate) fn discharged<L: Ledger>(
     Ok(Some(t))
 }
 
-/// One theorem after another, which begins where it ends.
+/// One theorem after another, which begins where it ends. Where both are known to have the same code, it isn't looked at.
 pub(crate) fn composed(
     alloc: Global,
     arena: &Arena,
     p: &Held,
     q: &Held,
+    known: bool,
 ) -> Result<Option<Held>, NoMemory>
     requires p { IsFineHeld arena.now p.now }
     requires q { IsFineHeld arena.now q.now }
+    requires known { IsTrue known → p.now.code.ranges ≡ q.now.code.ranges }
     ensures { IfOk result (λ o. MadeIf arena.now (λ t. IsComposed (triple_of arena.now p.now) (triple_of arena.now q.now) t) o) }
 {
-    if !same_side(arena, &p.post, &q.pre) || !code_agree(p.code.as_code(), q.code.as_code()) {
+    if !same_side(arena, &p.post, &q.pre) || !have_agreement(known, p, q) {
         return Ok(None);
     }
     let facts = facts_of_both(alloc, arena, p.facts.as_slice(), q.facts.as_slice())?;
     let pre = copy_side(alloc, &p.pre)?;
-    let code = joined_code(alloc, &p.code, &q.code)?;
+    let code = joined_code(alloc, &p.code, &q.code, known)?;
     let post = copy_side(alloc, &q.post)?;
     Ok(Some(Held {
         facts,
@@ -159,14 +162,24 @@ pub(crate) fn composed(
     }))
 }
 
-/// The code of both, which may be shared.
-fn joined_code(alloc: Global, a: &SharedCode, b: &SharedCode) -> Result<SharedCode, NoMemory>
+/// The code of both, which may be shared. Where they are known to be the same, it is in the place of the first.
+#[tactic(auto, using(crate::proofs::MarkLemmas::over_same))]
+fn joined_code(
+    alloc: Global,
+    a: &SharedCode,
+    b: &SharedCode,
+    known: bool,
+) -> Result<SharedCode, NoMemory>
+    requires known { IsTrue known → a.now.ranges ≡ b.now.ranges }
     requires first { AreRanges a.now.ranges }
     requires second { AreRanges b.now.ranges }
     requires agree { Agree (range_bytes a.now.ranges) (range_bytes b.now.ranges) }
     ensures bytes { IfOk result (λ c. range_bytes c.ranges ≡ over (range_bytes a.now.ranges) (range_bytes b.now.ranges)) }
     ensures ranges { IfOk result (λ c. AreRanges c.ranges) }
 {
+    if known {
+        return share(a);
+    }
     let code = code_join(alloc, a.as_code(), b.as_code())?;
     SharedCode::new(alloc, code)
 }

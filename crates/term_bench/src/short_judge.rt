@@ -6,6 +6,7 @@ ghost use Rattle.tailrec_lang.specs.Tree.{group_tree};
 ghost use Rattle.tailrec_lang.specs.WellFormed.{IsWellFormed};
 ghost use Rattle.term_arena.specs.Arena.{AreChildren, Extends};
 ghost use Rattle.proof_text.specs.inner.OwnCode.{IsOwnCode};
+ghost use Rattle.short_text.specs.SpelledShort.{short_or_own};
 ghost use Rattle.short_text.specs.inner.ShortReaders.{AreKept};
 ghost use Rattle.checker.specs.Instance.{no_lines};
 ghost use Rattle.term_bench.specs.Bench.{state_group, state_history, state_nodes};
@@ -19,7 +20,7 @@ use group_text::Version;
 use mc_text::{Scan, TokenError};
 use proof_text::{ProofSource, ReadLines};
 use rv_words::NoMemory;
-use short_text::{Short, ShortLine, ShortLines};
+use short_text::{Short, ShortLine, ShortLines, SpelledShort};
 use std::alloc::Global;
 use std::marker::Brand;
 use std::sync::ledger::{Blank, Ledger};
@@ -46,14 +47,15 @@ impl ByTable {
 }
 
 impl RuledLines for ByTable {
+    ghost use Rattle.short_text.specs.SpelledShort.{spelled_short};
     ghost use Rattle.short_text.specs.inner.ShortReaders.{AreKept, short_readers};
     ghost use Rattle.term_bench.specs.ShortRules.{short_rules};
 
-    type Line = ShortLine;
+    type Line = SpelledShort;
 
     ghost readers = { short_readers };
 
-    ghost tree = { λ own l. l };
+    ghost tree = { spelled_short };
 
     ghost Behind = { λ s before. AreKept s.lines before };
 
@@ -69,8 +71,8 @@ impl RuledLines for ByTable {
         scan: &mut Scan<'a>,
         version: Version,
         own: &Code,
-    ) -> Result<ShortLine, TokenError> {
-        self.lines.read(alloc, scan, version, own)
+    ) -> Result<SpelledShort, TokenError> {
+        self.lines.read_spelled(alloc, scan, version, own)
     }
 }
 
@@ -109,18 +111,18 @@ impl<'g> TableBench<'g> {
         Ok(())
     }
 
-    /// Judges the next line of the proof.
-    fn derive(&mut self, alloc: Global, line: &Short) -> Result<(), RuleFault>
+    /// Judges the next line of the proof, as it is spelled.
+    fn derive(&mut self, alloc: Global, line: &Short, all: bool) -> Result<(), RuleFault>
         requires code { IsOwnCode (state_group self.old.bench).code }
         requires within { AreWithin (state_history self.old.bench) }
-        requires line { IsFineShort (state_nodes self.old.bench) line.now }
+        requires line { IsFineShort (state_nodes self.old.bench) (short_or_own (state_group self.old.bench).code all line.now) }
         ensures group { state_group self.new.bench ≡ state_group self.old.bench }
-        ensures left { OnOk result (LeavesBehind (state_group self.old.bench) (state_history self.old.bench) (state_nodes self.old.bench) line.now (state_history self.new.bench)) }
-        ensures no_instance { IsErrOf result RuleFault.NoInstance → IsShortInstance (state_group self.old.bench) (state_history self.old.bench) (state_nodes self.old.bench) line.now → ⊥ }
+        ensures left { OnOk result (LeavesBehind (state_group self.old.bench) (state_history self.old.bench) (state_nodes self.old.bench) (short_or_own (state_group self.old.bench).code all line.now) (state_history self.new.bench)) }
+        ensures no_instance { IsErrOf result RuleFault.NoInstance → IsShortInstance (state_group self.old.bench) (state_history self.old.bench) (state_nodes self.old.bench) (short_or_own (state_group self.old.bench).code all line.now) → ⊥ }
         ensures grows { Extends (state_nodes self.old.bench) (state_nodes self.new.bench) }
         ensures terms { self.new.terms ≡ self.old.terms }
     {
-        derive_counted::<Brand>(&mut self.bench, alloc, line, Blank::new(1))
+        derive_counted::<Brand>(&mut self.bench, alloc, line, all, Blank::new(1))
     }
 }
 
@@ -145,6 +147,7 @@ fn derive_counted<L: Ledger>(
     bench: &mut Bench<'_>,
     alloc: Global,
     line: &Short,
+    all: bool,
     blank: Blank,
 ) -> Result<(), RuleFault>
     requires name { blank.name ≡ L.name }
@@ -152,13 +155,13 @@ fn derive_counted<L: Ledger>(
     requires one { L.parts ≡ 1 }
     requires code { IsOwnCode (state_group bench.old).code }
     requires within { AreWithin (state_history bench.old) }
-    requires line { IsFineShort (state_nodes bench.old) line.now }
+    requires line { IsFineShort (state_nodes bench.old) (short_or_own (state_group bench.old).code all line.now) }
     ensures group { bench.new.0 ≡ bench.old.0 }
-    ensures left { OnOk result (LeavesBehind (state_group bench.old) (state_history bench.old) (state_nodes bench.old) line.now (state_history bench.new)) }
-    ensures no_instance { IsErrOf result RuleFault.NoInstance → IsShortInstance (state_group bench.old) (state_history bench.old) (state_nodes bench.old) line.now → ⊥ }
+    ensures left { OnOk result (LeavesBehind (state_group bench.old) (state_history bench.old) (state_nodes bench.old) (short_or_own (state_group bench.old).code all line.now) (state_history bench.new)) }
+    ensures no_instance { IsErrOf result RuleFault.NoInstance → IsShortInstance (state_group bench.old) (state_history bench.old) (state_nodes bench.old) (short_or_own (state_group bench.old).code all line.now) → ⊥ }
     ensures grows { Extends (state_nodes bench.old) (state_nodes bench.new) }
 {
-    bench.derive(alloc, line, &mut Steps::<L>::new(blank))
+    bench.derive_spelled(alloc, line, all, &mut Steps::<L>::new(blank))
 }
 
 impl<'g> JudgeLines<ByTable, ()> for TableBench<'g> {
@@ -176,15 +179,16 @@ impl<'g> JudgeLines<ByTable, ()> for TableBench<'g> {
         alloc: Global,
         _by: &(),
         _lines: &ByTable,
-        line: ShortLine,
+        line: SpelledShort,
     ) -> Result<bool, RuleFault> {
+        let SpelledShort { line, all } = line;
         match line {
             ShortLine::Term(n) => {
                 self.put_term(n)?;
                 Ok(false)
             }
             ShortLine::Proof(s) => {
-                self.derive(alloc, &s)?;
+                self.derive(alloc, &s, all)?;
                 Ok(true)
             }
         }

@@ -1,51 +1,62 @@
 //! The triples that short lines state, made over numbers.
 
-ghost use Rattle.std.specs.Prelude.{◌≡◌, IfOk, IfSome, IsSomeAnd, map, option_map, true};
+ghost use Rattle.std.specs.Prelude.{◌≡◌, IfOk, IfSome, IsSomeAnd, IsTrue, map, option_map, true};
 ghost use Rattle.std.specs.Option.{option_copied};
 ghost use Rattle.tailrec_lang.specs.Tree.{group_tree};
 ghost use Rattle.triple_kernel.specs.Rules.{IsDischarged, IsInst, IsStrengthened, IsWeakened};
 ghost use Rattle.frame_compose.specs.Rules.{IsComposed, IsExtended, IsFramed, further, rest_after};
 ghost use Rattle.loop_rule.specs.Rule.{IsExit};
+ghost use Rattle.proof_text.specs.Line.{code_or_own};
 ghost use Rattle.proof_text.specs.inner.OwnCode.{IsOwnCode};
 ghost use Rattle.term_arena.specs.Arena.{Extends, mem_of};
 ghost use Rattle.held_terms.specs.Held.{fact_of, register_of, side_of, triple_of};
 ghost use Rattle.held_terms.specs.Image.{IsSubAt, put_for_numbers};
-ghost use Rattle.term_bench.specs.Bench.{history_from, is_closed_in, theorem_at};
+ghost use Rattle.short_text.specs.SpelledShort.{short_or_own};
+ghost use Rattle.term_bench.specs.Bench.{held_by_number, history_from, is_closed_in, theorem_at};
 ghost use Rattle.term_bench.specs.Fine.{AreFineFacts, AreFineMems, AreFineRegisters, IsFineHeld, IsFineSide};
 ghost use Rattle.term_bench.specs.Short.{AreFineAt, IsFineShort, IsStatedBy};
 ghost use Rattle.term_bench.specs.inner.Depths.{AreDepths};
 ghost use Rattle.term_bench.specs.inner.Making.{MadeIf};
+ghost use Rattle.term_bench.specs.inner.Marks.{HaveCode};
 
 use crate::computed::{axiom, exit, put_in};
+use crate::copies::copy_to_share;
+use crate::known::{are_known, is_marked};
 use crate::making::{composed, discharged, extended, framed, strengthened, weakened};
 use crate::rules::is_closed;
-use held_terms::{Held, HeldFact, HeldSide, ImageTable};
+use held_terms::{Held, HeldFact, HeldSide, ImageTable, SharedCode};
 use rv_words::{List, NoMemory};
 use short_text::Short;
 use std::alloc::Global;
-use std::collections::BTreeMap;
+use std::collections::{BTreeMap, BTreeSet};
 use std::sync::ledger::Ledger;
 use tailrec_lang::Group;
 use term_arena::{Arena, Steps};
 use word_terms::Code;
 
-/// The triple that the line states after those theorems and closed definitions, if it is right.
+/// The triple that the line states after those theorems and closed definitions, if it is right. That of an exit shares that code, which is
+/// the group's own, and so does that of a line that extends a theorem's code where `all` stands for it.
 pub(crate) fn stated_by<L: Ledger>(
     alloc: Global,
     g: &Group,
+    code: &SharedCode,
     arena: &mut Arena,
     depths: &mut List<u8>,
     images: &mut ImageTable,
     held: &BTreeMap<u64, Held>,
+    marked: &BTreeSet<u64>,
     closed: &[bool],
     line: &Short,
+    all: bool,
     steps: &mut Steps<L>,
 ) -> Result<Option<Held>, NoMemory>
     requires code { IsOwnCode g.now.code.ranges }
+    requires shared { code.now.ranges ≡ g.now.code.ranges }
     requires held { AreFineAt arena.old held.now.entries }
-    requires line { IsFineShort arena.old line.now }
+    requires marked { HaveCode g.now.code.ranges held.now.entries marked.now }
+    requires line { IsFineShort arena.old (short_or_own g.now.code.ranges all line.now) }
     requires depths { AreDepths arena.old depths.old }
-    ensures made { IfOk result (λ o. MadeIf arena.new (IsStatedBy (group_tree g.now) (history_from 0 arena.old held.now.entries closed.now) arena.old line.now) o) }
+    ensures made { IfOk result (λ o. MadeIf arena.new (IsStatedBy (group_tree g.now) (history_from 0 arena.old held.now.entries closed.now) arena.old (short_or_own g.now.code.ranges all line.now)) o) }
     ensures grows { Extends arena.old arena.new }
     ensures depths { AreDepths arena.new depths.new }
 {
@@ -55,11 +66,13 @@ pub(crate) fn stated_by<L: Ledger>(
             alloc, arena, depths, images, held, *p, words, mems, steps,
         ),
         Short::UseExit(def, number) => {
-            by_use_exit(alloc, g, arena, depths, closed, *def, *number, steps)
+            by_use_exit(alloc, g, code, arena, depths, closed, *def, *number, steps)
         }
         Short::Frame(p, regs, mems) => by_frame(alloc, arena, held, *p, regs, mems),
-        Short::ExtendCode(p, code) => by_extend_code(alloc, arena, held, *p, code),
-        Short::Compose(p, q) => by_compose(alloc, arena, held, *p, *q),
+        Short::ExtendCode(p, more) => {
+            by_extend_code(alloc, g, code, arena, held, marked, *p, more, all)
+        }
+        Short::Compose(p, q) => by_compose(alloc, g, arena, held, marked, *p, *q),
         Short::Strengthen(p, facts, pre) => {
             by_strengthen(alloc, arena, held, *p, facts, pre, steps)
         }
@@ -75,6 +88,7 @@ fn fine_theorem<'a>(arena: &Arena, held: &'a BTreeMap<u64, Held>, k: u64) -> Opt
     requires { AreFineAt arena.now held.now.entries }
     ensures theorem { option_map (triple_of arena.now) (option_copied result) ≡ theorem_at arena.now held.now.entries k }
     ensures fine { IfSome (option_copied result) (λ h. IsFineHeld arena.now h) }
+    ensures held { option_copied result ≡ held_by_number held.now.entries k }
 {
     arena.law_of_nodes();
     held.get(&k)
@@ -120,6 +134,7 @@ fn by_inst<L: Ledger>(
 fn by_use_exit<L: Ledger>(
     alloc: Global,
     g: &Group,
+    code: &SharedCode,
     arena: &mut Arena,
     depths: &mut List<u8>,
     closed: &[bool],
@@ -128,6 +143,7 @@ fn by_use_exit<L: Ledger>(
     steps: &mut Steps<L>,
 ) -> Result<Option<Held>, NoMemory>
     requires code { IsOwnCode g.now.code.ranges }
+    requires shared { code.now.ranges ≡ g.now.code.ranges }
     requires depths { AreDepths arena.old depths.old }
     ensures made { IfOk result (λ o. MadeIf arena.new (λ t. (is_closed_in closed.now def ≡ true) × IsExit (group_tree g.now) def number t) o) }
     ensures grows { Extends arena.old arena.new }
@@ -136,7 +152,7 @@ fn by_use_exit<L: Ledger>(
     if !is_closed(closed, def) {
         return Ok(None);
     }
-    exit(alloc, arena, depths, g, def, number, steps)
+    exit(alloc, arena, depths, g, code, def, number, steps)
 }
 
 fn by_frame(
@@ -160,6 +176,54 @@ fn by_frame(
 
 fn by_extend_code(
     alloc: Global,
+    g: &Group,
+    code: &SharedCode,
+    arena: &Arena,
+    held: &BTreeMap<u64, Held>,
+    marked: &BTreeSet<u64>,
+    p: u64,
+    more: &Code,
+    all: bool,
+) -> Result<Option<Held>, NoMemory>
+    requires shared { code.now.ranges ≡ g.now.code.ranges }
+    requires held { AreFineAt arena.now held.now.entries }
+    requires marked { HaveCode g.now.code.ranges held.now.entries marked.now }
+    requires more { IsOwnCode (code_or_own g.now.code.ranges all more.now.ranges) }
+    ensures { IfOk result (λ o. MadeIf arena.now (λ t. IsSomeAnd (theorem_at arena.now held.now.entries p) (λ q. IsExtended q t × (t.code ≡ code_or_own g.now.code.ranges all more.now.ranges))) o) }
+{
+    if all {
+        by_extend_to_own(alloc, g, code, arena, held, marked, p)
+    } else {
+        by_extend_to(alloc, arena, held, p, more)
+    }
+}
+
+/// The theorem over the group's own code. Where it is marked, nothing is compared.
+fn by_extend_to_own(
+    alloc: Global,
+    g: &Group,
+    code: &SharedCode,
+    arena: &Arena,
+    held: &BTreeMap<u64, Held>,
+    marked: &BTreeSet<u64>,
+    p: u64,
+) -> Result<Option<Held>, NoMemory>
+    requires own { IsOwnCode g.now.code.ranges }
+    requires shared { code.now.ranges ≡ g.now.code.ranges }
+    requires held { AreFineAt arena.now held.now.entries }
+    requires marked { HaveCode g.now.code.ranges held.now.entries marked.now }
+    ensures { IfOk result (λ o. MadeIf arena.now (λ t. IsSomeAnd (theorem_at arena.now held.now.entries p) (λ q. IsExtended q t × (t.code ≡ g.now.code.ranges))) o) }
+{
+    let known = is_marked(g, held, marked, p);
+    match fine_theorem(arena, held, p) {
+        Some(q) => extended(alloc, arena, q, code, known),
+        None => Ok(None),
+    }
+}
+
+/// The theorem over that code.
+fn by_extend_to(
+    alloc: Global,
     arena: &Arena,
     held: &BTreeMap<u64, Held>,
     p: u64,
@@ -170,23 +234,42 @@ fn by_extend_code(
     ensures { IfOk result (λ o. MadeIf arena.now (λ t. IsSomeAnd (theorem_at arena.now held.now.entries p) (λ q. IsExtended q t × (t.code ≡ code.now.ranges))) o) }
 {
     match fine_theorem(arena, held, p) {
-        Some(q) => extended(alloc, arena, q, code),
+        Some(q) => extended_to(alloc, arena, q, code),
         None => Ok(None),
     }
 }
 
-fn by_compose(
+/// The theorem over a copy of that code.
+fn extended_to(
     alloc: Global,
     arena: &Arena,
+    p: &Held,
+    code: &Code,
+) -> Result<Option<Held>, NoMemory>
+    requires p { IsFineHeld arena.now p.now }
+    requires code { IsOwnCode code.now.ranges }
+    ensures { IfOk result (λ o. MadeIf arena.now (λ t. IsExtended (triple_of arena.now p.now) t × (t.code ≡ code.now.ranges)) o) }
+{
+    let code = copy_to_share(alloc, code)?;
+    extended(alloc, arena, p, &code, false)
+}
+
+fn by_compose(
+    alloc: Global,
+    g: &Group,
+    arena: &Arena,
     held: &BTreeMap<u64, Held>,
+    marked: &BTreeSet<u64>,
     p: u64,
     q: u64,
 ) -> Result<Option<Held>, NoMemory>
     requires held { AreFineAt arena.now held.now.entries }
+    requires marked { HaveCode g.now.code.ranges held.now.entries marked.now }
     ensures { IfOk result (λ o. MadeIf arena.now (λ t. IsSomeAnd (theorem_at arena.now held.now.entries p) (λ p. IsSomeAnd (theorem_at arena.now held.now.entries q) (λ q. IsComposed p q t))) o) }
 {
+    let known = are_known(g, held, marked, p, q);
     match fine_theorem(arena, held, p) {
-        Some(first) => composed_with(alloc, arena, held, first, q),
+        Some(first) => composed_with(alloc, arena, held, first, q, known),
         None => Ok(None),
     }
 }
@@ -197,13 +280,15 @@ fn composed_with(
     held: &BTreeMap<u64, Held>,
     first: &Held,
     q: u64,
+    known: bool,
 ) -> Result<Option<Held>, NoMemory>
     requires held { AreFineAt arena.now held.now.entries }
     requires first { IsFineHeld arena.now first.now }
+    requires known { IsTrue known → IfSome (held_by_number held.now.entries q) (λ h. first.now.code.ranges ≡ h.code.ranges) }
     ensures { IfOk result (λ o. MadeIf arena.now (λ t. IsSomeAnd (theorem_at arena.now held.now.entries q) (λ q. IsComposed (triple_of arena.now first.now) q t)) o) }
 {
     match fine_theorem(arena, held, q) {
-        Some(second) => composed(alloc, arena, first, second),
+        Some(second) => composed(alloc, arena, first, second, known),
         None => Ok(None),
     }
 }

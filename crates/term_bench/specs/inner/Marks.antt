@@ -14,6 +14,10 @@ use Rattle.term_bench.specs.Bench.{Theorems, held_by_number}
 abbrev pub HaveCode : List Range → Theorems → BTreeSet ℕ → Type 0
 HaveCode code held marked = (k : ℕ) → contains nat_cmp marked k ≡ true → IfSome (held_by_number held k) (λ h. h.code.ranges ≡ code)
 
+-- both have the same code, where there are both
+abbrev pub HaveSameCode : Option Held → Option Held → Type 0
+HaveSameCode p q = IfSome p (λ a. IfSome q (λ b. a.code.ranges ≡ b.code.ranges))
+
 -- the look-ups after a change at one number
 abbrev pub Changes : Theorems → Theorems → ℕ → Option Held → Type 0
 Changes old new k w = (q : ℕ) → held_by_number new q ≡ cond (is_at (nat_cmp k) q) w (held_by_number old q)

@@ -1,4 +1,4 @@
-use Rattle.std.proofs.Common.{ℕ, subst}
+use Rattle.std.proofs.Common.{ℕ, subst, ◌∙◌}
 use Rattle.tailrec_lang.specs.Tree.{def_tree, group_tree}
 use Rattle.tailrec_lang.specs.WellFormed.{exit_words}
 use Rattle.loop_rule.specs.Leaves.{variables_after}
@@ -25,4 +25,4 @@ returns-clause-put g c =
     let counted = subst (λ (n : ℕ). IsValuesPut n2 c.in_ok-results.results (variables_after c.len-words.result mems n mems)) c.results_at.ensures c.in_ok-results.ensures.put in
     let results = subst (λ (n : ℕ). IsValuesPut n2 c.in_ok-results.results (variables_after n mems (exit_words tree c.args.x) mems)) c.len-words.ensures counted in
     exit_put tree c.args.d (def_tree c.args.def.now) c.args.exit c.args.x n1 n2 n3 n4 c.variables-2.ensures.grows c.entry_side.ensures.grows c.exit_side.ensures.grows c.in_ok-args.args c.in_ok-results.results
-    c.in_ok-pre.pre c.in_ok-post.post c.in_ok-facts.facts c.in_ok-code.code args results c.in_ok-pre.ensures.put c.in_ok-post.ensures.put c.in_ok-facts.ensures c.in_ok-code.ensures
+    c.in_ok-pre.pre c.in_ok-post.post c.in_ok-facts.facts c.in_ok-code.code args results c.in_ok-pre.ensures.put c.in_ok-post.ensures.put c.in_ok-facts.ensures (c.in_ok-code.ensures ∙ c.requires)

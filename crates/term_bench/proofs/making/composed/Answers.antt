@@ -1,7 +1,4 @@
 use Rattle.std.proofs.Common.{List, map, subst}
-use Rattle.rv_words.specs.Ranges.{range_bytes}
-use Rattle.word_terms.specs.declared.code.Code.{Code}
-use Rattle.sep_assert.specs.Code.{Agree}
 use Rattle.held_terms.specs.Held.{fact_of}
 use Rattle.held_terms.specs.declared.held.HeldFact.{HeldFact}
 use Rattle.term_bench.specs.inner.Making.{AreFactsOfBoth}
@@ -18,8 +15,6 @@ returns c =
     let code = c.in_ok-code.code in
     let both = subst (λ (l : List HeldFact). AreFactsOfBoth (map (fact_of ns) p.facts) (map (fact_of ns) l) (map (fact_of ns) facts)) c.as_slice-2.ensures
     (subst (λ (l : List HeldFact). AreFactsOfBoth (map (fact_of ns) l) (map (fact_of ns) c.as_slice-2.result.now) (map (fact_of ns) facts)) c.as_slice.ensures c.in_ok-facts.ensures.both) in
-    let agree = subst (λ (k : Code). Agree (range_bytes k.ranges) (range_bytes q.code.ranges)) c.as_code.ensures
-    (subst (λ (k : Code). Agree (range_bytes c.as_code.result.now.ranges) (range_bytes k.ranges)) c.as_code-else-not-same_side.ensures (c.code_agree.ensures.0 c.if-not-code_agree.false)) in
     composed_made ns p q (record { facts = facts; pre = c.in_ok-pre.pre; code = code; post = c.in_ok-post.post }) c.requires.p c.requires.q
-    (c.same_side.ensures.0 c.if-not-same_side.false) agree both c.in_ok-facts.ensures.fine c.in_ok-pre.ensures c.in_ok-code.ensures.bytes
+    (c.same_side.ensures.0 c.if-not-same_side.false) (c.have_agreement.ensures.0 c.if-not-have_agreement.false) both c.in_ok-facts.ensures.fine c.in_ok-pre.ensures c.in_ok-code.ensures.bytes
     (joined_own p.code.ranges q.code.ranges code.ranges (fine_code ns p c.requires.p) (fine_code ns q c.requires.q) c.in_ok-code.ensures.ranges c.in_ok-code.ensures.bytes) c.in_ok-post.ensures

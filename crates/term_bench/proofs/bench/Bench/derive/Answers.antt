@@ -1,32 +1,21 @@
-use Rattle.std.proofs.Common.{ℕ, List, map, subst}
-use Rattle.loop_rule.specs.Rule.{IsClosedBy}
+use Rattle.std.proofs.Common.{sym, subst, OnOk}
+use Rattle.short_text.specs.declared.short.Short.{Short}
 use Rattle.term_bench.specs.Bench.{state_group, state_history, state_nodes}
-use Rattle.term_bench.proofs.StatingLemmas.{forget_left, loop_left, on_both, stated_only}
+use Rattle.term_bench.specs.Short.{IsFineShort, IsShortInstance, LeavesBehind}
+use Rattle.term_bench.proofs.OwnLines.{not_own}
 use Rattle.term_bench.proofs.bench.Bench.derive.Goals as goal
 
-pub returns-in-Loop-clause-left : goal.returns-in-Loop-clause-left
-returns-in-Loop-clause-left g c =
+pub derive_spelled-requires-clause-line : goal.derive_spelled-requires-clause-line
+derive_spelled-requires-clause-line g c =
     let old = c.args.self.now in
-    let h = state_history old in
-    let d = c.in-Loop.def in
-    let cited = c.in-Loop.cited in
-    on_both c.close.result
-    (λ i a. loop_left (state_group old) h (state_nodes old) c.args.line.now d cited _ c.in-Loop.is c.requires.line (subst (λ (l : List ℕ). IsClosedBy (state_group old) d (map h.theorem l)) c.as_slice.ensures i) a)
-    c.close.ensures.instance c.close.ensures.after
+    subst (IsFineShort (state_nodes old)) (sym (not_own (state_group old).code c.args.line.now)) c.requires.line
 
-pub returns-in-Forget-clause-left : goal.returns-in-Forget-clause-left
-returns-in-Forget-clause-left g c =
+pub returns-clause-left : goal.returns-clause-left
+returns-clause-left g c =
     let old = c.args.self.now in
-    on_both c.forget.result (λ i a. forget_left (state_group old) (state_history old) (state_nodes old) c.args.line.now c.in-Forget.k _ c.in-Forget.is c.requires.line i a) c.forget.ensures.instance c.forget.ensures.after
+    subst (λ (s : Short). OnOk c.derive_spelled.result (LeavesBehind (state_group old) (state_history old) (state_nodes old) s (state_history c.derive_spelled.new.self))) (not_own (state_group old).code c.args.line.now) c.derive_spelled.ensures.left
 
-pub returns-in_default : goal.returns-in_default
-returns-in_default g c =
+pub returns-clause-no_instance : goal.returns-clause-no_instance
+returns-clause-no_instance g c = λ e x.
     let old = c.args.self.now in
-    let triple = c.derive_triple.ensures in
-    record {
-      group = triple.group;
-      left = triple.left;
-      no_instance = λ e x. stated_only (state_group old) (state_history old) (state_nodes old) c.args.line.now c.in_default.not-Loop c.in_default.not-Forget (triple.no_instance e) x;
-      same = triple.same;
-      grows = triple.grows;
-    }
+    c.derive_spelled.ensures.no_instance e (subst (IsShortInstance (state_group old) (state_history old) (state_nodes old)) (sym (not_own (state_group old).code c.args.line.now)) x)
