@@ -236,6 +236,14 @@ def code_of_cited(n):
     return words([FENCE]), text(LEAVES[0], *tree(n, "leave 0 ;"), first, *[states("extend 0")] * n, f"loop 0 {cited}", code=words([FENCE] * n).hex()), CHECK
 
 
+@family(10_000)
+def code_of_extensions(n):
+    """n lines that extend the code of a theorem, of 4n bytes, to the group's own, which has four more."""
+    first = states(f"axiom {ENTRY} {FENCE:#x} next", covered=f"({ENTRY} {words([FENCE]).hex()})")
+    longer = states("extend 0", covered=f"({ENTRY} {words([FENCE] * n).hex()})")
+    return words([FENCE]), text(*LEAVES, first, longer, *[states("extend 1")] * n, code=words([FENCE] * (n + 1)).hex()), CHECK
+
+
 # ---- `check` of version 2, in which a line states what it computes
 
 
