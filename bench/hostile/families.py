@@ -327,6 +327,13 @@ def memories(n):
     return words([FENCE]), text(*lines, memories=1), ["eval", "PROOF", "f", "1", "mem=0x0:" + "00" * 4096]
 
 
+@family(50_000)
+def passed_code(n):
+    """The text of `code-of-lines`, of whose lines nothing is asked but where they end."""
+    code, proof, _ = code_of_lines(n)
+    return code, proof, ["eval", "PROOF", "f", "1"]
+
+
 @family(1_000_000, "NUMBER")
 def calls(n):
     """n turns in definitions each of which calls the one before it twice."""

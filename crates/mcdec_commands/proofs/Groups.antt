@@ -24,8 +24,7 @@ use Rattle.proof_text.proofs.ProofTexts.{proofs-once}
 use Rattle.mcdec_commands.specs.declared.eval.Refusal.{Refusal}
 use Rattle.mcdec_commands.specs.declared.eval.Refusal.TheVariants as refusal
 use Rattle.checker.specs.inner.Checking.{IsSameText}
-use Rattle.proof_v2.specs.declared.any_reader.AnyLine.{AnyLine}
-use Rattle.proof_v2.specs.AnyReading.{AnyState, AreLinesIn, AreTermsIn, GivesGroupAny, GivesLines, HasGivenAny, StopsGroups, StopsLines, with_lines}
+use Rattle.proof_v2.specs.AnyReading.{AnyState, AreSomeLinesIn, AreTermsIn, GivesGroupAny, GivesLines, HasGivenAny, StopsGroups, StopsLines, as_item, with_lines}
 use Rattle.proof_v2.specs.AnyText.{AnyProof, BeginsIn, ListsIn, any_lines, any_texts}
 use Rattle.proof_v2.specs.Titles.{named_version}
 use Rattle.proof_v2.proofs.AnyKnown.{any_known}
@@ -205,14 +204,14 @@ may-open [] p rest h = h
 may-open (x ∷ ps) p rest h = h
 
 module _ (g : GroupTree) (start now : AnyState) (s : Passing g start now) where
-  pub line-more : (new : AnyState) (l : AnyLine) → LineIs g now new (Ok (Some l)) → Passing g start new
-  line-more new l k = record {
+  pub line-more : (new : AnyState) → LineIs g now new (Ok true) → Passing g start new
+  line-more new k = record {
     text = same-more new.progress now.progress start.progress k.0 s.text;
     no_longer = omega (arith, k.1, s.no_longer);
     given = λ v ps p h e. let q = s.given v ps p h e in k.2 v ps q.0 q.2 q.1;
   }
 
-  pub lines-end : (new : AnyState) → LineIs g now new (Ok None) → LinesArePassed g start new (Ok tt)
+  pub lines-end : (new : AnyState) → LineIs g now new (Ok false) → LinesArePassed g start new (Ok tt)
   lines-end new k = (
     same-more new.progress now.progress start.progress k.0 s.text,
     omega (arith, k.1, s.no_longer),
@@ -237,13 +236,13 @@ module _ (g : GroupTree) (start now : AnyState) (s : Passing g start now) where
 goes-on : (g : GroupTree) (Are : (k : Known) → List (any_lines k).Line → Type 0) (old new : AnyState) → GivesLines g Are old new → GoesOnBehind g old new
 goes-on g Are old new given = λ k ps p h e. let x = given k ps p h e in (with_lines p x.0, e, x.2)
 
-pub line-answer : (g : GroupTree) (old new : AnyState) (o : Option AnyLine) → IsSameText new.progress old.progress → length new.progress.rest ≤ length old.progress.rest
-    → OnGiven {X = AnyLine} (Ok o) (λ l. GivesLines g (λ k. AreLinesIn k l) old new) → OnGiven {X = AnyLine} (Ok o) (λ _. length new.progress.rest < length old.progress.rest)
-    → OnEnd {X = AnyLine} (Ok o) (ProofEnds new.progress.rest × GivesLines g AreTermsIn old new) → LineIs g old new (Ok o)
-line-answer g old new (Some l) same no-more given fewer ends = (same, fewer, goes-on g (λ k. AreLinesIn k l) old new given)
-line-answer g old new None same no-more given fewer ends = (same, no-more, goes-on g AreTermsIn old new ends.1, ends.0)
+pub line-answer : (g : GroupTree) (old new : AnyState) (more : Bool) → IsSameText new.progress old.progress → length new.progress.rest ≤ length old.progress.rest
+    → OnGiven (as_item (Ok more)) (λ _. GivesLines g AreSomeLinesIn old new) → OnGiven (as_item (Ok more)) (λ _. length new.progress.rest < length old.progress.rest)
+    → OnEnd (as_item (Ok more)) (ProofEnds new.progress.rest × GivesLines g AreTermsIn old new) → LineIs g old new (Ok more)
+line-answer g old new true same no-more given fewer ends = (same, fewer, goes-on g AreSomeLinesIn old new given)
+line-answer g old new false same no-more given fewer ends = (same, no-more, goes-on g AreTermsIn old new ends.1, ends.0)
 
-pub line-bad : (g : GroupTree) (old new : AnyState) (f : TextFault) (line : ℕ) → f ≡ Bad line → IsSameText new.progress old.progress → OnBad {X = AnyLine} (Err f) (λ n. StopsLines g n old new)
+pub line-bad : (g : GroupTree) (old new : AnyState) (f : TextFault) (line : ℕ) → f ≡ Bad line → IsSameText new.progress old.progress → OnBad (as_item (Err f)) (λ n. StopsLines g n old new)
     → LineIs g old new (Err (refusal.Text line))
 line-bad g old new (Bad m) line e same stops =
     let is : m ≡ line = cc in
@@ -362,8 +361,3 @@ passed-exit g old new (Err y) e is h = subst (λ (x : Refusal). LinesArePassed g
 pub next-exit : (n : ℕ) (old new : AnyState) (result : Result (Option Group) Refusal) (e : Refusal) → IsErrAnd result (λ y. y ≡ e) → NextIs n old new (Err e) → NextIs n old new result
 next-exit n old new (Ok found) e is h = absurd is
 next-exit n old new (Err y) e is h = subst (λ (x : Refusal). NextIs n old new (Err x)) (sym is) h
-
--- no line more
-pub no-line : (g : GroupTree) (now new : AnyState) (o : Option AnyLine) → ((l : AnyLine) → o ≡ Some l → ⊥) → LineIs g now new (Ok o) → LineIs g now new (Ok None)
-no-line g now new None not h = h
-no-line g now new (Some l) not h = absurd (not l refl)

@@ -21,7 +21,7 @@ use mc_shelf::{Shelf, read_file};
 use mcdec_answers::{Answer, EvalAnswer, Shown};
 use mcdec_words::{Eval, Registers};
 use proof_text::TextFault;
-use proof_v2::{AnyLine, AnyReader};
+use proof_v2::AnyReader;
 use rv_words::{List, NoMemory};
 use std::alloc::Global;
 use tailrec_lang::{Args, BadDef, Group, Outcome, eval, well_formed};
@@ -145,26 +145,22 @@ fn next_group(
     }
 }
 
-/// Reads the lines of a group's proof, up to where they end.
+/// Goes past the lines of a group's proof, up to where they end.
 fn pass_lines(alloc: Global, reader: &mut AnyReader<'_>, g: &Group) -> Result<(), Refusal>
     requires { IsGroupIn (version_of reader.old.progress.version) (group_tree g.now) }
     ensures { LinesArePassed (group_tree g.now) reader.old reader.new result }
 {
-    while let Some(_) = next_line(alloc, reader, g)? {}
+    while next_line(alloc, reader, g)? {}
     Ok(())
 }
 
-/// The next line of a group's proof, or none where they end.
-fn next_line(
-    alloc: Global,
-    reader: &mut AnyReader<'_>,
-    g: &Group,
-) -> Result<Option<AnyLine>, Refusal>
+/// Goes past the next line of a group's proof, if they haven't ended.
+fn next_line(alloc: Global, reader: &mut AnyReader<'_>, g: &Group) -> Result<bool, Refusal>
     requires { IsGroupIn (version_of reader.old.progress.version) (group_tree g.now) }
     ensures { LineIs (group_tree g.now) reader.old reader.new result }
 {
-    match reader.line(alloc, g) {
-        Ok(line) => Ok(line),
+    match reader.pass_line(alloc, g) {
+        Ok(more) => Ok(more),
         Err(TextFault::Bad(number)) => Err(Refusal::Text(number)),
         Err(TextFault::NoMemory) => Err(Refusal::NoMemory),
     }

@@ -1,5 +1,5 @@
 -- What is given of a text of each version.
-use Rattle.std.proofs.Common.{◌≡◌, ℕ, ◌<◌, ◌≤◌, Bool, true, false, if◌then◌else◌, List, [], ◌∷◌, ◌++◌, length, map, Option, Some, None, Result, Ok, Err, IfSome, refl, sym, ap, subst, ◌∙◌, arith, append_assoc}
+use Rattle.std.proofs.Common.{◌≡◌, ◌↔◌, ℕ, ◌<◌, ◌≤◌, Bool, true, false, if◌then◌else◌, List, [], ◌∷◌, ◌++◌, length, map, Option, Some, None, Result, Ok, Err, IfSome, refl, sym, ap, subst, ◌∙◌, arith, append_assoc}
 use Rattle.std.specs.Prelude.{OnErr}
 use Rattle.std.specs.Result.{IsErrAnd}
 use Rattle.std.proofs.lemmas.List.{append-nil}
@@ -9,15 +9,14 @@ use Rattle.term_arena.specs.declared.node.Node.{Node}
 use Rattle.group_text.specs.declared.version.Version.{Version as Known}
 use Rattle.group_text.specs.declared.version.Version.TheVariants.{One, Two, Three, Four}
 use Rattle.group_text.specs.Version.{version_of}
-use Rattle.proof_text.specs.Line.{ProofOf, ProofTree, line_tree}
-use Rattle.proof_text.specs.declared.line.Line.{Line}
+use Rattle.proof_text.specs.Line.{LineTree, ProofOf, ProofTree, line_tree}
 use Rattle.proof_text.specs.LineGrammar.{text_over, texts_over}
 use Rattle.proof_text.specs.Proofs.{bare, texts_of_proofs_in, text_of_proofs_in}
-use Rattle.proof_text.specs.FirstProofs.{Progress, HasGiven, HasGivenOver, MayOpen, with_line}
+use Rattle.proof_text.specs.FirstProofs.{Progress, HasGiven, HasGivenOver, MayOpen, ProofEnds, with_line}
 use Rattle.group_text.specs.declared.read_error.TextFault.{TextFault}
 use Rattle.group_text.specs.declared.read_error.TextFault.TheVariants.{Bad, NoMemory}
 use Rattle.tailrec_lang.specs.declared.group.Group.{Group}
-use Rattle.proof_text.specs.Answers.{NoItem, NoItemOver, OnBad, OnEnd, OnGiven}
+use Rattle.proof_text.specs.Answers.{IsEnd, NoItem, NoItemOver, OnBad, OnEnd, OnGiven}
 use Rattle.short_text.specs.declared.short.Short.{Short}
 use Rattle.short_text.specs.declared.short.ShortLine.{ShortLine}
 use Rattle.short_text.specs.declared.short.ShortLine.TheVariants.{Term, Proof}
@@ -28,7 +27,7 @@ use Rattle.checker.specs.inner.Checking.{IsSameText}
 use Rattle.proof_v2.specs.declared.any_reader.AnyLine.{AnyLine}
 use Rattle.proof_v2.specs.declared.any_reader.AnyLine.TheVariants as any
 use Rattle.proof_v2.specs.AnyText.{AnyProof, any_lines, any_texts}
-use Rattle.proof_v2.specs.AnyReading.{AnyState, AreLinesIn, AreTermsIn, EndsAny, GivesGroupAny, GivesLines, HasGivenAny, StopsGroups, StopsLines, lines_of_last, reading_state, with_lines}
+use Rattle.proof_v2.specs.AnyReading.{AnyState, AreLinesIn, AreSomeLinesIn, AreTermsIn, EndsAny, GivesGroupAny, GivesLines, HasGivenAny, StopsGroups, StopsLines, lines_of_last, reading_state, with_lines}
 use Rattle.proof_v2.specs.inner.ShortReading.{IsOpen, Stays}
 
 pub last-behind : {L : Type 0} (ps : List (ProofOf L)) (p : ProofOf L) → lines_of_last (ps ++ p ∷ []) ≡ p.lines
@@ -46,13 +45,31 @@ no-terms Four = refl
 nothing-more : (k : Known) (ps : List (AnyProof k)) (p : AnyProof k) (s : AnyState) → HasGivenAny k (ps ++ p ∷ []) s → HasGivenAny k (ps ++ with_lines p [] ∷ []) s
 nothing-more k ps p s h = subst (λ (ls : List (any_lines k).Line). HasGivenAny k (ps ++ record { group = p.group; lines = ls } ∷ []) s) (sym (append-nil p.lines)) h
 
-pub gives-nothing : (g : GroupTree) (s : AnyState) → GivesLines g AreTermsIn s s
+gives-nothing : (g : GroupTree) (s : AnyState) → GivesLines g AreTermsIn s s
 gives-nothing g s = λ k ps p h e. ([], no-terms k, nothing-more k ps p s h)
+
+-- a line, whatever it is
+some-lines : (k : Known) (l : AnyLine) (ls : List (any_lines k).Line) → AreLinesIn k l ls → AreSomeLinesIn k ls
+some-lines One (any.One l) ls h = (line_tree l, h)
+some-lines One (any.Two s) ls h = absurd h
+some-lines Two (any.One l) ls h = absurd h
+some-lines Two (any.Two s) ls h = (s, h)
+some-lines Three (any.One l) ls h = (line_tree l, h)
+some-lines Three (any.Two s) ls h = absurd h
+some-lines Four (any.One l) ls h = (line_tree l, h)
+some-lines Four (any.Two s) ls h = absurd h
+
+pub gives-some : (g : GroupTree) (l : AnyLine) (old new : AnyState) → GivesLines g (λ k. AreLinesIn k l) old new → GivesLines g AreSomeLinesIn old new
+gives-some g l old new given = λ k ps p h e. let x = given k ps p h e in (x.0, some-lines k l x.0 x.1, x.2)
 
 -- ---- lines that state whole triples
 
 abbrev state : Progress → Option KeptLines → AnyState
 state r kept = record { progress = r; kept = kept }
+
+-- a line that states a whole triple is so, in each version that has such lines
+abbrev IsTreeSo : ((k : Known) → List (any_lines k).Line → Type 0) → LineTree → Type 0
+IsTreeSo Are t = Are One (t ∷ []) × Are Three (t ∷ []) × Are Four (t ∷ [])
 
 -- before the first group
 pub none-given : (r : Progress) (kept : KeptLines) → HasGiven [] r → AreKept kept [] → HasGivenAny r.version [] (state r (Some kept))
@@ -76,12 +93,20 @@ module _ (kept : Option KeptLines) (p : Progress) (other : p.version ≡ Two →
     whole-group-given g given Three ps h = record { version = same.1 ∙ h.version; given = given ps h.given; kept = h.kept }
     whole-group-given g given Four ps h = record { version = same.1 ∙ h.version; given = given ps h.given; kept = h.kept }
 
-    pub whole-line-given : (g : GroupTree) (l : Line) → ((ps : List ProofTree) (r : ProofTree) → HasGiven (ps ++ r ∷ []) p → r.group ≡ g → HasGiven (ps ++ with_line r (line_tree l) ∷ []) q)
-        → GivesLines g (λ k. AreLinesIn k (any.One l)) (state p kept) (state q kept)
-    whole-line-given g l given One ps r h e = (line_tree l ∷ [], refl, record { version = same.1 ∙ h.version; given = given ps r h.given e; kept = h.kept })
-    whole-line-given g l given Two ps r h e = absurd (other h.version)
-    whole-line-given g l given Three ps r h e = (line_tree l ∷ [], refl, record { version = same.1 ∙ h.version; given = given ps r h.given e; kept = h.kept })
-    whole-line-given g l given Four ps r h e = (line_tree l ∷ [], refl, record { version = same.1 ∙ h.version; given = given ps r h.given e; kept = h.kept })
+    pub whole-line-given : (g : GroupTree) (Are : (k : Known) → List (any_lines k).Line → Type 0) (t : LineTree) → IsTreeSo Are t
+        → ((ps : List ProofTree) (r : ProofTree) → HasGiven (ps ++ r ∷ []) p → r.group ≡ g → HasGiven (ps ++ with_line r t ∷ []) q) → GivesLines g Are (state p kept) (state q kept)
+    whole-line-given g Are t so given One ps r h e = (t ∷ [], so.0, record { version = same.1 ∙ h.version; given = given ps r h.given e; kept = h.kept })
+    whole-line-given g Are t so given Two ps r h e = absurd (other h.version)
+    whole-line-given g Are t so given Three ps r h e = (t ∷ [], so.1, record { version = same.1 ∙ h.version; given = given ps r h.given e; kept = h.kept })
+    whole-line-given g Are t so given Four ps r h e = (t ∷ [], so.2, record { version = same.1 ∙ h.version; given = given ps r h.given e; kept = h.kept })
+
+  -- where nothing was read
+  pub whole-line-none : (q : Progress) → q ≡ p → (g : GroupTree) → GivesLines g AreTermsIn (state p kept) (state q kept)
+  whole-line-none q same g = subst (λ (r : Progress). GivesLines g AreTermsIn (state p kept) (state r kept)) (sym same) (gives-nothing g (state p kept))
+
+  pub whole-line-end : {X : Type 0} (q : Progress) (g : GroupTree) (o : Option X) → o ≡ None → IsEnd {X = X} (Ok o) ↔ ProofEnds p.rest → OnEnd {X = X} (Ok o) (q ≡ p) → ProofEnds q.rest × GivesLines g AreTermsIn (state p kept) (state q kept)
+  whole-line-end q g (Some x) e ends same = absurd cc
+  whole-line-end q g None e ends same = (subst (λ (r : Progress). ProofEnds r.rest) (sym same) (ends.0 tt), whole-line-none q same g)
 
   pub whole-ends : ((ps : List ProofTree) → HasGiven ps p → p.text ≡ text_of_proofs_in (version_of p.version) ps) → EndsAny (state p kept)
   whole-ends ends One ps h = ends ps h.given ∙ ap (λ (v : Known). text_of_proofs_in (version_of v) ps) h.version
@@ -112,10 +137,10 @@ module _ (kept : Option KeptLines) (p : Progress) (other : p.version ≡ Two →
       same-none : (k : Known) (ps : List (AnyProof k)) (r : AnyProof k) → NoItemOver (any_lines k) (ps ++ r ∷ []) p → NoItemOver (any_lines k) (ps ++ with_lines r [] ∷ []) p
       same-none k ps r h = subst (λ (ls : List (any_lines k).Line). NoItemOver (any_lines k) (ps ++ record { group = r.group; lines = ls } ∷ []) p) (sym (append-nil r.lines)) h
 
-  pub whole-line-bad : (g : GroupTree) (f : TextFault) → OnBad {X = Line} (Err f) (λ n. (ps : List ProofTree) (r : ProofTree) → HasGiven (ps ++ r ∷ []) p → r.group ≡ g → IsBadAt (texts_of_proofs_in (version_of p.version)) p.text n)
-      → OnBad {X = Line} (Err f) (λ n. (ps : List ProofTree) (r : ProofTree) → HasGiven (ps ++ r ∷ []) p → r.group ≡ g → NoItem (ps ++ r ∷ []) p) → OnBad {X = AnyLine} (Err f) (λ n. StopsLines g n (state p kept) (state p kept))
-  whole-line-bad g (Bad n) bad none = whole-line-stops g n bad none
-  whole-line-bad g NoMemory bad none = tt
+  pub whole-line-bad : (X Y : Type 0) (q : Progress) → q ≡ p → (g : GroupTree) (f : TextFault) → OnBad {X = X} (Err f) (λ n. (ps : List ProofTree) (r : ProofTree) → HasGiven (ps ++ r ∷ []) p → r.group ≡ g → IsBadAt (texts_of_proofs_in (version_of p.version)) p.text n)
+      → OnBad {X = X} (Err f) (λ n. (ps : List ProofTree) (r : ProofTree) → HasGiven (ps ++ r ∷ []) p → r.group ≡ g → NoItem (ps ++ r ∷ []) p) → OnBad {X = Y} (Err f) (λ n. StopsLines g n (state p kept) (state q kept))
+  whole-line-bad X Y q same g (Bad n) bad none = subst (λ (r : Progress). StopsLines g n (state p kept) (state r kept)) (sym same) (whole-line-stops g n bad none)
+  whole-line-bad X Y q same g NoMemory bad none = tt
 
 -- ---- texts of version 2
 
@@ -276,6 +301,9 @@ module _ (old : AnyState) (two : old.progress.version ≡ Two) (g : GroupTree) w
               )
 
 -- ---- what is answered
+
+pub given-of : {X : Type 0} (P : X → Type 0) (o : Option X) (x : X) → o ≡ Some x → OnGiven (Ok o) P → P x
+given-of {X = X} P o x e h = subst (λ (o : Option X). OnGiven (Ok o) P) e h
 
 module _ {X : Type 0} (result : Result (Option X) TextFault) where
   pub given-so : (P Q : X → Type 0) → ((x : X) → P x → Q x) → OnGiven result P → OnGiven result Q

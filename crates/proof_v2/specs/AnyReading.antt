@@ -1,5 +1,5 @@
 -- What a reader of texts of each version has read, and what it answers.
-use Rattle.std.specs.Prelude.{◌≡◌, ℕ, Bool, List, [], ◌∷◌, ◌++◌, map, Option, Some, None, IfSome, if◌then◌else◌}
+use Rattle.std.specs.Prelude.{◌≡◌, ℕ, Bool, true, false, List, [], ◌∷◌, ◌++◌, map, Option, Some, None, Result, Ok, Err, IfSome, if◌then◌else◌}
 use Rattle.mc_text.specs.Fault.{IsBadAt}
 use Rattle.tailrec_lang.specs.Tree.{GroupTree}
 use Rattle.term_arena.specs.declared.node.Node.{Node}
@@ -7,10 +7,12 @@ use Rattle.group_text.specs.declared.version.Version.{Version as Known}
 use Rattle.group_text.specs.declared.version.Version.TheVariants.{One, Two, Three, Four}
 use Rattle.proof_text.specs.Line.{LineTree, ProofOf, line_tree}
 use Rattle.group_text.specs.Version.{version_of}
+use Rattle.group_text.specs.declared.read_error.TextFault.{TextFault}
 use Rattle.proof_text.specs.FirstProofs.{Progress, HasGivenOver, MayOpen}
 use Rattle.proof_text.specs.LineGrammar.{text_over}
 use Rattle.proof_text.specs.Proofs.{bare}
 use Rattle.proof_text.specs.Answers.{NoItemOver}
+use Rattle.short_text.specs.declared.short.Short.{Short}
 use Rattle.short_text.specs.declared.short.ShortLine.TheVariants.{Term, Proof}
 use Rattle.short_text.specs.inner.ShortReaders.{AreKept, KeptLines}
 use Rattle.proof_v2.specs.declared.any_reader.AnyLine.{AnyLine}
@@ -69,6 +71,19 @@ AreLinesIn Two (any.One l) ls = ⊥
 AreLinesIn Two (any.Two s) ls = (ns : List Node) × (ls ≡ map Term ns ++ Proof s ∷ [])
 AreLinesIn Three l ls = IsWhole l ls
 AreLinesIn Four l ls = IsWhole l ls
+
+-- .. where nothing is told of that line
+abbrev pub AreSomeLinesIn : (k : Known) → List (any_lines k).Line → Type 0
+AreSomeLinesIn One ls = (l : LineTree) × (ls ≡ l ∷ [])
+AreSomeLinesIn Two ls = (s : Short) × AreLinesIn Two (any.Two s) ls
+AreSomeLinesIn Three ls = (l : LineTree) × (ls ≡ l ∷ [])
+AreSomeLinesIn Four ls = (l : LineTree) × (ls ≡ l ∷ [])
+
+-- whether there was an item, as an answer that gives one of which nothing is told
+abbrev pub as_item : Result Bool TextFault → Result (Option (Unit {0})) TextFault
+as_item (Ok true) = Ok (Some tt)
+as_item (Ok false) = Ok None
+as_item (Err e) = Err e
 
 -- a group was given
 abbrev pub GivesGroupAny : GroupTree → AnyState → AnyState → Type 0

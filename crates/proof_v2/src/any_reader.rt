@@ -9,10 +9,10 @@ ghost use Rattle.group_text.specs.declared.version.Version.TheVariants.{Two};
 ghost use Rattle.proof_text.specs.Answers.{OnBad, OnEnd, OnGiven};
 ghost use Rattle.proof_text.specs.FirstProofs.{ProofEnds};
 ghost use Rattle.checker.specs.inner.Checking.{IsSameText};
-ghost use Rattle.proof_v2.specs.AnyReading.{AreLinesIn, AreTermsIn, EndsAny, GivesGroupAny, GivesLines, HasGivenAny, StopsGroups, StopsLines, reading_state};
+ghost use Rattle.proof_v2.specs.AnyReading.{AreLinesIn, AreSomeLinesIn, AreTermsIn, EndsAny, GivesGroupAny, GivesLines, HasGivenAny, StopsGroups, StopsLines, as_item, reading_state};
 ghost use Rattle.proof_v2.specs.Titles.{any_version};
 
-use crate::short_reading::{short_group, short_line};
+use crate::short_reading::{pass_short, short_group, short_line};
 use crate::title::{any_version, is_short};
 use group_text::{TextFault, Version};
 use proof_text::{Line, Reader};
@@ -84,8 +84,8 @@ impl<'a> AnyReader<'a> {
         }
     }
 
-    /// The next group, or none where the text ends well: to be called where the text begins, or where `line` has given
-    /// none. A fault and the end are answered again and again.
+    /// The next group, or none where the text ends well: to be called where the text begins, or where no line is left of
+    /// the last group's proof. A fault and the end are answered again and again.
     pub fn group(&mut self, alloc: Global) -> Result<Option<Group>, TextFault>
         ensures same { IsSameText self.new.progress self.old.progress }
         ensures given { OnGiven result (λ g. GivesGroupAny (group_tree g) self.old self.new) }
@@ -126,6 +126,31 @@ impl<'a> AnyReader<'a> {
             )
         } else {
             whole_line(alloc, &mut self.reader, &self.lines, self.over, group)
+        }
+    }
+
+    /// Goes past the next line of the proof of the group that was given last, without a copy of the group's own code, and
+    /// tells whether there was one. That there is none and a fault are answered again and again.
+    pub fn pass_line(&mut self, alloc: Global, group: &Group) -> Result<bool, TextFault>
+        requires { IsGroupIn (version_of self.old.progress.version) (group_tree group.now) }
+        ensures same { IsSameText self.new.progress self.old.progress }
+        ensures given { OnGiven (as_item result) (λ _. GivesLines (group_tree group.now) AreSomeLinesIn self.old self.new) }
+        ensures shorter { OnGiven (as_item result) (λ _. length self.new.progress.rest < length self.old.progress.rest) }
+        ensures end { OnEnd (as_item result) (ProofEnds self.new.progress.rest × GivesLines (group_tree group.now) AreTermsIn self.old self.new) }
+        ensures no_longer { length self.new.progress.rest ≤ length self.old.progress.rest }
+        ensures bad { OnBad (as_item result) (λ n. StopsLines (group_tree group.now) n self.old self.new) }
+        ensures fault { OnErr result (GivesLines (group_tree group.now) AreTermsIn self.old self.new) }
+    {
+        if is_short(self.version) {
+            pass_short(
+                alloc,
+                &mut self.reader,
+                &mut self.lines,
+                &mut self.over,
+                group,
+            )
+        } else {
+            pass_whole(alloc, &mut self.reader, &self.lines, self.over, group)
         }
     }
 
@@ -187,6 +212,31 @@ fn whole_line(
     match reader.line(alloc, group) {
         Ok(Some(line)) => Ok(Some(AnyLine::One(line))),
         Ok(None) => Ok(None),
+        Err(fault) => Err(fault),
+    }
+}
+
+/// Goes past the next line of a proof whose lines state whole triples.
+fn pass_whole(
+    alloc: Global,
+    reader: &mut Reader<'_>,
+    lines: &ShortLines,
+    over: bool,
+    group: &Group,
+) -> Result<bool, TextFault>
+    requires version { reader.old.version ≡ Two → ⊥ }
+    requires group { IsGroupIn (version_of reader.old.version) (group_tree group.now) }
+    ensures same { IsSameText reader.new reader.old }
+    ensures given { OnGiven (as_item result) (λ _. GivesLines (group_tree group.now) AreSomeLinesIn (reading_state reader.old lines.now over) (reading_state reader.new lines.now over)) }
+    ensures shorter { OnGiven (as_item result) (λ _. length reader.new.rest < length reader.old.rest) }
+    ensures end { OnEnd (as_item result) (ProofEnds reader.new.rest × GivesLines (group_tree group.now) AreTermsIn (reading_state reader.old lines.now over) (reading_state reader.new lines.now over)) }
+    ensures no_longer { length reader.new.rest ≤ length reader.old.rest }
+    ensures bad { OnBad (as_item result) (λ n. StopsLines (group_tree group.now) n (reading_state reader.old lines.now over) (reading_state reader.new lines.now over)) }
+    ensures fault { OnErr result (GivesLines (group_tree group.now) AreTermsIn (reading_state reader.old lines.now over) (reading_state reader.new lines.now over)) }
+{
+    match reader.spelled_line(alloc, group) {
+        Ok(Some(_line)) => Ok(true),
+        Ok(None) => Ok(false),
         Err(fault) => Err(fault),
     }
 }

@@ -11,7 +11,7 @@ ghost use Rattle.proof_text.specs.Answers.{NoItemOver, OnBad, OnEnd, OnGiven};
 ghost use Rattle.proof_text.specs.FirstProofs.{ProofEnds, with_line};
 ghost use Rattle.short_text.specs.ShortProofs.{ShortProof, short_lines, short_texts};
 ghost use Rattle.checker.specs.inner.Checking.{IsSameText};
-ghost use Rattle.proof_v2.specs.AnyReading.{AreLinesIn, AreTermsIn, EndsAny, GivesGroupAny, GivesLines, HasGivenAny, StopsGroups, StopsLines, reading_state};
+ghost use Rattle.proof_v2.specs.AnyReading.{AreLinesIn, AreSomeLinesIn, AreTermsIn, EndsAny, GivesGroupAny, GivesLines, HasGivenAny, StopsGroups, StopsLines, as_item, reading_state};
 ghost use Rattle.proof_v2.specs.inner.ShortReading.{IsOpen, Stays};
 
 use crate::any_reader::AnyLine;
@@ -80,6 +80,33 @@ pub(crate) fn short_line(
         }
     }
     Ok(None)
+}
+
+/// Goes past the next line of a proof, and the terms that stand before it.
+pub(crate) fn pass_short(
+    alloc: Global,
+    reader: &mut Reader<'_>,
+    lines: &mut ShortLines,
+    over: &mut bool,
+    group: &Group,
+) -> Result<bool, TextFault>
+    requires version { reader.old.version ≡ Two }
+    requires open { IsOpen reader.old lines.old over.old }
+    requires group { IsGroupIn (version_of reader.old.version) (group_tree group.now) }
+    ensures open { IsOpen reader.new lines.new over.new }
+    ensures same { IsSameText reader.new reader.old }
+    ensures given { OnGiven (as_item result) (λ _. GivesLines (group_tree group.now) AreSomeLinesIn (reading_state reader.old lines.old over.old) (reading_state reader.new lines.new over.new)) }
+    ensures shorter { OnGiven (as_item result) (λ _. length reader.new.rest < length reader.old.rest) }
+    ensures end { OnEnd (as_item result) (ProofEnds reader.new.rest × GivesLines (group_tree group.now) AreTermsIn (reading_state reader.old lines.old over.old) (reading_state reader.new lines.new over.new)) }
+    ensures no_longer { length reader.new.rest ≤ length reader.old.rest }
+    ensures bad { OnBad (as_item result) (λ n. StopsLines (group_tree group.now) n (reading_state reader.old lines.old over.old) (reading_state reader.new lines.new over.new)) }
+    ensures fault { OnErr result (GivesLines (group_tree group.now) AreTermsIn (reading_state reader.old lines.old over.old) (reading_state reader.new lines.new over.new)) }
+{
+    match short_line(alloc, reader, lines, over, group) {
+        Ok(Some(_line)) => Ok(true),
+        Ok(None) => Ok(false),
+        Err(fault) => Err(fault),
+    }
 }
 
 /// The next term of a table or line of a proof.

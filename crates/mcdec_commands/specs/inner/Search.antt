@@ -1,5 +1,5 @@
 -- What is found in the text of a proof file, group by group, and what evaluation of a group's function comes to.
-use Rattle.std.specs.Prelude.{◌≡◌, ℕ, List, [], ◌∷◌, ◌++◌, ◌-◌, ◌<◌, ◌≤◌, bytes_eq, find, length, Option, Some, None, Result, Ok, Err}
+use Rattle.std.specs.Prelude.{◌≡◌, ℕ, Bool, true, false, List, [], ◌∷◌, ◌++◌, ◌-◌, ◌<◌, ◌≤◌, bytes_eq, find, length, Option, Some, None, Result, Ok, Err}
 use Rattle.std.specs.List.{AllByRecursion}
 use Rattle.mc_text.specs.Fault.{IsBadAt}
 use Rattle.group_text.specs.declared.version.Version.{Version as Known}
@@ -16,7 +16,6 @@ use Rattle.proof_text.specs.Answers.{NoItemOver}
 use Rattle.checker.specs.inner.Checking.{IsSameText}
 use Rattle.proof_v2.specs.AnyReading.{AnyState, HasGivenAny}
 use Rattle.proof_v2.specs.AnyText.{AnyProof, BeginsIn, any_lines, any_texts}
-use Rattle.proof_v2.specs.declared.any_reader.AnyLine.{AnyLine}
 use Rattle.mcdec_commands.specs.declared.eval.Refusal.{Refusal}
 use Rattle.mcdec_commands.specs.declared.eval.Refusal.TheVariants as refusal
 use Rattle.mcdec_answers.specs.declared.answer.EvalAnswer.{EvalAnswer}
@@ -41,10 +40,10 @@ abbrev pub GoesOnBehind : GroupTree → AnyState → AnyState → Type 0
 GoesOnBehind g old new = (k : Known) (ps : List (AnyProof k)) (p : AnyProof k) → HasGivenAny k (ps ++ p ∷ []) old → p.group ≡ g
     → (q : AnyProof k) × (q.group ≡ g) × HasGivenAny k (ps ++ q ∷ []) new
 
--- the next line of a group's proof, or why there is none
-abbrev pub LineIs : GroupTree → AnyState → AnyState → Result (Option AnyLine) Refusal → Type 0
-LineIs g old new (Ok None) = IsSameText new.progress old.progress × (length new.progress.rest ≤ length old.progress.rest) × GoesOnBehind g old new × ProofEnds new.progress.rest
-LineIs g old new (Ok (Some l)) = IsSameText new.progress old.progress × (length new.progress.rest < length old.progress.rest) × GoesOnBehind g old new
+-- whether there was a next line of a group's proof, or why none can be read
+abbrev pub LineIs : GroupTree → AnyState → AnyState → Result Bool Refusal → Type 0
+LineIs g old new (Ok false) = IsSameText new.progress old.progress × (length new.progress.rest ≤ length old.progress.rest) × GoesOnBehind g old new × ProofEnds new.progress.rest
+LineIs g old new (Ok true) = IsSameText new.progress old.progress × (length new.progress.rest < length old.progress.rest) × GoesOnBehind g old new
 LineIs g old new (Err (refusal.Text line)) = IsSameText new.progress old.progress
     × ((k : Known) (ps : List (AnyProof k)) (p : AnyProof k) → HasGivenAny k (ps ++ p ∷ []) old → p.group ≡ g
     → IsBadAt (any_texts k) old.progress.text line × (q : AnyProof k) × (q.group ≡ g) × HasGivenAny k (ps ++ q ∷ []) new × NoItemOver (any_lines k) (ps ++ q ∷ []) new.progress)

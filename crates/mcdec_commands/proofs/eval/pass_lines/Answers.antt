@@ -1,5 +1,7 @@
+use Rattle.std.proofs.Common.{Bool, Ok, subst}
 use Rattle.tailrec_lang.specs.Tree.{group_tree}
-use Rattle.mcdec_commands.proofs.Groups.{lines-end, lines-stop, no-line, passed-exit}
+use Rattle.mcdec_commands.specs.inner.Search.{LineIs}
+use Rattle.mcdec_commands.proofs.Groups.{lines-end, lines-stop, passed-exit}
 use Rattle.mcdec_commands.proofs.eval.pass_lines.Goals as goal
 
 pub returns-in_err-next_line : goal.returns-in_err-next_line
@@ -11,4 +13,4 @@ returns-in_err-next_line c =
 pub returns : goal.returns
 returns c =
     lines-end (group_tree c.args.g.now) c.args.reader.now c.loop.reader c.loop.invariant c.next_line.new.reader
-    (no-line (group_tree c.args.g.now) c.loop.reader c.next_line.new.reader c.in_ok-next_line.field-0 c.in_default.not-Some c.in_ok-next_line.ensures)
+    (subst (λ (more : Bool). LineIs (group_tree c.args.g.now) c.loop.reader c.next_line.new.reader (Ok more)) c.if-branch.false c.in_ok-next_line.ensures)
