@@ -253,11 +253,19 @@ def short_text(terms, lines, code=TURN.hex()):
     return "\n".join([*head, *(f"term {it}" for it in terms), f"axiom {ENTRY} {jump(0):#x} next", *lines, "end", ""])
 
 
-@family(2000)
+@family(50_000)
 def code_of_short_lines(n):
     """n lines that extend a theorem to a group's code of 4n bytes, of which each is forgotten."""
     lines = [f"extend 0 code all\nforget {i + 1}" for i in range(n)]
     return TURN, short_text([], lines, (TURN * n).hex()), CHECK
+
+
+@family(20_000)
+def growing_code(n):
+    """n instructions that are composed, one after the other: each line states the code of all before it."""
+    steps = [f"axiom {BASE + 4 * i:#x} {FENCE:#x} next" for i in range(n)]
+    lines = [f"{step}\ncompose {2 * i} {2 * i + 1}\nforget {2 * i}\nforget {2 * i + 1}" for i, step in enumerate(steps[1:])]
+    return words([FENCE]), short_text([], lines, words([FENCE] * n).hex()).replace(f"{jump(0):#x}", f"{FENCE:#x}"), CHECK
 
 
 @family(500)
