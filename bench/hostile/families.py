@@ -78,13 +78,13 @@ LOOP = states(f"axiom {ENTRY} {jump(0):#x} next", behind=ENTRY)
 # ---- `check`: leaves of bodies, and theorems cited for them
 
 
-@family(20_000)
+@family(40_000)
 def leaves(n):
     """n leaves behind n steps, each with a theorem."""
     return TURN, text(AGAIN, *["let 0x0"] * n, *tree(n, "again ;"), LOOP, "loop 0" + " 0" * n, code=TURN.hex()), CHECK
 
 
-@family(20_000)
+@family(80_000)
 def leaves_refused(n):
     """The same, and no theorem is cited."""
     return TURN, text(AGAIN, *["let 0x0"] * n, *tree(n, "again ;"), LOOP, "loop 0", code=TURN.hex()), CHECK
@@ -117,7 +117,7 @@ def facts_of_blocks(n):
     return TURN, text(*lines, code=TURN.hex()), CHECK
 
 
-@family(20_000)
+@family(40_000)
 def code_of_leaves(n):
     """n leaves, each with a theorem of code of 4n bytes."""
     covered = f"({ENTRY} {TURN.hex()})"
@@ -128,14 +128,14 @@ def code_of_leaves(n):
 # ---- `check`: facts
 
 
-@family(4000)
+@family(32_000)
 def weakened_facts(n):
     """A line of n facts, behind another of the same."""
     facts = each(n, "(is v{0} 0x0)")
     return words([FENCE]), text(*LEAVES, STEP, states("weaken 0", facts), states("weaken 1", facts)), CHECK
 
 
-@family(4000)
+@family(32_000)
 def composed_facts(n):
     """Two theorems of n facts each, one after the other."""
     two = words([FENCE, FENCE])
@@ -180,7 +180,7 @@ def one_form(n):
     return words([FENCE]), text(*LEAVES, STEP, states("weaken 0", facts), states("discharge 1", f"(is v0 0x0) {others}")), CHECK
 
 
-@family(4000)
+@family(32_000)
 def swapped_terms(n):
     """n terms that are swapped by n equations."""
     old, new = each(n, "(st1 m0 v{0} v0)"), each(n, "(st1 m0 0x0 0x0)")
@@ -188,21 +188,21 @@ def swapped_terms(n):
     return words([FENCE]), text(*LEAVES, STEP, *lines), CHECK
 
 
-@family(8000)
+@family(64_000)
 def instances(n):
     """n terms for variables, in n facts."""
     facts, pairs = " ".join([f"(is v{n - 1} 0x0)"] * n), each(n, "(v{0} v{0})")
     return words([FENCE]), text(*LEAVES, STEP, states("weaken 0", facts), states(f"inst 1 {pairs}", facts)), CHECK
 
 
-@family(8000)
+@family(64_000)
 def listed_variables(n):
     """n terms for variables, in n facts, each of another variable."""
     facts, pairs = each(n, "(is v{0} 0x0)"), each(n, "(v{0} v{0})")
     return words([FENCE]), text(*LEAVES, STEP, states("weaken 0", facts), states(f"inst 1 {pairs}", facts)), CHECK
 
 
-@family(8000)
+@family(64_000)
 def crowded_constants(n):
     """n constants that all fall into one slot of the table of terms."""
     inverse = pow(11400714819323198485, -1, 1 << 64)
@@ -213,14 +213,14 @@ def crowded_constants(n):
 # ---- `check`: code, theorems, groups
 
 
-@family(50_000)
+@family(100_000)
 def code_of_theorems(n):
     """n theorems of a group's code of 4n bytes, all kept."""
     first = states(f"axiom {ENTRY} {FENCE:#x} next", covered=f"({ENTRY} {words([FENCE]).hex()})")
     return words([FENCE]), text(*LEAVES, first, *[states("extend 0")] * n, code=words([FENCE] * n).hex()), CHECK
 
 
-@family(50_000)
+@family(100_000)
 def code_of_lines(n):
     """n compositions over a group's code of 4n bytes, each forgotten."""
     first = states(f"axiom {ENTRY} {jump(0):#x} next", covered=f"({ENTRY} {TURN.hex()})", behind=ENTRY)
@@ -228,7 +228,7 @@ def code_of_lines(n):
     return TURN, text(AGAIN, "again ;", first, states("extend 0", behind=ENTRY), *composed, code=(TURN * n).hex()), CHECK
 
 
-@family(1 << 14)
+@family(1 << 15)
 def code_of_cited(n):
     """n theorems of a group's code of 4n bytes, each cited for a leaf."""
     first = states(f"axiom {ENTRY} {FENCE:#x} next", covered=f"({ENTRY} {words([FENCE]).hex()})")
@@ -253,7 +253,7 @@ def short_text(terms, lines, code=TURN.hex()):
     return "\n".join([*head, *(f"term {it}" for it in terms), f"axiom {ENTRY} {jump(0):#x} next", *lines, "end", ""])
 
 
-@family(50_000)
+@family(100_000)
 def code_of_short_lines(n):
     """n lines that extend a theorem to a group's code of 4n bytes, of which each is forgotten."""
     lines = [f"extend 0 code all\nforget {i + 1}" for i in range(n)]
@@ -321,7 +321,7 @@ def ranges(n):
 # ---- `eval`
 
 
-@family(50_000)
+@family(400_000)
 def skipped_arm(n):
     """A thousand turns past an arm of n side conditions."""
     body = ["if (eq 0x0 0x1)", *["need (eq 0x0 0x0)"] * n, "again ;", "else", "again ;"]
@@ -335,7 +335,7 @@ def memories(n):
     return words([FENCE]), text(*lines, memories=1), ["eval", "PROOF", "f", "1", "mem=0x0:" + "00" * 4096]
 
 
-@family(50_000)
+@family(100_000)
 def passed_code(n):
     """The text of `code-of-lines`, of whose lines nothing is asked but where they end."""
     code, proof, _ = code_of_lines(n)
@@ -362,7 +362,7 @@ def certified(body):
     return words([FENCE]), proof, ["laws", "PROOF", "CERT"], 0, f"mclaws 1\n{group}" + "\n".join(result)
 
 
-@family(20_000, "CERT")
+@family(40_000, "CERT")
 def steps_of_a_certificate(n):
     """n steps, each of which rewrites another term of a body of n steps."""
     return certified(["let (add v0 0x0)"] * n + ["leave 0 v0 ;"])
