@@ -129,8 +129,8 @@ impl<'a> AnyReader<'a> {
         }
     }
 
-    /// Goes past the next line of the proof of the group that was given last, without a copy of the group's own code, and
-    /// tells whether there was one. That there is none and a fault are answered again and again.
+    /// Goes past the next line of the proof of the group that was given last, and tells whether there was one. That there is
+    /// none and a fault are answered again and again. Of a line that states a whole triple the group's own code isn't copied.
     pub fn pass_line(&mut self, alloc: Global, group: &Group) -> Result<bool, TextFault>
         requires { IsGroupIn (version_of self.old.progress.version) (group_tree group.now) }
         ensures same { IsSameText self.new.progress self.old.progress }
