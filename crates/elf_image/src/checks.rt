@@ -8,6 +8,10 @@ ghost use Rattle.elf_image.specs.inner.Faults.{cut_header, loads_faults};
 
 use crate::fault::ElfFault;
 use crate::header::{ProgramHeader, double_at, half_at};
+use crate::numbers::{
+    E_MACHINE, E_PHENTSIZE, E_PHNUM, E_PHOFF, E_TYPE, EI_CLASS, EI_DATA, ELFCLASS64, ELFDATA2LSB,
+    ELFMAG, EM_RISCV, ET_DYN, ET_EXEC, HEADER_SIZE, PROGRAM_HEADER_SIZE,
+};
 
 /// How many PT_LOADs a file that is read has at most.
 const LOAD_LIMIT: usize = 64;
@@ -19,29 +23,29 @@ const MEMORY_LIMIT: u128 = 1_073_741_824;
 pub fn header_fault(file: &[u8]) -> Option<ElfFault>
     ensures { result ≡ first (header_faults file.now) }
 {
-    if !file.starts_with(b"\x7fELF") {
+    if !file.starts_with(ELFMAG) {
         return Some(ElfFault::NotElf);
     }
-    if file.len() < 64 {
+    if file.len() < HEADER_SIZE {
         return Some(ElfFault::Cut(0));
     }
-    if file[4] != 2 {
+    if file[EI_CLASS] != ELFCLASS64 {
         return Some(ElfFault::Class);
     }
-    if file[5] != 1 {
+    if file[EI_DATA] != ELFDATA2LSB {
         return Some(ElfFault::Order);
     }
-    let kind = half_at(file, 16);
-    if kind != 2 && kind != 3 {
+    let kind = half_at(file, E_TYPE);
+    if kind != ET_EXEC && kind != ET_DYN {
         return Some(ElfFault::Kind(u64::from(kind)));
     }
-    let machine = half_at(file, 18);
-    if machine != 243 {
+    let machine = half_at(file, E_MACHINE);
+    if machine != EM_RISCV {
         return Some(ElfFault::Machine(u64::from(machine)));
     }
-    let entry_size = half_at(file, 54);
-    if half_at(file, 56) != 0 && entry_size != 56 {
-        return Some(ElfFault::Entry(u64::from(entry_size)));
+    let entry_size = u64::from(half_at(file, E_PHENTSIZE));
+    if half_at(file, E_PHNUM) != 0 && entry_size != PROGRAM_HEADER_SIZE {
+        return Some(ElfFault::Entry(entry_size));
     }
     None
 }
@@ -67,7 +71,8 @@ pub fn table_fault(file: &[u8]) -> Option<ElfFault>
     requires { 64 ≤ length file.now }
     ensures { result ≡ first (map (cut_header file.now) (range_with_len 0 (header_count file.now))) }
 {
-    first_cut(file, double_at(file, 32), 56, u64::from(half_at(file, 56)))
+    let count = u64::from(half_at(file, E_PHNUM));
+    first_cut(file, double_at(file, E_PHOFF), PROGRAM_HEADER_SIZE, count)
 }
 
 /// The fault of one PT_LOAD by itself.

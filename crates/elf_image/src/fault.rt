@@ -25,7 +25,8 @@ pub enum ElfFault {
     /// Its machine, which isn't RISC-V.
     #[error("machine {0}")]
     Machine(u64),
-    /// The offset from which on bytes are missing.
+    /// The offset at which a header, or what a header places, begins that doesn't lie in the file as a whole: 0 for the
+    /// file's own header, 2^64 - 1 for what begins beyond that.
     #[error("cut {0}")]
     Cut(u64),
     /// The indices of two PT_LOADs that share an address.

@@ -3,6 +3,7 @@
 ghost use Rattle.std.specs.Prelude.{◌≡◌, ◌+◌, ◌*◌, ◌≤◌, length};
 ghost use Rattle.elf_image.specs.Header.{header_at, header_place, number_at};
 
+use crate::numbers::{E_PHOFF, PROGRAM_HEADER_SIZE};
 use byteorder::{ByteOrder, LittleEndian};
 
 /// What is read of a program header, and its offset in the table.
@@ -50,7 +51,7 @@ pub fn read_header(file: &[u8], index: u64) -> ProgramHeader
     requires whole { header_place file.now index + 56 ≤ length file.now }
     ensures { result ≡ header_at file.now index }
 {
-    let offset = (double_at(file, 32) + 56 * index) as usize;
+    let offset = (double_at(file, E_PHOFF) + PROGRAM_HEADER_SIZE * index) as usize;
     ProgramHeader {
         index,
         kind: word_at(file, offset),

@@ -17,6 +17,7 @@ mod fault;
 mod header;
 mod image;
 mod laws;
+mod numbers;
 mod reader;
 mod section;
 mod section_checks;

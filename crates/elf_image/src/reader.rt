@@ -12,6 +12,7 @@ use crate::checks::{header_fault, loads_fault, table_fault};
 use crate::fault::ElfFault;
 use crate::header::{ProgramHeader, half_at, read_header};
 use crate::image::{Image, Piece};
+use crate::numbers::{E_PHNUM, PT_LOAD, SYMBOL_SIZE};
 use crate::section::{SectionHeader, SymbolEntry, find_symbol_table, read_entry, read_section};
 use crate::section_checks::section_fault;
 use crate::symbol::Symbols;
@@ -25,10 +26,10 @@ fn read_loads(alloc: Global, file: &[u8]) -> Result<Vec<ProgramHeader>, NoMemory
     ensures { IfOk result (λ headers. headers.items ≡ loads file.now) }
 {
     let mut headers = Vec::new(alloc);
-    let count = u64::from(half_at(file, 56));
+    let count = u64::from(half_at(file, E_PHNUM));
     for i in 0..count {
         let header = read_header(file, i);
-        if header.kind == 1 {
+        if header.kind == PT_LOAD {
             headers.push(header)?;
         }
     }
@@ -98,7 +99,7 @@ fn read_functions(
     requires { table.now.offset + table.now.size ≤ length file.now }
     ensures { IfOk result (λ list. list ≡ functions file.now table.now) }
 {
-    let count = table.size / 24;
+    let count = table.size / SYMBOL_SIZE;
     let mut entries = Vec::with_capacity(alloc, count as usize)?;
     for i in 0..count {
         let entry = read_entry(file, table, i);

@@ -8,6 +8,9 @@ ghost use Rattle.elf_image.specs.Symbol.{entry_at};
 ghost use Rattle.elf_image.specs.inner.Faults.{cut_section};
 
 use crate::header::{double_at, half_at, word_at};
+use crate::numbers::{
+    E_SHNUM, E_SHOFF, SECTION_HEADER_SIZE, SHN_UNDEF, SHT_SYMTAB, STT_FUNC, SYMBOL_SIZE,
+};
 
 /// What is read of a section header.
 #[derive(Clone, Copy, Debug)]
@@ -35,7 +38,7 @@ impl SymbolEntry {
     pub fn is_function(&self) -> bool
         ensures { result ≡ is_function self.now }
     {
-        self.info % 16 == 2 && self.section != 0
+        self.info % 16 == STT_FUNC && self.section != SHN_UNDEF
     }
 }
 
@@ -44,10 +47,10 @@ pub fn count_sections(file: &[u8]) -> u64
     requires { 64 ≤ length file.now }
     ensures { result ≡ section_count file.now }
 {
-    if double_at(file, 40) == 0 {
+    if double_at(file, E_SHOFF) == 0 {
         return 0;
     }
-    u64::from(half_at(file, 60))
+    u64::from(half_at(file, E_SHNUM))
 }
 
 /// Section header `index`.
@@ -56,7 +59,7 @@ pub fn read_section(file: &[u8], index: u64) -> SectionHeader
     requires whole { section_place file.now index + 64 ≤ length file.now }
     ensures { result ≡ section_at file.now index }
 {
-    let offset = (double_at(file, 40) + 64 * index) as usize;
+    let offset = (double_at(file, E_SHOFF) + SECTION_HEADER_SIZE * index) as usize;
     SectionHeader {
         kind: word_at(file, offset + 4),
         offset: double_at(file, offset + 24),
@@ -75,7 +78,7 @@ pub fn find_symbol_table(file: &[u8]) -> Option<SectionHeader>
     let count = count_sections(file);
     for i in 0..count {
         let section = read_section(file, i);
-        if section.kind == 2 {
+        if section.kind == SHT_SYMTAB {
             return Some(section);
         }
     }
@@ -88,7 +91,7 @@ pub fn read_entry(file: &[u8], table: &SectionHeader, index: u64) -> SymbolEntry
     requires whole { index < table.now.size / 24 }
     ensures { result ≡ entry_at file.now table.now index }
 {
-    let offset = (table.offset + 24 * index) as usize;
+    let offset = (table.offset + SYMBOL_SIZE * index) as usize;
     SymbolEntry {
         name: word_at(file, offset),
         info: file[offset + 4],

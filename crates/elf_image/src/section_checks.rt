@@ -10,6 +10,7 @@ ghost use Rattle.elf_image.specs.inner.Faults.{cut_section};
 use crate::checks::first_cut;
 use crate::fault::ElfFault;
 use crate::header::{double_at, half_at};
+use crate::numbers::{E_SHENTSIZE, E_SHOFF, SECTION_HEADER_SIZE, SYMBOL_SIZE};
 use crate::section::{SectionHeader, count_sections, find_symbol_table, read_entry, read_section};
 
 /// The first fault that the sections show.
@@ -17,9 +18,9 @@ pub fn section_fault(file: &[u8]) -> Option<ElfFault>
     requires { 64 ≤ length file.now }
     ensures { result ≡ first (section_faults file.now) }
 {
-    let entry_size = half_at(file, 58);
-    if count_sections(file) != 0 && entry_size != 64 {
-        return Some(ElfFault::Entry(u64::from(entry_size)));
+    let entry_size = u64::from(half_at(file, E_SHENTSIZE));
+    if count_sections(file) != 0 && entry_size != SECTION_HEADER_SIZE {
+        return Some(ElfFault::Entry(entry_size));
     }
     if let Some(fault) = sections_fault(file) {
         return Some(fault);
@@ -33,7 +34,8 @@ fn sections_fault(file: &[u8]) -> Option<ElfFault>
     requires { 64 ≤ length file.now }
     ensures { result ≡ first (map (cut_section file.now) (range_with_len 0 (section_count file.now))) }
 {
-    first_cut(file, double_at(file, 40), 64, count_sections(file))
+    let table = double_at(file, E_SHOFF);
+    first_cut(file, table, SECTION_HEADER_SIZE, count_sections(file))
 }
 
 /// The first fault of a symbol table and of its string table.
@@ -42,7 +44,7 @@ fn symbols_fault(file: &[u8], table: &SectionHeader) -> Option<ElfFault>
     requires whole { first (map (cut_section file.now) (range_with_len 0 (section_count file.now))) ≡ None }
     ensures { result ≡ first (symbol_faults file.now table.now) }
 {
-    if table.entry_size != 24 {
+    if table.entry_size != SYMBOL_SIZE {
         return Some(ElfFault::Entry(table.entry_size));
     }
     if let Some(fault) = bytes_fault(file, table) {
@@ -80,7 +82,7 @@ fn has_endless_name(file: &[u8], table: &SectionHeader, strings: &[u8]) -> bool
     ensures { result ≡ list_any (λ e. not (is_ended strings.now e.name)) (functions file.now table.now) }
 {
     let end = end_of_strings(strings);
-    for i in 0..table.size / 24 {
+    for i in 0..table.size / SYMBOL_SIZE {
         let entry = read_entry(file, table, i);
         if entry.is_function() && entry.name as usize >= end {
             return true;

@@ -18,5 +18,5 @@ loop-i-preserved c =
     let file = c.args.file.now in
     let i = c.loop-i.i in
     let section = c.read_section-section in
-    let other : ((section_at file i).kind == 2) ≡ false = (λ j. (sym section.ensures j).kind == 2) ∙ ne_eqb section.result.kind 2 c.if-section-eq2.false in
+    let other : ((section_at file i).kind == 2) ≡ false = (λ j. (sym section.ensures j).kind == 2) ∙ ne_eqb section.result.kind 2 c.if-section-eq-SHT_SYMTAB.false in
     sym (found_later (λ s. s.kind == 2) (section_at file) i c.count_sections-count.result c.loop-i-test.true other) ∙ c.loop-i.invariant
