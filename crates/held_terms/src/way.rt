@@ -7,11 +7,10 @@ ghost use Rattle.held_terms.specs.Held.{AreFactsAt, IsFactAt, fact_of};
 ghost use Rattle.held_terms.specs.inner.Numbers.{numbers_of};
 ghost use Rattle.held_terms.specs.inner.Ways.{HasPlace, IsIndexed, IsPlaced, found_at};
 
-use crate::facts::{FEW, numbers_of};
+use crate::facts::{FEW_FACTS, numbers_of};
 use crate::held::HeldFact;
 use crate::missing::is_at;
 use crate::same::same_fact;
-use loop_rule::shorten;
 use rv_words::{List, NoMemory};
 use std::alloc::Global;
 use std::collections::BTreeMap;
@@ -74,7 +73,7 @@ impl Way {
     pub fn shorten(&mut self, length: usize)
         ensures { self.new ≡ take length self.old }
     {
-        shorten(&mut self.facts, length);
+        self.facts.truncate(length);
         self.indexed = self.indexed.min(length);
     }
 
@@ -83,7 +82,7 @@ impl Way {
         requires { AreFactsAt arena.now self.old }
         ensures { self.new ≡ self.old }
     {
-        if self.facts.len() > FEW {
+        if self.facts.len() > FEW_FACTS {
             self.indexed = add_places(
                 self.alloc,
                 arena,

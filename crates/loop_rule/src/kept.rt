@@ -1,6 +1,6 @@
 //! Leaves that are judged by theorems in a list.
 
-ghost use Rattle.std.specs.Prelude.{◌≡◌, ◌↔◌, IsTrue, map, take};
+ghost use Rattle.std.specs.Prelude.{◌≡◌, ◌↔◌, IsTrue, map};
 ghost use Rattle.tailrec_lang.specs.Tree.{def_tree, group_tree};
 ghost use Rattle.triple_kernel.specs.Tree.{fact_tree, triple_tree};
 ghost use Rattle.triple_kernel.specs.Valid.{Valid};
@@ -40,7 +40,7 @@ impl<'a, 'g> JudgeLeaves for KeptLeaves<'a, 'g> {
     }
 
     fn shorten(&mut self, length: usize) {
-        shorten(&mut self.way, length);
+        self.way.truncate(length);
     }
 
     fn is_led(&mut self, _alloc: Global, post: &Assertion, number: u64) -> Result<bool, NoMemory> {
@@ -63,13 +63,4 @@ fn leads<'g>(k: &KeptLeaves<'_, 'g>, post: &Assertion, t: &Thm<'g>) -> bool
         && same_assertion(&p.post, post)
         && are_among(p.facts.as_slice(), k.way.as_slice())
         && code_within(&p.code, &k.group.code)
-}
-
-/// Drops the last items, up to that many.
-pub fn shorten<T: Drop>(list: &mut List<T>, length: usize)
-    ensures { list.new ≡ take length list.old }
-{
-    while list.len() > length {
-        let _ = list.pop();
-    }
 }

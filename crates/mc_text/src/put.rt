@@ -59,17 +59,7 @@ pub fn put_atom(out: &mut Bytes, atom: &[u8]) -> Result<(), NoMemory>
     ensures ok { OnOk result (out.new ≡ out.old ++ atom.now) }
     ensures err { OnErr result (out.new ≡ out.old) }
 {
-    let start = out.len();
-    for byte in atom {
-        match out.push(*byte) {
-            Ok(()) => {}
-            Err(NoMemory) => {
-                shorten(out, start);
-                return Err(NoMemory);
-            }
-        }
-    }
-    Ok(())
+    out.extend_from_slice(atom)
 }
 
 /// Appends two lower-case hexadecimal digits for each byte.
@@ -82,7 +72,7 @@ pub fn put_bytes(out: &mut Bytes, bytes: &[u8]) -> Result<(), NoMemory>
         match put_atom(out, &digit_pair(*byte)) {
             Ok(()) => {}
             Err(NoMemory) => {
-                shorten(out, start);
+                out.truncate(start);
                 return Err(NoMemory);
             }
         }
@@ -98,14 +88,5 @@ pub fn digit_pair(byte: u8) -> [u8; 2]
     match hex::encode_to_slice([byte], &mut pair) {
         Ok(()) => pair,
         Err(_) => unreachable!(),
-    }
-}
-
-/// Takes items off the end until no more are left than that.
-fn shorten(out: &mut Bytes, count: usize)
-    ensures { out.new ≡ take count out.old }
-{
-    while out.len() > count {
-        let _ = out.pop();
     }
 }

@@ -1,6 +1,6 @@
 //! A list that contracts see as the list of its items, whatever its capacity and its place in memory.
 
-ghost use Rattle.std.specs.Prelude.{◌≡◌, ◌<◌, ◌∷◌, ◌++◌, [], length, slice_get, slice_set, option_to_list, ◌↔◌, IsTrue, IfNone, OnOk, OnErr, IfOk};
+ghost use Rattle.std.specs.Prelude.{◌≡◌, ◌<◌, ◌∷◌, ◌++◌, [], length, slice_get, slice_set, take, option_to_list, ◌↔◌, IsTrue, IfNone, OnOk, OnErr, IfOk};
 ghost use Rattle.std.specs.Option.{option_copied};
 
 use crate::memory::NoMemory;
@@ -16,7 +16,7 @@ pub struct List<T> {
 /// Bytes of a file, a text or a piece of code.
 pub type Bytes = List<u8>;
 
-/// The bytes of a name: 1 to 4,096 bytes from 0x21 to 0x7e, none of them `(`, `)` or `;`.
+/// The bytes of a name. Texts have names of 1 to 4,096 bytes from 0x21 to 0x7e, none of them `(`, `)` or `;`; the type doesn't ask for it.
 pub type Text = List<u8>;
 
 impl<T> Model for List<T> {
@@ -103,6 +103,13 @@ impl<T: Drop> List<T> {
     {
         self.items.append(&mut other.items)?;
         Ok(())
+    }
+
+    /// Drops the last items, up to that many.
+    pub fn truncate(&mut self, len: usize)
+        ensures { self.new ≡ take len self.old }
+    {
+        self.items.truncate(len);
     }
 
     /// Writes the item at place `i` and drops the old one.

@@ -7,7 +7,6 @@ ghost use Rattle.triple_kernel.specs.Tree.{FactTree, TripleTree};
 ghost use Rattle.loop_rule.specs.Judge.{Closing};
 ghost use Rattle.term_bench.specs.inner.Asked.{AreAsked, AreFound, AreUpTo, Begins, HasStanding, IsParted, IsStanding, KnowsPlaces};
 
-use loop_rule::shorten;
 use rv_words::{List, NoMemory};
 use std::alloc::Global;
 use std::collections::BTreeMap;
@@ -62,7 +61,7 @@ impl Asked {
     pub fn shorten(&mut self, length: usize)
         ensures { (c : Closing) (way : Items FactTree) → AreAsked c way self.old → AreAsked c (take length way) self.new }
     {
-        shorten(&mut self.stamps, length);
+        self.stamps.truncate(length);
     }
 
     /// Whether it is known that the theorem begins at the entry.

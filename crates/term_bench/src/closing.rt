@@ -22,7 +22,7 @@ use crate::known::is_within_own;
 use crate::put::{put_facts, put_side};
 use crate::rules::theorem;
 use held_terms::{Held, HeldFact, HeldSide, Way, is_entry, same_side};
-use loop_rule::{JudgeLeaves, cite_for_leaves, shorten};
+use loop_rule::{JudgeLeaves, cite_for_leaves};
 use rv_words::{List, NoMemory};
 use sep_assert::Assertion;
 use std::alloc::Global;
@@ -66,7 +66,7 @@ impl<'a, L: Ledger> JudgeLeaves for HeldLeaves<'a, L> {
     }
 
     fn shorten(&mut self, length: usize) {
-        shorten(self.way, length);
+        self.way.truncate(length);
         self.put.shorten(length);
         self.asked.shorten(length);
     }

@@ -5,4 +5,4 @@ use Rattle.held_terms.proofs.way.Way.shorten.Goals as goal
 pub invariant_of-self : goal.invariant_of-self
 invariant_of-self c =
     let least : c.min-self-inside.result ≡ min c.self.inside.indexed c.args.length = c.min-self-inside.ensures in
-    indexed_short c.self.inside.facts c.shorten.new.list c.self.inside.indexed c.min-self-inside.result c.args.length _ c.shorten.ensures (omega (arith, least)) (omega (arith, least)) c.self.invariant
+    indexed_short c.self.inside.facts c.truncate.new.self c.self.inside.indexed c.min-self-inside.result c.args.length _ c.truncate.ensures (omega (arith, least)) (omega (arith, least)) c.self.invariant

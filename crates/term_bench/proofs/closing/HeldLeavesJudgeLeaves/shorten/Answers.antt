@@ -10,7 +10,7 @@ use Rattle.term_bench.proofs.LeafLemmas.{first_short, held_went}
 use Rattle.term_bench.proofs.closing.HeldLeavesJudgeLeaves.shorten.Goals as goal
 
 pub returns-clause-way : goal.returns-clause-way
-returns-clause-way g c = ap (map fact_tree) c.shorten.ensures ∙ sym (take-map fact_tree c.args.length c.args.self.now.way.now)
+returns-clause-way g c = ap (map fact_tree) c.truncate.ensures ∙ sym (take-map fact_tree c.args.length c.args.self.now.way.now)
 
 pub returns-clause-went : goal.returns-clause-went
 returns-clause-went g c =
@@ -22,9 +22,9 @@ returns-clause-went g c =
     (record {
       held = c.requires.held;
       marked = c.requires.marked;
-      first = first_short old.arena.now c.args.length old.put.now c.shorten-2.new.self (map fact_tree old.way.now) (map fact_tree c.shorten.new.list) c.requires.first c.shorten-2.ensures
-          (ap (map fact_tree) c.shorten.ensures ∙ sym (take-map fact_tree c.args.length old.way.now));
-      asked = asked_put group def theorem theorem (take c.args.length (map fact_tree old.way.now)) (map fact_tree c.shorten.new.list) c.shorten-3.new.self refl
-          (ap (map fact_tree) c.shorten.ensures ∙ sym (take-map fact_tree c.args.length old.way.now))
-          (c.shorten-3.ensures (closing_with group def theorem) (map fact_tree old.way.now) c.requires.asked);
+      first = first_short old.arena.now c.args.length old.put.now c.shorten.new.self (map fact_tree old.way.now) (map fact_tree c.truncate.new.self) c.requires.first c.shorten.ensures
+          (ap (map fact_tree) c.truncate.ensures ∙ sym (take-map fact_tree c.args.length old.way.now));
+      asked = asked_put group def theorem theorem (take c.args.length (map fact_tree old.way.now)) (map fact_tree c.truncate.new.self) c.shorten-2.new.self refl
+          (ap (map fact_tree) c.truncate.ensures ∙ sym (take-map fact_tree c.args.length old.way.now))
+          (c.shorten-2.ensures (closing_with group def theorem) (map fact_tree old.way.now) c.requires.asked);
     }) (omega arith)
