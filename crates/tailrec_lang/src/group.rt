@@ -64,8 +64,9 @@ pub struct Def {
 }
 
 /// The definitions that belong to one function, which is the last of them, and what they have in common: the
-/// function's name, the numbers of the registers that are its parameters, rising from 1 to 31, how many memories
-/// it has, 0, 1 or, where the stack has one of its own, 2, and its code.
+/// function's name, the numbers of the registers that are its parameters, how many memories it has, and its code. In a
+/// text the registers rise from 1 to 31, and there are 0, 1 or, where the stack has one of its own, 2 memories; the type
+/// doesn't ask for it.
 #[derive(Debug, Drop)]
 pub struct Group {
     pub name: Text,

@@ -1,8 +1,8 @@
 //! Laws of terms and their values. These functions do nothing: their contracts are the laws.
 
-ghost use Rattle.std.specs.Prelude.{◌≡◌, ◌+◌, ◌^◌, ◌<◌, ◌≤◌, ℕ, List, Some, is_some, length, map};
+ghost use Rattle.std.specs.Prelude.{◌≡◌, ◌+◌, ◌^◌, ◌<◌, ◌≤◌, ℕ, List, Some, length, map};
 ghost use Rattle.std.specs.List.{range_with_len};
-ghost use Rattle.rv_words.specs.Bytes.{Bytes, inside, store};
+ghost use Rattle.rv_words.specs.Bytes.{Bytes};
 ghost use Rattle.word_terms.specs.Tree.{CondTree, MemTree, MemVar, Var, WordTree};
 ghost use Rattle.word_terms.specs.Environment.{Environment, Extends, IsInRange, with_mems, with_words};
 ghost use Rattle.word_terms.specs.Value.{cond_holds, mem_value, word_value};
@@ -33,12 +33,6 @@ pub fn law_of_scopes()
     ensures cond { (e f : Environment) (t : CondTree) → Extends e f → CondInScope t e.words e.mems → cond_holds t e ≡ cond_holds t f }
     ensures more_words { (e : Environment) (ns : List ℕ) → Extends e (with_words e ns) }
     ensures more_mems { (e : Environment) (ms : List Bytes) → Extends e (with_mems e ms) }
-{}
-
-/// A store doesn't change which addresses are present.
-pub fn law_of_stores()
-    ensures byte { (n : ℕ) (m : Bytes) (a v q : ℕ) → is_some (store n m a v q) ≡ is_some (m q) }
-    ensures bytes { (n k : ℕ) (m : Bytes) (a v b : ℕ) → inside k (store n m a v) b ≡ inside k m b }
 {}
 
 /// A term in scope is in scope where there are more variables.

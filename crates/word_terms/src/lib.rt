@@ -6,7 +6,8 @@
 //! whole memory; `is_word_in_scope` tells whether an `Env` of that size has all variables of a term.
 //!
 //! A `Sub` is a simultaneous substitution, and `subst_word(alloc, &t, &sub)?` carries it out. Terms have no binders, so
-//! nothing can be captured; they are at most `DEPTH_LIMIT` deep, so recursion on them is bounded.
+//! nothing can be captured. A term may have any depth, and calls on it recurse as deep: what reads texts gives none
+//! deeper than `DEPTH_LIMIT`, and `subst_word` makes none.
 //!
 //! The law that matters is `law_of_substitution`, the substitution lemma: the value of a term after a substitution is the
 //! term's value where the listed variables stand for the values of their terms. `law_of_agreement` says that a value
@@ -26,7 +27,7 @@ pub use copy::{copy_cond, copy_mem, copy_mems, copy_word, copy_words};
 pub use evaluation::{Env, byte_of, memory_of, truth, value};
 pub use laws::{
     law_of_agreement, law_of_larger_scopes, law_of_new_variables, law_of_ranges, law_of_scopes,
-    law_of_stores, law_of_substitution,
+    law_of_substitution,
 };
 pub use rv_words::Range;
 pub use scope::{is_cond_in_scope, is_mem_in_scope, is_word_in_scope};

@@ -11,10 +11,10 @@ use crate::term::{Cond, Mem, Word, depth_mem, depth_word};
 use rv_words::{List, NoMemory};
 use std::alloc::{AllocFailed, Global};
 
-/// How deep a term may be.
+/// How deep the result of a substitution, and a term of a text, may be.
 pub const DEPTH_LIMIT: u32 = 64;
 
-/// Terms for variables, each of which is listed at most once. A variable that isn't listed stays.
+/// Terms for variables. Of several for one variable the first counts, and a variable that isn't listed stays.
 #[derive(Debug, Drop)]
 pub struct Sub {
     pub words: List<(u32, Word)>,
