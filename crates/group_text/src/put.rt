@@ -19,15 +19,12 @@ use tailrec_lang::{Body, Def, End, Exit, Group, Step, Values};
 use term_text::{put_cond, put_mem, put_range, put_word};
 use word_terms::{Cond, Mem, Word};
 
-/// Prints what stands before the groups of a text.
-#[tactic(auto, using(mc_text::proofs::Printed::printed_bytes, mc_text::proofs::Printed::prints))]
+/// Prints what stands before the groups of a text of version 1.
 pub fn put_head(out: &mut Bytes) -> Result<(), NoMemory>
     ensures ok { OnOk result (out.new ≡ out.old ++ spell Start head_tokens) }
     ensures prefix { BeginsWith out.old out.new }
 {
-    let mut pen = Pen::new(out);
-    put_title_line(&mut pen, Version::One)?;
-    Ok(())
+    put_title(out, Version::One)
 }
 
 /// Prints what stands before the groups of a text of that version.

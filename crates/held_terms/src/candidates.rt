@@ -29,7 +29,7 @@ use std::sync::ledger::Ledger;
 use term_arena::{Arena, Steps};
 
 /// How many facts are compared one by one.
-const FEW: usize = 16;
+const FEW_CONDITIONS: usize = 16;
 
 /// The classes of conditions, and for each class the facts that say that a condition of it is true. A condition whose class isn't
 /// known is compared with all facts.
@@ -53,7 +53,7 @@ pub(crate) fn classify<L: Ledger>(
     ensures steps { (ts : Items Tree) → HasFacts arena.now facts.now ts → HasFacts arena.now others.now ts → steps.new ≤ steps.old + length ts }
 {
     arena.law_of_nodes();
-    if facts.len() <= FEW || others.len() <= FEW {
+    if facts.len() <= FEW_CONDITIONS || others.len() <= FEW_CONDITIONS {
         return Ok(all_are(alloc));
     }
     let mut forms = Arena::new(alloc);

@@ -19,7 +19,7 @@ use std::marker::Model;
 use term_arena::Arena;
 
 /// How many facts are looked through one after the other.
-pub(crate) const FEW: usize = 8;
+pub(crate) const FEW_FACTS: usize = 8;
 
 /// What the numbers of each form of facts begin with.
 const WORD_IS: u64 = 0;
@@ -142,7 +142,7 @@ impl<'f> Facts<'f> {
 fn index_of_many(alloc: Global, facts: &[HeldFact], lookups: usize) -> Option<BTreeSet<Vec<u64>>>
     ensures { IfSome result (λ s. AreListed facts.now (map vec_items s.keys)) }
 {
-    if facts.len() <= FEW || lookups <= FEW {
+    if facts.len() <= FEW_FACTS || lookups <= FEW_FACTS {
         return None;
     }
     index_of(alloc, facts).ok()

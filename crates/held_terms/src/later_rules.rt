@@ -19,7 +19,7 @@ use std::sync::ledger::Ledger;
 use term_arena::{Arena, Node, Steps};
 
 /// More facts, and another last program counter, which one of them says to be the same. Whether the code is the same is told by the
-/// caller. It takes one step.
+/// caller. It takes one step. The equation of the two counters is put into the arena, whatever the answer.
 pub fn is_steered<L: Ledger>(
     alloc: Global,
     arena: &mut Arena,

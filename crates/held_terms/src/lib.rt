@@ -3,8 +3,9 @@
 //! A [`Held`] is a triple whose words, memories and conditions are numbers of one [`term_arena::Arena`]; equal terms
 //! have equal numbers, so that two are compared without walking through them. Each call says whether a stated triple
 //! follows from others by one rule, exactly where the rule's row holds of the trees that the numbers stand for, and
-//! reads nodes of the arena alone: `is_frame(&arena, &p, &stated, same_code)`,
-//! `is_composition(alloc, &arena, &p, &q, &stated, union)`, and [`instance`], which makes the triple in place of comparing it.
+//! touches no tree: `is_frame(&arena, &p, &stated, same_code)`, `is_composition(alloc, &arena, &p, &q, &stated, union)`, and
+//! [`instance`], which makes the triple in place of comparing it. Most read nodes of the arena alone; those that are given it
+//! as `&mut` put further terms into it.
 //!
 //! What a rule asks of the codes is told by the caller: whether they are the same, whether one lies within the other, whether one is
 //! the union of two, whether one is the group's own. So no rule walks through bytes, and codes in one place ([`SharedCode`]) cost nothing.

@@ -10,7 +10,7 @@ use std::collections::BTreeMap;
 use std::marker::Model;
 
 /// How many terms are looked for one by one: those for all registers and memories, which a line that `decompile` writes has at most.
-const FEW: usize = 40;
+const FEW_ENTRIES: usize = 40;
 
 /// Numbers of terms, each listed for a variable. Where there are more than a few, they are looked up by an index, if there was
 /// memory for it.
@@ -55,7 +55,7 @@ impl<'l> Listing<'l> {
 fn index_of(alloc: Global, entries: &[(u32, u64)]) -> Option<BTreeMap<u32, u64>>
     ensures { IfSome result (λ m. IsIndexOf entries.now m) }
 {
-    if entries.len() <= FEW {
+    if entries.len() <= FEW_ENTRIES {
         return None;
     }
     let mut index = BTreeMap::new(alloc);

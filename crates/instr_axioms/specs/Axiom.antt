@@ -66,7 +66,7 @@ own_triple i form a w = triple_over i form a (length_of w) (word_code a w) (own 
 abbrev pub triple_if : ℕ → ℕ → Form → Instr → Option TripleTree
 triple_if a w form i = if has_form i form then Some (own_triple i form a w) else None
 
--- an instruction of that parcel or word may stand at a: its last byte isn't past 2 ^ 64
+-- an instruction of that parcel or word may stand at a: a is even, and the last byte isn't past 2 ^ 64 - 1
 abbrev pub has_room : ℕ → ℕ → Bool
 has_room a w = is_even a && nat_le (a + length_of w) (2 ^ 64)
 

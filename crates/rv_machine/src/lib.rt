@@ -1,4 +1,4 @@
-//! The machine: states and steps of one hart (RISC-V Unprivileged ISA 20191213, RV64IM without traps).
+//! The machine: states and steps of one hart (RISC-V Unprivileged ISA 20191213, RV64IMC without traps).
 //!
 //! A `State` is a program counter, 32 registers of which x0 stays 0, and a memory in which a byte is present or absent;
 //! there are no permissions. `state.step()` carries out the instruction at the program counter, or answers why there is

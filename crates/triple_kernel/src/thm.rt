@@ -64,7 +64,7 @@ impl<'g> Thm<'g> {
         self.group
     }
 
-    /// The theorem that another valid triple of the group is. Each rule proves its conclusion valid, and ends here.
+    /// The theorem that another valid triple of the group is. Each rule with a theorem as a premise ends here.
     pub fn concludes(&self, stated: Triple) -> Thm<'g>
         requires { Valid (group_tree self.now.0) (triple_tree stated) }
         ensures { result ≡ (self.now.0, stated) }
