@@ -1,5 +1,7 @@
 -- What each verdict says of a file and a text. Faults are told in this order: that of the file; then, from the front of the
 -- text, that of a group's definitions when it is read and that of a line when it is read; at last what isn't proved.
+-- Here of lines that state whole triples. `LineRules` says the same of lines of any kind, and `law_of_whole_lines` that this is
+-- what it says of these.
 use Rattle.std.specs.Prelude.{◌≡◌, ℕ, List, [], ◌∷◌, ◌++◌, Some, length, sum_by, slice_get, take}
 use Rattle.std.specs.List.{AllByRecursion}
 use Rattle.mc_text.specs.Fault.{newlines, IsBadAt}

@@ -235,14 +235,6 @@ impl<'a> Flow<'a> {
         self.mems
     }
 
-    /// Whether there is a memory, where there is at most one.
-    pub fn has_mem(&self) -> bool
-        requires { IsAlone (flow_in self.now) }
-        ensures { (flow_in self.now).mems ≡ if result then 1 else 0 }
-    {
-        self.mems == 1
-    }
-
     /// The memory that a node loads from or stores to, if it does.
     pub fn uses(&self, n: u32) -> u8
         requires { n < (flow_in self.now).nodes }
@@ -293,15 +285,6 @@ impl<'a> Flow<'a> {
     /// Each instruction stands in the code.
     pub fn law_of_code(&self)
         ensures { IsCode (flow_in self.now) self.now.code }
-    {
-        let _parts = self.parts;
-    }
-
-    /// A function alone calls no other.
-    pub fn law_of_calls(&self, n: u32)
-        requires alone { IsAlone (flow_in self.now) }
-        requires node { n < (flow_in self.now).nodes }
-        ensures { (flow_in self.now).callee n ≡ None }
     {
         let _parts = self.parts;
     }

@@ -67,9 +67,6 @@ pub record UsesMemoryIn (linked : Bool) (code : Bytes) (In : ℕ → Type 0) : T
 
 -- ---- .. that are reached from e, in a function alone
 
-abbrev pub IsInstructionOf : Bytes → ℕ → Instr → Type 0
-IsInstructionOf code e i = IsInstructionIn false code (Reaches (Next false code) e) i
-
 abbrev pub IsCodeOf : Bytes → ℕ → ℕ → Type 0
 IsCodeOf code e a = IsCodeIn code (Reaches (Next false code) e) a
 

@@ -21,7 +21,7 @@ pub struct Places<'a> {
     pub count: u32,
 }
 
-/// A function with its parts, behind so many definitions; or none where there would be too many to be numbered.
+/// A function with its parts, behind so many definitions.
 fn placed<'a>(
     alloc: Global,
     function: &'a Function,
@@ -40,7 +40,8 @@ fn placed<'a>(
     })
 }
 
-/// How many definitions stand before those behind a function's.
+/// How many definitions stand before those behind a function's. That there would be too many to be numbered is answered as
+/// want of memory.
 fn behind(function: &LinkedFunction<'_>) -> Result<u32, NoMemory>
     ensures { IfOk result (λ n. n ≡ function.now.base + length function.now.parts) }
 {

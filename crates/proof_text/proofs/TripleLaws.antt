@@ -25,7 +25,7 @@ use Rattle.group_text.specs.Spelling.{number}
 use Rattle.proof_text.specs.LineSpelling.{fact_tokens, register_tokens, assertion_tokens, same_ranges, code_tokens, triple_tokens}
 use Rattle.proof_text.specs.LineLimits.{IsFact, IsAssertion, IsTriple}
 use Rattle.group_text.specs.inner.Reading.{ranges_rise}
-use Rattle.proof_text.specs.inner.LineReading.{register_at, has_rising, assertion_at, is_other, ranges_to_post, code_at, fact_at, triple_at}
+use Rattle.proof_text.specs.inner.LineReading.{register_at, has_rising, assertion_at, is_other_code, ranges_to_post, code_at, fact_at, triple_at}
 use Rattle.group_text.proofs.StepLaws.{shrinks, atom-flat, name-law, number-law}
 use Rattle.group_text.proofs.HeadLaws.{flat-each, rising-true, true-rising, IsCode, code-true, true-code}
 use Rattle.proof_text.proofs.SameRanges.{same-ranges, ranges-same}
@@ -154,9 +154,9 @@ module _ (own : List Range) where
   not-false : (b : Bool) → b ≡ false → not b ≡ true
   not-false b e = ap not e
 
-  other-law : Reads (checked (is_other own) ranges_to_post) IsOther code_row
-  other-law = reads-told (checked (is_other own) ranges_to_post) (λ rs. AllByRecursion IsRange rs × (is_other own rs ≡ true)) IsOther (λ rs. flat_map range_tokens rs ++ post) code_row
-      (reads-checked (is_other own) ranges_to_post (AllByRecursion IsRange) (λ rs. flat_map range_tokens rs ++ post) ranges-law ranges-flat)
+  other-law : Reads (checked (is_other_code own) ranges_to_post) IsOther code_row
+  other-law = reads-told (checked (is_other_code own) ranges_to_post) (λ rs. AllByRecursion IsRange rs × (is_other_code own rs ≡ true)) IsOther (λ rs. flat_map range_tokens rs ++ post) code_row
+      (reads-checked (is_other_code own) ranges_to_post (AllByRecursion IsRange) (λ rs. flat_map range_tokens rs ++ post) ranges-law ranges-flat)
       (λ rs h. let k = and_parts (ranges_rise 0 rs) (not (same_ranges rs own)) h.1 in (code-true 0 rs h.0 k.0, not-true (same_ranges rs own) k.1))
       (λ rs h. let k = true-code 0 rs h.0.0 h.0.1 in (k.0, and_from (ranges_rise 0 rs) (not (same_ranges rs own)) k.1 (not-false (same_ranges rs own) h.1)))
       (λ rs h. let k = and_parts (ranges_rise 0 rs) (not (same_ranges rs own)) h.1 in ap (λ b. chosen rs b ++ post) (not-true (same_ranges rs own) k.1))
@@ -165,7 +165,7 @@ module _ (own : List Range) where
   own-hit rs h = subst (λ qs. code_row qs ≡ Atom (codes "all") ∷ post) h.1 (ap (λ b. chosen own b ++ post) (ranges-same own))
 
   abbrev Else : List Tok → Type 0
-  Else ts = IsElse (codes "all") (made (λ (x : Unit {0}). own) post_at) (checked (is_other own) ranges_to_post) ts
+  Else ts = IsElse (codes "all") (made (λ (x : Unit {0}). own) post_at) (checked (is_other_code own) ranges_to_post) ts
 
   ranges-else : (rs : List Range) (rest : List Tok) → Else ((flat_map range_tokens rs ++ post) ++ rest)
   ranges-else [] rest = refl
@@ -185,7 +185,7 @@ module _ (own : List Range) where
   code-law : IsCode own → Reads (code_at own) IsCode code_row
   unfolding code_at
   code-law fits = reads-as (code_at own) (λ rs. IsOwn rs ⊎ IsOther rs) IsCode code_row
-      (reads-keyed (codes "all") (made (λ (x : Unit {0}). own) post_at) (checked (is_other own) ranges_to_post) IsOwn IsOther (λ rs. post) code_row own-law other-law own-hit other-else)
+      (reads-keyed (codes "all") (made (λ (x : Unit {0}). own) post_at) (checked (is_other_code own) ranges_to_post) IsOwn IsOther (λ rs. post) code_row own-law other-law own-hit other-else)
       (code-up fits) (λ rs h. code-down rs h (same_ranges rs own) refl)
 
   code-flat : (rs : List Range) → IsCode rs → IsFlat (code_row rs)

@@ -6,7 +6,7 @@ use Rattle.mc_text.specs.declared.token.Before.TheVariants.{Start}
 use Rattle.tailrec_lang.specs.Tree.{GroupTree}
 use Rattle.group_text.specs.declared.version.Version.{Version as Known}
 use Rattle.group_text.specs.Version.{Version, version_1, version_of}
-use Rattle.proof_text.specs.Line.{LineTree, ProofOf, ProofTree}
+use Rattle.proof_text.specs.Line.{ProofOf, ProofTree}
 use Rattle.group_text.specs.Spelling.{title_tokens}
 use Rattle.proof_text.specs.LineGrammar.{LineGrammar, proof_tokens_over, AreProofsOver, whole_lines}
 use Rattle.proof_text.specs.Proofs.{bare}
@@ -22,9 +22,6 @@ pub record Progress : Type 0 where
 pub data ItemOf (L : Type 0) : Type 0 where
   Opens : (g : GroupTree) → ItemOf L
   Adds : (l : L) → ItemOf L
-
-abbrev pub ItemTree : Type 0
-ItemTree = ItemOf LineTree
 
 abbrev pub items : {L : Type 0} → List (ProofOf L) → List (ItemOf L)
 items [] = []

@@ -68,9 +68,6 @@ proof_texts_in v ps = proof_texts_by (line_tokens_in v) ps
 abbrev pub proof_tokens : ProofTree → List Tok
 proof_tokens p = proof_tokens_in version_1 p
 
-abbrev pub line_texts : List Range → List LineTree → List ℕ
-line_texts own ls = line_texts_in version_1 own ls
-
 abbrev pub proof_texts_of : List ProofTree → List ℕ
 proof_texts_of ps = proof_texts_in version_1 ps
 

@@ -28,7 +28,7 @@ pub use laws::{
 };
 pub use line::{Line, Rule, SpelledLine};
 pub use line_rules::{read_form, read_instruction, read_theorem};
-pub use line_triples::is_other;
+pub use line_triples::is_other_code;
 pub use line_turns::ProofEnd;
 pub use proof_lines::read_theorems;
 pub use proof_source::ProofSource;

@@ -8,7 +8,7 @@ ghost use Rattle.sep_assert.specs.Tree.{assertion_tree, register_tree};
 ghost use Rattle.triple_kernel.specs.Tree.{triple_tree};
 ghost use Rattle.group_text.specs.inner.Reading.{registers_rise};
 ghost use Rattle.proof_text.specs.Line.{code_or_own, triple_or_own};
-ghost use Rattle.proof_text.specs.inner.LineReading.{assertion_at, code_at, has_rising, is_other, ranges_to_post, register_at, triple_at};
+ghost use Rattle.proof_text.specs.inner.LineReading.{assertion_at, code_at, has_rising, is_other_code, ranges_to_post, register_at, triple_at};
 
 use crate::line_facts::read_facts;
 use crate::put_lines::is_own;
@@ -101,8 +101,8 @@ fn read_assertion<'a>(
 // ---- code
 
 /// Whether these are rising ranges other than the group's own.
-pub fn is_other(own: &Code, code: &Code) -> bool
-    ensures { result ≡ is_other own.now.ranges code.now.ranges }
+pub fn is_other_code(own: &Code, code: &Code) -> bool
+    ensures { result ≡ is_other_code own.now.ranges code.now.ranges }
 {
     ranges_rise(code.ranges.as_slice()) && !is_own(own, code)
 }
@@ -123,11 +123,11 @@ fn read_other<'a>(
     scan: &mut Scan<'a>,
     own: &Code,
 ) -> Result<(Code, bool), TokenError>
-    ensures gives { Gives (λ c. code_or_own own.now.ranges c.1 c.0.ranges) result scan.old scan.new (checked (is_other own.now.ranges) ranges_to_post) }
+    ensures gives { Gives (λ c. code_or_own own.now.ranges c.1 c.0.ranges) result scan.old scan.new (checked (is_other_code own.now.ranges) ranges_to_post) }
     ensures last { last_line scan.new ≡ last_line scan.old }
 {
     let code = read_ranges_to_post(alloc, scan)?;
-    if !is_other(own, &code) {
+    if !is_other_code(own, &code) {
         return Err(TokenError::Bad);
     }
     Ok((code, false))

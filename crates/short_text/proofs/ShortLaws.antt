@@ -27,7 +27,7 @@ use Rattle.group_text.specs.inner.Reading.{has_atom, ranges_rise}
 use Rattle.group_text.proofs.StepLaws.{atom-flat, name-law, address-law, eol-law}
 use Rattle.group_text.proofs.HeadLaws.{flat-each, hex-there, IsCode, code-true, true-code}
 use Rattle.proof_text.specs.LineSpelling.{same_ranges, code_tokens, form_tokens}
-use Rattle.proof_text.specs.inner.LineReading.{index_at, theorem_at, instruction_of, axiom_form_name, axiom_forms, axiom_form_of, is_other}
+use Rattle.proof_text.specs.inner.LineReading.{index_at, theorem_at, instruction_of, axiom_form_name, axiom_forms, axiom_form_of, is_other_code}
 use Rattle.proof_text.proofs.SameRanges.{ranges-same, same-ranges}
 use Rattle.proof_text.proofs.Keyed.{Image, reads-image, reads-keyed, reads-forms, named-law}
 use Rattle.proof_text.proofs.FactLaws.{index-law}
@@ -114,11 +114,11 @@ module _ (ns : List Node) (own : List Range) where
   RangeRow = List Range × Unit {0}
 
   abbrev FitRanges : RangeRow → Type 0
-  FitRanges r = (AllByRecursion IsRange r.0 × (is_other own r.0 ≡ true)) × Unit {0}
+  FitRanges r = (AllByRecursion IsRange r.0 × (is_other_code own r.0 ≡ true)) × Unit {0}
 
   other-law : Reads (ranges_to_end own) IsOther code_row
-  other-law = reads-put (λ (x : RangeRow). x.0) (pair (checked (is_other own) (star is_open range_at)) eol) FitRanges (λ r. flat_map range_tokens r.0 ++ end)
-      (reads-closed (is_other own) (star is_open range_at) (AllByRecursion IsRange) (flat_map range_tokens)
+  other-law = reads-put (λ (x : RangeRow). x.0) (pair (checked (is_other_code own) (star is_open range_at)) eol) FitRanges (λ r. flat_map range_tokens r.0 ++ end)
+      (reads-closed (is_other_code own) (star is_open range_at) (AllByRecursion IsRange) (flat_map range_tokens)
       (reads-list is_open range_at range-shrinks IsRange range_tokens range-law (λ r h. range-flat r) (λ r h us. range-begins r us) eol Always (λ _. end) eol-law (λ y h us. refl))
       (flat-each IsRange range_tokens (λ r f. range-flat r)))
       IsOther code_row

@@ -19,7 +19,7 @@ use group_text::read_index;
 use held_terms::{HeldFact, HeldSide};
 use mc_text::cursor::{accept, address, eol, keyword, peek};
 use mc_text::{Scan, Token, TokenError};
-use proof_text::{is_other, read_form, read_instruction, read_theorem, read_theorems};
+use proof_text::{is_other_code, read_form, read_instruction, read_theorem, read_theorems};
 use rv_words::List;
 use std::alloc::Global;
 use term_arena::Node;
@@ -39,7 +39,7 @@ fn read_other<'a>(
 {
     let ranges = read_ranges(alloc, scan)?;
     let code = Code { ranges };
-    if !is_other(own, &code) {
+    if !is_other_code(own, &code) {
         return Err(TokenError::Bad);
     }
     eol(scan)?;

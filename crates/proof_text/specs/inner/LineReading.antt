@@ -26,7 +26,7 @@ use Rattle.proof_text.specs.LineSpelling.{same_ranges}
 use Rattle.proof_text.specs.LineLimits.{IsLineIn}
 use Rattle.proof_text.specs.LineGrammar.{whole_lines}
 use Rattle.group_text.specs.inner.Reading.{has_atom, registers_rise, ranges_rise}
-use Rattle.proof_text.specs.inner.LineReaders.{LineReaders, turn_over}
+use Rattle.proof_text.specs.inner.LineReaders.{LineReaders}
 
 -- ---- numbers
 
@@ -86,15 +86,15 @@ assertion_at = checked has_rising
 -- ---- triples
 
 -- rising ranges other than the group's own
-abbrev pub is_other : List Range → List Range → Bool
-is_other own ranges = ranges_rise 0 ranges && not (same_ranges ranges own)
+abbrev pub is_other_code : List Range → List Range → Bool
+is_other_code own ranges = ranges_rise 0 ranges && not (same_ranges ranges own)
 
 abbrev pub ranges_to_post : Reader (List Range)
 ranges_to_post = made (λ x. x.0) (pair (star is_open range_at) (word (codes "post")))
 
 -- code, by the group's own, with the word behind it
 unfoldable pub code_at : List Range → Reader (List Range)
-code_at own = keyed (codes "all") (made (λ _. own) (word (codes "post"))) (checked (is_other own) ranges_to_post)
+code_at own = keyed (codes "all") (made (λ _. own) (word (codes "post"))) (checked (is_other_code own) ranges_to_post)
 
 -- a triple, after its first word
 unfoldable pub triple_at : List Range → Reader TripleTree
@@ -228,7 +228,3 @@ line_at v own = keyed (codes "loop") loop_row (keyed (codes "forget") forget_row
 -- lines that state whole triples
 abbrev pub whole_readers : LineReaders
 whole_readers = record { grammar = whole_lines; Fits = λ v ls l. IsLineIn v l; line_at = λ v own ls. line_at v own }
-
--- what one call reads: the next line, or none where the proof ends
-abbrev pub turn_of : Version → List Range → Reader (Option LineTree)
-turn_of v own ts = turn_over whole_readers v own [] ts

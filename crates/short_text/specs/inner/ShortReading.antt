@@ -18,7 +18,7 @@ use Rattle.term_text.specs.Reading.{named, or_option, variable_of, form_of, rang
 use Rattle.term_arena.specs.declared.node.Node.{Node}
 use Rattle.term_arena.specs.declared.node.Node.TheVariants as node
 use Rattle.group_text.specs.inner.Reading.{has_atom, registers_rise}
-use Rattle.proof_text.specs.inner.LineReading.{index_at, theorem_at, instruction_of, axiom_form_of, is_other}
+use Rattle.proof_text.specs.inner.LineReading.{index_at, theorem_at, instruction_of, axiom_form_of, is_other_code}
 use Rattle.triple_kernel.specs.declared.form.Form.{Form}
 use Rattle.held_terms.specs.declared.held.HeldValues.{HeldValues}
 use Rattle.held_terms.specs.declared.held.HeldFact.{HeldFact}
@@ -263,7 +263,7 @@ short_head_of text = named short_name short_heads text
 
 -- code, by the group's own, with the end of the line
 abbrev pub ranges_to_end : List Range → Reader (List Range)
-ranges_to_end own = made (λ x. x.0) (pair (checked (is_other own) (star is_open range_at)) eol)
+ranges_to_end own = made (λ x. x.0) (pair (checked (is_other_code own) (star is_open range_at)) eol)
 
 unfoldable pub code_to_end : List Range → Reader (List Range)
 code_to_end own = keyed (codes "all") (made (λ _. own) eol) (ranges_to_end own)
