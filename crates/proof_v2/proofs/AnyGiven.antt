@@ -27,7 +27,7 @@ use Rattle.checker.specs.inner.Checking.{IsSameText}
 use Rattle.proof_v2.specs.declared.any_reader.AnyLine.{AnyLine}
 use Rattle.proof_v2.specs.declared.any_reader.AnyLine.TheVariants as any
 use Rattle.proof_v2.specs.AnyText.{AnyProof, any_lines, any_texts}
-use Rattle.proof_v2.specs.AnyReading.{AnyState, AreLinesIn, AreSomeLinesIn, AreTermsIn, EndsAny, GivesGroupAny, GivesLines, HasGivenAny, StopsGroups, StopsLines, lines_of_last, reading_state, with_lines}
+use Rattle.proof_v2.specs.AnyReading.{AnyState, AreLinesIn, AreSomeLinesIn, AreTermsIn, EndsAny, GivesGroupAny, GivesLines, HasGivenAny, StopsGroups, StopsLines, as_item, lines_of_last, reading_state, with_lines}
 use Rattle.proof_v2.specs.inner.ShortReading.{IsOpen, Stays}
 
 pub last-behind : {L : Type 0} (ps : List (ProofOf L)) (p : ProofOf L) → lines_of_last (ps ++ p ∷ []) ≡ p.lines
@@ -337,14 +337,23 @@ kept-table false kept table open_ terms = let b = open_ refl in terms b.0 b.1 �
 
 -- ---- the exit of a `?`
 
-pub bad-exit : (result : Result (Option AnyLine) TextFault) (e : TextFault) → IsErrAnd result (λ y. y ≡ e) → (P Q : ℕ → Type 0) → ((n : ℕ) → P n → Q n) → OnBad {X = ShortLine} (Err e) P → OnBad result Q
-bad-exit (Ok o) e is P Q so h = absurd is
-bad-exit (Err y) e is P Q so h = subst (λ (f : TextFault). OnBad {X = AnyLine} (Err f) Q) (sym is) (by e h)
-  where
-    by : (f : TextFault) → OnBad {X = ShortLine} (Err f) P → OnBad {X = AnyLine} (Err f) Q
-    by (Bad n) h = so n h
-    by NoMemory h = tt
+module _ (X : Type 0) (e : TextFault) (P Q : ℕ → Type 0) (so : (n : ℕ) → P n → Q n) (h : OnBad {X = X} (Err e) P) where
+  bad-so : (Y : Type 0) → OnBad {X = Y} (Err e) Q
+  bad-so Y = by e h
+    where
+      by : (f : TextFault) → OnBad {X = X} (Err f) P → OnBad {X = Y} (Err f) Q
+      by (Bad n) h = so n h
+      by NoMemory h = tt
 
-pub any-fault : (result : Result (Option AnyLine) TextFault) (A : Type 0) → A → OnErr result A
-any-fault (Ok o) A a = tt
+  pub bad-exit : (result : Result (Option AnyLine) TextFault) → IsErrAnd result (λ y. y ≡ e) → OnBad result Q
+  bad-exit (Ok o) is = absurd is
+  bad-exit (Err y) is = subst (λ (f : TextFault). OnBad {X = AnyLine} (Err f) Q) (sym is) (bad-so AnyLine)
+
+  pub bad-exit-item : (result : Result Bool TextFault) → IsErrAnd result (λ y. y ≡ e) → OnBad (as_item result) Q
+  bad-exit-item (Ok true) is = absurd is
+  bad-exit-item (Ok false) is = absurd is
+  bad-exit-item (Err y) is = subst (λ (f : TextFault). OnBad {X = Unit {0}} (Err f) Q) (sym is) (bad-so (Unit {0}))
+
+pub any-fault : {X : Type 0} (result : Result X TextFault) (A : Type 0) → A → OnErr result A
+any-fault (Ok x) A a = tt
 any-fault (Err e) A a = a

@@ -25,7 +25,7 @@ use term_arena::Node;
 /// A line of a proof.
 #[derive(Debug, Drop)]
 pub enum AnyLine {
-    /// A line of version 1.
+    /// A line that states a whole triple: of version 1, 3 or 4.
     One(Line),
     /// A line of version 2, over the numbers of its table's terms.
     Two(Short),
@@ -130,7 +130,7 @@ impl<'a> AnyReader<'a> {
     }
 
     /// Goes past the next line of the proof of the group that was given last, and tells whether there was one. That there is
-    /// none and a fault are answered again and again. Of a line that states a whole triple the group's own code isn't copied.
+    /// none and a fault are answered again and again. The group's own code isn't copied for it.
     pub fn pass_line(&mut self, alloc: Global, group: &Group) -> Result<bool, TextFault>
         requires { IsGroupIn (version_of self.old.progress.version) (group_tree group.now) }
         ensures same { IsSameText self.new.progress self.old.progress }

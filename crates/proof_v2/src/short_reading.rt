@@ -10,15 +10,18 @@ ghost use Rattle.group_text.specs.declared.version.Version.TheVariants.{Two};
 ghost use Rattle.proof_text.specs.Answers.{NoItemOver, OnBad, OnEnd, OnGiven};
 ghost use Rattle.proof_text.specs.FirstProofs.{ProofEnds, with_line};
 ghost use Rattle.short_text.specs.ShortProofs.{ShortProof, short_lines, short_texts};
+ghost use Rattle.short_text.specs.SpelledShort.{spelled_short};
 ghost use Rattle.checker.specs.inner.Checking.{IsSameText};
 ghost use Rattle.proof_v2.specs.AnyReading.{AreLinesIn, AreSomeLinesIn, AreTermsIn, EndsAny, GivesGroupAny, GivesLines, HasGivenAny, StopsGroups, StopsLines, as_item, reading_state};
 ghost use Rattle.proof_v2.specs.inner.ShortReading.{IsOpen, Stays};
 
 use crate::any_reader::AnyLine;
+use crate::spelled_rows::SpelledRows;
 use group_text::TextFault;
 use proof_text::Reader;
-use short_text::{ShortLine, ShortLines, law_of_short_lines};
+use short_text::{ShortLine, ShortLines, SpelledShort, law_of_short_lines};
 use std::alloc::Global;
+use std::mem;
 use tailrec_lang::Group;
 
 /// The next group. What was kept of lines is let go where there is one.
@@ -82,7 +85,7 @@ pub(crate) fn short_line(
     Ok(None)
 }
 
-/// Goes past the next line of a proof, and the terms that stand before it.
+/// Goes past the next line of a proof, and the terms that stand before it. The group's own code isn't copied.
 pub(crate) fn pass_short(
     alloc: Global,
     reader: &mut Reader<'_>,
@@ -102,11 +105,12 @@ pub(crate) fn pass_short(
     ensures bad { OnBad (as_item result) (λ n. StopsLines (group_tree group.now) n (reading_state reader.old lines.old over.old) (reading_state reader.new lines.new over.new)) }
     ensures fault { OnErr result (GivesLines (group_tree group.now) AreTermsIn (reading_state reader.old lines.old over.old) (reading_state reader.new lines.new over.new)) }
 {
-    match short_line(alloc, reader, lines, over, group) {
-        Ok(Some(_line)) => Ok(true),
-        Ok(None) => Ok(false),
-        Err(fault) => Err(fault),
+    while let Some(spelled) = next_spelled(alloc, reader, lines, over, group)? {
+        if let ShortLine::Proof(_line) = spelled.line {
+            return Ok(true);
+        }
     }
+    Ok(false)
 }
 
 /// The next term of a table or line of a proof.
@@ -136,6 +140,46 @@ fn next_short(
     law_of_short_lines();
     match reader.next_line(alloc, group, lines) {
         Ok(Some(line)) => Ok(Some(line)),
+        Ok(None) => {
+            *over = true;
+            Ok(None)
+        }
+        Err(fault) => Err(fault),
+    }
+}
+
+/// The next term of a table or line of a proof, as it is spelled.
+fn next_spelled(
+    alloc: Global,
+    reader: &mut Reader<'_>,
+    lines: &mut ShortLines,
+    over: &mut bool,
+    group: &Group,
+) -> Result<Option<SpelledShort>, TextFault>
+    requires version { reader.old.version ≡ Two }
+    requires open { IsOpen reader.old lines.old over.old }
+    requires group { IsGroupIn (version_of reader.old.version) (group_tree group.now) }
+    ensures open { IsOpen reader.new lines.new over.new }
+    ensures same { IsSameText reader.new reader.old }
+    ensures given { OnGiven result (λ l. (ps : Items ShortProof) (p : ShortProof) → HasGivenAny Two (ps ++ p ∷ []) (reading_state reader.old lines.old over.old) → p.group ≡ group_tree group.now
+        → HasGivenAny Two (ps ++ with_line p (spelled_short (group_tree group.now).code l) ∷ []) (reading_state reader.new lines.new over.new)) }
+    ensures shorter { OnGiven result (λ _. length reader.new.rest < length reader.old.rest) }
+    ensures end { OnEnd result (ProofEnds reader.new.rest × Stays (reading_state reader.old lines.old over.old) (reading_state reader.new lines.new over.new)) }
+    ensures bad { OnBad result (λ n. (ps : Items ShortProof) (p : ShortProof) → HasGivenAny Two (ps ++ p ∷ []) (reading_state reader.old lines.old over.old) → p.group ≡ group_tree group.now
+        → IsBadAt short_texts reader.old.text n × NoItemOver short_lines (ps ++ p ∷ []) reader.old) }
+    ensures fault { OnErr result (Stays (reading_state reader.old lines.old over.old) (reading_state reader.new lines.new over.new)) }
+{
+    if *over {
+        return Ok(None);
+    }
+    law_of_short_lines();
+    let mut rows = SpelledRows {
+        lines: mem::replace(lines, ShortLines::new(alloc)),
+    };
+    let next = reader.next_line(alloc, group, &mut rows);
+    *lines = rows.lines;
+    match next {
+        Ok(Some(spelled)) => Ok(Some(spelled)),
         Ok(None) => {
             *over = true;
             Ok(None)

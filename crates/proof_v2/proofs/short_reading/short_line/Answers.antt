@@ -12,9 +12,9 @@ use Rattle.proof_v2.proofs.short_reading.short_line.Goals as goal
 
 pub returns-in_err-line-clause-bad : goal.returns-in_err-line-clause-bad
 returns-in_err-line-clause-bad c =
-    bad-exit c.from_residual.result c.in_err-line.field-0.0 c.from_residual.ensures.1 _ _
+    bad-exit ShortLine c.in_err-line.field-0.0 _ _
     (λ n h. lines-stop (reading_state c.args.reader.now c.args.lines.now c.args.over.now) c.requires.version (group_tree c.args.group.now) (reading_state c.loop-line.reader c.loop-line.lines c.loop-line.over) c.loop-line.invariant.0
-    (reading_state c.next_short.new.reader c.next_short.new.lines c.next_short.new.over) c.in_err-line.ensures.fault n h) c.in_err-line.ensures.bad
+    (reading_state c.next_short.new.reader c.next_short.new.lines c.next_short.new.over) c.in_err-line.ensures.fault n h) c.in_err-line.ensures.bad c.from_residual.result c.from_residual.ensures.1
 
 pub returns-in_err-line-clause-fault : goal.returns-in_err-line-clause-fault
 returns-in_err-line-clause-fault c =
