@@ -13,4 +13,3 @@ pub use cert::Cert;
 pub use judge::{CertFault, judge_cert};
 pub use laws::{law_of_one_result, law_of_rewriting};
 pub use simplification::simplify;
-pub use term_laws::Rw;

@@ -7,9 +7,8 @@ mod read;
 mod rows;
 mod step_rows;
 
-pub use def_laws::{
-    Cert, CertFault, Rw, judge_cert, law_of_one_result, law_of_rewriting, simplify,
-};
+pub use def_laws::{Cert, CertFault, judge_cert, simplify};
 pub use laws::{law_of_cert_texts, law_of_limits};
 pub use put::cert_bytes;
 pub use read::read_cert;
+pub use term_laws::Rw;

@@ -1,4 +1,4 @@
-//! Groups and their parts copied into memory of their own.
+//! Groups copied into memory of their own.
 
 ghost use Rattle.std.specs.Prelude.{◌≡◌, IfOk, map};
 ghost use Rattle.tailrec_lang.specs.Tree.{body_tree, def_tree, group_tree, step_tree};
@@ -10,7 +10,7 @@ use tailrec_lang::{Body, Def, End, Group, Step, copy_values};
 use word_terms::{copy_code, copy_cond, copy_mem, copy_word};
 
 /// The same step in memory of its own.
-pub fn copy_step(alloc: Global, step: &Step) -> Result<Step, NoMemory>
+fn copy_step(alloc: Global, step: &Step) -> Result<Step, NoMemory>
     ensures { IfOk result (λ copy. step_tree copy ≡ step_tree step.now) }
 {
     match step {
@@ -31,7 +31,7 @@ pub fn copy_step(alloc: Global, step: &Step) -> Result<Step, NoMemory>
 
 /// The same steps in memory of their own.
 #[tactic(auto, using(word_terms::proofs::Copies::image_pushed))]
-pub fn copy_steps(alloc: Global, steps: &[Step]) -> Result<List<Step>, NoMemory>
+fn copy_steps(alloc: Global, steps: &[Step]) -> Result<List<Step>, NoMemory>
     ensures { IfOk result (λ copies. map step_tree copies ≡ map step_tree steps.now) }
 {
     let mut copies = List::new(alloc);
@@ -45,7 +45,7 @@ pub fn copy_steps(alloc: Global, steps: &[Step]) -> Result<List<Step>, NoMemory>
 /// The same body in memory of its own.
 #[cycle(copies)]
 #[tactic(auto, using(crate::proofs::Bodies::body_made))]
-pub fn copy_body(alloc: Global, body: &Body) -> Result<Body, NoMemory>
+fn copy_body(alloc: Global, body: &Body) -> Result<Body, NoMemory>
     ensures { IfOk result (λ copy. body_tree copy ≡ body_tree body.now) }
 {
     let steps = copy_steps(alloc, body.steps.as_slice())?;
@@ -55,7 +55,7 @@ pub fn copy_body(alloc: Global, body: &Body) -> Result<Body, NoMemory>
 
 /// The same end in memory of its own.
 #[cycle(copies)]
-pub fn copy_end(alloc: Global, end: &End) -> Result<End, NoMemory>
+fn copy_end(alloc: Global, end: &End) -> Result<End, NoMemory>
     ensures { IfOk result (λ copy. end_tree copy ≡ end_tree end.now) }
 {
     match end {
@@ -86,7 +86,7 @@ pub fn copy_end(alloc: Global, end: &End) -> Result<End, NoMemory>
 /// The same bodies in memory of their own.
 #[cycle(copies)]
 #[tactic(auto, using(word_terms::proofs::Copies::image_pushed))]
-pub fn copy_arms(alloc: Global, arms: &[Body]) -> Result<List<Body>, NoMemory>
+fn copy_arms(alloc: Global, arms: &[Body]) -> Result<List<Body>, NoMemory>
     ensures { IfOk result (λ copies. map body_tree copies ≡ map body_tree arms.now) }
 {
     let mut copies = List::new(alloc);
@@ -98,7 +98,7 @@ pub fn copy_arms(alloc: Global, arms: &[Body]) -> Result<List<Body>, NoMemory>
 }
 
 /// The same definition in memory of its own.
-pub fn copy_def(alloc: Global, def: &Def) -> Result<Def, NoMemory>
+fn copy_def(alloc: Global, def: &Def) -> Result<Def, NoMemory>
     ensures { IfOk result (λ copy. def_tree copy ≡ def_tree def.now) }
 {
     let exits = List::from_slice(alloc, def.exits.as_slice())?;
@@ -112,7 +112,7 @@ pub fn copy_def(alloc: Global, def: &Def) -> Result<Def, NoMemory>
 
 /// The same definitions in memory of their own.
 #[tactic(auto, using(word_terms::proofs::Copies::image_pushed))]
-pub fn copy_defs(alloc: Global, defs: &[Def]) -> Result<List<Def>, NoMemory>
+fn copy_defs(alloc: Global, defs: &[Def]) -> Result<List<Def>, NoMemory>
     ensures { IfOk result (λ copies. map def_tree copies ≡ map def_tree defs.now) }
 {
     let mut copies = List::new(alloc);

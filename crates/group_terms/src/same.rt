@@ -1,4 +1,4 @@
-//! Whether groups and their parts are the same trees.
+//! Whether groups and definitions are the same trees.
 
 ghost use Rattle.std.specs.Prelude.{◌≡◌, ◌↔◌, IsTrue, false, map};
 ghost use Rattle.word_terms.specs.Tree.{word_tree};
@@ -81,7 +81,7 @@ fn no_step(end: &End)
 /// Whether two bodies are the same trees.
 #[cycle(sames)]
 #[tactic(auto, using(crate::proofs::SameBodies::bodies_same))]
-pub fn same_body(a: &Body, b: &Body) -> bool
+fn same_body(a: &Body, b: &Body) -> bool
     ensures { IsTrue result ↔ (body_tree a.now ≡ body_tree b.now) }
 {
     no_step(&a.end);
@@ -171,7 +171,7 @@ pub fn same_def(a: &Def, b: &Def) -> bool
 
 /// Whether two lists of definitions are the same trees.
 #[tactic(auto, using(sep_assert::proofs::SameLists::map_differs))]
-pub fn same_defs(a: &[Def], b: &[Def]) -> bool
+fn same_defs(a: &[Def], b: &[Def]) -> bool
     ensures { IsTrue result ↔ (map def_tree a.now ≡ map def_tree b.now) }
 {
     if a.len() != b.len() {

@@ -66,16 +66,24 @@ dom_or [] i = Atom (dom_name 0)
 dom_or (m ∷ ms) zero = dom_expr m
 dom_or (m ∷ ms) (suc i) = dom_or ms i
 
--- by a returned address, which stands first, or by an address
+-- the program counter: the address of the exit, or the one that is returned, which stands before the words
+abbrev pub left_pc : Option Exit → ValuesTree → Expr
+left_pc (Some (At a)) v = word a
+left_pc (Some Ret) v = word_or v.words 0
+left_pc None v = word 0
+
+-- word i, behind the address where one is returned
+abbrev pub left_word : Option Exit → ValuesTree → ℕ → Expr
+left_word (Some (At a)) v i = word_or v.words i
+left_word (Some Ret) v i = word_or v.words (suc i)
+left_word None v i = word 0
+
+-- what is told where a definition is left by exit k
 abbrev pub left_by : Option Exit → ℕ → ValuesTree → Told → Expr
 left_by exit k v Ok = Atom (codes "true")
 left_by exit k v ExitNumber = exit_number k
-left_by (Some (At a)) k v Pc = word a
-left_by (Some (At a)) k v (WordAt i) = word_or v.words i
-left_by (Some Ret) k v Pc = word_or v.words 0
-left_by (Some Ret) k v (WordAt i) = word_or v.words (suc i)
-left_by None k v Pc = word 0
-left_by None k v (WordAt i) = word 0
+left_by exit k v Pc = left_pc exit v
+left_by exit k v (WordAt i) = left_word exit v i
 left_by exit k v (MemAt i) = mem_or v.mems i
 left_by exit k v (DomAt i) = dom_or v.mems i
 

@@ -5,9 +5,9 @@ ghost use Rattle.word_terms.specs.Tree.{mem_tree, word_tree};
 ghost use Rattle.tailrec_lang.specs.Tree.{values_tree};
 ghost use Rattle.smt_terms.specs.Expression.{is_atom};
 ghost use Rattle.smt_terms.specs.Views.{expr};
-ghost use Rattle.smt_export.specs.declared.told.Told.TheVariants.{ExitNumber, Pc, WordAt};
+ghost use Rattle.smt_export.specs.declared.told.Told.TheVariants.{ExitNumber};
 ghost use Rattle.smt_export.specs.Terms.{falsity};
-ghost use Rattle.smt_export.specs.Bodies.{with_condition, conjunction, default, dom_or, left_by, mem_or, exit_number, word_or};
+ghost use Rattle.smt_export.specs.Bodies.{with_condition, conjunction, default, dom_or, left_by, left_pc, left_word, mem_or, exit_number, word_or};
 
 use crate::results::next;
 use crate::term_trees::{dom_term, mem_term, word_term};
@@ -70,15 +70,16 @@ pub fn left_by(
     match told {
         Told::Ok => atom(alloc, b"true"),
         Told::ExitNumber => exit_number(alloc, k),
-        Told::Pc => left_pc(alloc, exit, k, values),
-        Told::WordAt(i) => left_word(alloc, exit, k, values, i),
+        Told::Pc => left_pc(alloc, exit, values),
+        Told::WordAt(i) => left_word(alloc, exit, values, i),
         Told::MemAt(i) => mem_or(alloc, &values.mems, i),
         Told::DomAt(i) => dom_or(alloc, &values.mems, i),
     }
 }
 
-fn left_pc(alloc: Global, exit: Option<Exit>, _k: usize, values: &Values) -> Result<Tree, NoMemory>
-    ensures { IfOk result (λ t. expr t ≡ left_by exit _k (values_tree values.now) Pc) }
+/// The program counter with which a definition is left.
+fn left_pc(alloc: Global, exit: Option<Exit>, values: &Values) -> Result<Tree, NoMemory>
+    ensures { IfOk result (λ t. expr t ≡ left_pc exit (values_tree values.now)) }
 {
     match exit {
         Some(exit) => match exit {
@@ -89,14 +90,9 @@ fn left_pc(alloc: Global, exit: Option<Exit>, _k: usize, values: &Values) -> Res
     }
 }
 
-fn left_word(
-    alloc: Global,
-    exit: Option<Exit>,
-    _k: usize,
-    values: &Values,
-    i: usize,
-) -> Result<Tree, NoMemory>
-    ensures { IfOk result (λ t. expr t ≡ left_by exit _k (values_tree values.now) (WordAt i)) }
+/// The word of that number with which a definition is left.
+fn left_word(alloc: Global, exit: Option<Exit>, values: &Values, i: usize) -> Result<Tree, NoMemory>
+    ensures { IfOk result (λ t. expr t ≡ left_word exit (values_tree values.now) i) }
 {
     match exit {
         Some(exit) => match exit {

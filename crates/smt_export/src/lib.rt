@@ -17,5 +17,4 @@ mod values;
 pub use exporting::{ExportFault, export};
 pub use laws::law_of_scripts;
 pub use smt_terms::{Fun, Script, Sort, Tree};
-pub use term_trees::{cond_term, mem_term, word_term};
 pub use told::Told;

@@ -1,8 +1,10 @@
 -- The functions that stand for the operations of words.
-use Rattle.std.specs.Prelude.{ℕ, Bool, true, false, List, [], ◌∷◌, codes}
+use Rattle.std.specs.Prelude.{ℕ, List, [], ◌∷◌, codes}
 use Rattle.rv_words.specs.declared.operation.Op.{Op}
 use Rattle.rv_words.specs.declared.operation.Op.TheVariants.{Add, Sub, Sll, Slt, Sltu, Xor, Srl, Sra, Or, And, Mul, Mulh, Mulhsu, Mulhu, Div, Divu, Rem, Remu, Addw, Subw, Sllw, Srlw, Sraw, Mulw, Divw, Divuw, Remw, Remuw}
 use Rattle.smt_terms.specs.Expression.{Expr, Atom, apply, indexed, literal, ite}
+use Rattle.smt_operations.specs.declared.operations.Sign.{Sign}
+use Rattle.smt_operations.specs.declared.operations.Sign.TheVariants.{Plus, Minus}
 
 abbrev pub a : Expr
 a = Atom (codes "a")
@@ -47,27 +49,27 @@ is_below_zero w x = two (codes "bvslt") x (literal w (codes "0"))
 abbrev pub by_sign : List ℕ → Expr → Expr → Expr → Expr
 by_sign w x p q = ite (is_below_zero w x) p q
 
-abbrev pub turned : Bool → Expr → Expr
-turned true x = negated x
-turned false x = x
+abbrev pub turned : Sign → Expr → Expr
+turned Minus x = negated x
+turned Plus x = x
 
--- a result of absolute values, which is negated where it is to be; n and m say which operands are below zero
-abbrev pub of_absolute : List ℕ → Bool → Bool → Bool → Expr → Expr → Expr
-of_absolute op below n m x y = turned below (two op (turned n x) (turned m y))
+-- a result of absolute values, with its sign; n and m are those of the operands
+abbrev pub of_absolute : List ℕ → Sign → Sign → Sign → Expr → Expr → Expr
+of_absolute op sign n m x y = turned sign (two op (turned n x) (turned m y))
 
--- the result by the signs of the operands
-abbrev pub by_signs : List ℕ → List ℕ → Bool → Bool → Bool → Expr → Expr → Expr
-by_signs op w below_both below_first below_second x y =
+-- the result by the signs of the operands, with its own signs where both are below zero, the first alone and the second alone
+abbrev pub by_signs : List ℕ → List ℕ → Sign → Sign → Sign → Expr → Expr → Expr
+by_signs op w both first second x y =
     by_sign w x
-    (by_sign w y (of_absolute op below_both true true x y) (of_absolute op below_first true false x y))
-    (by_sign w y (of_absolute op below_second false true x y) (of_absolute op false false false x y))
+    (by_sign w y (of_absolute op both Minus Minus x y) (of_absolute op first Minus Plus x y))
+    (by_sign w y (of_absolute op second Plus Minus x y) (of_absolute op Plus Plus Plus x y))
 
 -- the quotient of two numbers in two's complement, all ones by zero
 abbrev pub signed_quotient : List ℕ → List ℕ → Expr → Expr → Expr
-signed_quotient w ones x y = ite (two (codes "=") y (literal w (codes "0"))) (literal w ones) (by_signs (codes "bvudiv") w false true true x y)
+signed_quotient w ones x y = ite (two (codes "=") y (literal w (codes "0"))) (literal w ones) (by_signs (codes "bvudiv") w Plus Minus Minus x y)
 
 abbrev pub signed_remainder : List ℕ → Expr → Expr → Expr
-signed_remainder w x y = by_signs (codes "bvurem") w true true false x y
+signed_remainder w x y = by_signs (codes "bvurem") w Minus Minus Plus x y
 
 -- the high half of the product of 128 bits
 abbrev pub high : Expr → Expr → Expr

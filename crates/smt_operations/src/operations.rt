@@ -40,6 +40,22 @@ impl Size {
     }
 }
 
+/// The sign of a number.
+#[derive(Clone, Copy, Debug, PartialEq, Eq)]
+pub enum Sign {
+    Plus,
+    Minus,
+}
+
+/// The signs of a division's results, where both operands are below zero, and where the first alone or the second alone
+/// is.
+#[derive(Clone, Copy)]
+struct Signs {
+    both: Sign,
+    first: Sign,
+    second: Sign,
+}
+
 /// The bit-vector of that width and number.
 pub fn literal(alloc: Global, width: &[u8], n: &[u8]) -> Result<Tree, NoMemory>
     ensures { IfOk result (λ t. expr t ≡ literal width.now n.now) }
@@ -136,32 +152,32 @@ fn high(alloc: Global, first: &[u8], second: &[u8]) -> Result<Tree, NoMemory>
 }
 
 /// A term, or its negation.
-fn turned(alloc: Global, below: bool, x: Tree) -> Result<Tree, NoMemory>
-    ensures { IfOk result (λ t. expr t ≡ turned below (expr x)) }
+fn turned(alloc: Global, sign: Sign, x: Tree) -> Result<Tree, NoMemory>
+    ensures { IfOk result (λ t. expr t ≡ turned sign (expr x)) }
 {
-    if below {
-        return one(alloc, b"bvneg", x);
+    match sign {
+        Sign::Plus => Ok(x),
+        Sign::Minus => one(alloc, b"bvneg", x),
     }
-    Ok(x)
 }
 
-/// A division of absolute values.
+/// A division of absolute values, by the signs of its result and of the operands.
 fn of_absolute(
     alloc: Global,
     size: Size,
     name: &[u8],
-    below: bool,
-    first: bool,
-    second: bool,
+    result_sign: Sign,
+    first: Sign,
+    second: Sign,
 ) -> Result<Tree, NoMemory>
-    ensures { IfOk result (λ t. expr t ≡ of_absolute name.now below first second (operand size a) (operand size b)) }
+    ensures { IfOk result (λ t. expr t ≡ of_absolute name.now result_sign first second (operand size a) (operand size b)) }
 {
     let x = operand(alloc, size, b"a")?;
     let x = turned(alloc, first, x)?;
     let y = operand(alloc, size, b"b")?;
     let y = turned(alloc, second, y)?;
     let divided = two(alloc, name, x, y)?;
-    turned(alloc, below, divided)
+    turned(alloc, result_sign, divided)
 }
 
 /// The first term where that operand is below zero, else the second.
@@ -174,22 +190,15 @@ fn by_sign(alloc: Global, size: Size, name: &[u8], p: Tree, q: Tree) -> Result<T
     ite(alloc, below, p, q)
 }
 
-/// A division by the signs of its operands; the flags say where the result is below zero.
-fn by_signs(
-    alloc: Global,
-    size: Size,
-    name: &[u8],
-    below_both: bool,
-    below_first: bool,
-    below_second: bool,
-) -> Result<Tree, NoMemory>
-    ensures { IfOk result (λ t. expr t ≡ by_signs name.now (width_of size) below_both below_first below_second (operand size a) (operand size b)) }
+/// A division by the signs of its operands.
+fn by_signs(alloc: Global, size: Size, name: &[u8], signs: Signs) -> Result<Tree, NoMemory>
+    ensures { IfOk result (λ t. expr t ≡ by_signs name.now (width_of size) signs.both signs.first signs.second (operand size a) (operand size b)) }
 {
-    let both = of_absolute(alloc, size, name, below_both, true, true)?;
-    let first = of_absolute(alloc, size, name, below_first, true, false)?;
+    let both = of_absolute(alloc, size, name, signs.both, Sign::Minus, Sign::Minus)?;
+    let first = of_absolute(alloc, size, name, signs.first, Sign::Minus, Sign::Plus)?;
     let below = by_sign(alloc, size, b"b", both, first)?;
-    let second = of_absolute(alloc, size, name, below_second, false, true)?;
-    let neither = of_absolute(alloc, size, name, false, false, false)?;
+    let second = of_absolute(alloc, size, name, signs.second, Sign::Plus, Sign::Minus)?;
+    let neither = of_absolute(alloc, size, name, Sign::Plus, Sign::Plus, Sign::Plus)?;
     let above = by_sign(alloc, size, b"b", second, neither)?;
     by_sign(alloc, size, b"a", below, above)
 }
@@ -201,14 +210,24 @@ fn signed_quotient(alloc: Global, size: Size) -> Result<Tree, NoMemory>
     let zero = literal(alloc, size.width(), b"0")?;
     let is_zero = two(alloc, b"=", y, zero)?;
     let ones = literal(alloc, size.width(), size.ones())?;
-    let otherwise = by_signs(alloc, size, b"bvudiv", false, true, true)?;
+    let signs = Signs {
+        both: Sign::Plus,
+        first: Sign::Minus,
+        second: Sign::Minus,
+    };
+    let otherwise = by_signs(alloc, size, b"bvudiv", signs)?;
     ite(alloc, is_zero, ones, otherwise)
 }
 
 fn signed_remainder(alloc: Global, size: Size) -> Result<Tree, NoMemory>
     ensures { IfOk result (λ t. expr t ≡ signed_remainder (width_of size) (operand size a) (operand size b)) }
 {
-    by_signs(alloc, size, b"bvurem", true, true, false)
+    let signs = Signs {
+        both: Sign::Minus,
+        first: Sign::Minus,
+        second: Sign::Plus,
+    };
+    by_signs(alloc, size, b"bvurem", signs)
 }
 
 /// A word whose low half this is, with its sign extended.

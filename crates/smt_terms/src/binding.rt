@@ -10,7 +10,7 @@ use std::alloc::Global;
 
 /// Whether a name occurs in a tree.
 #[cycle(occurrences)]
-pub fn occurs(name: &[u8], tree: &Tree) -> bool
+fn occurs(name: &[u8], tree: &Tree) -> bool
     ensures { result ≡ occurs name.now (expr tree.now) }
 {
     match tree {

@@ -7,7 +7,7 @@ mod script;
 mod sort;
 mod tree;
 
-pub use binding::{bound, occurs};
+pub use binding::bound;
 pub use print::script_bytes;
 pub use script::{Fun, Script};
 pub use sort::Sort;

@@ -38,6 +38,9 @@ pub enum Given<'a> {
     Extended(&'a Word),
 }
 
+/// How many laws there are. Their numbers go from 1 to this.
+pub const LAW_COUNT: u32 = 31;
+
 /// The laws from 1 on.
 const SHAPES: [Shape; 31] = [
     Shape::RightUnit(Op::Add, 0),

@@ -9,7 +9,7 @@ ghost use Rattle.term_laws.specs.inner.Steps.{GivesBy, HasSimpleChildren, IsFree
 
 use crate::log::Log;
 use crate::place::{made, made_cond};
-use crate::shape::{Given, GivenCond, given_of, given_of_cond, shape_of};
+use crate::shape::{Given, GivenCond, LAW_COUNT, given_of, given_of_cond, shape_of};
 use rv_words::{Cmp, Ext, NoMemory, Op, Width};
 use std::alloc::Global;
 use word_terms::{Cond, Mem, Word};
@@ -30,7 +30,7 @@ fn first_law(t: &Word) -> Option<(u32, Given<'_>)>
     ensures some { IfSome result (λ p. GivesBy p.0 (OfWord (word_tree t.now)) (OfWord (given_tree p.1))) }
     ensures none { IfNone result (IsSettled (OfWord (word_tree t.now))) }
 {
-    for law in 0..32 {
+    for law in 1..=LAW_COUNT {
         match given_by(law, t) {
             Some(given) => return Some((law, given)),
             None => (),
@@ -55,7 +55,7 @@ fn first_cond_law(c: &Cond) -> Option<(u32, GivenCond<'_>)>
     ensures some { IfSome result (λ p. GivesBy p.0 (OfCond (cond_tree c.now)) (OfCond (given_cond_tree p.1))) }
     ensures none { IfNone result (IsSettled (OfCond (cond_tree c.now))) }
 {
-    for law in 0..32 {
+    for law in 1..=LAW_COUNT {
         match given_cond_by(law, c) {
             Some(given) => return Some((law, given)),
             None => (),
