@@ -47,11 +47,11 @@ pub enum EvalAnswer {
     /// It isn't a proof file, from this line on.
     Unreadable(u64),
     /// In the group of that number, this definition isn't well-formed.
-    IllFormed(u64, u32),
+    IllFormed { group: u64, def: u32 },
     /// No group has the name.
     NoFunction,
     /// A condition that is needed is false: its definition, and its number there.
-    SideFalse(u32, u64),
+    SideFalse { def: u32, ordinal: u64 },
     /// The evaluation used all its turns.
     TurnsUsed,
     /// It ended: the turns used, the program counter at the exit, the words of the group's registers there, and, if the
@@ -127,7 +127,7 @@ pub enum SimplifyAnswer {
     /// It isn't a proof file, from this line on.
     Unreadable(u64),
     /// In the group of that number, this definition isn't well-formed.
-    IllFormed(u64, u32),
+    IllFormed { group: u64, def: u32 },
     /// No group has the name.
     NoFunction,
     /// A certificate was written, with that many steps.
@@ -144,7 +144,7 @@ pub enum LawsAnswer {
     /// The one file isn't a proof file, from this line on.
     Unreadable(u64),
     /// In its group of that number, this definition isn't well-formed.
-    IllFormed(u64, u32),
+    IllFormed { group: u64, def: u32 },
     /// The other file isn't a certificate, from this line on.
     UnreadableCert(u64),
     /// No group has the name of the certificate's.
@@ -167,7 +167,7 @@ pub enum SmtAnswer {
     /// It isn't a proof file, from this line on.
     Unreadable(u64),
     /// In the group of that number, this definition isn't well-formed.
-    IllFormed(u64, u32),
+    IllFormed { group: u64, def: u32 },
     /// No group has the name.
     NoFunction,
     /// The group of that name has no definition of that number.
@@ -188,7 +188,7 @@ pub enum MigrateAnswer {
     /// The verdict that refuses the two. It is never want of memory.
     Refused(Verdict),
     /// A text of version 2 was written, with that many functions and proof lines.
-    Migrated(u64, u64),
+    Migrated { functions: u64, lines: u64 },
 }
 
 /// What is shown of the end of an evaluation or a run.

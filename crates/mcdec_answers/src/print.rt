@@ -118,10 +118,20 @@ fn put_eval<O: Sink>(out: &mut O, answer: &EvalAnswer) -> Result<u8, Stop>
 {
     match answer {
         EvalAnswer::OverLimit => put_text(out, b"over limit proof\n").and(Ok(7)),
-        EvalAnswer::Unreadable(line) => put_unreadable_text(out, *line).and(Ok(3)),
-        EvalAnswer::IllFormed(group, def) => put_ill_formed(out, *group, *def).and(Ok(1)),
+        EvalAnswer::Unreadable(line) => put_numbered(out, b"unreadable text ", *line).and(Ok(3)),
+        EvalAnswer::IllFormed { group, def } => put_two_numbered(
+            out,
+            b"refused def ",
+            *group,
+            u64::from(*def),
+        ).and(Ok(1)),
         EvalAnswer::NoFunction => put_text(out, b"refused no function\n").and(Ok(1)),
-        EvalAnswer::SideFalse(def, ordinal) => put_side_false(out, *def, *ordinal).and(Ok(1)),
+        EvalAnswer::SideFalse { def, ordinal } => put_two_numbered(
+            out,
+            b"refused side ",
+            u64::from(*def),
+            *ordinal,
+        ).and(Ok(1)),
         EvalAnswer::TurnsUsed => put_text(out, b"turns used\n").and(Ok(7)),
         EvalAnswer::Done(shown) => put_shown(out, b"done ", shown).and(Ok(0)),
     }
@@ -156,12 +166,22 @@ fn put_verdict<O: Sink>(out: &mut O, verdict: &Verdict) -> Result<u8, Stop>
     ensures { PrintsAnswer result (verdict_printed verdict.now) (O.written out.old) (O.written out.new) (O.faults out.old) (O.faults out.new) }
 {
     match verdict {
-        Verdict::Accepted { functions, lines } => put_accepted(out, *functions, *lines).and(Ok(0)),
+        Verdict::Accepted { functions, lines } => put_two_numbered(
+            out,
+            b"accepted ",
+            *functions,
+            *lines,
+        ).and(Ok(0)),
         Verdict::BadElf(why) => put_unreadable_elf(out, why).and(Ok(3)),
-        Verdict::BadText(line) => put_unreadable_text(out, *line).and(Ok(3)),
-        Verdict::BadDef(group, def) => put_ill_formed(out, *group, *def).and(Ok(1)),
-        Verdict::BadLine(line) => put_wrong_line(out, *line).and(Ok(1)),
-        Verdict::NotProved(group) => put_not_proved(out, *group).and(Ok(1)),
+        Verdict::BadText(line) => put_numbered(out, b"unreadable text ", *line).and(Ok(3)),
+        Verdict::BadDef(group, def) => put_two_numbered(
+            out,
+            b"refused def ",
+            *group,
+            u64::from(*def),
+        ).and(Ok(1)),
+        Verdict::BadLine(line) => put_numbered(out, b"refused line ", *line).and(Ok(1)),
+        Verdict::NotProved(group) => put_numbered(out, b"refused group ", *group).and(Ok(1)),
         Verdict::NoMemory => put_text(out, b"no memory\n").and(Ok(6)),
     }
 }
@@ -184,8 +204,15 @@ fn put_simplify<O: Sink>(out: &mut O, answer: &SimplifyAnswer) -> Result<u8, Sto
 {
     match answer {
         SimplifyAnswer::OverLimit => put_text(out, b"over limit proof\n").and(Ok(7)),
-        SimplifyAnswer::Unreadable(line) => put_unreadable_text(out, *line).and(Ok(3)),
-        SimplifyAnswer::IllFormed(group, def) => put_ill_formed(out, *group, *def).and(Ok(1)),
+        SimplifyAnswer::Unreadable(line) => put_numbered(out, b"unreadable text ", *line).and(Ok(
+            3,
+        )),
+        SimplifyAnswer::IllFormed { group, def } => put_two_numbered(
+            out,
+            b"refused def ",
+            *group,
+            u64::from(*def),
+        ).and(Ok(1)),
         SimplifyAnswer::NoFunction => put_text(out, b"refused no function\n").and(Ok(1)),
         SimplifyAnswer::Simplified(steps) => put_numbered(out, b"simplified ", *steps).and(Ok(0)),
     }
@@ -197,8 +224,13 @@ fn put_laws<O: Sink>(out: &mut O, answer: &LawsAnswer) -> Result<u8, Stop>
     match answer {
         LawsAnswer::ProofOverLimit => put_text(out, b"over limit proof\n").and(Ok(7)),
         LawsAnswer::CertOverLimit => put_text(out, b"over limit laws\n").and(Ok(7)),
-        LawsAnswer::Unreadable(line) => put_unreadable_text(out, *line).and(Ok(3)),
-        LawsAnswer::IllFormed(group, def) => put_ill_formed(out, *group, *def).and(Ok(1)),
+        LawsAnswer::Unreadable(line) => put_numbered(out, b"unreadable text ", *line).and(Ok(3)),
+        LawsAnswer::IllFormed { group, def } => put_two_numbered(
+            out,
+            b"refused def ",
+            *group,
+            u64::from(*def),
+        ).and(Ok(1)),
         LawsAnswer::UnreadableCert(line) => put_numbered(out, b"unreadable laws ", *line).and(Ok(
             3,
         )),
@@ -215,8 +247,13 @@ fn put_smt<O: Sink>(out: &mut O, answer: &SmtAnswer) -> Result<u8, Stop>
 {
     match answer {
         SmtAnswer::OverLimit => put_text(out, b"over limit proof\n").and(Ok(7)),
-        SmtAnswer::Unreadable(line) => put_unreadable_text(out, *line).and(Ok(3)),
-        SmtAnswer::IllFormed(group, def) => put_ill_formed(out, *group, *def).and(Ok(1)),
+        SmtAnswer::Unreadable(line) => put_numbered(out, b"unreadable text ", *line).and(Ok(3)),
+        SmtAnswer::IllFormed { group, def } => put_two_numbered(
+            out,
+            b"refused def ",
+            *group,
+            u64::from(*def),
+        ).and(Ok(1)),
         SmtAnswer::NoFunction => put_text(out, b"refused no function\n").and(Ok(1)),
         SmtAnswer::NoDef => put_text(out, b"refused no def\n").and(Ok(1)),
         SmtAnswer::Loop(def) => put_numbered(out, b"refused loop ", u64::from(*def)).and(Ok(1)),
@@ -231,9 +268,12 @@ fn put_migrate<O: Sink>(out: &mut O, answer: &MigrateAnswer) -> Result<u8, Stop>
         MigrateAnswer::ElfOverLimit => put_text(out, b"over limit elf\n").and(Ok(7)),
         MigrateAnswer::ProofOverLimit => put_text(out, b"over limit proof\n").and(Ok(7)),
         MigrateAnswer::Refused(verdict) => put_verdict(out, verdict),
-        MigrateAnswer::Migrated(functions, lines) => put_migrated(out, *functions, *lines).and(Ok(
-            0,
-        )),
+        MigrateAnswer::Migrated { functions, lines } => put_two_numbered(
+            out,
+            b"migrated ",
+            *functions,
+            *lines,
+        ).and(Ok(0)),
     }
 }
 
@@ -246,6 +286,22 @@ fn put_numbered<O: Sink>(out: &mut O, words: &[u8], number: u64) -> Result<(), S
         &[
             Piece::Text(words),
             Piece::Decimal(number),
+            Piece::Text(b"\n"),
+        ],
+    )
+}
+
+/// A line that ends in two numbers.
+fn put_two_numbered<O: Sink>(out: &mut O, words: &[u8], first: u64, second: u64) -> Result<(), Stop>
+    ensures { Prints result (words.now ++ decimal first ++ codes " " ++ decimal second ++ codes "\n") (O.written out.old) (O.written out.new) (O.faults out.old) (O.faults out.new) }
+{
+    put_all(
+        out,
+        &[
+            Piece::Text(words),
+            Piece::Decimal(first),
+            Piece::Text(b" "),
+            Piece::Decimal(second),
             Piece::Text(b"\n"),
         ],
     )
@@ -406,96 +462,10 @@ fn put_self_test<O: Sink>(out: &mut O, answer: &SelfTestAnswer) -> Result<(), St
     )
 }
 
-fn put_wrong_line<O: Sink>(out: &mut O, line: u64) -> Result<(), Stop>
-    ensures { Prints result (codes "refused line " ++ decimal line ++ codes "\n") (O.written out.old) (O.written out.new) (O.faults out.old) (O.faults out.new) }
-{
-    put_all(
-        out,
-        &[
-            Piece::Text(b"refused line "),
-            Piece::Decimal(line),
-            Piece::Text(b"\n"),
-        ],
-    )
-}
-
-fn put_not_proved<O: Sink>(out: &mut O, group: u64) -> Result<(), Stop>
-    ensures { Prints result (codes "refused group " ++ decimal group ++ codes "\n") (O.written out.old) (O.written out.new) (O.faults out.old) (O.faults out.new) }
-{
-    put_all(
-        out,
-        &[
-            Piece::Text(b"refused group "),
-            Piece::Decimal(group),
-            Piece::Text(b"\n"),
-        ],
-    )
-}
-
-fn put_accepted<O: Sink>(out: &mut O, functions: u64, lines: u64) -> Result<(), Stop>
-    ensures { Prints result (codes "accepted " ++ decimal functions ++ codes " " ++ decimal lines ++ codes "\n") (O.written out.old) (O.written out.new) (O.faults out.old) (O.faults out.new) }
-{
-    put_all(
-        out,
-        &[
-            Piece::Text(b"accepted "),
-            Piece::Decimal(functions),
-            Piece::Text(b" "),
-            Piece::Decimal(lines),
-            Piece::Text(b"\n"),
-        ],
-    )
-}
-
-fn put_migrated<O: Sink>(out: &mut O, functions: u64, lines: u64) -> Result<(), Stop>
-    ensures { Prints result (codes "migrated " ++ decimal functions ++ codes " " ++ decimal lines ++ codes "\n") (O.written out.old) (O.written out.new) (O.faults out.old) (O.faults out.new) }
-{
-    put_all(
-        out,
-        &[
-            Piece::Text(b"migrated "),
-            Piece::Decimal(functions),
-            Piece::Text(b" "),
-            Piece::Decimal(lines),
-            Piece::Text(b"\n"),
-        ],
-    )
-}
-
 fn put_text<O: Sink>(out: &mut O, text: &[u8]) -> Result<(), Stop>
     ensures { Prints result text.now (O.written out.old) (O.written out.new) (O.faults out.old) (O.faults out.new) }
 {
     out.put(text)
-}
-
-fn put_ill_formed<O: Sink>(out: &mut O, group: u64, def: u32) -> Result<(), Stop>
-    ensures { Prints result (codes "refused def " ++ decimal group ++ codes " " ++ decimal def ++ codes "\n") (O.written out.old) (O.written out.new) (O.faults out.old) (O.faults out.new) }
-{
-    put_all(
-        out,
-        &[
-            Piece::Text(b"refused def "),
-            Piece::Decimal(group),
-            Piece::Text(b" "),
-            Piece::Decimal(u64::from(def)),
-            Piece::Text(b"\n"),
-        ],
-    )
-}
-
-fn put_side_false<O: Sink>(out: &mut O, def: u32, ordinal: u64) -> Result<(), Stop>
-    ensures { Prints result (codes "refused side " ++ decimal def ++ codes " " ++ decimal ordinal ++ codes "\n") (O.written out.old) (O.written out.new) (O.faults out.old) (O.faults out.new) }
-{
-    put_all(
-        out,
-        &[
-            Piece::Text(b"refused side "),
-            Piece::Decimal(u64::from(def)),
-            Piece::Text(b" "),
-            Piece::Decimal(ordinal),
-            Piece::Text(b"\n"),
-        ],
-    )
 }
 
 /// The line of a START that stands for no address.
@@ -524,19 +494,6 @@ fn put_start_refused<O: Sink>(out: &mut O, start: &[u8], why: NameFault) -> Resu
             ],
         ),
     }
-}
-
-fn put_unreadable_text<O: Sink>(out: &mut O, line: u64) -> Result<(), Stop>
-    ensures { Prints result (codes "unreadable text " ++ decimal line ++ codes "\n") (O.written out.old) (O.written out.new) (O.faults out.old) (O.faults out.new) }
-{
-    put_all(
-        out,
-        &[
-            Piece::Text(b"unreadable text "),
-            Piece::Decimal(line),
-            Piece::Text(b"\n"),
-        ],
-    )
 }
 
 /// The line of a run that stopped where there was no step.

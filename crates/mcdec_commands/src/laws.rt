@@ -15,8 +15,8 @@ ghost use Rattle.mcdec_commands.specs.LawsAnswer.{TextsGive, step_line};
 ghost use Rattle.mcdec_commands.specs.inner.Judging.{CertGives};
 ghost use Rattle.mcdec_words.specs.CommandReading.{IsReadLaws};
 
-use crate::eval::{Refusal, find_group};
-use crate::load::{PROOF_LIMIT, not_read};
+use crate::load::{CERT_LIMIT, PROOF_LIMIT, not_read};
+use crate::search::{Refusal, find_group};
 use fun_laws::{Cert, CertFault, judge_cert, read_cert};
 use group_text::{TextFault, put_group};
 use mc_shelf::{Shelf, read_file};
@@ -25,9 +25,6 @@ use mcdec_words::Laws;
 use rv_words::{Bytes, List, NoMemory};
 use std::alloc::Global;
 use tailrec_lang::Group;
-
-/// The most bytes of a certificate's file that are read.
-pub const CERT_LIMIT: u64 = 268_435_456;
 
 /// The answer to `laws`.
 pub fn answer_laws<S: Shelf>(alloc: Global, l: &Laws<'_>, shelf: &mut S) -> Answer
@@ -86,7 +83,7 @@ fn unreadable(alloc: Global, file: &[u8], line: u64) -> Result<LawsAnswer, NoMem
         Ok(_) => Ok(LawsAnswer::UnreadableCert(line)),
         Err(Refusal::NoFunction) => Ok(LawsAnswer::UnreadableCert(line)),
         Err(Refusal::Text(line)) => Ok(LawsAnswer::Unreadable(line)),
-        Err(Refusal::IllFormed(group, def)) => Ok(LawsAnswer::IllFormed(group, def)),
+        Err(Refusal::IllFormed { group, def }) => Ok(LawsAnswer::IllFormed { group, def }),
         Err(Refusal::NoMemory) => Err(NoMemory),
     }
 }
@@ -99,7 +96,7 @@ fn judge(alloc: Global, file: &[u8], cert: &Cert) -> Result<LawsAnswer, NoMemory
     match find_group(alloc, file, cert.old.name.as_slice()) {
         Ok(g) => judge_of(alloc, &g, cert),
         Err(Refusal::Text(line)) => Ok(LawsAnswer::Unreadable(line)),
-        Err(Refusal::IllFormed(group, def)) => Ok(LawsAnswer::IllFormed(group, def)),
+        Err(Refusal::IllFormed { group, def }) => Ok(LawsAnswer::IllFormed { group, def }),
         Err(Refusal::NoFunction) => Ok(LawsAnswer::NoFunction),
         Err(Refusal::NoMemory) => Err(NoMemory),
     }

@@ -24,6 +24,7 @@ mod migrate;
 mod output;
 mod places;
 mod run;
+mod search;
 mod selftest;
 mod simplify;
 mod smt;

@@ -17,6 +17,9 @@ const ELF_LIMIT: u64 = 67_108_864;
 /// The most bytes of a proof file that are read.
 pub const PROOF_LIMIT: u64 = 268_435_456;
 
+/// The most bytes of a certificate's file that are read.
+pub const CERT_LIMIT: u64 = 268_435_456;
+
 /// Why there is no image of an ELF file.
 #[derive(Clone, Copy, Debug)]
 pub enum LoadFault {

@@ -72,7 +72,10 @@ fn migrate_text<S: Shelf>(alloc: Global, image: &Image, m: &Migrate<'_>, shelf: 
     };
     match migrate_image(alloc, image, text.as_slice()) {
         Ok(migrated) => {
-            let told = Answer::Migrate(MigrateAnswer::Migrated(migrated.functions, migrated.lines));
+            let told = Answer::Migrate(MigrateAnswer::Migrated {
+                functions: migrated.functions,
+                lines: migrated.lines,
+            });
             write_answer(shelf, m.out, migrated.text.as_slice(), told)
         }
         Err(why) => refuse(why),

@@ -12,9 +12,9 @@ ghost use Rattle.mcdec_commands.specs.SimplifyAnswer.{IsCertFor};
 ghost use Rattle.mcdec_commands.specs.inner.Simplifying.{TextGives};
 ghost use Rattle.mcdec_commands.specs.inner.Writing.{IsTold, WritesOut};
 
-use crate::eval::{Refusal, find_group};
 use crate::load::{PROOF_LIMIT, not_read};
 use crate::output::write_answer;
+use crate::search::{Refusal, find_group};
 use fun_laws::{cert_bytes, law_of_limits, simplify};
 use mc_shelf::{Shelf, read_file};
 use mcdec_answers::{Answer, SimplifyAnswer};
@@ -51,7 +51,10 @@ fn refuse(why: Refusal) -> Answer
 {
     match why {
         Refusal::Text(line) => Answer::Simplify(SimplifyAnswer::Unreadable(line)),
-        Refusal::IllFormed(group, def) => Answer::Simplify(SimplifyAnswer::IllFormed(group, def)),
+        Refusal::IllFormed { group, def } => Answer::Simplify(SimplifyAnswer::IllFormed {
+            group,
+            def,
+        }),
         Refusal::NoFunction => Answer::Simplify(SimplifyAnswer::NoFunction),
         Refusal::NoMemory => Answer::NoMemory,
     }

@@ -13,9 +13,9 @@ ghost use Rattle.mcdec_commands.specs.inner.Exporting.{DefGives};
 ghost use Rattle.mcdec_commands.specs.inner.Search.{Finds, HasText};
 ghost use Rattle.mcdec_commands.specs.inner.Writing.{IsTold, WritesOut};
 
-use crate::eval::{Refusal, find_group};
 use crate::load::{PROOF_LIMIT, not_read};
 use crate::output::write_answer;
+use crate::search::{Refusal, find_group};
 use mc_shelf::{Shelf, read_file};
 use mcdec_answers::{Answer, SmtAnswer};
 use mcdec_words::Smt;
@@ -53,7 +53,7 @@ fn refuse(why: Refusal) -> Answer
 {
     match why {
         Refusal::Text(line) => Answer::Smt(SmtAnswer::Unreadable(line)),
-        Refusal::IllFormed(group, def) => Answer::Smt(SmtAnswer::IllFormed(group, def)),
+        Refusal::IllFormed { group, def } => Answer::Smt(SmtAnswer::IllFormed { group, def }),
         Refusal::NoFunction => Answer::Smt(SmtAnswer::NoFunction),
         Refusal::NoMemory => Answer::NoMemory,
     }

@@ -8,6 +8,7 @@
 --   simplify PROOF NAME OUT
 --   laws PROOF CERT
 --   smt PROOF NAME DEF OUT
+--   migrate ELF PROOF OUT
 use Rattle.std.specs.Prelude.{◌≡◌, ◌≢◌, ℕ, ◌<◌, ◌≤◌, ◌^◌, ◌+◌, ◌==◌, if◌then◌else◌, List, [], ◌∷◌, ◌++◌, length, map, codes, Option, Some, None, unwrap_or, string_bytes}
 use Rattle.std.specs.List.{All, AllByRecursion, AllPairs}
 use Rattle.std.specs.Fmt.{decimal}

@@ -16,8 +16,8 @@ use Rattle.proof_text.specs.Answers.{NoItemOver}
 use Rattle.checker.specs.inner.Checking.{IsSameText}
 use Rattle.proof_v2.specs.AnyReading.{AnyState, HasGivenAny}
 use Rattle.proof_v2.specs.AnyText.{AnyProof, BeginsIn, any_lines, any_texts}
-use Rattle.mcdec_commands.specs.declared.eval.Refusal.{Refusal}
-use Rattle.mcdec_commands.specs.declared.eval.Refusal.TheVariants as refusal
+use Rattle.mcdec_commands.specs.declared.search.Refusal.{Refusal}
+use Rattle.mcdec_commands.specs.declared.search.Refusal.TheVariants as refusal
 use Rattle.mcdec_answers.specs.declared.answer.EvalAnswer.{EvalAnswer}
 use Rattle.mcdec_answers.specs.declared.answer.EvalAnswer.TheVariants as answer
 use Rattle.mcdec_words.specs.Command.{Arg}

@@ -4,6 +4,9 @@ use Rattle.mcdec_answers.proofs.print.put_eval.Goals as goal
 pub returns-in-OverLimit : goal.returns-in-OverLimit
 returns-in-OverLimit g c = rw c.in-OverLimit.is (prints_answer _ _ _ _ _ _ _ _ c.and.ensures c.put_text.ensures)
 
+pub returns-in-Unreadable : goal.returns-in-Unreadable
+returns-in-Unreadable g c = rw c.in-Unreadable.is (prints_answer _ _ _ _ _ _ _ _ c.and-in-Unreadable.ensures c.put_numbered.ensures)
+
 pub returns-in-NoFunction : goal.returns-in-NoFunction
 returns-in-NoFunction g c = rw c.in-NoFunction.is (prints_answer _ _ _ _ _ _ _ _ c.and-in-NoFunction.ensures c.put_text-in-NoFunction.ensures)
 

@@ -7,6 +7,9 @@ returns-in-ProofOverLimit g c = rw c.in-ProofOverLimit.is (prints_answer _ _ _ _
 pub returns-in-CertOverLimit : goal.returns-in-CertOverLimit
 returns-in-CertOverLimit g c = rw c.in-CertOverLimit.is (prints_answer _ _ _ _ _ _ _ _ c.and-in-CertOverLimit.ensures c.put_text-in-CertOverLimit.ensures)
 
+pub returns-in-Unreadable : goal.returns-in-Unreadable
+returns-in-Unreadable g c = rw c.in-Unreadable.is (prints_answer _ _ _ _ _ _ _ _ c.and-in-Unreadable.ensures c.put_numbered.ensures)
+
 pub returns-in-NoFunction : goal.returns-in-NoFunction
 returns-in-NoFunction g c = rw c.in-NoFunction.is (prints_answer _ _ _ _ _ _ _ _ c.and-in-NoFunction.ensures c.put_text-in-NoFunction.ensures)
 

@@ -1,6 +1,6 @@
 use Rattle.tailrec_lang.specs.Tree.{group_tree}
 use Rattle.mcdec_commands.proofs.Groups.{line-answer, line-bad}
-use Rattle.mcdec_commands.proofs.eval.next_line.Goals as goal
+use Rattle.mcdec_commands.proofs.search.next_line.Goals as goal
 
 pub returns-in-Ok : goal.returns-in-Ok
 returns-in-Ok c =

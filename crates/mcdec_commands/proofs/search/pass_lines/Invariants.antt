@@ -1,7 +1,7 @@
 use Rattle.std.proofs.Common.{length}
 use Rattle.tailrec_lang.specs.Tree.{group_tree}
 use Rattle.mcdec_commands.specs.inner.Search.{Passing}
-use Rattle.mcdec_commands.proofs.eval.pass_lines.Given as goal
+use Rattle.mcdec_commands.proofs.search.pass_lines.Given as goal
 
 abbrev pub invariant-loop : goal.invariant-loop
 invariant-loop l = Passing (group_tree l.g) l.fn.reader l.reader

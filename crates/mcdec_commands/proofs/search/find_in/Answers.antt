@@ -4,7 +4,7 @@ use Rattle.proof_text.specs.Proofs.{groups_of}
 use Rattle.mcdec_commands.specs.EvalAnswer.{IsNamed}
 use Rattle.mcdec_commands.specs.inner.Search.{FoundSo, NextIs}
 use Rattle.mcdec_commands.proofs.Groups.{stopped, ended, count-fits, more, found-exit}
-use Rattle.mcdec_commands.proofs.eval.find_in.Goals as goal
+use Rattle.mcdec_commands.proofs.search.find_in.Goals as goal
 
 pub returns-in_err-g : goal.returns-in_err-g
 returns-in_err-g c =

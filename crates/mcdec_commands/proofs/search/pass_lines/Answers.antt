@@ -2,7 +2,7 @@ use Rattle.std.proofs.Common.{Bool, Ok, subst}
 use Rattle.tailrec_lang.specs.Tree.{group_tree}
 use Rattle.mcdec_commands.specs.inner.Search.{LineIs}
 use Rattle.mcdec_commands.proofs.Groups.{lines-end, lines-stop, passed-exit}
-use Rattle.mcdec_commands.proofs.eval.pass_lines.Goals as goal
+use Rattle.mcdec_commands.proofs.search.pass_lines.Goals as goal
 
 pub returns-in_err-next_line : goal.returns-in_err-next_line
 returns-in_err-next_line c =

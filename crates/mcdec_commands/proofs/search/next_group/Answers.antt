@@ -8,7 +8,7 @@ use Rattle.group_text.specs.Version.{version_of}
 use Rattle.proof_v2.specs.AnyReading.{GivesGroupAny}
 use Rattle.mcdec_commands.specs.inner.Search.{HasBadLineIn}
 use Rattle.mcdec_commands.proofs.Groups.{group-ill, group-refused, lines-refused, next-exit}
-use Rattle.mcdec_commands.proofs.eval.next_group.Goals as goal
+use Rattle.mcdec_commands.proofs.search.next_group.Goals as goal
 
 pub well_formed-requires : goal.well_formed-requires
 well_formed-requires c =

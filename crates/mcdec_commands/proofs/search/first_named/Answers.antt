@@ -2,7 +2,7 @@ use Rattle.std.proofs.Common.{sym, ap, ◌∙◌, ℕ, List}
 use Rattle.std.specs.Str.{bytes_eq}
 use Rattle.tailrec_lang.specs.Tree.{group_tree}
 use Rattle.mcdec_commands.proofs.Groups.{found-kept, found-now, none-more}
-use Rattle.mcdec_commands.proofs.eval.first_named.Goals as goal
+use Rattle.mcdec_commands.proofs.search.first_named.Goals as goal
 
 pub returns-in-Some : goal.returns-in-Some
 returns-in-Some c gs h = found-kept c.args.name.now gs (group_tree c.args.next) c.args.found c.in-Some.first c.in-Some.is h
