@@ -3,11 +3,13 @@
 
 Without PROGRAM, what needs no program: each example's text is shown as the file beside it says, as a picture too, and one function of it alone; a text
 that is no proof file is refused; the symbols of the ELF files are found; links of the documents, and paths that they name, lead somewhere; each crate of
-crates.txt stands in README.md, in its layer, and in the tables of ARCHITECTURE.md and PROMISES.md, which names public items alone. With a built program also what it says of the examples: each is
-decompiled to the text that stands there, the lines are those of examples/README.md, and functions.py tells which functions are refused.
+crates.txt stands in README.md, in its layer, and in the tables of ARCHITECTURE.md and PROMISES.md, which names public items alone; the file of README's first
+command is that of the tutorial. With a built program also what it says of the examples: each is decompiled, linked or split to the text that stands there, and
+exported to the script; the lines are those of examples/README.md and TUTORIAL.md, and functions.py tells which functions are refused.
 """
 import os
 import re
+import shutil
 import subprocess
 import sys
 import tempfile
@@ -21,6 +23,16 @@ from functions import symbols, word_of
 SHOWN = ("gcd", "sum", "strlen", "average")
 LINKED = ("linked", "lcm")
 SPLIT = ("split", "swap")
+# Lines of what `eval` says of each function, where examples/README.md evaluates it.
+EVALUATED = {
+    "gcd": ("done 6", "x10 0xc"),
+    "sum": ("x10 0x6",),
+    "strlen": ("x10 0x5",),
+    "lcm": ("done 8", "x10 0xc"),
+    "swap": ("mem 0x8000 0200000000000000", "mem 0x9000 0100000000000000"),
+}
+# The files that the commands of docs/TUTORIAL.md read.
+TUTORIAL = ("gcd/gcd.elf", "sum/sum.proof", "average/average.elf", "own/my.elf")
 LCM = """0x11120  gcd                           7 instructions, 5 definitions
 0x11130  lcm                           call 0x11140
 
@@ -83,6 +95,7 @@ def try_program(program, folder):
         with open(out, "rb") as file:
             expect(f"the text of {name}", file.read() == read(name, f"{name}.proof"))
     try_answers(program, folder)
+    try_tutorial(program, folder)
     elf = os.path.join(EXAMPLES, "refused", "lcm.elf")
     expect("functions.py lcm", say("functions.py", program, elf) == (0, LCM, ""))
     link = os.path.join(folder, "link")
@@ -107,6 +120,44 @@ def try_answers(program, folder):
         for words, line in commands:
             done = subprocess.run([program, *words], capture_output=True, text=True)
             expect(f"{words[0]} {name}", done.stdout == line + "\n")
+        if accepted:
+            with open(out, "rb") as file:
+                expect(f"the text of {name} by {command}", file.read() == read(example, f"{name}.proof"))
+    evaluations = [words.split() for words in re.findall(r"`mcdec (eval [^`]*)`", document("examples/README.md"))]
+    expect("the page of the examples evaluates these functions", [words[2] for words in evaluations] == list(EVALUATED))
+    for words in evaluations:
+        example = dict(name[::-1] for name in (LINKED, SPLIT)).get(words[2], words[2])
+        words[1], words[-1] = os.path.join(EXAMPLES, example, words[1]), words[-1].replace("STACK", 96 * "0")
+        lines = subprocess.run([program, *words], capture_output=True, text=True).stdout.splitlines()
+        expect(f"eval {words[2]}", set(EVALUATED[words[2]]) <= set(lines))
+
+
+def try_tutorial(program, folder):
+    """What docs/TUTORIAL.md shows: of each block of commands its lines are those of the next block, where `..` stands for any others."""
+    place = os.path.join(folder, "tutorial")
+    os.mkdir(place)
+    for path in TUTORIAL:
+        shutil.copy(os.path.join(EXAMPLES, *path.split("/")), place)
+    page = document("docs/TUTORIAL.md")
+    blocks = re.findall(r"^```\w*\n(.*?)^```$", page, re.M | re.S)
+    own = [os.path.join(place, name) for name in ("my.elf", "my.proof")]
+    _, lines, _ = say("functions.py", program, *own)
+    refused = next(block for block in blocks if "  fib  " in block)
+    expect("functions.py on the tutorial's own file", refused in lines and f"{own[1]}: accepted 2 {re.search('with ([0-9]+) lines of proofs', page)[1]}\n" in lines)
+    _, shown, _ = say("show.py", own[1], "crc")
+    first, last = next(block.split("..\n") for block in blocks if "\ncrc = " in block)
+    expect("show.py on the tutorial's own file", first in shown and shown.endswith(last))
+    expect("the tutorial shows what gcd.txt has", read("gcd", "gcd.txt").decode() in blocks)
+    tried = []
+    for block, told in zip(blocks, blocks[1:]):
+        commands = [line.split()[1:] for line in block.splitlines() if line.startswith("mcdec ")]
+        if len(commands) == len(block.splitlines()):
+            lines = "".join(subprocess.run([program, *words], cwd=place, capture_output=True, text=True).stdout for words in commands)
+            expect(f"the tutorial's {commands[-1]}", re.fullmatch(re.escape(told).replace(re.escape("..\n"), "(.*\n)*"), lines))
+            tried += [words[0] for words in commands]
+    expect("the tutorial has each command", tried == "run decompile eval check eval decompile check smt migrate check eval eval".split())
+    with open(os.path.join(place, "average.smt2"), "rb") as file:
+        expect("the script of average", file.read() == read("average", "average.smt2"))
 
 
 def layers():
@@ -150,6 +201,8 @@ def try_crates():
     readme, architecture, promises = document("README.md"), document("docs/ARCHITECTURE.md"), document("docs/PROMISES.md")
     for layer, names in found.items():
         expect(f"README.md's layer {layer} has {', '.join(names)}", f"| {layer} | {', '.join(names)} |" in readme)
+        block = rf"^{layer} +{', '.join(reversed(names))}$"
+        expect(f"ARCHITECTURE.md's block of layers has {layer} with {', '.join(names)}", re.search(block, architecture, re.M))
     told = re.findall(r"^\| `(\w+)` \| ", architecture.partition("**The kernel.**")[0], re.M)
     expect("the table of ARCHITECTURE.md has the crates in the order of crates.txt", told == crates)
     told = re.findall(r"^\| (?!Crate)(\w[\w, ]*) \| ", promises.partition("## Crate by crate")[2].partition("\n## ")[0], re.M)
@@ -160,6 +213,9 @@ def try_crates():
 
 
 def try_documents():
+    for name in ("gcd.c", "gcd.elf"):
+        with open(os.path.join(TOP, "crates", "mcdec", "data", name), "rb") as file:
+            expect(f"crates/mcdec/data/{name}, which README.md names, is that of the tutorial", file.read() == read("gcd", name))
     for folder in ("", "docs", "examples", "bench"):
         for name in sorted(os.listdir(os.path.join(TOP, folder))):
             if not name.endswith(".md"):

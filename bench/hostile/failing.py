@@ -1,9 +1,9 @@
 #!/usr/bin/env python3
 """failing.py PROGRAM [PROCESSES]: has each call fail by which a built program asks the system for memory or a file, and looks at how it ends.
 
-For each command there is a case, and one that is refused; for five of them also the smallest one. Of each kind of call (memory; opening to read, opening to write; seeking; reading; writing;
-closing) the first fails, then the second, and so on up to the last that the command makes: that call alone, then that call and all of its kind after it.
-Reads and writes are also made short, by one of them carrying a single byte. A run must end
+For each command there is a case, and one that is refused, but for `selftest`, which never is; for five of them also the smallest one. Of each kind of call
+(memory; opening to read, opening to write; seeking; reading; writing; closing) the first fails, then the second, and so on up to the last that the command
+makes: that call alone, then that call and all of its kind after it. Reads and writes are also made short, by one of them carrying a single byte. A run must end
 
 - as it does where nothing fails; that alone where a call was short, or where closing failed;
 - or with status 6 where memory was refused, 4 where a file couldn't be read, 5 where one couldn't be written, and with the line of that status or a
@@ -55,6 +55,13 @@ CASES = (
     ["migrate", "gcd.elf", "gcd.proof", "OUT"],
     ["check", "gcd.elf", "gcd.two"],
     ["eval", "gcd.two", "gcd", "100", "x1=0x2000", "x10=0x30", "x11=0x24"],
+    ["eval", "gcd.proof", "sum", "100", *START],
+    ["run", "gcd.elf", "sum", "0x2000", "100", *START],
+    ["check", "gcd.elf", "sum.proof"],
+    ["simplify", "gcd.proof", "sum", "OUT"],
+    ["laws", "sum.proof", "gcd.cert"],
+    ["smt", "gcd.proof", "gcd", "0", "OUT"],
+    ["migrate", "gcd.elf", "sum.proof", "OUT"],
 )
 OLD = b"what was there before"
 # The status where a call of the kind fails, and its line.

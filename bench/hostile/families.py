@@ -342,6 +342,13 @@ def passed_code(n):
     return code, proof, ["eval", "PROOF", "f", "1"]
 
 
+@family(100_000)
+def passed_short_code(n):
+    """The same of `code-of-short-lines`."""
+    code, proof, _ = code_of_short_lines(n)
+    return code, proof, ["eval", "PROOF", "f", "1"]
+
+
 @family(1_000_000, "NUMBER")
 def calls(n):
     """n turns in definitions each of which calls the one before it twice."""

@@ -8,7 +8,7 @@ WORDS = (
     rb"add|sub|sll|slt|sltu|xor|srl|sra|or|and|mul|mulh|mulhsu|mulhu|div|divu|rem|remu|addw|subw|sllw|srlw|sraw|mulw|divw|divuw|remw|remuw",
     rb"eq|ne|lt|ge|ltu|geu",
     *(rb"sx[124]", rb"ld[1248]", rb"st[1248]", rb"in[1248]"),
-    rb"axiom|inst|frame|extend|compose|strengthen|weaken|discharge|use",
+    rb"axiom|inst|frame|extend|compose|strengthen|weaken|discharge|use|steer|exchange",
     rb"next|taken",
     rb".*",
 )
