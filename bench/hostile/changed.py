@@ -308,6 +308,8 @@ def main():
     count, processes, first = (int(word) for word in sys.argv[2:] + [50_000, os.cpu_count(), 0][len(sys.argv) - 2 :])
     cases = [(kind, first + i) for i in range(count) for kind in ("proof", "ELF file", "certificate")]
     wrong, told, start = [], collections.Counter(), time.monotonic()
+    with tempfile.TemporaryDirectory() as folder:
+        begin(program, folder)  # A program that doesn't run within the limits ends this here: a pool would begin again and again.
     with tempfile.TemporaryDirectory() as folder, multiprocessing.Pool(processes, begin, (program, folder)) as pool:
         for done, (why, answers) in enumerate(pool.imap_unordered(try_case, cases, 20), 1):
             told += answers
