@@ -1,26 +1,35 @@
 #!/usr/bin/env python3
 """What a reader has to believe of a contract: the definitions that it cites, and those that these stand on.
 
-    tools/definitions.py            prints the table of the contracts below
-    tools/definitions.py --write    writes docs/DEFINITIONS.md anew: the table, and the rows of definitions between its marks. A row holds the comment
-                                    above its definitions. It also shortens tools/shared_names.txt, where that has names that are no longer shared
-    tools/definitions.py --check    fails where the document would be written otherwise, where a definition that a contract in EXPLAINED stands on has no row,
-                                    and where a public definition gets a name that another crate's has: tools/shared_names.txt has
-                                    those that do today, with the number of crates, and may only get shorter
+    tools/definitions.py            prints the counts and the table of the contracts below
+    tools/definitions.py --write    writes docs/DEFINITIONS.md anew: the counts, and the items of
+                                    definitions between its marks. An item holds the comment above
+                                    its definitions. It also shortens tools/shared_names.txt, where
+                                    that has names that are no longer shared
+    tools/definitions.py --check    fails where the document would be written otherwise, where a
+                                    definition that a contract in EXPLAINED stands on has no item,
+                                    and where a public definition gets a name that another crate's
+                                    has: tools/shared_names.txt has those that do today, with the
+                                    number of crates, and may only get shorter
     tools/definitions.py --names    names the definitions of each file, needed and not
-    tools/definitions.py --lemmas   lists the lemmas (proofs/) that crates above their own cite, by file, and which crates do
+    tools/definitions.py --lemmas   lists the lemmas (proofs/) that crates above their own cite, by
+                                    file, and which crates do
 
-A mark of the document is a line `<!-- rows: CRATE FILE, FILE; CRATE FILE -->`, or `<!-- files: .. -->` for files that get one row each, or
-`<!-- rows: the others -->` for all files that no mark names. What stands behind it up to `<!-- end of rows -->` is written.
+A mark of the document is a line `<!-- rows: CRATE FILE, FILE; CRATE FILE -->`, or
+`<!-- files: .. -->` for files that get one item each, or `<!-- rows: the others -->` for all files
+that no mark names. What stands behind it up to `<!-- end of rows -->` is written.
 
-Lines are those of definitions in specs/, without imports, comments and blank lines. A name that a lambda binds and that is spelled
-like a definition counts as that definition, so a figure may be a little high. What the toolchain's libraries define isn't counted.
+Lines are those of definitions in specs/, without imports, comments and blank lines. A name that a
+lambda binds and that is spelled like a definition counts as that definition, so a figure may be a
+little high. What the toolchain's libraries define isn't counted.
 """
 import collections
 import itertools
 import os
 import re
 import sys
+
+from wrapping import wrapped
 
 TOP = os.path.dirname(os.path.dirname(os.path.abspath(__file__)))
 CRATES = os.path.join(TOP, 'crates')
@@ -191,19 +200,21 @@ class Definitions:
 
 
 def table(definitions):
+    """The contracts with what they stand on in all, and a table of the lines in each file."""
     needs = [definitions.needed(*contract[1:]) for contract in CONTRACTS]
-    rows = ['| File | ' + ' | '.join(contract[0] for contract in CONTRACTS) + ' |', '|---|' + '---:|' * len(CONTRACTS)]
+    rows = []
+    for number, (contract, seen) in enumerate(zip(CONTRACTS, needs), 1):
+        files = {module for module, _ in seen}
+        lines = sum(definitions.lines(seen, module) for module in files)
+        total = f'{contract[0]}: {lines:,} lines, {len(seen)} definitions, {len(files)} files.'
+        rows += wrapped(total, f'{number}. ', '   ')
+    numbers = [str(number) for number in range(1, len(CONTRACTS) + 1)]
+    rows += ['', '| File | ' + ' | '.join(numbers) + ' |', '|---|' + '---:|' * len(CONTRACTS)]
     for module in definitions.modules:
         counts = [definitions.lines(seen, module) for seen in needs]
         if any(counts):
-            crate, _, name = module.partition('.specs.')
-            rows.append(f"| {crate}, {name} | " + ' | '.join(str(count or '') for count in counts) + ' |')
-    totals = []
-    for seen in needs:
-        files = {module for module, _ in seen}
-        totals.append(f'{sum(definitions.lines(seen, module) for module in files)} lines, {len(seen)} definitions, {len(files)} files')
-    rows.append('| **all** | ' + ' | '.join(totals) + ' |')
-    return '\n'.join(rows) + '\n'
+            rows.append(f'| {title(module)} | ' + ' | '.join(str(count or '') for count in counts) + ' |')
+    return '\n' + '\n'.join(rows) + '\n\n'
 
 
 def files_of(definitions, mark, others):
@@ -225,24 +236,22 @@ def title(module):
     return f'{crate}, {name}'
 
 
-def cell(text):
-    return text.replace('|', '\\|')
-
-
 def rows_of(definitions, module, bold):
-    """The rows of a file: definitions with one comment stand in one row, and those without one in the last."""
+    """The items of a file: definitions with one comment stand in one, those without one in the last."""
     here = definitions.modules[module]
     shown = {name: f'**`{name.strip("◌")}`**' if (module, name) in bold else f'`{name.strip("◌")}`' for name in here.definitions}
     by_comment = collections.OrderedDict()
     for name in here.definitions:
         by_comment.setdefault(here.comments[name], []).append(shown[name])
     without = by_comment.pop('', [])
-    yield f'**{title(module)}.** {here.head}\n'
-    yield '| | |\n|---|---|'
+    yield from wrapped(f'**{title(module)}.** {here.head}')
+    yield ''
     for comment, names in by_comment.items():
-        yield f"| {', '.join(names)} | {cell(comment)} |"
+        figure = re.sub('─+', 20 * '─', comment)
+        yield from wrapped(f"{', '.join(names)}: {figure}", '- ', '  ')
     if without:
-        yield f"| {', '.join(without)} | {'what the names say' if by_comment else cell(here.head)} |"
+        told = 'what the names say' if by_comment else here.head
+        yield from wrapped(f"{', '.join(without)}: {told}", '- ', '  ')
     yield ''
 
 
@@ -263,7 +272,8 @@ def written(definitions, document):
         if match[2] == 'rows':
             lines = [line for file in files for line in rows_of(definitions, file, bold)]
         else:
-            lines = ['| File | |\n|---|---|', *(f'| {title(file)} | {cell(definitions.modules[file].head)} |' for file in files), '']
+            items = [f'{title(file)}: {definitions.modules[file].head}' for file in files]
+            lines = [line for item in items for line in wrapped(item, '- ', '  ')] + ['']
         return match[1] + '\n' + '\n'.join(lines) + match[4]
 
     return MARK.sub(rows, document)
@@ -306,9 +316,9 @@ def faults(definitions, document):
     for contract, *where in EXPLAINED:
         for module, name in sorted(definitions.needed(*where)):
             if module not in explained:
-                yield f'docs/DEFINITIONS.md has no row for {name} of {module}: {contract}'
+                yield f'docs/DEFINITIONS.md has no item for {name} of {module}: {contract}'
     by_hand = MARK.sub('', document[document.find(END):])
-    for line in re.findall(r'^\| .*', by_hand, re.M):
+    for line in re.findall(r'^(?:\||- `|- \*\*`).*', by_hand, re.M):
         yield f'docs/DEFINITIONS.md: a row stands outside the marks: {line[:60]}'
     shared, allowed = shared_names(definitions), allowed_names()
     for name, count in sorted(shared.items()):
