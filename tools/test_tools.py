@@ -1,11 +1,10 @@
 #!/usr/bin/env python3
-"""test_tools.py [PROGRAM]: tries tools/show.py and tools/functions.py on the examples, and the documents. It takes some two seconds of a processor.
+"""test_tools.py [PROGRAM]: tries tools/show.py and tools/functions.py on the examples. It takes some two seconds of a processor.
 
 Without PROGRAM, what needs no program: each example's text is shown as the file beside it says, as a picture too, and one function of it alone; a text
-that is no proof file is refused; the symbols of the ELF files are found; links of the documents, and paths that they name, lead somewhere; each crate of
-crates.txt stands in README.md, in its layer, and in the tables of ARCHITECTURE.md and PROMISES.md, which names public items alone; the file of README's first
-command is that of the tutorial. With a built program also what it says of the examples: each is decompiled, linked or split to the text that stands there, and
-exported to the script; the lines are those of examples/README.md and TUTORIAL.md, and functions.py tells which functions are refused.
+that is no proof file is refused; the symbols of the ELF files are found. With a built program also what it says of the examples: each is decompiled,
+linked or split to the text that stands there, and exported to the script; the lines are those of examples/README.md and TUTORIAL.md, and functions.py
+tells which functions are refused. tools/documents.py checks the documents themselves.
 """
 import os
 import re
@@ -160,75 +159,9 @@ def try_tutorial(program, folder):
         expect("the script of average", file.read() == read("average", "average.smt2"))
 
 
-def layers():
-    """The layers of crates.txt with their crates, and which crates each crate uses."""
-    found, uses = {}, {}
-    with open(os.path.join(TOP, "crates.txt"), encoding="utf8") as file:
-        for line in file:
-            title = re.match(r"# (\S+): ", line)
-            crate, colon, libraries = line.partition(":")
-            if title:
-                found[title[1]] = []
-            elif colon and not line.startswith("#"):
-                list(found.values())[-1].append(crate)
-                uses[crate] = libraries.split()
-    return found, uses
-
-
 def document(name):
     with open(os.path.join(TOP, name), encoding="utf8") as file:
         return file.read()
-
-
-def sources(crate):
-    """The code of a crate."""
-    found = []
-    for folder, _, names in os.walk(os.path.join(TOP, "crates", crate, "src")):
-        for name in names:
-            with open(os.path.join(folder, name), encoding="utf8") as file:
-                found.append(file.read())
-    return "\n".join(found)
-
-
-def try_crates():
-    found, uses = layers()
-    crates = [crate for names in found.values() for crate in names]
-    expect("crates.txt has the folders of crates/", sorted(crates) == sorted(os.listdir(os.path.join(TOP, "crates"))))
-    for crate in crates:
-        own = next(names for names in found.values() if crate in names)
-        known = crates[: crates.index(own[-1]) + 1]
-        expect(f"crates.txt: {crate} stands on its own layer and those above it", all(used in known or used not in crates for used in uses[crate]))
-    readme, architecture, promises = document("README.md"), document("docs/ARCHITECTURE.md"), document("docs/PROMISES.md")
-    for layer, names in found.items():
-        expect(f"README.md's layer {layer} has {', '.join(names)}", f"| {layer} | {', '.join(names)} |" in readme)
-        block = rf"^{layer} +{', '.join(reversed(names))}$"
-        expect(f"ARCHITECTURE.md's block of layers has {layer} with {', '.join(names)}", re.search(block, architecture, re.M))
-    told = re.findall(r"^\| `(\w+)` \| ", architecture.partition("**The kernel.**")[0], re.M)
-    expect("the table of ARCHITECTURE.md has the crates in the order of crates.txt", told == crates)
-    told = re.findall(r"^\| (?!Crate)(\w[\w, ]*) \| ", promises.partition("## Crate by crate")[2].partition("\n## ")[0], re.M)
-    expect("the table of PROMISES.md has the crates in the order of crates.txt", [name for names in told for name in names.split(", ")] == crates)
-    for crate, where in re.findall(r"^\| (\w+) \| [^|]* \| ([^|]*) \|$", promises.partition("## Crate by crate")[2], re.M):
-        for name in re.findall(r"`(\w+)(?:::\w+)?`", where) if crate in crates else ():
-            expect(f"PROMISES.md names {name} of {crate}", re.search(rf"\bpub (?:fn|struct|enum|trait) {name}\b", sources(crate)))
-
-
-def try_documents():
-    for name in ("gcd.c", "gcd.elf"):
-        with open(os.path.join(TOP, "crates", "mcdec", "data", name), "rb") as file:
-            expect(f"crates/mcdec/data/{name}, which README.md names, is that of the tutorial", file.read() == read("gcd", name))
-    for folder in ("", "docs", "examples", "bench"):
-        for name in sorted(os.listdir(os.path.join(TOP, folder))):
-            if not name.endswith(".md"):
-                continue
-            text = document(os.path.join(folder, name))
-            paths = [os.path.join(folder, link) for link in re.findall(r"\]\(([^)#]+?)(?:#[^)]*)?\)", text)]
-            paths += re.findall(r"`((?:crates|docs|tools|bench|examples)/[\w./]+)[` ]", text)
-            for path in paths:
-                is_built = re.match(r"crates/\w+/out/", path) or re.search(r"[A-Z]{4}", os.path.basename(path).partition(".")[0]) and not path.endswith(".md")
-                expect(f"{os.path.join(folder, name)} names {path}", is_built or os.path.exists(os.path.join(TOP, path)))
-    total = re.search(r"^\| \*\*all\*\* \| [^|]* \| [^|]* \| (\d+) lines", document("docs/DEFINITIONS.md"), re.M)
-    expect("README.md has the number of lines on which the headline stands", f"stands on {int(total[1]):,} lines" in document("README.md"))
-    expect("README.md has at most 9 KB", len(document("README.md").encode()) <= 9000)
 
 
 def main():
@@ -237,8 +170,6 @@ def main():
     with tempfile.TemporaryDirectory() as folder:
         try_show(folder)
         try_symbols()
-        try_crates()
-        try_documents()
         if len(sys.argv) == 2:
             try_program(os.path.abspath(sys.argv[1]), folder)
     if faults:
