@@ -17,25 +17,25 @@ import sys
 from wrapping import wrapped
 
 TOP = pathlib.Path(__file__).resolve().parent.parent
-CRATES = TOP / 'crates'
-LIST = TOP / 'crates.txt'
-DOCUMENT = TOP / 'docs' / 'ARCHITECTURE.md'
-BEGIN, END = '<!-- crates.py: begin -->\n', '<!-- crates.py: end -->\n'
+CRATES = TOP / "crates"
+LIST = TOP / "crates.txt"
+DOCUMENT = TOP / "docs" / "ARCHITECTURE.md"
+BEGIN, END = "<!-- crates.py: begin -->\n", "<!-- crates.py: end -->\n"
 # What documents call a layer that has another name in crates.txt.
-CALLED = {'proofs': 'checker'}
+CALLED = {"proofs": "checker"}
 
 
 def layers():
     """The layers of crates.txt by name, each with its title and its crates, and the libraries of
     each crate."""
     titles, crates, uses = {}, {}, {}
-    for line in LIST.read_text(encoding='utf8').splitlines():
-        head = re.match(r'# (\S+): (.*)', line)
-        crate, colon, libraries = line.partition(':')
+    for line in LIST.read_text(encoding="utf8").splitlines():
+        head = re.match(r"# (\S+): (.*)", line)
+        crate, colon, libraries = line.partition(":")
         if head:
             layer = CALLED.get(head[1], head[1])
             titles[layer], crates[layer] = head[2], []
-        elif colon and not line.startswith('#'):
+        elif colon and not line.startswith("#"):
             crates[layer].append(crate)
             uses[crate] = libraries.split()
     return titles, crates, uses
@@ -43,14 +43,14 @@ def layers():
 
 def head_of(crate):
     """The first paragraph of a crate's head comment."""
-    roots = [CRATES / crate / 'src' / name for name in ('lib.rt', 'main.rt')]
+    roots = [CRATES / crate / "src" / name for name in ("lib.rt", "main.rt")]
     root = next(path for path in roots if path.exists())
     words = []
-    for line in root.read_text(encoding='utf8').splitlines():
-        if not line.startswith('//!') or not line[3:].strip():
+    for line in root.read_text(encoding="utf8").splitlines():
+        if not line.startswith("//!") or not line[3:].strip():
             break
         words.append(line[3:].strip())
-    return ' '.join(words)
+    return " ".join(words)
 
 
 def listed():
@@ -58,11 +58,11 @@ def listed():
     titles, crates, _ = layers()
     lines = []
     for layer, title in titles.items():
-        lines += [f'### {layer}', '', *wrapped(f'{title[0].upper()}{title[1:]}.'), '']
+        lines += [f"### {layer}", "", *wrapped(f"{title[0].upper()}{title[1:]}."), ""]
         for crate in crates[layer]:
-            lines += wrapped(f'`{crate}`: {head_of(crate)}', '- ', '  ')
-        lines.append('')
-    return '\n'.join(lines)
+            lines += wrapped(f"`{crate}`: {head_of(crate)}", "- ", "  ")
+        lines.append("")
+    return "\n".join(lines)
 
 
 def written(document):
@@ -70,8 +70,8 @@ def written(document):
     before, begin, rest = document.partition(BEGIN)
     _, end, after = rest.partition(END)
     if not begin or not end:
-        sys.exit('docs/ARCHITECTURE.md has no marks of tools/crates.py')
-    return before + BEGIN + '\n' + listed() + END + after
+        sys.exit("docs/ARCHITECTURE.md has no marks of tools/crates.py")
+    return before + BEGIN + "\n" + listed() + END + after
 
 
 def faults():
@@ -87,25 +87,25 @@ def faults():
         for crate in names:
             for used in uses[crate]:
                 if used in order and used not in known:
-                    yield f'crates.txt: {crate} uses {used}, which is of a later layer'
-    document = DOCUMENT.read_text(encoding='utf8')
+                    yield f"crates.txt: {crate} uses {used}, which is of a later layer"
+    document = DOCUMENT.read_text(encoding="utf8")
     if document != written(document):
-        yield 'docs/ARCHITECTURE.md is to be written anew: tools/crates.py --write'
+        yield "docs/ARCHITECTURE.md is to be written anew: tools/crates.py --write"
 
 
 def main():
     if not sys.argv[1:]:
-        print(listed(), end='')
-    elif sys.argv[1:] == ['--write']:
-        document = written(DOCUMENT.read_text(encoding='utf8'))
-        DOCUMENT.write_text(document, encoding='utf8')
-    elif sys.argv[1:] == ['--check']:
+        print(listed(), end="")
+    elif sys.argv[1:] == ["--write"]:
+        document = written(DOCUMENT.read_text(encoding="utf8"))
+        DOCUMENT.write_text(document, encoding="utf8")
+    elif sys.argv[1:] == ["--check"]:
         wrong = list(faults())
         if wrong:
-            sys.exit('\n'.join(wrong))
+            sys.exit("\n".join(wrong))
     else:
         sys.exit(__doc__)
 
 
-if __name__ == '__main__':
+if __name__ == "__main__":
     main()

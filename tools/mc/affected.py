@@ -2,9 +2,9 @@
 
 Tells which crates the prover has to look at again: those with a file that differs from REVISION
 (HEAD where none is given), files that git doesn't know included, and those that stand on them, in
-the order of crates.txt, in which they are proved. A crate whose line in crates.txt differs counts as
-changed. Where bench/gate.json is there, a list of objects with the fields `crate`, `proof`, `tests`
-and `edits`, it tells the processor seconds that each crate took last, and their sum.
+the order of crates.txt, in which they are proved. A crate whose line in crates.txt differs counts
+as changed. Where bench/gate.json is there, a list of objects with the fields `crate`, `proof`,
+`tests` and `edits`, it tells the processor seconds that each crate took last, and their sum.
 """
 import json
 import pathlib
@@ -15,13 +15,13 @@ import sys
 import crates
 
 TOP = pathlib.Path(__file__).resolve().parent.parent.parent
-TIMES = TOP / 'bench' / 'gate.json'
-KINDS = ('proof', 'tests', 'edits')
+TIMES = TOP / "bench" / "gate.json"
+KINDS = ("proof", "tests", "edits")
 
 
 def git(*words):
     """What git prints."""
-    done = subprocess.run(['git', '-C', str(TOP), *words], capture_output=True, text=True)
+    done = subprocess.run(["git", "-C", str(TOP), *words], capture_output=True, text=True)
     if done.returncode:
         raise ValueError(done.stderr.strip())
     return done.stdout
@@ -29,23 +29,23 @@ def git(*words):
 
 def changed_files(revision):
     """The paths that differ from a revision."""
-    differing = git('diff', '--name-only', revision, '--')
-    unknown = git('ls-files', '--others', '--exclude-standard')
+    differing = git("diff", "--name-only", revision, "--")
+    unknown = git("ls-files", "--others", "--exclude-standard")
     return sorted({*differing.splitlines(), *unknown.splitlines()})
 
 
 def lines_of(text):
     """The line of each crate in a text like crates.txt."""
-    return dict(re.findall(r'^(\w+):(.*)$', text, re.M))
+    return dict(re.findall(r"^(\w+):(.*)$", text, re.M))
 
 
 def changed_crates(revision):
     """The crates that differ from a revision."""
     paths = changed_files(revision)
-    found = {path.split('/')[1] for path in paths if path.startswith('crates/')}
-    if 'crates.txt' in paths:
-        before = lines_of(git('show', f'{revision}:crates.txt'))
-        now = lines_of((TOP / 'crates.txt').read_text(encoding='utf8'))
+    found = {path.split("/")[1] for path in paths if path.startswith("crates/")}
+    if "crates.txt" in paths:
+        before = lines_of(git("show", f"{revision}:crates.txt"))
+        now = lines_of((TOP / "crates.txt").read_text(encoding="utf8"))
         found |= {crate for crate, uses in now.items() if before.get(crate) != uses}
     return found
 
@@ -63,42 +63,42 @@ def times():
     """The seconds that each crate took last, by kind."""
     if not TIMES.exists():
         return {}
-    rows = json.loads(TIMES.read_text(encoding='utf8'))
-    return {row['crate']: [row.get(kind) or 0 for kind in KINDS] for row in rows}
+    rows = json.loads(TIMES.read_text(encoding="utf8"))
+    return {row["crate"]: [row.get(kind) or 0 for kind in KINDS] for row in rows}
 
 
 def table(affected, changed, took):
     """A line for each crate, and one for all of them."""
-    width = max(len(name) for name in [*affected, 'all'])
-    head = [' '.join([' ' * (width + 2), *(f'{kind:>8}' for kind in KINDS)])] if took else []
+    width = max(len(name) for name in [*affected, "all"])
+    head = [" ".join([" " * (width + 2), *(f"{kind:>8}" for kind in KINDS)])] if took else []
     lines, sums = [], [0] * len(KINDS)
     for crate in affected:
-        mark = '* ' if crate in changed else '  '
+        mark = "* " if crate in changed else "  "
         seconds = took.get(crate, [])
-        shown = ' '.join(f'{value:8.0f}' for value in seconds)
-        lines.append(f'{mark}{crate:{width}} {shown}'.rstrip())
+        shown = " ".join(f"{value:8.0f}" for value in seconds)
+        lines.append(f"{mark}{crate:{width}} {shown}".rstrip())
         if seconds:
             sums = [before + value for before, value in zip(sums, seconds)]
     if took:
-        lines.append(f"  {'all':{width}} " + ' '.join(f'{value:8.0f}' for value in sums))
+        lines.append(f"  {'all':{width}} " + " ".join(f"{value:8.0f}" for value in sums))
     return head + lines
 
 
 def main(arguments):
-    if len(arguments) > 1 or any(word.startswith('-') for word in arguments):
+    if len(arguments) > 1 or any(word.startswith("-") for word in arguments):
         print(__doc__.strip(), file=sys.stderr)
         return 2
     try:
-        changed = changed_crates(*arguments or ['HEAD'])
+        changed = changed_crates(*arguments or ["HEAD"])
     except ValueError as why:
-        print(f'mc affected: {why}', file=sys.stderr)
+        print(f"mc affected: {why}", file=sys.stderr)
         return 1
     affected = with_those_above(changed, crates.layers()[2])
     if not affected:
-        print('no crate is changed')
+        print("no crate is changed")
         return 0
     took = times()
-    print('\n'.join(table(affected, changed, took)))
-    print(f'\n{len(affected)} crates; * has changes itself.', end='')
-    print(f' Processor seconds of {TIMES.relative_to(TOP)}.' if took else '')
+    print("\n".join(table(affected, changed, took)))
+    print(f"\n{len(affected)} crates; * has changes itself.", end="")
+    print(f" Processor seconds of {TIMES.relative_to(TOP)}." if took else "")
     return 0
