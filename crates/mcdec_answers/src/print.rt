@@ -84,7 +84,8 @@ fn put_all<O: Sink>(out: &mut O, pieces: &[Piece<'_>]) -> Result<(), Stop>
 
 /// Prints an answer, and gives the status that the program ends with.
 pub fn deliver<O: Sink>(out: &mut O, answer: &Answer) -> u8
-    ensures delivered { IsDelivered answer.now result (O.written out.old) (O.written out.new) }
+    ensures delivered { IsDelivered answer.now result (Rose (O.faults out.old) (O.faults out.new))
+        (O.written out.old) (O.written out.new) }
     ensures counted { O.faults out.old ≤ O.faults out.new }
     ensures cause { result ≡ 5
         → Rose (O.faults out.old) (O.faults out.new) ⊎ (status answer.now ≡ 5) }

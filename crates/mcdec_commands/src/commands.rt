@@ -36,7 +36,8 @@ pub fn run_words<S: Shelf, O: Sink>(
         × Gives (S.contents shelf.old) (texts words.now)
         (Rose (S.read_faults shelf.old) (S.read_faults shelf.new))
         (Rose (S.write_faults shelf.old) (S.write_faults shelf.new)) a
-        × IsDelivered a result (O.written out.old) (O.written out.new) }
+        × IsDelivered a result (Rose (O.faults out.old) (O.faults out.new))
+        (O.written out.old) (O.written out.new) }
 
     // An answer that the words and the files give comes, but for faults of the outside and want of
     // memory.
