@@ -56,10 +56,15 @@ pub fn check_linked(alloc: Global, elf: &[u8], proof: &[u8]) -> Verdict
     ensures verdict { SaysBy IsSteered version_3 elf.now proof.now result }
 
     // Where they are accepted, the functions of the text are right.
-    ensures headline { IsAcceptance result → (ps : Items ProofTree) → IsTextOfIn version_3 proof.now ps → Headline elf.now (groups_of ps) }
+    ensures headline { IsAcceptance result
+        → (ps : Items ProofTree)
+        → IsTextOfIn version_3 proof.now ps
+        → Headline elf.now (groups_of ps) }
 
     // A verdict that says what is so comes, but for want of memory.
-    ensures exact { (v : VerdictOf) → SaysBy IsSteered version_3 elf.now proof.now v → (result ≡ v) ⊎ (v ≡ Verdict.NoMemory) ⊎ (result ≡ Verdict.NoMemory) }
+    ensures exact { (v : VerdictOf)
+        → SaysBy IsSteered version_3 elf.now proof.now v
+        → (result ≡ v) ⊎ (v ≡ Verdict.NoMemory) ⊎ (result ≡ Verdict.NoMemory) }
 {
     let mut reader = Reader::newer(proof, 3);
     check_numbered(alloc, elf, &mut reader, &Steer)

@@ -1,8 +1,10 @@
-//! Functions that call others: an item for each name of a file, of all functions that calls lead to from there, and the check of a proof text of
-//! version 3, in which a line may state a triple by `steer`.
+//! Functions that call others: an item for each name of a file, of all functions that calls lead to
+//! from there, and the check of a proof text of version 3, in which a line may state a triple by
+//! `steer`.
 //!
-//! `link(alloc, &image, &names)?` gives the items, or tells the first name whose functions can't be linked, and why. `linked_bytes` is the text
-//! of them, in version 3. `check_linked` judges a text of that version; `steer` is its further rule (`Steer`).
+//! `link(alloc, &image, &names)?` gives the items, or tells the first name whose functions can't be
+//! linked, and why. `linked_bytes` is the text of them, in version 3. `check_linked` judges a text
+//! of that version; `steer` is its further rule (`Steer`).
 #![tactic(auto)]
 
 mod check;

@@ -49,9 +49,11 @@ module _ (IsText : List ℕ → Type 0) (before now : Option (List ℕ)) where
       ⊎_elim (λ e. whole-front (h.whole e))
       (λ some. ⊎_elim (λ e. h.front (inl e)) (λ a. ⊎_elim (λ e. h.front (inr e)) (λ b. inl (h.same some a b)) (equal-or n 6)) (equal-or n 5)) (equal-or n 0)
 
-  delivered-leaves : (a : Answer) (result : ℕ) (old new : Option (List ℕ)) → IsDelivered a result old new → LeavesOut IsText (status a) before now → LeavesOut IsText result before now
-  delivered-leaves a result old new (inl d) h = subst (λ n. LeavesOut IsText n before now) (sym d.0) h
-  delivered-leaves a result old new (inr d) h = front-leaves result d.0 (cut-short (status a) h)
+  delivered-leaves : (a : Answer) (result : ℕ) (failed : Type 0) (old new : Option (List ℕ)) → IsDelivered a result failed old new
+      → LeavesOut IsText (status a) before now → LeavesOut IsText result before now
+  delivered-leaves a result failed old new (inl d) h = subst (λ n. LeavesOut IsText n before now) (sym d.0) h
+  delivered-leaves a result failed old new (inr (inl (five, f), d)) h = front-leaves result (inl five) (cut-short (status a) h)
+  delivered-leaves a result failed old new (inr (inr six, d)) h = front-leaves result (inr six) (cut-short (status a) h)
 
 -- the file holds what it held
 alone : (IsText : List ℕ → Type 0) (n : ℕ) (held : Option (List ℕ)) → (n ≡ 0 → ⊥) → LeavesOut IsText n held held
@@ -110,10 +112,10 @@ module _ (IsText : Contents → List ℕ → Type 0) (out : List ℕ) (a : Answe
 abbrev pub LeavesAll : List (List ℕ) → ℕ → Contents → Contents → Type 0
 LeavesAll ws n x y = (c : Command) (out : List ℕ) → Words ws c → output_of c ≡ Some out → LeavesOut (IsOutput x c) n (x out) (y out)
 
-pub written-given : (ws : List (List ℕ)) (a : Answer) (result : ℕ) (old new : Option (List ℕ)) → IsDelivered a result old new → (o n : Option Contents)
+pub written-given : (ws : List (List ℕ)) (a : Answer) (result : ℕ) (failed : Type 0) (old new : Option (List ℕ)) → IsDelivered a result failed old new → (o n : Option Contents)
     → WhereTold o n (LeavesAll ws (status a)) → WhereTold o n (LeavesAll ws result)
-written-given ws a result old new d o n h =
-    where_told o n (LeavesAll ws (status a)) (LeavesAll ws result) (λ x y all c out w e. delivered-leaves (IsOutput x c) (x out) (y out) a result old new d (all c out w e)) h
+written-given ws a result failed old new d o n h =
+    where_told o n (LeavesAll ws (status a)) (LeavesAll ws result) (λ x y all c out w e. delivered-leaves (IsOutput x c) (x out) (y out) a result failed old new d (all c out w e)) h
 
 -- the words are those of a command that writes this file
 same-output : (out out' : List ℕ) → Some out ≡ Some out' → out ≡ out'

@@ -56,11 +56,17 @@ pub fn check_split(alloc: Global, elf: &[u8], proof: &[u8]) -> Verdict
     // What the verdict says of them.
     ensures verdict { SaysBy IsExchanged version_4 elf.now proof.now result }
 
-    // Where they are accepted, the functions of the text are right: over any two regions that are apart, one for each memory.
-    ensures headline { IsAcceptance result → (ps : Items ProofTree) → IsTextOfIn version_4 proof.now ps → Headline elf.now (groups_of ps) }
+    // Where they are accepted, the functions of the text are right: over any two regions that are
+    // apart, one for each memory.
+    ensures headline { IsAcceptance result
+        → (ps : Items ProofTree)
+        → IsTextOfIn version_4 proof.now ps
+        → Headline elf.now (groups_of ps) }
 
     // A verdict that says what is so comes, but for want of memory.
-    ensures exact { (v : VerdictOf) → SaysBy IsExchanged version_4 elf.now proof.now v → (result ≡ v) ⊎ (v ≡ Verdict.NoMemory) ⊎ (result ≡ Verdict.NoMemory) }
+    ensures exact { (v : VerdictOf)
+        → SaysBy IsExchanged version_4 elf.now proof.now v
+        → (result ≡ v) ⊎ (v ≡ Verdict.NoMemory) ⊎ (result ≡ Verdict.NoMemory) }
 {
     let mut reader = Reader::newer(proof, 4);
     check_numbered(alloc, elf, &mut reader, &Exchange)
