@@ -3,8 +3,9 @@
 Tells which crates the prover has to look at again: those with a file that differs from REVISION
 (HEAD where none is given), files that git doesn't know included, and those that stand on them, in
 the order of crates.txt, in which they are proved. A crate whose line in crates.txt differs counts
-as changed. Where bench/gate.json is there, a list of objects with the fields `crate`, `proof`,
-`tests` and `edits`, it tells the processor seconds that each crate took last, and their sum.
+as changed. Where tools/gate.py has written bench/gate.json, it tells the processor seconds that
+each crate took last: of its proof, of its tests' proof, of its wrong bodies, of the rest, and of
+all.
 """
 import json
 import pathlib
@@ -16,7 +17,7 @@ import crates
 
 TOP = pathlib.Path(__file__).resolve().parent.parent.parent
 TIMES = TOP / "bench" / "gate.json"
-KINDS = ("proof", "tests", "edits")
+KINDS = ("proof", "tests", "edits", "rest")
 
 
 def git(*words):
@@ -63,25 +64,25 @@ def times():
     """The seconds that each crate took last, by kind."""
     if not TIMES.exists():
         return {}
-    rows = json.loads(TIMES.read_text(encoding="utf8"))
-    return {row["crate"]: [row.get(kind) or 0 for kind in KINDS] for row in rows}
+    rows = json.loads(TIMES.read_text(encoding="utf8"))["crates"]
+    return {row["crate"]: [row[kind] for kind in KINDS] for row in rows}
+
+
+def row(mark, name, width, seconds):
+    """A line of the table: a crate, its seconds by kind, and their sum."""
+    shown = "".join(f"{value:8}" for value in [*seconds, sum(seconds)]) if seconds else ""
+    return f"{mark} {name:{width}}{shown}".rstrip()
 
 
 def table(affected, changed, took):
     """A line for each crate, and one for all of them."""
     width = max(len(name) for name in [*affected, "all"])
-    head = [" ".join([" " * (width + 2), *(f"{kind:>8}" for kind in KINDS)])] if took else []
-    lines, sums = [], [0] * len(KINDS)
-    for crate in affected:
-        mark = "* " if crate in changed else "  "
-        seconds = took.get(crate, [])
-        shown = " ".join(f"{value:8.0f}" for value in seconds)
-        lines.append(f"{mark}{crate:{width}} {shown}".rstrip())
-        if seconds:
-            sums = [before + value for before, value in zip(sums, seconds)]
-    if took:
-        lines.append(f"  {'all':{width}} " + " ".join(f"{value:8.0f}" for value in sums))
-    return head + lines
+    lines = [row("*" if crate in changed else " ", crate, width, took.get(crate)) for crate in affected]
+    if not took:
+        return lines
+    head = f"  {'':{width}}" + "".join(f"{kind:>8}" for kind in [*KINDS, "all"])
+    known = [took[crate] for crate in affected if crate in took]
+    return [head, *lines, row(" ", "all", width, [sum(values) for values in zip(*known)])]
 
 
 def main(arguments):
@@ -99,6 +100,6 @@ def main(arguments):
         return 0
     took = times()
     print("\n".join(table(affected, changed, took)))
-    print(f"\n{len(affected)} crates; * has changes itself.", end="")
-    print(f" Processor seconds of {TIMES.relative_to(TOP)}." if took else "")
+    told = " Processor seconds as of bench/gate.json." if took else ""
+    print(f"\n{len(affected)} crates; * has changes itself.{told}")
     return 0

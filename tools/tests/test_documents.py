@@ -90,8 +90,9 @@ class Affected(unittest.TestCase):
         self.assertEqual(affected.with_those_above({"rv_words"}, uses), list(uses))
 
     def test_seconds(self):
-        lines = affected.table(["a", "b"], {"a"}, {"a": [3, 0, 20]})
-        self.assertEqual([line.split() for line in lines[1:]], [["*", "a", "3", "0", "20"], ["b"], ["all", "3", "0", "20"]])
+        lines = affected.table(["a", "b"], {"a"}, {"a": [3, 0, 20, 1]})
+        shown = [line.split() for line in lines[1:]]
+        self.assertEqual(shown, [["*", "a", "3", "0", "20", "1", "24"], ["b"], ["all", "3", "0", "20", "1", "24"]])
 
     def test_wrong_words(self):
         told = io.StringIO()
