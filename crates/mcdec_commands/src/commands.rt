@@ -57,14 +57,17 @@ pub fn run_words<S: Shelf, O: Sink>(
         → result ≡ 0
         → AreRightFiles files elf proof) }
 
-    // What a command leaves in its output file: with status 0 all of a text that it may write, with
-    // 5 and 6 a front of one or what was there, with any other status what was there.
+    // What a command leaves in its output file: with status 0 all of a text that it may write, of
+    // which the printed answer tells, with 5 and 6 a front of one or what was there, with any other
+    // status what was there.
     ensures written { WhereTold (S.contents shelf.old) (S.contents shelf.new)
         (λ old new.
-        (c : CommandOf) (out : List ℕ)
+        (c : CommandOf) (name : List ℕ)
         → Words (texts words.now) c
-        → output_of c ≡ Some out
-        → LeavesOut (IsOutput old c) result (old out) (new out)) }
+        → output_of c ≡ Some name
+        → LeavesOut (IsOutput old c)
+        (λ a. IsPrinted a result (O.written out.old) (O.written out.new)) result
+        (old name) (new name)) }
 
     ensures read_fault { result ≡ 4 → Rose (S.read_faults shelf.old) (S.read_faults shelf.new) }
     ensures write_fault { result ≡ 5
@@ -94,10 +97,10 @@ fn answer_words<S: Shelf>(alloc: Global, words: &[String], shelf: &mut S) -> Ans
 
     ensures written { WhereTold (S.contents shelf.old) (S.contents shelf.new)
         (λ old new.
-        (c : CommandOf) (out : List ℕ)
+        (c : CommandOf) (name : List ℕ)
         → Words (texts words.now) c
-        → output_of c ≡ Some out
-        → LeavesOut (IsOutput old c) (status result) (old out) (new out)) }
+        → output_of c ≡ Some name
+        → LeavesOut (IsOutput old c) (λ a. a ≡ result) (status result) (old name) (new name)) }
     ensures write_fault { status result ≡ 5
         → Rose (S.write_faults shelf.old) (S.write_faults shelf.new) }
 

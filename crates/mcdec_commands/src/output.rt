@@ -16,7 +16,7 @@ pub fn write_answer<S: Shelf>(shelf: &mut S, name: &str, text: &[u8], told: Answ
     ensures answer { ToldOrFault told result }
 
     ensures written { WhereTold (S.contents shelf.old) (S.contents shelf.new)
-        (WritesOut (λ files t. t ≡ text.now) name.now result) }
+        (WritesOut (λ files b t. (b ≡ told) × (t ≡ text.now)) name.now result) }
     ensures reads { S.read_faults shelf.new ≡ S.read_faults shelf.old }
     ensures counted { S.write_faults shelf.old ≤ S.write_faults shelf.new }
     ensures cause { status result ≡ 5 → Rose (S.write_faults shelf.old) (S.write_faults shelf.new) }
