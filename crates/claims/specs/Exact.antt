@@ -6,7 +6,7 @@ use Rattle.rv_machine.specs.Run.{run, IsAtReturn}
 use Rattle.tailrec_lang.specs.declared.group.Exit.TheVariants.{Ret}
 use Rattle.tailrec_lang.specs.Tree.{GroupTree, exits_at, listed_def}
 use Rattle.tailrec_lang.specs.Eval.{Arguments, Done, eval}
-use Rattle.checker.specs.Headline.{Region, is_within, held_in, Starts, Ends}
+use Rattle.claims.specs.Headline.{Region, is_within, held_in, Starts, Ends}
 
 -- the next step loads and stores in the regions alone
 abbrev pub StaysWithin : List Region → State → Type 0

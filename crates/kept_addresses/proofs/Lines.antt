@@ -12,7 +12,7 @@ use Rattle.loop_rule.specs.Rule.{IsClosedBy}
 use Rattle.proof_text.specs.Line.{RuleTree, Axiom, Inst, Frame, Compose, ExtendCode, Strengthen, Weaken, Discharge, UseExit, LineTree, States, Loop, Forget, Further}
 use Rattle.checker.specs.Instance.{AreInstancesBy, FurtherRule, History, InstanceBy, Meets, after_line, no_lines, put_for}
 use Rattle.frame_compose.specs.Rules.{IsFramed, IsExtended, IsComposed}
-use Rattle.stack_split.specs.Addresses.{AllHave, ExitsHave}
+use Rattle.kept_addresses.specs.Addresses.{AllHave, ExitsHave}
 
 -- each rule keeps P
 pub record RulesKeep (P : TripleTree → Type 0) (F : FurtherRule) (g : GroupTree) : Type 0 where

@@ -6,8 +6,8 @@ use Rattle.rv_machine.specs.Step.{instruction_at, length_at, next, step}
 use Rattle.rv_machine.specs.Touches.{touches, IsTouched}
 use Rattle.rv_machine.specs.Run.{run, IsAtReturn}
 use Rattle.tailrec_lang.specs.Tree.{GroupTree}
-use Rattle.checker.specs.Headline.{Region, Starts}
-use Rattle.exactness.specs.Exact.{Gives}
+use Rattle.claims.specs.Headline.{Region, Starts}
+use Rattle.claims.specs.Exact.{Gives}
 
 -- ---- several memories
 

@@ -5,7 +5,7 @@ ghost use Rattle.group_text.specs.Version.{version_3};
 ghost use Rattle.proof_text.specs.Line.{ProofTree};
 ghost use Rattle.proof_text.specs.Proofs.{groups_of};
 ghost use Rattle.checker.specs.declared.verdict.Verdict.{Verdict as VerdictOf};
-ghost use Rattle.checker.specs.Headline.{Headline};
+ghost use Rattle.claims.specs.Headline.{Headline};
 ghost use Rattle.checker.specs.Verdicts.{IsAcceptance, IsTextOfIn, SaysBy};
 ghost use Rattle.further_rules.specs.Rules.{IsSteered};
 

@@ -18,7 +18,7 @@ use Rattle.loop_rule.specs.Rule.{results, exit_triple}
 use Rattle.loop_rule.proofs.Scopes.{nothing_known}
 use Rattle.loop_rule.proofs.Variables.{arguments-are, with_arguments-words, with_arguments-mems}
 use Rattle.loop_rule.proofs.Ways.{OnWay}
-use Rattle.stack_split.proofs.Ways.{after_exit, AllGo, follow, place_after-is}
+use Rattle.kept_addresses.proofs.Ways.{after_exit, AllGo, follow, place_after-is}
 
 module _ (g : GroupTree) (View : Type 0) (view : AssertionTree → Environment → View) (place : ℕ → Arguments → View)
     (place-is : (pc : WordTree) (v : ValuesTree) (e : Environment) → view (with_values g pc v) e ≡ place (word_value pc e) (arguments_of v e))

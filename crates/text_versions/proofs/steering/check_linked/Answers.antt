@@ -2,7 +2,7 @@ use Rattle.std.proofs.Common.{arith, refl, sym}
 use Rattle.group_text.specs.declared.version.Version.TheVariants.{Three}
 use Rattle.further_rules.specs.Rules.{IsSteered}
 use Rattle.checker.proofs.CheckLemmas.{headline-said, said}
-use Rattle.call_link.proofs.check.check_linked.Goals as goal
+use Rattle.text_versions.proofs.steering.check_linked.Goals as goal
 
 pub returns-clause-verdict : goal.returns-clause-verdict
 returns-clause-verdict c = said IsSteered c.newer-reader.result.version Three c.args.elf.now c.newer-reader.result.text c.args.proof.now c.check_numbered.result (c.newer-reader.ensures.three refl) c.newer-reader.ensures.text c.check_numbered.ensures.verdict

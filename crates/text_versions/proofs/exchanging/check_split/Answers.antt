@@ -2,8 +2,8 @@ use Rattle.std.proofs.Common.{refl, sym}
 use Rattle.group_text.specs.declared.version.Version.TheVariants.{Four}
 use Rattle.further_rules.specs.Rules.{IsExchanged}
 use Rattle.checker.proofs.CheckLemmas.{said}
-use Rattle.stack_split.proofs.CheckLemmas.{accepted-headline}
-use Rattle.stack_split.proofs.check.check_split.Goals as goal
+use Rattle.kept_addresses.proofs.CheckLemmas.{accepted-headline}
+use Rattle.text_versions.proofs.exchanging.check_split.Goals as goal
 
 pub returns-clause-verdict : goal.returns-clause-verdict
 returns-clause-verdict c = said IsExchanged c.newer-reader.result.version Four c.args.elf.now c.newer-reader.result.text c.args.proof.now c.check_numbered.result (c.newer-reader.ensures.four refl) c.newer-reader.ensures.text c.check_numbered.ensures.verdict

@@ -15,13 +15,13 @@ use Rattle.checker.specs.declared.verdict.Verdict.{Verdict}
 use Rattle.checker.specs.declared.verdict.Verdict.TheVariants as verdict
 use Rattle.checker.specs.Instance.{no_lines}
 use Rattle.checker.specs.Accepts.{IsAcceptedBy}
-use Rattle.checker.specs.Headline.{Headline, IsRight}
+use Rattle.claims.specs.Headline.{Headline, IsRight}
 use Rattle.checker.specs.Verdicts.{IsAcceptance, IsTextOfIn, SaysBy}
 use Rattle.checker.proofs.SoundLemmas.{lines-sound, no_lines-sound}
-use Rattle.stack_split.specs.Addresses.{KeepsAddresses}
-use Rattle.stack_split.proofs.AddressLemmas.{keeps-exchange}
-use Rattle.stack_split.proofs.Lines.{lines-have, no_lines-have}
-use Rattle.stack_split.proofs.RegionLemmas.{function-right-over}
+use Rattle.kept_addresses.specs.Addresses.{KeepsAddresses}
+use Rattle.kept_addresses.proofs.AddressLemmas.{keeps-exchange}
+use Rattle.kept_addresses.proofs.Lines.{lines-have, no_lines-have}
+use Rattle.kept_addresses.proofs.RegionLemmas.{function-right-over}
 
 -- one proof that is accepted
 proof-right : (file : List ℕ) (p : ProofTree) → IsGroupIn version_4 p.group → IsAcceptedBy IsExchanged file p → IsRight file p.group

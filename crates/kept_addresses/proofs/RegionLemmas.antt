@@ -21,13 +21,13 @@ use Rattle.triple_kernel.specs.Tree.{FactTree, Gives}
 use Rattle.triple_kernel.specs.Fact.{Leaves, Holds}
 use Rattle.loop_rule.specs.Leaves.{parameters, at_exit}
 use Rattle.loop_rule.specs.Rule.{results, IsClosed}
-use Rattle.checker.specs.Headline.{Region, cut, is_within, held_in, Ends, IsRight}
+use Rattle.claims.specs.Headline.{Region, cut, is_within, held_in, Ends, IsRight}
 use Rattle.checker.proofs.CountLemmas.{place_by, given_by, done-by}
 use Rattle.checker.proofs.PartLemmas.{held_part, Fills}
 use Rattle.checker.proofs.VariableLemmas.{both_as_variables, parameters-are, results-are}
 use Rattle.checker.proofs.SplitLemmas.{left_over, state-splits}
 use Rattle.checker.proofs.HeadlineLemmas.{ends-filled, runs}
-use Rattle.stack_split.specs.Addresses.{ExitsHave, HaveSameAddresses, KeepsAddresses, memories_of}
+use Rattle.kept_addresses.specs.Addresses.{ExitsHave, HaveSameAddresses, KeepsAddresses, memories_of}
 
 -- ---- regions
 

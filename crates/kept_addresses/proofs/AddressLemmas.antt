@@ -28,11 +28,11 @@ use Rattle.loop_rule.specs.Tree.{LeafTree}
 use Rattle.loop_rule.specs.Leaves.{at_entry, parameters, leaves_of}
 use Rattle.loop_rule.specs.Rule.{LeadsTo, IsLedTo, IsClosedBy}
 use Rattle.further_rules.specs.Rules.{AreExchanged, IsExchanged}
-use Rattle.stack_split.specs.Addresses.{ExitsHave, HaveSameAddresses, KeepsAddresses, memories_of}
-use Rattle.stack_split.proofs.FactLemmas.{holds-put_in, mems-put_in, stated-holds}
-use Rattle.stack_split.proofs.Lines.{RulesKeep}
-use Rattle.stack_split.proofs.Loops.{exit-goes}
-use Rattle.stack_split.proofs.Ways.{AllGo}
+use Rattle.kept_addresses.specs.Addresses.{ExitsHave, HaveSameAddresses, KeepsAddresses, memories_of}
+use Rattle.kept_addresses.proofs.FactLemmas.{holds-put_in, mems-put_in, stated-holds}
+use Rattle.kept_addresses.proofs.Lines.{RulesKeep}
+use Rattle.kept_addresses.proofs.Loops.{exit-goes}
+use Rattle.kept_addresses.proofs.Ways.{AllGo}
 
 -- ---- memories with the same addresses, in order
 
