@@ -1,7 +1,6 @@
 """The definitions of a function as lines that a person reads: the function first, then what it calls, each before what that calls."""
 import dataclasses
 
-from mc import notation
 from mc.notation import MEMORIES, Name, is_plain, simplified, text
 from mc.syntax import ABI, LOADS, PRESENT, RETURN, STORES, Again, Call, Form, If, Leave, Let, Need, Variable, exit_text
 
@@ -10,12 +9,13 @@ LONGEST = 60
 
 @dataclasses.dataclass(frozen=True)
 class Line:
-    """A line of a definition: its depth, what stands there, the definition that it calls, and the loads in it."""
+    """A line of a definition: its depth, what stands there, the terms in it, the definition that it calls, the side condition that it tells of."""
 
     depth: int
     text: str
+    terms: tuple = ()
     target: int = None
-    loads: tuple = ()
+    need: int = None
 
 
 @dataclasses.dataclass(frozen=True)
@@ -132,31 +132,32 @@ class _Body:
         self.body(definition.body, names, "", 0)
         return self.found
 
-    def put(self, depth, words, terms=(), target=None):
-        self.found.append(Line(depth, words, target, tuple(load for term in terms for load in notation.loads(term))))
+    def put(self, depth, words, terms=(), target=None, need=None):
+        self.found.append(Line(depth, words, tuple(terms), target, need))
 
     def body(self, body, names, primes, depth):
         """`primes` are those of the registers as the last call left them."""
-        told = ""
+        joined = None
         for at, step in enumerate(body.steps):
             if isinstance(step, Let):
-                self.bind(step, body.steps[at + 1 :], body.end, names, depth, told)
-                told = ""
+                self.bind(step, body.steps[at + 1 :], body.end, names, depth, joined)
+                joined = None
             elif step.number in self.joined:
-                told = f"    (need {step.number})"
+                joined = step.number
             else:
                 condition = simplified(step.condition, names)
-                self.put(depth, f"need {step.number}: {text(condition)}", [condition])
+                self.put(depth, f"need {step.number}: {text(condition)}", [condition], need=step.number)
         self.ending(body.end, names, primes, depth)
 
-    def bind(self, step, steps, end, names, depth, told):
-        """Gives a variable its name, and where it needs one, a line."""
+    def bind(self, step, steps, end, names, depth, joined):
+        """Gives a variable its name, and where it needs one, a line. `joined` is the number of the need that is told in that line."""
         value, variable = simplified(step.value, names), step.variable
-        if is_plain(value) or variable.kind == "v" and self.fold and not told and self.folds(variable, value, steps, end):
+        if is_plain(value) or variable.kind == "v" and self.fold and joined is None and self.folds(variable, value, steps, end):
             names[variable] = value
             return
         names[variable] = Name(str(variable) if variable.kind == "v" else f"{self.stored_to(value)}{variable.index}")
-        self.put(depth, f"{text(names[variable])} = {text(value)}{told}", [value])
+        told = "" if joined is None else f"    (need {joined})"
+        self.put(depth, f"{text(names[variable])} = {text(value)}{told}", [value], need=joined)
 
     def folds(self, variable, value, steps, end):
         """Whether a word is written in the place where it is used: it is used once, and isn't long. One that isn't used is left out."""

@@ -86,14 +86,11 @@ def _enclosed(words, inside):
     return f"({words})" if inside else words
 
 
-def loads(term):
-    """The loads in a simplified term."""
-    if not isinstance(term, Form):
-        return
-    for part in term.parts:
-        yield from loads(part)
-    if term.name in LOADS:
-        yield term
+def inner(term):
+    """A simplified term and all terms in it."""
+    yield term
+    for part in term.parts if isinstance(term, Form) else ():
+        yield from inner(part)
 
 
 def names_line(group):

@@ -23,11 +23,12 @@ stored to where there are two (stk2). A variable that is a copy of another, or a
 import argparse
 import difflib
 import itertools
+import os
 import signal
 import sys
 import textwrap
 
-from mc import elf, listing, notation, picture, proof
+from mc import elf, listing, notation, page, picture, proof
 from mc.beside import Beside
 from mc.syntax import exit_text
 
@@ -107,7 +108,7 @@ def group_text(group, fold, beside):
     blocks = listing.blocks(group, fold)
     codes = [beside.code(block.definition.axioms) if beside else [] for block in blocks]
     width = max((len(line) for code in codes for line in code), default=0)
-    if beside and width == 0:
+    if beside and width == 0 and beside.all_code(group):
         yield from ["", *("    " + line for line in beside.all_code(group))]
     for block, code in zip(blocks, codes):
         yield ""
@@ -124,8 +125,8 @@ def block_text(block, code, width, beside):
 
 def noted(line, beside):
     """What the file has for the loads of a line."""
-    notes = beside.notes(line.loads) if beside else []
-    return f"    # {'; '.join(notes)}" if notes else ""
+    notes = beside.notes(line.terms) if beside else []
+    return f"    # {'. '.join(notes)}" if notes else ""
 
 
 def main(arguments):
@@ -138,6 +139,8 @@ def main(arguments):
             print(f"mc show: {warning}", file=sys.stderr)
         if words.dot:
             print("\n".join(picture.picture(groups)))
+        elif words.html:
+            print("\n".join(page.page(f"{os.path.basename(words.proof)}{f', {words.function}' if words.function else ''}", groups, words.fold, beside)))
         else:
             print("\n\n\n".join("\n".join(group_text(group, words.fold, beside)) for group in groups))
     except Failure as bad:

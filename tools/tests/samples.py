@@ -1,8 +1,12 @@
 """Files for tests: where the examples stand, and a small ELF file made by hand, which has each thing that the reader is to find."""
+import contextlib
+import io
+import os
 import pathlib
 import struct
 import subprocess
-import sys
+
+from mc import main
 
 TOP = pathlib.Path(__file__).resolve().parents[2]
 EXAMPLES = TOP / "examples"
@@ -15,8 +19,20 @@ CODE_AT, TABLE_AT, COUNTER_AT, ZEROS_AT = 0x10000, 0x10100, 0x11000, 0x11008
 
 
 def mc(*words, cwd="/"):
-    """Runs `./mc` with these words: the exit status, the output and the errors."""
-    done = subprocess.run([sys.executable, str(TOP / "mc"), *map(str, words)], capture_output=True, text=True, cwd=cwd)
+    """What `./mc` does with these words, in this process: the exit status, the output and the errors."""
+    out, errors, here = io.StringIO(), io.StringIO(), os.getcwd()
+    os.chdir(cwd)
+    try:
+        with contextlib.redirect_stdout(out), contextlib.redirect_stderr(errors):
+            status = main.main([str(word) for word in words])
+    finally:
+        os.chdir(here)
+    return status, out.getvalue(), errors.getvalue()
+
+
+def script(*words, cwd="/"):
+    """The same by the script itself."""
+    done = subprocess.run([TOP / "mc", *map(str, words)], capture_output=True, text=True, cwd=cwd)
     return done.returncode, done.stdout, done.stderr
 
 

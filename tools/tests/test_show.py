@@ -5,7 +5,7 @@ import re
 import tempfile
 import unittest
 
-from mc import disassembly, proof, show
+from mc import disassembly, proof
 from tests import samples
 from tests.samples import EXAMPLES, PROOFS, mc
 
@@ -46,8 +46,10 @@ class OfTheExamples(unittest.TestCase):
             self.assertEqual(mc("show", path_of(name, "proof")), (0, expected, ""))
             self.assertEqual(mc("show", path_of(name, "proof"), name.split("/")[1]), (0, expected, ""))
 
-    def test_from_their_own_folder(self):
-        self.assertEqual(mc("show", "gcd.proof", cwd=EXAMPLES / "gcd"), (0, path_of("gcd/gcd", "txt").read_text(), ""))
+    def test_from_any_folder(self):
+        expected = (0, path_of("gcd/gcd", "txt").read_text(), "")
+        self.assertEqual(samples.script("show", "gcd.proof", cwd=EXAMPLES / "gcd"), expected)
+        self.assertEqual(samples.script("show", path_of("gcd/gcd", "proof"), cwd="/"), expected)
 
     def test_what_the_documents_show(self):
         for page in ("README.md", "docs/TUTORIAL.md", "examples/README.md"):
@@ -85,6 +87,94 @@ class OfTheExamples(unittest.TestCase):
         self.assertIn("    return to ra & -2 with a0 = a1 - 1\n", out)
         _, out, _ = mc("show", path_of("average/average", "proof"), "--fold")
         self.assertIn("    v4 = a1 & a0\n    return to ra & -2 with a0 = ((a0 ^ a1) >>u 1) + v4, a2 = v4\n", out)
+
+
+def has_disassembler():
+    try:
+        return bool(disassembly.instructions(str(path_of("gcd/gcd", "elf")), [(0x11120, 0x11130)]))
+    except disassembly.NoDisassembler:
+        return False
+
+
+class OfAFileBeside(unittest.TestCase):
+    @unittest.skipUnless(has_disassembler(), "no disassembler of RISC-V is on the path")
+    def test_each_instruction_of_the_tutorial_stands_in_one_place(self):
+        page = (samples.TOP / "docs" / "TUTORIAL.md").read_text(encoding="utf8")
+        expected = {address: words.split() for address, words in re.findall(r"^([0-9a-f]{5}): (?:[0-9a-f]{2} )+ *(.*)$", page, re.M)}
+        status, out, told = mc("show", path_of("gcd/gcd", "proof"), "--elf", path_of("gcd/gcd", "elf"))
+        rows = re.findall(r"^    ([0-9a-f]{5}): (.*?) *(?:<.*>)? *\|", out, re.M)
+        self.assertEqual((status, told, len(rows)), (0, "", 7))
+        self.assertEqual({address: words.split() for address, words in rows}, expected)
+        parts = {part.partition(",")[0]: re.findall(r"^    ([0-9a-f]{5}): ", part, re.M) for part in out.split("\n\n")[1:]}
+        self.assertEqual(parts, {"gcd = d4": ["11120"], "d3": [], "d2": ["1112c"], "d1": ["1112e"], "d0": ["11122", "11124", "11128", "1112a"]})
+
+    def test_bytes_at_constant_addresses(self):
+        lines = ["let (add 0x10000 0x102)", "need (in2 m0 v3)", "let (sx2 (ld2 m0 v3))", "let (ld8 m0 0x11000)", "let (ld8 m0 0x20000)", "let (add v1 0x10100)", "let (ld2 m0 v1)"]
+        with tempfile.TemporaryDirectory() as folder:
+            text, file = pathlib.Path(folder) / "f.proof", pathlib.Path(folder) / "f.elf"
+            text.write_text(GROUP.format("".join(line + "\n" for line in lines)))
+            file.write_bytes(samples.elf_file())
+            status, out, told = mc("show", text, "--elf", file)
+            self.assertEqual(status, 0)
+            for line in (
+                "v4 = sx2(mem[0x10102]:2)    # in the file 0x2042 (table+2, .rodata)\n",
+                "v5 = mem[0x11000]:8    # in the file 0x7 (counter, .data; writable: may have changed)\n",
+                "v6 = mem[0x20000]:8    # nothing of the file at 0x20000\n",
+                "v7 = a0 + 0x10100    # 0x10100: table, .rodata\n",
+                "v8 = mem[a0]:2\n",
+            ):
+                self.assertIn(line, out)
+            self.assertIn("part at 0x10000 <f>: returns\n", out)
+            file.write_bytes(samples.elf_file(kind=3).replace(samples.CODE, b"\0\0"))
+            _, _, told = mc("show", text, "--elf", file)
+            self.assertIn("position independent", told)
+            self.assertIn("the code of f isn't that of", told)
+
+
+class Page(html.parser.HTMLParser):
+    """The tags of a page, with what they name and link to."""
+
+    def __init__(self, text):
+        super().__init__()
+        self.open, self.wrong, self.ids, self.links, self.tags = [], [], [], [], set()
+        self.feed(text)
+
+    def handle_starttag(self, tag, attributes):
+        self.tags.add(tag)
+        if tag != "meta":
+            self.open.append(tag)
+        self.ids += [value for name, value in attributes if name == "id"]
+        self.links += [value for name, value in attributes if name in ("href", "src")]
+
+    def handle_endtag(self, tag):
+        if not self.open or self.open.pop() != tag:
+            self.wrong.append(tag)
+
+
+class OfThePage(unittest.TestCase):
+    def test_is_whole(self):
+        for name in PROOFS:
+            for options in ((), ("--fold",), ("--elf", path_of(name, "elf"))):
+                status, out, _ = mc("show", path_of(name, "proof"), "--html", *options)
+                page = Page(out)
+                self.assertEqual((status, page.open, page.wrong, len(page.ids)), (0, [], [], len(set(page.ids))))
+                self.assertTrue(all(link[0] == "#" and link[1:] in page.ids for link in page.links))
+                self.assertFalse(page.tags & {"script", "link", "img", "iframe"} or re.search(r"url\(|@import|https?:", out))
+
+    def test_has_what_the_listing_has(self):
+        _, out, _ = mc("show", path_of("split/swap", "proof"), "--html")
+        lines = [html.unescape(re.sub("<[^>]*>", "", line)) for line in re.findall(r'^<div class="line".*</div>$', out, re.M)]
+        self.assertEqual(lines, [line.strip() for line in path_of("split/swap", "txt").read_text().splitlines() if line.startswith("    ")])
+        self.assertIn('id="f0d0need15">', out)
+
+    def test_names_are_escaped(self):
+        text = GROUP.format("").replace("group f", "group f<b>&")
+        with tempfile.TemporaryDirectory() as folder:
+            path = pathlib.Path(folder) / "text"
+            path.write_text(text)
+            _, out, _ = mc("show", path, "--html")
+            self.assertIn("<h2>f&lt;b&gt;&amp;</h2>", out)
+            self.assertNotIn("f<b>", out)
 
 
 class OfTerms(unittest.TestCase):
