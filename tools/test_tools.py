@@ -1,8 +1,7 @@
 #!/usr/bin/env python3
-"""test_tools.py [PROGRAM]: tries tools/show.py and tools/functions.py on the examples, and the documents. It takes some two seconds of a processor.
+"""test_tools.py [PROGRAM]: tries the tools on the examples, and the documents. It takes some ten seconds of a processor.
 
-Without PROGRAM, what needs no program: each example's text is shown as the file beside it says, as a picture too, and one function of it alone; a text
-that is no proof file is refused; the symbols of the ELF files are found; links of the documents, and paths that they name, lead somewhere; each crate of
+Without PROGRAM, what needs no program: the tests of tools/tests; the symbols of the ELF files are found; links of the documents, and paths that they name, lead somewhere; each crate of
 crates.txt stands in README.md, in its layer, and in the tables of ARCHITECTURE.md and PROMISES.md, which names public items alone; the file of README's first
 command is that of the tutorial. With a built program also what it says of the examples: each is decompiled, linked or split to the text that stands there, and
 exported to the script; the lines are those of examples/README.md and TUTORIAL.md, and functions.py tells which functions are refused.
@@ -57,25 +56,11 @@ def say(tool, *words):
     return done.returncode, done.stdout, done.stderr
 
 
-def try_show(folder):
-    for example, name in [*zip(SHOWN, SHOWN), LINKED, SPLIT]:
-        proof = os.path.join(EXAMPLES, example, f"{name}.proof")
-        expected = read(example, f"{name}.txt").decode()
-        expect(f"show.py {name}", say("show.py", proof) == (0, expected, ""))
-        expect(f"show.py {name}, the function alone", say("show.py", proof, name) == (0, expected, ""))
-        status, picture, _ = say("show.py", proof, "--dot")
-        nodes = set(re.findall(r"^    (\w+) \[", picture, re.M))
-        edges = re.findall(r"^    (\w+) -> (\w+) ", picture, re.M)
-        expect(f"show.py {name} --dot", status == 0 and edges and all(a in nodes and b in nodes for a, b in edges))
-        expect(f"show.py {name}, another function", say("show.py", proof, "f")[:2] == (1, ""))
-        # Each front of whole lines is no proof file; what the last line is shows whether it was read to its end.
-        text = read(example, f"{name}.proof").decode().split("\n")
-        front = os.path.join(folder, "front")
-        for count in (0, 1, 4, 7, text.index("end")):
-            with open(front, "w") as file:
-                file.write("\n".join(text[:count]))
-            status, out, told = say("show.py", front)
-            expect(f"show.py on {count} lines of {name}", (status, out) == (1, "") and "not a proof file" in told)
+def try_modules():
+    """The tests of tools/tests."""
+    words = [sys.executable, "-m", "unittest", "discover", "-q", "-s", os.path.join(TOOLS, "tests"), "-t", TOOLS]
+    done = subprocess.run(words, capture_output=True, text=True)
+    expect(f"tools/tests:\n{done.stderr}", done.returncode == 0)
 
 
 def try_symbols():
@@ -144,9 +129,9 @@ def try_tutorial(program, folder):
     _, lines, _ = say("functions.py", program, *own)
     refused = next(block for block in blocks if "  fib  " in block)
     expect("functions.py on the tutorial's own file", refused in lines and f"{own[1]}: accepted 2 {re.search('with ([0-9]+) lines of proofs', page)[1]}\n" in lines)
-    _, shown, _ = say("show.py", own[1], "crc")
-    first, last = next(block.split("..\n") for block in blocks if "\ncrc = " in block)
-    expect("show.py on the tutorial's own file", first in shown and shown.endswith(last))
+    shown = subprocess.run([os.path.join(TOP, "mc"), "show", own[1], "crc"], capture_output=True, text=True).stdout
+    pieces = next(block.split("..\n") for block in blocks if block.startswith("crc = "))
+    expect("mc show on the tutorial's own file", all(piece in shown for piece in pieces))
     expect("the tutorial shows what gcd.txt has", read("gcd", "gcd.txt").decode() in blocks)
     tried = []
     for block, told in zip(blocks, blocks[1:]):
@@ -235,7 +220,7 @@ def main():
     if len(sys.argv) > 2:
         sys.exit(__doc__)
     with tempfile.TemporaryDirectory() as folder:
-        try_show(folder)
+        try_modules()
         try_symbols()
         try_crates()
         try_documents()
