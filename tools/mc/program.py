@@ -11,7 +11,6 @@ import functools
 import hashlib
 import os
 import pathlib
-import re
 import shlex
 import subprocess
 import sys
@@ -21,7 +20,6 @@ CRATES = TOP / "crates"
 KEPT = TOP / ".mc"
 PROVED = CRATES / "mcdec" / "out" / "mcdec"
 VARIABLE = "MCDEC"
-RISCV = 243
 # Whether what is passed on is shown (`mc -v`).
 verbose = False
 
@@ -124,29 +122,3 @@ def run(arguments, **settings):
 def is_runnable(candidate):
     """Whether there is a file that may be executed."""
     return os.path.isfile(candidate) and os.access(candidate, os.X_OK)
-
-
-def is_of_riscv(candidate):
-    """Whether a file is code for RISC-V, which is no program to run here."""
-    with open(candidate, "rb") as file:
-        head = file.read(20)
-    return head[:4] == b"\x7fELF" and int.from_bytes(head[18:20], "little") == RISCV
-
-
-def given(words):
-    """For scripts whose first word may be a program's path: that path, or else the program as above, and the words behind it.
-
-    The first word is taken for a path where there is a file of that name that may be executed and isn't for RISC-V, or where it has a slash and no file is there.
-    """
-    first = words[0] if words else ""
-    if is_runnable(first) and not is_of_riscv(first):
-        return os.path.abspath(first), words[1:]
-    if "/" in first and not os.path.exists(first):
-        sys.exit(f"{first}: no such file")
-    try:
-        found = path()
-    except NoProgram as why:
-        sys.exit(str(why))
-    if re.match(r"\.mc/", os.path.relpath(found, TOP)):
-        print(f"taken: {os.path.relpath(found)}, built without proof", file=sys.stderr)
-    return str(found), words
