@@ -1,5 +1,6 @@
 """How the words of `./mc` lead to a module of this package."""
 import importlib
+import signal
 import sys
 
 # Name, module, one line. A module has its usage text as its docstring, and a function main(arguments) that gives the exit status.
@@ -11,6 +12,7 @@ TOOLS = [
 
 def main(arguments):
     """Runs the subcommand that the words name. Gives the exit status."""
+    signal.signal(signal.SIGPIPE, signal.SIG_DFL)
     modules = {name: module for name, module, _ in TOOLS}
     if arguments[:1] in (["help"], ["--help"]) and arguments[1:2] and arguments[1] in modules:
         print(importlib.import_module(modules[arguments[1]]).__doc__.strip())
