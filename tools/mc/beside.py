@@ -1,5 +1,5 @@
 """What an ELF file has to say beside the definitions of its functions: their instructions, names of addresses, bytes that are loaded from constant addresses."""
-from mc import disassembly, notation
+from mc import disassembly, elf, notation
 from mc.notation import is_plain
 from mc.syntax import LOADS, Form, Number, exit_text
 
@@ -27,7 +27,7 @@ class Beside:
     def place(self, address):
         """An address, with the name of the function that begins there."""
         name = self.image.functions.get(address)
-        return f"{exit_text(address)} <{name}>" if name else exit_text(address)
+        return f"{exit_text(address)} <{elf.printable(name)}>" if name else exit_text(address)
 
     def code(self, addresses):
         """The instructions at these addresses, a line each."""
@@ -59,4 +59,4 @@ class Beside:
 
     def told(self, address):
         """The symbol and the section of an address, as far as there are any."""
-        return ", ".join(name for name in (self.image.place(address), self.image.section_at(address)) if name)
+        return ", ".join(elf.printable(name) for name in (self.image.place(address), self.image.section_at(address)) if name)
