@@ -21,8 +21,6 @@ CRATES = TOP / "crates"
 LIST = TOP / "crates.txt"
 DOCUMENT = TOP / "docs" / "ARCHITECTURE.md"
 BEGIN, END = "<!-- crates.py: begin -->\n", "<!-- crates.py: end -->\n"
-# What documents call a layer that has another name in crates.txt.
-CALLED = {"proofs": "checker"}
 
 
 def layers():
@@ -33,7 +31,7 @@ def layers():
         head = re.match(r"# (\S+): (.*)", line)
         crate, colon, libraries = line.partition(":")
         if head:
-            layer = CALLED.get(head[1], head[1])
+            layer = head[1]
             titles[layer], crates[layer] = head[2], []
         elif colon and not line.startswith("#"):
             crates[layer].append(crate)

@@ -17,7 +17,7 @@ ghost use Rattle.proof_text.specs.Proofs.{groups_of};
 ghost use Rattle.checker.specs.declared.verdict.Verdict.{Verdict as VerdictOf};
 ghost use Rattle.checker.specs.Instance.{no_lines};
 ghost use Rattle.checker.specs.LineRules.{SaysOver};
-ghost use Rattle.checker.specs.Headline.{Headline};
+ghost use Rattle.claims.specs.Headline.{Headline};
 ghost use Rattle.checker.specs.Verdicts.{IsAcceptance, IsTextOf, IsTextOfIn, Says, SaysBy};
 ghost use Rattle.checker.specs.inner.Checking.{IsCodeOf, LineJudged, LinesJudged, MayFollow, NextGroup, NextLine, ProofJudged, StandBehind, TextJudged, verdict_of, with_group};
 ghost use Rattle.checker.specs.inner.Sourced.{pulled_by, stops_outside, verdicts};

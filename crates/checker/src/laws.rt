@@ -15,7 +15,7 @@ ghost use Rattle.proof_text.specs.Line.{LineTree, ProofTree};
 ghost use Rattle.proof_text.specs.Proofs.{groups_of};
 ghost use Rattle.checker.specs.Instance.{History, InstanceBy, after_line};
 ghost use Rattle.checker.specs.Accepts.{Accepts};
-ghost use Rattle.checker.specs.Headline.{IsRight, Headline};
+ghost use Rattle.claims.specs.Headline.{IsRight, Headline};
 ghost use Rattle.checker.specs.Sound.{Sound};
 ghost use Rattle.checker.specs.declared.verdict.Verdict.{Verdict};
 ghost use Rattle.checker.specs.LineRules.{SaysOver, whole_rules};

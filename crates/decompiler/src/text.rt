@@ -5,7 +5,7 @@ ghost use Rattle.std.specs.List.{AllByRecursion};
 ghost use Rattle.mc_text.specs.Tokens.{spell};
 ghost use Rattle.mc_text.specs.declared.token.Before.TheVariants.{Start};
 ghost use Rattle.tailrec_lang.specs.Tree.{group_tree, listed_def};
-ghost use Rattle.checker.specs.Headline.{entry_at};
+ghost use Rattle.claims.specs.Headline.{entry_at};
 ghost use Rattle.proof_text.specs.Line.{line_tree};
 ghost use Rattle.proof_text.specs.LineLimits.{IsLineIn};
 ghost use Rattle.proof_text.specs.Proofs.{AreProofs, AreProofsIn, IsProofIn, line_texts_in, proof_texts_in, text_of_proofs, text_of_proofs_in};

@@ -16,8 +16,8 @@ ghost use Rattle.code_parts.specs.Graph.{IsAlone, IsCode, IsGraph, IsPart};
 ghost use Rattle.code_parts.specs.Flows.{HaveCode, alone, flow_of, group_of};
 ghost use Rattle.code_parts.specs.Members.{AreMembers, Member};
 ghost use Rattle.code_parts.specs.Order.{AreParts};
-ghost use Rattle.exactness.specs.Exact.{Exact};
-ghost use Rattle.exactness.specs.LinkExact.{ExactIn, LinkExact};
+ghost use Rattle.claims.specs.Exact.{Exact};
+ghost use Rattle.claims.specs.LinkExact.{ExactIn, LinkExact};
 ghost use Rattle.exactness.specs.Functions.{UsedBy};
 ghost use Rattle.exactness.specs.Parts.{HasParts, LawOfPart};
 

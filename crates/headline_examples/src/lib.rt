@@ -8,7 +8,7 @@ ghost use Rattle.rv_machine.specs.State.{State};
 ghost use Rattle.triple_kernel.specs.Valid.{Reaches};
 ghost use Rattle.tailrec_lang.specs.Tree.{listed_def};
 ghost use Rattle.tailrec_lang.specs.Eval.{Done, eval};
-ghost use Rattle.checker.specs.Headline.{Ends, IsRight, Starts, held_in};
+ghost use Rattle.claims.specs.Headline.{Ends, IsRight, Starts, held_in};
 ghost use Rattle.headline_examples.specs.Sum.{narrow, sum, sum_file, sum_results, sum_start, wrong};
 ghost use Rattle.headline_examples.specs.Store.{at_place, keeps, quiet, store_file, store_start, stores};
 

@@ -7,7 +7,7 @@ use Rattle.mc_text.specs.Fault.{Grammar, InGrammar, IsBadAt}
 use Rattle.tailrec_lang.specs.Tree.{DefTree, GroupTree, listed_def}
 use Rattle.tailrec_lang.specs.WellFormed.{IsWellFormed, IsFirstIllFormed}
 use Rattle.tailrec_lang.specs.Eval.{Done, SideFalse, Turns, NoOutcome, Outcome, eval}
-use Rattle.path_walk.specs.Further.{further_of}
+use Rattle.checker.specs.Further.{further_of}
 use Rattle.proof_v2.specs.AnyText.{any_texts}
 use Rattle.proof_v2.specs.Titles.{named_version}
 use Rattle.proof_v2.proofs.AnyVerdicts.{accepted-lists}

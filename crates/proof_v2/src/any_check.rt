@@ -9,7 +9,7 @@ ghost use Rattle.group_text.specs.declared.version.Version.TheVariants.{One};
 ghost use Rattle.proof_text.specs.FirstProofs.{HasGiven};
 ghost use Rattle.proof_text.specs.Pulling.{held_text, left_of, progress_in};
 ghost use Rattle.proof_text.specs.inner.PulledRows.{WhereHeld};
-ghost use Rattle.checker.specs.Headline.{Headline};
+ghost use Rattle.claims.specs.Headline.{Headline};
 ghost use Rattle.checker.specs.Instance.{no_rule};
 ghost use Rattle.checker.specs.Pulled.{IfVerdict, is_outside};
 ghost use Rattle.checker.specs.Verdicts.{IsAcceptance};

@@ -12,7 +12,7 @@ ghost use Rattle.proof_text.specs.Proofs.{groups_of};
 ghost use Rattle.proof_text.specs.Pulling.{held_text, left_of, progress_in};
 ghost use Rattle.proof_text.specs.inner.PulledRows.{WhereHeld};
 ghost use Rattle.checker.specs.declared.verdict.Verdict.{Verdict as VerdictOf};
-ghost use Rattle.checker.specs.Headline.{Headline};
+ghost use Rattle.claims.specs.Headline.{Headline};
 ghost use Rattle.checker.specs.Pulled.{IfVerdict, as_verdict, is_outside};
 ghost use Rattle.checker.specs.Verdicts.{IsAcceptance, IsTextOfIn, SaysBy};
 

@@ -15,7 +15,7 @@ ghost use Rattle.proof_text.specs.Line.{LineTree};
 ghost use Rattle.proof_text.specs.LineLimits.{IsLineIn};
 ghost use Rattle.proof_text.specs.Proofs.{groups_of};
 ghost use Rattle.group_text.specs.Version.{Version};
-ghost use Rattle.checker.specs.Headline.{Headline};
+ghost use Rattle.claims.specs.Headline.{Headline};
 ghost use Rattle.checker.specs.Instance.{History, after_line, no_lines};
 ghost use Rattle.checker.specs.LineRules.{IsProvedOver};
 ghost use Rattle.term_bench.specs.Short.{AreFullLines, AreWithin, IsFineShort, IsRightFor, IsShortInstance, LeaveAfter, LeavesBehind};

@@ -9,20 +9,20 @@ ghost use Rattle.proof_text.specs.FirstProofs.{HasGiven};
 ghost use Rattle.proof_text.specs.Pulling.{held_text, left_of, progress_in};
 ghost use Rattle.proof_text.specs.inner.PulledRows.{WhereHeld};
 ghost use Rattle.checker.specs.declared.verdict.Verdict.{Verdict as VerdictOf};
-ghost use Rattle.checker.specs.Headline.{Headline};
+ghost use Rattle.claims.specs.Headline.{Headline};
 ghost use Rattle.checker.specs.Pulled.{IfVerdict, is_outside};
 ghost use Rattle.checker.specs.Verdicts.{IsAcceptance};
-ghost use Rattle.path_walk.specs.Further.{further_of};
+ghost use Rattle.checker.specs.Further.{further_of};
 ghost use Rattle.proof_v2.specs.AnyVerdicts.{SaysIn};
 ghost use Rattle.text_versions.specs.Versions.{IsTextListing, SaysOf};
 
-use call_link::Steer;
+use crate::exchanging::Exchange;
+use crate::steering::Steer;
 use checker::{Pulled, Verdict};
 use elf_image::Image;
 use mc_shelf::{LineFault, Lines, Shelf};
 use proof_text::{Pull, Version};
 use proof_v2::{check_pulled_any, held_version};
-use stack_split::Exchange;
 use std::alloc::Global;
 use term_bench::check_pulled_numbered;
 
