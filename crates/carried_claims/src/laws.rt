@@ -4,8 +4,8 @@
 ghost use Rattle.std.specs.Prelude.{ℕ, List, []};
 ghost use Rattle.rv_machine.specs.State.{IsState};
 ghost use Rattle.tailrec_lang.specs.Tree.{DefTree, GroupTree};
-ghost use Rattle.group_terms.specs.Range.{GroupInRange};
 ghost use Rattle.term_laws.specs.declared.step.Rw.{Rw};
+ghost use Rattle.def_laws.specs.Evaluation.{EvaluateAlike};
 ghost use Rattle.def_laws.specs.Rewriting.{AreRewritingSteps, with_defs};
 ghost use Rattle.claims.specs.Headline.{IsRight};
 ghost use Rattle.claims.specs.Exact.{Exact, FirstReturns};
@@ -15,33 +15,30 @@ ghost use Rattle.call_link.specs.Listing.{InFirstMemory};
 ghost use Rattle.stack_split.specs.SplitExact.{SplitExact, UsesSplit};
 ghost use Rattle.carried_claims.specs.Within.{IsExactIn, IsRightIn};
 
-use def_laws::law_of_rewriting;
-
-/// Where steps of rewriting lead from the definitions of a group to others, what is claimed of the
-/// group's function holds of the function of these, in each state of the machine.
+/// Where steps of rewriting lead from the definitions of a group to others, which evaluate alike,
+/// what is claimed of the group's function holds of the function of these, in each state of the
+/// machine.
 pub fn law_of_rewritten_functions()
     ensures right { (file : List ℕ) (g : GroupTree) (rs : List Rw) (es : List DefTree)
-        → GroupInRange g
         → AreRewritingSteps rs g.defs es
+        → EvaluateAlike g es
         → IsRight file g
         → IsRightIn IsState file (with_defs g es) }
     ensures exact { (file : List ℕ) (g : GroupTree) (rs : List Rw) (es : List DefTree)
-        → GroupInRange g
         → AreRewritingSteps rs g.defs es
+        → EvaluateAlike g es
         → Exact file g
         → IsExactIn IsState FirstReturns file (with_defs g es) }
     ensures linked { (file : List ℕ) (g : GroupTree) (rs : List Rw) (es : List DefTree)
-        → GroupInRange g
         → AreRewritingSteps rs g.defs es
+        → EvaluateAlike g es
         → LinkExact InFirstMemory file g
         → IsExactIn IsState (λ regions s k t. ReturnsBack InFirstMemory regions t [] k s) file
         (with_defs g es) }
     ensures split { (file : List ℕ) (g : GroupTree) (rs : List Rw) (es : List DefTree) (e : ℕ)
-        → GroupInRange g
         → AreRewritingSteps rs g.defs es
+        → EvaluateAlike g es
         → SplitExact file e g
         → IsExactIn IsState (FirstReturnsIn (UsesSplit (code_of_file file) e)) file
         (with_defs g es) }
-{
-    law_of_rewriting();
-}
+{}

@@ -8,15 +8,15 @@ use Rattle.carried_claims.proofs.Carried.{exact-in, right-in}
 use Rattle.carried_claims.proofs.laws.law_of_rewritten_functions.Goals as goal
 
 pub returns-clause-right : goal.returns-clause-right
-returns-clause-right c file g rs es range are right = right-in file g rs es are (c.law_of_rewriting.ensures rs g es range are) right
+returns-clause-right c file g rs es are alike right = right-in file g rs es are alike right
 
 pub returns-clause-exact : goal.returns-clause-exact
-returns-clause-exact c file g rs es range are exact = exact-in file g rs es are (c.law_of_rewriting.ensures rs g es range are) FirstReturns exact
+returns-clause-exact c file g rs es are alike exact = exact-in file g rs es are alike FirstReturns exact
 
 pub returns-clause-linked : goal.returns-clause-linked
-returns-clause-linked c file g rs es range are exact =
-    exact-in file g rs es are (c.law_of_rewriting.ensures rs g es range are) (λ regions s k t. ReturnsBack InFirstMemory regions t [] k s) exact
+returns-clause-linked c file g rs es are alike exact =
+    exact-in file g rs es are alike (λ regions s k t. ReturnsBack InFirstMemory regions t [] k s) exact
 
 pub returns-clause-split : goal.returns-clause-split
-returns-clause-split c file g rs es e range are exact =
-    exact-in file g rs es are (c.law_of_rewriting.ensures rs g es range are) (FirstReturnsIn (UsesSplit (code_of_file file) e)) exact
+returns-clause-split c file g rs es e are alike exact =
+    exact-in file g rs es are alike (FirstReturnsIn (UsesSplit (code_of_file file) e)) exact
