@@ -12,6 +12,7 @@ pub mod Listed
 pub mod OneFile
 pub mod OneMigration
 pub mod Exactness
+pub mod Carrying
 pub mod Leaving
 pub mod Decompiling
 pub mod Judging
