@@ -13,6 +13,7 @@ pub mod OneFile
 pub mod OneMigration
 pub mod Exactness
 pub mod Carrying
+pub mod WrittenTexts
 pub mod Leaving
 pub mod Decompiling
 pub mod Judging
