@@ -73,9 +73,6 @@ class Checks(unittest.TestCase):
         found = list(documents.missing("docs/A.md", {"docs/A.md": page}))
         self.assertEqual(found, ["GONE.md", "#gone", "docs/GONE.md"])
 
-    def test_the_documents(self):
-        self.assertEqual(list(documents.faults()), [])
-
 
 class Affected(unittest.TestCase):
     USES = {"a": [], "b": ["a", "outside"], "c": [], "d": ["b", "c"]}
