@@ -1,5 +1,5 @@
-//! The law on what `decompile`, `link` and `split` write. The function does nothing: its contract is
-//! the law.
+//! The law on what `decompile`, `link` and `split` write. The function does nothing: its contract
+//! is the law.
 
 ghost use Rattle.std.specs.Prelude.{◌≡◌, ℕ, List, Some};
 ghost use Rattle.mc_shelf.specs.Shelf.{Contents};
