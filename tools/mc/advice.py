@@ -121,8 +121,8 @@ def told(command, line, seen=()):
         found = told(other[1], line, (*seen, command)) or found
     if not found or "WHY" in found[0][0]:
         found = reason_of(command, line) or found
-    general = [pair for pair in found_in(GENERAL, line)[:1] if "WHY" not in pair[0] and not found[:1] == [pair]]
-    return found + [pair for pair in general if pair[1] not in [text for _, text in found]]
+    general = [pair for pair in found_in(GENERAL, line)[:1] if not found or "WHY" not in pair[0]]
+    return found + [pair for pair in general if pair not in found]
 
 
 # ---------------------------------------------------------------- the files at hand
