@@ -41,6 +41,7 @@ REASONS = {
     "outside-code": "goes on where no code is",
     "misaligned": "begins at an odd address",
     "no memory": "needs more memory than there is",
+    "no answer": "the program was ended",
 }
 # What another reason is with `--link`.
 LINKED_REASONS = {"too-large": "has more than 1,024 instructions with what it calls"}
@@ -81,7 +82,7 @@ def told(line, word):
     if line.startswith(tuple(f"{done} " for done in DONE.values())):
         _, _, _, instructions, definitions = line.split()
         return f"{instructions} instructions, {definitions} definitions", None
-    why = line.removeprefix(f"refused {word} ")
+    why = line.removeprefix(f"refused {word} ") or "no answer"
     return why, why if why in REASONS else why.split()[0]
 
 

@@ -122,6 +122,11 @@ class FilesAtHand(unittest.TestCase):
         self.assertEqual(self.on(3, "unreadable elf not-elf", "check", str(proof), str(elf))[0], f"ELF `{words.shown(str(proof))[1:-1]}` is a proof file: check ELF PROOF")
         self.assertIn("is an ELF file: eval PROOF NAME TURNS ARG..", " ".join(self.on(3, "unreadable text 1", "eval", str(elf), "gcd", "1")))
 
+    def test_a_condition(self):
+        found = " ".join(self.on(1, "refused side 0 0", "eval", str(samples.EXAMPLES / "sum" / "sum.proof"), "sum", "9"))
+        self.assertIn("in d0: `need", found)
+        self.assertIn("`refused side D I`: ", found)
+
     def test_names(self):
         elf, proof = str(samples.EXAMPLES / "refused" / "lcm.elf"), str(samples.EXAMPLES / "linked" / "lcm.proof")
         self.assertEqual(self.on(1, "refused lmc no-such", "decompile", elf, "o", "lmc")[0], "near names: lcm")
