@@ -12,7 +12,7 @@ line has its number of instructions and definitions, or the reason of the refusa
             each byte of it, and of a large file it has hundreds of megabytes
 
 Exit status 0: the file was read, however many functions are refused. 1: it wasn't, or OUT couldn't be written. 2: the
-words are wrong, or OUT is the ELF file itself.
+words are wrong, or OUT is an ELF file.
 """
 import argparse
 import collections
@@ -23,7 +23,7 @@ import sys
 import tempfile
 from concurrent.futures import ThreadPoolExecutor
 
-from mc import elf, program
+from mc import advice, elf, program
 from mc.commands import one_file
 
 SYMBOL_TABLE = 2
@@ -190,6 +190,8 @@ def main(arguments):
         return end.code
     if found.out is not None and one_file(found.out, found.elf):
         return fail(f"OUT {found.out} is the ELF file itself: nothing was done", 2)
+    if found.out is not None and advice.begins_with(found.out, b"\x7fELF"):
+        return fail(f"OUT {found.out} is an ELF file, and would be overwritten: nothing was done. One ELF file is taken at a time", 2)
     with tempfile.TemporaryDirectory() as folder:
         # No instruction stands at an odd address, so the answer is that, or why the file isn't read.
         status, line = say(found.command, found.elf, os.path.join(folder, "none"), "0x1")
@@ -198,7 +200,7 @@ def main(arguments):
         try:
             functions = Functions(found.elf)
         except (OSError, elf.BadElf) as bad:
-            return fail(str(bad))
+            return fail(f"{bad}")
         if not functions.names:
             return fail(f"{found.elf}: no function in its symbols (is it stripped?). `mc decompile` takes addresses too")
         for line in remarks(functions):
@@ -212,17 +214,15 @@ def main(arguments):
 
 def why_unread(path, line):
     """Why the program doesn't read the file, with what a person may do."""
-    from mc import advice
-
-    if line == "unreadable elf kind 1":
-        return f"{line}. It is an object file: link it"
-    return f"{line}: {advice.why_unreadable(path) or 'it can not be read'}" if line == "read fault" else line
+    if line == "read fault":
+        return f"{line}: {advice.why_unreadable(path) or 'it could not be read'}"
+    return ". ".join([line, *(advice.plain(text) for _, text in advice.told("decompile", line)[:1])])
 
 
 def remarks(functions):
     """What to know of the file before its functions."""
     if functions.image.position_independent:
-        yield "position independent: a loader may put it at other addresses than these, at which it is read. Link with -static or -no-pie"
+        yield "position independent (type 3): a loader may put it at other addresses than these, at which it is read. A program: link it with -static or -no-pie"
     if not functions.are_named:
         yield "no symbol table: the names are those of .dynsym, and in OUT and for the commands each function has its address as its name"
 

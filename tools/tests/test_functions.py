@@ -89,8 +89,12 @@ class WrongWords(unittest.TestCase):
             for out in ("gcd.elf", "./gcd.elf", "link", "hard"):
                 status, _, errors = samples.mc("functions", "gcd.elf", out, cwd=folder)
                 self.assertEqual((status, errors), (2, f"mc functions: OUT {out} is the ELF file itself: nothing was done\n"))
-            with open(path, "rb") as file:
-                self.assertEqual(file.read(), (GCD / "gcd.elf").read_bytes())
+            shutil.copy(path, os.path.join(folder, "other.elf"))
+            status, _, errors = samples.mc("functions", "gcd.elf", "other.elf", cwd=folder)
+            self.assertEqual((status, errors), (2, "mc functions: OUT other.elf is an ELF file, and would be overwritten: nothing was done. One ELF file is taken at a time\n"))
+            for name in ("gcd.elf", "other.elf"):
+                with open(os.path.join(folder, name), "rb") as file:
+                    self.assertEqual(file.read(), (GCD / "gcd.elf").read_bytes())
 
 
 @unittest.skipUnless(program.find(), "no program is built")
@@ -141,13 +145,10 @@ class OfAProgram(unittest.TestCase):
 
     def test_files_that_are_none(self):
         made(self.folder.name, "made.o", kind=1)
-        for name, why in (
-            ("made.o", "unreadable elf kind 1. It is an object file: link it"),
-            ("none", f"read fault: no such file (looked for in {self.folder.name})"),
-            (str(GCD / "gcd.c"), "unreadable elf not-elf"),
-        ):
+        for name, why in (("made.o", "unreadable elf kind 1. "), ("none", f"read fault: no such file (looked for in {self.folder.name})\n"), (str(GCD / "gcd.c"), "unreadable elf not-elf. ")):
             status, out, errors = self.say(name)
-            self.assertEqual((status, out, errors), (1, "", f"mc functions: {name}: {why}\n"))
+            self.assertEqual((status, out), (1, ""))
+            self.assertTrue(errors.startswith(f"mc functions: {name}: {why}"), errors)
 
     def test_too_large_with_what_it_calls(self):
         """f calls g, which has 1,024 instructions: by itself it is refused for its call."""
