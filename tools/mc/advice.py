@@ -318,4 +318,5 @@ def on(command, reading, status, line):
 
 def plain(text):
     """A text of the document without its marks."""
-    return re.sub(r"\[([^\]]*)\]\([^)]*\)", r"\1", text.replace("**", ""))
+    text = re.sub(r"\[([^\]]*)\]\([^)]*\)", r"\1", text.replace("**", ""))
+    return re.sub(r"(?<!\S)\*([^*`]+)\*", r"\1", text)
