@@ -59,7 +59,7 @@ def ended_by(status):
 def main(arguments):
     """Runs a command. Gives the program's status, or 2 where nothing ran."""
     name, *words = arguments
-    if any(word in ("-h", "--help") for word in words[:1]) or words == ["help"]:
+    if words[:1] == ["-h"] or "--help" in words or words == ["help"]:
         print(help_on(name))
         return 0
     reading = Reading(name, words)
