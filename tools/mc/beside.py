@@ -43,7 +43,7 @@ class Beside:
         loads = [part for part in parts if isinstance(part, Form) and part.name in LOADS and is_plain(part.parts[0]) and isinstance(part.parts[1], Number)]
         loaded = {load.parts[1] for load in loads}
         numbers = [part for part in parts if isinstance(part, Number) and part.value >= notation.SMALL and part not in loaded]
-        others = [part for part in numbers if not self.image.is_executable(part.value)]
+        others = [part for part in numbers if self.image.bytes_at(part.value, 1) is not None and not self.image.is_executable(part.value)]
         notes = [self.loaded(load.parts[1].value, int(load.name[2])) for load in loads]
         notes += [f"{notation.number(part.value)}: {self.told(part.value)}" for part in others if self.told(part.value)]
         return list(dict.fromkeys(notes))
