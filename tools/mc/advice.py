@@ -10,7 +10,7 @@ from mc import program
 from mc.words import READ, shown, usage_of
 
 DOCUMENT = program.TOP / "docs" / "COMMANDS.md"
-WIDTH = 100
+WIDTH = 96
 # A word of capitals, or one capital letter, in a line of the document stands for a word of the answer; WHY for all that follows.
 PLACE = re.compile(r"[A-Z]+")
 SPANS = re.compile(r"(?:\*\*)?`([^`]+)`(?:\*\*)?(?:,? (?:and|or) |, )?")
@@ -121,8 +121,8 @@ def told(command, line, seen=()):
         found = told(other[1], line, (*seen, command)) or found
     if not found or "WHY" in found[0][0]:
         found = reason_of(command, line) or found
-    general = [pair for pair in found_in(GENERAL, line)[:1] if "WHY" not in pair[0] and not found[:1] == [pair]]
-    return found + [pair for pair in general if pair[1] not in [text for _, text in found]]
+    general = [pair for pair in found_in(GENERAL, line)[:1] if not found or "WHY" not in pair[0]]
+    return found + [pair for pair in general if pair not in found]
 
 
 # ---------------------------------------------------------------- the files at hand
@@ -180,7 +180,7 @@ def of_reading(reading):
         path = reading.files.get(parameter)
         why = why_unreadable(path) if path else None
         if why:
-            return [f"{parameter} {shown(path)}: {why}"]
+            return [f"{parameter} {shown(path)}: {why}{'. Options stand before the command: mc -v eval ..' if path.startswith('-') else ''}"]
     return ["one of the files couldn't be read"]
 
 
@@ -238,6 +238,20 @@ def of_functions(reading):
     return [f"{shown(proof)} has {len(names)} functions; " + (near_names(name, names) or f"the first is {names[0]}")]
 
 
+def of_condition(reading, line):
+    """The condition that was false, as `mc show` prints it."""
+    from mc import listing, proof
+
+    path, name, (number, condition) = reading.files["PROOF"], reading.words[2], map(int, line.split()[2:])
+    try:
+        group = next(group for group in proof.read(path).groups if group.name == name)
+        block = next(block for block in listing.blocks(group) if block.number == number)
+        text = next(line.text for line in block.lines if line.need == condition)
+    except (OSError, proof.BadProof, AttributeError, StopIteration):
+        return []
+    return [f"in d{number}: `{text}`; `mc show {path} {name}` has it where it stands"]
+
+
 def of_symbols(reading, name):
     """What the file's symbols say of a name that no function has."""
     from mc import elf
@@ -289,6 +303,8 @@ def on(command, reading, status, line):
         found = of_writing(reading)
     elif status == 3:
         found = of_kind(reading, line)
+    elif line.startswith("refused side "):
+        found = of_condition(reading, line)
     elif line == "refused no function":
         found = of_functions(reading)
     elif re.fullmatch(r"refused \S+ no-such", line):
@@ -302,4 +318,5 @@ def on(command, reading, status, line):
 
 def plain(text):
     """A text of the document without its marks."""
-    return re.sub(r"\[([^\]]*)\]\([^)]*\)", r"\1", text.replace("**", ""))
+    text = re.sub(r"\[([^\]]*)\]\([^)]*\)", r"\1", text.replace("**", ""))
+    return re.sub(r"(?<!\S)\*([^*`]+)\*", r"\1", text)

@@ -43,16 +43,16 @@ class Beside:
         loads = [part for part in parts if isinstance(part, Form) and part.name in LOADS and is_plain(part.parts[0]) and isinstance(part.parts[1], Number)]
         loaded = {load.parts[1] for load in loads}
         numbers = [part for part in parts if isinstance(part, Number) and part.value >= notation.SMALL and part not in loaded]
-        others = [part for part in numbers if not self.image.is_executable(part.value)]
+        others = [part for part in numbers if self.image.bytes_at(part.value, 1) is not None and not self.image.is_executable(part.value)]
         notes = [self.loaded(load.parts[1].value, int(load.name[2])) for load in loads]
-        notes += [f"{notation.number(part.value)}: {self.told(part.value)}" for part in others if self.told(part.value)]
+        notes += [f"{part.value:#x}: {self.told(part.value)}" for part in others if self.told(part.value)]
         return list(dict.fromkeys(notes))
 
     def loaded(self, address, size):
         """The word that the file has at an address."""
         found = self.image.bytes_at(address, size)
         if found is None:
-            return f"nothing of the file at {notation.number(address)}"
+            return f"nothing of the file at {address:#x}"
         told = self.told(address)
         writable = "writable: may have changed" if self.image.is_writable(address, size) else ""
         return f"in the file {int.from_bytes(found, 'little'):#x}" + f" ({'; '.join(filter(None, [told, writable]))})" * bool(told or writable)

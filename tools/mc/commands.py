@@ -59,7 +59,7 @@ def ended_by(status):
 def main(arguments):
     """Runs a command. Gives the program's status, or 2 where nothing ran."""
     name, *words = arguments
-    if any(word in ("-h", "--help") for word in words[:1]) or words == ["help"]:
+    if words[:1] == ["-h"] or "--help" in words or words == ["help"]:
         print(help_on(name))
         return 0
     reading = Reading(name, words)
@@ -72,7 +72,8 @@ def main(arguments):
         explain(name, reading)
         return NOT_A_COMMAND
     sys.stdout.flush()
-    done = program.run(reading.words, stdout=subprocess.PIPE)
+    # OUT may be an open file of the shell's, as `>(command)` is.
+    done = program.run(reading.words, stdout=subprocess.PIPE, close_fds=False)
     sys.stdout.buffer.write(done.stdout)
     sys.stdout.buffer.flush()
     say(*reading.warnings)

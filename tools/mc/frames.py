@@ -15,7 +15,8 @@ KEEPING = ("add", "sub", "and", "or")
 
 @dataclasses.dataclass(frozen=True)
 class Accesses:
-    """Counts of loads and stores: those to the second memory, all, and those to the first one at addresses that come from sp."""
+    """Counts of loads and stores: those to the second memory, all, and those to the first one at addresses that come from sp. These are counted only where there
+    are some to the second one."""
 
     stack: int
     all: int
@@ -23,13 +24,13 @@ class Accesses:
 
     @property
     def is_in_both(self):
-        return self.stack > 0 and self.others > 0
+        return self.others > 0
 
 
 def read(path):
     """The accesses of all functions of a text."""
     stack, every = counted(path)
-    return Accesses(stack, every, sum(len(Walk(group).others()) for group in proof.read(path).groups))
+    return Accesses(stack, every, sum(len(Walk(group).others()) for group in proof.read(path).groups) if stack else 0)
 
 
 def counted(path):

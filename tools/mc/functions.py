@@ -12,9 +12,8 @@ line has its number of instructions and definitions, or the reason of the refusa
             each byte of it, and of a large file it has hundreds of megabytes
 
 Exit status 0: the file was read, however many functions are refused. 1: it wasn't, or OUT couldn't be written. 2: the
-words are wrong, or OUT is the ELF file itself.
+words are wrong, or OUT is an ELF file.
 """
-import argparse
 import collections
 import os
 import re
@@ -23,8 +22,9 @@ import sys
 import tempfile
 from concurrent.futures import ThreadPoolExecutor
 
-from mc import elf, program
+from mc import advice, elf, program
 from mc.commands import one_file
+from mc.usage import Parser
 
 SYMBOL_TABLE = 2
 # For each command what its lines say was done.
@@ -41,6 +41,7 @@ REASONS = {
     "outside-code": "goes on where no code is",
     "misaligned": "begins at an odd address",
     "no memory": "needs more memory than there is",
+    "no answer": "the program was ended",
 }
 # What another reason is with `--link`.
 LINKED_REASONS = {"too-large": "has more than 1,024 instructions with what it calls"}
@@ -81,7 +82,7 @@ def told(line, word):
     if line.startswith(tuple(f"{done} " for done in DONE.values())):
         _, _, _, instructions, definitions = line.split()
         return f"{instructions} instructions, {definitions} definitions", None
-    why = line.removeprefix(f"refused {word} ")
+    why = line.removeprefix(f"refused {word} ") or "no answer"
     return why, why if why in REASONS else why.split()[0]
 
 
@@ -155,14 +156,14 @@ class Report:
 
 def parse(arguments):
     """The words behind `mc functions`."""
-    parser = argparse.ArgumentParser(prog="mc functions", usage=__doc__.partition("\n")[0].removeprefix("usage: "), add_help=False)
+    parser = Parser("functions", __doc__)
     which = parser.add_mutually_exclusive_group()
     for command in ("link", "split"):
         which.add_argument(f"--{command}", dest="command", action="store_const", const=command, default="decompile")
     parser.add_argument("--jobs", type=int, default=os.cpu_count())
     parser.add_argument("elf")
     parser.add_argument("out", nargs="?")
-    found = parser.parse_args(arguments)
+    found = parser.parse(arguments)
     if found.jobs < 1:
         parser.error("--jobs wants a number from 1 on")
     return found
@@ -180,15 +181,11 @@ def answers(found, jobs, folder, count):
 
 
 def main(arguments):
-    if arguments[:1] in (["-h"], ["--help"]):
-        print(__doc__.strip())
-        return 0
-    try:
-        found = parse(arguments)
-    except SystemExit as end:
-        return end.code
+    found = parse(arguments)
     if found.out is not None and one_file(found.out, found.elf):
         return fail(f"OUT {found.out} is the ELF file itself: nothing was done", 2)
+    if found.out is not None and advice.begins_with(found.out, b"\x7fELF"):
+        return fail(f"OUT {found.out} is an ELF file, and would be overwritten: nothing was done. One ELF file is taken at a time", 2)
     with tempfile.TemporaryDirectory() as folder:
         # No instruction stands at an odd address, so the answer is that, or why the file isn't read.
         status, line = say(found.command, found.elf, os.path.join(folder, "none"), "0x1")
@@ -197,7 +194,7 @@ def main(arguments):
         try:
             functions = Functions(found.elf)
         except (OSError, elf.BadElf) as bad:
-            return fail(str(bad))
+            return fail(f"{bad}")
         if not functions.names:
             return fail(f"{found.elf}: no function in its symbols (is it stripped?). `mc decompile` takes addresses too")
         for line in remarks(functions):
@@ -211,17 +208,15 @@ def main(arguments):
 
 def why_unread(path, line):
     """Why the program doesn't read the file, with what a person may do."""
-    from mc import advice
-
-    if line == "unreadable elf kind 1":
-        return f"{line}. It is an object file: link it"
-    return f"{line}: {advice.why_unreadable(path) or 'it can not be read'}" if line == "read fault" else line
+    if line == "read fault":
+        return f"{line}: {advice.why_unreadable(path) or 'it could not be read'}"
+    return ". ".join([line, *(advice.plain(text) for _, text in advice.told("decompile", line)[:1])])
 
 
 def remarks(functions):
     """What to know of the file before its functions."""
     if functions.image.position_independent:
-        yield "position independent: a loader may put it at other addresses than these, at which it is read. Link with -static or -no-pie"
+        yield "position independent (type 3): a loader may put it at other addresses than these, at which it is read. A program: link it with -static or -no-pie"
     if not functions.are_named:
         yield "no symbol table: the names are those of .dynsym, and in OUT and for the commands each function has its address as its name"
 

@@ -1,6 +1,7 @@
 """The table of what `./mc` does, and how its words lead to one of these modules."""
 import difflib
 import importlib
+import importlib.util
 import os
 import signal
 import sys
@@ -14,9 +15,9 @@ TOOLS = [
     ("functions", "mc.functions", "which functions of an ELF file are inside, and why not"),
     ("show", "mc.show", "prints a proof file as a person reads it"),
     ("data", "mc.data", "what an ELF file holds at addresses, as words and assertions"),
-    ("goal", "mc.goal", "makes one script for a solver of several definitions"),
-    ("loop", "mc.loop", "makes the scripts of one turn of a loop and its invariant"),
-    ("prove", "mc.prove", "has the installed solvers decide a script"),
+    ("goal", "mc.goal", "makes one script for a solver of one or more functions"),
+    ("loop", "mc.loop", "proves what a loop does, by an invariant, with z3 and cvc5"),
+    ("prove", "mc.prove", "says whether a goal holds, by z3 and cvc5"),
     ("affected", "mc.affected", "which crates a change touches, in their order, and what each took last"),
 ]
 OPTIONS = """  -v               shows on standard error what is passed on to the program, and the status that comes back
