@@ -740,7 +740,7 @@ exact-given (Some files) ws rose wrote b result failed old new g h = delivered-e
 
 -- ---- what status 0 of `check` says
 
-given-status : (b : Answer) (result : ℕ) (failed : Type 0) (old new : Option (List ℕ)) → IsDelivered b result failed old new → result ≡ 0 → status b ≡ 0
+pub given-status : (b : Answer) (result : ℕ) (failed : Type 0) (old new : Option (List ℕ)) → IsDelivered b result failed old new → result ≡ 0 → status b ≡ 0
 given-status b result failed old new (inl h) none = sym h.0 ∙ none
 given-status b result failed old new (inr (inl (five, f), h)) none = absurd (omega (arith, five, none))
 given-status b result failed old new (inr (inr six, h)) none = absurd (omega (arith, six, none))
@@ -749,7 +749,7 @@ given-status b result failed old new (inr (inr six, h)) none = absurd (omega (ar
 check-words : (ws : List (List ℕ)) (c : Command) (elf proof : List ℕ) → Words ws c → ws ≡ codes "check" ∷ elf ∷ proof ∷ [] → (name_of c ≡ codes "check") × (elf ∷ proof ∷ [] ≡ operands_of c)
 check-words ws c elf proof v w = named-words ws (elf ∷ proof ∷ []) (codes "check") c w v
 
-same-words : (elf proof elf' proof' : List ℕ) → elf ∷ proof ∷ [] ≡ elf' ∷ proof' ∷ [] → (elf' ≡ elf) × (proof' ≡ proof)
+pub same-words : (elf proof elf' proof' : List ℕ) → elf ∷ proof ∷ [] ≡ elf' ∷ proof' ∷ [] → (elf' ≡ elf) × (proof' ≡ proof)
 same-words elf proof elf' proof' e = (cc, cc)
 
 accepted-files : (files : Contents) (elf proof file : List ℕ) (functions lines : ℕ) → files elf ≡ Some file → CheckGives (Some files) proof file (ca.Judged (verdict.Accepted functions lines)) → AreRightFiles files elf proof

@@ -12,6 +12,8 @@ pub mod Listed
 pub mod OneFile
 pub mod OneMigration
 pub mod Exactness
+pub mod Carrying
+pub mod WrittenTexts
 pub mod Leaving
 pub mod Decompiling
 pub mod Judging

@@ -1,5 +1,5 @@
 -- When each answer to `laws` comes.
-use Rattle.std.specs.Prelude.{◌≡◌, ℕ, ◌+◌, ◌<◌, ◌≤◌, List, length, Option, Some, None}
+use Rattle.std.specs.Prelude.{◌≡◌, ℕ, ◌+◌, ◌<◌, ◌≤◌, List, [], length, Option, Some, None}
 use Rattle.std.specs.List.{AllByRecursion}
 use Rattle.mc_shelf.specs.Shelf.{Contents}
 use Rattle.mc_text.specs.Fault.{IsBadAt, newlines}
@@ -7,9 +7,17 @@ use Rattle.mc_text.specs.Tokens.{spell}
 use Rattle.mc_text.specs.declared.token.Before.TheVariants.{Start}
 use Rattle.tailrec_lang.specs.Tree.{DefTree, GroupTree}
 use Rattle.tailrec_lang.specs.WellFormed.{IsWellFormed}
+use Rattle.elf_image.specs.Image.{code_of_file}
+use Rattle.rv_machine.specs.State.{IsState}
+use Rattle.claims.specs.Headline.{IsRight}
+use Rattle.claims.specs.Exact.{Exact, FirstReturns}
+use Rattle.claims.specs.LinkExact.{FirstReturnsIn, LinkExact, ReturnsBack}
+use Rattle.call_link.specs.Listing.{InFirstMemory}
+use Rattle.stack_split.specs.SplitExact.{SplitExact, UsesSplit}
+use Rattle.carried_claims.specs.Within.{IsExactIn, IsRightIn}
 use Rattle.group_text.specs.Spelling.{group_tokens}
 use Rattle.text_versions.specs.Versions.{IsTextListing}
-use Rattle.def_laws.specs.Rewriting.{AreRewritingSteps}
+use Rattle.def_laws.specs.Rewriting.{AreRewritingSteps, with_defs}
 use Rattle.def_laws.specs.Certs.{IsFirstBad}
 use Rattle.def_laws.specs.Evaluation.{EvaluateAlike}
 use Rattle.fun_laws.specs.Limits.{IsCert, cert_texts}
@@ -57,3 +65,20 @@ abbrev pub LawsGives : Option Contents → (cert file : List ℕ) → LawsAnswer
 LawsGives told cert file answer.ProofOverLimit = proof_limit < length file
 LawsGives told cert file answer.CertOverLimit = (length file ≤ proof_limit) × HoldsWith told cert (λ text. cert_limit < length text)
 LawsGives told cert file a = (length file ≤ proof_limit) × HoldsWith told cert (λ text. (length text ≤ cert_limit) × TextsGive file text a)
+
+-- The one name holds a proof file, the other a certificate of its first group of that name. What is claimed of this group's function, of
+-- whatever ELF file, is claimed of the one with the certificate's definitions, in each state of the machine.
+pub record CarriesOver (files : Contents) (proof cert : List ℕ) : Type 0 where
+  pub file : List ℕ
+  pub text : List ℕ
+  pub holds_proof : files proof ≡ Some file
+  pub holds_cert : files cert ≡ Some text
+  pub made : CertTree
+  pub is : IsCertText text made
+  pub named : IsNamed file made.old.name (Some made.old)
+  pub right : (elf : List ℕ) → IsRight elf made.old → IsRightIn IsState elf (with_defs made.old made.result)
+  pub exact : (elf : List ℕ) → Exact elf made.old → IsExactIn IsState FirstReturns elf (with_defs made.old made.result)
+  pub linked : (elf : List ℕ) → LinkExact InFirstMemory elf made.old
+      → IsExactIn IsState (λ regions s k t. ReturnsBack InFirstMemory regions t [] k s) elf (with_defs made.old made.result)
+  pub split : (elf : List ℕ) (e : ℕ) → SplitExact elf e made.old
+      → IsExactIn IsState (FirstReturnsIn (UsesSplit (code_of_file elf) e)) elf (with_defs made.old made.result)

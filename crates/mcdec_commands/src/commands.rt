@@ -4,6 +4,7 @@ ghost use Rattle.std.specs.Prelude.{◌≡◌, ℕ, ◌≤◌, ◌⊎◌, List, 
 ghost use Rattle.mc_shelf.specs.Fault.{Rose, WhereTold};
 ghost use Rattle.mcdec_commands.specs.Answer.{Gives, IsDetermined, KeepsNames, ReadsAreTold};
 ghost use Rattle.mcdec_commands.specs.CheckAnswer.{AreRightFiles};
+ghost use Rattle.mcdec_commands.specs.LawsAnswer.{CarriesOver};
 ghost use Rattle.mcdec_words.specs.Command.{Command as CommandOf, Words, output_of, texts};
 ghost use Rattle.mcdec_commands.specs.Output.{IsOutput, LeavesOut};
 ghost use Rattle.mcdec_answers.specs.Printed.{IsDelivered, IsPrinted, status};
@@ -18,6 +19,7 @@ use crate::run::answer_run;
 use crate::selftest::answer_selftest;
 use crate::simplify::answer_simplify;
 use crate::smt::answer_smt;
+use carried_claims::law_of_rewritten_functions;
 use mc_shelf::{Shelf, Sink};
 use mcdec_answers::{Answer, deliver};
 use mcdec_words::{Command, Unread, read_words};
@@ -57,6 +59,14 @@ pub fn run_words<S: Shelf, O: Sink>(
         → result ≡ 0
         → AreRightFiles files elf proof) }
 
+    // Where `laws` ends with status 0, what is claimed of the group's function is claimed of the
+    // one with the certificate's definitions.
+    ensures rewritten { IfSome (S.contents shelf.old) (λ files.
+        (proof cert : List ℕ)
+        → texts words.now ≡ codes "laws" ∷ proof ∷ cert ∷ []
+        → result ≡ 0
+        → CarriesOver files proof cert) }
+
     // What a command leaves in its output file: with status 0 all of a text that it may write, of
     // which the printed answer tells, with 5 and 6 a front of one or what was there, with any other
     // status what was there.
@@ -85,6 +95,7 @@ pub fn run_words<S: Shelf, O: Sink>(
         → (S.read_faults shelf.new ≡ S.read_faults shelf.old)
         × (S.write_faults shelf.new ≡ S.write_faults shelf.old) }
 {
+    law_of_rewritten_functions();
     let answer = answer_words(alloc, words, shelf);
     deliver(out, &answer)
 }
