@@ -18,14 +18,12 @@ class Refused(Exception):
 
 @dataclasses.dataclass(frozen=True)
 class Function:
-    """A definition of a group of a proof text, under a name: `number` is the definition's, `text` the whole file."""
+    """A definition of a group of a proof file, under a name."""
 
     name: str
     path: str
     group: object
     number: int
-    version: int
-    lines: tuple = dataclasses.field(repr=False)
 
     @property
     def registers(self):
@@ -51,9 +49,7 @@ class Function:
 def find(path, function, number=None, name=None):
     """The definition of that number, or the last one, of the first group of that name."""
     try:
-        with open(path, encoding="latin-1", newline="") as file:
-            text = file.read()
-        read = proof.parse(text)
+        read = proof.read(path)
     except OSError as bad:
         raise Refused(f"{path}: {bad.strerror}") from None
     except proof.BadProof as bad:
@@ -66,7 +62,7 @@ def find(path, function, number=None, name=None):
     last = len(group.definitions) - 1
     if number is not None and not 0 <= number <= last:
         raise Refused(f"{path}: {function} has definitions d0 to d{last}")
-    return Function(name or function, path, group, last if number is None else number, read.version, tuple(text.split("\n")))
+    return Function(name or function, path, group, last if number is None else number)
 
 
 def sort_of(argument):
@@ -89,11 +85,13 @@ def exported(path, name, number):
     return [line for line in lines if line.startswith(OPERATION)], [line for line in lines if not line.startswith(OPERATION)]
 
 
-def told_name(function, prefix, match):
-    """The name of one of a definition's functions: by its register, or its memory."""
+def told_name(function, prefix, ok, match):
+    """The name of one of a definition's functions: by its register, or its memory. That which tells whether it is done ends with `ok`."""
     number, what, word, memory, domain = match.groups()
     base = prefix if int(number) == function.number else f"{prefix}_d{number}"
-    if word is not None:
+    if what == "ok":
+        what = ok
+    elif word is not None:
         what = function.registers[int(word)]
     elif memory is not None or domain is not None:
         what = smt.MEMORIES[int(memory or domain)][0 if domain is None else 1]
@@ -110,20 +108,15 @@ def variable_name(function, match):
     return match[0]
 
 
-def renamed(function, lines, prefix):
+def renamed(function, lines, prefix, ok="ok"):
     """Functions with the names of registers, and of sorts."""
     found = []
     for line in lines:
         for name, sort in reversed(smt.SORTS.items()):
             line = line.replace(smt.spelled(sort), name)
-        line = FUNCTION.sub(lambda match: told_name(function, prefix, match), line)
+        line = FUNCTION.sub(lambda match: told_name(function, prefix, ok, match), line)
         found.append(VARIABLE.sub(lambda match: variable_name(function, match), line))
     return found
-
-
-def results_of(function):
-    """What a definition's functions tell, as their names end."""
-    return ["ok", "exit", "pc", *function.arguments]
 
 
 def exits_text(function):

@@ -1,0 +1,188 @@
+"""Tries `mc loop`. What needs a solver, or a built program (MCDEC names it), is skipped with a line where that isn't there."""
+import os
+import pathlib
+import subprocess
+import tempfile
+import unittest
+from unittest import mock
+
+from mc import loop, obligations, program, proof, prove, smt, turns
+from tests.test_goal import EXAMPLES, needs_program, needs_solver, say
+
+GCD = EXAMPLES / "gcd" / "gcd.proof"
+PARAMETERS = " ".join(f"(w{k} (_ BitVec 64))" for k in range(4))
+# What `smt` says of a turn of the loop of gcd, but for operations that it doesn't use.
+TURN = f"""(define-fun rv_add ((a (_ BitVec 64)) (b (_ BitVec 64))) (_ BitVec 64) (bvadd a b))
+(define-fun rv_remu ((a (_ BitVec 64)) (b (_ BitVec 64))) (_ BitVec 64) (bvurem a b))
+(define-fun f0_ok ({PARAMETERS}) Bool true)
+(define-fun f0_exit ({PARAMETERS}) (_ BitVec 32) (let ((w5 (rv_remu w1 w2))) (ite (not (= w5 (_ bv0 64))) (_ bv1 32) (_ bv0 32))))
+(define-fun f0_pc ({PARAMETERS}) (_ BitVec 64) (let ((w5 (rv_remu w1 w2))) (ite (not (= w5 (_ bv0 64))) (_ bv69922 64) (_ bv69932 64))))
+(define-fun f0_w0 ({PARAMETERS}) (_ BitVec 64) w0)
+(define-fun f0_w1 ({PARAMETERS}) (_ BitVec 64) w2)
+(define-fun f0_w2 ({PARAMETERS}) (_ BitVec 64) (rv_remu w1 w2))
+(define-fun f0_w3 ({PARAMETERS}) (_ BitVec 64) w2)
+"""
+# Two loops, one in the other, and a memory: d0 leaves ra and a0 as they are, d1 leaves ra, d2 nothing but the memory.
+TEXT = """mcproof 1
+group f
+regs 1 10 11
+mems 1
+code (0x1000 0100)
+def 0x1000 0x1010
+need (in8 m0 v1)
+let (ld8 m0 v1)
+if (eq v3 v2)
+leave 0 v0 v1 v3 ; m0
+else
+again v0 v1 (add v2 0x1) ; m0
+def 0x1010 0x1020 ret
+call 0 1 v0 v1 v2 ; m0
+arm
+if (eq v5 0x0)
+leave 1 v3 v3 v4 v5 ; m1
+else
+again v3 (add v4 0x8) v5 ; m1
+def 0x1020 ret
+call 1 2 v1 v2 v0 ; m0
+arm
+leave 0 v3 v3 v4 v5 ; m1
+arm
+leave 0 v3 v4 v5 v6 ; m1
+end
+"""
+ZERO = "(_ bv0 64)"
+
+
+def gcd_program(arguments):
+    """What `smt` says of a turn of gcd."""
+    text = pathlib.Path(arguments[1]).read_text()
+    if "leave 1 v0 v6 v5 v4 ;" not in text:
+        return subprocess.CompletedProcess(arguments, 1, "refused loop 0\n", "")
+    pathlib.Path(arguments[4]).write_text(TURN)
+    return subprocess.CompletedProcess(arguments, 0, "exported 0\n", "")
+
+
+class Turns(unittest.TestCase):
+    """Texts for `smt` alone."""
+
+    group = proof.parse(TEXT).groups[0]
+
+    def test_a_text_is_written_as_it_was(self):
+        self.assertEqual(turns.text(self.group, 2), TEXT)
+
+    def test_again_is_a_further_exit(self):
+        rows = turns.text(self.group, 1, turn=1, left_open=(0,)).split("\n")
+        self.assertEqual(rows[5:13], [
+            "def 0x1000 0x1010", "leave 0 v0 v1 v2 ; m0",
+            "def 0x1010 0x1020 ret 0x1010", "call 0 1 v0 v1 v2 ; m0", "arm", "if (eq v5 0x0)", "leave 1 v3 v3 v4 v5 ; m1", "else"])
+        self.assertEqual(rows[13], "leave 2 v3 (add v4 0x8) v5 ; m1")
+        self.assertTrue(proof.parse("\n".join(rows)))
+
+    def test_needs_are_left_out(self):
+        self.assertNotIn("need", turns.text(self.group, 2, with_needs=False))
+
+    def test_what_is_reached(self):
+        self.assertEqual(turns.reached(self.group, 2), {0, 1, 2})
+        self.assertEqual(turns.reached(self.group, 2, (1,)), {1, 2})
+        self.assertEqual([turns.is_loop(definition) for definition in self.group.definitions], [True, True, False])
+
+    def test_what_is_kept(self):
+        kept = turns.Kept(self.group)
+        self.assertEqual([kept.of(k) for k in range(3)], [({0, 1}, {0}), ({0}, {0}), (set(), {0})])
+
+    def test_a_return_is_left_open(self):
+        self.assertEqual(turns.open_row(self.group, self.group.definitions[2]), "leave 0 v0 v0 v1 v2 ; m0")
+
+
+class Scripts(unittest.TestCase):
+    """The goals of the loop of gcd, of which no program is needed."""
+
+    def setUp(self):
+        folder = tempfile.TemporaryDirectory()
+        self.addCleanup(folder.cleanup)
+        self.out = pathlib.Path(folder.name) / "scripts"
+        patches = [mock.patch.object(program, "run", gcd_program), mock.patch.object(obligations, "entry_goal", lambda claim: (None, "not tried here"))]
+        for patch in patches:
+            patch.start()
+            self.addCleanup(patch.stop)
+
+    def scripts(self, *words):
+        status, out, told = say(loop, GCD, "gcd", 0, *words, "--scripts", "--out", self.out)
+        self.assertEqual((status, told), (0, ""))
+        return {path.stem: smt.parse(path.read_text()) for path in self.out.iterdir()}
+
+    def test_goals(self):
+        found = self.scripts(f"(not (= a1 {ZERO}))", f"(= a1_out {ZERO})", "--measure", "a1", "--needs")
+        self.assertEqual(set(found), {"step", "end", "falls", "needs"})
+        asserted = {name: [smt.show(command[1]) for command in script if command[0] == "assert"] for name, script in found.items()}
+        holds, again = "(invariant ra a0 a1 a2 ra_in a0_in a1_in a2_in)", "(= (turn_exit ra a0 a1 a2) (_ bv1 32))"
+        self.assertEqual(asserted["step"], [holds, again, "(not (invariant ra_next a0_next a1_next a2_next ra_in a0_in a1_in a2_in))"])
+        self.assertEqual(asserted["end"][:2], [holds, f"(not {again})"])
+        self.assertEqual(asserted["end"][2], "(not (post ra_in a0_in a1_in a2_in exit_out pc_out ra_out a0_out a1_out a2_out))")
+        self.assertEqual(asserted["falls"][2], "(not (bvult (let ((ra ra_next) (a0 a0_next) (a1 a1_next) (a2 a2_next)) a1) a1))")
+        self.assertEqual(asserted["needs"], [holds, "(not (turn_ok ra a0 a1 a2))"])
+
+    def test_side_conditions_are_premises(self):
+        found = self.scripts("true", "true")
+        self.assertEqual(set(found), {"step", "end"})
+        for script in found.values():
+            self.assertIn(["assert", ["turn_ok", "ra", "a0", "a1", "a2"]], script)
+
+    def test_what_is_kept_is_told(self):
+        invariant = next(command for command in self.scripts("true")["step"] if command[:2] == ["define-fun", "invariant"])
+        self.assertEqual(smt.show(invariant[-1]), "(and true (= ra ra_in))")
+
+    def test_commands_know_no_registers(self):
+        """What --with defines stands before the constants, so that it can't speak of one entry where a contract speaks of another."""
+        script = self.scripts("(zero a1)", "--with", f"(define-fun zero ((word Word)) Bool (= word {ZERO}))")["step"]
+        names = [command[1] for command in script]
+        self.assertLess(names.index("zero"), names.index("a1"))
+
+    def test_wrong_words(self):
+        for words, told in (
+            (["(= a3 a0)"], "the invariant of d0 names a3. gcd has ra a0 a1 a2, here as a2, a2_in"),
+            (["true", "(= a0 a0_in)"], "the postcondition of d0 names a0."),
+            (["true", "--entry", "(= a0_in a0)"], "--entry names a0_in"),
+            (["(= a0"], "without `)`"),
+            (["true", "--known", "0", "true", "true"], "d0 itself"),
+            (["true", "--known", "9", "true", "true"], "gcd has definitions d0 to d4"),
+            (["true", "--with", "true"], "--with: commands are wanted"),
+            (["true", "--elf", EXAMPLES / "gcd" / "gcd.elf", "0x11120:4"], "gcd has no memory"),
+            (["true", "--elf", EXAMPLES / "gcd" / "gcd.elf", "none"], "neither A:N nor a symbol"),
+            (["true", "--elf", EXAMPLES / "gcd" / "gcd.elf", "0x100:4"], "no bytes at 0x100"),
+        ):
+            with self.subTest(words=words):
+                status, out, error = say(loop, GCD, "gcd", 0, *words)
+                self.assertEqual((status, out), (1, ""))
+                self.assertIn(told, error)
+        self.assertEqual(say(loop, GCD, "gcd", 0)[0], 2)
+        self.assertEqual(say(loop, GCD, "gcd", 0, "true", "--scripts")[0], 2)
+        self.assertIn("calls d0, a loop: tell by --known 0", say(loop, GCD, "gcd", 4, "true")[2])
+        self.assertIn("d1 is no loop", say(loop, GCD, "gcd", 1, "true", "--measure", "a1")[2])
+
+    @needs_solver
+    def test_the_loop_of_gcd(self):
+        status, out, _ = say(loop, GCD, "gcd", 0, "true", f"(= a1_out {ZERO})")
+        self.assertEqual(status, 0)
+        self.assertRegex(out, r"^begin  isn't asked: not tried here\nstep   proved \(.*\nend    proved \(.*\nproved of d0 of gcd: .*, POST holds\n$")
+        status, out, _ = say(loop, GCD, "gcd", 0, "true", f"(= a0_out {ZERO})")
+        self.assertEqual(status, 1)
+        self.assertRegex(out, r"\nend    refuted: false of these values, by \w+ \(.*\n  ra_in .*")
+        status, out, _ = say(loop, GCD, "gcd", 0, "false", f"(= a0_out {ZERO})")
+        self.assertIn("note: step says nothing: no values meet its premises\nnote: end says nothing", out)
+
+
+@needs_program
+@needs_solver
+class Proofs(unittest.TestCase):
+    """The loops of the examples, with their proofs and with wrong ones."""
+
+    def prove(self, status, proof_, *words):
+        path = EXAMPLES / proof_
+        found, out, told = say(loop, path, *(str(path.parent / word) if str(word).endswith((".inv", ".post", ".with", ".axiom", ".elf", ".measure")) else word for word in words), "--first", "--timeout", "300")
+        self.assertEqual(found, status, out + told)
+        return out
+
+
+if __name__ == "__main__":
+    unittest.main()
