@@ -1,11 +1,13 @@
 #!/usr/bin/env python3
-"""test_tools.py [PROGRAM]: tries tools/show.py and tools/functions.py on the examples, and the documents. It takes some two seconds of a processor.
+"""test_tools.py [PROGRAM | --no-program]: tries the tools on the examples, and the documents. It takes less than a minute of a processor.
 
-Without PROGRAM, what needs no program: each example's text is shown as the file beside it says, as a picture too, and one function of it alone; a text
-that is no proof file is refused; the symbols of the ELF files are found; links of the documents, and paths that they name, lead somewhere; each crate of
-crates.txt stands in README.md, in its layer, and in the tables of ARCHITECTURE.md and PROMISES.md, which names public items alone; the file of README's first
-command is that of the tutorial. With a built program also what it says of the examples: each is decompiled, linked or split to the text that stands there, and
-exported to the script; the lines are those of examples/README.md and TUTORIAL.md, and functions.py tells which functions are refused.
+The program is PROGRAM, or that which `./mc` takes: the proved one, else one that was built without proof, which is done first where there is none. With
+`--no-program` what needs none is tried, and nothing is built.
+
+The tests of tools/tests; links of the documents, and paths that they name, lead somewhere; each crate of crates.txt stands in README.md, in its layer, and in the
+tables of ARCHITECTURE.md and PROMISES.md, which names public items alone; the file of README's first command is that of the tutorial. Of the program: each example is
+decompiled, linked or split to the text that stands there, and exported to the script; the lines are those of examples/README.md and TUTORIAL.md, and `mc functions`
+tells which functions are refused.
 """
 import os
 import re
@@ -18,7 +20,7 @@ TOOLS = os.path.dirname(os.path.abspath(__file__))
 TOP = os.path.dirname(TOOLS)
 EXAMPLES = os.path.join(TOP, "examples")
 sys.path.insert(0, TOOLS)
-from functions import symbols, word_of
+from mc import program as built
 
 SHOWN = ("gcd", "sum", "strlen", "average")
 LINKED = ("linked", "lcm")
@@ -38,6 +40,7 @@ LCM = """0x11120  gcd                           7 instructions, 5 definitions
 
 2 functions, 1 decompiled, 1 refused
       1  call: calls a function (a jump that keeps where it came from)
+docs/COMMANDS.md says of each reason what may help.
 """
 faults = []
 
@@ -52,59 +55,30 @@ def read(*path):
         return file.read()
 
 
-def say(tool, *words):
-    done = subprocess.run([os.path.join(TOOLS, tool), *words], capture_output=True, text=True)
+def say(*words):
+    """What `./mc` says."""
+    done = subprocess.run([os.path.join(TOP, "mc"), *words], capture_output=True, text=True)
     return done.returncode, done.stdout, done.stderr
 
 
-def try_show(folder):
-    for example, name in [*zip(SHOWN, SHOWN), LINKED, SPLIT]:
-        proof = os.path.join(EXAMPLES, example, f"{name}.proof")
-        expected = read(example, f"{name}.txt").decode()
-        expect(f"show.py {name}", say("show.py", proof) == (0, expected, ""))
-        expect(f"show.py {name}, the function alone", say("show.py", proof, name) == (0, expected, ""))
-        status, picture, _ = say("show.py", proof, "--dot")
-        nodes = set(re.findall(r"^    (\w+) \[", picture, re.M))
-        edges = re.findall(r"^    (\w+) -> (\w+) ", picture, re.M)
-        expect(f"show.py {name} --dot", status == 0 and edges and all(a in nodes and b in nodes for a, b in edges))
-        expect(f"show.py {name}, another function", say("show.py", proof, "f")[:2] == (1, ""))
-        # Each front of whole lines is no proof file; what the last line is shows whether it was read to its end.
-        text = read(example, f"{name}.proof").decode().split("\n")
-        front = os.path.join(folder, "front")
-        for count in (0, 1, 4, 7, text.index("end")):
-            with open(front, "w") as file:
-                file.write("\n".join(text[:count]))
-            status, out, told = say("show.py", front)
-            expect(f"show.py on {count} lines of {name}", (status, out) == (1, "") and "not a proof file" in told)
-
-
-def try_symbols():
-    for folder, name, expected in (("gcd", "gcd", {0x11120: "gcd"}), ("refused", "lcm", {0x11120: "gcd", 0x11130: "lcm"})):
-        names, values = symbols(read(folder, f"{name}.elf"))
-        expect(f"symbols of {name}", names == expected and all(values[n] == {a} for a, n in names.items()))
-    values = {"f": {16}, "g": {16, 32}, "0x10": {16}, "f(int)": {16}}
-    words = [word_of(16, name, values) for name in values]
-    expect("words of functions", words == ["f", "0x10", "0x10", "0x10"])
+def try_modules():
+    """The tests of tools/tests."""
+    words = [sys.executable, "-m", "unittest", "discover", "-q", "-s", os.path.join(TOOLS, "tests"), "-t", TOOLS]
+    done = subprocess.run(words, capture_output=True, text=True)
+    expect(f"tools/tests:\n{done.stderr}", done.returncode == 0)
 
 
 def try_program(program, folder):
     for name in SHOWN:
         elf, out = os.path.join(EXAMPLES, name, f"{name}.elf"), os.path.join(folder, name)
-        status, lines, _ = say("functions.py", program, elf, out)
-        expect(f"functions.py {name}", status == 0 and "1 decompiled, 0 refused" in lines and f"{out}: accepted 1 " in lines)
+        status, lines, _ = say("functions", elf, out)
+        expect(f"mc functions {name}", status == 0 and "1 decompiled, 0 refused" in lines and f"{out}: accepted 1 " in lines)
         with open(out, "rb") as file:
             expect(f"the text of {name}", file.read() == read(name, f"{name}.proof"))
     try_answers(program, folder)
     try_tutorial(program, folder)
     elf = os.path.join(EXAMPLES, "refused", "lcm.elf")
-    expect("functions.py lcm", say("functions.py", program, elf) == (0, LCM, ""))
-    link = os.path.join(folder, "link")
-    os.symlink(os.path.abspath(elf), link)
-    before = read("refused", "lcm.elf")
-    status, _, told = say("functions.py", program, elf, link)
-    expect("functions.py into the ELF file", status == 1 and "nothing was done" in told and read("refused", "lcm.elf") == before)
-    status, _, told = say("functions.py", program, os.path.join(EXAMPLES, "gcd", "gcd.c"))
-    expect("functions.py on no ELF file", status == 1 and "unreadable elf not-elf" in told)
+    expect("mc functions lcm", say("functions", elf) == (0, LCM, ""))
 
 
 def try_answers(program, folder):
@@ -141,12 +115,12 @@ def try_tutorial(program, folder):
     page = document("docs/TUTORIAL.md")
     blocks = re.findall(r"^```\w*\n(.*?)^```$", page, re.M | re.S)
     own = [os.path.join(place, name) for name in ("my.elf", "my.proof")]
-    _, lines, _ = say("functions.py", program, *own)
+    _, lines, _ = say("functions", *own)
     refused = next(block for block in blocks if "  fib  " in block)
-    expect("functions.py on the tutorial's own file", refused in lines and f"{own[1]}: accepted 2 {re.search('with ([0-9]+) lines of proofs', page)[1]}\n" in lines)
-    _, shown, _ = say("show.py", own[1], "crc")
-    first, last = next(block.split("..\n") for block in blocks if "\ncrc = " in block)
-    expect("show.py on the tutorial's own file", first in shown and shown.endswith(last))
+    expect("mc functions on the tutorial's own file", refused in lines and f"{own[1]}: accepted 2 {re.search('with ([0-9]+) lines of proofs', page)[1]}\n" in lines)
+    _, shown, _ = say("show", own[1], "crc")
+    pieces = next(block.split("..\n") for block in blocks if block.startswith("crc = "))
+    expect("mc show on the tutorial's own file", all(piece in shown for piece in pieces))
     expect("the tutorial shows what gcd.txt has", read("gcd", "gcd.txt").decode() in blocks)
     tried = []
     for block, told in zip(blocks, blocks[1:]):
@@ -232,15 +206,22 @@ def try_documents():
 
 
 def main():
-    if len(sys.argv) > 2:
+    if len(sys.argv) > 2 or sys.argv[1:2] in (["-h"], ["--help"]):
         sys.exit(__doc__)
+    program = None
+    if sys.argv[1:] != ["--no-program"]:
+        if sys.argv[1:]:
+            os.environ[built.VARIABLE] = os.path.abspath(sys.argv[1])
+        try:
+            program = os.environ[built.VARIABLE] = str(built.path())
+        except built.NoProgram as why:
+            sys.exit(str(why))
     with tempfile.TemporaryDirectory() as folder:
-        try_show(folder)
-        try_symbols()
+        try_modules()
         try_crates()
         try_documents()
-        if len(sys.argv) == 2:
-            try_program(os.path.abspath(sys.argv[1]), folder)
+        if program:
+            try_program(program, folder)
     if faults:
         sys.exit("\n".join(f"otherwise than expected: {fault}" for fault in faults))
     print("as expected")

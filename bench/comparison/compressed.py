@@ -1,5 +1,5 @@
 #!/usr/bin/env python3
-"""compressed.py PROGRAM [STEP]: compares what a built program makes of each instruction of two bytes with what LLVM's decoder makes of it.
+"""compressed.py [PROGRAM] [STEP]: compares what a built program makes of each instruction of two bytes with what LLVM's decoder makes of it.
 
 `llvm-mc` (Debian's package `llvm`) disassembles all 49,152 numbers of two bytes whose low two bits aren't 11, and assembles what it prints as
 instructions of four bytes. Each number falls into one class:
@@ -28,6 +28,7 @@ sys.path.insert(0, os.path.join(os.path.dirname(os.path.abspath(__file__)), ".."
 from elf_files import BASE, write_elf
 from machine import Machine, signed
 from parcels import expand
+from programs import numbers, program_of
 
 DATA = 0x100000
 SIZE = 0x480
@@ -152,9 +153,8 @@ def relation(own, word):
 
 
 def main():
-    if not 2 <= len(sys.argv) <= 3:
-        sys.exit(__doc__)
-    program, step = os.path.abspath(sys.argv[1]), int(sys.argv[2]) if len(sys.argv) > 2 else 1
+    program, words = program_of(__doc__, sys.argv[1:], most=1)
+    (step,) = numbers(words, 1)
     start, failed, runs = time.perf_counter(), 0, 0
     every = list(classes())
     counts = collections.Counter(kind for _, kind, _, _ in every)

@@ -1,5 +1,5 @@
 #!/usr/bin/env python3
-"""exactness.py PROGRAM [COUNT [FIRST]]: draws functions of machine code, and compares what the commands of a built program say of each.
+"""exactness.py [PROGRAM] [COUNT [FIRST]]: draws functions of machine code, and compares what the commands of a built program say of each.
 
 First comes a loop whose lines are known. Then COUNT functions are drawn, 200 where it isn't given, from the numbers from FIRST on, 0 where it isn't
 given (`drawn.py`): code of all instructions of RV64IMC but those that call the environment or jump through other registers, with loops in loops, joins,
@@ -17,7 +17,7 @@ and loads and stores in one region; of those for which two bytes can stand, none
 - does the same without a byte of the region that is loaded or stored: the run must stop there, and evaluation be refused at a side condition; and
   without any byte of the region, where the one that is missing may not matter.
 
-The exit status is 1 where something differs; each difference is told with the function's number, so `exactness.py PROGRAM 1 NUMBER` shows it again.
+The exit status is 1 where something differs; each difference is told with the function's number, so `exactness.py 1 NUMBER` shows it again.
 """
 import os
 import re
@@ -32,6 +32,7 @@ from drawn import REACH, Function
 from elf_files import BASE, write_elf
 from instructions import words as bytes_of
 from machine import Machine
+from programs import numbers, program_of
 
 BACK = 0x20000
 STEPS = 10_000_000
@@ -240,10 +241,9 @@ def try_sum(program, folder):
 
 
 def main():
-    if not 2 <= len(sys.argv) <= 4:
-        sys.exit(__doc__)
-    program = Program(os.path.abspath(sys.argv[1]))
-    count, first = (int(word) for word in (sys.argv[2:] + ["200", "0"][len(sys.argv) - 2 :]))
+    path, words = program_of(__doc__, sys.argv[1:], most=2)
+    program = Program(path)
+    count, first = numbers(words, 200, 0)
     start = time.perf_counter()
     with tempfile.TemporaryDirectory() as folder, ThreadPoolExecutor(os.cpu_count()) as pool:
         try_sum(program, folder)

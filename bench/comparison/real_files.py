@@ -1,7 +1,7 @@
 #!/usr/bin/env python3
-"""real_files.py PROGRAM ELF PROOF [STARTS]: compares `run` and `eval` of a built program on the functions of a real file, from drawn starts.
+"""real_files.py [PROGRAM] ELF PROOF [STARTS]: compares `run` and `eval` of a built program on the functions of a real file, from drawn starts.
 
-PROOF has functions of the file ELF, as `tools/functions.py PROGRAM ELF PROOF` writes it. From STARTS starts of each function, 3 where it isn't given, with registers that are
+PROOF has functions of the file ELF, as `./mc functions ELF PROOF` writes it. From STARTS starts of each function, 3 where it isn't given, with registers that are
 numbers or point into a drawn region of memory, three are compared: a model of the machine (`machine.py`), `run`, and `eval` of the function on the same
 registers, the region and the file's bytes that aren't code:
 
@@ -24,6 +24,7 @@ from concurrent.futures import ThreadPoolExecutor
 
 sys.path.insert(0, os.path.join(os.path.dirname(os.path.abspath(__file__)), "..", "library"))
 from machine import Machine
+from programs import numbers, program_of
 
 STEPS = 20_000
 REGION, SIZE = 0x400000000000, 0x2000
@@ -123,10 +124,9 @@ def compare(program, elf, proof, loaded, given, group, start):
 
 
 def main():
-    if len(sys.argv) not in (4, 5):
-        sys.exit(__doc__)
-    program, elf, proof = (os.path.abspath(path) for path in sys.argv[1:4])
-    starts = int(sys.argv[4]) if len(sys.argv) == 5 else 3
+    program, words = program_of(__doc__, sys.argv[1:], 2, 3)
+    elf, proof = map(os.path.abspath, words[:2])
+    (starts,) = numbers(words[2:], 3)
     begin, ends, failed = time.perf_counter(), collections.Counter(), 0
     with open(elf, "rb") as file:
         loaded = list(segments(file.read()))

@@ -1,5 +1,5 @@
 #!/usr/bin/env python3
-"""run_and_eval.py COMMAND PROGRAM ELF [STARTS [SECONDS]]: compares `run` and `eval` of a built program on the texts that COMMAND writes of the functions of an ELF file.
+"""run_and_eval.py COMMAND [PROGRAM] ELF [STARTS [SECONDS]]: compares `run` and `eval` of a built program on the texts that COMMAND writes of the functions of an ELF file.
 
 COMMAND is `decompile`, `link` or `split`. Each function of the symbol table that is inside is written by itself, and its text must be accepted. From STARTS drawn starts, 3 where
 it isn't given, with registers that are numbers or point into a drawn region of memory, as those of `real_files.py`, and x2 at the end of a frame of 1,024 bytes:
@@ -23,8 +23,10 @@ import threading
 import time
 from concurrent.futures import ThreadPoolExecutor
 
-sys.path.insert(0, os.path.join(os.path.dirname(os.path.abspath(__file__)), "..", "..", "tools"))
-from functions import accesses, symbols
+sys.path.insert(0, os.path.join(os.path.dirname(os.path.abspath(__file__)), "..", "library"))
+from programs import numbers, program_of
+from mc import frames
+from mc.functions import Functions
 from real_files import REGION, draw, segments
 
 COMMANDS = ("decompile", "link", "split")
@@ -85,7 +87,7 @@ class Comparison:
         if status:
             return self.tell(f"{address:#x}", lines[0])
         if self.command == "split":
-            stack, every = accesses(path)
+            stack, every = frames.counted(path)
             self.count("functions inside, with stack accesses", stack > 0)
             self.count("loads and stores", every)
             self.count("loads and stores, of functions with stack accesses", every if stack else 0)
@@ -126,13 +128,14 @@ class Comparison:
 
 
 def main():
-    if not 4 <= len(sys.argv) <= 6 or sys.argv[1] not in COMMANDS:
+    command, *words = sys.argv[1:] or [""]
+    if command not in COMMANDS:
         sys.exit(__doc__)
-    command, program, elf = sys.argv[1], os.path.abspath(sys.argv[2]), sys.argv[3]
-    starts = int(sys.argv[4]) if len(sys.argv) > 4 else 3
-    end = time.monotonic() + (float(sys.argv[5]) if len(sys.argv) > 5 else float("inf"))
-    with open(elf, "rb") as file:
-        names, _ = symbols(file.read())
+    program, words = program_of(__doc__, words, 1, 3)
+    elf = words[0]
+    starts, seconds = numbers(words[1:], 3, float("inf"))
+    end = time.monotonic() + seconds
+    names = Functions(elf).names
     with tempfile.TemporaryDirectory() as folder, ThreadPoolExecutor(os.cpu_count()) as pool:
         comparison = Comparison(command, program, elf, folder)
         for _ in pool.map(lambda address: time.monotonic() < end and comparison.function(address, starts), sorted(names)):

@@ -1,5 +1,5 @@
 #!/usr/bin/env python3
-"""selftest.py PROGRAM [COUNT [LARGEST]]: runs the command `selftest` of a built program on many numbers and sizes, and says which was the slowest.
+"""selftest.py [PROGRAM] [COUNT [LARGEST]]: runs the command `selftest` of a built program on many numbers and sizes, and says which was the slowest.
 
 COUNT numbers are tried, 1,000 where it isn't given, at the sizes from 1 to LARGEST, 600 where that isn't given, one after the other and again; then
 numbers at the ends of 64 bits. Each run must end with status 0 and with a line of the one form, with at most 2K turns. As many run at a time as there
@@ -11,6 +11,9 @@ import subprocess
 import sys
 import time
 from concurrent.futures import ThreadPoolExecutor
+
+sys.path.insert(0, os.path.join(os.path.dirname(os.path.abspath(__file__)), "..", "library"))
+from programs import numbers, program_of
 
 LINE = re.compile(
     rb"selftest (\d+) (\d+) instructions (\d+) defs (\d+) steps (\d+) turns (\d+) x10 0x(0|[1-9a-f][0-9a-f]*)\n"
@@ -45,10 +48,8 @@ def run(program, number, size):
 
 
 def main():
-    if not 2 <= len(sys.argv) <= 4:
-        sys.exit(__doc__)
-    program = os.path.abspath(sys.argv[1])
-    count, largest = (int(word) for word in (sys.argv[2:] + ["1000", "600"][len(sys.argv) - 2 :]))
+    program, words = program_of(__doc__, sys.argv[1:], most=2)
+    count, largest = numbers(words, 1000, 600)
     start = time.perf_counter()
     runs, failed, slowest = 0, 0, (0.0, 0, 0)
     with ThreadPoolExecutor(os.cpu_count()) as pool:

@@ -1,5 +1,5 @@
 #!/usr/bin/env python3
-"""smt.py PROGRAM [ELF [SECONDS [OTHER]]]: what z3 and cvc5 do with the texts that the command `smt` of a built program writes. A solver that isn't installed is passed over.
+"""smt.py [PROGRAM] [ELF [SECONDS [OTHER]]]: what z3 and cvc5 do with the texts that the command `smt` of a built program writes. A solver that isn't installed is passed over.
 
 - Chains of 4 to 32 joins: how long each solver takes to read the text of the last definition, and for two goals. The code is drawn by this script: in
   `sides`, both sides of each branch go on in the same definition; in `either`, two branches lead to one addition, or past it.
@@ -29,9 +29,10 @@ import tempfile
 FOLDER = os.path.dirname(os.path.abspath(__file__))
 sys.path += [os.path.join(FOLDER, "..", "library"), os.path.join(FOLDER, "..", "..", "tools")]
 from elf_files import BASE, write_elf
-from functions import symbols, word_of
 from instructions import RETURN, arithmetic, branch, immediate, jump, words
+from mc.functions import Functions
 from measuring import measure_work
+from programs import program_of
 from proof_texts import groups_of
 
 OVER = "over the limit"
@@ -470,11 +471,9 @@ def try_properties(bench, properties):
 
 def whole_functions(bench, elf):
     """The functions of a file by their names: those that are free of loops, with the text of the last definition."""
-    with open(elf, "rb") as file:
-        names, values = symbols(file.read())
-    found = {}
-    for address, name in sorted(names.items()):
-        group = bench.decompile(elf, word_of(address, name, values)) if values[name] == {address} else None
+    functions, found = Functions(elf), {}
+    for address, name in functions.names.items():
+        group = bench.decompile(elf, functions.words[address]) if functions.places[name] == {address} else None
         text = group and bench.export(group, len(group.entries) - 1)
         if text:
             found[name] = group, text
@@ -510,18 +509,13 @@ def try_two_files(bench, elf, other):
 
 
 def main():
-    if not 2 <= len(sys.argv) <= 5:
-        sys.exit(__doc__)
-    elf = sys.argv[2] if len(sys.argv) > 2 else FUNCTIONS
-    limit = int(sys.argv[3]) if len(sys.argv) > 3 else 20
-    other = sys.argv[4] if len(sys.argv) > 4 else None
+    program, words = program_of(__doc__, sys.argv[1:], most=3)
+    elf, limit, other = (*words, *(FUNCTIONS, 20, None)[len(words) :])
     with tempfile.TemporaryDirectory() as folder:
-        bench = Bench(os.path.abspath(sys.argv[1]), folder, limit)
+        bench = Bench(program, folder, int(limit))
         for solver in SOLVERS:
             print(f"{solver}: {'installed' if solver in bench.solvers else 'not installed, passed over'}")
-        with open(elf, "rb") as file:
-            names, values = symbols(file.read())
-        groups = [bench.decompile(elf, word_of(address, name, values)) for address, name in sorted(names.items())]
+        groups = [bench.decompile(elf, word) for word in Functions(elf).words.values()]
         groups = [group for group in groups if group is not None]
         given = list(constants(elf))
         if elf == FUNCTIONS:

@@ -1,5 +1,5 @@
 #!/usr/bin/env python3
-"""changed.py PROGRAM [COUNT [PROCESSES [FIRST]]]: gives a built program COUNT changed proofs, ELF files and certificates each, and looks at how it ends.
+"""changed.py [PROGRAM] [COUNT [PROCESSES [FIRST]]]: gives a built program COUNT changed proofs, ELF files and certificates each, and looks at how it ends.
 
 Each case is drawn from its number: one of some small files after one change to three, by bytes or by what the file is made of (`changing.py`).
 
@@ -14,7 +14,7 @@ Each case is drawn from its number: one of some small files after one change to 
 
 Each answer must be one of those that docs/COMMANDS.md lists for the command, with its exit status, and tell a line of the text where it tells one.
 COUNT is 50,000, as many processes run as there are processors, and numbers begin at FIRST, 0. A case is told with its number where something is
-otherwise: `changed.py PROGRAM 1 1 NUMBER` shows it again. A program gets 1 GiB (then it may answer `no memory`) and a minute of a processor.
+otherwise: `changed.py 1 1 NUMBER` shows it again. A program gets 1 GiB (then it may answer `no memory`) and a minute of a processor.
 The exit status is 1 where something is otherwise.
 """
 import collections
@@ -33,6 +33,7 @@ from answers import Speaker, is_stated
 from changing import changed_elf, changed_text
 from drawn import EDGES
 from machine import Machine
+from programs import numbers, program_of
 
 TOP = os.path.join(os.path.dirname(os.path.abspath(__file__)), "..", "..")
 # Each ELF file with its proof and its function; in data/ the file has no symbols.
@@ -302,10 +303,8 @@ def try_case(case):
 
 
 def main():
-    if not 2 <= len(sys.argv) <= 5:
-        sys.exit(__doc__)
-    program = os.path.abspath(sys.argv[1])
-    count, processes, first = (int(word) for word in sys.argv[2:] + [50_000, os.cpu_count(), 0][len(sys.argv) - 2 :])
+    program, words = program_of(__doc__, sys.argv[1:], most=3)
+    count, processes, first = numbers(words, 50_000, os.cpu_count(), 0)
     cases = [(kind, first + i) for i in range(count) for kind in ("proof", "ELF file", "certificate")]
     wrong, told, start = [], collections.Counter(), time.monotonic()
     with tempfile.TemporaryDirectory() as folder:

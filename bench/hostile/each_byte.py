@@ -1,5 +1,5 @@
 #!/usr/bin/env python3
-"""each_byte.py PROGRAM [STEP]: gives a built program files that are made to do harm, and looks at how it ends.
+"""each_byte.py [PROGRAM] [STEP]: gives a built program files that are made to do harm, and looks at how it ends.
 
 - Ten million opening brackets in a line, of a definition or of its proof: `eval` and `check` must refuse the text at that line.
 - Each front of a small proof file: both must refuse it at the first line that isn't whole.
@@ -19,6 +19,7 @@ from concurrent.futures import ThreadPoolExecutor
 
 sys.path.insert(0, os.path.join(os.path.dirname(os.path.abspath(__file__)), "..", "library"))
 from measuring import MIB, measure
+from programs import numbers, program_of
 
 DATA = os.path.join(os.path.dirname(os.path.abspath(__file__)), "..", "..", "crates", "mcdec", "data")
 BRACKETS = 10_000_000
@@ -130,10 +131,8 @@ def changes(data, step, others):
 
 
 def main():
-    if len(sys.argv) not in (2, 3):
-        sys.exit(__doc__)
-    program = os.path.abspath(sys.argv[1])
-    step = int(sys.argv[2]) if len(sys.argv) == 3 else 1
+    program, words = program_of(__doc__, sys.argv[1:], most=1)
+    (step,) = numbers(words, 1)
     elf, proof = os.path.join(DATA, "add.elf"), os.path.join(DATA, "add.proof")
     with tempfile.TemporaryDirectory() as folder, ThreadPoolExecutor(os.cpu_count()) as pool:
         wrong = try_brackets(program, folder, elf, BRACKETS // step)

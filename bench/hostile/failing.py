@@ -1,5 +1,5 @@
 #!/usr/bin/env python3
-"""failing.py PROGRAM [PROCESSES]: has each call fail by which a built program asks the system for memory or a file, and looks at how it ends.
+"""failing.py [PROGRAM] [PROCESSES]: has each call fail by which a built program asks the system for memory or a file, and looks at how it ends.
 
 For each command there is a case, and one that is refused, but for `selftest`, which never is; for five of them also the smallest one. Of each kind of call
 (memory; opening to read, opening to write; seeking; reading; writing; closing) the first fails, then the second, and so on up to the last that the command
@@ -26,6 +26,7 @@ TOP = os.path.join(HERE, "..", "..")
 sys.path.insert(0, os.path.join(HERE, "..", "library"))
 from elf_files import BASE, write_elf
 from instructions import words as bytes_of
+from programs import numbers, program_of
 
 EXAMPLES = ("average/average.proof", "gcd/gcd.elf", "gcd/gcd.proof", "refused/lcm.elf", "split/swap.elf", "sum/sum.elf", "sum/sum.proof")
 FILES = [os.path.join(TOP, "examples", *path.split("/")) for path in EXAMPLES] + [os.path.join(TOP, "crates", "mcdec", "data", name) for name in ("p", "add.elf", "add.proof")]
@@ -147,11 +148,10 @@ def try_case(case, pool):
 
 
 def main():
-    if len(sys.argv) not in (2, 3):
-        sys.exit(__doc__)
-    program = os.path.abspath(sys.argv[1])
+    program, words = program_of(__doc__, sys.argv[1:], most=1)
+    (processes,) = numbers(words, os.cpu_count())
     runs, wrong = 0, []
-    with tempfile.TemporaryDirectory() as folder, ThreadPoolExecutor(int((sys.argv + [os.cpu_count()])[2])) as pool:
+    with tempfile.TemporaryDirectory() as folder, ThreadPoolExecutor(processes) as pool:
         library, files = os.path.join(folder, "failing.so"), os.path.join(folder, "files")
         subprocess.run(["cc", "-O2", "-shared", "-fPIC", "-o", library, os.path.join(HERE, "failing.c")], check=True)
         os.mkdir(files)

@@ -1,5 +1,5 @@
 #!/usr/bin/env python3
-"""families.py PROGRAM [FAMILY..]: how the cost of a command grows with files and words that are made to cost much.
+"""families.py [PROGRAM] [FAMILY..]: how the cost of a command grows with files and words that are made to cost much.
 
 A family is a way to make them of any size. Each is made at three sizes, each twice the one before, and the program is run on them. A line tells the bytes
 (of the text, of the certificate, of the ELF file, of the words; of what is decompiled, those of OUT), the seconds of a processor and the MiB that were taken, then by which power
@@ -19,6 +19,7 @@ sys.path.insert(0, os.path.join(os.path.dirname(os.path.abspath(__file__)), ".."
 from elf_files import BASE, write_elf
 from instructions import RETURN, arithmetic, branch, immediate, jump, words
 from measuring import MIB, measure_work
+from programs import program_of
 
 SECONDS, MEMORY = 60, 4 << 30
 # A peak of which most may be that of the process which starts the program.
@@ -512,14 +513,15 @@ def told_in(cost, units, least):
 
 
 def main():
-    if len(sys.argv) < 2 or any(name not in FAMILIES for name in sys.argv[2:]):
-        sys.exit(f"{__doc__}\nThe families: {', '.join(FAMILIES)}")
-    program = os.path.abspath(sys.argv[1])
+    usage = f"{__doc__}\nThe families: {', '.join(FAMILIES)}"
+    program, names = program_of(usage, sys.argv[1:], most=len(FAMILIES))
+    if any(name not in FAMILIES for name in names):
+        sys.exit(usage)
     print(f"{'family':18} {'bytes':>32}   {'seconds':>20}   {'MiB':>17}   powers     at the limit; what it says")
     # A process is born with the peak of its parent: the one that starts programs is small, since it begins before a text is made.
     with tempfile.TemporaryDirectory() as folder, ProcessPoolExecutor(1) as measurer:
         measurer.submit(os.getpid).result()
-        for name in sys.argv[2:] or FAMILIES:
+        for name in names or FAMILIES:
             sizes, counted, make = FAMILIES[name]
             rows = [run(measurer, program, folder, counted, Made(*make(n)), n) for n in sizes]
             tell(name, LIMITS.get(counted), *zip(*rows))

@@ -3,6 +3,8 @@ import os
 import resource
 import sys
 
+from programs import numbers, program_of
+
 MIB = 1 << 20
 
 
@@ -11,12 +13,10 @@ TIMER = "/usr/bin/time"
 
 
 def given_words(usage, elf):
-    """The words of a script, PROGRAM [LARGEST [ELF]]: the program's whole path, a number, 1,024 where it isn't given, and an ELF file, `elf` where it isn't given."""
-    if not 2 <= len(sys.argv) <= 4:
-        sys.exit(usage)
-    program, *words = sys.argv[1:]
-    largest = int(words[0]) if words else 1024
-    return os.path.abspath(program), largest, words[1] if len(words) > 1 else elf
+    """The words of a script, [PROGRAM] [LARGEST [ELF]]: the program's whole path, a number, 1,024 where it isn't given, and an ELF file, `elf` where it isn't given."""
+    program, words = program_of(usage, sys.argv[1:], most=2)
+    (largest,) = numbers(words[:1], 1024)
+    return program, largest, words[1] if len(words) > 1 else elf
 
 
 def measure(program, arguments):

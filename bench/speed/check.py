@@ -1,5 +1,5 @@
 #!/usr/bin/env python3
-"""check.py PROGRAM [FILE]: how fast the commands `check` and `eval` of a built program are on proofs, and how much memory they take.
+"""check.py [PROGRAM] [FILE]: how fast the commands `check` and `eval` of a built program are on proofs, and how much memory they take.
 
 It makes an ELF file and proof texts of several lengths in a folder that it removes again, runs the program on them, and prints a table.
 A text is one function's group, again and again: 1,023 additions on 30 registers and a return, with the lines by which such a function is
@@ -16,6 +16,7 @@ sys.path.insert(0, os.path.join(os.path.dirname(os.path.abspath(__file__)), ".."
 from elf_files import BASE, write_elf
 from instructions import RETURN, arithmetic
 from measuring import MIB, measure
+from programs import is_program, program_of
 
 PART = 32
 INSTRUCTIONS = 1024
@@ -184,14 +185,13 @@ def tell(case, length, seconds, peak):
 
 
 def main():
-    if len(sys.argv) not in (2, 3):
-        sys.exit(__doc__)
     text, lines = group()
-    if len(sys.argv) == 3:
-        write_text(sys.argv[2], text, 16 * MIB // len(text))
-        write_code(sys.argv[2] + ".elf")
+    files = [word for word in sys.argv[1:] if not is_program(word) and not word.startswith("-")]
+    if len(files) == 1:
+        write_text(files[0], text, 16 * MIB // len(text))
+        write_code(f"{files[0]}.elf")
         return
-    program = os.path.abspath(sys.argv[1])
+    program, _ = program_of(__doc__, sys.argv[1:])
     print(f"{'case':16} {'seconds':>9} {'peak MiB':>9} {'MB a second':>12} {'bytes kept a byte':>18}")
     with tempfile.TemporaryDirectory() as folder:
         elf, proof = os.path.join(folder, "e"), os.path.join(folder, "p")

@@ -23,8 +23,8 @@ sys.path += [os.path.join(FOLDER, "..", "library"), os.path.join(FOLDER, "..", "
 import check
 from decompile import NAME, SHAPES
 from elf_files import BASE, write_elf
-from functions import symbols, word_of
 from instructions import words
+from mc.functions import Functions
 from measuring import MIB, measure
 
 TIMES, ENOUGH = 5, 10
@@ -97,9 +97,7 @@ def texts(bench, what, largest):
                 sys.exit(f"{shape.__name__}: refused")
             yield shape.__name__, bench.elf
     else:
-        with open(what, "rb") as file:
-            names, values = symbols(file.read())
-        inside = [word for word in (word_of(address, name, values) for address, name in sorted(names.items())) if bench.decompile(what, [word])]
+        inside = [word for word in Functions(what).words.values() if bench.decompile(what, [word])]
         if not bench.decompile(what, inside):
             sys.exit(f"{what}: no function is inside")
         yield f"{len(inside)} functions of ELF", what

@@ -1,5 +1,5 @@
 #!/usr/bin/env python3
-"""decompile.py PROGRAM [LARGEST]: how fast the commands `decompile`, `check` and `eval` of a built program are on functions of LARGEST
+"""decompile.py [PROGRAM] [LARGEST]: how fast the commands `decompile`, `check` and `eval` of a built program are on functions of LARGEST
 instructions, and how much memory they take.
 
 LARGEST is 1,024 where it isn't given, as many as one function may have. The functions use all 31 registers:
@@ -23,6 +23,7 @@ sys.path.insert(0, os.path.join(os.path.dirname(os.path.abspath(__file__)), ".."
 from elf_files import BASE, write_elf
 from instructions import RETURN, arithmetic, branch, jump, words
 from measuring import MIB, measure
+from programs import numbers, program_of
 
 NAME = f"{BASE:#x}"
 EXITS = 8
@@ -131,10 +132,8 @@ def measure_eval(program, text, share):
 
 
 def main():
-    if len(sys.argv) not in (2, 3):
-        sys.exit(__doc__)
-    program = os.path.abspath(sys.argv[1])
-    largest = int(sys.argv[2]) if len(sys.argv) == 3 else 1024
+    program, words = program_of(__doc__, sys.argv[1:], most=1)
+    (largest,) = numbers(words, 1024)
     head = f"{'seconds':>9} {'peak MiB':>9}"
     print(f"{'':41} {'decompile':>19} {'check':>19}")
     print(f"{'function':10} {'instr':>6} {'defs':>6} {'lines':>7} {'text MB':>9} {head} {head}")

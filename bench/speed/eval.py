@@ -1,5 +1,5 @@
 #!/usr/bin/env python3
-"""eval.py PROGRAM: how fast the command `eval` of a built program is, and how much memory it takes.
+"""eval.py [PROGRAM]: how fast the command `eval` of a built program is, and how much memory it takes.
 
 It makes proof files in a folder that it removes again, runs the program on each, and prints a table: texts of several lengths that are
 read to their ends, a text that ends in ten million open terms, and loops of a million turns.
@@ -10,6 +10,7 @@ import tempfile
 
 sys.path.insert(0, os.path.join(os.path.dirname(os.path.abspath(__file__)), "..", "library"))
 from measuring import MIB, measure
+from programs import program_of
 
 TURNS = 1_000_000
 HEAD = "mcproof 1\n"
@@ -77,9 +78,7 @@ def loop(group, size):
 
 
 def main():
-    if len(sys.argv) != 2:
-        sys.exit(__doc__)
-    program = os.path.abspath(sys.argv[1])
+    program, _ = program_of(__doc__, sys.argv[1:])
     cases = {f"text of {size} MiB": (text, size * MIB) for size in (8, 16, 32, 64)}
     cases["10 million open terms"] = brackets, 10_000_000
     cases["adds"] = loop, ADDS, 0

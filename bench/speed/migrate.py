@@ -1,5 +1,5 @@
 #!/usr/bin/env python3
-"""migrate.py PROGRAM [LARGEST [ELF]]: how much shorter texts of version 2 are than those of version 1 of which the command `migrate` of a built program makes
+"""migrate.py [PROGRAM] [LARGEST [ELF]]: how much shorter texts of version 2 are than those of version 1 of which the command `migrate` of a built program makes
 them, and how long `check` takes of both.
 
 The texts are those of the other scripts here: of check.py, of many groups in several lengths; of decompile.py and simplify.py, the function of LARGEST
@@ -17,8 +17,8 @@ sys.path += [os.path.join(FOLDER, "..", "library"), os.path.join(FOLDER, "..", "
 import check
 from decompile import NAME, SHAPES, least
 from elf_files import BASE, write_elf
-from functions import symbols, word_of
 from instructions import words
+from mc.functions import Functions
 from measuring import MIB, given_words, measure
 from simplify import FUNCTIONS, copies, tree
 
@@ -70,9 +70,7 @@ def compare_shapes(bench, largest):
 
 
 def compare_functions(bench, elf):
-    with open(elf, "rb") as file:
-        names, values = symbols(file.read())
-    inside = [word for word in (word_of(address, name, values) for address, name in sorted(names.items())) if bench.decompile(elf, [word])]
+    inside = [word for word in Functions(elf).words.values() if bench.decompile(elf, [word])]
     if not bench.decompile(elf, inside):
         sys.exit(f"{elf}: no function is inside")
     bench.compare(f"{len(inside)} functions of ELF", elf)

@@ -1,5 +1,5 @@
 #!/usr/bin/env python3
-"""run.py PROGRAM: how fast the command `run` of a built program is, and how much memory it takes.
+"""run.py [PROGRAM]: how fast the command `run` of a built program is, and how much memory it takes.
 
 It makes ELF files in a folder that it removes again, runs the program on each, and prints a table. The peak is the
 largest resident set of the child, as the system counts it.
@@ -12,6 +12,7 @@ sys.path.insert(0, os.path.join(os.path.dirname(os.path.abspath(__file__)), ".."
 from elf_files import BASE, write_elf
 from instructions import RETURN, arithmetic, immediate, load, store, words
 from measuring import MIB, measure
+from programs import program_of
 
 DATA = 0x100000
 LOOP_STEPS = 10_000_000
@@ -71,9 +72,7 @@ def named(count):
 
 
 def main():
-    if len(sys.argv) != 2:
-        sys.exit(__doc__)
-    program = os.path.abspath(sys.argv[1])
+    program, _ = program_of(__doc__, sys.argv[1:])
     segments = [(at, bytes(range(256)), 256, 256) for at in BASES]
     cases = {
         "nothing": begin(4, 4),

@@ -1,5 +1,5 @@
 #!/usr/bin/env python3
-"""simplify.py PROGRAM [LARGEST [ELF]]: how fast the commands `simplify` and `laws` of a built program are, how much memory they take, and how much smaller
+"""simplify.py [PROGRAM] [LARGEST [ELF]]: how fast the commands `simplify` and `laws` of a built program are, how much memory they take, and how much smaller
 real functions get.
 
 The functions have LARGEST instructions, 1,024 where it isn't given, as many as one function may have, and a half, a fourth and an eighth of that. Four shapes are
@@ -23,8 +23,8 @@ FOLDER = os.path.dirname(os.path.abspath(__file__))
 sys.path += [os.path.join(FOLDER, "..", "library"), os.path.join(FOLDER, "..", "..", "tools")]
 from decompile import NAME, SHAPES, slope
 from elf_files import BASE, write_elf
-from functions import symbols, word_of
 from instructions import RETURN, branch, immediate, words
+from mc.functions import Functions
 from measuring import MIB, given_words, measure_work
 
 FUNCTIONS = os.path.join(FOLDER, "..", "comparison", "functions.elf")
@@ -104,13 +104,12 @@ def nodes(path):
 
 
 def measure_functions(bench, elf):
-    with open(elf, "rb") as file:
-        names, values = symbols(file.read())
+    functions = Functions(elf)
     total, smaller = [0, 0, 0], 0
     print(f"\n{'function':32} {'steps':>8} {'nodes before':>13} {'after':>8}")
     count = 0
-    for address, name in sorted(names.items()):
-        word = word_of(address, name, values)
+    for address, name in functions.names.items():
+        word = functions.words[address]
         if not bench.decompile(elf, word):
             continue
         steps, _, _ = bench.simplify(word)

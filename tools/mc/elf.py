@@ -107,6 +107,10 @@ class Image:
         """Whether one of these bytes is in a segment that may be written."""
         return any(s.writable and s.address < address + max(length, 1) and address < s.address + s.memory_size for s in self.segments)
 
+    def is_executable(self, address):
+        """Whether this byte is in a segment that may be executed."""
+        return any(s.executable and s.address <= address < s.address + s.memory_size for s in self.segments)
+
     def section_at(self, address):
         """The name of the section that has this address, or None."""
         return next((s.name for s in self.sections if s.address <= address < s.address + s.size), None)

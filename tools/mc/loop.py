@@ -52,7 +52,7 @@ def names_allowed(function, suffixes):
 
 def checked(term, function, suffixes, what, further=()):
     """A term that names no register or memory that isn't there."""
-    known = {*smt.REGISTERS, *(name for pair in smt.MEMORIES for name in pair)}
+    known = {*smt.REGISTERS[1:], *(name for pair in smt.MEMORIES for name in pair)}
     allowed = names_allowed(function, suffixes) | set(further)
     for atom in sorted(smt.atoms(term)):
         base = next((atom[: -len(end)] for end in ("_in", "_out", "_next") if atom.endswith(end)), atom)
