@@ -1,5 +1,5 @@
 """What an ELF file has to say beside the definitions of its functions: their instructions, names of addresses, bytes that are loaded from constant addresses."""
-from mc import disassembly, notation
+from mc import disassembly, elf, notation
 from mc.notation import is_plain
 from mc.syntax import LOADS, Form, Number, exit_text
 
@@ -27,7 +27,7 @@ class Beside:
     def place(self, address):
         """An address, with the name of the function that begins there."""
         name = self.image.functions.get(address)
-        return f"{exit_text(address)} <{name}>" if name else exit_text(address)
+        return f"{exit_text(address)} <{elf.printable(name)}>" if name else exit_text(address)
 
     def code(self, addresses):
         """The instructions at these addresses, a line each."""
@@ -43,20 +43,20 @@ class Beside:
         loads = [part for part in parts if isinstance(part, Form) and part.name in LOADS and is_plain(part.parts[0]) and isinstance(part.parts[1], Number)]
         loaded = {load.parts[1] for load in loads}
         numbers = [part for part in parts if isinstance(part, Number) and part.value >= notation.SMALL and part not in loaded]
-        others = [part for part in numbers if not self.image.is_executable(part.value)]
+        others = [part for part in numbers if self.image.bytes_at(part.value, 1) is not None and not self.image.is_executable(part.value)]
         notes = [self.loaded(load.parts[1].value, int(load.name[2])) for load in loads]
-        notes += [f"{notation.number(part.value)}: {self.told(part.value)}" for part in others if self.told(part.value)]
+        notes += [f"{part.value:#x}: {self.told(part.value)}" for part in others if self.told(part.value)]
         return list(dict.fromkeys(notes))
 
     def loaded(self, address, size):
         """The word that the file has at an address."""
         found = self.image.bytes_at(address, size)
         if found is None:
-            return f"nothing of the file at {notation.number(address)}"
+            return f"nothing of the file at {address:#x}"
         told = self.told(address)
         writable = "writable: may have changed" if self.image.is_writable(address, size) else ""
         return f"in the file {int.from_bytes(found, 'little'):#x}" + f" ({'; '.join(filter(None, [told, writable]))})" * bool(told or writable)
 
     def told(self, address):
         """The symbol and the section of an address, as far as there are any."""
-        return ", ".join(name for name in (self.image.place(address), self.image.section_at(address)) if name)
+        return ", ".join(elf.printable(name) for name in (self.image.place(address), self.image.section_at(address)) if name)

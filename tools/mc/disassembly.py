@@ -10,10 +10,11 @@ SECONDS = 120
 
 
 class NoDisassembler(Exception):
-    """No program that disassembles RISC-V was found."""
+    """No program that disassembles the file was found."""
 
-    def __init__(self):
-        super().__init__("no disassembler of RISC-V is on the path: llvm-objdump (Debian's package llvm) or riscv64-linux-gnu-objdump (binutils-riscv64-linux-gnu)")
+    def __init__(self, path):
+        hint = "llvm-objdump (Debian's package llvm) or riscv64-linux-gnu-objdump (binutils-riscv64-linux-gnu)"
+        super().__init__(f"nothing on the path disassembles {path}: {hint} would")
 
 
 def instructions(path, ranges):
@@ -36,12 +37,15 @@ def _run(path, first, end):
         words = [program, "-d", "--no-show-raw-insn", f"--start-address={first:#x}", f"--stop-address={end:#x}"]
         if name.startswith("llvm"):
             words.append("--mattr=+m,+a,+f,+d,+c")
-        done = subprocess.run([*words, path], capture_output=True, text=True, encoding="utf8", errors="replace", timeout=SECONDS)
+        try:
+            done = subprocess.run([*words, path], capture_output=True, text=True, encoding="utf8", errors="replace", timeout=SECONDS)
+        except (OSError, subprocess.TimeoutExpired):
+            continue
         matches = [LINE.match(line) for line in done.stdout.splitlines()]
         found = {int(match[1], 16): _tidy(match[2]) for match in matches if match}
         if done.returncode == 0 and found:
             return found
-    raise NoDisassembler
+    raise NoDisassembler(path)
 
 
 def _tidy(words):

@@ -129,16 +129,21 @@ class Image:
         return found
 
     def place(self, address):
-        """What a person calls the address: `name`, `name+8`, or None where no symbol that has a size spans it."""
+        """What a person calls the address: `name`, `name+8`, or None where no symbol stands for it or spans it."""
         named = [symbol for symbol in self.symbols if not symbol.name.startswith("$")]
         exact = [symbol for symbol in named if symbol.address == address]
         spans = [symbol for symbol in named if symbol.address < address < symbol.address + symbol.size]
         if exact:
-            return max(exact, key=lambda symbol: (symbol.is_function, symbol.size)).name
+            return printable(max(exact, key=lambda symbol: (symbol.is_function, symbol.size)).name)
         if not spans:
             return None
         nearest = max(spans, key=lambda symbol: (symbol.address, symbol.is_function))
-        return f"{nearest.name}+{address - nearest.address}"
+        return f"{printable(nearest.name)}+{address - nearest.address}"
+
+
+def printable(name):
+    """A name of a file or a symbol as it is shown, in one line."""
+    return "".join(letter if letter.isprintable() else "?" for letter in name)
 
 
 class _File:

@@ -55,6 +55,11 @@ def number(value):
     return str(value - WORDS) if value > WORDS - SMALL else f"{value:#x}"
 
 
+def address(term):
+    """A simplified term that is an address."""
+    return f"{term.value:#x}" if isinstance(term, Number) else text(term)
+
+
 def text(term, inside=False):
     """A simplified term, in parentheses where it stands inside another."""
     if isinstance(term, Name):
@@ -67,11 +72,11 @@ def text(term, inside=False):
     if term.name == "not":
         return f"not ({text(parts[0])})"
     if term.name in LOADS:
-        return f"{text(parts[0], True)}[{text(parts[1])}]:{term.name[2]}"
+        return f"{text(parts[0], True)}[{address(parts[1])}]:{term.name[2]}"
     if term.name in STORES:
-        return _enclosed(f"{text(parts[0], True)}[{text(parts[1])}]:{term.name[2]} := {text(parts[2])}", inside)
+        return _enclosed(f"{text(parts[0], True)}[{address(parts[1])}]:{term.name[2]} := {text(parts[2])}", inside)
     if term.name in PRESENT:
-        return f"{text(parts[0], True)} has [{text(parts[1])}]:{term.name[2]}"
+        return f"{text(parts[0], True)} has [{address(parts[1])}]:{term.name[2]}"
     return f"{term.name}({', '.join(text(part) for part in parts)})"
 
 

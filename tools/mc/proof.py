@@ -15,6 +15,7 @@ from mc.syntax import (
 PROOF_LINES = frozenset("axiom inst frame extend compose strengthen weaken discharge use loop forget steer exchange term".split())
 NUMBER = re.compile(r"0x(0|[1-9a-f][0-9a-f]{0,15})")
 DECIMAL = re.compile(r"0|[1-9][0-9]{0,9}")
+NAME = re.compile(r"[!-'*-:<-~]{1,4096}")
 TOKEN = re.compile(r"[();]|[^ ();]+")
 
 
@@ -235,6 +236,8 @@ class _Text:
         line = self.take("group")
         number, name = line.number, line.take()
         line.end(f"group {name}")
+        if not NAME.fullmatch(name):
+            raise line.bad("a name is up to 4,096 of the bytes 0x21 to 0x7e without `(`, `)` and `;`")
         line = self.take("regs")
         registers = []
         while line.peek() is not None:

@@ -1,79 +1,67 @@
-"""usage: ./mc show PROOF [FUNCTION] [--fold] [--elf FILE] [--html | --dot]
+"""usage: mc show PROOF [FUNCTION] [--fold] [--elf FILE] [--html | --dot]
 
-Prints the functions of a proof text or a certificate as a person reads them, or the one of that name: each as its last definition, and behind that the
-definitions that it calls. Of a certificate the definitions are those that it ends with. The lines of proofs are left out.
+Prints the functions of a proof text or a certificate as a person reads them, or the one of that
+name: each as its last definition, and behind that the definitions that it calls. Of a certificate
+these are the definitions that it ends with. The lines of proofs are left out.
 
-  --fold        words that are used once stand in the place where they are used, and words that aren't used are left out; a `need` that an access makes
-                stands behind that access
-  --elf FILE    beside each definition the instructions that its proof cites, by a disassembler that is found on the path, and behind each load from a
-                constant address what the file has there
-  --html        as one page, to the standard output
-  --dot         as a picture for graphviz: which definition calls and enters which, and which returns
+  --fold      words that are used once stand where they are used, and words that aren't used are
+              left out; a `need` that asks for the bytes of an access stands behind that access
+  --elf FILE  beside each definition the instructions that its proof cites, by a disassembler that
+              is found on the path; behind lines the word that the file has where one is loaded
+              from a constant address, and the names of other addresses of data
+  --html      as a page, to the standard output
+  --dot       as a picture for graphviz: which definition calls and enters which, which returns
 
-Registers have the names of the ABI and the values at the entry of their definition, and with a prime those that a call left; the line below a function's name
-says what each is in the text (v0) and in a script of `mcdec smt` (w0). Other variables keep the names of the text (v4, m1), with the name of the memory that was
-stored to where there are two (stk2). A variable that is a copy of another, or a number, or a sum of numbers, is replaced by that. What `again`, `continue as`,
-`call`, `leave to` and `return to` don't name stays as it is there. Exits are told by their addresses.
+Registers have the names of the ABI and the values at the entry of their definition, and with a
+prime those that a call left. The line below a function's name says what each is in the text (v0)
+and in a script of `mcdec smt` (w0). Other variables keep the names of the text (v4, m1), with the
+name of the memory that was stored to where there are two (stk2). A variable that is a copy of
+another, or a number, or a sum of numbers, is replaced by that. What `again`, `continue as`, `call`,
+`leave to` and `return to` don't name stays as it is there. Exits are told by their addresses.
 
-  /u %u <u >=u >>u    unsigned        /s %s <s >=s >>s    signed        +w -w *w ..    on the low 32 bits, their sign extended
-  mem[a]:4            the 4 bytes at the address a                      sx4(a)         the low 4 bytes, their sign extended
-  mem[a]:4 := b       the memory after a store                          stk            the second memory: in a text of `split`, the stack's
-  need 2: c           c must be so, or nothing is claimed: where it isn't, `mcdec eval` says `refused side D 2`, D for the definition
+  /u %u <u >=u >>u  unsigned
+  /s %s <s >=s >>s  signed
+  +w -w *w ..       on the low 32 bits, their sign extended
+  sx4(a)            the low 4 bytes, their sign extended
+  mem[a]:4          the 4 bytes at the address a
+  mem[a]:4 := b     the memory after a store
+  stk               the second memory: in a text of `split`, what the function has on its stack
+  need 2: c         c must be so, or nothing is claimed: where it isn't, `mcdec eval` says
+                    `refused side D 2`, D for the definition
+
+Exit status: 0 printed; 1 no such function; 2 wrong words; 3 a file isn't of its format; 4 it can't
+be read.
 """
-import argparse
 import difflib
 import itertools
 import os
-import signal
 import sys
 import textwrap
 
-from mc import elf, listing, notation, page, picture, proof
+from mc import elf, inputs, listing, notation, page, picture, proof, usage
 from mc.beside import Beside
+from mc.inputs import Failure
 from mc.syntax import exit_text
 
 WIDTH = 100
 
 
-class Failure(Exception):
-    """What is printed in place of a listing, and the exit status."""
-
-    def __init__(self, status, words):
-        super().__init__(words)
-        self.status = status
-
-
-class _Words(argparse.ArgumentParser):
-    """Usage is the module's own text."""
-
-    def format_help(self):
-        return __doc__
-
-    def error(self, message):
-        raise Failure(2, f"{message}. `./mc help show` tells of its words")
-
-
 def words_of(arguments):
     """The words of the command."""
-    parser = _Words(prog="mc show", allow_abbrev=False)
-    parser.add_argument("proof")
-    parser.add_argument("function", nargs="?")
+    parser = usage.Parser("show", __doc__)
+    parser.add_argument("proof", metavar="PROOF")
+    parser.add_argument("function", metavar="FUNCTION", nargs="?")
     parser.add_argument("--fold", action="store_true")
-    parser.add_argument("--elf")
+    parser.add_argument("--elf", metavar="FILE")
     form = parser.add_mutually_exclusive_group()
     form.add_argument("--html", action="store_true")
     form.add_argument("--dot", action="store_true")
-    return parser.parse_args(arguments)
+    return parser.parse(arguments)
 
 
 def groups_of(path, function):
     """The groups that are to be shown."""
-    try:
-        found = proof.read(path)
-    except OSError as bad:
-        raise Failure(4, f"{path}: {bad.strerror}") from bad
-    except proof.BadProof as bad:
-        raise Failure(3, f"{path}: {bad}") from bad
+    found = inputs.read(proof.read, path)
     groups = found.groups if isinstance(found, proof.Proof) else (found.result,)
     if function is None:
         return groups
@@ -83,16 +71,6 @@ def groups_of(path, function):
         hint = f"; there is {', '.join(near)}" if near else ""
         raise Failure(1, f"{path}: no function {function}{hint}")
     return named
-
-
-def image_of(path):
-    """The ELF file at this path."""
-    try:
-        return elf.read(path)
-    except OSError as bad:
-        raise Failure(4, f"{path}: {bad.strerror}") from bad
-    except elf.BadElf as bad:
-        raise Failure(3, str(bad)) from bad
 
 
 def wrapped(parts):
@@ -130,17 +108,17 @@ def noted(line, beside):
 
 
 def main(arguments):
-    signal.signal(signal.SIGPIPE, signal.SIG_DFL)
     try:
         words = words_of(arguments)
         groups = groups_of(words.proof, words.function)
-        beside = Beside(image_of(words.elf), groups) if words.elf else None
+        beside = Beside(inputs.read(elf.read, words.elf), groups) if words.elf else None
         for warning in beside.warnings if beside else ():
             print(f"mc show: {warning}", file=sys.stderr)
         if words.dot:
             print("\n".join(picture.picture(groups)))
         elif words.html:
-            print("\n".join(page.page(f"{os.path.basename(words.proof)}{f', {words.function}' if words.function else ''}", groups, words.fold, beside)))
+            title = ", ".join(filter(None, [os.path.basename(words.proof), words.function]))
+            print("\n".join(page.page(title, groups, words.fold, beside)))
         else:
             print("\n\n\n".join("\n".join(group_text(group, words.fold, beside)) for group in groups))
     except Failure as bad:

@@ -25,6 +25,8 @@ def mc(*words, cwd="/"):
     try:
         with contextlib.redirect_stdout(out), contextlib.redirect_stderr(errors):
             status = main.main([str(word) for word in words])
+    except SystemExit as end:
+        status = end.code
     finally:
         os.chdir(here)
     return status, out.getvalue(), errors.getvalue()

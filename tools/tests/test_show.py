@@ -258,7 +258,7 @@ class OfOtherTexts(unittest.TestCase):
         gcd = path_of("gcd/gcd", "proof")
         for words, status, told in (
             ((gcd, "gdc"), 1, "no function gdc; there is gcd"),
-            ((), 2, "proof"),
+            ((), 2, "PROOF"),
             ((gcd, "--flod"), 2, "--flod"),
             ((gcd, "--dot", "--html"), 2, "not allowed"),
             ((path_of("gcd/gcd", "c"),), 3, "gcd.c: line 1: "),
@@ -267,8 +267,9 @@ class OfOtherTexts(unittest.TestCase):
             ((EXAMPLES,), 4, "Is a directory"),
         ):
             found, out, errors = mc("show", *words)
-            self.assertEqual((found, out, errors.count("\n")), (status, "", 1), errors)
-            self.assertIn(told, errors)
+            self.assertEqual((found, out), (status, ""), errors)
+            self.assertIn(told, errors.splitlines()[0])
+            self.assertTrue(errors.startswith("mc show: "))
 
 
 class OfTextsOfOtherVersions(unittest.TestCase):

@@ -34,7 +34,8 @@ fn calls_at(image: &Image, a: u64, t: u64) -> bool
 
 /// Whether t is called at one of these addresses.
 pub fn calls(image: &Image, addresses: &Visited, t: u64) -> bool
-    ensures { IsTrue result ↔ IsCalledAt (code_in image.now.pieces) addresses.now (length addresses.now) t }
+    ensures { IsTrue result
+        ↔ IsCalledAt (code_in image.now.pieces) addresses.now (length addresses.now) t }
 {
     let mut i = 0;
     'addresses: while i < addresses.len() {
@@ -48,7 +49,8 @@ pub fn calls(image: &Image, addresses: &Visited, t: u64) -> bool
 
 /// Adds the function that is called at an address.
 fn note_callee(image: &Image, a: u64, functions: &mut Visited) -> Result<(), NoMemory>
-    ensures { OnOk result (finding.NotesCallee (spec.call_at (code_in image.now.pieces) a) functions.old functions.new) }
+    ensures { OnOk result (finding.NotesCallee (spec.call_at (code_in image.now.pieces) a)
+        functions.old functions.new) }
 {
     if let Some(callee) = call_at(image, a) {
         functions.add(callee)?;
@@ -62,7 +64,8 @@ pub fn note_callees(
     addresses: &Visited,
     functions: &mut Visited,
 ) -> Result<(), NoMemory>
-    ensures { OnOk result (NotesCallees (code_in image.now.pieces) addresses.now (length addresses.now) functions.old functions.new) }
+    ensures { OnOk result (NotesCallees (code_in image.now.pieces) addresses.now
+        (length addresses.now) functions.old functions.new) }
 {
     let mut i = 0;
     'addresses: while i < addresses.len() {

@@ -18,7 +18,8 @@ use flow_graph::{FlowFault, Outside, Visited};
 use rv_words::{List, NoMemory};
 use std::alloc::Global;
 
-/// The entries of the functions that calls lead to, rising, or that there is too much code, or the fault of the least address that has one.
+/// The entries of the functions that calls lead to, rising, or that there is too much code, or the
+/// fault of the least address that has one.
 fn entries(alloc: Global, image: &Image, entry: u64) -> Result<Visited, CallGraphFault>
     ensures ok { IfOk result (IsFine (code_in image.now.pieces) entry) }
     ensures err { IfErr result (IsCallGraphFault (code_in image.now.pieces) entry) }
@@ -62,8 +63,12 @@ fn functions_at(
     ranks: &[usize],
 ) -> Result<Vec<Function>, CallGraphFault>
     requires { length ranks.now ≡ length entries.now }
-    ensures ok { IfOk result (λ fs. AreMade (code_in image.now.pieces) entries.now ranks.now fs.items (length entries.now)) }
-    ensures err { (e : ℕ) → IsFine (code_in image.now.pieces) e entries.now → AreRanks (code_in image.now.pieces) entries.now ranks.now (length entries.now) → IfErr result (IsCallGraphFault (code_in image.now.pieces) e) }
+    ensures ok { IfOk result (λ fs.
+        AreMade (code_in image.now.pieces) entries.now ranks.now fs.items (length entries.now)) }
+    ensures err { (e : ℕ)
+        → IsFine (code_in image.now.pieces) e entries.now
+        → AreRanks (code_in image.now.pieces) entries.now ranks.now (length entries.now)
+        → IfErr result (IsCallGraphFault (code_in image.now.pieces) e) }
 {
     let mut functions = Vec::new(alloc);
     let mut i = 0;
@@ -86,8 +91,9 @@ fn sort(functions: &mut Vec<Function>) -> Result<(), NoMemory>
     Ok(())
 }
 
-/// The functions that calls lead to from an entry, each once with its graph and its loops: what a function calls stands before it, the one at
-/// the entry last. Or the first reason for which they can't be linked.
+/// The functions that calls lead to from an entry, each once with its graph and its loops: what a
+/// function calls stands before it, the one at the entry last. Or the first reason for which they
+/// can't be linked.
 pub fn linked_functions(
     alloc: Global,
     image: &Image,

@@ -28,8 +28,11 @@ fn rank(alloc: Global, image: &Image, entry: u64) -> Result<usize, CallGraphFaul
 
 /// The ranks of functions, or the first of these that calls itself.
 pub fn ranks(alloc: Global, image: &Image, entries: &Visited) -> Result<List<usize>, CallGraphFault>
-    ensures ok { IfOk result (λ rs. AreRanks (code_in image.now.pieces) entries.now rs (length entries.now)) }
-    ensures err { (e : ℕ) → IsFine (code_in image.now.pieces) e entries.now → IfErr result (IsCallGraphFault (code_in image.now.pieces) e) }
+    ensures ok { IfOk result (λ rs.
+        AreRanks (code_in image.now.pieces) entries.now rs (length entries.now)) }
+    ensures err { (e : ℕ)
+        → IsFine (code_in image.now.pieces) e entries.now
+        → IfErr result (IsCallGraphFault (code_in image.now.pieces) e) }
 {
     let mut ranks = List::new(alloc);
     let mut i = 0;

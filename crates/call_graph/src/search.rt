@@ -23,10 +23,12 @@ pub struct Found {
     pub fault: Option<u64>,
 }
 
-/// The functions of an entry, or `None` where their sizes sum to more than 1,024. What is reached behind a fault counts too.
+/// The functions of an entry, or `None` where their sizes sum to more than 1,024. What is reached
+/// behind a fault counts too.
 pub fn search(alloc: Global, image: &Image, entry: u64) -> Result<Option<Found>, NoMemory>
     ensures found { IfOk result (λ o. IfSome o (IsFound (code_in image.now.pieces) entry)) }
-    ensures large { IfOk result (λ o. IfNone o (SizesOver (code_in image.now.pieces) entry reach_limit)) }
+    ensures large { IfOk result (λ o.
+        IfNone o (SizesOver (code_in image.now.pieces) entry reach_limit)) }
 {
     let mut functions = Visited::new(alloc);
     functions.add(entry)?;

@@ -12,7 +12,7 @@ use Rattle.group_text.specs.Version.{version_3}
 use Rattle.proof_text.specs.Line.{LineTree, line_tree}
 use Rattle.further_rules.specs.Rules.{IsSteered}
 use Rattle.checker.specs.Accepts.{IsAcceptedBy}
-use Rattle.exactness.specs.LinkExact.{LinkExact}
+use Rattle.claims.specs.LinkExact.{LinkExact}
 use Rattle.exactness.proofs.Members.{members-lost-nothing}
 use Rattle.call_graph.specs.Causes.{IsCallGraphFault, IsCause}
 use Rattle.call_graph.specs.Functions.{AreFunctions}

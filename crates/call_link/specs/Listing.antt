@@ -9,8 +9,8 @@ use Rattle.group_text.specs.Version.{version_3}
 use Rattle.proof_text.specs.Proofs.{IsProofIn}
 use Rattle.further_rules.specs.Rules.{IsSteered}
 use Rattle.checker.specs.Accepts.{IsAcceptedBy}
-use Rattle.checker.specs.Headline.{entry_at}
-use Rattle.exactness.specs.LinkExact.{LinkExact}
+use Rattle.claims.specs.Headline.{entry_at}
+use Rattle.claims.specs.LinkExact.{LinkExact}
 use Rattle.flow_graph.specs.Flow.{Next}
 use Rattle.flow_graph.specs.Walks.{Reaches}
 use Rattle.call_graph.specs.Calls.{IsFunction}

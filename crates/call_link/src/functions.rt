@@ -18,12 +18,16 @@ use path_walk::{Item, Proof, linked_item};
 use rv_words::{List, Text};
 use std::alloc::Global;
 
-/// An item for each of these names of a file, of all functions that calls lead to from there; or the first of the names whose functions can't
-/// be linked.
+/// An item for each of these names of a file, of all functions that calls lead to from there; or
+/// the first of the names whose functions can't be linked.
 pub fn link(alloc: Global, image: &Image, names: &List<Text>) -> Result<Proof, LinkFault>
     requires { All IsName names.now }
-    ensures items { (file : Items ℕ) → image.now ≡ image_of file → IfOk result (AreLinkedItemsFor file names.now) }
-    ensures refused { (file : Items ℕ) → image.now ≡ image_of file → IfErr result (IsLinkFaultOf file names.now) }
+    ensures items { (file : Items ℕ)
+        → image.now ≡ image_of file
+        → IfOk result (AreLinkedItemsFor file names.now) }
+    ensures refused { (file : Items ℕ)
+        → image.now ≡ image_of file
+        → IfErr result (IsLinkFaultOf file names.now) }
 {
     let all = names.as_slice();
     let mut items = List::new(alloc);
@@ -51,8 +55,12 @@ fn refusal(number: u64, why: CallGraphFault) -> LinkFault
 /// The item of a name.
 fn item_for(alloc: Global, image: &Image, name: &Text) -> Result<Item, CallGraphFault>
     requires { IsName name.now }
-    ensures item { (file : Items ℕ) → image.now ≡ image_of file → IfOk result (IsLinkedItemFor file name.now) }
-    ensures none { (file : Items ℕ) → image.now ≡ image_of file → IfErr result (IsNoLinkedItem file name.now) }
+    ensures item { (file : Items ℕ)
+        → image.now ≡ image_of file
+        → IfOk result (IsLinkedItemFor file name.now) }
+    ensures none { (file : Items ℕ)
+        → image.now ≡ image_of file
+        → IfErr result (IsNoLinkedItem file name.now) }
 {
     law_of_image(image);
     match address_of(image, name.as_slice()) {
@@ -67,7 +75,10 @@ fn item_for(alloc: Global, image: &Image, name: &Text) -> Result<Item, CallGraph
 /// The item of the functions that calls lead to from an address, under that name.
 fn linked_at(alloc: Global, image: &Image, entry: u64, name: Text) -> Result<Item, CallGraphFault>
     requires { IsName name }
-    ensures item { (file : Items ℕ) → image.now ≡ image_of file → StandsFor file name (Fine entry) → IfOk result (IsLinkedItemFor file name) }
+    ensures item { (file : Items ℕ)
+        → image.now ≡ image_of file
+        → StandsFor file name (Fine entry)
+        → IfOk result (IsLinkedItemFor file name) }
     ensures none { IfErr result (IsCallGraphFault (code_in image.now.pieces) entry) }
 {
     law_of_bytes(image);

@@ -1,4 +1,5 @@
-//! Laws of items of linked functions. This function does nothing: its contract is the law, which speaks of the definitions alone.
+//! Laws of items of linked functions. This function does nothing: its contract is the law, which
+//! speaks of the definitions alone.
 
 ghost use Rattle.std.specs.Prelude.{ℕ, List};
 ghost use Rattle.elf_image.specs.Fault.{IsReadable};
@@ -12,6 +13,11 @@ ghost use Rattle.path_walk.specs.declared.proof.Proof.{Proof as TheProof};
 
 /// Items for names of a file that can be read are accepted for it, and have a text.
 pub fn law_of_linked_items()
-    ensures accepted { (file : List ℕ) (names : List (List ℕ)) (p : TheProof) → IsReadable file → AreLinkedItemsFor file names p → AcceptsBy IsSteered file (proofs_of p) }
-    ensures text { (file : List ℕ) (names : List (List ℕ)) (p : TheProof) → AreLinkedItemsFor file names p → AreProofsIn version_3 (proofs_of p) }
+    ensures accepted { (file : List ℕ) (names : List (List ℕ)) (p : TheProof)
+        → IsReadable file
+        → AreLinkedItemsFor file names p
+        → AcceptsBy IsSteered file (proofs_of p) }
+    ensures text { (file : List ℕ) (names : List (List ℕ)) (p : TheProof)
+        → AreLinkedItemsFor file names p
+        → AreProofsIn version_3 (proofs_of p) }
 {}

@@ -1,20 +1,20 @@
-//! Functions that call others: an item for each name of a file, of all functions that calls lead to from there, and the check of a proof text of
-//! version 3, in which a line may state a triple by `steer`.
+//! Functions that call others: an item for each name of a file, of all functions that calls lead to
+//! from there, with proofs as texts of version 3, in which a line may state a triple by `steer`.
 //!
-//! `link(alloc, &image, &names)?` gives the items, or tells the first name whose functions can't be linked, and why. `linked_bytes` is the text
-//! of them, in version 3. `check_linked` judges a text of that version; `steer` is its further rule (`Steer`).
+//! `link(alloc, &image, &names)?` gives the items, or tells the first name whose functions can't be
+//! linked, and why. `linked_bytes` is the text of them, in version 3. `check_linked`, which
+//! text_versions has, judges a text of that version; `steer` is its further rule (`Steer`).
 #![tactic(auto)]
 
-mod check;
 mod fault;
 mod functions;
 mod laws;
 mod text;
 
 pub use call_graph::LinkWhy;
-pub use check::{Steer, check_linked};
 pub use fault::LinkFault;
 pub use functions::link;
 pub use further_rules::steer;
 pub use laws::law_of_linked_items;
 pub use text::linked_bytes;
+pub use text_versions::{Steer, check_linked};

@@ -16,7 +16,8 @@ pub struct Cases {
     stars: Stars,
 }
 
-/// A file whose lines are being given, how often they are to be added, with their numbers, and what stands behind them.
+/// A file whose lines are being given, how often they are to be added, with their numbers, and what
+/// stands behind them.
 #[derive(Drop)]
 struct Open {
     name: String,

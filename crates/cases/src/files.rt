@@ -113,8 +113,8 @@ pub fn is_newline(byte: &u8) -> bool {
     *byte == b'\n'
 }
 
-/// An ELF file with these instruction words at 0x10000, each eight hexadecimal digits, with `*` and a number behind those that
-/// stand more than once.
+/// An ELF file with these instruction words at 0x10000, each eight hexadecimal digits, with `*` and
+/// a number behind those that stand more than once.
 pub fn elf_of(alloc: Global, words: &str) -> Result<Vec<u8>> {
     let mut code = List::new(alloc);
     for text in words.split_whitespace() {

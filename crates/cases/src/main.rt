@@ -1,7 +1,8 @@
 //! Runs cases of the commands, which it reads from its input, and prints what comes of them.
 //!
-//! A line of the input is one of these. What a line prints stands behind it in the input too, behind `> `, for the
-//! reader: such lines are passed over, as empty ones and those that begin with `#` are.
+//! A line of the input is one of these. What a line prints stands behind it in the input too,
+//! behind `> `, for the reader: such lines are passed over, as empty ones and those that begin with
+//! `#` are.
 //!
 //!     case TEXT              a case begins: the names hold what they held before the first case
 //!     file NAME              the name holds the lines that follow, each behind `| `

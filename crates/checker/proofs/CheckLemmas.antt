@@ -12,7 +12,7 @@ use Rattle.checker.specs.declared.verdict.Verdict.{Verdict}
 use Rattle.checker.specs.declared.verdict.Verdict.TheVariants as verdict
 use Rattle.checker.specs.Instance.{FurtherRule, KeepsValid}
 use Rattle.checker.specs.Accepts.{AcceptsBy}
-use Rattle.checker.specs.Headline.{Headline}
+use Rattle.claims.specs.Headline.{Headline}
 use Rattle.checker.specs.Verdicts.{IsAcceptance, IsTextOfIn, SaysBy}
 use Rattle.checker.proofs.SoundLemmas.{accepted-right-by}
 use Rattle.checker.proofs.OneVerdict.{verdict-once}

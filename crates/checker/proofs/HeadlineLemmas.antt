@@ -24,7 +24,7 @@ use Rattle.triple_kernel.specs.Valid.{Reaches, state_part}
 use Rattle.tailrec_lang.specs.Registers.{AreRegistersFrom}
 use Rattle.loop_rule.specs.Leaves.{parameters, at_entry, at_exit}
 use Rattle.loop_rule.specs.Rule.{results, IsClosed}
-use Rattle.checker.specs.Headline.{Region, cut, is_within, held_in, Starts, Ends}
+use Rattle.claims.specs.Headline.{Region, cut, is_within, held_in, Starts, Ends}
 use Rattle.tailrec_lang.proofs.Fitting.{exited-fits}
 use Rattle.checker.proofs.CountLemmas.{place_by, given_by, done-by}
 use Rattle.checker.proofs.PartLemmas.{both-free, has-right, slot-same, held_part, with_values-part, words_part, memories_part, is_register-in, words-back, memories-back, Fills}

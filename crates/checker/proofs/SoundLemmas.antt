@@ -21,7 +21,7 @@ use Rattle.frame_compose.specs.Rules.{IsFramed, IsExtended, IsComposed}
 use Rattle.checker.specs.Sound.{Sound}
 use Rattle.proof_text.specs.Proofs.{groups_of}
 use Rattle.checker.specs.Accepts.{IsAcceptedBy, AcceptsBy, Accepts}
-use Rattle.checker.specs.Headline.{IsRight, Headline}
+use Rattle.claims.specs.Headline.{IsRight, Headline}
 use Rattle.frame_compose.proofs.FrameLemmas.{valid_frame}
 use Rattle.frame_compose.proofs.ExtendLemmas.{valid_extension}
 use Rattle.frame_compose.proofs.ComposeLemmas.{valid_composition}

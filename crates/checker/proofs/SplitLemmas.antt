@@ -9,7 +9,7 @@ use Rattle.rv_words.specs.Ranges.{range_bytes}
 use Rattle.sep_assert.specs.Part.{Key, Pc, Register, Byte, Slot, Free, Has, both, Part, ◌⊕◌, slot_of, code_part}
 use Rattle.triple_kernel.specs.Valid.{is_register, state_part}
 use Rattle.tailrec_lang.specs.Registers.{AreRegistersFrom}
-use Rattle.checker.specs.Headline.{Region, cut, is_within, AreApart}
+use Rattle.claims.specs.Headline.{Region, cut, is_within, AreApart}
 use Rattle.checker.proofs.PartLemmas.{both-free, both-assoc, has-left, has-same, held_part, memories_part, words-pc, words-byte, memories-pc, memories-register, has_register, has_none, words-of, words-elsewhere, is_register-in, regions-of}
 
 -- a byte that isn't code

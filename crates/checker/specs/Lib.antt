@@ -1,5 +1,5 @@
 pub mod Instance
-pub mod Headline
+pub mod Further
 pub mod Sound
 pub mod Accepts
 pub mod Bench

@@ -20,8 +20,8 @@ use std::marker::Model;
 use tailrec_lang::Group;
 use triple_kernel::{RuleFault, Thm, Triple};
 
-/// Judges the lines of a group's proof, one after the other, and keeps the theorems that can still be cited and the
-/// definitions that are closed.
+/// Judges the lines of a group's proof, one after the other, and keeps the theorems that can still
+/// be cited and the definitions that are closed.
 #[derive(Drop)]
 pub struct Bench<'g> {
     group: &'g Group,
@@ -65,9 +65,13 @@ impl<'g> Bench<'g> {
     /// Judges the next line. A refusal changes nothing.
     pub fn judge(&mut self, alloc: Global, line: Line) -> Result<(), RuleFault>
         ensures group { self.new.0 ≡ self.old.0 }
-        ensures instance { OnOk result (Instance (group_of self.old) (history_of self.old) (line_tree line)) }
-        ensures after { OnOk result (history_of self.new ≡ after_line (history_of self.old) (line_tree line)) }
-        ensures no_instance { IsErrOf result RuleFault.NoInstance → Instance (group_of self.old) (history_of self.old) (line_tree line) → ⊥ }
+        ensures instance { OnOk result (Instance (group_of self.old) (history_of self.old)
+            (line_tree line)) }
+        ensures after { OnOk result (history_of self.new
+            ≡ after_line (history_of self.old) (line_tree line)) }
+        ensures no_instance { IsErrOf result RuleFault.NoInstance
+            → Instance (group_of self.old) (history_of self.old) (line_tree line)
+            → ⊥ }
         ensures same { OnErr result (self.new ≡ self.old) }
     {
         self.judge_by(alloc, &NoRule, line)
@@ -81,9 +85,13 @@ impl<'g> Bench<'g> {
         line: Line,
     ) -> Result<(), RuleFault>
         ensures group { self.new.0 ≡ self.old.0 }
-        ensures instance { OnOk result (InstanceBy R.states (group_of self.old) (history_of self.old) (line_tree line)) }
-        ensures after { OnOk result (history_of self.new ≡ after_line (history_of self.old) (line_tree line)) }
-        ensures no_instance { IsErrOf result RuleFault.NoInstance → InstanceBy R.states (group_of self.old) (history_of self.old) (line_tree line) → ⊥ }
+        ensures instance { OnOk result (InstanceBy R.states (group_of self.old)
+            (history_of self.old) (line_tree line)) }
+        ensures after { OnOk result (history_of self.new
+            ≡ after_line (history_of self.old) (line_tree line)) }
+        ensures no_instance { IsErrOf result RuleFault.NoInstance
+            → InstanceBy R.states (group_of self.old) (history_of self.old) (line_tree line)
+            → ⊥ }
         ensures same { OnErr result (self.new ≡ self.old) }
     {
         match line {
@@ -110,8 +118,10 @@ impl<'g> Bench<'g> {
 
     /// A copy of the theorem of that number, if it exists and wasn't forgotten.
     pub fn theorem(&self, alloc: Global, k: u64) -> Result<Option<Thm<'g>>, NoMemory>
-        ensures theorem { IfOk result (λ copy. option_map (λ t. triple_tree t.1) copy ≡ (history_of self.now).theorem k) }
-        ensures group { IfOk result (λ copy. IfSome copy (λ t. group_tree t.0 ≡ group_of self.now)) }
+        ensures theorem { IfOk result (λ copy.
+            option_map (λ t. triple_tree t.1) copy ≡ (history_of self.now).theorem k) }
+        ensures group { IfOk result (λ copy.
+            IfSome copy (λ t. group_tree t.0 ≡ group_of self.now)) }
     {
         match self.held(k) {
             Some(t) => Ok(Some(copy_theorem(alloc, t)?)),
@@ -123,7 +133,8 @@ impl<'g> Bench<'g> {
     pub fn admit(&mut self, alloc: Global, triple: &Triple) -> Result<(), NoMemory>
         requires { Valid (group_of self.old) (triple_tree triple.now) }
         ensures group { self.new.0 ≡ self.old.0 }
-        ensures after { OnOk result (history_of self.new ≡ with_theorem (triple_tree triple.now) (history_of self.old)) }
+        ensures after { OnOk result (history_of self.new
+            ≡ with_theorem (triple_tree triple.now) (history_of self.old)) }
         ensures same { OnErr result (self.new ≡ self.old) }
     {
         let copy = copy_triple(alloc, triple)?;
@@ -133,7 +144,8 @@ impl<'g> Bench<'g> {
 
     /// The theorem of that number, if it exists and wasn't forgotten.
     pub(crate) fn held(&self, k: u64) -> Option<&Thm<'g>>
-        ensures theorem { option_map (λ t. triple_tree t.1) (option_copied result) ≡ (history_of self.now).theorem k }
+        ensures theorem { option_map (λ t. triple_tree t.1) (option_copied result)
+            ≡ (history_of self.now).theorem k }
         ensures group { IfSome (option_copied result) (λ t. group_tree t.0 ≡ group_of self.now) }
     {
         match self.theorems.get(k as usize) {
@@ -145,7 +157,8 @@ impl<'g> Bench<'g> {
     /// That a definition is closed, if it is.
     pub(crate) fn closing(&self, def: u32) -> Option<&FunThm<'g>>
         ensures closed { is_some result ≡ (history_of self.now).closed def }
-        ensures group { IfSome (option_copied result) (λ f. (group_tree f.0 ≡ group_of self.now) × (f.1 ≡ def)) }
+        ensures group { IfSome (option_copied result) (λ f.
+            (group_tree f.0 ≡ group_of self.now) × (f.1 ≡ def)) }
     {
         match self.closed.get(def as usize) {
             Some(Some(f)) => Some(f),
@@ -156,9 +169,14 @@ impl<'g> Bench<'g> {
     /// States a triple by a rule.
     fn state(&mut self, alloc: Global, rule: &Rule, stated: Triple) -> Result<(), RuleFault>
         ensures group { self.new.0 ≡ self.old.0 }
-        ensures instance { OnOk result (Meets (group_of self.old) (history_of self.old) (rule_tree rule.now) (triple_tree stated)) }
-        ensures after { OnOk result (history_of self.new ≡ with_theorem (triple_tree stated) (history_of self.old)) }
-        ensures no_instance { IsErrOf result RuleFault.NoInstance → Meets (group_of self.old) (history_of self.old) (rule_tree rule.now) (triple_tree stated) → ⊥ }
+        ensures instance { OnOk result (Meets (group_of self.old) (history_of self.old)
+            (rule_tree rule.now) (triple_tree stated)) }
+        ensures after { OnOk result (history_of self.new
+            ≡ with_theorem (triple_tree stated) (history_of self.old)) }
+        ensures no_instance { IsErrOf result RuleFault.NoInstance
+            → Meets (group_of self.old) (history_of self.old) (rule_tree rule.now)
+            (triple_tree stated)
+            → ⊥ }
         ensures same { OnErr result (self.new ≡ self.old) }
     {
         let t = self.derive(alloc, rule, stated)?;
@@ -174,9 +192,13 @@ impl<'g> Bench<'g> {
         stated: Triple,
     ) -> Result<(), RuleFault>
         ensures group { self.new.0 ≡ self.old.0 }
-        ensures instance { OnOk result (IsSomeAnd ((history_of self.old).theorem cited) (λ p. R.states p (triple_tree stated))) }
-        ensures after { OnOk result (history_of self.new ≡ with_theorem (triple_tree stated) (history_of self.old)) }
-        ensures no_instance { IsErrOf result RuleFault.NoInstance → IsSomeAnd ((history_of self.old).theorem cited) (λ p. R.states p (triple_tree stated)) → ⊥ }
+        ensures instance { OnOk result (IsSomeAnd ((history_of self.old).theorem cited)
+            (λ p. R.states p (triple_tree stated))) }
+        ensures after { OnOk result (history_of self.new
+            ≡ with_theorem (triple_tree stated) (history_of self.old)) }
+        ensures no_instance { IsErrOf result RuleFault.NoInstance
+            → IsSomeAnd ((history_of self.old).theorem cited) (λ p. R.states p (triple_tree stated))
+            → ⊥ }
         ensures same { OnErr result (self.new ≡ self.old) }
     {
         let Some(t) = self.by_further(further, cited, stated) else {
@@ -190,7 +212,8 @@ impl<'g> Bench<'g> {
     fn keep(&mut self, t: Thm<'g>) -> Result<(), NoMemory>
         requires { group_tree t.0 ≡ group_of self.old }
         ensures group { self.new.0 ≡ self.old.0 }
-        ensures after { OnOk result (history_of self.new ≡ with_theorem (triple_tree t.entry.1) (history_of self.old)) }
+        ensures after { OnOk result (history_of self.new
+            ≡ with_theorem (triple_tree t.entry.1) (history_of self.old)) }
         ensures same { OnErr result (self.new ≡ self.old) }
     {
         self.theorems.push(Some(t))
@@ -199,9 +222,12 @@ impl<'g> Bench<'g> {
     /// Closes a definition by a theorem for each of its leaves.
     fn close(&mut self, alloc: Global, def: u32, cited: &[u64]) -> Result<(), RuleFault>
         ensures group { self.new.0 ≡ self.old.0 }
-        ensures instance { OnOk result (IsClosedBy (group_of self.old) def (map (history_of self.old).theorem cited.now)) }
+        ensures instance { OnOk result (IsClosedBy (group_of self.old) def (map
+            (history_of self.old).theorem cited.now)) }
         ensures after { OnOk result (history_of self.new ≡ with_closed def (history_of self.old)) }
-        ensures no_instance { IsErrOf result RuleFault.NoInstance → IsClosedBy (group_of self.old) def (map (history_of self.old).theorem cited.now) → ⊥ }
+        ensures no_instance { IsErrOf result RuleFault.NoInstance
+            → IsClosedBy (group_of self.old) def (map (history_of self.old).theorem cited.now)
+            → ⊥ }
         ensures same { OnErr result (self.new ≡ self.old) }
     {
         let f = close(alloc, self.group, def, self.theorems.as_slice(), cited)?;

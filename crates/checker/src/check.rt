@@ -1,5 +1,5 @@
-//! The check of a proof text for an ELF file. One loop serves each version: it goes by the version of its reader, and by the
-//! further rule that it is given.
+//! The check of a proof text for an ELF file. One loop serves each version: it goes by the version
+//! of its reader, and by the further rule that it is given.
 
 ghost use Rattle.std.specs.Prelude.{◌≡◌, ◌∷◌, ◌++◌, [], ◌⊎◌, ◌+◌, ◌<◌, ◌≤◌, ◌^◌, ◌↔◌, ℕ, List as Items, None, IfOk, IfErr, IfSome, OnOk, IsTrue, length, true, false, if◌then◌else◌};
 ghost use Rattle.elf_image.specs.Fault.{IsReadable};
@@ -17,7 +17,7 @@ ghost use Rattle.proof_text.specs.Proofs.{groups_of};
 ghost use Rattle.checker.specs.declared.verdict.Verdict.{Verdict as VerdictOf};
 ghost use Rattle.checker.specs.Instance.{no_lines};
 ghost use Rattle.checker.specs.LineRules.{SaysOver};
-ghost use Rattle.checker.specs.Headline.{Headline};
+ghost use Rattle.claims.specs.Headline.{Headline};
 ghost use Rattle.checker.specs.Verdicts.{IsAcceptance, IsTextOf, IsTextOfIn, Says, SaysBy};
 ghost use Rattle.checker.specs.inner.Checking.{IsCodeOf, LineJudged, LinesJudged, MayFollow, NextGroup, NextLine, ProofJudged, StandBehind, TextJudged, verdict_of, with_group};
 ghost use Rattle.checker.specs.inner.Sourced.{pulled_by, stops_outside, verdicts};
@@ -43,7 +43,7 @@ use triple_kernel::RuleFault;
 use word_terms::Code;
 
 /// What was judged of a text so far.
-#[derive(Clone, Copy, Debug)]
+#[derive(Clone, Copy)]
 pub(crate) struct Tally {
     pub groups: u64,
     pub lines: u64,
@@ -57,17 +57,22 @@ pub fn check_bytes(alloc: Global, elf: &[u8], proof: &[u8]) -> Verdict
     ensures verdict { Says elf.now proof.now result }
 
     // Where they are accepted, the functions of the text are right.
-    ensures headline { IsAcceptance result → (ps : Items ProofTree) → IsTextOf proof.now ps → Headline elf.now (groups_of ps) }
+    ensures headline { IsAcceptance result
+        → (ps : Items ProofTree)
+        → IsTextOf proof.now ps
+        → Headline elf.now (groups_of ps) }
 
     // A verdict that says what is so comes, but for want of memory.
-    ensures exact { (v : VerdictOf) → Says elf.now proof.now v → (result ≡ v) ⊎ (v ≡ Verdict.NoMemory) ⊎ (result ≡ Verdict.NoMemory) }
+    ensures exact { (v : VerdictOf)
+        → Says elf.now proof.now v
+        → (result ≡ v) ⊎ (v ≡ Verdict.NoMemory) ⊎ (result ≡ Verdict.NoMemory) }
 {
     let mut reader = Reader::new(proof);
     check_by(alloc, elf, &mut reader, &NoRule)
 }
 
-/// Checks the text of a reader for an ELF file, in the reader's version and with its further rule. The reader stands before
-/// the first line of a slice.
+/// Checks the text of a reader for an ELF file, in the reader's version and with its further rule.
+/// The reader stands before the first line of a slice.
 pub fn check_by<R: FurtherRule>(
     alloc: Global,
     elf: &[u8],
@@ -78,14 +83,20 @@ pub fn check_by<R: FurtherRule>(
     requires few { length reader.old.text < 2 ^ 63 }
 
     // What the verdict says of them.
-    ensures verdict { SaysBy R.states (version_of reader.old.version) elf.now reader.old.text result }
+    ensures verdict { SaysBy R.states (version_of reader.old.version) elf.now reader.old.text
+        result }
 
-    // Where they are accepted, in a version with one memory at most, the functions of the text are right.
-    ensures headline { (version_of reader.old.version).most_mems ≤ 1 → IsAcceptance result
-        → (ps : Items ProofTree) → IsTextOfIn (version_of reader.old.version) reader.old.text ps → Headline elf.now (groups_of ps) }
+    // Where they are accepted, in a version with one memory at most, the functions of the text are
+    // right.
+    ensures headline { (version_of reader.old.version).most_mems ≤ 1
+        → IsAcceptance result
+        → (ps : Items ProofTree)
+        → IsTextOfIn (version_of reader.old.version) reader.old.text ps
+        → Headline elf.now (groups_of ps) }
 
     // A verdict that says what is so comes, but for want of memory.
-    ensures exact { (v : VerdictOf) → SaysBy R.states (version_of reader.old.version) elf.now reader.old.text v
+    ensures exact { (v : VerdictOf)
+        → SaysBy R.states (version_of reader.old.version) elf.now reader.old.text v
         → (result ≡ v) ⊎ (v ≡ Verdict.NoMemory) ⊎ (result ≡ Verdict.NoMemory) }
 {
     match read(alloc, elf) {
@@ -97,14 +108,17 @@ pub fn check_by<R: FurtherRule>(
 
 /// Checks a proof text of version 1 for an ELF file that was read.
 pub fn check_text(alloc: Global, image: &Image, proof: &[u8]) -> Verdict
-    ensures verdict { (elf : Items ℕ) → IsReadable elf → image.now ≡ image_of elf → Says elf proof.now result }
+    ensures verdict { (elf : Items ℕ)
+        → IsReadable elf
+        → image.now ≡ image_of elf
+        → Says elf proof.now result }
 {
     let mut reader = Reader::new(proof);
     judge_image(alloc, image, &mut reader, &NoRule)
 }
 
-/// Checks the text of a reader for an ELF file that was read, in the reader's version and with its further rule. The reader
-/// stands before the first line of a slice.
+/// Checks the text of a reader for an ELF file that was read, in the reader's version and with its
+/// further rule. The reader stands before the first line of a slice.
 pub fn check_image<R: FurtherRule>(
     alloc: Global,
     image: &Image,
@@ -115,14 +129,28 @@ pub fn check_image<R: FurtherRule>(
     requires few { length reader.old.text < 2 ^ 63 }
 
     // What the verdict says of them.
-    ensures verdict { (elf : Items ℕ) → IsReadable elf → image.now ≡ image_of elf → SaysBy R.states (version_of reader.old.version) elf reader.old.text result }
+    ensures verdict { (elf : Items ℕ)
+        → IsReadable elf
+        → image.now ≡ image_of elf
+        → SaysBy R.states (version_of reader.old.version) elf reader.old.text result }
 
-    // Where they are accepted, in a version with one memory at most, the functions of the text are right.
-    ensures headline { (elf : Items ℕ) → IsReadable elf → image.now ≡ image_of elf → (version_of reader.old.version).most_mems ≤ 1 → IsAcceptance result
-        → (ps : Items ProofTree) → IsTextOfIn (version_of reader.old.version) reader.old.text ps → Headline elf (groups_of ps) }
+    // Where they are accepted, in a version with one memory at most, the functions of the text are
+    // right.
+    ensures headline { (elf : Items ℕ)
+        → IsReadable elf
+        → image.now ≡ image_of elf
+        → (version_of reader.old.version).most_mems ≤ 1
+        → IsAcceptance result
+        → (ps : Items ProofTree)
+        → IsTextOfIn (version_of reader.old.version) reader.old.text ps
+        → Headline elf (groups_of ps) }
 
     // A verdict that says what is so comes, but for want of memory.
-    ensures exact { (elf : Items ℕ) → IsReadable elf → image.now ≡ image_of elf → (v : VerdictOf) → SaysBy R.states (version_of reader.old.version) elf reader.old.text v
+    ensures exact { (elf : Items ℕ)
+        → IsReadable elf
+        → image.now ≡ image_of elf
+        → (v : VerdictOf)
+        → SaysBy R.states (version_of reader.old.version) elf reader.old.text v
         → (result ≡ v) ⊎ (v ≡ Verdict.NoMemory) ⊎ (result ≡ Verdict.NoMemory) }
 {
     rule.law();
@@ -138,7 +166,10 @@ fn judge_image<R: FurtherRule>(
 ) -> Verdict
     requires given { HasGiven [] reader.old }
     requires few { length reader.old.text < 2 ^ 63 }
-    ensures verdict { (elf : Items ℕ) → IsReadable elf → image.now ≡ image_of elf → SaysBy R.states (version_of reader.old.version) elf reader.old.text result }
+    ensures verdict { (elf : Items ℕ)
+        → IsReadable elf
+        → image.now ≡ image_of elf
+        → SaysBy R.states (version_of reader.old.version) elf reader.old.text result }
 {
     match judge_source(alloc, image, reader, &mut (), rule) {
         Pulled::Verdict(verdict) => verdict,
@@ -146,8 +177,8 @@ fn judge_image<R: FurtherRule>(
     }
 }
 
-/// Checks the text of a file that is read line by line, for an ELF file that was read, in the text's version and with its
-/// further rule.
+/// Checks the text of a file that is read line by line, for an ELF file that was read, in the
+/// text's version and with its further rule.
 pub fn check_pulled_by<S: Shelf, R: FurtherRule>(
     alloc: Global,
     image: &Image,
@@ -159,17 +190,36 @@ pub fn check_pulled_by<S: Shelf, R: FurtherRule>(
     requires given { (file : Items ℕ) → HasGiven [] (progress_in pull.old file) }
     requires few { left_of pull.old < 2 ^ 63 }
 
-    // Where it is told what the name holds: what the verdict says of the files, that the functions of a text that is accepted are
-    // right, in a version with one memory at most, and that a verdict that says what is so comes, but for want of memory.
-    ensures verdict { (elf : Items ℕ) → IsReadable elf → image.now ≡ image_of elf → IfVerdict result (λ v. WhereHeld (S.contents shelf.old) pull.old.rows.lines.name (λ file.
-        SaysBy R.states (version_of pull.old.version) elf (held_text pull.old file) v)) }
-    ensures headline { (elf : Items ℕ) → IsReadable elf → image.now ≡ image_of elf → (version_of pull.old.version).most_mems ≤ 1 → IfVerdict result (λ v. WhereHeld (S.contents shelf.old) pull.old.rows.lines.name (λ file.
-        IsAcceptance v → (ps : Items ProofTree) → IsTextOfIn (version_of pull.old.version) (held_text pull.old file) ps → Headline elf (groups_of ps))) }
-    ensures exact { (elf : Items ℕ) → IsReadable elf → image.now ≡ image_of elf → IfVerdict result (λ w. WhereHeld (S.contents shelf.old) pull.old.rows.lines.name (λ file.
-        (v : VerdictOf) → SaysBy R.states (version_of pull.old.version) elf (held_text pull.old file) v → (w ≡ v) ⊎ (v ≡ Verdict.NoMemory) ⊎ (w ≡ Verdict.NoMemory))) }
+    // Where it is told what the name holds: what the verdict says of the files, that the functions
+    // of a text that is accepted are right, in a version with one memory at most, and that a
+    // verdict that says what is so comes, but for want of memory.
+    ensures verdict { (elf : Items ℕ)
+        → IsReadable elf
+        → image.now ≡ image_of elf
+        → IfVerdict result (λ v. WhereHeld (S.contents shelf.old) pull.old.rows.lines.name
+        (λ file. SaysBy R.states (version_of pull.old.version) elf (held_text pull.old file) v)) }
+    ensures headline { (elf : Items ℕ)
+        → IsReadable elf
+        → image.now ≡ image_of elf
+        → (version_of pull.old.version).most_mems ≤ 1
+        → IfVerdict result (λ v.
+        WhereHeld (S.contents shelf.old) pull.old.rows.lines.name (λ file.
+        IsAcceptance v
+        → (ps : Items ProofTree)
+        → IsTextOfIn (version_of pull.old.version) (held_text pull.old file) ps
+        → Headline elf (groups_of ps))) }
+    ensures exact { (elf : Items ℕ)
+        → IsReadable elf
+        → image.now ≡ image_of elf
+        → IfVerdict result (λ w.
+        WhereHeld (S.contents shelf.old) pull.old.rows.lines.name (λ file.
+        (v : VerdictOf)
+        → SaysBy R.states (version_of pull.old.version) elf (held_text pull.old file) v
+        → (w ≡ v) ⊎ (v ≡ Verdict.NoMemory) ⊎ (w ≡ Verdict.NoMemory))) }
 
     // Over every shelf: it only reads, and tells a fault only where one was counted.
-    ensures shelf { OnlyReads S.contents S.read_faults S.write_faults S.IsSure (is_outside result ≡ true) pull.old.rows.lines.name shelf.old shelf.new }
+    ensures shelf { OnlyReads S.contents S.read_faults S.write_faults S.IsSure
+        (is_outside result ≡ true) pull.old.rows.lines.name shelf.old shelf.new }
 {
     rule.law();
     judge_source(alloc, image, pull, shelf, rule)
@@ -186,7 +236,11 @@ fn judge_source<E, P: ProofSource<E, RuledReader<ByRule<R>>>, R: FurtherRule>(
     requires going { P.Goes source.old }
     requires given { IfSome (P.told source.old from.old) (HasGiven []) }
     requires few { P.left source.old < 2 ^ 63 }
-    ensures verdict { (elf : Items ℕ) → IsReadable elf → image.now ≡ image_of elf → IfSome (P.told source.old from.old) (λ r. SaysBy R.states (version_of r.version) elf r.text (as_verdict result)) }
+    ensures verdict { (elf : Items ℕ)
+        → IsReadable elf
+        → image.now ≡ image_of elf
+        → IfSome (P.told source.old from.old) (λ r.
+        SaysBy R.states (version_of r.version) elf r.text (as_verdict result)) }
     ensures lends { P.Lends (is_outside result) source.old from.old source.new from.new }
 {
     let mut kept = RuledReader {
@@ -195,8 +249,8 @@ fn judge_source<E, P: ProofSource<E, RuledReader<ByRule<R>>>, R: FurtherRule>(
     check_source(alloc, image, source, from, &mut kept, &OverTrees, rule)
 }
 
-/// Checks a text for an ELF file that was read, whatever lines stand behind its groups. The source stands before the first line of
-/// a text.
+/// Checks a text for an ELF file that was read, whatever lines stand behind its groups. The source
+/// stands before the first line of a text.
 pub fn check_source<
     E,
     V: RuledLines,
@@ -218,7 +272,11 @@ pub fn check_source<
     requires few { P.left source.old < 2 ^ 63 }
 
     // What the verdict says of them.
-    ensures verdict { (elf : Items ℕ) → IsReadable elf → image.now ≡ image_of elf → IfSome (P.told source.old from.old) (λ r. SaysOver V.rules (version_of r.version) elf r.text (as_verdict result)) }
+    ensures verdict { (elf : Items ℕ)
+        → IsReadable elf
+        → image.now ≡ image_of elf
+        → IfSome (P.told source.old from.old) (λ r.
+        SaysOver V.rules (version_of r.version) elf r.text (as_verdict result)) }
 
     // What the check does to the source and to what is lent.
     ensures lends { P.Lends (is_outside result) source.old from.old source.new from.new }
@@ -256,8 +314,16 @@ fn judge_file<E, V: RuledLines, P: ProofSource<E, RuledReader<V>>, X, J: JudgePr
     requires laws { ReadsLines V.readers (version_of (P.version source.old)) }
     requires given { IfSome (P.told source.old from.old) (HasGivenOver V.readers.grammar []) }
     requires few { P.left source.old < 2 ^ 63 }
-    ensures judged { IfOk result (λ t. (file : Items ℕ) → image.now ≡ image_of file → IfSome (P.told source.old from.old) (λ r. TextJudged V.rules (version_of r.version) file r.text t)) }
-    ensures fault { IfErr result (λ e. (file : Items ℕ) → IsReadable file → IfSome (P.told source.old from.old) (λ r. SaysOver V.rules (version_of r.version) file r.text (as_verdict e))) }
+    ensures judged { IfOk result (λ t.
+        (file : Items ℕ)
+        → image.now ≡ image_of file
+        → IfSome (P.told source.old from.old) (λ r.
+        TextJudged V.rules (version_of r.version) file r.text t)) }
+    ensures fault { IfErr result (λ e.
+        (file : Items ℕ)
+        → IsReadable file
+        → IfSome (P.told source.old from.old) (λ r.
+        SaysOver V.rules (version_of r.version) file r.text (as_verdict e))) }
     ensures lends { P.Lends (stops_outside result) source.old from.old source.new from.new }
 {
     law_of_image(image);
@@ -281,8 +347,16 @@ fn judge_text<E, V: RuledLines, P: ProofSource<E, RuledReader<V>>, X, J: JudgePr
     requires laws { ReadsLines V.readers (version_of (P.version source.old)) }
     requires given { IfSome (P.told source.old from.old) (HasGivenOver V.readers.grammar []) }
     requires few { P.left source.old < 2 ^ 63 }
-    ensures judged { IfOk result (λ t. (file : Items ℕ) → IsCodeOf code.now.ranges file → IfSome (P.told source.old from.old) (λ r. TextJudged V.rules (version_of r.version) file r.text t)) }
-    ensures fault { IfErr result (λ e. (file : Items ℕ) → IsReadable file → IfSome (P.told source.old from.old) (λ r. SaysOver V.rules (version_of r.version) file r.text (as_verdict e))) }
+    ensures judged { IfOk result (λ t.
+        (file : Items ℕ)
+        → IsCodeOf code.now.ranges file
+        → IfSome (P.told source.old from.old) (λ r.
+        TextJudged V.rules (version_of r.version) file r.text t)) }
+    ensures fault { IfErr result (λ e.
+        (file : Items ℕ)
+        → IsReadable file
+        → IfSome (P.told source.old from.old) (λ r.
+        SaysOver V.rules (version_of r.version) file r.text (as_verdict e))) }
     ensures lends { P.Lends (stops_outside result) source.old from.old source.new from.new }
 {
     let mut tally = Tally {
@@ -320,7 +394,8 @@ fn counted(tally: Tally, judged: Judged) -> Tally
     }
 }
 
-/// The next group, if its definitions are well-formed. Its number is told of one in which they aren't.
+/// The next group, if its definitions are well-formed. Its number is told of one in which they
+/// aren't.
 fn next_group<E, V: RuledLines, P: ProofSource<E, RuledReader<V>>>(
     alloc: Global,
     source: &mut P,
@@ -330,12 +405,15 @@ fn next_group<E, V: RuledLines, P: ProofSource<E, RuledReader<V>>>(
 ) -> Result<Option<Group>, Pulled>
     requires going { P.Goes source.old }
     requires laws { ReadsLines V.readers (version_of (P.version source.old)) }
-    ensures told { Both (P.told source.old from.old) (P.told source.new from.new) (λ old new. NextGroup V.readers.grammar number old new (verdicts result)) }
+    ensures told { Both (P.told source.old from.old) (P.told source.new from.new)
+        (λ old new. NextGroup V.readers.grammar number old new (verdicts result)) }
     ensures kept { IfOk result (λ found. IfSome found (λ _. V.Behind kept.new.lines [])) }
-    ensures fits { IfOk result (λ found. IfSome found (λ g. IsGroupIn (version_of (P.version source.new)) (group_tree g))) }
+    ensures fits { IfOk result (λ found.
+        IfSome found (λ g. IsGroupIn (version_of (P.version source.new)) (group_tree g))) }
     ensures well_formed { IfOk result (λ found. IfSome found (λ g. IsWellFormed (group_tree g))) }
     ensures goes { IfOk result (λ found. IfSome found (λ _. P.Goes source.new)) }
-    ensures fewer { IfOk result (λ found. IfSome found (λ _. P.left source.new < P.left source.old)) }
+    ensures fewer { IfOk result (λ found.
+        IfSome found (λ _. P.left source.new < P.left source.old)) }
     ensures version { P.version source.new ≡ P.version source.old }
     ensures lends { P.Lends (stops_outside result) source.old from.old source.new from.new }
 {
@@ -360,8 +438,8 @@ fn pulled_of(fault: PullFault) -> Pulled
     }
 }
 
-/// Judges the lines of the group that was given last by its bench, which has judged none. What is kept of lines is that before the
-/// first.
+/// Judges the lines of the group that was given last by its bench, which has judged none. What is
+/// kept of lines is that before the first.
 pub fn judge_group<E, V: RuledLines, P: ProofSource<E, RuledReader<V>>, X, B: JudgeLines<V, X>>(
     alloc: Global,
     source: &mut P,
@@ -380,7 +458,8 @@ pub fn judge_group<E, V: RuledLines, P: ProofSource<E, RuledReader<V>>, X, B: Ju
     requires same { B.group bench.old ≡ group_tree group.now }
     requires group { IsGroupIn (version_of (P.version source.old)) (group_tree group.now) }
     requires few { P.left source.old < 2 ^ 63 }
-    ensures judged { ProofJudged V.rules (group_tree group.now) code.now.ranges (P.told source.old from.old) (P.told source.new from.new) (verdicts result) }
+    ensures judged { ProofJudged V.rules (group_tree group.now) code.now.ranges
+        (P.told source.old from.old) (P.told source.new from.new) (verdicts result) }
     ensures goes { OnOk result (P.Goes source.new) }
     ensures few { IfOk result (λ j. j.lines + P.left source.new ≤ P.left source.old) }
     ensures version { P.version source.new ≡ P.version source.old }
@@ -395,7 +474,8 @@ pub fn judge_group<E, V: RuledLines, P: ProofSource<E, RuledReader<V>>, X, B: Ju
 fn is_proved<V: RuledLines, X, B: JudgeLines<V, X>>(bench: &B, group: &Group, code: &Code) -> bool
     requires some { 1 ≤ length group.now.defs }
     requires few { length group.now.defs ≤ def_limit }
-    ensures { IsTrue result ↔ (((B.history bench.now).closed (listed_def (group_tree group.now)) ≡ true)
+    ensures { IsTrue result
+        ↔ (((B.history bench.now).closed (listed_def (group_tree group.now)) ≡ true)
         × IsWithin (range_bytes (group_tree group.now).code) (range_bytes code.now.ranges)) }
 {
     let last = (group.defs.len() - 1) as u32;
@@ -420,7 +500,8 @@ fn judge_lines<E, V: RuledLines, P: ProofSource<E, RuledReader<V>>, X, B: JudgeL
     requires same { B.group bench.old ≡ group_tree group.now }
     requires group { IsGroupIn (version_of (P.version source.old)) (group_tree group.now) }
     requires few { P.left source.old < 2 ^ 63 }
-    ensures judged { LinesJudged V.rules (group_tree group.now) (B.history bench.new) (P.told source.old from.old) (P.told source.new from.new) (verdicts result) }
+    ensures judged { LinesJudged V.rules (group_tree group.now) (B.history bench.new)
+        (P.told source.old from.old) (P.told source.new from.new) (verdicts result) }
     ensures goes { OnOk result (P.Goes source.new) }
     ensures few { IfOk result (λ count. count + P.left source.new ≤ P.left source.old) }
     ensures version { P.version source.new ≡ P.version source.old }
@@ -454,16 +535,23 @@ fn next_line<E, V: RuledLines, P: ProofSource<E, RuledReader<V>>, X, B: JudgeLin
 ) -> Result<Option<bool>, Pulled>
     requires going { P.Goes source.old }
     requires laws { ReadsLines V.readers (version_of (P.version source.old)) }
-    requires behind { (before : Items V.readers.grammar.Line) × StandBehind V.readers.grammar (version_of (P.version source.old)) (V.Behind kept.old.lines) (B.GoesWith bench.old kept.old.lines) before }
+    requires behind { (before : Items V.readers.grammar.Line)
+        × StandBehind V.readers.grammar (version_of (P.version source.old))
+        (V.Behind kept.old.lines) (B.GoesWith bench.old kept.old.lines) before }
     requires group { IsGroupIn (version_of (P.version source.old)) (group_tree group.now) }
     requires same { B.group bench.old ≡ group_tree group.now }
-    ensures judged { (before : Items V.readers.grammar.Line) → StandBehind V.readers.grammar (version_of (P.version source.old)) (V.Behind kept.old.lines) (B.GoesWith bench.old kept.old.lines) before
+    ensures judged { (before : Items V.readers.grammar.Line)
+        → StandBehind V.readers.grammar (version_of (P.version source.old))
+        (V.Behind kept.old.lines) (B.GoesWith bench.old kept.old.lines) before
         → NextLine V.rules (group_tree group.now) before (B.history bench.old) (B.history bench.new)
-        (StandBehind V.readers.grammar (version_of (P.version source.old)) (V.Behind kept.new.lines) (B.GoesWith bench.new kept.new.lines)) (P.told source.old from.old) (P.told source.new from.new) (verdicts result) }
+        (StandBehind V.readers.grammar (version_of (P.version source.old)) (V.Behind kept.new.lines)
+        (B.GoesWith bench.new kept.new.lines)) (P.told source.old from.old)
+        (P.told source.new from.new) (verdicts result) }
     ensures goes { OnOk result (P.Goes source.new) }
     ensures group { B.group bench.new ≡ B.group bench.old }
     ensures left { P.left source.new ≤ P.left source.old }
-    ensures fewer { IfOk result (λ found. IfSome found (λ _. P.left source.new < P.left source.old)) }
+    ensures fewer { IfOk result (λ found.
+        IfSome found (λ _. P.left source.new < P.left source.old)) }
     ensures version { P.version source.new ≡ P.version source.old }
     ensures lends { P.Lends (stops_outside result) source.old from.old source.new from.new }
 {
@@ -483,9 +571,13 @@ fn judge_line<V: RuledLines, X, B: JudgeLines<V, X>>(
     line: V::Line,
     place: u64,
 ) -> Result<Option<bool>, Pulled>
-    requires { MayFollow V.readers V.Behind (B.GoesWith bench.old) lines.now (V.tree (B.group bench.old).code line) }
-    ensures judged { (old : V) (before : Items V.readers.grammar.Line) → B.GoesWith bench.old old → V.Behind old before
-        → LineJudged V.rules (B.group bench.old) before (B.history bench.old) (V.tree (B.group bench.old).code line) (B.history bench.new) place (verdicts result) }
+    requires { MayFollow V.readers V.Behind (B.GoesWith bench.old) lines.now
+        (V.tree (B.group bench.old).code line) }
+    ensures judged { (old : V) (before : Items V.readers.grammar.Line)
+        → B.GoesWith bench.old old
+        → V.Behind old before
+        → LineJudged V.rules (B.group bench.old) before (B.history bench.old)
+        (V.tree (B.group bench.old).code line) (B.history bench.new) place (verdicts result) }
     ensures goes { OnOk result (B.GoesWith bench.new lines.now) }
     ensures group { B.group bench.new ≡ B.group bench.old }
     ensures inside { stops_outside result ≡ false }

@@ -31,7 +31,8 @@ fn code_of_pieces(alloc: Global, pieces: &[Piece]) -> Result<List<Range>, NoMemo
 
 /// Adds the piece's bytes from the file, if they may be executed.
 fn push_code(alloc: Global, ranges: &mut List<Range>, piece: &Piece) -> Result<(), NoMemory>
-    ensures { OnOk result (range_bytes ranges.new ≡ over (range_bytes ranges.old) (code_of piece.now)) }
+    ensures { OnOk result (range_bytes ranges.new
+        ≡ over (range_bytes ranges.old) (code_of piece.now)) }
 {
     law_of_code();
     if piece.flags % 2 != 1 {

@@ -1,4 +1,5 @@
-//! The further rule of a version: how its lines state a triple from one theorem, beside the rules of each version.
+//! The further rule of a version: how its lines state a triple from one theorem, beside the rules
+//! of each version.
 
 ghost use Rattle.std.specs.Prelude.{◌≡◌, ◌↔◌, IfOk, IsOk};
 ghost use Rattle.tailrec_lang.specs.Tree.{GroupTree};

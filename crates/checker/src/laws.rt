@@ -1,4 +1,5 @@
-//! Laws of proofs. These functions do nothing: their contracts are the laws. Each speaks of the definitions alone.
+//! Laws of proofs. These functions do nothing: their contracts are the laws. Each speaks of the
+//! definitions alone.
 
 ghost use Rattle.std.specs.Prelude.{ℕ, ◌≤◌, ◌↔◌, List};
 ghost use Rattle.elf_image.specs.Image.{code_of_file};
@@ -14,7 +15,7 @@ ghost use Rattle.proof_text.specs.Line.{LineTree, ProofTree};
 ghost use Rattle.proof_text.specs.Proofs.{groups_of};
 ghost use Rattle.checker.specs.Instance.{History, InstanceBy, after_line};
 ghost use Rattle.checker.specs.Accepts.{Accepts};
-ghost use Rattle.checker.specs.Headline.{IsRight, Headline};
+ghost use Rattle.claims.specs.Headline.{IsRight, Headline};
 ghost use Rattle.checker.specs.Sound.{Sound};
 ghost use Rattle.checker.specs.declared.verdict.Verdict.{Verdict};
 ghost use Rattle.checker.specs.LineRules.{SaysOver, whole_rules};
@@ -22,16 +23,28 @@ ghost use Rattle.checker.specs.Verdicts.{SaysBy};
 
 use crate::further_rule::FurtherRule;
 
-/// Where the triple of each exit of the last definition is valid, evaluation tells where the machine goes.
+/// Where the triple of each exit of the last definition is valid, evaluation tells where the
+/// machine goes.
 pub fn law_of_exits()
-    ensures { (file : List ℕ) (g : GroupTree) → IsWellFormed g → AreRegistersFrom 1 g.regs → g.mems ≤ 1
-        → IsWithin (range_bytes g.code) (code_of_file file) → IsClosed g (listed_def g) → IsRight file g }
+    ensures { (file : List ℕ) (g : GroupTree)
+        → IsWellFormed g
+        → AreRegistersFrom 1 g.regs
+        → g.mems ≤ 1
+        → IsWithin (range_bytes g.code) (code_of_file file)
+        → IsClosed g (listed_def g)
+        → IsRight file g }
 {}
 
-/// A line that is right in a text with that further rule keeps theorems and closed definitions valid.
+/// A line that is right in a text with that further rule keeps theorems and closed definitions
+/// valid.
 pub fn law_of_lines<R: FurtherRule>(rule: &R)
-    ensures { (g : GroupTree) → IsWellFormed g
-        → (h : History) → Sound g h → (l : LineTree) → InstanceBy R.states g h l → Sound g (after_line h l) }
+    ensures { (g : GroupTree)
+        → IsWellFormed g
+        → (h : History)
+        → Sound g h
+        → (l : LineTree)
+        → InstanceBy R.states g h l
+        → Sound g (after_line h l) }
 {
     rule.law();
 }
@@ -42,8 +55,10 @@ pub fn law_of_proofs()
         → AreGroups (groups_of ps) → Accepts file ps → Headline file (groups_of ps) }
 {}
 
-/// Of lines that state whole triples a verdict says by the rules of lines exactly what it says by the further rule.
+/// Of lines that state whole triples a verdict says by the rules of lines exactly what it says by
+/// the further rule.
 pub fn law_of_whole_lines<R: FurtherRule>(_rule: &R)
     ensures { (v : Version) (file text : List ℕ) (verdict : Verdict)
-        → SaysBy R.states v file text verdict ↔ SaysOver (whole_rules R.states) v file text verdict }
+        → SaysBy R.states v file text verdict
+        ↔ SaysOver (whole_rules R.states) v file text verdict }
 {}

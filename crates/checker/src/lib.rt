@@ -1,16 +1,20 @@
-//! What an accepted proof file says of the machine: what the evaluation of its functions gives, the machine does.
+//! What an accepted proof file says of the machine: what the evaluation of its functions gives, the
+//! machine does.
 //!
-//! `check_bytes(alloc, &elf, &proof)` judges a proof text for an ELF file. Its `Verdict` is that all is accepted, or the
-//! first thing that is wrong, with its place; `check_text` does the same for an image that was read before.
+//! `check_bytes(alloc, &elf, &proof)` judges a proof text for an ELF file. Its `Verdict` is that
+//! all is accepted, or the first thing that is wrong, with its place; `check_text` does the same
+//! for an image that was read before.
 //!
-//! The text is taken line by line, and nothing is searched for: a line states a rule, the theorems that it cites by
-//! number, and its conclusion. A `Bench` holds the theorems of one group that can still be cited, and its definitions
-//! that are closed; `bench.judge(alloc, line)` asks the rule of the kernel for the conclusion, and keeps it.
+//! The text is taken line by line, and nothing is searched for: a line states a rule, the theorems
+//! that it cites by number, and its conclusion. A `Bench` holds the theorems of one group that can
+//! still be cited, and its definitions that are closed; `bench.judge(alloc, line)` asks the rule of
+//! the kernel for the conclusion, and keeps it.
 //!
-//! The law that matters is `law_of_proofs`: what is accepted makes the `Headline` true. For each state at a function's
-//! entry that holds the file's code, where evaluation gives a value with every needed condition true, the machine comes to
-//! the exit with that value, and all else is unchanged. It stands on `law_of_lines`, that a right line keeps all theorems
-//! valid, and on `law_of_exits`, that a closed definition is right.
+//! The law that matters is `law_of_proofs`: what is accepted makes the `Headline` true. For each
+//! state at a function's entry that holds the file's code, where evaluation gives a value with
+//! every needed condition true, the machine comes to the exit with that value, and all else is
+//! unchanged. It stands on `law_of_lines`, that a right line keeps all theorems valid, and on
+//! `law_of_exits`, that a closed definition is right.
 #![tactic(auto)]
 
 mod bench;

@@ -22,7 +22,8 @@ use tailrec_lang::Group;
 use triple_kernel::RuleFault;
 use word_terms::Code;
 
-/// Lines behind groups that are right by rules: what reads them, one a call. It may keep what it needs of those before.
+/// Lines behind groups that are right by rules: what reads them, one a call. It may keep what it
+/// needs of those before.
 pub trait RuledLines {
     /// A line.
     type Line;
@@ -51,9 +52,16 @@ pub trait RuledLines {
         version: Version,
         own: &Code,
     ) -> Result<Self::Line, TokenError>
-        ensures gives { (before : List readers.grammar.Line) → Behind self.old before → Gives (tree own.now.ranges) result scan.old scan.new (readers.line_at (version_of version) own.now.ranges before) }
-        ensures behind { (before : List readers.grammar.Line) → Behind self.old before → IfOk result (λ l. Behind self.new (before ++ tree own.now.ranges l ∷ [])) }
-        ensures kept { OnErr result ((before : List readers.grammar.Line) → Behind self.old before → Behind self.new before) };
+        ensures gives { (before : List readers.grammar.Line)
+            → Behind self.old before
+            → Gives (tree own.now.ranges) result scan.old scan.new
+            (readers.line_at (version_of version) own.now.ranges before) }
+        ensures behind { (before : List readers.grammar.Line)
+            → Behind self.old before
+            → IfOk result (λ l. Behind self.new (before ++ tree own.now.ranges l ∷ [])) }
+        ensures kept { OnErr result ((before : List readers.grammar.Line)
+            → Behind self.old before
+            → Behind self.new before) };
 }
 
 /// What reads lines that are right by rules, for a text of groups with them.
@@ -95,7 +103,8 @@ pub struct Judged {
     pub proved: bool,
 }
 
-/// Judges the lines of a group's proof, one after the other. What is lent at each call is what it goes by.
+/// Judges the lines of a group's proof, one after the other. What is lent at each call is what it
+/// goes by.
 pub trait JudgeLines<V: RuledLines, X> {
     /// The group.
     ghost group: { Self → GroupTree };
@@ -114,14 +123,25 @@ pub trait JudgeLines<V: RuledLines, X> {
         lines: &V,
         line: V::Line,
     ) -> Result<bool, RuleFault>
-        requires { MayFollow V.readers V.Behind (GoesWith self.old) lines.now (V.tree (group self.old).code line) }
+        requires { MayFollow V.readers V.Behind (GoesWith self.old) lines.now
+            (V.tree (group self.old).code line) }
         ensures group { group self.new ≡ group self.old }
-        ensures leaves { (old : V) (before : List V.readers.grammar.Line) → GoesWith self.old old → V.Behind old before
-            → OnOk result (V.rules.Leaves (group self.old) before (history self.old) (V.tree (group self.old).code line) (history self.new)) }
-        ensures counts { IfOk result (λ counts. counts ≡ V.rules.counts (V.tree (group self.old).code line)) }
+        ensures leaves { (old : V) (before : List V.readers.grammar.Line)
+            → GoesWith self.old old
+            → V.Behind old before
+            → OnOk result (V.rules.Leaves (group self.old) before (history self.old)
+            (V.tree (group self.old).code line) (history self.new)) }
+        ensures counts { IfOk result (λ counts.
+            counts ≡ V.rules.counts (V.tree (group self.old).code line)) }
         ensures goes { OnOk result (GoesWith self.new lines.now) }
-        ensures wrong { (old : V) (before : List V.readers.grammar.Line) → GoesWith self.old old → V.Behind old before
-            → IsErrOf result RuleFault.NoInstance → (next : History) → V.rules.Leaves (group self.old) before (history self.old) (V.tree (group self.old).code line) next → ⊥ };
+        ensures wrong { (old : V) (before : List V.readers.grammar.Line)
+            → GoesWith self.old old
+            → V.Behind old before
+            → IsErrOf result RuleFault.NoInstance
+            → (next : History)
+            → V.rules.Leaves (group self.old) before (history self.old)
+            (V.tree (group self.old).code line) next
+            → ⊥ };
 
     /// Whether a definition of the group is closed.
     fn is_closed(&self, def: u32) -> bool
@@ -130,8 +150,8 @@ pub trait JudgeLines<V: RuledLines, X> {
 
 /// Judges the proofs of groups in a text from that source, each by a bench of its own.
 pub trait JudgeProofs<V: RuledLines, X, E, P: ProofSource<E, RuledReader<V>>> {
-    /// Judges the lines of the group that was given last, which are read to their end. What is kept of lines is that before the
-    /// first.
+    /// Judges the lines of the group that was given last, which are read to their end. What is kept
+    /// of lines is that before the first.
     fn judge_proof(
         &self,
         alloc: Global,
@@ -148,7 +168,8 @@ pub trait JudgeProofs<V: RuledLines, X, E, P: ProofSource<E, RuledReader<V>>> {
         requires group { IsGroupIn (version_of (P.version source.old)) (group_tree group.now) }
         requires well_formed { IsWellFormed (group_tree group.now) }
         requires few { P.left source.old < 2 ^ 63 }
-        ensures judged { ProofJudged V.rules (group_tree group.now) code.now.ranges (P.told source.old from.old) (P.told source.new from.new) (verdicts result) }
+        ensures judged { ProofJudged V.rules (group_tree group.now) code.now.ranges
+            (P.told source.old from.old) (P.told source.new from.new) (verdicts result) }
         ensures goes { OnOk result (P.Goes source.new) }
         ensures few { IfOk result (λ j. j.lines + P.left source.new ≤ P.left source.old) }
         ensures version { P.version source.new ≡ P.version source.old }

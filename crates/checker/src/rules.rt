@@ -30,8 +30,13 @@ impl<'g> Bench<'g> {
     ) -> Result<Thm<'g>, RuleFault>
         ensures group { IfOk result (λ t. group_tree t.0 ≡ group_of self.now) }
         ensures triple { IfOk result (λ t. t.1 ≡ stated) }
-        ensures instance { IsOk result → Meets (group_of self.now) (history_of self.now) (rule_tree rule.now) (triple_tree stated) }
-        ensures no_instance { IsErrOf result RuleFault.NoInstance → Meets (group_of self.now) (history_of self.now) (rule_tree rule.now) (triple_tree stated) → ⊥ }
+        ensures instance { IsOk result
+            → Meets (group_of self.now) (history_of self.now) (rule_tree rule.now)
+            (triple_tree stated) }
+        ensures no_instance { IsErrOf result RuleFault.NoInstance
+            → Meets (group_of self.now) (history_of self.now) (rule_tree rule.now)
+            (triple_tree stated)
+            → ⊥ }
     {
         match rule {
             Rule::Axiom(addr, word, form) => {
@@ -51,7 +56,10 @@ impl<'g> Bench<'g> {
     fn by_inst(&self, p: u64, terms: &Sub, stated: Triple) -> Option<Thm<'g>>
         ensures group { IfSome result (λ t. group_tree t.0 ≡ group_of self.now) }
         ensures triple { IfSome result (λ t. t.1 ≡ stated) }
-        ensures exact { IsSome result ↔ IsSomeAnd ((history_of self.now).theorem p) (λ p. IsInst (put_for (map word_put_in terms.now.words) (map mem_put_in terms.now.mems)) p (triple_tree stated)) }
+        ensures exact { IsSome result
+            ↔ IsSomeAnd ((history_of self.now).theorem p) (λ p.
+            IsInst (put_for (map word_put_in terms.now.words) (map mem_put_in terms.now.mems)) p
+            (triple_tree stated)) }
     {
         inst(self.held(p)?, terms, stated).ok()
     }
@@ -59,7 +67,8 @@ impl<'g> Bench<'g> {
     fn by_frame(&self, p: u64, stated: Triple) -> Option<Thm<'g>>
         ensures group { IfSome result (λ t. group_tree t.0 ≡ group_of self.now) }
         ensures triple { IfSome result (λ t. t.1 ≡ stated) }
-        ensures exact { IsSome result ↔ IsSomeAnd ((history_of self.now).theorem p) (λ p. IsFramed p (triple_tree stated)) }
+        ensures exact { IsSome result
+            ↔ IsSomeAnd ((history_of self.now).theorem p) (λ p. IsFramed p (triple_tree stated)) }
     {
         frame(self.held(p)?, stated).ok()
     }
@@ -67,7 +76,9 @@ impl<'g> Bench<'g> {
     fn by_compose(&self, p: u64, q: u64, stated: Triple) -> Option<Thm<'g>>
         ensures group { IfSome result (λ t. group_tree t.0 ≡ group_of self.now) }
         ensures triple { IfSome result (λ t. t.1 ≡ stated) }
-        ensures exact { IsSome result ↔ IsSomeAnd ((history_of self.now).theorem p) (λ p. IsSomeAnd ((history_of self.now).theorem q) (λ q. IsComposed p q (triple_tree stated))) }
+        ensures exact { IsSome result
+            ↔ IsSomeAnd ((history_of self.now).theorem p) (λ p. IsSomeAnd
+            ((history_of self.now).theorem q) (λ q. IsComposed p q (triple_tree stated))) }
     {
         compose(self.held(p)?, self.held(q)?, stated).ok()
     }
@@ -75,7 +86,8 @@ impl<'g> Bench<'g> {
     fn by_extend_code(&self, p: u64, stated: Triple) -> Option<Thm<'g>>
         ensures group { IfSome result (λ t. group_tree t.0 ≡ group_of self.now) }
         ensures triple { IfSome result (λ t. t.1 ≡ stated) }
-        ensures exact { IsSome result ↔ IsSomeAnd ((history_of self.now).theorem p) (λ p. IsExtended p (triple_tree stated)) }
+        ensures exact { IsSome result
+            ↔ IsSomeAnd ((history_of self.now).theorem p) (λ p. IsExtended p (triple_tree stated)) }
     {
         extend_code(self.held(p)?, stated).ok()
     }
@@ -83,7 +95,9 @@ impl<'g> Bench<'g> {
     fn by_strengthen(&self, p: u64, stated: Triple) -> Option<Thm<'g>>
         ensures group { IfSome result (λ t. group_tree t.0 ≡ group_of self.now) }
         ensures triple { IfSome result (λ t. t.1 ≡ stated) }
-        ensures exact { IsSome result ↔ IsSomeAnd ((history_of self.now).theorem p) (λ p. IsStrengthened p (triple_tree stated)) }
+        ensures exact { IsSome result
+            ↔ IsSomeAnd ((history_of self.now).theorem p) (λ p.
+            IsStrengthened p (triple_tree stated)) }
     {
         strengthen(self.held(p)?, stated).ok()
     }
@@ -91,7 +105,8 @@ impl<'g> Bench<'g> {
     fn by_weaken(&self, p: u64, stated: Triple) -> Option<Thm<'g>>
         ensures group { IfSome result (λ t. group_tree t.0 ≡ group_of self.now) }
         ensures triple { IfSome result (λ t. t.1 ≡ stated) }
-        ensures exact { IsSome result ↔ IsSomeAnd ((history_of self.now).theorem p) (λ p. IsWeakened p (triple_tree stated)) }
+        ensures exact { IsSome result
+            ↔ IsSomeAnd ((history_of self.now).theorem p) (λ p. IsWeakened p (triple_tree stated)) }
     {
         weaken(self.held(p)?, stated).ok()
     }
@@ -99,7 +114,9 @@ impl<'g> Bench<'g> {
     fn by_discharge(&self, p: u64, stated: Triple) -> Option<Thm<'g>>
         ensures group { IfSome result (λ t. group_tree t.0 ≡ group_of self.now) }
         ensures triple { IfSome result (λ t. t.1 ≡ stated) }
-        ensures exact { IsSome result ↔ IsSomeAnd ((history_of self.now).theorem p) (λ p. IsDischarged p (triple_tree stated)) }
+        ensures exact { IsSome result
+            ↔ IsSomeAnd ((history_of self.now).theorem p) (λ p.
+            IsDischarged p (triple_tree stated)) }
     {
         discharge(self.held(p)?, stated).ok()
     }
@@ -113,7 +130,8 @@ impl<'g> Bench<'g> {
     ) -> Option<Thm<'g>>
         ensures group { IfSome result (λ t. group_tree t.0 ≡ group_of self.now) }
         ensures triple { IfSome result (λ t. t.1 ≡ stated) }
-        ensures exact { IsSome result ↔ IsSomeAnd ((history_of self.now).theorem p) (λ p. R.states p (triple_tree stated)) }
+        ensures exact { IsSome result
+            ↔ IsSomeAnd ((history_of self.now).theorem p) (λ p. R.states p (triple_tree stated)) }
     {
         further.state(self.held(p)?, stated).ok()
     }
@@ -127,8 +145,13 @@ impl<'g> Bench<'g> {
     ) -> Result<Thm<'g>, RuleFault>
         ensures group { IfOk result (λ t. group_tree t.0 ≡ group_of self.now) }
         ensures triple { IfOk result (λ t. t.1 ≡ stated) }
-        ensures instance { IsOk result → ((history_of self.now).closed def ≡ true) × IsExit (group_of self.now) def exit (triple_tree stated) }
-        ensures no_instance { IsErrOf result RuleFault.NoInstance → ((history_of self.now).closed def ≡ true) × IsExit (group_of self.now) def exit (triple_tree stated) → ⊥ }
+        ensures instance { IsOk result
+            → ((history_of self.now).closed def ≡ true)
+            × IsExit (group_of self.now) def exit (triple_tree stated) }
+        ensures no_instance { IsErrOf result RuleFault.NoInstance
+            → ((history_of self.now).closed def ≡ true)
+            × IsExit (group_of self.now) def exit (triple_tree stated)
+            → ⊥ }
     {
         match self.closing(def) {
             Some(f) => use_exit(alloc, f, exit, stated),

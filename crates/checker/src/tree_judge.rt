@@ -14,7 +14,8 @@ use tailrec_lang::Group;
 use triple_kernel::RuleFault;
 use word_terms::Code;
 
-/// Lines that state whole triples, as they are spelled, with a further rule. Nothing is kept of them.
+/// Lines that state whole triples, as they are spelled, with a further rule. Nothing is kept of
+/// them.
 pub struct ByRule<R> {
     by: PhantomData<R>,
 }

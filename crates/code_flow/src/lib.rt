@@ -1,4 +1,5 @@
-//! The flow of drawn code: nothing of it is refused, and its loops are entered at one place and left at one.
+//! The flow of drawn code: nothing of it is refused, and its loops are entered at one place and
+//! left at one.
 #![tactic(auto)]
 
 mod laws;

@@ -10,7 +10,8 @@ pub struct Draws {
 }
 
 impl Draws {
-    /// A number below that one. The upper 31 bits of the seed decide, as the period of the lower ones is short.
+    /// A number below that one. The upper 31 bits of the seed decide, as the period of the lower
+    /// ones is short.
     pub fn draw(&mut self, below: u32) -> u32
         requires { 0 < below }
         ensures number { result ≡ draw below self.old.seed }

@@ -9,7 +9,7 @@ use rv_words::{Bytes, List, NoMemory};
 use std::alloc::Global;
 
 /// A number of so many bytes.
-#[derive(Clone, Copy, Debug)]
+#[derive(Clone, Copy)]
 pub struct Field {
     pub size: usize,
     pub value: u64,

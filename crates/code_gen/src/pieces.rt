@@ -14,8 +14,8 @@ use rv_decode::{Instr, encode};
 use rv_words::{Cmp, List, NoMemory, Op};
 use std::alloc::Global;
 
-/// The words of a program that is drawn from a number. It works on x10 with x11 and returns to x1; of the other
-/// registers it changes x12 to x16 alone.
+/// The words of a program that is drawn from a number. It works on x10 with x11 and returns to x1;
+/// of the other registers it changes x12 to x16 alone.
 pub fn program(alloc: Global, number: u64, size: u32) -> Result<List<u32>, NoMemory>
     requires { size ≤ 600 }
     ensures { IfOk result (λ words. words ≡ program_of number size) }
@@ -42,7 +42,8 @@ fn add_pieces(
 ) -> Result<(), NoMemory>
     requires size { size ≤ 600 }
     requires depth { depth ≤ 4 }
-    ensures words { OnOk result (words.new ≡ with_drawn words.old depth (drawn size depth draws.old.seed)) }
+    ensures words { OnOk result (words.new
+        ≡ with_drawn words.old depth (drawn size depth draws.old.seed)) }
     ensures seed { OnOk result (draws.new.seed ≡ (drawn size depth draws.old.seed).seed) }
 {
     let mut left = size;
@@ -63,8 +64,11 @@ fn add_piece(
     requires size { (0 < size) × (size ≤ 600) }
     requires depth { depth ≤ 4 }
     ensures left { IfOk result (λ left. left < size) }
-    ensures words { IfOk result (λ left. with_drawn words.new depth (drawn left depth draws.new.seed) ≡ with_drawn words.old depth (drawn size depth draws.old.seed)) }
-    ensures seed { IfOk result (λ left. (drawn left depth draws.new.seed).seed ≡ (drawn size depth draws.old.seed).seed) }
+    ensures words { IfOk result (λ left.
+        with_drawn words.new depth (drawn left depth draws.new.seed)
+        ≡ with_drawn words.old depth (drawn size depth draws.old.seed)) }
+    ensures seed { IfOk result (λ left.
+        (drawn left depth draws.new.seed).seed ≡ (drawn size depth draws.old.seed).seed) }
 {
     let drawn = draws.draw(4);
     if drawn == 2 && size >= 3 {
@@ -87,8 +91,11 @@ fn add_loop(words: &mut List<u32>, draws: &mut Draws, size: u32, depth: u8) -> R
     requires size { (3 ≤ size) × (size ≤ 600) }
     requires depth { depth < 4 }
     ensures left { IfOk result (λ left. left < size) }
-    ensures words { IfOk result (λ left. with_drawn words.new depth (drawn left depth draws.new.seed) ≡ with_drawn words.old depth (drawn_loop size depth draws.old.seed)) }
-    ensures seed { IfOk result (λ left. (drawn left depth draws.new.seed).seed ≡ (drawn_loop size depth draws.old.seed).seed) }
+    ensures words { IfOk result (λ left.
+        with_drawn words.new depth (drawn left depth draws.new.seed)
+        ≡ with_drawn words.old depth (drawn_loop size depth draws.old.seed)) }
+    ensures seed { IfOk result (λ left.
+        (drawn left depth draws.new.seed).seed ≡ (drawn_loop size depth draws.old.seed).seed) }
 {
     let turns = 1 + draws.draw(4);
     let body = 1 + draws.draw((size - 2).min(64));
@@ -100,8 +107,8 @@ fn add_loop(words: &mut List<u32>, draws: &mut Draws, size: u32, depth: u8) -> R
     Ok(size - (body + 2))
 }
 
-/// Adds what stands behind a loop's body of that length: the counter falls, and as long as it isn't 0 the body comes
-/// again.
+/// Adds what stands behind a loop's body of that length: the counter falls, and as long as it isn't
+/// 0 the body comes again.
 fn add_loop_end(words: &mut List<u32>, depth: u8, length: usize) -> Result<(), NoMemory>
     requires depth { depth < 4 }
     requires length { length ≤ 110 }

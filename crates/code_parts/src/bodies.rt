@@ -31,7 +31,8 @@ use word_terms::{Cond, Word};
 /// How many instructions there are at most from one cut to the next.
 pub const CUT_DISTANCE_LIMIT: u32 = 32;
 
-/// These steps, and those of an instruction that goes on to one node and accesses memory q if it does.
+/// These steps, and those of an instruction that goes on to one node and accesses memory q if it
+/// does.
 fn steps_of(
     alloc: Global,
     i: Instr,
@@ -42,7 +43,11 @@ fn steps_of(
     steps: List<Step>,
 ) -> Result<List<Step>, NoMemory>
     requires { q < 2 }
-    ensures { IfOk result (λ ss. map step_tree ss ≡ map step_tree steps ++ (spec.needs i q (place_of place.now) ++ spec.writes i addr length q (place_of place.now))) }
+    ensures { IfOk result (λ ss.
+        map step_tree ss
+        ≡ map step_tree steps
+        ++ (spec.needs i q (place_of place.now)
+        ++ spec.writes i addr length q (place_of place.now))) }
 {
     let mut steps = steps;
     add_needs(alloc, i, q, place, &mut steps)?;
@@ -63,7 +68,10 @@ fn returning_body(
     steps: List<Step>,
 ) -> Result<Body, NoMemory>
     requires { q < 2 }
-    ensures { IfOk result (λ b. body_tree b ≡ with_steps (map step_tree steps) (returned_body (flow_in flow.now) i addr length q (place_of place.now))) }
+    ensures { IfOk result (λ b.
+        body_tree b
+        ≡ with_steps (map step_tree steps) (returned_body (flow_in flow.now) i addr length q
+        (place_of place.now))) }
 {
     let mut steps = steps;
     add_needs(alloc, i, q, place, &mut steps)?;
@@ -93,7 +101,10 @@ fn body_from(
     requires node { n < (flow_in flow.now).nodes }
     requires words { place.now.words + 33 * room < 2 ^ 14 }
     requires mems { place.now.mems + 3 * room < 2 ^ 14 }
-    ensures { IfOk result (λ b. body_tree b ≡ with_steps (map step_tree steps) (spec.body_at room (flow_in flow.now) p n (place_of place.now))) }
+    ensures { IfOk result (λ b.
+        body_tree b
+        ≡ with_steps (map step_tree steps) (spec.body_at room (flow_in flow.now) p n
+        (place_of place.now))) }
 {
     if room == 0 {
         let values = current(alloc, flow, place)?;
@@ -126,7 +137,10 @@ fn acting_body(
     requires some { 0 < room }
     requires words { place.now.words + 33 * room < 2 ^ 14 }
     requires mems { place.now.mems + 3 * room < 2 ^ 14 }
-    ensures { IfOk result (λ b. body_tree b ≡ with_steps (map step_tree steps) (spec.body_at room (flow_in flow.now) p n (place_of place.now))) }
+    ensures { IfOk result (λ b.
+        body_tree b
+        ≡ with_steps (map step_tree steps) (spec.body_at room (flow_in flow.now) p n
+        (place_of place.now))) }
 {
     let i = flow.instr(n);
     let q = flow.uses(n);
@@ -191,7 +205,10 @@ fn body_to(
     requires node { n < (flow_in flow.now).nodes }
     requires words { place.now.words + 33 * room < 2 ^ 14 }
     requires mems { place.now.mems + 3 * room < 2 ^ 14 }
-    ensures { IfOk result (λ b. body_tree b ≡ with_steps (map step_tree steps) (body_on room (flow_in flow.now) p n (place_of place.now))) }
+    ensures { IfOk result (λ b.
+        body_tree b
+        ≡ with_steps (map step_tree steps) (body_on room (flow_in flow.now) p n
+        (place_of place.now))) }
 {
     if flow.is_cut(n) {
         let end = end_at(alloc, flow, p, n, place)?;
@@ -200,7 +217,8 @@ fn body_to(
     body_from(alloc, flow, p, n, place, room, steps)
 }
 
-/// These steps, and the body for a node that calls a function, where so many instructions may follow to the next cuts.
+/// These steps, and the body for a node that calls a function, where so many instructions may
+/// follow to the next cuts.
 #[tactic(auto, using(tailrec_lang::proofs::Views::view_body, tailrec_lang::proofs::Views::view_call))]
 #[cycle(bodies)]
 fn calling_body(
@@ -218,7 +236,10 @@ fn calling_body(
     requires edge { has_edge ((flow_in flow.now).instr n) Next ≡ true }
     requires words { place.now.words + 33 * (room + 1) < 2 ^ 14 }
     requires mems { place.now.mems + 3 * (room + 1) < 2 ^ 14 }
-    ensures { IfOk result (λ b. body_tree b ≡ with_steps (map step_tree steps) (called_body room (flow_in flow.now) p n callee (place_of place.now))) }
+    ensures { IfOk result (λ b.
+        body_tree b
+        ≡ with_steps (map step_tree steps) (called_body room (flow_in flow.now) p n callee
+        (place_of place.now))) }
 {
     let i = flow.instr(n);
     let q = flow.uses(n);
@@ -252,7 +273,10 @@ fn return_arms(
     requires node { to < (flow_in flow.now).nodes }
     requires words { place.now.words + 32 + 33 * room < 2 ^ 14 }
     requires mems { place.now.mems + 2 + 3 * room < 2 ^ 14 }
-    ensures { IfOk result (λ arms. arms_of (map body_tree arms) ≡ spec.return_arm (flow_in flow.now) returns back (place_of place.now) (λ w. body_on room (flow_in flow.now) p to w)) }
+    ensures { IfOk result (λ arms.
+        arms_of (map body_tree arms)
+        ≡ spec.return_arm (flow_in flow.now) returns back (place_of place.now)
+        (λ w. body_on room (flow_in flow.now) p to w)) }
 {
     let mut arms = List::new(alloc);
     if returns {
@@ -277,7 +301,11 @@ fn return_arm(
     requires node { to < (flow_in flow.now).nodes }
     requires words { place.now.words + 32 + 33 * room < 2 ^ 14 }
     requires mems { place.now.mems + 2 + 3 * room < 2 ^ 14 }
-    ensures { IfOk result (λ b. body_tree b ≡ Do (Need (Compare Eq (Var place.now.words) (Const back))) (body_on room (flow_in flow.now) p to (spec.fresh (flow_in flow.now) (suc place.now.words) place.now.mems))) }
+    ensures { IfOk result (λ b.
+        body_tree b
+        ≡ Do (Need (Compare Eq (Var place.now.words) (Const back)))
+        (body_on room (flow_in flow.now) p to
+        (spec.fresh (flow_in flow.now) (suc place.now.words) place.now.mems))) }
 {
     let steps = returned_to(alloc, back, place.words)?;
     let next = fresh(flow, place.words + 1, place.mems);
@@ -286,7 +314,8 @@ fn return_arm(
 
 /// The step that needs a returned address to be that one.
 fn returned_to(alloc: Global, back: u64, returned: u32) -> Result<List<Step>, NoMemory>
-    ensures { IfOk result (λ ss. map step_tree ss ≡ Need (Compare Eq (Var returned) (Const back)) ∷ []) }
+    ensures { IfOk result (λ ss.
+        map step_tree ss ≡ Need (Compare Eq (Var returned) (Const back)) ∷ []) }
 {
     let at = Box::new(alloc, Word::Var(returned))?;
     let back = Box::new(alloc, Word::Const(back))?;
@@ -315,7 +344,9 @@ fn end_arms(
     requires nodes { All (λ x. x < (flow_in flow.now).nodes) targets.now }
     requires words { place.now.words < 2 ^ 14 }
     requires mems { place.now.mems < 2 ^ 14 }
-    ensures { IfOk result (λ arms. map body_tree arms ≡ map (λ x. spec.end_at (flow_in flow.now) p x (place_of place.now)) targets.now) }
+    ensures { IfOk result (λ arms.
+        map body_tree arms
+        ≡ map (λ x. spec.end_at (flow_in flow.now) p x (place_of place.now)) targets.now) }
 {
     let mut arms = List::new(alloc);
     for x in targets {
@@ -333,7 +364,8 @@ fn end_arms(
 fn head_body(alloc: Global, flow: &Flow<'_>, p: Part, l: u32) -> Result<Body, NoMemory>
     requires own { IsOfRegion (flow_in flow.now) p }
     requires loops { l < (flow_in flow.now).loops }
-    ensures { (n : ℕ) → IfOk result (λ b. body_tree b ≡ spec.rest_body 32 (flow_in flow.now) p n (Some l)) }
+    ensures { (n : ℕ)
+        → IfOk result (λ b. body_tree b ≡ spec.rest_body 32 (flow_in flow.now) p n (Some l)) }
 {
     let start = fresh(flow, 0, 0);
     let number = flow.number(Part::Loop(l));
@@ -350,7 +382,8 @@ fn head_body(alloc: Global, flow: &Flow<'_>, p: Part, l: u32) -> Result<Body, No
 fn node_body(alloc: Global, flow: &Flow<'_>, p: Part, n: u32) -> Result<Body, NoMemory>
     requires own { IsOfRegion (flow_in flow.now) p }
     requires node { n < (flow_in flow.now).nodes }
-    ensures { IfOk result (λ b. body_tree b ≡ spec.body_at 32 (flow_in flow.now) p n (spec.start (flow_in flow.now))) }
+    ensures { IfOk result (λ b.
+        body_tree b ≡ spec.body_at 32 (flow_in flow.now) p n (spec.start (flow_in flow.now))) }
 {
     let start = fresh(flow, 0, 0);
     body_from(
@@ -368,7 +401,9 @@ fn node_body(alloc: Global, flow: &Flow<'_>, p: Part, n: u32) -> Result<Body, No
 fn rest_body(alloc: Global, flow: &Flow<'_>, p: Part, node: u32) -> Result<Body, NoMemory>
     requires own { IsOfRegion (flow_in flow.now) p }
     requires node { node < (flow_in flow.now).nodes }
-    ensures { IfOk result (λ b. body_tree b ≡ spec.rest_body 32 (flow_in flow.now) p node ((flow_in flow.now).loop_of node)) }
+    ensures { IfOk result (λ b.
+        body_tree b
+        ≡ spec.rest_body 32 (flow_in flow.now) p node ((flow_in flow.now).loop_of node)) }
 {
     match flow.loop_of(node) {
         Some(l) => head_body(alloc, flow, p, l),

@@ -1,6 +1,7 @@
 //! Functions that are called.
 
-/// A function that is called: the address where it is entered, the number of its definition, and whether it returns.
+/// A function that is called: the address where it is entered, the number of its definition, and
+/// whether it returns.
 #[derive(Clone, Copy, Debug)]
 pub struct Callee {
     pub entry: u64,

@@ -33,7 +33,8 @@ fn exits_at(alloc: Global, flow: &Flow<'_>, nodes: &[u32]) -> Result<List<Exit>,
 /// The exits of the rest of a region.
 fn rest_exits(alloc: Global, flow: &Flow<'_>, region: Option<u32>) -> Result<List<Exit>, NoMemory>
     requires { IsRegion (flow_in flow.now) region }
-    ensures { (n : ℕ) → IfOk result (λ exits. exits ≡ spec.exits_of (flow_in flow.now) (Rest region n)) }
+    ensures { (n : ℕ)
+        → IfOk result (λ exits. exits ≡ spec.exits_of (flow_in flow.now) (Rest region n)) }
 {
     let targets = rest_targets(alloc, flow, region)?;
     let mut exits = exits_at(alloc, flow, targets.as_slice())?;

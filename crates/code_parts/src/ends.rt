@@ -99,7 +99,9 @@ fn leave(
     exit: Option<u32>,
     place: &VariableMap,
 ) -> Result<Option<End>, NoMemory>
-    ensures { IfOk result (λ end. option_map end_tree end ≡ option_map (λ k. Leave k (spec.current (flow_in flow.now) (place_of place.now))) exit) }
+    ensures { IfOk result (λ end.
+        option_map end_tree end
+        ≡ option_map (λ k. Leave k (spec.current (flow_in flow.now) (place_of place.now))) exit) }
 {
     match exit {
         Some(k) => {
@@ -120,7 +122,10 @@ fn end_of(
     place: &VariableMap,
 ) -> Result<Option<End>, NoMemory>
     requires { IsOfRegion (flow_in flow.now) p }
-    ensures { IfOk result (λ end. option_map end_tree end ≡ spec.end_of (flow_in flow.now) p n (spec.current (flow_in flow.now) (place_of place.now))) }
+    ensures { IfOk result (λ end.
+        option_map end_tree end
+        ≡ spec.end_of (flow_in flow.now) p n (spec.current (flow_in flow.now)
+        (place_of place.now))) }
 {
     match p {
         Part::Loop(l) => {
@@ -144,7 +149,8 @@ fn last_at(
     place: &VariableMap,
 ) -> Result<Body, NoMemory>
     requires { IsOfRegion (flow_in flow.now) p }
-    ensures { IfOk result (λ b. body_tree b ≡ spec.last_at (flow_in flow.now) p n (place_of place.now)) }
+    ensures { IfOk result (λ b.
+        body_tree b ≡ spec.last_at (flow_in flow.now) p n (place_of place.now)) }
 {
     let end = match end_of(alloc, flow, p, n, place)? {
         Some(end) => end,
@@ -165,7 +171,9 @@ fn last_arms(
     place: &VariableMap,
 ) -> Result<List<Body>, NoMemory>
     requires { IsOfRegion (flow_in flow.now) p }
-    ensures { IfOk result (λ arms. map body_tree arms ≡ map (λ x. spec.last_at (flow_in flow.now) p x (place_of place.now)) targets.now) }
+    ensures { IfOk result (λ arms.
+        map body_tree arms
+        ≡ map (λ x. spec.last_at (flow_in flow.now) p x (place_of place.now)) targets.now) }
 {
     let mut arms = List::new(alloc);
     for x in targets {
@@ -216,7 +224,9 @@ fn rest_arms(
     requires region { IsRegion (flow_in flow.now) region }
     requires words { place.now.words < 2 ^ 15 }
     requires mems { place.now.mems < 2 ^ 15 }
-    ensures { IfOk result (λ arms. arms_of (map body_tree arms) ≡ spec.rest_arms (flow_in flow.now) p region (place_of place.now)) }
+    ensures { IfOk result (λ arms.
+        arms_of (map body_tree arms)
+        ≡ spec.rest_arms (flow_in flow.now) p region (place_of place.now)) }
 {
     match region {
         Some(l) => loop_rest_arms(alloc, flow, p, l, place),
@@ -236,7 +246,9 @@ fn loop_rest_arms(
     requires loops { l < (flow_in flow.now).loops }
     requires words { place.now.words < 2 ^ 15 }
     requires mems { place.now.mems < 2 ^ 15 }
-    ensures { IfOk result (λ arms. arms_of (map body_tree arms) ≡ spec.rest_arms (flow_in flow.now) p (Some l) (place_of place.now)) }
+    ensures { IfOk result (λ arms.
+        arms_of (map body_tree arms)
+        ≡ spec.rest_arms (flow_in flow.now) p (Some l) (place_of place.now)) }
 {
     let targets = rest_targets(alloc, flow, Some(l))?;
     let next = fresh(flow, place.words, place.mems);
@@ -252,7 +264,10 @@ fn returning_arms(
 ) -> Result<List<Body>, NoMemory>
     requires words { place.now.words < 2 ^ 15 }
     requires mems { place.now.mems < 2 ^ 15 }
-    ensures { IfOk result (λ arms. arms_of (map body_tree arms) ≡ (if (flow_in flow.now).returns then Arm (returning (flow_in flow.now) (place_of place.now)) NoArm else NoArm)) }
+    ensures { IfOk result (λ arms.
+        arms_of (map body_tree arms)
+        ≡ (if (flow_in flow.now).returns then Arm
+        (returning (flow_in flow.now) (place_of place.now)) NoArm else NoArm)) }
 {
     let mut arms = List::new(alloc);
     if flow.returns() {
@@ -275,7 +290,8 @@ pub fn end_at(
     requires node { n < (flow_in flow.now).nodes }
     requires words { place.now.words < 2 ^ 15 }
     requires mems { place.now.mems < 2 ^ 15 }
-    ensures { IfOk result (λ end. end_tree end ≡ spec.end_at (flow_in flow.now) p n (place_of place.now)) }
+    ensures { IfOk result (λ end.
+        end_tree end ≡ spec.end_at (flow_in flow.now) p n (place_of place.now)) }
 {
     if let Some(end) = end_of(alloc, flow, p, n, place)? {
         return Ok(end);

@@ -1,4 +1,5 @@
-//! What a graph and its forest tell of a function, in the form from which definitions of parts are made.
+//! What a graph and its forest tell of a function, in the form from which definitions of parts are
+//! made.
 
 ghost use Rattle.std.specs.Prelude.{◌≡◌, ◌+◌, ◌<◌, ◌≤◌, ◌==◌, ◌^◌, IfOk, IfSome, None, drop, false, if◌then◌else◌, length, slice_index, true};
 ghost use Rattle.std.specs.List.{All, list_any};
@@ -142,7 +143,8 @@ impl<'a> Flow<'a> {
     pub fn to(&self, n: u32, form: Form) -> u32
         requires node { n < (flow_in self.now).nodes }
         ensures is { result ≡ (flow_in self.now).to n form }
-        ensures node { has_edge ((flow_in self.now).instr n) form ≡ true → result < (flow_in self.now).nodes }
+        ensures node { has_edge ((flow_in self.now).instr n) form ≡ true
+            → result < (flow_in self.now).nodes }
     {
         let _count = self.graph.len();
         let mut ends = self.graph.succs(n);
@@ -176,7 +178,8 @@ impl<'a> Flow<'a> {
         None
     }
 
-    /// The smallest loop that has a node, where a head counts as a node of the region around its loop.
+    /// The smallest loop that has a node, where a head counts as a node of the region around its
+    /// loop.
     pub fn around(&self, n: u32) -> Option<u32>
         requires { n < (flow_in self.now).nodes }
         ensures is { result ≡ (flow_in self.now).around n }

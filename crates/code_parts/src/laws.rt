@@ -1,4 +1,5 @@
-//! Laws of the parts of a graph. These functions do nothing: their contracts are the laws. Each speaks of the definitions alone.
+//! Laws of the parts of a graph. These functions do nothing: their contracts are the laws. Each
+//! speaks of the definitions alone.
 
 ghost use Rattle.std.specs.Prelude.{◌≡◌, ◌<◌, ℕ, List, length, option_map, slice_get, None, Some, Bool, false};
 ghost use Rattle.rv_words.specs.Bytes.{Bytes, AreBytes};
@@ -13,43 +14,87 @@ ghost use Rattle.code_parts.specs.Graph.{IsCode, IsGraph, IsMade, IsSmall};
 ghost use Rattle.code_parts.specs.Flows.{HaveCode, IsSetFor, Setting, alone, flow_of, group_of};
 ghost use Rattle.code_parts.specs.Order.{AreParts};
 
-/// A group of all parts is well-formed: each variable is in scope, each call goes to an earlier definition and has an arm for
-/// each of its exits.
+/// A group of all parts is well-formed: each variable is in scope, each call goes to an earlier
+/// definition and has an arm for each of its exits.
 pub fn law_of_definitions()
-    ensures { (f : Flow) (g : GroupTree) (parts : List ThePart) → IsGraph f → IsMade f g parts → IsWellFormed g }
+    ensures { (f : Flow) (g : GroupTree) (parts : List ThePart)
+        → IsGraph f
+        → IsMade f g parts
+        → IsWellFormed g }
 {}
 
-/// Reached code with its loops and cuts is what bodies of parts rest on. A function alone calls no other.
+/// Reached code with its loops and cuts is what bodies of parts rest on. A function alone calls no
+/// other.
 pub fn law_of_flows()
-    ensures graph { (code : Bytes) (e : ℕ) (g : GraphOf) (f : ForestOf) (parts : List ThePart) → IsGraphOf false code e g → IsForestOf g f → IsGraph (flow_of g f (alone g parts)) }
-    ensures code { (code : Bytes) (e : ℕ) (g : GraphOf) (f : ForestOf) (parts : List ThePart) (ranges : List TheRange) → IsGraphOf false code e g → IsForestOf g f
-        → AreBytes code → HaveCode g code ranges → IsCode (flow_of g f (alone g parts)) ranges }
-    ensures small { (code : Bytes) (e : ℕ) (g : GraphOf) (f : ForestOf) (parts : List ThePart) → IsGraphOf false code e g → IsForestOf g f
-        → AreParts (flow_of g f (alone g parts)) (number_of f) parts → IsSmall (flow_of g f (alone g parts)) }
-    ensures calls { (code : Bytes) (e : ℕ) (g : GraphOf) (f : ForestOf) (parts : List ThePart) → IsGraphOf false code e g → (n : ℕ) → n < length g.addrs
+    ensures graph { (code : Bytes) (e : ℕ) (g : GraphOf) (f : ForestOf) (parts : List ThePart)
+        → IsGraphOf false code e g
+        → IsForestOf g f
+        → IsGraph (flow_of g f (alone g parts)) }
+    ensures code { (code : Bytes) (e : ℕ) (g : GraphOf) (f : ForestOf) (parts : List ThePart)
+        (ranges : List TheRange)
+        → IsGraphOf false code e g
+        → IsForestOf g f
+        → AreBytes code
+        → HaveCode g code ranges
+        → IsCode (flow_of g f (alone g parts)) ranges }
+    ensures small { (code : Bytes) (e : ℕ) (g : GraphOf) (f : ForestOf) (parts : List ThePart)
+        → IsGraphOf false code e g
+        → IsForestOf g f
+        → AreParts (flow_of g f (alone g parts)) (number_of f) parts
+        → IsSmall (flow_of g f (alone g parts)) }
+    ensures calls { (code : Bytes) (e : ℕ) (g : GraphOf) (f : ForestOf) (parts : List ThePart)
+        → IsGraphOf false code e g
+        → (n : ℕ)
+        → n < length g.addrs
         → (flow_of g f (alone g parts)).callee n ≡ None }
 {}
 
-/// A group of the parts of reached code, in their order, is made of it: each definition stands after those that it calls. There is
-/// one such order.
+/// A group of the parts of reached code, in their order, is made of it: each definition stands
+/// after those that it calls. There is one such order.
 pub fn law_of_orders()
-    ensures made { (code : Bytes) (e : ℕ) (g : GraphOf) (f : ForestOf) (parts : List ThePart) (name : List ℕ) (ranges : List TheRange) → IsGraphOf false code e g → IsForestOf g f
-        → AreBytes code → HaveCode g code ranges → AreParts (flow_of g f (alone g parts)) (number_of f) parts
-        → IsMade (flow_of g f (alone g parts)) (group_of (flow_of g f (alone g parts)) name ranges parts) parts }
-    ensures one_order { (code : Bytes) (e : ℕ) (g : GraphOf) (f : ForestOf) (parts others : List ThePart) → IsGraphOf false code e g → IsForestOf g f
-        → AreParts (flow_of g f (alone g parts)) (number_of f) parts → AreParts (flow_of g f (alone g others)) (number_of f) others → parts ≡ others }
+    ensures made { (code : Bytes) (e : ℕ) (g : GraphOf) (f : ForestOf) (parts : List ThePart)
+        (name : List ℕ) (ranges : List TheRange)
+        → IsGraphOf false code e g
+        → IsForestOf g f
+        → AreBytes code
+        → HaveCode g code ranges
+        → AreParts (flow_of g f (alone g parts)) (number_of f) parts
+        → IsMade (flow_of g f (alone g parts))
+        (group_of (flow_of g f (alone g parts)) name ranges parts) parts }
+    ensures one_order { (code : Bytes) (e : ℕ) (g : GraphOf) (f : ForestOf)
+        (parts others : List ThePart)
+        → IsGraphOf false code e g
+        → IsForestOf g f
+        → AreParts (flow_of g f (alone g parts)) (number_of f) parts
+        → AreParts (flow_of g f (alone g others)) (number_of f) others
+        → parts ≡ others }
 {}
 
 /// The last of these definitions, which the group lists, is entered where the code is.
 pub fn law_of_entries()
-    ensures { (code : Bytes) (e : ℕ) (g : GraphOf) (f : ForestOf) (parts : List ThePart) (name : List ℕ) (ranges : List TheRange) → IsGraphOf false code e g → IsForestOf g f
+    ensures { (code : Bytes) (e : ℕ) (g : GraphOf) (f : ForestOf) (parts : List ThePart)
+        (name : List ℕ) (ranges : List TheRange)
+        → IsGraphOf false code e g
+        → IsForestOf g f
         → AreParts (flow_of g f (alone g parts)) (number_of f) parts
-        → option_map (λ (d : DefTree). d.entry) (slice_get (group_of (flow_of g f (alone g parts)) name ranges parts).defs (listed_def (group_of (flow_of g f (alone g parts)) name ranges parts))) ≡ Some e }
+        → option_map (λ (d : DefTree). d.entry)
+        (slice_get (group_of (flow_of g f (alone g parts)) name ranges parts).defs
+        (listed_def (group_of (flow_of g f (alone g parts)) name ranges parts))) ≡ Some e }
 {}
 
 /// Code of linked functions, in any setting that fits it, is what bodies of parts rest on too.
 pub fn law_of_settings()
-    ensures graph { (linked : Bool) (code : Bytes) (e : ℕ) (g : GraphOf) (f : ForestOf) (s : Setting) → IsGraphOf linked code e g → IsForestOf g f → IsGraph (flow_of g f s) }
-    ensures code { (linked : Bool) (code : Bytes) (e : ℕ) (g : GraphOf) (f : ForestOf) (s : Setting) (ranges : List TheRange) → IsGraphOf linked code e g → IsForestOf g f
-        → AreBytes code → HaveCode g code ranges → IsSetFor g s → IsCode (flow_of g f s) ranges }
+    ensures graph { (linked : Bool) (code : Bytes) (e : ℕ) (g : GraphOf) (f : ForestOf)
+        (s : Setting)
+        → IsGraphOf linked code e g
+        → IsForestOf g f
+        → IsGraph (flow_of g f s) }
+    ensures code { (linked : Bool) (code : Bytes) (e : ℕ) (g : GraphOf) (f : ForestOf) (s : Setting)
+        (ranges : List TheRange)
+        → IsGraphOf linked code e g
+        → IsForestOf g f
+        → AreBytes code
+        → HaveCode g code ranges
+        → IsSetFor g s
+        → IsCode (flow_of g f s) ranges }
 {}

@@ -28,7 +28,8 @@ pub struct Ranked {
 fn weight_of(graph: &Graph, forest: &Forest, part: Part) -> u128
     requires forest { IsForestOf graph.now forest.now }
     requires part { IsPart (flow_of graph.now forest.now (alone graph.now [])) part }
-    ensures { result ≡ weight (flow_of graph.now forest.now (alone graph.now [])) (number_of forest.now) part }
+    ensures { result
+        ≡ weight (flow_of graph.now forest.now (alone graph.now [])) (number_of forest.now) part }
 {
     graph.len();
     match part {
@@ -52,7 +53,8 @@ fn rank(graph: &Graph, forest: &Forest, part: Part) -> Ranked
     requires forest { IsForestOf graph.now forest.now }
     requires part { IsPart (flow_of graph.now forest.now (alone graph.now [])) part }
     ensures part { result.part ≡ part }
-    ensures ranked { IsRanked (flow_of graph.now forest.now (alone graph.now [])) forest.now result }
+    ensures ranked { IsRanked (flow_of graph.now forest.now (alone graph.now [])) forest.now
+        result }
 {
     Ranked {
         height: forest.loops() - forest.depth(region_of(part)),
@@ -64,9 +66,12 @@ fn rank(graph: &Graph, forest: &Forest, part: Part) -> Ranked
 /// Adds the loops.
 fn add_loops(graph: &Graph, forest: &Forest, all: &mut Vec<Ranked>) -> Result<(), NoMemory>
     requires forest { IsForestOf graph.now forest.now }
-    requires ranked { All (IsRanked (flow_of graph.now forest.now (alone graph.now [])) forest.now) all.old.items }
-    ensures parts { OnOk result (map (λ r. r.part) all.new.items ≡ map (λ r. r.part) all.old.items ++ loops_to (length forest.now.heads)) }
-    ensures ranked { OnOk result (All (IsRanked (flow_of graph.now forest.now (alone graph.now [])) forest.now) all.new.items) }
+    requires ranked { All (IsRanked (flow_of graph.now forest.now (alone graph.now [])) forest.now)
+        all.old.items }
+    ensures parts { OnOk result (map (λ r. r.part) all.new.items
+        ≡ map (λ r. r.part) all.old.items ++ loops_to (length forest.now.heads)) }
+    ensures ranked { OnOk result (All
+        (IsRanked (flow_of graph.now forest.now (alone graph.now [])) forest.now) all.new.items) }
 {
     for l in 0..forest.loops() {
         all.push(rank(graph, forest, Part::Loop(l)))?;
@@ -77,9 +82,13 @@ fn add_loops(graph: &Graph, forest: &Forest, all: &mut Vec<Ranked>) -> Result<()
 /// Adds the rests from cuts on.
 fn add_rests(graph: &Graph, forest: &Forest, all: &mut Vec<Ranked>) -> Result<(), NoMemory>
     requires forest { IsForestOf graph.now forest.now }
-    requires ranked { All (IsRanked (flow_of graph.now forest.now (alone graph.now [])) forest.now) all.old.items }
-    ensures parts { OnOk result (map (λ r. r.part) all.new.items ≡ map (λ r. r.part) all.old.items ++ rests_to (flow_of graph.now forest.now (alone graph.now [])) (length graph.now.addrs)) }
-    ensures ranked { OnOk result (All (IsRanked (flow_of graph.now forest.now (alone graph.now [])) forest.now) all.new.items) }
+    requires ranked { All (IsRanked (flow_of graph.now forest.now (alone graph.now [])) forest.now)
+        all.old.items }
+    ensures parts { OnOk result (map (λ r. r.part) all.new.items
+        ≡ map (λ r. r.part) all.old.items
+        ++ rests_to (flow_of graph.now forest.now (alone graph.now [])) (length graph.now.addrs)) }
+    ensures ranked { OnOk result (All
+        (IsRanked (flow_of graph.now forest.now (alone graph.now [])) forest.now) all.new.items) }
 {
     for n in 0..graph.len() {
         if forest.is_cut(n) {
@@ -103,7 +112,8 @@ fn sort(all: &mut Vec<Ranked>) -> Result<(), NoMemory>
 /// The parts of a graph, in their order.
 pub fn parts_of(alloc: Global, graph: &Graph, forest: &Forest) -> Result<List<Part>, NoMemory>
     requires { IsForestOf graph.now forest.now }
-    ensures { IfOk result (λ ps. AreParts (flow_of graph.now forest.now (alone graph.now ps)) (number_of forest.now) ps) }
+    ensures { IfOk result (λ ps.
+        AreParts (flow_of graph.now forest.now (alone graph.now ps)) (number_of forest.now) ps) }
 {
     graph.len();
     let mut all = Vec::new(alloc);

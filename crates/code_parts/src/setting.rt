@@ -4,8 +4,8 @@ use crate::callee::Callee;
 use crate::part::Part;
 use std::marker::Model;
 
-/// What the flow of a function among others has beside its graph. The group's registers rise, and x0 isn't among them. A function that is
-/// called and not listed counts as one that doesn't return.
+/// What the flow of a function among others has beside its graph. The group's registers rise, and
+/// x0 isn't among them. A function that is called and not listed counts as one that doesn't return.
 #[derive(Drop)]
 pub struct Setting<'a> {
     /// How many definitions stand before those of its parts.

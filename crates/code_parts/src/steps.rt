@@ -21,7 +21,8 @@ pub fn add_needs(
     steps: &mut List<Step>,
 ) -> Result<(), NoMemory>
     requires { q < 2 }
-    ensures { OnOk result (map step_tree steps.new ≡ map step_tree steps.old ++ spec.needs i q (place_of place.now)) }
+    ensures { OnOk result (map step_tree steps.new
+        ≡ map step_tree steps.old ++ spec.needs i q (place_of place.now)) }
 {
     if let Some(c) = condition(alloc, i, Form::Next, &place.names_of(q))? {
         steps.push(Step::Need(c))?;
@@ -40,7 +41,8 @@ pub fn add_writes(
     steps: &mut List<Step>,
 ) -> Result<(), NoMemory>
     requires { q < 2 }
-    ensures { OnOk result (map step_tree steps.new ≡ map step_tree steps.old ++ spec.writes i addr length q (place_of place.now)) }
+    ensures { OnOk result (map step_tree steps.new
+        ≡ map step_tree steps.old ++ spec.writes i addr length q (place_of place.now)) }
 {
     let names = place.names_of(q);
     if let Instr::Store { .. } = i {

@@ -4,7 +4,8 @@ ghost use Rattle.code_parts.specs.Low.{AreLow};
 
 use instr_axioms::Variables;
 
-/// How many variables are in scope, and which of them stand for the registers and the memories. That of the first memory is among the names.
+/// How many variables are in scope, and which of them stand for the registers and the memories.
+/// That of the first memory is among the names.
 #[derive(Clone, Copy, Debug)]
 pub struct VariableMap {
     pub words: u32,

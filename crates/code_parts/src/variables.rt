@@ -134,7 +134,8 @@ fn wrote(d: u8, place: VariableMap) -> VariableMap
     }
 }
 
-/// The place after an instruction that loads from or stores to that memory, if it does. What it writes has a variable.
+/// The place after an instruction that loads from or stores to that memory, if it does. What it
+/// writes has a variable.
 pub fn after(i: Instr, q: u8, place: VariableMap) -> VariableMap
     requires words { place.words < 2 ^ 16 }
     requires mems { place.mems < 2 ^ 16 }
@@ -157,7 +158,10 @@ pub fn current_mems(
     flow: &Flow<'_>,
     place: &VariableMap,
 ) -> Result<List<Mem>, NoMemory>
-    ensures { IfOk result (λ ms. map mem_tree ms ≡ map (λ q. MemVar ((place_of place.now).memory q)) (range_with_len 0 (flow_in flow.now).mems)) }
+    ensures { IfOk result (λ ms.
+        map mem_tree ms
+        ≡ map (λ q. MemVar ((place_of place.now).memory q))
+        (range_with_len 0 (flow_in flow.now).mems)) }
 {
     let mut mems = List::new(alloc);
     for q in 0..flow.mems() {
@@ -168,7 +172,8 @@ pub fn current_mems(
 
 /// The registers and the memories as values.
 pub fn current(alloc: Global, flow: &Flow<'_>, place: &VariableMap) -> Result<Values, NoMemory>
-    ensures { IfOk result (λ v. values_tree v ≡ spec.current (flow_in flow.now) (place_of place.now)) }
+    ensures { IfOk result (λ v.
+        values_tree v ≡ spec.current (flow_in flow.now) (place_of place.now)) }
 {
     let mut words = List::new(alloc);
     for r in flow.regs() {

@@ -9,7 +9,7 @@ use Rattle.tailrec_lang.specs.Tree.{GroupTree}
 use Rattle.group_text.specs.Limits.{IsGroup, IsName}
 use Rattle.proof_text.specs.Line.{LineTree, line_tree}
 use Rattle.checker.specs.Accepts.{IsAccepted}
-use Rattle.exactness.specs.Exact.{Exact}
+use Rattle.claims.specs.Exact.{Exact}
 use Rattle.exactness.proofs.GroupOfParts.{flow-exact}
 use Rattle.flow_graph.specs.Graph.{GraphOf, IsGraphOf}
 use Rattle.loop_forest.specs.Forest.{ForestOf, IsForestOf, number_of}

@@ -14,8 +14,8 @@ use Rattle.proof_text.specs.Line.{ProofTree, line_tree}
 use Rattle.group_text.specs.Version.{version_1}
 use Rattle.proof_text.specs.Proofs.{IsProofIn}
 use Rattle.checker.specs.Accepts.{IsAccepted}
-use Rattle.checker.specs.Headline.{entry_at}
-use Rattle.exactness.specs.Exact.{Exact}
+use Rattle.claims.specs.Headline.{entry_at}
+use Rattle.claims.specs.Exact.{Exact}
 use Rattle.flow_graph.specs.Flow.{Next, length_in, look, is_return}
 use Rattle.flow_graph.specs.Walks.{Reaches}
 use Rattle.flow_graph.specs.Graph.{GraphOf, HasEdge, IsGraphOf, IsRising}

@@ -17,11 +17,16 @@ use path_walk::{DecompileFault, Item, Proof, item_of};
 use rv_words::{List, NoMemory, Text};
 use std::alloc::Global;
 
-/// An item for each of these names of a file, or the first of the names that is outside the fragment.
+/// An item for each of these names of a file, or the first of the names that is outside the
+/// fragment.
 pub fn decompile(alloc: Global, image: &Image, names: &List<Text>) -> Result<Proof, DecompileFault>
     requires { All IsName names.now }
-    ensures items { (file : Items ℕ) → image.now ≡ image_of file → IfOk result (AreItemsFor file names.now) }
-    ensures refused { (file : Items ℕ) → image.now ≡ image_of file → IfErr result (IsFaultOf file names.now) }
+    ensures items { (file : Items ℕ)
+        → image.now ≡ image_of file
+        → IfOk result (AreItemsFor file names.now) }
+    ensures refused { (file : Items ℕ)
+        → image.now ≡ image_of file
+        → IfErr result (IsFaultOf file names.now) }
 {
     let all = names.as_slice();
     let mut items = List::new(alloc);
@@ -49,8 +54,12 @@ pub fn refusal(number: u64, why: FlowFault) -> DecompileFault
 /// The item of a name.
 fn item_for(alloc: Global, image: &Image, name: &Text) -> Result<Item, FlowFault>
     requires { IsName name.now }
-    ensures item { (file : Items ℕ) → image.now ≡ image_of file → IfOk result (IsItemFor file name.now) }
-    ensures none { (file : Items ℕ) → image.now ≡ image_of file → IfErr result (IsNoItem file name.now) }
+    ensures item { (file : Items ℕ)
+        → image.now ≡ image_of file
+        → IfOk result (IsItemFor file name.now) }
+    ensures none { (file : Items ℕ)
+        → image.now ≡ image_of file
+        → IfErr result (IsNoItem file name.now) }
 {
     law_of_image(image);
     match address_of(image, name.as_slice()) {
@@ -75,7 +84,10 @@ pub fn outside_of(why: NameFault) -> Outside
 /// The item of the function at an address, under that name.
 fn function_at(alloc: Global, image: &Image, entry: u64, name: Text) -> Result<Item, FlowFault>
     requires { IsName name }
-    ensures item { (file : Items ℕ) → image.now ≡ image_of file → StandsFor file name (Fine entry) → IfOk result (IsItemFor file name) }
+    ensures item { (file : Items ℕ)
+        → image.now ≡ image_of file
+        → StandsFor file name (Fine entry)
+        → IfOk result (IsItemFor file name) }
     ensures none { IfErr result (IsNoFunction (code_in image.now.pieces) entry) }
 {
     law_of_bytes(image);

@@ -1,4 +1,5 @@
-//! Laws of items. These functions do nothing: their contracts are the laws. Each speaks of the definitions alone.
+//! Laws of items. These functions do nothing: their contracts are the laws. Each speaks of the
+//! definitions alone.
 
 ghost use Rattle.std.specs.Prelude.{ℕ, List};
 ghost use Rattle.elf_image.specs.Fault.{IsReadable};
@@ -9,6 +10,11 @@ ghost use Rattle.path_walk.specs.declared.proof.Proof.{Proof as TheProof};
 
 /// Items for names of a file that can be read are accepted for it, and have a text.
 pub fn law_of_items()
-    ensures accepted { (file : List ℕ) (names : List (List ℕ)) (p : TheProof) → IsReadable file → AreItemsFor file names p → Accepts file (proofs_of p) }
-    ensures text { (file : List ℕ) (names : List (List ℕ)) (p : TheProof) → AreItemsFor file names p → AreProofs (proofs_of p) }
+    ensures accepted { (file : List ℕ) (names : List (List ℕ)) (p : TheProof)
+        → IsReadable file
+        → AreItemsFor file names p
+        → Accepts file (proofs_of p) }
+    ensures text { (file : List ℕ) (names : List (List ℕ)) (p : TheProof)
+        → AreItemsFor file names p
+        → AreProofs (proofs_of p) }
 {}

@@ -7,7 +7,8 @@ ghost use Rattle.decompiler.specs.Names.{StandsFor};
 use elf_image::{Image, NameFault, law_of_image};
 use mc_text::hexnum;
 
-/// The address that a name stands for: a hexadecimal number is that address, any other name is looked up among the function symbols.
+/// The address that a name stands for: a hexadecimal number is that address, any other name is
+/// looked up among the function symbols.
 pub fn address_of(image: &Image, name: &[u8]) -> Result<u64, NameFault>
     ensures { (file : List ℕ) → image.now ≡ image_of file → StandsFor file name.now result }
 {

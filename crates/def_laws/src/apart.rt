@@ -1,5 +1,5 @@
-//! Definitions taken apart: a skeleton, in which a fixed term of its kind stands for each one, and the terms in the order of
-//! the text.
+//! Definitions taken apart: a skeleton, in which a fixed term of its kind stands for each one, and
+//! the terms in the order of the text.
 
 ghost use Rattle.std.specs.Prelude.{◌≡◌, ◌++◌, ◌∷◌, [], ◌↔◌, IfOk, IsTrue, map};
 ghost use Rattle.word_terms.specs.Tree.{cond_tree, mem_tree, word_tree};
@@ -18,7 +18,7 @@ use tailrec_lang::{Body, Def, End, Step, Values};
 use word_terms::{Cond, Mem, Word, copy_cond, copy_mem, copy_word, same_cond, same_mem, same_word};
 
 /// A term of a definition.
-#[derive(Debug, Drop)]
+#[derive(Drop)]
 pub enum BodyTerm {
     Word(Word),
     Mem(Mem),
@@ -26,7 +26,7 @@ pub enum BodyTerm {
 }
 
 /// A definition taken apart.
-#[derive(Debug, Drop)]
+#[derive(Drop)]
 pub struct ApartDef {
     pub skeleton: Def,
     pub terms: List<BodyTerm>,
@@ -47,8 +47,10 @@ fn take_words(
     words: &[Word],
     found: &mut List<BodyTerm>,
 ) -> Result<List<Word>, NoMemory>
-    ensures skeleton { IfOk result (λ us. map word_tree us ≡ map blank_word (map word_tree words.now)) }
-    ensures terms { IfOk result (λ us. map term_of found.new ≡ map term_of found.old ++ map OfWord (map word_tree words.now)) }
+    ensures skeleton { IfOk result (λ us.
+        map word_tree us ≡ map blank_word (map word_tree words.now)) }
+    ensures terms { IfOk result (λ us.
+        map term_of found.new ≡ map term_of found.old ++ map OfWord (map word_tree words.now)) }
 {
     let mut blanks = List::new(alloc);
     for t in words {
@@ -62,7 +64,8 @@ fn take_words(
 #[tactic(auto, using(crate::proofs::Takes::blank_pushed, crate::proofs::Takes::term_pushed))]
 fn take_mems(alloc: Global, mems: &[Mem], found: &mut List<BodyTerm>) -> Result<List<Mem>, NoMemory>
     ensures skeleton { IfOk result (λ ns. map mem_tree ns ≡ map blank_mem (map mem_tree mems.now)) }
-    ensures terms { IfOk result (λ ns. map term_of found.new ≡ map term_of found.old ++ map OfMem (map mem_tree mems.now)) }
+    ensures terms { IfOk result (λ ns.
+        map term_of found.new ≡ map term_of found.old ++ map OfMem (map mem_tree mems.now)) }
 {
     let mut blanks = List::new(alloc);
     for m in mems {
@@ -80,7 +83,8 @@ fn take_values(
     found: &mut List<BodyTerm>,
 ) -> Result<Values, NoMemory>
     ensures skeleton { IfOk result (λ w. values_tree w ≡ blank_values (values_tree values.now)) }
-    ensures terms { IfOk result (λ w. map term_of found.new ≡ map term_of found.old ++ value_terms (values_tree values.now)) }
+    ensures terms { IfOk result (λ w.
+        map term_of found.new ≡ map term_of found.old ++ value_terms (values_tree values.now)) }
 {
     let words = take_words(alloc, values.words.as_slice(), found)?;
     let mems = take_mems(alloc, values.mems.as_slice(), found)?;
@@ -90,7 +94,8 @@ fn take_values(
 #[tactic(auto, using(crate::proofs::Takes::one_pushed))]
 fn take_step(alloc: Global, step: &Step, found: &mut List<BodyTerm>) -> Result<Step, NoMemory>
     ensures skeleton { IfOk result (λ s. step_tree s ≡ blank_step (step_tree step.now)) }
-    ensures terms { IfOk result (λ s. map term_of found.new ≡ map term_of found.old ++ step_term (step_tree step.now) ∷ []) }
+    ensures terms { IfOk result (λ s.
+        map term_of found.new ≡ map term_of found.old ++ step_term (step_tree step.now) ∷ []) }
 {
     match step {
         Step::Bind(t) => {
@@ -118,8 +123,10 @@ fn take_steps(
     steps: &[Step],
     found: &mut List<BodyTerm>,
 ) -> Result<List<Step>, NoMemory>
-    ensures skeleton { IfOk result (λ ss. map step_tree ss ≡ map blank_step (map step_tree steps.now)) }
-    ensures terms { IfOk result (λ ss. map term_of found.new ≡ map term_of found.old ++ map step_term (map step_tree steps.now)) }
+    ensures skeleton { IfOk result (λ ss.
+        map step_tree ss ≡ map blank_step (map step_tree steps.now)) }
+    ensures terms { IfOk result (λ ss.
+        map term_of found.new ≡ map term_of found.old ++ map step_term (map step_tree steps.now)) }
 {
     let mut blanks = List::new(alloc);
     for step in steps {
@@ -134,7 +141,8 @@ fn take_steps(
 #[tactic(auto, using(crate::proofs::Takes::body_skeleton, crate::proofs::Takes::body_found))]
 fn take_body(alloc: Global, body: &Body, found: &mut List<BodyTerm>) -> Result<Body, NoMemory>
     ensures skeleton { IfOk result (λ b. body_tree b ≡ skeleton (body_tree body.now)) }
-    ensures terms { IfOk result (λ b. map term_of found.new ≡ map term_of found.old ++ terms (body_tree body.now)) }
+    ensures terms { IfOk result (λ b.
+        map term_of found.new ≡ map term_of found.old ++ terms (body_tree body.now)) }
 {
     let steps = take_steps(alloc, body.steps.as_slice(), found)?;
     let end = take_end(alloc, &body.end, found)?;
@@ -145,7 +153,8 @@ fn take_body(alloc: Global, body: &Body, found: &mut List<BodyTerm>) -> Result<B
 #[tactic(auto, using(crate::proofs::Takes::branch_skeleton, crate::proofs::Takes::branch_found, crate::proofs::Takes::one_pushed, crate::proofs::Takes::call_skeleton, crate::proofs::Takes::call_found, crate::proofs::Takes::again_skeleton, crate::proofs::Takes::again_found, crate::proofs::Takes::leave_skeleton, crate::proofs::Takes::leave_found))]
 fn take_end(alloc: Global, end: &End, found: &mut List<BodyTerm>) -> Result<End, NoMemory>
     ensures skeleton { IfOk result (λ e. end_tree e ≡ skeleton (end_tree end.now)) }
-    ensures terms { IfOk result (λ e. map term_of found.new ≡ map term_of found.old ++ terms (end_tree end.now)) }
+    ensures terms { IfOk result (λ e.
+        map term_of found.new ≡ map term_of found.old ++ terms (end_tree end.now)) }
 {
     match end {
         End::Branch(c, a, b) => {
@@ -182,7 +191,8 @@ fn take_arms(
     found: &mut List<BodyTerm>,
 ) -> Result<List<Body>, NoMemory>
     ensures skeleton { IfOk result (λ bs. arm_trees bs ≡ arm_skeletons (arm_trees arms.now)) }
-    ensures terms { IfOk result (λ bs. map term_of found.new ≡ map term_of found.old ++ arm_terms (arm_trees arms.now)) }
+    ensures terms { IfOk result (λ bs.
+        map term_of found.new ≡ map term_of found.old ++ arm_terms (arm_trees arms.now)) }
 {
     let mut blanks = List::new(alloc);
     for arm in arms {
@@ -212,7 +222,8 @@ fn take_def(alloc: Global, def: &Def) -> Result<ApartDef, NoMemory>
 /// The definitions taken apart.
 #[tactic(auto, using(crate::proofs::Takes::blank_pushed))]
 pub fn take_defs(alloc: Global, defs: &[Def]) -> Result<Vec<ApartDef>, NoMemory>
-    ensures { IfOk result (λ ps. map apart_tree ps.items ≡ map taken_apart (map def_tree defs.now)) }
+    ensures { IfOk result (λ ps.
+        map apart_tree ps.items ≡ map taken_apart (map def_tree defs.now)) }
 {
     let mut parts = Vec::new(alloc);
     for def in defs {

@@ -18,16 +18,17 @@ use tailrec_lang::Group;
 pub enum CertFault {
     /// Its group is another one.
     Group,
-    /// The definition, the term or the place of the step of that number isn't there, or its law doesn't match there.
+    /// The definition, the term or the place of the step of that number isn't there, or its law
+    /// doesn't match there.
     Step(u32),
     /// The steps give other definitions than the stated ones.
     Result,
     NoMemory,
 }
 
-/// Whether the steps rewrite the group's definitions to the stated ones. The time is that of reading both and the certificate,
-/// and for each step that of copying the term that it rewrites. The fault of a step whose number is 2^32 or more is told as
-/// want of memory.
+/// Whether the steps rewrite the group's definitions to the stated ones. The time is that of
+/// reading both and the certificate, and for each step that of copying the term that it rewrites.
+/// The fault of a step whose number is 2^32 or more is told as want of memory.
 #[tactic(auto, using(crate::proofs::StepLemmas::cert_accepted, crate::proofs::StepLemmas::cert_refused))]
 pub fn judge_cert(alloc: Global, g: &Group, c: &Cert) -> Result<(), CertFault>
     ensures ok { IfOk result (λ _. IsCertOf (group_tree g.now) c.now) }

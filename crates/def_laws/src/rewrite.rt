@@ -16,9 +16,10 @@ use tailrec_lang::Def;
 use term_laws::{Rw, Shape, rewrite_cond, rewrite_mem, rewrite_word, shape_of};
 
 /// Why steps don't rewrite definitions.
-#[derive(Clone, Copy, Debug)]
+#[derive(Clone, Copy)]
 pub enum StepFault {
-    /// The definition, the term or the place of the step of that number isn't there, or its law doesn't match.
+    /// The definition, the term or the place of the step of that number isn't there, or its law
+    /// doesn't match.
     At(usize),
     NoMemory,
 }
@@ -40,8 +41,10 @@ fn rewrite_term(
     shape: Shape,
     place: &[u8],
 ) -> Result<Option<BodyTerm>, NoMemory>
-    ensures some { IfOk result (λ o. IfSome o (λ u. Rewrites (law_of shape) place.now (term_of t.now) (term_of u))) }
-    ensures none { IfOk result (λ o. IfNone o ((u : Term) → Rewrites (law_of shape) place.now (term_of t.now) u → ⊥)) }
+    ensures some { IfOk result (λ o.
+        IfSome o (λ u. Rewrites (law_of shape) place.now (term_of t.now) (term_of u))) }
+    ensures none { IfOk result (λ o.
+        IfNone o ((u : Term) → Rewrites (law_of shape) place.now (term_of t.now) u → ⊥)) }
 {
     match t {
         BodyTerm::Word(t) => match rewrite_word(alloc, t, shape, place)? {
@@ -62,8 +65,10 @@ fn rewrite_term(
 /// The term that the step gives, if it rewrites one.
 #[tactic(auto, using(crate::proofs::StepLemmas::no_law, crate::proofs::StepLemmas::no_def, crate::proofs::StepLemmas::no_term, crate::proofs::StepLemmas::no_rewrite))]
 fn new_term(alloc: Global, parts: &[ApartDef], r: &Rw) -> Result<Option<BodyTerm>, NoMemory>
-    ensures some { IfOk result (λ o. IfSome o (λ u. IsNewTerm r.now (map apart_tree parts.now) (term_of u))) }
-    ensures none { IfOk result (λ o. IfNone o ((u : Term) → IsNewTerm r.now (map apart_tree parts.now) u → ⊥)) }
+    ensures some { IfOk result (λ o.
+        IfSome o (λ u. IsNewTerm r.now (map apart_tree parts.now) (term_of u))) }
+    ensures none { IfOk result (λ o.
+        IfNone o ((u : Term) → IsNewTerm r.now (map apart_tree parts.now) u → ⊥)) }
 {
     let Some(shape) = shape_of(r.law) else {
         return Ok(None);
@@ -93,7 +98,8 @@ fn replace<T: Drop>(list: &mut List<T>, i: usize, item: T)
 /// Puts a term into the place of the one of that number, if there is one.
 #[tactic(auto, using(crate::proofs::StepLemmas::term_put, crate::proofs::StepLemmas::not_put))]
 fn put_term(parts: &mut Vec<ApartDef>, d: usize, k: usize, x: BodyTerm)
-    ensures { map apart_tree parts.new.items ≡ with_new_term (map apart_tree parts.old.items) d k (term_of x) }
+    ensures { map apart_tree parts.new.items
+        ≡ with_new_term (map apart_tree parts.old.items) d k (term_of x) }
 {
     if d < parts.len() {
         let def = &mut parts[d];
@@ -101,11 +107,12 @@ fn put_term(parts: &mut Vec<ApartDef>, d: usize, k: usize, x: BodyTerm)
     }
 }
 
-/// What the steps make of the definitions, taken apart, or the first step that doesn't rewrite them. A step costs as much
-/// time as the term that it rewrites is long.
+/// What the steps make of the definitions, taken apart, or the first step that doesn't rewrite
+/// them. A step costs as much time as the term that it rewrites is long.
 #[tactic(auto, using(crate::proofs::StepLemmas::begun, crate::proofs::StepLemmas::stepped, crate::proofs::StepLemmas::stopped))]
 pub fn rewritten_all(alloc: Global, defs: &[Def], steps: &[Rw]) -> Result<Vec<ApartDef>, StepFault>
-    ensures ok { IfOk result (λ ps. AreRewritten steps.now (map def_tree defs.now) (map apart_tree ps.items)) }
+    ensures ok { IfOk result (λ ps.
+        AreRewritten steps.now (map def_tree defs.now) (map apart_tree ps.items)) }
     ensures err { IfErr result (λ e. StopsAt steps.now (map def_tree defs.now) e) }
 {
     let mut parts = take_defs(alloc, defs)?;

@@ -1,5 +1,6 @@
-//! Functions rewritten until no law matches at any place of any term. Each term is looked at once, so the time is that of
-//! reading the group, and for each node of a term that of comparing its children and of a few steps at it.
+//! Functions rewritten until no law matches at any place of any term. Each term is looked at once,
+//! so the time is that of reading the group, and for each node of a term that of comparing its
+//! children and of a few steps at it.
 
 ghost use Rattle.std.specs.Prelude.{◌≡◌, ◌+◌, IfOk, OnOk, length, map};
 ghost use Rattle.word_terms.specs.Tree.{mem_tree, word_tree};
@@ -21,7 +22,8 @@ use tailrec_lang::{Body, Def, End, Group, Step, Values};
 use term_laws::{Log, simple_cond, simple_mem, simple_word};
 use word_terms::{Mem, Word};
 
-/// Goes on to the next term. A definition with 2^32 terms has no certificate, which is told as want of memory.
+/// Goes on to the next term. A definition with 2^32 terms has no certificate, which is told as want
+/// of memory.
 fn next_term(log: &mut Log) -> Result<(), NoMemory>
     ensures { OnOk result (IsNext log.old log.new) }
 {
@@ -34,7 +36,8 @@ fn next_term(log: &mut Log) -> Result<(), NoMemory>
     }
 }
 
-/// The next number of a definition. A group with 2^32 definitions has no certificate, which is told as want of memory.
+/// The next number of a definition. A group with 2^32 definitions has no certificate, which is told
+/// as want of memory.
 fn next_def(def: u32) -> Result<u32, NoMemory>
     ensures { IfOk result (λ next. next ≡ def + 1) }
 {
@@ -46,7 +49,9 @@ fn next_def(def: u32) -> Result<u32, NoMemory>
 
 #[tactic(auto, using(crate::proofs::SimpleBodies::words_simple_none, crate::proofs::PartSteps::list_begun, crate::proofs::PartSteps::list_ended))]
 fn simple_words(alloc: Global, words: &[Word], log: &mut Log) -> Result<List<Word>, NoMemory>
-    ensures passed { IfOk result (λ us. ArePassed word_parts (length words.now) log.old log.new (map word_tree words.now) (map word_tree us)) }
+    ensures passed { IfOk result (λ us.
+        ArePassed word_parts (length words.now) log.old log.new (map word_tree words.now)
+        (map word_tree us)) }
     ensures simple { IfOk result (λ us. AreSimpleWords (map word_tree us)) }
 {
     let mut made = List::new(alloc);
@@ -60,7 +65,9 @@ fn simple_words(alloc: Global, words: &[Word], log: &mut Log) -> Result<List<Wor
 
 #[tactic(auto, using(crate::proofs::SimpleBodies::mems_simple_none, crate::proofs::PartSteps::list_begun, crate::proofs::PartSteps::list_ended))]
 fn simple_mems(alloc: Global, mems: &[Mem], log: &mut Log) -> Result<List<Mem>, NoMemory>
-    ensures passed { IfOk result (λ ns. ArePassed mem_parts (length mems.now) log.old log.new (map mem_tree mems.now) (map mem_tree ns)) }
+    ensures passed { IfOk result (λ ns.
+        ArePassed mem_parts (length mems.now) log.old log.new (map mem_tree mems.now)
+        (map mem_tree ns)) }
     ensures simple { IfOk result (λ ns. AreSimpleMems (map mem_tree ns)) }
 {
     let mut made = List::new(alloc);
@@ -74,7 +81,9 @@ fn simple_mems(alloc: Global, mems: &[Mem], log: &mut Log) -> Result<List<Mem>, 
 
 #[tactic(auto, using(crate::proofs::Ends::values_simplified))]
 fn simple_values(alloc: Global, values: &Values, log: &mut Log) -> Result<Values, NoMemory>
-    ensures passed { IfOk result (λ w. ArePassed value_parts (length values.now.words + length values.now.mems) log.old log.new (values_tree values.now) (values_tree w)) }
+    ensures passed { IfOk result (λ w.
+        ArePassed value_parts (length values.now.words + length values.now.mems) log.old log.new
+        (values_tree values.now) (values_tree w)) }
     ensures simple { IfOk result (λ w. AreSimpleValues (values_tree w)) }
 {
     let words = simple_words(alloc, values.words.as_slice(), log)?;
@@ -83,7 +92,8 @@ fn simple_values(alloc: Global, values: &Values, log: &mut Log) -> Result<Values
 }
 
 fn simple_step(alloc: Global, step: &Step, log: &mut Log) -> Result<Step, NoMemory>
-    ensures noted { IfOk result (λ s. IsNotedStep log.old log.new (step_tree step.now) (step_tree s)) }
+    ensures noted { IfOk result (λ s.
+        IsNotedStep log.old log.new (step_tree step.now) (step_tree s)) }
     ensures simple { IfOk result (λ s. IsSimple (step_term (step_tree s))) }
 {
     match step {
@@ -104,7 +114,9 @@ fn simple_step(alloc: Global, step: &Step, log: &mut Log) -> Result<Step, NoMemo
 
 #[tactic(auto, using(crate::proofs::SimpleBodies::steps_simple_none, crate::proofs::PartSteps::list_begun, crate::proofs::PartSteps::list_ended))]
 fn simple_steps(alloc: Global, steps: &[Step], log: &mut Log) -> Result<List<Step>, NoMemory>
-    ensures passed { IfOk result (λ ss. ArePassed step_parts (length steps.now) log.old log.new (map step_tree steps.now) (map step_tree ss)) }
+    ensures passed { IfOk result (λ ss.
+        ArePassed step_parts (length steps.now) log.old log.new (map step_tree steps.now)
+        (map step_tree ss)) }
     ensures simple { IfOk result (λ ss. AreSimpleSteps (map step_tree ss)) }
 {
     let mut made = List::new(alloc);
@@ -119,7 +131,9 @@ fn simple_steps(alloc: Global, steps: &[Step], log: &mut Log) -> Result<List<Ste
 #[cycle(simplifying)]
 #[tactic(auto, using(crate::proofs::Ends::body_simplified, crate::proofs::Ends::body_simple))]
 fn simple_body(alloc: Global, body: &Body, log: &mut Log) -> Result<Body, NoMemory>
-    ensures passed { IfOk result (λ b. ArePassed body_parts (count (body_tree body.now)) log.old log.new (body_tree body.now) (body_tree b)) }
+    ensures passed { IfOk result (λ b.
+        ArePassed body_parts (count (body_tree body.now)) log.old log.new (body_tree body.now)
+        (body_tree b)) }
     ensures simple { IfOk result (λ b. IsSimpleBody (body_tree b)) }
 {
     let steps = simple_steps(alloc, body.steps.as_slice(), log)?;
@@ -130,7 +144,9 @@ fn simple_body(alloc: Global, body: &Body, log: &mut Log) -> Result<Body, NoMemo
 #[cycle(simplifying)]
 #[tactic(auto, using(crate::proofs::Ends::branch_simplified, crate::proofs::Ends::call_simplified, crate::proofs::Ends::again_simplified, crate::proofs::Ends::leave_simplified, crate::proofs::Ends::branch_simple, crate::proofs::Ends::call_simple, crate::proofs::Ends::again_simple, crate::proofs::Ends::leave_simple))]
 fn simple_end(alloc: Global, end: &End, log: &mut Log) -> Result<End, NoMemory>
-    ensures passed { IfOk result (λ e. ArePassed body_parts (count (end_tree end.now)) log.old log.new (end_tree end.now) (end_tree e)) }
+    ensures passed { IfOk result (λ e.
+        ArePassed body_parts (count (end_tree end.now)) log.old log.new (end_tree end.now)
+        (end_tree e)) }
     ensures simple { IfOk result (λ e. IsSimpleBody (end_tree e)) }
 {
     match end {
@@ -162,7 +178,9 @@ fn simple_end(alloc: Global, end: &End, log: &mut Log) -> Result<End, NoMemory>
 #[cycle(simplifying)]
 #[tactic(auto, using(crate::proofs::PartSteps::arms_more, crate::proofs::PartSteps::arms_begun, crate::proofs::PartSteps::arms_ended, crate::proofs::SimpleBodies::arms_simple_more))]
 fn simple_arms(alloc: Global, arms: &[Body], log: &mut Log) -> Result<List<Body>, NoMemory>
-    ensures passed { IfOk result (λ bs. ArePassed arm_parts (arm_term_count (arm_trees arms.now)) log.old log.new (arm_trees arms.now) (arm_trees bs)) }
+    ensures passed { IfOk result (λ bs.
+        ArePassed arm_parts (arm_term_count (arm_trees arms.now)) log.old log.new
+        (arm_trees arms.now) (arm_trees bs)) }
     ensures simple { IfOk result (λ bs. AreSimpleArms (arm_trees bs)) }
 {
     let mut made = List::new(alloc);

@@ -50,11 +50,13 @@ pub fn header_fault(file: &[u8]) -> Option<ElfFault>
     None
 }
 
-/// The fault of the first of the headers of a table that doesn't lie in the file. Each takes `size` bytes.
+/// The fault of the first of the headers of a table that doesn't lie in the file. Each takes `size`
+/// bytes.
 pub fn first_cut(file: &[u8], table: u64, size: u64, count: u64) -> Option<ElfFault>
     requires some { 0 < size }
     requires long { size ≤ length file.now }
-    ensures { result ≡ first (map (λ i. cut_at file.now (table + size * i) size) (range_with_len 0 count)) }
+    ensures { result
+        ≡ first (map (λ i. cut_at file.now (table + size * i) size) (range_with_len 0 count)) }
 {
     let last = file.len() as u64 - size;
     for i in 0..count {
@@ -69,7 +71,8 @@ pub fn first_cut(file: &[u8], table: u64, size: u64, count: u64) -> Option<ElfFa
 /// The fault of the first program header that doesn't lie in the file.
 pub fn table_fault(file: &[u8]) -> Option<ElfFault>
     requires { 64 ≤ length file.now }
-    ensures { result ≡ first (map (cut_header file.now) (range_with_len 0 (header_count file.now))) }
+    ensures { result
+        ≡ first (map (cut_header file.now) (range_with_len 0 (header_count file.now))) }
 {
     let count = u64::from(half_at(file, E_PHNUM));
     first_cut(file, double_at(file, E_PHOFF), PROGRAM_HEADER_SIZE, count)

@@ -6,8 +6,8 @@ ghost use Rattle.elf_image.specs.declared.fault.ElfFault.TheVariants.{NoMemory a
 use rv_words::NoMemory;
 use thiserror::Error;
 
-/// Why a file is not read. Indices count all program headers from 0. Each variant but the last stands for
-/// a condition on the file, and the first condition that holds is the fault.
+/// Why a file is not read. Indices count all program headers from 0. Each variant but the last
+/// stands for a condition on the file, and the first condition that holds is the fault.
 #[derive(Clone, Copy, Debug, PartialEq, Eq, Error)]
 pub enum ElfFault {
     /// The first four bytes aren't those of an ELF file.
@@ -25,8 +25,8 @@ pub enum ElfFault {
     /// Its machine, which isn't RISC-V.
     #[error("machine {0}")]
     Machine(u64),
-    /// The offset at which a header, or what a header places, begins that doesn't lie in the file as a whole: 0 for the
-    /// file's own header, 2^64 - 1 for what begins beyond that.
+    /// The offset at which a header, or what a header places, begins that doesn't lie in the file
+    /// as a whole: 0 for the file's own header, 2^64 - 1 for what begins beyond that.
     #[error("cut {0}")]
     Cut(u64),
     /// The indices of two PT_LOADs that share an address.
@@ -38,7 +38,8 @@ pub enum ElfFault {
     /// The number of PT_LOADs.
     #[error("too-many {0}")]
     TooMany(u64),
-    /// The symbol table links to no section, or the name of a function begins or ends nowhere in its string table.
+    /// The symbol table links to no section, or the name of a function begins or ends nowhere in
+    /// its string table.
     #[error("symbols")]
     Symbols,
     /// The size of a program header, a section header or a symbol that the file gives.

@@ -7,7 +7,7 @@ use crate::numbers::{E_PHOFF, PROGRAM_HEADER_SIZE};
 use byteorder::{ByteOrder, LittleEndian};
 
 /// What is read of a program header, and its offset in the table.
-#[derive(Clone, Copy, Debug)]
+#[derive(Clone, Copy)]
 pub struct ProgramHeader {
     pub index: u64,
     pub kind: u32,

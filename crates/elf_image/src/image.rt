@@ -79,8 +79,8 @@ fn code_of_pieces(pieces: &[Piece], a: u64) -> Option<u8>
     None
 }
 
-/// What a file puts into memory: pieces in rising order of address, those of one address in table order. Beside them, the
-/// file's functions by name.
+/// What a file puts into memory: pieces in rising order of address, those of one address in table
+/// order. Beside them, the file's functions by name.
 #[derive(Debug, Drop)]
 pub struct Image {
     pieces: List<Piece>,
@@ -121,7 +121,8 @@ impl Image {
         self.pieces.as_slice()
     }
 
-    /// The file's byte at an address in a piece that may be executed. Zeros after the file's bytes are no code.
+    /// The file's byte at an address in a piece that may be executed. Zeros after the file's bytes
+    /// are no code.
     pub fn code_byte(&self, a: u64) -> Option<u8>
         ensures code { result ≡ code_in self.now.pieces a }
         ensures byte { IfSome result (λ b. bytes_in self.now.pieces a ≡ Some b) }
@@ -151,8 +152,8 @@ impl Image {
         )
     }
 
-    /// The value of the symbols of a name: of those of type STT_FUNC in a section. A name may have any bytes, and ends before
-    /// the first zero byte in the file.
+    /// The value of the symbols of a name: of those of type STT_FUNC in a section. A name may have
+    /// any bytes, and ends before the first zero byte in the file.
     pub fn symbol(&self, name: &[u8]) -> Result<u64, NameFault>
         ensures { result ≡ value_of_name name.now self.now.symbols }
     {

@@ -22,7 +22,8 @@ use std::alloc::Global;
 /// The program headers of type PT_LOAD, in table order.
 fn read_loads(alloc: Global, file: &[u8]) -> Result<Vec<ProgramHeader>, NoMemory>
     requires long { 64 ≤ length file.now }
-    requires whole { first (map (cut_header file.now) (range_with_len 0 (header_count file.now))) ≡ None }
+    requires whole { first (map (cut_header file.now) (range_with_len 0 (header_count file.now)))
+        ≡ None }
     ensures { IfOk result (λ headers. headers.items ≡ loads file.now) }
 {
     let mut headers = Vec::new(alloc);
@@ -77,7 +78,8 @@ fn read_pieces(
 ) -> Result<Vec<Piece>, NoMemory>
     requires each { first (map (load_fault file.now) headers.now) ≡ None }
     requires together { first_overlap headers.now ≡ None }
-    ensures pieces { IfOk result (λ pieces. pieces.items ≡ rising (map (piece_of file.now) headers.now)) }
+    ensures pieces { IfOk result (λ pieces.
+        pieces.items ≡ rising (map (piece_of file.now) headers.now)) }
     ensures placed { IfOk result (λ pieces. ArePlaced pieces.items) }
 {
     let mut pieces = Vec::with_capacity(alloc, headers.len())?;
@@ -126,13 +128,16 @@ fn read_symbols(alloc: Global, file: &[u8]) -> Result<Symbols, NoMemory>
     Ok(Symbols::of(strings, functions))
 }
 
-/// What a file (System V ABI, ELF-64 object files; RISC-V ELF psABI) puts into memory, and its function symbols, or why it is not read.
+/// What a file (System V ABI, ELF-64 object files; RISC-V ELF psABI) puts into memory, and its
+/// function symbols, or why it is not read.
 pub fn read(alloc: Global, file: &[u8]) -> Result<Image, ElfFault>
     ensures readable { OnOk result (IsReadable file.now) }
     ensures image { IfOk result (λ image. image ≡ image_of file.now) }
     ensures rising { IfOk result (λ image. IsRising image.pieces) }
-    ensures table_order { IfOk result (λ image. (a : ℕ) → pieces_at a image.pieces ≡ pieces_at a (pieces_of file.now)) }
-    ensures fault { IfErr result (λ fault. fault ≢ ElfFault.NoMemory → fault_of file.now ≡ Some fault) }
+    ensures table_order { IfOk result (λ image.
+        (a : ℕ) → pieces_at a image.pieces ≡ pieces_at a (pieces_of file.now)) }
+    ensures fault { IfErr result (λ fault.
+        fault ≢ ElfFault.NoMemory → fault_of file.now ≡ Some fault) }
 {
     if let Some(fault) = header_fault(file) {
         return Err(fault);

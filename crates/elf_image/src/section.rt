@@ -13,7 +13,7 @@ use crate::numbers::{
 };
 
 /// What is read of a section header.
-#[derive(Clone, Copy, Debug)]
+#[derive(Clone, Copy)]
 pub struct SectionHeader {
     pub kind: u32,
     pub offset: u64,
@@ -72,7 +72,8 @@ pub fn read_section(file: &[u8], index: u64) -> SectionHeader
 /// The first section of type SHT_SYMTAB.
 pub fn find_symbol_table(file: &[u8]) -> Option<SectionHeader>
     requires long { 64 ≤ length file.now }
-    requires whole { first (map (cut_section file.now) (range_with_len 0 (section_count file.now))) ≡ None }
+    requires whole { first (map (cut_section file.now) (range_with_len 0 (section_count file.now)))
+        ≡ None }
     ensures { result ≡ symbol_table file.now }
 {
     let count = count_sections(file);

@@ -32,7 +32,8 @@ pub fn section_fault(file: &[u8]) -> Option<ElfFault>
 /// The fault of the first section header that doesn't lie in the file.
 fn sections_fault(file: &[u8]) -> Option<ElfFault>
     requires { 64 ≤ length file.now }
-    ensures { result ≡ first (map (cut_section file.now) (range_with_len 0 (section_count file.now))) }
+    ensures { result
+        ≡ first (map (cut_section file.now) (range_with_len 0 (section_count file.now))) }
 {
     let table = double_at(file, E_SHOFF);
     first_cut(file, table, SECTION_HEADER_SIZE, count_sections(file))
@@ -41,7 +42,8 @@ fn sections_fault(file: &[u8]) -> Option<ElfFault>
 /// The first fault of a symbol table and of its string table.
 fn symbols_fault(file: &[u8], table: &SectionHeader) -> Option<ElfFault>
     requires long { 64 ≤ length file.now }
-    requires whole { first (map (cut_section file.now) (range_with_len 0 (section_count file.now))) ≡ None }
+    requires whole { first (map (cut_section file.now) (range_with_len 0 (section_count file.now)))
+        ≡ None }
     ensures { result ≡ first (symbol_faults file.now table.now) }
 {
     if table.entry_size != SYMBOL_SIZE {
@@ -79,7 +81,8 @@ fn bytes_fault(file: &[u8], section: &SectionHeader) -> Option<ElfFault>
 /// Whether the name of a function of a symbol table has no end in the string table.
 fn has_endless_name(file: &[u8], table: &SectionHeader, strings: &[u8]) -> bool
     requires { table.now.offset + table.now.size ≤ length file.now }
-    ensures { result ≡ list_any (λ e. not (is_ended strings.now e.name)) (functions file.now table.now) }
+    ensures { result
+        ≡ list_any (λ e. not (is_ended strings.now e.name)) (functions file.now table.now) }
 {
     let end = end_of_strings(strings);
     for i in 0..table.size / SYMBOL_SIZE {

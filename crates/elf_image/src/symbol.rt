@@ -61,7 +61,9 @@ impl Symbols {
 
 /// What is found with one value more.
 fn with_value(found: Result<u64, NameFault>, value: u64) -> Result<u64, NameFault>
-    ensures { (values : Items ℕ) → found ≡ one_of values → result ≡ one_of (insert_key nat_cmp values value) }
+    ensures { (values : Items ℕ)
+        → found ≡ one_of values
+        → result ≡ one_of (insert_key nat_cmp values value) }
 {
     match found {
         Ok(least) => {
@@ -76,7 +78,9 @@ fn with_value(found: Result<u64, NameFault>, value: u64) -> Result<u64, NameFaul
 
 /// What is found with one value more than those that have no one value.
 fn after_fault(fault: NameFault, value: u64) -> Result<u64, NameFault>
-    ensures { (values : Items ℕ) → Err fault ≡ one_of values → result ≡ one_of (insert_key nat_cmp values value) }
+    ensures { (values : Items ℕ)
+        → Err fault ≡ one_of values
+        → result ≡ one_of (insert_key nat_cmp values value) }
 {
     match fault {
         NameFault::NoSuch => Ok(value),

@@ -32,7 +32,7 @@ use Rattle.code_parts.specs.declared.part.Part.{Part}
 use Rattle.code_parts.specs.declared.part.Part.TheVariants.{Loop, Rest}
 use Rattle.code_parts.specs.Bodies.{Flow, part_def}
 use Rattle.code_parts.specs.Graph.{IsAlone, has_edge, IsEdge, IsPart, IsPlaced, IsGraph, StandsAt, IsCode}
-use Rattle.exactness.specs.Exact.{FirstReturns, Exact}
+use Rattle.claims.specs.Exact.{FirstReturns, Exact}
 use Rattle.exactness.specs.Parts.{HasParts, LeavesAs, Meets}
 use Rattle.exactness.proofs.Runs.{law-of-part, nothing-lost}
 

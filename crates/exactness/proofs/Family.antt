@@ -20,10 +20,10 @@ use Rattle.code_parts.specs.declared.part.Part.TheVariants.{Rest}
 use Rattle.code_parts.specs.Bodies.{Flow, VariableMap, action, part_def}
 use Rattle.code_parts.specs.declared.callee.Callee.{Callee}
 use Rattle.code_parts.specs.Graph.{IsPart}
-use Rattle.checker.specs.Headline.{Region, AreApart, is_within, held_in, Starts}
+use Rattle.claims.specs.Headline.{Region, AreApart, is_within, held_in, Starts}
 use Rattle.rv_machine.specs.Run.{IsAtReturn}
-use Rattle.exactness.specs.Exact.{Gives}
-use Rattle.exactness.specs.LinkExact.{IsAtCall, ExactIn, LinkExact, after_instruction}
+use Rattle.claims.specs.Exact.{Gives}
+use Rattle.claims.specs.LinkExact.{IsAtCall, ExactIn, LinkExact, after_instruction}
 use Rattle.exactness.proofs.GroupOfFunctions.{Function, IsOf, HasFunctions, HaveGraphs}
 use Rattle.instr_axioms.proofs.Effects.{cut}
 use Rattle.code_parts.proofs.Lists.{length-map}

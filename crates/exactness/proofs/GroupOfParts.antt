@@ -20,7 +20,7 @@ use Rattle.code_parts.proofs.FlowEntry.{last-is, whole-is}
 use Rattle.code_parts.proofs.FlowGraph.{is-graph}
 use Rattle.code_parts.proofs.FlowMade.{is-alone, is-made}
 use Rattle.code_parts.proofs.Lists.{slice-mapped}
-use Rattle.exactness.specs.Exact.{Exact}
+use Rattle.claims.specs.Exact.{Exact}
 use Rattle.exactness.specs.Parts.{HasParts}
 use Rattle.exactness.proofs.Runs.{nothing-lost}
 

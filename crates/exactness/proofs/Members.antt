@@ -19,7 +19,7 @@ use Rattle.code_parts.specs.declared.callee.Callee.{Callee}
 use Rattle.code_parts.specs.Flows.{place_in}
 use Rattle.code_parts.specs.Graph.{IsCode, IsGraph, IsPart}
 use Rattle.code_parts.specs.Members.{AreMembers, IsMember, Member, callee_at, flow_at}
-use Rattle.exactness.specs.LinkExact.{ExactIn, LinkExact}
+use Rattle.claims.specs.LinkExact.{ExactIn, LinkExact}
 use Rattle.exactness.proofs.GroupOfFunctions.{Function, HasFunctions, HaveGraphs, IsOf}
 use Rattle.code_parts.proofs.FlowCode.{is-code, stands}
 use Rattle.code_parts.proofs.FlowEntry.{last-is, whole-is}

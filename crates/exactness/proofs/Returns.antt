@@ -11,9 +11,9 @@ use Rattle.rv_machine.specs.Touches.{IsTouched, touches}
 use Rattle.rv_machine.specs.Update.{reg_after}
 use Rattle.rv_machine.proofs.StepLemmas.{step-act, act-some, step-untouched, step-present}
 use Rattle.rv_decode.specs.Registers.{destination}
-use Rattle.checker.specs.Headline.{Region, is_within}
-use Rattle.exactness.specs.LinkExact.{IsAtCall, StaysIn, FirstReturnsIn, after_instruction}
-use Rattle.exactness.specs.LinkExact as exact
+use Rattle.claims.specs.Headline.{Region, is_within}
+use Rattle.claims.specs.LinkExact.{IsAtCall, StaysIn, FirstReturnsIn, after_instruction}
+use Rattle.claims.specs.LinkExact as exact
 
 -- one step, which stays in the region of its memory
 abbrev pub Steps : (ℕ → ℕ → Type 0) → List Region → State → State → Type 0

@@ -20,9 +20,9 @@ use Rattle.code_parts.specs.Bodies.{Flow, VariableMap, Action, Straight, Fork, R
 use Rattle.code_parts.specs.declared.callee.Callee.{Callee}
 use Rattle.code_parts.specs.Bodies as bodies
 use Rattle.code_parts.specs.Graph.{IsAlone, IsPart, IsGraph, IsCode}
-use Rattle.checker.specs.Headline.{AreApart, Region, is_within, held_in, Ends}
-use Rattle.exactness.specs.Exact.{FirstReturns, Gives, Exact}
-use Rattle.exactness.specs.LinkExact.{FirstReturnsIn, after_instruction}
+use Rattle.claims.specs.Headline.{AreApart, Region, is_within, held_in, Ends}
+use Rattle.claims.specs.Exact.{FirstReturns, Gives, Exact}
+use Rattle.claims.specs.LinkExact.{FirstReturnsIn, after_instruction}
 use Rattle.exactness.specs.Parts.{HasParts, HoldsCode, LeavesAs, Meets, turns_at, turns_for, LawOfPart}
 use Rattle.exactness.proofs.Returns.{Steps, Comes, comes-plain, IsKept, kept-here}
 use Rattle.exactness.proofs.StateVariables.{Stands}

@@ -22,7 +22,7 @@ use Rattle.triple_kernel.specs.declared.form.Form.TheVariants.{Next, Taken}
 use Rattle.rv_decode.specs.Registers.{sources, destination}
 use Rattle.rvc.specs.Number.{length_of}
 use Rattle.instr_axioms.specs.Terms.{has_memory, word_in, result, memory_after, has_form}
-use Rattle.checker.specs.Headline.{Region, AreApart}
+use Rattle.claims.specs.Headline.{Region, AreApart}
 use Rattle.std.specs.Prelude.{AllPairs, IsSomeAnd, slice_get}
 use Rattle.std.specs.List.{range_with_len}
 use Rattle.instr_axioms.specs.Effects.{Fits, IsTouchedIn, IsAfter}

@@ -28,8 +28,8 @@ use Rattle.code_parts.specs.declared.part.Part.{Part}
 use Rattle.code_parts.specs.declared.part.Part.TheVariants.{Loop, Rest}
 use Rattle.code_parts.specs.Bodies.{Flow, part_def}
 use Rattle.code_parts.specs.Graph.{IsAlone, has_edge, IsEdge, IsPart, IsPlaced, IsGraph, StandsAt, IsCode}
-use Rattle.checker.specs.Headline.{Region, is_within}
-use Rattle.exactness.specs.Exact.{FirstReturns, Exact}
+use Rattle.claims.specs.Headline.{Region, is_within}
+use Rattle.claims.specs.Exact.{FirstReturns, Exact}
 use Rattle.exactness.specs.Parts.{HasParts}
 use Rattle.exactness.proofs.Examples.{some_in, or_none, no_cut}
 use Rattle.exactness.proofs.Runs.{nothing-lost}

@@ -27,10 +27,10 @@ use Rattle.instr_axioms.proofs.Memories.{has-number}
 use Rattle.instr_axioms.proofs.Valid.{StandsIn}
 use Rattle.code_parts.specs.Bodies.{Flow, VariableMap, size, Action, Straight, names, place_after, needs, writes, action_of, action_calling, action}
 use Rattle.code_parts.specs.declared.callee.Callee.{Callee}
-use Rattle.checker.specs.Headline.{Region, AreApart, is_within, held_in}
-use Rattle.checker.specs.Headline as headline
+use Rattle.claims.specs.Headline.{Region, AreApart, is_within, held_in}
+use Rattle.claims.specs.Headline as headline
 use Rattle.rv_machine.specs.Run.{IsAtReturn}
-use Rattle.exactness.specs.LinkExact.{IsAtCall, after_instruction}
+use Rattle.claims.specs.LinkExact.{IsAtCall, after_instruction}
 use Rattle.exactness.proofs.Returns.{Steps, IsKept, kept-step, in-one}
 use Rattle.exactness.proofs.StateVariables.{Stands}
 use Rattle.exactness.proofs.BodyLemmas.{AllHold, after_steps, needs-hold, needs-after}

@@ -12,8 +12,8 @@ use Rattle.code_parts.specs.declared.part.Part.{Part}
 use Rattle.code_parts.specs.declared.part.Part.TheVariants.{Loop, Rest}
 use Rattle.code_parts.specs.Bodies.{Flow, first, part_def}
 use Rattle.code_parts.specs.Graph.{IsPart}
-use Rattle.checker.specs.Headline.{Region, is_within, held_in, Ends}
-use Rattle.exactness.specs.Exact.{FirstReturns}
+use Rattle.claims.specs.Headline.{Region, is_within, held_in, Ends}
+use Rattle.claims.specs.Exact.{FirstReturns}
 
 -- the group has a definition for each part, the last one for the rest of the whole function from its entry on
 pub record HasParts (f : Flow) (entry : ℕ) (g : GroupTree) : Type 0 where

@@ -1,5 +1,5 @@
-//! Laws of runs through a group that is made of a graph's parts. These functions do nothing: their contracts are the laws. Each speaks
-//! of the definitions alone.
+//! Laws of runs through a group that is made of a graph's parts. These functions do nothing: their
+//! contracts are the laws. Each speaks of the definitions alone.
 
 ghost use Rattle.std.specs.Prelude.{ℕ, ◌∷◌, [], List, false, true};
 ghost use Rattle.rv_words.specs.Bytes.{AreBytes};
@@ -16,36 +16,61 @@ ghost use Rattle.code_parts.specs.Graph.{IsAlone, IsCode, IsGraph, IsPart};
 ghost use Rattle.code_parts.specs.Flows.{HaveCode, alone, flow_of, group_of};
 ghost use Rattle.code_parts.specs.Members.{AreMembers, Member};
 ghost use Rattle.code_parts.specs.Order.{AreParts};
-ghost use Rattle.exactness.specs.Exact.{Exact};
-ghost use Rattle.exactness.specs.LinkExact.{ExactIn, LinkExact};
+ghost use Rattle.claims.specs.Exact.{Exact};
+ghost use Rattle.claims.specs.LinkExact.{ExactIn, LinkExact};
 ghost use Rattle.exactness.specs.Functions.{UsedBy};
 ghost use Rattle.exactness.specs.Parts.{HasParts, LawOfPart};
 
-/// Of a function alone: a run from the entry of a part that returns is an evaluation of its definition, up to where the run leaves the part.
+/// Of a function alone: a run from the entry of a part that returns is an evaluation of its
+/// definition, up to where the run leaves the part.
 pub fn law_of_parts()
-    ensures { (f : Flow) (g : GroupTree) (entry : ℕ) → IsGraph f → IsCode f g.code → IsAlone f → HasParts f entry g
-        → (p : ThePart) → IsPart f p → LawOfPart f g p }
+    ensures { (f : Flow) (g : GroupTree) (entry : ℕ)
+        → IsGraph f
+        → IsCode f g.code
+        → IsAlone f
+        → HasParts f entry g
+        → (p : ThePart)
+        → IsPart f p
+        → LawOfPart f g p }
 {}
 
 /// Nothing is lost of a function: a run from its entry that returns is an evaluation.
 pub fn law_of_returns()
-    ensures { (file : List ℕ) (g : GroupTree) (f : Flow) (entry : ℕ) → IsGraph f → IsCode f g.code → IsAlone f → HasParts f entry g
-        → IsWithin (range_bytes g.code) (code_of_file file) → Exact file g }
+    ensures { (file : List ℕ) (g : GroupTree) (f : Flow) (entry : ℕ)
+        → IsGraph f
+        → IsCode f g.code
+        → IsAlone f
+        → HasParts f entry g
+        → IsWithin (range_bytes g.code) (code_of_file file)
+        → Exact file g }
 {}
 
-/// So nothing is lost of the group that is made of a function's code, its loops and its parts in their order.
+/// So nothing is lost of the group that is made of a function's code, its loops and its parts in
+/// their order.
 pub fn law_of_functions()
-    ensures { (file : List ℕ) (e : ℕ) (g : GraphOf) (f : ForestOf) (parts : List ThePart) (name : List ℕ) (ranges : List TheRange)
-        → IsGraphOf false (code_of_file file) e g → IsForestOf g f → AreBytes (code_of_file file) → HaveCode g (code_of_file file) ranges
-        → AreParts (flow_of g f (alone g parts)) (number_of f) parts → IsWithin (range_bytes ranges) (code_of_file file)
+    ensures { (file : List ℕ) (e : ℕ) (g : GraphOf) (f : ForestOf) (parts : List ThePart)
+        (name : List ℕ) (ranges : List TheRange)
+        → IsGraphOf false (code_of_file file) e g
+        → IsForestOf g f
+        → AreBytes (code_of_file file)
+        → HaveCode g (code_of_file file) ranges
+        → AreParts (flow_of g f (alone g parts)) (number_of f) parts
+        → IsWithin (range_bytes ranges) (code_of_file file)
         → Exact file (group_of (flow_of g f (alone g parts)) name ranges parts) }
 {}
 
-/// Nothing is lost of functions that call each other, of any number of memories: a run from the entry of the main one is an evaluation,
-/// the runs of what it calls included. Nor is anything lost of one of them by itself.
+/// Nothing is lost of functions that call each other, of any number of memories: a run from the
+/// entry of the main one is an evaluation, the runs of what it calls included. Nor is anything lost
+/// of one of them by itself.
 pub fn law_of_links()
-    ensures linked { (file : List ℕ) (ms : List Member) (main : Member) (g : GroupTree) → AreBytes (code_of_file file)
-        → AreMembers true (code_of_file file) ms main g → IsWithin (range_bytes g.code) (code_of_file file) → LinkExact (UsedBy ms) file g }
-    ensures by_itself { (file : List ℕ) (m : Member) (g : GroupTree) → AreBytes (code_of_file file)
-        → AreMembers false (code_of_file file) (m ∷ []) m g → IsWithin (range_bytes g.code) (code_of_file file) → ExactIn (UsedBy (m ∷ [])) file g }
+    ensures linked { (file : List ℕ) (ms : List Member) (main : Member) (g : GroupTree)
+        → AreBytes (code_of_file file)
+        → AreMembers true (code_of_file file) ms main g
+        → IsWithin (range_bytes g.code) (code_of_file file)
+        → LinkExact (UsedBy ms) file g }
+    ensures by_itself { (file : List ℕ) (m : Member) (g : GroupTree)
+        → AreBytes (code_of_file file)
+        → AreMembers false (code_of_file file) (m ∷ []) m g
+        → IsWithin (range_bytes g.code) (code_of_file file)
+        → ExactIn (UsedBy (m ∷ [])) file g }
 {}

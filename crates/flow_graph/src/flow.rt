@@ -1,5 +1,5 @@
-//! The instruction at an address, and where it leads: in a function alone, where a call is a fault, or in one of several linked functions, which call each other
-//! by x1 and come back.
+//! The instruction at an address, and where it leads: in a function alone, where a call is a fault,
+//! or in one of several linked functions, which call each other by x1 and come back.
 
 ghost use Rattle.std.specs.Prelude.{◌≡◌, ◌+◌, ◌<◌, ◌^◌, Some, None, if◌then◌else◌};
 ghost use Rattle.rv_words.specs.Bytes.{away, inside, load};
@@ -14,7 +14,7 @@ use rv_decode::Instr;
 use rvc::{instruction_of, is_word, length_of};
 
 /// Where an instruction leads.
-#[derive(Clone, Copy, Debug)]
+#[derive(Clone, Copy)]
 pub enum Targets {
     Nowhere,
     One(u64),
@@ -117,7 +117,9 @@ pub fn number_at(image: &Image, a: u64) -> Option<u32>
 /// The number of the two code bytes from an address on, the low one first.
 fn parcel_at(image: &Image, a: u64) -> Option<u32>
     requires { a + 1 < 2 ^ 64 }
-    ensures { result ≡ if inside 2 (code_in image.now.pieces) a then Some (load 2 (code_in image.now.pieces) a) else None }
+    ensures { result
+        ≡ if inside 2 (code_in image.now.pieces) a then Some (load 2 (code_in image.now.pieces) a)
+        else None }
 {
     let low = image.code_byte(a)?;
     let high = image.code_byte(a + 1)?;
@@ -134,7 +136,8 @@ pub fn length_at(image: &Image, a: u64) -> u8
     }
 }
 
-/// The instruction at an address, or the address's fault. A call by x1 is one where functions are linked, else a fault.
+/// The instruction at an address, or the address's fault. A call by x1 is one where functions are
+/// linked, else a fault.
 #[tactic(auto, unfolding(crate::specs::Flow::look))]
 pub fn look(linked: bool, image: &Image, a: u64) -> Result<Instr, Outside>
     ensures { result ≡ spec.look linked (code_in image.now.pieces) a }

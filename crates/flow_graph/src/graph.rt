@@ -22,7 +22,8 @@ use rvc::length_of;
 use std::alloc::Global;
 use std::marker::Model;
 
-/// The instructions that are reached from an entry, as nodes that rise by address, and the edges between them.
+/// The instructions that are reached from an entry, as nodes that rise by address, and the edges
+/// between them.
 #[derive(Drop)]
 pub struct Graph {
     entry: u32,
@@ -95,7 +96,8 @@ impl Graph {
 
     /// The node at an address.
     pub fn node(&self, a: u64) -> Option<u32>
-        ensures some { IfSome result (λ n. (n < length self.now.addrs) × (slice_index self.now.addrs n ≡ a)) }
+        ensures some { IfSome result (λ n.
+            (n < length self.now.addrs) × (slice_index self.now.addrs n ≡ a)) }
         ensures none { IfNone result (Contains self.now.addrs a → ⊥) }
     {
         match self.nodes.place(a) {
@@ -128,7 +130,8 @@ fn instructions(
     image: &Image,
     nodes: &Visited,
 ) -> Result<Vec<Instr>, FlowFault>
-    ensures ok { IfOk result (λ is. map (λ i. Fine i) is.items ≡ map (spec.look linked (code_in image.now.pieces)) nodes.now) }
+    ensures ok { IfOk result (λ is.
+        map (λ i. Fine i) is.items ≡ map (spec.look linked (code_in image.now.pieces)) nodes.now) }
     ensures err { IfErr result (HasFault linked (code_in image.now.pieces) nodes.now) }
 {
     let mut instrs = Vec::new(alloc);
@@ -149,8 +152,10 @@ fn instructions(
 
 /// The parcels and words at these addresses.
 fn numbers(alloc: Global, image: &Image, nodes: &Visited) -> Result<Vec<u32>, NoMemory>
-    requires { (linked : Bool) × (is : List TheInstr) × (map (λ i. Fine i) is ≡ map (spec.look linked (code_in image.now.pieces)) nodes.now) }
-    ensures { IfOk result (λ ws. map (λ w. Some w) ws.items ≡ map (number_in (code_in image.now.pieces)) nodes.now) }
+    requires { (linked : Bool) × (is : List TheInstr)
+        × (map (λ i. Fine i) is ≡ map (spec.look linked (code_in image.now.pieces)) nodes.now) }
+    ensures { IfOk result (λ ws.
+        map (λ w. Some w) ws.items ≡ map (number_in (code_in image.now.pieces)) nodes.now) }
 {
     let mut numbers = Vec::new(alloc);
     let mut i = 0;
@@ -168,7 +173,8 @@ fn add_edges(links: &mut Links, nodes: &Visited, n: u32, targets: Targets) -> Re
     requires few { length nodes.now ≤ 1024 }
     requires room { length links.old.1 < 2 ^ 20 }
     requires closed { (b : ℕ) → Contains (targets_of targets) b → Contains nodes.now b }
-    ensures edges { OnOk result (links.new ≡ (links.old.0, map (edge_to nodes.now n) (targets_of targets) ++ links.old.1)) }
+    ensures edges { OnOk result (links.new
+        ≡ (links.old.0, map (edge_to nodes.now n) (targets_of targets) ++ links.old.1)) }
     ensures grown { OnOk result (length links.new.1 ≤ length links.old.1 + 2) }
 {
     match targets {
@@ -195,8 +201,12 @@ fn links_between(
     instrs: &[Instr],
 ) -> Result<Links, NoMemory>
     requires few { length nodes.now ≤ 1024 }
-    requires of { (linked : Bool) × (code : Bytes) × AreOf linked code nodes.now numbers.now instrs.now }
-    ensures { (linked : Bool) (code : Bytes) → AreOf linked code nodes.now numbers.now instrs.now → IfOk result (λ l. l ≡ (length nodes.now, edges_from (spec.next linked code) nodes.now 0 nodes.now)) }
+    requires of { (linked : Bool) × (code : Bytes)
+        × AreOf linked code nodes.now numbers.now instrs.now }
+    ensures { (linked : Bool) (code : Bytes)
+        → AreOf linked code nodes.now numbers.now instrs.now
+        → IfOk result (λ l.
+        l ≡ (length nodes.now, edges_from (spec.next linked code) nodes.now 0 nodes.now)) }
 {
     let mut u = nodes.len();
     let mut links = Links::new(alloc, u)?;
@@ -220,7 +230,8 @@ pub fn build(alloc: Global, image: &Image, entry: u64) -> Result<Graph, FlowFaul
     graph_from(alloc, false, image, entry)
 }
 
-/// The graph of one of several linked functions, which call each other by x1 and come back, or the first fault of its code.
+/// The graph of one of several linked functions, which call each other by x1 and come back, or the
+/// first fault of its code.
 pub fn build_linked(alloc: Global, image: &Image, entry: u64) -> Result<Graph, FlowFault>
     ensures ok { IfOk result (IsGraphOf true (code_in image.now.pieces) entry) }
     ensures err { IfErr result (IsRefused true (code_in image.now.pieces) entry) }
@@ -228,7 +239,8 @@ pub fn build_linked(alloc: Global, image: &Image, entry: u64) -> Result<Graph, F
     graph_from(alloc, true, image, entry)
 }
 
-/// The graph of the code that is reached from an entry, of one function or of linked ones, or the first fault of that code.
+/// The graph of the code that is reached from an entry, of one function or of linked ones, or the
+/// first fault of that code.
 fn graph_from(alloc: Global, linked: bool, image: &Image, entry: u64) -> Result<Graph, FlowFault>
     ensures ok { IfOk result (IsGraphOf linked (code_in image.now.pieces) entry) }
     ensures err { IfErr result (IsRefused linked (code_in image.now.pieces) entry) }

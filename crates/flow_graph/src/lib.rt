@@ -1,4 +1,5 @@
-//! Reached code: the instructions that are reached from an entry, and where they lead, in a function alone or in one of several linked functions.
+//! Reached code: the instructions that are reached from an entry, and where they lead, in a
+//! function alone or in one of several linked functions.
 #![tactic(auto)]
 
 mod flow;

@@ -6,7 +6,8 @@ use rv_words::NoMemory;
 use std::alloc::Global;
 use std::marker::Model;
 
-/// Which of its two lists an edge is followed in: that of the edges from its node, or that of the edges to it.
+/// Which of its two lists an edge is followed in: that of the edges from its node, or that of the
+/// edges to it.
 #[derive(Clone, Copy, Drop)]
 pub enum Side {
     Out,

@@ -25,7 +25,8 @@ pub enum Outside {
     JumpThrough(u64),
     /// An odd address, twice.
     Misaligned(u64, u64),
-    /// A cycle, and two walks from the entry that meet it at their last addresses alone, which differ.
+    /// A cycle, and two walks from the entry that meet it at their last addresses alone, which
+    /// differ.
     TwoEntries {
         cycle: List<u64>,
         first: List<u64>,

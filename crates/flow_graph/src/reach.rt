@@ -42,17 +42,19 @@ fn note_targets(seen: &mut Visited, targets: Targets) -> Result<(), NoMemory>
     Ok(())
 }
 
-/// The addresses that are reached from the entry, or `None` where there are more than 1,024. Those with a fault are among them.
-/// Where functions are linked, a call comes back.
+/// The addresses that are reached from the entry, or `None` where there are more than 1,024. Those
+/// with a fault are among them. Where functions are linked, a call comes back.
 pub fn reached(
     alloc: Global,
     linked: bool,
     image: &Image,
     entry: u64,
 ) -> Result<Option<Visited>, NoMemory>
-    ensures reach { IfOk result (λ o. IfSome o (IsReach (Next linked (code_in image.now.pieces)) entry)) }
+    ensures reach { IfOk result (λ o.
+        IfSome o (IsReach (Next linked (code_in image.now.pieces)) entry)) }
     ensures few { IfOk result (λ o. IfSome o (λ v. length v ≤ REACH_LIMIT)) }
-    ensures large { IfOk result (λ o. IfNone o (ReachesOver (Next linked (code_in image.now.pieces)) entry REACH_LIMIT)) }
+    ensures large { IfOk result (λ o.
+        IfNone o (ReachesOver (Next linked (code_in image.now.pieces)) entry REACH_LIMIT)) }
 {
     let mut seen = Visited::new(alloc);
     note_targets(&mut seen, Targets::One(entry))?;

@@ -49,7 +49,10 @@ impl Visited {
     pub fn len(&self) -> usize
         ensures len { result ≡ length self.now }
         ensures few { (n : ℕ) → All (λ x. x < n) self.now → length self.now ≤ n }
-        ensures different { (j k : ℕ) → j < k → k < length self.now → slice_index self.now j ≢ slice_index self.now k }
+        ensures different { (j k : ℕ)
+            → j < k
+            → k < length self.now
+            → slice_index self.now j ≢ slice_index self.now k }
     {
         self.set.len()
     }

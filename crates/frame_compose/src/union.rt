@@ -10,13 +10,18 @@ use word_terms::Code;
 
 /// Whether two codes agree and a third is their union.
 pub fn is_union(a: &Code, b: &Code, all: &Code) -> bool
-    ensures { IsTrue result ↔ (Agree (range_bytes a.now.ranges) (range_bytes b.now.ranges) × (over (range_bytes a.now.ranges) (range_bytes b.now.ranges) ≡ range_bytes all.now.ranges)) }
+    ensures { IsTrue result
+        ↔ (Agree (range_bytes a.now.ranges) (range_bytes b.now.ranges)
+        × (over (range_bytes a.now.ranges) (range_bytes b.now.ranges)
+        ≡ range_bytes all.now.ranges)) }
 {
     are_within(a, b, all) && is_covered(all, a, b)
 }
 
 fn are_within(a: &Code, b: &Code, all: &Code) -> bool
-    ensures { IsTrue result ↔ (IsWithin (range_bytes a.now.ranges) (range_bytes all.now.ranges) × IsWithin (range_bytes b.now.ranges) (range_bytes all.now.ranges)) }
+    ensures { IsTrue result
+        ↔ (IsWithin (range_bytes a.now.ranges) (range_bytes all.now.ranges)
+        × IsWithin (range_bytes b.now.ranges) (range_bytes all.now.ranges)) }
 {
     code_within(a, all) && code_within(b, all)
 }
@@ -25,7 +30,9 @@ fn are_within(a: &Code, b: &Code, all: &Code) -> bool
 #[tactic(auto, using(crate::proofs::UnionLemmas::covered_by_first, crate::proofs::UnionLemmas::covered_by_second))]
 fn is_covered(all: &Code, a: &Code, b: &Code) -> bool
     requires first { IsWithin (range_bytes a.now.ranges) (range_bytes all.now.ranges) }
-    ensures { IsTrue result ↔ IsWithin (range_bytes all.now.ranges) (over (range_bytes a.now.ranges) (range_bytes b.now.ranges)) }
+    ensures { IsTrue result
+        ↔ IsWithin (range_bytes all.now.ranges)
+        (over (range_bytes a.now.ranges) (range_bytes b.now.ranges)) }
 {
     same_code(all, a) || same_code(all, b) || code_within_either(all, a, b)
 }

@@ -1,4 +1,5 @@
-//! Laws of the texts of certificates. These functions do nothing but read numbers: their contracts are the laws.
+//! Laws of the texts of certificates. These functions do nothing but read numbers: their contracts
+//! are the laws.
 
 ghost use Rattle.std.specs.Prelude.{◌≡◌, ◌<◌, ◌^◌, ℕ, List};
 ghost use Rattle.mc_text.specs.Fault.{IsBadAt};
@@ -14,9 +15,13 @@ ghost use Rattle.fun_laws.specs.inner.Numbers.{HaveNumbers};
 use def_laws::Cert;
 use term_laws::Rw;
 
-/// A certificate that is accepted of a group that has a text in some version has one too: no law makes a term deeper.
+/// A certificate that is accepted of a group that has a text in some version has one too: no law
+/// makes a term deeper.
 pub fn law_of_limits(c: &Cert)
-    ensures { (k : Known) (g : GroupTree) → IsGroupIn (version_of k) g → IsCertOf g c.now → IsCert (cert_tree c.now) }
+    ensures { (k : Known) (g : GroupTree)
+        → IsGroupIn (version_of k) g
+        → IsCertOf g c.now
+        → IsCert (cert_tree c.now) }
 {
     have_numbers(c.steps.as_slice());
 }
@@ -24,7 +29,10 @@ pub fn law_of_limits(c: &Cert)
 /// A text is that of one certificate, and is none from one line on.
 pub fn law_of_cert_texts()
     ensures once { (c d : CertTree) → IsCert c → IsCert d → cert_text c ≡ cert_text d → c ≡ d }
-    ensures faults { (text : List ℕ) (m n : ℕ) → IsBadAt cert_texts text m → IsBadAt cert_texts text n → m ≡ n }
+    ensures faults { (text : List ℕ) (m n : ℕ)
+        → IsBadAt cert_texts text m
+        → IsBadAt cert_texts text n
+        → m ≡ n }
 {}
 
 fn have_numbers(steps: &[Rw])

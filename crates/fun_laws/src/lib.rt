@@ -1,4 +1,5 @@
-//! Certificates that a function was rewritten by laws of words and conditions: their text, their judge, and a maker.
+//! Certificates that a function was rewritten by laws of words and conditions: their text, their
+//! judge, and a maker.
 #![tactic(auto)]
 
 mod laws;

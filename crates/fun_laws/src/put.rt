@@ -61,7 +61,8 @@ fn put_title(pen: &mut Pen<'_>) -> Result<(), NoMemory>
 
 fn put_steps(alloc: Global, pen: &mut Pen<'_>, steps: &[Rw]) -> Result<(), NoMemory>
     requires { AllByRecursion IsCertStep steps.now }
-    ensures ok { OnOk result (page pen.new ≡ print (flat_map cert_step_tokens steps.now) (page pen.old)) }
+    ensures ok { OnOk result (page pen.new
+        ≡ print (flat_map cert_step_tokens steps.now) (page pen.old)) }
     ensures kept { Keeps (page pen.old) (page pen.new) }
 {
     for step in steps {

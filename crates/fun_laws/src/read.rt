@@ -12,8 +12,8 @@ use def_laws::Cert;
 use group_text::{ReadError, Rows, TextFault, TextRows, Version, is_end, whole_lines};
 use std::alloc::Global;
 
-/// The certificate of that text: of a group with one memory at most, or else of one with two. A text that is neither is told at the
-/// line up to which it could have been one of them.
+/// The certificate of that text: of a group with one memory at most, or else of one with two. A
+/// text that is neither is told at the line up to which it could have been one of them.
 pub fn read_cert(alloc: Global, text: &[u8]) -> Result<Cert, TextFault>
     ensures fits { IfOk result (λ c. IsCert (cert_tree c)) }
     ensures text { IfOk result (λ c. text.now ≡ cert_text (cert_tree c)) }
@@ -26,7 +26,8 @@ pub fn read_cert(alloc: Global, text: &[u8]) -> Result<Cert, TextFault>
     }
 }
 
-/// The certificate of that text, which is none of a group with one memory at most, from this line on.
+/// The certificate of that text, which is none of a group with one memory at most, from this line
+/// on.
 fn read_second(alloc: Global, text: &[u8], line: u64) -> Result<Cert, TextFault>
     requires { IsBadAt (cert_texts_in (version_of Version.One)) text.now line }
     ensures fits { IfOk result (λ c. IsCert (cert_tree c)) }

@@ -25,7 +25,8 @@ fn read_steps<E, R: Rows<E>>(
     rows: &mut R,
     from: &mut E,
 ) -> Result<List<Rw>, ReadError>
-    ensures { RowsGive (λ steps. steps) result (R.May rows.old from.old) (R.May rows.new from.new) (star is_step step_at) }
+    ensures { RowsGive (λ steps. steps) result (R.May rows.old from.old) (R.May rows.new from.new)
+        (star is_step step_at) }
 {
     let mut steps = List::new(alloc);
     'steps: while row_begins(alloc, rows, from, &StepRow)? {
@@ -43,7 +44,8 @@ fn read_defs_to_end<E, R: Rows<E>>(
     rows: &mut R,
     from: &mut E,
 ) -> Result<List<Def>, ReadError>
-    ensures { RowsGive defs_view result (R.May rows.old from.old) (R.May rows.new from.new) defs_to_end }
+    ensures { RowsGive defs_view result (R.May rows.old from.old) (R.May rows.new from.new)
+        defs_to_end }
 {
     let defs = read_defs(alloc, rows, from)?;
     next_row(alloc, rows, from, &MarkRow(b"end"))?;
@@ -56,7 +58,8 @@ fn read_result<E, R: Rows<E>>(
     rows: &mut R,
     from: &mut E,
 ) -> Result<List<Def>, ReadError>
-    ensures { RowsGive (λ defs. map def_tree defs) result (R.May rows.old from.old) (R.May rows.new from.new) result_at }
+    ensures { RowsGive (λ defs. map def_tree defs) result (R.May rows.old from.old)
+        (R.May rows.new from.new) result_at }
 {
     next_row(alloc, rows, from, &MarkRow(b"result"))?;
     let defs = read_defs_to_end(alloc, rows, from)?;
@@ -69,7 +72,8 @@ fn read_behind_old<E, R: Rows<E>>(
     rows: &mut R,
     from: &mut E,
 ) -> Result<(List<Rw>, List<Def>), ReadError>
-    ensures { RowsGive rest_view result (R.May rows.old from.old) (R.May rows.new from.new) behind_old }
+    ensures { RowsGive rest_view result (R.May rows.old from.old) (R.May rows.new from.new)
+        behind_old }
 {
     let steps = read_steps(alloc, rows, from)?;
     let result = read_result(alloc, rows, from)?;
@@ -82,7 +86,8 @@ fn read_behind_head<E, R: Rows<E>>(
     rows: &mut R,
     from: &mut E,
 ) -> Result<(List<Def>, (List<Rw>, List<Def>)), ReadError>
-    ensures { RowsGive behind_view result (R.May rows.old from.old) (R.May rows.new from.new) behind_head }
+    ensures { RowsGive behind_view result (R.May rows.old from.old) (R.May rows.new from.new)
+        behind_head }
 {
     let defs = read_defs(alloc, rows, from)?;
     let rest = read_behind_old(alloc, rows, from)?;
@@ -97,7 +102,8 @@ fn read_behind_name<E, R: Rows<E>>(
     version: Version,
     name: Text,
 ) -> Result<Cert, ReadError>
-    ensures { RowsGive cert_tree result (R.May rows.old from.old) (R.May rows.new from.new) (behind_name (version_of version) (name_view name)) }
+    ensures { RowsGive cert_tree result (R.May rows.old from.old) (R.May rows.new from.new)
+        (behind_name (version_of version) (name_view name)) }
 {
     let Head {
         name,
@@ -123,7 +129,8 @@ fn read_behind_title<E, R: Rows<E>>(
     from: &mut E,
     version: Version,
 ) -> Result<Cert, ReadError>
-    ensures { RowsGive cert_tree result (R.May rows.old from.old) (R.May rows.new from.new) (behind_title (version_of version)) }
+    ensures { RowsGive cert_tree result (R.May rows.old from.old) (R.May rows.new from.new)
+        (behind_title (version_of version)) }
 {
     let name = next_row(alloc, rows, from, &NameRow)?;
     let cert = read_behind_name(alloc, rows, from, version, name)?;
@@ -137,7 +144,8 @@ pub fn read_rows<E, R: Rows<E>>(
     from: &mut E,
     version: Version,
 ) -> Result<Cert, ReadError>
-    ensures { RowsGive cert_tree result (R.May rows.old from.old) (R.May rows.new from.new) (cert_at (version_of version)) }
+    ensures { RowsGive cert_tree result (R.May rows.old from.old) (R.May rows.new from.new)
+        (cert_at (version_of version)) }
 {
     next_row(alloc, rows, from, &TitleRow)?;
     let cert = read_behind_title(alloc, rows, from, version)?;

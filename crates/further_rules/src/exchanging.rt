@@ -1,4 +1,5 @@
-//! The rule on the order of two memories. It compares the stated triple with its premise in place, and takes no memory.
+//! The rule on the order of two memories. It compares the stated triple with its premise in place,
+//! and takes no memory.
 
 ghost use Rattle.std.specs.Prelude.{◌≡◌, ◌↔◌, IsTrue, IsOk, IfOk, map};
 ghost use Rattle.word_terms.specs.Tree.{mem_tree};

@@ -1,4 +1,5 @@
-//! The laws of the rules. These functions do nothing: their contracts are the laws, which speak of the definitions alone.
+//! The laws of the rules. These functions do nothing: their contracts are the laws, which speak of
+//! the definitions alone.
 
 ghost use Rattle.tailrec_lang.specs.Tree.{GroupTree};
 ghost use Rattle.triple_kernel.specs.Tree.{TripleTree};

@@ -1,4 +1,5 @@
-//! The rule on where a triple leads. It compares the stated triple with its premise in place, and takes no memory.
+//! The rule on where a triple leads. It compares the stated triple with its premise in place, and
+//! takes no memory.
 
 ghost use Rattle.std.specs.Prelude.{◌≡◌, ◌↔◌, IsTrue, IsOk, IfOk, map};
 ghost use Rattle.std.specs.List.{Contains};
@@ -38,7 +39,8 @@ fn is_steered(p: &Triple, stated: &Triple) -> bool
 /// Whether one of the facts is that the two words are equal, in that order.
 #[tactic(auto, using(triple_kernel::proofs::Among::is_among, triple_kernel::proofs::Among::not_among_more))]
 fn are_equal_by(facts: &[Fact], a: &Word, b: &Word) -> bool
-    ensures { IsTrue result ↔ Contains (map fact_tree facts.now) (So (Compare Eq (word_tree a.now) (word_tree b.now))) }
+    ensures { IsTrue result
+        ↔ Contains (map fact_tree facts.now) (So (Compare Eq (word_tree a.now) (word_tree b.now))) }
 {
     for fact in facts {
         if is_equality(fact, a, b) {
@@ -49,7 +51,8 @@ fn are_equal_by(facts: &[Fact], a: &Word, b: &Word) -> bool
 }
 
 fn is_equality(fact: &Fact, a: &Word, b: &Word) -> bool
-    ensures { IsTrue result ↔ (fact_tree fact.now ≡ So (Compare Eq (word_tree a.now) (word_tree b.now))) }
+    ensures { IsTrue result
+        ↔ (fact_tree fact.now ≡ So (Compare Eq (word_tree a.now) (word_tree b.now))) }
 {
     match fact {
         Fact::So(Cond::Compare(Cmp::Eq, x, y)) => same_word(x, a) && same_word(y, b),

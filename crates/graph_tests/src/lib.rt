@@ -1,4 +1,5 @@
-//! Tests of ELF files, graphs, loops and stack accesses. They stand apart, since a crate with tests is proved twice.
+//! Tests of ELF files, graphs, loops and stack accesses. They stand apart, since a crate with tests
+//! is proved twice.
 #![tactic(auto)]
 
 #[cfg(test)]

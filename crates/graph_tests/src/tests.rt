@@ -1,4 +1,5 @@
-//! What no clause says: files of programs, and the graphs, loops and stack accesses of worked programs.
+//! What no clause says: files of programs, and the graphs, loops and stack accesses of worked
+//! programs.
 
 mod elf_files;
 mod forests;

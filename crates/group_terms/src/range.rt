@@ -1,5 +1,5 @@
-//! Constants and addresses of a group are 64-bit words, since the program holds them as such. These functions read
-//! them all, and so tell it of the group's tree.
+//! Constants and addresses of a group are 64-bit words, since the program holds them as such. These
+//! functions read them all, and so tell it of the group's tree.
 
 ghost use Rattle.std.specs.Prelude.{map};
 ghost use Rattle.std.specs.List.{AllByRecursion};

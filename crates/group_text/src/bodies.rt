@@ -22,7 +22,8 @@ fn read_steps<E, R: Rows<E>>(
     rows: &mut R,
     from: &mut E,
 ) -> Result<List<Step>, ReadError>
-    ensures gives { RowsGive (λ steps. map step_tree steps) result (R.May rows.old from.old) (R.May rows.new from.new) (star is_step step_at) }
+    ensures gives { RowsGive (λ steps. map step_tree steps) result (R.May rows.old from.old)
+        (R.May rows.new from.new) (star is_step step_at) }
     ensures left { R.left rows.new ≤ R.left rows.old }
     ensures lends { R.Lends (halted_by result) rows.old from.old rows.new from.new }
 {
@@ -44,7 +45,8 @@ fn read_arm<E, R: Rows<E>>(
     from: &mut E,
     room: u32,
 ) -> Result<Body, ReadError>
-    ensures gives { RowsGive body_tree result (R.May rows.old from.old) (R.May rows.new from.new) (arm_at (body_at room)) }
+    ensures gives { RowsGive body_tree result (R.May rows.old from.old) (R.May rows.new from.new)
+        (arm_at (body_at room)) }
     ensures left { R.left rows.new ≤ R.left rows.old }
     ensures lends { R.Lends (halted_by result) rows.old from.old rows.new from.new }
 {
@@ -62,7 +64,8 @@ fn read_arms<E, R: Rows<E>>(
     room: u32,
     count: u64,
 ) -> Result<List<Body>, ReadError>
-    ensures gives { RowsGive (λ arms. map body_tree arms) result (R.May rows.old from.old) (R.May rows.new from.new) (times count (arm_at (body_at room))) }
+    ensures gives { RowsGive (λ arms. map body_tree arms) result (R.May rows.old from.old)
+        (R.May rows.new from.new) (times count (arm_at (body_at room))) }
     ensures left { R.left rows.new ≤ R.left rows.old }
     ensures lends { R.Lends (halted_by result) rows.old from.old rows.new from.new }
 {
@@ -86,7 +89,9 @@ fn read_branch<E, R: Rows<E>>(
     from: &mut E,
     room: u32,
 ) -> Result<(Body, Body), ReadError>
-    ensures gives { RowsGive (λ b. (body_tree b.0, ((tt, tt), body_tree b.1))) result (R.May rows.old from.old) (R.May rows.new from.new) (pair (body_at room) (pair (mark_row (codes "else")) (body_at room))) }
+    ensures gives { RowsGive (λ b. (body_tree b.0, ((tt, tt), body_tree b.1))) result
+        (R.May rows.old from.old) (R.May rows.new from.new)
+        (pair (body_at room) (pair (mark_row (codes "else")) (body_at room))) }
     ensures left { R.left rows.new ≤ R.left rows.old }
     ensures lends { R.Lends (halted_by result) rows.old from.old rows.new from.new }
 {
@@ -104,7 +109,8 @@ fn read_end<E, R: Rows<E>>(
     from: &mut E,
     room: u32,
 ) -> Result<End, ReadError>
-    ensures gives { RowsGive end_tree result (R.May rows.old from.old) (R.May rows.new from.new) (end_at room (body_at room)) }
+    ensures gives { RowsGive end_tree result (R.May rows.old from.old) (R.May rows.new from.new)
+        (end_at room (body_at room)) }
     ensures left { R.left rows.new ≤ R.left rows.old }
     ensures lends { R.Lends (halted_by result) rows.old from.old rows.new from.new }
 {
@@ -130,7 +136,8 @@ pub fn read_body<E, R: Rows<E>>(
     from: &mut E,
     room: u32,
 ) -> Result<Body, ReadError>
-    ensures gives { RowsGive body_tree result (R.May rows.old from.old) (R.May rows.new from.new) (body_at room) }
+    ensures gives { RowsGive body_tree result (R.May rows.old from.old) (R.May rows.new from.new)
+        (body_at room) }
     ensures left { R.left rows.new ≤ R.left rows.old }
     ensures lends { R.Lends (halted_by result) rows.old from.old rows.new from.new }
 {

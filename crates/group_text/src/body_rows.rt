@@ -45,7 +45,8 @@ pub fn read_values<'a>(alloc: Global, scan: &mut Scan<'a>) -> Result<Values, Tok
 
 /// A word and the end of its line.
 fn word_row<'a>(alloc: Global, scan: &mut Scan<'a>) -> Result<Word, TokenError>
-    ensures gives { Gives (λ t. (word_tree t, tt)) result scan.old scan.new (pair (word_at depth_limit) eol) }
+    ensures gives { Gives (λ t. (word_tree t, tt)) result scan.old scan.new
+        (pair (word_at depth_limit) eol) }
     ensures last { last_line scan.new ≡ last_line scan.old }
 {
     let word = read_word(alloc, scan, DEPTH_LIMIT)?;
@@ -55,7 +56,8 @@ fn word_row<'a>(alloc: Global, scan: &mut Scan<'a>) -> Result<Word, TokenError>
 
 /// A memory and the end of its line.
 fn mem_row<'a>(alloc: Global, scan: &mut Scan<'a>) -> Result<Mem, TokenError>
-    ensures gives { Gives (λ m. (mem_tree m, tt)) result scan.old scan.new (pair (mem_at depth_limit) eol) }
+    ensures gives { Gives (λ m. (mem_tree m, tt)) result scan.old scan.new
+        (pair (mem_at depth_limit) eol) }
     ensures last { last_line scan.new ≡ last_line scan.old }
 {
     let mem = read_mem(alloc, scan, DEPTH_LIMIT)?;
@@ -65,7 +67,8 @@ fn mem_row<'a>(alloc: Global, scan: &mut Scan<'a>) -> Result<Mem, TokenError>
 
 /// A condition and the end of its line.
 pub fn cond_row<'a>(alloc: Global, scan: &mut Scan<'a>) -> Result<Cond, TokenError>
-    ensures gives { Gives (λ c. (cond_tree c, tt)) result scan.old scan.new (pair (cond_at depth_limit) eol) }
+    ensures gives { Gives (λ c. (cond_tree c, tt)) result scan.old scan.new
+        (pair (cond_at depth_limit) eol) }
     ensures last { last_line scan.new ≡ last_line scan.old }
 {
     let cond = read_cond(alloc, scan, DEPTH_LIMIT)?;
@@ -121,7 +124,8 @@ pub fn read_index<'a>(scan: &mut Scan<'a>) -> Result<u32, TokenError>
     Ok(index as u32)
 }
 
-/// A call's number of arms is below this: it has at most 16, and none where no body may stand inside.
+/// A call's number of arms is below this: it has at most 16, and none where no body may stand
+/// inside.
 fn arm_bound(room: u32) -> u64
     ensures { result ≡ arm_bound room }
 {
@@ -137,7 +141,7 @@ fn read_arm_count<'a>(scan: &mut Scan<'a>, room: u32) -> Result<u64, TokenError>
 }
 
 /// The last row of a body.
-#[derive(Debug, Drop)]
+#[derive(Drop)]
 pub enum EndRow {
     If(Cond),
     /// The definition, how many arms, and the arguments.

@@ -29,7 +29,8 @@ const DEF_LIMIT: usize = 4096;
 
 /// A definition.
 fn read_def<E, R: Rows<E>>(alloc: Global, rows: &mut R, from: &mut E) -> Result<Def, ReadError>
-    ensures gives { RowsGive def_tree result (R.May rows.old from.old) (R.May rows.new from.new) def_at }
+    ensures gives { RowsGive def_tree result (R.May rows.old from.old) (R.May rows.new from.new)
+        def_at }
     ensures left { R.left rows.new ≤ R.left rows.old }
     ensures lends { R.Lends (halted_by result) rows.old from.old rows.new from.new }
     ensures fewer { OnOk result (R.left rows.new < R.left rows.old) }
@@ -45,7 +46,8 @@ pub fn read_defs<E, R: Rows<E>>(
     rows: &mut R,
     from: &mut E,
 ) -> Result<List<Def>, ReadError>
-    ensures gives { RowsGive (λ defs. map def_tree defs) result (R.May rows.old from.old) (R.May rows.new from.new) own_defs }
+    ensures gives { RowsGive (λ defs. map def_tree defs) result (R.May rows.old from.old)
+        (R.May rows.new from.new) own_defs }
     ensures left { R.left rows.new ≤ R.left rows.old }
     ensures lends { R.Lends (halted_by result) rows.old from.old rows.new from.new }
 {
@@ -73,7 +75,8 @@ pub fn read_head<E, R: Rows<E>>(
     version: Version,
     name: Text,
 ) -> Result<Head, ReadError>
-    ensures gives { RowsGive head_of result (R.May rows.old from.old) (R.May rows.new from.new) (more_head (version_of version) name) }
+    ensures gives { RowsGive head_of result (R.May rows.old from.old) (R.May rows.new from.new)
+        (more_head (version_of version) name) }
     ensures left { R.left rows.new ≤ R.left rows.old }
     ensures lends { R.Lends (halted_by result) rows.old from.old rows.new from.new }
 {
@@ -96,7 +99,10 @@ fn read_group<E, R: Rows<E>>(
     version: Version,
     name: Text,
 ) -> Result<Group, ReadError>
-    ensures gives { RowsGive (λ g. Some (group_tree g)) result (R.May rows.old from.old) (R.May rows.new from.new) (made (λ x. Some (group_of x.0 x.1)) (pair (more_head (version_of version) name) own_defs)) }
+    ensures gives { RowsGive (λ g. Some (group_tree g)) result (R.May rows.old from.old)
+        (R.May rows.new from.new)
+        (made (λ x. Some (group_of x.0 x.1)) (pair (more_head (version_of version) name)
+        own_defs)) }
     ensures left { R.left rows.new ≤ R.left rows.old }
     ensures lends { R.Lends (halted_by result) rows.old from.old rows.new from.new }
 {
@@ -123,7 +129,8 @@ fn read_next<E, R: Rows<E>>(
     from: &mut E,
     version: Version,
 ) -> Result<Option<Group>, ReadError>
-    ensures gives { RowsGive (λ found. option_map group_tree found) result (R.May rows.old from.old) (R.May rows.new from.new) (next_at (version_of version)) }
+    ensures gives { RowsGive (λ found. option_map group_tree found) result (R.May rows.old from.old)
+        (R.May rows.new from.new) (next_at (version_of version)) }
     ensures left { R.left rows.new ≤ R.left rows.old }
     ensures fewer { OnOk result (R.left rows.new < R.left rows.old) }
     ensures lends { R.Lends (halted_by result) rows.old from.old rows.new from.new }
@@ -138,7 +145,8 @@ fn read_next<E, R: Rows<E>>(
     }
 }
 
-/// The next group, or none at the row that ends the text, after the title of that version where the text begins here.
+/// The next group, or none at the row that ends the text, after the title of that version where the
+/// text begins here.
 pub fn read_turn<E, R: Rows<E>>(
     alloc: Global,
     rows: &mut R,
@@ -146,7 +154,8 @@ pub fn read_turn<E, R: Rows<E>>(
     version: Version,
     first: bool,
 ) -> Result<Option<Group>, ReadError>
-    ensures gives { RowsGive (λ found. option_map group_tree found) result (R.May rows.old from.old) (R.May rows.new from.new) (turn_at (version_of version) first) }
+    ensures gives { RowsGive (λ found. option_map group_tree found) result (R.May rows.old from.old)
+        (R.May rows.new from.new) (turn_at (version_of version) first) }
     ensures left { R.left rows.new ≤ R.left rows.old }
     ensures fewer { OnOk result (R.left rows.new < R.left rows.old) }
     ensures lends { R.Lends (halted_by result) rows.old from.old rows.new from.new }

@@ -66,7 +66,8 @@ fn read_exit<'a>(scan: &mut Scan<'a>) -> Result<Exit, TokenError>
 
 /// The exits up to the end of the line.
 fn read_exits<'a>(alloc: Global, scan: &mut Scan<'a>) -> Result<List<Exit>, TokenError>
-    ensures gives { Gives (λ exits. exits) result scan.old scan.new (star has_atom (one (atom_of exit_of))) }
+    ensures gives { Gives (λ exits. exits) result scan.old scan.new
+        (star has_atom (one (atom_of exit_of))) }
     ensures last { last_line scan.new ≡ last_line scan.old }
 {
     let mut exits = List::new(alloc);
@@ -186,7 +187,8 @@ pub fn read_register<'a>(scan: &mut Scan<'a>) -> Result<u8, TokenError>
 
 /// The registers up to the end of the line.
 fn read_registers<'a>(alloc: Global, scan: &mut Scan<'a>) -> Result<List<u8>, TokenError>
-    ensures gives { Gives (λ registers. registers) result scan.old scan.new (star has_atom (number_at 32)) }
+    ensures gives { Gives (λ registers. registers) result scan.old scan.new
+        (star has_atom (number_at 32)) }
     ensures last { last_line scan.new ≡ last_line scan.old }
 {
     let mut registers = List::new(alloc);
@@ -247,7 +249,8 @@ pub fn read_regs_row<'a>(alloc: Global, scan: &mut Scan<'a>) -> Result<List<u8>,
 /// The line of the number of memories.
 #[tactic(auto, unfolding(crate::specs::inner::Reading::mems_row))]
 pub fn read_mems_row<'a>(scan: &mut Scan<'a>, version: Version) -> Result<u8, TokenError>
-    ensures gives { Gives (λ mems. (tt, (mems, tt))) result scan.old scan.new (mems_row (version_of version)) }
+    ensures gives { Gives (λ mems. (tt, (mems, tt))) result scan.old scan.new
+        (mems_row (version_of version)) }
     ensures last { last_line scan.new ≡ last_line scan.old }
 {
     keyword(scan, b"mems")?;
@@ -286,7 +289,7 @@ pub struct Head {
 // ---- the rows of groups
 
 /// The row of a group's name, or the one that ends the text.
-#[derive(Debug, Drop)]
+#[derive(Drop)]
 pub enum FirstRow {
     End,
     Group(Text),
@@ -335,7 +338,8 @@ pub fn read_first_row<'a>(alloc: Global, scan: &mut Scan<'a>) -> Result<FirstRow
 
 /// The row before the first group.
 pub fn read_title<'a>(scan: &mut Scan<'a>, version: Version) -> Result<(), TokenError>
-    ensures gives { Gives (λ _. (tt, (tt, tt))) result scan.old scan.new (title_row (version_of version)) }
+    ensures gives { Gives (λ _. (tt, (tt, tt))) result scan.old scan.new
+        (title_row (version_of version)) }
     ensures last { last_line scan.new ≡ last_line scan.old }
 {
     keyword(scan, b"mcproof")?;

@@ -9,12 +9,17 @@ ghost use Rattle.group_text.specs.Limits.{proof_texts};
 ghost use Rattle.group_text.specs.Spelling.{end_tokens, head_tokens, text_of};
 ghost use Rattle.group_text.specs.Parts.{group_texts};
 
-/// The text of groups is what `put_head`, `put_group` of each and `put_end` append, one after the other.
+/// The text of groups is what `put_head`, `put_group` of each and `put_end` append, one after the
+/// other.
 pub fn law_of_parts()
-    ensures { (gs : List GroupTree) → text_of gs ≡ spell Start head_tokens ++ (group_texts gs ++ spell Start end_tokens) }
+    ensures { (gs : List GroupTree)
+        → text_of gs ≡ spell Start head_tokens ++ (group_texts gs ++ spell Start end_tokens) }
 {}
 
 /// A text is no proof text from one line on.
 pub fn law_of_faults()
-    ensures { (text : List ℕ) (m n : ℕ) → IsBadAt proof_texts text m → IsBadAt proof_texts text n → m ≡ n }
+    ensures { (text : List ℕ) (m n : ℕ)
+        → IsBadAt proof_texts text m
+        → IsBadAt proof_texts text n
+        → m ≡ n }
 {}

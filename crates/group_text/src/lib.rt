@@ -1,11 +1,13 @@
-//! Groups of definitions as text, each written in one way, and the rows of which such a text is made.
+//! Groups of definitions as text, each written in one way, and the rows of which such a text is
+//! made.
 //!
-//! `read_turn` gives the next group of a text, row by row, from any `Rows`: `TextRows` are those of a text in memory.
-//! `put_title`, `put_group` and `put_end` write a text. A `Version` is what the versions of a text differ in. The grammar
-//! stands at the head of `specs/Spelling.antt`, and what numbers and sizes a group may have in `specs/Limits.antt`.
+//! `read_turn` gives the next group of a text, row by row, from any `Rows`: `TextRows` are those of
+//! a text in memory. `put_title`, `put_group` and `put_end` write a text. A `Version` is what the
+//! versions of a text differ in. The grammar stands at the head of `specs/Spelling.antt`, and what
+//! numbers and sizes a group may have in `specs/Limits.antt`.
 //!
-//! The laws that matter are `law_of_parts`, that a text is what these calls append, one after the other, and `law_of_faults`,
-//! that a text which is none is so from one line on.
+//! The laws that matter are `law_of_parts`, that a text is what these calls append, one after the
+//! other, and `law_of_faults`, that a text which is none is so from one line on.
 #![tactic(auto)]
 
 mod bodies;

@@ -42,11 +42,15 @@ pub fn next_row<E, R: Rows<E>, X, W: ReadRow<X>>(
     from: &mut E,
     what: &W,
 ) -> Result<X, ReadError>
-    ensures gives { ReadsRows (W.reads what.now).reader → RowsGive (W.reads what.now).view result (R.May rows.old from.old) (R.May rows.new from.new) (W.reads what.now).reader }
+    ensures gives { ReadsRows (W.reads what.now).reader
+        → RowsGive (W.reads what.now).view result (R.May rows.old from.old)
+        (R.May rows.new from.new) (W.reads what.now).reader }
     ensures left { R.left rows.new ≤ R.left rows.old }
     ensures lends { R.Lends (halted_by result) rows.old from.old rows.new from.new }
     ensures fewer { OnOk result (R.left rows.new < R.left rows.old) }
-    ensures kept { OnErr result ((p : RowPosition) → R.May rows.new from.new p → R.May rows.old from.old p) }
+    ensures kept { OnErr result ((p : RowPosition)
+        → R.May rows.new from.new p
+        → R.May rows.old from.old p) }
 {
     if !rows.hold(alloc, from)? {
         return Err(ReadError::Bad);
@@ -74,7 +78,8 @@ pub fn row_begins<E, R: Rows<E>, W: RowStart>(
     ensures kept { (p : RowPosition) → R.May rows.new from.new p → R.May rows.old from.old p }
     ensures left { R.left rows.new ≤ R.left rows.old }
     ensures lends { R.Lends (lost_by result) rows.old from.old rows.new from.new }
-    ensures goes_on { IfOk result (λ b. (p : RowPosition) → R.May rows.new from.new p → b ≡ goes_on W.goes (tokens p)) }
+    ensures goes_on { IfOk result (λ b.
+        (p : RowPosition) → R.May rows.new from.new p → b ≡ goes_on W.goes (tokens p)) }
     ensures sure { R.Sure rows.old from.old → OnErr result ⊥ }
 {
     if !rows.hold(alloc, from)? {

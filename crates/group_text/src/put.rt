@@ -30,7 +30,8 @@ pub fn put_head(out: &mut Bytes) -> Result<(), NoMemory>
 /// Prints what stands before the groups of a text of that version.
 #[tactic(auto, using(mc_text::proofs::Printed::printed_bytes, mc_text::proofs::Printed::prints))]
 pub fn put_title(out: &mut Bytes, version: Version) -> Result<(), NoMemory>
-    ensures ok { OnOk result (out.new ≡ out.old ++ spell Start (title_tokens (version_of version))) }
+    ensures ok { OnOk result (out.new
+        ≡ out.old ++ spell Start (title_tokens (version_of version))) }
     ensures prefix { BeginsWith out.old out.new }
 {
     let mut pen = Pen::new(out);
@@ -39,7 +40,8 @@ pub fn put_title(out: &mut Bytes, version: Version) -> Result<(), NoMemory>
 }
 
 fn put_title_line(pen: &mut Pen<'_>, version: Version) -> Result<(), NoMemory>
-    ensures ok { OnOk result (page pen.new ≡ print (title_tokens (version_of version)) (page pen.old)) }
+    ensures ok { OnOk result (page pen.new
+        ≡ print (title_tokens (version_of version)) (page pen.old)) }
     ensures kept { Keeps (page pen.old) (page pen.new) }
 {
     pen.atom(b"mcproof")?;
@@ -70,7 +72,8 @@ pub fn put_end(out: &mut Bytes) -> Result<(), NoMemory>
 }
 
 pub fn put_group_lines(pen: &mut Pen<'_>, g: &Group) -> Result<(), NoMemory>
-    ensures ok { OnOk result (page pen.new ≡ print (group_tokens (group_tree g.now)) (page pen.old)) }
+    ensures ok { OnOk result (page pen.new
+        ≡ print (group_tokens (group_tree g.now)) (page pen.old)) }
     ensures kept { Keeps (page pen.old) (page pen.new) }
 {
     put_name_line(pen, g.name.as_slice())?;
@@ -81,7 +84,8 @@ pub fn put_group_lines(pen: &mut Pen<'_>, g: &Group) -> Result<(), NoMemory>
 }
 
 fn put_name_line(pen: &mut Pen<'_>, name: &[u8]) -> Result<(), NoMemory>
-    ensures ok { OnOk result (page pen.new ≡ print (line (codes "group") ((Atom name.now ∷ []) ∷ [])) (page pen.old)) }
+    ensures ok { OnOk result (page pen.new
+        ≡ print (line (codes "group") ((Atom name.now ∷ []) ∷ [])) (page pen.old)) }
     ensures kept { Keeps (page pen.old) (page pen.new) }
 {
     pen.atom(b"group")?;
@@ -90,7 +94,8 @@ fn put_name_line(pen: &mut Pen<'_>, name: &[u8]) -> Result<(), NoMemory>
 }
 
 fn put_registers_line(pen: &mut Pen<'_>, registers: &[u8]) -> Result<(), NoMemory>
-    ensures ok { OnOk result (page pen.new ≡ print (line (codes "regs") (flat_map number registers.now ∷ [])) (page pen.old)) }
+    ensures ok { OnOk result (page pen.new
+        ≡ print (line (codes "regs") (flat_map number registers.now ∷ [])) (page pen.old)) }
     ensures kept { Keeps (page pen.old) (page pen.new) }
 {
     pen.atom(b"regs")?;
@@ -99,7 +104,8 @@ fn put_registers_line(pen: &mut Pen<'_>, registers: &[u8]) -> Result<(), NoMemor
 }
 
 fn put_memories_line(pen: &mut Pen<'_>, count: u8) -> Result<(), NoMemory>
-    ensures ok { OnOk result (page pen.new ≡ print (line (codes "mems") (number count ∷ [])) (page pen.old)) }
+    ensures ok { OnOk result (page pen.new
+        ≡ print (line (codes "mems") (number count ∷ [])) (page pen.old)) }
     ensures kept { Keeps (page pen.old) (page pen.new) }
 {
     pen.atom(b"mems")?;
@@ -108,7 +114,8 @@ fn put_memories_line(pen: &mut Pen<'_>, count: u8) -> Result<(), NoMemory>
 }
 
 fn put_code_line(pen: &mut Pen<'_>, ranges: &[Range]) -> Result<(), NoMemory>
-    ensures ok { OnOk result (page pen.new ≡ print (line (codes "code") (flat_map range_tokens ranges.now ∷ [])) (page pen.old)) }
+    ensures ok { OnOk result (page pen.new
+        ≡ print (line (codes "code") (flat_map range_tokens ranges.now ∷ [])) (page pen.old)) }
     ensures kept { Keeps (page pen.old) (page pen.new) }
 {
     pen.atom(b"code")?;
@@ -134,7 +141,8 @@ fn put_number(pen: &mut Pen<'_>, n: u8) -> Result<(), NoMemory>
 }
 
 pub fn put_ranges(pen: &mut Pen<'_>, ranges: &[Range]) -> Result<(), NoMemory>
-    ensures ok { OnOk result (page pen.new ≡ print (flat_map range_tokens ranges.now) (page pen.old)) }
+    ensures ok { OnOk result (page pen.new
+        ≡ print (flat_map range_tokens ranges.now) (page pen.old)) }
     ensures kept { Keeps (page pen.old) (page pen.new) }
 {
     for range in ranges {
@@ -145,7 +153,8 @@ pub fn put_ranges(pen: &mut Pen<'_>, ranges: &[Range]) -> Result<(), NoMemory>
 
 /// Prints the definitions' first lines and bodies.
 pub fn put_defs(pen: &mut Pen<'_>, defs: &[Def]) -> Result<(), NoMemory>
-    ensures ok { OnOk result (page pen.new ≡ print (flat_map def_tokens (map def_tree defs.now)) (page pen.old)) }
+    ensures ok { OnOk result (page pen.new
+        ≡ print (flat_map def_tokens (map def_tree defs.now)) (page pen.old)) }
     ensures kept { Keeps (page pen.old) (page pen.new) }
 {
     for def in defs {
@@ -166,7 +175,8 @@ fn put_def(pen: &mut Pen<'_>, def: &Def) -> Result<(), NoMemory>
 }
 
 fn put_exits(pen: &mut Pen<'_>, exits: &[Exit]) -> Result<(), NoMemory>
-    ensures ok { OnOk result (page pen.new ≡ print (flat_map exit_tokens exits.now) (page pen.old)) }
+    ensures ok { OnOk result (page pen.new
+        ≡ print (flat_map exit_tokens exits.now) (page pen.old)) }
     ensures kept { Keeps (page pen.old) (page pen.new) }
 {
     for exit in exits {
@@ -188,7 +198,8 @@ fn put_exit(pen: &mut Pen<'_>, exit: Exit) -> Result<(), NoMemory>
 #[cycle(bodies)]
 #[tactic(auto, using(mc_text::proofs::Printed::prints, crate::proofs::Printing::body_printed))]
 fn put_body(pen: &mut Pen<'_>, body: &Body) -> Result<(), NoMemory>
-    ensures ok { OnOk result (page pen.new ≡ print (body_tokens (body_tree body.now)) (page pen.old)) }
+    ensures ok { OnOk result (page pen.new
+        ≡ print (body_tokens (body_tree body.now)) (page pen.old)) }
     ensures kept { Keeps (page pen.old) (page pen.new) }
 {
     put_steps(pen, body.steps.as_slice())?;
@@ -198,7 +209,8 @@ fn put_body(pen: &mut Pen<'_>, body: &Body) -> Result<(), NoMemory>
 /// Prints what stands after a body's steps.
 #[cycle(bodies)]
 fn put_body_end(pen: &mut Pen<'_>, end: &End) -> Result<(), NoMemory>
-    ensures ok { OnOk result (page pen.new ≡ print (body_tokens (end_tree end.now)) (page pen.old)) }
+    ensures ok { OnOk result (page pen.new
+        ≡ print (body_tokens (end_tree end.now)) (page pen.old)) }
     ensures kept { Keeps (page pen.old) (page pen.new) }
 {
     match end {
@@ -228,7 +240,8 @@ fn put_body_end(pen: &mut Pen<'_>, end: &End) -> Result<(), NoMemory>
 
 #[cycle(bodies)]
 fn put_arms(pen: &mut Pen<'_>, arms: &[Body]) -> Result<(), NoMemory>
-    ensures ok { OnOk result (page pen.new ≡ print (arm_tokens (arm_trees arms.now)) (page pen.old)) }
+    ensures ok { OnOk result (page pen.new
+        ≡ print (arm_tokens (arm_trees arms.now)) (page pen.old)) }
     ensures kept { Keeps (page pen.old) (page pen.new) }
 {
     for arm in arms {
@@ -239,7 +252,8 @@ fn put_arms(pen: &mut Pen<'_>, arms: &[Body]) -> Result<(), NoMemory>
 }
 
 fn put_branch_line(pen: &mut Pen<'_>, c: &Cond) -> Result<(), NoMemory>
-    ensures ok { OnOk result (page pen.new ≡ print (line (codes "if") (cond_tokens (cond_tree c.now) ∷ [])) (page pen.old)) }
+    ensures ok { OnOk result (page pen.new
+        ≡ print (line (codes "if") (cond_tokens (cond_tree c.now) ∷ [])) (page pen.old)) }
     ensures kept { Keeps (page pen.old) (page pen.new) }
 {
     pen.atom(b"if")?;
@@ -248,7 +262,10 @@ fn put_branch_line(pen: &mut Pen<'_>, c: &Cond) -> Result<(), NoMemory>
 }
 
 fn put_call_line(pen: &mut Pen<'_>, def: u32, arms: usize, values: &Values) -> Result<(), NoMemory>
-    ensures ok { OnOk result (page pen.new ≡ print (line (codes "call") (number def ∷ number arms ∷ values_tokens (values_tree values.now) ∷ [])) (page pen.old)) }
+    ensures ok { OnOk result (page pen.new
+        ≡ print
+        (line (codes "call") (number def ∷ number arms ∷ values_tokens (values_tree values.now)
+        ∷ [])) (page pen.old)) }
     ensures kept { Keeps (page pen.old) (page pen.new) }
 {
     pen.atom(b"call")?;
@@ -259,7 +276,8 @@ fn put_call_line(pen: &mut Pen<'_>, def: u32, arms: usize, values: &Values) -> R
 }
 
 fn put_steps(pen: &mut Pen<'_>, steps: &[Step]) -> Result<(), NoMemory>
-    ensures ok { OnOk result (page pen.new ≡ print (flat_map step_tokens (map step_tree steps.now)) (page pen.old)) }
+    ensures ok { OnOk result (page pen.new
+        ≡ print (flat_map step_tokens (map step_tree steps.now)) (page pen.old)) }
     ensures kept { Keeps (page pen.old) (page pen.new) }
 {
     for step in steps {
@@ -269,7 +287,8 @@ fn put_steps(pen: &mut Pen<'_>, steps: &[Step]) -> Result<(), NoMemory>
 }
 
 fn put_step(pen: &mut Pen<'_>, step: &Step) -> Result<(), NoMemory>
-    ensures ok { OnOk result (page pen.new ≡ print (step_tokens (step_tree step.now)) (page pen.old)) }
+    ensures ok { OnOk result (page pen.new
+        ≡ print (step_tokens (step_tree step.now)) (page pen.old)) }
     ensures kept { Keeps (page pen.old) (page pen.new) }
 {
     match step {
@@ -292,7 +311,8 @@ fn put_step(pen: &mut Pen<'_>, step: &Step) -> Result<(), NoMemory>
 }
 
 pub fn put_values(pen: &mut Pen<'_>, values: &Values) -> Result<(), NoMemory>
-    ensures ok { OnOk result (page pen.new ≡ print (values_tokens (values_tree values.now)) (page pen.old)) }
+    ensures ok { OnOk result (page pen.new
+        ≡ print (values_tokens (values_tree values.now)) (page pen.old)) }
     ensures kept { Keeps (page pen.old) (page pen.new) }
 {
     put_words(pen, values.words.as_slice())?;
@@ -301,7 +321,8 @@ pub fn put_values(pen: &mut Pen<'_>, values: &Values) -> Result<(), NoMemory>
 }
 
 fn put_words(pen: &mut Pen<'_>, terms: &[Word]) -> Result<(), NoMemory>
-    ensures ok { OnOk result (page pen.new ≡ print (flat_map word_tokens (map word_tree terms.now)) (page pen.old)) }
+    ensures ok { OnOk result (page pen.new
+        ≡ print (flat_map word_tokens (map word_tree terms.now)) (page pen.old)) }
     ensures kept { Keeps (page pen.old) (page pen.new) }
 {
     for t in terms {
@@ -311,7 +332,8 @@ fn put_words(pen: &mut Pen<'_>, terms: &[Word]) -> Result<(), NoMemory>
 }
 
 pub fn put_mems(pen: &mut Pen<'_>, terms: &[Mem]) -> Result<(), NoMemory>
-    ensures ok { OnOk result (page pen.new ≡ print (flat_map mem_tokens (map mem_tree terms.now)) (page pen.old)) }
+    ensures ok { OnOk result (page pen.new
+        ≡ print (flat_map mem_tokens (map mem_tree terms.now)) (page pen.old)) }
     ensures kept { Keeps (page pen.old) (page pen.new) }
 {
     for t in terms {

@@ -22,7 +22,8 @@ pub trait Rows<E> {
     /// A bound on the rows that may still be passed.
     ghost left: { Self → ℕ };
 
-    /// What calls may do to the rows and to what is lent, by what the last of them lost a row, if it did.
+    /// What calls may do to the rows and to what is lent, by what the last of them lost a row, if
+    /// it did.
     ghost Lends: { Option LostBy → Self → E → Self → E → Type 0 };
 
     /// Holds the next row, if there is one. It isn't passed.
@@ -42,7 +43,9 @@ pub trait Rows<E> {
         requires { IsRow (held self.old) }
         ensures fewer { left self.new < left self.old }
         ensures lends { Lends None self.old from.now self.new from.now }
-        ensures passed { (q : RowPosition) → May self.new from.now q → (p : RowPosition) × May self.old from.now p × Passed (held self.old) p q };
+        ensures passed { (q : RowPosition)
+            → May self.new from.now q
+            → (p : RowPosition) × May self.old from.now p × Passed (held self.old) p q };
 
     /// How many rows were passed.
     fn taken(&self, from: &E) -> u64

@@ -8,7 +8,8 @@ ghost use Rattle.group_text.specs.inner.Reading.{has_mems};
 #[derive(Clone, Copy, Debug, PartialEq, Eq)]
 pub enum Version {
     One,
-    /// A table of terms stands behind the definitions of a group, and its lines leave out what can be computed.
+    /// A table of terms stands behind the definitions of a group, and its lines leave out what can
+    /// be computed.
     Two,
     /// A line may state a triple by the rule `steer`: for functions that call others.
     Three,

@@ -13,7 +13,7 @@ use Rattle.rv_machine.specs.Run.{run}
 use Rattle.tailrec_lang.specs.Tree.{BodyTree, listed_def}
 use Rattle.tailrec_lang.specs.Eval.{Arguments, Done, eval}
 use Rattle.code_gen.specs.ElfFile.{elf_of}
-use Rattle.checker.specs.Headline.{IsRight, Starts, cut, held_in, is_within}
+use Rattle.claims.specs.Headline.{IsRight, Starts, cut, held_in, is_within}
 use Rattle.headline_examples.specs.Store.{at_place, keeps, memory_with, place, quiet, store_file, store_registers, store_start, stores, storing}
 use Rattle.headline_examples.proofs.Ends.{only-end}
 

@@ -13,7 +13,7 @@ use Rattle.triple_kernel.specs.Valid.{Reaches}
 use Rattle.tailrec_lang.specs.Tree.{BodyTree, listed_def}
 use Rattle.tailrec_lang.specs.Eval.{Arguments, Done, eval}
 use Rattle.code_gen.specs.ElfFile.{elf_of}
-use Rattle.checker.specs.Headline.{AreApart, Ends, IsRight, Starts, held_in}
+use Rattle.claims.specs.Headline.{AreApart, Ends, IsRight, Starts, held_in}
 use Rattle.headline_examples.specs.Sum.{adding, narrow, sum, sum_file, sum_registers, sum_results, sum_start, wrong}
 use Rattle.headline_examples.proofs.Ends.{only-end}
 

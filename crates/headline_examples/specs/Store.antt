@@ -9,7 +9,7 @@ use Rattle.tailrec_lang.specs.declared.group.Exit.TheVariants.{Ret}
 use Rattle.tailrec_lang.specs.Tree.{BindMem, Do, Leave, BodyTree, GroupTree}
 use Rattle.code_gen.specs.ElfFile.{elf_of}
 use Rattle.rv_machine.specs.State.{State}
-use Rattle.checker.specs.Headline.{Region}
+use Rattle.claims.specs.Headline.{Region}
 use Rattle.headline_examples.specs.Sum.{returned_to}
 
 abbrev pub store_file : List ℕ

@@ -1,5 +1,6 @@
-//! Worked examples of the headline's definitions: its premises can be met, and it is false of a function that tells
-//! something else than its code does. These functions do nothing: their contracts are the laws.
+//! Worked examples of the headline's definitions: its premises can be met, and it is false of a
+//! function that tells something else than its code does. These functions do nothing: their
+//! contracts are the laws.
 #![tactic(auto)]
 
 ghost use Rattle.std.specs.Prelude.{◌≡◌, [], ◌∷◌};
@@ -7,16 +8,19 @@ ghost use Rattle.rv_machine.specs.State.{State};
 ghost use Rattle.triple_kernel.specs.Valid.{Reaches};
 ghost use Rattle.tailrec_lang.specs.Tree.{listed_def};
 ghost use Rattle.tailrec_lang.specs.Eval.{Done, eval};
-ghost use Rattle.checker.specs.Headline.{Ends, IsRight, Starts, held_in};
+ghost use Rattle.claims.specs.Headline.{Ends, IsRight, Starts, held_in};
 ghost use Rattle.headline_examples.specs.Sum.{narrow, sum, sum_file, sum_results, sum_start, wrong};
 ghost use Rattle.headline_examples.specs.Store.{at_place, keeps, quiet, store_file, store_start, stores};
 
-/// A function that adds two registers: the premises are met, its evaluation is done in one turn, and the machine comes to
-/// a state as is claimed.
+/// A function that adds two registers: the premises are met, its evaluation is done in one turn,
+/// and the machine comes to a state as is claimed.
 pub fn law_of_sum()
     ensures starts { Starts sum_file sum sum_start [] }
-    ensures done { eval sum (listed_def sum) (held_in sum_start sum []) 1 ≡ Done 0 0x2000 (sum_results 5) 0 }
-    ensures ends { (t : State) × Reaches sum_start t × Ends sum [] sum_start 0x2000 (sum_results 5) t }
+    ensures done { eval sum (listed_def sum) (held_in sum_start sum []) 1
+        ≡ Done 0 0x2000 (sum_results 5) 0 }
+    ensures ends { (t : State)
+        × Reaches sum_start t
+        × Ends sum [] sum_start 0x2000 (sum_results 5) t }
 {}
 
 /// A function that leaves another word in x10 is not right.
@@ -29,14 +33,15 @@ pub fn law_of_an_unlisted_register()
     ensures { IsRight sum_file narrow → ⊥ }
 {}
 
-/// A function that stores into a region of memory, and one over the same region that tells that the region stays as it is: the
-/// premises are met.
+/// A function that stores into a region of memory, and one over the same region that tells that the
+/// region stays as it is: the premises are met.
 pub fn law_of_regions()
     ensures stores { Starts store_file stores store_start (at_place ∷ []) }
     ensures keeps { Starts store_file keeps store_start (at_place ∷ []) }
 {}
 
-/// A function that tells of a region that its code stores into that it stays as it is, is not right.
+/// A function that tells of a region that its code stores into that it stays as it is, is not
+/// right.
 pub fn law_of_a_kept_region()
     ensures { IsRight store_file keeps → ⊥ }
 {}

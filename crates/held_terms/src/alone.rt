@@ -1,4 +1,5 @@
-//! What terms are by themselves: the values of words and conditions without variables, and memories before their stores.
+//! What terms are by themselves: the values of words and conditions without variables, and memories
+//! before their stores.
 
 ghost use Rattle.std.specs.Prelude.{◌≡◌, ◌↔◌, ◌+◌, IfNone, IfOk, IfSome, IsTrue, OnOk, Some as Just, not, option_map, true};
 ghost use Rattle.std.specs.BTreeMap.{get};
@@ -17,7 +18,7 @@ use std::sync::ledger::Ledger;
 use term_arena::{Arena, Node, Steps};
 
 /// What was found of a term.
-#[derive(Clone, Copy, Debug)]
+#[derive(Clone, Copy)]
 pub(crate) enum Found {
     /// The value of a word, if it has no variables.
     Value(Option<u64>),
@@ -27,7 +28,8 @@ pub(crate) enum Found {
     Base(u64),
 }
 
-/// The memory before all of its outer stores. Those that are found are kept, so that each is read once.
+/// The memory before all of its outer stores. Those that are found are kept, so that each is read
+/// once.
 #[cycle(bases)]
 pub(crate) fn before_stores<L: Ledger>(
     arena: &Arena,
@@ -39,7 +41,8 @@ pub(crate) fn before_stores<L: Ledger>(
     requires found { AreFound arena.now found.old (m + 1) }
     ensures base { IfOk result (λ v. IsBase arena.now m v) }
     ensures found { OnOk result (AreMoreFound arena.now found.old found.new) }
-    ensures searched { Searched arena.now (HasTerm arena.now m) found.old found.new steps.old steps.new }
+    ensures searched { Searched arena.now (HasTerm arena.now m) found.old found.new steps.old
+        steps.new }
 {
     if let Some(v) = base_in(found, m) {
         return Ok(v);
@@ -62,7 +65,8 @@ fn base_over<L: Ledger>(
     requires found { AreFound arena.now found.old m }
     ensures base { IfOk result (λ v. IsBase arena.now m v) }
     ensures found { OnOk result (AreMoreFound arena.now found.old found.new) }
-    ensures searched { Searched arena.now (HasTerm arena.now m) found.old found.new (steps.old + 1) steps.new }
+    ensures searched { Searched arena.now (HasTerm arena.now m) found.old found.new (steps.old + 1)
+        steps.new }
 {
     match before_store(arena, m, steps) {
         Some(old) => {
@@ -104,7 +108,8 @@ pub(crate) fn is_always_true<L: Ledger>(
     requires found { AreAllFound arena.now found.old }
     ensures answer { IfOk result (λ r. IsTrue r ↔ IsAlwaysTrue (cond_of arena.now c)) }
     ensures found { OnOk result (AreAllFound arena.now found.new) }
-    ensures searched { Searched arena.now (HasTerm arena.now c) found.old found.new steps.old steps.new }
+    ensures searched { Searched arena.now (HasTerm arena.now c) found.old found.new steps.old
+        steps.new }
 {
     let truth = truth_of(arena, found, c, steps)?;
     Ok(is_true(truth))
@@ -119,7 +124,8 @@ fn is_true(truth: Option<bool>) -> bool
     }
 }
 
-/// Whether the condition is true, if it has no variables. What is found is kept, so that each is read once.
+/// Whether the condition is true, if it has no variables. What is found is kept, so that each is
+/// read once.
 #[cycle(truths)]
 fn truth_of<L: Ledger>(
     arena: &Arena,
@@ -131,7 +137,8 @@ fn truth_of<L: Ledger>(
     requires found { AreFound arena.now found.old (c + 1) }
     ensures truth { IfOk result (λ v. IsDecidedAlone (cond_of arena.now c) v) }
     ensures found { OnOk result (AreMoreFound arena.now found.old found.new) }
-    ensures searched { Searched arena.now (HasTerm arena.now c) found.old found.new steps.old steps.new }
+    ensures searched { Searched arena.now (HasTerm arena.now c) found.old found.new steps.old
+        steps.new }
 {
     if let Some(v) = truth_in(found, c) {
         return Ok(v);
@@ -154,7 +161,8 @@ fn truth_over<L: Ledger>(
     requires found { AreFound arena.now found.old c }
     ensures truth { IfOk result (λ v. IsDecidedAlone (cond_of arena.now c) v) }
     ensures found { OnOk result (AreMoreFound arena.now found.old found.new) }
-    ensures searched { Searched arena.now (HasTerm arena.now c) found.old found.new (steps.old + 1) steps.new }
+    ensures searched { Searched arena.now (HasTerm arena.now c) found.old found.new (steps.old + 1)
+        steps.new }
 {
     match arena.node(c, steps) {
         Node::Compare(cmp, a, b) => {
@@ -203,7 +211,8 @@ fn constant_of<L: Ledger>(
     requires found { AreFound arena.now found.old (x + 1) }
     ensures value { IfOk result (λ v. IsConstant (word_of arena.now x) v) }
     ensures found { OnOk result (AreMoreFound arena.now found.old found.new) }
-    ensures searched { Searched arena.now (HasTerm arena.now x) found.old found.new steps.old steps.new }
+    ensures searched { Searched arena.now (HasTerm arena.now x) found.old found.new steps.old
+        steps.new }
 {
     if let Some(v) = value_in(found, x) {
         return Ok(v);
@@ -226,7 +235,8 @@ fn constant_over<L: Ledger>(
     requires found { AreFound arena.now found.old x }
     ensures value { IfOk result (λ v. IsConstant (word_of arena.now x) v) }
     ensures found { OnOk result (AreMoreFound arena.now found.old found.new) }
-    ensures searched { Searched arena.now (HasTerm arena.now x) found.old found.new (steps.old + 1) steps.new }
+    ensures searched { Searched arena.now (HasTerm arena.now x) found.old found.new (steps.old + 1)
+        steps.new }
 {
     match arena.node(x, steps) {
         Node::Const(n) => Ok(Some(n)),

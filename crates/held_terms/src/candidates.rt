@@ -1,8 +1,9 @@
 //! Conditions of facts by their classes: one is compared only with those of its own class.
 //!
-//! A class may still have many conditions of which few are alike: those over words or memories which are each equal to a third one, but
-//! not stated to be equal themselves. Where no forms of variables meet the equations, all conditions are compared. Each pair that was
-//! compared is kept, so that such facts take time and memory by the square.
+//! A class may still have many conditions of which few are alike: those over words or memories
+//! which are each equal to a third one, but not stated to be equal themselves. Where no forms of
+//! variables meet the equations, all conditions are compared. Each pair that was compared is kept,
+//! so that such facts take time and memory by the square.
 
 ghost use Rattle.std.specs.Prelude.{◌≡◌, ◌+◌, ◌<◌, ◌≤◌, [], All, IfOk, IsTrue, List as Items, None as Nothing, OnOk, length, map};
 ghost use Rattle.std.specs.BTreeMap.{Updates, get};
@@ -31,15 +32,16 @@ use term_arena::{Arena, Steps};
 /// How many facts are compared one by one.
 const FEW_CONDITIONS: usize = 16;
 
-/// The classes of conditions, and for each class the facts that say that a condition of it is true. A condition whose class isn't
-/// known is compared with all facts.
+/// The classes of conditions, and for each class the facts that say that a condition of it is true.
+/// A condition whose class isn't known is compared with all facts.
 #[derive(Drop)]
 pub(crate) struct Candidates {
     classes: BTreeMap<u64, Option<Class>>,
     lists: BTreeMap<u64, List<HeldFact>>,
 }
 
-/// Those among the others with which conditions of the facts may be alike. Each term takes one step at most.
+/// Those among the others with which conditions of the facts may be alike. Each term takes one step
+/// at most.
 pub(crate) fn classify<L: Ledger>(
     alloc: Global,
     arena: &Arena,
@@ -50,7 +52,10 @@ pub(crate) fn classify<L: Ledger>(
     requires facts { AreFactsAt arena.now facts.now }
     requires others { AreFactsAt arena.now others.now }
     ensures narrows { IfOk result (λ c. Narrows arena.now others.now c.classes c.lists) }
-    ensures steps { (ts : Items Tree) → HasFacts arena.now facts.now ts → HasFacts arena.now others.now ts → steps.new ≤ steps.old + length ts }
+    ensures steps { (ts : Items Tree)
+        → HasFacts arena.now facts.now ts
+        → HasFacts arena.now others.now ts
+        → steps.new ≤ steps.old + length ts }
 {
     arena.law_of_nodes();
     if facts.len() <= FEW_CONDITIONS || others.len() <= FEW_CONDITIONS {
@@ -92,7 +97,10 @@ pub(crate) fn candidates_of<'a>(
     requires there { IsCondAt arena.now c }
     requires narrows { Narrows arena.now others.now candidates.now.classes candidates.now.lists }
     ensures among { (f : FactOf) → Contains result.now f → Contains others.now f }
-    ensures all { (d : CondTree) → Contains (map (fact_of arena.now) others.now) (So d) → Alike (map (fact_of arena.now) others.now) (cond_of arena.now c) d → Contains (map (fact_of arena.now) result.now) (So d) }
+    ensures all { (d : CondTree)
+        → Contains (map (fact_of arena.now) others.now) (So d)
+        → Alike (map (fact_of arena.now) others.now) (cond_of arena.now c) d
+        → Contains (map (fact_of arena.now) result.now) (So d) }
 {
     match class_in(&candidates.classes, c) {
         Some(k) => list_in(&candidates.lists, k),
@@ -126,7 +134,8 @@ fn see_both<L: Ledger>(
     requires others { AreFactsAt arena.now others.now }
     requires classed { AreClassed arena.now forms.old leaves.old classes.old }
     ensures classed { OnOk result (AreClassed arena.now forms.new leaves.new classes.new) }
-    ensures searched { Searched arena.now (HasBothFacts arena.now facts.now others.now) classes.old classes.new steps.old steps.new }
+    ensures searched { Searched arena.now (HasBothFacts arena.now facts.now others.now) classes.old
+        classes.new steps.old steps.new }
 {
     see_all(arena, others, true, forms, leaves, classes, steps)?;
     see_all(arena, others, false, forms, leaves, classes, steps)?;
@@ -148,7 +157,8 @@ fn see_all<L: Ledger>(
     requires facts { AreFactsAt arena.now facts.now }
     requires classed { AreClassed arena.now forms.old leaves.old classes.old }
     ensures classed { OnOk result (AreClassed arena.now forms.new leaves.new classes.new) }
-    ensures searched { Searched arena.now (HasFacts arena.now facts.now) classes.old classes.new steps.old steps.new }
+    ensures searched { Searched arena.now (HasFacts arena.now facts.now) classes.old classes.new
+        steps.old steps.new }
 {
     for fact in facts {
         see(arena, fact, equations, forms, leaves, classes, steps)?;
@@ -170,7 +180,8 @@ fn see<L: Ledger>(
     requires fact { IsFactAt arena.now fact.now }
     requires classed { AreClassed arena.now forms.old leaves.old classes.old }
     ensures classed { OnOk result (AreClassed arena.now forms.new leaves.new classes.new) }
-    ensures searched { Searched arena.now (HasFact arena.now fact.now) classes.old classes.new steps.old steps.new }
+    ensures searched { Searched arena.now (HasFact arena.now fact.now) classes.old classes.new
+        steps.old steps.new }
 {
     match fact {
         HeldFact::WordIs(a, b) if equations => {
@@ -187,8 +198,8 @@ fn see<L: Ledger>(
     }
 }
 
-/// The classes of two equal words, or of two equal memories. If the first one was seen, the second gets its class, where that is
-/// free, else the first one gets that of the second.
+/// The classes of two equal words, or of two equal memories. If the first one was seen, the second
+/// gets its class, where that is free, else the first one gets that of the second.
 fn see_equation<L: Ledger>(
     arena: &Arena,
     a: u64,
@@ -201,7 +212,8 @@ fn see_equation<L: Ledger>(
     requires kind { AreOneKind arena.now a b }
     requires classed { AreClassed arena.now forms.old leaves.old classes.old }
     ensures classed { OnOk result (AreClassed arena.now forms.new leaves.new classes.new) }
-    ensures searched { Searched arena.now (HasTwoTerms arena.now a b) classes.old classes.new steps.old steps.new }
+    ensures searched { Searched arena.now (HasTwoTerms arena.now a b) classes.old classes.new
+        steps.old steps.new }
 {
     if class_in(classes, a).is_some() {
         see_two(arena, a, b, forms, leaves, classes, steps)
@@ -223,7 +235,8 @@ fn see_two<L: Ledger>(
     requires kind { AreOneKind arena.now a b }
     requires classed { AreClassed arena.now forms.old leaves.old classes.old }
     ensures classed { OnOk result (AreClassed arena.now forms.new leaves.new classes.new) }
-    ensures searched { Searched arena.now (HasTwoTerms arena.now a b) classes.old classes.new steps.old steps.new }
+    ensures searched { Searched arena.now (HasTwoTerms arena.now a b) classes.old classes.new
+        steps.old steps.new }
 {
     let first = class_of(arena, forms, leaves, classes, a, None, steps)?;
     class_of(arena, forms, leaves, classes, b, first, steps)?;

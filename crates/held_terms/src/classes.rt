@@ -1,9 +1,11 @@
-//! Classes of words, memories and conditions: where facts let one stand for the other, both have one class.
+//! Classes of words, memories and conditions: where facts let one stand for the other, both have
+//! one class.
 //!
-//! A class is the number of a form in an arena of its own. The form of a term is the term itself, but that each variable stands for
-//! the form that an equation chose for it, and that a condition on an address stands over the memory before its outer stores. So two terms
-//! have one class exactly where they have the same form: operations, widths, comparisons and memories count, and no constants can be chosen
-//! so that others come to the same class.
+//! A class is the number of a form in an arena of its own. The form of a term is the term itself,
+//! but that each variable stands for the form that an equation chose for it, and that a condition
+//! on an address stands over the memory before its outer stores. So two terms have one class
+//! exactly where they have the same form: operations, widths, comparisons and memories count, and
+//! no constants can be chosen so that others come to the same class.
 
 ghost use Rattle.std.specs.Prelude.{◌≡◌, ◌+◌, ◌<◌, IfOk, IfSome, None as Nothing, OnOk, Some as Just, length};
 ghost use Rattle.std.specs.BTreeMap.{get};
@@ -22,15 +24,16 @@ use std::marker::Brand;
 use std::sync::ledger::{Blank, Ledger};
 use term_arena::{Arena, Node, Steps};
 
-/// A class: the number of a form, and that of the memory before its outer stores, if it is one of a memory, else the same number.
-#[derive(Clone, Copy, Debug)]
+/// A class: the number of a form, and that of the memory before its outer stores, if it is one of a
+/// memory, else the same number.
+#[derive(Clone, Copy)]
 pub(crate) struct Class {
     form: u64,
     base: u64,
 }
 
 /// The classes of a term's children. Where there are fewer, the last one counts again.
-#[derive(Clone, Copy, Debug)]
+#[derive(Clone, Copy)]
 struct Children {
     first: Class,
     second: Class,
@@ -38,20 +41,21 @@ struct Children {
 }
 
 /// The variable of a word or of a memory.
-#[derive(Clone, Copy, Debug)]
+#[derive(Clone, Copy)]
 enum Variable {
     Word(u32),
     Mem(u32),
 }
 
 /// What the form of a term is made of.
-#[derive(Clone, Copy, Debug)]
+#[derive(Clone, Copy)]
 enum Parts {
     /// The constant itself.
     Constant(u64),
     /// A variable, whose form is free.
     Variable(Variable),
-    /// The term itself, over the forms of three children. Where there are fewer, the last one counts again.
+    /// The term itself, over the forms of three children. Where there are fewer, the last one
+    /// counts again.
     Over(Node, u64, u64, u64),
 }
 
@@ -84,7 +88,8 @@ fn all_known(first: Option<Class>, second: Option<Class>, third: Option<Class>) 
     })
 }
 
-/// The node over the forms of its children. A condition on an address stands over the memory before its outer stores.
+/// The node over the forms of its children. A condition on an address stands over the memory before
+/// its outer stores.
 fn node_over(n: Node, c: Children) -> Node
     ensures { result ≡ node_over n c }
 {
@@ -124,7 +129,8 @@ fn class_at(n: Node, c: Children, form: u64) -> Class
 fn add_form(forms: &mut Arena, n: Node) -> Result<u64, NoMemory>
     requires { AreChildren forms.old n }
     ensures ok { IfOk result (λ k. IsAdded forms.old n k forms.new) }
-    ensures tree { IfOk result (λ k. tree_of forms.new k ≡ Just (tree_over (trees_of forms.old) n)) }
+    ensures tree { IfOk result (λ k.
+        tree_of forms.new k ≡ Just (tree_over (trees_of forms.old) n)) }
     ensures grows { Extends forms.old forms.new }
 {
     counted_form::<Brand>(forms, n, Blank::new(1))
@@ -137,7 +143,8 @@ fn counted_form<L: Ledger>(forms: &mut Arena, n: Node, blank: Blank) -> Result<u
     requires parts { blank.parts ≡ L.parts }
     requires one { L.parts ≡ 1 }
     ensures ok { IfOk result (λ k. IsAdded forms.old n k forms.new) }
-    ensures tree { IfOk result (λ k. tree_of forms.new k ≡ Just (tree_over (trees_of forms.old) n)) }
+    ensures tree { IfOk result (λ k.
+        tree_of forms.new k ≡ Just (tree_over (trees_of forms.old) n)) }
     ensures grows { Extends forms.old forms.new }
 {
     forms.add(n, &mut Steps::<L>::new(blank))
@@ -146,7 +153,8 @@ fn counted_form<L: Ledger>(forms: &mut Arena, n: Node, blank: Blank) -> Result<u
 /// The class of a form that is no store.
 fn class_alone(forms: &mut Arena, n: Node) -> Result<Class, NoMemory>
     requires { AreChildren forms.old n }
-    ensures form { IfOk result (λ c. tree_of forms.new c.form ≡ Just (tree_over (trees_of forms.old) n)) }
+    ensures form { IfOk result (λ c.
+        tree_of forms.new c.form ≡ Just (tree_over (trees_of forms.old) n)) }
     ensures base { IfOk result (λ c. c.base ≡ c.form) }
     ensures grows { Extends forms.old forms.new }
 {
@@ -161,7 +169,8 @@ fn class_with(
     children: Option<Children>,
 ) -> Result<Option<Class>, NoMemory>
     requires { IfSome children (λ c. AreChildren forms.old (node_over n c)) }
-    ensures class { IfOk result (λ v. IfSome v (λ k. IsClassOver forms.old forms.new n children k)) }
+    ensures class { IfOk result (λ v.
+        IfSome v (λ k. IsClassOver forms.old forms.new n children k)) }
     ensures grows { Extends forms.old forms.new }
 {
     match children {
@@ -225,7 +234,8 @@ fn put_leaf(leaves: &mut Leaves, v: Variable, c: Class) -> Result<(), NoMemory>
     Ok(())
 }
 
-/// The class of a variable, which is the one that is wanted, if it has none yet, and one of its own, if none is wanted.
+/// The class of a variable, which is the one that is wanted, if it has none yet, and one of its
+/// own, if none is wanted.
 fn class_of_variable(
     forms: &mut Arena,
     leaves: &mut Leaves,
@@ -271,8 +281,9 @@ fn own_class(forms: &mut Arena, v: Variable) -> Result<Class, NoMemory>
 
 // ---- classes
 
-/// The class of a term, as far as it is known. A variable that has none yet gets the one that is wanted, if it is the term itself,
-/// else one of its own. What is found is kept, so that each term is read once.
+/// The class of a term, as far as it is known. A variable that has none yet gets the one that is
+/// wanted, if it is the term itself, else one of its own. What is found is kept, so that each term
+/// is read once.
 #[cycle(classes)]
 pub(crate) fn class_of<L: Ledger>(
     arena: &Arena,
@@ -289,7 +300,8 @@ pub(crate) fn class_of<L: Ledger>(
     ensures class { IfOk result (λ v. IfSome v (HasClass arena.now forms.new leaves.new x)) }
     ensures seen { OnOk result (AreClassed arena.now forms.new leaves.new seen.new) }
     ensures grows { OnOk result (Grows forms.old forms.new leaves.old leaves.new) }
-    ensures searched { Searched arena.now (HasTerm arena.now x) seen.old seen.new steps.old steps.new }
+    ensures searched { Searched arena.now (HasTerm arena.now x) seen.old seen.new steps.old
+        steps.new }
 {
     if let Some(v) = seen_in(seen, x) {
         return Ok(v);
@@ -317,7 +329,8 @@ fn class_over<L: Ledger>(
     ensures class { IfOk result (λ v. IfSome v (HasClass arena.now forms.new leaves.new x)) }
     ensures seen { OnOk result (AreClassed arena.now forms.new leaves.new seen.new) }
     ensures grows { OnOk result (Grows forms.old forms.new leaves.old leaves.new) }
-    ensures searched { Searched arena.now (HasTerm arena.now x) seen.old seen.new (steps.old + 1) steps.new }
+    ensures searched { Searched arena.now (HasTerm arena.now x) seen.old seen.new (steps.old + 1)
+        steps.new }
 {
     match read_parts(arena, x, steps) {
         Parts::Constant(n) => {

@@ -19,7 +19,7 @@ use std::sync::ledger::Ledger;
 use term_arena::{Arena, Node, Steps};
 
 /// The children of two conditions of one form, in pairs.
-#[derive(Clone, Copy, Debug)]
+#[derive(Clone, Copy)]
 pub(crate) enum CondPairs {
     Differ,
     Compare(u64, u64, u64, u64),
@@ -66,15 +66,17 @@ fn cond_pairs<L: Ledger>(arena: &Arena, a: u64, b: u64, steps: &mut Steps<L>) ->
     ensures fit { CondPairsFit arena.now a result }
     ensures under { CondPairsUnder arena.now a b result }
     ensures steps { steps.new ≡ steps.old + 2 }
-    ensures alike { (facts : Items FactTree) → Alike facts (cond_of arena.now a) (cond_of arena.now b) ↔ CondPairsAlike facts arena.now result }
+    ensures alike { (facts : Items FactTree)
+        → Alike facts (cond_of arena.now a) (cond_of arena.now b)
+        ↔ CondPairsAlike facts arena.now result }
 {
     let n = arena.node(a, steps);
     let m = arena.node(b, steps);
     cond_pairs_of(n, m)
 }
 
-/// Whether two conditions have one form, and children that may be swapped. Of a memory of which a condition asks
-/// whether it has some bytes, only the addresses count. Each pair is decided once.
+/// Whether two conditions have one form, and children that may be swapped. Of a memory of which a
+/// condition asks whether it has some bytes, only the addresses count. Each pair is decided once.
 #[cycle(alike)]
 #[tactic(auto, using(crate::proofs::TableLemmas::known_child, crate::proofs::TableLemmas::known_next, crate::proofs::TableLemmas::known_after, crate::proofs::TableLemmas::known_pushed))]
 pub(crate) fn are_alike<L: Ledger>(
@@ -91,10 +93,14 @@ pub(crate) fn are_alike<L: Ledger>(
     requires found { AreAllFound arena.now found.old }
     requires a { IsCondAt arena.now a }
     requires b { IsCondAt arena.now b }
-    ensures answer { IfOk result (λ r. IsTrue r ↔ Alike (map (fact_of arena.now) facts.now) (cond_of arena.now a) (cond_of arena.now b)) }
-    ensures decided { OnOk result (AreDecided arena.now (map (fact_of arena.now) facts.now) known.old known.new) }
+    ensures answer { IfOk result (λ r.
+        IsTrue r
+        ↔ Alike (map (fact_of arena.now) facts.now) (cond_of arena.now a) (cond_of arena.now b)) }
+    ensures decided { OnOk result (AreDecided arena.now (map (fact_of arena.now) facts.now)
+        known.old known.new) }
     ensures found { OnOk result (AreAllFound arena.now found.new) }
-    ensures sought { Sought arena.now (HasBoth arena.now a b) known.old known.new found.old found.new steps.old steps.new }
+    ensures sought { Sought arena.now (HasBoth arena.now a b) known.old known.new found.old
+        found.new steps.old steps.new }
 {
     if let Some(v) = known.answer(a, b) {
         return Ok(v);
@@ -106,7 +112,8 @@ pub(crate) fn are_alike<L: Ledger>(
     Ok(v)
 }
 
-/// Whether two conditions that weren't compared yet are of one form with children that may be swapped.
+/// Whether two conditions that weren't compared yet are of one form with children that may be
+/// swapped.
 #[cycle(alike)]
 #[tactic(auto, using(crate::proofs::TableLemmas::known_child, crate::proofs::TableLemmas::known_next, crate::proofs::TableLemmas::known_after, crate::proofs::TableLemmas::known_pushed))]
 fn are_alike_below<L: Ledger>(
@@ -123,10 +130,14 @@ fn are_alike_below<L: Ledger>(
     requires found { AreAllFound arena.now found.old }
     requires a { IsCondAt arena.now a }
     requires b { IsCondAt arena.now b }
-    ensures answer { IfOk result (λ r. IsTrue r ↔ Alike (map (fact_of arena.now) facts.now) (cond_of arena.now a) (cond_of arena.now b)) }
-    ensures decided { OnOk result (AreDecided arena.now (map (fact_of arena.now) facts.now) known.old known.new) }
+    ensures answer { IfOk result (λ r.
+        IsTrue r
+        ↔ Alike (map (fact_of arena.now) facts.now) (cond_of arena.now a) (cond_of arena.now b)) }
+    ensures decided { OnOk result (AreDecided arena.now (map (fact_of arena.now) facts.now)
+        known.old known.new) }
     ensures found { OnOk result (AreAllFound arena.now found.new) }
-    ensures sought { Sought arena.now (HasBoth arena.now a b) known.old known.new found.old found.new (steps.old + 2) steps.new }
+    ensures sought { Sought arena.now (HasBoth arena.now a b) known.old known.new found.old
+        found.new (steps.old + 2) steps.new }
 {
     match cond_pairs(arena, a, b, steps) {
         CondPairs::Differ => Ok(false),
@@ -167,10 +178,15 @@ fn have_same_addresses<L: Ledger>(
     requires found { AreAllFound arena.now found.old }
     requires m { IsMemAt arena.now m }
     requires n { IsMemAt arena.now n }
-    ensures answer { IfOk result (λ r. IsTrue r ↔ SameAddresses (map (fact_of arena.now) facts.now) (mem_of arena.now m) (mem_of arena.now n)) }
-    ensures decided { OnOk result (AreDecided arena.now (map (fact_of arena.now) facts.now) known.old known.new) }
+    ensures answer { IfOk result (λ r.
+        IsTrue r
+        ↔ SameAddresses (map (fact_of arena.now) facts.now) (mem_of arena.now m)
+        (mem_of arena.now n)) }
+    ensures decided { OnOk result (AreDecided arena.now (map (fact_of arena.now) facts.now)
+        known.old known.new) }
     ensures found { OnOk result (AreAllFound arena.now found.new) }
-    ensures sought { Sought arena.now (HasBoth arena.now m n) known.old known.new found.old found.new steps.old steps.new }
+    ensures sought { Sought arena.now (HasBoth arena.now m n) known.old known.new found.old
+        found.new steps.old steps.new }
 {
     let same = swap_mem(arena, facts, known, m, n, steps)?;
     if same {

@@ -19,8 +19,9 @@ use std::sync::ledger::Ledger;
 use tailrec_lang::{Def, Exit, Group, def_at, results_at};
 use term_arena::{Arena, Node, Steps};
 
-/// The triple of an exit of a definition. Whether its code is the group's own is told by the caller. At most one step is taken for each
-/// different term of the list of arguments and that of results, of each kind, and of each of the two assertions.
+/// The triple of an exit of a definition. Whether its code is the group's own is told by the
+/// caller. At most one step is taken for each different term of the list of arguments and that of
+/// results, of each kind, and of each of the two assertions.
 pub fn is_exit<L: Ledger>(
     arena: &Arena,
     g: &Group,
@@ -32,8 +33,11 @@ pub fn is_exit<L: Ledger>(
 ) -> bool
     requires stated { IsHeldAt arena.now stated.now }
     requires code { IsTrue own ↔ (stated.now.code.ranges ≡ g.now.code.ranges) }
-    ensures answer { IsTrue result ↔ IsExit (group_tree g.now) d exit (triple_of arena.now stated.now) }
-    ensures steps { (ts : Items Tree) → HasHeld arena.now stated.now ts → steps.new ≤ steps.old + (10 * length ts + 1) }
+    ensures answer { IsTrue result
+        ↔ IsExit (group_tree g.now) d exit (triple_of arena.now stated.now) }
+    ensures steps { (ts : Items Tree)
+        → HasHeld arena.now stated.now ts
+        → steps.new ≤ steps.old + (10 * length ts + 1) }
 {
     match def_at(g, d as usize) {
         Some(def) => is_exit_of(arena, g, d, def, exit, stated, own, steps),
@@ -55,8 +59,11 @@ fn is_exit_of<L: Ledger>(
     requires def { slice_get (group_tree g.now).defs d ≡ Just (def_tree def.now) }
     requires stated { IsHeldAt arena.now stated.now }
     requires code { IsTrue own ↔ (stated.now.code.ranges ≡ g.now.code.ranges) }
-    ensures answer { IsTrue result ↔ IsExit (group_tree g.now) d exit (triple_of arena.now stated.now) }
-    ensures steps { (ts : Items Tree) → HasHeld arena.now stated.now ts → steps.new ≤ steps.old + (10 * length ts + 1) }
+    ensures answer { IsTrue result
+        ↔ IsExit (group_tree g.now) d exit (triple_of arena.now stated.now) }
+    ensures steps { (ts : Items Tree)
+        → HasHeld arena.now stated.now ts
+        → steps.new ≤ steps.old + (10 * length ts + 1) }
 {
     match def.exits.get(exit as usize) {
         Some(x) => is_exit_triple(arena, g, d, def, exit, *x, stated, own, steps),
@@ -78,7 +85,9 @@ fn is_exit_triple<L: Ledger>(
 ) -> bool
     requires stated { IsHeldAt arena.now stated.now }
     requires code { IsTrue own ↔ (stated.now.code.ranges ≡ g.now.code.ranges) }
-    ensures answer { IsTrue result ↔ (triple_of arena.now stated.now ≡ exit_triple (group_tree g.now) d (def_tree def.now) exit x) }
+    ensures answer { IsTrue result
+        ↔ (triple_of arena.now stated.now
+        ≡ exit_triple (group_tree g.now) d (def_tree def.now) exit x) }
     ensures steps { Looks 10 (HasHeld arena.now stated.now) result steps.old steps.new }
 {
     is_exit_fact(arena, g, d, exit, x, stated.facts.as_slice(), steps)
@@ -87,7 +96,8 @@ fn is_exit_triple<L: Ledger>(
         && is_end(arena, g, x, &stated.post, steps)
 }
 
-/// Whether the facts are alone that the definition, entered with its parameters, leaves by the exit with the next variables.
+/// Whether the facts are alone that the definition, entered with its parameters, leaves by the exit
+/// with the next variables.
 fn is_exit_fact<L: Ledger>(
     arena: &Arena,
     g: &Group,
@@ -98,7 +108,9 @@ fn is_exit_fact<L: Ledger>(
     steps: &mut Steps<L>,
 ) -> bool
     requires { AreFactsAt arena.now facts.now }
-    ensures answer { IsTrue result ↔ (map (fact_of arena.now) facts.now ≡ Gives d exit (parameters (group_tree g.now)) (results_of (group_tree g.now) x) ∷ []) }
+    ensures answer { IsTrue result
+        ↔ (map (fact_of arena.now) facts.now
+        ≡ Gives d exit (parameters (group_tree g.now)) (results_of (group_tree g.now) x) ∷ []) }
     ensures steps { Looks 4 (HasFacts arena.now facts.now) result steps.old steps.new }
 {
     facts.len() == 1 && is_gives(arena, g, d, exit, x, &facts[0], steps)
@@ -114,7 +126,9 @@ fn is_gives<L: Ledger>(
     steps: &mut Steps<L>,
 ) -> bool
     requires { IsFactAt arena.now fact.now }
-    ensures answer { IsTrue result ↔ (fact_of arena.now fact.now ≡ Gives d exit (parameters (group_tree g.now)) (results_of (group_tree g.now) x)) }
+    ensures answer { IsTrue result
+        ↔ (fact_of arena.now fact.now
+        ≡ Gives d exit (parameters (group_tree g.now)) (results_of (group_tree g.now) x)) }
     ensures steps { Looks 4 (HasFact arena.now fact.now) result steps.old steps.new }
 {
     match fact {
@@ -146,15 +160,16 @@ fn are_next<L: Ledger>(
     steps: &mut Steps<L>,
 ) -> bool
     requires { AreValuesAt arena.now values.now }
-    ensures answer { IsTrue result ↔ (values_over arena.now values.now ≡ variables_after words mems more_words more_mems) }
+    ensures answer { IsTrue result
+        ↔ (values_over arena.now values.now ≡ variables_after words mems more_words more_mems) }
     ensures steps { Looks 2 (HasValues arena.now values.now) result steps.old steps.new }
 {
     are_word_variables(arena, values.words.as_slice(), words, more_words, steps)
         && are_mem_variables(arena, values.mems.as_slice(), mems, more_mems, steps)
 }
 
-/// Whether the assertion is that where the definition is entered with its parameters. A step is taken for each of the terms of that
-/// one at most.
+/// Whether the assertion is that where the definition is entered with its parameters. A step is
+/// taken for each of the terms of that one at most.
 pub fn is_entry<L: Ledger>(
     arena: &Arena,
     g: &Group,
@@ -163,7 +178,9 @@ pub fn is_entry<L: Ledger>(
     steps: &mut Steps<L>,
 ) -> bool
     requires { IsSideAt arena.now side.now }
-    ensures answer { IsTrue result ↔ (side_of arena.now side.now ≡ at_entry (group_tree g.now) (def_tree def.now) (parameters (group_tree g.now))) }
+    ensures answer { IsTrue result
+        ↔ (side_of arena.now side.now
+        ≡ at_entry (group_tree g.now) (def_tree def.now) (parameters (group_tree g.now))) }
     ensures steps { Looks 3 (HasSide arena.now side.now) result steps.old steps.new }
     ensures each { steps.new ≤ steps.old + (1 + (length g.now.regs + g.now.mems)) }
 {
@@ -179,7 +196,9 @@ fn is_end<L: Ledger>(
     steps: &mut Steps<L>,
 ) -> bool
     requires { IsSideAt arena.now side.now }
-    ensures answer { IsTrue result ↔ (side_of arena.now side.now ≡ at_exit (group_tree g.now) (Just x) (results_of (group_tree g.now) x)) }
+    ensures answer { IsTrue result
+        ↔ (side_of arena.now side.now
+        ≡ at_exit (group_tree g.now) (Just x) (results_of (group_tree g.now) x)) }
     ensures steps { Looks 3 (HasSide arena.now side.now) result steps.old steps.new }
 {
     let words = g.regs.as_slice().len();
@@ -206,7 +225,10 @@ fn have_variables<L: Ledger>(
     steps: &mut Steps<L>,
 ) -> bool
     requires { IsSideAt arena.now side.now }
-    ensures answer { IsTrue result ↔ ((map (register_of arena.now) side.now.regs ≡ zip g.now.regs (map Var (range_with_len words (length g.now.regs)))) × (map (mem_of arena.now) side.now.mems ≡ map MemVar (range_with_len mems g.now.mems))) }
+    ensures answer { IsTrue result
+        ↔ ((map (register_of arena.now) side.now.regs
+        ≡ zip g.now.regs (map Var (range_with_len words (length g.now.regs))))
+        × (map (mem_of arena.now) side.now.mems ≡ map MemVar (range_with_len mems g.now.mems))) }
     ensures steps { Looks 2 (HasSide arena.now side.now) result steps.old steps.new }
     ensures each { steps.new ≤ steps.old + (length g.now.regs + g.now.mems) }
 {
@@ -223,7 +245,9 @@ fn are_registers<L: Ledger>(
     steps: &mut Steps<L>,
 ) -> bool
     requires { AreRegistersAt arena.now registers.now }
-    ensures answer { IsTrue result ↔ (map (register_of arena.now) registers.now ≡ zip numbers.now (map Var (range_with_len first (length numbers.now)))) }
+    ensures answer { IsTrue result
+        ↔ (map (register_of arena.now) registers.now
+        ≡ zip numbers.now (map Var (range_with_len first (length numbers.now)))) }
     ensures steps { Looks 1 (HasRegisters arena.now registers.now) result steps.old steps.new }
     ensures each { steps.new ≤ steps.old + length numbers.now }
 {
@@ -261,7 +285,8 @@ fn are_word_variables<L: Ledger>(
     steps: &mut Steps<L>,
 ) -> bool
     requires { AreWordsAt arena.now words.now }
-    ensures answer { IsTrue result ↔ (map (word_of arena.now) words.now ≡ map Var (range_with_len first count)) }
+    ensures answer { IsTrue result
+        ↔ (map (word_of arena.now) words.now ≡ map Var (range_with_len first count)) }
     ensures steps { Looks 1 (HasTerms arena.now words.now) result steps.old steps.new }
 {
     if words.len() != count {
@@ -283,7 +308,8 @@ fn are_mem_variables<L: Ledger>(
     steps: &mut Steps<L>,
 ) -> bool
     requires { AreMemsAt arena.now mems.now }
-    ensures answer { IsTrue result ↔ (map (mem_of arena.now) mems.now ≡ map MemVar (range_with_len first count)) }
+    ensures answer { IsTrue result
+        ↔ (map (mem_of arena.now) mems.now ≡ map MemVar (range_with_len first count)) }
     ensures steps { Looks 1 (HasTerms arena.now mems.now) result steps.old steps.new }
     ensures each { steps.new ≤ steps.old + count }
 {

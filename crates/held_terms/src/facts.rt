@@ -30,8 +30,8 @@ const SO: u64 = 2;
 
 const GIVES: u64 = 3;
 
-/// Facts. Where there are more than a few, and memory for it, the numbers of each one stand in order, so that one is looked
-/// up in as many comparisons as the logarithm of their number.
+/// Facts. Where there are more than a few, and memory for it, the numbers of each one stand in
+/// order, so that one is looked up in as many comparisons as the logarithm of their number.
 #[derive(Drop)]
 pub struct Facts<'f> {
     alloc: Global,
@@ -76,7 +76,8 @@ impl<'f> Facts<'f> {
     pub fn has(&self, arena: &Arena, fact: &HeldFact) -> bool
         requires facts { AreFactsAt arena.now self.now }
         requires fact { IsFactAt arena.now fact.now }
-        ensures { IsTrue result ↔ Contains (map (fact_of arena.now) self.now) (fact_of arena.now fact.now) }
+        ensures { IsTrue result
+            ↔ Contains (map (fact_of arena.now) self.now) (fact_of arena.now fact.now) }
     {
         arena.law_of_nodes();
         match self.is_listed(fact) {
@@ -89,7 +90,8 @@ impl<'f> Facts<'f> {
     pub fn has_all(&self, arena: &Arena, facts: &[HeldFact]) -> bool
         requires own { AreFactsAt arena.now self.now }
         requires facts { AreFactsAt arena.now facts.now }
-        ensures { IsTrue result ↔ AreAmong (map (fact_of arena.now) facts.now) (map (fact_of arena.now) self.now) }
+        ensures { IsTrue result
+            ↔ AreAmong (map (fact_of arena.now) facts.now) (map (fact_of arena.now) self.now) }
     {
         for fact in facts {
             if !self.has(arena, fact) {
@@ -104,7 +106,9 @@ impl<'f> Facts<'f> {
         requires facts { AreFactsAt arena.now self.now }
         requires a { IsWordAt arena.now a }
         requires b { IsWordAt arena.now b }
-        ensures { IsTrue result ↔ Contains (map (fact_of arena.now) self.now) (WordIs (word_of arena.now a) (word_of arena.now b)) }
+        ensures { IsTrue result
+            ↔ Contains (map (fact_of arena.now) self.now)
+            (WordIs (word_of arena.now a) (word_of arena.now b)) }
     {
         arena.law_of_nodes();
         match &self.index {
@@ -118,7 +122,9 @@ impl<'f> Facts<'f> {
         requires facts { AreFactsAt arena.now self.now }
         requires a { IsMemAt arena.now a }
         requires b { IsMemAt arena.now b }
-        ensures { IsTrue result ↔ Contains (map (fact_of arena.now) self.now) (MemIs (mem_of arena.now a) (mem_of arena.now b)) }
+        ensures { IsTrue result
+            ↔ Contains (map (fact_of arena.now) self.now)
+            (MemIs (mem_of arena.now a) (mem_of arena.now b)) }
     {
         arena.law_of_nodes();
         match &self.index {
@@ -129,7 +135,8 @@ impl<'f> Facts<'f> {
 
     /// Whether the fact's numbers are listed, if that can be told.
     fn is_listed(&self, fact: &HeldFact) -> Option<bool>
-        ensures { IfSome result (λ r. IsTrue r ↔ Contains (map numbers_of self.now) (numbers_of fact.now)) }
+        ensures { IfSome result (λ r.
+            IsTrue r ↔ Contains (map numbers_of self.now) (numbers_of fact.now)) }
     {
         match &self.index {
             Some(index) => is_listed_in(self.alloc, index, fact),
@@ -138,7 +145,8 @@ impl<'f> Facts<'f> {
     }
 }
 
-/// The numbers of all facts, where there are more than a few of them and of look-ups, and memory for it.
+/// The numbers of all facts, where there are more than a few of them and of look-ups, and memory
+/// for it.
 fn index_of_many(alloc: Global, facts: &[HeldFact], lookups: usize) -> Option<BTreeSet<Vec<u64>>>
     ensures { IfSome result (λ s. AreListed facts.now (map vec_items s.keys)) }
 {
@@ -210,7 +218,8 @@ fn copied(alloc: Global, numbers: &[u64]) -> Result<Vec<u64>, NoMemory>
 
 /// Whether the fact's numbers are listed, if there is memory for them.
 fn is_listed_in(alloc: Global, index: &BTreeSet<Vec<u64>>, fact: &HeldFact) -> Option<bool>
-    ensures { IfSome result (λ r. IsTrue r ↔ Contains (map vec_items index.now.keys) (numbers_of fact.now)) }
+    ensures { IfSome result (λ r.
+        IsTrue r ↔ Contains (map vec_items index.now.keys) (numbers_of fact.now)) }
 {
     match numbers_of(alloc, fact) {
         Ok(numbers) => Some(lists(index, numbers.as_slice())),
@@ -231,7 +240,9 @@ fn is_word_among(arena: &Arena, facts: &[HeldFact], a: u64, b: u64) -> bool
     requires facts { AreFactsAt arena.now facts.now }
     requires a { IsWordAt arena.now a }
     requires b { IsWordAt arena.now b }
-    ensures { IsTrue result ↔ Contains (map (fact_of arena.now) facts.now) (WordIs (word_of arena.now a) (word_of arena.now b)) }
+    ensures { IsTrue result
+        ↔ Contains (map (fact_of arena.now) facts.now)
+        (WordIs (word_of arena.now a) (word_of arena.now b)) }
 {
     for fact in facts {
         if is_word_fact(arena, fact, a, b) {
@@ -245,7 +256,8 @@ fn is_word_fact(arena: &Arena, fact: &HeldFact, a: u64, b: u64) -> bool
     requires fact { IsFactAt arena.now fact.now }
     requires a { IsWordAt arena.now a }
     requires b { IsWordAt arena.now b }
-    ensures { IsTrue result ↔ (fact_of arena.now fact.now ≡ WordIs (word_of arena.now a) (word_of arena.now b)) }
+    ensures { IsTrue result
+        ↔ (fact_of arena.now fact.now ≡ WordIs (word_of arena.now a) (word_of arena.now b)) }
 {
     match fact {
         HeldFact::WordIs(x, y) => same_word(arena, *x, a) && same_word(arena, *y, b),
@@ -259,7 +271,9 @@ fn is_mem_among(arena: &Arena, facts: &[HeldFact], a: u64, b: u64) -> bool
     requires facts { AreFactsAt arena.now facts.now }
     requires a { IsMemAt arena.now a }
     requires b { IsMemAt arena.now b }
-    ensures { IsTrue result ↔ Contains (map (fact_of arena.now) facts.now) (MemIs (mem_of arena.now a) (mem_of arena.now b)) }
+    ensures { IsTrue result
+        ↔ Contains (map (fact_of arena.now) facts.now)
+        (MemIs (mem_of arena.now a) (mem_of arena.now b)) }
 {
     for fact in facts {
         if is_mem_fact(arena, fact, a, b) {
@@ -273,7 +287,8 @@ fn is_mem_fact(arena: &Arena, fact: &HeldFact, a: u64, b: u64) -> bool
     requires fact { IsFactAt arena.now fact.now }
     requires a { IsMemAt arena.now a }
     requires b { IsMemAt arena.now b }
-    ensures { IsTrue result ↔ (fact_of arena.now fact.now ≡ MemIs (mem_of arena.now a) (mem_of arena.now b)) }
+    ensures { IsTrue result
+        ↔ (fact_of arena.now fact.now ≡ MemIs (mem_of arena.now a) (mem_of arena.now b)) }
 {
     match fact {
         HeldFact::MemIs(x, y) => same_mem(arena, *x, a) && same_mem(arena, *y, b),

@@ -26,8 +26,8 @@ use std::collections::BTreeMap;
 use std::sync::ledger::Ledger;
 use term_arena::{Arena, Steps};
 
-/// Whether each of the facts is among the others or follows from them. Each pair of numbers takes two steps at most, and each number
-/// two more.
+/// Whether each of the facts is among the others or follows from them. Each pair of numbers takes
+/// two steps at most, and each number two more.
 #[tactic(auto, using(crate::proofs::SeekLemmas::all_none))]
 pub fn are_among_or_follow<L: Ledger>(
     alloc: Global,
@@ -38,8 +38,14 @@ pub fn are_among_or_follow<L: Ledger>(
 ) -> Result<bool, NoMemory>
     requires facts { AreFactsAt arena.now facts.now }
     requires others { AreFactsAt arena.now others.now }
-    ensures answer { IfOk result (λ r. IsTrue r ↔ AreAmongOrFollow (map (fact_of arena.now) facts.now) (map (fact_of arena.now) others.now)) }
-    ensures steps { (ts : Items Tree) → HasFacts arena.now facts.now ts → HasFacts arena.now others.now ts → steps.new ≤ steps.old + (2 * (length ts * length ts) + 2 * length ts) }
+    ensures answer { IfOk result (λ r.
+        IsTrue r
+        ↔ AreAmongOrFollow (map (fact_of arena.now) facts.now)
+        (map (fact_of arena.now) others.now)) }
+    ensures steps { (ts : Items Tree)
+        → HasFacts arena.now facts.now ts
+        → HasFacts arena.now others.now ts
+        → steps.new ≤ steps.old + (2 * (length ts * length ts) + 2 * length ts) }
 {
     arena.law_of_nodes();
     let candidates = classify(alloc, arena, facts, others.as_slice(), steps)?;
@@ -77,10 +83,15 @@ fn is_among_or_follows<L: Ledger>(
     requires right { AreRight arena.now (map (fact_of arena.now) others.now) known.old }
     requires found { AreAllFound arena.now found.old }
     requires fact { IsFactAt arena.now fact.now }
-    ensures answer { IfOk result (λ r. IsTrue r ↔ (Contains (map (fact_of arena.now) others.now) (fact_of arena.now fact.now) ⊎ Follows (map (fact_of arena.now) others.now) (fact_of arena.now fact.now))) }
-    ensures right { OnOk result (AreRight arena.now (map (fact_of arena.now) others.now) known.new) }
+    ensures answer { IfOk result (λ r.
+        IsTrue r
+        ↔ (Contains (map (fact_of arena.now) others.now) (fact_of arena.now fact.now)
+        ⊎ Follows (map (fact_of arena.now) others.now) (fact_of arena.now fact.now))) }
+    ensures right { OnOk result (AreRight arena.now (map (fact_of arena.now) others.now)
+        known.new) }
     ensures found { OnOk result (AreAllFound arena.now found.new) }
-    ensures sought { Sought arena.now (HasFactAnd arena.now fact.now others.now) known.old known.new found.old found.new steps.old steps.new }
+    ensures sought { Sought arena.now (HasFactAnd arena.now fact.now others.now) known.old known.new
+        found.old found.new steps.old steps.new }
 {
     if others.has(arena, fact) {
         return Ok(true);
@@ -104,10 +115,13 @@ fn follows<L: Ledger>(
     requires right { AreRight arena.now (map (fact_of arena.now) others.now) known.old }
     requires found { AreAllFound arena.now found.old }
     requires fact { IsFactAt arena.now fact.now }
-    ensures answer { IfOk result (λ r. IsTrue r ↔ Follows (map (fact_of arena.now) others.now) (fact_of arena.now fact.now)) }
-    ensures right { OnOk result (AreRight arena.now (map (fact_of arena.now) others.now) known.new) }
+    ensures answer { IfOk result (λ r.
+        IsTrue r ↔ Follows (map (fact_of arena.now) others.now) (fact_of arena.now fact.now)) }
+    ensures right { OnOk result (AreRight arena.now (map (fact_of arena.now) others.now)
+        known.new) }
     ensures found { OnOk result (AreAllFound arena.now found.new) }
-    ensures sought { Sought arena.now (HasFactAnd arena.now fact.now others.now) known.old known.new found.old found.new steps.old steps.new }
+    ensures sought { Sought arena.now (HasFactAnd arena.now fact.now others.now) known.old known.new
+        found.old found.new steps.old steps.new }
 {
     match fact {
         HeldFact::WordIs(a, b) => {
@@ -140,10 +154,17 @@ fn condition_follows<L: Ledger>(
     requires right { AreRight arena.now (map (fact_of arena.now) others.now) known.old }
     requires found { AreAllFound arena.now found.old }
     requires there { IsCondAt arena.now c }
-    ensures answer { IfOk result (λ r. IsTrue r ↔ (IsAlwaysTrue (cond_of arena.now c) ⊎ ((d : CondTree) × Contains (map (fact_of arena.now) others.now) (So d) × Alike (map (fact_of arena.now) others.now) (cond_of arena.now c) d))) }
-    ensures right { OnOk result (AreRight arena.now (map (fact_of arena.now) others.now) known.new) }
+    ensures answer { IfOk result (λ r.
+        IsTrue r
+        ↔ (IsAlwaysTrue (cond_of arena.now c)
+        ⊎ ((d : CondTree)
+        × Contains (map (fact_of arena.now) others.now) (So d)
+        × Alike (map (fact_of arena.now) others.now) (cond_of arena.now c) d))) }
+    ensures right { OnOk result (AreRight arena.now (map (fact_of arena.now) others.now)
+        known.new) }
     ensures found { OnOk result (AreAllFound arena.now found.new) }
-    ensures sought { Sought arena.now (HasCondAnd arena.now c others.now) known.old known.new found.old found.new steps.old steps.new }
+    ensures sought { Sought arena.now (HasCondAnd arena.now c others.now) known.old known.new
+        found.old found.new steps.old steps.new }
 {
     let always = is_always_true(arena, found, c, steps)?;
     if always {
@@ -170,10 +191,15 @@ fn is_like_some<L: Ledger>(
     requires right { AreRight arena.now (map (fact_of arena.now) facts.now) known.old }
     requires found { AreAllFound arena.now found.old }
     requires there { IsCondAt arena.now c }
-    ensures answer { IfOk result (λ r. IsTrue r ↔ ((d : CondTree) × Contains (map (fact_of arena.now) given.now) (So d) × Alike (map (fact_of arena.now) facts.now) (cond_of arena.now c) d)) }
+    ensures answer { IfOk result (λ r.
+        IsTrue r
+        ↔ ((d : CondTree)
+        × Contains (map (fact_of arena.now) given.now) (So d)
+        × Alike (map (fact_of arena.now) facts.now) (cond_of arena.now c) d)) }
     ensures right { OnOk result (AreRight arena.now (map (fact_of arena.now) facts.now) known.new) }
     ensures found { OnOk result (AreAllFound arena.now found.new) }
-    ensures sought { Sought arena.now (HasCondAnd arena.now c given.now) known.old known.new found.old found.new steps.old steps.new }
+    ensures sought { Sought arena.now (HasCondAnd arena.now c given.now) known.old known.new
+        found.old found.new steps.old steps.new }
 {
     for fact in given {
         let like = is_like(arena, facts, known, found, c, fact, steps)?;
@@ -198,10 +224,15 @@ fn is_like<L: Ledger>(
     requires found { AreAllFound arena.now found.old }
     requires there { IsCondAt arena.now c }
     requires fact { IsFactAt arena.now fact.now }
-    ensures answer { IfOk result (λ r. IsTrue r ↔ ((d : CondTree) × (fact_of arena.now fact.now ≡ So d) × Alike (map (fact_of arena.now) facts.now) (cond_of arena.now c) d)) }
+    ensures answer { IfOk result (λ r.
+        IsTrue r
+        ↔ ((d : CondTree)
+        × (fact_of arena.now fact.now ≡ So d)
+        × Alike (map (fact_of arena.now) facts.now) (cond_of arena.now c) d)) }
     ensures right { OnOk result (AreRight arena.now (map (fact_of arena.now) facts.now) known.new) }
     ensures found { OnOk result (AreAllFound arena.now found.new) }
-    ensures sought { Sought arena.now (HasCondAndFact arena.now c fact.now) known.old known.new found.old found.new steps.old steps.new }
+    ensures sought { Sought arena.now (HasCondAndFact arena.now c fact.now) known.old known.new
+        found.old found.new steps.old steps.new }
 {
     match fact {
         HeldFact::So(d) => {

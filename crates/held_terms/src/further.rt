@@ -13,7 +13,9 @@ use term_arena::Arena;
 pub fn are_listed(arena: &Arena, own: &[(u8, u64)], all: &[(u8, u64)]) -> bool
     requires own { AreRegistersAt arena.now own.now }
     requires all { AreRegistersAt arena.now all.now }
-    ensures { IsTrue result ↔ (map (register_of arena.now) own.now ≡ listed (map (register_of arena.now) own.now) (map (register_of arena.now) all.now)) }
+    ensures { IsTrue result
+        ↔ (map (register_of arena.now) own.now
+        ≡ listed (map (register_of arena.now) own.now) (map (register_of arena.now) all.now)) }
 {
     let mut place = 0;
     for i in 0..all.len() {
@@ -28,7 +30,8 @@ pub fn are_listed(arena: &Arena, own: &[(u8, u64)], all: &[(u8, u64)]) -> bool
     place >= own.len()
 }
 
-/// Whether the registers of `a` that aren't listed in the one list are those of `b` that aren't in the other.
+/// Whether the registers of `a` that aren't listed in the one list are those of `b` that aren't in
+/// the other.
 pub fn same_further(
     arena: &Arena,
     own_a: &[(u8, u64)],
@@ -38,7 +41,9 @@ pub fn same_further(
 ) -> bool
     requires a { AreRegistersAt arena.now a.now }
     requires b { AreRegistersAt arena.now b.now }
-    ensures { IsTrue result ↔ (further (map (register_of arena.now) own_a.now) (map (register_of arena.now) a.now) ≡ further (map (register_of arena.now) own_b.now) (map (register_of arena.now) b.now)) }
+    ensures { IsTrue result
+        ↔ (further (map (register_of arena.now) own_a.now) (map (register_of arena.now) a.now)
+        ≡ further (map (register_of arena.now) own_b.now) (map (register_of arena.now) b.now)) }
 {
     let mut place = 0;
     for i in 0..a.len() {
@@ -57,7 +62,9 @@ pub fn same_further(
 /// The place of the first register from `start` on that isn't listed, or how many there are.
 fn next_further(own: &[(u8, u64)], all: &[(u8, u64)], start: usize) -> usize
     ensures same { further own.now (drop start all.now) ≡ further own.now (drop result all.now) }
-    ensures first { (q : ℕ × ℕ) → slice_get all.now result ≡ Some q → is_listed own.now q.0 ≡ false }
+    ensures first { (q : ℕ × ℕ)
+        → slice_get all.now result ≡ Some q
+        → is_listed own.now q.0 ≡ false }
 {
     for i in start..all.len() {
         if !is_listed(own, all[i].0) {
@@ -83,7 +90,9 @@ fn is_listed(own: &[(u8, u64)], number: u8) -> bool
 fn is_at(arena: &Arena, all: &[(u8, u64)], place: usize, register: (u8, u64)) -> bool
     requires all { AreRegistersAt arena.now all.now }
     requires register { IsWordAt arena.now register.1 }
-    ensures is { IsTrue result ↔ (slice_get (map (register_of arena.now) all.now) place ≡ Some (register_of arena.now register)) }
+    ensures is { IsTrue result
+        ↔ (slice_get (map (register_of arena.now) all.now) place
+        ≡ Some (register_of arena.now register)) }
     ensures within { IsTrue result → place < length all.now }
 {
     match all.get(place) {
@@ -92,13 +101,20 @@ fn is_at(arena: &Arena, all: &[(u8, u64)], place: usize, register: (u8, u64)) ->
     }
 }
 
-/// Whether the memories of `a` are the ones and then others, and those of `b` the other ones and then the same others.
+/// Whether the memories of `a` are the ones and then others, and those of `b` the other ones and
+/// then the same others.
 pub fn same_further_mems(arena: &Arena, own_a: &[u64], a: &[u64], own_b: &[u64], b: &[u64]) -> bool
     requires own_a { AreMemsAt arena.now own_a.now }
     requires a { AreMemsAt arena.now a.now }
     requires own_b { AreMemsAt arena.now own_b.now }
     requires b { AreMemsAt arena.now b.now }
-    ensures { IsTrue result ↔ ((map (mem_of arena.now) own_a.now ++ rest_after (map (mem_of arena.now) own_a.now) (map (mem_of arena.now) a.now) ≡ map (mem_of arena.now) a.now) × (map (mem_of arena.now) own_b.now ++ rest_after (map (mem_of arena.now) own_a.now) (map (mem_of arena.now) a.now) ≡ map (mem_of arena.now) b.now)) }
+    ensures { IsTrue result
+        ↔ ((map (mem_of arena.now) own_a.now
+        ++ rest_after (map (mem_of arena.now) own_a.now) (map (mem_of arena.now) a.now)
+        ≡ map (mem_of arena.now) a.now)
+        × (map (mem_of arena.now) own_b.now
+        ++ rest_after (map (mem_of arena.now) own_a.now) (map (mem_of arena.now) a.now)
+        ≡ map (mem_of arena.now) b.now)) }
 {
     let more = rest_after(a, own_a.len());
     are_joined(arena, own_a, more, a) && are_joined(arena, own_b, more, b)
@@ -108,7 +124,9 @@ fn are_joined(arena: &Arena, first: &[u64], second: &[u64], all: &[u64]) -> bool
     requires first { AreMemsAt arena.now first.now }
     requires second { AreMemsAt arena.now second.now }
     requires all { AreMemsAt arena.now all.now }
-    ensures { IsTrue result ↔ (map (mem_of arena.now) first.now ++ map (mem_of arena.now) second.now ≡ map (mem_of arena.now) all.now) }
+    ensures { IsTrue result
+        ↔ (map (mem_of arena.now) first.now ++ map (mem_of arena.now) second.now
+        ≡ map (mem_of arena.now) all.now) }
 {
     same_mems(arena, first, prefix(all, first.len()))
         && same_mems(arena, second, rest_after(all, first.len()))

@@ -23,9 +23,10 @@ const EMPTY: Slot = Slot {
     image: None,
 };
 
-/// The numbers whose images were asked for since the table was cleared, each with that of its image, or with none while that is
-/// being made. A number's slot stands at the place of the number. The table is cleared at no cost for each slot: what an earlier
-/// turn wrote counts no more. It has as many slots as the arena has terms at most.
+/// The numbers whose images were asked for since the table was cleared, each with that of its
+/// image, or with none while that is being made. A number's slot stands at the place of the number.
+/// The table is cleared at no cost for each slot: what an earlier turn wrote counts no more. It has
+/// as many slots as the arena has terms at most.
 #[derive(Drop)]
 pub struct ImageTable {
     alloc: Global,
@@ -79,7 +80,8 @@ impl ImageTable {
     /// Keeps what is known of a number.
     pub(crate) fn insert(&mut self, x: u64, image: Option<u64>) -> Result<(), NoMemory>
         ensures updates { OnOk result (Updates self.old self.new x image) }
-        ensures len { OnOk result (length self.new ≡ length self.old + (if is_some (image_at self.old x) then 0 else 1)) }
+        ensures len { OnOk result (length self.new
+            ≡ length self.old + (if is_some (image_at self.old x) then 0 else 1)) }
         ensures err { OnErr result (self.new ≡ self.old) }
         ensures ordered { IsOrdered self.new }
     {

@@ -12,8 +12,8 @@ use rv_words::NoMemory;
 use std::sync::ledger::Ledger;
 use term_arena::{Arena, Node, Steps, law_of_arenas};
 
-/// The number of the image of a term. Each number whose image is asked for is kept, so it is read once, and one node is added
-/// for it.
+/// The number of the image of a term. Each number whose image is asked for is kept, so it is read
+/// once, and one node is added for it.
 #[cycle(images)]
 #[tactic(auto, using(crate::proofs::ImageLemmas::image_stays, crate::proofs::ImageLemmas::get_stays, crate::proofs::ImageLemmas::longer))]
 pub fn image<L: Ledger>(
@@ -27,11 +27,13 @@ pub fn image<L: Ledger>(
     requires there { x < length arena.old }
     requires ready { IsReady arena.old words.now mems.now known.old }
     requires free { IsFree known.old (x + 1) }
-    ensures image { IfOk result (λ y. IsImage arena.new (put_for_numbers arena.new words.now mems.now) x y) }
+    ensures image { IfOk result (λ y.
+        IsImage arena.new (put_for_numbers arena.new words.now mems.now) x y) }
     ensures ready { IsReady arena.new words.now mems.now known.new }
     ensures grows { Extends arena.old arena.new }
     ensures ended { OnOk result (AreEnded known.old known.new) }
-    ensures imaged { Imaged arena.old arena.new (HasTerm arena.old x) known.old known.new steps.old steps.new }
+    ensures imaged { Imaged arena.old arena.new (HasTerm arena.old x) known.old known.new steps.old
+        steps.new }
 {
     if let Some(y) = known.get(x) {
         return Ok(y);
@@ -56,11 +58,13 @@ fn image_over<L: Ledger>(
     requires there { x < length arena.old }
     requires ready { IsReady arena.old words.now mems.now known.old }
     requires free { IsFree known.old x }
-    ensures image { IfOk result (λ y. IsImage arena.new (put_for_numbers arena.new words.now mems.now) x y) }
+    ensures image { IfOk result (λ y.
+        IsImage arena.new (put_for_numbers arena.new words.now mems.now) x y) }
     ensures ready { IsReady arena.new words.now mems.now known.new }
     ensures grows { Extends arena.old arena.new }
     ensures ended { OnOk result (AreEnded known.old known.new) }
-    ensures imaged { Imaged arena.old arena.new (HasTerm arena.old x) known.old known.new (steps.old + 2) steps.new }
+    ensures imaged { Imaged arena.old arena.new (HasTerm arena.old x) known.old known.new
+        (steps.old + 2) steps.new }
 {
     let n = arena.node(x, steps);
     match n {
@@ -154,7 +158,8 @@ fn made<L: Ledger>(
     requires at { slice_get arena.old x ≡ Just n }
     requires node { ImageNode arena.old (put_for_numbers arena.old words.now mems.now) n m }
     requires ready { IsReady arena.old words.now mems.now known.now }
-    ensures image { IfOk result (λ y. IsImage arena.new (put_for_numbers arena.new words.now mems.now) x y) }
+    ensures image { IfOk result (λ y.
+        IsImage arena.new (put_for_numbers arena.new words.now mems.now) x y) }
     ensures ready { IsReady arena.new words.now mems.now known.now }
     ensures grows { Extends arena.old arena.new }
     ensures steps { steps.new ≡ steps.old + 1 }

@@ -20,8 +20,9 @@ use std::alloc::Global;
 use std::sync::ledger::Ledger;
 use term_arena::{Arena, Steps};
 
-/// The triple with all listed variables replaced at once, but for its code. Each different term of the triple takes two steps at
-/// most. The table is for the images that are made on the way; what it had of other triples is forgotten.
+/// The triple with all listed variables replaced at once, but for its code. Each different term of
+/// the triple takes two steps at most. The table is for the images that are made on the way; what
+/// it had of other triples is forgotten.
 pub fn instance<L: Ledger>(
     alloc: Global,
     arena: &mut Arena,
@@ -34,9 +35,13 @@ pub fn instance<L: Ledger>(
     requires p { IsHeldAt arena.old p.now }
     requires sub { IsSubAt arena.old words.now mems.now }
     ensures there { IfOk result (λ q. IsHeldAt arena.new q) }
-    ensures instance { IfOk result (λ q. IsInst (put_for_numbers arena.old words.now mems.now) (triple_of arena.old p.now) (triple_of arena.new q)) }
+    ensures instance { IfOk result (λ q.
+        IsInst (put_for_numbers arena.old words.now mems.now) (triple_of arena.old p.now)
+        (triple_of arena.new q)) }
     ensures grows { Extends arena.old arena.new }
-    ensures steps { (ts : Items Tree) → HasHeld arena.old p.now ts → steps.new ≤ steps.old + 2 * length ts }
+    ensures steps { (ts : Items Tree)
+        → HasHeld arena.old p.now ts
+        → steps.new ≤ steps.old + 2 * length ts }
 {
     known.clear();
     let word_terms = Listing::new(alloc, words);
@@ -59,9 +64,12 @@ fn held_image<L: Ledger>(
     requires ready { IsReady arena.old words.now mems.now known.old }
     requires made { AreMade known.old }
     ensures there { IfOk result (λ q. IsHeldAt arena.new q) }
-    ensures instance { IfOk result (λ q. IsInst (put_for_numbers arena.old words.now mems.now) (triple_of arena.old p.now) (triple_of arena.new q)) }
+    ensures instance { IfOk result (λ q.
+        IsInst (put_for_numbers arena.old words.now mems.now) (triple_of arena.old p.now)
+        (triple_of arena.new q)) }
     ensures grows { Extends arena.old arena.new }
-    ensures imaged { Imaged arena.old arena.new (HasHeld arena.old p.now) known.old known.new steps.old steps.new }
+    ensures imaged { Imaged arena.old arena.new (HasHeld arena.old p.now) known.old known.new
+        steps.old steps.new }
 {
     let facts = fact_images(alloc, arena, words, mems, known, p.facts.as_slice(), steps)?;
     let pre = side_image(alloc, arena, words, mems, known, &p.pre, steps)?;
@@ -88,11 +96,13 @@ fn images<L: Ledger>(
     requires within { AreWithin arena.old xs.now }
     requires ready { IsReady arena.old words.now mems.now known.old }
     requires made { AreMade known.old }
-    ensures images { IfOk result (λ ys. AreImagesOf arena.new (put_for_numbers arena.new words.now mems.now) xs.now ys) }
+    ensures images { IfOk result (λ ys.
+        AreImagesOf arena.new (put_for_numbers arena.new words.now mems.now) xs.now ys) }
     ensures ready { IsReady arena.new words.now mems.now known.new }
     ensures grows { Extends arena.old arena.new }
     ensures made { OnOk result (AreMade known.new) }
-    ensures imaged { Imaged arena.old arena.new (HasTerms arena.old xs.now) known.old known.new steps.old steps.new }
+    ensures imaged { Imaged arena.old arena.new (HasTerms arena.old xs.now) known.old known.new
+        steps.old steps.new }
 {
     let mut ys = List::with_capacity(alloc, xs.len())?;
     for i in 0..xs.len() {
@@ -115,11 +125,14 @@ fn register_images<L: Ledger>(
     requires registers { AreRegistersAt arena.old registers.now }
     requires ready { IsReady arena.old words.now mems.now known.old }
     requires made { AreMade known.old }
-    ensures images { IfOk result (λ qs. AllZip (IsRegisterImage arena.new (put_for_numbers arena.new words.now mems.now)) registers.now qs) }
+    ensures images { IfOk result (λ qs.
+        AllZip (IsRegisterImage arena.new (put_for_numbers arena.new words.now mems.now))
+        registers.now qs) }
     ensures ready { IsReady arena.new words.now mems.now known.new }
     ensures grows { Extends arena.old arena.new }
     ensures made { OnOk result (AreMade known.new) }
-    ensures imaged { Imaged arena.old arena.new (HasRegisters arena.old registers.now) known.old known.new steps.old steps.new }
+    ensures imaged { Imaged arena.old arena.new (HasRegisters arena.old registers.now) known.old
+        known.new steps.old steps.new }
 {
     let mut images = List::with_capacity(alloc, registers.len())?;
     for i in 0..registers.len() {
@@ -141,11 +154,13 @@ fn values_image<L: Ledger>(
     requires values { AreValuesAt arena.old values.now }
     requires ready { IsReady arena.old words.now mems.now known.old }
     requires made { AreMade known.old }
-    ensures image { IfOk result (λ w. IsValuesImage arena.new (put_for_numbers arena.new words.now mems.now) values.now w) }
+    ensures image { IfOk result (λ w.
+        IsValuesImage arena.new (put_for_numbers arena.new words.now mems.now) values.now w) }
     ensures ready { IsReady arena.new words.now mems.now known.new }
     ensures grows { Extends arena.old arena.new }
     ensures made { OnOk result (AreMade known.new) }
-    ensures imaged { Imaged arena.old arena.new (HasValues arena.old values.now) known.old known.new steps.old steps.new }
+    ensures imaged { Imaged arena.old arena.new (HasValues arena.old values.now) known.old known.new
+        steps.old steps.new }
 {
     let first = images(
         alloc,
@@ -183,11 +198,13 @@ fn fact_image<L: Ledger>(
     requires fact { IsFactAt arena.old fact.now }
     requires ready { IsReady arena.old words.now mems.now known.old }
     requires made { AreMade known.old }
-    ensures image { IfOk result (λ f. IsFactImage arena.new (put_for_numbers arena.new words.now mems.now) fact.now f) }
+    ensures image { IfOk result (λ f.
+        IsFactImage arena.new (put_for_numbers arena.new words.now mems.now) fact.now f) }
     ensures ready { IsReady arena.new words.now mems.now known.new }
     ensures grows { Extends arena.old arena.new }
     ensures made { OnOk result (AreMade known.new) }
-    ensures imaged { Imaged arena.old arena.new (HasFact arena.old fact.now) known.old known.new steps.old steps.new }
+    ensures imaged { Imaged arena.old arena.new (HasFact arena.old fact.now) known.old known.new
+        steps.old steps.new }
 {
     match fact {
         HeldFact::WordIs(a, b) => {
@@ -234,11 +251,14 @@ fn fact_images<L: Ledger>(
     requires facts { AreFactsAt arena.old facts.now }
     requires ready { IsReady arena.old words.now mems.now known.old }
     requires made { AreMade known.old }
-    ensures images { IfOk result (λ gs. AllZip (IsFactImage arena.new (put_for_numbers arena.new words.now mems.now)) facts.now gs) }
+    ensures images { IfOk result (λ gs.
+        AllZip (IsFactImage arena.new (put_for_numbers arena.new words.now mems.now)) facts.now
+        gs) }
     ensures ready { IsReady arena.new words.now mems.now known.new }
     ensures grows { Extends arena.old arena.new }
     ensures made { OnOk result (AreMade known.new) }
-    ensures imaged { Imaged arena.old arena.new (HasFacts arena.old facts.now) known.old known.new steps.old steps.new }
+    ensures imaged { Imaged arena.old arena.new (HasFacts arena.old facts.now) known.old known.new
+        steps.old steps.new }
 {
     let mut images = List::with_capacity(alloc, facts.len())?;
     for fact in facts {
@@ -260,11 +280,13 @@ fn side_image<L: Ledger>(
     requires side { IsSideAt arena.old side.now }
     requires ready { IsReady arena.old words.now mems.now known.old }
     requires made { AreMade known.old }
-    ensures image { IfOk result (λ b. IsSideImage arena.new (put_for_numbers arena.new words.now mems.now) side.now b) }
+    ensures image { IfOk result (λ b.
+        IsSideImage arena.new (put_for_numbers arena.new words.now mems.now) side.now b) }
     ensures ready { IsReady arena.new words.now mems.now known.new }
     ensures grows { Extends arena.old arena.new }
     ensures made { OnOk result (AreMade known.new) }
-    ensures imaged { Imaged arena.old arena.new (HasSide arena.old side.now) known.old known.new steps.old steps.new }
+    ensures imaged { Imaged arena.old arena.new (HasSide arena.old side.now) known.old known.new
+        steps.old steps.new }
 {
     let pc = image(arena, words, mems, known, side.pc, steps)?;
     let regs = register_images(

@@ -1,4 +1,5 @@
-//! The rules that lines of later versions have, over numbers. Whether codes are the same is told by the caller here too.
+//! The rules that lines of later versions have, over numbers. Whether codes are the same is told by
+//! the caller here too.
 
 ghost use Rattle.std.specs.Prelude.{◌≡◌, ◌↔◌, ◌+◌, ◌≤◌, IfOk, IsTrue, map};
 ghost use Rattle.std.specs.List.{Contains};
@@ -18,8 +19,9 @@ use std::alloc::Global;
 use std::sync::ledger::Ledger;
 use term_arena::{Arena, Node, Steps};
 
-/// More facts, and another last program counter, which one of them says to be the same. Whether the code is the same is told by the
-/// caller. It takes one step. The equation of the two counters is put into the arena, whatever the answer.
+/// More facts, and another last program counter, which one of them says to be the same. Whether the
+/// code is the same is told by the caller. It takes one step. Where all else of the row holds, the
+/// equation of the two counters is put into the arena, whether or not a fact says it.
 pub fn is_steered<L: Ledger>(
     alloc: Global,
     arena: &mut Arena,
@@ -31,7 +33,8 @@ pub fn is_steered<L: Ledger>(
     requires p { IsHeldAt arena.old p.now }
     requires stated { IsHeldAt arena.old stated.now }
     requires code { IsTrue same_code ↔ (p.now.code.ranges ≡ stated.now.code.ranges) }
-    ensures answer { IfOk result (λ r. IsTrue r ↔ IsSteered (triple_of arena.old p.now) (triple_of arena.old stated.now)) }
+    ensures answer { IfOk result (λ r.
+        IsTrue r ↔ IsSteered (triple_of arena.old p.now) (triple_of arena.old stated.now)) }
     ensures grows { Extends arena.old arena.new }
     ensures steps { steps.new ≤ steps.old + 1 }
 {
@@ -55,7 +58,14 @@ fn keeps_all_but_place(
     requires stated { IsHeldAt arena.now stated.now }
     requires code { IsTrue same_code ↔ (p.now.code.ranges ≡ stated.now.code.ranges) }
     requires facts { facts.now ≡ stated.now.facts }
-    ensures { IsTrue result ↔ ((side_of arena.now p.now.pre ≡ side_of arena.now stated.now.pre) × (p.now.code.ranges ≡ stated.now.code.ranges) × (map (register_of arena.now) p.now.post.regs ≡ map (register_of arena.now) stated.now.post.regs) × (map (mem_of arena.now) p.now.post.mems ≡ map (mem_of arena.now) stated.now.post.mems) × AreAmong (map (fact_of arena.now) p.now.facts) (map (fact_of arena.now) stated.now.facts)) }
+    ensures { IsTrue result
+        ↔ ((side_of arena.now p.now.pre ≡ side_of arena.now stated.now.pre)
+        × (p.now.code.ranges ≡ stated.now.code.ranges)
+        × (map (register_of arena.now) p.now.post.regs
+        ≡ map (register_of arena.now) stated.now.post.regs)
+        × (map (mem_of arena.now) p.now.post.mems ≡ map (mem_of arena.now) stated.now.post.mems)
+        × AreAmong (map (fact_of arena.now) p.now.facts)
+        (map (fact_of arena.now) stated.now.facts)) }
 {
     same_side(arena, &p.pre, &stated.pre)
         && same_code
@@ -75,7 +85,10 @@ fn are_equal_by<L: Ledger>(
     requires facts { AreFactsAt arena.old facts.now }
     requires a { IsWordAt arena.old a }
     requires b { IsWordAt arena.old b }
-    ensures answer { IfOk result (λ r. IsTrue r ↔ Contains (map (fact_of arena.old) facts.now) (So (Compare Eq (word_of arena.old a) (word_of arena.old b)))) }
+    ensures answer { IfOk result (λ r.
+        IsTrue r
+        ↔ Contains (map (fact_of arena.old) facts.now)
+        (So (Compare Eq (word_of arena.old a) (word_of arena.old b)))) }
     ensures grows { Extends arena.old arena.new }
     ensures steps { steps.new ≡ steps.old + 1 }
 {
@@ -83,12 +96,14 @@ fn are_equal_by<L: Ledger>(
     Ok(facts.has(arena, &HeldFact::So(equation)))
 }
 
-/// The two memories exchanged, in both assertions. Whether the code is the same is told by the caller.
+/// The two memories exchanged, in both assertions. Whether the code is the same is told by the
+/// caller.
 pub fn is_exchanged(arena: &Arena, p: &Held, stated: &Held, same_code: bool) -> bool
     requires p { IsHeldAt arena.now p.now }
     requires stated { IsHeldAt arena.now stated.now }
     requires code { IsTrue same_code ↔ (p.now.code.ranges ≡ stated.now.code.ranges) }
-    ensures { IsTrue result ↔ IsExchanged (triple_of arena.now p.now) (triple_of arena.now stated.now) }
+    ensures { IsTrue result
+        ↔ IsExchanged (triple_of arena.now p.now) (triple_of arena.now stated.now) }
 {
     same_facts(arena, p.facts.as_slice(), stated.facts.as_slice())
         && same_code
@@ -104,7 +119,8 @@ pub fn is_exchanged(arena: &Arena, p: &Held, stated: &Held, same_code: bool) -> 
 fn are_exchanged(arena: &Arena, a: &[u64], b: &[u64]) -> bool
     requires a { AreMemsAt arena.now a.now }
     requires b { AreMemsAt arena.now b.now }
-    ensures { IsTrue result ↔ AreExchanged (map (mem_of arena.now) a.now) (map (mem_of arena.now) b.now) }
+    ensures { IsTrue result
+        ↔ AreExchanged (map (mem_of arena.now) a.now) (map (mem_of arena.now) b.now) }
 {
     a.len() == 2 && b.len() == 2 && same_mem(arena, a[0], b[1]) && same_mem(arena, a[1], b[0])
 }

@@ -9,11 +9,12 @@ use std::alloc::Global;
 use std::collections::BTreeMap;
 use std::marker::Model;
 
-/// How many terms are looked for one by one: those for all registers and memories, which a line that `decompile` writes has at most.
+/// How many terms are looked for one by one: those for all registers and memories, which a line
+/// that `decompile` writes has at most.
 const FEW_ENTRIES: usize = 40;
 
-/// Numbers of terms, each listed for a variable. Where there are more than a few, they are looked up by an index, if there was
-/// memory for it.
+/// Numbers of terms, each listed for a variable. Where there are more than a few, they are looked
+/// up by an index, if there was memory for it.
 #[derive(Drop)]
 pub(crate) struct Listing<'l> {
     entries: &'l [(u32, u64)],

@@ -11,7 +11,8 @@ use frame_compose::{prefix, rest_after};
 use std::alloc::Global;
 use term_arena::Arena;
 
-/// Whether all facts are the first ones and then those of the second that aren't among them, in order.
+/// Whether all facts are the first ones and then those of the second that aren't among them, in
+/// order.
 pub fn are_facts_of_both(
     alloc: Global,
     arena: &Arena,
@@ -22,7 +23,12 @@ pub fn are_facts_of_both(
     requires first { AreFactsAt arena.now first.now }
     requires second { AreFactsAt arena.now second.now }
     requires all { AreFactsAt arena.now all.now }
-    ensures { IsTrue result ↔ ((map (fact_of arena.now) first.now ++ rest_after (map (fact_of arena.now) first.now) (map (fact_of arena.now) all.now) ≡ map (fact_of arena.now) all.now) × AreMissing (map (fact_of arena.now) first.now) (map (fact_of arena.now) second.now) (rest_after (map (fact_of arena.now) first.now) (map (fact_of arena.now) all.now))) }
+    ensures { IsTrue result
+        ↔ ((map (fact_of arena.now) first.now
+        ++ rest_after (map (fact_of arena.now) first.now) (map (fact_of arena.now) all.now)
+        ≡ map (fact_of arena.now) all.now)
+        × AreMissing (map (fact_of arena.now) first.now) (map (fact_of arena.now) second.now)
+        (rest_after (map (fact_of arena.now) first.now) (map (fact_of arena.now) all.now))) }
 {
     if !begins_with(arena, all, first) {
         return false;
@@ -35,7 +41,10 @@ pub fn are_facts_of_both(
 fn begins_with(arena: &Arena, all: &[HeldFact], first: &[HeldFact]) -> bool
     requires all { AreFactsAt arena.now all.now }
     requires first { AreFactsAt arena.now first.now }
-    ensures { IsTrue result ↔ (map (fact_of arena.now) first.now ++ rest_after (map (fact_of arena.now) first.now) (map (fact_of arena.now) all.now) ≡ map (fact_of arena.now) all.now) }
+    ensures { IsTrue result
+        ↔ (map (fact_of arena.now) first.now
+        ++ rest_after (map (fact_of arena.now) first.now) (map (fact_of arena.now) all.now)
+        ≡ map (fact_of arena.now) all.now) }
 {
     same_facts(arena, first, prefix(all, first.len()))
 }
@@ -45,7 +54,9 @@ fn are_missing(arena: &Arena, known: &Facts, facts: &[HeldFact], more: &[HeldFac
     requires known { AreFactsAt arena.now known.now }
     requires facts { AreFactsAt arena.now facts.now }
     requires more { AreFactsAt arena.now more.now }
-    ensures { IsTrue result ↔ AreMissing (map (fact_of arena.now) known.now) (map (fact_of arena.now) facts.now) (map (fact_of arena.now) more.now) }
+    ensures { IsTrue result
+        ↔ AreMissing (map (fact_of arena.now) known.now) (map (fact_of arena.now) facts.now)
+        (map (fact_of arena.now) more.now) }
 {
     let mut place = 0;
     for fact in facts {
@@ -64,7 +75,8 @@ fn are_missing(arena: &Arena, known: &Facts, facts: &[HeldFact], more: &[HeldFac
 pub(crate) fn is_at(arena: &Arena, all: &[HeldFact], place: usize, fact: &HeldFact) -> bool
     requires all { AreFactsAt arena.now all.now }
     requires fact { IsFactAt arena.now fact.now }
-    ensures is { IsTrue result ↔ (slice_get (map (fact_of arena.now) all.now) place ≡ Some (fact_of arena.now fact.now)) }
+    ensures is { IsTrue result
+        ↔ (slice_get (map (fact_of arena.now) all.now) place ≡ Some (fact_of arena.now fact.now)) }
     ensures within { IsTrue result → place < length all.now }
 {
     match all.get(place) {

@@ -1,5 +1,6 @@
-//! The rules: whether a stated triple is an instance of one on its premises. No code is compared: what a rule asks of the codes is told
-//! by the caller, who may know it without looking at their bytes.
+//! The rules: whether a stated triple is an instance of one on its premises. No code is compared:
+//! what a rule asks of the codes is told by the caller, who may know it without looking at their
+//! bytes.
 
 ghost use Rattle.std.specs.Prelude.{◌≡◌, ◌↔◌, ◌+◌, ◌*◌, ◌≤◌, IfOk, IsTrue, List as Items, length, map};
 ghost use Rattle.rv_words.specs.Bytes.{over};
@@ -26,12 +27,14 @@ use std::alloc::Global;
 use std::sync::ledger::Ledger;
 use term_arena::{Arena, Steps};
 
-/// Further registers and memories, which stay as they are. Whether the code is the same is told by the caller.
+/// Further registers and memories, which stay as they are. Whether the code is the same is told by
+/// the caller.
 pub fn is_frame(arena: &Arena, p: &Held, stated: &Held, same_code: bool) -> bool
     requires p { IsHeldAt arena.now p.now }
     requires stated { IsHeldAt arena.now stated.now }
     requires code { IsTrue same_code ↔ (p.now.code.ranges ≡ stated.now.code.ranges) }
-    ensures { IsTrue result ↔ IsFramed (triple_of arena.now p.now) (triple_of arena.now stated.now) }
+    ensures { IsTrue result
+        ↔ IsFramed (triple_of arena.now p.now) (triple_of arena.now stated.now) }
 {
     same_facts(arena, p.facts.as_slice(), stated.facts.as_slice())
         && same_code
@@ -59,8 +62,10 @@ pub fn is_frame(arena: &Arena, p: &Held, stated: &Held, same_code: bool) -> bool
 pub fn is_extension(arena: &Arena, p: &Held, stated: &Held, within: bool) -> bool
     requires p { IsHeldAt arena.now p.now }
     requires stated { IsHeldAt arena.now stated.now }
-    requires code { IsTrue within ↔ IsWithin (range_bytes p.now.code.ranges) (range_bytes stated.now.code.ranges) }
-    ensures { IsTrue result ↔ IsExtended (triple_of arena.now p.now) (triple_of arena.now stated.now) }
+    requires code { IsTrue within
+        ↔ IsWithin (range_bytes p.now.code.ranges) (range_bytes stated.now.code.ranges) }
+    ensures { IsTrue result
+        ↔ IsExtended (triple_of arena.now p.now) (triple_of arena.now stated.now) }
 {
     same_facts(arena, p.facts.as_slice(), stated.facts.as_slice())
         && same_side(arena, &p.pre, &stated.pre)
@@ -68,8 +73,8 @@ pub fn is_extension(arena: &Arena, p: &Held, stated: &Held, within: bool) -> boo
         && within
 }
 
-/// One theorem after another, which begins where it ends. Whether the two codes agree and the stated one is their union is told by
-/// the caller.
+/// One theorem after another, which begins where it ends. Whether the two codes agree and the
+/// stated one is their union is told by the caller.
 pub fn is_composition(
     alloc: Global,
     arena: &Arena,
@@ -81,8 +86,13 @@ pub fn is_composition(
     requires p { IsHeldAt arena.now p.now }
     requires q { IsHeldAt arena.now q.now }
     requires stated { IsHeldAt arena.now stated.now }
-    requires code { IsTrue union ↔ (Agree (range_bytes p.now.code.ranges) (range_bytes q.now.code.ranges) × (over (range_bytes p.now.code.ranges) (range_bytes q.now.code.ranges) ≡ range_bytes stated.now.code.ranges)) }
-    ensures { IsTrue result ↔ IsComposed (triple_of arena.now p.now) (triple_of arena.now q.now) (triple_of arena.now stated.now) }
+    requires code { IsTrue union
+        ↔ (Agree (range_bytes p.now.code.ranges) (range_bytes q.now.code.ranges)
+        × (over (range_bytes p.now.code.ranges) (range_bytes q.now.code.ranges)
+        ≡ range_bytes stated.now.code.ranges)) }
+    ensures { IsTrue result
+        ↔ IsComposed (triple_of arena.now p.now) (triple_of arena.now q.now)
+        (triple_of arena.now stated.now) }
 {
     same_side(arena, &p.post, &q.pre)
         && union
@@ -97,8 +107,8 @@ pub fn is_composition(
         )
 }
 
-/// Terms for the variables of a theorem, all put in at once. Its code stays: whether the stated one is the same is told by the caller.
-/// Each different term of the theorem takes two steps at most.
+/// Terms for the variables of a theorem, all put in at once. Its code stays: whether the stated one
+/// is the same is told by the caller. Each different term of the theorem takes two steps at most.
 pub fn is_instance<L: Ledger>(
     alloc: Global,
     arena: &mut Arena,
@@ -114,15 +124,21 @@ pub fn is_instance<L: Ledger>(
     requires sub { IsSubAt arena.old words.now mems.now }
     requires stated { IsHeldAt arena.old stated.now }
     requires code { IsTrue same_code ↔ (p.now.code.ranges ≡ stated.now.code.ranges) }
-    ensures answer { IfOk result (λ r. IsTrue r ↔ IsInst (put_for_numbers arena.old words.now mems.now) (triple_of arena.old p.now) (triple_of arena.old stated.now)) }
+    ensures answer { IfOk result (λ r.
+        IsTrue r
+        ↔ IsInst (put_for_numbers arena.old words.now mems.now) (triple_of arena.old p.now)
+        (triple_of arena.old stated.now)) }
     ensures grows { Extends arena.old arena.new }
-    ensures steps { (ts : Items Tree) → HasHeld arena.old p.now ts → steps.new ≤ steps.old + 2 * length ts }
+    ensures steps { (ts : Items Tree)
+        → HasHeld arena.old p.now ts
+        → steps.new ≤ steps.old + 2 * length ts }
 {
     let put_in = instance(alloc, arena, known, p, words, mems, steps)?;
     Ok(same_triple(arena, &put_in, stated, same_code))
 }
 
-/// More facts, and another precondition that they make the same. Whether the code is the same is told by the caller.
+/// More facts, and another precondition that they make the same. Whether the code is the same is
+/// told by the caller.
 pub fn is_strengthened<L: Ledger>(
     alloc: Global,
     arena: &Arena,
@@ -134,8 +150,11 @@ pub fn is_strengthened<L: Ledger>(
     requires p { IsHeldAt arena.now p.now }
     requires stated { IsHeldAt arena.now stated.now }
     requires code { IsTrue same_code ↔ (p.now.code.ranges ≡ stated.now.code.ranges) }
-    ensures answer { IfOk result (λ r. IsTrue r ↔ IsStrengthened (triple_of arena.now p.now) (triple_of arena.now stated.now)) }
-    ensures steps { (ts : Items Tree) → HasSides arena.now p.now.pre stated.now.pre ts → steps.new ≤ steps.old + 2 * (length ts * length ts) }
+    ensures answer { IfOk result (λ r.
+        IsTrue r ↔ IsStrengthened (triple_of arena.now p.now) (triple_of arena.now stated.now)) }
+    ensures steps { (ts : Items Tree)
+        → HasSides arena.now p.now.pre stated.now.pre ts
+        → steps.new ≤ steps.old + 2 * (length ts * length ts) }
 {
     let facts = Facts::new(alloc, stated.facts.as_slice(), stated.facts.len());
     if !keeps_after(arena, p, stated, same_code, &facts) {
@@ -145,7 +164,8 @@ pub fn is_strengthened<L: Ledger>(
     Ok(same)
 }
 
-/// More facts, and another postcondition that they make the same. Whether the code is the same is told by the caller.
+/// More facts, and another postcondition that they make the same. Whether the code is the same is
+/// told by the caller.
 pub fn is_weakened<L: Ledger>(
     alloc: Global,
     arena: &Arena,
@@ -157,8 +177,11 @@ pub fn is_weakened<L: Ledger>(
     requires p { IsHeldAt arena.now p.now }
     requires stated { IsHeldAt arena.now stated.now }
     requires code { IsTrue same_code ↔ (p.now.code.ranges ≡ stated.now.code.ranges) }
-    ensures answer { IfOk result (λ r. IsTrue r ↔ IsWeakened (triple_of arena.now p.now) (triple_of arena.now stated.now)) }
-    ensures steps { (ts : Items Tree) → HasSides arena.now p.now.post stated.now.post ts → steps.new ≤ steps.old + 2 * (length ts * length ts) }
+    ensures answer { IfOk result (λ r.
+        IsTrue r ↔ IsWeakened (triple_of arena.now p.now) (triple_of arena.now stated.now)) }
+    ensures steps { (ts : Items Tree)
+        → HasSides arena.now p.now.post stated.now.post ts
+        → steps.new ≤ steps.old + 2 * (length ts * length ts) }
 {
     let facts = Facts::new(alloc, stated.facts.as_slice(), stated.facts.len());
     if !keeps_before(arena, p, stated, same_code, &facts) {
@@ -168,8 +191,8 @@ pub fn is_weakened<L: Ledger>(
     Ok(same)
 }
 
-/// Other facts, from which those of the theorem follow. Whether the code is the same is told by the caller. Each pair of different
-/// terms takes two steps at most, and each term two more.
+/// Other facts, from which those of the theorem follow. Whether the code is the same is told by the
+/// caller. Each pair of different terms takes two steps at most, and each term two more.
 pub fn is_discharged<L: Ledger>(
     alloc: Global,
     arena: &Arena,
@@ -181,8 +204,12 @@ pub fn is_discharged<L: Ledger>(
     requires p { IsHeldAt arena.now p.now }
     requires stated { IsHeldAt arena.now stated.now }
     requires code { IsTrue same_code ↔ (p.now.code.ranges ≡ stated.now.code.ranges) }
-    ensures answer { IfOk result (λ r. IsTrue r ↔ IsDischarged (triple_of arena.now p.now) (triple_of arena.now stated.now)) }
-    ensures steps { (ts : Items Tree) → HasFacts arena.now p.now.facts ts → HasFacts arena.now stated.now.facts ts → steps.new ≤ steps.old + (2 * (length ts * length ts) + 2 * length ts) }
+    ensures answer { IfOk result (λ r.
+        IsTrue r ↔ IsDischarged (triple_of arena.now p.now) (triple_of arena.now stated.now)) }
+    ensures steps { (ts : Items Tree)
+        → HasFacts arena.now p.now.facts ts
+        → HasFacts arena.now stated.now.facts ts
+        → steps.new ≤ steps.old + (2 * (length ts * length ts) + 2 * length ts) }
 {
     if !keeps_all_but_facts(arena, p, stated, same_code) {
         return Ok(false);
@@ -197,7 +224,10 @@ fn keeps_all_but_facts(arena: &Arena, p: &Held, stated: &Held, same_code: bool) 
     requires p { IsHeldAt arena.now p.now }
     requires stated { IsHeldAt arena.now stated.now }
     requires code { IsTrue same_code ↔ (p.now.code.ranges ≡ stated.now.code.ranges) }
-    ensures { IsTrue result ↔ ((side_of arena.now p.now.pre ≡ side_of arena.now stated.now.pre) × (p.now.code.ranges ≡ stated.now.code.ranges) × (side_of arena.now p.now.post ≡ side_of arena.now stated.now.post)) }
+    ensures { IsTrue result
+        ↔ ((side_of arena.now p.now.pre ≡ side_of arena.now stated.now.pre)
+        × (p.now.code.ranges ≡ stated.now.code.ranges)
+        × (side_of arena.now p.now.post ≡ side_of arena.now stated.now.post)) }
 {
     same_side(arena, &p.pre, &stated.pre) && same_code && same_side(arena, &p.post, &stated.post)
 }
@@ -208,7 +238,11 @@ fn keeps_after(arena: &Arena, p: &Held, stated: &Held, same_code: bool, facts: &
     requires stated { IsHeldAt arena.now stated.now }
     requires code { IsTrue same_code ↔ (p.now.code.ranges ≡ stated.now.code.ranges) }
     requires facts { facts.now ≡ stated.now.facts }
-    ensures { IsTrue result ↔ ((p.now.code.ranges ≡ stated.now.code.ranges) × (side_of arena.now p.now.post ≡ side_of arena.now stated.now.post) × AreAmong (map (fact_of arena.now) p.now.facts) (map (fact_of arena.now) stated.now.facts)) }
+    ensures { IsTrue result
+        ↔ ((p.now.code.ranges ≡ stated.now.code.ranges)
+        × (side_of arena.now p.now.post ≡ side_of arena.now stated.now.post)
+        × AreAmong (map (fact_of arena.now) p.now.facts)
+        (map (fact_of arena.now) stated.now.facts)) }
 {
     same_code && same_side(arena, &p.post, &stated.post) && facts.has_all(arena, p.facts.as_slice())
 }
@@ -219,7 +253,11 @@ fn keeps_before(arena: &Arena, p: &Held, stated: &Held, same_code: bool, facts: 
     requires stated { IsHeldAt arena.now stated.now }
     requires code { IsTrue same_code ↔ (p.now.code.ranges ≡ stated.now.code.ranges) }
     requires facts { facts.now ≡ stated.now.facts }
-    ensures { IsTrue result ↔ ((p.now.code.ranges ≡ stated.now.code.ranges) × (side_of arena.now p.now.pre ≡ side_of arena.now stated.now.pre) × AreAmong (map (fact_of arena.now) p.now.facts) (map (fact_of arena.now) stated.now.facts)) }
+    ensures { IsTrue result
+        ↔ ((p.now.code.ranges ≡ stated.now.code.ranges)
+        × (side_of arena.now p.now.pre ≡ side_of arena.now stated.now.pre)
+        × AreAmong (map (fact_of arena.now) p.now.facts)
+        (map (fact_of arena.now) stated.now.facts)) }
 {
     same_code && same_side(arena, &p.pre, &stated.pre) && facts.has_all(arena, p.facts.as_slice())
 }

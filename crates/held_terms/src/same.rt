@@ -82,7 +82,8 @@ pub fn same_mems(arena: &Arena, a: &[u64], b: &[u64]) -> bool
 pub fn same_registers(arena: &Arena, a: &[(u8, u64)], b: &[(u8, u64)]) -> bool
     requires a { AreRegistersAt arena.now a.now }
     requires b { AreRegistersAt arena.now b.now }
-    ensures { IsTrue result ↔ (map (register_of arena.now) a.now ≡ map (register_of arena.now) b.now) }
+    ensures { IsTrue result
+        ↔ (map (register_of arena.now) a.now ≡ map (register_of arena.now) b.now) }
 {
     if a.len() != b.len() {
         return false;
@@ -188,7 +189,8 @@ pub fn same_facts(arena: &Arena, a: &[HeldFact], b: &[HeldFact]) -> bool
 pub fn is_among(arena: &Arena, fact: &HeldFact, others: &[HeldFact]) -> bool
     requires fact { IsFactAt arena.now fact.now }
     requires others { AreFactsAt arena.now others.now }
-    ensures { IsTrue result ↔ Contains (map (fact_of arena.now) others.now) (fact_of arena.now fact.now) }
+    ensures { IsTrue result
+        ↔ Contains (map (fact_of arena.now) others.now) (fact_of arena.now fact.now) }
 {
     for other in others {
         if same_fact(arena, other, fact) {

@@ -31,8 +31,12 @@ pub(crate) fn swap_side<L: Ledger>(
     requires right { AreRight arena.now (map (fact_of arena.now) facts.now) known.old }
     requires a { IsSideAt arena.now a.now }
     requires b { IsSideAt arena.now b.now }
-    ensures answer { IfOk result (λ r. IsTrue r ↔ SwapAssertion (map (fact_of arena.now) facts.now) (side_of arena.now a.now) (side_of arena.now b.now)) }
-    ensures went { Went arena.now (HasSides arena.now a.now b.now) known.old known.new steps.old steps.new }
+    ensures answer { IfOk result (λ r.
+        IsTrue r
+        ↔ SwapAssertion (map (fact_of arena.now) facts.now) (side_of arena.now a.now)
+        (side_of arena.now b.now)) }
+    ensures went { Went arena.now (HasSides arena.now a.now b.now) known.old known.new steps.old
+        steps.new }
 {
     let pc = swap_words(arena, facts, known, a.pc, b.pc, steps)?;
     if !pc {
@@ -74,7 +78,10 @@ pub(crate) fn swap_words<L: Ledger>(
     requires right { AreRight arena.now (map (fact_of arena.now) facts.now) known.old }
     requires a { IsWordAt arena.now a }
     requires b { IsWordAt arena.now b }
-    ensures answer { IfOk result (λ r. IsTrue r ↔ SwapWord (map (fact_of arena.now) facts.now) (word_of arena.now a) (word_of arena.now b)) }
+    ensures answer { IfOk result (λ r.
+        IsTrue r
+        ↔ SwapWord (map (fact_of arena.now) facts.now) (word_of arena.now a)
+        (word_of arena.now b)) }
     ensures right { OnOk result (AreRight arena.now (map (fact_of arena.now) facts.now) known.new) }
     ensures went { Went arena.now (HasBoth arena.now a b) known.old known.new steps.old steps.new }
 {
@@ -96,7 +103,9 @@ pub(crate) fn swap_memories<L: Ledger>(
     requires right { AreRight arena.now (map (fact_of arena.now) facts.now) known.old }
     requires a { IsMemAt arena.now a }
     requires b { IsMemAt arena.now b }
-    ensures answer { IfOk result (λ r. IsTrue r ↔ SwapMem (map (fact_of arena.now) facts.now) (mem_of arena.now a) (mem_of arena.now b)) }
+    ensures answer { IfOk result (λ r.
+        IsTrue r
+        ↔ SwapMem (map (fact_of arena.now) facts.now) (mem_of arena.now a) (mem_of arena.now b)) }
     ensures right { OnOk result (AreRight arena.now (map (fact_of arena.now) facts.now) known.new) }
     ensures went { Went arena.now (HasBoth arena.now a b) known.old known.new steps.old steps.new }
 {
@@ -117,9 +126,13 @@ fn swap_registers<L: Ledger>(
     requires right { AreRight arena.now (map (fact_of arena.now) facts.now) known.old }
     requires a { AreRegistersAt arena.now a.now }
     requires b { AreRegistersAt arena.now b.now }
-    ensures answer { IfOk result (λ r. IsTrue r ↔ AllZip (SwapRegister (map (fact_of arena.now) facts.now)) (map (register_of arena.now) a.now) (map (register_of arena.now) b.now)) }
+    ensures answer { IfOk result (λ r.
+        IsTrue r
+        ↔ AllZip (SwapRegister (map (fact_of arena.now) facts.now))
+        (map (register_of arena.now) a.now) (map (register_of arena.now) b.now)) }
     ensures right { OnOk result (AreRight arena.now (map (fact_of arena.now) facts.now) known.new) }
-    ensures went { Went arena.now (HasBothRegisters arena.now a.now b.now) known.old known.new steps.old steps.new }
+    ensures went { Went arena.now (HasBothRegisters arena.now a.now b.now) known.old known.new
+        steps.old steps.new }
 {
     if a.len() != b.len() {
         return Ok(false);
@@ -145,9 +158,13 @@ fn swap_register<L: Ledger>(
     requires right { AreRight arena.now (map (fact_of arena.now) facts.now) known.old }
     requires a { IsWordAt arena.now a.1 }
     requires b { IsWordAt arena.now b.1 }
-    ensures answer { IfOk result (λ r. IsTrue r ↔ SwapRegister (map (fact_of arena.now) facts.now) (register_of arena.now a) (register_of arena.now b)) }
+    ensures answer { IfOk result (λ r.
+        IsTrue r
+        ↔ SwapRegister (map (fact_of arena.now) facts.now) (register_of arena.now a)
+        (register_of arena.now b)) }
     ensures right { OnOk result (AreRight arena.now (map (fact_of arena.now) facts.now) known.new) }
-    ensures went { Went arena.now (HasBoth arena.now a.1 b.1) known.old known.new steps.old steps.new }
+    ensures went { Went arena.now (HasBoth arena.now a.1 b.1) known.old known.new steps.old
+        steps.new }
 {
     if a.0 != b.0 {
         return Ok(false);
@@ -169,9 +186,13 @@ fn swap_mems<L: Ledger>(
     requires right { AreRight arena.now (map (fact_of arena.now) facts.now) known.old }
     requires a { AreMemsAt arena.now a.now }
     requires b { AreMemsAt arena.now b.now }
-    ensures answer { IfOk result (λ r. IsTrue r ↔ AllZip (SwapMem (map (fact_of arena.now) facts.now)) (map (mem_of arena.now) a.now) (map (mem_of arena.now) b.now)) }
+    ensures answer { IfOk result (λ r.
+        IsTrue r
+        ↔ AllZip (SwapMem (map (fact_of arena.now) facts.now)) (map (mem_of arena.now) a.now)
+        (map (mem_of arena.now) b.now)) }
     ensures right { OnOk result (AreRight arena.now (map (fact_of arena.now) facts.now) known.new) }
-    ensures went { Went arena.now (HasBothMems arena.now a.now b.now) known.old known.new steps.old steps.new }
+    ensures went { Went arena.now (HasBothMems arena.now a.now b.now) known.old known.new steps.old
+        steps.new }
 {
     if a.len() != b.len() {
         return Ok(false);
@@ -185,7 +206,8 @@ fn swap_mems<L: Ledger>(
     Ok(true)
 }
 
-/// Whether two assertions are the same but for terms that may be swapped. Each pair of numbers takes two steps at most.
+/// Whether two assertions are the same but for terms that may be swapped. Each pair of numbers
+/// takes two steps at most.
 #[tactic(auto, using(crate::proofs::SideLemmas::right_none))]
 pub fn are_swapped<L: Ledger>(
     alloc: Global,
@@ -198,8 +220,13 @@ pub fn are_swapped<L: Ledger>(
     requires facts { AreFactsAt arena.now facts.now }
     requires a { IsSideAt arena.now a.now }
     requires b { IsSideAt arena.now b.now }
-    ensures answer { IfOk result (λ r. IsTrue r ↔ SwapAssertion (map (fact_of arena.now) facts.now) (side_of arena.now a.now) (side_of arena.now b.now)) }
-    ensures steps { (ts : Items Tree) → HasSides arena.now a.now b.now ts → steps.new ≤ steps.old + 2 * (length ts * length ts) }
+    ensures answer { IfOk result (λ r.
+        IsTrue r
+        ↔ SwapAssertion (map (fact_of arena.now) facts.now) (side_of arena.now a.now)
+        (side_of arena.now b.now)) }
+    ensures steps { (ts : Items Tree)
+        → HasSides arena.now a.now b.now ts
+        → steps.new ≤ steps.old + 2 * (length ts * length ts) }
 {
     arena.law_of_nodes();
     let mut known = Table::new(alloc);

@@ -17,7 +17,7 @@ use std::sync::ledger::Ledger;
 use term_arena::{Arena, Node, Steps};
 
 /// The children of two words of one form, in pairs.
-#[derive(Clone, Copy, Debug)]
+#[derive(Clone, Copy)]
 pub(crate) enum WordPairs {
     Differ,
     One(u64, u64),
@@ -26,7 +26,7 @@ pub(crate) enum WordPairs {
 }
 
 /// The children of two memories of one form, in pairs.
-#[derive(Clone, Copy, Debug)]
+#[derive(Clone, Copy)]
 pub(crate) enum MemPairs {
     Differ,
     Store(u64, u64, u64, u64, u64, u64),
@@ -94,7 +94,10 @@ fn word_pairs<L: Ledger>(arena: &Arena, a: u64, b: u64, steps: &mut Steps<L>) ->
     requires b { IsWordAt arena.now b }
     ensures fit { WordPairsFit arena.now a result }
     ensures under { WordPairsUnder arena.now a b result }
-    ensures split { (facts : Items FactTree) → SwapWord facts (word_of arena.now a) (word_of arena.now b) ↔ (WordsStated facts (word_of arena.now a) (word_of arena.now b) ⊎ WordPairsSwap facts arena.now result) }
+    ensures split { (facts : Items FactTree)
+        → SwapWord facts (word_of arena.now a) (word_of arena.now b)
+        ↔ (WordsStated facts (word_of arena.now a) (word_of arena.now b)
+        ⊎ WordPairsSwap facts arena.now result) }
     ensures steps { steps.new ≡ steps.old + 2 }
 {
     let n = arena.node(a, steps);
@@ -108,7 +111,10 @@ fn mem_pairs<L: Ledger>(arena: &Arena, a: u64, b: u64, steps: &mut Steps<L>) -> 
     requires b { IsMemAt arena.now b }
     ensures fit { MemPairsFit arena.now a result }
     ensures under { MemPairsUnder arena.now a b result }
-    ensures split { (facts : Items FactTree) → SwapMem facts (mem_of arena.now a) (mem_of arena.now b) ↔ (MemsStated facts (mem_of arena.now a) (mem_of arena.now b) ⊎ MemPairsSwap facts arena.now result) }
+    ensures split { (facts : Items FactTree)
+        → SwapMem facts (mem_of arena.now a) (mem_of arena.now b)
+        ↔ (MemsStated facts (mem_of arena.now a) (mem_of arena.now b)
+        ⊎ MemPairsSwap facts arena.now result) }
     ensures steps { steps.new ≡ steps.old + 2 }
 {
     let n = arena.node(a, steps);
@@ -116,8 +122,8 @@ fn mem_pairs<L: Ledger>(arena: &Arena, a: u64, b: u64, steps: &mut Steps<L>) -> 
     mem_pairs_of(n, m)
 }
 
-/// Whether two words are the same, or stated to be equal, or of one form with children that may be swapped. Each pair
-/// that is known is looked up, and each other one is kept.
+/// Whether two words are the same, or stated to be equal, or of one form with children that may be
+/// swapped. Each pair that is known is looked up, and each other one is kept.
 #[cycle(swaps)]
 #[tactic(auto, using(triple_kernel::proofs::StatedLemmas::stated_words_swap, triple_kernel::proofs::StatedLemmas::stated_mems_swap, crate::proofs::TableLemmas::known_child, crate::proofs::TableLemmas::known_next, crate::proofs::TableLemmas::known_after, crate::proofs::TableLemmas::known_pushed))]
 pub fn swap_word<L: Ledger>(
@@ -132,8 +138,12 @@ pub fn swap_word<L: Ledger>(
     requires known { IsKnown arena.now (map (fact_of arena.now) facts.now) known.old (a + 1) }
     requires a { IsWordAt arena.now a }
     requires b { IsWordAt arena.now b }
-    ensures answer { IfOk result (λ r. IsTrue r ↔ SwapWord (map (fact_of arena.now) facts.now) (word_of arena.now a) (word_of arena.now b)) }
-    ensures decided { OnOk result (AreDecided arena.now (map (fact_of arena.now) facts.now) known.old known.new) }
+    ensures answer { IfOk result (λ r.
+        IsTrue r
+        ↔ SwapWord (map (fact_of arena.now) facts.now) (word_of arena.now a)
+        (word_of arena.now b)) }
+    ensures decided { OnOk result (AreDecided arena.now (map (fact_of arena.now) facts.now)
+        known.old known.new) }
     ensures went { Went arena.now (HasBoth arena.now a b) known.old known.new steps.old steps.new }
 {
     if are_words_stated(arena, facts, a, b) {
@@ -164,9 +174,14 @@ fn swap_below_words<L: Ledger>(
     requires known { IsKnown arena.now (map (fact_of arena.now) facts.now) known.old a }
     requires a { IsWordAt arena.now a }
     requires b { IsWordAt arena.now b }
-    ensures answer { IfOk result (λ r. SwapWord (map (fact_of arena.now) facts.now) (word_of arena.now a) (word_of arena.now b) ↔ (WordsStated (map (fact_of arena.now) facts.now) (word_of arena.now a) (word_of arena.now b) ⊎ IsTrue r)) }
-    ensures decided { OnOk result (AreDecided arena.now (map (fact_of arena.now) facts.now) known.old known.new) }
-    ensures went { Went arena.now (HasBoth arena.now a b) known.old known.new (steps.old + 2) steps.new }
+    ensures answer { IfOk result (λ r.
+        SwapWord (map (fact_of arena.now) facts.now) (word_of arena.now a) (word_of arena.now b)
+        ↔ (WordsStated (map (fact_of arena.now) facts.now) (word_of arena.now a)
+        (word_of arena.now b) ⊎ IsTrue r)) }
+    ensures decided { OnOk result (AreDecided arena.now (map (fact_of arena.now) facts.now)
+        known.old known.new) }
+    ensures went { Went arena.now (HasBoth arena.now a b) known.old known.new (steps.old + 2)
+        steps.new }
 {
     match word_pairs(arena, a, b, steps) {
         WordPairs::Differ => Ok(false),
@@ -193,8 +208,8 @@ fn swap_below_words<L: Ledger>(
     }
 }
 
-/// Whether two memories are the same, or stated to be equal, or stores of one width with children that may be
-/// swapped.
+/// Whether two memories are the same, or stated to be equal, or stores of one width with children
+/// that may be swapped.
 #[cycle(swaps)]
 #[tactic(auto, using(triple_kernel::proofs::StatedLemmas::stated_words_swap, triple_kernel::proofs::StatedLemmas::stated_mems_swap, crate::proofs::TableLemmas::known_child, crate::proofs::TableLemmas::known_next, crate::proofs::TableLemmas::known_after, crate::proofs::TableLemmas::known_pushed))]
 pub fn swap_mem<L: Ledger>(
@@ -209,8 +224,11 @@ pub fn swap_mem<L: Ledger>(
     requires known { IsKnown arena.now (map (fact_of arena.now) facts.now) known.old (a + 1) }
     requires a { IsMemAt arena.now a }
     requires b { IsMemAt arena.now b }
-    ensures answer { IfOk result (λ r. IsTrue r ↔ SwapMem (map (fact_of arena.now) facts.now) (mem_of arena.now a) (mem_of arena.now b)) }
-    ensures decided { OnOk result (AreDecided arena.now (map (fact_of arena.now) facts.now) known.old known.new) }
+    ensures answer { IfOk result (λ r.
+        IsTrue r
+        ↔ SwapMem (map (fact_of arena.now) facts.now) (mem_of arena.now a) (mem_of arena.now b)) }
+    ensures decided { OnOk result (AreDecided arena.now (map (fact_of arena.now) facts.now)
+        known.old known.new) }
     ensures went { Went arena.now (HasBoth arena.now a b) known.old known.new steps.old steps.new }
 {
     if are_mems_stated(arena, facts, a, b) {
@@ -241,9 +259,14 @@ fn swap_below_mems<L: Ledger>(
     requires known { IsKnown arena.now (map (fact_of arena.now) facts.now) known.old a }
     requires a { IsMemAt arena.now a }
     requires b { IsMemAt arena.now b }
-    ensures answer { IfOk result (λ r. SwapMem (map (fact_of arena.now) facts.now) (mem_of arena.now a) (mem_of arena.now b) ↔ (MemsStated (map (fact_of arena.now) facts.now) (mem_of arena.now a) (mem_of arena.now b) ⊎ IsTrue r)) }
-    ensures decided { OnOk result (AreDecided arena.now (map (fact_of arena.now) facts.now) known.old known.new) }
-    ensures went { Went arena.now (HasBoth arena.now a b) known.old known.new (steps.old + 2) steps.new }
+    ensures answer { IfOk result (λ r.
+        SwapMem (map (fact_of arena.now) facts.now) (mem_of arena.now a) (mem_of arena.now b)
+        ↔ (MemsStated (map (fact_of arena.now) facts.now) (mem_of arena.now a) (mem_of arena.now b)
+        ⊎ IsTrue r)) }
+    ensures decided { OnOk result (AreDecided arena.now (map (fact_of arena.now) facts.now)
+        known.old known.new) }
+    ensures went { Went arena.now (HasBoth arena.now a b) known.old known.new (steps.old + 2)
+        steps.new }
 {
     match mem_pairs(arena, a, b, steps) {
         MemPairs::Differ => Ok(false),
@@ -266,7 +289,9 @@ fn are_words_stated(arena: &Arena, facts: &Facts, a: u64, b: u64) -> bool
     requires facts { AreFactsAt arena.now facts.now }
     requires a { IsWordAt arena.now a }
     requires b { IsWordAt arena.now b }
-    ensures { IsTrue result ↔ WordsStated (map (fact_of arena.now) facts.now) (word_of arena.now a) (word_of arena.now b) }
+    ensures { IsTrue result
+        ↔ WordsStated (map (fact_of arena.now) facts.now) (word_of arena.now a)
+        (word_of arena.now b) }
 {
     same_word(arena, a, b) || facts.has_words(arena, a, b) || facts.has_words(arena, b, a)
 }
@@ -275,7 +300,8 @@ fn are_mems_stated(arena: &Arena, facts: &Facts, a: u64, b: u64) -> bool
     requires facts { AreFactsAt arena.now facts.now }
     requires a { IsMemAt arena.now a }
     requires b { IsMemAt arena.now b }
-    ensures { IsTrue result ↔ MemsStated (map (fact_of arena.now) facts.now) (mem_of arena.now a) (mem_of arena.now b) }
+    ensures { IsTrue result
+        ↔ MemsStated (map (fact_of arena.now) facts.now) (mem_of arena.now a) (mem_of arena.now b) }
 {
     same_mem(arena, a, b) || facts.has_mems(arena, a, b) || facts.has_mems(arena, b, a)
 }

@@ -9,7 +9,8 @@ use std::alloc::Global;
 use std::collections::BTreeMap;
 use std::marker::Model;
 
-/// Pairs of numbers, each with an answer, in the order in which they came. A pair is looked up by the numbers' order.
+/// Pairs of numbers, each with an answer, in the order in which they came. A pair is looked up by
+/// the numbers' order.
 #[derive(Drop)]
 pub(crate) struct Table {
     entries: List<(u64, u64, bool)>,
@@ -85,7 +86,9 @@ impl Table {
 /// The answer of the pair at a place.
 fn answer_at(entries: &[(u64, u64, bool)], place: usize) -> bool
     requires { place < length entries.now }
-    ensures { (k : ℕ × ℕ) → slice_get (keys_of entries.now) place ≡ Just k → Contains entries.now (k.0, k.1, result) }
+    ensures { (k : ℕ × ℕ)
+        → slice_get (keys_of entries.now) place ≡ Just k
+        → Contains entries.now (k.0, k.1, result) }
 {
     entries[place].2
 }

@@ -17,8 +17,9 @@ use std::collections::BTreeMap;
 use std::marker::Model;
 use term_arena::Arena;
 
-/// Facts that come and go at the end. The first ones are indexed: for the numbers of each, the index has the place where it came
-/// first. A place stays in the index where its fact is gone, so what is found there is compared.
+/// Facts that come and go at the end. The first ones are indexed: for the numbers of each, the
+/// index has the place where it came first. A place stays in the index where its fact is gone, so
+/// what is found there is compared.
 #[derive(Drop)]
 pub struct Way {
     alloc: Global,
@@ -77,7 +78,8 @@ impl Way {
         self.indexed = self.indexed.min(length);
     }
 
-    /// Indexes the facts that aren't yet, as far as there is memory for that, where there are more than a few.
+    /// Indexes the facts that aren't yet, as far as there is memory for that, where there are more
+    /// than a few.
     pub fn index(&mut self, arena: &Arena)
         requires { AreFactsAt arena.now self.old }
         ensures { self.new ≡ self.old }
@@ -97,8 +99,12 @@ impl Way {
     pub fn place(&self, arena: &Arena, fact: &HeldFact) -> Option<usize>
         requires own { AreFactsAt arena.now self.now }
         requires fact { IsFactAt arena.now fact.now }
-        ensures some { IfSome result (λ place. slice_get (map (fact_of arena.now) self.now) place ≡ Just (fact_of arena.now fact.now)) }
-        ensures none { IfNone result (Contains (map (fact_of arena.now) self.now) (fact_of arena.now fact.now) → ⊥) }
+        ensures some { IfSome result (λ place.
+            slice_get (map (fact_of arena.now) self.now) place
+            ≡ Just (fact_of arena.now fact.now)) }
+        ensures none { IfNone result (Contains (map (fact_of arena.now) self.now)
+            (fact_of arena.now fact.now)
+            → ⊥) }
     {
         place_over(
             self.alloc,
@@ -123,8 +129,11 @@ fn place_over(
     requires way { AreFactsAt arena.now way.now }
     requires fact { IsFactAt arena.now fact.now }
     requires index { IsIndexed way.now indexed (found_at vec_items index.now.entries) }
-    ensures some { IfSome result (λ place. slice_get (map (fact_of arena.now) way.now) place ≡ Just (fact_of arena.now fact.now)) }
-    ensures none { IfNone result (Contains (map (fact_of arena.now) way.now) (fact_of arena.now fact.now) → ⊥) }
+    ensures some { IfSome result (λ place.
+        slice_get (map (fact_of arena.now) way.now) place ≡ Just (fact_of arena.now fact.now)) }
+    ensures none { IfNone result (Contains (map (fact_of arena.now) way.now)
+        (fact_of arena.now fact.now)
+        → ⊥) }
 {
     if indexed == way.len() {
         if let Ok(numbers) = numbers_of(alloc, fact) {
@@ -134,7 +143,8 @@ fn place_over(
     place_among(arena, way, fact)
 }
 
-/// Indexes the facts from the place on, while there is memory for that. Gives how many first facts are indexed then.
+/// Indexes the facts from the place on, while there is memory for that. Gives how many first facts
+/// are indexed then.
 fn add_places(
     alloc: Global,
     arena: &Arena,
@@ -165,7 +175,8 @@ fn add_place(
     requires facts { AreFactsAt arena.now facts.now }
     requires low { place < length facts.now }
     requires index { IsIndexed facts.now place (found_at vec_items index.old.entries) }
-    ensures ok { OnOk result (IsIndexed facts.now (place + 1) (found_at vec_items index.new.entries)) }
+    ensures ok { OnOk result (IsIndexed facts.now (place + 1) (found_at vec_items
+        index.new.entries)) }
     ensures err { OnErr result (IsIndexed facts.now place (found_at vec_items index.new.entries)) }
 {
     let fact = &facts[place];
@@ -176,7 +187,8 @@ fn add_place(
     insert_place(index, numbers, place)
 }
 
-/// Whether the index has a place for the fact's numbers, among the first ones, and the fact stands there.
+/// Whether the index has a place for the fact's numbers, among the first ones, and the fact stands
+/// there.
 fn is_known(
     arena: &Arena,
     facts: &[HeldFact],
@@ -188,7 +200,8 @@ fn is_known(
     requires facts { AreFactsAt arena.now facts.now }
     requires fact { IsFactAt arena.now fact.now }
     requires numbers { numbers.now ≡ numbers_of fact.now }
-    ensures { IsTrue result ↔ IsPlaced facts.now (found_at vec_items index.now.entries) places fact.now }
+    ensures { IsTrue result
+        ↔ IsPlaced facts.now (found_at vec_items index.now.entries) places fact.now }
 {
     match indexed_place(arena, facts, index, fact, numbers) {
         Some(place) => place < places,
@@ -202,7 +215,8 @@ fn insert_place(
     numbers: Vec<u64>,
     place: usize,
 ) -> Result<(), NoMemory>
-    ensures ok { OnOk result (HasPlace (found_at vec_items index.old.entries) (found_at vec_items index.new.entries) numbers.items place) }
+    ensures ok { OnOk result (HasPlace (found_at vec_items index.old.entries)
+        (found_at vec_items index.new.entries) numbers.items place) }
     ensures err { OnErr result (index.new.entries ≡ index.old.entries) }
 {
     index.insert(numbers, place)?;
@@ -220,10 +234,14 @@ fn indexed_place(
     requires facts { AreFactsAt arena.now facts.now }
     requires fact { IsFactAt arena.now fact.now }
     requires numbers { numbers.now ≡ numbers_of fact.now }
-    ensures found { IfSome result (λ place. found_at vec_items index.now.entries (numbers_of fact.now) ≡ Just place) }
+    ensures found { IfSome result (λ place.
+        found_at vec_items index.now.entries (numbers_of fact.now) ≡ Just place) }
     ensures there { IfSome result (λ place. slice_get facts.now place ≡ Just fact.now) }
     ensures low { IfSome result (λ place. place < length facts.now) }
-    ensures none { IfNone result ((place : ℕ) → found_at vec_items index.now.entries (numbers_of fact.now) ≡ Just place → slice_get facts.now place ≡ Just fact.now → ⊥) }
+    ensures none { IfNone result ((place : ℕ)
+        → found_at vec_items index.now.entries (numbers_of fact.now) ≡ Just place
+        → slice_get facts.now place ≡ Just fact.now
+        → ⊥) }
 {
     match index.get(numbers) {
         Some(place) => {
@@ -258,8 +276,11 @@ fn place_of_all(
     requires fact { IsFactAt arena.now fact.now }
     requires numbers { numbers.now ≡ numbers_of fact.now }
     requires index { IsIndexed facts.now (length facts.now) (found_at vec_items index.now.entries) }
-    ensures some { IfSome result (λ place. slice_get (map (fact_of arena.now) facts.now) place ≡ Just (fact_of arena.now fact.now)) }
-    ensures none { IfNone result (Contains (map (fact_of arena.now) facts.now) (fact_of arena.now fact.now) → ⊥) }
+    ensures some { IfSome result (λ place.
+        slice_get (map (fact_of arena.now) facts.now) place ≡ Just (fact_of arena.now fact.now)) }
+    ensures none { IfNone result (Contains (map (fact_of arena.now) facts.now)
+        (fact_of arena.now fact.now)
+        → ⊥) }
 {
     arena.law_of_nodes();
     match indexed_place(arena, facts, index, fact, numbers) {
@@ -272,8 +293,11 @@ fn place_of_all(
 fn place_among(arena: &Arena, facts: &[HeldFact], fact: &HeldFact) -> Option<usize>
     requires facts { AreFactsAt arena.now facts.now }
     requires fact { IsFactAt arena.now fact.now }
-    ensures some { IfSome result (λ place. slice_get (map (fact_of arena.now) facts.now) place ≡ Just (fact_of arena.now fact.now)) }
-    ensures none { IfNone result (Contains (map (fact_of arena.now) facts.now) (fact_of arena.now fact.now) → ⊥) }
+    ensures some { IfSome result (λ place.
+        slice_get (map (fact_of arena.now) facts.now) place ≡ Just (fact_of arena.now fact.now)) }
+    ensures none { IfNone result (Contains (map (fact_of arena.now) facts.now)
+        (fact_of arena.now fact.now)
+        → ⊥) }
 {
     arena.law_of_nodes();
     for place in 0..facts.len() {

@@ -76,7 +76,8 @@ fn own_triple(alloc: Global, i: Instr, form: Form, addr: u64, word: u32) -> Resu
     triple_over(alloc, i, form, addr, word, regs, has_memory(i), &names)
 }
 
-/// The triple of an instruction over any registers and variables, and over a memory where there is one.
+/// The triple of an instruction over any registers and variables, and over a memory where there is
+/// one.
 pub fn triple_over(
     alloc: Global,
     i: Instr,
@@ -87,7 +88,10 @@ pub fn triple_over(
     mem: bool,
     names: &Variables,
 ) -> Result<Triple, NoMemory>
-    ensures { IfOk result (λ t. triple_tree t ≡ spec.triple_over i form addr (length_in_bytes word) (spec.word_code addr word) regs.now mem (names_of names.now)) }
+    ensures { IfOk result (λ t.
+        triple_tree t
+        ≡ spec.triple_over i form addr (length_in_bytes word) (spec.word_code addr word) regs.now
+        mem (names_of names.now)) }
 {
     let facts = facts(alloc, i, form, names)?;
     let pre = before(alloc, addr, regs, mem, names)?;
@@ -129,7 +133,8 @@ pub fn before(
     mem: bool,
     names: &Variables,
 ) -> Result<Assertion, NoMemory>
-    ensures { IfOk result (λ a. assertion_tree a ≡ spec.before addr regs.now mem (names_of names.now)) }
+    ensures { IfOk result (λ a.
+        assertion_tree a ≡ spec.before addr regs.now mem (names_of names.now)) }
 {
     let words = words_before(alloc, regs, names)?;
     let mems = memory_if(alloc, mem, Mem::Var(names.memory))?;
@@ -151,7 +156,8 @@ fn after(
     mem: bool,
     names: &Variables,
 ) -> Result<Assertion, NoMemory>
-    ensures { IfOk result (λ a. assertion_tree a ≡ spec.after i form addr length regs.now mem (names_of names.now)) }
+    ensures { IfOk result (λ a.
+        assertion_tree a ≡ spec.after i form addr length regs.now mem (names_of names.now)) }
 {
     let pc = pc_after(alloc, i, form, addr, length, names)?;
     let words = words_after(alloc, i, addr, length, regs, names)?;
@@ -188,7 +194,8 @@ pub fn words_before(
     regs: &[u8],
     names: &Variables,
 ) -> Result<List<(u8, Word)>, NoMemory>
-    ensures { IfOk result (λ ws. map register_tree ws ≡ map (spec.register_with (names_of names.now).word) regs.now) }
+    ensures { IfOk result (λ ws.
+        map register_tree ws ≡ map (spec.register_with (names_of names.now).word) regs.now) }
 {
     let mut words = List::new(alloc);
     for r in regs {
@@ -206,7 +213,9 @@ fn words_after(
     regs: &[u8],
     names: &Variables,
 ) -> Result<List<(u8, Word)>, NoMemory>
-    ensures { IfOk result (λ ws. map register_tree ws ≡ map (spec.register_with (terms.word_after i addr length (names_of names.now))) regs.now) }
+    ensures { IfOk result (λ ws.
+        map register_tree ws
+        ≡ map (spec.register_with (terms.word_after i addr length (names_of names.now))) regs.now) }
 {
     let mut words = List::new(alloc);
     for r in regs {
@@ -225,7 +234,8 @@ fn word_after(
     r: u8,
     names: &Variables,
 ) -> Result<Word, NoMemory>
-    ensures { IfOk result (λ t. word_tree t ≡ terms.word_after i addr length (names_of names.now) r) }
+    ensures { IfOk result (λ t.
+        word_tree t ≡ terms.word_after i addr length (names_of names.now) r) }
 {
     if r == destination(&i) {
         return result(alloc, i, addr, length, names);

@@ -65,7 +65,8 @@ fn extend(alloc: Global, ext: Ext, t: Word) -> Result<Word, NoMemory>
 
 /// The word that a load from an address gives.
 fn loaded(alloc: Global, width: Width, signed: bool, memory: u32, a: Word) -> Result<Word, NoMemory>
-    ensures { IfOk result (λ t. word_tree t ≡ terms.loaded width signed (MemVar memory) (word_tree a)) }
+    ensures { IfOk result (λ t.
+        word_tree t ≡ terms.loaded width signed (MemVar memory) (word_tree a)) }
 {
     let m = Box::new(alloc, Mem::Var(memory))?;
     let a = Box::new(alloc, a)?;
@@ -99,7 +100,8 @@ pub fn condition(
     form: Form,
     names: &Variables,
 ) -> Result<Option<Cond>, NoMemory>
-    ensures { IfOk result (λ c. option_to_list (option_map cond_tree c) ≡ terms.conditions i form (names_of names.now)) }
+    ensures { IfOk result (λ c.
+        option_to_list (option_map cond_tree c) ≡ terms.conditions i form (names_of names.now)) }
 {
     match i {
         Instr::Load {
@@ -137,7 +139,10 @@ pub fn comparison(
     rs2: u8,
     names: &Variables,
 ) -> Result<Cond, NoMemory>
-    ensures { IfOk result (λ c. cond_tree c ≡ Compare cmp (terms.word_in (names_of names.now) rs1) (terms.word_in (names_of names.now) rs2)) }
+    ensures { IfOk result (λ c.
+        cond_tree c
+        ≡ Compare cmp (terms.word_in (names_of names.now) rs1)
+        (terms.word_in (names_of names.now) rs2)) }
 {
     compare(alloc, cmp, word_in(names, rs1), word_in(names, rs2))
 }
@@ -150,7 +155,9 @@ fn accessible(
     r: u8,
     imm: i32,
 ) -> Result<Cond, NoMemory>
-    ensures { IfOk result (λ c. cond_tree c ≡ Inside width (MemVar names.now.memory) (terms.sum (names_of names.now) r imm)) }
+    ensures { IfOk result (λ c.
+        cond_tree c
+        ≡ Inside width (MemVar names.now.memory) (terms.sum (names_of names.now) r imm)) }
 {
     let a = sum(alloc, names, r, imm)?;
     let m = Box::new(alloc, Mem::Var(names.memory))?;
@@ -170,7 +177,8 @@ fn branch_condition(alloc: Global, form: Form, c: Cond) -> Result<Cond, NoMemory
 
 /// The conditions as facts.
 pub fn facts(alloc: Global, i: Instr, form: Form, names: &Variables) -> Result<List<Fact>, NoMemory>
-    ensures { IfOk result (λ fs. map fact_tree fs ≡ map So (terms.conditions i form (names_of names.now))) }
+    ensures { IfOk result (λ fs.
+        map fact_tree fs ≡ map So (terms.conditions i form (names_of names.now))) }
 {
     let mut facts = List::new(alloc);
     if let Some(c) = condition(alloc, i, form, names)? {
@@ -179,8 +187,8 @@ pub fn facts(alloc: Global, i: Instr, form: Form, names: &Variables) -> Result<L
     Ok(facts)
 }
 
-/// What the instruction of that many bytes at an address writes to its destination. Where that is x0, nothing is written, and the
-/// term is that of the value.
+/// What the instruction of that many bytes at an address writes to its destination. Where that is
+/// x0, nothing is written, and the term is that of the value.
 pub fn result(
     alloc: Global,
     i: Instr,
@@ -248,7 +256,8 @@ pub fn pc_after(
     length: u8,
     names: &Variables,
 ) -> Result<Word, NoMemory>
-    ensures { IfOk result (λ t. word_tree t ≡ terms.pc_after i form addr length (names_of names.now)) }
+    ensures { IfOk result (λ t.
+        word_tree t ≡ terms.pc_after i form addr length (names_of names.now)) }
 {
     match i {
         Instr::Jal { offset, .. } => Ok(Word::Const(plus_immediate(addr, offset))),

@@ -14,12 +14,14 @@ pub struct Variables {
 }
 
 impl Variables {
-    /// The variables from `first` on for these registers, in their order, and the one after them for all others.
+    /// The variables from `first` on for these registers, in their order, and the one after them
+    /// for all others.
     pub fn numbered(regs: &[u8], first: u32, memory: u32) -> Variables
         requires registers { All (λ r. (0 < r) × (r < 32)) regs.now }
         requires few { length regs.now ≤ 31 }
         requires room { first + length regs.now < 2 ^ 32 }
-        ensures words { (r : ℕ) → variable_of result.words r ≡ first + position_or_len (λ q. q == r) regs.now }
+        ensures words { (r : ℕ)
+            → variable_of result.words r ≡ first + position_or_len (λ q. q == r) regs.now }
         ensures memory { result.memory ≡ memory }
     {
         let mut words = [0; 32];

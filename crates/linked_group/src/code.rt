@@ -21,7 +21,9 @@ use word_terms::Code;
 fn with_graph(alloc: Global, code: &Code, graph: &Graph) -> Result<Code, NoMemory>
     requires reached { IsReachedBy graph.now }
     requires order { AreRanges code.now.ranges }
-    requires agree { (more : Items TheRange) → AreCodeOf graph.now more → Agree (range_bytes code.now.ranges) (range_bytes more) }
+    requires agree { (more : Items TheRange)
+        → AreCodeOf graph.now more
+        → Agree (range_bytes code.now.ranges) (range_bytes more) }
     ensures { IfOk result (λ c. IsJoined graph.now code.now.ranges c.ranges) }
 {
     let more = code_of(alloc, graph)?;

@@ -18,7 +18,8 @@ pub struct Search {
 impl Search {
     /// Adds a node, unless it is there already.
     fn note(&mut self, x: u32, place: usize) -> Result<(), NoMemory>
-        ensures { OnOk result (Notes self.old.nodes self.old.next_hop.items x place self.new.nodes self.new.next_hop.items) }
+        ensures { OnOk result (Notes self.old.nodes self.old.next_hop.items x place self.new.nodes
+            self.new.next_hop.items) }
     {
         if self.nodes.add(x)? {
             self.next_hop.push(place)?;

@@ -86,10 +86,14 @@ fn second_entry_from(
     requires last { u ≡ last_of path.now }
     requires within { u < length g.now.addrs }
     requires seen { All (λ v. is_new (mark_of marks.now v) ≡ false) (succs_of g.now.edges u) }
-    ensures none { IfOk result (λ o. IfNone o (All (λ v. IsDone g.now entry marks.now count u v) (succs_of g.now.edges u))) }
+    ensures none { IfOk result (λ o.
+        IfNone o (All (λ v. IsDone g.now entry marks.now count u v) (succs_of g.now.edges u))) }
     ensures place { IfOk result (λ o. IfSome o (λ p. p.place < length path.now)) }
-    ensures edge { IfOk result (λ o. IfSome o (λ p. HasEdge g.now u (slice_index path.now p.place))) }
-    ensures walk { IfOk result (λ o. IfSome o (λ p. EntersBeside g.now (drop p.place path.now) entry (slice_index path.now p.place) p.walk.items)) }
+    ensures edge { IfOk result (λ o.
+        IfSome o (λ p. HasEdge g.now u (slice_index path.now p.place))) }
+    ensures walk { IfOk result (λ o. IfSome o (λ p.
+        EntersBeside g.now (drop p.place path.now) entry (slice_index path.now p.place)
+        p.walk.items)) }
 {
     let _count = g.len();
     for v in g.succs(u) {

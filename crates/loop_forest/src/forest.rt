@@ -67,7 +67,8 @@ impl Forest {
         self.loops[l as usize].exits.as_slice()
     }
 
-    /// The smallest loop that has a node, where a head counts as a node of the region around its loop.
+    /// The smallest loop that has a node, where a head counts as a node of the region around its
+    /// loop.
     pub fn region(&self, n: u32) -> Option<u32>
         requires { n < length self.now.places }
         ensures { result ≡ region_of self.now n }
@@ -158,7 +159,8 @@ fn forest_from(alloc: Global, g: &Graph, marks: Vec<Mark>) -> Result<Forest, Flo
     }
 }
 
-/// The loops and cuts of a graph, or its fault: a cycle with two entries, else the first loop with more than 8 exits.
+/// The loops and cuts of a graph, or its fault: a cycle with two entries, else the first loop with
+/// more than 8 exits.
 pub fn find_loops(alloc: Global, g: &Graph) -> Result<Forest, FlowFault>
     ensures ok { IfOk result (IsForestOf g.now) }
     ensures err { IfErr result (IsNoForest g.now) }

@@ -32,7 +32,8 @@ pub enum Found {
 
 /// All loops, or the least head whose loop has too many exits.
 pub fn find_all(alloc: Global, g: &Graph, marks: &[Mark]) -> Result<Found, NoMemory>
-    requires settled { IsSettled (HasEdge g.now) g.now.entry (λ x. number_of (mark_of marks.now x)) }
+    requires settled { IsSettled (HasEdge g.now) g.now.entry (λ x.
+        number_of (mark_of marks.now x)) }
     ensures { IfOk result (IsFound g.now) }
 {
     let count = g.len();

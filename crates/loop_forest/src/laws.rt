@@ -1,4 +1,5 @@
-//! Laws of forests. These functions do nothing: their contracts are the laws. Each speaks of the definitions alone.
+//! Laws of forests. These functions do nothing: their contracts are the laws. Each speaks of the
+//! definitions alone.
 
 ghost use Rattle.std.specs.Prelude.{◌≡◌, ◌+◌, ◌<◌, ℕ, List, Some, length, Bool};
 ghost use Rattle.rv_words.specs.Bytes.{Bytes};
@@ -14,10 +15,19 @@ pub fn law_of_walks()
     ensures { (g : GraphOf) (f : ForestOf) → IsFlow g → IsForestOf g f → IsWalkable g f }
 {}
 
-/// A graph has a forest, two entries or a loop with too many exits, and only one of these. There is one first loop with too many exits.
+/// A graph has a forest, two entries or a loop with too many exits, and only one of these. There is
+/// one first loop with too many exits.
 pub fn law_of_one_forest()
-    ensures no_two_entries { (g : GraphOf) (f : ForestOf) → IsFlow g → IsForestOf g f → TwoEntries (GoesTo g) (entry_at g) → ⊥ }
-    ensures no_many_exits { (g : GraphOf) (f : ForestOf) (a : ℕ) → IsFlow g → IsForestOf g f → IsMany g a → ⊥ }
+    ensures no_two_entries { (g : GraphOf) (f : ForestOf)
+        → IsFlow g
+        → IsForestOf g f
+        → TwoEntries (GoesTo g) (entry_at g)
+        → ⊥ }
+    ensures no_many_exits { (g : GraphOf) (f : ForestOf) (a : ℕ)
+        → IsFlow g
+        → IsForestOf g f
+        → IsMany g a
+        → ⊥ }
     ensures one_head { (g : GraphOf) (a b : ℕ) → IsMany g a → IsMany g b → a ≡ b }
 {}
 
@@ -29,8 +39,19 @@ pub fn law_of_depths()
 
 /// Two entries between the addresses of a graph are two entries of its code, and the other way.
 pub fn law_of_two_entries()
-    ensures shown { (linked : Bool) (code : Bytes) (e : ℕ) (g : GraphOf) (cycle first second : List ℕ) → IsGraphOf linked code e g
-        → ShowsTwoEntries (GoesTo g) (entry_at g) cycle first second → ShowsTwoEntries (Next linked code) e cycle first second }
-    ensures none { (linked : Bool) (code : Bytes) (e : ℕ) (g : GraphOf) (f : ForestOf) → IsGraphOf linked code e g → IsForestOf g f → TwoEntries (Next linked code) e → ⊥ }
-    ensures none_where_many { (linked : Bool) (code : Bytes) (e : ℕ) (g : GraphOf) (a : ℕ) → IsGraphOf linked code e g → IsMany g a → TwoEntries (Next linked code) e → ⊥ }
+    ensures shown { (linked : Bool) (code : Bytes) (e : ℕ) (g : GraphOf)
+        (cycle first second : List ℕ)
+        → IsGraphOf linked code e g
+        → ShowsTwoEntries (GoesTo g) (entry_at g) cycle first second
+        → ShowsTwoEntries (Next linked code) e cycle first second }
+    ensures none { (linked : Bool) (code : Bytes) (e : ℕ) (g : GraphOf) (f : ForestOf)
+        → IsGraphOf linked code e g
+        → IsForestOf g f
+        → TwoEntries (Next linked code) e
+        → ⊥ }
+    ensures none_where_many { (linked : Bool) (code : Bytes) (e : ℕ) (g : GraphOf) (a : ℕ)
+        → IsGraphOf linked code e g
+        → IsMany g a
+        → TwoEntries (Next linked code) e
+        → ⊥ }
 {}

@@ -27,7 +27,8 @@ pub fn number_at(marks: &[Mark], u: u32) -> usize
 /// The sources of the back edges to h: of the edges that don't go down.
 fn back_sources(alloc: Global, g: &Graph, marks: &[Mark], h: u32) -> Result<Vec<u32>, NoMemory>
     requires node { h < length g.now.addrs }
-    requires settled { IsSettled (HasEdge g.now) g.now.entry (λ x. number_of (mark_of marks.now x)) }
+    requires settled { IsSettled (HasEdge g.now) g.now.entry (λ x.
+        number_of (mark_of marks.now x)) }
     ensures { IfOk result (λ v. AreBackTo g.now g.now.entry h v.items) }
 {
     let _count = g.len();
@@ -50,7 +51,8 @@ pub struct Loop {
 /// The loop of h, where h is a head.
 pub fn loop_of(alloc: Global, g: &Graph, marks: &[Mark], h: u32) -> Result<Option<Loop>, NoMemory>
     requires node { h < length g.now.addrs }
-    requires settled { IsSettled (HasEdge g.now) g.now.entry (λ x. number_of (mark_of marks.now x)) }
+    requires settled { IsSettled (HasEdge g.now) g.now.entry (λ x.
+        number_of (mark_of marks.now x)) }
     ensures none { IfOk result (λ o. IfNone o (IsHead (HasEdge g.now) g.now.entry h → ⊥)) }
     ensures some { IfOk result (λ o. IfSome o (λ l. IsLoopOf g.now g.now.entry h l.head l.nodes)) }
 {

@@ -95,7 +95,10 @@ impl NodeSet {
     pub fn len(&self) -> usize
         ensures len { result ≡ length self.now }
         ensures few { (n : ℕ) → All (λ x. x < n) self.now → length self.now ≤ n }
-        ensures different { (j k : ℕ) → j < k → k < length self.now → slice_index self.now j ≢ slice_index self.now k }
+        ensures different { (j k : ℕ)
+            → j < k
+            → k < length self.now
+            → slice_index self.now j ≢ slice_index self.now k }
     {
         self.nodes.len()
     }
@@ -110,7 +113,8 @@ impl NodeSet {
 
     /// The nodes below a number, rising.
     pub fn rising(&self, alloc: Global, count: u32) -> Result<Vec<u32>, NoMemory>
-        ensures members { IfOk result (λ v. (x : ℕ) → Contains v.items x ↔ (Contains self.now x × (x < count))) }
+        ensures members { IfOk result (λ v.
+            (x : ℕ) → Contains v.items x ↔ (Contains self.now x × (x < count))) }
         ensures rising { IfOk result (λ v. IsRising v.items) }
     {
         let mut found = Vec::new(alloc);

@@ -24,7 +24,8 @@ fn walk_from(
     requires found { FindsSources g.now (u ∷ []) h search.now.nodes search.now.next_hop.items }
     requires on { Contains cycle.now u }
     requires place { place < length search.now.nodes }
-    ensures { IfOk result (λ w. EntersBeside g.now cycle.now (slice_index search.now.nodes place) h w.items) }
+    ensures { IfOk result (λ w.
+        EntersBeside g.now cycle.now (slice_index search.now.nodes place) h w.items) }
 {
     let _count = g.len();
     let mut walk = Vec::new(alloc);

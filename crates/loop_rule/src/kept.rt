@@ -15,8 +15,8 @@ use std::alloc::Global;
 use tailrec_lang::{Def, Group};
 use triple_kernel::{Fact, Thm, are_among};
 
-/// Judges the leaves of a definition by theorems, some of which were forgotten: its group, what holds where it is entered with
-/// its parameters, and the facts of the way.
+/// Judges the leaves of a definition by theorems, some of which were forgotten: its group, what
+/// holds where it is entered with its parameters, and the facts of the way.
 #[derive(Drop)]
 pub(crate) struct KeptLeaves<'a, 'g> {
     pub group: &'a Group,
@@ -55,7 +55,9 @@ impl<'a, 'g> JudgeLeaves for KeptLeaves<'a, 'g> {
 fn leads<'g>(k: &KeptLeaves<'_, 'g>, post: &Assertion, t: &Thm<'g>) -> bool
     requires ready { AreOfGroup k.now }
     requires group { group_tree t.now.0 ≡ group_tree k.now.group.now }
-    ensures row { IsTrue result ↔ LeadsTo (group_tree k.now.group.now) (def_tree k.now.def.now) (leaf_with (map fact_tree k.now.way) post.now) (triple_tree t.now.1) }
+    ensures row { IsTrue result
+        ↔ LeadsTo (group_tree k.now.group.now) (def_tree k.now.def.now)
+        (leaf_with (map fact_tree k.now.way) post.now) (triple_tree t.now.1) }
     ensures valid { Valid (group_tree k.now.group.now) (triple_tree t.now.1) }
 {
     let p = t.triple();

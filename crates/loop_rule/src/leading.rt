@@ -1,5 +1,6 @@
-//! The theorems that lead to the leaves of a definition. The leaves are met one after the other, with one list of facts
-//! for the way to where the walk is, so that memory is linear in the definition.
+//! The theorems that lead to the leaves of a definition. The leaves are met one after the other,
+//! with one list of facts for the way to where the walk is, so that memory is linear in the
+//! definition.
 
 ghost use Rattle.std.specs.Prelude.{◌≡◌, ◌++◌, ◌∷◌, [], IfOk, IsErrOf, IsOk, OnOk, length, map, take};
 ghost use Rattle.std.specs.List.{AllZip, Contains};
@@ -23,7 +24,8 @@ use tailrec_lang::{Body, Def, End, Group, Step, Values, exits_of};
 use triple_kernel::{Fact, RuleFault};
 use word_terms::copy_cond;
 
-/// A definition to be closed, its group, and the numbers of the theorems that are cited for its leaves.
+/// A definition to be closed, its group, and the numbers of the theorems that are cited for its
+/// leaves.
 #[derive(Drop)]
 pub(crate) struct Citing<'a> {
     group: &'a Group,
@@ -31,8 +33,9 @@ pub(crate) struct Citing<'a> {
     cited: &'a [u64],
 }
 
-/// Cites a theorem for each leaf of the definition, in their order, none of which is left. The judge begins before the first step;
-/// there is no instance where a theorem doesn't lead to its leaf.
+/// Cites a theorem for each leaf of the definition, in their order, none of which is left. The
+/// judge begins before the first step; there is no instance where a theorem doesn't lead to its
+/// leaf.
 #[tactic(auto, using(crate::proofs::WalkLemmas::went_same, crate::proofs::WalkLemmas::went_more))]
 pub fn cite_for_leaves<J: JudgeLeaves>(
     alloc: Global,
@@ -45,10 +48,21 @@ pub fn cite_for_leaves<J: JudgeLeaves>(
     requires group { (J.judge.closing judge.old).group ≡ group_tree g.now }
     requires def { (J.judge.closing judge.old).def ≡ def_tree def.now }
     requires begins { J.judge.way judge.old ≡ [] }
-    ensures led { IsOk result → AllZip (IsLedTo (group_tree g.now) (def_tree def.now)) (leaves_of (group_tree g.now) (def_tree def.now)) (map (J.judge.closing judge.old).theorem cited.now) }
-    ensures holds { IsOk result → (leaf : LeafTree) → Contains (leaves_of (group_tree g.now) (def_tree def.now)) leaf → IsLed (J.judge.Holds (group_tree g.now)) (group_tree g.now) (def_tree def.now) leaf }
-    ensures not_led { IsErrOf result RuleFault.NoInstance → AllZip (IsLedTo (group_tree g.now) (def_tree def.now)) (leaves_of (group_tree g.now) (def_tree def.now)) (map (J.judge.closing judge.old).theorem cited.now) → ⊥ }
-    ensures went { Went J.judge (leaves_of (group_tree g.now) (def_tree def.now)) judge.old judge.new }
+    ensures led { IsOk result
+        → AllZip (IsLedTo (group_tree g.now) (def_tree def.now))
+        (leaves_of (group_tree g.now) (def_tree def.now))
+        (map (J.judge.closing judge.old).theorem cited.now) }
+    ensures holds { IsOk result
+        → (leaf : LeafTree)
+        → Contains (leaves_of (group_tree g.now) (def_tree def.now)) leaf
+        → IsLed (J.judge.Holds (group_tree g.now)) (group_tree g.now) (def_tree def.now) leaf }
+    ensures not_led { IsErrOf result RuleFault.NoInstance
+        → AllZip (IsLedTo (group_tree g.now) (def_tree def.now))
+        (leaves_of (group_tree g.now) (def_tree def.now))
+        (map (J.judge.closing judge.old).theorem cited.now)
+        → ⊥ }
+    ensures went { Went J.judge (leaves_of (group_tree g.now) (def_tree def.now)) judge.old
+        judge.new }
 {
     let citing = Citing {
         group: g,
@@ -64,8 +78,8 @@ pub fn cite_for_leaves<J: JudgeLeaves>(
     Ok(())
 }
 
-/// Cites the theorems from that place on for the leaves of the end of a body, to which the judge's way leads. Gives the place behind
-/// them. The way is then what it was.
+/// Cites the theorems from that place on for the leaves of the end of a body, to which the judge's
+/// way leads. Gives the place behind them. The way is then what it was.
 #[cycle(leaves)]
 #[tactic(auto, using(crate::proofs::WalkLemmas::went_same, crate::proofs::WalkLemmas::went_more))]
 fn cite_for_end<J: JudgeLeaves>(
@@ -78,8 +92,8 @@ fn cite_for_end<J: JudgeLeaves>(
 ) -> Result<usize, RuleFault>
     requires { IsOf J.judge c.now judge.old }
     ensures { Walks J.judge c.now
-        (body_leaves (group_tree c.now.group.now) (def_tree c.now.def.now) (end_tree end.now) scope.words scope.mems (J.judge.way judge.old))
-        place judge.old judge.new result }
+        (body_leaves (group_tree c.now.group.now) (def_tree c.now.def.now) (end_tree end.now)
+        scope.words scope.mems (J.judge.way judge.old)) place judge.old judge.new result }
 {
     match end {
         End::Branch(cond, a, b) => {
@@ -126,8 +140,10 @@ fn cite_for_arms<J: JudgeLeaves>(
 ) -> Result<usize, RuleFault>
     requires { IsOf J.judge c.now judge.old }
     ensures { Walks J.judge c.now
-        (arm_leaves (group_tree c.now.group.now) (def_tree c.now.def.now) callee (exits_at (group_tree c.now.group.now) callee) 0 (values_tree values.now) (arm_trees arms.now) scope.words scope.mems (J.judge.way judge.old))
-        place judge.old judge.new result }
+        (arm_leaves (group_tree c.now.group.now) (def_tree c.now.def.now) callee
+        (exits_at (group_tree c.now.group.now) callee) 0 (values_tree values.now)
+        (arm_trees arms.now) scope.words scope.mems (J.judge.way judge.old)) place judge.old
+        judge.new result }
 {
     let exits = exits_of(c.group, callee as usize);
     let count = arms.len().min(exits.len());
@@ -154,8 +170,9 @@ fn cite_behind<J: JudgeLeaves>(
 ) -> Result<usize, RuleFault>
     requires { IsOf J.judge c.now judge.old }
     ensures { Walks J.judge c.now
-        (body_leaves (group_tree c.now.group.now) (def_tree c.now.def.now) (body_tree body.now) scope.words scope.mems (J.judge.way judge.old ++ fact_tree fact ∷ []))
-        place judge.old judge.new result }
+        (body_leaves (group_tree c.now.group.now) (def_tree c.now.def.now) (body_tree body.now)
+        scope.words scope.mems (J.judge.way judge.old ++ fact_tree fact ∷ [])) place judge.old
+        judge.new result }
 {
     let length = judge.length();
     judge.push(fact)?;
@@ -174,7 +191,8 @@ fn cite_for_leaf<J: JudgeLeaves>(
     place: usize,
 ) -> Result<usize, RuleFault>
     requires { IsOf J.judge c.now judge.old }
-    ensures { Walks J.judge c.now (leaf_with (J.judge.way judge.old) post.now ∷ []) place judge.old judge.new result }
+    ensures { Walks J.judge c.now (leaf_with (J.judge.way judge.old) post.now ∷ []) place judge.old
+        judge.new result }
 {
     let Some(number) = c.cited.get(place) else {
         return Err(RuleFault::NoInstance);
@@ -195,10 +213,13 @@ fn push_steps<J: JudgeLeaves>(
     judge: &mut J,
 ) -> Result<Scope, NoMemory>
     requires { J.judge.IsReady judge.old }
-    ensures leaves { IfOk result (λ after. (g : GroupTree) (def : DefTree) (rest : BodyTree)
-        → body_leaves g def (with_steps (map step_tree steps.now) rest) scope.words scope.mems (J.judge.way judge.old)
+    ensures leaves { IfOk result (λ after.
+        (g : GroupTree) (def : DefTree) (rest : BodyTree)
+        → body_leaves g def (with_steps (map step_tree steps.now) rest) scope.words scope.mems
+        (J.judge.way judge.old)
         ≡ body_leaves g def rest after.words after.mems (J.judge.way judge.new)) }
-    ensures way { OnOk result (take (length (J.judge.way judge.old)) (J.judge.way judge.new) ≡ J.judge.way judge.old) }
+    ensures way { OnOk result (take (length (J.judge.way judge.old)) (J.judge.way judge.new)
+        ≡ J.judge.way judge.old) }
     ensures went { Went J.judge [] judge.old judge.new }
 {
     let mut after = scope;

@@ -16,14 +16,16 @@ use tailrec_lang::{Body, Def, End, Group, Step, Values, exits_of};
 use triple_kernel::{Fact, copy_facts};
 use word_terms::copy_cond;
 
-/// An end of a body at which an entry into it ends: the facts of the way there, and what has to hold there.
+/// An end of a body at which an entry into it ends: the facts of the way there, and what has to
+/// hold there.
 #[derive(Debug, Drop)]
 pub struct Leaf {
     pub facts: List<Fact>,
     pub post: Assertion,
 }
 
-/// The leaves of the definition of that number, in the order of its text; none, if there is no such definition.
+/// The leaves of the definition of that number, in the order of its text; none, if there is no such
+/// definition.
 pub fn leaves(alloc: Global, g: &Group, def: u32) -> Result<List<Leaf>, NoMemory>
     ensures { IfOk result (λ list. map leaf_tree list ≡ leaves_at (group_tree g.now) def) }
 {
@@ -35,7 +37,8 @@ pub fn leaves(alloc: Global, g: &Group, def: u32) -> Result<List<Leaf>, NoMemory
 
 /// The leaves of the definition.
 fn leaves_of_def(alloc: Global, g: &Group, def: &Def) -> Result<List<Leaf>, NoMemory>
-    ensures { IfOk result (λ list. map leaf_tree list ≡ leaves_of (group_tree g.now) (def_tree def.now)) }
+    ensures { IfOk result (λ list.
+        map leaf_tree list ≡ leaves_of (group_tree g.now) (def_tree def.now)) }
 {
     let scope = first_scope(g)?;
     let mut list = List::new(alloc);
@@ -54,8 +57,10 @@ fn add_leaves(
     facts: List<Fact>,
     list: &mut List<Leaf>,
 ) -> Result<(), NoMemory>
-    ensures { OnOk result (map leaf_tree list.new ≡ map leaf_tree list.old
-        ++ body_leaves (group_tree g.now) (def_tree def.now) (body_tree body.now) scope.words scope.mems (map fact_tree facts)) }
+    ensures { OnOk result (map leaf_tree list.new
+        ≡ map leaf_tree list.old
+        ++ body_leaves (group_tree g.now) (def_tree def.now) (body_tree body.now) scope.words
+        scope.mems (map fact_tree facts)) }
 {
     let mut path = facts;
     let after = add_steps(alloc, body.steps.as_slice(), scope, &mut path)?;
@@ -111,8 +116,10 @@ fn add_arm_leaves(
     facts: &[Fact],
     list: &mut List<Leaf>,
 ) -> Result<(), NoMemory>
-    ensures { OnOk result (map leaf_tree list.new ≡ map leaf_tree list.old
-        ++ arm_leaves (group_tree g.now) (def_tree def.now) callee (exits_at (group_tree g.now) callee) 0 (values_tree values.now) (arm_trees arms.now)
+    ensures { OnOk result (map leaf_tree list.new
+        ≡ map leaf_tree list.old
+        ++ arm_leaves (group_tree g.now) (def_tree def.now) callee
+        (exits_at (group_tree g.now) callee) 0 (values_tree values.now) (arm_trees arms.now)
         scope.words scope.mems (map fact_tree facts.now)) }
 {
     let exits = exits_of(g, callee as usize);
@@ -134,8 +141,10 @@ fn add_steps(
     scope: Scope,
     path: &mut List<Fact>,
 ) -> Result<Scope, NoMemory>
-    ensures leaves { IfOk result (λ after. (g : GroupTree) (def : DefTree) (rest : BodyTree)
-        → body_leaves g def (with_steps (map step_tree steps.now) rest) scope.words scope.mems (map fact_tree path.old)
+    ensures leaves { IfOk result (λ after.
+        (g : GroupTree) (def : DefTree) (rest : BodyTree)
+        → body_leaves g def (with_steps (map step_tree steps.now) rest) scope.words scope.mems
+        (map fact_tree path.old)
         ≡ body_leaves g def rest after.words after.mems (map fact_tree path.new)) }
     ensures path { OnOk result (take (length path.old) path.new ≡ path.old) }
 {

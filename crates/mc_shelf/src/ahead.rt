@@ -84,9 +84,12 @@ impl Ahead {
     fn fill<S: Shelf>(&mut self, shelf: &mut S, name: &str, size: u64) -> Result<(), Failed>
         requires within { self.old.place ≤ size }
         requires going { IsDone size self.old → ⊥ }
-        ensures takes { OnOk result (Takes size [] (S.contents shelf.old) name.now self.old self.new) }
-        ensures fewer { OnOk result (to_go size self.new < to_go size self.old + length self.new.waiting) }
-        ensures shelf { OnlyReads S.contents S.read_faults S.write_faults S.IsSure (IsErr result) name.now shelf.old shelf.new }
+        ensures takes { OnOk result (Takes size [] (S.contents shelf.old) name.now self.old
+            self.new) }
+        ensures fewer { OnOk result (to_go size self.new
+            < to_go size self.old + length self.new.waiting) }
+        ensures shelf { OnlyReads S.contents S.read_faults S.write_faults S.IsSure (IsErr result)
+            name.now shelf.old shelf.new }
     {
         if !self.is_empty() {
             return Ok(());
@@ -100,10 +103,12 @@ impl Ahead {
         Ok(())
     }
 
-    /// Moves the waiting bytes up to and with the first newline to the line's end, or all of them. Whether a newline is among them.
+    /// Moves the waiting bytes up to and with the first newline to the line's end, or all of them.
+    /// Whether a newline is among them.
     fn take_line(&mut self, line: &mut Bytes) -> Result<bool, NoMemory>
         ensures line { OnOk result (line.new ≡ line.old ++ up_to_newline self.old.waiting) }
-        ensures rest { OnOk result (self.old.waiting ≡ up_to_newline self.old.waiting ++ self.new.waiting) }
+        ensures rest { OnOk result (self.old.waiting
+            ≡ up_to_newline self.old.waiting ++ self.new.waiting) }
         ensures ends { IfOk result (λ ends. HasLine ends self.old.waiting) }
         ensures place { self.new.place ≡ self.old.place }
         ensures ended { self.new.ended ≡ self.old.ended }
@@ -123,12 +128,14 @@ impl Ahead {
         size: u64,
     ) -> Result<Bytes, LineFault>
         requires { self.old.place ≤ size }
-        ensures takes { IfOk result (λ line. Takes size line (S.contents shelf.old) name.now self.old self.new) }
+        ensures takes { IfOk result (λ line.
+            Takes size line (S.contents shelf.old) name.now self.old self.new) }
         ensures none { IfOk result (λ line. line ≡ [] → IsDone size self.new) }
         ensures alone { IfOk result (λ line. up_to_newline line ≡ line) }
         ensures going { OnErr result (IsDone size self.old → ⊥) }
         ensures ends { IfOk result (λ line. IsEnded line ⊎ IsDone size self.new) }
-        ensures shelf { OnlyReads S.contents S.read_faults S.write_faults S.IsSure (IsErrOf result Fault) name.now shelf.old shelf.new }
+        ensures shelf { OnlyReads S.contents S.read_faults S.write_faults S.IsSure
+            (IsErrOf result Fault) name.now shelf.old shelf.new }
     {
         let mut line = List::new(alloc);
         while !self.is_done(size) {

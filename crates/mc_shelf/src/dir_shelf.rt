@@ -11,8 +11,9 @@ use std::io::{Read, Seek, SeekFrom, Write};
 use std::marker::Model;
 use std::rt::Files;
 
-/// The system's files, by their paths. The file that the last `create` opened stays open, and takes what is appended to its name.
-/// So does the file that the last read opened, for the next read of its name.
+/// The system's files, by their paths. The file that the last `create` opened stays open, and takes
+/// what is appended to its name. So does the file that the last read opened, for the next read of
+/// its name.
 #[derive(Drop)]
 pub struct DirShelf<R: Files> {
     runtime: R,
@@ -50,7 +51,8 @@ impl<R: Files + AllocGlobal> DirShelf<R> {
         }
     }
 
-    /// Opens the file, where it isn't open for reading, and keeps it open. Where there is no memory for the name, no file is kept.
+    /// Opens the file, where it isn't open for reading, and keeps it open. Where there is no memory
+    /// for the name, no file is kept.
     fn read_from(&mut self, name: &str, at: u64, into: &mut [u8]) -> io::Result<usize>
         ensures fits { IfOk result (λ n. n ≤ length into.old) }
         ensures same { self.new ≡ self.old }
@@ -100,9 +102,11 @@ impl<R: Files + AllocGlobal> DirShelf<R> {
     /// Counts the failure of a write.
     fn written(&mut self, outcome: io::Result<()>) -> Result<(), Stop>
         ensures ok { OnOk result (self.new ≡ self.old) }
-        ensures err { OnErr result (self.new ≡ record self.old { write_faults = one_more self.old.write_faults }) }
+        ensures err { OnErr result (self.new
+            ≡ record self.old { write_faults = one_more self.old.write_faults }) }
         ensures failed { IsErrOf result Stop.NoMemory → ⊥ }
-        ensures counted { (self.old.read_faults ≤ self.new.read_faults) × (self.old.write_faults ≤ self.new.write_faults) }
+        ensures counted { (self.old.read_faults ≤ self.new.read_faults)
+            × (self.old.write_faults ≤ self.new.write_faults) }
         ensures reads { self.new.read_faults ≡ self.old.read_faults }
     {
         if outcome.is_ok() {
@@ -124,10 +128,12 @@ impl<R: Files + AllocGlobal> Shelf for DirShelf<R> {
 
     fn read(&mut self, name: &str, at: u64, into: &mut [u8]) -> Result<usize, Failed>
         ensures ok { OnOk result (self.new ≡ self.old) }
-        ensures err { OnErr result (self.new ≡ record self.old { read_faults = one_more self.old.read_faults }) }
+        ensures err { OnErr result (self.new
+            ≡ record self.old { read_faults = one_more self.old.read_faults }) }
 
         ensures fits { IfOk result (λ n. n ≤ length into.old) }
-        ensures counted { (self.old.read_faults ≤ self.new.read_faults) × (self.old.write_faults ≤ self.new.write_faults) }
+        ensures counted { (self.old.read_faults ≤ self.new.read_faults)
+            × (self.old.write_faults ≤ self.new.write_faults) }
         ensures writes { self.new.write_faults ≡ self.old.write_faults }
         ensures cause { IsErr result → Rose self.old.read_faults self.new.read_faults }
     {
@@ -142,12 +148,15 @@ impl<R: Files + AllocGlobal> Shelf for DirShelf<R> {
 
     fn create(&mut self, name: &str) -> Result<(), Stop>
         ensures ok { OnOk result (self.new ≡ self.old) }
-        ensures err { OnErr result (self.new ≡ record self.old { write_faults = one_more self.old.write_faults }) }
+        ensures err { OnErr result (self.new
+            ≡ record self.old { write_faults = one_more self.old.write_faults }) }
         ensures no_memory { IsErrOf result Stop.NoMemory → ⊥ }
 
-        ensures counted { (self.old.read_faults ≤ self.new.read_faults) × (self.old.write_faults ≤ self.new.write_faults) }
+        ensures counted { (self.old.read_faults ≤ self.new.read_faults)
+            × (self.old.write_faults ≤ self.new.write_faults) }
         ensures reads { self.new.read_faults ≡ self.old.read_faults }
-        ensures cause { IsErrOf result Stop.Failed → Rose self.old.write_faults self.new.write_faults }
+        ensures cause { IsErrOf result Stop.Failed
+            → Rose self.old.write_faults self.new.write_faults }
     {
         let outcome = self.create_file(name);
         self.written(outcome)
@@ -155,12 +164,15 @@ impl<R: Files + AllocGlobal> Shelf for DirShelf<R> {
 
     fn append(&mut self, name: &str, bytes: &[u8]) -> Result<(), Stop>
         ensures ok { OnOk result (self.new ≡ self.old) }
-        ensures err { OnErr result (self.new ≡ record self.old { write_faults = one_more self.old.write_faults }) }
+        ensures err { OnErr result (self.new
+            ≡ record self.old { write_faults = one_more self.old.write_faults }) }
         ensures no_memory { IsErrOf result Stop.NoMemory → ⊥ }
 
-        ensures counted { (self.old.read_faults ≤ self.new.read_faults) × (self.old.write_faults ≤ self.new.write_faults) }
+        ensures counted { (self.old.read_faults ≤ self.new.read_faults)
+            × (self.old.write_faults ≤ self.new.write_faults) }
         ensures reads { self.new.read_faults ≡ self.old.read_faults }
-        ensures cause { IsErrOf result Stop.Failed → Rose self.old.write_faults self.new.write_faults }
+        ensures cause { IsErrOf result Stop.Failed
+            → Rose self.old.write_faults self.new.write_faults }
     {
         let outcome = self.append_to(name, bytes);
         self.written(outcome)

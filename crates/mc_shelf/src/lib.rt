@@ -1,4 +1,5 @@
-//! Files by name and a place for output, as traits whose meaning is stated, in memory and over the system.
+//! Files by name and a place for output, as traits whose meaning is stated, in memory and over the
+//! system.
 #![tactic(auto)]
 
 mod ahead;

@@ -38,7 +38,8 @@ impl From<NoMemory> for LineFault {
     }
 }
 
-/// The lines of a file, from its front, up to a number of bytes. It holds a block of 4,096 bytes; the shelf is lent at each call.
+/// The lines of a file, from its front, up to a number of bytes. It holds a block of 4,096 bytes;
+/// the shelf is lent at each call.
 #[derive(Drop)]
 pub struct Lines<'s> {
     name: &'s str,
@@ -78,7 +79,16 @@ fn with_bytes(line: Bytes) -> Option<Bytes>
 impl<'s> Lines<'s> {
     /// The lines of what the name holds, of which no more than so many bytes are given.
     pub fn new(name: &'s str, size: u64) -> Lines<'s>
-        ensures { result ≡ record { name = name.now; size = size; given = 0; waiting = []; ended = false; refused = None } }
+        ensures { result
+            ≡ record {
+              name = name.now;
+              size = size;
+              given = 0;
+              waiting = [];
+              ended = false;
+              refused
+                  = None;
+            } }
     {
         Lines {
             name,
@@ -96,13 +106,17 @@ impl<'s> Lines<'s> {
         shelf: &mut S,
     ) -> Result<Option<Bytes>, LineFault>
         // Of the bytes that are left the first line is given, where it is told what the name holds.
-        ensures line { IfOk result (λ line. IfSome (S.contents shelf.old) (λ files. IfSome (files self.old.name) (λ file.
-            GivesFirstLine line (bytes_left self.old file) (bytes_left self.new file)))) }
+        ensures line { IfOk result (λ line.
+            IfSome (S.contents shelf.old) (λ files. IfSome (files self.old.name)
+            (λ file. GivesFirstLine line (bytes_left self.old file) (bytes_left self.new file)))) }
 
         // Over every shelf.
-        ensures alone { IfOk result (λ line. IfSome line (λ bytes. (0 < length bytes) × (up_to_newline bytes ≡ bytes))) }
-        ensures ends { IfOk result (λ line. IfSome line (λ bytes. IsEnded bytes ⊎ AllGiven self.new)) }
-        ensures given { IfOk result (λ line. self.new.given ≡ self.old.given + length (unwrap_or line [])) }
+        ensures alone { IfOk result (λ line.
+            IfSome line (λ bytes. (0 < length bytes) × (up_to_newline bytes ≡ bytes))) }
+        ensures ends { IfOk result (λ line.
+            IfSome line (λ bytes. IsEnded bytes ⊎ AllGiven self.new)) }
+        ensures given { IfOk result (λ line.
+            self.new.given ≡ self.old.given + length (unwrap_or line [])) }
         ensures within { (self.new.given ≤ self.new.size) × (self.new.size < 2 ^ 64) }
         ensures none { IfOk result (λ line. IfNone line (AllGiven self.new)) }
         ensures all_given { self.old.refused ≡ None → AllGiven self.old → result ≡ Done None }
@@ -110,20 +124,27 @@ impl<'s> Lines<'s> {
 
         // A refusal has its cause, and stays.
         ensures cause { IsErrOf result LineFault.Fault
-            → Rose (S.read_faults shelf.old) (S.read_faults shelf.new) ⊎ (self.old.refused ≡ Some Faulty) }
+            → Rose (S.read_faults shelf.old) (S.read_faults shelf.new)
+            ⊎ (self.old.refused ≡ Some Faulty) }
         ensures again { IfSome self.old.refused (λ fault. result ≡ Stopped fault) }
-        ensures err { IfErr result (λ fault. (self.new.refused ≡ Some fault) × (self.new.given ≡ self.old.given)) }
+        ensures err { IfErr result (λ fault.
+            (self.new.refused ≡ Some fault) × (self.new.given ≡ self.old.given)) }
         ensures ok { OnOk result (self.new.refused ≡ None) }
 
         ensures kept { S.contents shelf.new ≡ S.contents shelf.old }
         ensures writes { S.write_faults shelf.new ≡ S.write_faults shelf.old }
-        ensures counted { (S.read_faults shelf.old ≤ S.read_faults shelf.new) × (S.write_faults shelf.old ≤ S.write_faults shelf.new) }
+        ensures counted { (S.read_faults shelf.old ≤ S.read_faults shelf.new)
+            × (S.write_faults shelf.old ≤ S.write_faults shelf.new) }
 
         ensures stays_sure { S.IsSure shelf.old → S.IsSure shelf.new }
-        ensures sure_fault { S.IsSure shelf.old → TellsName (S.contents shelf.old) self.old.name → IsErrOf result LineFault.Fault
+        ensures sure_fault { S.IsSure shelf.old
+            → TellsName (S.contents shelf.old) self.old.name
+            → IsErrOf result LineFault.Fault
             → self.old.refused ≡ Some Faulty }
-        ensures sure_counts { S.IsSure shelf.old → TellsName (S.contents shelf.old) self.old.name
-            → (S.read_faults shelf.new ≡ S.read_faults shelf.old) × (S.write_faults shelf.new ≡ S.write_faults shelf.old) }
+        ensures sure_counts { S.IsSure shelf.old
+            → TellsName (S.contents shelf.old) self.old.name
+            → (S.read_faults shelf.new ≡ S.read_faults shelf.old)
+            × (S.write_faults shelf.new ≡ S.write_faults shelf.old) }
     {
         if let Some(fault) = self.refused {
             return Err(fault);

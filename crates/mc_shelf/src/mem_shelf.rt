@@ -41,7 +41,8 @@ impl Model for MemShelf {
 impl MemShelf {
     /// A shelf with no name, on which no call was made and none is to fail.
     pub fn new(alloc: Global) -> MemShelf
-        ensures { result ≡ record { files = []; calls = 0; failures = []; read_faults = 0; write_faults = 0 } }
+        ensures { result
+            ≡ record { files = []; calls = 0; failures = []; read_faults = 0; write_faults = 0 } }
     {
         MemShelf {
             files: Files::new(alloc),
@@ -54,17 +55,20 @@ impl MemShelf {
     /// Lets the name hold the bytes.
     pub fn set(&mut self, name: &str, bytes: &[u8]) -> Result<(), NoMemory>
         ensures holds { OnOk result (held self.new.files name.now ≡ Some bytes.now) }
-        ensures others { OnOk result (KeepsOthers name.now (held self.old.files) (held self.new.files)) }
-        ensures ok { OnOk result (self.new ≡ record self.old { files = with_file self.old.files name.now bytes.now }) }
+        ensures others { OnOk result (KeepsOthers name.now (held self.old.files)
+            (held self.new.files)) }
+        ensures ok { OnOk result (self.new
+            ≡ record self.old { files = with_file self.old.files name.now bytes.now }) }
         ensures err { OnErr result (self.new ≡ self.old) }
     {
         self.files.set(name, bytes)
     }
 
-    /// Lets a call of the trait fail, by its number from 0. Of its piece an `append` keeps so many bytes, or
-    /// all of it where it is shorter; a `create` that fails changes no file.
+    /// Lets a call of the trait fail, by its number from 0. Of its piece an `append` keeps so many
+    /// bytes, or all of it where it is shorter; a `create` that fails changes no file.
     pub fn fail(&mut self, call: u64, kept: u64) -> Result<(), NoMemory>
-        ensures ok { OnOk result (self.new ≡ record self.old { failures = self.old.failures ++ (call, kept) ∷ [] }) }
+        ensures ok { OnOk result (self.new
+            ≡ record self.old { failures = self.old.failures ++ (call, kept) ∷ [] }) }
         ensures err { OnErr result (self.new ≡ self.old) }
     {
         self.plan.fail(call, kept)
@@ -104,9 +108,11 @@ impl Shelf for MemShelf {
 
         // It fails exactly where it is in the list of failures or the name is missing.
         ensures failing { IsErr result
-            → IsSome (kept_at self.old.failures self.old.calls) ⊎ IsNone (held self.old.files name.now) }
+            → IsSome (kept_at self.old.failures self.old.calls)
+            ⊎ IsNone (held self.old.files name.now) }
         ensures not_listed { IsOk result → IsNone (kept_at self.old.failures self.old.calls) }
-        ensures read { IfOk result (λ n. IsSomeAnd (held self.old.files name.now) (λ file. ReadsAll file at n into.old into.new)) }
+        ensures read { IfOk result (λ n. IsSomeAnd (held self.old.files name.now)
+            (λ file. ReadsAll file at n into.old into.new)) }
 
         ensures ok { OnOk result (self.new ≡ record self.old { calls = one_more self.old.calls }) }
         ensures err { OnErr result (self.new ≡ record self.old {
@@ -117,15 +123,21 @@ impl Shelf for MemShelf {
 
         // What the trait asks.
         ensures fits { IfOk result (λ n. n ≤ length into.old) }
-        ensures copied { IfOk result (λ n. ReadsName (held self.old.files name.now) at n into.old into.new) }
+        ensures copied { IfOk result (λ n.
+            ReadsName (held self.old.files name.now) at n into.old into.new) }
         ensures kept { Some (held self.new.files) ≡ Some (held self.old.files) }
-        ensures counted { (self.old.read_faults ≤ self.new.read_faults) × (self.old.write_faults ≤ self.new.write_faults) }
+        ensures counted { (self.old.read_faults ≤ self.new.read_faults)
+            × (self.old.write_faults ≤ self.new.write_faults) }
         ensures writes { self.new.write_faults ≡ self.old.write_faults }
         ensures cause { IsErr result → Rose self.old.read_faults self.new.read_faults }
         ensures stays_sure { self.old.failures ≡ [] → self.new.failures ≡ [] }
-        ensures sure_fault { self.old.failures ≡ [] → IsErr result → held self.old.files name.now ≡ None }
-        ensures sure_counts { self.old.failures ≡ [] → IsOk result
-            → (self.new.read_faults ≡ self.old.read_faults) × (self.new.write_faults ≡ self.old.write_faults) }
+        ensures sure_fault { self.old.failures ≡ []
+            → IsErr result
+            → held self.old.files name.now ≡ None }
+        ensures sure_counts { self.old.failures ≡ []
+            → IsOk result
+            → (self.new.read_faults ≡ self.old.read_faults)
+            × (self.new.write_faults ≡ self.old.write_faults) }
     {
         let kept = self.plan.kept();
         self.plan.count();
@@ -140,7 +152,8 @@ impl Shelf for MemShelf {
 
     fn create(&mut self, name: &str) -> Result<(), Stop>
         // It fails exactly where it is in the list of failures.
-        ensures listed { IsErrOf result Stop.Failed → IsSome (kept_at self.old.failures self.old.calls) }
+        ensures listed { IsErrOf result Stop.Failed
+            → IsSome (kept_at self.old.failures self.old.calls) }
         ensures not_listed { IsOk result → IsNone (kept_at self.old.failures self.old.calls) }
 
         ensures ok { OnOk result (self.new ≡ record self.old {
@@ -155,13 +168,16 @@ impl Shelf for MemShelf {
 
         // What the trait asks.
         ensures emptied { Creates result name.now (held self.old.files) (held self.new.files) }
-        ensures counted { (self.old.read_faults ≤ self.new.read_faults) × (self.old.write_faults ≤ self.new.write_faults) }
+        ensures counted { (self.old.read_faults ≤ self.new.read_faults)
+            × (self.old.write_faults ≤ self.new.write_faults) }
         ensures reads { self.new.read_faults ≡ self.old.read_faults }
-        ensures cause { IsErrOf result Stop.Failed → Rose self.old.write_faults self.new.write_faults }
+        ensures cause { IsErrOf result Stop.Failed
+            → Rose self.old.write_faults self.new.write_faults }
         ensures stays_sure { self.old.failures ≡ [] → self.new.failures ≡ [] }
         ensures sure_fault { self.old.failures ≡ [] → IsErrOf result Stop.Failed → ⊥ }
         ensures sure_counts { self.old.failures ≡ []
-            → (self.new.read_faults ≡ self.old.read_faults) × (self.new.write_faults ≡ self.old.write_faults) }
+            → (self.new.read_faults ≡ self.old.read_faults)
+            × (self.new.write_faults ≡ self.old.write_faults) }
     {
         if self.plan.kept().is_some() {
             self.plan.count();
@@ -176,7 +192,8 @@ impl Shelf for MemShelf {
     fn append(&mut self, name: &str, bytes: &[u8]) -> Result<(), Stop>
         // It fails exactly where it is in the list of failures or the name is missing.
         ensures failing { IsErrOf result Stop.Failed
-            → IsSome (kept_at self.old.failures self.old.calls) ⊎ IsNone (held self.old.files name.now) }
+            → IsSome (kept_at self.old.failures self.old.calls)
+            ⊎ IsNone (held self.old.files name.now) }
         ensures not_listed { IsOk result → IsNone (kept_at self.old.failures self.old.calls) }
         ensures there { IsOk result → IsSome (held self.old.files name.now) }
 
@@ -184,22 +201,33 @@ impl Shelf for MemShelf {
           files = with_more self.old.files name.now bytes.now;
           calls = one_more self.old.calls;
         }) }
-        ensures failed { IsErrOf result Stop.Failed → self.new ≡ record self.old {
-          files = with_more self.old.files name.now (kept_of (kept_at self.old.failures self.old.calls) bytes.now);
-          calls = one_more self.old.calls;
-          write_faults = one_more self.old.write_faults;
-        } }
+        ensures failed { IsErrOf result Stop.Failed
+            → self.new
+            ≡ record self.old {
+              files = with_more self.old.files name.now
+                  (kept_of (kept_at self.old.failures self.old.calls) bytes.now);
+              calls = one_more
+                  self.old.calls;
+              write_faults = one_more self.old.write_faults;
+            } }
         ensures no_memory { IsErrOf result Stop.NoMemory → self.new ≡ self.old }
 
         // What the trait asks.
-        ensures added { Appends result name.now bytes.now (held self.old.files) (held self.new.files) }
-        ensures counted { (self.old.read_faults ≤ self.new.read_faults) × (self.old.write_faults ≤ self.new.write_faults) }
+        ensures added { Appends result name.now bytes.now (held self.old.files)
+            (held self.new.files) }
+        ensures counted { (self.old.read_faults ≤ self.new.read_faults)
+            × (self.old.write_faults ≤ self.new.write_faults) }
         ensures reads { self.new.read_faults ≡ self.old.read_faults }
-        ensures cause { IsErrOf result Stop.Failed → Rose self.old.write_faults self.new.write_faults }
+        ensures cause { IsErrOf result Stop.Failed
+            → Rose self.old.write_faults self.new.write_faults }
         ensures stays_sure { self.old.failures ≡ [] → self.new.failures ≡ [] }
-        ensures sure_fault { self.old.failures ≡ [] → IsErrOf result Stop.Failed → held self.old.files name.now ≡ None }
-        ensures sure_counts { self.old.failures ≡ [] → (IsErrOf result Stop.Failed → ⊥)
-            → (self.new.read_faults ≡ self.old.read_faults) × (self.new.write_faults ≡ self.old.write_faults) }
+        ensures sure_fault { self.old.failures ≡ []
+            → IsErrOf result Stop.Failed
+            → held self.old.files name.now ≡ None }
+        ensures sure_counts { self.old.failures ≡ []
+            → (IsErrOf result Stop.Failed → ⊥)
+            → (self.new.read_faults ≡ self.old.read_faults)
+            × (self.new.write_faults ≡ self.old.write_faults) }
     {
         let kept = self.plan.kept();
         let missing = self.files.get(name).is_none();

@@ -44,10 +44,11 @@ impl MemSink {
         }
     }
 
-    /// Lets a call fail, by its number from 0. Of its piece that call keeps so many bytes, or all of it
-    /// where it is shorter.
+    /// Lets a call fail, by its number from 0. Of its piece that call keeps so many bytes, or all
+    /// of it where it is shorter.
     pub fn fail(&mut self, call: u64, kept: u64) -> Result<(), NoMemory>
-        ensures ok { OnOk result (self.new ≡ record self.old { failures = self.old.failures ++ (call, kept) ∷ [] }) }
+        ensures ok { OnOk result (self.new
+            ≡ record self.old { failures = self.old.failures ++ (call, kept) ∷ [] }) }
         ensures err { OnErr result (self.new ≡ self.old) }
     {
         self.plan.fail(call, kept)
@@ -67,21 +68,27 @@ impl Sink for MemSink {
 
     fn put(&mut self, bytes: &[u8]) -> Result<(), Stop>
         // It fails exactly where it is in the list of failures.
-        ensures listed { IsErrOf result Stop.Failed → IsSome (kept_at self.old.failures self.old.calls) }
+        ensures listed { IsErrOf result Stop.Failed
+            → IsSome (kept_at self.old.failures self.old.calls) }
         ensures not_listed { IsOk result → IsNone (kept_at self.old.failures self.old.calls) }
 
         ensures ok { OnOk result (self.new ≡ record self.old {
           written = self.old.written ++ bytes.now;
           calls = one_more self.old.calls;
         }) }
-        ensures failed { IsErrOf result Stop.Failed → self.new ≡ record self.old {
-          written = self.old.written ++ kept_of (kept_at self.old.failures self.old.calls) bytes.now;
-          calls = one_more self.old.calls;
-          faults = one_more self.old.faults;
-        } }
+        ensures failed { IsErrOf result Stop.Failed
+            → self.new
+            ≡ record self.old {
+              written = self.old.written
+                  ++ kept_of (kept_at self.old.failures self.old.calls) bytes.now;
+              calls = one_more
+                  self.old.calls;
+              faults = one_more self.old.faults;
+            } }
         ensures no_memory { IsErrOf result Stop.NoMemory → self.new ≡ self.old }
 
-        ensures added { WhereTold (Some self.old.written) (Some self.new.written) (Adds result bytes.now) }
+        ensures added { WhereTold (Some self.old.written) (Some self.new.written)
+            (Adds result bytes.now) }
         ensures counted { self.old.faults ≤ self.new.faults }
         ensures cause { IsErrOf result Stop.Failed → Rose self.old.faults self.new.faults }
     {

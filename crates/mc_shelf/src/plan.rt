@@ -28,7 +28,8 @@ impl Plan {
     }
 
     pub fn fail(&mut self, call: u64, kept: u64) -> Result<(), NoMemory>
-        ensures ok { OnOk result (self.new ≡ record self.old { failures = self.old.failures ++ (call, kept) ∷ [] }) }
+        ensures ok { OnOk result (self.new
+            ≡ record self.old { failures = self.old.failures ++ (call, kept) ∷ [] }) }
         ensures err { OnErr result (self.new ≡ self.old) }
     {
         self.failures.push((call, kept))

@@ -51,8 +51,8 @@ fn room_for_piece(alloc: Global) -> Result<Vec<u8>, AllocError>
     Ok(vec![in alloc; 0u8; PIECE]?)
 }
 
-/// Reads the file from its front, up to and with a read that gives nothing. It stops at the first piece
-/// that goes over the limit.
+/// Reads the file from its front, up to and with a read that gives nothing. It stops at the first
+/// piece that goes over the limit.
 pub fn read_file<S: Shelf>(
     alloc: Global,
     shelf: &mut S,
@@ -60,21 +60,30 @@ pub fn read_file<S: Shelf>(
     limit: u64,
 ) -> Result<Bytes, ReadEnd>
     // The answer is what the name holds, where that is told, and no more than the limit.
-    ensures whole { IfOk result (λ bytes. IfSome (S.contents shelf.old) (λ files. files name.now ≡ Some bytes)) }
+    ensures whole { IfOk result (λ bytes.
+        IfSome (S.contents shelf.old) (λ files. files name.now ≡ Some bytes)) }
     ensures within { IfOk result (λ bytes. length bytes ≤ limit) }
 
     ensures too_long { IsErrOf result ReadEnd.TooLong
-        → IfSome (S.contents shelf.old) (λ files. IsSomeAnd (files name.now) (λ file. limit < length file)) }
-    ensures cause { IsErrOf result ReadEnd.Fault → Rose (S.read_faults shelf.old) (S.read_faults shelf.new) }
+        → IfSome (S.contents shelf.old) (λ files.
+        IsSomeAnd (files name.now) (λ file. limit < length file)) }
+    ensures cause { IsErrOf result ReadEnd.Fault
+        → Rose (S.read_faults shelf.old) (S.read_faults shelf.new) }
 
     ensures kept { S.contents shelf.new ≡ S.contents shelf.old }
     ensures writes { S.write_faults shelf.new ≡ S.write_faults shelf.old }
-    ensures counted { (S.read_faults shelf.old ≤ S.read_faults shelf.new) × (S.write_faults shelf.old ≤ S.write_faults shelf.new) }
+    ensures counted { (S.read_faults shelf.old ≤ S.read_faults shelf.new)
+        × (S.write_faults shelf.old ≤ S.write_faults shelf.new) }
 
     ensures stays_sure { S.IsSure shelf.old → S.IsSure shelf.new }
-    ensures sure_fault { S.IsSure shelf.old → TellsName (S.contents shelf.old) name.now → IsErrOf result ReadEnd.Fault → ⊥ }
-    ensures sure_counts { S.IsSure shelf.old → TellsName (S.contents shelf.old) name.now
-        → (S.read_faults shelf.new ≡ S.read_faults shelf.old) × (S.write_faults shelf.new ≡ S.write_faults shelf.old) }
+    ensures sure_fault { S.IsSure shelf.old
+        → TellsName (S.contents shelf.old) name.now
+        → IsErrOf result ReadEnd.Fault
+        → ⊥ }
+    ensures sure_counts { S.IsSure shelf.old
+        → TellsName (S.contents shelf.old) name.now
+        → (S.read_faults shelf.new ≡ S.read_faults shelf.old)
+        × (S.write_faults shelf.new ≡ S.write_faults shelf.old) }
 {
     let mut buffer = room_for_piece(alloc)?;
     let mut bytes = Vec::new(alloc);

@@ -12,7 +12,8 @@ use rv_words::NoMemory;
 use std::alloc::Global;
 use std::marker::Model;
 
-/// A shelf in memory on which no call fails and no name is missing: one that it wasn't given holds nothing.
+/// A shelf in memory on which no call fails and no name is missing: one that it wasn't given holds
+/// nothing.
 #[derive(Drop)]
 pub struct SureShelf {
     files: Files,
@@ -39,7 +40,8 @@ impl SureShelf {
     /// Lets the name hold the bytes.
     pub fn set(&mut self, name: &str, bytes: &[u8]) -> Result<(), NoMemory>
         ensures holds { OnOk result (surely_held self.new name.now ≡ bytes.now) }
-        ensures others { OnOk result (KeepsOthers name.now (sure_contents self.old) (sure_contents self.new)) }
+        ensures others { OnOk result (KeepsOthers name.now (sure_contents self.old)
+            (sure_contents self.new)) }
         ensures err { OnErr result (self.new ≡ self.old) }
     {
         self.files.set(name, bytes)
@@ -57,7 +59,8 @@ impl SureShelf {
 
     /// Adds the piece at the end of what the name holds.
     fn add(&mut self, name: &str, piece: &[u8]) -> Result<(), NoMemory>
-        ensures ok { OnOk result (Appends (Done tt) name.now piece.now (sure_contents self.old) (sure_contents self.new)) }
+        ensures ok { OnOk result (Appends (Done tt) name.now piece.now (sure_contents self.old)
+            (sure_contents self.new)) }
         ensures err { OnErr result (self.new ≡ self.old) }
     {
         if self.files.get(name).is_none() {

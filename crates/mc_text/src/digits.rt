@@ -36,7 +36,8 @@ impl HexBuffer {
     }
 }
 
-/// Writes the hexadecimal digits of a number at the end of the buffer, and gives the place of the first.
+/// Writes the hexadecimal digits of a number at the end of the buffer, and gives the place of the
+/// first.
 fn hex_digits(n: u64, into: &mut [u8; 16]) -> usize
     ensures within { result ≤ 16 }
     ensures written { drop result into.new ≡ digits 16 false n }

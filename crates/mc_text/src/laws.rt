@@ -11,11 +11,17 @@ ghost use Rattle.mc_text.specs.declared.token.Before.{Before};
 pub fn law_of_one_spelling()
     ensures decimals { (m n : ℕ) → IsNumber m → IsNumber n → decimal m ≡ decimal n → m ≡ n }
     ensures hex_numbers { (m n : ℕ) → IsNumber m → IsNumber n → hex m ≡ hex n → m ≡ n }
-    ensures bytes { (bs cs : List ℕ) → AreSomeBytes bs → AreSomeBytes cs → encode_lower bs ≡ encode_lower cs → bs ≡ cs }
+    ensures bytes { (bs cs : List ℕ)
+        → AreSomeBytes bs
+        → AreSomeBytes cs
+        → encode_lower bs ≡ encode_lower cs
+        → bs ≡ cs }
 {}
 
 /// At a place of a text stands at most one token.
 pub fn law_of_tokens()
-    ensures { (before : Before) (bytes : List ℕ) (t u : Tok) (rest more : List ℕ) → Stands before bytes t rest → Stands before bytes u more
+    ensures { (before : Before) (bytes : List ℕ) (t u : Tok) (rest more : List ℕ)
+        → Stands before bytes t rest
+        → Stands before bytes u more
         → (t ≡ u) × (rest ≡ more) }
 {}

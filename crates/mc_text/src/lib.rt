@@ -1,11 +1,14 @@
-//! Texts made of lines of tokens: their tokens, numbers and bytes, read and written in one spelling.
+//! Texts made of lines of tokens: their tokens, numbers and bytes, read and written in one
+//! spelling.
 //!
-//! A `Scan` goes over a text: `scan.next()?` gives the next `Token`, or `BadText` where none begins. `cursor` has what reads
-//! rows of them: `keyword(&mut scan, b"def")?`, `number(&mut scan, limit)?`, `address(&mut scan)?`. A `Pen` writes them:
-//! `pen.open(b"add")?`, `pen.hex(n)?`, `pen.eol()?`. `dec` and `hexnum` read numbers, `put_dec` and `put_hex` write them.
+//! A `Scan` goes over a text: `scan.next()?` gives the next `Token`, or `BadText` where none
+//! begins. `cursor` has what reads rows of them: `keyword(&mut scan, b"def")?`,
+//! `number(&mut scan, limit)?`, `address(&mut scan)?`. A `Pen` writes them: `pen.open(b"add")?`,
+//! `pen.hex(n)?`, `pen.eol()?`. `dec` and `hexnum` read numbers, `put_dec` and `put_hex` write
+//! them.
 //!
-//! The laws that matter are `law_of_one_spelling`, that numbers and bytes have one spelling each, and `law_of_tokens`, that
-//! at most one token stands at a place of a text.
+//! The laws that matter are `law_of_one_spelling`, that numbers and bytes have one spelling each,
+//! and `law_of_tokens`, that at most one token stands at a place of a text.
 #![tactic(auto)]
 
 mod bytes;

@@ -8,7 +8,7 @@ ghost use Rattle.mc_text.specs.Number.{hex, IsNumber, Spelled, number_of, hex_of
 ghost use Rattle.mc_text.specs.inner.Number.{base_number, is_digit_of, is_padded, ReadsDigits};
 
 /// The bases in which numbers are written.
-#[derive(Clone, Copy, Debug, PartialEq, Eq)]
+#[derive(Clone, Copy, PartialEq, Eq)]
 pub enum Base {
     Decimal,
     Hexadecimal,
@@ -33,7 +33,8 @@ pub fn dec(atom: &[u8]) -> Option<u64>
     number_of(Base::Decimal, atom)
 }
 
-/// The number that an atom spells by `0x` and lower-case hexadecimal digits, without a leading zero.
+/// The number that an atom spells by `0x` and lower-case hexadecimal digits, without a leading
+/// zero.
 #[tactic(auto, unfolding(crate::specs::Number::hex_of))]
 pub fn hexnum(atom: &[u8]) -> Option<u64>
     ensures spelled { Spelled IsNumber hex atom.now result }
@@ -47,7 +48,8 @@ pub fn hexnum(atom: &[u8]) -> Option<u64>
 
 /// What stands after `0x`.
 fn hex_part(atom: &[u8]) -> Option<&[u8]>
-    ensures { MatchOption result (bytes_eq (take 2 atom.now) (codes "0x") ≡ false) (λ rest. (bytes_eq (take 2 atom.now) (codes "0x") ≡ true) × (rest.now ≡ drop 2 atom.now)) }
+    ensures { MatchOption result (bytes_eq (take 2 atom.now) (codes "0x") ≡ false)
+        (λ rest. (bytes_eq (take 2 atom.now) (codes "0x") ≡ true) × (rest.now ≡ drop 2 atom.now)) }
 {
     atom.strip_prefix(b"0x".as_slice())
 }
@@ -83,7 +85,8 @@ fn value_of(base: Base, digits: &[u8]) -> Option<u64>
 
 /// The value of a digit of that base, of which letters are in lower case.
 fn digit_of(base: Base, byte: u8) -> Option<u64>
-    ensures { MatchOption result (is_digit_of (base_number base) byte ≡ false) (λ digit. (is_digit_of (base_number base) byte ≡ true) × (digit ≡ digit_value byte)) }
+    ensures { MatchOption result (is_digit_of (base_number base) byte ≡ false)
+        (λ digit. (is_digit_of (base_number base) byte ≡ true) × (digit ≡ digit_value byte)) }
 {
     match byte {
         b'0'..=b'9' => Some(u64::from(byte - b'0')),

@@ -14,8 +14,8 @@ use crate::put::{put_atom, put_bytes, put_dec, put_hex};
 use crate::token::Before;
 use rv_words::{Bytes, NoMemory};
 
-/// Writes tokens at the end of a text, with a space between two of them where one belongs. Out of memory,
-/// the text begins with what stood there before.
+/// Writes tokens at the end of a text, with a space between two of them where one belongs. Out of
+/// memory, the text begins with what stood there before.
 #[derive(Debug, Drop)]
 pub struct Pen<'a> {
     out: &'a mut Bytes,
@@ -111,7 +111,8 @@ impl<'a> Pen<'a> {
 
     /// Writes bytes as one atom of two lower-case hexadecimal digits each.
     pub fn bytes(&mut self, bytes: &[u8]) -> Result<(), NoMemory>
-        ensures ok { OnOk result (page self.new ≡ put (Atom (encode_lower bytes.now)) (page self.old)) }
+        ensures ok { OnOk result (page self.new
+            ≡ put (Atom (encode_lower bytes.now)) (page self.old)) }
         ensures kept { Keeps (page self.old) (page self.new) }
     {
         self.space()?;
@@ -130,7 +131,13 @@ impl<'a> Pen<'a> {
 
     /// Writes the space between two tokens, where one belongs.
     fn space(&mut self) -> Result<(), NoMemory>
-        ensures ok { OnOk result (page self.new ≡ record { place = (page self.old).place; bytes = (page self.old).bytes ++ space (page self.old).before; before = Later }) }
+        ensures ok { OnOk result (page self.new
+            ≡ record {
+              place = (page self.old).place;
+              bytes = (page self.old).bytes
+                  ++ space (page self.old).before;
+              before = Later;
+            }) }
         ensures kept { Keeps (page self.old) (page self.new) }
     {
         if matches!(self.before, Before::Later) {

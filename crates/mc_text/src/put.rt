@@ -21,7 +21,8 @@ pub fn dec_into(n: u64, into: &mut [u8; 20]) -> usize
     digits.len()
 }
 
-/// Writes a number as `0x` and hexadecimal digits at the beginning, and gives how many bytes those are.
+/// Writes a number as `0x` and hexadecimal digits at the beginning, and gives how many bytes those
+/// are.
 pub fn hex_into(n: u64, into: &mut [u8; 18]) -> usize
     ensures length { result ≡ length (hex_text n) }
     ensures written { take result into.new ≡ hex_text n }

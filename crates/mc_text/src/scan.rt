@@ -47,7 +47,9 @@ impl<'a> Scan<'a> {
     #[inline(always)]
     pub fn next(&mut self) -> Result<Token<'a>, BadText>
         ensures ok { IfOk result (λ t. Passes (tok t) self.old self.new) }
-        ensures none { OnErr result ((t : Tok) (rest : List ℕ) → Stands self.old.before self.old.rest t rest → ⊥) }
+        ensures none { OnErr result ((t : Tok) (rest : List ℕ)
+            → Stands self.old.before self.old.rest t rest
+            → ⊥) }
         ensures line { IfErr result (λ e. e.line ≡ self.old.line) }
         ensures same { OnErr result (self.new ≡ self.old) }
         ensures tokens { Scanned result self.old self.new }
@@ -71,7 +73,10 @@ impl<'a> Scan<'a> {
     #[inline(always)]
     pub(crate) fn pass_left(&mut self) -> bool
         ensures passes { IsTrue result → Passes Left self.old self.new }
-        ensures none { result ≡ false → (rest : List ℕ) → Stands self.old.before self.old.rest Left rest → ⊥ }
+        ensures none { result ≡ false
+            → (rest : List ℕ)
+            → Stands self.old.before self.old.rest Left rest
+            → ⊥ }
         ensures same { result ≡ false → self.new ≡ self.old }
     {
         match behind_left(self.rest, self.before) {
@@ -88,7 +93,10 @@ impl<'a> Scan<'a> {
     #[inline(always)]
     pub(crate) fn pass_right(&mut self) -> bool
         ensures passes { IsTrue result → Passes Right self.old self.new }
-        ensures none { result ≡ false → (rest : List ℕ) → Stands self.old.before self.old.rest Right rest → ⊥ }
+        ensures none { result ≡ false
+            → (rest : List ℕ)
+            → Stands self.old.before self.old.rest Right rest
+            → ⊥ }
         ensures same { result ≡ false → self.new ≡ self.old }
     {
         match behind_right(self.rest) {
@@ -173,7 +181,9 @@ fn begins_line(before: Before) -> bool
 fn behind_left(bytes: &[u8], before: Before) -> Option<&[u8]>
     ensures parts { IfSome result (λ rest. bytes.now ≡ token_text before Left ++ rest.now) }
     ensures shorter { IfSome result (λ rest. length rest.now ≤ length bytes.now) }
-    ensures none { IfNone result ((rest : List ℕ) → bytes.now ≡ token_text before Left ++ rest → ⊥) }
+    ensures none { IfNone result ((rest : List ℕ)
+        → bytes.now ≡ token_text before Left ++ rest
+        → ⊥) }
 {
     match before {
         Before::Later => match bytes {
@@ -292,7 +302,8 @@ fn is_loose(before: Before, spaced: bool) -> bool
 fn if_some<'a>(fits: bool, token: Token<'a>, rest: &'a [u8]) -> Option<(Token<'a>, &'a [u8])>
     requires { tok token ≡ Done → ⊥ }
     ensures same { IfSome result (λ p. p ≡ (token.entry, rest.entry)) }
-    ensures found { Found (λ r. r.now) result (or_stuck fits (tok token.entry ∷ lex rest.now (At (before_next (tok token.entry))))) }
+    ensures found { Found (λ r. r.now) result (or_stuck fits (tok token.entry
+        ∷ lex rest.now (At (before_next (tok token.entry))))) }
 {
     if fits { Some((token, rest)) } else { None }
 }
@@ -304,7 +315,9 @@ fn atom_at(bytes: &[u8]) -> (&[u8], &[u8])
     ensures parts { result.0.now ++ result.1.now ≡ bytes.now }
     ensures fits { AllPass is_atom_byte result.0.now }
     ensures whole { HasNoAtomByte result.1.now }
-    ensures some { 0 < length bytes.now → IsTrue (is_atom_byte (slice_index bytes.now 0)) → 0 < length result.0.now }
+    ensures some { 0 < length bytes.now
+        → IsTrue (is_atom_byte (slice_index bytes.now 0))
+        → 0 < length result.0.now }
 {
     bytes.split_at(atom_len(bytes))
 }

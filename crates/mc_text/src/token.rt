@@ -36,7 +36,7 @@ pub enum Before {
 }
 
 /// What a byte is part of.
-#[derive(Clone, Copy, Debug, PartialEq, Eq)]
+#[derive(Clone, Copy, PartialEq, Eq)]
 pub enum Class {
     Letter,
     LeftMark,

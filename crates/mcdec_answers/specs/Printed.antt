@@ -245,6 +245,8 @@ GainsFront text old new = (kept : ℕ) × (new ≡ old ++ take kept text)
 abbrev pub IsPrinted : Answer → ℕ → Option (List ℕ) → Option (List ℕ) → Type 0
 IsPrinted a result old new = (result ≡ status a) × WhereTold old new (λ o n. n ≡ o ++ lines a)
 
--- it was printed, or a front of its lines was, where the sink failed or found no memory
-abbrev pub IsDelivered : Answer → ℕ → Option (List ℕ) → Option (List ℕ) → Type 0
-IsDelivered a result old new = IsPrinted a result old new ⊎ (((result ≡ 5) ⊎ (result ≡ 6)) × WhereTold old new (GainsFront (lines a)))
+-- It was printed, or a front of its lines was, where the sink failed, with status 5, or found no memory, with status 6. `failed` says that
+-- the sink's count of faults rose.
+abbrev pub IsDelivered : Answer → ℕ → (failed : Type 0) → Option (List ℕ) → Option (List ℕ) → Type 0
+IsDelivered a result failed old new =
+    IsPrinted a result old new ⊎ ((((result ≡ 5) × failed) ⊎ (result ≡ 6)) × WhereTold old new (GainsFront (lines a)))

@@ -54,8 +54,8 @@ pub enum EvalAnswer {
     SideFalse { def: u32, ordinal: u64 },
     /// The evaluation used all its turns.
     TurnsUsed,
-    /// It ended: the turns used, the program counter at the exit, the words of the group's registers there, and, if the
-    /// group has a memory, the bytes that were asked for.
+    /// It ended: the turns used, the program counter at the exit, the words of the group's
+    /// registers there, and, if the group has a memory, the bytes that were asked for.
     Done(Shown),
 }
 
@@ -72,8 +72,8 @@ pub enum RunAnswer {
     Stuck(u64, Stuck),
     /// The run made all its steps.
     StepsUsed,
-    /// It met the address: the steps made, the program counter, the words of registers that were given one or don't hold 0, and
-    /// the bytes that were asked for.
+    /// It met the address: the steps made, the program counter, the words of registers that were
+    /// given one or don't hold 0, and the bytes that were asked for.
     Met(Shown),
 }
 
@@ -101,8 +101,8 @@ pub enum DecompileAnswer {
     Decompiled(Form, List<Listed>),
 }
 
-/// What is told of a name: where its function is entered, how many instructions are reached from there, and how many
-/// definitions it has.
+/// What is told of a name: where its function is entered, how many instructions are reached from
+/// there, and how many definitions it has.
 #[derive(Debug, Drop)]
 pub struct Listed {
     pub name: Text,

@@ -25,7 +25,7 @@ use rv_machine::Stuck;
 use rv_words::{List as Items, Range};
 
 /// A piece of a line.
-#[derive(Clone, Copy, Debug)]
+#[derive(Clone, Copy)]
 pub enum Piece<'a> {
     /// These bytes.
     Text(&'a [u8]),
@@ -40,7 +40,8 @@ pub enum Piece<'a> {
 }
 
 fn put_piece<O: Sink>(out: &mut O, piece: &Piece<'_>) -> Result<(), Stop>
-    ensures { Prints result (piece_text piece.now) (O.written out.old) (O.written out.new) (O.faults out.old) (O.faults out.new) }
+    ensures { Prints result (piece_text piece.now) (O.written out.old) (O.written out.new)
+        (O.faults out.old) (O.faults out.new) }
 {
     match piece {
         Piece::Text(bytes) => out.put(bytes),
@@ -62,7 +63,8 @@ fn put_piece<O: Sink>(out: &mut O, piece: &Piece<'_>) -> Result<(), Stop>
 }
 
 fn put_bytes<O: Sink>(out: &mut O, bytes: &[u8]) -> Result<(), Stop>
-    ensures { Prints result (encode_lower bytes.now) (O.written out.old) (O.written out.new) (O.faults out.old) (O.faults out.new) }
+    ensures { Prints result (encode_lower bytes.now) (O.written out.old) (O.written out.new)
+        (O.faults out.old) (O.faults out.new) }
 {
     for byte in bytes {
         put_text(out, &digit_pair(*byte))?;
@@ -71,7 +73,8 @@ fn put_bytes<O: Sink>(out: &mut O, bytes: &[u8]) -> Result<(), Stop>
 }
 
 fn put_all<O: Sink>(out: &mut O, pieces: &[Piece<'_>]) -> Result<(), Stop>
-    ensures { Prints result (pieces_text pieces.now) (O.written out.old) (O.written out.new) (O.faults out.old) (O.faults out.new) }
+    ensures { Prints result (pieces_text pieces.now) (O.written out.old) (O.written out.new)
+        (O.faults out.old) (O.faults out.new) }
 {
     for piece in pieces {
         put_piece(out, piece)?;
@@ -81,9 +84,11 @@ fn put_all<O: Sink>(out: &mut O, pieces: &[Piece<'_>]) -> Result<(), Stop>
 
 /// Prints an answer, and gives the status that the program ends with.
 pub fn deliver<O: Sink>(out: &mut O, answer: &Answer) -> u8
-    ensures delivered { IsDelivered answer.now result (O.written out.old) (O.written out.new) }
+    ensures delivered { IsDelivered answer.now result (Rose (O.faults out.old) (O.faults out.new))
+        (O.written out.old) (O.written out.new) }
     ensures counted { O.faults out.old ≤ O.faults out.new }
-    ensures cause { result ≡ 5 → Rose (O.faults out.old) (O.faults out.new) ⊎ (status answer.now ≡ 5) }
+    ensures cause { result ≡ 5
+        → Rose (O.faults out.old) (O.faults out.new) ⊎ (status answer.now ≡ 5) }
 {
     match put_answer(out, answer) {
         Ok(status) => status,
@@ -94,7 +99,8 @@ pub fn deliver<O: Sink>(out: &mut O, answer: &Answer) -> u8
 
 /// Prints the lines of an answer, and gives its status.
 fn put_answer<O: Sink>(out: &mut O, answer: &Answer) -> Result<u8, Stop>
-    ensures { PrintsAnswer result (printed answer.now) (O.written out.old) (O.written out.new) (O.faults out.old) (O.faults out.new) }
+    ensures { PrintsAnswer result (printed answer.now) (O.written out.old) (O.written out.new)
+        (O.faults out.old) (O.faults out.new) }
 {
     match answer {
         Answer::NotACommand => put_text(out, b"not a command\n").and(Ok(2)),
@@ -114,7 +120,8 @@ fn put_answer<O: Sink>(out: &mut O, answer: &Answer) -> Result<u8, Stop>
 }
 
 fn put_eval<O: Sink>(out: &mut O, answer: &EvalAnswer) -> Result<u8, Stop>
-    ensures { PrintsAnswer result (eval_printed answer.now) (O.written out.old) (O.written out.new) (O.faults out.old) (O.faults out.new) }
+    ensures { PrintsAnswer result (eval_printed answer.now) (O.written out.old) (O.written out.new)
+        (O.faults out.old) (O.faults out.new) }
 {
     match answer {
         EvalAnswer::OverLimit => put_text(out, b"over limit proof\n").and(Ok(7)),
@@ -138,7 +145,8 @@ fn put_eval<O: Sink>(out: &mut O, answer: &EvalAnswer) -> Result<u8, Stop>
 }
 
 fn put_run<O: Sink>(out: &mut O, answer: &RunAnswer) -> Result<u8, Stop>
-    ensures { PrintsAnswer result (run_printed answer.now) (O.written out.old) (O.written out.new) (O.faults out.old) (O.faults out.new) }
+    ensures { PrintsAnswer result (run_printed answer.now) (O.written out.old) (O.written out.new)
+        (O.faults out.old) (O.faults out.new) }
 {
     match answer {
         RunAnswer::OverLimit => put_text(out, b"over limit elf\n").and(Ok(7)),
@@ -153,7 +161,8 @@ fn put_run<O: Sink>(out: &mut O, answer: &RunAnswer) -> Result<u8, Stop>
 }
 
 fn put_check<O: Sink>(out: &mut O, answer: &CheckAnswer) -> Result<u8, Stop>
-    ensures { PrintsAnswer result (check_printed answer.now) (O.written out.old) (O.written out.new) (O.faults out.old) (O.faults out.new) }
+    ensures { PrintsAnswer result (check_printed answer.now) (O.written out.old) (O.written out.new)
+        (O.faults out.old) (O.faults out.new) }
 {
     match answer {
         CheckAnswer::ElfOverLimit => put_text(out, b"over limit elf\n").and(Ok(7)),
@@ -163,7 +172,8 @@ fn put_check<O: Sink>(out: &mut O, answer: &CheckAnswer) -> Result<u8, Stop>
 }
 
 fn put_verdict<O: Sink>(out: &mut O, verdict: &Verdict) -> Result<u8, Stop>
-    ensures { PrintsAnswer result (verdict_printed verdict.now) (O.written out.old) (O.written out.new) (O.faults out.old) (O.faults out.new) }
+    ensures { PrintsAnswer result (verdict_printed verdict.now) (O.written out.old)
+        (O.written out.new) (O.faults out.old) (O.faults out.new) }
 {
     match verdict {
         Verdict::Accepted { functions, lines } => put_two_numbered(
@@ -187,7 +197,8 @@ fn put_verdict<O: Sink>(out: &mut O, verdict: &Verdict) -> Result<u8, Stop>
 }
 
 fn put_decompile<O: Sink>(out: &mut O, answer: &DecompileAnswer) -> Result<u8, Stop>
-    ensures { PrintsAnswer result (decompile_printed answer.now) (O.written out.old) (O.written out.new) (O.faults out.old) (O.faults out.new) }
+    ensures { PrintsAnswer result (decompile_printed answer.now) (O.written out.old)
+        (O.written out.new) (O.faults out.old) (O.faults out.new) }
 {
     match answer {
         DecompileAnswer::OverLimit => put_text(out, b"over limit elf\n").and(Ok(7)),
@@ -200,7 +211,8 @@ fn put_decompile<O: Sink>(out: &mut O, answer: &DecompileAnswer) -> Result<u8, S
 }
 
 fn put_simplify<O: Sink>(out: &mut O, answer: &SimplifyAnswer) -> Result<u8, Stop>
-    ensures { PrintsAnswer result (simplify_printed answer.now) (O.written out.old) (O.written out.new) (O.faults out.old) (O.faults out.new) }
+    ensures { PrintsAnswer result (simplify_printed answer.now) (O.written out.old)
+        (O.written out.new) (O.faults out.old) (O.faults out.new) }
 {
     match answer {
         SimplifyAnswer::OverLimit => put_text(out, b"over limit proof\n").and(Ok(7)),
@@ -219,7 +231,8 @@ fn put_simplify<O: Sink>(out: &mut O, answer: &SimplifyAnswer) -> Result<u8, Sto
 }
 
 fn put_laws<O: Sink>(out: &mut O, answer: &LawsAnswer) -> Result<u8, Stop>
-    ensures { PrintsAnswer result (laws_printed answer.now) (O.written out.old) (O.written out.new) (O.faults out.old) (O.faults out.new) }
+    ensures { PrintsAnswer result (laws_printed answer.now) (O.written out.old) (O.written out.new)
+        (O.faults out.old) (O.faults out.new) }
 {
     match answer {
         LawsAnswer::ProofOverLimit => put_text(out, b"over limit proof\n").and(Ok(7)),
@@ -243,7 +256,8 @@ fn put_laws<O: Sink>(out: &mut O, answer: &LawsAnswer) -> Result<u8, Stop>
 }
 
 fn put_smt<O: Sink>(out: &mut O, answer: &SmtAnswer) -> Result<u8, Stop>
-    ensures { PrintsAnswer result (smt_printed answer.now) (O.written out.old) (O.written out.new) (O.faults out.old) (O.faults out.new) }
+    ensures { PrintsAnswer result (smt_printed answer.now) (O.written out.old) (O.written out.new)
+        (O.faults out.old) (O.faults out.new) }
 {
     match answer {
         SmtAnswer::OverLimit => put_text(out, b"over limit proof\n").and(Ok(7)),
@@ -262,7 +276,8 @@ fn put_smt<O: Sink>(out: &mut O, answer: &SmtAnswer) -> Result<u8, Stop>
 }
 
 fn put_migrate<O: Sink>(out: &mut O, answer: &MigrateAnswer) -> Result<u8, Stop>
-    ensures { PrintsAnswer result (migrate_printed answer.now) (O.written out.old) (O.written out.new) (O.faults out.old) (O.faults out.new) }
+    ensures { PrintsAnswer result (migrate_printed answer.now) (O.written out.old)
+        (O.written out.new) (O.faults out.old) (O.faults out.new) }
 {
     match answer {
         MigrateAnswer::ElfOverLimit => put_text(out, b"over limit elf\n").and(Ok(7)),
@@ -279,7 +294,8 @@ fn put_migrate<O: Sink>(out: &mut O, answer: &MigrateAnswer) -> Result<u8, Stop>
 
 /// A line that ends in a number.
 fn put_numbered<O: Sink>(out: &mut O, words: &[u8], number: u64) -> Result<(), Stop>
-    ensures { Prints result (words.now ++ decimal number ++ codes "\n") (O.written out.old) (O.written out.new) (O.faults out.old) (O.faults out.new) }
+    ensures { Prints result (words.now ++ decimal number ++ codes "\n") (O.written out.old)
+        (O.written out.new) (O.faults out.old) (O.faults out.new) }
 {
     put_all(
         out,
@@ -293,7 +309,9 @@ fn put_numbered<O: Sink>(out: &mut O, words: &[u8], number: u64) -> Result<(), S
 
 /// A line that ends in two numbers.
 fn put_two_numbered<O: Sink>(out: &mut O, words: &[u8], first: u64, second: u64) -> Result<(), Stop>
-    ensures { Prints result (words.now ++ decimal first ++ codes " " ++ decimal second ++ codes "\n") (O.written out.old) (O.written out.new) (O.faults out.old) (O.faults out.new) }
+    ensures { Prints result
+        (words.now ++ decimal first ++ codes " " ++ decimal second ++ codes "\n")
+        (O.written out.old) (O.written out.new) (O.faults out.old) (O.faults out.new) }
 {
     put_all(
         out,
@@ -309,7 +327,9 @@ fn put_two_numbered<O: Sink>(out: &mut O, words: &[u8], first: u64, second: u64)
 
 /// The line of a name that is outside the fragment, or can't be linked.
 fn put_refused<O: Sink>(out: &mut O, name: &[u8], why: &LinkWhy) -> Result<(), Stop>
-    ensures { Prints result (codes "refused " ++ name.now ++ codes " " ++ link_words why.now ++ codes "\n") (O.written out.old) (O.written out.new) (O.faults out.old) (O.faults out.new) }
+    ensures { Prints result
+        (codes "refused " ++ name.now ++ codes " " ++ link_words why.now ++ codes "\n")
+        (O.written out.old) (O.written out.new) (O.faults out.old) (O.faults out.new) }
 {
     put_refused_name(out, name)?;
     put_why(out, why)?;
@@ -317,7 +337,8 @@ fn put_refused<O: Sink>(out: &mut O, name: &[u8], why: &LinkWhy) -> Result<(), S
 }
 
 fn put_refused_name<O: Sink>(out: &mut O, name: &[u8]) -> Result<(), Stop>
-    ensures { Prints result (codes "refused " ++ name.now ++ codes " ") (O.written out.old) (O.written out.new) (O.faults out.old) (O.faults out.new) }
+    ensures { Prints result (codes "refused " ++ name.now ++ codes " ") (O.written out.old)
+        (O.written out.new) (O.faults out.old) (O.faults out.new) }
 {
     put_all(
         out,
@@ -330,7 +351,8 @@ fn put_refused_name<O: Sink>(out: &mut O, name: &[u8]) -> Result<(), Stop>
 }
 
 fn put_why<O: Sink>(out: &mut O, why: &LinkWhy) -> Result<(), Stop>
-    ensures { Prints result (link_words why.now) (O.written out.old) (O.written out.new) (O.faults out.old) (O.faults out.new) }
+    ensures { Prints result (link_words why.now) (O.written out.old) (O.written out.new)
+        (O.faults out.old) (O.faults out.new) }
 {
     match why {
         LinkWhy::Outside(why) => put_outside(out, why),
@@ -339,7 +361,8 @@ fn put_why<O: Sink>(out: &mut O, why: &LinkWhy) -> Result<(), Stop>
 }
 
 fn put_outside<O: Sink>(out: &mut O, why: &Outside) -> Result<(), Stop>
-    ensures { Prints result (outside_words why.now) (O.written out.old) (O.written out.new) (O.faults out.old) (O.faults out.new) }
+    ensures { Prints result (outside_words why.now) (O.written out.old) (O.written out.new)
+        (O.faults out.old) (O.faults out.new) }
 {
     match why {
         Outside::NoSuch => put_text(out, b"no-such"),
@@ -361,13 +384,15 @@ fn put_outside<O: Sink>(out: &mut O, why: &Outside) -> Result<(), Stop>
 }
 
 fn put_address<O: Sink>(out: &mut O, word: &[u8], a: u64) -> Result<(), Stop>
-    ensures { Prints result (word.now ++ hex a) (O.written out.old) (O.written out.new) (O.faults out.old) (O.faults out.new) }
+    ensures { Prints result (word.now ++ hex a) (O.written out.old) (O.written out.new)
+        (O.faults out.old) (O.faults out.new) }
 {
     put_all(out, &[Piece::Text(word), Piece::Hex(a)])
 }
 
 fn put_two<O: Sink>(out: &mut O, word: &[u8], a: u64, b: u64) -> Result<(), Stop>
-    ensures { Prints result (word.now ++ hex a ++ codes " " ++ hex b) (O.written out.old) (O.written out.new) (O.faults out.old) (O.faults out.new) }
+    ensures { Prints result (word.now ++ hex a ++ codes " " ++ hex b) (O.written out.old)
+        (O.written out.new) (O.faults out.old) (O.faults out.new) }
 {
     put_all(
         out,
@@ -382,7 +407,8 @@ fn put_two<O: Sink>(out: &mut O, word: &[u8], a: u64, b: u64) -> Result<(), Stop
 
 /// Two nodes, the lesser first.
 fn put_entries<O: Sink>(out: &mut O, a: u64, b: u64) -> Result<(), Stop>
-    ensures { Prints result (codes "two-entries " ++ hex (min a b) ++ codes " " ++ hex (max a b)) (O.written out.old) (O.written out.new) (O.faults out.old) (O.faults out.new) }
+    ensures { Prints result (codes "two-entries " ++ hex (min a b) ++ codes " " ++ hex (max a b))
+        (O.written out.old) (O.written out.new) (O.faults out.old) (O.faults out.new) }
 {
     put_two(out, b"two-entries ", a.min(b), a.max(b))
 }
@@ -399,7 +425,8 @@ fn last_of(walk: &Items<u64>) -> u64
 
 /// A line for each name.
 fn put_all_listed<O: Sink>(out: &mut O, form: Form, all: &[Listed]) -> Result<(), Stop>
-    ensures { Prints result (flat_map (listed_line form) all.now) (O.written out.old) (O.written out.new) (O.faults out.old) (O.faults out.new) }
+    ensures { Prints result (flat_map (listed_line form) all.now) (O.written out.old)
+        (O.written out.new) (O.faults out.old) (O.faults out.new) }
 {
     for listed in all {
         put_listed(out, form, listed)?;
@@ -408,7 +435,8 @@ fn put_all_listed<O: Sink>(out: &mut O, form: Form, all: &[Listed]) -> Result<()
 }
 
 fn put_listed<O: Sink>(out: &mut O, form: Form, listed: &Listed) -> Result<(), Stop>
-    ensures { Prints result (listed_line form listed.now) (O.written out.old) (O.written out.new) (O.faults out.old) (O.faults out.new) }
+    ensures { Prints result (listed_line form listed.now) (O.written out.old) (O.written out.new)
+        (O.faults out.old) (O.faults out.new) }
 {
     put_all(
         out,
@@ -438,7 +466,8 @@ fn done_word(form: Form) -> &'static [u8]
 }
 
 fn put_self_test<O: Sink>(out: &mut O, answer: &SelfTestAnswer) -> Result<(), Stop>
-    ensures { Prints result (self_test_line answer.now) (O.written out.old) (O.written out.new) (O.faults out.old) (O.faults out.new) }
+    ensures { Prints result (self_test_line answer.now) (O.written out.old) (O.written out.new)
+        (O.faults out.old) (O.faults out.new) }
 {
     put_all(
         out,
@@ -463,14 +492,17 @@ fn put_self_test<O: Sink>(out: &mut O, answer: &SelfTestAnswer) -> Result<(), St
 }
 
 fn put_text<O: Sink>(out: &mut O, text: &[u8]) -> Result<(), Stop>
-    ensures { Prints result text.now (O.written out.old) (O.written out.new) (O.faults out.old) (O.faults out.new) }
+    ensures { Prints result text.now (O.written out.old) (O.written out.new) (O.faults out.old)
+        (O.faults out.new) }
 {
     out.put(text)
 }
 
 /// The line of a START that stands for no address.
 fn put_start_refused<O: Sink>(out: &mut O, start: &[u8], why: NameFault) -> Result<(), Stop>
-    ensures { Prints result (codes "refused " ++ start.now ++ codes " " ++ name_words why ++ codes "\n") (O.written out.old) (O.written out.new) (O.faults out.old) (O.faults out.new) }
+    ensures { Prints result
+        (codes "refused " ++ start.now ++ codes " " ++ name_words why ++ codes "\n")
+        (O.written out.old) (O.written out.new) (O.faults out.old) (O.faults out.new) }
 {
     match why {
         NameFault::NoSuch => put_all(
@@ -498,7 +530,9 @@ fn put_start_refused<O: Sink>(out: &mut O, start: &[u8], why: NameFault) -> Resu
 
 /// The line of a run that stopped where there was no step.
 fn put_stuck<O: Sink>(out: &mut O, steps: u64, why: &Stuck) -> Result<(), Stop>
-    ensures { Prints result (codes "refused stuck " ++ decimal steps ++ codes " " ++ stuck_words why.now ++ codes "\n") (O.written out.old) (O.written out.new) (O.faults out.old) (O.faults out.new) }
+    ensures { Prints result
+        (codes "refused stuck " ++ decimal steps ++ codes " " ++ stuck_words why.now ++ codes "\n")
+        (O.written out.old) (O.written out.new) (O.faults out.old) (O.faults out.new) }
 {
     let steps = Piece::Decimal(steps);
     match why {
@@ -553,7 +587,8 @@ fn put_stuck<O: Sink>(out: &mut O, steps: u64, why: &Stuck) -> Result<(), Stop>
 
 /// The line of an ELF file that isn't read.
 fn put_unreadable_elf<O: Sink>(out: &mut O, why: &ElfFault) -> Result<(), Stop>
-    ensures { Prints result (codes "unreadable elf " ++ fault_words why.now ++ codes "\n") (O.written out.old) (O.written out.new) (O.faults out.old) (O.faults out.new) }
+    ensures { Prints result (codes "unreadable elf " ++ fault_words why.now ++ codes "\n")
+        (O.written out.old) (O.written out.new) (O.faults out.old) (O.faults out.new) }
 {
     put_text(out, b"unreadable elf ")?;
     put_fault(out, why)?;
@@ -561,7 +596,8 @@ fn put_unreadable_elf<O: Sink>(out: &mut O, why: &ElfFault) -> Result<(), Stop>
 }
 
 fn put_fault<O: Sink>(out: &mut O, why: &ElfFault) -> Result<(), Stop>
-    ensures { Prints result (fault_words why.now) (O.written out.old) (O.written out.new) (O.faults out.old) (O.faults out.new) }
+    ensures { Prints result (fault_words why.now) (O.written out.old) (O.written out.new)
+        (O.faults out.old) (O.faults out.new) }
 {
     match why {
         ElfFault::NotElf => put_text(out, b"not-elf"),
@@ -582,13 +618,15 @@ fn put_fault<O: Sink>(out: &mut O, why: &ElfFault) -> Result<(), Stop>
 }
 
 fn put_number<O: Sink>(out: &mut O, word: &[u8], n: u64) -> Result<(), Stop>
-    ensures { Prints result (word.now ++ decimal n) (O.written out.old) (O.written out.new) (O.faults out.old) (O.faults out.new) }
+    ensures { Prints result (word.now ++ decimal n) (O.written out.old) (O.written out.new)
+        (O.faults out.old) (O.faults out.new) }
 {
     put_all(out, &[Piece::Text(word), Piece::Decimal(n)])
 }
 
 fn put_overlap<O: Sink>(out: &mut O, i: u64, j: u64) -> Result<(), Stop>
-    ensures { Prints result (codes "overlap " ++ decimal i ++ codes " " ++ decimal j) (O.written out.old) (O.written out.new) (O.faults out.old) (O.faults out.new) }
+    ensures { Prints result (codes "overlap " ++ decimal i ++ codes " " ++ decimal j)
+        (O.written out.old) (O.written out.new) (O.faults out.old) (O.faults out.new) }
 {
     put_all(
         out,
@@ -603,7 +641,8 @@ fn put_overlap<O: Sink>(out: &mut O, i: u64, j: u64) -> Result<(), Stop>
 
 /// The lines of the end of a run or an evaluation.
 fn put_shown<O: Sink>(out: &mut O, word: &[u8], shown: &Shown) -> Result<(), Stop>
-    ensures { Prints result (shown_lines word.now shown.now) (O.written out.old) (O.written out.new) (O.faults out.old) (O.faults out.new) }
+    ensures { Prints result (shown_lines word.now shown.now) (O.written out.old) (O.written out.new)
+        (O.faults out.old) (O.faults out.new) }
 {
     put_end(
         out,
@@ -627,7 +666,10 @@ fn put_end<O: Sink>(
     memory: &[Range],
     stack: &[Range],
 ) -> Result<(), Stop>
-    ensures { Prints result (count_lines word.now count pc ++ register_lines registers.now words.now ++ memory_lines memory.now stack.now) (O.written out.old) (O.written out.new) (O.faults out.old) (O.faults out.new) }
+    ensures { Prints result
+        (count_lines word.now count pc ++ register_lines registers.now words.now
+        ++ memory_lines memory.now stack.now) (O.written out.old) (O.written out.new)
+        (O.faults out.old) (O.faults out.new) }
 {
     put_count(out, word, count, pc)?;
     put_registers(out, registers, words)?;
@@ -636,7 +678,8 @@ fn put_end<O: Sink>(
 
 /// The lines of the ranges of each memory.
 fn put_memories<O: Sink>(out: &mut O, memory: &[Range], stack: &[Range]) -> Result<(), Stop>
-    ensures { Prints result (memory_lines memory.now stack.now) (O.written out.old) (O.written out.new) (O.faults out.old) (O.faults out.new) }
+    ensures { Prints result (memory_lines memory.now stack.now) (O.written out.old)
+        (O.written out.new) (O.faults out.old) (O.faults out.new) }
 {
     put_ranges(out, Memory::First, memory)?;
     put_ranges(out, Memory::Second, stack)
@@ -644,7 +687,8 @@ fn put_memories<O: Sink>(out: &mut O, memory: &[Range], stack: &[Range]) -> Resu
 
 /// The lines of ranges of a memory.
 fn put_ranges<O: Sink>(out: &mut O, memory: Memory, ranges: &[Range]) -> Result<(), Stop>
-    ensures { Prints result (flat_map (range_line memory) ranges.now) (O.written out.old) (O.written out.new) (O.faults out.old) (O.faults out.new) }
+    ensures { Prints result (flat_map (range_line memory) ranges.now) (O.written out.old)
+        (O.written out.new) (O.faults out.old) (O.faults out.new) }
 {
     for range in ranges {
         put_range(out, memory, range)?;
@@ -653,7 +697,8 @@ fn put_ranges<O: Sink>(out: &mut O, memory: Memory, ranges: &[Range]) -> Result<
 }
 
 fn put_range<O: Sink>(out: &mut O, memory: Memory, range: &Range) -> Result<(), Stop>
-    ensures { Prints result (range_line memory range.now) (O.written out.old) (O.written out.new) (O.faults out.old) (O.faults out.new) }
+    ensures { Prints result (range_line memory range.now) (O.written out.old) (O.written out.new)
+        (O.faults out.old) (O.faults out.new) }
 {
     put_all(
         out,
@@ -670,7 +715,8 @@ fn put_range<O: Sink>(out: &mut O, memory: Memory, range: &Range) -> Result<(), 
 
 /// How many steps or turns there were, and the program counter after them.
 fn put_count<O: Sink>(out: &mut O, word: &[u8], count: u64, pc: u64) -> Result<(), Stop>
-    ensures { Prints result (count_lines word.now count pc) (O.written out.old) (O.written out.new) (O.faults out.old) (O.faults out.new) }
+    ensures { Prints result (count_lines word.now count pc) (O.written out.old) (O.written out.new)
+        (O.faults out.old) (O.faults out.new) }
 {
     put_all(
         out,
@@ -685,7 +731,8 @@ fn put_count<O: Sink>(out: &mut O, word: &[u8], count: u64, pc: u64) -> Result<(
 }
 
 fn put_register<O: Sink>(out: &mut O, register: u8, word: u64) -> Result<(), Stop>
-    ensures { Prints result (register_line register word) (O.written out.old) (O.written out.new) (O.faults out.old) (O.faults out.new) }
+    ensures { Prints result (register_line register word) (O.written out.old) (O.written out.new)
+        (O.faults out.old) (O.faults out.new) }
 {
     put_all(
         out,
@@ -700,7 +747,8 @@ fn put_register<O: Sink>(out: &mut O, register: u8, word: u64) -> Result<(), Sto
 }
 
 fn put_registers<O: Sink>(out: &mut O, registers: &[u8], words: &[u64]) -> Result<(), Stop>
-    ensures { Prints result (register_lines registers.now words.now) (O.written out.old) (O.written out.new) (O.faults out.old) (O.faults out.new) }
+    ensures { Prints result (register_lines registers.now words.now) (O.written out.old)
+        (O.written out.new) (O.faults out.old) (O.faults out.new) }
 {
     for (register, word) in registers.iter().zip(words) {
         put_register(out, *register, *word)?;

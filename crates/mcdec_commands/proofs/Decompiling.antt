@@ -56,10 +56,12 @@ file-gives told ws form elf out names file rose wrote w held (answer.Decompile a
 
 -- ---- the text that is written
 
--- the text of a proof with items for the names
-pub text-for : (form : Form) (elf : List ℕ) (names : List (List ℕ)) (file : List ℕ) → IsLoaded file → (p : Proof) → AreItemsIn form file names p → (text : List ℕ) → text ≡ text_of_proofs_in (version_in form) (proofs_of p)
-    → (files : Contents) → files elf ≡ Some file → IsTextFor form files elf names text
-text-for form elf names file loaded p items text is files holds = record { file = file; holds = holds; loaded = loaded; proof = p; items = items; spelled = is }
+-- the text of a proof with items for the names, and the answer that tells of them
+pub text-for : (form : Form) (elf : List ℕ) (names : List (List ℕ)) (file : List ℕ) → IsLoaded file → (p : Proof) → AreItemsIn form file names p → (listed : List Listed) → listed ≡ all_listed names p.items
+    → (text : List ℕ) → text ≡ text_of_proofs_in (version_in form) (proofs_of p) → (files : Contents) → files elf ≡ Some file
+    → IsTextFor form files elf names (answer.Decompile (de.Decompiled form listed)) text
+text-for form elf names file loaded p items listed told text is files holds =
+    record { file = file; holds = holds; loaded = loaded; proof = p; items = items; spelled = is; told = ap (λ (ls : List Listed). answer.Decompile (de.Decompiled form ls)) told }
 
 -- what is answered of it
 pub proof-told : (form : Form) (file : List ℕ) (names : List (List ℕ)) → IsLoaded file → (p : Proof) → AreItemsIn form file names p → (listed : List Listed) → listed ≡ all_listed names p.items → (a : Answer)

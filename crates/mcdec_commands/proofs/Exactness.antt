@@ -7,7 +7,7 @@ use Rattle.mc_text.specs.Fault.{Grammar, InGrammar, IsBadAt}
 use Rattle.tailrec_lang.specs.Tree.{DefTree, GroupTree, listed_def}
 use Rattle.tailrec_lang.specs.WellFormed.{IsWellFormed, IsFirstIllFormed}
 use Rattle.tailrec_lang.specs.Eval.{Done, SideFalse, Turns, NoOutcome, Outcome, eval}
-use Rattle.path_walk.specs.Further.{further_of}
+use Rattle.checker.specs.Further.{further_of}
 use Rattle.proof_v2.specs.AnyText.{any_texts}
 use Rattle.proof_v2.specs.Titles.{named_version}
 use Rattle.proof_v2.proofs.AnyVerdicts.{accepted-lists}
@@ -702,48 +702,48 @@ answer-unique files ws rose wrote a b u d h k = case-unique files ws a b d (word
 abbrev pub ComesBut : Answer → ℕ → Option (List ℕ) → Option (List ℕ) → Type 0
 ComesBut a result old new = IsPrinted a result old new ⊎ (result ≡ 4) ⊎ (result ≡ 5) ⊎ (result ≡ 6)
 
-comes : (a b : Answer) (result : ℕ) (old new : Option (List ℕ)) → b ≡ a → IsDelivered b result old new → ComesBut a result old new
-comes a b result old new same (inl h) = inl (subst (λ (x : Answer). IsPrinted x result old new) same h)
-comes a b result old new same (inr (inl e, h)) = inr (inr (inl e))
-comes a b result old new same (inr (inr e, h)) = inr (inr (inr e))
+comes : (a b : Answer) (result : ℕ) (failed : Type 0) (old new : Option (List ℕ)) → b ≡ a → IsDelivered b result failed old new → ComesBut a result old new
+comes a b result failed old new same (inl h) = inl (subst (λ (x : Answer). IsPrinted x result old new) same h)
+comes a b result failed old new same (inr (inl (e, f), h)) = inr (inr (inl e))
+comes a b result failed old new same (inr (inr e, h)) = inr (inr (inr e))
 
 other-comes : (a b : Answer) (result : ℕ) (old new : Option (List ℕ)) → (result ≡ 4) ⊎ (result ≡ 5) ⊎ (result ≡ 6) → ComesBut a result old new
 other-comes a b result old new h = inr h
 
-delivered-exact : (files : Contents) (ws : List (List ℕ)) (rose wrote : Type 0) (b : Answer) (result : ℕ) (old new : Option (List ℕ)) → Gives (Some files) ws rose wrote b → IsDelivered b result old new
+delivered-exact : (files : Contents) (ws : List (List ℕ)) (rose wrote : Type 0) (b : Answer) (result : ℕ) (failed : Type 0) (old new : Option (List ℕ)) → Gives (Some files) ws rose wrote b → IsDelivered b result failed old new
     → (a : Answer) → IsDetermined a → Gives (Some files) ws rose wrote a → ComesBut a result old new
-delivered-exact files ws rose wrote answer.ReadFault result old new g (inl h) a d k = inr (inl h.0)
-delivered-exact files ws rose wrote answer.ReadFault result old new g (inr (inl e, h)) a d k = inr (inr (inl e))
-delivered-exact files ws rose wrote answer.ReadFault result old new g (inr (inr e, h)) a d k = inr (inr (inr e))
-delivered-exact files ws rose wrote answer.WriteFault result old new g (inl h) a d k = inr (inr (inl h.0))
-delivered-exact files ws rose wrote answer.WriteFault result old new g (inr (inl e, h)) a d k = inr (inr (inl e))
-delivered-exact files ws rose wrote answer.WriteFault result old new g (inr (inr e, h)) a d k = inr (inr (inr e))
-delivered-exact files ws rose wrote answer.NoMemory result old new g (inl h) a d k = inr (inr (inr h.0))
-delivered-exact files ws rose wrote answer.NoMemory result old new g (inr (inl e, h)) a d k = inr (inr (inl e))
-delivered-exact files ws rose wrote answer.NoMemory result old new g (inr (inr e, h)) a d k = inr (inr (inr e))
-delivered-exact files ws rose wrote answer.NotACommand result old new g h a d k = comes a answer.NotACommand result old new (answer-unique files ws rose wrote answer.NotACommand a tt d g k) h
-delivered-exact files ws rose wrote (answer.Eval x) result old new g h a d k = comes a (answer.Eval x) result old new (answer-unique files ws rose wrote (answer.Eval x) a tt d g k) h
-delivered-exact files ws rose wrote (answer.Run x) result old new g h a d k = comes a (answer.Run x) result old new (answer-unique files ws rose wrote (answer.Run x) a tt d g k) h
-delivered-exact files ws rose wrote (answer.Check x) result old new g h a d k = comes a (answer.Check x) result old new (answer-unique files ws rose wrote (answer.Check x) a tt d g k) h
-delivered-exact files ws rose wrote (answer.Decompile x) result old new g h a d k = comes a (answer.Decompile x) result old new (answer-unique files ws rose wrote (answer.Decompile x) a tt d g k) h
-delivered-exact files ws rose wrote (answer.SelfTest x) result old new g h a d k = comes a (answer.SelfTest x) result old new (answer-unique files ws rose wrote (answer.SelfTest x) a tt d g k) h
-delivered-exact files ws rose wrote (answer.Simplify x) result old new g h a d k = comes a (answer.Simplify x) result old new (answer-unique files ws rose wrote (answer.Simplify x) a tt d g k) h
-delivered-exact files ws rose wrote (answer.Laws x) result old new g h a d k = comes a (answer.Laws x) result old new (answer-unique files ws rose wrote (answer.Laws x) a tt d g k) h
-delivered-exact files ws rose wrote (answer.Smt x) result old new g h a d k = comes a (answer.Smt x) result old new (answer-unique files ws rose wrote (answer.Smt x) a tt d g k) h
-delivered-exact files ws rose wrote (answer.Migrate x) result old new g h a d k = comes a (answer.Migrate x) result old new (answer-unique files ws rose wrote (answer.Migrate x) a tt d g k) h
+delivered-exact files ws rose wrote answer.ReadFault result failed old new g (inl h) a d k = inr (inl h.0)
+delivered-exact files ws rose wrote answer.ReadFault result failed old new g (inr (inl (e, f), h)) a d k = inr (inr (inl e))
+delivered-exact files ws rose wrote answer.ReadFault result failed old new g (inr (inr e, h)) a d k = inr (inr (inr e))
+delivered-exact files ws rose wrote answer.WriteFault result failed old new g (inl h) a d k = inr (inr (inl h.0))
+delivered-exact files ws rose wrote answer.WriteFault result failed old new g (inr (inl (e, f), h)) a d k = inr (inr (inl e))
+delivered-exact files ws rose wrote answer.WriteFault result failed old new g (inr (inr e, h)) a d k = inr (inr (inr e))
+delivered-exact files ws rose wrote answer.NoMemory result failed old new g (inl h) a d k = inr (inr (inr h.0))
+delivered-exact files ws rose wrote answer.NoMemory result failed old new g (inr (inl (e, f), h)) a d k = inr (inr (inl e))
+delivered-exact files ws rose wrote answer.NoMemory result failed old new g (inr (inr e, h)) a d k = inr (inr (inr e))
+delivered-exact files ws rose wrote answer.NotACommand result failed old new g h a d k = comes a answer.NotACommand result failed old new (answer-unique files ws rose wrote answer.NotACommand a tt d g k) h
+delivered-exact files ws rose wrote (answer.Eval x) result failed old new g h a d k = comes a (answer.Eval x) result failed old new (answer-unique files ws rose wrote (answer.Eval x) a tt d g k) h
+delivered-exact files ws rose wrote (answer.Run x) result failed old new g h a d k = comes a (answer.Run x) result failed old new (answer-unique files ws rose wrote (answer.Run x) a tt d g k) h
+delivered-exact files ws rose wrote (answer.Check x) result failed old new g h a d k = comes a (answer.Check x) result failed old new (answer-unique files ws rose wrote (answer.Check x) a tt d g k) h
+delivered-exact files ws rose wrote (answer.Decompile x) result failed old new g h a d k = comes a (answer.Decompile x) result failed old new (answer-unique files ws rose wrote (answer.Decompile x) a tt d g k) h
+delivered-exact files ws rose wrote (answer.SelfTest x) result failed old new g h a d k = comes a (answer.SelfTest x) result failed old new (answer-unique files ws rose wrote (answer.SelfTest x) a tt d g k) h
+delivered-exact files ws rose wrote (answer.Simplify x) result failed old new g h a d k = comes a (answer.Simplify x) result failed old new (answer-unique files ws rose wrote (answer.Simplify x) a tt d g k) h
+delivered-exact files ws rose wrote (answer.Laws x) result failed old new g h a d k = comes a (answer.Laws x) result failed old new (answer-unique files ws rose wrote (answer.Laws x) a tt d g k) h
+delivered-exact files ws rose wrote (answer.Smt x) result failed old new g h a d k = comes a (answer.Smt x) result failed old new (answer-unique files ws rose wrote (answer.Smt x) a tt d g k) h
+delivered-exact files ws rose wrote (answer.Migrate x) result failed old new g h a d k = comes a (answer.Migrate x) result failed old new (answer-unique files ws rose wrote (answer.Migrate x) a tt d g k) h
 
-pub exact-given : (told : Option Contents) (ws : List (List ℕ)) (rose wrote : Type 0) (b : Answer) (result : ℕ) (old new : Option (List ℕ))
-    → Gives told ws rose wrote b → IsDelivered b result old new
+pub exact-given : (told : Option Contents) (ws : List (List ℕ)) (rose wrote : Type 0) (b : Answer) (result : ℕ) (failed : Type 0) (old new : Option (List ℕ))
+    → Gives told ws rose wrote b → IsDelivered b result failed old new
     → IfSome told (λ files. (a : Answer) → IsDetermined a → Gives (Some files) ws rose wrote a → ComesBut a result old new)
-exact-given None ws rose wrote b result old new g h = tt
-exact-given (Some files) ws rose wrote b result old new g h = delivered-exact files ws rose wrote b result old new g h
+exact-given None ws rose wrote b result failed old new g h = tt
+exact-given (Some files) ws rose wrote b result failed old new g h = delivered-exact files ws rose wrote b result failed old new g h
 
 -- ---- what status 0 of `check` says
 
-given-status : (b : Answer) (result : ℕ) (old new : Option (List ℕ)) → IsDelivered b result old new → result ≡ 0 → status b ≡ 0
-given-status b result old new (inl h) none = sym h.0 ∙ none
-given-status b result old new (inr (inl five, h)) none = absurd (omega (arith, five, none))
-given-status b result old new (inr (inr six, h)) none = absurd (omega (arith, six, none))
+given-status : (b : Answer) (result : ℕ) (failed : Type 0) (old new : Option (List ℕ)) → IsDelivered b result failed old new → result ≡ 0 → status b ≡ 0
+given-status b result failed old new (inl h) none = sym h.0 ∙ none
+given-status b result failed old new (inr (inl (five, f), h)) none = absurd (omega (arith, five, none))
+given-status b result failed old new (inr (inr six, h)) none = absurd (omega (arith, six, none))
 
 -- a command whose words are those of `check`
 check-words : (ws : List (List ℕ)) (c : Command) (elf proof : List ℕ) → Words ws c → ws ≡ codes "check" ∷ elf ∷ proof ∷ [] → (name_of c ≡ codes "check") × (elf ∷ proof ∷ [] ≡ operands_of c)
@@ -795,8 +795,8 @@ answered files ws rose wrote (answer.Laws x) elf proof (p, c, v, h) w e = absurd
 answered files ws rose wrote (answer.Smt x) elf proof (p, n, d, o, v, h) w e = absurd (other-name (codes "smt") (codes "check") refl (check-words ws (Smt p n d o) elf proof v w).0)
 answered files ws rose wrote (answer.Migrate x) elf proof (f, p, o, v, h) w e = absurd (other-name (codes "migrate") (codes "check") refl (check-words ws (Migrate f p o) elf proof v w).0)
 
-pub headline-given : (told : Option Contents) (ws : List (List ℕ)) (rose wrote : Type 0) (b : Answer) (result : ℕ) (old new : Option (List ℕ))
-    → Gives told ws rose wrote b → IsDelivered b result old new
+pub headline-given : (told : Option Contents) (ws : List (List ℕ)) (rose wrote : Type 0) (b : Answer) (result : ℕ) (failed : Type 0) (old new : Option (List ℕ))
+    → Gives told ws rose wrote b → IsDelivered b result failed old new
     → IfSome told (λ files. (elf proof : List ℕ) → ws ≡ codes "check" ∷ elf ∷ proof ∷ [] → result ≡ 0 → AreRightFiles files elf proof)
-headline-given None ws rose wrote b result old new g d = tt
-headline-given (Some files) ws rose wrote b result old new g d = λ elf proof w none. answered files ws rose wrote b elf proof g w (given-status b result old new d none)
+headline-given None ws rose wrote b result failed old new g d = tt
+headline-given (Some files) ws rose wrote b result failed old new g d = λ elf proof w none. answered files ws rose wrote b elf proof g w (given-status b result failed old new d none)

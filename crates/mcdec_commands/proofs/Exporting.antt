@@ -1,5 +1,5 @@
 -- What is answered to the command `smt`, and what its output file holds then.
-use Rattle.std.proofs.Common.{◌≡◌, ℕ, ◌<◌, ◌≤◌, List, [], length, map, Option, Some, refl, sym, subst, inl, inr, arith}
+use Rattle.std.proofs.Common.{◌≡◌, ℕ, ◌<◌, ◌≤◌, List, [], length, map, Option, Some, refl, sym, ap, subst, inl, inr, arith}
 use Rattle.std.specs.Prelude.{IfSome}
 use Rattle.std.proofs.lemmas.List.{length-map}
 use Rattle.mc_shelf.specs.Shelf.{Contents, TellsName}
@@ -77,10 +77,10 @@ script-told file name def g funs d small named m same a (inl e) = subst (DefGive
 script-told file name def g funs d small named m same a (inr (inl e)) = subst (DefGives file name def) (sym e) tt
 script-told file name def g funs d small named m same a (inr (inr e)) = subst (DefGives file name def) (sym e) tt
 
--- its text
+-- its text, and the answer that tells of it
 pub script-for : (proof name : List ℕ) (def : ℕ) (file : List ℕ) → length file ≤ proof_limit → (g : GroupTree) → IsNamed file name (Some g) → (funs : List Fun) → IsExported g def funs → (text : List ℕ)
-    → text ≡ script_text (map fun_tree funs) → (files : Contents) → files proof ≡ Some file → IsScriptFor files proof name def text
-script-for proof name def file small g named funs m text is files holds = record {
+    → text ≡ script_text (map fun_tree funs) → (d : ℕ) → d ≡ def → (files : Contents) → files proof ≡ Some file → IsScriptFor files proof name def (answer.Smt (smt.Exported d)) text
+script-for proof name def file small g named funs m text is d same files holds = record {
   file = file;
   holds = holds;
   within = small;
@@ -91,4 +91,5 @@ script-for proof name def file small g named funs m text is files holds = record
   funs = map fun_tree funs;
   exports = record { script = m.script; sorts = m.sorts; tells = m.tells };
   spelled = is;
+  told = ap (λ (n : ℕ). answer.Smt (smt.Exported n)) same;
 }

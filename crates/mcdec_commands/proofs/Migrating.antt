@@ -67,10 +67,11 @@ module _ (told : Option Contents) (proof file text : List ℕ) (rose : Type 0) (
   migrated-told functions lines says a (inr (inl e)) = subst (FileMigrates told proof file rose) (sym e) tt
   migrated-told functions lines says a (inr (inr e)) = subst (FileMigrates told proof file rose) (sym e) tt
 
--- the text that is written
-pub migration-for : (elf proof file text : List ℕ) → IsLoaded file → length text ≤ proof_limit → (more : List ℕ) → IsMigratedText file text more → (files : Contents)
-    → (files elf ≡ Some file) × (files proof ≡ Some text) → IsMigrationFor files elf proof more
-migration-for elf proof file text loaded small more migrated files held = record {
+-- the text that is written, and the answer that tells of it
+pub migration-for : (elf proof file text : List ℕ) → IsLoaded file → length text ≤ proof_limit → (functions lines : ℕ) → Says file text (verdict.Accepted functions lines)
+    → (more : List ℕ) → IsMigratedText file text more → (files : Contents) → (files elf ≡ Some file) × (files proof ≡ Some text)
+    → IsMigrationFor files elf proof (answer.Migrate (migrate.Migrated functions lines)) more
+migration-for elf proof file text loaded small functions lines says more migrated files held = record {
   file = file;
   holds_file = held.0;
   loaded = loaded;
@@ -78,6 +79,10 @@ migration-for elf proof file text loaded small more migrated files held = record
   holds_text = held.1;
   within = small;
   migrated = migrated;
+  functions = functions;
+  lines = lines;
+  says = says;
+  told = refl;
 }
 
 pub both-held : (told : Option Contents) (P Q : Contents → Type 0) → IfSome told P → IfSome told Q → IfSome told (λ files. P files × Q files)

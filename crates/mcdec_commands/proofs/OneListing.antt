@@ -14,7 +14,7 @@ use Rattle.elf_image.specs.declared.symbol.NameFault.{NameFault}
 use Rattle.elf_image.specs.declared.symbol.NameFault.TheVariants as name_fault
 use Rattle.mc_text.proofs.OneSpelling.{hex-once}
 use Rattle.tailrec_lang.specs.Tree.{DefTree, group_tree, listed_def}
-use Rattle.checker.specs.Headline.{entry_at}
+use Rattle.claims.specs.Headline.{entry_at}
 use Rattle.flow_graph.specs.declared.outside.Outside.{Outside}
 use Rattle.flow_graph.specs.declared.outside.Outside.TheVariants as outside
 use Rattle.flow_graph.specs.Graph.{GraphOf, IsGraphOf}

@@ -1,5 +1,5 @@
 -- What is answered to the command `simplify`, and what its output file holds then.
-use Rattle.std.proofs.Common.{◌≡◌, ℕ, ◌≤◌, List, [], length, map, Option, Some, refl, sym, subst, inl, inr, arith}
+use Rattle.std.proofs.Common.{◌≡◌, ℕ, ◌≤◌, List, [], length, map, Option, Some, refl, sym, ap, subst, inl, inr, arith}
 use Rattle.std.specs.Prelude.{IfSome}
 use Rattle.mc_shelf.specs.Shelf.{Contents, TellsName}
 use Rattle.tailrec_lang.specs.Tree.{GroupTree, def_tree}
@@ -63,8 +63,17 @@ cert-told file name g c steps small named m count a (inl e) = subst (TextGives f
 cert-told file name g c steps small named m count a (inr (inl e)) = subst (TextGives file name) (sym e) tt
 cert-told file name g c steps small named m count a (inr (inr e)) = subst (TextGives file name) (sym e) tt
 
--- its text
-pub cert-for : (proof name file : List ℕ) → length file ≤ proof_limit → (g : GroupTree) → IsNamed file name (Some g) → (c : Cert) → IsMade g c → (text : List ℕ) → text ≡ cert_text (cert_tree c)
-    → (files : Contents) → files proof ≡ Some file → IsCertFor files proof name text
-cert-for proof name file small g named c m text is files holds =
-    record { file = file; holds = holds; within = small; group = g; named = named; cert = cert_tree c; simplifies = simplifies g c m; spelled = is }
+-- its text, and the answer that tells of it
+pub cert-for : (proof name file : List ℕ) → length file ≤ proof_limit → (g : GroupTree) → IsNamed file name (Some g) → (c : Cert) → IsMade g c → (steps : ℕ) → steps ≡ length c.steps
+    → (text : List ℕ) → text ≡ cert_text (cert_tree c) → (files : Contents) → files proof ≡ Some file → IsCertFor files proof name (answer.Simplify (simplify.Simplified steps)) text
+cert-for proof name file small g named c m steps count text is files holds = record {
+  file = file;
+  holds = holds;
+  within = small;
+  group = g;
+  named = named;
+  cert = cert_tree c;
+  simplifies = simplifies g c m;
+  spelled = is;
+  told = ap (λ (n : ℕ). answer.Simplify (simplify.Simplified n)) count;
+}

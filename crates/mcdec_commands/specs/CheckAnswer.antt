@@ -7,7 +7,7 @@ use Rattle.group_text.specs.declared.version.Version.{Version as Known}
 use Rattle.group_text.specs.Version.{version_of}
 use Rattle.group_text.specs.Spelling.{text_in}
 use Rattle.group_text.specs.Limits.{AreGroupsIn}
-use Rattle.checker.specs.Headline.{Headline}
+use Rattle.claims.specs.Headline.{Headline}
 use Rattle.checker.specs.declared.verdict.Verdict.{Verdict}
 use Rattle.checker.specs.declared.verdict.Verdict.TheVariants as verdict
 use Rattle.text_versions.specs.Versions.{SaysOf}

@@ -11,7 +11,7 @@ use Rattle.mcdec_words.specs.declared.command.Form.{Form}
 use Rattle.mcdec_words.specs.declared.command.Form.TheVariants.{Alone, Linked, Split}
 use Rattle.call_graph.specs.declared.fault.LinkWhy.{LinkWhy}
 use Rattle.call_graph.specs.declared.fault.LinkWhy.TheVariants as link
-use Rattle.checker.specs.Headline.{entry_at}
+use Rattle.claims.specs.Headline.{entry_at}
 use Rattle.path_walk.specs.declared.item.Item.{Item}
 use Rattle.path_walk.specs.declared.proof.Proof.{Proof}
 use Rattle.decompiler.specs.Faults.{IsFirst}
@@ -19,6 +19,8 @@ use Rattle.decompiler.specs.Listing.{IsFirstWith, IsItemFor, proofs_of}
 use Rattle.call_link.specs.Faults.{IsLinkFirst}
 use Rattle.call_link.specs.Listing.{IsLinkedItemFor}
 use Rattle.stack_split.specs.Listing.{IsSplitItemFor}
+use Rattle.mcdec_answers.specs.declared.answer.Answer.{Answer}
+use Rattle.mcdec_answers.specs.declared.answer.Answer.TheVariants.{Decompile}
 use Rattle.mcdec_answers.specs.declared.answer.DecompileAnswer.{DecompileAnswer}
 use Rattle.mcdec_answers.specs.declared.answer.DecompileAnswer.TheVariants as answer
 use Rattle.mcdec_answers.specs.declared.answer.Listed.{Listed}
@@ -89,11 +91,12 @@ IsToldOnce (answer.Decompiled form listed) = Unit {0}
 -- ---- the text that it writes
 
 -- The text of proofs with an item for each name, where the name ELF holds a file: each item is accepted for the file, lists what it should,
--- and is exact.
-pub record IsTextFor (form : Form) (files : Contents) (elf : List ℕ) (names : List (List ℕ)) (text : List ℕ) : Type 0 where
+-- and is exact. The answer tells of these items.
+pub record IsTextFor (form : Form) (files : Contents) (elf : List ℕ) (names : List (List ℕ)) (a : Answer) (text : List ℕ) : Type 0 where
   pub file : List ℕ
   pub holds : files elf ≡ Some file
   pub loaded : IsLoaded file
   pub proof : Proof
   pub items : AreItemsIn form file names proof
   pub spelled : text ≡ text_of_proofs_in (version_in form) (proofs_of proof)
+  pub told : a ≡ Decompile (answer.Decompiled form (all_listed names proof.items))

@@ -6,6 +6,8 @@ use Rattle.checker.specs.Verdicts.{Says}
 use Rattle.checker.specs.declared.verdict.Verdict.{Verdict}
 use Rattle.checker.specs.declared.verdict.Verdict.TheVariants as verdict
 use Rattle.proof_v2.specs.MigratedText.{IsMigratedText}
+use Rattle.mcdec_answers.specs.declared.answer.Answer.{Answer}
+use Rattle.mcdec_answers.specs.declared.answer.Answer.TheVariants.{Migrate}
 use Rattle.mcdec_answers.specs.declared.answer.MigrateAnswer.{MigrateAnswer}
 use Rattle.mcdec_answers.specs.declared.answer.MigrateAnswer.TheVariants as answer
 use Rattle.mcdec_commands.specs.Held.{HoldsWith}
@@ -29,8 +31,8 @@ MigrateGives told proof file (answer.Refused v) = RefusalGives told proof file v
 MigrateGives told proof file (answer.Migrated functions lines) = IsLoaded file × HoldsText told proof (λ text. Says file text (verdict.Accepted functions lines))
 
 -- The text of version 2 that a text of version 1 becomes, where the name ELF holds a file and the name PROOF that text, which is accepted
--- for the file.
-pub record IsMigrationFor (files : Contents) (elf proof more : List ℕ) : Type 0 where
+-- for the file. The answer tells how many functions and lines it has.
+pub record IsMigrationFor (files : Contents) (elf proof : List ℕ) (a : Answer) (more : List ℕ) : Type 0 where
   pub file : List ℕ
   pub holds_file : files elf ≡ Some file
   pub loaded : IsLoaded file
@@ -38,3 +40,7 @@ pub record IsMigrationFor (files : Contents) (elf proof more : List ℕ) : Type 
   pub holds_text : files proof ≡ Some text
   pub within : length text ≤ proof_limit
   pub migrated : IsMigratedText file text more
+  pub functions : ℕ
+  pub lines : ℕ
+  pub says : Says file text (verdict.Accepted functions lines)
+  pub told : a ≡ Migrate (answer.Migrated functions lines)

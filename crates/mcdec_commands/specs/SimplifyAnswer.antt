@@ -6,6 +6,8 @@ use Rattle.def_laws.specs.Rewriting.{AreRewritingSteps, AreSimple}
 use Rattle.def_laws.specs.Evaluation.{EvaluateAlike}
 use Rattle.fun_laws.specs.Limits.{IsCert}
 use Rattle.fun_laws.specs.Spelling.{CertTree, cert_text}
+use Rattle.mcdec_answers.specs.declared.answer.Answer.{Answer}
+use Rattle.mcdec_answers.specs.declared.answer.Answer.TheVariants.{Simplify}
 use Rattle.mcdec_answers.specs.declared.answer.SimplifyAnswer.{SimplifyAnswer}
 use Rattle.mcdec_answers.specs.declared.answer.SimplifyAnswer.TheVariants as answer
 use Rattle.mcdec_commands.specs.EvalAnswer.{HasBadDef, HasBadLine, IsNamed, proof_limit}
@@ -32,8 +34,9 @@ abbrev pub IsRefusal : SimplifyAnswer → Type 0
 IsRefusal (answer.Simplified steps) = ⊥
 IsRefusal _ = Unit {0}
 
--- The text of a certificate that simplifies the first group of the name, where the name PROOF holds a file.
-pub record IsCertFor (files : Contents) (proof name text : List ℕ) : Type 0 where
+-- The text of a certificate that simplifies the first group of the name, where the name PROOF holds a file. The answer tells how many steps
+-- the certificate has.
+pub record IsCertFor (files : Contents) (proof name : List ℕ) (a : Answer) (text : List ℕ) : Type 0 where
   pub file : List ℕ
   pub holds : files proof ≡ Some file
   pub within : length file ≤ proof_limit
@@ -42,3 +45,4 @@ pub record IsCertFor (files : Contents) (proof name text : List ℕ) : Type 0 wh
   pub cert : CertTree
   pub simplifies : Simplifies group cert
   pub spelled : text ≡ cert_text cert
+  pub told : a ≡ Simplify (answer.Simplified (length cert.steps))

@@ -7,6 +7,8 @@ use Rattle.smt_terms.specs.Sorts.{IsScript, rules_after}
 use Rattle.smt_terms.specs.Text.{script_text}
 use Rattle.smt_export.specs.Reach.{EntersAgain, IsLeastLoop, ReachesByCalls}
 use Rattle.smt_export.specs.Telling.{HasRules, TellsEval}
+use Rattle.mcdec_answers.specs.declared.answer.Answer.{Answer}
+use Rattle.mcdec_answers.specs.declared.answer.Answer.TheVariants.{Smt}
 use Rattle.mcdec_answers.specs.declared.answer.SmtAnswer.{SmtAnswer}
 use Rattle.mcdec_answers.specs.declared.answer.SmtAnswer.TheVariants as answer
 use Rattle.mcdec_commands.specs.EvalAnswer.{HasBadDef, HasBadLine, IsNamed, proof_limit}
@@ -33,8 +35,9 @@ SmtGives file name def (answer.Loop least) =
 SmtGives file name def (answer.Exported d) =
     (length file ≤ proof_limit) × (g : GroupTree) × IsNamed file name (Some g) × (def < length g.defs) × IsLoopFree g def × (d ≡ def)
 
--- The text of a script that exports this definition of the first group of the name, where the name PROOF holds a file.
-pub record IsScriptFor (files : Contents) (proof name : List ℕ) (def : ℕ) (text : List ℕ) : Type 0 where
+-- The text of a script that exports this definition of the first group of the name, where the name PROOF holds a file. The answer tells the
+-- definition.
+pub record IsScriptFor (files : Contents) (proof name : List ℕ) (def : ℕ) (a : Answer) (text : List ℕ) : Type 0 where
   pub file : List ℕ
   pub holds : files proof ≡ Some file
   pub within : length file ≤ proof_limit
@@ -45,3 +48,4 @@ pub record IsScriptFor (files : Contents) (proof name : List ℕ) (def : ℕ) (t
   pub funs : List FunTree
   pub exports : Exports group def funs
   pub spelled : text ≡ script_text funs
+  pub told : a ≡ Smt (answer.Exported def)

@@ -20,13 +20,20 @@ use text_versions::check_file;
 
 /// The answer to `check`.
 pub fn answer_check<S: Shelf>(alloc: Global, c: &Check<'_>, shelf: &mut S) -> Answer
-    ensures gives { (ws : List (List ℕ)) → IsReadCheck ws c.now
-        → Gives (S.contents shelf.old) ws (Rose (S.read_faults shelf.old) (S.read_faults shelf.new)) (Rose (S.write_faults shelf.old) (S.write_faults shelf.new)) result }
+    ensures gives { (ws : List (List ℕ))
+        → IsReadCheck ws c.now
+        → Gives (S.contents shelf.old) ws (Rose (S.read_faults shelf.old) (S.read_faults shelf.new))
+        (Rose (S.write_faults shelf.old) (S.write_faults shelf.new)) result }
 
     ensures kept { S.contents shelf.new ≡ S.contents shelf.old }
-    ensures counted { (S.read_faults shelf.old ≤ S.read_faults shelf.new) × (S.write_faults shelf.old ≤ S.write_faults shelf.new) }
-    ensures sure { (ws : List (List ℕ)) → IsReadCheck ws c.now → S.IsSure shelf.old → ReadsAreTold (S.contents shelf.old) ws
-        → (S.read_faults shelf.new ≡ S.read_faults shelf.old) × (S.write_faults shelf.new ≡ S.write_faults shelf.old) }
+    ensures counted { (S.read_faults shelf.old ≤ S.read_faults shelf.new)
+        × (S.write_faults shelf.old ≤ S.write_faults shelf.new) }
+    ensures sure { (ws : List (List ℕ))
+        → IsReadCheck ws c.now
+        → S.IsSure shelf.old
+        → ReadsAreTold (S.contents shelf.old) ws
+        → (S.read_faults shelf.new ≡ S.read_faults shelf.old)
+        × (S.write_faults shelf.new ≡ S.write_faults shelf.old) }
 {
     match load_image(alloc, shelf, c.elf) {
         Ok(image) => check_image(alloc, &image, c, shelf),
@@ -36,7 +43,9 @@ pub fn answer_check<S: Shelf>(alloc: Global, c: &Check<'_>, shelf: &mut S) -> An
 
 /// The answer where there is no image of the ELF file.
 fn not_loaded(fault: LoadFault) -> Answer
-    ensures { result ≡ not_loaded (Answer.Check CheckAnswer.ElfOverLimit) (λ why. Answer.Check (CheckAnswer.Judged (Verdict.BadElf why))) fault }
+    ensures { result
+        ≡ not_loaded (Answer.Check CheckAnswer.ElfOverLimit)
+        (λ why. Answer.Check (CheckAnswer.Judged (Verdict.BadElf why))) fault }
 {
     match fault {
         LoadFault::Unread(end) => not_read(end, Answer::Check(CheckAnswer::ElfOverLimit)),
@@ -44,15 +53,24 @@ fn not_loaded(fault: LoadFault) -> Answer
     }
 }
 
-/// The answer to `check` where this is the image of the ELF file. The proof file is measured first, and then judged line by line.
+/// The answer to `check` where this is the image of the ELF file. The proof file is measured first,
+/// and then judged line by line.
 fn check_image<S: Shelf>(alloc: Global, image: &Image, c: &Check<'_>, shelf: &mut S) -> Answer
-    ensures gives { (file : List ℕ) → IsLoaded file → image.now ≡ image_of file
-        → ImageGives (S.contents shelf.old) c.now.proof.now file (Rose (S.read_faults shelf.old) (S.read_faults shelf.new)) result }
+    ensures gives { (file : List ℕ)
+        → IsLoaded file
+        → image.now ≡ image_of file
+        → ImageGives (S.contents shelf.old) c.now.proof.now file
+        (Rose (S.read_faults shelf.old) (S.read_faults shelf.new)) result }
 
     ensures kept { S.contents shelf.new ≡ S.contents shelf.old }
-    ensures counted { (S.read_faults shelf.old ≤ S.read_faults shelf.new) × (S.write_faults shelf.old ≤ S.write_faults shelf.new) }
-    ensures sure { (ws : List (List ℕ)) → IsReadCheck ws c.now → S.IsSure shelf.old → ReadsAreTold (S.contents shelf.old) ws
-        → (S.read_faults shelf.new ≡ S.read_faults shelf.old) × (S.write_faults shelf.new ≡ S.write_faults shelf.old) }
+    ensures counted { (S.read_faults shelf.old ≤ S.read_faults shelf.new)
+        × (S.write_faults shelf.old ≤ S.write_faults shelf.new) }
+    ensures sure { (ws : List (List ℕ))
+        → IsReadCheck ws c.now
+        → S.IsSure shelf.old
+        → ReadsAreTold (S.contents shelf.old) ws
+        → (S.read_faults shelf.new ≡ S.read_faults shelf.old)
+        × (S.write_faults shelf.new ≡ S.write_faults shelf.old) }
 {
     let size = match measure(shelf, c.proof, PROOF_LIMIT) {
         Ok(size) => size,

@@ -30,34 +30,60 @@ pub fn run_words<S: Shelf, O: Sink>(
     shelf: &mut S,
     out: &mut O,
 ) -> u8
-    // The sink gains the lines of an answer that is given to the words, and the status is the answer's.
+    // The sink gains the lines of an answer that is given to the words, and the status is the
+    // answer's.
     ensures lines { (a : AnswerOf)
-        × Gives (S.contents shelf.old) (texts words.now) (Rose (S.read_faults shelf.old) (S.read_faults shelf.new)) (Rose (S.write_faults shelf.old) (S.write_faults shelf.new)) a
-        × IsDelivered a result (O.written out.old) (O.written out.new) }
+        × Gives (S.contents shelf.old) (texts words.now)
+        (Rose (S.read_faults shelf.old) (S.read_faults shelf.new))
+        (Rose (S.write_faults shelf.old) (S.write_faults shelf.new)) a
+        × IsDelivered a result (Rose (O.faults out.old) (O.faults out.new))
+        (O.written out.old) (O.written out.new) }
 
-    // An answer that the words and the files give comes, but for faults of the outside and want of memory.
-    ensures exact { IfSome (S.contents shelf.old) (λ files. (a : AnswerOf) → IsDetermined a
-        → Gives (Some files) (texts words.now) (Rose (S.read_faults shelf.old) (S.read_faults shelf.new)) (Rose (S.write_faults shelf.old) (S.write_faults shelf.new)) a
-        → IsPrinted a result (O.written out.old) (O.written out.new) ⊎ (result ≡ 4) ⊎ (result ≡ 5) ⊎ (result ≡ 6)) }
+    // An answer that the words and the files give comes, but for faults of the outside and want of
+    // memory.
+    ensures exact { IfSome (S.contents shelf.old) (λ files.
+        (a : AnswerOf)
+        → IsDetermined a
+        → Gives (Some files) (texts words.now)
+        (Rose (S.read_faults shelf.old) (S.read_faults shelf.new))
+        (Rose (S.write_faults shelf.old) (S.write_faults shelf.new)) a
+        → IsPrinted a result (O.written out.old) (O.written out.new) ⊎ (result ≡ 4) ⊎ (result ≡ 5)
+        ⊎ (result ≡ 6)) }
 
     // Where `check` ends with status 0, the functions of the proof file are right of the ELF file.
-    ensures headline { IfSome (S.contents shelf.old) (λ files. (elf proof : List ℕ) → texts words.now ≡ codes "check" ∷ elf ∷ proof ∷ []
-        → result ≡ 0 → AreRightFiles files elf proof) }
+    ensures headline { IfSome (S.contents shelf.old) (λ files.
+        (elf proof : List ℕ)
+        → texts words.now ≡ codes "check" ∷ elf ∷ proof ∷ []
+        → result ≡ 0
+        → AreRightFiles files elf proof) }
 
-    // What a command leaves in its output file: with status 0 all of a text that it may write, with 5 and 6 a front of one or what was there,
-    // with any other status what was there.
-    ensures written { WhereTold (S.contents shelf.old) (S.contents shelf.new) (λ old new. (c : CommandOf) (out : List ℕ)
-        → Words (texts words.now) c → output_of c ≡ Some out → LeavesOut (IsOutput old c) result (old out) (new out)) }
+    // What a command leaves in its output file: with status 0 all of a text that it may write, of
+    // which the printed answer tells, with 5 and 6 a front of one or what was there, with any other
+    // status what was there.
+    ensures written { WhereTold (S.contents shelf.old) (S.contents shelf.new)
+        (λ old new.
+        (c : CommandOf) (name : List ℕ)
+        → Words (texts words.now) c
+        → output_of c ≡ Some name
+        → LeavesOut (IsOutput old c)
+        (λ a. IsPrinted a result (O.written out.old) (O.written out.new)) result
+        (old name) (new name)) }
 
     ensures read_fault { result ≡ 4 → Rose (S.read_faults shelf.old) (S.read_faults shelf.new) }
-    ensures write_fault { result ≡ 5 → Rose (S.write_faults shelf.old) (S.write_faults shelf.new) ⊎ Rose (O.faults out.old) (O.faults out.new) }
+    ensures write_fault { result ≡ 5
+        → Rose (S.write_faults shelf.old) (S.write_faults shelf.new)
+        ⊎ Rose (O.faults out.old) (O.faults out.new) }
 
-    ensures kept { WhereTold (S.contents shelf.old) (S.contents shelf.new) (KeepsNames (texts words.now)) }
-    ensures counted { (S.read_faults shelf.old ≤ S.read_faults shelf.new) × (S.write_faults shelf.old ≤ S.write_faults shelf.new)
+    ensures kept { WhereTold (S.contents shelf.old) (S.contents shelf.new)
+        (KeepsNames (texts words.now)) }
+    ensures counted { (S.read_faults shelf.old ≤ S.read_faults shelf.new)
+        × (S.write_faults shelf.old ≤ S.write_faults shelf.new)
         × (O.faults out.old ≤ O.faults out.new) }
 
-    ensures sure { S.IsSure shelf.old → ReadsAreTold (S.contents shelf.old) (texts words.now)
-        → (S.read_faults shelf.new ≡ S.read_faults shelf.old) × (S.write_faults shelf.new ≡ S.write_faults shelf.old) }
+    ensures sure { S.IsSure shelf.old
+        → ReadsAreTold (S.contents shelf.old) (texts words.now)
+        → (S.read_faults shelf.new ≡ S.read_faults shelf.old)
+        × (S.write_faults shelf.new ≡ S.write_faults shelf.old) }
 {
     let answer = answer_words(alloc, words, shelf);
     deliver(out, &answer)
@@ -65,16 +91,27 @@ pub fn run_words<S: Shelf, O: Sink>(
 
 /// The answer to the words. All is done but the printing.
 fn answer_words<S: Shelf>(alloc: Global, words: &[String], shelf: &mut S) -> Answer
-    ensures gives { Gives (S.contents shelf.old) (texts words.now) (Rose (S.read_faults shelf.old) (S.read_faults shelf.new)) (Rose (S.write_faults shelf.old) (S.write_faults shelf.new)) result }
+    ensures gives { Gives (S.contents shelf.old) (texts words.now)
+        (Rose (S.read_faults shelf.old) (S.read_faults shelf.new))
+        (Rose (S.write_faults shelf.old) (S.write_faults shelf.new)) result }
 
-    ensures written { WhereTold (S.contents shelf.old) (S.contents shelf.new) (λ old new. (c : CommandOf) (out : List ℕ)
-        → Words (texts words.now) c → output_of c ≡ Some out → LeavesOut (IsOutput old c) (status result) (old out) (new out)) }
-    ensures write_fault { status result ≡ 5 → Rose (S.write_faults shelf.old) (S.write_faults shelf.new) }
+    ensures written { WhereTold (S.contents shelf.old) (S.contents shelf.new)
+        (λ old new.
+        (c : CommandOf) (name : List ℕ)
+        → Words (texts words.now) c
+        → output_of c ≡ Some name
+        → LeavesOut (IsOutput old c) (λ a. a ≡ result) (status result) (old name) (new name)) }
+    ensures write_fault { status result ≡ 5
+        → Rose (S.write_faults shelf.old) (S.write_faults shelf.new) }
 
-    ensures kept { WhereTold (S.contents shelf.old) (S.contents shelf.new) (KeepsNames (texts words.now)) }
-    ensures counted { (S.read_faults shelf.old ≤ S.read_faults shelf.new) × (S.write_faults shelf.old ≤ S.write_faults shelf.new) }
-    ensures sure { S.IsSure shelf.old → ReadsAreTold (S.contents shelf.old) (texts words.now)
-        → (S.read_faults shelf.new ≡ S.read_faults shelf.old) × (S.write_faults shelf.new ≡ S.write_faults shelf.old) }
+    ensures kept { WhereTold (S.contents shelf.old) (S.contents shelf.new)
+        (KeepsNames (texts words.now)) }
+    ensures counted { (S.read_faults shelf.old ≤ S.read_faults shelf.new)
+        × (S.write_faults shelf.old ≤ S.write_faults shelf.new) }
+    ensures sure { S.IsSure shelf.old
+        → ReadsAreTold (S.contents shelf.old) (texts words.now)
+        → (S.read_faults shelf.new ≡ S.read_faults shelf.old)
+        × (S.write_faults shelf.new ≡ S.write_faults shelf.old) }
 {
     let command = match read_words(alloc, words) {
         Ok(command) => command,

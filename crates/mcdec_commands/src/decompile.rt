@@ -30,14 +30,23 @@ use std::alloc::Global;
 /// The answer to `decompile`, `link` or `split`.
 pub fn answer_decompile<S: Shelf>(alloc: Global, d: &Decompile<'_>, shelf: &mut S) -> Answer
     requires { All IsName d.now.names }
-    ensures gives { (ws : Items (Items ℕ)) → IsReadDecompile ws d.now
-        → Gives (S.contents shelf.old) ws (Rose (S.read_faults shelf.old) (S.read_faults shelf.new)) (Rose (S.write_faults shelf.old) (S.write_faults shelf.new)) result }
+    ensures gives { (ws : Items (Items ℕ))
+        → IsReadDecompile ws d.now
+        → Gives (S.contents shelf.old) ws (Rose (S.read_faults shelf.old) (S.read_faults shelf.new))
+        (Rose (S.write_faults shelf.old) (S.write_faults shelf.new)) result }
 
-    ensures written { WhereTold (S.contents shelf.old) (S.contents shelf.new) (WritesOut (λ files. IsTextFor d.now.form files d.now.elf.now d.now.names) d.now.out.now result) }
-    ensures counted { (S.read_faults shelf.old ≤ S.read_faults shelf.new) × (S.write_faults shelf.old ≤ S.write_faults shelf.new) }
+    ensures written { WhereTold (S.contents shelf.old) (S.contents shelf.new)
+        (WritesOut (λ files. IsTextFor d.now.form files d.now.elf.now d.now.names) d.now.out.now
+        result) }
+    ensures counted { (S.read_faults shelf.old ≤ S.read_faults shelf.new)
+        × (S.write_faults shelf.old ≤ S.write_faults shelf.new) }
     ensures cause { status result ≡ 5 → Rose (S.write_faults shelf.old) (S.write_faults shelf.new) }
-    ensures sure { (ws : Items (Items ℕ)) → IsReadDecompile ws d.now → S.IsSure shelf.old → ReadsAreTold (S.contents shelf.old) ws
-        → (S.read_faults shelf.new ≡ S.read_faults shelf.old) × (S.write_faults shelf.new ≡ S.write_faults shelf.old) }
+    ensures sure { (ws : Items (Items ℕ))
+        → IsReadDecompile ws d.now
+        → S.IsSure shelf.old
+        → ReadsAreTold (S.contents shelf.old) ws
+        → (S.read_faults shelf.new ≡ S.read_faults shelf.old)
+        × (S.write_faults shelf.new ≡ S.write_faults shelf.old) }
 {
     match load_image(alloc, shelf, d.elf) {
         Ok(image) => decompile_image(alloc, &image, d, shelf),
@@ -47,7 +56,9 @@ pub fn answer_decompile<S: Shelf>(alloc: Global, d: &Decompile<'_>, shelf: &mut 
 
 /// The answer where there is no image of the ELF file.
 fn not_loaded(fault: LoadFault) -> Answer
-    ensures answer { result ≡ not_loaded (Answer.Decompile DecompileAnswer.OverLimit) (λ why. Answer.Decompile (DecompileAnswer.Unreadable why)) fault }
+    ensures answer { result
+        ≡ not_loaded (Answer.Decompile DecompileAnswer.OverLimit)
+        (λ why. Answer.Decompile (DecompileAnswer.Unreadable why)) fault }
     ensures refused { status result ≡ 0 → ⊥ }
     ensures no_fault { status result ≡ 5 → ⊥ }
 {
@@ -66,14 +77,24 @@ fn decompile_image<S: Shelf>(
 ) -> Answer
     requires names { All IsName d.now.names }
     requires image { (file : Items ℕ) × IsLoaded file × (image.now ≡ image_of file) }
-    ensures gives { (file : Items ℕ) → IsLoaded file → image.now ≡ image_of file → FileGives d.now.form file d.now.names result }
+    ensures gives { (file : Items ℕ)
+        → IsLoaded file
+        → image.now ≡ image_of file
+        → FileGives d.now.form file d.now.names result }
 
-    ensures written { (file : Items ℕ) → IsLoaded file → image.now ≡ image_of file → IfSome (S.contents shelf.old) (λ files. files d.now.elf.now ≡ Some file)
-        → WhereTold (S.contents shelf.old) (S.contents shelf.new) (WritesOut (λ files. IsTextFor d.now.form files d.now.elf.now d.now.names) d.now.out.now result) }
+    ensures written { (file : Items ℕ)
+        → IsLoaded file
+        → image.now ≡ image_of file
+        → IfSome (S.contents shelf.old) (λ files. files d.now.elf.now ≡ Some file)
+        → WhereTold (S.contents shelf.old) (S.contents shelf.new)
+        (WritesOut (λ files. IsTextFor d.now.form files d.now.elf.now d.now.names) d.now.out.now
+        result) }
     ensures reads { S.read_faults shelf.new ≡ S.read_faults shelf.old }
     ensures counted { S.write_faults shelf.old ≤ S.write_faults shelf.new }
     ensures cause { status result ≡ 5 → Rose (S.write_faults shelf.old) (S.write_faults shelf.new) }
-    ensures sure { S.IsSure shelf.old → IsTold (S.contents shelf.old) → S.write_faults shelf.new ≡ S.write_faults shelf.old }
+    ensures sure { S.IsSure shelf.old
+        → IsTold (S.contents shelf.old)
+        → S.write_faults shelf.new ≡ S.write_faults shelf.old }
 {
     match proof_of_names(alloc, image, d) {
         Ok(proof) => write_proof(alloc, &proof, d, shelf),
@@ -84,12 +105,19 @@ fn decompile_image<S: Shelf>(
     }
 }
 
-/// The items of the names: of each function by itself, with those that it calls, or with a memory for its stack.
+/// The items of the names: of each function by itself, with those that it calls, or with a memory
+/// for its stack.
 fn proof_of_names(alloc: Global, image: &Image, d: &Decompile<'_>) -> Result<Proof, LinkFault>
     requires names { All IsName d.now.names }
-    ensures items { (file : Items ℕ) → image.now ≡ image_of file → IfOk result (AreItemsIn d.now.form file d.now.names) }
-    ensures refused { (file : Items ℕ) → image.now ≡ image_of file → IfErr result (IsNoProofIn d.now.form file d.now.names) }
-    ensures text { (file : Items ℕ) → image.now ≡ image_of file → IfOk result (λ proof. AreProofsIn (version_in d.now.form) (proofs_of proof)) }
+    ensures items { (file : Items ℕ)
+        → image.now ≡ image_of file
+        → IfOk result (AreItemsIn d.now.form file d.now.names) }
+    ensures refused { (file : Items ℕ)
+        → image.now ≡ image_of file
+        → IfErr result (IsNoProofIn d.now.form file d.now.names) }
+    ensures text { (file : Items ℕ)
+        → image.now ≡ image_of file
+        → IfOk result (λ proof. AreProofsIn (version_in d.now.form) (proofs_of proof)) }
 {
     law_of_items();
     law_of_linked_items();
@@ -123,7 +151,10 @@ fn link_fault(fault: DecompileFault) -> LinkFault
 /// The answer where the name of that number has this fault.
 fn refuse(alloc: Global, form: Form, names: &[Text], number: u64, why: LinkWhy) -> Answer
     requires { number < length names.now }
-    ensures gives { (file : Items ℕ) → IsLoaded file → IsRefusedIn form file names.now number why → FileGives form file names.now result }
+    ensures gives { (file : Items ℕ)
+        → IsLoaded file
+        → IsRefusedIn form file names.now number why
+        → FileGives form file names.now result }
     ensures refused { status result ≡ 0 → ⊥ }
     ensures no_fault { status result ≡ 5 → ⊥ }
 {
@@ -136,14 +167,24 @@ fn refuse(alloc: Global, form: Form, names: &[Text], number: u64, why: LinkWhy) 
 /// Writes the text of a proof into the output file. All that takes memory is made before that.
 fn write_proof<S: Shelf>(alloc: Global, proof: &Proof, d: &Decompile<'_>, shelf: &mut S) -> Answer
     requires { AreProofsIn (version_in d.now.form) (proofs_of proof.now) }
-    ensures gives { (file : Items ℕ) → IsLoaded file → AreItemsIn d.now.form file d.now.names proof.now → FileGives d.now.form file d.now.names result }
+    ensures gives { (file : Items ℕ)
+        → IsLoaded file
+        → AreItemsIn d.now.form file d.now.names proof.now
+        → FileGives d.now.form file d.now.names result }
 
-    ensures written { (file : Items ℕ) → IsLoaded file → AreItemsIn d.now.form file d.now.names proof.now → IfSome (S.contents shelf.old) (λ files. files d.now.elf.now ≡ Some file)
-        → WhereTold (S.contents shelf.old) (S.contents shelf.new) (WritesOut (λ files. IsTextFor d.now.form files d.now.elf.now d.now.names) d.now.out.now result) }
+    ensures written { (file : Items ℕ)
+        → IsLoaded file
+        → AreItemsIn d.now.form file d.now.names proof.now
+        → IfSome (S.contents shelf.old) (λ files. files d.now.elf.now ≡ Some file)
+        → WhereTold (S.contents shelf.old) (S.contents shelf.new)
+        (WritesOut (λ files. IsTextFor d.now.form files d.now.elf.now d.now.names) d.now.out.now
+        result) }
     ensures reads { S.read_faults shelf.new ≡ S.read_faults shelf.old }
     ensures counted { S.write_faults shelf.old ≤ S.write_faults shelf.new }
     ensures cause { status result ≡ 5 → Rose (S.write_faults shelf.old) (S.write_faults shelf.new) }
-    ensures sure { S.IsSure shelf.old → IsTold (S.contents shelf.old) → S.write_faults shelf.new ≡ S.write_faults shelf.old }
+    ensures sure { S.IsSure shelf.old
+        → IsTold (S.contents shelf.old)
+        → S.write_faults shelf.new ≡ S.write_faults shelf.old }
 {
     let Ok(listed) = list_all(alloc, d.names.as_slice(), proof.items.as_slice()) else {
         return Answer::NoMemory;
@@ -158,7 +199,8 @@ fn write_proof<S: Shelf>(alloc: Global, proof: &Proof, d: &Decompile<'_>, shelf:
 /// The text of a proof, in the version of its form.
 fn text_of_proof(alloc: Global, form: Form, proof: &Proof) -> Result<Bytes, NoMemory>
     requires { AreProofsIn (version_in form) (proofs_of proof.now) }
-    ensures { IfOk result (λ text. text ≡ text_of_proofs_in (version_in form) (proofs_of proof.now)) }
+    ensures { IfOk result (λ text.
+        text ≡ text_of_proofs_in (version_in form) (proofs_of proof.now)) }
 {
     match form {
         Form::Alone => proof_bytes(alloc, proof),

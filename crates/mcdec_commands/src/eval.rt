@@ -25,13 +25,20 @@ use tailrec_lang::{Args, Group, Outcome, eval};
 pub fn answer_eval<S: Shelf>(alloc: Global, e: &Eval<'_>, shelf: &mut S) -> Answer
     requires memory { All IsMemory e.now.memory }
     requires stack { All IsMemory e.now.stack }
-    ensures gives { (ws : List (List ℕ)) → IsReadEval ws e.now
-        → Gives (S.contents shelf.old) ws (Rose (S.read_faults shelf.old) (S.read_faults shelf.new)) (Rose (S.write_faults shelf.old) (S.write_faults shelf.new)) result }
+    ensures gives { (ws : List (List ℕ))
+        → IsReadEval ws e.now
+        → Gives (S.contents shelf.old) ws (Rose (S.read_faults shelf.old) (S.read_faults shelf.new))
+        (Rose (S.write_faults shelf.old) (S.write_faults shelf.new)) result }
 
     ensures kept { S.contents shelf.new ≡ S.contents shelf.old }
-    ensures counted { (S.read_faults shelf.old ≤ S.read_faults shelf.new) × (S.write_faults shelf.old ≤ S.write_faults shelf.new) }
-    ensures sure { (ws : List (List ℕ)) → IsReadEval ws e.now → S.IsSure shelf.old → ReadsAreTold (S.contents shelf.old) ws
-        → (S.read_faults shelf.new ≡ S.read_faults shelf.old) × (S.write_faults shelf.new ≡ S.write_faults shelf.old) }
+    ensures counted { (S.read_faults shelf.old ≤ S.read_faults shelf.new)
+        × (S.write_faults shelf.old ≤ S.write_faults shelf.new) }
+    ensures sure { (ws : List (List ℕ))
+        → IsReadEval ws e.now
+        → S.IsSure shelf.old
+        → ReadsAreTold (S.contents shelf.old) ws
+        → (S.read_faults shelf.new ≡ S.read_faults shelf.old)
+        × (S.write_faults shelf.new ≡ S.write_faults shelf.old) }
 {
     let text = match read_file(alloc, shelf, e.proof, PROOF_LIMIT) {
         Ok(text) => text,
@@ -48,7 +55,9 @@ fn evaluate_text(alloc: Global, text: &[u8], e: &Eval<'_>) -> Result<EvalAnswer,
     requires memory { All IsMemory e.now.memory }
     requires stack { All IsMemory e.now.stack }
     requires within { length text.now ≤ proof_limit }
-    ensures { (args : List Arg) → AreArgs args → HoldsArgs args e.now.given.values e.now.memory e.now.stack
+    ensures { (args : List Arg)
+        → AreArgs args
+        → HoldsArgs args e.now.given.values e.now.memory e.now.stack
         → IfOk result (λ a. EvalGives text.now e.now.name.now e.now.turns args a) }
 {
     match find_group(alloc, text, e.name) {

@@ -28,13 +28,20 @@ use tailrec_lang::Group;
 
 /// The answer to `laws`.
 pub fn answer_laws<S: Shelf>(alloc: Global, l: &Laws<'_>, shelf: &mut S) -> Answer
-    ensures gives { (ws : Items (Items ℕ)) → IsReadLaws ws l.now
-        → Gives (S.contents shelf.old) ws (Rose (S.read_faults shelf.old) (S.read_faults shelf.new)) (Rose (S.write_faults shelf.old) (S.write_faults shelf.new)) result }
+    ensures gives { (ws : Items (Items ℕ))
+        → IsReadLaws ws l.now
+        → Gives (S.contents shelf.old) ws (Rose (S.read_faults shelf.old) (S.read_faults shelf.new))
+        (Rose (S.write_faults shelf.old) (S.write_faults shelf.new)) result }
 
     ensures kept { S.contents shelf.new ≡ S.contents shelf.old }
-    ensures counted { (S.read_faults shelf.old ≤ S.read_faults shelf.new) × (S.write_faults shelf.old ≤ S.write_faults shelf.new) }
-    ensures sure { (ws : Items (Items ℕ)) → IsReadLaws ws l.now → S.IsSure shelf.old → ReadsAreTold (S.contents shelf.old) ws
-        → (S.read_faults shelf.new ≡ S.read_faults shelf.old) × (S.write_faults shelf.new ≡ S.write_faults shelf.old) }
+    ensures counted { (S.read_faults shelf.old ≤ S.read_faults shelf.new)
+        × (S.write_faults shelf.old ≤ S.write_faults shelf.new) }
+    ensures sure { (ws : Items (Items ℕ))
+        → IsReadLaws ws l.now
+        → S.IsSure shelf.old
+        → ReadsAreTold (S.contents shelf.old) ws
+        → (S.read_faults shelf.new ≡ S.read_faults shelf.old)
+        × (S.write_faults shelf.new ≡ S.write_faults shelf.old) }
 {
     let file = match read_file(alloc, shelf, l.proof, PROOF_LIMIT) {
         Ok(file) => file,
@@ -46,12 +53,18 @@ pub fn answer_laws<S: Shelf>(alloc: Global, l: &Laws<'_>, shelf: &mut S) -> Answ
 /// The answer to `laws` where the proof file has this text.
 fn judge_file<S: Shelf>(alloc: Global, file: &[u8], l: &Laws<'_>, shelf: &mut S) -> Answer
     requires { length file.now ≤ proof_limit }
-    ensures gives { CertGives (S.contents shelf.old) l.now.cert.now file.now (Rose (S.read_faults shelf.old) (S.read_faults shelf.new)) result }
+    ensures gives { CertGives (S.contents shelf.old) l.now.cert.now file.now
+        (Rose (S.read_faults shelf.old) (S.read_faults shelf.new)) result }
 
     ensures kept { S.contents shelf.new ≡ S.contents shelf.old }
-    ensures counted { (S.read_faults shelf.old ≤ S.read_faults shelf.new) × (S.write_faults shelf.old ≤ S.write_faults shelf.new) }
-    ensures sure { (ws : Items (Items ℕ)) → IsReadLaws ws l.now → S.IsSure shelf.old → ReadsAreTold (S.contents shelf.old) ws
-        → (S.read_faults shelf.new ≡ S.read_faults shelf.old) × (S.write_faults shelf.new ≡ S.write_faults shelf.old) }
+    ensures counted { (S.read_faults shelf.old ≤ S.read_faults shelf.new)
+        × (S.write_faults shelf.old ≤ S.write_faults shelf.new) }
+    ensures sure { (ws : Items (Items ℕ))
+        → IsReadLaws ws l.now
+        → S.IsSure shelf.old
+        → ReadsAreTold (S.contents shelf.old) ws
+        → (S.read_faults shelf.new ≡ S.read_faults shelf.old)
+        × (S.write_faults shelf.new ≡ S.write_faults shelf.old) }
 {
     let text = match read_file(alloc, shelf, l.cert, CERT_LIMIT) {
         Ok(text) => text,
@@ -63,8 +76,8 @@ fn judge_file<S: Shelf>(alloc: Global, file: &[u8], l: &Laws<'_>, shelf: &mut S)
     }
 }
 
-/// The answer where the one file has this text of proofs and the other this text. The faults of the first are told
-/// before those of the second, and both before what the certificate says.
+/// The answer where the one file has this text of proofs and the other this text. The faults of the
+/// first are told before those of the second, and both before what the certificate says.
 fn judge_texts(alloc: Global, file: &[u8], text: &[u8]) -> Result<LawsAnswer, NoMemory>
     ensures { IfOk result (λ a. TextsGive file.now text.now a) }
 {
@@ -77,7 +90,9 @@ fn judge_texts(alloc: Global, file: &[u8], text: &[u8]) -> Result<LawsAnswer, No
 
 /// The answer where the second file is no certificate, from this line on.
 fn unreadable(alloc: Global, file: &[u8], line: u64) -> Result<LawsAnswer, NoMemory>
-    ensures { (text : Items ℕ) → IsBadAt cert_texts text line → IfOk result (λ a. TextsGive file.now text a) }
+    ensures { (text : Items ℕ)
+        → IsBadAt cert_texts text line
+        → IfOk result (λ a. TextsGive file.now text a) }
 {
     match find_group(alloc, file, b"") {
         Ok(_) => Ok(LawsAnswer::UnreadableCert(line)),
@@ -91,7 +106,9 @@ fn unreadable(alloc: Global, file: &[u8], line: u64) -> Result<LawsAnswer, NoMem
 /// The answer where the second file is this certificate.
 fn judge(alloc: Global, file: &[u8], cert: &Cert) -> Result<LawsAnswer, NoMemory>
     requires { IsCert (cert_tree cert.now) }
-    ensures { (text : Items ℕ) → text ≡ cert_text (cert_tree cert.now) → IfOk result (λ a. TextsGive file.now text a) }
+    ensures { (text : Items ℕ)
+        → text ≡ cert_text (cert_tree cert.now)
+        → IfOk result (λ a. TextsGive file.now text a) }
 {
     match find_group(alloc, file, cert.old.name.as_slice()) {
         Ok(g) => judge_of(alloc, &g, cert),
@@ -105,7 +122,9 @@ fn judge(alloc: Global, file: &[u8], cert: &Cert) -> Result<LawsAnswer, NoMemory
 /// The answer where this is the group of the certificate's name.
 fn judge_of(alloc: Global, g: &Group, cert: &Cert) -> Result<LawsAnswer, NoMemory>
     requires { IsCert (cert_tree cert.now) }
-    ensures { (file text : Items ℕ) → text ≡ cert_text (cert_tree cert.now) → IsNamed file (cert_tree cert.now).old.name (Some (group_tree g.now))
+    ensures { (file text : Items ℕ)
+        → text ≡ cert_text (cert_tree cert.now)
+        → IsNamed file (cert_tree cert.now).old.name (Some (group_tree g.now))
         → IfOk result (λ a. TextsGive file text a) }
 {
     match judge_cert(alloc, g, cert) {
@@ -120,7 +139,8 @@ fn judge_of(alloc: Global, g: &Group, cert: &Cert) -> Result<LawsAnswer, NoMemor
     }
 }
 
-/// The line of a step in a certificate of this group: behind the line of the title and those of the group.
+/// The line of a step in a certificate of this group: behind the line of the title and those of the
+/// group.
 fn step_line(alloc: Global, old: &Group, step: u32) -> Result<u64, NoMemory>
     ensures { IfOk result (λ line. line ≡ step_line (group_tree old.now) step) }
 {

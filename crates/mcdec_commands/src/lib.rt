@@ -1,16 +1,19 @@
-//! The commands of a decompiler from RISC-V machine code into logic, over a shelf of files and a sink.
+//! The commands of a decompiler from RISC-V machine code into logic, over a shelf of files and a
+//! sink.
 //!
-//! `run_words(alloc, &words, &mut shelf, &mut out)` does what the words of a command line say, prints the lines of the
-//! answer into the sink, and gives its exit status. Each command has a file, with one call that reads what the command
-//! needs and makes an `Answer`: `answer_eval`, `answer_run` and so on. `decompile`, `simplify`, `smt` and `migrate` write a
-//! file, only after all that can be refused was tried, by `output::write_answer`.
+//! `run_words(alloc, &words, &mut shelf, &mut out)` does what the words of a command line say,
+//! prints the lines of the answer into the sink, and gives its exit status. Each command has a
+//! file, with one call that reads what the command needs and makes an `Answer`: `answer_eval`,
+//! `answer_run` and so on. `decompile`, `simplify`, `smt` and `migrate` write a file, only after
+//! all that can be refused was tried, by `output::write_answer`.
 //!
-//! A `Shelf` is files by name and a `Sink` the output, both traits of mc_shelf, so that proofs and tests run the same code
-//! as the program does, over files in memory.
+//! A `Shelf` is files by name and a `Sink` the output, both traits of mc_shelf, so that proofs and
+//! tests run the same code as the program does, over files in memory.
 //!
-//! The promises to a user are the clauses of `run_words`: `lines`, that the answer is one which the definitions give to
-//! words and files; `exact`, that it comes but for faults of the outside and want of memory; `headline`, that status 0 of
-//! `check` makes the functions right of the ELF file; `written` and `kept`, what names hold afterwards.
+//! The promises to a user are the clauses of `run_words`: `lines`, that the answer is one which the
+//! definitions give to words and files; `exact`, that it comes but for faults of the outside and
+//! want of memory; `headline`, that status 0 of `check` makes the functions right of the ELF file;
+//! `written` and `kept`, what names hold afterwards.
 #![tactic(auto)]
 
 mod check;

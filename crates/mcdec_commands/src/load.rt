@@ -21,7 +21,7 @@ pub const PROOF_LIMIT: u64 = 268_435_456;
 pub const CERT_LIMIT: u64 = 268_435_456;
 
 /// Why there is no image of an ELF file.
-#[derive(Clone, Copy, Debug)]
+#[derive(Clone, Copy)]
 pub enum LoadFault {
     /// The file wasn't read, or there was no memory.
     Unread(ReadEnd),
@@ -33,13 +33,17 @@ pub enum LoadFault {
 pub fn load_image<S: Shelf>(alloc: Global, shelf: &mut S, elf: &str) -> Result<Image, LoadFault>
     // It is that of what the name holds, where that is told.
     ensures image { IfOk result (IsImageIn (S.contents shelf.old) elf.now) }
-    ensures fault { IfErr result (IsNotLoaded (S.contents shelf.old) elf.now (Rose (S.read_faults shelf.old) (S.read_faults shelf.new))) }
+    ensures fault { IfErr result (IsNotLoaded (S.contents shelf.old) elf.now
+        (Rose (S.read_faults shelf.old) (S.read_faults shelf.new))) }
 
     ensures kept { S.contents shelf.new ≡ S.contents shelf.old }
-    ensures counted { (S.read_faults shelf.old ≤ S.read_faults shelf.new) × (S.write_faults shelf.old ≤ S.write_faults shelf.new) }
+    ensures counted { (S.read_faults shelf.old ≤ S.read_faults shelf.new)
+        × (S.write_faults shelf.old ≤ S.write_faults shelf.new) }
     ensures stays_sure { S.IsSure shelf.old → S.IsSure shelf.new }
-    ensures sure { S.IsSure shelf.old → TellsName (S.contents shelf.old) elf.now
-        → (S.read_faults shelf.new ≡ S.read_faults shelf.old) × (S.write_faults shelf.new ≡ S.write_faults shelf.old) }
+    ensures sure { S.IsSure shelf.old
+        → TellsName (S.contents shelf.old) elf.now
+        → (S.read_faults shelf.new ≡ S.read_faults shelf.old)
+        × (S.write_faults shelf.new ≡ S.write_faults shelf.old) }
 {
     let file = match read_file(alloc, shelf, elf, ELF_LIMIT) {
         Ok(file) => file,

@@ -32,8 +32,8 @@ pub fn memories(
     Ok(list)
 }
 
-/// A memory with the ranges' bytes alone, one range put over the other. They are put there by address first, so that none
-/// is put in front of another.
+/// A memory with the ranges' bytes alone, one range put over the other. They are put there by
+/// address first, so that none is put in front of another.
 fn memory_of(alloc: Global, ranges: &[Range]) -> Result<ByteMap, NoMemory>
     requires { All IsMemory ranges.now }
     ensures { IfOk result (λ memory. get memory ≡ placed ranges.now (λ a. None)) }
@@ -44,10 +44,12 @@ fn memory_of(alloc: Global, ranges: &[Range]) -> Result<ByteMap, NoMemory>
     Ok(memory)
 }
 
-/// Puts the ranges into memory by address. Where each is put over them afterwards, that makes no difference.
+/// Puts the ranges into memory by address. Where each is put over them afterwards, that makes no
+/// difference.
 fn place_rising(alloc: Global, memory: &mut ByteMap, ranges: &[Range]) -> Result<(), NoMemory>
     requires { All IsMemory ranges.now }
-    ensures { OnOk result (placed ranges.now (get memory.new) ≡ placed ranges.now (get memory.old)) }
+    ensures { OnOk result (placed ranges.now (get memory.new)
+        ≡ placed ranges.now (get memory.old)) }
 {
     let starts = starts_by_address(alloc, ranges)?;
     for start in &starts {
@@ -69,7 +71,8 @@ fn place_each(memory: &mut ByteMap, ranges: &[Range]) -> Result<(), NoMemory>
     Ok(())
 }
 
-/// The ranges with the bytes that the memory of that number has there now; none where there is no such memory.
+/// The ranges with the bytes that the memory of that number has there now; none where there is no
+/// such memory.
 pub fn ranges_in(
     alloc: Global,
     memories: &[ByteMap],
@@ -77,7 +80,8 @@ pub fn ranges_in(
     ranges: &[Range],
 ) -> Result<List<Range>, NoMemory>
     requires { All IsMemory ranges.now }
-    ensures { IfOk result (λ now. now ≡ ranges_in (slice_get (map get memories.now) number) ranges.now) }
+    ensures { IfOk result (λ now.
+        now ≡ ranges_in (slice_get (map get memories.now) number) ranges.now) }
 {
     match memories.get(number) {
         Some(memory) => ranges_now(alloc, memory, ranges),

@@ -26,14 +26,23 @@ use std::alloc::Global;
 
 /// The answer to `migrate`.
 pub fn answer_migrate<S: Shelf>(alloc: Global, m: &Migrate<'_>, shelf: &mut S) -> Answer
-    ensures gives { (ws : Items (Items ℕ)) → IsReadMigrate ws m.now
-        → Gives (S.contents shelf.old) ws (Rose (S.read_faults shelf.old) (S.read_faults shelf.new)) (Rose (S.write_faults shelf.old) (S.write_faults shelf.new)) result }
+    ensures gives { (ws : Items (Items ℕ))
+        → IsReadMigrate ws m.now
+        → Gives (S.contents shelf.old) ws (Rose (S.read_faults shelf.old) (S.read_faults shelf.new))
+        (Rose (S.write_faults shelf.old) (S.write_faults shelf.new)) result }
 
-    ensures written { WhereTold (S.contents shelf.old) (S.contents shelf.new) (WritesOut (λ files. IsMigrationFor files m.now.elf.now m.now.proof.now) m.now.out.now result) }
-    ensures counted { (S.read_faults shelf.old ≤ S.read_faults shelf.new) × (S.write_faults shelf.old ≤ S.write_faults shelf.new) }
+    ensures written { WhereTold (S.contents shelf.old) (S.contents shelf.new)
+        (WritesOut (λ files. IsMigrationFor files m.now.elf.now m.now.proof.now) m.now.out.now
+        result) }
+    ensures counted { (S.read_faults shelf.old ≤ S.read_faults shelf.new)
+        × (S.write_faults shelf.old ≤ S.write_faults shelf.new) }
     ensures cause { status result ≡ 5 → Rose (S.write_faults shelf.old) (S.write_faults shelf.new) }
-    ensures sure { (ws : Items (Items ℕ)) → IsReadMigrate ws m.now → S.IsSure shelf.old → ReadsAreTold (S.contents shelf.old) ws
-        → (S.read_faults shelf.new ≡ S.read_faults shelf.old) × (S.write_faults shelf.new ≡ S.write_faults shelf.old) }
+    ensures sure { (ws : Items (Items ℕ))
+        → IsReadMigrate ws m.now
+        → S.IsSure shelf.old
+        → ReadsAreTold (S.contents shelf.old) ws
+        → (S.read_faults shelf.new ≡ S.read_faults shelf.old)
+        × (S.write_faults shelf.new ≡ S.write_faults shelf.old) }
 {
     match load_image(alloc, shelf, m.elf) {
         Ok(image) => migrate_text(alloc, &image, m, shelf),
@@ -43,7 +52,9 @@ pub fn answer_migrate<S: Shelf>(alloc: Global, m: &Migrate<'_>, shelf: &mut S) -
 
 /// The answer where there is no image of the ELF file.
 fn not_loaded(fault: LoadFault) -> Answer
-    ensures answer { result ≡ not_loaded (Answer.Migrate MigrateAnswer.ElfOverLimit) (λ why. Answer.Migrate (MigrateAnswer.Refused (Verdict.BadElf why))) fault }
+    ensures answer { result
+        ≡ not_loaded (Answer.Migrate MigrateAnswer.ElfOverLimit)
+        (λ why. Answer.Migrate (MigrateAnswer.Refused (Verdict.BadElf why))) fault }
     ensures refused { status result ≡ 0 → ⊥ }
     ensures no_fault { status result ≡ 5 → ⊥ }
 {
@@ -53,18 +64,32 @@ fn not_loaded(fault: LoadFault) -> Answer
     }
 }
 
-/// The answer to `migrate` where this is the image of the ELF file. All that takes memory is made before the text is written.
+/// The answer to `migrate` where this is the image of the ELF file. All that takes memory is made
+/// before the text is written.
 fn migrate_text<S: Shelf>(alloc: Global, image: &Image, m: &Migrate<'_>, shelf: &mut S) -> Answer
     requires image { (file : Items ℕ) × IsReadable file × (image.now ≡ image_of file) }
-    ensures gives { (file : Items ℕ) → IsLoaded file → image.now ≡ image_of file
-        → FileMigrates (S.contents shelf.old) m.now.proof.now file (Rose (S.read_faults shelf.old) (S.read_faults shelf.new)) result }
+    ensures gives { (file : Items ℕ)
+        → IsLoaded file
+        → image.now ≡ image_of file
+        → FileMigrates (S.contents shelf.old) m.now.proof.now file
+        (Rose (S.read_faults shelf.old) (S.read_faults shelf.new)) result }
 
-    ensures written { (file : Items ℕ) → IsLoaded file → image.now ≡ image_of file → IfSome (S.contents shelf.old) (λ files. files m.now.elf.now ≡ Some file)
-        → WhereTold (S.contents shelf.old) (S.contents shelf.new) (WritesOut (λ files. IsMigrationFor files m.now.elf.now m.now.proof.now) m.now.out.now result) }
-    ensures counted { (S.read_faults shelf.old ≤ S.read_faults shelf.new) × (S.write_faults shelf.old ≤ S.write_faults shelf.new) }
+    ensures written { (file : Items ℕ)
+        → IsLoaded file
+        → image.now ≡ image_of file
+        → IfSome (S.contents shelf.old) (λ files. files m.now.elf.now ≡ Some file)
+        → WhereTold (S.contents shelf.old) (S.contents shelf.new)
+        (WritesOut (λ files. IsMigrationFor files m.now.elf.now m.now.proof.now) m.now.out.now
+        result) }
+    ensures counted { (S.read_faults shelf.old ≤ S.read_faults shelf.new)
+        × (S.write_faults shelf.old ≤ S.write_faults shelf.new) }
     ensures cause { status result ≡ 5 → Rose (S.write_faults shelf.old) (S.write_faults shelf.new) }
-    ensures sure { (ws : Items (Items ℕ)) → IsReadMigrate ws m.now → S.IsSure shelf.old → ReadsAreTold (S.contents shelf.old) ws
-        → (S.read_faults shelf.new ≡ S.read_faults shelf.old) × (S.write_faults shelf.new ≡ S.write_faults shelf.old) }
+    ensures sure { (ws : Items (Items ℕ))
+        → IsReadMigrate ws m.now
+        → S.IsSure shelf.old
+        → ReadsAreTold (S.contents shelf.old) ws
+        → (S.read_faults shelf.new ≡ S.read_faults shelf.old)
+        × (S.write_faults shelf.new ≡ S.write_faults shelf.old) }
 {
     let text = match read_file(alloc, shelf, m.proof, PROOF_LIMIT) {
         Ok(text) => text,

@@ -9,16 +9,20 @@ ghost use Rattle.mcdec_commands.specs.inner.Writing.{AddsText, IsTold, ToldOrFau
 use mc_shelf::{Shelf, Stop};
 use mcdec_answers::Answer;
 
-/// Makes the name hold the text and nothing else. The answer is the one that tells of that, or why it failed.
+/// Makes the name hold the text and nothing else. The answer is the one that tells of that, or why
+/// it failed.
 pub fn write_answer<S: Shelf>(shelf: &mut S, name: &str, text: &[u8], told: Answer) -> Answer
     requires { status told ≡ 0 }
     ensures answer { ToldOrFault told result }
 
-    ensures written { WhereTold (S.contents shelf.old) (S.contents shelf.new) (WritesOut (λ files t. t ≡ text.now) name.now result) }
+    ensures written { WhereTold (S.contents shelf.old) (S.contents shelf.new)
+        (WritesOut (λ files b t. (b ≡ told) × (t ≡ text.now)) name.now result) }
     ensures reads { S.read_faults shelf.new ≡ S.read_faults shelf.old }
     ensures counted { S.write_faults shelf.old ≤ S.write_faults shelf.new }
     ensures cause { status result ≡ 5 → Rose (S.write_faults shelf.old) (S.write_faults shelf.new) }
-    ensures sure { S.IsSure shelf.old → IsTold (S.contents shelf.old) → S.write_faults shelf.new ≡ S.write_faults shelf.old }
+    ensures sure { S.IsSure shelf.old
+        → IsTold (S.contents shelf.old)
+        → S.write_faults shelf.new ≡ S.write_faults shelf.old }
 {
     match write_text(shelf, name, text) {
         Ok(()) => told,
@@ -29,12 +33,16 @@ pub fn write_answer<S: Shelf>(shelf: &mut S, name: &str, text: &[u8], told: Answ
 
 /// Makes the name hold the text and nothing else.
 fn write_text<S: Shelf>(shelf: &mut S, name: &str, text: &[u8]) -> Result<(), Stop>
-    ensures written { WhereTold (S.contents shelf.old) (S.contents shelf.new) (Writes result name.now text.now) }
+    ensures written { WhereTold (S.contents shelf.old) (S.contents shelf.new)
+        (Writes result name.now text.now) }
 
     ensures reads { S.read_faults shelf.new ≡ S.read_faults shelf.old }
     ensures counted { S.write_faults shelf.old ≤ S.write_faults shelf.new }
-    ensures cause { IsErrOf result Stop.Failed → Rose (S.write_faults shelf.old) (S.write_faults shelf.new) }
-    ensures sure { S.IsSure shelf.old → IsTold (S.contents shelf.old) → S.write_faults shelf.new ≡ S.write_faults shelf.old }
+    ensures cause { IsErrOf result Stop.Failed
+        → Rose (S.write_faults shelf.old) (S.write_faults shelf.new) }
+    ensures sure { S.IsSure shelf.old
+        → IsTold (S.contents shelf.old)
+        → S.write_faults shelf.new ≡ S.write_faults shelf.old }
 {
     shelf.create(name)?;
     append_lines(shelf, name, text)
@@ -42,12 +50,16 @@ fn write_text<S: Shelf>(shelf: &mut S, name: &str, text: &[u8]) -> Result<(), St
 
 /// Adds the text to what the name holds, which is there.
 fn append_lines<S: Shelf>(shelf: &mut S, name: &str, text: &[u8]) -> Result<(), Stop>
-    ensures added { WhereTold (S.contents shelf.old) (S.contents shelf.new) (AddsText result name.now text.now) }
+    ensures added { WhereTold (S.contents shelf.old) (S.contents shelf.new)
+        (AddsText result name.now text.now) }
 
     ensures reads { S.read_faults shelf.new ≡ S.read_faults shelf.old }
     ensures counted { S.write_faults shelf.old ≤ S.write_faults shelf.new }
-    ensures cause { IsErrOf result Stop.Failed → Rose (S.write_faults shelf.old) (S.write_faults shelf.new) }
-    ensures sure { S.IsSure shelf.old → TellsName (S.contents shelf.old) name.now → S.write_faults shelf.new ≡ S.write_faults shelf.old }
+    ensures cause { IsErrOf result Stop.Failed
+        → Rose (S.write_faults shelf.old) (S.write_faults shelf.new) }
+    ensures sure { S.IsSure shelf.old
+        → TellsName (S.contents shelf.old) name.now
+        → S.write_faults shelf.new ≡ S.write_faults shelf.old }
 {
     let mut rest = text;
     while !rest.is_empty() {

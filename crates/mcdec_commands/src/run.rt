@@ -27,13 +27,20 @@ use std::alloc::Global;
 /// The answer to `run`.
 pub fn answer_run<S: Shelf>(alloc: Global, r: &Run<'_>, shelf: &mut S) -> Answer
     requires { All IsMemory r.now.memory }
-    ensures gives { (ws : List (List ℕ)) → IsReadRun ws r.now
-        → Gives (S.contents shelf.old) ws (Rose (S.read_faults shelf.old) (S.read_faults shelf.new)) (Rose (S.write_faults shelf.old) (S.write_faults shelf.new)) result }
+    ensures gives { (ws : List (List ℕ))
+        → IsReadRun ws r.now
+        → Gives (S.contents shelf.old) ws (Rose (S.read_faults shelf.old) (S.read_faults shelf.new))
+        (Rose (S.write_faults shelf.old) (S.write_faults shelf.new)) result }
 
     ensures kept { S.contents shelf.new ≡ S.contents shelf.old }
-    ensures counted { (S.read_faults shelf.old ≤ S.read_faults shelf.new) × (S.write_faults shelf.old ≤ S.write_faults shelf.new) }
-    ensures sure { (ws : List (List ℕ)) → IsReadRun ws r.now → S.IsSure shelf.old → ReadsAreTold (S.contents shelf.old) ws
-        → (S.read_faults shelf.new ≡ S.read_faults shelf.old) × (S.write_faults shelf.new ≡ S.write_faults shelf.old) }
+    ensures counted { (S.read_faults shelf.old ≤ S.read_faults shelf.new)
+        × (S.write_faults shelf.old ≤ S.write_faults shelf.new) }
+    ensures sure { (ws : List (List ℕ))
+        → IsReadRun ws r.now
+        → S.IsSure shelf.old
+        → ReadsAreTold (S.contents shelf.old) ws
+        → (S.read_faults shelf.new ≡ S.read_faults shelf.old)
+        × (S.write_faults shelf.new ≡ S.write_faults shelf.old) }
 {
     let image = match load_image(alloc, shelf, r.elf) {
         Ok(image) => image,
@@ -47,7 +54,9 @@ pub fn answer_run<S: Shelf>(alloc: Global, r: &Run<'_>, shelf: &mut S) -> Answer
 
 /// The answer where there is no image of the ELF file.
 fn not_loaded(fault: LoadFault) -> Answer
-    ensures { result ≡ not_loaded (Answer.Run RunAnswer.OverLimit) (λ why. Answer.Run (RunAnswer.Unreadable why)) fault }
+    ensures { result
+        ≡ not_loaded (Answer.Run RunAnswer.OverLimit) (λ why. Answer.Run (RunAnswer.Unreadable why))
+        fault }
 {
     match fault {
         LoadFault::Unread(end) => not_read(end, Answer::Run(RunAnswer::OverLimit)),
@@ -58,7 +67,12 @@ fn not_loaded(fault: LoadFault) -> Answer
 /// The answer to `run` where this is the image of the ELF file.
 fn run_loaded(alloc: Global, image: Image, r: &Run<'_>) -> Result<RunAnswer, NoMemory>
     requires { All IsMemory r.now.memory }
-    ensures { (args : List Arg) → AreArgs args → HoldsArgs args r.now.given.values r.now.memory [] → (file : List ℕ) → IsLoaded file → image ≡ image_of file
+    ensures { (args : List Arg)
+        → AreArgs args
+        → HoldsArgs args r.now.given.values r.now.memory []
+        → (file : List ℕ)
+        → IsLoaded file
+        → image ≡ image_of file
         → IfOk result (λ a. RunGives file r.now.start.now r.now.until r.now.steps args a) }
 {
     match address_of(&image, r.start) {
@@ -73,8 +87,13 @@ fn run_loaded(alloc: Global, image: Image, r: &Run<'_>) -> Result<RunAnswer, NoM
 /// The answer to `run` from an address of this image. It is let go before the run.
 fn run_image(alloc: Global, image: Image, start: u64, r: &Run<'_>) -> Result<RunAnswer, NoMemory>
     requires { All IsMemory r.now.memory }
-    ensures { (args : List Arg) → AreArgs args → HoldsArgs args r.now.given.values r.now.memory [] → (file : List ℕ) → image ≡ image_of file
-        → IfOk result (λ a. MachineGives r.now.until r.now.steps args (state_given file args start) a) }
+    ensures { (args : List Arg)
+        → AreArgs args
+        → HoldsArgs args r.now.given.values r.now.memory []
+        → (file : List ℕ)
+        → image ≡ image_of file
+        → IfOk result (λ a.
+        MachineGives r.now.until r.now.steps args (state_given file args start) a) }
 {
     law_of_image(&image);
     let mut state = State::new(alloc, start);
@@ -96,7 +115,8 @@ fn run_image(alloc: Global, image: Image, start: u64, r: &Run<'_>) -> Result<Run
 /// Puts the pieces into memory, the last first.
 fn place_pieces(state: &mut State, pieces: &[Piece]) -> Result<(), NoMemory>
     requires { All IsPlaced pieces.now }
-    ensures { OnOk result (state_of state.new ≡ with_bytes (bytes_in pieces.now) (state_of state.old)) }
+    ensures { OnOk result (state_of state.new
+        ≡ with_bytes (bytes_in pieces.now) (state_of state.old)) }
 {
     let mut i = pieces.len();
     while i > 0 {
@@ -109,14 +129,15 @@ fn place_pieces(state: &mut State, pieces: &[Piece]) -> Result<(), NoMemory>
 /// Puts a piece into memory: zeros, and the file's bytes over them.
 fn place_piece(state: &mut State, piece: &Piece) -> Result<(), NoMemory>
     requires { IsPlaced piece.now }
-    ensures { OnOk result (state_of state.new ≡ with_bytes (bytes_from piece.now.at (padded piece.now)) (state_of state.old)) }
+    ensures { OnOk result (state_of state.new
+        ≡ with_bytes (bytes_from piece.now.at (padded piece.now)) (state_of state.old)) }
 {
     state.place_zeros(piece.at, piece.size)?;
     state.place(piece.at, piece.from.as_slice())
 }
 
-/// Puts the ranges into memory, one over the other. They are put there by address first, so that none is put in front of
-/// another.
+/// Puts the ranges into memory, one over the other. They are put there by address first, so that
+/// none is put in front of another.
 fn place_ranges(alloc: Global, state: &mut State, ranges: &[Range]) -> Result<(), NoMemory>
     requires { All IsMemory ranges.now }
     ensures { OnOk result (state_of state.new ≡ with_placed ranges.now (state_of state.old)) }
@@ -125,10 +146,12 @@ fn place_ranges(alloc: Global, state: &mut State, ranges: &[Range]) -> Result<()
     place_each(state, ranges)
 }
 
-/// Puts the ranges into memory by address. Where each is put over them afterwards, that makes no difference.
+/// Puts the ranges into memory by address. Where each is put over them afterwards, that makes no
+/// difference.
 fn place_rising(alloc: Global, state: &mut State, ranges: &[Range]) -> Result<(), NoMemory>
     requires { All IsMemory ranges.now }
-    ensures { OnOk result (with_placed ranges.now (state_of state.new) ≡ with_placed ranges.now (state_of state.old)) }
+    ensures { OnOk result (with_placed ranges.now (state_of state.new)
+        ≡ with_placed ranges.now (state_of state.old)) }
 {
     let starts = starts_by_address(alloc, ranges)?;
     for start in &starts {
@@ -152,7 +175,10 @@ fn place_each(state: &mut State, ranges: &[Range]) -> Result<(), NoMemory>
 
 /// Gives the registers their values.
 fn set_registers(state: &mut State, values: &Registers)
-    ensures { (given : List Given) → AreGiven given → Holds given values.now.values → (state_of state.old).reg ≡ (λ r. 0)
+    ensures { (given : List Given)
+        → AreGiven given
+        → Holds given values.now.values
+        → (state_of state.old).reg ≡ (λ r. 0)
         → state_of state.new ≡ record (state_of state.old) { reg = value_of given } }
 {
     for register in 1..32 {
@@ -160,7 +186,8 @@ fn set_registers(state: &mut State, values: &Registers)
     }
 }
 
-/// What is shown of a state after that many steps: the registers that were given a value or don't hold 0.
+/// What is shown of a state after that many steps: the registers that were given a value or don't
+/// hold 0.
 fn shown(
     alloc: Global,
     count: u64,

@@ -16,7 +16,7 @@ use tailrec_lang::{BadDef, Group, well_formed};
 use text_versions::reader_of;
 
 /// Why a text has no function of the name.
-#[derive(Clone, Copy, Debug, PartialEq, Eq)]
+#[derive(Clone, Copy, PartialEq, Eq)]
 pub enum Refusal {
     /// It isn't a proof file, from this line on.
     Text(u64),
@@ -28,7 +28,8 @@ pub enum Refusal {
     NoMemory,
 }
 
-/// The first group of that name. Each group of the text is read and judged, and the lines of its proof are read.
+/// The first group of that name. Each group of the text is read and judged, and the lines of its
+/// proof are read.
 pub fn find_group(alloc: Global, text: &[u8], name: &[u8]) -> Result<Group, Refusal>
     ensures { Finds text.now name.now result }
 {
@@ -58,7 +59,9 @@ fn find_in(alloc: Global, reader: &mut AnyReader<'_>, name: &[u8]) -> Result<Gro
 /// What is found of a name, with one more group.
 fn first_named(found: Option<Group>, next: Group, name: &[u8]) -> Option<Group>
     requires { HasFewNeeds (group_tree next) }
-    ensures { (gs : List GroupTree) → FoundSo name.now gs found → FoundSo name.now (gs ++ group_tree next ∷ []) result }
+    ensures { (gs : List GroupTree)
+        → FoundSo name.now gs found
+        → FoundSo name.now (gs ++ group_tree next ∷ []) result }
 {
     match found {
         Some(first) => Some(first),
@@ -72,7 +75,8 @@ fn first_named(found: Option<Group>, next: Group, name: &[u8]) -> Option<Group>
     }
 }
 
-/// The next group, if it is well-formed, with the lines of its proof passed over. Its number is told of one that isn't.
+/// The next group, if it is well-formed, with the lines of its proof passed over. Its number is
+/// told of one that isn't.
 fn next_group(
     alloc: Global,
     reader: &mut AnyReader<'_>,

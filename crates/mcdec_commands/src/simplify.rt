@@ -24,14 +24,22 @@ use tailrec_lang::Group;
 
 /// The answer to `simplify`.
 pub fn answer_simplify<S: Shelf>(alloc: Global, s: &Simplify<'_>, shelf: &mut S) -> Answer
-    ensures gives { (ws : Items (Items ℕ)) → IsReadSimplify ws s.now
-        → Gives (S.contents shelf.old) ws (Rose (S.read_faults shelf.old) (S.read_faults shelf.new)) (Rose (S.write_faults shelf.old) (S.write_faults shelf.new)) result }
+    ensures gives { (ws : Items (Items ℕ))
+        → IsReadSimplify ws s.now
+        → Gives (S.contents shelf.old) ws (Rose (S.read_faults shelf.old) (S.read_faults shelf.new))
+        (Rose (S.write_faults shelf.old) (S.write_faults shelf.new)) result }
 
-    ensures written { WhereTold (S.contents shelf.old) (S.contents shelf.new) (WritesOut (λ files. IsCertFor files s.now.proof.now s.now.name.now) s.now.out.now result) }
-    ensures counted { (S.read_faults shelf.old ≤ S.read_faults shelf.new) × (S.write_faults shelf.old ≤ S.write_faults shelf.new) }
+    ensures written { WhereTold (S.contents shelf.old) (S.contents shelf.new)
+        (WritesOut (λ files. IsCertFor files s.now.proof.now s.now.name.now) s.now.out.now result) }
+    ensures counted { (S.read_faults shelf.old ≤ S.read_faults shelf.new)
+        × (S.write_faults shelf.old ≤ S.write_faults shelf.new) }
     ensures cause { status result ≡ 5 → Rose (S.write_faults shelf.old) (S.write_faults shelf.new) }
-    ensures sure { (ws : Items (Items ℕ)) → IsReadSimplify ws s.now → S.IsSure shelf.old → ReadsAreTold (S.contents shelf.old) ws
-        → (S.read_faults shelf.new ≡ S.read_faults shelf.old) × (S.write_faults shelf.new ≡ S.write_faults shelf.old) }
+    ensures sure { (ws : Items (Items ℕ))
+        → IsReadSimplify ws s.now
+        → S.IsSure shelf.old
+        → ReadsAreTold (S.contents shelf.old) ws
+        → (S.read_faults shelf.new ≡ S.read_faults shelf.old)
+        × (S.write_faults shelf.new ≡ S.write_faults shelf.old) }
 {
     let text = match read_file(alloc, shelf, s.proof, PROOF_LIMIT) {
         Ok(text) => text,
@@ -45,7 +53,10 @@ pub fn answer_simplify<S: Shelf>(alloc: Global, s: &Simplify<'_>, shelf: &mut S)
 
 /// The answer where the proof file has no function to simplify.
 fn refuse(why: Refusal) -> Answer
-    ensures gives { (text name : Items ℕ) → length text ≤ proof_limit → Finds text name (Err why) → TextGives text name result }
+    ensures gives { (text name : Items ℕ)
+        → length text ≤ proof_limit
+        → Finds text name (Err why)
+        → TextGives text name result }
     ensures refused { status result ≡ 0 → ⊥ }
     ensures no_fault { status result ≡ 5 → ⊥ }
 {
@@ -60,17 +71,27 @@ fn refuse(why: Refusal) -> Answer
     }
 }
 
-/// Simplifies a group and writes its certificate into the output file. All that takes memory is made before that.
+/// Simplifies a group and writes its certificate into the output file. All that takes memory is
+/// made before that.
 fn simplify_group<S: Shelf>(alloc: Global, g: &Group, s: &Simplify<'_>, shelf: &mut S) -> Answer
     requires { HasText (group_tree g.now) }
-    ensures gives { (text name : Items ℕ) → length text ≤ proof_limit → IsNamed text name (Some (group_tree g.now)) → TextGives text name result }
+    ensures gives { (text name : Items ℕ)
+        → length text ≤ proof_limit
+        → IsNamed text name (Some (group_tree g.now))
+        → TextGives text name result }
 
-    ensures written { (text : Items ℕ) → length text ≤ proof_limit → IsNamed text s.now.name.now (Some (group_tree g.now)) → IfSome (S.contents shelf.old) (λ files. files s.now.proof.now ≡ Some text)
-        → WhereTold (S.contents shelf.old) (S.contents shelf.new) (WritesOut (λ files. IsCertFor files s.now.proof.now s.now.name.now) s.now.out.now result) }
+    ensures written { (text : Items ℕ)
+        → length text ≤ proof_limit
+        → IsNamed text s.now.name.now (Some (group_tree g.now))
+        → IfSome (S.contents shelf.old) (λ files. files s.now.proof.now ≡ Some text)
+        → WhereTold (S.contents shelf.old) (S.contents shelf.new)
+        (WritesOut (λ files. IsCertFor files s.now.proof.now s.now.name.now) s.now.out.now result) }
     ensures reads { S.read_faults shelf.new ≡ S.read_faults shelf.old }
     ensures counted { S.write_faults shelf.old ≤ S.write_faults shelf.new }
     ensures cause { status result ≡ 5 → Rose (S.write_faults shelf.old) (S.write_faults shelf.new) }
-    ensures sure { S.IsSure shelf.old → IsTold (S.contents shelf.old) → S.write_faults shelf.new ≡ S.write_faults shelf.old }
+    ensures sure { S.IsSure shelf.old
+        → IsTold (S.contents shelf.old)
+        → S.write_faults shelf.new ≡ S.write_faults shelf.old }
 {
     let Ok(cert) = simplify(alloc, g) else {
         return Answer::NoMemory;

@@ -26,14 +26,23 @@ use tailrec_lang::Group;
 
 /// The answer to `smt`.
 pub fn answer_smt<S: Shelf>(alloc: Global, s: &Smt<'_>, shelf: &mut S) -> Answer
-    ensures gives { (ws : Items (Items ℕ)) → IsReadSmt ws s.now
-        → Gives (S.contents shelf.old) ws (Rose (S.read_faults shelf.old) (S.read_faults shelf.new)) (Rose (S.write_faults shelf.old) (S.write_faults shelf.new)) result }
+    ensures gives { (ws : Items (Items ℕ))
+        → IsReadSmt ws s.now
+        → Gives (S.contents shelf.old) ws (Rose (S.read_faults shelf.old) (S.read_faults shelf.new))
+        (Rose (S.write_faults shelf.old) (S.write_faults shelf.new)) result }
 
-    ensures written { WhereTold (S.contents shelf.old) (S.contents shelf.new) (WritesOut (λ files. IsScriptFor files s.now.proof.now s.now.name.now s.now.def) s.now.out.now result) }
-    ensures counted { (S.read_faults shelf.old ≤ S.read_faults shelf.new) × (S.write_faults shelf.old ≤ S.write_faults shelf.new) }
+    ensures written { WhereTold (S.contents shelf.old) (S.contents shelf.new)
+        (WritesOut (λ files. IsScriptFor files s.now.proof.now s.now.name.now s.now.def)
+        s.now.out.now result) }
+    ensures counted { (S.read_faults shelf.old ≤ S.read_faults shelf.new)
+        × (S.write_faults shelf.old ≤ S.write_faults shelf.new) }
     ensures cause { status result ≡ 5 → Rose (S.write_faults shelf.old) (S.write_faults shelf.new) }
-    ensures sure { (ws : Items (Items ℕ)) → IsReadSmt ws s.now → S.IsSure shelf.old → ReadsAreTold (S.contents shelf.old) ws
-        → (S.read_faults shelf.new ≡ S.read_faults shelf.old) × (S.write_faults shelf.new ≡ S.write_faults shelf.old) }
+    ensures sure { (ws : Items (Items ℕ))
+        → IsReadSmt ws s.now
+        → S.IsSure shelf.old
+        → ReadsAreTold (S.contents shelf.old) ws
+        → (S.read_faults shelf.new ≡ S.read_faults shelf.old)
+        × (S.write_faults shelf.new ≡ S.write_faults shelf.old) }
 {
     let text = match read_file(alloc, shelf, s.proof, PROOF_LIMIT) {
         Ok(text) => text,
@@ -47,7 +56,10 @@ pub fn answer_smt<S: Shelf>(alloc: Global, s: &Smt<'_>, shelf: &mut S) -> Answer
 
 /// The answer where the proof file has no function of the name.
 fn refuse(why: Refusal) -> Answer
-    ensures gives { (text name : Items ℕ) (def : ℕ) → length text ≤ proof_limit → Finds text name (Err why) → DefGives text name def result }
+    ensures gives { (text name : Items ℕ) (def : ℕ)
+        → length text ≤ proof_limit
+        → Finds text name (Err why)
+        → DefGives text name def result }
     ensures refused { status result ≡ 0 → ⊥ }
     ensures no_fault { status result ≡ 5 → ⊥ }
 {
@@ -59,19 +71,29 @@ fn refuse(why: Refusal) -> Answer
     }
 }
 
-/// Exports a definition of a group, if it has one of that number and no loop is reached from it, and writes its script into the
-/// output file. All that takes memory is made before that.
+/// Exports a definition of a group, if it has one of that number and no loop is reached from it,
+/// and writes its script into the output file. All that takes memory is made before that.
 fn export_def<S: Shelf>(alloc: Global, g: &Group, s: &Smt<'_>, shelf: &mut S) -> Answer
     requires group { HasText (group_tree g.now) }
     requires well_formed { IsWellFormed (group_tree g.now) }
-    ensures gives { (text name : Items ℕ) → length text ≤ proof_limit → IsNamed text name (Some (group_tree g.now)) → DefGives text name s.now.def result }
+    ensures gives { (text name : Items ℕ)
+        → length text ≤ proof_limit
+        → IsNamed text name (Some (group_tree g.now))
+        → DefGives text name s.now.def result }
 
-    ensures written { (text : Items ℕ) → length text ≤ proof_limit → IsNamed text s.now.name.now (Some (group_tree g.now)) → IfSome (S.contents shelf.old) (λ files. files s.now.proof.now ≡ Some text)
-        → WhereTold (S.contents shelf.old) (S.contents shelf.new) (WritesOut (λ files. IsScriptFor files s.now.proof.now s.now.name.now s.now.def) s.now.out.now result) }
+    ensures written { (text : Items ℕ)
+        → length text ≤ proof_limit
+        → IsNamed text s.now.name.now (Some (group_tree g.now))
+        → IfSome (S.contents shelf.old) (λ files. files s.now.proof.now ≡ Some text)
+        → WhereTold (S.contents shelf.old) (S.contents shelf.new)
+        (WritesOut (λ files. IsScriptFor files s.now.proof.now s.now.name.now s.now.def)
+        s.now.out.now result) }
     ensures reads { S.read_faults shelf.new ≡ S.read_faults shelf.old }
     ensures counted { S.write_faults shelf.old ≤ S.write_faults shelf.new }
     ensures cause { status result ≡ 5 → Rose (S.write_faults shelf.old) (S.write_faults shelf.new) }
-    ensures sure { S.IsSure shelf.old → IsTold (S.contents shelf.old) → S.write_faults shelf.new ≡ S.write_faults shelf.old }
+    ensures sure { S.IsSure shelf.old
+        → IsTold (S.contents shelf.old)
+        → S.write_faults shelf.new ≡ S.write_faults shelf.old }
 {
     if s.def >= g.defs.len() as u64 {
         return Answer::Smt(SmtAnswer::NoDef);

@@ -195,7 +195,8 @@ impl Registers {
 
 /// The command that the words are.
 pub fn read_words(alloc: Global, words: &[String]) -> Result<Command<'_>, Unread>
-    ensures { MatchResult result (λ c. IsRead (texts words.now) c) (λ e. Unless (IsNoCommand (texts words.now)) e) }
+    ensures { MatchResult result (λ c. IsRead (texts words.now) c) (λ e.
+        Unless (IsNoCommand (texts words.now)) e) }
 {
     let [first, rest @ ..] = words else {
         return Err(Unread::NotACommand);
@@ -238,7 +239,8 @@ pub fn read_words(alloc: Global, words: &[String]) -> Result<Command<'_>, Unread
 
 /// The words behind `eval`.
 fn read_eval(alloc: Global, words: &[String]) -> Result<Eval<'_>, Unread>
-    ensures { MatchResult result (λ e. IsEval (texts words.now) e) (λ e. Unless (NoEval (texts words.now)) e) }
+    ensures { MatchResult result (λ e. IsEval (texts words.now) e) (λ e.
+        Unless (NoEval (texts words.now)) e) }
 {
     let [proof, name, turns, arguments @ ..] = words else {
         return Err(Unread::NotACommand);
@@ -263,7 +265,8 @@ fn read_eval(alloc: Global, words: &[String]) -> Result<Eval<'_>, Unread>
 
 /// The words behind `run`.
 fn read_run(alloc: Global, words: &[String]) -> Result<Run<'_>, Unread>
-    ensures { MatchResult result (λ r. IsRun (texts words.now) r) (λ e. Unless (NoRun (texts words.now)) e) }
+    ensures { MatchResult result (λ r. IsRun (texts words.now) r) (λ e.
+        Unless (NoRun (texts words.now)) e) }
 {
     let [elf, start, until, steps, arguments @ ..] = words else {
         return Err(Unread::NotACommand);
@@ -295,7 +298,8 @@ fn read_run(alloc: Global, words: &[String]) -> Result<Run<'_>, Unread>
 
 /// The words behind `check`.
 fn read_check(words: &[String]) -> Result<Check<'_>, Unread>
-    ensures { MatchResult result (λ c. IsCheck (texts words.now) c) (λ e. Unless (NoCheck (texts words.now)) e) }
+    ensures { MatchResult result (λ c. IsCheck (texts words.now) c) (λ e.
+        Unless (NoCheck (texts words.now)) e) }
 {
     let [elf, proof] = words else {
         return Err(Unread::NotACommand);
@@ -311,7 +315,8 @@ fn read_check(words: &[String]) -> Result<Check<'_>, Unread>
 
 /// The words behind `decompile`, `link` or `split`.
 fn read_decompile(alloc: Global, form: Form, words: &[String]) -> Result<Decompile<'_>, Unread>
-    ensures { MatchResult result (λ d. (d.form ≡ form) × IsDecompile (texts words.now) d) (λ e. Unless (NoDecompile form (texts words.now)) e) }
+    ensures { MatchResult result (λ d. (d.form ≡ form) × IsDecompile (texts words.now) d)
+        (λ e. Unless (NoDecompile form (texts words.now)) e) }
 {
     let [elf, out, names @ ..] = words else {
         return Err(Unread::NotACommand);
@@ -330,7 +335,8 @@ fn read_decompile(alloc: Global, form: Form, words: &[String]) -> Result<Decompi
 
 /// The words behind `selftest`.
 fn read_self_test(words: &[String]) -> Result<SelfTest, Unread>
-    ensures { MatchResult result (λ t. IsSelfTest (texts words.now) t) (λ e. Unless (NoSelfTest (texts words.now)) e) }
+    ensures { MatchResult result (λ t. IsSelfTest (texts words.now) t) (λ e.
+        Unless (NoSelfTest (texts words.now)) e) }
 {
     let [number, size] = words else {
         return Err(Unread::NotACommand);
@@ -346,7 +352,8 @@ fn read_self_test(words: &[String]) -> Result<SelfTest, Unread>
 
 /// The words behind `simplify`.
 fn read_simplify(words: &[String]) -> Result<Simplify<'_>, Unread>
-    ensures { MatchResult result (λ s. IsSimplify (texts words.now) s) (λ e. Unless (NoSimplify (texts words.now)) e) }
+    ensures { MatchResult result (λ s. IsSimplify (texts words.now) s) (λ e.
+        Unless (NoSimplify (texts words.now)) e) }
 {
     let [proof, name, out] = words else {
         return Err(Unread::NotACommand);
@@ -366,7 +373,8 @@ fn read_simplify(words: &[String]) -> Result<Simplify<'_>, Unread>
 
 /// The words behind `laws`.
 fn read_laws(words: &[String]) -> Result<Laws<'_>, Unread>
-    ensures { MatchResult result (λ l. IsLaws (texts words.now) l) (λ e. Unless (NoLaws (texts words.now)) e) }
+    ensures { MatchResult result (λ l. IsLaws (texts words.now) l) (λ e.
+        Unless (NoLaws (texts words.now)) e) }
 {
     let [proof, cert] = words else {
         return Err(Unread::NotACommand);
@@ -382,7 +390,8 @@ fn read_laws(words: &[String]) -> Result<Laws<'_>, Unread>
 
 /// The words behind `smt`.
 fn read_smt(words: &[String]) -> Result<Smt<'_>, Unread>
-    ensures { MatchResult result (λ s. IsSmt (texts words.now) s) (λ e. Unless (NoSmt (texts words.now)) e) }
+    ensures { MatchResult result (λ s. IsSmt (texts words.now) s) (λ e.
+        Unless (NoSmt (texts words.now)) e) }
 {
     let [proof, name, def, out] = words else {
         return Err(Unread::NotACommand);
@@ -406,7 +415,8 @@ fn read_smt(words: &[String]) -> Result<Smt<'_>, Unread>
 
 /// The words behind `migrate`.
 fn read_migrate(words: &[String]) -> Result<Migrate<'_>, Unread>
-    ensures { MatchResult result (λ m. IsMigrate (texts words.now) m) (λ e. Unless (NoMigrate (texts words.now)) e) }
+    ensures { MatchResult result (λ m. IsMigrate (texts words.now) m) (λ e.
+        Unless (NoMigrate (texts words.now)) e) }
 {
     let [elf, proof, out] = words else {
         return Err(Unread::NotACommand);
@@ -429,7 +439,8 @@ const PROGRAM_SIZE_LIMIT: u64 = 600;
 
 /// The size of a program.
 fn read_size(word: &[u8]) -> Option<u32>
-    ensures { MatchOption result ((n : ℕ) → 1 ≤ n → n ≤ 600 → word.now ≢ decimal n) (λ n. (1 ≤ n) × (n ≤ 600) × (word.now ≡ decimal n)) }
+    ensures { MatchOption result ((n : ℕ) → 1 ≤ n → n ≤ 600 → word.now ≢ decimal n)
+        (λ n. (1 ≤ n) × (n ≤ 600) × (word.now ≡ decimal n)) }
 {
     let size = dec(word)?;
     if 1 <= size && size <= PROGRAM_SIZE_LIMIT {
@@ -441,7 +452,8 @@ fn read_size(word: &[u8]) -> Option<u32>
 
 /// Names, none of which stands twice.
 fn read_names(alloc: Global, words: &[String]) -> Result<List<Text>, Unread>
-    ensures { MatchResult result (λ names. (names ≡ texts words.now) × AreNames names) (λ e. Unless (AreNames (texts words.now) → ⊥) e) }
+    ensures { MatchResult result (λ names. (names ≡ texts words.now) × AreNames names)
+        (λ e. Unless (AreNames (texts words.now) → ⊥) e) }
 {
     let mut seen = IndexSet::new(alloc);
     let mut names = List::new(alloc);
@@ -459,8 +471,11 @@ fn read_names(alloc: Global, words: &[String]) -> Result<List<Text>, Unread>
 
 /// Whether a name isn't among those that were seen. It is from then on.
 fn is_new<'a>(seen: &mut IndexSet<&'a str>, name: &'a str) -> Result<bool, NoMemory>
-    ensures new { IfOk result (λ new. IsTrue new ↔ (Contains (map (λ k. k.now) seen.old.keys) name.now → ⊥)) }
-    ensures seen { IfOk result (λ new. IsTrue new → map (λ k. k.now) seen.new.keys ≡ map (λ k. k.now) seen.old.keys ++ name.now ∷ []) }
+    ensures new { IfOk result (λ new.
+        IsTrue new ↔ (Contains (map (λ k. k.now) seen.old.keys) name.now → ⊥)) }
+    ensures seen { IfOk result (λ new.
+        IsTrue new
+        → map (λ k. k.now) seen.new.keys ≡ map (λ k. k.now) seen.old.keys ++ name.now ∷ []) }
 {
     Ok(seen.insert(name)?)
 }
@@ -477,7 +492,8 @@ fn read_arguments(
     alloc: Global,
     words: &[String],
 ) -> Result<(Registers, List<Range>, List<Range>), Unread>
-    ensures { MatchResult result (λ x. AllArgs (texts words.now) x.0.values x.1 x.2) (λ e. Unless (NoArgs (texts words.now)) e) }
+    ensures { MatchResult result (λ x. AllArgs (texts words.now) x.0.values x.1 x.2)
+        (λ e. Unless (NoArgs (texts words.now)) e) }
 {
     let mut values = [None; 32];
     let mut memory = List::new(alloc);
@@ -499,7 +515,8 @@ fn read_arguments(
 
 /// A word behind the others.
 fn read_argument(alloc: Global, word: &str) -> Result<Argument, Unread>
-    ensures { MatchResult result (λ a. IsArg (arg_of a) × (word.now ≡ arg_word (arg_of a))) (λ e. Unless ((a : Arg) → IsArg a → word.now ≢ arg_word a) e) }
+    ensures { MatchResult result (λ a. IsArg (arg_of a) × (word.now ≡ arg_word (arg_of a)))
+        (λ e. Unless ((a : Arg) → IsArg a → word.now ≢ arg_word a) e) }
 {
     let Some((name, value)) = at_first(word, '=') else {
         return Err(Unread::NotACommand);
@@ -515,8 +532,15 @@ fn read_argument(alloc: Global, word: &str) -> Result<Argument, Unread>
 
 /// A register's number and its value.
 fn read_register(name: &[u8], value: &[u8]) -> Option<(u8, u64)>
-    ensures { MatchOption result ((g : Given) → IsGiven g → name.now ≡ codes "x" ++ decimal g.register → value.now ≢ hex g.value)
-        (λ x. IsGiven (record { register = x.0; value = x.1 }) × (name.now ≡ codes "x" ++ decimal x.0) × (value.now ≡ hex x.1)) }
+    ensures { MatchOption result
+        ((g : Given)
+        → IsGiven g
+        → name.now ≡ codes "x" ++ decimal g.register
+        → value.now ≢ hex g.value)
+        (λ x.
+        IsGiven (record { register = x.0; value = x.1 })
+        × (name.now ≡ codes "x" ++ decimal x.0)
+        × (value.now ≡ hex x.1)) }
 {
     let [b'x', number @ ..] = name else {
         return None;
@@ -532,7 +556,8 @@ fn read_register(name: &[u8], value: &[u8]) -> Option<(u8, u64)>
 
 /// The memory of that name.
 fn memory_named(name: &str) -> Option<Memory>
-    ensures { MatchOption result ((m : MemoryOf) → name.now ≢ memory_name m) (λ m. name.now ≡ memory_name m) }
+    ensures { MatchOption result ((m : MemoryOf) → name.now ≢ memory_name m)
+        (λ m. name.now ≡ memory_name m) }
 {
     if name == Memory::First.name() {
         return Some(Memory::First);
@@ -545,8 +570,12 @@ fn memory_named(name: &str) -> Option<Memory>
 
 /// Bytes of memory.
 fn read_memory(alloc: Global, value: &str) -> Result<Range, Unread>
-    ensures { MatchResult result (λ r. IsMemory r × (value.now ≡ hex r.at ++ codes ":" ++ encode_lower r.bytes))
-        (λ e. Unless ((r : RangeOf) → IsMemory r → value.now ≢ hex r.at ++ codes ":" ++ encode_lower r.bytes) e) }
+    ensures { MatchResult result
+        (λ r. IsMemory r × (value.now ≡ hex r.at ++ codes ":" ++ encode_lower r.bytes))
+        (λ e.
+        Unless
+        ((r : RangeOf) → IsMemory r → value.now ≢ hex r.at ++ codes ":" ++ encode_lower r.bytes)
+        e) }
 {
     let Some((address, digits)) = at_first(value, ':') else {
         return Err(Unread::NotACommand);

@@ -22,7 +22,8 @@ use Rattle.code_parts.specs.Bodies.{Flow, VariableMap, arms_over, body_at, curre
 use Rattle.path_walk.specs.Closed.{AreClosed}
 use Rattle.code_parts.specs.Graph.{CallsBelow, HasPart, IsCode, IsFor}
 use Rattle.group_text.specs.declared.version.Version.{Version as Known}
-use Rattle.path_walk.specs.Further.{IsVersionFor, further_of}
+use Rattle.checker.specs.Further.{further_of}
+use Rattle.path_walk.specs.Further.{IsVersionFor}
 use Rattle.path_walk.specs.Item.{AreClosing, IsWalkedIn}
 use Rattle.path_walk.specs.inner.Acts.{results_at}
 use Rattle.code_parts.specs.Flows.{group_over}

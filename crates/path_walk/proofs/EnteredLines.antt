@@ -25,7 +25,7 @@ use Rattle.code_parts.specs.declared.callee.Callee.{Callee}
 use Rattle.code_parts.specs.Bodies.{Flow, VariableMap, size, action_body, action_calling, body_at, current, fresh, names, needs, part_def, place_after, return_arm, start, writes}
 use Rattle.code_parts.specs.inner.Ends.{body_on}
 use Rattle.code_parts.proofs.Counts.{all-mems, all-words}
-use Rattle.path_walk.specs.Further.{further_of}
+use Rattle.checker.specs.Further.{further_of}
 use Rattle.path_walk.specs.inner.Acts.{Entered, GoesOn, exit_standing, new_facts, exited, results_at, steered_standing, steered}
 use Rattle.path_walk.specs.inner.Writers.{FromAs, IsReady, Leads, Led, WriterTree, Setting, CitedTree, StandsAs, Steps, Stood, group_in, past, standing_at}
 use Rattle.path_walk.proofs.CalledDefs.{below_steps, closed_more, closed_steps}

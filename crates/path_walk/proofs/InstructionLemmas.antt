@@ -15,7 +15,8 @@ use Rattle.instr_axioms.specs.Terms.{conditions, has_form, has_memory, pc_after}
 use Rattle.instr_axioms.specs.Axiom.{own, own_triple, triple_over, word_code}
 use Rattle.code_parts.specs.Bodies.{Flow, VariableMap, size, names, place_after}
 use Rattle.code_parts.specs.Graph.{StandsAt}
-use Rattle.path_walk.specs.Further.{further_of, is_crossed}
+use Rattle.checker.specs.Further.{further_of}
+use Rattle.path_walk.specs.Further.{is_crossed}
 use Rattle.path_walk.specs.inner.Acts.{GoesOn, act_standing, acted, all_mems, mem_first, named_triple, new_facts, ordered, ordered_at, own_mems, own_words, put, triple_on}
 use Rattle.path_walk.specs.inner.Writers.{FromAs, Grown, IsReady, WriterTree, Setting, CitedTree, Steps, Stood, group_in, past, stating, stating_further}
 use Rattle.path_walk.proofs.WriterLemmas.{from_on, grown_add, grown_join, grown_state, held_add, held_now, ready_state}

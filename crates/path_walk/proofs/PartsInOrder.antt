@@ -21,7 +21,8 @@ use Rattle.code_parts.specs.declared.callee.Callee.{Callee}
 use Rattle.code_parts.specs.Bodies.{Flow, part_body, part_def}
 use Rattle.code_parts.specs.Graph.{CallsBelow, IsAlone, IsFor, IsGraph, IsMade, IsPart}
 use Rattle.code_parts.specs.Flows.{AreCodeOf, IsReached, Setting, alone, flow_of, group_of, group_over}
-use Rattle.path_walk.specs.Further.{IsVersionFor, further_of}
+use Rattle.checker.specs.Further.{further_of}
+use Rattle.path_walk.specs.Further.{IsVersionFor}
 use Rattle.path_walk.specs.Item.{IsItemWith, IsWalkedIn}
 use Rattle.code_parts.specs.Order.{AreParts}
 use Rattle.code_parts.specs.Kept.{FlowOf, flow_in}

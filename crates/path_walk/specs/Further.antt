@@ -1,20 +1,11 @@
--- The further rule of a text, by its version.
+-- Which version a function's text has, by the further rule that its lines need.
 use Rattle.std.specs.Prelude.{◌≡◌, ℕ, ◌<◌, ◌==◌, Bool, not, ◌&&◌, true, Some}
 use Rattle.rv_decode.specs.declared.instruction.Instr.{Instr}
 use Rattle.instr_axioms.specs.Terms.{has_memory}
 use Rattle.group_text.specs.declared.version.Version.{Version as Known}
-use Rattle.group_text.specs.declared.version.Version.TheVariants.{One, Two, Three, Four}
-use Rattle.checker.specs.Instance.{FurtherRule, no_rule}
-use Rattle.further_rules.specs.Rules.{IsExchanged, IsSteered}
+use Rattle.group_text.specs.declared.version.Version.TheVariants.{Three, Four}
 use Rattle.code_parts.specs.declared.callee.Callee.{Callee}
 use Rattle.code_parts.specs.Bodies.{Flow}
-
--- version 1 has none, version 3 has `steer`, and version 4 `exchange`
-abbrev pub further_of : Known → FurtherRule
-further_of One = no_rule
-further_of Two = no_rule
-further_of Three = IsSteered
-further_of Four = IsExchanged
 
 -- the instruction loads from or stores to memory q, which isn't the first
 abbrev pub is_crossed : Instr → ℕ → Bool

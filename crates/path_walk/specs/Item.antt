@@ -15,7 +15,7 @@ use Rattle.code_parts.specs.declared.part.Part.{Part}
 use Rattle.path_walk.specs.declared.item.Item.{Item}
 use Rattle.code_parts.specs.Bodies.{Flow, part_body, part_def}
 use Rattle.path_walk.specs.Closed.{AreClosed, AreClosedIn}
-use Rattle.path_walk.specs.Further.{further_of}
+use Rattle.checker.specs.Further.{further_of}
 use Rattle.code_parts.specs.Graph.{CallsBelow, IsFor}
 use Rattle.code_parts.specs.Flows.{AreCodeOf, Setting, alone, flow_of, group_of}
 use Rattle.code_parts.specs.Order.{AreParts}

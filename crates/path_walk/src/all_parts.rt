@@ -20,7 +20,7 @@ use std::alloc::Global;
 use tailrec_lang::Def;
 
 /// The definitions of parts, and lines that close them.
-#[derive(Debug, Drop)]
+#[derive(Drop)]
 pub struct Walks {
     pub defs: List<Def>,
     pub lines: List<Line>,
@@ -36,7 +36,9 @@ pub fn walk_all(
     requires version { IsVersionFor (flow_in flow.now) version }
     requires parts { parts.now ≡ flow.now.setting.parts }
     requires each { All (IsPart (flow_in flow.now)) parts.now }
-    ensures lines { IfOk result (λ w. AreWalked version flow.now (length parts.now) (map def_tree w.defs) (map line_tree w.lines)) }
+    ensures lines { IfOk result (λ w.
+        AreWalked version flow.now (length parts.now) (map def_tree w.defs)
+        (map line_tree w.lines)) }
     ensures kept { IfOk result (λ w. KeepsNone (after_lines (map line_tree w.lines))) }
 {
     flow.law_of_graphs();

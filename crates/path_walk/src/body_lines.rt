@@ -46,8 +46,10 @@ fn lines_from(
     requires mems { place.now.mems + 3 * room < 2 ^ 14 }
     requires code { IsOver flow.now.code (option_map cited_tree (option_copied from)) }
     requires version { IsVersionFor (flow_in flow.now) log.old.version }
-    ensures { OnOk result (Leads (flow_in flow.now) p flow.now.code (writer_tree log.old) (writer_tree log.new)
-        (Const ((flow_in flow.now).addr n)) (place_of place.now) (option_map cited_tree (option_copied from.entry)) (spec.body_at room (flow_in flow.now) p n (place_of place.now))) }
+    ensures { OnOk result (Leads (flow_in flow.now) p flow.now.code (writer_tree log.old)
+        (writer_tree log.new) (Const ((flow_in flow.now).addr n)) (place_of place.now)
+        (option_map cited_tree (option_copied from.entry))
+        (spec.body_at room (flow_in flow.now) p n (place_of place.now))) }
 {
     if room == 0 {
         return Err(NoMemory);
@@ -78,8 +80,10 @@ fn acting_lines(
     requires mems { place.now.mems + 3 * room < 2 ^ 14 }
     requires code { IsOver flow.now.code (option_map cited_tree (option_copied from)) }
     requires version { IsVersionFor (flow_in flow.now) log.old.version }
-    ensures { OnOk result (Leads (flow_in flow.now) p flow.now.code (writer_tree log.old) (writer_tree log.new)
-        (Const ((flow_in flow.now).addr n)) (place_of place.now) (option_map cited_tree (option_copied from.entry)) (spec.body_at room (flow_in flow.now) p n (place_of place.now))) }
+    ensures { OnOk result (Leads (flow_in flow.now) p flow.now.code (writer_tree log.old)
+        (writer_tree log.new) (Const ((flow_in flow.now).addr n)) (place_of place.now)
+        (option_map cited_tree (option_copied from.entry))
+        (spec.body_at room (flow_in flow.now) p n (place_of place.now))) }
 {
     flow.law_of_code();
     let entry = entry_of(flow, p);
@@ -107,7 +111,8 @@ fn acting_lines(
     }
 }
 
-/// The lines of the body from a node on that calls a function: where that returns, it goes on behind the call.
+/// The lines of the body from a node on that calls a function: where that returns, it goes on
+/// behind the call.
 #[cycle(body_lines)]
 fn calling_lines(
     alloc: Global,
@@ -128,8 +133,10 @@ fn calling_lines(
     requires mems { place.now.mems + 3 * room < 2 ^ 14 }
     requires code { IsOver flow.now.code (option_map cited_tree (option_copied from)) }
     requires version { IsVersionFor (flow_in flow.now) log.old.version }
-    ensures { OnOk result (Leads (flow_in flow.now) p flow.now.code (writer_tree log.old) (writer_tree log.new)
-        (Const ((flow_in flow.now).addr n)) (place_of place.now) (option_map cited_tree (option_copied from.entry)) (spec.body_at room (flow_in flow.now) p n (place_of place.now))) }
+    ensures { OnOk result (Leads (flow_in flow.now) p flow.now.code (writer_tree log.old)
+        (writer_tree log.new) (Const ((flow_in flow.now).addr n)) (place_of place.now)
+        (option_map cited_tree (option_copied from.entry))
+        (spec.body_at room (flow_in flow.now) p n (place_of place.now))) }
 {
     flow.law_of_code();
     let entry = entry_of(flow, p);
@@ -168,8 +175,9 @@ fn lines_to(
     requires mems { place.now.mems + 3 * room < 2 ^ 14 }
     requires code { IsWithin (range_bytes at.now.code) (range_bytes flow.now.code) }
     requires version { IsVersionFor (flow_in flow.now) log.old.version }
-    ensures { OnOk result (Leads (flow_in flow.now) p flow.now.code (writer_tree log.old) (writer_tree log.new)
-        (Const ((flow_in flow.now).addr n)) (place_of place.now) (Some (cited_tree at.now)) (body_on room (flow_in flow.now) p n (place_of place.now))) }
+    ensures { OnOk result (Leads (flow_in flow.now) p flow.now.code (writer_tree log.old)
+        (writer_tree log.new) (Const ((flow_in flow.now).addr n)) (place_of place.now)
+        (Some (cited_tree at.now)) (body_on room (flow_in flow.now) p n (place_of place.now))) }
 {
     if flow.is_cut(n) {
         return end_lines(alloc, flow, p, n, place, at, log);
@@ -188,8 +196,9 @@ fn node_lines(
     requires part { IsPart (flow_in flow.now) p }
     requires near { IsNear (flow_in flow.now) p 32 n }
     requires version { IsVersionFor (flow_in flow.now) log.old.version }
-    ensures { OnOk result (Leads (flow_in flow.now) p flow.now.code (writer_tree log.old) (writer_tree log.new)
-        (Const ((flow_in flow.now).addr n)) (spec.start (flow_in flow.now)) None (spec.body_at 32 (flow_in flow.now) p n (spec.start (flow_in flow.now)))) }
+    ensures { OnOk result (Leads (flow_in flow.now) p flow.now.code (writer_tree log.old)
+        (writer_tree log.new) (Const ((flow_in flow.now).addr n)) (spec.start (flow_in flow.now))
+        None (spec.body_at 32 (flow_in flow.now) p n (spec.start (flow_in flow.now)))) }
 {
     let start = fresh(flow, 0, 0);
     lines_from(alloc, flow, p, n, &start, CUT_DISTANCE_LIMIT, None, log)
@@ -204,8 +213,9 @@ pub fn part_lines(
 ) -> Result<(), NoMemory>
     requires part { IsPart (flow_in flow.now) p }
     requires version { IsVersionFor (flow_in flow.now) log.old.version }
-    ensures { OnOk result (Leads (flow_in flow.now) p flow.now.code (writer_tree log.old) (writer_tree log.new)
-        (Const ((flow_in flow.now).addr (spec.first (flow_in flow.now) p))) (spec.start (flow_in flow.now)) None (spec.part_body (flow_in flow.now) p)) }
+    ensures { OnOk result (Leads (flow_in flow.now) p flow.now.code (writer_tree log.old)
+        (writer_tree log.new) (Const ((flow_in flow.now).addr (spec.first (flow_in flow.now) p)))
+        (spec.start (flow_in flow.now)) None (spec.part_body (flow_in flow.now) p)) }
 {
     flow.law_of_graphs();
     match p {

@@ -33,7 +33,9 @@ pub fn standing_at(
     pc: Word,
     place: &VariableMap,
 ) -> Result<Assertion, NoMemory>
-    ensures { IfOk result (λ a. assertion_tree a ≡ logs.standing_at (flow_in flow.now) (word_tree pc) (place_of place.now)) }
+    ensures { IfOk result (λ a.
+        assertion_tree a
+        ≡ logs.standing_at (flow_in flow.now) (word_tree pc) (place_of place.now)) }
 {
     let regs = words_before(alloc, flow.regs(), &place.names)?;
     let mems = current_mems(alloc, flow, place)?;
@@ -47,7 +49,8 @@ fn add_missing(
     fact: &Fact,
     more: &mut List<Fact>,
 ) -> Result<(), NoMemory>
-    ensures { OnOk result (IsAdded (map fact_tree known.now) (fact_tree fact.now) (map fact_tree more.old) (map fact_tree more.new)) }
+    ensures { OnOk result (IsAdded (map fact_tree known.now) (fact_tree fact.now)
+        (map fact_tree more.old) (map fact_tree more.new)) }
 {
     if is_among(fact, known) {
         return Ok(());
@@ -59,7 +62,8 @@ fn add_missing(
 
 /// Those of the facts that aren't known.
 fn missing(alloc: Global, known: &[Fact], facts: &[Fact]) -> Result<List<Fact>, NoMemory>
-    ensures { IfOk result (λ fs. AreMissing (map fact_tree known.now) (map fact_tree facts.now) (map fact_tree fs)) }
+    ensures { IfOk result (λ fs.
+        AreMissing (map fact_tree known.now) (map fact_tree facts.now) (map fact_tree fs)) }
 {
     let mut more = List::new(alloc);
     for fact in facts {
@@ -70,7 +74,10 @@ fn missing(alloc: Global, known: &[Fact], facts: &[Fact]) -> Result<List<Fact>, 
 
 /// The known facts, and those of the others that aren't known.
 fn all_facts(alloc: Global, known: &[Fact], facts: &[Fact]) -> Result<List<Fact>, NoMemory>
-    ensures { IfOk result (λ fs. (more : Items FactTree) × AreMissing (map fact_tree known.now) (map fact_tree facts.now) more × (map fact_tree fs ≡ map fact_tree known.now ++ more)) }
+    ensures { IfOk result (λ fs.
+        (more : Items FactTree)
+        × AreMissing (map fact_tree known.now) (map fact_tree facts.now) more
+        × (map fact_tree fs ≡ map fact_tree known.now ++ more)) }
 {
     let more = missing(alloc, known, facts)?;
     let mut all = copy_facts(alloc, known)?;
@@ -124,7 +131,9 @@ fn join(
     requires pc { IsWord (word_tree pc) }
     requires words { place.now.words < 2 ^ 16 }
     requires mems { place.now.mems < 2 ^ 16 }
-    ensures joined { IfOk result (λ t. Joined (flow_in flow.now) entry (cited_tree from.now) (cited_tree last) (word_tree pc) (place_of place.now) (writer_tree log.old) (writer_tree log.new) (cited_tree t)) }
+    ensures joined { IfOk result (λ t.
+        Joined (flow_in flow.now) entry (cited_tree from.now) (cited_tree last) (word_tree pc)
+        (place_of place.now) (writer_tree log.old) (writer_tree log.new) (cited_tree t)) }
     ensures code { IfOk result (λ t. IsWithin (range_bytes t.code) (range_bytes flow.now.code)) }
 {
     from.law_of_texts();
@@ -139,7 +148,8 @@ fn join(
     Ok(CitedTheorem::new(number, all, code))
 }
 
-/// Goes on from a place: at the front of a definition a theorem stands by itself, else it is joined to that of the way to it.
+/// Goes on from a place: at the front of a definition a theorem stands by itself, else it is joined
+/// to that of the way to it.
 pub fn go_on(
     alloc: Global,
     flow: &Flow<'_>,
@@ -155,7 +165,10 @@ pub fn go_on(
     requires pc { IsWord (word_tree pc) }
     requires words { place.now.words < 2 ^ 16 }
     requires mems { place.now.mems < 2 ^ 16 }
-    ensures on { IfOk result (λ t. GoesOn (flow_in flow.now) entry (option_map cited_tree (option_copied from.entry)) (cited_tree last) (word_tree pc) (place_of place.now) (writer_tree log.old) (writer_tree log.new) (cited_tree t)) }
+    ensures on { IfOk result (λ t.
+        GoesOn (flow_in flow.now) entry (option_map cited_tree (option_copied from.entry))
+        (cited_tree last) (word_tree pc) (place_of place.now) (writer_tree log.old)
+        (writer_tree log.new) (cited_tree t)) }
     ensures code { IfOk result (λ t. IsWithin (range_bytes t.code) (range_bytes flow.now.code)) }
 {
     match from {

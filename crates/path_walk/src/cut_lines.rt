@@ -44,16 +44,20 @@ fn last_lines(
     requires part { IsPart (flow_in flow.now) p }
     requires called { IsPart (flow_in flow.now) q }
     requires targets { targets.now ≡ spec.rest_targets (flow_in flow.now) (spec.own p) }
-    requires exits { spec.exits_of (flow_in flow.now) q ≡ map (λ x. At ((flow_in flow.now).addr x)) targets.now ++ [] }
+    requires exits { spec.exits_of (flow_in flow.now) q
+        ≡ map (λ x. At ((flow_in flow.now).addr x)) targets.now ++ [] }
     requires nodes { All (λ x. x < (flow_in flow.now).nodes) targets.now }
     requires few { length targets.now < 2 ^ 32 }
     requires words { place.now.words < 2 ^ 15 }
     requires mems { place.now.mems < 2 ^ 15 }
     requires code { IsWithin (range_bytes at.now.code) (range_bytes flow.now.code) }
-    ensures { OnOk result (ArmsLead (flow_in flow.now) p flow.now.code ((flow_in flow.now).number q) (writer_tree log.old) (writer_tree log.new)
-        (Const ((flow_in flow.now).addr (spec.first (flow_in flow.now) q))) (place_of place.now) (Some (cited_tree at.now))
-        (map (λ x. At ((flow_in flow.now).addr x)) targets.now ++ []) 0
-        (spec.arms_over targets.now (λ x. spec.last_at (flow_in flow.now) p x (spec.fresh (flow_in flow.now) place.now.words place.now.mems)))) }
+    ensures { OnOk result (ArmsLead (flow_in flow.now) p flow.now.code ((flow_in flow.now).number q)
+        (writer_tree log.old) (writer_tree log.new)
+        (Const ((flow_in flow.now).addr (spec.first (flow_in flow.now) q))) (place_of place.now)
+        (Some (cited_tree at.now)) (map (λ x. At ((flow_in flow.now).addr x)) targets.now ++ []) 0
+        (spec.arms_over targets.now (λ x.
+        spec.last_at (flow_in flow.now) p x (spec.fresh (flow_in flow.now) place.now.words
+        place.now.mems)))) }
 {
     let entry = entry_of(flow, p);
     let mut k = 0;
@@ -83,9 +87,11 @@ fn back_lines(
     requires words { place.now.words < 2 ^ 15 }
     requires mems { place.now.mems < 2 ^ 15 }
     requires code { IsWithin (range_bytes at.now.code) (range_bytes flow.now.code) }
-    ensures { OnOk result (ArmsLead (flow_in flow.now) p flow.now.code ((flow_in flow.now).number (Rest None n)) (writer_tree log.old) (writer_tree log.new)
+    ensures { OnOk result (ArmsLead (flow_in flow.now) p flow.now.code
+        ((flow_in flow.now).number (Rest None n)) (writer_tree log.old) (writer_tree log.new)
         (Const ((flow_in flow.now).addr n)) (place_of place.now) (Some (cited_tree at.now))
-        (spec.exits_of (flow_in flow.now) (Rest None n)) 0 (spec.rest_arms (flow_in flow.now) p None (place_of place.now))) }
+        (spec.exits_of (flow_in flow.now) (Rest None n)) 0
+        (spec.rest_arms (flow_in flow.now) p None (place_of place.now))) }
 {
     if !flow.returns() {
         return Ok(());
@@ -118,9 +124,11 @@ fn loop_rest_lines(
     requires words { place.now.words < 2 ^ 15 }
     requires mems { place.now.mems < 2 ^ 15 }
     requires code { IsWithin (range_bytes at.now.code) (range_bytes flow.now.code) }
-    ensures { OnOk result (ArmsLead (flow_in flow.now) p flow.now.code ((flow_in flow.now).number (Rest (Some l) n)) (writer_tree log.old) (writer_tree log.new)
+    ensures { OnOk result (ArmsLead (flow_in flow.now) p flow.now.code
+        ((flow_in flow.now).number (Rest (Some l) n)) (writer_tree log.old) (writer_tree log.new)
         (Const ((flow_in flow.now).addr n)) (place_of place.now) (Some (cited_tree at.now))
-        (spec.exits_of (flow_in flow.now) (Rest (Some l) n)) 0 (spec.rest_arms (flow_in flow.now) p (Some l) (place_of place.now))) }
+        (spec.exits_of (flow_in flow.now) (Rest (Some l) n)) 0
+        (spec.rest_arms (flow_in flow.now) p (Some l) (place_of place.now))) }
 {
     let q = Part::Rest {
         region: Some(l),
@@ -146,9 +154,12 @@ fn rest_lines(
     requires words { place.now.words < 2 ^ 15 }
     requires mems { place.now.mems < 2 ^ 15 }
     requires code { IsWithin (range_bytes at.now.code) (range_bytes flow.now.code) }
-    ensures { OnOk result (ArmsLead (flow_in flow.now) p flow.now.code ((flow_in flow.now).number (spec.rest_from (flow_in flow.now) n)) (writer_tree log.old) (writer_tree log.new)
-        (Const ((flow_in flow.now).addr n)) (place_of place.now) (Some (cited_tree at.now))
-        (spec.exits_of (flow_in flow.now) (spec.rest_from (flow_in flow.now) n)) 0 (spec.rest_arms (flow_in flow.now) p ((flow_in flow.now).around n) (place_of place.now))) }
+    ensures { OnOk result (ArmsLead (flow_in flow.now) p flow.now.code
+        ((flow_in flow.now).number (spec.rest_from (flow_in flow.now) n)) (writer_tree log.old)
+        (writer_tree log.new) (Const ((flow_in flow.now).addr n)) (place_of place.now)
+        (Some (cited_tree at.now))
+        (spec.exits_of (flow_in flow.now) (spec.rest_from (flow_in flow.now) n)) 0
+        (spec.rest_arms (flow_in flow.now) p ((flow_in flow.now).around n) (place_of place.now))) }
 {
     match flow.around(n) {
         Some(l) => loop_rest_lines(alloc, flow, p, l, n, place, at, log),
@@ -171,8 +182,9 @@ pub fn end_lines(
     requires words { place.now.words < 2 ^ 15 }
     requires mems { place.now.mems < 2 ^ 15 }
     requires code { IsWithin (range_bytes at.now.code) (range_bytes flow.now.code) }
-    ensures { OnOk result (Leads (flow_in flow.now) p flow.now.code (writer_tree log.old) (writer_tree log.new)
-        (Const ((flow_in flow.now).addr n)) (place_of place.now) (Some (cited_tree at.now)) (spec.end_at (flow_in flow.now) p n (place_of place.now))) }
+    ensures { OnOk result (Leads (flow_in flow.now) p flow.now.code (writer_tree log.old)
+        (writer_tree log.new) (Const ((flow_in flow.now).addr n)) (place_of place.now)
+        (Some (cited_tree at.now)) (spec.end_at (flow_in flow.now) p n (place_of place.now))) }
 {
     flow.law_of_regions(p);
     if ends_at(flow, p, n) {
@@ -192,10 +204,14 @@ pub fn head_lines(
     requires part { IsPart (flow_in flow.now) p }
     requires loops { l < (flow_in flow.now).loops }
     requires around { (flow_in flow.now).around ((flow_in flow.now).head l) ≡ spec.own p }
-    ensures { OnOk result (ArmsLead (flow_in flow.now) p flow.now.code ((flow_in flow.now).number (Loop l)) (writer_tree log.old) (writer_tree log.new)
-        (Const ((flow_in flow.now).addr ((flow_in flow.now).head l))) (spec.start (flow_in flow.now)) None
+    ensures { OnOk result (ArmsLead (flow_in flow.now) p flow.now.code
+        ((flow_in flow.now).number (Loop l)) (writer_tree log.old) (writer_tree log.new)
+        (Const ((flow_in flow.now).addr ((flow_in flow.now).head l)))
+        (spec.start (flow_in flow.now)) None
         (map (λ x. At ((flow_in flow.now).addr x)) ((flow_in flow.now).exits l) ++ []) 0
-        (spec.arms_over ((flow_in flow.now).exits l) (λ x. spec.end_at (flow_in flow.now) p x (spec.fresh (flow_in flow.now) (spec.start (flow_in flow.now)).words (spec.start (flow_in flow.now)).mems)))) }
+        (spec.arms_over ((flow_in flow.now).exits l) (λ x.
+        spec.end_at (flow_in flow.now) p x (spec.fresh (flow_in flow.now)
+        (spec.start (flow_in flow.now)).words (spec.start (flow_in flow.now)).mems)))) }
 {
     flow.law_of_graphs();
     let entry = entry_of(flow, p);

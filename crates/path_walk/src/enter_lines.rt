@@ -23,8 +23,9 @@ use tailrec_lang::Exit;
 use triple_kernel::{Fact, copy_facts};
 use word_terms::{Cond, Word, copy_code};
 
-/// A call of a function that returns: where that is entered, its definition, and the address behind the call.
-#[derive(Clone, Copy, Debug)]
+/// A call of a function that returns: where that is entered, its definition, and the address behind
+/// the call.
+#[derive(Clone, Copy)]
 pub struct FunctionCall {
     pub entry: u64,
     pub def: u32,
@@ -42,7 +43,8 @@ fn returned_at(alloc: Global, w: u32, back: u64) -> Result<Fact, NoMemory>
 
 /// The facts of a theorem, and that a variable is an address.
 fn steered_facts(alloc: Global, t: &CitedTheorem, w: u32, back: u64) -> Result<List<Fact>, NoMemory>
-    ensures { IfOk result (λ fs. map fact_tree fs ≡ map fact_tree t.now.facts ++ So (Compare Eq (Var w) (Const back)) ∷ []) }
+    ensures { IfOk result (λ fs.
+        map fact_tree fs ≡ map fact_tree t.now.facts ++ So (Compare Eq (Var w) (Const back)) ∷ []) }
 {
     let fact = returned_at(alloc, w, back)?;
     let mut facts = copy_facts(alloc, t.facts())?;
@@ -65,8 +67,11 @@ fn steer(
     requires words { place.now.words < 2 ^ 16 }
     requires mems { place.now.mems < 2 ^ 16 }
     requires code { IsWithin (range_bytes t.now.code) (range_bytes flow.now.code) }
-    ensures is { IfOk result (λ x. cited_tree x ≡ steered_standing (Var w) back (cited_tree t.now) (writer_tree log.old)) }
-    ensures log { OnOk result (writer_tree log.new ≡ steered (flow_in flow.now) entry (Var w) back (place_of place.now) (cited_tree t.now) (writer_tree log.old)) }
+    ensures is { IfOk result (λ x.
+        cited_tree x ≡ steered_standing (Var w) back (cited_tree t.now) (writer_tree log.old)) }
+    ensures log { OnOk result (writer_tree log.new
+        ≡ steered (flow_in flow.now) entry (Var w) back (place_of place.now) (cited_tree t.now)
+        (writer_tree log.old)) }
     ensures code { IfOk result (λ x. IsWithin (range_bytes x.code) (range_bytes flow.now.code)) }
 {
     t.law_of_texts();
@@ -87,7 +92,8 @@ fn steer(
     Ok(CitedTheorem::new(number, facts, code))
 }
 
-/// The lines of a call of a function that returns, and the theorem that leads to the address behind the call.
+/// The lines of a call of a function that returns, and the theorem that leads to the address behind
+/// the call.
 pub fn enter(
     alloc: Global,
     flow: &Flow<'_>,
@@ -101,7 +107,10 @@ pub fn enter(
     requires words { place.now.words < 2 ^ 15 }
     requires mems { place.now.mems < 2 ^ 15 }
     requires code { IsOver flow.now.code (option_map cited_tree (option_copied from)) }
-    ensures entered { IfOk result (λ t. Entered (flow_in flow.now) entry flow.now.code call.entry call.def call.back (place_of place.now) (option_map cited_tree (option_copied from.entry)) (writer_tree log.old) (writer_tree log.new) (cited_tree t)) }
+    ensures entered { IfOk result (λ t.
+        Entered (flow_in flow.now) entry flow.now.code call.entry call.def call.back
+        (place_of place.now) (option_map cited_tree (option_copied from.entry))
+        (writer_tree log.old) (writer_tree log.new) (cited_tree t)) }
     ensures code { IfOk result (λ t. IsWithin (range_bytes t.code) (range_bytes flow.now.code)) }
 {
     let last = leave_by(alloc, flow, call.entry, call.def, 0, Exit::Ret, place, log)?;

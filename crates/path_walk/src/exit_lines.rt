@@ -42,7 +42,8 @@ fn pc_at(x: Exit, words: u32) -> Word
 fn results(alloc: Global, flow: &Flow<'_>, x: Exit, place: &VariableMap) -> Result<Values, NoMemory>
     requires words { place.now.words < 2 ^ 15 + 64 }
     requires mems { place.now.mems < 2 ^ 15 + 64 }
-    ensures { IfOk result (λ v. values_tree v ≡ spec.results_at (flow_in flow.now) x place.now.words place.now.mems) }
+    ensures { IfOk result (λ v.
+        values_tree v ≡ spec.results_at (flow_in flow.now) x place.now.words place.now.mems) }
 {
     let next = place_at(flow, x, place);
     let values = current(alloc, flow, &next)?;
@@ -52,7 +53,8 @@ fn results(alloc: Global, flow: &Flow<'_>, x: Exit, place: &VariableMap) -> Resu
     }
 }
 
-/// The fact that a definition, entered with the current variables, leaves by that exit with the next ones.
+/// The fact that a definition, entered with the current variables, leaves by that exit with the
+/// next ones.
 fn gives(
     alloc: Global,
     flow: &Flow<'_>,
@@ -63,7 +65,10 @@ fn gives(
 ) -> Result<List<Fact>, NoMemory>
     requires words { place.now.words < 2 ^ 15 + 64 }
     requires mems { place.now.mems < 2 ^ 15 + 64 }
-    ensures { IfOk result (λ fs. map fact_tree fs ≡ Gives def exit (bodies.current (flow_in flow.now) (place_of place.now)) (spec.results_at (flow_in flow.now) x place.now.words place.now.mems) ∷ []) }
+    ensures { IfOk result (λ fs.
+        map fact_tree fs
+        ≡ Gives def exit (bodies.current (flow_in flow.now) (place_of place.now))
+        (spec.results_at (flow_in flow.now) x place.now.words place.now.mems) ∷ []) }
 {
     let args = current(alloc, flow, place)?;
     let results = results(alloc, flow, x, place)?;
@@ -89,7 +94,9 @@ fn gives_over(
 ) -> Result<Triple, NoMemory>
     requires words { place.now.words < 2 ^ 15 + 64 }
     requires mems { place.now.mems < 2 ^ 15 + 64 }
-    ensures { IfOk result (λ t. triple_tree t ≡ spec.gives_over (flow_in flow.now) flow.now.code entry def exit x (place_of place.now)) }
+    ensures { IfOk result (λ t.
+        triple_tree t
+        ≡ spec.gives_over (flow_in flow.now) flow.now.code entry def exit x (place_of place.now)) }
 {
     let facts = gives(alloc, flow, def, exit, x, place)?;
     let pre = standing_at(alloc, flow, Word::Const(entry), place)?;
@@ -104,7 +111,8 @@ fn gives_over(
     })
 }
 
-/// States the triple of an exit over the current variables, where it was stated over the parameters.
+/// States the triple of an exit over the current variables, where it was stated over the
+/// parameters.
 fn put_current(
     alloc: Global,
     flow: &Flow<'_>,
@@ -116,11 +124,16 @@ fn put_current(
 ) -> Result<u64, NoMemory>
     requires words { place.now.words < 2 ^ 15 + 64 }
     requires mems { place.now.mems < 2 ^ 15 + 64 }
-    requires rule { IsRule (Inst first (spec.call_words (flow_in flow.now) x (place_of place.now)) (spec.call_mems (flow_in flow.now) x (place_of place.now))) }
+    requires rule { IsRule (Inst first (spec.call_words (flow_in flow.now) x (place_of place.now))
+        (spec.call_mems (flow_in flow.now) x (place_of place.now))) }
     requires stated { IsTriple (triple_tree triple) }
     ensures number { IfOk result (λ k. k ≡ log.old.next) }
     ensures fits { IfOk result (λ k. k < 2 ^ 64) }
-    ensures log { OnOk result (writer_tree log.new ≡ stating (Inst first (spec.call_words (flow_in flow.now) x (place_of place.now)) (spec.call_mems (flow_in flow.now) x (place_of place.now))) (triple_tree triple) (writer_tree log.old)) }
+    ensures log { OnOk result (writer_tree log.new
+        ≡ stating
+        (Inst first (spec.call_words (flow_in flow.now) x (place_of place.now))
+        (spec.call_mems (flow_in flow.now) x (place_of place.now))) (triple_tree triple)
+        (writer_tree log.old)) }
 {
     let words = call_words(alloc, flow, x, place)?;
     let mems = call_mems(alloc, flow, x, place)?;
@@ -128,8 +141,8 @@ fn put_current(
     Ok(number)
 }
 
-/// The lines of an exit of a definition that is entered at that address: its triple over the parameters, and over the current
-/// variables.
+/// The lines of an exit of a definition that is entered at that address: its triple over the
+/// parameters, and over the current variables.
 fn exit_lines(
     alloc: Global,
     flow: &Flow<'_>,
@@ -142,10 +155,13 @@ fn exit_lines(
 ) -> Result<u64, NoMemory>
     requires words { place.now.words < 2 ^ 15 }
     requires mems { place.now.mems < 2 ^ 15 }
-    requires fine { spec.IsFineExit (flow_in flow.now) flow.now.code entry def exit x (place_of place.now) }
+    requires fine { spec.IsFineExit (flow_in flow.now) flow.now.code entry def exit x
+        (place_of place.now) }
     ensures number { IfOk result (λ k. k ≡ log.old.next + 1) }
     ensures fits { IfOk result (λ k. k < 2 ^ 64) }
-    ensures log { OnOk result (writer_tree log.new ≡ spec.exited (flow_in flow.now) flow.now.code entry def exit x (place_of place.now) (writer_tree log.old)) }
+    ensures log { OnOk result (writer_tree log.new
+        ≡ spec.exited (flow_in flow.now) flow.now.code entry def exit x (place_of place.now)
+        (writer_tree log.old)) }
 {
     let start = fresh(flow, 0, 0);
     let used = gives_over(alloc, flow, entry, def, exit, x, &start)?;
@@ -178,8 +194,13 @@ pub fn leave_by(
 ) -> Result<CitedTheorem, NoMemory>
     requires words { place.now.words < 2 ^ 15 }
     requires mems { place.now.mems < 2 ^ 15 }
-    ensures is { IfOk result (λ t. cited_tree t ≡ spec.exit_standing (flow_in flow.now) flow.now.code def exit x (place_of place.now) (writer_tree log.old)) }
-    ensures log { OnOk result (writer_tree log.new ≡ spec.exited (flow_in flow.now) flow.now.code entry def exit x (place_of place.now) (writer_tree log.old)) }
+    ensures is { IfOk result (λ t.
+        cited_tree t
+        ≡ spec.exit_standing (flow_in flow.now) flow.now.code def exit x (place_of place.now)
+        (writer_tree log.old)) }
+    ensures log { OnOk result (writer_tree log.new
+        ≡ spec.exited (flow_in flow.now) flow.now.code entry def exit x (place_of place.now)
+        (writer_tree log.old)) }
 {
     flow.law_of_code();
     law_of_exits(x);
@@ -191,7 +212,8 @@ pub fn leave_by(
     Ok(CitedTheorem::new(number, known, code))
 }
 
-/// The lines from a call of a part on to where the definition goes on after an exit, and the theorem that leads there.
+/// The lines from a call of a part on to where the definition goes on after an exit, and the
+/// theorem that leads there.
 pub fn exit_step(
     alloc: Global,
     flow: &Flow<'_>,
@@ -208,9 +230,16 @@ pub fn exit_step(
     requires words { place.now.words < 2 ^ 15 }
     requires mems { place.now.mems < 2 ^ 15 }
     requires code { IsOver flow.now.code (option_map cited_tree (option_copied from)) }
-    ensures steps { IfOk result (λ t. StepsBy (flow_in flow.now) entry flow.now.code ((flow_in flow.now).number q) (writer_tree log.old) (writer_tree log.new) (Const ((flow_in flow.now).addr (bodies.first (flow_in flow.now) q))) (place_of place.now)
-        (option_map cited_tree (option_copied from.entry)) (pc_of x place.now.words) (exit_place (flow_in flow.now) x place.now.words place.now.mems)
-        (Gives ((flow_in flow.now).number q) exit (bodies.current (flow_in flow.now) (place_of place.now)) (spec.results_at (flow_in flow.now) x place.now.words place.now.mems) ∷ []) (cited_tree t)) }
+    ensures steps { IfOk result (λ t.
+        StepsBy (flow_in flow.now) entry flow.now.code ((flow_in flow.now).number q)
+        (writer_tree log.old) (writer_tree log.new)
+        (Const ((flow_in flow.now).addr (bodies.first (flow_in flow.now) q))) (place_of place.now)
+        (option_map cited_tree (option_copied from.entry)) (pc_of x place.now.words)
+        (exit_place (flow_in flow.now) x place.now.words place.now.mems)
+        (Gives ((flow_in flow.now).number q) exit
+        (bodies.current (flow_in flow.now) (place_of place.now))
+        (spec.results_at (flow_in flow.now) x place.now.words place.now.mems) ∷ [])
+        (cited_tree t)) }
     ensures code { IfOk result (λ t. IsWithin (range_bytes t.code) (range_bytes flow.now.code)) }
 {
     law_of_exits(x);

@@ -36,8 +36,9 @@ use std::alloc::Global;
 use triple_kernel::{Fact, Triple};
 use word_terms::{Mem, Sub, Word};
 
-/// An instruction in one form: what it is, where it stands and as which word, and the memory that it loads from or stores to, if it does.
-#[derive(Clone, Copy, Debug)]
+/// An instruction in one form: what it is, where it stands and as which word, and the memory that
+/// it loads from or stores to, if it does.
+#[derive(Clone, Copy)]
 struct InstructionAt {
     instr: Instr,
     form: Form,
@@ -46,7 +47,8 @@ struct InstructionAt {
     memory: u8,
 }
 
-/// Adds what the definition knows of the variable of what an instruction writes, where it loads from or stores to that memory, if it does.
+/// Adds what the definition knows of the variable of what an instruction writes, where it loads
+/// from or stores to that memory, if it does.
 fn add_new_fact(
     alloc: Global,
     i: Instr,
@@ -57,7 +59,8 @@ fn add_new_fact(
     facts: &mut List<Fact>,
 ) -> Result<(), NoMemory>
     requires { q < 2 }
-    ensures { OnOk result (map fact_tree facts.new ≡ map fact_tree facts.old ++ spec.new_facts i addr length q (place_of place.now)) }
+    ensures { OnOk result (map fact_tree facts.new
+        ≡ map fact_tree facts.old ++ spec.new_facts i addr length q (place_of place.now)) }
 {
     let names = place.names_of(q);
     if let Instr::Store { .. } = i {
@@ -73,7 +76,11 @@ fn add_new_fact(
 /// The facts of an instruction in that form, and of what it writes.
 fn facts_of(alloc: Global, at: InstructionAt, place: &VariableMap) -> Result<List<Fact>, NoMemory>
     requires { at.memory < 2 }
-    ensures { IfOk result (λ fs. map fact_tree fs ≡ map So (terms.conditions at.instr at.form (bodies.names (place_of place.now) at.memory)) ++ spec.new_facts at.instr at.addr (length_in_bytes at.word) at.memory (place_of place.now)) }
+    ensures { IfOk result (λ fs.
+        map fact_tree fs
+        ≡ map So (terms.conditions at.instr at.form (bodies.names (place_of place.now) at.memory))
+        ++ spec.new_facts at.instr at.addr (length_in_bytes at.word) at.memory
+        (place_of place.now)) }
 {
     let names = place.names_of(at.memory);
     let mut known = facts(alloc, at.instr, at.form, &names)?;
@@ -84,7 +91,8 @@ fn facts_of(alloc: Global, at: InstructionAt, place: &VariableMap) -> Result<Lis
     Ok(known)
 }
 
-/// The triple of an instruction over all registers and memories, with new variables for what it writes.
+/// The triple of an instruction over all registers and memories, with new variables for what it
+/// writes.
 fn named_triple(
     alloc: Global,
     flow: &Flow<'_>,
@@ -95,7 +103,11 @@ fn named_triple(
     requires mems { place.now.mems < 2 ^ 15 }
     requires named { destination at.instr < 32 }
     requires memory { at.memory < 2 }
-    ensures { IfOk result (λ t. triple_tree t ≡ spec.named_triple at.instr at.form at.addr (length_in_bytes at.word) (axioms.word_code at.addr at.word) (flow_in flow.now).regs (spec.all_mems (flow_in flow.now).mems) at.memory (place_of place.now)) }
+    ensures { IfOk result (λ t.
+        triple_tree t
+        ≡ spec.named_triple at.instr at.form at.addr (length_in_bytes at.word)
+        (axioms.word_code at.addr at.word) (flow_in flow.now).regs
+        (spec.all_mems (flow_in flow.now).mems) at.memory (place_of place.now)) }
 {
     let known = facts_of(alloc, at, place)?;
     let pre = standing_at(alloc, flow, Word::Const(at.addr), place)?;
@@ -115,7 +127,8 @@ fn named_triple(
 
 /// The triple of an instruction's axiom.
 fn first_triple(alloc: Global, at: InstructionAt) -> Result<Triple, NoMemory>
-    ensures { IfOk result (λ t. triple_tree t ≡ axioms.own_triple at.instr at.form at.addr at.word) }
+    ensures { IfOk result (λ t.
+        triple_tree t ≡ axioms.own_triple at.instr at.form at.addr at.word) }
 {
     let InstructionAt {
         instr: i,
@@ -140,11 +153,19 @@ fn put_current(
     log: &mut ProofWriter,
 ) -> Result<u64, NoMemory>
     requires memory { at.memory < 2 }
-    requires rule { IsRule (Inst first (spec.own_words at.instr (place_of place.now)) (spec.own_mems at.instr at.memory (place_of place.now))) }
-    requires stated { IsTriple (axioms.triple_over at.instr at.form at.addr (length_in_bytes at.word) (axioms.word_code at.addr at.word) (axioms.own at.instr) (terms.has_memory at.instr) (bodies.names (place_of place.now) at.memory)) }
+    requires rule { IsRule (Inst first (spec.own_words at.instr (place_of place.now))
+        (spec.own_mems at.instr at.memory (place_of place.now))) }
+    requires stated { IsTriple (axioms.triple_over at.instr at.form at.addr
+        (length_in_bytes at.word) (axioms.word_code at.addr at.word) (axioms.own at.instr)
+        (terms.has_memory at.instr) (bodies.names (place_of place.now) at.memory)) }
     ensures number { IfOk result (λ k. k ≡ log.old.next) }
-    ensures log { OnOk result (writer_tree log.new ≡ stating (Inst first (spec.own_words at.instr (place_of place.now)) (spec.own_mems at.instr at.memory (place_of place.now)))
-        (axioms.triple_over at.instr at.form at.addr (length_in_bytes at.word) (axioms.word_code at.addr at.word) (axioms.own at.instr) (terms.has_memory at.instr) (bodies.names (place_of place.now) at.memory)) (writer_tree log.old)) }
+    ensures log { OnOk result (writer_tree log.new
+        ≡ stating
+        (Inst first (spec.own_words at.instr (place_of place.now))
+        (spec.own_mems at.instr at.memory (place_of place.now)))
+        (axioms.triple_over at.instr at.form at.addr (length_in_bytes at.word)
+        (axioms.word_code at.addr at.word) (axioms.own at.instr) (terms.has_memory at.instr)
+        (bodies.names (place_of place.now) at.memory)) (writer_tree log.old)) }
 {
     let InstructionAt {
         instr: i,
@@ -166,7 +187,8 @@ fn put_current(
 /// The variables of these memories.
 fn mems_before(alloc: Global, mems: &[u8], place: &VariableMap) -> Result<List<Mem>, NoMemory>
     requires { All (λ p. p < 2) mems.now }
-    ensures { IfOk result (λ ms. map mem_tree ms ≡ map (λ p. MemVar ((place_of place.now).memory p)) mems.now) }
+    ensures { IfOk result (λ ms.
+        map mem_tree ms ≡ map (λ p. MemVar ((place_of place.now).memory p)) mems.now) }
 {
     let mut before = List::new(alloc);
     for p in mems {
@@ -197,7 +219,8 @@ fn mems_after(
 ) -> Result<List<Mem>, NoMemory>
     requires own { q < 2 }
     requires memories { All (λ p. p < 2) mems.now }
-    ensures { IfOk result (λ ms. map mem_tree ms ≡ map (spec.mem_after i q (place_of place.now)) mems.now) }
+    ensures { IfOk result (λ ms.
+        map mem_tree ms ≡ map (spec.mem_after i q (place_of place.now)) mems.now) }
 {
     let mut after = List::new(alloc);
     for p in mems {
@@ -217,7 +240,11 @@ fn triple_on(
 ) -> Result<Triple, NoMemory>
     requires own { at.memory < 2 }
     requires memories { All (λ p. p < 2) mems.now }
-    ensures { IfOk result (λ t. triple_tree t ≡ spec.triple_on at.instr at.form at.addr (length_in_bytes at.word) (axioms.word_code at.addr at.word) (flow_in flow.now).regs mems.now at.memory (place_of place.now)) }
+    ensures { IfOk result (λ t.
+        triple_tree t
+        ≡ spec.triple_on at.instr at.form at.addr (length_in_bytes at.word)
+        (axioms.word_code at.addr at.word) (flow_in flow.now).regs mems.now at.memory
+        (place_of place.now)) }
 {
     let InstructionAt {
         instr: i,
@@ -270,8 +297,8 @@ fn is_crossed(i: Instr, q: u8) -> bool
     has_memory(i) && q != 0
 }
 
-/// States the triple of an instruction over all registers and memories, in order: it is framed with its own memory in front, and where that is
-/// the second of two they are exchanged.
+/// States the triple of an instruction over all registers and memories, in order: it is framed with
+/// its own memory in front, and where that is the second of two they are exchanged.
 fn put_wide(
     alloc: Global,
     flow: &Flow<'_>,
@@ -282,11 +309,19 @@ fn put_wide(
 ) -> Result<u64, NoMemory>
     requires memory { at.memory < 2 }
     requires low { terms.has_memory at.instr ≡ true → at.memory < (flow_in flow.now).mems }
-    requires crossed { crosses at.instr at.memory ≡ true → (log.old.version ≡ Four) × ((flow_in flow.now).mems ≡ 2) }
-    requires wide { IsTriple (spec.triple_on at.instr at.form at.addr (length_in_bytes at.word) (axioms.word_code at.addr at.word) (flow_in flow.now).regs (spec.mem_first at.instr at.memory (flow_in flow.now).mems) at.memory (place_of place.now)) }
-    requires in_order { IsTriple (spec.triple_on at.instr at.form at.addr (length_in_bytes at.word) (axioms.word_code at.addr at.word) (flow_in flow.now).regs (spec.all_mems (flow_in flow.now).mems) at.memory (place_of place.now)) }
+    requires crossed { crosses at.instr at.memory ≡ true
+        → (log.old.version ≡ Four) × ((flow_in flow.now).mems ≡ 2) }
+    requires wide { IsTriple (spec.triple_on at.instr at.form at.addr (length_in_bytes at.word)
+        (axioms.word_code at.addr at.word) (flow_in flow.now).regs
+        (spec.mem_first at.instr at.memory (flow_in flow.now).mems) at.memory
+        (place_of place.now)) }
+    requires in_order { IsTriple (spec.triple_on at.instr at.form at.addr (length_in_bytes at.word)
+        (axioms.word_code at.addr at.word) (flow_in flow.now).regs
+        (spec.all_mems (flow_in flow.now).mems) at.memory (place_of place.now)) }
     ensures number { IfOk result (λ k. k ≡ spec.ordered_at at.instr at.memory log.old.next) }
-    ensures log { OnOk result (writer_tree log.new ≡ spec.ordered (flow_in flow.now) at.instr at.form at.addr at.word at.memory (place_of place.now) current (writer_tree log.old)) }
+    ensures log { OnOk result (writer_tree log.new
+        ≡ spec.ordered (flow_in flow.now) at.instr at.form at.addr at.word at.memory
+        (place_of place.now) current (writer_tree log.old)) }
 {
     let wide = triple_on(alloc, flow, at, all_mems(flow), place)?;
     if !is_crossed(at.instr, at.memory) {
@@ -297,8 +332,9 @@ fn put_wide(
     log.state_further(framed, wide)
 }
 
-/// The lines of an instruction in that form, where q is the memory that it loads from or stores to, if it does: its axiom, over the current
-/// variables, over all registers and memories, and with new variables for what it writes.
+/// The lines of an instruction in that form, where q is the memory that it loads from or stores to,
+/// if it does: its axiom, over the current variables, over all registers and memories, and with new
+/// variables for what it writes.
 fn instruction_lines(
     alloc: Global,
     flow: &Flow<'_>,
@@ -311,11 +347,16 @@ fn instruction_lines(
     requires named { destination at.instr < 32 }
     requires memory { at.memory < 2 }
     requires low { terms.has_memory at.instr ≡ true → at.memory < (flow_in flow.now).mems }
-    requires crossed { crosses at.instr at.memory ≡ true → (log.old.version ≡ Four) × ((flow_in flow.now).mems ≡ 2) }
-    requires fine { spec.IsFineInstruction (flow_in flow.now) at.instr at.form at.addr at.word at.memory (place_of place.now) }
-    ensures number { IfOk result (λ k. k ≡ spec.ordered_at at.instr at.memory (log.old.next + 1 + 1) + 1) }
+    requires crossed { crosses at.instr at.memory ≡ true
+        → (log.old.version ≡ Four) × ((flow_in flow.now).mems ≡ 2) }
+    requires fine { spec.IsFineInstruction (flow_in flow.now) at.instr at.form at.addr at.word
+        at.memory (place_of place.now) }
+    ensures number { IfOk result (λ k.
+        k ≡ spec.ordered_at at.instr at.memory (log.old.next + 1 + 1) + 1) }
     ensures fits { IfOk result (λ k. k < 2 ^ 64) }
-    ensures log { OnOk result (writer_tree log.new ≡ spec.acted (flow_in flow.now) at.instr at.form at.addr at.word at.memory (place_of place.now) (writer_tree log.old)) }
+    ensures log { OnOk result (writer_tree log.new
+        ≡ spec.acted (flow_in flow.now) at.instr at.form at.addr at.word at.memory
+        (place_of place.now) (writer_tree log.old)) }
 {
     let own = first_triple(alloc, at)?;
     let first = log.state(Rule::Axiom(at.addr, at.word, at.form), own)?;
@@ -339,9 +380,16 @@ fn act(
     requires node { n < (flow_in flow.now).nodes }
     requires words { place.now.words < 2 ^ 15 }
     requires mems { place.now.mems < 2 ^ 15 }
-    ensures { IfOk result (λ t. StandsAt (flow_in flow.now) flow.now.code n
-        × (cited_tree t ≡ spec.act_standing ((flow_in flow.now).instr n) form ((flow_in flow.now).addr n) ((flow_in flow.now).word n) ((flow_in flow.now).uses n) (place_of place.now) (writer_tree log.old))
-        × (writer_tree log.new ≡ spec.acted (flow_in flow.now) ((flow_in flow.now).instr n) form ((flow_in flow.now).addr n) ((flow_in flow.now).word n) ((flow_in flow.now).uses n) (place_of place.now) (writer_tree log.old))) }
+    ensures { IfOk result (λ t.
+        StandsAt (flow_in flow.now) flow.now.code n
+        × (cited_tree t
+        ≡ spec.act_standing ((flow_in flow.now).instr n) form ((flow_in flow.now).addr n)
+        ((flow_in flow.now).word n) ((flow_in flow.now).uses n) (place_of place.now)
+        (writer_tree log.old))
+        × (writer_tree log.new
+        ≡ spec.acted (flow_in flow.now) ((flow_in flow.now).instr n) form
+        ((flow_in flow.now).addr n) ((flow_in flow.now).word n) ((flow_in flow.now).uses n)
+        (place_of place.now) (writer_tree log.old))) }
 {
     let i = flow.instr(n);
     let addr = flow.addr(n);
@@ -362,7 +410,8 @@ fn act(
     Ok(CitedTheorem::new(number, known, code))
 }
 
-/// The lines from a node on to where its instruction leads in that form, and the theorem that leads there.
+/// The lines from a node on to where its instruction leads in that form, and the theorem that leads
+/// there.
 pub fn step(
     alloc: Global,
     flow: &Flow<'_>,
@@ -379,10 +428,20 @@ pub fn step(
     requires words { place.now.words < 2 ^ 15 }
     requires mems { place.now.mems < 2 ^ 15 }
     requires code { IsOver flow.now.code (option_map cited_tree (option_copied from)) }
-    ensures steps { IfOk result (λ t. Steps (flow_in flow.now) entry flow.now.code (writer_tree log.old) (writer_tree log.new) (Const ((flow_in flow.now).addr n)) (place_of place.now) (option_map cited_tree (option_copied from.entry))
-        (terms.pc_after ((flow_in flow.now).instr n) form ((flow_in flow.now).addr n) (bodies.size (flow_in flow.now) n) (bodies.names (place_of place.now) ((flow_in flow.now).uses n)))
-        (bodies.place_after ((flow_in flow.now).instr n) ((flow_in flow.now).uses n) (place_of place.now))
-        (map So (terms.conditions ((flow_in flow.now).instr n) form (bodies.names (place_of place.now) ((flow_in flow.now).uses n))) ++ spec.new_facts ((flow_in flow.now).instr n) ((flow_in flow.now).addr n) (bodies.size (flow_in flow.now) n) ((flow_in flow.now).uses n) (place_of place.now)) (cited_tree t)) }
+    ensures steps { IfOk result (λ t.
+        Steps (flow_in flow.now) entry flow.now.code (writer_tree log.old) (writer_tree log.new)
+        (Const ((flow_in flow.now).addr n)) (place_of place.now)
+        (option_map cited_tree (option_copied from.entry))
+        (terms.pc_after ((flow_in flow.now).instr n) form ((flow_in flow.now).addr n)
+        (bodies.size (flow_in flow.now) n)
+        (bodies.names (place_of place.now) ((flow_in flow.now).uses n)))
+        (bodies.place_after ((flow_in flow.now).instr n) ((flow_in flow.now).uses n)
+        (place_of place.now))
+        (map So (terms.conditions ((flow_in flow.now).instr n) form
+        (bodies.names (place_of place.now) ((flow_in flow.now).uses n)))
+        ++ spec.new_facts ((flow_in flow.now).instr n) ((flow_in flow.now).addr n)
+        (bodies.size (flow_in flow.now) n) ((flow_in flow.now).uses n) (place_of place.now))
+        (cited_tree t)) }
     ensures code { IfOk result (λ t. IsWithin (range_bytes t.code) (range_bytes flow.now.code)) }
 {
     law_of_memories(flow, place);

@@ -22,7 +22,8 @@ use rv_words::{List, NoMemory, Text};
 use std::alloc::Global;
 use tailrec_lang::Group;
 
-/// A function's group, the lines of its proof, and how many instructions are reached from its entry.
+/// A function's group, the lines of its proof, and how many instructions are reached from its
+/// entry.
 #[derive(Debug, Drop)]
 pub struct Item {
     pub group: Group,
@@ -30,7 +31,8 @@ pub struct Item {
     pub reached: u32,
 }
 
-/// The group of that name for a graph and its forest, with lines that close each of its definitions.
+/// The group of that name for a graph and its forest, with lines that close each of its
+/// definitions.
 pub fn item_of(alloc: Global, name: Text, graph: &Graph, forest: &Forest) -> Result<Item, NoMemory>
     requires reached { IsReached false graph.now }
     requires forest { IsForestOf graph.now forest.now }

@@ -28,7 +28,8 @@ use std::alloc::Global;
 use tailrec_lang::{Def, Group};
 use word_terms::copy_code;
 
-/// Walks through these parts of a flow in a text of version 3, and tells the number of the next theorem.
+/// Walks through these parts of a flow in a text of version 3, and tells the number of the next
+/// theorem.
 fn walk_parts(
     alloc: Global,
     flow: &Flow<'_>,
@@ -41,9 +42,12 @@ fn walk_parts(
     requires each { All (IsPart (flow_in flow.now)) parts.now }
     requires first { first ≡ (after_lines (map line_tree lines.old)).next }
     ensures next { IfOk result (λ k. k ≡ (after_lines (map line_tree lines.new)).next) }
-    ensures defs { OnOk result (map def_tree defs.new ≡ map def_tree defs.old ++ map (spec.part_def (flow_in flow.now)) parts.now) }
-    ensures lines { OnOk result (AreWalkedTo Three (flow_in flow.now) flow.now.code parts.now (length parts.now) (map line_tree lines.old) (map line_tree lines.new)) }
-    ensures kept { OnOk result (KeepsNone (after_lines (map line_tree lines.old)) → KeepsNone (after_lines (map line_tree lines.new))) }
+    ensures defs { OnOk result (map def_tree defs.new
+        ≡ map def_tree defs.old ++ map (spec.part_def (flow_in flow.now)) parts.now) }
+    ensures lines { OnOk result (AreWalkedTo Three (flow_in flow.now) flow.now.code parts.now
+        (length parts.now) (map line_tree lines.old) (map line_tree lines.new)) }
+    ensures kept { OnOk result (KeepsNone (after_lines (map line_tree lines.old))
+        → KeepsNone (after_lines (map line_tree lines.new))) }
 {
     let mut next = first;
     for part in parts {
@@ -66,9 +70,14 @@ fn walk_function(
     requires function { CanBeWalked group.now function.now }
     requires first { first ≡ (after_lines (map line_tree lines.old)).next }
     ensures next { IfOk result (λ k. k ≡ (after_lines (map line_tree lines.new)).next) }
-    ensures defs { OnOk result (map def_tree defs.new ≡ map def_tree defs.old ++ map (spec.part_def (flow_at (member_in group.now function.now))) function.now.parts) }
-    ensures lines { OnOk result (AreWalkedTo Three (flow_at (member_in group.now function.now)) group.now.code.ranges function.now.parts (length function.now.parts) (map line_tree lines.old) (map line_tree lines.new)) }
-    ensures kept { OnOk result (KeepsNone (after_lines (map line_tree lines.old)) → KeepsNone (after_lines (map line_tree lines.new))) }
+    ensures defs { OnOk result (map def_tree defs.new
+        ≡ map def_tree defs.old
+        ++ map (spec.part_def (flow_at (member_in group.now function.now))) function.now.parts) }
+    ensures lines { OnOk result (AreWalkedTo Three (flow_at (member_in group.now function.now))
+        group.now.code.ranges function.now.parts (length function.now.parts)
+        (map line_tree lines.old) (map line_tree lines.new)) }
+    ensures kept { OnOk result (KeepsNone (after_lines (map line_tree lines.old))
+        → KeepsNone (after_lines (map line_tree lines.new))) }
 {
     let setting = group.setting(function);
     let flow = Flow::of(

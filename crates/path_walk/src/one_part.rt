@@ -62,7 +62,8 @@ fn next_after(first: u64, lines: &[Line]) -> Result<u64, NoMemory>
 /// Lines that forget the theorems from that number on, below that of the next.
 fn forget_lines(first: u64, next: u64, lines: &mut List<Line>) -> Result<(), NoMemory>
     requires { first ≤ next }
-    ensures { OnOk result (map line_tree lines.new ≡ map line_tree lines.old ++ forgets first (next - first)) }
+    ensures { OnOk result (map line_tree lines.new
+        ≡ map line_tree lines.old ++ forgets first (next - first)) }
 {
     for number in first..next {
         lines.push(Line::Forget(number))?;
@@ -80,8 +81,16 @@ fn closing_lines(
 ) -> Result<List<Line>, NoMemory>
     requires version { IsVersionFor (flow_in flow.now) version }
     requires part { IsPart (flow_in flow.now) part }
-    ensures lines { IfOk result (λ more. (old : Items LineTree) → first ≡ (after_lines old).next → IsWalkedIn version (flow_in flow.now) flow.now.code part old (old ++ map line_tree more)) }
-    ensures kept { IfOk result (λ more. (old : Items LineTree) → first ≡ (after_lines old).next → KeepsNone (after_lines old) → KeepsNone (after_lines (old ++ map line_tree more))) }
+    ensures lines { IfOk result (λ more.
+        (old : Items LineTree)
+        → first ≡ (after_lines old).next
+        → IsWalkedIn version (flow_in flow.now) flow.now.code part old
+        (old ++ map line_tree more)) }
+    ensures kept { IfOk result (λ more.
+        (old : Items LineTree)
+        → first ≡ (after_lines old).next
+        → KeepsNone (after_lines old)
+        → KeepsNone (after_lines (old ++ map line_tree more))) }
 {
     let mut log = ProofWriter::new(alloc, version, first);
     part_lines(alloc, flow, part, &mut log)?;
@@ -95,7 +104,9 @@ fn closing_lines(
     Ok(lines)
 }
 
-/// Walks through a part of a flow: adds lines of a text of that version, which close its definition and forget the theorems that were stated for it, where `first` is the number of the next theorem.
+/// Walks through a part of a flow: adds lines of a text of that version, which close its definition
+/// and forget the theorems that were stated for it, where `first` is the number of the next
+/// theorem.
 pub fn walk_in(
     alloc: Global,
     flow: &Flow<'_>,
@@ -109,8 +120,10 @@ pub fn walk_in(
     requires first { first ≡ (after_lines (map line_tree lines.old)).next }
     ensures def { IfOk result (λ w. def_tree w.def ≡ spec.part_def (flow_in flow.now) part) }
     ensures next { IfOk result (λ w. w.next ≡ (after_lines (map line_tree lines.new)).next) }
-    ensures lines { OnOk result (IsWalkedIn version (flow_in flow.now) flow.now.code part (map line_tree lines.old) (map line_tree lines.new)) }
-    ensures kept { OnOk result (KeepsNone (after_lines (map line_tree lines.old)) → KeepsNone (after_lines (map line_tree lines.new))) }
+    ensures lines { OnOk result (IsWalkedIn version (flow_in flow.now) flow.now.code part
+        (map line_tree lines.old) (map line_tree lines.new)) }
+    ensures kept { OnOk result (KeepsNone (after_lines (map line_tree lines.old))
+        → KeepsNone (after_lines (map line_tree lines.new))) }
     ensures same { OnErr result (lines.new ≡ lines.old) }
 {
     let def = part_def(alloc, flow, part)?;
@@ -120,8 +133,10 @@ pub fn walk_in(
     Ok(Walked { def, next })
 }
 
-/// Walks through a part: gives its definition, and adds lines that close it and forget the theorems that were stated for it, where `first` is the number of
-/// the next theorem. The parts that it calls have their places in `earlier` as numbers, as has the part itself, or the length of `earlier` where it isn't there.
+/// Walks through a part: gives its definition, and adds lines that close it and forget the theorems
+/// that were stated for it, where `first` is the number of the next theorem. The parts that it
+/// calls have their places in `earlier` as numbers, as has the part itself, or the length of
+/// `earlier` where it isn't there.
 pub fn walk(
     alloc: Global,
     graph: &Graph,
@@ -136,10 +151,14 @@ pub fn walk(
     requires few { length earlier.now < 2 ^ 32 }
     requires part { IsPart (flow_of graph.now forest.now (alone graph.now earlier.now)) part }
     requires first { first ≡ (after_lines (map line_tree lines.old)).next }
-    ensures def { IfOk result (λ w. def_tree w.def ≡ spec.part_def (flow_of graph.now forest.now (alone graph.now earlier.now)) part) }
+    ensures def { IfOk result (λ w.
+        def_tree w.def
+        ≡ spec.part_def (flow_of graph.now forest.now (alone graph.now earlier.now)) part) }
     ensures next { IfOk result (λ w. w.next ≡ (after_lines (map line_tree lines.new)).next) }
-    ensures lines { OnOk result (IsWalkedAfter graph.now forest.now earlier.now part (map line_tree lines.old) (map line_tree lines.new)) }
-    ensures kept { OnOk result (KeepsNone (after_lines (map line_tree lines.old)) → KeepsNone (after_lines (map line_tree lines.new))) }
+    ensures lines { OnOk result (IsWalkedAfter graph.now forest.now earlier.now part
+        (map line_tree lines.old) (map line_tree lines.new)) }
+    ensures kept { OnOk result (KeepsNone (after_lines (map line_tree lines.old))
+        → KeepsNone (after_lines (map line_tree lines.new))) }
     ensures same { OnErr result (lines.new ≡ lines.old) }
 {
     let flow = Flow::new(alloc, graph, forest, earlier)?;

@@ -42,8 +42,14 @@ impl Model for CitedTheorem {
 impl CitedTheorem {
     /// The theorem of that number, which has these facts and this code.
     pub fn new(number: u64, facts: List<Fact>, code: Code) -> CitedTheorem
-        requires { IsFineCited (cited_tree (record { number = number; facts = facts; code = code.ranges })) }
-        ensures { cited_tree result ≡ record { number = number; facts = map fact_tree facts; code = code.ranges } }
+        requires { IsFineCited (cited_tree (record {
+          number = number;
+          facts = facts;
+          code =
+              code.ranges;
+        })) }
+        ensures { cited_tree result
+            ≡ record { number = number; facts = map fact_tree facts; code = code.ranges } }
     {
         CitedTheorem {
             number,
@@ -81,7 +87,8 @@ impl CitedTheorem {
     }
 }
 
-/// The version of the text, lines, the number of the next theorem, and the theorems that are cited for leaves.
+/// The version of the text, lines, the number of the next theorem, and the theorems that are cited
+/// for leaves.
 #[derive(Drop)]
 pub struct ProofWriter {
     version: Version,
@@ -109,7 +116,8 @@ impl Model for ProofWriter {
 impl ProofWriter {
     /// No line yet.
     pub fn new(alloc: Global, version: Version, first: u64) -> ProofWriter
-        ensures { writer_tree result ≡ record { version = version; lines = []; next = first; cited = [] } }
+        ensures { writer_tree result
+            ≡ record { version = version; lines = []; next = first; cited = [] } }
     {
         ProofWriter {
             version,
@@ -125,7 +133,8 @@ impl ProofWriter {
         requires stated { IsTriple (triple_tree stated) }
         ensures number { IfOk result (λ k. k ≡ self.old.next) }
         ensures fits { IfOk result (λ k. k < 2 ^ 64) }
-        ensures log { OnOk result (writer_tree self.new ≡ stating (rule_tree rule) (triple_tree stated) (writer_tree self.old)) }
+        ensures log { OnOk result (writer_tree self.new
+            ≡ stating (rule_tree rule) (triple_tree stated) (writer_tree self.old)) }
     {
         let number = self.next;
         let Some(next) = number.checked_add(1) else {
@@ -136,13 +145,15 @@ impl ProofWriter {
         Ok(number)
     }
 
-    /// States a triple from that theorem by the further rule of the text, and tells the theorem's number.
+    /// States a triple from that theorem by the further rule of the text, and tells the theorem's
+    /// number.
     pub fn state_further(&mut self, cited: u64, stated: Triple) -> Result<u64, NoMemory>
         requires further { is_some (version_of self.old.version).further ≡ true }
         requires stated { IsTriple (triple_tree stated) }
         ensures number { IfOk result (λ k. k ≡ self.old.next) }
         ensures fits { IfOk result (λ k. k < 2 ^ 64) }
-        ensures log { OnOk result (writer_tree self.new ≡ stating_further cited (triple_tree stated) (writer_tree self.old)) }
+        ensures log { OnOk result (writer_tree self.new
+            ≡ stating_further cited (triple_tree stated) (writer_tree self.old)) }
     {
         let number = self.next;
         let Some(next) = number.checked_add(1) else {
@@ -155,7 +166,8 @@ impl ProofWriter {
 
     /// Cites a theorem for the next leaf.
     pub fn cite(&mut self, theorem: &CitedTheorem) -> Result<(), NoMemory>
-        ensures { OnOk result (writer_tree self.new ≡ citing theorem.now.number (writer_tree self.old)) }
+        ensures { OnOk result (writer_tree self.new
+            ≡ citing theorem.now.number (writer_tree self.old)) }
     {
         self.cited.push(theorem.number())?;
         Ok(())

@@ -16,8 +16,9 @@ use loop_forest::Forest;
 use rv_words::{NoMemory, Text};
 use std::alloc::Global;
 
-/// The group of that name for a graph and its forest, with two memories: the accesses at the addresses of `second` use the second one, any other
-/// the first; with lines of a text of version 4 that close each of its definitions.
+/// The group of that name for a graph and its forest, with two memories: the accesses at the
+/// addresses of `second` use the second one, any other the first; with lines of a text of version 4
+/// that close each of its definitions.
 pub fn split_item(
     alloc: Global,
     name: Text,

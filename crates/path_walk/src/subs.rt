@@ -32,7 +32,9 @@ fn add_registers(
     words: &mut List<(u32, Word)>,
 ) -> Result<(), NoMemory>
     requires { length words.old + length regs.now < 2 ^ 32 }
-    ensures { OnOk result (map word_put_in words.new ≡ map word_put_in words.old ++ spec.numbered (length words.old) (map (names (place_of place.now) 0).word regs.now)) }
+    ensures { OnOk result (map word_put_in words.new
+        ≡ map word_put_in words.old
+        ++ spec.numbered (length words.old) (map (names (place_of place.now) 0).word regs.now)) }
 {
     for r in regs {
         let i = words.len() as u32;
@@ -48,7 +50,8 @@ pub fn own_words(
     place: &VariableMap,
 ) -> Result<List<(u32, Word)>, NoMemory>
     requires { length regs.now ≤ 31 }
-    ensures { IfOk result (λ ws. map word_put_in ws ≡ spec.numbered 0 (map (names (place_of place.now) 0).word regs.now)) }
+    ensures { IfOk result (λ ws.
+        map word_put_in ws ≡ spec.numbered 0 (map (names (place_of place.now) 0).word regs.now)) }
 {
     let mut words = List::new(alloc);
     add_registers(regs, place, &mut words)?;
@@ -96,7 +99,10 @@ fn add_results(
     requires few { length words.old ≤ 31 }
     requires words { place.now.words < 2 ^ 15 + 64 }
     requires mems { place.now.mems < 2 ^ 15 + 64 }
-    ensures { OnOk result (map word_put_in words.new ≡ map word_put_in words.old ++ spec.numbered (length words.old) (spec.results_at (flow_in flow.now) x place.now.words place.now.mems).words) }
+    ensures { OnOk result (map word_put_in words.new
+        ≡ map word_put_in words.old
+        ++ spec.numbered (length words.old)
+        (spec.results_at (flow_in flow.now) x place.now.words place.now.mems).words) }
 {
     let next = place_at(flow, x, place);
     if let Exit::Ret = x {
@@ -106,7 +112,8 @@ fn add_results(
     add_registers(flow.regs(), &next, words)
 }
 
-/// The current variables for the parameters of a call, and the next ones for the results of an exit.
+/// The current variables for the parameters of a call, and the next ones for the results of an
+/// exit.
 pub fn call_words(
     alloc: Global,
     flow: &Flow<'_>,
@@ -115,7 +122,8 @@ pub fn call_words(
 ) -> Result<List<(u32, Word)>, NoMemory>
     requires words { place.now.words < 2 ^ 15 + 64 }
     requires mems { place.now.mems < 2 ^ 15 + 64 }
-    ensures { IfOk result (λ ws. map word_put_in ws ≡ spec.call_words (flow_in flow.now) x (place_of place.now)) }
+    ensures { IfOk result (λ ws.
+        map word_put_in ws ≡ spec.call_words (flow_in flow.now) x (place_of place.now)) }
 {
     let mut words = own_words(alloc, flow.regs(), place)?;
     add_results(flow, x, place, &mut words)?;
@@ -130,7 +138,8 @@ pub fn call_mems(
     place: &VariableMap,
 ) -> Result<List<(u32, Mem)>, NoMemory>
     requires { place.now.mems < 2 ^ 15 + 64 }
-    ensures { IfOk result (λ ms. map mem_put_in ms ≡ spec.call_mems (flow_in flow.now) x (place_of place.now)) }
+    ensures { IfOk result (λ ms.
+        map mem_put_in ms ≡ spec.call_mems (flow_in flow.now) x (place_of place.now)) }
 {
     let mut mems = List::new(alloc);
     match flow.mems() {

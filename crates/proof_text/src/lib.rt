@@ -1,4 +1,5 @@
-//! Proof texts: the lines of proofs as text, each written in one way, behind the groups that they prove.
+//! Proof texts: the lines of proofs as text, each written in one way, behind the groups that they
+//! prove.
 #![tactic(auto)]
 
 mod laws;

@@ -62,7 +62,8 @@ impl SpelledLine {
 
 /// The line, whose triple has that code.
 fn with_code(alloc: Global, code: &Code, line: Line) -> Result<Line, NoMemory>
-    ensures { IfOk result (λ whole. line_tree whole ≡ line_or_own code.now.ranges true (line_tree line)) }
+    ensures { IfOk result (λ whole.
+        line_tree whole ≡ line_or_own code.now.ranges true (line_tree line)) }
 {
     match line {
         Line::States { rule, stated } => {
@@ -79,7 +80,8 @@ fn with_code(alloc: Global, code: &Code, line: Line) -> Result<Line, NoMemory>
 
 /// The triple, with that code.
 fn triple_of_code(alloc: Global, code: &Code, triple: Triple) -> Result<Triple, NoMemory>
-    ensures { IfOk result (λ t. triple_tree t ≡ triple_or_own code.now.ranges true (triple_tree triple)) }
+    ensures { IfOk result (λ t.
+        triple_tree t ≡ triple_or_own code.now.ranges true (triple_tree triple)) }
 {
     let code = copy_code(alloc, code)?;
     Ok(Triple {

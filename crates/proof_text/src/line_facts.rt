@@ -105,7 +105,8 @@ fn read_fact<'a>(alloc: Global, scan: &mut Scan<'a>) -> Result<Fact, TokenError>
 
 /// The facts up to a token other than a left parenthesis.
 pub fn read_facts<'a>(alloc: Global, scan: &mut Scan<'a>) -> Result<List<Fact>, TokenError>
-    ensures gives { Gives (λ facts. map fact_tree facts) result scan.old scan.new (star is_open fact_at) }
+    ensures gives { Gives (λ facts. map fact_tree facts) result scan.old scan.new
+        (star is_open fact_at) }
     ensures last { last_line scan.new ≡ last_line scan.old }
 {
     let mut facts = List::new(alloc);

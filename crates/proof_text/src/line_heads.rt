@@ -7,7 +7,7 @@ use term_text::variable_of;
 use triple_kernel::Form;
 
 /// The forms of facts.
-#[derive(Clone, Copy, Debug, PartialEq, Eq)]
+#[derive(Clone, Copy, PartialEq, Eq)]
 pub enum FactHead {
     WordIs,
     MemIs,
@@ -16,7 +16,7 @@ pub enum FactHead {
 }
 
 /// The rules.
-#[derive(Clone, Copy, Debug, PartialEq, Eq)]
+#[derive(Clone, Copy, PartialEq, Eq)]
 pub enum RuleHead {
     Axiom,
     Inst,
@@ -30,7 +30,7 @@ pub enum RuleHead {
 }
 
 /// A variable for a word or for a memory.
-#[derive(Clone, Copy, Debug, PartialEq, Eq)]
+#[derive(Clone, Copy, PartialEq, Eq)]
 pub enum SubHead {
     Word(u32),
     Mem(u32),

@@ -84,7 +84,8 @@ pub fn read_cited<'a>(scan: &mut Scan<'a>) -> Result<u64, TokenError>
 
 /// A theorem and terms for variables, and the first word of a triple.
 fn read_inst<'a>(alloc: Global, scan: &mut Scan<'a>) -> Result<(u64, Vec<Put>), TokenError>
-    ensures gives { Gives (λ inst. (inst.0, (map put_tree inst.1.items, tt))) result scan.old scan.new inst_parts }
+    ensures gives { Gives (λ inst. (inst.0, (map put_tree inst.1.items, tt))) result scan.old
+        scan.new inst_parts }
     ensures last { last_line scan.new ≡ last_line scan.old }
 {
     let p = read_theorem(scan)?;

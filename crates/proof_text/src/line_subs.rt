@@ -16,7 +16,7 @@ use term_text::{read_mem, read_word};
 use word_terms::{DEPTH_LIMIT, Mem, Sub, Word};
 
 /// A term that is put in for a variable.
-#[derive(Debug, Drop)]
+#[derive(Drop)]
 pub enum Put {
     Word(u32, Word),
     Mem(u32, Mem),
@@ -65,7 +65,8 @@ fn read_sub<'a>(alloc: Global, scan: &mut Scan<'a>) -> Result<Put, TokenError>
 
 /// The terms for variables up to a token other than a left parenthesis.
 pub fn read_subs<'a>(alloc: Global, scan: &mut Scan<'a>) -> Result<Vec<Put>, TokenError>
-    ensures gives { Gives (λ puts. map put_tree puts.items) result scan.old scan.new (star is_open sub_at) }
+    ensures gives { Gives (λ puts. map put_tree puts.items) result scan.old scan.new
+        (star is_open sub_at) }
     ensures last { last_line scan.new ≡ last_line scan.old }
 {
     let mut puts = Vec::new(alloc);
@@ -101,8 +102,10 @@ pub fn puts_rise(puts: &[Put]) -> bool
 
 /// The words and the memories of these, each in their order.
 pub fn sub_of(alloc: Global, puts: Vec<Put>) -> Result<Sub, NoMemory>
-    ensures words { IfOk result (λ sub. map word_put_in sub.words ≡ words_of (map put_tree puts.items)) }
-    ensures mems { IfOk result (λ sub. map mem_put_in sub.mems ≡ mems_of (map put_tree puts.items)) }
+    ensures words { IfOk result (λ sub.
+        map word_put_in sub.words ≡ words_of (map put_tree puts.items)) }
+    ensures mems { IfOk result (λ sub.
+        map mem_put_in sub.mems ≡ mems_of (map put_tree puts.items)) }
 {
     let mut words = List::new(alloc);
     let mut mems = List::new(alloc);

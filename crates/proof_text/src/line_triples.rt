@@ -35,13 +35,15 @@ fn read_register_term<'a>(alloc: Global, scan: &mut Scan<'a>) -> Result<(u8, Wor
     Ok((register, word))
 }
 
-/// The registers up to a token other than a left parenthesis. There is memory for that many at once.
+/// The registers up to a token other than a left parenthesis. There is memory for that many at
+/// once.
 fn read_register_terms<'a>(
     alloc: Global,
     scan: &mut Scan<'a>,
     expected: usize,
 ) -> Result<List<(u8, Word)>, TokenError>
-    ensures gives { Gives (λ regs. map register_tree regs) result scan.old scan.new (star is_open register_at) }
+    ensures gives { Gives (λ regs. map register_tree regs) result scan.old scan.new
+        (star is_open register_at) }
     ensures last { last_line scan.new ≡ last_line scan.old }
 {
     let mut regs = List::with_capacity(alloc, expected)?;
@@ -123,7 +125,8 @@ fn read_other<'a>(
     scan: &mut Scan<'a>,
     own: &Code,
 ) -> Result<(Code, bool), TokenError>
-    ensures gives { Gives (λ c. code_or_own own.now.ranges c.1 c.0.ranges) result scan.old scan.new (checked (is_other_code own.now.ranges) ranges_to_post) }
+    ensures gives { Gives (λ c. code_or_own own.now.ranges c.1 c.0.ranges) result scan.old scan.new
+        (checked (is_other_code own.now.ranges) ranges_to_post) }
     ensures last { last_line scan.new ≡ last_line scan.old }
 {
     let code = read_ranges_to_post(alloc, scan)?;
@@ -133,9 +136,11 @@ fn read_other<'a>(
     Ok((code, false))
 }
 
-/// What stands for the group's own code, after the word for that, with the word behind it: that code is left out.
+/// What stands for the group's own code, after the word for that, with the word behind it: that
+/// code is left out.
 fn read_own<'a>(alloc: Global, scan: &mut Scan<'a>, own: &Code) -> Result<(Code, bool), TokenError>
-    ensures gives { Gives (λ c. code_or_own own.now.ranges c.1 c.0.ranges) result scan.old scan.new (made (λ _. own.now.ranges) (word (codes "post"))) }
+    ensures gives { Gives (λ c. code_or_own own.now.ranges c.1 c.0.ranges) result scan.old scan.new
+        (made (λ _. own.now.ranges) (word (codes "post"))) }
     ensures last { last_line scan.new ≡ last_line scan.old }
 {
     keyword(scan, b"post")?;
@@ -146,7 +151,8 @@ fn read_own<'a>(alloc: Global, scan: &mut Scan<'a>, own: &Code) -> Result<(Code,
 /// Code, with the word behind it, and whether it is the group's own, which is left out.
 #[tactic(auto, unfolding(crate::specs::inner::LineReading::code_at))]
 fn read_code<'a>(alloc: Global, scan: &mut Scan<'a>, own: &Code) -> Result<(Code, bool), TokenError>
-    ensures gives { Gives (λ c. code_or_own own.now.ranges c.1 c.0.ranges) result scan.old scan.new (code_at own.now.ranges) }
+    ensures gives { Gives (λ c. code_or_own own.now.ranges c.1 c.0.ranges) result scan.old scan.new
+        (code_at own.now.ranges) }
     ensures last { last_line scan.new ≡ last_line scan.old }
 {
     match peek(scan) {
@@ -162,15 +168,16 @@ fn read_code<'a>(alloc: Global, scan: &mut Scan<'a>, own: &Code) -> Result<(Code
     }
 }
 
-/// A triple, after its first word, and whether its code is the group's own, which is left out. Mostly both sides have as many
-/// registers.
+/// A triple, after its first word, and whether its code is the group's own, which is left out.
+/// Mostly both sides have as many registers.
 #[tactic(auto, unfolding(crate::specs::inner::LineReading::triple_at))]
 pub fn read_triple<'a>(
     alloc: Global,
     scan: &mut Scan<'a>,
     own: &Code,
 ) -> Result<(Triple, bool), TokenError>
-    ensures gives { Gives (λ t. triple_or_own own.now.ranges t.1 (triple_tree t.0)) result scan.old scan.new (triple_at own.now.ranges) }
+    ensures gives { Gives (λ t. triple_or_own own.now.ranges t.1 (triple_tree t.0)) result scan.old
+        scan.new (triple_at own.now.ranges) }
     ensures last { last_line scan.new ≡ last_line scan.old }
 {
     let facts = read_facts(alloc, scan)?;

@@ -35,11 +35,20 @@ fn read_row<E, R: Rows<E>, W: ReadLines>(
     own: &Code,
     kept: &mut W,
 ) -> Result<W::Line, ReadError>
-    ensures gives { (before : List W.readers.grammar.Line) → W.Behind kept.old before → ReadsRows (W.readers.line_at (version_of version) own.now.ranges before)
-        → RowsGive (W.tree own.now.ranges) result (R.May rows.old from.old) (R.May rows.new from.new) (W.readers.line_at (version_of version) own.now.ranges before) }
-    ensures behind { (before : List W.readers.grammar.Line) → W.Behind kept.old before → IfOk result (λ l. W.Behind kept.new (before ++ W.tree own.now.ranges l ∷ [])) }
-    ensures kept { OnErr result ((before : List W.readers.grammar.Line) → W.Behind kept.old before → W.Behind kept.new before) }
-    ensures lost { OnErr result ((p : RowPosition) → R.May rows.new from.new p → R.May rows.old from.old p) }
+    ensures gives { (before : List W.readers.grammar.Line)
+        → W.Behind kept.old before
+        → ReadsRows (W.readers.line_at (version_of version) own.now.ranges before)
+        → RowsGive (W.tree own.now.ranges) result (R.May rows.old from.old)
+        (R.May rows.new from.new) (W.readers.line_at (version_of version) own.now.ranges before) }
+    ensures behind { (before : List W.readers.grammar.Line)
+        → W.Behind kept.old before
+        → IfOk result (λ l. W.Behind kept.new (before ++ W.tree own.now.ranges l ∷ [])) }
+    ensures kept { OnErr result ((before : List W.readers.grammar.Line)
+        → W.Behind kept.old before
+        → W.Behind kept.new before) }
+    ensures lost { OnErr result ((p : RowPosition)
+        → R.May rows.new from.new p
+        → R.May rows.old from.old p) }
     ensures left { R.left rows.new ≤ R.left rows.old }
     ensures lends { R.Lends (halted_by result) rows.old from.old rows.new from.new }
     ensures fewer { OnOk result (R.left rows.new < R.left rows.old) }
@@ -52,7 +61,8 @@ fn read_row<E, R: Rows<E>, W: ReadLines>(
     Ok(line)
 }
 
-/// The next line of a text of that version, by the group's own code, or none where the group's proof ends.
+/// The next line of a text of that version, by the group's own code, or none where the group's
+/// proof ends.
 pub fn read_turn<E, R: Rows<E>, W: ReadLines>(
     alloc: Global,
     rows: &mut R,
@@ -61,11 +71,23 @@ pub fn read_turn<E, R: Rows<E>, W: ReadLines>(
     own: &Code,
     kept: &mut W,
 ) -> Result<Option<W::Line>, ReadError>
-    ensures gives { (before : List W.readers.grammar.Line) → W.Behind kept.old before → ReadsRows (W.readers.line_at (version_of version) own.now.ranges before)
-        → RowsGive (λ found. option_map (W.tree own.now.ranges) found) result (R.May rows.old from.old) (R.May rows.new from.new) (turn_over W.readers (version_of version) own.now.ranges before) }
-    ensures behind { (before : List W.readers.grammar.Line) → W.Behind kept.old before → IfOk result (λ found. IfSome found (λ l. W.Behind kept.new (before ++ W.tree own.now.ranges l ∷ []))) }
-    ensures kept { OnErr result ((before : List W.readers.grammar.Line) → W.Behind kept.old before → W.Behind kept.new before) }
-    ensures lost { R.Sure rows.old from.old → OnRowError result ((p : RowPosition) → R.May rows.new from.new p → R.May rows.old from.old p × (goes_on ends_proof (tokens p) ≡ false)) }
+    ensures gives { (before : List W.readers.grammar.Line)
+        → W.Behind kept.old before
+        → ReadsRows (W.readers.line_at (version_of version) own.now.ranges before)
+        → RowsGive (λ found. option_map (W.tree own.now.ranges) found) result
+        (R.May rows.old from.old) (R.May rows.new from.new)
+        (turn_over W.readers (version_of version) own.now.ranges before) }
+    ensures behind { (before : List W.readers.grammar.Line)
+        → W.Behind kept.old before
+        → IfOk result (λ found.
+        IfSome found (λ l. W.Behind kept.new (before ++ W.tree own.now.ranges l ∷ []))) }
+    ensures kept { OnErr result ((before : List W.readers.grammar.Line)
+        → W.Behind kept.old before
+        → W.Behind kept.new before) }
+    ensures lost { R.Sure rows.old from.old
+        → OnRowError result ((p : RowPosition)
+        → R.May rows.new from.new p
+        → R.May rows.old from.old p × (goes_on ends_proof (tokens p) ≡ false)) }
     ensures left { R.left rows.new ≤ R.left rows.old }
     ensures fewer { IfOk result (λ found. IfSome found (λ _. R.left rows.new < R.left rows.old)) }
     ensures lends { R.Lends (halted_by result) rows.old from.old rows.new from.new }

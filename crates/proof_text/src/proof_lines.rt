@@ -22,7 +22,8 @@ use word_terms::Code;
 
 /// The numbers of theorems up to the end of the line.
 pub fn read_theorems<'a>(alloc: Global, scan: &mut Scan<'a>) -> Result<List<u64>, TokenError>
-    ensures gives { Gives (λ theorems. theorems) result scan.old scan.new (star has_atom theorem_at) }
+    ensures gives { Gives (λ theorems. theorems) result scan.old scan.new
+        (star has_atom theorem_at) }
     ensures last { last_line scan.new ≡ last_line scan.old }
 {
     let mut theorems = List::new(alloc);
@@ -64,7 +65,8 @@ fn read_stated<'a>(
     scan: &mut Scan<'a>,
     own: &Code,
 ) -> Result<SpelledLine, TokenError>
-    ensures gives { Gives (spelled_tree own.now.ranges) result scan.old scan.new (stated_row own.now.ranges) }
+    ensures gives { Gives (spelled_tree own.now.ranges) result scan.old scan.new
+        (stated_row own.now.ranges) }
     ensures last { last_line scan.new ≡ last_line scan.old }
 {
     let rule = read_rule(alloc, scan)?;
@@ -80,7 +82,8 @@ fn read_further<'a>(
     scan: &mut Scan<'a>,
     own: &Code,
 ) -> Result<SpelledLine, TokenError>
-    ensures gives { Gives (spelled_tree own.now.ranges) result scan.old scan.new (further_row own.now.ranges) }
+    ensures gives { Gives (spelled_tree own.now.ranges) result scan.old scan.new
+        (further_row own.now.ranges) }
     ensures last { last_line scan.new ≡ last_line scan.old }
 {
     let cited = read_cited(scan)?;
@@ -97,7 +100,8 @@ pub fn read_line<'a>(
     version: Version,
     own: &Code,
 ) -> Result<Line, TokenError>
-    ensures gives { Gives line_tree result scan.old scan.new (line_at (version_of version) own.now.ranges) }
+    ensures gives { Gives line_tree result scan.old scan.new
+        (line_at (version_of version) own.now.ranges) }
     ensures last { last_line scan.new ≡ last_line scan.old }
 {
     let spelled = read_spelled(alloc, scan, version, own)?;
@@ -113,7 +117,8 @@ pub fn read_spelled<'a>(
     version: Version,
     own: &Code,
 ) -> Result<SpelledLine, TokenError>
-    ensures gives { Gives (spelled_tree own.now.ranges) result scan.old scan.new (line_at (version_of version) own.now.ranges) }
+    ensures gives { Gives (spelled_tree own.now.ranges) result scan.old scan.new
+        (line_at (version_of version) own.now.ranges) }
     ensures last { last_line scan.new ≡ last_line scan.old }
 {
     match peek(scan) {

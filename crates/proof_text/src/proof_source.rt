@@ -33,11 +33,12 @@ pub trait ProofSource<E, W: ReadLines> {
     /// A bound on the groups and lines that may still be given.
     ghost left: { Self → ℕ };
 
-    /// What calls may do to the text and to what is lent, by whether the outside failed in the last of them.
+    /// What calls may do to the text and to what is lent, by whether the outside failed in the last
+    /// of them.
     ghost Lends: { Bool → Self → E → Self → E → Type 0 };
 
-    /// The next group, or none where the text ends well: to be called where the text begins, or where `next_line` has given
-    /// none.
+    /// The next group, or none where the text ends well: to be called where the text begins, or
+    /// where `next_line` has given none.
     fn next_group(
         &mut self,
         alloc: Global,
@@ -46,11 +47,16 @@ pub trait ProofSource<E, W: ReadLines> {
     ) -> Result<Option<Group>, PullFault>
         requires going { Goes self.old }
         requires laws { ReadsLines W.readers (version_of (version self.old)) }
-        ensures given { IfOk result (λ found. IfSome found (λ g. Both (told self.old from.old) (told self.new from.new) (GivesGroup W.readers.grammar (group_tree g)))) }
+        ensures given { IfOk result (λ found. IfSome found (λ g.
+            Both (told self.old from.old) (told self.new from.new)
+            (GivesGroup W.readers.grammar (group_tree g)))) }
         ensures behind { IfOk result (λ found. IfSome found (λ _. W.Behind kept.new [])) }
-        ensures fits { IfOk result (λ found. IfSome found (λ g. IsGroupIn (version_of (version self.new)) (group_tree g))) }
-        ensures end { IfOk result (λ found. IfNone found (IfSome (told self.old from.old) (EndsText W.readers.grammar))) }
-        ensures bad { IfErr result (λ fault. IfBad fault (λ n. IfSome (told self.old from.old) (BadGroupAt W.readers.grammar n))) }
+        ensures fits { IfOk result (λ found.
+            IfSome found (λ g. IsGroupIn (version_of (version self.new)) (group_tree g))) }
+        ensures end { IfOk result (λ found.
+            IfNone found (IfSome (told self.old from.old) (EndsText W.readers.grammar))) }
+        ensures bad { IfErr result (λ fault.
+            IfBad fault (λ n. IfSome (told self.old from.old) (BadGroupAt W.readers.grammar n))) }
         ensures goes { IfOk result (λ found. IfSome found (λ _. Goes self.new)) }
         ensures fewer { IfOk result (λ found. IfSome found (λ _. left self.new < left self.old)) }
         ensures version { version self.new ≡ version self.old }
@@ -66,20 +72,42 @@ pub trait ProofSource<E, W: ReadLines> {
     ) -> Result<Option<W::Line>, PullFault>
         requires going { Goes self.old }
         requires laws { ReadsLines W.readers (version_of (version self.old)) }
-        requires kept { IsBehindLines W.readers (version_of (version self.old)) (W.Behind kept.old) }
+        requires kept { IsBehindLines W.readers (version_of (version self.old))
+            (W.Behind kept.old) }
         requires group { IsGroupIn (version_of (version self.old)) (group_tree group.now) }
-        ensures given { (before : List W.readers.grammar.Line) → W.Behind kept.old before → W.readers.grammar.Are (version_of (version self.old)) before → IfOk result (λ found. IfSome found (λ l. Both (told self.old from.old) (told self.new from.new) (GivesLine W.readers.grammar (group_tree group.now) before (W.tree (group_tree group.now).code l)))) }
-        ensures behind { (before : List W.readers.grammar.Line) → W.Behind kept.old before → IfOk result (λ found. IfSome found (λ l. W.Behind kept.new (before ++ W.tree (group_tree group.now).code l ∷ []))) }
-        ensures fits { (before : List W.readers.grammar.Line) → W.Behind kept.old before → W.readers.grammar.Are (version_of (version self.old)) before → IfOk result (λ found. IfSome found (λ l. W.readers.Fits (version_of (version self.old)) before (W.tree (group_tree group.now).code l))) }
-        ensures end { IfOk result (λ found. IfNone found (Both (told self.old from.old) (told self.new from.new) EndsLines)) }
-        ensures bad { (before : List W.readers.grammar.Line) → W.Behind kept.old before → W.readers.grammar.Are (version_of (version self.old)) before → IfErr result (λ fault. IfBad fault (λ n. IfSome (told self.old from.old) (BadLineAt W.readers.grammar (group_tree group.now) before n))) }
+        ensures given { (before : List W.readers.grammar.Line)
+            → W.Behind kept.old before
+            → W.readers.grammar.Are (version_of (version self.old)) before
+            → IfOk result (λ found. IfSome found (λ l.
+            Both (told self.old from.old) (told self.new from.new)
+            (GivesLine W.readers.grammar (group_tree group.now) before
+            (W.tree (group_tree group.now).code l)))) }
+        ensures behind { (before : List W.readers.grammar.Line)
+            → W.Behind kept.old before
+            → IfOk result (λ found. IfSome found (λ l.
+            W.Behind kept.new (before ++ W.tree (group_tree group.now).code l ∷ []))) }
+        ensures fits { (before : List W.readers.grammar.Line)
+            → W.Behind kept.old before
+            → W.readers.grammar.Are (version_of (version self.old)) before
+            → IfOk result (λ found. IfSome found (λ l.
+            W.readers.Fits (version_of (version self.old)) before
+            (W.tree (group_tree group.now).code l))) }
+        ensures end { IfOk result (λ found.
+            IfNone found (Both (told self.old from.old) (told self.new from.new) EndsLines)) }
+        ensures bad { (before : List W.readers.grammar.Line)
+            → W.Behind kept.old before
+            → W.readers.grammar.Are (version_of (version self.old)) before
+            → IfErr result (λ fault. IfBad fault (λ n.
+            IfSome (told self.old from.old) (BadLineAt W.readers.grammar (group_tree group.now)
+            before n))) }
         ensures goes { IfOk result (λ _. Goes self.new) }
         ensures left { left self.new ≤ left self.old }
         ensures fewer { IfOk result (λ found. IfSome found (λ _. left self.new < left self.old)) }
         ensures version { version self.new ≡ version self.old }
         ensures lends { Lends (is_fault result) self.old from.old self.new from.new };
 
-    /// The number of the last line of the group or line that was given last, and 0 before the first.
+    /// The number of the last line of the group or line that was given last, and 0 before the
+    /// first.
     fn last_place(&self) -> u64
         ensures { (e : E) → IfSome (told self.now e) (λ r. result ≡ r.place) };
 

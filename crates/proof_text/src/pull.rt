@@ -1,4 +1,5 @@
-//! Reading a text from a file, one group or line a call. No more of it is held than the row that is next.
+//! Reading a text from a file, one group or line a call. No more of it is held than the row that is
+//! next.
 
 ghost use Rattle.std.specs.Prelude.{◌≡◌, ◌≤◌, ◌<◌, length, ◌⊎◌, ℕ, ◌∷◌, ◌++◌, [], List as Items, IfErr, IfNone, IfOk, IfSome, None, Some, false, is_none};
 ghost use Rattle.mc_text.specs.Fault.{IsBadAt};
@@ -27,7 +28,8 @@ use std::alloc::Global;
 use std::marker::Model;
 use tailrec_lang::Group;
 
-/// Goes over the groups of a text in a file and the lines of their proofs. The shelf is lent at each call.
+/// Goes over the groups of a text in a file and the lines of their proofs. The shelf is lent at
+/// each call.
 #[derive(Drop)]
 pub struct Pull<'s> {
     version: Version,
@@ -86,7 +88,9 @@ impl<'s> Pull<'s> {
         ensures lines { result.rows.lines ≡ lines.entry }
         ensures going { (result.refused ≡ None) × (result.ended ≡ false) }
         ensures left { left_of result ≤ lines.entry.size }
-        ensures begin { (file : Items ℕ) → ((progress_in result file).rest ≡ (progress_in result file).text) × ((progress_in result file).place ≡ 0) }
+        ensures begin { (file : Items ℕ)
+            → ((progress_in result file).rest ≡ (progress_in result file).text)
+            × ((progress_in result file).place ≡ 0) }
         ensures given { (file : Items ℕ) → HasGiven [] (progress_in result file) }
     {
         let rows = PulledRows::new(lines);
@@ -99,8 +103,9 @@ impl<'s> Pull<'s> {
         }
     }
 
-    /// The next group of a text with such lines, or none where the text ends well: to be called where the text begins, or
-    /// where `next_line` has given none. A refusal and the end are answered again and again.
+    /// The next group of a text with such lines, or none where the text ends well: to be called
+    /// where the text begins, or where `next_line` has given none. A refusal and the end are
+    /// answered again and again.
     pub fn next_group<S: Shelf, W: ReadLines>(
         &mut self,
         alloc: Global,
@@ -109,21 +114,38 @@ impl<'s> Pull<'s> {
     ) -> Result<Option<Group>, PullFault>
         requires { ReadsLines W.readers (version_of self.old.version) }
         // Where it is told what the name holds.
-        ensures given { IfOk result (λ found. IfSome found (λ g. WhereHeld (S.contents shelf.old) self.old.rows.lines.name (λ file.
-            (ps : Items (ProofOf W.readers.grammar.Line)) → HasGivenOver W.readers.grammar ps (progress_in self.old file) → HasGivenOver W.readers.grammar (ps ++ bare (group_tree g) ∷ []) (progress_in self.new file)))) }
-        ensures shorter { IfOk result (λ found. IfSome found (λ _. WhereHeld (S.contents shelf.old) self.old.rows.lines.name (λ file.
+        ensures given { IfOk result (λ found. IfSome found (λ g.
+            WhereHeld (S.contents shelf.old) self.old.rows.lines.name (λ file.
+            (ps : Items (ProofOf W.readers.grammar.Line))
+            → HasGivenOver W.readers.grammar ps (progress_in self.old file)
+            → HasGivenOver W.readers.grammar (ps ++ bare (group_tree g) ∷ [])
+            (progress_in self.new file)))) }
+        ensures shorter { IfOk result (λ found. IfSome found (λ _.
+            WhereHeld (S.contents shelf.old) self.old.rows.lines.name (λ file.
             length (progress_in self.new file).rest < length (progress_in self.old file).rest))) }
-        ensures end { IfOk result (λ found. IfNone found (self.old.ended ≡ false → WhereHeld (S.contents shelf.old) self.old.rows.lines.name (λ file.
-            (ps : Items (ProofOf W.readers.grammar.Line)) → HasGivenOver W.readers.grammar ps (progress_in self.old file) → held_text self.old file ≡ text_over W.readers.grammar (version_of self.old.version) ps))) }
-        ensures bad { IfErr result (λ fault. IfBad fault (λ n. self.old.refused ≡ None → WhereHeld (S.contents shelf.old) self.old.rows.lines.name (λ file.
-            (ps : Items (ProofOf W.readers.grammar.Line)) → HasGivenOver W.readers.grammar ps (progress_in self.old file) → MayOpen ps (progress_in self.old file).rest
-            → IsBadAt (texts_over W.readers.grammar (version_of self.old.version)) (held_text self.old file) n × NoItemOver W.readers.grammar ps (progress_in self.old file)))) }
+        ensures end { IfOk result (λ found. IfNone found (self.old.ended ≡ false
+            → WhereHeld (S.contents shelf.old) self.old.rows.lines.name (λ file.
+            (ps : Items (ProofOf W.readers.grammar.Line))
+            → HasGivenOver W.readers.grammar ps (progress_in self.old file)
+            → held_text self.old file
+            ≡ text_over W.readers.grammar (version_of self.old.version) ps))) }
+        ensures bad { IfErr result (λ fault. IfBad fault (λ n.
+            self.old.refused ≡ None
+            → WhereHeld (S.contents shelf.old) self.old.rows.lines.name (λ file.
+            (ps : Items (ProofOf W.readers.grammar.Line))
+            → HasGivenOver W.readers.grammar ps (progress_in self.old file)
+            → MayOpen ps (progress_in self.old file).rest
+            → IsBadAt (texts_over W.readers.grammar (version_of self.old.version))
+            (held_text self.old file) n
+            × NoItemOver W.readers.grammar ps (progress_in self.old file)))) }
 
         // Over every shelf.
         ensures behind { IfOk result (λ found. IfSome found (λ _. W.Behind kept.new [])) }
-        ensures fits { IfOk result (λ found. IfSome found (λ g. IsGroupIn (version_of self.new.version) (group_tree g))) }
+        ensures fits { IfOk result (λ found.
+            IfSome found (λ g. IsGroupIn (version_of self.new.version) (group_tree g))) }
         ensures ended { IfOk result (λ found. self.new.ended ≡ is_none found) }
-        ensures pulls { Pulls S.contents S.read_faults S.write_faults S.IsSure result self.old shelf.old self.new shelf.new }
+        ensures pulls { Pulls S.contents S.read_faults S.write_faults S.IsSure result self.old
+            shelf.old self.new shelf.new }
     {
         if let Some(fault) = self.refused {
             return Err(fault);
@@ -149,8 +171,8 @@ impl<'s> Pull<'s> {
         }
     }
 
-    /// The next line behind the definitions of the group that was given last, or none where its lines end. Both that and a
-    /// refusal are answered again and again.
+    /// The next line behind the definitions of the group that was given last, or none where its
+    /// lines end. Both that and a refusal are answered again and again.
     pub fn next_line<S: Shelf, W: ReadLines>(
         &mut self,
         alloc: Global,
@@ -162,23 +184,57 @@ impl<'s> Pull<'s> {
         requires kept { IsBehindLines W.readers (version_of self.old.version) (W.Behind kept.old) }
         requires group { IsGroupIn (version_of self.old.version) (group_tree group.now) }
         // Where it is told what the name holds.
-        ensures given { (before : Items W.readers.grammar.Line) → W.Behind kept.old before → W.readers.grammar.Are (version_of self.old.version) before → IfOk result (λ found. IfSome found (λ l. WhereHeld (S.contents shelf.old) self.old.rows.lines.name (λ file.
-            (ps : Items (ProofOf W.readers.grammar.Line)) (p : ProofOf W.readers.grammar.Line) → HasGivenOver W.readers.grammar (ps ++ p ∷ []) (progress_in self.old file) → p.group ≡ group_tree group.now → p.lines ≡ before
-            → HasGivenOver W.readers.grammar (ps ++ with_line p (W.tree (group_tree group.now).code l) ∷ []) (progress_in self.new file)))) }
-        ensures shorter { IfOk result (λ found. IfSome found (λ _. WhereHeld (S.contents shelf.old) self.old.rows.lines.name (λ file.
+        ensures given { (before : Items W.readers.grammar.Line)
+            → W.Behind kept.old before
+            → W.readers.grammar.Are (version_of self.old.version) before
+            → IfOk result (λ found. IfSome found (λ l.
+            WhereHeld (S.contents shelf.old) self.old.rows.lines.name (λ file.
+            (ps : Items (ProofOf W.readers.grammar.Line)) (p : ProofOf W.readers.grammar.Line)
+            → HasGivenOver W.readers.grammar (ps ++ p ∷ []) (progress_in self.old file)
+            → p.group ≡ group_tree group.now
+            → p.lines ≡ before
+            → HasGivenOver W.readers.grammar
+            (ps ++ with_line p (W.tree (group_tree group.now).code l) ∷ [])
+            (progress_in self.new file)))) }
+        ensures shorter { IfOk result (λ found. IfSome found (λ _.
+            WhereHeld (S.contents shelf.old) self.old.rows.lines.name (λ file.
             length (progress_in self.new file).rest < length (progress_in self.old file).rest))) }
-        ensures end { IfOk result (λ found. IfNone found (self.old.ended ≡ false → WhereHeld (S.contents shelf.old) self.old.rows.lines.name (λ file.
-            (progress_in self.new file ≡ progress_in self.old file) × ProofEnds (progress_in self.old file).rest))) }
-        ensures bad { (before : Items W.readers.grammar.Line) → W.Behind kept.old before → W.readers.grammar.Are (version_of self.old.version) before → IfErr result (λ fault. IfBad fault (λ n. self.old.refused ≡ None → WhereHeld (S.contents shelf.old) self.old.rows.lines.name (λ file.
-            (ps : Items (ProofOf W.readers.grammar.Line)) (p : ProofOf W.readers.grammar.Line) → HasGivenOver W.readers.grammar (ps ++ p ∷ []) (progress_in self.old file) → p.group ≡ group_tree group.now → p.lines ≡ before
-            → IsBadAt (texts_over W.readers.grammar (version_of self.old.version)) (held_text self.old file) n × NoItemOver W.readers.grammar (ps ++ p ∷ []) (progress_in self.old file)))) }
+        ensures end { IfOk result (λ found. IfNone found (self.old.ended ≡ false
+            → WhereHeld (S.contents shelf.old) self.old.rows.lines.name (λ file.
+            (progress_in self.new file ≡ progress_in self.old file)
+            × ProofEnds (progress_in self.old file).rest))) }
+        ensures bad { (before : Items W.readers.grammar.Line)
+            → W.Behind kept.old before
+            → W.readers.grammar.Are (version_of self.old.version) before
+            → IfErr result (λ fault. IfBad fault (λ n.
+            self.old.refused ≡ None
+            → WhereHeld (S.contents shelf.old) self.old.rows.lines.name (λ file.
+            (ps : Items (ProofOf W.readers.grammar.Line)) (p : ProofOf W.readers.grammar.Line)
+            → HasGivenOver W.readers.grammar (ps ++ p ∷ []) (progress_in self.old file)
+            → p.group ≡ group_tree group.now
+            → p.lines ≡ before
+            → IsBadAt (texts_over W.readers.grammar (version_of self.old.version))
+            (held_text self.old file) n
+            × NoItemOver W.readers.grammar (ps ++ p ∷ []) (progress_in self.old file)))) }
 
         // Over every shelf.
-        ensures fits { (before : Items W.readers.grammar.Line) → W.Behind kept.old before → W.readers.grammar.Are (version_of self.old.version) before → IfOk result (λ found. IfSome found (λ l. W.readers.Fits (version_of self.old.version) before (W.tree (group_tree group.now).code l))) }
-        ensures behind { (before : Items W.readers.grammar.Line) → W.Behind kept.old before → IfOk result (λ found. IfSome found (λ l. W.Behind kept.new (before ++ W.tree (group_tree group.now).code l ∷ []))) }
-        ensures kept { IfErr result (λ _. (before : Items W.readers.grammar.Line) → W.Behind kept.old before → W.Behind kept.new before) }
+        ensures fits { (before : Items W.readers.grammar.Line)
+            → W.Behind kept.old before
+            → W.readers.grammar.Are (version_of self.old.version) before
+            → IfOk result (λ found. IfSome found (λ l.
+            W.readers.Fits (version_of self.old.version) before
+            (W.tree (group_tree group.now).code l))) }
+        ensures behind { (before : Items W.readers.grammar.Line)
+            → W.Behind kept.old before
+            → IfOk result (λ found. IfSome found (λ l.
+            W.Behind kept.new (before ++ W.tree (group_tree group.now).code l ∷ []))) }
+        ensures kept { IfErr result (λ _.
+            (before : Items W.readers.grammar.Line)
+            → W.Behind kept.old before
+            → W.Behind kept.new before) }
         ensures ended { self.new.ended ≡ self.old.ended }
-        ensures pulls { Pulls S.contents S.read_faults S.write_faults S.IsSure result self.old shelf.old self.new shelf.new }
+        ensures pulls { Pulls S.contents S.read_faults S.write_faults S.IsSure result self.old
+            shelf.old self.new shelf.new }
     {
         if let Some(fault) = self.refused {
             return Err(fault);
@@ -205,34 +261,48 @@ impl<'s> Pull<'s> {
         }
     }
 
-    /// The next group, or none where the text ends well: to be called where the text begins, or where `line` has given
-    /// none. A refusal and the end are answered again and again.
+    /// The next group, or none where the text ends well: to be called where the text begins, or
+    /// where `line` has given none. A refusal and the end are answered again and again.
     pub fn group<S: Shelf>(
         &mut self,
         alloc: Global,
         shelf: &mut S,
     ) -> Result<Option<Group>, PullFault>
         // Where it is told what the name holds.
-        ensures given { IfOk result (λ found. IfSome found (λ g. WhereHeld (S.contents shelf.old) self.old.rows.lines.name (λ file.
-            (ps : Items ProofTree) → HasGiven ps (progress_in self.old file) → HasGiven (ps ++ bare (group_tree g) ∷ []) (progress_in self.new file)))) }
-        ensures shorter { IfOk result (λ found. IfSome found (λ _. WhereHeld (S.contents shelf.old) self.old.rows.lines.name (λ file.
+        ensures given { IfOk result (λ found. IfSome found (λ g.
+            WhereHeld (S.contents shelf.old) self.old.rows.lines.name (λ file.
+            (ps : Items ProofTree)
+            → HasGiven ps (progress_in self.old file)
+            → HasGiven (ps ++ bare (group_tree g) ∷ []) (progress_in self.new file)))) }
+        ensures shorter { IfOk result (λ found. IfSome found (λ _.
+            WhereHeld (S.contents shelf.old) self.old.rows.lines.name (λ file.
             length (progress_in self.new file).rest < length (progress_in self.old file).rest))) }
-        ensures end { IfOk result (λ found. IfNone found (self.old.ended ≡ false → WhereHeld (S.contents shelf.old) self.old.rows.lines.name (λ file.
-            (ps : Items ProofTree) → HasGiven ps (progress_in self.old file) → held_text self.old file ≡ text_of_proofs_in (version_of self.old.version) ps))) }
-        ensures bad { IfErr result (λ fault. IfBad fault (λ n. self.old.refused ≡ None → WhereHeld (S.contents shelf.old) self.old.rows.lines.name (λ file.
-            (ps : Items ProofTree) → HasGiven ps (progress_in self.old file) → MayOpen ps (progress_in self.old file).rest
-            → IsBadAt (texts_of_proofs_in (version_of self.old.version)) (held_text self.old file) n × NoItem ps (progress_in self.old file)))) }
+        ensures end { IfOk result (λ found. IfNone found (self.old.ended ≡ false
+            → WhereHeld (S.contents shelf.old) self.old.rows.lines.name (λ file.
+            (ps : Items ProofTree)
+            → HasGiven ps (progress_in self.old file)
+            → held_text self.old file ≡ text_of_proofs_in (version_of self.old.version) ps))) }
+        ensures bad { IfErr result (λ fault. IfBad fault (λ n.
+            self.old.refused ≡ None
+            → WhereHeld (S.contents shelf.old) self.old.rows.lines.name (λ file.
+            (ps : Items ProofTree)
+            → HasGiven ps (progress_in self.old file)
+            → MayOpen ps (progress_in self.old file).rest
+            → IsBadAt (texts_of_proofs_in (version_of self.old.version)) (held_text self.old file) n
+            × NoItem ps (progress_in self.old file)))) }
 
         // Over every shelf.
-        ensures fits { IfOk result (λ found. IfSome found (λ g. IsGroupIn (version_of self.new.version) (group_tree g))) }
+        ensures fits { IfOk result (λ found.
+            IfSome found (λ g. IsGroupIn (version_of self.new.version) (group_tree g))) }
         ensures ended { IfOk result (λ found. self.new.ended ≡ is_none found) }
-        ensures pulls { Pulls S.contents S.read_faults S.write_faults S.IsSure result self.old shelf.old self.new shelf.new }
+        ensures pulls { Pulls S.contents S.read_faults S.write_faults S.IsSure result self.old
+            shelf.old self.new shelf.new }
     {
         self.next_group(alloc, shelf, &mut WholeLines)
     }
 
-    /// The next line of the proof of the group that was given last, or none where its lines end. Both that and a refusal
-    /// are answered again and again.
+    /// The next line of the proof of the group that was given last, or none where its lines end.
+    /// Both that and a refusal are answered again and again.
     pub fn line<S: Shelf>(
         &mut self,
         alloc: Global,
@@ -241,26 +311,40 @@ impl<'s> Pull<'s> {
     ) -> Result<Option<Line>, PullFault>
         requires { IsGroupIn (version_of self.old.version) (group_tree group.now) }
         // Where it is told what the name holds.
-        ensures given { IfOk result (λ found. IfSome found (λ l. WhereHeld (S.contents shelf.old) self.old.rows.lines.name (λ file.
-            (ps : Items ProofTree) (p : ProofTree) → HasGiven (ps ++ p ∷ []) (progress_in self.old file) → p.group ≡ group_tree group.now
+        ensures given { IfOk result (λ found. IfSome found (λ l.
+            WhereHeld (S.contents shelf.old) self.old.rows.lines.name (λ file.
+            (ps : Items ProofTree) (p : ProofTree)
+            → HasGiven (ps ++ p ∷ []) (progress_in self.old file)
+            → p.group ≡ group_tree group.now
             → HasGiven (ps ++ with_line p (line_tree l) ∷ []) (progress_in self.new file)))) }
-        ensures shorter { IfOk result (λ found. IfSome found (λ _. WhereHeld (S.contents shelf.old) self.old.rows.lines.name (λ file.
+        ensures shorter { IfOk result (λ found. IfSome found (λ _.
+            WhereHeld (S.contents shelf.old) self.old.rows.lines.name (λ file.
             length (progress_in self.new file).rest < length (progress_in self.old file).rest))) }
-        ensures end { IfOk result (λ found. IfNone found (self.old.ended ≡ false → WhereHeld (S.contents shelf.old) self.old.rows.lines.name (λ file.
-            (progress_in self.new file ≡ progress_in self.old file) × ProofEnds (progress_in self.old file).rest))) }
-        ensures bad { IfErr result (λ fault. IfBad fault (λ n. self.old.refused ≡ None → WhereHeld (S.contents shelf.old) self.old.rows.lines.name (λ file.
-            (ps : Items ProofTree) (p : ProofTree) → HasGiven (ps ++ p ∷ []) (progress_in self.old file) → p.group ≡ group_tree group.now
-            → IsBadAt (texts_of_proofs_in (version_of self.old.version)) (held_text self.old file) n × NoItem (ps ++ p ∷ []) (progress_in self.old file)))) }
+        ensures end { IfOk result (λ found. IfNone found (self.old.ended ≡ false
+            → WhereHeld (S.contents shelf.old) self.old.rows.lines.name (λ file.
+            (progress_in self.new file ≡ progress_in self.old file)
+            × ProofEnds (progress_in self.old file).rest))) }
+        ensures bad { IfErr result (λ fault. IfBad fault (λ n.
+            self.old.refused ≡ None
+            → WhereHeld (S.contents shelf.old) self.old.rows.lines.name (λ file.
+            (ps : Items ProofTree) (p : ProofTree)
+            → HasGiven (ps ++ p ∷ []) (progress_in self.old file)
+            → p.group ≡ group_tree group.now
+            → IsBadAt (texts_of_proofs_in (version_of self.old.version)) (held_text self.old file) n
+            × NoItem (ps ++ p ∷ []) (progress_in self.old file)))) }
 
         // Over every shelf.
-        ensures fits { IfOk result (λ found. IfSome found (λ l. IsLineIn (version_of self.new.version) (line_tree l))) }
+        ensures fits { IfOk result (λ found.
+            IfSome found (λ l. IsLineIn (version_of self.new.version) (line_tree l))) }
         ensures ended { self.new.ended ≡ self.old.ended }
-        ensures pulls { Pulls S.contents S.read_faults S.write_faults S.IsSure result self.old shelf.old self.new shelf.new }
+        ensures pulls { Pulls S.contents S.read_faults S.write_faults S.IsSure result self.old
+            shelf.old self.new shelf.new }
     {
         self.next_line(alloc, group, shelf, &mut WholeLines)
     }
 
-    /// The number of the last line of the group or line that was given last, and 0 before the first.
+    /// The number of the last line of the group or line that was given last, and 0 before the
+    /// first.
     pub fn place(&self) -> u64
         ensures { result ≡ self.now.place }
     {

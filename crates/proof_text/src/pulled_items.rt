@@ -49,7 +49,8 @@ fn fault_of_loss(lost: RowError) -> PullFault
 /// The fault of reading that stopped behind so many rows.
 fn fault_behind(halt: ReadError, passed: u64) -> PullFault
     ensures bad { IfBad result (λ n. (halt ≡ Bad) × (n ≡ passed + 1)) }
-    ensures lost { (fault_lost result ≡ row_error halt) ⊎ ((row_error halt ≡ None) × (fault_lost result ≡ Some NoMemory)) }
+    ensures lost { (fault_lost result ≡ row_error halt)
+        ⊎ ((row_error halt ≡ None) × (fault_lost result ≡ Some NoMemory)) }
 {
     match halt {
         ReadError::Bad => bad_behind(passed),
@@ -78,10 +79,17 @@ fn read_end<S: Shelf>(
     shelf: &mut S,
 ) -> Result<Option<Group>, PullFault>
     ensures none { IfOk result (λ found. found ≡ None) }
-    ensures end { IfOk result (λ _. rows.old.lines.refused ≡ None → WhereHeld (S.contents shelf.old) rows.old.lines.name (λ file. EndsSo true (not_passed rows.old file))) }
-    ensures more { IfErr result (λ fault. IfBad fault (λ n. (n ≡ rows.old.taken + 1)
-        × (rows.old.lines.refused ≡ None → WhereHeld (S.contents shelf.old) rows.old.lines.name (λ file. EndsSo false (not_passed rows.old file))))) }
-    ensures draws { Draws S.contents S.read_faults S.write_faults S.IsSure (pull_lost result) rows.old shelf.old rows.new shelf.new }
+    ensures end { IfOk result (λ _.
+        rows.old.lines.refused ≡ None
+        → WhereHeld (S.contents shelf.old) rows.old.lines.name (λ file.
+        EndsSo true (not_passed rows.old file))) }
+    ensures more { IfErr result (λ fault. IfBad fault (λ n.
+        (n ≡ rows.old.taken + 1)
+        × (rows.old.lines.refused ≡ None
+        → WhereHeld (S.contents shelf.old) rows.old.lines.name (λ file.
+        EndsSo false (not_passed rows.old file))))) }
+    ensures draws { Draws S.contents S.read_faults S.write_faults S.IsSure (pull_lost result)
+        rows.old shelf.old rows.new shelf.new }
     ensures left { rows_left rows.new ≤ rows_left rows.old }
 {
     let taken = rows.passed();
@@ -91,7 +99,8 @@ fn read_end<S: Shelf>(
     }
 }
 
-/// The next group of a text of that version, or none where the text ends well, after its title where it begins here.
+/// The next group of a text of that version, or none where the text ends well, after its title
+/// where it begins here.
 pub(crate) fn next_group<S: Shelf>(
     alloc: Global,
     rows: &mut PulledRows<'_>,
@@ -100,17 +109,25 @@ pub(crate) fn next_group<S: Shelf>(
     first: bool,
 ) -> Result<Option<Group>, PullFault>
     requires { rows.old.lines.refused ≡ None }
-    ensures given { IfOk result (λ found. IfSome found (λ g. WhereHeld (S.contents shelf.old) rows.old.lines.name
+    ensures given { IfOk result (λ found. IfSome found (λ g.
+        WhereHeld (S.contents shelf.old) rows.old.lines.name
         (ReadFrom (turn_at (version_of version) first) (Some (group_tree g)) rows.old rows.new))) }
-    ensures fits { IfOk result (λ found. IfSome found (λ g. IsGroupIn (version_of version) (group_tree g))) }
-    ensures end { IfOk result (λ found. IfNone found (WhereHeld (S.contents shelf.old) rows.old.lines.name
-        (λ file. (n : ℕ) × EndsBehind (turn_at (version_of version) first) rows.old file n (EndsSo true)))) }
-    ensures bad { IfErr result (λ fault. IfBad fault (λ n. WhereHeld (S.contents shelf.old) rows.old.lines.name
-        (λ file. StoppedAt (turn_at (version_of version) first) rows.old n file
-        ⊎ ((m : ℕ) × (n ≡ m + 1) × EndsBehind (turn_at (version_of version) first) rows.old file m (EndsSo false))))) }
-    ensures draws { Draws S.contents S.read_faults S.write_faults S.IsSure (pull_lost result) rows.old shelf.old rows.new shelf.new }
+    ensures fits { IfOk result (λ found.
+        IfSome found (λ g. IsGroupIn (version_of version) (group_tree g))) }
+    ensures end { IfOk result (λ found.
+        IfNone found (WhereHeld (S.contents shelf.old) rows.old.lines.name (λ file.
+        (n : ℕ) × EndsBehind (turn_at (version_of version) first) rows.old file n (EndsSo true)))) }
+    ensures bad { IfErr result (λ fault. IfBad fault (λ n.
+        WhereHeld (S.contents shelf.old) rows.old.lines.name (λ file.
+        StoppedAt (turn_at (version_of version) first) rows.old n file
+        ⊎ ((m : ℕ)
+        × (n ≡ m + 1)
+        × EndsBehind (turn_at (version_of version) first) rows.old file m (EndsSo false))))) }
+    ensures draws { Draws S.contents S.read_faults S.write_faults S.IsSure (pull_lost result)
+        rows.old shelf.old rows.new shelf.new }
     ensures left { rows_left rows.new ≤ rows_left rows.old }
-    ensures fewer { IfOk result (λ found. IfSome found (λ _. rows_left rows.new < rows_left rows.old)) }
+    ensures fewer { IfOk result (λ found.
+        IfSome found (λ _. rows_left rows.new < rows_left rows.old)) }
 {
     match read_turn(alloc, rows, shelf, version, first) {
         Ok(Some(group)) => Ok(Some(group)),
@@ -119,7 +136,8 @@ pub(crate) fn next_group<S: Shelf>(
     }
 }
 
-/// The next line behind a group in a text of that version, by the group's own code, or none where the proof ends.
+/// The next line behind a group in a text of that version, by the group's own code, or none where
+/// the proof ends.
 pub(crate) fn next_line<S: Shelf, W: ReadLines>(
     alloc: Global,
     rows: &mut PulledRows<'_>,
@@ -131,18 +149,44 @@ pub(crate) fn next_line<S: Shelf, W: ReadLines>(
     requires going { rows.old.lines.refused ≡ None }
     requires own { IsOwnCode own.now.ranges }
     requires laws { ReadsLines W.readers (version_of version) }
-    ensures given { (before : List W.readers.grammar.Line) → W.Behind kept.old before → W.readers.grammar.Are (version_of version) before → IfOk result (λ found. IfSome found (λ l. WhereHeld (S.contents shelf.old) rows.old.lines.name
-        (ReadFrom (turn_over W.readers (version_of version) own.now.ranges before) (Some (W.tree own.now.ranges l)) rows.old rows.new))) }
-    ensures behind { (before : List W.readers.grammar.Line) → W.Behind kept.old before → IfOk result (λ found. IfSome found (λ l. W.Behind kept.new (before ++ W.tree own.now.ranges l ∷ []))) }
-    ensures fits { (before : List W.readers.grammar.Line) → W.Behind kept.old before → W.readers.grammar.Are (version_of version) before → IfOk result (λ found. IfSome found (λ l. W.readers.Fits (version_of version) before (W.tree own.now.ranges l))) }
-    ensures end { (before : List W.readers.grammar.Line) → W.Behind kept.old before → W.readers.grammar.Are (version_of version) before → IfOk result (λ found. IfNone found (WhereHeld (S.contents shelf.old) rows.old.lines.name
-        (ReadFrom (turn_over W.readers (version_of version) own.now.ranges before) None rows.old rows.new))) }
-    ensures bad { (before : List W.readers.grammar.Line) → W.Behind kept.old before → W.readers.grammar.Are (version_of version) before → IfErr result (λ fault. IfBad fault (λ n. WhereHeld (S.contents shelf.old) rows.old.lines.name
+    ensures given { (before : List W.readers.grammar.Line)
+        → W.Behind kept.old before
+        → W.readers.grammar.Are (version_of version) before
+        → IfOk result (λ found. IfSome found (λ l.
+        WhereHeld (S.contents shelf.old) rows.old.lines.name
+        (ReadFrom (turn_over W.readers (version_of version) own.now.ranges before)
+        (Some (W.tree own.now.ranges l)) rows.old rows.new))) }
+    ensures behind { (before : List W.readers.grammar.Line)
+        → W.Behind kept.old before
+        → IfOk result (λ found.
+        IfSome found (λ l. W.Behind kept.new (before ++ W.tree own.now.ranges l ∷ []))) }
+    ensures fits { (before : List W.readers.grammar.Line)
+        → W.Behind kept.old before
+        → W.readers.grammar.Are (version_of version) before
+        → IfOk result (λ found.
+        IfSome found (λ l. W.readers.Fits (version_of version) before (W.tree own.now.ranges l))) }
+    ensures end { (before : List W.readers.grammar.Line)
+        → W.Behind kept.old before
+        → W.readers.grammar.Are (version_of version) before
+        → IfOk result (λ found.
+        IfNone found (WhereHeld (S.contents shelf.old) rows.old.lines.name
+        (ReadFrom (turn_over W.readers (version_of version) own.now.ranges before) None rows.old
+        rows.new))) }
+    ensures bad { (before : List W.readers.grammar.Line)
+        → W.Behind kept.old before
+        → W.readers.grammar.Are (version_of version) before
+        → IfErr result (λ fault. IfBad fault (λ n.
+        WhereHeld (S.contents shelf.old) rows.old.lines.name
         (StoppedAt (turn_over W.readers (version_of version) own.now.ranges before) rows.old n))) }
-    ensures kept { IfErr result (λ _. (before : List W.readers.grammar.Line) → W.Behind kept.old before → W.Behind kept.new before) }
-    ensures draws { Draws S.contents S.read_faults S.write_faults S.IsSure (pull_lost result) rows.old shelf.old rows.new shelf.new }
+    ensures kept { IfErr result (λ _.
+        (before : List W.readers.grammar.Line)
+        → W.Behind kept.old before
+        → W.Behind kept.new before) }
+    ensures draws { Draws S.contents S.read_faults S.write_faults S.IsSure (pull_lost result)
+        rows.old shelf.old rows.new shelf.new }
     ensures left { rows_left rows.new ≤ rows_left rows.old }
-    ensures fewer { IfOk result (λ found. IfSome found (λ _. rows_left rows.new < rows_left rows.old)) }
+    ensures fewer { IfOk result (λ found.
+        IfSome found (λ _. rows_left rows.new < rows_left rows.old)) }
 {
     match read_line_turn(alloc, rows, shelf, version, own, kept) {
         Ok(Some(line)) => Ok(Some(line)),

@@ -86,8 +86,12 @@ impl<'s> PulledRows<'s> {
 
     /// Whether no byte is left. What is next may be held then.
     pub fn at_end<S: Shelf>(&mut self, alloc: Global, from: &mut S) -> Result<bool, RowError>
-        ensures told { IfOk result (λ end. self.old.lines.refused ≡ None → WhereHeld (S.contents from.old) self.old.lines.name (λ file. EndsSo end (not_passed self.old file))) }
-        ensures draws { Draws S.contents S.read_faults S.write_faults S.IsSure (lost_by result) self.old from.old self.new from.new }
+        ensures told { IfOk result (λ end.
+            self.old.lines.refused ≡ None
+            → WhereHeld (S.contents from.old) self.old.lines.name (λ file.
+            EndsSo end (not_passed self.old file))) }
+        ensures draws { Draws S.contents S.read_faults S.write_faults S.IsSure (lost_by result)
+            self.old from.old self.new from.new }
         ensures left { rows_left self.new ≤ rows_left self.old }
     {
         if self.held.is_some() {

@@ -28,7 +28,8 @@ use word_terms::{Code, Mem, Sub, Word};
 #[tactic(auto, using(mc_text::proofs::Printed::printed_bytes, mc_text::proofs::Printed::prints))]
 pub fn put_line(out: &mut Bytes, g: &Group, line: &Line) -> Result<(), NoMemory>
     requires { IsLine (line_tree line.now) }
-    ensures ok { OnOk result (out.new ≡ out.old ++ spell Start (line_tokens (group_tree g.now).code (line_tree line.now))) }
+    ensures ok { OnOk result (out.new
+        ≡ out.old ++ spell Start (line_tokens (group_tree g.now).code (line_tree line.now))) }
     ensures prefix { BeginsWith out.old out.new }
 {
     let mut pen = Pen::new(out);
@@ -45,7 +46,10 @@ pub fn put_newer_line(
     line: &Line,
 ) -> Result<(), NoMemory>
     requires { IsLineIn (version_of version) (line_tree line.now) }
-    ensures ok { OnOk result (out.new ≡ out.old ++ spell Start (line_tokens_in (version_of version) (group_tree g.now).code (line_tree line.now))) }
+    ensures ok { OnOk result (out.new
+        ≡ out.old
+        ++ spell Start (line_tokens_in (version_of version) (group_tree g.now).code
+        (line_tree line.now))) }
     ensures prefix { BeginsWith out.old out.new }
 {
     let mut pen = Pen::new(out);
@@ -60,7 +64,9 @@ fn put_line_tokens(
     own: &Code,
     line: &Line,
 ) -> Result<(), NoMemory>
-    ensures ok { OnOk result (page pen.new ≡ print (line_tokens_in (version_of version) own.now.ranges (line_tree line.now)) (page pen.old)) }
+    ensures ok { OnOk result (page pen.new
+        ≡ print (line_tokens_in (version_of version) own.now.ranges (line_tree line.now))
+        (page pen.old)) }
     ensures kept { Keeps (page pen.old) (page pen.new) }
 {
     match line {
@@ -109,7 +115,8 @@ fn put_theorem(pen: &mut Pen<'_>, k: u64) -> Result<(), NoMemory>
 // ---- rules
 
 fn put_rule(pen: &mut Pen<'_>, rule: &Rule) -> Result<(), NoMemory>
-    ensures ok { OnOk result (page pen.new ≡ print (rule_tokens (rule_tree rule.now)) (page pen.old)) }
+    ensures ok { OnOk result (page pen.new
+        ≡ print (rule_tokens (rule_tree rule.now)) (page pen.old)) }
     ensures kept { Keeps (page pen.old) (page pen.new) }
 {
     match rule {
@@ -141,7 +148,8 @@ fn put_rule(pen: &mut Pen<'_>, rule: &Rule) -> Result<(), NoMemory>
 
 /// Prints a word and a number.
 pub fn put_cited(pen: &mut Pen<'_>, word: &[u8], n: u64) -> Result<(), NoMemory>
-    ensures ok { OnOk result (page pen.new ≡ print (keyed_tokens word.now (number n ∷ [])) (page pen.old)) }
+    ensures ok { OnOk result (page pen.new
+        ≡ print (keyed_tokens word.now (number n ∷ [])) (page pen.old)) }
     ensures kept { Keeps (page pen.old) (page pen.new) }
 {
     pen.atom(word)?;
@@ -160,7 +168,10 @@ pub fn put_form(pen: &mut Pen<'_>, form: Form) -> Result<(), NoMemory>
 }
 
 fn put_sub(pen: &mut Pen<'_>, sub: &Sub) -> Result<(), NoMemory>
-    ensures ok { OnOk result (page pen.new ≡ print (flat_map word_sub_tokens (map word_put_in sub.now.words) ++ flat_map mem_sub_tokens (map mem_put_in sub.now.mems)) (page pen.old)) }
+    ensures ok { OnOk result (page pen.new
+        ≡ print
+        (flat_map word_sub_tokens (map word_put_in sub.now.words)
+        ++ flat_map mem_sub_tokens (map mem_put_in sub.now.mems)) (page pen.old)) }
     ensures kept { Keeps (page pen.old) (page pen.new) }
 {
     put_word_subs(pen, sub.words.as_slice())?;
@@ -168,7 +179,8 @@ fn put_sub(pen: &mut Pen<'_>, sub: &Sub) -> Result<(), NoMemory>
 }
 
 fn put_word_subs(pen: &mut Pen<'_>, subs: &[(u32, Word)]) -> Result<(), NoMemory>
-    ensures ok { OnOk result (page pen.new ≡ print (flat_map word_sub_tokens (map word_put_in subs.now)) (page pen.old)) }
+    ensures ok { OnOk result (page pen.new
+        ≡ print (flat_map word_sub_tokens (map word_put_in subs.now)) (page pen.old)) }
     ensures kept { Keeps (page pen.old) (page pen.new) }
 {
     for sub in subs {
@@ -179,7 +191,8 @@ fn put_word_subs(pen: &mut Pen<'_>, subs: &[(u32, Word)]) -> Result<(), NoMemory
 
 /// Prints a variable and the word that is put in for it.
 fn put_word_sub(pen: &mut Pen<'_>, sub: &(u32, Word)) -> Result<(), NoMemory>
-    ensures ok { OnOk result (page pen.new ≡ print (word_sub_tokens (word_put_in sub.now)) (page pen.old)) }
+    ensures ok { OnOk result (page pen.new
+        ≡ print (word_sub_tokens (word_put_in sub.now)) (page pen.old)) }
     ensures kept { Keeps (page pen.old) (page pen.new) }
 {
     pen.left()?;
@@ -189,7 +202,8 @@ fn put_word_sub(pen: &mut Pen<'_>, sub: &(u32, Word)) -> Result<(), NoMemory>
 }
 
 fn put_mem_subs(pen: &mut Pen<'_>, subs: &[(u32, Mem)]) -> Result<(), NoMemory>
-    ensures ok { OnOk result (page pen.new ≡ print (flat_map mem_sub_tokens (map mem_put_in subs.now)) (page pen.old)) }
+    ensures ok { OnOk result (page pen.new
+        ≡ print (flat_map mem_sub_tokens (map mem_put_in subs.now)) (page pen.old)) }
     ensures kept { Keeps (page pen.old) (page pen.new) }
 {
     for sub in subs {
@@ -200,7 +214,8 @@ fn put_mem_subs(pen: &mut Pen<'_>, subs: &[(u32, Mem)]) -> Result<(), NoMemory>
 
 /// Prints a variable and the memory that is put in for it.
 fn put_mem_sub(pen: &mut Pen<'_>, sub: &(u32, Mem)) -> Result<(), NoMemory>
-    ensures ok { OnOk result (page pen.new ≡ print (mem_sub_tokens (mem_put_in sub.now)) (page pen.old)) }
+    ensures ok { OnOk result (page pen.new
+        ≡ print (mem_sub_tokens (mem_put_in sub.now)) (page pen.old)) }
     ensures kept { Keeps (page pen.old) (page pen.new) }
 {
     pen.left()?;
@@ -213,7 +228,8 @@ fn put_mem_sub(pen: &mut Pen<'_>, sub: &(u32, Mem)) -> Result<(), NoMemory>
 
 /// Prints a triple, beside the group's own code.
 fn put_triple(pen: &mut Pen<'_>, own: &Code, t: &Triple) -> Result<(), NoMemory>
-    ensures ok { OnOk result (page pen.new ≡ print (triple_tokens own.now.ranges (triple_tree t.now)) (page pen.old)) }
+    ensures ok { OnOk result (page pen.new
+        ≡ print (triple_tokens own.now.ranges (triple_tree t.now)) (page pen.old)) }
     ensures kept { Keeps (page pen.old) (page pen.new) }
 {
     put_facts(pen, t.facts.as_slice())?;
@@ -223,7 +239,9 @@ fn put_triple(pen: &mut Pen<'_>, own: &Code, t: &Triple) -> Result<(), NoMemory>
 }
 
 fn put_facts(pen: &mut Pen<'_>, facts: &[Fact]) -> Result<(), NoMemory>
-    ensures ok { OnOk result (page pen.new ≡ print (Atom (codes "facts") ∷ flat_map fact_tokens (map fact_tree facts.now)) (page pen.old)) }
+    ensures ok { OnOk result (page pen.new
+        ≡ print (Atom (codes "facts") ∷ flat_map fact_tokens (map fact_tree facts.now))
+        (page pen.old)) }
     ensures kept { Keeps (page pen.old) (page pen.new) }
 {
     pen.atom(b"facts")?;
@@ -231,7 +249,8 @@ fn put_facts(pen: &mut Pen<'_>, facts: &[Fact]) -> Result<(), NoMemory>
 }
 
 fn put_all_facts(pen: &mut Pen<'_>, facts: &[Fact]) -> Result<(), NoMemory>
-    ensures ok { OnOk result (page pen.new ≡ print (flat_map fact_tokens (map fact_tree facts.now)) (page pen.old)) }
+    ensures ok { OnOk result (page pen.new
+        ≡ print (flat_map fact_tokens (map fact_tree facts.now)) (page pen.old)) }
     ensures kept { Keeps (page pen.old) (page pen.new) }
 {
     for fact in facts {
@@ -241,7 +260,8 @@ fn put_all_facts(pen: &mut Pen<'_>, facts: &[Fact]) -> Result<(), NoMemory>
 }
 
 fn put_fact(pen: &mut Pen<'_>, fact: &Fact) -> Result<(), NoMemory>
-    ensures ok { OnOk result (page pen.new ≡ print (fact_tokens (fact_tree fact.now)) (page pen.old)) }
+    ensures ok { OnOk result (page pen.new
+        ≡ print (fact_tokens (fact_tree fact.now)) (page pen.old)) }
     ensures kept { Keeps (page pen.old) (page pen.new) }
 {
     match fact {
@@ -279,7 +299,10 @@ fn put_fact(pen: &mut Pen<'_>, fact: &Fact) -> Result<(), NoMemory>
 
 /// Prints arguments, and the results after them.
 fn put_both_values(pen: &mut Pen<'_>, args: &Values, results: &Values) -> Result<(), NoMemory>
-    ensures ok { OnOk result (page pen.new ≡ print (values_tokens (values_tree args.now) ++ (Semi ∷ values_tokens (values_tree results.now))) (page pen.old)) }
+    ensures ok { OnOk result (page pen.new
+        ≡ print
+        (values_tokens (values_tree args.now) ++ (Semi ∷ values_tokens (values_tree results.now)))
+        (page pen.old)) }
     ensures kept { Keeps (page pen.old) (page pen.new) }
 {
     put_values(pen, args)?;
@@ -289,7 +312,8 @@ fn put_both_values(pen: &mut Pen<'_>, args: &Values, results: &Values) -> Result
 
 /// Prints an assertion, after a word.
 fn put_assertion(pen: &mut Pen<'_>, word: &[u8], a: &Assertion) -> Result<(), NoMemory>
-    ensures ok { OnOk result (page pen.new ≡ print (Atom word.now ∷ assertion_tokens (assertion_tree a.now)) (page pen.old)) }
+    ensures ok { OnOk result (page pen.new
+        ≡ print (Atom word.now ∷ assertion_tokens (assertion_tree a.now)) (page pen.old)) }
     ensures kept { Keeps (page pen.old) (page pen.new) }
 {
     pen.atom(word)?;
@@ -297,7 +321,8 @@ fn put_assertion(pen: &mut Pen<'_>, word: &[u8], a: &Assertion) -> Result<(), No
 }
 
 fn put_assertion_parts(pen: &mut Pen<'_>, a: &Assertion) -> Result<(), NoMemory>
-    ensures ok { OnOk result (page pen.new ≡ print (assertion_tokens (assertion_tree a.now)) (page pen.old)) }
+    ensures ok { OnOk result (page pen.new
+        ≡ print (assertion_tokens (assertion_tree a.now)) (page pen.old)) }
     ensures kept { Keeps (page pen.old) (page pen.new) }
 {
     pen.left()?;
@@ -309,7 +334,8 @@ fn put_assertion_parts(pen: &mut Pen<'_>, a: &Assertion) -> Result<(), NoMemory>
 }
 
 fn put_registers(pen: &mut Pen<'_>, registers: &[(u8, Word)]) -> Result<(), NoMemory>
-    ensures ok { OnOk result (page pen.new ≡ print (flat_map register_tokens (map register_tree registers.now)) (page pen.old)) }
+    ensures ok { OnOk result (page pen.new
+        ≡ print (flat_map register_tokens (map register_tree registers.now)) (page pen.old)) }
     ensures kept { Keeps (page pen.old) (page pen.new) }
 {
     for register in registers {
@@ -319,7 +345,8 @@ fn put_registers(pen: &mut Pen<'_>, registers: &[(u8, Word)]) -> Result<(), NoMe
 }
 
 fn put_register(pen: &mut Pen<'_>, register: &(u8, Word)) -> Result<(), NoMemory>
-    ensures ok { OnOk result (page pen.new ≡ print (register_tokens (register_tree register.now)) (page pen.old)) }
+    ensures ok { OnOk result (page pen.new
+        ≡ print (register_tokens (register_tree register.now)) (page pen.old)) }
     ensures kept { Keeps (page pen.old) (page pen.new) }
 {
     pen.left()?;
@@ -330,7 +357,8 @@ fn put_register(pen: &mut Pen<'_>, register: &(u8, Word)) -> Result<(), NoMemory
 
 /// Prints the code of a triple: its ranges, or that it is the group's own.
 pub fn put_stated_code(pen: &mut Pen<'_>, own: &Code, code: &Code) -> Result<(), NoMemory>
-    ensures ok { OnOk result (page pen.new ≡ print (Atom (codes "code") ∷ code_tokens own.now.ranges code.now.ranges) (page pen.old)) }
+    ensures ok { OnOk result (page pen.new
+        ≡ print (Atom (codes "code") ∷ code_tokens own.now.ranges code.now.ranges) (page pen.old)) }
     ensures kept { Keeps (page pen.old) (page pen.new) }
 {
     pen.atom(b"code")?;

@@ -13,7 +13,8 @@ use mc_text::{Scan, TokenError};
 use std::alloc::Global;
 use word_terms::Code;
 
-/// What reads the lines behind a group's definitions, one a call. It may keep what it needs of those before.
+/// What reads the lines behind a group's definitions, one a call. It may keep what it needs of
+/// those before.
 pub trait ReadLines {
     /// A line.
     type Line;
@@ -39,9 +40,16 @@ pub trait ReadLines {
         version: Version,
         own: &Code,
     ) -> Result<Self::Line, TokenError>
-        ensures gives { (before : List readers.grammar.Line) → Behind self.old before → Gives (tree own.now.ranges) result scan.old scan.new (readers.line_at (version_of version) own.now.ranges before) }
-        ensures behind { (before : List readers.grammar.Line) → Behind self.old before → IfOk result (λ l. Behind self.new (before ++ tree own.now.ranges l ∷ [])) }
-        ensures kept { OnErr result ((before : List readers.grammar.Line) → Behind self.old before → Behind self.new before) };
+        ensures gives { (before : List readers.grammar.Line)
+            → Behind self.old before
+            → Gives (tree own.now.ranges) result scan.old scan.new
+            (readers.line_at (version_of version) own.now.ranges before) }
+        ensures behind { (before : List readers.grammar.Line)
+            → Behind self.old before
+            → IfOk result (λ l. Behind self.new (before ++ tree own.now.ranges l ∷ [])) }
+        ensures kept { OnErr result ((before : List readers.grammar.Line)
+            → Behind self.old before
+            → Behind self.new before) };
 }
 
 /// Reads lines that state whole triples, of which nothing is kept.
@@ -73,7 +81,8 @@ impl ReadLines for WholeLines {
     }
 }
 
-/// Reads lines that state whole triples as they are spelled, so that none has a copy of the group's own code.
+/// Reads lines that state whole triples as they are spelled, so that none has a copy of the group's
+/// own code.
 #[derive(Clone, Copy, Debug, Drop)]
 pub struct SpelledLines;
 

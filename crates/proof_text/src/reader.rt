@@ -88,8 +88,9 @@ impl<'a> Reader<'a> {
         }
     }
 
-    /// The next group of a text with such lines, or none where the text ends well: to be called where the text begins, or
-    /// where `next_line` has given none. A fault and the end are answered again and again.
+    /// The next group of a text with such lines, or none where the text ends well: to be called
+    /// where the text begins, or where `next_line` has given none. A fault and the end are answered
+    /// again and again.
     pub fn next_group<W: ReadLines>(
         &mut self,
         alloc: Global,
@@ -98,14 +99,29 @@ impl<'a> Reader<'a> {
         requires { ReadsLines W.readers (version_of self.old.version) }
         ensures text { self.new.text ≡ self.old.text }
         ensures version { self.new.version ≡ self.old.version }
-        ensures given { OnGiven result (λ g. (ps : Items (ProofOf W.readers.grammar.Line)) → HasGivenOver W.readers.grammar ps self.old → HasGivenOver W.readers.grammar (ps ++ bare (group_tree g) ∷ []) self.new) }
+        ensures given { OnGiven result (λ g.
+            (ps : Items (ProofOf W.readers.grammar.Line))
+            → HasGivenOver W.readers.grammar ps self.old
+            → HasGivenOver W.readers.grammar (ps ++ bare (group_tree g) ∷ []) self.new) }
         ensures behind { OnGiven result (λ _. W.Behind kept.new []) }
-        ensures fits { OnGiven result (λ g. IsGroupIn (version_of self.new.version) (group_tree g)) }
+        ensures fits { OnGiven result (λ g.
+            IsGroupIn (version_of self.new.version) (group_tree g)) }
         ensures needs { OnGiven result (λ g. HasFewNeeds (group_tree g)) }
         ensures shorter { OnGiven result (λ _. length self.new.rest < length self.old.rest) }
-        ensures end { OnEnd result ((ps : Items (ProofOf W.readers.grammar.Line)) → HasGivenOver W.readers.grammar ps self.old → self.old.text ≡ text_over W.readers.grammar (version_of self.old.version) ps) }
-        ensures bad { OnBad result (λ n. (ps : Items (ProofOf W.readers.grammar.Line)) → HasGivenOver W.readers.grammar ps self.old → MayOpen ps self.old.rest → IsBadAt (texts_over W.readers.grammar (version_of self.old.version)) self.old.text n) }
-        ensures no_item { OnBad result (λ n. (ps : Items (ProofOf W.readers.grammar.Line)) → HasGivenOver W.readers.grammar ps self.old → MayOpen ps self.old.rest → NoItemOver W.readers.grammar ps self.old) }
+        ensures end { OnEnd result ((ps : Items (ProofOf W.readers.grammar.Line))
+            → HasGivenOver W.readers.grammar ps self.old
+            → self.old.text ≡ text_over W.readers.grammar (version_of self.old.version) ps) }
+        ensures bad { OnBad result (λ n.
+            (ps : Items (ProofOf W.readers.grammar.Line))
+            → HasGivenOver W.readers.grammar ps self.old
+            → MayOpen ps self.old.rest
+            → IsBadAt (texts_over W.readers.grammar (version_of self.old.version)) self.old.text
+            n) }
+        ensures no_item { OnBad result (λ n.
+            (ps : Items (ProofOf W.readers.grammar.Line))
+            → HasGivenOver W.readers.grammar ps self.old
+            → MayOpen ps self.old.rest
+            → NoItemOver W.readers.grammar ps self.old) }
         ensures end_same { OnEnd result (self.new ≡ self.old) }
         ensures fault_same { OnErr result (self.new ≡ self.old) }
     {
@@ -131,8 +147,8 @@ impl<'a> Reader<'a> {
         }
     }
 
-    /// The next line behind the definitions of the group that was given last, or none where its lines end. Both that and a
-    /// fault are answered again and again.
+    /// The next line behind the definitions of the group that was given last, or none where its
+    /// lines end. Both that and a fault are answered again and again.
     pub fn next_line<W: ReadLines>(
         &mut self,
         alloc: Global,
@@ -145,15 +161,45 @@ impl<'a> Reader<'a> {
         ensures text { self.new.text ≡ self.old.text }
         ensures version { self.new.version ≡ self.old.version }
         // Behind lines that may be those of which was kept.
-        ensures given { (before : Items W.readers.grammar.Line) → W.Behind kept.old before → OnGiven result (λ l. (ps : Items (ProofOf W.readers.grammar.Line)) (p : ProofOf W.readers.grammar.Line)
-            → HasGivenOver W.readers.grammar (ps ++ p ∷ []) self.old → p.group ≡ group_tree group.now → p.lines ≡ before → HasGivenOver W.readers.grammar (ps ++ with_line p (W.tree (group_tree group.now).code l) ∷ []) self.new) }
-        ensures behind { (before : Items W.readers.grammar.Line) → W.Behind kept.old before → OnGiven result (λ l. W.Behind kept.new (before ++ W.tree (group_tree group.now).code l ∷ [])) }
-        ensures fits { (before : Items W.readers.grammar.Line) → W.Behind kept.old before → W.readers.grammar.Are (version_of self.old.version) before → OnGiven result (λ l. W.readers.Fits (version_of self.old.version) before (W.tree (group_tree group.now).code l)) }
-        ensures bad { (before : Items W.readers.grammar.Line) → W.Behind kept.old before → OnBad result (λ n. (ps : Items (ProofOf W.readers.grammar.Line)) (p : ProofOf W.readers.grammar.Line)
-            → HasGivenOver W.readers.grammar (ps ++ p ∷ []) self.old → p.group ≡ group_tree group.now → p.lines ≡ before → IsBadAt (texts_over W.readers.grammar (version_of self.old.version)) self.old.text n) }
-        ensures no_item { (before : Items W.readers.grammar.Line) → W.Behind kept.old before → OnBad result (λ n. (ps : Items (ProofOf W.readers.grammar.Line)) (p : ProofOf W.readers.grammar.Line)
-            → HasGivenOver W.readers.grammar (ps ++ p ∷ []) self.old → p.group ≡ group_tree group.now → p.lines ≡ before → NoItemOver W.readers.grammar (ps ++ p ∷ []) self.old) }
-        ensures kept { OnErr result ((before : Items W.readers.grammar.Line) → W.Behind kept.old before → W.Behind kept.new before) }
+        ensures given { (before : Items W.readers.grammar.Line)
+            → W.Behind kept.old before
+            → OnGiven result (λ l.
+            (ps : Items (ProofOf W.readers.grammar.Line)) (p : ProofOf W.readers.grammar.Line)
+            → HasGivenOver W.readers.grammar (ps ++ p ∷ []) self.old
+            → p.group ≡ group_tree group.now
+            → p.lines ≡ before
+            → HasGivenOver W.readers.grammar
+            (ps ++ with_line p (W.tree (group_tree group.now).code l) ∷ []) self.new) }
+        ensures behind { (before : Items W.readers.grammar.Line)
+            → W.Behind kept.old before
+            → OnGiven result (λ l.
+            W.Behind kept.new (before ++ W.tree (group_tree group.now).code l ∷ [])) }
+        ensures fits { (before : Items W.readers.grammar.Line)
+            → W.Behind kept.old before
+            → W.readers.grammar.Are (version_of self.old.version) before
+            → OnGiven result (λ l.
+            W.readers.Fits (version_of self.old.version) before
+            (W.tree (group_tree group.now).code l)) }
+        ensures bad { (before : Items W.readers.grammar.Line)
+            → W.Behind kept.old before
+            → OnBad result (λ n.
+            (ps : Items (ProofOf W.readers.grammar.Line)) (p : ProofOf W.readers.grammar.Line)
+            → HasGivenOver W.readers.grammar (ps ++ p ∷ []) self.old
+            → p.group ≡ group_tree group.now
+            → p.lines ≡ before
+            → IsBadAt (texts_over W.readers.grammar (version_of self.old.version)) self.old.text
+            n) }
+        ensures no_item { (before : Items W.readers.grammar.Line)
+            → W.Behind kept.old before
+            → OnBad result (λ n.
+            (ps : Items (ProofOf W.readers.grammar.Line)) (p : ProofOf W.readers.grammar.Line)
+            → HasGivenOver W.readers.grammar (ps ++ p ∷ []) self.old
+            → p.group ≡ group_tree group.now
+            → p.lines ≡ before
+            → NoItemOver W.readers.grammar (ps ++ p ∷ []) self.old) }
+        ensures kept { OnErr result ((before : Items W.readers.grammar.Line)
+            → W.Behind kept.old before
+            → W.Behind kept.new before) }
         // Whatever was kept.
         ensures end { IsEnd result ↔ ProofEnds self.old.rest }
         ensures shorter { OnGiven result (λ _. length self.new.rest < length self.old.rest) }
@@ -175,44 +221,70 @@ impl<'a> Reader<'a> {
         }
     }
 
-    /// The next group, or none where the text ends well: to be called where the text begins, or where `line` has given
-    /// none. A fault and the end are answered again and again.
+    /// The next group, or none where the text ends well: to be called where the text begins, or
+    /// where `line` has given none. A fault and the end are answered again and again.
     pub fn group(&mut self, alloc: Global) -> Result<Option<Group>, TextFault>
         ensures text { self.new.text ≡ self.old.text }
         ensures version { self.new.version ≡ self.old.version }
-        ensures given { OnGiven result (λ g. (ps : Items ProofTree) → HasGiven ps self.old → HasGiven (ps ++ bare (group_tree g) ∷ []) self.new) }
-        ensures fits { OnGiven result (λ g. IsGroupIn (version_of self.new.version) (group_tree g)) }
+        ensures given { OnGiven result (λ g.
+            (ps : Items ProofTree)
+            → HasGiven ps self.old
+            → HasGiven (ps ++ bare (group_tree g) ∷ []) self.new) }
+        ensures fits { OnGiven result (λ g.
+            IsGroupIn (version_of self.new.version) (group_tree g)) }
         ensures needs { OnGiven result (λ g. HasFewNeeds (group_tree g)) }
         ensures shorter { OnGiven result (λ _. length self.new.rest < length self.old.rest) }
-        ensures end { OnEnd result ((ps : Items ProofTree) → HasGiven ps self.old → self.old.text ≡ text_of_proofs_in (version_of self.old.version) ps) }
-        ensures bad { OnBad result (λ n. (ps : Items ProofTree) → HasGiven ps self.old → MayOpen ps self.old.rest → IsBadAt (texts_of_proofs_in (version_of self.old.version)) self.old.text n) }
-        ensures no_item { OnBad result (λ n. (ps : Items ProofTree) → HasGiven ps self.old → MayOpen ps self.old.rest → NoItem ps self.old) }
+        ensures end { OnEnd result ((ps : Items ProofTree)
+            → HasGiven ps self.old
+            → self.old.text ≡ text_of_proofs_in (version_of self.old.version) ps) }
+        ensures bad { OnBad result (λ n.
+            (ps : Items ProofTree)
+            → HasGiven ps self.old
+            → MayOpen ps self.old.rest
+            → IsBadAt (texts_of_proofs_in (version_of self.old.version)) self.old.text n) }
+        ensures no_item { OnBad result (λ n.
+            (ps : Items ProofTree)
+            → HasGiven ps self.old
+            → MayOpen ps self.old.rest
+            → NoItem ps self.old) }
         ensures end_same { OnEnd result (self.new ≡ self.old) }
         ensures fault_same { OnErr result (self.new ≡ self.old) }
     {
         self.next_group(alloc, &mut WholeLines)
     }
 
-    /// The next line of the proof of the group that was given last, or none where its lines end. Both that and a fault are
-    /// answered again and again.
+    /// The next line of the proof of the group that was given last, or none where its lines end.
+    /// Both that and a fault are answered again and again.
     pub fn line(&mut self, alloc: Global, group: &Group) -> Result<Option<Line>, TextFault>
         requires { IsGroupIn (version_of self.old.version) (group_tree group.now) }
         ensures text { self.new.text ≡ self.old.text }
         ensures version { self.new.version ≡ self.old.version }
-        ensures given { OnGiven result (λ l. (ps : Items ProofTree) (p : ProofTree) → HasGiven (ps ++ p ∷ []) self.old → p.group ≡ group_tree group.now → HasGiven (ps ++ with_line p (line_tree l) ∷ []) self.new) }
+        ensures given { OnGiven result (λ l.
+            (ps : Items ProofTree) (p : ProofTree)
+            → HasGiven (ps ++ p ∷ []) self.old
+            → p.group ≡ group_tree group.now
+            → HasGiven (ps ++ with_line p (line_tree l) ∷ []) self.new) }
         ensures fits { OnGiven result (λ l. IsLineIn (version_of self.new.version) (line_tree l)) }
         ensures shorter { OnGiven result (λ _. length self.new.rest < length self.old.rest) }
         ensures end { IsEnd result ↔ ProofEnds self.old.rest }
-        ensures bad { OnBad result (λ n. (ps : Items ProofTree) (p : ProofTree) → HasGiven (ps ++ p ∷ []) self.old → p.group ≡ group_tree group.now → IsBadAt (texts_of_proofs_in (version_of self.old.version)) self.old.text n) }
-        ensures no_item { OnBad result (λ n. (ps : Items ProofTree) (p : ProofTree) → HasGiven (ps ++ p ∷ []) self.old → p.group ≡ group_tree group.now → NoItem (ps ++ p ∷ []) self.old) }
+        ensures bad { OnBad result (λ n.
+            (ps : Items ProofTree) (p : ProofTree)
+            → HasGiven (ps ++ p ∷ []) self.old
+            → p.group ≡ group_tree group.now
+            → IsBadAt (texts_of_proofs_in (version_of self.old.version)) self.old.text n) }
+        ensures no_item { OnBad result (λ n.
+            (ps : Items ProofTree) (p : ProofTree)
+            → HasGiven (ps ++ p ∷ []) self.old
+            → p.group ≡ group_tree group.now
+            → NoItem (ps ++ p ∷ []) self.old) }
         ensures end_same { OnEnd result (self.new ≡ self.old) }
         ensures fault_same { OnErr result (self.new ≡ self.old) }
     {
         self.next_line(alloc, group, &mut WholeLines)
     }
 
-    /// The next line of the proof of the group that was given last, or none where its lines end, as it is spelled. Both
-    /// that and a fault are answered again and again.
+    /// The next line of the proof of the group that was given last, or none where its lines end, as
+    /// it is spelled. Both that and a fault are answered again and again.
     pub fn spelled_line(
         &mut self,
         alloc: Global,
@@ -221,19 +293,34 @@ impl<'a> Reader<'a> {
         requires { IsGroupIn (version_of self.old.version) (group_tree group.now) }
         ensures text { self.new.text ≡ self.old.text }
         ensures version { self.new.version ≡ self.old.version }
-        ensures given { OnGiven result (λ l. (ps : Items ProofTree) (p : ProofTree) → HasGiven (ps ++ p ∷ []) self.old → p.group ≡ group_tree group.now → HasGiven (ps ++ with_line p (spelled_tree (group_tree group.now).code l) ∷ []) self.new) }
-        ensures fits { OnGiven result (λ l. IsLineIn (version_of self.new.version) (spelled_tree (group_tree group.now).code l)) }
+        ensures given { OnGiven result (λ l.
+            (ps : Items ProofTree) (p : ProofTree)
+            → HasGiven (ps ++ p ∷ []) self.old
+            → p.group ≡ group_tree group.now
+            → HasGiven (ps ++ with_line p (spelled_tree (group_tree group.now).code l) ∷ [])
+            self.new) }
+        ensures fits { OnGiven result (λ l.
+            IsLineIn (version_of self.new.version) (spelled_tree (group_tree group.now).code l)) }
         ensures shorter { OnGiven result (λ _. length self.new.rest < length self.old.rest) }
         ensures end { IsEnd result ↔ ProofEnds self.old.rest }
-        ensures bad { OnBad result (λ n. (ps : Items ProofTree) (p : ProofTree) → HasGiven (ps ++ p ∷ []) self.old → p.group ≡ group_tree group.now → IsBadAt (texts_of_proofs_in (version_of self.old.version)) self.old.text n) }
-        ensures no_item { OnBad result (λ n. (ps : Items ProofTree) (p : ProofTree) → HasGiven (ps ++ p ∷ []) self.old → p.group ≡ group_tree group.now → NoItem (ps ++ p ∷ []) self.old) }
+        ensures bad { OnBad result (λ n.
+            (ps : Items ProofTree) (p : ProofTree)
+            → HasGiven (ps ++ p ∷ []) self.old
+            → p.group ≡ group_tree group.now
+            → IsBadAt (texts_of_proofs_in (version_of self.old.version)) self.old.text n) }
+        ensures no_item { OnBad result (λ n.
+            (ps : Items ProofTree) (p : ProofTree)
+            → HasGiven (ps ++ p ∷ []) self.old
+            → p.group ≡ group_tree group.now
+            → NoItem (ps ++ p ∷ []) self.old) }
         ensures end_same { OnEnd result (self.new ≡ self.old) }
         ensures fault_same { OnErr result (self.new ≡ self.old) }
     {
         self.next_line(alloc, group, &mut SpelledLines)
     }
 
-    /// The number of the last line of the group or line that was given last, and 0 before the first.
+    /// The number of the last line of the group or line that was given last, and 0 before the
+    /// first.
     pub fn place(&self) -> u64
         ensures { result ≡ self.now.place }
     {

@@ -5,7 +5,7 @@ use Rattle.group_text.specs.declared.version.Version.{Version as Known}
 use Rattle.group_text.specs.declared.version.Version.TheVariants.{One, Two, Three, Four}
 use Rattle.group_text.specs.Version.{version_of}
 use Rattle.proof_text.specs.Proofs.{groups_of}
-use Rattle.checker.specs.Headline.{Headline}
+use Rattle.claims.specs.Headline.{Headline}
 use Rattle.checker.specs.Instance.{FurtherRule, KeepsValid, no_rule}
 use Rattle.checker.specs.Verdicts.{IsAcceptance}
 use Rattle.checker.specs.declared.verdict.Verdict.{Verdict}

@@ -9,7 +9,7 @@ ghost use Rattle.group_text.specs.declared.version.Version.TheVariants.{One};
 ghost use Rattle.proof_text.specs.FirstProofs.{HasGiven};
 ghost use Rattle.proof_text.specs.Pulling.{held_text, left_of, progress_in};
 ghost use Rattle.proof_text.specs.inner.PulledRows.{WhereHeld};
-ghost use Rattle.checker.specs.Headline.{Headline};
+ghost use Rattle.claims.specs.Headline.{Headline};
 ghost use Rattle.checker.specs.Instance.{no_rule};
 ghost use Rattle.checker.specs.Pulled.{IfVerdict, is_outside};
 ghost use Rattle.checker.specs.Verdicts.{IsAcceptance};
@@ -32,10 +32,15 @@ pub fn check_any_bytes(alloc: Global, elf: &[u8], proof: &[u8]) -> Verdict
     ensures verdict { SaysAny elf.now proof.now result }
 
     // Where they are accepted, the functions of the text are right.
-    ensures headline { IsAcceptance result → (gs : Items GroupTree) → ListsIn (any_version proof.now) proof.now gs → Headline elf.now gs }
+    ensures headline { IsAcceptance result
+        → (gs : Items GroupTree)
+        → ListsIn (any_version proof.now) proof.now gs
+        → Headline elf.now gs }
 
     // A verdict that says what is so comes, but for want of memory.
-    ensures exact { (v : VerdictOf) → SaysAny elf.now proof.now v → (result ≡ v) ⊎ (v ≡ Verdict.NoMemory) ⊎ (result ≡ Verdict.NoMemory) }
+    ensures exact { (v : VerdictOf)
+        → SaysAny elf.now proof.now v
+        → (result ≡ v) ⊎ (v ≡ Verdict.NoMemory) ⊎ (result ≡ Verdict.NoMemory) }
 {
     if is_short(any_version(proof)) {
         let mut reader = Reader::of_version(proof, Version::Two);
@@ -53,8 +58,8 @@ fn check_whole(alloc: Global, elf: &[u8], proof: &[u8]) -> Verdict
     check_numbered(alloc, elf, &mut reader, &NoRule)
 }
 
-/// Checks the text of a file of that version that is read line by line, for an ELF file that was read: of version 2, or without
-/// a further rule.
+/// Checks the text of a file of that version that is read line by line, for an ELF file that was
+/// read: of version 2, or without a further rule.
 pub fn check_pulled_any<S: Shelf>(
     alloc: Global,
     image: &Image,
@@ -68,11 +73,15 @@ pub fn check_pulled_any<S: Shelf>(
     requires few { left_of pull.old < 2 ^ 63 }
 
     // Where it is told what the name holds: what the verdict says of the files.
-    ensures verdict { (elf : Items ℕ) → IsReadable elf → image.now ≡ image_of elf → IfVerdict result (λ v. WhereHeld (S.contents shelf.old) pull.old.rows.lines.name (λ file.
-        SaysIn no_rule version elf (held_text pull.old file) v)) }
+    ensures verdict { (elf : Items ℕ)
+        → IsReadable elf
+        → image.now ≡ image_of elf
+        → IfVerdict result (λ v. WhereHeld (S.contents shelf.old) pull.old.rows.lines.name
+        (λ file. SaysIn no_rule version elf (held_text pull.old file) v)) }
 
     // Over every shelf: it only reads, and tells a fault only where one was counted.
-    ensures shelf { OnlyReads S.contents S.read_faults S.write_faults S.IsSure (is_outside result ≡ true) pull.old.rows.lines.name shelf.old shelf.new }
+    ensures shelf { OnlyReads S.contents S.read_faults S.write_faults S.IsSure
+        (is_outside result ≡ true) pull.old.rows.lines.name shelf.old shelf.new }
 {
     if is_short(version) {
         check_pulled_short(alloc, image, pull, shelf)
@@ -81,8 +90,8 @@ pub fn check_pulled_any<S: Shelf>(
     }
 }
 
-/// Checks the proof text of version 1 or 2 that a name holds, up to so many bytes, for an ELF file that was read. The text is read
-/// line by line, in the version that its first line names.
+/// Checks the proof text of version 1 or 2 that a name holds, up to so many bytes, for an ELF file
+/// that was read. The text is read line by line, in the version that its first line names.
 pub fn check_any<S: Shelf>(
     alloc: Global,
     image: &Image,
@@ -92,17 +101,33 @@ pub fn check_any<S: Shelf>(
 ) -> Pulled
     requires few { size < 2 ^ 63 }
 
-    // Where it is told what the name holds: what the verdict says of the files, that the functions of a text that is accepted are
-    // right, and that a verdict that says what is so comes, but for want of memory.
-    ensures verdict { (elf : Items ℕ) → IsReadable elf → image.now ≡ image_of elf → IfVerdict result (λ v. WhereHeld (S.contents shelf.old) name.now (λ file.
-        SaysAny elf (take size file) v)) }
-    ensures headline { (elf : Items ℕ) → IsReadable elf → image.now ≡ image_of elf → IfVerdict result (λ v. WhereHeld (S.contents shelf.old) name.now (λ file.
-        IsAcceptance v → (gs : Items GroupTree) → ListsIn (any_version (take size file)) (take size file) gs → Headline elf gs)) }
-    ensures exact { (elf : Items ℕ) → IsReadable elf → image.now ≡ image_of elf → IfVerdict result (λ w. WhereHeld (S.contents shelf.old) name.now (λ file.
-        (v : VerdictOf) → SaysAny elf (take size file) v → (w ≡ v) ⊎ (v ≡ Verdict.NoMemory) ⊎ (w ≡ Verdict.NoMemory))) }
+    // Where it is told what the name holds: what the verdict says of the files, that the functions
+    // of a text that is accepted are right, and that a verdict that says what is so comes, but for
+    // want of memory.
+    ensures verdict { (elf : Items ℕ)
+        → IsReadable elf
+        → image.now ≡ image_of elf
+        → IfVerdict result (λ v.
+        WhereHeld (S.contents shelf.old) name.now (λ file. SaysAny elf (take size file) v)) }
+    ensures headline { (elf : Items ℕ)
+        → IsReadable elf
+        → image.now ≡ image_of elf
+        → IfVerdict result (λ v. WhereHeld (S.contents shelf.old) name.now (λ file.
+        IsAcceptance v
+        → (gs : Items GroupTree)
+        → ListsIn (any_version (take size file)) (take size file) gs
+        → Headline elf gs)) }
+    ensures exact { (elf : Items ℕ)
+        → IsReadable elf
+        → image.now ≡ image_of elf
+        → IfVerdict result (λ w. WhereHeld (S.contents shelf.old) name.now (λ file.
+        (v : VerdictOf)
+        → SaysAny elf (take size file) v
+        → (w ≡ v) ⊎ (v ≡ Verdict.NoMemory) ⊎ (w ≡ Verdict.NoMemory))) }
 
     // Over every shelf: it only reads, and tells a fault only where one was counted.
-    ensures shelf { OnlyReads S.contents S.read_faults S.write_faults S.IsSure (is_outside result ≡ true) name.now shelf.old shelf.new }
+    ensures shelf { OnlyReads S.contents S.read_faults S.write_faults S.IsSure
+        (is_outside result ≡ true) name.now shelf.old shelf.new }
 {
     match held_version(alloc, name, size, shelf) {
         Ok(named) => {

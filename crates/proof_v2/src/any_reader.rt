@@ -31,8 +31,8 @@ pub enum AnyLine {
     Two(Short),
 }
 
-/// Goes over the groups of a text and the lines of their proofs. In version 2 the terms of a group's table are read by the first
-/// call that asks for a line of its proof.
+/// Goes over the groups of a text and the lines of their proofs. In version 2 the terms of a
+/// group's table are read by the first call that asks for a line of its proof.
 #[derive(Drop)]
 pub struct AnyReader<'a> {
     version: Version,
@@ -60,8 +60,8 @@ impl<'a> Model for AnyReader<'a> {
 }
 
 impl<'a> AnyReader<'a> {
-    /// Stands before the first line of a text, to read it as one of version 2 where that line names it, and else as one of
-    /// version 1.
+    /// Stands before the first line of a text, to read it as one of version 2 where that line names
+    /// it, and else as one of version 1.
     pub fn new(alloc: Global, text: &'a [u8]) -> AnyReader<'a>
         ensures text { result.progress.text ≡ text.now }
         ensures version { result.progress.version ≡ any_version text.now }
@@ -84,14 +84,17 @@ impl<'a> AnyReader<'a> {
         }
     }
 
-    /// The next group, or none where the text ends well: to be called where the text begins, or where no line is left of
-    /// the last group's proof. A fault and the end are answered again and again.
+    /// The next group, or none where the text ends well: to be called where the text begins, or
+    /// where no line is left of the last group's proof. A fault and the end are answered again and
+    /// again.
     pub fn group(&mut self, alloc: Global) -> Result<Option<Group>, TextFault>
         ensures same { IsSameText self.new.progress self.old.progress }
         ensures given { OnGiven result (λ g. GivesGroupAny (group_tree g) self.old self.new) }
-        ensures fits { OnGiven result (λ g. IsGroupIn (version_of self.new.progress.version) (group_tree g)) }
+        ensures fits { OnGiven result (λ g.
+            IsGroupIn (version_of self.new.progress.version) (group_tree g)) }
         ensures needs { OnGiven result (λ g. HasFewNeeds (group_tree g)) }
-        ensures shorter { OnGiven result (λ _. length self.new.progress.rest < length self.old.progress.rest) }
+        ensures shorter { OnGiven result (λ _.
+            length self.new.progress.rest < length self.old.progress.rest) }
         ensures end { OnEnd result (EndsAny self.old) }
         ensures bad { OnBad result (λ n. StopsGroups n self.old) }
         ensures end_same { OnEnd result (self.new ≡ self.old) }
@@ -104,17 +107,21 @@ impl<'a> AnyReader<'a> {
         }
     }
 
-    /// The next line of the proof of the group that was given last, or none where its lines end. Both that and a fault are
-    /// answered again and again.
+    /// The next line of the proof of the group that was given last, or none where its lines end.
+    /// Both that and a fault are answered again and again.
     pub fn line(&mut self, alloc: Global, group: &Group) -> Result<Option<AnyLine>, TextFault>
         requires { IsGroupIn (version_of self.old.progress.version) (group_tree group.now) }
         ensures same { IsSameText self.new.progress self.old.progress }
-        ensures given { OnGiven result (λ l. GivesLines (group_tree group.now) (λ k. AreLinesIn k l) self.old self.new) }
-        ensures shorter { OnGiven result (λ _. length self.new.progress.rest < length self.old.progress.rest) }
-        ensures end { OnEnd result (ProofEnds self.new.progress.rest × GivesLines (group_tree group.now) AreTermsIn self.old self.new) }
+        ensures given { OnGiven result (λ l.
+            GivesLines (group_tree group.now) (λ k. AreLinesIn k l) self.old self.new) }
+        ensures shorter { OnGiven result (λ _.
+            length self.new.progress.rest < length self.old.progress.rest) }
+        ensures end { OnEnd result (ProofEnds self.new.progress.rest
+            × GivesLines (group_tree group.now) AreTermsIn self.old self.new) }
         ensures no_longer { length self.new.progress.rest ≤ length self.old.progress.rest }
         ensures bad { OnBad result (λ n. StopsLines (group_tree group.now) n self.old self.new) }
-        ensures fault { OnErr result (GivesLines (group_tree group.now) AreTermsIn self.old self.new) }
+        ensures fault { OnErr result (GivesLines (group_tree group.now) AreTermsIn self.old
+            self.new) }
     {
         if is_short(self.version) {
             short_line(
@@ -129,17 +136,23 @@ impl<'a> AnyReader<'a> {
         }
     }
 
-    /// Goes past the next line of the proof of the group that was given last, and tells whether there was one. That there is
-    /// none and a fault are answered again and again. The group's own code isn't copied for it.
+    /// Goes past the next line of the proof of the group that was given last, and tells whether
+    /// there was one. That there is none and a fault are answered again and again. The group's own
+    /// code isn't copied for it.
     pub fn pass_line(&mut self, alloc: Global, group: &Group) -> Result<bool, TextFault>
         requires { IsGroupIn (version_of self.old.progress.version) (group_tree group.now) }
         ensures same { IsSameText self.new.progress self.old.progress }
-        ensures given { OnGiven (as_item result) (λ _. GivesLines (group_tree group.now) AreSomeLinesIn self.old self.new) }
-        ensures shorter { OnGiven (as_item result) (λ _. length self.new.progress.rest < length self.old.progress.rest) }
-        ensures end { OnEnd (as_item result) (ProofEnds self.new.progress.rest × GivesLines (group_tree group.now) AreTermsIn self.old self.new) }
+        ensures given { OnGiven (as_item result) (λ _.
+            GivesLines (group_tree group.now) AreSomeLinesIn self.old self.new) }
+        ensures shorter { OnGiven (as_item result) (λ _.
+            length self.new.progress.rest < length self.old.progress.rest) }
+        ensures end { OnEnd (as_item result) (ProofEnds self.new.progress.rest
+            × GivesLines (group_tree group.now) AreTermsIn self.old self.new) }
         ensures no_longer { length self.new.progress.rest ≤ length self.old.progress.rest }
-        ensures bad { OnBad (as_item result) (λ n. StopsLines (group_tree group.now) n self.old self.new) }
-        ensures fault { OnErr result (GivesLines (group_tree group.now) AreTermsIn self.old self.new) }
+        ensures bad { OnBad (as_item result) (λ n.
+            StopsLines (group_tree group.now) n self.old self.new) }
+        ensures fault { OnErr result (GivesLines (group_tree group.now) AreTermsIn self.old
+            self.new) }
     {
         if is_short(self.version) {
             pass_short(
@@ -154,15 +167,16 @@ impl<'a> AnyReader<'a> {
         }
     }
 
-    /// The terms of the last group's table that were read, by their numbers, until its lines have ended. Only texts of version 2
-    /// have them.
+    /// The terms of the last group's table that were read, by their numbers, until its lines have
+    /// ended. Only texts of version 2 have them.
     pub fn table(&self) -> &[Node]
         ensures { IfSome self.now.kept (λ kept. result.now ≡ kept.table) }
     {
         self.lines.table()
     }
 
-    /// The number of the last line of the group, or the line of a proof or of its table, that was read last, and 0 before the first.
+    /// The number of the last line of the group, or the line of a proof or of its table, that was
+    /// read last, and 0 before the first.
     pub fn place(&self) -> u64
         ensures { result ≡ self.now.progress.place }
     {
@@ -179,7 +193,9 @@ fn whole_group(
 ) -> Result<Option<Group>, TextFault>
     requires { reader.old.version ≡ Two → ⊥ }
     ensures same { IsSameText reader.new reader.old }
-    ensures given { OnGiven result (λ g. GivesGroupAny (group_tree g) (reading_state reader.old lines.now over) (reading_state reader.new lines.now over)) }
+    ensures given { OnGiven result (λ g.
+        GivesGroupAny (group_tree g) (reading_state reader.old lines.now over)
+        (reading_state reader.new lines.now over)) }
     ensures fits { OnGiven result (λ g. IsGroupIn (version_of reader.new.version) (group_tree g)) }
     ensures needs { OnGiven result (λ g. HasFewNeeds (group_tree g)) }
     ensures shorter { OnGiven result (λ _. length reader.new.rest < length reader.old.rest) }
@@ -202,12 +218,18 @@ fn whole_line(
     requires version { reader.old.version ≡ Two → ⊥ }
     requires group { IsGroupIn (version_of reader.old.version) (group_tree group.now) }
     ensures same { IsSameText reader.new reader.old }
-    ensures given { OnGiven result (λ l. GivesLines (group_tree group.now) (λ k. AreLinesIn k l) (reading_state reader.old lines.now over) (reading_state reader.new lines.now over)) }
+    ensures given { OnGiven result (λ l. GivesLines (group_tree group.now) (λ k. AreLinesIn k l)
+        (reading_state reader.old lines.now over) (reading_state reader.new lines.now over)) }
     ensures shorter { OnGiven result (λ _. length reader.new.rest < length reader.old.rest) }
-    ensures end { OnEnd result (ProofEnds reader.new.rest × GivesLines (group_tree group.now) AreTermsIn (reading_state reader.old lines.now over) (reading_state reader.new lines.now over)) }
+    ensures end { OnEnd result (ProofEnds reader.new.rest
+        × GivesLines (group_tree group.now) AreTermsIn (reading_state reader.old lines.now over)
+        (reading_state reader.new lines.now over)) }
     ensures no_longer { length reader.new.rest ≤ length reader.old.rest }
-    ensures bad { OnBad result (λ n. StopsLines (group_tree group.now) n (reading_state reader.old lines.now over) (reading_state reader.new lines.now over)) }
-    ensures fault { OnErr result (GivesLines (group_tree group.now) AreTermsIn (reading_state reader.old lines.now over) (reading_state reader.new lines.now over)) }
+    ensures bad { OnBad result (λ n.
+        StopsLines (group_tree group.now) n (reading_state reader.old lines.now over)
+        (reading_state reader.new lines.now over)) }
+    ensures fault { OnErr result (GivesLines (group_tree group.now) AreTermsIn
+        (reading_state reader.old lines.now over) (reading_state reader.new lines.now over)) }
 {
     match reader.line(alloc, group) {
         Ok(Some(line)) => Ok(Some(AnyLine::One(line))),
@@ -227,12 +249,20 @@ fn pass_whole(
     requires version { reader.old.version ≡ Two → ⊥ }
     requires group { IsGroupIn (version_of reader.old.version) (group_tree group.now) }
     ensures same { IsSameText reader.new reader.old }
-    ensures given { OnGiven (as_item result) (λ _. GivesLines (group_tree group.now) AreSomeLinesIn (reading_state reader.old lines.now over) (reading_state reader.new lines.now over)) }
-    ensures shorter { OnGiven (as_item result) (λ _. length reader.new.rest < length reader.old.rest) }
-    ensures end { OnEnd (as_item result) (ProofEnds reader.new.rest × GivesLines (group_tree group.now) AreTermsIn (reading_state reader.old lines.now over) (reading_state reader.new lines.now over)) }
+    ensures given { OnGiven (as_item result) (λ _.
+        GivesLines (group_tree group.now) AreSomeLinesIn (reading_state reader.old lines.now over)
+        (reading_state reader.new lines.now over)) }
+    ensures shorter { OnGiven (as_item result) (λ _.
+        length reader.new.rest < length reader.old.rest) }
+    ensures end { OnEnd (as_item result) (ProofEnds reader.new.rest
+        × GivesLines (group_tree group.now) AreTermsIn (reading_state reader.old lines.now over)
+        (reading_state reader.new lines.now over)) }
     ensures no_longer { length reader.new.rest ≤ length reader.old.rest }
-    ensures bad { OnBad (as_item result) (λ n. StopsLines (group_tree group.now) n (reading_state reader.old lines.now over) (reading_state reader.new lines.now over)) }
-    ensures fault { OnErr result (GivesLines (group_tree group.now) AreTermsIn (reading_state reader.old lines.now over) (reading_state reader.new lines.now over)) }
+    ensures bad { OnBad (as_item result) (λ n.
+        StopsLines (group_tree group.now) n (reading_state reader.old lines.now over)
+        (reading_state reader.new lines.now over)) }
+    ensures fault { OnErr result (GivesLines (group_tree group.now) AreTermsIn
+        (reading_state reader.old lines.now over) (reading_state reader.new lines.now over)) }
 {
     match reader.spelled_line(alloc, group) {
         Ok(Some(_line)) => Ok(true),

@@ -26,16 +26,28 @@ pub struct CountedText {
 /// What `migrate` gives for an ELF file that was read, counted.
 pub fn migrate_image(alloc: Global, image: &Image, proof: &[u8]) -> Result<CountedText, Verdict>
     requires { (elf : Items ℕ) × IsReadable elf × (image.now ≡ image_of elf) }
-    ensures text { (elf : Items ℕ) → IsReadable elf → image.now ≡ image_of elf → IfOk result (λ m. IsMigratedText elf proof.now m.text) }
+    ensures text { (elf : Items ℕ)
+        → IsReadable elf
+        → image.now ≡ image_of elf
+        → IfOk result (λ m. IsMigratedText elf proof.now m.text) }
 
     // It has as many groups and lines as the text of version 1.
-    ensures counted { (elf : Items ℕ) → IsReadable elf → image.now ≡ image_of elf → IfOk result (λ m. Says elf proof.now (Verdict.Accepted m.functions m.lines)) }
+    ensures counted { (elf : Items ℕ)
+        → IsReadable elf
+        → image.now ≡ image_of elf
+        → IfOk result (λ m. Says elf proof.now (Verdict.Accepted m.functions m.lines)) }
 
     // It is accepted, with these numbers.
-    ensures accepted { (elf : Items ℕ) → IsReadable elf → image.now ≡ image_of elf → IfOk result (λ m. IsAcceptedOver short_rules version_2 elf m.text m.functions m.lines) }
+    ensures accepted { (elf : Items ℕ)
+        → IsReadable elf
+        → image.now ≡ image_of elf
+        → IfOk result (λ m. IsAcceptedOver short_rules version_2 elf m.text m.functions m.lines) }
 
     // The verdict that refuses it says what is so.
-    ensures refused { (elf : Items ℕ) → IsReadable elf → image.now ≡ image_of elf → IfErr result (λ v. Says elf proof.now v) }
+    ensures refused { (elf : Items ℕ)
+        → IsReadable elf
+        → image.now ≡ image_of elf
+        → IfErr result (λ v. Says elf proof.now v) }
     ensures no_acceptance { IfErr result (λ v. IsAcceptance v → ⊥) }
 {
     match check_text(alloc, image, proof) {

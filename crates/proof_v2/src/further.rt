@@ -25,9 +25,13 @@ pub fn put_further_registers<L: Ledger>(
     all: &[(u8, Word)],
     steps: &mut Steps<L>,
 ) -> Result<List<(u8, u64)>, NoMemory>
-    ensures put { IfOk result (λ rs. AreRegistersPut arena.new rs (further (map register_tree own.now) (map register_tree all.now))) }
+    ensures put { IfOk result (λ rs.
+        AreRegistersPut arena.new rs (further (map register_tree own.now) (map register_tree
+        all.now))) }
     ensures grows { Extends arena.old arena.new }
-    ensures order { IfOk result (λ _. AreTermsPutIn arena.old (map (λ r. OfWord r.1) (further (map register_tree own.now) (map register_tree all.now))) arena.new) }
+    ensures order { IfOk result (λ _. AreTermsPutIn arena.old
+        (map (λ r. OfWord r.1) (further (map register_tree own.now) (map register_tree all.now)))
+        arena.new) }
 {
     let mut numbers = List::new(alloc);
     for register in all {
@@ -48,9 +52,12 @@ pub fn put_further_mems<L: Ledger>(
     all: &[Mem],
     steps: &mut Steps<L>,
 ) -> Result<List<u64>, NoMemory>
-    ensures put { IfOk result (λ ks. AreMemsPut arena.new ks (rest_after (map mem_tree own.now) (map mem_tree all.now))) }
+    ensures put { IfOk result (λ ks.
+        AreMemsPut arena.new ks (rest_after (map mem_tree own.now) (map mem_tree all.now))) }
     ensures grows { Extends arena.old arena.new }
-    ensures order { IfOk result (λ _. AreTermsPutIn arena.old (map OfMem (rest_after (map mem_tree own.now) (map mem_tree all.now))) arena.new) }
+    ensures order { IfOk result (λ _.
+        AreTermsPutIn arena.old
+        (map OfMem (rest_after (map mem_tree own.now) (map mem_tree all.now))) arena.new) }
 {
     put_mems(alloc, arena, rest_after(all, own.len()), steps)
 }

@@ -17,18 +17,35 @@ ghost use Rattle.proof_v2.specs.MigratedText.{IsMigratedProof};
 ghost use Rattle.proof_v2.specs.Migration.{IsMigrated};
 ghost use Rattle.proof_v2.specs.ShortTerms.{IsTerm};
 
-/// A group's proof of version 1 that is accepted becomes one of version 2 that is, with as many lines.
+/// A group's proof of version 1 that is accepted becomes one of version 2 that is, with as many
+/// lines.
 pub fn law_of_migration()
-    ensures accepted { (file : List ℕ) (p : ProofTree) (q : ShortProof) → IsMigratedProof p q → AreShortLines q.lines → IsAccepted file p → IsProvedOver short_rules file q }
-    ensures lines { (p : ProofTree) (ns : List Node) (ss : List Short) → IsMigrated p ns ss → length ss ≡ length p.lines }
+    ensures accepted { (file : List ℕ) (p : ProofTree) (q : ShortProof)
+        → IsMigratedProof p q
+        → AreShortLines q.lines
+        → IsAccepted file p
+        → IsProvedOver short_rules file q }
+    ensures lines { (p : ProofTree) (ns : List Node) (ss : List Short)
+        → IsMigrated p ns ss
+        → length ss ≡ length p.lines }
 {}
 
-/// An arena into which only terms that have a text were put is a table, if its numbers have 64 bits.
+/// An arena into which only terms that have a text were put is a table, if its numbers have 64
+/// bits.
 pub fn law_of_new_tables()
-    ensures { (terms : List Tree) (ns : List Node) → IsArena ns → length ns < 2 ^ 64 → All IsTerm terms → AreTermsPutIn [] terms ns → IsTable ns }
+    ensures { (terms : List Tree) (ns : List Node)
+        → IsArena ns
+        → length ns < 2 ^ 64
+        → All IsTerm terms
+        → AreTermsPutIn [] terms ns
+        → IsTable ns }
 {}
 
-/// A short line that is within the limits has a text beside its table, if that has fewer than 2 ^ 64 terms.
+/// A short line that is within the limits has a text beside its table, if that has fewer than 2 ^
+/// 64 terms.
 pub fn law_of_fine_lines()
-    ensures { (ns : List Node) (line : Short) → length ns < 2 ^ 64 → IsFineShort ns line → IsShort ns line }
+    ensures { (ns : List Node) (line : Short)
+        → length ns < 2 ^ 64
+        → IsFineShort ns line
+        → IsShort ns line }
 {}

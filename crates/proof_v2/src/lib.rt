@@ -1,8 +1,8 @@
-//! Proof texts of each version, read by their first lines; those of the versions 1 and 2, checked; and those of version 1 as
-//! texts of version 2.
+//! Proof texts of each version, read by their first lines; those of the versions 1 and 2, checked;
+//! and those of version 1 as texts of version 2.
 //!
-//! `short_line` gives the short line for a line of version 1 that is right after the lines before it, and puts its terms into the
-//! table of its group, in the order in which they are first used.
+//! `short_line` gives the short line for a line of version 1 that is right after the lines before
+//! it, and puts its terms into the table of its group, in the order in which they are first used.
 #![tactic(auto)]
 
 mod any_check;

@@ -26,7 +26,8 @@ use term_bench::{put_facts, put_mem_terms, put_side, put_word_terms};
 use triple_kernel::Triple;
 use word_terms::{Sub, copy_code};
 
-/// The short line for which the line is the full one, over a table in which its terms stand from then on.
+/// The short line for which the line is the full one, over a table in which its terms stand from
+/// then on.
 pub fn short_line<'g, L: Ledger>(
     alloc: Global,
     arena: &mut Arena,
@@ -36,9 +37,12 @@ pub fn short_line<'g, L: Ledger>(
 ) -> Result<Short, NoMemory>
     requires fits { IsLine (line_tree line.now) }
     requires instance { Instance (group_of bench.now) (history_of bench.now) (line_tree line.now) }
-    ensures right { IfOk result (λ s. IsRightFor (group_of bench.now) (history_of bench.now) arena.new s (line_tree line.now)) }
+    ensures right { IfOk result (λ s.
+        IsRightFor (group_of bench.now) (history_of bench.now) arena.new s (line_tree line.now)) }
     ensures fine { IfOk result (λ s. IsFineShort arena.new s) }
-    ensures order { IfOk result (λ _. AreTermsPutIn arena.old (line_terms (history_of bench.now) (line_tree line.now)) arena.new) }
+    ensures order { IfOk result (λ _.
+        AreTermsPutIn arena.old (line_terms (history_of bench.now) (line_tree line.now))
+        arena.new) }
     ensures grows { Extends arena.old arena.new }
 {
     let short = shortened(alloc, arena, bench, line, steps)?;
@@ -55,8 +59,11 @@ fn shortened<'g, L: Ledger>(
 ) -> Result<Short, NoMemory>
     requires fits { IsLine (line_tree line.now) }
     requires instance { Instance (group_of bench.now) (history_of bench.now) (line_tree line.now) }
-    ensures line { IfOk result (λ s. IsShortOf (history_of bench.now) arena.new s (line_tree line.now)) }
-    ensures order { IfOk result (λ _. AreTermsPutIn arena.old (line_terms (history_of bench.now) (line_tree line.now)) arena.new) }
+    ensures line { IfOk result (λ s.
+        IsShortOf (history_of bench.now) arena.new s (line_tree line.now)) }
+    ensures order { IfOk result (λ _.
+        AreTermsPutIn arena.old (line_terms (history_of bench.now) (line_tree line.now))
+        arena.new) }
     ensures grows { Extends arena.old arena.new }
 {
     match line {
@@ -77,9 +84,15 @@ fn short_rule<'g, L: Ledger>(
     steps: &mut Steps<L>,
 ) -> Result<Short, NoMemory>
     requires fits { IsLine (States (rule_tree rule.now) (triple_tree stated.now)) }
-    requires meets { Meets (group_of bench.now) (history_of bench.now) (rule_tree rule.now) (triple_tree stated.now) }
-    ensures line { IfOk result (λ s. IsShortOf (history_of bench.now) arena.new s (States (rule_tree rule.now) (triple_tree stated.now))) }
-    ensures order { IfOk result (λ _. AreTermsPutIn arena.old (line_terms (history_of bench.now) (States (rule_tree rule.now) (triple_tree stated.now))) arena.new) }
+    requires meets { Meets (group_of bench.now) (history_of bench.now) (rule_tree rule.now)
+        (triple_tree stated.now) }
+    ensures line { IfOk result (λ s.
+        IsShortOf (history_of bench.now) arena.new s
+        (States (rule_tree rule.now) (triple_tree stated.now))) }
+    ensures order { IfOk result (λ _.
+        AreTermsPutIn arena.old
+        (line_terms (history_of bench.now) (States (rule_tree rule.now) (triple_tree stated.now)))
+        arena.new) }
     ensures grows { Extends arena.old arena.new }
 {
     match rule {
@@ -103,9 +116,14 @@ fn short_inst<L: Ledger>(
     sub: &Sub,
     steps: &mut Steps<L>,
 ) -> Result<Short, NoMemory>
-    ensures line { IfOk result (λ s. (h : History) (t : TripleTree) → IsLine (States (Inst p (map word_put_in sub.now.words) (map mem_put_in sub.now.mems)) t)
-        → IsShortOf h arena.new s (States (Inst p (map word_put_in sub.now.words) (map mem_put_in sub.now.mems)) t)) }
-    ensures order { IfOk result (λ _. AreTermsPutIn arena.old (map (λ x. OfWord x.1) (map word_put_in sub.now.words) ++ map (λ x. OfMem x.1) (map mem_put_in sub.now.mems)) arena.new) }
+    ensures line { IfOk result (λ s.
+        (h : History) (t : TripleTree)
+        → IsLine (States (Inst p (map word_put_in sub.now.words) (map mem_put_in sub.now.mems)) t)
+        → IsShortOf h arena.new s (States
+        (Inst p (map word_put_in sub.now.words) (map mem_put_in sub.now.mems)) t)) }
+    ensures order { IfOk result (λ _. AreTermsPutIn arena.old
+        (map (λ x. OfWord x.1) (map word_put_in sub.now.words)
+        ++ map (λ x. OfMem x.1) (map mem_put_in sub.now.mems)) arena.new) }
     ensures grows { Extends arena.old arena.new }
 {
     let words = put_word_terms(alloc, arena, sub.words.as_slice(), steps)?;
@@ -122,9 +140,15 @@ fn short_frame<'g, L: Ledger>(
     stated: &Triple,
     steps: &mut Steps<L>,
 ) -> Result<Short, NoMemory>
-    requires { Meets (group_of bench.now) (history_of bench.now) (Frame p) (triple_tree stated.now) }
-    ensures line { IfOk result (λ s. IsLine (States (Frame p) (triple_tree stated.now)) → IsShortOf (history_of bench.now) arena.new s (States (Frame p) (triple_tree stated.now))) }
-    ensures order { IfOk result (λ _. AreTermsPutIn arena.old (line_terms (history_of bench.now) (States (Frame p) (triple_tree stated.now))) arena.new) }
+    requires { Meets (group_of bench.now) (history_of bench.now) (Frame p)
+        (triple_tree stated.now) }
+    ensures line { IfOk result (λ s.
+        IsLine (States (Frame p) (triple_tree stated.now))
+        → IsShortOf (history_of bench.now) arena.new s
+        (States (Frame p) (triple_tree stated.now))) }
+    ensures order { IfOk result (λ _.
+        AreTermsPutIn arena.old
+        (line_terms (history_of bench.now) (States (Frame p) (triple_tree stated.now))) arena.new) }
     ensures grows { Extends arena.old arena.new }
 {
     let held = bench.theorem(alloc, p)?;
@@ -143,8 +167,14 @@ fn short_further<L: Ledger>(
     stated: &Triple,
     steps: &mut Steps<L>,
 ) -> Result<Short, NoMemory>
-    ensures line { IfOk result (λ s. (h : History) → h.theorem p ≡ Just (triple_tree own.now) → IsLine (States (Frame p) (triple_tree stated.now)) → IsShortOf h arena.new s (States (Frame p) (triple_tree stated.now))) }
-    ensures order { IfOk result (λ _. AreTermsPutIn arena.old (further_terms (triple_tree own.now) (triple_tree stated.now)) arena.new) }
+    ensures line { IfOk result (λ s.
+        (h : History)
+        → h.theorem p ≡ Just (triple_tree own.now)
+        → IsLine (States (Frame p) (triple_tree stated.now))
+        → IsShortOf h arena.new s (States (Frame p) (triple_tree stated.now))) }
+    ensures order { IfOk result (λ _.
+        AreTermsPutIn arena.old (further_terms (triple_tree own.now) (triple_tree stated.now))
+        arena.new) }
     ensures grows { Extends arena.old arena.new }
 {
     let regs = put_further_registers(
@@ -166,7 +196,10 @@ fn short_further<L: Ledger>(
 
 /// .. for a triple over further code.
 fn short_extension(alloc: Global, p: u64, stated: &Triple) -> Result<Short, NoMemory>
-    ensures { IfOk result (λ s. (h : History) (ns : Items Node) → IsLine (States (ExtendCode p) (triple_tree stated.now)) → IsShortOf h ns s (States (ExtendCode p) (triple_tree stated.now))) }
+    ensures { IfOk result (λ s.
+        (h : History) (ns : Items Node)
+        → IsLine (States (ExtendCode p) (triple_tree stated.now))
+        → IsShortOf h ns s (States (ExtendCode p) (triple_tree stated.now))) }
 {
     let code = copy_code(alloc, &stated.code)?;
     Ok(Short::ExtendCode(p, code))
@@ -180,8 +213,14 @@ fn short_strengthened<L: Ledger>(
     stated: &Triple,
     steps: &mut Steps<L>,
 ) -> Result<Short, NoMemory>
-    ensures line { IfOk result (λ s. (h : History) → IsLine (States (Strengthen p) (triple_tree stated.now)) → IsShortOf h arena.new s (States (Strengthen p) (triple_tree stated.now))) }
-    ensures order { IfOk result (λ _. AreTermsPutIn arena.old (flat_map fact_terms (triple_tree stated.now).facts ++ assertion_terms (triple_tree stated.now).pre) arena.new) }
+    ensures line { IfOk result (λ s.
+        (h : History)
+        → IsLine (States (Strengthen p) (triple_tree stated.now))
+        → IsShortOf h arena.new s (States (Strengthen p) (triple_tree stated.now))) }
+    ensures order { IfOk result (λ _.
+        AreTermsPutIn arena.old
+        (flat_map fact_terms (triple_tree stated.now).facts
+        ++ assertion_terms (triple_tree stated.now).pre) arena.new) }
     ensures grows { Extends arena.old arena.new }
 {
     let facts = put_facts(alloc, arena, stated.facts.as_slice(), steps)?;
@@ -197,8 +236,14 @@ fn short_weakened<L: Ledger>(
     stated: &Triple,
     steps: &mut Steps<L>,
 ) -> Result<Short, NoMemory>
-    ensures line { IfOk result (λ s. (h : History) → IsLine (States (Weaken p) (triple_tree stated.now)) → IsShortOf h arena.new s (States (Weaken p) (triple_tree stated.now))) }
-    ensures order { IfOk result (λ _. AreTermsPutIn arena.old (flat_map fact_terms (triple_tree stated.now).facts ++ assertion_terms (triple_tree stated.now).post) arena.new) }
+    ensures line { IfOk result (λ s.
+        (h : History)
+        → IsLine (States (Weaken p) (triple_tree stated.now))
+        → IsShortOf h arena.new s (States (Weaken p) (triple_tree stated.now))) }
+    ensures order { IfOk result (λ _.
+        AreTermsPutIn arena.old
+        (flat_map fact_terms (triple_tree stated.now).facts
+        ++ assertion_terms (triple_tree stated.now).post) arena.new) }
     ensures grows { Extends arena.old arena.new }
 {
     let facts = put_facts(alloc, arena, stated.facts.as_slice(), steps)?;
@@ -214,8 +259,12 @@ fn short_discharged<L: Ledger>(
     stated: &Triple,
     steps: &mut Steps<L>,
 ) -> Result<Short, NoMemory>
-    ensures line { IfOk result (λ s. (h : History) → IsLine (States (Discharge p) (triple_tree stated.now)) → IsShortOf h arena.new s (States (Discharge p) (triple_tree stated.now))) }
-    ensures order { IfOk result (λ _. AreTermsPutIn arena.old (flat_map fact_terms (triple_tree stated.now).facts) arena.new) }
+    ensures line { IfOk result (λ s.
+        (h : History)
+        → IsLine (States (Discharge p) (triple_tree stated.now))
+        → IsShortOf h arena.new s (States (Discharge p) (triple_tree stated.now))) }
+    ensures order { IfOk result (λ _.
+        AreTermsPutIn arena.old (flat_map fact_terms (triple_tree stated.now).facts) arena.new) }
     ensures grows { Extends arena.old arena.new }
 {
     let facts = put_facts(alloc, arena, stated.facts.as_slice(), steps)?;

@@ -35,14 +35,18 @@ pub(crate) fn short_group(
     requires open { IsOpen reader.old lines.old over.old }
     ensures open { IsOpen reader.new lines.new over.new }
     ensures same { IsSameText reader.new reader.old }
-    ensures given { OnGiven result (λ g. GivesGroupAny (group_tree g) (reading_state reader.old lines.old over.old) (reading_state reader.new lines.new over.new)) }
+    ensures given { OnGiven result (λ g.
+        GivesGroupAny (group_tree g) (reading_state reader.old lines.old over.old)
+        (reading_state reader.new lines.new over.new)) }
     ensures fits { OnGiven result (λ g. IsGroupIn (version_of reader.new.version) (group_tree g)) }
     ensures needs { OnGiven result (λ g. HasFewNeeds (group_tree g)) }
     ensures shorter { OnGiven result (λ _. length reader.new.rest < length reader.old.rest) }
     ensures end { OnEnd result (EndsAny (reading_state reader.old lines.old over.old)) }
     ensures bad { OnBad result (λ n. StopsGroups n (reading_state reader.old lines.old over.old)) }
-    ensures end_same { OnEnd result (reading_state reader.new lines.new over.new ≡ reading_state reader.old lines.old over.old) }
-    ensures fault_same { OnErr result (reading_state reader.new lines.new over.new ≡ reading_state reader.old lines.old over.old) }
+    ensures end_same { OnEnd result (reading_state reader.new lines.new over.new
+        ≡ reading_state reader.old lines.old over.old) }
+    ensures fault_same { OnErr result (reading_state reader.new lines.new over.new
+        ≡ reading_state reader.old lines.old over.old) }
 {
     law_of_short_lines();
     let mut fresh = ShortLines::new(alloc);
@@ -70,12 +74,20 @@ pub(crate) fn short_line(
     requires group { IsGroupIn (version_of reader.old.version) (group_tree group.now) }
     ensures open { IsOpen reader.new lines.new over.new }
     ensures same { IsSameText reader.new reader.old }
-    ensures given { OnGiven result (λ l. GivesLines (group_tree group.now) (λ k. AreLinesIn k l) (reading_state reader.old lines.old over.old) (reading_state reader.new lines.new over.new)) }
+    ensures given { OnGiven result (λ l. GivesLines (group_tree group.now) (λ k. AreLinesIn k l)
+        (reading_state reader.old lines.old over.old)
+        (reading_state reader.new lines.new over.new)) }
     ensures shorter { OnGiven result (λ _. length reader.new.rest < length reader.old.rest) }
-    ensures end { OnEnd result (ProofEnds reader.new.rest × GivesLines (group_tree group.now) AreTermsIn (reading_state reader.old lines.old over.old) (reading_state reader.new lines.new over.new)) }
+    ensures end { OnEnd result (ProofEnds reader.new.rest
+        × GivesLines (group_tree group.now) AreTermsIn (reading_state reader.old lines.old over.old)
+        (reading_state reader.new lines.new over.new)) }
     ensures no_longer { length reader.new.rest ≤ length reader.old.rest }
-    ensures bad { OnBad result (λ n. StopsLines (group_tree group.now) n (reading_state reader.old lines.old over.old) (reading_state reader.new lines.new over.new)) }
-    ensures fault { OnErr result (GivesLines (group_tree group.now) AreTermsIn (reading_state reader.old lines.old over.old) (reading_state reader.new lines.new over.new)) }
+    ensures bad { OnBad result (λ n.
+        StopsLines (group_tree group.now) n (reading_state reader.old lines.old over.old)
+        (reading_state reader.new lines.new over.new)) }
+    ensures fault { OnErr result (GivesLines (group_tree group.now) AreTermsIn
+        (reading_state reader.old lines.old over.old)
+        (reading_state reader.new lines.new over.new)) }
 {
     while let Some(line) = next_short(alloc, reader, lines, over, group)? {
         if let ShortLine::Proof(short) = line {
@@ -85,7 +97,8 @@ pub(crate) fn short_line(
     Ok(None)
 }
 
-/// Goes past the next line of a proof, and the terms that stand before it. The group's own code isn't copied.
+/// Goes past the next line of a proof, and the terms that stand before it. The group's own code
+/// isn't copied.
 pub(crate) fn pass_short(
     alloc: Global,
     reader: &mut Reader<'_>,
@@ -98,12 +111,22 @@ pub(crate) fn pass_short(
     requires group { IsGroupIn (version_of reader.old.version) (group_tree group.now) }
     ensures open { IsOpen reader.new lines.new over.new }
     ensures same { IsSameText reader.new reader.old }
-    ensures given { OnGiven (as_item result) (λ _. GivesLines (group_tree group.now) AreSomeLinesIn (reading_state reader.old lines.old over.old) (reading_state reader.new lines.new over.new)) }
-    ensures shorter { OnGiven (as_item result) (λ _. length reader.new.rest < length reader.old.rest) }
-    ensures end { OnEnd (as_item result) (ProofEnds reader.new.rest × GivesLines (group_tree group.now) AreTermsIn (reading_state reader.old lines.old over.old) (reading_state reader.new lines.new over.new)) }
+    ensures given { OnGiven (as_item result) (λ _.
+        GivesLines (group_tree group.now) AreSomeLinesIn
+        (reading_state reader.old lines.old over.old)
+        (reading_state reader.new lines.new over.new)) }
+    ensures shorter { OnGiven (as_item result) (λ _.
+        length reader.new.rest < length reader.old.rest) }
+    ensures end { OnEnd (as_item result) (ProofEnds reader.new.rest
+        × GivesLines (group_tree group.now) AreTermsIn (reading_state reader.old lines.old over.old)
+        (reading_state reader.new lines.new over.new)) }
     ensures no_longer { length reader.new.rest ≤ length reader.old.rest }
-    ensures bad { OnBad (as_item result) (λ n. StopsLines (group_tree group.now) n (reading_state reader.old lines.old over.old) (reading_state reader.new lines.new over.new)) }
-    ensures fault { OnErr result (GivesLines (group_tree group.now) AreTermsIn (reading_state reader.old lines.old over.old) (reading_state reader.new lines.new over.new)) }
+    ensures bad { OnBad (as_item result) (λ n.
+        StopsLines (group_tree group.now) n (reading_state reader.old lines.old over.old)
+        (reading_state reader.new lines.new over.new)) }
+    ensures fault { OnErr result (GivesLines (group_tree group.now) AreTermsIn
+        (reading_state reader.old lines.old over.old)
+        (reading_state reader.new lines.new over.new)) }
 {
     while let Some(spelled) = next_spelled(alloc, reader, lines, over, group)? {
         if let ShortLine::Proof(_line) = spelled.line {
@@ -126,13 +149,24 @@ fn next_short(
     requires group { IsGroupIn (version_of reader.old.version) (group_tree group.now) }
     ensures open { IsOpen reader.new lines.new over.new }
     ensures same { IsSameText reader.new reader.old }
-    ensures given { OnGiven result (λ l. (ps : Items ShortProof) (p : ShortProof) → HasGivenAny Two (ps ++ p ∷ []) (reading_state reader.old lines.old over.old) → p.group ≡ group_tree group.now
-        → HasGivenAny Two (ps ++ with_line p l ∷ []) (reading_state reader.new lines.new over.new)) }
+    ensures given { OnGiven result (λ l.
+        (ps : Items ShortProof) (p : ShortProof)
+        → HasGivenAny Two (ps ++ p ∷ []) (reading_state reader.old lines.old over.old)
+        → p.group ≡ group_tree group.now
+        → HasGivenAny Two (ps ++ with_line p l ∷ [])
+        (reading_state reader.new lines.new over.new)) }
     ensures shorter { OnGiven result (λ _. length reader.new.rest < length reader.old.rest) }
-    ensures end { OnEnd result (ProofEnds reader.new.rest × Stays (reading_state reader.old lines.old over.old) (reading_state reader.new lines.new over.new)) }
-    ensures bad { OnBad result (λ n. (ps : Items ShortProof) (p : ShortProof) → HasGivenAny Two (ps ++ p ∷ []) (reading_state reader.old lines.old over.old) → p.group ≡ group_tree group.now
-        → IsBadAt short_texts reader.old.text n × NoItemOver short_lines (ps ++ p ∷ []) reader.old) }
-    ensures fault { OnErr result (Stays (reading_state reader.old lines.old over.old) (reading_state reader.new lines.new over.new)) }
+    ensures end { OnEnd result (ProofEnds reader.new.rest
+        × Stays (reading_state reader.old lines.old over.old)
+        (reading_state reader.new lines.new over.new)) }
+    ensures bad { OnBad result (λ n.
+        (ps : Items ShortProof) (p : ShortProof)
+        → HasGivenAny Two (ps ++ p ∷ []) (reading_state reader.old lines.old over.old)
+        → p.group ≡ group_tree group.now
+        → IsBadAt short_texts reader.old.text n
+        × NoItemOver short_lines (ps ++ p ∷ []) reader.old) }
+    ensures fault { OnErr result (Stays (reading_state reader.old lines.old over.old)
+        (reading_state reader.new lines.new over.new)) }
 {
     if *over {
         return Ok(None);
@@ -161,13 +195,24 @@ fn next_spelled(
     requires group { IsGroupIn (version_of reader.old.version) (group_tree group.now) }
     ensures open { IsOpen reader.new lines.new over.new }
     ensures same { IsSameText reader.new reader.old }
-    ensures given { OnGiven result (λ l. (ps : Items ShortProof) (p : ShortProof) → HasGivenAny Two (ps ++ p ∷ []) (reading_state reader.old lines.old over.old) → p.group ≡ group_tree group.now
-        → HasGivenAny Two (ps ++ with_line p (spelled_short (group_tree group.now).code l) ∷ []) (reading_state reader.new lines.new over.new)) }
+    ensures given { OnGiven result (λ l.
+        (ps : Items ShortProof) (p : ShortProof)
+        → HasGivenAny Two (ps ++ p ∷ []) (reading_state reader.old lines.old over.old)
+        → p.group ≡ group_tree group.now
+        → HasGivenAny Two (ps ++ with_line p (spelled_short (group_tree group.now).code l) ∷ [])
+        (reading_state reader.new lines.new over.new)) }
     ensures shorter { OnGiven result (λ _. length reader.new.rest < length reader.old.rest) }
-    ensures end { OnEnd result (ProofEnds reader.new.rest × Stays (reading_state reader.old lines.old over.old) (reading_state reader.new lines.new over.new)) }
-    ensures bad { OnBad result (λ n. (ps : Items ShortProof) (p : ShortProof) → HasGivenAny Two (ps ++ p ∷ []) (reading_state reader.old lines.old over.old) → p.group ≡ group_tree group.now
-        → IsBadAt short_texts reader.old.text n × NoItemOver short_lines (ps ++ p ∷ []) reader.old) }
-    ensures fault { OnErr result (Stays (reading_state reader.old lines.old over.old) (reading_state reader.new lines.new over.new)) }
+    ensures end { OnEnd result (ProofEnds reader.new.rest
+        × Stays (reading_state reader.old lines.old over.old)
+        (reading_state reader.new lines.new over.new)) }
+    ensures bad { OnBad result (λ n.
+        (ps : Items ShortProof) (p : ShortProof)
+        → HasGivenAny Two (ps ++ p ∷ []) (reading_state reader.old lines.old over.old)
+        → p.group ≡ group_tree group.now
+        → IsBadAt short_texts reader.old.text n
+        × NoItemOver short_lines (ps ++ p ∷ []) reader.old) }
+    ensures fault { OnErr result (Stays (reading_state reader.old lines.old over.old)
+        (reading_state reader.new lines.new over.new)) }
 {
     if *over {
         return Ok(None);

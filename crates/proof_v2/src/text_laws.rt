@@ -11,14 +11,23 @@ ghost use Rattle.short_text.specs.ShortProofs.{ShortProof, short_lines};
 ghost use Rattle.term_bench.specs.ShortRules.{short_rules};
 ghost use Rattle.proof_v2.specs.MigratedText.{IsMigratedText};
 
-/// A text of version 1 that is accepted for a file becomes one of version 2 that is accepted for it, with the same groups and as many
-/// lines.
+/// A text of version 1 that is accepted for a file becomes one of version 2 that is accepted for
+/// it, with the same groups and as many lines.
 pub fn law_of_migrated_texts()
-    ensures accepted { (file text more : List ℕ) (m : IsMigratedText file text more) → IsAcceptedOver short_rules version_2 file more (length m.old) (line_count m.old) }
+    ensures accepted { (file text more : List ℕ) (m : IsMigratedText file text more)
+        → IsAcceptedOver short_rules version_2 file more (length m.old) (line_count m.old) }
 
     // The numbers are those that a verdict on the text of version 1 says.
-    ensures counted { (file text more : List ℕ) (functions lines : ℕ) → IsMigratedText file text more → Says file text (Accepted functions lines) → IsAcceptedOver short_rules version_2 file more functions lines }
+    ensures counted { (file text more : List ℕ) (functions lines : ℕ)
+        → IsMigratedText file text more
+        → Says file text (Accepted functions lines)
+        → IsAcceptedOver short_rules version_2 file more functions lines }
 
     // Whatever proofs the two texts are those of: their groups are the same.
-    ensures groups { (file text more : List ℕ) → IsMigratedText file text more → (old : List ProofTree) (new : List ShortProof) → IsTextOf text old → IsTextOver short_lines version_2 more new → groups_of new ≡ groups_of old }
+    ensures groups { (file text more : List ℕ)
+        → IsMigratedText file text more
+        → (old : List ProofTree) (new : List ShortProof)
+        → IsTextOf text old
+        → IsTextOver short_lines version_2 more new
+        → groups_of new ≡ groups_of old }
 {}

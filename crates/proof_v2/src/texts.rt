@@ -31,19 +31,26 @@ use tailrec_lang::Group;
 use term_arena::{Arena, Steps};
 use triple_kernel::RuleFault;
 
-/// The text of version 2 that a text of version 1 becomes, where it is accepted for an ELF file: a table for each group, of the terms of
-/// its lines in the order in which they are first used, and a short line for each line. It is refused exactly as by `check_bytes`.
+/// The text of version 2 that a text of version 1 becomes, where it is accepted for an ELF file: a
+/// table for each group, of the terms of its lines in the order in which they are first used, and a
+/// short line for each line. It is refused exactly as by `check_bytes`.
 pub fn migrate(alloc: Global, elf: &[u8], proof: &[u8]) -> Result<Bytes, Verdict>
     ensures text { IfOk result (λ text. IsMigratedText elf.now proof.now text) }
 
     // Both texts are accepted, that of version 2 with as many groups and lines.
-    ensures accepted { IfOk result (λ text. (functions : ℕ) × (lines : ℕ) × Says elf.now proof.now (Verdict.Accepted functions lines) × IsAcceptedOver short_rules version_2 elf.now text functions lines) }
+    ensures accepted { IfOk result (λ text.
+        (functions : ℕ) × (lines : ℕ)
+        × Says elf.now proof.now (Verdict.Accepted functions lines)
+        × IsAcceptedOver short_rules version_2 elf.now text functions lines) }
 
     // The verdict that refuses it says what is so.
     ensures refused { IfErr result (λ v. Says elf.now proof.now v × (IsAcceptance v → ⊥)) }
 
     // A verdict that refuses it and says what is so comes, but for want of memory.
-    ensures exact { (v : VerdictOf) → Says elf.now proof.now v → (IsAcceptance v → ⊥) → (result ≡ Error v) ⊎ (v ≡ Verdict.NoMemory) ⊎ (result ≡ Error Verdict.NoMemory) }
+    ensures exact { (v : VerdictOf)
+        → Says elf.now proof.now v
+        → (IsAcceptance v → ⊥)
+        → (result ≡ Error v) ⊎ (v ≡ Verdict.NoMemory) ⊎ (result ≡ Error Verdict.NoMemory) }
 {
     match check_bytes(alloc, elf, proof) {
         Verdict::Accepted { .. } => rewritten(alloc, proof),
@@ -103,7 +110,8 @@ fn put_proof(
     requires version { reader.old.version ≡ One }
     requires fits { IsGroupIn version_1 (group_tree group.now) }
     requires given { HasOpened (group_tree group.now) reader.old }
-    ensures { OnOk result (ProofIsPut (group_tree group.now) reader.old reader.new out.old out.new) }
+    ensures { OnOk result (ProofIsPut (group_tree group.now) reader.old reader.new out.old
+        out.new) }
 {
     put_counted::<Brand>(alloc, reader, group, out, Blank::new(1))
 }
@@ -123,7 +131,8 @@ fn put_counted<L: Ledger>(
     requires version { reader.old.version ≡ One }
     requires fits { IsGroupIn version_1 (group_tree group.now) }
     requires given { HasOpened (group_tree group.now) reader.old }
-    ensures { OnOk result (ProofIsPut (group_tree group.now) reader.old reader.new out.old out.new) }
+    ensures { OnOk result (ProofIsPut (group_tree group.now) reader.old reader.new out.old
+        out.new) }
 {
     let mut steps = Steps::<L>::new(blank);
     let mut arena = Arena::new(alloc);
@@ -146,7 +155,8 @@ fn short_lines<L: Ledger>(
     requires fits { IsGroupIn version_1 (group_tree group.now) }
     requires given { HasOpened (group_tree group.now) reader.old }
     requires empty { arena.old ≡ [] }
-    ensures short { IfOk result (λ ss. LinesAreShort (group_tree group.now) reader.old reader.new arena.new ss) }
+    ensures short { IfOk result (λ ss.
+        LinesAreShort (group_tree group.now) reader.old reader.new arena.new ss) }
     ensures over { OnOk result (ProofEnds reader.new.rest) }
 {
     let mut bench = Bench::new(alloc, group)?;
@@ -168,7 +178,9 @@ fn next_line(
     requires text { IsRightText reader.old.text }
     requires version { reader.old.version ≡ One }
     requires fits { IsGroupIn version_1 (group_tree group.now) }
-    requires given { (ps : Items ProofTree) × (p : ProofTree) × HasGiven (ps ++ p ∷ []) reader.old × (p.group ≡ group_tree group.now) }
+    requires given { (ps : Items ProofTree) × (p : ProofTree)
+        × HasGiven (ps ++ p ∷ []) reader.old
+        × (p.group ≡ group_tree group.now) }
     ensures { IfOk result (λ found. LineIsNext (group_tree group.now) reader.old reader.new found) }
 {
     match reader.line(alloc, group) {
@@ -182,7 +194,8 @@ fn next_line(
 fn judge(alloc: Global, bench: &mut Bench<'_>, line: Line) -> Result<(), NoMemory>
     requires { Instance (group_of bench.old) (history_of bench.old) (line_tree line) }
     ensures group { OnOk result (bench.new.0 ≡ bench.old.0) }
-    ensures after { OnOk result (history_of bench.new ≡ after_line (history_of bench.old) (line_tree line)) }
+    ensures after { OnOk result (history_of bench.new
+        ≡ after_line (history_of bench.old) (line_tree line)) }
 {
     match bench.judge(alloc, line) {
         Ok(()) => Ok(()),
@@ -211,7 +224,8 @@ fn put_table<L: Ledger>(
 
 /// Writes short lines of the group's proof.
 fn put_lines(out: &mut Bytes, group: &Group, lines: &[Short]) -> Result<(), NoMemory>
-    ensures { OnOk result (out.new ≡ out.old ++ line_texts_by (short_tokens (group_tree group.now).code) lines.now) }
+    ensures { OnOk result (out.new
+        ≡ out.old ++ line_texts_by (short_tokens (group_tree group.now).code) lines.now) }
 {
     for line in lines {
         put_short_line(out, group, line)?;

@@ -13,7 +13,8 @@ use std::alloc::Global;
 /// How many bytes a first line has that names a version.
 const TITLE_BYTES: u64 = 10;
 
-/// The version that the first line of a text names, and version 1 where it names none that is taken.
+/// The version that the first line of a text names, and version 1 where it names none that is
+/// taken.
 pub fn named_version(text: &[u8]) -> Version
     ensures { result ≡ named_version text.now }
 {
@@ -75,8 +76,10 @@ pub fn held_version<S: Shelf>(
     size: u64,
     shelf: &mut S,
 ) -> Result<Version, LineFault>
-    ensures named { IfOk result (λ version. WhereHeld (S.contents shelf.old) name.now (λ file. version ≡ named_version (take size file))) }
-    ensures shelf { OnlyReads S.contents S.read_faults S.write_faults S.IsSure (IsErrOf result LineFault.Fault) name.now shelf.old shelf.new }
+    ensures named { IfOk result (λ version. WhereHeld (S.contents shelf.old) name.now
+        (λ file. version ≡ named_version (take size file))) }
+    ensures shelf { OnlyReads S.contents S.read_faults S.write_faults S.IsSure
+        (IsErrOf result LineFault.Fault) name.now shelf.old shelf.new }
 {
     let most = title_size(size);
     let mut lines = Lines::new(name, most);

@@ -90,7 +90,8 @@ fn decode_op_immediate(w: u32) -> Option<Instr>
     }
 }
 
-/// A word with the opcode of operations on a register and an immediate, and the funct3 of a left shift.
+/// A word with the opcode of operations on a register and an immediate, and the funct3 of a left
+/// shift.
 fn decode_left_shift(w: u32) -> Option<Instr>
     requires opcode { opcode_of w ≡ 0x13 }
     requires funct3 { funct3_of w ≡ 1 }
@@ -102,7 +103,8 @@ fn decode_left_shift(w: u32) -> Option<Instr>
     }
 }
 
-/// A word with the opcode of operations on a register and an immediate, and the funct3 of a right shift.
+/// A word with the opcode of operations on a register and an immediate, and the funct3 of a right
+/// shift.
 fn decode_right_shift(w: u32) -> Option<Instr>
     requires opcode { opcode_of w ≡ 0x13 }
     requires funct3 { funct3_of w ≡ 5 }
@@ -128,7 +130,8 @@ fn decode_half_op_immediate(w: u32) -> Option<Instr>
     }
 }
 
-/// A word with the opcode of operations on the low half of a register and an immediate, and the funct3 of a left shift.
+/// A word with the opcode of operations on the low half of a register and an immediate, and the
+/// funct3 of a left shift.
 fn decode_half_left_shift(w: u32) -> Option<Instr>
     requires opcode { opcode_of w ≡ 0x1b }
     requires funct3 { funct3_of w ≡ 1 }
@@ -140,7 +143,8 @@ fn decode_half_left_shift(w: u32) -> Option<Instr>
     }
 }
 
-/// A word with the opcode of operations on the low half of a register and an immediate, and the funct3 of a right shift.
+/// A word with the opcode of operations on the low half of a register and an immediate, and the
+/// funct3 of a right shift.
 fn decode_half_right_shift(w: u32) -> Option<Instr>
     requires opcode { opcode_of w ≡ 0x1b }
     requires funct3 { funct3_of w ≡ 5 }
@@ -198,7 +202,8 @@ fn decode_op_0(w: u32) -> Option<Instr>
     }
 }
 
-/// A word with the opcode of operations on two registers and the funct7 1: multiplication and division.
+/// A word with the opcode of operations on two registers and the funct7 1: multiplication and
+/// division.
 fn decode_op_1(w: u32) -> Option<Instr>
     requires opcode { opcode_of w ≡ 0x33 }
     requires funct7 { funct7_of w ≡ 1 }
@@ -256,7 +261,8 @@ fn decode_half_op_0(w: u32) -> Option<Instr>
     }
 }
 
-/// A word with the opcode of operations on the low halves of two registers and the funct7 1: multiplication and division.
+/// A word with the opcode of operations on the low halves of two registers and the funct7 1:
+/// multiplication and division.
 fn decode_half_op_1(w: u32) -> Option<Instr>
     requires opcode { opcode_of w ≡ 0x3b }
     requires funct7 { funct7_of w ≡ 1 }

@@ -1,5 +1,6 @@
-//! Words of each format (RISC-V Unprivileged ISA 20191213, sections 2.2 and 2.3). Of each field as many low bits are
-//! taken as it has in the word, and immediates are given as the bits of two's complement.
+//! Words of each format (RISC-V Unprivileged ISA 20191213, sections 2.2 and 2.3). Of each field as
+//! many low bits are taken as it has in the word, and immediates are given as the bits of two's
+//! complement.
 
 ghost use Rattle.std.specs.Prelude.{◌≡◌};
 ghost use Rattle.rv_decode.specs.Encodes.{join, fields_r, fields_i, fields_shift, fields_s, fields_b, fields_u, fields_j};

@@ -2,8 +2,8 @@
 
 use rv_words::{Cmp, Op, Width};
 
-/// An instruction of RV64IM with its fields. Registers are numbers from 0 to 31. Immediates are sign-extended; offsets
-/// are in bytes, from the instruction's own address.
+/// An instruction of RV64IM with its fields. Registers are numbers from 0 to 31. Immediates are
+/// sign-extended; offsets are in bytes, from the instruction's own address.
 #[derive(Clone, Copy, Debug, PartialEq, Eq)]
 pub enum Instr {
     /// An operation on two registers.

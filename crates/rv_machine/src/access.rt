@@ -25,7 +25,9 @@ pub fn fetch(memory: &ByteMap, a: u64) -> Option<u32>
 /// The number that at most four bytes from `a` on make, if they are present.
 fn number(memory: &ByteMap, a: u64, width: Width) -> Option<u32>
     requires { bytes_of width ≤ 4 }
-    ensures { result ≡ if spec.has width (get memory.now) a then Some (load (bytes_of width) (get memory.now) a) else None }
+    ensures { result
+        ≡ if spec.has width (get memory.now) a then Some (load (bytes_of width) (get memory.now) a)
+        else None }
 {
     memory.law_of_values();
     let number = memory.read(a, width)?;
@@ -34,7 +36,9 @@ fn number(memory: &ByteMap, a: u64, width: Width) -> Option<u32>
 
 /// The word that a load from `a` gives, if its bytes are present.
 pub fn load(memory: &ByteMap, a: u64, width: Width, signed: bool) -> Option<u64>
-    ensures { result ≡ if spec.has width (get memory.now) a then Some (spec.loaded width signed (get memory.now) a) else None }
+    ensures { result
+        ≡ if spec.has width (get memory.now) a then Some
+        (spec.loaded width signed (get memory.now) a) else None }
 {
     let number = memory.read(a, width)?;
     Some(if signed {
@@ -58,7 +62,9 @@ fn sign_extended(number: u64, width: Width) -> u64
 
 /// The first absent one of `n` addresses from `a` on.
 pub fn first_absent(memory: &ByteMap, a: u64, n: u8) -> Option<u64>
-    ensures { result ≡ if inside n (get memory.now) a then None else Some (spec.first_absent n (get memory.now) a) }
+    ensures { result
+        ≡ if inside n (get memory.now) a then None else Some
+        (spec.first_absent n (get memory.now) a) }
 {
     if n == 0 {
         return None;

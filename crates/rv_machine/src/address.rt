@@ -27,8 +27,9 @@ pub fn jump_target(word: u64, imm: i32) -> u64
     plus_immediate(word, imm) & 0xffff_ffff_ffff_fffe
 }
 
-/// The word that LUI writes, and AUIPC adds to the program counter: the 20 bits of the immediate are bits 31 to 12, those below are 0,
-/// and bit 31 is extended to the bits above (sections 2.4 and 5.2 of the manual).
+/// The word that LUI writes, and AUIPC adds to the program counter: the 20 bits of the immediate
+/// are bits 31 to 12, those below are 0, and bit 31 is extended to the bits above (sections 2.4 and
+/// 5.2 of the manual).
 pub fn upper_word(imm: u32) -> u64
     ensures { result ≡ spec.upper imm }
 {

@@ -17,8 +17,8 @@ pub enum RunEnd {
 }
 
 impl State {
-    /// Steps until the program counter is `until`, at most `steps` times. Before each step it tests whether it is
-    /// there, then whether steps are left. It takes no memory.
+    /// Steps until the program counter is `until`, at most `steps` times. Before each step it tests
+    /// whether it is there, then whether steps are left. It takes no memory.
     pub fn run(&mut self, until: u64, steps: u64) -> RunEnd
         ensures { EndsIn until steps (state_of self.old) (state_of self.new) result }
     {

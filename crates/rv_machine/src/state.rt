@@ -80,7 +80,8 @@ impl State {
         self.memory.law_of_values();
     }
 
-    /// The program counter: the address of the instruction that is next (section 2.1 of the manual).
+    /// The program counter: the address of the instruction that is next (section 2.1 of the
+    /// manual).
     pub fn pc(&self) -> u64
         ensures { result ≡ self.now.pc }
     {
@@ -114,7 +115,8 @@ impl State {
     /// Puts bytes at the addresses from `a` on, over those that are present.
     pub fn place(&mut self, a: u64, bytes: &[u8]) -> Result<(), NoMemory>
         requires { a + length bytes.now ≤ 2 ^ 64 }
-        ensures ok { OnOk result (state_of self.new ≡ with_bytes (bytes_from a bytes.now) (state_of self.old)) }
+        ensures ok { OnOk result (state_of self.new
+            ≡ with_bytes (bytes_from a bytes.now) (state_of self.old)) }
         ensures err { OnErr result (self.new ≡ self.old) }
     {
         self.memory.place(a, bytes)
@@ -123,19 +125,22 @@ impl State {
     /// Puts `n` zeros at the addresses from `a` on.
     pub fn place_zeros(&mut self, a: u64, n: u64) -> Result<(), NoMemory>
         requires { a + n ≤ 2 ^ 64 }
-        ensures ok { OnOk result (state_of self.new ≡ with_bytes (bytes_from a (replicate n 0)) (state_of self.old)) }
+        ensures ok { OnOk result (state_of self.new
+            ≡ with_bytes (bytes_from a (replicate n 0)) (state_of self.old)) }
         ensures err { OnErr result (self.new ≡ self.old) }
     {
         self.memory.place_zeros(a, n)
     }
 
-    /// Makes one step: carries out the instruction at the program counter (chapters 2, 5, 7 and 16 of the manual). Where there is
-    /// none or it can't be carried out, nothing changes. It takes no memory.
+    /// Makes one step: carries out the instruction at the program counter (chapters 2, 5, 7 and 16
+    /// of the manual). Where there is none or it can't be carried out, nothing changes. It takes no
+    /// memory.
     #[tactic(auto, unfolding(crate::specs::Step::step, crate::specs::Step::stuck))]
     pub fn step(&mut self) -> Result<(), Stuck>
         ensures ok { OnOk result (next_state (state_of self.old) ≡ Some (state_of self.new)) }
         ensures reason { IfErr result (λ why. stuck (state_of self.old) ≡ Some why) }
-        ensures exactly { (stuck (state_of self.old) ≡ None) ↔ IsSome (next_state (state_of self.old)) }
+        ensures exactly { (stuck (state_of self.old) ≡ None)
+            ↔ IsSome (next_state (state_of self.old)) }
         ensures err { OnErr result (self.new ≡ self.old) }
     {
         let found = self.instruction()?;
@@ -147,7 +152,8 @@ impl State {
         ensures ok { IfOk result (λ f. instruction_at (state_of self.now) ≡ Some f.instruction) }
         ensures length { IfOk result (λ f. length_at (state_of self.now) ≡ f.length) }
         ensures registers { IfOk result (λ f. NamesRegisters f.instruction) }
-        ensures later { IfOk result (λ f. cause (state_of self.now) ≡ hindrance f.instruction (state_of self.now)) }
+        ensures later { IfOk result (λ f.
+            cause (state_of self.now) ≡ hindrance f.instruction (state_of self.now)) }
         ensures none { OnErr result (instruction_at (state_of self.now) ≡ None) }
         ensures reason { IfErr result (λ why. cause (state_of self.now) ≡ why) }
     {
@@ -169,7 +175,8 @@ impl State {
     /// Carries an instruction of that many bytes out.
     fn carry_out(&mut self, instruction: Instr, length: u64) -> Result<(), Stuck>
         requires { NamesRegisters instruction }
-        ensures ok { OnOk result (act instruction length (state_of self.old) ≡ Some (state_of self.new)) }
+        ensures ok { OnOk result (act instruction length (state_of self.old)
+            ≡ Some (state_of self.new)) }
         ensures none { OnErr result (act instruction length (state_of self.old) ≡ None) }
         ensures reason { IfErr result (λ why. hindrance instruction (state_of self.old) ≡ why) }
         ensures err { OnErr result (self.new ≡ self.old) }
@@ -244,7 +251,8 @@ impl State {
     /// Jumps to a target, and writes the address after the jump to a register.
     fn jump(&mut self, rd: u8, target: u64, length: u64)
         requires { rd < 32 }
-        ensures { let s = state_of self.old in state_of self.new ≡ goes_to target (writes rd (next length s) s) }
+        ensures { let s = state_of self.old in state_of self.new ≡ goes_to target
+            (writes rd (next length s) s) }
     {
         let link = self.pc.wrapping_add(length);
         self.pc = target;
@@ -266,7 +274,8 @@ impl State {
     fn find_bytes(&self, width: Width, a: u64) -> Result<(), Stuck>
         ensures ok { OnOk result (IsTrue (has width (state_of self.now).mem a)) }
         ensures none { OnErr result (has width (state_of self.now).mem a ≡ false) }
-        ensures reason { IfErr result (λ why. NoByte (absent_from (bytes_of width) (state_of self.now).mem a) ≡ why) }
+        ensures reason { IfErr result (λ why.
+            NoByte (absent_from (bytes_of width) (state_of self.now).mem a) ≡ why) }
     {
         if self.memory.has(a, width) {
             return Ok(());
@@ -280,9 +289,11 @@ impl State {
     /// Loads from an address into a register.
     fn load(&mut self, width: Width, signed: bool, rd: u8, a: u64, length: u64) -> Result<(), Stuck>
         requires { rd < 32 }
-        ensures ok { OnOk result (loads_to rd width signed a length (state_of self.old) ≡ Some (state_of self.new)) }
+        ensures ok { OnOk result (loads_to rd width signed a length (state_of self.old)
+            ≡ Some (state_of self.new)) }
         ensures none { OnErr result (has width (state_of self.old).mem a ≡ false) }
-        ensures reason { IfErr result (λ why. NoByte (absent_from (bytes_of width) (state_of self.old).mem a) ≡ why) }
+        ensures reason { IfErr result (λ why.
+            NoByte (absent_from (bytes_of width) (state_of self.old).mem a) ≡ why) }
         ensures err { OnErr result (self.new ≡ self.old) }
     {
         let Some(word) = load(&self.memory, a, width, signed) else {
@@ -294,9 +305,11 @@ impl State {
 
     /// Stores the low bytes of a word.
     fn store(&mut self, width: Width, a: u64, word: u64, length: u64) -> Result<(), Stuck>
-        ensures ok { OnOk result (stores_at width a word length (state_of self.old) ≡ Some (state_of self.new)) }
+        ensures ok { OnOk result (stores_at width a word length (state_of self.old)
+            ≡ Some (state_of self.new)) }
         ensures none { OnErr result (has width (state_of self.old).mem a ≡ false) }
-        ensures reason { IfErr result (λ why. NoByte (absent_from (bytes_of width) (state_of self.old).mem a) ≡ why) }
+        ensures reason { IfErr result (λ why.
+            NoByte (absent_from (bytes_of width) (state_of self.old).mem a) ≡ why) }
         ensures err { OnErr result (self.new ≡ self.old) }
     {
         self.find_bytes(width, a)?;

@@ -23,8 +23,8 @@ pub struct Touch {
 const NOTHING: Touch = Touch { at: 0, count: 0 };
 
 impl State {
-    /// The addresses that the instruction at the program counter loads or stores. There are none where it is another
-    /// instruction, and where no instruction can be fetched or decoded.
+    /// The addresses that the instruction at the program counter loads or stores. There are none
+    /// where it is another instruction, and where no instruction can be fetched or decoded.
     #[tactic(auto, unfolding(crate::specs::Touches::touches))]
     pub fn touches(&self) -> Touch
         ensures { result ≡ spec.touches (state_of self.now) }

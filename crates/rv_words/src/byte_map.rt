@@ -14,8 +14,8 @@ use crate::width::Width;
 use std::alloc::Global;
 use std::marker::Model;
 
-/// The bytes that are present, at addresses below 2^64. It is kept as rising pieces that don't overlap, so that
-/// a look-up takes time in the logarithm of their number.
+/// The bytes that are present, at addresses below 2^64. It is kept as rising pieces that don't
+/// overlap, so that a look-up takes time in the logarithm of their number.
 #[derive(Debug, Drop)]
 pub struct ByteMap {
     pieces: Vec<Piece>,
@@ -69,7 +69,8 @@ impl ByteMap {
         are_below(&self.pieces, limit)
     }
 
-    /// Whether all addresses of the width from `a` on are present. They go on from 0 after the last one.
+    /// Whether all addresses of the width from `a` on are present. They go on from 0 after the last
+    /// one.
     pub fn has(&self, a: u64, w: Width) -> bool
         ensures { result ≡ inside (bytes_of w) (get self.now) a }
     {
@@ -83,23 +84,26 @@ impl ByteMap {
         load_bytes(&self.pieces, a, w.bytes())
     }
 
-    /// The number of the width's bytes from `a` on, the low one first, if all of these addresses are present.
+    /// The number of the width's bytes from `a` on, the low one first, if all of these addresses
+    /// are present.
     pub fn read(&self, a: u64, w: Width) -> Option<u64>
-        ensures { result ≡ if inside (bytes_of w) (get self.now) a then Some (load (bytes_of w) (get self.now) a) else None }
+        ensures { result
+            ≡ if inside (bytes_of w) (get self.now) a then Some (load (bytes_of w) (get self.now) a)
+            else None }
     {
         read_bytes(&self.pieces, a, w.bytes())
     }
 
-    /// Writes the low bytes of `v` at those addresses of the width from `a` on that are present. It takes no
-    /// memory.
+    /// Writes the low bytes of `v` at those addresses of the width from `a` on that are present. It
+    /// takes no memory.
     pub fn store(&mut self, a: u64, w: Width, v: u64)
         ensures { get self.new ≡ store (bytes_of w) (get self.old) a v }
     {
         store_bytes(&mut self.pieces, a, w.bytes(), v);
     }
 
-    /// Puts bytes at the addresses from `a` on, over those that are present. Where none of these is, that takes time
-    /// in proportion to the number of bytes and, behind them, of pieces.
+    /// Puts bytes at the addresses from `a` on, over those that are present. Where none of these
+    /// is, that takes time in proportion to the number of bytes and, behind them, of pieces.
     pub fn place(&mut self, a: u64, bytes: &[u8]) -> Result<(), NoMemory>
         requires { a + length bytes.now ≤ 2 ^ 64 }
         ensures ok { OnOk result (get self.new ≡ over (bytes_from a bytes.now) (get self.old)) }
@@ -108,10 +112,12 @@ impl ByteMap {
         put_bytes(&mut self.pieces, a, bytes)
     }
 
-    /// Puts `n` zeros at the addresses from `a` on. Where none of these is present, that takes one allocation.
+    /// Puts `n` zeros at the addresses from `a` on. Where none of these is present, that takes one
+    /// allocation.
     pub fn place_zeros(&mut self, a: u64, n: u64) -> Result<(), NoMemory>
         requires { a + n ≤ 2 ^ 64 }
-        ensures ok { OnOk result (get self.new ≡ over (bytes_from a (replicate n 0)) (get self.old)) }
+        ensures ok { OnOk result (get self.new
+            ≡ over (bytes_from a (replicate n 0)) (get self.old)) }
         ensures err { OnErr result (self.new ≡ self.old) }
     {
         put_zeros(&mut self.pieces, a, n)

@@ -3,7 +3,8 @@
 ghost use Rattle.std.specs.Prelude.{◌≡◌};
 ghost use Rattle.rv_words.specs.Operation.{comparison_holds};
 
-/// A comparison of two words. `Lt` and `Ge` take them as signed numbers, `Ltu` and `Geu` as unsigned ones.
+/// A comparison of two words. `Lt` and `Ge` take them as signed numbers, `Ltu` and `Geu` as
+/// unsigned ones.
 #[derive(Clone, Copy, Debug, PartialEq, Eq)]
 pub enum Cmp {
     Eq,

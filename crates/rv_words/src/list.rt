@@ -1,4 +1,5 @@
-//! A list that contracts see as the list of its items, whatever its capacity and its place in memory.
+//! A list that contracts see as the list of its items, whatever its capacity and its place in
+//! memory.
 
 ghost use Rattle.std.specs.Prelude.{◌≡◌, ◌<◌, ◌∷◌, ◌++◌, [], length, slice_get, slice_set, take, option_to_list, ◌↔◌, IsTrue, IfNone, OnOk, OnErr, IfOk};
 ghost use Rattle.std.specs.Option.{option_copied};
@@ -16,7 +17,8 @@ pub struct List<T> {
 /// Bytes of a file, a text or a piece of code.
 pub type Bytes = List<u8>;
 
-/// The bytes of a name. Texts have names of 1 to 4,096 bytes from 0x21 to 0x7e, none of them `(`, `)` or `;`; the type doesn't ask for it.
+/// The bytes of a name. Texts have names of 1 to 4,096 bytes from 0x21 to 0x7e, none of them `(`,
+/// `)` or `;`; the type doesn't ask for it.
 pub type Text = List<u8>;
 
 impl<T> Model for List<T> {

@@ -1,5 +1,5 @@
-//! Pieces of memory: they rise and don't overlap. Two may touch: a piece grows at its end in place, and where new
-//! bytes stand right in front of one, it is copied behind them only if it is short.
+//! Pieces of memory: they rise and don't overlap. Two may touch: a piece grows at its end in place,
+//! and where new bytes stand right in front of one, it is copied behind them only if it is short.
 
 ghost use Rattle.std.specs.Prelude.{◌≡◌, ℕ, Some, None, ◌+◌, ◌-◌, ◌<◌, ◌≤◌, if◌then◌else◌, slice_index_or, slice_get, length, take, drop, replicate, ◌++◌, ◌∷◌, vec_len, IfOk, IfSome, OnOk, OnErr, IsTrue, ◌↔◌, ◌^◌};
 ghost use Rattle.rv_words.specs.Bytes.{AreAt, bytes_from, inside, load, number_of, over, put_byte, store};
@@ -44,7 +44,8 @@ impl Piece {
         self.at <= a && a - self.at <= len && n <= len - (a - self.at)
     }
 
-    /// Whether `n` bytes from `a` on begin in the piece or right behind it, and end no earlier than it does.
+    /// Whether `n` bytes from `a` on begin in the piece or right behind it, and end no earlier than
+    /// it does.
     fn grows(&self, a: u64, n: u64) -> bool
         ensures { IsTrue result → (self.now.at ≤ a) × (a ≤ end self.now) × (end self.now ≤ a + n) }
     {
@@ -106,8 +107,12 @@ fn get_byte(bytes: &[u8], k: usize) -> Option<u8>
 /// How many pieces begin at most `n` above `a`, of pieces that rise.
 fn count_begun(pieces: &[Piece], a: u64, n: u64) -> usize
     ensures within { result ≤ length pieces.now }
-    ensures begun { (d : Piece) → 0 < result → (slice_index_or pieces.now (result - 1) d).at ≤ a + n }
-    ensures later { (d : Piece) → result < length pieces.now → a + n < (slice_index_or pieces.now result d).at }
+    ensures begun { (d : Piece)
+        → 0 < result
+        → (slice_index_or pieces.now (result - 1) d).at ≤ a + n }
+    ensures later { (d : Piece)
+        → result < length pieces.now
+        → a + n < (slice_index_or pieces.now result d).at }
 {
     let mut low = 0;
     let mut high = pieces.len();
@@ -196,12 +201,14 @@ fn zeros(alloc: Global, n: usize) -> Result<Vec<u8>, NoMemory>
 /// Writes zeros over `n` bytes from a place on.
 fn clear(bytes: &mut Vec<u8>, from: usize, n: usize)
     requires { from + n ≤ vec_len bytes.old }
-    ensures { bytes.new.items ≡ take from bytes.old.items ++ (replicate n 0 ++ drop (from + n) bytes.old.items) }
+    ensures { bytes.new.items
+        ≡ take from bytes.old.items ++ (replicate n 0 ++ drop (from + n) bytes.old.items) }
 {
     bytes[from..from + n].fill(0);
 }
 
-/// Puts `n` zeros from a place on over all the bytes there and behind the last one. It copies none of those before.
+/// Puts `n` zeros from a place on over all the bytes there and behind the last one. It copies none
+/// of those before.
 fn extend(bytes: &mut Vec<u8>, from: usize, n: usize) -> Result<(), NoMemory>
     requires begins { from ≤ vec_len bytes.old }
     requires ends { vec_len bytes.old ≤ from + n }
@@ -217,7 +224,8 @@ fn extend(bytes: &mut Vec<u8>, from: usize, n: usize) -> Result<(), NoMemory>
 /// Writes other bytes from a place on.
 fn overwrite(bytes: &mut Vec<u8>, from: usize, new: &[u8])
     requires { from + length new.now ≤ vec_len bytes.old }
-    ensures { bytes.new.items ≡ take from bytes.old.items ++ (new.now ++ drop (from + length new.now) bytes.old.items) }
+    ensures { bytes.new.items
+        ≡ take from bytes.old.items ++ (new.now ++ drop (from + length new.now) bytes.old.items) }
 {
     bytes[from..from + new.len()].copy_from_slice(new);
 }
@@ -230,8 +238,9 @@ fn follows_at(pieces: &[Piece], i: usize, a: u64, n: u64) -> bool
     i < pieces.len() && pieces[i].follows(a, n)
 }
 
-/// The first and the one after the last of the pieces with which `n` bytes from `a` on make one: those that have
-/// one of these addresses, and the one that ends at `a`; where there is none of these, a short one right behind.
+/// The first and the one after the last of the pieces with which `n` bytes from `a` on make one:
+/// those that have one of these addresses, and the one that ends at `a`; where there is none of
+/// these, a short one right behind.
 fn touched(pieces: &[Piece], a: u64, n: u64) -> (usize, usize)
     requires pieces { ArePieces pieces.now }
     requires some { 0 < n }
@@ -239,8 +248,12 @@ fn touched(pieces: &[Piece], a: u64, n: u64) -> (usize, usize)
     ensures within { result.1 ≤ length pieces.now }
     ensures before { above 0 (take result.0 pieces.now) ≤ a }
     ensures after { ArePiecesFrom (a + n) (drop result.1 pieces.now) }
-    ensures reaches { (d : Piece) → result.0 < result.1 → a ≤ end (slice_index_or pieces.now result.0 d) }
-    ensures begins { (d : Piece) → result.0 < result.1 → (slice_index_or pieces.now (result.1 - 1) d).at ≤ a + n }
+    ensures reaches { (d : Piece)
+        → result.0 < result.1
+        → a ≤ end (slice_index_or pieces.now result.0 d) }
+    ensures begins { (d : Piece)
+        → result.0 < result.1
+        → (slice_index_or pieces.now (result.1 - 1) d).at ≤ a + n }
 {
     let begun = count_begun(pieces, a, 0);
     let last = count_begun(pieces, a, n - 1);
@@ -262,7 +275,8 @@ fn insert_zeros(pieces: &mut Vec<Piece>, i: usize, a: u64, n: u64) -> Result<(),
     requires before { above 0 (take i pieces.old.items) ≤ a }
     requires after { ArePiecesFrom (a + n) (drop i pieces.old.items) }
     ensures pieces { ArePieces pieces.new.items }
-    ensures cleared { OnOk result (bytes_in pieces.new.items ≡ over (bytes_from a (replicate n 0)) (bytes_in pieces.old.items)) }
+    ensures cleared { OnOk result (bytes_in pieces.new.items
+        ≡ over (bytes_from a (replicate n 0)) (bytes_in pieces.old.items)) }
     ensures held { OnOk result (Holds pieces.new.items i a n) }
     ensures err { OnErr result (pieces.new.items ≡ pieces.old.items) }
 {
@@ -271,7 +285,8 @@ fn insert_zeros(pieces: &mut Vec<Piece>, i: usize, a: u64, n: u64) -> Result<(),
     Ok(())
 }
 
-/// Makes one piece of the pieces from `first` on that stand before `last`, with `n` zeros from `a` on.
+/// Makes one piece of the pieces from `first` on that stand before `last`, with `n` zeros from `a`
+/// on.
 fn join_zeros(
     pieces: &mut Vec<Piece>,
     first: usize,
@@ -289,7 +304,8 @@ fn join_zeros(
     requires reaches { (d : Piece) → a ≤ end (slice_index_or pieces.old.items first d) }
     requires begins { (d : Piece) → (slice_index_or pieces.old.items (last - 1) d).at ≤ a + n }
     ensures pieces { ArePieces pieces.new.items }
-    ensures cleared { OnOk result (bytes_in pieces.new.items ≡ over (bytes_from a (replicate n 0)) (bytes_in pieces.old.items)) }
+    ensures cleared { OnOk result (bytes_in pieces.new.items
+        ≡ over (bytes_from a (replicate n 0)) (bytes_in pieces.old.items)) }
     ensures held { OnOk result (Holds pieces.new.items first a n) }
     ensures err { OnErr result (pieces.new.items ≡ pieces.old.items) }
 {
@@ -310,9 +326,13 @@ fn extend_zeros(pieces: &mut Vec<Piece>, i: usize, a: u64, n: u64) -> Result<(),
     requires some { 0 < n }
     requires fits { a + n ≤ 2 ^ 64 }
     requires after { ArePiecesFrom (a + n) (drop (i + 1) pieces.old.items) }
-    requires grows { (d : Piece) → ((slice_index_or pieces.old.items i d).at ≤ a) × (a ≤ end (slice_index_or pieces.old.items i d)) × (end (slice_index_or pieces.old.items i d) ≤ a + n) }
+    requires grows { (d : Piece)
+        → ((slice_index_or pieces.old.items i d).at ≤ a)
+        × (a ≤ end (slice_index_or pieces.old.items i d))
+        × (end (slice_index_or pieces.old.items i d) ≤ a + n) }
     ensures pieces { ArePieces pieces.new.items }
-    ensures cleared { OnOk result (bytes_in pieces.new.items ≡ over (bytes_from a (replicate n 0)) (bytes_in pieces.old.items)) }
+    ensures cleared { OnOk result (bytes_in pieces.new.items
+        ≡ over (bytes_from a (replicate n 0)) (bytes_in pieces.old.items)) }
     ensures held { OnOk result (Holds pieces.new.items i a n) }
     ensures err { OnErr result (bytes_in pieces.new.items ≡ bytes_in pieces.old.items) }
 {
@@ -326,7 +346,8 @@ fn clear_in(pieces: &mut [Piece], i: usize, a: u64, n: u64)
     requires pieces { ArePieces pieces.old }
     requires held { Holds pieces.old i a n }
     ensures pieces { ArePieces pieces.new }
-    ensures cleared { bytes_in pieces.new ≡ over (bytes_from a (replicate n 0)) (bytes_in pieces.old) }
+    ensures cleared { bytes_in pieces.new
+        ≡ over (bytes_from a (replicate n 0)) (bytes_in pieces.old) }
     ensures held { Holds pieces.new i a n }
 {
     let piece = &mut pieces[i];
@@ -352,7 +373,8 @@ fn cover(pieces: &mut Vec<Piece>, a: u64, n: u64) -> Result<usize, NoMemory>
     requires some { 0 < n }
     requires fits { a + n ≤ 2 ^ 64 }
     ensures pieces { ArePieces pieces.new.items }
-    ensures cleared { OnOk result (bytes_in pieces.new.items ≡ over (bytes_from a (replicate n 0)) (bytes_in pieces.old.items)) }
+    ensures cleared { OnOk result (bytes_in pieces.new.items
+        ≡ over (bytes_from a (replicate n 0)) (bytes_in pieces.old.items)) }
     ensures held { IfOk result (λ i. Holds pieces.new.items i a n) }
     ensures err { OnErr result (bytes_in pieces.new.items ≡ bytes_in pieces.old.items) }
 {
@@ -378,7 +400,8 @@ pub fn put_bytes(pieces: &mut Vec<Piece>, a: u64, bytes: &[u8]) -> Result<(), No
     requires pieces { ArePieces pieces.old.items }
     requires fits { a + length bytes.now ≤ 2 ^ 64 }
     ensures pieces { ArePieces pieces.new.items }
-    ensures ok { OnOk result (bytes_in pieces.new.items ≡ over (bytes_from a bytes.now) (bytes_in pieces.old.items)) }
+    ensures ok { OnOk result (bytes_in pieces.new.items
+        ≡ over (bytes_from a bytes.now) (bytes_in pieces.old.items)) }
     ensures err { OnErr result (bytes_in pieces.new.items ≡ bytes_in pieces.old.items) }
 {
     if bytes.is_empty() {
@@ -394,7 +417,8 @@ pub fn put_zeros(pieces: &mut Vec<Piece>, a: u64, n: u64) -> Result<(), NoMemory
     requires pieces { ArePieces pieces.old.items }
     requires fits { a + n ≤ 2 ^ 64 }
     ensures pieces { ArePieces pieces.new.items }
-    ensures ok { OnOk result (bytes_in pieces.new.items ≡ over (bytes_from a (replicate n 0)) (bytes_in pieces.old.items)) }
+    ensures ok { OnOk result (bytes_in pieces.new.items
+        ≡ over (bytes_from a (replicate n 0)) (bytes_in pieces.old.items)) }
     ensures err { OnErr result (bytes_in pieces.new.items ≡ bytes_in pieces.old.items) }
 {
     if n == 0 {
@@ -489,7 +513,8 @@ pub fn load_bytes(pieces: &[Piece], a: u64, n: u8) -> u64
 pub fn read_bytes(pieces: &[Piece], a: u64, n: u8) -> Option<u64>
     requires pieces { ArePieces pieces.now }
     requires few { n ≤ 8 }
-    ensures { result ≡ if inside n (bytes_in pieces.now) a then Some (load n (bytes_in pieces.now) a) else None }
+    ensures { result
+        ≡ if inside n (bytes_in pieces.now) a then Some (load n (bytes_in pieces.now) a) else None }
 {
     if let Some(bytes) = bytes_together(pieces, a, n) {
         return Some(number(bytes));

@@ -1,4 +1,5 @@
-//! From a compressed number to its instruction and its word: the quadrant first, then the funct3, then the other fields.
+//! From a compressed number to its instruction and its word: the quadrant first, then the funct3,
+//! then the other fields.
 
 ghost use Rattle.std.specs.Prelude.{◌≡◌, ◌↔◌, ℕ, IfSome, IsTrue, Some, option_and_then};
 ghost use Rattle.rv_decode.specs.Decodes.{NamesRegisters, decoded};

@@ -1,4 +1,5 @@
-//! The fields of a compressed instruction (RISC-V Unprivileged ISA 20191213, sections 16.2 to 16.5).
+//! The fields of a compressed instruction (RISC-V Unprivileged ISA 20191213, sections 16.2 to
+//! 16.5).
 
 ghost use Rattle.std.specs.Prelude.{◌≡◌, ◌<◌, ◌≤◌, ◌*◌, ◌%◌, ◌^◌, pos, ◌-ℤ◌, nat_lt, if◌then◌else◌};
 ghost use Rattle.rv_words.specs.Operation.{word_of};

@@ -30,14 +30,16 @@ pub fn stack_address(h: u16) -> Instr
 
 /// C.LW.
 pub fn load_4(h: u16) -> Instr
-    ensures { result ≡ instr.Load B4 true (field.rs2_short h) (field.rs1_short h) (field.offset_4 h) }
+    ensures { result
+        ≡ instr.Load B4 true (field.rs2_short h) (field.rs1_short h) (field.offset_4 h) }
 {
     load(Width::B4, rs2_short(h), rs1_short(h), offset_4(h))
 }
 
 /// C.LD.
 pub fn load_8(h: u16) -> Instr
-    ensures { result ≡ instr.Load B8 true (field.rs2_short h) (field.rs1_short h) (field.offset_8 h) }
+    ensures { result
+        ≡ instr.Load B8 true (field.rs2_short h) (field.rs1_short h) (field.offset_8 h) }
 {
     load(Width::B8, rs2_short(h), rs1_short(h), offset_8(h))
 }
@@ -156,7 +158,8 @@ pub fn upper(h: u16) -> Instr
 
 /// C.SRLI and C.SRAI.
 pub fn right_shift(op: Op, h: u16) -> Instr
-    ensures { result ≡ instr.OpImm op (field.rs1_short h) (field.rs1_short h) (field.shift_amount h) }
+    ensures { result
+        ≡ instr.OpImm op (field.rs1_short h) (field.rs1_short h) (field.shift_amount h) }
 {
     Instr::OpImm {
         op,

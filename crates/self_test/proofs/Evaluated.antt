@@ -14,8 +14,8 @@ use Rattle.tailrec_lang.specs.declared.evaluator.Outcome.TheVariants as answer
 use Rattle.tailrec_lang.specs.declared.group.Group.{Group}
 use Rattle.tailrec_lang.specs.Tree.{GroupTree, def_tree, group_tree, listed_def}
 use Rattle.tailrec_lang.specs.Eval.{Arguments, Done, LeavesInScope, arguments, eval, outcome_of}
-use Rattle.checker.specs.Headline.{cut, held_in}
-use Rattle.exactness.specs.Exact.{Gives}
+use Rattle.claims.specs.Headline.{cut, held_in}
+use Rattle.claims.specs.Exact.{Gives}
 use Rattle.self_test.specs.Start.{begin, empty_regions, given}
 use Rattle.self_test.specs.Results.{Evaluates, result_of}
 

@@ -12,8 +12,8 @@ use Rattle.rv_machine.specs.declared.running.RunEnd.TheVariants as end
 use Rattle.rv_machine.specs.declared.state.Stuck.{Stuck}
 use Rattle.rv_machine.proofs.RunLemmas.{ends-once}
 use Rattle.tailrec_lang.specs.Tree.{GroupTree, group_tree}
-use Rattle.checker.specs.Headline.{Starts, is_within}
-use Rattle.exactness.specs.Exact.{FirstReturns, Gives}
+use Rattle.claims.specs.Headline.{Starts, is_within}
+use Rattle.claims.specs.Exact.{FirstReturns, Gives}
 use Rattle.path_walk.specs.declared.item.Item.{Item}
 use Rattle.decompiler.specs.Listing.{IsItemFor}
 use Rattle.code_gen.specs.Program.{program_of}

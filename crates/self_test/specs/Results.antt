@@ -5,7 +5,7 @@ use Rattle.rv_machine.specs.Run.{EndsIn}
 use Rattle.rv_machine.specs.declared.running.RunEnd.TheVariants as end
 use Rattle.tailrec_lang.specs.Tree.{GroupTree, group_tree, listed_def}
 use Rattle.tailrec_lang.specs.Eval.{Arguments, Done, eval}
-use Rattle.checker.specs.Headline.{held_in}
+use Rattle.claims.specs.Headline.{held_in}
 use Rattle.path_walk.specs.declared.item.Item.{Item}
 use Rattle.decompiler.specs.Listing.{IsItemFor}
 use Rattle.code_runs.specs.Runs.{behind}

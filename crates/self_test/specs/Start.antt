@@ -3,7 +3,7 @@ use Rattle.std.specs.Prelude.{ℕ, ◌==◌, if◌then◌else◌, false, List, c
 use Rattle.elf_image.specs.Image.{memory_of_file}
 use Rattle.rv_machine.specs.State.{State}
 use Rattle.tailrec_lang.specs.Tree.{GroupTree}
-use Rattle.checker.specs.Headline.{Region}
+use Rattle.claims.specs.Headline.{Region}
 use Rattle.code_gen.specs.ElfFile.{elf_of, start}
 use Rattle.code_gen.specs.Program.{program_of}
 use Rattle.code_runs.specs.Runs.{behind}

@@ -15,15 +15,15 @@ use std::alloc::Global;
 use tailrec_lang::{Args, Group, Outcome, eval, has_few_needs};
 
 /// How the evaluation of a program's function ended.
-#[derive(Clone, Copy, Debug)]
+#[derive(Clone, Copy)]
 pub struct Evaluated {
     pub turns: u64,
     /// What it gives x10.
     pub value: u64,
 }
 
-/// Evaluates a program's function with twice as many turns as its run had steps. A group with more Needs than can be counted
-/// needs more memory than there is.
+/// Evaluates a program's function with twice as many turns as its run had steps. A group with more
+/// Needs than can be counted needs more memory than there is.
 pub fn evaluate(
     alloc: Global,
     item: &Item,
@@ -34,7 +34,8 @@ pub fn evaluate(
     requires size { size ≤ 600 }
     requires item { IsItemFor (file_of number size) function_name item.now }
     requires ran { Runs number size ran.now.steps ran.now.value }
-    ensures evaluates { IfOk result (λ e. Evaluates number size (group_tree item.now.group) (2 * ran.now.steps) e.turns e.value) }
+    ensures evaluates { IfOk result (λ e.
+        Evaluates number size (group_tree item.now.group) (2 * ran.now.steps) e.turns e.value) }
     ensures same { IfOk result (λ e. e.value ≡ ran.now.value) }
 {
     let group = &item.group;
@@ -53,7 +54,8 @@ pub fn evaluate(
     }
 }
 
-/// The arguments where a program begins: what the group's registers hold, and no bytes in its memories.
+/// The arguments where a program begins: what the group's registers hold, and no bytes in its
+/// memories.
 fn arguments(alloc: Global, group: &Group, number: u64, size: u32) -> Result<Args, NoMemory>
     ensures words { IfOk result (λ args. args.words ≡ map (word_given number size) group.now.regs) }
     ensures mems { IfOk result (λ args. map get args.mems ≡ replicate group.now.mems (λ a. None)) }
@@ -90,7 +92,8 @@ fn empty_memories(alloc: Global, count: u8) -> Result<List<ByteMap>, NoMemory>
     Ok(mems)
 }
 
-/// What a register holds after an evaluation: the word in its place among these, or what it held before.
+/// What a register holds after an evaluation: the word in its place among these, or what it held
+/// before.
 fn result_of(register: u8, registers: &[u8], words: &[u64], before: u64) -> u64
     requires { length words.now ≡ length registers.now }
     ensures { result ≡ spec.result_of register registers.now words.now before }

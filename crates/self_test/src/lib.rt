@@ -1,4 +1,5 @@
-//! A test of the whole way on code that is drawn from a number: it is decompiled, run and evaluated.
+//! A test of the whole way on code that is drawn from a number: it is decompiled, run and
+//! evaluated.
 #![tactic(auto)]
 
 mod evaluation;

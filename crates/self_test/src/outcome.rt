@@ -29,8 +29,8 @@ pub struct Outcome {
     pub value: u64,
 }
 
-/// Decompiles the program that is drawn from a number, runs it until it returns, and evaluates its function with twice as
-/// many turns as the run has steps.
+/// Decompiles the program that is drawn from a number, runs it until it returns, and evaluates its
+/// function with twice as many turns as the run has steps.
 pub fn self_test(alloc: Global, number: u64, size: u32) -> Result<Outcome, NoMemory>
     requires { size ≤ 600 }
     ensures { IfOk result (IsOutcome number size) }

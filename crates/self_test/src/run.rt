@@ -19,7 +19,7 @@ const BEHIND: u64 = 0x20000;
 const STEP_LIMIT: u64 = 1_048_575;
 
 /// How the run of a program ended.
-#[derive(Clone, Copy, Debug)]
+#[derive(Clone, Copy)]
 pub struct Ran {
     pub steps: u64,
     /// What x10 held then.

@@ -7,9 +7,9 @@ ghost use Rattle.sep_assert.specs.Tree.{assertion_tree, register_tree};
 use rv_words::List;
 use word_terms::{Mem, Word, same_mem, same_word};
 
-/// What a part of a machine's state holds: the program counter, some registers, and the bytes of some memories, no two of
-/// which share an address. Nothing is said of the rest of the state. In a text the registers rise from 1 to 31; the type
-/// doesn't ask for it.
+/// What a part of a machine's state holds: the program counter, some registers, and the bytes of
+/// some memories, no two of which share an address. Nothing is said of the rest of the state. In a
+/// text the registers rise from 1 to 31; the type doesn't ask for it.
 #[derive(Debug, Drop)]
 pub struct Assertion {
     pub pc: Word,

@@ -11,7 +11,8 @@ use crate::search::Search;
 use rv_words::Range;
 use word_terms::Code;
 
-/// Whether every byte of `a` is that byte of `b`. Mostly they are the same ranges, which is seen at once.
+/// Whether every byte of `a` is that byte of `b`. Mostly they are the same ranges, which is seen at
+/// once.
 #[tactic(auto, using(crate::proofs::CodeLemmas::over_none, crate::proofs::CodeLemmas::within_same))]
 pub fn code_within(a: &Code, b: &Code) -> bool
     ensures { IsTrue result ↔ IsWithin (range_bytes a.now.ranges) (range_bytes b.now.ranges) }
@@ -30,7 +31,9 @@ pub fn code_agree(a: &Code, b: &Code) -> bool
 
 /// Whether every byte of `a` is that byte of `b` or, where `b` has none, of `c`.
 pub fn code_within_either(a: &Code, b: &Code, c: &Code) -> bool
-    ensures { IsTrue result ↔ IsWithin (range_bytes a.now.ranges) (over (range_bytes b.now.ranges) (range_bytes c.now.ranges)) }
+    ensures { IsTrue result
+        ↔ IsWithin (range_bytes a.now.ranges) (over (range_bytes b.now.ranges)
+        (range_bytes c.now.ranges)) }
 {
     are_bytes_of(
         a.ranges.as_slice(),
@@ -39,16 +42,19 @@ pub fn code_within_either(a: &Code, b: &Code, c: &Code) -> bool
     )
 }
 
-/// Whether every byte of `a` is that byte of `b` or, where `b` has none, of `c`. Mostly each has one range, which is compared at once.
+/// Whether every byte of `a` is that byte of `b` or, where `b` has none, of `c`. Mostly each has
+/// one range, which is compared at once.
 fn are_bytes_of(a: &[Range], b: &[Range], c: &[Range]) -> bool
-    ensures { IsTrue result ↔ IsWithin (range_bytes a.now) (over (range_bytes b.now) (range_bytes c.now)) }
+    ensures { IsTrue result
+        ↔ IsWithin (range_bytes a.now) (over (range_bytes b.now) (range_bytes c.now)) }
 {
     are_pieces_of(a, b, c) || are_found_in(a, b, c)
 }
 
 /// The same, byte by byte. Where the ranges rise, each is looked at once.
 fn are_found_in(a: &[Range], b: &[Range], c: &[Range]) -> bool
-    ensures { IsTrue result ↔ IsWithin (range_bytes a.now) (over (range_bytes b.now) (range_bytes c.now)) }
+    ensures { IsTrue result
+        ↔ IsWithin (range_bytes a.now) (over (range_bytes b.now) (range_bytes c.now)) }
 {
     let mut in_a = Search::new(a);
     let mut in_b = Search::new(b);
@@ -63,7 +69,8 @@ fn are_found_in(a: &[Range], b: &[Range], c: &[Range]) -> bool
 
 /// Whether the bytes of `a` at the addresses of a range are those of `b` or of `c`.
 fn are_bytes_at(range: &Range, a: &mut Search, b: &mut Search, c: &mut Search) -> bool
-    ensures is { IsTrue result ↔ AreSameAt (range_bytes a.old) (over (range_bytes b.old) (range_bytes c.old)) range.now }
+    ensures is { IsTrue result
+        ↔ AreSameAt (range_bytes a.old) (over (range_bytes b.old) (range_bytes c.old)) range.now }
     ensures first { a.new ≡ a.old }
     ensures second { b.new ≡ b.old }
     ensures third { c.new ≡ c.old }

@@ -11,12 +11,14 @@ use rv_words::{List, NoMemory, Range};
 use std::alloc::Global;
 use word_terms::Code;
 
-/// The bytes of both codes, which have no two different bytes at one address. Ranges that touch become one.
+/// The bytes of both codes, which have no two different bytes at one address. Ranges that touch
+/// become one.
 pub fn code_join(alloc: Global, a: &Code, b: &Code) -> Result<Code, NoMemory>
     requires first { AreRanges a.now.ranges }
     requires second { AreRanges b.now.ranges }
     requires agree { Agree (range_bytes a.now.ranges) (range_bytes b.now.ranges) }
-    ensures bytes { IfOk result (λ c. range_bytes c.ranges ≡ over (range_bytes a.now.ranges) (range_bytes b.now.ranges)) }
+    ensures bytes { IfOk result (λ c.
+        range_bytes c.ranges ≡ over (range_bytes a.now.ranges) (range_bytes b.now.ranges)) }
     ensures ranges { IfOk result (λ c. AreRanges c.ranges) }
 {
     let a = a.ranges.as_slice();
@@ -81,13 +83,15 @@ fn copied(alloc: Global, range: &Range) -> Result<Range, NoMemory>
     })
 }
 
-/// The first range with those bytes of the second that lie behind it. The second begins in the first, or right
-/// behind it.
+/// The first range with those bytes of the second that lie behind it. The second begins in the
+/// first, or right behind it.
 fn lengthened(alloc: Global, first: Range, second: &Range) -> Result<Range, NoMemory>
     requires order { first.at ≤ second.now.at }
     requires touch { second.now.at ≤ first.at + length first.bytes }
     ensures at { IfOk result (λ r. r.at ≡ first.at) }
-    ensures bytes { IfOk result (λ r. r.bytes ≡ first.bytes ++ drop (first.at + length first.bytes - second.now.at) second.now.bytes) }
+    ensures bytes { IfOk result (λ r.
+        r.bytes
+        ≡ first.bytes ++ drop (first.at + length first.bytes - second.now.at) second.now.bytes) }
 {
     let known = first.bytes.len() - (second.at - first.at) as usize;
     let more = List::from_slice(alloc, behind(second.bytes.as_slice(), known))?;

@@ -1,11 +1,13 @@
 //! Assertions that say what a part of a machine's state holds, and code as bytes at addresses.
 //!
-//! An `Assertion` is read as separation logic does: its program counter, registers and memories describe parts of a state
-//! that share no key, and nothing is said of the rest. `same_assertion(&a, &b)` compares two. `code_within(&a, &b)` tells
-//! whether code lies in other code, and `code_join(alloc, &a, &b)?` makes the code of both.
+//! An `Assertion` is read as separation logic does: its program counter, registers and memories
+//! describe parts of a state that share no key, and nothing is said of the rest.
+//! `same_assertion(&a, &b)` compares two. `code_within(&a, &b)` tells whether code lies in other
+//! code, and `code_join(alloc, &a, &b)?` makes the code of both.
 //!
-//! `specs/Part.antt` has parts of a state and their unions. The laws that matter are `law_of_unions`, when parts make up a
-//! whole, and `law_of_keys`, what an assertion says of the program counter and of each register and address.
+//! `specs/Part.antt` has parts of a state and their unions. The laws that matter are
+//! `law_of_unions`, when parts make up a whole, and `law_of_keys`, what an assertion says of the
+//! program counter and of each register and address.
 #![tactic(auto)]
 
 mod assertion;

@@ -7,10 +7,11 @@ ghost use Rattle.sep_assert.specs.Code.{IsWithin};
 
 use rv_words::Range;
 
-/// Whether each range of `a` lies in the first one of `b` or, where `b` has no other, in it and the first one of `c` together.
-/// Where it doesn't say so, `a` may still lie in both.
+/// Whether each range of `a` lies in the first one of `b` or, where `b` has no other, in it and the
+/// first one of `c` together. Where it doesn't say so, `a` may still lie in both.
 pub(crate) fn are_pieces_of(a: &[Range], b: &[Range], c: &[Range]) -> bool
-    ensures { IsTrue result → IsWithin (range_bytes a.now) (over (range_bytes b.now) (range_bytes c.now)) }
+    ensures { IsTrue result
+        → IsWithin (range_bytes a.now) (over (range_bytes b.now) (range_bytes c.now)) }
 {
     for range in a {
         if !is_piece(range, b, c) {
@@ -21,7 +22,9 @@ pub(crate) fn are_pieces_of(a: &[Range], b: &[Range], c: &[Range]) -> bool
 }
 
 fn is_piece(range: &Range, b: &[Range], c: &[Range]) -> bool
-    ensures { IsTrue result → IsWithin (bytes_from range.now.at range.now.bytes) (over (range_bytes b.now) (range_bytes c.now)) }
+    ensures { IsTrue result
+        → IsWithin (bytes_from range.now.at range.now.bytes)
+        (over (range_bytes b.now) (range_bytes c.now)) }
 {
     if b.is_empty() {
         return false;
@@ -41,7 +44,8 @@ fn is_piece(range: &Range, b: &[Range], c: &[Range]) -> bool
 
 /// Whether bytes from an address on lie in a range. None lie anywhere.
 fn lie_in(at: u128, bytes: &[u8], range: &Range) -> bool
-    ensures { IsTrue result → IsWithin (bytes_from at bytes.now) (bytes_from range.now.at range.now.bytes) }
+    ensures { IsTrue result
+        → IsWithin (bytes_from at bytes.now) (bytes_from range.now.at range.now.bytes) }
 {
     if bytes.is_empty() {
         return true;
@@ -72,8 +76,10 @@ fn part(bytes: &[u8], place: u128, count: usize) -> Option<&[u8]>
 
 /// Whether a range lies in one range and, before and behind that, in another.
 fn is_joined(range: &Range, first: &Range, second: &Range) -> bool
-    ensures { IsTrue result → IsWithin (bytes_from range.now.at range.now.bytes)
-        (over (bytes_from first.now.at first.now.bytes) (bytes_from second.now.at second.now.bytes)) }
+    ensures { IsTrue result
+        → IsWithin (bytes_from range.now.at range.now.bytes)
+        (over (bytes_from first.now.at first.now.bytes)
+        (bytes_from second.now.at second.now.bytes)) }
 {
     let at = u128::from(range.at);
     let start = u128::from(first.at);

@@ -55,11 +55,15 @@ impl<'a> Search<'a> {
     }
 }
 
-/// The place of the first range from `start` on that ends behind the address, or how many there are.
+/// The place of the first range from `start` on that ends behind the address, or how many there
+/// are.
 fn place_of(ranges: &[Range], start: usize, address: u128) -> usize
     requires { Stands ranges.now start address }
     ensures stands { Stands ranges.now result address }
-    ensures next { (r : Range) → result < length ranges.now → r ≡ slice_index_or ranges.now result r → address < r.at + length r.bytes }
+    ensures next { (r : Range)
+        → result < length ranges.now
+        → r ≡ slice_index_or ranges.now result r
+        → address < r.at + length r.bytes }
 {
     for place in start..ranges.len() {
         if !ends_by(&ranges[place], address) {
@@ -90,11 +94,15 @@ fn are_in_order(ranges: &[Range]) -> bool
     true
 }
 
-/// The byte at an address, before which the ranges before a place end. The one at the place ends behind it.
+/// The byte at an address, before which the ranges before a place end. The one at the place ends
+/// behind it.
 fn byte_from(ranges: &[Range], place: usize, in_order: bool, address: u128) -> Option<u8>
     requires order { IsTrue in_order → RiseFrom 0 ranges.now }
     requires stands { Stands ranges.now place address }
-    requires next { (r : Range) → place < length ranges.now → r ≡ slice_index_or ranges.now place r → address < r.at + length r.bytes }
+    requires next { (r : Range)
+        → place < length ranges.now
+        → r ≡ slice_index_or ranges.now place r
+        → address < r.at + length r.bytes }
     ensures { result ≡ range_bytes ranges.now address }
 {
     if place >= ranges.len() {

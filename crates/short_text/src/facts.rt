@@ -23,7 +23,8 @@ fn read_arguments<'a>(
     scan: &mut Scan<'a>,
     table: &[Node],
 ) -> Result<HeldValues, TokenError>
-    ensures gives { Gives (λ v. v) result scan.old scan.new (held_values_with table.now (one is_semi)) }
+    ensures gives { Gives (λ v. v) result scan.old scan.new
+        (held_values_with table.now (one is_semi)) }
     ensures last { last_line scan.new ≡ last_line scan.old }
 {
     let words = read_terms(alloc, scan, table, Kind::Word)?;
@@ -39,7 +40,8 @@ fn read_results<'a>(
     scan: &mut Scan<'a>,
     table: &[Node],
 ) -> Result<HeldValues, TokenError>
-    ensures gives { Gives (λ v. v) result scan.old scan.new (held_values_with table.now (one is_right)) }
+    ensures gives { Gives (λ v. v) result scan.old scan.new
+        (held_values_with table.now (one is_right)) }
     ensures last { last_line scan.new ≡ last_line scan.old }
 {
     let words = read_terms(alloc, scan, table, Kind::Word)?;
@@ -120,7 +122,8 @@ pub fn read_held_facts<'a>(
     scan: &mut Scan<'a>,
     table: &[Node],
 ) -> Result<List<HeldFact>, TokenError>
-    ensures gives { Gives (λ facts. facts) result scan.old scan.new (star is_open (held_fact_at table.now)) }
+    ensures gives { Gives (λ facts. facts) result scan.old scan.new
+        (star is_open (held_fact_at table.now)) }
     ensures last { last_line scan.new ≡ last_line scan.old }
 {
     let mut facts = List::new(alloc);

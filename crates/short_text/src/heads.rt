@@ -10,7 +10,7 @@ use term_text::{
 };
 
 /// The forms of terms that have parts.
-#[derive(Clone, Copy, Debug, PartialEq, Eq)]
+#[derive(Clone, Copy, PartialEq, Eq)]
 pub enum NodeHead {
     Bin(Op),
     Extend(Ext),
@@ -22,7 +22,7 @@ pub enum NodeHead {
 }
 
 /// The forms of facts.
-#[derive(Clone, Copy, Debug, PartialEq, Eq)]
+#[derive(Clone, Copy, PartialEq, Eq)]
 pub enum FactName {
     WordIs,
     MemIs,
@@ -31,7 +31,7 @@ pub enum FactName {
 }
 
 /// The forms of lines.
-#[derive(Clone, Copy, Debug, PartialEq, Eq)]
+#[derive(Clone, Copy, PartialEq, Eq)]
 pub enum ShortHead {
     Axiom,
     Inst,

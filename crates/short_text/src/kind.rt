@@ -6,7 +6,7 @@ ghost use Rattle.short_text.specs.inner.Kinds.{has_kind, kind_of, same_kind};
 use term_arena::Node;
 
 /// What a term of a table stands for.
-#[derive(Clone, Copy, Debug, PartialEq, Eq)]
+#[derive(Clone, Copy, PartialEq, Eq)]
 pub enum Kind {
     Word,
     Mem,

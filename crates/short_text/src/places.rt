@@ -16,7 +16,7 @@ use term_arena::Node;
 use term_text::variable_of;
 
 /// A variable of a word or of a memory.
-#[derive(Clone, Copy, Debug, PartialEq, Eq)]
+#[derive(Clone, Copy, PartialEq, Eq)]
 pub enum Place {
     ForWord(u32),
     ForMem(u32),
@@ -87,7 +87,8 @@ fn read_all_places<'a>(
     scan: &mut Scan<'a>,
     table: &[Node],
 ) -> Result<List<(Place, u64)>, TokenError>
-    ensures gives { Gives (λ places. places) result scan.old scan.new (star is_open (place_at table.now)) }
+    ensures gives { Gives (λ places. places) result scan.old scan.new
+        (star is_open (place_at table.now)) }
     ensures last { last_line scan.new ≡ last_line scan.old }
 {
     let mut places = List::new(alloc);
@@ -127,7 +128,8 @@ pub fn read_places<'a>(
     scan: &mut Scan<'a>,
     table: &[Node],
 ) -> Result<List<(Place, u64)>, TokenError>
-    ensures gives { Gives (λ places. places) result scan.old scan.new (checked (places_rise 0) (star is_open (place_at table.now))) }
+    ensures gives { Gives (λ places. places) result scan.old scan.new
+        (checked (places_rise 0) (star is_open (place_at table.now))) }
     ensures last { last_line scan.new ≡ last_line scan.old }
 {
     let places = read_all_places(alloc, scan, table)?;

@@ -50,7 +50,8 @@ fn put_node_line(pen: &mut Pen<'_>, node: Node) -> Result<(), NoMemory>
 /// Prints a short line of the group's proof at the beginning of a line.
 #[tactic(auto, using(mc_text::proofs::Printed::printed_bytes, mc_text::proofs::Printed::prints))]
 pub fn put_short_line(out: &mut Bytes, g: &Group, line: &Short) -> Result<(), NoMemory>
-    ensures ok { OnOk result (out.new ≡ out.old ++ spell Start (short_tokens (group_tree g.now).code line.now)) }
+    ensures ok { OnOk result (out.new
+        ≡ out.old ++ spell Start (short_tokens (group_tree g.now).code line.now)) }
     ensures prefix { BeginsWith out.old out.new }
 {
     let mut pen = Pen::new(out);
@@ -103,7 +104,8 @@ fn put_node(pen: &mut Pen<'_>, node: Node) -> Result<(), NoMemory>
 
 /// Prints a form with one part.
 fn put_one_part(pen: &mut Pen<'_>, name: &[u8], a: u64) -> Result<(), NoMemory>
-    ensures ok { OnOk result (page pen.new ≡ print (form name.now (term_number a ∷ [])) (page pen.old)) }
+    ensures ok { OnOk result (page pen.new
+        ≡ print (form name.now (term_number a ∷ [])) (page pen.old)) }
     ensures kept { Keeps (page pen.old) (page pen.new) }
 {
     pen.open(name)?;
@@ -113,7 +115,8 @@ fn put_one_part(pen: &mut Pen<'_>, name: &[u8], a: u64) -> Result<(), NoMemory>
 
 /// Prints a form with two parts.
 fn put_two_parts(pen: &mut Pen<'_>, name: &[u8], a: u64, b: u64) -> Result<(), NoMemory>
-    ensures ok { OnOk result (page pen.new ≡ print (form name.now (term_number a ∷ term_number b ∷ [])) (page pen.old)) }
+    ensures ok { OnOk result (page pen.new
+        ≡ print (form name.now (term_number a ∷ term_number b ∷ [])) (page pen.old)) }
     ensures kept { Keeps (page pen.old) (page pen.new) }
 {
     pen.open(name)?;
@@ -124,7 +127,9 @@ fn put_two_parts(pen: &mut Pen<'_>, name: &[u8], a: u64, b: u64) -> Result<(), N
 
 /// Prints a form with three parts.
 fn put_three_parts(pen: &mut Pen<'_>, name: &[u8], a: u64, b: u64, c: u64) -> Result<(), NoMemory>
-    ensures ok { OnOk result (page pen.new ≡ print (form name.now (term_number a ∷ term_number b ∷ term_number c ∷ [])) (page pen.old)) }
+    ensures ok { OnOk result (page pen.new
+        ≡ print (form name.now (term_number a ∷ term_number b ∷ term_number c ∷ []))
+        (page pen.old)) }
     ensures kept { Keeps (page pen.old) (page pen.new) }
 {
     pen.open(name)?;
@@ -135,7 +140,8 @@ fn put_three_parts(pen: &mut Pen<'_>, name: &[u8], a: u64, b: u64, c: u64) -> Re
 }
 
 fn put_term_numbers(pen: &mut Pen<'_>, numbers: &[u64]) -> Result<(), NoMemory>
-    ensures ok { OnOk result (page pen.new ≡ print (flat_map term_number numbers.now) (page pen.old)) }
+    ensures ok { OnOk result (page pen.new
+        ≡ print (flat_map term_number numbers.now) (page pen.old)) }
     ensures kept { Keeps (page pen.old) (page pen.new) }
 {
     for k in numbers {
@@ -162,7 +168,9 @@ fn put_both_values(
     args: &HeldValues,
     results: &HeldValues,
 ) -> Result<(), NoMemory>
-    ensures ok { OnOk result (page pen.new ≡ print (held_values_tokens args.now ++ (Semi ∷ held_values_tokens results.now)) (page pen.old)) }
+    ensures ok { OnOk result (page pen.new
+        ≡ print (held_values_tokens args.now ++ (Semi ∷ held_values_tokens results.now))
+        (page pen.old)) }
     ensures kept { Keeps (page pen.old) (page pen.new) }
 {
     put_held_values(pen, args)?;
@@ -194,7 +202,8 @@ fn put_held_fact(pen: &mut Pen<'_>, fact: &HeldFact) -> Result<(), NoMemory>
 }
 
 fn put_each_fact(pen: &mut Pen<'_>, facts: &[HeldFact]) -> Result<(), NoMemory>
-    ensures ok { OnOk result (page pen.new ≡ print (flat_map held_fact_tokens facts.now) (page pen.old)) }
+    ensures ok { OnOk result (page pen.new
+        ≡ print (flat_map held_fact_tokens facts.now) (page pen.old)) }
     ensures kept { Keeps (page pen.old) (page pen.new) }
 {
     for fact in facts {
@@ -205,7 +214,8 @@ fn put_each_fact(pen: &mut Pen<'_>, facts: &[HeldFact]) -> Result<(), NoMemory>
 
 /// Prints the word of facts, and these.
 fn put_held_facts(pen: &mut Pen<'_>, facts: &[HeldFact]) -> Result<(), NoMemory>
-    ensures ok { OnOk result (page pen.new ≡ print (list_tokens (codes "facts") held_fact_tokens facts.now) (page pen.old)) }
+    ensures ok { OnOk result (page pen.new
+        ≡ print (list_tokens (codes "facts") held_fact_tokens facts.now) (page pen.old)) }
     ensures kept { Keeps (page pen.old) (page pen.new) }
 {
     pen.atom(b"facts")?;
@@ -223,7 +233,8 @@ fn put_held_register(pen: &mut Pen<'_>, register: (u8, u64)) -> Result<(), NoMem
 }
 
 fn put_held_registers(pen: &mut Pen<'_>, registers: &[(u8, u64)]) -> Result<(), NoMemory>
-    ensures ok { OnOk result (page pen.new ≡ print (flat_map held_register_tokens registers.now) (page pen.old)) }
+    ensures ok { OnOk result (page pen.new
+        ≡ print (flat_map held_register_tokens registers.now) (page pen.old)) }
     ensures kept { Keeps (page pen.old) (page pen.new) }
 {
     for register in registers {
@@ -246,7 +257,8 @@ fn put_side_parts(pen: &mut Pen<'_>, side: &HeldSide) -> Result<(), NoMemory>
 
 /// Prints an assertion, after a word.
 fn put_held_side(pen: &mut Pen<'_>, word: &[u8], side: &HeldSide) -> Result<(), NoMemory>
-    ensures ok { OnOk result (page pen.new ≡ print (Atom word.now ∷ held_side_tokens side.now) (page pen.old)) }
+    ensures ok { OnOk result (page pen.new
+        ≡ print (Atom word.now ∷ held_side_tokens side.now) (page pen.old)) }
     ensures kept { Keeps (page pen.old) (page pen.new) }
 {
     pen.atom(word)?;
@@ -257,7 +269,8 @@ fn put_held_side(pen: &mut Pen<'_>, word: &[u8], side: &HeldSide) -> Result<(), 
 
 /// Prints a line, beside the group's own code.
 fn put_line_tokens(pen: &mut Pen<'_>, own: &Code, line: &Short) -> Result<(), NoMemory>
-    ensures ok { OnOk result (page pen.new ≡ print (short_tokens own.now.ranges line.now) (page pen.old)) }
+    ensures ok { OnOk result (page pen.new
+        ≡ print (short_tokens own.now.ranges line.now) (page pen.old)) }
     ensures kept { Keeps (page pen.old) (page pen.new) }
 {
     match line {
@@ -298,7 +311,9 @@ fn put_line_tokens(pen: &mut Pen<'_>, own: &Code, line: &Short) -> Result<(), No
 }
 
 fn put_axiom(pen: &mut Pen<'_>, at: u64, word: u32, form: Form) -> Result<(), NoMemory>
-    ensures ok { OnOk result (page pen.new ≡ print (line (codes "axiom") (address at ∷ address word ∷ form_tokens form ∷ [])) (page pen.old)) }
+    ensures ok { OnOk result (page pen.new
+        ≡ print (line (codes "axiom") (address at ∷ address word ∷ form_tokens form ∷ []))
+        (page pen.old)) }
     ensures kept { Keeps (page pen.old) (page pen.new) }
 {
     pen.atom(b"axiom")?;
@@ -314,7 +329,10 @@ fn put_inst(
     words: &[(u32, u64)],
     mems: &[(u32, u64)],
 ) -> Result<(), NoMemory>
-    ensures ok { OnOk result (page pen.new ≡ print (line (codes "inst") (number p ∷ flat_map word_place_tokens words.now ∷ flat_map mem_place_tokens mems.now ∷ [])) (page pen.old)) }
+    ensures ok { OnOk result (page pen.new
+        ≡ print
+        (line (codes "inst") (number p ∷ flat_map word_place_tokens words.now
+        ∷ flat_map mem_place_tokens mems.now ∷ [])) (page pen.old)) }
     ensures kept { Keeps (page pen.old) (page pen.new) }
 {
     put_cited(pen, b"inst", p)?;
@@ -324,7 +342,10 @@ fn put_inst(
 }
 
 fn put_frame(pen: &mut Pen<'_>, p: u64, regs: &[(u8, u64)], mems: &[u64]) -> Result<(), NoMemory>
-    ensures ok { OnOk result (page pen.new ≡ print (line (codes "frame") (number p ∷ flat_map held_register_tokens regs.now ∷ (Semi ∷ []) ∷ flat_map term_number mems.now ∷ [])) (page pen.old)) }
+    ensures ok { OnOk result (page pen.new
+        ≡ print
+        (line (codes "frame") (number p ∷ flat_map held_register_tokens regs.now ∷ (Semi ∷ [])
+        ∷ flat_map term_number mems.now ∷ [])) (page pen.old)) }
     ensures kept { Keeps (page pen.old) (page pen.new) }
 {
     put_cited(pen, b"frame", p)?;
@@ -335,7 +356,11 @@ fn put_frame(pen: &mut Pen<'_>, p: u64, regs: &[(u8, u64)], mems: &[u64]) -> Res
 }
 
 fn put_extension(pen: &mut Pen<'_>, own: &Code, p: u64, code: &Code) -> Result<(), NoMemory>
-    ensures ok { OnOk result (page pen.new ≡ print (line (codes "extend") (number p ∷ (Atom (codes "code") ∷ code_tokens own.now.ranges code.now.ranges) ∷ [])) (page pen.old)) }
+    ensures ok { OnOk result (page pen.new
+        ≡ print
+        (line (codes "extend") (number p
+        ∷ (Atom (codes "code") ∷ code_tokens own.now.ranges code.now.ranges) ∷ []))
+        (page pen.old)) }
     ensures kept { Keeps (page pen.old) (page pen.new) }
 {
     put_cited(pen, b"extend", p)?;
@@ -345,7 +370,8 @@ fn put_extension(pen: &mut Pen<'_>, own: &Code, p: u64, code: &Code) -> Result<(
 
 /// Prints a line of a word and two numbers.
 fn put_two_numbers(pen: &mut Pen<'_>, word: &[u8], m: u64, n: u64) -> Result<(), NoMemory>
-    ensures ok { OnOk result (page pen.new ≡ print (line word.now (number m ∷ number n ∷ [])) (page pen.old)) }
+    ensures ok { OnOk result (page pen.new
+        ≡ print (line word.now (number m ∷ number n ∷ [])) (page pen.old)) }
     ensures kept { Keeps (page pen.old) (page pen.new) }
 {
     put_cited(pen, word, m)?;
@@ -362,7 +388,10 @@ fn put_changed(
     word: &[u8],
     side: &HeldSide,
 ) -> Result<(), NoMemory>
-    ensures ok { OnOk result (page pen.new ≡ print (line rule.now (number p ∷ list_tokens (codes "facts") held_fact_tokens facts.now ∷ (Atom word.now ∷ held_side_tokens side.now) ∷ [])) (page pen.old)) }
+    ensures ok { OnOk result (page pen.new
+        ≡ print
+        (line rule.now (number p ∷ list_tokens (codes "facts") held_fact_tokens facts.now
+        ∷ (Atom word.now ∷ held_side_tokens side.now) ∷ [])) (page pen.old)) }
     ensures kept { Keeps (page pen.old) (page pen.new) }
 {
     put_cited(pen, rule, p)?;
@@ -378,7 +407,10 @@ fn put_with_facts(
     p: u64,
     facts: &[HeldFact],
 ) -> Result<(), NoMemory>
-    ensures ok { OnOk result (page pen.new ≡ print (line rule.now (number p ∷ list_tokens (codes "facts") held_fact_tokens facts.now ∷ [])) (page pen.old)) }
+    ensures ok { OnOk result (page pen.new
+        ≡ print
+        (line rule.now (number p ∷ list_tokens (codes "facts") held_fact_tokens facts.now ∷ []))
+        (page pen.old)) }
     ensures kept { Keeps (page pen.old) (page pen.new) }
 {
     put_cited(pen, rule, p)?;
@@ -387,7 +419,9 @@ fn put_with_facts(
 }
 
 fn put_loop(pen: &mut Pen<'_>, def: u32, cited: &[u64]) -> Result<(), NoMemory>
-    ensures ok { OnOk result (page pen.new ≡ print (line (codes "loop") (number def ∷ flat_map number cited.now ∷ [])) (page pen.old)) }
+    ensures ok { OnOk result (page pen.new
+        ≡ print (line (codes "loop") (number def ∷ flat_map number cited.now ∷ []))
+        (page pen.old)) }
     ensures kept { Keeps (page pen.old) (page pen.new) }
 {
     put_cited(pen, b"loop", u64::from(def))?;
@@ -407,7 +441,8 @@ fn put_word_place(pen: &mut Pen<'_>, place: (u32, u64)) -> Result<(), NoMemory>
 }
 
 fn put_word_places(pen: &mut Pen<'_>, places: &[(u32, u64)]) -> Result<(), NoMemory>
-    ensures ok { OnOk result (page pen.new ≡ print (flat_map word_place_tokens places.now) (page pen.old)) }
+    ensures ok { OnOk result (page pen.new
+        ≡ print (flat_map word_place_tokens places.now) (page pen.old)) }
     ensures kept { Keeps (page pen.old) (page pen.new) }
 {
     for place in places {
@@ -428,7 +463,8 @@ fn put_mem_place(pen: &mut Pen<'_>, place: (u32, u64)) -> Result<(), NoMemory>
 }
 
 fn put_mem_places(pen: &mut Pen<'_>, places: &[(u32, u64)]) -> Result<(), NoMemory>
-    ensures ok { OnOk result (page pen.new ≡ print (flat_map mem_place_tokens places.now) (page pen.old)) }
+    ensures ok { OnOk result (page pen.new
+        ≡ print (flat_map mem_place_tokens places.now) (page pen.old)) }
     ensures kept { Keeps (page pen.old) (page pen.new) }
 {
     for place in places {

@@ -10,8 +10,9 @@ use term_arena::Node;
 use triple_kernel::Form;
 use word_terms::{Code, copy_code};
 
-/// A line of a proof, with numbers of a table's terms in place of terms, and numbers of the theorems that it cites. The triple that it
-/// states is the one for which the line of version 1 is an instance.
+/// A line of a proof, with numbers of a table's terms in place of terms, and numbers of the
+/// theorems that it cites. The triple that it states is the one for which the line of version 1 is
+/// an instance.
 #[derive(Debug, Drop)]
 pub enum Short {
     /// The axiom of the instruction word at an address, and how the instruction goes on.
@@ -45,7 +46,8 @@ pub enum ShortLine {
 /// A line of a text of version 2 as it is spelled, without a copy of the group's own code.
 #[derive(Debug, Drop)]
 pub struct SpelledShort {
-    /// The line. Where `all` is true, the code of a line that extends a theorem's code says nothing.
+    /// The line. Where `all` is true, the code of a line that extends a theorem's code says
+    /// nothing.
     pub line: ShortLine,
     /// Whether `all` stands for that code, which is the group's own then.
     pub all: bool,

@@ -22,8 +22,8 @@ use std::marker::Model;
 use term_arena::Node;
 use word_terms::Code;
 
-/// Reads lines of version 2. Of those behind a group it keeps the table of their terms, and whether the lines of the proof
-/// have begun.
+/// Reads lines of version 2. Of those behind a group it keeps the table of their terms, and whether
+/// the lines of the proof have begun.
 #[derive(Drop)]
 pub struct ShortLines {
     table: Table,
@@ -51,7 +51,9 @@ impl ShortLines {
 
     /// The terms of the table so far, by their numbers.
     pub fn table(&self) -> &[Node]
-        ensures terms { (before : Items Line) → AreKept self.now before → result.now ≡ table_of before }
+        ensures terms { (before : Items Line)
+            → AreKept self.now before
+            → result.now ≡ table_of before }
         ensures table { IsTable result.now }
     {
         self.table.nodes()
@@ -65,9 +67,16 @@ impl ShortLines {
         version: Version,
         own: &Code,
     ) -> Result<SpelledShort, TokenError>
-        ensures gives { (before : Items Line) → AreKept self.old before → Gives (spelled_short own.now.ranges) result scan.old scan.new (short_readers.line_at (version_of version) own.now.ranges before) }
-        ensures behind { (before : Items Line) → AreKept self.old before → IfOk result (λ l. AreKept self.new (before ++ spelled_short own.now.ranges l ∷ [])) }
-        ensures kept { OnErr result ((before : Items Line) → AreKept self.old before → AreKept self.new before) }
+        ensures gives { (before : Items Line)
+            → AreKept self.old before
+            → Gives (spelled_short own.now.ranges) result scan.old scan.new
+            (short_readers.line_at (version_of version) own.now.ranges before) }
+        ensures behind { (before : Items Line)
+            → AreKept self.old before
+            → IfOk result (λ l. AreKept self.new (before ++ spelled_short own.now.ranges l ∷ [])) }
+        ensures kept { OnErr result ((before : Items Line)
+            → AreKept self.old before
+            → AreKept self.new before) }
     {
         if begins_term(scan) {
             let node = self.read_term(scan)?;
@@ -83,9 +92,16 @@ impl ShortLines {
 
     /// The term of the next line, which is put into the table.
     fn read_term<'a>(&mut self, scan: &mut Scan<'a>) -> Result<Node, TokenError>
-        ensures gives { (before : Items Line) → AreKept self.old before → Gives Term result scan.old scan.new (term_line_at (has_begun before) (table_of before)) }
-        ensures behind { (before : Items Line) → AreKept self.old before → IfOk result (λ n. AreKept self.new (before ++ Term n ∷ [])) }
-        ensures kept { OnErr result ((before : Items Line) → AreKept self.old before → AreKept self.new before) }
+        ensures gives { (before : Items Line)
+            → AreKept self.old before
+            → Gives Term result scan.old scan.new (term_line_at (has_begun before)
+            (table_of before)) }
+        ensures behind { (before : Items Line)
+            → AreKept self.old before
+            → IfOk result (λ n. AreKept self.new (before ++ Term n ∷ [])) }
+        ensures kept { OnErr result ((before : Items Line)
+            → AreKept self.old before
+            → AreKept self.new before) }
     {
         if self.begun {
             return Err(TokenError::Bad);

@@ -34,7 +34,8 @@ fn read_other<'a>(
     scan: &mut Scan<'a>,
     own: &Code,
 ) -> Result<(Code, bool), TokenError>
-    ensures gives { Gives (λ c. code_or_own own.now.ranges c.1 c.0.ranges) result scan.old scan.new (ranges_to_end own.now.ranges) }
+    ensures gives { Gives (λ c. code_or_own own.now.ranges c.1 c.0.ranges) result scan.old scan.new
+        (ranges_to_end own.now.ranges) }
     ensures last { last_line scan.new ≡ last_line scan.old }
 {
     let ranges = read_ranges(alloc, scan)?;
@@ -46,9 +47,11 @@ fn read_other<'a>(
     Ok((code, false))
 }
 
-/// What stands for the group's own code, after the word for that, with the end of the line: that code is left out.
+/// What stands for the group's own code, after the word for that, with the end of the line: that
+/// code is left out.
 fn read_own<'a>(alloc: Global, scan: &mut Scan<'a>, own: &Code) -> Result<(Code, bool), TokenError>
-    ensures gives { Gives (λ c. code_or_own own.now.ranges c.1 c.0.ranges) result scan.old scan.new (made (λ _. own.now.ranges) eol) }
+    ensures gives { Gives (λ c. code_or_own own.now.ranges c.1 c.0.ranges) result scan.old scan.new
+        (made (λ _. own.now.ranges) eol) }
     ensures last { last_line scan.new ≡ last_line scan.old }
 {
     eol(scan)?;
@@ -59,7 +62,8 @@ fn read_own<'a>(alloc: Global, scan: &mut Scan<'a>, own: &Code) -> Result<(Code,
 /// Code, with the end of the line, and whether it is the group's own, which is left out.
 #[tactic(auto, unfolding(crate::specs::inner::ShortReading::code_to_end))]
 fn read_code<'a>(alloc: Global, scan: &mut Scan<'a>, own: &Code) -> Result<(Code, bool), TokenError>
-    ensures gives { Gives (λ c. code_or_own own.now.ranges c.1 c.0.ranges) result scan.old scan.new (code_to_end own.now.ranges) }
+    ensures gives { Gives (λ c. code_or_own own.now.ranges c.1 c.0.ranges) result scan.old scan.new
+        (code_to_end own.now.ranges) }
     ensures last { last_line scan.new ≡ last_line scan.old }
 {
     match peek(scan) {
@@ -113,13 +117,15 @@ fn read_frame<'a>(alloc: Global, scan: &mut Scan<'a>, table: &[Node]) -> Result<
     Ok(Short::Frame(p, regs, mems))
 }
 
-/// A line that extends a theorem's code, and whether that by which it does is the group's own, which is left out.
+/// A line that extends a theorem's code, and whether that by which it does is the group's own,
+/// which is left out.
 fn read_extension<'a>(
     alloc: Global,
     scan: &mut Scan<'a>,
     own: &Code,
 ) -> Result<(Short, bool), TokenError>
-    ensures gives { Gives (λ l. short_or_own own.now.ranges l.1 l.0) result scan.old scan.new (extension_line own.now.ranges) }
+    ensures gives { Gives (λ l. short_or_own own.now.ranges l.1 l.0) result scan.old scan.new
+        (extension_line own.now.ranges) }
     ensures last { last_line scan.new ≡ last_line scan.old }
 {
     let p = read_theorem(scan)?;
@@ -145,7 +151,8 @@ fn read_facts_to<'a>(
     table: &[Node],
     name: &[u8],
 ) -> Result<List<HeldFact>, TokenError>
-    ensures gives { Gives (λ facts. (facts, tt)) result scan.old scan.new (facts_to table.now name.now) }
+    ensures gives { Gives (λ facts. (facts, tt)) result scan.old scan.new
+        (facts_to table.now name.now) }
     ensures last { last_line scan.new ≡ last_line scan.old }
 {
     let facts = read_held_facts(alloc, scan, table)?;
@@ -160,7 +167,8 @@ fn read_changed<'a>(
     table: &[Node],
     name: &[u8],
 ) -> Result<(u64, (List<HeldFact>, HeldSide)), TokenError>
-    ensures gives { Gives (λ x. (x.0, (tt, ((x.1.0, tt), (x.1.1, tt))))) result scan.old scan.new (changed_row table.now name.now) }
+    ensures gives { Gives (λ x. (x.0, (tt, ((x.1.0, tt), (x.1.1, tt))))) result scan.old scan.new
+        (changed_row table.now name.now) }
     ensures last { last_line scan.new ≡ last_line scan.old }
 {
     let p = read_theorem(scan)?;
@@ -229,7 +237,8 @@ fn short_name<'a>(scan: &mut Scan<'a>) -> Result<ShortHead, TokenError>
     }
 }
 
-/// What stands after the first word of a line, and whether its code is the group's own, which is left out.
+/// What stands after the first word of a line, and whether its code is the group's own, which is
+/// left out.
 fn read_parts<'a>(
     alloc: Global,
     scan: &mut Scan<'a>,
@@ -237,7 +246,8 @@ fn read_parts<'a>(
     own: &Code,
     head: ShortHead,
 ) -> Result<(Short, bool), TokenError>
-    ensures gives { Gives (λ l. short_or_own own.now.ranges l.1 l.0) result scan.old scan.new (short_parts table.now own.now.ranges head) }
+    ensures gives { Gives (λ l. short_or_own own.now.ranges l.1 l.0) result scan.old scan.new
+        (short_parts table.now own.now.ranges head) }
     ensures last { last_line scan.new ≡ last_line scan.old }
 {
     let line = match head {
@@ -275,7 +285,8 @@ pub fn read_short<'a>(
     table: &[Node],
     own: &Code,
 ) -> Result<(Short, bool), TokenError>
-    ensures gives { Gives (λ l. short_or_own own.now.ranges l.1 l.0) result scan.old scan.new (short_at table.now own.now.ranges) }
+    ensures gives { Gives (λ l. short_or_own own.now.ranges l.1 l.0) result scan.old scan.new
+        (short_at table.now own.now.ranges) }
     ensures last { last_line scan.new ≡ last_line scan.old }
 {
     let head = short_name(scan)?;

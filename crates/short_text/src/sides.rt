@@ -34,7 +34,8 @@ fn read_held_registers<'a>(
     scan: &mut Scan<'a>,
     table: &[Node],
 ) -> Result<List<(u8, u64)>, TokenError>
-    ensures gives { Gives (λ regs. regs) result scan.old scan.new (star is_open (held_register_at table.now)) }
+    ensures gives { Gives (λ regs. regs) result scan.old scan.new
+        (star is_open (held_register_at table.now)) }
     ensures last { last_line scan.new ≡ last_line scan.old }
 {
     let mut regs = List::new(alloc);
@@ -67,7 +68,8 @@ pub fn read_rising<'a>(
     scan: &mut Scan<'a>,
     table: &[Node],
 ) -> Result<List<(u8, u64)>, TokenError>
-    ensures gives { Gives (λ regs. (regs, tt)) result scan.old scan.new (registers_to_semi table.now) }
+    ensures gives { Gives (λ regs. (regs, tt)) result scan.old scan.new
+        (registers_to_semi table.now) }
     ensures last { last_line scan.new ≡ last_line scan.old }
 {
     let regs = read_held_registers(alloc, scan, table)?;

@@ -18,8 +18,8 @@ use term_arena::{Arena, Node, Steps};
 /// The greatest depth of a term.
 const DEPTH_LIMIT: u64 = 64;
 
-/// The terms of a table by their numbers. What finds the number of a node is an arena, so a term costs no more behind many
-/// others than behind few.
+/// The terms of a table by their numbers. What finds the number of a node is an arena, so a term
+/// costs no more behind many others than behind few.
 #[derive(Drop)]
 pub struct Table {
     nodes: List<Node>,
@@ -94,7 +94,8 @@ fn push_both(
     node: Node,
     depth: u8,
 ) -> Result<(), NoMemory>
-    ensures ok { OnOk result ((nodes.new ≡ nodes.old ++ node ∷ []) × (depths.new ≡ depths.old ++ depth ∷ [])) }
+    ensures ok { OnOk result ((nodes.new ≡ nodes.old ++ node ∷ [])
+        × (depths.new ≡ depths.old ++ depth ∷ [])) }
     ensures err { OnErr result ((nodes.new ≡ nodes.old) × (depths.new ≡ depths.old)) }
 {
     nodes.push(node)?;

@@ -25,7 +25,8 @@ pub fn begins_term(scan: &Scan<'_>) -> bool
 
 /// The node that follows, to the end of the line. It is put into the table.
 fn read_last_node<'a>(scan: &mut Scan<'a>, table: &mut Table) -> Result<Node, TokenError>
-    ensures gives { Gives (λ n. (n, tt)) result scan.old scan.new (pair (checked (may_follow table.old) node_at) eol) }
+    ensures gives { Gives (λ n. (n, tt)) result scan.old scan.new
+        (pair (checked (may_follow table.old) node_at) eol) }
     ensures longer { IfOk result (λ n. table.new ≡ table.old ++ n ∷ []) }
     ensures same { OnErr result (table.new ≡ table.old) }
     ensures last { last_line scan.new ≡ last_line scan.old }

@@ -73,7 +73,8 @@ pub fn read_terms<'a>(
     table: &[Node],
     kind: Kind,
 ) -> Result<List<u64>, TokenError>
-    ensures gives { Gives (λ numbers. numbers) result scan.old scan.new (star has_atom (term_at table.now kind)) }
+    ensures gives { Gives (λ numbers. numbers) result scan.old scan.new
+        (star has_atom (term_at table.now kind)) }
     ensures last { last_line scan.new ≡ last_line scan.old }
 {
     let mut numbers = List::new(alloc);

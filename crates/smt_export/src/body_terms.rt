@@ -44,7 +44,9 @@ pub fn body_term(
     told: Told,
     scope: Scope,
 ) -> Result<Tree, NoMemory>
-    ensures { IfOk result (λ t. expr t ≡ body_expr (group_tree g.now) def (body_tree body.now) scope.words scope.mems told) }
+    ensures { IfOk result (λ t.
+        expr t
+        ≡ body_expr (group_tree g.now) def (body_tree body.now) scope.words scope.mems told) }
 {
     let steps = body.steps.as_slice();
     let inner = scope_after(steps, scope)?;
@@ -62,7 +64,8 @@ fn end_term(
     told: Told,
     scope: Scope,
 ) -> Result<Tree, NoMemory>
-    ensures { IfOk result (λ t. expr t ≡ body_expr (group_tree g.now) def (end_tree end.now) scope.words scope.mems told) }
+    ensures { IfOk result (λ t.
+        expr t ≡ body_expr (group_tree g.now) def (end_tree end.now) scope.words scope.mems told) }
 {
     match end {
         End::Branch(c, a, b) => {
@@ -112,7 +115,10 @@ fn arms_term(
     told: Told,
     scope: Scope,
 ) -> Result<Tree, NoMemory>
-    ensures { IfOk result (λ t. expr t ≡ arms_expr (group_tree g.now) def (called callee (values_tree values.now)) (exits_at (group_tree g.now) callee) (arm_trees arms.now) 0 scope.words scope.mems told) }
+    ensures { IfOk result (λ t.
+        expr t
+        ≡ arms_expr (group_tree g.now) def (called callee (values_tree values.now))
+        (exits_at (group_tree g.now) callee) (arm_trees arms.now) 0 scope.words scope.mems told) }
 {
     let exits = exits_of(g, callee);
     let count = arms.len().min(exits.len());
@@ -176,8 +182,12 @@ fn arm_term(
     arm: Tree,
     others: Tree,
 ) -> Result<Tree, NoMemory>
-    ensures { IfOk result (λ t. expr t ≡ arm_by last (apply (codes "=") (called callee (values_tree values.now) ExitNumber ∷ exit_number k ∷ []))
-        (arm_around (group_tree g.now) (called callee (values_tree values.now)) exit scope.words scope.mems (expr arm)) (expr others)) }
+    ensures { IfOk result (λ t.
+        expr t
+        ≡ arm_by last
+        (apply (codes "=") (called callee (values_tree values.now) ExitNumber ∷ exit_number k ∷ []))
+        (arm_around (group_tree g.now) (called callee (values_tree values.now)) exit scope.words
+        scope.mems (expr arm)) (expr others)) }
 {
     let arm = arm_around(alloc, g, callee, values, exit, scope, arm)?;
     if last {
@@ -199,7 +209,10 @@ fn arm_around(
     scope: Scope,
     arm: Tree,
 ) -> Result<Tree, NoMemory>
-    ensures { IfOk result (λ t. expr t ≡ arm_around (group_tree g.now) (called callee (values_tree values.now)) exit scope.words scope.mems (expr arm)) }
+    ensures { IfOk result (λ t.
+        expr t
+        ≡ arm_around (group_tree g.now) (called callee (values_tree values.now)) exit scope.words
+        scope.mems (expr arm)) }
 {
     let words = call_results(alloc, g, exit)?;
     let arm = let_mems(alloc, callee, values, 0, g.mems as usize, scope.mems, arm)?;
@@ -208,7 +221,8 @@ fn arm_around(
 
 /// The scope behind steps.
 fn scope_after(steps: &[Step], scope: Scope) -> Result<Scope, NoMemory>
-    ensures words { IfOk result (λ s. s.words ≡ words_after_all (map step_tree steps.now) scope.words) }
+    ensures words { IfOk result (λ s.
+        s.words ≡ words_after_all (map step_tree steps.now) scope.words) }
     ensures mems { IfOk result (λ s. s.mems ≡ mems_after_all (map step_tree steps.now) scope.mems) }
 {
     match steps {
@@ -252,7 +266,8 @@ fn steps_around(
     scope: Scope,
     rest: Tree,
 ) -> Result<Tree, NoMemory>
-    ensures { IfOk result (λ t. expr t ≡ steps_expr (map step_tree steps.now) scope.words scope.mems told (expr rest)) }
+    ensures { IfOk result (λ t.
+        expr t ≡ steps_expr (map step_tree steps.now) scope.words scope.mems told (expr rest)) }
 {
     match steps {
         [] => Ok(rest),
@@ -272,7 +287,8 @@ fn step_around(
     scope: Scope,
     rest: Tree,
 ) -> Result<Tree, NoMemory>
-    ensures { IfOk result (λ t. expr t ≡ step_expr (step_tree step.now) scope.words scope.mems told (expr rest)) }
+    ensures { IfOk result (λ t.
+        expr t ≡ step_expr (step_tree step.now) scope.words scope.mems told (expr rest)) }
 {
     match step {
         Step::Bind(t) => {
@@ -290,7 +306,10 @@ fn step_around(
 
 /// A term in which the memory variable `m` is that memory.
 fn memory_around(alloc: Global, t: &Mem, m: usize, rest: Tree) -> Result<Tree, NoMemory>
-    ensures { IfOk result (λ u. expr u ≡ bound (mem_name m) (mem_expr (mem_tree t.now)) (bound (dom_name m) (dom_expr (mem_tree t.now)) (expr rest))) }
+    ensures { IfOk result (λ u.
+        expr u
+        ≡ bound (mem_name m) (mem_expr (mem_tree t.now))
+        (bound (dom_name m) (dom_expr (mem_tree t.now)) (expr rest))) }
 {
     let rest = domain_around(alloc, t, m, rest)?;
     let name = numbered_name(alloc, b"mem", m)?;
@@ -300,7 +319,8 @@ fn memory_around(alloc: Global, t: &Mem, m: usize, rest: Tree) -> Result<Tree, N
 
 /// A term in which the domain of the memory variable `m` is that memory's.
 fn domain_around(alloc: Global, t: &Mem, m: usize, rest: Tree) -> Result<Tree, NoMemory>
-    ensures { IfOk result (λ u. expr u ≡ bound (dom_name m) (dom_expr (mem_tree t.now)) (expr rest)) }
+    ensures { IfOk result (λ u.
+        expr u ≡ bound (dom_name m) (dom_expr (mem_tree t.now)) (expr rest)) }
 {
     let name = numbered_name(alloc, b"dom", m)?;
     let term = dom_term(alloc, t)?;

@@ -1,5 +1,5 @@
-//! Branches both of whose sides apply one function of a definition. Such a branch is one application, to arguments that its
-//! condition chooses.
+//! Branches both of whose sides apply one function of a definition. Such a branch is one
+//! application, to arguments that its condition chooses.
 
 ghost use Rattle.std.specs.Prelude.{◌≡◌, IfOk, None, Some, map, option_map};
 ghost use Rattle.smt_terms.specs.Expression.{Atom, Node, Then, bound, exprs, ite};
@@ -20,7 +20,8 @@ pub struct Applied {
     args: List<Tree>,
 }
 
-/// The first term where the condition is true, else the second; one application where both are applications of one function.
+/// The first term where the condition is true, else the second; one application where both are
+/// applications of one function.
 #[tactic(auto, using(crate::proofs::Joins::branch_made))]
 pub fn branch_term(alloc: Global, c: Tree, x: Tree, y: Tree) -> Result<Tree, NoMemory>
     ensures { IfOk result (λ t. expr t ≡ branch_expr (expr c) (expr x) (expr y)) }
@@ -38,7 +39,10 @@ fn branch_of(
     x: Tree,
     y: Tree,
 ) -> Result<Tree, NoMemory>
-    ensures { IfOk result (λ t. expr t ≡ branch_of (expr c) (option_map application_of first) (option_map application_of second) (ite (expr c) (expr x) (expr y))) }
+    ensures { IfOk result (λ t.
+        expr t
+        ≡ branch_of (expr c) (option_map application_of first) (option_map application_of second)
+        (ite (expr c) (expr x) (expr y))) }
 {
     match first {
         None => ite(alloc, c, x, y),
@@ -57,7 +61,10 @@ fn branch_between(
     x: Tree,
     y: Tree,
 ) -> Result<Tree, NoMemory>
-    ensures { IfOk result (λ t. expr t ≡ branch_of (expr c) (Some (application_of a)) (Some (application_of b)) (ite (expr c) (expr x) (expr y))) }
+    ensures { IfOk result (λ t.
+        expr t
+        ≡ branch_of (expr c) (Some (application_of a)) (Some (application_of b))
+        (ite (expr c) (expr x) (expr y))) }
 {
     if a.name.as_slice() == b.name.as_slice() && same_count(a.args.as_slice(), b.args.as_slice()) {
         return joined_application(alloc, &c, &a, &b);
@@ -121,7 +128,10 @@ fn first_applied(
     bound: Option<Applied>,
     chosen: Option<Applied>,
 ) -> Result<Option<Applied>, NoMemory>
-    ensures { IfOk result (λ o. option_map application_of o ≡ first_applied (option_map application_of bound) (option_map application_of chosen) (plain_items (exprs (map expr items.now)))) }
+    ensures { IfOk result (λ o.
+        option_map application_of o
+        ≡ first_applied (option_map application_of bound) (option_map application_of chosen)
+        (plain_items (exprs (map expr items.now)))) }
 {
     match bound {
         Some(a) => Ok(Some(a)),
@@ -133,7 +143,8 @@ fn first_applied(
 }
 
 fn plain_items(alloc: Global, items: &[Tree]) -> Result<Option<Applied>, NoMemory>
-    ensures { IfOk result (λ o. option_map application_of o ≡ plain_items (exprs (map expr items.now))) }
+    ensures { IfOk result (λ o.
+        option_map application_of o ≡ plain_items (exprs (map expr items.now))) }
 {
     match items {
         [] => Ok(None),
@@ -147,7 +158,9 @@ fn under_let(
     bindings: &Tree,
     inner: Option<Applied>,
 ) -> Result<Option<Applied>, NoMemory>
-    ensures { IfOk result (λ o. option_map application_of o ≡ under_let (expr head.now) (expr bindings.now) (option_map application_of inner)) }
+    ensures { IfOk result (λ o.
+        option_map application_of o
+        ≡ under_let (expr head.now) (expr bindings.now) (option_map application_of inner)) }
 {
     if is_atom(b"let", head) {
         return under_bindings(alloc, bindings, inner);
@@ -162,7 +175,9 @@ fn under_ite(
     y: &Tree,
     inner: Option<Applied>,
 ) -> Result<Option<Applied>, NoMemory>
-    ensures { IfOk result (λ o. option_map application_of o ≡ under_ite (expr head.now) (expr c.now) (expr y.now) (option_map application_of inner)) }
+    ensures { IfOk result (λ o.
+        option_map application_of o
+        ≡ under_ite (expr head.now) (expr c.now) (expr y.now) (option_map application_of inner)) }
 {
     if is_atom(b"ite", head) {
         return under_choice(alloc, c, y, inner);
@@ -171,7 +186,8 @@ fn under_ite(
 }
 
 fn plain_of(alloc: Global, head: &Tree, args: &[Tree]) -> Result<Option<Applied>, NoMemory>
-    ensures { IfOk result (λ o. option_map application_of o ≡ plain_of (expr head.now) (exprs (map expr args.now))) }
+    ensures { IfOk result (λ o.
+        option_map application_of o ≡ plain_of (expr head.now) (exprs (map expr args.now))) }
 {
     match head {
         Tree::Atom(name) => plain_named(alloc, name.as_slice(), args),
@@ -180,7 +196,8 @@ fn plain_of(alloc: Global, head: &Tree, args: &[Tree]) -> Result<Option<Applied>
 }
 
 fn plain_named(alloc: Global, name: &[u8], args: &[Tree]) -> Result<Option<Applied>, NoMemory>
-    ensures { IfOk result (λ o. option_map application_of o ≡ plain_of (Atom name.now) (exprs (map expr args.now))) }
+    ensures { IfOk result (λ o.
+        option_map application_of o ≡ plain_of (Atom name.now) (exprs (map expr args.now))) }
 {
     if is_fun_name(name) {
         let applied = plain(alloc, name, args)?;
@@ -219,7 +236,9 @@ fn under_bindings(
     bindings: &Tree,
     inner: Option<Applied>,
 ) -> Result<Option<Applied>, NoMemory>
-    ensures { IfOk result (λ o. option_map application_of o ≡ under_bindings (expr bindings.now) (option_map application_of inner)) }
+    ensures { IfOk result (λ o.
+        option_map application_of o
+        ≡ under_bindings (expr bindings.now) (option_map application_of inner)) }
 {
     match bindings {
         Tree::Atom(_) => Ok(None),
@@ -232,7 +251,9 @@ fn under_list(
     bindings: &[Tree],
     inner: Option<Applied>,
 ) -> Result<Option<Applied>, NoMemory>
-    ensures { IfOk result (λ o. option_map application_of o ≡ under_list (exprs (map expr bindings.now)) (option_map application_of inner)) }
+    ensures { IfOk result (λ o.
+        option_map application_of o
+        ≡ under_list (exprs (map expr bindings.now)) (option_map application_of inner)) }
 {
     match bindings {
         [] => Ok(None),
@@ -246,7 +267,9 @@ fn under_binding(
     binding: &Tree,
     inner: Option<Applied>,
 ) -> Result<Option<Applied>, NoMemory>
-    ensures { IfOk result (λ o. option_map application_of o ≡ under_binding (expr binding.now) (option_map application_of inner)) }
+    ensures { IfOk result (λ o.
+        option_map application_of o
+        ≡ under_binding (expr binding.now) (option_map application_of inner)) }
 {
     match binding {
         Tree::Atom(_) => Ok(None),
@@ -259,7 +282,9 @@ fn under_parts(
     parts: &[Tree],
     inner: Option<Applied>,
 ) -> Result<Option<Applied>, NoMemory>
-    ensures { IfOk result (λ o. option_map application_of o ≡ under_parts (exprs (map expr parts.now)) (option_map application_of inner)) }
+    ensures { IfOk result (λ o.
+        option_map application_of o
+        ≡ under_parts (exprs (map expr parts.now)) (option_map application_of inner)) }
 {
     match parts {
         [] => Ok(None),
@@ -275,7 +300,9 @@ fn under_pair(
     term: &Tree,
     inner: Option<Applied>,
 ) -> Result<Option<Applied>, NoMemory>
-    ensures { IfOk result (λ o. option_map application_of o ≡ under_pair (expr name.now) (expr term.now) (option_map application_of inner)) }
+    ensures { IfOk result (λ o.
+        option_map application_of o
+        ≡ under_pair (expr name.now) (expr term.now) (option_map application_of inner)) }
 {
     match name {
         Tree::Atom(name) => under_name(alloc, name.as_slice(), term, inner),
@@ -289,7 +316,9 @@ fn under_name(
     term: &Tree,
     inner: Option<Applied>,
 ) -> Result<Option<Applied>, NoMemory>
-    ensures { IfOk result (λ o. option_map application_of o ≡ under_pair (Atom name.now) (expr term.now) (option_map application_of inner)) }
+    ensures { IfOk result (λ o.
+        option_map application_of o
+        ≡ under_pair (Atom name.now) (expr term.now) (option_map application_of inner)) }
 {
     if b"true".as_slice() == name {
         return Ok(None);
@@ -305,7 +334,8 @@ fn under_name(
 
 /// What is applied where the name stands for a term.
 fn with_binding(alloc: Global, name: &[u8], term: &Tree, a: &Applied) -> Result<Applied, NoMemory>
-    ensures { IfOk result (λ b. application_of b ≡ with_binding name.now (expr term.now) (application_of a.now)) }
+    ensures { IfOk result (λ b.
+        application_of b ≡ with_binding name.now (expr term.now) (application_of a.now)) }
 {
     let guard = bound_guard(alloc, name, term, &a.guard)?;
     let args = bound_each(alloc, name, term, a.args.as_slice())?;
@@ -319,7 +349,9 @@ fn bound_guard(
     term: &Tree,
     guard: &Option<Tree>,
 ) -> Result<Option<Tree>, NoMemory>
-    ensures { IfOk result (λ o. option_map expr o ≡ option_map (bound name.now (expr term.now)) (option_map expr guard.now)) }
+    ensures { IfOk result (λ o.
+        option_map expr o
+        ≡ option_map (bound name.now (expr term.now)) (option_map expr guard.now)) }
 {
     match guard {
         None => Ok(None),
@@ -336,7 +368,9 @@ fn bound_each(
     term: &Tree,
     bodies: &[Tree],
 ) -> Result<List<Tree>, NoMemory>
-    ensures { IfOk result (λ items. exprs (map expr items) ≡ bound_each name.now (expr term.now) (exprs (map expr bodies.now))) }
+    ensures { IfOk result (λ items.
+        exprs (map expr items)
+        ≡ bound_each name.now (expr term.now) (exprs (map expr bodies.now))) }
 {
     let mut items = List::new(alloc);
     match bodies {
@@ -368,7 +402,9 @@ fn under_choice(
     y: &Tree,
     inner: Option<Applied>,
 ) -> Result<Option<Applied>, NoMemory>
-    ensures { IfOk result (λ o. option_map application_of o ≡ under_choice (expr c.now) (expr y.now) (option_map application_of inner)) }
+    ensures { IfOk result (λ o.
+        option_map application_of o
+        ≡ under_choice (expr c.now) (expr y.now) (option_map application_of inner)) }
 {
     if is_falsity(y) {
         return under_guard(alloc, c, inner);
@@ -377,7 +413,9 @@ fn under_choice(
 }
 
 fn under_guard(alloc: Global, c: &Tree, inner: Option<Applied>) -> Result<Option<Applied>, NoMemory>
-    ensures { IfOk result (λ o. option_map application_of o ≡ option_map (with_guard (expr c.now)) (option_map application_of inner)) }
+    ensures { IfOk result (λ o.
+        option_map application_of o
+        ≡ option_map (with_guard (expr c.now)) (option_map application_of inner)) }
 {
     match inner {
         None => Ok(None),
@@ -440,7 +478,10 @@ fn is_not_true(items: &[Tree]) -> bool
 
 /// One application, to arguments that the condition chooses.
 fn joined_application(alloc: Global, c: &Tree, a: &Applied, b: &Applied) -> Result<Tree, NoMemory>
-    ensures { IfOk result (λ t. expr t ≡ application_expr (joined_applications (expr c.now) (application_of a.now) (application_of b.now))) }
+    ensures { IfOk result (λ t.
+        expr t
+        ≡ application_expr (joined_applications (expr c.now) (application_of a.now)
+        (application_of b.now))) }
 {
     let guard = chosen_guard(alloc, c, &a.guard, &b.guard)?;
     let args = chosen_each(alloc, c, a.args.as_slice(), b.args.as_slice())?;
@@ -476,7 +517,9 @@ fn chosen_guard(
     x: &Option<Tree>,
     y: &Option<Tree>,
 ) -> Result<Option<Tree>, NoMemory>
-    ensures { IfOk result (λ o. option_map expr o ≡ chosen_guard (expr c.now) (option_map expr x.now) (option_map expr y.now)) }
+    ensures { IfOk result (λ o.
+        option_map expr o
+        ≡ chosen_guard (expr c.now) (option_map expr x.now) (option_map expr y.now)) }
 {
     match x {
         None => match y {
@@ -495,7 +538,8 @@ fn chosen_guard(
 }
 
 fn chosen_or_true(alloc: Global, c: &Tree, x: &Tree, y: &Option<Tree>) -> Result<Tree, NoMemory>
-    ensures { IfOk result (λ t. Some (expr t) ≡ chosen_guard (expr c.now) (Some (expr x.now)) (option_map expr y.now)) }
+    ensures { IfOk result (λ t.
+        Some (expr t) ≡ chosen_guard (expr c.now) (Some (expr x.now)) (option_map expr y.now)) }
 {
     match y {
         None => {
@@ -507,7 +551,9 @@ fn chosen_or_true(alloc: Global, c: &Tree, x: &Tree, y: &Option<Tree>) -> Result
 }
 
 fn chosen_each(alloc: Global, c: &Tree, xs: &[Tree], ys: &[Tree]) -> Result<List<Tree>, NoMemory>
-    ensures { IfOk result (λ items. exprs (map expr items) ≡ chosen_each (expr c.now) (exprs (map expr xs.now)) (exprs (map expr ys.now))) }
+    ensures { IfOk result (λ items.
+        exprs (map expr items)
+        ≡ chosen_each (expr c.now) (exprs (map expr xs.now)) (exprs (map expr ys.now))) }
 {
     let mut items = List::new(alloc);
     match xs {

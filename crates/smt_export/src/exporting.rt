@@ -45,14 +45,22 @@ impl From<NoMemory> for ExportFault {
     }
 }
 
-/// The functions of a definition and of those that it reaches by calls, where none of these enters itself again.
+/// The functions of a definition and of those that it reaches by calls, where none of these enters
+/// itself again.
 pub fn export(alloc: Global, g: &Group, def: u32) -> Result<Script, ExportFault>
     requires well_formed { IsWellFormed (group_tree g.now) }
     requires there { def < length g.now.defs }
     ensures least { (l : ℕ) → result ≡ Err (Loop l) → IsLeastLoop (group_tree g.now) def l }
-    ensures free { IfOk result (λ s. (d : ℕ) → ReachesByCalls (group_tree g.now) def d → EntersAgain (group_tree g.now) d → ⊥) }
-    ensures sorts { IfOk result (λ s. (d : ℕ) → ReachesByCalls (group_tree g.now) def d → HasRules (group_tree g.now) (rules_after no_names (map fun_tree s)) d) }
-    ensures tells { IfOk result (λ s. (d : ℕ) → ReachesByCalls (group_tree g.now) def d → TellsEval (group_tree g.now) d (map fun_tree s)) }
+    ensures free { IfOk result (λ s.
+        (d : ℕ) → ReachesByCalls (group_tree g.now) def d → EntersAgain (group_tree g.now) d → ⊥) }
+    ensures sorts { IfOk result (λ s.
+        (d : ℕ)
+        → ReachesByCalls (group_tree g.now) def d
+        → HasRules (group_tree g.now) (rules_after no_names (map fun_tree s)) d) }
+    ensures tells { IfOk result (λ s.
+        (d : ℕ)
+        → ReachesByCalls (group_tree g.now) def d
+        → TellsEval (group_tree g.now) d (map fun_tree s)) }
 {
     let last = def as usize;
     let marks = reached(alloc, g, last)?;
@@ -63,15 +71,25 @@ pub fn export(alloc: Global, g: &Group, def: u32) -> Result<Script, ExportFault>
     Ok(script)
 }
 
-/// The script of a definition that reaches none that enters itself again; the marks are those of the definitions that it reaches.
+/// The script of a definition that reaches none that enters itself again; the marks are those of
+/// the definitions that it reaches.
 fn loop_free(alloc: Global, g: &Group, def: usize, marks: &[bool]) -> Result<Script, NoMemory>
     requires well_formed { IsWellFormed (group_tree g.now) }
     requires there { def < length g.now.defs }
     requires count { length marks.now ≡ def + 1 }
     requires marks { AreMarks (group_tree g.now) def marks.now }
-    requires free { (d : ℕ) → ReachesByCalls (group_tree g.now) def d → EntersAgain (group_tree g.now) d → ⊥ }
-    ensures sorts { IfOk result (λ s. (d : ℕ) → ReachesByCalls (group_tree g.now) def d → HasRules (group_tree g.now) (rules_after no_names (map fun_tree s)) d) }
-    ensures tells { IfOk result (λ s. (d : ℕ) → ReachesByCalls (group_tree g.now) def d → TellsEval (group_tree g.now) d (map fun_tree s)) }
+    requires free { (d : ℕ)
+        → ReachesByCalls (group_tree g.now) def d
+        → EntersAgain (group_tree g.now) d
+        → ⊥ }
+    ensures sorts { IfOk result (λ s.
+        (d : ℕ)
+        → ReachesByCalls (group_tree g.now) def d
+        → HasRules (group_tree g.now) (rules_after no_names (map fun_tree s)) d) }
+    ensures tells { IfOk result (λ s.
+        (d : ℕ)
+        → ReachesByCalls (group_tree g.now) def d
+        → TellsEval (group_tree g.now) d (map fun_tree s)) }
 {
     let count = g.defs.len();
     has_range(g);
@@ -91,10 +109,17 @@ fn script_of(g: &Group, def: usize, marks: &[bool], count: usize, funs: List<Fun
     requires few { count ≡ length g.now.defs }
     requires count { length marks.now ≡ def + 1 }
     requires marks { AreMarks (group_tree g.now) def marks.now }
-    requires free { (d : ℕ) → ReachesByCalls (group_tree g.now) def d → EntersAgain (group_tree g.now) d → ⊥ }
+    requires free { (d : ℕ)
+        → ReachesByCalls (group_tree g.now) def d
+        → EntersAgain (group_tree g.now) d
+        → ⊥ }
     requires funs { map fun_tree funs ≡ script (group_tree g.now) (is_marked def marks.now) def }
-    ensures sorts { (d : ℕ) → ReachesByCalls (group_tree g.now) def d → HasRules (group_tree g.now) (rules_after no_names (map fun_tree result)) d }
-    ensures tells { (d : ℕ) → ReachesByCalls (group_tree g.now) def d → TellsEval (group_tree g.now) d (map fun_tree result) }
+    ensures sorts { (d : ℕ)
+        → ReachesByCalls (group_tree g.now) def d
+        → HasRules (group_tree g.now) (rules_after no_names (map fun_tree result)) d }
+    ensures tells { (d : ℕ)
+        → ReachesByCalls (group_tree g.now) def d
+        → TellsEval (group_tree g.now) d (map fun_tree result) }
 {
     let _count = count;
     Script::new(funs)
@@ -104,7 +129,8 @@ fn script_of(g: &Group, def: usize, marks: &[bool], count: usize, funs: List<Fun
 #[tactic(auto, using(crate::proofs::Lists::appended))]
 fn script_funs(alloc: Global, g: &Group, def: usize, marks: &[bool]) -> Result<List<Fun>, NoMemory>
     requires { length marks.now ≡ def + 1 }
-    ensures { IfOk result (λ funs. map fun_tree funs ≡ script (group_tree g.now) (is_marked def marks.now) def) }
+    ensures { IfOk result (λ funs.
+        map fun_tree funs ≡ script (group_tree g.now) (is_marked def marks.now) def) }
 {
     let mut funs = helpers(alloc)?;
     let more = marked_funs(alloc, g, def, marks)?;
@@ -114,7 +140,10 @@ fn script_funs(alloc: Global, g: &Group, def: usize, marks: &[bool]) -> Result<L
 
 fn marked_funs(alloc: Global, g: &Group, def: usize, marks: &[bool]) -> Result<List<Fun>, NoMemory>
     requires { length marks.now ≡ def + 1 }
-    ensures { IfOk result (λ funs. map fun_tree funs ≡ funs_from (group_tree g.now) (is_marked def marks.now) 0 (take (def + 1) (group_tree g.now).defs)) }
+    ensures { IfOk result (λ funs.
+        map fun_tree funs
+        ≡ funs_from (group_tree g.now) (is_marked def marks.now) 0
+        (take (def + 1) (group_tree g.now).defs)) }
 {
     let mut funs = List::new(alloc);
     for d in 0..marks.len() {
@@ -136,8 +165,12 @@ fn is_marked(def: usize, marks: &[bool], d: usize) -> bool
 
 /// The functions of a definition that is marked.
 fn funs_where(alloc: Global, g: &Group, d: usize, mark: bool) -> Result<List<Fun>, NoMemory>
-    ensures there { IfOk result (λ funs. (def : DefTree) → slice_get (group_tree g.now).defs d ≡ Some def → map fun_tree funs ≡ (if mark then def_funs (group_tree g.now) d def else [])) }
-    ensures none { IfOk result (λ funs. slice_get (group_tree g.now).defs d ≡ None → map fun_tree funs ≡ []) }
+    ensures there { IfOk result (λ funs.
+        (def : DefTree)
+        → slice_get (group_tree g.now).defs d ≡ Some def
+        → map fun_tree funs ≡ (if mark then def_funs (group_tree g.now) d def else [])) }
+    ensures none { IfOk result (λ funs.
+        slice_get (group_tree g.now).defs d ≡ None → map fun_tree funs ≡ []) }
 {
     if !mark {
         return Ok(List::new(alloc));
@@ -149,7 +182,8 @@ fn funs_where(alloc: Global, g: &Group, d: usize, mark: bool) -> Result<List<Fun
 }
 
 fn def_funs(alloc: Global, g: &Group, d: usize, def: &Def) -> Result<List<Fun>, NoMemory>
-    ensures { IfOk result (λ funs. map fun_tree funs ≡ def_funs (group_tree g.now) d (def_tree def.now)) }
+    ensures { IfOk result (λ funs.
+        map fun_tree funs ≡ def_funs (group_tree g.now) d (def_tree def.now)) }
 {
     let all = all_told(alloc, g)?;
     told_funs(alloc, g, d, def, all.as_slice())
@@ -163,7 +197,8 @@ fn told_funs(
     def: &Def,
     all: &[Told],
 ) -> Result<List<Fun>, NoMemory>
-    ensures { IfOk result (λ funs. map fun_tree funs ≡ map (def_fun (group_tree g.now) d (def_tree def.now)) all.now) }
+    ensures { IfOk result (λ funs.
+        map fun_tree funs ≡ map (def_fun (group_tree g.now) d (def_tree def.now)) all.now) }
 {
     let mut funs = List::new(alloc);
     for told in all {

@@ -10,8 +10,22 @@ ghost use Rattle.smt_export.specs.inner.Exported.{HasRange, IsClosed};
 
 /// A script is well-sorted, and tells the outcomes of its definitions.
 pub fn law_of_scripts()
-    ensures script { (g : GroupTree) (test : ℕ → Bool) (d : ℕ) → HasRange g → IsClosed g test → IsScript (script g test d) }
-    ensures sorts { (g : GroupTree) (test : ℕ → Bool) (d e : ℕ) → HasRange g → IsClosed g test → d < length g.defs → e ≤ d → test e ≡ true
+    ensures script { (g : GroupTree) (test : ℕ → Bool) (d : ℕ)
+        → HasRange g
+        → IsClosed g test
+        → IsScript (script g test d) }
+    ensures sorts { (g : GroupTree) (test : ℕ → Bool) (d e : ℕ)
+        → HasRange g
+        → IsClosed g test
+        → d < length g.defs
+        → e ≤ d
+        → test e ≡ true
         → HasRules g (rules_after no_names (script g test d)) e }
-    ensures tells { (g : GroupTree) (test : ℕ → Bool) (d e : ℕ) → HasRange g → IsClosed g test → d < length g.defs → e ≤ d → test e ≡ true → TellsEval g e (script g test d) }
+    ensures tells { (g : GroupTree) (test : ℕ → Bool) (d e : ℕ)
+        → HasRange g
+        → IsClosed g test
+        → d < length g.defs
+        → e ≤ d
+        → test e ≡ true
+        → TellsEval g e (script g test d) }
 {}

@@ -150,7 +150,8 @@ pub fn with_condition(alloc: Global, told: Told, c: Tree, rest: Tree) -> Result<
 }
 
 fn conjunction(alloc: Global, c: Tree, rest: Tree) -> Result<Tree, NoMemory>
-    ensures { IfOk result (λ t. expr t ≡ conjunction (is_atom (codes "true") (expr rest)) (expr c) (expr rest)) }
+    ensures { IfOk result (λ t.
+        expr t ≡ conjunction (is_atom (codes "true") (expr rest)) (expr c) (expr rest)) }
 {
     if is_atom(b"true", &rest) {
         return Ok(c);

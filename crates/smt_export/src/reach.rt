@@ -135,7 +135,8 @@ fn is_called(g: &Group, def: usize, marks: &[bool], callee: usize) -> bool
 #[tactic(auto, using(crate::proofs::Reached::caller_marked))]
 fn is_caller(g: &Group, def: usize, marks: &[bool], i: usize, callee: usize) -> bool
     requires { (i < length marks.now) × (length marks.now ≤ def + 1) }
-    ensures { IsTrue result ↔ ((get_or marks.now i false ≡ true) × Calls (group_tree g.now) (def - i) callee) }
+    ensures { IsTrue result
+        ↔ ((get_or marks.now i false ≡ true) × Calls (group_tree g.now) (def - i) callee) }
 {
     let mark = marks[i];
     let calls = def_calls(g, def - i, callee);
@@ -156,7 +157,10 @@ pub fn first_loop(g: &Group, def: usize, marks: &[bool]) -> Option<u32>
     requires count { length marks.now ≡ def + 1 }
     requires marks { AreMarks (group_tree g.now) def marks.now }
     ensures some { IfSome result (λ l. IsLeastLoop (group_tree g.now) def l) }
-    ensures none { IfNone result ((d : ℕ) → ReachesByCalls (group_tree g.now) def d → EntersAgain (group_tree g.now) d → ⊥) }
+    ensures none { IfNone result ((d : ℕ)
+        → ReachesByCalls (group_tree g.now) def d
+        → EntersAgain (group_tree g.now) d
+        → ⊥) }
 {
     for d in 0..marks.len() {
         if is_reached_loop(g, def, marks, d) {
@@ -171,7 +175,8 @@ pub fn first_loop(g: &Group, def: usize, marks: &[bool]) -> Option<u32>
 fn is_reached_loop(g: &Group, def: usize, marks: &[bool], d: usize) -> bool
     requires count { (d < length marks.now) × (length marks.now ≡ def + 1) }
     requires marks { AreMarks (group_tree g.now) def marks.now }
-    ensures { IsTrue result ↔ (ReachesByCalls (group_tree g.now) def d × EntersAgain (group_tree g.now) d) }
+    ensures { IsTrue result
+        ↔ (ReachesByCalls (group_tree g.now) def d × EntersAgain (group_tree g.now) d) }
 {
     let mark = marks[def - d];
     let enters = enters_again(g, d);

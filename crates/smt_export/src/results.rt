@@ -88,7 +88,8 @@ pub fn let_words(
     n: usize,
     body: Tree,
 ) -> Result<Tree, NoMemory>
-    ensures { IfOk result (λ t. expr t ≡ let_words (called def (values_tree values.now)) told.now n (expr body)) }
+    ensures { IfOk result (λ t.
+        expr t ≡ let_words (called def (values_tree values.now)) told.now n (expr body)) }
 {
     match told {
         [] => Ok(body),
@@ -102,7 +103,8 @@ pub fn let_words(
     }
 }
 
-/// A body in which `count` memories of a call, from the memory `i` on, are the memory variables from `m` on.
+/// A body in which `count` memories of a call, from the memory `i` on, are the memory variables
+/// from `m` on.
 #[tactic(auto, using(crate::proofs::Lists::mems_none, crate::proofs::Lists::mems_some))]
 pub fn let_mems(
     alloc: Global,
@@ -113,7 +115,8 @@ pub fn let_mems(
     m: usize,
     body: Tree,
 ) -> Result<Tree, NoMemory>
-    ensures { IfOk result (λ t. expr t ≡ let_mems (called def (values_tree values.now)) i count m (expr body)) }
+    ensures { IfOk result (λ t.
+        expr t ≡ let_mems (called def (values_tree values.now)) i count m (expr body)) }
 {
     if count == 0 {
         return Ok(body);
@@ -136,7 +139,8 @@ fn domain_bound(
     m: usize,
     body: Tree,
 ) -> Result<Tree, NoMemory>
-    ensures { IfOk result (λ t. expr t ≡ bound (dom_name m) (called def (values_tree values.now) (DomAt i)) (expr body)) }
+    ensures { IfOk result (λ t.
+        expr t ≡ bound (dom_name m) (called def (values_tree values.now) (DomAt i)) (expr body)) }
 {
     let name = numbered_name(alloc, b"dom", m)?;
     let term = called(alloc, def, values, Told::DomAt(i))?;

@@ -1,5 +1,5 @@
-//! Whether the variables and exits of definitions have numbers of 64 and of 32 bits. Those of any group that was read from a
-//! file have.
+//! Whether the variables and exits of definitions have numbers of 64 and of 32 bits. Those of any
+//! group that was read from a file have.
 
 ghost use Rattle.std.specs.Prelude.{◌≡◌, ◌+◌, ◌<◌, ◌^◌, IfSome, IsTrue, length};
 ghost use Rattle.tailrec_lang.specs.Tree.{body_tree, def_tree, group_tree};

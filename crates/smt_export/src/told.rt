@@ -9,8 +9,8 @@ use rv_words::{List, NoMemory, Text};
 use smt_terms::Sort;
 use std::alloc::Global;
 
-/// What a function tells of an evaluation: whether it is done, by which exit, with which program counter, the word of that
-/// number, and the bytes and the domain of the memory of that number.
+/// What a function tells of an evaluation: whether it is done, by which exit, with which program
+/// counter, the word of that number, and the bytes and the domain of the memory of that number.
 #[derive(Clone, Copy, Debug, PartialEq, Eq)]
 pub enum Told {
     Ok,

@@ -119,7 +119,8 @@ fn all_present(alloc: Global, n: usize, k: usize) -> Result<Tree, NoMemory>
     two(alloc, b"and", present, after)
 }
 
-/// The memory after a store of `n` bytes of the value, the first of which is its byte `k`, `k` addresses on.
+/// The memory after a store of `n` bytes of the value, the first of which is its byte `k`, `k`
+/// addresses on.
 #[tactic(auto, using(crate::proofs::Steps::stored_none, crate::proofs::Steps::stored_some))]
 fn after_store(alloc: Global, n: usize, k: usize) -> Result<Tree, NoMemory>
     requires { n + k < 64 }
@@ -142,7 +143,8 @@ fn low_byte(alloc: Global, k: usize) -> Result<Tree, NoMemory>
     extract(alloc, b"7", b"0", value)
 }
 
-/// The word that is loaded, as a term of the memory `m` with the domain `d`, and of the address `a`.
+/// The word that is loaded, as a term of the memory `m` with the domain `d`, and of the address
+/// `a`.
 pub fn load_term(alloc: Global, width: Width) -> Result<Tree, NoMemory>
     ensures { IfOk result (λ t. expr t ≡ load_expr width) }
 {

@@ -13,7 +13,7 @@ use smt_terms::{Fun, Sort};
 use std::alloc::Global;
 
 /// What has a function.
-#[derive(Clone, Copy, Debug, PartialEq, Eq)]
+#[derive(Clone, Copy, PartialEq, Eq)]
 pub enum Helper {
     Operation(Op),
     Extension(Ext),

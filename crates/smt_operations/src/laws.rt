@@ -5,7 +5,8 @@ ghost use Rattle.smt_terms.specs.Sorts.{AreFuns, rules_after};
 ghost use Rattle.smt_operations.specs.Functions.{helpers};
 ghost use Rattle.smt_operations.specs.Knowing.{Knows, KnowsRules};
 
-/// The functions are a script, and have the values and sorts of operations, extensions and accesses.
+/// The functions are a script, and have the values and sorts of operations, extensions and
+/// accesses.
 pub fn law_of_helpers()
     ensures script { AreFuns no_names helpers }
     ensures values { Knows (functions_after no_names helpers) }

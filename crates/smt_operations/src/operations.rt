@@ -13,7 +13,7 @@ use smt_terms::{Tree, atom, ite, one, three, two};
 use std::alloc::Global;
 
 /// How many bits an operation works on.
-#[derive(Clone, Copy, Debug, PartialEq, Eq)]
+#[derive(Clone, Copy, PartialEq, Eq)]
 pub enum Size {
     Word,
     Half,
@@ -41,14 +41,14 @@ impl Size {
 }
 
 /// The sign of a number.
-#[derive(Clone, Copy, Debug, PartialEq, Eq)]
+#[derive(Clone, Copy, PartialEq, Eq)]
 pub enum Sign {
     Plus,
     Minus,
 }
 
-/// The signs of a division's results, where both operands are below zero, and where the first alone or the second alone
-/// is.
+/// The signs of a division's results, where both operands are below zero, and where the first alone
+/// or the second alone is.
 #[derive(Clone, Copy)]
 struct Signs {
     both: Sign,
@@ -120,7 +120,10 @@ fn plain(alloc: Global, size: Size, name: &[u8]) -> Result<Tree, NoMemory>
 
 /// A shift by the second operand's low bits.
 fn shifted(alloc: Global, size: Size, name: &[u8], mask: &[u8]) -> Result<Tree, NoMemory>
-    ensures { IfOk result (λ t. expr t ≡ two name.now (operand size a) (two (codes "bvand") (operand size b) (literal (width_of size) mask.now))) }
+    ensures { IfOk result (λ t.
+        expr t
+        ≡ two name.now (operand size a) (two (codes "bvand") (operand size b)
+        (literal (width_of size) mask.now))) }
 {
     let x = operand(alloc, size, b"a")?;
     let y = operand(alloc, size, b"b")?;
@@ -141,7 +144,10 @@ fn truth_as_word(alloc: Global, name: &[u8]) -> Result<Tree, NoMemory>
 
 /// The high half of the product of the operands, which are extended by these operators.
 fn high(alloc: Global, first: &[u8], second: &[u8]) -> Result<Tree, NoMemory>
-    ensures { IfOk result (λ t. expr t ≡ high (indexed first.now (codes "64" ∷ []) (a ∷ [])) (indexed second.now (codes "64" ∷ []) (b ∷ []))) }
+    ensures { IfOk result (λ t.
+        expr t
+        ≡ high (indexed first.now (codes "64" ∷ []) (a ∷ []))
+        (indexed second.now (codes "64" ∷ []) (b ∷ []))) }
 {
     let x = atom(alloc, b"a")?;
     let x = extended(alloc, first, b"64", x)?;
@@ -170,7 +176,8 @@ fn of_absolute(
     first: Sign,
     second: Sign,
 ) -> Result<Tree, NoMemory>
-    ensures { IfOk result (λ t. expr t ≡ of_absolute name.now result_sign first second (operand size a) (operand size b)) }
+    ensures { IfOk result (λ t.
+        expr t ≡ of_absolute name.now result_sign first second (operand size a) (operand size b)) }
 {
     let x = operand(alloc, size, b"a")?;
     let x = turned(alloc, first, x)?;
@@ -182,7 +189,8 @@ fn of_absolute(
 
 /// The first term where that operand is below zero, else the second.
 fn by_sign(alloc: Global, size: Size, name: &[u8], p: Tree, q: Tree) -> Result<Tree, NoMemory>
-    ensures { IfOk result (λ t. expr t ≡ by_sign (width_of size) (operand size (Atom name.now)) (expr p) (expr q)) }
+    ensures { IfOk result (λ t.
+        expr t ≡ by_sign (width_of size) (operand size (Atom name.now)) (expr p) (expr q)) }
 {
     let x = operand(alloc, size, name)?;
     let zero = literal(alloc, size.width(), b"0")?;
@@ -192,7 +200,10 @@ fn by_sign(alloc: Global, size: Size, name: &[u8], p: Tree, q: Tree) -> Result<T
 
 /// A division by the signs of its operands.
 fn by_signs(alloc: Global, size: Size, name: &[u8], signs: Signs) -> Result<Tree, NoMemory>
-    ensures { IfOk result (λ t. expr t ≡ by_signs name.now (width_of size) signs.both signs.first signs.second (operand size a) (operand size b)) }
+    ensures { IfOk result (λ t.
+        expr t
+        ≡ by_signs name.now (width_of size) signs.both signs.first signs.second (operand size a)
+        (operand size b)) }
 {
     let both = of_absolute(alloc, size, name, signs.both, Sign::Minus, Sign::Minus)?;
     let first = of_absolute(alloc, size, name, signs.first, Sign::Minus, Sign::Plus)?;
@@ -204,7 +215,8 @@ fn by_signs(alloc: Global, size: Size, name: &[u8], signs: Signs) -> Result<Tree
 }
 
 fn signed_quotient(alloc: Global, size: Size) -> Result<Tree, NoMemory>
-    ensures { IfOk result (λ t. expr t ≡ signed_quotient (width_of size) (ones_of size) (operand size a) (operand size b)) }
+    ensures { IfOk result (λ t.
+        expr t ≡ signed_quotient (width_of size) (ones_of size) (operand size a) (operand size b)) }
 {
     let y = operand(alloc, size, b"b")?;
     let zero = literal(alloc, size.width(), b"0")?;
@@ -220,7 +232,8 @@ fn signed_quotient(alloc: Global, size: Size) -> Result<Tree, NoMemory>
 }
 
 fn signed_remainder(alloc: Global, size: Size) -> Result<Tree, NoMemory>
-    ensures { IfOk result (λ t. expr t ≡ signed_remainder (width_of size) (operand size a) (operand size b)) }
+    ensures { IfOk result (λ t.
+        expr t ≡ signed_remainder (width_of size) (operand size a) (operand size b)) }
 {
     let signs = Signs {
         both: Sign::Minus,
@@ -281,7 +294,10 @@ fn half_plain(alloc: Global, name: &[u8]) -> Result<Tree, NoMemory>
 }
 
 fn half_shifted(alloc: Global, name: &[u8]) -> Result<Tree, NoMemory>
-    ensures { IfOk result (λ t. expr t ≡ from_half (two name.now (low_half a) (two (codes "bvand") (low_half b) (literal (codes "32") (codes "31"))))) }
+    ensures { IfOk result (λ t.
+        expr t
+        ≡ from_half (two name.now (low_half a) (two (codes "bvand") (low_half b)
+        (literal (codes "32") (codes "31"))))) }
 {
     let x = shifted(alloc, Size::Half, name, b"31")?;
     from_half(alloc, x)

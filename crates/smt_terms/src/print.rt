@@ -35,7 +35,8 @@ fn put_script(out: &mut Bytes, funs: &[Fun]) -> Result<(), NoMemory>
 }
 
 fn put_funs(pen: &mut Pen<'_>, funs: &[Fun]) -> Result<(), NoMemory>
-    ensures ok { OnOk result (page pen.new ≡ print (flat_map fun_tokens (map fun_tree funs.now)) (page pen.old)) }
+    ensures ok { OnOk result (page pen.new
+        ≡ print (flat_map fun_tokens (map fun_tree funs.now)) (page pen.old)) }
     ensures kept { Keeps (page pen.old) (page pen.new) }
 {
     for fun in funs {
@@ -58,7 +59,10 @@ fn put_fun(pen: &mut Pen<'_>, fun: &Fun) -> Result<(), NoMemory>
 
 /// Prints the parameters and the sort.
 fn put_signature(pen: &mut Pen<'_>, fun: &Fun) -> Result<(), NoMemory>
-    ensures ok { OnOk result (page pen.new ≡ print (tokens (Node (exprs (map param_expr fun.now.params))) ++ tokens (sort_expr fun.now.sort)) (page pen.old)) }
+    ensures ok { OnOk result (page pen.new
+        ≡ print
+        (tokens (Node (exprs (map param_expr fun.now.params))) ++ tokens (sort_expr fun.now.sort))
+        (page pen.old)) }
     ensures kept { Keeps (page pen.old) (page pen.new) }
 {
     pen.left()?;
@@ -68,7 +72,8 @@ fn put_signature(pen: &mut Pen<'_>, fun: &Fun) -> Result<(), NoMemory>
 }
 
 fn put_params(pen: &mut Pen<'_>, params: &[(Text, Sort)]) -> Result<(), NoMemory>
-    ensures ok { OnOk result (page pen.new ≡ print (tokens_of (exprs (map param_expr params.now))) (page pen.old)) }
+    ensures ok { OnOk result (page pen.new
+        ≡ print (tokens_of (exprs (map param_expr params.now))) (page pen.old)) }
     ensures kept { Keeps (page pen.old) (page pen.new) }
 {
     for param in params {
@@ -104,7 +109,8 @@ fn put_sort(pen: &mut Pen<'_>, sort: Sort) -> Result<(), NoMemory>
 }
 
 fn put_bit_vector(pen: &mut Pen<'_>, n: u32) -> Result<(), NoMemory>
-    ensures ok { OnOk result (page pen.new ≡ print (tokens (bit_vector (decimal n))) (page pen.old)) }
+    ensures ok { OnOk result (page pen.new
+        ≡ print (tokens (bit_vector (decimal n))) (page pen.old)) }
     ensures kept { Keeps (page pen.old) (page pen.new) }
 {
     pen.open(b"_")?;
@@ -115,7 +121,8 @@ fn put_bit_vector(pen: &mut Pen<'_>, n: u32) -> Result<(), NoMemory>
 
 /// Prints the sort of an array's indices.
 fn put_index(pen: &mut Pen<'_>) -> Result<(), NoMemory>
-    ensures ok { OnOk result (page pen.new ≡ print (tokens (bit_vector (codes "64"))) (page pen.old)) }
+    ensures ok { OnOk result (page pen.new
+        ≡ print (tokens (bit_vector (codes "64"))) (page pen.old)) }
     ensures kept { Keeps (page pen.old) (page pen.new) }
 {
     pen.open(b"_")?;
@@ -141,7 +148,8 @@ fn put_tree(pen: &mut Pen<'_>, tree: &Tree) -> Result<(), NoMemory>
 
 #[cycle(trees)]
 fn put_trees(pen: &mut Pen<'_>, items: &[Tree]) -> Result<(), NoMemory>
-    ensures ok { OnOk result (page pen.new ≡ print (tokens_of (exprs (map expr items.now))) (page pen.old)) }
+    ensures ok { OnOk result (page pen.new
+        ≡ print (tokens_of (exprs (map expr items.now))) (page pen.old)) }
     ensures kept { Keeps (page pen.old) (page pen.new) }
 {
     for item in items {

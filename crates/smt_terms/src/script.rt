@@ -9,7 +9,8 @@ use crate::tree::Tree;
 use rv_words::{List, Text};
 use std::marker::Model;
 
-/// A function: its name, the names and sorts of its parameters, and the sort and the term of its value.
+/// A function: its name, the names and sorts of its parameters, and the sort and the term of its
+/// value.
 #[derive(Drop)]
 pub struct Fun {
     pub name: Text,
@@ -18,8 +19,8 @@ pub struct Fun {
     pub body: Tree,
 }
 
-/// Functions with different names, each of whose bodies has its sort and applies the operators and the functions before it
-/// alone. This is the type's invariant.
+/// Functions with different names, each of whose bodies has its sort and applies the operators and
+/// the functions before it alone. This is the type's invariant.
 #[derive(Drop)]
 pub struct Script {
     funs: List<Fun>,

@@ -50,7 +50,10 @@ impl Array {
         requires index { i.width ≡ 64 }
         requires element { x.width ≡ self.now.width }
         ensures width { IfOk result (λ a. a.width ≡ self.now.width) }
-        ensures bytes { IfOk result (λ a. (k : ℕ) → element a.bytes.value k ≡ (if k == i.number then x.number else element self.now.bytes.value k)) }
+        ensures bytes { IfOk result (λ a.
+            (k : ℕ)
+            → element a.bytes.value k
+            ≡ (if k == i.number then x.number else element self.now.bytes.value k)) }
     {
         let mut bytes = self.bytes.copy(alloc)?;
         bytes.place(i.number as u64, &[x.number as u8])?;

@@ -28,7 +28,10 @@ pub fn call<'a>(
 ) -> Result<Datum, NoMemory>
     requires before { IsScript (map fun_tree before.now) }
     requires fun { IsFun (rules_after no_names (map fun_tree before.now)) (fun_tree fun.now) }
-    ensures { IfOk result (λ d. StandsFor (rule_of (fun_tree fun.now) (map sorted args.now)) (fun_value (functions_after no_names (map fun_tree before.now)) (fun_tree fun.now) (map meaning args.now)) d) }
+    ensures { IfOk result (λ d.
+        StandsFor (rule_of (fun_tree fun.now) (map sorted args.now))
+        (fun_value (functions_after no_names (map fun_tree before.now)) (fun_tree fun.now)
+        (map meaning args.now)) d) }
 {
     if args.len() != fun.params.len() {
         return Ok(UNSORTED);
@@ -37,7 +40,8 @@ pub fn call<'a>(
     term(alloc, before, &mut scope, &fun.body)
 }
 
-/// What a term stands for, where its names stand for what they are bound to, and it may apply these functions.
+/// What a term stands for, where its names stand for what they are bound to, and it may apply these
+/// functions.
 #[cycle(terms)]
 fn term<'a>(
     alloc: Global,
@@ -84,7 +88,8 @@ fn node<'a>(
     items: &'a [Tree],
 ) -> Result<Datum, NoMemory>
     requires { IsScript (map fun_tree funs.now) }
-    ensures told { IfOk result (λ d. Tells (map fun_tree funs.now) scope.old (Node (exprs (map expr items.now))) d) }
+    ensures told { IfOk result (λ d.
+        Tells (map fun_tree funs.now) scope.old (Node (exprs (map expr items.now))) d) }
     ensures kept { OnOk result (scope.new ≡ scope.old) }
 {
     let Some((head, rest)) = head_and_rest(items) else {
@@ -114,7 +119,11 @@ fn application<'a>(
     args: &[Datum],
 ) -> Result<Datum, NoMemory>
     requires { IsScript (map fun_tree funs.now) }
-    ensures { IfOk result (λ d. StandsFor (applied_sort (rules_after no_names (map fun_tree funs.now)) name.now (map sorted args.now)) (applied (functions_after no_names (map fun_tree funs.now)) name.now (map meaning args.now)) d) }
+    ensures { IfOk result (λ d.
+        StandsFor
+        (applied_sort (rules_after no_names (map fun_tree funs.now)) name.now (map sorted args.now))
+        (applied (functions_after no_names (map fun_tree funs.now)) name.now (map meaning args.now))
+        d) }
 {
     match find(funs, name) {
         Some(found) => call(alloc, found.before, found.fun, args),
@@ -131,7 +140,8 @@ fn binding<'a>(
     parts: &'a [Tree],
 ) -> Result<Datum, NoMemory>
     requires { IsScript (map fun_tree funs.now) }
-    ensures told { IfOk result (λ d. TellsBinding (map fun_tree funs.now) scope.old (exprs (map expr parts.now)) d) }
+    ensures told { IfOk result (λ d.
+        TellsBinding (map fun_tree funs.now) scope.old (exprs (map expr parts.now)) d) }
     ensures kept { OnOk result (scope.new ≡ scope.old) }
 {
     let Some(parts) = let_of(parts) else {
@@ -154,7 +164,8 @@ fn terms<'a>(
     trees: &'a [Tree],
 ) -> Result<List<Datum>, NoMemory>
     requires { IsScript (map fun_tree funs.now) }
-    ensures told { IfOk result (λ ds. TellsAll (map fun_tree funs.now) scope.old (exprs (map expr trees.now)) ds) }
+    ensures told { IfOk result (λ ds.
+        TellsAll (map fun_tree funs.now) scope.old (exprs (map expr trees.now)) ds) }
     ensures kept { OnOk result (scope.new ≡ scope.old) }
 {
     let mut values = List::new(alloc);

@@ -16,7 +16,9 @@ pub struct Found<'a> {
 /// The last function of that name.
 #[tactic(auto, using(crate::proofs::Finding::not_behind_all, crate::proofs::Finding::not_behind_one, crate::proofs::Finding::none_of_all, crate::proofs::Finding::found_at))]
 pub fn find<'a>(funs: &'a [Fun], name: &[u8]) -> Option<Found<'a>>
-    ensures { MatchOption result (IsMissing (map fun_tree funs.now) name.now) (λ f. IsFound (map fun_tree funs.now) name.now (map fun_tree f.before.now) (fun_tree f.fun.now)) }
+    ensures { MatchOption result (IsMissing (map fun_tree funs.now) name.now)
+        (λ f.
+        IsFound (map fun_tree funs.now) name.now (map fun_tree f.before.now) (fun_tree f.fun.now)) }
 {
     let mut left = funs.len();
     'back: while left > 0 {

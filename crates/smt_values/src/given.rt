@@ -19,7 +19,8 @@ use smt_terms::Sort;
 use std::alloc::Global;
 use std::rc::Rc;
 
-/// What inputs stand for, if they are as many as the parameters and each is of its parameter's sort.
+/// What inputs stand for, if they are as many as the parameters and each is of its parameter's
+/// sort.
 #[tactic(auto, using(crate::proofs::Taking::taken_first, crate::proofs::Taking::taken_more, crate::proofs::Taking::taken_none, crate::proofs::Taking::taken_done, crate::proofs::Taking::taken_unequal, crate::proofs::Taking::sort_at))]
 pub fn taken(
     alloc: Global,
@@ -117,7 +118,8 @@ fn has_width(map: &ByteMap, width: u32) -> bool
 #[tactic(auto, using(crate::proofs::Arrays::same_below))]
 pub fn told(alloc: Global, datum: &Datum) -> Result<Smt, NoMemory>
     ensures sort { IfOk result (λ x. IsOfSort (sort_of_datum datum.now) x) }
-    ensures value { IfOk result (λ x. smt_value_at (sort_of_datum datum.now) x ≡ meaning datum.now) }
+    ensures value { IfOk result (λ x.
+        smt_value_at (sort_of_datum datum.now) x ≡ meaning datum.now) }
 {
     match datum {
         Datum::Truth(b) => Ok(Smt::Bool(*b)),

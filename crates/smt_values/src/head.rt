@@ -23,7 +23,8 @@ pub enum Head<'a> {
 
 /// The name that a tree is.
 pub fn atom_of(tree: &Tree) -> Option<&[u8]>
-    ensures { MatchOption result ((es : Exprs) × (expr tree.now ≡ Node es)) (λ name. expr tree.now ≡ Atom name.now) }
+    ensures { MatchOption result ((es : Exprs) × (expr tree.now ≡ Node es))
+        (λ name. expr tree.now ≡ Atom name.now) }
 {
     match tree {
         Tree::Atom(name) => Some(name.as_slice()),
@@ -73,7 +74,8 @@ fn indexed_head(items: &[Tree]) -> Head<'_>
 }
 
 fn three_of(items: &[Tree]) -> Option<(&Tree, &Tree, &Tree)>
-    ensures { MatchOption result (length items.now ≡ 3 → ⊥) (λ p. items.now ≡ p.0.now ∷ p.1.now ∷ p.2.now ∷ []) }
+    ensures { MatchOption result (length items.now ≡ 3 → ⊥) (λ p.
+        items.now ≡ p.0.now ∷ p.1.now ∷ p.2.now ∷ []) }
 {
     match items {
         [a, b, c] => Some((a, b, c)),
@@ -82,7 +84,8 @@ fn three_of(items: &[Tree]) -> Option<(&Tree, &Tree, &Tree)>
 }
 
 fn four_of(items: &[Tree]) -> Option<(&Tree, &Tree, &Tree, &Tree)>
-    ensures { MatchOption result (length items.now ≡ 4 → ⊥) (λ p. items.now ≡ p.0.now ∷ p.1.now ∷ p.2.now ∷ p.3.now ∷ []) }
+    ensures { MatchOption result (length items.now ≡ 4 → ⊥) (λ p.
+        items.now ≡ p.0.now ∷ p.1.now ∷ p.2.now ∷ p.3.now ∷ []) }
 {
     match items {
         [a, b, c, d] => Some((a, b, c, d)),
@@ -92,7 +95,8 @@ fn four_of(items: &[Tree]) -> Option<(&Tree, &Tree, &Tree, &Tree)>
 
 /// `(_ NAME K)`
 fn with_one<'a>(underscore: &Tree, name: &Tree, k: &Tree) -> Head<'a>
-    ensures { IsHead result (term_head (Node (Then (expr underscore.now) (Then (expr name.now) (Then (expr k.now) End))))) }
+    ensures { IsHead result (term_head (Node (Then (expr underscore.now) (Then (expr name.now)
+        (Then (expr k.now) End))))) }
 {
     let Some(underscore) = atom_of(underscore) else {
         return Head::Nothing;
@@ -136,7 +140,8 @@ fn extension_by<'a>(name: &[u8], k: u32) -> Head<'a>
 
 /// `(_ NAME I J)`
 fn with_two<'a>(underscore: &Tree, name: &Tree, i: &Tree, j: &Tree) -> Head<'a>
-    ensures { IsHead result (term_head (Node (Then (expr underscore.now) (Then (expr name.now) (Then (expr i.now) (Then (expr j.now) End)))))) }
+    ensures { IsHead result (term_head (Node (Then (expr underscore.now) (Then (expr name.now)
+        (Then (expr i.now) (Then (expr j.now) End)))))) }
 {
     let Some(underscore) = atom_of(underscore) else {
         return Head::Nothing;

@@ -11,7 +11,8 @@ use crate::vector::Vector;
 
 /// One truth.
 pub fn one_truth(parts: &[Datum]) -> Option<bool>
-    ensures { MatchOption result (truth_rule (map sorted parts.now) ≡ None) (λ b. parts.now ≡ Datum.Truth b ∷ []) }
+    ensures { MatchOption result (truth_rule (map sorted parts.now) ≡ None)
+        (λ b. parts.now ≡ Datum.Truth b ∷ []) }
 {
     match parts {
         [Datum::Truth(a)] => Some(*a),
@@ -21,7 +22,8 @@ pub fn one_truth(parts: &[Datum]) -> Option<bool>
 
 /// Two truths.
 pub fn two_truths(parts: &[Datum]) -> Option<(bool, bool)>
-    ensures { MatchOption result (truths_rule (map sorted parts.now) ≡ None) (λ p. parts.now ≡ Datum.Truth p.0 ∷ Datum.Truth p.1 ∷ []) }
+    ensures { MatchOption result (truths_rule (map sorted parts.now) ≡ None)
+        (λ p. parts.now ≡ Datum.Truth p.0 ∷ Datum.Truth p.1 ∷ []) }
 {
     match parts {
         [Datum::Truth(a), Datum::Truth(b)] => Some((*a, *b)),
@@ -31,7 +33,9 @@ pub fn two_truths(parts: &[Datum]) -> Option<(bool, bool)>
 
 /// One bit-vector.
 pub fn one_vector(parts: &[Datum]) -> Option<Vector>
-    ensures { MatchOption result ((of : ℕ → Option Sort) → vector_rule of (map sorted parts.now) ≡ None) (λ v. parts.now ≡ Datum.Bits v ∷ []) }
+    ensures { MatchOption result
+        ((of : ℕ → Option Sort) → vector_rule of (map sorted parts.now) ≡ None)
+        (λ v. parts.now ≡ Datum.Bits v ∷ []) }
 {
     match parts {
         [Datum::Bits(a)] => Some(*a),
@@ -41,7 +45,10 @@ pub fn one_vector(parts: &[Datum]) -> Option<Vector>
 
 /// Two bit-vectors.
 pub fn two_vectors(parts: &[Datum]) -> Option<(Vector, Vector)>
-    ensures { MatchOption result ((concat_rule (map sorted parts.now) ≡ None) × ((of : ℕ → Option Sort) → vectors_rule of (map sorted parts.now) ≡ None)) (λ p. parts.now ≡ Datum.Bits p.0 ∷ Datum.Bits p.1 ∷ []) }
+    ensures { MatchOption result
+        ((concat_rule (map sorted parts.now) ≡ None)
+        × ((of : ℕ → Option Sort) → vectors_rule of (map sorted parts.now) ≡ None))
+        (λ p. parts.now ≡ Datum.Bits p.0 ∷ Datum.Bits p.1 ∷ []) }
 {
     match parts {
         [Datum::Bits(a), Datum::Bits(b)] => Some((*a, *b)),
@@ -51,7 +58,9 @@ pub fn two_vectors(parts: &[Datum]) -> Option<(Vector, Vector)>
 
 /// Two bit-vectors of one width.
 pub fn same_widths(parts: &[Datum]) -> Option<(Vector, Vector)>
-    ensures { MatchOption result ((of : ℕ → Option Sort) → vectors_rule of (map sorted parts.now) ≡ None) (λ p. (parts.now ≡ Datum.Bits p.0 ∷ Datum.Bits p.1 ∷ []) × (p.0.width ≡ p.1.width)) }
+    ensures { MatchOption result
+        ((of : ℕ → Option Sort) → vectors_rule of (map sorted parts.now) ≡ None)
+        (λ p. (parts.now ≡ Datum.Bits p.0 ∷ Datum.Bits p.1 ∷ []) × (p.0.width ≡ p.1.width)) }
 {
     match two_vectors(parts) {
         Some((a, b)) if a.width == b.width => Some((a, b)),
@@ -61,7 +70,8 @@ pub fn same_widths(parts: &[Datum]) -> Option<(Vector, Vector)>
 
 /// An array and an index.
 pub fn array_and_index(parts: &[Datum]) -> Option<(&Array, Vector)>
-    ensures { MatchOption result (select_rule (map sorted parts.now) ≡ None) (λ p. (parts.now ≡ Datum.Array p.0.now ∷ Datum.Bits p.1 ∷ []) × (p.1.width ≡ 64)) }
+    ensures { MatchOption result (select_rule (map sorted parts.now) ≡ None)
+        (λ p. (parts.now ≡ Datum.Array p.0.now ∷ Datum.Bits p.1 ∷ []) × (p.1.width ≡ 64)) }
 {
     match parts {
         [Datum::Array(a), Datum::Bits(i)] if i.width == 64 => Some((a, *i)),
@@ -71,7 +81,11 @@ pub fn array_and_index(parts: &[Datum]) -> Option<(&Array, Vector)>
 
 /// An array, an index and an element.
 pub fn array_index_and_element(parts: &[Datum]) -> Option<(&Array, Vector, Vector)>
-    ensures { MatchOption result (store_rule (map sorted parts.now) ≡ None) (λ p. (parts.now ≡ Datum.Array p.0.now ∷ Datum.Bits p.1 ∷ Datum.Bits p.2 ∷ []) × (p.1.width ≡ 64) × (p.2.width ≡ p.0.now.width)) }
+    ensures { MatchOption result (store_rule (map sorted parts.now) ≡ None)
+        (λ p.
+        (parts.now ≡ Datum.Array p.0.now ∷ Datum.Bits p.1 ∷ Datum.Bits p.2 ∷ [])
+        × (p.1.width ≡ 64)
+        × (p.2.width ≡ p.0.now.width)) }
 {
     match parts {
         [Datum::Array(a), Datum::Bits(i), Datum::Bits(x)] if i.width == 64 && x.width == a.width =>

@@ -4,7 +4,7 @@ ghost use Rattle.std.specs.Prelude.{◌≡◌};
 ghost use Rattle.smt_values.specs.inner.Operators.{binary_name, operator_name, operator_named, plain_operators};
 
 /// An operator on two bit-vectors of one width that gives one of that width.
-#[derive(Clone, Copy, Debug)]
+#[derive(Clone, Copy)]
 pub enum Binary {
     Add,
     Sub,
@@ -20,7 +20,7 @@ pub enum Binary {
 }
 
 /// An operator with its numerals.
-#[derive(Clone, Copy, Debug)]
+#[derive(Clone, Copy)]
 pub enum Operator {
     Ite,
     And,

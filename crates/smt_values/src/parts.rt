@@ -26,7 +26,8 @@ pub fn constant(name: &[u8]) -> Datum
 /// What `bvN W` in a literal stands for.
 #[tactic(auto, using(crate::proofs::Splitting::no_literal))]
 pub fn literal(parts: &[Tree]) -> Datum
-    ensures { StandsFor (literal_sort (exprs (map expr parts.now))) (literal_value (exprs (map expr parts.now))) result }
+    ensures { StandsFor (literal_sort (exprs (map expr parts.now)))
+        (literal_value (exprs (map expr parts.now))) result }
 {
     match two_of(parts) {
         Some((number, width)) => literal_of(number, width),
@@ -35,7 +36,8 @@ pub fn literal(parts: &[Tree]) -> Datum
 }
 
 fn literal_of(number: &Tree, width: &Tree) -> Datum
-    ensures { StandsFor (literal_sort (Then (expr number.now) (Then (expr width.now) End))) (literal_value (Then (expr number.now) (Then (expr width.now) End))) result }
+    ensures { StandsFor (literal_sort (Then (expr number.now) (Then (expr width.now) End)))
+        (literal_value (Then (expr number.now) (Then (expr width.now) End))) result }
 {
     let Some(number) = atom_of(number) else {
         return UNSORTED;
@@ -49,7 +51,8 @@ fn literal_of(number: &Tree, width: &Tree) -> Datum
 /// The bit-vector of that width with the low bits of the number of `bvN`.
 #[tactic(auto, using(crate::proofs::Splitting::literal_stands))]
 fn vector_of(number: &[u8], width: &[u8]) -> Datum
-    ensures { StandsFor (literal_sort_of (literal_number number.now) (numeral width.now)) (literal_of (literal_number number.now) (numeral width.now)) result }
+    ensures { StandsFor (literal_sort_of (literal_number number.now) (numeral width.now))
+        (literal_of (literal_number number.now) (numeral width.now)) result }
 {
     let Some(number) = literal_number(number) else {
         return UNSORTED;
@@ -69,7 +72,8 @@ pub fn head_and_rest(items: &[Tree]) -> Option<(&Tree, &[Tree])>
 
 /// The trees in parentheses.
 fn items_of(tree: &Tree) -> Option<&[Tree]>
-    ensures { MatchOption result ((name : List ℕ) × (expr tree.now ≡ Atom name)) (λ items. expr tree.now ≡ Node (exprs (map expr items.now))) }
+    ensures { MatchOption result ((name : List ℕ) × (expr tree.now ≡ Atom name))
+        (λ items. expr tree.now ≡ Node (exprs (map expr items.now))) }
 {
     match tree {
         Tree::Atom(_) => None,
@@ -87,7 +91,8 @@ fn one_of(items: &[Tree]) -> Option<&Tree>
 }
 
 fn two_of(items: &[Tree]) -> Option<(&Tree, &Tree)>
-    ensures { MatchOption result (length items.now ≡ 2 → ⊥) (λ p. items.now ≡ p.0.now ∷ p.1.now ∷ []) }
+    ensures { MatchOption result (length items.now ≡ 2 → ⊥) (λ p.
+        items.now ≡ p.0.now ∷ p.1.now ∷ []) }
 {
     match items {
         [a, b] => Some((a, b)),
@@ -106,8 +111,12 @@ pub struct Let<'a> {
 /// The parts of a binding and its body.
 #[tactic(auto, using(crate::proofs::Splitting::no_body))]
 pub fn let_of(parts: &[Tree]) -> Option<Let<'_>>
-    ensures { MatchOption result ((fs : Rules) (s : Sorts) → binding_sort fs s (exprs (map expr parts.now)) ≡ None)
-        (λ l. exprs (map expr parts.now) ≡ Then (Node (Then (Node (Then (Atom l.name.now) (Then (expr l.term.now) End))) End)) (Then (expr l.body.now) End)) }
+    ensures { MatchOption result
+        ((fs : Rules) (s : Sorts) → binding_sort fs s (exprs (map expr parts.now)) ≡ None)
+        (λ l.
+        exprs (map expr parts.now)
+        ≡ Then (Node (Then (Node (Then (Atom l.name.now) (Then (expr l.term.now) End))) End))
+        (Then (expr l.body.now) End)) }
 {
     match two_of(parts) {
         Some((bindings, body)) => match bound_by(bindings) {
@@ -121,8 +130,12 @@ pub fn let_of(parts: &[Tree]) -> Option<Let<'_>>
 /// The name and the term of `((NAME TERM))`.
 #[tactic(auto, using(crate::proofs::Splitting::no_pair))]
 fn bound_by(bindings: &Tree) -> Option<(&[u8], &Tree)>
-    ensures { MatchOption result ((fs : Rules) (s : Sorts) (body : Expr) → binding_sort fs s (Then (expr bindings.now) (Then body End)) ≡ None)
-        (λ p. expr bindings.now ≡ Node (Then (Node (Then (Atom p.0.now) (Then (expr p.1.now) End))) End)) }
+    ensures { MatchOption result
+        ((fs : Rules) (s : Sorts) (body : Expr)
+        → binding_sort fs s (Then (expr bindings.now) (Then body End)) ≡ None)
+        (λ p.
+        expr bindings.now
+        ≡ Node (Then (Node (Then (Atom p.0.now) (Then (expr p.1.now) End))) End)) }
 {
     let items = items_of(bindings)?;
     match one_of(items) {
@@ -134,7 +147,9 @@ fn bound_by(bindings: &Tree) -> Option<(&[u8], &Tree)>
 /// The name and the term of `(NAME TERM)`.
 #[tactic(auto, using(crate::proofs::Splitting::no_two))]
 fn pair_of(binding: &Tree) -> Option<(&[u8], &Tree)>
-    ensures { MatchOption result ((fs : Rules) (s : Sorts) (body : Expr) → binding_sort fs s (Then (Node (Then (expr binding.now) End)) (Then body End)) ≡ None)
+    ensures { MatchOption result
+        ((fs : Rules) (s : Sorts) (body : Expr)
+        → binding_sort fs s (Then (Node (Then (expr binding.now) End)) (Then body End)) ≡ None)
         (λ p. expr binding.now ≡ Node (Then (Atom p.0.now) (Then (expr p.1.now) End))) }
 {
     let items = items_of(binding)?;

@@ -21,8 +21,10 @@ pub struct Binding<'a> {
 /// What a name stands for by its last binding.
 #[tactic(auto, using(crate::proofs::Scopes::not_bound_all, crate::proofs::Scopes::not_bound_one, crate::proofs::Scopes::bound_sort_at, crate::proofs::Scopes::bound_value_at, crate::proofs::Scopes::no_sort, crate::proofs::Scopes::no_value))]
 pub fn look_up<'a, 'b>(scope: &'b [Binding<'a>], name: &[u8]) -> Option<&'b Datum>
-    ensures sort { MatchOption result (sorts_in scope.now name.now ≡ None) (λ d. sorts_in scope.now name.now ≡ Some (sort_of_datum d.now)) }
-    ensures value { MatchOption result (variables_in scope.now name.now ≡ None) (λ d. variables_in scope.now name.now ≡ Some (meaning d.now)) }
+    ensures sort { MatchOption result (sorts_in scope.now name.now ≡ None) (λ d.
+        sorts_in scope.now name.now ≡ Some (sort_of_datum d.now)) }
+    ensures value { MatchOption result (variables_in scope.now name.now ≡ None)
+        (λ d. variables_in scope.now name.now ≡ Some (meaning d.now)) }
 {
     let mut left = scope.len();
     'back: while left > 0 {
@@ -43,8 +45,11 @@ pub fn scope_of<'a>(
     args: &[Datum],
 ) -> Result<List<Binding<'a>>, NoMemory>
     requires { length params.now ≡ length args.now }
-    ensures sorts { IfOk result (λ scope. IsTrue (sorts_fit params.now (map sorted args.now)) → sorts_in scope ≡ sorts_with no_names params.now) }
-    ensures values { IfOk result (λ scope. variables_in scope ≡ bind_all no_names params.now (map meaning args.now)) }
+    ensures sorts { IfOk result (λ scope.
+        IsTrue (sorts_fit params.now (map sorted args.now))
+        → sorts_in scope ≡ sorts_with no_names params.now) }
+    ensures values { IfOk result (λ scope.
+        variables_in scope ≡ bind_all no_names params.now (map meaning args.now)) }
 {
     let mut scope = List::new(alloc);
     for i in 0..params.len() {

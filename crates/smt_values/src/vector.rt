@@ -5,7 +5,7 @@ ghost use Rattle.std.specs.Prelude.{◌≡◌, ◌+◌, ◌-◌, ◌*◌, ◌/�
 ghost use Rattle.smt_terms.specs.Operators.{extended_by, is_negative, is_width, less_signed, shifted_right};
 
 /// A bit-vector: its width, from 1 to 128, and the number below 2 to that power whose bits it has.
-#[derive(Clone, Copy, Debug)]
+#[derive(Clone, Copy)]
 pub struct Vector {
     pub width: u32,
     pub number: u128,
@@ -62,7 +62,8 @@ impl Vector {
     pub fn sub(self, b: Vector) -> Vector
         requires { self.width ≡ b.width }
         ensures width { result.width ≡ self.width }
-        ensures number { result.number ≡ (self.number + (2 ^ self.width - b.number)) % 2 ^ self.width }
+        ensures number { result.number
+            ≡ (self.number + (2 ^ self.width - b.number)) % 2 ^ self.width }
     {
         Vector::new(self.width, self.number.wrapping_sub(b.number))
     }
@@ -88,7 +89,8 @@ impl Vector {
     pub fn udiv(self, b: Vector) -> Vector
         requires { self.width ≡ b.width }
         ensures width { result.width ≡ self.width }
-        ensures number { result.number ≡ (if b.number == 0 then 2 ^ self.width - 1 else self.number / b.number) }
+        ensures number { result.number
+            ≡ (if b.number == 0 then 2 ^ self.width - 1 else self.number / b.number) }
     {
         if b.number == 0 {
             return Vector::new(self.width, u128::MAX);
@@ -100,7 +102,8 @@ impl Vector {
     pub fn urem(self, b: Vector) -> Vector
         requires { self.width ≡ b.width }
         ensures width { result.width ≡ self.width }
-        ensures number { result.number ≡ (if b.number == 0 then self.number else self.number % b.number) }
+        ensures number { result.number
+            ≡ (if b.number == 0 then self.number else self.number % b.number) }
     {
         if b.number == 0 {
             return self;

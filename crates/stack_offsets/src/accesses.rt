@@ -23,7 +23,8 @@ fn base_of(i: Instr) -> Option<u8>
     }
 }
 
-/// Whether the instruction of a node loads from a register that has an offset there, or stores to one.
+/// Whether the instruction of a node loads from a register that has an offset there, or stores to
+/// one.
 fn is_stack_node(g: &Graph, rows: &[Option<Row>], n: u32) -> bool
     requires node { n < length g.now.addrs }
     requires settled { AreSettled g.now rows.now }
@@ -41,7 +42,11 @@ fn is_stack_node(g: &Graph, rows: &[Option<Row>], n: u32) -> bool
 /// Of each node whether it is one.
 fn stack_nodes(alloc: Global, g: &Graph) -> Result<List<bool>, NoMemory>
     ensures len { IfOk result (λ found. length found ≡ length g.now.addrs) }
-    ensures each { NamesAll g.now → IfOk result (λ found. (n : ℕ) → n < length g.now.addrs → (IsTrue (slice_index_or found n false) ↔ IsStackNode g.now n)) }
+    ensures each { NamesAll g.now
+        → IfOk result (λ found.
+        (n : ℕ)
+        → n < length g.now.addrs
+        → (IsTrue (slice_index_or found n false) ↔ IsStackNode g.now n)) }
 {
     let rows = rows_of(alloc, g)?;
     let mut found = List::new(alloc);
@@ -54,8 +59,14 @@ fn stack_nodes(alloc: Global, g: &Graph) -> Result<List<bool>, NoMemory>
 /// Of each node of the graph of a function whether its instruction is a stack access.
 pub fn stack_accesses(alloc: Global, graph: &Graph) -> Result<List<bool>, NoMemory>
     ensures len { IfOk result (λ found. length found ≡ length graph.now.addrs) }
-    ensures each { (code : Bytes) (e : ℕ) → AreBytes code → IsGraphOf false code e graph.now → IfOk result (λ found. (n : ℕ) → n < length graph.now.addrs
-        → (IsTrue (slice_index_or found n false) ↔ IsStackAccess code e (slice_index graph.now.addrs n))) }
+    ensures each { (code : Bytes) (e : ℕ)
+        → AreBytes code
+        → IsGraphOf false code e graph.now
+        → IfOk result (λ found.
+        (n : ℕ)
+        → n < length graph.now.addrs
+        → (IsTrue (slice_index_or found n false)
+        ↔ IsStackAccess code e (slice_index graph.now.addrs n))) }
 {
     stack_nodes(alloc, graph)
 }

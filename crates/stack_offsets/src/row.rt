@@ -87,7 +87,9 @@ impl Row {
 
     /// The offsets after an instruction.
     pub fn after(&self, i: Instr) -> Row
-        ensures within { (r : ℕ) → r < 32 → offsets_of result r ≡ offsets_after i (offsets_of self.now) r }
+        ensures within { (r : ℕ)
+            → r < 32
+            → offsets_of result r ≡ offsets_after i (offsets_of self.now) r }
         ensures beyond { (r : ℕ) → 32 ≤ r → offsets_of result r ≡ None }
         ensures few { length result.offsets ≡ 32 }
     {
@@ -101,9 +103,11 @@ impl Row {
 
     /// Keeps the offsets that the other row has too, and says whether one was lost.
     pub fn keep(&mut self, other: &Row) -> bool
-        ensures kept { (r : ℕ) → offsets_of self.new r ≡ both_same (offsets_of self.old r) (offsets_of other.now r) }
+        ensures kept { (r : ℕ)
+            → offsets_of self.new r ≡ both_same (offsets_of self.old r) (offsets_of other.now r) }
         ensures same { result ≡ false → self.new ≡ self.old }
-        ensures less { IsTrue result → count_by is_some self.new.offsets < count_by is_some self.old.offsets }
+        ensures less { IsTrue result
+            → count_by is_some self.new.offsets < count_by is_some self.old.offsets }
     {
         let mut lost = false;
         for r in 0..32 {

@@ -1,10 +1,3 @@
-pub mod FactLemmas
-pub mod Lines
-pub mod Ways
-pub mod Loops
-pub mod AddressLemmas
-pub mod RegionLemmas
-pub mod CheckLemmas
 pub mod AccessLemmas
 pub mod Items
 pub mod SplitAccepted

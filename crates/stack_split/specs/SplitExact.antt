@@ -3,7 +3,7 @@ use Rattle.std.specs.Prelude.{◌≡◌, ◌⊎◌, ℕ, List}
 use Rattle.rv_words.specs.Bytes.{Bytes}
 use Rattle.elf_image.specs.Image.{code_of_file}
 use Rattle.tailrec_lang.specs.Tree.{GroupTree}
-use Rattle.exactness.specs.LinkExact.{ExactIn}
+use Rattle.claims.specs.LinkExact.{ExactIn}
 use Rattle.stack_offsets.specs.Offsets.{IsStackAccess}
 
 -- of the function with entry e the instruction at a has the memory q: the second one where it is a stack access, and the first where it is none

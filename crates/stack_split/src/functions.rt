@@ -20,12 +20,16 @@ use rv_words::{List, NoMemory, Text};
 use stack_offsets::stack_accesses;
 use std::alloc::Global;
 
-/// An item for each of these names of a file, in which stack accesses use the second memory and all others the first; or the first of the names
-/// that is outside the fragment.
+/// An item for each of these names of a file, in which stack accesses use the second memory and all
+/// others the first; or the first of the names that is outside the fragment.
 pub fn split(alloc: Global, image: &Image, names: &List<Text>) -> Result<Proof, DecompileFault>
     requires { All IsName names.now }
-    ensures items { (file : Items ℕ) → image.now ≡ image_of file → IfOk result (AreSplitItemsFor file names.now) }
-    ensures refused { (file : Items ℕ) → image.now ≡ image_of file → IfErr result (IsSplitFaultOf file names.now) }
+    ensures items { (file : Items ℕ)
+        → image.now ≡ image_of file
+        → IfOk result (AreSplitItemsFor file names.now) }
+    ensures refused { (file : Items ℕ)
+        → image.now ≡ image_of file
+        → IfErr result (IsSplitFaultOf file names.now) }
 {
     let all = names.as_slice();
     let mut items = List::new(alloc);
@@ -43,8 +47,12 @@ pub fn split(alloc: Global, image: &Image, names: &List<Text>) -> Result<Proof, 
 /// The item of a name.
 fn item_for(alloc: Global, image: &Image, name: &Text) -> Result<Item, FlowFault>
     requires { IsName name.now }
-    ensures item { (file : Items ℕ) → image.now ≡ image_of file → IfOk result (IsSplitItemFor file name.now) }
-    ensures none { (file : Items ℕ) → image.now ≡ image_of file → IfErr result (IsNoItem file name.now) }
+    ensures item { (file : Items ℕ)
+        → image.now ≡ image_of file
+        → IfOk result (IsSplitItemFor file name.now) }
+    ensures none { (file : Items ℕ)
+        → image.now ≡ image_of file
+        → IfErr result (IsNoItem file name.now) }
 {
     law_of_image(image);
     match address_of(image, name.as_slice()) {
@@ -59,7 +67,10 @@ fn item_for(alloc: Global, image: &Image, name: &Text) -> Result<Item, FlowFault
 /// The item of the function at an address, under that name.
 fn function_at(alloc: Global, image: &Image, entry: u64, name: Text) -> Result<Item, FlowFault>
     requires { IsName name }
-    ensures item { (file : Items ℕ) → image.now ≡ image_of file → StandsFor file name (Fine entry) → IfOk result (IsSplitItemFor file name) }
+    ensures item { (file : Items ℕ)
+        → image.now ≡ image_of file
+        → StandsFor file name (Fine entry)
+        → IfOk result (IsSplitItemFor file name) }
     ensures none { IfErr result (IsNoFunction (code_in image.now.pieces) entry) }
 {
     law_of_bytes(image);

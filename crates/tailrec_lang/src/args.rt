@@ -15,8 +15,8 @@ use rv_words::{ByteMap, List, NoMemory};
 use std::alloc::Global;
 use word_terms::{Env, Mem, Word, memory_of, value};
 
-/// What a definition is entered or left with: a word for each register of its group, in order, and the group's
-/// memories.
+/// What a definition is entered or left with: a word for each register of its group, in order, and
+/// the group's memories.
 #[derive(Debug, Drop)]
 pub struct Args {
     pub words: List<u64>,
@@ -60,9 +60,12 @@ impl Args {
     /// Moves the others to the end.
     #[tactic(auto, using(crate::proofs::Environments::variables_arguments))]
     pub(crate) fn append(&mut self, others: Args) -> Result<(), NoMemory>
-        ensures after { OnOk result (variables_of self.new ≡ with_arguments (variables_of self.old) (arguments others)) }
-        ensures words { OnOk result (length self.new.words ≡ length self.old.words + length others.words) }
-        ensures mems { OnOk result (length self.new.mems ≡ length self.old.mems + length others.mems) }
+        ensures after { OnOk result (variables_of self.new
+            ≡ with_arguments (variables_of self.old) (arguments others)) }
+        ensures words { OnOk result (length self.new.words
+            ≡ length self.old.words + length others.words) }
+        ensures mems { OnOk result (length self.new.mems
+            ≡ length self.old.mems + length others.mems) }
     {
         self.words.append(others.words)?;
         self.mems.append(others.mems)?;
@@ -83,8 +86,10 @@ fn copy_mems(alloc: Global, mems: &[ByteMap]) -> Result<List<ByteMap>, NoMemory>
 
 /// The values of terms.
 pub fn values_of(alloc: Global, values: &Values, variables: &Args) -> Result<Args, NoMemory>
-    requires { ValuesInScope (values_tree values.now) (length variables.now.words) (length variables.now.mems) }
-    ensures { IfOk result (λ x. arguments x ≡ arguments_of (values_tree values.now) (variables_of variables.now)) }
+    requires { ValuesInScope (values_tree values.now) (length variables.now.words)
+        (length variables.now.mems) }
+    ensures { IfOk result (λ x.
+        arguments x ≡ arguments_of (values_tree values.now) (variables_of variables.now)) }
 {
     let env = variables.env();
     let words = words_of(alloc, values.words.as_slice(), &env)?;
@@ -92,11 +97,13 @@ pub fn values_of(alloc: Global, values: &Values, variables: &Args) -> Result<Arg
     Ok(Args { words, mems })
 }
 
-/// The values of terms, where nothing else is done with the variables behind them: the last memory takes the place of
-/// the variable that it stands on, and isn't copied.
+/// The values of terms, where nothing else is done with the variables behind them: the last memory
+/// takes the place of the variable that it stands on, and isn't copied.
 pub fn last_values(alloc: Global, values: &Values, variables: Args) -> Result<Args, NoMemory>
-    requires { ValuesInScope (values_tree values.now) (length variables.words) (length variables.mems) }
-    ensures { IfOk result (λ x. arguments x ≡ arguments_of (values_tree values.now) (variables_of variables)) }
+    requires { ValuesInScope (values_tree values.now) (length variables.words)
+        (length variables.mems) }
+    ensures { IfOk result (λ x.
+        arguments x ≡ arguments_of (values_tree values.now) (variables_of variables)) }
 {
     let env = variables.env();
     let words = words_of(alloc, values.words.as_slice(), &env)?;
@@ -145,8 +152,10 @@ fn item_at(alloc: Global, memories: List<ByteMap>, i: u32) -> ByteMap
 }
 
 fn words_of(alloc: Global, terms: &[Word], env: &Env) -> Result<List<u64>, NoMemory>
-    requires { All (λ t. WordInScope t (length env.now.words.now) (length env.now.mems.now)) (map word_tree terms.now) }
-    ensures { IfOk result (λ list. list ≡ map (λ t. word_value t (environment_of env.now)) (map word_tree terms.now)) }
+    requires { All (λ t. WordInScope t (length env.now.words.now) (length env.now.mems.now))
+        (map word_tree terms.now) }
+    ensures { IfOk result (λ list.
+        list ≡ map (λ t. word_value t (environment_of env.now)) (map word_tree terms.now)) }
 {
     let mut list = List::new(alloc);
     for t in terms {
@@ -156,8 +165,10 @@ fn words_of(alloc: Global, terms: &[Word], env: &Env) -> Result<List<u64>, NoMem
 }
 
 fn mems_of(alloc: Global, terms: &[Mem], env: &Env) -> Result<List<ByteMap>, NoMemory>
-    requires { All (λ t. MemInScope t (length env.now.words.now) (length env.now.mems.now)) (map mem_tree terms.now) }
-    ensures { IfOk result (λ list. map get list ≡ map (λ t. mem_value t (environment_of env.now)) (map mem_tree terms.now)) }
+    requires { All (λ t. MemInScope t (length env.now.words.now) (length env.now.mems.now))
+        (map mem_tree terms.now) }
+    ensures { IfOk result (λ list.
+        map get list ≡ map (λ t. mem_value t (environment_of env.now)) (map mem_tree terms.now)) }
 {
     let mut list = List::new(alloc);
     for t in terms {

@@ -26,8 +26,8 @@ pub enum Outcome {
         args: Args,
         left: u64,
     },
-    /// At a Need that is false: its definition, and its number among that definition's Needs, in the order of the
-    /// text, from 0 on.
+    /// At a Need that is false: its definition, and its number among that definition's Needs, in
+    /// the order of the text, from 0 on.
     SideFalse {
         def: u32,
         ordinal: u64,
@@ -36,8 +36,8 @@ pub enum Outcome {
     Turns,
 }
 
-/// A call that waits for the definition that it entered: in which definition it stands, which one it entered, the
-/// variables at the call, what stands before it, and its arms.
+/// A call that waits for the definition that it entered: in which definition it stands, which one
+/// it entered, the variables at the call, what stands before it, and its arms.
 #[derive(Drop)]
 pub struct Frame<'a> {
     def: u32,
@@ -54,8 +54,8 @@ struct Position<'a> {
     walk: Walk<'a>,
 }
 
-/// How the definition of that number ends on these arguments. Each entry into a body takes a turn. Calls that wait
-/// are kept in a list.
+/// How the definition of that number ends on these arguments. Each entry into a body takes a turn.
+/// Calls that wait are kept in a list.
 pub fn eval(
     alloc: Global,
     g: &Group,
@@ -68,7 +68,8 @@ pub fn eval(
     requires def { def < length g.now.defs }
     requires words { length args.now.words ≡ length g.now.regs }
     requires mems { length args.now.mems ≡ g.now.mems }
-    ensures ok { IfOk result (λ o. outcome_of o ≡ outcome (group_tree g.now) def (arguments args.now) turns) }
+    ensures ok { IfOk result (λ o.
+        outcome_of o ≡ outcome (group_tree g.now) def (arguments args.now) turns) }
     ensures within { IfOk result (λ o. LeavesInScope (group_tree g.now) def turns (outcome_of o)) }
 {
     let mut waiting = List::new(alloc);
@@ -115,23 +116,37 @@ pub fn eval(
 /// The body of the definition of that number.
 fn body_of(g: &Group, def: u32) -> &Body
     requires { def < length g.now.defs }
-    ensures { (d : DefTree) → slice_get (group_tree g.now).defs def ≡ Some d → body_tree result.now ≡ d.body }
+    ensures { (d : DefTree)
+        → slice_get (group_tree g.now).defs def ≡ Some d
+        → body_tree result.now ≡ d.body }
 {
     &g.defs.as_slice()[def as usize].body
 }
 
-/// Goes on with the arms that wait, as long as a body leaves its definition and a call waits for that.
+/// Goes on with the arms that wait, as long as a body leaves its definition and a call waits for
+/// that.
 fn return_through<'a>(
     alloc: Global,
     waiting: &mut List<Frame<'a>>,
     def: u32,
     walk: Walk<'a>,
 ) -> Result<Position<'a>, NoMemory>
-    requires { (g : GroupTree) × (first : ℕ) × Waits g first waiting.old def × WalkFits g def walk × (def < length g.defs) }
-    ensures ending { IfOk result (λ place. (call : Meaning) (left : ℕ)
-        → unwound call waiting.old (walk_ending call def walk.entry left) ≡ unwound call waiting.new (walk_ending call place.def place.walk left)) }
-    ensures fits { IfOk result (λ place. (g : GroupTree) (first : ℕ) → Waits g first waiting.old def → WalkFits g def walk.entry → def < length g.defs
-        → Waits g first waiting.new place.def × WalkFits g place.def place.walk × (place.def < length g.defs)) }
+    requires { (g : GroupTree) × (first : ℕ)
+        × Waits g first waiting.old def
+        × WalkFits g def walk
+        × (def < length g.defs) }
+    ensures ending { IfOk result (λ place.
+        (call : Meaning) (left : ℕ)
+        → unwound call waiting.old (walk_ending call def walk.entry left)
+        ≡ unwound call waiting.new (walk_ending call place.def place.walk left)) }
+    ensures fits { IfOk result (λ place.
+        (g : GroupTree) (first : ℕ)
+        → Waits g first waiting.old def
+        → WalkFits g def walk.entry
+        → def < length g.defs
+        → Waits g first waiting.new place.def
+        × WalkFits g place.def place.walk
+        × (place.def < length g.defs)) }
     ensures left { IfOk result (λ place. IsLeft place.walk → waiting.new ≡ []) }
 {
     let mut def = def;
@@ -179,11 +194,18 @@ fn resume<'a>(
     exit: u32,
     results: Args,
 ) -> Result<Walk<'a>, NoMemory>
-    requires { (g : GroupTree) × FrameFits g frame × ResultsFit g (slice_get (exits_at g frame.callee) exit) results }
-    ensures ending { IfOk result (λ w. (call : Meaning) (left : ℕ)
-        → arm_ending call frame.entry.def (arm_trees frame.entry.arms.now) exit (with_arguments (variables_of frame.entry.variables) (arguments results)) (needs_passed frame.entry.passed) left
-        ≡ walk_ending call frame.entry.def w left) }
-    ensures fits { IfOk result (λ w. (g : GroupTree) → FrameFits g frame.entry → ResultsFit g (slice_get (exits_at g frame.entry.callee) exit) results
+    requires { (g : GroupTree)
+        × FrameFits g frame
+        × ResultsFit g (slice_get (exits_at g frame.callee) exit) results }
+    ensures ending { IfOk result (λ w.
+        (call : Meaning) (left : ℕ)
+        → arm_ending call frame.entry.def (arm_trees frame.entry.arms.now) exit
+        (with_arguments (variables_of frame.entry.variables) (arguments results))
+        (needs_passed frame.entry.passed) left ≡ walk_ending call frame.entry.def w left) }
+    ensures fits { IfOk result (λ w.
+        (g : GroupTree)
+        → FrameFits g frame.entry
+        → ResultsFit g (slice_get (exits_at g frame.entry.callee) exit) results
         → WalkFits g frame.entry.def w) }
 {
     let arms = frame.arms;
@@ -206,8 +228,12 @@ fn done(
     results: Args,
     left: u64,
 ) -> Result<Outcome, NoMemory>
-    requires { ResultsFit (group_tree g.now) (slice_get (exits_at (group_tree g.now) def) exit) results }
-    ensures { IfOk result (λ o. outcome_of o ≡ done_by (slice_get (exits_at (group_tree g.now) def) exit) exit (arguments results) left) }
+    requires { ResultsFit (group_tree g.now) (slice_get (exits_at (group_tree g.now) def) exit)
+        results }
+    ensures { IfOk result (λ o.
+        outcome_of o
+        ≡ done_by (slice_get (exits_at (group_tree g.now) def) exit) exit (arguments results)
+        left) }
 {
     match exit_of(g, def, exit) {
         Exit::At(pc) => Ok(Outcome::Done {

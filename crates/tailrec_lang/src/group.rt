@@ -27,13 +27,14 @@ pub enum Step {
 pub enum End {
     /// Goes on with the first body where the condition is true, else with the second.
     Branch(Cond, Box<Body>, Box<Body>),
-    /// Enters the earlier definition of that number with these values, and goes on with the arm of the exit by
-    /// which it leaves. The results are the arm's next variables, the returned address first where there is one.
+    /// Enters the earlier definition of that number with these values, and goes on with the arm of
+    /// the exit by which it leaves. The results are the arm's next variables, the returned address
+    /// first where there is one.
     Call(u32, Values, List<Body>),
     /// Enters the definition again, with these values.
     Again(Values),
-    /// Leaves the definition by the exit of that number, with these values; the first is the address to which it
-    /// returns, where the exit is a return.
+    /// Leaves the definition by the exit of that number, with these values; the first is the
+    /// address to which it returns, where the exit is a return.
     Leave(u32, Values),
 }
 
@@ -54,8 +55,9 @@ pub enum Exit {
     Ret,
 }
 
-/// A definition: the address where its code is entered, its exits, and its body. Its parameters are one word
-/// for each register of the group, in order, and the group's memories, as the variables from 0 on.
+/// A definition: the address where its code is entered, its exits, and its body. Its parameters are
+/// one word for each register of the group, in order, and the group's memories, as the variables
+/// from 0 on.
 #[derive(Debug, Drop)]
 pub struct Def {
     pub entry: u64,
@@ -63,10 +65,10 @@ pub struct Def {
     pub body: Body,
 }
 
-/// The definitions that belong to one function, which is the last of them, and what they have in common: the
-/// function's name, the numbers of the registers that are its parameters, how many memories it has, and its code. In a
-/// text the registers rise from 1 to 31, and there are 0, 1 or, where the stack has one of its own, 2 memories; the type
-/// doesn't ask for it.
+/// The definitions that belong to one function, which is the last of them, and what they have in
+/// common: the function's name, the numbers of the registers that are its parameters, how many
+/// memories it has, and its code. In a text the registers rise from 1 to 31, and there are 0, 1 or,
+/// where the stack has one of its own, 2 memories; the type doesn't ask for it.
 #[derive(Debug, Drop)]
 pub struct Group {
     pub name: Text,

@@ -15,8 +15,8 @@ pub enum Skipped<'a> {
     Arms(&'a [Body]),
 }
 
-/// How many Needs were met on the way, and what was passed over. The Needs in that are counted only where their number is
-/// wanted, so that a turn costs nothing for the bodies that it doesn't enter.
+/// How many Needs were met on the way, and what was passed over. The Needs in that are counted only
+/// where their number is wanted, so that a turn costs nothing for the bodies that it doesn't enter.
 #[derive(Drop)]
 pub struct Passed<'a> {
     pub met: u64,
@@ -36,7 +36,8 @@ impl<'a> Passed<'a> {
 
     /// Passes over what isn't entered.
     pub fn skip(&mut self, skipped: Skipped<'a>) -> Result<(), NoMemory>
-        ensures { OnOk result (needs_passed self.new ≡ needs_passed self.old + needs_skipped skipped.entry) }
+        ensures { OnOk result (needs_passed self.new
+            ≡ needs_passed self.old + needs_skipped skipped.entry) }
     {
         self.skipped.push(skipped)?;
         Ok(())

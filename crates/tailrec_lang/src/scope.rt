@@ -17,7 +17,8 @@ pub struct BadDef {
     pub def: u32,
 }
 
-/// How many variables are in scope: 2^32 where there are more, since the numbers of variables have 32 bits.
+/// How many variables are in scope: 2^32 where there are more, since the numbers of variables have
+/// 32 bits.
 #[derive(Clone, Copy)]
 struct Scope {
     words: usize,
@@ -93,8 +94,10 @@ fn both(a: bool, b: bool) -> bool
 /// Whether there is an arm for each exit, and all of them are well-formed.
 #[cycle(bodies)]
 fn are_arms_well_formed(g: &Group, d: usize, exits: &[Exit], arms: &[Body], scope: Scope) -> bool
-    ensures { (w m : ℕ) → Counts scope w m
-        → (IsTrue result ↔ ArmsAreWellFormed (group_tree g.now) d exits.now (arm_trees arms.now) w m) }
+    ensures { (w m : ℕ)
+        → Counts scope w m
+        → (IsTrue result
+        ↔ ArmsAreWellFormed (group_tree g.now) d exits.now (arm_trees arms.now) w m) }
 {
     if arms.len() != exits.len() {
         return false;
@@ -111,9 +114,16 @@ fn are_arms_well_formed(g: &Group, d: usize, exits: &[Exit], arms: &[Body], scop
 
 /// The scope after the steps, if their variables are in scope.
 fn scope_after(steps: &[Step], scope: Scope) -> Option<Scope>
-    ensures some { IfSome result (λ after. (w m : ℕ) → Counts scope w m → StepsInScope (map step_tree steps.now) w m
-        × Counts after (words_after_all (map step_tree steps.now) w) (mems_after_all (map step_tree steps.now) m)) }
-    ensures none { IfNone result ((w m : ℕ) → Counts scope w m → StepsInScope (map step_tree steps.now) w m → ⊥) }
+    ensures some { IfSome result (λ after.
+        (w m : ℕ)
+        → Counts scope w m
+        → StepsInScope (map step_tree steps.now) w m
+        × Counts after (words_after_all (map step_tree steps.now) w)
+        (mems_after_all (map step_tree steps.now) m)) }
+    ensures none { IfNone result ((w m : ℕ)
+        → Counts scope w m
+        → StepsInScope (map step_tree steps.now) w m
+        → ⊥) }
 {
     let mut after = scope;
     for step in steps {
@@ -126,7 +136,9 @@ fn scope_after(steps: &[Step], scope: Scope) -> Option<Scope>
 }
 
 fn is_step_counted(step: &Step, scope: Scope) -> bool
-    ensures { (w m : ℕ) → Counts scope w m → (IsTrue result ↔ StepInScope (step_tree step.now) w m) }
+    ensures { (w m : ℕ)
+        → Counts scope w m
+        → (IsTrue result ↔ StepInScope (step_tree step.now) w m) }
 {
     match step {
         Step::Bind(t) => is_word_counted(t, scope),
@@ -137,7 +149,9 @@ fn is_step_counted(step: &Step, scope: Scope) -> bool
 
 /// The scope after a step.
 fn next_scope(step: &Step, scope: Scope) -> Scope
-    ensures { (w m : ℕ) → Counts scope w m → Counts result (words_after (step_tree step.now) w) (mems_after (step_tree step.now) m) }
+    ensures { (w m : ℕ)
+        → Counts scope w m
+        → Counts result (words_after (step_tree step.now) w) (mems_after (step_tree step.now) m) }
 {
     match step {
         Step::Bind(_) => with_more(scope, 1, 0),
@@ -166,7 +180,8 @@ fn with_more(scope: Scope, words: usize, mems: usize) -> Scope
     )
 }
 
-/// How many words an exit is left with: one for each register, and the returned address where there is one.
+/// How many words an exit is left with: one for each register, and the returned address where there
+/// is one.
 pub fn results_at(g: &Group, exit: Exit) -> usize
     ensures { result ≡ exit_words (group_tree g.now) exit }
 {
@@ -178,7 +193,8 @@ pub fn results_at(g: &Group, exit: Exit) -> usize
 
 /// The definition of that number, if there is one.
 pub fn def_at(g: &Group, def: usize) -> Option<&Def>
-    ensures some { IfSome result (λ d. slice_get (group_tree g.now).defs def ≡ Some (def_tree d.now)) }
+    ensures some { IfSome result (λ d.
+        slice_get (group_tree g.now).defs def ≡ Some (def_tree d.now)) }
     ensures none { IfNone result (slice_get (group_tree g.now).defs def ≡ None) }
 {
     g.defs.get(def)
@@ -218,14 +234,18 @@ fn has_counts(values: &Values, words: usize, mems: usize) -> bool
 }
 
 fn are_values_counted(values: &Values, scope: Scope) -> bool
-    ensures { (w m : ℕ) → Counts scope w m → (IsTrue result ↔ ValuesInScope (values_tree values.now) w m) }
+    ensures { (w m : ℕ)
+        → Counts scope w m
+        → (IsTrue result ↔ ValuesInScope (values_tree values.now) w m) }
 {
     are_words_counted(values.words.as_slice(), scope)
         && are_mems_counted(values.mems.as_slice(), scope)
 }
 
 fn are_words_counted(terms: &[Word], scope: Scope) -> bool
-    ensures { (w m : ℕ) → Counts scope w m → (IsTrue result ↔ All (λ t. WordInScope t w m) (map word_tree terms.now)) }
+    ensures { (w m : ℕ)
+        → Counts scope w m
+        → (IsTrue result ↔ All (λ t. WordInScope t w m) (map word_tree terms.now)) }
 {
     for t in terms {
         if !is_word_counted(t, scope) {
@@ -236,7 +256,9 @@ fn are_words_counted(terms: &[Word], scope: Scope) -> bool
 }
 
 fn are_mems_counted(terms: &[Mem], scope: Scope) -> bool
-    ensures { (w m : ℕ) → Counts scope w m → (IsTrue result ↔ All (λ t. MemInScope t w m) (map mem_tree terms.now)) }
+    ensures { (w m : ℕ)
+        → Counts scope w m
+        → (IsTrue result ↔ All (λ t. MemInScope t w m) (map mem_tree terms.now)) }
 {
     for t in terms {
         if !is_mem_counted(t, scope) {

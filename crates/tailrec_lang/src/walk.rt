@@ -27,7 +27,8 @@ pub enum Transfer<'a> {
     False,
 }
 
-/// Where a body gives control on, its variables there if a call waits with them, and what of its definition stands before that place.
+/// Where a body gives control on, its variables there if a call waits with them, and what of its
+/// definition stands before that place.
 #[derive(Drop)]
 pub struct Walk<'a> {
     pub variables: Args,
@@ -42,12 +43,18 @@ pub fn go_through<'a>(
     variables: Args,
     passed: Passed<'a>,
 ) -> Result<Walk<'a>, NoMemory>
-    requires scope { (g : GroupTree) × (d : ℕ) × BodyIsWellFormed g d (body_tree body.now) (length variables.words) (length variables.mems) }
+    requires scope { (g : GroupTree) × (d : ℕ)
+        × BodyIsWellFormed g d (body_tree body.now) (length variables.words)
+        (length variables.mems) }
     requires needs { needs_passed passed + needs (body_tree body.now) < 2 ^ 64 }
-    ensures ending { IfOk result (λ w. (call : Meaning) (d left : ℕ)
-        → body_ending call d (body_tree body.now) (variables_of variables) (needs_passed passed.entry) left ≡ walk_ending call d w left) }
-    ensures fits { IfOk result (λ w. (g : GroupTree) (d : ℕ)
-        → BodyIsWellFormed g d (body_tree body.now) (length variables.words) (length variables.mems) → WalkFits g d w) }
+    ensures ending { IfOk result (λ w.
+        (call : Meaning) (d left : ℕ)
+        → body_ending call d (body_tree body.now) (variables_of variables)
+        (needs_passed passed.entry) left ≡ walk_ending call d w left) }
+    ensures fits { IfOk result (λ w.
+        (g : GroupTree) (d : ℕ)
+        → BodyIsWellFormed g d (body_tree body.now) (length variables.words) (length variables.mems)
+        → WalkFits g d w) }
 {
     let mut variables = variables;
     let mut passed = passed;
@@ -106,15 +113,26 @@ fn take_steps(
     passed: &mut Passed<'_>,
 ) -> Result<bool, NoMemory>
     requires scope { (g : GroupTree) × (d : ℕ) × (rest : BodyTree)
-        × BodyIsWellFormed g d (with_steps (map step_tree steps.now) rest) (length variables.old.words) (length variables.old.mems) }
+        × BodyIsWellFormed g d (with_steps (map step_tree steps.now) rest)
+        (length variables.old.words) (length variables.old.mems) }
     requires needs { needs_passed passed.old + steps_need (map step_tree steps.now) < 2 ^ 64 }
-    ensures ending { IfOk result (λ all. (call : Meaning) (d left : ℕ) (rest : BodyTree)
-        → body_ending call d (with_steps (map step_tree steps.now) rest) (variables_of variables.old) (needs_passed passed.old) left
-        ≡ cond all (body_ending call d rest (variables_of variables.new) (needs_passed passed.new) left) (NeedFalse d (needs_passed passed.new))) }
-    ensures needs { IfOk result (λ all. IsTrue all → needs_passed passed.new ≡ needs_passed passed.old + steps_need (map step_tree steps.now)) }
+    ensures ending { IfOk result (λ all.
+        (call : Meaning) (d left : ℕ) (rest : BodyTree)
+        → body_ending call d (with_steps (map step_tree steps.now) rest)
+        (variables_of variables.old) (needs_passed passed.old) left
+        ≡ cond all
+        (body_ending call d rest (variables_of variables.new) (needs_passed passed.new) left)
+        (NeedFalse d (needs_passed passed.new))) }
+    ensures needs { IfOk result (λ all.
+        IsTrue all
+        → needs_passed passed.new
+        ≡ needs_passed passed.old + steps_need (map step_tree steps.now)) }
     ensures few { IfOk result (λ _. needs_passed passed.new < 2 ^ 64) }
-    ensures scope { IfOk result (λ all. IsTrue all → (g : GroupTree) (d : ℕ) (rest : BodyTree)
-        → BodyIsWellFormed g d (with_steps (map step_tree steps.now) rest) (length variables.old.words) (length variables.old.mems)
+    ensures scope { IfOk result (λ all.
+        IsTrue all
+        → (g : GroupTree) (d : ℕ) (rest : BodyTree)
+        → BodyIsWellFormed g d (with_steps (map step_tree steps.now) rest)
+        (length variables.old.words) (length variables.old.mems)
         → BodyIsWellFormed g d rest (length variables.new.words) (length variables.new.mems)) }
 {
     for step in steps {
@@ -129,7 +147,8 @@ fn take_steps(
 
 /// Whether evaluation goes on after a step.
 fn holds(step: &Step, variables: &Args) -> bool
-    requires { StepInScope (step_tree step.now) (length variables.now.words) (length variables.now.mems) }
+    requires { StepInScope (step_tree step.now) (length variables.now.words)
+        (length variables.now.mems) }
     ensures { result ≡ step_holds (step_tree step.now) (variables_of variables.now) }
 {
     match step {
@@ -142,10 +161,14 @@ fn holds(step: &Step, variables: &Args) -> bool
 /// Adds the step's variable, if it has one.
 #[tactic(auto, using(crate::proofs::Environments::variables_word, crate::proofs::Environments::variables_mem))]
 fn add_variable(alloc: Global, step: &Step, variables: &mut Args) -> Result<(), NoMemory>
-    requires { StepInScope (step_tree step.now) (length variables.old.words) (length variables.old.mems) }
-    ensures after { OnOk result (variables_of variables.new ≡ after_step (step_tree step.now) (variables_of variables.old)) }
-    ensures words { OnOk result (length variables.new.words ≡ words_after (step_tree step.now) (length variables.old.words)) }
-    ensures mems { OnOk result (length variables.new.mems ≡ mems_after (step_tree step.now) (length variables.old.mems)) }
+    requires { StepInScope (step_tree step.now) (length variables.old.words)
+        (length variables.old.mems) }
+    ensures after { OnOk result (variables_of variables.new
+        ≡ after_step (step_tree step.now) (variables_of variables.old)) }
+    ensures words { OnOk result (length variables.new.words
+        ≡ words_after (step_tree step.now) (length variables.old.words)) }
+    ensures mems { OnOk result (length variables.new.mems
+        ≡ mems_after (step_tree step.now) (length variables.old.mems)) }
 {
     match step {
         Step::Bind(t) => {

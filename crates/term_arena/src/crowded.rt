@@ -9,7 +9,8 @@ use rv_words::{Cmp, Ext, Op, Width};
 use std::alloc::Global;
 use std::collections::BTreeMap;
 
-/// A node's form, the operation or the width that it has, and its further numbers. They tell the node from each other one.
+/// A node's form, the operation or the width that it has, and its further numbers. They tell the
+/// node from each other one.
 type Key = (u64, u64, u64, u64, u64);
 
 /// The numbers of nodes by the order of their keys.
@@ -50,7 +51,8 @@ impl Crowded {
         }
     }
 
-    /// Puts the number under the node's key, unless there is one or no memory for it. Tells whether it did.
+    /// Puts the number under the node's key, unless there is one or no memory for it. Tells whether
+    /// it did.
     pub fn put(&mut self, n: Node, k: u64) -> bool
         ensures { IsPut n k result (numbers_in self.old) (numbers_in self.new) }
     {

@@ -12,7 +12,8 @@ use std::sync::ledger::{Blank, Ledger};
 use word_terms::{Cond, Mem, Word};
 
 impl Arena {
-    /// The number of a word. Where no memory is left, each number that was given stands for what it did.
+    /// The number of a word. Where no memory is left, each number that was given stands for what it
+    /// did.
     pub fn intern_word(&mut self, t: &Word) -> Result<u64, NoMemory>
         ensures tree { IfOk result (λ k. tree_of self.new k ≡ Just (OfWord (word_tree t.now))) }
         ensures grows { Extends self.old self.new }

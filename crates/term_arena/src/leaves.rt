@@ -29,7 +29,9 @@ impl FirstLeaves {
     /// The number of a node, where it is one of these and has one.
     #[inline(always)]
     pub fn number_of(&self, n: Node) -> Option<u64>
-        ensures { (ns : List NodeOf) → ArePlaced ns self.now → IfSome result (λ k. slice_get ns k ≡ Just n) }
+        ensures { (ns : List NodeOf)
+            → ArePlaced ns self.now
+            → IfSome result (λ k. slice_get ns k ≡ Just n) }
     {
         match n {
             Node::Const(n) => number_at(&self.consts, n as usize),
@@ -41,7 +43,10 @@ impl FirstLeaves {
 
     /// Writes one more than the number of the last node, if it is one of these.
     pub fn note(&mut self, n: Node, link: u64)
-        ensures { (ns : List NodeOf) → ArePlaced ns self.old → link ≡ length ns + 1 → ArePlaced (ns ++ n ∷ []) self.new }
+        ensures { (ns : List NodeOf)
+            → ArePlaced ns self.old
+            → link ≡ length ns + 1
+            → ArePlaced (ns ++ n ∷ []) self.new }
     {
         match n {
             Node::Const(n) => note_at(&mut self.consts, n as usize, link),
@@ -68,7 +73,10 @@ fn number_at(places: &[u64], i: usize) -> Option<u64>
 
 /// Writes a place, if there is one.
 fn note_at(places: &mut [u64], i: usize, link: u64)
-    ensures { (of : ℕ → NodeOf) (ns : List NodeOf) → IsPlaced of ns places.old → link ≡ length ns + 1 → IsPlaced of (ns ++ of i ∷ []) places.new }
+    ensures { (of : ℕ → NodeOf) (ns : List NodeOf)
+        → IsPlaced of ns places.old
+        → link ≡ length ns + 1
+        → IsPlaced of (ns ++ of i ∷ []) places.new }
 {
     if i < places.len() {
         places[i] = link;

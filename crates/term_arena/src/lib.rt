@@ -1,10 +1,13 @@
-//! Terms by numbers: an arena keeps each term once, so two of its numbers are equal exactly where their terms are.
+//! Terms by numbers: an arena keeps each term once, so two of its numbers are equal exactly where
+//! their terms are.
 //!
-//! `arena.put_word(&t, &mut steps)?` gives the number of a term, and puts it and what stands in it into the arena where they
-//! aren't there yet; `arena.add(node, &mut steps)?` does so for a `Node`, whose children are numbers. `arena.node(k, &mut steps)`
-//! is the node of a number. `Steps` counts the nodes that were looked at, so that contracts above can say how many are.
+//! `arena.put_word(&t, &mut steps)?` gives the number of a term, and puts it and what stands in it
+//! into the arena where they aren't there yet; `arena.add(node, &mut steps)?` does so for a `Node`,
+//! whose children are numbers. `arena.node(k, &mut steps)` is the node of a number. `Steps` counts
+//! the nodes that were looked at, so that contracts above can say how many are.
 //!
-//! The law that matters is `law_of_arenas`: numbers are equal exactly where their trees are, and keep them when there are more.
+//! The law that matters is `law_of_arenas`: numbers are equal exactly where their trees are, and
+//! keep them when there are more.
 #![tactic(auto)]
 
 mod arena;

@@ -13,12 +13,14 @@ use std::sync::ledger::Ledger;
 use word_terms::{Cond, Mem, Word};
 
 impl Arena {
-    /// The number of a word. It takes at most a step for each node. Mostly it is a variable or a constant.
+    /// The number of a word. It takes at most a step for each node. Mostly it is a variable or a
+    /// constant.
     #[inline(always)]
     pub fn put_word<L: Ledger>(&mut self, t: &Word, steps: &mut Steps<L>) -> Result<u64, NoMemory>
         ensures tree { IfOk result (λ k. tree_of self.new k ≡ Just (OfWord (word_tree t.now))) }
         ensures grows { Extends self.old self.new }
-        ensures order { IfOk result (λ _. ArePutIn (trees_of self.old) (word_subterms (word_tree t.now)) (trees_of self.new)) }
+        ensures order { IfOk result (λ _.
+            ArePutIn (trees_of self.old) (word_subterms (word_tree t.now)) (trees_of self.new)) }
         ensures steps { steps.new ≤ steps.old + word_nodes (word_tree t.now) }
     {
         match t {
@@ -33,7 +35,8 @@ impl Arena {
     fn put_parts<L: Ledger>(&mut self, t: &Word, steps: &mut Steps<L>) -> Result<u64, NoMemory>
         ensures tree { IfOk result (λ k. tree_of self.new k ≡ Just (OfWord (word_tree t.now))) }
         ensures grows { Extends self.old self.new }
-        ensures order { IfOk result (λ _. ArePutIn (trees_of self.old) (word_subterms (word_tree t.now)) (trees_of self.new)) }
+        ensures order { IfOk result (λ _.
+            ArePutIn (trees_of self.old) (word_subterms (word_tree t.now)) (trees_of self.new)) }
         ensures steps { steps.new ≤ steps.old + word_nodes (word_tree t.now) }
     {
         match t {
@@ -61,7 +64,8 @@ impl Arena {
     pub fn put_mem<L: Ledger>(&mut self, t: &Mem, steps: &mut Steps<L>) -> Result<u64, NoMemory>
         ensures tree { IfOk result (λ k. tree_of self.new k ≡ Just (OfMem (mem_tree t.now))) }
         ensures grows { Extends self.old self.new }
-        ensures order { IfOk result (λ _. ArePutIn (trees_of self.old) (mem_subterms (mem_tree t.now)) (trees_of self.new)) }
+        ensures order { IfOk result (λ _.
+            ArePutIn (trees_of self.old) (mem_subterms (mem_tree t.now)) (trees_of self.new)) }
         ensures steps { steps.new ≤ steps.old + mem_nodes (mem_tree t.now) }
     {
         match t {
@@ -79,7 +83,8 @@ impl Arena {
     pub fn put_cond<L: Ledger>(&mut self, t: &Cond, steps: &mut Steps<L>) -> Result<u64, NoMemory>
         ensures tree { IfOk result (λ k. tree_of self.new k ≡ Just (OfCond (cond_tree t.now))) }
         ensures grows { Extends self.old self.new }
-        ensures order { IfOk result (λ _. ArePutIn (trees_of self.old) (cond_subterms (cond_tree t.now)) (trees_of self.new)) }
+        ensures order { IfOk result (λ _.
+            ArePutIn (trees_of self.old) (cond_subterms (cond_tree t.now)) (trees_of self.new)) }
         ensures steps { steps.new ≤ steps.old + cond_nodes (cond_tree t.now) }
     {
         match t {

@@ -23,7 +23,7 @@ use Rattle.short_text.proofs.ReadLaws.{shorts_known}
 use Rattle.checker.specs.declared.verdict.Verdict.{Verdict}
 use Rattle.checker.specs.declared.verdict.Verdict.TheVariants as verdict
 use Rattle.checker.specs.Instance.{History, after_line, no_lines}
-use Rattle.checker.specs.Headline.{Headline}
+use Rattle.claims.specs.Headline.{Headline}
 use Rattle.checker.specs.LineRules.{AllLeave, IsProvedOver, IsTextOver, SaysOver}
 use Rattle.checker.specs.Verdicts.{IsAcceptance}
 use Rattle.checker.proofs.SoundLemmas.{accepted-right}

@@ -11,7 +11,8 @@ use rv_words::{List, NoMemory};
 use std::alloc::Global;
 use std::collections::BTreeMap;
 
-/// A fact of a theorem, the one at that place among its facts, that was found at a place of the way, and the stamp that this place then had.
+/// A fact of a theorem, the one at that place among its facts, that was found at a place of the
+/// way, and the stamp that this place then had.
 #[derive(Clone, Copy)]
 pub(crate) struct Found {
     pub fact: usize,
@@ -21,9 +22,10 @@ pub(crate) struct Found {
 /// The places of the way at which facts of a theorem were found.
 pub(crate) type Places = BTreeMap<usize, Found>;
 
-/// The theorems that begin at a definition's entry, within the group's code, as far as that was asked; and of each one the places of the way
-/// at which its facts were found. A place of the way gets a new stamp each time that a fact comes there, so a fact stands where it
-/// was found while that place has the stamp; and then so do those that were found before it on the way.
+/// The theorems that begin at a definition's entry, within the group's code, as far as that was
+/// asked; and of each one the places of the way at which its facts were found. A place of the way
+/// gets a new stamp each time that a fact comes there, so a fact stands where it was found while
+/// that place has the stamp; and then so do those that were found before it on the way.
 #[derive(Drop)]
 pub(crate) struct Asked {
     /// The stamp of each place of the way.
@@ -46,7 +48,9 @@ impl Asked {
 
     /// A fact came at the end of the way.
     pub fn push(&mut self) -> Result<(), NoMemory>
-        ensures { (c : Closing) (way : Items FactTree) (f : FactTree) → AreAsked c way self.old → AreAsked c (way ++ f ∷ []) self.new }
+        ensures { (c : Closing) (way : Items FactTree) (f : FactTree)
+            → AreAsked c way self.old
+            → AreAsked c (way ++ f ∷ []) self.new }
     {
         let stamp = self.next;
         let Some(next) = stamp.checked_add(1) else {
@@ -59,7 +63,9 @@ impl Asked {
 
     /// The last facts of the way went, up to that many.
     pub fn shorten(&mut self, length: usize)
-        ensures { (c : Closing) (way : Items FactTree) → AreAsked c way self.old → AreAsked c (take length way) self.new }
+        ensures { (c : Closing) (way : Items FactTree)
+            → AreAsked c way self.old
+            → AreAsked c (take length way) self.new }
     {
         self.stamps.truncate(length);
     }
@@ -81,16 +87,22 @@ impl Asked {
         }
     }
 
-    /// Takes out the theorem, of so many facts: the places at which some of them still stand, and the others. Where the theorem wasn't
-    /// asked for, these are all of them.
+    /// Takes out the theorem, of so many facts: the places at which some of them still stand, and
+    /// the others. Where the theorem wasn't asked for, these are all of them.
     pub fn take(
         &mut self,
         alloc: Global,
         number: u64,
         many: usize,
     ) -> Result<(Places, List<usize>), NoMemory>
-        ensures found { IfOk result (λ r. (way facts : Items FactTree) → length facts ≡ many → KnowsPlaces way number self.old facts → AreFound self.new.stamps way facts r.0 r.1) }
-        ensures asked { (c : Closing) (way : Items FactTree) → AreAsked c way self.old → AreAsked c way self.new }
+        ensures found { IfOk result (λ r.
+            (way facts : Items FactTree)
+            → length facts ≡ many
+            → KnowsPlaces way number self.old facts
+            → AreFound self.new.stamps way facts r.0 r.1) }
+        ensures asked { (c : Closing) (way : Items FactTree)
+            → AreAsked c way self.old
+            → AreAsked c way self.new }
     {
         match self.theorems.remove(&number) {
             Some(mut places) => {
@@ -104,9 +116,14 @@ impl Asked {
         }
     }
 
-    /// Notes that the fact of a theorem is at that place of the way. A place that got no stamp was left without for want of memory.
+    /// Notes that the fact of a theorem is at that place of the way. A place that got no stamp was
+    /// left without for want of memory.
     pub fn note(&self, places: &mut Places, place: usize, fact: usize) -> Result<(), NoMemory>
-        ensures { OnOk result ((way facts : Items FactTree) (f : FactTree) (rest : Items ℕ) → slice_get facts fact ≡ Just f → slice_get way place ≡ Just f → AreFound self.now.stamps way facts places.old (fact ∷ rest) → AreFound self.now.stamps way facts places.new rest) }
+        ensures { OnOk result ((way facts : Items FactTree) (f : FactTree) (rest : Items ℕ)
+            → slice_get facts fact ≡ Just f
+            → slice_get way place ≡ Just f
+            → AreFound self.now.stamps way facts places.old (fact ∷ rest)
+            → AreFound self.now.stamps way facts places.new rest) }
     {
         let Some(stamp) = self.stamps.get(place) else {
             return Err(NoMemory);
@@ -119,9 +136,15 @@ impl Asked {
         Ok(())
     }
 
-    /// Keeps that the theorem begins at the entry, and its facts are at those places of the way, if there is memory for that.
+    /// Keeps that the theorem begins at the entry, and its facts are at those places of the way, if
+    /// there is memory for that.
     pub fn keep(&mut self, number: u64, places: Places)
-        ensures { (c : Closing) (way : Items FactTree) (t : TripleTree) → c.theorem number ≡ Just t → Begins c.group c.def t → AreFound self.old.stamps way t.facts places [] → AreAsked c way self.old → AreAsked c way self.new }
+        ensures { (c : Closing) (way : Items FactTree) (t : TripleTree)
+            → c.theorem number ≡ Just t
+            → Begins c.group c.def t
+            → AreFound self.old.stamps way t.facts places []
+            → AreAsked c way self.old
+            → AreAsked c way self.new }
     {
         let _ = self.theorems.insert(number, places);
     }

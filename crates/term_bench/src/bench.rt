@@ -44,13 +44,15 @@ use tailrec_lang::Group;
 use term_arena::{Arena, Node, Steps};
 use triple_kernel::{RuleFault, Triple};
 
-/// How many facts the theorems of a group have together, those that are forgotten too: more than a text of version 1 within the limit
-/// of a file can state. In version 2 two lines can double the facts of a theorem.
+/// How many facts the theorems of a group have together, those that are forgotten too: more than a
+/// text of version 1 within the limit of a file can state. In version 2 two lines can double the
+/// facts of a theorem.
 const FACTS_LIMIT: u64 = 1 << 25;
 
-/// Judges the lines of a group's proof, one after the other. It keeps their terms once each, how deep they are, as far as that
-/// was asked, room for the images that an instance makes, the theorems that can still be cited as numbers of terms, which
-/// definitions are closed, the group's code, for theorems to share, and which of them are known to have it. A theorem that is forgotten
+/// Judges the lines of a group's proof, one after the other. It keeps their terms once each, how
+/// deep they are, as far as that was asked, room for the images that an instance makes, the
+/// theorems that can still be cited as numbers of terms, which definitions are closed, the group's
+/// code, for theorems to share, and which of them are known to have it. A theorem that is forgotten
 /// leaves no place behind it, while the arena keeps its terms.
 #[derive(Drop)]
 pub struct Bench<'g> {
@@ -64,7 +66,8 @@ pub struct Bench<'g> {
     facts: u64,
     closed: List<bool>,
     code: SharedCode,
-    /// Theorems that have the group's own code: those that a line states so, as far as there is room to keep it.
+    /// Theorems that have the group's own code: those that a line states so, as far as there is
+    /// room to keep it.
     marked: BTreeSet<u64>,
 }
 
@@ -133,8 +136,9 @@ impl<'g> Bench<'g> {
         self.arena.len()
     }
 
-    /// Judges the next line, where there is no further rule. After a refusal the theorems and the closed definitions are as before;
-    /// the arena may have more terms. What it takes is said of `judge_by`.
+    /// Judges the next line, where there is no further rule. After a refusal the theorems and the
+    /// closed definitions are as before; the arena may have more terms. What it takes is said of
+    /// `judge_by`.
     pub fn judge<L: Ledger>(
         &mut self,
         alloc: Global,
@@ -142,24 +146,37 @@ impl<'g> Bench<'g> {
         steps: &mut Steps<L>,
     ) -> Result<(), RuleFault>
         ensures group { self.new.0 ≡ self.old.0 }
-        ensures instance { OnOk result (Instance (state_group self.old) (state_history self.old) (line_tree line.now)) }
-        ensures after { OnOk result (state_history self.new ≡ after_line (state_history self.old) (line_tree line.now)) }
-        ensures no_instance { IsErrOf result RuleFault.NoInstance → Instance (state_group self.old) (state_history self.old) (line_tree line.now) → ⊥ }
+        ensures instance { OnOk result (Instance (state_group self.old) (state_history self.old)
+            (line_tree line.now)) }
+        ensures after { OnOk result (state_history self.new
+            ≡ after_line (state_history self.old) (line_tree line.now)) }
+        ensures no_instance { IsErrOf result RuleFault.NoInstance
+            → Instance (state_group self.old) (state_history self.old) (line_tree line.now)
+            → ⊥ }
         ensures same { OnErr result (state_history self.new ≡ state_history self.old) }
         ensures grows { Extends (state_nodes self.old) (state_nodes self.new) }
-        ensures steps { is_compared (line_tree line.now) ≡ true → steps.new ≤ steps.old + nodes_of (stated_triple_terms (line_tree line.now)) }
-        ensures most { is_loop (line_tree line.now) ≡ false → (ts : Items Tree) → HasLine (state_history self.old).theorem (line_tree line.now) ts → steps.new ≤ steps.old + (nodes_of (whole_line_terms (line_tree line.now)) + pair_steps ts) }
-        ensures closing { is_loop (line_tree line.now) ≡ true → steps.new ≤ steps.old + nodes_of (loop_terms (state_group self.old) (line_tree line.now)) }
+        ensures steps { is_compared (line_tree line.now) ≡ true
+            → steps.new ≤ steps.old + nodes_of (stated_triple_terms (line_tree line.now)) }
+        ensures most { is_loop (line_tree line.now) ≡ false
+            → (ts : Items Tree)
+            → HasLine (state_history self.old).theorem (line_tree line.now) ts
+            → steps.new
+            ≤ steps.old + (nodes_of (whole_line_terms (line_tree line.now)) + pair_steps ts) }
+        ensures closing { is_loop (line_tree line.now) ≡ true
+            → steps.new
+            ≤ steps.old + nodes_of (loop_terms (state_group self.old) (line_tree line.now)) }
     {
         self.judge_by(alloc, &NoRule, line, steps)
     }
 
-    /// Judges the next line of a text with that further rule. After a refusal the theorems and the closed definitions are as before;
-    /// the arena may have more terms. A theorem whose number's successor has more than 64 bits is refused as for want of memory. A
-    /// line by `frame`, `compose` or `extend` takes at most a step for each node of the triple that it states, and one that forgets
-    /// takes none. One by any other rule takes at most one for each node of its terms and 4 (T + 1)^2 more, where T is how many
-    /// different terms its triple and the theorem that it cites have. One that closes a definition takes at most one for each node
-    /// of what each of its theorems has to state: the entry, the facts of the way and its end.
+    /// Judges the next line of a text with that further rule. After a refusal the theorems and the
+    /// closed definitions are as before; the arena may have more terms. A theorem whose number's
+    /// successor has more than 64 bits is refused as for want of memory. A line by `frame`,
+    /// `compose` or `extend` takes at most a step for each node of the triple that it states, and
+    /// one that forgets takes none. One by any other rule takes at most one for each node of its
+    /// terms and 4 (T + 1)^2 more, where T is how many different terms its triple and the theorem
+    /// that it cites have. One that closes a definition takes at most one for each node of what
+    /// each of its theorems has to state: the entry, the facts of the way and its end.
     pub fn judge_by<R: HeldRule, L: Ledger>(
         &mut self,
         alloc: Global,
@@ -168,20 +185,33 @@ impl<'g> Bench<'g> {
         steps: &mut Steps<L>,
     ) -> Result<(), RuleFault>
         ensures group { self.new.0 ≡ self.old.0 }
-        ensures instance { OnOk result (InstanceBy R.states (state_group self.old) (state_history self.old) (line_tree line.now)) }
-        ensures after { OnOk result (state_history self.new ≡ after_line (state_history self.old) (line_tree line.now)) }
-        ensures no_instance { IsErrOf result RuleFault.NoInstance → InstanceBy R.states (state_group self.old) (state_history self.old) (line_tree line.now) → ⊥ }
+        ensures instance { OnOk result (InstanceBy R.states (state_group self.old)
+            (state_history self.old) (line_tree line.now)) }
+        ensures after { OnOk result (state_history self.new
+            ≡ after_line (state_history self.old) (line_tree line.now)) }
+        ensures no_instance { IsErrOf result RuleFault.NoInstance
+            → InstanceBy R.states (state_group self.old) (state_history self.old)
+            (line_tree line.now)
+            → ⊥ }
         ensures same { OnErr result (state_history self.new ≡ state_history self.old) }
         ensures grows { Extends (state_nodes self.old) (state_nodes self.new) }
-        ensures steps { is_compared (line_tree line.now) ≡ true → steps.new ≤ steps.old + nodes_of (stated_triple_terms (line_tree line.now)) }
-        ensures most { is_loop (line_tree line.now) ≡ false → (ts : Items Tree) → HasLine (state_history self.old).theorem (line_tree line.now) ts → steps.new ≤ steps.old + (nodes_of (whole_line_terms (line_tree line.now)) + pair_steps ts) }
-        ensures closing { is_loop (line_tree line.now) ≡ true → steps.new ≤ steps.old + nodes_of (loop_terms (state_group self.old) (line_tree line.now)) }
+        ensures steps { is_compared (line_tree line.now) ≡ true
+            → steps.new ≤ steps.old + nodes_of (stated_triple_terms (line_tree line.now)) }
+        ensures most { is_loop (line_tree line.now) ≡ false
+            → (ts : Items Tree)
+            → HasLine (state_history self.old).theorem (line_tree line.now) ts
+            → steps.new
+            ≤ steps.old + (nodes_of (whole_line_terms (line_tree line.now)) + pair_steps ts) }
+        ensures closing { is_loop (line_tree line.now) ≡ true
+            → steps.new
+            ≤ steps.old + nodes_of (loop_terms (state_group self.old) (line_tree line.now)) }
     {
         self.judge_spelled(alloc, by, line, false, steps)
     }
 
-    /// Judges the next line of a text with that further rule, as it is spelled: where `all` says so, the code of its triple is the
-    /// group's own, which is left out. What it takes is said of `judge_by`.
+    /// Judges the next line of a text with that further rule, as it is spelled: where `all` says
+    /// so, the code of its triple is the group's own, which is left out. What it takes is said of
+    /// `judge_by`.
     pub fn judge_spelled<R: HeldRule, L: Ledger>(
         &mut self,
         alloc: Global,
@@ -191,14 +221,37 @@ impl<'g> Bench<'g> {
         steps: &mut Steps<L>,
     ) -> Result<(), RuleFault>
         ensures group { self.new.0 ≡ self.old.0 }
-        ensures instance { OnOk result (InstanceBy R.states (state_group self.old) (state_history self.old) (line_or_own (state_group self.old).code all (line_tree line.now))) }
-        ensures after { OnOk result (state_history self.new ≡ after_line (state_history self.old) (line_or_own (state_group self.old).code all (line_tree line.now))) }
-        ensures no_instance { IsErrOf result RuleFault.NoInstance → InstanceBy R.states (state_group self.old) (state_history self.old) (line_or_own (state_group self.old).code all (line_tree line.now)) → ⊥ }
+        ensures instance { OnOk result (InstanceBy R.states (state_group self.old)
+            (state_history self.old)
+            (line_or_own (state_group self.old).code all (line_tree line.now))) }
+        ensures after { OnOk result (state_history self.new
+            ≡ after_line (state_history self.old) (line_or_own (state_group self.old).code all
+            (line_tree line.now))) }
+        ensures no_instance { IsErrOf result RuleFault.NoInstance
+            → InstanceBy R.states (state_group self.old) (state_history self.old)
+            (line_or_own (state_group self.old).code all (line_tree line.now))
+            → ⊥ }
         ensures same { OnErr result (state_history self.new ≡ state_history self.old) }
         ensures grows { Extends (state_nodes self.old) (state_nodes self.new) }
-        ensures steps { is_compared (line_or_own (state_group self.old).code all (line_tree line.now)) ≡ true → steps.new ≤ steps.old + nodes_of (stated_triple_terms (line_or_own (state_group self.old).code all (line_tree line.now))) }
-        ensures most { is_loop (line_or_own (state_group self.old).code all (line_tree line.now)) ≡ false → (ts : Items Tree) → HasLine (state_history self.old).theorem (line_or_own (state_group self.old).code all (line_tree line.now)) ts → steps.new ≤ steps.old + (nodes_of (whole_line_terms (line_or_own (state_group self.old).code all (line_tree line.now))) + pair_steps ts) }
-        ensures closing { is_loop (line_or_own (state_group self.old).code all (line_tree line.now)) ≡ true → steps.new ≤ steps.old + nodes_of (loop_terms (state_group self.old) (line_or_own (state_group self.old).code all (line_tree line.now))) }
+        ensures steps { is_compared (line_or_own (state_group self.old).code all
+            (line_tree line.now)) ≡ true
+            → steps.new
+            ≤ steps.old + nodes_of (stated_triple_terms (line_or_own (state_group self.old).code all
+            (line_tree line.now))) }
+        ensures most { is_loop (line_or_own (state_group self.old).code all (line_tree line.now))
+            ≡ false
+            → (ts : Items Tree)
+            → HasLine (state_history self.old).theorem
+            (line_or_own (state_group self.old).code all (line_tree line.now)) ts
+            → steps.new
+            ≤ steps.old + (nodes_of
+            (whole_line_terms (line_or_own (state_group self.old).code all (line_tree line.now))) +
+            pair_steps ts) }
+        ensures closing { is_loop (line_or_own (state_group self.old).code all (line_tree line.now))
+            ≡ true
+            → steps.new
+            ≤ steps.old + nodes_of (loop_terms (state_group self.old) (line_or_own
+            (state_group self.old).code all (line_tree line.now))) }
     {
         match line {
             Line::States { rule, stated } => self.state(alloc, rule, stated, all, steps),
@@ -210,9 +263,10 @@ impl<'g> Bench<'g> {
         }
     }
 
-    /// Judges the next line, which is short and over the numbers of the bench's terms: whether there is a triple within the limits
-    /// of texts that makes it right, which then is the next theorem. After a refusal the theorems and the closed definitions are
-    /// as before; the arena may have more terms.
+    /// Judges the next line, which is short and over the numbers of the bench's terms: whether
+    /// there is a triple within the limits of texts that makes it right, which then is the next
+    /// theorem. After a refusal the theorems and the closed definitions are as before; the arena
+    /// may have more terms.
     pub fn derive<L: Ledger>(
         &mut self,
         alloc: Global,
@@ -223,16 +277,20 @@ impl<'g> Bench<'g> {
         requires within { AreWithin (state_history self.old) }
         requires line { IsFineShort (state_nodes self.old) line.now }
         ensures group { self.new.0 ≡ self.old.0 }
-        ensures left { OnOk result (LeavesBehind (state_group self.old) (state_history self.old) (state_nodes self.old) line.now (state_history self.new)) }
-        ensures no_instance { IsErrOf result RuleFault.NoInstance → IsShortInstance (state_group self.old) (state_history self.old) (state_nodes self.old) line.now → ⊥ }
+        ensures left { OnOk result (LeavesBehind (state_group self.old) (state_history self.old)
+            (state_nodes self.old) line.now (state_history self.new)) }
+        ensures no_instance { IsErrOf result RuleFault.NoInstance
+            → IsShortInstance (state_group self.old) (state_history self.old) (state_nodes self.old)
+            line.now
+            → ⊥ }
         ensures same { OnErr result (state_history self.new ≡ state_history self.old) }
         ensures grows { Extends (state_nodes self.old) (state_nodes self.new) }
     {
         self.derive_spelled(alloc, line, false, steps)
     }
 
-    /// Judges the next line, likewise, as it is spelled: where `all` says so, the code by which it extends that of a theorem is the group's own,
-    /// which is left out.
+    /// Judges the next line, likewise, as it is spelled: where `all` says so, the code by which it
+    /// extends that of a theorem is the group's own, which is left out.
     pub fn derive_spelled<L: Ledger>(
         &mut self,
         alloc: Global,
@@ -242,10 +300,16 @@ impl<'g> Bench<'g> {
     ) -> Result<(), RuleFault>
         requires code { IsOwnCode (state_group self.old).code }
         requires within { AreWithin (state_history self.old) }
-        requires line { IsFineShort (state_nodes self.old) (short_or_own (state_group self.old).code all line.now) }
+        requires line { IsFineShort (state_nodes self.old) (short_or_own (state_group self.old).code
+            all line.now) }
         ensures group { self.new.0 ≡ self.old.0 }
-        ensures left { OnOk result (LeavesBehind (state_group self.old) (state_history self.old) (state_nodes self.old) (short_or_own (state_group self.old).code all line.now) (state_history self.new)) }
-        ensures no_instance { IsErrOf result RuleFault.NoInstance → IsShortInstance (state_group self.old) (state_history self.old) (state_nodes self.old) (short_or_own (state_group self.old).code all line.now) → ⊥ }
+        ensures left { OnOk result (LeavesBehind (state_group self.old) (state_history self.old)
+            (state_nodes self.old) (short_or_own (state_group self.old).code all line.now)
+            (state_history self.new)) }
+        ensures no_instance { IsErrOf result RuleFault.NoInstance
+            → IsShortInstance (state_group self.old) (state_history self.old) (state_nodes self.old)
+            (short_or_own (state_group self.old).code all line.now)
+            → ⊥ }
         ensures same { OnErr result (state_history self.new ≡ state_history self.old) }
         ensures grows { Extends (state_nodes self.old) (state_nodes self.new) }
     {
@@ -263,9 +327,11 @@ impl<'g> Bench<'g> {
         is_closed(self.closed.as_slice(), def)
     }
 
-    /// The theorem of that number, if it exists and wasn't forgotten, over the numbers of the bench's terms.
+    /// The theorem of that number, if it exists and wasn't forgotten, over the numbers of the
+    /// bench's terms.
     pub fn theorem(&self, k: u64) -> Option<&Held>
-        ensures theorem { option_map (triple_of (state_nodes self.now)) (option_copied result) ≡ (state_history self.now).theorem k }
+        ensures theorem { option_map (triple_of (state_nodes self.now)) (option_copied result)
+            ≡ (state_history self.now).theorem k }
         ensures there { IfSome (option_copied result) (λ h. IsHeldAt (state_nodes self.now) h) }
     {
         theorem(&self.arena, &self.held, k)
@@ -285,7 +351,8 @@ impl<'g> Bench<'g> {
         self.theorem(k).is_some()
     }
 
-    /// What holds of each bench: its theorems are valid, and the definitions that it has as closed are right.
+    /// What holds of each bench: its theorems are valid, and the definitions that it has as closed
+    /// are right.
     pub fn law_of_bench(&self)
         ensures well_formed { IsWellFormed (state_group self.now) }
         ensures sound { Sound (state_group self.now) (state_history self.now) }
@@ -305,13 +372,30 @@ impl<'g> Bench<'g> {
         steps: &mut Steps<L>,
     ) -> Result<(), RuleFault>
         ensures group { self.new.0 ≡ self.old.0 }
-        ensures instance { OnOk result (Meets (state_group self.old) (state_history self.old) (rule_tree rule.now) (triple_or_own (state_group self.old).code own (triple_tree stated.now))) }
-        ensures after { OnOk result (state_history self.new ≡ with_theorem (triple_or_own (state_group self.old).code own (triple_tree stated.now)) (state_history self.old)) }
-        ensures no_instance { IsErrOf result RuleFault.NoInstance → Meets (state_group self.old) (state_history self.old) (rule_tree rule.now) (triple_or_own (state_group self.old).code own (triple_tree stated.now)) → ⊥ }
+        ensures instance { OnOk result (Meets (state_group self.old) (state_history self.old)
+            (rule_tree rule.now)
+            (triple_or_own (state_group self.old).code own (triple_tree stated.now))) }
+        ensures after { OnOk result (state_history self.new
+            ≡ with_theorem (triple_or_own (state_group self.old).code own (triple_tree stated.now))
+            (state_history self.old)) }
+        ensures no_instance { IsErrOf result RuleFault.NoInstance
+            → Meets (state_group self.old) (state_history self.old) (rule_tree rule.now)
+            (triple_or_own (state_group self.old).code own (triple_tree stated.now))
+            → ⊥ }
         ensures same { OnErr result (state_history self.new ≡ state_history self.old) }
         ensures grows { Extends (state_nodes self.old) (state_nodes self.new) }
-        ensures steps { compares_numbers (rule_tree rule.now) ≡ true → steps.new ≤ steps.old + nodes_of (triple_terms (triple_or_own (state_group self.old).code own (triple_tree stated.now))) }
-        ensures most { (ts : Items Tree) → HasSubterms ts (triple_terms (triple_or_own (state_group self.old).code own (triple_tree stated.now))) → HasSubterms ts (premise_terms (state_history self.old).theorem (rule_tree rule.now)) → steps.new ≤ steps.old + (nodes_of (triple_terms (triple_or_own (state_group self.old).code own (triple_tree stated.now)) ++ put_in_terms (rule_tree rule.now)) + pair_steps ts) }
+        ensures steps { compares_numbers (rule_tree rule.now) ≡ true
+            → steps.new
+            ≤ steps.old + nodes_of (triple_terms (triple_or_own (state_group self.old).code own
+            (triple_tree stated.now))) }
+        ensures most { (ts : Items Tree)
+            → HasSubterms ts (triple_terms (triple_or_own (state_group self.old).code own
+            (triple_tree stated.now)))
+            → HasSubterms ts (premise_terms (state_history self.old).theorem (rule_tree rule.now))
+            → steps.new
+            ≤ steps.old + (nodes_of
+            (triple_terms (triple_or_own (state_group self.old).code own (triple_tree stated.now))
+            ++ put_in_terms (rule_tree rule.now)) + pair_steps ts) }
     {
         law_of_lines(&NoRule);
         self.law_of_bench();
@@ -336,12 +420,22 @@ impl<'g> Bench<'g> {
         steps: &mut Steps<L>,
     ) -> Result<(), RuleFault>
         ensures group { self.new.0 ≡ self.old.0 }
-        ensures instance { OnOk result (IsSomeAnd ((state_history self.old).theorem cited) (λ p. R.states p (triple_or_own (state_group self.old).code own (triple_tree stated.now)))) }
-        ensures after { OnOk result (state_history self.new ≡ with_theorem (triple_or_own (state_group self.old).code own (triple_tree stated.now)) (state_history self.old)) }
-        ensures no_instance { IsErrOf result RuleFault.NoInstance → IsSomeAnd ((state_history self.old).theorem cited) (λ p. R.states p (triple_or_own (state_group self.old).code own (triple_tree stated.now))) → ⊥ }
+        ensures instance { OnOk result (IsSomeAnd ((state_history self.old).theorem cited)
+            (λ p.
+            R.states p (triple_or_own (state_group self.old).code own (triple_tree stated.now)))) }
+        ensures after { OnOk result (state_history self.new
+            ≡ with_theorem (triple_or_own (state_group self.old).code own (triple_tree stated.now))
+            (state_history self.old)) }
+        ensures no_instance { IsErrOf result RuleFault.NoInstance
+            → IsSomeAnd ((state_history self.old).theorem cited) (λ p.
+            R.states p (triple_or_own (state_group self.old).code own (triple_tree stated.now)))
+            → ⊥ }
         ensures same { OnErr result (state_history self.new ≡ state_history self.old) }
         ensures grows { Extends (state_nodes self.old) (state_nodes self.new) }
-        ensures steps { steps.new ≤ steps.old + (nodes_of (triple_terms (triple_or_own (state_group self.old).code own (triple_tree stated.now))) + 1) }
+        ensures steps { steps.new
+            ≤ steps.old + (nodes_of
+            (triple_terms (triple_or_own (state_group self.old).code own (triple_tree stated.now)))
+            + 1) }
     {
         law_of_lines(by);
         self.law_of_bench();
@@ -364,10 +458,15 @@ impl<'g> Bench<'g> {
     ) -> Result<(), RuleFault>
         requires code { IsOwnCode (state_group self.old).code }
         requires within { AreWithin (state_history self.old) }
-        requires line { IsFineShort (state_nodes self.old) (short_or_own (state_group self.old).code all line.now) }
+        requires line { IsFineShort (state_nodes self.old) (short_or_own (state_group self.old).code
+            all line.now) }
         ensures group { self.new.0 ≡ self.old.0 }
-        ensures left { OnOk result (LeavesBehind (state_group self.old) (state_history self.old) (state_nodes self.old) (short_or_own (state_group self.old).code all line.now) (state_history self.new)) }
-        ensures no_instance { IsErrOf result RuleFault.NoInstance → IsNeverStated (state_group self.old) (state_history self.old) (state_nodes self.old) (short_or_own (state_group self.old).code all line.now) }
+        ensures left { OnOk result (LeavesBehind (state_group self.old) (state_history self.old)
+            (state_nodes self.old) (short_or_own (state_group self.old).code all line.now)
+            (state_history self.new)) }
+        ensures no_instance { IsErrOf result RuleFault.NoInstance
+            → IsNeverStated (state_group self.old) (state_history self.old) (state_nodes self.old)
+            (short_or_own (state_group self.old).code all line.now) }
         ensures same { OnErr result (state_history self.new ≡ state_history self.old) }
         ensures grows { Extends (state_nodes self.old) (state_nodes self.new) }
     {
@@ -382,10 +481,13 @@ impl<'g> Bench<'g> {
         Ok(())
     }
 
-    /// Whether the triple that the line states, where it is right, is known to have the group's own code.
+    /// Whether the triple that the line states, where it is right, is known to have the group's own
+    /// code.
     fn states_own(&self, line: &Short, all: bool) -> bool
         requires { IsOwnCode (state_group self.now).code }
-        ensures { IsTrue result → IsOwnStated (state_group self.now) (state_history self.now) (state_nodes self.now) (short_or_own (state_group self.now).code all line.now) }
+        ensures { IsTrue result
+            → IsOwnStated (state_group self.now) (state_history self.now) (state_nodes self.now)
+            (short_or_own (state_group self.now).code all line.now) }
     {
         states_own(&self.marked, line, all)
     }
@@ -400,8 +502,12 @@ impl<'g> Bench<'g> {
     ) -> Result<Option<Held>, NoMemory>
         requires code { IsOwnCode (state_group self.old).code }
         requires within { AreWithin (state_history self.old) }
-        requires line { IsFineShort (state_nodes self.old) (short_or_own (state_group self.old).code all line.now) }
-        ensures made { IfOk result (λ o. MadeIf (state_nodes self.new) (IsStatedBy (state_group self.old) (state_history self.old) (state_nodes self.old) (short_or_own (state_group self.old).code all line.now)) o) }
+        requires line { IsFineShort (state_nodes self.old) (short_or_own (state_group self.old).code
+            all line.now) }
+        ensures made { IfOk result (λ o.
+            MadeIf (state_nodes self.new)
+            (IsStatedBy (state_group self.old) (state_history self.old) (state_nodes self.old)
+            (short_or_own (state_group self.old).code all line.now)) o) }
         ensures group { self.new.0 ≡ self.old.0 }
         ensures same { state_history self.new ≡ state_history self.old }
         ensures grows { Extends (state_nodes self.old) (state_nodes self.new) }
@@ -430,7 +536,9 @@ impl<'g> Bench<'g> {
         own: bool,
         steps: &mut Steps<L>,
     ) -> Result<Held, NoMemory>
-        ensures put { IfOk result (λ h. IsHeldPut (state_nodes self.new) h (triple_or_own (state_group self.old).code own (triple_tree stated.now))) }
+        ensures put { IfOk result (λ h.
+            IsHeldPut (state_nodes self.new) h (triple_or_own (state_group self.old).code own
+            (triple_tree stated.now))) }
         ensures own { IfOk result (λ h. IsTrue own → h.code.ranges ≡ (state_group self.old).code) }
         ensures group { self.new.0 ≡ self.old.0 }
         ensures same { state_history self.new ≡ state_history self.old }
@@ -450,14 +558,22 @@ impl<'g> Bench<'g> {
         put: &Held,
         steps: &mut Steps<L>,
     ) -> Result<bool, NoMemory>
-        requires put { IsHeldPut (state_nodes self.old) put.now (triple_or_own (state_group self.old).code own (triple_tree stated.now)) }
+        requires put { IsHeldPut (state_nodes self.old) put.now
+            (triple_or_own (state_group self.old).code own (triple_tree stated.now)) }
         requires own { IsTrue own → put.now.code.ranges ≡ (state_group self.old).code }
-        ensures answer { IfOk result (λ r. IsTrue r ↔ Meets (state_group self.old) (state_history self.old) (rule_tree rule.now) (triple_or_own (state_group self.old).code own (triple_tree stated.now))) }
+        ensures answer { IfOk result (λ r.
+            IsTrue r
+            ↔ Meets (state_group self.old) (state_history self.old) (rule_tree rule.now)
+            (triple_or_own (state_group self.old).code own (triple_tree stated.now))) }
         ensures group { self.new.0 ≡ self.old.0 }
         ensures same { state_history self.new ≡ state_history self.old }
         ensures grows { Extends (state_nodes self.old) (state_nodes self.new) }
         ensures steps { compares_numbers (rule_tree rule.now) ≡ true → steps.new ≡ steps.old }
-        ensures most { (ts : Items Tree) → HasSubterms ts (triple_terms (triple_tree stated.now)) → HasSubterms ts (premise_terms (state_history self.old).theorem (rule_tree rule.now)) → steps.new ≤ steps.old + (nodes_of (put_in_terms (rule_tree rule.now)) + pair_steps ts) }
+        ensures most { (ts : Items Tree)
+            → HasSubterms ts (triple_terms (triple_tree stated.now))
+            → HasSubterms ts (premise_terms (state_history self.old).theorem (rule_tree rule.now))
+            → steps.new
+            ≤ steps.old + (nodes_of (put_in_terms (rule_tree rule.now)) + pair_steps ts) }
     {
         meets(
             alloc,
@@ -487,7 +603,10 @@ impl<'g> Bench<'g> {
     ) -> Result<bool, NoMemory>
         requires put { IsHeldAt (state_nodes self.old) put.now }
         requires own { IsTrue own → put.now.code.ranges ≡ (state_group self.old).code }
-        ensures answer { IfOk result (λ r. IsTrue r ↔ IsSomeAnd ((state_history self.old).theorem cited) (λ p. R.states p (triple_of (state_nodes self.old) put.now))) }
+        ensures answer { IfOk result (λ r.
+            IsTrue r
+            ↔ IsSomeAnd ((state_history self.old).theorem cited) (λ p.
+            R.states p (triple_of (state_nodes self.old) put.now))) }
         ensures group { self.new.0 ≡ self.old.0 }
         ensures same { state_history self.new ≡ state_history self.old }
         ensures grows { Extends (state_nodes self.old) (state_nodes self.new) }
@@ -506,14 +625,17 @@ impl<'g> Bench<'g> {
         )
     }
 
-    /// Keeps the next theorem, which is valid, and that it has the group's own code where `own` says so and there is room for that.
+    /// Keeps the next theorem, which is valid, and that it has the group's own code where `own`
+    /// says so and there is room for that.
     fn keep(&mut self, h: Held, own: bool) -> Result<(), NoMemory>
         requires there { IsHeldAt (state_nodes self.old) h }
-        requires sound { Sound (state_group self.old) (with_theorem (triple_of (state_nodes self.old) h) (state_history self.old)) }
+        requires sound { Sound (state_group self.old) (with_theorem
+            (triple_of (state_nodes self.old) h) (state_history self.old)) }
         requires own { IsTrue own → h.code.ranges ≡ (state_group self.old).code }
         ensures group { self.new.0 ≡ self.old.0 }
         ensures nodes { state_nodes self.new ≡ state_nodes self.old }
-        ensures after { OnOk result (state_history self.new ≡ with_theorem (triple_of (state_nodes self.old) h) (state_history self.old)) }
+        ensures after { OnOk result (state_history self.new
+            ≡ with_theorem (triple_of (state_nodes self.old) h) (state_history self.old)) }
         ensures same { OnErr result (self.new ≡ self.old) }
     {
         let Some(next) = self.next.checked_add(1) else {
@@ -535,12 +657,15 @@ impl<'g> Bench<'g> {
     /// Keeps the next theorem, which the rule states, without a copy of code that is kept already.
     fn keep_by(&mut self, rule: &Rule, h: Held, own: bool) -> Result<(), NoMemory>
         requires there { IsHeldAt (state_nodes self.old) h }
-        requires sound { Sound (state_group self.old) (with_theorem (triple_of (state_nodes self.old) h) (state_history self.old)) }
-        requires meets { Meets (state_group self.old) (state_history self.old) (rule_tree rule.now) (triple_of (state_nodes self.old) h) }
+        requires sound { Sound (state_group self.old) (with_theorem
+            (triple_of (state_nodes self.old) h) (state_history self.old)) }
+        requires meets { Meets (state_group self.old) (state_history self.old) (rule_tree rule.now)
+            (triple_of (state_nodes self.old) h) }
         requires own { IsTrue own → h.code.ranges ≡ (state_group self.old).code }
         ensures group { self.new.0 ≡ self.old.0 }
         ensures nodes { state_nodes self.new ≡ state_nodes self.old }
-        ensures after { OnOk result (state_history self.new ≡ with_theorem (triple_of (state_nodes self.old) h) (state_history self.old)) }
+        ensures after { OnOk result (state_history self.new
+            ≡ with_theorem (triple_of (state_nodes self.old) h) (state_history self.old)) }
         ensures same { OnErr result (self.new ≡ self.old) }
     {
         let shared = if own {
@@ -551,23 +676,28 @@ impl<'g> Bench<'g> {
         self.keep(shared, own)
     }
 
-    /// Keeps the next theorem, likewise, where its code may be the group's though `own` doesn't say so.
+    /// Keeps the next theorem, likewise, where its code may be the group's though `own` doesn't say
+    /// so.
     fn keep_made(&mut self, h: Held, own: bool) -> Result<(), NoMemory>
         requires there { IsHeldAt (state_nodes self.old) h }
-        requires sound { Sound (state_group self.old) (with_theorem (triple_of (state_nodes self.old) h) (state_history self.old)) }
+        requires sound { Sound (state_group self.old) (with_theorem
+            (triple_of (state_nodes self.old) h) (state_history self.old)) }
         requires own { IsTrue own → h.code.ranges ≡ (state_group self.old).code }
         ensures group { self.new.0 ≡ self.old.0 }
         ensures nodes { state_nodes self.new ≡ state_nodes self.old }
-        ensures after { OnOk result (state_history self.new ≡ with_theorem (triple_of (state_nodes self.old) h) (state_history self.old)) }
+        ensures after { OnOk result (state_history self.new
+            ≡ with_theorem (triple_of (state_nodes self.old) h) (state_history self.old)) }
         ensures same { OnErr result (self.new ≡ self.old) }
     {
         let shared = if own { h } else { self.with_own_code(h)? };
         self.keep(shared, own)
     }
 
-    /// The same triple. Its code is in the place of that of the theorem from which the rule takes it, else in that of the bench's.
+    /// The same triple. Its code is in the place of that of the theorem from which the rule takes
+    /// it, else in that of the bench's.
     fn with_shared_code(&self, rule: &Rule, h: Held) -> Result<Held, NoMemory>
-        requires { Meets (state_group self.now) (state_history self.now) (rule_tree rule.now) (triple_of (state_nodes self.now) h) }
+        requires { Meets (state_group self.now) (state_history self.now) (rule_tree rule.now)
+            (triple_of (state_nodes self.now) h) }
         ensures { IfOk result (λ shared. shared ≡ h) }
     {
         match code_giver(rule) {
@@ -607,12 +737,18 @@ impl<'g> Bench<'g> {
         steps: &mut Steps<L>,
     ) -> Result<(), RuleFault>
         ensures group { self.new.0 ≡ self.old.0 }
-        ensures instance { OnOk result (IsClosedBy (state_group self.old) def (map (state_history self.old).theorem cited.now)) }
-        ensures after { OnOk result (state_history self.new ≡ with_closed def (state_history self.old)) }
-        ensures no_instance { IsErrOf result RuleFault.NoInstance → IsClosedBy (state_group self.old) def (map (state_history self.old).theorem cited.now) → ⊥ }
+        ensures instance { OnOk result (IsClosedBy (state_group self.old) def
+            (map (state_history self.old).theorem cited.now)) }
+        ensures after { OnOk result (state_history self.new
+            ≡ with_closed def (state_history self.old)) }
+        ensures no_instance { IsErrOf result RuleFault.NoInstance
+            → IsClosedBy (state_group self.old) def (map (state_history self.old).theorem cited.now)
+            → ⊥ }
         ensures same { OnErr result (state_history self.new ≡ state_history self.old) }
         ensures grows { Extends (state_nodes self.old) (state_nodes self.new) }
-        ensures steps { steps.new ≤ steps.old + nodes_of (closing_terms (state_group self.old) (slice_get (state_group self.old).defs def)) }
+        ensures steps { steps.new
+            ≤ steps.old + nodes_of (closing_terms (state_group self.old)
+            (slice_get (state_group self.old).defs def)) }
     {
         law_of_lines(&NoRule);
         self.law_of_bench();
@@ -625,7 +761,8 @@ impl<'g> Bench<'g> {
         Ok(())
     }
 
-    /// Whether the definition of that number is closed by the theorems that are cited, one for each of its leaves.
+    /// Whether the definition of that number is closed by the theorems that are cited, one for each
+    /// of its leaves.
     fn is_closed_by<L: Ledger>(
         &mut self,
         alloc: Global,
@@ -633,11 +770,16 @@ impl<'g> Bench<'g> {
         cited: &[u64],
         steps: &mut Steps<L>,
     ) -> Result<bool, NoMemory>
-        ensures answer { IfOk result (λ r. IsTrue r ↔ IsClosedBy (state_group self.old) def (map (state_history self.old).theorem cited.now)) }
+        ensures answer { IfOk result (λ r.
+            IsTrue r
+            ↔ IsClosedBy (state_group self.old) def
+            (map (state_history self.old).theorem cited.now)) }
         ensures group { self.new.0 ≡ self.old.0 }
         ensures same { state_history self.new ≡ state_history self.old }
         ensures grows { Extends (state_nodes self.old) (state_nodes self.new) }
-        ensures steps { steps.new ≤ steps.old + nodes_of (closing_terms (state_group self.old) (slice_get (state_group self.old).defs def)) }
+        ensures steps { steps.new
+            ≤ steps.old + nodes_of (closing_terms (state_group self.old)
+            (slice_get (state_group self.old).defs def)) }
     {
         is_closed_by(
             alloc,
@@ -668,7 +810,8 @@ impl<'g> Bench<'g> {
         ensures nodes { state_nodes self.new ≡ state_nodes self.old }
         ensures instance { OnOk result (is_some ((state_history self.old).theorem k) ≡ true) }
         ensures after { OnOk result (state_history self.new ≡ without k (state_history self.old)) }
-        ensures no_instance { OnErr result (is_some ((state_history self.old).theorem k) ≡ true → ⊥) }
+        ensures no_instance { OnErr result (is_some ((state_history self.old).theorem k) ≡ true
+            → ⊥) }
         ensures same { OnErr result (self.new ≡ self.old) }
     {
         law_of_lines(&NoRule);
@@ -703,7 +846,8 @@ fn put_over<L: Ledger>(
     code: &SharedCode,
     steps: &mut Steps<L>,
 ) -> Result<Held, NoMemory>
-    ensures put { IfOk result (λ h. IsHeldPut arena.new h (triple_or_own code.now.ranges own (triple_tree stated.now))) }
+    ensures put { IfOk result (λ h.
+        IsHeldPut arena.new h (triple_or_own code.now.ranges own (triple_tree stated.now))) }
     ensures own { IfOk result (λ h. IsTrue own → h.code.ranges ≡ code.now.ranges) }
     ensures grows { Extends arena.old arena.new }
     ensures steps { steps.new ≤ steps.old + nodes_of (triple_terms (triple_tree stated.now)) }
@@ -712,10 +856,14 @@ fn put_over<L: Ledger>(
     if own { over_code(put, code) } else { Ok(put) }
 }
 
-/// Marks the theorem of that number, which has the group's own code where `own` says so, if it does and there is room for the mark.
+/// Marks the theorem of that number, which has the group's own code where `own` says so, if it does
+/// and there is room for the mark.
 fn mark(marked: &mut BTreeSet<u64>, number: u64, own: bool)
-    ensures { (code : Items Range) (old held : Theorems) (h : HeldOf) → Changes old held number (Just h) → (IsTrue own → h.code.ranges ≡ code)
-        → HaveCode code held marked.old → HaveCode code held marked.new }
+    ensures { (code : Items Range) (old held : Theorems) (h : HeldOf)
+        → Changes old held number (Just h)
+        → (IsTrue own → h.code.ranges ≡ code)
+        → HaveCode code held marked.old
+        → HaveCode code held marked.new }
 {
     if own {
         let _marked = marked.insert(number);

@@ -32,8 +32,8 @@ use tailrec_lang::{Def, Group, def_at};
 use term_arena::{Arena, Steps};
 use triple_kernel::{Fact, RuleFault};
 
-/// Judges the leaves of a definition by theorems over numbers. A fact of the way is put into the arena where the first leaf behind it
-/// is judged, and once for all leaves behind it.
+/// Judges the leaves of a definition by theorems over numbers. A fact of the way is put into the
+/// arena where the first leaf behind it is judged, and once for all leaves behind it.
 #[derive(Drop)]
 pub(crate) struct HeldLeaves<'a, L: Ledger> {
     pub arena: &'a mut Arena,
@@ -90,7 +90,8 @@ impl<'a, L: Ledger> JudgeLeaves for HeldLeaves<'a, L> {
     }
 }
 
-/// Whether the definition of that number is closed by the theorems that are cited, one for each of its leaves.
+/// Whether the definition of that number is closed by the theorems that are cited, one for each of
+/// its leaves.
 pub(crate) fn is_closed_by<L: Ledger>(
     alloc: Global,
     g: &Group,
@@ -103,9 +104,14 @@ pub(crate) fn is_closed_by<L: Ledger>(
 ) -> Result<bool, NoMemory>
     requires held { AreHeldAt arena.old held.now.entries }
     requires marked { HaveCode g.now.code.ranges held.now.entries marked.now }
-    ensures answer { IfOk result (λ r. IsTrue r ↔ IsClosedBy (group_tree g.now) def (map (theorem_at arena.old held.now.entries) cited.now)) }
+    ensures answer { IfOk result (λ r.
+        IsTrue r
+        ↔ IsClosedBy (group_tree g.now) def (map (theorem_at arena.old held.now.entries)
+        cited.now)) }
     ensures grows { Extends arena.old arena.new }
-    ensures steps { steps.new ≤ steps.old + nodes_of (closing_terms (group_tree g.now) (slice_get (group_tree g.now).defs def)) }
+    ensures steps { steps.new
+        ≤ steps.old + nodes_of (closing_terms (group_tree g.now) (slice_get (group_tree g.now).defs
+        def)) }
 {
     let Some(d) = def_at(g, def as usize) else {
         return Ok(false);
@@ -185,10 +191,17 @@ fn led_by<L: Ledger>(
     requires marked { HaveCode g.now.code.ranges held.now.entries marked.now }
     requires way { AreFactsAt arena.now way.old }
     requires post { IsSideAt arena.now post.now }
-    requires asked { AreAsked (closing_with (group_tree g.now) (def_tree def.now) (theorem_at arena.now held.now.entries)) (map (fact_of arena.now) way.old) asked.old }
-    ensures answer { IfOk result (λ r. IsTrue r ↔ IsLedTo (group_tree g.now) (def_tree def.now) (leaf_over arena.now way.old post.now) (theorem_at arena.now held.now.entries number)) }
+    requires asked { AreAsked
+        (closing_with (group_tree g.now) (def_tree def.now) (theorem_at arena.now held.now.entries))
+        (map (fact_of arena.now) way.old) asked.old }
+    ensures answer { IfOk result (λ r.
+        IsTrue r
+        ↔ IsLedTo (group_tree g.now) (def_tree def.now) (leaf_over arena.now way.old post.now)
+        (theorem_at arena.now held.now.entries number)) }
     ensures way { way.new ≡ way.old }
-    ensures asked { AreAsked (closing_with (group_tree g.now) (def_tree def.now) (theorem_at arena.now held.now.entries)) (map (fact_of arena.now) way.old) asked.new }
+    ensures asked { AreAsked
+        (closing_with (group_tree g.now) (def_tree def.now) (theorem_at arena.now held.now.entries))
+        (map (fact_of arena.now) way.old) asked.new }
     ensures steps { steps.new ≤ steps.old + (1 + (length g.now.regs + g.now.mems)) }
 {
     match theorem(arena, held, number) {
@@ -203,8 +216,8 @@ fn led_by<L: Ledger>(
     }
 }
 
-/// Whether the theorem, which has that number, leads from the definition's entry over the way. It has the group's own code where `own`
-/// says so.
+/// Whether the theorem, which has that number, leads from the definition's entry over the way. It
+/// has the group's own code where `own` says so.
 fn leads<L: Ledger>(
     alloc: Global,
     arena: &Arena,
@@ -220,10 +233,15 @@ fn leads<L: Ledger>(
     requires way { AreFactsAt arena.now way.old }
     requires p { IsHeldAt arena.now p.now }
     requires own { IsTrue own → p.now.code.ranges ≡ g.now.code.ranges }
-    requires known { KnowsOf (group_tree g.now) (def_tree def.now) (map (fact_of arena.now) way.old) number asked.old (triple_of arena.now p.now) }
-    ensures answer { IfOk result (λ r. IsTrue r ↔ LeadsOver (group_tree g.now) (def_tree def.now) (map (fact_of arena.now) way.old) (triple_of arena.now p.now)) }
+    requires known { KnowsOf (group_tree g.now) (def_tree def.now) (map (fact_of arena.now) way.old)
+        number asked.old (triple_of arena.now p.now) }
+    ensures answer { IfOk result (λ r.
+        IsTrue r
+        ↔ LeadsOver (group_tree g.now) (def_tree def.now) (map (fact_of arena.now) way.old)
+        (triple_of arena.now p.now)) }
     ensures way { way.new ≡ way.old }
-    ensures asked { StaysAsked (group_tree g.now) (def_tree def.now) (map (fact_of arena.now) way.old) number (triple_of arena.now p.now) asked.old asked.new }
+    ensures asked { StaysAsked (group_tree g.now) (def_tree def.now)
+        (map (fact_of arena.now) way.old) number (triple_of arena.now p.now) asked.old asked.new }
     ensures steps { steps.new ≤ steps.old + (1 + (length g.now.regs + g.now.mems)) }
 {
     if asked.leads(number) {
@@ -235,7 +253,8 @@ fn leads<L: Ledger>(
     Ok(false)
 }
 
-/// Whether the theorem, which has that number, begins at the definition's entry, within the group's code.
+/// Whether the theorem, which has that number, begins at the definition's entry, within the group's
+/// code.
 fn begins<L: Ledger>(
     arena: &Arena,
     g: &Group,
@@ -248,15 +267,19 @@ fn begins<L: Ledger>(
 ) -> bool
     requires p { IsHeldAt arena.now p.now }
     requires own { IsTrue own → p.now.code.ranges ≡ g.now.code.ranges }
-    ensures found { IsTrue result → IsSome (get nat_cmp asked.now.theorems number) ⊎ Begins (group_tree g.now) (def_tree def.now) (triple_of arena.now p.now) }
-    ensures none { result ≡ false → Begins (group_tree g.now) (def_tree def.now) (triple_of arena.now p.now) → ⊥ }
+    ensures found { IsTrue result
+        → IsSome (get nat_cmp asked.now.theorems number)
+        ⊎ Begins (group_tree g.now) (def_tree def.now) (triple_of arena.now p.now) }
+    ensures none { result ≡ false
+        → Begins (group_tree g.now) (def_tree def.now) (triple_of arena.now p.now)
+        → ⊥ }
     ensures steps { steps.new ≤ steps.old + (1 + (length g.now.regs + g.now.mems)) }
 {
     asked.begins(number) || is_entry(arena, g, def, &p.pre, steps) && is_within_own(g, own, p)
 }
 
-/// Whether the theorem's facts are on the way, where it is one of that number which begins at the entry. Those that still stand where they
-/// were found aren't looked up.
+/// Whether the theorem's facts are on the way, where it is one of that number which begins at the
+/// entry. Those that still stand where they were found aren't looked up.
 fn has_facts(
     alloc: Global,
     arena: &Arena,
@@ -267,10 +290,14 @@ fn has_facts(
 ) -> Result<bool, NoMemory>
     requires way { AreFactsAt arena.now way.old }
     requires p { IsHeldAt arena.now p.now }
-    requires known { KnowsPlaces (map (fact_of arena.now) way.old) number asked.old (map (fact_of arena.now) p.now.facts) }
-    ensures answer { IfOk result (λ r. IsTrue r ↔ AreAmong (map (fact_of arena.now) p.now.facts) (map (fact_of arena.now) way.old)) }
+    requires known { KnowsPlaces (map (fact_of arena.now) way.old) number asked.old
+        (map (fact_of arena.now) p.now.facts) }
+    ensures answer { IfOk result (λ r.
+        IsTrue r
+        ↔ AreAmong (map (fact_of arena.now) p.now.facts) (map (fact_of arena.now) way.old)) }
     ensures way { way.new ≡ way.old }
-    ensures asked { StaysFor (map (fact_of arena.now) way.old) number (triple_of arena.now p.now) asked.old asked.new }
+    ensures asked { StaysFor (map (fact_of arena.now) way.old) number (triple_of arena.now p.now)
+        asked.old asked.new }
 {
     way.index(arena);
     let facts = p.facts.as_slice();
@@ -282,7 +309,8 @@ fn has_facts(
     Ok(true)
 }
 
-/// Whether the facts of those numbers are on the way too, where the others were found at the places. Notes where they are.
+/// Whether the facts of those numbers are on the way too, where the others were found at the
+/// places. Notes where they are.
 fn find_facts(
     arena: &Arena,
     way: &Way,
@@ -293,9 +321,16 @@ fn find_facts(
 ) -> Result<bool, NoMemory>
     requires way { AreFactsAt arena.now way.now }
     requires facts { AreFactsAt arena.now facts.now }
-    requires found { AreFound asked.now.stamps (map (fact_of arena.now) way.now) (map (fact_of arena.now) facts.now) places.old left.now }
-    ensures yes { IfOk result (λ r. IsTrue r → AreFound asked.now.stamps (map (fact_of arena.now) way.now) (map (fact_of arena.now) facts.now) places.new []) }
-    ensures no { IfOk result (λ r. r ≡ false → AreAmong (map (fact_of arena.now) facts.now) (map (fact_of arena.now) way.now) → ⊥) }
+    requires found { AreFound asked.now.stamps (map (fact_of arena.now) way.now)
+        (map (fact_of arena.now) facts.now) places.old left.now }
+    ensures yes { IfOk result (λ r.
+        IsTrue r
+        → AreFound asked.now.stamps (map (fact_of arena.now) way.now)
+        (map (fact_of arena.now) facts.now) places.new []) }
+    ensures no { IfOk result (λ r.
+        r ≡ false
+        → AreAmong (map (fact_of arena.now) facts.now) (map (fact_of arena.now) way.now)
+        → ⊥) }
 {
     for fact in left {
         if !find_fact(arena, way, facts, *fact, asked, places)? {
@@ -317,8 +352,17 @@ fn find_fact(
     requires way { AreFactsAt arena.now way.now }
     requires facts { AreFactsAt arena.now facts.now }
     requires low { fact < length facts.now }
-    ensures yes { IfOk result (λ r. IsTrue r → (rest : Items ℕ) → AreFound asked.now.stamps (map (fact_of arena.now) way.now) (map (fact_of arena.now) facts.now) places.old (fact ∷ rest) → AreFound asked.now.stamps (map (fact_of arena.now) way.now) (map (fact_of arena.now) facts.now) places.new rest) }
-    ensures no { IfOk result (λ r. r ≡ false → AreAmong (map (fact_of arena.now) facts.now) (map (fact_of arena.now) way.now) → ⊥) }
+    ensures yes { IfOk result (λ r.
+        IsTrue r
+        → (rest : Items ℕ)
+        → AreFound asked.now.stamps (map (fact_of arena.now) way.now)
+        (map (fact_of arena.now) facts.now) places.old (fact ∷ rest)
+        → AreFound asked.now.stamps (map (fact_of arena.now) way.now)
+        (map (fact_of arena.now) facts.now) places.new rest) }
+    ensures no { IfOk result (λ r.
+        r ≡ false
+        → AreAmong (map (fact_of arena.now) facts.now) (map (fact_of arena.now) way.now)
+        → ⊥) }
 {
     let Some(place) = way.place(arena, &facts[fact]) else {
         return Ok(false);

@@ -26,7 +26,8 @@ use tailrec_lang::Group;
 use term_arena::{Arena, Steps};
 use triple_kernel::Form;
 
-/// The triple, if it is within the limits. The depths are looked up, or computed where there are none yet.
+/// The triple, if it is within the limits. The depths are looked up, or computed where there are
+/// none yet.
 fn if_within<L: Ledger>(
     arena: &Arena,
     depths: &mut List<u8>,
@@ -60,7 +61,9 @@ pub(crate) fn put_in<L: Ledger>(
     requires p { IsFineHeld arena.old p.now }
     requires sub { IsSubAt arena.old words.now mems.now }
     requires depths { AreDepths arena.old depths.old }
-    ensures made { IfOk result (λ o. MadeIf arena.new (λ t. IsInst (put_for_numbers arena.old words.now mems.now) (triple_of arena.old p.now) t) o) }
+    ensures made { IfOk result (λ o. MadeIf arena.new
+        (λ t. IsInst (put_for_numbers arena.old words.now mems.now) (triple_of arena.old p.now) t)
+        o) }
     ensures grows { Extends arena.old arena.new }
     ensures depths { AreDepths arena.new depths.new }
 {
@@ -107,7 +110,8 @@ pub(crate) fn exit<L: Ledger>(
     requires code { IsOwnCode g.now.code.ranges }
     requires shared { code.now.ranges ≡ g.now.code.ranges }
     requires depths { AreDepths arena.old depths.old }
-    ensures made { IfOk result (λ o. MadeIf arena.new (λ t. IsExit (group_tree g.now) def number t) o) }
+    ensures made { IfOk result (λ o.
+        MadeIf arena.new (λ t. IsExit (group_tree g.now) def number t) o) }
     ensures grows { Extends arena.old arena.new }
     ensures depths { AreDepths arena.new depths.new }
 {

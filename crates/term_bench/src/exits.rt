@@ -21,7 +21,8 @@ use std::sync::ledger::Ledger;
 use tailrec_lang::{Def, Exit, Group, def_at, results_at};
 use term_arena::{Arena, Node, Steps};
 
-/// The triple of that exit of that definition, if there is one. It shares that code, which is the group's own.
+/// The triple of that exit of that definition, if there is one. It shares that code, which is the
+/// group's own.
 pub(crate) fn exit_held<L: Ledger>(
     alloc: Global,
     arena: &mut Arena,
@@ -58,7 +59,8 @@ fn triple_at<L: Ledger>(
     steps: &mut Steps<L>,
 ) -> Result<Held, NoMemory>
     requires { code.now.ranges ≡ g.now.code.ranges }
-    ensures put { IfOk result (λ h. IsHeldPut arena.new h (exit_triple (group_tree g.now) d (def_tree def.now) exit x)) }
+    ensures put { IfOk result (λ h.
+        IsHeldPut arena.new h (exit_triple (group_tree g.now) d (def_tree def.now) exit x)) }
     ensures grows { Extends arena.old arena.new }
 {
     let words = g.regs.len();
@@ -107,7 +109,9 @@ fn entry_side<L: Ledger>(
     steps: &mut Steps<L>,
 ) -> Result<HeldSide, NoMemory>
     requires { AreValuesAt arena.old values.now }
-    ensures put { IfOk result (λ s. IsSidePut arena.new s (at_entry (group_tree g.now) (def_tree def.now) (values_over arena.old values.now))) }
+    ensures put { IfOk result (λ s.
+        IsSidePut arena.new s (at_entry (group_tree g.now) (def_tree def.now)
+        (values_over arena.old values.now))) }
     ensures grows { Extends arena.old arena.new }
 {
     let pc = constant(arena, def.entry, steps)?;
@@ -130,7 +134,9 @@ fn exit_side<L: Ledger>(
     steps: &mut Steps<L>,
 ) -> Result<HeldSide, NoMemory>
     requires { AreValuesAt arena.old values.now }
-    ensures put { IfOk result (λ s. IsSidePut arena.new s (at_exit (group_tree g.now) (Just x) (values_over arena.old values.now))) }
+    ensures put { IfOk result (λ s.
+        IsSidePut arena.new s (at_exit (group_tree g.now) (Just x) (values_over arena.old
+        values.now))) }
     ensures grows { Extends arena.old arena.new }
 {
     let words = values.words.as_slice();
@@ -154,7 +160,8 @@ fn first_word<L: Ledger>(
     steps: &mut Steps<L>,
 ) -> Result<u64, NoMemory>
     requires { AreWordsAt arena.old words.now }
-    ensures put { IfOk result (λ k. IsWordPut arena.new k (slice_index_or (map (word_of arena.old) words.now) 0 (Const 0))) }
+    ensures put { IfOk result (λ k.
+        IsWordPut arena.new k (slice_index_or (map (word_of arena.old) words.now) 0 (Const 0))) }
     ensures grows { Extends arena.old arena.new }
 {
     if words.is_empty() {
@@ -211,7 +218,8 @@ fn variables<L: Ledger>(
     more_mems: usize,
     steps: &mut Steps<L>,
 ) -> Result<HeldValues, NoMemory>
-    ensures put { IfOk result (λ v. IsValuesPut arena.new v (variables_after words mems more_words more_mems)) }
+    ensures put { IfOk result (λ v.
+        IsValuesPut arena.new v (variables_after words mems more_words more_mems)) }
     ensures grows { Extends arena.old arena.new }
 {
     let words = word_variables(alloc, arena, words, more_words, steps)?;
@@ -226,7 +234,8 @@ fn word_variables<L: Ledger>(
     count: usize,
     steps: &mut Steps<L>,
 ) -> Result<List<u64>, NoMemory>
-    ensures put { IfOk result (λ ks. AreWordsPut arena.new ks (map Var (range_with_len first count))) }
+    ensures put { IfOk result (λ ks.
+        AreWordsPut arena.new ks (map Var (range_with_len first count))) }
     ensures grows { Extends arena.old arena.new }
 {
     let mut list = List::new(alloc);
@@ -244,7 +253,8 @@ fn mem_variables<L: Ledger>(
     count: usize,
     steps: &mut Steps<L>,
 ) -> Result<List<u64>, NoMemory>
-    ensures put { IfOk result (λ ks. AreMemsPut arena.new ks (map MemVar (range_with_len first count))) }
+    ensures put { IfOk result (λ ks.
+        AreMemsPut arena.new ks (map MemVar (range_with_len first count))) }
     ensures grows { Extends arena.old arena.new }
 {
     let mut list = List::new(alloc);
@@ -291,7 +301,8 @@ fn constant<L: Ledger>(arena: &mut Arena, n: u64, steps: &mut Steps<L>) -> Resul
     Ok(k)
 }
 
-/// The number of a variable. There is no memory for as many of them as would need more than 32 bits.
+/// The number of a variable. There is no memory for as many of them as would need more than 32
+/// bits.
 fn numbered(first: usize, i: usize) -> Result<u32, NoMemory>
     ensures { IfOk result (λ n. n ≡ first + i) }
 {

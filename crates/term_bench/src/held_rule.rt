@@ -13,8 +13,8 @@ use term_arena::{Arena, Steps};
 
 /// The further rule of a version, which judges triples over numbers too.
 pub trait HeldRule: FurtherRule {
-    /// Whether the rule states that triple from the premise. Whether their code is the same is told by the caller. It takes at most one
-    /// step.
+    /// Whether the rule states that triple from the premise. Whether their code is the same is told
+    /// by the caller. It takes at most one step.
     fn is_stated<L: Ledger>(
         &self,
         alloc: Global,
@@ -27,7 +27,9 @@ pub trait HeldRule: FurtherRule {
         requires premise { IsHeldAt arena.old premise.now }
         requires stated { IsHeldAt arena.old stated.now }
         requires code { IsTrue same_code ↔ (premise.now.code.ranges ≡ stated.now.code.ranges) }
-        ensures answer { IfOk result (λ r. IsTrue r ↔ Self.states (triple_of arena.old premise.now) (triple_of arena.old stated.now)) }
+        ensures answer { IfOk result (λ r.
+            IsTrue r
+            ↔ Self.states (triple_of arena.old premise.now) (triple_of arena.old stated.now)) }
         ensures grows { Extends arena.old arena.new }
         ensures steps { steps.new ≤ steps.old + 1 };
 }

@@ -1,4 +1,5 @@
-//! What is known of code without a look at its bytes: which theorems have the group's own, and whether a stated triple does.
+//! What is known of code without a look at its bytes: which theorems have the group's own, and
+//! whether a stated triple does.
 
 ghost use Rattle.std.specs.Prelude.{◌≡◌, ◌↔◌, IfSome, IsTrue};
 ghost use Rattle.std.specs.BTreeSet.{contains};
@@ -17,8 +18,8 @@ use short_text::Short;
 use std::collections::{BTreeMap, BTreeSet};
 use tailrec_lang::Group;
 
-/// Whether the theorem of that number is known to have the code of the triple, since the theorem is marked and the triple, as `own` says,
-/// has the group's own code.
+/// Whether the theorem of that number is known to have the code of the triple, since the theorem is
+/// marked and the triple, as `own` says, has the group's own code.
 pub(crate) fn is_known(
     g: &Group,
     held: &BTreeMap<u64, Held>,
@@ -29,7 +30,8 @@ pub(crate) fn is_known(
 ) -> bool
     requires marked { HaveCode g.now.code.ranges held.now.entries marked.now }
     requires own { IsTrue own → stated.now.code.ranges ≡ g.now.code.ranges }
-    ensures { IsTrue result → IfSome (held_by_number held.now.entries p) (λ q. q.code.ranges ≡ stated.now.code.ranges) }
+    ensures { IsTrue result
+        → IfSome (held_by_number held.now.entries p) (λ q. q.code.ranges ≡ stated.now.code.ranges) }
 {
     own && marked.contains(&p)
 }
@@ -42,7 +44,8 @@ pub(crate) fn is_marked(
     p: u64,
 ) -> bool
     requires { HaveCode g.now.code.ranges held.now.entries marked.now }
-    ensures { IsTrue result → IfSome (held_by_number held.now.entries p) (λ q. q.code.ranges ≡ g.now.code.ranges) }
+    ensures { IsTrue result
+        → IfSome (held_by_number held.now.entries p) (λ q. q.code.ranges ≡ g.now.code.ranges) }
 {
     marked.contains(&p)
 }
@@ -56,7 +59,8 @@ pub(crate) fn are_known(
     q: u64,
 ) -> bool
     requires { HaveCode g.now.code.ranges held.now.entries marked.now }
-    ensures { IsTrue result → HaveSameCode (held_by_number held.now.entries p) (held_by_number held.now.entries q) }
+    ensures { IsTrue result
+        → HaveSameCode (held_by_number held.now.entries p) (held_by_number held.now.entries q) }
 {
     marked.contains(&p) && marked.contains(&q)
 }
@@ -73,22 +77,25 @@ pub(crate) fn has_code(known: bool, p: &Held, stated: &Held) -> bool
 #[tactic(auto, using(crate::proofs::MarkLemmas::within_same))]
 pub(crate) fn has_code_within(known: bool, p: &Held, stated: &Held) -> bool
     requires { IsTrue known → p.now.code.ranges ≡ stated.now.code.ranges }
-    ensures { IsTrue result ↔ IsWithin (range_bytes p.now.code.ranges) (range_bytes stated.now.code.ranges) }
+    ensures { IsTrue result
+        ↔ IsWithin (range_bytes p.now.code.ranges) (range_bytes stated.now.code.ranges) }
 {
     known || code_within(p.code.as_code(), stated.code.as_code())
 }
 
-/// Whether the codes of two theorems agree. Where they are known to be the same, nothing is compared.
+/// Whether the codes of two theorems agree. Where they are known to be the same, nothing is
+/// compared.
 #[tactic(auto, using(crate::proofs::MarkLemmas::agree_same))]
 pub(crate) fn have_agreement(known: bool, p: &Held, q: &Held) -> bool
     requires { IsTrue known → p.now.code.ranges ≡ q.now.code.ranges }
-    ensures { IsTrue result ↔ Agree (range_bytes p.now.code.ranges) (range_bytes q.now.code.ranges) }
+    ensures { IsTrue result
+        ↔ Agree (range_bytes p.now.code.ranges) (range_bytes q.now.code.ranges) }
 {
     known || code_agree(p.code.as_code(), q.code.as_code())
 }
 
-/// Whether the codes of two theorems agree and are that of the triple together. Where the first theorem's is known to be that, it is left to
-/// see whether the other's lies within it.
+/// Whether the codes of two theorems agree and are that of the triple together. Where the first
+/// theorem's is known to be that, it is left to see whether the other's lies within it.
 pub(crate) fn have_union(
     first_known: bool,
     second_known: bool,
@@ -98,7 +105,10 @@ pub(crate) fn have_union(
 ) -> bool
     requires first { IsTrue first_known → p.now.code.ranges ≡ stated.now.code.ranges }
     requires second { IsTrue second_known → q.now.code.ranges ≡ stated.now.code.ranges }
-    ensures { IsTrue result ↔ (Agree (range_bytes p.now.code.ranges) (range_bytes q.now.code.ranges) × (over (range_bytes p.now.code.ranges) (range_bytes q.now.code.ranges) ≡ range_bytes stated.now.code.ranges)) }
+    ensures { IsTrue result
+        ↔ (Agree (range_bytes p.now.code.ranges) (range_bytes q.now.code.ranges)
+        × (over (range_bytes p.now.code.ranges) (range_bytes q.now.code.ranges)
+        ≡ range_bytes stated.now.code.ranges)) }
 {
     if first_known {
         has_code_within(second_known, q, stated)
@@ -115,17 +125,20 @@ pub(crate) fn has_own_code(g: &Group, own: bool, stated: &Held) -> bool
     own || same_code(stated.code.as_code(), &g.code)
 }
 
-/// Whether the theorem's code lies within the group's own. Where it is known to be that, nothing is compared.
+/// Whether the theorem's code lies within the group's own. Where it is known to be that, nothing is
+/// compared.
 #[tactic(auto, using(crate::proofs::MarkLemmas::within_same))]
 pub(crate) fn is_within_own(g: &Group, own: bool, p: &Held) -> bool
     requires { IsTrue own → p.now.code.ranges ≡ g.now.code.ranges }
-    ensures { IsTrue result ↔ IsWithin (range_bytes p.now.code.ranges) (range_bytes g.now.code.ranges) }
+    ensures { IsTrue result
+        ↔ IsWithin (range_bytes p.now.code.ranges) (range_bytes g.now.code.ranges) }
 {
     own || code_within(p.code.as_code(), &g.code)
 }
 
-/// Whether the triple that the line states, where it is right, is known to have the group's own code, since it has that of theorems that are
-/// marked, or is that of an exit, or `all` stands for it.
+/// Whether the triple that the line states, where it is right, is known to have the group's own
+/// code, since it has that of theorems that are marked, or is that of an exit, or `all` stands for
+/// it.
 pub(crate) fn states_own(marked: &BTreeSet<u64>, line: &Short, all: bool) -> bool
     ensures { result ≡ states_own (contains nat_cmp marked.now) all line.now }
 {

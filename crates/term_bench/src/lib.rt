@@ -1,33 +1,40 @@
 //! The judge of a proof's lines whose terms are numbers of an arena.
 //!
-//! [`Bench`] does what the bench of the crate `checker` does: it judges the lines of a group's proof, one after the other, and
-//! keeps the theorems that can still be cited and the definitions that are closed. But it keeps no trees. The terms of a line
-//! are put into one arena, which has each term once, and a rule compares numbers; so a term that occurs in a thousand
-//! theorems is kept and compared as one.
+//! [`Bench`] does what the bench of the crate `checker` does: it judges the lines of a group's
+//! proof, one after the other, and keeps the theorems that can still be cited and the definitions
+//! that are closed. But it keeps no trees. The terms of a line are put into one arena, which has
+//! each term once, and a rule compares numbers; so a term that occurs in a thousand theorems is
+//! kept and compared as one.
 //!
-//! `bench.judge(alloc, &line, &mut steps)` is Ok exactly where the line is an `Instance` after what the bench holds, and
-//! `bench.judge_by` where it is an `InstanceBy` the further rule of its version, as `bench.judge_spelled` of a line whose triple's code
-//! is left out where that is the group's own. What it holds stands for a `History`
-//! (`state_history`), and that is as it was after a refusal, while the arena may have more terms. A theorem that was forgotten
-//! takes no place; `bench.kept()` is how many there are. The type keeps that each theorem is valid and each closed definition
-//! right, by the checker's law of lines, so that nothing is proved again of the rules. `put_triple` puts the terms of a triple
-//! into an arena.
+//! `bench.judge(alloc, &line, &mut steps)` is Ok exactly where the line is an `Instance` after what
+//! the bench holds, and `bench.judge_by` where it is an `InstanceBy` the further rule of its
+//! version, as `bench.judge_spelled` of a line whose triple's code is left out where that is the
+//! group's own. What it holds stands for a `History` (`state_history`), and that is as it was after
+//! a refusal, while the arena may have more terms. A theorem that was forgotten takes no place;
+//! `bench.kept()` is how many there are. The type keeps that each theorem is valid and each closed
+//! definition right, by the checker's law of lines, so that nothing is proved again of the rules.
+//! `put_triple` puts the terms of a triple into an arena.
 //!
-//! `bench.derive(alloc, &line, &mut steps)` does so for a short line, whose terms are numbers of the arena and which leaves out
-//! what can be computed: it is Ok exactly where some triple within the limits of texts makes the line right
-//! (`IsShortInstance`), and then holds that triple; so does `bench.derive_spelled` for one as it is spelled, where the group's own code is
-//! left out. A rule makes the triple of the theorems that the line cites (`making`), or it is
-//! computed and its depth is looked up (`computed`, `depths`). `law_of_full_lines` says that short lines stand for as many lines of
-//! version 1, each right after those before it, and `law_of_one_full_line` that a short line stands for one alone.
+//! `bench.derive(alloc, &line, &mut steps)` does so for a short line, whose terms are numbers of
+//! the arena and which leaves out what can be computed: it is Ok exactly where some triple within
+//! the limits of texts makes the line right (`IsShortInstance`), and then holds that triple; so
+//! does `bench.derive_spelled` for one as it is spelled, where the group's own code is left out. A
+//! rule makes the triple of the theorems that the line cites (`making`), or it is computed and its
+//! depth is looked up (`computed`, `depths`). `law_of_full_lines` says that short lines stand for
+//! as many lines of version 1, each right after those before it, and `law_of_one_full_line` that a
+//! short line stands for one alone.
 //!
-//! A loop over the lines of a text of version 2 puts the terms of its table in first, by `bench.add(node, &mut steps)`: each gets its
-//! number in the table (`law_of_new_terms`). What `derive` asks of a line then holds of each line that is read beside the table
-//! (`law_of_read_lines`, `law_of_larger_tables`), and what it asks of the theorems goes on to hold (`law_of_limits`).
+//! A loop over the lines of a text of version 2 puts the terms of its table in first, by
+//! `bench.add(node, &mut steps)`: each gets its number in the table (`law_of_new_terms`). What
+//! `derive` asks of a line then holds of each line that is read beside the table
+//! (`law_of_read_lines`, `law_of_larger_tables`), and what it asks of the theorems goes on to hold
+//! (`law_of_limits`).
 //!
-//! `OverNumbers` and `OverTables` judge the proofs of a text by such benches, for the check of the crate `checker`: those whose lines
-//! state whole triples, by the further rule of their version (`HeldRule`), and those of version 2 (`short_rules`), whose terms stand
-//! in a table. `check_numbered(alloc, &elf, &mut reader, &rule)` and `check_pulled_numbered` are the check of texts of the first kind,
-//! `check_short` and `check_pulled_short` that of texts of version 2.
+//! `OverNumbers` and `OverTables` judge the proofs of a text by such benches, for the check of the
+//! crate `checker`: those whose lines state whole triples, by the further rule of their version
+//! (`HeldRule`), and those of version 2 (`short_rules`), whose terms stand in a table.
+//! `check_numbered(alloc, &elf, &mut reader, &rule)` and `check_pulled_numbered` are the check of
+//! texts of the first kind, `check_short` and `check_pulled_short` that of texts of version 2.
 #![tactic(auto)]
 
 mod asked;

@@ -70,7 +70,11 @@ fn are_gives(
     requires args { AreValuesAt arena.now args.now }
     requires results { AreValuesAt arena.now results.now }
     requires depths { AreAllDepths arena.now depths.now }
-    ensures { IsTrue result ↔ ((def < index_limit) × (exit < index_limit) × IsValues (values_over arena.now args.now) × IsValues (values_over arena.now results.now)) }
+    ensures { IsTrue result
+        ↔ ((def < index_limit)
+        × (exit < index_limit)
+        × IsValues (values_over arena.now args.now)
+        × IsValues (values_over arena.now results.now)) }
 {
     are_values(arena, depths, args) && are_values(arena, depths, results)
 }
@@ -98,7 +102,9 @@ fn is_side(arena: &Arena, depths: &[u8], side: &HeldSide) -> bool
 fn are_rising(arena: &Arena, depths: &[u8], registers: &[(u8, u64)]) -> bool
     requires there { AreRegistersAt arena.now registers.now }
     requires depths { AreAllDepths arena.now depths.now }
-    ensures { IsTrue result ↔ (AreRegistersFrom 1 (map (λ r. r.0) (map (register_of arena.now) registers.now)) × AllByRecursion (λ r. IsWord r.1) (map (register_of arena.now) registers.now)) }
+    ensures { IsTrue result
+        ↔ (AreRegistersFrom 1 (map (λ r. r.0) (map (register_of arena.now) registers.now))
+        × AllByRecursion (λ r. IsWord r.1) (map (register_of arena.now) registers.now)) }
 {
     registers_rise(registers) && are_registers(arena, depths, registers)
 }
@@ -120,7 +126,8 @@ fn registers_rise(registers: &[(u8, u64)]) -> bool
 fn are_registers(arena: &Arena, depths: &[u8], registers: &[(u8, u64)]) -> bool
     requires there { AreRegistersAt arena.now registers.now }
     requires depths { AreAllDepths arena.now depths.now }
-    ensures { IsTrue result ↔ AllByRecursion (λ r. IsWord r.1) (map (register_of arena.now) registers.now) }
+    ensures { IsTrue result
+        ↔ AllByRecursion (λ r. IsWord r.1) (map (register_of arena.now) registers.now) }
 {
     for register in registers {
         if !is_word(arena, depths, register.1) {

@@ -60,7 +60,8 @@ pub(crate) fn extended(
     requires p { IsFineHeld arena.now p.now }
     requires code { IsOwnCode code.now.ranges }
     requires known { IsTrue known → p.now.code.ranges ≡ code.now.ranges }
-    ensures { IfOk result (λ o. MadeIf arena.now (λ t. IsExtended (triple_of arena.now p.now) t × (t.code ≡ code.now.ranges)) o) }
+    ensures { IfOk result (λ o. MadeIf arena.now
+        (λ t. IsExtended (triple_of arena.now p.now) t × (t.code ≡ code.now.ranges)) o) }
 {
     let t = with_parts(alloc, p.facts.as_slice(), &p.pre, code, &p.post)?;
     let within = has_code_within(known, p, &t);
@@ -82,7 +83,11 @@ pub(crate) fn strengthened<L: Ledger>(
     requires p { IsFineHeld arena.now p.now }
     requires facts { AreFineFacts arena.now facts.now }
     requires pre { IsFineSide arena.now pre.now }
-    ensures { IfOk result (λ o. MadeIf arena.now (λ t. IsStrengthened (triple_of arena.now p.now) t × (t.facts ≡ map (fact_of arena.now) facts.now) × (t.pre ≡ side_of arena.now pre.now)) o) }
+    ensures { IfOk result (λ o. MadeIf arena.now
+        (λ t.
+        IsStrengthened (triple_of arena.now p.now) t
+        × (t.facts ≡ map (fact_of arena.now) facts.now)
+        × (t.pre ≡ side_of arena.now pre.now)) o) }
 {
     let t = with_parts(alloc, facts, pre, &p.code, &p.post)?;
     let so = is_strengthened(alloc, arena, p, &t, true, steps)?;
@@ -104,7 +109,11 @@ pub(crate) fn weakened<L: Ledger>(
     requires p { IsFineHeld arena.now p.now }
     requires facts { AreFineFacts arena.now facts.now }
     requires post { IsFineSide arena.now post.now }
-    ensures { IfOk result (λ o. MadeIf arena.now (λ t. IsWeakened (triple_of arena.now p.now) t × (t.facts ≡ map (fact_of arena.now) facts.now) × (t.post ≡ side_of arena.now post.now)) o) }
+    ensures { IfOk result (λ o. MadeIf arena.now
+        (λ t.
+        IsWeakened (triple_of arena.now p.now) t
+        × (t.facts ≡ map (fact_of arena.now) facts.now)
+        × (t.post ≡ side_of arena.now post.now)) o) }
 {
     let t = with_parts(alloc, facts, &p.pre, &p.code, post)?;
     let so = is_weakened(alloc, arena, p, &t, true, steps)?;
@@ -124,7 +133,10 @@ pub(crate) fn discharged<L: Ledger>(
 ) -> Result<Option<Held>, NoMemory>
     requires p { IsFineHeld arena.now p.now }
     requires facts { AreFineFacts arena.now facts.now }
-    ensures { IfOk result (λ o. MadeIf arena.now (λ t. IsDischarged (triple_of arena.now p.now) t × (t.facts ≡ map (fact_of arena.now) facts.now)) o) }
+    ensures { IfOk result (λ o. MadeIf arena.now
+        (λ t.
+        IsDischarged (triple_of arena.now p.now) t × (t.facts ≡ map (fact_of arena.now) facts.now))
+        o) }
 {
     let t = with_parts(alloc, facts, &p.pre, &p.code, &p.post)?;
     let so = is_discharged(alloc, arena, p, &t, true, steps)?;
@@ -134,7 +146,8 @@ pub(crate) fn discharged<L: Ledger>(
     Ok(Some(t))
 }
 
-/// One theorem after another, which begins where it ends. Where both are known to have the same code, it isn't looked at.
+/// One theorem after another, which begins where it ends. Where both are known to have the same
+/// code, it isn't looked at.
 pub(crate) fn composed(
     alloc: Global,
     arena: &Arena,
@@ -145,7 +158,8 @@ pub(crate) fn composed(
     requires p { IsFineHeld arena.now p.now }
     requires q { IsFineHeld arena.now q.now }
     requires known { IsTrue known → p.now.code.ranges ≡ q.now.code.ranges }
-    ensures { IfOk result (λ o. MadeIf arena.now (λ t. IsComposed (triple_of arena.now p.now) (triple_of arena.now q.now) t) o) }
+    ensures { IfOk result (λ o. MadeIf arena.now
+        (λ t. IsComposed (triple_of arena.now p.now) (triple_of arena.now q.now) t) o) }
 {
     if !same_side(arena, &p.post, &q.pre) || !have_agreement(known, p, q) {
         return Ok(None);
@@ -162,7 +176,8 @@ pub(crate) fn composed(
     }))
 }
 
-/// The code of both, which may be shared. Where they are known to be the same, it is in the place of the first.
+/// The code of both, which may be shared. Where they are known to be the same, it is in the place
+/// of the first.
 #[tactic(auto, using(crate::proofs::MarkLemmas::over_same))]
 fn joined_code(
     alloc: Global,
@@ -174,7 +189,8 @@ fn joined_code(
     requires first { AreRanges a.now.ranges }
     requires second { AreRanges b.now.ranges }
     requires agree { Agree (range_bytes a.now.ranges) (range_bytes b.now.ranges) }
-    ensures bytes { IfOk result (λ c. range_bytes c.ranges ≡ over (range_bytes a.now.ranges) (range_bytes b.now.ranges)) }
+    ensures bytes { IfOk result (λ c.
+        range_bytes c.ranges ≡ over (range_bytes a.now.ranges) (range_bytes b.now.ranges)) }
     ensures ranges { IfOk result (λ c. AreRanges c.ranges) }
 {
     if known {
@@ -193,7 +209,9 @@ fn facts_of_both(
 ) -> Result<List<HeldFact>, NoMemory>
     requires first { AreFineFacts arena.now first.now }
     requires second { AreFineFacts arena.now second.now }
-    ensures both { IfOk result (λ all. AreFactsOfBoth (map (fact_of arena.now) first.now) (map (fact_of arena.now) second.now) (map (fact_of arena.now) all)) }
+    ensures both { IfOk result (λ all.
+        AreFactsOfBoth (map (fact_of arena.now) first.now) (map (fact_of arena.now) second.now)
+        (map (fact_of arena.now) all)) }
     ensures fine { IfOk result (λ all. AreFineFacts arena.now all) }
 {
     let known = Facts::new(alloc, first, second.len());
@@ -235,7 +253,13 @@ pub(crate) fn framed(
     requires p { IsFineHeld arena.now p.now }
     requires regs { AreFineRegisters arena.now regs.now }
     requires mems { AreFineMems arena.now mems.now }
-    ensures { IfOk result (λ o. MadeIf arena.now (λ t. IsFramed (triple_of arena.now p.now) t × (further (triple_of arena.now p.now).pre.regs t.pre.regs ≡ map (register_of arena.now) regs.now) × (rest_after (triple_of arena.now p.now).pre.mems t.pre.mems ≡ map (mem_of arena.now) mems.now)) o) }
+    ensures { IfOk result (λ o. MadeIf arena.now
+        (λ t.
+        IsFramed (triple_of arena.now p.now) t
+        × (further (triple_of arena.now p.now).pre.regs t.pre.regs
+        ≡ map (register_of arena.now) regs.now)
+        × (rest_after (triple_of arena.now p.now).pre.mems t.pre.mems
+        ≡ map (mem_of arena.now) mems.now)) o) }
 {
     if any_listed(p.pre.regs.as_slice(), regs) {
         return Ok(None);
@@ -279,7 +303,8 @@ fn is_listed(own: &[(u8, u64)], number: u8) -> bool
     false
 }
 
-/// The assertion with further registers, each in its place, and with further memories behind its own.
+/// The assertion with further registers, each in its place, and with further memories behind its
+/// own.
 fn with_further(
     alloc: Global,
     side: &HeldSide,

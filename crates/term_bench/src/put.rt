@@ -54,8 +54,10 @@ pub fn put_facts<L: Ledger>(
 ) -> Result<List<HeldFact>, NoMemory>
     ensures put { IfOk result (λ fs. AreFactsPut arena.new fs (map fact_tree facts.now)) }
     ensures grows { Extends arena.old arena.new }
-    ensures order { IfOk result (λ _. AreTermsPutIn arena.old (flat_map fact_terms (map fact_tree facts.now)) arena.new) }
-    ensures steps { steps.new ≤ steps.old + nodes_of (flat_map fact_terms (map fact_tree facts.now)) }
+    ensures order { IfOk result (λ _.
+        AreTermsPutIn arena.old (flat_map fact_terms (map fact_tree facts.now)) arena.new) }
+    ensures steps { steps.new
+        ≤ steps.old + nodes_of (flat_map fact_terms (map fact_tree facts.now)) }
 {
     let mut numbers = List::with_capacity(alloc, facts.len())?;
     for fact in facts {
@@ -73,7 +75,8 @@ fn put_fact<L: Ledger>(
 ) -> Result<HeldFact, NoMemory>
     ensures put { IfOk result (λ f. IsFactPut arena.new f (fact_tree fact.now)) }
     ensures grows { Extends arena.old arena.new }
-    ensures order { IfOk result (λ _. AreTermsPutIn arena.old (fact_terms (fact_tree fact.now)) arena.new) }
+    ensures order { IfOk result (λ _.
+        AreTermsPutIn arena.old (fact_terms (fact_tree fact.now)) arena.new) }
     ensures steps { steps.new ≤ steps.old + nodes_of (fact_terms (fact_tree fact.now)) }
 {
     match fact {
@@ -117,7 +120,8 @@ fn put_values<L: Ledger>(
 ) -> Result<HeldValues, NoMemory>
     ensures put { IfOk result (λ v. IsValuesPut arena.new v (values_tree values.now)) }
     ensures grows { Extends arena.old arena.new }
-    ensures order { IfOk result (λ _. AreTermsPutIn arena.old (values_terms (values_tree values.now)) arena.new) }
+    ensures order { IfOk result (λ _.
+        AreTermsPutIn arena.old (values_terms (values_tree values.now)) arena.new) }
     ensures steps { steps.new ≤ steps.old + nodes_of (values_terms (values_tree values.now)) }
 {
     let words = put_words(alloc, arena, values.words.as_slice(), steps)?;
@@ -134,7 +138,8 @@ pub fn put_side<L: Ledger>(
 ) -> Result<HeldSide, NoMemory>
     ensures put { IfOk result (λ s. IsSidePut arena.new s (assertion_tree side.now)) }
     ensures grows { Extends arena.old arena.new }
-    ensures order { IfOk result (λ _. AreTermsPutIn arena.old (assertion_terms (assertion_tree side.now)) arena.new) }
+    ensures order { IfOk result (λ _.
+        AreTermsPutIn arena.old (assertion_terms (assertion_tree side.now)) arena.new) }
     ensures steps { steps.new ≤ steps.old + nodes_of (assertion_terms (assertion_tree side.now)) }
 {
     let pc = put_word(arena, &side.pc, steps)?;
@@ -149,10 +154,13 @@ fn put_registers<L: Ledger>(
     registers: &[(u8, Word)],
     steps: &mut Steps<L>,
 ) -> Result<List<(u8, u64)>, NoMemory>
-    ensures put { IfOk result (λ rs. AreRegistersPut arena.new rs (map register_tree registers.now)) }
+    ensures put { IfOk result (λ rs.
+        AreRegistersPut arena.new rs (map register_tree registers.now)) }
     ensures grows { Extends arena.old arena.new }
-    ensures order { IfOk result (λ _. AreTermsPutIn arena.old (map (λ r. OfWord r.1) (map register_tree registers.now)) arena.new) }
-    ensures steps { steps.new ≤ steps.old + nodes_of (map (λ r. OfWord r.1) (map register_tree registers.now)) }
+    ensures order { IfOk result (λ _. AreTermsPutIn arena.old
+        (map (λ r. OfWord r.1) (map register_tree registers.now)) arena.new) }
+    ensures steps { steps.new
+        ≤ steps.old + nodes_of (map (λ r. OfWord r.1) (map register_tree registers.now)) }
 {
     let mut numbers = List::with_capacity(alloc, registers.len())?;
     for register in registers {
@@ -170,7 +178,8 @@ fn put_words<L: Ledger>(
 ) -> Result<List<u64>, NoMemory>
     ensures put { IfOk result (λ ks. AreWordsPut arena.new ks (map word_tree words.now)) }
     ensures grows { Extends arena.old arena.new }
-    ensures order { IfOk result (λ _. AreTermsPutIn arena.old (map OfWord (map word_tree words.now)) arena.new) }
+    ensures order { IfOk result (λ _.
+        AreTermsPutIn arena.old (map OfWord (map word_tree words.now)) arena.new) }
     ensures steps { steps.new ≤ steps.old + nodes_of (map OfWord (map word_tree words.now)) }
 {
     let mut numbers = List::with_capacity(alloc, words.len())?;
@@ -190,7 +199,8 @@ pub fn put_mems<L: Ledger>(
 ) -> Result<List<u64>, NoMemory>
     ensures put { IfOk result (λ ks. AreMemsPut arena.new ks (map mem_tree mems.now)) }
     ensures grows { Extends arena.old arena.new }
-    ensures order { IfOk result (λ _. AreTermsPutIn arena.old (map OfMem (map mem_tree mems.now)) arena.new) }
+    ensures order { IfOk result (λ _.
+        AreTermsPutIn arena.old (map OfMem (map mem_tree mems.now)) arena.new) }
     ensures steps { steps.new ≤ steps.old + nodes_of (map OfMem (map mem_tree mems.now)) }
 {
     let mut numbers = List::with_capacity(alloc, mems.len())?;
@@ -210,8 +220,10 @@ pub fn put_word_terms<L: Ledger>(
 ) -> Result<List<(u32, u64)>, NoMemory>
     ensures put { IfOk result (λ ps. AreRegistersPut arena.new ps (map word_put_in terms.now)) }
     ensures grows { Extends arena.old arena.new }
-    ensures order { IfOk result (λ _. AreTermsPutIn arena.old (map (λ p. OfWord p.1) (map word_put_in terms.now)) arena.new) }
-    ensures steps { steps.new ≤ steps.old + nodes_of (map (λ p. OfWord p.1) (map word_put_in terms.now)) }
+    ensures order { IfOk result (λ _.
+        AreTermsPutIn arena.old (map (λ p. OfWord p.1) (map word_put_in terms.now)) arena.new) }
+    ensures steps { steps.new
+        ≤ steps.old + nodes_of (map (λ p. OfWord p.1) (map word_put_in terms.now)) }
 {
     let mut numbers = List::with_capacity(alloc, terms.len())?;
     for term in terms {
@@ -230,8 +242,10 @@ pub fn put_mem_terms<L: Ledger>(
 ) -> Result<List<(u32, u64)>, NoMemory>
     ensures put { IfOk result (λ ps. AreMemTermsPut arena.new ps (map mem_put_in terms.now)) }
     ensures grows { Extends arena.old arena.new }
-    ensures order { IfOk result (λ _. AreTermsPutIn arena.old (map (λ p. OfMem p.1) (map mem_put_in terms.now)) arena.new) }
-    ensures steps { steps.new ≤ steps.old + nodes_of (map (λ p. OfMem p.1) (map mem_put_in terms.now)) }
+    ensures order { IfOk result (λ _.
+        AreTermsPutIn arena.old (map (λ p. OfMem p.1) (map mem_put_in terms.now)) arena.new) }
+    ensures steps { steps.new
+        ≤ steps.old + nodes_of (map (λ p. OfMem p.1) (map mem_put_in terms.now)) }
 {
     let mut numbers = List::with_capacity(alloc, terms.len())?;
     for term in terms {
@@ -249,7 +263,8 @@ pub fn put_word<L: Ledger>(
 ) -> Result<u64, NoMemory>
     ensures put { IfOk result (λ k. IsWordPut arena.new k (word_tree word.now)) }
     ensures grows { Extends arena.old arena.new }
-    ensures order { IfOk result (λ _. AreTermsPutIn arena.old (OfWord (word_tree word.now) ∷ []) arena.new) }
+    ensures order { IfOk result (λ _.
+        AreTermsPutIn arena.old (OfWord (word_tree word.now) ∷ []) arena.new) }
     ensures steps { steps.new ≤ steps.old + word_nodes (word_tree word.now) }
 {
     let k = arena.put_word(word, steps)?;
@@ -259,7 +274,8 @@ pub fn put_word<L: Ledger>(
 fn put_mem<L: Ledger>(arena: &mut Arena, mem: &Mem, steps: &mut Steps<L>) -> Result<u64, NoMemory>
     ensures put { IfOk result (λ k. IsMemPut arena.new k (mem_tree mem.now)) }
     ensures grows { Extends arena.old arena.new }
-    ensures order { IfOk result (λ _. AreTermsPutIn arena.old (OfMem (mem_tree mem.now) ∷ []) arena.new) }
+    ensures order { IfOk result (λ _.
+        AreTermsPutIn arena.old (OfMem (mem_tree mem.now) ∷ []) arena.new) }
     ensures steps { steps.new ≤ steps.old + mem_nodes (mem_tree mem.now) }
 {
     let k = arena.put_mem(mem, steps)?;
@@ -273,7 +289,8 @@ fn put_cond<L: Ledger>(
 ) -> Result<u64, NoMemory>
     ensures put { IfOk result (λ k. IsCondPut arena.new k (cond_tree cond.now)) }
     ensures grows { Extends arena.old arena.new }
-    ensures order { IfOk result (λ _. AreTermsPutIn arena.old (OfCond (cond_tree cond.now) ∷ []) arena.new) }
+    ensures order { IfOk result (λ _.
+        AreTermsPutIn arena.old (OfCond (cond_tree cond.now) ∷ []) arena.new) }
     ensures steps { steps.new ≤ steps.old + cond_nodes (cond_tree cond.now) }
 {
     let k = arena.put_cond(cond, steps)?;

@@ -40,15 +40,17 @@ use word_terms::{Code, Sub};
 /// The theorem of that number, if it exists and wasn't forgotten.
 pub(crate) fn theorem<'a>(arena: &Arena, held: &'a BTreeMap<u64, Held>, k: u64) -> Option<&'a Held>
     requires { AreHeldAt arena.now held.now.entries }
-    ensures theorem { option_map (triple_of arena.now) (option_copied result) ≡ theorem_at arena.now held.now.entries k }
+    ensures theorem { option_map (triple_of arena.now) (option_copied result)
+        ≡ theorem_at arena.now held.now.entries k }
     ensures there { IfSome (option_copied result) (λ h. IsHeldAt arena.now h) }
     ensures held { option_copied result ≡ held_by_number held.now.entries k }
 {
     held.get(&k)
 }
 
-/// Whether the stated triple meets the row of the rule, after those theorems and closed definitions. Its numbers and its code are those
-/// of `put`. Where the code is the group's own, as `own` says, it isn't compared with that of a theorem that is marked.
+/// Whether the stated triple meets the row of the rule, after those theorems and closed
+/// definitions. Its numbers and its code are those of `put`. Where the code is the group's own, as
+/// `own` says, it isn't compared with that of a theorem that is marked.
 #[tactic(auto, using(crate::proofs::BenchLemmas::extends_none))]
 pub(crate) fn meets<L: Ledger>(
     alloc: Global,
@@ -66,12 +68,20 @@ pub(crate) fn meets<L: Ledger>(
 ) -> Result<bool, NoMemory>
     requires held { AreHeldAt arena.old held.now.entries }
     requires marked { HaveCode g.now.code.ranges held.now.entries marked.now }
-    requires put { IsHeldPut arena.old put.now (triple_or_own (group_tree g.now).code own (triple_tree stated.now)) }
+    requires put { IsHeldPut arena.old put.now (triple_or_own (group_tree g.now).code own
+        (triple_tree stated.now)) }
     requires own { IsTrue own → put.now.code.ranges ≡ g.now.code.ranges }
-    ensures answer { IfOk result (λ r. IsTrue r ↔ Meets (group_tree g.now) (history_from 0 arena.old held.now.entries closed.now) (rule_tree rule.now) (triple_or_own (group_tree g.now).code own (triple_tree stated.now))) }
+    ensures answer { IfOk result (λ r.
+        IsTrue r
+        ↔ Meets (group_tree g.now) (history_from 0 arena.old held.now.entries closed.now)
+        (rule_tree rule.now) (triple_or_own (group_tree g.now).code own (triple_tree stated.now))) }
     ensures grows { Extends arena.old arena.new }
     ensures steps { compares_numbers (rule_tree rule.now) ≡ true → steps.new ≡ steps.old }
-    ensures most { (ts : Items Tree) → HasSubterms ts (triple_terms (triple_tree stated.now)) → HasSubterms ts (premise_terms (theorem_at arena.old held.now.entries) (rule_tree rule.now)) → steps.new ≤ steps.old + (nodes_of (put_in_terms (rule_tree rule.now)) + pair_steps ts) }
+    ensures most { (ts : Items Tree)
+        → HasSubterms ts (triple_terms (triple_tree stated.now))
+        → HasSubterms ts (premise_terms (theorem_at arena.old held.now.entries)
+        (rule_tree rule.now))
+        → steps.new ≤ steps.old + (nodes_of (put_in_terms (rule_tree rule.now)) + pair_steps ts) }
 {
     match rule {
         Rule::Axiom(addr, word, form) => {
@@ -137,7 +147,9 @@ fn by_axiom(
     stated: &Triple,
     code: &Code,
 ) -> Result<bool, NoMemory>
-    ensures { IfOk result (λ r. IsTrue r ↔ (axiom_of addr word form ≡ Just (over_code code.now.ranges (triple_tree stated.now)))) }
+    ensures { IfOk result (λ r.
+        IsTrue r
+        ↔ (axiom_of addr word form ≡ Just (over_code code.now.ranges (triple_tree stated.now)))) }
 {
     match axiom_triple(alloc, addr, word, form)? {
         Some(t) => Ok(is_triple_over(&t, stated, code)),
@@ -147,7 +159,8 @@ fn by_axiom(
 
 /// Whether the first triple is the second one over that code.
 fn is_triple_over(t: &Triple, stated: &Triple, code: &Code) -> bool
-    ensures { IsTrue result ↔ (triple_tree t.now ≡ over_code code.now.ranges (triple_tree stated.now)) }
+    ensures { IsTrue result
+        ↔ (triple_tree t.now ≡ over_code code.now.ranges (triple_tree stated.now)) }
 {
     same_facts(t.facts.as_slice(), stated.facts.as_slice())
         && same_assertion(&t.pre, &stated.pre)
@@ -169,10 +182,20 @@ fn by_inst<L: Ledger>(
 ) -> Result<bool, NoMemory>
     requires held { AreHeldAt arena.old held.now.entries }
     requires stated { IsHeldAt arena.old stated.now }
-    requires known { IsTrue known → IfSome (held_by_number held.now.entries p) (λ q. q.code.ranges ≡ stated.now.code.ranges) }
-    ensures answer { IfOk result (λ r. IsTrue r ↔ IsSomeAnd (theorem_at arena.old held.now.entries p) (λ p. IsInst (put_for (map word_put_in terms.now.words) (map mem_put_in terms.now.mems)) p (triple_of arena.old stated.now))) }
+    requires known { IsTrue known
+        → IfSome (held_by_number held.now.entries p) (λ q. q.code.ranges ≡ stated.now.code.ranges) }
+    ensures answer { IfOk result (λ r.
+        IsTrue r
+        ↔ IsSomeAnd (theorem_at arena.old held.now.entries p) (λ p.
+        IsInst (put_for (map word_put_in terms.now.words) (map mem_put_in terms.now.mems)) p
+        (triple_of arena.old stated.now))) }
     ensures grows { Extends arena.old arena.new }
-    ensures steps { (ts : Items Tree) → HasSubterms ts (theorem_terms (theorem_at arena.old held.now.entries p)) → steps.new ≤ steps.old + (nodes_of (map (λ q. OfWord q.1) (map word_put_in terms.now.words) ++ map (λ q. OfMem q.1) (map mem_put_in terms.now.mems)) + 2 * length ts) }
+    ensures steps { (ts : Items Tree)
+        → HasSubterms ts (theorem_terms (theorem_at arena.old held.now.entries p))
+        → steps.new
+        ≤ steps.old + (nodes_of
+        (map (λ q. OfWord q.1) (map word_put_in terms.now.words)
+        ++ map (λ q. OfMem q.1) (map mem_put_in terms.now.mems)) + 2 * length ts) }
 {
     match theorem(arena, held, p) {
         Some(p) => is_instance_by(alloc, arena, images, p, terms, stated, known, steps),
@@ -194,9 +217,17 @@ fn is_instance_by<L: Ledger>(
     requires p { IsHeldAt arena.old p.now }
     requires stated { IsHeldAt arena.old stated.now }
     requires known { IsTrue known → p.now.code.ranges ≡ stated.now.code.ranges }
-    ensures answer { IfOk result (λ r. IsTrue r ↔ IsInst (put_for (map word_put_in terms.now.words) (map mem_put_in terms.now.mems)) (triple_of arena.old p.now) (triple_of arena.old stated.now)) }
+    ensures answer { IfOk result (λ r.
+        IsTrue r
+        ↔ IsInst (put_for (map word_put_in terms.now.words) (map mem_put_in terms.now.mems))
+        (triple_of arena.old p.now) (triple_of arena.old stated.now)) }
     ensures grows { Extends arena.old arena.new }
-    ensures steps { (ts : Items Tree) → HasSubterms ts (triple_terms (triple_of arena.old p.now)) → steps.new ≤ steps.old + (nodes_of (map (λ q. OfWord q.1) (map word_put_in terms.now.words) ++ map (λ q. OfMem q.1) (map mem_put_in terms.now.mems)) + 2 * length ts) }
+    ensures steps { (ts : Items Tree)
+        → HasSubterms ts (triple_terms (triple_of arena.old p.now))
+        → steps.new
+        ≤ steps.old + (nodes_of
+        (map (λ q. OfWord q.1) (map word_put_in terms.now.words)
+        ++ map (λ q. OfMem q.1) (map mem_put_in terms.now.mems)) + 2 * length ts) }
 {
     let words = put_word_terms(alloc, arena, terms.words.as_slice(), steps)?;
     let mems = put_mem_terms(alloc, arena, terms.mems.as_slice(), steps)?;
@@ -217,8 +248,11 @@ fn is_instance_by<L: Ledger>(
 fn by_frame(arena: &Arena, held: &BTreeMap<u64, Held>, p: u64, stated: &Held, known: bool) -> bool
     requires held { AreHeldAt arena.now held.now.entries }
     requires stated { IsHeldAt arena.now stated.now }
-    requires known { IsTrue known → IfSome (held_by_number held.now.entries p) (λ q. q.code.ranges ≡ stated.now.code.ranges) }
-    ensures { IsTrue result ↔ IsSomeAnd (theorem_at arena.now held.now.entries p) (λ p. IsFramed p (triple_of arena.now stated.now)) }
+    requires known { IsTrue known
+        → IfSome (held_by_number held.now.entries p) (λ q. q.code.ranges ≡ stated.now.code.ranges) }
+    ensures { IsTrue result
+        ↔ IsSomeAnd (theorem_at arena.now held.now.entries p) (λ p.
+        IsFramed p (triple_of arena.now stated.now)) }
 {
     match theorem(arena, held, p) {
         Some(p) => is_frame(arena, p, stated, has_code(known, p, stated)),
@@ -238,9 +272,14 @@ fn by_compose(
 ) -> bool
     requires held { AreHeldAt arena.now held.now.entries }
     requires stated { IsHeldAt arena.now stated.now }
-    requires first { IsTrue first_known → IfSome (held_by_number held.now.entries p) (λ q. q.code.ranges ≡ stated.now.code.ranges) }
-    requires second { IsTrue second_known → IfSome (held_by_number held.now.entries q) (λ p. p.code.ranges ≡ stated.now.code.ranges) }
-    ensures { IsTrue result ↔ IsSomeAnd (theorem_at arena.now held.now.entries p) (λ p. IsSomeAnd (theorem_at arena.now held.now.entries q) (λ q. IsComposed p q (triple_of arena.now stated.now))) }
+    requires first { IsTrue first_known
+        → IfSome (held_by_number held.now.entries p) (λ q. q.code.ranges ≡ stated.now.code.ranges) }
+    requires second { IsTrue second_known
+        → IfSome (held_by_number held.now.entries q) (λ p. p.code.ranges ≡ stated.now.code.ranges) }
+    ensures { IsTrue result
+        ↔ IsSomeAnd (theorem_at arena.now held.now.entries p) (λ p.
+        IsSomeAnd (theorem_at arena.now held.now.entries q) (λ q.
+        IsComposed p q (triple_of arena.now stated.now))) }
 {
     match theorem(arena, held, p) {
         Some(p) => {
@@ -264,8 +303,11 @@ fn is_composition_with(
     requires p { IsHeldAt arena.now p.now }
     requires stated { IsHeldAt arena.now stated.now }
     requires first { IsTrue first_known → p.now.code.ranges ≡ stated.now.code.ranges }
-    requires second { IsTrue second_known → IfSome (held_by_number held.now.entries q) (λ p. p.code.ranges ≡ stated.now.code.ranges) }
-    ensures { IsTrue result ↔ IsSomeAnd (theorem_at arena.now held.now.entries q) (λ q. IsComposed (triple_of arena.now p.now) q (triple_of arena.now stated.now)) }
+    requires second { IsTrue second_known
+        → IfSome (held_by_number held.now.entries q) (λ p. p.code.ranges ≡ stated.now.code.ranges) }
+    ensures { IsTrue result
+        ↔ IsSomeAnd (theorem_at arena.now held.now.entries q) (λ q.
+        IsComposed (triple_of arena.now p.now) q (triple_of arena.now stated.now)) }
 {
     match theorem(arena, held, q) {
         Some(q) => {
@@ -285,8 +327,11 @@ fn by_extend_code(
 ) -> bool
     requires held { AreHeldAt arena.now held.now.entries }
     requires stated { IsHeldAt arena.now stated.now }
-    requires known { IsTrue known → IfSome (held_by_number held.now.entries p) (λ q. q.code.ranges ≡ stated.now.code.ranges) }
-    ensures { IsTrue result ↔ IsSomeAnd (theorem_at arena.now held.now.entries p) (λ p. IsExtended p (triple_of arena.now stated.now)) }
+    requires known { IsTrue known
+        → IfSome (held_by_number held.now.entries p) (λ q. q.code.ranges ≡ stated.now.code.ranges) }
+    ensures { IsTrue result
+        ↔ IsSomeAnd (theorem_at arena.now held.now.entries p) (λ p.
+        IsExtended p (triple_of arena.now stated.now)) }
 {
     match theorem(arena, held, p) {
         Some(p) => is_extension(arena, p, stated, has_code_within(known, p, stated)),
@@ -305,9 +350,16 @@ fn by_strengthen<L: Ledger>(
 ) -> Result<bool, NoMemory>
     requires held { AreHeldAt arena.now held.now.entries }
     requires stated { IsHeldAt arena.now stated.now }
-    requires known { IsTrue known → IfSome (held_by_number held.now.entries p) (λ q. q.code.ranges ≡ stated.now.code.ranges) }
-    ensures answer { IfOk result (λ r. IsTrue r ↔ IsSomeAnd (theorem_at arena.now held.now.entries p) (λ p. IsStrengthened p (triple_of arena.now stated.now))) }
-    ensures steps { (ts : Items Tree) → HasSubterms ts (triple_terms (triple_of arena.now stated.now)) → HasSubterms ts (theorem_terms (theorem_at arena.now held.now.entries p)) → steps.new ≤ steps.old + 2 * (length ts * length ts) }
+    requires known { IsTrue known
+        → IfSome (held_by_number held.now.entries p) (λ q. q.code.ranges ≡ stated.now.code.ranges) }
+    ensures answer { IfOk result (λ r.
+        IsTrue r
+        ↔ IsSomeAnd (theorem_at arena.now held.now.entries p) (λ p.
+        IsStrengthened p (triple_of arena.now stated.now))) }
+    ensures steps { (ts : Items Tree)
+        → HasSubterms ts (triple_terms (triple_of arena.now stated.now))
+        → HasSubterms ts (theorem_terms (theorem_at arena.now held.now.entries p))
+        → steps.new ≤ steps.old + 2 * (length ts * length ts) }
 {
     match theorem(arena, held, p) {
         Some(p) => {
@@ -329,9 +381,16 @@ fn by_weaken<L: Ledger>(
 ) -> Result<bool, NoMemory>
     requires held { AreHeldAt arena.now held.now.entries }
     requires stated { IsHeldAt arena.now stated.now }
-    requires known { IsTrue known → IfSome (held_by_number held.now.entries p) (λ q. q.code.ranges ≡ stated.now.code.ranges) }
-    ensures answer { IfOk result (λ r. IsTrue r ↔ IsSomeAnd (theorem_at arena.now held.now.entries p) (λ p. IsWeakened p (triple_of arena.now stated.now))) }
-    ensures steps { (ts : Items Tree) → HasSubterms ts (triple_terms (triple_of arena.now stated.now)) → HasSubterms ts (theorem_terms (theorem_at arena.now held.now.entries p)) → steps.new ≤ steps.old + 2 * (length ts * length ts) }
+    requires known { IsTrue known
+        → IfSome (held_by_number held.now.entries p) (λ q. q.code.ranges ≡ stated.now.code.ranges) }
+    ensures answer { IfOk result (λ r.
+        IsTrue r
+        ↔ IsSomeAnd (theorem_at arena.now held.now.entries p) (λ p.
+        IsWeakened p (triple_of arena.now stated.now))) }
+    ensures steps { (ts : Items Tree)
+        → HasSubterms ts (triple_terms (triple_of arena.now stated.now))
+        → HasSubterms ts (theorem_terms (theorem_at arena.now held.now.entries p))
+        → steps.new ≤ steps.old + 2 * (length ts * length ts) }
 {
     match theorem(arena, held, p) {
         Some(p) => {
@@ -353,9 +412,16 @@ fn by_discharge<L: Ledger>(
 ) -> Result<bool, NoMemory>
     requires held { AreHeldAt arena.now held.now.entries }
     requires stated { IsHeldAt arena.now stated.now }
-    requires known { IsTrue known → IfSome (held_by_number held.now.entries p) (λ q. q.code.ranges ≡ stated.now.code.ranges) }
-    ensures answer { IfOk result (λ r. IsTrue r ↔ IsSomeAnd (theorem_at arena.now held.now.entries p) (λ p. IsDischarged p (triple_of arena.now stated.now))) }
-    ensures steps { (ts : Items Tree) → HasSubterms ts (triple_terms (triple_of arena.now stated.now)) → HasSubterms ts (theorem_terms (theorem_at arena.now held.now.entries p)) → steps.new ≤ steps.old + (2 * (length ts * length ts) + 2 * length ts) }
+    requires known { IsTrue known
+        → IfSome (held_by_number held.now.entries p) (λ q. q.code.ranges ≡ stated.now.code.ranges) }
+    ensures answer { IfOk result (λ r.
+        IsTrue r
+        ↔ IsSomeAnd (theorem_at arena.now held.now.entries p) (λ p.
+        IsDischarged p (triple_of arena.now stated.now))) }
+    ensures steps { (ts : Items Tree)
+        → HasSubterms ts (triple_terms (triple_of arena.now stated.now))
+        → HasSubterms ts (theorem_terms (theorem_at arena.now held.now.entries p))
+        → steps.new ≤ steps.old + (2 * (length ts * length ts) + 2 * length ts) }
 {
     match theorem(arena, held, p) {
         Some(p) => {
@@ -378,8 +444,12 @@ fn by_use_exit<L: Ledger>(
 ) -> bool
     requires stated { IsHeldAt arena.now stated.now }
     requires own { IsTrue own → stated.now.code.ranges ≡ g.now.code.ranges }
-    ensures answer { IsTrue result ↔ ((is_closed_in closed.now def ≡ true) × IsExit (group_tree g.now) def exit (triple_of arena.now stated.now)) }
-    ensures steps { (ts : Items Tree) → HasSubterms ts (triple_terms (triple_of arena.now stated.now)) → steps.new ≤ steps.old + (10 * length ts + 1) }
+    ensures answer { IsTrue result
+        ↔ ((is_closed_in closed.now def ≡ true)
+        × IsExit (group_tree g.now) def exit (triple_of arena.now stated.now)) }
+    ensures steps { (ts : Items Tree)
+        → HasSubterms ts (triple_terms (triple_of arena.now stated.now))
+        → steps.new ≤ steps.old + (10 * length ts + 1) }
 {
     is_closed(closed, def)
         && is_exit(
@@ -407,8 +477,12 @@ pub(crate) fn by_further<R: HeldRule, L: Ledger>(
 ) -> Result<bool, NoMemory>
     requires held { AreHeldAt arena.old held.now.entries }
     requires stated { IsHeldAt arena.old stated.now }
-    requires known { IsTrue known → IfSome (held_by_number held.now.entries p) (λ q. q.code.ranges ≡ stated.now.code.ranges) }
-    ensures answer { IfOk result (λ r. IsTrue r ↔ IsSomeAnd (theorem_at arena.old held.now.entries p) (λ p. R.states p (triple_of arena.old stated.now))) }
+    requires known { IsTrue known
+        → IfSome (held_by_number held.now.entries p) (λ q. q.code.ranges ≡ stated.now.code.ranges) }
+    ensures answer { IfOk result (λ r.
+        IsTrue r
+        ↔ IsSomeAnd (theorem_at arena.old held.now.entries p) (λ p.
+        R.states p (triple_of arena.old stated.now))) }
     ensures grows { Extends arena.old arena.new }
     ensures steps { steps.new ≤ steps.old + 1 }
 {

@@ -76,7 +76,8 @@ impl RuledLines for ByTable {
     }
 }
 
-/// Judges the lines behind a group, one after the other: its terms begin with those of the lines' table.
+/// Judges the lines behind a group, one after the other: its terms begin with those of the lines'
+/// table.
 #[derive(Drop)]
 pub(crate) struct TableBench<'g> {
     bench: Bench<'g>,
@@ -103,7 +104,8 @@ impl<'g> TableBench<'g> {
         requires new { Contains (state_nodes self.old.bench) n → ⊥ }
         ensures group { state_group self.new.bench ≡ state_group self.old.bench }
         ensures same { state_history self.new.bench ≡ state_history self.old.bench }
-        ensures nodes { OnOk result (state_nodes self.new.bench ≡ state_nodes self.old.bench ++ n ∷ []) }
+        ensures nodes { OnOk result (state_nodes self.new.bench
+            ≡ state_nodes self.old.bench ++ n ∷ []) }
         ensures terms { OnOk result (self.new.terms ≡ length (state_nodes self.new.bench)) }
     {
         add_counted::<Brand>(&mut self.bench, n, Blank::new(1))?;
@@ -115,10 +117,18 @@ impl<'g> TableBench<'g> {
     fn derive(&mut self, alloc: Global, line: &Short, all: bool) -> Result<(), RuleFault>
         requires code { IsOwnCode (state_group self.old.bench).code }
         requires within { AreWithin (state_history self.old.bench) }
-        requires line { IsFineShort (state_nodes self.old.bench) (short_or_own (state_group self.old.bench).code all line.now) }
+        requires line { IsFineShort (state_nodes self.old.bench)
+            (short_or_own (state_group self.old.bench).code all line.now) }
         ensures group { state_group self.new.bench ≡ state_group self.old.bench }
-        ensures left { OnOk result (LeavesBehind (state_group self.old.bench) (state_history self.old.bench) (state_nodes self.old.bench) (short_or_own (state_group self.old.bench).code all line.now) (state_history self.new.bench)) }
-        ensures no_instance { IsErrOf result RuleFault.NoInstance → IsShortInstance (state_group self.old.bench) (state_history self.old.bench) (state_nodes self.old.bench) (short_or_own (state_group self.old.bench).code all line.now) → ⊥ }
+        ensures left { OnOk result (LeavesBehind (state_group self.old.bench)
+            (state_history self.old.bench) (state_nodes self.old.bench)
+            (short_or_own (state_group self.old.bench).code all line.now)
+            (state_history self.new.bench)) }
+        ensures no_instance { IsErrOf result RuleFault.NoInstance
+            → IsShortInstance (state_group self.old.bench) (state_history self.old.bench)
+            (state_nodes self.old.bench)
+            (short_or_own (state_group self.old.bench).code all line.now)
+            → ⊥ }
         ensures grows { Extends (state_nodes self.old.bench) (state_nodes self.new.bench) }
         ensures terms { self.new.terms ≡ self.old.terms }
     {
@@ -155,10 +165,16 @@ fn derive_counted<L: Ledger>(
     requires one { L.parts ≡ 1 }
     requires code { IsOwnCode (state_group bench.old).code }
     requires within { AreWithin (state_history bench.old) }
-    requires line { IsFineShort (state_nodes bench.old) (short_or_own (state_group bench.old).code all line.now) }
+    requires line { IsFineShort (state_nodes bench.old) (short_or_own (state_group bench.old).code
+        all line.now) }
     ensures group { bench.new.0 ≡ bench.old.0 }
-    ensures left { OnOk result (LeavesBehind (state_group bench.old) (state_history bench.old) (state_nodes bench.old) (short_or_own (state_group bench.old).code all line.now) (state_history bench.new)) }
-    ensures no_instance { IsErrOf result RuleFault.NoInstance → IsShortInstance (state_group bench.old) (state_history bench.old) (state_nodes bench.old) (short_or_own (state_group bench.old).code all line.now) → ⊥ }
+    ensures left { OnOk result (LeavesBehind (state_group bench.old) (state_history bench.old)
+        (state_nodes bench.old) (short_or_own (state_group bench.old).code all line.now)
+        (state_history bench.new)) }
+    ensures no_instance { IsErrOf result RuleFault.NoInstance
+        → IsShortInstance (state_group bench.old) (state_history bench.old) (state_nodes bench.old)
+        (short_or_own (state_group bench.old).code all line.now)
+        → ⊥ }
     ensures grows { Extends (state_nodes bench.old) (state_nodes bench.new) }
 {
     bench.derive_spelled(alloc, line, all, &mut Steps::<L>::new(blank))

@@ -34,8 +34,9 @@ use tailrec_lang::Group;
 use term_arena::{Arena, Steps};
 use word_terms::Code;
 
-/// The triple that the line states after those theorems and closed definitions, if it is right. That of an exit shares that code, which is
-/// the group's own, and so does that of a line that extends a theorem's code where `all` stands for it.
+/// The triple that the line states after those theorems and closed definitions, if it is right.
+/// That of an exit shares that code, which is the group's own, and so does that of a line that
+/// extends a theorem's code where `all` stands for it.
 pub(crate) fn stated_by<L: Ledger>(
     alloc: Global,
     g: &Group,
@@ -56,7 +57,10 @@ pub(crate) fn stated_by<L: Ledger>(
     requires marked { HaveCode g.now.code.ranges held.now.entries marked.now }
     requires line { IsFineShort arena.old (short_or_own g.now.code.ranges all line.now) }
     requires depths { AreDepths arena.old depths.old }
-    ensures made { IfOk result (λ o. MadeIf arena.new (IsStatedBy (group_tree g.now) (history_from 0 arena.old held.now.entries closed.now) arena.old (short_or_own g.now.code.ranges all line.now)) o) }
+    ensures made { IfOk result (λ o.
+        MadeIf arena.new
+        (IsStatedBy (group_tree g.now) (history_from 0 arena.old held.now.entries closed.now)
+        arena.old (short_or_own g.now.code.ranges all line.now)) o) }
     ensures grows { Extends arena.old arena.new }
     ensures depths { AreDepths arena.new depths.new }
 {
@@ -86,7 +90,8 @@ pub(crate) fn stated_by<L: Ledger>(
 /// The theorem of that number, if it exists and wasn't forgotten.
 fn fine_theorem<'a>(arena: &Arena, held: &'a BTreeMap<u64, Held>, k: u64) -> Option<&'a Held>
     requires { AreFineAt arena.now held.now.entries }
-    ensures theorem { option_map (triple_of arena.now) (option_copied result) ≡ theorem_at arena.now held.now.entries k }
+    ensures theorem { option_map (triple_of arena.now) (option_copied result)
+        ≡ theorem_at arena.now held.now.entries k }
     ensures fine { IfSome (option_copied result) (λ h. IsFineHeld arena.now h) }
     ensures held { option_copied result ≡ held_by_number held.now.entries k }
 {
@@ -108,7 +113,9 @@ fn by_inst<L: Ledger>(
     requires held { AreFineAt arena.old held.now.entries }
     requires sub { IsSubAt arena.old words.now mems.now }
     requires depths { AreDepths arena.old depths.old }
-    ensures made { IfOk result (λ o. MadeIf arena.new (λ t. IsSomeAnd (theorem_at arena.old held.now.entries p) (λ q. IsInst (put_for_numbers arena.old words.now mems.now) q t)) o) }
+    ensures made { IfOk result (λ o. MadeIf arena.new
+        (λ t. IsSomeAnd (theorem_at arena.old held.now.entries p) (λ q.
+        IsInst (put_for_numbers arena.old words.now mems.now) q t)) o) }
     ensures grows { Extends arena.old arena.new }
     ensures depths { AreDepths arena.new depths.new }
 {
@@ -145,7 +152,8 @@ fn by_use_exit<L: Ledger>(
     requires code { IsOwnCode g.now.code.ranges }
     requires shared { code.now.ranges ≡ g.now.code.ranges }
     requires depths { AreDepths arena.old depths.old }
-    ensures made { IfOk result (λ o. MadeIf arena.new (λ t. (is_closed_in closed.now def ≡ true) × IsExit (group_tree g.now) def number t) o) }
+    ensures made { IfOk result (λ o. MadeIf arena.new
+        (λ t. (is_closed_in closed.now def ≡ true) × IsExit (group_tree g.now) def number t) o) }
     ensures grows { Extends arena.old arena.new }
     ensures depths { AreDepths arena.new depths.new }
 {
@@ -166,7 +174,11 @@ fn by_frame(
     requires held { AreFineAt arena.now held.now.entries }
     requires regs { AreFineRegisters arena.now regs.now }
     requires mems { AreFineMems arena.now mems.now }
-    ensures { IfOk result (λ o. MadeIf arena.now (λ t. IsSomeAnd (theorem_at arena.now held.now.entries p) (λ q. IsFramed q t × (further q.pre.regs t.pre.regs ≡ map (register_of arena.now) regs.now) × (rest_after q.pre.mems t.pre.mems ≡ map (mem_of arena.now) mems.now))) o) }
+    ensures { IfOk result (λ o. MadeIf arena.now
+        (λ t. IsSomeAnd (theorem_at arena.now held.now.entries p) (λ q.
+        IsFramed q t
+        × (further q.pre.regs t.pre.regs ≡ map (register_of arena.now) regs.now)
+        × (rest_after q.pre.mems t.pre.mems ≡ map (mem_of arena.now) mems.now))) o) }
 {
     match fine_theorem(arena, held, p) {
         Some(q) => framed(alloc, arena, q, regs.as_slice(), mems.as_slice()),
@@ -189,7 +201,9 @@ fn by_extend_code(
     requires held { AreFineAt arena.now held.now.entries }
     requires marked { HaveCode g.now.code.ranges held.now.entries marked.now }
     requires more { IsOwnCode (code_or_own g.now.code.ranges all more.now.ranges) }
-    ensures { IfOk result (λ o. MadeIf arena.now (λ t. IsSomeAnd (theorem_at arena.now held.now.entries p) (λ q. IsExtended q t × (t.code ≡ code_or_own g.now.code.ranges all more.now.ranges))) o) }
+    ensures { IfOk result (λ o. MadeIf arena.now
+        (λ t. IsSomeAnd (theorem_at arena.now held.now.entries p) (λ q.
+        IsExtended q t × (t.code ≡ code_or_own g.now.code.ranges all more.now.ranges))) o) }
 {
     if all {
         by_extend_to_own(alloc, g, code, arena, held, marked, p)
@@ -212,7 +226,9 @@ fn by_extend_to_own(
     requires shared { code.now.ranges ≡ g.now.code.ranges }
     requires held { AreFineAt arena.now held.now.entries }
     requires marked { HaveCode g.now.code.ranges held.now.entries marked.now }
-    ensures { IfOk result (λ o. MadeIf arena.now (λ t. IsSomeAnd (theorem_at arena.now held.now.entries p) (λ q. IsExtended q t × (t.code ≡ g.now.code.ranges))) o) }
+    ensures { IfOk result (λ o. MadeIf arena.now
+        (λ t. IsSomeAnd (theorem_at arena.now held.now.entries p) (λ q.
+        IsExtended q t × (t.code ≡ g.now.code.ranges))) o) }
 {
     let known = is_marked(g, held, marked, p);
     match fine_theorem(arena, held, p) {
@@ -231,7 +247,9 @@ fn by_extend_to(
 ) -> Result<Option<Held>, NoMemory>
     requires held { AreFineAt arena.now held.now.entries }
     requires code { IsOwnCode code.now.ranges }
-    ensures { IfOk result (λ o. MadeIf arena.now (λ t. IsSomeAnd (theorem_at arena.now held.now.entries p) (λ q. IsExtended q t × (t.code ≡ code.now.ranges))) o) }
+    ensures { IfOk result (λ o. MadeIf arena.now
+        (λ t. IsSomeAnd (theorem_at arena.now held.now.entries p) (λ q.
+        IsExtended q t × (t.code ≡ code.now.ranges))) o) }
 {
     match fine_theorem(arena, held, p) {
         Some(q) => extended_to(alloc, arena, q, code),
@@ -248,7 +266,8 @@ fn extended_to(
 ) -> Result<Option<Held>, NoMemory>
     requires p { IsFineHeld arena.now p.now }
     requires code { IsOwnCode code.now.ranges }
-    ensures { IfOk result (λ o. MadeIf arena.now (λ t. IsExtended (triple_of arena.now p.now) t × (t.code ≡ code.now.ranges)) o) }
+    ensures { IfOk result (λ o. MadeIf arena.now
+        (λ t. IsExtended (triple_of arena.now p.now) t × (t.code ≡ code.now.ranges)) o) }
 {
     let code = copy_to_share(alloc, code)?;
     extended(alloc, arena, p, &code, false)
@@ -265,7 +284,9 @@ fn by_compose(
 ) -> Result<Option<Held>, NoMemory>
     requires held { AreFineAt arena.now held.now.entries }
     requires marked { HaveCode g.now.code.ranges held.now.entries marked.now }
-    ensures { IfOk result (λ o. MadeIf arena.now (λ t. IsSomeAnd (theorem_at arena.now held.now.entries p) (λ p. IsSomeAnd (theorem_at arena.now held.now.entries q) (λ q. IsComposed p q t))) o) }
+    ensures { IfOk result (λ o. MadeIf arena.now
+        (λ t. IsSomeAnd (theorem_at arena.now held.now.entries p) (λ p.
+        IsSomeAnd (theorem_at arena.now held.now.entries q) (λ q. IsComposed p q t))) o) }
 {
     let known = are_known(g, held, marked, p, q);
     match fine_theorem(arena, held, p) {
@@ -284,8 +305,11 @@ fn composed_with(
 ) -> Result<Option<Held>, NoMemory>
     requires held { AreFineAt arena.now held.now.entries }
     requires first { IsFineHeld arena.now first.now }
-    requires known { IsTrue known → IfSome (held_by_number held.now.entries q) (λ h. first.now.code.ranges ≡ h.code.ranges) }
-    ensures { IfOk result (λ o. MadeIf arena.now (λ t. IsSomeAnd (theorem_at arena.now held.now.entries q) (λ q. IsComposed (triple_of arena.now first.now) q t)) o) }
+    requires known { IsTrue known
+        → IfSome (held_by_number held.now.entries q) (λ h. first.now.code.ranges ≡ h.code.ranges) }
+    ensures { IfOk result (λ o. MadeIf arena.now
+        (λ t. IsSomeAnd (theorem_at arena.now held.now.entries q) (λ q.
+        IsComposed (triple_of arena.now first.now) q t)) o) }
 {
     match fine_theorem(arena, held, q) {
         Some(second) => composed(alloc, arena, first, second, known),
@@ -305,7 +329,11 @@ fn by_strengthen<L: Ledger>(
     requires held { AreFineAt arena.now held.now.entries }
     requires facts { AreFineFacts arena.now facts.now }
     requires pre { IsFineSide arena.now pre.now }
-    ensures { IfOk result (λ o. MadeIf arena.now (λ t. IsSomeAnd (theorem_at arena.now held.now.entries p) (λ q. IsStrengthened q t × (t.facts ≡ map (fact_of arena.now) facts.now) × (t.pre ≡ side_of arena.now pre.now))) o) }
+    ensures { IfOk result (λ o. MadeIf arena.now
+        (λ t. IsSomeAnd (theorem_at arena.now held.now.entries p) (λ q.
+        IsStrengthened q t
+        × (t.facts ≡ map (fact_of arena.now) facts.now)
+        × (t.pre ≡ side_of arena.now pre.now))) o) }
 {
     match fine_theorem(arena, held, p) {
         Some(q) => strengthened(alloc, arena, q, facts.as_slice(), pre, steps),
@@ -325,7 +353,11 @@ fn by_weaken<L: Ledger>(
     requires held { AreFineAt arena.now held.now.entries }
     requires facts { AreFineFacts arena.now facts.now }
     requires post { IsFineSide arena.now post.now }
-    ensures { IfOk result (λ o. MadeIf arena.now (λ t. IsSomeAnd (theorem_at arena.now held.now.entries p) (λ q. IsWeakened q t × (t.facts ≡ map (fact_of arena.now) facts.now) × (t.post ≡ side_of arena.now post.now))) o) }
+    ensures { IfOk result (λ o. MadeIf arena.now
+        (λ t. IsSomeAnd (theorem_at arena.now held.now.entries p) (λ q.
+        IsWeakened q t
+        × (t.facts ≡ map (fact_of arena.now) facts.now)
+        × (t.post ≡ side_of arena.now post.now))) o) }
 {
     match fine_theorem(arena, held, p) {
         Some(q) => weakened(alloc, arena, q, facts.as_slice(), post, steps),
@@ -343,7 +375,9 @@ fn by_discharge<L: Ledger>(
 ) -> Result<Option<Held>, NoMemory>
     requires held { AreFineAt arena.now held.now.entries }
     requires facts { AreFineFacts arena.now facts.now }
-    ensures { IfOk result (λ o. MadeIf arena.now (λ t. IsSomeAnd (theorem_at arena.now held.now.entries p) (λ q. IsDischarged q t × (t.facts ≡ map (fact_of arena.now) facts.now))) o) }
+    ensures { IfOk result (λ o. MadeIf arena.now
+        (λ t. IsSomeAnd (theorem_at arena.now held.now.entries p) (λ q.
+        IsDischarged q t × (t.facts ≡ map (fact_of arena.now) facts.now))) o) }
 {
     match fine_theorem(arena, held, p) {
         Some(q) => discharged(alloc, arena, q, facts.as_slice(), steps),

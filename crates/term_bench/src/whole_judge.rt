@@ -54,9 +54,15 @@ fn judge_counted<R: HeldRule, L: Ledger>(
     requires parts { blank.parts ≡ L.parts }
     requires one { L.parts ≡ 1 }
     ensures group { bench.new.0 ≡ bench.old.0 }
-    ensures instance { OnOk result (InstanceBy R.states (state_group bench.old) (state_history bench.old) (spelled_tree (state_group bench.old).code line.now)) }
-    ensures after { OnOk result (state_history bench.new ≡ after_line (state_history bench.old) (spelled_tree (state_group bench.old).code line.now)) }
-    ensures no_instance { IsErrOf result RuleFault.NoInstance → InstanceBy R.states (state_group bench.old) (state_history bench.old) (spelled_tree (state_group bench.old).code line.now) → ⊥ }
+    ensures instance { OnOk result (InstanceBy R.states (state_group bench.old)
+        (state_history bench.old) (spelled_tree (state_group bench.old).code line.now)) }
+    ensures after { OnOk result (state_history bench.new
+        ≡ after_line (state_history bench.old)
+        (spelled_tree (state_group bench.old).code line.now)) }
+    ensures no_instance { IsErrOf result RuleFault.NoInstance
+        → InstanceBy R.states (state_group bench.old) (state_history bench.old)
+        (spelled_tree (state_group bench.old).code line.now)
+        → ⊥ }
 {
     bench.judge_spelled(alloc, by, &line.line, line.all, &mut Steps::<L>::new(blank))
 }

@@ -7,7 +7,11 @@ ghost use Rattle.term_laws.specs.Values.{KeepsValue};
 
 /// A term that is rewritten keeps its value.
 pub fn law_of_values()
-    ensures { (n : ℕ) (law : Law) → law_at n ≡ Some law → (place : List ℕ) (t u : Term) → Rewrites law place t u → KeepsValue t u }
+    ensures { (n : ℕ) (law : Law)
+        → law_at n ≡ Some law
+        → (place : List ℕ) (t u : Term)
+        → Rewrites law place t u
+        → KeepsValue t u }
 {}
 
 /// A law rewrites a term at a place to one term at most.

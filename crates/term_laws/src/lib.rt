@@ -1,4 +1,5 @@
-//! Laws of words and conditions: the table, a term rewritten by a law at a place, and terms that no law rewrites.
+//! Laws of words and conditions: the table, a term rewritten by a law at a place, and terms that no
+//! law rewrites.
 #![tactic(auto)]
 
 mod laws;

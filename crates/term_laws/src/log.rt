@@ -7,8 +7,8 @@ use crate::step::Rw;
 use rv_words::{Bytes, List, NoMemory};
 use std::alloc::Global;
 
-/// The steps that were found so far, and where the term stands that is looked at: in which term of which definition,
-/// and at which place in it.
+/// The steps that were found so far, and where the term stands that is looked at: in which term of
+/// which definition, and at which place in it.
 #[derive(Debug, Drop)]
 pub struct Log {
     pub def: u32,

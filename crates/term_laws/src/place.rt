@@ -56,8 +56,12 @@ pub fn rewrite_word(
     shape: Shape,
     place: &[u8],
 ) -> Result<Option<Word>, NoMemory>
-    ensures some { IfOk result (λ o. IfSome o (λ u. Rewrites (law_of shape) place.now (OfWord (word_tree t.now)) (OfWord (word_tree u)))) }
-    ensures none { IfOk result (λ o. IfNone o ((u : Term) → Rewrites (law_of shape) place.now (OfWord (word_tree t.now)) u → ⊥)) }
+    ensures some { IfOk result (λ o. IfSome o (λ u.
+        Rewrites (law_of shape) place.now (OfWord (word_tree t.now)) (OfWord (word_tree u)))) }
+    ensures none { IfOk result (λ o.
+        IfNone o ((u : Term)
+        → Rewrites (law_of shape) place.now (OfWord (word_tree t.now)) u
+        → ⊥)) }
 {
     match place {
         [] => match given_of(shape, t) {
@@ -80,8 +84,12 @@ fn word_below(
     k: u8,
     rest: &[u8],
 ) -> Result<Option<Word>, NoMemory>
-    ensures some { IfOk result (λ o. IfSome o (λ u. Rewrites (law_of shape) (k ∷ rest.now) (OfWord (word_tree t.now)) (OfWord (word_tree u)))) }
-    ensures none { IfOk result (λ o. IfNone o ((u : Term) → Rewrites (law_of shape) (k ∷ rest.now) (OfWord (word_tree t.now)) u → ⊥)) }
+    ensures some { IfOk result (λ o. IfSome o (λ u.
+        Rewrites (law_of shape) (k ∷ rest.now) (OfWord (word_tree t.now)) (OfWord (word_tree u)))) }
+    ensures none { IfOk result (λ o.
+        IfNone o ((u : Term)
+        → Rewrites (law_of shape) (k ∷ rest.now) (OfWord (word_tree t.now)) u
+        → ⊥)) }
 {
     match t {
         Word::Const(_) => Ok(None),
@@ -149,8 +157,10 @@ pub fn rewrite_mem(
     shape: Shape,
     place: &[u8],
 ) -> Result<Option<Mem>, NoMemory>
-    ensures some { IfOk result (λ o. IfSome o (λ u. Rewrites (law_of shape) place.now (OfMem (mem_tree t.now)) (OfMem (mem_tree u)))) }
-    ensures none { IfOk result (λ o. IfNone o ((u : Term) → Rewrites (law_of shape) place.now (OfMem (mem_tree t.now)) u → ⊥)) }
+    ensures some { IfOk result (λ o. IfSome o (λ u.
+        Rewrites (law_of shape) place.now (OfMem (mem_tree t.now)) (OfMem (mem_tree u)))) }
+    ensures none { IfOk result (λ o.
+        IfNone o ((u : Term) → Rewrites (law_of shape) place.now (OfMem (mem_tree t.now)) u → ⊥)) }
 {
     match place {
         [] => Ok(None),
@@ -167,8 +177,12 @@ fn mem_below(
     k: u8,
     rest: &[u8],
 ) -> Result<Option<Mem>, NoMemory>
-    ensures some { IfOk result (λ o. IfSome o (λ u. Rewrites (law_of shape) (k ∷ rest.now) (OfMem (mem_tree t.now)) (OfMem (mem_tree u)))) }
-    ensures none { IfOk result (λ o. IfNone o ((u : Term) → Rewrites (law_of shape) (k ∷ rest.now) (OfMem (mem_tree t.now)) u → ⊥)) }
+    ensures some { IfOk result (λ o. IfSome o (λ u.
+        Rewrites (law_of shape) (k ∷ rest.now) (OfMem (mem_tree t.now)) (OfMem (mem_tree u)))) }
+    ensures none { IfOk result (λ o.
+        IfNone o ((u : Term)
+        → Rewrites (law_of shape) (k ∷ rest.now) (OfMem (mem_tree t.now)) u
+        → ⊥)) }
 {
     match t {
         Mem::Var(_) => Ok(None),
@@ -219,8 +233,12 @@ pub fn rewrite_cond(
     shape: Shape,
     place: &[u8],
 ) -> Result<Option<Cond>, NoMemory>
-    ensures some { IfOk result (λ o. IfSome o (λ u. Rewrites (law_of shape) place.now (OfCond (cond_tree t.now)) (OfCond (cond_tree u)))) }
-    ensures none { IfOk result (λ o. IfNone o ((u : Term) → Rewrites (law_of shape) place.now (OfCond (cond_tree t.now)) u → ⊥)) }
+    ensures some { IfOk result (λ o. IfSome o (λ u.
+        Rewrites (law_of shape) place.now (OfCond (cond_tree t.now)) (OfCond (cond_tree u)))) }
+    ensures none { IfOk result (λ o.
+        IfNone o ((u : Term)
+        → Rewrites (law_of shape) place.now (OfCond (cond_tree t.now)) u
+        → ⊥)) }
 {
     match place {
         [] => match given_of_cond(shape, t) {
@@ -243,8 +261,12 @@ fn cond_below(
     k: u8,
     rest: &[u8],
 ) -> Result<Option<Cond>, NoMemory>
-    ensures some { IfOk result (λ o. IfSome o (λ u. Rewrites (law_of shape) (k ∷ rest.now) (OfCond (cond_tree t.now)) (OfCond (cond_tree u)))) }
-    ensures none { IfOk result (λ o. IfNone o ((u : Term) → Rewrites (law_of shape) (k ∷ rest.now) (OfCond (cond_tree t.now)) u → ⊥)) }
+    ensures some { IfOk result (λ o. IfSome o (λ u.
+        Rewrites (law_of shape) (k ∷ rest.now) (OfCond (cond_tree t.now)) (OfCond (cond_tree u)))) }
+    ensures none { IfOk result (λ o.
+        IfNone o ((u : Term)
+        → Rewrites (law_of shape) (k ∷ rest.now) (OfCond (cond_tree t.now)) u
+        → ⊥)) }
 {
     match t {
         Cond::Compare(cmp, a, b) => match k {

@@ -106,7 +106,8 @@ fn is_const(t: &Word, n: u64) -> bool
 
 /// The operands of that operation.
 fn operands(t: &Word, op: Op) -> Option<(&Word, &Word)>
-    ensures some { IfSome result (λ p. word_tree t.now ≡ Bin op (word_tree p.0.now) (word_tree p.1.now)) }
+    ensures some { IfSome result (λ p.
+        word_tree t.now ≡ Bin op (word_tree p.0.now) (word_tree p.1.now)) }
     ensures none { IfNone result ((x y : WordTree) → word_tree t.now ≢ Bin op x y) }
 {
     match t {
@@ -117,8 +118,11 @@ fn operands(t: &Word, op: Op) -> Option<(&Word, &Word)>
 
 /// What the law gives of a word, if it matches there.
 pub fn given_of<'a>(shape: Shape, t: &'a Word) -> Option<Given<'a>>
-    ensures some { IfSome result (λ g. LawGives (law_of shape) (OfWord (word_tree t.now)) (OfWord (given_tree g))) }
-    ensures none { IfNone result ((u : Term) → LawGives (law_of shape) (OfWord (word_tree t.now)) u → ⊥) }
+    ensures some { IfSome result (λ g.
+        LawGives (law_of shape) (OfWord (word_tree t.now)) (OfWord (given_tree g))) }
+    ensures none { IfNone result ((u : Term)
+        → LawGives (law_of shape) (OfWord (word_tree t.now)) u
+        → ⊥) }
 {
     match shape {
         Shape::RightUnit(op, c) => right_unit(t, op, c),
@@ -139,8 +143,12 @@ pub fn given_of<'a>(shape: Shape, t: &'a Word) -> Option<Given<'a>>
 }
 
 fn right_unit<'a>(t: &'a Word, op: Op, c: u64) -> Option<Given<'a>>
-    ensures some { IfSome result (λ g. LawGives (law_of (Shape.RightUnit op c)) (OfWord (word_tree t.now)) (OfWord (given_tree g))) }
-    ensures none { IfNone result ((u : Term) → LawGives (law_of (Shape.RightUnit op c)) (OfWord (word_tree t.now)) u → ⊥) }
+    ensures some { IfSome result (λ g.
+        LawGives (law_of (Shape.RightUnit op c)) (OfWord (word_tree t.now))
+        (OfWord (given_tree g))) }
+    ensures none { IfNone result ((u : Term)
+        → LawGives (law_of (Shape.RightUnit op c)) (OfWord (word_tree t.now)) u
+        → ⊥) }
 {
     match operands(t, op) {
         Some((a, b)) => {
@@ -155,8 +163,11 @@ fn right_unit<'a>(t: &'a Word, op: Op, c: u64) -> Option<Given<'a>>
 }
 
 fn left_unit<'a>(t: &'a Word) -> Option<Given<'a>>
-    ensures some { IfSome result (λ g. LawGives (law_of (Shape.LeftUnit)) (OfWord (word_tree t.now)) (OfWord (given_tree g))) }
-    ensures none { IfNone result ((u : Term) → LawGives (law_of (Shape.LeftUnit)) (OfWord (word_tree t.now)) u → ⊥) }
+    ensures some { IfSome result (λ g.
+        LawGives (law_of (Shape.LeftUnit)) (OfWord (word_tree t.now)) (OfWord (given_tree g))) }
+    ensures none { IfNone result ((u : Term)
+        → LawGives (law_of (Shape.LeftUnit)) (OfWord (word_tree t.now)) u
+        → ⊥) }
 {
     match operands(t, Op::Add) {
         Some((a, b)) => {
@@ -171,8 +182,11 @@ fn left_unit<'a>(t: &'a Word) -> Option<Given<'a>>
 }
 
 fn right_zero<'a>(t: &'a Word, op: Op) -> Option<Given<'a>>
-    ensures some { IfSome result (λ g. LawGives (law_of (Shape.RightZero op)) (OfWord (word_tree t.now)) (OfWord (given_tree g))) }
-    ensures none { IfNone result ((u : Term) → LawGives (law_of (Shape.RightZero op)) (OfWord (word_tree t.now)) u → ⊥) }
+    ensures some { IfSome result (λ g.
+        LawGives (law_of (Shape.RightZero op)) (OfWord (word_tree t.now)) (OfWord (given_tree g))) }
+    ensures none { IfNone result ((u : Term)
+        → LawGives (law_of (Shape.RightZero op)) (OfWord (word_tree t.now)) u
+        → ⊥) }
 {
     match operands(t, op) {
         Some((a, b)) => {
@@ -187,8 +201,11 @@ fn right_zero<'a>(t: &'a Word, op: Op) -> Option<Given<'a>>
 }
 
 fn same_zero<'a>(t: &'a Word, op: Op) -> Option<Given<'a>>
-    ensures some { IfSome result (λ g. LawGives (law_of (Shape.SameZero op)) (OfWord (word_tree t.now)) (OfWord (given_tree g))) }
-    ensures none { IfNone result ((u : Term) → LawGives (law_of (Shape.SameZero op)) (OfWord (word_tree t.now)) u → ⊥) }
+    ensures some { IfSome result (λ g.
+        LawGives (law_of (Shape.SameZero op)) (OfWord (word_tree t.now)) (OfWord (given_tree g))) }
+    ensures none { IfNone result ((u : Term)
+        → LawGives (law_of (Shape.SameZero op)) (OfWord (word_tree t.now)) u
+        → ⊥) }
 {
     match operands(t, op) {
         Some((a, b)) => {
@@ -203,8 +220,11 @@ fn same_zero<'a>(t: &'a Word, op: Op) -> Option<Given<'a>>
 }
 
 fn same_part<'a>(t: &'a Word, op: Op) -> Option<Given<'a>>
-    ensures some { IfSome result (λ g. LawGives (law_of (Shape.SamePart op)) (OfWord (word_tree t.now)) (OfWord (given_tree g))) }
-    ensures none { IfNone result ((u : Term) → LawGives (law_of (Shape.SamePart op)) (OfWord (word_tree t.now)) u → ⊥) }
+    ensures some { IfSome result (λ g.
+        LawGives (law_of (Shape.SamePart op)) (OfWord (word_tree t.now)) (OfWord (given_tree g))) }
+    ensures none { IfNone result ((u : Term)
+        → LawGives (law_of (Shape.SamePart op)) (OfWord (word_tree t.now)) u
+        → ⊥) }
 {
     match operands(t, op) {
         Some((a, b)) => {
@@ -219,8 +239,11 @@ fn same_part<'a>(t: &'a Word, op: Op) -> Option<Given<'a>>
 }
 
 fn addw_zero<'a>(t: &'a Word) -> Option<Given<'a>>
-    ensures some { IfSome result (λ g. LawGives (law_of (Shape.AddwZero)) (OfWord (word_tree t.now)) (OfWord (given_tree g))) }
-    ensures none { IfNone result ((u : Term) → LawGives (law_of (Shape.AddwZero)) (OfWord (word_tree t.now)) u → ⊥) }
+    ensures some { IfSome result (λ g.
+        LawGives (law_of (Shape.AddwZero)) (OfWord (word_tree t.now)) (OfWord (given_tree g))) }
+    ensures none { IfNone result ((u : Term)
+        → LawGives (law_of (Shape.AddwZero)) (OfWord (word_tree t.now)) u
+        → ⊥) }
 {
     match operands(t, Op::Addw) {
         Some((a, b)) => {
@@ -235,8 +258,11 @@ fn addw_zero<'a>(t: &'a Word) -> Option<Given<'a>>
 }
 
 fn fold_bin<'a>(t: &'a Word) -> Option<Given<'a>>
-    ensures some { IfSome result (λ g. LawGives (law_of (Shape.FoldBin)) (OfWord (word_tree t.now)) (OfWord (given_tree g))) }
-    ensures none { IfNone result ((u : Term) → LawGives (law_of (Shape.FoldBin)) (OfWord (word_tree t.now)) u → ⊥) }
+    ensures some { IfSome result (λ g.
+        LawGives (law_of (Shape.FoldBin)) (OfWord (word_tree t.now)) (OfWord (given_tree g))) }
+    ensures none { IfNone result ((u : Term)
+        → LawGives (law_of (Shape.FoldBin)) (OfWord (word_tree t.now)) u
+        → ⊥) }
 {
     match t {
         Word::Bin(op, a, b) => match (const_of(a), const_of(b)) {
@@ -248,8 +274,11 @@ fn fold_bin<'a>(t: &'a Word) -> Option<Given<'a>>
 }
 
 fn fold_extend<'a>(t: &'a Word) -> Option<Given<'a>>
-    ensures some { IfSome result (λ g. LawGives (law_of (Shape.FoldExtend)) (OfWord (word_tree t.now)) (OfWord (given_tree g))) }
-    ensures none { IfNone result ((u : Term) → LawGives (law_of (Shape.FoldExtend)) (OfWord (word_tree t.now)) u → ⊥) }
+    ensures some { IfSome result (λ g.
+        LawGives (law_of (Shape.FoldExtend)) (OfWord (word_tree t.now)) (OfWord (given_tree g))) }
+    ensures none { IfNone result ((u : Term)
+        → LawGives (law_of (Shape.FoldExtend)) (OfWord (word_tree t.now)) u
+        → ⊥) }
 {
     match t {
         Word::Extend(ext, a) => match const_of(a) {
@@ -261,8 +290,11 @@ fn fold_extend<'a>(t: &'a Word) -> Option<Given<'a>>
 }
 
 fn add_twice<'a>(t: &'a Word) -> Option<Given<'a>>
-    ensures some { IfSome result (λ g. LawGives (law_of (Shape.AddTwice)) (OfWord (word_tree t.now)) (OfWord (given_tree g))) }
-    ensures none { IfNone result ((u : Term) → LawGives (law_of (Shape.AddTwice)) (OfWord (word_tree t.now)) u → ⊥) }
+    ensures some { IfSome result (λ g.
+        LawGives (law_of (Shape.AddTwice)) (OfWord (word_tree t.now)) (OfWord (given_tree g))) }
+    ensures none { IfNone result ((u : Term)
+        → LawGives (law_of (Shape.AddTwice)) (OfWord (word_tree t.now)) u
+        → ⊥) }
 {
     match operands(t, Op::Add) {
         Some((sum, last)) => match const_of(last) {
@@ -274,8 +306,11 @@ fn add_twice<'a>(t: &'a Word) -> Option<Given<'a>>
 }
 
 fn extend_twice<'a>(t: &'a Word) -> Option<Given<'a>>
-    ensures some { IfSome result (λ g. LawGives (law_of (Shape.ExtendTwice)) (OfWord (word_tree t.now)) (OfWord (given_tree g))) }
-    ensures none { IfNone result ((u : Term) → LawGives (law_of (Shape.ExtendTwice)) (OfWord (word_tree t.now)) u → ⊥) }
+    ensures some { IfSome result (λ g.
+        LawGives (law_of (Shape.ExtendTwice)) (OfWord (word_tree t.now)) (OfWord (given_tree g))) }
+    ensures none { IfNone result ((u : Term)
+        → LawGives (law_of (Shape.ExtendTwice)) (OfWord (word_tree t.now)) u
+        → ⊥) }
 {
     match extended(t) {
         Some(a) => match extended(a) {
@@ -287,8 +322,11 @@ fn extend_twice<'a>(t: &'a Word) -> Option<Given<'a>>
 }
 
 fn extend_of<'a>(t: &'a Word, op: Op) -> Option<Given<'a>>
-    ensures some { IfSome result (λ g. LawGives (law_of (Shape.ExtendOf op)) (OfWord (word_tree t.now)) (OfWord (given_tree g))) }
-    ensures none { IfNone result ((u : Term) → LawGives (law_of (Shape.ExtendOf op)) (OfWord (word_tree t.now)) u → ⊥) }
+    ensures some { IfSome result (λ g.
+        LawGives (law_of (Shape.ExtendOf op)) (OfWord (word_tree t.now)) (OfWord (given_tree g))) }
+    ensures none { IfNone result ((u : Term)
+        → LawGives (law_of (Shape.ExtendOf op)) (OfWord (word_tree t.now)) u
+        → ⊥) }
 {
     match extended(t) {
         Some(a) => match operands(a, op) {
@@ -300,8 +338,11 @@ fn extend_of<'a>(t: &'a Word, op: Op) -> Option<Given<'a>>
 }
 
 fn turn<'a>(t: &'a Word) -> Option<Given<'a>>
-    ensures some { IfSome result (λ g. LawGives (law_of (Shape.Turn)) (OfWord (word_tree t.now)) (OfWord (given_tree g))) }
-    ensures none { IfNone result ((u : Term) → LawGives (law_of (Shape.Turn)) (OfWord (word_tree t.now)) u → ⊥) }
+    ensures some { IfSome result (λ g.
+        LawGives (law_of (Shape.Turn)) (OfWord (word_tree t.now)) (OfWord (given_tree g))) }
+    ensures none { IfNone result ((u : Term)
+        → LawGives (law_of (Shape.Turn)) (OfWord (word_tree t.now)) u
+        → ⊥) }
 {
     match operands(t, Op::Add) {
         Some((a, b)) => match const_of(a) {
@@ -336,8 +377,12 @@ fn extended(t: &Word) -> Option<&Word>
 
 /// The sum of a sum with a constant, and a further constant.
 fn added_again<'a>(sum: &'a Word, d: u64) -> Option<Given<'a>>
-    ensures some { IfSome result (λ g. (x : WordTree) × (c : ℕ) × (word_tree sum.now ≡ Bin Add x (Const c)) × (given_tree g ≡ Bin Add x (Const ((c + d) % 2 ^ 64)))) }
-    ensures none { IfNone result ((x : WordTree) (c : ℕ) → word_tree sum.now ≢ Bin Add x (Const c)) }
+    ensures some { IfSome result (λ g.
+        (x : WordTree) × (c : ℕ)
+        × (word_tree sum.now ≡ Bin Add x (Const c))
+        × (given_tree g ≡ Bin Add x (Const ((c + d) % 2 ^ 64)))) }
+    ensures none { IfNone result ((x : WordTree) (c : ℕ)
+        → word_tree sum.now ≢ Bin Add x (Const c)) }
 {
     match operands(sum, Op::Add) {
         Some((x, first)) => match const_of(first) {
@@ -350,7 +395,9 @@ fn added_again<'a>(sum: &'a Word, d: u64) -> Option<Given<'a>>
 
 /// The sum of a word that is no constant, and a constant.
 fn added_to<'a>(t: &'a Word, c: u64) -> Option<Given<'a>>
-    ensures some { IfSome result (λ g. (is_constant (word_tree t.now) ≡ false) × (given_tree g ≡ Bin Add (word_tree t.now) (Const c))) }
+    ensures some { IfSome result (λ g.
+        (is_constant (word_tree t.now) ≡ false)
+        × (given_tree g ≡ Bin Add (word_tree t.now) (Const c))) }
     ensures none { IfNone result (is_constant (word_tree t.now) ≡ true) }
 {
     match t {
@@ -368,8 +415,11 @@ pub enum GivenCond<'a> {
 
 /// What the law gives of a condition, if it matches there.
 pub fn given_of_cond<'a>(shape: Shape, c: &'a Cond) -> Option<GivenCond<'a>>
-    ensures some { IfSome result (λ g. LawGives (law_of shape) (OfCond (cond_tree c.now)) (OfCond (given_cond_tree g))) }
-    ensures none { IfNone result ((u : Term) → LawGives (law_of shape) (OfCond (cond_tree c.now)) u → ⊥) }
+    ensures some { IfSome result (λ g.
+        LawGives (law_of shape) (OfCond (cond_tree c.now)) (OfCond (given_cond_tree g))) }
+    ensures none { IfNone result ((u : Term)
+        → LawGives (law_of shape) (OfCond (cond_tree c.now)) u
+        → ⊥) }
 {
     match shape {
         Shape::Not(from, to) => not_compared(c, from, to),
@@ -391,7 +441,8 @@ fn negated(c: &Cond) -> Option<&Cond>
 
 /// What that comparison compares.
 fn compared(c: &Cond, cmp: Cmp) -> Option<(&Word, &Word)>
-    ensures some { IfSome result (λ p. cond_tree c.now ≡ Compare cmp (word_tree p.0.now) (word_tree p.1.now)) }
+    ensures some { IfSome result (λ p.
+        cond_tree c.now ≡ Compare cmp (word_tree p.0.now) (word_tree p.1.now)) }
     ensures none { IfNone result ((x y : WordTree) → cond_tree c.now ≢ Compare cmp x y) }
 {
     match c {
@@ -401,8 +452,12 @@ fn compared(c: &Cond, cmp: Cmp) -> Option<(&Word, &Word)>
 }
 
 fn not_compared<'a>(c: &'a Cond, from: Cmp, to: Cmp) -> Option<GivenCond<'a>>
-    ensures some { IfSome result (λ g. LawGives (law_of (Shape.Not from to)) (OfCond (cond_tree c.now)) (OfCond (given_cond_tree g))) }
-    ensures none { IfNone result ((u : Term) → LawGives (law_of (Shape.Not from to)) (OfCond (cond_tree c.now)) u → ⊥) }
+    ensures some { IfSome result (λ g.
+        LawGives (law_of (Shape.Not from to)) (OfCond (cond_tree c.now))
+        (OfCond (given_cond_tree g))) }
+    ensures none { IfNone result ((u : Term)
+        → LawGives (law_of (Shape.Not from to)) (OfCond (cond_tree c.now)) u
+        → ⊥) }
 {
     match negated(c) {
         Some(d) => match compared(d, from) {
@@ -414,8 +469,11 @@ fn not_compared<'a>(c: &'a Cond, from: Cmp, to: Cmp) -> Option<GivenCond<'a>>
 }
 
 fn not_not<'a>(c: &'a Cond) -> Option<GivenCond<'a>>
-    ensures some { IfSome result (λ g. LawGives (law_of Shape.NotNot) (OfCond (cond_tree c.now)) (OfCond (given_cond_tree g))) }
-    ensures none { IfNone result ((u : Term) → LawGives (law_of Shape.NotNot) (OfCond (cond_tree c.now)) u → ⊥) }
+    ensures some { IfSome result (λ g.
+        LawGives (law_of Shape.NotNot) (OfCond (cond_tree c.now)) (OfCond (given_cond_tree g))) }
+    ensures none { IfNone result ((u : Term)
+        → LawGives (law_of Shape.NotNot) (OfCond (cond_tree c.now)) u
+        → ⊥) }
 {
     match negated(c) {
         Some(d) => match negated(d) {

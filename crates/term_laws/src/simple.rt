@@ -16,7 +16,8 @@ use word_terms::{Cond, Mem, Word};
 
 /// What the law of that number gives of the word itself.
 fn given_by(law: u32, t: &Word) -> Option<Given<'_>>
-    ensures some { IfSome result (λ g. GivesBy law (OfWord (word_tree t.now)) (OfWord (given_tree g))) }
+    ensures some { IfSome result (λ g.
+        GivesBy law (OfWord (word_tree t.now)) (OfWord (given_tree g))) }
     ensures none { IfNone result (IsFree law (OfWord (word_tree t.now))) }
 {
     match shape_of(law) {
@@ -27,7 +28,8 @@ fn given_by(law: u32, t: &Word) -> Option<Given<'_>>
 
 /// The first law that matches the word itself, and what it gives.
 fn first_law(t: &Word) -> Option<(u32, Given<'_>)>
-    ensures some { IfSome result (λ p. GivesBy p.0 (OfWord (word_tree t.now)) (OfWord (given_tree p.1))) }
+    ensures some { IfSome result (λ p.
+        GivesBy p.0 (OfWord (word_tree t.now)) (OfWord (given_tree p.1))) }
     ensures none { IfNone result (IsSettled (OfWord (word_tree t.now))) }
 {
     for law in 1..=LAW_COUNT {
@@ -41,7 +43,8 @@ fn first_law(t: &Word) -> Option<(u32, Given<'_>)>
 
 /// What the law of that number gives of the condition itself.
 fn given_cond_by(law: u32, c: &Cond) -> Option<GivenCond<'_>>
-    ensures some { IfSome result (λ g. GivesBy law (OfCond (cond_tree c.now)) (OfCond (given_cond_tree g))) }
+    ensures some { IfSome result (λ g.
+        GivesBy law (OfCond (cond_tree c.now)) (OfCond (given_cond_tree g))) }
     ensures none { IfNone result (IsFree law (OfCond (cond_tree c.now))) }
 {
     match shape_of(law) {
@@ -52,7 +55,8 @@ fn given_cond_by(law: u32, c: &Cond) -> Option<GivenCond<'_>>
 
 /// The first law that matches the condition itself, and what it gives.
 fn first_cond_law(c: &Cond) -> Option<(u32, GivenCond<'_>)>
-    ensures some { IfSome result (λ p. GivesBy p.0 (OfCond (cond_tree c.now)) (OfCond (given_cond_tree p.1))) }
+    ensures some { IfSome result (λ p.
+        GivesBy p.0 (OfCond (cond_tree c.now)) (OfCond (given_cond_tree p.1))) }
     ensures none { IfNone result (IsSettled (OfCond (cond_tree c.now))) }
 {
     for law in 1..=LAW_COUNT {
@@ -64,12 +68,13 @@ fn first_cond_law(c: &Cond) -> Option<(u32, GivenCond<'_>)>
     None
 }
 
-/// The word rewritten at its root, where its children are simple, until it is simple too. Few steps do that, since
-/// what a law gives is made of those children.
+/// The word rewritten at its root, where its children are simple, until it is simple too. Few steps
+/// do that, since what a law gives is made of those children.
 #[tactic(auto, using(crate::proofs::SimpleLemmas::simple_made, crate::proofs::Noted::word_noted_then, crate::proofs::Noted::nothing_noted))]
 fn settle_word(alloc: Global, t: Word, log: &mut Log) -> Result<Word, NoMemory>
     requires { HasSimpleChildren (OfWord (word_tree t)) }
-    ensures noted { IfOk result (λ u. IsNoted OfWord [] log.old log.new (word_tree t) (word_tree u)) }
+    ensures noted { IfOk result (λ u.
+        IsNoted OfWord [] log.old log.new (word_tree t) (word_tree u)) }
     ensures simple { IfOk result (λ u. IsSimple (OfWord (word_tree u))) }
 {
     match first_law(&t) {
@@ -86,7 +91,8 @@ fn settle_word(alloc: Global, t: Word, log: &mut Log) -> Result<Word, NoMemory>
 #[tactic(auto, using(crate::proofs::SimpleLemmas::simple_made, crate::proofs::Noted::cond_noted_then, crate::proofs::Noted::nothing_noted))]
 fn settle_cond(alloc: Global, c: Cond, log: &mut Log) -> Result<Cond, NoMemory>
     requires { HasSimpleChildren (OfCond (cond_tree c)) }
-    ensures noted { IfOk result (λ d. IsNoted OfCond [] log.old log.new (cond_tree c) (cond_tree d)) }
+    ensures noted { IfOk result (λ d.
+        IsNoted OfCond [] log.old log.new (cond_tree c) (cond_tree d)) }
     ensures simple { IfOk result (λ d. IsSimple (OfCond (cond_tree d))) }
 {
     match first_cond_law(&c) {
@@ -158,7 +164,8 @@ fn made_inside(alloc: Global, width: Width, m: Mem, a: Word) -> Result<Cond, NoM
 #[cycle(simplifying)]
 #[tactic(auto, using(crate::proofs::Noted::bin_noted, crate::proofs::Noted::extend_noted, crate::proofs::Noted::load_noted, crate::proofs::SimpleLemmas::const_children, crate::proofs::SimpleLemmas::var_children, crate::proofs::SimpleLemmas::bin_children, crate::proofs::SimpleLemmas::extend_children, crate::proofs::SimpleLemmas::load_children))]
 pub fn simple_word(alloc: Global, t: &Word, log: &mut Log) -> Result<Word, NoMemory>
-    ensures noted { IfOk result (λ u. IsNoted OfWord [] log.old log.new (word_tree t.now) (word_tree u)) }
+    ensures noted { IfOk result (λ u.
+        IsNoted OfWord [] log.old log.new (word_tree t.now) (word_tree u)) }
     ensures simple { IfOk result (λ u. IsSimple (OfWord (word_tree u))) }
 {
     match t {
@@ -198,7 +205,8 @@ pub fn simple_word(alloc: Global, t: &Word, log: &mut Log) -> Result<Word, NoMem
 #[cycle(simplifying)]
 #[tactic(auto, using(crate::proofs::Noted::store_noted, crate::proofs::Noted::nothing_noted, crate::proofs::SimpleLemmas::variable_simple, crate::proofs::SimpleLemmas::store_simple))]
 pub fn simple_mem(alloc: Global, t: &Mem, log: &mut Log) -> Result<Mem, NoMemory>
-    ensures noted { IfOk result (λ u. IsNoted OfMem [] log.old log.new (mem_tree t.now) (mem_tree u)) }
+    ensures noted { IfOk result (λ u.
+        IsNoted OfMem [] log.old log.new (mem_tree t.now) (mem_tree u)) }
     ensures simple { IfOk result (λ u. IsSimple (OfMem (mem_tree u))) }
 {
     match t {
@@ -222,7 +230,8 @@ pub fn simple_mem(alloc: Global, t: &Mem, log: &mut Log) -> Result<Mem, NoMemory
 /// The condition rewritten until no law matches at any place; the steps are noted.
 #[tactic(auto, using(crate::proofs::Noted::compare_noted, crate::proofs::Noted::neg_noted, crate::proofs::Noted::inside_noted, crate::proofs::SimpleLemmas::compare_children, crate::proofs::SimpleLemmas::neg_children, crate::proofs::SimpleLemmas::inside_children))]
 pub fn simple_cond(alloc: Global, c: &Cond, log: &mut Log) -> Result<Cond, NoMemory>
-    ensures noted { IfOk result (λ d. IsNoted OfCond [] log.old log.new (cond_tree c.now) (cond_tree d)) }
+    ensures noted { IfOk result (λ d.
+        IsNoted OfCond [] log.old log.new (cond_tree c.now) (cond_tree d)) }
     ensures simple { IfOk result (λ d. IsSimple (OfCond (cond_tree d))) }
 {
     match c {

@@ -7,7 +7,7 @@ use crate::name::name_of_operation;
 use rv_words::{Cmp, Ext, Op, Width};
 
 /// The forms of words that have parts.
-#[derive(Clone, Copy, Debug, PartialEq, Eq)]
+#[derive(Clone, Copy, PartialEq, Eq)]
 pub enum WordHead {
     Bin(Op),
     Extend(Ext),
@@ -15,7 +15,7 @@ pub enum WordHead {
 }
 
 /// The forms of conditions.
-#[derive(Clone, Copy, Debug, PartialEq, Eq)]
+#[derive(Clone, Copy, PartialEq, Eq)]
 pub enum CondHead {
     Compare(Cmp),
     Neg,

@@ -1,9 +1,11 @@
 //! Terms as text: words, memories, conditions and ranges of bytes, each written in one way.
 //!
-//! `read_word(alloc, &mut scan, room)?` reads a term that is at most `room` deep, and `put_word(&mut pen, &t)?` writes it;
-//! likewise `mem`, `cond` and `range`. The grammar stands at the head of `specs/Spelling.antt`.
+//! `read_word(alloc, &mut scan, room)?` reads a term that is at most `room` deep, and
+//! `put_word(&mut pen, &t)?` writes it; likewise `mem`, `cond` and `range`. The grammar stands at
+//! the head of `specs/Spelling.antt`.
 //!
-//! The law that matters is `law_of_one_spelling`: tokens begin with the spelling of one term at most.
+//! The law that matters is `law_of_one_spelling`: tokens begin with the spelling of one term at
+//! most.
 #![tactic(auto)]
 
 mod ahead;

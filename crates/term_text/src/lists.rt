@@ -17,7 +17,8 @@ use word_terms::{DEPTH_LIMIT, Mem, Word};
 
 /// The words up to a token that none begins with.
 pub fn read_words<'a>(alloc: Global, scan: &mut Scan<'a>) -> Result<List<Word>, TokenError>
-    ensures gives { Gives (λ words. map word_tree words) result scan.old scan.new (star begins_word (word_at depth_limit)) }
+    ensures gives { Gives (λ words. map word_tree words) result scan.old scan.new
+        (star begins_word (word_at depth_limit)) }
     ensures last { last_line scan.new ≡ last_line scan.old }
 {
     let mut words = List::new(alloc);
@@ -32,7 +33,8 @@ pub fn read_words<'a>(alloc: Global, scan: &mut Scan<'a>) -> Result<List<Word>, 
 
 /// The memories up to a token that none begins with.
 pub fn read_mems<'a>(alloc: Global, scan: &mut Scan<'a>) -> Result<List<Mem>, TokenError>
-    ensures gives { Gives (λ mems. map mem_tree mems) result scan.old scan.new (star begins_mem (mem_at depth_limit)) }
+    ensures gives { Gives (λ mems. map mem_tree mems) result scan.old scan.new
+        (star begins_mem (mem_at depth_limit)) }
     ensures last { last_line scan.new ≡ last_line scan.old }
 {
     let mut mems = List::new(alloc);

@@ -126,7 +126,8 @@ fn word_parts<'a>(
     room: u32,
     head: WordHead,
 ) -> Result<Word, TokenError>
-    ensures gives { Gives word_tree result scan.old scan.new (word_parts (word_at room) (mem_at room) head) }
+    ensures gives { Gives word_tree result scan.old scan.new
+        (word_parts (word_at room) (mem_at room) head) }
     ensures last { last_line scan.new ≡ last_line scan.old }
 {
     match head {
@@ -179,7 +180,8 @@ fn mem_parts<'a>(
     room: u32,
     width: Width,
 ) -> Result<Mem, TokenError>
-    ensures gives { Gives mem_tree result scan.old scan.new (mem_parts (word_at room) (mem_at room) width) }
+    ensures gives { Gives mem_tree result scan.old scan.new
+        (mem_parts (word_at room) (mem_at room) width) }
     ensures last { last_line scan.new ≡ last_line scan.old }
 {
     let m = mem_within(alloc, scan, room)?;
@@ -230,7 +232,8 @@ fn cond_parts<'a>(
     room: u32,
     head: CondHead,
 ) -> Result<Cond, TokenError>
-    ensures gives { Gives cond_tree result scan.old scan.new (cond_parts (word_at room) (mem_at room) (cond_at room) head) }
+    ensures gives { Gives cond_tree result scan.old scan.new
+        (cond_parts (word_at room) (mem_at room) (cond_at room) head) }
     ensures last { last_line scan.new ≡ last_line scan.old }
 {
     match head {

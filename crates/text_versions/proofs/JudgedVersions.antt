@@ -7,7 +7,7 @@ use Rattle.checker.specs.Pulled.{IfVerdict}
 use Rattle.checker.specs.declared.verdict.Pulled.{Pulled}
 use Rattle.checker.specs.declared.verdict.Verdict.{Verdict}
 use Rattle.checker.proofs.SourceLemmas.{held-so}
-use Rattle.path_walk.specs.Further.{further_of}
+use Rattle.checker.specs.Further.{further_of}
 use Rattle.proof_v2.specs.AnyVerdicts.{SaysIn}
 
 pub judged-in : (told : Option Contents) (name elf : List ℕ) (result : Pulled) (text : List ℕ → List ℕ) (known k : Known) → known ≡ k

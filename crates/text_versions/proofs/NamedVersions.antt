@@ -5,7 +5,7 @@ use Rattle.elf_image.specs.Fault.{fault_of}
 use Rattle.tailrec_lang.specs.Tree.{GroupTree}
 use Rattle.group_text.specs.declared.version.Version.{Version as Known}
 use Rattle.group_text.specs.declared.version.Version.TheVariants.{One, Two, Three, Four}
-use Rattle.checker.specs.Headline.{Headline}
+use Rattle.claims.specs.Headline.{Headline}
 use Rattle.checker.specs.Instance.{no_rule}
 use Rattle.checker.specs.Verdicts.{IsAcceptance}
 use Rattle.checker.specs.declared.verdict.Verdict.{Verdict}
@@ -13,8 +13,8 @@ use Rattle.checker.specs.declared.verdict.Verdict.TheVariants as verdict
 use Rattle.checker.proofs.SoundLemmas.{no_rule-keeps}
 use Rattle.further_rules.specs.Rules.{IsSteered}
 use Rattle.further_rules.proofs.SteerLemmas.{valid_steered}
-use Rattle.stack_split.proofs.CheckLemmas.{accepted-headline as split-headline}
-use Rattle.path_walk.specs.Further.{further_of}
+use Rattle.kept_addresses.proofs.CheckLemmas.{accepted-headline as split-headline}
+use Rattle.checker.specs.Further.{further_of}
 use Rattle.proof_v2.specs.AnyText.{ListsIn}
 use Rattle.proof_v2.specs.AnyVerdicts.{SaysIn}
 use Rattle.proof_v2.specs.Titles.{named_version}

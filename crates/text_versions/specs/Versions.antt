@@ -2,7 +2,7 @@
 use Rattle.std.specs.Prelude.{ℕ, List}
 use Rattle.tailrec_lang.specs.Tree.{GroupTree}
 use Rattle.checker.specs.declared.verdict.Verdict.{Verdict}
-use Rattle.path_walk.specs.Further.{further_of}
+use Rattle.checker.specs.Further.{further_of}
 use Rattle.proof_v2.specs.AnyText.{ListsIn}
 use Rattle.proof_v2.specs.AnyVerdicts.{SaysIn}
 use Rattle.proof_v2.specs.Titles.{named_version}

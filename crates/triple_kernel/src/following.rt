@@ -13,7 +13,8 @@ use word_terms::{Cond, Env, Mem, is_cond_in_scope, truth};
 
 /// Whether each of the facts is among the others or follows from them.
 pub fn are_among_or_follow(facts: &[Fact], others: &[Fact]) -> bool
-    ensures { IsTrue result ↔ AreAmongOrFollow (map fact_tree facts.now) (map fact_tree others.now) }
+    ensures { IsTrue result
+        ↔ AreAmongOrFollow (map fact_tree facts.now) (map fact_tree others.now) }
 {
     for fact in facts {
         if !(is_among(fact, others) || follows(fact, others)) {
@@ -49,7 +50,10 @@ fn is_always_true(c: &Cond) -> bool
 
 /// Whether one of the facts says that a condition of the same kind is true.
 fn is_like_some(c: &Cond, facts: &[Fact]) -> bool
-    ensures { IsTrue result ↔ ((d : CondTree) × Contains (map fact_tree facts.now) (So d) × Alike (map fact_tree facts.now) (cond_tree c.now) d) }
+    ensures { IsTrue result
+        ↔ ((d : CondTree)
+        × Contains (map fact_tree facts.now) (So d)
+        × Alike (map fact_tree facts.now) (cond_tree c.now) d) }
 {
     for fact in facts {
         if is_like(c, fact, facts) {
@@ -60,7 +64,10 @@ fn is_like_some(c: &Cond, facts: &[Fact]) -> bool
 }
 
 fn is_like(c: &Cond, fact: &Fact, facts: &[Fact]) -> bool
-    ensures { IsTrue result ↔ ((d : CondTree) × (fact_tree fact.now ≡ So d) × Alike (map fact_tree facts.now) (cond_tree c.now) d) }
+    ensures { IsTrue result
+        ↔ ((d : CondTree)
+        × (fact_tree fact.now ≡ So d)
+        × Alike (map fact_tree facts.now) (cond_tree c.now) d) }
 {
     match fact {
         Fact::So(d) => are_alike(facts, c, d),
@@ -68,8 +75,8 @@ fn is_like(c: &Cond, fact: &Fact, facts: &[Fact]) -> bool
     }
 }
 
-/// Whether two conditions have one form, and children that may be swapped. Of a memory of which a condition asks
-/// whether it has some bytes, only the addresses count.
+/// Whether two conditions have one form, and children that may be swapped. Of a memory of which a
+/// condition asks whether it has some bytes, only the addresses count.
 fn are_alike(facts: &[Fact], c: &Cond, d: &Cond) -> bool
     ensures { IsTrue result ↔ Alike (map fact_tree facts.now) (cond_tree c.now) (cond_tree d.now) }
 {
@@ -94,7 +101,8 @@ fn are_alike(facts: &[Fact], c: &Cond, d: &Cond) -> bool
 }
 
 fn have_same_addresses(facts: &[Fact], m: &Mem, n: &Mem) -> bool
-    ensures { IsTrue result ↔ SameAddresses (map fact_tree facts.now) (mem_tree m.now) (mem_tree n.now) }
+    ensures { IsTrue result
+        ↔ SameAddresses (map fact_tree facts.now) (mem_tree m.now) (mem_tree n.now) }
 {
     swap_mem(facts, m, n) || swap_mem(facts, before_stores(m), before_stores(n))
 }

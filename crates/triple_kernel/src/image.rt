@@ -16,7 +16,8 @@ use word_terms::{Cond, Mem, Sub, Word, same_mem, same_word};
 /// Whether `b` is `a` with all listed variables replaced at once.
 #[cycle(images)]
 fn is_word_image(a: &Word, s: &Sub, b: &Word) -> bool
-    ensures { IsTrue result ↔ (put_in_word (substitution_of s.now) (word_tree a.now) ≡ word_tree b.now) }
+    ensures { IsTrue result
+        ↔ (put_in_word (substitution_of s.now) (word_tree a.now) ≡ word_tree b.now) }
 {
     match a {
         Word::Const(n) => match b {
@@ -43,7 +44,8 @@ fn is_word_image(a: &Word, s: &Sub, b: &Word) -> bool
 
 #[cycle(images)]
 fn is_mem_image(a: &Mem, s: &Sub, b: &Mem) -> bool
-    ensures { IsTrue result ↔ (put_in_mem (substitution_of s.now) (mem_tree a.now) ≡ mem_tree b.now) }
+    ensures { IsTrue result
+        ↔ (put_in_mem (substitution_of s.now) (mem_tree a.now) ≡ mem_tree b.now) }
 {
     match a {
         Mem::Var(i) => is_mem_for(s, *i, b),
@@ -60,7 +62,8 @@ fn is_mem_image(a: &Mem, s: &Sub, b: &Mem) -> bool
 }
 
 fn is_cond_image(a: &Cond, s: &Sub, b: &Cond) -> bool
-    ensures { IsTrue result ↔ (put_in_cond (substitution_of s.now) (cond_tree a.now) ≡ cond_tree b.now) }
+    ensures { IsTrue result
+        ↔ (put_in_cond (substitution_of s.now) (cond_tree a.now) ≡ cond_tree b.now) }
 {
     match a {
         Cond::Compare(cmp, x, y) => match b {
@@ -114,7 +117,8 @@ fn is_mem_for(s: &Sub, i: u32, b: &Mem) -> bool
 
 #[tactic(auto, using(crate::proofs::ImageLemmas::images_differ))]
 fn are_word_images(a: &[Word], s: &Sub, b: &[Word]) -> bool
-    ensures { IsTrue result ↔ (map (put_in_word (substitution_of s.now)) (map word_tree a.now) ≡ map word_tree b.now) }
+    ensures { IsTrue result
+        ↔ (map (put_in_word (substitution_of s.now)) (map word_tree a.now) ≡ map word_tree b.now) }
 {
     if a.len() != b.len() {
         return false;
@@ -129,7 +133,8 @@ fn are_word_images(a: &[Word], s: &Sub, b: &[Word]) -> bool
 
 #[tactic(auto, using(crate::proofs::ImageLemmas::images_differ))]
 fn are_mem_images(a: &[Mem], s: &Sub, b: &[Mem]) -> bool
-    ensures { IsTrue result ↔ (map (put_in_mem (substitution_of s.now)) (map mem_tree a.now) ≡ map mem_tree b.now) }
+    ensures { IsTrue result
+        ↔ (map (put_in_mem (substitution_of s.now)) (map mem_tree a.now) ≡ map mem_tree b.now) }
 {
     if a.len() != b.len() {
         return false;
@@ -143,14 +148,16 @@ fn are_mem_images(a: &[Mem], s: &Sub, b: &[Mem]) -> bool
 }
 
 fn is_values_image(a: &Values, s: &Sub, b: &Values) -> bool
-    ensures { IsTrue result ↔ (put_in_values (substitution_of s.now) (values_tree a.now) ≡ values_tree b.now) }
+    ensures { IsTrue result
+        ↔ (put_in_values (substitution_of s.now) (values_tree a.now) ≡ values_tree b.now) }
 {
     are_word_images(a.words.as_slice(), s, b.words.as_slice())
         && are_mem_images(a.mems.as_slice(), s, b.mems.as_slice())
 }
 
 fn is_fact_image(a: &Fact, s: &Sub, b: &Fact) -> bool
-    ensures { IsTrue result ↔ (put_in_fact (substitution_of s.now) (fact_tree a.now) ≡ fact_tree b.now) }
+    ensures { IsTrue result
+        ↔ (put_in_fact (substitution_of s.now) (fact_tree a.now) ≡ fact_tree b.now) }
 {
     match a {
         Fact::WordIs(x, y) => match b {
@@ -190,7 +197,8 @@ fn is_fact_image(a: &Fact, s: &Sub, b: &Fact) -> bool
 /// Whether the second facts are the first with all listed variables replaced at once.
 #[tactic(auto, using(crate::proofs::ImageLemmas::images_differ))]
 pub fn are_fact_images(a: &[Fact], s: &Sub, b: &[Fact]) -> bool
-    ensures { IsTrue result ↔ (map (put_in_fact (substitution_of s.now)) (map fact_tree a.now) ≡ map fact_tree b.now) }
+    ensures { IsTrue result
+        ↔ (map (put_in_fact (substitution_of s.now)) (map fact_tree a.now) ≡ map fact_tree b.now) }
 {
     if a.len() != b.len() {
         return false;
@@ -205,7 +213,9 @@ pub fn are_fact_images(a: &[Fact], s: &Sub, b: &[Fact]) -> bool
 
 #[tactic(auto, using(crate::proofs::ImageLemmas::images_differ))]
 fn are_register_images(a: &[(u8, Word)], s: &Sub, b: &[(u8, Word)]) -> bool
-    ensures { IsTrue result ↔ (map (put_in_register (substitution_of s.now)) (map register_tree a.now) ≡ map register_tree b.now) }
+    ensures { IsTrue result
+        ↔ (map (put_in_register (substitution_of s.now)) (map register_tree a.now)
+        ≡ map register_tree b.now) }
 {
     if a.len() != b.len() {
         return false;
@@ -219,14 +229,16 @@ fn are_register_images(a: &[(u8, Word)], s: &Sub, b: &[(u8, Word)]) -> bool
 }
 
 fn is_register_image(a: &(u8, Word), s: &Sub, b: &(u8, Word)) -> bool
-    ensures { IsTrue result ↔ (put_in_register (substitution_of s.now) (register_tree a.now) ≡ register_tree b.now) }
+    ensures { IsTrue result
+        ↔ (put_in_register (substitution_of s.now) (register_tree a.now) ≡ register_tree b.now) }
 {
     a.0 == b.0 && is_word_image(&a.1, s, &b.1)
 }
 
 /// Whether the second assertion is the first with all listed variables replaced at once.
 pub fn is_assertion_image(a: &Assertion, s: &Sub, b: &Assertion) -> bool
-    ensures { IsTrue result ↔ (put_in_assertion (substitution_of s.now) (assertion_tree a.now) ≡ assertion_tree b.now) }
+    ensures { IsTrue result
+        ↔ (put_in_assertion (substitution_of s.now) (assertion_tree a.now) ≡ assertion_tree b.now) }
 {
     is_word_image(&a.pc, s, &b.pc)
         && are_register_images(a.regs.as_slice(), s, b.regs.as_slice())

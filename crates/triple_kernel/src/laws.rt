@@ -1,4 +1,5 @@
-//! Laws of validity. These functions do nothing: their contracts are the laws. Each speaks of the definitions alone.
+//! Laws of validity. These functions do nothing: their contracts are the laws. Each speaks of the
+//! definitions alone.
 
 ghost use Rattle.std.specs.Prelude.{List};
 ghost use Rattle.rv_words.specs.declared.range.Range.{Range};
@@ -17,8 +18,8 @@ pub fn law_of_states()
     ensures { (s : State) → Exists (state_part s) }
 {}
 
-/// The machine comes from each state to itself, and from a first state to a third one where it comes from the first to a
-/// second and from there to the third.
+/// The machine comes from each state to itself, and from a first state to a third one where it
+/// comes from the first to a second and from there to the third.
 pub fn law_of_reaching()
     ensures none { (s : State) → Reaches s s }
     ensures further { (s t u : State) → Reaches s t → Reaches t u → Reaches s u }
@@ -26,7 +27,10 @@ pub fn law_of_reaching()
 
 /// More code keeps a triple valid.
 pub fn law_of_more_code()
-    ensures { (g : GroupTree) (t : TripleTree) (code : List Range) → IsWithin (range_bytes t.code) (range_bytes code) → Valid g t → Valid g (record t { code = code }) }
+    ensures { (g : GroupTree) (t : TripleTree) (code : List Range)
+        → IsWithin (range_bytes t.code) (range_bytes code)
+        → Valid g t
+        → Valid g (record t { code = code }) }
 {}
 
 /// What a valid triple claims of 64-bit words and of finite parts.
@@ -36,7 +40,10 @@ pub fn law_of_validity()
 
 /// Terms put in for the variables of a valid triple keep it valid.
 pub fn law_of_inst()
-    ensures { (g : GroupTree) (s : Substitution) (p t : TripleTree) → IsInst s p t → Valid g p → Valid g t }
+    ensures { (g : GroupTree) (s : Substitution) (p t : TripleTree)
+        → IsInst s p t
+        → Valid g p
+        → Valid g t }
 {}
 
 /// More facts, and a precondition that is the same by them, keep a triple valid.

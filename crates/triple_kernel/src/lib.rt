@@ -1,17 +1,20 @@
 //! Hoare triples over the machine, and theorems: triples that are known to be valid.
 //!
-//! A `Triple` says of code: where the `Fact`s hold, it leads from a state of which `pre` describes a part to one in which
-//! `post` describes it, and leaves the rest of the state alone (separation logic: the frame is built in). Facts and
-//! assertions have variables, and a valid triple holds for all values of them.
+//! A `Triple` says of code: where the `Fact`s hold, it leads from a state of which `pre` describes
+//! a part to one in which `post` describes it, and leaves the rest of the state alone (separation
+//! logic: the frame is built in). Facts and assertions have variables, and a valid triple holds for
+//! all values of them.
 //!
-//! A `Thm` is a triple with the invariant that it is valid for its group, so it is an LCF-style kernel: theorems are
-//! made by `Thm::from_valid`, whose caller has proved validity, and by rules. A rule is told its conclusion and compares:
-//! `inst(&thm, &sub, stated)` gives the theorem `stated` exactly where that is the instance, and `NoInstance` otherwise.
-//! `strengthen`, `weaken` and `discharge` change assertions and facts in the same manner; crates above add the axioms of
+//! A `Thm` is a triple with the invariant that it is valid for its group, so it is an LCF-style
+//! kernel: theorems are made by `Thm::from_valid`, whose caller has proved validity, and by rules.
+//! A rule is told its conclusion and compares: `inst(&thm, &sub, stated)` gives the theorem
+//! `stated` exactly where that is the instance, and `NoInstance` otherwise. `strengthen`, `weaken`
+//! and `discharge` change assertions and facts in the same manner; crates above add the axioms of
 //! instructions, composition and the rule of loops.
 //!
-//! The law that matters is `law_of_validity`, which says what a valid triple claims of states of the machine. Each
-//! rule has one that it keeps validity: `law_of_inst`, `law_of_strengthening`, `law_of_weakening`, `law_of_discharge`.
+//! The law that matters is `law_of_validity`, which says what a valid triple claims of states of
+//! the machine. Each rule has one that it keeps validity: `law_of_inst`, `law_of_strengthening`,
+//! `law_of_weakening`, `law_of_discharge`.
 #![tactic(auto)]
 
 mod copy;

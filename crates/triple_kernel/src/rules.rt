@@ -1,5 +1,5 @@
-//! The rules that change facts and assertions. Each compares the stated triple with its premise in place, and takes
-//! no memory.
+//! The rules that change facts and assertions. Each compares the stated triple with its premise in
+//! place, and takes no memory.
 
 ghost use Rattle.std.specs.Prelude.{◌≡◌, ◌↔◌, IsTrue, IsOk, IfOk};
 ghost use Rattle.word_terms.specs.Substitution.{substitution_of};
@@ -22,7 +22,8 @@ pub struct NoInstance;
 /// Terms for the variables of a theorem, all put in at once. Its code stays.
 pub fn inst<'g>(p: &Thm<'g>, s: &Sub, stated: Triple) -> Result<Thm<'g>, NoInstance>
     ensures ok { IfOk result (λ t. t ≡ (p.now.0, stated)) }
-    ensures exact { IsOk result ↔ IsInst (substitution_of s.now) (triple_tree p.now.1) (triple_tree stated) }
+    ensures exact { IsOk result
+        ↔ IsInst (substitution_of s.now) (triple_tree p.now.1) (triple_tree stated) }
 {
     if is_inst(p.triple(), s, &stated) {
         Ok(p.concludes(stated))
@@ -32,7 +33,8 @@ pub fn inst<'g>(p: &Thm<'g>, s: &Sub, stated: Triple) -> Result<Thm<'g>, NoInsta
 }
 
 fn is_inst(p: &Triple, s: &Sub, stated: &Triple) -> bool
-    ensures { IsTrue result ↔ IsInst (substitution_of s.now) (triple_tree p.now) (triple_tree stated.now) }
+    ensures { IsTrue result
+        ↔ IsInst (substitution_of s.now) (triple_tree p.now) (triple_tree stated.now) }
 {
     are_fact_images(p.facts.as_slice(), s, stated.facts.as_slice())
         && is_assertion_image(&p.pre, s, &stated.pre)

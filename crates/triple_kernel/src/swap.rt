@@ -11,11 +11,13 @@ use crate::triple::Fact;
 use sep_assert::Assertion;
 use word_terms::{Mem, Word, same_mem, same_word};
 
-/// Whether two words are the same, or stated to be equal, or of one form with children that may be swapped.
+/// Whether two words are the same, or stated to be equal, or of one form with children that may be
+/// swapped.
 #[cycle(swaps)]
 #[tactic(auto, using(crate::proofs::StatedLemmas::stated_words_swap, crate::proofs::StatedLemmas::stated_mems_swap))]
 pub fn swap_word(facts: &[Fact], a: &Word, b: &Word) -> bool
-    ensures { IsTrue result ↔ SwapWord (map fact_tree facts.now) (word_tree a.now) (word_tree b.now) }
+    ensures { IsTrue result
+        ↔ SwapWord (map fact_tree facts.now) (word_tree a.now) (word_tree b.now) }
 {
     if are_words_stated(facts, a, b) {
         return true;
@@ -40,8 +42,8 @@ pub fn swap_word(facts: &[Fact], a: &Word, b: &Word) -> bool
     }
 }
 
-/// Whether two memories are the same, or stated to be equal, or stores of one width with children that may be
-/// swapped.
+/// Whether two memories are the same, or stated to be equal, or stores of one width with children
+/// that may be swapped.
 #[cycle(swaps)]
 #[tactic(auto, using(crate::proofs::StatedLemmas::stated_words_swap, crate::proofs::StatedLemmas::stated_mems_swap))]
 pub fn swap_mem(facts: &[Fact], a: &Mem, b: &Mem) -> bool
@@ -65,20 +67,23 @@ pub fn swap_mem(facts: &[Fact], a: &Mem, b: &Mem) -> bool
 }
 
 fn are_words_stated(facts: &[Fact], a: &Word, b: &Word) -> bool
-    ensures { IsTrue result ↔ WordsStated (map fact_tree facts.now) (word_tree a.now) (word_tree b.now) }
+    ensures { IsTrue result
+        ↔ WordsStated (map fact_tree facts.now) (word_tree a.now) (word_tree b.now) }
 {
     same_word(a, b) || is_word_stated(facts, a, b) || is_word_stated(facts, b, a)
 }
 
 fn are_mems_stated(facts: &[Fact], a: &Mem, b: &Mem) -> bool
-    ensures { IsTrue result ↔ MemsStated (map fact_tree facts.now) (mem_tree a.now) (mem_tree b.now) }
+    ensures { IsTrue result
+        ↔ MemsStated (map fact_tree facts.now) (mem_tree a.now) (mem_tree b.now) }
 {
     same_mem(a, b) || is_mem_stated(facts, a, b) || is_mem_stated(facts, b, a)
 }
 
 #[tactic(auto, using(crate::proofs::Among::is_among, crate::proofs::Among::not_among_more))]
 fn is_word_stated(facts: &[Fact], a: &Word, b: &Word) -> bool
-    ensures { IsTrue result ↔ Contains (map fact_tree facts.now) (WordIs (word_tree a.now) (word_tree b.now)) }
+    ensures { IsTrue result
+        ↔ Contains (map fact_tree facts.now) (WordIs (word_tree a.now) (word_tree b.now)) }
 {
     for fact in facts {
         if is_word_fact(fact, a, b) {
@@ -99,7 +104,8 @@ fn is_word_fact(fact: &Fact, a: &Word, b: &Word) -> bool
 
 #[tactic(auto, using(crate::proofs::Among::is_among, crate::proofs::Among::not_among_more))]
 fn is_mem_stated(facts: &[Fact], a: &Mem, b: &Mem) -> bool
-    ensures { IsTrue result ↔ Contains (map fact_tree facts.now) (MemIs (mem_tree a.now) (mem_tree b.now)) }
+    ensures { IsTrue result
+        ↔ Contains (map fact_tree facts.now) (MemIs (mem_tree a.now) (mem_tree b.now)) }
 {
     for fact in facts {
         if is_mem_fact(fact, a, b) {
@@ -120,7 +126,8 @@ fn is_mem_fact(fact: &Fact, a: &Mem, b: &Mem) -> bool
 
 /// Whether two assertions are the same but for terms that may be swapped.
 pub fn swap_assertion(facts: &[Fact], a: &Assertion, b: &Assertion) -> bool
-    ensures { IsTrue result ↔ SwapAssertion (map fact_tree facts.now) (assertion_tree a.now) (assertion_tree b.now) }
+    ensures { IsTrue result
+        ↔ SwapAssertion (map fact_tree facts.now) (assertion_tree a.now) (assertion_tree b.now) }
 {
     swap_word(facts, &a.pc, &b.pc)
         && swap_registers(facts, a.regs.as_slice(), b.regs.as_slice())
@@ -128,7 +135,9 @@ pub fn swap_assertion(facts: &[Fact], a: &Assertion, b: &Assertion) -> bool
 }
 
 fn swap_registers(facts: &[Fact], a: &[(u8, Word)], b: &[(u8, Word)]) -> bool
-    ensures { IsTrue result ↔ AllZip (SwapRegister (map fact_tree facts.now)) (map register_tree a.now) (map register_tree b.now) }
+    ensures { IsTrue result
+        ↔ AllZip (SwapRegister (map fact_tree facts.now)) (map register_tree a.now)
+        (map register_tree b.now) }
 {
     if a.len() != b.len() {
         return false;
@@ -142,13 +151,15 @@ fn swap_registers(facts: &[Fact], a: &[(u8, Word)], b: &[(u8, Word)]) -> bool
 }
 
 fn swap_register(facts: &[Fact], a: &(u8, Word), b: &(u8, Word)) -> bool
-    ensures { IsTrue result ↔ SwapRegister (map fact_tree facts.now) (register_tree a.now) (register_tree b.now) }
+    ensures { IsTrue result
+        ↔ SwapRegister (map fact_tree facts.now) (register_tree a.now) (register_tree b.now) }
 {
     a.0 == b.0 && swap_word(facts, &a.1, &b.1)
 }
 
 fn swap_mems(facts: &[Fact], a: &[Mem], b: &[Mem]) -> bool
-    ensures { IsTrue result ↔ AllZip (SwapMem (map fact_tree facts.now)) (map mem_tree a.now) (map mem_tree b.now) }
+    ensures { IsTrue result
+        ↔ AllZip (SwapMem (map fact_tree facts.now)) (map mem_tree a.now) (map mem_tree b.now) }
 {
     if a.len() != b.len() {
         return false;

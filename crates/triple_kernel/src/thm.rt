@@ -9,8 +9,8 @@ use crate::triple::Triple;
 use std::marker::Model;
 use tailrec_lang::Group;
 
-/// A triple that is valid for its group. This is the type's invariant: whoever has a `Thm` has that fact, which
-/// `Thm::triple` tells.
+/// A triple that is valid for its group. This is the type's invariant: whoever has a `Thm` has that
+/// fact, which `Thm::triple` tells.
 #[derive(Drop)]
 pub struct Thm<'g> {
     group: &'g Group,
@@ -64,7 +64,8 @@ impl<'g> Thm<'g> {
         self.group
     }
 
-    /// The theorem that another valid triple of the group is. Each rule with a theorem as a premise ends here.
+    /// The theorem that another valid triple of the group is. Each rule with a theorem as a premise
+    /// ends here.
     pub fn concludes(&self, stated: Triple) -> Thm<'g>
         requires { Valid (group_tree self.now.0) (triple_tree stated) }
         ensures { result ≡ (self.now.0, stated) }

@@ -14,8 +14,9 @@ pub enum Fact {
     MemIs(Mem, Mem),
     /// A condition is true.
     So(Cond),
-    /// A definition of the group, entered with these arguments, leaves by that exit with these results for some
-    /// number of turns. The returned address is the first result, where there is one.
+    /// A definition of the group, entered with these arguments, leaves by that exit with these
+    /// results for some number of turns. The returned address is the first result, where there is
+    /// one.
     Gives {
         def: u32,
         exit: u32,
@@ -24,8 +25,8 @@ pub enum Fact {
     },
 }
 
-/// A Hoare triple: where the facts hold, the code leads from a state in which `pre` holds to one in which `post`
-/// does, and leaves the rest of the state alone.
+/// A Hoare triple: where the facts hold, the code leads from a state in which `pre` holds to one in
+/// which `post` does, and leaves the rest of the state alone.
 #[derive(Debug, Drop)]
 pub struct Triple {
     pub facts: List<Fact>,

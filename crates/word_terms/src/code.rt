@@ -5,8 +5,8 @@ ghost use Rattle.std.specs.Prelude.{◌≡◌, IfOk};
 use rv_words::{List, NoMemory, Range};
 use std::alloc::Global;
 
-/// The bytes of a function's code, as ranges. Those of a text aren't empty, rise, neither overlap nor touch, and end at
-/// most at 2^64 (`AreRanges`); the type doesn't ask for it.
+/// The bytes of a function's code, as ranges. Those of a text aren't empty, rise, neither overlap
+/// nor touch, and end at most at 2^64 (`AreRanges`); the type doesn't ask for it.
 #[derive(Debug, Drop)]
 pub struct Code {
     pub ranges: List<Range>,

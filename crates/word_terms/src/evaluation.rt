@@ -13,7 +13,8 @@ use crate::term::{Cond, Mem, Word};
 use rv_words::{ByteMap, NoMemory, Width, apply, compare, extend};
 use std::alloc::Global;
 
-/// What the variables stand for: word variable `i` is `words[i]`, and memory variable `i` is `mems[i]`.
+/// What the variables stand for: word variable `i` is `words[i]`, and memory variable `i` is
+/// `mems[i]`.
 #[derive(Clone, Copy)]
 pub struct Env<'a> {
     pub words: &'a [u64],
@@ -49,8 +50,8 @@ pub fn byte_of(t: &Mem, e: &Env, a: u64) -> Option<u8>
     }
 }
 
-/// The number of the width's bytes from an address on. They are looked up all together, so that the address and the
-/// word of each store are evaluated once.
+/// The number of the width's bytes from an address on. They are looked up all together, so that the
+/// address and the word of each store are evaluated once.
 #[cycle(values)]
 fn load_of(t: &Mem, e: &Env, a: u64, width: Width) -> u64
     requires { MemInScope (mem_tree t.now) (length e.now.words.now) (length e.now.mems.now) }
@@ -96,7 +97,9 @@ fn look_up_in(m: &ByteMap, a: u64, count: usize, window: &mut [Option<u8>])
 /// Puts the bytes of a store over those at `count` addresses from `a` on.
 fn put_over(window: &mut [Option<u8>], a: u64, count: usize, at: u64, width: Width, v: u64)
     requires { count ≤ length window.old }
-    ensures { (m : Bytes) → StandFrom m a count window.old → StandFrom (store (bytes_of width) m at v) a count window.new }
+    ensures { (m : Bytes)
+        → StandFrom m a count window.old
+        → StandFrom (store (bytes_of width) m at v) a count window.new }
 {
     for k in 0..count {
         window[k] = byte_after(window[k], a.wrapping_add(k as u64), at, width, v);
@@ -107,7 +110,10 @@ fn put_over(window: &mut [Option<u8>], a: u64, count: usize, at: u64, width: Wid
 fn number_of(window: &[Option<u8>], count: usize) -> u64
     requires few { count ≤ 8 }
     requires count { count ≤ length window.now }
-    ensures { (m : Bytes) (a : ℕ) → a < 2 ^ 64 → StandFrom m a count window.now → result ≡ load count m a }
+    ensures { (m : Bytes) (a : ℕ)
+        → a < 2 ^ 64
+        → StandFrom m a count window.now
+        → result ≡ load count m a }
 {
     let mut number = 0u64;
     for i in 0..count {
@@ -147,10 +153,12 @@ pub fn truth(t: &Cond, e: &Env) -> bool
     }
 }
 
-/// The memory variable on which a term for a memory stands. It has the same addresses, since a store adds none.
+/// The memory variable on which a term for a memory stands. It has the same addresses, since a
+/// store adds none.
 fn variable_of(t: &Mem) -> u32
     ensures scope { (words mems : ℕ) → MemInScope (mem_tree t.now) words mems → result < mems }
-    ensures present { (e : Environment) (n a : ℕ) → inside n (mem_value (mem_tree t.now) e) a ≡ inside n (e.mem result) a }
+    ensures present { (e : Environment) (n a : ℕ)
+        → inside n (mem_value (mem_tree t.now) e) a ≡ inside n (e.mem result) a }
 {
     match t {
         Mem::Var(i) => *i,

@@ -1,17 +1,19 @@
 //! Terms over 64-bit words and memories, their values, and the code of a function.
 //!
-//! A `Word` is a term for a word, a `Mem` one for a memory, a `Cond` a condition: trees over numbered variables, in which
-//! loads and stores are operations like any other (the theory of arrays, of bytes that are present or absent). An `Env`
-//! says what the variables stand for. `value(&t, &env)` evaluates a term, `truth(&c, &env)` a condition, `memory_of` a
-//! whole memory; `is_word_in_scope` tells whether an `Env` of that size has all variables of a term.
+//! A `Word` is a term for a word, a `Mem` one for a memory, a `Cond` a condition: trees over
+//! numbered variables, in which loads and stores are operations like any other (the theory of
+//! arrays, of bytes that are present or absent). An `Env` says what the variables stand for.
+//! `value(&t, &env)` evaluates a term, `truth(&c, &env)` a condition, `memory_of` a whole memory;
+//! `is_word_in_scope` tells whether an `Env` of that size has all variables of a term.
 //!
-//! A `Sub` is a simultaneous substitution, and `subst_word(alloc, &t, &sub)?` carries it out. Terms have no binders, so
-//! nothing can be captured. A term may have any depth, and calls on it recurse as deep: what reads texts gives none
-//! deeper than `DEPTH_LIMIT`, and `subst_word` makes none.
+//! A `Sub` is a simultaneous substitution, and `subst_word(alloc, &t, &sub)?` carries it out. Terms
+//! have no binders, so nothing can be captured. A term may have any depth, and calls on it recurse
+//! as deep: what reads texts gives none deeper than `DEPTH_LIMIT`, and `subst_word` makes none.
 //!
-//! The law that matters is `law_of_substitution`, the substitution lemma: the value of a term after a substitution is the
-//! term's value where the listed variables stand for the values of their terms. `law_of_agreement` says that a value
-//! depends on the variables that occur alone. `Code` is the bytes of a function, as ranges that rise.
+//! The law that matters is `law_of_substitution`, the substitution lemma: the value of a term after
+//! a substitution is the term's value where the listed variables stand for the values of their
+//! terms. `law_of_agreement` says that a value depends on the variables that occur alone. `Code` is
+//! the bytes of a function, as ranges that rise.
 #![tactic(auto)]
 
 mod code;

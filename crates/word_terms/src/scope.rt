@@ -6,8 +6,8 @@ ghost use Rattle.word_terms.specs.Scope.{CondInRange, CondInScope, EachInCond, E
 
 use crate::term::{Cond, Mem, Word};
 
-/// Whether each variable of the term is one of the first `words` or the first `mems`. All of the term is looked
-/// at, so that the clauses on numbers and on ranges hold of any answer.
+/// Whether each variable of the term is one of the first `words` or the first `mems`. All of the
+/// term is looked at, so that the clauses on numbers and on ranges hold of any answer.
 #[cycle(scopes)]
 pub fn is_word_in_scope(t: &Word, words: usize, mems: usize) -> bool
     ensures scope { IsTrue result ↔ WordInScope (word_tree t.now) words mems }

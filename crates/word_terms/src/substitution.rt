@@ -14,7 +14,8 @@ use std::alloc::{AllocFailed, Global};
 /// How deep the result of a substitution, and a term of a text, may be.
 pub const DEPTH_LIMIT: u32 = 64;
 
-/// Terms for variables. Of several for one variable the first counts, and a variable that isn't listed stays.
+/// Terms for variables. Of several for one variable the first counts, and a variable that isn't
+/// listed stays.
 #[derive(Debug, Drop)]
 pub struct Sub {
     pub words: List<(u32, Word)>,
@@ -48,27 +49,33 @@ impl<T: Drop> From<AllocFailed<T>> for TermFault {
 
 /// The term with all listed variables replaced at once.
 pub fn subst_word(alloc: Global, t: &Word, s: &Sub) -> Result<Word, TermFault>
-    ensures ok { IfOk result (λ w. word_tree w ≡ put_in_word (substitution_of s.now) (word_tree t.now)) }
+    ensures ok { IfOk result (λ w.
+        word_tree w ≡ put_in_word (substitution_of s.now) (word_tree t.now)) }
     ensures depth { IfOk result (λ w. depth_of_word (word_tree w) ≤ 64) }
-    ensures too_deep { IsErrOf result TermFault.TooDeep → 64 < depth_of_word (put_in_word (substitution_of s.now) (word_tree t.now)) }
+    ensures too_deep { IsErrOf result TermFault.TooDeep
+        → 64 < depth_of_word (put_in_word (substitution_of s.now) (word_tree t.now)) }
 {
     word_within(alloc, t, s, DEPTH_LIMIT)
 }
 
 /// The term for a memory with all listed variables replaced at once.
 pub fn subst_mem(alloc: Global, t: &Mem, s: &Sub) -> Result<Mem, TermFault>
-    ensures ok { IfOk result (λ w. mem_tree w ≡ put_in_mem (substitution_of s.now) (mem_tree t.now)) }
+    ensures ok { IfOk result (λ w.
+        mem_tree w ≡ put_in_mem (substitution_of s.now) (mem_tree t.now)) }
     ensures depth { IfOk result (λ w. depth_of_mem (mem_tree w) ≤ 64) }
-    ensures too_deep { IsErrOf result TermFault.TooDeep → 64 < depth_of_mem (put_in_mem (substitution_of s.now) (mem_tree t.now)) }
+    ensures too_deep { IsErrOf result TermFault.TooDeep
+        → 64 < depth_of_mem (put_in_mem (substitution_of s.now) (mem_tree t.now)) }
 {
     mem_within(alloc, t, s, DEPTH_LIMIT)
 }
 
 /// The condition with all listed variables replaced at once.
 pub fn subst_cond(alloc: Global, t: &Cond, s: &Sub) -> Result<Cond, TermFault>
-    ensures ok { IfOk result (λ w. cond_tree w ≡ put_in_cond (substitution_of s.now) (cond_tree t.now)) }
+    ensures ok { IfOk result (λ w.
+        cond_tree w ≡ put_in_cond (substitution_of s.now) (cond_tree t.now)) }
     ensures depth { IfOk result (λ w. depth_of_cond (cond_tree w) ≤ 64) }
-    ensures too_deep { IsErrOf result TermFault.TooDeep → 64 < depth_of_cond (put_in_cond (substitution_of s.now) (cond_tree t.now)) }
+    ensures too_deep { IsErrOf result TermFault.TooDeep
+        → 64 < depth_of_cond (put_in_cond (substitution_of s.now) (cond_tree t.now)) }
 {
     cond_within(alloc, t, s, DEPTH_LIMIT)
 }
@@ -77,9 +84,11 @@ pub fn subst_cond(alloc: Global, t: &Cond, s: &Sub) -> Result<Cond, TermFault>
 #[cycle(substitutions)]
 fn word_within(alloc: Global, t: &Word, s: &Sub, room: u32) -> Result<Word, TermFault>
     requires { room ≤ 64 }
-    ensures ok { IfOk result (λ w. word_tree w ≡ put_in_word (substitution_of s.now) (word_tree t.now)) }
+    ensures ok { IfOk result (λ w.
+        word_tree w ≡ put_in_word (substitution_of s.now) (word_tree t.now)) }
     ensures depth { IfOk result (λ w. depth_of_word (word_tree w) ≤ room) }
-    ensures too_deep { IsErrOf result TermFault.TooDeep → room < depth_of_word (put_in_word (substitution_of s.now) (word_tree t.now)) }
+    ensures too_deep { IsErrOf result TermFault.TooDeep
+        → room < depth_of_word (put_in_word (substitution_of s.now) (word_tree t.now)) }
 {
     match t {
         Word::Const(n) => {
@@ -122,9 +131,11 @@ fn word_within(alloc: Global, t: &Word, s: &Sub, room: u32) -> Result<Word, Term
 #[cycle(substitutions)]
 fn mem_within(alloc: Global, t: &Mem, s: &Sub, room: u32) -> Result<Mem, TermFault>
     requires { room ≤ 64 }
-    ensures ok { IfOk result (λ w. mem_tree w ≡ put_in_mem (substitution_of s.now) (mem_tree t.now)) }
+    ensures ok { IfOk result (λ w.
+        mem_tree w ≡ put_in_mem (substitution_of s.now) (mem_tree t.now)) }
     ensures depth { IfOk result (λ w. depth_of_mem (mem_tree w) ≤ room) }
-    ensures too_deep { IsErrOf result TermFault.TooDeep → room < depth_of_mem (put_in_mem (substitution_of s.now) (mem_tree t.now)) }
+    ensures too_deep { IsErrOf result TermFault.TooDeep
+        → room < depth_of_mem (put_in_mem (substitution_of s.now) (mem_tree t.now)) }
 {
     match t {
         Mem::Var(i) => match find(s.mems.as_slice(), *i) {
@@ -151,9 +162,11 @@ fn mem_within(alloc: Global, t: &Mem, s: &Sub, room: u32) -> Result<Mem, TermFau
 #[tactic(auto, using(crate::proofs::Depths::deep_cond))]
 fn cond_within(alloc: Global, t: &Cond, s: &Sub, room: u32) -> Result<Cond, TermFault>
     requires { room ≤ 64 }
-    ensures ok { IfOk result (λ w. cond_tree w ≡ put_in_cond (substitution_of s.now) (cond_tree t.now)) }
+    ensures ok { IfOk result (λ w.
+        cond_tree w ≡ put_in_cond (substitution_of s.now) (cond_tree t.now)) }
     ensures depth { IfOk result (λ w. depth_of_cond (cond_tree w) ≤ room) }
-    ensures too_deep { IsErrOf result TermFault.TooDeep → room < depth_of_cond (put_in_cond (substitution_of s.now) (cond_tree t.now)) }
+    ensures too_deep { IsErrOf result TermFault.TooDeep
+        → room < depth_of_cond (put_in_cond (substitution_of s.now) (cond_tree t.now)) }
 {
     let below = below(room)?;
     match t {

@@ -5,8 +5,8 @@ ghost use Rattle.word_terms.specs.Tree.{cond_tree, depth_of_cond, depth_of_mem, 
 
 use rv_words::{Cmp, Ext, Op, Width};
 
-/// A term that stands for a word. Variables are numbered from 0. A load isn't extended by its sign, and an
-/// absent byte is loaded as 0.
+/// A term that stands for a word. Variables are numbered from 0. A load isn't extended by its sign,
+/// and an absent byte is loaded as 0.
 #[cycle(terms)]
 #[derive(Debug, Drop)]
 pub enum Word {
@@ -23,7 +23,8 @@ pub enum Word {
 #[derive(Debug, Drop)]
 pub enum Mem {
     Var(u32),
-    /// A memory after a store: at an address, of a word's low bytes, at those addresses that are present.
+    /// A memory after a store: at an address, of a word's low bytes, at those addresses that are
+    /// present.
     Store(Width, Box<Mem>, Box<Word>, Box<Word>),
 }
 
@@ -32,8 +33,8 @@ pub enum Mem {
 pub enum Cond {
     Compare(Cmp, Box<Word>, Box<Word>),
     Neg(Box<Cond>),
-    /// All addresses of the width from an address on are present in a memory. They go on from 0 after the
-    /// last one.
+    /// All addresses of the width from an address on are present in a memory. They go on from 0
+    /// after the last one.
     Inside(Width, Box<Mem>, Box<Word>),
 }
 

@@ -95,7 +95,8 @@ fn codes_are_joined(rt: HostRuntime) -> Result<(), Fail> {
     Ok(())
 }
 
-/// Whether a byte agrees with those from 0x10000 on, and lies among them, as told, and is the same code as itself alone.
+/// Whether a byte agrees with those from 0x10000 on, and lies among them, as told, and is the same
+/// code as itself alone.
 fn compares_so(
     alloc: Global,
     (at, byte, agree, within): (u64, u8, bool, bool),
@@ -138,7 +139,8 @@ fn assertion(alloc: Global, pc: u64, x10: u32, m: u32) -> Result<Assertion, NoMe
     })
 }
 
-/// A program counter, a variable in x10 and a memory, and whether that is the assertion of 0x10000, 1 and 0.
+/// A program counter, a variable in x10 and a memory, and whether that is the assertion of 0x10000,
+/// 1 and 0.
 static ASSERTIONS: [(u64, u32, u32, bool); 4] = [
     (0x10000, 1, 0, true),
     (0x10004, 1, 0, false),
@@ -172,7 +174,8 @@ fn many_ranges(alloc: Global, count: u64) -> Result<Code, NoMemory> {
     Ok(Code { ranges })
 }
 
-/// Whether codes of many ranges are compared as they should be, in time that grows as their length does.
+/// Whether codes of many ranges are compared as they should be, in time that grows as their length
+/// does.
 fn many_are_compared(alloc: Global) -> Result<bool, NoMemory> {
     let some = many_ranges(alloc, 10_000)?;
     let all = many_ranges(alloc, 20_000)?;

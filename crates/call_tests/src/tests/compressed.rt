@@ -45,8 +45,8 @@ fn words_of_parcels(rt: HostRuntime) {
     }
 }
 
-/// How many parcels of a quadrant with a funct3 have a word, and a sum over their words: 31 times the sum before, and the
-/// word, or 0 where there is none, from the least parcel to the greatest.
+/// How many parcels of a quadrant with a funct3 have a word, and a sum over their words: 31 times
+/// the sum before, and the word, or 0 where there is none, from the least parcel to the greatest.
 fn sums(quadrant: u16, funct3: u16) -> (u32, u64) {
     let mut count = 0u32;
     let mut sum = 0u64;
@@ -109,8 +109,8 @@ fn every_parcel(rt: HostRuntime) {
     assert!(rt; count_of_others() == 0);
 }
 
-/// Numbers, the length that their low bits tell, and the word of their instruction, if they are one. A number with the low bits
-/// of a parcel and more than 16 bits is neither.
+/// Numbers, the length that their low bits tell, and the word of their instruction, if they are
+/// one. A number with the low bits of a parcel and more than 16 bits is neither.
 static NUMBERS: [(u32, u8, Option<u32>); 5] = [
     (0x8082, 2, Some(0x0000_8067)),
     (0x0000_8067, 4, Some(0x0000_8067)),

@@ -1,6 +1,6 @@
-//! Words as the disassembler of GNU binutils 2.40 reads them, without aliases and with registers as numbers
-//! (`objdump -D -b binary -m riscv:rv64 -M no-aliases,numeric`), and words beside them that it doesn't know, or that it
-//! reads as instructions of other extensions.
+//! Words as the disassembler of GNU binutils 2.40 reads them, without aliases and with registers as
+//! numbers (`objdump -D -b binary -m riscv:rv64 -M no-aliases,numeric`), and words beside them that
+//! it doesn't know, or that it reads as instructions of other extensions.
 
 use rv_decode::*;
 use rv_words::{Cmp, Op, Width};
@@ -95,8 +95,9 @@ fn store_name(width: Width) -> &'static str {
     }
 }
 
-/// An instruction as the disassembler shows it: its name and its operands, in the order of the text, and then zeros.
-/// Offsets stand for the targets from address 0; a fence has its bits 31 to 20, rs1 and rd.
+/// An instruction as the disassembler shows it: its name and its operands, in the order of the
+/// text, and then zeros. Offsets stand for the targets from address 0; a fence has its bits 31 to
+/// 20, rs1 and rd.
 fn shown(i: Instr) -> (&'static str, [i32; 3]) {
     match i {
         Instr::Op { op, rd, rs1, rs2 } => (

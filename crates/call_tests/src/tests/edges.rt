@@ -1,10 +1,10 @@
-//! What operations, extensions and comparisons give on edge values: 0, 1, -1, the least and the greatest number,
-//! and their neighbours, as words and as halves of words.
+//! What operations, extensions and comparisons give on edge values: 0, 1, -1, the least and the
+//! greatest number, and their neighbours, as words and as halves of words.
 //!
-//! The values are those that C gives to the same operations on `uint64_t`, `int64_t`, `uint32_t`, `int32_t` and
-//! `__int128` on x86-64, by gcc 12 and clang 14 alike; shifts are by `b & 63`, and of halves by `b & 31`. Where C
-//! leaves a quotient open, by zero and of the least number by -1, they are those of the RISC-V Unprivileged ISA
-//! 20191213, table 7.1.
+//! The values are those that C gives to the same operations on `uint64_t`, `int64_t`, `uint32_t`,
+//! `int32_t` and `__int128` on x86-64, by gcc 12 and clang 14 alike; shifts are by `b & 63`, and of
+//! halves by `b & 31`. Where C leaves a quotient open, by zero and of the least number by -1, they
+//! are those of the RISC-V Unprivileged ISA 20191213, table 7.1.
 
 use rv_words::{Cmp, Ext, Op};
 

@@ -7,7 +7,8 @@ use term_arena::Arena;
 use term_text::{read_cond, read_mem, read_word};
 use word_terms::DEPTH_LIMIT;
 
-/// Words, of which some are the same. Their terms are made of 10 different ones, with `m0` and `(st1 m0 v0 v1)`.
+/// Words, of which some are the same. Their terms are made of 10 different ones, with `m0` and
+/// `(st1 m0 v0 v1)`.
 static WORDS: [&[u8]; 9] = [
     b"v0\n",
     b"(add v0 v1)\n",

@@ -1,4 +1,5 @@
-//! What no clause says: that the calls succeed while there is memory, and runs whose outcome comes from outside.
+//! What no clause says: that the calls succeed while there is memory, and runs whose outcome comes
+//! from outside.
 
 use rv_machine::*;
 use rv_words::{NoMemory, Width};
@@ -46,7 +47,8 @@ const NOP: &[u8] = b"\x13\0\0\0";
 /// The highest word.
 const ONES: u64 = 0xffff_ffff_ffff_ffff;
 
-/// Whether steps are counted, the program counter is looked at first, and a run goes on where the one before it ended.
+/// Whether steps are counted, the program counter is looked at first, and a run goes on where the
+/// one before it ended.
 fn steps_are_counted(alloc: Global) -> Result<bool, NoMemory> {
     let mut state = State::new(alloc, START);
     state.place(START, LEAF)?;
@@ -58,7 +60,8 @@ fn steps_are_counted(alloc: Global) -> Result<bool, NoMemory> {
     Ok(none && one && two && stuck)
 }
 
-/// A run: the bytes from the start on; the program counter, x1 and x10; after how many steps; and these three then.
+/// A run: the bytes from the start on; the program counter, x1 and x10; after how many steps; and
+/// these three then.
 type Run = (&'static [u8], [u64; 3], u64, [u64; 3]);
 
 /// Whether a run is so.
@@ -158,7 +161,8 @@ fn with_words(alloc: Global, words: &[u32]) -> Result<State, NoMemory> {
     Ok(state)
 }
 
-/// A state with one instruction, eight bytes with four zeros behind them, and four bytes at each end of the address space.
+/// A state with one instruction, eight bytes with four zeros behind them, and four bytes at each
+/// end of the address space.
 fn with_data(alloc: Global, word: u32) -> Result<State, NoMemory> {
     let mut state = with_words(alloc, &[word])?;
     state.place(0x2000, b"\x81\x92\xa3\xb4\xc5\xd6\xe7\xf8")?;
@@ -171,7 +175,8 @@ fn with_data(alloc: Global, word: u32) -> Result<State, NoMemory> {
 /// The last address of a multiple of four.
 const LAST: u64 = 0xffff_ffff_ffff_fffc;
 
-/// Whether the step of a word, from these values of x1 and x2, leaves the program counter and x2 so.
+/// Whether the step of a word, from these values of x1 and x2, leaves the program counter and x2
+/// so.
 fn goes_so(
     alloc: Global,
     (word, x1, x2, pc, after): (u32, u64, u64, u64, u64),
@@ -198,7 +203,8 @@ static STEPS: [(u32, u64, u64, u64, u64); 35] = [
     (0x0000_e103, 0xffff_ffff_ffff_fffe, 0, 0x10004, 0x0605_8403),
     (0x0000_9103, ONES, 0, 0x10004, 0x0584),
     (0xfff0_8103, 0, 0, 0x10004, 0xffff_ffff_ffff_ff84),
-    // `beq`, `bne`, `blt`, `bge`, `bltu` and `bgeu` of x1 and x2 by 16 bytes, and `beq` by -16 and by 2, taken or not
+    // `beq`, `bne`, `blt`, `bge`, `bltu` and `bgeu` of x1 and x2 by 16 bytes, and `beq` by -16 and
+    // by 2, taken or not
     (0x0020_8863, 1, 1, 0x10010, 1),
     (0x0020_8863, 1, 2, 0x10004, 2),
     (0x0020_9863, 1, 2, 0x10010, 2),
@@ -224,7 +230,8 @@ static STEPS: [(u32, u64, u64, u64, u64); 35] = [
     (0x0ff0_000f, 0, 0, 0x10004, 0),
 ];
 
-/// Whether the step of a word, from that x1, stores x2 so that eight bytes from an address on make a number.
+/// Whether the step of a word, from that x1, stores x2 so that eight bytes from an address on make
+/// a number.
 fn stores_so(
     alloc: Global,
     (word, x1, address, number): (u32, u64, u64, u64),
@@ -247,7 +254,8 @@ static STORES: [(u32, u64, u64, u64); 7] = [
     (0x0020_9023, ONES, 0, 0x8807_0677),
 ];
 
-/// Whether the step of a word, from that x1, is none for want of the byte at an address, and changes nothing.
+/// Whether the step of a word, from that x1, is none for want of the byte at an address, and
+/// changes nothing.
 fn is_absent(alloc: Global, (word, x1, address): (u32, u64, u64)) -> Result<bool, NoMemory> {
     let mut state = with_data(alloc, word)?;
     state.set_reg(1, x1);
@@ -289,7 +297,8 @@ fn touches_so(alloc: Global, (word, x1, at, count): (u32, u64, u64, u8)) -> Resu
     Ok(state.touches() == Touch { at, count })
 }
 
-/// `lb`, `sh`, `lwu` and `ld` at 0(x1), `c.lw x15, 16(x10)`, `sd` at -8(x1), `add`, and no instruction.
+/// `lb`, `sh`, `lwu` and `ld` at 0(x1), `c.lw x15, 16(x10)`, `sd` at -8(x1), `add`, and no
+/// instruction.
 static TOUCHES: [(u32, u64, u64, u8); 8] = [
     (0x0000_8103, 0x2000, 0x2000, 1),
     (0x0020_9023, 0x2001, 0x2001, 2),
@@ -341,7 +350,8 @@ static MIXING: [u32; 27] = [
     0x0000_8067,
 ];
 
-/// Whether 10,000 passes leave in x10 to x19 what a C program with the same operations on `uint64_t` and `int64_t` gives.
+/// Whether 10,000 passes leave in x10 to x19 what a C program with the same operations on
+/// `uint64_t` and `int64_t` gives.
 fn mixes(alloc: Global) -> Result<bool, NoMemory> {
     let mut state = with_words(alloc, &MIXING)?;
     state.set_reg(1, START);
@@ -367,8 +377,8 @@ fn mixes(alloc: Global) -> Result<bool, NoMemory> {
     Ok(ended == RunEnd::Steps)
 }
 
-/// A program that fills 64 double words and then folds 501 windows of them with loads, stores, products and quotients
-/// of many kinds, as GNU binutils 2.40 assembles it.
+/// A program that fills 64 double words and then folds 501 windows of them with loads, stores,
+/// products and quotients of many kinds, as GNU binutils 2.40 assembles it.
 static FOLDING: [u32; 34] = [
     0x02b5_0533,
     0x00c5_0533,

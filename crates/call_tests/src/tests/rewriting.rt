@@ -1,5 +1,5 @@
-//! Certificates of rewriting and scripts: that they are made, judged, printed and read while there is memory. The texts are
-//! written by hand.
+//! Certificates of rewriting and scripts: that they are made, judged, printed and read while there
+//! is memory. The texts are written by hand.
 
 use fun_laws::{CertFault, cert_bytes, judge_cert, read_cert, simplify};
 use rv_words::List;

@@ -31,7 +31,8 @@ fn ends_so(
     }
 }
 
-/// A name, a limit and a call that fails, and how reading 200,000 bytes ends: three whole pieces, a part of one, and nothing.
+/// A name, a limit and a call that fails, and how reading 200,000 bytes ends: three whole pieces, a
+/// part of one, and nothing.
 static ENDS: [((&str, u64, u64), Option<ReadEnd>); 9] = [
     (("e", 200_000, 5), None),
     (("e", u64::MAX, 5), None),
@@ -69,7 +70,8 @@ fn measures_so(
     Ok(measure(&mut shelf, name, limit) == end)
 }
 
-/// A name, a limit and a call that fails, and how measuring 200,000 bytes ends: 48 whole pieces, a part of one, and nothing.
+/// A name, a limit and a call that fails, and how measuring 200,000 bytes ends: 48 whole pieces, a
+/// part of one, and nothing.
 static MEASURES: [((&str, u64, u64), Result<u64, MeasureEnd>); 8] = [
     (("e", 200_000, 50), Ok(200_000)),
     (("e", u64::MAX, 50), Ok(200_000)),
@@ -163,7 +165,8 @@ fn gives_end(
     }
 }
 
-/// Whether the lines of a file have these lengths up to their end or a refusal, which stays, where a call fails.
+/// Whether the lines of a file have these lengths up to their end or a refusal, which stays, where
+/// a call fails.
 fn lengths_are(
     alloc: Global,
     whole: &[u8],
@@ -186,7 +189,8 @@ fn lengths_are(
     Ok(first && gives_end(alloc, &mut lines, &mut shelf, end))
 }
 
-/// A name, a size and a call that fails; how long the lines are that are given of the two; and what comes behind them.
+/// A name, a size and a call that fails; how long the lines are that are given of the two; and what
+/// comes behind them.
 static LENGTHS: [((&str, u64, u64), &[usize], Option<LineFault>); 8] = [
     (("e", 15_001, 4), &[10_001, 5_000], None),
     (("e", u64::MAX, 5), &[10_001, 5_000], None),
@@ -208,8 +212,8 @@ fn long_lines_are_given_or_refused(rt: HostRuntime) -> Result<(), Fail> {
     Ok(())
 }
 
-/// How many lines of the pattern are given, and how many bytes these have, where the file holds other bytes from the second
-/// call on. No number where a line isn't what stands next.
+/// How many lines of the pattern are given, and how many bytes these have, where the file holds
+/// other bytes from the second call on. No number where a line isn't what stands next.
 fn lines_given(
     alloc: Global,
     whole: &[u8],
@@ -233,7 +237,8 @@ fn lines_given(
     Ok(None)
 }
 
-/// The pattern has 797 newlines, 17 of them in its first 4,096 bytes. A file that shrinks ends where the shelf gives nothing.
+/// The pattern has 797 newlines, 17 of them in its first 4,096 bytes. A file that shrinks ends
+/// where the shelf gives nothing.
 #[test]
 fn lines_follow_each_other(rt: HostRuntime) -> Result<(), Fail> {
     let whole = pattern(rt.alloc())?;
@@ -331,7 +336,8 @@ static FAILING: [Call; 3] = [
     Call::Create(false),
 ];
 
-/// Whether the second call, an append, fails with so many bytes kept and the third, a create, fails too.
+/// Whether the second call, an append, fails with so many bytes kept and the third, a create, fails
+/// too.
 fn fails_on_a_shelf(alloc: Global, kept: u64, left: &[u8]) -> Result<bool, NoMemory> {
     let mut shelf = MemShelf::new(alloc);
     shelf.set("p", b"x")?;

@@ -51,7 +51,8 @@ static TEXTS: [(&[u8], &[Token<'static>], Option<u64>); 18] = [
     (b"\n\n\x7f\n", &[Token::Eol, Token::Eol], Some(3)),
 ];
 
-/// Whether the text has these tokens, and then a place where no token begins or its end, however often one asks.
+/// Whether the text has these tokens, and then a place where no token begins or its end, however
+/// often one asks.
 fn scans_as(text: &[u8], tokens: &[Token<'_>], bad: Option<u64>) -> bool {
     let mut scan = Scan::new(text);
     for token in tokens {

@@ -1,5 +1,5 @@
-//! Operations, lists and byte maps: that the calls succeed while there is memory, and that a type may reach itself
-//! through a list.
+//! Operations, lists and byte maps: that the calls succeed while there is memory, and that a type
+//! may reach itself through a list.
 
 use super::edges::{COMPARISONS, EXTENSIONS, OPERATIONS};
 use rv_words::*;
@@ -140,7 +140,8 @@ fn bytes_are_stored(alloc: Global) -> Result<bool, NoMemory> {
     Ok(true)
 }
 
-/// An address and a width, whether all these bytes are there after the stores, and the number that is loaded.
+/// An address and a width, whether all these bytes are there after the stores, and the number that
+/// is loaded.
 static LOADED: [(u64, Width, bool, u64); 13] = [
     (0x0ffe, Width::B1, false, 0),
     (0x0fff, Width::B1, true, 0),

@@ -1,4 +1,5 @@
-//! What no clause says: the loops, cuts and faults of worked programs, and that a forest is made while there is memory.
+//! What no clause says: the loops, cuts and faults of worked programs, and that a forest is made
+//! while there is memory.
 
 ghost use Rattle.std.specs.Prelude.{◌≡◌, ◌<◌, length};
 
@@ -13,7 +14,8 @@ use std::test::Fail;
 /// `beq x10, x0, 0`
 const TO_ITSELF: u32 = 0x00050063;
 
-/// A loop: its head, its first and last node, all nodes between them being in it, its exits, and its parent.
+/// A loop: its head, its first and last node, all nodes between them being in it, its exits, and
+/// its parent.
 type Row = (u32, (u32, u32), &'static [u32], Option<u32>);
 
 /// Whether a loop is as the row says, in a graph of so many nodes.
@@ -211,7 +213,8 @@ fn nested(alloc: Global, count: i32) -> Option<Vec<u32>> {
     Some(words)
 }
 
-/// Straight code, branches to themselves, and branches over one instruction each, with their loops and cuts.
+/// Straight code, branches to themselves, and branches over one instruction each, with their loops
+/// and cuts.
 static LONG: [(u32, usize, (u32, u32)); 5] = [
     (0x00050463, 1000, (0, 1000)),
     (ADD, 1023, (0, 32)),
@@ -255,7 +258,8 @@ fn depth_at(f: &Forest, node: u32) -> u32
     }
 }
 
-/// Whether these are the regions of a program's nodes with their depths, and the entry has the largest number.
+/// Whether these are the regions of a program's nodes with their depths, and the entry has the
+/// largest number.
 fn regions_are(alloc: Global, words: &[u32], regions: &[(Option<u32>, u32)]) -> Option<bool> {
     let g = graph(alloc, words)?;
     let f = find_loops(alloc, &g).ok()?;

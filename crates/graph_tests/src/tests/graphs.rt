@@ -1,4 +1,5 @@
-//! What no clause says: the graphs and faults of worked programs, and that a graph is built while there is memory.
+//! What no clause says: the graphs and faults of worked programs, and that a graph is built while
+//! there is memory.
 
 use super::programs::{ADD, RETURN, built, graph, image_of, numbers, repeated};
 use flow_graph::*;
@@ -187,7 +188,8 @@ fn faulty_addresses_are_reached(rt: HostRuntime) -> Result<(), Fail> {
     Ok(())
 }
 
-/// The nodes of a branch and what it leads to: the number and the length of the instruction at each.
+/// The nodes of a branch and what it leads to: the number and the length of the instruction at
+/// each.
 static NODES: [(u32, u8); 4] = [(0x00050363, 4), (0x80820513, 4), (0x8082, 2), (RETURN, 4)];
 
 /// Whether these are the instructions of the nodes of its graph.
@@ -210,7 +212,8 @@ fn numbers_and_lengths(rt: HostRuntime) {
     assert!(rt; nodes_are_right(rt.alloc()) == Some(true));
 }
 
-/// The numbers of the fault of what is reached in a file with these words at 0x10000, if there is one.
+/// The numbers of the fault of what is reached in a file with these words at 0x10000, if there is
+/// one.
 fn refusal(alloc: Global, words: &[u32], entry: u64) -> Option<(u32, u64, u64)> {
     let image = image_of(alloc, words)?;
     match build(alloc, &image, entry) {

@@ -24,7 +24,8 @@ static PROGRAMS: [(&[u32], &[bool]); 7] = [
         &[0x00050463, 0xff010113, 0x00013583, RETURN],
         &[false, false, false, false],
     ),
-    // beq x10, x0, 12; addi x8, x2, -16; jal x0, 8; addi x8, x2, -16; ld x11, 0(x8), to which two walks lead with one offset
+    // beq x10, x0, 12; addi x8, x2, -16; jal x0, 8; addi x8, x2, -16; ld x11, 0(x8), to which two
+    // walks lead with one offset
     (
         &[
             0x00050663, 0xff010413, 0x0080006f, 0xff010413, 0x00043583, RETURN,

@@ -30,8 +30,8 @@ pub record Writes (result : Result Unit Stop) (name text : List ℕ) (old new : 
 
 -- What the names hold after an answer to a command that may write these texts: the output file as the answer's status says, each other name
 -- what it held.
-pub record WritesOut (IsText : Contents → List ℕ → Type 0) (out : List ℕ) (a : Answer) (old new : Contents) : Type 0 where
-  pub output : LeavesOut (IsText old) (status a) (old out) (new out)
+pub record WritesOut (IsText : Contents → Answer → List ℕ → Type 0) (out : List ℕ) (a : Answer) (old new : Contents) : Type 0 where
+  pub output : LeavesOut (IsText old) (λ b. b ≡ a) (status a) (old out) (new out)
   pub others : KeepsOthers out old new
 
 -- an answer that tells of a text that was written, or why it wasn't

@@ -19,7 +19,7 @@ use Rattle.code_parts.specs.Members.{AreMembers, CallsBefore, Member, defs_of, f
 use Rattle.linked_group.specs.Groups.{group_in, member_in, members_of, setting_in}
 use Rattle.linked_group.specs.declared.group.LinkedFunction.{LinkedFunction}
 use Rattle.linked_group.specs.declared.group.LinkedGroup.{LinkedGroup}
-use Rattle.path_walk.specs.Further.{further_of}
+use Rattle.checker.specs.Further.{further_of}
 use Rattle.path_walk.specs.inner.Walks.{CloseFirst}
 
 -- the group has the definitions of these parts in a row, from number n on, each after those that it calls

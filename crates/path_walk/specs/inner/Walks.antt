@@ -13,7 +13,7 @@ use Rattle.code_parts.specs.Flows.{group_of}
 use Rattle.code_parts.specs.Kept.{FlowOf, flow_in}
 use Rattle.path_walk.specs.declared.item.Item.{Item}
 use Rattle.path_walk.specs.Closed.{AreClosedIn}
-use Rattle.path_walk.specs.Further.{further_of}
+use Rattle.checker.specs.Further.{further_of}
 
 -- lines that are right in a text with that further rule, after which the first n definitions are closed
 pub record CloseFirst (F : FurtherRule) (g : GroupTree) (n : ℕ) (lines : List LineTree) : Type 0 where

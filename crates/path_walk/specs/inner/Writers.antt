@@ -24,7 +24,8 @@ use Rattle.code_parts.specs.declared.part.Part.{Part}
 use Rattle.code_parts.specs.declared.callee.Callee.{Callee}
 use Rattle.code_parts.specs.Bodies.{Flow, VariableMap, part_def, start}
 use Rattle.path_walk.specs.Closed.{AreClosed}
-use Rattle.path_walk.specs.Further.{IsVersionFor, further_of}
+use Rattle.checker.specs.Further.{further_of}
+use Rattle.path_walk.specs.Further.{IsVersionFor}
 use Rattle.code_parts.specs.Graph.{CallsBelow, HasCallee, HasPart, IsCode, IsPart}
 use Rattle.path_walk.specs.inner.Histories.{IsCounted, Keeps}
 use Rattle.code_parts.specs.Flows.{group_over}

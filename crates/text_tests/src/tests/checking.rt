@@ -1,5 +1,5 @@
-//! A file and a text have their verdict: texts of each version, and the rules of the later ones. Further texts of the first are
-//! cases of the commands.
+//! A file and a text have their verdict: texts of each version, and the rules of the later ones.
+//! Further texts of the first are cases of the commands.
 
 use call_link::check_linked;
 use checker::{Verdict, check_bytes};
@@ -53,7 +53,8 @@ regs 1 10 11\n";
 /// Its memories.
 const MEMS: &str = "mems 2\n";
 
-/// The same function with two memories that it leaves alone: its body, what it leaves, and its proof.
+/// The same function with two memories that it leaves alone: its body, what it leaves, and its
+/// proof.
 const SPLIT_BODY: &str = "code (0x10000 3305b50067800000)\n\
 def 0x10000 ret\n\
 let (add v1 v2)\n\

@@ -9,8 +9,8 @@ use tailrec_lang::{
     well_formed,
 };
 
-/// Two definitions. The first counts v1 down to 0, adds each of its values to v0 and stores the sum at 0x1000. The
-/// second needs that v1 is neither 8 nor 7, calls the first, and returns.
+/// Two definitions. The first counts v1 down to 0, adds each of its values to v0 and stores the sum
+/// at 0x1000. The second needs that v1 is neither 8 nor 7, calls the first, and returns.
 const TEXT: &str = "\
 mcproof 1
 group f
@@ -36,8 +36,8 @@ leave 0 v0 v2 v3 ; m1
 /// How an evaluation is to end.
 #[derive(Clone, Copy)]
 enum Ending {
-    /// By exit 0, with this program counter, the sum as the first word and at 0x1000, 0 as the second word, and with
-    /// turns left.
+    /// By exit 0, with this program counter, the sum as the first word and at 0x1000, 0 as the
+    /// second word, and with turns left.
     Done { pc: u64, sum: u64, left: u64 },
     /// At the Need of that number in the second definition.
     SideFalse(u64),

@@ -145,8 +145,8 @@ fn judge<L: Ledger>(
     }
 }
 
-/// How many lines are taken, and whether no theorem is kept wherever a definition was closed and all lines that forget have
-/// followed.
+/// How many lines are taken, and whether no theorem is kept wherever a definition was closed and
+/// all lines that forget have followed.
 fn judge_all(
     alloc: Global,
     reader: &mut Reader<'_>,

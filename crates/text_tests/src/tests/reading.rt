@@ -12,8 +12,8 @@ use std::alloc::Global;
 use std::test::Fail;
 use tailrec_lang::Group;
 
-/// Texts, how many lines their groups and proofs take, and the line that is refused after them; none where the text ends
-/// there.
+/// Texts, how many lines their groups and proofs take, and the line that is refused after them;
+/// none where the text ends there.
 static TEXTS: [(&[u8], u64, Option<u64>); 22] = [
     (b"mcproof 1\nend\n", 0, None),
     (
@@ -206,8 +206,8 @@ static BAD: [&[u8]; 74] = [
     b"inst (v0 0x0) facts pre (0x0 ;) code post (0x0 ;)\n",
 ];
 
-/// What stands behind the group: how many lines are read with its proof, and the line that is refused after these; none where
-/// the text ends there.
+/// What stands behind the group: how many lines are read with its proof, and the line that is
+/// refused after these; none where the text ends there.
 static BEHIND: [(&[u8], u64, Option<u64>); 10] = [
     (b"forget 0\nloop 0\nend\n", 9, None),
     (b"end\n", 7, None),

@@ -161,7 +161,8 @@ fn conditions_are_read_and_printed(rt: HostRuntime) -> Result<(), Fail> {
     Ok(())
 }
 
-/// Whether a text is read as a word that is 5 where v0 is 7 and v1 is 2, and is printed as it stands.
+/// Whether a text is read as a word that is 5 where v0 is 7 and v1 is 2, and is printed as it
+/// stands.
 fn word_is_read(alloc: Global, text: &[u8]) -> Result<bool, NoMemory> {
     let Ok(word) = read_word(alloc, &mut Scan::new(text), DEPTH_LIMIT) else {
         return Ok(false);
@@ -176,7 +177,8 @@ fn word_is_read(alloc: Global, text: &[u8]) -> Result<bool, NoMemory> {
     Ok(is_five && out.as_slice() == text)
 }
 
-/// Whether a text is read as a memory with 0x82 at 0x1002 where m0 has 1, 2, 3, 4 from 0x1000 on, and is printed as it stands.
+/// Whether a text is read as a memory with 0x82 at 0x1002 where m0 has 1, 2, 3, 4 from 0x1000 on,
+/// and is printed as it stands.
 fn memory_is_read(alloc: Global, text: &[u8]) -> Result<bool, NoMemory> {
     let Ok(mem) = read_mem(alloc, &mut Scan::new(text), DEPTH_LIMIT) else {
         return Ok(false);

@@ -45,18 +45,18 @@ pub returns-in-Eval-clause-written : goal.returns-in-Eval-clause-written
 returns-in-Eval-clause-written g c =
     let is = subst (λ (command : Read). IsRead (texts c.args.words.now) command) c.in-Eval.is c.in-Ok.ensures in
     let e = c.in-Eval.e in
-    none-written (texts c.args.words.now) (Eval e.proof.now e.name.now e.turns is.0) is.1 refl _ _ _ c.answer_eval.ensures.kept
+    none-written (texts c.args.words.now) (Eval e.proof.now e.name.now e.turns is.0) is.1 refl _ _ _ _ c.answer_eval.ensures.kept
 
 pub returns-in-Run-clause-written : goal.returns-in-Run-clause-written
 returns-in-Run-clause-written g c =
     let is = subst (λ (command : Read). IsRead (texts c.args.words.now) command) c.in-Run.is c.in-Ok.ensures in
     let r = c.in-Run.r in
-    none-written (texts c.args.words.now) (Run r.elf.now r.start.now r.until r.steps is.0) is.1 refl _ _ _ c.answer_run.ensures.kept
+    none-written (texts c.args.words.now) (Run r.elf.now r.start.now r.until r.steps is.0) is.1 refl _ _ _ _ c.answer_run.ensures.kept
 
 pub returns-in-Check-clause-written : goal.returns-in-Check-clause-written
 returns-in-Check-clause-written g c =
     let is = subst (λ (command : Read). IsRead (texts c.args.words.now) command) c.in-Check.is c.in-Ok.ensures in
-    none-written (texts c.args.words.now) (Check c.in-Check.c.elf.now c.in-Check.c.proof.now) is refl _ _ _ c.answer_check.ensures.kept
+    none-written (texts c.args.words.now) (Check c.in-Check.c.elf.now c.in-Check.c.proof.now) is refl _ _ _ _ c.answer_check.ensures.kept
 
 pub returns-in-Decompile-clause-written : goal.returns-in-Decompile-clause-written
 returns-in-Decompile-clause-written g c =
@@ -78,7 +78,7 @@ returns-in-SelfTest-clause-gives g c =
 pub returns-in-SelfTest-clause-written : goal.returns-in-SelfTest-clause-written
 returns-in-SelfTest-clause-written g c =
     let is = subst (λ (command : Read). IsRead (texts c.args.words.now) command) c.in-SelfTest.is c.in-Ok.ensures in
-    none-written (texts c.args.words.now) (SelfTest c.in-SelfTest.test.number c.in-SelfTest.test.size) is refl _ _ _ refl
+    none-written (texts c.args.words.now) (SelfTest c.in-SelfTest.test.number c.in-SelfTest.test.size) is refl _ _ _ _ refl
 
 pub answer_selftest-requires : goal.answer_selftest-requires
 answer_selftest-requires g c = (subst (λ (command : Read). IsRead (texts c.args.words.now) command) c.in-SelfTest.is c.in-Ok.ensures).0.2
@@ -86,7 +86,7 @@ answer_selftest-requires g c = (subst (λ (command : Read). IsRead (texts c.args
 pub returns-in-Err-NotACommand-clause-written : goal.returns-in-Err-NotACommand-clause-written
 returns-in-Err-NotACommand-clause-written g c =
     let none : IsNoCommand (texts c.args.words.now) = search rules in
-    told_same (g.S.Shelf.contents c.args.shelf.now) (LeavesAll (texts c.args.words.now) 2) (λ x d out w e. absurd (none d w))
+    told_same (g.S.Shelf.contents c.args.shelf.now) (LeavesAll (texts c.args.words.now) _ 2) (λ x d out w e. absurd (none d w))
 
 pub returns-in-Eval-clause-write_fault : goal.returns-in-Eval-clause-write_fault
 returns-in-Eval-clause-write_fault g c five =
@@ -123,7 +123,7 @@ returns-in-Laws-clause-gives g c =
 pub returns-in-Laws-clause-written : goal.returns-in-Laws-clause-written
 returns-in-Laws-clause-written g c =
     let is = subst (λ (command : Read). IsRead (texts c.args.words.now) command) c.in-Laws.is c.in-Ok.ensures in
-    none-written (texts c.args.words.now) (Laws c.in-Laws.l.proof.now c.in-Laws.l.cert.now) is refl _ _ _ c.answer_laws.ensures.kept
+    none-written (texts c.args.words.now) (Laws c.in-Laws.l.proof.now c.in-Laws.l.cert.now) is refl _ _ _ _ c.answer_laws.ensures.kept
 
 pub returns-in-Smt-clause-gives : goal.returns-in-Smt-clause-gives
 returns-in-Smt-clause-gives g c =

@@ -7,7 +7,7 @@ use Rattle.proof_text.specs.inner.Drawing.{where_held}
 use Rattle.checker.specs.Pulled.{is_outside}
 use Rattle.checker.specs.declared.verdict.Verdict.TheVariants as verdict
 use Rattle.checker.proofs.SourceLemmas.{held-so}
-use Rattle.path_walk.specs.Further.{further_of}
+use Rattle.checker.specs.Further.{further_of}
 use Rattle.proof_v2.specs.AnyVerdicts.{SaysIn}
 use Rattle.proof_v2.specs.Titles.{named_version}
 use Rattle.proof_v2.proofs.AnyVerdicts.{says-nothing}
