@@ -1,39 +1,49 @@
 """usage: mc loop PROOF FUNCTION D INVARIANT [POST] [OPTION ..]
 
-Proves what a loop does, by an invariant: definition D of FUNCTION in the file PROOF, by the solvers z3 and cvc5. `mc show PROOF` prints the definitions.
+Proves what a loop does, by an invariant: definition D of FUNCTION in the file PROOF, by the solvers
+z3 and cvc5. `mc show PROOF` prints the definitions.
 
-INVARIANT and POST are terms of SMT-LIB, each a file or a text. INVARIANT is over the registers by their names as they are where a turn begins, a0, mem,
-dom and so on, and, with `_in`, as they were where the loop was entered: a0_in. POST is over a0_in and so on, and over what the loop is left with: a0_out,
-mem_out, pc_out, and the exit's number exit_out, 32 bits. What each turn leaves as it is by the text alone needn't be told: the tool adds
-`(= a1 a1_in)` to the invariant, and `(= a1_out a1_in)` to POST, and they are proved with them. These goals are made, each a script of its own:
+INVARIANT and POST are terms of SMT-LIB, each a file or a text. INVARIANT is over the registers by
+their names as they are where a turn begins, a0, mem, dom and so on, and, with `_in`, as they were
+where the loop was entered: a0_in. POST is over a0_in and so on, and over what the loop is left
+with: a0_out, mem_out, pc_out, and the exit's number exit_out, 32 bits. What each turn leaves as it
+is, by the text alone, needn't be told: the tool adds `(= a1 a1_in)` to the invariant, and
+`(= a1_out a1_in)` to POST, and they are proved with them. These goals are made, each a script of
+its own:
 
-    begin   wherever FUNCTION calls the loop, the invariant holds, from --entry on
-    step    a turn that goes again keeps the invariant
-    end     where a turn leaves, POST holds
-    falls   with --measure: the measure falls, as an unsigned word, with each turn that goes again
-    needs   with --needs: in each turn each side condition is true
+  begin   wherever FUNCTION calls the loop, the invariant holds, from --entry on
+  step    a turn that goes again keeps the invariant
+  end     where a turn leaves, POST holds
+  falls   with --measure: the measure falls, as an unsigned word, with each turn that goes again
+  needs   with --needs: in each turn each side condition is true
 
-From step and end follows, by induction on turns (docs/LOOPS.md): where the loop is entered with the invariant and evaluation is done, POST holds. Of side
-conditions nothing is claimed then: that they were true is a premise of each goal. With --needs it is none, but proved; and with --measure, too, it is proved that
-evaluation is done. D may be a definition without a loop of its own that calls some: then INVARIANT is what holds at its entry.
+From step and end follows, by induction on turns (docs/LOOPS.md): where the loop is entered with the
+invariant and evaluation is done, POST holds. Of side conditions nothing is claimed then: that they
+are true is a premise of each goal. With --needs it is none, but proved; and with --measure, too, it
+is proved that evaluation is done. D may be a definition without a loop of its own that calls some,
+as the function itself: then INVARIANT is what holds at its entry.
 
-    --entry TERM          what holds at the entry of FUNCTION, over a0, mem and so on (true)
-    --measure TERM        a word, over the names of INVARIANT
-    --needs               proves the side conditions
-    --known E INV POST    of loop E, which D calls, this was proved: nothing else of it is used
-    --ends E INV POST     this, and with --measure and --needs, that evaluation of E is done where INV holds at its entry
-    --with FILE           commands that stand before these terms: define-fun, declare-fun, declare-const, assert. What is proved holds of all values of
-                          what is declared there for which the asserts are true
-    --axiom TERM          over the names of INVARIANT: a premise of each goal, as an instance of a definition. That it is true of all values is
-                          yours to answer for
-    --elf ELF RANGE       constants: the bytes that ELF has there are in memory, and stay there. RANGE is A:N, from address A on N bytes, or a symbol's name
-    --out FOLDER          keeps the scripts there: begin.smt2, step.smt2 ..
-    --scripts             only writes them
-    --timeout S           for each solver and goal (60)
-    --solver NAME         asks this one alone
-    --first               one answer is enough: the other solver is ended
+  --entry TERM         what holds at the entry of FUNCTION, over a0, mem and so on (true)
+  --measure TERM       a word, over the names of INVARIANT
+  --needs              proves the side conditions
+  --known E INV POST   of loop E, which D calls, this was proved: nothing else of it is used
+  --ends E INV POST    this, and with --measure and --needs, that evaluation of E is done where INV
+                       holds at its entry
+  --with FILE          commands that stand before these terms: define-fun, declare-fun,
+                       declare-const, assert. What is proved holds of all values of what is declared
+                       there of which the asserts are true
+  --axiom TERM         over the names of INVARIANT: a premise of each goal, as an instance of a
+                       definition. That it is true of all values is yours to answer for
+  --elf ELF RANGE      constants: the bytes that ELF has there are in memory, and stay there. RANGE
+                       is A:N, from address A on N bytes, or the name of a symbol
+  --out FOLDER         keeps the scripts there: begin.smt2, step.smt2 ..
+  --scripts            only writes them
+  --timeout S          for each solver and goal (60)
+  --solver NAME        asks this one alone
+  --first              one answer is enough: the other solver is ended
 
-Exit status: 0 each goal is proved; 1 one is refuted, or the words are refused; 2 wrong words; 5 FOLDER can't be written; 7 no answer to one.
+Exit status: 0 each goal is proved; 1 one is refuted, or the words are refused; 2 wrong words; 5
+FOLDER can't be written; 7 no answer to one.
 """
 import os
 import sys

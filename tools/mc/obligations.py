@@ -1,7 +1,5 @@
 """The goals that prove a loop by an invariant, each as a script for a solver. docs/LOOPS.md says why they are a proof."""
 import dataclasses
-import os
-import tempfile
 
 from mc import scripts, smt, turns
 from mc.goal import constant_lines
@@ -132,15 +130,6 @@ def given_line(claim, prefix, contract):
     return defined(f"{base}_given", parameters(names), "Bool", body)
 
 
-def exported(function, text):
-    """The lines of the script of a text that was made for this."""
-    with tempfile.TemporaryDirectory() as folder:
-        path = os.path.join(folder, "turn.proof")
-        with open(path, "w", encoding="latin-1") as file:
-            file.write(text)
-        return scripts.exported(path, function.group.name, function.number)
-
-
 def without(lines, function, numbers, kinds=None):
     """The lines but for those that define functions of these definitions; with `kinds`, of those left only that kind."""
     found = []
@@ -156,7 +145,7 @@ def definition_lines(claim, function, prefix, turn=None, left_open=()):
     numbers = [contract.number for contract in left_open]
     group = function.group
     reached = turns.reached(group, function.number, numbers)
-    operations, lines = exported(function, turns.text(group, function.number, turn, numbers))
+    operations, lines = scripts.exported(function, turns.text(group, function.number, turn, numbers))
     open_ones = [line for contract in left_open if contract.number in reached for line in open_lines(claim, prefix, contract)]
     return operations, open_ones + scripts.renamed(function, without(lines, function, numbers), prefix)
 
@@ -165,7 +154,7 @@ def path_lines(claim, function, prefix, ok, turn, left_open, at_open):
     """Functions of a definition that tell whether, at each call of a loop that is left open, what `at_open` says of it holds; their names end with `ok`."""
     numbers = [contract.number for contract in left_open]
     reached = turns.reached(function.group, function.number, numbers)
-    _, lines = exported(function, turns.text(function.group, function.number, turn, numbers, with_needs=False))
+    _, lines = scripts.exported(function, turns.text(function.group, function.number, turn, numbers, with_needs=False))
     own = [at_open(contract) for contract in left_open if contract.number in reached]
     return own + scripts.renamed(function, without(lines, function, numbers, ("ok",)), prefix, ok)
 

@@ -5,7 +5,7 @@ import re
 import tempfile
 
 from mc import program, proof, smt
-from mc.syntax import RETURN
+from mc.syntax import RETURN, Certificate
 
 OPERATION = "(define-fun rv_"
 FUNCTION = re.compile(r"\bf(\d+)_(ok|exit|pc|w(\d+)|m(\d+)|d(\d+))\b")
@@ -24,6 +24,7 @@ class Function:
     path: str
     group: object
     number: int
+    is_rewritten: bool = False
 
     @property
     def registers(self):
@@ -54,15 +55,15 @@ def find(path, function, number=None, name=None):
         raise Refused(f"{path}: {bad.strerror}") from None
     except proof.BadProof as bad:
         raise Refused(f"{path}: {bad}") from None
-    if not hasattr(read, "groups"):
-        raise Refused(f"{path}: a certificate, and no proof file")
-    group = next((group for group in read.groups if group.name == function), None)
+    # A certificate has the definitions that its group is rewritten to.
+    groups = (read.result,) if isinstance(read, Certificate) else read.groups
+    group = next((group for group in groups if group.name == function), None)
     if group is None:
-        raise Refused(f"{path}: no function {function}. It has: {' '.join(group.name for group in read.groups)}")
+        raise Refused(f"{path}: no function {function}. It has: {' '.join(group.name for group in groups)}")
     last = len(group.definitions) - 1
     if number is not None and not 0 <= number <= last:
         raise Refused(f"{path}: {function} has definitions d0 to d{last}")
-    return Function(name or function, path, group, last if number is None else number)
+    return Function(name or function, path, group, last if number is None else number, isinstance(read, Certificate))
 
 
 def sort_of(argument):
@@ -70,9 +71,15 @@ def sort_of(argument):
     return next((sort for pair in smt.MEMORIES for name, sort in zip(pair, ("Memory", "Domain")) if name == argument), "Word")
 
 
-def exported(path, name, number):
-    """The lines of the script that the program writes of a definition: operations and functions."""
+def exported(function, text=None):
+    """The lines of the script that the program writes of a definition: operations and functions. Where a text is given, of that."""
+    name, number = function.group.name, function.number
     with tempfile.TemporaryDirectory() as folder:
+        path = function.path
+        if text is not None:
+            path = os.path.join(folder, "text.proof")
+            with open(path, "w", encoding="latin-1") as file:
+                file.write(text)
         out = os.path.join(folder, "script.smt2")
         done = program.run(["smt", path, name, str(number), out])
         answer = (done.stdout + done.stderr).strip()

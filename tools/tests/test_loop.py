@@ -1,12 +1,11 @@
 """Tries `mc loop`. What needs a solver, or a built program (MCDEC names it), is skipped with a line where that isn't there."""
-import os
 import pathlib
 import subprocess
 import tempfile
 import unittest
 from unittest import mock
 
-from mc import loop, obligations, program, proof, prove, smt, turns
+from mc import loop, obligations, program, proof, smt, turns
 from tests.test_goal import EXAMPLES, needs_program, needs_solver, say
 
 GCD = EXAMPLES / "gcd" / "gcd.proof"
@@ -135,7 +134,7 @@ class Scripts(unittest.TestCase):
     def test_commands_know_no_registers(self):
         """What --with defines stands before the constants, so that it can't speak of one entry where a contract speaks of another."""
         script = self.scripts("(zero a1)", "--with", f"(define-fun zero ((word Word)) Bool (= word {ZERO}))")["step"]
-        names = [command[1] for command in script]
+        names = [command[1] for command in script if len(command) > 1]
         self.assertLess(names.index("zero"), names.index("a1"))
 
     def test_wrong_words(self):
