@@ -222,7 +222,7 @@ def prepared(text):
 
 
 def judge(text, timeout=60, solvers=SOLVERS, told=lambda answer: None, first=False):
-    """What the solvers that are there say of a script: the exit status, and their answers as they came. `told` is called with each. With `first`, the other
+    """What the solvers that are there say of a script: the exit status, and their answers. `told` is called with each as it comes. With `first`, the other
     solver is ended when one has answered `sat` or `unsat`."""
     script, names = prepared(text)
     there, answers, stop = present(solvers), [], threading.Event()
@@ -236,6 +236,7 @@ def judge(text, timeout=60, solvers=SOLVERS, told=lambda answer: None, first=Fal
             told(answers[-1])
             if first and answers[-1].word in ("sat", "unsat"):
                 stop.set()
+    answers.sort(key=lambda answer: SOLVERS.index(answer.solver))
     return status_of(answers), answers
 
 
