@@ -72,7 +72,8 @@ def main(arguments):
         explain(name, reading)
         return NOT_A_COMMAND
     sys.stdout.flush()
-    done = program.run(reading.words, stdout=subprocess.PIPE)
+    # OUT may be an open file of the shell's, as `>(command)` is.
+    done = program.run(reading.words, stdout=subprocess.PIPE, close_fds=False)
     sys.stdout.buffer.write(done.stdout)
     sys.stdout.buffer.flush()
     say(*reading.warnings)

@@ -14,7 +14,6 @@ line has its number of instructions and definitions, or the reason of the refusa
 Exit status 0: the file was read, however many functions are refused. 1: it wasn't, or OUT couldn't be written. 2: the
 words are wrong, or OUT is an ELF file.
 """
-import argparse
 import collections
 import os
 import re
@@ -25,6 +24,7 @@ from concurrent.futures import ThreadPoolExecutor
 
 from mc import advice, elf, program
 from mc.commands import one_file
+from mc.usage import Parser
 
 SYMBOL_TABLE = 2
 # For each command what its lines say was done.
@@ -156,14 +156,14 @@ class Report:
 
 def parse(arguments):
     """The words behind `mc functions`."""
-    parser = argparse.ArgumentParser(prog="mc functions", usage=__doc__.partition("\n")[0].removeprefix("usage: "), add_help=False)
+    parser = Parser("functions", __doc__)
     which = parser.add_mutually_exclusive_group()
     for command in ("link", "split"):
         which.add_argument(f"--{command}", dest="command", action="store_const", const=command, default="decompile")
     parser.add_argument("--jobs", type=int, default=os.cpu_count())
     parser.add_argument("elf")
     parser.add_argument("out", nargs="?")
-    found = parser.parse_args(arguments)
+    found = parser.parse(arguments)
     if found.jobs < 1:
         parser.error("--jobs wants a number from 1 on")
     return found
@@ -181,13 +181,7 @@ def answers(found, jobs, folder, count):
 
 
 def main(arguments):
-    if arguments[:1] in (["-h"], ["--help"]):
-        print(__doc__.strip())
-        return 0
-    try:
-        found = parse(arguments)
-    except SystemExit as end:
-        return end.code
+    found = parse(arguments)
     if found.out is not None and one_file(found.out, found.elf):
         return fail(f"OUT {found.out} is the ELF file itself: nothing was done", 2)
     if found.out is not None and advice.begins_with(found.out, b"\x7fELF"):

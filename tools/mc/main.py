@@ -1,6 +1,7 @@
 """The table of what `./mc` does, and how its words lead to one of these modules."""
 import difflib
 import importlib
+import importlib.util
 import os
 import signal
 import sys

@@ -145,6 +145,13 @@ class PassedOn(unittest.TestCase):
         done = subprocess.run([link, "--program", "../a place/the program", "-v", "check", "gcd.elf", "gcd.proof"], capture_output=True, text=True, cwd=self.place)
         self.assertEqual((done.returncode, done.stdout, done.stderr), (0, "accepted 1 113\n", f"mc: passed on: '{copy}' check gcd.elf gcd.proof\nmc: status 0\n"))
 
+    def test_an_open_file_as_out(self):
+        with open(os.path.join(self.place, "o"), "wb") as file:
+            words = [samples.TOP / "mc", "decompile", "gcd.elf", f"/dev/fd/{file.fileno()}", "gcd"]
+            done = subprocess.run(words, capture_output=True, text=True, cwd=self.place, pass_fds=[file.fileno()])
+        self.assertEqual((done.returncode, done.stdout, done.stderr), (0, "decompiled gcd 0x11120 7 5\n", ""))
+        self.assertEqual(pathlib.Path(self.place, "o").read_bytes(), (GCD / "gcd.proof").read_bytes())
+
     def test_standard_output_as_out(self):
         status, out, _ = self.say("decompile", "gcd.elf", "/dev/stdout", "gcd")
         self.assertEqual((status, out), (0, (GCD / "gcd.proof").read_text() + "decompiled gcd 0x11120 7 5\n"))

@@ -1,4 +1,4 @@
-"""Tries `mc goal` and `mc prove`. What needs a solver, or a built program (MCDEC names it), is skipped with a line where that isn't there."""
+"""Tries `mc goal` and `mc prove`. What needs a solver, or a built program (`mc build` makes one), is skipped with a line where that isn't there."""
 import contextlib
 import io
 import os
@@ -13,7 +13,7 @@ from mc import goal, program, prove, scripts, smt
 
 EXAMPLES = pathlib.Path(__file__).resolve().parents[2] / "examples"
 needs_solver = unittest.skipUnless(prove.present(), "neither z3 nor cvc5 is on the machine")
-needs_program = unittest.skipUnless(os.environ.get(program.VARIABLE), "MCDEC names no built program")
+needs_program = unittest.skipUnless(program.find(), "no program is built")
 
 
 def average_script(arguments):

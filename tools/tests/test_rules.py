@@ -1,14 +1,15 @@
 """Tries the small texts of examples/rules: that `check` answers each as the file beside it says, and
 that their page tells the same.
 
-The program is that of the environment variable MCDEC, or else the one that tools/mc/program.py
-finds. Without either, the tests that need a program are skipped.
+The program is the one that tools/mc/program.py finds; the environment variable MCDEC names another.
+Where there is none, the tests that need it are skipped: none is built.
 """
-import os
 import pathlib
 import re
 import subprocess
 import unittest
+
+from mc import program
 
 TOP = pathlib.Path(__file__).resolve().parents[2]
 FOLDER = TOP / "examples" / "rules"
@@ -17,17 +18,6 @@ RULES = {
     "axiom", "inst", "frame", "extend", "compose", "strengthen", "weaken", "discharge", "use", "loop",
     "forget", "steer", "exchange",
 }
-
-
-def path_of_program():
-    """The path of the built program, or None."""
-    if "MCDEC" in os.environ:
-        return pathlib.Path(os.environ["MCDEC"]).resolve()
-    try:
-        from mc import program
-    except ImportError:
-        return None
-    return program.path()
 
 
 def names():
@@ -77,9 +67,9 @@ class AnswerTest(unittest.TestCase):
 
     @classmethod
     def setUpClass(cls):
-        cls.program = path_of_program()
+        cls.program = program.find()
         if cls.program is None:
-            raise unittest.SkipTest("no program: set MCDEC")
+            raise unittest.SkipTest("no program is built")
 
     def answer(self, *words):
         """What the program prints for these words, in the folder of the texts."""
