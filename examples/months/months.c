@@ -1,3 +1,7 @@
+// months.elf was made of this file with clang and lld 14.0.6, by
+//
+//   clang --target=riscv64 -march=rv64imac -mabi=lp64 -O1 -ffreestanding -nostdlib -fuse-ld=lld -Wl,-e,day_of_year -Wl,--build-id=none -o months.elf months.c
+
 // The days of each month, of a year without a leap day.
 static const unsigned char days[13] = {0, 31, 28, 31, 30, 31, 30, 31, 31, 30, 31, 30, 31};
 

@@ -5,7 +5,7 @@ import tempfile
 import unittest
 from unittest import mock
 
-from mc import loop, obligations, program, proof, smt, turns
+from mc import goal, loop, obligations, program, proof, smt, turns
 from tests.test_goal import EXAMPLES, needs_program, needs_solver, say
 
 GCD = EXAMPLES / "gcd" / "gcd.proof"
@@ -174,13 +174,49 @@ class Scripts(unittest.TestCase):
 @needs_program
 @needs_solver
 class Proofs(unittest.TestCase):
-    """The loops of the examples, with their proofs and with wrong ones."""
+    """A loop of the examples, proved and refuted. docs/TUTORIAL.md has the others, which test_tutorial.py tries."""
 
-    def prove(self, status, proof_, *words):
-        path = EXAMPLES / proof_
-        found, out, told = say(loop, path, *(str(path.parent / word) if str(word).endswith((".inv", ".post", ".with", ".axiom", ".elf", ".measure")) else word for word in words), "--first", "--timeout", "300")
-        self.assertEqual(found, status, out + told)
-        return out
+    def prove(self, *words):
+        """The exit status and the output, in the folder of the example. Where no solver has an answer in a minute, the test is skipped with a line."""
+        months = EXAMPLES / "months"
+        words = [months / word if str(word).startswith("months.") else word for word in words]
+        status, out, told = say(loop, months / "months.proof", "day_of_year", 0, *words, "--with", months / "months.with", "--first")
+        if "timeout" in out and status == 7:
+            self.skipTest("no solver had an answer in a minute")
+        self.assertEqual(told, "")
+        return status, out
+
+    def test_a_table(self):
+        words = ["months.inv", "months.post", "--measure", "a0", "--entry", "(bvule a0 (_ bv12 64))"]
+        status, out = self.prove(*words, "--elf", "months.elf", "days")
+        self.assertEqual(status, 0, out)
+        self.assertRegex(out, r"begin  proved .*\nstep   proved .*\nend    proved .*\nfalls  proved .*\nproved of d0 of day_of_year: .*")
+
+    def test_without_the_table(self):
+        status, out = self.prove("months.inv", "months.post", "--entry", "(bvule a0 (_ bv12 64))")
+        self.assertEqual(status, 1, out)
+        self.assertRegex(out, r"\nstep   refuted: .*\n  ra_in ")
+
+    def test_a_measure_that_rises(self):
+        status, out = self.prove("true", "--measure", "a2")
+        self.assertEqual(status, 1, out)
+        self.assertRegex(out, r"\nfalls  refuted: ")
+
+
+@needs_program
+class Certificates(unittest.TestCase):
+    """What `simplify` wrote is taken in place of a proof."""
+
+    def test_a_goal_and_a_loop(self):
+        with tempfile.TemporaryDirectory() as folder:
+            out, cert = pathlib.Path(folder) / "goal.smt2", pathlib.Path(folder) / "gcd.cert"
+            self.assertEqual(program.run(["simplify", GCD, "gcd", cert]).returncode, 0)
+            self.assertEqual(say(goal, out, f"gcd={cert}:gcd:1")[0], 0)
+            self.assertIn("define-fun gcd_a0 ", out.read_text())
+            self.assertEqual(say(loop, cert, "gcd", 0, "true", "--scripts", "--out", folder)[0], 0)
+            before, after = (pathlib.Path(folder) / name for name in ("step.smt2", "before/step.smt2"))
+            say(loop, GCD, "gcd", 0, "true", "--scripts", "--out", after.parent)
+            self.assertLess(len(before.read_text()), len(after.read_text()))
 
 
 if __name__ == "__main__":
