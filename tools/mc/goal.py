@@ -82,19 +82,18 @@ def goal_lines(functions, goal):
 
 def script_of(functions, goal=None):
     """The lines of the script of these functions."""
-    operations, body, defined = [], [], set()
+    operations, body = [], []
     for function in functions:
         operations, lines = scripts.exported(function, turns.text(function.group, function.number) if function.is_rewritten else None)
-        lines = scripts.renamed(function, lines, function.name)
-        names = {line.split(" ", 2)[1] for line in lines}
-        if names & defined:
-            raise scripts.Refused(f"{function.name}: {min(names & defined)} would be defined twice: choose another name")
-        defined |= names
         body += scripts.heading(f"{function.name}: {function.where} in {os.path.basename(function.path)}")
-        body += scripts.told_lines(function, function.name) + lines
+        body += scripts.told_lines(function, function.name) + scripts.renamed(function, lines, function.name)
     head = ["; Of functions of machine code, for an SMT solver. `./mc prove` gives it to z3 and cvc5.", "", *smt.sorts()]
     constants = scripts.heading("The values at the entry") + constant_lines(constants_of(functions))
-    return head + scripts.heading("The operations of RISC-V") + operations + body + constants + goal_lines(functions, goal)
+    lines = head + scripts.heading("The operations of RISC-V") + operations + body + constants + goal_lines(functions, goal)
+    twice = smt.defined_twice(lines)
+    if twice is not None:
+        raise scripts.Refused(f"{twice} would be defined twice: choose another name")
+    return lines
 
 
 def write(path, text, inputs):

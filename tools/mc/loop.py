@@ -141,10 +141,21 @@ def claim_of(given):
 
 
 def goals_of(claim):
-    """The goals by their names, and why there is no `begin` where there is none."""
+    """The goals by their names, and why there is no `begin` where there is none. Raises Refused where one has no script."""
     begin, why = obligations.entry_goal(claim) if claim.is_loop else (None, None)
     goals = {"begin": begin} if begin else {}
-    return {**goals, **obligations.turn_goals(claim)}, why
+    goals.update(obligations.turn_goals(claim))
+    for goal in goals.values():
+        goal.script()
+    return goals, why
+
+
+def keep(goals, folder):
+    """Writes the scripts."""
+    os.makedirs(folder, exist_ok=True)
+    for name, goal in goals.items():
+        with open(os.path.join(folder, f"{name}.smt2"), "w", encoding="utf8") as file:
+            file.write(goal.script())
 
 
 def solved(name, goal, given):
@@ -215,10 +226,7 @@ def main(arguments):
         return 1
     if given.out is not None:
         try:
-            os.makedirs(given.out, exist_ok=True)
-            for name, goal in goals.items():
-                with open(os.path.join(given.out, f"{name}.smt2"), "w", encoding="utf8") as file:
-                    file.write(goal.script())
+            keep(goals, given.out)
         except OSError as bad:
             print(f"{bad.filename}: {bad.strerror}", file=sys.stderr)
             return 5

@@ -202,6 +202,9 @@ class Goal:
 
     def script(self, denied=True):
         """The script: its assertions are true together exactly where the goal is false; or, where it isn't denied, where the premises are true."""
+        twice = smt.defined_twice(self.lines)
+        if twice is not None:
+            raise scripts.Refused(f"{twice} would be defined twice: choose another name in --with")
         asserted = [f"(assert {premise})" for premise in self.premises] + ([f"(assert (not {self.conclusion}))"] if denied else [])
         return "\n".join([f"; {self.comment}", "", *self.lines, *scripts.heading("The goal"), *asserted, "(check-sat)", ""])
 

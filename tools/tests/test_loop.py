@@ -146,6 +146,8 @@ class Scripts(unittest.TestCase):
             (["true", "--known", "0", "true", "true"], "d0 itself"),
             (["true", "--known", "9", "true", "true"], "gcd has definitions d0 to d4"),
             (["true", "--with", "true"], "--with: commands are wanted"),
+            (["true", "--with", "(define-fun invariant () Bool true)"], "invariant would be defined twice"),
+            (["true", "--with", "(declare-const a0_in Word)"], "a0_in would be defined twice"),
             (["true", "--elf", EXAMPLES / "gcd" / "gcd.elf", "0x11120:4"], "gcd has no memory"),
             (["true", "--elf", EXAMPLES / "gcd" / "gcd.elf", "none"], "neither A:N nor a symbol"),
             (["true", "--elf", EXAMPLES / "gcd" / "gcd.elf", "0x100:4"], "no bytes at 0x100"),
