@@ -15,19 +15,22 @@ At its end stands the goal: write there what is to hold, in place of `true`, and
 `mc prove OUT`. With --goal it is taken from GOAL, a file or a text: commands of SMT-LIB, as
 definitions and premises, each as it stands, and at the end one term, which is to hold.
 
-A definition that has a loop, or calls one, has no script: see `mc help loop`. PROOF may be a
+A definition that has a loop, or calls one, has no script: see `mc help loop`. One turn of a loop
+has: with `turn4` for DEF it is that of definition 4, which leaves by a further exit where it would
+go again, behind its own; if no loop is called in it. PROOF may be a
 certificate of `simplify`: then it is about the definitions that this ends with. No line of a proof
 or a certificate is judged here: `check` and `laws` do that.
 
 Exit status: 0 written; 1 refused; 2 wrong words; 5 OUT can't be written.
 """
+import dataclasses
 import os
 import re
 import sys
 
 from mc import program, scripts, smt, turns, usage
 
-WORD = re.compile(r"([A-Za-z][A-Za-z0-9_]*)=(.+?):([^:]+)(?::(\d+))?")
+WORD = re.compile(r"([A-Za-z][A-Za-z0-9_]*)=(.+?):([^:]+?)(?::(turn)?(\d+))?")
 TEMPLATE = "true"
 
 
@@ -36,11 +39,14 @@ def function_of(word):
     match = WORD.fullmatch(word)
     if match is None:
         raise scripts.Refused(f"{word}: not of the form NAME=PROOF:FUNCTION or NAME=PROOF:FUNCTION:DEF")
-    name, path, function, number = match.groups()
+    name, path, function, turn, number = match.groups()
     taken = {*smt.REGISTERS, *(part for pair in smt.MEMORIES for part in pair), *smt.SORTS}
     if name in taken or name.startswith("rv_"):
         raise scripts.Refused(f"{word}: {name} is the name of something else in the script")
-    return scripts.find(path, function, None if number is None else int(number), name)
+    found = scripts.find(path, function, None if number is None else int(number), name)
+    if turn and not turns.is_loop(found.definition):
+        raise scripts.Refused(f"{word}: d{number} of {function} is no loop")
+    return dataclasses.replace(found, is_turn=bool(turn))
 
 
 def constants_of(functions):
@@ -84,7 +90,9 @@ def script_of(functions, goal=None):
     """The lines of the script of these functions."""
     operations, body = [], []
     for function in functions:
-        operations, lines = scripts.exported(function, turns.text(function.group, function.number) if function.is_rewritten else None)
+        made = function.is_rewritten or function.is_turn
+        text = turns.text(function.group, function.number, function.number if function.is_turn else None) if made else None
+        operations, lines = scripts.exported(function, text)
         body += scripts.heading(f"{function.name}: {function.where} in {os.path.basename(function.path)}")
         body += scripts.told_lines(function, function.name) + scripts.renamed(function, lines, function.name)
     head = ["; Of functions of machine code, for an SMT solver. `./mc prove` gives it to z3 and cvc5.", "", *smt.sorts()]

@@ -35,7 +35,7 @@ as the function itself: then INVARIANT is what holds at its entry.
   --axiom TERM         over the names of INVARIANT: a premise of each goal, as an instance of a
                        definition. That it is true of all values is yours to answer for
   --elf ELF RANGE      constants: the bytes that ELF has there are in memory, and stay there. RANGE
-                       is A:N, from address A on N bytes, or the name of a symbol
+                       is A:N, from address A on N bytes, or the name of a symbol or of a section
   --out FOLDER         keeps the scripts there: begin.smt2, step.smt2 ..
   --scripts            only writes them
   --timeout S          for each solver and goal (60)
@@ -82,12 +82,12 @@ def contract_of(function, number, invariant, post, ends=False):
 
 
 def constants_in(image, word):
-    """The addresses and the bytes of a range of a file: A:N, or the name of a symbol."""
-    symbol = next((symbol for symbol in image.symbols if symbol.name == word and symbol.size), None)
+    """The addresses and the bytes of a range of a file: A:N, or the name of a symbol or of a section."""
+    named = next((part for part in (*image.symbols, *image.sections) if part.name == word and part.size), None)
     try:
-        first, count = (symbol.address, symbol.size) if symbol else (int(part, 0) for part in word.split(":"))
+        first, count = (named.address, named.size) if named else (int(part, 0) for part in word.split(":"))
     except ValueError:
-        raise scripts.Refused(f"{word}: neither A:N nor a symbol of {image.path} that has a size") from None
+        raise scripts.Refused(f"{word}: neither A:N nor a symbol or a section of {image.path} that has a size") from None
     found = image.bytes_at(first, count)
     if found is None:
         raise scripts.Refused(f"{image.path} has no bytes at {first:#x}, {count} of them")

@@ -25,6 +25,7 @@ class Function:
     group: object
     number: int
     is_rewritten: bool = False
+    is_turn: bool = False
 
     @property
     def registers(self):
@@ -44,7 +45,8 @@ class Function:
     def where(self):
         """What a person calls the definition."""
         is_last = self.number == len(self.group.definitions) - 1
-        return f"{self.group.name} (d{self.number})" if is_last else f"d{self.number} of {self.group.name}"
+        name = f"{self.group.name} (d{self.number})" if is_last else f"d{self.number} of {self.group.name}"
+        return f"a turn of {name}" if self.is_turn else name
 
 
 def find(path, function, number=None, name=None):
@@ -128,7 +130,8 @@ def renamed(function, lines, prefix, ok="ok"):
 
 def exits_text(function):
     """The exits by their numbers."""
-    return ", ".join(f"{k} {'returns' if exit == RETURN else f'leaves to {exit:#x}'}" for k, exit in enumerate(function.definition.exits))
+    exits = [f"{k} {'returns' if exit == RETURN else f'leaves to {exit:#x}'}" for k, exit in enumerate(function.definition.exits)]
+    return ", ".join([*exits, f"{len(exits)} goes again"] if function.is_turn else exits)
 
 
 def heading(text):

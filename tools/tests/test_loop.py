@@ -121,6 +121,12 @@ class Scripts(unittest.TestCase):
         self.assertEqual(asserted["falls"][2], "(not (bvult (let ((ra ra_next) (a0 a0_next) (a1 a1_next) (a2 a2_next)) a1) a1))")
         self.assertEqual(asserted["needs"], [holds, "(not (turn_ok ra a0 a1 a2))"])
 
+    def test_a_turn_as_a_goal(self):
+        out = self.out.parent / "goal.smt2"
+        self.assertEqual(say(goal, out, f"gcd={GCD}:gcd:turn0"), (0, "gcd: a turn of d0 of gcd, of (ra a0 a1 a2)\n", ""))
+        self.assertIn("Its exits: 0 leaves to 0x1112c, 1 goes again.", out.read_text())
+        self.assertEqual(say(goal, out, f"gcd={GCD}:gcd:turn1")[0], 1)
+
     def test_side_conditions_are_premises(self):
         found = self.scripts("true", "true")
         self.assertEqual(set(found), {"step", "end"})
@@ -149,7 +155,7 @@ class Scripts(unittest.TestCase):
             (["true", "--with", "(define-fun invariant () Bool true)"], "invariant would be defined twice"),
             (["true", "--with", "(declare-const a0_in Word)"], "a0_in would be defined twice"),
             (["true", "--elf", EXAMPLES / "gcd" / "gcd.elf", "0x11120:4"], "gcd has no memory"),
-            (["true", "--elf", EXAMPLES / "gcd" / "gcd.elf", "none"], "neither A:N nor a symbol"),
+            (["true", "--elf", EXAMPLES / "gcd" / "gcd.elf", "none"], "neither A:N nor a symbol or a section"),
             (["true", "--elf", EXAMPLES / "gcd" / "gcd.elf", "0x100:4"], "no bytes at 0x100"),
         ):
             with self.subTest(words=words):
@@ -190,7 +196,7 @@ class Proofs(unittest.TestCase):
 
     def test_a_table(self):
         words = ["months.inv", "months.post", "--measure", "a0", "--entry", "(bvule a0 (_ bv12 64))"]
-        status, out = self.prove(*words, "--elf", "months.elf", "days")
+        status, out = self.prove(*words, "--elf", "months.elf", ".rodata")
         self.assertEqual(status, 0, out)
         self.assertRegex(out, r"begin  proved .*\nstep   proved .*\nend    proved .*\nfalls  proved .*\nproved of d0 of day_of_year: .*")
 
