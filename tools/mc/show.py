@@ -63,6 +63,8 @@ def groups_of(path, function):
     """The groups that are to be shown."""
     found = inputs.read(proof.read, path)
     groups = found.groups if isinstance(found, proof.Proof) else (found.result,)
+    if not groups:
+        raise Failure(1, f"{path}: no function is in it")
     if function is None:
         return groups
     named = tuple(group for group in groups if group.name == function)

@@ -10,7 +10,7 @@ from mc import main
 
 TOP = pathlib.Path(__file__).resolve().parents[2]
 EXAMPLES = TOP / "examples"
-PROOFS = ("average/average", "gcd/gcd", "linked/lcm", "split/swap", "strlen/strlen", "sum/sum")
+PROOFS = ("average/average", "days/days", "gcd/gcd", "linked/lcm", "split/swap", "strlen/strlen", "sum/sum")
 
 CODE = bytes.fromhex("8280")  # ret
 TABLE = struct.pack("<4H", 0x1021, 0x2042, 0x3063, 0x4084)

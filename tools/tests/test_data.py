@@ -1,6 +1,9 @@
 """Tests of `mc data`: on a file made by hand, whose bytes and addresses stand in `samples`, and on an example."""
+import os
 import pathlib
 import re
+import shutil
+import subprocess
 import tempfile
 import unittest
 
@@ -122,6 +125,37 @@ class OfOtherFiles(unittest.TestCase):
         self.assertIn(expected[12:-1], (EXAMPLES / "gcd" / "gcd.proof").read_text())
         self.assertEqual(samples.script("data", "gcd.elf", "gcd", cwd=EXAMPLES / "gcd"), (0, expected, ""))
         self.assertEqual(mc("data", "gcd.elf", "gcd", cwd=EXAMPLES / "gcd"), (0, expected, ""))
+
+
+class OfTheExampleWithATable(unittest.TestCase):
+    """What the section `days` of examples/README.md shows."""
+
+    @classmethod
+    def setUpClass(cls):
+        page = (EXAMPLES / "README.md").read_text(encoding="utf8").partition("\n## days: ")[2]
+        cls.shown, cls.commands, cls.told, cls.solving = re.findall(r"^```\n(.*?)^```$", page, re.M | re.S)
+
+    def run_lines(self, text):
+        """What a shell prints for the lines in the folder of the example, where `mcdec` is the program that MCDEC names."""
+        with tempfile.TemporaryDirectory() as folder:
+            (pathlib.Path(folder) / "mcdec").symlink_to(os.path.abspath(os.environ["MCDEC"]))
+            text = text.replace("days.smt2", f"{folder}/days.smt2")
+            done = subprocess.run(["sh", "-c", text], cwd=EXAMPLES / "days", capture_output=True, text=True, env={**os.environ, "PATH": f"{folder}:{os.environ['PATH']}"})
+            return done.stdout
+
+    def test_its_lines_beside_the_instructions(self):
+        _, out, _ = mc("show", EXAMPLES / "days" / "days.proof", "--elf", EXAMPLES / "days" / "days.elf")
+        for line in self.shown.splitlines():
+            self.assertIn(line if " | " in out else line.partition("|")[2].strip(), out)
+
+    @unittest.skipUnless(os.environ.get("MCDEC"), "MCDEC names no built program")
+    def test_its_evaluations(self):
+        self.assertEqual(self.run_lines(self.commands), self.told)
+
+    @unittest.skipUnless(os.environ.get("MCDEC") and shutil.which("z3"), "MCDEC names no built program, or z3 isn't there")
+    def test_its_goal(self):
+        self.assertEqual(self.run_lines(self.solving), "exported 0\nunsat\n")
+        self.assertEqual(self.run_lines(self.solving.replace("../../mc data days.elf table --smt; ", "")), "exported 0\nsat\n")
 
 
 if __name__ == "__main__":

@@ -244,6 +244,12 @@ class OfOtherTexts(unittest.TestCase):
             self.assertEqual(caught.exception.line, line)
             self.assertRegex(caught.exception.why, why)
 
+    def test_a_text_without_functions(self):
+        with tempfile.TemporaryDirectory() as folder:
+            path = pathlib.Path(folder) / "text"
+            path.write_text("mcproof 1\nend\n")
+            self.assertEqual(mc("show", path), (1, "", f"mc show: {path}: no function is in it\n"))
+
     def test_deepest(self):
         """As the program's own reader: a term is at most 64 deep, a number or a variable being 1 deep."""
         for count, line in ((63, None), (64, 7)):

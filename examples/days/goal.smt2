@@ -1,0 +1,11 @@
+(declare-const w0 (_ BitVec 64))
+(declare-const w1 (_ BitVec 64))
+(declare-const w2 (_ BitVec 64))
+(declare-const mem0 (Array (_ BitVec 64) (_ BitVec 8)))
+(declare-const dom0 (Array (_ BitVec 64) (_ BitVec 1)))
+(define-fun days () (_ BitVec 64) (f0_w1 w0 w1 w2 mem0 dom0))
+(define-fun is_month () Bool (and (bvule (_ bv1 64) w1) (bvule w1 (_ bv12 64))))
+(define-fun as_expected () Bool (ite is_month
+  (and (bvule (_ bv28 64) days) (bvule days (_ bv31 64)) (= (= days (_ bv28 64)) (= w1 (_ bv2 64))))
+  (= days (_ bv0 64))))
+(assert (not (and (f0_ok w0 w1 w2 mem0 dom0) as_expected)))
