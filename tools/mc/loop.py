@@ -52,7 +52,7 @@ from mc import elf, obligations, program, prove, scripts, smt, usage
 from mc.obligations import Claim, Contract
 
 # For so many seconds values are looked for that meet a goal's premises.
-SOON = 5
+SOON = 2
 
 
 def names_allowed(function, suffixes):
