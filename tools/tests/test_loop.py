@@ -212,6 +212,47 @@ class Proofs(unittest.TestCase):
 
 
 @needs_program
+@needs_solver
+class Nested(unittest.TestCase):
+    """The loops of the CRC, of which the inner one is known by its contract alone."""
+
+    def outer(self, *known):
+        """Tries the loop over the bytes without what it says of their presence, so that a wrong goal has values."""
+        own = EXAMPLES / "own"
+        with tempfile.TemporaryDirectory() as folder:
+            path = pathlib.Path(folder)
+            self.assertEqual(program.run(["decompile", own / "my.elf", path / "my.proof", "crc"]).returncode, 0)
+            (path / "crc.with").write_text((own / "crc.with").read_text().partition("; Whether so many bytes")[0])
+            invariant = (own / "bytes.inv").read_text().replace("(are_there dom a0 a1)", "")
+            words = [path / "my.proof", "crc", 4, invariant, own / "bytes.post", "--with", path / "crc.with", "--axiom", own / "crc.axiom"]
+            status, out, told = say(loop, *words, "--known", 1, *known, "--first")
+        self.assertEqual(told, "")
+        if status == 7:
+            self.skipTest("no solver had an answer in a minute")
+        return status, out
+
+    def contract(self, old="", new=""):
+        return [(EXAMPLES / "own" / name).read_text().replace(old, new) for name in ("bits.inv", "bits.post")]
+
+    def test_what_is_known_is_enough(self):
+        self.assertEqual(self.outer(*self.contract())[0], 0)
+
+    def test_a_contract_whose_entry_is_not_met_tells_nothing(self):
+        status, out = self.outer(*self.contract("(= a2_in (_ bv0 64))", "(= a2_in (_ bv5 64))"))
+        self.assertEqual(status, 1, out)
+        self.assertIn("\nend    refuted", out)
+
+    def test_a_contract_that_says_something_else(self):
+        status, out = self.outer(*self.contract("(bit_steps (_ bv8 64)", "(bit_steps (_ bv7 64)"))
+        self.assertEqual(status, 1, out)
+
+    def test_a_loop_that_nothing_is_known_of(self):
+        status, _, told = say(loop, EXAMPLES / "gcd" / "gcd.proof", "gcd", 4, "true", "true")
+        self.assertEqual(status, 1)
+        self.assertIn("tell by --known 0", told)
+
+
+@needs_program
 class Certificates(unittest.TestCase):
     """What `simplify` wrote is taken in place of a proof."""
 
