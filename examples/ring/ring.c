@@ -1,3 +1,7 @@
+// ring.elf was made of this file with clang and lld 14.0.6, by
+//
+//   clang --target=riscv64 -march=rv64imac -mabi=lp64 -O1 -ffreestanding -nostdlib -fuse-ld=lld -Wl,-e,push -Wl,--build-id=none -o ring.elf ring.c
+
 // A ring of 16 words: `push` puts one behind the last, `pop` takes the first.
 struct ring { unsigned long first, count, words[16]; };
 

@@ -2,26 +2,35 @@
 
 One script for a solver, of one or more functions of proof files.
 
-For each NAME the script has functions that tell the evaluation of FUNCTION of the file PROOF, or of its definition of number DEF, as the program's `smt`
-writes them, but by the names of registers: NAME_ok, NAME_exit, NAME_pc, NAME_a0 and so on, NAME_mem and NAME_dom for the bytes of memory and the
-addresses that have one, NAME_stk and NAME_stk_dom for a second memory. Each takes the values at the entry in the order that a comment of the script gives.
-The operations stand in it once, as rv_add, rv_ld8, rv_in8 and so on. Constants have the names of registers: a0, mem, dom. So `(push_a0 ra a0 a1 mem dom)` is
-what push leaves in a0, and `(pop_a0 ra a0 a1 (push_mem ra a0 a1 mem dom) dom)` what pop does after it.
+For each NAME the script has functions that tell the evaluation of FUNCTION of the file PROOF, or of
+its definition of number DEF, as the program's `smt` writes them, but by the names of registers:
+NAME_ok, NAME_exit, NAME_pc, NAME_a0 and so on, NAME_mem and NAME_dom for the bytes of memory and
+the addresses that have one, NAME_stk and NAME_stk_dom for a second memory. Each takes the values at
+the entry, in the order that a comment of the script gives. The operations stand in it once, as
+rv_add, rv_ld8, rv_in8 and so on. Constants have the names of registers: a0, mem, dom. So
+`(push_a0 ra a0 a1 mem dom)` is what push leaves in a0, and
+`(pop_a0 ra a0 a1 (push_mem ra a0 a1 mem dom) dom)` what pop does after it.
 
-At its end stands the goal: write there what is to hold, in place of `true`, and call `./mc prove OUT`. With --goal it is taken from GOAL, a file or a text: commands
-of SMT-LIB, as definitions and premises, each as it stands, and at the end one term, which is to hold.
+At its end stands the goal: write there what is to hold, in place of `true`, and call
+`mc prove OUT`. With --goal it is taken from GOAL, a file or a text: commands of SMT-LIB, as
+definitions and premises, each as it stands, and at the end one term, which is to hold.
 
-A definition that has a loop, or calls one, has no script: see `./mc help loop`. No line of a proof is judged here: `check` does that.
+A definition that has a loop, or calls one, has no script: see `mc help loop`. One turn of a loop
+has: with `turn4` for DEF it is that of definition 4, which leaves by a further exit where it would
+go again, behind its own; if no loop is called in it. PROOF may be a
+certificate of `simplify`: then it is about the definitions that this ends with. No line of a proof
+or a certificate is judged here: `check` and `laws` do that.
 
 Exit status: 0 written; 1 refused; 2 wrong words; 5 OUT can't be written.
 """
+import dataclasses
 import os
 import re
 import sys
 
-from mc import program, scripts, smt, usage
+from mc import program, scripts, smt, turns, usage
 
-WORD = re.compile(r"([A-Za-z][A-Za-z0-9_]*)=(.+?):([^:]+)(?::(\d+))?")
+WORD = re.compile(r"([A-Za-z][A-Za-z0-9_]*)=(.+?):([^:]+?)(?::(turn)?(\d+))?")
 TEMPLATE = "true"
 
 
@@ -30,11 +39,14 @@ def function_of(word):
     match = WORD.fullmatch(word)
     if match is None:
         raise scripts.Refused(f"{word}: not of the form NAME=PROOF:FUNCTION or NAME=PROOF:FUNCTION:DEF")
-    name, path, function, number = match.groups()
+    name, path, function, turn, number = match.groups()
     taken = {*smt.REGISTERS, *(part for pair in smt.MEMORIES for part in pair), *smt.SORTS}
     if name in taken or name.startswith("rv_"):
         raise scripts.Refused(f"{word}: {name} is the name of something else in the script")
-    return scripts.find(path, function, None if number is None else int(number), name)
+    found = scripts.find(path, function, None if number is None else int(number), name)
+    if turn and not turns.is_loop(found.definition):
+        raise scripts.Refused(f"{word}: d{number} of {function} is no loop")
+    return dataclasses.replace(found, is_turn=bool(turn))
 
 
 def constants_of(functions):
@@ -76,19 +88,20 @@ def goal_lines(functions, goal):
 
 def script_of(functions, goal=None):
     """The lines of the script of these functions."""
-    operations, body, defined = [], [], set()
+    operations, body = [], []
     for function in functions:
-        operations, lines = scripts.exported(function.path, function.group.name, function.number)
-        lines = scripts.renamed(function, lines, function.name)
-        names = {line.split(" ", 2)[1] for line in lines}
-        if names & defined:
-            raise scripts.Refused(f"{function.name}: {min(names & defined)} would be defined twice: choose another name")
-        defined |= names
+        made = function.is_rewritten or function.is_turn
+        text = turns.text(function.group, function.number, function.number if function.is_turn else None) if made else None
+        operations, lines = scripts.exported(function, text)
         body += scripts.heading(f"{function.name}: {function.where} in {os.path.basename(function.path)}")
-        body += scripts.told_lines(function, function.name) + lines
+        body += scripts.told_lines(function, function.name) + scripts.renamed(function, lines, function.name)
     head = ["; Of functions of machine code, for an SMT solver. `./mc prove` gives it to z3 and cvc5.", "", *smt.sorts()]
     constants = scripts.heading("The values at the entry") + constant_lines(constants_of(functions))
-    return head + scripts.heading("The operations of RISC-V") + operations + body + constants + goal_lines(functions, goal)
+    lines = head + scripts.heading("The operations of RISC-V") + operations + body + constants + goal_lines(functions, goal)
+    twice = smt.defined_twice(lines)
+    if twice is not None:
+        raise scripts.Refused(f"{twice} would be defined twice: choose another name")
+    return lines
 
 
 def write(path, text, inputs):

@@ -1,17 +1,22 @@
-"""usage: mc prove GOAL [--timeout S] [--solver NAME ..]
+"""usage: mc prove GOAL [--timeout S] [--solver NAME] [--first]
 
 Whether a goal holds, by the solvers z3 and cvc5.
 
-GOAL is a script of SMT-LIB with one `(check-sat)`: what `./mc goal` wrote and you filled in, or any other. It is given to z3 and to cvc5, each where
-it is on the machine, both at once; a line says what each answered and how long it took. `unsat` says that no values make all assertions true: as the
-last one denies the goal, the goal holds. `sat` says that the goal is false of the values that are printed: those of the script's constants, by
-their names, words in hexadecimal; a memory by its bytes, a domain by the addresses that have a byte, where the solver gives them so that they can be read.
+GOAL is a script of SMT-LIB with one `(check-sat)`: what `mc goal` wrote and you filled in, or any
+other. It is given to z3 and to cvc5, each where it is on the machine, both at once; a line says
+what each answered and how long it took. `unsat` says that no values make all assertions true: as
+the last one denies the goal, the goal holds. `sat` says that the goal is false of the values that
+are printed: those of the script's constants, by their names, words in hexadecimal; a memory by its
+bytes, a domain by the addresses that have a byte, where the solver gives them so that they can be
+read.
 
-    --timeout S      after S seconds a solver is ended (60)
-    --solver NAME    ask this one alone, z3 or cvc5; may be given twice
+  --timeout S     after S seconds a solver is ended (60)
+  --solver NAME   asks this one alone, z3 or cvc5
+  --first         one answer, `sat` or `unsat`, is enough: the other solver is ended
 
-Exit status: 0 proved: `unsat` by one or both, `sat` by none; 1 refuted: `sat` by one or both, `unsat` by none; 2 wrong words; 4 GOAL can't be read; 7 no
-answer: neither knows, in this time, or they contradict each other, or neither is on the machine.
+Exit status: 0 proved: `unsat` by one or both, `sat` by none; 1 refuted: `sat` by one or both,
+`unsat` by none; 2 wrong words; 4 GOAL can't be read; 7 no answer: neither knows in this time, or
+they contradict each other, or neither is on the machine.
 """
 import concurrent.futures
 import dataclasses
@@ -20,6 +25,7 @@ import shutil
 import subprocess
 import sys
 import tempfile
+import threading
 import time
 
 from mc import smt, usage
@@ -69,22 +75,30 @@ def names_of(script):
 COMMAND_LINES = {"z3": ["z3", "pp.bv_literals=true"], "cvc5": ["cvc5", "--lang=smt2", "--produce-models"]}
 
 
-def ask(solver, path, names, timeout):
-    """What a solver says of the script at this path."""
+def ask(solver, path, names, timeout, stop):
+    """What a solver says of the script at this path. It is ended when `stop` is set."""
     start = time.monotonic()
     with tempfile.TemporaryFile("w+", encoding="utf8", errors="replace") as out:
         process = subprocess.Popen([*COMMAND_LINES[solver], path], stdin=subprocess.DEVNULL, stdout=out, stderr=subprocess.STDOUT)
-        try:
-            process.wait(timeout)
-            in_time = True
-        except subprocess.TimeoutExpired:
-            process.kill()
-            process.wait()
-            in_time = False
+        in_time = waited(process, start + timeout, stop)
         seconds = time.monotonic() - start
         out.seek(0)
         text = out.read()
-    return read_answer(solver, text, names, seconds, in_time)
+    answer = read_answer(solver, text, names, seconds, in_time)
+    return dataclasses.replace(answer, word="ended") if answer.word == "timeout" and stop.is_set() else answer
+
+
+def waited(process, limit, stop):
+    """Whether a process ended by itself before this time. Else it is killed."""
+    while True:
+        try:
+            process.wait(0.05)
+            return True
+        except subprocess.TimeoutExpired:
+            if stop.is_set() or time.monotonic() > limit:
+                process.kill()
+                process.wait()
+                return False
 
 
 def read_answer(solver, text, names, seconds, in_time=True):
@@ -207,18 +221,22 @@ def prepared(text):
     return first + text + ("\n(check-sat)" if checks == 0 else "") + asked, names
 
 
-def judge(text, timeout=60, solvers=SOLVERS, told=lambda answer: None):
-    """What the solvers that are there say of a script: the exit status, and their answers as they came. `told` is called with each."""
+def judge(text, timeout=60, solvers=SOLVERS, told=lambda answer: None, first=False):
+    """What the solvers that are there say of a script: the exit status, and their answers. `told` is called with each as it comes. With `first`, the other
+    solver is ended when one has answered `sat` or `unsat`."""
     script, names = prepared(text)
-    there, answers = present(solvers), []
+    there, answers, stop = present(solvers), [], threading.Event()
     with tempfile.TemporaryDirectory() as folder, concurrent.futures.ThreadPoolExecutor(max(len(there), 1)) as pool:
         path = os.path.join(folder, "goal.smt2")
         with open(path, "w", encoding="utf8") as file:
             file.write(script)
-        jobs = [pool.submit(ask, solver, path, names, timeout) for solver in there]
+        jobs = [pool.submit(ask, solver, path, names, timeout, stop) for solver in there]
         for job in concurrent.futures.as_completed(jobs):
             answers.append(job.result())
             told(answers[-1])
+            if first and answers[-1].word in ("sat", "unsat"):
+                stop.set()
+    answers.sort(key=lambda answer: SOLVERS.index(answer.solver))
     return status_of(answers), answers
 
 
@@ -233,6 +251,11 @@ def status_of(answers):
 def answer_text(answer):
     """The lines for what a solver said."""
     return f"{answer.solver:5} {answer.word:8} {answer.seconds:.2f} s" + (f"  {answer.why}" if answer.why else "")
+
+
+def answer_words(answer):
+    """The same in a few words."""
+    return f"{answer.solver} {answer.word} {answer.seconds:.2f} s" + (f" {answer.why}" if answer.why else "")
 
 
 def verdict_text(status, answers):
@@ -252,6 +275,7 @@ def verdict_text(status, answers):
 def add_options(parser):
     parser.add_argument("--timeout", metavar="S", type=float, default=60)
     parser.add_argument("--solver", metavar="NAME", action="append", choices=SOLVERS)
+    parser.add_argument("--first", action="store_true")
 
 
 def main(arguments):
@@ -266,7 +290,7 @@ def main(arguments):
         print(f"{given.goal}: {getattr(bad, 'strerror', None) or bad}", file=sys.stderr)
         return 4
     try:
-        status, answers = judge(text, given.timeout, given.solver or SOLVERS, lambda answer: print(answer_text(answer), flush=True))
+        status, answers = judge(text, given.timeout, given.solver or SOLVERS, lambda answer: print(answer_text(answer), flush=True), given.first)
     except smt.BadExpression as bad:
         print(f"{given.goal}: {bad}", file=sys.stderr)
         return 4

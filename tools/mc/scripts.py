@@ -5,7 +5,7 @@ import re
 import tempfile
 
 from mc import program, proof, smt
-from mc.syntax import RETURN
+from mc.syntax import RETURN, Certificate
 
 OPERATION = "(define-fun rv_"
 FUNCTION = re.compile(r"\bf(\d+)_(ok|exit|pc|w(\d+)|m(\d+)|d(\d+))\b")
@@ -18,14 +18,14 @@ class Refused(Exception):
 
 @dataclasses.dataclass(frozen=True)
 class Function:
-    """A definition of a group of a proof text, under a name: `number` is the definition's, `text` the whole file."""
+    """A definition of a group of a proof file, under a name."""
 
     name: str
     path: str
     group: object
     number: int
-    version: int
-    lines: tuple = dataclasses.field(repr=False)
+    is_rewritten: bool = False
+    is_turn: bool = False
 
     @property
     def registers(self):
@@ -45,28 +45,27 @@ class Function:
     def where(self):
         """What a person calls the definition."""
         is_last = self.number == len(self.group.definitions) - 1
-        return f"{self.group.name} (d{self.number})" if is_last else f"d{self.number} of {self.group.name}"
+        name = f"{self.group.name} (d{self.number})" if is_last else f"d{self.number} of {self.group.name}"
+        return f"a turn of {name}" if self.is_turn else name
 
 
 def find(path, function, number=None, name=None):
     """The definition of that number, or the last one, of the first group of that name."""
     try:
-        with open(path, encoding="latin-1", newline="") as file:
-            text = file.read()
-        read = proof.parse(text)
+        read = proof.read(path)
     except OSError as bad:
         raise Refused(f"{path}: {bad.strerror}") from None
     except proof.BadProof as bad:
         raise Refused(f"{path}: {bad}") from None
-    if not hasattr(read, "groups"):
-        raise Refused(f"{path}: a certificate, and no proof file")
-    group = next((group for group in read.groups if group.name == function), None)
+    # A certificate has the definitions that its group is rewritten to.
+    groups = (read.result,) if isinstance(read, Certificate) else read.groups
+    group = next((group for group in groups if group.name == function), None)
     if group is None:
-        raise Refused(f"{path}: no function {function}. It has: {' '.join(group.name for group in read.groups)}")
+        raise Refused(f"{path}: no function {function}. It has: {' '.join(group.name for group in groups)}")
     last = len(group.definitions) - 1
     if number is not None and not 0 <= number <= last:
         raise Refused(f"{path}: {function} has definitions d0 to d{last}")
-    return Function(name or function, path, group, last if number is None else number, read.version, tuple(text.split("\n")))
+    return Function(name or function, path, group, last if number is None else number, isinstance(read, Certificate))
 
 
 def sort_of(argument):
@@ -74,9 +73,15 @@ def sort_of(argument):
     return next((sort for pair in smt.MEMORIES for name, sort in zip(pair, ("Memory", "Domain")) if name == argument), "Word")
 
 
-def exported(path, name, number):
-    """The lines of the script that the program writes of a definition: operations and functions."""
+def exported(function, text=None):
+    """The lines of the script that the program writes of a definition: operations and functions. Where a text is given, of that."""
+    name, number = function.group.name, function.number
     with tempfile.TemporaryDirectory() as folder:
+        path = function.path
+        if text is not None:
+            path = os.path.join(folder, "text.proof")
+            with open(path, "w", encoding="latin-1") as file:
+                file.write(text)
         out = os.path.join(folder, "script.smt2")
         done = program.run(["smt", path, name, str(number), out])
         answer = (done.stdout + done.stderr).strip()
@@ -89,11 +94,13 @@ def exported(path, name, number):
     return [line for line in lines if line.startswith(OPERATION)], [line for line in lines if not line.startswith(OPERATION)]
 
 
-def told_name(function, prefix, match):
-    """The name of one of a definition's functions: by its register, or its memory."""
+def told_name(function, prefix, ok, match):
+    """The name of one of a definition's functions: by its register, or its memory. That which tells whether it is done ends with `ok`."""
     number, what, word, memory, domain = match.groups()
     base = prefix if int(number) == function.number else f"{prefix}_d{number}"
-    if word is not None:
+    if what == "ok":
+        what = ok
+    elif word is not None:
         what = function.registers[int(word)]
     elif memory is not None or domain is not None:
         what = smt.MEMORIES[int(memory or domain)][0 if domain is None else 1]
@@ -110,25 +117,21 @@ def variable_name(function, match):
     return match[0]
 
 
-def renamed(function, lines, prefix):
+def renamed(function, lines, prefix, ok="ok"):
     """Functions with the names of registers, and of sorts."""
     found = []
     for line in lines:
         for name, sort in reversed(smt.SORTS.items()):
             line = line.replace(smt.spelled(sort), name)
-        line = FUNCTION.sub(lambda match: told_name(function, prefix, match), line)
+        line = FUNCTION.sub(lambda match: told_name(function, prefix, ok, match), line)
         found.append(VARIABLE.sub(lambda match: variable_name(function, match), line))
     return found
 
 
-def results_of(function):
-    """What a definition's functions tell, as their names end."""
-    return ["ok", "exit", "pc", *function.arguments]
-
-
 def exits_text(function):
     """The exits by their numbers."""
-    return ", ".join(f"{k} {'returns' if exit == RETURN else f'leaves to {exit:#x}'}" for k, exit in enumerate(function.definition.exits))
+    exits = [f"{k} {'returns' if exit == RETURN else f'leaves to {exit:#x}'}" for k, exit in enumerate(function.definition.exits)]
+    return ", ".join([*exits, f"{len(exits)} goes again"] if function.is_turn else exits)
 
 
 def heading(text):

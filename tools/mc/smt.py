@@ -15,6 +15,7 @@ COMMANDS = frozenset(
     "assert check-sat declare-const declare-datatypes declare-fun declare-sort define-const define-fun define-fun-rec "
     "define-funs-rec define-sort echo exit get-info get-model get-value pop push set-info set-logic set-option".split()
 )
+DEFINED = re.compile(r"\((?:declare|define)-\S+ (\S+)")
 TOKEN = re.compile(r';[^\n]*|"(?:[^"]|"")*"|\|[^|]*\||[()]|[^\s()";|]+|\S')
 
 
@@ -110,6 +111,17 @@ def conjunction(terms):
 def applied(name, arguments):
     """A function applied; one without parameters stands alone."""
     return f"({name} {' '.join(arguments)})" if arguments else name
+
+
+def defined_twice(lines):
+    """A name that the lines define or declare more than once, or None. Solvers don't agree on what it means then."""
+    seen = set()
+    for line in lines:
+        match = DEFINED.match(line)
+        if match and match[1] in seen:
+            return match[1]
+        seen.update(match.groups() if match else ())
+    return None
 
 
 def spelled(sort):

@@ -90,6 +90,7 @@ class Scripts(unittest.TestCase):
             (["f=none:average"], "none: No such file"),
             ([f"f={self.word}", "--goal", "(= a0 a0) (= a1 a1)"], "one term"),
             ([f"f={self.word}", "--goal", "(= a0 a0"], "without `)`"),
+            ([f"f={self.word}", "--goal", "(declare-const a0 Word) (= a0 a0)"], "a0 would be defined twice"),
         ):
             with self.subTest(words=words):
                 status, out, error = say(goal, self.out, *words)

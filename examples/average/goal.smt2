@@ -1,8 +1,0 @@
-(declare-const x1 (_ BitVec 64))
-(declare-const a (_ BitVec 64))
-(declare-const b (_ BitVec 64))
-(declare-const x12 (_ BitVec 64))
-(define-fun average () (_ BitVec 64) (f0_w1 x1 a b x12))
-(define-fun sum () (_ BitVec 65) (bvadd ((_ zero_extend 1) a) ((_ zero_extend 1) b)))
-(assert (not (and (f0_ok x1 a b x12) (= ((_ zero_extend 1) average) (bvlshr sum (_ bv1 65))))))
-(check-sat)
