@@ -118,7 +118,7 @@ def try_tutorial(program, folder):
     own = [os.path.join(place, name) for name in ("my.elf", "my.proof")]
     _, lines, _ = say("functions", *own)
     refused = next(block for block in blocks if "  fib  " in block)
-    expect("mc functions on the tutorial's own file", refused in lines and f"{own[1]}: accepted 2 {re.search('with ([0-9]+) lines of proofs', page)[1]}\n" in lines)
+    expect("mc functions on the tutorial's own file", refused in lines and f"{own[1]}: accepted 2 {re.search(r'with ([0-9]+)\s+lines\s+of\s+proofs', page)[1]}\n" in lines)
     _, shown, _ = say("show", own[1], "crc")
     pieces = next(block.split("..\n") for block in blocks if block.startswith("crc = "))
     expect("mc show on the tutorial's own file", all(piece in shown for piece in pieces))
