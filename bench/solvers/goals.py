@@ -183,12 +183,15 @@ class Bench:
         return self.images[file]
 
     def prepare(self, all_goals):
-        """Decompiles all functions of these goals, those of a file by one call."""
+        """Decompiles those functions of these goals that the folder doesn't have, those of a file by one call."""
         wanted = {}
         for described in all_goals:
             functions = [read_run(text).function for text in described.all("run")] + [text.split()[0] for text in described.all("loop")]
             wanted.setdefault(described.one("file", "functions.elf"), {}).update(dict.fromkeys(functions))
         for file, functions in wanted.items():
+            functions = [name for name in functions if not os.path.exists(self.proof(file, name))]
+            if not functions:
+                continue
             path = os.path.join(self.folder, f"{file}.proof")
             done = program.run(["link", os.path.join(FOLDER, file), path, *functions])
             if done.returncode:

@@ -7,7 +7,7 @@ installed is passed over.
 
     --seconds S      seconds of a processor that a solver has for a script (120)
     --runs N         where a script takes less than five seconds, the least of N runs is told (2)
-    --keep FOLDER    the scripts are left there, NAME.smt2 and NAME.wrong.smt2
+    --keep FOLDER    the scripts are left there, NAME.smt2 and NAME.wrong.smt2, and the functions' definitions, which are taken from there again
     --scripts        no solver is asked
     --results FILE   a line of JSON for each goal is put behind those that are in FILE
 
@@ -86,9 +86,9 @@ def main():
     print("".join(f"{kind + ' ' + solver:>12}" for kind, solver in columns) + f"    seconds of a processor; - is over {given.seconds}", flush=True)
     faults = 0
     with tempfile.TemporaryDirectory() as work:
-        bench = goals.Bench(work)
         folder = given.keep or work
         os.makedirs(folder, exist_ok=True)
+        bench = goals.Bench(folder)
         described_goals = [goals.read(name) for name in given.names or goals.names()]
         bench.prepare(described_goals)
         for described in described_goals:
