@@ -26,9 +26,12 @@ A goal about a loop by an invariant, as `./mc help loop` says it:
 Texts are SMT-LIB, where a number stands for a word of 64 bits, and (present A N) says that the N bytes from A on are present. helpers.smt2 has functions that
 they may apply.
 """
+import contextlib
 import dataclasses
+import io
 import os
 import re
+import tempfile
 
 from mc import elf, goal, loop, program, scripts, smt, turns
 
@@ -39,6 +42,7 @@ RUN = re.compile(r"(?:(\w+) = )?(\w+)(?: turn of d(\d+))?(?: after (\w+))?(?: wi
 PREFIX = "do_"
 SORT_OF_RESULT = {"ok": "Bool", "again": "Bool", "exit": "(_ BitVec 32)", "mem": "Memory", "dom": "Domain"}
 CLAIM, WRONG = "claim", "wrong"
+PARTS = ("begin", "step", "end", "falls")
 OF_DEFINITIONS = "group regs mems code def let letm need if else again leave call arm".split()
 
 
@@ -165,6 +169,19 @@ def any_lines(text):
     return [f"(declare-const {name} Word)" for name in text.split()]
 
 
+def made(tool, arguments):
+    """The scripts that a tool writes into a folder of its own, by the names of their files. `arguments` makes its words of the path of one of them."""
+    with tempfile.TemporaryDirectory() as folder, contextlib.redirect_stdout(io.StringIO()) as said, contextlib.redirect_stderr(said):
+        status = tool.main(arguments(os.path.join(folder, "goal.smt2")))
+        found = {}
+        for file in sorted(os.listdir(folder)):
+            with open(os.path.join(folder, file), encoding="utf8") as script:
+                found[file] = script.read()
+    if status:
+        raise BadGoal(said.getvalue().strip())
+    return found
+
+
 def let_line(text):
     name, _, term = text.partition(" = ")
     sort, _, name = name.rpartition(" ")
@@ -229,11 +246,11 @@ class Bench:
         file = described.one("file", "functions.elf")
         runs = {run.name: run for run in map(read_run, described.all("run"))}
         functions = {run.name: self.function(file, run) for run in runs.values()}
+        distinct = {function.name: function for function in functions.values()}
         claim, wrong = words(described.one(CLAIM)), words(described.one(WRONG))
         texts = " ".join(words(text) for kind, text in described.lines if kind != "title")
         used = set(re.findall(r"\w+", texts)) | {f"{run.after}_{what}" for run in runs.values() for what in functions[run.name].arguments}
-        distinct = {function.name: function for function in functions.values()}
-        declared = set(goal.constants_of(list(distinct.values())))
+        declared = {argument for function in distinct.values() for argument in function.arguments}
         lines = [f"(declare-const {name} Word)" for name in smt.REGISTERS[1:] if name in used and name not in declared]
         if "mem" not in declared and "mem" in used:
             lines += ["(declare-const mem Memory)", "(declare-const dom Domain)"]
@@ -248,8 +265,9 @@ class Bench:
                 lines.append(let_line(text))
             elif kind == "know":
                 lines.append(f"(assert {words(text)})")
-        *head, claimed, check = goal.script_of(list(distinct.values()), "\n".join([*lines, claim]))
-        return tuple("\n".join([*head, line, check, ""]) for line in (claimed, f"(assert (not {wrong}))"))
+        given = [f"{name}={function.path}:{function.group.name}:{function.number}" for name, function in distinct.items()]
+        *head, _, check = made(goal, lambda path: [path, *given, "--goal", "\n".join([*lines, claim])])["goal.smt2"].splitlines()
+        return tuple("\n".join([*head, f"(assert (not {denied}))", check, ""]) for denied in (claim, wrong))
 
     def loop_scripts(self, described):
         """The scripts of a goal about a loop."""
@@ -275,4 +293,5 @@ class Bench:
         given += ["--with", "\n".join(commands)] if commands else []
         for data in " ".join(described.all("data")).split():
             given += ["--elf", os.path.join(FOLDER, file), data]
-        return loop.goals_of(loop.claim_of(loop.parse(given)))[0]
+        scripts_by_file = made(loop, lambda path: [*given, "--scripts", "--out", os.path.dirname(path)])
+        return {part: scripts_by_file[f"{part}.smt2"] for part in PARTS if f"{part}.smt2" in scripts_by_file}
