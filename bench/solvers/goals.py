@@ -7,13 +7,13 @@ A file has lines `KEY: TEXT`; a line that begins with a space goes on the one be
     data    symbols, or sections, whose bytes stand in memory as in the file
     any     further words, for which the claim is to hold
     let     NAME = TERM, a word; or SORT NAME = TERM
+    know    what is given
 
 A goal about runs, of which each is of a function without a loop, or of one turn of a loop:
 
     run     NAME = FUNCTION, or FUNCTION, whose name it has then; behind FUNCTION may stand `turn of dN`. Its results are NAME_a0 and so on, NAME_ok, NAME_pc,
             NAME_mem, and of a turn NAME_again: whether another one follows. It starts from the values a0, mem and so on; with `after OTHER` from the results of
             that run; with `with REGISTER = TERM, ..` from these values
-    know    what is given
     claim   what is to hold
     wrong   a claim that is near to it, and false
 
@@ -285,12 +285,14 @@ class Bench:
             return words(instead.get(key) or described.one(key, otherwise))
 
         terms = {key: text(key, "true") for key in ("entry", "invariant", "post", "measure")}
-        commands = helpers(" ".join(terms.values()))
+        known = [words(text) for text in described.all("know")]
+        commands = helpers(" ".join([*terms.values(), *known]))
         commands += [line for kind, line in described.lines if kind == "any" for line in any_lines(line)]
         commands += [let_line(line) for line in described.all("let")]
         given = [self.proof(file, name), name, definition, terms["invariant"], terms["post"], "--entry", terms["entry"]]
         given += ["--measure", terms["measure"]] if described.all("measure") else []
         given += ["--with", "\n".join(commands)] if commands else []
+        given += ["--axiom", f"(and true {' '.join(known)})"] if known else []
         for data in " ".join(described.all("data")).split():
             given += ["--elf", os.path.join(FOLDER, file), data]
         scripts_by_file = made(loop, lambda path: [*given, "--scripts", "--out", os.path.dirname(path)])

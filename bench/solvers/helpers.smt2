@@ -27,6 +27,8 @@
 (define-fun crc32_steps ((c Word)) Word
   (crc32_step (crc32_step (crc32_step (crc32_step (crc32_step (crc32_step (crc32_step (crc32_step c)))))))))
 
-; Whether n numbers from p on rise, n below 2^60.
-(define-fun rising ((m Memory) (p Word) (n Word)) Bool (forall ((i Word) (k Word))
-  (=> (and (bvule i k) (bvult k n)) (bvsle (word_at m (bvadd p (bvshl i 3))) (word_at m (bvadd p (bvshl k 3)))))))
+; The place between two others; whether the numbers at two places of those from p on are in order, as they are where all rise.
+(define-fun middle ((low Word) (high Word)) Word (bvadd low (bvlshr (bvsub high low) 1)))
+(define-fun in_order ((m Memory) (p Word) (i Word) (k Word)) Bool (and
+  (=> (bvule i k) (bvsle (word_at m (bvadd p (bvshl i 3))) (word_at m (bvadd p (bvshl k 3)))))
+  (=> (bvule k i) (bvsle (word_at m (bvadd p (bvshl k 3))) (word_at m (bvadd p (bvshl i 3)))))))
