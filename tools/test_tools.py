@@ -1,5 +1,5 @@
 #!/usr/bin/env python3
-"""test_tools.py [PROGRAM | --no-program]: tries the tools on the examples. It takes less than a minute of a processor.
+"""test_tools.py [PROGRAM | --no-program]: tries the tools on the examples. It takes a minute or two of a processor.
 
 The program is PROGRAM, or that which `./mc` takes: the proved one, else one that was built without proof, which is done first where there is none. With
 `--no-program` what needs none is tried, and nothing is built.
