@@ -1,15 +1,19 @@
-use Rattle.std.proofs.Common.{◌∙◌, sym, subst}
-use Rattle.mc_shelf.specs.Fault.{Rose}
+use Rattle.std.proofs.Common.{◌∙◌, ◌≡◌, List, ℕ, Option, Some, sym, subst}
+use Rattle.mc_shelf.specs.Fault.{Rose, WhereTold}
+use Rattle.mc_shelf.specs.Shelf.{Contents}
+use Rattle.proof_v2.specs.MigratedText.{IsMigratedText}
+use Rattle.checker.specs.declared.verdict.Verdict.TheVariants as verdict
 use Rattle.checker.specs.Verdicts.{Says}
 use Rattle.mcdec_answers.specs.declared.answer.Answer.TheVariants as answer
 use Rattle.mcdec_answers.specs.declared.answer.MigrateAnswer.TheVariants as mi
 use Rattle.mcdec_commands.specs.EvalAnswer.{proof_limit}
 use Rattle.mcdec_commands.specs.MigrateAnswer.{IsMigrationFor}
 use Rattle.mcdec_commands.specs.inner.Migrating.{FileMigrates}
-use Rattle.mcdec_commands.specs.inner.Writing.{IsTold}
-use Rattle.mcdec_commands.proofs.Leaving.{is-told, nothing-written}
+use Rattle.mcdec_commands.specs.inner.Writing.{IsTold, WritesOut}
+use Rattle.mcdec_commands.proofs.Leaving.{IsThis}
+use Rattle.mcdec_commands.proofs.Leaving.{is-told, nothing-written, text-by}
 use Rattle.mcdec_commands.proofs.Loading.{unread, unread-so}
-use Rattle.mcdec_commands.proofs.Migrating.{migrate-proof-told, refused-gives}
+use Rattle.mcdec_commands.proofs.Migrating.{both-held, migrate-proof-told, migration-for, refused-gives}
 use Rattle.mcdec_commands.proofs.migrate.migrate_text.Goals as goal
 
 pub returns-in-Err : goal.returns-in-Err
@@ -48,3 +52,17 @@ returns-clause-gives g c file loaded image =
 pub returns-clause-sure : goal.returns-clause-sure
 returns-clause-sure g c ws is sure told =
     let m = c.args.m.now in c.read_file.ensures.sure_counts sure (migrate-proof-told (g.S.Shelf.contents c.args.shelf.now) ws told m.elf.now m.proof.now m.out.now is)
+
+pub returns-in-Ok-migrate_image-clause-written : goal.returns-in-Ok-migrate_image-clause-written
+returns-in-Ok-migrate_image-clause-written g c file loaded image held =
+    let m = c.args.m.now in
+    let migrated = c.in-Ok-migrate_image.migrated in
+    let given = answer.Migrate (mi.Migrated migrated.functions migrated.lines) in
+    let more = c.as_slice-in-Ok-migrate_image.result.now in
+    let says = subst (λ (t : List ℕ). Says file t (verdict.Accepted migrated.functions migrated.lines)) c.as_slice.ensures (c.in-Ok-migrate_image.ensures.counted file loaded.1 image) in
+    let text = subst (λ (t : List ℕ). IsMigratedText file c.in-Ok.text t) (sym c.as_slice-in-Ok-migrate_image.ensures)
+    (subst (λ (t : List ℕ). IsMigratedText file t migrated.text) c.as_slice.ensures (c.in-Ok-migrate_image.ensures.text file loaded.1 image)) in
+    text-by (λ files. IsMigrationFor files m.elf.now m.proof.now) m.out.now c.write_answer.result given more (λ files. (files m.elf.now ≡ Some file) × (files m.proof.now ≡ Some c.in-Ok.text))
+    (migration-for m.elf.now m.proof.now file c.in-Ok.text loaded c.in-Ok.ensures.within migrated.functions migrated.lines says more text) _ _
+    (both-held (g.S.Shelf.contents c.args.shelf.now) (λ files. files m.elf.now ≡ Some file) (λ files. files m.proof.now ≡ Some c.in-Ok.text) held c.in-Ok.ensures.whole)
+    (subst (λ (o : Option Contents). WhereTold o (g.S.Shelf.contents c.write_answer.new.shelf) (WritesOut (λ files. IsThis given more) m.out.now c.write_answer.result)) c.read_file.ensures.kept c.write_answer.ensures.written)
