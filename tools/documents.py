@@ -18,7 +18,7 @@ import crates
 from wrapping import WIDTH, wrapped_page
 
 TOP = pathlib.Path(__file__).resolve().parent.parent
-FOLDERS = ("", "docs", "examples", "bench")
+FOLDERS = ("", "docs", "examples", "examples/rules", "bench")
 WIDE_TABLE = "<!-- wide table -->"
 README_LIMIT = 9000
 # Documents that aren't wrapped yet. This list may only get shorter.
