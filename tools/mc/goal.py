@@ -2,16 +2,21 @@
 
 One script for a solver, of one or more functions of proof files.
 
-For each NAME the script has functions that tell the evaluation of FUNCTION of the file PROOF, or of its definition of number DEF, as the program's `smt`
-writes them, but by the names of registers: NAME_ok, NAME_exit, NAME_pc, NAME_a0 and so on, NAME_mem and NAME_dom for the bytes of memory and the
-addresses that have one, NAME_stk and NAME_stk_dom for a second memory. Each takes the values at the entry in the order that a comment of the script gives.
-The operations stand in it once, as rv_add, rv_ld8, rv_in8 and so on. Constants have the names of registers: a0, mem, dom. So `(push_a0 ra a0 a1 mem dom)` is
-what push leaves in a0, and `(pop_a0 ra a0 a1 (push_mem ra a0 a1 mem dom) dom)` what pop does after it.
+For each NAME the script has functions that tell the evaluation of FUNCTION of the file PROOF, or of
+its definition of number DEF, as the program's `smt` writes them, but by the names of registers:
+NAME_ok, NAME_exit, NAME_pc, NAME_a0 and so on, NAME_mem and NAME_dom for the bytes of memory and
+the addresses that have one, NAME_stk and NAME_stk_dom for a second memory. Each takes the values at
+the entry in the order that a comment of the script gives. The operations stand in it once, as
+rv_add, rv_ld8, rv_in8 and so on. Constants have the names of registers: a0, mem, dom. So
+`(push_a0 ra a0 a1 mem dom)` is what push leaves in a0, and `(pop_a0 ra a0 a1 (push_mem ra a0 a1 mem
+dom) dom)` what pop does after it.
 
-At its end stands the goal: write there what is to hold, in place of `true`, and call `./mc prove OUT`. With --goal it is taken from GOAL, a file or a text: commands
-of SMT-LIB, as definitions and premises, each as it stands, and at the end one term, which is to hold.
+At its end stands the goal: write there what is to hold, in place of `true`, and call
+`./mc prove OUT`. With --goal it is taken from GOAL, a file or a text: commands of SMT-LIB, as
+definitions and premises, each as it stands, and at the end one term, which is to hold.
 
-A definition that has a loop, or calls one, has no script: see `./mc help loop`. No line of a proof is judged here: `check` does that.
+A definition that has a loop, or calls one, has no script: see `./mc help loop`. No line of a proof
+is judged here: `check` does that.
 
 Exit status: 0 written; 1 refused; 2 wrong words; 5 OUT can't be written.
 """

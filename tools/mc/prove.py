@@ -2,16 +2,20 @@
 
 Whether a goal holds, by the solvers z3 and cvc5.
 
-GOAL is a script of SMT-LIB with one `(check-sat)`: what `./mc goal` wrote and you filled in, or any other. It is given to z3 and to cvc5, each where
-it is on the machine, both at once; a line says what each answered and how long it took. `unsat` says that no values make all assertions true: as the
-last one denies the goal, the goal holds. `sat` says that the goal is false of the values that are printed: those of the script's constants, by
-their names, words in hexadecimal; a memory by its bytes, a domain by the addresses that have a byte, where the solver gives them so that they can be read.
+GOAL is a script of SMT-LIB with one `(check-sat)`: what `./mc goal` wrote and you filled in, or any
+other. It is given to z3 and to cvc5, each where it is on the machine, both at once; a line says
+what each answered and how long it took. `unsat` says that no values make all assertions true: as
+the last one denies the goal, the goal holds. `sat` says that the goal is false of the values that
+are printed: those of the script's constants, by their names, words in hexadecimal; a memory by its
+bytes, a domain by the addresses that have a byte, where the solver gives them so that they can be
+read.
 
     --timeout S      after S seconds a solver is ended (60)
     --solver NAME    ask this one alone, z3 or cvc5; may be given twice
 
-Exit status: 0 proved: `unsat` by one or both, `sat` by none; 1 refuted: `sat` by one or both, `unsat` by none; 2 wrong words; 4 GOAL can't be read; 7 no
-answer: neither knows, in this time, or they contradict each other, or neither is on the machine.
+Exit status: 0 proved: `unsat` by one or both, `sat` by none; 1 refuted: `sat` by one or both,
+`unsat` by none; 2 wrong words; 4 GOAL can't be read; 7 no answer: neither knows, in this time, or
+they contradict each other, or neither is on the machine.
 """
 import concurrent.futures
 import dataclasses
