@@ -13,7 +13,6 @@ OPEN, CLOSE = "({[", ")}]"
 # The operators at which a statement is parted, those that bind least first.
 OPERATORS = [("→",), ("×",), ("⊎",), ("↔",), ("≡",), ("≤", "<", "≥", ">"), ("++", "∷")]
 BINDER = re.compile(r"^[({][^(){}]* : .*[)}]$")
-LONG_OPERATORS = {operator for row in OPERATORS for operator in row}
 
 
 class Group:

@@ -20,7 +20,6 @@ TOP = pathlib.Path(__file__).resolve().parent.parent
 TABLE = TOP / "bench" / "gate.json"
 TICKS = os.sysconf("SC_CLK_TCK")
 KINDS = ("proof", "tests", "edits", "rest")
-PASSED = re.compile(r"(\d+) passed, (\d+) failed")
 
 
 class Process:

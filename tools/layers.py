@@ -7,30 +7,20 @@
 
 A block begins with a comment `# LAYER: ..`; further comments in it don't begin one. Libraries of the toolchain are in no block.
 """
-import os
-import re
 import sys
 
-TOP = os.path.dirname(os.path.dirname(os.path.abspath(__file__)))
+import crates
 
 # The crate of the check that the program runs, and the layers on which it stands not at all.
 CHECK = "text_versions"
 APART = ("decompiler", "self-test", "laws", "program", "tests")
 
 
-def read(path=os.path.join(TOP, "crates.txt")):
+def read():
     """The layer of each crate, lowest first, and the crates of the file that each crate uses."""
-    layer_of, uses, layer = {}, {}, None
-    with open(path, encoding="utf8") as file:
-        for line in file:
-            title = re.match(r"# (\S+): ", line)
-            crate, colon, libraries = line.partition(":")
-            if title:
-                layer = title[1]
-            elif colon and not line.startswith("#"):
-                layer_of[crate] = layer
-                uses[crate] = libraries.split()
-    return layer_of, {crate: [used for used in names if used in uses] for crate, names in uses.items()}
+    _, crates_of, libraries = crates.layers()
+    layer_of = {crate: layer for layer, names in crates_of.items() for crate in names}
+    return layer_of, {crate: [used for used in names if used in layer_of] for crate, names in libraries.items()}
 
 
 def below(uses, crate):

@@ -5,8 +5,9 @@ tools/wrong_bodies.py CRATE [NAME ..]: tries a crate's wrong bodies that the gat
 
 A wrong body is an edit of a crate's code that turns the meaning of a call; the crate's contracts have to refuse it. The gate
 (`rt ci`) tries those in crates/CRATE/must-fail. Those in crates/CRATE/wrong-bodies have the same form, and are tried by this
-script where the crate's contracts change: it copies the repository, puts them where the toolchain looks for them, runs
-`rt must-fail CRATE` and writes into crates/CRATE/wrong-bodies/tried.txt, of each, the day, the toolchain, and what refused it.
+script where the crate's contracts change: it clones the repository, as it is committed, puts them where the toolchain looks
+for them, runs `rt ci CRATE` there and writes into crates/CRATE/wrong-bodies/tried.txt, of each, the day, the toolchain, and
+what refused it.
 """
 import datetime
 import pathlib

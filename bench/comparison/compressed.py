@@ -26,7 +26,7 @@ from concurrent.futures import ThreadPoolExecutor
 
 sys.path.insert(0, os.path.join(os.path.dirname(os.path.abspath(__file__)), "..", "library"))
 from elf_files import BASE, write_elf
-from machine import Machine, signed
+from machine import Machine
 from parcels import expand
 from programs import numbers, program_of
 

@@ -14,10 +14,9 @@ import subprocess
 import sys
 
 import crates
+import gate
 
 TOP = pathlib.Path(__file__).resolve().parent.parent.parent
-TIMES = TOP / "bench" / "gate.json"
-KINDS = ("proof", "tests", "edits", "rest")
 
 
 def git(*words):
@@ -62,10 +61,10 @@ def with_those_above(changed, uses):
 
 def times():
     """The seconds that each crate took last, by kind."""
-    if not TIMES.exists():
+    if not gate.TABLE.exists():
         return {}
-    rows = json.loads(TIMES.read_text(encoding="utf8"))["crates"]
-    return {row["crate"]: [row[kind] for kind in KINDS] for row in rows}
+    rows = json.loads(gate.TABLE.read_text(encoding="utf8"))["crates"]
+    return {row["crate"]: [row[kind] for kind in gate.KINDS] for row in rows}
 
 
 def row(mark, name, width, seconds):
@@ -80,7 +79,7 @@ def table(affected, changed, took):
     lines = [row("*" if crate in changed else " ", crate, width, took.get(crate)) for crate in affected]
     if not took:
         return lines
-    head = f"  {'':{width}}" + "".join(f"{kind:>8}" for kind in [*KINDS, "all"])
+    head = f"  {'':{width}}" + "".join(f"{kind:>8}" for kind in [*gate.KINDS, "all"])
     known = [took[crate] for crate in affected if crate in took]
     return [head, *lines, row(" ", "all", width, [sum(values) for values in zip(*known)])]
 

@@ -161,8 +161,8 @@ def parse(arguments):
     for command in ("link", "split"):
         which.add_argument(f"--{command}", dest="command", action="store_const", const=command, default="decompile")
     parser.add_argument("--jobs", type=int, default=os.cpu_count())
-    parser.add_argument("elf")
-    parser.add_argument("out", nargs="?")
+    parser.add_argument("elf", metavar="ELF")
+    parser.add_argument("out", metavar="OUT", nargs="?")
     found = parser.parse(arguments)
     if found.jobs < 1:
         parser.error("--jobs wants a number from 1 on")

@@ -2,7 +2,7 @@
 import dataclasses
 
 from mc.notation import MEMORIES, Name, is_plain, simplified, text
-from mc.syntax import ABI, LOADS, PRESENT, RETURN, STORES, Again, Call, Form, If, Leave, Let, Need, Variable, exit_text
+from mc.syntax import ABI, LOADS, RETURN, STORES, Again, Call, Form, If, Leave, Let, Need, Variable, exit_text
 
 LONGEST = 60
 

@@ -21,8 +21,8 @@ TOOLS = [
     ("affected", "mc.affected", "which crates a change touches, in their order, and what each took last"),
 ]
 OPTIONS = """  -v               shows on standard error what is passed on to the program, and the status that comes back
-  --program PATH   takes that program; so does the environment's MCDEC. Else that which `rt run` or `rt ci` proved,
-                   else that which `mc build` kept, else it is built first"""
+  --program PATH   takes that program; so does the environment's MCDEC. Else that which `rt run` or
+                   `rt ci` proved, else that which `mc build` kept, else it is built first"""
 
 
 def usage():

@@ -1,7 +1,7 @@
 """How a person reads a term: registers by their ABI names, operations between their operands, numbers in decimal where they are small."""
 import dataclasses
 
-from mc.syntax import ABI, COMPARISONS, LOADS, PRESENT, STORES, Form, Number, Variable
+from mc.syntax import ABI, LOADS, PRESENT, STORES, Form, Number, Variable
 
 SIGNS = {
     "add": "+", "sub": "-", "sll": "<<", "slt": "<s", "sltu": "<u", "xor": "^", "srl": ">>u", "sra": ">>s", "or": "|", "and": "&",

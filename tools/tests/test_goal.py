@@ -9,7 +9,7 @@ import tempfile
 import unittest
 from unittest import mock
 
-from mc import goal, program, prove, scripts, smt
+from mc import goal, program, prove, smt
 
 EXAMPLES = pathlib.Path(__file__).resolve().parents[2] / "examples"
 needs_solver = unittest.skipUnless(prove.present(), "neither z3 nor cvc5 is on the machine")
