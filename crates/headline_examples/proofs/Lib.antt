@@ -1,3 +1,5 @@
 mod Ends
 mod SumLemmas
 mod StoreLemmas
+mod Paths
+mod Returns
