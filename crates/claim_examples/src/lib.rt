@@ -1,0 +1,22 @@
+//! Worked examples of claims beyond the headline: what they ask can be met, and each is false of
+//! something that is made wrong. These functions do nothing: their contracts are the laws.
+#![tactic(auto)]
+
+ghost use Rattle.std.specs.Prelude.{◌∷◌, []};
+ghost use Rattle.def_laws.specs.Evaluation.{EvaluateAlike};
+ghost use Rattle.smt_export.specs.Telling.{TellsEval};
+ghost use Rattle.claim_examples.specs.Words.{and_one, and_two, backwards, dividing_script, forwards, leaves_word, signed_division, unsigned_division, word_group};
+
+/// Definitions with another order of a sum's terms evaluate alike, and those with another constant
+/// don't.
+pub fn law_of_sums()
+    ensures order { EvaluateAlike (word_group forwards) (leaves_word backwards ∷ []) }
+    ensures constant { EvaluateAlike (word_group and_one) (leaves_word and_two ∷ []) → ⊥ }
+{}
+
+/// A script that divides by `bvudiv` tells a division of numbers without a sign, and doesn't tell
+/// one of numbers with a sign.
+pub fn law_of_divisions()
+    ensures unsigned { TellsEval (word_group unsigned_division) 0 dividing_script }
+    ensures signed { TellsEval (word_group signed_division) 0 dividing_script → ⊥ }
+{}
