@@ -4,7 +4,9 @@
 
 ghost use Rattle.std.specs.Prelude.{◌∷◌, []};
 ghost use Rattle.def_laws.specs.Evaluation.{EvaluateAlike};
-ghost use Rattle.smt_export.specs.Telling.{TellsEval};
+ghost use Rattle.smt_terms.specs.Meaning.{no_names};
+ghost use Rattle.smt_terms.specs.Sorts.{rules_after};
+ghost use Rattle.smt_export.specs.Telling.{HasRules, TellsEval};
 ghost use Rattle.claim_examples.specs.Words.{and_one, and_two, backwards, dividing_script, forwards, leaves_word, signed_division, unsigned_division, word_group};
 
 /// Definitions with another order of a sum's terms evaluate alike, and those with another constant
@@ -14,9 +16,10 @@ pub fn law_of_sums()
     ensures constant { EvaluateAlike (word_group and_one) (leaves_word and_two ∷ []) → ⊥ }
 {}
 
-/// A script that divides by `bvudiv` tells a division of numbers without a sign, and doesn't tell
-/// one of numbers with a sign.
+/// A script that divides by `bvudiv` tells a division of numbers without a sign. It doesn't tell
+/// one of numbers with a sign, though its functions have the right sorts.
 pub fn law_of_divisions()
     ensures unsigned { TellsEval (word_group unsigned_division) 0 dividing_script }
+    ensures sorts { HasRules (word_group signed_division) (rules_after no_names dividing_script) 0 }
     ensures signed { TellsEval (word_group signed_division) 0 dividing_script → ⊥ }
 {}
