@@ -1,2 +1,3 @@
 mod Alike
 mod Told
+mod Calls
