@@ -1,3 +1,4 @@
 mod Alike
 mod Told
 mod Calls
+mod Splits

@@ -1,5 +1,5 @@
 mod Ends
 mod SumLemmas
 mod StoreLemmas
-mod Paths
+pub mod Paths
 mod Returns

@@ -1,6 +1,6 @@
 -- Runs along states that are known, as runs that return.
 use Rattle.std.proofs.Common.{◌≡◌, ℕ, zero, suc, ◌+◌, ◌-◌, ◌<◌, ◌≤◌, true, Some, List, sym, ap, subst, ◌∙◌, arith}
-use Rattle.std.specs.Prelude.{option_and_then, pos}
+use Rattle.std.specs.Prelude.{option_and_then, pos, slice_get, IsSomeAnd}
 use Rattle.std.specs.Option.{unwrap_or}
 use Rattle.rv_decode.specs.declared.instruction.Instr.{Instr}
 use Rattle.rv_decode.specs.declared.instruction.Instr.TheVariants.{Jalr}
@@ -11,6 +11,7 @@ use Rattle.rv_machine.specs.Touches.{IsTouched, touched, touches}
 use Rattle.rv_machine.proofs.StepLemmas.{touches-at}
 use Rattle.claims.specs.Headline.{Region, is_within}
 use Rattle.claims.specs.Exact.{FirstReturns}
+use Rattle.claims.specs.LinkExact.{FirstReturnsIn, StaysIn}
 
 -- n steps and a return through these states, each by its instruction
 pub record IsPath (n : ℕ) (at : ℕ → State) (by : ℕ → Instr) : Type 0 where
@@ -74,3 +75,19 @@ first-along n at by path regions within = record {
   last = returns-last n at by path;
   first = not-before n at by path;
 }
+
+-- where each instruction touches its region alone
+pub first-along-in : (n : ℕ) (at : ℕ → State) (by : ℕ → Instr) → IsPath n at by → (Uses : ℕ → ℕ → Type 0) (regions : List Region)
+    → ((j : ℕ) → j < n + 1 → (q a : ℕ) → Uses (at j).pc q → IsTouched (touched (by j) (at j)) a → IsSomeAnd (slice_get regions q) (λ region. region a ≡ true))
+    → FirstReturnsIn Uses regions (at 0) (n + 1) (at (n + 1))
+first-along-in n at by path Uses regions within = record {
+  some = omega arith;
+  ran = ran-along n at by path (n + 1) (omega arith);
+  within = stays;
+  last = returns-last n at by path;
+  first = not-before n at by path;
+}
+  where
+    stays : (j : ℕ) (u : State) → j < n + 1 → run (at 0) j ≡ Some u → StaysIn Uses regions u
+    stays j u lt e q a uses t =
+        within j lt q a (subst (λ s. Uses s.pc q) (sym (stands-at n at by path j u (omega (arith, lt)) e)) uses) (touched-there n at by path j u lt e a t)
