@@ -1,3 +1,5 @@
 mod Ends
 mod SumLemmas
 mod StoreLemmas
+pub mod Paths
+mod Returns

@@ -28,7 +28,7 @@ no-address : false ≡ true → (A : Type 0) → A
 no-address e A = absurd (cc)
 
 -- whatever its registers and its body are
-starts : (regs : List ℕ) (body : BodyTree) → Starts sum_file (adding regs body) sum_start []
+pub starts : (regs : List ℕ) (body : BodyTree) → Starts sum_file (adding regs body) sum_start []
 starts regs body = record {
   entry = refl;
   code = λ a b at. λ i. sym same-code i a;
@@ -46,17 +46,17 @@ sum-done = refl
 
 -- ---- the run
 
-added : State
+unfoldable pub added : State
 added = record { pc = 0x10004; reg = λ r. if r == 10 then 5 else sum_registers r; mem = range_bytes sum.code }
 
-returned : State
+unfoldable pub returned : State
 returned = record { pc = 0x2000; reg = λ r. if r == 10 then 5 else sum_registers r; mem = range_bytes sum.code }
 
-first-step : step sum_start ≡ Some added
+pub first-step : step sum_start ≡ Some added
 unfolding step decoded added
 first-step = refl
 
-second-step : step added ≡ Some returned
+pub second-step : step added ≡ Some returned
 unfolding step decoded added returned
 second-step = refl
 
@@ -64,7 +64,7 @@ third-step : step returned ≡ None
 unfolding step decoded returned
 third-step = refl
 
-two-steps : run sum_start 2 ≡ Some returned
+pub two-steps : run sum_start 2 ≡ Some returned
 unfolding run
 two-steps = ap (λ o. option_and_then (λ t. option_and_then (λ u. Some u) (step t)) o) first-step ∙ ap (λ o. option_and_then (λ u. Some u) o) second-step
 
@@ -73,19 +73,18 @@ unfolding returned
 others-by r true e never = absurd (never (1, omega arith, sym (eqb-true r 10 e)))
 others-by r false e never = λ i. if e i then 5 else sum_registers r
 
-pub sum-ends : (t : State) × Reaches sum_start t × Ends sum [] sum_start 0x2000 (sum_results 5) t
+pub sum-ended : Ends sum [] sum_start 0x2000 (sum_results 5) returned
 unfolding returned
-sum-ends = (
-  returned,
-  record { steps = 2; ran = two-steps },
-  record {
-    pc = refl;
-    results = refl;
-    registers = λ r small never. others-by r (r == 10) refl never;
-    bytes = λ a e. refl;
-    present = λ a. refl;
-  },
-)
+sum-ended = record {
+  pc = refl;
+  results = refl;
+  registers = λ r small never. others-by r (r == 10) refl never;
+  bytes = λ a e. refl;
+  present = λ a. refl;
+}
+
+pub sum-ends : (t : State) × Reaches sum_start t × Ends sum [] sum_start 0x2000 (sum_results 5) t
+sum-ends = (returned, record { steps = 2; ran = two-steps }, sum-ended)
 
 -- ---- functions that are wrong
 

@@ -2,9 +2,10 @@
 use Rattle.std.specs.Prelude.{ℕ, ◌==◌, if◌then◌else◌, List, [], ◌∷◌, codes}
 use Rattle.rv_words.specs.Ranges.{range_bytes}
 use Rattle.rv_words.specs.declared.operation.Op.TheVariants.{Add, And}
-use Rattle.word_terms.specs.Tree.{WordTree, Const, Var, Bin}
+use Rattle.rv_words.specs.declared.comparison.Cmp.TheVariants.{Eq}
+use Rattle.word_terms.specs.Tree.{WordTree, Const, Var, Bin, Compare}
 use Rattle.tailrec_lang.specs.declared.group.Exit.TheVariants.{Ret}
-use Rattle.tailrec_lang.specs.Tree.{Bind, Do, Leave, BodyTree, GroupTree}
+use Rattle.tailrec_lang.specs.Tree.{Bind, Need, Do, Leave, BodyTree, GroupTree}
 use Rattle.tailrec_lang.specs.Eval.{Arguments}
 use Rattle.code_gen.specs.ElfFile.{elf_of}
 use Rattle.rv_machine.specs.State.{State}
@@ -39,6 +40,10 @@ wrong = adding (1 ∷ 10 ∷ 11 ∷ []) (leaving (Var 2))
 
 abbrev pub narrow : GroupTree
 narrow = adding (1 ∷ []) (Leave 0 (record { words = returned_to ∷ Var 0 ∷ []; mems = [] }))
+
+-- what the code does, with a need that is never true
+abbrev pub needing : GroupTree
+needing = adding (1 ∷ 10 ∷ 11 ∷ []) (Do (Need (Compare Eq (Const 0) (Const 1))) (leaving (Var 3)))
 
 -- 2 in x10 and 3 in x11, a return to 0x2000, and no memory but the code
 abbrev pub sum_registers : ℕ → ℕ

@@ -1,6 +1,6 @@
 //! Worked examples of the headline's definitions: its premises can be met, and it is false of a
-//! function that tells something else than its code does. These functions do nothing: their
-//! contracts are the laws.
+//! function that tells something else than its code does. Likewise of `Exact`, that nothing is
+//! lost. These functions do nothing: their contracts are the laws.
 #![tactic(auto)]
 
 ghost use Rattle.std.specs.Prelude.{◌≡◌, [], ◌∷◌};
@@ -9,7 +9,8 @@ ghost use Rattle.triple_kernel.specs.Valid.{Reaches};
 ghost use Rattle.tailrec_lang.specs.Tree.{listed_def};
 ghost use Rattle.tailrec_lang.specs.Eval.{Done, eval};
 ghost use Rattle.claims.specs.Headline.{Ends, IsRight, Starts, held_in};
-ghost use Rattle.headline_examples.specs.Sum.{narrow, sum, sum_file, sum_results, sum_start, wrong};
+ghost use Rattle.claims.specs.Exact.{Exact, FirstReturns, Gives};
+ghost use Rattle.headline_examples.specs.Sum.{narrow, needing, sum, sum_file, sum_results, sum_start, wrong};
 ghost use Rattle.headline_examples.specs.Store.{at_place, keeps, quiet, store_file, store_start, stores};
 
 /// A function that adds two registers: the premises are met, its evaluation is done in one turn,
@@ -31,6 +32,18 @@ pub fn law_of_a_wrong_result()
 /// A function that doesn't list a register that its code writes is not right.
 pub fn law_of_an_unlisted_register()
     ensures { IsRight sum_file narrow → ⊥ }
+{}
+
+/// A run that returns, and what evaluation gives of it within twice as many turns: what `Exact`
+/// asks of a run can be met, and so can what it says of it.
+pub fn law_of_a_return()
+    ensures { (t : State) × FirstReturns [] sum_start 2 t × Gives sum [] sum_start 4 t }
+{}
+
+/// A function that needs what is never true is right, since it gives nothing, but it isn't exact.
+pub fn law_of_a_false_need()
+    ensures right { IsRight sum_file needing }
+    ensures exact { Exact sum_file needing → ⊥ }
 {}
 
 /// A function that stores into a region of memory, and one over the same region that tells that the

@@ -1,0 +1,4 @@
+mod Alike
+mod Told
+mod Calls
+mod Splits
