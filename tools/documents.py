@@ -18,7 +18,8 @@ import crates
 from wrapping import WIDTH, wrapped_page
 
 TOP = pathlib.Path(__file__).resolve().parent.parent
-FOLDERS = ("", "docs", "examples", "examples/rules", "bench", "bench/solvers")
+FOLDERS = ("", "docs", "examples", "examples/rules", "bench", "bench/solvers",
+           "bench/comparison/second_checker")
 WIDE_TABLE = "<!-- wide table -->"
 README_LIMIT = 9000
 PATH = re.compile(r"`((?:crates|docs|tools|bench|examples)/[\w./]+)[` ]")
