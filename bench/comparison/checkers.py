@@ -1,7 +1,7 @@
 #!/usr/bin/env python3
 """checkers.py [PROGRAM] [--count N] [--seed S] [--jobs J] [--seconds T] [--kinds KIND,..] [--keep FOLDER]: compares `check` and `eval` of a built program with second_checker.
 
-The texts are, first, some 500 that were thought out, one for each sentence of docs/FORMATS.md that could be read in two ways; and then N (2,000) that are drawn, a
+The texts are, first, 554 that were thought out, one for each sentence of docs/FORMATS.md that could be read in two ways; and then N (2,000) that are drawn, a
 quarter of each version. The kinds are:
 
     changed   a text that the program made, or one of examples/, with some change
@@ -143,6 +143,7 @@ def whole_words(arguments):
 
 
 def main(arguments):
+    """Compares, prints the counts, and gives the exit status."""
     program, words = whole_words(arguments)
     numbers = [*range(-len(THOUGHT_OUT), 0)] if not words.kinds else []
     numbers += range(words.count)

@@ -37,19 +37,23 @@ class Changer:
         self.random = random
 
     def one(self, choices):
+        """One of several."""
         return self.random.choice(list(choices))
 
     # Changes of one line's tokens
 
     def token(self, tokens, lines):
+        """One token for another."""
         place = self.random.randrange(len(tokens))
         other = self.one(TOKEN.findall(self.one(lines)) or ["end"])
         tokens[place] = other if self.random.random() < 0.6 else self.one(WORDS)
 
     def drop(self, tokens, _):
+        """A token is left out."""
         tokens.pop(self.random.randrange(len(tokens)))
 
     def double(self, tokens, _):
+        """A token stands twice."""
         place = self.random.randrange(len(tokens))
         tokens.insert(place, tokens[place])
 
@@ -162,6 +166,7 @@ class Changer:
                   "facts", "cited"]
 
     def changed_line(self, lines):
+        """Changes one line, and tells the kind of the change."""
         kind = self.one(self.LINE_KINDS) if self.random.random() < 0.98 else "wrapped"
         place = self.random.randrange(len(lines))
         tokens = TOKEN.findall(lines[place])

@@ -31,6 +31,7 @@ class GroupDrawer(TermDrawer):
         return 0x67 | rd << 7 | rs1 << 15 | immediate << 20
 
     def draw_group(self, name="drawn"):
+        """Draws the group, whose first instruction compares two of its registers."""
         r = self.random
         count = self.one((1, 2, 2, 3, 4)) if self.chance(0.95) else 0
         registers = tuple(sorted(r.sample(range(1, 32), count)))
@@ -54,11 +55,13 @@ class GroupDrawer(TermDrawer):
             self.group.definitions.append(self.definition(number))
 
     def register_word(self, register):
+        """The variable of a register, or 0x0."""
         if register in self.group.registers:
             return self.terms.word(self.group.registers.index(register))
         return self.terms.number(0)
 
     def definition(self, number):
+        """A definition of the group."""
         exits = [self.start + 4]
         if self.chance(0.5):
             exits.append(RETURN)
@@ -116,6 +119,7 @@ class GroupDrawer(TermDrawer):
         return Body(steps, self.leaf(exits, words, memories, taken))
 
     def leaf(self, exits, words, memories, taken):
+        """A `leave` or an `again` line, mostly with values that registers had at the entry."""
         t = self.terms
         values = []
         for index in range(len(self.group.registers)):

@@ -8,7 +8,7 @@ from second_checker.axioms import axiom
 from second_checker.lines import WholeLines
 from second_checker.rules import composed, framed, instance, used
 from second_checker.short_lines import ShortLines
-from second_checker.terms import WORD, computed
+from second_checker.terms import WORD
 from second_checker.tokens import Bad, tokens_of
 from second_checker.triples import Assertion
 from second_checker.verdict import Bench
@@ -21,6 +21,7 @@ class LineDrawer(GroupDrawer):
     """Draws lines of a group's proof."""
 
     def start_lines(self):
+        """Begins the proof."""
         self.bench = Bench(self.terms, self.group)
         self.table = spelling.Table()
         self.lines = []
@@ -72,6 +73,7 @@ class LineDrawer(GroupDrawer):
         return triple.with_parts(facts=tuple(facts))
 
     def perturbed_assertion(self, a):
+        """An assertion that is nearly this one."""
         r = self.random
         registers = list(a.registers)
         memories = list(a.memories)
@@ -133,6 +135,7 @@ class LineDrawer(GroupDrawer):
         return True
 
     def by_axiom(self):
+        """A line by `axiom`."""
         address, number = self.one(self.places)
         if self.chance(0.1):
             address, number = self.random.getrandbits(self.one((4, 20, 64))), self.instruction()
@@ -143,6 +146,7 @@ class LineDrawer(GroupDrawer):
         return self.emit("axiom", f"axiom {address:#x} {number:#x} {form}", triple)
 
     def by_inst(self):
+        """A line by `inst`."""
         cited = self.theorem()
         places = {}
         for index in sorted(self.random.sample(range(7), self.random.randrange(5))):
@@ -163,6 +167,7 @@ class LineDrawer(GroupDrawer):
         return self.emit("inst", head, triple, spelled)
 
     def by_frame(self, cited=None, registers=None, memories=None, perturb=0.1):
+        """A line by `frame`."""
         cited = self.theorem() if cited is None else cited
         if not self.bench.has(cited):
             return False
@@ -184,6 +189,7 @@ class LineDrawer(GroupDrawer):
                          perturb)
 
     def by_extend(self):
+        """A line by `extend`."""
         cited = self.theorem()
         if not self.bench.has(cited):
             return False
@@ -213,6 +219,7 @@ class LineDrawer(GroupDrawer):
                          lambda spell: spelling.code(code, self.group.code))
 
     def by_compose(self):
+        """A line by `compose`."""
         first = self.theorem()
         fitting = [n for n, t in enumerate(self.bench.theorems)
                    if t is not None and self.bench.has(first)
@@ -238,6 +245,7 @@ class LineDrawer(GroupDrawer):
         return tuple(result)
 
     def assertion_variant(self, a, equations):
+        """An assertion that is mostly equal by the equations, to which some are added."""
         registers = tuple(
             (register, self.variant(word, equations) if self.chance(0.4) else word)
             for register, word in a.registers)
@@ -264,6 +272,7 @@ class LineDrawer(GroupDrawer):
             [spelling.facts(facts, spell), word, spelling.assertion(side, spell)]), perturb)
 
     def by_discharge(self):
+        """A line by `discharge`."""
         cited = self.theorem()
         if not self.bench.has(cited):
             return False
@@ -328,6 +337,7 @@ class LineDrawer(GroupDrawer):
         return self.by_swap("weaken", cited, facts, theorem.behind)
 
     def by_steer(self):
+        """A line by `steer`."""
         cited = self.theorem()
         if not self.bench.has(cited):
             return False
@@ -349,6 +359,7 @@ class LineDrawer(GroupDrawer):
         return self.emit("steer", f"steer {cited}", stated)
 
     def by_exchange(self):
+        """A line by `exchange`."""
         cited = self.theorem()
         two = [n for n, t in enumerate(self.bench.theorems)
                if t is not None and len(t.before.memories) == 2]
@@ -366,9 +377,11 @@ class LineDrawer(GroupDrawer):
         return self.emit("exchange", f"exchange {cited}", stated)
 
     def by_forget(self):
+        """A line by `forget`."""
         return self.put("forget", f"forget {self.theorem()}")
 
     def by_use(self):
+        """A line by `use`."""
         count = len(self.group.definitions)
         number = self.random.randrange(count + self.chance(0.03))
         if number not in self.bench.closed and self.chance(0.8):

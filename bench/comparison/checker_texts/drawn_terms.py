@@ -33,11 +33,13 @@ class TermDrawer:
         return self.random.random() < part
 
     def constant(self):
+        """A constant, often one at an edge."""
         r = self.random
         value = self.one(EDGES) if r.random() < 0.7 else r.getrandbits(self.one((8, 32, 33, 64)))
         return self.terms.number(value)
 
     def closed(self, depth=2):
+        """A word without variables."""
         t = self.terms
         if depth == 0 or self.chance(0.3):
             return self.constant()
@@ -46,6 +48,7 @@ class TermDrawer:
         return t.node(self.one(OPERATION_NAMES), self.closed(depth - 1), self.closed(depth - 1))
 
     def word(self, depth=2):
+        """A word."""
         t = self.terms
         if depth == 0 or self.chance(0.35):
             return t.word(self.random.randrange(7)) if self.chance(0.75) else self.constant()
@@ -57,6 +60,7 @@ class TermDrawer:
         return t.node(self.one(OPERATION_NAMES[:12]), self.word(depth - 1), self.word(depth - 1))
 
     def memory(self, depth=2):
+        """A memory."""
         t = self.terms
         if depth == 0 or self.chance(0.5):
             return t.memory(self.random.randrange(3))
@@ -64,6 +68,7 @@ class TermDrawer:
                       self.word(depth - 1))
 
     def condition(self, depth=2):
+        """A condition."""
         t = self.terms
         pick = self.random.random()
         if pick < 0.2 and depth:
@@ -74,6 +79,7 @@ class TermDrawer:
                       self.word(max(depth - 1, 0)))
 
     def closed_condition(self):
+        """A condition without variables, mostly a true one."""
         t = self.terms
         word = self.closed()
         if self.chance(0.6):
@@ -97,6 +103,7 @@ class TermDrawer:
         return word
 
     def fact(self):
+        """A fact."""
         t = self.terms
         pick = self.random.random()
         if pick < 0.3:
