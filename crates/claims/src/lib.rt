@@ -4,5 +4,6 @@
 //! `Headline` says that what evaluation of the functions gives, the machine does, and `Exact` and
 //! `LinkExact` that what the machine does, evaluation gives. All of them speak of a state that
 //! stands at a function's entry (`Starts`), and of one in which it has ended (`Ends`), over regions
-//! of memory. A text that is accepted makes the first true, and the decompiler's functions both.
+//! of memory. A text that is accepted makes the first true of its functions; what the decompiler
+//! writes has both.
 #![tactic(auto)]

@@ -6,7 +6,7 @@
 //! version 3 and `Exchange` for version 4. `check_linked` and `check_split` judge a text in memory
 //! of these two versions. `reader_of(alloc, &text)` reads a text in the version that it names.
 //!
-//! This is the program's check. No crate that makes items or lines of proofs is below it.
+//! This is the program's check. No crate of the decompiler is below it.
 #![tactic(auto)]
 
 mod check;
