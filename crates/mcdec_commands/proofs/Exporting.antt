@@ -10,7 +10,7 @@ use Rattle.smt_terms.specs.Meaning.{no_names}
 use Rattle.smt_terms.specs.Sorts.{IsScript, rules_after}
 use Rattle.smt_terms.specs.Text.{script_text}
 use Rattle.smt_terms.specs.Views.{fun_tree}
-use Rattle.smt_export.specs.Reach.{IsLeastLoop, ReachesByCalls}
+use Rattle.smt_export.specs.Reach.{IsLeastLoop, IsLoopFree, ReachesByCalls}
 use Rattle.smt_export.specs.Telling.{HasRules, TellsEval}
 use Rattle.mcdec_answers.specs.declared.answer.Answer.{Answer}
 use Rattle.mcdec_answers.specs.declared.answer.Answer.TheVariants as answer
@@ -18,7 +18,7 @@ use Rattle.mcdec_answers.specs.declared.answer.SmtAnswer.TheVariants as smt
 use Rattle.mcdec_answers.specs.Printed.{status}
 use Rattle.mcdec_words.specs.Command.{Smt, Words}
 use Rattle.mcdec_commands.specs.EvalAnswer.{IsNamed, proof_limit}
-use Rattle.mcdec_commands.specs.SmtAnswer.{IsLoopFree, IsScriptFor, SmtGives}
+use Rattle.mcdec_commands.specs.SmtAnswer.{IsScriptFor, SmtGives}
 use Rattle.mcdec_commands.specs.Answer.{Gives, ReadsAreTold}
 use Rattle.mcdec_commands.specs.inner.Exporting.{DefGives}
 use Rattle.mcdec_commands.specs.inner.Writing.{ToldOrFault}

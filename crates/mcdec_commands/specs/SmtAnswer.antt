@@ -5,17 +5,13 @@ use Rattle.tailrec_lang.specs.Tree.{GroupTree}
 use Rattle.smt_terms.specs.Meaning.{FunTree, no_names}
 use Rattle.smt_terms.specs.Sorts.{IsScript, rules_after}
 use Rattle.smt_terms.specs.Text.{script_text}
-use Rattle.smt_export.specs.Reach.{EntersAgain, IsLeastLoop, ReachesByCalls}
+use Rattle.smt_export.specs.Reach.{IsLeastLoop, IsLoopFree, ReachesByCalls}
 use Rattle.smt_export.specs.Telling.{HasRules, TellsEval}
 use Rattle.mcdec_answers.specs.declared.answer.Answer.{Answer}
 use Rattle.mcdec_answers.specs.declared.answer.Answer.TheVariants.{Smt}
 use Rattle.mcdec_answers.specs.declared.answer.SmtAnswer.{SmtAnswer}
 use Rattle.mcdec_answers.specs.declared.answer.SmtAnswer.TheVariants as answer
 use Rattle.mcdec_commands.specs.EvalAnswer.{HasBadDef, HasBadLine, IsNamed, proof_limit}
-
--- no definition that this one reaches by calls enters itself again
-abbrev pub IsLoopFree : GroupTree → ℕ → Type 0
-IsLoopFree g def = (d : ℕ) → ReachesByCalls g def d → EntersAgain g d → ⊥
 
 -- The functions are well-sorted. Those of each definition that this one reaches by calls are among them, and tell its evaluation.
 pub record Exports (g : GroupTree) (def : ℕ) (funs : List FunTree) : Type 0 where
