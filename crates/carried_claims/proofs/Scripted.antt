@@ -1,5 +1,5 @@
 -- What is claimed of a group's function is told by a script of it.
-use Rattle.std.proofs.Common.{◌≡◌, ℕ, ◌*◌, ◌^◌, List, true, false, true≢false, refl, sym, ap, subst, ◌∙◌}
+use Rattle.std.proofs.Common.{◌≡◌, ℕ, ◌*◌, List, [], true, false, refl, sym, ap, subst, ◌∙◌}
 use Rattle.rv_machine.specs.State.{State}
 use Rattle.triple_kernel.specs.Valid.{Reaches}
 use Rattle.tailrec_lang.specs.Tree.{GroupTree, listed_def}
@@ -12,9 +12,12 @@ use Rattle.smt_export.specs.declared.told.Told.TheVariants.{Ok}
 use Rattle.smt_export.specs.Reach.{IsLoopFree}
 use Rattle.smt_export.specs.Telling.{AreArgumentValues, TellsEval, TellsOutcome}
 use Rattle.claims.specs.Headline.{Region, Starts, Ends, IsRight, held_in}
-use Rattle.claims.specs.Exact.{Gives}
-use Rattle.carried_claims.specs.Within.{IsExactIn}
-use Rattle.carried_claims.specs.Scripts.{EndsAsTold, IsExactScript, IsRightScript, told_by}
+use Rattle.elf_image.specs.Image.{code_of_file}
+use Rattle.claims.specs.Exact.{FirstReturns, Gives}
+use Rattle.claims.specs.LinkExact.{FirstReturnsIn, ReturnsBack}
+use Rattle.call_link.specs.Listing.{InFirstMemory}
+use Rattle.stack_split.specs.SplitExact.{UsesSplit}
+use Rattle.carried_claims.specs.Scripts.{EndsAsTold, IsExactScript, IsRightScript, TellsClaims, told_by}
 use Rattle.carried_claims.proofs.Ends.{ends}
 
 -- an evaluation that is done
@@ -36,7 +39,7 @@ done g f Turns told ok some = absurd (some refl)
 done g f NoOutcome told ok some = absurd told
 
 module _ (file : List ℕ) (g : GroupTree) (funs : List FunTree) (tells : TellsEval g (listed_def g) funs) where
-  pub right-script : IsWellFormed g → IsLoopFree g (listed_def g) → IsRight file g → IsRightScript file g funs
+  right-script : IsWellFormed g → IsLoopFree g (listed_def g) → IsRight file g → IsRightScript file g funs
   right-script wf free right s regions starts vs are ok =
       let enough = ends g (listed_def g) wf free in
       let x = held_in s g regions in
@@ -48,7 +51,7 @@ module _ (file : List ℕ) (g : GroupTree) (funs : List FunTree) (tells : TellsE
         record { exit = d.exit; pc = d.pc; results = d.results; ends = reached.2; tells = subst (λ (o : Outcome). TellsOutcome g o (told_by funs g vs)) d.is told },
       )
 
-  pub exact-script : (Runs : List Region → State → ℕ → State → Type 0)
+  exact-script : (Runs : List Region → State → ℕ → State → Type 0)
       → ((s : State) (regions : List Region) → Starts file g s regions → (k : ℕ) (t : State) → Runs regions s k t → Gives g regions s (2 * k) t) → IsExactScript Runs file g funs
   exact-script Runs exact s regions starts vs are k t run =
       let gives = exact s regions starts k t run in
@@ -59,3 +62,11 @@ module _ (file : List ℕ) (g : GroupTree) (funs : List FunTree) (tells : TellsE
         ends = gives.ends;
         tells = subst (λ (o : Outcome). TellsOutcome g o (told_by funs g vs)) gives.done (tells (held_in s g regions) (2 * k) vs are);
       }
+
+pub tells-claims : (g : GroupTree) (funs : List FunTree) → TellsEval g (listed_def g) funs → IsWellFormed g → IsLoopFree g (listed_def g) → TellsClaims g funs
+tells-claims g funs tells wf free = record {
+  right = λ elf right. right-script elf g funs tells wf free right;
+  exact = λ elf exact. exact-script elf g funs tells FirstReturns exact;
+  linked = λ elf exact. exact-script elf g funs tells (λ regions s k t. ReturnsBack InFirstMemory regions t [] k s) exact;
+  split = λ elf e exact. exact-script elf g funs tells (FirstReturnsIn (UsesSplit (code_of_file elf) e)) exact;
+}

@@ -1,5 +1,5 @@
 -- What a script tells of the machine: its functions, of what a state holds at the entry of a group's function.
-use Rattle.std.specs.Prelude.{◌≡◌, ℕ, true, List}
+use Rattle.std.specs.Prelude.{◌≡◌, ℕ, true, List, []}
 use Rattle.rv_machine.specs.State.{State}
 use Rattle.triple_kernel.specs.Valid.{Reaches}
 use Rattle.tailrec_lang.specs.Tree.{GroupTree, listed_def}
@@ -10,7 +10,12 @@ use Rattle.smt_export.specs.declared.told.Told.{Told}
 use Rattle.smt_export.specs.declared.told.Told.TheVariants.{Ok}
 use Rattle.smt_export.specs.Told.{fun_name}
 use Rattle.smt_export.specs.Telling.{AreArgumentValues, TellsOutcome}
-use Rattle.claims.specs.Headline.{Region, Starts, Ends, held_in}
+use Rattle.elf_image.specs.Image.{code_of_file}
+use Rattle.claims.specs.Headline.{Region, Starts, Ends, IsRight, held_in}
+use Rattle.claims.specs.Exact.{Exact, FirstReturns}
+use Rattle.claims.specs.LinkExact.{FirstReturnsIn, LinkExact, ReturnsBack}
+use Rattle.call_link.specs.Listing.{InFirstMemory}
+use Rattle.stack_split.specs.SplitExact.{SplitExact, UsesSplit}
 
 -- the values that the functions of the group's function have of these
 abbrev pub told_by : List FunTree → GroupTree → List Value → Told → Value
@@ -39,3 +44,10 @@ IsExactScript Runs file g funs =
     (s : State) (regions : List Region) → Starts file g s regions
     → (vs : List Value) → AreArgumentValues g (held_in s g regions) vs
     → (k : ℕ) (t : State) → Runs regions s k t → EndsAsTold g regions s t (told_by funs g vs)
+
+-- what is claimed of the group's function, of whatever ELF file, is told by the script
+pub record TellsClaims (g : GroupTree) (funs : List FunTree) : Type 0 where
+  pub right : (elf : List ℕ) → IsRight elf g → IsRightScript elf g funs
+  pub exact : (elf : List ℕ) → Exact elf g → IsExactScript FirstReturns elf g funs
+  pub linked : (elf : List ℕ) → LinkExact InFirstMemory elf g → IsExactScript (λ regions s k t. ReturnsBack InFirstMemory regions t [] k s) elf g funs
+  pub split : (elf : List ℕ) (e : ℕ) → SplitExact elf e g → IsExactScript (FirstReturnsIn (UsesSplit (code_of_file elf) e)) elf g funs

@@ -17,7 +17,7 @@ ghost use Rattle.elf_image.specs.Image.{code_of_file};
 ghost use Rattle.claims.specs.LinkExact.{FirstReturnsIn, LinkExact, ReturnsBack};
 ghost use Rattle.call_link.specs.Listing.{InFirstMemory};
 ghost use Rattle.stack_split.specs.SplitExact.{SplitExact, UsesSplit};
-ghost use Rattle.carried_claims.specs.Scripts.{IsExactScript, IsRightScript};
+ghost use Rattle.carried_claims.specs.Scripts.{TellsClaims};
 ghost use Rattle.carried_claims.specs.Within.{IsExactIn, IsRightIn};
 
 /// Where steps of rewriting lead from the definitions of a group to others, which evaluate alike,
@@ -48,25 +48,12 @@ pub fn law_of_rewritten_functions()
         (with_defs g es) }
 {}
 
-/// Where a script tells the evaluation of a group's function, it tells what the machine does, as far
-/// as that is claimed of the function.
+/// Where a script tells the evaluation of a group's function, from which no loop is reached, it tells
+/// what the machine does, as far as that is claimed of the function.
 pub fn law_of_exported_functions()
-    ensures right { (file : List ℕ) (g : GroupTree) (funs : List FunTree)
-        → TellsEval g (listed_def g) funs
+    ensures { (g : GroupTree) (funs : List FunTree)
         → IsWellFormed g
         → IsLoopFree g (listed_def g)
-        → IsRight file g
-        → IsRightScript file g funs }
-    ensures exact { (file : List ℕ) (g : GroupTree) (funs : List FunTree)
         → TellsEval g (listed_def g) funs
-        → Exact file g
-        → IsExactScript FirstReturns file g funs }
-    ensures linked { (file : List ℕ) (g : GroupTree) (funs : List FunTree)
-        → TellsEval g (listed_def g) funs
-        → LinkExact InFirstMemory file g
-        → IsExactScript (λ regions s k t. ReturnsBack InFirstMemory regions t [] k s) file g funs }
-    ensures split { (file : List ℕ) (g : GroupTree) (funs : List FunTree) (e : ℕ)
-        → TellsEval g (listed_def g) funs
-        → SplitExact file e g
-        → IsExactScript (FirstReturnsIn (UsesSplit (code_of_file file) e)) file g funs }
+        → TellsClaims g funs }
 {}
