@@ -1,6 +1,6 @@
 //! The rows of lines behind groups, one a call.
 
-ghost use Rattle.std.specs.Prelude.{◌≡◌, ◌∷◌, ◌++◌, [], List, ◌<◌, ◌≤◌, IfOk, IfSome, OnErr, OnOk, false, true, option_map};
+ghost use Rattle.std.specs.Prelude.{◌≡◌, ◌∷◌, ◌++◌, [], List, ◌<◌, ◌≤◌, IfOk, IfNone, IfSome, OnErr, OnOk, false, true, option_map};
 ghost use Rattle.mc_text.specs.Reading.{goes_on};
 ghost use Rattle.group_text.specs.Version.{version_of};
 ghost use Rattle.group_text.specs.inner.RowReader.{ReadsRows};
@@ -84,6 +84,7 @@ pub fn read_turn<E, R: Rows<E>, W: ReadLines>(
     ensures kept { OnErr result ((before : List W.readers.grammar.Line)
         → W.Behind kept.old before
         → W.Behind kept.new before) }
+    ensures kept_end { IfOk result (λ found. IfNone found (kept.new ≡ kept.old)) }
     ensures lost { R.Sure rows.old from.old
         → OnRowError result ((p : RowPosition)
         → R.May rows.new from.new p

@@ -201,6 +201,7 @@ impl<'a> Reader<'a> {
             → W.Behind kept.old before
             → W.Behind kept.new before) }
         // Whatever was kept.
+        ensures kept_end { OnEnd result (kept.new ≡ kept.old) }
         ensures end { IsEnd result ↔ ProofEnds self.old.rest }
         ensures shorter { OnGiven result (λ _. length self.new.rest < length self.old.rest) }
         ensures end_same { OnEnd result (self.new ≡ self.old) }
