@@ -1,10 +1,11 @@
--- The words and the files give one answer at most.
+-- The words and the files give one answer at most, but for what they leave open in it.
 use Rattle.std.proofs.Common.{◌≡◌, ℕ, zero, suc, codes, ◌-◌, ◌<◌, ◌≤◌, List, [], ◌∷◌, ◌++◌, length, slice_get, Option, Some, None, refl, sym, ap, subst, ◌∙◌, ◌⊎◌, ⊎_elim, inl, inr, Ok, Err, arith}
 use Rattle.std.specs.Prelude.{IfSome}
 use Rattle.std.specs.List.{AllByRecursion, AllZip}
 use Rattle.mc_shelf.specs.Shelf.{Contents}
 use Rattle.mc_text.specs.Fault.{Grammar, InGrammar, IsBadAt}
-use Rattle.tailrec_lang.specs.Tree.{DefTree, GroupTree, listed_def}
+use Rattle.std.proofs.lemmas.List.{length-map}
+use Rattle.tailrec_lang.specs.Tree.{DefTree, GroupTree, def_tree, group_tree, listed_def}
 use Rattle.tailrec_lang.specs.WellFormed.{IsWellFormed, IsFirstIllFormed}
 use Rattle.tailrec_lang.specs.Eval.{Done, SideFalse, Turns, NoOutcome, Outcome, eval}
 use Rattle.checker.specs.Further.{further_of}
@@ -26,11 +27,17 @@ use Rattle.mcdec_answers.specs.declared.answer.CheckAnswer.TheVariants as ca
 use Rattle.mcdec_commands.specs.CheckAnswer.{CheckGives, AreRightFiles}
 use Rattle.path_walk.specs.declared.item.Item.{Item}
 use Rattle.mcdec_words.specs.declared.command.Form.{Form}
+use Rattle.mcdec_words.specs.declared.command.Form.TheVariants.{Alone}
 use Rattle.call_graph.specs.declared.fault.LinkWhy.{LinkWhy}
 use Rattle.mcdec_answers.specs.declared.answer.DecompileAnswer.{DecompileAnswer}
 use Rattle.mcdec_answers.specs.declared.answer.DecompileAnswer.TheVariants as de
-use Rattle.mcdec_commands.specs.DecompileAnswer.{DecompileGives, IsItemIn, IsRefusedIn, IsToldOnce, all_listed}
+use Rattle.mcdec_commands.specs.DecompileAnswer.{DecompileGives, IsItemIn, IsRefusedIn, all_listed, without_walks}
+use Rattle.mcdec_answers.specs.declared.answer.Listed.{Listed}
 use Rattle.mcdec_answers.specs.declared.answer.SelfTestAnswer.{SelfTestAnswer}
+use Rattle.mcdec_commands.specs.SelfTestAnswer.{SelfTestGives, without_turns}
+use Rattle.code_runs.specs.Runs.{behind}
+use Rattle.self_test.specs.Results.{most_steps}
+use Rattle.self_test.specs.Start.{begin, file_of, function_name}
 use Rattle.mcdec_answers.specs.declared.answer.SimplifyAnswer.{SimplifyAnswer}
 use Rattle.mcdec_answers.specs.declared.answer.SimplifyAnswer.TheVariants as si
 use Rattle.mcdec_answers.specs.declared.answer.LawsAnswer.{LawsAnswer}
@@ -47,7 +54,7 @@ use Rattle.fun_laws.specs.Limits.{cert_texts}
 use Rattle.fun_laws.specs.Spelling.{CertTree}
 use Rattle.fun_laws.proofs.Whole.{certs-once}
 use Rattle.mcdec_commands.specs.Held.{HoldsWith}
-use Rattle.mcdec_commands.specs.SimplifyAnswer.{IsRefusal, SimplifyGives}
+use Rattle.mcdec_commands.specs.SimplifyAnswer.{SimplifyGives, without_steps}
 use Rattle.mcdec_commands.specs.LawsAnswer.{IsCertText, LawsGives, TextsGive, cert_limit, step_line}
 use Rattle.mcdec_words.specs.CommandReading.{operands_of}
 use Rattle.mcdec_words.specs.Command.{Command, Eval, Run, Check, Decompile, SelfTest, Simplify, Laws, Smt, Migrate, Arg, Words, IsNoCommand}
@@ -55,6 +62,7 @@ use Rattle.elf_image.specs.declared.fault.ElfFault.{ElfFault}
 use Rattle.elf_image.specs.Fault.{IsReadable, fault_of}
 use Rattle.elf_image.specs.declared.symbol.NameFault.{NameFault}
 use Rattle.rv_machine.specs.State.{State}
+use Rattle.rv_machine.specs.declared.running.RunEnd.TheVariants as end
 use Rattle.rv_machine.proofs.RunLemmas.{ends-once}
 use Rattle.decompiler.specs.Names.{StandsFor}
 use Rattle.mcdec_commands.specs.Memory.{shown_at}
@@ -62,7 +70,7 @@ use Rattle.mcdec_commands.specs.RunAnswer.{elf_limit, IsLoaded, answer_at, state
 use Rattle.mcdec_commands.specs.EvalAnswer.{HasBadDef, HasBadLine, IsNamed, proof_limit, arguments_given, EvalGives}
 use Rattle.mcdec_commands.specs.inner.Running.{MachineGives}
 use Rattle.mcdec_commands.specs.inner.Search.{GroupGives, first_named}
-use Rattle.mcdec_commands.specs.Answer.{Gives, IsDetermined}
+use Rattle.mcdec_commands.specs.Answer.{Gives, IsHindered, Like, determined}
 use Rattle.mcdec_answers.specs.Printed.{IsPrinted, IsDelivered, status}
 use Rattle.mcdec_words.proofs.OneCommand.{words-unique}
 use Rattle.mcdec_words.proofs.CommandNames.{name_of, named-words, not-a-form, other-name}
@@ -71,7 +79,7 @@ use Rattle.mcdec_commands.proofs.Groups.{begins-alike, listed-front, listed-once
 use Rattle.mcdec_commands.proofs.Listed.{groups-fit, groups-left}
 use Rattle.mcdec_commands.proofs.OneFile.{none_fault, over, some_fault, some_file}
 use Rattle.mcdec_commands.proofs.OneMigration.{MigrateCase, migrate-case, migrate-unique}
-use Rattle.mcdec_commands.proofs.OneListing.{all-told-once, err_is, none-refused, ok_err, ok_is, refused-once, stands-once}
+use Rattle.mcdec_commands.proofs.OneListing.{all-told-once, err_is, none-refused, ok_err, ok_is, refused-once, stands-once, told-once}
 use Rattle.std.proofs.lemmas.Bool.{cases_order}
 
 -- ---- groups
@@ -172,9 +180,9 @@ GoodText Says p a = (gs : List GroupTree) × IsTextListing p gs × AllByRecursio
 abbrev TextCase : {A : Type 0} → (ℕ → A) → (ℕ → ℕ → A) → (List GroupTree → A → Type 0) → List ℕ → A → Type 0
 TextCase unreadable ill_formed Says p a = BadText unreadable p a ⊎ (BadDef ill_formed p a ⊎ GoodText Says p a)
 
--- of two that say something of the same groups, the second of which comes once, the first is the same
-module _ {A : Type 0} (unreadable : ℕ → A) (ill_formed : ℕ → ℕ → A) (Says : List GroupTree → A → Type 0) (Once : A → Type 0)
-    (says-once : (gs : List GroupTree) (a b : A) → Once b → Says gs a → Says gs b → a ≡ b) where
+-- two that say something of the same groups are told alike
+module _ {A : Type 0} (unreadable : ℕ → A) (ill_formed : ℕ → ℕ → A) (Says : List GroupTree → A → Type 0) (told : A → A)
+    (says-once : (gs : List GroupTree) (a b : A) → Says gs a → Says gs b → told a ≡ told b) where
   bad-texts : (p : List ℕ) (a b : A) → BadText unreadable p a → BadText unreadable p b → a ≡ b
   bad-texts p a b (n, h, is) (m, k, this) = is ∙ ap unreadable (bad-once (any_texts (named_version p)) p n m h.0 k.0) ∙ sym this
 
@@ -201,17 +209,17 @@ module _ {A : Type 0} (unreadable : ℕ → A) (ill_formed : ℕ → ℕ → A) 
   bad-or-good : (p : List ℕ) (a b : A) → BadText unreadable p a → GoodText Says p b → ⊥
   bad-or-good p a b (n, h, is) (gs, text, fine, said) = not-bad (any_texts (named_version p)) p n h.0 (text.proofs, text.spelled.fit, text.spelled.spelled)
 
-  text-once : (p : List ℕ) (a b : A) → Once b → TextCase unreadable ill_formed Says p a → TextCase unreadable ill_formed Says p b → a ≡ b
-  text-once p a b once (inl h) (inl k) = bad-texts p a b h k
-  text-once p a b once (inl h) (inr (inl k)) = absurd (bad-or-def p a b h k)
-  text-once p a b once (inl h) (inr (inr k)) = absurd (bad-or-good p a b h k)
-  text-once p a b once (inr (inl h)) (inl k) = absurd (bad-or-def p b a k h)
-  text-once p a b once (inr (inl h)) (inr (inl k)) = bad-defs p a b h k
-  text-once p a b once (inr (inl h)) (inr (inr k)) = absurd (def-or-good p a b h k)
-  text-once p a b once (inr (inr h)) (inl k) = absurd (bad-or-good p b a k h)
-  text-once p a b once (inr (inr h)) (inr (inl k)) = absurd (def-or-good p b a k h)
-  text-once p a b once (inr (inr (gs, text, fine, said))) (inr (inr (hs, other, well, says))) =
-      says-once hs a b once (subst (λ (xs : List GroupTree). Says xs a) (listed-once (named_version p) p gs hs text other) said) says
+  text-once : (p : List ℕ) (a b : A) → TextCase unreadable ill_formed Says p a → TextCase unreadable ill_formed Says p b → told a ≡ told b
+  text-once p a b (inl h) (inl k) = ap told (bad-texts p a b h k)
+  text-once p a b (inl h) (inr (inl k)) = absurd (bad-or-def p a b h k)
+  text-once p a b (inl h) (inr (inr k)) = absurd (bad-or-good p a b h k)
+  text-once p a b (inr (inl h)) (inl k) = absurd (bad-or-def p b a k h)
+  text-once p a b (inr (inl h)) (inr (inl k)) = ap told (bad-defs p a b h k)
+  text-once p a b (inr (inl h)) (inr (inr k)) = absurd (def-or-good p a b h k)
+  text-once p a b (inr (inr h)) (inl k) = absurd (bad-or-good p b a k h)
+  text-once p a b (inr (inr h)) (inr (inl k)) = absurd (def-or-good p b a k h)
+  text-once p a b (inr (inr (gs, text, fine, said))) (inr (inr (hs, other, well, says))) =
+      says-once hs a b (subst (λ (xs : List GroupTree). Says xs a) (listed-once (named_version p) p gs hs text other) said) says
 
 -- ---- files
 
@@ -219,8 +227,8 @@ module _ {A : Type 0} (unreadable : ℕ → A) (ill_formed : ℕ → ℕ → A) 
 abbrev EvalSays : List ℕ → ℕ → List Arg → List GroupTree → EvalAnswer → Type 0
 EvalSays name turns args gs a = Named turns args (first_named name gs) a
 
-eval-once : (name : List ℕ) (turns : ℕ) (args : List Arg) (gs : List GroupTree) (a b : EvalAnswer) → Unit {0} → EvalSays name turns args gs a → EvalSays name turns args gs b → a ≡ b
-eval-once name turns args gs a b once h k = named-unique turns args (first_named name gs) a b h k
+eval-once : (name : List ℕ) (turns : ℕ) (args : List Arg) (gs : List GroupTree) (a b : EvalAnswer) → EvalSays name turns args gs a → EvalSays name turns args gs b → a ≡ b
+eval-once name turns args gs a b h k = named-unique turns args (first_named name gs) a b h k
 
 abbrev EvalCase : List ℕ → List ℕ → ℕ → List Arg → EvalAnswer → Type 0
 EvalCase p name turns args a = TextCase ev.Unreadable ev.IllFormed (EvalSays name turns args) p a
@@ -246,7 +254,7 @@ file-unique p name turns args a b (inl h) (inl k) = h.1 ∙ sym k.1
 file-unique p name turns args a b (inl h) (inr k) = absurd (over (length p) proof_limit h.0 k.0)
 file-unique p name turns args a b (inr h) (inl k) = absurd (over (length p) proof_limit k.0 h.0)
 file-unique p name turns args a b (inr h) (inr k) =
-    text-once ev.Unreadable ev.IllFormed (EvalSays name turns args) (λ b. Unit {0}) (eval-once name turns args) p a b tt h.1 k.1
+    text-once ev.Unreadable ev.IllFormed (EvalSays name turns args) (λ b. b) (eval-once name turns args) p a b h.1 k.1
 
 -- ---- runs
 
@@ -364,30 +372,53 @@ decompile-case form file names (de.Refused name why) (loaded, number, at, refuse
 decompile-case form file names (de.Decompiled told listed) (one, loaded, proof, items, same) =
     inr (loaded.0, inr (loaded.1, inr (proof.items, items, (λ i. de.Decompiled (one i) (same i)))))
 
--- the second of two answers is told once
-module _ (form : Form) (file : List ℕ) (names : List (List ℕ)) (a b : DecompileAnswer) (once : IsToldOnce b) where
-  names-unique : NamesCase form file names a → NamesCase form file names b → a ≡ b
-  names-unique (inl (n, name, why, at, h, is)) (inl (m, other, cause, there, k, this)) =
-      let same = refused-once form file names n m why cause (subst IsToldOnce this once) h k in
+-- two answers are the same but for the walks that show two entries
+module _ (form : Form) (file : List ℕ) (names : List (List ℕ)) (a b : DecompileAnswer) where
+  names-alike : NamesCase form file names a → NamesCase form file names b → without_walks a ≡ without_walks b
+  names-alike (inl (n, name, why, at, h, is)) (inl (m, other, cause, there, k, this)) =
+      let same = refused-once form file names n m why cause h k in
       let some : Some name ≡ Some other = sym at ∙ ap (λ i. slice_get names i) same.0 ∙ there in
       let word : name ≡ other = cc in
-      is ∙ (λ i. de.Refused (word i) (same.1 i)) ∙ sym this
-  names-unique (inl (n, name, why, at, h, is)) (inr (items, k, this)) = absurd (none-refused form file names items k n why h)
-  names-unique (inr (items, h, is)) (inl (m, other, cause, there, k, this)) = absurd (none-refused form file names items h m cause k)
-  names-unique (inr (items, h, is)) (inr (others, k, this)) =
-      is ∙ ap (de.Decompiled form) (all-told-once form file names items others h k) ∙ sym this
+      ap without_walks is ∙ (λ i. without_walks (de.Refused (word i) why)) ∙ same.1 other ∙ sym (ap without_walks this)
+  names-alike (inl (n, name, why, at, h, is)) (inr (items, k, this)) = absurd (none-refused form file names items k n why h)
+  names-alike (inr (items, h, is)) (inl (m, other, cause, there, k, this)) = absurd (none-refused form file names items h m cause k)
+  names-alike (inr (items, h, is)) (inr (others, k, this)) =
+      ap without_walks (is ∙ ap (de.Decompiled form) (all-told-once form file names items others h k) ∙ sym this)
 
-  good-unique : GoodFile form file names a → GoodFile form file names b → a ≡ b
-  good-unique (inl h) (inl k) = h.2 ∙ ap de.Unreadable (some_fault h.0 k.0 (sym h.1 ∙ k.1)) ∙ sym k.2
-  good-unique (inl h) (inr k) = absurd (none_fault h.0 (sym k.0 ∙ h.1))
-  good-unique (inr h) (inl k) = absurd (none_fault k.0 (sym h.0 ∙ k.1))
-  good-unique (inr h) (inr k) = names-unique h.1 k.1
+  good-alike : GoodFile form file names a → GoodFile form file names b → without_walks a ≡ without_walks b
+  good-alike (inl h) (inl k) = ap without_walks (h.2 ∙ ap de.Unreadable (some_fault h.0 k.0 (sym h.1 ∙ k.1)) ∙ sym k.2)
+  good-alike (inl h) (inr k) = absurd (none_fault h.0 (sym k.0 ∙ h.1))
+  good-alike (inr h) (inl k) = absurd (none_fault k.0 (sym h.0 ∙ k.1))
+  good-alike (inr h) (inr k) = names-alike h.1 k.1
 
-  decompile-unique : DecompileCase form file names a → DecompileCase form file names b → a ≡ b
-  decompile-unique (inl h) (inl k) = h.1 ∙ sym k.1
-  decompile-unique (inl h) (inr k) = absurd (over (length file) elf_limit h.0 k.0)
-  decompile-unique (inr h) (inl k) = absurd (over (length file) elf_limit k.0 h.0)
-  decompile-unique (inr h) (inr k) = good-unique h.1 k.1
+  decompile-alike : DecompileCase form file names a → DecompileCase form file names b → without_walks a ≡ without_walks b
+  decompile-alike (inl h) (inl k) = ap without_walks (h.1 ∙ sym k.1)
+  decompile-alike (inl h) (inr k) = absurd (over (length file) elf_limit h.0 k.0)
+  decompile-alike (inr h) (inl k) = absurd (over (length file) elf_limit k.0 h.0)
+  decompile-alike (inr h) (inr k) = good-alike h.1 k.1
+
+-- ---- what a test comes to
+
+-- how many definitions an item has, in its group or in that as a tree
+defs-of : (i : Item) → length (group_tree i.group).defs ≡ length i.group.defs
+defs-of i = length-map i.group.defs def_tree
+
+-- two outcomes are the same but for the turns
+tests-alike : (number size : ℕ) (a b : SelfTestAnswer) → SelfTestGives number size a → SelfTestGives number size b → without_turns a ≡ without_turns b
+tests-alike number size a b (n, s, h) (m, t, k) =
+    let file = file_of number size in
+    let listed = told-once Alone file function_name h.item k.item h.is_item k.is_item in
+    let instructions : a.outcome.instructions ≡ b.outcome.instructions = h.instructions ∙ ap (λ (l : Listed). l.reached) listed ∙ sym k.instructions in
+    let defs : a.outcome.defs ≡ b.outcome.defs = h.defs ∙ sym (defs-of h.item) ∙ ap (λ (l : Listed). l.defs) listed ∙ defs-of k.item ∙ sym k.defs in
+    let ends = ends-once behind most_steps (begin number size) h.run.last k.run.last (end.Met a.outcome.steps) (end.Met b.outcome.steps) h.run.met k.run.met in
+    let steps : a.outcome.steps ≡ b.outcome.steps = met-steps-once a.outcome.steps b.outcome.steps ends.1 in
+    let value : a.outcome.value ≡ b.outcome.value = sym h.run.value ∙ ap (λ (l : State). l.reg 10) ends.0 ∙ k.run.value in
+    let numbers : a.number ≡ b.number = n ∙ sym m in
+    let sizes : a.size ≡ b.size = s ∙ sym t in
+    λ i. record { number = numbers i; size = sizes i; outcome = record { instructions = instructions i; defs = defs i; steps = steps i; turns = 0; value = value i } }
+  where
+    met-steps-once : (j k : ℕ) → (end.Met j) ≡ (end.Met k) → j ≡ k
+    met-steps-once j k e = cc
 
 -- ---- what is simplified
 
@@ -399,12 +430,12 @@ SimplifiedFirst (Some g) a = (steps : ℕ) × (a ≡ si.Simplified steps)
 abbrev SimplifySays : List ℕ → List GroupTree → SimplifyAnswer → Type 0
 SimplifySays name gs a = SimplifiedFirst (first_named name gs) a
 
-simplify-once : (name : List ℕ) (gs : List GroupTree) (a b : SimplifyAnswer) → IsRefusal b → SimplifySays name gs a → SimplifySays name gs b → a ≡ b
-simplify-once name gs a b once h k = of-first (first_named name gs) h k
+simplify-once : (name : List ℕ) (gs : List GroupTree) (a b : SimplifyAnswer) → SimplifySays name gs a → SimplifySays name gs b → without_steps a ≡ without_steps b
+simplify-once name gs a b h k = of-first (first_named name gs) h k
   where
-    of-first : (found : Option GroupTree) → SimplifiedFirst found a → SimplifiedFirst found b → a ≡ b
-    of-first None h k = h ∙ sym k
-    of-first (Some g) h k = absurd (subst IsRefusal k.1 once)
+    of-first : (found : Option GroupTree) → SimplifiedFirst found a → SimplifiedFirst found b → without_steps a ≡ without_steps b
+    of-first None h k = ap without_steps (h ∙ sym k)
+    of-first (Some g) h k = ap without_steps h.1 ∙ sym (ap without_steps k.1)
 
 abbrev SimplifyCase : List ℕ → List ℕ → SimplifyAnswer → Type 0
 SimplifyCase p name a =
@@ -418,11 +449,11 @@ simplify-case p name si.NoFunction (small, named) = inr (small, inr (inr (named-
 simplify-case p name (si.Simplified steps) (small, g, c, named, simplifies, count) =
     inr (small, inr (inr (named-case p name (Some g) (λ o. SimplifiedFirst o (si.Simplified steps)) named (steps, refl))))
 
-simplify-unique : (p name : List ℕ) (a b : SimplifyAnswer) → IsRefusal b → SimplifyCase p name a → SimplifyCase p name b → a ≡ b
-simplify-unique p name a b once (inl h) (inl k) = h.1 ∙ sym k.1
-simplify-unique p name a b once (inl h) (inr k) = absurd (over (length p) proof_limit h.0 k.0)
-simplify-unique p name a b once (inr h) (inl k) = absurd (over (length p) proof_limit k.0 h.0)
-simplify-unique p name a b once (inr h) (inr k) = text-once si.Unreadable si.IllFormed (SimplifySays name) IsRefusal (simplify-once name) p a b once h.1 k.1
+simplify-alike : (p name : List ℕ) (a b : SimplifyAnswer) → SimplifyCase p name a → SimplifyCase p name b → without_steps a ≡ without_steps b
+simplify-alike p name a b (inl h) (inl k) = ap without_steps (h.1 ∙ sym k.1)
+simplify-alike p name a b (inl h) (inr k) = absurd (over (length p) proof_limit h.0 k.0)
+simplify-alike p name a b (inr h) (inl k) = absurd (over (length p) proof_limit k.0 h.0)
+simplify-alike p name a b (inr h) (inr k) = text-once si.Unreadable si.IllFormed (SimplifySays name) without_steps (simplify-once name) p a b h.1 k.1
 
 -- ---- what is judged
 
@@ -466,11 +497,11 @@ cert-says-once (Some g) c a b (inr h) (inr k) = steps-once c a b h.1 k.1
 cert-there : (text : List ℕ) (c : CertTree) → IsCertText text c → InGrammar cert_texts text
 cert-there text c h = (c, h.0, h.1)
 
-laws-once : (text : List ℕ) (gs : List GroupTree) (a b : LawsAnswer) → Unit {0} → LawsSays text gs a → LawsSays text gs b → a ≡ b
-laws-once text gs a b once (inl (n, h, is)) (inl (m, k, this)) = is ∙ ap la.UnreadableCert (bad-once cert_texts text n m h k) ∙ sym this
-laws-once text gs a b once (inl (n, h, is)) (inr (c, k, more)) = absurd (not-bad cert_texts text n h (cert-there text c k))
-laws-once text gs a b once (inr (c, h, more)) (inl (m, k, this)) = absurd (not-bad cert_texts text m k (cert-there text c h))
-laws-once text gs a b once (inr (c, h, more)) (inr (d, k, others)) =
+laws-once : (text : List ℕ) (gs : List GroupTree) (a b : LawsAnswer) → LawsSays text gs a → LawsSays text gs b → a ≡ b
+laws-once text gs a b (inl (n, h, is)) (inl (m, k, this)) = is ∙ ap la.UnreadableCert (bad-once cert_texts text n m h k) ∙ sym this
+laws-once text gs a b (inl (n, h, is)) (inr (c, k, more)) = absurd (not-bad cert_texts text n h (cert-there text c k))
+laws-once text gs a b (inr (c, h, more)) (inl (m, k, this)) = absurd (not-bad cert_texts text m k (cert-there text c h))
+laws-once text gs a b (inr (c, h, more)) (inr (d, k, others)) =
     let same : c ≡ d = certs-once c d h.0 k.0 (sym h.1 ∙ k.1) in
     cert-says-once (first_named d.old.name gs) d a b (subst (λ (x : CertTree). CertSays (first_named x.old.name gs) x a) same more) others
 
@@ -533,7 +564,7 @@ cert-unique files cert file a b (text, held, h) (other, holds, k) =
     of-text t (inl h) (inl k) = h.1 ∙ sym k.1
     of-text t (inl h) (inr k) = absurd (over (length t) cert_limit h.0 k.0)
     of-text t (inr h) (inl k) = absurd (over (length t) cert_limit k.0 h.0)
-    of-text t (inr h) (inr k) = text-once la.Unreadable la.IllFormed (LawsSays t) (λ b. Unit {0}) (laws-once t) file a b tt h.1 k.1
+    of-text t (inr h) (inr k) = text-once la.Unreadable la.IllFormed (LawsSays t) (λ b. b) (laws-once t) file a b h.1 k.1
 
 laws-unique : (files : Contents) (cert file : List ℕ) (a b : LawsAnswer) → LawsCase files cert file a → LawsCase files cert file b → a ≡ b
 laws-unique files cert file a b (inl h) (inl k) = h.1 ∙ sym k.1
@@ -571,8 +602,8 @@ def-says-once (Some g) def a b (inr h) (inr k) = loop-says-once g def a b h.1 k.
 abbrev SmtSays : List ℕ → ℕ → List GroupTree → SmtAnswer → Type 0
 SmtSays name def gs a = DefSays (first_named name gs) def a
 
-smt-once : (name : List ℕ) (def : ℕ) (gs : List GroupTree) (a b : SmtAnswer) → Unit {0} → SmtSays name def gs a → SmtSays name def gs b → a ≡ b
-smt-once name def gs a b once h k = def-says-once (first_named name gs) def a b h k
+smt-once : (name : List ℕ) (def : ℕ) (gs : List GroupTree) (a b : SmtAnswer) → SmtSays name def gs a → SmtSays name def gs b → a ≡ b
+smt-once name def gs a b h k = def-says-once (first_named name gs) def a b h k
 
 abbrev SmtCase : List ℕ → List ℕ → ℕ → SmtAnswer → Type 0
 SmtCase p name def a =
@@ -595,7 +626,7 @@ smt-unique : (p name : List ℕ) (def : ℕ) (a b : SmtAnswer) → SmtCase p nam
 smt-unique p name def a b (inl h) (inl k) = h.1 ∙ sym k.1
 smt-unique p name def a b (inl h) (inr k) = absurd (over (length p) proof_limit h.0 k.0)
 smt-unique p name def a b (inr h) (inl k) = absurd (over (length p) proof_limit k.0 h.0)
-smt-unique p name def a b (inr h) (inr k) = text-once sm.Unreadable sm.IllFormed (SmtSays name def) (λ b. Unit {0}) (smt-once name def) p a b tt h.1 k.1
+smt-unique p name def a b (inr h) (inr k) = text-once sm.Unreadable sm.IllFormed (SmtSays name def) (λ b. b) (smt-once name def) p a b h.1 k.1
 
 -- the answer of a command, where the names hold these files
 abbrev CommandGives : Contents → Command → Answer → Type 0
@@ -603,140 +634,91 @@ CommandGives files (Eval proof name turns args) a = (x : EvalAnswer) × (a ≡ a
 CommandGives files (Run elf start until steps args) a = (x : RunAnswer) × (a ≡ answer.Run x) × ((p : List ℕ) × (files elf ≡ Some p) × RunGives p start until steps args x)
 CommandGives files (Check elf proof) a = (x : CheckAnswer) × (a ≡ answer.Check x) × ((p : List ℕ) × (files elf ≡ Some p) × CheckGives (Some files) proof p x)
 CommandGives files (Decompile form elf out names) a = (x : DecompileAnswer) × (a ≡ answer.Decompile x) × ((p : List ℕ) × (files elf ≡ Some p) × DecompileCase form p names x)
-CommandGives files (SelfTest number size) a = (x : SelfTestAnswer) × (a ≡ answer.SelfTest x)
+CommandGives files (SelfTest number size) a = (x : SelfTestAnswer) × (a ≡ answer.SelfTest x) × SelfTestGives number size x
 CommandGives files (Simplify proof name out) a = (x : SimplifyAnswer) × (a ≡ answer.Simplify x) × ((p : List ℕ) × (files proof ≡ Some p) × SimplifyCase p name x)
 CommandGives files (Laws proof cert) a = (x : LawsAnswer) × (a ≡ answer.Laws x) × ((p : List ℕ) × (files proof ≡ Some p) × LawsCase files cert p x)
 CommandGives files (Smt proof name def out) a = (x : SmtAnswer) × (a ≡ answer.Smt x) × ((p : List ℕ) × (files proof ≡ Some p) × SmtCase p name def x)
 CommandGives files (Migrate elf proof out) a = (x : MigrateAnswer) × (a ≡ answer.Migrate x) × ((p : List ℕ) × (files elf ≡ Some p) × MigrateCase files proof p x)
 
-command-unique : (files : Contents) (c : Command) (a b : Answer) → IsDetermined b → CommandGives files c a → CommandGives files c b → a ≡ b
-command-unique files (Eval proof name turns args) a b d (x, ax, (p, held, h)) (y, by, (q, holds, k)) =
+command-alike : (files : Contents) (c : Command) (a b : Answer) → CommandGives files c a → CommandGives files c b → Like a b
+command-alike files (Eval proof name turns args) a b (x, ax, (p, held, h)) (y, by, (q, holds, k)) =
     let same : p ≡ q = some_file p q (sym held ∙ holds) in
-    ax ∙ ap answer.Eval (file-unique q name turns args x y (file-case q name turns args x (subst (λ (r : List ℕ). EvalGives r name turns args x) same h)) (file-case q name turns args y k)) ∙ sym by
-command-unique files (Run elf start until steps gs) a b d (x, ax, (p, held, h)) (y, by, (q, holds, k)) =
+    ap determined
+    (ax ∙ ap answer.Eval (file-unique q name turns args x y (file-case q name turns args x (subst (λ (r : List ℕ). EvalGives r name turns args x) same h)) (file-case q name turns args y k)) ∙ sym by)
+command-alike files (Run elf start until steps gs) a b (x, ax, (p, held, h)) (y, by, (q, holds, k)) =
     let same : p ≡ q = some_file p q (sym held ∙ holds) in
-    ax ∙ ap answer.Run (run-unique q start until steps gs x y (run-case q start until steps gs x (subst (λ (r : List ℕ). RunGives r start until steps gs x) same h)) (run-case q start until steps gs y k)) ∙ sym by
-command-unique files (Check elf proof) a b d (x, ax, (p, held, h)) (y, by, (q, holds, k)) =
+    ap determined
+    (ax ∙ ap answer.Run (run-unique q start until steps gs x y (run-case q start until steps gs x (subst (λ (r : List ℕ). RunGives r start until steps gs x) same h)) (run-case q start until steps gs y k)) ∙ sym by)
+command-alike files (Check elf proof) a b (x, ax, (p, held, h)) (y, by, (q, holds, k)) =
     let same : p ≡ q = some_file p q (sym held ∙ holds) in
-    ax ∙ ap answer.Check (check-unique files proof q x y (check-case files proof q x (subst (λ (r : List ℕ). CheckGives (Some files) proof r x) same h)) (check-case files proof q y k)) ∙ sym by
-command-unique files (Decompile form elf out names) a b d (x, ax, (p, held, h)) (y, by, (q, holds, k)) =
+    ap determined
+    (ax ∙ ap answer.Check (check-unique files proof q x y (check-case files proof q x (subst (λ (r : List ℕ). CheckGives (Some files) proof r x) same h)) (check-case files proof q y k)) ∙ sym by)
+command-alike files (Decompile form elf out names) a b (x, ax, (p, held, h)) (y, by, (q, holds, k)) =
     let same : p ≡ q = some_file p q (sym held ∙ holds) in
-    ax ∙ ap answer.Decompile (decompile-unique form q names x y (subst IsDetermined by d) (subst (λ (r : List ℕ). DecompileCase form r names x) same h) k) ∙ sym by
-command-unique files (SelfTest number size) a b d (x, ax) (y, by) = absurd (subst IsDetermined by d)
-command-unique files (Simplify proof name out) a b d (x, ax, (p, held, h)) (y, by, (q, holds, k)) =
+    ap determined ax ∙ ap answer.Decompile (decompile-alike form q names x y (subst (λ (r : List ℕ). DecompileCase form r names x) same h) k) ∙ sym (ap determined by)
+command-alike files (SelfTest number size) a b (x, ax, h) (y, by, k) = ap determined ax ∙ ap answer.SelfTest (tests-alike number size x y h k) ∙ sym (ap determined by)
+command-alike files (Simplify proof name out) a b (x, ax, (p, held, h)) (y, by, (q, holds, k)) =
     let same : p ≡ q = some_file p q (sym held ∙ holds) in
-    ax ∙ ap answer.Simplify (simplify-unique q name x y (subst IsDetermined by d) (subst (λ (r : List ℕ). SimplifyCase r name x) same h) k) ∙ sym by
-command-unique files (Laws proof cert) a b d (x, ax, (p, held, h)) (y, by, (q, holds, k)) =
+    ap determined ax ∙ ap answer.Simplify (simplify-alike q name x y (subst (λ (r : List ℕ). SimplifyCase r name x) same h) k) ∙ sym (ap determined by)
+command-alike files (Laws proof cert) a b (x, ax, (p, held, h)) (y, by, (q, holds, k)) =
     let same : p ≡ q = some_file p q (sym held ∙ holds) in
-    ax ∙ ap answer.Laws (laws-unique files cert q x y (subst (λ (r : List ℕ). LawsCase files cert r x) same h) k) ∙ sym by
-command-unique files (Smt proof name def out) a b d (x, ax, (p, held, h)) (y, by, (q, holds, k)) =
+    ap determined (ax ∙ ap answer.Laws (laws-unique files cert q x y (subst (λ (r : List ℕ). LawsCase files cert r x) same h) k) ∙ sym by)
+command-alike files (Smt proof name def out) a b (x, ax, (p, held, h)) (y, by, (q, holds, k)) =
     let same : p ≡ q = some_file p q (sym held ∙ holds) in
-    ax ∙ ap answer.Smt (smt-unique q name def x y (subst (λ (r : List ℕ). SmtCase r name def x) same h) k) ∙ sym by
-command-unique files (Migrate elf proof out) a b d (x, ax, (p, held, h)) (y, by, (q, holds, k)) =
+    ap determined (ax ∙ ap answer.Smt (smt-unique q name def x y (subst (λ (r : List ℕ). SmtCase r name def x) same h) k) ∙ sym by)
+command-alike files (Migrate elf proof out) a b (x, ax, (p, held, h)) (y, by, (q, holds, k)) =
     let same : p ≡ q = some_file p q (sym held ∙ holds) in
-    ax ∙ ap answer.Migrate (migrate-unique files proof q x y (subst (λ (r : List ℕ). MigrateCase files proof r x) same h) k) ∙ sym by
+    ap determined (ax ∙ ap answer.Migrate (migrate-unique files proof q x y (subst (λ (r : List ℕ). MigrateCase files proof r x) same h) k) ∙ sym by)
 
 -- ---- answers
 
 abbrev WordsCase : Contents → List (List ℕ) → Answer → Type 0
 WordsCase files ws a = (IsNoCommand ws × (a ≡ answer.NotACommand)) ⊎ ((c : Command) × Words ws c × CommandGives files c a)
 
--- an answer that is no fault of the outside and no want of memory
-abbrev IsOfFiles : Answer → Type 0
-IsOfFiles answer.NotACommand = Unit {0}
-IsOfFiles answer.ReadFault = ⊥
-IsOfFiles answer.WriteFault = ⊥
-IsOfFiles answer.NoMemory = ⊥
-IsOfFiles (answer.Eval x) = Unit {0}
-IsOfFiles (answer.Run x) = Unit {0}
-IsOfFiles (answer.Check x) = Unit {0}
-IsOfFiles (answer.Decompile x) = Unit {0}
-IsOfFiles (answer.SelfTest x) = Unit {0}
-IsOfFiles (answer.Simplify x) = Unit {0}
-IsOfFiles (answer.Laws x) = Unit {0}
-IsOfFiles (answer.Smt x) = Unit {0}
-IsOfFiles (answer.Migrate x) = Unit {0}
+-- an answer is that of a command or says that there is none, but for faults of the outside and want of memory
+words-case : (files : Contents) (ws : List (List ℕ)) (rose wrote : Type 0) (a : Answer) → Gives (Some files) ws rose wrote a → WordsCase files ws a ⊎ IsHindered (status a)
+words-case files ws rose wrote answer.NotACommand h = inl (inl (h, refl))
+words-case files ws rose wrote answer.ReadFault h = inr (inl refl)
+words-case files ws rose wrote answer.WriteFault h = inr (inr (inl refl))
+words-case files ws rose wrote answer.NoMemory h = inr (inr (inr refl))
+words-case files ws rose wrote (answer.Eval x) (proof, name, turns, args, w, h) = inl (inr (Eval proof name turns args, w, (x, refl, h)))
+words-case files ws rose wrote (answer.Run x) (elf, start, until, steps, args, w, h) = inl (inr (Run elf start until steps args, w, (x, refl, h)))
+words-case files ws rose wrote (answer.Check x) (elf, proof, w, h) = inl (inr (Check elf proof, w, (x, refl, h)))
+words-case files ws rose wrote (answer.Decompile x) (form, elf, out, names, w, (file, held, h)) =
+    inl (inr (Decompile form elf out names, w, (x, refl, (file, held, decompile-case form file names x h))))
+words-case files ws rose wrote (answer.SelfTest x) (number, size, w, h) = inl (inr (SelfTest number size, w, (x, refl, h)))
+words-case files ws rose wrote (answer.Simplify x) (proof, name, out, w, (file, held, h)) = inl (inr (Simplify proof name out, w, (x, refl, (file, held, simplify-case file name x h))))
+words-case files ws rose wrote (answer.Laws x) (proof, cert, w, (file, held, h)) = inl (inr (Laws proof cert, w, (x, refl, (file, held, laws-case files cert file x h))))
+words-case files ws rose wrote (answer.Smt x) (proof, name, def, out, w, (file, held, h)) = inl (inr (Smt proof name def out, w, (x, refl, (file, held, smt-case file name def x h))))
+words-case files ws rose wrote (answer.Migrate x) (elf, proof, out, w, (file, held, h)) = inl (inr (Migrate elf proof out, w, (x, refl, (file, held, migrate-case files proof file x h))))
 
-words-case : (files : Contents) (ws : List (List ℕ)) (rose wrote : Type 0) (a : Answer) → IsOfFiles a → Gives (Some files) ws rose wrote a → WordsCase files ws a
-words-case files ws rose wrote answer.NotACommand d h = inl (h, refl)
-words-case files ws rose wrote answer.ReadFault d h = absurd d
-words-case files ws rose wrote answer.WriteFault d h = absurd d
-words-case files ws rose wrote answer.NoMemory d h = absurd d
-words-case files ws rose wrote (answer.Eval x) d (proof, name, turns, args, w, h) = inr (Eval proof name turns args, w, (x, refl, h))
-words-case files ws rose wrote (answer.Run x) d (elf, start, until, steps, args, w, h) = inr (Run elf start until steps args, w, (x, refl, h))
-words-case files ws rose wrote (answer.Check x) d (elf, proof, w, h) = inr (Check elf proof, w, (x, refl, h))
-words-case files ws rose wrote (answer.Decompile x) d (form, elf, out, names, w, (file, held, h)) = inr (Decompile form elf out names, w, (x, refl, (file, held, decompile-case form file names x h)))
-words-case files ws rose wrote (answer.SelfTest x) d (number, size, w, h) = inr (SelfTest number size, w, (x, refl))
-words-case files ws rose wrote (answer.Simplify x) d (proof, name, out, w, (file, held, h)) = inr (Simplify proof name out, w, (x, refl, (file, held, simplify-case file name x h)))
-words-case files ws rose wrote (answer.Laws x) d (proof, cert, w, (file, held, h)) = inr (Laws proof cert, w, (x, refl, (file, held, laws-case files cert file x h)))
-words-case files ws rose wrote (answer.Smt x) d (proof, name, def, out, w, (file, held, h)) = inr (Smt proof name def out, w, (x, refl, (file, held, smt-case file name def x h)))
-words-case files ws rose wrote (answer.Migrate x) d (elf, proof, out, w, (file, held, h)) = inr (Migrate elf proof out, w, (x, refl, (file, held, migrate-case files proof file x h)))
-
-determined : (a : Answer) → IsDetermined a → IsOfFiles a
-determined answer.NotACommand d = tt
-determined answer.ReadFault d = absurd d
-determined answer.WriteFault d = absurd d
-determined answer.NoMemory d = absurd d
-determined (answer.Eval x) d = tt
-determined (answer.Run x) d = tt
-determined (answer.Check x) d = tt
-determined (answer.Decompile x) d = tt
-determined (answer.SelfTest x) d = absurd d
-determined (answer.Simplify x) d = tt
-determined (answer.Laws x) d = tt
-determined (answer.Smt x) d = tt
-determined (answer.Migrate x) d = tt
-
-case-unique : (files : Contents) (ws : List (List ℕ)) (a b : Answer) → IsDetermined b → WordsCase files ws a → WordsCase files ws b → a ≡ b
-case-unique files ws a b d (inl h) (inl k) = h.1 ∙ sym k.1
-case-unique files ws a b d (inl h) (inr k) = absurd (h.0 k.0 k.1)
-case-unique files ws a b d (inr h) (inl k) = absurd (k.0 h.0 h.1)
-case-unique files ws a b d (inr h) (inr k) = command-unique files k.0 a b d (subst (λ (c : Command). CommandGives files c a) (words-unique ws h.0 k.0 h.1 k.1) h.2) k.2
-
--- an answer that comes in one way is the only one that the words and the files give
-answer-unique : (files : Contents) (ws : List (List ℕ)) (rose wrote : Type 0) (a b : Answer) → IsOfFiles a → IsDetermined b → Gives (Some files) ws rose wrote a → Gives (Some files) ws rose wrote b → a ≡ b
-answer-unique files ws rose wrote a b u d h k = case-unique files ws a b d (words-case files ws rose wrote a u h) (words-case files ws rose wrote b (determined b d) k)
+words-alike : (files : Contents) (ws : List (List ℕ)) (a b : Answer) → WordsCase files ws a → WordsCase files ws b → Like a b
+words-alike files ws a b (inl h) (inl k) = ap determined (h.1 ∙ sym k.1)
+words-alike files ws a b (inl h) (inr k) = absurd (h.0 k.0 k.1)
+words-alike files ws a b (inr h) (inl k) = absurd (k.0 h.0 h.1)
+words-alike files ws a b (inr h) (inr k) = command-alike files k.0 a b (subst (λ (c : Command). CommandGives files c a) (words-unique ws h.0 k.0 h.1 k.1) h.2) k.2
 
 -- ---- the top call
 
+-- an answer that is like the given one is printed, or one of the two statuses is that of a fault or of want of memory
 abbrev pub ComesBut : Answer → ℕ → Option (List ℕ) → Option (List ℕ) → Type 0
-ComesBut a result old new = IsPrinted a result old new ⊎ (result ≡ 4) ⊎ (result ≡ 5) ⊎ (result ≡ 6)
+ComesBut a result old new = ((b : Answer) × Like a b × IsPrinted b result old new) ⊎ (IsHindered (status a) ⊎ IsHindered result)
 
-comes : (a b : Answer) (result : ℕ) (failed : Type 0) (old new : Option (List ℕ)) → b ≡ a → IsDelivered b result failed old new → ComesBut a result old new
-comes a b result failed old new same (inl h) = inl (subst (λ (x : Answer). IsPrinted x result old new) same h)
-comes a b result failed old new same (inr (inl (e, f), h)) = inr (inr (inl e))
-comes a b result failed old new same (inr (inr e, h)) = inr (inr (inr e))
+module _ (files : Contents) (ws : List (List ℕ)) (a b : Answer) (result : ℕ) (old new : Option (List ℕ)) where
+  printed-exact : IsPrinted b result old new → WordsCase files ws a ⊎ IsHindered (status a) → WordsCase files ws b ⊎ IsHindered (status b) → ComesBut a result old new
+  printed-exact p (inr h) k = inr (inl h)
+  printed-exact p (inl h) (inr k) = inr (inr (subst IsHindered (sym p.0) k))
+  printed-exact p (inl h) (inl k) = inl (b, words-alike files ws a b h k, p)
 
-other-comes : (a b : Answer) (result : ℕ) (old new : Option (List ℕ)) → (result ≡ 4) ⊎ (result ≡ 5) ⊎ (result ≡ 6) → ComesBut a result old new
-other-comes a b result old new h = inr h
-
-delivered-exact : (files : Contents) (ws : List (List ℕ)) (rose wrote : Type 0) (b : Answer) (result : ℕ) (failed : Type 0) (old new : Option (List ℕ)) → Gives (Some files) ws rose wrote b → IsDelivered b result failed old new
-    → (a : Answer) → IsDetermined a → Gives (Some files) ws rose wrote a → ComesBut a result old new
-delivered-exact files ws rose wrote answer.ReadFault result failed old new g (inl h) a d k = inr (inl h.0)
-delivered-exact files ws rose wrote answer.ReadFault result failed old new g (inr (inl (e, f), h)) a d k = inr (inr (inl e))
-delivered-exact files ws rose wrote answer.ReadFault result failed old new g (inr (inr e, h)) a d k = inr (inr (inr e))
-delivered-exact files ws rose wrote answer.WriteFault result failed old new g (inl h) a d k = inr (inr (inl h.0))
-delivered-exact files ws rose wrote answer.WriteFault result failed old new g (inr (inl (e, f), h)) a d k = inr (inr (inl e))
-delivered-exact files ws rose wrote answer.WriteFault result failed old new g (inr (inr e, h)) a d k = inr (inr (inr e))
-delivered-exact files ws rose wrote answer.NoMemory result failed old new g (inl h) a d k = inr (inr (inr h.0))
-delivered-exact files ws rose wrote answer.NoMemory result failed old new g (inr (inl (e, f), h)) a d k = inr (inr (inl e))
-delivered-exact files ws rose wrote answer.NoMemory result failed old new g (inr (inr e, h)) a d k = inr (inr (inr e))
-delivered-exact files ws rose wrote answer.NotACommand result failed old new g h a d k = comes a answer.NotACommand result failed old new (answer-unique files ws rose wrote answer.NotACommand a tt d g k) h
-delivered-exact files ws rose wrote (answer.Eval x) result failed old new g h a d k = comes a (answer.Eval x) result failed old new (answer-unique files ws rose wrote (answer.Eval x) a tt d g k) h
-delivered-exact files ws rose wrote (answer.Run x) result failed old new g h a d k = comes a (answer.Run x) result failed old new (answer-unique files ws rose wrote (answer.Run x) a tt d g k) h
-delivered-exact files ws rose wrote (answer.Check x) result failed old new g h a d k = comes a (answer.Check x) result failed old new (answer-unique files ws rose wrote (answer.Check x) a tt d g k) h
-delivered-exact files ws rose wrote (answer.Decompile x) result failed old new g h a d k = comes a (answer.Decompile x) result failed old new (answer-unique files ws rose wrote (answer.Decompile x) a tt d g k) h
-delivered-exact files ws rose wrote (answer.SelfTest x) result failed old new g h a d k = comes a (answer.SelfTest x) result failed old new (answer-unique files ws rose wrote (answer.SelfTest x) a tt d g k) h
-delivered-exact files ws rose wrote (answer.Simplify x) result failed old new g h a d k = comes a (answer.Simplify x) result failed old new (answer-unique files ws rose wrote (answer.Simplify x) a tt d g k) h
-delivered-exact files ws rose wrote (answer.Laws x) result failed old new g h a d k = comes a (answer.Laws x) result failed old new (answer-unique files ws rose wrote (answer.Laws x) a tt d g k) h
-delivered-exact files ws rose wrote (answer.Smt x) result failed old new g h a d k = comes a (answer.Smt x) result failed old new (answer-unique files ws rose wrote (answer.Smt x) a tt d g k) h
-delivered-exact files ws rose wrote (answer.Migrate x) result failed old new g h a d k = comes a (answer.Migrate x) result failed old new (answer-unique files ws rose wrote (answer.Migrate x) a tt d g k) h
+  delivered-exact : (rose wrote failed : Type 0) → Gives (Some files) ws rose wrote b → IsDelivered b result failed old new → Gives (Some files) ws rose wrote a → ComesBut a result old new
+  delivered-exact rose wrote failed g (inl p) k = printed-exact p (words-case files ws rose wrote a k) (words-case files ws rose wrote b g)
+  delivered-exact rose wrote failed g (inr (inl (five, f), h)) k = inr (inr (inr (inl five)))
+  delivered-exact rose wrote failed g (inr (inr six, h)) k = inr (inr (inr (inr six)))
 
 pub exact-given : (told : Option Contents) (ws : List (List ℕ)) (rose wrote : Type 0) (b : Answer) (result : ℕ) (failed : Type 0) (old new : Option (List ℕ))
-    → Gives told ws rose wrote b → IsDelivered b result failed old new
-    → IfSome told (λ files. (a : Answer) → IsDetermined a → Gives (Some files) ws rose wrote a → ComesBut a result old new)
+    → Gives told ws rose wrote b → IsDelivered b result failed old new → IfSome told (λ files. (a : Answer) → Gives (Some files) ws rose wrote a → ComesBut a result old new)
 exact-given None ws rose wrote b result failed old new g h = tt
-exact-given (Some files) ws rose wrote b result failed old new g h = delivered-exact files ws rose wrote b result failed old new g h
+exact-given (Some files) ws rose wrote b result failed old new g h = λ a k. delivered-exact files ws a b result old new rose wrote failed g h k
 
 -- ---- what status 0 of `check` says
 

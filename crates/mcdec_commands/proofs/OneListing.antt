@@ -37,13 +37,14 @@ use Rattle.call_graph.specs.declared.fault.LinkWhy.TheVariants as link
 use Rattle.call_graph.proofs.OneCause.{one_cause}
 use Rattle.call_link.specs.Faults.{IsLinkFirst}
 use Rattle.call_link.specs.Faults as link_first
+use Rattle.mcdec_answers.specs.declared.answer.DecompileAnswer.TheVariants as de
 use Rattle.mcdec_words.specs.declared.command.Form.{Form}
 use Rattle.mcdec_words.specs.declared.command.Form.TheVariants.{Alone, Linked, Split}
 use Rattle.call_graph.specs.Functions.{AreFunctions}
 use Rattle.call_graph.specs.declared.function.Function.{Function}
 use Rattle.call_link.specs.Listing.{HaveDefs}
 use Rattle.stack_split.specs.Listing.{IsSplitItemFor}
-use Rattle.mcdec_commands.specs.DecompileAnswer.{IsFaultAlone, IsFaultIn, IsItemIn, IsRefusedIn, all_listed, listed_of}
+use Rattle.mcdec_commands.specs.DecompileAnswer.{IsFaultAlone, IsFaultIn, IsItemIn, IsRefusedIn, all_listed, listed_of, without_walks}
 use Rattle.mcdec_commands.proofs.Weighing.{AreWeighed, one-total, sizes-once, total}
 
 -- ---- what a name stands for
@@ -248,6 +249,34 @@ fault-once Alone file name why other u h k = alone-once file name why other u h 
 fault-once Linked file name why other u h k = links-once file name why other u (link-case file name why h) (link-case file name other k)
 fault-once Split file name why other u h k = alone-once file name why other u h k
 
+-- two refusals that differ at most in the walks that show two entries
+abbrev pub Alike : List ℕ → LinkWhy → LinkWhy → Type 0
+Alike name why other = without_walks (de.Refused name why) ≡ without_walks (de.Refused name other)
+
+-- a fault has one form, or is a cycle with two entries
+forms : (name : List ℕ) (why : LinkWhy) → HasOneForm why ⊎ (without_walks (de.Refused name why) ≡ de.Refused name (link.Outside (outside.TwoEntries [] [] [])))
+forms name (link.Outside outside.NoSuch) = inl tt
+forms name (link.Outside (outside.Ambiguous a b)) = inl tt
+forms name (link.Outside outside.TooLarge) = inl tt
+forms name (link.Outside (outside.OutsideCode a)) = inl tt
+forms name (link.Outside (outside.NotDecoded a w)) = inl tt
+forms name (link.Outside (outside.Environment a)) = inl tt
+forms name (link.Outside (outside.Call a)) = inl tt
+forms name (link.Outside (outside.JumpThrough a)) = inl tt
+forms name (link.Outside (outside.Misaligned a target)) = inl tt
+forms name (link.Outside (outside.TwoEntries cycle first second)) = inr refl
+forms name (link.Outside (outside.ManyExits a)) = inl tt
+forms name (link.Recursive a) = inl tt
+
+faults-alike : (form : Form) (file name told : List ℕ) (why other : LinkWhy) → IsFaultIn form file name why → IsFaultIn form file name other → Alike told why other
+faults-alike form file name told why other h k = of-forms (forms told why) (forms told other)
+  where
+    of-forms : HasOneForm why ⊎ (without_walks (de.Refused told why) ≡ de.Refused told (link.Outside (outside.TwoEntries [] [] [])))
+        → HasOneForm other ⊎ (without_walks (de.Refused told other) ≡ de.Refused told (link.Outside (outside.TwoEntries [] [] []))) → Alike told why other
+    of-forms e (inl u) = ap (λ (w : LinkWhy). without_walks (de.Refused told w)) (fault-once form file name why other u h k)
+    of-forms (inl u) (inr e) = sym (ap (λ (w : LinkWhy). without_walks (de.Refused told w)) (fault-once form file name other why u k h))
+    of-forms (inr e) (inr d) = e ∙ sym d
+
 no-fault : (file name : List ℕ) → IsInFragment file name → (why : LinkWhy) → IsFaultAlone file name why → ⊥
 no-fault file name inside (link.Outside why) f = inside why f
 no-fault file name inside (link.Recursive a) f = absurd f
@@ -286,7 +315,8 @@ linked-defs-long code e fs gs ds es are too h k =
     ∙ one-total code e IsDefCount one-count fs gs (counted fs h.rows) (counted gs k.rows) are too (are-counted code e fs h.rows h.each) (are-counted code e gs k.rows k.each)
     ∙ sym (count-all gs k.rows k.each) ∙ sym (ap length k.all)
 
-told-once : (form : Form) (file name : List ℕ) (i j : Item) → IsItemIn form file name i → IsItemIn form file name j → listed_of name i ≡ listed_of name j
+-- what is told of an item is told once
+pub told-once : (form : Form) (file name : List ℕ) (i j : Item) → IsItemIn form file name i → IsItemIn form file name j → listed_of name i ≡ listed_of name j
 told-once Alone file name i j h k = listed-once file name i j (alone-tells file name i h) (alone-tells file name j k)
 told-once Split file name i j h k = listed-once file name i j (split-tells file name i h) (split-tells file name j k)
 told-once Linked file name i j h k =
@@ -329,9 +359,9 @@ module _ (form : Form) (file : List ℕ) (names : List (List ℕ)) where
   not-before : (n m : ℕ) (why other : LinkWhy) → IsRefusedIn form file names n why → IsRefusedIn form file names m other → n < m → ⊥
   not-before n m why other r s lt = let i = s.before n r.name lt r.at in item-inside form file r.name i.0 i.1 why r.first
 
-  pub refused-once : (n m : ℕ) (why other : LinkWhy) → HasOneForm other → (r : IsRefusedIn form file names n why) → (s : IsRefusedIn form file names m other) → (n ≡ m) × (why ≡ other)
-  refused-once n m why other u r s =
+  pub refused-once : (n m : ℕ) (why other : LinkWhy) → (r : IsRefusedIn form file names n why) → (s : IsRefusedIn form file names m other) → (n ≡ m) × ((name : List ℕ) → Alike name why other)
+  refused-once n m why other r s =
       let number : n ≡ m = omega (arith, not-before n m why other r s, not-before m n other why s r) in
       let some : Some r.name ≡ Some s.name = sym r.at ∙ ap (λ k. slice_get names k) number ∙ s.at in
       let name : r.name ≡ s.name = cc in
-      (number, fault-once form file s.name why other u (subst (λ x. IsFaultIn form file x why) name r.first) s.first)
+      (number, λ n. faults-alike form file s.name n why other (subst (λ x. IsFaultIn form file x why) name r.first) s.first)

@@ -1,5 +1,5 @@
 -- What is answered to a list of words, where the names hold these files.
-use Rattle.std.specs.Prelude.{◌≡◌, ◌≢◌, ℕ, List, [], All, Option, Some, None}
+use Rattle.std.specs.Prelude.{◌≡◌, ◌≢◌, ◌⊎◌, ℕ, List, [], All, Option, Some, None}
 use Rattle.mc_shelf.specs.Shelf.{Contents, TellsName}
 use Rattle.mcdec_answers.specs.declared.answer.Answer.{Answer}
 use Rattle.mcdec_answers.specs.declared.answer.Answer.TheVariants as answer
@@ -8,10 +8,10 @@ use Rattle.mcdec_words.specs.declared.command.Form.{Form}
 use Rattle.mcdec_commands.specs.Held.{HoldsWith}
 use Rattle.mcdec_commands.specs.EvalAnswer.{EvalGives}
 use Rattle.mcdec_commands.specs.CheckAnswer.{CheckGives}
-use Rattle.mcdec_commands.specs.DecompileAnswer.{DecompileGives, IsToldOnce}
-use Rattle.mcdec_commands.specs.SelfTestAnswer.{SelfTestGives}
+use Rattle.mcdec_commands.specs.DecompileAnswer.{DecompileGives, without_walks}
+use Rattle.mcdec_commands.specs.SelfTestAnswer.{SelfTestGives, without_turns}
 use Rattle.mcdec_commands.specs.RunAnswer.{RunGives}
-use Rattle.mcdec_commands.specs.SimplifyAnswer.{IsRefusal, SimplifyGives}
+use Rattle.mcdec_commands.specs.SimplifyAnswer.{SimplifyGives, without_steps}
 use Rattle.mcdec_commands.specs.LawsAnswer.{LawsGives}
 use Rattle.mcdec_commands.specs.SmtAnswer.{SmtGives}
 use Rattle.mcdec_commands.specs.MigrateAnswer.{MigrateGives}
@@ -51,21 +51,20 @@ Gives told ws rose wrote (answer.Migrate a) =
 
 -- ---- the contract of the top call
 
--- An answer that is given by the words and the files alone. How many turns an evaluation takes depends on how the function is made.
-abbrev pub IsDetermined : Answer → Type 0
-IsDetermined answer.NotACommand = Unit {0}
-IsDetermined answer.ReadFault = ⊥
-IsDetermined answer.WriteFault = ⊥
-IsDetermined answer.NoMemory = ⊥
-IsDetermined (answer.Eval a) = Unit {0}
-IsDetermined (answer.Run a) = Unit {0}
-IsDetermined (answer.Check a) = Unit {0}
-IsDetermined (answer.Decompile a) = IsToldOnce a
-IsDetermined (answer.SelfTest a) = ⊥
-IsDetermined (answer.Simplify a) = IsRefusal a
-IsDetermined (answer.Laws a) = Unit {0}
-IsDetermined (answer.Smt a) = Unit {0}
-IsDetermined (answer.Migrate a) = Unit {0}
+-- an answer without what the words and the files leave open in it
+abbrev pub determined : Answer → Answer
+determined (answer.Decompile a) = answer.Decompile (without_walks a)
+determined (answer.SelfTest a) = answer.SelfTest (without_turns a)
+determined (answer.Simplify a) = answer.Simplify (without_steps a)
+determined a = a
+
+-- two answers that differ in nothing else
+abbrev pub Like : Answer → Answer → Type 0
+Like a b = determined a ≡ determined b
+
+-- the status of a fault of the outside or of want of memory
+abbrev pub IsHindered : ℕ → Type 0
+IsHindered status = (status ≡ 4) ⊎ ((status ≡ 5) ⊎ (status ≡ 6))
 
 -- each file that the words' command reads is there
 abbrev pub ReadsAreTold : Option Contents → List (List ℕ) → Type 0

@@ -3,7 +3,7 @@ use Rattle.std.specs.Prelude.{◌≡◌, ℕ, ◌<◌, ◌≤◌, List, [], ◌�
 use Rattle.std.specs.List.{AllZip}
 use Rattle.mc_shelf.specs.Shelf.{Contents}
 use Rattle.elf_image.specs.Fault.{fault_of}
-use Rattle.call_graph.specs.Causes.{HasOneForm}
+use Rattle.flow_graph.specs.declared.outside.Outside.TheVariants.{TwoEntries}
 use Rattle.tailrec_lang.specs.Tree.{group_tree, listed_def}
 use Rattle.group_text.specs.Version.{Version, version_1, version_3, version_4}
 use Rattle.proof_text.specs.Proofs.{text_of_proofs_in}
@@ -81,12 +81,10 @@ DecompileGives form file names (answer.Refused name why) = IsLoaded file × (num
 DecompileGives form file names (answer.Decompiled told listed) =
     (told ≡ form) × IsLoaded file × (proof : Proof) × AreItemsIn form file names proof × (listed ≡ all_listed names proof.items)
 
--- What is told in one way alone. Two entries may be shown by several cycles and walks.
-abbrev pub IsToldOnce : DecompileAnswer → Type 0
-IsToldOnce answer.OverLimit = Unit {0}
-IsToldOnce (answer.Unreadable why) = Unit {0}
-IsToldOnce (answer.Refused name why) = HasOneForm why
-IsToldOnce (answer.Decompiled form listed) = Unit {0}
+-- The answer without the walks that show a cycle with two entries: there may be other walks, and other cycles.
+abbrev pub without_walks : DecompileAnswer → DecompileAnswer
+without_walks (answer.Refused name (link.Outside (TwoEntries cycle first second))) = answer.Refused name (link.Outside (TwoEntries [] [] []))
+without_walks a = a
 
 -- ---- the text that it writes
 

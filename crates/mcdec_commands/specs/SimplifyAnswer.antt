@@ -29,10 +29,10 @@ SimplifyGives file name answer.NoFunction = (length file ≤ proof_limit) × IsN
 SimplifyGives file name (answer.Simplified steps) =
     (length file ≤ proof_limit) × (g : GroupTree) × (c : CertTree) × IsNamed file name (Some g) × Simplifies g c × (steps ≡ length c.steps)
 
--- An answer that the words and the file alone give. How many steps simplify a group depends on their order.
-abbrev pub IsRefusal : SimplifyAnswer → Type 0
-IsRefusal (answer.Simplified steps) = ⊥
-IsRefusal _ = Unit {0}
+-- The answer without the number of steps: how many simplify a group depends on their order.
+abbrev pub without_steps : SimplifyAnswer → SimplifyAnswer
+without_steps (answer.Simplified steps) = answer.Simplified 0
+without_steps a = a
 
 -- The text of a certificate that simplifies the first group of the name, where the name PROOF holds a file. The answer tells how many steps
 -- the certificate has.

@@ -2,7 +2,7 @@
 
 ghost use Rattle.std.specs.Prelude.{◌≡◌, ℕ, ◌≤◌, ◌⊎◌, List, [], ◌∷◌, Some, IfSome, codes};
 ghost use Rattle.mc_shelf.specs.Fault.{Rose, WhereTold};
-ghost use Rattle.mcdec_commands.specs.Answer.{Gives, IsDetermined, KeepsNames, ReadsAreTold};
+ghost use Rattle.mcdec_commands.specs.Answer.{Gives, IsHindered, KeepsNames, Like, ReadsAreTold};
 ghost use Rattle.mcdec_commands.specs.CheckAnswer.{AreRightFiles};
 ghost use Rattle.mcdec_commands.specs.LawsAnswer.{CarriesOver};
 ghost use Rattle.mcdec_words.specs.Command.{Command as CommandOf, Words, output_of, texts};
@@ -41,16 +41,15 @@ pub fn run_words<S: Shelf, O: Sink>(
         × IsDelivered a result (Rose (O.faults out.old) (O.faults out.new))
         (O.written out.old) (O.written out.new) }
 
-    // An answer that the words and the files give comes, but for faults of the outside and want of
-    // memory.
+    // An answer that the words and the files give comes, or one that differs only in what they
+    // leave open, but for faults of the outside and want of memory.
     ensures exact { IfSome (S.contents shelf.old) (λ files.
         (a : AnswerOf)
-        → IsDetermined a
         → Gives (Some files) (texts words.now)
         (Rose (S.read_faults shelf.old) (S.read_faults shelf.new))
         (Rose (S.write_faults shelf.old) (S.write_faults shelf.new)) a
-        → IsPrinted a result (O.written out.old) (O.written out.new) ⊎ (result ≡ 4) ⊎ (result ≡ 5)
-        ⊎ (result ≡ 6)) }
+        → ((b : AnswerOf) × Like a b × IsPrinted b result (O.written out.old) (O.written out.new))
+        ⊎ IsHindered (status a) ⊎ IsHindered result) }
 
     // Where `check` ends with status 0, the functions of the proof file are right of the ELF file.
     ensures headline { IfSome (S.contents shelf.old) (λ files.
