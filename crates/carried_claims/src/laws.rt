@@ -48,8 +48,8 @@ pub fn law_of_rewritten_functions()
         (with_defs g es) }
 {}
 
-/// Where a script tells the evaluation of a group's function, from which no loop is reached, it tells
-/// what the machine does, as far as that is claimed of the function.
+/// Where a script tells the evaluation of a group's function, from which no loop is reached, it
+/// tells what the machine does, as far as that is claimed of the function.
 pub fn law_of_exported_functions()
     ensures { (g : GroupTree) (funs : List FunTree)
         → IsWellFormed g

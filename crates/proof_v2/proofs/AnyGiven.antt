@@ -64,7 +64,6 @@ gives-some g l old new given = λ k ps p h e. let x = given k ps p h e in (x.0, 
 
 -- ---- lines that state whole triples
 
-
 -- a line that states a whole triple is so, in each version that has such lines
 abbrev IsTreeSo : ((k : Known) → List (any_lines k).Line → Type 0) → LineTree → Type 0
 IsTreeSo Are t = Are One (t ∷ []) × Are Three (t ∷ []) × Are Four (t ∷ [])

@@ -118,12 +118,7 @@ impl<'a> AnyReader<'a> {
             self.new) }
     {
         if is_short(self.version) {
-            short_line(
-                alloc,
-                &mut self.reader,
-                &mut self.lines,
-                group,
-            )
+            short_line(alloc, &mut self.reader, &mut self.lines, group)
         } else {
             whole_line(alloc, &mut self.reader, &self.lines, group)
         }
@@ -148,19 +143,14 @@ impl<'a> AnyReader<'a> {
             self.new) }
     {
         if is_short(self.version) {
-            pass_short(
-                alloc,
-                &mut self.reader,
-                &mut self.lines,
-                group,
-            )
+            pass_short(alloc, &mut self.reader, &mut self.lines, group)
         } else {
             pass_whole(alloc, &mut self.reader, &self.lines, group)
         }
     }
 
-    /// The terms of the last group's table that were read, by their numbers. Only texts of version 2
-    /// have them, and there the first call for a line of a proof reads all.
+    /// The terms of the last group's table that were read, by their numbers. Only texts of version
+    /// 2 have them, and there the first call for a line of a proof reads all.
     pub fn table(&self) -> &[Node]
         ensures { (k : Known) (ps : Items (AnyProof k))
             → HasGivenAny k ps self.now
