@@ -1,7 +1,8 @@
 -- What a group of linked functions lists.
-use Rattle.std.proofs.Common.{◌≡◌, ℕ, suc, ◌+◌, ◌≤◌, Bool, true, false, ◌||◌, List, [], ◌∷◌, ◌++◌, map, refl, sym, ap, arith, subst, Some, ◌⊎◌}
+use Rattle.std.proofs.Common.{◌≡◌, ℕ, suc, ◌+◌, ◌≤◌, Bool, true, false, ◌||◌, List, [], ◌∷◌, ◌++◌, map, length, get_or, refl, sym, ap, arith, subst, Some, ◌⊎◌, ◌-◌, ◌∙◌}
 use Rattle.std.specs.Prelude.{◌↔◌}
-use Rattle.std.specs.List.{AllZip, Contains, flat_map, list_any}
+use Rattle.std.specs.List.{AllZip, Contains, flat_map, list_any, sum_by}
+use Rattle.std.proofs.lemmas.List.Sums.{sum_by-cons}
 use Rattle.rv_words.specs.Bytes.{AreBytes, Bytes}
 use Rattle.rv_words.specs.Ranges.{range_bytes}
 use Rattle.rv_decode.specs.declared.instruction.Instr.{Instr}
@@ -10,23 +11,27 @@ use Rattle.instr_axioms.specs.Axiom.{is_own}
 use Rattle.instr_axioms.specs.Terms.{has_memory}
 use Rattle.flow_graph.specs.Flow.{Next}
 use Rattle.flow_graph.specs.Walks.{Reaches}
-use Rattle.call_graph.specs.Functions.{AreFunctions}
+use Rattle.loop_forest.specs.Forest.{number_of}
+use Rattle.call_graph.specs.Functions.{AreFunctions, entries_of, size_of}
 use Rattle.call_graph.specs.declared.function.Function.{Function}
+use Rattle.code_parts.specs.declared.callee.Callee.{Callee}
 use Rattle.code_parts.specs.Bodies.{part_def}
 use Rattle.code_parts.specs.Flows.{HaveCode, setting_of}
-use Rattle.code_parts.specs.Members.{defs_of, flow_at}
+use Rattle.code_parts.specs.Members.{Member, defs_of, flow_at}
 use Rattle.code_parts.proofs.CodeOf.{have_bytes}
+use Rattle.code_parts.proofs.Lists.{length-map}
 use Rattle.linked_group.specs.Groups.{AreSomeFunctions, IsLinkedGroup, functions_of, group_in, is_register_of, load_or_store, member_in, members_of, setting_in}
 use Rattle.linked_group.specs.declared.group.LinkedFunction.{LinkedFunction}
 use Rattle.linked_group.specs.declared.group.LinkedGroup.{LinkedGroup}
 use Rattle.linked_group.proofs.Joining.{reached-by}
 use Rattle.linked_group.proofs.Lists.{any-of, in-map, out-map}
 use Rattle.linked_group.proofs.Settings.{order-of, reached-of, linked-of, within-code}
-use Rattle.linked_group.proofs.Together.{entered-at-entry}
-use Rattle.decompiler.specs.Listing.{HasDefs, IsCodeIn, IsInstructionIn, IsUsedIn, UsesMemoryIn}
+use Rattle.linked_group.proofs.Together.{entered-at-entry, members-are}
+use Rattle.decompiler.specs.Listing.{AreDefsOf, HasDefs, IsCodeIn, IsInstructionIn, IsMemberOf, IsUsedIn, UsesMemoryIn}
 use Rattle.decompiler.proofs.CodeListed.{access_back, access_there, byte_back, byte_there, memory_by, registers_by, used_back, used_there}
+use Rattle.decompiler.proofs.Definitions.{parts-once}
 use Rattle.decompiler.proofs.PartsListed.{defs_are}
-use Rattle.call_link.specs.Listing.{HaveDefs, IsLinkedCode, ListsLinked}
+use Rattle.call_link.specs.Listing.{AreEntries, HaveDefs, InFirstMemory, IsLinkedCode, ListsLinked}
 
 any-in : {A : Type 0} (p : A → Bool) (xs : List A) → list_any p xs ≡ true → (x : A) × Contains xs x × (p x ≡ true)
 any-in p [] e = absurd (cc)
@@ -120,7 +125,7 @@ module _ (code : Bytes) (e : ℕ) (bytes : AreBytes code) (s : LinkedGroup) (are
   abbrev row_of : LinkedFunction → List DefTree
   row_of f = map (part_def (flow_at (member_in s f))) f.parts
 
-  rows-each : (fs : List LinkedFunction) → ((f : LinkedFunction) → Contains fs f → HasDefs f.function.now.graph (row_of f)) → AllZip (λ (f : Function) (row : List DefTree). HasDefs f.graph row) (map (λ f. f.function.now) fs) (map row_of fs)
+  rows-each : (fs : List LinkedFunction) → ((f : LinkedFunction) → Contains fs f → HasDefs f.function.now.graph (row_of f)) → AllZip (λ (m : Member) (row : List DefTree). HasDefs m.graph row) (map (member_in s) fs) (map row_of fs)
   rows-each [] each = tt
   rows-each (f ∷ fs) each = (each f (0, omega arith, refl), rows-each fs (λ g c. each g (suc c.0, (let lt = c.1 in omega (arith, lt)), c.2)))
 
@@ -128,14 +133,14 @@ module _ (code : Bytes) (e : ℕ) (bytes : AreBytes code) (s : LinkedGroup) (are
   rows-all [] = refl
   rows-all (f ∷ fs) = ap (λ (ds : List DefTree). row_of f ++ ds) (rows-all fs)
 
-  pub defs-listed : HaveDefs (functions_of s) (defs_of (members_of s))
+  pub defs-listed : HaveDefs (members_of s) (defs_of (members_of s))
   defs-listed = record {
     rows = map row_of s.functions;
     each = rows-each s.functions (λ f c. defs_are true f.function.now.graph (reached-of code e bytes s are is f c) f.function.now.forest (linked-of code e bytes s are is f c).forest (setting_of (setting_in s f)) (order-of code e bytes s are is f c));
     all = rows-all s.functions;
   }
 
-  pub lists-linked : (name : List ℕ) → ListsLinked code e (functions_of s) name (group_in s name)
+  pub lists-linked : (name : List ℕ) → ListsLinked code e (members_of s) name (group_in s name)
   lists-linked name = record {
     named = refl;
     entry = entered-at-entry code e bytes s are is name;
@@ -144,3 +149,51 @@ module _ (code : Bytes) (e : ℕ) (bytes : AreBytes code) (s : LinkedGroup) (are
     memory = memory-listed;
     defs = defs-listed;
   }
+
+  -- ---- each function by its entry, its graph and its definitions
+
+  entries-in : (fs : List LinkedFunction) → map (λ (m : Member). m.at) (map (member_in s) fs) ≡ entries_of (map (λ f. f.function.now) fs)
+  entries-in [] = refl
+  entries-in (f ∷ fs) = ap (λ (xs : List ℕ). f.function.now.entry ∷ xs) (entries-in fs)
+
+  pub entries-listed : AreEntries code e (map (λ (m : Member). m.at) (members_of s))
+  entries-listed = subst (AreEntries code e) (sym (entries-in s.functions)) (record {
+    functions = are.functions;
+    before = λ j k l m calls. let long = length-map (λ (f : Function). f.entry) (functions_of s) in are.before j k (omega (arith, l, long)) (omega (arith, m, long)) calls;
+    last = ap (λ (n : ℕ). get_or (entries_of (functions_of s)) (n - 1) 0) (length-map (λ (f : Function). f.entry) (functions_of s)) ∙ are.last;
+  })
+
+  sizes-in : (fs : List LinkedFunction) → sum_by size_of (map (λ f. f.function.now) fs) ≡ sum_by (λ (m : Member). length m.graph.addrs) (map (member_in s) fs)
+  sizes-in [] = refl
+  sizes-in (f ∷ fs) =
+      sum_by-cons size_of f.function.now (map (λ (f : LinkedFunction). f.function.now) fs) ∙ ap (λ (n : ℕ). length f.function.now.graph.addrs + n) (sizes-in fs)
+      ∙ sym (sum_by-cons (λ (m : Member). length m.graph.addrs) (member_in s f) (map (member_in s) fs))
+
+  pub sizes-listed : sum_by size_of (functions_of s) ≡ sum_by (λ (m : Member). length m.graph.addrs) (members_of s)
+  sizes-listed = sizes-in s.functions
+
+  member-listed : (name : List ℕ) (f : LinkedFunction) → Contains s.functions f → IsMemberOf true InFirstMemory code (group_in s name) (member_in s f)
+  member-listed name f c =
+      let linked = linked-of code e bytes s are is f c in
+      let order = order-of code e bytes s are is f c in
+      record {
+        graph = linked.graph;
+        forest = linked.forest;
+        parts = order.all;
+        once = parts-once (flow_at (member_in s f)) (number_of f.function.now.forest) f.parts order;
+        regs = refl;
+        mems = refl;
+        uses = λ n lt. refl;
+      }
+
+  pub defs-made : (name : List ℕ) → AreDefsOf true InFirstMemory code (members_of s) (group_in s name)
+  defs-made name =
+      let all = members-are code e bytes s are is name in
+      record {
+        each = λ m c. let r = out-map (member_in s) s.functions m c in subst (IsMemberOf true InFirstMemory code (group_in s name)) r.2 (member-listed name r.0 r.1);
+        based = is.based;
+        called = λ m n t c node calls.
+            let y = all.2.called m n t c node calls in
+            (y.0, y.1, ap (λ (z : Callee). z.entry) (sym y.2) ∙ (all.2.each m c).fits.functions t, y.2);
+        defs = refl;
+      }

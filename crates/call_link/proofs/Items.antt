@@ -1,5 +1,5 @@
 -- The item of a name, of all functions that calls lead to from its address.
-use Rattle.std.proofs.Common.{◌≡◌, ℕ, suc, ◌+◌, ◌-◌, ◌≤◌, Bool, true, false, cond, List, [], ◌∷◌, ◌++◌, map, length, get_or, Result, Ok, Err, refl, sym, arith, subst}
+use Rattle.std.proofs.Common.{◌≡◌, ℕ, suc, ◌+◌, ◌-◌, ◌≤◌, Bool, true, false, cond, List, [], ◌∷◌, ◌++◌, map, length, get_or, Result, Ok, Err, refl, sym, arith, subst, ◌∙◌}
 use Rattle.std.specs.List.{AllByRecursion, Contains}
 use Rattle.rv_words.specs.Bytes.{AreBytes}
 use Rattle.elf_image.specs.Image.{code_of_file}
@@ -35,6 +35,7 @@ use Rattle.path_walk.specs.declared.item.Item.{Item}
 use Rattle.path_walk.specs.Closed.{AreClosedIn}
 use Rattle.path_walk.specs.Linked.{IsLinkedItem}
 use Rattle.path_walk.proofs.PartLimits.{part-printed}
+use Rattle.decompiler.specs.Listing.{AreDefsOf}
 use Rattle.decompiler.specs.Names.{StandsFor}
 use Rattle.decompiler.specs.inner.Functions.{outside_of}
 use Rattle.decompiler.proofs.CodeListed.{ranges_small}
@@ -42,7 +43,7 @@ use Rattle.decompiler.proofs.Fragment.{stands_once}
 use Rattle.call_link.specs.Faults.{CanBeLinked, IsLinkFirst, Missing, Doubled, InFunctions}
 use Rattle.call_link.specs.Listing.{IsLinkedItemFor, ListsLinked, InFirstMemory}
 use Rattle.call_link.specs.inner.Functions.{IsNoLinkedItem}
-use Rattle.call_link.proofs.InFunctions.{lists-linked}
+use Rattle.call_link.proofs.InFunctions.{defs-made, entries-listed, lists-linked, sizes-listed}
 use Rattle.group_text.specs.declared.version.Version.TheVariants.{Three}
 
 -- ---- faults
@@ -125,10 +126,11 @@ linked-is file name e s item stands named bytes are group is = record {
   entry = e;
   stands = stands;
   inside = can-be-linked file name e s stands are;
-  functions = functions_of s;
-  are = are;
-  reached = is.reached;
-  lists = subst (ListsLinked (code_of_file file) e (functions_of s) name) (sym is.group) (lists-linked (code_of_file file) e bytes s are group name);
+  functions = members_of s;
+  are = entries-listed (code_of_file file) e bytes s are group;
+  reached = is.reached ∙ sizes-listed (code_of_file file) e bytes s are group;
+  lists = subst (ListsLinked (code_of_file file) e (members_of s) name) (sym is.group) (lists-linked (code_of_file file) e bytes s are group name);
+  made = subst (AreDefsOf true InFirstMemory (code_of_file file) (members_of s)) (sym is.group) (defs-made (code_of_file file) e bytes s are group name);
   accepted = subst (λ (t : GroupTree). IsAcceptedBy IsSteered file (record { group = t; lines = map line_tree item.lines })) (sym is.group)
       (accepted-linked file name e bytes s are group (map line_tree item.lines) (subst (λ (t : GroupTree). AreClosedIn Three t (map line_tree item.lines)) is.group is.lines));
   exact = exact-of (RunsBack InFirstMemory) file (group_tree item.group) gains;

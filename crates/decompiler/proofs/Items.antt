@@ -32,8 +32,9 @@ use Rattle.path_walk.proofs.Texts.{is-group}
 use Rattle.code_parts.proofs.Groups.{group-formed}
 use Rattle.code_parts.proofs.Lists.{length-map}
 use Rattle.decompiler.specs.Names.{StandsFor}
-use Rattle.decompiler.specs.Listing.{IsItemFor, Lists}
+use Rattle.decompiler.specs.Listing.{AreDefsAlone, IsItemFor, Lists}
 use Rattle.decompiler.proofs.CodeListed.{bytes_are, memory_is, ranges_small, registers_are}
+use Rattle.decompiler.proofs.Definitions.{defs_alone}
 use Rattle.decompiler.proofs.Fragment.{in_fragment}
 use Rattle.decompiler.proofs.PartsListed.{defs_are}
 
@@ -65,6 +66,9 @@ module _ (file name : List ℕ) (e : ℕ) (g : GraphOf) (f : ForestOf) (bytes : 
       defs = defs_are false g (record { code = code_of_file file; entry = e; bytes = bytes; is = graph }) f forest (alone g parts) order;
     }
 
+    pub made_it : AreDefsAlone (λ a q. q ≡ 0) (code_of_file file) e g (group_of (flow_of g f (alone g parts)) name ranges parts)
+    made_it = defs_alone (λ a q. q ≡ 0) (code_of_file file) e g f (alone g parts) (group_of (flow_of g f (alone g parts)) name ranges parts) graph forest order refl refl refl (λ n lt. refl) refl
+
     pub accepted_it : (lines : List LineTree) → AreClosedBy (group_of (flow_of g f (alone g parts)) name ranges parts) lines → IsAccepted file (record { group = group_of (flow_of g f (alone g parts)) name ranges parts; lines = lines })
     accepted_it lines closed =
         let last = last-is false (code_of_file file) e g f (alone g parts) graph forest order in
@@ -93,6 +97,7 @@ item_is file name e g f item stands named bytes graph forest is = record {
   reach = graph;
   reached = is.reached;
   lists = subst (Lists (code_of_file file) e g name) (sym is.group) (lists_it file name e g f bytes graph forest is.parts is.ordered item.group.code.ranges is.code);
+  made = subst (AreDefsAlone (λ a q. q ≡ 0) (code_of_file file) e g) (sym is.group) (made_it file name e g f bytes graph forest is.parts is.ordered item.group.code.ranges is.code);
   accepted = subst (λ (t : GroupTree). IsAccepted file (record { group = t; lines = map line_tree item.lines })) (sym is.group)
       (accepted_it file name e g f bytes graph forest is.parts is.ordered item.group.code.ranges is.code (map line_tree item.lines) (subst (λ (t : GroupTree). AreClosedBy t (map line_tree item.lines)) is.group is.lines));
   exact = exact-of FirstReturns file (group_tree item.group) gains;

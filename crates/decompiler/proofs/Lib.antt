@@ -4,6 +4,7 @@ pub mod Graphs
 pub mod InOrder
 pub mod CodeListed
 pub mod PartsListed
+pub mod Definitions
 pub mod Items
 pub mod Texts
 pub mod Accepted

@@ -41,7 +41,7 @@ slice_unmapped h [] k y e = absurd (cc)
 slice_unmapped h (x ∷ xs) zero y e = let same : h x ≡ y = cc in (x, refl, same)
 slice_unmapped h (x ∷ xs) (suc k) y e = slice_unmapped h xs k y e
 
-append_none : {A : Type 0} (xs : List A) → xs ++ [] ≡ xs
+pub append_none : {A : Type 0} (xs : List A) → xs ++ [] ≡ xs
 append_none [] = refl
 append_none (x ∷ xs) = ap (λ zs. x ∷ zs) (append_none xs)
 

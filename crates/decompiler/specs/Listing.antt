@@ -1,10 +1,11 @@
 -- What the decompiler makes of a name of a file.
-use Rattle.std.specs.Prelude.{◌≡◌, ◌↔◌, ◌⊎◌, ℕ, ◌+◌, ◌<◌, ◌≤◌, Bool, if◌then◌else◌, Option, Some, None, Ok, List, [], ◌∷◌, map, length, slice_index, slice_get, true, false}
+use Rattle.std.specs.Prelude.{◌≡◌, ◌↔◌, ◌⊎◌, ℕ, ◌+◌, ◌<◌, ◌≤◌, Bool, if◌then◌else◌, Option, Some, None, Ok, List, [], ◌∷◌, map, length, slice_index, slice_index_or, slice_get, true, false}
 use Rattle.std.specs.List.{Contains, AllZip, list_any}
 use Rattle.rv_words.specs.Bytes.{Bytes}
 use Rattle.rv_words.specs.Ranges.{range_bytes}
 use Rattle.elf_image.specs.Image.{code_of_file}
 use Rattle.rv_decode.specs.declared.instruction.Instr.{Instr}
+use Rattle.rv_decode.specs.declared.instruction.Instr.TheVariants.{Ebreak}
 use Rattle.rv_decode.specs.Registers.{sources, destination}
 use Rattle.tailrec_lang.specs.declared.group.Exit.{Exit}
 use Rattle.tailrec_lang.specs.declared.group.Exit.TheVariants.{At, Ret}
@@ -17,14 +18,18 @@ use Rattle.checker.specs.Accepts.{IsAccepted}
 use Rattle.claims.specs.Headline.{entry_at}
 use Rattle.claims.specs.Exact.{Exact, FirstReturns}
 use Rattle.exactness.specs.Turns.{CountsSteps}
-use Rattle.flow_graph.specs.Flow.{Next, length_in, look, is_return}
+use Rattle.flow_graph.specs.Flow.{Next, called_by, length_in, look, is_return}
 use Rattle.flow_graph.specs.Walks.{Reaches}
 use Rattle.flow_graph.specs.Graph.{GraphOf, HasEdge, IsGraphOf, IsRising}
 use Rattle.flow_graph.specs.declared.outside.Outside.{Outside}
 use Rattle.loop_forest.specs.Loops.{IsHead, IsExit}
 use Rattle.loop_forest.specs.Regions.{IsAround}
 use Rattle.loop_forest.specs.Cuts.{IsCut}
-use Rattle.loop_forest.specs.Forest.{incoming}
+use Rattle.loop_forest.specs.Forest.{ForestOf, IsForestOf, incoming}
+use Rattle.code_parts.specs.declared.part.Part.{Part}
+use Rattle.code_parts.specs.Flows.{Setting}
+use Rattle.code_parts.specs.Graph.{IsPart}
+use Rattle.code_parts.specs.Members.{AreBased, Member, callee_at, defs_of, flow_at}
 use Rattle.path_walk.specs.declared.item.Item.{Item}
 use Rattle.decompiler.specs.Names.{StandsFor}
 use Rattle.decompiler.specs.Faults.{IsFirst, IsInFragment}
@@ -123,6 +128,32 @@ pub record HasDefs (g : GraphOf) (defs : List DefTree) : Type 0 where
   pub once : (j k : ℕ) (p : CodePart) → slice_get parts j ≡ Some p → slice_get parts k ≡ Some p → j ≡ k
   pub each : AllZip (IsDefOf g) parts defs
 
+-- ---- what each definition is
+
+-- A function at an address of the code: its graph, the loops of that, and its parts, each once, in some order; over the registers and the
+-- memories of the group. Uses tells the memory of each of its instructions, by their addresses.
+pub record IsMemberOf (linked : Bool) (Uses : ℕ → ℕ → Type 0) (code : Bytes) (g : GroupTree) (m : Member) : Type 0 where
+  pub graph : IsGraphOf linked code m.at m.graph
+  pub forest : IsForestOf m.graph m.forest
+  pub parts : (p : Part) → Contains m.setting.parts p ↔ IsPart (flow_at m) p
+  pub once : (j k : ℕ) (p : Part) → slice_get m.setting.parts j ≡ Some p → slice_get m.setting.parts k ≡ Some p → j ≡ k
+  pub regs : m.setting.regs ≡ g.regs
+  pub mems : m.setting.mems ≡ g.mems
+  pub uses : (n : ℕ) → n < length m.graph.addrs → Uses (slice_index m.graph.addrs n) (m.setting.uses (slice_index m.graph.addrs n))
+
+-- The group has the definition of each part of these functions, those of one function behind those of another. What is called is one of the
+-- functions, by the definition of the rest from its entry on.
+pub record AreDefsOf (linked : Bool) (Uses : ℕ → ℕ → Type 0) (code : Bytes) (ms : List Member) (g : GroupTree) : Type 0 where
+  pub each : (m : Member) → Contains ms m → IsMemberOf linked Uses code g m
+  pub based : AreBased 0 ms
+  pub called : (m : Member) (n t : ℕ) → Contains ms m → n < length m.graph.addrs → called_by (slice_index m.graph.addrs n) (slice_index_or m.graph.instrs n Ebreak) ≡ Some t
+      → (y : Member) × Contains ms y × (y.at ≡ t) × (m.setting.functions t ≡ callee_at y)
+  pub defs : g.defs ≡ defs_of ms
+
+-- .. of a function alone, with that graph
+abbrev pub AreDefsAlone : (ℕ → ℕ → Type 0) → Bytes → ℕ → GraphOf → GroupTree → Type 0
+AreDefsAlone Uses code e graph g = (f : ForestOf) × (s : Setting) × AreDefsOf false Uses code (record { at = e; graph = graph; forest = f; setting = s } ∷ []) g
+
 -- ---- what is listed
 
 -- a memory exactly where the code that is reached from e loads or stores
@@ -144,7 +175,8 @@ abbrev pub Lists : Bytes → ℕ → GraphOf → List ℕ → GroupTree → Type
 Lists code e graph name g = ListsWith (HasMemory code e) code e graph name g
 
 -- The item of a name, which has no fault: what it lists is of the code that is reached from the name's address, as many instructions as it
--- tells; it is accepted for the file, nothing is lost of the function, its turns count steps, and it has a text.
+-- tells; each definition is that of its part; it is accepted for the file, nothing is lost of the function, its turns count steps, and it
+-- has a text.
 pub record IsItemFor (file name : List ℕ) (item : Item) : Type 0 where
   pub entry : ℕ
   pub stands : StandsFor file name (Ok entry)
@@ -153,6 +185,7 @@ pub record IsItemFor (file name : List ℕ) (item : Item) : Type 0 where
   pub reach : IsGraphOf false (code_of_file file) entry graph
   pub reached : item.reached ≡ length graph.addrs
   pub lists : Lists (code_of_file file) entry graph name (group_tree item.group)
+  pub made : AreDefsAlone (λ a q. q ≡ 0) (code_of_file file) entry graph (group_tree item.group)
   pub accepted : IsAccepted file (proof_of item)
   pub exact : Exact file (group_tree item.group)
   pub steps : CountsSteps 32 FirstReturns file (group_tree item.group)

@@ -40,12 +40,11 @@ use Rattle.call_link.specs.Faults as link_first
 use Rattle.mcdec_answers.specs.declared.answer.DecompileAnswer.TheVariants as de
 use Rattle.mcdec_words.specs.declared.command.Form.{Form}
 use Rattle.mcdec_words.specs.declared.command.Form.TheVariants.{Alone, Linked, Split}
-use Rattle.call_graph.specs.Functions.{AreFunctions}
-use Rattle.call_graph.specs.declared.function.Function.{Function}
-use Rattle.call_link.specs.Listing.{HaveDefs}
+use Rattle.code_parts.specs.Members.{Member}
+use Rattle.call_link.specs.Listing.{HaveDefs, IsLinkedItemFor}
 use Rattle.stack_split.specs.Listing.{IsSplitItemFor}
 use Rattle.mcdec_commands.specs.DecompileAnswer.{IsFaultAlone, IsFaultIn, IsItemIn, IsRefusedIn, all_listed, listed_of, without_walks}
-use Rattle.mcdec_commands.proofs.Weighing.{AreWeighed, one-total, sizes-once, total}
+use Rattle.mcdec_commands.proofs.Weighing.{AreGiven, AreWeighed, one-total, sizes-once, total}
 
 -- ---- what a name stands for
 
@@ -287,8 +286,8 @@ item-inside Linked file name i h why f = h.inside why f
 item-inside Split file name i h why f = no-fault file name h.inside why f
 
 -- definitions of functions, as many as each has behind its entry
-abbrev counted : List Function → List (List DefTree) → List (ℕ × ℕ)
-counted (f ∷ fs) (r ∷ rs) = (f.entry, length r) ∷ counted fs rs
+abbrev counted : List Member → List (List DefTree) → List (ℕ × ℕ)
+counted (f ∷ fs) (r ∷ rs) = (f.at, length r) ∷ counted fs rs
 counted _ _ = []
 
 abbrev IsDefCount : GraphOf → ℕ → Type 0
@@ -297,36 +296,40 @@ IsDefCount g n = (row : List DefTree) × HasDefs g row × (n ≡ length row)
 one-count : (g : GraphOf) (n m : ℕ) → IsDefCount g n → IsDefCount g m → n ≡ m
 one-count g n m a b = a.2 ∙ defs-long g a.0 b.0 a.1 b.1 ∙ sym b.2
 
-are-counted : (code : Bytes) (e : ℕ) (fs : List Function) (rows : List (List DefTree)) → AllZip (λ f row. HasDefs f.graph row) fs rows → AreWeighed code e IsDefCount one-count fs (counted fs rows)
+are-counted : (code : Bytes) (e : ℕ) (fs : List Member) (rows : List (List DefTree)) → AllZip (λ f row. HasDefs f.graph row) fs rows → AreWeighed code e IsDefCount one-count fs (counted fs rows)
 are-counted code e [] [] h = tt
 are-counted code e [] (r ∷ rows) h = absurd h
 are-counted code e (f ∷ fs) [] h = absurd h
 are-counted code e (f ∷ fs) (r ∷ rows) h = ((refl, (r, h.0, refl)), are-counted code e fs rows h.1)
 
-count-all : (fs : List Function) (rows : List (List DefTree)) → AllZip (λ f row. HasDefs f.graph row) fs rows → length (flat_map (λ (row : List DefTree). row) rows) ≡ total (counted fs rows)
+count-all : (fs : List Member) (rows : List (List DefTree)) → AllZip (λ f row. HasDefs f.graph row) fs rows → length (flat_map (λ (row : List DefTree). row) rows) ≡ total (counted fs rows)
 count-all [] [] h = refl
 count-all [] (r ∷ rows) h = absurd h
 count-all (f ∷ fs) [] h = absurd h
 count-all (f ∷ fs) (r ∷ rows) h = length-append r (flat_map (λ (row : List DefTree). row) rows) ∙ ap (λ n. length r + n) (count-all fs rows h.1)
 
-linked-defs-long : (code : Bytes) (e : ℕ) (fs gs : List Function) (ds es : List DefTree) → AreFunctions code e fs → AreFunctions code e gs → HaveDefs fs ds → HaveDefs gs es → length ds ≡ length es
+linked-defs-long : (code : Bytes) (e : ℕ) (fs gs : List Member) (ds es : List DefTree) → AreGiven code e fs → AreGiven code e gs → HaveDefs fs ds → HaveDefs gs es → length ds ≡ length es
 linked-defs-long code e fs gs ds es are too h k =
     ap length h.all ∙ count-all fs h.rows h.each
     ∙ one-total code e IsDefCount one-count fs gs (counted fs h.rows) (counted gs k.rows) are too (are-counted code e fs h.rows h.each) (are-counted code e gs k.rows k.each)
     ∙ sym (count-all gs k.rows k.each) ∙ sym (ap length k.all)
 
--- what is told of an item is told once
-pub told-once : (form : Form) (file name : List ℕ) (i j : Item) → IsItemIn form file name i → IsItemIn form file name j → listed_of name i ≡ listed_of name j
+-- the functions that an item lists
+functions-given : (file name : List ℕ) (i : Item) (h : IsLinkedItemFor file name i) → AreGiven (code_of_file file) h.entry h.functions
+functions-given file name i h = record { functions = h.are.functions; graphs = λ m c. (h.made.each m c).graph }
+
+told-once : (form : Form) (file name : List ℕ) (i j : Item) → IsItemIn form file name i → IsItemIn form file name j → listed_of name i ≡ listed_of name j
 told-once Alone file name i j h k = listed-once file name i j (alone-tells file name i h) (alone-tells file name j k)
 told-once Split file name i j h k = listed-once file name i j (split-tells file name i h) (split-tells file name j k)
 told-once Linked file name i j h k =
     let code = code_of_file file in
     let e : h.entry ≡ k.entry = same-value file name h.entry k.entry h.stands k.stands in
-    let are : AreFunctions code k.entry h.functions = subst (λ a. AreFunctions code a h.functions) e h.are in
+    let are : AreGiven code k.entry h.functions = subst (λ a. AreGiven code a h.functions) e (functions-given file name i h) in
+    let too : AreGiven code k.entry k.functions = functions-given file name j k in
     let entry : entry_at (group_tree i.group) (listed_def (group_tree i.group)) ≡ entry_at (group_tree j.group) (listed_def (group_tree j.group)) = h.lists.entry ∙ ap Some e ∙ sym k.lists.entry in
-    let reached : i.reached ≡ j.reached = h.reached ∙ sizes-once code k.entry h.functions k.functions are k.are ∙ sym k.reached in
+    let reached : i.reached ≡ j.reached = h.reached ∙ sizes-once code k.entry h.functions k.functions are too ∙ sym k.reached in
     let defs : length (group_tree i.group).defs ≡ length (group_tree j.group).defs =
-    linked-defs-long code k.entry h.functions k.functions (group_tree i.group).defs (group_tree j.group).defs are k.are h.lists.defs k.lists.defs in
+    linked-defs-long code k.entry h.functions k.functions (group_tree i.group).defs (group_tree j.group).defs are too h.lists.defs k.lists.defs in
     λ t. record { name = name; entry = unwrap_or (entry t) 0; reached = reached t; defs = defs t }
 
 -- what is told of items is told once

@@ -46,9 +46,10 @@ use Rattle.path_walk.specs.Split.{IsSplitItem, split}
 use Rattle.path_walk.specs.declared.item.Item.{Item}
 use Rattle.path_walk.proofs.PartLimits.{part-printed}
 use Rattle.path_walk.proofs.SplitParts.{made-split, set-split}
-use Rattle.decompiler.specs.Listing.{ListsWith}
+use Rattle.decompiler.specs.Listing.{AreDefsAlone, ListsWith}
 use Rattle.decompiler.specs.Names.{StandsFor}
 use Rattle.decompiler.proofs.CodeListed.{bytes_are, ranges_small, registers_are}
+use Rattle.decompiler.proofs.Definitions.{defs_alone}
 use Rattle.decompiler.proofs.Fragment.{in_fragment}
 use Rattle.decompiler.proofs.PartsListed.{defs_are}
 use Rattle.stack_split.specs.Listing.{AreTwo, IsSplitItemFor}
@@ -160,6 +161,12 @@ module _ (file name : List ℕ) (e : ℕ) (g : GraphOf) (f : ForestOf) (second :
           proved = record { closed = closed.closed (length (map (part_def (flow_of g f (setting_of (split g second parts)))) parts) - 1) (omega (arith, last, count)); code = within (code_of_file file) e g f second parts bytes graph forest order ranges whole name };
         }
 
+    pub made-alone : AreStackAccesses (code_of_file file) e g.addrs second
+        → AreDefsAlone (UsesSplit (code_of_file file) e) (code_of_file file) e g (group_of (flow_of g f (setting_of (split g second parts))) name ranges parts)
+    made-alone are =
+        defs_alone (UsesSplit (code_of_file file) e) (code_of_file file) e g f (setting_of (split g second parts)) (group_of (flow_of g f (setting_of (split g second parts))) name ranges parts) graph forest order refl refl refl
+        (λ n lt. uses-split (code_of_file file) e g.addrs second are (get_or g.addrs n 0) (node_at g.addrs n lt) (list_any (λ b. eqb b (get_or g.addrs n 0)) second) refl) refl
+
     pub gains-split : AreStackAccesses (code_of_file file) e g.addrs second → Returning (FirstReturnsIn (UsesSplit (code_of_file file) e)) file (group_of (flow_of g f (setting_of (split g second parts))) name ranges parts)
     gains-split are =
         member-gains file bytes (record { at = e; graph = g; forest = f; setting = setting_of (split g second parts) }) (group_of (flow_of g f (setting_of (split g second parts))) name ranges parts)
@@ -177,6 +184,7 @@ split-is file name e g f second item stands named bytes graph forest are is = re
   reach = graph;
   reached = is.reached;
   lists = subst (ListsWith AreTwo (code_of_file file) e g name) (sym is.group) (lists-split (code_of_file file) e g f second is.parts bytes graph forest is.ordered item.group.code.ranges is.code name);
+  made = subst (AreDefsAlone (UsesSplit (code_of_file file) e) (code_of_file file) e g) (sym is.group) (made-alone file name e g f second is.parts bytes graph forest is.ordered item.group.code.ranges is.code are);
   accepted = subst (λ (t : GroupTree). IsAcceptedBy IsExchanged file (record { group = t; lines = map line_tree item.lines })) (sym is.group)
       (accepted-split file name e g f second is.parts bytes graph forest is.ordered item.group.code.ranges is.code (map line_tree item.lines) (subst (λ (t : GroupTree). AreClosedIn Four t (map line_tree item.lines)) is.group is.lines));
   exact = exact-of (FirstReturnsIn (UsesSplit (code_of_file file) e)) file (group_tree item.group) gains;
