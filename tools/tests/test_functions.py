@@ -96,6 +96,12 @@ class WrongWords(unittest.TestCase):
                 with open(os.path.join(folder, name), "rb") as file:
                     self.assertEqual(file.read(), (GCD / "gcd.elf").read_bytes())
 
+    def test_out_is_a_function(self):
+        found = functions.Functions(GCD / "gcd.elf")
+        with tempfile.TemporaryDirectory() as folder:
+            there = os.path.join(folder, "gcd")
+            self.assertEqual([functions.is_function_alone(out, found) for out in ("gcd", "./gcd", "gcd.proof", there, None)], [True] + 4 * [False])
+
 
 @unittest.skipUnless(program.find(), "no program is built")
 class OfAProgram(unittest.TestCase):
