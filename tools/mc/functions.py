@@ -8,7 +8,7 @@ line has its number of instructions and definitions, or the reason of the refusa
 
   --link    takes each together with the functions that it calls (`link`)
   --split   gives each its stack as a second memory (`split`), and says how many of its loads and stores are to it
-  --inside  prints the lines of these alone, and the summary
+  --inside  of functions that are refused no line is printed
   OUT       gets the text of all that aren't refused, which is then checked. That text is held in memory, nine bytes for
             each byte of it, and of a large file it has hundreds of megabytes
 
