@@ -37,7 +37,7 @@ pub defs_alone : (Uses : ℕ → ℕ → Type 0) (code : Bytes) (e : ℕ) (g : G
     → group.defs ≡ map (part_def (flow_of g f s)) s.parts → AreDefsAlone Uses code e g group
 defs_alone Uses code e g f s group graph forest order base regs mems uses defs = (f, s, all)
   where
-    abbrev own : Member
+    own : Member
     own = record { at = e; graph = g; forest = f; setting = s }
 
     only : (m : Member) → Contains (own ∷ []) m → own ≡ m

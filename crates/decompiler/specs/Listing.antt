@@ -175,8 +175,8 @@ abbrev pub Lists : Bytes → ℕ → GraphOf → List ℕ → GroupTree → Type
 Lists code e graph name g = ListsWith (HasMemory code e) code e graph name g
 
 -- The item of a name, which has no fault: what it lists is of the code that is reached from the name's address, as many instructions as it
--- tells; each definition is that of its part; it is accepted for the file, nothing is lost of the function, its turns count steps, and it
--- has a text.
+-- tells; each definition is that of its part; it is accepted for the file, nothing is lost of the function, its turns count steps, and it has a
+-- text.
 pub record IsItemFor (file name : List ℕ) (item : Item) : Type 0 where
   pub entry : ℕ
   pub stands : StandsFor file name (Ok entry)

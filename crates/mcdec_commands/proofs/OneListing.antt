@@ -318,7 +318,8 @@ linked-defs-long code e fs gs ds es are too h k =
 functions-given : (file name : List ℕ) (i : Item) (h : IsLinkedItemFor file name i) → AreGiven (code_of_file file) h.entry h.functions
 functions-given file name i h = record { functions = h.are.functions; graphs = λ m c. (h.made.each m c).graph }
 
-told-once : (form : Form) (file name : List ℕ) (i j : Item) → IsItemIn form file name i → IsItemIn form file name j → listed_of name i ≡ listed_of name j
+-- what is told of an item is told once
+pub told-once : (form : Form) (file name : List ℕ) (i j : Item) → IsItemIn form file name i → IsItemIn form file name j → listed_of name i ≡ listed_of name j
 told-once Alone file name i j h k = listed-once file name i j (alone-tells file name i h) (alone-tells file name j k)
 told-once Split file name i j h k = listed-once file name i j (split-tells file name i h) (split-tells file name j k)
 told-once Linked file name i j h k =
