@@ -8,6 +8,7 @@ mod edges;
 mod interned;
 mod machine;
 mod rewriting;
+mod rows;
 mod shelves;
 mod tokens;
 mod words;

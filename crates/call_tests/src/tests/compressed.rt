@@ -1,10 +1,11 @@
 //! The words of worked parcels, and every parcel by sums over an independent program's words.
 
+use super::rows::all;
 use rv_decode::{Instr, decode};
 use rvc::*;
 
 /// Whether a parcel is that instruction word, or none.
-fn is_word_of(parcel: u16, word: Option<u32>) -> bool {
+fn is_word_of((parcel, word): (u16, Option<u32>)) -> bool {
     let instruction = match word {
         Some(word) => decode(word),
         None => None,
@@ -40,9 +41,7 @@ static PARCELS: [(u16, Option<u32>); 23] = [
 
 #[test]
 fn words_of_parcels(rt: HostRuntime) {
-    for &(parcel, word) in &PARCELS {
-        assert!(rt; is_word_of(parcel, word));
-    }
+    assert!(rt; all(&PARCELS, is_word_of));
 }
 
 /// How many parcels of a quadrant with a funct3 have a word, and a sum over their words: 31 times
@@ -101,11 +100,13 @@ fn count_of_others() -> u32 {
     count
 }
 
+fn has_sums((quadrant, funct3, count, sum): (u16, u16, u32, u64)) -> bool {
+    sums(quadrant, funct3) == (count, sum)
+}
+
 #[test]
 fn every_parcel(rt: HostRuntime) {
-    for &(quadrant, funct3, count, sum) in &SUMS {
-        assert!(rt; sums(quadrant, funct3) == (count, sum));
-    }
+    assert!(rt; all(&SUMS, has_sums));
     assert!(rt; count_of_others() == 0);
 }
 
@@ -120,7 +121,7 @@ static NUMBERS: [(u32, u8, Option<u32>); 5] = [
 ];
 
 /// Whether a number has that length and is the instruction of that word, or none.
-fn is_instruction(number: u32, length: u8, word: Option<u32>) -> bool {
+fn is_instruction((number, length, word): (u32, u8, Option<u32>)) -> bool {
     let instruction = match word {
         Some(word) => decode(word),
         None => None,
@@ -130,8 +131,6 @@ fn is_instruction(number: u32, length: u8, word: Option<u32>) -> bool {
 
 #[test]
 fn instructions_of_both_lengths(rt: HostRuntime) {
-    for &(number, length, word) in &NUMBERS {
-        assert!(rt; is_instruction(number, length, word));
-    }
+    assert!(rt; all(&NUMBERS, is_instruction));
     assert!(rt; decode(0x0010_0073) == Some(Instr::Ebreak));
 }

@@ -2,50 +2,60 @@
 //! may reach itself through a list.
 
 use super::edges::{COMPARISONS, EXTENSIONS, OPERATIONS};
+use super::rows::all;
 use rv_words::*;
 use std::alloc::Global;
-use std::test::Fail;
+
+fn is_applied((op, a, b, value): (Op, u64, u64, u64)) -> bool {
+    apply(op, a, b) == value
+}
+
+fn is_extended((kind, a, value): (Ext, u64, u64)) -> bool {
+    extend(kind, a) == value
+}
+
+fn is_compared((c, a, b, truth): (Cmp, u64, u64, bool)) -> bool {
+    compare(c, a, b) == truth
+}
 
 #[test]
 fn words_have_their_values(rt: HostRuntime) {
-    for &(op, a, b, value) in &OPERATIONS {
-        assert!(rt; apply(op, a, b) == value);
-    }
-    for &(kind, a, value) in &EXTENSIONS {
-        assert!(rt; extend(kind, a) == value);
-    }
-    for &(c, a, b, truth) in &COMPARISONS {
-        assert!(rt; compare(c, a, b) == truth);
-    }
+    assert!(rt; all(&OPERATIONS, is_applied));
+    assert!(rt; all(&EXTENSIONS, is_extended));
+    assert!(rt; all(&COMPARISONS, is_compared));
 }
 
 /// Whether a list takes what it is given and gives it back.
-fn list_is_right(alloc: Global) -> Result<bool, NoMemory> {
+fn list_is_right(alloc: Global) -> bool {
     let mut list: Bytes = List::new(alloc);
     let was_empty = list.is_empty();
-    list.push(7)?;
-    list.push(8)?;
+    let is_taken = list.push(7).is_ok() & list.push(8).is_ok();
+    if list.is_empty() {
+        return false;
+    }
     list.set(0, 9);
-    let is_held = list.len() == 2 && list.get(0) == Some(&9) && list.get(2).is_none();
-    let is_given = list.pop() == Some(8) && list.pop() == Some(9) && list.pop().is_none();
-    Ok(was_empty && is_held && is_given)
+    let is_held = (list.len() == 2) & (list.get(0) == Some(&9)) & list.get(2).is_none();
+    let is_given = (list.pop() == Some(8)) & (list.pop() == Some(9)) & list.pop().is_none();
+    was_empty & is_taken & is_held & is_given
 }
 
 /// Whether lists are put together.
-fn lists_are_joined(alloc: Global) -> Result<bool, NoMemory> {
-    let mut list = List::from_slice(alloc, b"ab")?;
-    list.append(List::from_slice(alloc, b"cd")?)?;
-    list.extend_from_slice(b"ef")?;
-    Ok(list.as_slice() == b"abcdef".as_slice())
+fn lists_are_joined(alloc: Global) -> bool {
+    let mut list: Bytes = List::new(alloc);
+    let is_taken = list.extend_from_slice(b"ab").is_ok();
+    match List::from_slice(alloc, b"cd") {
+        Ok(other) => {
+            let is_joined = list.append(other).is_ok() & list.extend_from_slice(b"ef").is_ok();
+            is_taken & is_joined & (list.as_slice() == b"abcdef".as_slice())
+        }
+        Err(_) => false,
+    }
 }
 
 #[test]
-fn a_list_grows_and_shrinks(rt: HostRuntime) -> Result<(), Fail> {
-    let is_right = list_is_right(rt.alloc())?;
-    assert!(rt; is_right);
-    let are_joined = lists_are_joined(rt.alloc())?;
-    assert!(rt; are_joined);
-    Ok(())
+fn a_list_grows_and_shrinks(rt: HostRuntime) {
+    assert!(rt; list_is_right(rt.alloc()));
+    assert!(rt; lists_are_joined(rt.alloc()));
 }
 
 /// A node of a tree, whose children are in a list.
@@ -63,41 +73,32 @@ fn nodes(tree: &Node) -> u64 {
     count
 }
 
-/// A node above two leaves.
-fn three(alloc: Global) -> Result<Node, NoMemory> {
-    let mut children = List::new(alloc);
-    children.push(Node {
+/// A node without children.
+fn leaf(alloc: Global) -> Node {
+    Node {
         children: List::new(alloc),
-    })?;
-    children.push(Node {
-        children: List::new(alloc),
-    })?;
-    Ok(Node { children })
+    }
 }
 
-/// How many nodes such a tree has.
-fn count_of_three(alloc: Global) -> Result<u64, NoMemory> {
-    let tree = three(alloc)?;
-    Ok(nodes(&tree))
+/// How many nodes a node above two leaves has.
+fn count_of_three(alloc: Global) -> u64 {
+    let mut tree = leaf(alloc);
+    let _first = tree.children.push(leaf(alloc));
+    let _second = tree.children.push(leaf(alloc));
+    nodes(&tree)
 }
 
 #[test]
-fn a_type_reaches_itself_through_a_list(rt: HostRuntime) -> Result<(), Fail> {
-    let count = count_of_three(rt.alloc())?;
-    assert!(rt; count == 3);
-    Ok(())
+fn a_type_reaches_itself_through_a_list(rt: HostRuntime) {
+    assert!(rt; count_of_three(rt.alloc()) == 3);
 }
 
-/// Bytes beside each other, over each other and at both ends of the address space.
-fn placed(alloc: Global) -> Result<ByteMap, NoMemory> {
-    let mut map = ByteMap::new(alloc);
-    map.place(0x1000, b"abcdefgh")?;
-    map.place(0x1006, b"XYZ")?;
-    map.place_zeros(0x0fff, 2)?;
-    map.place(0xffff_ffff_ffff_fffe, b"yz")?;
-    map.place_zeros(0, 1)?;
-    map.place(0x4000, b"")?;
-    Ok(map)
+/// Places bytes beside each other, over each other and at both ends of the address space.
+fn place_some(map: &mut ByteMap) -> bool {
+    let words = map.place(0x1000, b"abcdefgh").is_ok() & map.place(0x1006, b"XYZ").is_ok();
+    let zeros = map.place_zeros(0x0fff, 2).is_ok();
+    let last = map.place(0xffff_ffff_ffff_fffe, b"yz").is_ok();
+    words & zeros & last & map.place_zeros(0, 1).is_ok() & map.place(0x4000, b"").is_ok()
 }
 
 fn store_some(map: &mut ByteMap) {
@@ -127,17 +128,14 @@ static HELD: [(u64, Option<u8>, Option<u8>); 17] = [
     (1, None, None),
 ];
 
-/// Whether the stores change these bytes, and not those of a copy.
-fn bytes_are_stored(alloc: Global) -> Result<bool, NoMemory> {
-    let mut map = placed(alloc)?;
-    let copy = map.copy(alloc)?;
-    store_some(&mut map);
+/// Whether a map has these bytes after the stores, and another those before them.
+fn bytes_are(map: &ByteMap, copy: &ByteMap) -> bool {
     for &(a, before, after) in &HELD {
         if map.byte(a) != after || copy.byte(a) != before {
-            return Ok(false);
+            return false;
         }
     }
-    Ok(true)
+    true
 }
 
 /// An address and a width, whether all these bytes are there after the stores, and the number that
@@ -159,22 +157,29 @@ static LOADED: [(u64, Width, bool, u64); 13] = [
 ];
 
 /// Whether the bytes that stand together make these numbers.
-fn numbers_are_loaded(alloc: Global) -> Result<bool, NoMemory> {
-    let mut map = placed(alloc)?;
-    store_some(&mut map);
+fn numbers_are(map: &ByteMap) -> bool {
     for &(a, width, all, number) in &LOADED {
         if map.has(a, width) != all || map.load(a, width) != number {
-            return Ok(false);
+            return false;
         }
     }
-    Ok(true)
+    true
+}
+
+/// Whether the stores change these bytes, and not those of a copy.
+fn bytes_are_stored(alloc: Global) -> bool {
+    let mut map = ByteMap::new(alloc);
+    let is_placed = place_some(&mut map);
+    match map.copy(alloc) {
+        Ok(copy) => {
+            store_some(&mut map);
+            is_placed & bytes_are(&map, &copy) & numbers_are(&map)
+        }
+        Err(_) => false,
+    }
 }
 
 #[test]
-fn bytes_are_placed_stored_and_found(rt: HostRuntime) -> Result<(), Fail> {
-    let are_stored = bytes_are_stored(rt.alloc())?;
-    assert!(rt; are_stored);
-    let are_loaded = numbers_are_loaded(rt.alloc())?;
-    assert!(rt; are_loaded);
-    Ok(())
+fn bytes_are_placed_stored_and_found(rt: HostRuntime) {
+    assert!(rt; bytes_are_stored(rt.alloc()));
 }
