@@ -644,15 +644,15 @@ command-alike : (files : Contents) (c : Command) (a b : Answer) → CommandGives
 command-alike files (Eval proof name turns args) a b (x, ax, (p, held, h)) (y, by, (q, holds, k)) =
     let same : p ≡ q = some_file p q (sym held ∙ holds) in
     ap determined
-      (ax ∙ ap answer.Eval (file-unique q name turns args x y (file-case q name turns args x (subst (λ (r : List ℕ). EvalGives r name turns args x) same h)) (file-case q name turns args y k)) ∙ sym by)
+    (ax ∙ ap answer.Eval (file-unique q name turns args x y (file-case q name turns args x (subst (λ (r : List ℕ). EvalGives r name turns args x) same h)) (file-case q name turns args y k)) ∙ sym by)
 command-alike files (Run elf start until steps gs) a b (x, ax, (p, held, h)) (y, by, (q, holds, k)) =
     let same : p ≡ q = some_file p q (sym held ∙ holds) in
     ap determined
-      (ax ∙ ap answer.Run (run-unique q start until steps gs x y (run-case q start until steps gs x (subst (λ (r : List ℕ). RunGives r start until steps gs x) same h)) (run-case q start until steps gs y k)) ∙ sym by)
+    (ax ∙ ap answer.Run (run-unique q start until steps gs x y (run-case q start until steps gs x (subst (λ (r : List ℕ). RunGives r start until steps gs x) same h)) (run-case q start until steps gs y k)) ∙ sym by)
 command-alike files (Check elf proof) a b (x, ax, (p, held, h)) (y, by, (q, holds, k)) =
     let same : p ≡ q = some_file p q (sym held ∙ holds) in
     ap determined
-      (ax ∙ ap answer.Check (check-unique files proof q x y (check-case files proof q x (subst (λ (r : List ℕ). CheckGives (Some files) proof r x) same h)) (check-case files proof q y k)) ∙ sym by)
+    (ax ∙ ap answer.Check (check-unique files proof q x y (check-case files proof q x (subst (λ (r : List ℕ). CheckGives (Some files) proof r x) same h)) (check-case files proof q y k)) ∙ sym by)
 command-alike files (Decompile form elf out names) a b (x, ax, (p, held, h)) (y, by, (q, holds, k)) =
     let same : p ≡ q = some_file p q (sym held ∙ holds) in
     ap determined ax ∙ ap answer.Decompile (decompile-alike form q names x y (subst (λ (r : List ℕ). DecompileCase form r names x) same h) k) ∙ sym (ap determined by)
