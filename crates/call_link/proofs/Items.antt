@@ -6,14 +6,15 @@ use Rattle.elf_image.specs.Image.{code_of_file}
 use Rattle.elf_image.specs.declared.symbol.NameFault.{NameFault}
 use Rattle.elf_image.specs.declared.symbol.NameFault.TheVariants as name_fault
 use Rattle.tailrec_lang.specs.Registers.{AreRegistersFrom}
-use Rattle.tailrec_lang.specs.Tree.{DefTree, GroupTree}
+use Rattle.tailrec_lang.specs.Tree.{DefTree, GroupTree, group_tree}
 use Rattle.group_text.specs.Limits.{IsDef, IsGroupIn, IsName}
 use Rattle.group_text.specs.Version.{version_3}
 use Rattle.proof_text.specs.Line.{LineTree, line_tree}
 use Rattle.further_rules.specs.Rules.{IsSteered}
 use Rattle.checker.specs.Accepts.{IsAcceptedBy}
-use Rattle.claims.specs.LinkExact.{LinkExact}
-use Rattle.exactness.proofs.Members.{members-lost-nothing}
+use Rattle.exactness.specs.Turns.{RunsBack}
+use Rattle.exactness.proofs.Counts.{Returning, counts-of, exact-of}
+use Rattle.exactness.proofs.Members.{members-gain}
 use Rattle.call_graph.specs.Causes.{IsCallGraphFault, IsCause}
 use Rattle.call_graph.specs.Functions.{AreFunctions}
 use Rattle.call_graph.specs.declared.fault.CallGraphFault.{CallGraphFault}
@@ -93,10 +94,10 @@ module _ (file name : List ℕ) (e : ℕ) (bytes : AreBytes (code_of_file file))
         proved = record { closed = closed.closed (length (defs_of (members_of s)) - 1) (omega (arith, some)); code = within-code (code_of_file file) e bytes s are is };
       }
 
-  pub exact-linked : LinkExact InFirstMemory file (group_in s name)
-  exact-linked =
+  pub gains-linked : Returning (RunsBack InFirstMemory) file (group_in s name)
+  gains-linked =
       let all = members-are (code_of_file file) e bytes s are is name in
-      members-lost-nothing true file bytes (members_of s) all.0 (group_in s name) all.2 InFirstMemory
+      members-gain true file bytes (members_of s) all.0 (group_in s name) all.2 InFirstMemory
       (λ m n c lt. let r = out-map (member_in s) s.functions m c in subst (λ (z : Member). z.setting.uses (get_or z.graph.addrs n 0) ≡ 0) r.2 refl)
       (within-code (code_of_file file) e bytes s are is)
 
@@ -130,6 +131,10 @@ linked-is file name e s item stands named bytes are group is = record {
   lists = subst (ListsLinked (code_of_file file) e (functions_of s) name) (sym is.group) (lists-linked (code_of_file file) e bytes s are group name);
   accepted = subst (λ (t : GroupTree). IsAcceptedBy IsSteered file (record { group = t; lines = map line_tree item.lines })) (sym is.group)
       (accepted-linked file name e bytes s are group (map line_tree item.lines) (subst (λ (t : GroupTree). AreClosedIn Three t (map line_tree item.lines)) is.group is.lines));
-  exact = subst (LinkExact InFirstMemory file) (sym is.group) (exact-linked file name e bytes s are group);
+  exact = exact-of (RunsBack InFirstMemory) file (group_tree item.group) gains;
+  steps = counts-of (RunsBack InFirstMemory) file (group_tree item.group) gains;
   text = record { group = subst (IsGroupIn version_3) (sym is.group) (printed-linked file name e bytes s are group named); lines = is.fine };
 }
+  where
+    gains : Returning (RunsBack InFirstMemory) file (group_tree item.group)
+    gains = subst (Returning (RunsBack InFirstMemory) file) (sym is.group) (gains-linked file name e bytes s are group)

@@ -11,6 +11,7 @@ use Rattle.further_rules.specs.Rules.{IsSteered}
 use Rattle.checker.specs.Accepts.{IsAcceptedBy}
 use Rattle.claims.specs.Headline.{entry_at}
 use Rattle.claims.specs.LinkExact.{LinkExact}
+use Rattle.exactness.specs.Turns.{CountsSteps, RunsBack}
 use Rattle.flow_graph.specs.Flow.{Next}
 use Rattle.flow_graph.specs.Walks.{Reaches}
 use Rattle.call_graph.specs.Calls.{IsFunction}
@@ -48,7 +49,8 @@ abbrev pub InFirstMemory : ℕ → ℕ → Type 0
 InFirstMemory a q = q ≡ 0
 
 -- The item of a name, which has no fault: what it lists is of the functions that calls lead to from the name's address, and it tells the sum
--- of their sizes; it is accepted for the file as a proof of version 3, nothing is lost of the functions, and it has a text.
+-- of their sizes; it is accepted for the file as a proof of version 3, nothing is lost of the functions, its turns count their steps, and it has
+-- a text.
 pub record IsLinkedItemFor (file name : List ℕ) (item : Item) : Type 0 where
   pub entry : ℕ
   pub stands : StandsFor file name (Ok entry)
@@ -59,6 +61,7 @@ pub record IsLinkedItemFor (file name : List ℕ) (item : Item) : Type 0 where
   pub lists : ListsLinked (code_of_file file) entry functions name (group_tree item.group)
   pub accepted : IsAcceptedBy IsSteered file (proof_of item)
   pub exact : LinkExact InFirstMemory file (group_tree item.group)
+  pub steps : CountsSteps 32 (RunsBack InFirstMemory) file (group_tree item.group)
   pub text : IsProofIn version_3 (proof_of item)
 
 -- an item for each of the names, in order

@@ -5,12 +5,13 @@ use Rattle.rv_words.specs.declared.range.Range.{Range}
 use Rattle.rv_words.specs.Ranges.{range_bytes}
 use Rattle.sep_assert.specs.Code.{IsWithin}
 use Rattle.elf_image.specs.Image.{code_of_file}
-use Rattle.tailrec_lang.specs.Tree.{GroupTree}
+use Rattle.tailrec_lang.specs.Tree.{GroupTree, group_tree}
 use Rattle.group_text.specs.Limits.{IsGroup, IsName}
 use Rattle.proof_text.specs.Line.{LineTree, line_tree}
 use Rattle.checker.specs.Accepts.{IsAccepted}
-use Rattle.claims.specs.Exact.{Exact}
-use Rattle.exactness.proofs.GroupOfParts.{flow-exact}
+use Rattle.claims.specs.Exact.{FirstReturns}
+use Rattle.exactness.proofs.Counts.{Returning, counts-of, exact-of}
+use Rattle.exactness.proofs.GroupOfParts.{flow-gains}
 use Rattle.flow_graph.specs.Graph.{GraphOf, IsGraphOf}
 use Rattle.loop_forest.specs.Forest.{ForestOf, IsForestOf, number_of}
 use Rattle.code_parts.specs.declared.part.Part.{Part}
@@ -74,8 +75,8 @@ module _ (file name : List ℕ) (e : ℕ) (g : GraphOf) (f : ForestOf) (bytes : 
           proved = record { closed = closed.closed (length (map (part_def (flow_of g f (alone g parts))) parts) - 1) (omega (arith, last, count)); code = within };
         }
 
-    pub exact_it : Exact file (group_of (flow_of g f (alone g parts)) name ranges parts)
-    exact_it = flow-exact file e g f parts name ranges graph forest bytes have order within
+    pub gains_it : Returning FirstReturns file (group_of (flow_of g f (alone g parts)) name ranges parts)
+    gains_it = flow-gains file e g f parts name ranges graph forest bytes have order within
 
     pub printed_it : IsName name → IsGroup (group_of (flow_of g f (alone g parts)) name ranges parts)
     printed_it named =
@@ -94,6 +95,10 @@ item_is file name e g f item stands named bytes graph forest is = record {
   lists = subst (Lists (code_of_file file) e g name) (sym is.group) (lists_it file name e g f bytes graph forest is.parts is.ordered item.group.code.ranges is.code);
   accepted = subst (λ (t : GroupTree). IsAccepted file (record { group = t; lines = map line_tree item.lines })) (sym is.group)
       (accepted_it file name e g f bytes graph forest is.parts is.ordered item.group.code.ranges is.code (map line_tree item.lines) (subst (λ (t : GroupTree). AreClosedBy t (map line_tree item.lines)) is.group is.lines));
-  exact = subst (Exact file) (sym is.group) (exact_it file name e g f bytes graph forest is.parts is.ordered item.group.code.ranges is.code);
+  exact = exact-of FirstReturns file (group_tree item.group) gains;
+  steps = counts-of FirstReturns file (group_tree item.group) gains;
   text = record { group = subst IsGroup (sym is.group) (printed_it file name e g f bytes graph forest is.parts is.ordered item.group.code.ranges is.code named); lines = is.fine };
 }
+  where
+    gains : Returning FirstReturns file (group_tree item.group)
+    gains = subst (Returning FirstReturns file) (sym is.group) (gains_it file name e g f bytes graph forest is.parts is.ordered item.group.code.ranges is.code)

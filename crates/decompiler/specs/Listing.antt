@@ -15,7 +15,8 @@ use Rattle.group_text.specs.Version.{version_1}
 use Rattle.proof_text.specs.Proofs.{IsProofIn}
 use Rattle.checker.specs.Accepts.{IsAccepted}
 use Rattle.claims.specs.Headline.{entry_at}
-use Rattle.claims.specs.Exact.{Exact}
+use Rattle.claims.specs.Exact.{Exact, FirstReturns}
+use Rattle.exactness.specs.Turns.{CountsSteps}
 use Rattle.flow_graph.specs.Flow.{Next, length_in, look, is_return}
 use Rattle.flow_graph.specs.Walks.{Reaches}
 use Rattle.flow_graph.specs.Graph.{GraphOf, HasEdge, IsGraphOf, IsRising}
@@ -143,7 +144,7 @@ abbrev pub Lists : Bytes → ℕ → GraphOf → List ℕ → GroupTree → Type
 Lists code e graph name g = ListsWith (HasMemory code e) code e graph name g
 
 -- The item of a name, which has no fault: what it lists is of the code that is reached from the name's address, as many instructions as it
--- tells; it is accepted for the file, nothing is lost of the function, and it has a text.
+-- tells; it is accepted for the file, nothing is lost of the function, its turns count steps, and it has a text.
 pub record IsItemFor (file name : List ℕ) (item : Item) : Type 0 where
   pub entry : ℕ
   pub stands : StandsFor file name (Ok entry)
@@ -154,6 +155,7 @@ pub record IsItemFor (file name : List ℕ) (item : Item) : Type 0 where
   pub lists : Lists (code_of_file file) entry graph name (group_tree item.group)
   pub accepted : IsAccepted file (proof_of item)
   pub exact : Exact file (group_tree item.group)
+  pub steps : CountsSteps 32 FirstReturns file (group_tree item.group)
   pub text : IsProofIn version_1 (proof_of item)
 
 -- an item for each of the names, in order

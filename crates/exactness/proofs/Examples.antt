@@ -32,9 +32,12 @@ use Rattle.code_parts.specs.declared.part.Part.{Part}
 use Rattle.code_parts.specs.declared.part.Part.TheVariants.{Loop, Rest}
 use Rattle.code_parts.specs.Bodies.{Flow, part_def}
 use Rattle.code_parts.specs.Graph.{IsAlone, has_edge, IsEdge, IsPart, IsPlaced, IsGraph, StandsAt, IsCode}
+use Rattle.claims.specs.Headline.{Starts}
 use Rattle.claims.specs.Exact.{FirstReturns, Exact}
 use Rattle.exactness.specs.Parts.{HasParts, LeavesAs, Meets}
-use Rattle.exactness.proofs.Runs.{law-of-part, nothing-lost}
+use Rattle.exactness.specs.Turns.{CountsSteps}
+use Rattle.exactness.proofs.Counts.{counts-of, exact-of}
+use Rattle.exactness.proofs.Runs.{gains, law-of-part}
 
 abbrev instructions : ℕ → Instr
 instructions n = slice_index_or (instr.Op Add 10 10 11 ∷ instr.OpImm Add 11 11 (neg_ℤ (pos 1)) ∷ instr.Branch Ne 11 0 (neg_ℤ (pos 8)) ∷ instr.Jalr 0 1 (pos 0) ∷ []) n instr.Ecall
@@ -377,7 +380,11 @@ by_itself = record { mems = omega arith; uses = λ n lt. refl; calls = λ n lt. 
 
 -- nothing is lost of it
 pub exact-summing : (file : List ℕ) → IsWithin (range_bytes group.code) (code_of_file file) → Exact file group
-exact-summing file in_file = nothing-lost file group summing 0 is_graph is_code by_itself has_parts in_file
+exact-summing file in_file = exact-of FirstReturns file group (gains file group summing 0 is_graph is_code by_itself has_parts in_file)
+
+-- its turns count the steps
+pub counts-summing : (file : List ℕ) → IsWithin (range_bytes group.code) (code_of_file file) → CountsSteps 32 FirstReturns file group
+counts-summing file in_file = counts-of FirstReturns file group (gains file group summing 0 is_graph is_code by_itself has_parts in_file)
 
 -- ---- what it gives
 
@@ -451,6 +458,24 @@ first-returns = record {
 }
 
 -- and so evaluation of the whole function gives what it returns with, as it does of each state in which the code is held
-gives : LeavesAs group 2 [] begins 8 Ret 0 (after 4) ⊎ Meets group 2 [] begins 8 4
+gives : LeavesAs group 2 [] begins 8 Ret 0 4 (after 4) ⊎ Meets group 2 [] begins 8 4
 gives = law-of-part summing group 0 is_graph is_code by_itself has_parts (Rest None 0) (omega arith, refl, refl) [] begins (after 4) 4
     (record { count = refl; code = λ a b e. e; beside_code = λ a b e. refl }) refl first-returns 8 (omega arith)
+
+-- ---- the constant
+
+starts : (file : List ℕ) → IsWithin (range_bytes group.code) (code_of_file file) → Starts file group begins []
+starts file in_file = record {
+  entry = refl;
+  code = λ a b e. e ∙ sym (in_file a b e);
+  count = refl;
+  present = λ a e. absurd (no_cut e);
+  beside_code = λ a b e. refl;
+  apart = λ i j d lt low. absurd (omega (arith, lt, low));
+}
+
+-- four steps in three turns: a turn isn't at most one step
+pub more-than-one : (file : List ℕ) → IsWithin (range_bytes group.code) (code_of_file file) → CountsSteps 1 FirstReturns file group → ⊥
+more-than-one file in_file counts =
+    let one = (counts begins [] (starts file in_file) 4 (after 4) first-returns 3 0 0x2000 0 (arguments 0x2000 1 0) one-pass).0 in
+    omega (arith, one)

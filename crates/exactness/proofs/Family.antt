@@ -1,5 +1,5 @@
 -- The laws of all parts of all functions of a group, and that nothing is lost of it.
-use Rattle.std.proofs.Common.{◌≡◌, ℕ, zero, suc, ◌*◌, ◌<◌, ◌≤◌, true, false, cond, Some, None, List, [], ◌∷◌, map, length, Contains, refl, sym, ap, subst, ◌∙◌, arith}
+use Rattle.std.proofs.Common.{◌≡◌, ℕ, zero, suc, ◌+◌, ◌*◌, ◌<◌, ◌≤◌, true, false, cond, Some, None, List, [], ◌∷◌, map, length, Contains, refl, sym, ap, subst, ◌∙◌, arith}
 use Rattle.std.specs.Prelude.{slice_get, option_map, AllPairs}
 use Rattle.rv_machine.specs.State.{State}
 use Rattle.rv_machine.specs.Step.{instruction_at}
@@ -22,13 +22,14 @@ use Rattle.code_parts.specs.declared.callee.Callee.{Callee}
 use Rattle.code_parts.specs.Graph.{IsPart}
 use Rattle.claims.specs.Headline.{Region, AreApart, is_within, held_in, Starts}
 use Rattle.rv_machine.specs.Run.{IsAtReturn}
-use Rattle.claims.specs.Exact.{Gives}
-use Rattle.claims.specs.LinkExact.{IsAtCall, ExactIn, LinkExact, after_instruction}
+use Rattle.claims.specs.LinkExact.{FirstReturnsIn, IsAtCall, after_instruction}
 use Rattle.exactness.proofs.GroupOfFunctions.{Function, IsOf, HasFunctions, HaveGraphs}
 use Rattle.instr_axioms.proofs.Effects.{cut}
 use Rattle.code_parts.proofs.Lists.{length-map}
 use Rattle.exactness.proofs.Returns.{Steps, Comes, comes, comes-plain, IsKept, kept-here}
 use Rattle.exactness.proofs.StateVariables.{Stands}
+use Rattle.exactness.specs.Turns.{RunsBack}
+use Rattle.exactness.proofs.Counts.{Gains, Returning}
 use Rattle.exactness.proofs.PartLaw.{with_address, IsDone, LeavesIn, Law, LawsAt, LawsBelow, part-law, whole-law}
 use Rattle.exactness.proofs.Whole.{same_instr, step-done}
 
@@ -88,7 +89,7 @@ module _ (g : GroupTree) (fs : List Function) (main : Function) (has : HasFuncti
 
     -- the rest of the whole from the entry on
     whole-of : (k : ℕ) (s t : State) (m : ℕ) → Below k → Good s → s.pc ≡ f.addr x.entry → Runs k s t → 2 * k ≤ m
-        → LeavesIn f State pc args back IsAtReturn Calls Good (Steps Uses regions) (Rest None x.entry) t (ending g (f.number (Rest None x.entry)) (args s) m)
+        → LeavesIn f State pc args back IsAtReturn Calls Good (Steps Uses regions) (Rest None x.entry) k m t (ending g (f.number (Rest None x.entry)) (args s) m)
     whole-of k s t m laws good place runs enough =
         whole-law f (have.graph x in_fs) rise State pc args back IsAtReturn Calls Good (Steps Uses regions) long done (ending g) (ending-exited g) (λ p y m there. ending-enter g (f.number p) y m (part_def f p) (has.defs x p in_fs there))
         x.entry k s t m laws (has.whole x in_fs) good place runs enough
@@ -105,17 +106,17 @@ module _ (g : GroupTree) (fs : List Function) (main : Function) (has : HasFuncti
 
   -- what is called returns as its function does
   called : (k : ℕ) → AllBelow k → (y : Function) (in_fs : Contains fs y) (c : Callee) → IsOf y c → (s t : State) (m : ℕ) → Good s → s.pc ≡ c.entry → Runs k s t → 2 * k ≤ m
-      → (c.returns ≡ true) × Good t × (left : ℕ) × (ending g c.def (args s) m ≡ Exited 0 (with_address (pc t) (args t)) left)
+      → (c.returns ≡ true) × Good t × (left : ℕ) × (k + 32 * left ≤ 32 * m) × (ending g c.def (args s) m ≡ Exited 0 (with_address (pc t) (args t)) left)
   called k below y in_fs c of s t m good place runs enough =
       let r = whole-of y in_fs k s t m (λ j lt. below j lt y in_fs) good (place ∙ of.entry) runs enough in
-      (of.returns ∙ r.returns, r.good, r.left, ap (λ d. ending g d (args s) m) of.def ∙ r.ends)
+      (of.returns ∙ r.returns, r.good, r.left, r.few, ap (λ d. ending g d (args s) m) of.def ∙ r.ends)
 
   one : (k : ℕ) → AllBelow k → (x : Function) (in_fs : Contains fs x) → Laws x in_fs k
   one k below x in_fs = (
     parts-of x in_fs k (λ j lt. below j lt x in_fs),
     λ n c node is s t m good place runs enough. (let y = has.called x n c in_fs node is in
         let r = called k below y.0 y.1 c y.2 s t m good place runs enough in
-        record { returns = r.0; good = r.1; left = r.2; ends = r.3 }),
+        record { returns = r.0; good = r.1; left = r.2; few = r.3; ends = r.4 }),
   )
 
   below-all : (k : ℕ) → AllBelow k
@@ -124,7 +125,7 @@ module _ (g : GroupTree) (fs : List Function) (main : Function) (has : HasFuncti
 
   -- a run of the main function that returns is an evaluation
   pub main-law : (k : ℕ) (t : State) → s0.pc ≡ main.flow.addr main.entry → Runs k s0 t
-      → LeavesIn main.flow State pc args back IsAtReturn Calls Good (Steps Uses regions) (Rest None main.entry) t (ending g (main.flow.number (Rest None main.entry)) (args s0) (2 * k))
+      → LeavesIn main.flow State pc args back IsAtReturn Calls Good (Steps Uses regions) (Rest None main.entry) k (2 * k) t (ending g (main.flow.number (Rest None main.entry)) (args s0) (2 * k))
   main-law k t at runs = whole-of main has.listed k s0 t (2 * k) (λ j lt. below-all k j lt main has.listed) (kept-here g.regs regions s0) at runs (omega arith)
 
 -- ---- the whole group
@@ -151,39 +152,42 @@ module _ (file : List ℕ) (g : GroupTree) (fs : List Function) (main : Function
   at : s.pc ≡ main.flow.addr main.entry
   at = same-pc (main.flow.addr main.entry) s.pc (ap (option_map (λ (d : DefTree). d.entry)) (sym (ap (slice_get g.defs) number ∙ def)) ∙ starts.entry)
 
-  pub gives : (k : ℕ) (t : State) → Comes State (λ s. s.pc) after_instruction IsAtReturn Calls (Steps Uses regions) t [] k s → Gives g regions s (2 * k) t
-  gives k t runs =
+  pub gains : (k : ℕ) (t : State) → Comes State (λ s. s.pc) after_instruction IsAtReturn Calls (Steps Uses regions) t [] k s → Gains g regions s k t
+  gains k t runs =
       let r = main-law g fs main has Uses have regions starts.count starts.apart Calls is_call calls s (λ a b e. starts.code a b e ∙ in_file a b e) starts.beside_code k t at runs in
       let exits : slice_get (exits_at g (main.flow.number (Rest None main.entry))) 0 ≡ Some Ret =
       ap (λ (xs : List Exit). slice_get xs 0) (exits_there g (main.flow.number (Rest None main.entry)) (part_def main.flow (Rest None main.entry)) def) ∙ (λ i. slice_get (cond (r.returns i) (Ret ∷ []) []) 0) in
       record {
-        exit = 0;
-        pc = t.pc;
-        results = held_in t g regions;
-        left = r.left;
-        done = (λ i. eval g (number i) (held_in s g regions) (2 * k)) ∙ ap (with_pc (exits_at g (main.flow.number (Rest None main.entry)))) r.ends
-            ∙ done-return (exits_at g (main.flow.number (Rest None main.entry))) t.pc (held_in t g regions) r.left exits;
-        return = ap (λ d. slice_get (exits_at g d) 0) number ∙ exits;
-        ends = record {
-          pc = refl;
-          results = refl;
-          registers = λ q low out. r.good.registers q out;
-          bytes = r.good.bytes;
-          present = r.good.present;
+        gives = record {
+          exit = 0;
+          pc = t.pc;
+          results = held_in t g regions;
+          left = r.left;
+          done = (λ i. eval g (number i) (held_in s g regions) (2 * k)) ∙ ap (with_pc (exits_at g (main.flow.number (Rest None main.entry)))) r.ends
+              ∙ done-return (exits_at g (main.flow.number (Rest None main.entry))) t.pc (held_in t g regions) r.left exits;
+          return = ap (λ d. slice_get (exits_at g d) 0) number ∙ exits;
+          ends = record {
+            pc = refl;
+            results = refl;
+            registers = λ q low out. r.good.registers q out;
+            bytes = r.good.bytes;
+            present = r.good.present;
+          };
         };
+        few = r.few;
       }
 
--- Nothing is lost of functions that call each other.
-pub linked-lost-nothing : (file : List ℕ) (g : GroupTree) (fs : List Function) (main : Function) → HasFunctions fs main g → (Uses : ℕ → ℕ → Type 0) → HaveGraphs Uses fs g
-    → IsWithin (range_bytes g.code) (code_of_file file) → LinkExact Uses file g
-linked-lost-nothing file g fs main has Uses have in_file s regions starts k t runs =
-    gives file g fs main has Uses have in_file IsAtCall (λ s c. c) (λ x n c s in_fs l is at. at) s regions starts k t (comes Uses regions t k [] s runs)
+-- The returns of functions that call each other, of which thus nothing is lost, and whose steps are counted.
+pub linked-gains : (file : List ℕ) (g : GroupTree) (fs : List Function) (main : Function) → HasFunctions fs main g → (Uses : ℕ → ℕ → Type 0) → HaveGraphs Uses fs g
+    → IsWithin (range_bytes g.code) (code_of_file file) → Returning (RunsBack Uses) file g
+linked-gains file g fs main has Uses have in_file s regions starts k t runs =
+    gains file g fs main has Uses have in_file IsAtCall (λ s c. c) (λ x n c s in_fs l is at. at) s regions starts k t (comes Uses regions t k [] s runs)
 
--- Nothing is lost of a function without calls.
-pub lost-nothing : (file : List ℕ) (g : GroupTree) (x : Function) → HasFunctions (x ∷ []) x g → (Uses : ℕ → ℕ → Type 0) → HaveGraphs Uses (x ∷ []) g
-    → IsWithin (range_bytes g.code) (code_of_file file) → ((n : ℕ) → n < x.flow.nodes → x.flow.callee n ≡ None) → ExactIn Uses file g
-lost-nothing file g x has Uses have in_file none s regions starts k t runs =
-    gives file g (x ∷ []) x has Uses have in_file (λ s. ⊥) (λ s c. absurd c) (λ y n c s in_fs l is at. nothing y n c (only y in_fs) l is) s regions starts k t (comes-plain Uses regions t k s runs)
+-- .. and of a function without calls.
+pub own-gains : (file : List ℕ) (g : GroupTree) (x : Function) → HasFunctions (x ∷ []) x g → (Uses : ℕ → ℕ → Type 0) → HaveGraphs Uses (x ∷ []) g
+    → IsWithin (range_bytes g.code) (code_of_file file) → ((n : ℕ) → n < x.flow.nodes → x.flow.callee n ≡ None) → Returning (FirstReturnsIn Uses) file g
+own-gains file g x has Uses have in_file none s regions starts k t runs =
+    gains file g (x ∷ []) x has Uses have in_file (λ s. ⊥) (λ s c. absurd c) (λ y n c s in_fs l is at. nothing y n c (only y in_fs) l is) s regions starts k t (comes-plain Uses regions t k s runs)
   where
     only : (y : Function) → Contains (x ∷ []) y → x ≡ y
     only y (zero, l, e) = e

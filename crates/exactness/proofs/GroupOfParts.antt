@@ -20,9 +20,10 @@ use Rattle.code_parts.proofs.FlowEntry.{last-is, whole-is}
 use Rattle.code_parts.proofs.FlowGraph.{is-graph}
 use Rattle.code_parts.proofs.FlowMade.{is-alone, is-made}
 use Rattle.code_parts.proofs.Lists.{slice-mapped}
-use Rattle.claims.specs.Exact.{Exact}
+use Rattle.claims.specs.Exact.{FirstReturns}
 use Rattle.exactness.specs.Parts.{HasParts}
-use Rattle.exactness.proofs.Runs.{nothing-lost}
+use Rattle.exactness.proofs.Counts.{Returning}
+use Rattle.exactness.proofs.Runs.{gains}
 
 -- the group of a graph whose last part is the rest of the whole function from the entry on
 pub has-parts : (f : Flow) (g : GroupTree) (parts : List Part) (entry : ℕ) → IsMade f g parts → IsPart f (Rest None entry) → length parts ≡ f.number (Rest None entry) + 1 → HasParts f entry g
@@ -34,11 +35,11 @@ has-parts f g parts entry made whole last = record {
   last = ap (λ (ds : List DefTree). length ds) made.defs ∙ length-map parts (part_def f) ∙ last;
 }
 
--- what is made of a function of a file loses nothing
-pub flow-exact : (file : List ℕ) (entry : ℕ) (g : GraphOf) (f : ForestOf) (parts : List Part) (name : List ℕ) (ranges : List Range) → IsGraphOf false (code_of_file file) entry g → IsForestOf g f → AreBytes (code_of_file file) →
-    HaveCode g (code_of_file file) ranges → AreParts (flow_of g f (alone g parts)) (number_of f) parts → IsWithin (range_bytes ranges) (code_of_file file) → Exact file (group_of (flow_of g f (alone g parts)) name ranges parts)
-flow-exact file entry g f parts name ranges graph forest bytes have order within =
+-- what is made of a function of a file loses nothing, and counts steps
+pub flow-gains : (file : List ℕ) (entry : ℕ) (g : GraphOf) (f : ForestOf) (parts : List Part) (name : List ℕ) (ranges : List Range) → IsGraphOf false (code_of_file file) entry g → IsForestOf g f → AreBytes (code_of_file file) →
+    HaveCode g (code_of_file file) ranges → AreParts (flow_of g f (alone g parts)) (number_of f) parts → IsWithin (range_bytes ranges) (code_of_file file) → Returning FirstReturns file (group_of (flow_of g f (alone g parts)) name ranges parts)
+flow-gains file entry g f parts name ranges graph forest bytes have order within =
     let code = code_of_file file in
     let made = is-made code entry g f parts name ranges graph forest bytes have order in
-    nothing-lost file (group_of (flow_of g f (alone g parts)) name ranges parts) (flow_of g f (alone g parts)) g.entry (is-graph false code entry g f (alone g parts) graph forest) made.code (is-alone code entry g f parts graph)
+    gains file (group_of (flow_of g f (alone g parts)) name ranges parts) (flow_of g f (alone g parts)) g.entry (is-graph false code entry g f (alone g parts) graph forest) made.code (is-alone code entry g f parts graph)
     (has-parts (flow_of g f (alone g parts)) (group_of (flow_of g f (alone g parts)) name ranges parts) parts g.entry made (whole-is false code entry g f (alone g parts) graph forest order) (last-is false code entry g f (alone g parts) graph forest order ∙ ap (λ k. k + 1) (sym (zero-add (place_in parts (Rest None g.entry)))))) within

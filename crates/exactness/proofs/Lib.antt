@@ -9,6 +9,7 @@ pub mod GroupOfFunctions
 pub mod Family
 pub mod Members
 pub mod Runs
+pub mod Counts
 pub mod GroupOfParts
 pub mod Examples
 pub mod StoreExample

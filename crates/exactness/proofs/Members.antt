@@ -1,5 +1,5 @@
 -- Nothing is lost of linked functions, in a group of all their parts.
-use Rattle.std.proofs.Common.{◌≡◌, ℕ, zero, suc, ◌<◌, Bool, false, List, [], ◌∷◌, map, length, get_or, refl, sym, ap, subst, ◌∙◌, arith, Option, None, Some, Contains}
+use Rattle.std.proofs.Common.{◌≡◌, ℕ, zero, suc, ◌<◌, Bool, true, false, List, [], ◌∷◌, map, length, get_or, refl, sym, ap, subst, ◌∙◌, arith, Option, None, Some, Contains}
 use Rattle.std.specs.Prelude.{ℤ, option_map, slice_get}
 use Rattle.rv_words.specs.Bytes.{AreBytes}
 use Rattle.rv_words.specs.Ranges.{range_bytes}
@@ -10,6 +10,7 @@ use Rattle.elf_image.specs.Image.{code_of_file}
 use Rattle.tailrec_lang.specs.Tree.{GroupTree}
 use Rattle.flow_graph.specs.Walks.{Stop}
 use Rattle.flow_graph.proofs.NumberLemmas.{number_within}
+use Rattle.flow_graph.proofs.Ways.{node_at}
 use Rattle.loop_forest.specs.Forest.{number_of}
 use Rattle.code_parts.specs.declared.part.Part.{Part}
 use Rattle.code_parts.specs.declared.part.Part.TheVariants.{Rest}
@@ -19,14 +20,17 @@ use Rattle.code_parts.specs.declared.callee.Callee.{Callee}
 use Rattle.code_parts.specs.Flows.{place_in}
 use Rattle.code_parts.specs.Graph.{IsCode, IsGraph, IsPart}
 use Rattle.code_parts.specs.Members.{AreMembers, IsMember, Member, callee_at, flow_at}
-use Rattle.claims.specs.LinkExact.{ExactIn, LinkExact}
+use Rattle.claims.specs.LinkExact.{FirstReturnsIn}
 use Rattle.exactness.proofs.GroupOfFunctions.{Function, HasFunctions, HaveGraphs, IsOf}
 use Rattle.code_parts.proofs.FlowCode.{is-code, stands}
 use Rattle.code_parts.proofs.FlowEntry.{last-is, whole-is}
 use Rattle.code_parts.proofs.FlowGraph.{is-graph}
 use Rattle.code_parts.proofs.FlowMade.{uncalled-of}
 use Rattle.code_parts.proofs.FlowOrder.{there-at}
-use Rattle.exactness.proofs.Family.{linked-lost-nothing, lost-nothing}
+use Rattle.exactness.specs.Functions.{UsedBy}
+use Rattle.exactness.specs.Turns.{RunsBack}
+use Rattle.exactness.proofs.Counts.{Returning}
+use Rattle.exactness.proofs.Family.{linked-gains, own-gains}
 
 abbrev function_at : Member → Function
 function_at m = record { flow = flow_at m; entry = m.graph.entry }
@@ -110,15 +114,15 @@ module _ (linked : Bool) (file : List ℕ) (bytes : AreBytes (code_of_file file)
         (λ m c lt none same. uncalled m.setting.functions (get_or m.graph.addrs n 0) (get_or m.graph.instrs n instr.Ebreak) offset none same) x c;
   }
 
-  -- nothing is lost of functions that call each other
-  pub members-lost-nothing : IsWithin (range_bytes g.code) (code_of_file file) → LinkExact Uses file g
-  members-lost-nothing in_file = linked-lost-nothing file g (map function_at ms) (function_at main) has-functions Uses have-code in_file
+  -- nothing is lost of functions that call each other, and steps are counted
+  pub members-gain : IsWithin (range_bytes g.code) (code_of_file file) → Returning (RunsBack Uses) file g
+  members-gain in_file = linked-gains file g (map function_at ms) (function_at main) has-functions Uses have-code in_file
 
--- Nothing is lost of a function by itself.
-pub member-lost-nothing : (file : List ℕ) → AreBytes (code_of_file file) → (m : Member) (g : GroupTree) → AreMembers false (code_of_file file) (m ∷ []) m g → (Uses : ℕ → ℕ → Type 0)
-    → ((n : ℕ) → n < length m.graph.addrs → Uses (get_or m.graph.addrs n 0) (m.setting.uses (get_or m.graph.addrs n 0))) → IsWithin (range_bytes g.code) (code_of_file file) → ExactIn Uses file g
-member-lost-nothing file bytes m g are Uses uses in_file =
-    lost-nothing file g (function_at m) (has-functions false file bytes (m ∷ []) m g are Uses uses_of) Uses (have-code false file bytes (m ∷ []) m g are Uses uses_of) in_file
+-- .. of a function by itself
+pub member-gains : (file : List ℕ) → AreBytes (code_of_file file) → (m : Member) (g : GroupTree) → AreMembers false (code_of_file file) (m ∷ []) m g → (Uses : ℕ → ℕ → Type 0)
+    → ((n : ℕ) → n < length m.graph.addrs → Uses (get_or m.graph.addrs n 0) (m.setting.uses (get_or m.graph.addrs n 0))) → IsWithin (range_bytes g.code) (code_of_file file) → Returning (FirstReturnsIn Uses) file g
+member-gains file bytes m g are Uses uses in_file =
+    own-gains file g (function_at m) (has-functions false file bytes (m ∷ []) m g are Uses uses_of) Uses (have-code false file bytes (m ∷ []) m g are Uses uses_of) in_file
     (λ n lt. let own = are.each m are.listed in
     ap (option_map m.setting.functions) (uncalled-of (get_or m.graph.addrs n 0) (get_or m.graph.instrs n instr.Ebreak)
     (stands false (code_of_file file) m.at m.graph m.forest m.setting g.code own.graph own.forest bytes own.bytes own.fits n lt).fine))
@@ -129,3 +133,12 @@ member-lost-nothing file bytes m g are Uses uses in_file =
 
     uses_of : (x : Member) (n : ℕ) → Contains (m ∷ []) x → n < length x.graph.addrs → Uses (get_or x.graph.addrs n 0) (x.setting.uses (get_or x.graph.addrs n 0))
     uses_of x n c = subst (λ (x : Member). n < length x.graph.addrs → Uses (get_or x.graph.addrs n 0) (x.setting.uses (get_or x.graph.addrs n 0))) (only x c) (λ lt. uses n lt)
+
+-- .. by the memories that they use
+pub gain-linked : (file : List ℕ) (ms : List Member) (main : Member) (g : GroupTree) → AreBytes (code_of_file file) → AreMembers true (code_of_file file) ms main g → IsWithin (range_bytes g.code) (code_of_file file)
+    → Returning (RunsBack (UsedBy ms)) file g
+gain-linked file ms main g bytes are in_file = members-gain true file bytes ms main g are (UsedBy ms) (λ m n in_ms lt. (m, in_ms, node_at m.graph.addrs n lt, refl)) in_file
+
+pub gain-by-itself : (file : List ℕ) (m : Member) (g : GroupTree) → AreBytes (code_of_file file) → AreMembers false (code_of_file file) (m ∷ []) m g → IsWithin (range_bytes g.code) (code_of_file file)
+    → Returning (FirstReturnsIn (UsedBy (m ∷ []))) file g
+gain-by-itself file m g bytes are in_file = member-gains file bytes m g are (UsedBy (m ∷ [])) (λ n lt. (m, (0, omega arith, refl), node_at m.graph.addrs n lt, refl)) in_file

@@ -21,9 +21,10 @@ use Rattle.code_parts.specs.declared.callee.Callee.{Callee}
 use Rattle.code_parts.specs.Bodies as bodies
 use Rattle.code_parts.specs.Graph.{IsAlone, IsPart, IsGraph, IsCode}
 use Rattle.claims.specs.Headline.{AreApart, Region, is_within, held_in, Ends}
-use Rattle.claims.specs.Exact.{FirstReturns, Gives, Exact}
+use Rattle.claims.specs.Exact.{FirstReturns}
 use Rattle.claims.specs.LinkExact.{FirstReturnsIn, after_instruction}
 use Rattle.exactness.specs.Parts.{HasParts, HoldsCode, LeavesAs, Meets, turns_at, turns_for, LawOfPart}
+use Rattle.exactness.proofs.Counts.{Gains, Returning}
 use Rattle.exactness.proofs.Returns.{Steps, Comes, comes-plain, IsKept, kept-here}
 use Rattle.exactness.proofs.StateVariables.{Stands}
 use Rattle.exactness.proofs.PartLaw.{with_address, IsDone, Law, LawsBelow, Leaves, slack, slack_at, part-law}
@@ -201,8 +202,8 @@ module _ (f : Flow) (g : GroupTree) (entry : ℕ) (graph : IsGraph f) (has : IsC
     def : exits_at g (f.number p) ≡ bodies.exits_of f p
     def = exits_there g (f.number p) (part_def f p) (parts.defs p there)
 
-    told : (t : State) (k turns : ℕ) → Leaves f Counted pc_there args_there behind_there ReturnsThere NoCallThere GoodThere (CountedSteps regions) p k (t, 0 + k) (ending g (f.number p) (args s0) turns)
-        → LeavesAs g (f.number p) regions s0 turns Ret 0 t ⊎ Meets g (f.number p) regions s0 turns k
+    told : (t : State) (k turns : ℕ) → Leaves f Counted pc_there args_there behind_there ReturnsThere NoCallThere GoodThere (CountedSteps regions) p k turns (t, 0 + k) (ending g (f.number p) (args s0) turns)
+        → LeavesAs g (f.number p) regions s0 turns Ret 0 k t ⊎ Meets g (f.number p) regions s0 turns k
     told t k turns (inl r) =
         let exits : slice_get (exits_at g (f.number p)) 0 ≡ Some Ret = ap (λ xs. slice_get xs 0) def ∙ ret-at f p r.region r.returns in
         inl (record {
@@ -210,6 +211,7 @@ module _ (f : Flow) (g : GroupTree) (entry : ℕ) (graph : IsGraph f) (has : IsC
           there = exits;
           left = r.left;
           enough = omega arith;
+          few = r.few;
           done =
               (λ i. with_pc (exits_at g (f.number p)) (ending g (f.number p) (same s0 i) turns)) ∙ ap (with_pc (exits_at g (f.number p))) r.ends
               ∙ done-return (exits_at g (f.number p)) t.pc (args t) r.left exits ∙ (λ i. Done 0 t.pc (sym (same t) i) r.left);
@@ -231,6 +233,7 @@ module _ (f : Flow) (g : GroupTree) (entry : ℕ) (graph : IsGraph f) (has : IsC
             there = exits;
             left = l.left;
             enough = omega (arith, count.0, l.enough);
+            few = omega (arith, count.0, l.few);
             done =
                 (λ i. with_pc (exits_at g (f.number p)) (ending g (f.number p) (same s0 i) turns)) ∙ ap (with_pc (exits_at g (f.number p))) l.ends
                 ∙ done-exit (exits_at g (f.number p)) l.exit u.pc (args u) l.left exits ∙ (λ i. Done l.exit u.pc (sym (same u) i) l.left);
@@ -239,7 +242,7 @@ module _ (f : Flow) (g : GroupTree) (entry : ℕ) (graph : IsGraph f) (has : IsC
         })
 
     pub part-of-run : (t : State) (k : ℕ) → s0.pc ≡ f.addr (first f p) → FirstReturns regions s0 k t → (turns : ℕ) → turns_for f p k ≤ turns
-        → LeavesAs g (f.number p) regions s0 turns Ret 0 t ⊎ Meets g (f.number p) regions s0 turns k
+        → LeavesAs g (f.number p) regions s0 turns Ret 0 k t ⊎ Meets g (f.number p) regions s0 turns k
     part-of-run t k at returns turns le =
         told t k turns (laws k p there (s0, 0) (t, 0 + k) turns (kept-here f.regs regions s0, run-none s0) at
         (counted regions k 0 s0 t (comes-plain InFirst regions t k s0 (first-returns regions s0 k t few returns))) (enough-turns f p k turns le))
@@ -263,10 +266,10 @@ whole-turns : (o : Option ℕ) (k : ℕ) → turns_at o k ≤ 2 * k
 whole-turns None k = omega arith
 whole-turns (Some l) k = omega arith
 
--- A group of a definition for each part of a graph, whose code is the file's, loses nothing.
-pub nothing-lost : (file : List ℕ) (g : GroupTree) (f : Flow) (entry : ℕ) → IsGraph f → IsCode f g.code → IsAlone f → HasParts f entry g
-    → IsWithin (range_bytes g.code) (code_of_file file) → Exact file g
-nothing-lost file g f entry graph has alone parts in_file s regions starts k t returns =
+-- The returns of a group of a definition for each part of a graph, whose code is the file's: nothing is lost of it, and steps are counted.
+pub gains : (file : List ℕ) (g : GroupTree) (f : Flow) (entry : ℕ) → IsGraph f → IsCode f g.code → IsAlone f → HasParts f entry g
+    → IsWithin (range_bytes g.code) (code_of_file file) → Returning FirstReturns file g
+gains file g f entry graph has alone parts in_file s regions starts k t returns =
     by (law-of-part f g entry graph has alone parts last parts.whole regions s t k holds at returns (2 * k) (whole-turns (f.loop_of entry) k))
   where
     last : Part
@@ -284,14 +287,17 @@ nothing-lost file g f entry graph has alone parts in_file s regions starts k t r
     holds : HoldsCode g regions s
     holds = record { count = starts.count; code = λ a b e. starts.code a b e ∙ in_file a b e; beside_code = starts.beside_code }
 
-    by : LeavesAs g (f.number (Rest None entry)) regions s (2 * k) Ret 0 t ⊎ Meets g (f.number (Rest None entry)) regions s (2 * k) k → Gives g regions s (2 * k) t
+    by : LeavesAs g (f.number (Rest None entry)) regions s (2 * k) Ret 0 k t ⊎ Meets g (f.number (Rest None entry)) regions s (2 * k) k → Gains g regions s k t
     by (inl r) = record {
-      exit = r.number;
-      pc = t.pc;
-      results = held_in t g regions;
-      left = r.left;
-      done = (λ i. eval g (number i) (held_in s g regions) (2 * k)) ∙ r.done;
-      return = ap (λ d. slice_get (exits_at g d) r.number) number ∙ r.there;
-      ends = r.ends;
+      gives = record {
+        exit = r.number;
+        pc = t.pc;
+        results = held_in t g regions;
+        left = r.left;
+        done = (λ i. eval g (number i) (held_in s g regions) (2 * k)) ∙ r.done;
+        return = ap (λ d. slice_get (exits_at g d) r.number) number ∙ r.there;
+        ends = r.ends;
+      };
+      few = r.few;
     }
     by (inr m) = absurd (no-address f.returns m.leaves.number m.state.pc (ap (λ xs. slice_get xs m.leaves.number) (sym (exits_there g (f.number last) (part_def f last) def)) ∙ m.leaves.there))

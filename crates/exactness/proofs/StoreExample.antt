@@ -32,7 +32,8 @@ use Rattle.claims.specs.Headline.{Region, is_within}
 use Rattle.claims.specs.Exact.{FirstReturns, Exact}
 use Rattle.exactness.specs.Parts.{HasParts}
 use Rattle.exactness.proofs.Examples.{some_in, or_none, no_cut}
-use Rattle.exactness.proofs.Runs.{nothing-lost}
+use Rattle.exactness.proofs.Counts.{exact-of}
+use Rattle.exactness.proofs.Runs.{gains}
 
 abbrev instructions : ℕ → Instr
 instructions n = slice_index_or (instr.Store B4 11 10 (pos 0) ∷ instr.Jalr 0 1 (pos 0) ∷ []) n instr.Ecall
@@ -214,7 +215,7 @@ by_itself : IsAlone storing
 by_itself = record { mems = omega arith; uses = λ n lt. refl; calls = λ n lt. refl }
 
 pub exact-storing : (file : List ℕ) → IsWithin (range_bytes group.code) (code_of_file file) → Exact file group
-exact-storing file in_file = nothing-lost file group storing 0 is_graph is_code by_itself has_parts in_file
+exact-storing file in_file = exact-of FirstReturns file group (gains file group storing 0 is_graph is_code by_itself has_parts in_file)
 
 -- ---- a run of it, with four bytes at 0x30000 as its region
 

@@ -31,12 +31,14 @@ pub record HoldsCode (g : GroupTree) (regions : List Region) (s : State) : Type 
   pub code : IsWithin (range_bytes g.code) s.mem
   pub beside_code : (a b : ℕ) → range_bytes g.code a ≡ Some b → is_within regions a ≡ false
 
--- evaluation of the definition from s leaves it by that exit as t, with everything else unchanged, and so many turns left
-pub record LeavesAs (g : GroupTree) (d : ℕ) (regions : List Region) (s : State) (turns : ℕ) (exit : Exit) (least : ℕ) (t : State) : Type 0 where
+-- evaluation of the definition from s leaves it by that exit as t, so many steps later, with everything else unchanged, and so many turns left;
+-- each turn that it took is for at most 32 steps
+pub record LeavesAs (g : GroupTree) (d : ℕ) (regions : List Region) (s : State) (turns : ℕ) (exit : Exit) (least steps : ℕ) (t : State) : Type 0 where
   pub number : ℕ
   pub there : slice_get (exits_at g d) number ≡ Some exit
   pub left : ℕ
   pub enough : least ≤ left
+  pub few : steps + 32 * left ≤ 32 * turns
   pub done : eval g d (held_in s g regions) turns ≡ Done number t.pc (held_in t g regions) left
   pub ends : Ends g regions s t.pc (held_in t g regions) t
 
@@ -47,7 +49,7 @@ pub record Meets (g : GroupTree) (d : ℕ) (regions : List Region) (s : State) (
   pub fewer : after < k
   pub state : State
   pub met : run s after ≡ Some state
-  pub leaves : LeavesAs g d regions s turns (At state.pc) (2 * (k - after)) state
+  pub leaves : LeavesAs g d regions s turns (At state.pc) (2 * (k - after)) after state
 
 -- the turns for a run of k steps: before each step there are at most two entries into bodies, and before the first there are
 -- two for the rest of a loop's head alone
@@ -64,4 +66,4 @@ turns_for f (Rest r n) k = turns_at (f.loop_of n) k
 abbrev pub LawOfPart : Flow → GroupTree → Part → Type 0
 LawOfPart f g p =
     (regions : List Region) (s t : State) (k : ℕ) → HoldsCode g regions s → s.pc ≡ f.addr (first f p) → FirstReturns regions s k t
-    → (turns : ℕ) → turns_for f p k ≤ turns → LeavesAs g (f.number p) regions s turns Ret 0 t ⊎ Meets g (f.number p) regions s turns k
+    → (turns : ℕ) → turns_for f p k ≤ turns → LeavesAs g (f.number p) regions s turns Ret 0 k t ⊎ Meets g (f.number p) regions s turns k

@@ -16,13 +16,14 @@ ghost use Rattle.code_parts.specs.Graph.{IsAlone, IsCode, IsGraph, IsPart};
 ghost use Rattle.code_parts.specs.Flows.{HaveCode, alone, flow_of, group_of};
 ghost use Rattle.code_parts.specs.Members.{AreMembers, Member};
 ghost use Rattle.code_parts.specs.Order.{AreParts};
-ghost use Rattle.claims.specs.Exact.{Exact};
-ghost use Rattle.claims.specs.LinkExact.{ExactIn, LinkExact};
+ghost use Rattle.claims.specs.Exact.{Exact, FirstReturns};
+ghost use Rattle.claims.specs.LinkExact.{ExactIn, FirstReturnsIn, LinkExact};
 ghost use Rattle.exactness.specs.Functions.{UsedBy};
 ghost use Rattle.exactness.specs.Parts.{HasParts, LawOfPart};
+ghost use Rattle.exactness.specs.Turns.{CountsSteps, RunsBack};
 
 /// Of a function alone: a run from the entry of a part that returns is an evaluation of its
-/// definition, up to where the run leaves the part.
+/// definition, up to where the run leaves the part. Each turn is at most 32 steps.
 pub fn law_of_parts()
     ensures { (f : Flow) (g : GroupTree) (entry : ℕ)
         → IsGraph f
@@ -73,4 +74,30 @@ pub fn law_of_links()
         → AreMembers false (code_of_file file) (m ∷ []) m g
         → IsWithin (range_bytes g.code) (code_of_file file)
         → ExactIn (UsedBy (m ∷ [])) file g }
+{}
+
+/// So the turns of evaluation count the steps of the machine: each turn is at most 32 steps, and
+/// each step at most two turns. Of a function alone, of functions that call each other, with the
+/// steps of all of them, and of one of them by itself.
+pub fn law_of_counted_steps()
+    ensures function { (file : List ℕ) (e : ℕ) (g : GraphOf) (f : ForestOf)
+        (parts : List ThePart) (name : List ℕ) (ranges : List TheRange)
+        → IsGraphOf false (code_of_file file) e g
+        → IsForestOf g f
+        → AreBytes (code_of_file file)
+        → HaveCode g (code_of_file file) ranges
+        → AreParts (flow_of g f (alone g parts)) (number_of f) parts
+        → IsWithin (range_bytes ranges) (code_of_file file)
+        → CountsSteps 32 FirstReturns file (group_of (flow_of g f (alone g parts)) name ranges
+        parts) }
+    ensures linked { (file : List ℕ) (ms : List Member) (main : Member) (g : GroupTree)
+        → AreBytes (code_of_file file)
+        → AreMembers true (code_of_file file) ms main g
+        → IsWithin (range_bytes g.code) (code_of_file file)
+        → CountsSteps 32 (RunsBack (UsedBy ms)) file g }
+    ensures by_itself { (file : List ℕ) (m : Member) (g : GroupTree)
+        → AreBytes (code_of_file file)
+        → AreMembers false (code_of_file file) (m ∷ []) m g
+        → IsWithin (range_bytes g.code) (code_of_file file)
+        → CountsSteps 32 (FirstReturnsIn (UsedBy (m ∷ []))) file g }
 {}

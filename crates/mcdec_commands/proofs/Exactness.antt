@@ -45,8 +45,8 @@ use Rattle.mcdec_answers.specs.declared.answer.LawsAnswer.TheVariants as la
 use Rattle.mcdec_answers.specs.declared.answer.SmtAnswer.{SmtAnswer}
 use Rattle.mcdec_answers.specs.declared.answer.SmtAnswer.TheVariants as sm
 use Rattle.mcdec_answers.specs.declared.answer.MigrateAnswer.{MigrateAnswer}
-use Rattle.smt_export.specs.Reach.{IsLeastLoop}
-use Rattle.mcdec_commands.specs.SmtAnswer.{IsLoopFree, SmtGives}
+use Rattle.smt_export.specs.Reach.{IsLeastLoop, IsLoopFree}
+use Rattle.mcdec_commands.specs.SmtAnswer.{SmtGives}
 use Rattle.def_laws.specs.Rewriting.{AreRewritingSteps}
 use Rattle.def_laws.specs.Certs.{IsFirstBad}
 use Rattle.def_laws.proofs.OneResult.{no_result, one_first_bad, one_result}

@@ -4,21 +4,23 @@ use Rattle.std.specs.Prelude.{IfSome}
 use Rattle.std.proofs.lemmas.List.{length-map}
 use Rattle.mc_shelf.specs.Shelf.{Contents}
 use Rattle.tailrec_lang.specs.declared.group.Group.{Group}
-use Rattle.tailrec_lang.specs.Tree.{GroupTree, def_tree, group_tree}
+use Rattle.tailrec_lang.specs.Tree.{GroupTree, def_tree, group_tree, listed_def}
+use Rattle.tailrec_lang.specs.WellFormed.{IsWellFormed}
 use Rattle.smt_terms.specs.declared.script.Fun.{Fun}
-use Rattle.smt_terms.specs.Meaning.{no_names}
+use Rattle.smt_terms.specs.Meaning.{FunTree, no_names}
 use Rattle.smt_terms.specs.Sorts.{IsScript, rules_after}
 use Rattle.smt_terms.specs.Text.{script_text}
 use Rattle.smt_terms.specs.Views.{fun_tree}
-use Rattle.smt_export.specs.Reach.{IsLeastLoop, ReachesByCalls}
+use Rattle.smt_export.specs.Reach.{IsLeastLoop, IsLoopFree, ReachesByCalls}
 use Rattle.smt_export.specs.Telling.{HasRules, TellsEval}
+use Rattle.carried_claims.specs.Scripts.{TellsClaims}
 use Rattle.mcdec_answers.specs.declared.answer.Answer.{Answer}
 use Rattle.mcdec_answers.specs.declared.answer.Answer.TheVariants as answer
 use Rattle.mcdec_answers.specs.declared.answer.SmtAnswer.TheVariants as smt
 use Rattle.mcdec_answers.specs.Printed.{status}
 use Rattle.mcdec_words.specs.Command.{Smt, Words}
 use Rattle.mcdec_commands.specs.EvalAnswer.{IsNamed, proof_limit}
-use Rattle.mcdec_commands.specs.SmtAnswer.{IsLoopFree, IsScriptFor, SmtGives}
+use Rattle.mcdec_commands.specs.SmtAnswer.{IsScriptFor, SmtGives}
 use Rattle.mcdec_commands.specs.Answer.{Gives}
 use Rattle.mcdec_commands.specs.inner.Exporting.{DefGives}
 use Rattle.mcdec_commands.specs.inner.Writing.{ToldOrFault}
@@ -59,6 +61,12 @@ pub record IsExported (g : GroupTree) (def : ℕ) (funs : List Fun) : Type 0 whe
   pub script : IsScript (map fun_tree funs)
   pub sorts : (d : ℕ) → ReachesByCalls g def d → HasRules g (rules_after no_names (map fun_tree funs)) d
   pub tells : (d : ℕ) → ReachesByCalls g def d → TellsEval g d (map fun_tree funs)
+  pub claims : def ≡ listed_def g → TellsClaims g (map fun_tree funs)
+
+-- what is claimed of the group's function is told by the script of it
+pub claims-told : (g : GroupTree) (def : ℕ) (funs : List FunTree) → ((h : GroupTree) (fs : List FunTree) → IsWellFormed h → IsLoopFree h (listed_def h) → TellsEval h (listed_def h) fs → TellsClaims h fs)
+    → IsWellFormed g → IsLoopFree g def → ((d : ℕ) → ReachesByCalls g def d → TellsEval g d funs) → def ≡ listed_def g → TellsClaims g funs
+claims-told g def funs law wf free tells is = law g funs wf (subst (IsLoopFree g) is free) (tells (listed_def g) ([], is))
 
 pub no-def : (file name : List ℕ) (def : ℕ) (g : GroupTree) → length file ≤ proof_limit → IsNamed file name (Some g) → length g.defs ≤ def → DefGives file name def (answer.Smt smt.NoDef)
 no-def file name def g small named high = (small, g, named, high)
@@ -87,6 +95,7 @@ script-for proof name def file small g named funs m text is d same files holds =
   loop_free = m.free;
   funs = map fun_tree funs;
   exports = record { script = m.script; sorts = m.sorts; tells = m.tells };
+  claims = m.claims;
   spelled = is;
   told = ap (λ (n : ℕ). answer.Smt (smt.Exported n)) same;
 }

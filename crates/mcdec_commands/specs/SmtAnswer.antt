@@ -1,21 +1,18 @@
 -- When each answer to `smt` comes, and what script it writes.
 use Rattle.std.specs.Prelude.{◌≡◌, ℕ, ◌<◌, ◌≤◌, List, length, Some, None}
 use Rattle.mc_shelf.specs.Shelf.{Contents}
-use Rattle.tailrec_lang.specs.Tree.{GroupTree}
+use Rattle.tailrec_lang.specs.Tree.{GroupTree, listed_def}
 use Rattle.smt_terms.specs.Meaning.{FunTree, no_names}
 use Rattle.smt_terms.specs.Sorts.{IsScript, rules_after}
 use Rattle.smt_terms.specs.Text.{script_text}
-use Rattle.smt_export.specs.Reach.{EntersAgain, IsLeastLoop, ReachesByCalls}
+use Rattle.smt_export.specs.Reach.{IsLeastLoop, IsLoopFree, ReachesByCalls}
 use Rattle.smt_export.specs.Telling.{HasRules, TellsEval}
+use Rattle.carried_claims.specs.Scripts.{TellsClaims}
 use Rattle.mcdec_answers.specs.declared.answer.Answer.{Answer}
 use Rattle.mcdec_answers.specs.declared.answer.Answer.TheVariants.{Smt}
 use Rattle.mcdec_answers.specs.declared.answer.SmtAnswer.{SmtAnswer}
 use Rattle.mcdec_answers.specs.declared.answer.SmtAnswer.TheVariants as answer
 use Rattle.mcdec_commands.specs.EvalAnswer.{HasBadDef, HasBadLine, IsNamed, proof_limit}
-
--- no definition that this one reaches by calls enters itself again
-abbrev pub IsLoopFree : GroupTree → ℕ → Type 0
-IsLoopFree g def = (d : ℕ) → ReachesByCalls g def d → EntersAgain g d → ⊥
 
 -- The functions are well-sorted. Those of each definition that this one reaches by calls are among them, and tell its evaluation.
 pub record Exports (g : GroupTree) (def : ℕ) (funs : List FunTree) : Type 0 where
@@ -35,8 +32,8 @@ SmtGives file name def (answer.Loop least) =
 SmtGives file name def (answer.Exported d) =
     (length file ≤ proof_limit) × (g : GroupTree) × IsNamed file name (Some g) × (def < length g.defs) × IsLoopFree g def × (d ≡ def)
 
--- The text of a script that exports this definition of the first group of the name, where the name PROOF holds a file. The answer tells the
--- definition.
+-- The text of a script that exports this definition of the first group of the name, where the name PROOF holds a file. Of the group's
+-- function it tells what is claimed of that. The answer tells the definition.
 pub record IsScriptFor (files : Contents) (proof name : List ℕ) (def : ℕ) (a : Answer) (text : List ℕ) : Type 0 where
   pub file : List ℕ
   pub holds : files proof ≡ Some file
@@ -47,5 +44,6 @@ pub record IsScriptFor (files : Contents) (proof name : List ℕ) (def : ℕ) (a
   pub loop_free : IsLoopFree group def
   pub funs : List FunTree
   pub exports : Exports group def funs
+  pub claims : def ≡ listed_def group → TellsClaims group funs
   pub spelled : text ≡ script_text funs
   pub told : a ≡ Smt (answer.Exported def)

@@ -18,6 +18,7 @@ ghost use Rattle.mcdec_commands.specs.inner.Shelves.{ReadsThenWrites, WritesFile
 use crate::load::{PROOF_LIMIT, not_read};
 use crate::output::write_answer;
 use crate::search::{Refusal, find_group};
+use carried_claims::law_of_exported_functions;
 use mc_shelf::{Shelf, read_file};
 use mcdec_answers::{Answer, SmtAnswer};
 use mcdec_words::Smt;
@@ -96,6 +97,7 @@ fn export_def<S: Shelf>(alloc: Global, g: &Group, s: &Smt<'_>, shelf: &mut S) ->
         Err(ExportFault::NoMemory) => return Answer::NoMemory,
     };
     let _ = script.funs();
+    law_of_exported_functions();
     let Ok(text) = script_bytes(alloc, &script) else {
         return Answer::NoMemory;
     };

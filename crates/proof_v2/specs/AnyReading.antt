@@ -1,5 +1,5 @@
 -- What a reader of texts of each version has read, and what it answers.
-use Rattle.std.specs.Prelude.{◌≡◌, ℕ, Bool, true, false, List, [], ◌∷◌, ◌++◌, map, Option, Some, None, Result, Ok, Err, IfSome, if◌then◌else◌}
+use Rattle.std.specs.Prelude.{◌≡◌, ℕ, Bool, true, false, List, [], ◌∷◌, ◌++◌, map, Option, Some, None, Result, Ok, Err}
 use Rattle.mc_text.specs.Fault.{IsBadAt}
 use Rattle.tailrec_lang.specs.Tree.{GroupTree}
 use Rattle.term_arena.specs.declared.node.Node.{Node}
@@ -14,22 +14,29 @@ use Rattle.proof_text.specs.Proofs.{bare}
 use Rattle.proof_text.specs.Answers.{NoItemOver}
 use Rattle.short_text.specs.declared.short.Short.{Short}
 use Rattle.short_text.specs.declared.short.ShortLine.TheVariants.{Term, Proof}
+use Rattle.short_text.specs.ShortProofs.{table_of}
 use Rattle.short_text.specs.inner.ShortReaders.{AreKept, KeptLines}
 use Rattle.proof_v2.specs.declared.any_reader.AnyLine.{AnyLine}
 use Rattle.proof_v2.specs.declared.any_reader.AnyLine.TheVariants as any
 use Rattle.proof_v2.specs.AnyText.{AnyProof, any_lines, any_texts}
 
--- How far the text was read, and what is kept of the lines behind the last group until they have ended: the terms of its table so far,
--- and whether lines of its proof have begun.
+-- How far the text was read, and what is kept of the lines behind the last group: the terms of its table so far, and whether lines of
+-- its proof have begun.
 pub record AnyState : Type 0 where
   pub progress : Progress
-  pub kept : Option KeptLines
+  pub kept : KeptLines
 
--- .. where this was kept, and the lines have ended or not
-abbrev pub reading_state : Progress → KeptLines → Bool → AnyState
-reading_state progress kept over = record { progress = progress; kept = if over then None else Some kept }
+abbrev pub reading_state : Progress → KeptLines → AnyState
+reading_state progress kept = record { progress = progress; kept = kept }
 
--- it is kept of these lines; where no line has a table, that is empty
+-- the table that lines of that version have: but in version 2 none
+abbrev pub table_in : (k : Known) → List (any_lines k).Line → List Node
+table_in One ls = []
+table_in Two ls = table_of ls
+table_in Three ls = []
+table_in Four ls = []
+
+-- it is kept of these lines
 abbrev pub AreKeptIn : (k : Known) → KeptLines → List (any_lines k).Line → Type 0
 AreKeptIn One kept ls = kept.table ≡ []
 AreKeptIn Two kept ls = AreKept kept ls
@@ -46,7 +53,7 @@ lines_of_last (p ∷ q ∷ ps) = lines_of_last (q ∷ ps)
 pub record HasGivenAny (k : Known) (ps : List (AnyProof k)) (s : AnyState) : Type 0 where
   pub version : s.progress.version ≡ k
   pub given : HasGivenOver (any_lines k) ps s.progress
-  pub kept : IfSome s.kept (λ kept. AreKeptIn k kept (lines_of_last ps))
+  pub kept : AreKeptIn k s.kept (lines_of_last ps)
 
 -- with further lines
 abbrev pub with_lines : {L : Type 0} → ProofOf L → List L → ProofOf L

@@ -1,15 +1,17 @@
 //! Reading a text of each version, one group or line of a proof a call.
 
-ghost use Rattle.std.specs.Prelude.{◌≡◌, ◌≤◌, ◌<◌, [], IfSome, OnErr, length};
+ghost use Rattle.std.specs.Prelude.{◌≡◌, ◌≤◌, ◌<◌, [], List as Items, OnErr, length};
 ghost use Rattle.tailrec_lang.specs.Eval.{HasFewNeeds};
 ghost use Rattle.tailrec_lang.specs.Tree.{group_tree};
 ghost use Rattle.group_text.specs.Limits.{IsGroupIn};
 ghost use Rattle.group_text.specs.Version.{version_of};
+ghost use Rattle.group_text.specs.declared.version.Version.{Version as Known};
 ghost use Rattle.group_text.specs.declared.version.Version.TheVariants.{Two};
 ghost use Rattle.proof_text.specs.Answers.{OnBad, OnEnd, OnGiven};
 ghost use Rattle.proof_text.specs.FirstProofs.{ProofEnds};
 ghost use Rattle.checker.specs.inner.Checking.{IsSameText};
-ghost use Rattle.proof_v2.specs.AnyReading.{AreLinesIn, AreSomeLinesIn, AreTermsIn, EndsAny, GivesGroupAny, GivesLines, HasGivenAny, StopsGroups, StopsLines, as_item, reading_state};
+ghost use Rattle.proof_v2.specs.AnyReading.{AreLinesIn, AreSomeLinesIn, AreTermsIn, EndsAny, GivesGroupAny, GivesLines, HasGivenAny, StopsGroups, StopsLines, as_item, lines_of_last, reading_state, table_in};
+ghost use Rattle.proof_v2.specs.AnyText.{AnyProof};
 ghost use Rattle.proof_v2.specs.Titles.{any_version};
 
 use crate::short_reading::{pass_short, short_group, short_line};
@@ -38,25 +40,18 @@ pub struct AnyReader<'a> {
     version: Version,
     reader: Reader<'a>,
     lines: ShortLines,
-    /// The lines of a proof of version 2 have ended.
-    over: bool,
 }
 
 impl<'a> Model for AnyReader<'a> {
-    ghost use Rattle.std.specs.Prelude.{◌≡◌, List, false, true};
-    ghost use Rattle.group_text.specs.declared.version.Version.TheVariants.{Two};
-    ghost use Rattle.proof_text.specs.FirstProofs.{ProofEnds};
-    ghost use Rattle.short_text.specs.declared.short.ShortLine.{ShortLine};
-    ghost use Rattle.short_text.specs.ShortProofs.{AreShortLines};
-    ghost use Rattle.short_text.specs.inner.ShortReaders.{AreKept};
+    ghost use Rattle.std.specs.Prelude.{◌≡◌};
     ghost use Rattle.proof_v2.specs.AnyReading.{AnyState, reading_state};
+    ghost use Rattle.proof_v2.specs.inner.ShortReading.{IsOpen};
 
     ghost Value = { AnyState };
 
-    ghost view = { λ s. reading_state s.reader s.lines s.over };
+    ghost view = { λ s. reading_state s.reader s.lines };
 
-    ghost invariant = { λ s. (s.version ≡ s.reader.version) × (s.over ≡ false → (before : List ShortLine) × AreKept s.lines before × AreShortLines before)
-        × (s.over ≡ true → (s.version ≡ Two) × ProofEnds s.reader.rest) };
+    ghost invariant = { λ s. (s.version ≡ s.reader.version) × IsOpen s.lines };
 }
 
 impl<'a> AnyReader<'a> {
@@ -80,7 +75,6 @@ impl<'a> AnyReader<'a> {
             version,
             reader: Reader::of_version(text, version),
             lines: ShortLines::new(alloc),
-            over: false,
         }
     }
 
@@ -101,9 +95,9 @@ impl<'a> AnyReader<'a> {
         ensures fault_same { OnErr result (self.new ≡ self.old) }
     {
         if is_short(self.version) {
-            short_group(alloc, &mut self.reader, &mut self.lines, &mut self.over)
+            short_group(alloc, &mut self.reader, &mut self.lines)
         } else {
-            whole_group(alloc, &mut self.reader, &self.lines, self.over)
+            whole_group(alloc, &mut self.reader, &self.lines)
         }
     }
 
@@ -124,15 +118,9 @@ impl<'a> AnyReader<'a> {
             self.new) }
     {
         if is_short(self.version) {
-            short_line(
-                alloc,
-                &mut self.reader,
-                &mut self.lines,
-                &mut self.over,
-                group,
-            )
+            short_line(alloc, &mut self.reader, &mut self.lines, group)
         } else {
-            whole_line(alloc, &mut self.reader, &self.lines, self.over, group)
+            whole_line(alloc, &mut self.reader, &self.lines, group)
         }
     }
 
@@ -155,22 +143,18 @@ impl<'a> AnyReader<'a> {
             self.new) }
     {
         if is_short(self.version) {
-            pass_short(
-                alloc,
-                &mut self.reader,
-                &mut self.lines,
-                &mut self.over,
-                group,
-            )
+            pass_short(alloc, &mut self.reader, &mut self.lines, group)
         } else {
-            pass_whole(alloc, &mut self.reader, &self.lines, self.over, group)
+            pass_whole(alloc, &mut self.reader, &self.lines, group)
         }
     }
 
-    /// The terms of the last group's table that were read, by their numbers, until its lines have
-    /// ended. Only texts of version 2 have them.
+    /// The terms of the last group's table that were read, by their numbers. Only texts of version
+    /// 2 have them, and there the first call for a line of a proof reads all.
     pub fn table(&self) -> &[Node]
-        ensures { IfSome self.now.kept (λ kept. result.now ≡ kept.table) }
+        ensures { (k : Known) (ps : Items (AnyProof k))
+            → HasGivenAny k ps self.now
+            → result.now ≡ table_in k (lines_of_last ps) }
     {
         self.lines.table()
     }
@@ -189,18 +173,17 @@ fn whole_group(
     alloc: Global,
     reader: &mut Reader<'_>,
     lines: &ShortLines,
-    over: bool,
 ) -> Result<Option<Group>, TextFault>
     requires { reader.old.version ≡ Two → ⊥ }
     ensures same { IsSameText reader.new reader.old }
     ensures given { OnGiven result (λ g.
-        GivesGroupAny (group_tree g) (reading_state reader.old lines.now over)
-        (reading_state reader.new lines.now over)) }
+        GivesGroupAny (group_tree g) (reading_state reader.old lines.now)
+        (reading_state reader.new lines.now)) }
     ensures fits { OnGiven result (λ g. IsGroupIn (version_of reader.new.version) (group_tree g)) }
     ensures needs { OnGiven result (λ g. HasFewNeeds (group_tree g)) }
     ensures shorter { OnGiven result (λ _. length reader.new.rest < length reader.old.rest) }
-    ensures end { OnEnd result (EndsAny (reading_state reader.old lines.now over)) }
-    ensures bad { OnBad result (λ n. StopsGroups n (reading_state reader.old lines.now over)) }
+    ensures end { OnEnd result (EndsAny (reading_state reader.old lines.now)) }
+    ensures bad { OnBad result (λ n. StopsGroups n (reading_state reader.old lines.now)) }
     ensures end_same { OnEnd result (reader.new ≡ reader.old) }
     ensures fault_same { OnErr result (reader.new ≡ reader.old) }
 {
@@ -212,24 +195,23 @@ fn whole_line(
     alloc: Global,
     reader: &mut Reader<'_>,
     lines: &ShortLines,
-    over: bool,
     group: &Group,
 ) -> Result<Option<AnyLine>, TextFault>
     requires version { reader.old.version ≡ Two → ⊥ }
     requires group { IsGroupIn (version_of reader.old.version) (group_tree group.now) }
     ensures same { IsSameText reader.new reader.old }
     ensures given { OnGiven result (λ l. GivesLines (group_tree group.now) (λ k. AreLinesIn k l)
-        (reading_state reader.old lines.now over) (reading_state reader.new lines.now over)) }
+        (reading_state reader.old lines.now) (reading_state reader.new lines.now)) }
     ensures shorter { OnGiven result (λ _. length reader.new.rest < length reader.old.rest) }
     ensures end { OnEnd result (ProofEnds reader.new.rest
-        × GivesLines (group_tree group.now) AreTermsIn (reading_state reader.old lines.now over)
-        (reading_state reader.new lines.now over)) }
+        × GivesLines (group_tree group.now) AreTermsIn (reading_state reader.old lines.now)
+        (reading_state reader.new lines.now)) }
     ensures no_longer { length reader.new.rest ≤ length reader.old.rest }
     ensures bad { OnBad result (λ n.
-        StopsLines (group_tree group.now) n (reading_state reader.old lines.now over)
-        (reading_state reader.new lines.now over)) }
+        StopsLines (group_tree group.now) n (reading_state reader.old lines.now)
+        (reading_state reader.new lines.now)) }
     ensures fault { OnErr result (GivesLines (group_tree group.now) AreTermsIn
-        (reading_state reader.old lines.now over) (reading_state reader.new lines.now over)) }
+        (reading_state reader.old lines.now) (reading_state reader.new lines.now)) }
 {
     match reader.line(alloc, group) {
         Ok(Some(line)) => Ok(Some(AnyLine::One(line))),
@@ -243,26 +225,25 @@ fn pass_whole(
     alloc: Global,
     reader: &mut Reader<'_>,
     lines: &ShortLines,
-    over: bool,
     group: &Group,
 ) -> Result<bool, TextFault>
     requires version { reader.old.version ≡ Two → ⊥ }
     requires group { IsGroupIn (version_of reader.old.version) (group_tree group.now) }
     ensures same { IsSameText reader.new reader.old }
     ensures given { OnGiven (as_item result) (λ _.
-        GivesLines (group_tree group.now) AreSomeLinesIn (reading_state reader.old lines.now over)
-        (reading_state reader.new lines.now over)) }
+        GivesLines (group_tree group.now) AreSomeLinesIn (reading_state reader.old lines.now)
+        (reading_state reader.new lines.now)) }
     ensures shorter { OnGiven (as_item result) (λ _.
         length reader.new.rest < length reader.old.rest) }
     ensures end { OnEnd (as_item result) (ProofEnds reader.new.rest
-        × GivesLines (group_tree group.now) AreTermsIn (reading_state reader.old lines.now over)
-        (reading_state reader.new lines.now over)) }
+        × GivesLines (group_tree group.now) AreTermsIn (reading_state reader.old lines.now)
+        (reading_state reader.new lines.now)) }
     ensures no_longer { length reader.new.rest ≤ length reader.old.rest }
     ensures bad { OnBad (as_item result) (λ n.
-        StopsLines (group_tree group.now) n (reading_state reader.old lines.now over)
-        (reading_state reader.new lines.now over)) }
+        StopsLines (group_tree group.now) n (reading_state reader.old lines.now)
+        (reading_state reader.new lines.now)) }
     ensures fault { OnErr result (GivesLines (group_tree group.now) AreTermsIn
-        (reading_state reader.old lines.now over) (reading_state reader.new lines.now over)) }
+        (reading_state reader.old lines.now) (reading_state reader.new lines.now)) }
 {
     match reader.spelled_line(alloc, group) {
         Ok(Some(_line)) => Ok(true),

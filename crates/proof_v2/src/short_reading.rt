@@ -29,31 +29,29 @@ pub(crate) fn short_group(
     alloc: Global,
     reader: &mut Reader<'_>,
     lines: &mut ShortLines,
-    over: &mut bool,
 ) -> Result<Option<Group>, TextFault>
     requires version { reader.old.version ≡ Two }
-    requires open { IsOpen reader.old lines.old over.old }
-    ensures open { IsOpen reader.new lines.new over.new }
+    requires open { IsOpen lines.old }
+    ensures open { IsOpen lines.new }
     ensures same { IsSameText reader.new reader.old }
     ensures given { OnGiven result (λ g.
-        GivesGroupAny (group_tree g) (reading_state reader.old lines.old over.old)
-        (reading_state reader.new lines.new over.new)) }
+        GivesGroupAny (group_tree g) (reading_state reader.old lines.old)
+        (reading_state reader.new lines.new)) }
     ensures fits { OnGiven result (λ g. IsGroupIn (version_of reader.new.version) (group_tree g)) }
     ensures needs { OnGiven result (λ g. HasFewNeeds (group_tree g)) }
     ensures shorter { OnGiven result (λ _. length reader.new.rest < length reader.old.rest) }
-    ensures end { OnEnd result (EndsAny (reading_state reader.old lines.old over.old)) }
-    ensures bad { OnBad result (λ n. StopsGroups n (reading_state reader.old lines.old over.old)) }
-    ensures end_same { OnEnd result (reading_state reader.new lines.new over.new
-        ≡ reading_state reader.old lines.old over.old) }
-    ensures fault_same { OnErr result (reading_state reader.new lines.new over.new
-        ≡ reading_state reader.old lines.old over.old) }
+    ensures end { OnEnd result (EndsAny (reading_state reader.old lines.old)) }
+    ensures bad { OnBad result (λ n. StopsGroups n (reading_state reader.old lines.old)) }
+    ensures end_same { OnEnd result (reading_state reader.new lines.new
+        ≡ reading_state reader.old lines.old) }
+    ensures fault_same { OnErr result (reading_state reader.new lines.new
+        ≡ reading_state reader.old lines.old) }
 {
     law_of_short_lines();
     let mut fresh = ShortLines::new(alloc);
     match reader.next_group(alloc, &mut fresh) {
         Ok(Some(group)) => {
             *lines = fresh;
-            *over = false;
             Ok(Some(group))
         }
         Ok(None) => Ok(None),
@@ -66,30 +64,29 @@ pub(crate) fn short_line(
     alloc: Global,
     reader: &mut Reader<'_>,
     lines: &mut ShortLines,
-    over: &mut bool,
     group: &Group,
 ) -> Result<Option<AnyLine>, TextFault>
     requires version { reader.old.version ≡ Two }
-    requires open { IsOpen reader.old lines.old over.old }
+    requires open { IsOpen lines.old }
     requires group { IsGroupIn (version_of reader.old.version) (group_tree group.now) }
-    ensures open { IsOpen reader.new lines.new over.new }
+    ensures open { IsOpen lines.new }
     ensures same { IsSameText reader.new reader.old }
     ensures given { OnGiven result (λ l. GivesLines (group_tree group.now) (λ k. AreLinesIn k l)
-        (reading_state reader.old lines.old over.old)
-        (reading_state reader.new lines.new over.new)) }
+        (reading_state reader.old lines.old)
+        (reading_state reader.new lines.new)) }
     ensures shorter { OnGiven result (λ _. length reader.new.rest < length reader.old.rest) }
     ensures end { OnEnd result (ProofEnds reader.new.rest
-        × GivesLines (group_tree group.now) AreTermsIn (reading_state reader.old lines.old over.old)
-        (reading_state reader.new lines.new over.new)) }
+        × GivesLines (group_tree group.now) AreTermsIn (reading_state reader.old lines.old)
+        (reading_state reader.new lines.new)) }
     ensures no_longer { length reader.new.rest ≤ length reader.old.rest }
     ensures bad { OnBad result (λ n.
-        StopsLines (group_tree group.now) n (reading_state reader.old lines.old over.old)
-        (reading_state reader.new lines.new over.new)) }
+        StopsLines (group_tree group.now) n (reading_state reader.old lines.old)
+        (reading_state reader.new lines.new)) }
     ensures fault { OnErr result (GivesLines (group_tree group.now) AreTermsIn
-        (reading_state reader.old lines.old over.old)
-        (reading_state reader.new lines.new over.new)) }
+        (reading_state reader.old lines.old)
+        (reading_state reader.new lines.new)) }
 {
-    while let Some(line) = next_short(alloc, reader, lines, over, group)? {
+    while let Some(line) = next_short(alloc, reader, lines, group)? {
         if let ShortLine::Proof(short) = line {
             return Ok(Some(AnyLine::Two(short)));
         }
@@ -103,32 +100,31 @@ pub(crate) fn pass_short(
     alloc: Global,
     reader: &mut Reader<'_>,
     lines: &mut ShortLines,
-    over: &mut bool,
     group: &Group,
 ) -> Result<bool, TextFault>
     requires version { reader.old.version ≡ Two }
-    requires open { IsOpen reader.old lines.old over.old }
+    requires open { IsOpen lines.old }
     requires group { IsGroupIn (version_of reader.old.version) (group_tree group.now) }
-    ensures open { IsOpen reader.new lines.new over.new }
+    ensures open { IsOpen lines.new }
     ensures same { IsSameText reader.new reader.old }
     ensures given { OnGiven (as_item result) (λ _.
         GivesLines (group_tree group.now) AreSomeLinesIn
-        (reading_state reader.old lines.old over.old)
-        (reading_state reader.new lines.new over.new)) }
+        (reading_state reader.old lines.old)
+        (reading_state reader.new lines.new)) }
     ensures shorter { OnGiven (as_item result) (λ _.
         length reader.new.rest < length reader.old.rest) }
     ensures end { OnEnd (as_item result) (ProofEnds reader.new.rest
-        × GivesLines (group_tree group.now) AreTermsIn (reading_state reader.old lines.old over.old)
-        (reading_state reader.new lines.new over.new)) }
+        × GivesLines (group_tree group.now) AreTermsIn (reading_state reader.old lines.old)
+        (reading_state reader.new lines.new)) }
     ensures no_longer { length reader.new.rest ≤ length reader.old.rest }
     ensures bad { OnBad (as_item result) (λ n.
-        StopsLines (group_tree group.now) n (reading_state reader.old lines.old over.old)
-        (reading_state reader.new lines.new over.new)) }
+        StopsLines (group_tree group.now) n (reading_state reader.old lines.old)
+        (reading_state reader.new lines.new)) }
     ensures fault { OnErr result (GivesLines (group_tree group.now) AreTermsIn
-        (reading_state reader.old lines.old over.old)
-        (reading_state reader.new lines.new over.new)) }
+        (reading_state reader.old lines.old)
+        (reading_state reader.new lines.new)) }
 {
-    while let Some(spelled) = next_spelled(alloc, reader, lines, over, group)? {
+    while let Some(spelled) = next_spelled(alloc, reader, lines, group)? {
         if let ShortLine::Proof(_line) = spelled.line {
             return Ok(true);
         }
@@ -141,45 +137,34 @@ fn next_short(
     alloc: Global,
     reader: &mut Reader<'_>,
     lines: &mut ShortLines,
-    over: &mut bool,
     group: &Group,
 ) -> Result<Option<ShortLine>, TextFault>
     requires version { reader.old.version ≡ Two }
-    requires open { IsOpen reader.old lines.old over.old }
+    requires open { IsOpen lines.old }
     requires group { IsGroupIn (version_of reader.old.version) (group_tree group.now) }
-    ensures open { IsOpen reader.new lines.new over.new }
+    ensures open { IsOpen lines.new }
     ensures same { IsSameText reader.new reader.old }
     ensures given { OnGiven result (λ l.
         (ps : Items ShortProof) (p : ShortProof)
-        → HasGivenAny Two (ps ++ p ∷ []) (reading_state reader.old lines.old over.old)
+        → HasGivenAny Two (ps ++ p ∷ []) (reading_state reader.old lines.old)
         → p.group ≡ group_tree group.now
         → HasGivenAny Two (ps ++ with_line p l ∷ [])
-        (reading_state reader.new lines.new over.new)) }
+        (reading_state reader.new lines.new)) }
     ensures shorter { OnGiven result (λ _. length reader.new.rest < length reader.old.rest) }
     ensures end { OnEnd result (ProofEnds reader.new.rest
-        × Stays (reading_state reader.old lines.old over.old)
-        (reading_state reader.new lines.new over.new)) }
+        × Stays (reading_state reader.old lines.old)
+        (reading_state reader.new lines.new)) }
     ensures bad { OnBad result (λ n.
         (ps : Items ShortProof) (p : ShortProof)
-        → HasGivenAny Two (ps ++ p ∷ []) (reading_state reader.old lines.old over.old)
+        → HasGivenAny Two (ps ++ p ∷ []) (reading_state reader.old lines.old)
         → p.group ≡ group_tree group.now
         → IsBadAt short_texts reader.old.text n
         × NoItemOver short_lines (ps ++ p ∷ []) reader.old) }
-    ensures fault { OnErr result (Stays (reading_state reader.old lines.old over.old)
-        (reading_state reader.new lines.new over.new)) }
+    ensures fault { OnErr result (Stays (reading_state reader.old lines.old)
+        (reading_state reader.new lines.new)) }
 {
-    if *over {
-        return Ok(None);
-    }
     law_of_short_lines();
-    match reader.next_line(alloc, group, lines) {
-        Ok(Some(line)) => Ok(Some(line)),
-        Ok(None) => {
-            *over = true;
-            Ok(None)
-        }
-        Err(fault) => Err(fault),
-    }
+    reader.next_line(alloc, group, lines)
 }
 
 /// The next term of a table or line of a proof, as it is spelled.
@@ -187,48 +172,37 @@ fn next_spelled(
     alloc: Global,
     reader: &mut Reader<'_>,
     lines: &mut ShortLines,
-    over: &mut bool,
     group: &Group,
 ) -> Result<Option<SpelledShort>, TextFault>
     requires version { reader.old.version ≡ Two }
-    requires open { IsOpen reader.old lines.old over.old }
+    requires open { IsOpen lines.old }
     requires group { IsGroupIn (version_of reader.old.version) (group_tree group.now) }
-    ensures open { IsOpen reader.new lines.new over.new }
+    ensures open { IsOpen lines.new }
     ensures same { IsSameText reader.new reader.old }
     ensures given { OnGiven result (λ l.
         (ps : Items ShortProof) (p : ShortProof)
-        → HasGivenAny Two (ps ++ p ∷ []) (reading_state reader.old lines.old over.old)
+        → HasGivenAny Two (ps ++ p ∷ []) (reading_state reader.old lines.old)
         → p.group ≡ group_tree group.now
         → HasGivenAny Two (ps ++ with_line p (spelled_short (group_tree group.now).code l) ∷ [])
-        (reading_state reader.new lines.new over.new)) }
+        (reading_state reader.new lines.new)) }
     ensures shorter { OnGiven result (λ _. length reader.new.rest < length reader.old.rest) }
     ensures end { OnEnd result (ProofEnds reader.new.rest
-        × Stays (reading_state reader.old lines.old over.old)
-        (reading_state reader.new lines.new over.new)) }
+        × Stays (reading_state reader.old lines.old)
+        (reading_state reader.new lines.new)) }
     ensures bad { OnBad result (λ n.
         (ps : Items ShortProof) (p : ShortProof)
-        → HasGivenAny Two (ps ++ p ∷ []) (reading_state reader.old lines.old over.old)
+        → HasGivenAny Two (ps ++ p ∷ []) (reading_state reader.old lines.old)
         → p.group ≡ group_tree group.now
         → IsBadAt short_texts reader.old.text n
         × NoItemOver short_lines (ps ++ p ∷ []) reader.old) }
-    ensures fault { OnErr result (Stays (reading_state reader.old lines.old over.old)
-        (reading_state reader.new lines.new over.new)) }
+    ensures fault { OnErr result (Stays (reading_state reader.old lines.old)
+        (reading_state reader.new lines.new)) }
 {
-    if *over {
-        return Ok(None);
-    }
     law_of_short_lines();
     let mut rows = SpelledRows {
         lines: mem::replace(lines, ShortLines::new(alloc)),
     };
     let next = reader.next_line(alloc, group, &mut rows);
     *lines = rows.lines;
-    match next {
-        Ok(Some(spelled)) => Ok(Some(spelled)),
-        Ok(None) => {
-            *over = true;
-            Ok(None)
-        }
-        Err(fault) => Err(fault),
-    }
+    next
 }

@@ -43,6 +43,10 @@ ReachesBy g d (c ∷ way) e = ReachesBy g d way c × Calls g c e
 abbrev pub ReachesByCalls : GroupTree → ℕ → ℕ → Type 0
 ReachesByCalls g d e = (way : List ℕ) × ReachesBy g d way e
 
+-- no definition that this one reaches by calls enters itself again
+abbrev pub IsLoopFree : GroupTree → ℕ → Type 0
+IsLoopFree g def = (d : ℕ) → ReachesByCalls g def d → EntersAgain g d → ⊥
+
 -- the least of the definitions that d reaches and that enter themselves again
 pub record IsLeastLoop (g : GroupTree) (d l : ℕ) : Type 0 where
   pub reached : ReachesByCalls g d l

@@ -9,7 +9,7 @@ use Rattle.rv_words.specs.Ranges.{range_bytes}
 use Rattle.rv_decode.specs.declared.instruction.Instr.TheVariants as instr
 use Rattle.sep_assert.specs.Code.{IsWithin}
 use Rattle.elf_image.specs.Image.{code_of_file}
-use Rattle.tailrec_lang.specs.Tree.{GroupTree}
+use Rattle.tailrec_lang.specs.Tree.{GroupTree, group_tree}
 use Rattle.group_text.specs.Limits.{IsDef, IsGroupIn, IsName}
 use Rattle.group_text.specs.Version.{version_4}
 use Rattle.group_text.specs.declared.version.Version.TheVariants.{Four}
@@ -38,7 +38,9 @@ use Rattle.code_parts.proofs.FlowSize.{is-small, parts-fit}
 use Rattle.code_parts.proofs.GraphCode.{code_in}
 use Rattle.code_parts.proofs.Groups.{group-formed}
 use Rattle.code_parts.proofs.Lists.{in-contains, in-true, length-map, slice-mapped}
-use Rattle.exactness.proofs.Members.{member-lost-nothing}
+use Rattle.claims.specs.LinkExact.{FirstReturnsIn}
+use Rattle.exactness.proofs.Counts.{Returning, counts-of, exact-of}
+use Rattle.exactness.proofs.Members.{member-gains}
 use Rattle.path_walk.specs.Closed.{AreClosedIn}
 use Rattle.path_walk.specs.Split.{IsSplitItem, split}
 use Rattle.path_walk.specs.declared.item.Item.{Item}
@@ -50,7 +52,7 @@ use Rattle.decompiler.proofs.CodeListed.{bytes_are, ranges_small, registers_are}
 use Rattle.decompiler.proofs.Fragment.{in_fragment}
 use Rattle.decompiler.proofs.PartsListed.{defs_are}
 use Rattle.stack_split.specs.Listing.{AreTwo, IsSplitItemFor}
-use Rattle.stack_split.specs.SplitExact.{SplitExact, UsesSplit}
+use Rattle.stack_split.specs.SplitExact.{UsesSplit}
 use Rattle.stack_split.specs.inner.Accesses.{AreStackAccesses}
 
 -- ---- which memory an access has
@@ -158,9 +160,9 @@ module _ (file name : List ℕ) (e : ℕ) (g : GraphOf) (f : ForestOf) (second :
           proved = record { closed = closed.closed (length (map (part_def (flow_of g f (setting_of (split g second parts)))) parts) - 1) (omega (arith, last, count)); code = within (code_of_file file) e g f second parts bytes graph forest order ranges whole name };
         }
 
-    pub exact-split : AreStackAccesses (code_of_file file) e g.addrs second → SplitExact file e (group_of (flow_of g f (setting_of (split g second parts))) name ranges parts)
-    exact-split are =
-        member-lost-nothing file bytes (record { at = e; graph = g; forest = f; setting = setting_of (split g second parts) }) (group_of (flow_of g f (setting_of (split g second parts))) name ranges parts)
+    pub gains-split : AreStackAccesses (code_of_file file) e g.addrs second → Returning (FirstReturnsIn (UsesSplit (code_of_file file) e)) file (group_of (flow_of g f (setting_of (split g second parts))) name ranges parts)
+    gains-split are =
+        member-gains file bytes (record { at = e; graph = g; forest = f; setting = setting_of (split g second parts) }) (group_of (flow_of g f (setting_of (split g second parts))) name ranges parts)
         (member (code_of_file file) e g f second parts bytes graph forest order ranges whole name) (UsesSplit (code_of_file file) e)
         (λ n lt. uses-split (code_of_file file) e g.addrs second are (get_or g.addrs n 0) (node_at g.addrs n lt) (list_any (λ b. eqb b (get_or g.addrs n 0)) second) refl)
         (within (code_of_file file) e g f second parts bytes graph forest order ranges whole name)
@@ -177,6 +179,11 @@ split-is file name e g f second item stands named bytes graph forest are is = re
   lists = subst (ListsWith AreTwo (code_of_file file) e g name) (sym is.group) (lists-split (code_of_file file) e g f second is.parts bytes graph forest is.ordered item.group.code.ranges is.code name);
   accepted = subst (λ (t : GroupTree). IsAcceptedBy IsExchanged file (record { group = t; lines = map line_tree item.lines })) (sym is.group)
       (accepted-split file name e g f second is.parts bytes graph forest is.ordered item.group.code.ranges is.code (map line_tree item.lines) (subst (λ (t : GroupTree). AreClosedIn Four t (map line_tree item.lines)) is.group is.lines));
-  exact = subst (SplitExact file e) (sym is.group) (exact-split file name e g f second is.parts bytes graph forest is.ordered item.group.code.ranges is.code are);
+  exact = exact-of (FirstReturnsIn (UsesSplit (code_of_file file) e)) file (group_tree item.group) gains;
+  steps = counts-of (FirstReturnsIn (UsesSplit (code_of_file file) e)) file (group_tree item.group) gains;
   text = record { group = subst (IsGroupIn version_4) (sym is.group) (printed-split (code_of_file file) e g f second is.parts bytes graph forest is.ordered item.group.code.ranges is.code name named); lines = is.fine };
 }
+  where
+    gains : Returning (FirstReturnsIn (UsesSplit (code_of_file file) e)) file (group_tree item.group)
+    gains = subst (Returning (FirstReturnsIn (UsesSplit (code_of_file file) e)) file) (sym is.group)
+        (gains-split file name e g f second is.parts bytes graph forest is.ordered item.group.code.ranges is.code are)

@@ -14,14 +14,17 @@ use Rattle.path_walk.specs.declared.proof.Proof.{Proof}
 use Rattle.decompiler.specs.Faults.{IsFirst, IsInFragment}
 use Rattle.decompiler.specs.Listing.{IsFirstWith, ListsWith, proof_of}
 use Rattle.decompiler.specs.Names.{StandsFor}
-use Rattle.stack_split.specs.SplitExact.{SplitExact}
+use Rattle.claims.specs.LinkExact.{FirstReturnsIn}
+use Rattle.exactness.specs.Turns.{CountsSteps}
+use Rattle.stack_split.specs.SplitExact.{SplitExact, UsesSplit}
 
 -- two memories, whether or not the function loads or stores
 abbrev pub AreTwo : ℕ → Type 0
 AreTwo mems = mems ≡ 2
 
 -- The item of a name, which has no fault: what it lists is of the code that is reached from the name's address, as many instructions as it
--- tells, with two memories; it is accepted for the file as a proof of version 4, nothing is lost of the function, and it has a text.
+-- tells, with two memories; it is accepted for the file as a proof of version 4, nothing is lost of the function, its turns count steps, and it
+-- has a text.
 pub record IsSplitItemFor (file name : List ℕ) (item : Item) : Type 0 where
   pub entry : ℕ
   pub stands : StandsFor file name (Ok entry)
@@ -32,6 +35,7 @@ pub record IsSplitItemFor (file name : List ℕ) (item : Item) : Type 0 where
   pub lists : ListsWith AreTwo (code_of_file file) entry graph name (group_tree item.group)
   pub accepted : IsAcceptedBy IsExchanged file (proof_of item)
   pub exact : SplitExact file entry (group_tree item.group)
+  pub steps : CountsSteps 32 (FirstReturnsIn (UsesSplit (code_of_file file) entry)) file (group_tree item.group)
   pub text : IsProofIn version_4 (proof_of item)
 
 -- an item for each of the names, in order

@@ -1,5 +1,9 @@
-use Rattle.exactness.proofs.GroupOfParts.{flow-exact}
+use Rattle.claims.specs.Exact.{FirstReturns}
+use Rattle.code_parts.specs.Flows.{alone, flow_of, group_of}
+use Rattle.exactness.proofs.Counts.{exact-of}
+use Rattle.exactness.proofs.GroupOfParts.{flow-gains}
 use Rattle.exactness.proofs.laws.law_of_functions.Goals as goal
 
 pub returns : goal.returns
-returns c = flow-exact
+returns c file e g f parts name ranges graph forest bytes have order within =
+    exact-of FirstReturns file (group_of (flow_of g f (alone g parts)) name ranges parts) (flow-gains file e g f parts name ranges graph forest bytes have order within)

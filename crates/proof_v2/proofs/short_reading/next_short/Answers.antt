@@ -1,31 +1,34 @@
-use Rattle.std.proofs.Common.{Option, Ok, List, ◌++◌, ◌∷◌, [], ◌≡◌, subst}
+use Rattle.std.proofs.Common.{◌≡◌}
 use Rattle.tailrec_lang.specs.Tree.{group_tree}
 use Rattle.group_text.specs.Version.{version_of}
-use Rattle.proof_text.specs.Answers.{OnGiven}
-use Rattle.proof_text.specs.FirstProofs.{HasGivenOver, with_line}
 use Rattle.short_text.specs.declared.short.ShortLine.{ShortLine}
-use Rattle.short_text.specs.ShortProofs.{IsNextLine, ShortProof, short_lines}
-use Rattle.short_text.specs.inner.ShortReaders.{AreKept}
-use Rattle.proof_v2.proofs.AnyGiven.{short-line-bad, short-line-more, short-line-open}
+use Rattle.proof_v2.proofs.AnyGiven.{next-bad, next-end, next-fault, next-given, next-open}
 use Rattle.proof_v2.proofs.short_reading.next_short.Goals as goal
 
 pub next_line-requires-clause-laws : goal.next_line-requires-clause-laws
 next_line-requires-clause-laws c = c.law_of_short_lines.ensures.read (version_of c.args.reader.now.version)
 
-pub returns-in-Ok-Some-clause-open : goal.returns-in-Ok-Some-clause-open
-returns-in-Ok-Some-clause-open c =
-    short-line-open c.args.reader.now c.args.lines.now (group_tree c.args.group.now) c.args.over.now c.if-over.false c.requires.open c.next_line.new.self c.next_line.new.kept c.in-Ok-Some.line
-    (λ before kept. subst (λ (o : Option ShortLine). OnGiven (Ok o) (λ l. AreKept c.next_line.new.kept (before ++ l ∷ []))) c.in-Ok-Some.field-0-is (c.in-Ok-Some.ensures.behind before kept))
-    (λ before kept are. subst (λ (o : Option ShortLine). OnGiven (Ok o) (λ l. IsNextLine before l)) c.in-Ok-Some.field-0-is (c.in-Ok-Some.ensures.fits before kept are))
+pub returns-clause-open : goal.returns-clause-open
+returns-clause-open c =
+    next-open c.args.reader.now c.args.lines.now (group_tree c.args.group.now) (λ (l : ShortLine). l) c.next_line.new.self c.next_line.new.kept c.next_line.result c.requires.open
+    c.next_line.ensures.behind c.next_line.ensures.fits c.next_line.ensures.kept_end c.next_line.ensures.kept
 
-pub returns-in-Ok-Some-clause-given : goal.returns-in-Ok-Some-clause-given
-returns-in-Ok-Some-clause-given c =
-    short-line-more c.args.reader.now c.args.lines.now (group_tree c.args.group.now) c.args.over.now c.if-over.false c.next_line.new.self c.next_line.new.kept c.in-Ok-Some.line c.in-Ok-Some.ensures.version
-    (λ before kept. subst (λ (o : Option ShortLine). OnGiven (Ok o) (λ l. (ps : List ShortProof) (p : ShortProof) → HasGivenOver short_lines (ps ++ p ∷ []) c.args.reader.now → p.group ≡ group_tree c.args.group.now → p.lines ≡ before
-    → HasGivenOver short_lines (ps ++ with_line p l ∷ []) c.next_line.new.self)) c.in-Ok-Some.field-0-is (c.in-Ok-Some.ensures.given before kept))
-    (λ before kept. subst (λ (o : Option ShortLine). OnGiven (Ok o) (λ l. AreKept c.next_line.new.kept (before ++ l ∷ []))) c.in-Ok-Some.field-0-is (c.in-Ok-Some.ensures.behind before kept))
+pub returns-clause-given : goal.returns-clause-given
+returns-clause-given c =
+    next-given c.args.reader.now c.args.lines.now (group_tree c.args.group.now) (λ (l : ShortLine). l) c.next_line.new.self c.next_line.new.kept c.next_line.result c.next_line.ensures.version
+    c.next_line.ensures.given c.next_line.ensures.behind
 
-pub returns-in-Err-clause-bad : goal.returns-in-Err-clause-bad
-returns-in-Err-clause-bad c =
-    short-line-bad c.args.reader.now c.args.lines.now (group_tree c.args.group.now) c.args.over.now c.if-over.false c.in-Err.fault
-    (λ before kept. c.in-Err.ensures.bad before kept) (λ before kept. c.in-Err.ensures.no_item before kept)
+pub returns-clause-end : goal.returns-clause-end
+returns-clause-end c =
+    next-end c.args.reader.now c.args.lines.now (group_tree c.args.group.now) (λ (l : ShortLine). l) c.next_line.new.self c.next_line.new.kept c.next_line.result
+    c.next_line.ensures.end c.next_line.ensures.end_same c.next_line.ensures.kept_end
+
+pub returns-clause-bad : goal.returns-clause-bad
+returns-clause-bad c =
+    next-bad c.args.reader.now c.args.lines.now (group_tree c.args.group.now) (λ (l : ShortLine). l) c.next_line.new.self c.next_line.new.kept c.next_line.result
+    c.next_line.ensures.bad c.next_line.ensures.no_item
+
+pub returns-clause-fault : goal.returns-clause-fault
+returns-clause-fault c =
+    next-fault c.args.reader.now c.args.lines.now (group_tree c.args.group.now) (λ (l : ShortLine). l) c.next_line.new.self c.next_line.new.kept c.next_line.result
+    c.next_line.ensures.fault_same c.next_line.ensures.kept

@@ -16,46 +16,46 @@ use Rattle.proof_v2.proofs.short_reading.pass_short.Goals as goal
 pub returns-in_err-spelled-clause-bad : goal.returns-in_err-spelled-clause-bad
 returns-in_err-spelled-clause-bad c =
     bad-exit-item SpelledShort c.in_err-spelled.field-0.0 _ _
-    (λ n h. lines-stop (reading_state c.args.reader.now c.args.lines.now c.args.over.now) c.requires.version (group_tree c.args.group.now) (reading_state c.loop-spelled.reader c.loop-spelled.lines c.loop-spelled.over) c.loop-spelled.invariant.0
-    (reading_state c.next_spelled.new.reader c.next_spelled.new.lines c.next_spelled.new.over) c.in_err-spelled.ensures.fault n h) c.in_err-spelled.ensures.bad c.from_residual.result c.from_residual.ensures.1
+    (λ n h. lines-stop (reading_state c.args.reader.now c.args.lines.now) c.requires.version (group_tree c.args.group.now) (reading_state c.loop-spelled.reader c.loop-spelled.lines) c.loop-spelled.invariant.0
+    (reading_state c.next_spelled.new.reader c.next_spelled.new.lines) c.in_err-spelled.ensures.fault n h) c.in_err-spelled.ensures.bad c.from_residual.result c.from_residual.ensures.1
 
 pub returns-in_err-spelled-clause-fault : goal.returns-in_err-spelled-clause-fault
 returns-in_err-spelled-clause-fault c =
     any-fault c.from_residual.result _
-    (terms-given (reading_state c.args.reader.now c.args.lines.now c.args.over.now) c.requires.version (group_tree c.args.group.now) (reading_state c.loop-spelled.reader c.loop-spelled.lines c.loop-spelled.over) c.loop-spelled.invariant.0
-    (reading_state c.next_spelled.new.reader c.next_spelled.new.lines c.next_spelled.new.over) c.in_err-spelled.ensures.fault)
+    (terms-given (reading_state c.args.reader.now c.args.lines.now) c.requires.version (group_tree c.args.group.now) (reading_state c.loop-spelled.reader c.loop-spelled.lines) c.loop-spelled.invariant.0
+    (reading_state c.next_spelled.new.reader c.next_spelled.new.lines) c.in_err-spelled.ensures.fault)
 
 pub returns-in-Proof-clause-given : goal.returns-in-Proof-clause-given
 returns-in-Proof-clause-given c =
     let own = c.args.group.now.code.ranges in
-    let given = subst (λ (o : Option SpelledShort). OnGiven (Ok o) (λ l. (ps : List ShortProof) (p : ShortProof) → HasGivenAny Two (ps ++ p ∷ []) (reading_state c.loop-spelled.reader c.loop-spelled.lines c.loop-spelled.over) → p.group ≡ group_tree c.args.group.now
-    → HasGivenAny Two (ps ++ with_line p (spelled_short own l) ∷ []) (reading_state c.next_spelled.new.reader c.next_spelled.new.lines c.next_spelled.new.over))) c.in-Some.is c.in_ok-spelled.ensures.given in
+    let given = subst (λ (o : Option SpelledShort). OnGiven (Ok o) (λ l. (ps : List ShortProof) (p : ShortProof) → HasGivenAny Two (ps ++ p ∷ []) (reading_state c.loop-spelled.reader c.loop-spelled.lines) → p.group ≡ group_tree c.args.group.now
+    → HasGivenAny Two (ps ++ with_line p (spelled_short own l) ∷ []) (reading_state c.next_spelled.new.reader c.next_spelled.new.lines))) c.in-Some.is c.in_ok-spelled.ensures.given in
     let fewer = subst (λ (o : Option SpelledShort). OnGiven (Ok o) (λ _. length c.next_spelled.new.reader.rest < length c.loop-spelled.reader.rest)) c.in-Some.is c.in_ok-spelled.ensures.shorter in
     let short = short_or_own own c.in-Some.spelled.all c.in-Proof._line in
-    gives-some (group_tree c.args.group.now) (any.Two short) (reading_state c.args.reader.now c.args.lines.now c.args.over.now) (reading_state c.next_spelled.new.reader c.next_spelled.new.lines c.next_spelled.new.over)
-    (line-given (reading_state c.args.reader.now c.args.lines.now c.args.over.now) c.requires.version (group_tree c.args.group.now) (reading_state c.loop-spelled.reader c.loop-spelled.lines c.loop-spelled.over) c.loop-spelled.invariant.0
-    (reading_state c.next_spelled.new.reader c.next_spelled.new.lines c.next_spelled.new.over) c.in_ok-spelled.ensures.same fewer short
-    (subst (λ (l : ShortLine). (ps : List ShortProof) (p : ShortProof) → HasGivenAny Two (ps ++ p ∷ []) (reading_state c.loop-spelled.reader c.loop-spelled.lines c.loop-spelled.over) → p.group ≡ group_tree c.args.group.now
-    → HasGivenAny Two (ps ++ with_line p (short_line_or_own own c.in-Some.spelled.all l) ∷ []) (reading_state c.next_spelled.new.reader c.next_spelled.new.lines c.next_spelled.new.over)) c.in-Proof.is given))
+    gives-some (group_tree c.args.group.now) (any.Two short) (reading_state c.args.reader.now c.args.lines.now) (reading_state c.next_spelled.new.reader c.next_spelled.new.lines)
+    (line-given (reading_state c.args.reader.now c.args.lines.now) c.requires.version (group_tree c.args.group.now) (reading_state c.loop-spelled.reader c.loop-spelled.lines) c.loop-spelled.invariant.0
+    (reading_state c.next_spelled.new.reader c.next_spelled.new.lines) c.in_ok-spelled.ensures.same fewer short
+    (subst (λ (l : ShortLine). (ps : List ShortProof) (p : ShortProof) → HasGivenAny Two (ps ++ p ∷ []) (reading_state c.loop-spelled.reader c.loop-spelled.lines) → p.group ≡ group_tree c.args.group.now
+    → HasGivenAny Two (ps ++ with_line p (short_line_or_own own c.in-Some.spelled.all l) ∷ []) (reading_state c.next_spelled.new.reader c.next_spelled.new.lines)) c.in-Proof.is given))
 
 pub loop-spelled-preserved : goal.loop-spelled-preserved
 loop-spelled-preserved c =
     let own = c.args.group.now.code.ranges in
-    let given = subst (λ (o : Option SpelledShort). OnGiven (Ok o) (λ l. (ps : List ShortProof) (p : ShortProof) → HasGivenAny Two (ps ++ p ∷ []) (reading_state c.loop-spelled.reader c.loop-spelled.lines c.loop-spelled.over) → p.group ≡ group_tree c.args.group.now
-    → HasGivenAny Two (ps ++ with_line p (spelled_short own l) ∷ []) (reading_state c.next_spelled.new.reader c.next_spelled.new.lines c.next_spelled.new.over))) c.in-Some.is c.in_ok-spelled.ensures.given in
+    let given = subst (λ (o : Option SpelledShort). OnGiven (Ok o) (λ l. (ps : List ShortProof) (p : ShortProof) → HasGivenAny Two (ps ++ p ∷ []) (reading_state c.loop-spelled.reader c.loop-spelled.lines) → p.group ≡ group_tree c.args.group.now
+    → HasGivenAny Two (ps ++ with_line p (spelled_short own l) ∷ []) (reading_state c.next_spelled.new.reader c.next_spelled.new.lines))) c.in-Some.is c.in_ok-spelled.ensures.given in
     let fewer = subst (λ (o : Option SpelledShort). OnGiven (Ok o) (λ _. length c.next_spelled.new.reader.rest < length c.loop-spelled.reader.rest)) c.in-Some.is c.in_ok-spelled.ensures.shorter in (
-      tabled-more (reading_state c.args.reader.now c.args.lines.now c.args.over.now) c.requires.version (group_tree c.args.group.now) (reading_state c.loop-spelled.reader c.loop-spelled.lines c.loop-spelled.over) c.loop-spelled.invariant.0
-          (reading_state c.next_spelled.new.reader c.next_spelled.new.lines c.next_spelled.new.over) c.in_ok-spelled.ensures.same fewer c.in_default-line.field-0
-          (subst (λ (l : ShortLine). (ps : List ShortProof) (p : ShortProof) → HasGivenAny Two (ps ++ p ∷ []) (reading_state c.loop-spelled.reader c.loop-spelled.lines c.loop-spelled.over) → p.group ≡ group_tree c.args.group.now
-          → HasGivenAny Two (ps ++ with_line p (short_line_or_own own c.in-Some.spelled.all l) ∷ []) (reading_state c.next_spelled.new.reader c.next_spelled.new.lines c.next_spelled.new.over)) c.in_default-line.is given),
+      tabled-more (reading_state c.args.reader.now c.args.lines.now) c.requires.version (group_tree c.args.group.now) (reading_state c.loop-spelled.reader c.loop-spelled.lines) c.loop-spelled.invariant.0
+          (reading_state c.next_spelled.new.reader c.next_spelled.new.lines) c.in_ok-spelled.ensures.same fewer c.in_default-line.field-0
+          (subst (λ (l : ShortLine). (ps : List ShortProof) (p : ShortProof) → HasGivenAny Two (ps ++ p ∷ []) (reading_state c.loop-spelled.reader c.loop-spelled.lines) → p.group ≡ group_tree c.args.group.now
+          → HasGivenAny Two (ps ++ with_line p (short_line_or_own own c.in-Some.spelled.all l) ∷ []) (reading_state c.next_spelled.new.reader c.next_spelled.new.lines)) c.in_default-line.is given),
       c.in_ok-spelled.ensures.open,
     )
 
 pub returns-clause-end : goal.returns-clause-end
 returns-clause-end c =
     let ends = subst (λ (o : Option SpelledShort). OnEnd {X = SpelledShort} (Ok o) (ProofEnds c.next_spelled.new.reader.rest
-    × Stays (reading_state c.loop-spelled.reader c.loop-spelled.lines c.loop-spelled.over) (reading_state c.next_spelled.new.reader c.next_spelled.new.lines c.next_spelled.new.over))) c.in_default.is c.in_ok-spelled.ensures.end in (
+    × Stays (reading_state c.loop-spelled.reader c.loop-spelled.lines) (reading_state c.next_spelled.new.reader c.next_spelled.new.lines))) c.in_default.is c.in_ok-spelled.ensures.end in (
       ends.0,
-      terms-given (reading_state c.args.reader.now c.args.lines.now c.args.over.now) c.requires.version (group_tree c.args.group.now) (reading_state c.loop-spelled.reader c.loop-spelled.lines c.loop-spelled.over) c.loop-spelled.invariant.0
-          (reading_state c.next_spelled.new.reader c.next_spelled.new.lines c.next_spelled.new.over) ends.1,
+      terms-given (reading_state c.args.reader.now c.args.lines.now) c.requires.version (group_tree c.args.group.now) (reading_state c.loop-spelled.reader c.loop-spelled.lines) c.loop-spelled.invariant.0
+          (reading_state c.next_spelled.new.reader c.next_spelled.new.lines) ends.1,
     )

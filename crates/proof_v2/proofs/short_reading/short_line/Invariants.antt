@@ -6,7 +6,7 @@ use Rattle.proof_v2.proofs.AnyGiven.{Tabled}
 use Rattle.proof_v2.proofs.short_reading.short_line.Given as goal
 
 abbrev pub invariant-loop-line : goal.invariant-loop-line
-invariant-loop-line l = Tabled (reading_state l.fn.reader l.fn.lines l.fn.over) (group_tree l.group) (reading_state l.reader l.lines l.over) × IsOpen l.reader l.lines l.over
+invariant-loop-line l = Tabled (reading_state l.fn.reader l.fn.lines) (group_tree l.group) (reading_state l.reader l.lines) × IsOpen l.lines
 
 abbrev pub decreases-loop-line : goal.decreases-loop-line
 decreases-loop-line l = length l.reader.rest
