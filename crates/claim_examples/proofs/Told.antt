@@ -1,21 +1,19 @@
 -- A script that divides as numbers without a sign: what it tells, and what it doesn't.
-use Rattle.std.proofs.Common.{◌≡◌, true, Option, Some, None, ℕ, zero, suc, ◌-◌, ◌<◌, ◌≤◌, List, [], ◌∷◌, ◌++◌, refl, sym, ap, subst, ◌∙◌, arith, cond, eqb}
-use Rattle.std.specs.Prelude.{codes, slice_index_or, if◌then◌else◌, ◌^◌, ◌/◌, pos, map, length}
+use Rattle.std.proofs.Common.{◌≡◌, ℕ, zero, suc, ◌-◌, ◌<◌, ◌≤◌, List, [], ◌∷◌, ◌++◌, refl, sym, ap, subst, ◌∙◌, arith, cond, eqb}
+use Rattle.std.specs.Prelude.{codes, slice_index_or, ◌^◌, ◌/◌, pos, map, length}
 use Rattle.std.specs.Fmt.{digits}
-use Rattle.std.specs.List.{AllByRecursion}
+use Rattle.std.specs.List.{AllByRecursion, Contains}
 use Rattle.std.proofs.Math.Nat.{div-le_self}
 use Rattle.rv_words.specs.Bytes.{Bytes}
 use Rattle.rv_words.specs.Operation.{quotient, word_of}
 use Rattle.tailrec_lang.specs.Eval.{Arguments, eval}
-use Rattle.smt_terms.specs.declared.sort.Sort.{Sort}
-use Rattle.smt_terms.specs.Expression.{Expr, Atom, apply, literal, word}
-use Rattle.smt_terms.specs.Operators.{Value, Bits, Rule, unsorted}
-use Rattle.smt_terms.specs.Sorts.{rule_of, rules_after, sorts_fit}
-use Rattle.smt_terms.specs.Meaning.{applied, functions_after, no_names}
+use Rattle.smt_terms.specs.Expression.{Atom, apply, literal, word}
+use Rattle.smt_terms.specs.Operators.{Value, Bits, unsorted}
+use Rattle.smt_terms.specs.Meaning.{FunTree, applied, functions_after, no_names}
 use Rattle.smt_export.specs.declared.told.Told.{Told}
 use Rattle.smt_export.specs.declared.told.Told.TheVariants.{Ok, ExitNumber, Pc, WordAt, MemAt, DomAt}
-use Rattle.smt_export.specs.Told.{fun_name, params, told_sort, word_name, word_params}
-use Rattle.smt_export.specs.Telling.{AreArrays, AreArgumentValues, HasRules, IsToldOf, TellsEval, TellsOutcome}
+use Rattle.smt_export.specs.Told.{fun_name, params, told_sort, word_name}
+use Rattle.smt_export.specs.Telling.{AreArrays, AreArgumentValues, HasFuns, IsToldOf, TellsEval, TellsOutcome}
 use Rattle.claim_examples.specs.Words.{dividing_script, signed_division, telling, unsigned_division, word_group}
 
 -- what a function of the script gives
@@ -53,21 +51,17 @@ unsigned-told x n vs are =
 
 -- ---- sorts
 
-pub signed-sorts : HasRules (word_group signed_division) (rules_after no_names dividing_script) 0
+pub signed-sorts : HasFuns (word_group signed_division) dividing_script 0
 unfolding digits
 signed-sorts = record { there = there }
   where
-    sorted : (t : Told) (body : Expr) (ss : List (Option Sort)) → sorts_fit (word_params 0 2) ss ≡ true → rule_of (telling t body) ss ≡ Some (told_sort t)
-    sorted t body ss fit = λ i. if fit i then Some (told_sort t) else None
-
     there : (t : Told) → IsToldOf (word_group signed_division) t
-        → (rule : Rule) × (rules_after no_names dividing_script (fun_name 0 t) ≡ Some rule)
-        × ((ss : List (Option Sort)) → sorts_fit (params (word_group signed_division)) ss ≡ true → rule ss ≡ Some (told_sort t))
-    there Ok told = (_, refl, sorted Ok (Atom (codes "true")))
-    there ExitNumber told = (_, refl, sorted ExitNumber (literal (codes "32") (codes "0")))
-    there Pc told = (_, refl, sorted Pc (word 0x10004))
-    there (WordAt zero) told = (_, refl, sorted (WordAt 0) (apply (codes "bvudiv") (Atom (word_name 0) ∷ Atom (word_name 1) ∷ [])))
-    there (WordAt (suc zero)) told = (_, refl, sorted (WordAt 1) (Atom (word_name 1)))
+        → (f : FunTree) × Contains dividing_script f × (f.name ≡ fun_name 0 t) × (f.params ≡ params (word_group signed_division)) × (f.sort ≡ told_sort t)
+    there Ok told = (telling Ok (Atom (codes "true")), (0, omega arith, refl), refl, refl, refl)
+    there ExitNumber told = (telling ExitNumber (literal (codes "32") (codes "0")), (1, omega arith, refl), refl, refl, refl)
+    there Pc told = (telling Pc (word 0x10004), (2, omega arith, refl), refl, refl, refl)
+    there (WordAt zero) told = (telling (WordAt 0) (apply (codes "bvudiv") (Atom (word_name 0) ∷ Atom (word_name 1) ∷ [])), (3, omega arith, refl), refl, refl, refl)
+    there (WordAt (suc zero)) told = (telling (WordAt 1) (Atom (word_name 1)), (4, omega arith, refl), refl, refl, refl)
     there (WordAt (suc (suc i))) told = absurd (omega (arith, told))
     there (MemAt i) told = absurd (omega (arith, told))
     there (DomAt i) told = absurd (omega (arith, told))

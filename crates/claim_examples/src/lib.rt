@@ -11,9 +11,7 @@ ghost use Rattle.claims.specs.LinkExact.{FirstReturnsIn, LinkExact, ReturnsBack}
 ghost use Rattle.call_link.specs.Listing.{InFirstMemory};
 ghost use Rattle.stack_split.specs.SplitExact.{SplitExact, UsesSplit};
 ghost use Rattle.def_laws.specs.Evaluation.{EvaluateAlike};
-ghost use Rattle.smt_terms.specs.Meaning.{no_names};
-ghost use Rattle.smt_terms.specs.Sorts.{rules_after};
-ghost use Rattle.smt_export.specs.Telling.{HasRules, TellsEval};
+ghost use Rattle.smt_export.specs.Telling.{HasFuns, TellsEval};
 ghost use Rattle.claim_examples.specs.Words.{and_one, and_two, backwards, dividing_script, forwards, leaves_word, signed_division, unsigned_division, word_group};
 ghost use Rattle.claim_examples.specs.Call.{call_file, call_start, nothing_called, sum_called};
 ghost use Rattle.claim_examples.specs.Split.{all_in_first, split_file, split_start, stores_apart, two_regions};
@@ -29,7 +27,7 @@ pub fn law_of_sums()
 /// one of numbers with a sign, though its functions have the right sorts.
 pub fn law_of_divisions()
     ensures unsigned { TellsEval (word_group unsigned_division) 0 dividing_script }
-    ensures sorts { HasRules (word_group signed_division) (rules_after no_names dividing_script) 0 }
+    ensures sorts { HasFuns (word_group signed_division) dividing_script 0 }
     ensures signed { TellsEval (word_group signed_division) 0 dividing_script → ⊥ }
 {}
 

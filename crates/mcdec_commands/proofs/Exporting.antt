@@ -7,12 +7,12 @@ use Rattle.tailrec_lang.specs.declared.group.Group.{Group}
 use Rattle.tailrec_lang.specs.Tree.{GroupTree, def_tree, group_tree, listed_def}
 use Rattle.tailrec_lang.specs.WellFormed.{IsWellFormed}
 use Rattle.smt_terms.specs.declared.script.Fun.{Fun}
-use Rattle.smt_terms.specs.Meaning.{FunTree, no_names}
-use Rattle.smt_terms.specs.Sorts.{IsScript, rules_after}
+use Rattle.smt_terms.specs.Meaning.{FunTree}
+use Rattle.smt_terms.specs.Sorts.{IsScript}
 use Rattle.smt_terms.specs.Text.{script_text}
 use Rattle.smt_terms.specs.Views.{fun_tree}
 use Rattle.smt_export.specs.Reach.{IsLeastLoop, IsLoopFree, ReachesByCalls}
-use Rattle.smt_export.specs.Telling.{HasRules, TellsEval}
+use Rattle.smt_export.specs.Telling.{HasFuns, TellsEval}
 use Rattle.carried_claims.specs.Scripts.{TellsClaims}
 use Rattle.mcdec_answers.specs.declared.answer.Answer.{Answer}
 use Rattle.mcdec_answers.specs.declared.answer.Answer.TheVariants as answer
@@ -59,7 +59,7 @@ pub record IsExported (g : GroupTree) (def : ℕ) (funs : List Fun) : Type 0 whe
   pub there : def < length g.defs
   pub free : IsLoopFree g def
   pub script : IsScript (map fun_tree funs)
-  pub sorts : (d : ℕ) → ReachesByCalls g def d → HasRules g (rules_after no_names (map fun_tree funs)) d
+  pub sorts : (d : ℕ) → ReachesByCalls g def d → HasFuns g (map fun_tree funs) d
   pub tells : (d : ℕ) → ReachesByCalls g def d → TellsEval g d (map fun_tree funs)
   pub claims : def ≡ listed_def g → TellsClaims g (map fun_tree funs)
 

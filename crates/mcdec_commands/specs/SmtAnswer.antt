@@ -2,11 +2,11 @@
 use Rattle.std.specs.Prelude.{◌≡◌, ℕ, ◌<◌, ◌≤◌, List, length, Some, None}
 use Rattle.mc_shelf.specs.Shelf.{Contents}
 use Rattle.tailrec_lang.specs.Tree.{GroupTree, listed_def}
-use Rattle.smt_terms.specs.Meaning.{FunTree, no_names}
-use Rattle.smt_terms.specs.Sorts.{IsScript, rules_after}
+use Rattle.smt_terms.specs.Meaning.{FunTree}
+use Rattle.smt_terms.specs.Sorts.{IsScript}
 use Rattle.smt_terms.specs.Text.{script_text}
 use Rattle.smt_export.specs.Reach.{IsLeastLoop, IsLoopFree, ReachesByCalls}
-use Rattle.smt_export.specs.Telling.{HasRules, TellsEval}
+use Rattle.smt_export.specs.Telling.{HasFuns, TellsEval}
 use Rattle.carried_claims.specs.Scripts.{TellsClaims}
 use Rattle.mcdec_answers.specs.declared.answer.Answer.{Answer}
 use Rattle.mcdec_answers.specs.declared.answer.Answer.TheVariants.{Smt}
@@ -17,7 +17,7 @@ use Rattle.mcdec_commands.specs.EvalAnswer.{HasBadDef, HasBadLine, IsNamed, proo
 -- The functions are well-sorted. Those of each definition that this one reaches by calls are among them, and tell its evaluation.
 pub record Exports (g : GroupTree) (def : ℕ) (funs : List FunTree) : Type 0 where
   pub script : IsScript funs
-  pub sorts : (d : ℕ) → ReachesByCalls g def d → HasRules g (rules_after no_names funs) d
+  pub sorts : (d : ℕ) → ReachesByCalls g def d → HasFuns g funs d
   pub tells : (d : ℕ) → ReachesByCalls g def d → TellsEval g d funs
 
 -- What `smt` of a definition of a name comes to, where the proof file has these bytes.

@@ -4,11 +4,11 @@ use Rattle.std.proofs.lemmas.List.{length-map}
 use Rattle.tailrec_lang.specs.declared.group.Group.{Group}
 use Rattle.tailrec_lang.specs.Tree.{def_tree, group_tree}
 use Rattle.tailrec_lang.specs.WellFormed.{IsWellFormed}
-use Rattle.smt_terms.specs.Meaning.{FunTree, no_names}
-use Rattle.smt_terms.specs.Sorts.{IsScript, rules_after}
+use Rattle.smt_terms.specs.Meaning.{FunTree}
+use Rattle.smt_terms.specs.Sorts.{IsScript}
 use Rattle.group_terms.specs.Range.{GroupInRange}
 use Rattle.smt_export.specs.Reach.{EntersAgain, ReachesByCalls}
-use Rattle.smt_export.specs.Telling.{HasRules, TellsEval}
+use Rattle.smt_export.specs.Telling.{HasFuns, TellsEval}
 use Rattle.smt_export.specs.Scripts.{script}
 use Rattle.smt_export.specs.inner.Exported.{HasRange, IsClosed}
 use Rattle.smt_export.specs.inner.Reach.{AreMarks, is_marked}
@@ -16,7 +16,8 @@ use Rattle.smt_export.specs.inner.Room.{HasRoom}
 use Rattle.smt_export.proofs.Fits.{fits}
 use Rattle.smt_export.proofs.Outcomes.{script_tells}
 use Rattle.smt_export.proofs.Reached.{marks-closed, reached-below, reached-marked}
-use Rattle.smt_export.proofs.SortedScripts.{script-is, script-has}
+use Rattle.smt_export.proofs.Listed.{script-has}
+use Rattle.smt_export.proofs.SortedScripts.{script-is}
 
 module _ (g : Group) (def : ℕ) (marks : List Bool) (funs : List FunTree) (wf : IsWellFormed (group_tree g)) (lt : def < length g.defs) (few : length g.defs < 2 ^ 64)
     (range : GroupInRange (group_tree g)) (room : HasRoom (group_tree g)) (count : length marks ≡ def + 1) (are : AreMarks (group_tree g) def marks)
@@ -33,10 +34,10 @@ module _ (g : Group) (def : ℕ) (marks : List Bool) (funs : List FunTree) (wf :
   pub exported_script : IsScript funs
   exported_script = subst IsScript (sym is) (script-is (group_tree g) (is_marked def marks) has closed def)
 
-  pub exported_sorts : (d : ℕ) → ReachesByCalls (group_tree g) def d → HasRules (group_tree g) (rules_after no_names funs) d
+  pub exported_sorts : (d : ℕ) → ReachesByCalls (group_tree g) def d → HasFuns (group_tree g) funs d
   exported_sorts d r =
-      subst (λ fs. HasRules (group_tree g) (rules_after no_names fs) d) (sym is)
-      (script-has (group_tree g) (is_marked def marks) has closed def d there (reached-below (group_tree g) wf def d r) (reached-marked (group_tree g) wf def marks are count d r))
+      subst (λ fs. HasFuns (group_tree g) fs d) (sym is)
+      (script-has (group_tree g) (is_marked def marks) def d there (reached-below (group_tree g) wf def d r) (reached-marked (group_tree g) wf def marks are count d r))
 
   pub exported_tells : (d : ℕ) → ReachesByCalls (group_tree g) def d → TellsEval (group_tree g) d funs
   exported_tells d r =

@@ -1,4 +1,5 @@
 pub mod Names
+pub mod Symbols
 pub mod Terms
 pub mod Joins
 pub mod SortedJoins
@@ -9,6 +10,7 @@ pub mod SortedTerms
 pub mod SortedBodies
 pub mod Membership
 pub mod SortedScripts
+pub mod Listed
 pub mod Lists
 pub mod BodyTrees
 pub mod Reached

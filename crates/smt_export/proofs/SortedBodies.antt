@@ -24,10 +24,11 @@ use Rattle.smt_export.specs.Terms.{word_expr, mem_expr, dom_expr, cond_expr, fal
 use Rattle.smt_export.specs.Bodies.{default, with_condition, conjunction, exit_number, mem_args, args, applied_to, called, word_or, mem_or, dom_or, left_by, call_results, let_words, let_mems, body_expr, arms_expr}
 use Rattle.smt_export.specs.inner.Following.{room, arm_room, EachCall, EachArmCall}
 use Rattle.smt_operations.specs.Knowing.{word_sort, bytes_sort, domain_sort, KnowsRules}
-use Rattle.smt_export.specs.inner.Sorting.{InSort, AreRules}
+use Rattle.smt_export.specs.inner.Sorting.{InSort, AreRules, HasRules}
 use Rattle.smt_export.proofs.SortedJoins.{ite-sort, falsity-sort, branch-sort}
 use Rattle.smt_export.proofs.SortedTerms.{atom-sort, word-sort, number-sort, true-sort, sorted-less, sorted-bytes, sorted-word, sorted-mem, word_expr-sort, mem_expr-sort, dom_expr-sort, cond_expr-sort, words-fit, mems-fit}
-use Rattle.smt_export.specs.Telling.{IsToldOf, HasRules}
+use Rattle.smt_export.specs.Telling.{IsToldOf}
+use Rattle.smt_export.proofs.Symbols.{word_symbol, mem_symbol, dom_symbol}
 use Rattle.smt_export.proofs.Bodies.{results-length, exit_words-few, exit_within}
 
 module _ (fs : Rules) (s : Sorts) where
@@ -89,7 +90,7 @@ module _ (g : GroupTree) (fs : Rules) (c : Told → Expr) (n₀ m₀ : ℕ)
   let_words-sort (t ∷ ts) are n m s body r is h l room go =
       let first = word_told t are.0 s (sorted-less n m s is n₀ m₀ h l) in
       let e : n + suc (length ts) ≡ n + 1 + length ts = omega arith in
-      bound-sort (word_name n) fs (c t) (let_words c ts (n + 1) body) s (sort.Bits 64) first
+      bound-sort (word_name n) fs (c t) (let_words c ts (n + 1) body) s (sort.Bits 64) (word_symbol n (omega (arith, room))) first
       ∙ let_words-sort ts are.1 (n + 1) m (bind s (word_name n) (sort.Bits 64)) body r (sorted-word n m s is (omega (arith, room))) (omega (arith, h)) l (omega (arith, room))
       (λ u at. go u (subst (λ k. InSort k m u) (sym e) at))
 
@@ -101,8 +102,8 @@ module _ (g : GroupTree) (fs : Rules) (c : Told → Expr) (n₀ m₀ : ℕ)
       let half = bind s (mem_name m) (sort.Array 8) in
       let second = told (DomAt i) (omega (arith, le)) half (sorted-less n m half (sorted-bytes n m s is) n₀ m₀ h l) in
       let e : m + suc q ≡ m + 1 + q = omega arith in
-      bound-sort (mem_name m) fs (c (MemAt i)) (bound (dom_name m) (c (DomAt i)) (let_mems c (suc i) q (m + 1) body)) s (sort.Array 8) first
-      ∙ bound-sort (dom_name m) fs (c (DomAt i)) (let_mems c (suc i) q (m + 1) body) half (sort.Array 1) second
+      bound-sort (mem_name m) fs (c (MemAt i)) (bound (dom_name m) (c (DomAt i)) (let_mems c (suc i) q (m + 1) body)) s (sort.Array 8) (mem_symbol m (omega (arith, room))) first
+      ∙ bound-sort (dom_name m) fs (c (DomAt i)) (let_mems c (suc i) q (m + 1) body) half (sort.Array 1) (dom_symbol m (omega (arith, room))) second
       ∙ let_mems-sort q (suc i) n (m + 1) (bind half (dom_name m) (sort.Array 1)) body r (omega (arith, le)) (sorted-mem n m s is (omega (arith, room))) h (omega (arith, l)) (omega (arith, room))
       (λ u at. go u (subst (λ k. InSort n k u) (sym e) at))
 
@@ -190,12 +191,12 @@ module _ (g : GroupTree) (fs : Rules) (k : KnowsRules fs) (are : AreRules fs) (D
     pub body-sort : (b : BodyTree) (n m : ℕ) (s : Sorts) → InSort n m s → BodyIsWellFormed g D b n m → BodyInRange b → EachCall P b → g.mems ≤ m → n + room g b < 2 ^ 64 → m + room g b < 2 ^ 64
         → sort_of fs s (body_expr g D b n m u) ≡ Some (told_sort u)
     body-sort (Do (Bind x) b) n m s t wf range calls low w q =
-        bound-sort (word_name n) fs (word_expr x) (body_expr g D b (n + 1) m u) s (sort.Bits 64) (word_expr-sort fs k n m s t x wf.0 range.0)
+        bound-sort (word_name n) fs (word_expr x) (body_expr g D b (n + 1) m u) s (sort.Bits 64) (word_symbol n (omega (arith, w))) (word_expr-sort fs k n m s t x wf.0 range.0)
         ∙ body-sort b (n + 1) m (bind s (word_name n) (sort.Bits 64)) (sorted-word n m s t (omega (arith, w))) wf.1 range.1 calls low (omega (arith, w)) (omega (arith, q))
     body-sort (Do (BindMem x) b) n m s t wf range calls low w q =
         let half = bind s (mem_name m) (sort.Array 8) in
-        bound-sort (mem_name m) fs (mem_expr x) (bound (dom_name m) (dom_expr x) (body_expr g D b n (m + 1) u)) s (sort.Array 8) (mem_expr-sort fs k n m s t x wf.0 range.0)
-        ∙ bound-sort (dom_name m) fs (dom_expr x) (body_expr g D b n (m + 1) u) half (sort.Array 1) (dom_expr-sort fs k n m half (sorted-bytes n m s t) x wf.0)
+        bound-sort (mem_name m) fs (mem_expr x) (bound (dom_name m) (dom_expr x) (body_expr g D b n (m + 1) u)) s (sort.Array 8) (mem_symbol m (omega (arith, q))) (mem_expr-sort fs k n m s t x wf.0 range.0)
+        ∙ bound-sort (dom_name m) fs (dom_expr x) (body_expr g D b n (m + 1) u) half (sort.Array 1) (dom_symbol m (omega (arith, q))) (dom_expr-sort fs k n m half (sorted-bytes n m s t) x wf.0)
         ∙ body-sort b n (m + 1) (bind half (dom_name m) (sort.Array 1)) (sorted-mem n m s t (omega (arith, q))) wf.1 range.1 calls (omega (arith, low)) (omega (arith, w)) (omega (arith, q))
     body-sort (Do (Need c) b) n m s t wf range calls low w q =
         both-sort fs s u (cond_expr c) (body_expr g D b n m u) k.truth t.truth (cond_expr-sort fs k n m s t c wf.0 range.0)

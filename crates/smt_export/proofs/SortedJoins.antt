@@ -8,6 +8,7 @@ use Rattle.smt_terms.specs.declared.sort.Sort.{Sort}
 use Rattle.smt_terms.specs.declared.sort.Sort.TheVariants as sort
 use Rattle.smt_terms.specs.Expression.{Expr, Atom, Node, Exprs, End, Then, is_atom, bound, ite}
 use Rattle.smt_terms.specs.Operators.{Rule, choice_rule, truth_rule, same_sort}
+use Rattle.smt_terms.specs.Symbols.{is_symbol, IsSymbol}
 use Rattle.smt_terms.specs.Meaning.{bind, no_names, FunTree}
 use Rattle.smt_terms.specs.Sorts.{Rules, Sorts, literal_sort, applied_sort, sort_by_head, bound_sort, sort_of, binding_sort, sorts_of, sorts_fit, rule_of, with_rule, rules_after}
 use Rattle.smt_terms.proofs.Unused.{bound-sort}
@@ -74,9 +75,13 @@ module _ (fs : Rules) (s : Sorts) where
   pub falsity-sort : fs (codes "true") ≡ None → s (codes "true") ≡ None → sort_of fs s falsity ≡ Some sort.Bool
   falsity-sort f v = λ j. truth_rule (true-sort fs s f v j ∷ [])
 
-bound-parts : (s : Sorts) (x : List ℕ) (o : Option Sort) (body : Sorts → Option Sort) (r : Sort) → bound_sort s x o body ≡ Some r → (q : Sort) × (o ≡ Some q) × (body (bind s x q) ≡ Some r)
+where-named : (b : Bool) (o : Option Sort) (r : Sort) → cond b o None ≡ Some r → (b ≡ true) × (o ≡ Some r)
+where-named true o r h = (refl, h)
+where-named false o r h = absurd (cc)
+
+bound-parts : (s : Sorts) (x : List ℕ) (o : Option Sort) (body : Sorts → Option Sort) (r : Sort) → bound_sort s x o body ≡ Some r → (q : Sort) × (o ≡ Some q) × IsSymbol x × (body (bind s x q) ≡ Some r)
 bound-parts s x None body r h = absurd (cc)
-bound-parts s x (Some q) body r h = (q, refl, h)
+bound-parts s x (Some q) body r h = let named = where-named (is_symbol x) (body (bind s x q)) r h in (q, refl, named.0, named.1)
 
 module _ (fs : Rules) (f : fs (codes "true") ≡ None) where
   node-sort : (s : Sorts) (name : List ℕ) (args : Exprs) → is_fun_name name ≡ true → sort_of fs s (Node (Then (Atom name) args)) ≡ applied_sort fs name (sorts_of fs s args)
@@ -102,21 +107,21 @@ module _ (fs : Rules) (f : fs (codes "true") ≡ None) where
 
   -- ---- under bindings
 
-  each-bound : (x : List ℕ) (e : Expr) (s : Sorts) (q : Sort) → sort_of fs s e ≡ Some q → (ys : Exprs) → sorts_of fs s (bound_each x e ys) ≡ sorts_of fs (bind s x q) ys
-  each-bound x e s q is End = refl
-  each-bound x e s q is (Then y ys) = λ j. bound-sort x fs e y s q is j ∷ each-bound x e s q is ys j
+  each-bound : (x : List ℕ) → IsSymbol x → (e : Expr) (s : Sorts) (q : Sort) → sort_of fs s e ≡ Some q → (ys : Exprs) → sorts_of fs s (bound_each x e ys) ≡ sorts_of fs (bind s x q) ys
+  each-bound x named e s q is End = refl
+  each-bound x named e s q is (Then y ys) = λ j. bound-sort x fs e y s q named is j ∷ each-bound x named e s q is ys j
 
-  guard-bound : (x : List ℕ) (e : Expr) (s : Sorts) (q r : Sort) → sort_of fs s e ≡ Some q → (o : Option Expr) → GuardHas (bind s x q) r o → GuardHas s r (option_map (bound x e) o)
-  guard-bound x e s q r is None h = tt
-  guard-bound x e s q r is (Some c) h = (bound-sort x fs e c s q is ∙ h.0, h.1)
+  guard-bound : (x : List ℕ) → IsSymbol x → (e : Expr) (s : Sorts) (q r : Sort) → sort_of fs s e ≡ Some q → (o : Option Expr) → GuardHas (bind s x q) r o → GuardHas s r (option_map (bound x e) o)
+  guard-bound x named e s q r is None h = tt
+  guard-bound x named e s q r is (Some c) h = (bound-sort x fs e c s q named is ∙ h.0, h.1)
 
-  binding-is : (x : List ℕ) (e : Expr) (s : Sorts) (q r : Sort) → sort_of fs s e ≡ Some q → (o : Option Application) → ((a : Application) → o ≡ Some a → Has (bind s x q) r a)
+  binding-is : (x : List ℕ) → IsSymbol x → (e : Expr) (s : Sorts) (q r : Sort) → sort_of fs s e ≡ Some q → (o : Option Application) → ((a : Application) → o ≡ Some a → Has (bind s x q) r a)
       → (a : Application) → option_map (with_binding x e) o ≡ Some a → Has s r a
-  binding-is x e s q r is None h a same = absurd (cc)
-  binding-is x e s q r is (Some b) h a same =
+  binding-is x named e s q r is None h a same = absurd (cc)
+  binding-is x named e s q r is (Some b) h a same =
       let whole : with_binding x e b ≡ a = cc in
       let there = h b refl in
-      subst (λ d. Has s r d) whole (guard-bound x e s q r is b.guard there.0, (λ j. applied_sort fs b.name (each-bound x e s q is b.args j)) ∙ there.1, there.2)
+      subst (λ d. Has s r d) whole (guard-bound x named e s q r is b.guard there.0, (λ j. applied_sort fs b.name (each-bound x named e s q is b.args j)) ∙ there.1, there.2)
 
   -- ---- under guards
 
@@ -151,7 +156,7 @@ module _ (fs : Rules) (f : fs (codes "true") ≡ None) where
   binding-named x e body s false is v go = λ r has a same.
       let parts = bound-parts s x (sort_of fs s e) (λ u. sort_of fs u body) r has in
       let q = parts.0 in
-      binding-is x e s q r parts.1 (application body) (λ b there. go q ((λ j. cond (is j) (Some q) (s (codes "true"))) ∙ v) r parts.2 b there) a same
+      binding-is x parts.2 e s q r parts.1 (application body) (λ b there. go q ((λ j. cond (is j) (Some q) (s (codes "true"))) ∙ v) r parts.3 b there) a same
 
   choice-tested : (c x y : Expr) (s : Sorts) (t : Bool) → is_falsity y ≡ t → s (codes "true") ≡ None → IsSorted s (sort_of fs s x) (application x)
       → IsSorted s (choice_rule (sort_of fs s c ∷ sort_of fs s x ∷ sort_of fs s y ∷ [])) (cond t (option_map (with_guard c) (application x)) None)

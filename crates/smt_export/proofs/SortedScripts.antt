@@ -8,7 +8,7 @@ use Rattle.tailrec_lang.specs.Tree.{DefTree, GroupTree}
 use Rattle.smt_terms.specs.declared.sort.Sort.{Sort}
 use Rattle.smt_terms.specs.declared.sort.Sort.TheVariants as sort
 use Rattle.smt_terms.specs.Meaning.{FunTree, bind, no_names}
-use Rattle.smt_terms.specs.Sorts.{Rules, Sorts, rule_of, with_rule, rules_after, sorts_with, is_sort, IsFun, AreFuns, IsScript}
+use Rattle.smt_terms.specs.Sorts.{Rules, Sorts, rule_of, with_rule, rules_after, sorts_with, is_sort, IsParam, IsFun, AreFuns, IsScript}
 use Rattle.smt_export.specs.declared.told.Told.{Told}
 use Rattle.smt_export.specs.declared.told.Told.TheVariants.{Ok, ExitNumber, Pc, WordAt, MemAt, DomAt}
 use Rattle.smt_export.specs.Told.{fun_name, word_name, mem_name, dom_name, word_params, mem_params, params, told_sort, all_told}
@@ -16,14 +16,15 @@ use Rattle.smt_operations.specs.Functions.{helpers}
 use Rattle.smt_operations.specs.Knowing.{KnowsRules}
 use Rattle.smt_export.specs.Scripts.{def_fun, def_funs, funs_from, script}
 use Rattle.smt_export.specs.inner.Exported.{IsClosed, HasRange}
-use Rattle.smt_export.specs.inner.Sorting.{InSort, AreRules}
+use Rattle.smt_export.specs.inner.Sorting.{InSort, AreRules, HasRules}
 use Rattle.smt_export.proofs.Names.{names_differ, told_names_differ, told_names_same, IsSmall, same_bytes}
 use Rattle.smt_export.proofs.Membership.{Member, AllSmall, all_told-small, told-small, member-told, key, AreKeyed, all_told-keyed}
-use Rattle.smt_export.proofs.Scripts.{calls_each, taken, taken-length}
+use Rattle.smt_export.proofs.Scripts.{calls_each, taken}
 use Rattle.smt_operations.proofs.SortedHelpers.{helpers-are, base_rules, helpers-know_rules}
 use Rattle.smt_export.proofs.SortedTerms.{sorted-word, sorted-mem}
 use Rattle.smt_export.proofs.SortedJoins.{rules-none, rules-more, rules-all}
-use Rattle.smt_export.specs.Telling.{IsToldOf, HasRules}
+use Rattle.smt_export.specs.Telling.{IsToldOf}
+use Rattle.smt_export.proofs.Symbols.{word_symbol, mem_symbol, dom_symbol, fun_symbol}
 use Rattle.smt_export.proofs.SortedBodies.{body-sort}
 
 -- ---- parameters
@@ -54,22 +55,22 @@ params-sorted g r q =
     subst (InSort (length g.regs) g.mems) (sym w.1)
     (subst (λ k. InSort (length g.regs) k (sorts_with w.0 (mem_params 0 g.mems))) mems (mems_sorted g.mems (length g.regs) 0 w.0 (subst (λ k. InSort k 0 w.0) words w.2) (omega (arith, q))))
 
-AreSorts : List (List ℕ × Sort) → Type 0
-AreSorts ps = AllByRecursion (λ p. is_sort p.1 ≡ true) ps
+AreParams : List (List ℕ × Sort) → Type 0
+AreParams ps = AllByRecursion IsParam ps
 
-word_params-are : (i q : ℕ) (ps : List (List ℕ × Sort)) → AreSorts ps → AreSorts (word_params i q ++ ps)
-unfolding AreSorts
-word_params-are i zero ps h = h
-word_params-are i (suc q) ps h = (refl, word_params-are (i + 1) q ps h)
+word_params-are : (i q : ℕ) (ps : List (List ℕ × Sort)) → i + q < 2 ^ 64 → AreParams ps → AreParams (word_params i q ++ ps)
+unfolding AreParams
+word_params-are i zero ps lt h = h
+word_params-are i (suc q) ps lt h = ((word_symbol i (omega (arith, lt)), refl), word_params-are (i + 1) q ps (omega (arith, lt)) h)
 
-mem_params-are : (i q : ℕ) → AreSorts (mem_params i q)
-unfolding AreSorts
-mem_params-are i zero = tt
-mem_params-are i (suc q) = (refl, (refl, mem_params-are (i + 1) q))
+mem_params-are : (i q : ℕ) → i + q < 2 ^ 64 → AreParams (mem_params i q)
+unfolding AreParams
+mem_params-are i zero lt = tt
+mem_params-are i (suc q) lt = ((mem_symbol i (omega (arith, lt)), refl), ((dom_symbol i (omega (arith, lt)), refl), mem_params-are (i + 1) q (omega (arith, lt))))
 
-params-are : (g : GroupTree) → AllByRecursion (λ p. is_sort p.1 ≡ true) (params g)
-unfolding AreSorts
-params-are g = word_params-are 0 (length g.regs) (mem_params 0 g.mems) (mem_params-are 0 g.mems)
+params-are : (g : GroupTree) → length g.regs < 2 ^ 64 → g.mems < 2 ^ 64 → AllByRecursion IsParam (params g)
+unfolding AreParams
+params-are g r q = word_params-are 0 (length g.regs) (mem_params 0 g.mems) (omega (arith, r)) (mem_params-are 0 g.mems (omega (arith, q)))
 
 told_sort-is : (t : Told) → is_sort (told_sort t) ≡ true
 told_sort-is Ok = refl
@@ -141,8 +142,9 @@ module _ (g : GroupTree) (R : ℕ → Bool) where
       fun-is : (fs : Rules) (t : Told) → IsToldOf g t → Mid fs → fs (fun_name d t) ≡ None → IsFun fs (def_fun g d def t)
       fun-is fs t told mid new = record {
         new = new;
+        symbol = fun_symbol d t low (told-small g t told few_regs few_memories);
         named = refl;
-        params = params-are g;
+        params = params-are g few_regs few_memories;
         sort = told_sort-is t;
         body = body-sort g fs mid.knows mid.rules d range.few_exits range.exits t told def.body (length g.regs) g.mems (sorts_with no_names (params g)) (params-sorted g few_regs few_memories)
             (range.well_formed d def is) (range.bodies d def is)
@@ -253,8 +255,3 @@ module _ (g : GroupTree) (R : ℕ → Bool) where
 
     pub script-is : (d : ℕ) → IsScript (script g R d)
     script-is d = are-append helpers (funs_from g R 0 (take (suc d) g.defs)) no_names helpers-are (defs-are d).0
-
-    pub script-has : (d e : ℕ) → d < length g.defs → e ≤ d → R e ≡ true → HasRules g (rules_after no_names (script g R d)) e
-    script-has d e lt le r =
-        subst (λ rules. HasRules g rules e) (sym (after-append helpers (funs_from g R 0 (take (suc d) g.defs)) no_names))
-        ((defs-are d).1.before e (let n = taken-length g R range closed g.defs (suc d) (omega (arith, lt)) in omega (arith, n, le)) r)

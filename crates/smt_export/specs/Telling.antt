@@ -1,12 +1,11 @@
 -- What the values of a definition's functions tell of an evaluation.
-use Rattle.std.specs.Prelude.{◌≡◌, ℕ, suc, ◌<◌, List, [], ◌∷◌, ◌++◌, map, length, true, false, Option, Some}
+use Rattle.std.specs.Prelude.{◌≡◌, ℕ, suc, ◌<◌, List, [], ◌∷◌, ◌++◌, map, length, true, false}
+use Rattle.std.specs.List.{Contains}
 use Rattle.rv_words.specs.Bytes.{Bytes}
 use Rattle.tailrec_lang.specs.Tree.{GroupTree}
 use Rattle.tailrec_lang.specs.Eval.{Arguments, Outcome, Done, SideFalse, Turns, NoOutcome, eval}
-use Rattle.smt_terms.specs.declared.sort.Sort.{Sort}
-use Rattle.smt_terms.specs.Operators.{Value, Bits, Truth, Rule}
+use Rattle.smt_terms.specs.Operators.{Value, Bits, Truth}
 use Rattle.smt_terms.specs.Meaning.{FunTree, applied, functions_after, no_names}
-use Rattle.smt_terms.specs.Sorts.{Rules, sorts_fit}
 use Rattle.group_terms.specs.Range.{ArgumentsInRange}
 use Rattle.smt_operations.specs.Memory.{IsMemoryOf}
 use Rattle.smt_export.specs.declared.told.Told.{Told}
@@ -54,6 +53,7 @@ IsToldOf g (MemAt i) = i < g.mems
 IsToldOf g (DomAt i) = i < g.mems
 IsToldOf g _ = Unit {0}
 
--- the functions of definition d take what the group's definitions are entered with, and have the sort of what they tell
-pub record HasRules (g : GroupTree) (fs : Rules) (d : ℕ) : Type 0 where
-  pub there : (t : Told) → IsToldOf g t → (rule : Rule) × (fs (fun_name d t) ≡ Some rule) × ((ss : List (Option Sort)) → sorts_fit (params g) ss ≡ true → rule ss ≡ Some (told_sort t))
+-- the functions of definition d are among these: over the words `w0` upwards and the memories `mem0`, `dom0` upwards, and of
+-- the sort of what they tell
+pub record HasFuns (g : GroupTree) (funs : List FunTree) (d : ℕ) : Type 0 where
+  pub there : (t : Told) → IsToldOf g t → (f : FunTree) × Contains funs f × (f.name ≡ fun_name d t) × (f.params ≡ params g) × (f.sort ≡ told_sort t)

@@ -3,12 +3,10 @@
 ghost use Rattle.std.specs.Prelude.{◌≡◌, ℕ, ◌<◌, ◌≤◌, ◌+◌, Err, IfOk, None, Some, length, map, slice_get, take, [], if◌then◌else◌};
 ghost use Rattle.tailrec_lang.specs.Tree.{DefTree, def_tree, group_tree};
 ghost use Rattle.tailrec_lang.specs.WellFormed.{IsWellFormed};
-ghost use Rattle.smt_terms.specs.Meaning.{no_names};
-ghost use Rattle.smt_terms.specs.Sorts.{rules_after};
 ghost use Rattle.smt_terms.specs.Views.{fun_tree};
 ghost use Rattle.smt_export.specs.declared.exporting.ExportFault.TheVariants.{Loop};
 ghost use Rattle.smt_export.specs.Reach.{IsLeastLoop, EntersAgain, ReachesByCalls};
-ghost use Rattle.smt_export.specs.Telling.{HasRules, TellsEval};
+ghost use Rattle.smt_export.specs.Telling.{HasFuns, TellsEval};
 ghost use Rattle.group_terms.specs.Range.{GroupInRange};
 ghost use Rattle.smt_export.specs.inner.Room.{HasRoom};
 ghost use Rattle.smt_export.specs.Scripts.{def_fun, def_funs, funs_from, script};
@@ -56,7 +54,7 @@ pub fn export(alloc: Global, g: &Group, def: u32) -> Result<Script, ExportFault>
     ensures sorts { IfOk result (λ s.
         (d : ℕ)
         → ReachesByCalls (group_tree g.now) def d
-        → HasRules (group_tree g.now) (rules_after no_names (map fun_tree s)) d) }
+        → HasFuns (group_tree g.now) (map fun_tree s) d) }
     ensures tells { IfOk result (λ s.
         (d : ℕ)
         → ReachesByCalls (group_tree g.now) def d
@@ -72,7 +70,8 @@ pub fn export(alloc: Global, g: &Group, def: u32) -> Result<Script, ExportFault>
 }
 
 /// The script of a definition that reaches none that enters itself again; the marks are those of
-/// the definitions that it reaches.
+/// the definitions that it reaches. A group of which a definition has 2^64 variables or 2^32 exits
+/// has none, which is told as want of memory.
 fn loop_free(alloc: Global, g: &Group, def: usize, marks: &[bool]) -> Result<Script, NoMemory>
     requires well_formed { IsWellFormed (group_tree g.now) }
     requires there { def < length g.now.defs }
@@ -85,7 +84,7 @@ fn loop_free(alloc: Global, g: &Group, def: usize, marks: &[bool]) -> Result<Scr
     ensures sorts { IfOk result (λ s.
         (d : ℕ)
         → ReachesByCalls (group_tree g.now) def d
-        → HasRules (group_tree g.now) (rules_after no_names (map fun_tree s)) d) }
+        → HasFuns (group_tree g.now) (map fun_tree s) d) }
     ensures tells { IfOk result (λ s.
         (d : ℕ)
         → ReachesByCalls (group_tree g.now) def d
@@ -116,7 +115,7 @@ fn script_of(g: &Group, def: usize, marks: &[bool], count: usize, funs: List<Fun
     requires funs { map fun_tree funs ≡ script (group_tree g.now) (is_marked def marks.now) def }
     ensures sorts { (d : ℕ)
         → ReachesByCalls (group_tree g.now) def d
-        → HasRules (group_tree g.now) (rules_after no_names (map fun_tree result)) d }
+        → HasFuns (group_tree g.now) (map fun_tree result) d }
     ensures tells { (d : ℕ)
         → ReachesByCalls (group_tree g.now) def d
         → TellsEval (group_tree g.now) d (map fun_tree result) }

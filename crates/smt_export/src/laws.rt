@@ -2,9 +2,8 @@
 
 ghost use Rattle.std.specs.Prelude.{◌≡◌, ℕ, ◌<◌, ◌≤◌, Bool, true, length};
 ghost use Rattle.tailrec_lang.specs.Tree.{GroupTree};
-ghost use Rattle.smt_terms.specs.Meaning.{no_names};
-ghost use Rattle.smt_terms.specs.Sorts.{IsScript, rules_after};
-ghost use Rattle.smt_export.specs.Telling.{HasRules, TellsEval};
+ghost use Rattle.smt_terms.specs.Sorts.{IsScript};
+ghost use Rattle.smt_export.specs.Telling.{HasFuns, TellsEval};
 ghost use Rattle.smt_export.specs.Scripts.{script};
 ghost use Rattle.smt_export.specs.inner.Exported.{HasRange, IsClosed};
 
@@ -15,12 +14,10 @@ pub fn law_of_scripts()
         → IsClosed g test
         → IsScript (script g test d) }
     ensures sorts { (g : GroupTree) (test : ℕ → Bool) (d e : ℕ)
-        → HasRange g
-        → IsClosed g test
         → d < length g.defs
         → e ≤ d
         → test e ≡ true
-        → HasRules g (rules_after no_names (script g test d)) e }
+        → HasFuns g (script g test d) e }
     ensures tells { (g : GroupTree) (test : ℕ → Bool) (d e : ℕ)
         → HasRange g
         → IsClosed g test

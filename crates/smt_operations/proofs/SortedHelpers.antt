@@ -10,6 +10,7 @@ use Rattle.smt_terms.specs.declared.sort.Sort.{Sort}
 use Rattle.smt_terms.specs.declared.sort.Sort.TheVariants as sort
 use Rattle.smt_terms.specs.Operators.{truths_rule}
 use Rattle.smt_terms.specs.Meaning.{no_names}
+use Rattle.smt_terms.specs.Symbols.{IsSymbol}
 use Rattle.smt_terms.specs.Sorts.{Rules, atom_sort, sort_of, applied_sort, sorts_with, rules_after, IsFun, AreFuns}
 use Rattle.smt_operations.specs.Helpers.{operation_expr}
 use Rattle.smt_operations.specs.Accesses.{extension_expr, load_expr, store_expr, inside_expr}
@@ -75,107 +76,107 @@ module _ (fs : Rules) where
   inside_sort B4 t = λ j. ands 4 (atom_sort None (t j) (codes "true"))
   inside_sort B8 t = λ j. ands 8 (atom_sort None (t j) (codes "true"))
 
-  op_is : (op : Op) → fs (op_name op) ≡ None → IsFun fs (op_fun op)
-  op_is op new = record { new = new; named = refl; params = (refl, (refl, tt)); sort = refl; body = op_sort op }
+  op_is : (op : Op) → fs (op_name op) ≡ None → IsSymbol (op_name op) → IsFun fs (op_fun op)
+  op_is op new symbol = record { new = new; symbol = symbol; named = refl; params = ((refl, refl), ((refl, refl), tt)); sort = refl; body = op_sort op }
 
-  ext_is : (ext : Ext) → fs (ext_name ext) ≡ None → IsFun fs (ext_fun ext)
-  ext_is ext new = record { new = new; named = refl; params = (refl, tt); sort = refl; body = ext_sort ext }
+  ext_is : (ext : Ext) → fs (ext_name ext) ≡ None → IsSymbol (ext_name ext) → IsFun fs (ext_fun ext)
+  ext_is ext new symbol = record { new = new; symbol = symbol; named = refl; params = ((refl, refl), tt); sort = refl; body = ext_sort ext }
 
-  load_is : (width : Width) → fs (load_name width) ≡ None → IsFun fs (load_fun width)
-  load_is width new = record { new = new; named = refl; params = (refl, (refl, (refl, tt))); sort = refl; body = load_sort width }
+  load_is : (width : Width) → fs (load_name width) ≡ None → IsSymbol (load_name width) → IsFun fs (load_fun width)
+  load_is width new symbol = record { new = new; symbol = symbol; named = refl; params = ((refl, refl), ((refl, refl), ((refl, refl), tt))); sort = refl; body = load_sort width }
 
-  store_is : (width : Width) → fs (store_name width) ≡ None → IsFun fs (store_fun width)
-  store_is width new = record { new = new; named = refl; params = (refl, (refl, (refl, tt))); sort = refl; body = store_sort width }
+  store_is : (width : Width) → fs (store_name width) ≡ None → IsSymbol (store_name width) → IsFun fs (store_fun width)
+  store_is width new symbol = record { new = new; symbol = symbol; named = refl; params = ((refl, refl), ((refl, refl), ((refl, refl), tt))); sort = refl; body = store_sort width }
 
-  inside_is : (width : Width) → fs (inside_name width) ≡ None → fs (codes "true") ≡ None → IsFun fs (inside_fun width)
-  inside_is width new truth = record { new = new; named = refl; params = (refl, (refl, tt)); sort = refl; body = inside_sort width truth }
+  inside_is : (width : Width) → fs (inside_name width) ≡ None → IsSymbol (inside_name width) → fs (codes "true") ≡ None → IsFun fs (inside_fun width)
+  inside_is width new symbol truth = record { new = new; symbol = symbol; named = refl; params = ((refl, refl), ((refl, refl), tt)); sort = refl; body = inside_sort width truth }
 
 pub helpers-are : AreFuns no_names helpers
 helpers-are = (
-  op_is _ Add refl,
+  op_is _ Add refl refl,
   (
-    op_is _ Sub refl,
+    op_is _ Sub refl refl,
     (
-      op_is _ Sll refl,
+      op_is _ Sll refl refl,
       (
-        op_is _ Slt refl,
+        op_is _ Slt refl refl,
         (
-          op_is _ Sltu refl,
+          op_is _ Sltu refl refl,
           (
-            op_is _ Xor refl,
+            op_is _ Xor refl refl,
             (
-              op_is _ Srl refl,
+              op_is _ Srl refl refl,
               (
-                op_is _ Sra refl,
+                op_is _ Sra refl refl,
                 (
-                  op_is _ Or refl,
+                  op_is _ Or refl refl,
                   (
-                    op_is _ And refl,
+                    op_is _ And refl refl,
                     (
-                      op_is _ Mul refl,
+                      op_is _ Mul refl refl,
                       (
-                        op_is _ Mulh refl,
+                        op_is _ Mulh refl refl,
                         (
-                          op_is _ Mulhsu refl,
+                          op_is _ Mulhsu refl refl,
                           (
-                            op_is _ Mulhu refl,
+                            op_is _ Mulhu refl refl,
                             (
-                              op_is _ Div refl,
+                              op_is _ Div refl refl,
                               (
-                                op_is _ Divu refl,
+                                op_is _ Divu refl refl,
                                 (
-                                  op_is _ Rem refl,
+                                  op_is _ Rem refl refl,
                                   (
-                                    op_is _ Remu refl,
+                                    op_is _ Remu refl refl,
                                     (
-                                      op_is _ Addw refl,
+                                      op_is _ Addw refl refl,
                                       (
-                                        op_is _ Subw refl,
+                                        op_is _ Subw refl refl,
                                         (
-                                          op_is _ Sllw refl,
+                                          op_is _ Sllw refl refl,
                                           (
-                                            op_is _ Srlw refl,
+                                            op_is _ Srlw refl refl,
                                             (
-                                              op_is _ Sraw refl,
+                                              op_is _ Sraw refl refl,
                                               (
-                                                op_is _ Mulw refl,
+                                                op_is _ Mulw refl refl,
                                                 (
-                                                  op_is _ Divw refl,
+                                                  op_is _ Divw refl refl,
                                                   (
-                                                    op_is _ Divuw refl,
+                                                    op_is _ Divuw refl refl,
                                                     (
-                                                      op_is _ Remw refl,
+                                                      op_is _ Remw refl refl,
                                                       (
-                                                        op_is _ Remuw refl,
+                                                        op_is _ Remuw refl refl,
                                                         (
-                                                          ext_is _ Sx1 refl,
+                                                          ext_is _ Sx1 refl refl,
                                                           (
-                                                            ext_is _ Sx2 refl,
+                                                            ext_is _ Sx2 refl refl,
                                                             (
-                                                              ext_is _ Sx4 refl,
+                                                              ext_is _ Sx4 refl refl,
                                                               (
-                                                                load_is _ B1 refl,
+                                                                load_is _ B1 refl refl,
                                                                 (
-                                                                  load_is _ B2 refl,
+                                                                  load_is _ B2 refl refl,
                                                                   (
-                                                                    load_is _ B4 refl,
+                                                                    load_is _ B4 refl refl,
                                                                     (
-                                                                      load_is _ B8 refl,
+                                                                      load_is _ B8 refl refl,
                                                                       (
-                                                                        store_is _ B1 refl,
+                                                                        store_is _ B1 refl refl,
                                                                         (
-                                                                          store_is _ B2 refl,
+                                                                          store_is _ B2 refl refl,
                                                                           (
-                                                                            store_is _ B4 refl,
+                                                                            store_is _ B4 refl refl,
                                                                             (
-                                                                              store_is _ B8 refl,
+                                                                              store_is _ B8 refl refl,
                                                                               (
-                                                                                inside_is _ B1 refl refl,
+                                                                                inside_is _ B1 refl refl refl,
                                                                                 (
-                                                                                  inside_is _ B2 refl refl,
+                                                                                  inside_is _ B2 refl refl refl,
                                                                                   (
-                                                                                    inside_is _ B4 refl refl,
-                                                                                    (inside_is _ B8 refl refl, tt),
+                                                                                    inside_is _ B4 refl refl refl,
+                                                                                    (inside_is _ B8 refl refl refl, tt),
                                                                                   ),
                                                                                 ),
                                                                               ),

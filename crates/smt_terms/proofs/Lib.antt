@@ -1,4 +1,5 @@
 pub mod Unused
+pub mod Symbols
 pub mod Numerals
 pub mod Occurrences
 pub mod Printing

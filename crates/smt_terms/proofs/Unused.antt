@@ -4,6 +4,7 @@ use Rattle.std.specs.Prelude.{◌||◌}
 use Rattle.std.specs.Str.{bytes_eq}
 use Rattle.smt_terms.specs.declared.sort.Sort.{Sort}
 use Rattle.smt_terms.specs.Expression.{Expr, Atom, Node, Exprs, End, Then, occurs, occurs_in, is_atom, bound_where, bound}
+use Rattle.smt_terms.specs.Symbols.{is_symbol, IsSymbol}
 use Rattle.smt_terms.specs.Meaning.{Named, Variables, Functions, bind, term_head, atom_value, literal_value, by_head, value, binding_value, values}
 use Rattle.smt_terms.specs.Sorts.{Sorts, Rules, atom_sort, literal_sort, sort_by_head, sort_of, binding_sort, bound_sort, sorts_of}
 
@@ -70,7 +71,7 @@ module _ (x : List ℕ) where
 
   bound_sort-same : (y : List ℕ) (o : Option Sort) (s r : Sorts) → Agree x s r → (f : Sorts → Option Sort) → ((s r : Sorts) → Agree x s r → f s ≡ f r) → bound_sort s y o f ≡ bound_sort r y o f
   bound_sort-same y None s r h f same = refl
-  bound_sort-same y (Some t) s r h f same = same (bind s y t) (bind r y t) (agree-bind x y s r t h)
+  bound_sort-same y (Some t) s r h f same = λ j. cond (is_symbol y) (same (bind s y t) (bind r y t) (agree-bind x y s r t h) j) None
 
   module _ (fs : Rules) where
     mutual
@@ -109,11 +110,11 @@ module _ (x : List ℕ) where
     atom_sort-same e (Atom a) s t has is = has ∙ sym (λ j. atom_sort (cond (is j) (Some t) (s a)) (fs a) a)
     atom_sort-same e (Node es) s t has is = absurd (cc)
 
-    bound_sort-by : (a b : Bool) (e body : Expr) (s : Sorts) (t : Sort) → sort_of fs s e ≡ Some t → is_atom x body ≡ a → occurs x body ≡ b
+    bound_sort-by : (a b : Bool) (e body : Expr) (s : Sorts) (t : Sort) → IsSymbol x → sort_of fs s e ≡ Some t → is_atom x body ≡ a → occurs x body ≡ b
         → sort_of fs s (bound_where a b x e body) ≡ sort_of fs (bind s x t) body
-    bound_sort-by true b e body s t has is o = atom_sort-same e body s t has is
-    bound_sort-by false true e body s t has is o = λ j. bound_sort s x (has j) (λ u. sort_of fs u body)
-    bound_sort-by false false e body s t has is o = sym (sort-same body (bind s x t) s (agree-bound s t) o)
+    bound_sort-by true b e body s t symbol has is o = atom_sort-same e body s t has is
+    bound_sort-by false true e body s t symbol has is o = (λ j. bound_sort s x (has j) (λ u. sort_of fs u body)) ∙ (λ j. cond (symbol j) (sort_of fs (bind s x t) body) None)
+    bound_sort-by false false e body s t symbol has is o = sym (sort-same body (bind s x t) s (agree-bound s t) o)
 
-    pub bound-sort : (e body : Expr) (s : Sorts) (t : Sort) → sort_of fs s e ≡ Some t → sort_of fs s (bound x e body) ≡ sort_of fs (bind s x t) body
-    bound-sort e body s t has = bound_sort-by (is_atom x body) (occurs x body) e body s t has refl refl
+    pub bound-sort : (e body : Expr) (s : Sorts) (t : Sort) → IsSymbol x → sort_of fs s e ≡ Some t → sort_of fs s (bound x e body) ≡ sort_of fs (bind s x t) body
+    bound-sort e body s t symbol has = bound_sort-by (is_atom x body) (occurs x body) e body s t symbol has refl refl

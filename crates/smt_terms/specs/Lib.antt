@@ -1,4 +1,5 @@
 pub mod Expression
+pub mod Symbols
 pub mod Operators
 pub mod Meaning
 pub mod Sorts

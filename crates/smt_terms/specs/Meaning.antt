@@ -1,5 +1,5 @@
 -- What SMT-LIB terms and scripts of `define-fun` commands stand for.
-use Rattle.std.specs.Prelude.{ℕ, ◌%◌, ◌^◌, ◌==◌, ◌&&◌, Bool, true, if◌then◌else◌, List, [], ◌∷◌, length, nat_lt, codes, Option, Some, None, option_map, unwrap_or}
+use Rattle.std.specs.Prelude.{ℕ, ◌%◌, ◌^◌, ◌==◌, ◌&&◌, Bool, true, false, not, if◌then◌else◌, List, [], ◌∷◌, length, nat_lt, codes, Option, Some, None, option_map, unwrap_or}
 use Rattle.std.specs.Char.{is_digit}
 use Rattle.std.specs.Str.{bytes_eq}
 use Rattle.std.specs.Str.Parse.{digits_value}
@@ -23,8 +23,13 @@ abbrev pub are_digits : List ℕ → Bool
 are_digits [] = true
 are_digits (c ∷ cs) = is_digit c 10 && are_digits cs
 
+abbrev pub has_leading_zero : List ℕ → Bool
+has_leading_zero (c ∷ d ∷ ds) = c == 48
+has_leading_zero _ = false
+
+-- 0, or digits of which the first isn't 0
 abbrev pub is_numeral : List ℕ → Bool
-is_numeral ds = nat_lt 0 (length ds) && are_digits ds
+is_numeral ds = nat_lt 0 (length ds) && are_digits ds && not (has_leading_zero ds)
 
 abbrev pub numeral : List ℕ → Option ℕ
 numeral ds = if is_numeral ds then Some (digits_value 10 ds) else None

@@ -1,11 +1,12 @@
--- The sorts of terms, and which lists of functions are scripts: the names of functions differ, and each body has its
--- function's sort and applies operators and earlier functions alone.
+-- The sorts of terms, and which lists of functions are scripts: each name is a symbol, those of functions differ, and each
+-- body has its function's sort and applies operators and earlier functions alone.
 use Rattle.std.specs.Prelude.{◌≡◌, ℕ, ◌==◌, Bool, true, false, ◌&&◌, ◌||◌, if◌then◌else◌, List, [], ◌∷◌, codes, Option, Some, None, option_map, unwrap_or}
 use Rattle.std.specs.List.{AllByRecursion}
 use Rattle.std.specs.Str.{bytes_eq}
 use Rattle.smt_terms.specs.declared.sort.Sort.{Sort}
 use Rattle.smt_terms.specs.declared.sort.Sort.TheVariants as sort
 use Rattle.smt_terms.specs.Expression.{Expr, Atom, Node, Exprs, End, Then}
+use Rattle.smt_terms.specs.Symbols.{is_symbol, IsSymbol}
 use Rattle.smt_terms.specs.Operators.{Rule, is_width, vector_sort, same_sort, Head, LetHead, LiteralHead, Operator, Function, NoHead}
 use Rattle.smt_terms.specs.Meaning.{Named, no_names, bind, term_head, numeral, literal_number, FunTree}
 
@@ -42,9 +43,9 @@ sort_by_head fs (Operator rule op) binding literal parts = rule (parts tt)
 sort_by_head fs (Function f) binding literal parts = applied_sort fs f (parts tt)
 sort_by_head fs NoHead binding literal parts = None
 
--- the sort of a body in which the name stands for a term of that sort
+-- the sort of a body in which the name, a symbol, stands for a term of that sort
 abbrev pub bound_sort : Sorts → List ℕ → Option Sort → (Sorts → Option Sort) → Option Sort
-bound_sort s x (Some r) body = body (bind s x r)
+bound_sort s x (Some r) body = if is_symbol x then body (bind s x r) else None
 bound_sort s x None body = None
 
 abbrev mutual
@@ -90,10 +91,14 @@ is_sort sort.Bool = true
 is_sort (sort.Bits w) = is_width w
 is_sort (sort.Array w) = w == 1 || w == 8
 
+abbrev pub IsParam : List ℕ × Sort → Type 0
+IsParam p = IsSymbol p.0 × (is_sort p.1 ≡ true)
+
 pub record IsFun (fs : Rules) (f : FunTree) : Type 0 where
   pub new : fs f.name ≡ None
+  pub symbol : IsSymbol f.name
   pub named : term_head (Atom f.name) ≡ Function f.name
-  pub params : AllByRecursion (λ p. is_sort p.1 ≡ true) f.params
+  pub params : AllByRecursion IsParam f.params
   pub sort : is_sort f.sort ≡ true
   pub body : sort_of fs (sorts_with no_names f.params) f.body ≡ Some f.sort
 

@@ -1,13 +1,13 @@
 -- Numerals, digit by digit.
-use Rattle.std.proofs.Common.{◌≡◌, ℕ, ◌+◌, ◌*◌, ◌%◌, ◌^◌, ◌<◌, ◌≤◌, min, Bool, true, false, cond, List, [], ◌∷◌, length, get_or, drop, Option, Some, None, option_map, refl, sym, ap, subst, ◌∙◌, ⊎_elim, arith}
-use Rattle.std.specs.Prelude.{◌&&◌}
+use Rattle.std.proofs.Common.{◌≡◌, ℕ, ◌+◌, ◌*◌, ◌%◌, ◌^◌, ◌<◌, ◌≤◌, min, Bool, true, false, cond, List, [], ◌∷◌, length, get_or, drop, eqb, Option, Some, None, option_map, refl, sym, ap, subst, ◌∙◌, ⊎_elim, arith}
+use Rattle.std.specs.Prelude.{not, nat_lt, ◌&&◌}
 use Rattle.std.specs.Char.{digit_value, is_digit}
 use Rattle.std.specs.Str.Parse.{digits_value_after, digits_value}
 use Rattle.std.proofs.lemmas.Bool.{lt-ltb, cases_lt}
 use Rattle.std.proofs.lemmas.List.{drop_more, drop_all}
 use Rattle.std.proofs.lemmas.Nat.{mul-mod_first}
 use Rattle.std.proofs.Math.Nat.{mod-mod, mod-add-mod, mod-eq_of_lt, min-eq_left, min-eq_right, min-le_right}
-use Rattle.smt_terms.specs.Meaning.{are_digits, numeral}
+use Rattle.smt_terms.specs.Meaning.{are_digits, has_leading_zero, numeral}
 
 -- a digit, or none
 abbrev pub digit_of : ℕ → Option ℕ
@@ -30,10 +30,31 @@ digits-more text i z d o lt e h told = sym (both-digits text i z true lt (by-tes
 -- a numeral is told by its digits
 numeral-none : (text : List ℕ) → are_digits text ≡ false → numeral text ≡ None
 numeral-none [] e = refl
-numeral-none (c ∷ cs) e = let h : 0 < length (c ∷ cs) = omega arith in λ j. cond (lt-ltb 0 (length (c ∷ cs)) h j && e j) (Some (digits_value 10 (c ∷ cs))) None
+numeral-none (c ∷ cs) e = let h : 0 < length (c ∷ cs) = omega arith in λ j. cond (lt-ltb 0 (length (c ∷ cs)) h j && e j && not (has_leading_zero (c ∷ cs))) (Some (digits_value 10 (c ∷ cs))) None
 
-numeral-some : (text : List ℕ) → 0 < length text → are_digits text ≡ true → numeral text ≡ Some (digits_value 10 text)
-numeral-some text h e = λ j. cond (lt-ltb 0 (length text) h j && e j) (Some (digits_value 10 text)) None
+numeral-some : (text : List ℕ) → 0 < length text → are_digits text ≡ true → has_leading_zero text ≡ false → numeral text ≡ Some (digits_value 10 text)
+numeral-some text h e z = λ j. cond (lt-ltb 0 (length text) h j && e j && not (z j)) (Some (digits_value 10 text)) None
+
+-- and none begins with a zero that more follow
+none-of : (a b : Bool) → (a && b && false) ≡ false
+none-of true true = refl
+none-of true false = refl
+none-of false b = refl
+
+pub leading_zero : (f : ℕ → ℕ) (text : List ℕ) → has_leading_zero text ≡ true → None ≡ option_map f (numeral text)
+leading_zero f text z =
+    sym ((λ j. option_map f (cond (nat_lt 0 (length text) && are_digits text && not (z j)) (Some (digits_value 10 text)) None))
+    ∙ (λ j. option_map f (cond (none-of (nat_lt 0 (length text)) (are_digits text) j) (Some (digits_value 10 text)) None)))
+
+pub zero_first : (text : List ℕ) (c : ℕ) → 2 ≤ length text → c ≡ get_or text 0 c → eqb c 48 ≡ has_leading_zero text
+zero_first [] c le is = absurd (omega (arith, le))
+zero_first (d ∷ []) c le is = absurd (omega (arith, le))
+zero_first (d ∷ e ∷ ds) c le is = λ j. eqb (is j) 48
+
+pub zero_alone : (text : List ℕ) → length text < 2 → false ≡ has_leading_zero text
+zero_alone [] lt = refl
+zero_alone (d ∷ []) lt = refl
+zero_alone (d ∷ e ∷ ds) lt = absurd (omega (arith, lt))
 
 no-digit : (text : List ℕ) (i z : ℕ) (o : Option ℕ) → i < length text → o ≡ digit_of (get_or text i z) → o ≡ None → are_digits (drop i text) ≡ are_digits text → numeral text ≡ None
 no-digit text i z o lt e h told =
@@ -76,10 +97,10 @@ wrapped_more text i z n d after o lt e h is r = record {
 pub wrapped_none : (text : List ℕ) (i z n : ℕ) (o : Option ℕ) → i < length text → o ≡ digit_of (get_or text i z) → o ≡ None → ReadWrapped text i n → None ≡ option_map (λ (n : ℕ). n % 2 ^ 128) (numeral text)
 wrapped_none text i z n o lt e h r = sym (ap (option_map (λ (n : ℕ). n % 2 ^ 128)) (no-digit text i z o lt e h r.digits))
 
-pub wrapped_done : (text : List ℕ) (i n : ℕ) → 0 < length text → length text ≤ i → n < 2 ^ 128 → ReadWrapped text i n → Some n ≡ option_map (λ (n : ℕ). n % 2 ^ 128) (numeral text)
-wrapped_done text i n some le lt r =
+pub wrapped_done : (text : List ℕ) (i n : ℕ) → 0 < length text → has_leading_zero text ≡ false → length text ≤ i → n < 2 ^ 128 → ReadWrapped text i n → Some n ≡ option_map (λ (n : ℕ). n % 2 ^ 128) (numeral text)
+wrapped_done text i n some first le lt r =
     let value : n % 2 ^ 128 ≡ digits_value 10 text % 2 ^ 128 = sym (ap (λ (ds : List ℕ). digits_value_after 10 n ds % 2 ^ 128) (drop_all i text le)) ∙ r.value in
-    ap Some (sym (mod-eq_of_lt lt) ∙ value) ∙ sym (ap (option_map (λ (n : ℕ). n % 2 ^ 128)) (numeral-some text some (all-digits text i le r.digits)))
+    ap Some (sym (mod-eq_of_lt lt) ∙ value) ∙ sym (ap (option_map (λ (n : ℕ). n % 2 ^ 128)) (numeral-some text some (all-digits text i le r.digits) first))
 
 -- ---- up to 129
 
@@ -123,10 +144,10 @@ small_more text i z n d after o lt e h is r = record {
 pub small_none : (text : List ℕ) (i z n : ℕ) (o : Option ℕ) → i < length text → o ≡ digit_of (get_or text i z) → o ≡ None → ReadSmall text i n → None ≡ option_map (λ (n : ℕ). min n 129) (numeral text)
 small_none text i z n o lt e h r = sym (ap (option_map (λ (n : ℕ). min n 129)) (no-digit text i z o lt e h r.digits))
 
-pub small_done : (text : List ℕ) (i n : ℕ) → 0 < length text → length text ≤ i → ReadSmall text i n → Some n ≡ option_map (λ (n : ℕ). min n 129) (numeral text)
-small_done text i n some le r =
+pub small_done : (text : List ℕ) (i n : ℕ) → 0 < length text → has_leading_zero text ≡ false → length text ≤ i → ReadSmall text i n → Some n ≡ option_map (λ (n : ℕ). min n 129) (numeral text)
+small_done text i n some first le r =
     let value : min n 129 ≡ min (digits_value 10 text) 129 = sym (ap (λ (ds : List ℕ). min (digits_value_after 10 n ds) 129) (drop_all i text le)) ∙ r.value in
-    ap Some (sym (min-eq_left r.small) ∙ value) ∙ sym (ap (option_map (λ (n : ℕ). min n 129)) (numeral-some text some (all-digits text i le r.digits)))
+    ap Some (sym (min-eq_left r.small) ∙ value) ∙ sym (ap (option_map (λ (n : ℕ). min n 129)) (numeral-some text some (all-digits text i le r.digits) first))
 
 -- what a small numeral tells
 pub told-small : (o r : Option ℕ) (k : ℕ) → r ≡ option_map (λ (n : ℕ). min n 129) o → r ≡ Some k → (n : ℕ) × (o ≡ Some n) × (k ≡ min n 129)

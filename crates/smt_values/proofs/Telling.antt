@@ -5,6 +5,7 @@ use Rattle.std.specs.Str.{bytes_eq}
 use Rattle.std.proofs.lemmas.List.{length-map}
 use Rattle.smt_terms.specs.declared.sort.Sort.{Sort}
 use Rattle.smt_terms.specs.Expression.{Expr, Atom, Node, Exprs, End, Then}
+use Rattle.smt_terms.specs.Symbols.{is_symbol}
 use Rattle.smt_terms.specs.Operators.{Value, Rule, Head, LetHead, LiteralHead, Function, NoHead}
 use Rattle.smt_terms.specs.Operators.{Operator as OperatorHead}
 use Rattle.smt_terms.specs.Meaning.{no_names, bind, Variables, Functions, FunTree, term_head, applied, constant, atom_value, literal_value, by_head, value, binding_value, values, bind_all, fun_value, functions_after}
@@ -145,7 +146,11 @@ module _ (funs : List FunTree) (scope : List Binding) where
 
   bound-by : (x : List ℕ) (body : Expr) (o : Option Sort) (s : Sort) → bound_sort S x o (λ r. sort_of R r body) ≡ Some s → (r : Sort) × (o ≡ Some r) × (sort_of R (bind S x r) body ≡ Some s)
   bound-by x body None s h = absurd (cc)
-  bound-by x body (Some r) s h = (r, refl, h)
+  bound-by x body (Some r) s h = (r, refl, named (is_symbol x) (sort_of R (bind S x r) body) h)
+    where
+      named : (b : Bool) (o : Option Sort) → cond b o None ≡ Some s → o ≡ Some s
+      named true o h = h
+      named false o h = absurd (cc)
 
   abbrev let_exprs : List ℕ → Expr → Expr → Exprs
   let_exprs x e body = Then (Node (Then (Node (Then (Atom x) (Then e End))) End)) (Then body End)

@@ -2,7 +2,7 @@
 
 ghost use Rattle.std.specs.Prelude.{◌≡◌, ℕ, ◌%◌, ◌^◌, min, if◌then◌else◌, option_map};
 ghost use Rattle.std.specs.Char.{digit_value, is_digit};
-ghost use Rattle.smt_terms.specs.Meaning.{literal_number, numeral};
+ghost use Rattle.smt_terms.specs.Meaning.{has_leading_zero, literal_number, numeral};
 
 /// The value of a decimal digit.
 fn digit(byte: u8) -> Option<u8>
@@ -15,12 +15,23 @@ fn digit(byte: u8) -> Option<u8>
     }
 }
 
+/// Whether digits begin with a zero that more follow: these are no numeral.
+#[tactic(auto, using(crate::proofs::Numerals::zero_first, crate::proofs::Numerals::zero_alone))]
+fn has_leading_zero(text: &[u8]) -> bool
+    ensures { result ≡ has_leading_zero text.now }
+{
+    match text {
+        [first, _, ..] => *first == b'0',
+        _ => false,
+    }
+}
+
 /// The number that a numeral writes, modulo 2^128.
-#[tactic(auto, using(crate::proofs::Numerals::wrapped_first, crate::proofs::Numerals::wrapped_more, crate::proofs::Numerals::wrapped_none, crate::proofs::Numerals::wrapped_done))]
+#[tactic(auto, using(crate::proofs::Numerals::wrapped_first, crate::proofs::Numerals::wrapped_more, crate::proofs::Numerals::wrapped_none, crate::proofs::Numerals::wrapped_done, crate::proofs::Numerals::leading_zero))]
 fn numeral_wrapped(text: &[u8]) -> Option<u128>
     ensures { result ≡ option_map (λ (n : ℕ). n % 2 ^ 128) (numeral text.now) }
 {
-    if text.is_empty() {
+    if text.is_empty() || has_leading_zero(text) {
         return None;
     }
     let mut number = 0u128;
@@ -34,11 +45,11 @@ fn numeral_wrapped(text: &[u8]) -> Option<u128>
 }
 
 /// The number that a numeral writes, or 129 where that is larger: no bit-vector has so many bits.
-#[tactic(auto, using(crate::proofs::Numerals::small_first, crate::proofs::Numerals::small_more, crate::proofs::Numerals::small_none, crate::proofs::Numerals::small_done))]
+#[tactic(auto, using(crate::proofs::Numerals::small_first, crate::proofs::Numerals::small_more, crate::proofs::Numerals::small_none, crate::proofs::Numerals::small_done, crate::proofs::Numerals::leading_zero))]
 pub fn small_numeral(text: &[u8]) -> Option<u32>
     ensures { result ≡ option_map (λ (n : ℕ). min n 129) (numeral text.now) }
 {
-    if text.is_empty() {
+    if text.is_empty() || has_leading_zero(text) {
         return None;
     }
     let mut number = 0u32;

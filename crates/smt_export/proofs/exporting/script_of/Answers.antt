@@ -1,9 +1,7 @@
 use Rattle.std.proofs.Common.{map, sym, subst, arith}
 use Rattle.tailrec_lang.specs.Tree.{group_tree}
-use Rattle.smt_terms.specs.Meaning.{no_names}
-use Rattle.smt_terms.specs.Sorts.{rules_after}
 use Rattle.smt_terms.specs.Views.{fun_tree}
-use Rattle.smt_export.specs.Telling.{HasRules, TellsEval}
+use Rattle.smt_export.specs.Telling.{HasFuns, TellsEval}
 use Rattle.smt_export.proofs.Exports.{exported_script, exported_sorts, exported_tells}
 use Rattle.smt_export.proofs.exporting.script_of.Goals as goal
 
@@ -14,7 +12,7 @@ new-requires c =
 
 pub returns-clause-sorts : goal.returns-clause-sorts
 returns-clause-sorts c = λ d r.
-    subst (λ fs. HasRules (group_tree c.args.g.now) (rules_after no_names (map fun_tree fs)) d) (sym c.new.ensures)
+    subst (λ fs. HasFuns (group_tree c.args.g.now) (map fun_tree fs) d) (sym c.new.ensures)
     (exported_sorts c.args.g.now c.args.def c.args.marks.now (map fun_tree c.args.funs) c.requires.well_formed c.requires.there (omega (arith, c.requires.few, c.ranges.count.fits)) c.requires.range c.requires.room
     c.requires.count c.requires.marks c.requires.free c.requires.funs d r)
 
